@@ -1,1 +1,11 @@
-pub mod Listing
+pub mod Meaning
+pub mod Join
+pub mod StateLaws
+pub mod FlatMeaning
+pub mod TableMeaning
+pub mod TableLaws
+pub mod Groupings
+pub mod ListingMeaning
+pub mod ListingText
+pub mod ListingJoin
+pub mod LineMeaning

@@ -1,40 +1,234 @@
-// Listings in their plainest form: lists of entries, in the order of arrival.
-ghost use Rattle.std.specs.Prelude.{◌≡◌, ◌++◌, IfOk};
-ghost use Rattle.t1_join.specs.Listing.{glyph_names};
+// Listings: texts of Subrs by index and glyphs by name, and their join.
+ghost use Rattle.std.specs.Prelude.{◌≡◌, ◌⊎◌, ◌∷◌, ◌++◌, [], OnOk, MatchResult, MatchBool, IfOk, IsTrue};
+ghost use Rattle.std.specs.FinMap as fin;
+ghost use Rattle.hex.specs.Hex.{encode_lower};
+ghost use Rattle.t1_join.specs.ListingMeaning.{IsListing};
+ghost use Rattle.t1_join.specs.ListingJoin.{IsJoined, IsJoinFault};
+ghost use Rattle.t1_join.specs.ListingText.{listing_of, text_of, subr_line, glyph_line};
+ghost use Rattle.t1_join.specs.Meaning.{of_number};
+ghost use Rattle.t1_join.specs.LineMeaning.{line_entry, has_entry, IsEntry, IsAdded};
 
+use crate::join::Join;
+use crate::kept::Kept;
+use crate::lines::{Line, read_line, split_at_byte};
+use crate::table::Table;
 use std::alloc::{AllocError, Global};
+use std::marker::Model;
 
-/// A Subr: its index and its bytes.
-#[derive(Clone, Copy)]
-pub struct Subr<'a> {
-    pub index: u16,
-    pub bytes: &'a [u8],
-}
-
-/// A glyph: its name and its charstring.
-#[derive(Clone, Copy)]
-pub struct Glyph<'a> {
-    pub name: &'a [u8],
-    pub charstring: &'a [u8],
-}
-
-/// The Subrs and the glyphs of a font.
+/// The Subrs of a font by index and its glyphs by name, each with its bytes.
+///
+/// A listing holds only what a text can spell: indices of at most 65,534, names by the rule of Type 1
+/// programs with at most 127 bytes, and at most 65,535 bytes at each.
 #[derive(Drop)]
-pub struct Listing<'a> {
-    pub subrs: Vec<Subr<'a>>,
-    pub glyphs: Vec<Glyph<'a>>,
+pub struct Listing {
+    subrs: Table<u16, Vec<u8>>,
+    glyphs: Table<Vec<u8>, Vec<u8>>,
 }
 
-/// One listing with the glyphs of both.
-pub fn join<'a>(
-    alloc: Global,
-    left: &Listing<'a>,
-    right: &Listing<'a>,
-) -> Result<Listing<'a>, AllocError>
-    ensures { IfOk result (λ both. glyph_names both ≡ glyph_names left.now ++ glyph_names right.now) }
+impl Model for Listing {
+    ghost use Rattle.t1_join.specs.ListingMeaning.{ListingMeaning, listing_code, IsListing};
+
+    ghost Value = { ListingMeaning };
+
+    ghost coded = { listing_code };
+
+    ghost view = { λ l. record { subrs = l.subrs; glyphs = l.glyphs } };
+
+    ghost invariant = { λ l. IsListing (record { subrs = l.subrs; glyphs = l.glyphs }) };
+}
+
+/// Why a text is no listing. Lines count from 1, and the first in fault is named.
+#[derive(Debug, PartialEq, Eq, Drop)]
+pub enum ListFault {
+    /// The line doesn't read, or has no line feed.
+    BadLine { line: usize },
+    /// An earlier line has the line's key.
+    Repeated { line: usize },
+    /// A growth was refused.
+    Memory,
+}
+
+impl From<AllocError> for ListFault {
+    ghost use Rattle.std.specs.Prelude.{◌≡◌};
+    ghost use Rattle.t1_join.specs.declared.listing.ListFault.TheVariants.{Memory};
+
+    ghost from_gives = { λ _ e. e ≡ Memory };
+
+    fn from(_error: AllocError) -> ListFault {
+        ListFault::Memory
+    }
+}
+
+/// Why two listings don't join.
+#[derive(Debug, Drop)]
+pub enum JoinFault {
+    /// Both have the index, with different bytes: the smallest such index.
+    Subr { index: u16 },
+    /// All Subrs join, and both have the name, with different bytes: the smallest such name.
+    Glyph { name: Vec<u8> },
+    /// A growth was refused.
+    Memory,
+}
+
+impl From<AllocError> for JoinFault {
+    ghost use Rattle.std.specs.Prelude.{◌≡◌};
+    ghost use Rattle.t1_join.specs.declared.listing.JoinFault.TheVariants.{Memory};
+
+    ghost from_gives = { λ _ e. e ≡ Memory };
+
+    fn from(_error: AllocError) -> JoinFault {
+        JoinFault::Memory
+    }
+}
+
+impl Listing {
+    /// The Subrs, by index.
+    pub fn subrs(&self) -> &Table<u16, Vec<u8>>
+        ensures { result.now ≡ self.now.subrs }
+    {
+        &self.subrs
+    }
+
+    /// The glyphs, by name.
+    pub fn glyphs(&self) -> &Table<Vec<u8>, Vec<u8>>
+        ensures { result.now ≡ self.now.glyphs }
+    {
+        &self.glyphs
+    }
+
+    /// Each entry has an index or a name, and a value: what one line of a text can spell.
+    pub fn holds_what_lines_spell(&self)
+        ensures { IsListing self.now }
+    {
+        let _ = &self.subrs;
+    }
+
+    // A listing with no entry.
+    fn new(alloc: Global) -> Listing
+        ensures { result ≡ record { subrs = fin.empty; glyphs = fin.empty } }
+    {
+        Listing {
+            subrs: Table::new(alloc),
+            glyphs: Table::new(alloc),
+        }
+    }
+
+    // Adds what a line says, unless its key is there: then the answer is false.
+    fn add(&mut self, line: Line) -> Result<bool, AllocError>
+        requires { IsEntry (line_entry line) }
+        ensures { IfOk result (λ new. MatchBool new (IsAdded self.old (line_entry line) self.new) (IsTrue (has_entry self.old (line_entry line)))) }
+    {
+        match line {
+            Line::Subr(index, bytes) => {
+                if self.subrs.get(&index).is_some() {
+                    return Ok(false);
+                }
+                self.subrs.insert(index, bytes)?;
+            }
+            Line::Glyph(name, bytes) => {
+                if self.glyphs.get(&name).is_some() {
+                    return Ok(false);
+                }
+                self.glyphs.insert(name, bytes)?;
+            }
+        }
+        Ok(true)
+    }
+}
+
+/// The listing that a text spells, or its first fault.
+///
+/// Each line is `S INDEX HEX` or `G NAME HEX` and a line feed; HEX is pairs of hexadecimal digits of
+/// either case, and may be empty.
+pub fn read(alloc: Global, text: &[u8]) -> Result<Listing, ListFault>
+    ensures { MatchResult result (λ l. listing_of text.now ≡ Ok l) (λ e. (e ≡ ListFault.Memory) ⊎ (listing_of text.now ≡ Err e)) }
 {
-    let subrs = left.subrs.as_slice().to_vec(alloc)?;
-    let mut glyphs = left.glyphs.as_slice().to_vec(alloc)?;
-    glyphs.extend_from_slice(right.glyphs.as_slice())?;
+    let mut listing = Listing::new(alloc);
+    let mut rest = text;
+    let mut line = 1usize;
+    while let Some((front, back)) = split_at_byte(rest, b'\n') {
+        let Some(entry) = read_line(alloc, front)? else {
+            return Err(ListFault::BadLine { line });
+        };
+        if !listing.add(entry)? {
+            return Err(ListFault::Repeated { line });
+        }
+        rest = back;
+        line += 1;
+    }
+    if rest.is_empty() {
+        Ok(listing)
+    } else {
+        Err(ListFault::BadLine { line })
+    }
+}
+
+// The blank, the digits and the line feed that end a line.
+fn add_bytes(alloc: Global, out: &mut Vec<u8>, bytes: &[u8]) -> Result<(), AllocError>
+    ensures { OnOk result (out.new.items ≡ out.old.items ++ 32 ∷ (encode_lower bytes.now ++ 10 ∷ [])) }
+{
+    let hex = hex::encode(alloc, bytes)?;
+    out.push(b' ')?;
+    out.extend_from_slice(hex.as_bytes())?;
+    out.push(b'\n')?;
+    Ok(())
+}
+
+fn add_subr_line(
+    alloc: Global,
+    out: &mut Vec<u8>,
+    index: u16,
+    bytes: &[u8],
+) -> Result<(), AllocError>
+    ensures { OnOk result (out.new.items ≡ out.old.items ++ subr_line (of_number index, bytes.now)) }
+{
+    let number = index.to_string(alloc)?;
+    out.extend_from_slice(b"S ")?;
+    out.extend_from_slice(number.as_bytes())?;
+    add_bytes(alloc, out, bytes)
+}
+
+fn add_glyph_line(
+    alloc: Global,
+    out: &mut Vec<u8>,
+    name: &[u8],
+    bytes: &[u8],
+) -> Result<(), AllocError>
+    ensures { OnOk result (out.new.items ≡ out.old.items ++ glyph_line (name.now, bytes.now)) }
+{
+    out.extend_from_slice(b"G ")?;
+    out.extend_from_slice(name)?;
+    add_bytes(alloc, out, bytes)
+}
+
+/// The text of a listing: the Subrs upwards by index, then the glyphs upwards by the bytes of their names,
+/// in lower-case hexadecimal. It reads as the same listing (`laws::reads_what_is_written`).
+pub fn write(alloc: Global, listing: &Listing) -> Result<Vec<u8>, AllocError>
+    ensures { IfOk result (λ text. text.items ≡ text_of listing.now) }
+{
+    let mut out = Vec::new(alloc);
+    for (index, bytes) in listing.subrs.entries() {
+        add_subr_line(alloc, &mut out, *index, bytes)?;
+    }
+    for (name, bytes) in listing.glyphs.entries() {
+        add_glyph_line(alloc, &mut out, name, bytes)?;
+    }
+    Ok(out)
+}
+
+/// The listing with the entries of both, or the smallest key in conflict, Subrs before glyphs.
+/// Both orders give one answer (`laws::listings_join_alike`).
+pub fn join(alloc: Global, left: &Listing, right: &Listing) -> Result<Listing, JoinFault>
+    ensures { MatchResult result (IsJoined left.now right.now) (IsJoinFault left.now right.now) }
+{
+    if let Some(index) = left.subrs.conflict(&right.subrs) {
+        return Err(JoinFault::Subr { index: *index });
+    }
+    if let Some(name) = left.glyphs.conflict(&right.glyphs) {
+        let name = name.copy(alloc)?;
+        return Err(JoinFault::Glyph { name });
+    }
+    let subrs = left.subrs.join(alloc, &right.subrs)?;
+    let glyphs = left.glyphs.join(alloc, &right.glyphs)?;
     Ok(Listing { subrs, glyphs })
 }

@@ -1,30 +1,315 @@
-use crate::listing::{Glyph, Listing, Subr, join};
+use crate::flat::Flat;
+use crate::join::Join;
+use crate::kept::{Kept, Key};
+use crate::laws;
+use crate::listing::{self, JoinFault, ListFault};
+use crate::many::join_all;
+use crate::table::Table;
 use std::alloc::{AllocError, Global};
 use std::test::Fail;
 
-fn listing<'a>(alloc: Global, subr: Subr<'a>, glyph: Glyph<'a>) -> Result<Listing<'a>, AllocError> {
-    Ok(Listing {
-        subrs: vec![in alloc; subr]?,
-        glyphs: vec![in alloc; glyph]?,
-    })
+fn table(alloc: Global, entries: &[(u16, u8)]) -> Result<Table<u16, Vec<u8>>, AllocError> {
+    let mut table = Table::new(alloc);
+    for (key, byte) in entries {
+        table.insert(*key, vec![in alloc; *byte]?)?;
+    }
+    Ok(table)
+}
+
+fn holds(table: &Table<u16, Vec<u8>>, key: u16, byte: u8) -> bool {
+    match table.get(&key) {
+        Some(value) => value.as_slice() == [byte].as_slice(),
+        None => false,
+    }
 }
 
 #[test]
-fn glyphs_of_both(rt: HostRuntime) -> Result<(), Fail> {
+fn tables(rt: HostRuntime) -> Result<(), Fail> {
     let alloc = rt.alloc();
-    let subr = Subr {
-        index: 5,
-        bytes: b"\xef\x06\x0b",
-    };
-    let x = Glyph {
-        name: b"X",
-        charstring: b"\x8b\x0e",
-    };
-    let y = Glyph {
-        name: b"Y",
-        charstring: b"\x0e",
-    };
-    let both = join(alloc, &listing(alloc, subr, x)?, &listing(alloc, subr, y)?)?;
-    assert_eq!(rt; both.glyphs.len(), 2);
+    let mut one = table(alloc, &[(10, 1), (9, 1), (3, 1)])?;
+    one.insert(9, vec![in alloc; 7]?)?;
+    assert!(rt; holds(&one, 9, 7), "the last value of a key stands");
+    let mut keys = Vec::new(alloc);
+    for (key, _) in one.entries() {
+        keys.push(*key)?;
+    }
+    assert_eq!(rt; keys.as_slice(), [3, 9, 10].as_slice(), "upwards by key");
+    let other = table(alloc, &[(10, 2), (9, 2), (3, 1)])?;
+    assert_eq!(rt; *one.conflict(&other).ok_or("conflict")?, 9);
+    Ok(())
+}
+
+#[test]
+fn flats(rt: HostRuntime) -> Result<(), Fail> {
+    let alloc = rt.alloc();
+    let bytes: &[u8] = b"ab";
+    let full = Flat::Full(bytes);
+    assert!(rt; full.agrees(&Flat::Empty) && full.agrees(&full));
+    assert!(rt; !full.agrees(&Flat::Full(&bytes[..1])));
+    match Flat::Empty.join(alloc, &full)? {
+        Flat::Full(joined) => assert!(rt; joined == bytes),
+        Flat::Empty => assert!(rt; false, "a value joins with nothing to itself"),
+    }
+    Ok(())
+}
+
+#[test]
+fn joins_many(rt: HostRuntime) -> Result<(), Fail> {
+    let alloc = rt.alloc();
+    let three = vec![in alloc;
+        table(alloc, &[(5, 0x0b)])?,
+        table(alloc, &[(6, 0x0e)])?,
+        table(alloc, &[(5, 0x0b)])?,
+    ]?;
+    let joined = join_all(alloc, three.as_slice())?.ok_or("joined")?;
+    assert!(rt; holds(&joined, 5, 0x0b) && holds(&joined, 6, 0x0e));
+    assert_eq!(rt; joined.entries().count(), 2);
+    let two = vec![in alloc; table(alloc, &[(5, 0x0b)])?, table(alloc, &[(5, 0x0e)])?]?;
+    assert!(rt; join_all(alloc, two.as_slice())?.is_none());
+    let none: Vec<Table<u16, Vec<u8>>> = Vec::new(alloc);
+    assert!(rt; join_all(alloc, none.as_slice())?.is_none());
+    Ok(())
+}
+
+// The number of keys of either table, where they join: through the bounds alone.
+fn keys_of_both<K: Key + Drop, V: Kept + Drop>(
+    alloc: Global,
+    left: &Table<K, V>,
+    right: &Table<K, V>,
+) -> Result<Option<usize>, AllocError> {
+    if !left.agrees(right) {
+        return Ok(None);
+    }
+    Ok(Some(left.join(alloc, right)?.entries().count()))
+}
+
+#[test]
+fn borrowed_keys(rt: HostRuntime) -> Result<(), Fail> {
+    let alloc = rt.alloc();
+    let text: &[u8] = b"abcabd";
+    let mut left = Table::new(alloc);
+    left.insert(&text[0..2], &text[2..3])?;
+    let mut right = Table::new(alloc);
+    right.insert(&text[3..5], &text[2..3])?;
+    right.insert(&text[5..], &text[..0])?;
+    assert_eq!(rt; keys_of_both(alloc, &left, &right)?, Some(2));
+    let mut other = Table::new(alloc);
+    other.insert(&text[0..2], &text[0..2])?;
+    assert_eq!(rt; keys_of_both(alloc, &left, &other)?, None);
+    Ok(())
+}
+
+#[test]
+fn laws_at_types(rt: HostRuntime) -> Result<(), Fail> {
+    laws::commutative::<Table<u16, Vec<u8>>>();
+    laws::associative::<Table<Vec<u8>, Vec<u8>>>();
+    laws::idempotent::<Flat<u16>>();
+    laws::one_answer::<Flat<Vec<u8>>>();
+    laws::one_conflict();
+    laws::listings_join_alike();
+    let listing = listing::read(rt.alloc(), b"S 5 0b\n").ok().ok_or("reads")?;
+    laws::reads_what_is_written(&listing);
+    assert_eq!(rt; listing.subrs().entries().count(), 1);
+    assert_eq!(rt; listing.glyphs().entries().count(), 0);
+    Ok(())
+}
+
+fn joined(alloc: Global, left: &[u8], right: &[u8]) -> Option<Vec<u8>> {
+    let left = listing::read(alloc, left).ok()?;
+    let right = listing::read(alloc, right).ok()?;
+    let both = listing::join(alloc, &left, &right).ok()?;
+    listing::write(alloc, &both).ok()
+}
+
+fn joins_to(alloc: Global, left: &[u8], right: &[u8], text: &[u8]) -> bool {
+    match joined(alloc, left, right) {
+        Some(both) => both.as_slice() == text,
+        None => false,
+    }
+}
+
+// The fault of a text, if it has one.
+fn fault(alloc: Global, text: &[u8]) -> Option<ListFault> {
+    listing::read(alloc, text).err()
+}
+
+fn bad_line(line: usize) -> Option<ListFault> {
+    Some(ListFault::BadLine { line })
+}
+
+#[test]
+fn listings_join(rt: HostRuntime) -> Result<(), Fail> {
+    let alloc = rt.alloc();
+    let left: &[u8] = b"S 5 ef060b\nG X 8b0e\n";
+    let right: &[u8] = b"G Y 0E\nS 5 ef060b\n";
+    let both: &[u8] = b"S 5 ef060b\nG X 8b0e\nG Y 0e\n";
+    assert!(rt; joins_to(alloc, left, right, both), "two listings");
+    assert!(rt; joins_to(alloc, right, left, both), "in the other order");
+    assert!(rt; joins_to(alloc, b"", b"", b""), "two empty listings");
+    assert!(rt;
+        joins_to(alloc, b"S 00005 0b\n", b"", b"S 5 0b\n"),
+        "leading zeros"
+    );
+    assert!(rt;
+        joins_to(
+            alloc,
+            b"G b 0e\nG B 0e\nS 10 aB\nS 9 \n",
+            b"",
+            b"S 9 \nS 10 ab\nG B 0e\nG b 0e\n"
+        ),
+        "order, cases, an empty value"
+    );
+    assert!(rt;
+        joins_to(alloc, b"G \x80\xff\x01 0e\n", b"", b"G \x80\xff\x01 0e\n"),
+        "other bytes in names"
+    );
+    Ok(())
+}
+
+fn subr_conflict(alloc: Global, left: &[u8], right: &[u8]) -> Option<u16> {
+    let left = listing::read(alloc, left).ok()?;
+    let right = listing::read(alloc, right).ok()?;
+    match listing::join(alloc, &left, &right) {
+        Err(JoinFault::Subr { index }) => Some(index),
+        _ => None,
+    }
+}
+
+fn glyph_conflict(alloc: Global, left: &[u8], right: &[u8]) -> Option<Vec<u8>> {
+    let left = listing::read(alloc, left).ok()?;
+    let right = listing::read(alloc, right).ok()?;
+    match listing::join(alloc, &left, &right) {
+        Err(JoinFault::Glyph { name }) => Some(name),
+        _ => None,
+    }
+}
+
+#[test]
+fn listings_differ(rt: HostRuntime) -> Result<(), Fail> {
+    let alloc = rt.alloc();
+    assert_eq!(rt; subr_conflict(alloc, b"S 5 ef060b\n", b"S 5 0b\n"), Some(5));
+    assert_eq!(rt;
+        subr_conflict(alloc, b"S 7 \n", b"S 7 0b\n"),
+        Some(7),
+        "an entry of no bytes"
+    );
+    let left: &[u8] = b"S 10 0b\nS 9 0b\nG A 0e\n";
+    let right: &[u8] = b"S 10 0c\nS 9 0c\nG A 0d\n";
+    assert_eq!(rt;
+        subr_conflict(alloc, left, right),
+        Some(9),
+        "the smallest index"
+    );
+    assert_eq!(rt;
+        subr_conflict(alloc, right, left),
+        Some(9),
+        "in the other order"
+    );
+    let name = glyph_conflict(alloc, b"G b 0e\nG A 0e\nS 1 0b\n", b"G A 0d\nG b 0d\n").ok_or(
+        "refused",
+    )?;
+    assert!(rt; name.as_slice() == b"A".as_slice(), "the smallest name");
+    Ok(())
+}
+
+#[test]
+fn faults_of_texts(rt: HostRuntime) -> Result<(), Fail> {
+    let alloc = rt.alloc();
+    assert_eq!(rt; fault(alloc, b"S 65534 0b\n"), None, "the largest index");
+    assert_eq!(rt; fault(alloc, b"S 65535 0b\n"), bad_line(1), "one more");
+    assert_eq!(rt; fault(alloc, b"S 000001 0b\n"), bad_line(1), "six digits");
+    assert_eq!(rt; fault(alloc, b"S  0b\n"), bad_line(1), "no digit");
+    assert_eq!(rt;
+        fault(alloc, b"S 1a 0b\n"),
+        bad_line(1),
+        "a letter in an index"
+    );
+    assert_eq!(rt; fault(alloc, b"G X 0\n"), bad_line(1), "odd digits");
+    assert_eq!(rt; fault(alloc, b"G X 0g\n"), bad_line(1), "no digit of 16");
+    assert_eq!(rt;
+        fault(alloc, b"G X 0e \n"),
+        bad_line(1),
+        "a blank at the end"
+    );
+    assert_eq!(rt; fault(alloc, b"G X 0e\r\n"), bad_line(1), "CR before LF");
+    assert_eq!(rt;
+        fault(alloc, b"G X\n"),
+        bad_line(1),
+        "no blank before the digits"
+    );
+    assert_eq!(rt; fault(alloc, b"G  0e\n"), bad_line(1), "no name");
+    assert_eq!(rt; fault(alloc, b"G /X 0e\n"), bad_line(1), "a delimiter");
+    assert_eq!(rt; fault(alloc, b"G X\t0e\n"), bad_line(1), "a tab");
+    assert_eq!(rt; fault(alloc, b"GX 0e\n"), bad_line(1), "no blank");
+    assert_eq!(rt; fault(alloc, b"g X 0e\n"), bad_line(1), "another letter");
+    assert_eq!(rt; fault(alloc, b"\n"), bad_line(1), "an empty line");
+    assert_eq!(rt;
+        fault(alloc, b"S 5 0b\nS 6"),
+        bad_line(2),
+        "no line feed at the end"
+    );
+    assert_eq!(rt; fault(alloc, b"S 5 0b"), bad_line(1), "no line feed");
+    assert_eq!(rt;
+        fault(alloc, b"S 5 0b\nS 5 0b"),
+        bad_line(2),
+        "no line feed, and its key is there"
+    );
+    let repeated = Some(ListFault::Repeated { line: 2 });
+    assert_eq!(rt;
+        fault(alloc, b"S 5 0b\nS 05 0b\n"),
+        repeated,
+        "an index twice"
+    );
+    assert_eq!(rt;
+        fault(alloc, b"G 5 0b\nG 5 0c\nS 5 0b\n"),
+        Some(ListFault::Repeated { line: 2 }),
+        "a name twice"
+    );
+    assert_eq!(rt;
+        fault(alloc, b"S 5 0b\nG 5 0b\n"),
+        None,
+        "an index and a name are two keys"
+    );
+    Ok(())
+}
+
+// `G `, the name so often, a blank, the digit so often, and a line feed.
+fn long_line(alloc: Global, name: usize, digits: usize) -> Result<Vec<u8>, AllocError> {
+    let mut line = Vec::new(alloc);
+    line.extend_from_slice(b"G ")?;
+    for _ in 0..name {
+        line.push(b'n')?;
+    }
+    line.push(b' ')?;
+    for _ in 0..digits {
+        line.push(b'0')?;
+    }
+    line.push(b'\n')?;
+    Ok(line)
+}
+
+#[test]
+fn lengths(rt: HostRuntime) -> Result<(), Fail> {
+    let alloc = rt.alloc();
+    assert_eq!(rt;
+        fault(alloc, &long_line(alloc, 127, 2)?),
+        None,
+        "the longest name"
+    );
+    assert_eq!(rt;
+        fault(alloc, &long_line(alloc, 128, 2)?),
+        bad_line(1),
+        "one byte more"
+    );
+    assert_eq!(rt;
+        fault(alloc, &long_line(alloc, 1, 131070)?),
+        None,
+        "the longest value"
+    );
+    assert_eq!(rt;
+        fault(alloc, &long_line(alloc, 1, 131072)?),
+        bad_line(1),
+        "one byte more"
+    );
     Ok(())
 }

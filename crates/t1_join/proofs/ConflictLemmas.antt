@@ -1,0 +1,58 @@
+-- Conflicts of tables and of listings: at most one, and the same in either order.
+use Rattle.std.proofs.Common.{◌≡◌, refl, sym, ◌∙◌, ap, Option}
+use Rattle.std.specs.declared.cmp.Ordering.{Ordering}
+use Rattle.std.specs.declared.cmp.Ordering.TheVariants.{Less, Equal, Greater}
+use Rattle.std.specs.Ordering.{ordering_reverse}
+use Rattle.std.proofs.lemmas.Cmp.{nat_list_cmp_total}
+use Rattle.std.specs.FinMap as fin
+use Rattle.t1_join.specs.declared.listing.JoinFault.{JoinFault}
+use Rattle.t1_join.specs.declared.listing.JoinFault.TheVariants.{Subr, Glyph, Memory}
+use Rattle.t1_join.specs.Meaning.{Meaning, meaning_cmp, of_number}
+use Rattle.t1_join.specs.Join.{StatesAgree, joined_state}
+use Rattle.t1_join.specs.StateLaws.{state_back}
+use Rattle.t1_join.specs.TableMeaning.{TableMeaning, TablesAgree, joined_table, IsFirstConflict}
+use Rattle.t1_join.specs.TableLaws.{table_laws}
+use Rattle.t1_join.specs.ListingMeaning.{ListingMeaning}
+use Rattle.t1_join.specs.ListingJoin.{IsJoined, IsJoinFault}
+use Rattle.t1_join.proofs.EntryLemmas.{same_by_cmp}
+
+abbrev state_at : TableMeaning → Meaning → Option Meaning
+state_at m q = fin.get m q
+
+tables_back : (m n : TableMeaning) → TablesAgree m n → TablesAgree n m
+tables_back m n h q = state_back (state_at m q) (state_at n q) (h q)
+
+joined_back : (m n o : TableMeaning) → TablesAgree m n → o ≡ joined_table m n → o ≡ joined_table n m
+joined_back m n o h e = (table_laws.commutes m n o (h, e)).1
+
+pub conflict_back : (m n : TableMeaning) (q : Meaning) → IsFirstConflict m n q → IsFirstConflict n m q
+conflict_back m n q c = record {
+  differs = λ a. c.differs (state_back (state_at n q) (state_at m q) a);
+  first = λ p l. state_back (state_at m p) (state_at n p) (c.first p l);
+}
+
+pub conflict_one : (m n : TableMeaning) (p q : Meaning) → IsFirstConflict m n p → IsFirstConflict m n q → p ≡ q
+conflict_one m n p q c d = by (meaning_cmp p q) refl
+  where
+    by : (o : Ordering) → meaning_cmp p q ≡ o → p ≡ q
+    by Less e = absurd (c.differs (d.first p e))
+    by Equal e = same_by_cmp p q e
+    by Greater e = absurd (d.differs (c.first q (nat_list_cmp_total.antisymm q p ∙ ap ordering_reverse e)))
+
+pub joins_back : (left right both : ListingMeaning) → IsJoined left right both → IsJoined right left both
+joins_back left right both j = record {
+  subrs_agree = tables_back left.subrs right.subrs j.subrs_agree;
+  glyphs_agree = tables_back left.glyphs right.glyphs j.glyphs_agree;
+  subrs = joined_back left.subrs right.subrs both.subrs j.subrs_agree j.subrs;
+  glyphs = joined_back left.glyphs right.glyphs both.glyphs j.glyphs_agree j.glyphs;
+}
+
+pub refused_back : (left right : ListingMeaning) (fault : JoinFault) → IsJoinFault left right fault → IsJoinFault right left fault
+refused_back left right (Subr index) h = conflict_back left.subrs right.subrs (of_number index) h
+refused_back left right (Glyph name) h = (tables_back left.subrs right.subrs h.0, conflict_back left.glyphs right.glyphs name.items h.1)
+refused_back left right Memory h = tt
+
+pub joined_or_refused : (left right both : ListingMeaning) (fault : JoinFault) → IsJoined left right both → IsJoinFault left right fault → fault ≡ Memory
+joined_or_refused left right both (Subr index) j h = absurd (h.differs (j.subrs_agree (of_number index)))
+joined_or_refused left right both (Glyph name) j h = absurd (h.1.differs (j.glyphs_agree name.items))
+joined_or_refused left right both Memory j h = refl

@@ -1,0 +1,12 @@
+pub mod EntryLemmas
+pub mod ScanLemmas
+pub mod OrderLemmas
+pub mod FrontLemmas
+pub mod Rows
+pub mod SplitLemmas
+pub mod ReadLemmas
+pub mod LimitLemmas
+pub mod ListingLemmas
+pub mod LineTexts
+pub mod WrittenLemmas
+pub mod ConflictLemmas

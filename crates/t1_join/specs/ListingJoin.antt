@@ -1,0 +1,20 @@
+-- What the join of two listings is.
+use Rattle.std.specs.Prelude.{◌≡◌}
+use Rattle.t1_join.specs.declared.listing.JoinFault.{JoinFault}
+use Rattle.t1_join.specs.declared.listing.JoinFault.TheVariants.{Subr, Glyph, Memory}
+use Rattle.t1_join.specs.Meaning.{of_number}
+use Rattle.t1_join.specs.TableMeaning.{TablesAgree, joined_table, IsFirstConflict}
+use Rattle.t1_join.specs.ListingMeaning.{ListingMeaning}
+
+-- the states of each index and of each name join, and `both` has the joined ones
+pub record IsJoined (left right both : ListingMeaning) : Type 0 where
+  pub subrs_agree : TablesAgree left.subrs right.subrs
+  pub glyphs_agree : TablesAgree left.glyphs right.glyphs
+  pub subrs : both.subrs ≡ joined_table left.subrs right.subrs
+  pub glyphs : both.glyphs ≡ joined_table left.glyphs right.glyphs
+
+-- the lowest refusal: the smallest index whose states don't join; where all do, the smallest such name
+abbrev pub IsJoinFault : ListingMeaning → ListingMeaning → JoinFault → Type 0
+IsJoinFault left right (Subr index) = IsFirstConflict left.subrs right.subrs (of_number index)
+IsJoinFault left right (Glyph name) = TablesAgree left.subrs right.subrs × IsFirstConflict left.glyphs right.glyphs name.items
+IsJoinFault left right Memory = Unit {0}

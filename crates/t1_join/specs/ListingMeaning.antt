@@ -1,0 +1,42 @@
+-- What a listing is: the Subrs and the glyphs of a font program (Adobe Type 1 Font Format 1.1, chapters 2 and 8).
+use Rattle.std.specs.Prelude.{◌≡◌, refl, ℕ, ◌<◌, ◌≤◌, ◌==◌, ◌&&◌, not, nat_le, Bool, true, Some, List, ◌∷◌, length, codes}
+use Rattle.std.specs.List.{list_all, list_any}
+use Rattle.std.specs.Coded.{Coded, code_by, coded×}
+use Rattle.std.specs.FinMap as fin
+use Rattle.hex.specs.Hex.{IsBytes}
+use Rattle.t1_join.specs.Meaning.{Meaning, of_number}
+use Rattle.t1_join.specs.TableMeaning.{TableMeaning, table_code}
+
+-- two finite maps: from the indices of Subrs, and from the names of glyphs, to the bytes that stand there
+pub record ListingMeaning : Type 0 where
+  pub subrs : TableMeaning
+  pub glyphs : TableMeaning
+
+abbrev pub listing_code : Coded ListingMeaning
+listing_code = code_by (TableMeaning × TableMeaning) (coded× table_code table_code) (λ l. (l.subrs, l.glyphs)) (λ p. record { subrs = p.0; glyphs = p.1 }) (λ _. refl)
+
+-- white space and delimiters end a name (the tokens of chapter 2)
+abbrev pub ends_name : ℕ → Bool
+ends_name b = list_any (λ x. b == x) (0 ∷ 9 ∷ 10 ∷ 12 ∷ 13 ∷ 32 ∷ codes "()<>[]{}/%")
+
+-- a name has 1 to 127 bytes, none of which ends it
+abbrev pub is_name : List ℕ → Bool
+is_name name = nat_le 1 (length name) && nat_le (length name) 127 && list_all (λ b. not (ends_name b)) name
+
+-- a value is at most 65,535 bytes
+pub record IsValue (v : Meaning) : Type 0 where
+  pub bytes : IsBytes v
+  pub short : length v ≤ 65535
+
+-- an index is below 65,535
+pub record IsIndex (k : Meaning) : Type 0 where
+  pub index : ℕ
+  pub is : k ≡ of_number index
+  pub small : index < 65535
+
+-- each entry of a listing has an index or a name, and a value
+pub record IsListing (l : ListingMeaning) : Type 0 where
+  pub indices : (k v : Meaning) → fin.get l.subrs k ≡ Some v → IsIndex k
+  pub names : (k v : Meaning) → fin.get l.glyphs k ≡ Some v → is_name k ≡ true
+  pub subr_values : (k v : Meaning) → fin.get l.subrs k ≡ Some v → IsValue v
+  pub glyph_values : (k v : Meaning) → fin.get l.glyphs k ≡ Some v → IsValue v

@@ -1,0 +1,125 @@
+-- The text of a listing: lines `S INDEX HEX` and `G NAME HEX`, each ended by a line feed.
+use Rattle.std.specs.Prelude.{ℕ, ◌+◌, ◌-◌, ◌*◌, ◌==◌, ◌&&◌, not, nat_le, Bool, false, if◌then◌else◌, cond, List, [], ◌∷◌, ◌++◌, length, Option, Some, None, Result, Ok, Err, option_and_then, flat_map, codes, slice_index}
+use Rattle.std.specs.Option.{option_map}
+use Rattle.std.specs.Result.{result_ok}
+use Rattle.std.specs.Ordering.{eq_by_cmp}
+use Rattle.std.specs.List.{list_all, list_any}
+use Rattle.std.specs.Fmt.{decimal}
+use Rattle.std.specs.FinMap as fin
+use Rattle.hex.specs.Hex.{decode_of, encode_lower}
+use Rattle.t1_join.specs.declared.listing.ListFault.{ListFault}
+use Rattle.t1_join.specs.declared.listing.ListFault.TheVariants.{BadLine, Repeated}
+use Rattle.t1_join.specs.Meaning.{Meaning, meaning_cmp, of_number}
+use Rattle.t1_join.specs.ListingMeaning.{ListingMeaning, is_name}
+
+-- what a line says: an index or a name, and the bytes that stand there
+pub data Entry : Type 0 where
+  subr : ℕ → List ℕ → Entry
+  glyph : List ℕ → List ℕ → Entry
+
+abbrev pub with_front : ℕ → List ℕ × List ℕ → List ℕ × List ℕ
+with_front b p = (b ∷ p.0, p.1)
+
+-- what stands before and after the first c
+abbrev pub split_at : ℕ → List ℕ → Option (List ℕ × List ℕ)
+split_at c [] = None
+split_at c (b ∷ bs) = cond (b == c) (Some ([], bs)) (option_map (with_front b) (split_at c bs))
+
+-- n followed by the decimal digits, if all are digits
+abbrev pub digits_after : ℕ → List ℕ → Option ℕ
+digits_after n [] = Some n
+digits_after n (c ∷ cs) = cond (nat_le 48 c && nat_le c 57) (digits_after (n * 10 + (c - 48)) cs) None
+
+abbrev pub up_to : ℕ → ℕ → Option ℕ
+up_to most n = cond (nat_le n most) (Some n) None
+
+-- one to five digits, with a value of at most 65,534
+abbrev pub index_of : List ℕ → Option ℕ
+index_of word = cond (nat_le 1 (length word) && nat_le (length word) 5) (option_and_then (up_to 65534) (digits_after 0 word)) None
+
+abbrev pub name_of : List ℕ → Option (List ℕ)
+name_of word = cond (is_name word) (Some word) None
+
+-- pairs of hexadecimal digits, at most 131,070 digits
+abbrev pub bytes_of : List ℕ → Option (List ℕ)
+bytes_of hex = cond (nat_le (length hex) 131070) (result_ok (decode_of hex)) None
+
+abbrev pub subr_of : List ℕ × List ℕ → Option Entry
+subr_of p = option_and_then (λ i. option_map (subr i) (bytes_of p.1)) (index_of p.0)
+
+abbrev pub glyph_of : List ℕ × List ℕ → Option Entry
+glyph_of p = option_and_then (λ n. option_map (glyph n) (bytes_of p.1)) (name_of p.0)
+
+-- what a line says, without its line feed
+abbrev pub entry_of : List ℕ → Option Entry
+entry_of [] = None
+entry_of (kind ∷ []) = None
+entry_of (kind ∷ blank ∷ rest) =
+    if not (blank == 32) then None
+    else if kind == 83 then option_and_then subr_of (split_at 32 rest)
+    else if kind == 71 then option_and_then glyph_of (split_at 32 rest)
+    else None
+
+-- a byte goes onto the first line, or where there is none onto what is left
+abbrev pub pushed : ℕ → List (List ℕ) → List ℕ → List (List ℕ) × List ℕ
+pushed b [] rest = ([], b ∷ rest)
+pushed b (line ∷ lines) rest = ((b ∷ line) ∷ lines, rest)
+
+-- the lines, each without its line feed, and what stands after the last line feed
+abbrev pub lines_of : List ℕ → List (List ℕ) × List ℕ
+lines_of [] = ([], [])
+lines_of (b ∷ bs) = cond (b == 10) ([] ∷ (lines_of bs).0, (lines_of bs).1) (pushed b (lines_of bs).0 (lines_of bs).1)
+
+-- the entries have the same key
+abbrev pub same_key : Entry → Entry → Bool
+same_key (subr i v) (subr j w) = eq_by_cmp meaning_cmp (of_number i) (of_number j)
+same_key (subr i v) (glyph n w) = false
+same_key (glyph m v) (subr j w) = false
+same_key (glyph m v) (glyph n w) = eq_by_cmp meaning_cmp m n
+
+-- one line, after the entries that were seen, the newest first; `next` reads the lines after it
+abbrev pub read_entry : ℕ → List Entry → Option Entry → (List Entry → Result (List Entry) ListFault) → Result (List Entry) ListFault
+read_entry n seen None next = Err (BadLine n)
+read_entry n seen (Some e) next = cond (list_any (same_key e) seen) (Err (Repeated n)) (next (e ∷ seen))
+
+abbrev pub at_end : ℕ → List Entry → List ℕ → Result (List Entry) ListFault
+at_end n seen [] = Ok seen
+at_end n seen (b ∷ rest) = Err (BadLine n)
+
+-- the lines from line n on, where `rest` stands after the last line feed
+abbrev pub read_lines : ℕ → List Entry → List (List ℕ) → List ℕ → Result (List Entry) ListFault
+read_lines n seen [] rest = at_end n seen rest
+read_lines n seen (line ∷ lines) rest = read_entry n seen (entry_of line) (λ more. read_lines (n + 1) more lines rest)
+
+-- the entries of a text, the newest first, or its first fault
+abbrev pub entries_of : List ℕ → Result (List Entry) ListFault
+entries_of text = read_lines 1 [] (lines_of text).0 (lines_of text).1
+
+-- a listing with one more entry
+abbrev pub with_entry : Entry → ListingMeaning → ListingMeaning
+with_entry (subr i v) l = record { subrs = fin.insert l.subrs (of_number i) v; glyphs = l.glyphs }
+with_entry (glyph n v) l = record { subrs = l.subrs; glyphs = fin.insert l.glyphs n v }
+
+-- the listing that has these entries
+abbrev pub listing_from : List Entry → ListingMeaning
+listing_from [] = record { subrs = fin.empty; glyphs = fin.empty }
+listing_from (e ∷ es) = with_entry e (listing_from es)
+
+abbrev pub listing_result : Result (List Entry) ListFault → Result ListingMeaning ListFault
+listing_result (Ok es) = Ok (listing_from es)
+listing_result (Err e) = Err e
+
+-- what a text reads as
+abbrev pub listing_of : List ℕ → Result ListingMeaning ListFault
+listing_of text = listing_result (entries_of text)
+
+-- the lines of a listing, in the order of the keys
+abbrev pub subr_line : Meaning × Meaning → List ℕ
+subr_line e = 83 ∷ 32 ∷ (decimal (slice_index e.0 0) ++ 32 ∷ (encode_lower e.1 ++ 10 ∷ []))
+
+abbrev pub glyph_line : Meaning × Meaning → List ℕ
+glyph_line e = 71 ∷ 32 ∷ (e.0 ++ 32 ∷ (encode_lower e.1 ++ 10 ∷ []))
+
+-- how a listing is written
+abbrev pub text_of : ListingMeaning → List ℕ
+text_of l = flat_map subr_line (fin.entries l.subrs) ++ flat_map glyph_line (fin.entries l.glyphs)
