@@ -8,8 +8,8 @@ ghost use Rattle.t1_join.specs.ListingMeaning.{ListingMeaning};
 ghost use Rattle.t1_join.specs.ListingText.{listing_of, text_of};
 ghost use Rattle.t1_join.specs.ListingJoin.{IsJoined, IsJoinFault};
 
-use crate::join::Join;
 use crate::listing::Listing;
+use crate::partial::Join;
 
 /// Two values join alike in either order.
 pub fn commutative<J: Join>()

@@ -8,10 +8,10 @@ ghost use Rattle.t1_join.specs.ListingText.{listing_of, text_of, subr_line, glyp
 ghost use Rattle.t1_join.specs.Meaning.{of_number};
 ghost use Rattle.t1_join.specs.LineMeaning.{line_entry, has_entry, IsEntry, IsAdded};
 
-use crate::join::Join;
-use crate::kept::Kept;
+use crate::keys::Kept;
 use crate::lines::{Line, read_line, split_at_byte};
-use crate::table::Table;
+use crate::partial::Join;
+use crate::tables::Table;
 use std::alloc::{AllocError, Global};
 use std::marker::Model;
 

@@ -1,10 +1,10 @@
-use crate::flat::Flat;
-use crate::join::Join;
-use crate::kept::{Kept, Key};
+use crate::flats::Flat;
+use crate::keys::{Kept, Key};
 use crate::laws;
 use crate::listing::{self, JoinFault, ListFault};
 use crate::many::join_all;
-use crate::table::Table;
+use crate::partial::Join;
+use crate::tables::Table;
 use std::alloc::{AllocError, Global};
 use std::test::Fail;
 
@@ -121,48 +121,33 @@ fn joined(alloc: Global, left: &[u8], right: &[u8]) -> Option<Vec<u8>> {
     listing::write(alloc, &both).ok()
 }
 
-fn joins_to(alloc: Global, left: &[u8], right: &[u8], text: &[u8]) -> bool {
-    match joined(alloc, left, right) {
-        Some(both) => both.as_slice() == text,
-        None => false,
-    }
-}
-
-// The fault of a text, if it has one.
-fn fault(alloc: Global, text: &[u8]) -> Option<ListFault> {
-    listing::read(alloc, text).err()
-}
-
-fn bad_line(line: usize) -> Option<ListFault> {
-    Some(ListFault::BadLine { line })
-}
-
 #[test]
 fn listings_join(rt: HostRuntime) -> Result<(), Fail> {
-    let alloc = rt.alloc();
     let left: &[u8] = b"S 5 ef060b\nG X 8b0e\n";
     let right: &[u8] = b"G Y 0E\nS 5 ef060b\n";
     let both: &[u8] = b"S 5 ef060b\nG X 8b0e\nG Y 0e\n";
-    assert!(rt; joins_to(alloc, left, right, both), "two listings");
-    assert!(rt; joins_to(alloc, right, left, both), "in the other order");
-    assert!(rt; joins_to(alloc, b"", b"", b""), "two empty listings");
-    assert!(rt;
-        joins_to(alloc, b"S 00005 0b\n", b"", b"S 5 0b\n"),
-        "leading zeros"
-    );
-    assert!(rt;
-        joins_to(
-            alloc,
+    let cases: [(&[u8], &[u8], &[u8], &str); 6] = [
+        (left, right, both, "two listings"),
+        (right, left, both, "in the other order"),
+        (b"", b"", b"", "two empty listings"),
+        (b"S 00005 0b\n", b"", b"S 5 0b\n", "leading zeros"),
+        (
             b"G b 0e\nG B 0e\nS 10 aB\nS 9 \n",
             b"",
-            b"S 9 \nS 10 ab\nG B 0e\nG b 0e\n"
+            b"S 9 \nS 10 ab\nG B 0e\nG b 0e\n",
+            "order, cases, an empty value",
         ),
-        "order, cases, an empty value"
-    );
-    assert!(rt;
-        joins_to(alloc, b"G \x80\xff\x01 0e\n", b"", b"G \x80\xff\x01 0e\n"),
-        "other bytes in names"
-    );
+        (
+            b"G \x80\xff\x01 0e\n",
+            b"",
+            b"G \x80\xff\x01 0e\n",
+            "other bytes in a name",
+        ),
+    ];
+    for (left, right, want, what) in cases {
+        let text = joined(rt.alloc(), left, right).ok_or("joins")?;
+        assert_eq!(rt; text.as_slice(), want, "{what}");
+    }
     Ok(())
 }
 
@@ -213,63 +198,58 @@ fn listings_differ(rt: HostRuntime) -> Result<(), Fail> {
 }
 
 #[test]
-fn faults_of_texts(rt: HostRuntime) -> Result<(), Fail> {
-    let alloc = rt.alloc();
-    assert_eq!(rt; fault(alloc, b"S 65534 0b\n"), None, "the largest index");
-    assert_eq!(rt; fault(alloc, b"S 65535 0b\n"), bad_line(1), "one more");
-    assert_eq!(rt; fault(alloc, b"S 000001 0b\n"), bad_line(1), "six digits");
-    assert_eq!(rt; fault(alloc, b"S  0b\n"), bad_line(1), "no digit");
-    assert_eq!(rt;
-        fault(alloc, b"S 1a 0b\n"),
-        bad_line(1),
-        "a letter in an index"
-    );
-    assert_eq!(rt; fault(alloc, b"G X 0\n"), bad_line(1), "odd digits");
-    assert_eq!(rt; fault(alloc, b"G X 0g\n"), bad_line(1), "no digit of 16");
-    assert_eq!(rt;
-        fault(alloc, b"G X 0e \n"),
-        bad_line(1),
-        "a blank at the end"
-    );
-    assert_eq!(rt; fault(alloc, b"G X 0e\r\n"), bad_line(1), "CR before LF");
-    assert_eq!(rt;
-        fault(alloc, b"G X\n"),
-        bad_line(1),
-        "no blank before the digits"
-    );
-    assert_eq!(rt; fault(alloc, b"G  0e\n"), bad_line(1), "no name");
-    assert_eq!(rt; fault(alloc, b"G /X 0e\n"), bad_line(1), "a delimiter");
-    assert_eq!(rt; fault(alloc, b"G X\t0e\n"), bad_line(1), "a tab");
-    assert_eq!(rt; fault(alloc, b"GX 0e\n"), bad_line(1), "no blank");
-    assert_eq!(rt; fault(alloc, b"g X 0e\n"), bad_line(1), "another letter");
-    assert_eq!(rt; fault(alloc, b"\n"), bad_line(1), "an empty line");
-    assert_eq!(rt;
-        fault(alloc, b"S 5 0b\nS 6"),
-        bad_line(2),
-        "no line feed at the end"
-    );
-    assert_eq!(rt; fault(alloc, b"S 5 0b"), bad_line(1), "no line feed");
-    assert_eq!(rt;
-        fault(alloc, b"S 5 0b\nS 5 0b"),
-        bad_line(2),
-        "no line feed, and its key is there"
-    );
-    let repeated = Some(ListFault::Repeated { line: 2 });
-    assert_eq!(rt;
-        fault(alloc, b"S 5 0b\nS 05 0b\n"),
-        repeated,
-        "an index twice"
-    );
-    assert_eq!(rt;
-        fault(alloc, b"G 5 0b\nG 5 0c\nS 5 0b\n"),
-        Some(ListFault::Repeated { line: 2 }),
-        "a name twice"
-    );
-    assert_eq!(rt;
-        fault(alloc, b"S 5 0b\nG 5 0b\n"),
-        None,
-        "an index and a name are two keys"
-    );
+fn bad_lines(rt: HostRuntime) -> Result<(), Fail> {
+    let cases: [(&[u8], usize, &str); 19] = [
+        (b"S 65535 0b\n", 1, "an index over the largest"),
+        (b"S 000001 0b\n", 1, "six digits"),
+        (b"S  0b\n", 1, "no digit"),
+        (b"S 1a 0b\n", 1, "a letter in an index"),
+        (b"G X 0\n", 1, "odd digits"),
+        (b"G X 0g\n", 1, "no digit of 16"),
+        (b"G X 0e \n", 1, "a blank at the end"),
+        (b"G X 0e\r\n", 1, "CR before LF"),
+        (b"G X\n", 1, "no blank before the digits"),
+        (b"G  0e\n", 1, "no name"),
+        (b"G /X 0e\n", 1, "a delimiter"),
+        (b"G X\t0e\n", 1, "a tab"),
+        (b"GX 0e\n", 1, "no blank"),
+        (b"g X 0e\n", 1, "another letter"),
+        (b"\n", 1, "an empty line"),
+        (b"S 5 0b", 1, "no line feed"),
+        (b"S 5 0b\nS 6", 2, "no line feed at the end"),
+        (b"S 5 0b\nS 5 0b", 2, "no line feed, and its key is there"),
+        (b"G a 0e\nG b 0e\nG c\nG d\n", 3, "the first line in fault"),
+    ];
+    for (text, line, what) in cases {
+        let fault = listing::read(rt.alloc(), text).err();
+        assert_eq!(rt; fault, Some(ListFault::BadLine { line }), "{what}");
+    }
+    Ok(())
+}
+
+#[test]
+fn repeated_keys(rt: HostRuntime) -> Result<(), Fail> {
+    let cases: [(&[u8], Option<ListFault>, &str); 4] = [
+        (
+            b"S 5 0b\nS 05 0b\n",
+            Some(ListFault::Repeated { line: 2 }),
+            "an index twice",
+        ),
+        (
+            b"G 5 0b\nS 5 0b\nG 5 0c\n",
+            Some(ListFault::Repeated { line: 3 }),
+            "a name twice",
+        ),
+        (
+            b"S 5 0b\nG 5 0b\n",
+            None,
+            "an index and a name are two keys",
+        ),
+        (b"S 65534 0b\n", None, "the largest index"),
+    ];
+    for (text, want, what) in cases {
+        assert_eq!(rt; listing::read(rt.alloc(), text).err(), want, "{what}");
+    }
     Ok(())
 }
 
@@ -291,25 +271,19 @@ fn long_line(alloc: Global, name: usize, digits: usize) -> Result<Vec<u8>, Alloc
 #[test]
 fn lengths(rt: HostRuntime) -> Result<(), Fail> {
     let alloc = rt.alloc();
-    assert_eq!(rt;
-        fault(alloc, &long_line(alloc, 127, 2)?),
-        None,
-        "the longest name"
-    );
-    assert_eq!(rt;
-        fault(alloc, &long_line(alloc, 128, 2)?),
-        bad_line(1),
-        "one byte more"
-    );
-    assert_eq!(rt;
-        fault(alloc, &long_line(alloc, 1, 131070)?),
-        None,
-        "the longest value"
-    );
-    assert_eq!(rt;
-        fault(alloc, &long_line(alloc, 1, 131072)?),
-        bad_line(1),
-        "one byte more"
-    );
+    let cases = [
+        (127, 2, true, "the longest name"),
+        (128, 2, false, "a name of one byte more"),
+        (1, 131070, true, "the longest value"),
+        (1, 131072, false, "a value of one byte more"),
+    ];
+    for (name, digits, reads, what) in cases {
+        let line = long_line(alloc, name, digits)?;
+        assert_eq!(rt;
+            listing::read(alloc, line.as_slice()).is_ok(),
+            reads,
+            "{what}"
+        );
+    }
     Ok(())
 }

@@ -1,0 +1,4 @@
+pub mod ReadLemmas
+pub mod WriteLemmas
+pub mod RunLemmas
+pub mod JoinLemmas

@@ -1,0 +1,69 @@
+-- What an engine's readers have, and how they are understood one after the other.
+use Rattle.std.specs.Prelude.{ℕ, ◌≡◌, ◌<◌, ◌≤◌, List, [], ◌∷◌, ◌⊎◌, Option, None, Some, Result, Ok, Err, IfSome, IsOk, option_and_then}
+use Rattle.std.specs.Result.{result_ok}
+use Rattle.t1_cmd.specs.declared.counting.Counted.{Counted}
+use Rattle.t1_cmd.specs.declared.faults.Reason.{Reason}
+use Rattle.t1_cmd.specs.Count.{next_count, last_count, inner_of, failed_of}
+
+-- the largest input, in bytes
+abbrev pub file_limit : ℕ
+file_limit = 67108864
+
+-- one reader: its bytes, where these are known, and its failed calls before and after
+pub record Input : Type 0 where
+  pub known : Option (List ℕ)
+  pub before : ℕ
+  pub after : ℕ
+
+-- the reader `old`, which is `new` after the engine's calls; `remaining` gives its bytes, where these are known
+abbrev pub input_of : {R : Type 0} → (R → Option (List ℕ)) → Counted R → Counted R → Input
+input_of remaining old new = record { known = remaining (inner_of old); before = failed_of old; after = failed_of new }
+
+-- a count rose, or stands at its last value
+abbrev pub Rose : ℕ → ℕ → Type 0
+Rose old new = next_count old ≤ new
+
+-- calls of the reader failed
+abbrev pub HasFailed : Input → Type 0
+HasFailed i = Rose i.before i.after
+
+-- no call of the reader failed
+abbrev pub IsQuiet : Input → Type 0
+IsQuiet i = (i.after ≡ i.before) × (i.before < last_count)
+
+abbrev pub AllQuiet : List Input → Type 0
+AllQuiet [] = Unit {0}
+AllQuiet (i ∷ is) = IsQuiet i × AllQuiet is
+
+-- a value before others, where all are there
+abbrev pub value_and : {A : Type 0} → Option A → Option (List A) → Option (List A)
+value_and None values = None
+value_and (Some x) None = None
+value_and (Some x) (Some xs) = Some (x ∷ xs)
+
+module _ {A : Type 0} (understand : List ℕ → Result A Reason) where
+  -- where its bytes are known, they are understood
+  abbrev pub Understood : Input → Type 0
+  Understood i = IfSome i.known (λ bytes. IsOk (understand bytes))
+
+  abbrev pub AllUnderstood : List Input → Type 0
+  AllUnderstood [] = Unit {0}
+  AllUnderstood (i ∷ is) = Understood i × AllUnderstood is
+
+  -- where its bytes are known, they are refused for the reason
+  abbrev pub IsRefused : Reason → Input → Type 0
+  IsRefused r i = IfSome i.known (λ bytes. understand bytes ≡ Err r)
+
+  -- some input has the fact, and each one before it is understood
+  abbrev pub FirstWith : (Input → Type 0) → List Input → Type 0
+  FirstWith P [] = ⊥
+  FirstWith P (i ∷ is) = P i ⊎ (Understood i × FirstWith P is)
+
+  -- what the input says, where it is known and understood
+  abbrev pub value_of : Input → Option A
+  value_of i = option_and_then (λ bytes. result_ok (understand bytes)) i.known
+
+  -- what all inputs say, where each is known and understood
+  abbrev pub values_of : List Input → Option (List A)
+  values_of [] = Some []
+  values_of (i ∷ is) = value_and (value_of i) (values_of is)

@@ -1,0 +1,79 @@
+//! The engine that joins two listings.
+ghost use Rattle.std.specs.Prelude.{◌≡◌, ◌+◌, ◌≤◌, [], ◌∷◌, IfOk, IfErr};
+ghost use Rattle.t1_join.specs.ListingJoin.{IsJoined, IsJoinFault};
+ghost use Rattle.t1_join.specs.ListingText.{text_of};
+ghost use Rattle.t1_cmd.specs.Count.{calls_of, inner_of};
+ghost use Rattle.t1_cmd.specs.Inputs.{input_of, file_limit};
+ghost use Rattle.t1_cmd.specs.Runs.{InputEnds, RunEnds, Succeeds};
+ghost use Rattle.t1_cmd.specs.Listings.{list_reason, join_reason, listing_input, JoinsTo};
+
+use crate::counting::Counted;
+use crate::faults::{Reason, RunFault};
+use crate::reading::{FILE_LIMIT, read_all};
+use crate::writing::write_text;
+use std::alloc::Global;
+use std::io::{Read, Write};
+use t1_join::{JoinFault, ListFault, Listing, join, listing};
+
+fn refused_list(fault: ListFault) -> RunFault
+    ensures { result ≡ RunFault.Refused (list_reason fault) }
+{
+    match fault {
+        ListFault::Memory => RunFault::Refused(Reason::Memory),
+        other => RunFault::Refused(Reason::List(other)),
+    }
+}
+
+fn refused_join(fault: JoinFault) -> RunFault
+    ensures { result ≡ RunFault.Refused (join_reason fault) }
+{
+    match fault {
+        JoinFault::Memory => RunFault::Refused(Reason::Memory),
+        other => RunFault::Refused(Reason::Join(other)),
+    }
+}
+
+fn read_listing<R: Read>(alloc: Global, reader: &mut Counted<R>) -> Result<Listing, RunFault>
+    ensures ends { InputEnds listing_input (λ l. l) (input_of R.remaining reader.old reader.new) result }
+    ensures turns { calls_of reader.new ≤ calls_of reader.old + (file_limit + 1) }
+{
+    let bytes = read_all(alloc, reader, FILE_LIMIT)?;
+    listing::read(alloc, bytes.as_slice()).map_err(refused_list)
+}
+
+// The text of the join of two listings.
+fn joined_text(alloc: Global, left: &Listing, right: &Listing) -> Result<Vec<u8>, RunFault>
+    ensures text { IfOk result (λ text. JoinsTo (left.now ∷ right.now ∷ []) (Ok text.items)) }
+    ensures refused { IfErr result (λ e. (fault : JoinFault) × (IsJoinFault left.now right.now fault × (e ≡ RunFault.Refused (join_reason fault)))) }
+{
+    let both = join(alloc, left, right).map_err(refused_join)?;
+    match listing::write(alloc, &both) {
+        Ok(text) => Ok(text),
+        Err(_) => Err(refused_join(JoinFault::Memory)),
+    }
+}
+
+/// Writes the text of the join of two listings.
+///
+/// The first input is read and understood before the second is read. Of several causes the first in that order is
+/// answered, and a conflict of the two listings last.
+pub fn run_join<R: Read, S: Read, W: Write>(
+    alloc: Global,
+    first: &mut Counted<R>,
+    second: &mut Counted<S>,
+    writer: &mut Counted<W>,
+) -> Result<(), RunFault>
+    ensures ends { RunEnds listing_input JoinsTo W.contents
+        (input_of R.remaining first.old first.new ∷ input_of S.remaining second.old second.new ∷ [])
+        writer.old writer.new result }
+    ensures succeeds { Succeeds listing_input JoinsTo
+        (input_of R.remaining first.old first.new ∷ input_of S.remaining second.old second.new ∷ [])
+        writer.old writer.new result }
+    ensures first_turns { calls_of first.new ≤ calls_of first.old + (file_limit + 1) }
+    ensures second_turns { calls_of second.new ≤ calls_of second.old + (file_limit + 1) }
+{
+    let left = read_listing(alloc, first)?;
+    let right = read_listing(alloc, second)?;
+    let text = joined_text(alloc, &left, &right)?;
+    write_text(writer, text.as_slice())
+}

@@ -1,0 +1,321 @@
+use crate::{Counted, Reason, RunFault, read_all, run_join, status, write_fault};
+use std::alloc::{AllocError, Global};
+use std::io;
+use std::io::{ErrorKind, Read, Write};
+use std::test::Fail;
+use t1_join::{JoinFault, ListFault};
+
+/// How a reader or a writer behaves: the most bytes of a call, and the call that fails.
+#[derive(Clone, Copy)]
+struct Plan {
+    most: usize,
+    fails: u64,
+    kind: ErrorKind,
+}
+
+const FINE: Plan = Plan {
+    most: usize::MAX,
+    fails: 0,
+    kind: ErrorKind::Other,
+};
+
+/// Bytes in memory that are read by a plan.
+#[derive(Drop)]
+struct Source<'a> {
+    bytes: &'a [u8],
+    plan: Plan,
+    calls: u64,
+}
+
+impl<'a> Source<'a> {
+    fn new(bytes: &'a [u8], plan: Plan) -> Counted<Source<'a>> {
+        Counted::new(Source {
+            bytes,
+            plan,
+            calls: 0,
+        })
+    }
+}
+
+impl Read for Source<'_> {
+    fn read(&mut self, buf: &mut [u8]) -> io::Result<usize> {
+        self.calls = self.calls.saturating_add(1);
+        if self.calls == self.plan.fails {
+            return Err(io::Error::from(self.plan.kind));
+        }
+        let n = self.plan.most.min(buf.len());
+        self.bytes.read(&mut buf[..n])
+    }
+}
+
+/// A writer that only ever interrupts, and a reader too.
+struct Busy;
+
+impl Drop for Busy {
+    fn drop(self) {
+        let Busy = self;
+    }
+}
+
+impl Read for Busy {
+    fn read(&mut self, _buf: &mut [u8]) -> io::Result<usize> {
+        Err(io::Error::from(ErrorKind::Interrupted))
+    }
+}
+
+/// A text in memory that is written by a plan.
+#[derive(Drop)]
+struct Sink {
+    text: Vec<u8>,
+    plan: Plan,
+    calls: u64,
+}
+
+impl Sink {
+    fn new(text: Vec<u8>, plan: Plan) -> Sink {
+        Sink {
+            text,
+            plan,
+            calls: 0,
+        }
+    }
+}
+
+impl Write for Sink {
+    fn write(&mut self, buf: &[u8]) -> io::Result<usize> {
+        self.calls = self.calls.saturating_add(1);
+        if self.calls == self.plan.fails {
+            return Err(io::Error::from(self.plan.kind));
+        }
+        let n = self.plan.most.min(buf.len());
+        self.text.extend_from_slice(&buf[..n])?;
+        Ok(n)
+    }
+
+    fn flush(&mut self) -> io::Result<()> {
+        Ok(())
+    }
+}
+
+/// What a run answers, as a word.
+fn word(outcome: &Result<(), RunFault>) -> &'static str {
+    match outcome {
+        Ok(()) => "ok",
+        Err(RunFault::Refused(Reason::Memory)) => "memory",
+        Err(RunFault::Refused(_)) => "refused",
+        Err(RunFault::Read) => "read",
+        Err(RunFault::Write) => "write",
+    }
+}
+
+#[test]
+fn turns_of_read_all(rt: HostRuntime) -> Result<(), Fail> {
+    let bytes = [7u8; 101];
+    let one = Plan { most: 1, ..FINE };
+    let stops = Plan {
+        fails: 50,
+        kind: ErrorKind::Interrupted,
+        ..one
+    };
+    for (count, plan, want) in [
+        (100usize, one, "ok"),
+        (99, stops, "ok"),
+        (101, one, "refused"),
+        (100, stops, "read"),
+    ] {
+        let mut reader = Source::new(&bytes[..count], plan);
+        let got = read_all(rt.alloc(), &mut reader, 100);
+        let length = match &got {
+            Ok(v) => v.len(),
+            Err(_) => count,
+        };
+        assert_eq!(rt; length, count);
+        assert_eq!(rt; word(&got.map(|_| ())), want, "{count}");
+        assert_eq!(rt; reader.calls(), 101);
+    }
+    let mut busy = Counted::new(Busy);
+    assert_eq!(rt;
+        word(&read_all(rt.alloc(), &mut busy, 100).map(|_| ())),
+        "read"
+    );
+    assert_eq!(rt; busy.calls(), 101);
+    assert_eq!(rt; busy.failed(), 101);
+    Ok(())
+}
+
+const LEFT: &[u8] = b"S 5 ef060b\nG X 8b0e\n";
+
+const RIGHT: &[u8] = b"G Y 0E\nS 5 ef060b\n";
+
+const BOTH: &[u8] = b"S 5 ef060b\nG X 8b0e\nG Y 0e\n";
+
+/// Joins two texts in memory, and answers how it ended and what is out.
+fn outcome(
+    alloc: Global,
+    left: &[u8],
+    right: &[u8],
+) -> Result<(Result<(), RunFault>, Vec<u8>), AllocError> {
+    let mut text = Vec::with_capacity(alloc, 256)?;
+    let ended = run_join(
+        alloc,
+        &mut Counted::new(left),
+        &mut Counted::new(right),
+        &mut Counted::new(&mut text),
+    );
+    Ok((ended, text))
+}
+
+/// The line of a fault, or nothing where there is none.
+fn line_of(alloc: Global, ended: &Result<(), RunFault>) -> Vec<u8> {
+    let mut line = Vec::new(alloc);
+    if let Err(fault) = ended {
+        let _ = write_fault(alloc, fault, &mut Counted::new(&mut line));
+    }
+    line
+}
+
+#[test]
+fn joins_listings(rt: HostRuntime) -> Result<(), Fail> {
+    let cases: [(&[u8], &[u8], &[u8], &[u8]); 13] = [
+        (LEFT, RIGHT, BOTH, b""),
+        (RIGHT, LEFT, BOTH, b""),
+        (b"", b"", b"", b""),
+        (LEFT, b"S 5 0b\n", b"", b"refused: subr 5 differs\n"),
+        (b"S 00005 0b\n", b"", b"S 5 0b\n", b""),
+        (b"S 65535 0b\n", b"", b"", b"refused: bad line 1\n"),
+        (b"G X 0\n", b"", b"", b"refused: bad line 1\n"),
+        (b"", b"S 5 0b", b"", b"refused: bad line 1\n"),
+        (
+            b"S 5 0b\nS 05 0b\n",
+            b"S",
+            b"",
+            b"refused: repeated in line 2\n",
+        ),
+        (b"S 7 \n", b"S 7 0b\n", b"", b"refused: subr 7 differs\n"),
+        (
+            b"S 10 0b\nS 9 0b\nG A 0e\n",
+            b"S 10 0c\nS 9 0c\nG A 0d\n",
+            b"",
+            b"refused: subr 9 differs\n",
+        ),
+        (
+            b"G A\\\xff 0e\n",
+            b"G A\\\xff 0d\n",
+            b"",
+            b"refused: glyph A\\x5c\\xff differs\n",
+        ),
+        (b"S 1 0b\n", b"S 2 0c\n\n", b"", b"refused: bad line 2\n"),
+    ];
+    for (left, right, text, line) in cases {
+        let (ended, out) = outcome(rt.alloc(), left, right)?;
+        assert_eq!(rt; out.as_slice(), text);
+        assert_eq!(rt; line_of(rt.alloc(), &ended).as_slice(), line);
+    }
+    Ok(())
+}
+
+#[test]
+fn each_read_fails(rt: HostRuntime) -> Result<(), Fail> {
+    for (first, second) in [(1u64, 0u64), (0, 1)] {
+        for fails in 1..100u64 {
+            let plan = |most: u64| Plan {
+                most: 3,
+                fails: fails * most,
+                ..FINE
+            };
+            let mut left = Source::new(LEFT, plan(first));
+            let mut right = Source::new(RIGHT, plan(second));
+            let mut out = Counted::new(Sink::new(Vec::new(rt.alloc()), FINE));
+            let ended = run_join(rt.alloc(), &mut left, &mut right, &mut out);
+            if left.failed() == 0 && right.failed() == 0 {
+                assert_eq!(rt; word(&ended), "ok");
+                assert_eq!(rt; out.into_inner().text.as_slice(), BOTH);
+                break;
+            }
+            assert_eq!(rt; word(&ended), "read");
+            assert_eq!(rt; out.calls(), 0, "nothing is written");
+            assert_eq!(rt; right.calls() == 0, second == 0, "the first input stops it");
+        }
+    }
+    Ok(())
+}
+
+#[test]
+fn each_write_fails(rt: HostRuntime) -> Result<(), Fail> {
+    for kind in [ErrorKind::Other, ErrorKind::Interrupted] {
+        for most in [1usize, 2, 0] {
+            for fails in 1..100u64 {
+                let plan = Plan { most, fails, kind };
+                let room = Vec::with_capacity(rt.alloc(), 64)?;
+                let mut out = Counted::new(Sink::new(room, plan));
+                let ended = run_join(
+                    rt.alloc(),
+                    &mut Source::new(LEFT, FINE),
+                    &mut Source::new(RIGHT, FINE),
+                    &mut out,
+                );
+                let failed = out.failed();
+                let text = out.into_inner().text;
+                if failed == 0 {
+                    assert_eq!(rt; word(&ended), "ok");
+                    assert_eq!(rt; text.as_slice(), BOTH);
+                    break;
+                }
+                assert_eq!(rt; failed, 1, "the first failed call is the last");
+                assert_eq!(rt; word(&ended), "write");
+                assert!(rt; BOTH.starts_with(text.as_slice()));
+            }
+        }
+    }
+    Ok(())
+}
+
+#[test]
+fn lines_of_faults(rt: HostRuntime) -> Result<(), Fail> {
+    let name = b"A b\\\xff".to_vec(rt.alloc())?;
+    for (fault, want, code) in [
+        (RunFault::Read, "failed: read\n", 3u8),
+        (RunFault::Write, "failed: write\n", 3),
+        (
+            RunFault::Refused(Reason::TooLong),
+            "refused: file too long\n",
+            1,
+        ),
+        (
+            RunFault::Refused(Reason::Memory),
+            "refused: out of memory\n",
+            1,
+        ),
+        (
+            RunFault::Refused(Reason::List(ListFault::BadLine { line: 12 })),
+            "refused: bad line 12\n",
+            1,
+        ),
+        (
+            RunFault::Refused(Reason::List(ListFault::Repeated { line: 2 })),
+            "refused: repeated in line 2\n",
+            1,
+        ),
+        (
+            RunFault::Refused(Reason::Join(JoinFault::Subr { index: 65534 })),
+            "refused: subr 65534 differs\n",
+            1,
+        ),
+        (
+            RunFault::Refused(Reason::Join(JoinFault::Glyph { name })),
+            "refused: glyph A\\x20b\\x5c\\xff differs\n",
+            1,
+        ),
+    ] {
+        let mut line = Vec::new(rt.alloc());
+        write_fault(rt.alloc(), &fault, &mut Counted::new(&mut line))?;
+        assert_eq!(rt; line.as_slice(), want.as_bytes());
+        assert_eq!(rt; status(&fault), code);
+    }
+    let plan = Plan { most: 0, ..FINE };
+    let mut full = Counted::new(Sink::new(Vec::new(rt.alloc()), plan));
+    let ended = write_fault(rt.alloc(), &RunFault::Read, &mut full);
+    assert_eq!(rt; word(&ended), "write", "a writer that takes nothing");
+    assert_eq!(rt; full.calls(), 1);
+    Ok(())
+}

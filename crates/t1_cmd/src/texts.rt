@@ -1,0 +1,105 @@
+//! The lines that tell of a fault.
+ghost use Rattle.std.specs.Prelude.{◌≡◌, ◌++◌, ◌<◌, OnOk, IfOk};
+ghost use Rattle.std.specs.Fmt.{decimal};
+ghost use Rattle.t1_cmd.specs.Texts.{hex_digit, escaped, shown, list_text, join_text, reason_text, fault_line};
+
+use crate::faults::{Reason, RunFault};
+use std::alloc::{AllocError, Global};
+use t1_join::{JoinFault, ListFault};
+
+fn hex_digit(n: u8) -> u8
+    requires { n < 16 }
+    ensures { result ≡ hex_digit n }
+{
+    if n < 10 { b'0' + n } else { b'a' - 10 + n }
+}
+
+fn push_escaped(out: &mut Vec<u8>, byte: u8) -> Result<(), AllocError>
+    ensures { OnOk result (out.new.items ≡ out.old.items ++ escaped byte) }
+{
+    if 33 <= byte && byte <= 126 && byte != b'\\' {
+        out.push(byte)?;
+        return Ok(());
+    }
+    out.extend_from_slice(&[b'\\', b'x', hex_digit(byte / 16), hex_digit(byte % 16)])
+}
+
+fn push_shown(out: &mut Vec<u8>, name: &[u8]) -> Result<(), AllocError>
+    ensures { OnOk result (out.new.items ≡ out.old.items ++ shown name.now) }
+{
+    for byte in name {
+        push_escaped(out, *byte)?;
+    }
+    Ok(())
+}
+
+fn push_number(alloc: Global, out: &mut Vec<u8>, n: usize) -> Result<(), AllocError>
+    ensures { OnOk result (out.new.items ≡ out.old.items ++ decimal n) }
+{
+    let text = n.to_string(alloc)?;
+    out.extend_from_slice(text.as_bytes())
+}
+
+// The words, and then the number.
+fn push_about(alloc: Global, out: &mut Vec<u8>, words: &[u8], n: usize) -> Result<(), AllocError>
+    ensures { OnOk result (out.new.items ≡ out.old.items ++ (words.now ++ decimal n)) }
+{
+    out.extend_from_slice(words)?;
+    push_number(alloc, out, n)
+}
+
+fn push_list_fault(alloc: Global, out: &mut Vec<u8>, fault: &ListFault) -> Result<(), AllocError>
+    ensures { OnOk result (out.new.items ≡ out.old.items ++ list_text fault.now) }
+{
+    match fault {
+        ListFault::BadLine { line } => push_about(alloc, out, b"bad line ", *line),
+        ListFault::Repeated { line } => push_about(alloc, out, b"repeated in line ", *line),
+        ListFault::Memory => out.extend_from_slice(b"out of memory"),
+    }
+}
+
+fn push_join_fault(alloc: Global, out: &mut Vec<u8>, fault: &JoinFault) -> Result<(), AllocError>
+    ensures { OnOk result (out.new.items ≡ out.old.items ++ join_text fault.now) }
+{
+    match fault {
+        JoinFault::Subr { index } => {
+            out.extend_from_slice(b"subr ")?;
+            push_number(alloc, out, usize::from(*index))?;
+            out.extend_from_slice(b" differs")
+        }
+        JoinFault::Glyph { name } => {
+            out.extend_from_slice(b"glyph ")?;
+            push_shown(out, name)?;
+            out.extend_from_slice(b" differs")
+        }
+        JoinFault::Memory => out.extend_from_slice(b"out of memory"),
+    }
+}
+
+fn push_reason(alloc: Global, out: &mut Vec<u8>, reason: &Reason) -> Result<(), AllocError>
+    ensures { OnOk result (out.new.items ≡ out.old.items ++ reason_text reason.now) }
+{
+    match reason {
+        Reason::TooLong => out.extend_from_slice(b"file too long"),
+        Reason::Memory => out.extend_from_slice(b"out of memory"),
+        Reason::List(fault) => push_list_fault(alloc, out, fault),
+        Reason::Join(fault) => push_join_fault(alloc, out, fault),
+    }
+}
+
+/// The line that tells of a fault.
+pub fn fault_line_of(alloc: Global, fault: &RunFault) -> Result<Vec<u8>, AllocError>
+    ensures { IfOk result (λ line. line.items ≡ fault_line fault.now) }
+{
+    let mut line = Vec::new(alloc);
+    match fault {
+        RunFault::Refused(reason) => {
+            line.extend_from_slice(b"refused: ")?;
+            push_reason(alloc, &mut line, reason)?;
+            line.extend_from_slice(b"\n")?;
+        }
+        RunFault::Read => line.extend_from_slice(b"failed: read\n")?,
+        RunFault::Write => line.extend_from_slice(b"failed: write\n")?,
+    }
+    Ok(line)
+}

@@ -1,0 +1,91 @@
+//! Performs what the words ask for.
+use crate::commands::parse;
+use clap::{ArgMatches, Error};
+use std::alloc::Global;
+use std::io::{ErrorKind, Write};
+use std::rt::Files;
+use std::{fs, io};
+use t1_cmd::{Counted, Reason, RunFault, run_join, status, write_fault, write_text};
+
+/// Why an input that doesn't open ends the run.
+fn not_opened(error: io::Error) -> RunFault {
+    if error.kind() == ErrorKind::OutOfMemory {
+        RunFault::Refused(Reason::Memory)
+    } else {
+        RunFault::Read
+    }
+}
+
+/// Writes a result to standard output.
+fn print<O: Write + Drop>(out: O, text: &[u8]) -> Result<(), RunFault> {
+    let mut out = Counted::new(out);
+    write_text(&mut out, text)?;
+    out.flush().map_err(|_| RunFault::Write)
+}
+
+fn join<R: Files, O: Write + Drop>(
+    rt: &R,
+    alloc: Global,
+    left: &str,
+    right: &str,
+    out: O,
+) -> Result<(), RunFault> {
+    let left = fs::open(rt, left).map_err(not_opened)?;
+    let right = fs::open(rt, right).map_err(not_opened)?;
+    let mut text = Vec::new(alloc);
+    run_join(
+        alloc,
+        &mut Counted::new(left),
+        &mut Counted::new(right),
+        &mut Counted::new(&mut text),
+    )?;
+    print(out, text.as_slice())
+}
+
+fn perform<R: Files, O: Write + Drop>(
+    rt: &R,
+    alloc: Global,
+    matches: &ArgMatches<'_>,
+    out: O,
+) -> Result<(), RunFault> {
+    match matches.subcommand() {
+        Some(("join", given)) => {
+            let (left, right) = (given.get_str("A"), given.get_str("B"));
+            join(rt, alloc, left.unwrap_or(""), right.unwrap_or(""), out)
+        }
+        _ => Ok(()),
+    }
+}
+
+/// Prints help where it was asked for, or why the words don't parse; answers the exit status.
+fn tell<O: Write + Drop, E: Write + Drop>(error: &Error, mut out: O, mut err: E) -> u8 {
+    if error.use_stderr() {
+        let _ = write!(err, "{error}");
+        return 2;
+    }
+    match write!(out, "{error}").and_then(|()| out.flush()) {
+        Ok(()) => 0,
+        Err(_) => 3,
+    }
+}
+
+/// Does what the words say, and answers the exit status.
+pub fn run<R: Files, O: Write + Drop, E: Write + Drop>(
+    rt: &R,
+    alloc: Global,
+    words: &[String],
+    out: O,
+    err: E,
+) -> u8 {
+    let matches = match parse(alloc, words) {
+        Ok(matches) => matches,
+        Err(error) => return tell(&error, out, err),
+    };
+    match perform(rt, alloc, &matches, out) {
+        Ok(()) => 0,
+        Err(fault) => {
+            let _ = write_fault(alloc, &fault, &mut Counted::new(err));
+            status(&fault)
+        }
+    }
+}
