@@ -1,0 +1,142 @@
+// The tokens of a charstring, one after the other.
+
+ghost use Rattle.std.specs.Prelude.{◌≡◌, ◌≤◌, ◌<◌, ◌+◌, ◌*◌, length};
+ghost use Rattle.std.specs.Iterator.{YieldsFirst, item_count};
+ghost use Rattle.t1_char.specs.Commands.{coded, commands, escapes};
+ghost use Rattle.t1_char.specs.Tokens.{tokens, token_at, more_of};
+
+use crate::token::{Command, Token};
+use byteorder::{BigEndian, ByteOrder};
+
+/// The tokens of a charstring (Adobe Type 1 Font Format 1.1, chapter 6), an iterator over borrowed bytes. It takes no
+/// memory, and it ends.
+#[derive(Clone, Copy, Debug)]
+pub struct Tokens<'a> {
+    charstring: &'a [u8],
+    offset: usize,
+    ghost within: { offset ≤ length charstring.now },
+}
+
+impl<'a> Tokens<'a> {
+    ghost use Rattle.t1_char.specs.Charstring.{tokens_left};
+
+    /// All tokens of a plain charstring: one that is decrypted, without its lead bytes.
+    pub fn new(charstring: &'a [u8]) -> Tokens<'a>
+        ensures { tokens_left result ≡ tokens charstring.now }
+    {
+        Tokens {
+            charstring,
+            offset: 0,
+        }
+    }
+}
+
+impl<'a> Iterator for Tokens<'a> {
+    type Item = Token;
+
+    ghost use Rattle.t1_char.specs.Charstring.{tokens_left};
+
+    ghost next_gives = { YieldsFirst tokens_left };
+
+    ghost remaining = { item_count tokens_left };
+
+    fn next(&mut self) -> Option<Token> {
+        let (first, rest) = self.charstring[self.offset..].split_first()?;
+        let token = token_at(*first, rest);
+        self.offset += 1 + more_of(*first).min(rest.len());
+        Some(token)
+    }
+}
+
+// The token that begins with `first`, before the bytes that follow.
+fn token_at(first: u8, rest: &[u8]) -> Token
+    ensures { result ≡ token_at first rest.now }
+{
+    match first {
+        12 => match rest.first() {
+            Some(second) => escape(*second),
+            None => Token::Cut,
+        },
+        0..=31 => command(first),
+        32..=246 => Token::Num(i32::from(first) - 139),
+        247..=250 => match rest.first() {
+            Some(second) => Token::Num(i32::from(long_size(first - 247, *second))),
+            None => Token::Cut,
+        },
+        251..=254 => match rest.first() {
+            Some(second) => Token::Num(-i32::from(long_size(first - 251, *second))),
+            None => Token::Cut,
+        },
+        255 => {
+            if rest.len() < 4 {
+                Token::Cut
+            } else {
+                Token::Num(BigEndian::read_i32(rest))
+            }
+        }
+    }
+}
+
+// The size of a number of two bytes.
+fn long_size(high: u8, low: u8) -> u16
+    requires { high < 4 }
+    ensures { result ≡ high * 256 + low + 108 }
+{
+    u16::from(high) * 256 + u16::from(low) + 108
+}
+
+// How many bytes a token that begins with `first` has after it.
+fn more_of(first: u8) -> usize
+    ensures { result ≡ more_of first }
+{
+    match first {
+        12 => 1,
+        0..=246 => 0,
+        247..=254 => 1,
+        255 => 4,
+    }
+}
+
+// The command of one byte, if the byte is one.
+fn command(code: u8) -> Token
+    ensures { result ≡ coded commands code code }
+{
+    let command = match code {
+        1 => Command::Hstem,
+        3 => Command::Vstem,
+        4 => Command::Vmoveto,
+        5 => Command::Rlineto,
+        6 => Command::Hlineto,
+        7 => Command::Vlineto,
+        8 => Command::Rrcurveto,
+        9 => Command::Closepath,
+        10 => Command::Callsubr,
+        11 => Command::Return,
+        13 => Command::Hsbw,
+        14 => Command::Endchar,
+        21 => Command::Rmoveto,
+        22 => Command::Hmoveto,
+        30 => Command::Vhcurveto,
+        31 => Command::Hvcurveto,
+        _ => return Token::Bad(u16::from(code)),
+    };
+    Token::Cmd(command)
+}
+
+// The command of two bytes, by its second byte, if there is one.
+fn escape(code: u8) -> Token
+    ensures { result ≡ coded escapes code (12 * 256 + code) }
+{
+    match code {
+        0 => Token::Cmd(Command::Dotsection),
+        1 => Token::Cmd(Command::Vstem3),
+        2 => Token::Cmd(Command::Hstem3),
+        6 => Token::Cmd(Command::Seac),
+        7 => Token::Cmd(Command::Sbw),
+        12 => Token::Cmd(Command::Div),
+        16 => Token::Cmd(Command::Callothersubr),
+        17 => Token::Cmd(Command::Pop),
+        33 => Token::Cmd(Command::Setcurrentpoint),
+        _ => Token::Bad(12 * 256 + u16::from(code)),
+    }
+}
