@@ -33,18 +33,23 @@ def runs(shim, folder, words):
             return
 
 
-def sweep(shim, folder, words, statuses, want):
+def sweep(shim, folder, words, statuses, want, out=None):
     for number, refused, done in runs(shim, folder, words):
         told = f"{words[0]}, growth {number}: status {done.returncode}"
+        written = done.stdout
+        if out is not None and os.path.exists(out):
+            with open(out, "rb") as f:
+                written = f.read()
+            os.remove(out)
         if done.returncode < 0 and not (statuses is None and done.returncode == -signal.SIGABRT):
             sys.exit(f"{told}: ended by a signal")
         if not refused:
-            if done.returncode != 0 or (want is not None and done.stdout != want):
+            if done.returncode != 0 or (want is not None and written != want):
                 sys.exit(f"{told}: wrong with memory")
             print(f"{' '.join(words)}: {number - 1} growths refused in turn")
         elif statuses and done.returncode not in statuses:
             sys.exit(f"{told}: no documented status")
-        elif want is not None and done.stdout not in (b"", want):
+        elif want is not None and written not in (b"", want):
             sys.exit(f"{told}: a part of the result is out")
 
 
@@ -59,6 +64,12 @@ def main():
         words = [program, "join", os.path.join(data, "left"), os.path.join(data, "right")]
         sweep(shim, folder, words, (0, 1, 2, 3), want)
         sweep(shim, folder, [program, "join", "--help"], (0, 1, 2, 3), None)
+        for form, other in [("pfa", "pfb"), ("pfb", "pfa")]:
+            font = os.path.join(TOP, "examples/tiny.")
+            with open(font + form, "rb") as f:
+                want = f.read()
+            out = os.path.join(folder, "out")
+            sweep(shim, folder, [program, form, font + other, out], (0, 1, 2, 3), want, out)
         for tests in sorted(glob.glob(os.path.join(TOP, "crates/*/out/*_tests"))):
             listed = subprocess.run([tests, "--list"], capture_output=True, text=True, check=True).stdout
             for line in listed.splitlines():

@@ -1,5 +1,5 @@
 -- What the engine of listings answers.
-use Rattle.std.specs.Prelude.{ℕ, ◌≡◌, List, [], ◌∷◌, length, Result, Ok, Err, nat_lt, if◌then◌else◌}
+use Rattle.std.specs.Prelude.{ℕ, ◌≡◌, List, [], ◌∷◌, Result, Ok, Err}
 use Rattle.t1_join.specs.declared.listing.ListFault.{ListFault}
 use Rattle.t1_join.specs.declared.listing.ListFault.TheVariants.{BadLine, Repeated, Memory as ListMemory}
 use Rattle.t1_join.specs.declared.listing.JoinFault.{JoinFault}
@@ -8,8 +8,8 @@ use Rattle.t1_join.specs.ListingMeaning.{ListingMeaning}
 use Rattle.t1_join.specs.ListingText.{listing_of, text_of}
 use Rattle.t1_join.specs.ListingJoin.{IsJoined, IsJoinFault}
 use Rattle.t1_cmd.specs.declared.faults.Reason.{Reason}
-use Rattle.t1_cmd.specs.declared.faults.Reason.TheVariants.{TooLong, Memory, List as ListReason, Join as JoinReason}
-use Rattle.t1_cmd.specs.Inputs.{file_limit}
+use Rattle.t1_cmd.specs.declared.faults.Reason.TheVariants.{Memory, List as ListReason, Join as JoinReason}
+use Rattle.t1_cmd.specs.Answers.{with_reason, within_limit}
 
 -- a fault of a listing as a reason
 abbrev pub list_reason : ListFault → Reason
@@ -23,13 +23,9 @@ join_reason JoinMemory = Memory
 join_reason (Subr i) = JoinReason (Subr i)
 join_reason (Glyph n) = JoinReason (Glyph n)
 
-abbrev pub with_reason : {A F : Type 0} → (F → Reason) → Result A F → Result A Reason
-with_reason reason (Ok x) = Ok x
-with_reason reason (Err f) = Err (reason f)
-
 -- the listing that an input spells, within the limit
 abbrev pub listing_input : List ℕ → Result ListingMeaning Reason
-listing_input bytes = if nat_lt file_limit (length bytes) then Err TooLong else with_reason list_reason (listing_of bytes)
+listing_input = within_limit (λ bytes. with_reason list_reason (listing_of bytes))
 
 -- two listings are answered with the text of their join, or with their lowest conflict
 abbrev pub JoinsTo : List ListingMeaning → Result (List ℕ) Reason → Type 0

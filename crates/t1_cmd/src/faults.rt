@@ -2,6 +2,7 @@
 ghost use Rattle.std.specs.Prelude.{◌≡◌};
 ghost use Rattle.t1_cmd.specs.Runs.{status_of};
 
+use t1_bytes::BytesFault;
 use t1_join::{JoinFault, ListFault};
 use thiserror::Error;
 
@@ -22,6 +23,9 @@ pub enum Reason {
     /// Two listings don't join.
     #[error("{0:?}")]
     Join(JoinFault),
+    /// A file's bytes are no font's.
+    #[error("{0}")]
+    Bytes(BytesFault),
 }
 
 /// Why an engine did not finish.

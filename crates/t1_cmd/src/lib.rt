@@ -6,6 +6,8 @@
 
 mod counting;
 mod faults;
+mod fonts;
+pub mod laws;
 mod listings;
 mod reading;
 #[cfg(test)]
@@ -15,6 +17,7 @@ mod writing;
 
 pub use counting::Counted;
 pub use faults::{Reason, RunFault, status};
+pub use fonts::run_convert;
 pub use listings::run_join;
 pub use reading::{FILE_LIMIT, read_all};
 pub use writing::{write_fault, write_text};

@@ -1,3 +1,6 @@
+mod conversions;
+mod tiny;
+
 use crate::{Counted, Reason, RunFault, read_all, run_join, status, write_fault};
 use std::alloc::{AllocError, Global};
 use std::io;

@@ -1,10 +1,12 @@
 //! The lines that tell of a fault.
 ghost use Rattle.std.specs.Prelude.{◌≡◌, ◌++◌, ◌<◌, OnOk, IfOk};
 ghost use Rattle.std.specs.Fmt.{decimal};
+ghost use Rattle.t1_bytes.specs.FaultTexts.{fault_text};
 ghost use Rattle.t1_cmd.specs.Texts.{hex_digit, escaped, shown, list_text, join_text, reason_text, fault_line};
 
 use crate::faults::{Reason, RunFault};
 use std::alloc::{AllocError, Global};
+use t1_bytes::BytesFault;
 use t1_join::{JoinFault, ListFault};
 
 fn hex_digit(n: u8) -> u8
@@ -76,6 +78,17 @@ fn push_join_fault(alloc: Global, out: &mut Vec<u8>, fault: &JoinFault) -> Resul
     }
 }
 
+fn push_bytes_fault(alloc: Global, out: &mut Vec<u8>, fault: &BytesFault) -> Result<(), AllocError>
+    ensures { OnOk result (out.new.items ≡ out.old.items ++ fault_text fault.now) }
+{
+    match fault {
+        BytesFault::BadSegment { at } => push_about(alloc, out, b"bad segment at ", *at),
+        BytesFault::NoEexec => out.extend_from_slice(b"no eexec"),
+        BytesFault::ShortCipher => out.extend_from_slice(b"cipher too short"),
+        BytesFault::Memory => out.extend_from_slice(b"out of memory"),
+    }
+}
+
 fn push_reason(alloc: Global, out: &mut Vec<u8>, reason: &Reason) -> Result<(), AllocError>
     ensures { OnOk result (out.new.items ≡ out.old.items ++ reason_text reason.now) }
 {
@@ -84,6 +97,7 @@ fn push_reason(alloc: Global, out: &mut Vec<u8>, reason: &Reason) -> Result<(), 
         Reason::Memory => out.extend_from_slice(b"out of memory"),
         Reason::List(fault) => push_list_fault(alloc, out, fault),
         Reason::Join(fault) => push_join_fault(alloc, out, fault),
+        Reason::Bytes(fault) => push_bytes_fault(alloc, out, fault),
     }
 }
 

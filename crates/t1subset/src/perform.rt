@@ -5,7 +5,8 @@ use std::alloc::Global;
 use std::io::{ErrorKind, Write};
 use std::rt::Files;
 use std::{fs, io};
-use t1_cmd::{Counted, Reason, RunFault, run_join, status, write_fault, write_text};
+use t1_bytes::Form;
+use t1_cmd::{Counted, Reason, RunFault, run_convert, run_join, status, write_fault, write_text};
 
 /// Why an input that doesn't open ends the run.
 fn not_opened(error: io::Error) -> RunFault {
@@ -42,6 +43,30 @@ fn join<R: Files, O: Write + Drop>(
     print(out, text.as_slice())
 }
 
+/// Writes a result to a file, which is opened only now.
+fn save<R: Files>(rt: &R, path: &str, text: &[u8]) -> Result<(), RunFault> {
+    let out = fs::create(rt, path).map_err(|_| RunFault::Write)?;
+    write_text(&mut Counted::new(out), text)
+}
+
+fn convert<R: Files>(
+    rt: &R,
+    alloc: Global,
+    given: &ArgMatches<'_>,
+    form: Form,
+) -> Result<(), RunFault> {
+    let (from, to) = (given.get_str("IN"), given.get_str("OUT"));
+    let input = fs::open(rt, from.unwrap_or("")).map_err(not_opened)?;
+    let mut text = Vec::new(alloc);
+    run_convert(
+        alloc,
+        &mut Counted::new(input),
+        form,
+        &mut Counted::new(&mut text),
+    )?;
+    save(rt, to.unwrap_or(""), text.as_slice())
+}
+
 fn perform<R: Files, O: Write + Drop>(
     rt: &R,
     alloc: Global,
@@ -49,6 +74,8 @@ fn perform<R: Files, O: Write + Drop>(
     out: O,
 ) -> Result<(), RunFault> {
     match matches.subcommand() {
+        Some(("pfa", given)) => convert(rt, alloc, given, Form::Pfa),
+        Some(("pfb", given)) => convert(rt, alloc, given, Form::Pfb),
         Some(("join", given)) => {
             let (left, right) = (given.get_str("A"), given.get_str("B"));
             join(rt, alloc, left.unwrap_or(""), right.unwrap_or(""), out)

@@ -57,3 +57,27 @@ fn an_input_that_does_not_open(rt: HostRuntime) -> Result<(), Fail> {
     fs::remove_file(&rt, &left)?;
     Ok(())
 }
+
+#[test]
+fn out_is_opened_late(rt: HostRuntime) -> Result<(), Fail> {
+    let alloc = rt.alloc();
+    let folder = env::temp_dir(&rt)?;
+    let from = folder.join(alloc, "t1subset_no_font")?;
+    let to = folder.join(alloc, "t1subset_out")?;
+    fs::write(&rt, &from, b"no font".as_slice())?;
+    let mut words: Vec<String> = Vec::new(alloc);
+    let (from_word, to_word) = (from.to_str().unwrap_or(""), to.to_str().unwrap_or(""));
+    for word in ["t1subset", "pfb", from_word, to_word] {
+        words.push(String::from_str(alloc, word)?)?;
+    }
+    let (status, out, err) = outcome(&rt, words.as_slice());
+    assert_eq!(rt; status, 1);
+    assert_eq!(rt; out.as_slice(), b"".as_slice());
+    assert_eq!(rt; err.as_slice(), b"refused: no eexec\n".as_slice());
+    assert!(rt;
+        fs::metadata(&rt, &to).is_err(),
+        "it is not made after a refusal"
+    );
+    fs::remove_file(&rt, &from)?;
+    Ok(())
+}

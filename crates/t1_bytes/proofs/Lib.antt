@@ -1,0 +1,11 @@
+pub mod Ciphers
+pub mod Grammars
+pub mod Tables
+pub mod Places
+pub mod SegmentLemmas
+pub mod PfbLemmas
+pub mod HexLemmas
+pub mod EexecLemmas
+pub mod HexLines
+pub mod ContainerLaws
+mod Rows

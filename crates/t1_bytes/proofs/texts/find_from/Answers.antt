@@ -1,0 +1,14 @@
+use Rattle.std.proofs.Common.{arith, drop, length, ◌+◌}
+use Rattle.std.proofs.lemmas.List.{length-drop}
+use Rattle.t1_bytes.proofs.Places.{nowhere_later}
+use Rattle.t1_bytes.proofs.texts.find_from.Goals as goal
+
+pub returns-in-Some-clause-first : goal.returns-in-Some-clause-first
+returns-in-Some-clause-first c =
+    let found = rw c.split_at.ensures.back at c.in-Some.ensures in
+    nowhere_later c.args.bytes.now c.args.text.now c.args.from c.in-Some.at (c.args.from + c.in-Some.at) c.requires (omega arith) found.0.before
+
+pub returns-in-None-clause-first : goal.returns-in-None-clause-first
+returns-in-None-clause-first c =
+    let absent = rw c.split_at.ensures.back at c.in-None.ensures in
+    nowhere_later c.args.bytes.now c.args.text.now c.args.from (length (drop c.args.from c.args.bytes.now) + 1) (length c.args.bytes.now + 1) c.requires (omega (arith, length-drop c.args.from c.args.bytes.now)) absent

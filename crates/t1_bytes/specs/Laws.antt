@@ -1,0 +1,63 @@
+-- The laws of containers and ciphers, each the contract of a function in `laws`.
+use Rattle.std.specs.Prelude.{◌≡◌, ◌↔◌, ◌≤◌, ◌<◌, ◌^◌, ℕ, List, [], ◌∷◌, ◌++◌, length, drop, replicate, codes, false, None}
+use Rattle.std.specs.List.{AllByRecursion}
+use Rattle.t1_bytes.specs.declared.fault.BytesFault.{BytesFault}
+use Rattle.t1_bytes.specs.declared.fault.BytesFault.TheVariants.{NoEexec}
+use Rattle.t1_bytes.specs.Cipher.{Enciphers, encrypted, decrypted, sealed, opened}
+use Rattle.t1_bytes.specs.Grammar.{AtFront, IsExact, first}
+use Rattle.t1_bytes.specs.Segments.{segment, end, IsFlat, IsBad}
+use Rattle.t1_bytes.specs.Eexec.{eexec_mark, blank_comes, is_hex_text, cipher_text, IsSplit, SplitFails}
+use Rattle.t1_bytes.specs.Texts.{pfb_text, hex_lines, trailer}
+
+-- what is read of segments, of their end, of the mark and of the cipher is what is spelled, and what is spelled is read
+pub record ReadsAsSpelled : Type 0 where
+  pub segments : IsExact segment
+  pub ends : IsExact end
+  pub marks : IsExact (first eexec_mark)
+  pub ciphers : IsExact cipher_text
+
+-- encryption and decryption undo each other
+abbrev pub UndoEachOther : Type 0
+UndoEachOther = (key : ℕ) (bytes : List ℕ) → (decrypted key (encrypted key bytes) ≡ bytes) × (encrypted key (decrypted key bytes) ≡ bytes)
+
+-- plain bytes have one cipher, and a cipher has one plain text
+abbrev pub OneCipher : Type 0
+OneCipher = (key : ℕ) (plain cipher : List ℕ) → (Enciphers key plain cipher ↔ (encrypted key plain ≡ cipher)) × (Enciphers key plain cipher ↔ (decrypted key cipher ≡ plain))
+
+-- a text after lead bytes that are zero is opened again
+abbrev pub OpensSealed : Type 0
+OpensSealed = (key lead : ℕ) (text : List ℕ) → opened key lead (sealed key lead text) ≡ text
+
+-- a file has at most one flat text, or it is bad at one place and has none
+pub record OneFlatText : Type 0 where
+  pub texts : (file flat other : List ℕ) → IsFlat file flat → IsFlat file other → flat ≡ other
+  pub places : (file : List ℕ) (at other : ℕ) → IsBad file at → IsBad file other → at ≡ other
+  pub apart : (file flat : List ℕ) (at : ℕ) → IsFlat file flat → IsBad file at → ⊥
+
+-- the flat text of segments that are written is their data
+abbrev pub FlattensWritten : Type 0
+FlattensWritten = (clear cipher trailer : List ℕ) → length clear < 2 ^ 32 → length cipher < 2 ^ 32 → length trailer < 2 ^ 32 → IsFlat (pfb_text clear cipher trailer) (clear ++ (cipher ++ trailer))
+
+-- a flat text is split in one way, or refused for one reason and not split
+pub record OneSplit : Type 0 where
+  pub places : (flat : List ℕ) (at other : ℕ) (cipher found : List ℕ) → IsSplit flat at cipher → IsSplit flat other found → at ≡ other
+  pub ciphers : (flat : List ℕ) (at other : ℕ) (cipher found : List ℕ) → IsSplit flat at cipher → IsSplit flat other found → cipher ≡ found
+  pub reasons : (flat : List ℕ) (fault other : BytesFault) → SplitFails flat fault → SplitFails flat other → fault ≡ other
+  pub apart : (flat : List ℕ) (at : ℕ) (cipher : List ℕ) (fault : BytesFault) → IsSplit flat at cipher → SplitFails flat fault → ⊥
+
+-- a flat text is refused for want of `eexec` exactly where the mark stands at no offset
+abbrev pub LacksEverywhere : Type 0
+LacksEverywhere = (flat : List ℕ) → SplitFails flat NoEexec ↔ ((k : ℕ) → k ≤ length flat → eexec_mark.read (drop k flat) ≡ None)
+
+-- numbers below 256
+abbrev pub AreBytes : List ℕ → Type 0
+AreBytes bytes = AllByRecursion (λ b. b < 256) bytes
+
+-- Hexadecimal lines before the trailer are read as the bytes that they were written from, and then as the zeros of the trailer.
+-- The `c` of `cleartomark` is a digit too, odd and dropped.
+abbrev pub ReadsHexLines : Type 0
+ReadsHexLines = (cipher : List ℕ) → 4 ≤ length cipher → AreBytes cipher → AtFront cipher_text (hex_lines cipher ++ trailer) (cipher ++ replicate 256 0, codes "leartomark" ++ 10 ∷ [])
+
+-- a binary cipher is read as it stands, if its first byte is no blank, tab, CR or LF and its first four are not all hexadecimal digits
+abbrev pub ReadsBinary : Type 0
+ReadsBinary = (cipher : List ℕ) → 4 ≤ length cipher → blank_comes cipher ≡ false → is_hex_text cipher ≡ false → AtFront cipher_text cipher (cipher, [])

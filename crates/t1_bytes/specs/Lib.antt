@@ -1,0 +1,9 @@
+pub mod Cipher
+pub mod Grammar
+pub mod White
+pub mod Segments
+pub mod Faults
+pub mod FaultTexts
+pub mod Eexec
+pub mod Texts
+pub mod Laws

@@ -1,0 +1,78 @@
+//! The cipher of eexec and of charstrings (Adobe Type 1 Font Format 1.1, chapter 7).
+
+ghost use Rattle.std.specs.Prelude.{◌≡◌, ◌≤◌, length, IfOk, IfErr};
+ghost use Rattle.t1_bytes.specs.declared.fault.BytesFault.TheVariants.{Memory};
+ghost use Rattle.t1_bytes.specs.Cipher.{next_key, Enciphers, encrypted, decrypted, sealed, opened};
+
+use crate::fault::BytesFault;
+use std::alloc::Global;
+
+/// The key that the cipher of the private text starts with.
+pub const EEXEC_KEY: u16 = 55665;
+
+/// How many lead bytes the private text has.
+pub const EEXEC_LEAD: u8 = 4;
+
+/// The key that the cipher of each charstring starts with. Its lead bytes are as many as lenIV says.
+pub const CHARSTRING_KEY: u16 = 4330;
+
+/// The key after a cipher byte.
+fn key_after(key: u16, cipher: u8) -> u16
+    ensures { result ≡ next_key key cipher }
+{
+    (((cipher as u32 + key as u32) * 52845 + 22719) % 65536) as u16
+}
+
+/// Encrypts bytes in place, under a cipher whose key starts as `key`. Lead bytes are encrypted like
+/// the others.
+pub fn encrypt(bytes: &mut [u8], key: u16)
+    ensures value { bytes.new ≡ encrypted key bytes.old }
+    ensures cipher { Enciphers key bytes.old bytes.new }
+{
+    let mut now = key;
+    for byte in bytes.iter_mut() {
+        *byte ^= (now / 256) as u8;
+        now = key_after(now, *byte);
+    }
+}
+
+/// Decrypts bytes in place, under a cipher whose key starts as `key`. Lead bytes stay, decrypted
+/// like the others.
+pub fn decrypt(bytes: &mut [u8], key: u16)
+    ensures value { bytes.new ≡ decrypted key bytes.old }
+    ensures cipher { Enciphers key bytes.new bytes.old }
+{
+    let mut now = key;
+    for byte in bytes.iter_mut() {
+        let cipher = *byte;
+        *byte = cipher ^ (now / 256) as u8;
+        now = key_after(now, cipher);
+    }
+}
+
+/// Decrypts a cipher in place, and answers its text, which stands after `lead` lead bytes. The
+/// cipher has at least that many.
+pub fn open(cipher: &mut [u8], key: u16, lead: u8) -> &[u8]
+    requires { lead ≤ length cipher.old }
+    ensures { result.now ≡ opened key lead cipher.old }
+{
+    decrypt(cipher, key);
+    &cipher[lead as usize..]
+}
+
+/// The cipher of a text after `lead` lead bytes, which are zero.
+///
+/// # Errors
+///
+/// Want of memory alone.
+pub fn seal(alloc: Global, text: &[u8], key: u16, lead: u8) -> Result<Vec<u8>, BytesFault>
+    ensures text { IfOk result (λ v. v.items ≡ sealed key lead text.now) }
+    ensures memory { IfErr result (λ fault. fault ≡ Memory) }
+{
+    let lead = lead as usize;
+    let mut cipher = Vec::with_capacity(alloc, text.len().saturating_add(lead))?;
+    cipher.resize(lead, 0)?;
+    cipher.extend_from_slice(text)?;
+    encrypt(cipher.as_mut_slice(), key);
+    Ok(cipher)
+}

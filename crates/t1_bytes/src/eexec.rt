@@ -1,0 +1,186 @@
+//! The end of the clear text, and the cipher after it (Adobe Type 1 Font Format 1.1, chapter 7).
+
+ghost use Rattle.std.specs.Prelude.{◌≡◌, ℕ, List, Some, Ok, Err, MatchResult, length, take_while};
+ghost use Rattle.std.specs.List.{filter};
+ghost use Rattle.std.specs.Option.{option_map};
+ghost use Rattle.hex.specs.Hex.{is_hex_digit};
+ghost use Rattle.t1_bytes.specs.Grammar.{run, first};
+ghost use Rattle.t1_bytes.specs.Eexec.{is_blank, blank_comes, eexec_mark, paired, is_hex_text, hex_or_white, cipher_text, split_view, IsSplit, SplitFails, or_short, split_of};
+ghost use Rattle.t1_bytes.specs.Faults.{Answers, OrMemory};
+ghost use Rattle.t1_bytes.specs.declared.fault.BytesFault.{BytesFault};
+
+use crate::fault::BytesFault;
+use crate::texts::{find_from, fixed_at, gap_at, is_white};
+use std::alloc::Global;
+
+/// Whether a byte is one of the four that may follow `eexec`.
+fn is_blank(byte: u8) -> bool
+    ensures { result ≡ is_blank byte }
+{
+    matches!(byte, b' ' | b'\t' | b'\r' | b'\n')
+}
+
+/// Whether such a byte stands next.
+fn blank_comes(bytes: &[u8]) -> bool
+    ensures { result ≡ blank_comes bytes.now }
+{
+    !bytes.is_empty() && is_blank(bytes[0])
+}
+
+/// What stands after the mark at the front of bytes.
+#[tactic(auto, unfolding(crate::specs::Eexec::eexec_mark))]
+fn eexec_mark_at(bytes: &[u8]) -> Option<&[u8]>
+    ensures { option_map (λ x. x.now) result ≡ option_map (λ x. x.1) (eexec_mark.read bytes.now) }
+{
+    let (_, rest) = fixed_at(bytes, b"currentfile")?;
+    let (_, rest) = gap_at(rest)?;
+    let (_, rest) = fixed_at(rest, b"eexec")?;
+    if !blank_comes(rest) {
+        return None;
+    }
+    Some(rest)
+}
+
+/// What stands after the first mark.
+fn after_eexec(flat: &[u8]) -> Option<&[u8]>
+    ensures { option_map (λ x. x.now) result ≡ option_map (λ x. x.1) ((first eexec_mark).read flat.now) }
+{
+    let mut from = 0;
+    'places: while let Some(place) = find_from(flat, b"currentfile", from) {
+        let (_, here) = flat.split_at(place);
+        if let Some(after) = eexec_mark_at(here) {
+            return Some(after);
+        }
+        from = place + 1;
+    }
+    None
+}
+
+/// Whether a byte is a hexadecimal digit of either case.
+fn is_hex_digit(byte: u8) -> bool
+    ensures { result ≡ is_hex_digit byte }
+{
+    matches!(byte, b'0'..=b'9' | b'A'..=b'F' | b'a'..=b'f')
+}
+
+/// Whether the next four bytes are hexadecimal digits.
+fn is_hex_text(bytes: &[u8]) -> bool
+    ensures { result ≡ is_hex_text bytes.now }
+{
+    match bytes {
+        [a, b, c, d, ..] => {
+            is_hex_digit(*a) && is_hex_digit(*b) && is_hex_digit(*c) && is_hex_digit(*d)
+        }
+        _ => false,
+    }
+}
+
+/// How many blanks, tabs, CR and LF come first.
+fn blanks_len(bytes: &[u8]) -> usize
+    ensures { result ≡ length (take_while is_blank bytes.now) }
+{
+    bytes.iter().take_while(|b| is_blank(**b)).count()
+}
+
+/// How many hexadecimal digits and bytes of white space come first.
+fn hex_len(bytes: &[u8]) -> usize
+    ensures { result ≡ length (take_while hex_or_white bytes.now) }
+{
+    bytes
+        .iter()
+        .take_while(|b| is_hex_digit(**b) || is_white(**b))
+        .count()
+}
+
+/// What stands after blanks, tabs, CR and LF.
+fn after_blanks(bytes: &[u8]) -> &[u8]
+    ensures { (run is_blank).read bytes.now ≡ Some (take_while is_blank bytes.now, result.now) }
+{
+    let (_, rest) = bytes.split_at(blanks_len(bytes));
+    rest
+}
+
+/// Hexadecimal digits and white space, as far as they go.
+fn hex_run(bytes: &[u8]) -> &[u8]
+    ensures { result.now ≡ take_while hex_or_white bytes.now }
+{
+    let (front, _) = bytes.split_at(hex_len(bytes));
+    front
+}
+
+/// The hexadecimal digits of a text.
+fn hex_digits(alloc: Global, text: &[u8]) -> Result<Vec<u8>, BytesFault>
+    ensures { Answers (λ v. v.items) result (Ok (filter is_hex_digit text.now)) }
+{
+    let mut digits = Vec::with_capacity(alloc, text.len())?;
+    for byte in text {
+        if is_hex_digit(*byte) {
+            digits.push(*byte)?;
+        }
+    }
+    Ok(digits)
+}
+
+/// The bytes that the digits of a text spell, two for each; an odd last digit is dropped.
+fn hex_bytes(alloc: Global, text: &[u8]) -> Result<Vec<u8>, BytesFault>
+    ensures { Answers (λ v. v.items) result (Ok (paired (filter is_hex_digit text.now))) }
+{
+    let digits = hex_digits(alloc, text)?;
+    let pairs = &digits[..digits.len() / 2 * 2];
+    match hex::decode(alloc, pairs) {
+        Ok(bytes) => Ok(bytes),
+        // Only memory can be wanting: an even number of digits decodes.
+        Err(_) => Err(BytesFault::Memory),
+    }
+}
+
+/// The cipher bytes of what follows the mark.
+#[tactic(auto, unfolding(crate::specs::Eexec::cipher_text))]
+fn cipher_after(alloc: Global, after: &[u8]) -> Result<Vec<u8>, BytesFault>
+    ensures { Answers (λ v. v.items) result (or_short (λ x. x.0) (cipher_text.read after.now)) }
+{
+    let text = after_blanks(after);
+    let cipher = if is_hex_text(text) {
+        hex_bytes(alloc, hex_run(text))?
+    } else {
+        Vec::from_slice(alloc, text)?
+    };
+    if cipher.len() < 4 {
+        return Err(BytesFault::ShortCipher);
+    }
+    Ok(cipher)
+}
+
+/// The offset after the first mark, and the cipher bytes that follow.
+fn split(alloc: Global, flat: &[u8]) -> Result<(usize, Vec<u8>), BytesFault>
+    ensures { Answers split_view result (split_of flat.now) }
+{
+    let Some(after) = after_eexec(flat) else {
+        return Err(BytesFault::NoEexec);
+    };
+    match cipher_after(alloc, after) {
+        Ok(cipher) => Ok((flat.len() - after.len(), cipher)),
+        Err(fault) => Err(fault),
+    }
+}
+
+/// Splits a flat text: the offset after the first `eexec` that stands after `currentfile` and white
+/// space and before a blank, a tab, CR or LF, and the cipher bytes that follow, lead bytes among
+/// them (Adobe Type 1 Font Format 1.1, chapter 7).
+///
+/// The cipher is hexadecimal where four hexadecimal digits stand after the blanks, tabs, CR and LF;
+/// then it goes as far as hexadecimal digits and white space do. Otherwise it is binary, and goes
+/// to the end.
+///
+/// # Errors
+///
+/// `NoEexec` where there is no such `eexec`, and `ShortCipher` where fewer than four cipher bytes
+/// follow it. Want of memory is `Memory`.
+pub fn split_eexec(alloc: Global, flat: &[u8]) -> Result<(usize, Vec<u8>), BytesFault>
+    ensures right { MatchResult result (λ x. IsSplit flat.now x.0 x.1.items) (OrMemory (SplitFails flat.now)) }
+    ensures only { (at : ℕ) (cipher : List ℕ) → IsSplit flat.now at cipher → Answers split_view result (Ok (at, cipher)) }
+    ensures refused { (fault : BytesFault) → SplitFails flat.now fault → Answers split_view result (Err fault) }
+    ensures exact { Answers split_view result (split_of flat.now) }
+{
+    split(alloc, flat)
+}

@@ -1,0 +1,54 @@
+//! Laws of containers and ciphers, over their definitions alone. A law is a function that does
+//! nothing: its clause is what is proved.
+
+ghost use Rattle.t1_bytes.specs.Laws.{ReadsAsSpelled, UndoEachOther, OneCipher, OpensSealed, OneFlatText, FlattensWritten, OneSplit, LacksEverywhere, ReadsHexLines, ReadsBinary};
+
+/// What is read of segments and of a flat text is what is spelled, and the other way round.
+pub fn reads_as_spelled()
+    ensures { ReadsAsSpelled }
+{}
+
+/// Encryption and decryption under one key undo each other.
+pub fn undo_each_other()
+    ensures { UndoEachOther }
+{}
+
+/// Plain bytes have one cipher under a key, and a cipher has one plain text.
+pub fn one_cipher()
+    ensures { OneCipher }
+{}
+
+/// A text that was encrypted after lead bytes that are zero is had again by decryption and dropping these.
+pub fn opens_sealed()
+    ensures { OpensSealed }
+{}
+
+/// A file has one flat text, or one place where it is bad.
+pub fn one_flat_text()
+    ensures { OneFlatText }
+{}
+
+/// What is written in segments is had again as flat text.
+pub fn flattens_written()
+    ensures { FlattensWritten }
+{}
+
+/// A flat text is split in one way, or refused for one reason.
+pub fn one_split()
+    ensures { OneSplit }
+{}
+
+/// A flat text is refused for want of `eexec` where no offset has the mark, and nowhere else.
+pub fn lacks_everywhere()
+    ensures { LacksEverywhere }
+{}
+
+/// Hexadecimal lines before the trailer are read as the cipher that they were written from.
+pub fn reads_hex_lines()
+    ensures { ReadsHexLines }
+{}
+
+/// A binary cipher is read as it stands.
+pub fn reads_binary()
+    ensures { ReadsBinary }
+{}

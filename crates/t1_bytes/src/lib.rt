@@ -1,0 +1,29 @@
+//! The bytes of Type 1 font files, below their grammar: PFB segments, the ciphers of eexec and of
+//! charstrings, the split of a flat text into clear text and cipher, and lines of hexadecimal
+//! digits.
+//!
+//! A file's way in is [`flatten`], [`split_eexec`], [`open`]; its way out is [`seal`], and then
+//! [`segments`] or [`hex_lines`], with [`trailer`] at the end.
+//!
+//! The specifications speak of texts by grammars (`specs/Grammar.antt`): values that say which
+//! bytes spell what, and how that is read. The laws of these serve the grammar of fonts too.
+#![tactic(auto)]
+
+mod cipher;
+mod eexec;
+mod fault;
+mod form;
+mod hexadecimal;
+pub mod laws;
+mod pfb;
+pub mod texts;
+
+pub use cipher::{CHARSTRING_KEY, EEXEC_KEY, EEXEC_LEAD, decrypt, encrypt, open, seal};
+pub use eexec::split_eexec;
+pub use fault::BytesFault;
+pub use form::Form;
+pub use hexadecimal::{hex_lines, trailer};
+pub use pfb::{flatten, segments};
+
+#[cfg(test)]
+mod tests;

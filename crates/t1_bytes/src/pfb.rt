@@ -1,0 +1,135 @@
+//! PFB segments (Technical Note 5040).
+
+ghost use Rattle.std.specs.Prelude.{◌≡◌, ◌++◌, ◌≤◌, ◌<◌, ◌^◌, ℕ, List, length, Ok, Err, MatchResult, OnOk, IfOk, IfErr};
+ghost use Rattle.std.specs.Option.{option_map};
+ghost use Rattle.t1_bytes.specs.declared.fault.BytesFault.TheVariants.{Memory};
+ghost use Rattle.t1_bytes.specs.Segments.{segment, end, IsFlat, IsBad, flat_of};
+ghost use Rattle.t1_bytes.specs.Texts.{segment_text, pfb_text};
+ghost use Rattle.t1_bytes.specs.Faults.{Gives, Refuses};
+
+use crate::fault::BytesFault;
+use crate::texts::{count_at, fixed_at};
+use byteorder::{ByteOrder, LittleEndian};
+use std::alloc::{AllocError, Global};
+
+/// The byte that each segment begins with.
+const MARK: u8 = 128;
+
+/// The kind of a text segment.
+const TEXT: u8 = 1;
+
+/// The kind of a binary segment.
+const BINARY: u8 = 2;
+
+/// The kind of the segment that ends the file. It has no length and no data.
+const END: u8 = 3;
+
+/// The data of a text or binary segment, and what stands after it.
+fn segment_at(bytes: &[u8]) -> Option<(&[u8], &[u8])>
+    ensures { option_map (λ x. (x.0.now, x.1.now)) result ≡ segment.read bytes.now }
+{
+    let (_, rest) = fixed_at(bytes, &[MARK])?;
+    let (kind, rest) = count_at(rest, 1)?;
+    if kind != [TEXT].as_slice() && kind != [BINARY].as_slice() {
+        return None;
+    }
+    let (len, rest) = count_at(rest, 4)?;
+    count_at(rest, LittleEndian::read_u32(len) as usize)
+}
+
+/// The end of the segments, and what stands after it.
+fn end_at(bytes: &[u8]) -> Option<(&[u8], &[u8])>
+    ensures { option_map (λ x. (x.0.now, x.1.now)) result ≡ end.read bytes.now }
+{
+    if bytes.is_empty() {
+        return Some((bytes, bytes));
+    }
+    fixed_at(bytes, &[MARK, END])
+}
+
+/// The flat text of a file, by the reading of segments from left to right.
+fn flat(alloc: Global, file: &[u8]) -> Result<Vec<u8>, BytesFault>
+    ensures { Gives (λ v. v.items) result (flat_of file.now) }
+{
+    if !file.starts_with(&[MARK]) {
+        return Ok(Vec::from_slice(alloc, file)?);
+    }
+    let mut flat = Vec::new(alloc);
+    let mut rest = file;
+    'segments: loop {
+        if let Some(_) = end_at(rest) {
+            return Ok(flat);
+        }
+        match segment_at(rest) {
+            Some((data, after)) => {
+                flat.extend_from_slice(data)?;
+                rest = after;
+            }
+            None => {
+                return Err(BytesFault::BadSegment {
+                    at: file.len() - rest.len(),
+                });
+            }
+        }
+    }
+}
+
+/// The flat text of a file: of a PFB file, which begins with 128, the data of its text and binary
+/// segments, joined; of any other file, the file itself (Technical Note 5040).
+///
+/// A segment of type 3 ends a PFB file, and so does the end of the input where a segment would
+/// begin. What follows type 3 is ignored. Both are this project's choice.
+///
+/// # Errors
+///
+/// `BadSegment` with the offset in the file of the first header that doesn't fit: another first
+/// byte, another type, or an end inside the header or its data. Want of memory is `Memory`.
+pub fn flatten(alloc: Global, file: &[u8]) -> Result<Vec<u8>, BytesFault>
+    ensures right { MatchResult result (λ v. IsFlat file.now v.items) (Refuses file.now) }
+    ensures only { (text : List ℕ) → IsFlat file.now text → Gives (λ v. v.items) result (Ok text) }
+    ensures refused { (at : ℕ) → IsBad file.now at → Gives (λ v. v.items) result (Err at) }
+    ensures exact { Gives (λ v. v.items) result (flat_of file.now) }
+{
+    flat(alloc, file)
+}
+
+/// Writes a segment at the end.
+fn put_segment(out: &mut Vec<u8>, kind: u8, bytes: &[u8]) -> Result<(), AllocError>
+    requires { length bytes.now < 2 ^ 32 }
+    ensures { OnOk result (out.new.items ≡ out.old.items ++ segment_text kind bytes.now) }
+{
+    let mut len = [0u8; 4];
+    LittleEndian::write_u32(&mut len, bytes.len() as u32);
+    out.extend_from_slice(&[MARK, kind])?;
+    out.extend_from_slice(&len)?;
+    out.extend_from_slice(bytes)?;
+    Ok(())
+}
+
+/// The PFB file of a clear part, a binary cipher and a trailer: a text, a binary and a text
+/// segment, and the end (Technical Note 5040). Each argument has at most 2^26 bytes.
+///
+/// # Errors
+///
+/// Want of memory alone.
+pub fn segments(
+    alloc: Global,
+    clear: &[u8],
+    cipher: &[u8],
+    trailer: &[u8],
+) -> Result<Vec<u8>, BytesFault>
+    requires clear { length clear.now ≤ 2 ^ 26 }
+    requires cipher { length cipher.now ≤ 2 ^ 26 }
+    requires trailer { length trailer.now ≤ 2 ^ 26 }
+    ensures text { IfOk result (λ v. v.items ≡ pfb_text clear.now cipher.now trailer.now) }
+    ensures memory { IfErr result (λ fault. fault ≡ Memory) }
+{
+    // Three headers of 6 bytes, and 2 bytes for the end.
+    let size = clear.len() + cipher.len() + trailer.len() + 20;
+    let mut out = Vec::with_capacity(alloc, size)?;
+    put_segment(&mut out, TEXT, clear)?;
+    put_segment(&mut out, BINARY, cipher)?;
+    put_segment(&mut out, TEXT, trailer)?;
+    out.extend_from_slice(&[MARK, END])?;
+    Ok(out)
+}

@@ -1,0 +1,431 @@
+//! Worked bytes, malformed input, and the two files of the font Tiny.
+
+mod tiny;
+
+use crate::{
+    BytesFault, CHARSTRING_KEY, EEXEC_KEY, EEXEC_LEAD, decrypt, encrypt, flatten, hex_lines, open,
+    seal, segments, split_eexec, trailer,
+};
+use std::alloc::Global;
+use std::test::Fail;
+use tiny::{PFA, PFB};
+
+/// Whether the flat text of a file is this one, or the fault is.
+fn flattens(alloc: Global, file: &[u8], want: Result<&[u8], BytesFault>) -> bool {
+    match (flatten(alloc, file), want) {
+        (Ok(flat), Ok(text)) => flat.as_slice() == text,
+        (Err(fault), Err(other)) => fault == other,
+        _ => false,
+    }
+}
+
+/// Whether a flat text is split into this offset and cipher, or the fault is this one.
+fn splits(alloc: Global, flat: &[u8], want: Result<(usize, &[u8]), BytesFault>) -> bool {
+    match (split_eexec(alloc, flat), want) {
+        (Ok((at, cipher)), Ok((place, bytes))) => at == place && cipher.as_slice() == bytes,
+        (Err(fault), Err(other)) => fault == other,
+        _ => false,
+    }
+}
+
+#[test]
+fn enciphers_worked_bytes(rt: HostRuntime) -> Result<(), Fail> {
+    let rows: [(&[u8], u16, &[u8], &str); 3] = [
+        (
+            b"\x00\x00\x00\x00\x64",
+            EEXEC_KEY,
+            b"\xd9\xd6\x6f\x63\x3b",
+            "the beginning of a private text",
+        ),
+        (
+            b"\x0b",
+            CHARSTRING_KEY,
+            b"\x1b",
+            "return without lead bytes",
+        ),
+        (
+            b"\x00\x00\x00\x00\x8b\xf7\x8e\x0d\x0e",
+            CHARSTRING_KEY,
+            b"\x10\xbf\x31\x70\x79\xc7\x57\xbf\x91",
+            "0 250 hsbw endchar",
+        ),
+    ];
+    for (plain, key, cipher, name) in rows {
+        let mut bytes = plain.to_vec(rt.alloc())?;
+        encrypt(bytes.as_mut_slice(), key);
+        assert_eq!(rt; bytes.as_slice(), cipher, "encrypted: {name}");
+        decrypt(bytes.as_mut_slice(), key);
+        assert_eq!(rt; bytes.as_slice(), plain, "decrypted: {name}");
+    }
+    Ok(())
+}
+
+#[test]
+fn seals_and_opens_charstrings(rt: HostRuntime) -> Result<(), Fail> {
+    let rows: [(&[u8], u8, &[u8]); 3] = [
+        (b"\x0b", 4, b"\x10\xbf\x31\x70\xf9"),
+        (b"\x0b", 0, b"\x1b"),
+        (
+            b"\x8b\xf7\x8e\x0d\x0e",
+            4,
+            b"\x10\xbf\x31\x70\x79\xc7\x57\xbf\x91",
+        ),
+    ];
+    for (plain, len_iv, cipher) in rows {
+        let mut bytes = seal(rt.alloc(), plain, CHARSTRING_KEY, len_iv)?;
+        assert_eq!(rt; bytes.as_slice(), cipher, "sealed with lenIV {len_iv}");
+        assert!(rt; (len_iv as usize) <= bytes.len());
+        let text = open(bytes.as_mut_slice(), CHARSTRING_KEY, len_iv);
+        assert_eq!(rt; text, plain, "opened with lenIV {len_iv}");
+    }
+    Ok(())
+}
+
+#[test]
+fn flattens_segments(rt: HostRuntime) {
+    let rows: [(&[u8], Result<&[u8], BytesFault>, &str); 23] = [
+        (b"", Ok(b""), "no bytes"),
+        (b"AB\x80\x03", Ok(b"AB\x80\x03"), "no segments"),
+        (b"\x80\x03AB", Ok(b""), "an end, and more bytes"),
+        (
+            b"\x80\x01\x01\0\0\0A",
+            Ok(b"A"),
+            "the end of input for an end",
+        ),
+        (b"\x80\x02\x01\0\0\0A\x80\x03", Ok(b"A"), "a binary segment"),
+        (b"\x80\x01\0\0\0\0\x80\x03", Ok(b""), "an empty segment"),
+        (
+            b"\x80\x01\x01\0\0\0A\x80\x02\x02\0\0\0\x80\x03\x80\x01\x01\0\0\0B\x80\x03",
+            Ok(b"A\x80\x03B"),
+            "three segments, an end in the data of one",
+        ),
+        (
+            b"\x80\x01\x01\0\0\0A\x80\x04",
+            Err(BytesFault::BadSegment { at: 7 }),
+            "type 4 after a segment",
+        ),
+        (
+            b"\x80\x01\x01\0\0\0A\x80\x00",
+            Err(BytesFault::BadSegment { at: 7 }),
+            "type 0 after a segment",
+        ),
+        (
+            b"\x80\x01\x01\0\0\0A\x80\xff",
+            Err(BytesFault::BadSegment { at: 7 }),
+            "type 255 after a segment",
+        ),
+        (
+            b"\x80\x01\x01\0\0\0AB",
+            Err(BytesFault::BadSegment { at: 7 }),
+            "another first byte",
+        ),
+        (
+            b"\x80\x01\x01\0\0\0A\x80",
+            Err(BytesFault::BadSegment { at: 7 }),
+            "a header of one byte after a segment",
+        ),
+        (b"\x80", Err(BytesFault::BadSegment { at: 0 }), "128 alone"),
+        (b"\x80\x00", Err(BytesFault::BadSegment { at: 0 }), "type 0"),
+        (b"\x80\x04", Err(BytesFault::BadSegment { at: 0 }), "type 4"),
+        (
+            b"\x80\xff",
+            Err(BytesFault::BadSegment { at: 0 }),
+            "type 255",
+        ),
+        (
+            b"\x80\x01",
+            Err(BytesFault::BadSegment { at: 0 }),
+            "no length",
+        ),
+        (
+            b"\x80\x01\x01",
+            Err(BytesFault::BadSegment { at: 0 }),
+            "one byte of the length",
+        ),
+        (
+            b"\x80\x01\x01\0",
+            Err(BytesFault::BadSegment { at: 0 }),
+            "two bytes of the length",
+        ),
+        (
+            b"\x80\x01\x01\0\0",
+            Err(BytesFault::BadSegment { at: 0 }),
+            "three bytes of the length",
+        ),
+        (
+            b"\x80\x01\x01\0\0\0",
+            Err(BytesFault::BadSegment { at: 0 }),
+            "no data",
+        ),
+        (
+            b"\x80\x01\0\0\0\x01A",
+            Err(BytesFault::BadSegment { at: 0 }),
+            "a length that would fit most significant byte first",
+        ),
+        (
+            b"\x80\x02\xff\xff\xff\xffA",
+            Err(BytesFault::BadSegment { at: 0 }),
+            "a length near 2^32",
+        ),
+    ];
+    for (file, want, name) in rows {
+        assert!(rt; flattens(rt.alloc(), file, want), "{name}");
+    }
+}
+
+#[test]
+fn splits_flat_texts(rt: HostRuntime) {
+    let rows: [(&[u8], Result<(usize, &[u8]), BytesFault>, &str); 27] = [
+        (b"", Err(BytesFault::NoEexec), "no bytes"),
+        (
+            b"currentfile eexec",
+            Err(BytesFault::NoEexec),
+            "no byte after eexec",
+        ),
+        (
+            b"currentfile eexecx1234",
+            Err(BytesFault::NoEexec),
+            "a letter after eexec",
+        ),
+        (
+            b"currentfile eexec\0\x81\x82\x83\x84",
+            Err(BytesFault::NoEexec),
+            "a null after eexec",
+        ),
+        (
+            b"currentfile eexec\x0c\x81\x82\x83\x84",
+            Err(BytesFault::NoEexec),
+            "a form feed after eexec",
+        ),
+        (
+            b"currentfileeexec \x81\x82\x83\x84",
+            Err(BytesFault::NoEexec),
+            "no white space before eexec",
+        ),
+        (
+            b"% eexec \x81\x82\x83\x84",
+            Err(BytesFault::NoEexec),
+            "eexec in a comment, without currentfile",
+        ),
+        (
+            b"% currentfile eexec \x81\x82\x83\x84",
+            Ok((19, b"\x81\x82\x83\x84")),
+            "a mark in a comment",
+        ),
+        (
+            b"currentfile % eexec \x81\x82\x83\x84",
+            Err(BytesFault::NoEexec),
+            "a comment between",
+        ),
+        (
+            b"currentfile eexec ",
+            Err(BytesFault::ShortCipher),
+            "no cipher",
+        ),
+        (
+            b"currentfile eexec \x81\x82\x83",
+            Err(BytesFault::ShortCipher),
+            "three bytes",
+        ),
+        (
+            b"currentfile eexec d9d66f6",
+            Err(BytesFault::ShortCipher),
+            "seven digits",
+        ),
+        (
+            b"currentfile eexec \x81\x82\x83\x84",
+            Ok((17, b"\x81\x82\x83\x84")),
+            "four bytes",
+        ),
+        (
+            b"xcurrentfile eexec \x81\x82\x83\x84",
+            Ok((18, b"\x81\x82\x83\x84")),
+            "a letter before currentfile",
+        ),
+        (
+            b"currentfile \0\t\n\x0c\r eexec\r\n\t \x81\x82\x83\x84",
+            Ok((23, b"\x81\x82\x83\x84")),
+            "all white space before eexec, all blanks after it",
+        ),
+        (
+            b"currentfile eexecx currentfile eexec \x81\x82\x83\x84",
+            Ok((36, b"\x81\x82\x83\x84")),
+            "the second is the first with a blank",
+        ),
+        (
+            b"currentfile eexec currentfile eexec \x81\x82\x83\x84",
+            Ok((17, b"currentfile eexec \x81\x82\x83\x84")),
+            "the first of two",
+        ),
+        (
+            b"currentfile eexec \0\x81\x82\x83\x84",
+            Ok((17, b"\0\x81\x82\x83\x84")),
+            "a null is no blank",
+        ),
+        (
+            b"currentfile eexec \x81\x82\x83\x84 \n",
+            Ok((17, b"\x81\x82\x83\x84 \n")),
+            "binary to the end",
+        ),
+        (
+            b"currentfile eexec D9d66F63",
+            Ok((17, b"\xd9\xd6\x6f\x63")),
+            "digits of either case",
+        ),
+        (
+            b"currentfile eexec d9d6\n6f\t6\r3\0 \x0c3b",
+            Ok((17, b"\xd9\xd6\x6f\x63\x3b")),
+            "white space among digits, a null and a form feed too",
+        ),
+        (
+            b"currentfile eexec d9d66f633",
+            Ok((17, b"\xd9\xd6\x6f\x63")),
+            "an odd digit",
+        ),
+        (
+            b"currentfile eexec d9d66f63g3b3b",
+            Ok((17, b"\xd9\xd6\x6f\x63")),
+            "a letter ends the digits",
+        ),
+        (
+            b"currentfile eexec d9d6g",
+            Err(BytesFault::ShortCipher),
+            "four digits are hexadecimal, however few bytes they spell",
+        ),
+        (
+            b"currentfile eexec d9dg6f63",
+            Ok((17, b"d9dg6f63")),
+            "three digits are binary",
+        ),
+        (
+            b"currentfile eexec d9d 6f63",
+            Ok((17, b"d9d 6f63")),
+            "three digits and a blank are binary",
+        ),
+        (
+            b"currentfile eexec d9d",
+            Err(BytesFault::ShortCipher),
+            "three digits alone are three bytes",
+        ),
+    ];
+    for (flat, want, name) in rows {
+        assert!(rt; splits(rt.alloc(), flat, want), "{name}");
+    }
+}
+
+#[test]
+fn writes_lines_of_digits(rt: HostRuntime) -> Result<(), Fail> {
+    let bytes: [u8; 33] = [0xAB; 33];
+    let rows: [(usize, &[u8]); 4] = [
+        (0, b""),
+        (1, b"ab\n"),
+        (
+            32,
+            b"abababababababababababababababababababababababababababababababab\n",
+        ),
+        (
+            33,
+            b"abababababababababababababababababababababababababababababababab\nab\n",
+        ),
+    ];
+    for (count, text) in rows {
+        assert!(rt; count <= 33);
+        let lines = hex_lines(rt.alloc(), &bytes[..count])?;
+        assert_eq!(rt; lines.as_slice(), text, "{count} bytes");
+    }
+    let mixed = hex_lines(rt.alloc(), b"\x00\x09\x10\x7f\xf0\xff")?;
+    assert_eq!(rt; mixed.as_slice(), b"0009107ff0ff\n".as_slice());
+    assert_eq!(rt; trailer().len(), 532);
+    Ok(())
+}
+
+#[test]
+fn prints_refusals(rt: HostRuntime) -> Result<(), Fail> {
+    let rows = [
+        (BytesFault::BadSegment { at: 319 }, "bad segment at 319"),
+        (BytesFault::NoEexec, "no eexec"),
+        (BytesFault::ShortCipher, "cipher too short"),
+        (BytesFault::Memory, "out of memory"),
+    ];
+    for (fault, text) in rows {
+        let printed = fault.to_string(rt.alloc())?;
+        assert_eq!(rt; printed.as_str(), text);
+    }
+    Ok(())
+}
+
+/// How many bytes the clear part of Tiny has, its last LF among them.
+const CLEAR: usize = 313;
+
+/// How many bytes the private text of Tiny has.
+const PRIVATE: usize = 1004;
+
+#[test]
+fn takes_tiny_apart_and_together(rt: HostRuntime) -> Result<(), Fail> {
+    for (file, form) in [(PFA.as_slice(), "PFA"), (PFB.as_slice(), "PFB")] {
+        let flat = flatten(rt.alloc(), file)?;
+        let flat = flat.as_slice();
+        let (at, mut cipher) = split_eexec(rt.alloc(), flat)?;
+        assert_eq!(rt; at, CLEAR - 1, "the offset in {form}");
+        assert!(rt; 4 + PRIVATE <= cipher.len());
+        cipher.truncate(4 + PRIVATE);
+        let private = open(cipher.as_mut_slice(), EEXEC_KEY, EEXEC_LEAD);
+        assert!(rt;
+            private.starts_with(b"dup /Private 9 dict dup begin\n/RD {string"),
+            "the beginning in {form}"
+        );
+        assert!(rt;
+            private.ends_with(b"definefont pop\nmark currentfile closefile\n"),
+            "the end in {form}"
+        );
+
+        let sealed = seal(rt.alloc(), private, EEXEC_KEY, EEXEC_LEAD)?;
+        assert!(rt; CLEAR <= flat.len() && sealed.len() <= 2893);
+        let (clear, _) = flat.split_at(CLEAR);
+        let pfb = segments(rt.alloc(), clear, sealed.as_slice(), trailer())?;
+        assert_eq!(rt; pfb.as_slice(), PFB.as_slice(), "segments of {form}");
+        let mut pfa = clear.to_vec(rt.alloc())?;
+        pfa.extend_from_slice(hex_lines(rt.alloc(), sealed.as_slice())?.as_slice())?;
+        pfa.extend_from_slice(trailer())?;
+        assert_eq!(rt; pfa.as_slice(), PFA.as_slice(), "lines of {form}");
+    }
+    Ok(())
+}
+
+/// The refusal of a file, where it has no flat text or no cipher.
+fn refusal(alloc: Global, file: &[u8]) -> Option<BytesFault> {
+    match flatten(alloc, file) {
+        Ok(flat) => split_eexec(alloc, flat.as_slice()).err(),
+        Err(fault) => Some(fault),
+    }
+}
+
+#[test]
+fn refuses_prefixes_of_tiny(rt: HostRuntime) {
+    for n in 0..=PFA.len() {
+        let want = match n {
+            0..=312 => Some(BytesFault::NoEexec),
+            313..=320 => Some(BytesFault::ShortCipher),
+            _ => None,
+        };
+        assert!(rt;
+            refusal(rt.alloc(), &PFA[..n]) == want,
+            "{n} bytes of the PFA"
+        );
+    }
+    for n in 0..=PFB.len() {
+        let want = match n {
+            0 => Some(BytesFault::NoEexec),
+            1..=318 => Some(BytesFault::BadSegment { at: 0 }),
+            319 => Some(BytesFault::ShortCipher),
+            320..=1332 => Some(BytesFault::BadSegment { at: 319 }),
+            1334..=1870 => Some(BytesFault::BadSegment { at: 1333 }),
+            1872 => Some(BytesFault::BadSegment { at: 1871 }),
+            _ => None,
+        };
+        assert!(rt;
+            refusal(rt.alloc(), &PFB[..n]) == want,
+            "{n} bytes of the PFB"
+        );
+    }
+}

@@ -1,0 +1,79 @@
+//! Reading from the front of bytes. A reader answers what it read and what stands after it, both
+//! of them parts of the bytes that it was given.
+
+ghost use Rattle.std.specs.Prelude.{◌≡◌, ◌≤◌, ◌+◌, length, take_while, Some, IfSome, MatchOption};
+ghost use Rattle.std.specs.Option.{option_map};
+ghost use Rattle.bstr.specs.Find.{OccursAt, Nowhere};
+ghost use Rattle.t1_bytes.specs.Grammar.{count, fixed};
+ghost use Rattle.t1_bytes.specs.White.{is_white, white, gap};
+
+use bstr::ByteSlice;
+
+/// The first `n` bytes; `None` where there are fewer.
+pub fn count_at(bytes: &[u8], n: usize) -> Option<(&[u8], &[u8])>
+    ensures { option_map (λ x. (x.0.now, x.1.now)) result ≡ (count n).read bytes.now }
+{
+    if n <= bytes.len() {
+        Some(bytes.split_at(n))
+    } else {
+        None
+    }
+}
+
+/// The bytes of `text`; `None` where others stand.
+pub fn fixed_at<'a>(bytes: &'a [u8], text: &[u8]) -> Option<(&'a [u8], &'a [u8])>
+    ensures { option_map (λ x. (x.0.now, x.1.now)) result ≡ (fixed text.now).read bytes.now }
+{
+    let (front, rest) = count_at(bytes, text.len())?;
+    if text == front {
+        Some((front, rest))
+    } else {
+        None
+    }
+}
+
+/// Whether a byte is white space: a null, a tab, LF, a form feed, CR or a blank.
+pub fn is_white(byte: u8) -> bool
+    ensures { result ≡ is_white byte }
+{
+    matches!(byte, 0 | 9 | 10 | 12 | 13 | 32)
+}
+
+/// How many bytes of white space come first.
+fn white_len(bytes: &[u8]) -> usize
+    ensures { result ≡ length (take_while is_white bytes.now) }
+{
+    bytes.iter().take_while(|b| is_white(**b)).count()
+}
+
+/// White space, as far as it goes; it may be none.
+pub fn white_at(bytes: &[u8]) -> (&[u8], &[u8])
+    ensures { Some (result.0.now, result.1.now) ≡ white.read bytes.now }
+{
+    bytes.split_at(white_len(bytes))
+}
+
+/// White space of one byte or more, as far as it goes; `None` where there is none.
+#[tactic(auto, unfolding(crate::specs::White::gap))]
+pub fn gap_at(bytes: &[u8]) -> Option<(&[u8], &[u8])>
+    ensures { option_map (λ x. (x.0.now, x.1.now)) result ≡ gap.read bytes.now }
+{
+    let (front, rest) = white_at(bytes);
+    if front.is_empty() {
+        return None;
+    }
+    Some((front, rest))
+}
+
+/// The first offset from `from` on where `text` stands.
+pub fn find_from(bytes: &[u8], text: &[u8], from: usize) -> Option<usize>
+    requires { from ≤ length bytes.now }
+    ensures within { IfSome result (λ at. (from ≤ at) × (at + length text.now ≤ length bytes.now)) }
+    ensures first { MatchOption result (Nowhere (OccursAt bytes.now text.now) from (length bytes.now + 1)) (Nowhere (OccursAt bytes.now text.now) from) }
+{
+    let (_, rest) = bytes.split_at(from);
+    match rest.find(text) {
+        Some(at) => Some(from + at),
+        None => None,
+    }
+}

@@ -1,0 +1,19 @@
+-- Answers of one input, which is understood as the text that is written.
+use Rattle.std.specs.Prelude.{ℕ, ◌≡◌, List, [], ◌∷◌, length, Result, Ok, Err, nat_lt, if◌then◌else◌}
+use Rattle.t1_cmd.specs.declared.faults.Reason.{Reason}
+use Rattle.t1_cmd.specs.declared.faults.Reason.TheVariants.{TooLong}
+use Rattle.t1_cmd.specs.Inputs.{file_limit}
+
+-- an answer whose fault is told as a reason
+abbrev pub with_reason : {A F : Type 0} → (F → Reason) → Result A F → Result A Reason
+with_reason reason (Ok x) = Ok x
+with_reason reason (Err f) = Err (reason f)
+
+-- what an input says, within the file limit
+abbrev pub within_limit : {A : Type 0} → (List ℕ → Result A Reason) → List ℕ → Result A Reason
+within_limit understand bytes = if nat_lt file_limit (length bytes) then Err TooLong else understand bytes
+
+-- one text is answered as it is, and never refused
+abbrev pub AsItIs : List (List ℕ) → Result (List ℕ) Reason → Type 0
+AsItIs (text ∷ []) (Ok answer) = answer ≡ text
+AsItIs others answer = ⊥
