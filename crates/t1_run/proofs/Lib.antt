@@ -1,0 +1,5 @@
+pub mod Locality
+pub mod Progress
+pub mod Limits
+pub mod LimitsOfRuns
+mod Rows

@@ -1,0 +1,175 @@
+// Runs of charstrings.
+
+ghost use Rattle.std.specs.Prelude.{◌≡◌, ◌≤◌, IfOk, OnOk, MatchResult, [], Some};
+ghost use Rattle.std.specs.Option.{option_copied};
+ghost use Rattle.t1_char.specs.Tokens.{tokens};
+ghost use Rattle.t1_run.specs.Limits.{IsWithinLimits, EndsWithinLimits};
+ghost use Rattle.t1_run.specs.State.{start, Seac};
+ghost use Rattle.t1_run.specs.Run.{run, direct_by, direct, exec, calls_of, with_indices, index_of, taken, entry, call};
+ghost use Rattle.t1_run.specs.Machine.{state_of, ending_of, value_of, Runs, IsEntered};
+
+use crate::answer::{Accent, Direct, Fault, Hints, Metrics};
+use crate::machine::{Flow, Machine};
+use crate::subroutines::Subroutines;
+use std::alloc::{AllocError, Global};
+use std::collections::BTreeSet;
+use t1_char::Tokens;
+
+/// How deep calls may be, this project's limit.
+const LEVELS: u8 = 10;
+
+/// How a token list ends.
+#[derive(Clone, Copy)]
+pub(crate) enum Halt {
+    Back,
+    Plain(Metrics),
+    Seac(Accent),
+    Failed(Fault),
+}
+
+// The index of a call, where it can be that of a Subr.
+fn index_of(i: i64) -> Option<u16>
+    ensures { result ≡ index_of i }
+{
+    if 0 <= i && i < 65535 {
+        Some(i as u16)
+    } else {
+        None
+    }
+}
+
+// The charstring that a call enters, or why it fails.
+fn entered<S: Subroutines>(subrs: &S, levels: u8, index: Option<u16>) -> Result<&[u8], Fault>
+    ensures { IsEntered (S.subrs subrs.now) levels index result }
+{
+    if levels == 0 {
+        return Err(Fault::Nesting);
+    }
+    let Some(index) = index else {
+        return Err(Fault::NoSubr);
+    };
+    match subrs.get(index) {
+        Some(charstring) => Ok(charstring),
+        None => Err(Fault::NoSubr),
+    }
+}
+
+// The indices with the one that a call took.
+fn take(called: &mut BTreeSet<u16>, index: Option<u16>) -> Result<(), AllocError>
+    ensures { OnOk result (called.new.keys ≡ with_indices called.old.keys (taken index)) }
+{
+    if let Some(index) = index {
+        called.insert(index)?;
+    }
+    Ok(())
+}
+
+fn run<S: Subroutines>(
+    subrs: &S,
+    hints: Hints,
+    levels: u8,
+    charstring: &[u8],
+    machine: &mut Machine,
+    called: &mut BTreeSet<u16>,
+) -> Result<Halt, AllocError>
+    requires { IsWithinLimits (state_of machine.old) }
+    ensures runs { IfOk result
+        (λ halt. Runs (run (S.subrs subrs.now) hints levels (tokens charstring.now) (state_of machine.old))
+        (ending_of halt (state_of machine.new)) called.old.keys called.new.keys) }
+    ensures within { IfOk result (λ halt. EndsWithinLimits (ending_of halt (state_of machine.new))) }
+{
+    for token in Tokens::new(charstring) {
+        match machine.spend(hints, token)? {
+            Flow::Go => {}
+            Flow::Back => return Ok(Halt::Back),
+            Flow::Plain(metrics) => return Ok(Halt::Plain(metrics)),
+            Flow::Seac(accent) => return Ok(Halt::Seac(accent)),
+            Flow::Fail(fault) => return Ok(Halt::Failed(fault)),
+            Flow::Call(i) => {
+                let index = index_of(i);
+                take(called, index)?;
+                match entered(subrs, levels, index) {
+                    Err(fault) => return Ok(Halt::Failed(fault)),
+                    Ok(charstring) => {
+                        match run(subrs, hints, levels - 1, charstring, machine, called)? {
+                            Halt::Back => {}
+                            halt => return Ok(halt),
+                        }
+                    }
+                }
+            }
+        }
+    }
+    Ok(Halt::Failed(Fault::Unended))
+}
+
+// What an accented glyph answers.
+fn seac(accent: Accent) -> Direct
+    ensures { value_of result ≡ Seac accent }
+{
+    Direct::Seac {
+        width: accent.metrics.width,
+        sb: accent.metrics.bearing,
+        asb: accent.asb,
+        adx: accent.adx,
+        ady: accent.ady,
+        base: accent.base,
+        accent: accent.accent,
+    }
+}
+
+// What a charstring answers by itself, and which Subrs it called, added to `called`.
+fn run_glyph<S: Subroutines>(
+    alloc: Global,
+    subrs: &S,
+    hints: Hints,
+    charstring: &[u8],
+    called: &mut BTreeSet<u16>,
+) -> Result<Direct, AllocError>
+    ensures direct { IfOk result (λ d. value_of d ≡ direct_by hints (S.subrs subrs.now) charstring.now) }
+    ensures within { IfOk result (λ d. EndsWithinLimits (value_of d)) }
+    ensures called { OnOk result
+        (called.new.keys ≡ with_indices called.old.keys (calls_of hints (S.subrs subrs.now) charstring.now)) }
+{
+    let mut machine = Machine::new(alloc);
+    let halt = run(subrs, hints, LEVELS, charstring, &mut machine, called)?;
+    match halt {
+        Halt::Back => Ok(Direct::Failed(Fault::Unended)),
+        Halt::Plain(metrics) => Ok(Direct::Plain {
+            width: metrics.width,
+            sb: metrics.bearing,
+            marks: machine.marks,
+        }),
+        Halt::Seac(accent) => Ok(seac(accent)),
+        Halt::Failed(fault) => Ok(Direct::Failed(fault)),
+    }
+}
+
+/// What a plain charstring answers by itself, an accented glyph's parts aside, in a font of these Subrs (Adobe Type 1 Font
+/// Format 1.1, chapters 6 and 8). Every number in the answer is at most 2^47 in size. It fails for want of memory alone: a
+/// faulty charstring is an answer.
+pub fn direct<S: Subroutines>(
+    alloc: Global,
+    subrs: &S,
+    charstring: &[u8],
+) -> Result<Direct, AllocError>
+    ensures answer { IfOk result (λ d. value_of d ≡ direct (S.subrs subrs.now) charstring.now) }
+    ensures within { IfOk result (λ d. EndsWithinLimits (value_of d)) }
+{
+    let mut called = BTreeSet::new(alloc);
+    run_glyph(alloc, subrs, Hints::Replaced, charstring, &mut called)
+}
+
+/// The indices that `callsubr` takes in the run of a plain charstring, up to its end or fault: whole numbers from 0 to
+/// 65,534, those of Subrs that are not there or too deep among them. It fails for want of memory alone.
+pub fn executed<S: Subroutines>(
+    alloc: Global,
+    subrs: &S,
+    charstring: &[u8],
+) -> Result<BTreeSet<u16>, AllocError>
+    ensures indices { IfOk result (λ set. set.keys ≡ exec (S.subrs subrs.now) charstring.now) }
+{
+    let mut called = BTreeSet::new(alloc);
+    run_glyph(alloc, subrs, Hints::Replaced, charstring, &mut called)?;
+    Ok(called)
+}
