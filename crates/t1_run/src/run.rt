@@ -160,6 +160,19 @@ pub fn direct<S: Subroutines>(
     run_glyph(alloc, subrs, Hints::Replaced, charstring, &mut called)
 }
 
+// What a charstring answers by itself, where hints are kept: the pop after OtherSubr 3 gives 3.
+pub(crate) fn direct3<S: Subroutines>(
+    alloc: Global,
+    subrs: &S,
+    charstring: &[u8],
+) -> Result<Direct, AllocError>
+    ensures answer { IfOk result (λ d. value_of d ≡ direct_by Hints.Kept (S.subrs subrs.now) charstring.now) }
+    ensures within { IfOk result (λ d. EndsWithinLimits (value_of d)) }
+{
+    let mut called = BTreeSet::new(alloc);
+    run_glyph(alloc, subrs, Hints::Kept, charstring, &mut called)
+}
+
 /// The indices that `callsubr` takes in the run of a plain charstring, up to its end or fault: whole numbers from 0 to
 /// 65,534, those of Subrs that are not there or too deep among them. It fails for want of memory alone.
 pub fn executed<S: Subroutines>(
