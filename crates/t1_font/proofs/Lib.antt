@@ -1,0 +1,10 @@
+pub mod WordLemmas
+pub mod SubrLemmas
+pub mod MarkLemmas
+pub mod EntryLemmas
+pub mod MapLaws
+pub mod ValueLaws
+pub mod ReadingLaws
+pub mod ReadLaws
+pub mod SpellingLaws
+pub mod ReasonLaws

@@ -1,0 +1,131 @@
+-- Markers are read as they are spelled, and begin with their own text.
+use Rattle.std.proofs.Common.{◌≡◌, ℕ, ◌+◌, ◌≤◌, List, [], ◌++◌, length, Some, refl, sym, ap, subst, ◌∙◌}
+use Rattle.std.specs.Prelude.{codes}
+use Rattle.std.proofs.lemmas.List.{append-nil}
+use Rattle.std.proofs.lemmas.Option.{same_Some}
+use Rattle.bstr.specs.Find.{OccursAt, Nowhere}
+use Rattle.t1_bytes.specs.Grammar.{Grammar, first}
+use Rattle.t1_bytes.proofs.Grammars.{IsExact, pure_exact, bind_exact, that_exact, run_exact, fixed_exact, before_exact, either_exact, first_exact}
+use Rattle.t1_font.specs.Marks.{encoding_mark, subrs_mark, chars_mark, len_iv_mark, len_iv, closefile, encoding_word, encoding_table, loop_range, loop_body, encoding_loop, octal, octal_after, code, code_entry, may_be, encoding_end, encoding_start, glyph, glyphs_end}
+use Rattle.t1_bytes.proofs.EexecLemmas.{white_exact, gap_exact}
+use Rattle.t1_font.proofs.WordLemmas.{one_white_exact, word_exact, keyword_exact, decimal_exact, name_exact, phrase_exact}
+use Rattle.t1_font.proofs.SubrLemmas.{length_exact}
+use Rattle.t1_bytes.proofs.Grammars.{count_exact}
+use Rattle.t1_bytes.proofs.Places.{NoneBelow, Begins, more_none}
+
+pub encoding_mark_exact : IsExact encoding_mark
+unfolding encoding_mark
+encoding_mark_exact = bind_exact _ _ (fixed_exact (codes "/Encoding")) (λ _. before_exact _)
+
+pub subrs_mark_exact : IsExact subrs_mark
+unfolding subrs_mark
+subrs_mark_exact = bind_exact _ _ (fixed_exact (codes "/Subrs")) (λ _. bind_exact _ _ gap_exact (λ _. bind_exact _ _ decimal_exact (λ declared. bind_exact _ _ gap_exact (λ _. bind_exact _ _ (keyword_exact (codes "array")) (λ _. bind_exact _ _ (before_exact _) (λ _. pure_exact declared))))))
+
+pub chars_mark_exact : IsExact chars_mark
+unfolding chars_mark
+chars_mark_exact = bind_exact _ _ (fixed_exact (codes "/CharStrings")) (λ _. bind_exact _ _ gap_exact (λ _. bind_exact _ _ decimal_exact (λ _. bind_exact _ _ gap_exact (λ _. bind_exact _ _ (keyword_exact (codes "dict")) (λ _. bind_exact _ _ gap_exact (λ _. bind_exact _ _ (keyword_exact (codes "dup")) (λ _. bind_exact _ _ gap_exact (λ _. bind_exact _ _ (keyword_exact (codes "begin")) (λ _. before_exact _)))))))))
+
+pub len_iv_mark_exact : IsExact len_iv_mark
+unfolding len_iv_mark
+len_iv_mark_exact = bind_exact _ _ (fixed_exact (codes "/lenIV")) (λ _. before_exact _)
+
+pub len_iv_exact : IsExact len_iv
+unfolding len_iv
+len_iv_exact = bind_exact _ _ white_exact (λ _. that_exact _ _ decimal_exact)
+
+pub closefile_exact : IsExact closefile
+unfolding closefile
+closefile_exact = fixed_exact (codes "closefile")
+
+pub may_be_exact : (g : Grammar (List ℕ)) → IsExact g → IsExact (may_be g)
+may_be_exact g G = either_exact _ _ G (pure_exact [])
+
+-- ---- the Encoding
+
+pub encoding_word_exact : IsExact encoding_word
+unfolding encoding_word
+encoding_word_exact = bind_exact _ _ white_exact (λ _. bind_exact _ _ word_exact (λ w. bind_exact _ _ gap_exact (λ _. bind_exact _ _ (keyword_exact (codes "def")) (λ _. pure_exact w))))
+
+pub encoding_table_exact : IsExact encoding_table
+unfolding encoding_table
+encoding_table_exact = bind_exact _ _ white_exact (λ _. bind_exact _ _ (keyword_exact (codes "256")) (λ _. bind_exact _ _ gap_exact (λ _. keyword_exact (codes "array"))))
+
+loop_range_exact : IsExact loop_range
+loop_range_exact = bind_exact _ _ white_exact (λ _. bind_exact _ _ (keyword_exact (codes "0")) (λ _. bind_exact _ _ gap_exact (λ _. bind_exact _ _ (keyword_exact (codes "1")) (λ _. bind_exact _ _ gap_exact (λ _. keyword_exact (codes "255"))))))
+
+loop_body_exact : IsExact loop_body
+loop_body_exact =
+    bind_exact _ _ white_exact (λ _. bind_exact _ _ (keyword_exact (codes "1")) (λ _. bind_exact _ _ gap_exact (λ _. bind_exact _ _ (keyword_exact (codes "index")) (λ _. bind_exact _ _ gap_exact (λ _. bind_exact _ _ (keyword_exact (codes "exch")) (λ _.
+    bind_exact _ _ white_exact (λ _. bind_exact _ _ (fixed_exact (codes "/")) (λ _. bind_exact _ _ (keyword_exact (codes ".notdef")) (λ _. bind_exact _ _ gap_exact (λ _. keyword_exact (codes "put")))))))))))
+
+pub encoding_loop_exact : IsExact encoding_loop
+unfolding encoding_loop
+encoding_loop_exact =
+    bind_exact _ _ loop_range_exact (λ _. bind_exact _ _ white_exact (λ _. bind_exact _ _ (fixed_exact (codes "{")) (λ _. bind_exact _ _ loop_body_exact (λ _. bind_exact _ _ white_exact (λ _. bind_exact _ _ (fixed_exact (codes "}")) (λ _. bind_exact _ _ white_exact (λ _. keyword_exact (codes "for"))))))))
+
+pub encoding_start_exact : IsExact encoding_start
+unfolding encoding_start
+encoding_start_exact = either_exact _ _ (bind_exact _ _ encoding_word_exact (λ w. pure_exact (Some w))) (bind_exact _ _ encoding_table_exact (λ _. bind_exact _ _ (may_be_exact _ encoding_loop_exact) (λ _. pure_exact _)))
+
+pub octal_exact : IsExact octal
+unfolding octal
+octal_exact = bind_exact _ _ (fixed_exact (codes "8#")) (λ _. bind_exact _ _ (that_exact _ _ (run_exact _)) (λ w. pure_exact (octal_after 0 w)))
+
+pub code_exact : IsExact code
+unfolding code
+code_exact = that_exact _ _ (either_exact _ _ decimal_exact octal_exact)
+
+pub code_entry_exact : IsExact code_entry
+unfolding code_entry
+code_entry_exact = bind_exact _ _ white_exact (λ _. bind_exact _ _ (keyword_exact (codes "dup")) (λ _. bind_exact _ _ gap_exact (λ _. bind_exact _ _ code_exact (λ c. bind_exact _ _ white_exact (λ _. bind_exact _ _ name_exact (λ n. bind_exact _ _ gap_exact (λ _. bind_exact _ _ (keyword_exact (codes "put")) (λ _. pure_exact (c, n)))))))))
+
+pub encoding_end_exact : IsExact encoding_end
+unfolding encoding_end
+encoding_end_exact = bind_exact _ _ white_exact (λ _. bind_exact _ _ (may_be_exact _ (bind_exact _ _ (keyword_exact (codes "readonly")) (λ _. gap_exact))) (λ _. keyword_exact (codes "def")))
+
+-- ---- the glyphs
+
+pub glyph_exact : (iv : ℕ) → IsExact (glyph iv)
+unfolding glyph
+glyph_exact iv =
+    bind_exact _ _ white_exact (λ _. bind_exact _ _ name_exact (λ n. bind_exact _ _ gap_exact (λ _. bind_exact _ _ (length_exact iv) (λ len. bind_exact _ _ gap_exact (λ _. bind_exact _ _ word_exact (λ rd.
+    bind_exact _ _ one_white_exact (λ _. bind_exact _ _ (count_exact len) (λ body. bind_exact _ _ white_exact (λ _. bind_exact _ _ (phrase_exact _) (λ nd. pure_exact _))))))))))
+
+pub glyphs_end_exact : IsExact glyphs_end
+unfolding glyphs_end
+glyphs_end_exact = bind_exact _ _ white_exact (λ _. keyword_exact (codes "end"))
+
+-- ---- where a marker's text stands
+
+pub subrs_begins : Begins (codes "/Subrs") subrs_mark
+unfolding subrs_mark
+subrs_begins bytes e = rw e refl
+
+pub subrs_none : (bytes : List ℕ) (from to : ℕ) → to ≤ length bytes + 1 → NoneBelow subrs_mark bytes from → Nowhere (OccursAt bytes (codes "/Subrs")) from to → NoneBelow subrs_mark bytes to
+subrs_none bytes from to = more_none (codes "/Subrs") subrs_mark subrs_begins bytes from to
+
+pub encoding_begins : Begins (codes "/Encoding") encoding_mark
+unfolding encoding_mark
+encoding_begins bytes e = rw e refl
+
+pub encoding_none : (bytes : List ℕ) (from to : ℕ) → to ≤ length bytes + 1 → NoneBelow encoding_mark bytes from → Nowhere (OccursAt bytes (codes "/Encoding")) from to → NoneBelow encoding_mark bytes to
+encoding_none bytes from to = more_none (codes "/Encoding") encoding_mark encoding_begins bytes from to
+
+pub chars_begins : Begins (codes "/CharStrings") chars_mark
+unfolding chars_mark
+chars_begins bytes e = rw e refl
+
+pub len_iv_begins : Begins (codes "/lenIV") len_iv_mark
+unfolding len_iv_mark
+len_iv_begins bytes e = rw e refl
+
+pub closefile_begins : Begins (codes "closefile") closefile
+unfolding closefile
+closefile_begins bytes e = e
+
+-- the text through the first `closefile`
+pub close_parts : (bytes front own rest : List ℕ) → (first closefile).read bytes ≡ Some ((front, own), rest) → bytes ≡ (front ++ own) ++ rest
+unfolding closefile
+close_parts bytes front own rest e =
+    let s = (first_exact closefile closefile_exact).takes bytes ((front, own), rest) e in
+    s.1 ∙ ap (λ (u : List ℕ). u ++ rest) (s.2.1 ∙ ap (λ (u : List ℕ). front ++ u) s.2.2.0.0)

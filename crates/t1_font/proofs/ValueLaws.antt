@@ -1,0 +1,70 @@
+-- What is tested on lists of entries holds of the font.
+use Rattle.std.proofs.Common.{◌≡◌, ℕ, ◌≤◌, Bool, true, false, cond, ◌||◌, ◌&&◌, leb, List, [], ◌∷◌, ◌++◌, length, take, drop, Option, Some, None, refl, sym, ap, ◌∙◌, arith}
+use Rattle.std.specs.Prelude.{is_some, map}
+use Rattle.std.specs.List.{list_any}
+use Rattle.std.specs.Str.{bytes_eq}
+use Rattle.std.specs.FinMap as maps
+use Rattle.std.specs.FinSet.{IsAntisymmetric, slice_cmp-IsAntisymmetric, nat_cmp-IsAntisymmetric}
+use Rattle.std.specs.Ordering.{nat_cmp, is_eq}
+use Rattle.std.specs.Cmp.{nat_cmp_total}
+use Rattle.std.specs.Cmp.Lexicographic.{nat_list_cmp_total}
+use Rattle.std.proofs.lemmas.Map.Text.{is_eq-slice_cmp}
+use Rattle.std.proofs.lemmas.Bool.{leb-true, le-leb, and_parts, and_from}
+use Rattle.std.proofs.lemmas.List.{take-append-drop, drop_at, length-take-le}
+use Rattle.t1_bytes.specs.Cipher.{Enciphers, decrypted, private_text}
+use Rattle.t1_bytes.proofs.Ciphers.{Enciphers-decrypted, decrypted-is, length-decrypted}
+use Rattle.t1_bytes.specs.Grammar.{choice}
+use Rattle.t1_font.specs.Charstrings.{plain_of}
+use Rattle.t1_font.specs.Marks.{Glyph}
+use Rattle.t1_font.specs.Pieces.{ClearPieces, PrivatePieces}
+use Rattle.t1_font.specs.FontValue.{name_cmp, notdef, weight_of, IsWithin, declared_count, count_limit, weight_limit}
+use Rattle.t1_font.specs.Entries.{last_entries, last_value}
+use Rattle.t1_font.specs.ReadFont.{subr_entries, glyph_entries, shell_of, font_of, has_notdef, is_within}
+use Rattle.t1_font.proofs.MapLaws.{get-map_of, entries-map_of, len-map_of}
+
+name_same : IsAntisymmetric name_cmp
+name_same = slice_cmp-IsAntisymmetric nat_cmp-IsAntisymmetric
+
+some_choice : (o : Option (List ℕ)) (b : Bool) (v : List ℕ) → is_some (choice o (cond b (Some v) None)) ≡ (b || is_some o)
+some_choice (Some x) true v = refl
+some_choice (Some x) false v = refl
+some_choice None true v = refl
+some_choice None false v = refl
+
+some_last : (q : List ℕ) (iv : ℕ) (gs : List Glyph) → is_some (last_value name_cmp q (map (λ g. (g.name, plain_of iv g.body)) gs)) ≡ list_any (λ g. bytes_eq q g.name) gs
+some_last q iv [] = refl
+some_last q iv (g ∷ gs) = some_choice (last_value name_cmp q (map (λ g. (g.name, plain_of iv g.body)) gs)) (is_eq (name_cmp q g.name)) (plain_of iv g.body) ∙ (ap (λ b. b || is_some (last_value name_cmp q (map (λ g. (g.name, plain_of iv g.body)) gs))) (is_eq-slice_cmp q g.name) ∙ ap (λ b. bytes_eq q g.name || b) (some_last q iv gs))
+
+pub notdef_is : (c : ClearPieces) (p : PrivatePieces) → maps.contains_key (font_of c p).glyphs notdef ≡ has_notdef p
+notdef_is c p = ap is_some (get-map_of nat_list_cmp_total name_same (glyph_entries p) notdef) ∙ some_last notdef p.len_iv p.glyphs
+
+pub within_of : (c : ClearPieces) (p : PrivatePieces) → is_within (shell_of c p) (last_entries nat_cmp (subr_entries p)) (last_entries name_cmp (glyph_entries p)) ≡ true → IsWithin (font_of c p)
+within_of c p h =
+    let s = last_entries nat_cmp (subr_entries p) in
+    let g = last_entries name_cmp (glyph_entries p) in
+    let one = and_parts (leb (declared_count (shell_of c p).subrs) count_limit && leb (length g) count_limit) (leb (weight_of (shell_of c p) s g) weight_limit) h in
+    let two = and_parts (leb (declared_count (shell_of c p).subrs) count_limit) (leb (length g) count_limit) one.0 in
+    record {
+      declared = leb-true _ _ two.0;
+      glyphs = rw (len-map_of nat_list_cmp_total name_same (glyph_entries p)) (leb-true _ _ two.1);
+      weight = rw (entries-map_of nat_cmp_total nat_cmp-IsAntisymmetric (subr_entries p), entries-map_of nat_list_cmp_total name_same (glyph_entries p)) (leb-true _ _ one.1);
+    }
+
+pub within_again : (c : ClearPieces) (p : PrivatePieces) → IsWithin (font_of c p) → is_within (shell_of c p) (last_entries nat_cmp (subr_entries p)) (last_entries name_cmp (glyph_entries p)) ≡ true
+within_again c p h =
+    let s = last_entries nat_cmp (subr_entries p) in
+    let g = last_entries name_cmp (glyph_entries p) in
+    let few : length g ≤ count_limit = rw (len-map_of nat_list_cmp_total name_same (glyph_entries p)) at h.glyphs in
+    let light : weight_of (shell_of c p) s g ≤ weight_limit = rw (entries-map_of nat_cmp_total nat_cmp-IsAntisymmetric (subr_entries p), entries-map_of nat_list_cmp_total name_same (glyph_entries p)) at h.weight in
+    and_from _ _ (and_from _ _ (le-leb _ _ h.declared) (le-leb _ _ few)) (le-leb _ _ light)
+
+-- ---- the private text of a cipher
+
+pub private_again : (lead text cipher : List ℕ) → Enciphers 55665 (lead ++ text) cipher → length lead ≡ 4 → text ≡ private_text cipher
+private_again lead text cipher s four = sym (ap (drop 4) (decrypted-is (lead ++ text) cipher 55665 s) ∙ drop_at lead text 4 four)
+
+pub private_enciphers : (cipher : List ℕ) → Enciphers 55665 (take 4 (decrypted 55665 cipher) ++ private_text cipher) cipher
+private_enciphers cipher = rw (take-append-drop 4 (decrypted 55665 cipher)) (Enciphers-decrypted cipher 55665)
+
+pub lead_length : (cipher : List ℕ) → 4 ≤ length cipher → length (take 4 (decrypted 55665 cipher)) ≡ 4
+lead_length cipher h = length-take-le 4 (decrypted 55665 cipher) (omega (arith, length-decrypted cipher 55665, h))

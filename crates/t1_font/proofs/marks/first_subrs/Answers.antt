@@ -1,0 +1,26 @@
+use Rattle.std.proofs.Common.{◌≡◌, ◌+◌, drop, length, sym, ap, ◌∙◌, arith, Some}
+use Rattle.t1_font.specs.Marks.{subrs_mark}
+use Rattle.t1_bytes.proofs.Places.{NoneBelow, first_found, first_nowhere, one_more}
+use Rattle.t1_font.proofs.MarkLemmas.{subrs_none}
+use Rattle.t1_font.proofs.marks.first_subrs.Goals as goal
+
+pub returns-in-Some-subrs_mark_at : goal.returns-in-Some-subrs_mark_at
+returns-in-Some-subrs_mark_at c =
+    let bytes = c.args.bytes.now in
+    let none : NoneBelow subrs_mark bytes c.in-Some.place = subrs_none bytes c.places.from c.in-Some.place (omega (arith, c.in-Some.ensures.within.1)) c.places.invariant.passed c.in-Some.ensures.first in
+    let read : subrs_mark.read (drop c.in-Some.place bytes) ≡ Some (c.in-Some-subrs_mark_at.declared, c.in-Some-subrs_mark_at.rest.now) = ap subrs_mark.read (sym c.split_at.ensures.back) ∙ sym c.in-Some-subrs_mark_at.ensures in
+    rw c.split_at.ensures.front (sym (first_found subrs_mark bytes c.in-Some.place c.in-Some-subrs_mark_at.declared c.in-Some-subrs_mark_at.rest.now (omega (arith, c.in-Some.ensures.within.1)) none read))
+
+pub places-preserved : goal.places-preserved
+places-preserved c =
+    let bytes = c.args.bytes.now in
+    let none : NoneBelow subrs_mark bytes c.in-Some.place = subrs_none bytes c.places.from c.in-Some.place (omega (arith, c.in-Some.ensures.within.1)) c.places.invariant.passed c.in-Some.ensures.first in
+    record {
+      within = omega (arith, c.in-Some.ensures.within.1);
+      passed = one_more subrs_mark bytes c.in-Some.place none (ap subrs_mark.read (sym c.split_at.ensures.back) ∙ sym c.in_default-subrs_mark_at.ensures);
+    }
+
+pub returns : goal.returns
+returns c =
+    let bytes = c.args.bytes.now in
+    sym (first_nowhere subrs_mark bytes (subrs_none bytes c.places.from (length bytes + 1) (omega arith) c.places.invariant.passed c.in_default.ensures.first))

@@ -1,0 +1,46 @@
+-- Lists of entries in the order of a file, and the maps that they make: of a repeated key the last entry stands.
+use Rattle.std.specs.Prelude.{ℕ, not, Bool, List, [], ◌∷◌, filter, Option, Some, None, if◌then◌else◌}
+use Rattle.std.specs.Str.{bytes_eq}
+use Rattle.std.specs.Ordering.{is_eq}
+use Rattle.std.specs.declared.cmp.Ordering.{Ordering}
+use Rattle.std.specs.FinMap as maps
+use Rattle.t1_bytes.specs.Grammar.{choice}
+use Rattle.t1_font.specs.FontValue.{Numbered, notdef}
+
+module _ {K : Type 0} (R : K → K → Ordering) where
+  -- entries put one after another among those that stand in the order of their keys
+  abbrev pub put_all : List (K × List ℕ) → List (K × List ℕ) → List (K × List ℕ)
+  put_all [] into = into
+  put_all (e ∷ es) into = put_all es (maps.put R e.0 e.1 into)
+
+  -- in the order of the keys, each key with its last value
+  abbrev pub last_entries : List (K × List ℕ) → List (K × List ℕ)
+  last_entries es = put_all es []
+
+  -- the value of the last entry with this key
+  abbrev pub last_value : K → List (K × List ℕ) → Option (List ℕ)
+  last_value key [] = None
+  last_value key (e ∷ es) = choice (last_value key es) (if is_eq (R key e.0) then Some e.1 else None)
+
+-- the map of entries
+abbrev pub map_of : {K : Type 0} {R : K → K → Ordering} → List (K × List ℕ) → maps.FinMap R (List ℕ)
+map_of {R = R} es = maps.from_sorted (last_entries R es)
+
+-- ---- the names of codes: `.notdef` means none
+
+-- a put whose name is not `.notdef`
+abbrev pub has_name : {K : Type 0} → K × List ℕ → Bool
+has_name e = not (bytes_eq notdef e.1)
+
+-- the entries of the last puts that name a glyph
+abbrev pub last_names : {K : Type 0} → (K → K → Ordering) → List (K × List ℕ) → List (K × List ℕ)
+last_names R es = filter has_name (last_entries R es)
+
+-- the names of the codes that are put
+abbrev pub names_of : {K : Type 0} {R : K → K → Ordering} → List (K × List ℕ) → maps.FinMap R (List ℕ)
+names_of {R = R} es = maps.from_sorted (last_names R es)
+
+-- a name, but none where it is `.notdef`
+abbrev pub unless_notdef : Option (List ℕ) → Option (List ℕ)
+unless_notdef None = None
+unless_notdef (Some n) = if not (bytes_eq notdef n) then Some n else None

@@ -1,0 +1,28 @@
+-- The laws of reading, each the contract of a function in `laws`.
+use Rattle.std.specs.Prelude.{◌≡◌, ◌↔◌, ℕ, List, Ok, Err}
+use Rattle.std.specs.Ordering.{nat_cmp}
+use Rattle.std.specs.FinMap as maps
+use Rattle.t1_font.specs.declared.fault.ReadFault.{ReadFault}
+use Rattle.t1_font.specs.FontValue.{FontValue, name_cmp}
+use Rattle.t1_font.specs.Entries.{map_of, names_of, last_value, unless_notdef}
+use Rattle.t1_font.specs.ReadFont.{read_font}
+use Rattle.t1_font.specs.Spelling.{Spells}
+use Rattle.t1_font.specs.Reasons.{Reason}
+
+-- what is read is what the file spells
+abbrev pub ReadsSpelled : Type 0
+ReadsSpelled = (file : List ℕ) (font : FontValue) → (read_font file ≡ Ok font) ↔ Spells file font
+
+-- a file spells at most one font
+abbrev pub SpellsOne : Type 0
+SpellsOne = (file : List ℕ) (f g : FontValue) → Spells file f → Spells file g → f ≡ g
+
+-- the fault is the reason
+abbrev pub RefusesForReason : Type 0
+RefusesForReason = (file : List ℕ) (e : ReadFault) → (read_font file ≡ Err e) ↔ Reason file e
+
+-- of a repeated index, name or code the last entry stands, and a code whose last name is `.notdef` has none
+pub record LastStands : Type 0 where
+  pub subrs : (es : List (ℕ × List ℕ)) (index : ℕ) → maps.get {R = nat_cmp} (map_of es) index ≡ last_value nat_cmp index es
+  pub glyphs : (es : List (List ℕ × List ℕ)) (name : List ℕ) → maps.get {R = name_cmp} (map_of es) name ≡ last_value name_cmp name es
+  pub codes : (es : List (ℕ × List ℕ)) (code : ℕ) → maps.get {R = nat_cmp} (names_of es) code ≡ unless_notdef (last_value nat_cmp code es)

@@ -1,0 +1,16 @@
+pub mod Words
+pub mod Subrs
+pub mod Views
+pub mod Faults
+pub mod Marks
+pub mod Charstrings
+pub mod Reading
+pub mod Pieces
+pub mod FontValue
+pub mod Entries
+pub mod ReadFont
+pub mod Spelling
+pub mod Reasons
+pub mod Answers
+pub mod Laws
+pub mod Writing

@@ -1,0 +1,196 @@
+-- The markers of font text, and the entries of its tables.
+use Rattle.std.specs.Prelude.{ℕ, ◌+◌, ◌-◌, ◌*◌, ◌==◌, ◌&&◌, ◌||◌, not, nat_le, Bool, true, false, List, [], ◌∷◌, ◌++◌, length, codes, Option, Some, None}
+use Rattle.t1_bytes.specs.Grammar.{Grammar, pure, ◌>>=◌, ◌>>◌, that, run, count, before, fixed, either}
+use Rattle.t1_bytes.specs.White.{is_white, white, gap}
+use Rattle.t1_font.specs.Words.{is_regular, one_white, word, keyword, decimal, name, phrase_of, passes}
+use Rattle.t1_font.specs.Subrs.{length_from}
+
+-- white space comes
+abbrev pub white_comes : List ℕ → Bool
+white_comes [] = false
+white_comes (b ∷ bs) = is_white b
+
+-- white space or a delimiter comes
+abbrev pub break_comes : List ℕ → Bool
+break_comes [] = false
+break_comes (b ∷ bs) = not (is_regular b)
+
+unfoldable pub encoding_mark : Grammar (Unit {0})
+encoding_mark = do
+  fixed (codes "/Encoding")
+  before break_comes
+
+-- the value is the declared count
+unfoldable pub subrs_mark : Grammar ℕ
+subrs_mark = do
+  fixed (codes "/Subrs")
+  gap
+  declared ← decimal
+  gap
+  keyword (codes "array")
+  before white_comes
+  pure declared
+
+unfoldable pub chars_mark : Grammar (Unit {0})
+chars_mark = do
+  fixed (codes "/CharStrings")
+  gap
+  decimal
+  gap
+  keyword (codes "dict")
+  gap
+  keyword (codes "dup")
+  gap
+  keyword (codes "begin")
+  before white_comes
+
+unfoldable pub len_iv_mark : Grammar (Unit {0})
+len_iv_mark = do
+  fixed (codes "/lenIV")
+  before white_comes
+
+unfoldable pub len_iv : Grammar ℕ
+len_iv = do
+  white
+  that (λ n. nat_le n 255) decimal
+
+unfoldable pub closefile : Grammar (List ℕ)
+closefile = fixed (codes "closefile")
+
+-- ---- the Encoding
+
+-- a word that is the whole Encoding
+unfoldable pub encoding_word : Grammar (List ℕ)
+encoding_word = do
+  white
+  w ← word
+  gap
+  keyword (codes "def")
+  pure w
+
+unfoldable pub encoding_table : Grammar (List ℕ)
+encoding_table = do
+  white
+  keyword (codes "256")
+  gap
+  keyword (codes "array")
+
+-- 0 1 255
+abbrev pub loop_range : Grammar (List ℕ)
+loop_range = do
+  white
+  keyword (codes "0")
+  gap
+  keyword (codes "1")
+  gap
+  keyword (codes "255")
+
+-- 1 index exch /.notdef put
+abbrev pub loop_body : Grammar (List ℕ)
+loop_body = do
+  white
+  keyword (codes "1")
+  gap
+  keyword (codes "index")
+  gap
+  keyword (codes "exch")
+  white
+  fixed (codes "/")
+  keyword (codes ".notdef")
+  gap
+  keyword (codes "put")
+
+-- 0 1 255 {1 index exch /.notdef put} for
+unfoldable pub encoding_loop : Grammar (List ℕ)
+encoding_loop = do
+  loop_range
+  white
+  fixed (codes "{")
+  loop_body
+  white
+  fixed (codes "}")
+  white
+  keyword (codes "for")
+
+abbrev pub all_octal : List ℕ → Bool
+all_octal [] = true
+all_octal (b ∷ bs) = nat_le 48 b && nat_le b 55 && all_octal bs
+
+abbrev pub octal_after : ℕ → List ℕ → ℕ
+octal_after n [] = n
+octal_after n (b ∷ bs) = octal_after (n * 8 + (b - 48)) bs
+
+abbrev pub is_octal : List ℕ → Bool
+is_octal w = nat_le 1 (length w) && nat_le (length w) 9 && all_octal w
+
+-- `8#` and 1 to 9 octal digits
+unfoldable pub octal : Grammar ℕ
+octal = do
+  fixed (codes "8#")
+  w ← that is_octal (run is_regular)
+  pure (octal_after 0 w)
+
+unfoldable pub code : Grammar ℕ
+code = that (λ n. nat_le n 255) (either decimal octal)
+
+unfoldable pub code_entry : Grammar (ℕ × List ℕ)
+code_entry = do
+  white
+  keyword (codes "dup")
+  gap
+  c ← code
+  white
+  n ← name
+  gap
+  keyword (codes "put")
+  pure (c, n)
+
+abbrev pub may_be : Grammar (List ℕ) → Grammar (List ℕ)
+may_be g = either g (pure [])
+
+abbrev pub readonly : Grammar (List ℕ)
+readonly = may_be (do
+  keyword (codes "readonly")
+  gap)
+
+unfoldable pub encoding_end : Grammar (List ℕ)
+encoding_end = do
+  white
+  readonly
+  keyword (codes "def")
+
+-- how the Encoding begins: its word, or none before the entries of a table
+unfoldable pub encoding_start : Grammar (Option (List ℕ))
+encoding_start = either (do
+  w ← encoding_word
+  pure (Some w)) (do
+    encoding_table
+    may_be encoding_loop
+    pure None)
+
+-- ---- the glyphs
+
+pub record Glyph : Type 0 where
+  pub name : List ℕ
+  pub rd : List ℕ
+  pub body : List ℕ
+  pub nd : List ℕ
+
+unfoldable pub glyph : ℕ → Grammar Glyph
+glyph iv = do
+  white
+  n ← name
+  gap
+  len ← length_from iv
+  gap
+  rd ← word
+  one_white
+  body ← count len
+  white
+  nd ← phrase_of (passes true)
+  pure (record { name = n; rd = rd; body = body; nd = nd })
+
+unfoldable pub glyphs_end : Grammar (List ℕ)
+glyphs_end = do
+  white
+  keyword (codes "end")

@@ -1,0 +1,115 @@
+-- The pieces of a font's two texts.
+use Rattle.std.specs.Prelude.{ℕ, ◌-◌, ◌||◌, not, nat_lt, List, [], ◌++◌, Bool, length, Option, Some, None, is_some, if◌then◌else◌}
+use Rattle.t1_bytes.specs.Grammar.{first}
+use Rattle.t1_bytes.specs.Eexec.{eexec_mark, cipher_text}
+use Rattle.t1_font.specs.declared.fault.ReadFault.TheVariants.{NoEexec, ShortCipher, NoEncoding, BadEncoding, NoCharStrings, BadLenIV, BadSubrs, BadGlyphs, Hybrid, NoClosefile}
+use Rattle.t1_font.specs.Subrs.{Subr, subr, subrs_end}
+use Rattle.t1_font.specs.Marks.{encoding_mark, encoding_start, code_entry, encoding_end, subrs_mark, chars_mark, len_iv_mark, len_iv, closefile, Glyph, glyph, glyphs_end}
+use Rattle.t1_font.specs.Reading.{Reading, give, ◌>>=◌, ◌>>◌, must, wanted, optional, table}
+
+-- ---- the flat text
+
+pub record FlatPieces : Type 0 where
+  pub clear : List ℕ
+  pub cipher : List ℕ
+
+-- the clear text through the first `currentfile eexec`, and the cipher after it
+unfoldable pub flat_pieces : List ℕ → Reading FlatPieces
+flat_pieces flat = do
+  mark ← wanted NoEexec (first eexec_mark) flat
+  cipher ← wanted ShortCipher cipher_text mark.1
+  give (record { clear = mark.0.0 ++ mark.0.1; cipher = cipher.0 })
+
+-- ---- the clear text
+
+pub data EncodingText : Type 0 where
+  OneWord : List ℕ → EncodingText
+  Puts : List (ℕ × List ℕ) → EncodingText
+
+pub record ClearPieces : Type 0 where
+  pub head : List ℕ
+  pub encoding : EncodingText
+  pub clear_tail : List ℕ
+
+unfoldable pub encoding_from : List ℕ → Option (List ℕ) → List ℕ → Reading (EncodingText × List ℕ)
+encoding_from clear (Some w) rest = give (OneWord w, rest)
+encoding_from clear None rest = do
+  puts ← table BadEncoding (length clear) code_entry encoding_end rest
+  give (Puts puts.0, puts.2)
+
+unfoldable pub clear_pieces : List ℕ → Reading ClearPieces
+clear_pieces clear = do
+  mark ← wanted NoEncoding (first encoding_mark) clear
+  start ← wanted (BadEncoding (length mark.0.0)) encoding_start mark.1
+  encoding ← encoding_from clear start.0 start.1
+  give (record { head = mark.0.0; encoding = encoding.0; clear_tail = encoding.1 })
+
+-- ---- the private text
+
+pub record SubrsPieces : Type 0 where
+  pub declared : ℕ
+  pub entries : List Subr
+  pub closing : List ℕ
+
+pub record PrivatePieces : Type 0 where
+  pub private : List ℕ
+  pub len_iv : ℕ
+  pub subrs : Option SubrsPieces
+  pub middle : List ℕ
+  pub glyphs : List Glyph
+  pub tail : List ℕ
+
+-- the first `/lenIV` decides; without one lenIV is 4
+unfoldable pub iv_at : Option ((List ℕ × Unit {0}) × List ℕ) → Reading ℕ
+iv_at None = give 4
+iv_at (Some mark) = do
+  n ← wanted BadLenIV len_iv mark.1
+  give n.0
+
+unfoldable pub iv_of : List ℕ → Reading ℕ
+iv_of private = do
+  mark ← optional (first len_iv_mark) private
+  iv_at mark
+
+abbrev pub has_subrs : List ℕ → Bool
+has_subrs text = is_some ((first subrs_mark).read text)
+
+-- through the first `closefile`, or to the end
+abbrev pub through : Option ((List ℕ × List ℕ) × List ℕ) → List ℕ → List ℕ
+through None rest = rest
+through (Some x) rest = x.0.0 ++ x.0.1
+
+unfoldable pub tail_after : List ℕ → List ℕ → Reading (List ℕ)
+tail_after middle rest = do
+  close ← optional (first closefile) rest
+  must Hybrid (not (has_subrs middle || has_subrs (through close rest)))
+  end ← wanted NoClosefile (first closefile) rest
+  give (end.0.0 ++ end.0.1)
+
+-- what stands before the CharStrings marker, and the glyphs after it
+unfoldable pub glyphs_from : List ℕ → List ℕ → Option SubrsPieces → List ℕ → ℕ → List ℕ → Reading PrivatePieces
+glyphs_from text private subrs middle iv rest = do
+  glyphs ← table BadGlyphs (length text) (glyph iv) glyphs_end rest
+  tail ← tail_after middle glyphs.2
+  give (record { private = private; len_iv = iv; subrs = subrs; middle = middle; glyphs = glyphs.0; tail = tail })
+
+-- the first Subrs marker, where it stands before the first CharStrings marker
+abbrev pub before_place : ℕ → Option ((List ℕ × ℕ) × List ℕ) → Option ((List ℕ × ℕ) × List ℕ)
+before_place n None = None
+before_place n (Some x) = if nat_lt (length x.0.0) n then Some x else None
+
+unfoldable pub tables_from : List ℕ → (List ℕ × Unit {0}) × List ℕ → Option ((List ℕ × ℕ) × List ℕ) → Reading PrivatePieces
+tables_from text chars None = do
+  iv ← iv_of chars.0.0
+  glyphs_from text chars.0.0 None [] iv chars.1
+tables_from text chars (Some mark) = do
+  iv ← iv_of mark.0.0
+  subrs ← table BadSubrs (length text) (subr mark.0.1 iv) subrs_end mark.1
+  next ← wanted (BadGlyphs (length text - length subrs.2)) (first chars_mark) subrs.2
+  glyphs_from text mark.0.0 (Some (record { declared = mark.0.1; entries = subrs.0; closing = subrs.1 })) next.0.0 iv next.1
+
+unfoldable pub private_pieces : List ℕ → Reading PrivatePieces
+private_pieces text = do
+  chars ← wanted NoCharStrings (first chars_mark) text
+  mark ← optional (first subrs_mark) text
+  tables_from text chars (before_place (length chars.0.0) mark)

@@ -1,0 +1,100 @@
+-- Reading a font file.
+use Rattle.std.specs.Prelude.{◌≡◌, ℕ, ◌&&◌, nat_le, Bool, List, [], ◌∷◌, length, map, Option, Some, None, Result, Ok, Err}
+use Rattle.std.specs.List.{list_any}
+use Rattle.std.specs.Str.{bytes_eq}
+use Rattle.std.specs.Ordering.{nat_cmp}
+use Rattle.std.specs.Option.{option_map}
+use Rattle.t1_bytes.specs.Segments.{IsFlat, IsBad, flat_of}
+use Rattle.t1_bytes.specs.Cipher.{private_text}
+use Rattle.t1_font.specs.Charstrings.{plain_of}
+use Rattle.t1_font.specs.declared.fault.ReadFault.{ReadFault}
+use Rattle.t1_font.specs.declared.fault.ReadFault.TheVariants.{TooLong, BadSegment, NoNotdef, Limit}
+use Rattle.t1_font.specs.FontValue.{SubrsShell, Shell, Encoding, Word, Codes, FontValue, name_cmp, notdef, file_limit, count_limit, weight_limit, weight_of, declared_count}
+use Rattle.t1_font.specs.Entries.{last_entries, map_of, names_of}
+use Rattle.t1_font.specs.Subrs.{Subr}
+use Rattle.t1_font.specs.Pieces.{EncodingText, OneWord, Puts, ClearPieces, SubrsPieces, PrivatePieces, flat_pieces, clear_pieces, private_pieces}
+use Rattle.t1_font.specs.Reading.{Reading, give, ◌>>=◌, ◌>>◌, must}
+
+-- ---- the value of the pieces
+
+abbrev pub encoding_value : EncodingText → Encoding
+encoding_value (OneWord w) = Word w
+encoding_value (Puts puts) = Codes (names_of puts)
+
+abbrev pub subrs_of : Option SubrsPieces → List Subr
+subrs_of None = []
+subrs_of (Some s) = s.entries
+
+-- each Subr of the file, plain
+abbrev pub subr_entries : PrivatePieces → List (ℕ × List ℕ)
+subr_entries p = map (λ s. (s.index, plain_of p.len_iv s.body)) (subrs_of p.subrs)
+
+-- each glyph of the file, plain
+abbrev pub glyph_entries : PrivatePieces → List (List ℕ × List ℕ)
+glyph_entries p = map (λ g. (g.name, plain_of p.len_iv g.body)) p.glyphs
+
+-- of the first entry; nothing where there is none
+abbrev pub of_first : {A : Type 0} → (A → List ℕ) → List A → List ℕ
+of_first f [] = []
+of_first f (x ∷ xs) = f x
+
+-- what is kept of the table of Subrs, beside the Subrs
+abbrev pub subrs_shell : SubrsPieces → SubrsShell
+subrs_shell s = record {
+  declared = s.declared;
+  rd = of_first (λ e. e.rd) s.entries;
+  put = of_first (λ e. e.put) s.entries;
+  closing = s.closing;
+}
+
+abbrev pub shell_of : ClearPieces → PrivatePieces → Shell
+shell_of c p = record {
+  head = c.head;
+  clear_tail = c.clear_tail;
+  private = p.private;
+  middle = p.middle;
+  tail = p.tail;
+  len_iv = p.len_iv;
+  subrs = option_map subrs_shell p.subrs;
+  glyphs_rd = of_first (λ g. g.rd) p.glyphs;
+  glyphs_def = of_first (λ g. g.nd) p.glyphs;
+}
+
+abbrev pub font_of : ClearPieces → PrivatePieces → FontValue
+font_of c p = record { shell = shell_of c p; encoding = encoding_value c.encoding; subrs = map_of (subr_entries p); glyphs = map_of (glyph_entries p) }
+
+-- ---- reading
+
+-- the flat text of a file
+abbrev pub bad_segment : Result (List ℕ) ℕ → Result (List ℕ) ReadFault
+bad_segment (Ok flat) = Ok flat
+bad_segment (Err at) = Err (BadSegment at)
+
+unfoldable pub flat_text : List ℕ → Reading (List ℕ)
+flat_text file = record { Is = IsFlat file; Fails = λ e. (at : ℕ) × IsBad file at × (e ≡ BadSegment at); read = bad_segment (flat_of file) }
+
+abbrev pub has_notdef : PrivatePieces → Bool
+has_notdef p = list_any (λ g. bytes_eq notdef g.name) p.glyphs
+
+-- the limits of a font with these entries
+abbrev pub is_within : Shell → List (ℕ × List ℕ) → List (List ℕ × List ℕ) → Bool
+is_within s subrs glyphs = nat_le (declared_count s.subrs) count_limit && nat_le (length glyphs) count_limit && nat_le (weight_of s subrs glyphs) weight_limit
+
+unfoldable pub font_from : ClearPieces → PrivatePieces → Reading FontValue
+font_from c p = do
+  must NoNotdef (has_notdef p)
+  must Limit (is_within (shell_of c p) (last_entries nat_cmp (subr_entries p)) (last_entries name_cmp (glyph_entries p)))
+  give (font_of c p)
+
+unfoldable pub font_file : List ℕ → Reading FontValue
+font_file file = do
+  must TooLong (nat_le (length file) file_limit)
+  flat ← flat_text file
+  parts ← flat_pieces flat
+  outside ← clear_pieces parts.clear
+  inside ← private_pieces (private_text parts.cipher)
+  font_from outside inside
+
+-- the font of a file, or the first fault that applies
+abbrev pub read_font : List ℕ → Result FontValue ReadFault
+read_font file = (font_file file).read

@@ -1,0 +1,104 @@
+-- Which font a file spells: each piece is a text of its grammar, and each marker is the first of its kind.
+use Rattle.std.specs.Prelude.{◌≡◌, ℕ, ◌≤◌, ◌<◌, true, false, List, [], ◌++◌, length, Option, Some, None}
+use Rattle.std.specs.FinMap as maps
+use Rattle.t1_bytes.specs.Cipher.{Enciphers}
+use Rattle.t1_bytes.specs.Grammar.{Grammar, first, IsTable, AtFront, Lacks}
+use Rattle.t1_bytes.specs.Segments.{IsFlat}
+use Rattle.t1_bytes.specs.Eexec.{eexec_mark, cipher_text}
+use Rattle.t1_font.specs.Subrs.{subr, subrs_end}
+use Rattle.t1_font.specs.Marks.{encoding_mark, encoding_start, code_entry, encoding_end, subrs_mark, chars_mark, len_iv_mark, len_iv, closefile, glyph, glyphs_end}
+use Rattle.t1_font.specs.Pieces.{EncodingText, OneWord, Puts, ClearPieces, SubrsPieces, PrivatePieces, has_subrs}
+use Rattle.t1_font.specs.FontValue.{FontValue, notdef, file_limit, IsWithin}
+use Rattle.t1_font.specs.ReadFont.{font_of}
+
+-- entries and their close stand at the front of bytes, before rest
+abbrev pub TableAt : {A B : Type 0} → Grammar A → Grammar B → List A → B → List ℕ → List ℕ → Type 0
+TableAt entry close xs b bytes rest = (text : List ℕ) × (bytes ≡ text ++ rest) × IsTable entry close xs b text rest
+
+-- clear text through the first `currentfile eexec`, then the cipher's text and a rest
+pub record IsCut (flat clear cipher : List ℕ) : Type 0 where
+  pub front : List ℕ
+  pub own : List ℕ
+  pub after : List ℕ
+  pub rest : List ℕ
+  pub mark : AtFront (first eexec_mark) flat ((front, own), after)
+  pub secret : AtFront cipher_text after (cipher, rest)
+  pub clear_is : clear ≡ front ++ own
+
+abbrev pub SpellsEncoding : EncodingText → List ℕ → List ℕ → Type 0
+SpellsEncoding (OneWord w) bytes rest = AtFront encoding_start bytes (Some w, rest)
+SpellsEncoding (Puts puts) bytes rest = (entries closing : List ℕ) × AtFront encoding_start bytes (None, entries) × TableAt code_entry encoding_end puts closing entries rest
+
+-- the head, the first Encoding, and what stands after it
+pub record IsClear (clear : List ℕ) (c : ClearPieces) : Type 0 where
+  pub after : List ℕ
+  pub mark : AtFront (first encoding_mark) clear ((c.head, tt), after)
+  pub encoding : SpellsEncoding c.encoding after c.clear_tail
+
+-- the first `/lenIV` of the text before the tables says n; without one n is 4
+pub data IsLenIV (private : List ℕ) (n : ℕ) : Type 0 where
+  said : (front after rest : List ℕ) → AtFront (first len_iv_mark) private ((front, tt), after) → AtFront len_iv after (n, rest) → IsLenIV private n
+  unsaid : Lacks len_iv_mark private → n ≡ 4 → IsLenIV private n
+
+-- no Subrs marker stands before a place
+pub data NotBefore (text : List ℕ) (place : ℕ) : Type 0 where
+  nowhere : Lacks subrs_mark text → NotBefore text place
+  later : (front : List ℕ) (declared : ℕ) (after : List ℕ) → AtFront (first subrs_mark) text ((front, declared), after) → place ≤ length front → NotBefore text place
+
+-- where the tables begin: private stands before the marker of Subrs, where there are any, else before that of CharStrings
+abbrev pub Start : List ℕ → List ℕ → Option ℕ → List ℕ → Type 0
+Start text private None rest = AtFront (first chars_mark) text ((private, tt), rest) × NotBefore text (length private)
+Start text private (Some declared) rest = (chars after : List ℕ) × AtFront (first chars_mark) text ((chars, tt), after) × AtFront (first subrs_mark) text ((private, declared), rest) × (length private < length chars)
+
+-- the private text up to its glyphs
+abbrev pub SpellsTables : List ℕ → PrivatePieces → Option SubrsPieces → List ℕ → Type 0
+SpellsTables text p None glyphs = Start text p.private None glyphs × (p.middle ≡ [])
+SpellsTables text p (Some s) glyphs = (entries between : List ℕ) × Start text p.private (Some s.declared) entries × TableAt (subr s.declared p.len_iv) subrs_end s.entries s.closing entries between × AtFront (first chars_mark) between ((p.middle, tt), glyphs)
+
+pub record HasTables (text : List ℕ) (p : PrivatePieces) (glyphs : List ℕ) : Type 0 where
+  pub tables : SpellsTables text p p.subrs glyphs
+  pub len_iv : IsLenIV p.private p.len_iv
+
+-- the private text through its glyphs
+pub record HasGlyphs (text : List ℕ) (p : PrivatePieces) (after : List ℕ) : Type 0 where
+  pub start : List ℕ
+  pub closing : List ℕ
+  pub tables : HasTables text p start
+  pub glyphs : TableAt (glyph p.len_iv) glyphs_end p.glyphs closing start after
+
+pub record IsPrivate (text : List ℕ) (p : PrivatePieces) : Type 0 where
+  pub after : List ℕ
+  pub front : List ℕ
+  pub own : List ℕ
+  pub rest : List ℕ
+  pub before : HasGlyphs text p after
+  pub close : AtFront (first closefile) after ((front, own), rest)
+  pub tail : p.tail ≡ front ++ own
+  pub single : (has_subrs p.middle ≡ false) × (has_subrs p.tail ≡ false)
+
+-- the clear text and the private text of a file
+pub record Texts (file clear text : List ℕ) : Type 0 where
+  pub flat : List ℕ
+  pub cipher : List ℕ
+  pub lead : List ℕ
+  pub short : length file ≤ file_limit
+  pub flat_is : IsFlat file flat
+  pub cut : IsCut flat clear cipher
+  pub secret : Enciphers 55665 (lead ++ text) cipher
+  pub lead_is : length lead ≡ 4
+
+-- the pieces of a file
+pub record HasPieces (file : List ℕ) (outside : ClearPieces) (inside : PrivatePieces) : Type 0 where
+  pub clear : List ℕ
+  pub text : List ℕ
+  pub texts : Texts file clear text
+  pub clear_is : IsClear clear outside
+  pub private_is : IsPrivate text inside
+
+pub record Spells (file : List ℕ) (font : FontValue) : Type 0 where
+  pub outside : ClearPieces
+  pub inside : PrivatePieces
+  pub pieces : HasPieces file outside inside
+  pub value : font ≡ font_of outside inside
+  pub has_notdef : maps.contains_key font.glyphs notdef ≡ true
+  pub within : IsWithin font

@@ -1,0 +1,85 @@
+-- Words of font text: white space, names, decimals and phrases.
+use Rattle.std.specs.Prelude.{ℕ, ◌+◌, ◌-◌, ◌*◌, ◌==◌, ◌&&◌, ◌||◌, not, nat_le, nat_lt, Bool, true, false, List, [], ◌∷◌, ◌++◌, length, codes}
+use Rattle.std.specs.Str.{bytes_eq}
+use Rattle.t1_bytes.specs.Grammar.{Grammar, pure, ◌>>=◌, ◌>>◌, that, run, count, fixed}
+use Rattle.t1_bytes.specs.White.{is_white, gap}
+
+-- ( ) < > [ ] { } / %
+abbrev pub is_delimiter : ℕ → Bool
+is_delimiter b = b == 40 || b == 41 || b == 60 || b == 62 || b == 91 || b == 93 || b == 123 || b == 125 || b == 47 || b == 37
+
+abbrev pub is_regular : ℕ → Bool
+is_regular b = not (is_white b || is_delimiter b)
+
+-- one byte of white space
+abbrev pub starts_white : List ℕ → Bool
+starts_white [] = true
+starts_white (b ∷ bs) = is_white b
+
+unfoldable pub one_white : Grammar (List ℕ)
+one_white = that starts_white (count 1)
+
+abbrev pub is_word : List ℕ → Bool
+is_word w = nat_le 1 (length w) && nat_le (length w) 32
+
+unfoldable pub word : Grammar (List ℕ)
+word = that is_word (run is_regular)
+
+-- the whole word w
+unfoldable pub keyword : List ℕ → Grammar (List ℕ)
+keyword w = that (bytes_eq w) (run is_regular)
+
+abbrev pub is_digit : ℕ → Bool
+is_digit b = nat_le 48 b && nat_le b 57
+
+abbrev pub all_digits : List ℕ → Bool
+all_digits [] = true
+all_digits (b ∷ bs) = is_digit b && all_digits bs
+
+-- the number that digits spell after the number n
+abbrev pub digits_after : ℕ → List ℕ → ℕ
+digits_after n [] = n
+digits_after n (b ∷ bs) = digits_after (n * 10 + (b - 48)) bs
+
+abbrev pub is_decimal : List ℕ → Bool
+is_decimal w = nat_le 1 (length w) && nat_le (length w) 9 && all_digits w
+
+-- a word of 1 to 9 digits
+unfoldable pub decimal : Grammar ℕ
+decimal = do
+  w ← that is_decimal (run is_regular)
+  pure (digits_after 0 w)
+
+abbrev pub is_name : List ℕ → Bool
+is_name w = nat_le 1 (length w) && nat_le (length w) 127
+
+-- a slash and the name
+unfoldable pub name : Grammar (List ℕ)
+name = do
+  fixed (codes "/")
+  that is_name (run is_regular)
+
+-- a word that takes the next one with it
+abbrev pub is_access : List ℕ → Bool
+is_access w = bytes_eq w (codes "noaccess") || bytes_eq w (codes "readonly") || bytes_eq w (codes "executeonly")
+
+abbrev pub is_short : List ℕ → Bool
+is_short w = nat_le (length w) 32
+
+-- what follows the first word of a phrase, each word of which passes a test
+abbrev pub phrase_after : (List ℕ → Bool) → Bool → List ℕ → Grammar (List ℕ)
+phrase_after test true first = that is_short (do
+  gap
+  second ← that test word
+  pure (first ++ codes " " ++ second))
+phrase_after test false first = pure first
+
+-- one word, or an access word and one more; kept with one blank inside
+unfoldable pub phrase_of : (List ℕ → Bool) → Grammar (List ℕ)
+phrase_of test = do
+  first ← that test word
+  phrase_after test (is_access first) first
+
+-- any word, or any but `dup`
+abbrev pub passes : Bool → List ℕ → Bool
+passes may_be_dup w = may_be_dup || not (bytes_eq (codes "dup") w)

@@ -1,0 +1,318 @@
+//! The Encoding of the clear text.
+
+ghost use Rattle.std.specs.Prelude.{◌≡◌, Some, None, if◌then◌else◌, drop, map};
+ghost use Rattle.std.specs.Option.{option_map};
+ghost use Rattle.t1_bytes.specs.Grammar.{first, table_at};
+ghost use Rattle.t1_font.specs.Words.{name};
+ghost use Rattle.t1_font.specs.Marks.{break_comes, encoding_mark, is_octal, octal_after, octal, code, code_entry, encoding_end, encoding_word, encoding_table, loop_range, loop_body, encoding_loop, encoding_start, readonly, may_be};
+ghost use Rattle.t1_font.specs.Faults.{TableGives};
+ghost use Rattle.t1_font.specs.Views.{put_view};
+ghost use Rattle.t1_font.specs.Pieces.{encoding_from, clear_pieces};
+ghost use Rattle.t1_font.specs.Answers.{Answers, encoding_view, clear_view};
+
+use crate::fault::{ReadFault, TableError};
+use crate::words::{decimal_at, is_regular, keyword_at, regular_at, word_at};
+use std::alloc::Global;
+use t1_bytes::texts::{find_from, fixed_at, gap_at, white_at};
+
+fn break_comes(bytes: &[u8]) -> bool
+    ensures { result ≡ break_comes bytes.now }
+{
+    !bytes.is_empty() && !is_regular(bytes[0])
+}
+
+/// The Encoding marker.
+#[tactic(auto, unfolding(crate::specs::Marks::encoding_mark))]
+fn encoding_mark_at(bytes: &[u8]) -> Option<&[u8]>
+    ensures { option_map (λ x. (tt, x.now)) result ≡ encoding_mark.read bytes.now }
+{
+    let (_, rest) = fixed_at(bytes, b"/Encoding")?;
+    if !break_comes(rest) {
+        return None;
+    }
+    Some(rest)
+}
+
+/// A slash and the name after it.
+#[tactic(auto, unfolding(crate::specs::Words::name))]
+pub fn name_at(bytes: &[u8]) -> Option<(&[u8], &[u8])>
+    ensures { option_map (λ x. (x.0.now, x.1.now)) result ≡ name.read bytes.now }
+{
+    let (_, rest) = fixed_at(bytes, b"/")?;
+    let (name, rest) = regular_at(rest);
+    if name.is_empty() || name.len() > 127 {
+        return None;
+    }
+    Some((name, rest))
+}
+
+/// The number that 1 to 9 octal digits spell.
+fn octal_digits(digits: &[u8]) -> Option<u32>
+    ensures { result ≡ (if is_octal digits.now then Some (octal_after 0 digits.now) else None) }
+{
+    if digits.is_empty() || digits.len() > 9 {
+        return None;
+    }
+    let mut value = 0;
+    for b in digits {
+        if *b < b'0' || b'7' < *b {
+            return None;
+        }
+        value = value * 8 + (*b - b'0') as u32;
+    }
+    Some(value)
+}
+
+/// `8#` and octal digits.
+#[tactic(auto, unfolding(crate::specs::Marks::octal))]
+fn octal_at(bytes: &[u8]) -> Option<(u32, &[u8])>
+    ensures { option_map (λ x. (x.0, x.1.now)) result ≡ octal.read bytes.now }
+{
+    let (_, rest) = fixed_at(bytes, b"8#")?;
+    let (digits, rest) = regular_at(rest);
+    let value = octal_digits(digits)?;
+    Some((value, rest))
+}
+
+/// A code, in decimal or in octal digits.
+#[tactic(auto, unfolding(crate::specs::Marks::code))]
+fn code_at(bytes: &[u8]) -> Option<(u8, &[u8])>
+    ensures { option_map (λ x. (x.0, x.1.now)) result ≡ code.read bytes.now }
+{
+    let (value, rest) = match decimal_at(bytes) {
+        Some(found) => found,
+        None => octal_at(bytes)?,
+    };
+    if value > 255 {
+        return None;
+    }
+    Some((value as u8, rest))
+}
+
+/// A code that is given a name.
+#[derive(Clone, Copy)]
+pub struct Put<'a> {
+    pub code: u8,
+    pub name: &'a [u8],
+}
+
+/// An entry of the table.
+#[tactic(auto, unfolding(crate::specs::Marks::code_entry))]
+fn code_entry_at(bytes: &[u8]) -> Option<(Put<'_>, &[u8])>
+    ensures { option_map (λ x. (put_view x.0, x.1.now)) result ≡ code_entry.read bytes.now }
+{
+    let (_, rest) = white_at(bytes);
+    let (_, rest) = keyword_at(rest, b"dup")?;
+    let (_, rest) = gap_at(rest)?;
+    let (code, rest) = code_at(rest)?;
+    let (_, rest) = white_at(rest);
+    let (name, rest) = name_at(rest)?;
+    let (_, rest) = gap_at(rest)?;
+    let (_, rest) = keyword_at(rest, b"put")?;
+    Some((Put { code, name }, rest))
+}
+
+/// `readonly` and white space after it, where they stand.
+fn after_readonly(bytes: &[u8]) -> &[u8]
+    ensures { Some result.now ≡ option_map (λ x. x.1) (readonly.read bytes.now) }
+{
+    if let Some((_, rest)) = keyword_at(bytes, b"readonly") {
+        if let Some((_, rest)) = gap_at(rest) {
+            return rest;
+        }
+    }
+    bytes
+}
+
+/// What closes the table.
+#[tactic(auto, unfolding(crate::specs::Marks::encoding_end))]
+fn encoding_end_at(bytes: &[u8]) -> Option<(&[u8], &[u8])>
+    ensures { option_map (λ x. (x.0.now, x.1.now)) result ≡ encoding_end.read bytes.now }
+{
+    let (_, rest) = white_at(bytes);
+    let rest = after_readonly(rest);
+    keyword_at(rest, b"def")
+}
+
+/// A word that is the whole Encoding.
+#[tactic(auto, unfolding(crate::specs::Marks::encoding_word))]
+fn encoding_word_at(bytes: &[u8]) -> Option<(&[u8], &[u8])>
+    ensures { option_map (λ x. (x.0.now, x.1.now)) result ≡ encoding_word.read bytes.now }
+{
+    let (_, rest) = white_at(bytes);
+    let (word, rest) = word_at(rest)?;
+    let (_, rest) = gap_at(rest)?;
+    let (_, rest) = keyword_at(rest, b"def")?;
+    Some((word, rest))
+}
+
+/// How a table begins.
+#[tactic(auto, unfolding(crate::specs::Marks::encoding_table))]
+fn encoding_table_at(bytes: &[u8]) -> Option<(&[u8], &[u8])>
+    ensures { option_map (λ x. (x.0.now, x.1.now)) result ≡ encoding_table.read bytes.now }
+{
+    let (_, rest) = white_at(bytes);
+    let (_, rest) = keyword_at(rest, b"256")?;
+    let (_, rest) = gap_at(rest)?;
+    keyword_at(rest, b"array")
+}
+
+/// `0 1 255`, which begins the loop.
+fn loop_range_at(bytes: &[u8]) -> Option<(&[u8], &[u8])>
+    ensures { option_map (λ x. (x.0.now, x.1.now)) result ≡ loop_range.read bytes.now }
+{
+    let (_, rest) = white_at(bytes);
+    let (_, rest) = keyword_at(rest, b"0")?;
+    let (_, rest) = gap_at(rest)?;
+    let (_, rest) = keyword_at(rest, b"1")?;
+    let (_, rest) = gap_at(rest)?;
+    keyword_at(rest, b"255")
+}
+
+/// `1 index exch /.notdef put`, which the loop does.
+fn loop_body_at(bytes: &[u8]) -> Option<(&[u8], &[u8])>
+    ensures { option_map (λ x. (x.0.now, x.1.now)) result ≡ loop_body.read bytes.now }
+{
+    let (_, rest) = white_at(bytes);
+    let (_, rest) = keyword_at(rest, b"1")?;
+    let (_, rest) = gap_at(rest)?;
+    let (_, rest) = keyword_at(rest, b"index")?;
+    let (_, rest) = gap_at(rest)?;
+    let (_, rest) = keyword_at(rest, b"exch")?;
+    let (_, rest) = white_at(rest);
+    let (_, rest) = fixed_at(rest, b"/")?;
+    let (_, rest) = keyword_at(rest, b".notdef")?;
+    let (_, rest) = gap_at(rest)?;
+    keyword_at(rest, b"put")
+}
+
+/// The loop that names all codes `.notdef`.
+#[tactic(auto, unfolding(crate::specs::Marks::encoding_loop))]
+fn encoding_loop_at(bytes: &[u8]) -> Option<(&[u8], &[u8])>
+    ensures { option_map (λ x. (x.0.now, x.1.now)) result ≡ encoding_loop.read bytes.now }
+{
+    let (_, rest) = loop_range_at(bytes)?;
+    let (_, rest) = white_at(rest);
+    let (_, rest) = fixed_at(rest, b"{")?;
+    let (_, rest) = loop_body_at(rest)?;
+    let (_, rest) = white_at(rest);
+    let (_, rest) = fixed_at(rest, b"}")?;
+    let (_, rest) = white_at(rest);
+    keyword_at(rest, b"for")
+}
+
+/// The loop, where it stands.
+fn after_loop(bytes: &[u8]) -> &[u8]
+    ensures { Some result.now ≡ option_map (λ x. x.1) ((may_be encoding_loop).read bytes.now) }
+{
+    if let Some((_, rest)) = encoding_loop_at(bytes) {
+        return rest;
+    }
+    bytes
+}
+
+/// How the Encoding begins: its word, or none before the entries of a table.
+#[tactic(auto, unfolding(crate::specs::Marks::encoding_start))]
+fn encoding_start_at(bytes: &[u8]) -> Option<(Option<&[u8]>, &[u8])>
+    ensures { option_map (λ x. (option_map (λ w. w.now) x.0, x.1.now)) result ≡ encoding_start.read bytes.now }
+{
+    if let Some((word, rest)) = encoding_word_at(bytes) {
+        return Some((Some(word), rest));
+    }
+    let (_, rest) = encoding_table_at(bytes)?;
+    Some((None, after_loop(rest)))
+}
+
+/// The entries of the table, and what stands after their close.
+fn puts_at(alloc: Global, bytes: &[u8]) -> Result<(Vec<Put<'_>>, &[u8], &[u8]), TableError>
+    ensures { TableGives (λ x. (map put_view x.0.items, x.1.now, x.2.now)) result (table_at code_entry encoding_end bytes.now) }
+{
+    let mut puts = Vec::new(alloc);
+    let mut rest = bytes;
+    'entries: loop {
+        if let Some((end, after)) = encoding_end_at(rest) {
+            return Ok((puts, end, after));
+        }
+        match code_entry_at(rest) {
+            Some((put, after)) => {
+                puts.push(put)?;
+                rest = after;
+            }
+            None => {
+                let (_, left) = white_at(rest);
+                return Err(TableError::Left(left.len()));
+            }
+        }
+    }
+}
+
+/// What stands before the first Encoding marker, and what stands after it.
+fn first_encoding(bytes: &[u8]) -> Option<(&[u8], &[u8])>
+    ensures { option_map (λ x. ((x.0.now, tt), x.1.now)) result ≡ (first encoding_mark).read bytes.now }
+{
+    let mut from = 0;
+    'places: while let Some(place) = find_from(bytes, b"/Encoding", from) {
+        let (front, here) = bytes.split_at(place);
+        if let Some(rest) = encoding_mark_at(here) {
+            return Some((front, rest));
+        }
+        from = place + 1;
+    }
+    None
+}
+
+/// How the Encoding is spelled.
+pub enum EncodingSpelling<'a> {
+    OneWord(&'a [u8]),
+    Puts(Vec<Put<'a>>),
+}
+
+/// The pieces of the clear text.
+pub struct ClearParts<'a> {
+    pub head: &'a [u8],
+    pub encoding: EncodingSpelling<'a>,
+    pub clear_tail: &'a [u8],
+}
+
+/// The Encoding from its word, or from its table's entries on, in the last part of the clear text.
+#[tactic(auto, unfolding(crate::specs::Pieces::encoding_from))]
+fn encoding_from<'a>(
+    alloc: Global,
+    clear: &[u8],
+    word: Option<&'a [u8]>,
+    rest: &'a [u8],
+) -> Result<(EncodingSpelling<'a>, &'a [u8]), ReadFault>
+    ensures { Answers (λ x. (encoding_view x.0, x.1.now)) result (encoding_from clear.now (option_map (λ w. w.now) word.entry) rest.now) }
+{
+    if let Some(word) = word {
+        return Ok((EncodingSpelling::OneWord(word), rest));
+    }
+    match puts_at(alloc, rest) {
+        Ok((puts, _, after)) => Ok((EncodingSpelling::Puts(puts), after)),
+        Err(TableError::Memory) => Err(ReadFault::Memory),
+        Err(TableError::Left(left)) => Err(ReadFault::BadEncoding {
+            at: clear.len().saturating_sub(left),
+        }),
+    }
+}
+
+/// The head, the Encoding, and the rest of a clear text.
+#[tactic(auto, unfolding(crate::specs::Pieces::clear_pieces))]
+pub fn clear_parts(alloc: Global, clear: &[u8]) -> Result<ClearParts<'_>, ReadFault>
+    ensures { Answers clear_view result (clear_pieces clear.now) }
+{
+    let Some((head, after)) = first_encoding(clear) else {
+        return Err(ReadFault::NoEncoding);
+    };
+    let Some((word, rest)) = encoding_start_at(after) else {
+        return Err(ReadFault::BadEncoding { at: head.len() });
+    };
+    match encoding_from(alloc, clear, word, rest) {
+        Ok((encoding, clear_tail)) => Ok(ClearParts {
+            head,
+            encoding,
+            clear_tail,
+        }),
+        Err(fault) => Err(fault),
+    }
+}

@@ -1,0 +1,112 @@
+//! The table of subroutines.
+
+ghost use Rattle.std.specs.Prelude.{◌≡◌, map};
+ghost use Rattle.std.specs.Option.{option_map};
+ghost use Rattle.t1_font.specs.Subrs.{subr, subrs_end, subrs_at, index_below, length_from};
+ghost use Rattle.t1_font.specs.Faults.{TableGives};
+ghost use Rattle.t1_font.specs.Views.{subr_view, phrase_view};
+
+use crate::fault::TableError;
+use crate::words::{Phrase, decimal_at, keyword_at, one_white_at, phrase_at, word_at};
+use std::alloc::Global;
+use t1_bytes::texts::{count_at, gap_at, white_at};
+
+/// An entry, as it is spelled.
+#[derive(Clone, Copy)]
+pub struct SubrEntry<'a> {
+    pub index: u32,
+    pub rd: &'a [u8],
+    pub body: &'a [u8],
+    pub put: Phrase<'a>,
+}
+
+/// An index below the declared count.
+#[tactic(auto, unfolding(crate::specs::Subrs::index_below))]
+fn index_at(bytes: &[u8], declared: u32) -> Option<(u32, &[u8])>
+    ensures { option_map (λ x. (x.0, x.1.now)) result ≡ (index_below declared).read bytes.now }
+{
+    let (index, rest) = decimal_at(bytes)?;
+    if index < declared {
+        Some((index, rest))
+    } else {
+        None
+    }
+}
+
+/// The length of a charstring with lead bytes.
+#[tactic(auto, unfolding(crate::specs::Subrs::length_from))]
+pub fn length_at(bytes: &[u8], len_iv: u8) -> Option<(u32, &[u8])>
+    ensures { option_map (λ x. (x.0, x.1.now)) result ≡ (length_from len_iv).read bytes.now }
+{
+    let (len, rest) = decimal_at(bytes)?;
+    if len_iv as u32 <= len && len <= 65535 {
+        Some((len, rest))
+    } else {
+        None
+    }
+}
+
+/// An entry of a table with this declared count and lenIV.
+#[tactic(auto, unfolding(crate::specs::Subrs::subr))]
+fn subr_at(bytes: &[u8], declared: u32, len_iv: u8) -> Option<(SubrEntry<'_>, &[u8])>
+    ensures { option_map (λ x. (subr_view x.0, x.1.now)) result ≡ (subr declared len_iv).read bytes.now }
+{
+    let (_, rest) = white_at(bytes);
+    let (_, rest) = keyword_at(rest, b"dup")?;
+    let (_, rest) = gap_at(rest)?;
+    let (index, rest) = index_at(rest, declared)?;
+    let (_, rest) = gap_at(rest)?;
+    let (len, rest) = length_at(rest, len_iv)?;
+    let (_, rest) = gap_at(rest)?;
+    let (rd, rest) = word_at(rest)?;
+    let (_, rest) = one_white_at(rest)?;
+    let (body, rest) = count_at(rest, len as usize)?;
+    let (_, rest) = white_at(rest);
+    let (put, rest) = phrase_at(rest, true)?;
+    Some((
+        SubrEntry {
+            index,
+            rd,
+            body,
+            put,
+        },
+        rest,
+    ))
+}
+
+/// The phrase that closes the table.
+#[tactic(auto, unfolding(crate::specs::Subrs::subrs_end))]
+fn subrs_end_at(bytes: &[u8]) -> Option<(Phrase<'_>, &[u8])>
+    ensures { option_map (λ x. (phrase_view x.0, x.1.now)) result ≡ subrs_end.read bytes.now }
+{
+    let (_, rest) = white_at(bytes);
+    phrase_at(rest, false)
+}
+
+/// The entries, the phrase that closes the table, and what stands after it.
+pub fn subrs_at(
+    alloc: Global,
+    bytes: &[u8],
+    declared: u32,
+    len_iv: u8,
+) -> Result<(Vec<SubrEntry<'_>>, Phrase<'_>, &[u8]), TableError>
+    ensures { TableGives (λ x. (map subr_view x.0.items, phrase_view x.1, x.2.now)) result (subrs_at declared len_iv bytes.now) }
+{
+    let mut entries = Vec::new(alloc);
+    let mut rest = bytes;
+    'entries: loop {
+        if let Some((end, after)) = subrs_end_at(rest) {
+            return Ok((entries, end, after));
+        }
+        match subr_at(rest, declared, len_iv) {
+            Some((entry, after)) => {
+                entries.push(entry)?;
+                rest = after;
+            }
+            None => {
+                let (_, left) = white_at(rest);
+                return Err(TableError::Left(left.len()));
+            }
+        }
+    }
+}

@@ -1,0 +1,158 @@
+//! Words of font text.
+
+ghost use Rattle.std.specs.Prelude.{◌≡◌, length, take_while, Some, None, if◌then◌else◌};
+ghost use Rattle.std.specs.Option.{option_map};
+ghost use Rattle.t1_bytes.specs.Grammar.{run, that};
+ghost use Rattle.t1_font.specs.Words.{is_delimiter, is_regular, one_white, word, keyword, decimal, digits_after, is_decimal, is_access, phrase_of, passes};
+ghost use Rattle.t1_font.specs.Views.{phrase_view};
+
+use t1_bytes::texts::{count_at, gap_at, is_white};
+
+fn is_delimiter(byte: u8) -> bool
+    ensures { result ≡ is_delimiter byte }
+{
+    matches!(
+        byte,
+        b'(' | b')' | b'<' | b'>' | b'[' | b']' | b'{' | b'}' | b'/' | b'%'
+    )
+}
+
+pub fn is_regular(byte: u8) -> bool
+    ensures { result ≡ is_regular byte }
+{
+    !(is_white(byte) || is_delimiter(byte))
+}
+
+/// How many regular bytes come first.
+fn regular_len(bytes: &[u8]) -> usize
+    ensures { result ≡ length (take_while is_regular bytes.now) }
+{
+    bytes.iter().take_while(|b| is_regular(**b)).count()
+}
+
+/// A run of regular bytes at the front, and what stands after it.
+pub fn regular_at(bytes: &[u8]) -> (&[u8], &[u8])
+    ensures { Some (result.0.now, result.1.now) ≡ (run is_regular).read bytes.now }
+{
+    bytes.split_at(regular_len(bytes))
+}
+
+/// One byte of white space.
+#[tactic(auto, unfolding(crate::specs::Words::one_white))]
+pub fn one_white_at(bytes: &[u8]) -> Option<(&[u8], &[u8])>
+    ensures { option_map (λ x. (x.0.now, x.1.now)) result ≡ one_white.read bytes.now }
+{
+    let (front, rest) = count_at(bytes, 1)?;
+    if !is_white(front[0]) {
+        return None;
+    }
+    Some((front, rest))
+}
+
+/// A word of 1 to 32 bytes.
+#[tactic(auto, unfolding(crate::specs::Words::word))]
+pub fn word_at(bytes: &[u8]) -> Option<(&[u8], &[u8])>
+    ensures { option_map (λ x. (x.0.now, x.1.now)) result ≡ word.read bytes.now }
+{
+    let (front, rest) = regular_at(bytes);
+    if front.is_empty() || front.len() > 32 {
+        return None;
+    }
+    Some((front, rest))
+}
+
+/// The whole word `word`.
+#[tactic(auto, unfolding(crate::specs::Words::keyword))]
+pub fn keyword_at<'a>(bytes: &'a [u8], word: &[u8]) -> Option<(&'a [u8], &'a [u8])>
+    ensures { option_map (λ x. (x.0.now, x.1.now)) result ≡ (keyword word.now).read bytes.now }
+{
+    let (front, rest) = regular_at(bytes);
+    if word == front {
+        Some((front, rest))
+    } else {
+        None
+    }
+}
+
+/// The number that a word of 1 to 9 digits spells.
+fn decimal_of(word: &[u8]) -> Option<u32>
+    ensures { result ≡ (if is_decimal word.now then Some (digits_after 0 word.now) else None) }
+{
+    if word.is_empty() || word.len() > 9 {
+        return None;
+    }
+    let mut value = 0;
+    for b in word {
+        if *b < b'0' || b'9' < *b {
+            return None;
+        }
+        value = value * 10 + (*b - b'0') as u32;
+    }
+    Some(value)
+}
+
+/// A word of 1 to 9 digits.
+#[tactic(auto, unfolding(crate::specs::Words::decimal))]
+pub fn decimal_at(bytes: &[u8]) -> Option<(u32, &[u8])>
+    ensures { option_map (λ x. (x.0, x.1.now)) result ≡ decimal.read bytes.now }
+{
+    let (digits, rest) = regular_at(bytes);
+    let value = decimal_of(digits)?;
+    Some((value, rest))
+}
+
+/// One word, or an access word and one more.
+#[derive(Clone, Copy)]
+pub struct Phrase<'a> {
+    pub access: Option<&'a [u8]>,
+    pub word: &'a [u8],
+}
+
+/// Whether a word takes the next one with it.
+fn is_access(word: &[u8]) -> bool
+    ensures { result ≡ is_access word.now }
+{
+    word == b"noaccess".as_slice()
+        || word == b"readonly".as_slice()
+        || word == b"executeonly".as_slice()
+}
+
+/// A word, which may be barred from being `dup`.
+fn passing_word_at(bytes: &[u8], may_be_dup: bool) -> Option<(&[u8], &[u8])>
+    ensures { option_map (λ x. (x.0.now, x.1.now)) result ≡ (that (passes may_be_dup) word).read bytes.now }
+{
+    let (front, rest) = word_at(bytes)?;
+    if may_be_dup || b"dup".as_slice() != front {
+        return Some((front, rest));
+    }
+    None
+}
+
+/// A phrase, whose words may be barred from being `dup`.
+#[tactic(auto, unfolding(crate::specs::Words::phrase_of))]
+pub fn phrase_at(bytes: &[u8], may_be_dup: bool) -> Option<(Phrase<'_>, &[u8])>
+    ensures { option_map (λ x. (phrase_view x.0, x.1.now)) result ≡ (phrase_of (passes may_be_dup)).read bytes.now }
+{
+    let (first, rest) = passing_word_at(bytes, may_be_dup)?;
+    if !is_access(first) {
+        return Some((
+            Phrase {
+                access: None,
+                word: first,
+            },
+            rest,
+        ));
+    }
+    let (_, rest) = gap_at(rest)?;
+    let (second, rest) = passing_word_at(rest, may_be_dup)?;
+    if first.len() + 1 + second.len() > 32 {
+        return None;
+    }
+    Some((
+        Phrase {
+            access: Some(first),
+            word: second,
+        },
+        rest,
+    ))
+}
