@@ -3,6 +3,9 @@ pub mod SubrLemmas
 pub mod MarkLemmas
 pub mod EntryLemmas
 pub mod MapLaws
+pub mod MapModels
+pub mod TableLoops
+pub mod HeldLemmas
 pub mod ValueLaws
 pub mod ReadingLaws
 pub mod ReadLaws

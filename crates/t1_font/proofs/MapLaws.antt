@@ -1,5 +1,5 @@
 -- The maps of a font's entries: each key has its last value.
-use Rattle.std.proofs.Common.{◌≡◌, ℕ, Bool, true, false, cond, ◌&&◌, T, List, [], ◌∷◌, length, Option, Some, None, refl, sym, ap, ◌∙◌, inl, inr}
+use Rattle.std.proofs.Common.{◌≡◌, ℕ, ◌+◌, ◌≤◌, ◌++◌, subst, arith, Bool, true, false, cond, ◌&&◌, T, List, [], ◌∷◌, length, Option, Some, None, refl, sym, ap, ◌∙◌, inl, inr}
 use Rattle.std.specs.Prelude.{filter}
 use Rattle.std.specs.Ordering.{is_lt, is_eq}
 use Rattle.std.specs.declared.cmp.Ordering.{Ordering}
@@ -111,3 +111,58 @@ module _ {K : Type 0} {R : K → K → Ordering} (o : IsTotalOrder R) (same : Is
   -- the last put on a code stands; `.notdef` means none
   pub get-names_of : (es : List (K × List ℕ)) (q : K) → maps.get {R = R} (names_of es) q ≡ unless_notdef (last_value R q es)
   get-names_of es q = maps.get-from_sorted R (last_names R es) q (names_sorted es) ∙ (find_names q (last_entries R es) (last_sorted es) ∙ ap unless_notdef (find-last q es))
+
+  -- ---- one more entry
+
+  choice-cond : (b : Bool) (v : List ℕ) (rest x : Option (List ℕ)) → choice (cond b (Some v) rest) x ≡ cond b (Some v) (choice rest x)
+  choice-cond true v rest x = refl
+  choice-cond false v rest x = refl
+
+  pub last_value-append : (q : K) (es : List (K × List ℕ)) (e : K × List ℕ) → last_value R q (es ++ e ∷ []) ≡ cond (is_eq (R q e.0)) (Some e.1) (last_value R q es)
+  last_value-append q [] e = refl
+  last_value-append q (d ∷ ds) e = ap (λ o. choice o (cond (is_eq (R q d.0)) (Some d.1) None)) (last_value-append q ds e) ∙ choice-cond (is_eq (R q e.0)) e.1 (last_value R q ds) (cond (is_eq (R q d.0)) (Some d.1) None)
+
+  -- the last entry is put in the map of those before it
+  pub map_of-append : (es : List (K × List ℕ)) (e : K × List ℕ) → map_of {R = R} (es ++ e ∷ []) ≡ maps.insert (map_of es) e.0 e.1
+  map_of-append es e = maps.same_map o same _ _ (λ q.
+      get-map_of (es ++ e ∷ []) q
+      ∙ (last_value-append q es e
+      ∙ (ap (cond (is_eq (R q e.0)) (Some e.1)) (sym (get-map_of es q)) ∙ sym (maps.get-insert o (map_of es) e.0 e.1 q))))
+
+  -- and its name stands at its code, or takes the name of the code away
+  pub names_of-put : (es : List (K × List ℕ)) (e : K × List ℕ) → has_name e ≡ true → names_of {R = R} (es ++ e ∷ []) ≡ maps.insert (names_of es) e.0 e.1
+  names_of-put es e n = maps.same_map o same _ _ (λ q.
+      get-names_of (es ++ e ∷ []) q
+      ∙ (ap unless_notdef (last_value-append q es e)
+      ∙ (by_key (is_eq (R q e.0)) (last_value R q es)
+      ∙ (ap (cond (is_eq (R q e.0)) (Some e.1)) (sym (get-names_of es q)) ∙ sym (maps.get-insert o (names_of es) e.0 e.1 q)))))
+    where
+      by_key : (b : Bool) (rest : Option (List ℕ)) → unless_notdef (cond b (Some e.1) rest) ≡ cond b (Some e.1) (unless_notdef rest)
+      by_key true rest = rw n refl
+      by_key false rest = refl
+
+  pub names_of-notdef : (es : List (K × List ℕ)) (e : K × List ℕ) → has_name e ≡ false → names_of {R = R} (es ++ e ∷ []) ≡ maps.remove (names_of es) e.0
+  names_of-notdef es e n = maps.same_map o same _ _ (λ q.
+      get-names_of (es ++ e ∷ []) q
+      ∙ (ap unless_notdef (last_value-append q es e)
+      ∙ (by_key (is_eq (R q e.0)) (last_value R q es)
+      ∙ (ap (cond (is_eq (R q e.0)) None) (sym (get-names_of es q)) ∙ sym (maps.get-remove o (names_of es) e.0 q)))))
+    where
+      by_key : (b : Bool) (rest : Option (List ℕ)) → unless_notdef (cond b (Some e.1) rest) ≡ cond b None (unless_notdef rest)
+      by_key true rest = rw n refl
+      by_key false rest = refl
+
+  -- a map never loses an entry by one more
+  pub len-grows : {X : Type 0} (m : FinMap R X) (k : K) (v : X) → maps.len m ≤ maps.len (maps.insert m k v)
+  len-grows m k v = subst (λ n. maps.len m ≤ n) (sym (maps.len-insert o m k v)) (by_key (maps.contains_key m k))
+    where
+      by_key : (b : Bool) → maps.len m ≤ cond b (maps.len m) (maps.len m + 1)
+      by_key true = omega arith
+      by_key false = omega arith
+
+  -- no entries make an empty map
+  pub map_of-nil : map_of {R = R} [] ≡ maps.empty
+  map_of-nil = maps.same_map o same _ _ (λ q. get-map_of [] q ∙ sym (maps.get-empty R q))
+
+  pub names_of-nil : names_of {R = R} [] ≡ maps.empty
+  names_of-nil = maps.same_map o same _ _ (λ q. get-names_of [] q ∙ sym (maps.get-empty R q))

@@ -8,9 +8,11 @@ pub mod Reading
 pub mod Pieces
 pub mod FontValue
 pub mod Entries
+pub mod MapModels
 pub mod ReadFont
 pub mod Spelling
 pub mod Reasons
+pub mod Held
 pub mod Answers
 pub mod Laws
 pub mod Writing

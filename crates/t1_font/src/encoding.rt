@@ -1,18 +1,22 @@
 //! The Encoding of the clear text.
 
-ghost use Rattle.std.specs.Prelude.{◌≡◌, Some, None, if◌then◌else◌, drop, map};
+ghost use Rattle.std.specs.Prelude.{◌≡◌, ◌++◌, ◌∷◌, [], ℕ, List, OnOk, Some, None, if◌then◌else◌};
 ghost use Rattle.std.specs.Option.{option_map};
 ghost use Rattle.t1_bytes.specs.Grammar.{first, table_at};
 ghost use Rattle.t1_font.specs.Words.{name};
 ghost use Rattle.t1_font.specs.Marks.{break_comes, encoding_mark, is_octal, octal_after, octal, code, code_entry, encoding_end, encoding_word, encoding_table, loop_range, loop_body, encoding_loop, encoding_start, readonly, may_be};
-ghost use Rattle.t1_font.specs.Faults.{TableGives};
+ghost use Rattle.t1_font.specs.Entries.{names_of};
+ghost use Rattle.t1_font.specs.Held.{TableHeld};
+ghost use Rattle.t1_font.specs.ReadFont.{encoding_value};
 ghost use Rattle.t1_font.specs.Views.{put_view};
 ghost use Rattle.t1_font.specs.Pieces.{encoding_from, clear_pieces};
-ghost use Rattle.t1_font.specs.Answers.{Answers, encoding_view, clear_view};
+ghost use Rattle.t1_font.specs.Answers.{Shown, encoding_view, ShowsClear};
 
 use crate::fault::{ReadFault, TableError};
+use crate::glyphs::is_notdef;
+use crate::maps::Numbered;
 use crate::words::{decimal_at, is_regular, keyword_at, regular_at, word_at};
-use std::alloc::Global;
+use std::alloc::{AllocError, Global};
 use t1_bytes::texts::{find_from, fixed_at, gap_at, white_at};
 
 fn break_comes(bytes: &[u8]) -> bool
@@ -124,14 +128,14 @@ fn after_readonly(bytes: &[u8]) -> &[u8]
     bytes
 }
 
-/// What closes the table.
+/// What stands after the close of the table.
 #[tactic(auto, unfolding(crate::specs::Marks::encoding_end))]
-fn encoding_end_at(bytes: &[u8]) -> Option<(&[u8], &[u8])>
-    ensures { option_map (λ x. (x.0.now, x.1.now)) result ≡ encoding_end.read bytes.now }
+fn encoding_end_at(bytes: &[u8]) -> Option<&[u8]>
+    ensures { option_map (λ x. x.now) result ≡ option_map (λ x. x.1) (encoding_end.read bytes.now) }
 {
     let (_, rest) = white_at(bytes);
-    let rest = after_readonly(rest);
-    keyword_at(rest, b"def")
+    let (_, rest) = keyword_at(after_readonly(rest), b"def")?;
+    Some(rest)
 }
 
 /// A word that is the whole Encoding.
@@ -223,26 +227,34 @@ fn encoding_start_at(bytes: &[u8]) -> Option<(Option<&[u8]>, &[u8])>
     Some((None, after_loop(rest)))
 }
 
-/// The entries of the table, and what stands after their close.
-fn puts_at(alloc: Global, bytes: &[u8]) -> Result<(Vec<Put<'_>>, &[u8], &[u8]), TableError>
-    ensures { TableGives (λ x. (map put_view x.0.items, x.1.now, x.2.now)) result (table_at code_entry encoding_end bytes.now) }
+/// Puts a name at its code; `.notdef` takes the code's name away.
+fn keep_put(names: &mut Numbered, alloc: Global, put: Put<'_>) -> Result<(), AllocError>
+    ensures { OnOk result ((es : List (ℕ × List ℕ)) → names.old ≡ names_of es → names.new ≡ names_of (es ++ put_view put.entry ∷ [])) }
 {
-    let mut puts = Vec::new(alloc);
+    if is_notdef(put.name) {
+        names.remove(put.code as u16);
+        return Ok(());
+    }
+    names.insert(put.code as u16, Vec::from_slice(alloc, put.name)?)?;
+    Ok(())
+}
+
+/// The entries of the table, and what stands after their close.
+fn puts_at(alloc: Global, bytes: &[u8]) -> Result<(Numbered, &[u8]), TableError>
+    ensures { TableHeld (λ x es close rest. (x.0 ≡ names_of es) × (x.1.now ≡ rest)) result (table_at code_entry encoding_end bytes.now) }
+{
+    let mut names = Numbered::new(alloc);
     let mut rest = bytes;
     'entries: loop {
-        if let Some((end, after)) = encoding_end_at(rest) {
-            return Ok((puts, end, after));
+        if let Some(after) = encoding_end_at(rest) {
+            return Ok((names, after));
         }
-        match code_entry_at(rest) {
-            Some((put, after)) => {
-                puts.push(put)?;
-                rest = after;
-            }
-            None => {
-                let (_, left) = white_at(rest);
-                return Err(TableError::Left(left.len()));
-            }
-        }
+        let Some((put, after)) = code_entry_at(rest) else {
+            let (_, left) = white_at(rest);
+            return Err(TableError::Left(left.len()));
+        };
+        keep_put(&mut names, alloc, put)?;
+        rest = after;
     }
 }
 
@@ -261,34 +273,32 @@ fn first_encoding(bytes: &[u8]) -> Option<(&[u8], &[u8])>
     None
 }
 
-/// How the Encoding is spelled.
-pub enum EncodingSpelling<'a> {
+/// The Encoding: its word, or the names of its codes.
+#[derive(Drop)]
+pub enum EncodingParts<'a> {
     OneWord(&'a [u8]),
-    Puts(Vec<Put<'a>>),
+    Puts(Numbered),
 }
 
 /// The pieces of the clear text.
+#[derive(Drop)]
 pub struct ClearParts<'a> {
     pub head: &'a [u8],
-    pub encoding: EncodingSpelling<'a>,
+    pub encoding: EncodingParts<'a>,
     pub clear_tail: &'a [u8],
 }
 
-/// The Encoding from its word, or from its table's entries on, in the last part of the clear text.
+/// The names of the table's codes, in the last part of the clear text.
 #[tactic(auto, unfolding(crate::specs::Pieces::encoding_from))]
-fn encoding_from<'a>(
+fn table_from<'a>(
     alloc: Global,
     clear: &[u8],
-    word: Option<&'a [u8]>,
     rest: &'a [u8],
-) -> Result<(EncodingSpelling<'a>, &'a [u8]), ReadFault>
-    ensures { Answers (λ x. (encoding_view x.0, x.1.now)) result (encoding_from clear.now (option_map (λ w. w.now) word.entry) rest.now) }
+) -> Result<(EncodingParts<'a>, &'a [u8]), ReadFault>
+    ensures { Shown (λ x e. (encoding_view x.0 ≡ encoding_value e.0) × (x.1.now ≡ e.1)) result (encoding_from clear.now None rest.now) }
 {
-    if let Some(word) = word {
-        return Ok((EncodingSpelling::OneWord(word), rest));
-    }
     match puts_at(alloc, rest) {
-        Ok((puts, _, after)) => Ok((EncodingSpelling::Puts(puts), after)),
+        Ok((names, after)) => Ok((EncodingParts::Puts(names), after)),
         Err(TableError::Memory) => Err(ReadFault::Memory),
         Err(TableError::Left(left)) => Err(ReadFault::BadEncoding {
             at: clear.len().saturating_sub(left),
@@ -296,10 +306,26 @@ fn encoding_from<'a>(
     }
 }
 
+/// The Encoding from its word, or from its table's entries on.
+#[tactic(auto, unfolding(crate::specs::Pieces::encoding_from))]
+fn encoding_from<'a>(
+    alloc: Global,
+    clear: &[u8],
+    word: Option<&'a [u8]>,
+    rest: &'a [u8],
+) -> Result<(EncodingParts<'a>, &'a [u8]), ReadFault>
+    ensures { Shown (λ x e. (encoding_view x.0 ≡ encoding_value e.0) × (x.1.now ≡ e.1)) result (encoding_from clear.now (option_map (λ w. w.now) word.entry) rest.now) }
+{
+    match word {
+        Some(word) => Ok((EncodingParts::OneWord(word), rest)),
+        None => table_from(alloc, clear, rest),
+    }
+}
+
 /// The head, the Encoding, and the rest of a clear text.
 #[tactic(auto, unfolding(crate::specs::Pieces::clear_pieces))]
 pub fn clear_parts(alloc: Global, clear: &[u8]) -> Result<ClearParts<'_>, ReadFault>
-    ensures { Answers clear_view result (clear_pieces clear.now) }
+    ensures { Shown ShowsClear result (clear_pieces clear.now) }
 {
     let Some((head, after)) = first_encoding(clear) else {
         return Err(ReadFault::NoEncoding);

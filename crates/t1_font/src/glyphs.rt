@@ -1,19 +1,23 @@
-//! The table of glyphs, and the markers of the private text.
+//! The table of glyphs.
 
-ghost use Rattle.std.specs.Prelude.{◌≡◌, map};
+ghost use Rattle.std.specs.Prelude.{◌≡◌, ◌≤◌, ◌++◌, ◌∷◌, [], List, OnOk, IfSome, length};
 ghost use Rattle.std.specs.Option.{option_map};
-ghost use Rattle.t1_bytes.specs.Grammar.{first, table_at};
-ghost use Rattle.t1_font.specs.Marks.{chars_mark, len_iv_mark, len_iv, closefile, glyph, glyphs_end};
-ghost use Rattle.t1_font.specs.Faults.{TableGives};
+ghost use Rattle.std.specs.Str.{bytes_eq};
+ghost use Rattle.t1_font.specs.FontValue.{notdef};
+ghost use Rattle.t1_bytes.specs.Grammar.{table_at};
+ghost use Rattle.t1_font.specs.Marks.{Glyph, glyph, glyphs_end};
+ghost use Rattle.t1_font.specs.Held.{HoldsGlyphs, IsGlyphTable, TableHeld};
 ghost use Rattle.t1_font.specs.Views.{glyph_view};
 
+use crate::charstrings::plain;
 use crate::encoding::name_at;
 use crate::fault::TableError;
-use crate::marks::white_comes;
+use crate::limits::COUNT_LIMIT;
+use crate::maps::Named;
 use crate::subrs::length_at;
-use crate::words::{Phrase, decimal_at, keyword_at, one_white_at, phrase_at, word_at};
-use std::alloc::Global;
-use t1_bytes::texts::{count_at, find_from, fixed_at, gap_at, white_at};
+use crate::words::{Phrase, Words, first_words, keyword_at, one_white_at, phrase_at, word_at};
+use std::alloc::{AllocError, Global};
+use t1_bytes::texts::{count_at, gap_at, white_at};
 
 /// An entry, as it is spelled.
 #[derive(Clone, Copy)]
@@ -27,7 +31,8 @@ pub struct GlyphEntry<'a> {
 /// An entry of a table with this lenIV.
 #[tactic(auto, unfolding(crate::specs::Marks::glyph))]
 fn glyph_at(bytes: &[u8], len_iv: u8) -> Option<(GlyphEntry<'_>, &[u8])>
-    ensures { option_map (λ x. (glyph_view x.0, x.1.now)) result ≡ (glyph len_iv).read bytes.now }
+    ensures value { option_map (λ x. (glyph_view x.0, x.1.now)) result ≡ (glyph len_iv).read bytes.now }
+    ensures length { IfSome result (λ x. len_iv ≤ length x.0.body.now) }
 {
     let (_, rest) = white_at(bytes);
     let (name, rest) = name_at(rest)?;
@@ -42,113 +47,79 @@ fn glyph_at(bytes: &[u8], len_iv: u8) -> Option<(GlyphEntry<'_>, &[u8])>
     Some((GlyphEntry { name, rd, body, nd }, rest))
 }
 
-/// What closes the table.
+/// What stands after the close of the table.
 #[tactic(auto, unfolding(crate::specs::Marks::glyphs_end))]
-fn glyphs_end_at(bytes: &[u8]) -> Option<(&[u8], &[u8])>
-    ensures { option_map (λ x. (x.0.now, x.1.now)) result ≡ glyphs_end.read bytes.now }
+fn glyphs_end_at(bytes: &[u8]) -> Option<&[u8]>
+    ensures { option_map (λ x. x.now) result ≡ option_map (λ x. x.1) (glyphs_end.read bytes.now) }
 {
     let (_, rest) = white_at(bytes);
-    keyword_at(rest, b"end")
+    let (_, rest) = keyword_at(rest, b"end")?;
+    Some(rest)
 }
 
-/// The entries, what closes them, and what stands after that.
+/// A table of glyphs. Where there are more than a font may have, not all of them are in `bodies`.
+#[derive(Drop)]
+pub struct GlyphTable<'a> {
+    pub len_iv: u8,
+    pub words: Option<Words<'a>>,
+    pub bodies: Named,
+    pub has_notdef: bool,
+}
+
+/// Keeps the plain charstring of one more entry, unless there are more than a font may have.
+fn keep_glyph(
+    bodies: &mut Named,
+    alloc: Global,
+    entry: GlyphEntry<'_>,
+    len_iv: u8,
+) -> Result<(), AllocError>
+    requires { len_iv ≤ length entry.body.now }
+    ensures { OnOk result ((es : List Glyph) → HoldsGlyphs len_iv bodies.old es → HoldsGlyphs len_iv bodies.new (es ++ glyph_view entry.entry ∷ [])) }
+{
+    if bodies.len() > COUNT_LIMIT {
+        return Ok(());
+    }
+    let name = Vec::from_slice(alloc, entry.name)?;
+    bodies.insert(name, plain(alloc, entry.body, len_iv)?)?;
+    Ok(())
+}
+
+/// Whether a name is the one that each font has.
+pub fn is_notdef(name: &[u8]) -> bool
+    ensures { result ≡ bytes_eq notdef name.now }
+{
+    b".notdef".as_slice() == name
+}
+
+/// The entries, and what stands after what closes them.
 pub fn glyphs_at(
     alloc: Global,
     bytes: &[u8],
     len_iv: u8,
-) -> Result<(Vec<GlyphEntry<'_>>, &[u8], &[u8]), TableError>
-    ensures { TableGives (λ x. (map glyph_view x.0.items, x.1.now, x.2.now)) result (table_at (glyph len_iv) glyphs_end bytes.now) }
+) -> Result<(GlyphTable<'_>, &[u8]), TableError>
+    ensures { TableHeld (λ x es close rest. IsGlyphTable len_iv x.0 es × (x.1.now ≡ rest)) result (table_at (glyph len_iv) glyphs_end bytes.now) }
 {
-    let mut entries = Vec::new(alloc);
+    let mut words = None;
+    let mut bodies = Named::new(alloc);
+    let mut has_notdef = false;
     let mut rest = bytes;
     'entries: loop {
-        if let Some((end, after)) = glyphs_end_at(rest) {
-            return Ok((entries, end, after));
+        if let Some(after) = glyphs_end_at(rest) {
+            let table = GlyphTable {
+                len_iv,
+                words,
+                bodies,
+                has_notdef,
+            };
+            return Ok((table, after));
         }
-        match glyph_at(rest, len_iv) {
-            Some((entry, after)) => {
-                entries.push(entry)?;
-                rest = after;
-            }
-            None => {
-                let (_, left) = white_at(rest);
-                return Err(TableError::Left(left.len()));
-            }
-        }
+        let Some((entry, after)) = glyph_at(rest, len_iv) else {
+            let (_, left) = white_at(rest);
+            return Err(TableError::Left(left.len()));
+        };
+        words = Some(first_words(words, entry.rd, entry.nd));
+        has_notdef |= is_notdef(entry.name);
+        keep_glyph(&mut bodies, alloc, entry, len_iv)?;
+        rest = after;
     }
-}
-
-/// The CharStrings marker.
-#[tactic(auto, unfolding(crate::specs::Marks::chars_mark))]
-fn chars_mark_at(bytes: &[u8]) -> Option<&[u8]>
-    ensures { option_map (λ x. (tt, x.now)) result ≡ chars_mark.read bytes.now }
-{
-    let (_, rest) = fixed_at(bytes, b"/CharStrings")?;
-    let (_, rest) = gap_at(rest)?;
-    let (_, rest) = decimal_at(rest)?;
-    let (_, rest) = gap_at(rest)?;
-    let (_, rest) = keyword_at(rest, b"dict")?;
-    let (_, rest) = gap_at(rest)?;
-    let (_, rest) = keyword_at(rest, b"dup")?;
-    let (_, rest) = gap_at(rest)?;
-    let (_, rest) = keyword_at(rest, b"begin")?;
-    if !white_comes(rest) {
-        return None;
-    }
-    Some(rest)
-}
-
-/// What stands before the first CharStrings marker, and what stands after it.
-pub fn first_chars(bytes: &[u8]) -> Option<(&[u8], &[u8])>
-    ensures { option_map (λ x. ((x.0.now, tt), x.1.now)) result ≡ (first chars_mark).read bytes.now }
-{
-    let mut from = 0;
-    'places: while let Some(place) = find_from(bytes, b"/CharStrings", from) {
-        let (front, here) = bytes.split_at(place);
-        if let Some(rest) = chars_mark_at(here) {
-            return Some((front, rest));
-        }
-        from = place + 1;
-    }
-    None
-}
-
-/// The mark of lenIV.
-#[tactic(auto, unfolding(crate::specs::Marks::len_iv_mark))]
-fn len_iv_mark_at(bytes: &[u8]) -> Option<&[u8]>
-    ensures { option_map (λ x. (tt, x.now)) result ≡ len_iv_mark.read bytes.now }
-{
-    let (_, rest) = fixed_at(bytes, b"/lenIV")?;
-    if !white_comes(rest) {
-        return None;
-    }
-    Some(rest)
-}
-
-/// What stands before the first mark of lenIV, and what stands after it.
-pub fn first_len_iv(bytes: &[u8]) -> Option<(&[u8], &[u8])>
-    ensures { option_map (λ x. ((x.0.now, tt), x.1.now)) result ≡ (first len_iv_mark).read bytes.now }
-{
-    let mut from = 0;
-    'places: while let Some(place) = find_from(bytes, b"/lenIV", from) {
-        let (front, here) = bytes.split_at(place);
-        if let Some(rest) = len_iv_mark_at(here) {
-            return Some((front, rest));
-        }
-        from = place + 1;
-    }
-    None
-}
-
-/// The number of lead bytes.
-#[tactic(auto, unfolding(crate::specs::Marks::len_iv))]
-pub fn len_iv_at(bytes: &[u8]) -> Option<(u8, &[u8])>
-    ensures { option_map (λ x. (x.0, x.1.now)) result ≡ len_iv.read bytes.now }
-{
-    let (_, rest) = white_at(bytes);
-    let (value, rest) = decimal_at(rest)?;
-    if value > 255 {
-        return None;
-    }
-    Some((value as u8, rest))
 }

@@ -1,15 +1,16 @@
 //! Type 1 fonts.
 #![tactic(auto)]
 
+mod charstrings;
 mod encoding;
 mod fault;
 mod glyphs;
 pub mod laws;
+mod limits;
+mod maps;
 mod marks;
 mod private;
 mod subrs;
 mod words;
 
 pub use fault::{ReadFault, TableError};
-pub use subrs::{SubrEntry, subrs_at};
-pub use words::{Phrase, keyword_at, one_white_at, word_at};

@@ -3,10 +3,10 @@
 ghost use Rattle.std.specs.Prelude.{◌≡◌};
 ghost use Rattle.std.specs.Option.{option_map};
 ghost use Rattle.t1_bytes.specs.Grammar.{first};
-ghost use Rattle.t1_font.specs.Marks.{subrs_mark, white_comes};
+ghost use Rattle.t1_font.specs.Marks.{subrs_mark, chars_mark, len_iv_mark, len_iv, closefile, white_comes};
 
 use crate::words::{decimal_at, keyword_at};
-use t1_bytes::texts::{find_from, fixed_at, gap_at, is_white};
+use t1_bytes::texts::{find_from, fixed_at, gap_at, is_white, white_at};
 
 pub fn white_comes(bytes: &[u8]) -> bool
     ensures { result ≡ white_comes bytes.now }
@@ -43,4 +43,102 @@ pub fn first_subrs(bytes: &[u8]) -> Option<(&[u8], u32, &[u8])>
         from = place + 1;
     }
     None
+}
+
+/// The CharStrings marker.
+#[tactic(auto, unfolding(crate::specs::Marks::chars_mark))]
+fn chars_mark_at(bytes: &[u8]) -> Option<&[u8]>
+    ensures { option_map (λ x. (tt, x.now)) result ≡ chars_mark.read bytes.now }
+{
+    let (_, rest) = fixed_at(bytes, b"/CharStrings")?;
+    let (_, rest) = gap_at(rest)?;
+    let (_, rest) = decimal_at(rest)?;
+    let (_, rest) = gap_at(rest)?;
+    let (_, rest) = keyword_at(rest, b"dict")?;
+    let (_, rest) = gap_at(rest)?;
+    let (_, rest) = keyword_at(rest, b"dup")?;
+    let (_, rest) = gap_at(rest)?;
+    let (_, rest) = keyword_at(rest, b"begin")?;
+    if !white_comes(rest) {
+        return None;
+    }
+    Some(rest)
+}
+
+/// What stands before the first CharStrings marker, and what stands after it.
+pub fn first_chars(bytes: &[u8]) -> Option<(&[u8], &[u8])>
+    ensures { option_map (λ x. ((x.0.now, tt), x.1.now)) result ≡ (first chars_mark).read bytes.now }
+{
+    let mut from = 0;
+    'places: while let Some(place) = find_from(bytes, b"/CharStrings", from) {
+        let (front, here) = bytes.split_at(place);
+        if let Some(rest) = chars_mark_at(here) {
+            return Some((front, rest));
+        }
+        from = place + 1;
+    }
+    None
+}
+
+/// The mark of lenIV.
+#[tactic(auto, unfolding(crate::specs::Marks::len_iv_mark))]
+fn len_iv_mark_at(bytes: &[u8]) -> Option<&[u8]>
+    ensures { option_map (λ x. (tt, x.now)) result ≡ len_iv_mark.read bytes.now }
+{
+    let (_, rest) = fixed_at(bytes, b"/lenIV")?;
+    if !white_comes(rest) {
+        return None;
+    }
+    Some(rest)
+}
+
+/// What stands before the first mark of lenIV, and what stands after it.
+pub fn first_len_iv(bytes: &[u8]) -> Option<(&[u8], &[u8])>
+    ensures { option_map (λ x. ((x.0.now, tt), x.1.now)) result ≡ (first len_iv_mark).read bytes.now }
+{
+    let mut from = 0;
+    'places: while let Some(place) = find_from(bytes, b"/lenIV", from) {
+        let (front, here) = bytes.split_at(place);
+        if let Some(rest) = len_iv_mark_at(here) {
+            return Some((front, rest));
+        }
+        from = place + 1;
+    }
+    None
+}
+
+/// The number of lead bytes.
+#[tactic(auto, unfolding(crate::specs::Marks::len_iv))]
+pub fn len_iv_at(bytes: &[u8]) -> Option<(u8, &[u8])>
+    ensures { option_map (λ x. (x.0, x.1.now)) result ≡ len_iv.read bytes.now }
+{
+    let (_, rest) = white_at(bytes);
+    let (value, rest) = decimal_at(rest)?;
+    if value > 255 {
+        return None;
+    }
+    Some((value as u8, rest))
+}
+
+/// What stands before the first `closefile`, and what stands after it.
+pub fn first_close(bytes: &[u8]) -> Option<(&[u8], &[u8], &[u8])>
+    ensures { option_map (λ x. ((x.0.now, x.1.now), x.2.now)) result ≡ (first closefile).read bytes.now }
+{
+    let mut from = 0;
+    'places: while let Some(place) = find_from(bytes, b"closefile", from) {
+        let (front, here) = bytes.split_at(place);
+        if let Some((own, rest)) = close_at(here) {
+            return Some((front, own, rest));
+        }
+        from = place + 1;
+    }
+    None
+}
+
+/// The word at the end of a font's own text.
+#[tactic(auto, unfolding(crate::specs::Marks::closefile))]
+fn close_at(bytes: &[u8]) -> Option<(&[u8], &[u8])>
+    ensures { option_map (λ x. (x.0.now, x.1.now)) result ≡ closefile.read bytes.now }
+{
+    fixed_at(bytes, b"closefile")
 }

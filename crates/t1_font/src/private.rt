@@ -1,29 +1,26 @@
 //! The private text.
 
-ghost use Rattle.std.specs.Prelude.{◌≡◌, ◌++◌, length, map, Some, None, []};
+ghost use Rattle.std.specs.Prelude.{◌≡◌, ◌++◌, length, Option, Some, None, []};
 ghost use Rattle.std.specs.Option.{option_map};
 ghost use Rattle.t1_bytes.specs.Grammar.{first};
 ghost use Rattle.t1_font.specs.Marks.{closefile};
-ghost use Rattle.t1_font.specs.Pieces.{has_subrs, iv_of, tail_after, glyphs_from, tables_from, private_pieces};
+ghost use Rattle.t1_font.specs.Pieces.{SubrsPieces, has_subrs, iv_of, tail_after, glyphs_from, tables_from, private_pieces};
 ghost use Rattle.t1_font.specs.declared.fault.ReadFault.TheVariants.{BadSubrs};
 ghost use Rattle.t1_font.specs.Subrs.{subr, subrs_end};
 ghost use Rattle.t1_font.specs.Reading.{table};
-ghost use Rattle.t1_font.specs.Views.{subr_view, phrase_view};
-ghost use Rattle.t1_font.specs.Answers.{Answers, subrs_view, private_view};
+ghost use Rattle.t1_font.specs.Answers.{Answers, Shown, ShowsTable, ShowsSubrs, ShowsPrivate};
 
 use crate::fault::{ReadFault, TableError};
-use crate::glyphs::{GlyphEntry, first_chars, first_len_iv, glyphs_at, len_iv_at};
-use crate::marks::first_subrs;
-use crate::subrs::{SubrEntry, subrs_at};
+use crate::glyphs::{GlyphTable, glyphs_at};
+use crate::marks::{first_chars, first_close, first_len_iv, first_subrs, len_iv_at};
+use crate::subrs::{SubrTable, subrs_at};
 use crate::words::Phrase;
 use std::alloc::Global;
-use t1_bytes::texts::{find_from, fixed_at};
 
-/// The table of subroutines, as it is spelled.
+/// The table of Subrs, and the phrase that closes it.
 #[derive(Drop)]
 pub struct SubrsParts<'a> {
-    pub declared: u32,
-    pub entries: Vec<SubrEntry<'a>>,
+    pub table: SubrTable<'a>,
     pub closing: Phrase<'a>,
 }
 
@@ -34,7 +31,7 @@ pub struct PrivateParts<'a> {
     pub len_iv: u8,
     pub subrs: Option<SubrsParts<'a>>,
     pub middle: &'a [u8],
-    pub glyphs: Vec<GlyphEntry<'a>>,
+    pub glyphs: GlyphTable<'a>,
     pub tail: &'a [u8],
 }
 
@@ -45,28 +42,6 @@ pub struct Before<'a> {
     pub len_iv: u8,
     pub subrs: Option<SubrsParts<'a>>,
     pub middle: &'a [u8],
-}
-
-/// What stands before the first `closefile`, and what stands after it.
-fn first_close(bytes: &[u8]) -> Option<(&[u8], &[u8], &[u8])>
-    ensures { option_map (λ x. ((x.0.now, x.1.now), x.2.now)) result ≡ (first closefile).read bytes.now }
-{
-    let mut from = 0;
-    'places: while let Some(place) = find_from(bytes, b"closefile", from) {
-        let (front, here) = bytes.split_at(place);
-        if let Some((own, rest)) = close_at(here) {
-            return Some((front, own, rest));
-        }
-        from = place + 1;
-    }
-    None
-}
-
-#[tactic(auto, unfolding(crate::specs::Marks::closefile))]
-fn close_at(bytes: &[u8]) -> Option<(&[u8], &[u8])>
-    ensures { option_map (λ x. (x.0.now, x.1.now)) result ≡ closefile.read bytes.now }
-{
-    fixed_at(bytes, b"closefile")
 }
 
 /// Whether a Subrs marker stands in a text.
@@ -126,10 +101,10 @@ fn glyphs_from<'a>(
     before: Before<'a>,
     rest: &'a [u8],
 ) -> Result<PrivateParts<'a>, ReadFault>
-    ensures { Answers private_view result (glyphs_from text.now before.entry.private.now (option_map subrs_view before.entry.subrs) before.entry.middle.now before.entry.len_iv rest.now) }
+    ensures { (s : Option SubrsPieces) → ShowsSubrs before.entry.len_iv before.entry.subrs s → Shown ShowsPrivate result (glyphs_from text.now before.entry.private.now s before.entry.middle.now before.entry.len_iv rest.now) }
 {
     let (glyphs, after) = match glyphs_at(alloc, rest, before.len_iv) {
-        Ok((glyphs, _, after)) => (glyphs, after),
+        Ok(found) => found,
         Err(TableError::Memory) => return Err(ReadFault::Memory),
         Err(TableError::Left(left)) => {
             return Err(ReadFault::BadGlyphs {
@@ -158,15 +133,15 @@ fn tables_without<'a>(
     private: &'a [u8],
     rest: &'a [u8],
 ) -> Result<PrivateParts<'a>, ReadFault>
-    ensures { Answers private_view result (tables_from text.now ((private.now, tt), rest.now) None) }
+    ensures { Shown ShowsPrivate result (tables_from text.now ((private.now, tt), rest.now) None) }
 {
-    let iv = match iv_of(private) {
-        Ok(iv) => iv,
+    let len_iv = match iv_of(private) {
+        Ok(len_iv) => len_iv,
         Err(fault) => return Err(fault),
     };
     let before = Before {
         private,
-        len_iv: iv,
+        len_iv,
         subrs: None,
         middle: &[],
     };
@@ -178,13 +153,13 @@ fn subrs_parts<'a>(
     alloc: Global,
     text: &[u8],
     declared: u32,
-    iv: u8,
+    len_iv: u8,
     rest: &'a [u8],
-) -> Result<(Vec<SubrEntry<'a>>, Phrase<'a>, &'a [u8]), ReadFault>
-    ensures { Answers (λ x. (map subr_view x.0.items, phrase_view x.1, x.2.now)) result (table BadSubrs (length text.now) (subr declared iv) subrs_end rest.now) }
+) -> Result<(SubrsParts<'a>, &'a [u8]), ReadFault>
+    ensures { Shown (λ x t. ShowsTable len_iv x.0 (record { declared = declared; entries = t.0; closing = t.1 }) × (x.1.now ≡ t.2)) result (table BadSubrs (length text.now) (subr declared len_iv) subrs_end rest.now) }
 {
-    match subrs_at(alloc, rest, declared, iv) {
-        Ok(found) => Ok(found),
+    match subrs_at(alloc, rest, declared, len_iv) {
+        Ok((table, closing, after)) => Ok((SubrsParts { table, closing }, after)),
         Err(TableError::Memory) => Err(ReadFault::Memory),
         Err(TableError::Left(left)) => Err(ReadFault::BadSubrs {
             at: text.len().saturating_sub(left),
@@ -201,13 +176,13 @@ fn tables_with<'a>(
     declared: u32,
     rest: &'a [u8],
 ) -> Result<PrivateParts<'a>, ReadFault>
-    ensures { Answers private_view result (tables_from text.now (([], tt), []) (Some ((private.now, declared), rest.now))) }
+    ensures { Shown ShowsPrivate result (tables_from text.now (([], tt), []) (Some ((private.now, declared), rest.now))) }
 {
-    let iv = match iv_of(private) {
-        Ok(iv) => iv,
+    let len_iv = match iv_of(private) {
+        Ok(len_iv) => len_iv,
         Err(fault) => return Err(fault),
     };
-    let (entries, closing, between) = match subrs_parts(alloc, text, declared, iv, rest) {
+    let (subrs, between) = match subrs_parts(alloc, text, declared, len_iv, rest) {
         Ok(found) => found,
         Err(fault) => return Err(fault),
     };
@@ -216,14 +191,9 @@ fn tables_with<'a>(
             at: text.len().saturating_sub(between.len()),
         });
     };
-    let subrs = SubrsParts {
-        declared,
-        entries,
-        closing,
-    };
     let before = Before {
         private,
-        len_iv: iv,
+        len_iv,
         subrs: Some(subrs),
         middle,
     };
@@ -233,7 +203,7 @@ fn tables_with<'a>(
 /// The pieces of a private text.
 #[tactic(auto, unfolding(crate::specs::Pieces::private_pieces, crate::specs::Pieces::tables_from))]
 pub fn private_parts(alloc: Global, text: &[u8]) -> Result<PrivateParts<'_>, ReadFault>
-    ensures { Answers private_view result (private_pieces text.now) }
+    ensures { Shown ShowsPrivate result (private_pieces text.now) }
 {
     let Some((front, after)) = first_chars(text) else {
         return Err(ReadFault::NoCharStrings);

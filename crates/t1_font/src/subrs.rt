@@ -1,14 +1,16 @@
 //! The table of subroutines.
 
-ghost use Rattle.std.specs.Prelude.{◌≡◌, map};
+ghost use Rattle.std.specs.Prelude.{◌≡◌, ◌<◌, ◌≤◌, ◌++◌, ◌∷◌, [], List, OnOk, IfSome, length};
 ghost use Rattle.std.specs.Option.{option_map};
-ghost use Rattle.t1_font.specs.Subrs.{subr, subrs_end, subrs_at, index_below, length_from};
-ghost use Rattle.t1_font.specs.Faults.{TableGives};
+ghost use Rattle.t1_font.specs.Held.{HoldsSubrs, IsSubrTable, TableHeld};
+ghost use Rattle.t1_font.specs.Subrs.{Subr, subr, subrs_end, subrs_at, index_below, length_from};
 ghost use Rattle.t1_font.specs.Views.{subr_view, phrase_view};
 
+use crate::charstrings::plain;
 use crate::fault::TableError;
-use crate::words::{Phrase, decimal_at, keyword_at, one_white_at, phrase_at, word_at};
-use std::alloc::Global;
+use crate::maps::Numbered;
+use crate::words::{Phrase, Words, first_words, decimal_at, keyword_at, one_white_at, phrase_at, word_at};
+use std::alloc::{AllocError, Global};
 use t1_bytes::texts::{count_at, gap_at, white_at};
 
 /// An entry, as it is spelled.
@@ -23,7 +25,8 @@ pub struct SubrEntry<'a> {
 /// An index below the declared count.
 #[tactic(auto, unfolding(crate::specs::Subrs::index_below))]
 fn index_at(bytes: &[u8], declared: u32) -> Option<(u32, &[u8])>
-    ensures { option_map (λ x. (x.0, x.1.now)) result ≡ (index_below declared).read bytes.now }
+    ensures value { option_map (λ x. (x.0, x.1.now)) result ≡ (index_below declared).read bytes.now }
+    ensures below { IfSome result (λ x. x.0 < declared) }
 {
     let (index, rest) = decimal_at(bytes)?;
     if index < declared {
@@ -36,7 +39,8 @@ fn index_at(bytes: &[u8], declared: u32) -> Option<(u32, &[u8])>
 /// The length of a charstring with lead bytes.
 #[tactic(auto, unfolding(crate::specs::Subrs::length_from))]
 pub fn length_at(bytes: &[u8], len_iv: u8) -> Option<(u32, &[u8])>
-    ensures { option_map (λ x. (x.0, x.1.now)) result ≡ (length_from len_iv).read bytes.now }
+    ensures value { option_map (λ x. (x.0, x.1.now)) result ≡ (length_from len_iv).read bytes.now }
+    ensures room { IfSome result (λ x. len_iv ≤ x.0) }
 {
     let (len, rest) = decimal_at(bytes)?;
     if len_iv as u32 <= len && len <= 65535 {
@@ -49,7 +53,9 @@ pub fn length_at(bytes: &[u8], len_iv: u8) -> Option<(u32, &[u8])>
 /// An entry of a table with this declared count and lenIV.
 #[tactic(auto, unfolding(crate::specs::Subrs::subr))]
 fn subr_at(bytes: &[u8], declared: u32, len_iv: u8) -> Option<(SubrEntry<'_>, &[u8])>
-    ensures { option_map (λ x. (subr_view x.0, x.1.now)) result ≡ (subr declared len_iv).read bytes.now }
+    ensures value { option_map (λ x. (subr_view x.0, x.1.now)) result ≡ (subr declared len_iv).read bytes.now }
+    ensures index { IfSome result (λ x. x.0.index < declared) }
+    ensures length { IfSome result (λ x. len_iv ≤ length x.0.body.now) }
 {
     let (_, rest) = white_at(bytes);
     let (_, rest) = keyword_at(rest, b"dup")?;
@@ -83,30 +89,63 @@ fn subrs_end_at(bytes: &[u8]) -> Option<(Phrase<'_>, &[u8])>
     phrase_at(rest, false)
 }
 
+/// A table of Subrs.
+#[derive(Drop)]
+pub struct SubrTable<'a> {
+    pub declared: u32,
+    pub len_iv: u8,
+    pub words: Option<Words<'a>>,
+    pub bodies: Numbered,
+}
+
+/// Keeps the plain charstring of one more entry. An index over 65,535 is kept of no font, since its
+/// declared count is over the limit.
+fn keep_subr(
+    bodies: &mut Numbered,
+    alloc: Global,
+    entry: SubrEntry<'_>,
+    declared: u32,
+    len_iv: u8,
+) -> Result<(), AllocError>
+    requires index { entry.index < declared }
+    requires length { len_iv ≤ length entry.body.now }
+    ensures { OnOk result ((es : List Subr) → HoldsSubrs declared len_iv bodies.old es → HoldsSubrs declared len_iv bodies.new (es ++ subr_view entry.entry ∷ [])) }
+{
+    let Ok(index) = u16::try_from(entry.index) else {
+        return Ok(());
+    };
+    bodies.insert(index, plain(alloc, entry.body, len_iv)?)?;
+    Ok(())
+}
+
 /// The entries, the phrase that closes the table, and what stands after it.
 pub fn subrs_at(
     alloc: Global,
     bytes: &[u8],
     declared: u32,
     len_iv: u8,
-) -> Result<(Vec<SubrEntry<'_>>, Phrase<'_>, &[u8]), TableError>
-    ensures { TableGives (λ x. (map subr_view x.0.items, phrase_view x.1, x.2.now)) result (subrs_at declared len_iv bytes.now) }
+) -> Result<(SubrTable<'_>, Phrase<'_>, &[u8]), TableError>
+    ensures { TableHeld (λ x es close rest. IsSubrTable declared len_iv x.0 es × (phrase_view x.1 ≡ close) × (x.2.now ≡ rest)) result (subrs_at declared len_iv bytes.now) }
 {
-    let mut entries = Vec::new(alloc);
+    let mut words = None;
+    let mut bodies = Numbered::new(alloc);
     let mut rest = bytes;
     'entries: loop {
-        if let Some((end, after)) = subrs_end_at(rest) {
-            return Ok((entries, end, after));
+        if let Some((closing, after)) = subrs_end_at(rest) {
+            let table = SubrTable {
+                declared,
+                len_iv,
+                words,
+                bodies,
+            };
+            return Ok((table, closing, after));
         }
-        match subr_at(rest, declared, len_iv) {
-            Some((entry, after)) => {
-                entries.push(entry)?;
-                rest = after;
-            }
-            None => {
-                let (_, left) = white_at(rest);
-                return Err(TableError::Left(left.len()));
-            }
-        }
+        let Some((entry, after)) = subr_at(rest, declared, len_iv) else {
+            let (_, left) = white_at(rest);
+            return Err(TableError::Left(left.len()));
+        };
+        words = Some(first_words(words, entry.rd, entry.put));
+        keep_subr(&mut bodies, alloc, entry, declared, len_iv)?;
+        rest = after;
     }
 }

@@ -1,10 +1,10 @@
 //! Words of font text.
 
-ghost use Rattle.std.specs.Prelude.{◌≡◌, length, take_while, Some, None, if◌then◌else◌};
+ghost use Rattle.std.specs.Prelude.{◌≡◌, length, take_while, unwrap_or, Some, None, if◌then◌else◌};
 ghost use Rattle.std.specs.Option.{option_map};
 ghost use Rattle.t1_bytes.specs.Grammar.{run, that};
 ghost use Rattle.t1_font.specs.Words.{is_delimiter, is_regular, one_white, word, keyword, decimal, digits_after, is_decimal, is_access, phrase_of, passes};
-ghost use Rattle.t1_font.specs.Views.{phrase_view};
+ghost use Rattle.t1_font.specs.Views.{phrase_view, words_view};
 
 use t1_bytes::texts::{count_at, gap_at, is_white};
 
@@ -106,6 +106,23 @@ pub fn decimal_at(bytes: &[u8]) -> Option<(u32, &[u8])>
 pub struct Phrase<'a> {
     pub access: Option<&'a [u8]>,
     pub word: &'a [u8],
+}
+
+/// The words of a table's first entry: the one before its bytes, and the phrase after them.
+#[derive(Clone, Copy)]
+pub struct Words<'a> {
+    pub rd: &'a [u8],
+    pub phrase: Phrase<'a>,
+}
+
+/// The words that are kept: those of the first entry.
+pub fn first_words<'a>(words: Option<Words<'a>>, rd: &'a [u8], phrase: Phrase<'a>) -> Words<'a>
+    ensures { words_view result ≡ unwrap_or (option_map words_view words.entry) (rd.now, phrase_view phrase.entry) }
+{
+    match words {
+        Some(words) => words,
+        None => Words { rd, phrase },
+    }
 }
 
 /// Whether a word takes the next one with it.

@@ -1,7 +1,7 @@
 use Rattle.std.proofs.Common.{◌≤◌, ◌-◌, length}
 use Rattle.t1_font.specs.Marks.{chars_mark}
 use Rattle.t1_bytes.proofs.Places.{NoneBelow}
-use Rattle.t1_font.proofs.glyphs.first_chars.Given as goal
+use Rattle.t1_font.proofs.marks.first_chars.Given as goal
 
 abbrev pub invariant-places : goal.invariant-places
 invariant-places l = record { within : l.from ≤ length l.bytes; passed : NoneBelow chars_mark l.bytes l.from }

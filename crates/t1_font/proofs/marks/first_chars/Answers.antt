@@ -3,7 +3,7 @@ use Rattle.std.specs.Prelude.{codes}
 use Rattle.t1_font.specs.Marks.{chars_mark}
 use Rattle.t1_font.proofs.MarkLemmas.{chars_begins}
 use Rattle.t1_bytes.proofs.Places.{found_at, passed_at, nowhere_at}
-use Rattle.t1_font.proofs.glyphs.first_chars.Goals as goal
+use Rattle.t1_font.proofs.marks.first_chars.Goals as goal
 
 pub returns-in-Some-chars_mark_at : goal.returns-in-Some-chars_mark_at
 returns-in-Some-chars_mark_at c =

@@ -3,7 +3,7 @@ use Rattle.std.specs.Prelude.{codes}
 use Rattle.t1_font.specs.Marks.{len_iv_mark}
 use Rattle.t1_font.proofs.MarkLemmas.{len_iv_begins}
 use Rattle.t1_bytes.proofs.Places.{found_at, passed_at, nowhere_at}
-use Rattle.t1_font.proofs.glyphs.first_len_iv.Goals as goal
+use Rattle.t1_font.proofs.marks.first_len_iv.Goals as goal
 
 pub returns-in-Some-len_iv_mark_at : goal.returns-in-Some-len_iv_mark_at
 returns-in-Some-len_iv_mark_at c =

@@ -1,0 +1,82 @@
+-- One more entry of a table that is held.
+use Rattle.std.proofs.Common.{◌≡◌, ◌⊎◌, inl, inr, ℕ, ◌≤◌, ◌<◌, ◌||◌, Bool, true, false, List, [], ◌∷◌, ◌++◌, map, Option, Some, None, refl, sym, ap, subst, ◌∙◌, arith}
+use Rattle.std.specs.Prelude.{unwrap_or}
+use Rattle.std.specs.List.{list_any}
+use Rattle.std.specs.Str.{bytes_eq}
+use Rattle.std.specs.Ordering.{nat_cmp}
+use Rattle.std.specs.Cmp.{nat_cmp_total}
+use Rattle.std.specs.Cmp.Lexicographic.{nat_list_cmp_total}
+use Rattle.std.specs.FinSet.{slice_cmp-IsAntisymmetric, nat_cmp-IsAntisymmetric}
+use Rattle.std.specs.FinMap.{len, insert, remove, empty}
+use Rattle.std.proofs.lemmas.List.{map_push}
+use Rattle.t1_font.specs.FontValue.{Numbered, Named, name_cmp, notdef, count_limit}
+use Rattle.t1_font.specs.Charstrings.{plain_of}
+use Rattle.t1_font.specs.Entries.{map_of, names_of, has_name}
+use Rattle.t1_font.specs.Subrs.{Subr}
+use Rattle.t1_font.specs.Marks.{Glyph}
+use Rattle.t1_font.specs.Held.{first_words, HoldsSubrs, HoldsGlyphs, subr_bodies, glyph_bodies, names_notdef}
+use Rattle.t1_font.proofs.MapLaws.{map_of-append, map_of-nil, names_of-nil, names_of-put, names_of-notdef, len-grows}
+
+pub no_subrs : (iv : ℕ) → empty ≡ subr_bodies iv []
+no_subrs iv = sym (map_of-nil nat_cmp_total nat_cmp-IsAntisymmetric)
+
+pub no_glyphs : (iv : ℕ) → empty ≡ glyph_bodies iv []
+no_glyphs iv = sym (map_of-nil nat_list_cmp_total (slice_cmp-IsAntisymmetric nat_cmp-IsAntisymmetric))
+
+pub no_names : empty ≡ names_of {R = nat_cmp} []
+no_names = sym (names_of-nil nat_cmp_total nat_cmp-IsAntisymmetric)
+
+-- one more put
+pub put_name : (es : List (ℕ × List ℕ)) (e : ℕ × List ℕ) (names next : Numbered) → has_name e ≡ true → next ≡ insert names e.0 e.1 → names ≡ names_of es → next ≡ names_of (es ++ e ∷ [])
+put_name es e names next h put same = put ∙ (ap (λ m. insert m e.0 e.1) same ∙ sym (names_of-put nat_cmp_total nat_cmp-IsAntisymmetric es e h))
+
+pub put_notdef : (es : List (ℕ × List ℕ)) (e : ℕ × List ℕ) (names next : Numbered) → has_name e ≡ false → next ≡ remove names e.0 → names ≡ names_of es → next ≡ names_of (es ++ e ∷ [])
+put_notdef es e names next h put same = put ∙ (ap (λ m. remove m e.0) same ∙ sym (names_of-notdef nat_cmp_total nat_cmp-IsAntisymmetric es e h))
+
+-- the words of the first entry stay
+pub first_more : {A : Type 0} (f : A → List ℕ × List ℕ) (es : List A) (x : A) → first_words f (es ++ x ∷ []) ≡ Some (unwrap_or (first_words f es) (f x))
+first_more f [] x = refl
+first_more f (e ∷ es) x = refl
+
+pub subrs_more : (iv : ℕ) (es : List Subr) (e : Subr) → subr_bodies iv (es ++ e ∷ []) ≡ insert (subr_bodies iv es) e.index (plain_of iv e.body)
+subrs_more iv es e =
+    ap (map_of {R = nat_cmp}) (map_push (λ (s : Subr). (s.index, plain_of iv s.body)) es e)
+    ∙ map_of-append nat_cmp_total nat_cmp-IsAntisymmetric (map (λ (s : Subr). (s.index, plain_of iv s.body)) es) (e.index, plain_of iv e.body)
+
+pub glyphs_more : (iv : ℕ) (es : List Glyph) (e : Glyph) → glyph_bodies iv (es ++ e ∷ []) ≡ insert (glyph_bodies iv es) e.name (plain_of iv e.body)
+glyphs_more iv es e =
+    ap (map_of {R = name_cmp}) (map_push (λ (g : Glyph). (g.name, plain_of iv g.body)) es e)
+    ∙ map_of-append nat_list_cmp_total (slice_cmp-IsAntisymmetric nat_cmp-IsAntisymmetric) (map (λ (g : Glyph). (g.name, plain_of iv g.body)) es) (e.name, plain_of iv e.body)
+
+glyphs_grow : (iv : ℕ) (es : List Glyph) (e : Glyph) → len (glyph_bodies iv es) ≤ len (glyph_bodies iv (es ++ e ∷ []))
+glyphs_grow iv es e = subst (λ m. len (glyph_bodies iv es) ≤ len m) (sym (glyphs_more iv es e)) (len-grows nat_list_cmp_total (slice_cmp-IsAntisymmetric nat_cmp-IsAntisymmetric) (glyph_bodies iv es) e.name (plain_of iv e.body))
+
+-- a table with more glyphs than a font may have is left as it is
+pub still_over : (iv : ℕ) (bodies : Named) (es : List Glyph) (e : Glyph) → count_limit < len bodies → HoldsGlyphs iv bodies es → HoldsGlyphs iv bodies (es ++ e ∷ [])
+still_over iv bodies es e over (inl same) =
+    let more : len (glyph_bodies iv es) ≤ len (glyph_bodies iv (es ++ e ∷ [])) = glyphs_grow iv es e in
+    let now : count_limit < len (glyph_bodies iv es) = subst (λ m. count_limit < len m) same over in
+    inr (over, omega arith)
+still_over iv bodies es e over (inr h) =
+    let more : len (glyph_bodies iv es) ≤ len (glyph_bodies iv (es ++ e ∷ [])) = glyphs_grow iv es e in
+    inr (over, omega (arith, h.1))
+
+-- and one with fewer takes the glyph
+pub one_glyph_more : (iv : ℕ) (bodies next : Named) (es : List Glyph) (e : Glyph) → len bodies ≤ count_limit → next ≡ insert bodies e.name (plain_of iv e.body) → HoldsGlyphs iv bodies es → HoldsGlyphs iv next (es ++ e ∷ [])
+one_glyph_more iv bodies next es e few put (inl same) = inl (put ∙ (ap (λ m. insert m e.name (plain_of iv e.body)) same ∙ sym (glyphs_more iv es e)))
+one_glyph_more iv bodies next es e few put (inr h) = absurd (omega (arith, h.0))
+
+pub one_subr_more : (declared iv : ℕ) (bodies next : Numbered) (es : List Subr) (e : Subr) → next ≡ insert bodies e.index (plain_of iv e.body) → HoldsSubrs declared iv bodies es → HoldsSubrs declared iv next (es ++ e ∷ [])
+one_subr_more declared iv bodies next es e put h few = put ∙ (ap (λ m. insert m e.index (plain_of iv e.body)) (h few) ∙ sym (subrs_more iv es e))
+
+pub notdef_more : (es : List Glyph) (e : Glyph) → names_notdef (es ++ e ∷ []) ≡ (names_notdef es || bytes_eq notdef e.name)
+notdef_more [] e = by_last (bytes_eq notdef e.name)
+  where
+    by_last : (b : Bool) → (b || false) ≡ b
+    by_last true = refl
+    by_last false = refl
+notdef_more (g ∷ gs) e = ap (λ b. bytes_eq notdef g.name || b) (notdef_more gs e) ∙ regroup (bytes_eq notdef g.name)
+  where
+    regroup : (b : Bool) → (b || (names_notdef gs || bytes_eq notdef e.name)) ≡ ((b || names_notdef gs) || bytes_eq notdef e.name)
+    regroup true = refl
+    regroup false = refl

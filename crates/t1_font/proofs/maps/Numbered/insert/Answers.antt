@@ -1,0 +1,13 @@
+use Rattle.std.proofs.Common.{◌≡◌, ℕ, refl, sym, ap, ◌∙◌, Some, option_map, nat_cmp}
+use Rattle.std.specs.FinMap as fin
+use Rattle.std.specs.FinSet.{slice_cmp-IsAntisymmetric, nat_cmp-IsAntisymmetric}
+use Rattle.std.specs.Cmp.{nat_cmp_total}
+use Rattle.std.specs.Cmp.Lexicographic.{nat_list_cmp_total}
+use Rattle.std.specs.Global.{Vec}
+use Rattle.t1_font.specs.FontValue.{name_cmp}
+use Rattle.t1_font.specs.MapModels.{entries_by, map_by, itself, bytes_of}
+use Rattle.t1_font.proofs.MapModels.{get_by_lookup, map_insert, entries_are, len_is}
+use Rattle.t1_font.proofs.maps.Numbered.insert.Goals as goal
+
+pub returns-clause-ok : goal.returns-clause-ok
+returns-clause-ok c = ap (map_by itself) c.in_ok-insert.ensures.entries ∙ map_insert itself nat_cmp nat_cmp nat_cmp_total nat_cmp-IsAntisymmetric (λ x y. refl) _ c.args.number c.args.bytes ∙ ap (λ m. fin.insert {R = nat_cmp} m c.args.number c.args.bytes.items) c.self.view_is

@@ -1,0 +1,206 @@
+//! Byte lists by number and by name, in the order of their keys.
+
+ghost use Rattle.std.specs.Prelude.{◌≡◌, OnOk, OnErr};
+ghost use Rattle.std.specs.Option.{option_map};
+ghost use Rattle.std.specs.FinMap as fin;
+
+use std::alloc::{AllocError, Global};
+use std::collections::{BTreeMap, btree_map};
+use std::marker::Model;
+
+/// Charstrings by index, or names by code.
+#[derive(Drop)]
+pub struct Numbered {
+    map: BTreeMap<u16, Vec<u8>>,
+}
+
+impl Model for Numbered {
+    ghost use Rattle.t1_font.specs.FontValue.{Numbered as NumberedValue};
+    ghost use Rattle.t1_font.specs.MapModels.{numbered_code, map_by, itself};
+
+    ghost Value = { NumberedValue };
+
+    ghost coded = { numbered_code };
+
+    ghost view = { λ m. map_by itself m.map.entries };
+}
+
+impl Numbered {
+    /// A map with no entry.
+    pub fn new(alloc: Global) -> Self
+        ensures { result ≡ fin.empty }
+    {
+        Numbered {
+            map: BTreeMap::new(alloc),
+        }
+    }
+
+    /// Puts the bytes at the number, in place of what is there.
+    pub fn insert(&mut self, number: u16, bytes: Vec<u8>) -> Result<(), AllocError>
+        ensures ok { OnOk result (self.new ≡ fin.insert self.old number bytes.items) }
+        ensures err { OnErr result (self.new ≡ self.old) }
+    {
+        self.map.insert(number, bytes)?;
+        Ok(())
+    }
+
+    /// Takes away what stands at the number.
+    pub fn remove(&mut self, number: u16)
+        ensures { self.new ≡ fin.remove self.old number }
+    {
+        self.map.remove(&number);
+    }
+
+    /// What stands at the number.
+    pub fn get(&self, number: u16) -> Option<&[u8]>
+        ensures { option_map (λ b. b.now) result ≡ fin.get self.now number }
+    {
+        match self.map.get(&number) {
+            Some(bytes) => Some(bytes.as_slice()),
+            None => None,
+        }
+    }
+
+    /// How many entries there are.
+    pub fn len(&self) -> usize
+        ensures { result ≡ fin.len self.now }
+    {
+        self.map.len()
+    }
+
+    /// The entries, upwards by number.
+    pub fn entries(&self) -> NumberedEntries<'_>
+        ensures { result ≡ fin.entries self.now }
+    {
+        NumberedEntries {
+            inner: self.map.iter(),
+        }
+    }
+}
+
+/// The entries of a map, upwards by number.
+#[derive(Drop)]
+pub struct NumberedEntries<'a> {
+    inner: btree_map::Iter<'a, u16, Vec<u8>>,
+}
+
+impl<'a> Model for NumberedEntries<'a> {
+    ghost use Rattle.std.specs.Prelude.{List, ℕ};
+    ghost use Rattle.t1_font.specs.MapModels.{entries_by, itself};
+
+    ghost Value = { List (ℕ × List ℕ) };
+
+    ghost view = { λ s. entries_by itself s.inner };
+}
+
+impl<'a> Iterator for NumberedEntries<'a> {
+    type Item = (&'a u16, &'a Vec<u8>);
+
+    ghost use Rattle.std.specs.Prelude.{length};
+    ghost use Rattle.std.specs.Iterator.{at_most};
+    ghost use Rattle.std.specs.Map.Iter.{TakesFirst};
+    ghost use Rattle.t1_font.specs.MapModels.{lent_number};
+
+    ghost next_gives = { TakesFirst lent_number };
+
+    ghost remaining = { λ s. at_most (length s) };
+
+    fn next(&mut self) -> Option<(&'a u16, &'a Vec<u8>)> {
+        self.inner.next()
+    }
+}
+
+/// Charstrings by name.
+#[derive(Drop)]
+pub struct Named {
+    map: BTreeMap<Vec<u8>, Vec<u8>>,
+}
+
+impl Model for Named {
+    ghost use Rattle.t1_font.specs.FontValue.{Named as NamedValue};
+    ghost use Rattle.t1_font.specs.MapModels.{named_code, map_by, bytes_of};
+
+    ghost Value = { NamedValue };
+
+    ghost coded = { named_code };
+
+    ghost view = { λ m. map_by bytes_of m.map.entries };
+}
+
+impl Named {
+    /// A map with no entry.
+    pub fn new(alloc: Global) -> Self
+        ensures { result ≡ fin.empty }
+    {
+        Named {
+            map: BTreeMap::new(alloc),
+        }
+    }
+
+    /// Puts the bytes at the name, in place of what is there.
+    pub fn insert(&mut self, name: Vec<u8>, bytes: Vec<u8>) -> Result<(), AllocError>
+        ensures ok { OnOk result (self.new ≡ fin.insert self.old name.items bytes.items) }
+        ensures err { OnErr result (self.new ≡ self.old) }
+    {
+        self.map.insert(name, bytes)?;
+        Ok(())
+    }
+
+    /// What stands at the name.
+    pub fn get(&self, name: &[u8]) -> Option<&[u8]>
+        ensures { option_map (λ b. b.now) result ≡ fin.get self.now name.now }
+    {
+        match self.map.get(name) {
+            Some(bytes) => Some(bytes.as_slice()),
+            None => None,
+        }
+    }
+
+    /// How many entries there are.
+    pub fn len(&self) -> usize
+        ensures { result ≡ fin.len self.now }
+    {
+        self.map.len()
+    }
+
+    /// The entries, upwards by the bytes of their names.
+    pub fn entries(&self) -> NamedEntries<'_>
+        ensures { result ≡ fin.entries self.now }
+    {
+        NamedEntries {
+            inner: self.map.iter(),
+        }
+    }
+}
+
+/// The entries of a map, upwards by the bytes of their names.
+#[derive(Drop)]
+pub struct NamedEntries<'a> {
+    inner: btree_map::Iter<'a, Vec<u8>, Vec<u8>>,
+}
+
+impl<'a> Model for NamedEntries<'a> {
+    ghost use Rattle.std.specs.Prelude.{List, ℕ};
+    ghost use Rattle.t1_font.specs.MapModels.{entries_by, bytes_of};
+
+    ghost Value = { List (List ℕ × List ℕ) };
+
+    ghost view = { λ s. entries_by bytes_of s.inner };
+}
+
+impl<'a> Iterator for NamedEntries<'a> {
+    type Item = (&'a Vec<u8>, &'a Vec<u8>);
+
+    ghost use Rattle.std.specs.Prelude.{length};
+    ghost use Rattle.std.specs.Iterator.{at_most};
+    ghost use Rattle.std.specs.Map.Iter.{TakesFirst};
+    ghost use Rattle.t1_font.specs.MapModels.{lent_name};
+
+    ghost next_gives = { TakesFirst lent_name };
+
+    ghost remaining = { λ s. at_most (length s) };
+
+    fn next(&mut self) -> Option<(&'a Vec<u8>, &'a Vec<u8>)> {
+        self.inner.next()
+    }
+}
