@@ -6,6 +6,8 @@ pub mod MapLaws
 pub mod MapModels
 pub mod TableLoops
 pub mod HeldLemmas
+pub mod FontReaders
+pub mod Weights
 pub mod ValueLaws
 pub mod ReadingLaws
 pub mod ReadLaws

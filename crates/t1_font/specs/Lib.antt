@@ -9,6 +9,8 @@ pub mod Pieces
 pub mod FontValue
 pub mod Entries
 pub mod MapModels
+pub mod FontModel
+pub mod IsFont
 pub mod ReadFont
 pub mod Spelling
 pub mod Reasons

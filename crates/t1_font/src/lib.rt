@@ -4,6 +4,7 @@
 mod charstrings;
 mod encoding;
 mod fault;
+mod font;
 mod glyphs;
 pub mod laws;
 mod limits;
@@ -13,4 +14,5 @@ mod private;
 mod subrs;
 mod words;
 
-pub use fault::{ReadFault, TableError};
+pub use fault::ReadFault;
+pub use font::{Font, Names, Part};

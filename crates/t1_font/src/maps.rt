@@ -1,12 +1,29 @@
 //! Byte lists by number and by name, in the order of their keys.
 
-ghost use Rattle.std.specs.Prelude.{◌≡◌, OnOk, OnErr};
+ghost use Rattle.std.specs.Prelude.{◌≡◌, ◌+◌, [], OnOk, OnErr};
 ghost use Rattle.std.specs.Option.{option_map};
 ghost use Rattle.std.specs.FinMap as fin;
+ghost use Rattle.t1_font.specs.FontValue.{total, subr_weight, glyph_weight};
+ghost use Rattle.t1_font.specs.FontModel.{clamp};
 
 use std::alloc::{AllocError, Global};
 use std::collections::{BTreeMap, btree_map};
 use std::marker::Model;
+
+/// The weight of a Subr: one of no bytes weighs as much as one of one byte.
+fn subr_weight(len_iv: u8, body: &[u8]) -> u64
+    ensures { result ≡ subr_weight len_iv 0 body.now }
+{
+    let len = if body.is_empty() { 1 } else { body.len() as u64 };
+    128 + len_iv as u64 + len
+}
+
+/// The weight of a glyph.
+fn glyph_weight(len_iv: u8, body: &[u8]) -> u64
+    ensures { result ≡ glyph_weight len_iv [] body.now }
+{
+    256 + len_iv as u64 + body.len() as u64
+}
 
 /// Charstrings by index, or names by code.
 #[derive(Drop)]
@@ -75,6 +92,17 @@ impl Numbered {
         NumberedEntries {
             inner: self.map.iter(),
         }
+    }
+
+    /// `before` and the weight of the entries as Subrs of a font with this lenIV, as far as 64 bits hold it.
+    pub fn weight(&self, before: u64, len_iv: u8) -> u64
+        ensures { result ≡ clamp (before + total (subr_weight len_iv) (fin.entries self.now)) }
+    {
+        let mut weight = before;
+        'bodies: for (_, body) in self.entries() {
+            weight = weight.saturating_add(subr_weight(len_iv, body.as_slice()));
+        }
+        weight
     }
 }
 
@@ -170,6 +198,17 @@ impl Named {
         NamedEntries {
             inner: self.map.iter(),
         }
+    }
+
+    /// `before` and the weight of the entries as glyphs of a font with this lenIV, as far as 64 bits hold it.
+    pub fn weight(&self, before: u64, len_iv: u8) -> u64
+        ensures { result ≡ clamp (before + total (glyph_weight len_iv) (fin.entries self.now)) }
+    {
+        let mut weight = before;
+        'bodies: for (_, body) in self.entries() {
+            weight = weight.saturating_add(glyph_weight(len_iv, body.as_slice()));
+        }
+        weight
     }
 }
 

@@ -1,0 +1,13 @@
+-- Sums that are cut off at 64 bits.
+use Rattle.std.proofs.Common.{◌≡◌, ℕ, ◌+◌, ◌≤◌, min, arith}
+use Rattle.t1_font.specs.FontModel.{clamp}
+
+-- a sum that is cut off on the way is cut off at the end
+pub clamp_more : (w x t : ℕ) → clamp (min (w + x) 18446744073709551615 + t) ≡ clamp (w + (x + t))
+clamp_more w x t = omega arith
+
+pub clamp_all : (w t : ℕ) → w ≤ 18446744073709551615 → t ≡ clamp (w + 0) → w ≡ t
+clamp_all w t h e = omega (arith, h, e)
+
+pub clamp_fits : (n m : ℕ) → m ≡ min n 18446744073709551615 → m ≤ 18446744073709551615
+clamp_fits n m e = omega (arith, e)

@@ -1,0 +1,107 @@
+-- What the parts of a font in memory stand for, and what its readers answer.
+use Rattle.std.specs.Prelude.{◌≡◌, ℕ, ◌<◌, nat_lt, Bool, true, false, ◌⊎◌, min, List, [], Option, Some, None, IsSome, map, if◌then◌else◌}
+use Rattle.std.proofs.Common.{inl, inr, refl}
+use Rattle.std.proofs.lemmas.Bool.{ltb-true}
+use Rattle.std.specs.Coded.{Coded, code_by, coded×, coded⊎, coded_ℕ, coded_option}
+use Rattle.std.specs.FinMap.{get, entries}
+use Rattle.t1_font.specs.declared.font.KeptSubrs.{KeptSubrs}
+use Rattle.t1_font.specs.declared.font.KeptEncoding.{KeptEncoding}
+use Rattle.t1_font.specs.declared.font.KeptEncoding.TheVariants as kept
+use Rattle.t1_font.specs.declared.font.Part.{Part}
+use Rattle.t1_font.specs.declared.font.Part.TheVariants.{Head, ClearTail, Private, Middle, Tail, SubrsRd, SubrsPut, SubrsDef, GlyphsRd, GlyphsDef}
+use Rattle.t1_font.specs.FontValue.{FontValue, Shell, SubrsShell, Encoding, Word, Codes, Numbered, Named, declared_count}
+use Rattle.t1_font.specs.MapModels.{bytes_code, numbered_code, named_code}
+
+-- ---- views
+
+abbrev pub subrs_view : KeptSubrs → SubrsShell
+subrs_view s = record { declared = s.declared; rd = s.rd.items; put = s.put.items; closing = s.closing.items }
+
+abbrev pub encoding_of : KeptEncoding → Encoding
+encoding_of (kept.Word w) = Word w.items
+encoding_of (kept.Codes names) = Codes names
+
+-- ---- codes: a font as lists and numbers
+
+abbrev pub Texts : Type 0
+Texts = List ℕ × (List ℕ × (List ℕ × (List ℕ × List ℕ)))
+
+abbrev pub texts_code : Coded Texts
+texts_code = coded× bytes_code (coded× bytes_code (coded× bytes_code (coded× bytes_code bytes_code)))
+
+abbrev pub subrs_shell_code : Coded SubrsShell
+subrs_shell_code = code_by (ℕ × (List ℕ × (List ℕ × List ℕ))) (coded× coded_ℕ (coded× bytes_code (coded× bytes_code bytes_code)))
+    (λ s. (s.declared, (s.rd, (s.put, s.closing)))) (λ p. record { declared = p.0; rd = p.1.0; put = p.1.1.0; closing = p.1.1.1 }) (λ s. refl)
+
+abbrev pub shell_code : Coded Shell
+shell_code = code_by (Texts × (ℕ × (Option SubrsShell × (List ℕ × List ℕ)))) (coded× texts_code (coded× coded_ℕ (coded× (coded_option subrs_shell_code) (coded× bytes_code bytes_code))))
+    (λ s. ((s.head, (s.clear_tail, (s.private, (s.middle, s.tail)))), (s.len_iv, (s.subrs, (s.glyphs_rd, s.glyphs_def)))))
+    (λ p. record { head = p.0.0; clear_tail = p.0.1.0; private = p.0.1.1.0; middle = p.0.1.1.1.0; tail = p.0.1.1.1.1; len_iv = p.1.0; subrs = p.1.1.0; glyphs_rd = p.1.1.1.0; glyphs_def = p.1.1.1.1 }) (λ s. refl)
+
+abbrev pub from_encoding : Encoding → List ℕ ⊎ Numbered
+from_encoding (Word w) = inl w
+from_encoding (Codes m) = inr m
+
+abbrev pub to_encoding : List ℕ ⊎ Numbered → Encoding
+to_encoding (inl w) = Word w
+to_encoding (inr m) = Codes m
+
+abbrev pub encoding_again : (e : Encoding) → to_encoding (from_encoding e) ≡ e
+encoding_again (Word w) = refl
+encoding_again (Codes m) = refl
+
+abbrev pub encoding_code : Coded Encoding
+encoding_code = code_by (List ℕ ⊎ Numbered) (coded⊎ bytes_code numbered_code) from_encoding to_encoding encoding_again
+
+abbrev pub font_code : Coded FontValue
+font_code = code_by (Shell × (Encoding × (Numbered × Named))) (coded× shell_code (coded× encoding_code (coded× numbered_code named_code)))
+    (λ f. (f.shell, (f.encoding, (f.subrs, f.glyphs)))) (λ p. record { shell = p.0; encoding = p.1.0; subrs = p.1.1.0; glyphs = p.1.1.1 }) (λ f. refl)
+
+-- ---- readers
+
+-- of the table of Subrs, nothing where there is none
+abbrev pub of_subrs : (SubrsShell → List ℕ) → Option SubrsShell → List ℕ
+of_subrs f None = []
+of_subrs f (Some s) = f s
+
+-- a kept text or kept words
+abbrev pub part_of : Part → Shell → List ℕ
+part_of Head s = s.head
+part_of ClearTail s = s.clear_tail
+part_of Private s = s.private
+part_of Middle s = s.middle
+part_of Tail s = s.tail
+part_of SubrsRd s = of_subrs (λ t. t.rd) s.subrs
+part_of SubrsPut s = of_subrs (λ t. t.put) s.subrs
+part_of SubrsDef s = of_subrs (λ t. t.closing) s.subrs
+part_of GlyphsRd s = s.glyphs_rd
+part_of GlyphsDef s = s.glyphs_def
+
+-- the word that is the whole Encoding
+abbrev pub word_of : Encoding → Option (List ℕ)
+word_of (Word w) = Some w
+word_of (Codes m) = None
+
+-- the name of a code in a table
+abbrev pub name_at : Encoding → ℕ → Option (List ℕ)
+name_at (Word w) code = None
+name_at (Codes m) code = get m code
+
+-- the names of the glyphs, in the order of their bytes
+abbrev pub names_in : Named → List (List ℕ)
+names_in m = map (λ e. e.0) (entries m)
+
+-- the Subr at an index that is declared
+abbrev pub subr_at : FontValue → ℕ → Option (List ℕ)
+subr_at f i = if nat_lt i (declared_count f.shell.subrs) then get f.subrs i else None
+
+declared_so : (b : Bool) (o : Option (List ℕ)) → IsSome (if b then o else None) → b ≡ true
+declared_so true o h = refl
+declared_so false o h = cc
+
+pub subrs_below : (f : FontValue) (i : ℕ) → IsSome (subr_at f i) → i < declared_count f.shell.subrs
+subrs_below f i h = ltb-true i (declared_count f.shell.subrs) (declared_so (nat_lt i (declared_count f.shell.subrs)) (get f.subrs i) h)
+
+-- what fits 64 bits of a number: the number, or the greatest that fits
+abbrev pub clamp : ℕ → ℕ
+clamp n = min n 18446744073709551615

@@ -1,0 +1,113 @@
+-- What makes a value a font: its canonical file is read as itself. A cut of a font and a join of two keep it.
+use Rattle.std.specs.Prelude.{◌≡◌, ℕ, ◌+◌, ◌≤◌, ◌<◌, Bool, true, false, List, [], ◌∷◌, ◌++◌, length, Option, Some, None, Ok}
+use Rattle.std.specs.List.{AllByRecursion}
+use Rattle.std.specs.Option.{option_map}
+use Rattle.std.specs.Str.{bytes_eq}
+use Rattle.std.specs.FinMap.{get, contains_key, len, entries}
+use Rattle.t1_bytes.specs.Laws.{AreBytes}
+use Rattle.t1_bytes.specs.Grammar.{Grammar, first, NoneIn, Stops}
+use Rattle.t1_bytes.specs.Eexec.{eexec_mark}
+use Rattle.t1_font.specs.Words.{is_regular, phrase_of, passes}
+use Rattle.t1_font.specs.Marks.{encoding_mark, subrs_mark, chars_mark, closefile}
+use Rattle.t1_font.specs.Pieces.{iv_of, has_subrs}
+use Rattle.t1_font.specs.FontValue.{FontValue, Shell, SubrsShell, Encoding, Word, Codes, Numbered, Named, notdef, count_limit, weight_limit, weight}
+
+-- ---- words
+
+-- one word of 1 to `most` bytes
+pub record IsWord (most : ℕ) (w : List ℕ) : Type 0 where
+  pub regular : AllByRecursion (λ b. is_regular b ≡ true) w
+  pub some : 1 ≤ length w
+  pub few : length w ≤ most
+  pub bytes : AreBytes w
+
+-- a whole phrase, of whose words none may be `dup` where that is barred
+pub record IsPhrase (may_be_dup : Bool) (p : List ℕ) : Type 0 where
+  pub whole : (phrase_of (passes may_be_dup)).read p ≡ Some (p, [])
+  pub bytes : AreBytes p
+
+-- a charstring that has room for its lead bytes
+pub record IsCharstring (iv : ℕ) (c : List ℕ) : Type 0 where
+  pub short : iv + length c ≤ 65535
+  pub bytes : AreBytes c
+
+-- ---- the shell
+
+-- the marker g can be read nowhere in the text, where a slash stands behind it
+abbrev pub NoMark : {A : Type 0} → Grammar A → List ℕ → Type 0
+NoMark g text = NoneIn g text (47 ∷ [])
+
+-- the clear text around the Encoding: neither an Encoding marker nor `currentfile eexec` in `head`; the first `currentfile eexec` of `clear_tail` ends it
+pub record IsClearShell (s : Shell) : Type 0 where
+  pub head_encoding : NoMark encoding_mark s.head
+  pub head_eexec : NoMark eexec_mark s.head
+  pub tail_apart : Stops is_regular s.clear_tail
+  pub tail_ends : option_map (λ x. x.1) ((first eexec_mark).read (s.clear_tail ++ 10 ∷ [])) ≡ Some (10 ∷ [])
+
+-- the private text around the tables: its lenIV, no marker of a table, and a first `closefile` that ends it
+pub record IsPrivateShell (s : Shell) : Type 0 where
+  pub iv : (iv_of s.private).read ≡ Ok s.len_iv
+  pub no_subrs : NoMark subrs_mark s.private
+  pub no_chars : NoMark chars_mark s.private
+  pub middle_apart : Stops is_regular s.middle
+  pub middle_chars : NoMark chars_mark s.middle
+  pub middle_subrs : has_subrs s.middle ≡ false
+  pub tail_apart : Stops is_regular s.tail
+  pub tail_subrs : has_subrs s.tail ≡ false
+  pub tail_ends : option_map (λ x. x.1) ((first closefile).read s.tail) ≡ Some []
+
+-- the five kept texts are bytes
+pub record AreTexts (s : Shell) : Type 0 where
+  pub head : AreBytes s.head
+  pub clear_tail : AreBytes s.clear_tail
+  pub private : AreBytes s.private
+  pub middle : AreBytes s.middle
+  pub tail : AreBytes s.tail
+
+-- ---- the tables
+
+-- the kept words of the entries, empty where there are no entries
+abbrev pub SubrWords : List (ℕ × List ℕ) → SubrsShell → Type 0
+SubrWords [] s = (s.rd ≡ []) × (s.put ≡ [])
+SubrWords (e ∷ es) s = IsWord 32 s.rd × IsPhrase true s.put
+
+pub record IsSubrs (iv : ℕ) (s : SubrsShell) (m : Numbered) : Type 0 where
+  pub declared : s.declared ≤ count_limit
+  pub below : (i : ℕ) (c : List ℕ) → get m i ≡ Some c → i < s.declared
+  pub bodies : (i : ℕ) (c : List ℕ) → get m i ≡ Some c → IsCharstring iv c
+  pub words : SubrWords (entries m) s
+  pub closing : IsPhrase false s.closing
+
+-- a font without Subrs has no entries, and its CharStrings marker ends `private`
+abbrev pub SubrsFit : Shell → Option SubrsShell → Numbered → Type 0
+SubrsFit s None m = (entries m ≡ []) × (s.middle ≡ [])
+SubrsFit s (Some t) m = IsSubrs s.len_iv t m
+
+pub record AreGlyphs (s : Shell) (m : Named) : Type 0 where
+  pub rd : IsWord 32 s.glyphs_rd
+  pub def : IsPhrase true s.glyphs_def
+  pub names : (n c : List ℕ) → get m n ≡ Some c → IsWord 127 n
+  pub bodies : (n c : List ℕ) → get m n ≡ Some c → IsCharstring s.len_iv c
+  pub notdef : contains_key m notdef ≡ true
+  pub few : len m ≤ count_limit
+
+-- a code, and its name, which isn't `.notdef`
+pub record IsCode (c : ℕ) (n : List ℕ) : Type 0 where
+  pub code : c ≤ 255
+  pub name : IsWord 127 n
+  pub put : bytes_eq notdef n ≡ false
+
+abbrev pub IsEncoding : Encoding → Type 0
+IsEncoding (Word w) = IsWord 32 w
+IsEncoding (Codes m) = (c : ℕ) (n : List ℕ) → get m c ≡ Some n → IsCode c n
+
+-- ---- the font
+
+pub record IsFont (f : FontValue) : Type 0 where
+  pub clear : IsClearShell f.shell
+  pub private : IsPrivateShell f.shell
+  pub texts : AreTexts f.shell
+  pub encoding : IsEncoding f.encoding
+  pub subrs : SubrsFit f.shell f.shell.subrs f.subrs
+  pub glyphs : AreGlyphs f.shell f.glyphs
+  pub light : weight f ≤ weight_limit

@@ -1,0 +1,283 @@
+//! The font value.
+
+ghost use Rattle.std.specs.Prelude.{◌≡◌, is_some};
+ghost use Rattle.std.specs.Option.{option_map};
+ghost use Rattle.std.specs.FinMap as fin;
+ghost use Rattle.t1_font.specs.FontModel.{part_of, of_subrs, word_of, name_at, names_in};
+
+use crate::maps::{Named, NamedEntries, Numbered};
+use std::marker::Model;
+use t1_run::{Glyphs, Subroutines};
+
+/// What is kept of a table of Subrs beside its Subrs.
+#[derive(Drop)]
+pub(crate) struct KeptSubrs {
+    pub(crate) declared: u16,
+    pub(crate) rd: Vec<u8>,
+    pub(crate) put: Vec<u8>,
+    pub(crate) closing: Vec<u8>,
+}
+
+/// The Encoding: one word, or the names of codes.
+#[derive(Drop)]
+pub(crate) enum KeptEncoding {
+    Word(Vec<u8>),
+    Codes(Numbered),
+}
+
+/// The parts of a font, which together need not be one.
+#[derive(Drop)]
+pub(crate) struct FontParts {
+    pub(crate) head: Vec<u8>,
+    pub(crate) clear_tail: Vec<u8>,
+    pub(crate) private: Vec<u8>,
+    pub(crate) middle: Vec<u8>,
+    pub(crate) tail: Vec<u8>,
+    pub(crate) len_iv: u8,
+    pub(crate) subrs_shell: Option<KeptSubrs>,
+    pub(crate) glyphs_rd: Vec<u8>,
+    pub(crate) glyphs_def: Vec<u8>,
+    pub(crate) encoding: KeptEncoding,
+    pub(crate) subrs: Numbered,
+    pub(crate) glyphs: Named,
+}
+
+impl Model for FontParts {
+    ghost use Rattle.std.specs.Option.{option_map};
+    ghost use Rattle.t1_font.specs.FontValue.{FontValue};
+    ghost use Rattle.t1_font.specs.FontModel.{font_code, subrs_view, encoding_of};
+
+    ghost Value = { FontValue };
+
+    ghost coded = { font_code };
+
+    ghost view = { λ p. record {
+      shell = record { head = p.head.items; clear_tail = p.clear_tail.items; private = p.private.items; middle = p.middle.items; tail = p.tail.items; len_iv = p.len_iv; subrs = option_map subrs_view p.subrs_shell; glyphs_rd = p.glyphs_rd.items; glyphs_def = p.glyphs_def.items };
+      encoding = encoding_of p.encoding;
+      subrs = p.subrs;
+      glyphs = p.glyphs;
+    } };
+}
+
+/// A Type 1 font program (Adobe Type 1 Font Format 1.1, chapter 2): its kept texts, its Encoding, its
+/// Subrs by index and its glyphs by name, their charstrings plain.
+///
+/// A font is within the limits of this library, and its canonical file is read as the font itself.
+#[derive(Drop)]
+pub struct Font {
+    pub(crate) parts: FontParts,
+}
+
+impl Model for Font {
+    ghost use Rattle.t1_font.specs.FontValue.{FontValue};
+    ghost use Rattle.t1_font.specs.FontModel.{font_code};
+    ghost use Rattle.t1_font.specs.IsFont.{IsFont};
+
+    ghost Value = { FontValue };
+
+    ghost coded = { font_code };
+
+    ghost view = { λ f. f.parts };
+
+    ghost invariant = { λ f. IsFont f.parts };
+}
+
+/// A kept text, or a kept word or phrase of a table.
+#[derive(Clone, Copy, Debug, PartialEq, Eq)]
+pub enum Part {
+    /// The clear text before the Encoding.
+    Head,
+    /// The clear text after the Encoding, through `eexec`.
+    ClearTail,
+    /// The private text before Subrs, or before CharStrings where no Subrs are.
+    Private,
+    /// The private text between Subrs and CharStrings.
+    Middle,
+    /// The private text after CharStrings, through the first `closefile`.
+    Tail,
+    /// The word before the bytes of each Subr, often `RD`.
+    SubrsRd,
+    /// The phrase after the bytes of each Subr, often `NP`.
+    SubrsPut,
+    /// The phrase that closes the table of Subrs, often `ND`.
+    SubrsDef,
+    /// The word before the bytes of each glyph, often `RD`.
+    GlyphsRd,
+    /// The phrase after the bytes of each glyph, often `ND`.
+    GlyphsDef,
+}
+
+impl Font {
+    /// The names of the glyphs, upwards by their bytes.
+    pub fn names(&self) -> Names<'_>
+        ensures { result ≡ names_in self.now.glyphs }
+    {
+        Names {
+            inner: self.parts.glyphs.entries(),
+        }
+    }
+
+    /// The word that is the whole Encoding, such as `StandardEncoding`; `None` for a table.
+    pub fn encoding_word(&self) -> Option<&[u8]>
+        ensures { option_map (λ w. w.now) result ≡ word_of self.now.encoding }
+    {
+        match &self.parts.encoding {
+            KeptEncoding::Word(word) => Some(word.as_slice()),
+            KeptEncoding::Codes(_) => None,
+        }
+    }
+
+    /// The name of a code, where the Encoding is a table that has the code; `.notdef` is no name.
+    pub fn encoding_at(&self, code: u8) -> Option<&[u8]>
+        ensures { option_map (λ n. n.now) result ≡ name_at self.now.encoding code }
+    {
+        match &self.parts.encoding {
+            KeptEncoding::Word(_) => None,
+            KeptEncoding::Codes(names) => names.get(code as u16),
+        }
+    }
+
+    /// A kept text, or kept words; a word that isn't kept is empty.
+    pub fn text(&self, part: Part) -> &[u8]
+        ensures { result.now ≡ part_of part self.now.shell }
+    {
+        let parts = &self.parts;
+        match part {
+            Part::Head => parts.head.as_slice(),
+            Part::ClearTail => parts.clear_tail.as_slice(),
+            Part::Private => parts.private.as_slice(),
+            Part::Middle => parts.middle.as_slice(),
+            Part::Tail => parts.tail.as_slice(),
+            Part::SubrsRd => parts.subrs_rd(),
+            Part::SubrsPut => parts.subrs_put(),
+            Part::SubrsDef => parts.subrs_def(),
+            Part::GlyphsRd => parts.glyphs_rd.as_slice(),
+            Part::GlyphsDef => parts.glyphs_def.as_slice(),
+        }
+    }
+
+    /// Whether the font has a table of Subrs.
+    pub fn has_subrs(&self) -> bool
+        ensures { result ≡ is_some self.now.shell.subrs }
+    {
+        self.parts.subrs_shell.is_some()
+    }
+
+    /// How many lead bytes a charstring has in a file.
+    pub fn len_iv(&self) -> u8
+        ensures { result ≡ self.now.shell.len_iv }
+    {
+        self.parts.len_iv
+    }
+
+    /// Whether a Subr has an entry.
+    pub fn present(&self, index: u16) -> bool
+        ensures { result ≡ fin.contains_key self.now.subrs index }
+    {
+        self.parts.subrs.get(index).is_some()
+    }
+}
+
+impl FontParts {
+    /// The plain charstring of a Subr.
+    fn subr(&self, index: u16) -> Option<&[u8]>
+        ensures { option_map (λ b. b.now) result ≡ fin.get self.now.subrs index }
+    {
+        self.subrs.get(index)
+    }
+
+    /// The word before the bytes of each Subr.
+    fn subrs_rd(&self) -> &[u8]
+        ensures { result.now ≡ of_subrs (λ s. s.rd) self.now.shell.subrs }
+    {
+        match &self.subrs_shell {
+            Some(kept) => kept.rd.as_slice(),
+            None => &[],
+        }
+    }
+
+    /// The phrase after the bytes of each Subr.
+    fn subrs_put(&self) -> &[u8]
+        ensures { result.now ≡ of_subrs (λ s. s.put) self.now.shell.subrs }
+    {
+        match &self.subrs_shell {
+            Some(kept) => kept.put.as_slice(),
+            None => &[],
+        }
+    }
+
+    /// The phrase that closes the table of Subrs.
+    fn subrs_def(&self) -> &[u8]
+        ensures { result.now ≡ of_subrs (λ s. s.closing) self.now.shell.subrs }
+    {
+        match &self.subrs_shell {
+            Some(kept) => kept.closing.as_slice(),
+            None => &[],
+        }
+    }
+}
+
+/// The names of a font's glyphs, upwards by their bytes.
+#[derive(Drop)]
+pub struct Names<'a> {
+    inner: NamedEntries<'a>,
+}
+
+impl<'a> Model for Names<'a> {
+    ghost use Rattle.std.specs.Prelude.{List, ℕ, map};
+
+    ghost Value = { List (List ℕ) };
+
+    ghost view = { λ s. map (λ e. e.0) s.inner };
+}
+
+impl<'a> Iterator for Names<'a> {
+    type Item = &'a [u8];
+
+    ghost use Rattle.std.specs.Prelude.{length};
+    ghost use Rattle.std.specs.Iterator.{at_most};
+    ghost use Rattle.std.specs.Map.Iter.{TakesFirst};
+
+    ghost next_gives = { TakesFirst (λ n. n.now) };
+
+    ghost remaining = { λ s. at_most (length s) };
+
+    fn next(&mut self) -> Option<&'a [u8]> {
+        match self.inner.next() {
+            Some((name, _)) => Some(name.as_slice()),
+            None => None,
+        }
+    }
+}
+
+impl Subroutines for Font {
+    ghost use Rattle.t1_font.specs.FontValue.{declared_count};
+    ghost use Rattle.t1_font.specs.FontModel.{subr_at, subrs_below};
+
+    ghost subrs = { subr_at };
+
+    ghost declared = { λ f. declared_count f.shell.subrs };
+
+    ghost below = { subrs_below };
+
+    fn count(&self) -> u16 {
+        match &self.parts.subrs_shell {
+            Some(kept) => kept.declared,
+            None => 0,
+        }
+    }
+
+    fn get(&self, i: u16) -> Option<&[u8]> {
+        self.parts.subr(i)
+    }
+}
+
+impl Glyphs for Font {
+    ghost use Rattle.std.specs.FinMap as fin;
+
+    ghost glyphs = { λ f. fin.get f.glyphs };
+
+    fn glyph(&self, name: &[u8]) -> Option<&[u8]> {
+        self.parts.glyphs.get(name)
+    }
+}
