@@ -76,7 +76,7 @@ mark_absent None e = refl
 mark_absent (Some x) e = absurd cc
 
 -- the mark's value is its own text
-mark_own : (mark own rest : List ℕ) → eexec_mark.Spells mark own rest → own ≡ mark
+pub mark_own : (mark own rest : List ℕ) → eexec_mark.Spells mark own rest → own ≡ mark
 unfolding eexec_mark gap
 mark_own mark own rest s =
     let last : s.5.5.5.2 ≡ [] = s.5.5.5.5.0 in

@@ -8,6 +8,8 @@ pub mod TableLoops
 pub mod HeldLemmas
 pub mod FontReaders
 pub mod Weights
+pub mod FileParts
+pub mod FromPieces
 pub mod ValueLaws
 pub mod ReadingLaws
 pub mod ReadLaws

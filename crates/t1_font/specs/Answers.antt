@@ -55,3 +55,8 @@ pub record ShowsPrivate (x : PrivateParts) (p : PrivatePieces) : Type 0 where
   pub middle : x.middle.now ≡ p.middle
   pub glyphs : IsGlyphTable p.len_iv x.glyphs p.glyphs
   pub tail : x.tail.now ≡ p.tail
+
+-- how many Subrs are declared in what was read
+abbrev pub declared_in : Option SubrsParts → ℕ
+declared_in None = 0
+declared_in (Some x) = x.table.declared

@@ -1,8 +1,12 @@
 -- What reading a table returned, against what reading gives.
 use Rattle.std.specs.Prelude.{◌≡◌, ℕ, List, length, drop, Result, Ok, Err}
 use Rattle.std.specs.List.{prefix_len}
+use Rattle.t1_bytes.specs.declared.fault.BytesFault.{BytesFault}
+use Rattle.t1_bytes.specs.declared.fault.BytesFault.TheVariants as bytes
 use Rattle.t1_bytes.specs.Grammar.{Table}
 use Rattle.t1_bytes.specs.White.{is_white}
+use Rattle.t1_font.specs.declared.fault.ReadFault.{ReadFault}
+use Rattle.t1_font.specs.declared.fault.ReadFault.TheVariants as faults
 use Rattle.t1_font.specs.declared.fault.TableError.{TableError}
 use Rattle.t1_font.specs.declared.fault.TableError.TheVariants.{Memory, Left}
 
@@ -17,3 +21,10 @@ TableFails (Left n) read = (left : List ℕ) × (read ≡ Err left) × (n ≡ le
 abbrev pub TableGives : {X A B : Type 0} → (X → List A × B × List ℕ) → Result X TableError → Table A B → Type 0
 TableGives view (Ok x) read = read ≡ Ok (view x)
 TableGives view (Err e) read = TableFails e read
+
+-- a fault of the containers, as one of the file
+abbrev pub read_fault : BytesFault → ReadFault
+read_fault (bytes.BadSegment at) = faults.BadSegment at
+read_fault bytes.NoEexec = faults.NoEexec
+read_fault bytes.ShortCipher = faults.ShortCipher
+read_fault bytes.Memory = faults.Memory

@@ -4,7 +4,9 @@ use Rattle.std.proofs.Common.{inl, inr, refl}
 use Rattle.std.proofs.lemmas.Bool.{ltb-true}
 use Rattle.std.specs.Coded.{Coded, code_by, coded×, coded⊎, coded_ℕ, coded_option}
 use Rattle.std.specs.FinMap.{get, entries}
+use Rattle.std.specs.Option.{option_map}
 use Rattle.t1_font.specs.declared.font.KeptSubrs.{KeptSubrs}
+use Rattle.t1_font.specs.declared.font.KeptShell.{KeptShell}
 use Rattle.t1_font.specs.declared.font.KeptEncoding.{KeptEncoding}
 use Rattle.t1_font.specs.declared.font.KeptEncoding.TheVariants as kept
 use Rattle.t1_font.specs.declared.font.Part.{Part}
@@ -16,6 +18,9 @@ use Rattle.t1_font.specs.MapModels.{bytes_code, numbered_code, named_code}
 
 abbrev pub subrs_view : KeptSubrs → SubrsShell
 subrs_view s = record { declared = s.declared; rd = s.rd.items; put = s.put.items; closing = s.closing.items }
+
+abbrev pub shell_view : KeptShell → Shell
+shell_view s = record { head = s.head.items; clear_tail = s.clear_tail.items; private = s.private.items; middle = s.middle.items; tail = s.tail.items; len_iv = s.len_iv; subrs = option_map subrs_view s.subrs; glyphs_rd = s.glyphs_rd.items; glyphs_def = s.glyphs_def.items }
 
 abbrev pub encoding_of : KeptEncoding → Encoding
 encoding_of (kept.Word w) = Word w.items

@@ -3,7 +3,8 @@
 ghost use Rattle.std.specs.Prelude.{◌≡◌, is_some};
 ghost use Rattle.std.specs.Option.{option_map};
 ghost use Rattle.std.specs.FinMap as fin;
-ghost use Rattle.t1_font.specs.FontModel.{part_of, of_subrs, word_of, name_at, names_in};
+ghost use Rattle.t1_font.specs.FontValue.{weight, texts_weight};
+ghost use Rattle.t1_font.specs.FontModel.{clamp, shell_view, part_of, of_subrs, word_of, name_at, names_in};
 
 use crate::maps::{Named, NamedEntries, Numbered};
 use std::marker::Model;
@@ -25,38 +26,38 @@ pub(crate) enum KeptEncoding {
     Codes(Numbered),
 }
 
-/// The parts of a font, which together need not be one.
+/// What two fonts have to share, beside the indices that are present.
 #[derive(Drop)]
-pub(crate) struct FontParts {
+pub(crate) struct KeptShell {
     pub(crate) head: Vec<u8>,
     pub(crate) clear_tail: Vec<u8>,
     pub(crate) private: Vec<u8>,
     pub(crate) middle: Vec<u8>,
     pub(crate) tail: Vec<u8>,
     pub(crate) len_iv: u8,
-    pub(crate) subrs_shell: Option<KeptSubrs>,
+    pub(crate) subrs: Option<KeptSubrs>,
     pub(crate) glyphs_rd: Vec<u8>,
     pub(crate) glyphs_def: Vec<u8>,
+}
+
+/// The parts of a font, which together need not be one.
+#[derive(Drop)]
+pub(crate) struct FontParts {
+    pub(crate) shell: KeptShell,
     pub(crate) encoding: KeptEncoding,
     pub(crate) subrs: Numbered,
     pub(crate) glyphs: Named,
 }
 
 impl Model for FontParts {
-    ghost use Rattle.std.specs.Option.{option_map};
     ghost use Rattle.t1_font.specs.FontValue.{FontValue};
-    ghost use Rattle.t1_font.specs.FontModel.{font_code, subrs_view, encoding_of};
+    ghost use Rattle.t1_font.specs.FontModel.{font_code, shell_view, encoding_of};
 
     ghost Value = { FontValue };
 
     ghost coded = { font_code };
 
-    ghost view = { λ p. record {
-      shell = record { head = p.head.items; clear_tail = p.clear_tail.items; private = p.private.items; middle = p.middle.items; tail = p.tail.items; len_iv = p.len_iv; subrs = option_map subrs_view p.subrs_shell; glyphs_rd = p.glyphs_rd.items; glyphs_def = p.glyphs_def.items };
-      encoding = encoding_of p.encoding;
-      subrs = p.subrs;
-      glyphs = p.glyphs;
-    } };
+    ghost view = { λ p. record { shell = shell_view p.shell; encoding = encoding_of p.encoding; subrs = p.subrs; glyphs = p.glyphs } };
 }
 
 /// A Type 1 font program (Adobe Type 1 Font Format 1.1, chapter 2): its kept texts, its Encoding, its
@@ -141,18 +142,18 @@ impl Font {
     pub fn text(&self, part: Part) -> &[u8]
         ensures { result.now ≡ part_of part self.now.shell }
     {
-        let parts = &self.parts;
+        let shell = &self.parts.shell;
         match part {
-            Part::Head => parts.head.as_slice(),
-            Part::ClearTail => parts.clear_tail.as_slice(),
-            Part::Private => parts.private.as_slice(),
-            Part::Middle => parts.middle.as_slice(),
-            Part::Tail => parts.tail.as_slice(),
-            Part::SubrsRd => parts.subrs_rd(),
-            Part::SubrsPut => parts.subrs_put(),
-            Part::SubrsDef => parts.subrs_def(),
-            Part::GlyphsRd => parts.glyphs_rd.as_slice(),
-            Part::GlyphsDef => parts.glyphs_def.as_slice(),
+            Part::Head => shell.head.as_slice(),
+            Part::ClearTail => shell.clear_tail.as_slice(),
+            Part::Private => shell.private.as_slice(),
+            Part::Middle => shell.middle.as_slice(),
+            Part::Tail => shell.tail.as_slice(),
+            Part::SubrsRd => shell.subrs_rd(),
+            Part::SubrsPut => shell.subrs_put(),
+            Part::SubrsDef => shell.subrs_def(),
+            Part::GlyphsRd => shell.glyphs_rd.as_slice(),
+            Part::GlyphsDef => shell.glyphs_def.as_slice(),
         }
     }
 
@@ -160,14 +161,22 @@ impl Font {
     pub fn has_subrs(&self) -> bool
         ensures { result ≡ is_some self.now.shell.subrs }
     {
-        self.parts.subrs_shell.is_some()
+        self.parts.shell.subrs.is_some()
     }
 
     /// How many lead bytes a charstring has in a file.
     pub fn len_iv(&self) -> u8
         ensures { result ≡ self.now.shell.len_iv }
     {
-        self.parts.len_iv
+        self.parts.shell.len_iv
+    }
+
+    /// The weight by which a font is limited: the bytes of the five kept texts, and for each
+    /// charstring its bytes, its lead bytes and a fixed number.
+    pub fn weight(&self) -> u32
+        ensures { result ≡ weight self.now }
+    {
+        self.parts.weight() as u32
     }
 
     /// Whether a Subr has an entry.
@@ -186,11 +195,33 @@ impl FontParts {
         self.subrs.get(index)
     }
 
+    /// The weight, as far as 64 bits hold it.
+    pub(crate) fn weight(&self) -> u64
+        ensures { result ≡ clamp (weight self.now) }
+    {
+        let texts = self.shell.texts_weight();
+        let with_subrs = self.subrs.weight(texts, self.shell.len_iv);
+        self.glyphs.weight(with_subrs, self.shell.len_iv)
+    }
+}
+
+impl KeptShell {
+    /// How many bytes the five kept texts have, as far as 64 bits hold it.
+    fn texts_weight(&self) -> u64
+        ensures { result ≡ clamp (texts_weight (shell_view self.now)) }
+    {
+        (self.head.len() as u64)
+            .saturating_add(self.clear_tail.len() as u64)
+            .saturating_add(self.private.len() as u64)
+            .saturating_add(self.middle.len() as u64)
+            .saturating_add(self.tail.len() as u64)
+    }
+
     /// The word before the bytes of each Subr.
     fn subrs_rd(&self) -> &[u8]
-        ensures { result.now ≡ of_subrs (λ s. s.rd) self.now.shell.subrs }
+        ensures { result.now ≡ of_subrs (λ s. s.rd) (shell_view self.now).subrs }
     {
-        match &self.subrs_shell {
+        match &self.subrs {
             Some(kept) => kept.rd.as_slice(),
             None => &[],
         }
@@ -198,9 +229,9 @@ impl FontParts {
 
     /// The phrase after the bytes of each Subr.
     fn subrs_put(&self) -> &[u8]
-        ensures { result.now ≡ of_subrs (λ s. s.put) self.now.shell.subrs }
+        ensures { result.now ≡ of_subrs (λ s. s.put) (shell_view self.now).subrs }
     {
-        match &self.subrs_shell {
+        match &self.subrs {
             Some(kept) => kept.put.as_slice(),
             None => &[],
         }
@@ -208,9 +239,9 @@ impl FontParts {
 
     /// The phrase that closes the table of Subrs.
     fn subrs_def(&self) -> &[u8]
-        ensures { result.now ≡ of_subrs (λ s. s.closing) self.now.shell.subrs }
+        ensures { result.now ≡ of_subrs (λ s. s.closing) (shell_view self.now).subrs }
     {
-        match &self.subrs_shell {
+        match &self.subrs {
             Some(kept) => kept.closing.as_slice(),
             None => &[],
         }
@@ -261,7 +292,7 @@ impl Subroutines for Font {
     ghost below = { subrs_below };
 
     fn count(&self) -> u16 {
-        match &self.parts.subrs_shell {
+        match &self.parts.shell.subrs {
             Some(kept) => kept.declared,
             None => 0,
         }

@@ -11,6 +11,7 @@ mod limits;
 mod maps;
 mod marks;
 mod private;
+mod read;
 mod subrs;
 mod words;
 
