@@ -10,8 +10,36 @@ pub mod FontReaders
 pub mod Weights
 pub mod FileParts
 pub mod FromPieces
+pub mod AnswersRight
 pub mod ValueLaws
 pub mod ReadingLaws
 pub mod ReadLaws
 pub mod SpellingLaws
 pub mod ReasonLaws
+pub mod Readings
+pub mod FirstPlace
+pub mod Borders
+pub mod Moves
+pub mod Written
+pub mod Phrases
+pub mod GlyphsWritten
+pub mod MapCuts
+pub mod ClearWritten
+pub mod PrivateWritten
+pub mod SplitWritten
+pub mod FontAgain
+pub mod ByteLemmas
+pub mod LengthLemmas
+pub mod Kept
+pub mod RoundTrip
+pub mod ReadBack
+pub mod ReadBytes
+pub mod ReadEntries
+pub mod ReadMarks
+pub mod ReadClear
+pub mod ReadPrivate
+pub mod ReadFontLaws
+pub mod Tiny
+mod TinyRows
+pub mod Decimals
+mod TinyFiles

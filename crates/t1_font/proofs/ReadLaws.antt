@@ -43,7 +43,7 @@ unfolding iv_at
 iv_at_sound None = give_sound 4
 iv_at_sound (Some mark) = bind_sound _ _ (wanted_sound _ _ len_iv_exact mark.1) (λ n. give_sound n.0)
 
-iv_sound : (private : List ℕ) → IsSound (iv_of private)
+pub iv_sound : (private : List ℕ) → IsSound (iv_of private)
 unfolding iv_of
 iv_sound private = bind_sound _ _ (optional_sound _ (first_exact _ len_iv_mark_exact) private) iv_at_sound
 

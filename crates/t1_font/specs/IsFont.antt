@@ -111,3 +111,24 @@ pub record IsFont (f : FontValue) : Type 0 where
   pub subrs : SubrsFit f.shell f.shell.subrs f.subrs
   pub glyphs : AreGlyphs f.shell f.glyphs
   pub light : weight f ≤ weight_limit
+
+-- ---- bytes
+
+abbrev pub EncodingBytes : Encoding → Type 0
+EncodingBytes (Word w) = AreBytes w
+EncodingBytes (Codes m) = (c : ℕ) (n : List ℕ) → get m c ≡ Some n → AreBytes n
+
+abbrev pub SubrsBytes : Option SubrsShell → Type 0
+SubrsBytes None = Unit {0}
+SubrsBytes (Some s) = AreBytes s.rd × AreBytes s.put × AreBytes s.closing
+
+-- the texts, words, names and charstrings of a value are bytes
+pub record HasBytes (f : FontValue) : Type 0 where
+  pub texts : AreTexts f.shell
+  pub encoding : EncodingBytes f.encoding
+  pub subrs_words : SubrsBytes f.shell.subrs
+  pub subrs : (i : ℕ) (c : List ℕ) → get f.subrs i ≡ Some c → AreBytes c
+  pub rd : AreBytes f.shell.glyphs_rd
+  pub def : AreBytes f.shell.glyphs_def
+  pub names : (n c : List ℕ) → get f.glyphs n ≡ Some c → AreBytes n
+  pub glyphs : (n c : List ℕ) → get f.glyphs n ≡ Some c → AreBytes c

@@ -18,3 +18,6 @@ pub mod Held
 pub mod Answers
 pub mod Laws
 pub mod Writing
+pub mod Canon
+pub mod Cut
+pub mod WriteLaws

@@ -83,3 +83,8 @@ Reason file NoNotdef = (outside : ClearPieces) × (inside : PrivatePieces) × Ha
 Reason file Limit = (outside : ClearPieces) × (inside : PrivatePieces) × HasPieces file outside inside × FontFails outside inside Limit
 Reason file Memory = ⊥
 Reason file e = (clear text : List ℕ) × (outside : ClearPieces) × Texts file clear text × IsClear clear outside × PrivateFails text e
+
+-- which refusals are right; want of memory always is
+abbrev pub Refuses : List ℕ → ReadFault → Type 0
+Refuses file Memory = Unit {0}
+Refuses file e = Reason file e

@@ -4,6 +4,7 @@
 mod charstrings;
 mod encoding;
 mod fault;
+mod file;
 mod font;
 mod glyphs;
 pub mod laws;
@@ -11,9 +12,10 @@ mod limits;
 mod maps;
 mod marks;
 mod private;
-mod read;
+
 mod subrs;
 mod words;
 
 pub use fault::ReadFault;
 pub use font::{Font, Names, Part};
+pub use file::read;

@@ -7,7 +7,7 @@ use Rattle.t1_font.specs.ReadFont.{subrs_of}
 use Rattle.t1_font.specs.Held.{subr_bodies}
 use Rattle.t1_font.specs.Answers.{ShowsSubrs}
 use Rattle.t1_font.proofs.HeldLemmas.{no_subrs}
-use Rattle.t1_font.proofs.read.kept_bodies.Goals as goal
+use Rattle.t1_font.proofs.file.kept_bodies.Goals as goal
 
 none_shown : (iv : ℕ) (p : Option SubrsPieces) → ShowsSubrs iv None p → empty ≡ subr_bodies iv (subrs_of p)
 none_shown iv None h = no_subrs iv

@@ -3,7 +3,7 @@ use Rattle.t1_font.specs.declared.fault.ReadFault.{ReadFault}
 use Rattle.t1_font.specs.Answers.{Refused}
 use Rattle.t1_font.specs.Pieces.{flat_pieces}
 use Rattle.t1_font.proofs.FileParts.{split_pieces, split_within, split_lead, split_fails}
-use Rattle.t1_font.proofs.read.split.Goals as goal
+use Rattle.t1_font.proofs.file.split.Goals as goal
 
 pub returns-in-Ok-clause-parts : goal.returns-in-Ok-clause-parts
 returns-in-Ok-clause-parts c = split_pieces c.args.flat.now c.in-Ok.end c.in-Ok.cipher.items c.in-Ok.ensures.right

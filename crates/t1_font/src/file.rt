@@ -10,6 +10,8 @@ ghost use Rattle.t1_font.specs.Views.{phrase_view, words_view};
 ghost use Rattle.t1_font.specs.Pieces.{ClearPieces, SubrsPieces, PrivatePieces, flat_pieces};
 ghost use Rattle.t1_font.specs.ReadFont.{subrs_of, subrs_shell, shell_of, font_of, flat_text, font_from, font_file};
 ghost use Rattle.t1_font.specs.Answers.{Answers, Shown, ShowsClear, ShowsTable, ShowsSubrs, ShowsPrivate, encoding_view, declared_in};
+ghost use Rattle.t1_font.specs.Spelling.{Spells};
+ghost use Rattle.t1_font.specs.Reasons.{Refuses};
 
 use crate::encoding::{ClearParts, EncodingParts, clear_parts};
 use crate::fault::ReadFault;
@@ -225,4 +227,22 @@ fn file_parts(alloc: Global, file: &[u8]) -> Result<FontParts, ReadFault>
         Err(fault) => return Err(fault),
     };
     font_from(alloc, outside, inside)
+}
+
+/// Reads a font file: PFA or PFB, in any spelling of the Type 1 grammar that this library accepts
+/// (Adobe Type 1 Font Format 1.1, chapters 2, 5, 6 and 7; Technical Note 5040).
+///
+/// # Errors
+///
+/// The first fault, in the order of [`ReadFault`], whose condition holds; `at` is the offset of the
+/// first entry that doesn't read, in the file for a segment, in the flat text for the Encoding, in
+/// the private text for the tables. Want of memory is `Memory`, where a growth was refused.
+pub fn read(alloc: Global, file: &[u8]) -> Result<Font, ReadFault>
+    ensures right { MatchResult result (Spells file.now) (Refuses file.now) }
+    ensures exact { Answers (λ f. f) result (font_file file.now) }
+{
+    match file_parts(alloc, file) {
+        Ok(parts) => Ok(Font { parts }),
+        Err(fault) => Err(fault),
+    }
 }

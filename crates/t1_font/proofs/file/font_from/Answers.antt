@@ -1,6 +1,6 @@
 use Rattle.std.proofs.Common.{◌≡◌, sym, ap, not, ◌∙◌, arith, subst}
 use Rattle.t1_font.proofs.FromPieces.{lacks_notdef, counts_over, weight_over, font_is}
-use Rattle.t1_font.proofs.read.font_from.Goals as goal
+use Rattle.t1_font.proofs.file.font_from.Goals as goal
 
 pub returns-then-not-inside : goal.returns-then-not-inside
 returns-then-not-inside c = λ o p outside inside. lacks_notdef o p c.args.inside inside c.if-not-inside.true

@@ -1,0 +1,33 @@
+-- What was answered, by the relations.
+use Rattle.std.proofs.Common.{◌≡◌, ℕ, ◌<◌, List, [], ◌∷◌, get_or, Result, Ok, Err, Fits, w8, suc}
+use Rattle.std.specs.List.{AllByRecursion}
+use Rattle.t1_bytes.specs.Laws.{AreBytes}
+use Rattle.t1_font.specs.declared.fault.ReadFault.{ReadFault}
+use Rattle.t1_font.specs.declared.fault.ReadFault.TheVariants.{TooLong, BadSegment, NoEexec, ShortCipher, NoEncoding, BadEncoding, NoCharStrings, BadLenIV, BadSubrs, BadGlyphs, Hybrid, NoClosefile, NoNotdef, Limit, Memory}
+use Rattle.t1_font.specs.FontValue.{FontValue}
+use Rattle.t1_font.specs.ReadFont.{read_font}
+use Rattle.t1_font.specs.Reasons.{Reason, Refuses}
+use Rattle.t1_font.specs.Answers.{Refused}
+use Rattle.t1_font.proofs.ReasonLaws.{refuses}
+
+-- the bytes of a slice are bytes
+pub bytes_of_slice : (xs : List ℕ) → ((i : ℕ) → Fits w8 (get_or xs i 0)) → AreBytes xs
+bytes_of_slice [] h = tt
+bytes_of_slice (x ∷ xs) h = ((h 0).fits, bytes_of_slice xs (λ i. h (suc i)))
+
+pub fault_right : (file : List ℕ) (e : ReadFault) → Refused e (read_font file) → Refuses file e
+fault_right file Memory h = tt
+fault_right file TooLong h = refuses file TooLong h
+fault_right file (BadSegment at) h = refuses file (BadSegment at) h
+fault_right file NoEexec h = refuses file NoEexec h
+fault_right file ShortCipher h = refuses file ShortCipher h
+fault_right file NoEncoding h = refuses file NoEncoding h
+fault_right file (BadEncoding at) h = refuses file (BadEncoding at) h
+fault_right file NoCharStrings h = refuses file NoCharStrings h
+fault_right file BadLenIV h = refuses file BadLenIV h
+fault_right file (BadSubrs at) h = refuses file (BadSubrs at) h
+fault_right file (BadGlyphs at) h = refuses file (BadGlyphs at) h
+fault_right file Hybrid h = refuses file Hybrid h
+fault_right file NoClosefile h = refuses file NoClosefile h
+fault_right file NoNotdef h = refuses file NoNotdef h
+fault_right file Limit h = refuses file Limit h

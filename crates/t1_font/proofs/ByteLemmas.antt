@@ -1,0 +1,215 @@
+-- What is written of a font is bytes.
+use Rattle.std.proofs.Common.{◌≡◌, ℕ, zero, suc, ◌/◌, ◌%◌, ◌<◌, Bool, true, false, cond, ltb, ◌&&◌, List, [], ◌∷◌, ◌++◌, map, length, Option, Some, None, refl, sym, ap, subst, ◌∙◌, arith}
+use Rattle.std.specs.Prelude.{codes, ◌==◌}
+use Rattle.std.specs.Ordering.{nat_cmp}
+use Rattle.std.specs.Fmt.{decimal as digits, digits as all_digits, digits_onto, digit_glyph}
+use Rattle.std.specs.List.{AllByRecursion}
+use Rattle.std.specs.Option.{option_map}
+use Rattle.std.proofs.lemmas.Bool.{ltb-true, and_parts, agree_below_at}
+use Rattle.std.specs.Cmp.{nat_cmp_total}
+use Rattle.std.specs.Cmp.Lexicographic.{nat_list_cmp_total}
+use Rattle.std.specs.FinMap.{get, find, entries, get-entries, nat_cmp-IsAntisymmetric}
+use Rattle.t1_bytes.specs.declared.form.Form.{Form}
+use Rattle.t1_bytes.specs.declared.form.Form.TheVariants.{Pfa, Pfb}
+use Rattle.t1_bytes.specs.Cipher.{private_cipher}
+use Rattle.t1_bytes.specs.Texts.{segment_text, hex_byte, hex_rest, hex_lines, trailer}
+use Rattle.t1_bytes.specs.Laws.{AreBytes}
+use Rattle.t1_bytes.proofs.Ciphers.{sealed_bytes}
+use Rattle.t1_font.specs.FontValue.{FontValue, Shell, SubrsShell, Encoding, Word, Codes, Numbered}
+use Rattle.t1_font.specs.Subrs.{Subr}
+use Rattle.t1_font.specs.Marks.{Glyph}
+use Rattle.t1_font.specs.Canon.{sealed_body, subr_entry, glyph_entry, subrs_pieces, encoding_pieces, canon_clear, canon_private, canon}
+use Rattle.t1_font.specs.Writing.{subr_text, subrs_text, subrs_part, glyph_text, glyphs_text, glyphs_part, puts_text, encoding_text}
+use Rattle.t1_font.specs.IsFont.{IsFont, IsEncoding, SubrsFit, SubrWords, EncodingBytes, SubrsBytes, HasBytes}
+use Rattle.t1_font.proofs.MapCuts.{Some_None, entries_all}
+use Rattle.t1_font.proofs.FontAgain.{name_same}
+
+pub AreBytes-append : (a b : List ℕ) → AreBytes a → AreBytes b → AreBytes (a ++ b)
+AreBytes-append [] b h k = k
+AreBytes-append (x ∷ a) b h k = (h.0, AreBytes-append a b h.1 k)
+
+abbrev pub are_small : List ℕ → Bool
+are_small [] = true
+are_small (b ∷ bs) = ltb b 256 && are_small bs
+
+pub small_bytes : (bs : List ℕ) → are_small bs ≡ true → AreBytes bs
+small_bytes [] h = tt
+small_bytes (b ∷ bs) h = let both = and_parts (ltb b 256) (are_small bs) h in (ltb-true b 256 both.0, small_bytes bs both.1)
+
+digit_small : (d : ℕ) → d < 10 → digit_glyph false d < 256
+digit_small d h = ltb-true (digit_glyph false d) 256 (agree_below_at (λ d. ltb (digit_glyph false d) 256) (λ _. true) 10 d refl h)
+
+one_or_more : (b : Bool) (d : ℕ) (acc more : List ℕ) → d < 256 → AreBytes acc → AreBytes more → AreBytes (cond b (d ∷ acc) more)
+one_or_more true d acc more k h g = (k, h)
+one_or_more false d acc more k h g = g
+
+onto_bytes : (k n : ℕ) (acc : List ℕ) → AreBytes acc → AreBytes (digits_onto k 10 false n acc)
+onto_bytes zero n acc h = h
+onto_bytes (suc k) n acc h =
+    let small : digit_glyph false (n % 10) < 256 = digit_small (n % 10) (omega arith) in
+    one_or_more (n / 10 == 0) (digit_glyph false (n % 10)) acc _ small h (onto_bytes k (n / 10) (digit_glyph false (n % 10) ∷ acc) (small, h))
+
+pub digits_bytes : (n : ℕ) → AreBytes (digits n)
+unfolding all_digits
+digits_bytes n = onto_bytes 64 n [] tt
+
+pub body_bytes : (iv : ℕ) (c : List ℕ) → AreBytes c → AreBytes (sealed_body iv c)
+body_bytes iv c h = sealed_bytes 4330 iv c (omega arith) h
+
+blank : 32 < 256
+blank = omega arith
+
+line : 10 < 256
+line = omega arith
+
+-- a blank and more
+blank_bytes : (bs : List ℕ) → AreBytes bs → AreBytes (32 ∷ bs)
+blank_bytes bs h = (blank, h)
+
+subr_bytes : (e : Subr) → AreBytes e.rd → AreBytes e.body → AreBytes e.put → AreBytes (subr_text e)
+subr_bytes e rd body put =
+    let t4 : List ℕ = e.body ++ (32 ∷ e.put) in
+    let t3 : List ℕ = e.rd ++ (32 ∷ t4) in
+    let t2 : List ℕ = digits (length e.body) ++ (32 ∷ t3) in
+    let t1 : List ℕ = digits e.index ++ (32 ∷ t2) in
+    let b4 = AreBytes-append e.body (32 ∷ e.put) body (blank_bytes e.put put) in
+    let b3 = AreBytes-append e.rd (32 ∷ t4) rd (blank_bytes t4 b4) in
+    let b2 = AreBytes-append (digits (length e.body)) (32 ∷ t3) (digits_bytes (length e.body)) (blank_bytes t3 b3) in
+    let b1 = AreBytes-append (digits e.index) (32 ∷ t2) (digits_bytes e.index) (blank_bytes t2 b2) in
+    AreBytes-append (10 ∷ codes "dup ") t1 (small_bytes (10 ∷ codes "dup ") refl) b1
+
+glyph_bytes : (e : Glyph) → AreBytes e.name → AreBytes e.rd → AreBytes e.body → AreBytes e.nd → AreBytes (glyph_text e)
+glyph_bytes e name rd body nd =
+    let t4 : List ℕ = e.body ++ (32 ∷ e.nd) in
+    let t3 : List ℕ = e.rd ++ (32 ∷ t4) in
+    let t2 : List ℕ = digits (length e.body) ++ (32 ∷ t3) in
+    let t1 : List ℕ = e.name ++ (32 ∷ t2) in
+    let b4 = AreBytes-append e.body (32 ∷ e.nd) body (blank_bytes e.nd nd) in
+    let b3 = AreBytes-append e.rd (32 ∷ t4) rd (blank_bytes t4 b4) in
+    let b2 = AreBytes-append (digits (length e.body)) (32 ∷ t3) (digits_bytes (length e.body)) (blank_bytes t3 b3) in
+    let b1 = AreBytes-append e.name (32 ∷ t2) name (blank_bytes t2 b2) in
+    AreBytes-append (10 ∷ codes "/") t1 (small_bytes (10 ∷ codes "/") refl) b1
+
+-- ---- the tables
+
+subrs_bytes : (iv : ℕ) (s : SubrsShell) (es : List (ℕ × List ℕ)) → AreBytes s.rd → AreBytes s.put → AreBytes s.closing → AllByRecursion (λ e. AreBytes e.1) es → AreBytes (subrs_text (map (subr_entry iv s) es) s.closing)
+subrs_bytes iv s [] rd put closing all = (line, closing)
+subrs_bytes iv s (e ∷ es) rd put closing all =
+    AreBytes-append (subr_text (subr_entry iv s e)) (subrs_text (map (subr_entry iv s) es) s.closing) (subr_bytes (subr_entry iv s e) rd (body_bytes iv e.1 all.0) put) (subrs_bytes iv s es rd put closing all.1)
+
+glyphs_bytes : (s : Shell) (es : List (List ℕ × List ℕ)) → AreBytes s.glyphs_rd → AreBytes s.glyphs_def → AllByRecursion (λ e. AreBytes e.0 × AreBytes e.1) es → AreBytes (glyphs_text (map (glyph_entry s) es))
+glyphs_bytes s [] rd nd all = small_bytes (10 ∷ codes "end") refl
+glyphs_bytes s (e ∷ es) rd nd all =
+    AreBytes-append (glyph_text (glyph_entry s e)) (glyphs_text (map (glyph_entry s) es)) (glyph_bytes (glyph_entry s e) all.0.0 rd (body_bytes s.len_iv e.1 all.0.1) nd) (glyphs_bytes s es rd nd all.1)
+
+part_bytes : (iv : ℕ) (o : Option SubrsShell) (m : Numbered) → SubrsBytes o → ((i : ℕ) (c : List ℕ) → get m i ≡ Some c → AreBytes c) → AreBytes (subrs_part (option_map (subrs_pieces iv (entries m)) o))
+part_bytes iv None m h k = tt
+part_bytes iv (Some t) m h k =
+    let all = entries_all nat_cmp_total nat_cmp-IsAntisymmetric (λ i c. AreBytes c) m k in
+    let table : List ℕ = subrs_text (map (subr_entry iv t) (entries m)) t.closing in
+    let table_is = subrs_bytes iv t (entries m) h.0 h.1 h.2 all in
+    AreBytes-append (codes "/Subrs ") (digits t.declared ++ (codes " array" ++ table)) (small_bytes (codes "/Subrs ") refl)
+    (AreBytes-append (digits t.declared) (codes " array" ++ table) (digits_bytes t.declared) (AreBytes-append (codes " array") table (small_bytes (codes " array") refl) table_is))
+
+pub private_bytes : (f : FontValue) → HasBytes f → AreBytes (canon_private f)
+private_bytes f h =
+    let s = f.shell in
+    let gs = map (glyph_entry s) (entries f.glyphs) in
+    let o = option_map (subrs_pieces s.len_iv (entries f.subrs)) s.subrs in
+    let all = entries_all nat_list_cmp_total name_same (λ n c. AreBytes n × AreBytes c) f.glyphs (λ n c e. (h.names n c e, h.glyphs n c e)) in
+    let end : List ℕ = s.tail ++ 10 ∷ [] in
+    let end_is = AreBytes-append s.tail (10 ∷ []) h.texts.tail (line, tt) in
+    let table_is = glyphs_bytes s (entries f.glyphs) h.rd h.def all in
+    let part_is : AreBytes (glyphs_part gs) =
+    AreBytes-append (codes "/CharStrings ") (digits (length gs) ++ (codes " dict dup begin" ++ glyphs_text gs)) (small_bytes (codes "/CharStrings ") refl)
+    (AreBytes-append (digits (length gs)) (codes " dict dup begin" ++ glyphs_text gs) (digits_bytes (length gs)) (AreBytes-append (codes " dict dup begin") (glyphs_text gs) (small_bytes (codes " dict dup begin") refl) table_is)) in
+    AreBytes-append s.private (subrs_part o ++ (s.middle ++ (glyphs_part gs ++ end))) h.texts.private
+    (AreBytes-append (subrs_part o) (s.middle ++ (glyphs_part gs ++ end)) (part_bytes s.len_iv s.subrs f.subrs h.subrs_words h.subrs)
+    (AreBytes-append s.middle (glyphs_part gs ++ end) h.texts.middle (AreBytes-append (glyphs_part gs) end part_is end_is)))
+
+-- ---- the clear text
+
+puts_bytes : (es : List (ℕ × List ℕ)) → AllByRecursion (λ e. AreBytes e.1) es → AreBytes (puts_text es)
+puts_bytes [] all = small_bytes (10 ∷ codes "readonly def") refl
+puts_bytes (e ∷ es) all =
+    let p : List ℕ = puts_text es in
+    AreBytes-append (10 ∷ codes "dup ") (digits e.0 ++ (codes " /" ++ (e.1 ++ (codes " put" ++ p)))) (small_bytes (10 ∷ codes "dup ") refl)
+    (AreBytes-append (digits e.0) (codes " /" ++ (e.1 ++ (codes " put" ++ p))) (digits_bytes e.0)
+    (AreBytes-append (codes " /") (e.1 ++ (codes " put" ++ p)) (small_bytes (codes " /") refl)
+    (AreBytes-append e.1 (codes " put" ++ p) all.0 (AreBytes-append (codes " put") p (small_bytes (codes " put") refl) (puts_bytes es all.1)))))
+
+encoding_bytes : (e : Encoding) → EncodingBytes e → AreBytes (encoding_text (encoding_pieces e))
+encoding_bytes (Word w) h = AreBytes-append (codes "/Encoding ") (w ++ codes " def") (small_bytes (codes "/Encoding ") refl) (AreBytes-append w (codes " def") h (small_bytes (codes " def") refl))
+encoding_bytes (Codes m) h =
+    let start : List ℕ = codes "/Encoding 256 array" ++ (10 ∷ codes "0 1 255 {1 index exch /.notdef put} for") in
+    AreBytes-append start (puts_text (entries m)) (small_bytes start refl) (puts_bytes (entries m) (entries_all nat_cmp_total nat_cmp-IsAntisymmetric (λ c n. AreBytes n) m h))
+
+pub clear_bytes : (f : FontValue) → HasBytes f → AreBytes (canon_clear f)
+clear_bytes f h =
+    let e = encoding_text (encoding_pieces f.encoding) in
+    let end : List ℕ = f.shell.clear_tail ++ 10 ∷ [] in
+    AreBytes-append f.shell.head (e ++ end) h.texts.head (AreBytes-append e end (encoding_bytes f.encoding h.encoding) (AreBytes-append f.shell.clear_tail (10 ∷ []) h.texts.clear_tail (line, tt)))
+
+-- ---- the file
+
+segment_bytes : (kind : ℕ) (bytes : List ℕ) → kind < 256 → AreBytes bytes → AreBytes (segment_text kind bytes)
+segment_bytes kind bytes k h = (omega arith, (k, (omega arith, (omega arith, (omega arith, (omega arith, h))))))
+
+digits_small : (b : ℕ) → b < 256 → AreBytes (hex_byte b)
+digits_small b h = small_bytes (hex_byte b) (agree_below_at (λ b. are_small (hex_byte b)) (λ _. true) 256 b refl h)
+
+hex_bytes : (n : ℕ) (bs : List ℕ) → AreBytes bs → AreBytes (hex_rest n bs)
+hex_bytes n [] h = (line, tt)
+hex_bytes zero (b ∷ bs) h = (line, AreBytes-append (hex_byte b) (hex_rest 31 bs) (digits_small b h.0) (hex_bytes 31 bs h.1))
+hex_bytes (suc n) (b ∷ bs) h = AreBytes-append (hex_byte b) (hex_rest n bs) (digits_small b h.0) (hex_bytes n bs h.1)
+
+lines_bytes : (bs : List ℕ) → AreBytes bs → AreBytes (hex_lines bs)
+lines_bytes [] h = tt
+lines_bytes (b ∷ bs) h = AreBytes-append (hex_byte b) (hex_rest 31 bs) (digits_small b h.0) (hex_bytes 31 bs h.1)
+
+trailer_bytes : AreBytes trailer
+trailer_bytes = small_bytes trailer refl
+
+pub cipher_bytes : (f : FontValue) → HasBytes f → AreBytes (private_cipher (canon_private f))
+cipher_bytes f h = sealed_bytes 55665 4 (canon_private f) (omega arith) (private_bytes f h)
+
+-- the canonical file of a value of bytes is bytes
+pub canon_bytes : (f : FontValue) (form : Form) → HasBytes f → AreBytes (canon f form)
+canon_bytes f Pfa h =
+    let c = private_cipher (canon_private f) in
+    AreBytes-append (canon_clear f) (hex_lines c ++ trailer) (clear_bytes f h) (AreBytes-append (hex_lines c) trailer (lines_bytes c (cipher_bytes f h)) trailer_bytes)
+canon_bytes f Pfb h =
+    let c = private_cipher (canon_private f) in
+    let e : List ℕ = 128 ∷ 3 ∷ [] in
+    AreBytes-append (segment_text 1 (canon_clear f)) (segment_text 2 c ++ (segment_text 1 trailer ++ e)) (segment_bytes 1 (canon_clear f) (omega arith) (clear_bytes f h))
+    (AreBytes-append (segment_text 2 c) (segment_text 1 trailer ++ e) (segment_bytes 2 c (omega arith) (cipher_bytes f h)) (AreBytes-append (segment_text 1 trailer) e (segment_bytes 1 trailer (omega arith) trailer_bytes) (small_bytes e refl)))
+
+-- ---- a font has bytes
+
+encoding_has : (e : Encoding) → IsEncoding e → EncodingBytes e
+encoding_has (Word w) h = h.bytes
+encoding_has (Codes m) h = λ c n e. (h c n e).name.bytes
+
+words_bytes : (es : List (ℕ × List ℕ)) (s : SubrsShell) → SubrWords es s → AreBytes s.rd × AreBytes s.put
+words_bytes [] s h = (subst AreBytes (sym h.0) tt, subst AreBytes (sym h.1) tt)
+words_bytes (e ∷ es) s h = (h.0.bytes, h.1.bytes)
+
+words_have : (s : Shell) (o : Option SubrsShell) (m : Numbered) → SubrsFit s o m → SubrsBytes o
+words_have s None m h = tt
+words_have s (Some t) m h = let w = words_bytes (entries m) t h.words in (w.0, w.1, h.closing.bytes)
+
+subrs_have : (s : Shell) (o : Option SubrsShell) (m : Numbered) → SubrsFit s o m → (i : ℕ) (c : List ℕ) → get m i ≡ Some c → AreBytes c
+subrs_have s None m h i c e = Some_None (sym e ∙ get-entries m i ∙ ap (find nat_cmp i) h.0)
+subrs_have s (Some t) m h i c e = (h.bodies i c e).bytes
+
+pub has_bytes : (f : FontValue) → IsFont f → HasBytes f
+has_bytes f h = record {
+  texts = h.texts;
+  encoding = encoding_has f.encoding h.encoding;
+  subrs_words = words_have f.shell f.shell.subrs f.subrs h.subrs;
+  subrs = subrs_have f.shell f.shell.subrs f.subrs h.subrs;
+  rd = h.glyphs.rd.bytes;
+  def = h.glyphs.def.bytes;
+  names = λ n c e. (h.glyphs.names n c e).bytes;
+  glyphs = λ n c e. (h.glyphs.bodies n c e).bytes;
+}

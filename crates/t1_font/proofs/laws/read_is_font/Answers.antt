@@ -1,0 +1,5 @@
+use Rattle.t1_font.proofs.ReadFontLaws.{read_is_font}
+use Rattle.t1_font.proofs.laws.read_is_font.Goals as goal
+
+pub returns : goal.returns
+returns c = read_is_font

@@ -1,0 +1,58 @@
+-- The canonical file of a font: a function of the font value alone.
+use Rattle.std.specs.Prelude.{ℕ, List, map}
+use Rattle.std.specs.Option.{option_map}
+use Rattle.std.specs.FinMap.{entries}
+use Rattle.t1_bytes.specs.declared.form.Form.{Form}
+use Rattle.t1_bytes.specs.Cipher.{sealed, private_cipher}
+use Rattle.t1_bytes.specs.Texts.{file_text}
+use Rattle.t1_font.specs.Subrs.{Subr}
+use Rattle.t1_font.specs.Marks.{Glyph}
+use Rattle.t1_font.specs.Pieces.{EncodingText, OneWord, Puts, ClearPieces, SubrsPieces, PrivatePieces}
+use Rattle.t1_font.specs.FontValue.{FontValue, Shell, SubrsShell, Encoding, Word, Codes}
+use Rattle.t1_font.specs.Writing.{private_written, clear_written}
+
+-- a charstring as it stands in a file: behind lenIV zeros, encrypted
+abbrev pub sealed_body : ℕ → List ℕ → List ℕ
+sealed_body len_iv plain = sealed 4330 len_iv plain
+
+-- an entry of Subrs, with the kept words
+abbrev pub subr_entry : ℕ → SubrsShell → ℕ × List ℕ → Subr
+subr_entry len_iv s e = record { index = e.0; rd = s.rd; body = sealed_body len_iv e.1; put = s.put }
+
+-- a glyph, with the kept words
+abbrev pub glyph_entry : Shell → List ℕ × List ℕ → Glyph
+glyph_entry s e = record { name = e.0; rd = s.glyphs_rd; body = sealed_body s.len_iv e.1; nd = s.glyphs_def }
+
+abbrev pub subrs_pieces : ℕ → List (ℕ × List ℕ) → SubrsShell → SubrsPieces
+subrs_pieces len_iv es s = record { declared = s.declared; entries = map (subr_entry len_iv s) es; closing = s.closing }
+
+-- the pieces of the private text of a shell with these Subrs and glyphs, in the order of their keys
+abbrev pub inside_of : Shell → List (ℕ × List ℕ) → List (List ℕ × List ℕ) → PrivatePieces
+inside_of s subrs glyphs = record {
+  private = s.private;
+  len_iv = s.len_iv;
+  subrs = option_map (subrs_pieces s.len_iv subrs) s.subrs;
+  middle = s.middle;
+  glyphs = map (glyph_entry s) glyphs;
+  tail = s.tail;
+}
+
+abbrev pub encoding_pieces : Encoding → EncodingText
+encoding_pieces (Word w) = OneWord w
+encoding_pieces (Codes m) = Puts (entries m)
+
+-- the pieces of the clear text of a shell with this Encoding
+abbrev pub outside_of : Shell → EncodingText → ClearPieces
+outside_of s encoding = record { head = s.head; encoding = encoding; clear_tail = s.clear_tail }
+
+-- the canonical clear text
+abbrev pub canon_clear : FontValue → List ℕ
+canon_clear f = clear_written (outside_of f.shell (encoding_pieces f.encoding))
+
+-- the canonical private text
+abbrev pub canon_private : FontValue → List ℕ
+canon_private f = private_written (inside_of f.shell (entries f.subrs) (entries f.glyphs))
+
+-- the canonical file
+abbrev pub canon : FontValue → Form → List ℕ
+canon f form = file_text form (canon_clear f) (private_cipher (canon_private f))

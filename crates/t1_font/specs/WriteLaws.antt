@@ -1,0 +1,64 @@
+-- The laws of fonts and their canonical files, each the contract of a function in `laws`.
+use Rattle.std.specs.Prelude.{◌≡◌, ◌↔◌, ℕ, ◌+◌, ◌*◌, ◌≤◌, Bool, true, false, List, length, Ok}
+use Rattle.std.specs.FinMap.{len}
+use Rattle.t1_bytes.specs.declared.form.Form.{Form}
+use Rattle.t1_bytes.specs.declared.form.Form.TheVariants.{Pfa, Pfb}
+use Rattle.t1_bytes.specs.Laws.{AreBytes}
+use Rattle.t1_bytes.specs.Segments.{starts_segment}
+use Rattle.t1_font.specs.FontValue.{FontValue, Encoding, Word, Codes, notdef, file_limit, count_limit, weight_limit, weight}
+use Rattle.t1_font.specs.ReadFont.{read_font}
+use Rattle.t1_font.specs.Canon.{canon}
+use Rattle.t1_font.specs.Cut.{restrict, join_parts, merged}
+use Rattle.t1_font.specs.IsFont.{HasBytes, IsFont}
+
+-- text that begins with byte 128 would be taken for PFB
+abbrev pub Fits : Form → FontValue → Type 0
+Fits Pfa f = starts_segment f.shell.head ≡ false
+Fits Pfb f = Unit {0}
+
+-- the canonical file of a font is read as the font
+abbrev pub RoundTrip : Type 0
+RoundTrip = (f : FontValue) (form : Form) → IsFont f → Fits form f → read_font (canon f form) ≡ Ok f
+
+-- fonts with one canonical file are one font
+abbrev pub Fingerprint : Type 0
+Fingerprint = (f g : FontValue) (form : Form) → IsFont f → IsFont g → Fits form f → Fits form g → canon f form ≡ canon g form → f ≡ g
+
+-- what is read of a file of bytes is a font
+abbrev pub ReadIsFont : Type 0
+ReadIsFont = (file : List ℕ) (f : FontValue) → AreBytes file → read_font file ≡ Ok f → IsFont f
+
+-- a font is a value of bytes that its own canonical PFB spells
+abbrev pub IsFontExactly : Type 0
+IsFontExactly = (f : FontValue) → IsFont f ↔ (HasBytes f × (read_font (canon f Pfb) ≡ Ok f))
+
+-- the canonical file of a value of bytes is bytes
+abbrev pub CanonIsBytes : Type 0
+CanonIsBytes = (f : FontValue) (form : Form) → HasBytes f → AreBytes (canon f form)
+
+-- the canonical file of a font is within the file limit
+abbrev pub CanonIsShort : Type 0
+CanonIsShort = (f : FontValue) (form : Form) → IsFont f → length (canon f form) ≤ file_limit
+
+-- a PFB is hardly longer than the font weighs, and a PFA hardly longer than three times that
+abbrev pub CanonLength : Form → ℕ → ℕ
+CanonLength Pfa weight = 3 * weight + 37546
+CanonLength Pfb weight = weight + 37357
+
+abbrev pub CanonWeighs : Type 0
+CanonWeighs = (f : FontValue) (form : Form) → IsFont f → length (canon f form) ≤ CanonLength form (weight f)
+
+-- a font cut to names with `.notdef` is a font, and weighs no more
+abbrev pub RestrictIsFont : Type 0
+RestrictIsFont = (names : List ℕ → Bool) (subrs : ℕ → Bool) (f : FontValue) → IsFont f → names notdef ≡ true → IsFont (restrict names subrs f) × (weight (restrict names subrs f) ≤ weight f)
+
+-- the same word, or two tables
+abbrev pub SameKind : Encoding → Encoding → Type 0
+SameKind (Word v) (Word w) = v ≡ w
+SameKind (Word v) (Codes n) = ⊥
+SameKind (Codes m) (Word w) = ⊥
+SameKind (Codes m) (Codes n) = Unit {0}
+
+-- the entries of two fonts with one shell, within the limits, are a font
+abbrev pub JoinIsFont : Type 0
+JoinIsFont = (f g : FontValue) → IsFont f → IsFont g → f.shell ≡ g.shell → SameKind f.encoding g.encoding → len (merged f.glyphs g.glyphs) ≤ count_limit → weight (join_parts f g) ≤ weight_limit → IsFont (join_parts f g)
