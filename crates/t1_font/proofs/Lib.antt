@@ -11,6 +11,7 @@ pub mod Weights
 pub mod FileParts
 pub mod FromPieces
 pub mod AnswersRight
+pub mod Lengths
 pub mod ValueLaws
 pub mod ReadingLaws
 pub mod ReadLaws

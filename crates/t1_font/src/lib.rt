@@ -15,7 +15,10 @@ mod private;
 
 mod subrs;
 mod words;
+mod writing;
 
 pub use fault::ReadFault;
 pub use font::{Font, Names, Part};
 pub use file::read;
+pub use t1_bytes::Form;
+pub use writing::write;

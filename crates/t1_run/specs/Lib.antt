@@ -5,3 +5,6 @@ pub mod Machine
 pub mod Laws
 pub mod Limits
 pub mod Tables
+pub mod Standard
+pub mod Drawings
+pub mod Pictures

@@ -145,6 +145,20 @@ fn run_glyph<S: Subroutines>(
     }
 }
 
+// What a charstring answers by itself, by what the pop after OtherSubr 3 gives.
+pub(crate) fn direct_by<S: Subroutines>(
+    alloc: Global,
+    subrs: &S,
+    hints: Hints,
+    charstring: &[u8],
+) -> Result<Direct, AllocError>
+    ensures answer { IfOk result (λ d. value_of d ≡ direct_by hints (S.subrs subrs.now) charstring.now) }
+    ensures within { IfOk result (λ d. EndsWithinLimits (value_of d)) }
+{
+    let mut called = BTreeSet::new(alloc);
+    run_glyph(alloc, subrs, hints, charstring, &mut called)
+}
+
 /// What a plain charstring answers by itself, an accented glyph's parts aside, in a font of these Subrs (Adobe Type 1 Font
 /// Format 1.1, chapters 6 and 8). Every number in the answer is at most 2^47 in size. It fails for want of memory alone: a
 /// faulty charstring is an answer.
@@ -156,8 +170,7 @@ pub fn direct<S: Subroutines>(
     ensures answer { IfOk result (λ d. value_of d ≡ direct (S.subrs subrs.now) charstring.now) }
     ensures within { IfOk result (λ d. EndsWithinLimits (value_of d)) }
 {
-    let mut called = BTreeSet::new(alloc);
-    run_glyph(alloc, subrs, Hints::Replaced, charstring, &mut called)
+    direct_by(alloc, subrs, Hints::Replaced, charstring)
 }
 
 // What a charstring answers by itself, where hints are kept: the pop after OtherSubr 3 gives 3.
@@ -169,8 +182,7 @@ pub(crate) fn direct3<S: Subroutines>(
     ensures answer { IfOk result (λ d. value_of d ≡ direct_by Hints.Kept (S.subrs subrs.now) charstring.now) }
     ensures within { IfOk result (λ d. EndsWithinLimits (value_of d)) }
 {
-    let mut called = BTreeSet::new(alloc);
-    run_glyph(alloc, subrs, Hints::Kept, charstring, &mut called)
+    direct_by(alloc, subrs, Hints::Kept, charstring)
 }
 
 /// The indices that `callsubr` takes in the run of a plain charstring, up to its end or fault: whole numbers from 0 to

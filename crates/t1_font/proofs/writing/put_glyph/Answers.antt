@@ -1,0 +1,7 @@
+use Rattle.std.proofs.Common.{◌++◌, ◌∙◌}
+use Rattle.t1_font.specs.FontModel.{shell_view}
+use Rattle.t1_font.proofs.Lengths.{glyph_put, after_key}
+use Rattle.t1_font.proofs.writing.put_glyph.Goals as goal
+
+pub returns : goal.returns
+returns c = glyph_put c.args.out.now.items _ _ _ (shell_view c.args.shell.now) c.args.name.now c.args.plain.now c.in_ok-extend_from_slice.ensures.items c.in_ok-extend_from_slice-2.ensures.items (c.in_ok-put_body.ensures ∙ (λ i. c.extend_from_slice-2.new.self.items ++ after_key c.args.shell.now.len_iv c.args.plain.now (c.as_slice.ensures.value i) (c.as_slice-2.ensures.value i)))

@@ -1,0 +1,306 @@
+//! The canonical file of a font.
+
+ghost use Rattle.std.specs.Prelude.{◌≡◌, ◌≤◌, ◌^◌, ◌+◌, ◌++◌, ◌∷◌, length, map, replicate, Some, Ok, OnOk, IfOk};
+ghost use Rattle.std.specs.Fmt.{decimal};
+ghost use Rattle.std.specs.Option.{option_map};
+ghost use Rattle.std.specs.FinMap as fin;
+ghost use Rattle.t1_bytes.specs.Cipher.{private_cipher};
+ghost use Rattle.t1_bytes.specs.Texts.{file_text};
+ghost use Rattle.t1_bytes.specs.declared.form.Form.TheVariants.{Pfa, Pfb};
+ghost use Rattle.t1_font.specs.FontValue.{file_limit};
+ghost use Rattle.t1_font.specs.FontModel.{subrs_view, shell_view, encoding_of};
+ghost use Rattle.t1_font.specs.ReadFont.{read_font};
+ghost use Rattle.t1_font.specs.Writing.{subr_text, glyph_text, subrs_part, glyphs_part, puts_text, encoding_text};
+ghost use Rattle.t1_font.specs.Canon.{sealed_body, subr_entry, glyph_entry, subrs_pieces, encoding_pieces, canon_clear, canon_private, canon};
+ghost use Rattle.t1_font.specs.WriteLaws.{Fits};
+
+use crate::font::{Font, FontParts, KeptEncoding, KeptShell, KeptSubrs};
+use crate::maps::{Named, Numbered};
+use std::alloc::{AllocError, Global};
+use t1_bytes::{CHARSTRING_KEY, EEXEC_KEY, EEXEC_LEAD, Form, encrypt, hex_lines, segments, trailer};
+
+/// How many bytes of a private text the weight of its font leaves out at most: the markers, the
+/// phrase that closes Subrs, lead bytes and ends of lines.
+const MARKERS: usize = 256;
+
+/// Writes a number in decimal digits at the end.
+fn put_number(alloc: Global, out: &mut Vec<u8>, number: usize) -> Result<(), AllocError>
+    ensures { OnOk result (out.new.items ≡ out.old.items ++ decimal number) }
+{
+    let digits = number.to_string(alloc)?;
+    out.extend_from_slice(digits.as_bytes())
+}
+
+/// Writes a charstring at the end as it stands in a file: behind lenIV zeros, encrypted.
+fn put_sealed(out: &mut Vec<u8>, plain: &[u8], len_iv: u8) -> Result<(), AllocError>
+    ensures { OnOk result (out.new.items ≡ out.old.items ++ sealed_body len_iv plain.now) }
+{
+    let start = out.len();
+    out.resize(start.saturating_add(len_iv as usize), 0)?;
+    out.extend_from_slice(plain)?;
+    let (_, body) = out.as_mut_slice().split_at_mut(start);
+    encrypt(body, CHARSTRING_KEY);
+    Ok(())
+}
+
+/// Writes what follows the key of an entry: its length, its bytes, and the kept words around them.
+fn put_body(
+    alloc: Global,
+    out: &mut Vec<u8>,
+    plain: &[u8],
+    len_iv: u8,
+    rd: &[u8],
+    phrase: &[u8],
+) -> Result<(), AllocError>
+    ensures { OnOk result (out.new.items ≡ out.old.items ++ (32 ∷ (decimal (len_iv + length plain.now) ++ (32 ∷ (rd.now ++ (32 ∷ (sealed_body len_iv plain.now ++ (32 ∷ phrase.now)))))))) }
+{
+    out.push(b' ')?;
+    put_number(alloc, out, len_iv as usize + plain.len())?;
+    out.push(b' ')?;
+    out.extend_from_slice(rd)?;
+    out.push(b' ')?;
+    put_sealed(out, plain, len_iv)?;
+    out.push(b' ')?;
+    out.extend_from_slice(phrase)?;
+    Ok(())
+}
+
+/// Writes an entry of Subrs, after the end of the line before it.
+fn put_subr(
+    alloc: Global,
+    out: &mut Vec<u8>,
+    kept: &KeptSubrs,
+    len_iv: u8,
+    index: u16,
+    plain: &[u8],
+) -> Result<(), AllocError>
+    ensures { OnOk result (out.new.items ≡ out.old.items ++ subr_text (subr_entry len_iv (subrs_view kept.now) (index, plain.now))) }
+{
+    out.extend_from_slice(b"\ndup ")?;
+    put_number(alloc, out, index as usize)?;
+    put_body(
+        alloc,
+        out,
+        plain,
+        len_iv,
+        kept.rd.as_slice(),
+        kept.put.as_slice(),
+    )?;
+    Ok(())
+}
+
+/// Writes the table of Subrs.
+fn put_subrs(
+    alloc: Global,
+    out: &mut Vec<u8>,
+    kept: &KeptSubrs,
+    len_iv: u8,
+    subrs: &Numbered,
+) -> Result<(), AllocError>
+    ensures { OnOk result (out.new.items ≡ out.old.items ++ subrs_part (Some (subrs_pieces len_iv (fin.entries subrs.now) (subrs_view kept.now)))) }
+{
+    out.extend_from_slice(b"/Subrs ")?;
+    put_number(alloc, out, kept.declared as usize)?;
+    out.extend_from_slice(b" array")?;
+    'subrs: for (index, plain) in subrs.entries() {
+        put_subr(alloc, out, kept, len_iv, *index, plain.as_slice())?;
+    }
+    out.push(b'\n')?;
+    out.extend_from_slice(kept.closing.as_slice())?;
+    Ok(())
+}
+
+/// Writes the table of Subrs where there is one.
+fn put_table(
+    alloc: Global,
+    out: &mut Vec<u8>,
+    shell: &KeptShell,
+    subrs: &Numbered,
+) -> Result<(), AllocError>
+    ensures { OnOk result (out.new.items ≡ out.old.items ++ subrs_part (option_map (subrs_pieces shell.now.len_iv (fin.entries subrs.now)) (shell_view shell.now).subrs)) }
+{
+    match &shell.subrs {
+        Some(kept) => {
+            put_subrs(alloc, out, kept, shell.len_iv, subrs)?;
+            Ok(())
+        }
+        None => Ok(()),
+    }
+}
+
+/// Writes a glyph, after the end of the line before it.
+fn put_glyph(
+    alloc: Global,
+    out: &mut Vec<u8>,
+    shell: &KeptShell,
+    name: &[u8],
+    plain: &[u8],
+) -> Result<(), AllocError>
+    ensures { OnOk result (out.new.items ≡ out.old.items ++ glyph_text (glyph_entry (shell_view shell.now) (name.now, plain.now))) }
+{
+    out.extend_from_slice(b"\n/")?;
+    out.extend_from_slice(name)?;
+    put_body(
+        alloc,
+        out,
+        plain,
+        shell.len_iv,
+        shell.glyphs_rd.as_slice(),
+        shell.glyphs_def.as_slice(),
+    )?;
+    Ok(())
+}
+
+/// Writes the table of glyphs.
+fn put_glyphs(
+    alloc: Global,
+    out: &mut Vec<u8>,
+    shell: &KeptShell,
+    glyphs: &Named,
+) -> Result<(), AllocError>
+    ensures { OnOk result (out.new.items ≡ out.old.items ++ glyphs_part (map (glyph_entry (shell_view shell.now)) (fin.entries glyphs.now))) }
+{
+    out.extend_from_slice(b"/CharStrings ")?;
+    put_number(alloc, out, glyphs.len())?;
+    out.extend_from_slice(b" dict dup begin")?;
+    'glyphs: for (name, plain) in glyphs.entries() {
+        put_glyph(alloc, out, shell, name.as_slice(), plain.as_slice())?;
+    }
+    out.extend_from_slice(b"\nend")?;
+    Ok(())
+}
+
+/// Writes the names of codes, and what closes them.
+fn put_codes(alloc: Global, out: &mut Vec<u8>, names: &Numbered) -> Result<(), AllocError>
+    ensures { OnOk result (out.new.items ≡ out.old.items ++ puts_text (fin.entries names.now)) }
+{
+    'codes: for (code, name) in names.entries() {
+        out.extend_from_slice(b"\ndup ")?;
+        put_number(alloc, out, *code as usize)?;
+        out.extend_from_slice(b" /")?;
+        out.extend_from_slice(name.as_slice())?;
+        out.extend_from_slice(b" put")?;
+    }
+    out.extend_from_slice(b"\nreadonly def")?;
+    Ok(())
+}
+
+/// Writes the Encoding.
+fn put_encoding(
+    alloc: Global,
+    out: &mut Vec<u8>,
+    encoding: &KeptEncoding,
+) -> Result<(), AllocError>
+    ensures { OnOk result (out.new.items ≡ out.old.items ++ encoding_text (encoding_pieces (encoding_of encoding.now))) }
+{
+    out.extend_from_slice(b"/Encoding ")?;
+    match encoding {
+        KeptEncoding::Word(word) => {
+            out.extend_from_slice(word.as_slice())?;
+            out.extend_from_slice(b" def")?;
+            Ok(())
+        }
+        KeptEncoding::Codes(names) => {
+            out.extend_from_slice(b"256 array\n0 1 255 {1 index exch /.notdef put} for")?;
+            put_codes(alloc, out, names)?;
+            Ok(())
+        }
+    }
+}
+
+/// How many bytes the Encoding has at most, as far as it can be told.
+fn encoding_room(encoding: &KeptEncoding) -> usize {
+    match encoding {
+        KeptEncoding::Word(word) => word.len().saturating_add(MARKERS),
+        KeptEncoding::Codes(names) => names.weight(MARKERS as u64, 0) as usize,
+    }
+}
+
+/// The canonical clear text.
+fn clear_text(alloc: Global, parts: &FontParts) -> Result<Vec<u8>, AllocError>
+    ensures { IfOk result (λ v. v.items ≡ canon_clear parts.now) }
+{
+    let shell = &parts.shell;
+    let room = encoding_room(&parts.encoding)
+        .saturating_add(shell.head.len())
+        .saturating_add(shell.clear_tail.len());
+    let mut out = Vec::with_capacity(alloc, room)?;
+    out.extend_from_slice(shell.head.as_slice())?;
+    put_encoding(alloc, &mut out, &parts.encoding)?;
+    out.extend_from_slice(shell.clear_tail.as_slice())?;
+    out.push(b'\n')?;
+    Ok(out)
+}
+
+/// Writes the canonical private text.
+fn put_private(alloc: Global, out: &mut Vec<u8>, parts: &FontParts) -> Result<(), AllocError>
+    ensures { OnOk result (out.new.items ≡ out.old.items ++ canon_private parts.now) }
+{
+    let shell = &parts.shell;
+    out.extend_from_slice(shell.private.as_slice())?;
+    put_table(alloc, out, shell, &parts.subrs)?;
+    out.extend_from_slice(shell.middle.as_slice())?;
+    put_glyphs(alloc, out, shell, &parts.glyphs)?;
+    out.extend_from_slice(shell.tail.as_slice())?;
+    out.push(b'\n')?;
+    Ok(())
+}
+
+/// The cipher of the canonical private text, its lead bytes zero.
+fn cipher(alloc: Global, parts: &FontParts) -> Result<Vec<u8>, AllocError>
+    ensures { IfOk result (λ v. v.items ≡ private_cipher (canon_private parts.now)) }
+{
+    let room = (parts.weight() as usize).saturating_add(MARKERS);
+    let mut out = Vec::with_capacity(alloc, room)?;
+    out.resize(EEXEC_LEAD as usize, 0)?;
+    put_private(alloc, &mut out, parts)?;
+    encrypt(out.as_mut_slice(), EEXEC_KEY);
+    Ok(out)
+}
+
+/// The PFA file of a clear text and a cipher.
+fn pfa(alloc: Global, clear: &[u8], cipher: &[u8]) -> Result<Vec<u8>, AllocError>
+    ensures { IfOk result (λ v. v.items ≡ file_text Pfa clear.now cipher.now) }
+{
+    let Ok(lines) = hex_lines(alloc, cipher) else {
+        return Err(AllocError);
+    };
+    let room = clear.len() + lines.len() + trailer().len();
+    let mut out = Vec::with_capacity(alloc, room)?;
+    out.extend_from_slice(clear)?;
+    out.extend_from_slice(lines.as_slice())?;
+    out.extend_from_slice(trailer())?;
+    Ok(out)
+}
+
+/// The PFB file of a clear text and a cipher.
+fn pfb(alloc: Global, clear: &[u8], cipher: &[u8]) -> Result<Vec<u8>, AllocError>
+    requires clear { length clear.now ≤ 2 ^ 26 }
+    requires cipher { length cipher.now ≤ 2 ^ 26 }
+    ensures { IfOk result (λ v. v.items ≡ file_text Pfb clear.now cipher.now) }
+{
+    match segments(alloc, clear, cipher, trailer()) {
+        Ok(file) => Ok(file),
+        Err(_) => Err(AllocError),
+    }
+}
+
+/// The canonical file of a font (Adobe Type 1 Font Format 1.1, chapter 2; Technical Note 5040): a
+/// function of the font value alone, which is read as the font again. A PFA whose head begins with
+/// byte 128 would be taken for PFB; a PFB is always read again.
+///
+/// # Errors
+///
+/// Want of memory alone.
+pub fn write(alloc: Global, font: &Font, form: Form) -> Result<Vec<u8>, AllocError>
+    ensures canon { IfOk result (λ v. v.items ≡ canon font.now form) }
+    ensures again { IfOk result (λ v. Fits form font.now → read_font v.items ≡ Ok font.now) }
+    ensures short { IfOk result (λ v. length v.items ≤ file_limit) }
+{
+    let clear = clear_text(alloc, &font.parts)?;
+    let cipher = cipher(alloc, &font.parts)?;
+    match form {
+        Form::Pfa => pfa(alloc, clear.as_slice(), cipher.as_slice()),
+        Form::Pfb => pfb(alloc, clear.as_slice(), cipher.as_slice()),
+    }
+}
