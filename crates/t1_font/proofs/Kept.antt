@@ -5,6 +5,7 @@ use Rattle.std.specs.Str.{bytes_eq}
 use Rattle.std.specs.Ordering.{nat_cmp}
 use Rattle.std.specs.Cmp.{IsTotalOrder, nat_cmp_total}
 use Rattle.std.specs.FinMap.{FinMap, find, get, get-entries, entries, len, len-entries, retain_keys, IsAntisymmetric, nat_cmp-IsAntisymmetric}
+use Rattle.std.proofs.lemmas.Slice.Eq.{bytes_eq-Decides}
 use Rattle.std.proofs.lemmas.Bool.{leb-true}
 use Rattle.t1_font.specs.FontValue.{FontValue, Shell, SubrsShell, Encoding, Word, Codes, Numbered, notdef, total, subr_weight, glyph_weight, weight, count_limit, weight_limit}
 use Rattle.t1_font.specs.Marks.{len_iv}
@@ -162,3 +163,23 @@ join_is_font f g h k shells kinds few light =
       };
       light = light;
     }
+
+-- a stub weighs no more than what takes its place
+joined_heavy : (iv i : ℕ) (c : List ℕ) (o : Option (List ℕ)) → subr_weight iv i c ≤ subr_weight iv i (joined_subr c o)
+joined_heavy iv i c o = by_test (bytes_eq c stub) refl o
+  where
+    by_test : (b : Bool) → bytes_eq c stub ≡ b → (o : Option (List ℕ)) → subr_weight iv i c ≤ subr_weight iv i (cond b (unwrap_or o c) c)
+    by_test false t o = omega arith
+    by_test true t None = omega arith
+    by_test true t (Some d) = let one : length c ≡ 1 = ap length ((bytes_eq-Decides c stub).0 t) in omega (arith, one)
+
+-- a join weighs no less than its first font
+pub join_heavy : (f g : FontValue) → weight f ≤ weight (join_parts f g)
+join_heavy f g =
+    let iv = f.shell.len_iv in
+    let h : ℕ → List ℕ → List ℕ = λ i c. joined_subr c (get g.subrs i) in
+    let subrs : total (subr_weight iv) (entries f.subrs) ≤ total (subr_weight iv) (entries (map_values h f.subrs)) = total-le nat_cmp_total nat_cmp-IsAntisymmetric (subr_weight iv) (subr_weight iv) f.subrs (map_values h f.subrs) (λ i c e.
+    (h i c, get-map_values nat_cmp_total nat_cmp-IsAntisymmetric h f.subrs i ∙ ap (option_map (h i)) e, joined_heavy iv i c (get g.subrs i))) in
+    let glyphs : total (glyph_weight iv) (entries f.glyphs) ≤ total (glyph_weight iv) (entries (merged f.glyphs g.glyphs)) = total-le nat_list_cmp_total name_same (glyph_weight iv) (glyph_weight iv) f.glyphs (merged f.glyphs g.glyphs) (λ n c e.
+    (c, get-merged nat_list_cmp_total name_same f.glyphs g.glyphs n ∙ ap (λ x. joined x (get g.glyphs n)) e, omega arith)) in
+    omega (arith, subrs, glyphs)

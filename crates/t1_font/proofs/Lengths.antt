@@ -49,3 +49,15 @@ glyphs_begun out one two three s m n es count a b c same =
     append_assoc ((out ++ codes "/CharStrings ") ++ decimal (length (map (glyph_entry s) (entries m)))) (codes " dict dup begin") rest
     ∙ (append_assoc (out ++ codes "/CharStrings ") (decimal (length (map (glyph_entry s) (entries m)))) _ ∙ append_assoc out (codes "/CharStrings ") _) in
     (λ i. begun i ++ glyphs_text (map (glyph_entry s) (same i))) ∙ flat
+
+-- what is put one after another, in one piece
+pub six_put : (out a b m g t end one two three four five six : List ℕ) → one ≡ out ++ a → two ≡ one ++ b → three ≡ two ++ m → four ≡ three ++ g → five ≡ four ++ t → six ≡ five ++ end → six ≡ out ++ (a ++ (b ++ (m ++ (g ++ (t ++ end)))))
+six_put out a b m g t end one two three four five six p q r s u v =
+    v ∙ (ap (λ (x : List ℕ). x ++ end) u ∙ (append_assoc four t end
+    ∙ (ap (λ (x : List ℕ). x ++ (t ++ end)) s ∙ (append_assoc three g (t ++ end)
+    ∙ (ap (λ (x : List ℕ). x ++ (g ++ (t ++ end))) r ∙ (append_assoc two m (g ++ (t ++ end))
+    ∙ (ap (λ (x : List ℕ). x ++ (m ++ (g ++ (t ++ end)))) q ∙ (append_assoc one b (m ++ (g ++ (t ++ end)))
+    ∙ (ap (λ (x : List ℕ). x ++ (b ++ (m ++ (g ++ (t ++ end))))) p ∙ append_assoc out a (b ++ (m ++ (g ++ (t ++ end)))))))))))))
+
+pub three_put : (out a b c one two three : List ℕ) → one ≡ out ++ a → two ≡ one ++ b → three ≡ two ++ c → three ≡ out ++ (a ++ (b ++ c))
+three_put out a b c one two three p q r = r ∙ (ap (λ (x : List ℕ). x ++ c) q ∙ (append_assoc one b c ∙ (ap (λ (x : List ℕ). x ++ (b ++ c)) p ∙ append_assoc out a (b ++ c))))

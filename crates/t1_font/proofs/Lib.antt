@@ -12,6 +12,7 @@ pub mod FileParts
 pub mod FromPieces
 pub mod AnswersRight
 pub mod Lengths
+pub mod WriteAnswers
 pub mod ValueLaws
 pub mod ReadingLaws
 pub mod ReadLaws
@@ -43,4 +44,7 @@ pub mod ReadFontLaws
 pub mod Tiny
 mod TinyRows
 pub mod Decimals
+pub mod TinyNumbers
 mod TinyFiles
+pub mod CutEntries
+mod TinyCuts

@@ -28,10 +28,6 @@ pub T_true : (b : Bool) → T b → b ≡ true
 T_true true h = refl
 T_true false h = absurd h
 
-pub true_T : (b : Bool) → b ≡ true → T b
-true_T true h = tt
-true_T false h = absurd (true≢false (sym h))
-
 less_of : (r : Ordering) → is_lt r ≡ true → r ≡ Less
 less_of Less h = refl
 less_of Equal h = absurd (true≢false (sym h))

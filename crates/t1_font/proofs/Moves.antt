@@ -211,10 +211,6 @@ nil_alike v xs o p (inr s) = inr (s.0, s.1, s.2 ∙ ap (λ (u : List ℕ). Some 
 pub grows : {A : Type 0} (g : Grammar A) (v : List ℕ) → Within [] v g → (xs : List ℕ) → ((g.read xs ≡ None) × (g.read (xs ++ v) ≡ None)) ⊎ ((a : A) × (ys : List ℕ) × (g.read xs ≡ Some (a, ys)) × (g.read (xs ++ v) ≡ Some (a, ys ++ v)))
 grows g v G xs = nil_alike v xs (g.read xs) (g.read (xs ++ v)) (subst (λ (u : List ℕ). Alike [] v (g.read u) (g.read (xs ++ v))) (append-nil xs) (G.alike xs))
 
-abbrev behind_first : {A : Type 0} → List ℕ → Option ((List ℕ × A) × List ℕ) → Option ((List ℕ × A) × List ℕ)
-behind_first v None = None
-behind_first v (Some x) = Some (x.0, x.1 ++ v)
-
 abbrev with_byte : {A : Type 0} → ℕ → Option ((List ℕ × A) × List ℕ) → Option ((List ℕ × A) × List ℕ)
 with_byte b o = option_and_then (λ y. Some ((b ∷ y.0.0, y.0.1), y.1)) o
 

@@ -134,10 +134,6 @@ not_before front (Some x) =
     let late : ltb (length (front ++ x.0.0)) (length front) ≡ false = le-ltb (length (front ++ x.0.0)) (length front) (omega (arith, length-append front x.0.0)) in
     rw late refl
 
--- what stands behind the glyphs' marker
-abbrev behind_chars : List Glyph → List ℕ → List ℕ
-behind_chars es rest = glyphs_text es ++ rest
-
 glyphs_line : (es : List Glyph) → (r : List ℕ) × (glyphs_text es ≡ 10 ∷ r)
 glyphs_line [] = (_, refl)
 glyphs_line (e ∷ es) = (_, refl)

@@ -1,5 +1,5 @@
 -- What is read of a file of bytes is a font.
-use Rattle.std.proofs.Common.{◌≡◌, ℕ, ◌≤◌, ◌<◌, true, cond, List, [], ◌∷◌, ◌++◌, map, Option, Some, None, is_some, Ok, refl, sym, ap, subst, ◌∙◌, arith, true≢false}
+use Rattle.std.proofs.Common.{◌≡◌, ℕ, ◌≤◌, ◌<◌, true, cond, List, [], ◌∷◌, ◌++◌, map, Option, Some, None, is_some, Ok, refl, sym, ap, subst, ◌∙◌, append_assoc, arith, true≢false}
 use Rattle.std.specs.List.{AllByRecursion, list_any}
 use Rattle.std.specs.Option.{option_map}
 use Rattle.std.specs.Str.{bytes_eq}
@@ -11,6 +11,8 @@ use Rattle.t1_bytes.specs.declared.form.Form.TheVariants.{Pfb}
 use Rattle.t1_bytes.specs.Cipher.{decrypted}
 use Rattle.t1_bytes.specs.Grammar.{Stops, first, choice}
 use Rattle.t1_bytes.specs.Laws.{AreBytes}
+use Rattle.t1_bytes.specs.Segments.{starts_segment, IsFlat}
+use Rattle.t1_bytes.proofs.ContainerLaws.{one_flat}
 use Rattle.t1_bytes.proofs.Ciphers.{decrypted-is}
 use Rattle.t1_bytes.proofs.Grammars.{first_exact, front_again}
 use Rattle.t1_font.specs.Words.{is_regular}
@@ -36,6 +38,7 @@ use Rattle.t1_font.proofs.SplitWritten.{mark_own}
 use Rattle.t1_font.proofs.ReadBack.{tail_ends_of}
 use Rattle.t1_font.proofs.ReadBytes.{parts_bytes, flat_bytes, cipher_bytes_of, decrypted_bytes, entries_have}
 use Rattle.t1_font.proofs.ReadEntries.{plain_fits, IsReadSubr, IsReadGlyph, glyph_of, last_has, all_mapped}
+use Rattle.t1_font.proofs.ReadMarks.{encoding_slash}
 use Rattle.t1_font.proofs.ReadClear.{clear_of}
 use Rattle.t1_font.proofs.ReadPrivate.{stops_front, glyphs_stops, IsReadSubrs, middle_of}
 
@@ -176,3 +179,26 @@ read_is_font file f h e = spelled_font file f h (reads file f e)
 -- a font is a value of bytes that its own canonical file spells
 pub font_exactly : (f : FontValue) → (IsFont f → HasBytes f × (read_font (canon f Pfb) ≡ Ok f)) × (HasBytes f × (read_font (canon f Pfb) ≡ Ok f) → IsFont f)
 font_exactly f = (λ h. (has_bytes f h, round_trip f Pfb h tt), λ s. read_is_font (canon f Pfb) f (canon_bytes f Pfb s.0) s.1)
+
+-- ---- the first byte
+
+starts_head : (head rest : List ℕ) → starts_segment head ≡ starts_segment (head ++ (47 ∷ rest))
+starts_head [] rest = refl
+starts_head (b ∷ head) rest = refl
+
+spelled_starts : (file flat : List ℕ) (f : FontValue) → IsFlat file flat → Spells file f → starts_segment f.shell.head ≡ starts_segment flat
+spelled_starts file flat f flat_is s =
+    let t = s.pieces.texts in
+    let c = s.pieces.clear_is in
+    let e = t.cut.mark.2 in
+    let m = c.mark.2 in
+    let slash = encoding_slash m.0 c.after m.2 in
+    let same : flat ≡ t.flat = one_flat.texts file flat t.flat flat_is t.flat_is in
+    let clear : t.cut.mark.0 ≡ s.pieces.clear = e.1 ∙ (ap (λ (u : List ℕ). t.cut.front ++ u) (mark_own t.cut.own e.0 t.cut.after e.2) ∙ sym t.cut.clear_is) in
+    let behind : s.pieces.clear ≡ s.outside.head ++ (47 ∷ (slash.0 ++ c.after)) = c.mark.1 ∙ (ap (λ (u : List ℕ). u ++ c.after) (m.1 ∙ ap (λ (u : List ℕ). s.outside.head ++ u) slash.1) ∙ append_assoc s.outside.head (47 ∷ slash.0) c.after) in
+    let whole : flat ≡ s.outside.head ++ (47 ∷ ((slash.0 ++ c.after) ++ t.cut.after)) = same ∙ (t.cut.mark.1 ∙ (ap (λ (u : List ℕ). u ++ t.cut.after) (clear ∙ behind) ∙ append_assoc s.outside.head (47 ∷ (slash.0 ++ c.after)) t.cut.after)) in
+    ap (λ (g : FontValue). starts_segment g.shell.head) s.value ∙ (starts_head s.outside.head ((slash.0 ++ c.after) ++ t.cut.after) ∙ ap starts_segment (sym whole))
+
+-- a font's head begins with byte 128 exactly where its flat text does
+pub head_starts : (file flat : List ℕ) (f : FontValue) → IsFlat file flat → read_font file ≡ Ok f → starts_segment f.shell.head ≡ starts_segment flat
+head_starts file flat f flat_is e = spelled_starts file flat f flat_is (reads file f e)

@@ -1,7 +1,6 @@
 -- The files of Tiny: its canonical ones, and that they are read as Tiny.
-use Rattle.std.proofs.Common.{◌≡◌, ℕ, List, [], ◌∷◌, ◌++◌, length, take, Ok, Err, refl, ◌∙◌, arith}
+use Rattle.std.proofs.Common.{◌≡◌, ℕ, List, [], ◌∷◌, ◌++◌, length, take, Ok, Err, refl, ◌∙◌}
 use Rattle.std.specs.Prelude.{codes, filter, not, ◌==◌, ◌-◌, nat_le, map, if◌then◌else◌}
-use Rattle.std.specs.Fmt.{decimal as digits}
 use Rattle.std.specs.Ordering.{nat_cmp}
 use Rattle.std.specs.FinMap.{entries-from_sorted}
 use Rattle.t1_bytes.specs.declared.form.Form.{Form}
@@ -24,7 +23,7 @@ use Rattle.t1_font.specs.IsFont.{IsFont}
 use Rattle.t1_font.proofs.ByteLemmas.{small_bytes}
 use Rattle.t1_font.proofs.RoundTrip.{round_trip}
 use Rattle.t1_font.proofs.ReadFontLaws.{read_is_font}
-use Rattle.t1_font.proofs.Decimals.{shown}
+use Rattle.t1_font.proofs.TinyNumbers.{n0, n1, n2, n3, n4, n5, n6, n7, n8, n9, n10, n11, n12, n14, n15, n16, n18, n19, n50, n65, n66, n194}
 use Rattle.t1_font.proofs.Tiny.{lines, puts, shell, subrs, glyphs, tiny, clear, private_text}
 
 -- ---- the vectors
@@ -81,74 +80,6 @@ pfb = (0x80 ∷ 0x01 ∷ 0x39 ∷ 0x01 ∷ 0x00 ∷ 0x00 ∷ []) ++ (clear ++ (1
 
 sizes : length pfa ∷ length pfb ∷ [] ≡ 2893 ∷ 1873 ∷ []
 sizes = refl
-
--- ---- numbers
-
-n0 : digits 0 ≡ codes "0"
-n0 = shown 0 (omega arith)
-
-n1 : digits 1 ≡ codes "1"
-n1 = shown 1 (omega arith)
-
-n2 : digits 2 ≡ codes "2"
-n2 = shown 2 (omega arith)
-
-n3 : digits 3 ≡ codes "3"
-n3 = shown 3 (omega arith)
-
-n4 : digits 4 ≡ codes "4"
-n4 = shown 4 (omega arith)
-
-n5 : digits 5 ≡ codes "5"
-n5 = shown 5 (omega arith)
-
-n6 : digits 6 ≡ codes "6"
-n6 = shown 6 (omega arith)
-
-n7 : digits 7 ≡ codes "7"
-n7 = shown 7 (omega arith)
-
-n8 : digits 8 ≡ codes "8"
-n8 = shown 8 (omega arith)
-
-n9 : digits 9 ≡ codes "9"
-n9 = shown 9 (omega arith)
-
-n10 : digits 10 ≡ codes "10"
-n10 = shown 10 (omega arith)
-
-n11 : digits 11 ≡ codes "11"
-n11 = shown 11 (omega arith)
-
-n12 : digits 12 ≡ codes "12"
-n12 = shown 12 (omega arith)
-
-n14 : digits 14 ≡ codes "14"
-n14 = shown 14 (omega arith)
-
-n15 : digits 15 ≡ codes "15"
-n15 = shown 15 (omega arith)
-
-n16 : digits 16 ≡ codes "16"
-n16 = shown 16 (omega arith)
-
-n18 : digits 18 ≡ codes "18"
-n18 = shown 18 (omega arith)
-
-n19 : digits 19 ≡ codes "19"
-n19 = shown 19 (omega arith)
-
-n50 : digits 50 ≡ codes "50"
-n50 = shown 50 (omega arith)
-
-n65 : digits 65 ≡ codes "65"
-n65 = shown 65 (omega arith)
-
-n66 : digits 66 ≡ codes "66"
-n66 = shown 66 (omega arith)
-
-n194 : digits 194 ≡ codes "194"
-n194 = shown 194 (omega arith)
 
 -- ---- what is written
 

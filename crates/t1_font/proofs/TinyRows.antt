@@ -1,5 +1,6 @@
 -- Rows of the reader on texts of Tiny, computed.
-use Rattle.std.proofs.Common.{◌≡◌, ℕ, List, [], ◌∷◌, ◌++◌, map, length, drop, Some, Ok, Err, refl}
+use Rattle.std.proofs.Common.{◌≡◌, ℕ, ◌+◌, true, false, leb, List, [], ◌∷◌, ◌++◌, map, length, drop, Some, Ok, Err, refl, arith}
+use Rattle.std.proofs.lemmas.Bool.{le-leb, lt-leb}
 use Rattle.std.specs.Prelude.{codes}
 use Rattle.std.specs.Ordering.{nat_cmp}
 use Rattle.std.specs.FinMap.{find}
@@ -13,7 +14,7 @@ use Rattle.t1_font.specs.Pieces.{Puts, SubrsPieces, encoding_from, clear_pieces,
 use Rattle.t1_bytes.specs.Cipher.{sealed}
 use Rattle.t1_font.specs.FontValue.{Shell, name_cmp, notdef, weight_of}
 use Rattle.t1_font.specs.Entries.{last_entries, last_names}
-use Rattle.t1_font.specs.ReadFont.{subrs_shell, font_from}
+use Rattle.t1_font.specs.ReadFont.{subrs_shell, is_within, font_from}
 use Rattle.t1_font.specs.Canon.{inside_of, outside_of}
 use Rattle.t1_font.proofs.Tiny.{lines, glyph_notdef, head, clear_tail, puts, shell, subrs, glyphs, glyph_Y, tiny, private_lines, clear_with, clear, glyph_line, first_subr, more_subrs, first_glyph, more_glyphs, private_with, private_text}
 
@@ -114,6 +115,16 @@ second_x_stands = refl
 
 second_x_weight : weight_of shell subrs (last_entries name_cmp (glyphs ++ (codes "X", glyph_Y) ∷ [])) ≡ 4933
 second_x_weight = refl
+
+-- a head of n bytes weighs n
+weighs : (h : List ℕ) → weight_of (record shell { head = h }) subrs glyphs ≡ length h + 4801
+weighs h = omega arith
+
+heaviest : (h : List ℕ) → length h ≡ 16772415 → is_within (record shell { head = h }) subrs glyphs ≡ true
+heaviest h e = le-leb (weight_of (record shell { head = h }) subrs glyphs) 16777216 (omega (arith, weighs h, e))
+
+one_byte_more : (h : List ℕ) → length h ≡ 16772416 → is_within (record shell { head = h }) subrs glyphs ≡ false
+one_byte_more h e = lt-leb (weight_of (record shell { head = h }) subrs glyphs) 16777216 (omega (arith, weighs h, e))
 
 -- of two names of a code the last stands, and `.notdef` takes a code away
 last_put : last_names nat_cmp ((66, codes "Y") ∷ (65, codes "X") ∷ (66, codes "Z") ∷ (65, codes ".notdef") ∷ []) ≡ (66, codes "Z") ∷ []

@@ -23,6 +23,7 @@ subr_entry len_iv s e = record { index = e.0; rd = s.rd; body = sealed_body len_
 abbrev pub glyph_entry : Shell → List ℕ × List ℕ → Glyph
 glyph_entry s e = record { name = e.0; rd = s.glyphs_rd; body = sealed_body s.len_iv e.1; nd = s.glyphs_def }
 
+-- the table of Subrs with these entries, in the order of their indices
 abbrev pub subrs_pieces : ℕ → List (ℕ × List ℕ) → SubrsShell → SubrsPieces
 subrs_pieces len_iv es s = record { declared = s.declared; entries = map (subr_entry len_iv s) es; closing = s.closing }
 
@@ -37,6 +38,7 @@ inside_of s subrs glyphs = record {
   tail = s.tail;
 }
 
+-- the Encoding, its codes in their order
 abbrev pub encoding_pieces : Encoding → EncodingText
 encoding_pieces (Word w) = OneWord w
 encoding_pieces (Codes m) = Puts (entries m)

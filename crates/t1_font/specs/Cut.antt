@@ -35,6 +35,7 @@ restrict names subrs f = record {
 
 -- ---- a join
 
+-- the codes of both tables; of two words the first, which is to be the second too
 abbrev pub join_encodings : Encoding → Encoding → Encoding
 join_encodings (Word w) e = Word w
 join_encodings (Codes m) (Word w) = Codes m

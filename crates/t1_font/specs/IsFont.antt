@@ -71,6 +71,7 @@ abbrev pub SubrWords : List (ℕ × List ℕ) → SubrsShell → Type 0
 SubrWords [] s = (s.rd ≡ []) × (s.put ≡ [])
 SubrWords (e ∷ es) s = IsWord 32 s.rd × IsPhrase true s.put
 
+-- Subrs that are within their count and fit their charstrings, and the phrase that closes them
 pub record IsSubrs (iv : ℕ) (s : SubrsShell) (m : Numbered) : Type 0 where
   pub declared : s.declared ≤ count_limit
   pub below : (i : ℕ) (c : List ℕ) → get m i ≡ Some c → i < s.declared
@@ -83,6 +84,7 @@ abbrev pub SubrsFit : Shell → Option SubrsShell → Numbered → Type 0
 SubrsFit s None m = (entries m ≡ []) × (s.middle ≡ [])
 SubrsFit s (Some t) m = IsSubrs s.len_iv t m
 
+-- glyphs with their kept words, `.notdef` among them
 pub record AreGlyphs (s : Shell) (m : Named) : Type 0 where
   pub rd : IsWord 32 s.glyphs_rd
   pub def : IsPhrase true s.glyphs_def
@@ -97,12 +99,14 @@ pub record IsCode (c : ℕ) (n : List ℕ) : Type 0 where
   pub name : IsWord 127 n
   pub put : bytes_eq notdef n ≡ false
 
+-- one word, or the names of codes
 abbrev pub IsEncoding : Encoding → Type 0
 IsEncoding (Word w) = IsWord 32 w
 IsEncoding (Codes m) = (c : ℕ) (n : List ℕ) → get m c ≡ Some n → IsCode c n
 
 -- ---- the font
 
+-- Each part by itself. What depends on the maps (`encoding`, `subrs`, `glyphs`, `light`) is what a cut or a join has to keep.
 pub record IsFont (f : FontValue) : Type 0 where
   pub clear : IsClearShell f.shell
   pub private : IsPrivateShell f.shell
@@ -114,10 +118,12 @@ pub record IsFont (f : FontValue) : Type 0 where
 
 -- ---- bytes
 
+-- its word, or each name
 abbrev pub EncodingBytes : Encoding → Type 0
 EncodingBytes (Word w) = AreBytes w
 EncodingBytes (Codes m) = (c : ℕ) (n : List ℕ) → get m c ≡ Some n → AreBytes n
 
+-- the kept words of Subrs
 abbrev pub SubrsBytes : Option SubrsShell → Type 0
 SubrsBytes None = Unit {0}
 SubrsBytes (Some s) = AreBytes s.rd × AreBytes s.put × AreBytes s.closing

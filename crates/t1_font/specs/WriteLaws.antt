@@ -4,7 +4,7 @@ use Rattle.std.specs.FinMap.{len}
 use Rattle.t1_bytes.specs.declared.form.Form.{Form}
 use Rattle.t1_bytes.specs.declared.form.Form.TheVariants.{Pfa, Pfb}
 use Rattle.t1_bytes.specs.Laws.{AreBytes}
-use Rattle.t1_bytes.specs.Segments.{starts_segment}
+use Rattle.t1_bytes.specs.Segments.{starts_segment, IsFlat}
 use Rattle.t1_font.specs.FontValue.{FontValue, Encoding, Word, Codes, notdef, file_limit, count_limit, weight_limit, weight}
 use Rattle.t1_font.specs.ReadFont.{read_font}
 use Rattle.t1_font.specs.Canon.{canon}
@@ -27,6 +27,10 @@ Fingerprint = (f g : FontValue) (form : Form) → IsFont f → IsFont g → Fits
 -- what is read of a file of bytes is a font
 abbrev pub ReadIsFont : Type 0
 ReadIsFont = (file : List ℕ) (f : FontValue) → AreBytes file → read_font file ≡ Ok f → IsFont f
+
+-- a font's head begins with byte 128 exactly where the flat text that it was read of does
+abbrev pub HeadStarts : Type 0
+HeadStarts = (file flat : List ℕ) (f : FontValue) → IsFlat file flat → read_font file ≡ Ok f → starts_segment f.shell.head ≡ starts_segment flat
 
 -- a font is a value of bytes that its own canonical PFB spells
 abbrev pub IsFontExactly : Type 0
@@ -51,6 +55,10 @@ CanonWeighs = (f : FontValue) (form : Form) → IsFont f → length (canon f for
 -- a font cut to names with `.notdef` is a font, and weighs no more
 abbrev pub RestrictIsFont : Type 0
 RestrictIsFont = (names : List ℕ → Bool) (subrs : ℕ → Bool) (f : FontValue) → IsFont f → names notdef ≡ true → IsFont (restrict names subrs f) × (weight (restrict names subrs f) ≤ weight f)
+
+-- a join weighs no less than its first font
+abbrev pub JoinWeighs : Type 0
+JoinWeighs = (f g : FontValue) → weight f ≤ weight (join_parts f g)
 
 -- the same word, or two tables
 abbrev pub SameKind : Encoding → Encoding → Type 0

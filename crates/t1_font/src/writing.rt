@@ -23,6 +23,10 @@ use t1_bytes::{CHARSTRING_KEY, EEXEC_KEY, EEXEC_LEAD, Form, encrypt, hex_lines, 
 /// phrase that closes Subrs, lead bytes and ends of lines.
 const MARKERS: usize = 256;
 
+/// What stands between `/Encoding` and the names of a table.
+const TABLE_START: &[u8; 49] = b"256 array
+0 1 255 {1 index exch /.notdef put} for";
+
 /// Writes a number in decimal digits at the end.
 fn put_number(alloc: Global, out: &mut Vec<u8>, number: usize) -> Result<(), AllocError>
     ensures { OnOk result (out.new.items ≡ out.old.items ++ decimal number) }
@@ -201,7 +205,7 @@ fn put_encoding(
             Ok(())
         }
         KeptEncoding::Codes(names) => {
-            out.extend_from_slice(b"256 array\n0 1 255 {1 index exch /.notdef put} for")?;
+            out.extend_from_slice(TABLE_START)?;
             put_codes(alloc, out, names)?;
             Ok(())
         }
@@ -265,7 +269,10 @@ fn pfa(alloc: Global, clear: &[u8], cipher: &[u8]) -> Result<Vec<u8>, AllocError
     let Ok(lines) = hex_lines(alloc, cipher) else {
         return Err(AllocError);
     };
-    let room = clear.len() + lines.len() + trailer().len();
+    let room = clear
+        .len()
+        .saturating_add(lines.len())
+        .saturating_add(trailer().len());
     let mut out = Vec::with_capacity(alloc, room)?;
     out.extend_from_slice(clear)?;
     out.extend_from_slice(lines.as_slice())?;
@@ -285,6 +292,20 @@ fn pfb(alloc: Global, clear: &[u8], cipher: &[u8]) -> Result<Vec<u8>, AllocError
     }
 }
 
+/// The file of the canonical texts of a font's parts.
+fn canonical(alloc: Global, parts: &FontParts, form: Form) -> Result<Vec<u8>, AllocError>
+    requires clear { length (canon_clear parts.now) ≤ 2 ^ 26 }
+    requires cipher { length (private_cipher (canon_private parts.now)) ≤ 2 ^ 26 }
+    ensures { IfOk result (λ v. v.items ≡ canon parts.now form) }
+{
+    let clear = clear_text(alloc, parts)?;
+    let cipher = cipher(alloc, parts)?;
+    match form {
+        Form::Pfa => pfa(alloc, clear.as_slice(), cipher.as_slice()),
+        Form::Pfb => pfb(alloc, clear.as_slice(), cipher.as_slice()),
+    }
+}
+
 /// The canonical file of a font (Adobe Type 1 Font Format 1.1, chapter 2; Technical Note 5040): a
 /// function of the font value alone, which is read as the font again. A PFA whose head begins with
 /// byte 128 would be taken for PFB; a PFB is always read again.
@@ -297,10 +318,6 @@ pub fn write(alloc: Global, font: &Font, form: Form) -> Result<Vec<u8>, AllocErr
     ensures again { IfOk result (λ v. Fits form font.now → read_font v.items ≡ Ok font.now) }
     ensures short { IfOk result (λ v. length v.items ≤ file_limit) }
 {
-    let clear = clear_text(alloc, &font.parts)?;
-    let cipher = cipher(alloc, &font.parts)?;
-    match form {
-        Form::Pfa => pfa(alloc, clear.as_slice(), cipher.as_slice()),
-        Form::Pfb => pfb(alloc, clear.as_slice(), cipher.as_slice()),
-    }
+    let file = canonical(alloc, &font.parts, form)?;
+    Ok(file)
 }

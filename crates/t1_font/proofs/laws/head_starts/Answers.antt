@@ -1,0 +1,5 @@
+use Rattle.t1_font.proofs.ReadFontLaws.{head_starts}
+use Rattle.t1_font.proofs.laws.head_starts.Goals as goal
+
+pub returns : goal.returns
+returns c = head_starts
