@@ -2,6 +2,7 @@ pub mod Words
 pub mod Subrs
 pub mod Views
 pub mod Faults
+pub mod FaultTexts
 pub mod Marks
 pub mod Charstrings
 pub mod Reading
