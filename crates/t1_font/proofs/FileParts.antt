@@ -21,8 +21,7 @@ split_pieces flat at cipher s =
     let own : m.2.0 ≡ s.mark = mark_own s.mark m.2.0 s.after m.2.2 in
     let text : m.0 ≡ s.front ++ s.mark = m.2.1 ∙ ap (λ (u : List ℕ). s.front ++ u) own in
     let whole : flat ≡ (s.front ++ s.mark) ++ s.after = m.1 ∙ ap (λ (u : List ℕ). u ++ s.after) text in
-    let place : at ≡ length (s.front ++ s.mark) = s.place ∙ sym (length-append s.front s.mark) in
-    (
+    let place : at ≡ length (s.front ++ s.mark) = s.place ∙ sym (length-append s.front s.mark) in (
       record { clear = s.front ++ s.mark; cipher = cipher },
       rw (front_again (first eexec_mark) (first_exact eexec_mark eexec_exact) flat ((s.front, s.mark), s.after) m, front_again cipher_text cipher_exact s.after (cipher, s.rest) s.secret) refl,
       (ap (take at) whole ∙ take_at (s.front ++ s.mark) s.after at (sym place), refl),

@@ -77,5 +77,6 @@ font_is c p x f n shows there room same is light =
     few : (bodies : Named) → HoldsGlyphs p.len_iv bodies p.glyphs → len bodies ≤ count_limit → len (glyph_bodies p.len_iv p.glyphs) ≤ count_limit
     few bodies (inl e) h = subst (λ m. len m ≤ count_limit) e h
     few bodies (inr k) h = absurd (omega (arith, k.0, h))
+
     lighter : (m n : ℕ) → n ≡ clamp m → n ≤ weight_limit → m ≤ weight_limit
     lighter m n e h = omega (arith, e, h)

@@ -88,7 +88,10 @@ fn kept_subrs(alloc: Global, parts: &SubrsParts<'_>) -> Result<KeptSubrs, AllocE
 }
 
 /// The same, where there is such a table.
-fn kept_table(alloc: Global, parts: &Option<SubrsParts<'_>>) -> Result<Option<KeptSubrs>, AllocError>
+fn kept_table(
+    alloc: Global,
+    parts: &Option<SubrsParts<'_>>,
+) -> Result<Option<KeptSubrs>, AllocError>
     requires { declared_in parts.now ≤ count_limit }
     ensures { IfOk result (λ s. (iv : ℕ) (p : Option SubrsPieces) → ShowsSubrs iv parts.now p → option_map subrs_view s ≡ option_map subrs_shell p) }
 {

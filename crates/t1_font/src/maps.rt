@@ -14,7 +14,11 @@ use std::marker::Model;
 fn subr_weight(len_iv: u8, body: &[u8]) -> u64
     ensures { result ≡ subr_weight len_iv 0 body.now }
 {
-    let len = if body.is_empty() { 1 } else { body.len() as u64 };
+    let len = if body.is_empty() {
+        1
+    } else {
+        body.len() as u64
+    };
     128 + len_iv as u64 + len
 }
 

@@ -9,7 +9,9 @@ ghost use Rattle.t1_font.specs.Views.{subr_view, phrase_view};
 use crate::charstrings::plain;
 use crate::fault::TableError;
 use crate::maps::Numbered;
-use crate::words::{Phrase, Words, first_words, decimal_at, keyword_at, one_white_at, phrase_at, word_at};
+use crate::words::{
+    Phrase, Words, decimal_at, first_words, keyword_at, one_white_at, phrase_at, word_at,
+};
 use std::alloc::{AllocError, Global};
 use t1_bytes::texts::{count_at, gap_at, white_at};
 

@@ -17,7 +17,9 @@ ghost use Rattle.t1_font.specs.WriteLaws.{Fits};
 use crate::font::{Font, FontParts, KeptEncoding, KeptShell, KeptSubrs};
 use crate::maps::{Named, Numbered};
 use std::alloc::{AllocError, Global};
-use t1_bytes::{CHARSTRING_KEY, EEXEC_KEY, EEXEC_LEAD, Form, encrypt, hex_lines, segments, trailer};
+use t1_bytes::{
+    CHARSTRING_KEY, EEXEC_KEY, EEXEC_LEAD, Form, encrypt, hex_lines, segments, trailer,
+};
 
 /// How many bytes of a private text the weight of its font leaves out at most: the markers, the
 /// phrase that closes Subrs, lead bytes and ends of lines.
@@ -190,11 +192,7 @@ fn put_codes(alloc: Global, out: &mut Vec<u8>, names: &Numbered) -> Result<(), A
 }
 
 /// Writes the Encoding.
-fn put_encoding(
-    alloc: Global,
-    out: &mut Vec<u8>,
-    encoding: &KeptEncoding,
-) -> Result<(), AllocError>
+fn put_encoding(alloc: Global, out: &mut Vec<u8>, encoding: &KeptEncoding) -> Result<(), AllocError>
     ensures { OnOk result (out.new.items ≡ out.old.items ++ encoding_text (encoding_pieces (encoding_of encoding.now))) }
 {
     out.extend_from_slice(b"/Encoding ")?;

@@ -1,0 +1,48 @@
+//! Font files from outside: each fault, the borders of the grammar, and the font Tiny.
+
+mod edges;
+mod faults;
+mod long;
+mod rows;
+mod tiny;
+
+use crate::{Font, ReadFault, read};
+use std::alloc::{AllocError, Global};
+use t1_bytes::{EEXEC_KEY, EEXEC_LEAD, seal};
+
+/// A clear text with the shortest Encoding.
+const CLEAR: &[u8] = b"%!\n/Encoding StandardEncoding def\ncurrentfile eexec\n";
+
+/// A table of glyphs for lenIV 0, through the end of a font.
+const GLYPHS: &[u8] =
+    b"/CharStrings 1 dict dup begin\n/.notdef 1 RD \x1b ND\nend\nmark currentfile closefile\n";
+
+/// The file of a clear text, up to `eexec` and a byte, and of a private text.
+fn file(alloc: Global, clear: &[u8], private: &[u8]) -> Result<Vec<u8>, AllocError> {
+    let mut file = Vec::from_slice(alloc, clear)?;
+    match seal(alloc, private, EEXEC_KEY, EEXEC_LEAD) {
+        Ok(cipher) => file.extend_from_slice(cipher.as_slice())?,
+        Err(_) => return Err(AllocError),
+    }
+    Ok(file)
+}
+
+/// Two texts, one after another.
+fn joined(alloc: Global, first: &[u8], second: &[u8]) -> Result<Vec<u8>, AllocError> {
+    let mut text = Vec::from_slice(alloc, first)?;
+    text.extend_from_slice(second)?;
+    Ok(text)
+}
+
+/// The font of such a file.
+fn font(alloc: Global, clear: &[u8], private: &[u8]) -> Result<Font, ReadFault> {
+    match file(alloc, clear, private) {
+        Ok(file) => read(alloc, file.as_slice()),
+        Err(_) => Err(ReadFault::Memory),
+    }
+}
+
+/// Why such a file spells no font; `None` where it spells one.
+fn fault(alloc: Global, clear: &[u8], private: &[u8]) -> Option<ReadFault> {
+    font(alloc, clear, private).err()
+}

@@ -1,0 +1,148 @@
+//! The borders of the grammar: what still reads, and what it reads as.
+
+use super::{CLEAR, GLYPHS, fault, font, joined};
+use crate::{Form, ReadFault, write};
+use std::test::Fail;
+use t1_run::Subroutines;
+
+#[test]
+fn words_at_their_limits(rt: HostRuntime) -> Result<(), Fail> {
+    let bad = Some(ReadFault::BadSubrs { at: 28 });
+    let rows: [(&[u8], Option<ReadFault>, &str); 16] = [
+        (b"ND\n", None, "an empty table"),
+        (
+            b"dup 2 0 a  b\ndup 0 0 a  b\nND\n",
+            None,
+            "out of order, with a gap",
+        ),
+        (
+            b"dup 3 0 a  b ND\n",
+            bad,
+            "an index equal to the declared count",
+        ),
+        (b"dup 0 0 RD  dup ND\n", None, "dup as the put-phrase"),
+        (
+            b"dup 0 0 RD  NP noaccess dup ",
+            Some(ReadFault::BadSubrs { at: 43 }),
+            "noaccess dup doesn't close",
+        ),
+        (b"dup 0 0 RD  noaccess", bad, "noaccess without a word"),
+        (
+            b"dup 0 0 12345678901234567890123456789012  NP ND\n",
+            None,
+            "a word of 32 bytes",
+        ),
+        (
+            b"dup 0 0 123456789012345678901234567890123  NP ND\n",
+            bad,
+            "a word of 33 bytes",
+        ),
+        (
+            b"dup 0 0 RD  noaccess 12345678901234567890123 ND\n",
+            None,
+            "a phrase of 32 bytes",
+        ),
+        (
+            b"dup 0 0 RD  noaccess 123456789012345678901234 ND\n",
+            bad,
+            "a phrase of 33 bytes",
+        ),
+        (
+            b"dup 0 0 RD  noaccess put noaccess def\n",
+            None,
+            "phrases of two words",
+        ),
+        (b"dup 0 65536 RD  NP ND\n", bad, "a length of 65,536"),
+        (b"dup 0 65535 RD  NP ND\n", bad, "a length beyond the end"),
+        (
+            b"dup 0 1 RD%\x1b NP ND\n",
+            bad,
+            "a delimiter for the one byte of white space",
+        ),
+        (
+            b"dup 0 1 RD\0\x1b\x0cNP\rND\t",
+            None,
+            "a null, a form feed, CR and a tab",
+        ),
+        (
+            b"dup 0000000002 0 RD  NP ND\n",
+            bad,
+            "an index of ten digits",
+        ),
+    ];
+    for (table, want, name) in rows {
+        let head = joined(rt.alloc(), b"/lenIV 0 def /Subrs 3 array ", table)?;
+        let private = joined(rt.alloc(), head.as_slice(), GLYPHS)?;
+        assert_eq!(rt;
+            fault(rt.alloc(), CLEAR, private.as_slice()),
+            want,
+            "{name}"
+        );
+    }
+    Ok(())
+}
+
+#[test]
+fn codes_at_their_limits(rt: HostRuntime) -> Result<(), Fail> {
+    let bad = Some(ReadFault::BadEncoding { at: 23 });
+    let rows: [(&[u8], Option<ReadFault>, &str); 10] = [
+        (b"dup 8#000000377/X put def", None, "nine octal digits"),
+        (b"dup 8#0000000377/X put def", bad, "ten octal digits"),
+        (b"dup 8#400/X put def", bad, "octal 256"),
+        (b"dup 8#8/X put def", bad, "a digit that isn't octal"),
+        (b"dup 16#41/X put def", bad, "another radix"),
+        (
+            b"dup 000000065/X put readonly def",
+            None,
+            "nine digits, and readonly",
+        ),
+        (b"dup 65/ put def", bad, "an empty name"),
+        (b"readonly readonly def", bad, "readonly twice"),
+        (b"def ", None, "no names"),
+        (b"/X put def", bad, "no dup"),
+    ];
+    for (table, want, name) in rows {
+        let start = joined(rt.alloc(), b"%!\n/Encoding 256 array ", table)?;
+        let clear = joined(rt.alloc(), start.as_slice(), b" currentfile eexec ")?;
+        let private = joined(rt.alloc(), b"/lenIV 0 def ", GLYPHS)?;
+        assert_eq!(rt;
+            fault(rt.alloc(), clear.as_slice(), private.as_slice()),
+            want,
+            "{name}"
+        );
+    }
+    Ok(())
+}
+
+#[test]
+fn last_entries_and_first_words(rt: HostRuntime) -> Result<(), Fail> {
+    let clear =
+        b"%!\n/Encoding 256 array dup 65/X put dup 66/Y put dup 65/.notdef put def currentfile eexec ";
+    let private =
+        b"/lenIV 0 def /lenIV 9 def /Subrs 3 array dup 2 1 a \x01 b dup 2 1 c \x0b d ND\nx /CharStrings 9 dict dup begin /.notdef 1 e \x01 f /.notdef 1 g \x02 end\nend closefileclosefile/Subrs 0 array ";
+    let Ok(font) = font(rt.alloc(), clear, private) else {
+        assert!(rt; false, "the font is refused");
+        return Ok(());
+    };
+    assert_eq!(rt;
+        font.encoding_at(65),
+        None,
+        "a later .notdef takes a code away"
+    );
+    assert_eq!(rt;
+        font.encoding_at(66),
+        Some(b"Y".as_slice()),
+        "the other code stays"
+    );
+    assert_eq!(rt; font.encoding_word(), None, "a table");
+    assert_eq!(rt;
+        (font.has_subrs(), font.len_iv(), font.count(), font.weight()),
+        (true, 0, 3, 446),
+        "the counts"
+    );
+    assert_eq!(rt; (font.present(0), font.present(2)), (false, true), "a gap");
+    assert_eq!(rt; font.names().count(), 1, "one name");
+    let again = write(rt.alloc(), &font, Form::Pfb)?;
+    assert!(rt; again.as_slice().starts_with(b"\x80\x01"), "a PFB");
+    Ok(())
+}

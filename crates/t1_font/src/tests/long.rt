@@ -1,0 +1,77 @@
+//! Long names, long charstrings, weights at the limit, and 64 MiB of nothing.
+
+use super::{CLEAR, GLYPHS, fault, joined};
+use crate::{ReadFault, read};
+use std::alloc::{AllocError, Global};
+use std::test::Fail;
+
+/// A private text with one glyph of this name and this many bytes, and `.notdef`.
+fn glyph(alloc: Global, name: usize, length: usize) -> Result<Vec<u8>, AllocError> {
+    let mut text = Vec::from_slice(alloc, b"/lenIV 0 def /CharStrings 2 dict dup begin /")?;
+    text.resize(text.len().saturating_add(name), b'a')?;
+    text.push(b' ')?;
+    text.extend_from_slice(length.to_string(alloc)?.as_bytes())?;
+    text.extend_from_slice(b" RD ")?;
+    text.resize(text.len().saturating_add(length), 11)?;
+    text.extend_from_slice(b" ND /.notdef 0 RD  ND end closefile")?;
+    Ok(text)
+}
+
+#[test]
+fn long_names_and_charstrings(rt: HostRuntime) -> Result<(), Fail> {
+    let bad = Some(ReadFault::BadGlyphs { at: 43 });
+    let rows: [(usize, usize, Option<ReadFault>, &str); 5] = [
+        (127, 0, None, "a name of 127 bytes"),
+        (128, 0, bad, "a name of 128 bytes"),
+        (0, 0, bad, "a name of no bytes"),
+        (1, 65_535, None, "a charstring of 65,535 bytes"),
+        (1, 65_536, bad, "a charstring of 65,536 bytes"),
+    ];
+    for (name, length, want, what) in rows {
+        let private = glyph(rt.alloc(), name, length)?;
+        assert_eq!(rt;
+            fault(rt.alloc(), CLEAR, private.as_slice()),
+            want,
+            "{what}"
+        );
+    }
+    Ok(())
+}
+
+#[test]
+fn weights_at_the_limit(rt: HostRuntime) -> Result<(), Fail> {
+    // The clear tail has 18 bytes and the private texts 13 and 27; `.notdef` weighs 257.
+    let private = joined(rt.alloc(), b"/lenIV 0 def ", GLYPHS)?;
+    for (head, want) in [
+        (16_776_901usize, None),
+        (16_776_902, Some(ReadFault::Limit)),
+    ] {
+        let mut clear = Vec::new(rt.alloc());
+        clear.resize(head, b' ')?;
+        clear.extend_from_slice(b"/Encoding StandardEncoding def\ncurrentfile eexec\n")?;
+        assert_eq!(rt;
+            fault(rt.alloc(), clear.as_slice(), private.as_slice()),
+            want,
+            "a head of {head} bytes"
+        );
+    }
+    Ok(())
+}
+
+#[test]
+fn nothing_at_the_limit(rt: HostRuntime) -> Result<(), Fail> {
+    let mut nothing = Vec::new(rt.alloc());
+    nothing.resize(67_108_864, 0)?;
+    assert_eq!(rt;
+        read(rt.alloc(), nothing.as_slice()).err(),
+        Some(ReadFault::NoEexec),
+        "64 MiB"
+    );
+    nothing.push(0)?;
+    assert_eq!(rt;
+        read(rt.alloc(), nothing.as_slice()).err(),
+        Some(ReadFault::TooLong),
+        "a byte more"
+    );
+    Ok(())
+}

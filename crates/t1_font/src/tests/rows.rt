@@ -1,0 +1,211 @@
+//! The font Tiny: its two files, changed files, and every prefix.
+
+use super::tiny::{PFA, PFB};
+use super::{fault, file, joined};
+use crate::{Font, Form, ReadFault, read, write};
+use bstr::ByteSlice;
+use std::alloc::{AllocError, Global};
+use std::test::Fail;
+use t1_bytes::{CHARSTRING_KEY, EEXEC_KEY, EEXEC_LEAD, open, seal, split_eexec};
+
+/// The private text of Tiny.
+fn private(alloc: Global) -> Result<Vec<u8>, AllocError> {
+    let Ok((_, mut cipher)) = split_eexec(alloc, PFA) else {
+        return Err(AllocError);
+    };
+    if cipher.len() < 4 {
+        return Err(AllocError);
+    }
+    let text = open(cipher.as_mut_slice(), EEXEC_KEY, EEXEC_LEAD);
+    Vec::from_slice(alloc, text)
+}
+
+/// A text with `new` in place of the first `old`.
+fn with(alloc: Global, text: &[u8], old: &[u8], new: &[u8]) -> Result<Vec<u8>, AllocError> {
+    let Some(at) = text.find(old) else {
+        return Err(AllocError);
+    };
+    let mut changed = Vec::from_slice(alloc, &text[..at])?;
+    changed.extend_from_slice(new)?;
+    changed.extend_from_slice(&text[at + old.len()..])?;
+    Ok(changed)
+}
+
+/// Whether a font is written as Tiny's PFA.
+fn is_tiny(alloc: Global, font: Result<Font, ReadFault>) -> bool {
+    match font {
+        Ok(font) => match write(alloc, &font, Form::Pfa) {
+            Ok(file) => file.as_slice() == PFA.as_slice(),
+            Err(_) => false,
+        },
+        Err(_) => false,
+    }
+}
+
+#[test]
+fn tiny_is_written_again(rt: HostRuntime) -> Result<(), Fail> {
+    for (name, file) in [("PFA", PFA.as_slice()), ("PFB", PFB.as_slice())] {
+        assert!(rt;
+            is_tiny(rt.alloc(), read(rt.alloc(), file)),
+            "the {name} as PFA"
+        );
+        if let Ok(font) = read(rt.alloc(), file) {
+            let pfb = write(rt.alloc(), &font, Form::Pfb)?;
+            assert_eq!(rt; pfb.as_slice(), PFB.as_slice(), "the {name} as PFB");
+            assert_eq!(rt;
+                (font.names().count(), font.weight()),
+                (11, 4936),
+                "glyphs and weight of the {name}"
+            );
+        }
+    }
+    let mut upper = Vec::from_slice(rt.alloc(), PFA)?;
+    for byte in &mut upper.as_mut_slice()[313..2357] {
+        *byte = if *byte == b'\n' {
+            b'\r'
+        } else {
+            byte.to_ascii_uppercase()
+        };
+    }
+    assert!(rt;
+        is_tiny(rt.alloc(), read(rt.alloc(), upper.as_slice())),
+        "digits in upper case, lines that end in CR"
+    );
+    Ok(())
+}
+
+#[test]
+fn changed_private_texts(rt: HostRuntime) -> Result<(), Fail> {
+    let text = private(rt.alloc())?;
+    let rows: [(&[u8], &[u8], Option<ReadFault>); 9] = [
+        (
+            b"dup 0 15 RD ",
+            b"dup 0 3 RD ",
+            Some(ReadFault::BadSubrs { at: 269 }),
+        ),
+        (
+            b"/.notdef 9 RD ",
+            b"/.notdef 3 RD ",
+            Some(ReadFault::BadGlyphs { at: 546 }),
+        ),
+        (
+            b"/Subrs 10 array",
+            b"/Subrs 9 array",
+            Some(ReadFault::BadSubrs { at: 481 }),
+        ),
+        (b"/Subrs 10 array", b"/Subrs 65535 array", None),
+        (
+            b"/Subrs 10 array",
+            b"/Subrs 65536 array",
+            Some(ReadFault::Limit),
+        ),
+        (
+            b"/Subrs 10 array",
+            b"/lenIV -1 def\n/Subrs 10 array",
+            Some(ReadFault::BadLenIV),
+        ),
+        (
+            b"2 index",
+            b"/Subrs 0 array ND 2 index",
+            Some(ReadFault::Hybrid),
+        ),
+        (b"/.notdef 9", b"/.notdeg 9", Some(ReadFault::NoNotdef)),
+        (b"closefile", b"closefil", Some(ReadFault::NoClosefile)),
+    ];
+    for (old, new, want) in rows {
+        let changed = with(rt.alloc(), text.as_slice(), old, new)?;
+        assert!(rt;
+            fault(rt.alloc(), &PFA[..313], changed.as_slice()) == want,
+            "{}",
+            new.len()
+        );
+    }
+    let counted = with(
+        rt.alloc(),
+        text.as_slice(),
+        b"/CharStrings 11 dict",
+        b"/CharStrings 3 dict",
+    )?;
+    let other = file(rt.alloc(), &PFA[..313], counted.as_slice())?;
+    assert!(rt;
+        is_tiny(rt.alloc(), read(rt.alloc(), other.as_slice())),
+        "another size of the dictionary"
+    );
+    Ok(())
+}
+
+#[test]
+fn changed_clear_texts(rt: HostRuntime) -> Result<(), Fail> {
+    let code = with(rt.alloc(), PFA, b"dup 65 /X put", b"dup 256 /X put")?;
+    assert_eq!(rt;
+        read(rt.alloc(), code.as_slice()).err(),
+        Some(ReadFault::BadEncoding { at: 195 }),
+        "code 256"
+    );
+    let octal = with(rt.alloc(), PFA, b"dup 65 /X put", b"dup 8#101 /X put")?;
+    assert!(rt;
+        is_tiny(rt.alloc(), read(rt.alloc(), octal.as_slice())),
+        "octal 101"
+    );
+    Ok(())
+}
+
+#[test]
+fn a_second_glyph_of_a_name(rt: HostRuntime) -> Result<(), Fail> {
+    let text = private(rt.alloc())?;
+    let y: [u8; 12] = [
+        0x8B, 0xF8, 0x88, 0x0D, 0x8B, 0x16, 0x90, 0x0A, 0x91, 0x0A, 0x09, 0x0E,
+    ];
+    let Ok(body) = seal(rt.alloc(), &y, CHARSTRING_KEY, 4) else {
+        return Ok(());
+    };
+    let entry = joined(rt.alloc(), b"/X 16 RD ", body.as_slice())?;
+    let entry = joined(rt.alloc(), entry.as_slice(), b" ND\nend\nend\nreadonly put")?;
+    let changed = with(
+        rt.alloc(),
+        text.as_slice(),
+        b"end\nend\nreadonly put",
+        entry.as_slice(),
+    )?;
+    let file = file(rt.alloc(), &PFA[..313], changed.as_slice())?;
+    let counts = match read(rt.alloc(), file.as_slice()) {
+        Ok(font) => Some((font.names().count(), font.weight())),
+        Err(_) => None,
+    };
+    assert_eq!(rt; counts, Some((11, 4933)), "X has the bytes of Y");
+    Ok(())
+}
+
+#[test]
+fn prefixes_of_the_pfa(rt: HostRuntime) {
+    for n in 0..=PFA.len() {
+        let got = read(rt.alloc(), &PFA[..n]).err();
+        let right = match n {
+            0..=312 => got == Some(ReadFault::NoEexec),
+            313..=320 => got == Some(ReadFault::ShortCipher),
+            321..=1429 => got == Some(ReadFault::NoCharStrings),
+            1430 => got == Some(ReadFault::BadGlyphs { at: 546 }),
+            1431..=2163 => matches!(got, Some(ReadFault::BadGlyphs { .. })),
+            2164 => got == Some(ReadFault::BadGlyphs { at: 905 }),
+            2165..=2357 => got == Some(ReadFault::NoClosefile),
+            _ => got.is_none(),
+        };
+        assert!(rt; right, "{n} bytes");
+    }
+}
+
+#[test]
+fn prefixes_of_the_pfb(rt: HostRuntime) {
+    for n in 0..=PFB.len() {
+        let want = match n {
+            0 => Some(ReadFault::NoEexec),
+            1..=318 => Some(ReadFault::BadSegment { at: 0 }),
+            319 => Some(ReadFault::ShortCipher),
+            320..=1332 => Some(ReadFault::BadSegment { at: 319 }),
+            1334..=1870 => Some(ReadFault::BadSegment { at: 1333 }),
+            1872 => Some(ReadFault::BadSegment { at: 1871 }),
+            _ => None,
+        };
+        assert!(rt; read(rt.alloc(), &PFB[..n]).err() == want, "{n} bytes");
+    }
+}
