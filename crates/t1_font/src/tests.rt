@@ -1,5 +1,6 @@
 //! Font files from outside: each fault, the borders of the grammar, and the font Tiny.
 
+mod again;
 mod edges;
 mod faults;
 mod long;

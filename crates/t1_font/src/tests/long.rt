@@ -5,6 +5,14 @@ use crate::{ReadFault, read};
 use std::alloc::{AllocError, Global};
 use std::test::Fail;
 
+/// A clear text whose Encoding has a name of this many bytes.
+fn named(alloc: Global, name: usize) -> Result<Vec<u8>, AllocError> {
+    let mut text = Vec::from_slice(alloc, b"/Encoding 256 array dup 65/")?;
+    text.resize(text.len().saturating_add(name), b'a')?;
+    text.extend_from_slice(b" put def currentfile eexec ")?;
+    Ok(text)
+}
+
 /// A private text with one glyph of this name and this many bytes, and `.notdef`.
 fn glyph(alloc: Global, name: usize, length: usize) -> Result<Vec<u8>, AllocError> {
     let mut text = Vec::from_slice(alloc, b"/lenIV 0 def /CharStrings 2 dict dup begin /")?;
@@ -39,6 +47,23 @@ fn long_names_and_charstrings(rt: HostRuntime) -> Result<(), Fail> {
 }
 
 #[test]
+fn long_names_of_codes(rt: HostRuntime) -> Result<(), Fail> {
+    let private = joined(rt.alloc(), b"/lenIV 0 def ", GLYPHS)?;
+    for (name, want) in [
+        (127usize, None),
+        (128, Some(ReadFault::BadEncoding { at: 20 })),
+    ] {
+        let clear = named(rt.alloc(), name)?;
+        assert_eq!(rt;
+            fault(rt.alloc(), clear.as_slice(), private.as_slice()),
+            want,
+            "{name} bytes"
+        );
+    }
+    Ok(())
+}
+
+#[test]
 fn weights_at_the_limit(rt: HostRuntime) -> Result<(), Fail> {
     // The clear tail has 18 bytes and the private texts 13 and 27; `.notdef` weighs 257.
     let private = joined(rt.alloc(), b"/lenIV 0 def ", GLYPHS)?;
@@ -66,6 +91,12 @@ fn nothing_at_the_limit(rt: HostRuntime) -> Result<(), Fail> {
         read(rt.alloc(), nothing.as_slice()).err(),
         Some(ReadFault::NoEexec),
         "64 MiB"
+    );
+    nothing.as_mut_slice()[0] = 128;
+    assert_eq!(rt;
+        read(rt.alloc(), nothing.as_slice()).err(),
+        Some(ReadFault::BadSegment { at: 0 }),
+        "64 MiB that begin with 128"
     );
     nothing.push(0)?;
     assert_eq!(rt;

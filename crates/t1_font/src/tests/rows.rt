@@ -9,7 +9,7 @@ use std::test::Fail;
 use t1_bytes::{CHARSTRING_KEY, EEXEC_KEY, EEXEC_LEAD, open, seal, split_eexec};
 
 /// The private text of Tiny.
-fn private(alloc: Global) -> Result<Vec<u8>, AllocError> {
+pub fn private(alloc: Global) -> Result<Vec<u8>, AllocError> {
     let Ok((_, mut cipher)) = split_eexec(alloc, PFA) else {
         return Err(AllocError);
     };
@@ -21,7 +21,7 @@ fn private(alloc: Global) -> Result<Vec<u8>, AllocError> {
 }
 
 /// A text with `new` in place of the first `old`.
-fn with(alloc: Global, text: &[u8], old: &[u8], new: &[u8]) -> Result<Vec<u8>, AllocError> {
+pub fn with(alloc: Global, text: &[u8], old: &[u8], new: &[u8]) -> Result<Vec<u8>, AllocError> {
     let Some(at) = text.find(old) else {
         return Err(AllocError);
     };
