@@ -1,0 +1,36 @@
+-- A glyph does in a subset and in a join what it did.
+use Rattle.std.proofs.Common.{◌≡◌, ℕ, true, cond, List, refl, sym, ◌∙◌, ap, subst, None, Some}
+use Rattle.std.specs.FinMap as maps
+use Rattle.std.specs.FinSet as sets
+use Rattle.t1_font.specs.FontValue.{FontValue}
+use Rattle.t1_font.specs.IsFont.{IsFont}
+use Rattle.t1_subset.specs.Interpreter.{Names}
+use Rattle.t1_subset.specs.Keep.{has, keep, subset}
+use Rattle.t1_subset.specs.States.{joined_font, Compatible}
+use Rattle.t1_subset.specs.Profile.{profile}
+use Rattle.t1_subset.specs.Laws.{IsOf, DrawsAlike}
+use Rattle.t1_subset.proofs.Subset.{get-glyph, has_some, subrs_alike}
+use Rattle.t1_subset.proofs.States.{left_glyph, left_subrs, font_back, compatible_back}
+use Rattle.t1_subset.proofs.Drawings.{subset_draws, join_draws}
+use Rattle.t1_subset.proofs.Pictures.{runs_by_rules, pictures_alike}
+
+pub subset_alike : (f : FontValue) → IsFont f → (a : Names) → IsOf f a → (n : List ℕ) → sets.contains (keep profile f a) n ≡ true → DrawsAlike f (subset profile f a) n
+subset_alike f h a inside n k = record {
+  charstring = get-glyph profile f h.glyphs.notdef a inside n ∙ ap (λ b. cond b (maps.get f.glyphs n) None) k;
+  answer = λ c is. (runs_by_rules f.subrs (subset profile f a).subrs c (subrs_alike profile f h.glyphs.notdef a inside n c k is)).0;
+  executes = λ c is. (runs_by_rules f.subrs (subset profile f a).subrs c (subrs_alike profile f h.glyphs.notdef a inside n c k is)).1;
+  draws = pictures_alike (subset profile f a) f n (subset_draws profile f h.glyphs.notdef a inside n k (maps.get f.glyphs n) refl);
+}
+
+pub left_alike : (f g : FontValue) → Compatible profile f g → (n : List ℕ) → has f n ≡ true → DrawsAlike f (joined_font profile f g) n
+left_alike f g c n h =
+    let v = has_some (maps.get f.glyphs n) h in
+    record {
+      charstring = left_glyph profile f g n v.0 v.1 ∙ sym v.1;
+      answer = λ c is. (runs_by_rules f.subrs (joined_font profile f g).subrs c (left_subrs profile f g n c is)).0;
+      executes = λ c is. (runs_by_rules f.subrs (joined_font profile f g).subrs c (left_subrs profile f g n c is)).1;
+      draws = pictures_alike (joined_font profile f g) f n (join_draws profile f g c n v.0 v.1);
+    }
+
+pub right_alike : (f g : FontValue) → Compatible profile f g → (n : List ℕ) → has g n ≡ true → DrawsAlike g (joined_font profile f g) n
+right_alike f g c n h = subst (λ (j : FontValue). DrawsAlike g j n) (sym (font_back profile f g c)) (left_alike g f (compatible_back profile f g c) n h)

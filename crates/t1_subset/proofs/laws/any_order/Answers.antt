@@ -1,0 +1,6 @@
+use Rattle.t1_subset.proofs.Fonts.{any_order_of_fonts}
+use Rattle.t1_subset.specs.Profile.{profile}
+use Rattle.t1_subset.proofs.laws.any_order.Goals as goal
+
+pub returns : goal.returns
+returns c = any_order_of_fonts profile

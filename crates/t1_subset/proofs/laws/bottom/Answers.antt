@@ -1,0 +1,6 @@
+use Rattle.t1_subset.proofs.Subset.{bottom, sought_lacks}
+use Rattle.t1_subset.specs.Profile.{profile}
+use Rattle.t1_subset.proofs.laws.bottom.Goals as goal
+
+pub returns : goal.returns
+returns c f h a i = (bottom profile f h.glyphs.notdef a i, sought_lacks profile f h.glyphs.notdef a i)

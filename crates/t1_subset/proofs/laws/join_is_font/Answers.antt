@@ -1,0 +1,6 @@
+use Rattle.t1_subset.proofs.Fonts.{joined_is_font}
+use Rattle.t1_subset.specs.Profile.{profile}
+use Rattle.t1_subset.proofs.laws.join_is_font.Goals as goal
+
+pub returns : goal.returns
+returns c = joined_is_font profile

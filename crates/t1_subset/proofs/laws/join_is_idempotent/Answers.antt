@@ -1,0 +1,7 @@
+use Rattle.t1_subset.proofs.Fonts.{font_within}
+use Rattle.t1_subset.proofs.Orders.{join_self}
+use Rattle.t1_subset.specs.Profile.{profile}
+use Rattle.t1_subset.proofs.laws.join_is_idempotent.Goals as goal
+
+pub returns : goal.returns
+returns c f h = join_self profile f (font_within f h)

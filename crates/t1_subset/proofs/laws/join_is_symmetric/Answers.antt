@@ -1,0 +1,6 @@
+use Rattle.t1_subset.proofs.Orders.{join_back}
+use Rattle.t1_subset.specs.Profile.{profile}
+use Rattle.t1_subset.proofs.laws.join_is_symmetric.Goals as goal
+
+pub returns : goal.returns
+returns c f g j = join_back profile f g j

@@ -1,0 +1,6 @@
+use Rattle.t1_subset.proofs.Fonts.{many_subsets}
+use Rattle.t1_subset.specs.Profile.{profile}
+use Rattle.t1_subset.proofs.laws.many_subsets.Goals as goal
+
+pub returns : goal.returns
+returns c = many_subsets profile

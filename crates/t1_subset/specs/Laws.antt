@@ -1,0 +1,134 @@
+-- The laws of subsets and joins of fonts, each the contract of a function in `laws`.
+use Rattle.std.specs.Prelude.{◌≡◌, ◌↔◌, ◌≤◌, ℕ, true, false, List, ◌∷◌, Some, None, IsPermutation}
+use Rattle.std.specs.FinSet as sets
+use Rattle.std.specs.FinMap as maps
+use Rattle.t1_run.specs.Run.{direct, exec}
+use Rattle.t1_run.specs.Drawings.{draw}
+use Rattle.t1_font.specs.FontValue.{FontValue, weight}
+use Rattle.t1_font.specs.IsFont.{IsFont}
+use Rattle.t1_font.specs.Cut.{join_parts}
+use Rattle.t1_subset.specs.Interpreter.{Interpreter, Names}
+use Rattle.t1_subset.specs.Keep.{has, keep, kept, subset, Closed}
+use Rattle.t1_subset.specs.States.{Compatible, Join, IsWithin, joined, joined_font, subr_state, name_state, code_state, is_sought}
+use Rattle.t1_subset.specs.StateValues.{states_of, StatesAgree}
+use Rattle.t1_subset.specs.Conflicts.{conflict}
+use Rattle.t1_subset.specs.JoinedEntries.{EntriesJoin}
+use Rattle.t1_subset.specs.Trees.{Tree, EachLeaf, leaves, map_tree, union_all, Merges, Leaf, left_tree, folded, EachPair}
+
+-- a set of names of the font
+abbrev pub IsOf : FontValue → Names → Type 0
+IsOf f a = (n : List ℕ) → sets.contains a n ≡ true → has f n ≡ true
+
+-- each name of a is one of b
+abbrev pub Inside : Names → Names → Type 0
+Inside a b = (n : List ℕ) → sets.contains a n ≡ true → sets.contains b n ≡ true
+
+-- what a glyph of f does in j, it does as in f: its charstring, its run and the Subrs that it executes, its drawing
+pub record DrawsAlike (f j : FontValue) (n : List ℕ) : Type 0 where
+  pub charstring : maps.get j.glyphs n ≡ maps.get f.glyphs n
+  pub answer : (c : List ℕ) → maps.get f.glyphs n ≡ Some c → direct (maps.get j.subrs) c ≡ direct (maps.get f.subrs) c
+  pub executes : (c : List ℕ) → maps.get f.glyphs n ≡ Some c → exec (maps.get j.subrs) c ≡ exec (maps.get f.subrs) c
+  pub draws : draw (maps.get j.subrs) (maps.get j.glyphs) n ≡ draw (maps.get f.subrs) (maps.get f.glyphs) n
+
+module _ {O : Type 0} (m : Interpreter O) where
+  -- ---- what is kept
+
+  -- what is kept is closed, and within each closed set of the font's names
+  abbrev pub KeepIsLeast : Type 0
+  KeepIsLeast = (f : FontValue) → IsFont f → (a : Names) → IsOf f a →
+      IsOf f (keep m f a) × Closed m f a (keep m f a) × ((s : Names) → IsOf f s → Closed m f a s → Inside (keep m f a) s)
+
+  -- of more names no less is kept
+  abbrev pub KeepIsMonotone : Type 0
+  KeepIsMonotone = (f : FontValue) (a b : Names) → Inside a b →
+      Inside (keep m f a) (keep m f b) × ((i : ℕ) → sets.contains (kept m f a) i ≡ true → sets.contains (kept m f b) i ≡ true)
+
+  -- what two sets keep together is what each keeps
+  abbrev pub Distribution : Type 0
+  Distribution = (f : FontValue) → IsFont f → (a b : Names) → IsOf f a → IsOf f b →
+      (keep m f (sets.union a b) ≡ sets.union (keep m f a) (keep m f b)) × (kept m f (sets.union a b) ≡ sets.union (kept m f a) (kept m f b))
+
+  -- ---- subsets
+
+  -- a subset is a font, and weighs no more
+  abbrev pub SubsetIsFont : Type 0
+  SubsetIsFont = (f : FontValue) → IsFont f → (a : Names) → IsOf f a → IsFont (subset m f a) × (weight (subset m f a) ≤ weight f)
+
+  -- a subset of a subset is that of the font; over the same names it is the subset itself
+  abbrev pub SubsetOfSubset : Type 0
+  SubsetOfSubset = (f : FontValue) → IsFont f → (a : Names) → IsOf f a →
+      ((b : Names) → IsOf (subset m f a) b → subset m (subset m f a) b ≡ subset m f b) × (subset m (subset m f a) a ≡ subset m f a)
+
+  -- what isn't kept is the bottom; a name that is lacking and sought is lacking in the font
+  abbrev pub Bottom : Type 0
+  Bottom = (f : FontValue) → IsFont f → (a : Names) → IsOf f a →
+      ((i : ℕ) → sets.contains (kept m f a) i ≡ false → subr_state m (subset m f a) i ≡ None)
+      × ((n : List ℕ) → has (subset m f a) n ≡ false → is_sought m (subset m f a) n ≡ true → has f n ≡ false)
+
+  -- a kept glyph runs and draws in a subset as in the font
+  abbrev pub SubsetsDraw : Type 0
+  SubsetsDraw = (f : FontValue) → IsFont f → (a : Names) → IsOf f a → (n : List ℕ) → sets.contains (keep m f a) n ≡ true → DrawsAlike f (subset m f a) n
+
+  -- two subsets of a font join, and in either order their join is the subset of both sets
+  abbrev pub TwoSubsets : Type 0
+  TwoSubsets = (f : FontValue) → IsFont f → (a b : Names) → IsOf f a → IsOf f b →
+      Join m (subset m f a) (subset m f b) × (joined_font m (subset m f a) (subset m f b) ≡ subset m f (sets.union a b))
+      × Join m (subset m f b) (subset m f a) × (joined_font m (subset m f b) (subset m f a) ≡ subset m f (sets.union a b))
+
+  -- the subsets of any list of sets merge in any order and grouping to the subset of all the sets
+  abbrev pub ManySubsets : Type 0
+  ManySubsets = (f : FontValue) → IsFont f → (all : List Names) (t : Tree Names) → IsPermutation all (leaves t) → EachLeaf (IsOf f) t →
+      Merges m (map_tree (subset m f) t) (subset m f (union_all all))
+
+  -- ---- fonts from anywhere
+
+  -- a join is a font
+  abbrev pub JoinIsFont : Type 0
+  JoinIsFont = (f g : FontValue) → IsFont f → IsFont g → Join m f g → IsFont (joined_font m f g)
+
+  -- fonts join in both orders, to one font
+  abbrev pub JoinIsSymmetric : Type 0
+  JoinIsSymmetric = (f g : FontValue) → Join m f g → Join m g f × (joined_font m f g ≡ joined_font m g f)
+
+  -- a font joins with itself, to itself
+  abbrev pub JoinIsIdempotent : Type 0
+  JoinIsIdempotent = (f : FontValue) → IsFont f → Join m f f × (joined_font m f f ≡ f)
+
+  -- the states of a join are the joined states
+  abbrev pub StatesOfJoin : Type 0
+  StatesOfJoin = (f g : FontValue) → Join m f g →
+      ((i : ℕ) → subr_state m (joined_font m f g) i ≡ joined (subr_state m f i) (subr_state m g i))
+      × ((n : List ℕ) → name_state m (joined_font m f g) n ≡ joined (name_state m f n) (name_state m g n))
+      × ((c : ℕ) → code_state (joined_font m f g).encoding c ≡ joined (code_state f.encoding c) (code_state g.encoding c))
+
+  -- each glyph of either font runs and draws in a join as it did
+  abbrev pub JoinsDraw : Type 0
+  JoinsDraw = (f g : FontValue) → Join m f g →
+      ((n : List ℕ) → has f n ≡ true → DrawsAlike f (joined_font m f g) n) × ((n : List ℕ) → has g n ≡ true → DrawsAlike g (joined_font m f g) n)
+
+  -- fonts that merge in one order and grouping merge in each other, to the same font and to no other
+  abbrev pub AnyOrder : Type 0
+  AnyOrder = (s t : Tree FontValue) → IsPermutation (leaves s) (leaves t) → EachLeaf IsFont s → (j : FontValue) → Merges m s j →
+      IsFont j × Merges m t j × ((k : FontValue) → Merges m t k → k ≡ j)
+
+  -- a list of fonts merges from left to right exactly where each two of them have states that join, and the font of all is within the limits
+  abbrev pub AcceptedByPairs : Type 0
+  AcceptedByPairs = (f : FontValue) (fs : List FontValue) → EachLeaf IsFont (left_tree (Leaf f) fs) →
+      (EachPair m (f ∷ fs) → IsWithin (folded m f fs) → Merges m (left_tree (Leaf f) fs) (folded m f fs))
+      × ((j : FontValue) → Merges m (left_tree (Leaf f) fs) j → EachPair m (f ∷ fs) × (folded m f fs ≡ j) × IsWithin j)
+
+  -- the values of the states agree exactly where the states join
+  abbrev pub AgreeIsCompatible : Type 0
+  AgreeIsCompatible = (f g : FontValue) → StatesAgree (states_of m f) (states_of m g) ↔ Compatible m f g
+
+  -- two fonts have no conflict exactly where they join
+  abbrev pub NoConflictIsJoin : Type 0
+  NoConflictIsJoin = (f g : FontValue) → (conflict m f g ≡ None) ↔ Join m f g
+
+  -- two fonts have one lowest conflict, in both orders
+  abbrev pub ConflictIsSymmetric : Type 0
+  ConflictIsSymmetric = (f g : FontValue) → conflict m f g ≡ conflict m g f
+
+  -- where the states of two fonts join, their join has the entries of both
+  abbrev pub JoinHasEntries : Type 0
+  JoinHasEntries = (f g : FontValue) → Compatible m f g → EntriesJoin f g × (joined_font m f g ≡ join_parts f g)

@@ -1,0 +1,10 @@
+pub mod Interpreter
+pub mod Profile
+pub mod Keep
+pub mod States
+pub mod StateValues
+pub mod JoinedEntries
+pub mod Outcomes
+pub mod Trees
+pub mod Conflicts
+pub mod Laws

@@ -1,0 +1,106 @@
+//! Laws of subsets and mergers, over the definitions alone.
+
+ghost use Rattle.t1_subset.specs.Laws.{KeepIsLeast, KeepIsMonotone, Distribution, SubsetIsFont, SubsetOfSubset, Bottom, SubsetsDraw, TwoSubsets, ManySubsets, JoinIsFont, JoinIsSymmetric, JoinIsIdempotent, StatesOfJoin, JoinsDraw, AnyOrder, AcceptedByPairs, AgreeIsCompatible, NoConflictIsJoin, ConflictIsSymmetric, JoinHasEntries};
+ghost use Rattle.t1_subset.specs.Profile.{profile};
+
+/// What a set of names keeps is closed, and within each closed set of the font's names that has them.
+pub fn keep_is_least()
+    ensures { KeepIsLeast profile }
+{}
+
+/// Of more names no less is kept.
+pub fn keep_is_monotone()
+    ensures { KeepIsMonotone profile }
+{}
+
+/// Two sets of names keep together what each of them keeps.
+pub fn distribution()
+    ensures { Distribution profile }
+{}
+
+/// A subset of a font is a font, and weighs no more.
+pub fn subset_is_font()
+    ensures { SubsetIsFont profile }
+{}
+
+/// A subset of a subset is that of the font; over the same names it is the subset itself.
+pub fn subset_of_subset()
+    ensures { SubsetOfSubset profile }
+{}
+
+/// What a subset doesn't keep is the bottom in it; a part that it seeks and lacks is lacking in the font.
+pub fn bottom()
+    ensures { Bottom profile }
+{}
+
+/// A kept glyph runs and draws in a subset as in the font.
+pub fn subsets_draw()
+    ensures { SubsetsDraw profile }
+{}
+
+/// Two subsets of a font join in either order, to the subset of both sets of names.
+pub fn two_subsets()
+    ensures { TwoSubsets profile }
+{}
+
+/// Subsets of a font, over any list of sets of names, merge in any order and grouping to the subset of all
+/// the sets.
+pub fn many_subsets()
+    ensures { ManySubsets profile }
+{}
+
+/// The join of two fonts is a font.
+pub fn join_is_font()
+    ensures { JoinIsFont profile }
+{}
+
+/// Fonts join in both orders, to one font.
+pub fn join_is_symmetric()
+    ensures { JoinIsSymmetric profile }
+{}
+
+/// A font joins with itself, to itself.
+pub fn join_is_idempotent()
+    ensures { JoinIsIdempotent profile }
+{}
+
+/// The states of a join are the joined states.
+pub fn states_of_join()
+    ensures { StatesOfJoin profile }
+{}
+
+/// Each glyph of either font runs and draws in their join as it did.
+pub fn joins_draw()
+    ensures { JoinsDraw profile }
+{}
+
+/// Fonts that merge in one order and grouping merge in each other, to the same font.
+pub fn any_order()
+    ensures { AnyOrder profile }
+{}
+
+/// A list of fonts merges exactly where the states of each two of them join, and the font of all is within
+/// the limits.
+pub fn accepted_by_pairs()
+    ensures { AcceptedByPairs profile }
+{}
+
+/// Values of states agree exactly where the states join.
+pub fn agree_is_compatible()
+    ensures { AgreeIsCompatible profile }
+{}
+
+/// Two fonts have no conflict exactly where they join.
+pub fn no_conflict_is_join()
+    ensures { NoConflictIsJoin profile }
+{}
+
+/// Two fonts have the same lowest conflict in both orders.
+pub fn conflict_is_symmetric()
+    ensures { ConflictIsSymmetric profile }
+{}
+
+/// Where the states of two fonts join, their join has the entries of both.
+pub fn join_has_entries()
+    ensures { JoinHasEntries profile }
+{}

@@ -1,0 +1,4 @@
+//! Subsets and mergers of Type 1 fonts.
+#![tactic(auto)]
+
+pub mod laws;
