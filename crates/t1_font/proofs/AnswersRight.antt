@@ -1,12 +1,10 @@
 -- What was answered, by the relations.
-use Rattle.std.proofs.Common.{◌≡◌, ℕ, ◌<◌, List, [], ◌∷◌, get_or, Result, Ok, Err, Fits, w8, suc}
-use Rattle.std.specs.List.{AllByRecursion}
+use Rattle.std.proofs.Common.{ℕ, List, [], ◌∷◌, get_or, Fits, w8, suc}
 use Rattle.t1_bytes.specs.Laws.{AreBytes}
 use Rattle.t1_font.specs.declared.fault.ReadFault.{ReadFault}
 use Rattle.t1_font.specs.declared.fault.ReadFault.TheVariants.{TooLong, BadSegment, NoEexec, ShortCipher, NoEncoding, BadEncoding, NoCharStrings, BadLenIV, BadSubrs, BadGlyphs, Hybrid, NoClosefile, NoNotdef, Limit, Memory}
-use Rattle.t1_font.specs.FontValue.{FontValue}
 use Rattle.t1_font.specs.ReadFont.{read_font}
-use Rattle.t1_font.specs.Reasons.{Reason, Refuses}
+use Rattle.t1_font.specs.Reasons.{Refuses}
 use Rattle.t1_font.specs.Answers.{Refused}
 use Rattle.t1_font.proofs.ReasonLaws.{refuses}
 

@@ -1,5 +1,5 @@
 -- A flat text is cut where it is split.
-use Rattle.std.proofs.Common.{◌≡◌, ℕ, ◌+◌, ◌≤◌, List, ◌++◌, length, take, Option, Some, None, Result, Ok, Err, refl, sym, ap, subst, ◌∙◌, arith, true}
+use Rattle.std.proofs.Common.{◌≡◌, ℕ, ◌≤◌, List, ◌++◌, length, take, Ok, refl, sym, ap, ◌∙◌, arith}
 use Rattle.std.proofs.lemmas.List.{length-append, take_at}
 use Rattle.std.proofs.lemmas.Bool.{leb-true}
 use Rattle.t1_bytes.specs.declared.fault.BytesFault.{BytesFault}
@@ -9,7 +9,6 @@ use Rattle.t1_bytes.specs.Eexec.{eexec_mark, cipher_text, IsSplit, SplitFails}
 use Rattle.t1_bytes.specs.Faults.{OrMemory}
 use Rattle.t1_bytes.proofs.Grammars.{first_exact, front_again}
 use Rattle.t1_bytes.proofs.EexecLemmas.{cipher_exact, eexec_exact, mark_own}
-use Rattle.t1_font.specs.declared.fault.ReadFault.{ReadFault}
 use Rattle.t1_font.specs.Faults.{read_fault}
 use Rattle.t1_font.specs.Answers.{Refused}
 use Rattle.t1_font.specs.Pieces.{FlatPieces, flat_pieces}

@@ -1,6 +1,6 @@
 -- What the readers of a font answer.
-use Rattle.std.proofs.Common.{◌≡◌, ℕ, ◌<◌, Bool, true, false, cond, ltb, List, [], Option, Some, None, refl, sym, ap, subst, ◌∙◌, is_some}
-use Rattle.std.specs.FinMap.{get, entries, get-entries}
+use Rattle.std.proofs.Common.{◌≡◌, ℕ, ◌<◌, Bool, true, false, cond, ltb, List, Option, Some, None, refl, sym, ap, ◌∙◌}
+use Rattle.std.specs.FinMap.{get, get-entries}
 use Rattle.std.proofs.lemmas.Bool.{lt-ltb}
 use Rattle.t1_font.specs.FontValue.{FontValue, Shell, SubrsShell, Numbered, declared_count}
 use Rattle.t1_font.specs.FontModel.{subr_at}

@@ -1,18 +1,17 @@
 -- The font of the pieces that were read, and why there is none.
-use Rattle.std.proofs.Common.{◌≡◌, ◌⊎◌, inl, inr, ℕ, ◌≤◌, ◌<◌, min, Bool, true, false, ◌&&◌, leb, List, length, Option, Some, None, Result, Ok, Err, refl, sym, ap, subst, ◌∙◌, arith, true≢false}
+use Rattle.std.proofs.Common.{◌≡◌, inl, inr, ℕ, ◌≤◌, ◌<◌, Bool, true, false, ◌&&◌, leb, Option, Some, None, Ok, Err, refl, sym, subst, ◌∙◌, arith, true≢false}
 use Rattle.std.specs.Ordering.{nat_cmp}
 use Rattle.std.specs.FinMap.{len}
 use Rattle.std.proofs.lemmas.Bool.{leb-true, le-leb, and_parts, and_from}
 use Rattle.t1_font.specs.declared.private.SubrsParts.{SubrsParts}
 use Rattle.t1_font.specs.declared.private.PrivateParts.{PrivateParts}
-use Rattle.t1_font.specs.declared.fault.ReadFault.{ReadFault}
 use Rattle.t1_font.specs.declared.fault.ReadFault.TheVariants.{NoNotdef, Limit}
 use Rattle.t1_font.specs.FontValue.{FontValue, Named, name_cmp, IsWithin, weight, declared_count, count_limit, weight_limit}
 use Rattle.t1_font.specs.FontModel.{clamp}
 use Rattle.t1_font.specs.Entries.{last_entries}
 use Rattle.t1_font.specs.Held.{HoldsGlyphs, glyph_bodies}
 use Rattle.t1_font.specs.Pieces.{ClearPieces, SubrsPieces, PrivatePieces}
-use Rattle.t1_font.specs.ReadFont.{subrs_shell, shell_of, font_of, subr_entries, glyph_entries, is_within, has_notdef, font_from}
+use Rattle.t1_font.specs.ReadFont.{subrs_shell, shell_of, font_of, subr_entries, glyph_entries, is_within, font_from}
 use Rattle.t1_font.specs.Answers.{ShowsSubrs, ShowsPrivate, declared_in}
 use Rattle.std.specs.Option.{option_map}
 use Rattle.t1_font.proofs.ValueLaws.{within_of, within_again}

@@ -1,6 +1,6 @@
 -- Loops that read a table: what is held so far, and what is left.
 use Rattle.std.proofs.Common.{◌≡◌, ℕ, List, [], ◌∷◌, ◌++◌, Some, None, Ok, Err}
-use Rattle.t1_bytes.specs.Grammar.{Grammar, Table, with_front, table_at}
+use Rattle.t1_bytes.specs.Grammar.{Grammar, with_front, table_at}
 use Rattle.t1_bytes.proofs.Tables.{Eats, turns, closes, breaks}
 
 -- entries that are held, before those that are left

@@ -1,5 +1,5 @@
 -- What code returned, against what a reading reads.
-use Rattle.std.specs.Prelude.{◌≡◌, ℕ, List, Option, Some, None, Result, Ok, Err}
+use Rattle.std.specs.Prelude.{◌≡◌, ℕ, Option, Some, None, Result, Ok, Err}
 use Rattle.t1_font.specs.declared.fault.ReadFault.{ReadFault}
 use Rattle.t1_font.specs.declared.fault.ReadFault.TheVariants.{Memory}
 use Rattle.t1_font.specs.declared.encoding.EncodingParts.{EncodingParts}

@@ -5,7 +5,7 @@ use Rattle.std.specs.Ordering.{is_eq}
 use Rattle.std.specs.declared.cmp.Ordering.{Ordering}
 use Rattle.std.specs.FinMap as maps
 use Rattle.t1_bytes.specs.Grammar.{choice}
-use Rattle.t1_font.specs.FontValue.{Numbered, notdef}
+use Rattle.t1_font.specs.FontValue.{notdef}
 
 module _ {K : Type 0} (R : K → K → Ordering) where
   -- entries put one after another among those that stand in the order of their keys

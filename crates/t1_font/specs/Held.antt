@@ -1,17 +1,16 @@
 -- What code holds of a table that it has read so far.
-use Rattle.std.specs.Prelude.{◌≡◌, ◌⊎◌, ℕ, ◌≤◌, ◌<◌, Bool, List, [], ◌∷◌, map, length, Option, Some, None, Result, Ok, Err}
+use Rattle.std.specs.Prelude.{◌≡◌, ◌⊎◌, ℕ, ◌≤◌, ◌<◌, Bool, List, [], ◌∷◌, map, Option, Some, None, Result, Ok, Err}
 use Rattle.std.specs.Option.{option_map}
 use Rattle.std.specs.List.{list_any}
 use Rattle.std.specs.Str.{bytes_eq}
-use Rattle.std.specs.Ordering.{nat_cmp}
 use Rattle.std.specs.FinMap.{len}
 use Rattle.t1_bytes.specs.Grammar.{Table}
 use Rattle.t1_font.specs.declared.fault.TableError.{TableError}
 use Rattle.t1_font.specs.declared.subrs.SubrTable.{SubrTable}
 use Rattle.t1_font.specs.declared.glyphs.GlyphTable.{GlyphTable}
-use Rattle.t1_font.specs.FontValue.{Numbered, Named, name_cmp, notdef, count_limit}
+use Rattle.t1_font.specs.FontValue.{Numbered, Named, notdef, count_limit}
 use Rattle.t1_font.specs.Charstrings.{plain_of}
-use Rattle.t1_font.specs.Entries.{map_of, names_of}
+use Rattle.t1_font.specs.Entries.{map_of}
 use Rattle.t1_font.specs.Subrs.{Subr}
 use Rattle.t1_font.specs.Marks.{Glyph}
 use Rattle.t1_font.specs.Faults.{TableFails}

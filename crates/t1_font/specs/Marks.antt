@@ -1,5 +1,5 @@
 -- The markers of font text, and the entries of its tables.
-use Rattle.std.specs.Prelude.{ℕ, ◌+◌, ◌-◌, ◌*◌, ◌==◌, ◌&&◌, ◌||◌, not, nat_le, Bool, true, false, List, [], ◌∷◌, ◌++◌, length, codes, Option, Some, None}
+use Rattle.std.specs.Prelude.{ℕ, ◌+◌, ◌-◌, ◌*◌, ◌&&◌, not, nat_le, Bool, true, false, List, [], ◌∷◌, length, codes, Option, Some, None}
 use Rattle.t1_bytes.specs.Grammar.{Grammar, pure, ◌>>=◌, ◌>>◌, that, run, count, before, fixed, either}
 use Rattle.t1_bytes.specs.White.{is_white, white, gap}
 use Rattle.t1_font.specs.Words.{is_regular, one_white, word, keyword, decimal, name, phrase_of, passes}

@@ -1,4 +1,4 @@
-use Rattle.std.proofs.Common.{◌≡◌, refl, sym, ap, subst, ◌∙◌, List, ℕ, Ok}
+use Rattle.std.proofs.Common.{refl, sym}
 use Rattle.t1_font.specs.Pieces.{clear_pieces}
 use Rattle.t1_font.proofs.encoding.clear_parts.Goals as goal
 

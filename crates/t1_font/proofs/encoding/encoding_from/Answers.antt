@@ -1,4 +1,4 @@
-use Rattle.std.proofs.Common.{◌≡◌, refl, ap, List, ℕ, Option}
+use Rattle.std.proofs.Common.{refl, ap, List, ℕ, Option}
 use Rattle.std.specs.Borrow.{Bor}
 use Rattle.std.specs.Option.{option_map}
 use Rattle.t1_font.specs.Pieces.{encoding_from, OneWord}

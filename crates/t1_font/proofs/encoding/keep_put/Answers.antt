@@ -1,4 +1,4 @@
-use Rattle.std.proofs.Common.{◌≡◌, sym, ap, ◌∙◌, not}
+use Rattle.std.proofs.Common.{sym, ap, ◌∙◌, not}
 use Rattle.std.proofs.Common.{nat_cmp}
 use Rattle.std.specs.FinMap.{insert}
 use Rattle.t1_font.specs.Views.{put_view}

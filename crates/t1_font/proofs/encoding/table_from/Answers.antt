@@ -1,4 +1,4 @@
-use Rattle.std.proofs.Common.{◌≡◌, refl, ap}
+use Rattle.std.proofs.Common.{refl, ap}
 use Rattle.t1_font.specs.Pieces.{encoding_from, Puts}
 use Rattle.t1_font.specs.FontValue.{Codes}
 use Rattle.t1_font.proofs.encoding.table_from.Goals as goal

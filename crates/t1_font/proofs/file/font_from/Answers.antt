@@ -1,4 +1,4 @@
-use Rattle.std.proofs.Common.{◌≡◌, sym, ap, not, ◌∙◌, arith, subst}
+use Rattle.std.proofs.Common.{sym, ◌∙◌, arith}
 use Rattle.t1_font.proofs.FromPieces.{lacks_notdef, counts_over, weight_over, font_is}
 use Rattle.t1_font.proofs.file.font_from.Goals as goal
 

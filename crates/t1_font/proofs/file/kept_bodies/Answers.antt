@@ -1,7 +1,6 @@
-use Rattle.std.proofs.Common.{◌≡◌, ℕ, ◌≤◌, Option, Some, None, subst, ◌∙◌}
+use Rattle.std.proofs.Common.{◌≡◌, ℕ, Option, Some, None, subst, ◌∙◌}
 use Rattle.std.specs.FinMap.{empty}
 use Rattle.t1_font.specs.declared.private.SubrsParts.{SubrsParts}
-use Rattle.t1_font.specs.FontValue.{Numbered}
 use Rattle.t1_font.specs.Pieces.{SubrsPieces}
 use Rattle.t1_font.specs.ReadFont.{subrs_of}
 use Rattle.t1_font.specs.Held.{subr_bodies}

@@ -1,5 +1,5 @@
-use Rattle.std.proofs.Common.{◌≡◌, sym, ap, ◌∙◌, arith}
-use Rattle.std.specs.FinMap.{insert, len}
+use Rattle.std.proofs.Common.{ap, ◌∙◌, arith}
+use Rattle.std.specs.FinMap.{insert}
 use Rattle.t1_font.specs.FontValue.{name_cmp}
 use Rattle.t1_font.specs.Views.{glyph_view}
 use Rattle.t1_font.proofs.HeldLemmas.{still_over, one_glyph_more}

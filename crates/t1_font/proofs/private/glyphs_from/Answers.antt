@@ -1,5 +1,4 @@
-use Rattle.std.proofs.Common.{◌≡◌, refl, sym, ap, subst, ◌∙◌, List, ℕ, Ok}
-use Rattle.t1_font.specs.Reading.{in_table, if_ok}
+use Rattle.std.proofs.Common.{◌≡◌, refl, subst, List, ℕ, Ok}
 use Rattle.t1_font.specs.Pieces.{glyphs_from, tail_after}
 use Rattle.t1_font.proofs.private.glyphs_from.Goals as goal
 

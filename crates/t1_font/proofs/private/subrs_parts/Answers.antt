@@ -1,4 +1,4 @@
-use Rattle.std.proofs.Common.{◌≡◌, refl, sym, ap, subst, ◌∙◌, List, ℕ, Ok}
+use Rattle.std.proofs.Common.{refl}
 use Rattle.t1_font.proofs.private.subrs_parts.Goals as goal
 
 pub returns-in-Ok : goal.returns-in-Ok

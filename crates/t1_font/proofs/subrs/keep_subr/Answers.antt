@@ -1,4 +1,4 @@
-use Rattle.std.proofs.Common.{◌≡◌, sym, ap, ◌∙◌, arith, nat_cmp}
+use Rattle.std.proofs.Common.{ap, ◌∙◌, arith, nat_cmp}
 use Rattle.std.specs.FinMap.{insert}
 use Rattle.t1_font.specs.Views.{subr_view}
 use Rattle.t1_font.proofs.HeldLemmas.{one_subr_more}

@@ -1,12 +1,11 @@
-use Rattle.std.proofs.Common.{◌≡◌, ℕ, refl, sym, ap, ◌∙◌, Some, option_map, nat_cmp}
+use Rattle.std.proofs.Common.{ℕ, refl, ap, ◌∙◌}
 use Rattle.std.specs.FinMap as fin
 use Rattle.std.specs.FinSet.{slice_cmp-IsAntisymmetric, nat_cmp-IsAntisymmetric}
-use Rattle.std.specs.Cmp.{nat_cmp_total}
 use Rattle.std.specs.Cmp.Lexicographic.{nat_list_cmp_total}
 use Rattle.std.specs.Global.{Vec}
 use Rattle.t1_font.specs.FontValue.{name_cmp}
-use Rattle.t1_font.specs.MapModels.{entries_by, map_by, itself, bytes_of}
-use Rattle.t1_font.proofs.MapModels.{get_by_lookup, map_insert, entries_are, len_is}
+use Rattle.t1_font.specs.MapModels.{map_by, bytes_of}
+use Rattle.t1_font.proofs.MapModels.{map_insert}
 use Rattle.t1_font.proofs.maps.Named.insert.Goals as goal
 
 pub returns-clause-ok : goal.returns-clause-ok

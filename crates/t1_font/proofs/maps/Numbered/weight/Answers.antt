@@ -1,4 +1,4 @@
-use Rattle.std.proofs.Common.{◌≡◌, ◌+◌, ◌≤◌, min, sym, ap, ◌∙◌, [], arith}
+use Rattle.std.proofs.Common.{◌+◌, min, sym, ap, ◌∙◌, arith}
 use Rattle.std.proofs.lemmas.Map.Iter.{rest_more, rest_all}
 use Rattle.t1_font.specs.FontValue.{total, subr_weight}
 use Rattle.t1_font.specs.FontModel.{clamp}
