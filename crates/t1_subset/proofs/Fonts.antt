@@ -1,18 +1,14 @@
 -- Subsets and joins of fonts are fonts.
-use Rattle.std.proofs.Common.{◌≡◌, ◌≤◌, ℕ, true, List, refl, sym, ◌∙◌, ap, subst, IsPermutation}
-use Rattle.std.specs.Cmp.Lexicographic.{nat_list_cmp_total}
-use Rattle.std.specs.FinMap as maps
+use Rattle.std.proofs.Common.{◌≡◌, ◌≤◌, List, sym, ◌∙◌, subst, IsPermutation}
 use Rattle.std.specs.FinSet as sets
-use Rattle.t1_font.specs.FontValue.{FontValue, count_limit, weight_limit, weight}
+use Rattle.t1_font.specs.FontValue.{FontValue, weight_limit, weight}
 use Rattle.t1_font.specs.IsFont.{IsFont}
-use Rattle.t1_font.specs.Cut.{join_parts}
 use Rattle.t1_font.proofs.Kept.{restrict_is_font, join_is_font}
 use Rattle.t1_subset.specs.Interpreter.{Interpreter, Names}
 use Rattle.t1_subset.specs.Keep.{keep, kept, subset}
 use Rattle.t1_subset.specs.States.{IsWithin, Join, joined_font}
 use Rattle.t1_subset.specs.Trees.{Tree, Leaf, Both, map_tree, EachLeaf, leaves, union_all, Merges}
 use Rattle.t1_subset.specs.Laws.{IsOf}
-use Rattle.t1_subset.proofs.Sets.{name_same, same_members, in_union, in_union_left, in_union_right, or_cases}
 use Rattle.t1_subset.proofs.Kept.{keep_closed}
 use Rattle.t1_subset.proofs.Merge.{join_is_subset, subsets_join}
 use Rattle.t1_subset.proofs.Trees.{all_alike, tree_merges}

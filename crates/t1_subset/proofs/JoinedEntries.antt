@@ -6,7 +6,7 @@ use Rattle.std.specs.FinMap as maps
 use Rattle.t1_font.specs.Cut.{stub, joined_subr, join_parts}
 use Rattle.t1_font.specs.FontValue.{FontValue}
 use Rattle.t1_font.proofs.MapCuts.{get-map_values}
-use Rattle.t1_subset.specs.Interpreter.{Interpreter, is_name}
+use Rattle.t1_subset.specs.Interpreter.{Interpreter}
 use Rattle.t1_subset.specs.JoinedEntries.{past_stub, EntriesJoin}
 use Rattle.t1_subset.specs.States.{Agree, joined, is_called, state_of_entry, joined_font, Compatible, is_stub}
 use Rattle.t1_subset.proofs.Maps.{maps_same}

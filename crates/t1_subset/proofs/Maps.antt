@@ -1,5 +1,5 @@
 -- What the entries of a map say of its keys, and what a merged map has at a key.
-use Rattle.std.proofs.Common.{◌≡◌, Bool, true, false, cond, T, List, [], ◌∷◌, refl, sym, ◌∙◌, ap, true≢false, inl, inr, Option, Some, None, Ordering, Less, Equal, Greater, is_lt}
+use Rattle.std.proofs.Common.{◌≡◌, Bool, true, false, cond, List, [], ◌∷◌, refl, sym, ◌∙◌, ap, true≢false, inl, inr, Option, Some, None, Ordering, Less, Equal, Greater, is_lt}
 use Rattle.std.specs.List.{list_any}
 use Rattle.std.specs.Ordering.{eq_by_cmp}
 use Rattle.std.specs.Cmp.{IsTotalOrder, first_so, second_so, Equal-is}

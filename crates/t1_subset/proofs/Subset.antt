@@ -1,16 +1,16 @@
 -- The states of a subset.
-use Rattle.std.proofs.Common.{◌≡◌, ℕ, ◌≤◌, max, Bool, true, false, cond, not, ◌&&◌, ◌||◌, List, [], refl, sym, ◌∙◌, ap, subst, true≢false, ◌⊎◌, inl, inr, Option, Some, None, option_map, unwrap_or, is_some, arith}
+use Rattle.std.proofs.Common.{◌≡◌, ℕ, ◌≤◌, Bool, true, false, cond, not, ◌&&◌, ◌||◌, List, [], refl, sym, ◌∙◌, ap, subst, true≢false, ◌⊎◌, inl, inr, Option, Some, None, option_map, unwrap_or, is_some, arith}
 use Rattle.std.specs.List.{list_any}
-use Rattle.std.specs.Cmp.{first_so, nat_cmp_total, Equal-is}
+use Rattle.std.specs.Cmp.{first_so, nat_cmp_total}
 use Rattle.std.specs.Cmp.Lexicographic.{nat_list_cmp_total}
 use Rattle.std.specs.FinSet as sets
 use Rattle.std.specs.FinSet.{nat_cmp-IsAntisymmetric}
 use Rattle.std.specs.FinMap as maps
 use Rattle.std.proofs.lemmas.Slice.Eq.{bytes_eq-Decides}
 use Rattle.t1_font.specs.Cut.{stub}
-use Rattle.t1_font.specs.FontValue.{total, FontValue, name_cmp, notdef, weight, subr_weight, glyph_weight}
+use Rattle.t1_font.specs.FontValue.{total, FontValue, notdef, weight}
 use Rattle.t1_font.proofs.Kept.{restrict_light}
-use Rattle.t1_font.proofs.MapCuts.{get-map_values, get-retain, Some_same, Some_None, total-le, length_total}
+use Rattle.t1_font.proofs.MapCuts.{get-map_values, get-retain, Some_None, total-le, length_total}
 use Rattle.t1_subset.specs.Interpreter.{Interpreter, Names, is_name}
 use Rattle.t1_subset.specs.Keep.{keep, kept, parts, has, subset}
 use Rattle.t1_subset.specs.States.{Agree, joined, is_called, is_sought, entry_state, state_of_entry, subr_state, is_stub}
