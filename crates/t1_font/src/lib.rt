@@ -1,4 +1,11 @@
-//! Type 1 fonts.
+//! Type 1 fonts: reading PFA and PFB files, the font value, and writing it.
+//!
+//! [`read`] answers the [`Font`] that a file spells, or the first fault. [`write`] gives the one
+//! canonical file of a font, in either [`Form`], which is read as the font again. A font is an
+//! implementation of `t1_run`'s `Subroutines` and `Glyphs`, so its charstrings can be run and drawn.
+//!
+//! The specifications speak of a font as a `FontValue` (`specs/FontValue.antt`), and of reading as a
+//! relation, `Spells`, and as a function, `read_font`, which laws tie together.
 #![tactic(auto)]
 
 mod charstrings;
