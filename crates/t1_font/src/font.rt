@@ -5,6 +5,7 @@ ghost use Rattle.std.specs.Option.{option_map};
 ghost use Rattle.std.specs.FinMap as fin;
 ghost use Rattle.t1_font.specs.FontValue.{weight, texts_weight};
 ghost use Rattle.t1_font.specs.FontModel.{clamp, shell_view, part_of, of_subrs, word_of, name_at, names_in};
+ghost use Rattle.t1_font.specs.IsFont.{IsFont};
 
 use crate::maps::{Named, NamedEntries, Numbered};
 use std::marker::Model;
@@ -109,6 +110,15 @@ pub enum Part {
 }
 
 impl Font {
+    /// Says of a font what each font is: a value whose canonical file is read as the value itself.
+    ///
+    /// It does nothing when it runs: proofs about fonts call it.
+    pub fn is_font(&self)
+        ensures { IsFont self.now }
+    {
+        let _parts = &self.parts;
+    }
+
     /// The names of the glyphs, upwards by their bytes.
     pub fn names(&self) -> Names<'_>
         ensures { result ≡ names_in self.now.glyphs }

@@ -27,6 +27,7 @@ pub use fault::ReadFault;
 pub use file::read;
 pub use font::{Font, Names, Part};
 pub use t1_bytes::Form;
+pub use t1_run::{Curve, DrawFault, Drawing, DrawnPart, Fault, Mark, Point, draw};
 pub use writing::write;
 
 #[cfg(test)]
