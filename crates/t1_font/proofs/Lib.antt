@@ -47,4 +47,5 @@ pub mod Decimals
 pub mod TinyNumbers
 mod TinyFiles
 pub mod CutEntries
+pub mod CutLoops
 mod TinyCuts

@@ -15,7 +15,7 @@ and_so : (a b : Bool) → a ≡ true → b ≡ true → (a && b) ≡ true
 and_so true b p q = q
 and_so false b p q = p
 
-is_or_not : (a : Bool) → (a ≡ true) ⊎ (a ≡ false)
+pub is_or_not : (a : Bool) → (a ≡ true) ⊎ (a ≡ false)
 is_or_not true = inl refl
 is_or_not false = inr refl
 

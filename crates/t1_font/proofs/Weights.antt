@@ -11,3 +11,7 @@ clamp_all w t h e = omega (arith, h, e)
 
 pub clamp_fits : (n m : ℕ) → m ≡ min n 18446744073709551615 → m ≤ 18446744073709551615
 clamp_fits n m e = omega (arith, e)
+
+-- a sum that is within the limit is not cut off
+pub clamp_light : (w n : ℕ) → w ≡ clamp n → w ≤ 16777216 → n ≤ 16777216
+clamp_light w n e h = omega (arith, e, h)

@@ -1,9 +1,11 @@
 -- A font cut to some of its names and Subrs, and a font of the entries of two.
-use Rattle.std.specs.Prelude.{ℕ, Bool, cond, List, [], ◌∷◌, ◌++◌, map, Option, unwrap_or}
+use Rattle.std.specs.Prelude.{ℕ, Bool, cond, List, [], ◌∷◌, ◌++◌, map, Option, Some, None, unwrap_or}
 use Rattle.std.specs.Str.{bytes_eq}
 use Rattle.std.specs.declared.cmp.Ordering.{Ordering}
-use Rattle.std.specs.FinMap.{FinMap, get, entries, from_sorted, from_entries, retain_keys}
-use Rattle.t1_font.specs.FontValue.{FontValue, Encoding, Word, Codes}
+use Rattle.std.specs.FinMap.{FinMap, get, entries, insert, from_sorted, from_entries, retain_keys}
+use Rattle.std.specs.FinSet.{FinSet, from_list}
+use Rattle.std.specs.Global.{Vec}
+use Rattle.t1_font.specs.FontValue.{FontValue, Encoding, Word, Codes, name_cmp}
 
 -- `return`
 abbrev pub stub : List ℕ
@@ -17,7 +19,21 @@ map_values f m = from_sorted (map (λ e. (e.0, f e.0 e.1)) (entries m))
 abbrev pub merged : {K X : Type 0} {R : K → K → Ordering} → FinMap R X → FinMap R X → FinMap R X
 merged m n = from_entries (entries m ++ entries n)
 
+-- the entries put one after another, each in place of what is at its key
+abbrev pub put_all_into : {K X : Type 0} {R : K → K → Ordering} → FinMap R X → List (K × X) → FinMap R X
+put_all_into m [] = m
+put_all_into m (e ∷ es) = put_all_into (insert m e.0 e.1) es
+
+-- an entry of this value, where there is one
+abbrev pub entry_of : {K X : Type 0} → K → Option X → List (K × X)
+entry_of k None = []
+entry_of k (Some x) = (k, x) ∷ []
+
 -- ---- a cut
+
+-- the set of these names
+abbrev pub set_of_names : List (Vec ℕ) → FinSet name_cmp
+set_of_names names = from_list (map (λ v. v.items) names)
 
 -- the codes of these names
 abbrev pub restrict_encoding : (List ℕ → Bool) → Encoding → Encoding

@@ -12,6 +12,7 @@ pub mod Entries
 pub mod MapModels
 pub mod FontModel
 pub mod IsFont
+pub mod Joins
 pub mod ReadFont
 pub mod Spelling
 pub mod Reasons

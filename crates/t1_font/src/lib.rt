@@ -9,6 +9,8 @@
 #![tactic(auto)]
 
 mod charstrings;
+mod copies;
+mod cut;
 mod encoding;
 mod fault;
 mod file;
@@ -18,14 +20,17 @@ pub mod laws;
 mod limits;
 mod maps;
 mod marks;
+mod parts;
 mod private;
 mod subrs;
 mod words;
 mod writing;
 
+pub use cut::restrict;
 pub use fault::ReadFault;
 pub use file::read;
 pub use font::{Font, Names, Part};
+pub use parts::{PartsFault, join_parts};
 pub use t1_bytes::Form;
 pub use t1_run::{Curve, DrawFault, Drawing, DrawnPart, Fault, Mark, Point, draw};
 pub use writing::write;
