@@ -1,4 +1,4 @@
--- Answers of one input, which is understood as the text that is written.
+-- Answers of one input.
 use Rattle.std.specs.Prelude.{ℕ, ◌≡◌, List, [], ◌∷◌, length, Result, Ok, Err, nat_lt, if◌then◌else◌}
 use Rattle.t1_cmd.specs.declared.faults.Reason.{Reason}
 use Rattle.t1_cmd.specs.declared.faults.Reason.TheVariants.{TooLong}
@@ -13,7 +13,7 @@ with_reason reason (Err f) = Err (reason f)
 abbrev pub within_limit : {A : Type 0} → (List ℕ → Result A Reason) → List ℕ → Result A Reason
 within_limit understand bytes = if nat_lt file_limit (length bytes) then Err TooLong else understand bytes
 
--- one text is answered as it is, and never refused
-abbrev pub AsItIs : List (List ℕ) → Result (List ℕ) Reason → Type 0
-AsItIs (text ∷ []) (Ok answer) = answer ≡ text
-AsItIs others answer = ⊥
+-- one value is answered with what `text` makes of it
+abbrev pub Prints : {A : Type 0} → (A → Result (List ℕ) Reason) → List A → Result (List ℕ) Reason → Type 0
+Prints text (x ∷ []) answer = answer ≡ text x
+Prints text others answer = ⊥

@@ -4,5 +4,7 @@ pub mod Runs
 pub mod Texts
 pub mod Answers
 pub mod Listings
-pub mod Converted
-pub mod ConversionLaws
+pub mod Fonts
+pub mod CheckText
+pub mod ListText
+pub mod DrawingText

@@ -2,13 +2,13 @@
 use Rattle.std.specs.Prelude.{ℕ, ◌+◌, ◌/◌, ◌%◌, List, [], ◌∷◌, ◌++◌, Bool, nat_lt, nat_le, ◌&&◌, not, if◌then◌else◌, ◌==◌, codes}
 use Rattle.std.specs.Fmt.{decimal}
 use Rattle.std.specs.List.{flat_map}
-use Rattle.t1_bytes.specs.FaultTexts.{fault_text}
+use Rattle.t1_font.specs.FaultTexts.{fault_text}
 use Rattle.t1_join.specs.declared.listing.ListFault.{ListFault}
 use Rattle.t1_join.specs.declared.listing.ListFault.TheVariants.{BadLine, Repeated, Memory as ListMemory}
 use Rattle.t1_join.specs.declared.listing.JoinFault.{JoinFault}
 use Rattle.t1_join.specs.declared.listing.JoinFault.TheVariants.{Subr, Glyph, Memory as JoinMemory}
 use Rattle.t1_cmd.specs.declared.faults.Reason.{Reason}
-use Rattle.t1_cmd.specs.declared.faults.Reason.TheVariants.{TooLong, Memory, List as ListReason, Join as JoinReason, Bytes}
+use Rattle.t1_cmd.specs.declared.faults.Reason.TheVariants.{TooLong, Memory, List as ListReason, Join as JoinReason, Font, NoGlyph}
 use Rattle.t1_cmd.specs.declared.faults.RunFault.{RunFault}
 use Rattle.t1_cmd.specs.declared.faults.RunFault.TheVariants.{Refused, Read, Write}
 
@@ -44,7 +44,8 @@ reason_text TooLong = codes "file too long"
 reason_text Memory = codes "out of memory"
 reason_text (ListReason f) = list_text f
 reason_text (JoinReason f) = join_text f
-reason_text (Bytes f) = fault_text f
+reason_text (Font f) = fault_text f
+reason_text (NoGlyph name) = codes "no glyph " ++ shown name
 
 -- the line that tells of a fault
 abbrev pub fault_line : RunFault → List ℕ

@@ -2,9 +2,44 @@
 ghost use Rattle.std.specs.Prelude.{◌≡◌};
 ghost use Rattle.t1_cmd.specs.Runs.{status_of};
 
-use t1_bytes::BytesFault;
+use std::alloc::{AllocError, Global};
+use std::marker::Model;
+use t1_font::ReadFault;
 use t1_join::{JoinFault, ListFault};
 use thiserror::Error;
+
+/// The name of a glyph, without its `/`.
+#[derive(Debug, Drop)]
+pub struct Name {
+    bytes: Vec<u8>,
+}
+
+impl Model for Name {
+    ghost use Rattle.std.specs.Prelude.{List, ℕ};
+
+    ghost Value = { List ℕ };
+
+    ghost view = { λ n. n.bytes.items };
+}
+
+impl Name {
+    ghost use Rattle.std.specs.Prelude.{◌≡◌, IfOk};
+
+    /// The name of these bytes.
+    pub fn new(alloc: Global, bytes: &[u8]) -> Result<Name, AllocError>
+        ensures { IfOk result (λ name. name ≡ bytes.now) }
+    {
+        let bytes = bytes.to_vec(alloc)?;
+        Ok(Name { bytes })
+    }
+
+    /// Its bytes.
+    pub fn as_bytes(&self) -> &[u8]
+        ensures { result.now ≡ self.now }
+    {
+        self.bytes.as_slice()
+    }
+}
 
 /// Why the input is refused.
 ///
@@ -23,9 +58,12 @@ pub enum Reason {
     /// Two listings don't join.
     #[error("{0:?}")]
     Join(JoinFault),
-    /// A file's bytes are no font's.
+    /// A file spells no font.
     #[error("{0}")]
-    Bytes(BytesFault),
+    Font(ReadFault),
+    /// The font has no glyph of this name.
+    #[error("no glyph {name:?}")]
+    NoGlyph { name: Name },
 }
 
 /// Why an engine did not finish.
@@ -40,6 +78,18 @@ pub enum RunFault {
     /// The writer failed; a part of the result may be out.
     #[error("failed: write")]
     Write,
+}
+
+impl From<AllocError> for RunFault {
+    ghost use Rattle.std.specs.Prelude.{◌≡◌};
+    ghost use Rattle.t1_cmd.specs.declared.faults.Reason.TheVariants.{Memory};
+    ghost use Rattle.t1_cmd.specs.declared.faults.RunFault.TheVariants.{Refused};
+
+    ghost from_gives = { λ _ e. e ≡ Refused Memory };
+
+    fn from(_error: AllocError) -> RunFault {
+        RunFault::Refused(Reason::Memory)
+    }
 }
 
 /// The exit status of the program: 1 for a refusal, 3 for a reader or a writer that failed.

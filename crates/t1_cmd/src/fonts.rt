@@ -1,135 +1,120 @@
-//! The engine that writes a font in one of the two forms.
-ghost use Rattle.std.specs.Prelude.{◌≡◌, ◌+◌, ◌≤◌, ◌++◌, [], ◌∷◌, length, IfOk, IfErr};
-ghost use Rattle.t1_bytes.specs.Faults.{Answers};
-ghost use Rattle.t1_bytes.specs.Texts.{file_text};
-ghost use Rattle.t1_bytes.specs.Cipher.{private_text, private_cipher};
+//! The engines that take a whole font: one writes it anew, the other says that it reads.
+ghost use Rattle.std.specs.Prelude.{◌≡◌, ◌+◌, ◌≤◌, ◌∷◌, [], Ok, IfOk};
+ghost use Rattle.std.specs.FinMap as fin;
+ghost use Rattle.t1_font.specs.FontValue.{FontValue};
 ghost use Rattle.t1_cmd.specs.Count.{calls_of, inner_of};
 ghost use Rattle.t1_cmd.specs.Inputs.{input_of, file_limit};
 ghost use Rattle.t1_cmd.specs.Runs.{InputEnds, RunEnds, Succeeds};
-ghost use Rattle.t1_cmd.specs.Answers.{AsItIs};
-ghost use Rattle.t1_cmd.specs.Converted.{through_closefile, converted, bytes_reason, converted_input};
+ghost use Rattle.t1_cmd.specs.Answers.{Prints};
+ghost use Rattle.t1_cmd.specs.Fonts.{font_reason, font_input, file_answer};
+ghost use Rattle.t1_cmd.specs.CheckText.{check_answer};
 
 use crate::counting::Counted;
 use crate::faults::{Reason, RunFault};
 use crate::reading::{FILE_LIMIT, read_all};
+use crate::texts::push_about;
 use crate::writing::write_text;
-use bstr::ByteSlice;
 use std::alloc::{AllocError, Global};
 use std::io::{Read, Write};
-use t1_bytes::{
-    BytesFault, EEXEC_KEY, EEXEC_LEAD, Form, flatten, hex_lines, open, seal, segments, split_eexec,
-    trailer,
-};
+use t1_font::{Font, Form, ReadFault, read, write};
+use t1_run::Subroutines;
 
-/// A text through its first `closefile`, all of it where none is.
-fn through_closefile(text: &[u8]) -> &[u8]
-    ensures { result.now ≡ through_closefile text.now }
-{
-    match text.find(b"closefile") {
-        Some(at) => &text[..at + 9],
-        None => text,
-    }
-}
-
-/// A text and LF.
-fn line(alloc: Global, text: &[u8]) -> Result<Vec<u8>, AllocError>
-    ensures { IfOk result (λ v. v.items ≡ text.now ++ 10 ∷ []) }
-{
-    let mut line = Vec::with_capacity(alloc, text.len().saturating_add(1))?;
-    line.extend_from_slice(text)?;
-    line.push(b'\n')?;
-    Ok(line)
-}
-
-/// The PFA file of a clear part and a cipher.
-fn pfa(alloc: Global, clear: &[u8], cipher: &[u8]) -> Result<Vec<u8>, BytesFault>
-    ensures text { IfOk result (λ v. v.items ≡ file_text Form.Pfa clear.now cipher.now) }
-    ensures memory { IfErr result (λ fault. fault ≡ BytesFault.Memory) }
-{
-    let lines = hex_lines(alloc, cipher)?;
-    let size = clear
-        .len()
-        .saturating_add(lines.len())
-        .saturating_add(trailer().len());
-    let mut out = Vec::with_capacity(alloc, size)?;
-    out.extend_from_slice(clear)?;
-    out.extend_from_slice(lines.as_slice())?;
-    out.extend_from_slice(trailer())?;
-    Ok(out)
-}
-
-/// The file of a clear part and a cipher.
-fn file(alloc: Global, form: Form, clear: &[u8], cipher: &[u8]) -> Result<Vec<u8>, BytesFault>
-    requires clear { length clear.now ≤ 67108864 }
-    requires cipher { length cipher.now ≤ 67108864 }
-    ensures text { IfOk result (λ v. v.items ≡ file_text form clear.now cipher.now) }
-    ensures memory { IfErr result (λ fault. fault ≡ BytesFault.Memory) }
-{
-    match form {
-        Form::Pfa => pfa(alloc, clear, cipher),
-        Form::Pfb => segments(alloc, clear, cipher, trailer()),
-    }
-}
-
-/// The cipher of a private text through its first `closefile` and LF, from the cipher that the private text had.
-fn resealed(alloc: Global, cipher: &mut [u8]) -> Result<Vec<u8>, BytesFault>
-    requires { 4 ≤ length cipher.old }
-    ensures text { IfOk result (λ v. v.items ≡ private_cipher (through_closefile (private_text cipher.old) ++ 10 ∷ [])) }
-    ensures memory { IfErr result (λ fault. fault ≡ BytesFault.Memory) }
-    ensures short { IfOk result (λ v. length v.items ≤ length cipher.old + 1) }
-{
-    let private = open(cipher, EEXEC_KEY, EEXEC_LEAD);
-    let text = line(alloc, through_closefile(private))?;
-    seal(alloc, text.as_slice(), EEXEC_KEY, EEXEC_LEAD)
-}
-
-/// The bytes of a font in this form.
-fn convert(alloc: Global, input: &[u8], form: Form) -> Result<Vec<u8>, BytesFault>
-    requires { length input.now ≤ 67108864 }
-    ensures { Answers (λ v. v.items) result (converted form input.now) }
-{
-    let flat = flatten(alloc, input)?;
-    let (at, mut cipher) = split_eexec(alloc, flat.as_slice())?;
-    let clear = line(alloc, &flat[..at])?;
-    let cipher = resealed(alloc, cipher.as_mut_slice())?;
-    file(alloc, form, clear.as_slice(), cipher.as_slice())
-}
-
-fn refused_bytes(fault: BytesFault) -> RunFault
-    ensures { result ≡ RunFault.Refused (bytes_reason fault) }
+fn refused_font(fault: ReadFault) -> RunFault
+    ensures { result ≡ RunFault.Refused (font_reason fault) }
 {
     match fault {
-        BytesFault::Memory => RunFault::Refused(Reason::Memory),
-        other => RunFault::Refused(Reason::Bytes(other)),
+        ReadFault::TooLong => RunFault::Refused(Reason::TooLong),
+        ReadFault::Memory => RunFault::Refused(Reason::Memory),
+        other => RunFault::Refused(Reason::Font(other)),
     }
 }
 
-fn read_converted<R: Read>(
-    alloc: Global,
-    reader: &mut Counted<R>,
-    form: Form,
-) -> Result<Vec<u8>, RunFault>
-    ensures ends { InputEnds (converted_input form) (λ v. v.items) (input_of R.remaining reader.old reader.new) result }
+/// The font that a reader's bytes spell.
+pub(crate) fn read_font<R: Read>(alloc: Global, reader: &mut Counted<R>) -> Result<Font, RunFault>
+    ensures ends { InputEnds font_input (λ f. f) (input_of R.remaining reader.old reader.new) result }
     ensures turns { calls_of reader.new ≤ calls_of reader.old + (file_limit + 1) }
 {
-    let input = read_all(alloc, reader, FILE_LIMIT)?;
-    convert(alloc, input.as_slice(), form).map_err(refused_bytes)
+    let bytes = read_all(alloc, reader, FILE_LIMIT)?;
+    read(alloc, bytes.as_slice()).map_err(refused_font)
 }
 
-/// Writes the bytes of a font in one of the two forms: its clear text through `eexec`, its private text through the
-/// first `closefile` (all of it where none is) with lead bytes that are zero, and the trailer.
+// The canonical file of a font.
+fn font_file(alloc: Global, font: Font, form: Form) -> Result<Vec<u8>, AllocError>
+    ensures { IfOk result (λ text. file_answer form font ≡ Ok text.items) }
+{
+    let text = write(alloc, &font, form)?;
+    Ok(text)
+}
+
+/// Writes a font's canonical file in one of the two forms.
 pub fn run_convert<R: Read, W: Write>(
     alloc: Global,
     reader: &mut Counted<R>,
     form: Form,
     writer: &mut Counted<W>,
 ) -> Result<(), RunFault>
-    ensures ends { RunEnds (converted_input form) AsItIs W.contents
+    ensures ends { RunEnds font_input (Prints (file_answer form)) W.contents
         (input_of R.remaining reader.old reader.new ∷ []) writer.old writer.new result }
-    ensures succeeds { Succeeds (converted_input form) AsItIs
+    ensures succeeds { Succeeds font_input (Prints (file_answer form))
         (input_of R.remaining reader.old reader.new ∷ []) writer.old writer.new result }
     ensures turns { calls_of reader.new ≤ calls_of reader.old + (file_limit + 1) }
 {
-    let text = read_converted(alloc, reader, form)?;
+    let font = read_font(alloc, reader)?;
+    let text = font_file(alloc, font, form)?;
+    write_text(writer, text.as_slice())
+}
+
+// How many glyphs a font has.
+fn glyph_count(font: &Font) -> usize
+    ensures { result ≡ fin.len font.now.glyphs }
+{
+    font.is_font();
+    let mut count = 0;
+    'names: for _name in font.names() {
+        count += 1;
+    }
+    count
+}
+
+// How many Subrs of a font are present.
+fn subr_count(font: &Font) -> usize
+    ensures { result ≡ fin.len font.now.subrs }
+{
+    font.is_font();
+    let mut present = 0;
+    'indices: for index in 0..font.count() {
+        if font.present(index) {
+            present += 1;
+        }
+    }
+    present
+}
+
+// The line of a font that reads.
+fn check_line(alloc: Global, font: Font) -> Result<Vec<u8>, AllocError>
+    ensures { IfOk result (λ text. check_answer font ≡ Ok text.items) }
+{
+    let mut text = Vec::new(alloc);
+    push_about(alloc, &mut text, b"ok ", glyph_count(&font))?;
+    push_about(alloc, &mut text, b" glyphs, ", subr_count(&font))?;
+    push_about(alloc, &mut text, b" subrs, weight ", font.weight() as usize)?;
+    text.push(b'\n')?;
+    Ok(text)
+}
+
+/// Writes one line that says that a font reads: how many glyphs it has, how many Subrs are present, and its weight.
+pub fn run_check<R: Read, W: Write>(
+    alloc: Global,
+    reader: &mut Counted<R>,
+    writer: &mut Counted<W>,
+) -> Result<(), RunFault>
+    ensures ends { RunEnds font_input (Prints check_answer) W.contents
+        (input_of R.remaining reader.old reader.new ∷ []) writer.old writer.new result }
+    ensures succeeds { Succeeds font_input (Prints check_answer)
+        (input_of R.remaining reader.old reader.new ∷ []) writer.old writer.new result }
+    ensures turns { calls_of reader.new ≤ calls_of reader.old + (file_limit + 1) }
+{
+    let font = read_font(alloc, reader)?;
+    let text = check_line(alloc, font)?;
     write_text(writer, text.as_slice())
 }

@@ -7,7 +7,7 @@
 mod counting;
 mod faults;
 mod fonts;
-pub mod laws;
+mod list;
 mod listings;
 mod reading;
 #[cfg(test)]
@@ -16,8 +16,9 @@ mod texts;
 mod writing;
 
 pub use counting::Counted;
-pub use faults::{Reason, RunFault, status};
-pub use fonts::run_convert;
+pub use faults::{Name, Reason, RunFault, status};
+pub use fonts::{run_check, run_convert};
+pub use list::run_list;
 pub use listings::run_join;
 pub use reading::{FILE_LIMIT, read_all};
 pub use writing::{write_fault, write_text};

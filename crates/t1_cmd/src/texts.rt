@@ -1,12 +1,12 @@
 //! The lines that tell of a fault.
 ghost use Rattle.std.specs.Prelude.{◌≡◌, ◌++◌, ◌<◌, OnOk, IfOk};
 ghost use Rattle.std.specs.Fmt.{decimal};
-ghost use Rattle.t1_bytes.specs.FaultTexts.{fault_text};
+ghost use Rattle.t1_font.specs.FaultTexts.{fault_text};
 ghost use Rattle.t1_cmd.specs.Texts.{hex_digit, escaped, shown, list_text, join_text, reason_text, fault_line};
 
 use crate::faults::{Reason, RunFault};
 use std::alloc::{AllocError, Global};
-use t1_bytes::BytesFault;
+use t1_font::ReadFault;
 use t1_join::{JoinFault, ListFault};
 
 fn hex_digit(n: u8) -> u8
@@ -26,7 +26,7 @@ fn push_escaped(out: &mut Vec<u8>, byte: u8) -> Result<(), AllocError>
     out.extend_from_slice(&[b'\\', b'x', hex_digit(byte / 16), hex_digit(byte % 16)])
 }
 
-fn push_shown(out: &mut Vec<u8>, name: &[u8]) -> Result<(), AllocError>
+pub(crate) fn push_shown(out: &mut Vec<u8>, name: &[u8]) -> Result<(), AllocError>
     ensures { OnOk result (out.new.items ≡ out.old.items ++ shown name.now) }
 {
     for byte in name {
@@ -35,7 +35,7 @@ fn push_shown(out: &mut Vec<u8>, name: &[u8]) -> Result<(), AllocError>
     Ok(())
 }
 
-fn push_number(alloc: Global, out: &mut Vec<u8>, n: usize) -> Result<(), AllocError>
+pub(crate) fn push_number(alloc: Global, out: &mut Vec<u8>, n: usize) -> Result<(), AllocError>
     ensures { OnOk result (out.new.items ≡ out.old.items ++ decimal n) }
 {
     let text = n.to_string(alloc)?;
@@ -43,7 +43,12 @@ fn push_number(alloc: Global, out: &mut Vec<u8>, n: usize) -> Result<(), AllocEr
 }
 
 // The words, and then the number.
-fn push_about(alloc: Global, out: &mut Vec<u8>, words: &[u8], n: usize) -> Result<(), AllocError>
+pub(crate) fn push_about(
+    alloc: Global,
+    out: &mut Vec<u8>,
+    words: &[u8],
+    n: usize,
+) -> Result<(), AllocError>
     ensures { OnOk result (out.new.items ≡ out.old.items ++ (words.now ++ decimal n)) }
 {
     out.extend_from_slice(words)?;
@@ -78,15 +83,11 @@ fn push_join_fault(alloc: Global, out: &mut Vec<u8>, fault: &JoinFault) -> Resul
     }
 }
 
-fn push_bytes_fault(alloc: Global, out: &mut Vec<u8>, fault: &BytesFault) -> Result<(), AllocError>
+fn push_font_fault(alloc: Global, out: &mut Vec<u8>, fault: &ReadFault) -> Result<(), AllocError>
     ensures { OnOk result (out.new.items ≡ out.old.items ++ fault_text fault.now) }
 {
-    match fault {
-        BytesFault::BadSegment { at } => push_about(alloc, out, b"bad segment at ", *at),
-        BytesFault::NoEexec => out.extend_from_slice(b"no eexec"),
-        BytesFault::ShortCipher => out.extend_from_slice(b"cipher too short"),
-        BytesFault::Memory => out.extend_from_slice(b"out of memory"),
-    }
+    let text = fault.to_string(alloc)?;
+    out.extend_from_slice(text.as_bytes())
 }
 
 fn push_reason(alloc: Global, out: &mut Vec<u8>, reason: &Reason) -> Result<(), AllocError>
@@ -97,7 +98,11 @@ fn push_reason(alloc: Global, out: &mut Vec<u8>, reason: &Reason) -> Result<(), 
         Reason::Memory => out.extend_from_slice(b"out of memory"),
         Reason::List(fault) => push_list_fault(alloc, out, fault),
         Reason::Join(fault) => push_join_fault(alloc, out, fault),
-        Reason::Bytes(fault) => push_bytes_fault(alloc, out, fault),
+        Reason::Font(fault) => push_font_fault(alloc, out, fault),
+        Reason::NoGlyph { name } => {
+            out.extend_from_slice(b"no glyph ")?;
+            push_shown(out, name.as_bytes())
+        }
     }
 }
 

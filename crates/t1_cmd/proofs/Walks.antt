@@ -1,0 +1,196 @@
+-- Walks over numbers that meet each entry of a map, and over its keys.
+use Rattle.std.proofs.Common.{◌≡◌, ℕ, ◌+◌, ◌≤◌, ◌<◌, Bool, true, false, cond, ◌&&◌, ltb, List, [], ◌∷◌, ◌++◌, length, map, Option, Some, None, is_some, IsSome, refl, sym, ◌∙◌, ap, subst, Ordering, Less, Equal, Greater, is_lt, is_eq, arith, append_assoc, length-append}
+use Rattle.std.specs.List.{filter, flat_map, AllByRecursion}
+use Rattle.std.specs.Ordering.{nat_cmp}
+use Rattle.std.specs.Cmp.{IsTotalOrder, nat_cmp_total, ranked}
+use Rattle.std.specs.Cmp.Lexicographic.{nat_list_cmp_total}
+use Rattle.std.specs.FinMap.{FinMap, get, len, len-entries, contains_key, entries, entries_sorted, find, is_sorted, get-entries, IsAntisymmetric, nat_cmp-IsAntisymmetric, slice_cmp-IsAntisymmetric}
+use Rattle.std.specs.FinMap.Entries.{below_all}
+use Rattle.std.proofs.lemmas.Bool.{lt-ltb, le-ltb}
+use Rattle.std.proofs.lemmas.List.{append-nil, length-map}
+use Rattle.std.proofs.lemmas.Grind.{flat_map-append}
+use Rattle.t1_font.specs.FontValue.{FontValue, Encoding, Word, Codes, Numbered, Named, declared_count}
+use Rattle.t1_font.specs.FontModel.{subr_at, subrs_below, name_at, word_of, names_in}
+use Rattle.t1_font.specs.IsFont.{IsFont, IsEncoding}
+use Rattle.t1_font.proofs.FontReaders.{subrs_seen}
+use Rattle.t1_font.proofs.MapCuts.{T_true, entries_all}
+use Rattle.t1_cmd.specs.ListText.{line_at, code_line, subr_line, glyph_line, encoding_lines}
+
+-- the entries whose keys are below n
+abbrev pub under : {X : Type 0} → ℕ → List (ℕ × X) → List (ℕ × X)
+under n es = filter (λ e. ltb e.0 n) es
+
+-- an entry for a key that has a value
+abbrev pub entry_at : {X : Type 0} → ℕ → Option X → List (ℕ × X)
+entry_at n None = []
+entry_at n (Some x) = (n, x) ∷ []
+
+both_so : (a b : Bool) → (a && b) ≡ true → (a ≡ true) × (b ≡ true)
+both_so true b h = (refl, h)
+both_so false b h = absurd cc
+
+less_so : (r : Ordering) → is_lt r ≡ true → r ≡ Less
+less_so Less h = refl
+less_so Equal h = absurd cc
+less_so Greater h = absurd cc
+
+above_so : (x y : ℕ) → is_lt (nat_cmp x y) ≡ true → x < y
+above_so x y h = ranked x y Less (sym (less_so (nat_cmp x y) h))
+
+module _ {X : Type 0} where
+  -- nothing is below a key that all keys are above
+  none_under : (k n : ℕ) (es : List (ℕ × X)) → n ≤ k + 1 → below_all nat_cmp k es ≡ true → under n es ≡ []
+  none_under k n [] l h = refl
+  none_under k n (e ∷ es) l h =
+      let b = both_so (is_lt (nat_cmp k e.0)) (below_all nat_cmp k es) h in
+      let more : k < e.0 = above_so k e.0 b.0 in
+      let not_under : ltb e.0 n ≡ false = le-ltb e.0 n (omega arith) in
+      ap (λ t. cond t (e ∷ under n es) (under n es)) not_under ∙ none_under k n es l b.1
+
+  -- one step further, by how n and the first key stand
+  under_step : (n : ℕ) (e : ℕ × X) (es : List (ℕ × X)) (s t : Bool) (r : Ordering) → ltb e.0 (n + 1) ≡ s → ltb e.0 n ≡ t → nat_cmp n e.0 ≡ r → cond s (e ∷ under (n + 1) es) (under (n + 1) es) ≡ cond t (e ∷ under n es) (under n es) ++ entry_at n (cond (is_eq r) (Some e.1) (find nat_cmp n es)) → under (n + 1) (e ∷ es) ≡ under n (e ∷ es) ++ entry_at n (find nat_cmp n (e ∷ es))
+  under_step n e es s t r p q u m =
+      ap (λ b. cond b (e ∷ under (n + 1) es) (under (n + 1) es)) p
+      ∙ m
+      ∙ (λ i. cond (sym q i) (e ∷ under n es) (under n es) ++ entry_at n (cond (is_eq (sym u i)) (Some e.1) (find nat_cmp n es)))
+
+  under_by : (n : ℕ) (e : ℕ × X) (es : List (ℕ × X)) → below_all nat_cmp e.0 es ≡ true → under (n + 1) es ≡ under n es ++ entry_at n (find nat_cmp n es) → (r : Ordering) → nat_cmp n e.0 ≡ r → under (n + 1) (e ∷ es) ≡ under n (e ∷ es) ++ entry_at n (find nat_cmp n (e ∷ es))
+  under_by n e es above rest Less u =
+      let l : n < e.0 = ranked n e.0 Less (sym u) in
+      under_step n e es false false Less (le-ltb e.0 (n + 1) (omega arith)) (le-ltb e.0 n (omega arith)) u rest
+  under_by n e es above rest Equal u =
+      let l : n ≡ e.0 = ranked n e.0 Equal (sym u) in
+      under_step n e es true false Equal (lt-ltb e.0 (n + 1) (omega arith)) (le-ltb e.0 n (omega arith)) u
+      (ap (λ fs. e ∷ fs) (none_under e.0 (n + 1) es (omega arith) above)
+      ∙ ap (λ k. (k, e.1) ∷ []) (sym l)
+      ∙ sym (ap (λ (fs : List (ℕ × X)). fs ++ (n, e.1) ∷ []) (none_under e.0 n es (omega arith) above)))
+  under_by n e es above rest Greater u =
+      let l : e.0 < n = ranked n e.0 Greater (sym u) in
+      under_step n e es true true Greater (lt-ltb e.0 (n + 1) (omega arith)) (lt-ltb e.0 n (omega arith)) u (ap (λ fs. e ∷ fs) rest)
+
+  pub under_more : (n : ℕ) (es : List (ℕ × X)) → is_sorted nat_cmp es ≡ true → under (n + 1) es ≡ under n es ++ entry_at n (find nat_cmp n es)
+  under_more n [] h = refl
+  under_more n (e ∷ es) h =
+      let parts = both_so (below_all nat_cmp e.0 es) (is_sorted nat_cmp es) h in
+      under_by n e es parts.0 (under_more n es parts.1) (nat_cmp n e.0) refl
+
+  all_under : (n : ℕ) (es : List (ℕ × X)) → AllByRecursion (λ e. e.0 < n) es → under n es ≡ es
+  all_under n [] h = refl
+  all_under n (e ∷ es) h = ap (λ t. cond t (e ∷ under n es) (under n es)) (lt-ltb e.0 n h.0) ∙ ap (λ fs. e ∷ fs) (all_under n es h.1)
+
+  none_below_zero : (es : List (ℕ × X)) → under 0 es ≡ []
+  none_below_zero [] = refl
+  none_below_zero (e ∷ es) = ap (λ t. cond t (e ∷ under 0 es) (under 0 es)) (le-ltb e.0 0 (omega arith)) ∙ none_below_zero es
+
+  -- how many entries have keys below n
+  abbrev pub count_under : ℕ → FinMap nat_cmp X → ℕ
+  count_under n m = length (under n (entries m))
+
+module _ (m : FinMap nat_cmp (List ℕ)) where
+  sorted : is_sorted nat_cmp (entries m) ≡ true
+  sorted = T_true (is_sorted nat_cmp (entries m)) (entries_sorted m)
+
+  pub entries_more : (n : ℕ) → under (n + 1) (entries m) ≡ under n (entries m) ++ entry_at n (get m n)
+  entries_more n = under_more n (entries m) sorted ∙ ap (λ o. under n (entries m) ++ entry_at n o) (sym (get-entries m n))
+
+  pub entries_none : under 0 (entries m) ≡ []
+  entries_none = none_below_zero (entries m)
+
+  pub entries_under : (n : ℕ) → ((k : ℕ) (v : List ℕ) → get m k ≡ Some v → k < n) → under n (entries m) ≡ entries m
+  entries_under n h = all_under n (entries m) (entries_all nat_cmp_total nat_cmp-IsAntisymmetric (λ k v. k < n) m h)
+
+  module _ (line : ℕ → List ℕ → List ℕ) where
+    -- the lines of the entries whose keys are below n
+    abbrev pub lines_under : ℕ → List ℕ
+    lines_under n = flat_map (λ e. line e.0 e.1) (under n (entries m))
+
+    one_line : (n : ℕ) (o : Option (List ℕ)) → flat_map (λ e. line e.0 e.1) (entry_at n o) ≡ line_at line n o
+    one_line n None = refl
+    one_line n (Some v) = append-nil (line n v)
+
+    pub lines_none : lines_under 0 ≡ []
+    lines_none = ap (flat_map (λ e. line e.0 e.1)) entries_none
+
+    pub lines_more : (n : ℕ) → lines_under (n + 1) ≡ lines_under n ++ line_at line n (get m n)
+    lines_more n =
+        ap (flat_map (λ e. line e.0 e.1)) (entries_more n)
+        ∙ flat_map-append (λ e. line e.0 e.1) (under n (entries m)) (entry_at n (get m n))
+        ∙ ap (λ (t : List ℕ). lines_under n ++ t) (one_line n (get m n))
+
+    pub lines_all : (n : ℕ) → ((k : ℕ) (v : List ℕ) → get m k ≡ Some v → k < n) → lines_under n ≡ flat_map (λ e. line e.0 e.1) (entries m)
+    lines_all n h = ap (flat_map (λ e. line e.0 e.1)) (entries_under n h)
+
+-- a line for each key that is met is a line for each entry
+module _ {K : Type 0} (line : K → List ℕ → List ℕ) where
+  looked_up : (look : K → Option (List ℕ)) (es : List (K × List ℕ)) → AllByRecursion (λ e. look e.0 ≡ Some e.1) es → flat_map (λ k. line_at line k (look k)) (map (λ e. e.0) es) ≡ flat_map (λ e. line e.0 e.1) es
+  looked_up look [] h = refl
+  looked_up look (e ∷ es) h = (λ i. line_at line e.0 (h.0 i) ++ looked_up look es h.1 i)
+
+  pub keys_looked_up : {R : K → K → Ordering} → IsTotalOrder R → IsAntisymmetric R → (m : FinMap R (List ℕ)) → flat_map (λ k. line_at line k (get m k)) (map (λ e. e.0) (entries m)) ≡ flat_map (λ e. line e.0 e.1) (entries m)
+  keys_looked_up o same m = looked_up (get m) (entries m) (entries_all o same (λ k v. get m k ≡ Some v) m (λ k v e. e))
+
+-- the lines of all names, once none are left
+pub names_all : (m : Named) (start out : List ℕ) (left : List (List ℕ)) → left ≡ [] → out ++ flat_map (λ name. line_at glyph_line name (get m name)) left ≡ start ++ flat_map (λ name. line_at glyph_line name (get m name)) (names_in m) → out ≡ start ++ flat_map (λ e. glyph_line e.0 e.1) (entries m)
+names_all m start out left done h =
+    sym (append-nil out)
+    ∙ sym (ap (λ (ns : List (List ℕ)). out ++ flat_map (λ name. line_at glyph_line name (get m name)) ns) done)
+    ∙ h
+    ∙ ap (λ (t : List ℕ). start ++ t) (keys_looked_up glyph_line nat_list_cmp_total (slice_cmp-IsAntisymmetric nat_cmp-IsAntisymmetric) m)
+
+-- ---- counts
+
+length_entry : {X : Type 0} (n : ℕ) (o : Option X) → length (entry_at n o) ≡ cond (is_some o) 1 0
+length_entry n None = refl
+length_entry n (Some x) = refl
+
+pub names_length : (m : Named) → length (names_in m) ≡ len m
+names_length m = length-map (entries m) (λ e. e.0) ∙ sym (len-entries m)
+
+pub count_none : (m : Numbered) → count_under 0 m ≡ 0
+count_none m = ap length (entries_none m)
+
+pub count_more : (m : Numbered) (n : ℕ) → count_under (n + 1) m ≡ count_under n m + cond (contains_key m n) 1 0
+count_more m n = ap length (entries_more m n) ∙ length-append (under n (entries m)) (entry_at n (get m n)) ∙ ap (λ k. count_under n m + k) (length_entry n (get m n))
+
+-- each Subr is below the declared count
+declared : (f : FontValue) → IsFont f → (n : ℕ) → declared_count f.shell.subrs ≤ n → (k : ℕ) (v : List ℕ) → get f.subrs k ≡ Some v → k < n
+declared f is n l k v e =
+    let some : IsSome (subr_at f k) = subst IsSome (sym (subrs_seen f is k ∙ e)) refl in
+    let below : k < declared_count f.shell.subrs = subrs_below f k some in
+    omega arith
+
+pub count_all : (f : FontValue) → IsFont f → (n : ℕ) → declared_count f.shell.subrs ≤ n → count_under n f.subrs ≡ len f.subrs
+count_all f is n l = ap length (entries_under f.subrs n (declared f is n l)) ∙ sym (len-entries f.subrs)
+
+pub subrs_more : (f : FontValue) → IsFont f → (n : ℕ) → lines_under f.subrs subr_line (n + 1) ≡ lines_under f.subrs subr_line n ++ line_at subr_line n (subr_at f n)
+subrs_more f is n = lines_more f.subrs subr_line n ∙ ap (λ o. lines_under f.subrs subr_line n ++ line_at subr_line n o) (sym (subrs_seen f is n))
+
+pub subrs_all : (f : FontValue) → IsFont f → (n : ℕ) → declared_count f.shell.subrs ≤ n → lines_under f.subrs subr_line n ≡ flat_map (λ e. subr_line e.0 e.1) (entries f.subrs)
+subrs_all f is n l = lines_all f.subrs subr_line n (declared f is n l)
+
+-- ---- the codes of a table
+
+-- the lines of the codes below n
+abbrev pub codes_under : Encoding → ℕ → List ℕ
+codes_under (Word w) n = []
+codes_under (Codes m) n = lines_under m code_line n
+
+pub codes_none : (e : Encoding) → codes_under e 0 ≡ []
+codes_none (Word w) = refl
+codes_none (Codes m) = lines_none m code_line
+
+pub codes_more : (e : Encoding) (n : ℕ) → codes_under e (n + 1) ≡ codes_under e n ++ line_at code_line n (name_at e n)
+codes_more (Word w) n = refl
+codes_more (Codes m) n = lines_more m code_line n
+
+pub codes_all : (e : Encoding) → IsEncoding e → word_of e ≡ None → (n : ℕ) → 256 ≤ n → codes_under e n ≡ encoding_lines e
+codes_all (Word w) is h n l = absurd cc
+codes_all (Codes m) is h n l = lines_all m code_line n (λ k v e. let few : k ≤ 255 = (is k v e).code in omega arith)
+
+-- ---- texts that grow
+
+pub nothing_more : (text more : List ℕ) → more ≡ [] → text ≡ text ++ more
+nothing_more text more h = sym (ap (λ (t : List ℕ). text ++ t) h ∙ append-nil text)
+
+pub line_more : (start before after now line next : List ℕ) → before ≡ start ++ now → after ≡ before ++ line → next ≡ now ++ line → after ≡ start ++ next
+line_more start before after now line next h k m = k ∙ ap (λ (t : List ℕ). t ++ line) h ∙ append_assoc start now line ∙ ap (λ (t : List ℕ). start ++ t) (sym m)

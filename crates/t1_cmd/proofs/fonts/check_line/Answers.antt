@@ -1,0 +1,19 @@
+use Rattle.std.proofs.Common.{ap, ◌∙◌, sym, Ok, ◌∷◌, ◌++◌, []}
+use Rattle.std.specs.Prelude.{codes}
+use Rattle.std.specs.Fmt.{decimal}
+use Rattle.std.specs.FinMap.{len}
+use Rattle.t1_font.specs.FontValue.{weight}
+use Rattle.t1_cmd.proofs.FontLemmas.{four_pieces}
+use Rattle.t1_cmd.proofs.fonts.check_line.Goals as goal
+
+pub returns : goal.returns
+returns c =
+    sym
+    (ap Ok
+    (four_pieces c.new-text.result.items c.push_about.new.out.items c.push_about-2.new.out.items c.push_about-3.new.out.items c.push.new.self.items
+    (codes "ok ") (decimal (len c.args.font.glyphs)) (codes " glyphs, ") (decimal (len c.args.font.subrs)) (codes " subrs, weight ") (decimal (weight c.args.font)) (10 ∷ [])
+    c.new-text.ensures.items
+    (c.in_ok-push_about.ensures ∙ ap (λ n. c.new-text.result.items ++ (codes "ok " ++ decimal n)) c.glyph_count.ensures)
+    (c.in_ok-push_about-2.ensures ∙ ap (λ n. c.push_about.new.out.items ++ (codes " glyphs, " ++ decimal n)) c.subr_count.ensures)
+    (c.in_ok-push_about-3.ensures ∙ ap (λ n. c.push_about-2.new.out.items ++ (codes " subrs, weight " ++ decimal n)) c.weight.ensures)
+    c.in_ok-push.ensures.items))

@@ -1,0 +1,87 @@
+-- The lines of a drawing.
+use Rattle.std.specs.Prelude.{ℕ, ◌+◌, ◌/◌, ◌%◌, ℤ, pos, negsuc, List, [], ◌∷◌, ◌++◌, codes, Result, Ok, Err, if◌then◌else◌, ◌==◌}
+use Rattle.std.specs.Fmt.{decimal}
+use Rattle.std.specs.List.{flat_map}
+use Rattle.std.specs.FinMap.{get}
+use Rattle.t1_run.specs.declared.answer.Point.{Point}
+use Rattle.t1_run.specs.declared.answer.Mark.{Mark}
+use Rattle.t1_run.specs.declared.answer.Mark.TheVariants as mark
+use Rattle.t1_run.specs.declared.answer.Fault.{Fault}
+use Rattle.t1_run.specs.declared.answer.Fault.TheVariants as run
+use Rattle.t1_run.specs.declared.drawings.DrawFault.{DrawFault}
+use Rattle.t1_run.specs.declared.drawings.DrawFault.TheVariants.{Run, NoPart, MissingPart, NestedSeac, PartFault, NoGlyph}
+use Rattle.t1_run.specs.Drawings.{Picture, Drawn, Undrawn, draw}
+use Rattle.t1_font.specs.FontValue.{FontValue}
+use Rattle.t1_font.specs.FontModel.{subr_at}
+use Rattle.t1_cmd.specs.declared.faults.Reason.{Reason}
+use Rattle.t1_cmd.specs.declared.faults.Reason.TheVariants as reason
+
+-- this many 1/65536 of a unit: whole units as a decimal, any other as the count
+abbrev pub amount : ℕ → List ℕ
+amount n = if n % 65536 == 0 then decimal (n / 65536) else decimal n ++ codes "/65536"
+
+-- a number that is a count of 1/65536 unit
+abbrev pub number : ℤ → List ℕ
+number (pos n) = amount n
+number (negsuc n) = 45 ∷ amount (n + 1)
+
+-- a word and its numbers
+abbrev pub line : List ℕ → List ℤ → List ℕ
+line word numbers = word ++ flat_map (λ n. 32 ∷ number n) numbers ++ 10 ∷ []
+
+abbrev pub mark_line : Mark → List ℕ
+mark_line (mark.Move p) = line (codes "move") (p.x ∷ p.y ∷ [])
+mark_line (mark.Line p) = line (codes "line") (p.x ∷ p.y ∷ [])
+mark_line (mark.Curve c) = line (codes "curve") (c.first.x ∷ c.first.y ∷ c.second.x ∷ c.second.y ∷ c.end.x ∷ c.end.y ∷ [])
+mark_line mark.Close = line (codes "close") []
+mark_line (mark.Hstem y dy) = line (codes "hstem") (y ∷ dy ∷ [])
+mark_line (mark.Vstem x dx) = line (codes "vstem") (x ∷ dx ∷ [])
+mark_line (mark.Hstem3 a b c d e f) = line (codes "hstem3") (a ∷ b ∷ c ∷ d ∷ e ∷ f ∷ [])
+mark_line (mark.Vstem3 a b c d e f) = line (codes "vstem3") (a ∷ b ∷ c ∷ d ∷ e ∷ f ∷ [])
+mark_line mark.Dot = line (codes "dot") []
+mark_line mark.Replace = line (codes "replace") []
+mark_line (mark.Flex height) = line (codes "flex") (height ∷ [])
+
+-- a part: its offset, and a line for each mark
+abbrev pub part_lines : Point × List Mark → List ℕ
+part_lines part = line (codes "part") (part.0.x ∷ part.0.y ∷ []) ++ flat_map mark_line part.1
+
+-- a glyph: its width, its side bearing, and its parts
+abbrev pub drawn_lines : (width bearing : Point) → List (Point × List Mark) → List ℕ
+drawn_lines width bearing parts = line (codes "width") (width.x ∷ width.y ∷ []) ++ line (codes "bearing") (bearing.x ∷ bearing.y ∷ []) ++ flat_map part_lines parts
+
+-- the name of a run's fault
+abbrev pub run_fault_name : Fault → List ℕ
+run_fault_name run.Overflow = codes "Overflow"
+run_fault_name run.Underflow = codes "Underflow"
+run_fault_name run.Nesting = codes "Nesting"
+run_fault_name run.NoSubr = codes "NoSubr"
+run_fault_name run.OtherProc = codes "OtherProc"
+run_fault_name run.BadFlex = codes "BadFlex"
+run_fault_name run.Unended = codes "Unended"
+run_fault_name run.BadToken = codes "BadToken"
+run_fault_name run.NoWidth = codes "NoWidth"
+run_fault_name run.ZeroDivisor = codes "ZeroDivisor"
+run_fault_name run.Range = codes "Range"
+run_fault_name run.NotWhole = codes "NotWhole"
+run_fault_name run.TooLong = codes "TooLong"
+run_fault_name run.EmptyPop = codes "EmptyPop"
+
+-- the name of a drawing's fault
+abbrev pub fault_name : DrawFault → List ℕ
+fault_name (Run fault) = run_fault_name fault
+fault_name NoPart = codes "NoPart"
+fault_name MissingPart = codes "MissingPart"
+fault_name NestedSeac = codes "NestedSeac"
+fault_name PartFault = codes "PartFault"
+fault_name NoGlyph = codes "NoGlyph"
+
+-- a drawing's lines, or the line of its fault; a glyph that the font lacks is refused by its name
+abbrev pub picture_answer : List ℕ → Picture → Result (List ℕ) Reason
+picture_answer name (Drawn m parts) = Ok (drawn_lines m.width m.bearing parts)
+picture_answer name (Undrawn NoGlyph) = Err (reason.NoGlyph name)
+picture_answer name (Undrawn fault) = Ok (codes "fault " ++ fault_name fault ++ 10 ∷ [])
+
+-- what the glyph of a name draws in a font
+abbrev pub show_answer : List ℕ → FontValue → Result (List ℕ) Reason
+show_answer name f = picture_answer name (draw (subr_at f) (get f.glyphs) name)

@@ -1,0 +1,25 @@
+-- What the engines over one font read and write.
+use Rattle.std.specs.Prelude.{ℕ, List, Result, Ok, Err}
+use Rattle.t1_bytes.specs.declared.form.Form.{Form}
+use Rattle.t1_font.specs.declared.fault.ReadFault.{ReadFault}
+use Rattle.t1_font.specs.declared.fault.ReadFault.TheVariants as faults
+use Rattle.t1_font.specs.FontValue.{FontValue}
+use Rattle.t1_font.specs.ReadFont.{read_font}
+use Rattle.t1_font.specs.Canon.{canon}
+use Rattle.t1_cmd.specs.declared.faults.Reason.{Reason}
+use Rattle.t1_cmd.specs.declared.faults.Reason.TheVariants.{TooLong, Memory, Font}
+use Rattle.t1_cmd.specs.Answers.{with_reason, within_limit}
+
+-- a fault of reading as a reason
+abbrev pub font_reason : ReadFault → Reason
+font_reason faults.TooLong = TooLong
+font_reason faults.Memory = Memory
+font_reason fault = Font fault
+
+-- the font that an input spells
+abbrev pub font_input : List ℕ → Result FontValue Reason
+font_input = within_limit (λ bytes. with_reason font_reason (read_font bytes))
+
+-- the canonical file of a font
+abbrev pub file_answer : Form → FontValue → Result (List ℕ) Reason
+file_answer form f = Ok (canon f form)

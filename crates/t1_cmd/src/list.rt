@@ -1,0 +1,131 @@
+//! The engine that lists what a font has.
+ghost use Rattle.std.specs.Prelude.{◌≡◌, ◌+◌, ◌≤◌, ◌++◌, ◌∷◌, [], None, Ok, OnOk, IfOk};
+ghost use Rattle.std.specs.FinMap as fin;
+ghost use Rattle.std.specs.List.{flat_map};
+ghost use Rattle.t1_font.specs.FontModel.{name_at, word_of, subr_at};
+ghost use Rattle.t1_cmd.specs.Count.{calls_of, inner_of};
+ghost use Rattle.t1_cmd.specs.Inputs.{input_of, file_limit};
+ghost use Rattle.t1_cmd.specs.Runs.{RunEnds, Succeeds};
+ghost use Rattle.t1_cmd.specs.Answers.{Prints};
+ghost use Rattle.t1_cmd.specs.Fonts.{font_input};
+ghost use Rattle.t1_cmd.specs.ListText.{line_at, code_line, subr_line, glyph_line, encoding_lines, list_answer};
+
+use crate::counting::Counted;
+use crate::faults::RunFault;
+use crate::fonts::read_font;
+use crate::texts::{push_about, push_number, push_shown};
+use crate::writing::write_text;
+use std::alloc::{AllocError, Global};
+use std::io::{Read, Write};
+use t1_font::Font;
+use t1_run::{Glyphs, Subroutines};
+
+// The line of a code that has a name; nothing for any other.
+fn push_code(alloc: Global, out: &mut Vec<u8>, font: &Font, code: u8) -> Result<(), AllocError>
+    ensures { OnOk result (out.new.items ≡ out.old.items ++ line_at code_line code (name_at font.now.encoding code)) }
+{
+    if let Some(name) = font.encoding_at(code) {
+        push_about(alloc, out, b"code ", usize::from(code))?;
+        out.push(b' ')?;
+        push_shown(out, name)?;
+        out.push(b'\n')?;
+    }
+    Ok(())
+}
+
+// The line of a Subr that is present; nothing for any other.
+fn push_subr(alloc: Global, out: &mut Vec<u8>, font: &Font, index: u16) -> Result<(), AllocError>
+    ensures { OnOk result (out.new.items ≡ out.old.items ++ line_at subr_line index (subr_at font.now index)) }
+{
+    if let Some(body) = font.get(index) {
+        push_about(alloc, out, b"subr ", usize::from(index))?;
+        push_about(alloc, out, b" ", body.len())?;
+        out.push(b'\n')?;
+    }
+    Ok(())
+}
+
+// The line of a glyph that the font has; nothing for any other.
+fn push_glyph(alloc: Global, out: &mut Vec<u8>, font: &Font, name: &[u8]) -> Result<(), AllocError>
+    ensures { OnOk result (out.new.items ≡ out.old.items ++ line_at glyph_line name.now (fin.get font.now.glyphs name.now)) }
+{
+    if let Some(body) = font.glyph(name) {
+        out.extend_from_slice(b"glyph ")?;
+        push_shown(out, name)?;
+        push_about(alloc, out, b" ", body.len())?;
+        out.push(b'\n')?;
+    }
+    Ok(())
+}
+
+// A line for each code of a table.
+fn push_codes(alloc: Global, out: &mut Vec<u8>, font: &Font) -> Result<(), AllocError>
+    requires { word_of font.now.encoding ≡ None }
+    ensures { OnOk result (out.new.items ≡ out.old.items ++ encoding_lines font.now.encoding) }
+{
+    font.is_font();
+    'codes: for code in 0..256u16 {
+        push_code(alloc, out, font, code as u8)?;
+    }
+    Ok(())
+}
+
+fn push_encoding(alloc: Global, out: &mut Vec<u8>, font: &Font) -> Result<(), AllocError>
+    ensures { OnOk result (out.new.items ≡ out.old.items ++ encoding_lines font.now.encoding) }
+{
+    let Some(word) = font.encoding_word() else {
+        return push_codes(alloc, out, font);
+    };
+    out.extend_from_slice(b"encoding ")?;
+    push_shown(out, word)?;
+    out.push(b'\n')?;
+    Ok(())
+}
+
+fn push_subrs(alloc: Global, out: &mut Vec<u8>, font: &Font) -> Result<(), AllocError>
+    ensures { OnOk result (out.new.items ≡ out.old.items ++ flat_map (λ e. subr_line e.0 e.1) (fin.entries font.now.subrs)) }
+{
+    font.is_font();
+    'indices: for index in 0..font.count() {
+        push_subr(alloc, out, font, index)?;
+    }
+    Ok(())
+}
+
+fn push_glyphs(alloc: Global, out: &mut Vec<u8>, font: &Font) -> Result<(), AllocError>
+    ensures { OnOk result (out.new.items ≡ out.old.items ++ flat_map (λ e. glyph_line e.0 e.1) (fin.entries font.now.glyphs)) }
+{
+    'names: for name in font.names() {
+        push_glyph(alloc, out, font, name)?;
+    }
+    Ok(())
+}
+
+// The lines of a font.
+fn list_text(alloc: Global, font: Font) -> Result<Vec<u8>, AllocError>
+    ensures { IfOk result (λ text. list_answer font ≡ Ok text.items) }
+{
+    let mut text = Vec::new(alloc);
+    push_encoding(alloc, &mut text, &font)?;
+    push_subrs(alloc, &mut text, &font)?;
+    push_glyphs(alloc, &mut text, &font)?;
+    Ok(text)
+}
+
+/// Writes a line for the Encoding, or for each of its codes, then for each Subr that is present, then for each glyph,
+/// each in the order of their keys. Lengths are plain, in bytes.
+pub fn run_list<R: Read, W: Write>(
+    alloc: Global,
+    reader: &mut Counted<R>,
+    writer: &mut Counted<W>,
+) -> Result<(), RunFault>
+    ensures ends { RunEnds font_input (Prints list_answer) W.contents
+        (input_of R.remaining reader.old reader.new ∷ []) writer.old writer.new result }
+    ensures succeeds { Succeeds font_input (Prints list_answer)
+        (input_of R.remaining reader.old reader.new ∷ []) writer.old writer.new result }
+    ensures turns { calls_of reader.new ≤ calls_of reader.old + (file_limit + 1) }
+{
+    let font = read_font(alloc, reader)?;
+    let text = list_text(alloc, font)?;
+    write_text(writer, text.as_slice())
+}
