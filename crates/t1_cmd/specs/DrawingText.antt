@@ -1,5 +1,5 @@
 -- The lines of a drawing.
-use Rattle.std.specs.Prelude.{ℕ, ◌+◌, ◌/◌, ◌%◌, ℤ, pos, negsuc, List, [], ◌∷◌, ◌++◌, codes, Result, Ok, Err, if◌then◌else◌, ◌==◌}
+use Rattle.std.specs.Prelude.{◌≡◌, ℕ, ◌+◌, ◌/◌, ◌%◌, ℤ, pos, negsuc, List, [], ◌∷◌, ◌++◌, codes, Result, Ok, Err, if◌then◌else◌, ◌==◌}
 use Rattle.std.specs.Fmt.{decimal}
 use Rattle.std.specs.List.{flat_map}
 use Rattle.std.specs.FinMap.{get}
@@ -15,6 +15,8 @@ use Rattle.t1_font.specs.FontValue.{FontValue}
 use Rattle.t1_font.specs.FontModel.{subr_at}
 use Rattle.t1_cmd.specs.declared.faults.Reason.{Reason}
 use Rattle.t1_cmd.specs.declared.faults.Reason.TheVariants as reason
+use Rattle.t1_cmd.specs.declared.faults.RunFault.{RunFault}
+use Rattle.t1_cmd.specs.declared.faults.RunFault.TheVariants.{Refused, Read, Write}
 
 -- this many 1/65536 of a unit: whole units as a decimal, any other as the count
 abbrev pub amount : ℕ → List ℕ
@@ -25,9 +27,13 @@ abbrev pub number : ℤ → List ℕ
 number (pos n) = amount n
 number (negsuc n) = 45 ∷ amount (n + 1)
 
+-- each number, after a blank
+abbrev pub numbers : List ℤ → List ℕ
+numbers ns = flat_map (λ n. 32 ∷ number n) ns
+
 -- a word and its numbers
 abbrev pub line : List ℕ → List ℤ → List ℕ
-line word numbers = word ++ flat_map (λ n. 32 ∷ number n) numbers ++ 10 ∷ []
+line word ns = word ++ numbers ns ++ 10 ∷ []
 
 abbrev pub mark_line : Mark → List ℕ
 mark_line (mark.Move p) = line (codes "move") (p.x ∷ p.y ∷ [])
@@ -76,12 +82,23 @@ fault_name NestedSeac = codes "NestedSeac"
 fault_name PartFault = codes "PartFault"
 fault_name NoGlyph = codes "NoGlyph"
 
+-- the line of a drawing's fault
+abbrev pub fault_line : DrawFault → List ℕ
+fault_line fault = codes "fault " ++ fault_name fault ++ 10 ∷ []
+
 -- a drawing's lines, or the line of its fault; a glyph that the font lacks is refused by its name
 abbrev pub picture_answer : List ℕ → Picture → Result (List ℕ) Reason
 picture_answer name (Drawn m parts) = Ok (drawn_lines m.width m.bearing parts)
 picture_answer name (Undrawn NoGlyph) = Err (reason.NoGlyph name)
-picture_answer name (Undrawn fault) = Ok (codes "fault " ++ fault_name fault ++ 10 ∷ [])
+picture_answer name (Undrawn fault) = Ok (fault_line fault)
 
 -- what the glyph of a name draws in a font
 abbrev pub show_answer : List ℕ → FontValue → Result (List ℕ) Reason
 show_answer name f = picture_answer name (draw (subr_at f) (get f.glyphs) name)
+
+-- which end of an engine is right where this is its answer; want of memory always is
+abbrev pub ShowStops : Result (List ℕ) Reason → RunFault → Type 0
+ShowStops answer (Refused reason.Memory) = Unit {0}
+ShowStops answer (Refused r) = answer ≡ Err r
+ShowStops answer Read = ⊥
+ShowStops answer Write = ⊥

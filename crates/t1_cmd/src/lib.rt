@@ -10,6 +10,7 @@ mod fonts;
 mod list;
 mod listings;
 mod reading;
+mod show;
 #[cfg(test)]
 mod tests;
 mod texts;
@@ -21,4 +22,5 @@ pub use fonts::{run_check, run_convert};
 pub use list::run_list;
 pub use listings::run_join;
 pub use reading::{FILE_LIMIT, read_all};
+pub use show::run_show;
 pub use writing::{write_fault, write_text};

@@ -1,0 +1,237 @@
+//! The engine that shows what a glyph draws.
+ghost use Rattle.std.specs.Prelude.{◌≡◌, ◌+◌, ◌≤◌, ◌++◌, ◌∷◌, [], Ok, Err, map, OnOk, IfOk, IfErr};
+ghost use Rattle.std.specs.List.{flat_map};
+ghost use Rattle.t1_run.specs.Pictures.{picture_of, placed};
+ghost use Rattle.t1_cmd.specs.Count.{calls_of, inner_of};
+ghost use Rattle.t1_cmd.specs.Inputs.{input_of, file_limit};
+ghost use Rattle.t1_cmd.specs.Runs.{RunEnds, Succeeds};
+ghost use Rattle.t1_cmd.specs.Answers.{Prints};
+ghost use Rattle.t1_cmd.specs.Fonts.{font_input};
+ghost use Rattle.t1_cmd.specs.DrawingText.{amount, number, numbers, line, mark_line, part_lines, drawn_lines, run_fault_name, fault_name, fault_line, picture_answer, show_answer, ShowStops};
+
+use crate::counting::Counted;
+use crate::faults::{Name, Reason, RunFault};
+use crate::fonts::read_font;
+use crate::texts::push_number;
+use crate::writing::write_text;
+use std::alloc::{AllocError, Global};
+use std::io::{Read, Write};
+use t1_font::{DrawFault, Drawing, DrawnPart, Fault, Font, Mark, Point, draw};
+
+// How many counts of 1/65536 are a unit.
+const UNIT: u64 = 65536;
+
+fn push_amount(alloc: Global, out: &mut Vec<u8>, count: u64) -> Result<(), AllocError>
+    ensures { OnOk result (out.new.items ≡ out.old.items ++ amount count) }
+{
+    if count % UNIT == 0 {
+        return push_number(alloc, out, (count / UNIT) as usize);
+    }
+    push_number(alloc, out, count as usize)?;
+    out.extend_from_slice(b"/65536")
+}
+
+fn push_count(alloc: Global, out: &mut Vec<u8>, count: i64) -> Result<(), AllocError>
+    ensures { OnOk result (out.new.items ≡ out.old.items ++ number count) }
+{
+    if count < 0 {
+        out.push(b'-')?;
+    }
+    push_amount(alloc, out, count.unsigned_abs())
+}
+
+fn push_counts(alloc: Global, out: &mut Vec<u8>, counts: &[i64]) -> Result<(), AllocError>
+    ensures { OnOk result (out.new.items ≡ out.old.items ++ numbers counts.now) }
+{
+    for count in counts {
+        out.push(b' ')?;
+        push_count(alloc, out, *count)?;
+    }
+    Ok(())
+}
+
+// A word and its numbers.
+fn push_line(
+    alloc: Global,
+    out: &mut Vec<u8>,
+    word: &[u8],
+    counts: &[i64],
+) -> Result<(), AllocError>
+    ensures { OnOk result (out.new.items ≡ out.old.items ++ line word.now counts.now) }
+{
+    out.extend_from_slice(word)?;
+    push_counts(alloc, out, counts)?;
+    out.push(b'\n')?;
+    Ok(())
+}
+
+// A word and two numbers.
+fn push_pair(
+    alloc: Global,
+    out: &mut Vec<u8>,
+    word: &[u8],
+    first: i64,
+    second: i64,
+) -> Result<(), AllocError>
+    ensures { OnOk result (out.new.items ≡ out.old.items ++ line word.now (first ∷ second ∷ [])) }
+{
+    push_line(alloc, out, word, &[first, second])
+}
+
+fn push_mark(alloc: Global, out: &mut Vec<u8>, mark: &Mark) -> Result<(), AllocError>
+    ensures { OnOk result (out.new.items ≡ out.old.items ++ mark_line mark.now) }
+{
+    match *mark {
+        Mark::Move(p) => push_pair(alloc, out, b"move", p.x, p.y),
+        Mark::Line(p) => push_pair(alloc, out, b"line", p.x, p.y),
+        Mark::Curve(c) => {
+            let points = [
+                c.first.x, c.first.y, c.second.x, c.second.y, c.end.x, c.end.y,
+            ];
+            push_line(alloc, out, b"curve", &points)
+        }
+        Mark::Close => push_line(alloc, out, b"close", &[]),
+        Mark::Hstem(y, dy) => push_pair(alloc, out, b"hstem", y, dy),
+        Mark::Vstem(x, dx) => push_pair(alloc, out, b"vstem", x, dx),
+        Mark::Hstem3(a, b, c, d, e, f) => { push_line(alloc, out, b"hstem3", &[a, b, c, d, e, f]) }
+        Mark::Vstem3(a, b, c, d, e, f) => { push_line(alloc, out, b"vstem3", &[a, b, c, d, e, f]) }
+        Mark::Dot => push_line(alloc, out, b"dot", &[]),
+        Mark::Replace => push_line(alloc, out, b"replace", &[]),
+        Mark::Flex(height) => push_line(alloc, out, b"flex", &[height]),
+    }
+}
+
+fn push_marks(alloc: Global, out: &mut Vec<u8>, marks: &[Mark]) -> Result<(), AllocError>
+    ensures { OnOk result (out.new.items ≡ out.old.items ++ flat_map mark_line marks.now) }
+{
+    for mark in marks {
+        push_mark(alloc, out, mark)?;
+    }
+    Ok(())
+}
+
+fn push_part(alloc: Global, out: &mut Vec<u8>, part: &DrawnPart) -> Result<(), AllocError>
+    ensures { OnOk result (out.new.items ≡ out.old.items ++ part_lines (placed part.now)) }
+{
+    push_pair(alloc, out, b"part", part.dx, part.dy)?;
+    push_marks(alloc, out, part.marks.as_slice())?;
+    Ok(())
+}
+
+fn push_parts(alloc: Global, out: &mut Vec<u8>, parts: &[DrawnPart]) -> Result<(), AllocError>
+    ensures { OnOk result (out.new.items ≡ out.old.items ++ flat_map (λ p. part_lines (placed p)) parts.now) }
+{
+    for part in parts {
+        push_part(alloc, out, part)?;
+    }
+    Ok(())
+}
+
+fn drawn(
+    alloc: Global,
+    width: Point,
+    bearing: Point,
+    parts: &[DrawnPart],
+) -> Result<Vec<u8>, AllocError>
+    ensures { IfOk result (λ text. text.items ≡ drawn_lines width bearing (map placed parts.now)) }
+{
+    let mut text = Vec::new(alloc);
+    push_pair(alloc, &mut text, b"width", width.x, width.y)?;
+    push_pair(alloc, &mut text, b"bearing", bearing.x, bearing.y)?;
+    push_parts(alloc, &mut text, parts)?;
+    Ok(text)
+}
+
+fn run_fault_name(fault: Fault) -> &'static [u8]
+    ensures { result.now ≡ run_fault_name fault }
+{
+    match fault {
+        Fault::Overflow => b"Overflow",
+        Fault::Underflow => b"Underflow",
+        Fault::Nesting => b"Nesting",
+        Fault::NoSubr => b"NoSubr",
+        Fault::OtherProc => b"OtherProc",
+        Fault::BadFlex => b"BadFlex",
+        Fault::Unended => b"Unended",
+        Fault::BadToken => b"BadToken",
+        Fault::NoWidth => b"NoWidth",
+        Fault::ZeroDivisor => b"ZeroDivisor",
+        Fault::Range => b"Range",
+        Fault::NotWhole => b"NotWhole",
+        Fault::TooLong => b"TooLong",
+        Fault::EmptyPop => b"EmptyPop",
+    }
+}
+
+fn fault_name(fault: DrawFault) -> &'static [u8]
+    ensures { result.now ≡ fault_name fault }
+{
+    match fault {
+        DrawFault::Run(fault) => run_fault_name(fault),
+        DrawFault::NoPart => b"NoPart",
+        DrawFault::MissingPart => b"MissingPart",
+        DrawFault::NestedSeac => b"NestedSeac",
+        DrawFault::PartFault => b"PartFault",
+        DrawFault::NoGlyph => b"NoGlyph",
+    }
+}
+
+fn fault_text(alloc: Global, fault: DrawFault) -> Result<Vec<u8>, AllocError>
+    ensures { IfOk result (λ text. text.items ≡ fault_line fault) }
+{
+    let mut text = Vec::new(alloc);
+    text.extend_from_slice(b"fault ")?;
+    text.extend_from_slice(fault_name(fault))?;
+    text.push(b'\n')?;
+    Ok(text)
+}
+
+fn drawing_text(alloc: Global, name: &[u8], drawing: &Drawing) -> Result<Vec<u8>, RunFault>
+    ensures text { IfOk result (λ text. picture_answer name.now (picture_of drawing.now) ≡ Ok text.items) }
+    ensures refused { IfErr result (λ e. ShowStops (picture_answer name.now (picture_of drawing.now)) e) }
+{
+    match drawing {
+        Drawing::Drawn { width, sb, parts } => {
+            let text = drawn(alloc, *width, *sb, parts.as_slice())?;
+            Ok(text)
+        }
+        Drawing::Failed(DrawFault::NoGlyph) => {
+            let name = Name::new(alloc, name)?;
+            Err(RunFault::Refused(Reason::NoGlyph { name }))
+        }
+        Drawing::Failed(fault) => {
+            let text = fault_text(alloc, *fault)?;
+            Ok(text)
+        }
+    }
+}
+
+// The text of what the glyph of a name draws.
+fn shown_glyph(alloc: Global, font: Font, name: &[u8]) -> Result<Vec<u8>, RunFault>
+    ensures text { IfOk result (λ text. show_answer name.now font ≡ Ok text.items) }
+    ensures refused { IfErr result (λ e. ShowStops (show_answer name.now font) e) }
+{
+    let drawing = draw(alloc, &font, name)?;
+    drawing_text(alloc, name, &drawing)
+}
+
+/// Writes what the glyph of a name, without its `/`, draws: its width, its side bearing, its parts and their marks, or
+/// the one line of its fault. A name that the font lacks is refused as [`Reason::NoGlyph`].
+///
+/// A number that is a whole unit is written as that decimal, any other as its count followed by `/65536`.
+pub fn run_show<R: Read, W: Write>(
+    alloc: Global,
+    reader: &mut Counted<R>,
+    name: &[u8],
+    writer: &mut Counted<W>,
+) -> Result<(), RunFault>
+    ensures ends { RunEnds font_input (Prints (show_answer name.now)) W.contents
+        (input_of R.remaining reader.old reader.new ∷ []) writer.old writer.new result }
+    ensures succeeds { Succeeds font_input (Prints (show_answer name.now))
+        (input_of R.remaining reader.old reader.new ∷ []) writer.old writer.new result }
+    ensures turns { calls_of reader.new ≤ calls_of reader.old + (file_limit + 1) }
+{
+    let font = read_font(alloc, reader)?;
+    let text = shown_glyph(alloc, font, name)?;
+    write_text(writer, text.as_slice())
+}
