@@ -2,7 +2,7 @@
 use clap::{Arg, ArgAction, ArgMatches, Command, Error};
 use std::alloc::{AllocError, Global};
 
-fn path<'a>(alloc: Global, name: &'a str, help: &'a str) -> Arg<'a> {
+fn word<'a>(alloc: Global, name: &'a str, help: &'a str) -> Arg<'a> {
     Arg::new(alloc, name)
         .required(true)
         .action(ArgAction::Set)
@@ -20,13 +20,14 @@ fn join_command<'a>(alloc: Global) -> Result<Command<'a>, AllocError> {
     Command::new(alloc, "join")
         .about("Prints the join of two listings of Subrs and glyphs")
         .after_help(JOIN_HELP)
-        .arg(path(alloc, "A", "The first listing"))?
-        .arg(path(alloc, "B", "The second listing"))
+        .arg(word(alloc, "A", "The first listing"))?
+        .arg(word(alloc, "B", "The second listing"))
 }
 
 const CONVERT_HELP: &str = "\
-IN may be PFA, PFB or raw binary. The clear text is kept through `eexec`, the private text through its first \
-`closefile`; lead bytes become zero, and the trailer is written anew. OUT is opened only after the result is complete.
+IN is a Type 1 font as PFA, PFB or with a raw binary cipher. OUT is its one canonical file in this form: kept texts as \
+they stand, tables in one layout, Subrs by index and glyphs by name, lead bytes zero, the trailer written anew. OUT is \
+opened only after the result is complete.
 
 Example: t1subset pfa font.pfb font.pfa";
 
@@ -38,8 +39,50 @@ fn convert_command<'a>(
     Command::new(alloc, name)
         .about(about)
         .after_help(CONVERT_HELP)
-        .arg(path(alloc, "IN", "The font"))?
-        .arg(path(alloc, "OUT", "The file that is written"))
+        .arg(word(alloc, "IN", "The font"))?
+        .arg(word(alloc, "OUT", "The file that is written"))
+}
+
+const CHECK_HELP: &str = "\
+Prints `ok G glyphs, S subrs, weight W`, where S counts the Subrs that are present and W is the weight by which fonts \
+are limited. A font that doesn't read is refused with the first thing in it that is wrong.
+
+Example: t1subset check font.pfb";
+
+fn check_command<'a>(alloc: Global) -> Result<Command<'a>, AllocError> {
+    Command::new(alloc, "check")
+        .about("Says whether a font reads")
+        .after_help(CHECK_HELP)
+        .arg(word(alloc, "IN", "The font"))
+}
+
+const LIST_HELP: &str = "\
+Prints `encoding WORD`, or a line `code C NAME` for each code; then `subr I LENGTH` for each Subr that is present; then \
+`glyph NAME LENGTH` for each glyph by the bytes of its name. Lengths are those of the plain charstrings. A byte outside \
+33 to 126, and the backslash, is printed as `\\x` and two digits.
+
+Example: t1subset list font.pfb";
+
+fn list_command<'a>(alloc: Global) -> Result<Command<'a>, AllocError> {
+    Command::new(alloc, "list")
+        .about("Lists a font's codes, Subrs and glyphs")
+        .after_help(LIST_HELP)
+        .arg(word(alloc, "IN", "The font"))
+}
+
+const SHOW_HELP: &str = "\
+Prints `width WX WY`, `bearing SBX SBY`, and for each part `part DX DY` and a line for each of its marks, or the one line \
+`fault NAME`. Numbers are charstring units; one that is not whole is printed as its count of 1/65536 unit and `/65536`. \
+A NAME that begins with `-` stands after `--`.
+
+Example: t1subset show font.pfb Aacute";
+
+fn show_command<'a>(alloc: Global) -> Result<Command<'a>, AllocError> {
+    Command::new(alloc, "show")
+        .about("Shows what a glyph draws")
+        .after_help(SHOW_HELP)
+        .arg(word(alloc, "IN", "The font"))?
+        .arg(word(alloc, "NAME", "The glyph's name, without its `/`"))
 }
 
 const PROGRAM_HELP: &str = "\
@@ -51,12 +94,15 @@ Example: t1subset pfb font.pfa font.pfb";
 fn program<'a>(alloc: Global) -> Result<Command<'a>, AllocError> {
     Command::new(alloc, "t1subset")
         .version("0.1.0")
-        .about("Rewrites Type 1 fonts, and joins what their subsets carry")
+        .about("Checks, lists, shows and rewrites Type 1 fonts, and joins what their subsets carry")
         .after_help(PROGRAM_HELP)
         .subcommand_required(true)
         .arg_required_else_help(true)
-        .subcommand(convert_command(alloc, "pfa", "Writes a font as PFA, text and hexadecimal")?)?
-        .subcommand(convert_command(alloc, "pfb", "Writes a font as PFB, in binary segments")?)?
+        .subcommand(check_command(alloc)?)?
+        .subcommand(list_command(alloc)?)?
+        .subcommand(show_command(alloc)?)?
+        .subcommand(convert_command(alloc, "pfa", "Writes a font's canonical file as PFA, text and hexadecimal")?)?
+        .subcommand(convert_command(alloc, "pfb", "Writes a font's canonical file as PFB, in binary segments")?)?
         .subcommand(join_command(alloc)?)
 }
 

@@ -5,8 +5,11 @@ use std::alloc::Global;
 use std::io::{ErrorKind, Write};
 use std::rt::Files;
 use std::{fs, io};
-use t1_bytes::Form;
-use t1_cmd::{Counted, Reason, RunFault, run_convert, run_join, status, write_fault, write_text};
+use t1_cmd::{
+    Counted, Reason, RunFault, run_check, run_convert, run_join, run_list, run_show, status,
+    write_fault, write_text,
+};
+use t1_font::Form;
 
 /// Why an input that doesn't open ends the run.
 fn not_opened(error: io::Error) -> RunFault {
@@ -43,6 +46,54 @@ fn join<R: Files, O: Write + Drop>(
     print(out, text.as_slice())
 }
 
+/// The font that the words name, opened.
+fn font<R: Files>(rt: &R, given: &ArgMatches<'_>) -> Result<Counted<R::File>, RunFault> {
+    let file = fs::open(rt, given.get_str("IN").unwrap_or("")).map_err(not_opened)?;
+    Ok(Counted::new(file))
+}
+
+fn check<R: Files, O: Write + Drop>(
+    rt: &R,
+    alloc: Global,
+    given: &ArgMatches<'_>,
+    out: O,
+) -> Result<(), RunFault> {
+    let mut input = font(rt, given)?;
+    let mut text = Vec::new(alloc);
+    run_check(alloc, &mut input, &mut Counted::new(&mut text))?;
+    print(out, text.as_slice())
+}
+
+fn list<R: Files, O: Write + Drop>(
+    rt: &R,
+    alloc: Global,
+    given: &ArgMatches<'_>,
+    out: O,
+) -> Result<(), RunFault> {
+    let mut input = font(rt, given)?;
+    let mut text = Vec::new(alloc);
+    run_list(alloc, &mut input, &mut Counted::new(&mut text))?;
+    print(out, text.as_slice())
+}
+
+fn show<R: Files, O: Write + Drop>(
+    rt: &R,
+    alloc: Global,
+    given: &ArgMatches<'_>,
+    out: O,
+) -> Result<(), RunFault> {
+    let name = given.get_str("NAME").unwrap_or("");
+    let mut input = font(rt, given)?;
+    let mut text = Vec::new(alloc);
+    run_show(
+        alloc,
+        &mut input,
+        name.as_bytes(),
+        &mut Counted::new(&mut text),
+    )?;
+    print(out, text.as_slice())
+}
+
 /// Writes a result to a file, which is opened only now.
 fn save<R: Files>(rt: &R, path: &str, text: &[u8]) -> Result<(), RunFault> {
     let out = fs::create(rt, path).map_err(|_| RunFault::Write)?;
@@ -55,16 +106,10 @@ fn convert<R: Files>(
     given: &ArgMatches<'_>,
     form: Form,
 ) -> Result<(), RunFault> {
-    let (from, to) = (given.get_str("IN"), given.get_str("OUT"));
-    let input = fs::open(rt, from.unwrap_or("")).map_err(not_opened)?;
+    let mut input = font(rt, given)?;
     let mut text = Vec::new(alloc);
-    run_convert(
-        alloc,
-        &mut Counted::new(input),
-        form,
-        &mut Counted::new(&mut text),
-    )?;
-    save(rt, to.unwrap_or(""), text.as_slice())
+    run_convert(alloc, &mut input, form, &mut Counted::new(&mut text))?;
+    save(rt, given.get_str("OUT").unwrap_or(""), text.as_slice())
 }
 
 fn perform<R: Files, O: Write + Drop>(
@@ -74,6 +119,9 @@ fn perform<R: Files, O: Write + Drop>(
     out: O,
 ) -> Result<(), RunFault> {
     match matches.subcommand() {
+        Some(("check", given)) => check(rt, alloc, given, out),
+        Some(("list", given)) => list(rt, alloc, given, out),
+        Some(("show", given)) => show(rt, alloc, given, out),
         Some(("pfa", given)) => convert(rt, alloc, given, Form::Pfa),
         Some(("pfb", given)) => convert(rt, alloc, given, Form::Pfb),
         Some(("join", given)) => {
