@@ -17,3 +17,4 @@ pub mod Pictures
 pub mod Alike
 pub mod Again
 pub mod Fonts
+mod NameSets
