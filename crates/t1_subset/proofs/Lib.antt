@@ -18,3 +18,7 @@ pub mod Alike
 pub mod Again
 pub mod Fonts
 mod NameSets
+mod Runs
+mod MarkLists
+mod Marking
+mod ClosedMarks

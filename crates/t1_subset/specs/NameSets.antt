@@ -1,9 +1,10 @@
--- Sets of names in memory.
+-- Sets of names and of indices in memory.
 use Rattle.std.specs.Prelude.{ℕ, List}
 use Rattle.std.specs.Global.{Vec}
 use Rattle.std.specs.Coded.{Coded, coded_list, coded_ℕ}
+use Rattle.std.specs.BTreeSet.{BTreeSet}
 use Rattle.std.specs.FinSet as sets
-use Rattle.t1_subset.specs.Interpreter.{Names}
+use Rattle.t1_subset.specs.Interpreter.{Names, Numbers}
 use Rattle.t1_subset.specs.Marks.{names_of}
 
 abbrev pub names_code : Coded Names
@@ -12,3 +13,7 @@ names_code = sets.code (coded_list coded_ℕ)
 -- the set of names in the order of their bytes
 abbrev pub set_by : List (Vec ℕ) → Names
 set_by vs = sets.from_list (names_of vs)
+
+-- a set of indices in memory
+abbrev pub number_set : BTreeSet ℕ → Numbers
+number_set s = sets.from_list s.keys

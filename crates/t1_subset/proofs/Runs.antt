@@ -1,0 +1,23 @@
+-- The interpreter of the laws, as runs of charstrings in code.
+use Rattle.std.proofs.Common.{◌≡◌, ℕ, List, [], sym, ap, ◌∙◌, Some, None, Option, unwrap_or}
+use Rattle.std.specs.FinMap as maps
+use Rattle.t1_run.specs.Run.{direct}
+use Rattle.t1_run.specs.Drawings.{parts_of}
+use Rattle.t1_font.specs.FontValue.{FontValue}
+use Rattle.t1_font.specs.FontModel.{subr_at}
+use Rattle.t1_font.specs.IsFont.{IsFont}
+use Rattle.t1_font.proofs.FontReaders.{subrs_seen}
+use Rattle.t1_subset.specs.Keep.{parts, charstring}
+use Rattle.t1_subset.specs.Profile.{profile}
+
+-- the Subrs that a run sees are the font's
+pub all_seen : (f : FontValue) → IsFont f → subr_at f ≡ maps.get f.subrs
+all_seen f h = λ i. λ k. subrs_seen f h k i
+
+pub parts_are : (f : FontValue) → IsFont f → (n c : List ℕ) → maps.get f.glyphs n ≡ Some c → parts_of (direct (subr_at f) c) ≡ parts profile f.subrs (charstring f n)
+unfolding profile
+parts_are f h n c e = ap (λ s. parts_of (direct s c)) (all_seen f h) ∙ ap (λ x. parts_of (direct (maps.get f.subrs) (unwrap_or x []))) (sym e)
+
+pub no_parts : (f : FontValue) (n : List ℕ) → maps.get f.glyphs n ≡ None → [] ≡ parts profile f.subrs (charstring f n)
+unfolding profile
+no_parts f n e = ap (λ x. parts_of (direct (maps.get f.subrs) (unwrap_or x []))) (sym e)

@@ -1,0 +1,69 @@
+//! The closure of a set of names.
+
+ghost use Rattle.std.specs.Prelude.{◌≡◌, IfOk, IfErr, OnOk, None, not};
+ghost use Rattle.std.specs.Option.{option_map};
+ghost use Rattle.std.specs.List.Sorted.{IsStrictlySortedBy};
+ghost use Rattle.t1_font.specs.FontValue.{name_cmp};
+ghost use Rattle.t1_subset.specs.Profile.{profile};
+ghost use Rattle.t1_subset.specs.Keep.{has, keep, kept};
+ghost use Rattle.t1_subset.specs.Laws.{IsOf};
+ghost use Rattle.t1_subset.specs.Conflicts.{first_where};
+ghost use Rattle.t1_subset.specs.Marks.{names_of, lent, asked};
+ghost use Rattle.t1_subset.specs.NameSets.{set_by, number_set};
+ghost use Rattle.t1_subset.specs.Refusals.{Absent};
+
+use crate::calls::called_by;
+use crate::fault::SubsetFault;
+use crate::marks::{has_glyph, kept_names};
+use crate::needed::Closure;
+use std::alloc::{AllocError, Global};
+use t1_font::Font;
+
+/// The first of these names that the font lacks.
+fn first_absent<'a>(font: &Font, names: &'a [&'a [u8]]) -> Option<&'a [u8]>
+    ensures { option_map (λ n. n.now) result ≡ first_where (λ n. not (has font.now n)) (lent names.now) }
+{
+    'names: for name in names {
+        if !has_glyph(font, name) {
+            return Some(*name);
+        }
+    }
+    None
+}
+
+/// What these names of the font need of it.
+fn needed(alloc: Global, font: &Font, names: &[&[u8]]) -> Result<Closure, AllocError>
+    requires { IsOf font.now (asked names.now) }
+    ensures names { IfOk result (λ c. set_by c.names.items ≡ keep profile font.now (asked names.now)) }
+    ensures upwards { IfOk result (λ c. IsStrictlySortedBy name_cmp (names_of c.names.items)) }
+    ensures subrs { IfOk result (λ c. number_set c.subrs ≡ kept profile font.now (asked names.now)) }
+{
+    let names = kept_names(alloc, font, names)?.into_names(alloc)?;
+    let subrs = called_by(alloc, font, names.as_slice())?;
+    Ok(Closure { names, subrs })
+}
+
+/// What a set of names needs of a font: the glyphs of these names and `.notdef`, with each accented glyph
+/// those of its parts that the font has, by StandardEncoding (Adobe Type 1 Font Format 1.1, chapter 6);
+/// and the Subrs 0 to 3 with all that these glyphs execute. A name may be asked for more than once.
+///
+/// It fails with [`SubsetFault::NoSuchGlyph`] where the font lacks a name that is asked for, the first
+/// such, and else for want of memory alone.
+pub fn closure(alloc: Global, font: &Font, names: &[&[u8]]) -> Result<Closure, SubsetFault>
+    ensures names { IfOk result (λ c. set_by c.names.items ≡ keep profile font.now (asked names.now)) }
+    ensures upwards { IfOk result (λ c. IsStrictlySortedBy name_cmp (names_of c.names.items)) }
+    ensures subrs { IfOk result (λ c. number_set c.subrs ≡ kept profile font.now (asked names.now)) }
+    ensures present { OnOk result (first_where (λ n. not (has font.now n)) (lent names.now) ≡ None) }
+    ensures absent { IfErr result (λ e. Absent e (first_where (λ n. not (has font.now n)) (lent names.now))) }
+{
+    if let Some(name) = first_absent(font, names) {
+        return match Vec::from_slice(alloc, name) {
+            Ok(name) => Err(SubsetFault::NoSuchGlyph { name }),
+            Err(_) => Err(SubsetFault::Memory),
+        };
+    }
+    match needed(alloc, font, names) {
+        Ok(closure) => Ok(closure),
+        Err(_) => Err(SubsetFault::Memory),
+    }
+}
