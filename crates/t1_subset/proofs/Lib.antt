@@ -22,3 +22,6 @@ mod Runs
 mod MarkLists
 mod Marking
 mod ClosedMarks
+mod NumberSets
+mod ExecutedCalls
+mod Absent

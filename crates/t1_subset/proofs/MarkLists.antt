@@ -1,5 +1,5 @@
 -- Names at the end of a list, and what a list of marks holds.
-use Rattle.std.proofs.Common.{◌≡◌, ℕ, ◌+◌, ◌<◌, ◌≤◌, Bool, true, false, List, [], ◌∷◌, ◌++◌, refl, sym, ◌∙◌, ap, ◌⊎◌, inl, inr, length, take, cond, arith, length-append, true≢false, suc}
+use Rattle.std.proofs.Common.{◌≡◌, ℕ, ◌+◌, ◌<◌, ◌≤◌, Bool, true, false, List, [], ◌∷◌, ◌++◌, refl, sym, ◌∙◌, ap, ◌⊎◌, inl, inr, length, take, cond, arith, length-append, true≢false, suc, drop, get_or, drop-cons, add-one}
 use Rattle.std.specs.Global.{Vec}
 use Rattle.std.specs.List.{list_any, IsDistinct}
 use Rattle.std.proofs.lemmas.Map.Keys.{IsDistinct-push}
@@ -80,3 +80,7 @@ names-append (v ∷ vs) ws = ap (λ ns. v.items ∷ ns) (names-append vs ws)
 -- a set of the names, with one more
 pub set_push : (ms : List (List ℕ)) (n : List ℕ) → sets.insert (sets.from_list {R = name_cmp} ms) n ≡ sets.from_list (ms ++ n ∷ [])
 set_push ms n = sym (sets.from_list_push nat_list_cmp_total name_same ms n)
+
+-- a list from a place on begins with what stands there
+pub from_here : {X : Type 0} (xs : List X) (i : ℕ) (x : X) → i < length xs → x ≡ get_or xs i x → drop i xs ≡ x ∷ drop (i + 1) xs
+from_here xs i x h e = rw (add-one) (drop-cons xs i x h ∙ ap (λ y. y ∷ drop (suc i) xs) (sym e))

@@ -13,13 +13,13 @@ use Rattle.t1_subset.specs.Marks.{names_of}
 use Rattle.t1_subset.specs.NameSets.{set_by}
 use Rattle.t1_subset.proofs.Sets.{name_same}
 
-or_same : (a b c : Bool) → a ≡ b → (a || c) ≡ (b || (a || c))
+pub or_same : (a b c : Bool) → a ≡ b → (a || c) ≡ (b || (a || c))
 or_same true true c e = refl
 or_same false false c e = refl
 or_same true false c e = cc
 or_same false true c e = cc
 
-or_later : (a b c : Bool) → (a || (b || c)) ≡ (b || (a || c))
+pub or_later : (a b c : Bool) → (a || (b || c)) ≡ (b || (a || c))
 or_later true true c = refl
 or_later true false c = refl
 or_later false b c = refl

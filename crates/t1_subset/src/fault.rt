@@ -4,9 +4,7 @@
 #[derive(PartialEq, Eq, Debug, Drop)]
 pub enum SubsetFault {
     /// The font lacks this name, the first such of those asked for.
-    NoSuchGlyph {
-        name: Vec<u8>,
-    },
+    NoSuchGlyph { name: Vec<u8> },
     /// A growth was refused.
     Memory,
 }

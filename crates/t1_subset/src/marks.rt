@@ -21,11 +21,7 @@ pub(crate) struct Marked {
 }
 
 /// The parts that a glyph of the font names.
-fn parts_of_glyph(
-    alloc: Global,
-    font: &Font,
-    name: &[u8],
-) -> Result<Vec<&'static str>, AllocError>
+fn parts_of_glyph(alloc: Global, font: &Font, name: &[u8]) -> Result<Vec<&'static str>, AllocError>
     ensures { IfOk result (λ ps. map (λ s. s.now) ps.items ≡ parts profile font.now.subrs (charstring font.now name.now)) }
 {
     font.is_font();
@@ -92,11 +88,7 @@ fn mark_parts(
 }
 
 /// The names that a set of the font's names keeps.
-pub(crate) fn kept_names(
-    alloc: Global,
-    font: &Font,
-    names: &[&[u8]],
-) -> Result<NameSet, AllocError>
+pub(crate) fn kept_names(alloc: Global, font: &Font, names: &[&[u8]]) -> Result<NameSet, AllocError>
     requires { IsOf font.now (asked names.now) }
     ensures { IfOk result (λ kept. kept ≡ keep profile font.now (asked names.now)) }
 {

@@ -20,7 +20,7 @@ marks-preserved c =
     let ms = names_of c.marks.marks.order.items in
     let k = c.marks-test.true in
     let parts_now : map (λ (s : Bor (List ℕ)). s.now) c.as_slice-in-marks.result.now ≡ parts profile f.subrs (charstring f v.items) =
-        ap (map (λ (s : Bor (List ℕ)). s.now)) c.as_slice-in-marks.ensures.value ∙ c.in_ok-parts.ensures ∙ ap (λ n. parts profile f.subrs (charstring f n)) c.as_slice.ensures.value in
+    ap (map (λ (s : Bor (List ℕ)). s.now)) c.as_slice-in-marks.ensures.value ∙ c.in_ok-parts.ensures ∙ ap (λ n. parts profile f.subrs (charstring f n)) c.as_slice.ensures.value in
     settle profile f (asked c.args.names.now) c.mark_parts.new.marks (push_all ms (filter (has f) (map (λ (s : Bor (List ℕ)). s.now) c.as_slice-in-marks.result.now))) (c.marks.i + 1)
     (c.in_ok-mark_parts.ensures ms c.marks.invariant.0)
     (subst (λ (ps : List (List ℕ)). Marks profile f (asked c.args.names.now) (push_all ms (filter (has f) ps)) (c.marks.i + 1)) (sym parts_now)

@@ -1,0 +1,8 @@
+use Rattle.std.proofs.Common.{◌≡◌, drop, not}
+use Rattle.t1_subset.specs.Keep.{has}
+use Rattle.t1_subset.specs.Conflicts.{first_where}
+use Rattle.t1_subset.specs.Marks.{lent}
+use Rattle.t1_subset.proofs.closures.first_absent.Given as goal
+
+abbrev pub invariant-names : goal.invariant-names
+invariant-names l = first_where (λ n. not (has l.font n)) (lent (drop l.name-index l.names)) ≡ first_where (λ n. not (has l.font n)) (lent l.names)
