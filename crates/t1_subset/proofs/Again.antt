@@ -15,8 +15,8 @@ use Rattle.t1_subset.specs.Keep.{has, charstring, parts, parts_here, keep, kept,
 use Rattle.t1_subset.proofs.Sets.{clash, is_or_not, name_same, same_members}
 use Rattle.t1_subset.proofs.Maps.{maps_same}
 use Rattle.t1_subset.proofs.Kept.{InFont, keep_has, keep_least, keep_closed, part_here, part_here_from, kept_cases, kept_low, kept_call, kept_more, calls}
-use Rattle.t1_subset.proofs.Merge.{same_font}
-use Rattle.t1_subset.proofs.Subset.{get-glyph, has_some, runs_alike}
+use Rattle.t1_subset.proofs.JoinOfSubsets.{same_font}
+use Rattle.t1_subset.proofs.CutFonts.{get-glyph, has_some, runs_alike}
 
 -- ---- a cut of a cut
 

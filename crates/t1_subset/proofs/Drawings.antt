@@ -13,7 +13,7 @@ use Rattle.t1_subset.specs.States.{Agree, joined, is_sought, name_state, state_o
 use Rattle.t1_subset.proofs.Kept.{InFont, keep_closed, part_here_from}
 use Rattle.t1_subset.proofs.Sets.{name_same, itself, here, later}
 use Rattle.t1_subset.proofs.States.{left_glyph, left_runs, glyph_in_join, seeks_it}
-use Rattle.t1_subset.proofs.Subset.{get-glyph, runs_alike}
+use Rattle.t1_subset.proofs.CutFonts.{get-glyph, runs_alike}
 
 -- functions that are alike on a list map it alike
 map_alike : {X : Type 0} (f g : List ℕ → X) (ps : List (List ℕ)) → ((p : List ℕ) → list_any (is_name p) ps ≡ true → f p ≡ g p) → map f ps ≡ map g ps

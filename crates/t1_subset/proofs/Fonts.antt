@@ -10,7 +10,7 @@ use Rattle.t1_subset.specs.States.{IsWithin, Join, joined_font}
 use Rattle.t1_subset.specs.Trees.{Tree, Leaf, Both, map_tree, EachLeaf, leaves, union_all, Merges}
 use Rattle.t1_subset.specs.Laws.{IsOf}
 use Rattle.t1_subset.proofs.Kept.{keep_closed}
-use Rattle.t1_subset.proofs.Merge.{join_is_subset, subsets_join}
+use Rattle.t1_subset.proofs.JoinOfSubsets.{join_is_subset, subsets_join}
 use Rattle.t1_subset.proofs.Trees.{all_alike, tree_merges}
 use Rattle.t1_subset.proofs.JoinedEntries.{joined_are_entries}
 use Rattle.t1_subset.proofs.Orders.{any_order, one_result, join_back}

@@ -10,9 +10,9 @@ use Rattle.t1_subset.specs.Interpreter.{Interpreter}
 use Rattle.t1_subset.specs.JoinedEntries.{past_stub, EntriesJoin}
 use Rattle.t1_subset.specs.States.{Agree, joined, is_called, state_of_entry, joined_font, Compatible, is_stub}
 use Rattle.t1_subset.proofs.Maps.{maps_same}
-use Rattle.t1_subset.proofs.Merge.{same_font}
+use Rattle.t1_subset.proofs.JoinOfSubsets.{same_font}
 use Rattle.t1_subset.proofs.States.{glyph_agree, subr_in_join}
-use Rattle.t1_subset.proofs.Subset.{stub_is}
+use Rattle.t1_subset.proofs.CutFonts.{stub_is}
 
 -- s and t: the entry is a stub; u and v: it is called
 joined_over : (e d : List ℕ) (s t u v : Bool) → (s ≡ true → e ≡ stub) → (t ≡ true → d ≡ stub) → Agree (cond (s && not u) None (Some e)) (cond (t && not v) None (Some d))

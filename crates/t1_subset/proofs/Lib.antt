@@ -2,8 +2,8 @@ pub mod Sets
 pub mod Kept
 pub mod Maps
 pub mod Flat
-pub mod Subset
-pub mod Merge
+pub mod CutFonts
+pub mod JoinOfSubsets
 pub mod Trees
 pub mod States
 pub mod Order
@@ -25,3 +25,4 @@ mod ClosedMarks
 mod NumberSets
 mod ExecutedCalls
 mod Absent
+mod SubsetCuts

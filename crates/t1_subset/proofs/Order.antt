@@ -13,10 +13,10 @@ use Rattle.t1_subset.specs.Interpreter.{Interpreter}
 use Rattle.t1_subset.specs.States.{IsWithin, is_called, is_sought, state_of_entry, subr_state, state_of_glyph, name_state, code_state, joined_font, Compatible, Join, Under, Below, is_stub}
 use Rattle.t1_subset.proofs.Flat.{under_self, under_trans, under_same, under_left, under_both, under_agree}
 use Rattle.t1_subset.proofs.Maps.{maps_same}
-use Rattle.t1_subset.proofs.Merge.{same_font}
+use Rattle.t1_subset.proofs.JoinOfSubsets.{same_font}
 use Rattle.t1_subset.proofs.Sets.{name_same}
 use Rattle.t1_subset.proofs.States.{entry_of, subr_joined, name_joined, code_joined, kind_joined, present_joined, font_back, compatible_back}
-use Rattle.t1_subset.proofs.Subset.{stub_is}
+use Rattle.t1_subset.proofs.CutFonts.{stub_is}
 
 kind_self : (e : Encoding) → SameKind e e
 kind_self (Word w) = refl

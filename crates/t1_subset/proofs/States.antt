@@ -15,7 +15,7 @@ use Rattle.t1_subset.specs.Keep.{parts}
 use Rattle.t1_subset.specs.States.{Agree, joined, is_called, is_sought, state_of_entry, subr_state, state_of_glyph, name_state, code_state, joined_font, Compatible, is_stub}
 use Rattle.t1_subset.proofs.Flat.{agree_back, joined_back, joined_some}
 use Rattle.t1_subset.proofs.Maps.{get-merged, maps_same, any_in, any_of}
-use Rattle.t1_subset.proofs.Merge.{same_font}
+use Rattle.t1_subset.proofs.JoinOfSubsets.{same_font}
 use Rattle.t1_subset.proofs.Sets.{name_same, or_cases, or_left, or_right}
 
 -- ---- both orders

@@ -11,7 +11,7 @@ use Rattle.t1_subset.specs.Interpreter.{Interpreter, Names}
 use Rattle.t1_subset.specs.Keep.{subset}
 use Rattle.t1_subset.specs.Laws.{IsOf}
 use Rattle.t1_subset.specs.Trees.{Tree, Leaf, Both, map_tree, EachLeaf, leaves, union_all, Merges}
-use Rattle.t1_subset.proofs.Merge.{join_is_subset, subsets_join}
+use Rattle.t1_subset.proofs.JoinOfSubsets.{join_is_subset, subsets_join}
 use Rattle.t1_subset.proofs.Sets.{name_same, in_union}
 
 -- the sets at the leaves together, as the tree groups them

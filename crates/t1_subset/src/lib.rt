@@ -8,7 +8,9 @@ pub mod laws;
 mod marks;
 mod names;
 mod needed;
+mod subsets;
 
 pub use closures::closure;
 pub use fault::SubsetFault;
 pub use needed::Closure;
+pub use subsets::subset;

@@ -1,4 +1,4 @@
-use Rattle.t1_subset.proofs.Subset.{bottom, sought_lacks}
+use Rattle.t1_subset.proofs.CutFonts.{bottom, sought_lacks}
 use Rattle.t1_subset.specs.Profile.{profile}
 use Rattle.t1_subset.proofs.laws.bottom.Goals as goal
 

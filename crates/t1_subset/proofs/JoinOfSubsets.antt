@@ -15,7 +15,7 @@ use Rattle.t1_subset.specs.States.{IsWithin, Agree, joined, is_sought, subr_stat
 use Rattle.t1_subset.proofs.Kept.{InFont, keep_union, kept_union}
 use Rattle.t1_subset.proofs.Maps.{get-merged, maps_same}
 use Rattle.t1_subset.proofs.Sets.{name_same}
-use Rattle.t1_subset.proofs.Subset.{get-subr, get-glyph, not_sought, no_subr, subr_state_of, agree_of, value_of, subset_weight, subset_glyphs}
+use Rattle.t1_subset.proofs.CutFonts.{get-subr, get-glyph, not_sought, no_subr, subr_state_of, agree_of, value_of, subset_weight, subset_glyphs}
 
 -- fonts with equal parts are equal
 pub same_font : (f g : FontValue) → f.shell ≡ g.shell → f.encoding ≡ g.encoding → f.subrs ≡ g.subrs → f.glyphs ≡ g.glyphs → f ≡ g

@@ -1,0 +1,36 @@
+//! Subsets of a font.
+
+ghost use Rattle.std.specs.Prelude.{◌≡◌, IfOk, IfErr, OnOk, None, not, List, ℕ, true};
+ghost use Rattle.std.specs.FinSet as sets;
+ghost use Rattle.t1_subset.specs.Profile.{profile};
+ghost use Rattle.t1_subset.specs.Keep.{has, keep, subset};
+ghost use Rattle.t1_subset.specs.Laws.{DrawsAlike};
+ghost use Rattle.t1_subset.specs.Conflicts.{first_where};
+ghost use Rattle.t1_subset.specs.Marks.{lent, asked};
+ghost use Rattle.t1_subset.specs.Refusals.{Absent};
+
+use crate::closures::closure;
+use crate::fault::SubsetFault;
+use std::alloc::Global;
+use t1_font::{Font, restrict};
+
+/// The font cut to what a set of names needs of it, its closure: its glyphs and a table Encoding cut to the
+/// names that are kept, and each present Subr that isn't kept replaced by the charstring `return`, so that
+/// its index stays present (Adobe Type 1 Font Format 1.1, chapters 2 and 8). All else is as it is. Each
+/// glyph that is kept draws as in the font, or faults as in it.
+///
+/// It fails with [`SubsetFault::NoSuchGlyph`] where the font lacks a name that is asked for, the first
+/// such, and else for want of memory alone.
+pub fn subset(alloc: Global, font: &Font, names: &[&[u8]]) -> Result<Font, SubsetFault>
+    ensures ok { IfOk result (λ s. s ≡ subset profile font.now (asked names.now)) }
+    ensures draws { IfOk result (λ s. (n : List ℕ) → sets.contains (keep profile font.now (asked names.now)) n ≡ true → DrawsAlike font.now s n) }
+    ensures present { OnOk result (first_where (λ n. not (has font.now n)) (lent names.now) ≡ None) }
+    ensures absent { IfErr result (λ e. Absent e (first_where (λ n. not (has font.now n)) (lent names.now))) }
+{
+    font.is_font();
+    let closure = closure(alloc, font, names)?;
+    match restrict(alloc, font, closure.names.as_slice(), &closure.subrs) {
+        Ok(font) => Ok(font),
+        Err(_) => Err(SubsetFault::Memory),
+    }
+}
