@@ -2,6 +2,7 @@ pub mod Count
 pub mod Inputs
 pub mod Runs
 pub mod Texts
+pub mod Subsets
 pub mod Answers
 pub mod Listings
 pub mod Fonts

@@ -39,7 +39,7 @@ pub(crate) fn read_font<R: Read>(alloc: Global, reader: &mut Counted<R>) -> Resu
 }
 
 // The canonical file of a font.
-fn font_file(alloc: Global, font: Font, form: Form) -> Result<Vec<u8>, AllocError>
+pub(crate) fn font_file(alloc: Global, font: Font, form: Form) -> Result<Vec<u8>, AllocError>
     ensures { IfOk result (λ text. file_answer form font ≡ Ok text.items) }
 {
     let text = write(alloc, &font, form)?;

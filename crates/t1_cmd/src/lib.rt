@@ -11,6 +11,7 @@ mod list;
 mod listings;
 mod reading;
 mod show;
+mod subsets;
 #[cfg(test)]
 mod tests;
 mod texts;
@@ -23,4 +24,5 @@ pub use list::run_list;
 pub use listings::run_join;
 pub use reading::{FILE_LIMIT, read_all};
 pub use show::run_show;
+pub use subsets::run_subset;
 pub use writing::{write_fault, write_text};

@@ -1,0 +1,74 @@
+//! The engine that subsets a font.
+ghost use Rattle.std.specs.Prelude.{◌≡◌, ◌+◌, ◌≤◌, ◌∷◌, [], List, ℕ, None, Ok, OnOk, IfOk, IfErr};
+ghost use Rattle.t1_subset.specs.Profile.{profile};
+ghost use Rattle.t1_subset.specs.Keep.{subset};
+ghost use Rattle.t1_subset.specs.Marks.{lent, asked};
+ghost use Rattle.t1_cmd.specs.Count.{calls_of, inner_of};
+ghost use Rattle.t1_cmd.specs.Inputs.{input_of, file_limit};
+ghost use Rattle.t1_cmd.specs.Runs.{RunEnds, Succeeds};
+ghost use Rattle.t1_cmd.specs.Answers.{Prints};
+ghost use Rattle.t1_cmd.specs.Fonts.{font_input};
+ghost use Rattle.t1_cmd.specs.DrawingText.{ShowStops};
+ghost use Rattle.t1_cmd.specs.Subsets.{first_absent, unless_absent, subset_answer};
+
+use crate::counting::Counted;
+use crate::faults::{Name, Reason, RunFault};
+use crate::fonts::{font_file, read_font};
+use crate::writing::write_text;
+use std::alloc::Global;
+use std::io::{Read, Write};
+use t1_font::{Font, Form};
+use t1_subset::{SubsetFault, subset};
+
+// The subset of a font.
+fn cut(alloc: Global, font: &Font, names: &[&[u8]]) -> Result<Font, RunFault>
+    ensures cut { IfOk result (λ s. s ≡ subset profile font.now (asked names.now)) }
+    ensures present { OnOk result (first_absent font.now (lent names.now) ≡ None) }
+    ensures refused { IfErr result (λ e. (text : List ℕ) → ShowStops (unless_absent (first_absent font.now (lent names.now)) text) e) }
+{
+    match subset(alloc, font, names) {
+        Ok(cut) => Ok(cut),
+        Err(SubsetFault::NoSuchGlyph { name }) => {
+            let name = Name::new(alloc, name.as_slice())?;
+            Err(RunFault::Refused(Reason::NoGlyph { name }))
+        }
+        Err(SubsetFault::Memory) => Err(RunFault::Refused(Reason::Memory)),
+    }
+}
+
+// The canonical file of a font's subset.
+fn subset_file(alloc: Global, font: Font, names: &[&[u8]], form: Form) -> Result<Vec<u8>, RunFault>
+    ensures text { IfOk result (λ text. subset_answer form (lent names.now) font ≡ Ok text.items) }
+    ensures refused { IfErr result (λ e. ShowStops (subset_answer form (lent names.now) font) e) }
+{
+    let cut = match cut(alloc, &font, names) {
+        Ok(cut) => cut,
+        Err(fault) => return Err(fault),
+    };
+    let text = font_file(alloc, cut, form)?;
+    Ok(text)
+}
+
+/// Writes the canonical file, in one of the two forms, of the subset of a font that keeps what these names need: their
+/// glyphs and `.notdef`, the parts of accented glyphs, and the Subrs that all of these execute. A name is without its
+/// `/`, and may be asked for more than once.
+///
+/// A file that is no font is refused before a name that the font lacks; of several such names the first is told, as
+/// [`Reason::NoGlyph`].
+pub fn run_subset<R: Read, W: Write>(
+    alloc: Global,
+    reader: &mut Counted<R>,
+    names: &[&[u8]],
+    form: Form,
+    writer: &mut Counted<W>,
+) -> Result<(), RunFault>
+    ensures ends { RunEnds font_input (Prints (subset_answer form (lent names.now))) W.contents
+        (input_of R.remaining reader.old reader.new ∷ []) writer.old writer.new result }
+    ensures succeeds { Succeeds font_input (Prints (subset_answer form (lent names.now)))
+        (input_of R.remaining reader.old reader.new ∷ []) writer.old writer.new result }
+    ensures turns { calls_of reader.new ≤ calls_of reader.old + (file_limit + 1) }
+{
+    let font = read_font(alloc, reader)?;
+    let text = subset_file(alloc, font, names, form)?;
+    write_text(writer, text.as_slice())
+}
