@@ -24,6 +24,27 @@ fn join_command<'a>(alloc: Global) -> Result<Command<'a>, AllocError> {
         .arg(word(alloc, "B", "The second listing"))
 }
 
+const SUBSET_HELP: &str = "\
+OUT is a font, as PFA, with the glyphs of these names, `.notdef`, the parts of accented glyphs, and the Subrs that all of \
+these execute. Each of its glyphs draws as in IN. A Subr that none of them executes stays as the one command `return`, so \
+that subsets of one font can be merged again. Without a NAME it keeps `.notdef` alone. A NAME that begins with `-` stands \
+after `--`, and each one may stand more than once. OUT is opened only after the result is complete.
+
+Example: t1subset subset font.pfb some.pfa A B Aacute";
+
+fn subset_command<'a>(alloc: Global) -> Result<Command<'a>, AllocError> {
+    let names = Arg::new(alloc, "NAME")
+        .num_args(0..)
+        .action(ArgAction::Append)
+        .help("The names of the glyphs that are kept, without their `/`");
+    Command::new(alloc, "subset")
+        .about("Writes a subset of a font that draws as the font")
+        .after_help(SUBSET_HELP)
+        .arg(word(alloc, "IN", "The font"))?
+        .arg(word(alloc, "OUT", "The file that is written"))?
+        .arg(names)
+}
+
 const CONVERT_HELP: &str = "\
 IN is a Type 1 font as PFA, PFB or with a raw binary cipher. OUT is its one canonical file in this form: kept texts as \
 they stand, tables in one layout, Subrs by index and glyphs by name, lead bytes zero, the trailer written anew. OUT is \
@@ -89,20 +110,29 @@ const PROGRAM_HELP: &str = "\
 Exit status: 0 done; 1 refused, with the reason on standard error; 2 the words don't parse; 3 a file doesn't open, \
 read or write.
 
-Example: t1subset pfb font.pfa font.pfb";
+Example: t1subset subset font.pfb some.pfa A B Aacute";
 
 fn program<'a>(alloc: Global) -> Result<Command<'a>, AllocError> {
     Command::new(alloc, "t1subset")
         .version("0.1.0")
-        .about("Checks, lists, shows and rewrites Type 1 fonts, and joins what their subsets carry")
+        .about("Subsets, checks, lists, shows and rewrites Type 1 fonts")
         .after_help(PROGRAM_HELP)
         .subcommand_required(true)
         .arg_required_else_help(true)
+        .subcommand(subset_command(alloc)?)?
         .subcommand(check_command(alloc)?)?
         .subcommand(list_command(alloc)?)?
         .subcommand(show_command(alloc)?)?
-        .subcommand(convert_command(alloc, "pfa", "Writes a font's canonical file as PFA, text and hexadecimal")?)?
-        .subcommand(convert_command(alloc, "pfb", "Writes a font's canonical file as PFB, in binary segments")?)?
+        .subcommand(convert_command(
+            alloc,
+            "pfa",
+            "Writes a font's canonical file as PFA, text and hexadecimal",
+        )?)?
+        .subcommand(convert_command(
+            alloc,
+            "pfb",
+            "Writes a font's canonical file as PFB, in binary segments",
+        )?)?
         .subcommand(join_command(alloc)?)
 }
 

@@ -1,13 +1,13 @@
 //! Performs what the words ask for.
 use crate::commands::parse;
 use clap::{ArgMatches, Error};
-use std::alloc::Global;
+use std::alloc::{AllocError, Global};
 use std::io::{ErrorKind, Write};
 use std::rt::Files;
 use std::{fs, io};
 use t1_cmd::{
-    Counted, Reason, RunFault, run_check, run_convert, run_join, run_list, run_show, status,
-    write_fault, write_text,
+    Counted, Reason, RunFault, run_check, run_convert, run_join, run_list, run_show, run_subset,
+    status, write_fault, write_text,
 };
 use t1_font::Form;
 
@@ -112,6 +112,29 @@ fn convert<R: Files>(
     save(rt, given.get_str("OUT").unwrap_or(""), text.as_slice())
 }
 
+/// The names that the words give, as bytes.
+fn names<'a>(alloc: Global, given: &ArgMatches<'a>) -> Result<Vec<&'a [u8]>, AllocError> {
+    let mut names = Vec::new(alloc);
+    for name in given.get_raw("NAME").unwrap_or(&[]) {
+        names.push(name.as_bytes())?;
+    }
+    Ok(names)
+}
+
+fn subset<R: Files>(rt: &R, alloc: Global, given: &ArgMatches<'_>) -> Result<(), RunFault> {
+    let names = names(alloc, given)?;
+    let mut input = font(rt, given)?;
+    let mut text = Vec::new(alloc);
+    run_subset(
+        alloc,
+        &mut input,
+        names.as_slice(),
+        Form::Pfa,
+        &mut Counted::new(&mut text),
+    )?;
+    save(rt, given.get_str("OUT").unwrap_or(""), text.as_slice())
+}
+
 fn perform<R: Files, O: Write + Drop>(
     rt: &R,
     alloc: Global,
@@ -119,6 +142,7 @@ fn perform<R: Files, O: Write + Drop>(
     out: O,
 ) -> Result<(), RunFault> {
     match matches.subcommand() {
+        Some(("subset", given)) => subset(rt, alloc, given),
         Some(("check", given)) => check(rt, alloc, given, out),
         Some(("list", given)) => list(rt, alloc, given, out),
         Some(("show", given)) => show(rt, alloc, given, out),
