@@ -49,10 +49,10 @@ fn push_subr(alloc: Global, out: &mut Vec<u8>, font: &Font, index: u16) -> Resul
 fn push_glyph(alloc: Global, out: &mut Vec<u8>, font: &Font, name: &[u8]) -> Result<(), AllocError>
     ensures { OnOk result (out.new.items ≡ out.old.items ++ line_at glyph_line name.now (fin.get font.now.glyphs name.now)) }
 {
-    if let Some(body) = font.glyph(name) {
+    if let Some(plain) = font.glyph(name) {
         out.extend_from_slice(b"glyph ")?;
         push_shown(out, name)?;
-        push_about(alloc, out, b" ", body.len())?;
+        push_about(alloc, out, b" ", plain.len())?;
         out.push(b'\n')?;
     }
     Ok(())

@@ -1,11 +1,15 @@
-mod conversions;
+mod changed;
+mod drawings;
+mod engines;
+mod prefixes;
 mod tiny;
 
-use crate::{Counted, Reason, RunFault, read_all, run_join, status, write_fault};
+use crate::{Counted, Name, Reason, RunFault, read_all, run_join, status, write_fault};
 use std::alloc::{AllocError, Global};
 use std::io;
 use std::io::{ErrorKind, Read, Write};
 use std::test::Fail;
+use t1_font::ReadFault;
 use t1_join::{JoinFault, ListFault};
 
 /// How a reader or a writer behaves: the most bytes of a call, and the call that fails.
@@ -276,6 +280,7 @@ fn each_write_fails(rt: HostRuntime) -> Result<(), Fail> {
 #[test]
 fn lines_of_faults(rt: HostRuntime) -> Result<(), Fail> {
     let name = b"A b\\\xff".to_vec(rt.alloc())?;
+    let lacked = Name::new(rt.alloc(), b"A\x7f")?;
     for (fault, want, code) in [
         (RunFault::Read, "failed: read\n", 3u8),
         (RunFault::Write, "failed: write\n", 3),
@@ -307,6 +312,16 @@ fn lines_of_faults(rt: HostRuntime) -> Result<(), Fail> {
         (
             RunFault::Refused(Reason::Join(JoinFault::Glyph { name })),
             "refused: glyph A\\x20b\\x5c\\xff differs\n",
+            1,
+        ),
+        (
+            RunFault::Refused(Reason::Font(ReadFault::BadGlyphs { at: 905 })),
+            "refused: bad CharStrings at 905\n",
+            1,
+        ),
+        (
+            RunFault::Refused(Reason::NoGlyph { name: lacked }),
+            "refused: no glyph A\\x7f\n",
             1,
         ),
     ] {

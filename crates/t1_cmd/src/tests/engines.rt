@@ -1,0 +1,355 @@
+//! The engines over one font: what they write of the font Tiny and of changed ones, and how they end.
+use super::changed::{private, tiny_and, tiny_changed, tiny_with, with_all};
+use super::tiny::{PFA, PFB};
+use super::{FINE, Plan, Sink, Source, line_of, word};
+use crate::{Counted, RunFault, run_check, run_convert, run_list, run_show};
+use std::alloc::{AllocError, Global};
+use std::io::{ErrorKind, Read, Write};
+use std::test::Fail;
+use t1_font::Form;
+
+/// An engine over one font.
+#[derive(Clone, Copy)]
+pub enum Engine<'a> {
+    Check,
+    List,
+    Show(&'a [u8]),
+    Convert(Form),
+}
+
+/// Runs an engine.
+pub fn run<R: Read, W: Write>(
+    alloc: Global,
+    engine: Engine<'_>,
+    reader: &mut Counted<R>,
+    writer: &mut Counted<W>,
+) -> Result<(), RunFault> {
+    match engine {
+        Engine::Check => run_check(alloc, reader, writer),
+        Engine::List => run_list(alloc, reader, writer),
+        Engine::Show(name) => run_show(alloc, reader, name, writer),
+        Engine::Convert(form) => run_convert(alloc, reader, form, writer),
+    }
+}
+
+/// What an engine writes of bytes in memory, or the line of its fault.
+pub fn answer(alloc: Global, engine: Engine<'_>, input: &[u8]) -> Vec<u8> {
+    let mut out = Vec::new(alloc);
+    let ended = run(
+        alloc,
+        engine,
+        &mut Counted::new(input),
+        &mut Counted::new(&mut out),
+    );
+    if ended.is_ok() {
+        return out;
+    }
+    if !out.is_empty() {
+        return Vec::new(alloc);
+    }
+    line_of(alloc, &ended)
+}
+
+const TINY_CHECKED: &[u8] = b"ok 11 glyphs, 10 subrs, weight 4936\n";
+
+#[test]
+fn tiny_is_checked(rt: HostRuntime) -> Result<(), Fail> {
+    let files: [(&[u8], &[u8], &str); 8] = [
+        (PFA, TINY_CHECKED, "the PFA file"),
+        (PFB, TINY_CHECKED, "the PFB file"),
+        (
+            &PFB[..1333],
+            TINY_CHECKED,
+            "a PFB file that ends after its cipher",
+        ),
+        (
+            &PFB[..1000],
+            b"refused: bad segment at 319\n",
+            "a PFB file that is cut off",
+        ),
+        (b"", b"refused: no eexec\n", "an empty file"),
+        (&PFA[..312], b"refused: no eexec\n", "through eexec"),
+        (
+            &PFA[..313],
+            b"refused: cipher too short\n",
+            "through eexec and LF",
+        ),
+        (b"\x80", b"refused: bad segment at 0\n", "one byte 128"),
+    ];
+    for (file, want, what) in files {
+        assert_eq!(rt;
+            answer(rt.alloc(), Engine::Check, file).as_slice(),
+            want,
+            "{what}"
+        );
+    }
+    let mut few = PFA[..313].to_vec(rt.alloc())?;
+    few.extend_from_slice(b"d9d6")?;
+    assert_eq!(rt;
+        answer(rt.alloc(), Engine::Check, few.as_slice()).as_slice(),
+        b"refused: cipher too short\n".as_slice()
+    );
+    Ok(())
+}
+
+#[test]
+fn changed_private_texts(rt: HostRuntime) -> Result<(), Fail> {
+    let rows: [(&[u8], &[u8], &[u8]); 9] = [
+        (
+            b"dup 0 15 RD ",
+            b"dup 0 3 RD ",
+            b"refused: bad Subrs at 269\n",
+        ),
+        (
+            b"/.notdef 9 RD ",
+            b"/.notdef 3 RD ",
+            b"refused: bad CharStrings at 546\n",
+        ),
+        (
+            b"/Subrs 10 array",
+            b"/Subrs 9 array",
+            b"refused: bad Subrs at 481\n",
+        ),
+        (b"/Subrs 10 array", b"/Subrs 65535 array", TINY_CHECKED),
+        (
+            b"/Subrs 10 array",
+            b"/Subrs 65536 array",
+            b"refused: over a limit\n",
+        ),
+        (
+            b"/Subrs 10 array",
+            b"/lenIV -1 def\n/Subrs 10 array",
+            b"refused: bad lenIV\n",
+        ),
+        (
+            b"2 index",
+            b"/Subrs 0 array ND 2 index",
+            b"refused: hybrid font\n",
+        ),
+        (b"/.notdef 9", b"/.notdeg 9", b"refused: no .notdef\n"),
+        (
+            b"/CharStrings 11 dict",
+            b"/CharStrings 3 dict",
+            TINY_CHECKED,
+        ),
+    ];
+    for (old, new, want) in rows {
+        let file = tiny_changed(rt.alloc(), old, new)?;
+        let got = answer(rt.alloc(), Engine::Check, file.as_slice());
+        assert_eq!(rt; got.as_slice(), want);
+    }
+    let y = b"\x8b\xf8\x88\x0d\x8b\x16\x90\x0a\x91\x0a\x09\x0e";
+    let file = tiny_and(rt.alloc(), b"X", y)?;
+    assert_eq!(rt;
+        answer(rt.alloc(), Engine::Check, file.as_slice()).as_slice(),
+        b"ok 11 glyphs, 10 subrs, weight 4933\n".as_slice(),
+        "a second X, with the bytes of Y"
+    );
+    Ok(())
+}
+
+#[test]
+fn changed_clear_texts(rt: HostRuntime) -> Result<(), Fail> {
+    let code = with_all(rt.alloc(), PFA, b"dup 65 /X put", b"dup 256 /X put")?;
+    assert_eq!(rt;
+        answer(rt.alloc(), Engine::Check, code.as_slice()).as_slice(),
+        b"refused: bad Encoding at 195\n".as_slice(),
+        "code 256"
+    );
+    let octal = with_all(rt.alloc(), PFA, b"dup 65 /X put", b"dup 8#101 /X put")?;
+    assert_eq!(rt;
+        answer(rt.alloc(), Engine::Convert(Form::Pfa), octal.as_slice()).as_slice(),
+        PFA.as_slice(),
+        "octal 101"
+    );
+    Ok(())
+}
+
+#[test]
+fn weights_at_the_limit(rt: HostRuntime) -> Result<(), Fail> {
+    let rows: [(usize, &[u8]); 2] = [
+        (16_772_280, b"ok 11 glyphs, 10 subrs, weight 16777216\n"),
+        (16_772_281, b"refused: over a limit\n"),
+    ];
+    for (more, want) in rows {
+        let mut file = Vec::with_capacity(rt.alloc(), 16_780_000)?;
+        file.resize(more, b' ')?;
+        file.extend_from_slice(PFA)?;
+        let got = answer(rt.alloc(), Engine::Check, file.as_slice());
+        assert_eq!(rt; got.as_slice(), want, "{more} blanks before the head");
+    }
+    Ok(())
+}
+
+#[test]
+fn tiny_in_both_forms(rt: HostRuntime) -> Result<(), Fail> {
+    let mut upper = Vec::from_slice(rt.alloc(), PFA)?;
+    for byte in &mut upper.as_mut_slice()[313..2357] {
+        *byte = if *byte == b'\n' {
+            b'\r'
+        } else {
+            byte.to_ascii_uppercase()
+        };
+    }
+    let files: [(&[u8], Form, &[u8], &str); 5] = [
+        (PFA, Form::Pfa, PFA, "pfa of the PFA file"),
+        (PFA, Form::Pfb, PFB, "pfb of the PFA file"),
+        (PFB, Form::Pfa, PFA, "pfa of the PFB file"),
+        (
+            &PFB[..1333],
+            Form::Pfb,
+            PFB,
+            "a PFB file that ends after its cipher",
+        ),
+        (upper.as_slice(), Form::Pfa, PFA, "upper case, and CR"),
+    ];
+    for (file, form, want, what) in files {
+        let got = answer(rt.alloc(), Engine::Convert(form), file);
+        assert_eq!(rt; got.as_slice(), want, "{what}");
+    }
+    assert_eq!(rt; PFA.len(), 2893);
+    assert_eq!(rt; PFB.len(), 1873);
+    let headers: [(usize, &[u8]); 4] = [
+        (0, b"\x80\x01\x39\x01\x00\x00"),
+        (319, b"\x80\x02\xf0\x03\x00\x00"),
+        (1333, b"\x80\x01\x14\x02\x00\x00"),
+        (1871, b"\x80\x03"),
+    ];
+    for (at, header) in headers {
+        let (_, rest) = PFB.split_at(at);
+        assert!(rt; rest.starts_with(header), "the header at {at}");
+    }
+    Ok(())
+}
+
+#[test]
+fn other_words_are_written_again(rt: HostRuntime) -> Result<(), Fail> {
+    let mut text = private(rt.alloc())?;
+    let words: [(&[u8], &[u8]); 3] = [(b"RD", b"-|"), (b"NP", b"|"), (b"ND", b"|-")];
+    for (old, new) in words {
+        text = with_all(rt.alloc(), text.as_slice(), old, new)?;
+    }
+    let file = tiny_with(rt.alloc(), text.as_slice())?;
+    let pfb = answer(rt.alloc(), Engine::Convert(Form::Pfb), file.as_slice());
+    let (_, binary) = pfb.as_slice().split_at(pfb.len().min(325));
+    let (_, cipher) = file.as_slice().split_at(313);
+    assert!(rt; binary.starts_with(cipher), "the tables' own words");
+    Ok(())
+}
+
+const TINY_LISTED: &[u8] = b"code 65 X
+code 66 Y
+code 194 H
+subr 0 11
+subr 1 5
+subr 2 5
+subr 3 1
+subr 4 8
+subr 5 3
+subr 6 3
+subr 7 4
+subr 8 0
+subr 9 3
+glyph .notdef 5
+glyph A 10
+glyph Aacute 14
+glyph B 14
+glyph F 46
+glyph H 11
+glyph L 7
+glyph N 14
+glyph X 15
+glyph Y 12
+glyph acute 10
+";
+
+#[test]
+fn fonts_are_listed(rt: HostRuntime) -> Result<(), Fail> {
+    assert_eq!(rt;
+        answer(rt.alloc(), Engine::List, PFB).as_slice(),
+        TINY_LISTED,
+        "Tiny"
+    );
+    let names: [(&[u8], &[u8], &str); 4] = [
+        (
+            b"\x7e\x21",
+            b"code 65 ~!\n",
+            "the last and the first byte as they are",
+        ),
+        (b"\x7f", b"code 65 \\x7f\n", "byte 127"),
+        (b"\x1f\xff", b"code 65 \\x1f\\xff\n", "bytes 31 and 255"),
+        (b"a\\", b"code 65 a\\x5c\n", "the backslash"),
+    ];
+    for (name, want, what) in names {
+        let mut put = Vec::from_slice(rt.alloc(), b"dup 65 /")?;
+        put.extend_from_slice(name)?;
+        let file = with_all(rt.alloc(), PFA, b"dup 65 /X", put.as_slice())?;
+        let got = answer(rt.alloc(), Engine::List, file.as_slice());
+        assert!(rt; got.as_slice().starts_with(want), "{what}");
+    }
+    let word = with_all(
+        rt.alloc(),
+        PFA,
+        b"/Encoding 256 array\n0 1 255 {1 index exch /.notdef put} for\ndup 65 /X put\ndup 66 /Y put\ndup 194 /H put\nreadonly def",
+        b"/Encoding Standard\\Encoding def",
+    )?;
+    let got = answer(rt.alloc(), Engine::List, word.as_slice());
+    assert!(rt;
+        got.as_slice()
+            .starts_with(b"encoding Standard\\x5cEncoding\nsubr 0 11\n"),
+        "one word"
+    );
+    Ok(())
+}
+
+#[test]
+fn each_read_fails(rt: HostRuntime) -> Result<(), Fail> {
+    for engine in ENGINES {
+        for fails in 1..9u64 {
+            let plan = Plan {
+                most: 500,
+                fails,
+                ..FINE
+            };
+            let mut reader = Source::new(PFA, plan);
+            let mut out = Counted::new(Sink::new(Vec::new(rt.alloc()), FINE));
+            let ended = run(rt.alloc(), engine, &mut reader, &mut out);
+            let want = if reader.failed() == 0 { "ok" } else { "read" };
+            assert_eq!(rt; word(&ended), want, "call {fails}");
+            assert_eq!(rt; out.calls() == 0, reader.failed() > 0, "call {fails}");
+        }
+    }
+    Ok(())
+}
+
+const ENGINES: [Engine; 4] = [
+    Engine::Check,
+    Engine::List,
+    Engine::Show(b"Aacute"),
+    Engine::Convert(Form::Pfb),
+];
+
+#[test]
+fn each_write_fails(rt: HostRuntime) -> Result<(), Fail> {
+    for engine in ENGINES {
+        let whole = answer(rt.alloc(), engine, PFA);
+        for (most, fails, kind) in [
+            (7usize, 1u64, ErrorKind::Other),
+            (7, 4, ErrorKind::Other),
+            (9, 3, ErrorKind::Interrupted),
+            (0, 0, ErrorKind::Other),
+        ] {
+            let room = Vec::with_capacity(rt.alloc(), 4096)?;
+            let mut out = Counted::new(Sink::new(room, Plan { most, fails, kind }));
+            let ended = run(rt.alloc(), engine, &mut Source::new(PFA, FINE), &mut out);
+            assert_eq!(rt; word(&ended), "write", "{most} bytes a call, call {fails}");
+            assert_eq!(rt; out.failed(), 1, "the first failed call is the last");
+            let text = out.into_inner().text;
+            assert!(rt;
+                whole.as_slice().starts_with(text.as_slice()),
+                "a prefix is out"
+            );
+        }
+    }
+    Ok(())
+}
