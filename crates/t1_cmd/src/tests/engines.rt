@@ -222,6 +222,15 @@ fn tiny_in_both_forms(rt: HostRuntime) -> Result<(), Fail> {
     Ok(())
 }
 
+/// What stands in a text from a place on.
+fn after(text: &[u8], place: usize) -> &[u8] {
+    if place <= text.len() {
+        &text[place..]
+    } else {
+        &[]
+    }
+}
+
 #[test]
 fn other_words_are_written_again(rt: HostRuntime) -> Result<(), Fail> {
     let mut text = private(rt.alloc())?;
@@ -231,9 +240,10 @@ fn other_words_are_written_again(rt: HostRuntime) -> Result<(), Fail> {
     }
     let file = tiny_with(rt.alloc(), text.as_slice())?;
     let pfb = answer(rt.alloc(), Engine::Convert(Form::Pfb), file.as_slice());
-    let (_, binary) = pfb.as_slice().split_at(pfb.len().min(325));
-    let (_, cipher) = file.as_slice().split_at(313);
-    assert!(rt; binary.starts_with(cipher), "the tables' own words");
+    assert!(rt;
+        after(pfb.as_slice(), 325).starts_with(after(file.as_slice(), 313)),
+        "the tables' own words"
+    );
     Ok(())
 }
 
