@@ -2,6 +2,7 @@ mod changed;
 mod drawings;
 mod engines;
 mod prefixes;
+mod subsets;
 mod tiny;
 
 use crate::{Counted, Name, Reason, RunFault, read_all, run_join, status, write_fault};

@@ -2,7 +2,7 @@
 use super::changed::{private, tiny_and, tiny_changed, tiny_with, with_all};
 use super::tiny::{PFA, PFB};
 use super::{FINE, Plan, Sink, Source, line_of, word};
-use crate::{Counted, RunFault, run_check, run_convert, run_list, run_show};
+use crate::{Counted, RunFault, run_check, run_convert, run_list, run_show, run_subset};
 use std::alloc::{AllocError, Global};
 use std::io::{ErrorKind, Read, Write};
 use std::test::Fail;
@@ -15,6 +15,7 @@ pub enum Engine<'a> {
     List,
     Show(&'a [u8]),
     Convert(Form),
+    Subset(&'a [&'a [u8]], Form),
 }
 
 /// Runs an engine.
@@ -29,6 +30,7 @@ pub fn run<R: Read, W: Write>(
         Engine::List => run_list(alloc, reader, writer),
         Engine::Show(name) => run_show(alloc, reader, name, writer),
         Engine::Convert(form) => run_convert(alloc, reader, form, writer),
+        Engine::Subset(names, form) => run_subset(alloc, reader, names, form, writer),
     }
 }
 
