@@ -1,4 +1,4 @@
-//! The font Tiny: its two files, changed files, and every prefix.
+//! The font Tiny: its two files, and changed files.
 
 use super::tiny::{PFA, PFB};
 use super::{fault, file, joined};
@@ -174,38 +174,4 @@ fn a_second_glyph_of_a_name(rt: HostRuntime) -> Result<(), Fail> {
     };
     assert_eq!(rt; counts, Some((11, 4933)), "X has the bytes of Y");
     Ok(())
-}
-
-#[test]
-fn prefixes_of_the_pfa(rt: HostRuntime) {
-    for n in 0..=PFA.len() {
-        let got = read(rt.alloc(), &PFA[..n]).err();
-        let right = match n {
-            0..=312 => got == Some(ReadFault::NoEexec),
-            313..=320 => got == Some(ReadFault::ShortCipher),
-            321..=1429 => got == Some(ReadFault::NoCharStrings),
-            1430 => got == Some(ReadFault::BadGlyphs { at: 546 }),
-            1431..=2163 => matches!(got, Some(ReadFault::BadGlyphs { .. })),
-            2164 => got == Some(ReadFault::BadGlyphs { at: 905 }),
-            2165..=2357 => got == Some(ReadFault::NoClosefile),
-            _ => got.is_none(),
-        };
-        assert!(rt; right, "{n} bytes");
-    }
-}
-
-#[test]
-fn prefixes_of_the_pfb(rt: HostRuntime) {
-    for n in 0..=PFB.len() {
-        let want = match n {
-            0 => Some(ReadFault::NoEexec),
-            1..=318 => Some(ReadFault::BadSegment { at: 0 }),
-            319 => Some(ReadFault::ShortCipher),
-            320..=1332 => Some(ReadFault::BadSegment { at: 319 }),
-            1334..=1870 => Some(ReadFault::BadSegment { at: 1333 }),
-            1872 => Some(ReadFault::BadSegment { at: 1871 }),
-            _ => None,
-        };
-        assert!(rt; read(rt.alloc(), &PFB[..n]).err() == want, "{n} bytes");
-    }
 }
