@@ -26,3 +26,5 @@ mod NumberSets
 mod ExecutedCalls
 mod Absent
 mod SubsetCuts
+mod FirstNames
+mod FirstConflicts

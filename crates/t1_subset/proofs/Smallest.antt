@@ -14,7 +14,7 @@ use Rattle.t1_subset.proofs.Sets.{or_cases, here, later, itself, tied}
 
 module _ {K : Type 0} {R : K → K → Ordering} (o : IsTotalOrder R) (same : IsAntisymmetric R) (p : K → Bool) where
   -- a key is below those that come later
-  below_later : {X : Type 0} (k q : K) (es : List (K × X)) → below_all R k es ≡ true → list_any (eq_by_cmp R q) (map (λ e. e.0) es) ≡ true → R k q ≡ Less
+  pub below_later : {X : Type 0} (k q : K) (es : List (K × X)) → below_all R k es ≡ true → list_any (eq_by_cmp R q) (map (λ e. e.0) es) ≡ true → R k q ≡ Less
   below_later k q [] b h = absurd (true≢false (sym h))
   below_later k q (e ∷ es) b h = elim (or_cases (eq_by_cmp R q e.0) (list_any (eq_by_cmp R q) (map (λ e. e.0) es)) h) [
     | inl a ↦ ap (R k) (tied o same q e.0 a) ∙ less_of (R k e.0) (first_so (is_lt (R k e.0)) (below_all R k es) b)

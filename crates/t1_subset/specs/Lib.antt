@@ -8,6 +8,7 @@ pub mod Outcomes
 pub mod Trees
 pub mod Conflicts
 pub mod Laws
+pub mod Differences
 pub mod Marks
 pub mod NameSets
 pub mod Marked

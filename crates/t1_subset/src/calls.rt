@@ -4,6 +4,7 @@ ghost use Rattle.std.specs.Prelude.{◌≡◌, IfOk, OnOk, ◌∷◌, []};
 ghost use Rattle.std.specs.FinSet as sets;
 ghost use Rattle.t1_subset.specs.Profile.{profile};
 ghost use Rattle.t1_subset.specs.Keep.{charstring, called_by};
+ghost use Rattle.t1_subset.specs.Conflicts.{executes};
 ghost use Rattle.t1_subset.specs.NameSets.{set_by, number_set};
 
 use std::alloc::{AllocError, Global};
@@ -22,7 +23,7 @@ fn add_all(calls: &mut BTreeSet<u16>, more: &BTreeSet<u16>) -> Result<(), AllocE
 }
 
 /// Adds the indices that a glyph of the font executes.
-fn add_calls(
+pub(crate) fn add_calls(
     alloc: Global,
     font: &Font,
     calls: &mut BTreeSet<u16>,
@@ -64,4 +65,23 @@ pub(crate) fn called_by(
         add_calls(alloc, font, &mut calls, name.as_slice())?;
     }
     Ok(calls)
+}
+
+/// Whether a glyph of the font executes the index.
+pub(crate) fn executed_by(
+    alloc: Global,
+    font: &Font,
+    name: &[u8],
+    index: u16,
+) -> Result<bool, AllocError>
+    ensures { IfOk result (λ is_used. is_used ≡ executes profile font.now name.now index) }
+{
+    font.is_font();
+    match font.glyph(name) {
+        Some(charstring) => {
+            let calls = executed(alloc, font, charstring)?;
+            Ok(calls.contains(&index))
+        }
+        None => Ok(false),
+    }
 }

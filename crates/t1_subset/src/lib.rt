@@ -3,14 +3,19 @@
 
 mod calls;
 mod closures;
+mod conflict;
+mod entries;
 mod fault;
 pub mod laws;
 mod marks;
 mod names;
 mod needed;
+mod shells;
 mod subsets;
+mod users;
 
 pub use closures::closure;
+pub use conflict::{Conflict, ShellPart};
 pub use fault::SubsetFault;
 pub use needed::Closure;
 pub use subsets::subset;

@@ -1,0 +1,88 @@
+-- The smallest conflicts, by what the code has found.
+use Rattle.std.proofs.Common.{◌≡◌, ℕ, ◌<◌, ◌≤◌, Bool, true, false, not, beq, cond, List, refl, sym, ◌∙◌, ap, subst, true≢false, Option, Some, None, is_some, inl, inr, arith, nat_cmp, Less, Ordering, nat_lt}
+use Rattle.std.proofs.lemmas.Bool.{ltb-true, ltb-false}
+use Rattle.std.specs.Ordering.{match_ordering, MatchOrdering}
+use Rattle.std.specs.Cmp.{nat_cmp_total, ranks}
+use Rattle.std.specs.Cmp.Lexicographic.{nat_list_cmp_total}
+use Rattle.std.specs.FinSet.{nat_cmp-IsAntisymmetric}
+use Rattle.std.specs.FinMap as maps
+use Rattle.t1_font.specs.FontValue.{FontValue, Encoding, Word, Codes, declared_count}
+use Rattle.t1_font.specs.FontModel.{name_at, subr_at}
+use Rattle.t1_font.specs.IsFont.{IsFont, IsEncoding}
+use Rattle.t1_font.proofs.FontReaders.{subrs_seen}
+use Rattle.t1_subset.specs.Conflicts.{agrees, first_where, smallest, members, same_keys, keys_of_both, codes_of_both, code_clashes, code_conflict, glyph_clashes, glyph_conflict, glyph_names}
+use Rattle.t1_subset.specs.States.{code_state}
+use Rattle.t1_subset.proofs.Conflicts.{keys_so, so_keys, passes_none, in_both}
+use Rattle.t1_subset.proofs.Smallest.{smallest_is}
+use Rattle.t1_subset.proofs.FirstNames.{first_is_smallest}
+use Rattle.t1_subset.proofs.Sets.{is_or_not, not_so, or_left, name_same}
+
+-- what does not join is there
+pub there_of : (x y : Option (List ℕ)) → not (agrees x y) ≡ true → is_some x ≡ true
+there_of None y h = absurd (true≢false (sym h))
+there_of (Some v) y h = refl
+
+-- ---- presence
+
+pub absent_beyond : (f : FontValue) → IsFont f → (q : ℕ) → declared_count f.shell.subrs ≤ q → maps.get f.subrs q ≡ None
+absent_beyond f h q l = sym (subrs_seen f h q) ∙ (elim (is_or_not (nat_lt q (declared_count f.shell.subrs))) [
+  | inl a ↦ absurd (let k = ltb-true q (declared_count f.shell.subrs) a in omega arith)
+  | inr b ↦ ap (λ t. cond t (maps.get f.subrs q) None) b
+])
+
+pub keys_differ : (f g : FontValue) (k : ℕ) → (maps.contains_key f.subrs k ≡ maps.contains_key g.subrs k → ⊥) → false ≡ same_keys f.subrs g.subrs
+keys_differ f g k h = sym (not_so (same_keys f.subrs g.subrs) (λ s. h (keys_so nat_cmp_total nat_cmp-IsAntisymmetric f.subrs g.subrs s k)))
+
+pub keys_alike : (f g : FontValue) → IsFont f → IsFont g → (end : ℕ) → declared_count f.shell.subrs ≤ end → declared_count g.shell.subrs ≤ end
+    → ((k : ℕ) → k < end → maps.contains_key f.subrs k ≡ maps.contains_key g.subrs k) → true ≡ same_keys f.subrs g.subrs
+keys_alike f g h k end a b below = sym (so_keys nat_cmp_total nat_cmp-IsAntisymmetric f.subrs g.subrs (λ q. elim (is_or_not (nat_lt q end)) [
+  | inl l ↦ below q (ltb-true q end l)
+  | inr l ↦
+      let far : end ≤ q = ltb-false q end l in
+      ap is_some (absent_beyond f h q (omega arith)) ∙ sym (ap is_some (absent_beyond g k q (omega arith)))
+]))
+
+-- ---- codes
+
+pub below_of : (q k : ℕ) → nat_cmp q k ≡ Less → q < k
+below_of q k h = subst (λ (o : Ordering). MatchOrdering o (q < k) (q ≡ k) (k < q)) h (ranks q k)
+
+pub named_so : (e : Encoding) (c : ℕ) → name_at e c ≡ code_state e c
+named_so (Word w) c = refl
+named_so (Codes t) c = refl
+
+code_there : (d e : Encoding) (c : ℕ) → not (agrees (code_state d c) (code_state e c)) ≡ true → maps.contains_key (codes_of_both d e) c ≡ true
+code_there (Word v) e c h = absurd (true≢false (sym h))
+code_there (Codes s) (Word w) c h = absurd (no_clash (maps.get s c) h)
+  where
+    no_clash : (x : Option (List ℕ)) → not (agrees x None) ≡ true → ⊥
+    no_clash None h = true≢false (sym h)
+    no_clash (Some v) h = true≢false (sym h)
+code_there (Codes s) (Codes t) c h = in_both nat_cmp_total nat_cmp-IsAntisymmetric s t c ∙ or_left (maps.contains_key s c) (maps.contains_key t c) (there_of (maps.get s c) (maps.get t c) h)
+
+pub first_code : (f g : FontValue) (c : ℕ) → code_clashes f g c ≡ true → ((k : ℕ) → k < c → code_clashes f g k ≡ false) → Some c ≡ code_conflict f g
+first_code f g c h below = sym (smallest_is nat_cmp_total nat_cmp-IsAntisymmetric (code_clashes f g) (codes_of_both f.encoding g.encoding) c (code_there f.encoding g.encoding c h) h (λ q w l. below q (below_of q c l)))
+
+no_name : (e : Encoding) → IsEncoding e → (c : ℕ) → 256 ≤ c → (x : Option (List ℕ)) → code_state e c ≡ x → x ≡ None
+no_name e h c l None is = refl
+no_name (Word w) h c l (Some n) is = sym is
+no_name (Codes t) h c l (Some n) is = absurd (let k = (h c n is).code in omega arith)
+
+pub no_code : (f g : FontValue) → IsFont f → ((k : ℕ) → k < 256 → code_clashes f g k ≡ false) → None ≡ code_conflict f g
+no_code f g h below = sym (passes_none (code_clashes f g) (members (codes_of_both f.encoding g.encoding)) (λ c. elim (is_or_not (nat_lt c 256)) [
+  | inl l ↦ below c (ltb-true c 256 l)
+  | inr l ↦ ap (λ x. not (agrees x (code_state g.encoding c))) (no_name f.encoding h.encoding c (ltb-false c 256 l) (code_state f.encoding c) refl)
+]))
+
+-- ---- glyphs
+
+pub first_glyph : (f g : FontValue) (x : Option (List ℕ)) → first_where (glyph_clashes f g) (maps.keys f.glyphs) ≡ x → x ≡ glyph_conflict f g
+first_glyph f g x h = first_is_smallest nat_list_cmp_total name_same (glyph_clashes f g) f.glyphs (λ q w. there_of (maps.get f.glyphs q) (maps.get g.glyphs q) w) (glyph_names f g)
+    (λ q w. in_both nat_list_cmp_total name_same f.glyphs g.glyphs q ∙ or_left (maps.contains_key f.glyphs q) (maps.contains_key g.glyphs q) (there_of (maps.get f.glyphs q) (maps.get g.glyphs q) w)) x h
+
+-- two tests that differ are not the same
+pub unequal : (a b : Bool) → not (beq a b) ≡ true → a ≡ b → ⊥
+unequal true true h e = true≢false (sym h)
+unequal false false h e = true≢false (sym h)
+unequal true false h e = true≢false e
+unequal false true h e = true≢false (sym e)

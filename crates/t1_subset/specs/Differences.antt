@@ -1,0 +1,34 @@
+-- How the code sees what differs in two fonts.
+use Rattle.std.specs.Prelude.{ℕ, Bool, cond, not, ◌&&◌, List, Option, Some, None}
+use Rattle.std.specs.Global.{Vec}
+use Rattle.std.specs.declared.cmp.Ordering.{Ordering}
+use Rattle.std.specs.Ordering.{is_lt}
+use Rattle.t1_subset.specs.declared.conflict.ShellPart.{ShellPart as Part}
+use Rattle.t1_subset.specs.declared.conflict.ShellPart.TheVariants as part
+use Rattle.t1_subset.specs.Conflicts.{ShellPart, Head, EncodingPart, ClearTail, Private, SubrsTable, SubrsWords, Middle, GlyphsWords, Tail}
+use Rattle.t1_subset.specs.States.{is_stub}
+
+abbrev pub shell_part : Part → ShellPart
+shell_part part.Head = Head
+shell_part part.Encoding = EncodingPart
+shell_part part.ClearTail = ClearTail
+shell_part part.Private = Private
+shell_part part.SubrsTable = SubrsTable
+shell_part part.SubrsWords = SubrsWords
+shell_part part.Middle = Middle
+shell_part part.GlyphsWords = GlyphsWords
+shell_part part.Tail = Tail
+
+abbrev pub bytes_of : Vec ℕ → List ℕ
+bytes_of v = v.items
+
+-- the state of an entry, by whether it is called
+abbrev pub state_by : Bool → Option (List ℕ) → Option (List ℕ)
+state_by called None = None
+state_by called (Some c) = cond (is_stub c && not called) None (Some c)
+
+-- the smaller of two, where they are there
+abbrev pub smaller : {K : Type 0} → (K → K → Ordering) → Option K → Option K → Option K
+smaller R None y = y
+smaller R (Some m) None = Some m
+smaller R (Some m) (Some n) = cond (is_lt (R n m)) (Some n) (Some m)

@@ -1,0 +1,61 @@
+//! Why two fonts do not join.
+
+use std::fmt::{Display, Formatter, Result as FmtResult};
+
+/// A part of a font's shell, in the order in which parts are compared.
+#[derive(Clone, Copy, PartialEq, Eq, Debug)]
+pub enum ShellPart {
+    /// The clear text before the Encoding.
+    Head,
+    /// The Encoding: a word and a table, or two words that differ.
+    Encoding,
+    /// The clear text after the Encoding.
+    ClearTail,
+    /// The private text before Subrs, and lenIV.
+    Private,
+    /// Whether Subrs are there, how many are declared, and which indices are present.
+    SubrsTable,
+    /// The kept words and phrases of Subrs.
+    SubrsWords,
+    /// The private text between Subrs and CharStrings.
+    Middle,
+    /// The kept word and phrase of CharStrings.
+    GlyphsWords,
+    /// The private text after CharStrings.
+    Tail,
+}
+
+/// Why two fonts do not join. The lowest conflict is told, in the order of the variants up to `Limit`, and of
+/// a kind that with the smallest part, code, name or index; names compare by their bytes.
+#[derive(PartialEq, Eq, Debug, Drop)]
+pub enum Conflict {
+    /// This part of the shells differs, the first such.
+    Shell {
+        part: ShellPart,
+    },
+    /// Both Encodings are tables that have the code, with different names.
+    Code {
+        code: u8,
+    },
+    /// Both fonts have the name, with different charstrings.
+    Glyph {
+        name: Vec<u8>,
+    },
+    /// One font lacks the part, which this glyph of its own names, the smallest such; the other font has it.
+    Part {
+        glyph: Vec<u8>,
+        part: Vec<u8>,
+    },
+    /// The entries of the Subr differ, and neither is a `return` that no glyph of its font executes. The glyph
+    /// is the smallest of either font that executes the index there, where one does.
+    Subr {
+        index: u16,
+        glyph: Option<Vec<u8>>,
+    },
+    /// The joined font would weigh too much or have too many glyphs.
+    Limit,
+    /// A growth was refused.
+    Memory,
+    /// There are no fonts to merge.
+    Empty,
+}

@@ -1,0 +1,108 @@
+//! The smallest Subr at which two fonts differ, and the smallest glyph that executes it.
+
+ghost use Rattle.std.specs.Prelude.{◌≡◌, IfOk};
+ghost use Rattle.std.specs.Option.{option_map};
+ghost use Rattle.std.specs.FinSet as sets;
+ghost use Rattle.t1_font.specs.FontValue.{name_cmp};
+ghost use Rattle.t1_font.specs.FontModel.{names_in};
+ghost use Rattle.t1_subset.specs.Profile.{profile};
+ghost use Rattle.t1_subset.specs.Keep.{charstring};
+ghost use Rattle.t1_subset.specs.Conflicts.{first_where, smallest, executes, subr_conflict, used_by, glyph_names};
+ghost use Rattle.t1_subset.specs.Differences.{bytes_of, state_by, smaller};
+ghost use Rattle.t1_subset.specs.NameSets.{number_set, called_in};
+
+use crate::calls::{add_calls, executed_by};
+use crate::shells::differ;
+use std::alloc::{AllocError, Global};
+use std::collections::BTreeSet;
+use t1_font::Font;
+use t1_run::Subroutines;
+
+/// The charstring `return`, which stands for a Subr that is not kept.
+const STUB: &[u8] = &[11];
+
+/// The indices that the glyphs of the font execute.
+fn all_calls(alloc: Global, font: &Font) -> Result<BTreeSet<u16>, AllocError>
+    ensures { IfOk result (λ calls. number_set calls ≡ called_in font.now) }
+{
+    let mut calls = BTreeSet::new(alloc);
+    'names: for name in font.names() {
+        add_calls(alloc, font, &mut calls, name)?;
+    }
+    Ok(calls)
+}
+
+/// The state of an entry: none where it is `return` and not executed.
+fn state(entry: Option<&[u8]>, is_called: bool) -> Option<&[u8]>
+    ensures { option_map (λ b. b.now) result ≡ state_by is_called (option_map (λ b. b.now) entry.entry) }
+{
+    match entry {
+        Some(body) if body == STUB && !is_called => None,
+        entry => entry,
+    }
+}
+
+/// The smallest index at which the states of both fonts don't join.
+pub(crate) fn subr_conflict(
+    alloc: Global,
+    left: &Font,
+    right: &Font,
+) -> Result<Option<u16>, AllocError>
+    ensures { IfOk result (λ index. index ≡ subr_conflict profile left.now right.now) }
+{
+    left.is_font();
+    right.is_font();
+    let left_calls = all_calls(alloc, left)?;
+    let right_calls = all_calls(alloc, right)?;
+    'indices: for index in 0..left.count() {
+        let own = state(left.get(index), left_calls.contains(&index));
+        let other = state(right.get(index), right_calls.contains(&index));
+        if differ(own, other) {
+            return Ok(Some(index));
+        }
+    }
+    Ok(None)
+}
+
+/// The smaller of two names, where they are there.
+pub(crate) fn smaller(first: Option<Vec<u8>>, second: Option<Vec<u8>>) -> Option<Vec<u8>>
+    ensures { option_map bytes_of result ≡ smaller name_cmp (option_map bytes_of first) (option_map bytes_of second) }
+{
+    match (first, second) {
+        (Some(first), Some(second)) => {
+            if second < first {
+                Some(second)
+            } else {
+                Some(first)
+            }
+        }
+        (None, second) => second,
+        (first, None) => first,
+    }
+}
+
+/// The smallest glyph of the font that executes the index.
+fn first_user(alloc: Global, font: &Font, index: u16) -> Result<Option<Vec<u8>>, AllocError>
+    ensures { IfOk result (λ name. option_map bytes_of name ≡ first_where (λ n. executes profile font.now n index) (names_in font.now.glyphs)) }
+{
+    'names: for name in font.names() {
+        if executed_by(alloc, font, name, index)? {
+            return Ok(Some(Vec::from_slice(alloc, name)?));
+        }
+    }
+    Ok(None)
+}
+
+/// The smallest glyph of either font that executes the index there.
+pub(crate) fn user(
+    alloc: Global,
+    left: &Font,
+    right: &Font,
+    index: u16,
+) -> Result<Option<Vec<u8>>, AllocError>
+    ensures { IfOk result (λ name. option_map bytes_of name ≡ smallest (used_by profile left.now right.now index) (glyph_names left.now right.now)) }
+{
+    let own = first_user(alloc, left, index)?;
+    let other = first_user(alloc, right, index)?;
+    Ok(smaller(own, other))
+}
