@@ -1,6 +1,7 @@
 -- The smallest conflicts, by what the code has found.
-use Rattle.std.proofs.Common.{◌≡◌, ℕ, ◌<◌, ◌≤◌, Bool, true, false, not, beq, cond, List, refl, sym, ◌∙◌, ap, subst, true≢false, Option, Some, None, is_some, inl, inr, arith, nat_cmp, Less, Ordering, nat_lt}
+use Rattle.std.proofs.Common.{◌≡◌, ℕ, ◌<◌, ◌≤◌, Bool, true, false, not, cond, List, refl, sym, ◌∙◌, ap, subst, true≢false, Option, Some, None, is_some, inl, inr, arith, nat_cmp, Less, Ordering, nat_lt}
 use Rattle.std.proofs.lemmas.Bool.{ltb-true, ltb-false}
+use Rattle.std.specs.Bool.{beq}
 use Rattle.std.specs.Ordering.{match_ordering, MatchOrdering}
 use Rattle.std.specs.Cmp.{nat_cmp_total, ranks}
 use Rattle.std.specs.Cmp.Lexicographic.{nat_list_cmp_total}

@@ -28,3 +28,4 @@ mod Absent
 mod SubsetCuts
 mod FirstNames
 mod FirstConflicts
+mod SetUnions

@@ -11,5 +11,6 @@ pub mod Laws
 pub mod Differences
 pub mod Marks
 pub mod NameSets
+pub mod Lacking
 pub mod Marked
 pub mod Refusals

@@ -1,8 +1,9 @@
 -- Sets of names and of indices in memory.
-use Rattle.std.specs.Prelude.{ℕ, List, flat_map}
+use Rattle.std.specs.Prelude.{◌≡◌, ℕ, true, List, flat_map}
+use Rattle.std.specs.declared.cmp.Ordering.TheVariants.{Less}
 use Rattle.std.specs.Global.{Vec}
 use Rattle.std.specs.Coded.{Coded, coded_list, coded_ℕ}
-use Rattle.t1_font.specs.FontValue.{FontValue}
+use Rattle.t1_font.specs.FontValue.{FontValue, name_cmp}
 use Rattle.t1_font.specs.FontModel.{names_in}
 use Rattle.std.specs.BTreeSet.{BTreeSet}
 use Rattle.std.specs.FinSet as sets
@@ -25,3 +26,8 @@ number_set s = sets.from_list s.keys
 -- the indices that the glyphs of a font execute
 abbrev pub called_in : FontValue → Numbers
 called_in f = sets.from_list (flat_map (λ n. sets.items (profile.exec f.subrs (charstring f n))) (names_in f.glyphs))
+
+-- a name of the set, of which none is smaller
+pub record IsLeast (s : Names) (n : List ℕ) : Type 0 where
+  pub there : sets.contains s n ≡ true
+  pub least : (q : List ℕ) → sets.contains s q ≡ true → name_cmp q n ≡ Less → ⊥

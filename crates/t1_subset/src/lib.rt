@@ -6,6 +6,7 @@ mod closures;
 mod conflict;
 mod entries;
 mod fault;
+mod lacking;
 pub mod laws;
 mod marks;
 mod names;

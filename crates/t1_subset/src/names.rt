@@ -1,11 +1,11 @@
 //! Sets of names.
 
-ghost use Rattle.std.specs.Prelude.{◌≡◌, IfOk, OnOk, OnErr};
+ghost use Rattle.std.specs.Prelude.{◌≡◌, IfOk, OnOk, OnErr, MatchOption};
 ghost use Rattle.std.specs.FinSet as sets;
 ghost use Rattle.std.specs.List.Sorted.{IsStrictlySortedBy};
 ghost use Rattle.t1_font.specs.FontValue.{name_cmp};
 ghost use Rattle.t1_subset.specs.Marks.{names_of};
-ghost use Rattle.t1_subset.specs.NameSets.{set_by};
+ghost use Rattle.t1_subset.specs.NameSets.{set_by, IsLeast};
 
 use std::alloc::{AllocError, Global};
 use std::collections::BTreeSet;
@@ -64,5 +64,13 @@ impl NameSet {
             names.push(name)?;
         }
         Ok(names)
+    }
+
+    /// The first of the names, where there is one.
+    pub(crate) fn into_first(self) -> Option<Vec<u8>>
+        ensures { MatchOption result (self ≡ sets.empty) (λ name. IsLeast self name.items) }
+    {
+        let mut names = self.names;
+        names.pop_first()
     }
 }

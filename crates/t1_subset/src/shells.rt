@@ -25,7 +25,7 @@ const PARTS: [ShellPart; 9] = [
 ];
 
 /// Whether two byte strings are the same.
-fn same_bytes(left: &[u8], right: &[u8]) -> bool
+pub(crate) fn same_bytes(left: &[u8], right: &[u8]) -> bool
     ensures { result ≡ is_name left.now right.now }
 {
     left == right

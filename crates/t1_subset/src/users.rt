@@ -70,7 +70,7 @@ pub(crate) fn smaller(first: Option<Vec<u8>>, second: Option<Vec<u8>>) -> Option
 {
     match (first, second) {
         (Some(first), Some(second)) => {
-            if second < first {
+            if second.cmp(&first).is_lt() {
                 Some(second)
             } else {
                 Some(first)

@@ -1,0 +1,46 @@
+-- Unions of sets, as members come to them one after another.
+use Rattle.std.proofs.Common.{◌≡◌, Bool, true, false, ◌||◌, List, [], ◌∷◌, ◌++◌, refl, sym, ◌∙◌, ap, Ordering}
+use Rattle.std.proofs.Math.Bool.{or_assoc}
+use Rattle.std.proofs.lemmas.List.Folds.{list_any-append}
+use Rattle.std.specs.List.{list_any}
+use Rattle.std.specs.Ordering.{eq_by_cmp}
+use Rattle.std.specs.Cmp.{IsTotalOrder}
+use Rattle.std.specs.FinSet as sets
+use Rattle.std.specs.FinSet.{FinSet, IsAntisymmetric}
+
+or_none : (a : Bool) → (a || false) ≡ a
+or_none true = refl
+or_none false = refl
+
+or_swapped : (a b c : Bool) → ((a || b) || c) ≡ (b || (a || c))
+or_swapped true true c = refl
+or_swapped true false c = refl
+or_swapped false b c = refl
+
+module _ {K : Type 0} {R : K → K → Ordering} (o : IsTotalOrder R) (alike : IsAntisymmetric R) where
+  abbrev of : List K → FinSet R
+  of ks = sets.from_list ks
+
+  same : (s t : FinSet R) → ((q : K) → sets.contains s q ≡ sets.contains t q) → s ≡ t
+  same s t h = sets.same_set o alike s t h
+
+  -- a member that comes to the set comes from what is left
+  pub insert_union : (s : FinSet R) (k : K) (left : List K) → sets.union (sets.insert s k) (of left) ≡ sets.union s (of (k ∷ left))
+  insert_union s k left = same _ _ (λ q.
+      sets.contains-union o (sets.insert s k) (of left) q
+      ∙ (λ i. sets.contains-insert o s k q i || sets.contains-from_list o left q i)
+      ∙ or_swapped (eq_by_cmp R q k) (sets.contains s q) (list_any (eq_by_cmp R q) left)
+      ∙ ap (λ b. sets.contains s q || b) (sym (sets.contains-from_list o (k ∷ left) q))
+      ∙ sym (sets.contains-union o s (of (k ∷ left)) q))
+
+  -- a list that comes to the set comes from what is left
+  pub list_union : (s new : FinSet R) (ks left : List K) → new ≡ sets.union s (of ks) → sets.union new (of left) ≡ sets.union s (of (ks ++ left))
+  list_union s new ks left e = same _ _ (λ q.
+      sets.contains-union o new (of left) q
+      ∙ (λ i. (ap (λ (t : FinSet R). sets.contains t q) e ∙ sets.contains-union o s (of ks) q) i || sets.contains-from_list o left q i)
+      ∙ or_assoc (sets.contains s q) (sets.contains (of ks) q) (list_any (eq_by_cmp R q) left)
+      ∙ ap (λ b. sets.contains s q || b) ((λ i. sets.contains-from_list o ks q i || list_any (eq_by_cmp R q) left) ∙ sym (list_any-append (eq_by_cmp R q) ks left) ∙ sym (sets.contains-from_list o (ks ++ left) q))
+      ∙ sym (sets.contains-union o s (of (ks ++ left)) q))
+
+  pub union_none : (s : FinSet R) → sets.union s (of []) ≡ s
+  union_none s = same _ _ (λ q. sets.contains-union o s (of []) q ∙ ap (λ b. sets.contains s q || b) (sets.contains-from_list o [] q) ∙ or_none (sets.contains s q))
