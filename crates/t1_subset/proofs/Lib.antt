@@ -29,3 +29,4 @@ mod SubsetCuts
 mod FirstNames
 mod FirstConflicts
 mod SetUnions
+mod LackingParts

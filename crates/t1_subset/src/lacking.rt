@@ -1,6 +1,6 @@
 //! The smallest part that one font lacks and needs and the other has, and the smallest glyph that names it.
 
-ghost use Rattle.std.specs.Prelude.{◌≡◌, IfOk, OnOk, [], map, filter};
+ghost use Rattle.std.specs.Prelude.{◌≡◌, IfOk, OnOk, [], ◌∷◌, map, filter};
 ghost use Rattle.std.specs.Option.{option_map, unwrap_or};
 ghost use Rattle.std.specs.FinSet as sets;
 ghost use Rattle.std.specs.List.{list_any};
@@ -19,6 +19,30 @@ use crate::users::smaller;
 use std::alloc::{AllocError, Global};
 use t1_font::Font;
 
+/// Whether the font lacks the name, and the other has it.
+fn lacks(font: &Font, other: &Font, name: &[u8]) -> bool
+    ensures { result ≡ lacks font.now other.now name.now }
+{
+    !has_glyph(font, name) && has_glyph(other, name)
+}
+
+/// Adds the part, where the font lacks it and the other font has it.
+fn add_if_lacking(
+    alloc: Global,
+    font: &Font,
+    other: &Font,
+    lacking: &mut NameSet,
+    part: &[u8],
+) -> Result<(), AllocError>
+    ensures { OnOk result (lacking.new ≡ sets.union lacking.old (sets.from_list (filter (lacks font.now other.now) (part.now ∷ [])))) }
+{
+    if !lacks(font, other, part) {
+        return Ok(());
+    }
+    lacking.insert(Vec::from_slice(alloc, part)?)?;
+    Ok(())
+}
+
 /// Adds those of these parts that the font lacks and the other font has.
 fn add_lacking_of(
     alloc: Global,
@@ -30,9 +54,7 @@ fn add_lacking_of(
     ensures { OnOk result (lacking.new ≡ sets.union lacking.old (sets.from_list (filter (lacks font.now other.now) (map (λ s. s.now) parts.now)))) }
 {
     'parts: for part in parts {
-        if !has_glyph(font, part.as_bytes()) && has_glyph(other, part.as_bytes()) {
-            lacking.insert(Vec::from_slice(alloc, part.as_bytes())?)?;
-        }
+        add_if_lacking(alloc, font, other, lacking, part.as_bytes())?;
     }
     Ok(())
 }
