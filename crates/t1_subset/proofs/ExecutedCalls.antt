@@ -68,7 +68,7 @@ module _ (f : FontValue) (i : ℕ) where
   to_called : sets.contains (called_in f) i ≡ true → is_called profile f i ≡ true
   to_called h =
       let one = any_one nat_list_cmp_total name_same among (names_in f.glyphs)
-          (any_flat nat_cmp_total nat_cmp-IsAntisymmetric (λ n. sets.items (calls_by f n)) i (names_in f.glyphs) (in_list nat_cmp_total nat_cmp-IsAntisymmetric (calls_of f (names_in f.glyphs)) i h)) in
+      (any_flat nat_cmp_total nat_cmp-IsAntisymmetric (λ n. sets.items (calls_by f n)) i (names_in f.glyphs) (in_list nat_cmp_total nat_cmp-IsAntisymmetric (calls_of f (names_in f.glyphs)) i h)) in
       at_name one.0 (maps.get f.glyphs one.0) refl (maps.contains_key-keys f.glyphs one.0 ∙ one.1) (from_in_items nat_cmp_total nat_cmp-IsAntisymmetric (calls_by f one.0) i one.2)
 
   from_called : is_called profile f i ≡ true → sets.contains (called_in f) i ≡ true

@@ -71,11 +71,13 @@ module _ (f g : FontValue) where
   pub wanted : (p : List ℕ) → sets.contains (lacking_in f g) p ≡ true → (n : List ℕ) × (has f n ≡ true) × (wants profile f n p ≡ true) × (has g p ≡ true)
   wanted p h =
       let one = any_one nat_list_cmp_total name_same (λ n. list_any (is_name p) (lacking_at n)) (names_in f.glyphs)
-          (any_flat nat_list_cmp_total name_same lacking_at p (names_in f.glyphs) (in_list nat_list_cmp_total name_same (lacking_of f g (names_in f.glyphs)) p h)) in
-      let part = any_filter nat_list_cmp_total name_same (lacks f g) p (parts profile f.subrs (charstring f one.0)) one.2 in
-      (one.0, maps.contains_key-keys f.glyphs one.0 ∙ one.1,
+      (any_flat nat_list_cmp_total name_same lacking_at p (names_in f.glyphs) (in_list nat_list_cmp_total name_same (lacking_of f g (names_in f.glyphs)) p h)) in
+      let part = any_filter nat_list_cmp_total name_same (lacks f g) p (parts profile f.subrs (charstring f one.0)) one.2 in (
+        one.0,
+        maps.contains_key-keys f.glyphs one.0 ∙ one.1,
         and_so (not (has f p)) (calls_for profile f one.0 p) (first_so (not (has f p)) (has g p) part.1) (sym (calls_so f one.0 p) ∙ part.0),
-        second_so (not (has f p)) (has g p) part.1)
+        second_so (not (has f p)) (has g p) part.1,
+      )
 
   -- a part that is wanted is lacking
   pub lacking : (p n : List ℕ) → wants profile f n p ≡ true → has g p ≡ true → sets.contains (lacking_in f g) p ≡ true

@@ -30,3 +30,4 @@ mod FirstNames
 mod FirstConflicts
 mod SetUnions
 mod LackingParts
+mod MergedFonts

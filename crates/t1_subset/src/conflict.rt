@@ -30,28 +30,16 @@ pub enum ShellPart {
 #[derive(PartialEq, Eq, Debug, Drop)]
 pub enum Conflict {
     /// This part of the shells differs, the first such.
-    Shell {
-        part: ShellPart,
-    },
+    Shell { part: ShellPart },
     /// Both Encodings are tables that have the code, with different names.
-    Code {
-        code: u8,
-    },
+    Code { code: u8 },
     /// Both fonts have the name, with different charstrings.
-    Glyph {
-        name: Vec<u8>,
-    },
+    Glyph { name: Vec<u8> },
     /// One font lacks the part, which this glyph of its own names, the smallest such; the other font has it.
-    Part {
-        glyph: Vec<u8>,
-        part: Vec<u8>,
-    },
+    Part { glyph: Vec<u8>, part: Vec<u8> },
     /// The entries of the Subr differ, and neither is a `return` that no glyph of its font executes. The glyph
     /// is the smallest of either font that executes the index there, where one does.
-    Subr {
-        index: u16,
-        glyph: Option<Vec<u8>>,
-    },
+    Subr { index: u16, glyph: Option<Vec<u8>> },
     /// The joined font would weigh too much or have too many glyphs.
     Limit,
     /// A growth was refused.

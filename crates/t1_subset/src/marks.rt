@@ -21,7 +21,11 @@ pub(crate) struct Marked {
 }
 
 /// The parts that a glyph of the font names.
-pub(crate) fn parts_of_glyph(alloc: Global, font: &Font, name: &[u8]) -> Result<Vec<&'static str>, AllocError>
+pub(crate) fn parts_of_glyph(
+    alloc: Global,
+    font: &Font,
+    name: &[u8],
+) -> Result<Vec<&'static str>, AllocError>
     ensures { IfOk result (λ ps. map (λ s. s.now) ps.items ≡ parts profile font.now.subrs (charstring font.now name.now)) }
 {
     font.is_font();
