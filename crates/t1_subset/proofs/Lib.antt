@@ -31,3 +31,4 @@ mod FirstConflicts
 mod SetUnions
 mod LackingParts
 mod MergedFonts
+mod ManyMerges

@@ -14,3 +14,4 @@ pub mod NameSets
 pub mod Lacking
 pub mod Marked
 pub mod Refusals
+pub mod Merging

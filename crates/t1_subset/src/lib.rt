@@ -19,6 +19,6 @@ mod users;
 pub use closures::closure;
 pub use conflict::{Conflict, ShellPart};
 pub use fault::SubsetFault;
-pub use merger::merge;
+pub use merger::{merge, merge_all};
 pub use needed::Closure;
 pub use subsets::subset;

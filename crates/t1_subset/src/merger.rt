@@ -1,10 +1,12 @@
 //! The join of two fonts, or their lowest conflict.
 
-ghost use Rattle.std.specs.Prelude.{◌≡◌, IfOk, IfErr, None};
+ghost use Rattle.std.specs.Prelude.{◌≡◌, ◌⊎◌, IfOk, IfErr, None};
 ghost use Rattle.t1_subset.specs.Profile.{profile};
 ghost use Rattle.t1_subset.specs.States.{Join, joined_font};
 ghost use Rattle.t1_subset.specs.Conflicts.{conflict, states_conflict};
+ghost use Rattle.t1_subset.specs.Trees.{Merges, Leaf, left_tree};
 ghost use Rattle.t1_subset.specs.Refusals.{Tells};
+ghost use Rattle.t1_subset.specs.Merging.{DrawsBoth, StopsAt, ComesTo, IsRefused, MergesSubsets, MergesAllSubsets};
 
 use crate::conflict::Conflict;
 use crate::entries::{code_conflict, glyph_conflict};
@@ -51,15 +53,8 @@ fn states_conflict(alloc: Global, left: &Font, right: &Font) -> Result<(), Confl
     }
 }
 
-/// The font that two fonts make together: the shell of both, the codes and glyphs of either, and for each Subr
-/// the entry of either, where one that is `return` and that no glyph of its font executes gives way to the other
-/// (Adobe Type 1 Font Format 1.1, chapters 2 and 8). It is answered exactly where the fonts join: where their
-/// shells are the same, what both have is the same, no font lacks a part that it needs and the other has, and
-/// the font of both is within the limits.
-///
-/// Else the lowest [`Conflict`] is answered, the same in both orders of the fonts; want of memory may be
-/// answered in place of either.
-pub fn merge(alloc: Global, left: &Font, right: &Font) -> Result<Font, Conflict>
+/// The join of two fonts, or their lowest conflict.
+fn joined(alloc: Global, left: &Font, right: &Font) -> Result<Font, Conflict>
     ensures ok { IfOk result (λ j. Join profile left.now right.now × (j ≡ joined_font profile left.now right.now)) }
     ensures err { IfErr result (λ e. Tells e (conflict profile left.now right.now)) }
 {
@@ -72,4 +67,72 @@ pub fn merge(alloc: Global, left: &Font, right: &Font) -> Result<Font, Conflict>
         Err(PartsFault::Limit) => Err(Conflict::Limit),
         Err(PartsFault::Memory) => Err(Conflict::Memory),
     }
+}
+
+/// A copy of a font, which is its join with itself.
+fn copied(alloc: Global, font: &Font) -> Result<Font, Conflict>
+    ensures ok { IfOk result (λ j. j ≡ font.now) }
+    ensures err { IfErr result (λ e. e ≡ Conflict.Memory) }
+{
+    font.is_font();
+    joined(alloc, font, font)
+}
+
+/// The join of a font with others, from left to right.
+fn joined_from(alloc: Global, first: &Font, rest: &[Font]) -> Result<Font, Conflict>
+    ensures ok { IfOk result (λ j. Merges profile (left_tree (Leaf first.now) rest.now) j) }
+    ensures err { IfErr result (λ e. (e ≡ Conflict.Memory) ⊎ StopsAt first.now rest.now e) }
+{
+    let mut all = copied(alloc, first)?;
+    'rest: for font in rest {
+        match joined(alloc, &all, font) {
+            Ok(more) => all = more,
+            Err(conflict) => return Err(conflict),
+        }
+    }
+    Ok(all)
+}
+
+/// The join of fonts from left to right.
+fn all_joined(alloc: Global, fonts: &[Font]) -> Result<Font, Conflict>
+    ensures ok { IfOk result (λ j. ComesTo fonts.now j) }
+    ensures err { IfErr result (λ e. IsRefused fonts.now e) }
+{
+    if fonts.is_empty() {
+        return Err(Conflict::Empty);
+    }
+    let first = &fonts[0];
+    joined_from(alloc, first, &fonts[1..])
+}
+
+/// The font that two fonts make together: the shell of both, the codes and glyphs of either, and for each Subr
+/// the entry of either, where one that is `return` and that no glyph of its font executes gives way to the other
+/// (Adobe Type 1 Font Format 1.1, chapters 2 and 8). It is answered exactly where the fonts join: where their
+/// shells are the same, what both have is the same, no font lacks a part that it needs and the other has, and
+/// the font of both is within the limits.
+///
+/// Else the lowest [`Conflict`] is answered, the same in both orders of the fonts; want of memory may be
+/// answered in place of either.
+///
+/// Two subsets of one font always join, and their join is the subset of both sets of names.
+pub fn merge(alloc: Global, left: &Font, right: &Font) -> Result<Font, Conflict>
+    ensures ok { IfOk result (λ j. Join profile left.now right.now × (j ≡ joined_font profile left.now right.now)) }
+    ensures err { IfErr result (λ e. Tells e (conflict profile left.now right.now)) }
+    ensures subsets { MergesSubsets left.now right.now result }
+    ensures draws { IfOk result (λ j. DrawsBoth left.now right.now j) }
+{
+    joined(alloc, left, right)
+}
+
+/// The font that fonts make together, merged from left to right; any other order and grouping of the merges
+/// comes to the same font, or is refused too. It is refused with [`Conflict::Empty`] where there are no fonts,
+/// and else with the conflict of the first font that doesn't join those before it.
+///
+/// Subsets of one font always join, and their join is the subset of all their sets of names.
+pub fn merge_all(alloc: Global, fonts: &[Font]) -> Result<Font, Conflict>
+    ensures ok { IfOk result (λ j. ComesTo fonts.now j) }
+    ensures err { IfErr result (λ e. IsRefused fonts.now e) }
+    ensures subsets { MergesAllSubsets fonts.now result }
+{
+    all_joined(alloc, fonts)
 }

@@ -1,18 +1,8 @@
-use Rattle.std.proofs.Common.{subst}
-use Rattle.t1_font.specs.declared.parts.PartsFault.{PartsFault}
-use Rattle.t1_font.specs.Joins.{Refuses}
-use Rattle.t1_subset.specs.Profile.{profile}
-use Rattle.t1_subset.proofs.MergedFonts.{same_shells, same_kinds, joins, over_limit}
+use Rattle.t1_subset.proofs.ManyMerges.{of_subsets, draws_both}
 use Rattle.t1_subset.proofs.merger.merge.Goals as goal
 
-pub join_parts-requires-clause-shells : goal.join_parts-requires-clause-shells
-join_parts-requires-clause-shells c = same_shells profile c.args.left.now c.args.right.now c.in_ok-states_conflict.ensures.ok
+pub returns-clause-subsets : goal.returns-clause-subsets
+returns-clause-subsets c = of_subsets c.args.left.now c.args.right.now c.joined.result c.joined.ensures.ok c.joined.ensures.err
 
-pub join_parts-requires-clause-encodings : goal.join_parts-requires-clause-encodings
-join_parts-requires-clause-encodings c = same_kinds profile c.args.left.now c.args.right.now c.in_ok-states_conflict.ensures.ok
-
-pub returns-in-Ok-clause-ok : goal.returns-in-Ok-clause-ok
-returns-in-Ok-clause-ok c = joins profile c.args.left.now c.args.right.now c.in_ok-states_conflict.ensures.ok c.in-Ok.font c.in-Ok.ensures c.is_font.ensures
-
-pub returns-in-Err-Limit-clause-err : goal.returns-in-Err-Limit-clause-err
-returns-in-Err-Limit-clause-err c = over_limit profile c.args.left.now c.args.right.now c.in_ok-states_conflict.ensures.ok (subst (Refuses c.args.left.now c.args.right.now) c.in-Err-Limit.field-0-is c.in-Err-Limit.ensures)
+pub returns-clause-draws : goal.returns-clause-draws
+returns-clause-draws c = draws_both c.args.left.now c.args.right.now c.joined.result c.joined.ensures.ok

@@ -1,0 +1,49 @@
+-- What merges come to, and what merges of the subsets of one font come to.
+use Rattle.std.specs.Prelude.{◌≡◌, ◌⊎◌, ℕ, true, List, [], ◌∷◌, ◌++◌, map, Result, MatchResult}
+use Rattle.std.specs.FinSet as sets
+use Rattle.std.specs.List.{AllByRecursion}
+use Rattle.t1_font.specs.FontValue.{FontValue}
+use Rattle.t1_font.specs.IsFont.{IsFont}
+use Rattle.t1_subset.specs.declared.conflict.Conflict.{Conflict as Refusal}
+use Rattle.t1_subset.specs.declared.conflict.Conflict.TheVariants.{Memory, Empty}
+use Rattle.t1_subset.specs.Interpreter.{Names}
+use Rattle.t1_subset.specs.Keep.{has, subset}
+use Rattle.t1_subset.specs.Profile.{profile}
+use Rattle.t1_subset.specs.Laws.{IsOf, DrawsAlike}
+use Rattle.t1_subset.specs.Conflicts.{conflict}
+use Rattle.t1_subset.specs.Refusals.{Tells}
+use Rattle.t1_subset.specs.Trees.{Leaf, left_tree, Merges, union_all}
+
+-- each glyph of either font does in j what it did
+abbrev pub DrawsBoth : FontValue → FontValue → FontValue → Type 0
+DrawsBoth f g j = ((n : List ℕ) → has f n ≡ true → DrawsAlike f j n) × ((n : List ℕ) → has g n ≡ true → DrawsAlike g j n)
+
+-- The fonts before one come to a font that it does not join, and the refusal tells their lowest conflict.
+pub record StopsAt (f : FontValue) (fs : List FontValue) (e : Refusal) : Type 0 where
+  pub before : List FontValue
+  pub font : FontValue
+  pub after : List FontValue
+  pub joined : FontValue
+  pub list : fs ≡ before ++ font ∷ after
+  pub merges : Merges profile (left_tree (Leaf f) before) joined
+  pub tells : Tells e (conflict profile joined font)
+
+-- the fonts, merged from left to right, come to j
+abbrev pub ComesTo : List FontValue → FontValue → Type 0
+ComesTo [] j = ⊥
+ComesTo (f ∷ fs) j = Merges profile (left_tree (Leaf f) fs) j
+
+-- there are no fonts, or a growth was refused, or a font does not join those before it
+abbrev pub IsRefused : List FontValue → Refusal → Type 0
+IsRefused [] e = e ≡ Empty
+IsRefused (f ∷ fs) e = (e ≡ Memory) ⊎ StopsAt f fs e
+
+-- Two subsets of one font come to the subset of both sets of names, or a growth was refused.
+abbrev pub MergesSubsets : FontValue → FontValue → Result FontValue Refusal → Type 0
+MergesSubsets g h r = (f : FontValue) → IsFont f → (a b : Names) → IsOf f a → IsOf f b → g ≡ subset profile f a → h ≡ subset profile f b
+    → MatchResult r (λ j. j ≡ subset profile f (sets.union a b)) (λ e. e ≡ Memory)
+
+-- Any subsets of one font, one or more, come to the subset of all the sets of names, or a growth was refused.
+abbrev pub MergesAllSubsets : List FontValue → Result FontValue Refusal → Type 0
+MergesAllSubsets fs r = (f : FontValue) → IsFont f → (a : Names) (more : List Names) → AllByRecursion (IsOf f) (a ∷ more) → fs ≡ map (subset profile f) (a ∷ more)
+    → MatchResult r (λ j. j ≡ subset profile f (union_all (a ∷ more))) (λ e. e ≡ Memory)
