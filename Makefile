@@ -4,15 +4,16 @@ PREFIX ?= /usr/local
 all: bin/t1subset
 
 bin/t1subset: crates.txt $(shell find crates -name out -prune -o -type f -print)
-	@echo "Proving and building t1subset: some 10 minutes on four cores the first time."
+	@echo "Proving and building t1subset: some 15 minutes on four cores the first time."
 	cd crates/t1subset && rt run -- --version
 	install -D crates/t1subset/out/t1subset bin/t1subset
 
-install: bin/t1subset
+install: bin/t1subset docs/t1subset.1
 	install -D bin/t1subset $(DESTDIR)$(PREFIX)/bin/t1subset
+	install -D -m 644 docs/t1subset.1 $(DESTDIR)$(PREFIX)/share/man/man1/t1subset.1
 
 uninstall:
-	rm -f $(DESTDIR)$(PREFIX)/bin/t1subset
+	rm -f $(DESTDIR)$(PREFIX)/bin/t1subset $(DESTDIR)$(PREFIX)/share/man/man1/t1subset.1
 
 test:
 	rt ci
