@@ -5,7 +5,7 @@ use Rattle.std.specs.Result.{result_ok}
 use Rattle.std.specs.Io.KnownBytes.{Appends}
 use Rattle.t1_cmd.specs.declared.counting.Counted.{Counted}
 use Rattle.t1_cmd.specs.declared.faults.Reason.{Reason}
-use Rattle.t1_cmd.specs.declared.faults.Reason.TheVariants.{TooLong, Memory, List as ListReason, Join as JoinReason, Font, NoGlyph}
+use Rattle.t1_cmd.specs.declared.faults.Reason.TheVariants.{TooLong, Memory, List as ListReason, Join as JoinReason, Font, NoGlyph, Merge}
 use Rattle.t1_cmd.specs.declared.faults.RunFault.{RunFault}
 use Rattle.t1_cmd.specs.declared.faults.RunFault.TheVariants.{Refused, Read, Write}
 use Rattle.t1_cmd.specs.Count.{inner_of, failed_of, last_count, next_count}
@@ -106,6 +106,7 @@ module _ {A : Type 0} (understand : List ℕ → Result A Reason) where
     stops_after front i rest (Refused (JoinReason f)) h s = inl (first_at (IsRefused understand (JoinReason f)) front i rest h s)
     stops_after front i rest (Refused (Font f)) h s = inl (first_at (IsRefused understand (Font f)) front i rest h s)
     stops_after front i rest (Refused (NoGlyph n)) h s = inl (first_at (IsRefused understand (NoGlyph n)) front i rest h s)
+    stops_after front i rest (Refused (Merge n)) h s = inl (first_at (IsRefused understand (Merge n)) front i rest h s)
     stops_after front i rest Read h s = first_at HasFailed front i rest h s
     stops_after front i rest Write h s = absurd s
 
@@ -123,6 +124,7 @@ module _ {A : Type 0} (understand : List ℕ → Result A Reason) where
         by (JoinReason f) b = inr (together (JoinReason f) b)
         by (Font f) b = inr (together (Font f) b)
         by (NoGlyph n) b = inr (together (NoGlyph n) b)
+        by (Merge n) b = inr (together (Merge n) b)
 
     -- the text was written, or a prefix of it
     pub write_ends : {W : Type 0} (contents : W → Option (List ℕ)) (is : List Input) (xs : List A) (w v : Counted W) (text : List ℕ) (result : Result (Unit {0}) RunFault) → SaysAll is xs → Answers xs (Ok text) → OnOk result (Appends (contents (inner_of w)) (contents (inner_of v)) text) → IfErr result (λ e. e ≡ Write) → OnErr result (AppendsPrefix (contents (inner_of w)) (contents (inner_of v)) text) → OnErr result (Rose (failed_of w) (failed_of v)) → RunEnds understand Answers contents is w v result
@@ -151,6 +153,7 @@ module _ {A : Type 0} (understand : List ℕ → Result A Reason) where
         at xs e text a q same low (Err (Refused (JoinReason f))) h = ap Refused (refused xs text (JoinReason f) e a h.1)
         at xs e text a q same low (Err (Refused (Font f))) h = ap Refused (refused xs text (Font f) e a h.1)
         at xs e text a q same low (Err (Refused (NoGlyph n))) h = ap Refused (refused xs text (NoGlyph n) e a h.1)
+        at xs e text a q same low (Err (Refused (Merge n))) h = ap Refused (refused xs text (Merge n) e a h.1)
         at xs e text a q same low (Err Read) h = absurd (first_failed is h.1 q)
         at xs e text a q same low (Err Write) h = absurd (not_risen (failed_of w) (failed_of v) h.1 same low)
 

@@ -9,3 +9,4 @@ pub mod Fonts
 pub mod CheckText
 pub mod ListText
 pub mod DrawingText
+pub mod Mergers

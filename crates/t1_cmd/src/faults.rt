@@ -6,6 +6,7 @@ use std::alloc::{AllocError, Global};
 use std::marker::Model;
 use t1_font::ReadFault;
 use t1_join::{JoinFault, ListFault};
+use t1_subset::Conflict;
 use thiserror::Error;
 
 /// The name of a glyph, without its `/`.
@@ -64,6 +65,9 @@ pub enum Reason {
     /// The font has no glyph of this name.
     #[error("no glyph {name:?}")]
     NoGlyph { name: Name },
+    /// Fonts don't merge.
+    #[error("{0:?}")]
+    Merge(Conflict),
 }
 
 /// Why an engine did not finish.

@@ -2,12 +2,13 @@
 ghost use Rattle.std.specs.Prelude.{◌≡◌, ◌++◌, ◌<◌, OnOk, IfOk};
 ghost use Rattle.std.specs.Fmt.{decimal};
 ghost use Rattle.t1_font.specs.FaultTexts.{fault_text};
-ghost use Rattle.t1_cmd.specs.Texts.{hex_digit, escaped, shown, list_text, join_text, reason_text, fault_line};
+ghost use Rattle.t1_cmd.specs.Texts.{hex_digit, escaped, shown, list_text, join_text, part_text, user_text, conflict_text, reason_text, fault_line};
 
 use crate::faults::{Reason, RunFault};
 use std::alloc::{AllocError, Global};
 use t1_font::ReadFault;
 use t1_join::{JoinFault, ListFault};
+use t1_subset::{Conflict, ShellPart};
 
 fn hex_digit(n: u8) -> u8
     requires { n < 16 }
@@ -90,6 +91,73 @@ fn push_font_fault(alloc: Global, out: &mut Vec<u8>, fault: &ReadFault) -> Resul
     out.extend_from_slice(text.as_bytes())
 }
 
+fn part_text(part: ShellPart) -> &'static [u8]
+    ensures { result.now ≡ part_text part }
+{
+    match part {
+        ShellPart::Head => b"head",
+        ShellPart::Encoding => b"encoding",
+        ShellPart::ClearTail => b"clear tail",
+        ShellPart::Private => b"private",
+        ShellPart::SubrsTable => b"Subrs table",
+        ShellPart::SubrsWords => b"Subrs words",
+        ShellPart::Middle => b"middle",
+        ShellPart::GlyphsWords => b"CharStrings words",
+        ShellPart::Tail => b"tail",
+    }
+}
+
+// The words, and then the name.
+fn push_named(out: &mut Vec<u8>, words: &[u8], name: &[u8]) -> Result<(), AllocError>
+    ensures { OnOk result (out.new.items ≡ out.old.items ++ (words.now ++ shown name.now)) }
+{
+    out.extend_from_slice(words)?;
+    push_shown(out, name)?;
+    Ok(())
+}
+
+fn push_user(out: &mut Vec<u8>, user: &Option<Vec<u8>>) -> Result<(), AllocError>
+    ensures { OnOk result (out.new.items ≡ out.old.items ++ user_text user.now) }
+{
+    if let Some(name) = user {
+        out.extend_from_slice(b", used by ")?;
+        push_shown(out, name.as_slice())?;
+    }
+    Ok(())
+}
+
+fn push_conflict(alloc: Global, out: &mut Vec<u8>, conflict: &Conflict) -> Result<(), AllocError>
+    ensures { OnOk result (out.new.items ≡ out.old.items ++ conflict_text conflict.now) }
+{
+    match conflict {
+        Conflict::Shell { part } => {
+            out.extend_from_slice(b"shells differ in ")?;
+            out.extend_from_slice(part_text(*part))
+        }
+        Conflict::Code { code } => {
+            push_about(alloc, out, b"code ", usize::from(*code))?;
+            out.extend_from_slice(b" differs")
+        }
+        Conflict::Glyph { name } => {
+            push_named(out, b"glyph ", name.as_slice())?;
+            out.extend_from_slice(b" differs")
+        }
+        Conflict::Part { glyph, part } => {
+            push_named(out, b"glyph ", glyph.as_slice())?;
+            push_named(out, b" lacks part ", part.as_slice())?;
+            Ok(())
+        }
+        Conflict::Subr { index, glyph } => {
+            push_about(alloc, out, b"subr ", usize::from(*index))?;
+            out.extend_from_slice(b" differs")?;
+            push_user(out, glyph)
+        }
+        Conflict::Limit => out.extend_from_slice(b"over a limit"),
+        Conflict::Memory => out.extend_from_slice(b"out of memory"),
+        Conflict::Empty => out.extend_from_slice(b"nothing to merge"),
+    }
+}
+
 fn push_reason(alloc: Global, out: &mut Vec<u8>, reason: &Reason) -> Result<(), AllocError>
     ensures { OnOk result (out.new.items ≡ out.old.items ++ reason_text reason.now) }
 {
@@ -103,6 +171,7 @@ fn push_reason(alloc: Global, out: &mut Vec<u8>, reason: &Reason) -> Result<(), 
             out.extend_from_slice(b"no glyph ")?;
             push_shown(out, name.as_bytes())
         }
+        Reason::Merge(conflict) => push_conflict(alloc, out, conflict),
     }
 }
 

@@ -1,0 +1,64 @@
+-- What the engine that merges fonts reads and writes.
+use Rattle.std.specs.Prelude.{◌≡◌, ℕ, ◌+◌, ◌≤◌, List, [], ◌∷◌, Option, Result, Ok, Err, IfSome}
+use Rattle.t1_bytes.specs.declared.form.Form.{Form}
+use Rattle.t1_font.specs.FontValue.{FontValue}
+use Rattle.t1_font.specs.Canon.{canon}
+use Rattle.t1_subset.specs.declared.conflict.Conflict.{Conflict}
+use Rattle.t1_subset.specs.declared.conflict.Conflict.TheVariants as conflict
+use Rattle.t1_subset.specs.Merging.{ComesTo, IsRefused}
+use Rattle.t1_cmd.specs.declared.counting.Counted.{Counted}
+use Rattle.t1_cmd.specs.declared.faults.Reason.{Reason}
+use Rattle.t1_cmd.specs.declared.faults.Reason.TheVariants.{Memory, Merge}
+use Rattle.t1_cmd.specs.declared.faults.RunFault.{RunFault}
+use Rattle.t1_cmd.specs.declared.faults.RunFault.TheVariants.{Refused, Read, Write}
+use Rattle.t1_cmd.specs.Count.{calls_of}
+use Rattle.t1_cmd.specs.Inputs.{Input, HasFailed, IsRefused as InputIsRefused, FirstWith, input_of, file_limit}
+
+-- ---- readers
+
+-- each reader with what it is after the engine's calls
+abbrev pub inputs_of : {R : Type 0} → (R → Option (List ℕ)) → List (Counted R) → List (Counted R) → List Input
+inputs_of remaining [] ns = []
+inputs_of remaining (o ∷ os) [] = []
+inputs_of remaining (o ∷ os) (n ∷ ns) = input_of remaining o n ∷ inputs_of remaining os ns
+
+-- each reader is called at most once more than the file limit
+abbrev pub InTurns : {R : Type 0} → List (Counted R) → List (Counted R) → Type 0
+InTurns [] ns = Unit {0}
+InTurns (o ∷ os) [] = ⊥
+InTurns (o ∷ os) (n ∷ ns) = (calls_of n ≤ calls_of o + (file_limit + 1)) × InTurns os ns
+
+module _ {A : Type 0} (understand : List ℕ → Result A Reason) where
+  -- where they are known, the inputs say these values
+  abbrev pub Say : List Input → List A → Type 0
+  Say [] [] = Unit {0}
+  Say [] (x ∷ xs) = ⊥
+  Say (i ∷ is) [] = ⊥
+  Say (i ∷ is) (x ∷ xs) = IfSome i.known (λ bytes. understand bytes ≡ Ok x) × Say is xs
+
+  -- why reading and understanding the inputs one after the other ends without all values
+  abbrev pub InputsStop : List Input → RunFault → Type 0
+  InputsStop inputs (Refused Memory) = Unit {0}
+  InputsStop inputs (Refused r) = FirstWith understand (InputIsRefused understand r) inputs
+  InputsStop inputs Read = FirstWith understand HasFailed inputs
+  InputsStop inputs Write = ⊥
+
+-- ---- what is merged
+
+-- want of memory tells nothing
+abbrev pub IsTold : Conflict → Type 0
+IsTold conflict.Memory = ⊥
+IsTold e = Unit {0}
+
+-- the canonical file of what the fonts come to, merged from left to right, or why they come to none
+abbrev pub MergesTo : Form → List FontValue → Result (List ℕ) Reason → Type 0
+MergesTo form fonts (Ok text) = (j : FontValue) × ComesTo fonts j × (text ≡ canon j form)
+MergesTo form fonts (Err (Merge e)) = IsRefused fonts e × IsTold e
+MergesTo form fonts (Err r) = ⊥
+
+-- which end of an engine is right where the fonts are these
+abbrev pub MergeStops : Form → List FontValue → RunFault → Type 0
+MergeStops form fonts (Refused Memory) = Unit {0}
+MergeStops form fonts (Refused r) = MergesTo form fonts (Err r)
+MergeStops form fonts Read = ⊥
+MergeStops form fonts Write = ⊥

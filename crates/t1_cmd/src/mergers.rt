@@ -1,0 +1,95 @@
+//! The engine that merges fonts.
+ghost use Rattle.std.specs.Prelude.{◌≡◌, ◌++◌, ◌∷◌, [], Ok, OnOk, IfOk, IfErr};
+ghost use Rattle.t1_subset.specs.Merging.{ComesTo};
+ghost use Rattle.t1_cmd.specs.Fonts.{font_input};
+ghost use Rattle.t1_cmd.specs.Runs.{RunEnds, Succeeds};
+ghost use Rattle.t1_cmd.specs.Mergers.{inputs_of, InTurns, Say, InputsStop, MergesTo, MergeStops};
+
+use crate::counting::Counted;
+use crate::faults::{Reason, RunFault};
+use crate::fonts::{font_file, read_font};
+use crate::writing::write_text;
+use std::alloc::{AllocError, Global};
+use std::io::{Read, Write};
+use t1_font::{Font, Form};
+use t1_subset::{Conflict, merge_all};
+
+// One more font.
+fn keep(fonts: &mut Vec<Font>, font: Font) -> Result<(), AllocError>
+    ensures { OnOk result (fonts.new.items ≡ fonts.old.items ++ font ∷ []) }
+{
+    match fonts.push(font) {
+        Ok(_) => Ok(()),
+        Err(_) => Err(AllocError),
+    }
+}
+
+// The fonts that the readers' bytes spell, one after the other.
+fn read_fonts<R: Read>(alloc: Global, readers: &mut [Counted<R>]) -> Result<Vec<Font>, RunFault>
+    ensures says { IfOk result (λ fonts. Say font_input (inputs_of R.remaining readers.old readers.new) fonts.items) }
+    ensures stops { IfErr result (λ e. InputsStop font_input (inputs_of R.remaining readers.old readers.new) e) }
+    ensures turns { InTurns readers.old readers.new }
+{
+    let mut fonts = Vec::new(alloc);
+    'readers: for i in 0..readers.len() {
+        let font = match read_font(alloc, &mut readers[i]) {
+            Ok(font) => font,
+            Err(fault) => return Err(fault),
+        };
+        keep(&mut fonts, font)?;
+    }
+    Ok(fonts)
+}
+
+// The font that fonts come to, merged from left to right.
+fn merged(alloc: Global, fonts: &[Font]) -> Result<Font, RunFault>
+    ensures comes { IfOk result (λ j. ComesTo fonts.now j) }
+    ensures refused { IfErr result (λ e. (form : Form) → MergeStops form fonts.now e) }
+{
+    match merge_all(alloc, fonts) {
+        Ok(font) => Ok(font),
+        Err(Conflict::Memory) => Err(RunFault::Refused(Reason::Memory)),
+        Err(conflict) => Err(RunFault::Refused(Reason::Merge(conflict))),
+    }
+}
+
+// The canonical file of the font that fonts come to.
+fn merged_file(alloc: Global, fonts: &[Font], form: Form) -> Result<Vec<u8>, RunFault>
+    ensures text { IfOk result (λ text. MergesTo form fonts.now (Ok text.items)) }
+    ensures refused { IfErr result (λ e. MergeStops form fonts.now e) }
+{
+    let font = match merged(alloc, fonts) {
+        Ok(font) => font,
+        Err(fault) => return Err(fault),
+    };
+    let text = font_file(alloc, font, form)?;
+    Ok(text)
+}
+
+/// Writes the canonical file, in one of the two forms, of the font that fonts come to when they are merged from left
+/// to right: of subsets of one font the subset of all their names.
+///
+/// The inputs are read and understood one after the other, and merged after that; of several causes the first in that
+/// order is answered, and a conflict of the fonts, as [`Reason::Merge`], last.
+pub fn run_merge<R: Read, W: Write>(
+    alloc: Global,
+    readers: &mut [Counted<R>],
+    form: Form,
+    writer: &mut Counted<W>,
+) -> Result<(), RunFault>
+    ensures ends { RunEnds font_input (MergesTo form) W.contents
+        (inputs_of R.remaining readers.old readers.new) writer.old writer.new result }
+    ensures succeeds { Succeeds font_input (MergesTo form)
+        (inputs_of R.remaining readers.old readers.new) writer.old writer.new result }
+    ensures turns { InTurns readers.old readers.new }
+{
+    let fonts = match read_fonts(alloc, readers) {
+        Ok(fonts) => fonts,
+        Err(fault) => return Err(fault),
+    };
+    let text = match merged_file(alloc, fonts.as_slice(), form) {
+        Ok(text) => text,
+        Err(fault) => return Err(fault),
+    };
+    write_text(writer, text.as_slice())
+}
