@@ -9,7 +9,7 @@ use t1_font::{Form, read};
 use t1_run::Subroutines;
 
 /// The PFA file of a subset, or the line of its refusal.
-fn subset(alloc: Global, input: &[u8], names: &[&[u8]]) -> Vec<u8> {
+pub fn subset(alloc: Global, input: &[u8], names: &[&[u8]]) -> Vec<u8> {
     answer(alloc, Engine::Subset(names, Form::Pfa), input)
 }
 
