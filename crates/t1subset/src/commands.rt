@@ -45,6 +45,27 @@ fn subset_command<'a>(alloc: Global) -> Result<Command<'a>, AllocError> {
         .arg(names)
 }
 
+const MERGE_HELP: &str = "\
+OUT is the font, as PFA, that the fonts make together: of subsets of one font the subset of all their names, byte for \
+byte, in whatever order they stand. Fonts that differ are refused with the first thing in which they do. A Subr that is \
+`return`, and that no glyph of its font executes, gives way to the other font's. OUT is opened only after the result is \
+complete.
+
+Example: t1subset merge all.pfa one.pfa two.pfa";
+
+fn merge_command<'a>(alloc: Global) -> Result<Command<'a>, AllocError> {
+    let fonts = Arg::new(alloc, "IN")
+        .num_args(1..)
+        .required(true)
+        .action(ArgAction::Append)
+        .help("The fonts");
+    Command::new(alloc, "merge")
+        .about("Merges subsets of a font into one")
+        .after_help(MERGE_HELP)
+        .arg(word(alloc, "OUT", "The file that is written"))?
+        .arg(fonts)
+}
+
 const CONVERT_HELP: &str = "\
 IN is a Type 1 font as PFA, PFB or with a raw binary cipher. OUT is its one canonical file in this form: kept texts as \
 they stand, tables in one layout, Subrs by index and glyphs by name, lead bytes zero, the trailer written anew. OUT is \
@@ -115,11 +136,12 @@ Example: t1subset subset font.pfb some.pfa A B Aacute";
 fn program<'a>(alloc: Global) -> Result<Command<'a>, AllocError> {
     Command::new(alloc, "t1subset")
         .version("0.1.0")
-        .about("Subsets, checks, lists, shows and rewrites Type 1 fonts")
+        .about("Subsets and merges Type 1 fonts, and checks, lists, shows and rewrites them")
         .after_help(PROGRAM_HELP)
         .subcommand_required(true)
         .arg_required_else_help(true)
         .subcommand(subset_command(alloc)?)?
+        .subcommand(merge_command(alloc)?)?
         .subcommand(check_command(alloc)?)?
         .subcommand(list_command(alloc)?)?
         .subcommand(show_command(alloc)?)?

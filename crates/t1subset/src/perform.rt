@@ -6,8 +6,8 @@ use std::io::{ErrorKind, Write};
 use std::rt::Files;
 use std::{fs, io};
 use t1_cmd::{
-    Counted, Reason, RunFault, run_check, run_convert, run_join, run_list, run_show, run_subset,
-    status, write_fault, write_text,
+    Counted, Reason, RunFault, run_check, run_convert, run_join, run_list, run_merge, run_show,
+    run_subset, status, write_fault, write_text,
 };
 use t1_font::Form;
 
@@ -135,6 +135,34 @@ fn subset<R: Files>(rt: &R, alloc: Global, given: &ArgMatches<'_>) -> Result<(),
     save(rt, given.get_str("OUT").unwrap_or(""), text.as_slice())
 }
 
+/// The fonts that the words name, all of them opened.
+fn fonts<R: Files>(
+    rt: &R,
+    alloc: Global,
+    given: &ArgMatches<'_>,
+) -> Result<Vec<Counted<R::File>>, RunFault> {
+    let mut fonts = Vec::new(alloc);
+    for path in given.get_raw("IN").unwrap_or(&[]) {
+        let file = fs::open(rt, *path).map_err(not_opened)?;
+        if fonts.push(Counted::new(file)).is_err() {
+            return Err(RunFault::Refused(Reason::Memory));
+        }
+    }
+    Ok(fonts)
+}
+
+fn merge<R: Files>(rt: &R, alloc: Global, given: &ArgMatches<'_>) -> Result<(), RunFault> {
+    let mut fonts = fonts(rt, alloc, given)?;
+    let mut text = Vec::new(alloc);
+    run_merge(
+        alloc,
+        fonts.as_mut_slice(),
+        Form::Pfa,
+        &mut Counted::new(&mut text),
+    )?;
+    save(rt, given.get_str("OUT").unwrap_or(""), text.as_slice())
+}
+
 fn perform<R: Files, O: Write + Drop>(
     rt: &R,
     alloc: Global,
@@ -143,6 +171,7 @@ fn perform<R: Files, O: Write + Drop>(
 ) -> Result<(), RunFault> {
     match matches.subcommand() {
         Some(("subset", given)) => subset(rt, alloc, given),
+        Some(("merge", given)) => merge(rt, alloc, given),
         Some(("check", given)) => check(rt, alloc, given, out),
         Some(("list", given)) => list(rt, alloc, given, out),
         Some(("show", given)) => show(rt, alloc, given, out),
