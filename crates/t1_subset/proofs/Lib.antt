@@ -31,4 +31,5 @@ mod FirstConflicts
 mod SetUnions
 mod LackingParts
 mod MergedFonts
-mod ManyMerges
+pub mod ManyMerges
+pub mod Headline

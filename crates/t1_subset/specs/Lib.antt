@@ -15,3 +15,4 @@ pub mod Lacking
 pub mod Marked
 pub mod Refusals
 pub mod Merging
+pub mod Headline

@@ -2,6 +2,15 @@
 
 ghost use Rattle.t1_subset.specs.Laws.{KeepIsLeast, KeepIsMonotone, Distribution, SubsetIsFont, SubsetOfSubset, Bottom, SubsetsDraw, TwoSubsets, ManySubsets, JoinIsFont, JoinIsSymmetric, JoinIsIdempotent, StatesOfJoin, JoinsDraw, AnyOrder, AcceptedByPairs, AgreeIsCompatible, NoConflictIsJoin, ConflictIsSymmetric, JoinHasEntries};
 ghost use Rattle.t1_subset.specs.Profile.{profile};
+ghost use Rattle.t1_subset.specs.Headline.{Headline};
+
+/// For every input that spells a font F and all sets A and B of its glyph names, reading the written subsets of A
+/// and B and merging them, in either order, writes the bytes of the subset of A together with B; over any list of
+/// such subsets every order and grouping writes the same bytes, each font on the way written and read again or
+/// not; and each kept glyph draws with F's width, hints and outline.
+pub fn headline()
+    ensures { Headline }
+{}
 
 /// What a set of names keeps is closed, and within each closed set of the font's names that has them.
 pub fn keep_is_least()

@@ -1,0 +1,6 @@
+use Rattle.t1_font.proofs.ReadFontLaws.{spelled_font}
+use Rattle.t1_subset.proofs.Headline.{comes_to_subset}
+use Rattle.t1_subset.proofs.laws.headline.Goals as goal
+
+pub returns : goal.returns
+returns c file f bytes spells all m p i k = comes_to_subset f (spelled_font file f bytes spells) all m p i k
