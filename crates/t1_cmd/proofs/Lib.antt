@@ -3,6 +3,7 @@ pub mod WriteLemmas
 pub mod RunLemmas
 pub mod ReaderLoops
 pub mod MergeLemmas
+pub mod WrittenSubsets
 pub mod JoinLemmas
 pub mod FontLemmas
 pub mod Walks

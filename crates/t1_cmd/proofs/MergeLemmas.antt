@@ -16,12 +16,12 @@ use Rattle.t1_cmd.specs.declared.faults.Reason.{Reason}
 use Rattle.t1_cmd.specs.declared.faults.Reason.TheVariants.{TooLong, Memory, List as ListReason, Join as JoinReason, Font, NoGlyph, Merge}
 use Rattle.t1_cmd.specs.declared.faults.RunFault.{RunFault}
 use Rattle.t1_cmd.specs.declared.faults.RunFault.TheVariants.{Refused, Read, Write}
-use Rattle.t1_cmd.specs.Inputs.{Input}
+use Rattle.t1_cmd.specs.Inputs.{Input, Say}
 use Rattle.t1_cmd.specs.declared.counting.Counted.{Counted}
 use Rattle.t1_cmd.specs.Runs.{Stops, RunEnds}
 use Rattle.t1_cmd.specs.Fonts.{font_input}
-use Rattle.t1_cmd.specs.Mergers.{Say, InputsStop, IsTold, MergesTo, MergeStops}
-use Rattle.t1_cmd.proofs.RunLemmas.{SaysAll, stops_together}
+use Rattle.t1_cmd.specs.Mergers.{InputsStop, IsTold, MergesTo, MergeStops}
+use Rattle.t1_cmd.proofs.RunLemmas.{stops_together}
 
 -- ---- merges from left to right
 
@@ -72,12 +72,6 @@ merges_apart form fs text (Merge e) h k = absurd (apart_at fs h.0 e h.1 k.0 k.1)
 
 -- ---- inputs
 
-pub says_all : (is : List Input) (fs : List FontValue) → Say font_input is fs → SaysAll font_input is fs
-says_all [] [] h = tt
-says_all [] (f ∷ fs) h = absurd h
-says_all (i ∷ is) [] h = absurd h
-says_all (i ∷ is) (f ∷ fs) h = (h.0, says_all is fs h.1)
-
 -- what stops the reading stops the engine
 pub inputs_stop : (Answers : List FontValue → Result (List ℕ) Reason → Type 0) (is : List Input) (e : RunFault) → InputsStop font_input is e → Stops font_input Answers is e
 inputs_stop Answers is (Refused TooLong) h = inl h
@@ -92,13 +86,13 @@ inputs_stop Answers is Write h = absurd h
 
 -- what stops the merge stops the engine
 pub merge_stops : (form : Form) (is : List Input) (fs : List FontValue) (e : RunFault) → Say font_input is fs → MergeStops form fs e → Stops font_input (MergesTo form) is e
-merge_stops form is fs (Refused TooLong) h s = stops_together font_input (MergesTo form) is fs TooLong (says_all is fs h) s
+merge_stops form is fs (Refused TooLong) h s = stops_together font_input (MergesTo form) is fs TooLong h s
 merge_stops form is fs (Refused Memory) h s = tt
-merge_stops form is fs (Refused (ListReason f)) h s = stops_together font_input (MergesTo form) is fs (ListReason f) (says_all is fs h) s
-merge_stops form is fs (Refused (JoinReason f)) h s = stops_together font_input (MergesTo form) is fs (JoinReason f) (says_all is fs h) s
-merge_stops form is fs (Refused (Font f)) h s = stops_together font_input (MergesTo form) is fs (Font f) (says_all is fs h) s
-merge_stops form is fs (Refused (NoGlyph n)) h s = stops_together font_input (MergesTo form) is fs (NoGlyph n) (says_all is fs h) s
-merge_stops form is fs (Refused (Merge f)) h s = stops_together font_input (MergesTo form) is fs (Merge f) (says_all is fs h) s
+merge_stops form is fs (Refused (ListReason f)) h s = stops_together font_input (MergesTo form) is fs (ListReason f) h s
+merge_stops form is fs (Refused (JoinReason f)) h s = stops_together font_input (MergesTo form) is fs (JoinReason f) h s
+merge_stops form is fs (Refused (Font f)) h s = stops_together font_input (MergesTo form) is fs (Font f) h s
+merge_stops form is fs (Refused (NoGlyph n)) h s = stops_together font_input (MergesTo form) is fs (NoGlyph n) h s
+merge_stops form is fs (Refused (Merge f)) h s = stops_together font_input (MergesTo form) is fs (Merge f) h s
 merge_stops form is fs Read h s = absurd s
 merge_stops form is fs Write h s = absurd s
 

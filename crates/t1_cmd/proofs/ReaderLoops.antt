@@ -6,10 +6,10 @@ use Rattle.t1_cmd.specs.declared.faults.Reason.TheVariants.{TooLong, Memory, Lis
 use Rattle.t1_cmd.specs.declared.faults.RunFault.{RunFault}
 use Rattle.t1_cmd.specs.declared.faults.RunFault.TheVariants.{Refused, Read, Write}
 use Rattle.t1_cmd.specs.Count.{inner_of, calls_of}
-use Rattle.t1_cmd.specs.Inputs.{Input, input_of, file_limit, HasFailed, Understood, IsRefused, FirstWith}
+use Rattle.t1_cmd.specs.Inputs.{Input, input_of, file_limit, HasFailed, Understood, IsRefused, FirstWith, Say}
 use Rattle.t1_cmd.specs.Runs.{InputStops}
 use Rattle.t1_cmd.specs.Fonts.{font_input}
-use Rattle.t1_cmd.specs.Mergers.{inputs_of, InTurns, Say, InputsStop}
+use Rattle.t1_cmd.specs.Mergers.{inputs_of, InTurns, InputsStop}
 use Rattle.t1_cmd.proofs.RunLemmas.{says_understood}
 
 module _ {X : Type 0} (remaining : X → Option (List ℕ)) where

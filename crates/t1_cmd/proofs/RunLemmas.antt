@@ -9,7 +9,7 @@ use Rattle.t1_cmd.specs.declared.faults.Reason.TheVariants.{TooLong, Memory, Lis
 use Rattle.t1_cmd.specs.declared.faults.RunFault.{RunFault}
 use Rattle.t1_cmd.specs.declared.faults.RunFault.TheVariants.{Refused, Read, Write}
 use Rattle.t1_cmd.specs.Count.{inner_of, failed_of, last_count, next_count}
-use Rattle.t1_cmd.specs.Inputs.{Input, Rose, HasFailed, IsQuiet, AllQuiet, Understood, AllUnderstood, IsRefused, FirstWith, value_of, value_and, values_of}
+use Rattle.t1_cmd.specs.Inputs.{Input, Rose, HasFailed, IsQuiet, AllQuiet, Understood, AllUnderstood, IsRefused, FirstWith, value_of, value_and, values_of, Say}
 use Rattle.t1_cmd.specs.Runs.{AppendsPrefix, InputStops, RefusedTogether, Stops, Takes, RunEnds, Succeeds}
 
 -- a count that stays below its last value did not rise
@@ -31,20 +31,14 @@ module _ {A : Type 0} (understand : List ℕ → Result A Reason) where
       by None h = tt
       by (Some b) h = ok_is_ok (understand b) x h
 
-  abbrev pub SaysAll : List Input → List A → Type 0
-  SaysAll [] [] = Unit {0}
-  SaysAll [] (x ∷ xs) = ⊥
-  SaysAll (i ∷ is) [] = ⊥
-  SaysAll (i ∷ is) (x ∷ xs) = Says i x × SaysAll is xs
-
-  pub all_understood : (is : List Input) (xs : List A) → SaysAll is xs → AllUnderstood understand is
+  pub all_understood : (is : List Input) (xs : List A) → Say understand is xs → AllUnderstood understand is
   all_understood [] [] h = tt
   all_understood [] (x ∷ xs) h = absurd h
   all_understood (i ∷ is) [] h = absurd h
   all_understood (i ∷ is) (x ∷ xs) h = (says_understood i x h.0, all_understood is xs h.1)
 
   -- where all inputs are known, they say the values
-  pub values_are : (is : List Input) (xs : List A) → SaysAll is xs → IfSome (values_of understand is) (λ values. values ≡ xs)
+  pub values_are : (is : List Input) (xs : List A) → Say understand is xs → IfSome (values_of understand is) (λ values. values ≡ xs)
   values_are [] [] h = refl
   values_are [] (x ∷ xs) h = absurd h
   values_are (i ∷ is) [] h = absurd h
@@ -59,7 +53,7 @@ module _ {A : Type 0} (understand : List ℕ → Result A Reason) where
       by None h v k = tt
       by (Some b) h v k = one (understand b) v h k
 
-  pub values_have : (P : List A → Type 0) (is : List Input) (xs : List A) → SaysAll is xs → P xs → IfSome (values_of understand is) P
+  pub values_have : (P : List A → Type 0) (is : List Input) (xs : List A) → Say understand is xs → P xs → IfSome (values_of understand is) P
   values_have P is xs h p = by (values_of understand is) (values_are is xs h)
     where
       by : (v : Option (List A)) → IfSome v (λ values. values ≡ xs) → IfSome v P
@@ -72,7 +66,7 @@ module _ {A : Type 0} (understand : List ℕ → Result A Reason) where
   first_at P (j ∷ front) i rest h p = inr (h.0, first_at P front i rest h.1 p)
 
   -- what is known and understood is not refused
-  first_refused : (r : Reason) (is : List Input) (xs : List A) → FirstWith understand (IsRefused understand r) is → values_of understand is ≡ Some xs → ⊥
+  pub first_refused : (r : Reason) (is : List Input) (xs : List A) → FirstWith understand (IsRefused understand r) is → values_of understand is ≡ Some xs → ⊥
   first_refused r [] xs h e = h
   first_refused r (i ∷ is) xs h e = by i.known (values_of understand is) refl (λ ys d k. first_refused r is ys d k) h e
     where
@@ -111,7 +105,7 @@ module _ {A : Type 0} (understand : List ℕ → Result A Reason) where
     stops_after front i rest Write h s = absurd s
 
     -- the inputs are refused together
-    pub stops_together : (is : List Input) (xs : List A) (r : Reason) → SaysAll is xs → Answers xs (Err r) → Stops understand Answers is (Refused r)
+    pub stops_together : (is : List Input) (xs : List A) (r : Reason) → Say understand is xs → Answers xs (Err r) → Stops understand Answers is (Refused r)
     stops_together is xs r h a = by r a
       where
         together : (s : Reason) → Answers xs (Err s) → RefusedTogether understand Answers s is
@@ -127,7 +121,7 @@ module _ {A : Type 0} (understand : List ℕ → Result A Reason) where
         by (Merge n) b = inr (together (Merge n) b)
 
     -- the text was written, or a prefix of it
-    pub write_ends : {W : Type 0} (contents : W → Option (List ℕ)) (is : List Input) (xs : List A) (w v : Counted W) (text : List ℕ) (result : Result (Unit {0}) RunFault) → SaysAll is xs → Answers xs (Ok text) → OnOk result (Appends (contents (inner_of w)) (contents (inner_of v)) text) → IfErr result (λ e. e ≡ Write) → OnErr result (AppendsPrefix (contents (inner_of w)) (contents (inner_of v)) text) → OnErr result (Rose (failed_of w) (failed_of v)) → RunEnds understand Answers contents is w v result
+    pub write_ends : {W : Type 0} (contents : W → Option (List ℕ)) (is : List Input) (xs : List A) (w v : Counted W) (text : List ℕ) (result : Result (Unit {0}) RunFault) → Say understand is xs → Answers xs (Ok text) → OnOk result (Appends (contents (inner_of w)) (contents (inner_of v)) text) → IfErr result (λ e. e ≡ Write) → OnErr result (AppendsPrefix (contents (inner_of w)) (contents (inner_of v)) text) → OnErr result (Rose (failed_of w) (failed_of v)) → RunEnds understand Answers contents is w v result
     write_ends contents is xs w v text (Ok u) h a whole fault prefix rose =
         (all_understood is xs h, values_have (λ values. (t : List ℕ) × Answers values (Ok t) × Appends (contents (inner_of w)) (contents (inner_of v)) t) is xs h (text, a, whole))
     write_ends contents is xs w v text (Err e) h a whole fault prefix rose =

@@ -67,3 +67,10 @@ module _ {A : Type 0} (understand : List ℕ → Result A Reason) where
   abbrev pub values_of : List Input → Option (List A)
   values_of [] = Some []
   values_of (i ∷ is) = value_and (value_of i) (values_of is)
+
+  -- where they are known, the inputs say these values
+  abbrev pub Say : List Input → List A → Type 0
+  Say [] [] = Unit {0}
+  Say [] (x ∷ xs) = ⊥
+  Say (i ∷ is) [] = ⊥
+  Say (i ∷ is) (x ∷ xs) = IfSome i.known (λ bytes. understand bytes ≡ Ok x) × Say is xs

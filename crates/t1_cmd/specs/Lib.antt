@@ -10,3 +10,4 @@ pub mod CheckText
 pub mod ListText
 pub mod DrawingText
 pub mod Mergers
+pub mod WrittenSubsets

@@ -1,5 +1,5 @@
 -- What the engine that merges fonts reads and writes.
-use Rattle.std.specs.Prelude.{◌≡◌, ℕ, ◌+◌, ◌≤◌, List, [], ◌∷◌, Option, Result, Ok, Err, IfSome}
+use Rattle.std.specs.Prelude.{◌≡◌, ℕ, ◌+◌, ◌≤◌, List, [], ◌∷◌, Option, Result, Ok, Err}
 use Rattle.t1_bytes.specs.declared.form.Form.{Form}
 use Rattle.t1_font.specs.FontValue.{FontValue}
 use Rattle.t1_font.specs.Canon.{canon}
@@ -29,13 +29,6 @@ InTurns (o ∷ os) [] = ⊥
 InTurns (o ∷ os) (n ∷ ns) = (calls_of n ≤ calls_of o + (file_limit + 1)) × InTurns os ns
 
 module _ {A : Type 0} (understand : List ℕ → Result A Reason) where
-  -- where they are known, the inputs say these values
-  abbrev pub Say : List Input → List A → Type 0
-  Say [] [] = Unit {0}
-  Say [] (x ∷ xs) = ⊥
-  Say (i ∷ is) [] = ⊥
-  Say (i ∷ is) (x ∷ xs) = IfSome i.known (λ bytes. understand bytes ≡ Ok x) × Say is xs
-
   -- why reading and understanding the inputs one after the other ends without all values
   abbrev pub InputsStop : List Input → RunFault → Type 0
   InputsStop inputs (Refused Memory) = Unit {0}

@@ -2,8 +2,10 @@
 ghost use Rattle.std.specs.Prelude.{◌≡◌, ◌++◌, ◌∷◌, [], Ok, OnOk, IfOk, IfErr};
 ghost use Rattle.t1_subset.specs.Merging.{ComesTo};
 ghost use Rattle.t1_cmd.specs.Fonts.{font_input};
+ghost use Rattle.t1_cmd.specs.Inputs.{Say};
 ghost use Rattle.t1_cmd.specs.Runs.{RunEnds, Succeeds};
-ghost use Rattle.t1_cmd.specs.Mergers.{inputs_of, InTurns, Say, InputsStop, MergesTo, MergeStops};
+ghost use Rattle.t1_cmd.specs.Mergers.{inputs_of, InTurns, InputsStop, MergesTo, MergeStops};
+ghost use Rattle.t1_cmd.specs.WrittenSubsets.{WritesUnion};
 
 use crate::counting::Counted;
 use crate::faults::{Reason, RunFault};
@@ -81,6 +83,7 @@ pub fn run_merge<R: Read, W: Write>(
         (inputs_of R.remaining readers.old readers.new) writer.old writer.new result }
     ensures succeeds { Succeeds font_input (MergesTo form)
         (inputs_of R.remaining readers.old readers.new) writer.old writer.new result }
+    ensures subsets { WritesUnion W.contents form (inputs_of R.remaining readers.old readers.new) writer.old writer.new result }
     ensures turns { InTurns readers.old readers.new }
 {
     let fonts = match read_fonts(alloc, readers) {

@@ -3,7 +3,8 @@ use Rattle.t1_font.specs.FontValue.{FontValue}
 use Rattle.t1_cmd.specs.Fonts.{font_input}
 use Rattle.t1_cmd.specs.Mergers.{inputs_of, MergesTo, MergeStops}
 use Rattle.t1_cmd.proofs.RunLemmas.{write_ends, ends_succeeds}
-use Rattle.t1_cmd.proofs.MergeLemmas.{merges_apart, says_all, inputs_stop, merge_stops, stopped}
+use Rattle.t1_cmd.proofs.MergeLemmas.{merges_apart, inputs_stop, merge_stops, stopped}
+use Rattle.t1_cmd.proofs.WrittenSubsets.{writes_union}
 use Rattle.t1_cmd.proofs.mergers.run_merge.Goals as goal
 
 pub returns-in-Err-clause-ends : goal.returns-in-Err-clause-ends
@@ -30,6 +31,15 @@ returns-clause-ends g c =
     write_ends font_input (MergesTo c.args.form) g.W.Write.contents
     (inputs_of g.R.Read.remaining c.args.readers.now c.read_fonts.new.readers) c.in-Ok.fonts.items
     c.args.writer.now c.write_text.new.writer c.as_slice-2.result.now c.write_text.result
-    (says_all (inputs_of g.R.Read.remaining c.args.readers.now c.read_fonts.new.readers) c.in-Ok.fonts.items c.in-Ok.ensures.says)
+    c.in-Ok.ensures.says
     (subst (λ t. MergesTo c.args.form c.in-Ok.fonts.items (Ok t)) (sym c.as_slice-2.ensures.value) (subst (λ fs. MergesTo c.args.form fs (Ok c.in-Ok-merged_file.text.items)) c.as_slice.ensures.value c.in-Ok-merged_file.ensures.text))
     c.write_text.ensures.whole c.write_text.ensures.fault c.write_text.ensures.prefix c.write_text.ensures.rose
+
+pub returns-in-Err-clause-subsets : goal.returns-in-Err-clause-subsets
+returns-in-Err-clause-subsets g c = writes_union g.W.Write.contents c.args.form (inputs_of g.R.Read.remaining c.args.readers.now c.read_fonts.new.readers) c.args.writer.now c.args.writer.now (Err c.in-Err.fault) (returns-in-Err-clause-ends g c)
+
+pub returns-in-Err-merged_file-clause-subsets : goal.returns-in-Err-merged_file-clause-subsets
+returns-in-Err-merged_file-clause-subsets g c = writes_union g.W.Write.contents c.args.form (inputs_of g.R.Read.remaining c.args.readers.now c.read_fonts.new.readers) c.args.writer.now c.args.writer.now (Err c.in-Err-merged_file.fault) (returns-in-Err-merged_file-clause-ends g c)
+
+pub returns-clause-subsets : goal.returns-clause-subsets
+returns-clause-subsets g c = writes_union g.W.Write.contents c.args.form (inputs_of g.R.Read.remaining c.args.readers.now c.read_fonts.new.readers) c.args.writer.now c.write_text.new.writer c.write_text.result (returns-clause-ends g c)

@@ -1,0 +1,119 @@
+-- The written subsets of one font merge to the subset over all the names.
+use Rattle.std.proofs.Common.{◌≡◌, ◌≤◌, ℕ, true, false, Bool, nat_lt, if◌then◌else◌, refl, sym, ◌∙◌, ap, subst, List, [], ◌∷◌, map, ◌⊎◌, inl, inr, ⊎_elim, length, Option, None, Some, Result, Ok, Err, IfSome, option_and_then}
+use Rattle.std.specs.List.{AllByRecursion}
+use Rattle.std.proofs.lemmas.Bool.{le-ltb}
+use Rattle.std.specs.Result.{result_ok}
+use Rattle.std.specs.Io.KnownBytes.{Appends}
+use Rattle.t1_bytes.specs.declared.form.Form.{Form}
+use Rattle.t1_font.specs.FontValue.{FontValue, file_limit as font_limit}
+use Rattle.t1_font.specs.IsFont.{IsFont}
+use Rattle.t1_font.specs.Canon.{canon}
+use Rattle.t1_font.specs.ReadFont.{read_font}
+use Rattle.t1_font.specs.WriteLaws.{Fits}
+use Rattle.t1_font.proofs.LengthLemmas.{canon_short}
+use Rattle.t1_subset.specs.declared.conflict.Conflict.{Conflict as Refusal}
+use Rattle.t1_subset.specs.declared.conflict.Conflict.TheVariants as refusal
+use Rattle.t1_subset.specs.Interpreter.{Names}
+use Rattle.t1_subset.specs.Profile.{profile}
+use Rattle.t1_subset.specs.Keep.{subset}
+use Rattle.t1_subset.specs.Laws.{IsOf}
+use Rattle.t1_subset.specs.Merging.{ComesTo, IsRefused as FontsRefused}
+use Rattle.t1_subset.specs.Trees.{union_all}
+use Rattle.t1_subset.proofs.Fonts.{subset_is_font}
+use Rattle.t1_subset.proofs.Headline.{subset_again}
+use Rattle.t1_subset.proofs.ManyMerges.{of_all_subsets}
+use Rattle.t1_cmd.specs.declared.counting.Counted.{Counted}
+use Rattle.t1_cmd.specs.declared.faults.Reason.{Reason}
+use Rattle.t1_cmd.specs.declared.faults.Reason.TheVariants.{TooLong, Memory, List as ListReason, Join as JoinReason, Font, NoGlyph, Merge}
+use Rattle.t1_cmd.specs.declared.faults.RunFault.{RunFault}
+use Rattle.t1_cmd.specs.declared.faults.RunFault.TheVariants.{Refused, Read, Write}
+use Rattle.t1_cmd.specs.Count.{inner_of, failed_of}
+use Rattle.t1_cmd.specs.Inputs.{Input, HasFailed, IsRefused, FirstWith, values_of, value_and, file_limit}
+use Rattle.t1_cmd.specs.Answers.{with_reason}
+use Rattle.t1_cmd.specs.Runs.{AppendsPrefix, RunEnds, Stops, RefusedTogether}
+use Rattle.t1_cmd.specs.Fonts.{font_input, font_reason}
+use Rattle.t1_cmd.specs.Mergers.{IsTold, MergesTo}
+use Rattle.t1_cmd.specs.WrittenSubsets.{IsSubset, AreSubsets, SomeFailed, Writes, WritesUnion}
+use Rattle.t1_cmd.proofs.RunLemmas.{first_refused}
+
+not_over : (n : ℕ) → n ≤ file_limit → nat_lt file_limit n ≡ false
+not_over n h = le-ltb file_limit n h
+
+module _ (f : FontValue) (h : IsFont f) where
+  -- what a written subset says
+  subset_said : (a : Names) (form : Form) → IsOf f a → Fits form f → font_input (canon (subset profile f a) form) ≡ Ok (subset profile f a)
+  subset_said a form i k =
+      ap (λ (b : Bool). if b then Err TooLong else with_reason font_reason (read_font (canon (subset profile f a) form))) (not_over (length (canon (subset profile f a) form)) (canon_short (subset profile f a) form (subset_is_font profile f h a i)))
+      ∙ ap (with_reason font_reason) (subset_again f h a form i k)
+
+  said_by : (a : Names) (i : Input) → IsSubset f a i → (v : Option (List FontValue)) (fs : List FontValue) → v ≡ Some fs → value_and (option_and_then (λ bytes. result_ok (font_input bytes)) i.known) v ≡ Some (subset profile f a ∷ fs)
+  said_by a i s v fs e =
+      ap (λ (k : Option (List ℕ)). value_and (option_and_then (λ bytes. result_ok (font_input bytes)) k) v) s.1.2
+      ∙ ap (λ (r : Result FontValue Reason). value_and (result_ok r) v) (subset_said a s.1.0 s.0 s.1.1)
+      ∙ ap (value_and (Some (subset profile f a))) e
+
+  -- what written subsets say
+  values : (all : List Names) (is : List Input) → AreSubsets f all is → values_of font_input is ≡ Some (map (subset profile f) all)
+  values [] [] s = refl
+  values [] (i ∷ is) s = absurd s
+  values (a ∷ more) [] s = absurd s
+  values (a ∷ more) (i ∷ is) s = said_by a i s.0 (values_of font_input is) (map (subset profile f) more) (values more is s.1)
+
+  names_are : (all : List Names) (is : List Input) → AreSubsets f all is → AllByRecursion (IsOf f) all
+  names_are [] [] s = tt
+  names_are [] (i ∷ is) s = absurd s
+  names_are (a ∷ more) [] s = absurd s
+  names_are (a ∷ more) (i ∷ is) s = (s.0.0, names_are more is s.1)
+
+  module _ (form : Form) (a : Names) (more : List Names) (is : List Input) (s : AreSubsets f (a ∷ more) is) where
+    abbrev fonts : List FontValue
+    fonts = map (subset profile f) (a ∷ more)
+
+    abbrev union : FontValue
+    union = subset profile f (union_all (a ∷ more))
+
+    -- the text of an answer is the union's
+    text_is : (text : List ℕ) → MergesTo form fonts (Ok text) → text ≡ canon union form
+    text_is text d = d.2 ∙ ap (λ (j : FontValue). canon j form) (of_all_subsets fonts (Ok d.0) d.1 tt f h a more (names_are (a ∷ more) is s) refl)
+
+    of_known : (P : List FontValue → Type 0) → IfSome (values_of font_input is) P → P fonts
+    of_known P d = subst (λ (o : Option (List FontValue)). IfSome o P) (values (a ∷ more) is s) d
+
+    -- an answer is no refusal
+    not_told : (e : Refusal) → FontsRefused fonts e → IsTold e → ⊥
+    not_told e d t = subst IsTold (of_all_subsets fonts (Err e) tt d f h a more (names_are (a ∷ more) is s) refl) t
+
+    not_answered : (r : Reason) → MergesTo form fonts (Err r) → ⊥
+    not_answered TooLong d = d
+    not_answered Memory d = d
+    not_answered (ListReason x) d = d
+    not_answered (JoinReason x) d = d
+    not_answered (Font x) d = d
+    not_answered (NoGlyph x) d = d
+    not_answered (Merge e) d = not_told e d.0 d.1
+
+    not_refused : (r : Reason) → (FirstWith font_input (IsRefused font_input r) is ⊎ RefusedTogether font_input (MergesTo form) r is) → ⊥
+    not_refused r d = ⊎_elim (λ x. first_refused font_input r is fonts x (values (a ∷ more) is s)) (λ x. not_answered r (of_known (λ values. MergesTo form values (Err r)) x.1)) d
+
+    only_memory : (r : Reason) → Stops font_input (MergesTo form) is (Refused r) → r ≡ Memory
+    only_memory TooLong d = absurd (not_refused TooLong d)
+    only_memory Memory d = refl
+    only_memory (ListReason x) d = absurd (not_refused (ListReason x) d)
+    only_memory (JoinReason x) d = absurd (not_refused (JoinReason x) d)
+    only_memory (Font x) d = absurd (not_refused (Font x) d)
+    only_memory (NoGlyph x) d = absurd (not_refused (NoGlyph x) d)
+    only_memory (Merge x) d = absurd (not_refused (Merge x) d)
+
+some_failed : (is : List Input) → FirstWith font_input HasFailed is → SomeFailed is
+some_failed [] d = d
+some_failed (i ∷ is) d = ⊎_elim (λ x. inl x) (λ x. inr (some_failed is x.1)) d
+
+pub writes_union : {W : Type 0} (contents : W → Option (List ℕ)) (form : Form) (is : List Input) (w v : Counted W) (result : Result (Unit {0}) RunFault) → RunEnds font_input (MergesTo form) contents is w v result → WritesUnion contents form is w v result
+writes_union contents form is w v (Ok u) ends f h a more s =
+    let d = of_known f h form a more is s (λ values. (text : List ℕ) × MergesTo form values (Ok text) × Appends (contents (inner_of w)) (contents (inner_of v)) text) ends.1 in
+    subst (Appends (contents (inner_of w)) (contents (inner_of v))) (text_is f h form a more is s d.0 d.1) d.2
+writes_union contents form is w v (Err (Refused r)) ends f h a more s = (only_memory f h form a more is s r ends.1, ends.0)
+writes_union contents form is w v (Err Read) ends f h a more s = (some_failed is ends.1, ends.0)
+writes_union contents form is w v (Err Write) ends f h a more s =
+    let d = of_known f h form a more is s (λ values. (text : List ℕ) × MergesTo form values (Ok text) × AppendsPrefix (contents (inner_of w)) (contents (inner_of v)) text) ends.0.1 in
+    (ends.1, subst (AppendsPrefix (contents (inner_of w)) (contents (inner_of v))) (text_is f h form a more is s d.0 d.1) d.2)

@@ -1,0 +1,49 @@
+-- What the engine that merges fonts writes where its inputs are the written subsets of one font.
+use Rattle.std.specs.Prelude.{◌≡◌, ℕ, List, [], ◌∷◌, ◌⊎◌, Option, Some, Result, Ok, Err}
+use Rattle.std.specs.Io.KnownBytes.{Appends}
+use Rattle.t1_bytes.specs.declared.form.Form.{Form}
+use Rattle.t1_font.specs.FontValue.{FontValue}
+use Rattle.t1_font.specs.IsFont.{IsFont}
+use Rattle.t1_font.specs.Canon.{canon}
+use Rattle.t1_font.specs.WriteLaws.{Fits}
+use Rattle.t1_subset.specs.Interpreter.{Names}
+use Rattle.t1_subset.specs.Profile.{profile}
+use Rattle.t1_subset.specs.Keep.{subset}
+use Rattle.t1_subset.specs.Laws.{IsOf}
+use Rattle.t1_subset.specs.Trees.{union_all}
+use Rattle.t1_cmd.specs.declared.counting.Counted.{Counted}
+use Rattle.t1_cmd.specs.declared.faults.Reason.TheVariants.{Memory}
+use Rattle.t1_cmd.specs.declared.faults.RunFault.{RunFault}
+use Rattle.t1_cmd.specs.declared.faults.RunFault.TheVariants.{Refused, Read, Write}
+use Rattle.t1_cmd.specs.Count.{inner_of, failed_of}
+use Rattle.t1_cmd.specs.Inputs.{Input, Rose, HasFailed}
+use Rattle.t1_cmd.specs.Runs.{AppendsPrefix}
+
+-- the input's bytes are the subset of f over these names, written in some form in which it can be read
+abbrev pub IsSubset : FontValue → Names → Input → Type 0
+IsSubset f a i = IsOf f a × ((form : Form) × Fits form f × (i.known ≡ Some (canon (subset profile f a) form)))
+
+-- the inputs are the written subsets of f over these sets of names, one for one
+abbrev pub AreSubsets : FontValue → List Names → List Input → Type 0
+AreSubsets f [] [] = Unit {0}
+AreSubsets f [] (i ∷ is) = ⊥
+AreSubsets f (a ∷ more) [] = ⊥
+AreSubsets f (a ∷ more) (i ∷ is) = IsSubset f a i × AreSubsets f more is
+
+-- calls of some reader failed
+abbrev pub SomeFailed : List Input → Type 0
+SomeFailed [] = ⊥
+SomeFailed (i ∷ is) = HasFailed i ⊎ SomeFailed is
+
+-- An engine writes this text: all of it; or a prefix, where the writer failed; or nothing, where a reader failed or a
+-- growth was refused. It refuses for no other reason.
+abbrev pub Writes : {W : Type 0} → (W → Option (List ℕ)) → List ℕ → List Input → Counted W → Counted W → Result (Unit {0}) RunFault → Type 0
+Writes contents text inputs w v (Ok u) = Appends (contents (inner_of w)) (contents (inner_of v)) text
+Writes contents text inputs w v (Err (Refused r)) = (r ≡ Memory) × (v ≡ w)
+Writes contents text inputs w v (Err Read) = SomeFailed inputs × (v ≡ w)
+Writes contents text inputs w v (Err Write) = Rose (failed_of w) (failed_of v) × AppendsPrefix (contents (inner_of w)) (contents (inner_of v)) text
+
+-- Of the written subsets of one font, one or more, the canonical file of the subset over all the names is written.
+abbrev pub WritesUnion : {W : Type 0} → (W → Option (List ℕ)) → Form → List Input → Counted W → Counted W → Result (Unit {0}) RunFault → Type 0
+WritesUnion contents form inputs w v result = (f : FontValue) → IsFont f → (a : Names) (more : List Names) → AreSubsets f (a ∷ more) inputs →
+    Writes contents (canon (subset profile f (union_all (a ∷ more))) form) inputs w v result
