@@ -1,6 +1,6 @@
 //! The join of two fonts, or their lowest conflict.
 
-ghost use Rattle.std.specs.Prelude.{◌≡◌, ◌⊎◌, IfOk, IfErr, None};
+ghost use Rattle.std.specs.Prelude.{◌≡◌, ◌⊎◌, IfOk, IfErr, None, unwrap_or};
 ghost use Rattle.t1_subset.specs.Profile.{profile};
 ghost use Rattle.t1_subset.specs.States.{Join, joined_font};
 ghost use Rattle.t1_subset.specs.Conflicts.{conflict, states_conflict};
@@ -78,19 +78,33 @@ fn copied(alloc: Global, font: &Font) -> Result<Font, Conflict>
     joined(alloc, font, font)
 }
 
+/// The join so far, or the first font where nothing is joined yet.
+fn latest<'a>(all: &'a Option<Font>, first: &'a Font) -> &'a Font
+    ensures { result.now ≡ unwrap_or all.now first.now }
+{
+    match all {
+        Some(all) => all,
+        None => first,
+    }
+}
+
 /// The join of a font with others, from left to right.
 fn joined_from(alloc: Global, first: &Font, rest: &[Font]) -> Result<Font, Conflict>
     ensures ok { IfOk result (λ j. Merges profile (left_tree (Leaf first.now) rest.now) j) }
     ensures err { IfErr result (λ e. (e ≡ Conflict.Memory) ⊎ StopsAt first.now rest.now e) }
 {
-    let mut all = copied(alloc, first)?;
+    let mut all: Option<Font> = None;
     'rest: for font in rest {
-        match joined(alloc, &all, font) {
-            Ok(more) => all = more,
+        let left = latest(&all, first);
+        match joined(alloc, left, font) {
+            Ok(more) => all = Some(more),
             Err(conflict) => return Err(conflict),
         }
     }
-    Ok(all)
+    match all {
+        Some(font) => Ok(font),
+        None => copied(alloc, first),
+    }
 }
 
 /// The join of fonts from left to right.

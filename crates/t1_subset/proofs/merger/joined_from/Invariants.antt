@@ -1,7 +1,7 @@
-use Rattle.std.proofs.Common.{take}
+use Rattle.std.proofs.Common.{take, unwrap_or}
 use Rattle.t1_subset.specs.Profile.{profile}
 use Rattle.t1_subset.specs.Trees.{Leaf, left_tree, Merges}
 use Rattle.t1_subset.proofs.merger.joined_from.Given as goal
 
 abbrev pub invariant-rest : goal.invariant-rest
-invariant-rest l = Merges profile (left_tree (Leaf l.first) (take l.font-index l.rest)) l.all
+invariant-rest l = Merges profile (left_tree (Leaf l.first) (take l.font-index l.rest)) (unwrap_or l.all l.first)
