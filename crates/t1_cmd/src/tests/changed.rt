@@ -3,6 +3,19 @@ use super::tiny::{PFA, PFB};
 use std::alloc::{AllocError, Global};
 use t1_bytes::{CHARSTRING_KEY, EEXEC_KEY, EEXEC_LEAD, open, seal};
 
+/// What spells the Encoding of Tiny.
+const ENCODING: &[u8] = b"/Encoding 256 array
+0 1 255 {1 index exch /.notdef put} for
+dup 65 /X put
+dup 66 /Y put
+dup 194 /H put
+readonly def";
+
+/// A file of Tiny with this for its Encoding.
+pub fn tiny_encoded(alloc: Global, encoding: &[u8]) -> Result<Vec<u8>, AllocError> {
+    with_all(alloc, PFA, ENCODING, encoding)
+}
+
 /// The private text of Tiny.
 pub fn private(alloc: Global) -> Result<Vec<u8>, AllocError> {
     let whole: &[u8] = PFB;
@@ -56,14 +69,65 @@ pub fn tiny_changed(alloc: Global, old: &[u8], new: &[u8]) -> Result<Vec<u8>, Al
     )
 }
 
-/// A file of Tiny with one more entry at the end of its glyphs.
-pub fn tiny_and(alloc: Global, name: &[u8], plain: &[u8]) -> Result<Vec<u8>, AllocError> {
-    let mut entry = Vec::from_slice(alloc, b"/")?;
-    entry.extend_from_slice(name)?;
-    entry.push(b' ')?;
+/// What begins an entry of a table, then the length and the encrypted bytes.
+pub fn entry(alloc: Global, start: &[u8], plain: &[u8]) -> Result<Vec<u8>, AllocError> {
+    let mut entry = Vec::from_slice(alloc, start)?;
     entry.extend_from_slice(plain.len().saturating_add(4).to_string(alloc)?.as_bytes())?;
     entry.extend_from_slice(b" RD ")?;
     entry.extend_from_slice(sealed(alloc, plain, CHARSTRING_KEY)?.as_slice())?;
-    entry.extend_from_slice(b" ND\nend\nend\nreadonly put")?;
-    tiny_changed(alloc, b"end\nend\nreadonly put", entry.as_slice())
+    Ok(entry)
+}
+
+/// A private text with one more entry at the end of its glyphs.
+pub fn with_glyph(
+    alloc: Global,
+    private: &[u8],
+    name: &[u8],
+    plain: &[u8],
+) -> Result<Vec<u8>, AllocError> {
+    let mut start = Vec::from_slice(alloc, b"/")?;
+    start.extend_from_slice(name)?;
+    start.push(b' ')?;
+    let mut end = entry(alloc, start.as_slice(), plain)?;
+    end.extend_from_slice(b" ND\nend\nend\nreadonly put")?;
+    with_all(alloc, private, b"end\nend\nreadonly put", end.as_slice())
+}
+
+/// A file of Tiny with one more entry at the end of its glyphs.
+pub fn tiny_and(alloc: Global, name: &[u8], plain: &[u8]) -> Result<Vec<u8>, AllocError> {
+    let text = private(alloc)?;
+    tiny_with(
+        alloc,
+        with_glyph(alloc, text.as_slice(), name, plain)?.as_slice(),
+    )
+}
+
+/// Tiny's private text with other bytes for the Subr whose entry begins so.
+pub fn with_subr(
+    alloc: Global,
+    start: &[u8],
+    old: &[u8],
+    new: &[u8],
+) -> Result<Vec<u8>, AllocError> {
+    let text = private(alloc)?;
+    with_all(
+        alloc,
+        text.as_slice(),
+        entry(alloc, start, old)?.as_slice(),
+        entry(alloc, start, new)?.as_slice(),
+    )
+}
+
+/// A file of Tiny whose Subr 5 is `return`.
+pub fn without_subr_5(alloc: Global) -> Result<Vec<u8>, AllocError> {
+    let text = with_subr(alloc, b"dup 5 ", b"\xef\x06\x0b", b"\x0b")?;
+    tiny_with(alloc, text.as_slice())
+}
+
+/// A file of Tiny without the glyph acute.
+pub fn without_acute(alloc: Global) -> Result<Vec<u8>, AllocError> {
+    let acute = b"\xbd\xf7\xc0\x0d\x8b\x16\x90\x0a\x09\x0e";
+    let mut old = entry(alloc, b"/acute ", acute)?;
+    old.extend_from_slice(b" ND\n")?;
+    tiny_changed(alloc, old.as_slice(), b"")
 }

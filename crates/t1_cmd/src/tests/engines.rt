@@ -1,5 +1,5 @@
 //! The engines over one font: what they write of the font Tiny and of changed ones, and how they end.
-use super::changed::{private, tiny_and, tiny_changed, tiny_with, with_all};
+use super::changed::{private, tiny_and, tiny_changed, tiny_encoded, tiny_with, with_all};
 use super::tiny::{PFA, PFB};
 use super::{FINE, Plan, Sink, Source, line_of, word};
 use crate::{Counted, RunFault, run_check, run_convert, run_list, run_show, run_subset};
@@ -124,29 +124,80 @@ fn changed_private_texts(rt: HostRuntime) -> Result<(), Fail> {
             b"refused: bad lenIV\n",
         ),
         (
+            b"dup 9 7 RD ",
+            b"dup 9 65535 RD ",
+            b"refused: bad Subrs at 482\n",
+        ),
+        (
             b"2 index",
             b"/Subrs 0 array ND 2 index",
             b"refused: hybrid font\n",
         ),
         (b"/.notdef 9", b"/.notdeg 9", b"refused: no .notdef\n"),
-        (
-            b"/CharStrings 11 dict",
-            b"/CharStrings 3 dict",
-            TINY_CHECKED,
-        ),
     ];
     for (old, new, want) in rows {
         let file = tiny_changed(rt.alloc(), old, new)?;
         let got = answer(rt.alloc(), Engine::Check, file.as_slice());
         assert_eq!(rt; got.as_slice(), want);
     }
+    Ok(())
+}
+
+#[test]
+fn a_second_glyph_of_a_name(rt: HostRuntime) -> Result<(), Fail> {
     let y = b"\x8b\xf8\x88\x0d\x8b\x16\x90\x0a\x91\x0a\x09\x0e";
     let file = tiny_and(rt.alloc(), b"X", y)?;
+    let got = answer(rt.alloc(), Engine::Check, file.as_slice());
     assert_eq!(rt;
-        answer(rt.alloc(), Engine::Check, file.as_slice()).as_slice(),
+        got.as_slice(),
         b"ok 11 glyphs, 10 subrs, weight 4933\n".as_slice(),
-        "a second X, with the bytes of Y"
+        "an X with the bytes of Y"
     );
+    let drawn = answer(rt.alloc(), Engine::Show(b"X"), file.as_slice());
+    let want =
+        b"width 500 0\nbearing 0 0\npart 0 0\nmove 0 0\nline 100 0\nline 0 0\nclose\n".as_slice();
+    assert_eq!(rt; drawn.as_slice(), want, "it draws as Y");
+    let other = answer(rt.alloc(), Engine::Show(b"Y"), PFA);
+    assert_eq!(rt; other.as_slice(), want, "so does Y");
+    Ok(())
+}
+
+#[test]
+fn entries_over_a_limit(rt: HostRuntime) -> Result<(), Fail> {
+    let mut long = Vec::new(rt.alloc());
+    long.resize(65_532, b'a')?;
+    let long = long.as_slice();
+    let rows: [(&[u8], &[u8], &[u8], &str); 4] = [
+        (
+            &long[..127],
+            b"",
+            b"ok 12 glyphs, 10 subrs, weight 5196\n",
+            "a name of 127 bytes",
+        ),
+        (
+            &long[..128],
+            b"",
+            b"refused: bad CharStrings at 905\n",
+            "a name of 128 bytes",
+        ),
+        (
+            b"M",
+            &long[..65_531],
+            b"ok 12 glyphs, 10 subrs, weight 70727\n",
+            "a charstring of 65,535 bytes",
+        ),
+        (
+            b"M",
+            long,
+            b"refused: bad CharStrings at 905\n",
+            "a charstring of 65,536 bytes",
+        ),
+    ];
+    for (name, plain, want, what) in rows {
+        let file = tiny_and(rt.alloc(), name, plain)?;
+        let got = answer(rt.alloc(), Engine::Check, file.as_slice());
+        assert_eq!(rt; got.as_slice(), want, "{what}");
+    }
     Ok(())
 }
 
@@ -159,11 +210,14 @@ fn changed_clear_texts(rt: HostRuntime) -> Result<(), Fail> {
         "code 256"
     );
     let octal = with_all(rt.alloc(), PFA, b"dup 65 /X put", b"dup 8#101 /X put")?;
-    assert_eq!(rt;
-        answer(rt.alloc(), Engine::Convert(Form::Pfa), octal.as_slice()).as_slice(),
-        PFA.as_slice(),
-        "octal 101"
-    );
+    let counted = tiny_changed(rt.alloc(), b"/CharStrings 11 dict", b"/CharStrings 3 dict")?;
+    for (file, what) in [
+        (octal.as_slice(), "octal 101"),
+        (counted.as_slice(), "another count of glyphs"),
+    ] {
+        let got = answer(rt.alloc(), Engine::Convert(Form::Pfa), file);
+        assert_eq!(rt; got.as_slice(), PFA.as_slice(), "{what}");
+    }
     Ok(())
 }
 
@@ -299,12 +353,7 @@ fn fonts_are_listed(rt: HostRuntime) -> Result<(), Fail> {
         let got = answer(rt.alloc(), Engine::List, file.as_slice());
         assert!(rt; got.as_slice().starts_with(want), "{what}");
     }
-    let word = with_all(
-        rt.alloc(),
-        PFA,
-        b"/Encoding 256 array\n0 1 255 {1 index exch /.notdef put} for\ndup 65 /X put\ndup 66 /Y put\ndup 194 /H put\nreadonly def",
-        b"/Encoding Standard\\Encoding def",
-    )?;
+    let word = tiny_encoded(rt.alloc(), b"/Encoding Standard\\Encoding def")?;
     let got = answer(rt.alloc(), Engine::List, word.as_slice());
     assert!(rt;
         got.as_slice()

@@ -1,13 +1,14 @@
 //! Merges of subsets of the font Tiny and of fonts that differ from it.
-use super::changed::{sealed, tiny_and, tiny_changed};
+use super::changed::{
+    tiny_and, tiny_changed, tiny_encoded, with_all, without_acute, without_subr_5,
+};
 use super::engines::{Engine, answer};
 use super::line_of;
-use super::subsets::subset;
+use super::subsets::{heaviest, subset};
 use super::tiny::PFA;
 use crate::{Counted, run_merge};
 use std::alloc::{AllocError, Global};
 use std::test::Fail;
-use t1_bytes::CHARSTRING_KEY;
 use t1_font::Form;
 
 /// The PFA file that readers merge to, or the line of their refusal.
@@ -28,13 +29,15 @@ fn merged<'a>(alloc: Global, left: &'a [u8], right: &'a [u8]) -> Result<Vec<u8>,
     Ok(merged_from(alloc, readers.as_mut_slice()))
 }
 
-/// The font Tiny whose Subr 5 is `return`.
-fn without_subr_5(alloc: Global) -> Result<Vec<u8>, AllocError> {
-    let mut old = Vec::from_slice(alloc, b"dup 5 7 RD ")?;
-    old.extend_from_slice(sealed(alloc, b"\xef\x06\x0b", CHARSTRING_KEY)?.as_slice())?;
-    let mut new = Vec::from_slice(alloc, b"dup 5 5 RD ")?;
-    new.extend_from_slice(sealed(alloc, b"\x0b", CHARSTRING_KEY)?.as_slice())?;
-    tiny_changed(alloc, old.as_slice(), new.as_slice())
+/// The same, of two files in either order; nothing where the orders differ.
+fn either<'a>(alloc: Global, left: &'a [u8], right: &'a [u8]) -> Result<Vec<u8>, AllocError> {
+    let one = merged(alloc, left, right)?;
+    let other = merged(alloc, right, left)?;
+    if one.as_slice() == other.as_slice() {
+        Ok(one)
+    } else {
+        Ok(Vec::new(alloc))
+    }
 }
 
 #[test]
@@ -45,66 +48,99 @@ fn subsets_of_one_font(rt: HostRuntime) -> Result<(), Fail> {
     let none = subset(rt.alloc(), PFA, &[]);
     let both = subset(rt.alloc(), PFA, &[b"X", b"Y"]);
     let all = subset(rt.alloc(), PFA, &[b"X", b"Y", b"H"]);
-    assert_eq!(rt; both.len(), 2301);
-    let rows: [(&[u8], &[u8], &[u8]); 5] = [
+    let rows: [(&[u8], &[u8], &[u8]); 4] = [
         (x.as_slice(), y.as_slice(), both.as_slice()),
-        (y.as_slice(), x.as_slice(), both.as_slice()),
         (y.as_slice(), none.as_slice(), y.as_slice()),
         (h.as_slice(), both.as_slice(), all.as_slice()),
         (PFA, PFA, PFA),
     ];
     for (left, right, want) in rows {
-        let got = merged(rt.alloc(), left, right)?;
+        let got = either(rt.alloc(), left, right)?;
         assert!(rt; got.as_slice() == want);
     }
     Ok(())
 }
 
 #[test]
-fn fonts_that_differ(rt: HostRuntime) -> Result<(), Fail> {
-    let other = without_subr_5(rt.alloc())?;
-    let lacking = tiny_changed(rt.alloc(), b"/acute ", b"/acutf ")?;
-    let a = tiny_and(rt.alloc(), b"A", b"\x8b\xf8\x88\x0d\x0e")?;
+fn shells_and_codes_that_differ(rt: HostRuntime) -> Result<(), Fail> {
+    let word = tiny_encoded(rt.alloc(), b"/Encoding StandardEncoding def")?;
+    let code = with_all(rt.alloc(), PFA, b"dup 66 /Y put", b"dup 66 /A put")?;
     let password = tiny_changed(rt.alloc(), b"5839", b"5840")?;
+    let rows: [(&[u8], &str); 3] = [
+        (word.as_slice(), "refused: shells differ in encoding\n"),
+        (code.as_slice(), "refused: code 66 differs\n"),
+        (password.as_slice(), "refused: shells differ in private\n"),
+    ];
+    for (other, want) in rows {
+        let got = either(rt.alloc(), PFA, other)?;
+        assert_eq!(rt; got.as_slice(), want.as_bytes());
+    }
+    let first = merged(rt.alloc(), b"", password.as_slice())?;
+    assert_eq!(rt; first.as_slice(), b"refused: no eexec\n".as_slice());
+    Ok(())
+}
+
+#[test]
+fn glyphs_that_differ(rt: HostRuntime) -> Result<(), Fail> {
+    let a = tiny_and(rt.alloc(), b"A", b"\x8b\xf8\x88\x0d\x0e")?;
+    let b = tiny_and(rt.alloc(), b"B", b"\x8b\xf8\x88\x0d\x0e")?;
+    let got = either(rt.alloc(), a.as_slice(), b.as_slice())?;
+    assert_eq!(rt; got.as_slice(), b"refused: glyph A differs\n".as_slice());
+    Ok(())
+}
+
+const OWN_X: &[u8] =
+    b"width 300 0\nbearing 50 0\npart 0 0\nmove 50 0\nline 50 700\nline -50 700\nclose\n";
+
+#[test]
+fn a_subr_that_differs(rt: HostRuntime) -> Result<(), Fail> {
+    let other = without_subr_5(rt.alloc())?;
     let used = subset(rt.alloc(), other.as_slice(), &[b"X"]);
     let y = subset(rt.alloc(), PFA, &[b"Y"]);
-    let own = subset(rt.alloc(), PFA, &[b"A"]);
-    let accented = subset(rt.alloc(), lacking.as_slice(), &[b"Aacute"]);
-    let accent = subset(rt.alloc(), PFA, &[b"acute"]);
-    let rows: [(&[u8], &[u8], &[u8]); 6] = [
-        (
-            y.as_slice(),
-            used.as_slice(),
-            b"refused: subr 5 differs, used by X\n",
-        ),
-        (
-            used.as_slice(),
-            y.as_slice(),
-            b"refused: subr 5 differs, used by X\n",
-        ),
-        (
-            accented.as_slice(),
-            accent.as_slice(),
-            b"refused: glyph Aacute lacks part acute\n",
-        ),
-        (PFA, a.as_slice(), b"refused: glyph A differs\n"),
-        (
-            PFA,
-            password.as_slice(),
-            b"refused: shells differ in private\n",
-        ),
-        (b"", password.as_slice(), b"refused: no eexec\n"),
-    ];
-    for (left, right, want) in rows {
-        let got = merged(rt.alloc(), left, right)?;
-        assert_eq!(rt; got.as_slice(), want);
-    }
-    let joined = merged(rt.alloc(), own.as_slice(), used.as_slice())?;
+    let a = subset(rt.alloc(), PFA, &[b"A"]);
+    let got = either(rt.alloc(), y.as_slice(), used.as_slice())?;
     assert_eq!(rt;
-        answer(rt.alloc(), Engine::Show(b"X"), joined.as_slice()).as_slice(),
-        b"width 300 0\nbearing 50 0\npart 0 0\nmove 50 0\nline 50 700\nline -50 700\nclose\n".as_slice(),
-        "X draws as in its own font"
+        got.as_slice(),
+        b"refused: subr 5 differs, used by X\n".as_slice()
     );
+    let both = either(rt.alloc(), a.as_slice(), used.as_slice())?;
+    let drawn = answer(rt.alloc(), Engine::Show(b"X"), both.as_slice());
+    assert_eq!(rt; drawn.as_slice(), OWN_X, "X draws as in its own font");
+    let listed = answer(rt.alloc(), Engine::List, both.as_slice());
+    assert!(rt;
+        listed.as_slice().starts_with(
+            b"code 65 X\nsubr 0 11\nsubr 1 5\nsubr 2 5\nsubr 3 1\nsubr 4 1\nsubr 5 1\nsubr 6 3\n"
+        ),
+        "Subr 5 is return"
+    );
+    Ok(())
+}
+
+#[test]
+fn a_part_that_one_font_lacks(rt: HostRuntime) -> Result<(), Fail> {
+    let other = without_acute(rt.alloc())?;
+    let accented = subset(rt.alloc(), other.as_slice(), &[b"Aacute"]);
+    let acute = subset(rt.alloc(), PFA, &[b"acute"]);
+    let a = subset(rt.alloc(), PFA, &[b"A"]);
+    let lacks = b"refused: glyph Aacute lacks part acute\n".as_slice();
+    let got = either(rt.alloc(), accented.as_slice(), acute.as_slice())?;
+    assert_eq!(rt; got.as_slice(), lacks);
+    let both = either(rt.alloc(), accented.as_slice(), a.as_slice())?;
+    for file in [other.as_slice(), both.as_slice()] {
+        let drawn = answer(rt.alloc(), Engine::Show(b"Aacute"), file);
+        assert_eq!(rt; drawn.as_slice(), b"fault MissingPart\n".as_slice());
+    }
+    let got = either(rt.alloc(), both.as_slice(), acute.as_slice())?;
+    assert_eq!(rt; got.as_slice(), lacks, "that result, too");
+    Ok(())
+}
+
+#[test]
+fn the_heaviest_font(rt: HostRuntime) -> Result<(), Fail> {
+    let font = heaviest(rt.alloc())?;
+    let got = merged(rt.alloc(), font.as_slice(), font.as_slice())?;
+    let want = answer(rt.alloc(), Engine::Convert(Form::Pfa), font.as_slice());
+    assert!(rt; got.as_slice() == want.as_slice(), "merged with itself");
     Ok(())
 }
 

@@ -70,53 +70,110 @@ glyph .notdef 5
 glyph X 15
 ";
 
+const NOTHING_LISTED: &[u8] = b"subr 0 11
+subr 1 5
+subr 2 5
+subr 3 1
+subr 4 1
+subr 5 1
+subr 6 1
+subr 7 1
+subr 8 1
+subr 9 1
+glyph .notdef 5
+";
+
+const BOTH_LISTED: &[u8] = b"code 65 X
+code 66 Y
+subr 0 11
+subr 1 5
+subr 2 5
+subr 3 1
+subr 4 1
+subr 5 3
+subr 6 3
+subr 7 1
+subr 8 1
+subr 9 1
+glyph .notdef 5
+glyph X 15
+glyph Y 12
+";
+
+/// Names, the size of their subset of Tiny, and what is checked and listed of it.
+const SUBSETS: [(&[&[u8]], usize, &[u8], &[u8]); 4] = [
+    (
+        &[],
+        2141,
+        b"ok 1 glyphs, 10 subrs, weight 2167\n",
+        NOTHING_LISTED,
+    ),
+    (
+        &[b"X"],
+        2224,
+        b"ok 2 glyphs, 10 subrs, weight 2444\n",
+        X_LISTED,
+    ),
+    (
+        &[b"X", b"X"],
+        2224,
+        b"ok 2 glyphs, 10 subrs, weight 2444\n",
+        X_LISTED,
+    ),
+    (
+        &[b"Y", b"X"],
+        2301,
+        b"ok 3 glyphs, 10 subrs, weight 2718\n",
+        BOTH_LISTED,
+    ),
+];
+
 #[test]
-fn sizes_and_refusals(rt: HostRuntime) -> Result<(), Fail> {
-    let rows: [(&[&[u8]], usize, &[u8]); 3] = [
-        (&[], 2141, b"ok 1 glyphs, 10 subrs, weight 2167\n"),
-        (&[b"X"], 2224, b"ok 2 glyphs, 10 subrs, weight 2444\n"),
-        (&[b"Y", b"X"], 2301, b"ok 3 glyphs, 10 subrs, weight 2718\n"),
-    ];
-    for (names, size, checked) in rows {
+fn sizes_of_subsets(rt: HostRuntime) {
+    for (names, size, checked, listed) in SUBSETS {
         let file = subset(rt.alloc(), PFA, names);
         assert_eq!(rt; file.len(), size);
-        assert_eq!(rt;
-            answer(rt.alloc(), Engine::Check, file.as_slice()).as_slice(),
-            checked
-        );
+        let got = answer(rt.alloc(), Engine::Check, file.as_slice());
+        assert_eq!(rt; got.as_slice(), checked);
+        let got = answer(rt.alloc(), Engine::List, file.as_slice());
+        assert_eq!(rt; got.as_slice(), listed);
     }
-    let x = subset(rt.alloc(), PFA, &[b"X"]);
+    let file = subset(rt.alloc(), PFA, &[b"N"]);
+    let got = answer(rt.alloc(), Engine::Check, file.as_slice());
     assert_eq!(rt;
-        answer(rt.alloc(), Engine::List, x.as_slice()).as_slice(),
-        X_LISTED
+        got.as_slice(),
+        b"ok 5 glyphs, 10 subrs, weight 3259\n".as_slice()
     );
-    let l = subset(rt.alloc(), PFA, &[b"L"]);
-    assert_eq!(rt;
-        answer(rt.alloc(), Engine::Show(b"L"), l.as_slice()).as_slice(),
-        b"fault Nesting\n".as_slice()
-    );
-    assert_eq!(rt;
-        subset(rt.alloc(), PFA, &[b"X", b"Zed", b"Zee"]).as_slice(),
-        b"refused: no glyph Zed\n".as_slice(),
-        "the first name that is absent"
-    );
-    assert_eq!(rt;
-        subset(rt.alloc(), &PFA[..312], &[b"Zed"]).as_slice(),
-        b"refused: no eexec\n".as_slice(),
-        "a file that is no font comes first"
-    );
-    Ok(())
 }
 
 #[test]
-fn the_heaviest_font(rt: HostRuntime) -> Result<(), Fail> {
+fn names_that_are_absent(rt: HostRuntime) {
+    let rows: [(&[u8], &[&[u8]], &[u8]); 3] = [
+        (PFA, &[b"Zed", b"X"], b"refused: no glyph Zed\n"),
+        (PFA, &[b"X", b"Zed", b"Zee"], b"refused: no glyph Zed\n"),
+        (&PFA[..312], &[b"Zed"], b"refused: no eexec\n"),
+    ];
+    for (file, names, want) in rows {
+        let got = subset(rt.alloc(), file, names);
+        assert_eq!(rt; got.as_slice(), want);
+    }
+}
+
+/// A font of the greatest weight, with a Subr of no bytes.
+pub fn heaviest(alloc: Global) -> Result<Vec<u8>, AllocError> {
     // The clear tail has 18 bytes and the private texts 13, 1 and 27; a Subr of no bytes weighs 129, and `.notdef` 257.
-    let mut file = Vec::new(rt.alloc());
+    let mut file = Vec::new(alloc);
     file.resize(16_776_771, b' ')?;
     file.extend_from_slice(b"/Encoding StandardEncoding def\ncurrentfile eexec\n")?;
     let private =
         b"/lenIV 0 def /Subrs 9 array dup 5 0 RD  NP ND /CharStrings 1 dict dup begin\n/.notdef 1 RD \x1b ND\nend\nmark currentfile closefile\n";
-    file.extend_from_slice(sealed(rt.alloc(), private, EEXEC_KEY)?.as_slice())?;
+    file.extend_from_slice(sealed(alloc, private, EEXEC_KEY)?.as_slice())?;
+    Ok(file)
+}
+
+#[test]
+fn the_heaviest_font(rt: HostRuntime) -> Result<(), Fail> {
+    let file = heaviest(rt.alloc())?;
     let cut = subset(rt.alloc(), file.as_slice(), &[]);
     for font in [file.as_slice(), cut.as_slice()] {
         assert_eq!(rt;
