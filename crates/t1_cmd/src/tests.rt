@@ -183,39 +183,41 @@ fn line_of(alloc: Global, ended: &Result<(), RunFault>) -> Vec<u8> {
     line
 }
 
+/// Two listings, and what is written of them or the line of their refusal.
+const JOINS: [(&[u8], &[u8], &[u8], &[u8]); 13] = [
+    (LEFT, RIGHT, BOTH, b""),
+    (RIGHT, LEFT, BOTH, b""),
+    (b"", b"", b"", b""),
+    (LEFT, b"S 5 0b\n", b"", b"refused: subr 5 differs\n"),
+    (b"S 00005 0b\n", b"", b"S 5 0b\n", b""),
+    (b"S 65535 0b\n", b"", b"", b"refused: bad line 1\n"),
+    (b"G X 0\n", b"", b"", b"refused: bad line 1\n"),
+    (b"", b"S 5 0b", b"", b"refused: bad line 1\n"),
+    (
+        b"S 5 0b\nS 05 0b\n",
+        b"S",
+        b"",
+        b"refused: repeated in line 2\n",
+    ),
+    (b"S 7 \n", b"S 7 0b\n", b"", b"refused: subr 7 differs\n"),
+    (
+        b"S 10 0b\nS 9 0b\nG A 0e\n",
+        b"S 10 0c\nS 9 0c\nG A 0d\n",
+        b"",
+        b"refused: subr 9 differs\n",
+    ),
+    (
+        b"G A\\\xff 0e\n",
+        b"G A\\\xff 0d\n",
+        b"",
+        b"refused: glyph A\\x5c\\xff differs\n",
+    ),
+    (b"S 1 0b\n", b"S 2 0c\n\n", b"", b"refused: bad line 2\n"),
+];
+
 #[test]
 fn joins_listings(rt: HostRuntime) -> Result<(), Fail> {
-    let cases: [(&[u8], &[u8], &[u8], &[u8]); 13] = [
-        (LEFT, RIGHT, BOTH, b""),
-        (RIGHT, LEFT, BOTH, b""),
-        (b"", b"", b"", b""),
-        (LEFT, b"S 5 0b\n", b"", b"refused: subr 5 differs\n"),
-        (b"S 00005 0b\n", b"", b"S 5 0b\n", b""),
-        (b"S 65535 0b\n", b"", b"", b"refused: bad line 1\n"),
-        (b"G X 0\n", b"", b"", b"refused: bad line 1\n"),
-        (b"", b"S 5 0b", b"", b"refused: bad line 1\n"),
-        (
-            b"S 5 0b\nS 05 0b\n",
-            b"S",
-            b"",
-            b"refused: repeated in line 2\n",
-        ),
-        (b"S 7 \n", b"S 7 0b\n", b"", b"refused: subr 7 differs\n"),
-        (
-            b"S 10 0b\nS 9 0b\nG A 0e\n",
-            b"S 10 0c\nS 9 0c\nG A 0d\n",
-            b"",
-            b"refused: subr 9 differs\n",
-        ),
-        (
-            b"G A\\\xff 0e\n",
-            b"G A\\\xff 0d\n",
-            b"",
-            b"refused: glyph A\\x5c\\xff differs\n",
-        ),
-        (b"S 1 0b\n", b"S 2 0c\n\n", b"", b"refused: bad line 2\n"),
-    ];
-    for (left, right, text, line) in cases {
+    for (left, right, text, line) in JOINS {
         let (ended, out) = outcome(rt.alloc(), left, right)?;
         assert_eq!(rt; out.as_slice(), text);
         assert_eq!(rt; line_of(rt.alloc(), &ended).as_slice(), line);
@@ -279,63 +281,58 @@ fn each_write_fails(rt: HostRuntime) -> Result<(), Fail> {
     Ok(())
 }
 
+/// Whether a fault is told by this line and has this status.
+fn is_told(alloc: Global, fault: &RunFault, want: &str, code: u8) -> bool {
+    let mut line = Vec::new(alloc);
+    let ended = write_fault(alloc, fault, &mut Counted::new(&mut line));
+    ended.is_ok() && line.as_slice() == want.as_bytes() && status(fault) == code
+}
+
+/// The same of a refusal, whose status is 1.
+fn is_refused(alloc: Global, reason: Reason, want: &str) -> bool {
+    is_told(alloc, &RunFault::Refused(reason), want, 1)
+}
+
 #[test]
-fn lines_of_faults(rt: HostRuntime) -> Result<(), Fail> {
-    let name = b"A b\\\xff".to_vec(rt.alloc())?;
-    let lacked = Name::new(rt.alloc(), b"A\x7f")?;
-    for (fault, want, code) in [
-        (RunFault::Read, "failed: read\n", 3u8),
-        (RunFault::Write, "failed: write\n", 3),
-        (
-            RunFault::Refused(Reason::TooLong),
-            "refused: file too long\n",
-            1,
-        ),
-        (
-            RunFault::Refused(Reason::Memory),
-            "refused: out of memory\n",
-            1,
-        ),
-        (
-            RunFault::Refused(Reason::List(ListFault::BadLine { line: 12 })),
-            "refused: bad line 12\n",
-            1,
-        ),
-        (
-            RunFault::Refused(Reason::List(ListFault::Repeated { line: 2 })),
-            "refused: repeated in line 2\n",
-            1,
-        ),
-        (
-            RunFault::Refused(Reason::Join(JoinFault::Subr { index: 65534 })),
-            "refused: subr 65534 differs\n",
-            1,
-        ),
-        (
-            RunFault::Refused(Reason::Join(JoinFault::Glyph { name })),
-            "refused: glyph A\\x20b\\x5c\\xff differs\n",
-            1,
-        ),
-        (
-            RunFault::Refused(Reason::Font(ReadFault::BadGlyphs { at: 905 })),
-            "refused: bad CharStrings at 905\n",
-            1,
-        ),
-        (
-            RunFault::Refused(Reason::NoGlyph { name: lacked }),
-            "refused: no glyph A\\x7f\n",
-            1,
-        ),
-    ] {
-        let mut line = Vec::new(rt.alloc());
-        write_fault(rt.alloc(), &fault, &mut Counted::new(&mut line))?;
-        assert_eq!(rt; line.as_slice(), want.as_bytes());
-        assert_eq!(rt; status(&fault), code);
-    }
+fn lines_of_faults(rt: HostRuntime) {
+    let alloc = rt.alloc();
+    assert!(rt; is_told(alloc, &RunFault::Read, "failed: read\n", 3));
+    assert!(rt; is_told(alloc, &RunFault::Write, "failed: write\n", 3));
+    assert!(rt; is_refused(alloc, Reason::TooLong, "refused: file too long\n"));
+    assert!(rt; is_refused(alloc, Reason::Memory, "refused: out of memory\n"));
     let plan = Plan { most: 0, ..FINE };
-    let mut full = Counted::new(Sink::new(Vec::new(rt.alloc()), plan));
-    let ended = write_fault(rt.alloc(), &RunFault::Read, &mut full);
+    let mut full = Counted::new(Sink::new(Vec::new(alloc), plan));
+    let ended = write_fault(alloc, &RunFault::Read, &mut full);
     assert_eq!(rt; word(&ended), "write", "a writer that takes nothing");
     assert_eq!(rt; full.calls(), 1);
+}
+
+#[test]
+fn lines_of_places(rt: HostRuntime) {
+    let alloc = rt.alloc();
+    let line = Reason::List(ListFault::BadLine { line: 12 });
+    assert!(rt; is_refused(alloc, line, "refused: bad line 12\n"));
+    let repeated = Reason::List(ListFault::Repeated { line: 2 });
+    assert!(rt; is_refused(alloc, repeated, "refused: repeated in line 2\n"));
+    let index = Reason::Join(JoinFault::Subr { index: 65534 });
+    assert!(rt; is_refused(alloc, index, "refused: subr 65534 differs\n"));
+    let entry = Reason::Font(ReadFault::BadGlyphs { at: 905 });
+    assert!(rt; is_refused(alloc, entry, "refused: bad CharStrings at 905\n"));
+}
+
+#[test]
+fn lines_of_names(rt: HostRuntime) -> Result<(), Fail> {
+    let alloc = rt.alloc();
+    let name = b"A b\\\xff".to_vec(alloc)?;
+    let glyph = Reason::Join(JoinFault::Glyph { name });
+    assert!(rt; is_refused(alloc, glyph, "refused: glyph A\\x20b\\x5c\\xff differs\n"));
+    let name = Name::new(alloc, b"A\x7f")?;
+    assert!(rt;
+        is_refused(
+            alloc,
+            Reason::NoGlyph { name },
+            "refused: no glyph A\\x7f\n"
+        )
+    );
     Ok(())
 }

@@ -162,41 +162,29 @@ fn a_second_glyph_of_a_name(rt: HostRuntime) -> Result<(), Fail> {
     Ok(())
 }
 
+/// A file of Tiny with a glyph of a name and a charstring of these lengths.
+fn tiny_and_long(alloc: Global, name: usize, plain: usize) -> Result<Vec<u8>, AllocError> {
+    let mut letters = Vec::new(alloc);
+    letters.resize(name, b'a')?;
+    let mut bytes = Vec::new(alloc);
+    bytes.resize(plain, 14)?;
+    tiny_and(alloc, letters.as_slice(), bytes.as_slice())
+}
+
+/// Lengths of a name and of a charstring without its four lead bytes, and what is checked of their font.
+const LONG: [(usize, usize, &[u8]); 4] = [
+    (127, 0, b"ok 12 glyphs, 10 subrs, weight 5196\n"),
+    (128, 0, b"refused: bad CharStrings at 905\n"),
+    (1, 65_531, b"ok 12 glyphs, 10 subrs, weight 70727\n"),
+    (1, 65_532, b"refused: bad CharStrings at 905\n"),
+];
+
 #[test]
-fn entries_over_a_limit(rt: HostRuntime) -> Result<(), Fail> {
-    let mut long = Vec::new(rt.alloc());
-    long.resize(65_532, b'a')?;
-    let long = long.as_slice();
-    let rows: [(&[u8], &[u8], &[u8], &str); 4] = [
-        (
-            &long[..127],
-            b"",
-            b"ok 12 glyphs, 10 subrs, weight 5196\n",
-            "a name of 127 bytes",
-        ),
-        (
-            &long[..128],
-            b"",
-            b"refused: bad CharStrings at 905\n",
-            "a name of 128 bytes",
-        ),
-        (
-            b"M",
-            &long[..65_531],
-            b"ok 12 glyphs, 10 subrs, weight 70727\n",
-            "a charstring of 65,535 bytes",
-        ),
-        (
-            b"M",
-            long,
-            b"refused: bad CharStrings at 905\n",
-            "a charstring of 65,536 bytes",
-        ),
-    ];
-    for (name, plain, want, what) in rows {
-        let file = tiny_and(rt.alloc(), name, plain)?;
+fn entries_at_their_limits(rt: HostRuntime) -> Result<(), Fail> {
+    for (name, plain, want) in LONG {
+        let file = tiny_and_long(rt.alloc(), name, plain)?;
         let got = answer(rt.alloc(), Engine::Check, file.as_slice());
-        assert_eq!(rt; got.as_slice(), want, "{what}");
+        assert_eq!(rt; got.as_slice(), want, "{name} and {plain} bytes");
     }
     Ok(())
 }
@@ -237,9 +225,9 @@ fn weights_at_the_limit(rt: HostRuntime) -> Result<(), Fail> {
     Ok(())
 }
 
-#[test]
-fn tiny_in_both_forms(rt: HostRuntime) -> Result<(), Fail> {
-    let mut upper = Vec::from_slice(rt.alloc(), PFA)?;
+/// The PFA file of Tiny with digits in upper case, and lines of digits that end in CR.
+fn upper(alloc: Global) -> Result<Vec<u8>, AllocError> {
+    let mut upper = Vec::from_slice(alloc, PFA)?;
     for byte in &mut upper.as_mut_slice()[313..2357] {
         *byte = if *byte == b'\n' {
             b'\r'
@@ -247,35 +235,41 @@ fn tiny_in_both_forms(rt: HostRuntime) -> Result<(), Fail> {
             byte.to_ascii_uppercase()
         };
     }
-    let files: [(&[u8], Form, &[u8], &str); 5] = [
-        (PFA, Form::Pfa, PFA, "pfa of the PFA file"),
-        (PFA, Form::Pfb, PFB, "pfb of the PFA file"),
-        (PFB, Form::Pfa, PFA, "pfa of the PFB file"),
-        (
-            &PFB[..1333],
-            Form::Pfb,
-            PFB,
-            "a PFB file that ends after its cipher",
-        ),
-        (upper.as_slice(), Form::Pfa, PFA, "upper case, and CR"),
-    ];
-    for (file, form, want, what) in files {
-        let got = answer(rt.alloc(), Engine::Convert(form), file);
-        assert_eq!(rt; got.as_slice(), want, "{what}");
-    }
-    assert_eq!(rt; PFA.len(), 2893);
-    assert_eq!(rt; PFB.len(), 1873);
-    let headers: [(usize, &[u8]); 4] = [
-        (0, b"\x80\x01\x39\x01\x00\x00"),
-        (319, b"\x80\x02\xf0\x03\x00\x00"),
-        (1333, b"\x80\x01\x14\x02\x00\x00"),
-        (1871, b"\x80\x03"),
-    ];
-    for (at, header) in headers {
-        let (_, rest) = PFB.split_at(at);
-        assert!(rt; rest.starts_with(header), "the header at {at}");
+    Ok(upper)
+}
+
+#[test]
+fn tiny_in_both_forms(rt: HostRuntime) -> Result<(), Fail> {
+    let upper = upper(rt.alloc())?;
+    for (file, what) in [
+        (PFA.as_slice(), "the PFA file"),
+        (PFB.as_slice(), "the PFB file"),
+        (&PFB[..1333], "a PFB file that ends after its cipher"),
+        (upper.as_slice(), "upper case, and CR"),
+    ] {
+        let pfa = answer(rt.alloc(), Engine::Convert(Form::Pfa), file);
+        assert!(rt; pfa.as_slice() == PFA.as_slice(), "pfa of {what}");
+        let pfb = answer(rt.alloc(), Engine::Convert(Form::Pfb), file);
+        assert!(rt; pfb.as_slice() == PFB.as_slice(), "pfb of {what}");
     }
     Ok(())
+}
+
+/// Where the headers of a PFB file of Tiny stand, and what they are.
+const HEADERS: [(usize, &[u8]); 4] = [
+    (0, b"\x80\x01\x39\x01\x00\x00"),
+    (319, b"\x80\x02\xf0\x03\x00\x00"),
+    (1333, b"\x80\x01\x14\x02\x00\x00"),
+    (1871, b"\x80\x03"),
+];
+
+#[test]
+fn sizes_and_headers_of_tiny(rt: HostRuntime) {
+    assert_eq!(rt; PFA.len(), 2893);
+    assert_eq!(rt; PFB.len(), 1873);
+    for (at, header) in HEADERS {
+        assert!(rt; after(PFB, at).starts_with(header), "the header at {at}");
+    }
 }
 
 /// What stands in a text from a place on.
@@ -330,36 +324,47 @@ glyph acute 10
 ";
 
 #[test]
-fn fonts_are_listed(rt: HostRuntime) -> Result<(), Fail> {
-    assert_eq!(rt;
-        answer(rt.alloc(), Engine::List, PFB).as_slice(),
-        TINY_LISTED,
-        "Tiny"
-    );
-    let names: [(&[u8], &[u8], &str); 4] = [
-        (
-            b"\x7e\x21",
-            b"code 65 ~!\n",
-            "the last and the first byte as they are",
-        ),
-        (b"\x7f", b"code 65 \\x7f\n", "byte 127"),
-        (b"\x1f\xff", b"code 65 \\x1f\\xff\n", "bytes 31 and 255"),
-        (b"a\\", b"code 65 a\\x5c\n", "the backslash"),
-    ];
-    for (name, want, what) in names {
-        let mut put = Vec::from_slice(rt.alloc(), b"dup 65 /")?;
-        put.extend_from_slice(name)?;
-        let file = with_all(rt.alloc(), PFA, b"dup 65 /X", put.as_slice())?;
+fn tiny_is_listed(rt: HostRuntime) {
+    let got = answer(rt.alloc(), Engine::List, PFB);
+    assert_eq!(rt; got.as_slice(), TINY_LISTED);
+}
+
+/// What spells an Encoding, and what a font of it is listed with first.
+const ENCODINGS: [(&[u8], &[u8], &str); 5] = [
+    (
+        b"/Encoding 256 array dup 65 /\x7e\x21 put def",
+        b"code 65 ~!\nsubr 0 11\n",
+        "the last and the first byte as they are",
+    ),
+    (
+        b"/Encoding 256 array dup 65 /\x7f put def",
+        b"code 65 \\x7f\nsubr 0 11\n",
+        "byte 127",
+    ),
+    (
+        b"/Encoding 256 array dup 65 /\x1f\xff put def",
+        b"code 65 \\x1f\\xff\nsubr 0 11\n",
+        "bytes 31 and 255",
+    ),
+    (
+        b"/Encoding 256 array dup 65 /a\\ put def",
+        b"code 65 a\\x5c\nsubr 0 11\n",
+        "the backslash",
+    ),
+    (
+        b"/Encoding Standard\\Encoding def",
+        b"encoding Standard\\x5cEncoding\nsubr 0 11\n",
+        "one word",
+    ),
+];
+
+#[test]
+fn encodings_are_listed(rt: HostRuntime) -> Result<(), Fail> {
+    for (encoding, want, what) in ENCODINGS {
+        let file = tiny_encoded(rt.alloc(), encoding)?;
         let got = answer(rt.alloc(), Engine::List, file.as_slice());
         assert!(rt; got.as_slice().starts_with(want), "{what}");
     }
-    let word = tiny_encoded(rt.alloc(), b"/Encoding Standard\\Encoding def")?;
-    let got = answer(rt.alloc(), Engine::List, word.as_slice());
-    assert!(rt;
-        got.as_slice()
-            .starts_with(b"encoding Standard\\x5cEncoding\nsubr 0 11\n"),
-        "one word"
-    );
     Ok(())
 }
 

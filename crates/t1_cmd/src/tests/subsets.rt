@@ -31,25 +31,45 @@ fn kept(alloc: Global, file: &[u8]) -> Result<Vec<u8>, AllocError> {
     Ok(text)
 }
 
+/// Names, and what their subset of Tiny keeps.
+const KEPT: [(&[&[u8]], &[u8]); 7] = [
+    (&[], b".notdef 012"),
+    (&[b"X"], b".notdef X 0125"),
+    (&[b"X", b"X"], b".notdef X 0125"),
+    (&[b"H"], b".notdef H 01247"),
+    (&[b"Aacute"], b".notdef A Aacute acute 01256"),
+    (&[b"N"], b".notdef A B N acute 01256"),
+    (&[b"L"], b".notdef L 0129"),
+];
+
 #[test]
 fn what_names_keep(rt: HostRuntime) -> Result<(), Fail> {
-    let aacute = b"\x8b\xf8\x88\x0d\xbd\xf7\x0c\xf7\x5c\xcc\xf7\x56\x0c\x06";
-    let base_zero = b"\x8b\xf8\x88\x0d\xbd\xf7\x0c\xf7\x5c\x8b\xf7\x56\x0c\x06";
-    let no_base = tiny_and(rt.alloc(), b"M", base_zero)?;
-    let nested = tiny_and(rt.alloc(), b"A", aacute)?;
-    let rows: [(&[u8], &[&[u8]], &[u8]); 9] = [
-        (PFA, &[], b".notdef 012"),
-        (PFB, &[b"X"], b".notdef X 0125"),
-        (PFA, &[b"X", b"X"], b".notdef X 0125"),
-        (PFA, &[b"H"], b".notdef H 01247"),
-        (PFA, &[b"Aacute"], b".notdef A Aacute acute 01256"),
-        (PFA, &[b"N"], b".notdef A B N acute 01256"),
-        (PFA, &[b"L"], b".notdef L 0129"),
-        (no_base.as_slice(), &[b"M"], b".notdef M acute 0125"),
-        (nested.as_slice(), &[b"A"], b".notdef A acute 0125"),
-    ];
-    for (input, names, want) in rows {
-        let file = subset(rt.alloc(), input, names);
+    for (names, want) in KEPT {
+        let file = subset(rt.alloc(), PFB, names);
+        assert_eq!(rt; kept(rt.alloc(), file.as_slice())?.as_slice(), want);
+    }
+    Ok(())
+}
+
+/// A glyph of Tiny with another charstring, and what its subset keeps.
+const CHANGED_KEPT: [(&[u8], &[u8], &[u8]); 2] = [
+    (
+        b"M",
+        b"\x8b\xf8\x88\x0d\xbd\xf7\x0c\xf7\x5c\x8b\xf7\x56\x0c\x06",
+        b".notdef M acute 0125",
+    ),
+    (
+        b"A",
+        b"\x8b\xf8\x88\x0d\xbd\xf7\x0c\xf7\x5c\xcc\xf7\x56\x0c\x06",
+        b".notdef A acute 0125",
+    ),
+];
+
+#[test]
+fn what_changed_glyphs_keep(rt: HostRuntime) -> Result<(), Fail> {
+    for (name, plain, want) in CHANGED_KEPT {
+        let font = tiny_and(rt.alloc(), name, plain)?;
+        let file = subset(rt.alloc(), font.as_slice(), &[name]);
         assert_eq!(rt; kept(rt.alloc(), file.as_slice())?.as_slice(), want);
     }
     Ok(())
