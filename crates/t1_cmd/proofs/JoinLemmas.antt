@@ -1,6 +1,5 @@
 -- The answers of the engine of listings.
-use Rattle.std.proofs.Common.{◌≡◌, ℕ, ◌∙◌, ap, subst, List, [], ◌∷◌, Result, Ok, Err}
-use Rattle.t1_join.specs.declared.listing.JoinFault.{JoinFault}
+use Rattle.std.proofs.Common.{◌≡◌, ℕ, ◌∙◌, ap, List, [], ◌∷◌, Ok, Err}
 use Rattle.t1_join.specs.ListingMeaning.{ListingMeaning}
 use Rattle.t1_join.proofs.ConflictLemmas.{joined_or_refused}
 use Rattle.t1_cmd.specs.declared.faults.Reason.{Reason}

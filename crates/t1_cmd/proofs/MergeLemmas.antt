@@ -1,5 +1,5 @@
 -- How the engine that merges fonts ends.
-use Rattle.std.proofs.Common.{◌≡◌, ℕ, refl, sym, ◌∙◌, ap, subst, List, [], ◌∷◌, ◌++◌, ◌⊎◌, inl, inr, ⊎_elim, Option, None, Some, Result, Ok, Err}
+use Rattle.std.proofs.Common.{◌≡◌, ℕ, refl, sym, ◌∙◌, ap, subst, List, [], ◌∷◌, ◌++◌, ◌⊎◌, inl, ⊎_elim, Option, None, Result, Ok, Err}
 use Rattle.t1_bytes.specs.declared.form.Form.{Form}
 use Rattle.t1_font.specs.FontValue.{FontValue}
 use Rattle.t1_font.proofs.MapCuts.{Some_None}

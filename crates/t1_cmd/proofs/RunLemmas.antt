@@ -1,5 +1,5 @@
 -- How engines end, from how their steps end.
-use Rattle.std.proofs.Common.{◌≡◌, ◌<◌, ◌≤◌, ℕ, refl, sym, ◌∙◌, ap, subst, List, [], ◌∷◌, ◌++◌, ◌⊎◌, inl, inr, ⊎_elim, Option, None, Some, Result, Ok, Err, IfSome, arith, take, length}
+use Rattle.std.proofs.Common.{◌≡◌, ◌<◌, ℕ, refl, sym, ◌∙◌, ap, subst, List, [], ◌∷◌, ◌++◌, ◌⊎◌, inl, inr, ⊎_elim, Option, None, Some, Result, Ok, Err, IfSome, arith}
 use Rattle.std.specs.Prelude.{OnOk, OnErr, IfErr, IsOk, IsOkUnless, option_and_then}
 use Rattle.std.specs.Result.{result_ok}
 use Rattle.std.specs.Io.KnownBytes.{Appends}
@@ -8,9 +8,9 @@ use Rattle.t1_cmd.specs.declared.faults.Reason.{Reason}
 use Rattle.t1_cmd.specs.declared.faults.Reason.TheVariants.{TooLong, Memory, List as ListReason, Join as JoinReason, Font, NoGlyph, Merge}
 use Rattle.t1_cmd.specs.declared.faults.RunFault.{RunFault}
 use Rattle.t1_cmd.specs.declared.faults.RunFault.TheVariants.{Refused, Read, Write}
-use Rattle.t1_cmd.specs.Count.{inner_of, failed_of, last_count, next_count}
-use Rattle.t1_cmd.specs.Inputs.{Input, Rose, HasFailed, IsQuiet, AllQuiet, Understood, AllUnderstood, IsRefused, FirstWith, value_of, value_and, values_of, Say}
-use Rattle.t1_cmd.specs.Runs.{AppendsPrefix, InputStops, RefusedTogether, Stops, Takes, RunEnds, Succeeds}
+use Rattle.t1_cmd.specs.Count.{inner_of, failed_of, last_count}
+use Rattle.t1_cmd.specs.Inputs.{Input, Rose, HasFailed, AllQuiet, Understood, AllUnderstood, IsRefused, FirstWith, value_and, values_of, Say}
+use Rattle.t1_cmd.specs.Runs.{AppendsPrefix, InputStops, RefusedTogether, Stops, RunEnds, Succeeds}
 
 -- a count that stays below its last value did not rise
 not_risen : (old new : ℕ) → Rose old new → new ≡ old → old < last_count → ⊥

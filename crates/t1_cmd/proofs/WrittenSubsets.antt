@@ -1,23 +1,22 @@
 -- The written subsets of one font merge to the subset over all the names.
-use Rattle.std.proofs.Common.{◌≡◌, ◌≤◌, ℕ, true, false, Bool, nat_lt, if◌then◌else◌, refl, sym, ◌∙◌, ap, subst, List, [], ◌∷◌, map, ◌⊎◌, inl, inr, ⊎_elim, length, Option, None, Some, Result, Ok, Err, IfSome, option_and_then}
+use Rattle.std.proofs.Common.{◌≡◌, ◌≤◌, ℕ, false, Bool, nat_lt, if◌then◌else◌, refl, ◌∙◌, ap, subst, List, [], ◌∷◌, map, ◌⊎◌, inl, inr, ⊎_elim, length, Option, Some, Result, Ok, Err, IfSome, option_and_then}
 use Rattle.std.specs.List.{AllByRecursion}
 use Rattle.std.proofs.lemmas.Bool.{le-ltb}
 use Rattle.std.specs.Result.{result_ok}
 use Rattle.std.specs.Io.KnownBytes.{Appends}
 use Rattle.t1_bytes.specs.declared.form.Form.{Form}
-use Rattle.t1_font.specs.FontValue.{FontValue, file_limit as font_limit}
+use Rattle.t1_font.specs.FontValue.{FontValue}
 use Rattle.t1_font.specs.IsFont.{IsFont}
 use Rattle.t1_font.specs.Canon.{canon}
 use Rattle.t1_font.specs.ReadFont.{read_font}
 use Rattle.t1_font.specs.WriteLaws.{Fits}
 use Rattle.t1_font.proofs.LengthLemmas.{canon_short}
 use Rattle.t1_subset.specs.declared.conflict.Conflict.{Conflict as Refusal}
-use Rattle.t1_subset.specs.declared.conflict.Conflict.TheVariants as refusal
 use Rattle.t1_subset.specs.Interpreter.{Names}
 use Rattle.t1_subset.specs.Profile.{profile}
 use Rattle.t1_subset.specs.Keep.{subset}
 use Rattle.t1_subset.specs.Laws.{IsOf}
-use Rattle.t1_subset.specs.Merging.{ComesTo, IsRefused as FontsRefused}
+use Rattle.t1_subset.specs.Merging.{IsRefused as FontsRefused}
 use Rattle.t1_subset.specs.Trees.{union_all}
 use Rattle.t1_subset.proofs.Fonts.{subset_is_font}
 use Rattle.t1_subset.proofs.Headline.{subset_again}
@@ -27,13 +26,13 @@ use Rattle.t1_cmd.specs.declared.faults.Reason.{Reason}
 use Rattle.t1_cmd.specs.declared.faults.Reason.TheVariants.{TooLong, Memory, List as ListReason, Join as JoinReason, Font, NoGlyph, Merge}
 use Rattle.t1_cmd.specs.declared.faults.RunFault.{RunFault}
 use Rattle.t1_cmd.specs.declared.faults.RunFault.TheVariants.{Refused, Read, Write}
-use Rattle.t1_cmd.specs.Count.{inner_of, failed_of}
+use Rattle.t1_cmd.specs.Count.{inner_of}
 use Rattle.t1_cmd.specs.Inputs.{Input, HasFailed, IsRefused, FirstWith, values_of, value_and, file_limit}
 use Rattle.t1_cmd.specs.Answers.{with_reason}
 use Rattle.t1_cmd.specs.Runs.{AppendsPrefix, RunEnds, Stops, RefusedTogether}
 use Rattle.t1_cmd.specs.Fonts.{font_input, font_reason}
 use Rattle.t1_cmd.specs.Mergers.{IsTold, MergesTo}
-use Rattle.t1_cmd.specs.WrittenSubsets.{IsSubset, AreSubsets, SomeFailed, Writes, WritesUnion}
+use Rattle.t1_cmd.specs.WrittenSubsets.{IsSubset, AreSubsets, SomeFailed, WritesUnion}
 use Rattle.t1_cmd.proofs.RunLemmas.{first_refused}
 
 not_over : (n : ℕ) → n ≤ file_limit → nat_lt file_limit n ≡ false

@@ -1,5 +1,5 @@
 -- How an engine ends.
-use Rattle.std.specs.Prelude.{ℕ, ◌≡◌, ◌<◌, ◌≤◌, length, take, List, [], ◌∷◌, ◌⊎◌, Option, None, Some, Result, Ok, Err, IfSome, IsOkUnless}
+use Rattle.std.specs.Prelude.{ℕ, ◌≡◌, ◌<◌, ◌≤◌, length, take, List, ◌⊎◌, Option, Result, Ok, Err, IfSome, IsOkUnless}
 use Rattle.std.specs.Io.KnownBytes.{Keeps, Appends}
 use Rattle.t1_cmd.specs.declared.counting.Counted.{Counted}
 use Rattle.t1_cmd.specs.declared.faults.Reason.{Reason}

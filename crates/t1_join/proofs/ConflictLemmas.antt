@@ -1,5 +1,5 @@
 -- Conflicts of tables and of listings: at most one, and the same in either order.
-use Rattle.std.proofs.Common.{◌≡◌, refl, sym, ◌∙◌, ap, Option}
+use Rattle.std.proofs.Common.{◌≡◌, refl, ◌∙◌, ap, Option}
 use Rattle.std.specs.declared.cmp.Ordering.{Ordering}
 use Rattle.std.specs.declared.cmp.Ordering.TheVariants.{Less, Equal, Greater}
 use Rattle.std.specs.Ordering.{ordering_reverse}
@@ -8,7 +8,6 @@ use Rattle.std.specs.FinMap as fin
 use Rattle.t1_join.specs.declared.listing.JoinFault.{JoinFault}
 use Rattle.t1_join.specs.declared.listing.JoinFault.TheVariants.{Subr, Glyph, Memory}
 use Rattle.t1_join.specs.Meaning.{Meaning, meaning_cmp, of_number}
-use Rattle.t1_join.specs.Join.{StatesAgree, joined_state}
 use Rattle.t1_join.specs.StateLaws.{state_back}
 use Rattle.t1_join.specs.TableMeaning.{TableMeaning, TablesAgree, joined_table, IsFirstConflict}
 use Rattle.t1_join.specs.TableLaws.{table_laws}

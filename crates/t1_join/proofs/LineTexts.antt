@@ -1,6 +1,6 @@
 -- A line that was written is read again.
-use Rattle.std.proofs.Common.{◌≡◌, ◌<◌, ◌≤◌, ◌+◌, ◌-◌, ◌*◌, ◌/◌, ◌%◌, ◌^◌, ◌==◌, ◌&&◌, ◌||◌, ℕ, refl, sym, ◌∙◌, ap, subst, List, [], ◌∷◌, ◌++◌, length, cond, Bool, true, false, not, Option, None, Some, Result, Ok, nat_le, arith, suc, ◌≢◌, eq-eqb, eqb-true}
-use Rattle.std.specs.Prelude.{codes, option_and_then, slice_index}
+use Rattle.std.proofs.Common.{◌≡◌, ◌<◌, ◌≤◌, ◌+◌, ◌-◌, ◌*◌, ◌/◌, ◌%◌, ◌^◌, ◌==◌, ◌&&◌, ℕ, refl, sym, ◌∙◌, ap, subst, List, [], ◌∷◌, ◌++◌, length, cond, Bool, true, false, not, None, Some, nat_le, arith, suc, ◌≢◌, eq-eqb, eqb-true}
+use Rattle.std.specs.Prelude.{option_and_then, slice_index}
 use Rattle.std.specs.Option.{option_map}
 use Rattle.std.specs.Result.{result_ok}
 use Rattle.std.specs.List.{AllByRecursion, list_all}
@@ -10,7 +10,7 @@ use Rattle.std.proofs.lemmas.Fmt.{decimal_by_steps, length-decimal-le, decimal_n
 use Rattle.hex.specs.Hex.{IsBytes, decode_of, encode_lower, encode_with, lower_digits}
 use Rattle.hex.proofs.HexLemmas.{decode_of-encode_lower, length-encode_with}
 use Rattle.t1_join.specs.ListingMeaning.{ends_name, is_name, IsValue}
-use Rattle.t1_join.specs.ListingText.{Entry, subr, glyph, with_front, split_at, digits_after, up_to, index_of, name_of, bytes_of, entry_of, subr_of, glyph_of, lines_of}
+use Rattle.t1_join.specs.ListingText.{Entry, subr, glyph, with_front, split_at, digits_after, up_to, index_of, bytes_of, entry_of, subr_of, glyph_of, lines_of}
 use Rattle.t1_join.specs.LineMeaning.{IsEntry}
 use Rattle.t1_join.proofs.SplitLemmas.{lines-split, first_line}
 

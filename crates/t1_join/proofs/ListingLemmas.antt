@@ -1,5 +1,5 @@
 -- What a line says can stand in a listing, and listings keep to it.
-use Rattle.std.proofs.Common.{◌≡◌, ◌<◌, ◌≤◌, ◌==◌, ℕ, refl, sym, ◌∙◌, ap, subst, List, [], ◌∷◌, length, cond, Bool, true, false, not, Option, None, Some, Result, Ok, Err, nat_le, ◌&&◌, ◌*◌, arith}
+use Rattle.std.proofs.Common.{◌≡◌, ◌<◌, ◌≤◌, ◌==◌, ℕ, refl, sym, ◌∙◌, subst, List, [], ◌∷◌, length, cond, Bool, true, false, not, Option, None, Some, Result, Ok, Err, nat_le, ◌&&◌, ◌*◌, arith}
 use Rattle.std.specs.Prelude.{option_and_then, if◌then◌else◌}
 use Rattle.std.specs.Option.{option_map}
 use Rattle.std.specs.Result.{result_ok}

@@ -4,9 +4,8 @@ use Rattle.std.specs.Prelude.{flat_map, slice_index}
 use Rattle.std.specs.List.{AllByRecursion, list_any}
 use Rattle.std.specs.Fmt.{decimal}
 use Rattle.hex.specs.Hex.{encode_lower}
-use Rattle.std.specs.declared.cmp.Ordering.{Ordering}
-use Rattle.std.specs.declared.cmp.Ordering.TheVariants.{Less, Equal, Greater}
-use Rattle.std.specs.Ordering.{eq_by_cmp, is_eq, is_lt}
+use Rattle.std.specs.declared.cmp.Ordering.TheVariants.{Less}
+use Rattle.std.specs.Ordering.{eq_by_cmp, is_eq}
 use Rattle.std.proofs.lemmas.Cmp.{nat_list_cmp_total, tied_itself}
 use Rattle.std.specs.FinMap as fin
 use Rattle.std.specs.FinMap.Entries.{below_all}
@@ -15,8 +14,8 @@ use Rattle.t1_join.specs.Meaning.{Meaning, meaning_cmp, of_number}
 use Rattle.t1_join.specs.Join.{State, joined_state}
 use Rattle.t1_join.specs.TableMeaning.{TableMeaning}
 use Rattle.t1_join.specs.TableLaws.{same_table}
-use Rattle.t1_join.specs.ListingMeaning.{ListingMeaning, IsIndex, IsValue, IsListing, is_name}
-use Rattle.t1_join.specs.ListingText.{Entry, subr, glyph, lines_of, same_key, read_entry, read_lines, with_entry, listing_from, listing_result, listing_of, subr_line, glyph_line, text_of}
+use Rattle.t1_join.specs.ListingMeaning.{ListingMeaning, IsIndex, IsListing}
+use Rattle.t1_join.specs.ListingText.{Entry, subr, glyph, lines_of, same_key, read_entry, read_lines, listing_from, listing_result, listing_of, subr_line, glyph_line, text_of}
 use Rattle.t1_join.specs.LineMeaning.{IsEntry}
 use Rattle.t1_join.proofs.EntryLemmas.{same_by_cmp, is_eq-Equal}
 use Rattle.t1_join.proofs.ScanLemmas.{first, second, is_lt-Less, not_below, present_first}

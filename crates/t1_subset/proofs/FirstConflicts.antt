@@ -2,16 +2,16 @@
 use Rattle.std.proofs.Common.{◌≡◌, ℕ, ◌<◌, ◌≤◌, Bool, true, false, not, cond, List, refl, sym, ◌∙◌, ap, subst, true≢false, Option, Some, None, is_some, inl, inr, arith, nat_cmp, Less, Ordering, nat_lt}
 use Rattle.std.proofs.lemmas.Bool.{ltb-true, ltb-false}
 use Rattle.std.specs.Bool.{beq}
-use Rattle.std.specs.Ordering.{match_ordering, MatchOrdering}
+use Rattle.std.specs.Ordering.{MatchOrdering}
 use Rattle.std.specs.Cmp.{nat_cmp_total, ranks}
 use Rattle.std.specs.Cmp.Lexicographic.{nat_list_cmp_total}
 use Rattle.std.specs.FinSet.{nat_cmp-IsAntisymmetric}
 use Rattle.std.specs.FinMap as maps
 use Rattle.t1_font.specs.FontValue.{FontValue, Encoding, Word, Codes, declared_count}
-use Rattle.t1_font.specs.FontModel.{name_at, subr_at}
+use Rattle.t1_font.specs.FontModel.{name_at}
 use Rattle.t1_font.specs.IsFont.{IsFont, IsEncoding}
 use Rattle.t1_font.proofs.FontReaders.{subrs_seen}
-use Rattle.t1_subset.specs.Conflicts.{agrees, first_where, smallest, members, same_keys, keys_of_both, codes_of_both, code_clashes, code_conflict, glyph_clashes, glyph_conflict, glyph_names}
+use Rattle.t1_subset.specs.Conflicts.{agrees, first_where, members, same_keys, codes_of_both, code_clashes, code_conflict, glyph_clashes, glyph_conflict, glyph_names}
 use Rattle.t1_subset.specs.States.{code_state}
 use Rattle.t1_subset.proofs.Conflicts.{keys_so, so_keys, passes_none, in_both}
 use Rattle.t1_subset.proofs.Smallest.{smallest_is}

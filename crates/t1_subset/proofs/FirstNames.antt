@@ -1,5 +1,5 @@
 -- The first of the keys of a map that passes, and the smallest of two maps' keys.
-use Rattle.std.proofs.Common.{◌≡◌, ℕ, Bool, true, false, cond, ◌||◌, List, [], ◌∷◌, map, refl, sym, ◌∙◌, ap, subst, true≢false, ◌⊎◌, inl, inr, Option, Some, None, is_some, Ordering, Less, Equal, Greater, is_lt}
+use Rattle.std.proofs.Common.{◌≡◌, ℕ, Bool, true, false, cond, ◌||◌, List, [], ◌∷◌, map, refl, sym, ◌∙◌, ap, subst, true≢false, inl, inr, Option, Some, None, Ordering, Less, Equal, Greater, is_lt}
 use Rattle.std.specs.List.{list_any}
 use Rattle.std.specs.Ordering.{eq_by_cmp, ordering_reverse}
 use Rattle.std.specs.Cmp.{IsTotalOrder, first_so, second_so}

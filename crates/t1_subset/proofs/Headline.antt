@@ -1,6 +1,5 @@
 -- The written subsets of a font, read and merged in any order and grouping, come to the subset over all names.
-use Rattle.std.proofs.Common.{◌≡◌, ℕ, true, List, refl, sym, ◌∙◌, ap, subst, Result, Ok, IsPermutation}
-use Rattle.std.specs.FinSet as sets
+use Rattle.std.proofs.Common.{◌≡◌, List, sym, ◌∙◌, ap, subst, Result, Ok, IsPermutation}
 use Rattle.t1_bytes.specs.declared.form.Form.{Form}
 use Rattle.t1_bytes.specs.declared.form.Form.TheVariants.{Pfa, Pfb}
 use Rattle.t1_font.specs.declared.fault.ReadFault.{ReadFault}
@@ -11,7 +10,7 @@ use Rattle.t1_font.specs.ReadFont.{read_font}
 use Rattle.t1_font.specs.WriteLaws.{Fits}
 use Rattle.t1_font.proofs.RoundTrip.{round_trip}
 use Rattle.t1_subset.specs.Interpreter.{Names}
-use Rattle.t1_subset.specs.Keep.{keep, subset}
+use Rattle.t1_subset.specs.Keep.{subset}
 use Rattle.t1_subset.specs.Profile.{profile}
 use Rattle.t1_subset.specs.States.{joined_font}
 use Rattle.t1_subset.specs.Laws.{IsOf, DrawsAlike}

@@ -1,8 +1,7 @@
 -- Parts that one font lacks and needs and the other has, as the code finds them.
-use Rattle.std.proofs.Common.{◌≡◌, ℕ, ◌<◌, ◌+◌, zero, suc, length, drop, get_or, arith, Bor, Bool, true, false, not, cond, ◌&&◌, ◌||◌, List, [], ◌∷◌, ◌++◌, map, filter, refl, sym, ◌∙◌, ap, subst, true≢false, Option, Some, None, is_some, unwrap_or, option_map, MatchOption, inl, inr}
+use Rattle.std.proofs.Common.{◌≡◌, ℕ, ◌<◌, ◌+◌, zero, suc, length, drop, get_or, arith, Bor, Bool, true, false, not, cond, ◌||◌, List, [], ◌∷◌, ◌++◌, filter, refl, sym, ◌∙◌, ap, true≢false, Option, Some, None, is_some, unwrap_or, option_map, MatchOption, inl, inr}
 use Rattle.std.specs.Global.{Vec}
 use Rattle.std.specs.List.{list_any}
-use Rattle.std.specs.Ordering.{eq_by_cmp}
 use Rattle.std.specs.Cmp.{first_so, second_so}
 use Rattle.std.specs.Cmp.Lexicographic.{nat_list_cmp_total}
 use Rattle.std.specs.FinMap as maps
@@ -12,7 +11,7 @@ use Rattle.t1_font.specs.FontModel.{names_in}
 use Rattle.t1_subset.specs.Interpreter.{Names, is_name}
 use Rattle.t1_subset.specs.Keep.{has, parts, charstring}
 use Rattle.t1_subset.specs.Profile.{profile}
-use Rattle.t1_subset.specs.Conflicts.{first_where, smallest, members, keys_of_both, glyph_names, called_at, calls_for, wants, wanted_by, part_clashes, part_conflict}
+use Rattle.t1_subset.specs.Conflicts.{first_where, smallest, members, glyph_names, called_at, calls_for, wants, wanted_by, part_clashes, part_conflict}
 use Rattle.t1_subset.specs.Differences.{bytes_of, smaller}
 use Rattle.t1_subset.specs.Marks.{lent}
 use Rattle.t1_subset.specs.NameSets.{IsLeast}
@@ -23,7 +22,7 @@ use Rattle.t1_subset.proofs.Conflicts.{passes_none, in_both, contains-members}
 use Rattle.t1_subset.proofs.Smallest.{smallest_is}
 use Rattle.t1_subset.proofs.FirstNames.{smaller_first}
 use Rattle.t1_subset.proofs.SetUnions.{insert_union, list_union, union_none}
-use Rattle.t1_subset.proofs.Sets.{and_so, or_cases, or_left, or_right, not_so, is_or_not, name_same, any_one, any_at, any_flat, any_flat_from, any_filter, any_filter_from, in_list, from_in_list, in_union, in_union_left, in_union_right}
+use Rattle.t1_subset.proofs.Sets.{and_so, or_cases, or_left, or_right, not_so, name_same, any_one, any_at, any_flat, any_flat_from, any_filter, any_filter_from, in_list, from_in_list, in_union, in_union_left, in_union_right}
 
 -- ---- one part, and the parts of a glyph
 

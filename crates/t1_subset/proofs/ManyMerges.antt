@@ -1,5 +1,5 @@
 -- What merges of the subsets of one font come to, and what a merge of many fonts comes to.
-use Rattle.std.proofs.Common.{◌≡◌, ◌⊎◌, inl, inr, ℕ, ◌+◌, ◌<◌, true, List, [], ◌∷◌, ◌++◌, map, take, drop, length, get_or, append_assoc, refl, sym, ◌∙◌, ap, subst, Option, Some, None, Result, Ok, Err, IfOk, IfErr, MatchResult, IsPermutation}
+use Rattle.std.proofs.Common.{◌≡◌, inl, inr, ℕ, ◌+◌, ◌<◌, List, [], ◌∷◌, ◌++◌, map, take, drop, length, get_or, append_assoc, refl, sym, ◌∙◌, ap, subst, Option, None, Result, Ok, Err, IfOk, IfErr, IsPermutation}
 use Rattle.std.specs.List.{AllByRecursion}
 use Rattle.std.specs.FinSet as sets
 use Rattle.std.specs.Cmp.Lexicographic.{nat_list_cmp_total}
@@ -10,7 +10,7 @@ use Rattle.t1_font.specs.IsFont.{IsFont}
 use Rattle.t1_subset.specs.declared.conflict.Conflict.{Conflict as Refusal}
 use Rattle.t1_subset.specs.declared.conflict.Conflict.TheVariants as refusal
 use Rattle.t1_subset.specs.Interpreter.{Names}
-use Rattle.t1_subset.specs.Keep.{has, subset}
+use Rattle.t1_subset.specs.Keep.{subset}
 use Rattle.t1_subset.specs.Profile.{profile}
 use Rattle.t1_subset.specs.Laws.{IsOf, DrawsAlike}
 use Rattle.t1_subset.specs.States.{Join, joined_font}

@@ -1,10 +1,9 @@
 -- What marking does to the marks in memory.
-use Rattle.std.proofs.Common.{◌≡◌, ℕ, Bool, true, false, List, [], ◌∷◌, ◌++◌, refl, sym, ◌∙◌, ap, cond, subst}
+use Rattle.std.proofs.Common.{◌≡◌, ℕ, Bool, true, false, List, [], ◌∷◌, ◌++◌, sym, ◌∙◌, ap, cond, subst}
 use Rattle.std.specs.Global.{Vec}
 use Rattle.std.specs.List.{list_any}
 use Rattle.std.specs.Cmp.Lexicographic.{nat_list_cmp_total}
 use Rattle.std.specs.FinSet as sets
-use Rattle.t1_font.specs.FontValue.{name_cmp}
 use Rattle.t1_subset.specs.declared.marks.Marked.{Marked}
 use Rattle.t1_subset.specs.Interpreter.{Names, is_name}
 use Rattle.t1_subset.specs.Marks.{names_of, push_new}

@@ -1,7 +1,6 @@
 -- Merging two fonts whose shells and states have no conflict.
-use Rattle.std.proofs.Common.{◌≡◌, ◌<◌, ◌⊎◌, inl, inr, Bool, true, false, cond, refl, sym, ◌∙◌, ap, subst, arith, Option, Some, None}
-use Rattle.std.specs.FinMap.{len}
-use Rattle.t1_font.specs.FontValue.{FontValue, count_limit, weight_limit, weight}
+use Rattle.std.proofs.Common.{◌≡◌, inl, inr, Bool, true, false, cond, refl, sym, ◌∙◌, ap, subst, arith, Option, Some, None}
+use Rattle.t1_font.specs.FontValue.{FontValue, weight}
 use Rattle.t1_font.specs.IsFont.{IsFont}
 use Rattle.t1_font.specs.Cut.{join_parts}
 use Rattle.t1_font.specs.Joins.{Refuses}

@@ -1,5 +1,5 @@
 -- Names in the order of their bytes, as finite sets.
-use Rattle.std.proofs.Common.{◌≡◌, ℕ, ◌<◌, ◌↔◌, Bool, true, false, ◌||◌, List, [], ◌∷◌, ◌++◌, map, refl, sym, ◌∙◌, ap, true≢false, inl, inr, length, arith, Option, Some, None, IsSome, IfSome, MatchOption, Ordering, Less, Equal, Greater}
+use Rattle.std.proofs.Common.{◌≡◌, ℕ, ◌<◌, ◌↔◌, Bool, true, false, ◌||◌, List, [], ◌∷◌, ◌++◌, refl, sym, ◌∙◌, ap, true≢false, inl, inr, length, arith, Option, Some, None, IsSome, IfSome, MatchOption, Ordering, Less, Equal, Greater}
 use Rattle.std.specs.Global.{Vec}
 use Rattle.std.proofs.lemmas.List.{append-nil}
 use Rattle.std.specs.List.{list_any, All, AllByRecursion}

@@ -1,5 +1,5 @@
 -- Indices in their order, as finite sets, and unions of sets.
-use Rattle.std.proofs.Common.{◌≡◌, ℕ, Bool, true, false, ◌||◌, List, [], ◌∷◌, ◌++◌, refl, sym, ◌∙◌, ap, Ordering, Less, Equal, Greater, flat_map, inl, inr}
+use Rattle.std.proofs.Common.{◌≡◌, ℕ, Bool, true, false, ◌||◌, List, [], ◌∷◌, ◌++◌, refl, sym, ◌∙◌, ap, Less, Equal, Greater, flat_map, inl, inr}
 use Rattle.std.proofs.Math.Bool.{or_assoc}
 use Rattle.std.proofs.lemmas.List.Folds.{list_any-append}
 use Rattle.std.specs.Global.{Vec}
@@ -7,15 +7,15 @@ use Rattle.std.specs.List.{list_any}
 use Rattle.std.specs.Ordering.{nat_cmp, eq_by_cmp, match_ordering}
 use Rattle.std.specs.Cmp.{nat_cmp_total}
 use Rattle.std.specs.Cmp.Lexicographic.{nat_list_cmp_total}
-use Rattle.std.specs.BTreeSet.{BTreeSet, insert_key}
+use Rattle.std.specs.BTreeSet.{insert_key}
 use Rattle.std.specs.FinSet as sets
 use Rattle.std.specs.FinSet.{nat_cmp-IsAntisymmetric}
 use Rattle.t1_font.specs.FontValue.{name_cmp}
 use Rattle.t1_subset.specs.Interpreter.{Numbers}
 use Rattle.t1_subset.specs.Marks.{names_of}
-use Rattle.t1_subset.specs.NameSets.{set_by, number_set}
+use Rattle.t1_subset.specs.NameSets.{set_by}
 use Rattle.t1_subset.proofs.NameSets.{or_same, or_later}
-use Rattle.t1_subset.proofs.Sets.{name_same, tied, any_at, any_one, any_flat, any_flat_from, in_list, from_in_list, in_items, from_in_items, same_members, here_or, here, later, any_append, any_append_left, any_append_right}
+use Rattle.t1_subset.proofs.Sets.{name_same, any_at, any_one, any_flat, any_flat_from, in_list, from_in_list, in_items, from_in_items, same_members, any_append, any_append_left, any_append_right}
 
 or_none : (a : Bool) → (a || false) ≡ a
 or_none true = refl

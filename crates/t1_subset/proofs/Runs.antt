@@ -1,5 +1,5 @@
 -- The interpreter of the laws, as runs of charstrings in code.
-use Rattle.std.proofs.Common.{◌≡◌, ℕ, List, [], sym, ap, ◌∙◌, Some, None, Option, unwrap_or}
+use Rattle.std.proofs.Common.{◌≡◌, ℕ, List, [], sym, ap, ◌∙◌, Some, None, unwrap_or}
 use Rattle.std.specs.FinMap as maps
 use Rattle.t1_run.specs.Run.{direct}
 use Rattle.t1_run.specs.Drawings.{parts_of}

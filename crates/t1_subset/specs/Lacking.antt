@@ -1,7 +1,7 @@
 -- Parts that a font lacks and another has.
-use Rattle.std.specs.Prelude.{ℕ, Bool, not, ◌&&◌, List, filter, flat_map, Option}
+use Rattle.std.specs.Prelude.{ℕ, Bool, not, ◌&&◌, List, filter, flat_map}
 use Rattle.std.specs.FinSet as sets
-use Rattle.t1_font.specs.FontValue.{FontValue, name_cmp}
+use Rattle.t1_font.specs.FontValue.{FontValue}
 use Rattle.t1_font.specs.FontModel.{names_in}
 use Rattle.t1_subset.specs.Interpreter.{Names}
 use Rattle.t1_subset.specs.Keep.{has, parts, charstring}

@@ -1,7 +1,7 @@
-use Rattle.std.proofs.Common.{◌∙◌, ap, sym, ◌≡◌, ◌+◌, ◌≤◌, ℕ, true, false, cond, arith}
+use Rattle.std.proofs.Common.{◌∙◌, ap, sym, ◌≡◌, ◌≤◌, ℕ, true, false, cond, arith}
 use Rattle.std.specs.FinMap.{contains_key}
 use Rattle.t1_font.specs.FontValue.{declared_count}
-use Rattle.t1_cmd.proofs.Walks.{count_none, count_more, count_all, count_under}
+use Rattle.t1_cmd.proofs.Walks.{count_none, count_more, count_all}
 use Rattle.t1_cmd.proofs.fonts.subr_count.Goals as goal
 use Rattle.t1_cmd.proofs.fonts.subr_count.Goals.{then-present, else-present}
 

@@ -1,5 +1,4 @@
 use Rattle.std.proofs.Common.{◌≡◌, ◌++◌}
-use Rattle.t1_cmd.specs.ListText.{code_line}
 use Rattle.t1_cmd.proofs.Walks.{codes_under}
 use Rattle.t1_cmd.proofs.list.push_codes.Given as goal
 

@@ -1,5 +1,4 @@
-use Rattle.std.proofs.Common.{◌≡◌, List, ℕ, Ok, Err, subst, sym}
-use Rattle.t1_font.specs.FontValue.{FontValue}
+use Rattle.std.proofs.Common.{Ok, Err, subst, sym}
 use Rattle.t1_cmd.specs.Fonts.{font_input}
 use Rattle.t1_cmd.specs.Mergers.{inputs_of, MergesTo, MergeStops}
 use Rattle.t1_cmd.proofs.RunLemmas.{write_ends, ends_succeeds}

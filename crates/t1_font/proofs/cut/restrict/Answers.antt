@@ -1,4 +1,4 @@
-use Rattle.std.proofs.Common.{subst, sym, ap, ◌∙◌}
+use Rattle.std.proofs.Common.{subst, sym}
 use Rattle.std.specs.Ordering.{nat_cmp}
 use Rattle.std.specs.BTreeSet.{contains}
 use Rattle.std.specs.FinSet as sets

@@ -1,4 +1,4 @@
-use Rattle.std.proofs.Common.{nat_cmp, ap, ◌∙◌}
+use Rattle.std.proofs.Common.{ap, ◌∙◌}
 use Rattle.std.specs.Cmp.{nat_cmp_total}
 use Rattle.std.specs.FinMap.{entries, nat_cmp-IsAntisymmetric}
 use Rattle.t1_font.specs.Cut.{put_all_into}

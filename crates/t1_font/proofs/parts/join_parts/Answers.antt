@@ -1,4 +1,4 @@
-use Rattle.std.proofs.Common.{◌≡◌, ◌≤◌, ℕ, subst, sym, ap, ◌∙◌}
+use Rattle.std.proofs.Common.{◌≡◌, ◌≤◌, ℕ, subst, sym, ◌∙◌}
 use Rattle.std.specs.FinMap.{len}
 use Rattle.t1_font.specs.FontValue.{FontValue, weight, count_limit, weight_limit}
 use Rattle.t1_font.specs.Cut.{join_parts}

@@ -1,4 +1,4 @@
-use Rattle.std.proofs.Common.{[], ◌∙◌, ap, sym}
+use Rattle.std.proofs.Common.{◌∙◌, ap, sym}
 use Rattle.std.specs.FinSet as sets
 use Rattle.t1_subset.specs.Profile.{set_of}
 use Rattle.t1_subset.specs.NameSets.{number_set}

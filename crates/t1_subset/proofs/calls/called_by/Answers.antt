@@ -1,4 +1,4 @@
-use Rattle.std.proofs.Common.{ℕ, List, [], ◌∷◌, ◌++◌, ◌∙◌, ◌+◌, ap, sym, drop, nat_cmp, arith}
+use Rattle.std.proofs.Common.{ℕ, List, [], ◌∷◌, ◌∙◌, ◌+◌, ap, sym, drop, nat_cmp}
 use Rattle.std.proofs.lemmas.List.{drop_all}
 use Rattle.std.specs.FinSet as sets
 use Rattle.std.specs.Global.{Vec}

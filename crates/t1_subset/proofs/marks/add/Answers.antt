@@ -1,4 +1,4 @@
-use Rattle.std.proofs.Common.{◌∙◌, ap, sym}
+use Rattle.std.proofs.Common.{◌∙◌, ap}
 use Rattle.std.specs.FinSet as sets
 use Rattle.t1_font.specs.FontValue.{name_cmp}
 use Rattle.t1_subset.proofs.Marking.{holds_more}

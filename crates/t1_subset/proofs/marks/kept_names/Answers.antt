@@ -1,4 +1,4 @@
-use Rattle.std.proofs.Common.{◌≡◌, ◌∷◌, ℕ, map, Bor, sym, ◌∙◌, ap, subst, List, [], refl, filter, arith, ◌+◌}
+use Rattle.std.proofs.Common.{◌≡◌, ℕ, map, Bor, sym, ◌∙◌, ap, subst, List, [], refl, filter, arith, ◌+◌}
 use Rattle.std.specs.Global.{Vec}
 use Rattle.t1_font.specs.FontValue.{notdef}
 use Rattle.t1_subset.specs.Keep.{has, charstring, parts}

@@ -1,4 +1,4 @@
-use Rattle.std.proofs.Common.{◌∙◌, ap, sym}
+use Rattle.std.proofs.Common.{◌∙◌, sym}
 use Rattle.t1_subset.proofs.Marking.{marked_so, pushed, stays}
 use Rattle.t1_subset.proofs.marks.mark.Goals as goal
 

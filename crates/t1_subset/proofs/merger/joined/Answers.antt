@@ -1,5 +1,4 @@
 use Rattle.std.proofs.Common.{subst}
-use Rattle.t1_font.specs.declared.parts.PartsFault.{PartsFault}
 use Rattle.t1_font.specs.Joins.{Refuses}
 use Rattle.t1_subset.specs.Profile.{profile}
 use Rattle.t1_subset.proofs.MergedFonts.{same_shells, same_kinds, joins, over_limit}

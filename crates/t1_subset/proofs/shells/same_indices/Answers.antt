@@ -1,4 +1,4 @@
-use Rattle.std.proofs.Common.{sym, ◌∙◌, arith, max}
+use Rattle.std.proofs.Common.{sym, ◌∙◌, arith}
 use Rattle.t1_subset.proofs.FirstConflicts.{keys_differ, keys_alike, unequal}
 use Rattle.t1_subset.proofs.shells.same_indices.Goals as goal
 

@@ -1,9 +1,6 @@
 use Rattle.std.proofs.Common.{◌≡◌, ◌∙◌, ap, sym, subst}
 use Rattle.std.proofs.lemmas.Map.Iter.{rest_all}
-use Rattle.std.specs.Global.{Vec}
 use Rattle.std.specs.List.Sorted.{IsStrictlySortedBy}
-use Rattle.t1_font.specs.FontValue.{name_cmp}
-use Rattle.t1_subset.specs.Marks.{names_of}
 use Rattle.t1_subset.specs.NameSets.{set_by}
 use Rattle.t1_subset.proofs.NameSets.{sorted_names, by_bytes, all_taken}
 use Rattle.t1_subset.proofs.names.NameSet.into_names.Goals as goal
