@@ -15,7 +15,7 @@ use crate::maps::{Named, Numbered};
 use std::alloc::{AllocError, Global};
 use std::collections::BTreeSet;
 
-/// The charstring `return`, which takes the place of a Subr that is cut.
+/// The charstring `return`, which takes the place of a Subr that is cut (Adobe Type 1 Font Format 1.1, chapter 8).
 pub const STUB: &[u8] = &[11];
 
 /// Keeps the glyph of a name, where there is one.

@@ -26,7 +26,7 @@ mod subrs;
 mod words;
 mod writing;
 
-pub use cut::restrict;
+pub use cut::{STUB, restrict};
 pub use fault::ReadFault;
 pub use file::read;
 pub use font::{Font, Names, Part};

@@ -15,11 +15,8 @@ use crate::calls::{add_calls, executed_by};
 use crate::shells::differ;
 use std::alloc::{AllocError, Global};
 use std::collections::BTreeSet;
-use t1_font::Font;
+use t1_font::{Font, STUB};
 use t1_run::Subroutines;
-
-/// The charstring `return`, which stands for a Subr that is not kept.
-const STUB: &[u8] = &[11];
 
 /// The indices that the glyphs of the font execute.
 fn all_calls(alloc: Global, font: &Font) -> Result<BTreeSet<u16>, AllocError>
