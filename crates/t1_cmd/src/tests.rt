@@ -1,6 +1,7 @@
 mod changed;
 mod drawings;
 mod engines;
+mod library;
 mod merges;
 mod prefixes;
 mod subsets;
