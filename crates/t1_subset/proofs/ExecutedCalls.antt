@@ -1,5 +1,5 @@
 -- What glyphs execute, in code.
-use Rattle.std.proofs.Common.{◌≡◌, ℕ, ◌<◌, ◌≤◌, Bool, true, false, not, List, [], flat_map, refl, sym, ap, ◌∙◌, true≢false, Option, Some, None, is_some, unwrap_or, nat_cmp, nat_lt, arith, inl, inr}
+use Rattle.std.proofs.Common.{◌≡◌, ℕ, ◌<◌, ◌≤◌, Bool, true, false, not, cond, ◌&&◌, List, [], flat_map, refl, sym, ap, ◌∙◌, true≢false, Option, Some, None, is_some, unwrap_or, nat_cmp, nat_lt, arith, inl, inr}
 use Rattle.std.proofs.lemmas.Bool.{ltb-true, ltb-false}
 use Rattle.std.specs.List.{list_any}
 use Rattle.std.specs.Ordering.{eq_by_cmp}
@@ -17,12 +17,12 @@ use Rattle.t1_font.proofs.FontReaders.{subrs_seen}
 use Rattle.t1_subset.specs.Interpreter.{Numbers}
 use Rattle.t1_subset.specs.Keep.{charstring}
 use Rattle.t1_subset.specs.Profile.{profile, set_of}
-use Rattle.t1_subset.specs.States.{is_called, state_of_entry, subr_state}
+use Rattle.t1_subset.specs.States.{is_called, is_stub, state_of_entry, subr_state}
 use Rattle.t1_subset.specs.Conflicts.{agrees, first_where, smallest, members, keys_of_both, executes, executed_at, used_by, glyph_names, subr_clashes, subr_conflict}
-use Rattle.t1_subset.specs.Differences.{state_by, smaller}
+use Rattle.t1_subset.specs.Differences.{state_by, smaller, EntriesAgree}
 use Rattle.t1_subset.specs.NameSets.{number_set, called_in}
 use Rattle.t1_subset.proofs.Runs.{all_seen}
-use Rattle.t1_subset.proofs.Conflicts.{passes_none, in_both}
+use Rattle.t1_subset.proofs.Conflicts.{passes_none, in_both, agrees_none}
 use Rattle.t1_subset.proofs.Smallest.{smallest_is}
 use Rattle.t1_subset.proofs.Maps.{any_in, any_of}
 use Rattle.t1_subset.proofs.FirstNames.{smaller_first}
@@ -112,6 +112,31 @@ no_subr f g h end l below = sym (passes_none (subr_clashes profile f g) (members
 
 pub clash_by : (f g : FontValue) (i : ℕ) (x y : Option (List ℕ)) (b : Bool) → x ≡ subr_state profile f i → y ≡ subr_state profile g i → b ≡ not (agrees x y) → subr_clashes profile f g i ≡ b
 clash_by f g i x y b h k e = (λ j. not (agrees (sym h j) (sym k j))) ∙ sym e
+
+-- ---- entries
+
+not_false : (b : Bool) → not b ≡ false → b ≡ true
+not_false true h = refl
+not_false false h = sym h
+
+-- the entries at an index agree, as the code finds it
+pub agree_by : (f g : FontValue) → IsFont f → IsFont g → (i : ℕ) (x y : Option (List ℕ)) (b : Bool) → x ≡ subr_at f i → y ≡ subr_at g i → b ≡ not (agrees x y) → b ≡ false → agrees (maps.get f.subrs i) (maps.get g.subrs i) ≡ true
+agree_by f g h k i x y b ex ey e is =
+    (λ j. agrees (sym (ex ∙ subrs_seen f h i) j) (sym (ey ∙ subrs_seen g k i) j)) ∙ not_false (agrees x y) (sym e ∙ is)
+
+cut_agree : (a b : Bool) (x y : Option (List ℕ)) → agrees x y ≡ true → agrees (cond a None x) (cond b None y) ≡ true
+cut_agree true b x y h = refl
+cut_agree false true x y h = agrees_none x None refl
+cut_agree false false x y h = h
+
+states_agree : (f g : FontValue) (i : ℕ) (x y : Option (List ℕ)) → agrees x y ≡ true → agrees (state_of_entry profile f i x) (state_of_entry profile g i y) ≡ true
+states_agree f g i None y h = refl
+states_agree f g i (Some c) None h = agrees_none (state_of_entry profile f i (Some c)) None refl
+states_agree f g i (Some c) (Some d) h = cut_agree (is_stub c && not (is_called profile f i)) (is_stub d && not (is_called profile g i)) (Some c) (Some d) h
+
+-- where no entry differs there is no conflict, whatever is executed
+pub no_subr_differs : (f g : FontValue) → IsFont f → EntriesAgree f g → None ≡ subr_conflict profile f g
+no_subr_differs f g h e = no_subr f g h (declared_count f.shell.subrs) (omega arith) (λ i l. ap not (states_agree f g i (maps.get f.subrs i) (maps.get g.subrs i) (e i l)))
 
 -- ---- users
 

@@ -1,6 +1,6 @@
 //! The smallest Subr at which two fonts differ, and the smallest glyph that executes it.
 
-ghost use Rattle.std.specs.Prelude.{◌≡◌, IfOk};
+ghost use Rattle.std.specs.Prelude.{◌≡◌, IfOk, true};
 ghost use Rattle.std.specs.Option.{option_map};
 ghost use Rattle.std.specs.FinSet as sets;
 ghost use Rattle.t1_font.specs.FontValue.{name_cmp};
@@ -8,7 +8,7 @@ ghost use Rattle.t1_font.specs.FontModel.{names_in};
 ghost use Rattle.t1_subset.specs.Profile.{profile};
 ghost use Rattle.t1_subset.specs.Keep.{charstring};
 ghost use Rattle.t1_subset.specs.Conflicts.{first_where, smallest, executes, subr_conflict, used_by, glyph_names};
-ghost use Rattle.t1_subset.specs.Differences.{bytes_of, state_by, smaller};
+ghost use Rattle.t1_subset.specs.Differences.{bytes_of, state_by, smaller, EntriesAgree};
 ghost use Rattle.t1_subset.specs.NameSets.{number_set, called_in};
 
 use crate::calls::{add_calls, executed_by};
@@ -39,6 +39,20 @@ fn state(entry: Option<&[u8]>, is_called: bool) -> Option<&[u8]>
     }
 }
 
+/// Whether each Subr that both fonts have is the same.
+fn same_entries(left: &Font, right: &Font) -> bool
+    ensures { result ≡ true → EntriesAgree left.now right.now }
+{
+    left.is_font();
+    right.is_font();
+    'indices: for index in 0..left.count() {
+        if differ(left.get(index), right.get(index)) {
+            return false;
+        }
+    }
+    true
+}
+
 /// The smallest index at which the states of both fonts don't join.
 pub(crate) fn subr_conflict(
     alloc: Global,
@@ -49,6 +63,10 @@ pub(crate) fn subr_conflict(
 {
     left.is_font();
     right.is_font();
+    if same_entries(left, right) {
+        // Nothing differs, so it makes no difference what is executed.
+        return Ok(None);
+    }
     let left_calls = all_calls(alloc, left)?;
     let right_calls = all_calls(alloc, right)?;
     'indices: for index in 0..left.count() {

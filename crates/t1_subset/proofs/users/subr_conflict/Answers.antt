@@ -1,5 +1,5 @@
 use Rattle.std.proofs.Common.{◌∙◌, below_more, arith}
-use Rattle.t1_subset.proofs.ExecutedCalls.{state_so, clash_by, first_subr, no_subr}
+use Rattle.t1_subset.proofs.ExecutedCalls.{state_so, clash_by, first_subr, no_subr, no_subr_differs}
 use Rattle.t1_subset.proofs.users.subr_conflict.Goals as goal
 
 pub returns-then-differ : goal.returns-then-differ
@@ -19,3 +19,6 @@ indices-preserved c = below_more _ _ c.indices.invariant (clash_by c.args.left.n
 
 pub returns : goal.returns
 returns c = no_subr c.args.left.now c.args.right.now c.is_font.ensures c.count-index-end.result (omega (arith, c.count-index-end.ensures)) (λ k l. c.indices.invariant k (let t = c.indices-test.false in omega arith))
+
+pub returns-then-same_entries : goal.returns-then-same_entries
+returns-then-same_entries c = no_subr_differs c.args.left.now c.args.right.now c.is_font.ensures (c.same_entries.ensures c.if-same_entries.true)
