@@ -1,76 +1,13 @@
--- Hexadecimal digits spell bytes, as the crate `hex` reads them.
-use Rattle.std.proofs.Common.{◌≡◌, ℕ, zero, suc, ◌+◌, ◌*◌, ◌/◌, ◌%◌, ◌≤◌, ◌<◌, ◌⊎◌, append_assoc, true, List, [], ◌∷◌, ◌++◌, length, take, Option, Some, None, unwrap_or, is_some, Result, Ok, refl, sym, ap, subst, ◌∙◌, arith, inl, inr}
-use Rattle.std.specs.Prelude.{filter, min}
-use Rattle.std.specs.List.{AllByRecursion}
-use Rattle.std.proofs.lemmas.Bool.{cases_Bool, cases_lt}
-use Rattle.std.proofs.lemmas.List.{length-take-le, length-append, append-nil}
-use Rattle.hex.specs.Hex.{hex_digit_value, is_hex_digit, digit_or_error, value_at, decode_pairs, decode_of, encode_with, encode_lower}
-use Rattle.hex.proofs.HexLemmas.{decode_of-even}
-use Rattle.hex.specs.declared.error.FromHexError.{FromHexError}
-use Rattle.t1_bytes.specs.Eexec.{digit_value, paired}
+-- Lines of hexadecimal digits, as the crate `hex` writes them.
+use Rattle.std.proofs.Common.{◌≡◌, ℕ, zero, suc, ◌≤◌, ◌<◌, ◌⊎◌, append_assoc, List, [], ◌∷◌, ◌++◌, length, Result, Ok, refl, sym, ap, ◌∙◌, arith, inl, inr}
+use Rattle.std.specs.Prelude.{min}
+use Rattle.std.proofs.lemmas.Bool.{cases_lt}
+use Rattle.std.proofs.lemmas.List.{length-append, append-nil}
+use Rattle.hex.specs.Hex.{encode_with, encode_lower}
 use Rattle.t1_bytes.specs.Texts.{hex_byte, hex_rest, hex_lines}
-
--- hexadecimal digits
-abbrev pub AreDigits : List ℕ → Type 0
-AreDigits text = AllByRecursion (λ b. is_hex_digit b ≡ true) text
-
-pub filtered_digits : (text : List ℕ) → AreDigits (filter is_hex_digit text)
-filtered_digits [] = tt
-filtered_digits (b ∷ bs) = elim (cases_Bool (is_hex_digit b)) [
-  | inl e ↦ rw e (e, filtered_digits bs)
-  | inr e ↦ rw e (filtered_digits bs)
-]
-
-has_value : (o : Option ℕ) → is_some o ≡ true → o ≡ Some (unwrap_or o 0)
-has_value None e = absurd cc
-has_value (Some v) e = refl
-
-digit_reads : (b i : ℕ) → is_hex_digit b ≡ true → value_at b i ≡ Ok (digit_value b)
-digit_reads b i e = ap (digit_or_error b i) (has_value (hex_digit_value b) e)
-
--- pairs of digits decode as they spell
-pairs_decode : (n i : ℕ) (digits : List ℕ) → length digits ≡ n * 2 → AreDigits digits → decode_pairs i digits ≡ Ok (paired digits)
-unfolding decode_pairs
-pairs_decode n i [] e a = refl
-pairs_decode n i (b ∷ []) e a = absurd (omega arith)
-pairs_decode zero i (high ∷ low ∷ rest) e a = absurd (omega arith)
-pairs_decode (suc n) i (high ∷ low ∷ rest) e a = rw (digit_reads high i a.0, digit_reads low (i + 1) a.1.0, pairs_decode n (i + 2) rest (omega arith) a.1.1) refl
-
--- an odd last digit spells nothing
-pairs_only : (digits : List ℕ) → paired (take (length digits / 2 * 2) digits) ≡ paired digits
-pairs_only [] = refl
-pairs_only (b ∷ []) = refl
-pairs_only (high ∷ low ∷ rest) =
-    let more : length (high ∷ low ∷ rest) / 2 * 2 ≡ suc (suc (length rest / 2 * 2)) = omega arith in
-    rw more (ap (λ (bytes : List ℕ). (digit_value high * 16 + digit_value low) ∷ bytes) (pairs_only rest))
-
-taken_digits : (n : ℕ) (text : List ℕ) → AreDigits text → AreDigits (take n text)
-taken_digits zero text a = tt
-taken_digits (suc n) [] a = tt
-taken_digits (suc n) (b ∷ bs) a = (a.0, taken_digits n bs a.1)
-
-half_twice : (n : ℕ) → n / 2 * 2 ≤ n
-half_twice n = omega arith
-
-even_twice : (n : ℕ) → n * 2 % 2 ≡ 0
-even_twice n = omega arith
 
 pub same_Ok : {E : Type 0} (x y : List ℕ) → ◌≡◌ {A = Result (List ℕ) E} (Ok x) (Ok y) → x ≡ y
 same_Ok x y h = cc
-
--- what the digits of a text decode to, an odd last one left out, is what they spell
-pub decoded : (digits bytes : List ℕ) → AreDigits digits → decode_of (take (length digits / 2 * 2) digits) ≡ Ok bytes → paired digits ≡ bytes
-decoded digits bytes a e =
-    let half : ℕ = length digits / 2 in
-    let pairs : List ℕ = take (half * 2) digits in
-    let size : length pairs ≡ half * 2 = length-take-le (half * 2) digits (half_twice (length digits)) in
-    let even : length pairs % 2 ≡ 0 = ap (λ (n : ℕ). n % 2) size ∙ even_twice half in
-    let read : decode_of pairs ≡ Ok (paired pairs) = decode_of-even pairs even ∙ pairs_decode half 0 pairs size (taken_digits (half * 2) digits a) in
-    sym (pairs_only digits) ∙ same_Ok {E = FromHexError} (paired pairs) bytes (sym read ∙ e)
-
--- what digits decode to, found in a text
-pub decoded_of : (text digits bytes : List ℕ) → filter is_hex_digit text ≡ digits → decode_of (take (length digits / 2 * 2) digits) ≡ Ok bytes → paired (filter is_hex_digit text) ≡ bytes
-decoded_of text digits bytes e d = ap paired e ∙ decoded digits bytes (subst AreDigits e (filtered_digits text)) d
 
 -- ---- lines
 

@@ -5,6 +5,7 @@ pub mod Places
 pub mod SegmentLemmas
 pub mod PfbLemmas
 pub mod HexLemmas
+pub mod DigitsAhead
 pub mod EexecLemmas
 pub mod HexLines
 pub mod ContainerLaws

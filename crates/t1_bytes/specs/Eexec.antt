@@ -1,5 +1,5 @@
 -- The end of the clear text, and the cipher after it (Adobe Type 1 Font Format 1.1, chapter 7).
-use Rattle.std.specs.Prelude.{◌≡◌, ℕ, ◌+◌, ◌*◌, ◌==◌, ◌&&◌, ◌||◌, nat_le, Bool, true, false, List, [], ◌∷◌, ◌++◌, length, take, filter, codes, unwrap_or, Option, Some, None, Result, Ok, Err}
+use Rattle.std.specs.Prelude.{◌≡◌, ℕ, ◌+◌, ◌*◌, ◌==◌, ◌&&◌, ◌||◌, nat_le, Bool, true, false, List, [], ◌∷◌, ◌++◌, length, take, take_while, filter, codes, unwrap_or, Option, Some, None, Result, Ok, Err}
 use Rattle.std.specs.Global.{Vec}
 use Rattle.hex.specs.Hex.{is_hex_digit, hex_digit_value}
 use Rattle.t1_bytes.specs.declared.fault.BytesFault.{BytesFault}
@@ -51,6 +51,14 @@ is_hex_text bytes = nat_le 4 (length bytes) && all_hex (take 4 bytes)
 -- a hexadecimal digit or white space
 abbrev pub hex_or_white : ℕ → Bool
 hex_or_white b = is_hex_digit b || is_white b
+
+-- the digits of the run of hexadecimal digits and white space at the front
+unfoldable pub digits_ahead : List ℕ → List ℕ
+digits_ahead text = filter is_hex_digit (take_while hex_or_white text)
+
+-- the bytes that these digits spell
+unfoldable pub spelled_ahead : List ℕ → List ℕ
+spelled_ahead text = paired (digits_ahead text)
 
 -- the bytes of a run of hexadecimal digits and white space
 abbrev pub hex_cipher : Grammar (List ℕ)

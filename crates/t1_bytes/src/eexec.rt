@@ -1,16 +1,15 @@
 //! The end of the clear text, and the cipher after it (Adobe Type 1 Font Format 1.1, chapter 7).
 
 ghost use Rattle.std.specs.Prelude.{◌≡◌, ℕ, List, Some, Ok, Err, MatchResult, length, take_while};
-ghost use Rattle.std.specs.List.{filter};
 ghost use Rattle.std.specs.Option.{option_map};
-ghost use Rattle.hex.specs.Hex.{is_hex_digit};
 ghost use Rattle.t1_bytes.specs.Grammar.{run, first};
-ghost use Rattle.t1_bytes.specs.Eexec.{is_blank, blank_comes, eexec_mark, paired, is_hex_text, hex_or_white, cipher_text, split_view, IsSplit, SplitFails, or_short, split_of};
+ghost use Rattle.t1_bytes.specs.Eexec.{is_blank, blank_comes, eexec_mark, is_hex_text, cipher_text, split_view, IsSplit, SplitFails, or_short, split_of};
 ghost use Rattle.t1_bytes.specs.Faults.{Answers, OrMemory};
 ghost use Rattle.t1_bytes.specs.declared.fault.BytesFault.{BytesFault};
 
+use crate::digits::{hex_bytes, is_hex_digit};
 use crate::fault::BytesFault;
-use crate::texts::{find_from, fixed_at, gap_at, is_white};
+use crate::texts::{find_from, fixed_at, gap_at};
 use std::alloc::Global;
 
 /// Whether a byte is one of the four that may follow `eexec`.
@@ -56,13 +55,6 @@ fn after_eexec(flat: &[u8]) -> Option<&[u8]>
     None
 }
 
-/// Whether a byte is a hexadecimal digit of either case.
-fn is_hex_digit(byte: u8) -> bool
-    ensures { result ≡ is_hex_digit byte }
-{
-    matches!(byte, b'0'..=b'9' | b'A'..=b'F' | b'a'..=b'f')
-}
-
 /// Whether the next four bytes are hexadecimal digits.
 fn is_hex_text(bytes: &[u8]) -> bool
     ensures { result ≡ is_hex_text bytes.now }
@@ -82,16 +74,6 @@ fn blanks_len(bytes: &[u8]) -> usize
     bytes.iter().take_while(|b| is_blank(**b)).count()
 }
 
-/// How many hexadecimal digits and bytes of white space come first.
-fn hex_len(bytes: &[u8]) -> usize
-    ensures { result ≡ length (take_while hex_or_white bytes.now) }
-{
-    bytes
-        .iter()
-        .take_while(|b| is_hex_digit(**b) || is_white(**b))
-        .count()
-}
-
 /// What stands after blanks, tabs, CR and LF.
 fn after_blanks(bytes: &[u8]) -> &[u8]
     ensures { (run is_blank).read bytes.now ≡ Some (take_while is_blank bytes.now, result.now) }
@@ -100,48 +82,14 @@ fn after_blanks(bytes: &[u8]) -> &[u8]
     rest
 }
 
-/// Hexadecimal digits and white space, as far as they go.
-fn hex_run(bytes: &[u8]) -> &[u8]
-    ensures { result.now ≡ take_while hex_or_white bytes.now }
-{
-    let (front, _) = bytes.split_at(hex_len(bytes));
-    front
-}
-
-/// The hexadecimal digits of a text.
-fn hex_digits(alloc: Global, text: &[u8]) -> Result<Vec<u8>, BytesFault>
-    ensures { Answers (λ v. v.items) result (Ok (filter is_hex_digit text.now)) }
-{
-    let mut digits = Vec::with_capacity(alloc, text.len())?;
-    for byte in text {
-        if is_hex_digit(*byte) {
-            digits.push(*byte)?;
-        }
-    }
-    Ok(digits)
-}
-
-/// The bytes that the digits of a text spell, two for each; an odd last digit is dropped.
-fn hex_bytes(alloc: Global, text: &[u8]) -> Result<Vec<u8>, BytesFault>
-    ensures { Answers (λ v. v.items) result (Ok (paired (filter is_hex_digit text.now))) }
-{
-    let digits = hex_digits(alloc, text)?;
-    let pairs = &digits[..digits.len() / 2 * 2];
-    match hex::decode(alloc, pairs) {
-        Ok(bytes) => Ok(bytes),
-        // Only memory can be wanting: an even number of digits decodes.
-        Err(_) => Err(BytesFault::Memory),
-    }
-}
-
 /// The cipher bytes of what follows the mark.
-#[tactic(auto, unfolding(crate::specs::Eexec::cipher_text))]
+#[tactic(auto, unfolding(crate::specs::Eexec::cipher_text, crate::specs::Eexec::spelled_ahead, crate::specs::Eexec::digits_ahead))]
 fn cipher_after(alloc: Global, after: &[u8]) -> Result<Vec<u8>, BytesFault>
     ensures { Answers (λ v. v.items) result (or_short (λ x. x.0) (cipher_text.read after.now)) }
 {
     let text = after_blanks(after);
     let cipher = if is_hex_text(text) {
-        hex_bytes(alloc, hex_run(text))?
+        hex_bytes(alloc, text)?
     } else {
         Vec::from_slice(alloc, text)?
     };

@@ -9,7 +9,7 @@ use crate::fault::BytesFault;
 use std::alloc::{AllocError, Global};
 
 /// How many bytes a line has, two digits for each.
-const LINE: usize = 32;
+pub const LINE: usize = 32;
 
 /// The 8 lines of 64 zeros and the line `cleartomark` that end a font file after its cipher.
 const TRAILER: &[u8; 532] = b"0000000000000000000000000000000000000000000000000000000000000000

@@ -10,6 +10,7 @@
 #![tactic(auto)]
 
 mod cipher;
+mod digits;
 mod eexec;
 mod fault;
 mod form;

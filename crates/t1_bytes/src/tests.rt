@@ -313,6 +313,54 @@ fn splits_flat_texts(rt: HostRuntime) {
     }
 }
 
+/// The bytes from 0 to 39.
+const BYTES: &[u8; 40] =
+    b"\x00\x01\x02\x03\x04\x05\x06\x07\x08\x09\x0a\x0b\x0c\x0d\x0e\x0f\x10\x11\x12\x13\
+    \x14\x15\x16\x17\x18\x19\x1a\x1b\x1c\x1d\x1e\x1f\x20\x21\x22\x23\x24\x25\x26\x27";
+
+#[test]
+fn reads_lines_of_digits(rt: HostRuntime) {
+    let rows: [(&[u8], usize, &str); 6] = [
+        (
+            b"currentfile eexec 000102030405060708090A0B0C0D0E0F101112131415161718191a1b1c1d1e1f\n2021222324252627\n",
+            40,
+            "a line of 64 digits",
+        ),
+        (
+            b"currentfile eexec 000102030405060708090A0B0C0D0E0F101112131415161718191a1b1c1d1e1f20212223\r\n24252627\r\n",
+            40,
+            "a line of 72 digits, and CR and LF",
+        ),
+        (
+            b"currentfile eexec 000102030405060708090A0B0C0D0E0F101112131415161718191a1b1c1d1e1f2\n021222324252627",
+            40,
+            "a line of 65 digits: a byte on two lines",
+        ),
+        (
+            b"currentfile eexec 000102030405060708090A0B0C0D0E \t0F101112131415161718191a1b1c1d1e1f2021222324252627",
+            40,
+            "white space in a line",
+        ),
+        (
+            b"currentfile eexec 000102030405060708090A0B0C0D0E0F101112131415161718191a1b1c1d1e1g2021222324252627",
+            31,
+            "a letter for the last digit of a line",
+        ),
+        (
+            b"currentfile eexec 000102030405060708090A0B0C0D0E0F101112131415161718191a1b1c1d1e1fg2021222324252627",
+            32,
+            "a letter after a line",
+        ),
+    ];
+    for (flat, count, name) in rows {
+        assert!(rt; count <= 40);
+        assert!(rt;
+            splits(rt.alloc(), flat, Ok((17, &BYTES[..count]))),
+            "{name}"
+        );
+    }
+}
+
 #[test]
 fn writes_lines_of_digits(rt: HostRuntime) -> Result<(), Fail> {
     let bytes: [u8; 33] = [0xAB; 33];

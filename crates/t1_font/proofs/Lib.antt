@@ -4,6 +4,7 @@ pub mod MarkLemmas
 pub mod EntryLemmas
 pub mod MapLaws
 pub mod MapModels
+pub mod Slots
 pub mod TableLoops
 pub mod HeldLemmas
 pub mod FontReaders

@@ -1,5 +1,5 @@
 -- Entries in the order of their keys, as finite maps.
-use Rattle.std.proofs.Common.{◌≡◌, ℕ, suc, refl, sym, ◌∙◌, ap, Option, Some, None, List, [], ◌∷◌, cond, Bool, true, false, T, subst, ◌&&◌, length}
+use Rattle.std.proofs.Common.{◌≡◌, ℕ, suc, refl, sym, ◌∙◌, ap, Some, List, [], ◌∷◌, cond, Bool, true, false, T, subst, ◌&&◌, length}
 use Rattle.std.specs.Global.{Vec}
 use Rattle.std.specs.List.{AllByRecursion}
 use Rattle.std.specs.List.Sorted.{IsStrictlySortedBy}
@@ -11,11 +11,9 @@ use Rattle.std.specs.declared.cmp.Ordering.TheVariants.{Less, Equal, Greater}
 use Rattle.std.specs.Option.{option_map}
 use Rattle.std.specs.Ordering.{eq_by_cmp, is_eq, is_lt, match_ordering}
 use Rattle.std.specs.Map.{lookup, keys_of}
-use Rattle.std.specs.BTreeMap.{insert_entry, is_at}
+use Rattle.std.specs.BTreeMap.{insert_entry}
 use Rattle.std.specs.FinMap as fin
-use Rattle.std.specs.Ordering.{nat_cmp, ordering_reverse}
-use Rattle.std.specs.Cmp.{nat_cmp_total}
-use Rattle.t1_font.specs.MapModels.{entries_by, map_by, itself}
+use Rattle.t1_font.specs.MapModels.{entries_by, map_by}
 
 is_eq-Equal : (o : Ordering) → is_eq o ≡ true → o ≡ Equal
 is_eq-Equal Less h = cc
@@ -103,25 +101,3 @@ module _ {K M : Type 0} (f : K → M) (R : K → K → Ordering) (S : M → M �
 
   pub len_is : (es : List (K × Vec ℕ)) → IsStrictlySortedBy R (keys_of es) → fin.len {R = S} (map_by f es) ≡ length es
   len_is es h = fin.len-entries {R = S} (map_by f es) ∙ (ap length (sym (entries_are es h)) ∙ length_entries es)
-
-reversed_eq : (o : Ordering) → is_eq (ordering_reverse o) ≡ is_eq o
-reversed_eq Less = refl
-reversed_eq Equal = refl
-reversed_eq Greater = refl
-
-eq_turned : (q k : ℕ) → is_eq (nat_cmp k q) ≡ is_eq (nat_cmp q k)
-eq_turned q k = ap is_eq (nat_cmp_total.antisymm k q) ∙ reversed_eq (nat_cmp q k)
-
--- the map without what stood at a number
-pub map_remove : (es ns : List (ℕ × Vec ℕ)) (k : ℕ) → ((q : ℕ) → lookup (is_at (nat_cmp q)) ns ≡ cond (is_at (nat_cmp k) q) None (lookup (is_at (nat_cmp q)) es)) → map_by {S = nat_cmp} itself ns ≡ fin.remove (map_by itself es) k
-map_remove es ns k h = fin.same_map nat_cmp_total fin.nat_cmp-IsAntisymmetric _ _ (λ q.
-    get_by_lookup itself nat_cmp nat_cmp nat_cmp_total fin.nat_cmp-IsAntisymmetric (λ x y. refl) q (is_at (nat_cmp q)) (λ x. refl) ns
-    ∙ (ap (option_map (λ (v : Vec ℕ). v.items)) (h q)
-    ∙ (by_key q (is_eq (nat_cmp k q)) (is_eq (nat_cmp q k)) (eq_turned q k) (lookup (is_at (nat_cmp q)) es)
-    ∙ (ap (cond (is_eq (nat_cmp q k)) None) (sym (get_by_lookup itself nat_cmp nat_cmp nat_cmp_total fin.nat_cmp-IsAntisymmetric (λ x y. refl) q (is_at (nat_cmp q)) (λ x. refl) es)) ∙ sym (fin.get-remove nat_cmp_total (map_by itself es) k q)))))
-  where
-    by_key : (q : ℕ) (a b : Bool) → a ≡ b → (o : Option (Vec ℕ)) → option_map (λ (v : Vec ℕ). v.items) (cond a None o) ≡ cond b None (option_map (λ (v : Vec ℕ). v.items) o)
-    by_key q true true e o = refl
-    by_key q false false e o = refl
-    by_key q true false e o = cc
-    by_key q false true e o = cc

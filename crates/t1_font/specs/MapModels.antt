@@ -1,5 +1,5 @@
 -- What ordered maps in memory stand for: finite maps to byte lists.
-use Rattle.std.specs.Prelude.{ℕ, List, map}
+use Rattle.std.specs.Prelude.{ℕ, ◌+◌, List, [], ◌∷◌, map, Option, Some, None}
 use Rattle.std.specs.Borrow.{Bor}
 use Rattle.std.specs.Global.{Vec}
 use Rattle.std.specs.declared.cmp.Ordering.{Ordering}
@@ -28,15 +28,22 @@ entries_by f es = map (entry_by f) es
 abbrev pub map_by : {K M : Type 0} {S : M → M → Ordering} → (K → M) → List (K × Vec ℕ) → FinMap S (List ℕ)
 map_by f es = from_entries (entries_by f es)
 
-abbrev pub itself : ℕ → ℕ
-itself n = n
+-- the entries of slots whose first stands for number n: the number and the bytes of each that is filled
+abbrev pub slot_entries : ℕ → List (Option (Vec ℕ)) → List (ℕ × List ℕ)
+slot_entries n [] = []
+slot_entries n (None ∷ slots) = slot_entries (n + 1) slots
+slot_entries n (Some v ∷ slots) = (n, v.items) ∷ slot_entries (n + 1) slots
+
+-- the map of slots by number, from 0 on
+abbrev pub slots_map : List (Option (Vec ℕ)) → Numbered
+slots_map slots = from_entries (slot_entries 0 slots)
 
 abbrev pub bytes_of : Vec ℕ → List ℕ
 bytes_of v = v.items
 
 -- a lent entry
-abbrev pub lent_number : Bor ℕ × Bor (Vec ℕ) → ℕ × List ℕ
-lent_number e = (e.0.now, e.1.now.items)
+abbrev pub lent_number : ℕ × Bor (Vec ℕ) → ℕ × List ℕ
+lent_number e = (e.0, e.1.now.items)
 
 abbrev pub lent_name : Bor (Vec ℕ) × Bor (Vec ℕ) → List ℕ × List ℕ
 lent_name e = (e.0.now.items, e.1.now.items)

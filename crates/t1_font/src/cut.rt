@@ -47,7 +47,7 @@ fn cut_codes(alloc: Global, codes: &Numbered, glyphs: &Named) -> Result<Numbered
     let mut cut = Numbered::new(alloc);
     'codes: for (code, name) in codes.entries() {
         if glyphs.get(name.as_slice()).is_some() {
-            cut.insert(*code, Vec::from_slice(alloc, name.as_slice())?)?;
+            cut.insert(code, Vec::from_slice(alloc, name.as_slice())?)?;
         }
     }
     Ok(cut)
@@ -76,12 +76,12 @@ fn cut_subrs(alloc: Global, subrs: &Numbered, kept: &BTreeSet<u16>) -> Result<Nu
 {
     let mut cut = Numbered::new(alloc);
     'bodies: for (index, body) in subrs.entries() {
-        let body = if kept.contains(index) {
+        let body = if kept.contains(&index) {
             body.as_slice()
         } else {
             STUB
         };
-        cut.insert(*index, Vec::from_slice(alloc, body)?)?;
+        cut.insert(index, Vec::from_slice(alloc, body)?)?;
     }
     Ok(cut)
 }

@@ -1,10 +1,11 @@
 //! Byte lists by number and by name, in the order of their keys.
 
-ghost use Rattle.std.specs.Prelude.{◌≡◌, ◌+◌, [], OnOk, OnErr};
+ghost use Rattle.std.specs.Prelude.{◌≡◌, ◌+◌, ◌≤◌, [], length, OnOk, OnErr};
 ghost use Rattle.std.specs.Option.{option_map};
 ghost use Rattle.std.specs.FinMap as fin;
 ghost use Rattle.t1_font.specs.FontValue.{total, subr_weight, glyph_weight};
 ghost use Rattle.t1_font.specs.FontModel.{clamp};
+ghost use Rattle.t1_font.specs.MapModels.{slot_entries};
 
 use std::alloc::{AllocError, Global};
 use std::collections::{BTreeMap, btree_map};
@@ -29,21 +30,40 @@ fn glyph_weight(len_iv: u8, body: &[u8]) -> u64
     256 + len_iv as u64 + body.len() as u64
 }
 
+/// Adds empty slots until there are so many. Where a growth is refused, some may have been added.
+fn make_slots(slots: &mut Vec<Option<Vec<u8>>>, count: usize) -> Result<(), AllocError>
+    ensures entries { slot_entries 0 slots.new.items ≡ slot_entries 0 slots.old.items }
+    ensures enough { OnOk result (count ≤ length slots.new.items) }
+    ensures limit { count ≤ 65536 → length slots.old.items ≤ 65536 → length slots.new.items ≤ 65536 }
+{
+    'slots: while slots.len() < count {
+        slots.push(None)?;
+    }
+    Ok(())
+}
+
 /// Charstrings by index, or names by code.
+///
+/// What stands at a number is in the slot at that place, so that it is put and found in a few steps.
+/// The slots reach to the greatest number that was put: a file can make a map of one entry take
+/// 65,536 slots, and no map takes more.
 #[derive(Drop)]
 pub struct Numbered {
-    map: BTreeMap<u16, Vec<u8>>,
+    slots: Vec<Option<Vec<u8>>>,
 }
 
 impl Model for Numbered {
+    ghost use Rattle.std.specs.Prelude.{◌≤◌, length};
     ghost use Rattle.t1_font.specs.FontValue.{Numbered as NumberedValue};
-    ghost use Rattle.t1_font.specs.MapModels.{numbered_code, map_by, itself};
+    ghost use Rattle.t1_font.specs.MapModels.{numbered_code, slots_map};
 
     ghost Value = { NumberedValue };
 
     ghost coded = { numbered_code };
 
-    ghost view = { λ m. map_by itself m.map.entries };
+    ghost view = { λ m. slots_map m.slots.items };
+
+    ghost invariant = { λ m. length m.slots.items ≤ 65536 };
 }
 
 impl Numbered {
@@ -52,7 +72,7 @@ impl Numbered {
         ensures { result ≡ fin.empty }
     {
         Numbered {
-            map: BTreeMap::new(alloc),
+            slots: Vec::new(alloc),
         }
     }
 
@@ -61,7 +81,9 @@ impl Numbered {
         ensures ok { OnOk result (self.new ≡ fin.insert self.old number bytes.items) }
         ensures err { OnErr result (self.new ≡ self.old) }
     {
-        self.map.insert(number, bytes)?;
+        let place = number as usize;
+        make_slots(&mut self.slots, place + 1)?;
+        self.slots[place] = Some(bytes);
         Ok(())
     }
 
@@ -69,24 +91,17 @@ impl Numbered {
     pub fn remove(&mut self, number: u16)
         ensures { self.new ≡ fin.remove self.old number }
     {
-        self.map.remove(&number);
+        let place = number as usize;
+        if place < self.slots.len() {
+            self.slots[place] = None;
+        }
     }
 
     /// What stands at the number.
     pub fn get(&self, number: u16) -> Option<&[u8]>
         ensures { option_map (λ b. b.now) result ≡ fin.get self.now number }
     {
-        match self.map.get(&number) {
-            Some(bytes) => Some(bytes.as_slice()),
-            None => None,
-        }
-    }
-
-    /// How many entries there are.
-    pub fn len(&self) -> usize
-        ensures { result ≡ fin.len self.now }
-    {
-        self.map.len()
+        self.slots.get(number as usize)?.as_deref()
     }
 
     /// The entries, upwards by number.
@@ -94,7 +109,8 @@ impl Numbered {
         ensures { result ≡ fin.entries self.now }
     {
         NumberedEntries {
-            inner: self.map.iter(),
+            number: 0,
+            slots: self.slots.as_slice(),
         }
     }
 
@@ -110,23 +126,26 @@ impl Numbered {
     }
 }
 
-/// The entries of a map, upwards by number.
+/// The entries of a map, upwards by number: those of the slots from a number on.
 #[derive(Drop)]
 pub struct NumberedEntries<'a> {
-    inner: btree_map::Iter<'a, u16, Vec<u8>>,
+    number: usize,
+    slots: &'a [Option<Vec<u8>>],
 }
 
 impl<'a> Model for NumberedEntries<'a> {
-    ghost use Rattle.std.specs.Prelude.{List, ℕ};
-    ghost use Rattle.t1_font.specs.MapModels.{entries_by, itself};
+    ghost use Rattle.std.specs.Prelude.{List, ℕ, ◌+◌, ◌≤◌, length};
+    ghost use Rattle.t1_font.specs.MapModels.{slot_entries};
 
     ghost Value = { List (ℕ × List ℕ) };
 
-    ghost view = { λ s. entries_by itself s.inner };
+    ghost view = { λ s. slot_entries s.number s.slots.now };
+
+    ghost invariant = { λ s. s.number + length s.slots.now ≤ 65536 };
 }
 
 impl<'a> Iterator for NumberedEntries<'a> {
-    type Item = (&'a u16, &'a Vec<u8>);
+    type Item = (u16, &'a Vec<u8>);
 
     ghost use Rattle.std.specs.Prelude.{length};
     ghost use Rattle.std.specs.Iterator.{at_most};
@@ -137,8 +156,16 @@ impl<'a> Iterator for NumberedEntries<'a> {
 
     ghost remaining = { λ s. at_most (length s) };
 
-    fn next(&mut self) -> Option<(&'a u16, &'a Vec<u8>)> {
-        self.inner.next()
+    fn next(&mut self) -> Option<(u16, &'a Vec<u8>)> {
+        'slots: while let Some((slot, rest)) = self.slots.split_first() {
+            let number = self.number;
+            self.number = number + 1;
+            self.slots = rest;
+            if let Some(bytes) = slot {
+                return Some((number as u16, bytes));
+            }
+        }
+        None
     }
 }
 

@@ -90,8 +90,8 @@ fn join_subrs(alloc: Global, first: &Numbered, second: &Numbered) -> Result<Numb
 {
     let mut joined = Numbered::new(alloc);
     'bodies: for (index, body) in first.entries() {
-        let body = joined_subr(body.as_slice(), second.get(*index));
-        joined.insert(*index, Vec::from_slice(alloc, body)?)?;
+        let body = joined_subr(body.as_slice(), second.get(index));
+        joined.insert(index, Vec::from_slice(alloc, body)?)?;
     }
     Ok(joined)
 }

@@ -109,7 +109,7 @@ fn put_subrs(
     put_number(alloc, out, kept.declared as usize)?;
     out.extend_from_slice(b" array")?;
     'subrs: for (index, plain) in subrs.entries() {
-        put_subr(alloc, out, kept, len_iv, *index, plain.as_slice())?;
+        put_subr(alloc, out, kept, len_iv, index, plain.as_slice())?;
     }
     out.push(b'\n')?;
     out.extend_from_slice(kept.closing.as_slice())?;
@@ -182,7 +182,7 @@ fn put_codes(alloc: Global, out: &mut Vec<u8>, names: &Numbered) -> Result<(), A
 {
     'codes: for (code, name) in names.entries() {
         out.extend_from_slice(b"\ndup ")?;
-        put_number(alloc, out, *code as usize)?;
+        put_number(alloc, out, code as usize)?;
         out.extend_from_slice(b" /")?;
         out.extend_from_slice(name.as_slice())?;
         out.extend_from_slice(b" put")?;

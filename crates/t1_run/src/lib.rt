@@ -20,7 +20,7 @@ mod subroutines;
 pub use answer::{Curve, Direct, Fault, Mark, Point};
 pub use drawings::{DrawFault, Drawing, DrawnPart, draw};
 pub use parts::parts_of;
-pub use run::{direct, executed};
+pub use run::{direct, direct_and_executed, executed};
 pub use standard::standard_name;
 pub use subroutines::{Glyphs, Subroutines};
 

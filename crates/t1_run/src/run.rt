@@ -185,6 +185,21 @@ pub(crate) fn direct3<S: Subroutines>(
     direct_by(alloc, subrs, Hints::Kept, charstring)
 }
 
+/// What [`direct`] and [`executed`] answer of a plain charstring, by one run of it. It fails for want of memory alone.
+pub fn direct_and_executed<S: Subroutines>(
+    alloc: Global,
+    subrs: &S,
+    charstring: &[u8],
+) -> Result<(Direct, BTreeSet<u16>), AllocError>
+    ensures answer { IfOk result (λ r. value_of r.0 ≡ direct (S.subrs subrs.now) charstring.now) }
+    ensures within { IfOk result (λ r. EndsWithinLimits (value_of r.0)) }
+    ensures indices { IfOk result (λ r. r.1.keys ≡ exec (S.subrs subrs.now) charstring.now) }
+{
+    let mut called = BTreeSet::new(alloc);
+    let answer = run_glyph(alloc, subrs, Hints::Replaced, charstring, &mut called)?;
+    Ok((answer, called))
+}
+
 /// The indices that `callsubr` takes in the run of a plain charstring, up to its end or fault: whole numbers from 0 to
 /// 65,534, those of Subrs that are not there or too deep among them. It fails for want of memory alone.
 pub fn executed<S: Subroutines>(
@@ -194,7 +209,6 @@ pub fn executed<S: Subroutines>(
 ) -> Result<BTreeSet<u16>, AllocError>
     ensures indices { IfOk result (λ set. set.keys ≡ exec (S.subrs subrs.now) charstring.now) }
 {
-    let mut called = BTreeSet::new(alloc);
-    run_glyph(alloc, subrs, Hints::Replaced, charstring, &mut called)?;
+    let (_, called) = direct_and_executed(alloc, subrs, charstring)?;
     Ok(called)
 }

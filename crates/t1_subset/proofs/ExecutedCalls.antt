@@ -5,7 +5,6 @@ use Rattle.std.specs.List.{list_any}
 use Rattle.std.specs.Ordering.{eq_by_cmp}
 use Rattle.std.specs.Cmp.{nat_cmp_total, both_ways}
 use Rattle.std.specs.Cmp.Lexicographic.{nat_list_cmp_total}
-use Rattle.std.specs.BTreeSet.{BTreeSet}
 use Rattle.std.specs.FinMap as maps
 use Rattle.std.specs.FinSet as sets
 use Rattle.std.specs.FinSet.{nat_cmp-IsAntisymmetric}
@@ -19,9 +18,9 @@ use Rattle.t1_subset.specs.Keep.{charstring}
 use Rattle.t1_subset.specs.Profile.{profile, set_of}
 use Rattle.t1_subset.specs.States.{is_called, is_stub, state_of_entry, subr_state}
 use Rattle.t1_subset.specs.Conflicts.{agrees, first_where, smallest, members, keys_of_both, executes, executed_at, used_by, glyph_names, subr_clashes, subr_conflict}
-use Rattle.t1_subset.specs.Differences.{state_by, smaller, EntriesAgree}
-use Rattle.t1_subset.specs.NameSets.{number_set, called_in}
-use Rattle.t1_subset.proofs.Runs.{all_seen}
+use Rattle.t1_subset.specs.Differences.{smaller, EntriesAgree}
+use Rattle.t1_subset.specs.NameSets.{called_in}
+use Rattle.t1_subset.proofs.ProfileRuns.{all_seen}
 use Rattle.t1_subset.proofs.Conflicts.{passes_none, in_both, agrees_none}
 use Rattle.t1_subset.proofs.Smallest.{smallest_is}
 use Rattle.t1_subset.proofs.Maps.{any_in, any_of}
@@ -82,15 +81,6 @@ module _ (f : FontValue) (i : ℕ) where
   pub called_so : sets.contains (called_in f) i ≡ is_called profile f i
   called_so = both_ways (sets.contains (called_in f) i) (is_called profile f i) to_called from_called
 
-  pub state_is : (x : Option (List ℕ)) → state_by (is_called profile f i) x ≡ state_of_entry profile f i x
-  state_is None = refl
-  state_is (Some c) = refl
-
-  -- the state of an index, as the code finds it
-  pub state_so : IsFont f → (calls : BTreeSet ℕ) (b : Bool) (entry : Option (List ℕ)) → number_set calls ≡ called_in f → b ≡ list_any (eq_by_cmp nat_cmp i) calls.keys → entry ≡ subr_at f i → state_by b entry ≡ subr_state profile f i
-  state_so h calls b entry e is at =
-      (λ k. state_by ((is ∙ sym (sets.contains-from_list nat_cmp_total calls.keys i) ∙ ap (λ (s : Numbers). sets.contains s i) e ∙ called_so) k) ((at ∙ subrs_seen f h i) k)) ∙ state_is (maps.get f.subrs i)
-
 -- ---- the smallest index
 
 state_there : (f : FontValue) (i : ℕ) (x : Option (List ℕ)) → is_some (state_of_entry profile f i x) ≡ true → is_some x ≡ true
@@ -109,9 +99,6 @@ no_subr f g h end l below = sym (passes_none (subr_clashes profile f g) (members
   | inl a ↦ below i (ltb-true i end a)
   | inr a ↦ not_so (subr_clashes profile f g i) (λ c. true≢false (sym (clash_there f g i c) ∙ ap is_some (absent_beyond f h i (let far = ltb-false i end a in omega arith))))
 ]))
-
-pub clash_by : (f g : FontValue) (i : ℕ) (x y : Option (List ℕ)) (b : Bool) → x ≡ subr_state profile f i → y ≡ subr_state profile g i → b ≡ not (agrees x y) → subr_clashes profile f g i ≡ b
-clash_by f g i x y b h k e = (λ j. not (agrees (sym h j) (sym k j))) ∙ sym e
 
 -- ---- entries
 

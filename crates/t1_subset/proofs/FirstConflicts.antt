@@ -4,19 +4,17 @@ use Rattle.std.proofs.lemmas.Bool.{ltb-true, ltb-false}
 use Rattle.std.specs.Bool.{beq}
 use Rattle.std.specs.Ordering.{MatchOrdering}
 use Rattle.std.specs.Cmp.{nat_cmp_total, ranks}
-use Rattle.std.specs.Cmp.Lexicographic.{nat_list_cmp_total}
 use Rattle.std.specs.FinSet.{nat_cmp-IsAntisymmetric}
 use Rattle.std.specs.FinMap as maps
 use Rattle.t1_font.specs.FontValue.{FontValue, Encoding, Word, Codes, declared_count}
 use Rattle.t1_font.specs.FontModel.{name_at}
 use Rattle.t1_font.specs.IsFont.{IsFont, IsEncoding}
 use Rattle.t1_font.proofs.FontReaders.{subrs_seen}
-use Rattle.t1_subset.specs.Conflicts.{agrees, first_where, members, same_keys, codes_of_both, code_clashes, code_conflict, glyph_clashes, glyph_conflict, glyph_names}
+use Rattle.t1_subset.specs.Conflicts.{agrees, members, same_keys, codes_of_both, code_clashes, code_conflict}
 use Rattle.t1_subset.specs.States.{code_state}
 use Rattle.t1_subset.proofs.Conflicts.{keys_so, so_keys, passes_none, in_both}
 use Rattle.t1_subset.proofs.Smallest.{smallest_is}
-use Rattle.t1_subset.proofs.FirstNames.{first_is_smallest}
-use Rattle.t1_subset.proofs.Sets.{is_or_not, not_so, or_left, name_same}
+use Rattle.t1_subset.proofs.Sets.{is_or_not, not_so, or_left}
 
 -- what does not join is there
 pub there_of : (x y : Option (List ℕ)) → not (agrees x y) ≡ true → is_some x ≡ true
@@ -64,7 +62,7 @@ code_there (Codes s) (Codes t) c h = in_both nat_cmp_total nat_cmp-IsAntisymmetr
 pub first_code : (f g : FontValue) (c : ℕ) → code_clashes f g c ≡ true → ((k : ℕ) → k < c → code_clashes f g k ≡ false) → Some c ≡ code_conflict f g
 first_code f g c h below = sym (smallest_is nat_cmp_total nat_cmp-IsAntisymmetric (code_clashes f g) (codes_of_both f.encoding g.encoding) c (code_there f.encoding g.encoding c h) h (λ q w l. below q (below_of q c l)))
 
-no_name : (e : Encoding) → IsEncoding e → (c : ℕ) → 256 ≤ c → (x : Option (List ℕ)) → code_state e c ≡ x → x ≡ None
+pub no_name : (e : Encoding) → IsEncoding e → (c : ℕ) → 256 ≤ c → (x : Option (List ℕ)) → code_state e c ≡ x → x ≡ None
 no_name e h c l None is = refl
 no_name (Word w) h c l (Some n) is = sym is
 no_name (Codes t) h c l (Some n) is = absurd (let k = (h c n is).code in omega arith)
@@ -74,12 +72,6 @@ no_code f g h below = sym (passes_none (code_clashes f g) (members (codes_of_bot
   | inl l ↦ below c (ltb-true c 256 l)
   | inr l ↦ ap (λ x. not (agrees x (code_state g.encoding c))) (no_name f.encoding h.encoding c (ltb-false c 256 l) (code_state f.encoding c) refl)
 ]))
-
--- ---- glyphs
-
-pub first_glyph : (f g : FontValue) (x : Option (List ℕ)) → first_where (glyph_clashes f g) (maps.keys f.glyphs) ≡ x → x ≡ glyph_conflict f g
-first_glyph f g x h = first_is_smallest nat_list_cmp_total name_same (glyph_clashes f g) f.glyphs (λ q w. there_of (maps.get f.glyphs q) (maps.get g.glyphs q) w) (glyph_names f g)
-    (λ q w. in_both nat_list_cmp_total name_same f.glyphs g.glyphs q ∙ or_left (maps.contains_key f.glyphs q) (maps.contains_key g.glyphs q) (there_of (maps.get f.glyphs q) (maps.get g.glyphs q) w)) x h
 
 -- two tests that differ are not the same
 pub unequal : (a b : Bool) → not (beq a b) ≡ true → a ≡ b → ⊥

@@ -1,5 +1,5 @@
 -- The first of the keys of a map that passes, and the smallest of two maps' keys.
-use Rattle.std.proofs.Common.{◌≡◌, ℕ, Bool, true, false, cond, ◌||◌, List, [], ◌∷◌, map, refl, sym, ◌∙◌, ap, subst, true≢false, inl, inr, Option, Some, None, Ordering, Less, Equal, Greater, is_lt}
+use Rattle.std.proofs.Common.{◌≡◌, Bool, true, false, cond, ◌||◌, List, [], ◌∷◌, map, refl, sym, ◌∙◌, ap, subst, true≢false, inl, inr, Option, Some, None, Ordering, Less, Equal, Greater, is_lt}
 use Rattle.std.specs.List.{list_any}
 use Rattle.std.specs.Ordering.{eq_by_cmp, ordering_reverse}
 use Rattle.std.specs.Cmp.{IsTotalOrder, first_so, second_so}
@@ -85,10 +85,6 @@ module _ {K : Type 0} {R : K → K → Ordering} (o : IsTotalOrder R) (same : Is
 
       pub passing : (k : K) → first_where p (maps.keys m) ≡ Some k → p k ≡ true
       passing k h = (first_so_far (maps.entries m) k (sorted_map m) h).passes
-
-      pub first_is_smallest : (s : maps.FinMap R ℕ) → ((q : K) → p q ≡ true → maps.contains_key s q ≡ true) → (x : Option K) → first_where p (maps.keys m) ≡ x → x ≡ smallest p s
-      first_is_smallest s in_s None h = sym (passes_none p _ (nothing h))
-      first_is_smallest s in_s (Some k) h = sym (smallest_is o same p s k (in_s k (passing k h)) (passing k h) (λ q w l. no_lower k h q l))
 
 less_is : (o : Ordering) → is_lt o ≡ true → o ≡ Less
 less_is Less h = refl

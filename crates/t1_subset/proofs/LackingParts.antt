@@ -1,5 +1,5 @@
 -- Parts that one font lacks and needs and the other has, as the code finds them.
-use Rattle.std.proofs.Common.{◌≡◌, ℕ, ◌<◌, ◌+◌, zero, suc, length, drop, get_or, arith, Bor, Bool, true, false, not, cond, ◌||◌, List, [], ◌∷◌, ◌++◌, filter, refl, sym, ◌∙◌, ap, true≢false, Option, Some, None, is_some, unwrap_or, option_map, MatchOption, inl, inr}
+use Rattle.std.proofs.Common.{◌≡◌, ℕ, ◌<◌, ◌+◌, zero, suc, length, drop, get_or, arith, Bor, Bool, true, false, not, cond, ◌||◌, List, [], ◌∷◌, ◌++◌, filter, flat_map, refl, sym, ◌∙◌, ap, true≢false, Option, Some, None, is_some, unwrap_or, option_map, MatchOption, inl, inr}
 use Rattle.std.specs.Global.{Vec}
 use Rattle.std.specs.List.{list_any}
 use Rattle.std.specs.Cmp.{first_so, second_so}
@@ -15,14 +15,14 @@ use Rattle.t1_subset.specs.Conflicts.{first_where, smallest, members, glyph_name
 use Rattle.t1_subset.specs.Differences.{bytes_of, smaller}
 use Rattle.t1_subset.specs.Marks.{lent}
 use Rattle.t1_subset.specs.NameSets.{IsLeast}
-use Rattle.t1_subset.specs.Lacking.{lacks, lacking_of, lacking_in}
-use Rattle.t1_subset.proofs.Runs.{no_parts}
+use Rattle.t1_subset.specs.Lacking.{lacks, lacking_among, lacking_in, named_in}
+use Rattle.t1_subset.proofs.ProfileRuns.{no_parts}
 use Rattle.t1_subset.proofs.MarkLists.{from_here}
 use Rattle.t1_subset.proofs.Conflicts.{passes_none, in_both, contains-members}
 use Rattle.t1_subset.proofs.Smallest.{smallest_is}
 use Rattle.t1_subset.proofs.FirstNames.{smaller_first}
-use Rattle.t1_subset.proofs.SetUnions.{insert_union, list_union, union_none}
-use Rattle.t1_subset.proofs.Sets.{and_so, or_cases, or_left, or_right, not_so, name_same, any_one, any_at, any_flat, any_flat_from, any_filter, any_filter_from, in_list, from_in_list, in_union, in_union_left, in_union_right}
+use Rattle.t1_subset.proofs.SetUnions.{insert_union, list_union, union_none, union_of_none}
+use Rattle.t1_subset.proofs.Sets.{same_members, in_items, from_in_items, and_so, or_cases, or_left, or_right, not_so, name_same, any_one, any_at, any_flat, any_flat_from, any_filter, any_filter_from, in_list, from_in_list, in_union, in_union_left, in_union_right}
 
 -- ---- one part, and the parts of a glyph
 
@@ -62,29 +62,56 @@ smallest_seeker f g p = smaller_first nat_list_cmp_total name_same f.glyphs g.gl
 
 -- ---- the parts of all glyphs
 
+module _ (f : FontValue) where
+  -- the parts that the glyphs of these names name
+  abbrev pub named_of : List (List ℕ) → List (List ℕ)
+  named_of ns = flat_map (λ n. parts profile f.subrs (charstring f n)) ns
+
+  abbrev names_it : List ℕ → List ℕ → Bool
+  names_it p n = list_any (is_name p) (parts profile f.subrs (charstring f n))
+
+  pub named_by : (p : List ℕ) → sets.contains (named_in f) p ≡ true → (n : List ℕ) × (has f n ≡ true) × (calls_for profile f n p ≡ true)
+  named_by p h =
+      let one = any_one nat_list_cmp_total name_same (names_it p) (names_in f.glyphs)
+      (any_flat nat_list_cmp_total name_same (λ n. parts profile f.subrs (charstring f n)) p (names_in f.glyphs) (in_list nat_list_cmp_total name_same (named_of (names_in f.glyphs)) p h)) in
+      (one.0, maps.contains_key-keys f.glyphs one.0 ∙ one.1, sym (calls_so f one.0 p) ∙ one.2)
+
+  pub naming : (p n : List ℕ) → calls_for profile f n p ≡ true → sets.contains (named_in f) p ≡ true
+  naming p n h = from_in_list nat_list_cmp_total name_same (named_of (names_in f.glyphs)) p
+      (any_flat_from nat_list_cmp_total name_same (λ n. parts profile f.subrs (charstring f n)) p (names_in f.glyphs)
+      (any_at nat_list_cmp_total name_same (names_it p) n (names_in f.glyphs) (sym (maps.contains_key-keys f.glyphs n) ∙ caller_there f p (maps.get f.glyphs n) h) (calls_so f n p ∙ h)))
+
+  -- no name has come, and all are left
+  pub none_named : (s : Names) (ns : List (List ℕ)) → s ≡ sets.empty → ns ≡ names_in f.glyphs → sets.union s (of (named_of ns)) ≡ named_in f
+  none_named s ns e is = (λ i. sets.union (e i) (of (named_of (is i)))) ∙ union_of_none nat_list_cmp_total name_same (named_of (names_in f.glyphs))
+
 module _ (f g : FontValue) where
-  abbrev lacking_at : List ℕ → List (List ℕ)
-  lacking_at n = filter (lacks f g) (parts profile f.subrs (charstring f n))
+  -- those of a list that are lacking are those of its set
+  pub among_list : (ns : List (List ℕ)) (s : Names) → of ns ≡ s → of (filter (lacks f g) ns) ≡ lacking_among f g s
+  among_list ns s e = same_members nat_list_cmp_total name_same _ _
+      (λ q h. let k = any_filter nat_list_cmp_total name_same (lacks f g) q ns (in_list nat_list_cmp_total name_same (filter (lacks f g) ns) q h) in
+      from_in_list nat_list_cmp_total name_same (filter (lacks f g) (sets.items s)) q
+      (any_filter_from nat_list_cmp_total name_same (lacks f g) q (sets.items s) (in_items nat_list_cmp_total name_same s q (ap (λ (t : Names). sets.contains t q) (sym e) ∙ from_in_list nat_list_cmp_total name_same ns q k.0)) k.1))
+      (λ q h. let k = any_filter nat_list_cmp_total name_same (lacks f g) q (sets.items s) (in_list nat_list_cmp_total name_same (filter (lacks f g) (sets.items s)) q h) in
+      from_in_list nat_list_cmp_total name_same (filter (lacks f g) ns) q
+      (any_filter_from nat_list_cmp_total name_same (lacks f g) q ns (in_list nat_list_cmp_total name_same ns q (ap (λ (t : Names). sets.contains t q) e ∙ from_in_items nat_list_cmp_total name_same s q k.0)) k.1))
 
   -- a part that is lacking is wanted by some glyph
   pub wanted : (p : List ℕ) → sets.contains (lacking_in f g) p ≡ true → (n : List ℕ) × (has f n ≡ true) × (wants profile f n p ≡ true) × (has g p ≡ true)
   wanted p h =
-      let one = any_one nat_list_cmp_total name_same (λ n. list_any (is_name p) (lacking_at n)) (names_in f.glyphs)
-      (any_flat nat_list_cmp_total name_same lacking_at p (names_in f.glyphs) (in_list nat_list_cmp_total name_same (lacking_of f g (names_in f.glyphs)) p h)) in
-      let part = any_filter nat_list_cmp_total name_same (lacks f g) p (parts profile f.subrs (charstring f one.0)) one.2 in (
+      let part = any_filter nat_list_cmp_total name_same (lacks f g) p (sets.items (named_in f)) (in_list nat_list_cmp_total name_same (filter (lacks f g) (sets.items (named_in f))) p h) in
+      let one = named_by f p (from_in_items nat_list_cmp_total name_same (named_in f) p part.0) in (
         one.0,
-        maps.contains_key-keys f.glyphs one.0 ∙ one.1,
-        and_so (not (has f p)) (calls_for profile f one.0 p) (first_so (not (has f p)) (has g p) part.1) (sym (calls_so f one.0 p) ∙ part.0),
+        one.1,
+        and_so (not (has f p)) (calls_for profile f one.0 p) (first_so (not (has f p)) (has g p) part.1) one.2,
         second_so (not (has f p)) (has g p) part.1,
       )
 
   -- a part that is wanted is lacking
   pub lacking : (p n : List ℕ) → wants profile f n p ≡ true → has g p ≡ true → sets.contains (lacking_in f g) p ≡ true
-  lacking p n w h = from_in_list nat_list_cmp_total name_same (lacking_of f g (names_in f.glyphs)) p
-      (any_flat_from nat_list_cmp_total name_same lacking_at p (names_in f.glyphs)
-      (any_at nat_list_cmp_total name_same (λ n. list_any (is_name p) (lacking_at n)) n (names_in f.glyphs) (sym (maps.contains_key-keys f.glyphs n) ∙ wanting_there f p n w)
-      (any_filter_from nat_list_cmp_total name_same (lacks f g) p (parts profile f.subrs (charstring f n)) (calls_so f n p ∙ second_so (not (has f p)) (calls_for profile f n p) w)
-      (and_so (not (has f p)) (has g p) (first_so (not (has f p)) (calls_for profile f n p) w) h))))
+  lacking p n w h = from_in_list nat_list_cmp_total name_same (filter (lacks f g) (sets.items (named_in f))) p
+      (any_filter_from nat_list_cmp_total name_same (lacks f g) p (sets.items (named_in f)) (in_items nat_list_cmp_total name_same (named_in f) p (naming f p n (second_so (not (has f p)) (calls_for profile f n p) w)))
+      (and_so (not (has f p)) (has g p) (first_so (not (has f p)) (calls_for profile f n p) w) h))
 
 -- ---- the smallest part
 

@@ -18,7 +18,7 @@ pub mod Alike
 pub mod Again
 pub mod Fonts
 mod NameSets
-mod Runs
+mod ProfileRuns
 mod MarkLists
 mod Marking
 mod ClosedMarks
@@ -30,6 +30,8 @@ mod FirstNames
 mod FirstConflicts
 mod SetUnions
 mod LackingParts
+mod TableStates
+mod JoinedRuns
 mod MergedFonts
 pub mod ManyMerges
 pub mod Headline

@@ -1,6 +1,6 @@
 -- Merging two fonts whose shells and states have no conflict.
 use Rattle.std.proofs.Common.{◌≡◌, inl, inr, Bool, true, false, cond, refl, sym, ◌∙◌, ap, subst, arith, Option, Some, None}
-use Rattle.t1_font.specs.FontValue.{FontValue, weight}
+use Rattle.t1_font.specs.FontValue.{FontValue}
 use Rattle.t1_font.specs.IsFont.{IsFont}
 use Rattle.t1_font.specs.Cut.{join_parts}
 use Rattle.t1_font.specs.Joins.{Refuses}
@@ -8,8 +8,15 @@ use Rattle.t1_font.specs.WriteLaws.{SameKind}
 use Rattle.t1_font.specs.declared.parts.PartsFault.TheVariants.{Limit}
 use Rattle.t1_subset.specs.Interpreter.{Interpreter}
 use Rattle.t1_subset.specs.States.{IsWithin, Join, joined_font}
-use Rattle.t1_subset.specs.Conflicts.{Conflict, OverLimit, found, states_conflict, conflict, is_within}
-use Rattle.t1_subset.proofs.Conflicts.{compatible, within_so}
+use Rattle.std.specs.Option.{option_map}
+use Rattle.t1_subset.specs.declared.conflict.Conflict.{Conflict as Refusal}
+use Rattle.t1_subset.specs.declared.conflict.Conflict.TheVariants as refusal
+use Rattle.t1_subset.specs.Profile.{profile}
+use Rattle.t1_subset.specs.Differences.{shell_part, bytes_of}
+use Rattle.t1_subset.specs.Refusals.{Tells}
+use Rattle.t1_subset.specs.Runs.{entries_conflict, runs_conflict}
+use Rattle.t1_subset.specs.Conflicts.{Conflict, ShellDiffers, CodeDiffers, GlyphDiffers, PartLacks, SubrDiffers, OverLimit, found, shell_conflict, code_conflict, glyph_conflict, states_conflict, conflict, is_within}
+use Rattle.t1_subset.proofs.Conflicts.{compatible, within_so, found_none}
 use Rattle.t1_subset.proofs.Fonts.{font_within}
 use Rattle.t1_subset.proofs.JoinedEntries.{joined_are_entries}
 
@@ -38,3 +45,44 @@ module _ {O : Type 0} (m : Interpreter O) (f g : FontValue) (h : states_conflict
   over_limit more =
       ap (λ x. found (λ c. c) x (cond (is_within m f g) None (Some OverLimit))) h
       ∙ over (is_within m f g) refl (λ b. too_much more (subst IsWithin entries (within_so m f g b)))
+
+-- ---- conflicts in their order
+
+-- a refusal that tells one conflict tells another that comes to the same
+tells_on : (e : Refusal) (c d : Option Conflict) → ((x : Conflict) → c ≡ Some x → d ≡ Some x) → Tells e c → Tells e d
+tells_on (refusal.Shell p) c d h t = h (ShellDiffers (shell_part p)) t
+tells_on (refusal.Code n) c d h t = h (CodeDiffers n) t
+tells_on (refusal.Glyph n) c d h t = h (GlyphDiffers n.items) t
+tells_on (refusal.Part g p) c d h t = h (PartLacks g.items p.items) t
+tells_on (refusal.Subr i g) c d h t = h (SubrDiffers i (option_map bytes_of g)) t
+tells_on refusal.Limit c d h t = h OverLimit t
+tells_on refusal.Memory c d h t = tt
+tells_on refusal.Empty c d h t = t
+
+found_on : {X Y : Type 0} (f : X → Y) (x : Option X) (e d : Option Y) (y : Y) → (e ≡ Some y → d ≡ Some y) → found f x e ≡ Some y → found f x d ≡ Some y
+found_on f (Some x) e d y h k = k
+found_on f None e d y h k = h k
+
+never : {Y : Type 0} (d : Option Y) (y : Y) → None ≡ Some y → d ≡ Some y
+never d y h = cc
+
+module _ (f g : FontValue) where
+  -- what comes after codes and glyphs
+  in_states : (x : Conflict) → entries_conflict f g ≡ Some x → states_conflict profile f g ≡ Some x
+  in_states x h = found_on ShellDiffers (shell_conflict f g) _ _ x (found_on CodeDiffers (code_conflict f g) _ _ x (found_on GlyphDiffers (glyph_conflict f g) None (runs_conflict f g) x (never (runs_conflict f g) x))) h
+
+  last : entries_conflict f g ≡ None → states_conflict profile f g ≡ runs_conflict f g
+  last h =
+      let s = found_none ShellDiffers (shell_conflict f g) _ h in
+      let c = found_none CodeDiffers (code_conflict f g) _ s.1 in
+      let n = found_none GlyphDiffers (glyph_conflict f g) _ c.1 in
+      λ i. found ShellDiffers (s.0 i) (found CodeDiffers (c.0 i) (found GlyphDiffers (n.0 i) (runs_conflict f g)))
+
+  in_all : (x : Conflict) → states_conflict profile f g ≡ Some x → conflict profile f g ≡ Some x
+  in_all x h = ap (λ o. found (λ c. c) o (cond (is_within profile f g) None (Some OverLimit))) h
+
+  pub tells_entries : (e : Refusal) → Tells e (entries_conflict f g) → Tells e (conflict profile f g)
+  tells_entries e t = tells_on e (entries_conflict f g) (conflict profile f g) (λ x h. in_all x (in_states x h)) t
+
+  pub tells_runs : (e : Refusal) → entries_conflict f g ≡ None → Tells e (runs_conflict f g) → Tells e (conflict profile f g)
+  tells_runs e n t = tells_on e (runs_conflict f g) (conflict profile f g) (λ x h. in_all x (last n ∙ h)) t

@@ -1,14 +1,15 @@
 -- How the code sees what differs in two fonts.
-use Rattle.std.specs.Prelude.{◌≡◌, ◌<◌, ℕ, Bool, true, cond, not, ◌&&◌, List, Option, Some, None}
+use Rattle.std.specs.Prelude.{◌≡◌, ◌<◌, ℕ, true, cond, List, Option, Some, None}
 use Rattle.std.specs.Global.{Vec}
 use Rattle.std.specs.FinMap as maps
 use Rattle.std.specs.declared.cmp.Ordering.{Ordering}
 use Rattle.std.specs.Ordering.{is_lt}
+use Rattle.t1_join.specs.Meaning.{Meaning}
+use Rattle.t1_join.specs.TableMeaning.{TableMeaning}
 use Rattle.t1_font.specs.FontValue.{FontValue, declared_count}
 use Rattle.t1_subset.specs.declared.conflict.ShellPart.{ShellPart as Part}
 use Rattle.t1_subset.specs.declared.conflict.ShellPart.TheVariants as part
 use Rattle.t1_subset.specs.Conflicts.{agrees, ShellPart, Head, EncodingPart, ClearTail, Private, SubrsTable, SubrsWords, Middle, GlyphsWords, Tail}
-use Rattle.t1_subset.specs.States.{is_stub}
 
 abbrev pub shell_part : Part → ShellPart
 shell_part part.Head = Head
@@ -24,10 +25,10 @@ shell_part part.Tail = Tail
 abbrev pub bytes_of : Vec ℕ → List ℕ
 bytes_of v = v.items
 
--- the state of an entry, by whether it is called
-abbrev pub state_by : Bool → Option (List ℕ) → Option (List ℕ)
-state_by called None = None
-state_by called (Some c) = cond (is_stub c && not called) None (Some c)
+-- the table with a state at the key, where there is one
+abbrev pub with_state : TableMeaning → Meaning → Option Meaning → TableMeaning
+with_state t k None = t
+with_state t k (Some v) = maps.insert t k v
 
 -- the smaller of two, where they are there
 abbrev pub smaller : {K : Type 0} → (K → K → Ordering) → Option K → Option K → Option K

@@ -11,10 +11,14 @@ use Rattle.t1_subset.specs.Profile.{profile}
 abbrev pub lacks : FontValue → FontValue → List ℕ → Bool
 lacks f g p = not (has f p) && has g p
 
--- the parts that glyphs of these names need, which their font lacks and the other has
-abbrev pub lacking_of : FontValue → FontValue → List (List ℕ) → List (List ℕ)
-lacking_of f g ns = flat_map (λ n. filter (lacks f g) (parts profile f.subrs (charstring f n))) ns
+-- the parts that the glyphs of a font name
+abbrev pub named_in : FontValue → Names
+named_in f = sets.from_list (flat_map (λ n. parts profile f.subrs (charstring f n)) (names_in f.glyphs))
 
--- the same, of all glyphs
+-- those of these names that the font lacks and the other has
+abbrev pub lacking_among : FontValue → FontValue → Names → Names
+lacking_among f g s = sets.from_list (filter (lacks f g) (sets.items s))
+
+-- the parts that a font's glyphs name, which it lacks and the other has
 abbrev pub lacking_in : FontValue → FontValue → Names
-lacking_in f g = sets.from_list (lacking_of f g (names_in f.glyphs))
+lacking_in f g = lacking_among f g (named_in f)

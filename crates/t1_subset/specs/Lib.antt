@@ -12,6 +12,7 @@ pub mod Differences
 pub mod Marks
 pub mod NameSets
 pub mod Lacking
+pub mod Runs
 pub mod Marked
 pub mod Refusals
 pub mod Merging

@@ -13,7 +13,7 @@ use t1_font::Font;
 use t1_run::{Glyphs, executed};
 
 /// Adds the indices of another set.
-fn add_all(calls: &mut BTreeSet<u16>, more: &BTreeSet<u16>) -> Result<(), AllocError>
+pub(crate) fn add_all(calls: &mut BTreeSet<u16>, more: &BTreeSet<u16>) -> Result<(), AllocError>
     ensures { OnOk result (number_set calls.new ≡ sets.union (number_set calls.old) (number_set more.now)) }
 {
     'more: for index in more {

@@ -1,36 +1,42 @@
 //! The smallest codes and names at which two fonts differ.
 
-ghost use Rattle.std.specs.Prelude.{◌≡◌};
+ghost use Rattle.std.specs.Prelude.{◌≡◌, IfOk};
 ghost use Rattle.std.specs.Option.{option_map};
 ghost use Rattle.t1_subset.specs.Conflicts.{code_conflict, glyph_conflict};
 
-use crate::shells::differ;
+use crate::tables::{code_table, glyph_table};
+use std::alloc::{AllocError, Global};
 use t1_font::Font;
-use t1_run::Glyphs;
 
 /// The smallest code that both Encodings have, with different names.
-pub(crate) fn code_conflict(left: &Font, right: &Font) -> Option<u8>
-    ensures { result ≡ code_conflict left.now right.now }
+pub(crate) fn code_conflict(
+    alloc: Global,
+    left: &Font,
+    right: &Font,
+) -> Result<Option<u8>, AllocError>
+    ensures { IfOk result (λ code. code ≡ code_conflict left.now right.now) }
 {
     left.is_font();
-    right.is_font();
-    'codes: for code in 0..256u16 {
-        let code = code as u8;
-        if differ(left.encoding_at(code), right.encoding_at(code)) {
-            return Some(code);
-        }
+    let own = code_table(alloc, left)?;
+    let other = code_table(alloc, right)?;
+    match own.conflict(&other) {
+        Some(code) => Ok(Some(*code as u8)),
+        None => Ok(None),
     }
-    None
 }
 
 /// The smallest name that both fonts have, with different charstrings.
-pub(crate) fn glyph_conflict<'a>(left: &'a Font, right: &Font) -> Option<&'a [u8]>
-    ensures { option_map (λ n. n.now) result ≡ glyph_conflict left.now right.now }
+pub(crate) fn glyph_conflict<'a>(
+    alloc: Global,
+    left: &'a Font,
+    right: &'a Font,
+) -> Result<Option<&'a [u8]>, AllocError>
+    ensures { IfOk result (λ name. option_map (λ n. n.now) name ≡ glyph_conflict left.now right.now) }
 {
-    'names: for name in left.names() {
-        if differ(left.glyph(name), right.glyph(name)) {
-            return Some(name);
-        }
+    let own = glyph_table(alloc, left)?;
+    let other = glyph_table(alloc, right)?;
+    match own.conflict(&other) {
+        Some(name) => Ok(Some(*name)),
+        None => Ok(None),
     }
-    None
 }

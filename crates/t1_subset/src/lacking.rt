@@ -7,10 +7,9 @@ ghost use Rattle.std.specs.List.{list_any};
 ghost use Rattle.t1_font.specs.FontModel.{names_in};
 ghost use Rattle.t1_subset.specs.Interpreter.{is_name};
 ghost use Rattle.t1_subset.specs.Profile.{profile};
-ghost use Rattle.t1_subset.specs.Keep.{parts, charstring};
 ghost use Rattle.t1_subset.specs.Conflicts.{first_where, smallest, wants, part_conflict, wanted_by, glyph_names};
 ghost use Rattle.t1_subset.specs.Differences.{bytes_of};
-ghost use Rattle.t1_subset.specs.Lacking.{lacks, lacking_in};
+ghost use Rattle.t1_subset.specs.Lacking.{lacks, lacking_among, named_in};
 
 use crate::marks::{has_glyph, parts_of_glyph};
 use crate::names::NameSet;
@@ -43,63 +42,38 @@ fn add_if_lacking(
     Ok(())
 }
 
-/// Adds those of these parts that the font lacks and the other font has.
-fn add_lacking_of(
-    alloc: Global,
-    font: &Font,
-    other: &Font,
-    lacking: &mut NameSet,
-    parts: &[&str],
-) -> Result<(), AllocError>
-    ensures { OnOk result (lacking.new ≡ sets.union lacking.old (sets.from_list (filter (lacks font.now other.now) (map (λ s. s.now) parts.now)))) }
-{
-    'parts: for part in parts {
-        add_if_lacking(alloc, font, other, lacking, part.as_bytes())?;
-    }
-    Ok(())
-}
-
-/// Adds those parts of a glyph that its font lacks and the other font has.
+/// Adds those of these names that the font lacks and the other font has.
 fn add_lacking(
     alloc: Global,
     font: &Font,
     other: &Font,
     lacking: &mut NameSet,
-    name: &[u8],
+    parts: &NameSet,
 ) -> Result<(), AllocError>
-    ensures { OnOk result (lacking.new ≡ sets.union lacking.old (sets.from_list (filter (lacks font.now other.now) (parts profile font.now.subrs (charstring font.now name.now))))) }
+    ensures { OnOk result (lacking.new ≡ sets.union lacking.old (lacking_among font.now other.now parts.now)) }
 {
-    let parts = parts_of_glyph(alloc, font, name)?;
-    add_lacking_of(alloc, font, other, lacking, parts.as_slice())?;
-    Ok(())
-}
-
-/// Adds those parts of all glyphs that their font lacks and the other font has.
-fn add_all_lacking(
-    alloc: Global,
-    font: &Font,
-    other: &Font,
-    lacking: &mut NameSet,
-) -> Result<(), AllocError>
-    ensures { OnOk result (lacking.new ≡ sets.union lacking.old (lacking_in font.now other.now)) }
-{
-    'names: for name in font.names() {
-        add_lacking(alloc, font, other, lacking, name)?;
+    'parts: for part in parts.iter() {
+        add_if_lacking(alloc, font, other, lacking, part.as_slice())?;
     }
     Ok(())
 }
 
-/// The smallest part that a glyph of one font names, which that font lacks and the other has.
+/// The smallest part that a glyph of one font names, which that font lacks and the other has, by the parts that the
+/// glyphs of each name.
 pub(crate) fn part_conflict(
     alloc: Global,
     left: &Font,
     right: &Font,
+    left_parts: &NameSet,
+    right_parts: &NameSet,
 ) -> Result<Option<Vec<u8>>, AllocError>
+    requires left { left_parts.now ≡ named_in left.now }
+    requires right { right_parts.now ≡ named_in right.now }
     ensures { IfOk result (λ part. option_map bytes_of part ≡ part_conflict profile left.now right.now) }
 {
     let mut lacking = NameSet::new(alloc);
-    add_all_lacking(alloc, left, right, &mut lacking)?;
-    add_all_lacking(alloc, right, left, &mut lacking)?;
+    add_lacking(alloc, left, right, &mut lacking, left_parts)?;
+    add_lacking(alloc, right, left, &mut lacking, right_parts)?;
     Ok(lacking.into_first())
 }
 

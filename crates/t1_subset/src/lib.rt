@@ -12,8 +12,10 @@ mod marks;
 mod merger;
 mod names;
 mod needed;
+mod runs;
 mod shells;
 mod subsets;
+mod tables;
 mod users;
 
 pub use closures::closure;

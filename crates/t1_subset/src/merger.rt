@@ -4,6 +4,7 @@ ghost use Rattle.std.specs.Prelude.{◌≡◌, ◌⊎◌, IfOk, IfErr, None, unw
 ghost use Rattle.t1_subset.specs.Profile.{profile};
 ghost use Rattle.t1_subset.specs.States.{Join, joined_font};
 ghost use Rattle.t1_subset.specs.Conflicts.{conflict, states_conflict};
+ghost use Rattle.t1_subset.specs.Runs.{IsRuns, entries_conflict, runs_conflict};
 ghost use Rattle.t1_subset.specs.Trees.{Merges, Leaf, left_tree};
 ghost use Rattle.t1_subset.specs.Refusals.{Tells};
 ghost use Rattle.t1_subset.specs.Merging.{DrawsBoth, StopsAt, ComesTo, IsRefused, MergesSubsets, MergesAllSubsets};
@@ -11,29 +12,50 @@ ghost use Rattle.t1_subset.specs.Merging.{DrawsBoth, StopsAt, ComesTo, IsRefused
 use crate::conflict::Conflict;
 use crate::entries::{code_conflict, glyph_conflict};
 use crate::lacking::{part_conflict, seeker};
+use crate::runs::{Runs, add_runs, runs_of};
 use crate::shells::shell_conflict;
 use crate::users::{subr_conflict, user};
 use std::alloc::Global;
 use t1_font::{Font, PartsFault, join_parts};
 
-/// The lowest conflict of two fonts' shells and states, or want of memory.
-fn states_conflict(alloc: Global, left: &Font, right: &Font) -> Result<(), Conflict>
-    ensures ok { IfOk result (λ _. states_conflict profile left.now right.now ≡ None) }
-    ensures err { IfErr result (λ e. Tells e (states_conflict profile left.now right.now)) }
+/// The lowest conflict of two fonts' shells, codes and glyphs, or want of memory.
+fn entries_conflict(alloc: Global, left: &Font, right: &Font) -> Result<(), Conflict>
+    ensures ok { IfOk result (λ _. entries_conflict left.now right.now ≡ None) }
+    ensures err { IfErr result (λ e. Tells e (entries_conflict left.now right.now)) }
 {
     if let Some(part) = shell_conflict(left, right) {
         return Err(Conflict::Shell { part });
     }
-    if let Some(code) = code_conflict(left, right) {
-        return Err(Conflict::Code { code });
+    match code_conflict(alloc, left, right) {
+        Err(_) => return Err(Conflict::Memory),
+        Ok(Some(code)) => return Err(Conflict::Code { code }),
+        Ok(None) => {}
     }
-    if let Some(name) = glyph_conflict(left, right) {
-        return match Vec::from_slice(alloc, name) {
+    match glyph_conflict(alloc, left, right) {
+        Err(_) => Err(Conflict::Memory),
+        Ok(Some(name)) => match Vec::from_slice(alloc, name) {
             Ok(name) => Err(Conflict::Glyph { name }),
             Err(_) => Err(Conflict::Memory),
-        };
+        },
+        Ok(None) => Ok(()),
     }
-    match part_conflict(alloc, left, right) {
+}
+
+/// The lowest conflict of what two fonts' glyphs name and execute, by what the runs of each come to, or want of
+/// memory.
+fn runs_conflict(
+    alloc: Global,
+    left: &Font,
+    right: &Font,
+    left_runs: &Runs,
+    right_runs: &Runs,
+) -> Result<(), Conflict>
+    requires left { IsRuns left_runs.now left.now }
+    requires right { IsRuns right_runs.now right.now }
+    ensures ok { IfOk result (λ _. runs_conflict left.now right.now ≡ None) }
+    ensures err { IfErr result (λ e. Tells e (runs_conflict left.now right.now)) }
+{
+    match part_conflict(alloc, left, right, &left_runs.parts, &right_runs.parts) {
         Err(_) => return Err(Conflict::Memory),
         Ok(Some(part)) => {
             return match seeker(alloc, left, right, part.as_slice()) {
@@ -43,7 +65,7 @@ fn states_conflict(alloc: Global, left: &Font, right: &Font) -> Result<(), Confl
         }
         Ok(None) => {}
     }
-    match subr_conflict(alloc, left, right) {
+    match subr_conflict(alloc, left, right, &left_runs.calls, &right_runs.calls) {
         Err(_) => Err(Conflict::Memory),
         Ok(Some(index)) => match user(alloc, left, right, index) {
             Ok(glyph) => Err(Conflict::Subr { index, glyph }),
@@ -53,12 +75,12 @@ fn states_conflict(alloc: Global, left: &Font, right: &Font) -> Result<(), Confl
     }
 }
 
-/// The join of two fonts, or their lowest conflict.
-fn joined(alloc: Global, left: &Font, right: &Font) -> Result<Font, Conflict>
+/// The font of the entries of two fonts whose states join, if it is within the limits.
+fn both(alloc: Global, left: &Font, right: &Font) -> Result<Font, Conflict>
+    requires { states_conflict profile left.now right.now ≡ None }
     ensures ok { IfOk result (λ j. Join profile left.now right.now × (j ≡ joined_font profile left.now right.now)) }
     ensures err { IfErr result (λ e. Tells e (conflict profile left.now right.now)) }
 {
-    states_conflict(alloc, left, right)?;
     match join_parts(alloc, left, right) {
         Ok(font) => {
             font.is_font();
@@ -69,13 +91,48 @@ fn joined(alloc: Global, left: &Font, right: &Font) -> Result<Font, Conflict>
     }
 }
 
+/// The join of two fonts, or their lowest conflict. `runs` is what the runs of the left font's glyphs come to, and
+/// becomes what those of the join come to.
+fn joined(alloc: Global, left: &Font, right: &Font, runs: &mut Runs) -> Result<Font, Conflict>
+    requires { IsRuns runs.old left.now }
+    ensures ok { IfOk result (λ j. Join profile left.now right.now × (j ≡ joined_font profile left.now right.now)) }
+    ensures err { IfErr result (λ e. Tells e (conflict profile left.now right.now)) }
+    ensures runs { IfOk result (λ j. IsRuns runs.new j) }
+{
+    if let Err(conflict) = entries_conflict(alloc, left, right) {
+        return Err(conflict);
+    }
+    let Ok(more) = runs_of(alloc, right) else {
+        return Err(Conflict::Memory);
+    };
+    if let Err(conflict) = runs_conflict(alloc, left, right, runs, &more) {
+        return Err(conflict);
+    }
+    let font = both(alloc, left, right)?;
+    match add_runs(alloc, runs, &more) {
+        Ok(()) => Ok(font),
+        Err(_) => Err(Conflict::Memory),
+    }
+}
+
+/// The join of two fonts, or their lowest conflict.
+fn merged(alloc: Global, left: &Font, right: &Font) -> Result<Font, Conflict>
+    ensures ok { IfOk result (λ j. Join profile left.now right.now × (j ≡ joined_font profile left.now right.now)) }
+    ensures err { IfErr result (λ e. Tells e (conflict profile left.now right.now)) }
+{
+    match runs_of(alloc, left) {
+        Ok(mut runs) => joined(alloc, left, right, &mut runs),
+        Err(_) => Err(Conflict::Memory),
+    }
+}
+
 /// A copy of a font, which is its join with itself.
 fn copied(alloc: Global, font: &Font) -> Result<Font, Conflict>
     ensures ok { IfOk result (λ j. j ≡ font.now) }
     ensures err { IfErr result (λ e. e ≡ Conflict.Memory) }
 {
     font.is_font();
-    joined(alloc, font, font)
+    merged(alloc, font, font)
 }
 
 /// The join so far, or the first font where nothing is joined yet.
@@ -93,10 +150,13 @@ fn joined_from(alloc: Global, first: &Font, rest: &[Font]) -> Result<Font, Confl
     ensures ok { IfOk result (λ j. Merges profile (left_tree (Leaf first.now) rest.now) j) }
     ensures err { IfErr result (λ e. (e ≡ Conflict.Memory) ⊎ StopsAt first.now rest.now e) }
 {
+    let Ok(mut runs) = runs_of(alloc, first) else {
+        return Err(Conflict::Memory);
+    };
     let mut all: Option<Font> = None;
     'rest: for font in rest {
         let left = latest(&all, first);
-        match joined(alloc, left, font) {
+        match joined(alloc, left, font, &mut runs) {
             Ok(more) => all = Some(more),
             Err(conflict) => return Err(conflict),
         }
@@ -135,7 +195,7 @@ pub fn merge(alloc: Global, left: &Font, right: &Font) -> Result<Font, Conflict>
     ensures subsets { MergesSubsets left.now right.now result }
     ensures draws { IfOk result (λ j. DrawsBoth left.now right.now j) }
 {
-    joined(alloc, left, right)
+    merged(alloc, left, right)
 }
 
 /// The font that fonts make together, merged from left to right; any other order and grouping of the merges

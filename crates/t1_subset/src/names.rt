@@ -8,7 +8,7 @@ ghost use Rattle.t1_subset.specs.Marks.{names_of};
 ghost use Rattle.t1_subset.specs.NameSets.{set_by, IsLeast};
 
 use std::alloc::{AllocError, Global};
-use std::collections::BTreeSet;
+use std::collections::{BTreeSet, btree_set};
 use std::marker::Model;
 
 /// Names in the order of their bytes, without repeats.
@@ -51,6 +51,23 @@ impl NameSet {
         ensures err { OnErr result (self.new ≡ self.old) }
     {
         self.names.insert(name)?;
+        Ok(())
+    }
+
+    /// The names, upwards by their bytes.
+    pub(crate) fn iter(&self) -> btree_set::Iter<'_, Vec<u8>>
+        ensures { set_by result ≡ self.now }
+    {
+        self.names.iter()
+    }
+
+    /// Adds the names of another set.
+    pub(crate) fn add_all(&mut self, alloc: Global, more: &NameSet) -> Result<(), AllocError>
+        ensures { OnOk result (self.new ≡ sets.union self.old more.now) }
+    {
+        'more: for name in more.iter() {
+            self.insert(Vec::from_slice(alloc, name.as_slice())?)?;
+        }
         Ok(())
     }
 

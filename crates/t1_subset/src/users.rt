@@ -2,42 +2,20 @@
 
 ghost use Rattle.std.specs.Prelude.{◌≡◌, IfOk, true};
 ghost use Rattle.std.specs.Option.{option_map};
-ghost use Rattle.std.specs.FinSet as sets;
 ghost use Rattle.t1_font.specs.FontValue.{name_cmp};
 ghost use Rattle.t1_font.specs.FontModel.{names_in};
 ghost use Rattle.t1_subset.specs.Profile.{profile};
-ghost use Rattle.t1_subset.specs.Keep.{charstring};
 ghost use Rattle.t1_subset.specs.Conflicts.{first_where, smallest, executes, subr_conflict, used_by, glyph_names};
-ghost use Rattle.t1_subset.specs.Differences.{bytes_of, state_by, smaller, EntriesAgree};
+ghost use Rattle.t1_subset.specs.Differences.{bytes_of, smaller, EntriesAgree};
 ghost use Rattle.t1_subset.specs.NameSets.{number_set, called_in};
 
-use crate::calls::{add_calls, executed_by};
+use crate::calls::executed_by;
 use crate::shells::differ;
+use crate::tables::subr_table;
 use std::alloc::{AllocError, Global};
 use std::collections::BTreeSet;
-use t1_font::{Font, STUB};
+use t1_font::Font;
 use t1_run::Subroutines;
-
-/// The indices that the glyphs of the font execute.
-fn all_calls(alloc: Global, font: &Font) -> Result<BTreeSet<u16>, AllocError>
-    ensures { IfOk result (λ calls. number_set calls ≡ called_in font.now) }
-{
-    let mut calls = BTreeSet::new(alloc);
-    'names: for name in font.names() {
-        add_calls(alloc, font, &mut calls, name)?;
-    }
-    Ok(calls)
-}
-
-/// The state of an entry: none where it is `return` and not executed.
-fn state(entry: Option<&[u8]>, is_called: bool) -> Option<&[u8]>
-    ensures { option_map (λ b. b.now) result ≡ state_by is_called (option_map (λ b. b.now) entry.entry) }
-{
-    match entry {
-        Some(body) if body == STUB && !is_called => None,
-        entry => entry,
-    }
-}
 
 /// Whether each Subr that both fonts have is the same.
 fn same_entries(left: &Font, right: &Font) -> bool
@@ -53,12 +31,16 @@ fn same_entries(left: &Font, right: &Font) -> bool
     true
 }
 
-/// The smallest index at which the states of both fonts don't join.
+/// The smallest index at which the states of both fonts don't join, by what the glyphs of each execute.
 pub(crate) fn subr_conflict(
     alloc: Global,
     left: &Font,
     right: &Font,
+    left_calls: &BTreeSet<u16>,
+    right_calls: &BTreeSet<u16>,
 ) -> Result<Option<u16>, AllocError>
+    requires left { number_set left_calls.now ≡ called_in left.now }
+    requires right { number_set right_calls.now ≡ called_in right.now }
     ensures { IfOk result (λ index. index ≡ subr_conflict profile left.now right.now) }
 {
     left.is_font();
@@ -67,16 +49,12 @@ pub(crate) fn subr_conflict(
         // Nothing differs, so it makes no difference what is executed.
         return Ok(None);
     }
-    let left_calls = all_calls(alloc, left)?;
-    let right_calls = all_calls(alloc, right)?;
-    'indices: for index in 0..left.count() {
-        let own = state(left.get(index), left_calls.contains(&index));
-        let other = state(right.get(index), right_calls.contains(&index));
-        if differ(own, other) {
-            return Ok(Some(index));
-        }
+    let own = subr_table(alloc, left, left_calls)?;
+    let other = subr_table(alloc, right, right_calls)?;
+    match own.conflict(&other) {
+        Some(index) => Ok(Some(*index)),
+        None => Ok(None),
     }
-    Ok(None)
 }
 
 /// The smaller of two names, where they are there.

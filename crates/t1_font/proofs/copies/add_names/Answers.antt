@@ -7,7 +7,7 @@ use Rattle.t1_font.proofs.copies.add_names.Goals as goal
 
 pub entries-preserved : goal.entries-preserved
 entries-preserved c =
-    ap (λ m. put_all_into m c.next.new.self) (c.in_ok-insert.ensures.ok ∙ ap (insert {R = nat_cmp} c.entries.into c.in-Some.code.now) (c.in_ok-from_slice.ensures.items ∙ c.as_slice.ensures.value))
+    ap (λ m. put_all_into m c.next.new.self) (c.in_ok-insert.ensures.ok ∙ ap (insert {R = nat_cmp} c.entries.into c.in-Some.code) (c.in_ok-from_slice.ensures.items ∙ c.as_slice.ensures.value))
     ∙ (ap (put_all_into c.entries.into) (sym (rest_more lent_number _ _ _ _ c.in-Some.is c.next.ensures.steps)) ∙ c.entries.invariant)
 
 pub returns : goal.returns

@@ -1,14 +1,12 @@
-use Rattle.std.proofs.Common.{sym, ◌∙◌, not, arith}
-use Rattle.t1_subset.specs.Conflicts.{agrees}
-use Rattle.t1_subset.proofs.FirstConflicts.{first_code, no_code, named_so}
+use Rattle.std.proofs.Common.{arith}
+use Rattle.t1_subset.proofs.TableStates.{no_code_differs, code_at, code_below}
 use Rattle.t1_subset.proofs.entries.code_conflict.Goals as goal
 
-pub returns-then-differ : goal.returns-then-differ
-returns-then-differ c =
-    let f = c.args.left.now in let g = c.args.right.now in
-    first_code f g c.codes.code
-    ((λ i. not (agrees (sym (c.encoding_at.ensures ∙ named_so f.encoding c.codes.code) i) (sym (c.encoding_at-in-codes.ensures ∙ named_so g.encoding c.codes.code) i))) ∙ sym c.differ.ensures ∙ c.if-differ.true)
-    c.codes.invariant
+pub overflow_cast-result : goal.overflow_cast-result
+overflow_cast-result c = let small = code_below c.args.left.now c.args.right.now c.is_font.ensures _ _ c.in_ok-own.ensures c.in_ok-other.ensures c.in-Some.code.now c.in-Some.ensures in omega arith
+
+pub returns-in-Some : goal.returns-in-Some
+returns-in-Some c = code_at c.args.left.now c.args.right.now c.is_font.ensures _ _ c.in_ok-own.ensures c.in_ok-other.ensures c.in-Some.code.now c.in-Some.ensures
 
 pub returns : goal.returns
-returns c = no_code c.args.left.now c.args.right.now c.is_font.ensures (λ k l. c.codes.invariant k (let t = c.codes-test.false in omega arith))
+returns c = no_code_differs c.args.left.now c.args.right.now c.is_font.ensures _ _ c.in_ok-own.ensures c.in_ok-other.ensures c.in-None.ensures

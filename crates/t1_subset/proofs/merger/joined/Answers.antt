@@ -1,17 +1,13 @@
-use Rattle.std.proofs.Common.{subst}
-use Rattle.t1_font.specs.Joins.{Refuses}
-use Rattle.t1_subset.specs.Profile.{profile}
-use Rattle.t1_subset.proofs.MergedFonts.{same_shells, same_kinds, joins, over_limit}
+use Rattle.t1_subset.proofs.MergedFonts.{tells_entries, tells_runs}
+use Rattle.t1_subset.proofs.JoinedRuns.{runs_joined}
 use Rattle.t1_subset.proofs.merger.joined.Goals as goal
 
-pub join_parts-requires-clause-shells : goal.join_parts-requires-clause-shells
-join_parts-requires-clause-shells c = same_shells profile c.args.left.now c.args.right.now c.in_ok-states_conflict.ensures.ok
+pub returns-in-Err-clause-err : goal.returns-in-Err-clause-err
+returns-in-Err-clause-err c = tells_entries c.args.left.now c.args.right.now c.in-Err.conflict c.in-Err.ensures.err
 
-pub join_parts-requires-clause-encodings : goal.join_parts-requires-clause-encodings
-join_parts-requires-clause-encodings c = same_kinds profile c.args.left.now c.args.right.now c.in_ok-states_conflict.ensures.ok
+pub returns-in-Err-runs_conflict-clause-err : goal.returns-in-Err-runs_conflict-clause-err
+returns-in-Err-runs_conflict-clause-err c = tells_runs c.args.left.now c.args.right.now c.in-Err-runs_conflict.conflict c.in_default.ensures.ok c.in-Err-runs_conflict.ensures.err
 
-pub returns-in-Ok-clause-ok : goal.returns-in-Ok-clause-ok
-returns-in-Ok-clause-ok c = joins profile c.args.left.now c.args.right.now c.in_ok-states_conflict.ensures.ok c.in-Ok.font c.in-Ok.ensures c.is_font.ensures
-
-pub returns-in-Err-Limit-clause-err : goal.returns-in-Err-Limit-clause-err
-returns-in-Err-Limit-clause-err c = over_limit profile c.args.left.now c.args.right.now c.in_ok-states_conflict.ensures.ok (subst (Refuses c.args.left.now c.args.right.now) c.in-Err-Limit.field-0-is c.in-Err-Limit.ensures)
+pub returns-in-Ok-add_runs-clause-runs : goal.returns-in-Ok-add_runs-clause-runs
+returns-in-Ok-add_runs-clause-runs c = runs_joined c.args.left.now c.args.right.now c.in_ok-font.ensures.ok.0.states c.args.runs.now c.in-Ok.more c.add_runs.new.runs c.requires
+    (record { calls = c.in-Ok.ensures.calls; parts = c.in-Ok.ensures.parts }) c.in-Ok-add_runs.ensures.calls c.in-Ok-add_runs.ensures.parts c.in_ok-font.font c.in_ok-font.ensures.ok.1

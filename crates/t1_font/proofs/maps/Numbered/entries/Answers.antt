@@ -1,10 +1,8 @@
-use Rattle.std.proofs.Common.{refl, ap, ◌∙◌, nat_cmp}
+use Rattle.std.proofs.Common.{ap, ◌∙◌, nat_cmp}
 use Rattle.std.specs.FinMap as fin
-use Rattle.std.specs.FinSet.{nat_cmp-IsAntisymmetric}
-use Rattle.std.specs.Cmp.{nat_cmp_total}
-use Rattle.t1_font.specs.MapModels.{entries_by, itself}
-use Rattle.t1_font.proofs.MapModels.{entries_are}
+use Rattle.t1_font.specs.MapModels.{slot_entries}
+use Rattle.t1_font.proofs.Slots.{entries_are}
 use Rattle.t1_font.proofs.maps.Numbered.entries.Goals as goal
 
 pub returns : goal.returns
-returns c = ap (entries_by itself) c.iter.ensures.rest ∙ entries_are itself nat_cmp nat_cmp nat_cmp_total nat_cmp-IsAntisymmetric (λ x y. refl) _ c.iter.ensures.ordered ∙ ap (fin.entries {R = nat_cmp}) c.self.view_is
+returns c = ap (slot_entries 0) c.as_slice.ensures.value ∙ (entries_are c.self.inside.slots.items ∙ ap (fin.entries {R = nat_cmp}) c.self.view_is)

@@ -1,14 +1,19 @@
-use Rattle.std.proofs.Common.{ℕ, refl, sym, ap, ◌∙◌, Some, option_map, nat_cmp}
+use Rattle.std.proofs.Common.{◌≡◌, ℕ, List, sym, ap, ◌∙◌, Option, option_map, nat_cmp}
+use Rattle.std.specs.Borrow.{Bor}
 use Rattle.std.specs.FinMap as fin
-use Rattle.std.specs.FinSet.{nat_cmp-IsAntisymmetric}
-use Rattle.std.specs.Cmp.{nat_cmp_total}
 use Rattle.std.specs.Global.{Vec}
-use Rattle.t1_font.specs.MapModels.{itself}
-use Rattle.t1_font.proofs.MapModels.{get_by_lookup}
+use Rattle.t1_font.proofs.Slots.{bytes_in, get_read}
+use Rattle.t1_font.proofs.maps.Numbered.get.Goals.{After-get}
 use Rattle.t1_font.proofs.maps.Numbered.get.Goals as goal
 
-pub returns-in-Some : goal.returns-in-Some
-returns-in-Some c = ap Some c.as_slice.ensures.value ∙ ap (option_map (λ (v : Vec ℕ). v.items)) c.in-Some.ensures.value ∙ sym (get_by_lookup itself nat_cmp nat_cmp nat_cmp_total nat_cmp-IsAntisymmetric (λ x y. refl) c.args.number _ (λ x. refl) c.self.inside.map.entries) ∙ ap (λ m. fin.get {R = nat_cmp} m c.args.number) c.self.view_is
+abbrev seen : Option (Bor (Option (Vec ℕ))) → Option (List ℕ)
+seen r = bytes_in (option_map (λ (x : Bor (Option (Vec ℕ))). x.now) r)
 
-pub returns-in-None : goal.returns-in-None
-returns-in-None c = ap (option_map (λ (v : Vec ℕ). v.items)) c.in-None.ensures.value ∙ sym (get_by_lookup itself nat_cmp nat_cmp nat_cmp_total nat_cmp-IsAntisymmetric (λ x y. refl) c.args.number _ (λ x. refl) c.self.inside.map.entries) ∙ ap (λ m. fin.get {R = nat_cmp} m c.args.number) c.self.view_is
+found : (c : After-get) → seen c.get.result ≡ fin.get {R = nat_cmp} c.args.self.now c.args.number
+found c = get_read c.self.inside.slots.items c.deref.result.now c.args.number c.get.result c.deref.ensures.value c.get.ensures.lookup ∙ ap (λ m. fin.get {R = nat_cmp} m c.args.number) c.self.view_is
+
+pub returns-in_err-get : goal.returns-in_err-get
+returns-in_err-get c = ap (option_map (λ (b : Bor (List ℕ)). b.now)) c.from_residual.ensures ∙ (sym (ap seen c.in_err-get.was) ∙ found (goal.at.returns-in_err-get c).After-get)
+
+pub returns : goal.returns
+returns c = c.as_deref.ensures.value ∙ (sym (ap seen c.in_ok-get.was) ∙ found (goal.at.returns c).After-get)

@@ -1,10 +1,10 @@
-use Rattle.std.proofs.Common.{refl, ap, ◌∙◌, nat_cmp}
+use Rattle.std.proofs.Common.{nat_cmp, ap, ◌∙◌, arith}
 use Rattle.std.specs.FinMap as fin
-use Rattle.std.specs.FinSet.{nat_cmp-IsAntisymmetric}
-use Rattle.std.specs.Cmp.{nat_cmp_total}
-use Rattle.t1_font.specs.MapModels.{map_by, itself}
-use Rattle.t1_font.proofs.MapModels.{map_insert}
+use Rattle.t1_font.proofs.Slots.{slot_filled}
 use Rattle.t1_font.proofs.maps.Numbered.insert.Goals as goal
 
 pub returns-clause-ok : goal.returns-clause-ok
-returns-clause-ok c = ap (map_by itself) c.in_ok-insert.ensures.entries ∙ map_insert itself nat_cmp nat_cmp nat_cmp_total nat_cmp-IsAntisymmetric (λ x y. refl) _ c.args.number c.args.bytes ∙ ap (λ m. fin.insert {R = nat_cmp} m c.args.number c.args.bytes.items) c.self.view_is
+returns-clause-ok c =
+    slot_filled c.make_slots.new.slots.items c.args.number c.args.bytes (omega (arith, c.in_ok-make_slots.ensures.enough))
+    ∙ (ap (λ es. fin.insert {R = nat_cmp} (fin.from_entries es) c.args.number c.args.bytes.items) c.make_slots.ensures.entries
+    ∙ ap (λ m. fin.insert {R = nat_cmp} m c.args.number c.args.bytes.items) c.self.view_is)

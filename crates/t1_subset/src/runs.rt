@@ -1,0 +1,72 @@
+//! What the runs of a font's glyphs come to together.
+
+ghost use Rattle.std.specs.Prelude.{◌≡◌, IfOk, OnOk, map};
+ghost use Rattle.std.specs.FinSet as sets;
+ghost use Rattle.t1_subset.specs.Profile.{profile};
+ghost use Rattle.t1_subset.specs.Keep.{parts, charstring};
+ghost use Rattle.t1_subset.specs.NameSets.{number_set, called_in};
+ghost use Rattle.t1_subset.specs.Lacking.{named_in};
+
+use crate::calls::add_all;
+use crate::names::NameSet;
+use std::alloc::{AllocError, Global};
+use std::collections::BTreeSet;
+use t1_font::Font;
+use t1_run::{Glyphs, direct_and_executed, parts_of};
+
+/// The Subrs that the glyphs of a font execute, and the parts that they name.
+#[derive(Drop)]
+pub(crate) struct Runs {
+    pub(crate) calls: BTreeSet<u16>,
+    pub(crate) parts: NameSet,
+}
+
+/// Adds the names of parts.
+fn add_parts(alloc: Global, parts: &mut NameSet, more: &[&str]) -> Result<(), AllocError>
+    ensures { OnOk result (parts.new ≡ sets.union parts.old (sets.from_list (map (λ s. s.now) more.now))) }
+{
+    'more: for part in more {
+        parts.insert(Vec::from_slice(alloc, part.as_bytes())?)?;
+    }
+    Ok(())
+}
+
+/// Adds what the run of a glyph comes to.
+fn add_run(alloc: Global, font: &Font, runs: &mut Runs, name: &[u8]) -> Result<(), AllocError>
+    ensures calls { OnOk result (number_set runs.new.calls ≡ sets.union (number_set runs.old.calls) (profile.exec font.now.subrs (charstring font.now name.now))) }
+    ensures parts { OnOk result (runs.new.parts ≡ sets.union runs.old.parts (sets.from_list (parts profile font.now.subrs (charstring font.now name.now)))) }
+{
+    font.is_font();
+    if let Some(charstring) = font.glyph(name) {
+        let (outcome, calls) = direct_and_executed(alloc, font, charstring)?;
+        add_all(&mut runs.calls, &calls)?;
+        let more = parts_of(alloc, &outcome)?;
+        add_parts(alloc, &mut runs.parts, more.as_slice())?;
+    }
+    Ok(())
+}
+
+/// What the runs of all glyphs of the font come to, one run for each.
+pub(crate) fn runs_of(alloc: Global, font: &Font) -> Result<Runs, AllocError>
+    ensures calls { IfOk result (λ runs. number_set runs.calls ≡ called_in font.now) }
+    ensures parts { IfOk result (λ runs. runs.parts ≡ named_in font.now) }
+{
+    let mut runs = Runs {
+        calls: BTreeSet::new(alloc),
+        parts: NameSet::new(alloc),
+    };
+    'names: for name in font.names() {
+        add_run(alloc, font, &mut runs, name)?;
+    }
+    Ok(runs)
+}
+
+/// Adds what the runs of another font's glyphs come to.
+pub(crate) fn add_runs(alloc: Global, runs: &mut Runs, more: &Runs) -> Result<(), AllocError>
+    ensures calls { OnOk result (number_set runs.new.calls ≡ sets.union (number_set runs.old.calls) (number_set more.now.calls)) }
+    ensures parts { OnOk result (runs.new.parts ≡ sets.union runs.old.parts more.now.parts) }
+{
+    add_all(&mut runs.calls, &more.calls)?;
+    runs.parts.add_all(alloc, &more.parts)?;
+    Ok(())
+}
