@@ -14,12 +14,12 @@ use Rattle.t1_subset.proofs.runs.add_run.Goals as goal
 
 pub returns-in_ok-add_parts-clause-calls : goal.returns-in_ok-add_parts-clause-calls
 returns-in_ok-add_parts-clause-calls c = c.in_ok-add_all.ensures ∙ ap (sets.union (number_set c.args.runs.now.calls))
-    (ap set_of c.in_ok-direct_and_executed.ensures.indices ∙ calls_are c.args.font.now c.is_font.ensures c.args.name.now c.in-Some.charstring.now (sym c.in-Some.ensures))
+    (ap set_of c.in_ok-outcome.ensures.indices ∙ calls_are c.args.font.now c.is_font.ensures c.args.name.now c.in-Some.charstring.now (sym c.in-Some.ensures))
 
 pub returns-in_ok-add_parts-clause-parts : goal.returns-in_ok-add_parts-clause-parts
 returns-in_ok-add_parts-clause-parts c = c.in_ok-add_parts.ensures
     ∙ ap (λ (ns : List (List ℕ)). sets.union c.args.runs.now.parts (sets.from_list {R = name_cmp} ns))
-    (ap (map (λ (s : Bor (List ℕ)). s.now)) c.as_slice.ensures.value ∙ c.in_ok-more.ensures.names ∙ ap parts_of c.in_ok-direct_and_executed.ensures.answer
+    (ap (map (λ (s : Bor (List ℕ)). s.now)) c.as_slice.ensures.value ∙ c.in_ok-more.ensures.names ∙ ap parts_of c.in_ok-outcome.ensures.answer
     ∙ parts_are c.args.font.now c.is_font.ensures c.args.name.now c.in-Some.charstring.now (sym c.in-Some.ensures))
 
 pub returns-in_default-clause-calls : goal.returns-in_default-clause-calls
