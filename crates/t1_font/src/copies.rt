@@ -54,7 +54,7 @@ pub fn add_names(alloc: Global, into: &mut Numbered, from: &Numbered) -> Result<
     ensures { OnOk result (into.new ≡ put_all_into into.old (entries from.now)) }
 {
     'entries: for (code, name) in from.entries() {
-        into.insert(code, Vec::from_slice(alloc, name.as_slice())?)?;
+        into.insert(alloc, code, name)?;
     }
     Ok(())
 }

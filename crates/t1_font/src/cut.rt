@@ -46,8 +46,8 @@ fn cut_codes(alloc: Global, codes: &Numbered, glyphs: &Named) -> Result<Numbered
 {
     let mut cut = Numbered::new(alloc);
     'codes: for (code, name) in codes.entries() {
-        if glyphs.get(name.as_slice()).is_some() {
-            cut.insert(code, Vec::from_slice(alloc, name.as_slice())?)?;
+        if glyphs.get(name).is_some() {
+            cut.insert(alloc, code, name)?;
         }
     }
     Ok(cut)
@@ -77,11 +77,11 @@ fn cut_subrs(alloc: Global, subrs: &Numbered, kept: &BTreeSet<u16>) -> Result<Nu
     let mut cut = Numbered::new(alloc);
     'bodies: for (index, body) in subrs.entries() {
         let body = if kept.contains(&index) {
-            body.as_slice()
+            body
         } else {
             STUB
         };
-        cut.insert(index, Vec::from_slice(alloc, body)?)?;
+        cut.insert(alloc, index, body)?;
     }
     Ok(cut)
 }

@@ -235,7 +235,7 @@ fn keep_put(names: &mut Numbered, alloc: Global, put: Put<'_>) -> Result<(), All
         names.remove(put.code as u16);
         return Ok(());
     }
-    names.insert(put.code as u16, Vec::from_slice(alloc, put.name)?)?;
+    names.insert(alloc, put.code as u16, put.name)?;
     Ok(())
 }
 

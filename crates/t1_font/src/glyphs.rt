@@ -70,6 +70,7 @@ pub struct GlyphTable<'a> {
 fn keep_glyph(
     bodies: &mut Named,
     alloc: Global,
+    buffer: &mut Vec<u8>,
     entry: GlyphEntry<'_>,
     len_iv: u8,
 ) -> Result<(), AllocError>
@@ -80,7 +81,8 @@ fn keep_glyph(
         return Ok(());
     }
     let name = Vec::from_slice(alloc, entry.name)?;
-    bodies.insert(name, plain(alloc, entry.body, len_iv)?)?;
+    let plain = plain(buffer, entry.body, len_iv)?;
+    bodies.insert(name, Vec::from_slice(alloc, plain)?)?;
     Ok(())
 }
 
@@ -102,6 +104,7 @@ pub fn glyphs_at(
     let mut words = None;
     let mut bodies = Named::new(alloc);
     let mut has_notdef = false;
+    let mut buffer = Vec::new(alloc);
     let mut rest = bytes;
     'entries: loop {
         if let Some(after) = glyphs_end_at(rest) {
@@ -119,7 +122,7 @@ pub fn glyphs_at(
         };
         words = Some(first_words(words, entry.rd, entry.nd));
         has_notdef |= is_notdef(entry.name);
-        keep_glyph(&mut bodies, alloc, entry, len_iv)?;
+        keep_glyph(&mut bodies, alloc, &mut buffer, entry, len_iv)?;
         rest = after;
     }
 }

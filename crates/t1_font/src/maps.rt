@@ -7,9 +7,14 @@ ghost use Rattle.t1_font.specs.FontValue.{total, subr_weight, glyph_weight};
 ghost use Rattle.t1_font.specs.FontModel.{clamp};
 ghost use Rattle.t1_font.specs.MapModels.{slot_entries};
 
+use smallvec::SmallVec;
 use std::alloc::{AllocError, Global};
 use std::collections::{BTreeMap, btree_map};
 use std::marker::Model;
+
+/// What stands at a number, if anything does. Up to 16 bytes lie in the slot itself: most Subrs of a
+/// subset are `return` alone, and most names are short.
+type Slot = Option<SmallVec<u8, 16>>;
 
 /// The weight of a Subr: one of no bytes weighs as much as one of one byte.
 fn subr_weight(len_iv: u8, body: &[u8]) -> u64
@@ -31,7 +36,7 @@ fn glyph_weight(len_iv: u8, body: &[u8]) -> u64
 }
 
 /// Adds empty slots until there are so many. Where a growth is refused, some may have been added.
-fn make_slots(slots: &mut Vec<Option<Vec<u8>>>, count: usize) -> Result<(), AllocError>
+fn make_slots(slots: &mut Vec<Slot>, count: usize) -> Result<(), AllocError>
     ensures entries { slot_entries 0 slots.new.items ≡ slot_entries 0 slots.old.items }
     ensures enough { OnOk result (count ≤ length slots.new.items) }
     ensures limit { count ≤ 65536 → length slots.old.items ≤ 65536 → length slots.new.items ≤ 65536 }
@@ -49,7 +54,7 @@ fn make_slots(slots: &mut Vec<Option<Vec<u8>>>, count: usize) -> Result<(), Allo
 /// 65,536 slots, and no map takes more.
 #[derive(Drop)]
 pub struct Numbered {
-    slots: Vec<Option<Vec<u8>>>,
+    slots: Vec<Slot>,
 }
 
 impl Model for Numbered {
@@ -76,12 +81,13 @@ impl Numbered {
         }
     }
 
-    /// Puts the bytes at the number, in place of what is there.
-    pub fn insert(&mut self, number: u16, bytes: Vec<u8>) -> Result<(), AllocError>
-        ensures ok { OnOk result (self.new ≡ fin.insert self.old number bytes.items) }
+    /// Puts a copy of the bytes at the number, in place of what is there.
+    pub fn insert(&mut self, alloc: Global, number: u16, bytes: &[u8]) -> Result<(), AllocError>
+        ensures ok { OnOk result (self.new ≡ fin.insert self.old number bytes.now) }
         ensures err { OnErr result (self.new ≡ self.old) }
     {
         let place = number as usize;
+        let bytes = SmallVec::from_slice(alloc, bytes)?;
         make_slots(&mut self.slots, place + 1)?;
         self.slots[place] = Some(bytes);
         Ok(())
@@ -101,7 +107,10 @@ impl Numbered {
     pub fn get(&self, number: u16) -> Option<&[u8]>
         ensures { option_map (λ b. b.now) result ≡ fin.get self.now number }
     {
-        self.slots.get(number as usize)?.as_deref()
+        match self.slots.get(number as usize)? {
+            Some(bytes) => Some(bytes.as_slice()),
+            None => None,
+        }
     }
 
     /// The entries, upwards by number.
@@ -120,7 +129,7 @@ impl Numbered {
     {
         let mut weight = before;
         'bodies: for (_, body) in self.entries() {
-            weight = weight.saturating_add(subr_weight(len_iv, body.as_slice()));
+            weight = weight.saturating_add(subr_weight(len_iv, body));
         }
         weight
     }
@@ -130,7 +139,7 @@ impl Numbered {
 #[derive(Drop)]
 pub struct NumberedEntries<'a> {
     number: usize,
-    slots: &'a [Option<Vec<u8>>],
+    slots: &'a [Slot],
 }
 
 impl<'a> Model for NumberedEntries<'a> {
@@ -145,7 +154,7 @@ impl<'a> Model for NumberedEntries<'a> {
 }
 
 impl<'a> Iterator for NumberedEntries<'a> {
-    type Item = (u16, &'a Vec<u8>);
+    type Item = (u16, &'a [u8]);
 
     ghost use Rattle.std.specs.Prelude.{length};
     ghost use Rattle.std.specs.Iterator.{at_most};
@@ -156,13 +165,13 @@ impl<'a> Iterator for NumberedEntries<'a> {
 
     ghost remaining = { λ s. at_most (length s) };
 
-    fn next(&mut self) -> Option<(u16, &'a Vec<u8>)> {
+    fn next(&mut self) -> Option<(u16, &'a [u8])> {
         'slots: while let Some((slot, rest)) = self.slots.split_first() {
             let number = self.number;
             self.number = number + 1;
             self.slots = rest;
             if let Some(bytes) = slot {
-                return Some((number as u16, bytes));
+                return Some((number as u16, bytes.as_slice()));
             }
         }
         None

@@ -90,8 +90,7 @@ fn join_subrs(alloc: Global, first: &Numbered, second: &Numbered) -> Result<Numb
 {
     let mut joined = Numbered::new(alloc);
     'bodies: for (index, body) in first.entries() {
-        let body = joined_subr(body.as_slice(), second.get(index));
-        joined.insert(index, Vec::from_slice(alloc, body)?)?;
+        joined.insert(alloc, index, joined_subr(body, second.get(index)))?;
     }
     Ok(joined)
 }

@@ -105,6 +105,7 @@ pub struct SubrTable<'a> {
 fn keep_subr(
     bodies: &mut Numbered,
     alloc: Global,
+    buffer: &mut Vec<u8>,
     entry: SubrEntry<'_>,
     declared: u32,
     len_iv: u8,
@@ -116,7 +117,7 @@ fn keep_subr(
     let Ok(index) = u16::try_from(entry.index) else {
         return Ok(());
     };
-    bodies.insert(index, plain(alloc, entry.body, len_iv)?)?;
+    bodies.insert(alloc, index, plain(buffer, entry.body, len_iv)?)?;
     Ok(())
 }
 
@@ -131,6 +132,7 @@ pub fn subrs_at(
 {
     let mut words = None;
     let mut bodies = Numbered::new(alloc);
+    let mut buffer = Vec::new(alloc);
     let mut rest = bytes;
     'entries: loop {
         if let Some((closing, after)) = subrs_end_at(rest) {
@@ -147,7 +149,7 @@ pub fn subrs_at(
             return Err(TableError::Left(left.len()));
         };
         words = Some(first_words(words, entry.rd, entry.put));
-        keep_subr(&mut bodies, alloc, entry, declared, len_iv)?;
+        keep_subr(&mut bodies, alloc, &mut buffer, entry, declared, len_iv)?;
         rest = after;
     }
 }

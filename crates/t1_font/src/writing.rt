@@ -109,7 +109,7 @@ fn put_subrs(
     put_number(alloc, out, kept.declared as usize)?;
     out.extend_from_slice(b" array")?;
     'subrs: for (index, plain) in subrs.entries() {
-        put_subr(alloc, out, kept, len_iv, index, plain.as_slice())?;
+        put_subr(alloc, out, kept, len_iv, index, plain)?;
     }
     out.push(b'\n')?;
     out.extend_from_slice(kept.closing.as_slice())?;
@@ -184,7 +184,7 @@ fn put_codes(alloc: Global, out: &mut Vec<u8>, names: &Numbered) -> Result<(), A
         out.extend_from_slice(b"\ndup ")?;
         put_number(alloc, out, code as usize)?;
         out.extend_from_slice(b" /")?;
-        out.extend_from_slice(name.as_slice())?;
+        out.extend_from_slice(name)?;
         out.extend_from_slice(b" put")?;
     }
     out.extend_from_slice(b"\nreadonly def")?;

@@ -1,5 +1,4 @@
-use Rattle.std.proofs.Common.{nat_cmp, sym, ap, ◌∙◌}
-use Rattle.std.specs.FinMap.{insert}
+use Rattle.std.proofs.Common.{sym, ap, ◌∙◌}
 use Rattle.std.proofs.lemmas.Map.Iter.{rest_more, rest_all}
 use Rattle.t1_font.specs.Cut.{put_all_into}
 use Rattle.t1_font.specs.MapModels.{lent_number}
@@ -7,7 +6,7 @@ use Rattle.t1_font.proofs.copies.add_names.Goals as goal
 
 pub entries-preserved : goal.entries-preserved
 entries-preserved c =
-    ap (λ m. put_all_into m c.next.new.self) (c.in_ok-insert.ensures.ok ∙ ap (insert {R = nat_cmp} c.entries.into c.in-Some.code) (c.in_ok-from_slice.ensures.items ∙ c.as_slice.ensures.value))
+    ap (λ m. put_all_into m c.next.new.self) c.in_ok-insert.ensures.ok
     ∙ (ap (put_all_into c.entries.into) (sym (rest_more lent_number _ _ _ _ c.in-Some.is c.next.ensures.steps)) ∙ c.entries.invariant)
 
 pub returns : goal.returns

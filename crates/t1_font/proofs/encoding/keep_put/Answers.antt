@@ -1,6 +1,4 @@
-use Rattle.std.proofs.Common.{sym, ap, ◌∙◌, not}
-use Rattle.std.proofs.Common.{nat_cmp}
-use Rattle.std.specs.FinMap.{insert}
+use Rattle.std.proofs.Common.{sym, ap, not}
 use Rattle.t1_font.specs.Views.{put_view}
 use Rattle.t1_font.proofs.HeldLemmas.{put_name, put_notdef}
 use Rattle.t1_font.proofs.encoding.keep_put.Goals as goal
@@ -9,4 +7,4 @@ pub returns-then-is_notdef : goal.returns-then-is_notdef
 returns-then-is_notdef c = λ es h. put_notdef es (put_view c.args.put) c.args.names.now c.remove.new.self (ap not (sym c.if-is_notdef.ensures)) c.remove.ensures h
 
 pub returns : goal.returns
-returns c = λ es h. put_name es (put_view c.args.put) c.args.names.now c.insert.new.self (ap not (sym c.if-is_notdef.ensures)) (c.in_ok-insert.ensures.ok ∙ ap (λ b. insert {R = nat_cmp} c.args.names.now c.args.put.code b) c.in_ok-from_slice.ensures.items) h
+returns c = λ es h. put_name es (put_view c.args.put) c.args.names.now c.insert.new.self (ap not (sym c.if-is_notdef.ensures)) c.in_ok-insert.ensures.ok h

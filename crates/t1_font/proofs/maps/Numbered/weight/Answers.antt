@@ -12,7 +12,7 @@ bodies-init c = (omega (arith, c.ranges.before.fits), ap (λ es. clamp (c.args.b
 pub bodies-preserved : goal.bodies-preserved
 bodies-preserved c = (
   clamp_fits _ _ c.saturating_add-weight.ensures,
-  ap (λ n. clamp (n + total (subr_weight c.args.len_iv) c.next.new.self)) (c.saturating_add-weight.ensures ∙ ap (λ n. min (c.bodies.weight + n) 18446744073709551615) (c.subr_weight.ensures ∙ ap (subr_weight c.args.len_iv 0) c.as_slice.ensures.value))
+  ap (λ n. clamp (n + total (subr_weight c.args.len_iv) c.next.new.self)) (c.saturating_add-weight.ensures ∙ ap (λ n. min (c.bodies.weight + n) 18446744073709551615) c.subr_weight.ensures)
       ∙ (clamp_more c.bodies.weight _ _
       ∙ (ap (λ es. clamp (c.bodies.weight + total (subr_weight c.args.len_iv) es)) (sym (rest_more lent_number _ _ _ _ c.in-Some.is c.next.ensures.steps)) ∙ c.bodies.invariant.1)),
 )
