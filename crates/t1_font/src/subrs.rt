@@ -135,7 +135,11 @@ pub fn subrs_at(
     let mut buffer = Vec::new(alloc);
     let mut rest = bytes;
     'entries: loop {
-        if let Some((closing, after)) = subrs_end_at(rest) {
+        if let Some((entry, after)) = subr_at(rest, declared, len_iv) {
+            words = Some(first_words(words, entry.rd, entry.put));
+            keep_subr(&mut bodies, alloc, &mut buffer, entry, declared, len_iv)?;
+            rest = after;
+        } else if let Some((closing, after)) = subrs_end_at(rest) {
             let table = SubrTable {
                 declared,
                 len_iv,
@@ -143,13 +147,9 @@ pub fn subrs_at(
                 bodies,
             };
             return Ok((table, closing, after));
-        }
-        let Some((entry, after)) = subr_at(rest, declared, len_iv) else {
+        } else {
             let (_, left) = white_at(rest);
             return Err(TableError::Left(left.len()));
-        };
-        words = Some(first_words(words, entry.rd, entry.put));
-        keep_subr(&mut bodies, alloc, &mut buffer, entry, declared, len_iv)?;
-        rest = after;
+        }
     }
 }
