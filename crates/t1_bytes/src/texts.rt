@@ -36,7 +36,7 @@ pub fn fixed_at<'a>(bytes: &'a [u8], text: &[u8]) -> Option<(&'a [u8], &'a [u8])
 pub fn is_white(byte: u8) -> bool
     ensures { result ≡ is_white byte }
 {
-    matches!(byte, 0 | 9 | 10 | 12 | 13 | 32)
+    byte <= b' ' && matches!(byte, 0 | 9 | 10 | 12 | 13 | 32)
 }
 
 /// How many bytes of white space come first.

@@ -17,10 +17,11 @@ fn is_delimiter(byte: u8) -> bool
     )
 }
 
+/// Whether a byte is neither white space nor a delimiter. Letters and digits, which most are, are told first.
 pub fn is_regular(byte: u8) -> bool
     ensures { result ≡ is_regular byte }
 {
-    !(is_white(byte) || is_delimiter(byte))
+    byte.is_ascii_alphanumeric() || !(is_white(byte) || is_delimiter(byte))
 }
 
 /// How many regular bytes come first.
