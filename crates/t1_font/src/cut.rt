@@ -76,11 +76,7 @@ fn cut_subrs(alloc: Global, subrs: &Numbered, kept: &BTreeSet<u16>) -> Result<Nu
 {
     let mut cut = Numbered::new(alloc);
     'bodies: for (index, body) in subrs.entries() {
-        let body = if kept.contains(&index) {
-            body
-        } else {
-            STUB
-        };
+        let body = if kept.contains(&index) { body } else { STUB };
         cut.insert(alloc, index, body)?;
     }
     Ok(cut)
