@@ -1,11 +1,12 @@
 -- The laws of fonts and their canonical files, each the contract of a function in `laws`.
 use Rattle.std.specs.Prelude.{◌≡◌, ◌↔◌, ℕ, ◌+◌, ◌*◌, ◌≤◌, Bool, true, false, List, length, Ok}
-use Rattle.std.specs.FinMap.{len}
+use Rattle.std.specs.FinMap.{get, len}
 use Rattle.t1_bytes.specs.declared.form.Form.{Form}
 use Rattle.t1_bytes.specs.declared.form.Form.TheVariants.{Pfa, Pfb}
 use Rattle.t1_bytes.specs.Laws.{AreBytes}
 use Rattle.t1_bytes.specs.Segments.{starts_segment, IsFlat}
 use Rattle.t1_font.specs.FontValue.{FontValue, Encoding, Word, Codes, notdef, file_limit, count_limit, weight_limit, weight}
+use Rattle.t1_font.specs.FontModel.{subr_at}
 use Rattle.t1_font.specs.ReadFont.{read_font}
 use Rattle.t1_font.specs.Canon.{canon}
 use Rattle.t1_font.specs.Cut.{restrict, join_parts, merged}
@@ -55,6 +56,10 @@ CanonWeighs = (f : FontValue) (form : Form) → IsFont f → length (canon f for
 -- a font cut to names with `.notdef` is a font, and weighs no more
 abbrev pub RestrictIsFont : Type 0
 RestrictIsFont = (names : List ℕ → Bool) (subrs : ℕ → Bool) (f : FontValue) → IsFont f → names notdef ≡ true → IsFont (restrict names subrs f) × (weight (restrict names subrs f) ≤ weight f)
+
+-- the Subrs that an interpreter sees of a font are all that the font has: what is said of a font's maps is said of its calls
+abbrev pub ShowsItsSubrs : Type 0
+ShowsItsSubrs = (f : FontValue) → IsFont f → subr_at f ≡ get f.subrs
 
 -- a join weighs no less than its first font
 abbrev pub JoinWeighs : Type 0

@@ -4,11 +4,14 @@ use Rattle.std.specs.FinMap as maps
 use Rattle.std.specs.FinSet as sets
 use Rattle.t1_font.specs.FontValue.{FontValue}
 use Rattle.t1_font.specs.IsFont.{IsFont}
+use Rattle.t1_font.proofs.FontReaders.{all_seen}
+use Rattle.t1_run.specs.Run.{direct, exec}
+use Rattle.t1_run.specs.Drawings.{draw}
 use Rattle.t1_subset.specs.Interpreter.{Names}
 use Rattle.t1_subset.specs.Keep.{has, keep, subset}
 use Rattle.t1_subset.specs.States.{joined_font, Compatible}
 use Rattle.t1_subset.specs.Profile.{profile}
-use Rattle.t1_subset.specs.Laws.{IsOf, DrawsAlike}
+use Rattle.t1_subset.specs.Laws.{IsOf, DrawsAlike, AnswersAlike}
 use Rattle.t1_subset.proofs.CutFonts.{get-glyph, has_some, subrs_alike}
 use Rattle.t1_subset.proofs.States.{left_glyph, left_subrs, font_back, compatible_back}
 use Rattle.t1_subset.proofs.Drawings.{subset_draws, join_draws}
@@ -34,3 +37,12 @@ left_alike f g c n h =
 
 pub right_alike : (f g : FontValue) → Compatible profile f g → (n : List ℕ) → has g n ≡ true → DrawsAlike g (joined_font profile f g) n
 right_alike f g c n h = subst (λ (j : FontValue). DrawsAlike g j n) (sym (font_back profile f g c)) (left_alike g f (compatible_back profile f g c) n h)
+
+-- what both fonts show to an interpreter is their maps
+pub answers_alike : (f j : FontValue) → IsFont f → IsFont j → (n : List ℕ) → DrawsAlike f j n → AnswersAlike f j n
+answers_alike f j hf hj n d = record {
+  charstring = d.charstring;
+  answer = λ c is. ap (λ s. direct s c) (all_seen j hj) ∙ d.answer c is ∙ ap (λ s. direct s c) (sym (all_seen f hf));
+  executes = λ c is. ap (λ s. exec s c) (all_seen j hj) ∙ d.executes c is ∙ ap (λ s. exec s c) (sym (all_seen f hf));
+  draws = ap (λ s. draw s (maps.get j.glyphs) n) (all_seen j hj) ∙ d.draws ∙ ap (λ s. draw s (maps.get f.glyphs) n) (sym (all_seen f hf));
+}

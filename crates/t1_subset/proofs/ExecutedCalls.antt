@@ -12,7 +12,7 @@ use Rattle.t1_run.specs.Run.{exec}
 use Rattle.t1_font.specs.FontValue.{FontValue, name_cmp, declared_count}
 use Rattle.t1_font.specs.FontModel.{subr_at, names_in}
 use Rattle.t1_font.specs.IsFont.{IsFont}
-use Rattle.t1_font.proofs.FontReaders.{subrs_seen}
+use Rattle.t1_font.proofs.FontReaders.{subrs_seen, all_seen}
 use Rattle.t1_subset.specs.Interpreter.{Numbers}
 use Rattle.t1_subset.specs.Keep.{charstring}
 use Rattle.t1_subset.specs.Profile.{profile, set_of}
@@ -20,7 +20,6 @@ use Rattle.t1_subset.specs.States.{is_called, is_stub, state_of_entry, subr_stat
 use Rattle.t1_subset.specs.Conflicts.{agrees, first_where, smallest, members, keys_of_both, executes, executed_at, used_by, glyph_names, subr_clashes, subr_conflict}
 use Rattle.t1_subset.specs.Differences.{smaller, EntriesAgree}
 use Rattle.t1_subset.specs.NameSets.{called_in}
-use Rattle.t1_subset.proofs.ProfileRuns.{all_seen}
 use Rattle.t1_subset.proofs.Conflicts.{passes_none, in_both, agrees_none}
 use Rattle.t1_subset.proofs.Smallest.{smallest_is}
 use Rattle.t1_subset.proofs.Maps.{any_in, any_of}

@@ -6,13 +6,9 @@ use Rattle.t1_run.specs.Drawings.{parts_of}
 use Rattle.t1_font.specs.FontValue.{FontValue}
 use Rattle.t1_font.specs.FontModel.{subr_at}
 use Rattle.t1_font.specs.IsFont.{IsFont}
-use Rattle.t1_font.proofs.FontReaders.{subrs_seen}
+use Rattle.t1_font.proofs.FontReaders.{all_seen}
 use Rattle.t1_subset.specs.Keep.{parts, charstring}
 use Rattle.t1_subset.specs.Profile.{profile}
-
--- the Subrs that a run sees are the font's
-pub all_seen : (f : FontValue) → IsFont f → subr_at f ≡ maps.get f.subrs
-all_seen f h = λ i. λ k. subrs_seen f h k i
 
 pub parts_are : (f : FontValue) → IsFont f → (n c : List ℕ) → maps.get f.glyphs n ≡ Some c → parts_of (direct (subr_at f) c) ≡ parts profile f.subrs (charstring f n)
 unfolding profile

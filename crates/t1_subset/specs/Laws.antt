@@ -5,6 +5,7 @@ use Rattle.std.specs.FinMap as maps
 use Rattle.t1_run.specs.Run.{direct, exec}
 use Rattle.t1_run.specs.Drawings.{draw}
 use Rattle.t1_font.specs.FontValue.{FontValue, weight}
+use Rattle.t1_font.specs.FontModel.{subr_at}
 use Rattle.t1_font.specs.IsFont.{IsFont}
 use Rattle.t1_font.specs.Cut.{join_parts}
 use Rattle.t1_subset.specs.Interpreter.{Interpreter, Names}
@@ -29,6 +30,17 @@ pub record DrawsAlike (f j : FontValue) (n : List ℕ) : Type 0 where
   pub answer : (c : List ℕ) → maps.get f.glyphs n ≡ Some c → direct (maps.get j.subrs) c ≡ direct (maps.get f.subrs) c
   pub executes : (c : List ℕ) → maps.get f.glyphs n ≡ Some c → exec (maps.get j.subrs) c ≡ exec (maps.get f.subrs) c
   pub draws : draw (maps.get j.subrs) (maps.get j.glyphs) n ≡ draw (maps.get f.subrs) (maps.get f.glyphs) n
+
+-- what calls answer of a glyph of f, they answer of it in j: what its charstring does by itself, what it executes, and what it draws, over what each font shows to an interpreter
+pub record AnswersAlike (f j : FontValue) (n : List ℕ) : Type 0 where
+  pub charstring : maps.get j.glyphs n ≡ maps.get f.glyphs n
+  pub answer : (c : List ℕ) → maps.get f.glyphs n ≡ Some c → direct (subr_at j) c ≡ direct (subr_at f) c
+  pub executes : (c : List ℕ) → maps.get f.glyphs n ≡ Some c → exec (subr_at j) c ≡ exec (subr_at f) c
+  pub draws : draw (subr_at j) (maps.get j.glyphs) n ≡ draw (subr_at f) (maps.get f.glyphs) n
+
+-- of two fonts what is drawn alike is answered alike by calls
+abbrev pub CallsDrawAlike : Type 0
+CallsDrawAlike = (f j : FontValue) → IsFont f → IsFont j → (n : List ℕ) → DrawsAlike f j n → AnswersAlike f j n
 
 module _ {O : Type 0} (m : Interpreter O) where
   -- ---- what is kept

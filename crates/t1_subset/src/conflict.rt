@@ -1,7 +1,5 @@
 //! Why two fonts do not join.
 
-use std::fmt::{Display, Formatter, Result as FmtResult};
-
 /// A part of a font's shell, in the order in which parts are compared.
 #[derive(Clone, Copy, PartialEq, Eq, Debug)]
 pub enum ShellPart {

@@ -1,6 +1,6 @@
 //! Laws of subsets and mergers, over the definitions alone.
 
-ghost use Rattle.t1_subset.specs.Laws.{KeepIsLeast, KeepIsMonotone, Distribution, SubsetIsFont, SubsetOfSubset, Bottom, SubsetsDraw, TwoSubsets, ManySubsets, JoinIsFont, JoinIsSymmetric, JoinIsIdempotent, StatesOfJoin, JoinsDraw, AnyOrder, AcceptedByPairs, AgreeIsCompatible, NoConflictIsJoin, ConflictIsSymmetric, JoinHasEntries};
+ghost use Rattle.t1_subset.specs.Laws.{KeepIsLeast, KeepIsMonotone, Distribution, SubsetIsFont, SubsetOfSubset, Bottom, SubsetsDraw, TwoSubsets, ManySubsets, JoinIsFont, JoinIsSymmetric, JoinIsIdempotent, StatesOfJoin, JoinsDraw, AnyOrder, AcceptedByPairs, AgreeIsCompatible, NoConflictIsJoin, ConflictIsSymmetric, JoinHasEntries, CallsDrawAlike};
 ghost use Rattle.t1_subset.specs.Profile.{profile};
 ghost use Rattle.t1_subset.specs.Headline.{Headline};
 
@@ -112,4 +112,11 @@ pub fn conflict_is_symmetric()
 /// Where the states of two fonts join, their join has the entries of both.
 pub fn join_has_entries()
     ensures { JoinHasEntries profile }
+{}
+
+/// A glyph that does in one font what it does in another does so for every call: `direct`, `executed` and `draw` of
+/// `t1_run` answer of the one font what they answer of the other. So the drawings of subsets and mergers, which the clauses
+/// of [`subset`](crate::subset) and [`merge`](crate::merge) tell over the maps of fonts, are those of the calls.
+pub fn calls_draw_alike()
+    ensures { CallsDrawAlike }
 {}

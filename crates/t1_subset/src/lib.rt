@@ -24,3 +24,6 @@ pub use fault::SubsetFault;
 pub use merger::{merge, merge_all};
 pub use needed::Closure;
 pub use subsets::subset;
+
+#[cfg(test)]
+mod tests;

@@ -1,0 +1,6 @@
+//! Fonts in memory: what closures, subsets and mergers answer with ample memory, and each refusal with its data.
+
+mod closures;
+mod fonts;
+mod large;
+mod mergers;

@@ -1,0 +1,169 @@
+//! Fonts that are made of plain charstrings.
+
+use std::alloc::{AllocError, Global};
+use t1_bytes::{CHARSTRING_KEY, EEXEC_KEY, EEXEC_LEAD, seal};
+use t1_font::{Font, Form, ReadFault, read, write};
+
+/// An index or a name as its entry spells it, and its plain charstring.
+pub type Entry = (&'static [u8], &'static [u8]);
+
+/// What a font has beside its tables' entries, as a file spells it.
+#[derive(Clone, Copy)]
+pub struct Shell {
+    pub head: &'static [u8],
+    pub encoding: &'static [u8],
+    pub clear_tail: &'static [u8],
+    pub private: &'static [u8],
+    pub subrs: &'static [u8],
+    pub put: &'static [u8],
+    pub closing: &'static [u8],
+    pub middle: &'static [u8],
+    pub def: &'static [u8],
+    pub tail: &'static [u8],
+}
+
+/// The shell of the fonts below: ten Subrs are declared, and two codes have names.
+pub const SHELL: Shell = Shell {
+    head: b"%!\n",
+    encoding: b"/Encoding 256 array dup 65 /X put dup 66 /Y put def",
+    clear_tail: b"\ncurrentfile eexec ",
+    private: b"/lenIV 0 def\n",
+    subrs: b"/Subrs 10 array\n",
+    put: b"NP",
+    closing: b"ND\n",
+    middle: b"2 index ",
+    def: b"ND",
+    tail: b"\nend\nmark currentfile closefile",
+};
+
+/// Subrs: flex and hint replacement as usual, one that another one calls, two that draw a line, one hint, one of no
+/// bytes, and one that calls itself.
+pub const SUBRS: [Entry; 10] = [
+    (b"0", b"\x8e\x8b\x0c\x10\x0c\x11\x0c\x11\x0c\x21\x0b"),
+    (b"1", b"\x8b\x8c\x0c\x10\x0b"),
+    (b"2", b"\x8b\x8d\x0c\x10\x0b"),
+    (b"3", b"\x0b"),
+    (b"4", b"\x8c\x8e\x0c\x10\x0c\x11\x0a\x0b"),
+    (b"5", b"\xef\x06\x0b"),
+    (b"6", b"\x27\x06\x0b"),
+    (b"7", b"\xef\x9f\x01\x0b"),
+    (b"8", b""),
+    (b"9", b"\x94\x0a\x0b"),
+];
+
+/// The bytes of an accented glyph of A (code 65) and acute (code 194).
+pub const ACCENTED: &[u8] = b"\x8b\xf8\x88\x0d\xbd\xf7\x0c\xf7\x5c\xcc\xf7\x56\x0c\x06";
+
+/// Glyphs: A, X and Y call Subrs, Aacute and N have parts, and the parts of N are B, which has parts of its own, and acute.
+pub const GLYPHS: [Entry; 9] = [
+    (b".notdef", b"\x8b\xf7\x8e\x0d\x0e"),
+    (b"A", b"\x8b\xf8\x88\x0d\x8b\x16\x91\x0a\x09\x0e"),
+    (b"Aacute", ACCENTED),
+    (b"B", ACCENTED),
+    (b"H", b"\x8b\xf8\x88\x0d\x8b\x9f\x01\x92\x8f\x0a\x0e"),
+    (
+        b"N",
+        b"\x8b\xf8\x88\x0d\xbd\xf7\x0c\xf7\x5c\xcd\xf7\x56\x0c\x06",
+    ),
+    (b"X", b"\xbd\xf7\xc0\x0d\x8b\x16\x90\x0a\xf9\x50\x07\x27\x06\x09\x0e"),
+    (b"Y", b"\x8b\xf8\x88\x0d\x8b\x16\x90\x0a\x91\x0a\x09\x0e"),
+    (b"acute", b"\xbd\xf7\xc0\x0d\x8b\x16\x90\x0a\x09\x0e"),
+];
+
+/// The bytes with this many lead bytes that are zero, encrypted.
+fn sealed(alloc: Global, plain: &[u8], key: u16, lead: u8) -> Result<Vec<u8>, AllocError> {
+    match seal(alloc, plain, key, lead) {
+        Ok(cipher) => Ok(cipher),
+        Err(_) => Err(AllocError),
+    }
+}
+
+/// An entry of a table: its key, the length, the encrypted bytes and the phrase.
+pub fn put_entry(
+    alloc: Global,
+    out: &mut Vec<u8>,
+    key: &[u8],
+    plain: &[u8],
+    phrase: &[u8],
+) -> Result<(), AllocError> {
+    out.extend_from_slice(key)?;
+    out.push(b' ')?;
+    out.extend_from_slice(plain.len().to_string(alloc)?.as_bytes())?;
+    out.extend_from_slice(b" RD ")?;
+    out.extend_from_slice(sealed(alloc, plain, CHARSTRING_KEY, 0)?.as_slice())?;
+    out.push(b' ')?;
+    out.extend_from_slice(phrase)?;
+    out.push(b'\n')
+}
+
+/// The text of a table of Subrs; nothing for a shell without Subrs.
+fn subrs_text(alloc: Global, shell: &Shell, subrs: &[Entry]) -> Result<Vec<u8>, AllocError> {
+    let mut text = Vec::from_slice(alloc, shell.subrs)?;
+    if shell.subrs.is_empty() {
+        return Ok(text);
+    }
+    for (index, plain) in subrs {
+        text.extend_from_slice(b"dup ")?;
+        put_entry(alloc, &mut text, index, plain, shell.put)?;
+    }
+    text.extend_from_slice(shell.closing)?;
+    Ok(text)
+}
+
+/// The text of glyphs, without what closes them.
+pub fn glyphs_text(alloc: Global, shell: &Shell, glyphs: &[Entry]) -> Result<Vec<u8>, AllocError> {
+    let mut text = Vec::new(alloc);
+    for (name, plain) in glyphs {
+        text.push(b'/')?;
+        put_entry(alloc, &mut text, name, plain, shell.def)?;
+    }
+    Ok(text)
+}
+
+/// The file of a shell, of Subrs and of a text of glyphs.
+pub fn file(
+    alloc: Global,
+    shell: &Shell,
+    subrs: &[Entry],
+    glyphs: &[u8],
+) -> Result<Vec<u8>, AllocError> {
+    let mut private = Vec::from_slice(alloc, shell.private)?;
+    private.extend_from_slice(subrs_text(alloc, shell, subrs)?.as_slice())?;
+    private.extend_from_slice(shell.middle)?;
+    private.extend_from_slice(b"/CharStrings 9 dict dup begin\n")?;
+    private.extend_from_slice(glyphs)?;
+    private.extend_from_slice(b"end")?;
+    private.extend_from_slice(shell.tail)?;
+    let mut file = Vec::from_slice(alloc, shell.head)?;
+    file.extend_from_slice(shell.encoding)?;
+    file.extend_from_slice(shell.clear_tail)?;
+    let cipher = sealed(alloc, private.as_slice(), EEXEC_KEY, EEXEC_LEAD)?;
+    file.extend_from_slice(cipher.as_slice())?;
+    Ok(file)
+}
+
+/// The font of a shell, of Subrs and of glyphs.
+pub fn font(
+    alloc: Global,
+    shell: &Shell,
+    subrs: &[Entry],
+    glyphs: &[Entry],
+) -> Result<Font, ReadFault> {
+    let Ok(text) = glyphs_text(alloc, shell, glyphs) else {
+        return Err(ReadFault::Memory);
+    };
+    match file(alloc, shell, subrs, text.as_slice()) {
+        Ok(file) => read(alloc, file.as_slice()),
+        Err(_) => Err(ReadFault::Memory),
+    }
+}
+
+/// The font of the shell, the Subrs and the glyphs above.
+pub fn whole(alloc: Global) -> Result<Font, ReadFault> {
+    font(alloc, &SHELL, &SUBRS, &GLYPHS)
+}
+
+/// The canonical PFB of a font.
+pub fn pfb(alloc: Global, font: &Font) -> Result<Vec<u8>, AllocError> {
+    write(alloc, font, Form::Pfb)
+}

@@ -1,0 +1,104 @@
+#!/usr/bin/env python3
+"""Tries wrong bodies: edits of the code that the prover has to refuse, beyond the few of crates/*/must-fail.
+
+Each file of tools/wrong-bodies/CRATE/ is an edit in the form of those of must-fail: a line that names the clause
+which has to refuse it, and then lines `file:`, `old:` and `new:`. The edits are tried on copies of the repository,
+several side by side, and the repository itself is left as it is.
+
+usage: tools/wrong_bodies.py [--jobs N] [CRATE...]      (all crates where none is named)
+Ends with status 1 where an edit can't be applied or read, or is not refused.
+"""
+import argparse
+import concurrent.futures
+import glob
+import os
+import shutil
+import subprocess
+import sys
+import tempfile
+
+TOP = os.path.abspath(os.path.join(os.path.dirname(os.path.abspath(__file__)), ".."))
+EDITS = os.path.join(TOP, "tools/wrong-bodies")
+# An edit after the first costs a load of its crate's proof, and the first of a copy the proof itself.
+CHUNK = 12
+
+
+def crates():
+    """The names of all crates, lowest first as crates.txt has them."""
+    with open(os.path.join(TOP, "crates.txt"), encoding="utf-8") as f:
+        return [line.split(":")[0].strip() for line in f if ":" in line]
+
+
+def edits_of(crate):
+    return sorted(glob.glob(os.path.join(EDITS, crate, "*.edit")))
+
+
+def copy_to(room):
+    """A copy of the repository with what was built of its libraries, and without its own edits."""
+    for name in ("crates.txt", "HANDLES"):
+        shutil.copy(os.path.join(TOP, name), room)
+    for crate in crates():
+        for part in ("src", "specs", "proofs", "out/rlib"):
+            inside = os.path.join(TOP, "crates", crate, part)
+            if os.path.isdir(inside):
+                shutil.copytree(inside, os.path.join(room, "crates", crate, part), symlinks=True)
+
+
+def unnamed(edits):
+    """The edits that don't say which clause has to refuse them."""
+    for edit in edits:
+        with open(edit, encoding="utf-8") as f:
+            if not f.readline().startswith("refused by: "):
+                yield edit
+
+
+def tried(crate, edits):
+    """What rt says of each of some edits of a crate, tried in a copy of their own."""
+    with tempfile.TemporaryDirectory(prefix="wrong-bodies-") as room:
+        copy_to(room)
+        folder = os.path.join(room, "crates", crate, "must-fail")
+        os.makedirs(folder)
+        for edit in edits:
+            shutil.copy(edit, folder)
+        done = subprocess.run(["rt", "must-fail", crate], cwd=room, capture_output=True, text=True, errors="replace")
+    lines = [line for line in done.stdout.splitlines() if f"must-fail {crate}/" in line]
+    told = {os.path.basename(e): next((l for l in lines if f"/{os.path.basename(e)}:" in l), None) for e in edits}
+    return [(name, line or f"not tried: {(done.stdout + done.stderr).strip()[-300:]}") for name, line in told.items()]
+
+
+def built():
+    """Builds the libraries once, so that no copy has to prove them."""
+    for crate in crates():
+        if os.path.exists(os.path.join(TOP, "crates", crate, "src/lib.rt")):
+            if subprocess.run(["rt", "lib"], cwd=os.path.join(TOP, "crates", crate), stdout=subprocess.DEVNULL).returncode:
+                sys.exit(f"{crate} is not proved")
+
+
+def main():
+    words = argparse.ArgumentParser(description=__doc__.splitlines()[0])
+    words.add_argument("--jobs", type=int, default=max(1, (os.cpu_count() or 2) - 1), help="copies side by side")
+    words.add_argument("crates", nargs="*", metavar="CRATE")
+    given = words.parse_args()
+    names = given.crates or crates()
+    for name in names:
+        if not edits_of(name) and given.crates:
+            sys.exit(f"no wrong body of {name}")
+    wrong = [f"{edit}: names no clause" for name in names for edit in unnamed(edits_of(name))]
+    built()
+    chunks = [(name, edits_of(name)[at : at + CHUNK]) for name in reversed(names) for at in range(0, len(edits_of(name)), CHUNK)]
+    count = 0
+    with concurrent.futures.ThreadPoolExecutor(given.jobs) as pool:
+        for done in concurrent.futures.as_completed([pool.submit(tried, *chunk) for chunk in chunks]):
+            for name, line in done.result():
+                count += 1
+                print(line, flush=True)
+                if "refused, as it must be" not in line or "only because a proof file names" in line:
+                    wrong.append(line)
+    for line in wrong:
+        print(line, file=sys.stderr)
+    print(f"{count} wrong bodies tried, {len(wrong)} not refused by a contract")
+    return 1 if wrong else 0
+
+
+if __name__ == "__main__":
+    sys.exit(main())
