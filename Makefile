@@ -1,6 +1,6 @@
 PREFIX ?= /usr/local
 
-.PHONY: all install uninstall test clean
+.PHONY: all install uninstall test wrong-bodies clean
 all: bin/t1subset
 
 bin/t1subset: crates.txt $(shell find crates -name out -prune -o -type f -print)
@@ -17,6 +17,10 @@ uninstall:
 
 test:
 	rt ci
+
+# The wrong bodies that the gate doesn't try; before a release, and after a change of a contract.
+wrong-bodies:
+	tools/wrong_bodies.py $(CRATES)
 
 clean:
 	rm -rf bin crates/*/out

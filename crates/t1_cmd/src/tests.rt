@@ -1,4 +1,5 @@
 mod changed;
+mod counts;
 mod drawings;
 mod engines;
 mod library;

@@ -1,6 +1,7 @@
 //! Merges of subsets of the font Tiny and of fonts that differ from it.
 use super::changed::{
-    tiny_and, tiny_changed, tiny_encoded, with_all, without_acute, without_subr_5,
+    sealed, tiny_and, tiny_changed, tiny_encoded, tiny_with, with_all, with_subr, without_acute,
+    without_subr_5,
 };
 use super::engines::{Engine, answer};
 use super::line_of;
@@ -9,6 +10,7 @@ use super::tiny::PFA;
 use crate::{Counted, run_merge};
 use std::alloc::{AllocError, Global};
 use std::test::Fail;
+use t1_bytes::EEXEC_KEY;
 use t1_font::Form;
 
 /// The PFA file that readers merge to, or the line of their refusal.
@@ -86,6 +88,38 @@ fn glyphs_that_differ(rt: HostRuntime) -> Result<(), Fail> {
     let b = tiny_and(rt.alloc(), b"B", b"\x8b\xf8\x88\x0d\x0e")?;
     let got = either(rt.alloc(), a.as_slice(), b.as_slice())?;
     assert_eq!(rt; got.as_slice(), b"refused: glyph A differs\n".as_slice());
+    Ok(())
+}
+
+#[test]
+fn a_subr_that_no_glyph_executes(rt: HostRuntime) -> Result<(), Fail> {
+    let text = with_subr(rt.alloc(), b"dup 8 ", b"", b"\x0e")?;
+    let other = tiny_with(rt.alloc(), text.as_slice())?;
+    let got = either(rt.alloc(), PFA, other.as_slice())?;
+    assert_eq!(rt; got.as_slice(), b"refused: subr 8 differs\n".as_slice());
+    Ok(())
+}
+
+/// A font with a long head and, beside `.notdef`, one long glyph of this name.
+fn heavy(alloc: Global, name: &[u8]) -> Result<Vec<u8>, AllocError> {
+    let mut private = Vec::from_slice(alloc, b"/lenIV 0 def /CharStrings 2 dict dup begin\n/.notdef 0 RD  ND\n")?;
+    private.extend_from_slice(name)?;
+    private.extend_from_slice(b" 60000 RD ")?;
+    private.resize(private.len().saturating_add(60_000), b'x')?;
+    private.extend_from_slice(b" ND\nend\nclosefile")?;
+    let mut file = Vec::new(alloc);
+    file.resize(16_700_000, b' ')?;
+    file.extend_from_slice(b"/Encoding StandardEncoding def\ncurrentfile eexec\n")?;
+    file.extend_from_slice(sealed(alloc, private.as_slice(), EEXEC_KEY)?.as_slice())?;
+    Ok(file)
+}
+
+#[test]
+fn fonts_that_are_too_heavy_together(rt: HostRuntime) -> Result<(), Fail> {
+    let a = heavy(rt.alloc(), b"/A")?;
+    let b = heavy(rt.alloc(), b"/B")?;
+    let got = either(rt.alloc(), a.as_slice(), b.as_slice())?;
+    assert_eq!(rt; got.as_slice(), b"refused: over a limit\n".as_slice());
     Ok(())
 }
 

@@ -1,9 +1,10 @@
 //! Closures and subsets.
 
-use super::fonts::{pfb, whole};
+use super::fonts::{cut, whole};
 use crate::{Closure, SubsetFault, closure, subset};
 use std::alloc::{AllocError, Global};
 use std::test::Fail;
+use t1_font::read;
 
 /// The names of a closure, each with a blank, and the digits of its Subrs.
 fn text_of(alloc: Global, closure: &Closure) -> Result<Vec<u8>, AllocError> {
@@ -20,7 +21,19 @@ fn text_of(alloc: Global, closure: &Closure) -> Result<Vec<u8>, AllocError> {
     Ok(text)
 }
 
-/// Names, what they keep, and what the subset of them weighs: the five kept texts have 76 bytes.
+/// What names of a file's font keep, as a text; the name that it lacks.
+fn kept(alloc: Global, file: &[u8], names: &[&[u8]]) -> Result<Vec<u8>, AllocError> {
+    let Ok(font) = read(alloc, file) else {
+        return Err(AllocError);
+    };
+    match closure(alloc, &font, names) {
+        Ok(closure) => text_of(alloc, &closure),
+        Err(SubsetFault::NoSuchGlyph { name }) => Ok(name),
+        Err(SubsetFault::Memory) => Err(AllocError),
+    }
+}
+
+/// Names, and what they keep.
 const KEPT: [(&[&[u8]], &[u8]); 7] = [
     (&[], b".notdef 0123"),
     (&[b".notdef"], b".notdef 0123"),
@@ -33,17 +46,13 @@ const KEPT: [(&[&[u8]], &[u8]); 7] = [
 
 #[test]
 fn what_names_keep(rt: HostRuntime) -> Result<(), Fail> {
-    let font = whole(rt.alloc())?;
+    let file = whole(rt.alloc())?;
     for (names, want) in KEPT {
-        let closed = closure(rt.alloc(), &font, names)?;
-        assert_eq!(rt; text_of(rt.alloc(), &closed)?.as_slice(), want);
-        let cut = subset(rt.alloc(), &font, names)?;
-        let again = closure(rt.alloc(), &cut, names)?;
-        assert_eq!(rt; text_of(rt.alloc(), &again)?.as_slice(), want, "in the subset");
-        assert_eq!(rt; cut.names().count(), closed.names.len(), "glyphs of the subset");
-        let twice = subset(rt.alloc(), &cut, names)?;
-        let (one, other) = (pfb(rt.alloc(), &cut)?, pfb(rt.alloc(), &twice)?);
-        assert!(rt; one.as_slice() == other.as_slice(), "a subset of the subset");
+        let got = kept(rt.alloc(), file.as_slice(), names)?;
+        assert_eq!(rt; got.as_slice(), want);
+        let cut = cut(rt.alloc(), file.as_slice(), names);
+        let again = kept(rt.alloc(), cut.as_slice(), names)?;
+        assert_eq!(rt; again.as_slice(), want, "in the subset");
     }
     Ok(())
 }
@@ -56,16 +65,25 @@ const ABSENT: [(&[&[u8]], &[u8]); 4] = [
     (&[b"", b"Zed"], b""),
 ];
 
+/// The name that a subset is refused for.
+fn absent(alloc: Global, file: &[u8], names: &[&[u8]]) -> Option<Vec<u8>> {
+    let Ok(font) = read(alloc, file) else {
+        return None;
+    };
+    match subset(alloc, &font, names) {
+        Err(SubsetFault::NoSuchGlyph { name }) => Some(name),
+        _ => None,
+    }
+}
+
 #[test]
 fn names_that_are_absent(rt: HostRuntime) -> Result<(), Fail> {
-    let font = whole(rt.alloc())?;
+    let file = whole(rt.alloc())?;
     for (names, want) in ABSENT {
-        let told = |fault: Option<SubsetFault>| match fault {
-            Some(SubsetFault::NoSuchGlyph { name }) => name.as_slice() == want,
-            _ => false,
-        };
-        assert!(rt; told(closure(rt.alloc(), &font, names).err()));
-        assert!(rt; told(subset(rt.alloc(), &font, names).err()));
+        let got = kept(rt.alloc(), file.as_slice(), names)?;
+        assert_eq!(rt; got.as_slice(), want, "of a closure");
+        let got = absent(rt.alloc(), file.as_slice(), names);
+        assert!(rt; got.is_some_and(|name| name.as_slice() == want), "of a subset");
     }
     Ok(())
 }

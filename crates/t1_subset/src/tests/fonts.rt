@@ -1,8 +1,9 @@
 //! Fonts that are made of plain charstrings.
 
+use crate::subset;
 use std::alloc::{AllocError, Global};
 use t1_bytes::{CHARSTRING_KEY, EEXEC_KEY, EEXEC_LEAD, seal};
-use t1_font::{Font, Form, ReadFault, read, write};
+use t1_font::{Form, read, write};
 
 /// An index or a name as its entry spells it, and its plain charstring.
 pub type Entry = (&'static [u8], &'static [u8]);
@@ -93,7 +94,8 @@ pub fn put_entry(
     out.extend_from_slice(sealed(alloc, plain, CHARSTRING_KEY, 0)?.as_slice())?;
     out.push(b' ')?;
     out.extend_from_slice(phrase)?;
-    out.push(b'\n')
+    out.push(b'\n')?;
+    Ok(())
 }
 
 /// The text of a table of Subrs; nothing for a shell without Subrs.
@@ -142,28 +144,29 @@ pub fn file(
     Ok(file)
 }
 
-/// The font of a shell, of Subrs and of glyphs.
+/// The file of a shell, of Subrs and of glyphs.
 pub fn font(
     alloc: Global,
     shell: &Shell,
     subrs: &[Entry],
     glyphs: &[Entry],
-) -> Result<Font, ReadFault> {
-    let Ok(text) = glyphs_text(alloc, shell, glyphs) else {
-        return Err(ReadFault::Memory);
-    };
-    match file(alloc, shell, subrs, text.as_slice()) {
-        Ok(file) => read(alloc, file.as_slice()),
-        Err(_) => Err(ReadFault::Memory),
-    }
+) -> Result<Vec<u8>, AllocError> {
+    let text = glyphs_text(alloc, shell, glyphs)?;
+    file(alloc, shell, subrs, text.as_slice())
 }
 
-/// The font of the shell, the Subrs and the glyphs above.
-pub fn whole(alloc: Global) -> Result<Font, ReadFault> {
+/// The file of the shell, the Subrs and the glyphs above.
+pub fn whole(alloc: Global) -> Result<Vec<u8>, AllocError> {
     font(alloc, &SHELL, &SUBRS, &GLYPHS)
 }
 
-/// The canonical PFB of a font.
-pub fn pfb(alloc: Global, font: &Font) -> Result<Vec<u8>, AllocError> {
-    write(alloc, font, Form::Pfb)
+/// The canonical PFB of the subset of a file's font; nothing where there is none.
+pub fn cut(alloc: Global, file: &[u8], names: &[&[u8]]) -> Vec<u8> {
+    let Ok(font) = read(alloc, file) else {
+        return Vec::new(alloc);
+    };
+    match subset(alloc, &font, names) {
+        Ok(cut) => write(alloc, &cut, Form::Pfb).unwrap_or(Vec::new(alloc)),
+        Err(_) => Vec::new(alloc),
+    }
 }

@@ -1,11 +1,11 @@
-//! Fonts of thousands of glyphs, and one that is over the limit of weight.
+//! Fonts of thousands of glyphs, and two that together are over the limit of weight.
 
-use super::fonts::{SHELL, SUBRS, file, glyphs_text, pfb, put_entry};
+use super::fonts::{SHELL, SUBRS, file, glyphs_text, put_entry};
 use crate::{Conflict, SubsetFault, closure, merge, merge_all, subset};
 use std::alloc::{AllocError, Global};
 use std::ops::Range;
 use std::test::Fail;
-use t1_font::{Font, ReadFault, read};
+use t1_font::{Font, read};
 
 /// A name of six bytes for a number below 100,000, in the order of the numbers.
 fn numbered(alloc: Global, number: u32) -> Result<Vec<u8>, AllocError> {
@@ -16,58 +16,15 @@ fn numbered(alloc: Global, number: u32) -> Result<Vec<u8>, AllocError> {
     Ok(name)
 }
 
-/// The text of `.notdef` and of glyphs with numbered names, all with these bytes.
-fn glyphs(
-    alloc: Global,
-    numbers: Range<u32>,
-    plain: &[u8],
-) -> Result<Vec<u8>, AllocError> {
+/// The file of `.notdef` and of glyphs with numbered names, all with these bytes.
+fn many(alloc: Global, numbers: Range<u32>, plain: &[u8]) -> Result<Vec<u8>, AllocError> {
     let mut text = glyphs_text(alloc, &SHELL, &[(b".notdef", b"\x0e")])?;
     for number in numbers {
         text.push(b'/')?;
         let name = numbered(alloc, number)?;
         put_entry(alloc, &mut text, name.as_slice(), plain, SHELL.def)?;
     }
-    Ok(text)
-}
-
-/// The font of `.notdef` and of glyphs with numbered names, all with these bytes.
-fn many(
-    alloc: Global,
-    numbers: Range<u32>,
-    plain: &[u8],
-) -> Result<Font, ReadFault> {
-    let Ok(text) = glyphs(alloc, numbers, plain) else {
-        return Err(ReadFault::Memory);
-    };
-    match file(alloc, &SHELL, &SUBRS, text.as_slice()) {
-        Ok(file) => read(alloc, file.as_slice()),
-        Err(_) => Err(ReadFault::Memory),
-    }
-}
-
-/// The subset of a font over the glyphs of these numbers.
-fn cut(
-    alloc: Global,
-    font: &Font,
-    numbers: Range<u32>,
-) -> Result<Font, SubsetFault> {
-    let Ok(names) = names(alloc, numbers) else {
-        return Err(SubsetFault::Memory);
-    };
-    let mut lent: Vec<&[u8]> = Vec::new(alloc);
-    for name in &names {
-        if lent.push(name.as_slice()).is_err() {
-            return Err(SubsetFault::Memory);
-        }
-    }
-    let closed = closure(alloc, font, lent.as_slice())?;
-    let cut = subset(alloc, font, lent.as_slice())?;
-    if closed.names.len() == cut.names().count() {
-        Ok(cut)
-    } else {
-        Err(SubsetFault::Memory)
-    }
+    file(alloc, &SHELL, &SUBRS, text.as_slice())
 }
 
 /// The names of these numbers.
@@ -82,26 +39,65 @@ fn names(alloc: Global, numbers: Range<u32>) -> Result<Vec<Vec<u8>>, AllocError>
     Ok(names)
 }
 
+/// The same, lent.
+fn lent<'a>(alloc: Global, names: &'a [Vec<u8>]) -> Result<Vec<&'a [u8]>, AllocError> {
+    let mut lent = Vec::new(alloc);
+    for name in names {
+        match lent.push(name.as_slice()) {
+            Ok(_) => {}
+            Err(_) => return Err(AllocError),
+        }
+    }
+    Ok(lent)
+}
+
+/// The subset of a font over the glyphs of these numbers, where its closure has as many glyphs.
+fn cut(alloc: Global, font: &Font, numbers: Range<u32>) -> Result<Font, SubsetFault> {
+    let Ok(names) = names(alloc, numbers) else {
+        return Err(SubsetFault::Memory);
+    };
+    let Ok(lent) = lent(alloc, names.as_slice()) else {
+        return Err(SubsetFault::Memory);
+    };
+    let closed = closure(alloc, font, lent.as_slice())?.names.len();
+    let cut = subset(alloc, font, lent.as_slice())?;
+    if closed == cut.names().count() {
+        Ok(cut)
+    } else {
+        Err(SubsetFault::Memory)
+    }
+}
+
+/// How many glyphs two subsets of a file's font come to by `merge` and by `merge_all`.
+fn counts(alloc: Global, file: &[u8], one: Range<u32>, other: Range<u32>) -> Option<(usize, usize)> {
+    let Ok(font) = read(alloc, file) else {
+        return None;
+    };
+    let (Ok(one), Ok(other)) = (cut(alloc, &font, one), cut(alloc, &font, other)) else {
+        return None;
+    };
+    match (merge(alloc, &one, &other), merge_all(alloc, &[one, other])) {
+        (Ok(both), Ok(all)) => Some((both.names().count(), all.names().count())),
+        _ => None,
+    }
+}
+
 #[test]
 fn thousands_of_glyphs(rt: HostRuntime) -> Result<(), Fail> {
     // Each is `0 0 hsbw 5 callsubr endchar`.
-    let font = many(rt.alloc(), 0..6000, b"\x8b\x8b\x0d\x90\x0a\x0e")?;
-    let low = cut(rt.alloc(), &font, 0..3500)?;
-    let high = cut(rt.alloc(), &font, 2500..6000)?;
-    assert_eq!(rt; low.names().count(), 3501);
-    let both = merge(rt.alloc(), &low, &high)?;
-    let want = pfb(rt.alloc(), &font)?;
-    let want = cut(rt.alloc(), &read(rt.alloc(), want.as_slice())?, 0..6000)?;
-    let (got, want) = (pfb(rt.alloc(), &both)?, pfb(rt.alloc(), &want)?);
-    assert!(rt; got.as_slice() == want.as_slice(), "two subsets");
-    let mut fonts = Vec::new(rt.alloc());
-    fonts.push(high)?;
-    fonts.push(low)?;
-    fonts.push(both)?;
-    let all = merge_all(rt.alloc(), fonts.as_slice())?;
-    let got = pfb(rt.alloc(), &all)?;
-    assert!(rt; got.as_slice() == want.as_slice(), "three fonts");
+    let file = many(rt.alloc(), 0..6000, b"\x8b\x8b\x0d\x90\x0a\x0e")?;
+    let got = counts(rt.alloc(), file.as_slice(), 0..3500, 2500..6000);
+    assert_eq!(rt; got, Some((6001, 6001)));
     Ok(())
+}
+
+/// Whether the fonts of two files are too heavy together, and neither is by itself.
+fn too_heavy(alloc: Global, one: &[u8], other: &[u8]) -> bool {
+    let (Ok(one), Ok(other)) = (read(alloc, one), read(alloc, other)) else {
+        return false;
+    };
+    let over = merge(alloc, &one, &other).err() == Some(Conflict::Limit);
+    over && merge(alloc, &one, &one).is_ok()
 }
 
 #[test]
@@ -110,9 +106,7 @@ fn a_merger_that_weighs_too_much(rt: HostRuntime) -> Result<(), Fail> {
     plain.resize(65_000, 14)?;
     let one = many(rt.alloc(), 0..130, plain.as_slice())?;
     let other = many(rt.alloc(), 130..260, plain.as_slice())?;
-    let over = Some(Conflict::Limit);
-    assert_eq!(rt; merge(rt.alloc(), &one, &other).err(), over);
-    assert_eq!(rt; merge(rt.alloc(), &other, &one).err(), over);
-    assert!(rt; merge(rt.alloc(), &one, &one).is_ok(), "each by itself is within the limit");
+    assert!(rt; too_heavy(rt.alloc(), one.as_slice(), other.as_slice()));
+    assert!(rt; too_heavy(rt.alloc(), other.as_slice(), one.as_slice()));
     Ok(())
 }
