@@ -79,7 +79,14 @@ no_text : (w bytes : List ℕ) (k : ℕ) → k ≤ length bytes → (OccursAt by
 no_text w bytes k le absent None e = refl
 no_text w bytes k le absent (Some x) e = absurd (absent (fixed_occurs w bytes k x e le))
 
--- an occurrence in the rest of the bytes is one in the bytes, and back
+-- an occurrence in the rest of the bytes is one in the bytes
+pub occurs_sooner : (bytes w : List ℕ) (from k : ℕ) → from ≤ length bytes → OccursAt (drop from bytes) w k → OccursAt bytes w (from + k)
+occurs_sooner bytes w from k le o = record {
+  fits = omega (arith, o.fits, length-drop from bytes);
+  reads = λ j h. ap (λ (i : ℕ). get_or bytes i 0) (add_assoc from k j) ∙ (sym (get_or-drop from bytes (k + j) 0) ∙ o.reads j h);
+}
+
+-- and back
 pub occurs_later : (bytes w : List ℕ) (from k : ℕ) → from ≤ length bytes → OccursAt bytes w (from + k) → OccursAt (drop from bytes) w k
 occurs_later bytes w from k le o = record {
   fits = omega (arith, o.fits, length-drop from bytes);

@@ -1,5 +1,5 @@
 -- The laws of containers and ciphers, each the contract of a function in `laws`.
-use Rattle.std.specs.Prelude.{◌≡◌, ◌↔◌, ◌≤◌, ◌<◌, ◌^◌, ℕ, List, [], ◌∷◌, ◌++◌, length, drop, replicate, codes, false, None}
+use Rattle.std.specs.Prelude.{◌≡◌, ◌⊎◌, ◌↔◌, ◌≤◌, ◌<◌, ◌^◌, ℕ, List, [], ◌∷◌, ◌++◌, length, drop, replicate, codes, false, None}
 use Rattle.std.specs.List.{AllByRecursion}
 use Rattle.t1_bytes.specs.declared.fault.BytesFault.{BytesFault}
 use Rattle.t1_bytes.specs.declared.fault.BytesFault.TheVariants.{NoEexec}
@@ -28,8 +28,17 @@ OneCipher = (key : ℕ) (plain cipher : List ℕ) → (Enciphers key plain ciphe
 abbrev pub OpensSealed : Type 0
 OpensSealed = (key lead : ℕ) (text : List ℕ) → opened key lead (sealed key lead text) ≡ text
 
--- a file has at most one flat text, or it is bad at one place and has none
+-- a file has a flat text
+abbrev pub HasFlatText : List ℕ → Type 0
+HasFlatText file = (flat : List ℕ) × IsFlat file flat
+
+-- a file is bad at some place
+abbrev pub HasBadPlace : List ℕ → Type 0
+HasBadPlace file = (at : ℕ) × IsBad file at
+
+-- a file is flat to exactly one text, or bad at exactly one place: always one of the two, never both
 pub record OneFlatText : Type 0 where
+  pub always : (file : List ℕ) → HasFlatText file ⊎ HasBadPlace file
   pub texts : (file flat other : List ℕ) → IsFlat file flat → IsFlat file other → flat ≡ other
   pub places : (file : List ℕ) (at other : ℕ) → IsBad file at → IsBad file other → at ≡ other
   pub apart : (file flat : List ℕ) (at : ℕ) → IsFlat file flat → IsBad file at → ⊥
@@ -38,8 +47,17 @@ pub record OneFlatText : Type 0 where
 abbrev pub FlattensWritten : Type 0
 FlattensWritten = (clear cipher trailer : List ℕ) → length clear < 2 ^ 32 → length cipher < 2 ^ 32 → length trailer < 2 ^ 32 → IsFlat (pfb_text clear cipher trailer) (clear ++ (cipher ++ trailer))
 
--- a flat text is split in one way, or refused for one reason and not split
+-- a flat text has a split
+abbrev pub HasSplit : List ℕ → Type 0
+HasSplit flat = (at : ℕ) × (cipher : List ℕ) × IsSplit flat at cipher
+
+-- a flat text has a reason why it isn't split
+abbrev pub HasReason : List ℕ → Type 0
+HasReason flat = (fault : BytesFault) × SplitFails flat fault
+
+-- a flat text is split in exactly one way, or it isn't for exactly one reason: always one of the two, never both
 pub record OneSplit : Type 0 where
+  pub always : (flat : List ℕ) → HasSplit flat ⊎ HasReason flat
   pub places : (flat : List ℕ) (at other : ℕ) (cipher found : List ℕ) → IsSplit flat at cipher → IsSplit flat other found → at ≡ other
   pub ciphers : (flat : List ℕ) (at other : ℕ) (cipher found : List ℕ) → IsSplit flat at cipher → IsSplit flat other found → cipher ≡ found
   pub reasons : (flat : List ℕ) (fault other : BytesFault) → SplitFails flat fault → SplitFails flat other → fault ≡ other

@@ -1,6 +1,6 @@
 //! The cipher of eexec and of charstrings (Adobe Type 1 Font Format 1.1, chapter 7).
 
-ghost use Rattle.std.specs.Prelude.{◌≡◌, ◌≤◌, length, IfOk, IfErr};
+ghost use Rattle.std.specs.Prelude.{◌≡◌, IfOk, IfErr};
 ghost use Rattle.t1_bytes.specs.declared.fault.BytesFault.TheVariants.{Memory};
 ghost use Rattle.t1_bytes.specs.Cipher.{next_key, Enciphers, encrypted, decrypted, sealed, opened};
 
@@ -50,14 +50,14 @@ pub fn decrypt(bytes: &mut [u8], key: u16)
     }
 }
 
-/// Decrypts a cipher in place, and answers its text, which stands after `lead` lead bytes. The
-/// cipher has at least that many.
+/// Decrypts a cipher in place, and answers its text, which stands after `lead` lead bytes. A cipher
+/// of no more than these has an empty text.
 pub fn open(cipher: &mut [u8], key: u16, lead: u8) -> &[u8]
-    requires { lead ≤ length cipher.old }
     ensures { result.now ≡ opened key lead cipher.old }
 {
     decrypt(cipher, key);
-    &cipher[lead as usize..]
+    let from = cipher.len().min(lead as usize);
+    &cipher[from..]
 }
 
 /// The cipher of a text after `lead` lead bytes, which are zero.

@@ -23,7 +23,7 @@ pub fn opens_sealed()
     ensures { OpensSealed }
 {}
 
-/// A file has one flat text, or one place where it is bad.
+/// Each file has exactly one flat text or exactly one place where it is bad, and never both.
 pub fn one_flat_text()
     ensures { OneFlatText }
 {}
@@ -33,7 +33,7 @@ pub fn flattens_written()
     ensures { FlattensWritten }
 {}
 
-/// A flat text is split in one way, or refused for one reason.
+/// Each flat text is split in exactly one way or refused for exactly one reason, and never both.
 pub fn one_split()
     ensures { OneSplit }
 {}

@@ -6,7 +6,7 @@ use crate::{
     BytesFault, CHARSTRING_KEY, EEXEC_KEY, EEXEC_LEAD, decrypt, encrypt, flatten, hex_lines, open,
     seal, segments, split_eexec, trailer,
 };
-use std::alloc::Global;
+use std::alloc::{AllocError, Global};
 use std::test::Fail;
 use tiny::{PFA, PFB};
 
@@ -30,53 +30,57 @@ fn splits(alloc: Global, flat: &[u8], want: Result<(usize, &[u8]), BytesFault>) 
 
 #[test]
 fn enciphers_worked_bytes(rt: HostRuntime) -> Result<(), Fail> {
-    let rows: [(&[u8], u16, &[u8], &str); 3] = [
+    let rows: [(u16, u8, &[u8], &[u8], &str); 5] = [
         (
-            b"\x00\x00\x00\x00\x64",
             EEXEC_KEY,
+            EEXEC_LEAD,
+            b"\x00\x00\x00\x00\x64",
             b"\xd9\xd6\x6f\x63\x3b",
             "the beginning of a private text",
         ),
         (
-            b"\x0b",
             CHARSTRING_KEY,
+            0,
+            b"\x0b",
             b"\x1b",
             "return without lead bytes",
         ),
         (
-            b"\x00\x00\x00\x00\x8b\xf7\x8e\x0d\x0e",
             CHARSTRING_KEY,
+            4,
+            b"\x00\x00\x00\x00\x0b",
+            b"\x10\xbf\x31\x70\xf9",
+            "return",
+        ),
+        (
+            CHARSTRING_KEY,
+            4,
+            b"\x00\x00\x00\x00\x8b\xf7\x8e\x0d\x0e",
             b"\x10\xbf\x31\x70\x79\xc7\x57\xbf\x91",
             "0 250 hsbw endchar",
         ),
-    ];
-    for (plain, key, cipher, name) in rows {
-        let mut bytes = plain.to_vec(rt.alloc())?;
-        encrypt(bytes.as_mut_slice(), key);
-        assert_eq!(rt; bytes.as_slice(), cipher, "encrypted: {name}");
-        decrypt(bytes.as_mut_slice(), key);
-        assert_eq!(rt; bytes.as_slice(), plain, "decrypted: {name}");
-    }
-    Ok(())
-}
-
-#[test]
-fn seals_and_opens_charstrings(rt: HostRuntime) -> Result<(), Fail> {
-    let rows: [(&[u8], u8, &[u8]); 3] = [
-        (b"\x0b", 4, b"\x10\xbf\x31\x70\xf9"),
-        (b"\x0b", 0, b"\x1b"),
         (
-            b"\x8b\xf7\x8e\x0d\x0e",
-            4,
+            CHARSTRING_KEY,
+            0,
+            b"\x00\x00\x00\x00\x8b\xf7\x8e\x0d\x0e",
             b"\x10\xbf\x31\x70\x79\xc7\x57\xbf\x91",
+            "lead bytes that belong to the text",
         ),
     ];
-    for (plain, len_iv, cipher) in rows {
-        let mut bytes = seal(rt.alloc(), plain, CHARSTRING_KEY, len_iv)?;
-        assert_eq!(rt; bytes.as_slice(), cipher, "sealed with lenIV {len_iv}");
-        assert!(rt; (len_iv as usize) <= bytes.len());
-        let text = open(bytes.as_mut_slice(), CHARSTRING_KEY, len_iv);
-        assert_eq!(rt; text, plain, "opened with lenIV {len_iv}");
+    for (key, lead, plain, cipher, name) in rows {
+        assert!(rt; lead as usize <= plain.len());
+        let text = &plain[lead as usize..];
+        let mut bytes = seal(rt.alloc(), text, key, lead)?;
+        assert_eq!(rt; bytes.as_slice(), cipher, "sealed: {name}");
+        decrypt(bytes.as_mut_slice(), key);
+        assert_eq!(rt; bytes.as_slice(), plain, "decrypted: {name}");
+        encrypt(bytes.as_mut_slice(), key);
+        assert_eq!(rt; bytes.as_slice(), cipher, "encrypted: {name}");
+        assert_eq!(rt;
+            open(bytes.as_mut_slice(), key, lead),
+            text,
+            "opened: {name}"
+        );
     }
     Ok(())
 }
@@ -173,9 +177,14 @@ fn flattens_segments(rt: HostRuntime) {
     }
 }
 
+/// The bytes from 0 to 39.
+const BYTES: &[u8; 40] =
+    b"\x00\x01\x02\x03\x04\x05\x06\x07\x08\x09\x0a\x0b\x0c\x0d\x0e\x0f\x10\x11\x12\x13\
+    \x14\x15\x16\x17\x18\x19\x1a\x1b\x1c\x1d\x1e\x1f\x20\x21\x22\x23\x24\x25\x26\x27";
+
 #[test]
 fn splits_flat_texts(rt: HostRuntime) {
-    let rows: [(&[u8], Result<(usize, &[u8]), BytesFault>, &str); 27] = [
+    let rows: [(&[u8], Result<(usize, &[u8]), BytesFault>, &str); 33] = [
         (b"", Err(BytesFault::NoEexec), "no bytes"),
         (
             b"currentfile eexec",
@@ -307,57 +316,39 @@ fn splits_flat_texts(rt: HostRuntime) {
             Err(BytesFault::ShortCipher),
             "three digits alone are three bytes",
         ),
-    ];
-    for (flat, want, name) in rows {
-        assert!(rt; splits(rt.alloc(), flat, want), "{name}");
-    }
-}
-
-/// The bytes from 0 to 39.
-const BYTES: &[u8; 40] =
-    b"\x00\x01\x02\x03\x04\x05\x06\x07\x08\x09\x0a\x0b\x0c\x0d\x0e\x0f\x10\x11\x12\x13\
-    \x14\x15\x16\x17\x18\x19\x1a\x1b\x1c\x1d\x1e\x1f\x20\x21\x22\x23\x24\x25\x26\x27";
-
-#[test]
-fn reads_lines_of_digits(rt: HostRuntime) {
-    let rows: [(&[u8], usize, &str); 6] = [
         (
             b"currentfile eexec 000102030405060708090A0B0C0D0E0F101112131415161718191a1b1c1d1e1f\n2021222324252627\n",
-            40,
+            Ok((17, &BYTES[..40])),
             "a line of 64 digits",
         ),
         (
             b"currentfile eexec 000102030405060708090A0B0C0D0E0F101112131415161718191a1b1c1d1e1f20212223\r\n24252627\r\n",
-            40,
+            Ok((17, &BYTES[..40])),
             "a line of 72 digits, and CR and LF",
         ),
         (
             b"currentfile eexec 000102030405060708090A0B0C0D0E0F101112131415161718191a1b1c1d1e1f2\n021222324252627",
-            40,
+            Ok((17, &BYTES[..40])),
             "a line of 65 digits: a byte on two lines",
         ),
         (
             b"currentfile eexec 000102030405060708090A0B0C0D0E \t0F101112131415161718191a1b1c1d1e1f2021222324252627",
-            40,
+            Ok((17, &BYTES[..40])),
             "white space in a line",
         ),
         (
             b"currentfile eexec 000102030405060708090A0B0C0D0E0F101112131415161718191a1b1c1d1e1g2021222324252627",
-            31,
+            Ok((17, &BYTES[..31])),
             "a letter for the last digit of a line",
         ),
         (
             b"currentfile eexec 000102030405060708090A0B0C0D0E0F101112131415161718191a1b1c1d1e1fg2021222324252627",
-            32,
+            Ok((17, &BYTES[..32])),
             "a letter after a line",
         ),
     ];
-    for (flat, count, name) in rows {
-        assert!(rt; count <= 40);
-        assert!(rt;
-            splits(rt.alloc(), flat, Ok((17, &BYTES[..count]))),
-            "{name}"
-        );
+    for (flat, want, name) in rows {
+        assert!(rt; splits(rt.alloc(), flat, want), "{name}");
     }
 }
 
@@ -476,4 +467,67 @@ fn refuses_prefixes_of_tiny(rt: HostRuntime) {
             "{n} bytes of the PFB"
         );
     }
+}
+
+/// One text after another.
+fn joined(alloc: Global, front: &[u8], back: &[u8]) -> Result<Vec<u8>, AllocError> {
+    let mut text = front.to_vec(alloc)?;
+    text.extend_from_slice(back)?;
+    Ok(text)
+}
+
+/// A text, so many times.
+fn repeated(alloc: Global, text: &[u8], times: usize) -> Result<Vec<u8>, AllocError> {
+    let mut all = Vec::new(alloc);
+    for _ in 0..times {
+        all.extend_from_slice(text)?;
+    }
+    Ok(all)
+}
+
+#[test]
+fn takes_large_files(rt: HostRuntime) -> Result<(), Fail> {
+    let alloc = rt.alloc();
+    let comments = repeated(alloc, b"% currentfile\n", 10_000)?;
+    let clear = joined(alloc, comments.as_slice(), b"currentfile eexec\n")?;
+    let clear = clear.as_slice();
+    let private = repeated(alloc, b"dup 5 {", 20_000)?;
+    let cipher = seal(alloc, private.as_slice(), EEXEC_KEY, EEXEC_LEAD)?;
+    let lines = hex_lines(alloc, cipher.as_slice())?;
+    let digits = repeated(alloc, b"d9", 150_000)?;
+    let pieces = repeated(alloc, b"\x80\x01\x0e\0\0\0% currentfile\n", 10_000)?;
+    assert!(rt; clear.len() <= 200_000 && cipher.len() <= 200_000);
+    let rows = [
+        (
+            segments(alloc, clear, cipher.as_slice(), trailer())?,
+            None,
+            "a PFB",
+        ),
+        (joined(alloc, clear, lines.as_slice())?, None, "a PFA"),
+        (
+            joined(alloc, clear, digits.as_slice())?,
+            None,
+            "one long line of digits",
+        ),
+        (
+            joined(alloc, clear, b"\x81\x82\x83")?,
+            Some(BytesFault::ShortCipher),
+            "three bytes",
+        ),
+        (comments, Some(BytesFault::NoEexec), "a clear text alone"),
+        (
+            joined(alloc, pieces.as_slice(), b"\x80\x03")?,
+            Some(BytesFault::NoEexec),
+            "many segments",
+        ),
+        (
+            joined(alloc, pieces.as_slice(), b"\x80\x04")?,
+            Some(BytesFault::BadSegment { at: 200_000 }),
+            "type 4 after many segments",
+        ),
+    ];
+    for (file, want, name) in &rows {
+        assert!(rt; refusal(alloc, file.as_slice()) == *want, "{name}");
+    }
+    Ok(())
 }

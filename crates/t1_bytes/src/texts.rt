@@ -65,12 +65,16 @@ pub fn gap_at(bytes: &[u8]) -> Option<(&[u8], &[u8])>
     Some((front, rest))
 }
 
-/// The first offset from `from` on where `text` stands.
+/// The first offset from `from` on where `text` stands; `None` where there is none, as past the end
+/// of the bytes.
 pub fn find_from(bytes: &[u8], text: &[u8], from: usize) -> Option<usize>
-    requires { from ≤ length bytes.now }
     ensures within { IfSome result (λ at. (from ≤ at) × (at + length text.now ≤ length bytes.now)) }
     ensures first { MatchOption result (Nowhere (OccursAt bytes.now text.now) from (length bytes.now + 1)) (Nowhere (OccursAt bytes.now text.now) from) }
+    ensures found { IfSome result (OccursAt bytes.now text.now) }
 {
+    if from > bytes.len() {
+        return None;
+    }
     let (_, rest) = bytes.split_at(from);
     match rest.find(text) {
         Some(at) => Some(from + at),

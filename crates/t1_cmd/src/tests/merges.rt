@@ -102,7 +102,10 @@ fn a_subr_that_no_glyph_executes(rt: HostRuntime) -> Result<(), Fail> {
 
 /// A font with a long head and, beside `.notdef`, one long glyph of this name.
 fn heavy(alloc: Global, name: &[u8]) -> Result<Vec<u8>, AllocError> {
-    let mut private = Vec::from_slice(alloc, b"/lenIV 0 def /CharStrings 2 dict dup begin\n/.notdef 0 RD  ND\n")?;
+    let mut private = Vec::from_slice(
+        alloc,
+        b"/lenIV 0 def /CharStrings 2 dict dup begin\n/.notdef 0 RD  ND\n",
+    )?;
     private.extend_from_slice(name)?;
     private.extend_from_slice(b" 60000 RD ")?;
     private.resize(private.len().saturating_add(60_000), b'x')?;

@@ -83,7 +83,10 @@ fn names_that_are_absent(rt: HostRuntime) -> Result<(), Fail> {
         let got = kept(rt.alloc(), file.as_slice(), names)?;
         assert_eq!(rt; got.as_slice(), want, "of a closure");
         let got = absent(rt.alloc(), file.as_slice(), names);
-        assert!(rt; got.is_some_and(|name| name.as_slice() == want), "of a subset");
+        assert!(rt;
+            got.is_some_and(|name| name.as_slice() == want),
+            "of a subset"
+        );
     }
     Ok(())
 }

@@ -69,7 +69,12 @@ fn cut(alloc: Global, font: &Font, numbers: Range<u32>) -> Result<Font, SubsetFa
 }
 
 /// How many glyphs two subsets of a file's font come to by `merge` and by `merge_all`.
-fn counts(alloc: Global, file: &[u8], one: Range<u32>, other: Range<u32>) -> Option<(usize, usize)> {
+fn counts(
+    alloc: Global,
+    file: &[u8],
+    one: Range<u32>,
+    other: Range<u32>,
+) -> Option<(usize, usize)> {
     let Ok(font) = read(alloc, file) else {
         return None;
     };

@@ -102,7 +102,13 @@ const INNER: [(Shell, ShellPart); 9] = [
         },
         ShellPart::Middle,
     ),
-    (Shell { def: b"|-", ..SHELL }, ShellPart::GlyphsWords),
+    (
+        Shell {
+            def: b"|-",
+            ..SHELL
+        },
+        ShellPart::GlyphsWords,
+    ),
     (
         Shell {
             tail: b"\nmark currentfile closefile",
@@ -130,11 +136,17 @@ fn shells_that_differ(rt: HostRuntime) -> Result<(), Fail> {
     let one = whole(rt.alloc())?;
     for (shell, part) in CLEAR.iter().chain(INNER.iter()) {
         let other = font(rt.alloc(), shell, &SUBRS, &GLYPHS)?;
-        assert!(rt; differs(rt.alloc(), one.as_slice(), other.as_slice(), *part), "{part:?}");
+        assert!(rt;
+            differs(rt.alloc(), one.as_slice(), other.as_slice(), *part),
+            "{part:?}"
+        );
     }
     let few = font(rt.alloc(), &SHELL, &SUBRS[..9], &GLYPHS)?;
     let table = ShellPart::SubrsTable;
-    assert!(rt; differs(rt.alloc(), one.as_slice(), few.as_slice(), table), "an absent index");
+    assert!(rt;
+        differs(rt.alloc(), one.as_slice(), few.as_slice(), table),
+        "an absent index"
+    );
     Ok(())
 }
 
@@ -185,11 +197,18 @@ fn what_glyphs_execute(rt: HostRuntime) -> Result<(), Fail> {
     let y = cut(rt.alloc(), file.as_slice(), &[b"Y"]);
     let glyph = Some(Vec::from_slice(rt.alloc(), b"X")?);
     let subr = conflict(rt.alloc(), y.as_slice(), used.as_slice());
-    assert_eq!(rt; subr, Some(Conflict::Subr { index: 5, glyph }), "a used stub");
+    assert_eq!(rt;
+        subr,
+        Some(Conflict::Subr { index: 5, glyph }),
+        "a used stub"
+    );
     let a = cut(rt.alloc(), file.as_slice(), &[b"A"]);
     let one = merged(rt.alloc(), a.as_slice(), used.as_slice());
     let two = merged(rt.alloc(), used.as_slice(), a.as_slice());
-    assert!(rt; !one.is_empty() && one.as_slice() == two.as_slice(), "a stub that one font uses");
+    assert!(rt;
+        !one.is_empty() && one.as_slice() == two.as_slice(),
+        "a stub that one font uses"
+    );
     Ok(())
 }
 
@@ -202,7 +221,11 @@ fn what_glyphs_name(rt: HostRuntime) -> Result<(), Fail> {
     let glyph = Vec::from_slice(rt.alloc(), b"Aacute")?;
     let part = Vec::from_slice(rt.alloc(), b"acute")?;
     let lacks = conflict(rt.alloc(), accented.as_slice(), acute.as_slice());
-    assert_eq!(rt; lacks, Some(Conflict::Part { glyph, part }), "a part that one font lacks");
+    assert_eq!(rt;
+        lacks,
+        Some(Conflict::Part { glyph, part }),
+        "a part that one font lacks"
+    );
     let a = cut(rt.alloc(), file.as_slice(), &[b"A"]);
     let both = merged(rt.alloc(), accented.as_slice(), a.as_slice());
     assert!(rt; !both.is_empty(), "a part that both lack");
@@ -267,6 +290,10 @@ fn lists_that_are_refused(rt: HostRuntime) -> Result<(), Fail> {
     files.push(font(rt.alloc(), &SHELL, &SUBRS, &glyphs)?)?;
     let name = Vec::from_slice(rt.alloc(), b"acute")?;
     let last = all_merged(rt.alloc(), files.as_slice()).err();
-    assert_eq!(rt; last, Some(Conflict::Glyph { name }), "the first and the last differ");
+    assert_eq!(rt;
+        last,
+        Some(Conflict::Glyph { name }),
+        "the first and the last differ"
+    );
     Ok(())
 }
