@@ -1,74 +1,22 @@
 use crate::flats::Flat;
 use crate::keys::{Kept, Key};
 use crate::laws;
-use crate::listing::{self, JoinFault, ListFault};
+use crate::listing::{self, JoinFault, ListFault, Listing};
 use crate::many::join_all;
 use crate::partial::Join;
 use crate::tables::Table;
 use std::alloc::{AllocError, Global};
 use std::test::Fail;
 
-fn table(alloc: Global, entries: &[(u16, u8)]) -> Result<Table<u16, Vec<u8>>, AllocError> {
+type Numbered = Table<u16, Vec<u8>>;
+
+// The table that has the byte at each key from one to another.
+fn table(alloc: Global, from: u16, to: u16, byte: u8) -> Result<Numbered, AllocError> {
     let mut table = Table::new(alloc);
-    for (key, byte) in entries {
-        table.insert(*key, vec![in alloc; *byte]?)?;
+    for key in from..to {
+        table.insert(key, vec![in alloc; byte]?)?;
     }
     Ok(table)
-}
-
-fn holds(table: &Table<u16, Vec<u8>>, key: u16, byte: u8) -> bool {
-    match table.get(&key) {
-        Some(value) => value.as_slice() == [byte].as_slice(),
-        None => false,
-    }
-}
-
-#[test]
-fn tables(rt: HostRuntime) -> Result<(), Fail> {
-    let alloc = rt.alloc();
-    let mut one = table(alloc, &[(10, 1), (9, 1), (3, 1)])?;
-    one.insert(9, vec![in alloc; 7]?)?;
-    assert!(rt; holds(&one, 9, 7), "the last value of a key stands");
-    let mut keys = Vec::new(alloc);
-    for (key, _) in one.entries() {
-        keys.push(*key)?;
-    }
-    assert_eq!(rt; keys.as_slice(), [3, 9, 10].as_slice(), "upwards by key");
-    let other = table(alloc, &[(10, 2), (9, 2), (3, 1)])?;
-    assert_eq!(rt; *one.conflict(&other).ok_or("conflict")?, 9);
-    Ok(())
-}
-
-#[test]
-fn flats(rt: HostRuntime) -> Result<(), Fail> {
-    let alloc = rt.alloc();
-    let bytes: &[u8] = b"ab";
-    let full = Flat::Full(bytes);
-    assert!(rt; full.agrees(&Flat::Empty) && full.agrees(&full));
-    assert!(rt; !full.agrees(&Flat::Full(&bytes[..1])));
-    match Flat::Empty.join(alloc, &full)? {
-        Flat::Full(joined) => assert!(rt; joined == bytes),
-        Flat::Empty => assert!(rt; false, "a value joins with nothing to itself"),
-    }
-    Ok(())
-}
-
-#[test]
-fn joins_many(rt: HostRuntime) -> Result<(), Fail> {
-    let alloc = rt.alloc();
-    let three = vec![in alloc;
-        table(alloc, &[(5, 0x0b)])?,
-        table(alloc, &[(6, 0x0e)])?,
-        table(alloc, &[(5, 0x0b)])?,
-    ]?;
-    let joined = join_all(alloc, three.as_slice())?.ok_or("joined")?;
-    assert!(rt; holds(&joined, 5, 0x0b) && holds(&joined, 6, 0x0e));
-    assert_eq!(rt; joined.entries().count(), 2);
-    let two = vec![in alloc; table(alloc, &[(5, 0x0b)])?, table(alloc, &[(5, 0x0e)])?]?;
-    assert!(rt; join_all(alloc, two.as_slice())?.is_none());
-    let none: Vec<Table<u16, Vec<u8>>> = Vec::new(alloc);
-    assert!(rt; join_all(alloc, none.as_slice())?.is_none());
-    Ok(())
 }
 
 // The number of keys of either table, where they join: through the bounds alone.
@@ -81,6 +29,118 @@ fn keys_of_both<K: Key + Drop, V: Kept + Drop>(
         return Ok(None);
     }
     Ok(Some(left.join(alloc, right)?.entries().count()))
+}
+
+#[test]
+fn tables(rt: HostRuntime) -> Result<(), Fail> {
+    let alloc = rt.alloc();
+    let mut one = table(alloc, 9, 12, 1)?;
+    one.insert(3, vec![in alloc; 1]?)?;
+    one.insert(10, vec![in alloc; 7]?)?;
+    let value = one.get(&10).ok_or("10")?;
+    assert!(rt;
+        value.as_slice() == [7].as_slice(),
+        "the last value of a key stands"
+    );
+    let mut keys = Vec::new(alloc);
+    for (key, _) in one.entries() {
+        keys.push(*key)?;
+    }
+    assert_eq!(rt;
+        keys.as_slice(),
+        [3, 9, 10, 11].as_slice(),
+        "upwards by key"
+    );
+    let rows = [
+        (
+            table(alloc, 9, 12, 1)?,
+            Some(10),
+            None,
+            "the smallest key in conflict",
+        ),
+        (
+            table(alloc, 12, 60_000, 2)?,
+            None,
+            Some(59_992),
+            "many entries",
+        ),
+    ];
+    for (other, conflict, count, what) in &rows {
+        assert_eq!(rt; one.conflict(other).copied(), *conflict, "{what}");
+        assert_eq!(rt; keys_of_both(alloc, &one, other)?, *count, "{what}");
+    }
+    Ok(())
+}
+
+#[test]
+fn flats(rt: HostRuntime) -> Result<(), Fail> {
+    let alloc = rt.alloc();
+    let bytes: &[u8] = b"ab";
+    let full = Flat::Full(bytes);
+    assert!(rt; full.agrees(&Flat::Empty) && full.agrees(&full));
+    assert!(rt; !full.agrees(&Flat::Full(&bytes[..1])));
+    let mut long = Vec::new(alloc);
+    long.resize(150_000, 7)?;
+    let long = Flat::Full(long);
+    assert!(rt; Flat::Empty.agrees(&long));
+    for joined in [
+        Flat::Empty.join(alloc, &long)?,
+        long.join(alloc, &Flat::Empty)?,
+    ] {
+        match joined {
+            Flat::Full(value) => assert_eq!(rt; value.len(), 150_000),
+            Flat::Empty => assert!(rt; false, "a value joins with nothing to itself"),
+        }
+    }
+    Ok(())
+}
+
+// Many tables with one entry each, and ten keys in all.
+fn many_tables(alloc: Global) -> Result<Vec<Numbered>, AllocError> {
+    let mut tables = Vec::new(alloc);
+    for number in 0..10_000 {
+        let key = number % 10;
+        tables.push(table(alloc, key, key + 1, 0x0b)?)?;
+    }
+    Ok(tables)
+}
+
+// The number of keys of all tables, where they join.
+fn keys_of_all(alloc: Global, list: &[Numbered]) -> Result<Option<usize>, AllocError> {
+    match join_all(alloc, list)? {
+        Some(all) => Ok(Some(all.entries().count())),
+        None => Ok(None),
+    }
+}
+
+#[test]
+fn joins_many(rt: HostRuntime) -> Result<(), Fail> {
+    let alloc = rt.alloc();
+    let mut many = many_tables(alloc)?;
+    many.push(table(alloc, 9, 10, 0x0e)?)?;
+    let rows = [
+        (
+            vec![in alloc;
+                table(alloc, 5, 6, 0x0b)?,
+                table(alloc, 6, 7, 0x0e)?,
+                table(alloc, 5, 6, 0x0b)?,
+            ]?,
+            Some(2),
+            "three",
+        ),
+        (
+            vec![in alloc; table(alloc, 5, 6, 0x0b)?, table(alloc, 5, 6, 0x0e)?]?,
+            None,
+            "two that differ",
+        ),
+        (Vec::new(alloc), None, "none"),
+        (many_tables(alloc)?, Some(10), "many"),
+        (many, None, "many, the last of which differs"),
+    ];
+    for (list, want, what) in &rows {
+        assert_eq!(rt; keys_of_all(alloc, list.as_slice())?, *want, "{what}");
+    }
+    Ok(())
 }
 
 #[test]
@@ -101,7 +161,7 @@ fn borrowed_keys(rt: HostRuntime) -> Result<(), Fail> {
 
 #[test]
 fn laws_at_types(rt: HostRuntime) -> Result<(), Fail> {
-    laws::commutative::<Table<u16, Vec<u8>>>();
+    laws::commutative::<Numbered>();
     laws::associative::<Table<Vec<u8>, Vec<u8>>>();
     laws::idempotent::<Flat<u16>>();
     laws::one_answer::<Flat<Vec<u8>>>();
@@ -114,19 +174,49 @@ fn laws_at_types(rt: HostRuntime) -> Result<(), Fail> {
     Ok(())
 }
 
-fn joined(alloc: Global, left: &[u8], right: &[u8]) -> Option<Vec<u8>> {
-    let left = listing::read(alloc, left).ok()?;
-    let right = listing::read(alloc, right).ok()?;
-    let both = listing::join(alloc, &left, &right).ok()?;
-    listing::write(alloc, &both).ok()
+// Lines of one kind with the numbers from one to another, and the same digits on each.
+fn lines(alloc: Global, kind: &str, from: u16, to: u16, hex: &str) -> Result<Vec<u8>, AllocError> {
+    let mut text = Vec::new(alloc);
+    for number in from..to {
+        let line = format!(in alloc; "{kind} {number} {hex}\n")?;
+        text.extend_from_slice(line.as_bytes())?;
+    }
+    Ok(text)
+}
+
+// One text after another.
+fn joined(alloc: Global, front: &[u8], back: &[u8]) -> Result<Vec<u8>, AllocError> {
+    let mut text = front.to_vec(alloc)?;
+    text.extend_from_slice(back)?;
+    Ok(text)
+}
+
+// 65,000 lines of Subrs and 10,000 of glyphs, in the order in which they are written.
+fn many_lines(alloc: Global) -> Result<Vec<u8>, AllocError> {
+    let subrs = lines(alloc, "S", 0, 65_000, "0b")?;
+    let glyphs = lines(alloc, "G", 10_000, 20_000, "0e")?;
+    joined(alloc, subrs.as_slice(), glyphs.as_slice())
+}
+
+// The text that two listings join to, or the key in conflict.
+fn outcome(alloc: Global, left: &Listing, right: &Listing) -> Result<Vec<u8>, AllocError> {
+    match listing::join(alloc, left, right) {
+        Ok(both) => listing::write(alloc, &both),
+        Err(JoinFault::Subr { index }) => Ok(format!(in alloc; "index {index}")?.into_bytes()),
+        Err(JoinFault::Glyph { name }) => joined(alloc, b"name ", name.as_slice()),
+        Err(JoinFault::Memory) => Err(AllocError),
+    }
 }
 
 #[test]
 fn listings_join(rt: HostRuntime) -> Result<(), Fail> {
+    let alloc = rt.alloc();
     let left: &[u8] = b"S 5 ef060b\nG X 8b0e\n";
     let right: &[u8] = b"G Y 0E\nS 5 ef060b\n";
     let both: &[u8] = b"S 5 ef060b\nG X 8b0e\nG Y 0e\n";
-    let cases: [(&[u8], &[u8], &[u8], &str); 6] = [
+    let one: &[u8] = b"S 10 0b\nS 9 0b\nG A 0e\n";
+    let other: &[u8] = b"S 10 0c\nS 9 0c\nG A 0d\n";
+    let rows: [(&[u8], &[u8], &[u8], &str); 11] = [
         (left, right, both, "two listings"),
         (right, left, both, "in the other order"),
         (b"", b"", b"", "two empty listings"),
@@ -143,147 +233,138 @@ fn listings_join(rt: HostRuntime) -> Result<(), Fail> {
             b"G \x80\xff\x01 0e\n",
             "other bytes in a name",
         ),
+        (
+            b"S 5 ef060b\n",
+            b"S 5 0b\n",
+            b"index 5",
+            "an index in conflict",
+        ),
+        (b"S 7 \n", b"S 7 0b\n", b"index 7", "an entry of no bytes"),
+        (one, other, b"index 9", "the smallest index"),
+        (
+            other,
+            one,
+            b"index 9",
+            "the smallest index, in the other order",
+        ),
+        (
+            b"G b 0e\nG A 0e\nS 1 0b\n",
+            b"G A 0d\nG b 0d\n",
+            b"name A",
+            "the smallest name",
+        ),
     ];
-    for (left, right, want, what) in cases {
-        let text = joined(rt.alloc(), left, right).ok_or("joins")?;
-        assert_eq!(rt; text.as_slice(), want, "{what}");
+    for (left, right, want, what) in rows {
+        let left = listing::read(alloc, left).ok().ok_or("left")?;
+        let right = listing::read(alloc, right).ok().ok_or("right")?;
+        assert!(rt; outcome(alloc, &left, &right)?.as_slice() == want, "{what}");
     }
     Ok(())
 }
 
-fn subr_conflict(alloc: Global, left: &[u8], right: &[u8]) -> Option<u16> {
-    let left = listing::read(alloc, left).ok()?;
-    let right = listing::read(alloc, right).ok()?;
-    match listing::join(alloc, &left, &right) {
-        Err(JoinFault::Subr { index }) => Some(index),
-        _ => None,
-    }
-}
-
-fn glyph_conflict(alloc: Global, left: &[u8], right: &[u8]) -> Option<Vec<u8>> {
-    let left = listing::read(alloc, left).ok()?;
-    let right = listing::read(alloc, right).ok()?;
-    match listing::join(alloc, &left, &right) {
-        Err(JoinFault::Glyph { name }) => Some(name),
-        _ => None,
-    }
-}
-
 #[test]
-fn listings_differ(rt: HostRuntime) -> Result<(), Fail> {
+fn many_lines_join(rt: HostRuntime) -> Result<(), Fail> {
     let alloc = rt.alloc();
-    assert_eq!(rt; subr_conflict(alloc, b"S 5 ef060b\n", b"S 5 0b\n"), Some(5));
-    assert_eq!(rt;
-        subr_conflict(alloc, b"S 7 \n", b"S 7 0b\n"),
-        Some(7),
-        "an entry of no bytes"
-    );
-    let left: &[u8] = b"S 10 0b\nS 9 0b\nG A 0e\n";
-    let right: &[u8] = b"S 10 0c\nS 9 0c\nG A 0d\n";
-    assert_eq!(rt;
-        subr_conflict(alloc, left, right),
-        Some(9),
-        "the smallest index"
-    );
-    assert_eq!(rt;
-        subr_conflict(alloc, right, left),
-        Some(9),
-        "in the other order"
-    );
-    let name = glyph_conflict(alloc, b"G b 0e\nG A 0e\nS 1 0b\n", b"G A 0d\nG b 0d\n").ok_or(
-        "refused",
-    )?;
-    assert!(rt; name.as_slice() == b"A".as_slice(), "the smallest name");
-    Ok(())
-}
-
-#[test]
-fn bad_lines(rt: HostRuntime) -> Result<(), Fail> {
-    let cases: [(&[u8], usize, &str); 19] = [
-        (b"S 65535 0b\n", 1, "an index over the largest"),
-        (b"S 000001 0b\n", 1, "six digits"),
-        (b"S  0b\n", 1, "no digit"),
-        (b"S 1a 0b\n", 1, "a letter in an index"),
-        (b"G X 0\n", 1, "odd digits"),
-        (b"G X 0g\n", 1, "no digit of 16"),
-        (b"G X 0e \n", 1, "a blank at the end"),
-        (b"G X 0e\r\n", 1, "CR before LF"),
-        (b"G X\n", 1, "no blank before the digits"),
-        (b"G  0e\n", 1, "no name"),
-        (b"G /X 0e\n", 1, "a delimiter"),
-        (b"G X\t0e\n", 1, "a tab"),
-        (b"GX 0e\n", 1, "no blank"),
-        (b"g X 0e\n", 1, "another letter"),
-        (b"\n", 1, "an empty line"),
-        (b"S 5 0b", 1, "no line feed"),
-        (b"S 5 0b\nS 6", 2, "no line feed at the end"),
-        (b"S 5 0b\nS 5 0b", 2, "no line feed, and its key is there"),
-        (b"G a 0e\nG b 0e\nG c\nG d\n", 3, "the first line in fault"),
+    let text = many_lines(alloc)?;
+    let many = listing::read(alloc, text.as_slice()).ok().ok_or("many")?;
+    let rows: [(&[u8], &[u8]); 3] = [
+        (b"S 64999 0b\n", text.as_slice()),
+        (b"S 64999 0c\n", b"index 64999"),
+        (b"G 19999 0c\n", b"name 19999"),
     ];
-    for (text, line, what) in cases {
-        let fault = listing::read(rt.alloc(), text).err();
-        assert_eq!(rt; fault, Some(ListFault::BadLine { line }), "{what}");
-    }
-    Ok(())
-}
-
-#[test]
-fn repeated_keys(rt: HostRuntime) -> Result<(), Fail> {
-    let cases: [(&[u8], Option<ListFault>, &str); 4] = [
-        (
-            b"S 5 0b\nS 05 0b\n",
-            Some(ListFault::Repeated { line: 2 }),
-            "an index twice",
-        ),
-        (
-            b"G 5 0b\nS 5 0b\nG 5 0c\n",
-            Some(ListFault::Repeated { line: 3 }),
-            "a name twice",
-        ),
-        (
-            b"S 5 0b\nG 5 0b\n",
-            None,
-            "an index and a name are two keys",
-        ),
-        (b"S 65534 0b\n", None, "the largest index"),
-    ];
-    for (text, want, what) in cases {
-        assert_eq!(rt; listing::read(rt.alloc(), text).err(), want, "{what}");
+    for (right, want) in rows {
+        let right = listing::read(alloc, right).ok().ok_or("right")?;
+        assert!(rt; outcome(alloc, &many, &right)?.as_slice() == want);
     }
     Ok(())
 }
 
 // `G `, the name so often, a blank, the digit so often, and a line feed.
 fn long_line(alloc: Global, name: usize, digits: usize) -> Result<Vec<u8>, AllocError> {
-    let mut line = Vec::new(alloc);
-    line.extend_from_slice(b"G ")?;
-    for _ in 0..name {
-        line.push(b'n')?;
-    }
+    let mut line = b"G ".to_vec(alloc)?;
+    line.resize(name.saturating_add(2), b'n')?;
     line.push(b' ')?;
-    for _ in 0..digits {
-        line.push(b'0')?;
-    }
+    line.resize(name.saturating_add(digits).saturating_add(3), b'0')?;
     line.push(b'\n')?;
     Ok(line)
 }
 
+fn bad_line(line: usize) -> Option<ListFault> {
+    Some(ListFault::BadLine { line })
+}
+
+fn repeated(line: usize) -> Option<ListFault> {
+    Some(ListFault::Repeated { line })
+}
+
 #[test]
-fn lengths(rt: HostRuntime) -> Result<(), Fail> {
+fn reads_listings(rt: HostRuntime) -> Result<(), Fail> {
     let alloc = rt.alloc();
-    let cases = [
-        (127, 2, true, "the longest name"),
-        (128, 2, false, "a name of one byte more"),
-        (1, 131070, true, "the longest value"),
-        (1, 131072, false, "a value of one byte more"),
+    let longest_name = long_line(alloc, 127, 2)?;
+    let longer_name = long_line(alloc, 128, 2)?;
+    let longest_value = long_line(alloc, 1, 131_070)?;
+    let longer_value = long_line(alloc, 1, 131_072)?;
+    let many = many_lines(alloc)?;
+    let bad = joined(alloc, many.as_slice(), b"S 65535 0b\n")?;
+    let twice = joined(alloc, many.as_slice(), b"G 10000 0e\n")?;
+    let rows: [(&[u8], Option<ListFault>, &str); 30] = [
+        (b"S 65535 0b\n", bad_line(1), "an index over the largest"),
+        (b"S 000001 0b\n", bad_line(1), "six digits"),
+        (b"S  0b\n", bad_line(1), "no digit"),
+        (b"S 1a 0b\n", bad_line(1), "a letter in an index"),
+        (b"G X 0\n", bad_line(1), "odd digits"),
+        (b"G X 0g\n", bad_line(1), "no digit of 16"),
+        (b"G X 0e \n", bad_line(1), "a blank at the end"),
+        (b"G X 0e\r\n", bad_line(1), "CR before LF"),
+        (b"G X\n", bad_line(1), "no blank before the digits"),
+        (b"G  0e\n", bad_line(1), "no name"),
+        (b"G /X 0e\n", bad_line(1), "a delimiter"),
+        (b"G X\t0e\n", bad_line(1), "a tab"),
+        (b"GX 0e\n", bad_line(1), "no blank"),
+        (b"g X 0e\n", bad_line(1), "another letter"),
+        (b"\n", bad_line(1), "an empty line"),
+        (b"S 5 0b", bad_line(1), "no line feed"),
+        (b"S 5 0b\nS 6", bad_line(2), "no line feed at the end"),
+        (
+            b"S 5 0b\nS 5 0b",
+            bad_line(2),
+            "no line feed, and its key is there",
+        ),
+        (
+            b"G a 0e\nG b 0e\nG c\nG d\n",
+            bad_line(3),
+            "the first line in fault",
+        ),
+        (b"S 5 0b\nS 05 0b\n", repeated(2), "an index twice"),
+        (b"G 5 0b\nS 5 0b\nG 5 0c\n", repeated(3), "a name twice"),
+        (
+            b"S 5 0b\nG 5 0b\n",
+            None,
+            "an index and a name are two keys",
+        ),
+        (b"S 65534 0b\n", None, "the largest index"),
+        (longest_name.as_slice(), None, "the longest name"),
+        (
+            longer_name.as_slice(),
+            bad_line(1),
+            "a name of one byte more",
+        ),
+        (longest_value.as_slice(), None, "the longest value"),
+        (
+            longer_value.as_slice(),
+            bad_line(1),
+            "a value of one byte more",
+        ),
+        (many.as_slice(), None, "many lines"),
+        (bad.as_slice(), bad_line(75_001), "a bad line after many"),
+        (
+            twice.as_slice(),
+            repeated(75_001),
+            "a name twice, after many lines",
+        ),
     ];
-    for (name, digits, reads, what) in cases {
-        let line = long_line(alloc, name, digits)?;
-        assert_eq!(rt;
-            listing::read(alloc, line.as_slice()).is_ok(),
-            reads,
-            "{what}"
-        );
+    for (text, want, what) in &rows {
+        assert!(rt; listing::read(alloc, text).err() == *want, "{what}");
     }
     Ok(())
 }
