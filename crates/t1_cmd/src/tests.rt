@@ -2,7 +2,6 @@ mod changed;
 mod counts;
 mod drawings;
 mod engines;
-mod library;
 mod merges;
 mod prefixes;
 mod subsets;
