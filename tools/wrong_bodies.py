@@ -23,10 +23,24 @@ EDITS = os.path.join(TOP, "tools/wrong-bodies")
 CHUNK = 12
 
 
-def crates():
-    """The names of all crates, lowest first as crates.txt has them."""
+def needs():
+    """What each crate stands on, by its name; the crates are lowest first, as crates.txt has them."""
     with open(os.path.join(TOP, "crates.txt"), encoding="utf-8") as f:
-        return [line.split(":")[0].strip() for line in f if ":" in line]
+        lines = [line.split("#")[0].split(":") for line in f if ":" in line]
+    return {name.split()[0]: deps.split() for name, deps in lines}
+
+
+def crates():
+    return list(needs())
+
+
+def below(names):
+    """The crates of this repository that these stand on, lowest first."""
+    wanted = set()
+    for crate in reversed(crates()):
+        if crate in names or crate in wanted:
+            wanted.update(needs()[crate])
+    return [crate for crate in crates() if crate in wanted]
 
 
 def edits_of(crate):
@@ -66,12 +80,11 @@ def tried(crate, edits):
     return [(name, line or f"not tried: {(done.stdout + done.stderr).strip()[-300:]}") for name, line in told.items()]
 
 
-def built():
-    """Builds the libraries once, so that no copy has to prove them."""
-    for crate in crates():
-        if os.path.exists(os.path.join(TOP, "crates", crate, "src/lib.rt")):
-            if subprocess.run(["rt", "lib"], cwd=os.path.join(TOP, "crates", crate), stdout=subprocess.DEVNULL).returncode:
-                sys.exit(f"{crate} is not proved")
+def build(names):
+    """Builds the libraries below these crates once, so that no copy has to prove them."""
+    for crate in below(names):
+        if subprocess.run(["rt", "lib"], cwd=os.path.join(TOP, "crates", crate), stdout=subprocess.DEVNULL).returncode:
+            sys.exit(f"{crate} is not proved")
 
 
 def main():
@@ -84,7 +97,7 @@ def main():
         if not edits_of(name) and given.crates:
             sys.exit(f"no wrong body of {name}")
     wrong = [f"{edit}: names no clause" for name in names for edit in unnamed(edits_of(name))]
-    built()
+    build([name for name in names if edits_of(name)])
     chunks = [(name, edits_of(name)[at : at + CHUNK]) for name in reversed(names) for at in range(0, len(edits_of(name)), CHUNK)]
     count = 0
     with concurrent.futures.ThreadPoolExecutor(given.jobs) as pool:
