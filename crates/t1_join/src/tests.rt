@@ -19,6 +19,14 @@ fn table(alloc: Global, from: u16, to: u16, byte: u8) -> Result<Numbered, AllocE
     Ok(table)
 }
 
+// Whether the table has the byte alone at the key.
+fn holds(table: &Numbered, key: u16, byte: u8) -> bool {
+    match table.get(&key) {
+        Some(value) => value.as_slice() == [byte].as_slice(),
+        None => false,
+    }
+}
+
 // The number of keys of either table, where they join: through the bounds alone.
 fn keys_of_both<K: Key + Drop, V: Kept + Drop>(
     alloc: Global,
@@ -37,11 +45,7 @@ fn tables(rt: HostRuntime) -> Result<(), Fail> {
     let mut one = table(alloc, 9, 12, 1)?;
     one.insert(3, vec![in alloc; 1]?)?;
     one.insert(10, vec![in alloc; 7]?)?;
-    let value = one.get(&10).ok_or("10")?;
-    assert!(rt;
-        value.as_slice() == [7].as_slice(),
-        "the last value of a key stands"
-    );
+    assert!(rt; holds(&one, 10, 7), "the last value of a key stands");
     let mut keys = Vec::new(alloc);
     for (key, _) in one.entries() {
         keys.push(*key)?;
@@ -55,6 +59,12 @@ fn tables(rt: HostRuntime) -> Result<(), Fail> {
         (
             table(alloc, 9, 12, 1)?,
             Some(10),
+            None,
+            "one key in conflict",
+        ),
+        (
+            table(alloc, 9, 12, 2)?,
+            Some(9),
             None,
             "the smallest key in conflict",
         ),
@@ -79,17 +89,21 @@ fn flats(rt: HostRuntime) -> Result<(), Fail> {
     let full = Flat::Full(bytes);
     assert!(rt; full.agrees(&Flat::Empty) && full.agrees(&full));
     assert!(rt; !full.agrees(&Flat::Full(&bytes[..1])));
-    let mut long = Vec::new(alloc);
-    long.resize(150_000, 7)?;
-    let long = Flat::Full(long);
+    match Flat::Empty.join(alloc, &full)? {
+        Flat::Full(joined) => assert!(rt; joined == bytes),
+        Flat::Empty => assert!(rt; false, "a value joins with nothing to itself"),
+    }
+    let mut text = Vec::new(alloc);
+    text.resize(150_000, 7)?;
+    let long = Flat::Full(text.as_slice().to_vec(alloc)?);
     assert!(rt; Flat::Empty.agrees(&long));
     for joined in [
         Flat::Empty.join(alloc, &long)?,
         long.join(alloc, &Flat::Empty)?,
     ] {
         match joined {
-            Flat::Full(value) => assert_eq!(rt; value.len(), 150_000),
-            Flat::Empty => assert!(rt; false, "a value joins with nothing to itself"),
+            Flat::Full(value) => assert!(rt; value.as_slice() == text.as_slice()),
+            Flat::Empty => assert!(rt; false, "a long value joins with nothing to itself"),
         }
     }
     Ok(())
@@ -140,6 +154,9 @@ fn joins_many(rt: HostRuntime) -> Result<(), Fail> {
     for (list, want, what) in &rows {
         assert_eq!(rt; keys_of_all(alloc, list.as_slice())?, *want, "{what}");
     }
+    let (three, _, _) = &rows[0];
+    let all = join_all(alloc, three.as_slice())?.ok_or("three")?;
+    assert!(rt; holds(&all, 5, 0x0b) && holds(&all, 6, 0x0e));
     Ok(())
 }
 
