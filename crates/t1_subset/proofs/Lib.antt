@@ -35,3 +35,5 @@ mod JoinedRuns
 mod MergedFonts
 pub mod ManyMerges
 pub mod Headline
+pub mod KeptRows
+mod StateRows
