@@ -1,0 +1,114 @@
+//! A caller of this library, whole: a font is cut in two and joined again.
+//!
+//! Two documents carry subsets of one font, each in a file of its own. A tool that joins the documents reads both
+//! files, merges the fonts, and writes one file with all glyphs of both. [`cut_and_joined`] does all of that over bytes
+//! in memory, and its contract is what the library promises to such a tool.
+#![tactic(auto)]
+
+mod refusal;
+
+ghost use Rattle.std.specs.Prelude.{◌≡◌, ℕ, true, List, Ok, IfOk, MatchResult};
+ghost use Rattle.std.specs.FinSet as sets;
+ghost use Rattle.t1_font.specs.Canon.{canon};
+ghost use Rattle.t1_font.specs.FontValue.{FontValue};
+ghost use Rattle.t1_font.specs.IsFont.{IsFont};
+ghost use Rattle.t1_font.specs.ReadFont.{read_font};
+ghost use Rattle.t1_font.specs.Spelling.{Spells};
+ghost use Rattle.t1_font.specs.WriteLaws.{Fits};
+ghost use Rattle.t1_subset.specs.Interpreter.{Names};
+ghost use Rattle.t1_subset.specs.Keep.{keep, subset};
+ghost use Rattle.t1_subset.specs.Laws.{AnswersAlike, IsOf};
+ghost use Rattle.t1_subset.specs.Marks.{asked};
+ghost use Rattle.t1_subset.specs.Merging.{MergesSubsets};
+ghost use Rattle.t1_subset.specs.Profile.{profile};
+ghost use Rattle.t1_example.specs.Joining.{AreSubsets, CanBeCut, IsMemory, union_subset};
+
+pub use refusal::Refusal;
+use std::alloc::Global;
+use t1_font::{Font, Form, read, write};
+use t1_subset::{Conflict, merge, subset};
+
+/// Which of two fonts is the left one of a merge.
+#[derive(Clone, Copy, Debug, PartialEq, Eq)]
+pub enum Order {
+    /// The second is the left one.
+    FirstIntoSecond,
+    /// The first is the left one.
+    SecondIntoFirst,
+}
+
+// The file of a subset of a font, as a document carries it.
+fn cut(alloc: Global, font: &Font, names: &[&[u8]], form: Form) -> Result<Vec<u8>, Refusal>
+    ensures { IsOf font.now (asked names.now) → Fits form font.now →
+        MatchResult result (λ v. read_font v.items ≡ Ok (subset profile font.now (asked names.now))) IsMemory }
+{
+    let subset = subset(alloc, font, names)?;
+    let file = write(alloc, &subset, form)?;
+    Ok(file)
+}
+
+// What two fonts come to, merged in this order.
+fn merged(alloc: Global, first: &Font, second: &Font, order: Order) -> Result<Font, Conflict>
+    ensures { MergesSubsets first.now second.now result }
+{
+    match order {
+        Order::FirstIntoSecond => merge(alloc, second, first),
+        Order::SecondIntoFirst => merge(alloc, first, second),
+    }
+}
+
+// What the fonts of two files come to.
+fn both(alloc: Global, first: &[u8], second: &[u8], order: Order) -> Result<Font, Refusal>
+    ensures { (f : FontValue) (a b : Names) → IsFont f → IsOf f a → IsOf f b → AreSubsets f a b first.now second.now →
+        MatchResult result (λ j. j ≡ union_subset f a b) IsMemory }
+{
+    let one = read(alloc, first)?;
+    let other = read(alloc, second)?;
+    let font = merged(alloc, &one, &other, order)?;
+    Ok(font)
+}
+
+// The file of what the fonts of two files come to: the work of a tool that joins documents.
+fn joined(
+    alloc: Global,
+    first: &[u8],
+    second: &[u8],
+    order: Order,
+    form: Form,
+) -> Result<Vec<u8>, Refusal>
+    ensures { (f : FontValue) (a b : Names) → IsFont f → IsOf f a → IsOf f b → AreSubsets f a b first.now second.now →
+        MatchResult result (λ v. v.items ≡ canon (union_subset f a b) form) IsMemory }
+{
+    let font = both(alloc, first, second, order)?;
+    let file = write(alloc, &font, form)?;
+    Ok(file)
+}
+
+/// The file of what two subsets of a font come to: the font of a file is read and cut to both sets of names; both
+/// subsets are written, read again and merged; and what they come to is written.
+///
+/// Where the file spells a font, the names are the font's, and the font's head doesn't begin with byte 128 or the form
+/// is PFB, the answer is the file of the subset of all the names, in either order of the merge, and each of its glyphs
+/// runs and draws as in the font. Nothing is refused then but want of memory.
+pub fn cut_and_joined(
+    alloc: Global,
+    file: &[u8],
+    first: &[&[u8]],
+    second: &[&[u8]],
+    order: Order,
+    form: Form,
+) -> Result<Vec<u8>, Refusal>
+    ensures bytes { (f : FontValue) → CanBeCut file.now (asked first.now) (asked second.now) form f →
+        MatchResult result (λ v. v.items ≡ canon (union_subset f (asked first.now) (asked second.now)) form) IsMemory }
+    ensures draws { (f : FontValue) → CanBeCut file.now (asked first.now) (asked second.now) form f →
+        IfOk result (λ v. (g : FontValue) (n : List ℕ) → Spells v.items g →
+        sets.contains (keep profile f (sets.union (asked first.now) (asked second.now))) n ≡ true → AnswersAlike f g n) }
+{
+    let font = read(alloc, file)?;
+    let one = cut(alloc, &font, first, form)?;
+    let other = cut(alloc, &font, second, form)?;
+    joined(alloc, one.as_slice(), other.as_slice(), order, form)
+}
+
+#[cfg(test)]
+mod tests;
