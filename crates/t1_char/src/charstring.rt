@@ -1,7 +1,7 @@
 // The tokens of a charstring, one after the other.
 
-ghost use Rattle.std.specs.Prelude.{◌≡◌, ◌≤◌, ◌<◌, ◌+◌, ◌*◌, length};
-ghost use Rattle.std.specs.Iterator.{YieldsFirst, item_count};
+ghost use Rattle.std.specs.Prelude.{◌≡◌, ◌≤◌, ◌<◌, ◌+◌, ◌*◌, length, drop};
+ghost use Rattle.std.specs.Iterator.{item_count};
 ghost use Rattle.t1_char.specs.Commands.{coded, commands, escapes};
 ghost use Rattle.t1_char.specs.Tokens.{tokens, token_at, more_of};
 
@@ -18,25 +18,44 @@ pub struct Tokens<'a> {
 }
 
 impl<'a> Tokens<'a> {
-    ghost use Rattle.t1_char.specs.Charstring.{tokens_left};
+    ghost use Rattle.t1_char.specs.Charstring.{charstring_of, tokens_left};
 
     /// All tokens of a plain charstring: one that is decrypted, without its lead bytes.
     pub fn new(charstring: &'a [u8]) -> Tokens<'a>
-        ensures { tokens_left result ≡ tokens charstring.now }
+        ensures all { tokens_left result ≡ tokens charstring.now }
+        ensures whole { charstring_of result ≡ charstring.now }
     {
         Tokens {
             charstring,
             offset: 0,
         }
     }
+
+    /// The tokens of a plain charstring from an offset in bytes on. From an offset that `Tokens` of it reached, they are
+    /// the tokens that were left there; from one inside a token, its last bytes are read as if they began a charstring.
+    pub fn at(charstring: &'a [u8], offset: usize) -> Tokens<'a>
+        requires { offset ≤ length charstring.now }
+        ensures rest { tokens_left result ≡ tokens (drop offset charstring.now) }
+        ensures whole { charstring_of result ≡ charstring.now }
+    {
+        Tokens { charstring, offset }
+    }
+
+    /// How many bytes of the charstring are read. From this offset on its tokens are those that are left.
+    pub fn offset(&self) -> usize
+        ensures within { result ≤ length (charstring_of self.now) }
+        ensures rest { tokens (drop result (charstring_of self.now)) ≡ tokens_left self.now }
+    {
+        self.offset
+    }
 }
 
 impl<'a> Iterator for Tokens<'a> {
     type Item = Token;
 
-    ghost use Rattle.t1_char.specs.Charstring.{tokens_left};
+    ghost use Rattle.t1_char.specs.Charstring.{tokens_left, GivesNext};
 
-    ghost next_gives = { YieldsFirst tokens_left };
+    ghost next_gives = { GivesNext };
 
     ghost remaining = { item_count tokens_left };
 
