@@ -1,6 +1,7 @@
 pub mod Locality
 pub mod DrawingLocality
-pub mod Progress
+mod Resumed
+mod Turns
 pub mod Limits
 pub mod LimitsOfRuns
 mod Rows

@@ -5,20 +5,24 @@ ghost use Rattle.std.specs.Option.{option_copied};
 ghost use Rattle.t1_char.specs.Tokens.{tokens};
 ghost use Rattle.t1_run.specs.Limits.{IsWithinLimits, EndsWithinLimits};
 ghost use Rattle.t1_run.specs.State.{start, Seac};
-ghost use Rattle.t1_run.specs.Run.{run, direct_by, direct, exec, calls_of, with_indices, index_of, taken, entry, call};
+ghost use Rattle.t1_run.specs.Run.{run, level_limit, direct_by, direct, exec, calls_of, with_indices, index_of, taken, entry, call};
 ghost use Rattle.t1_run.specs.Machine.{state_of, ending_of, value_of, Runs, IsEntered};
 
 use crate::answer::{Accent, Direct, Fault, Hints, Metrics};
+use crate::frames::Frame;
 use crate::machine::{Flow, Machine};
 use crate::subroutines::Subroutines;
+use arrayvec::ArrayVec;
 use std::alloc::{AllocError, Global};
 use std::collections::BTreeSet;
-use t1_char::Tokens;
 
 /// How deep calls may be, this project's limit.
-const LEVELS: u8 = 10;
+const LEVELS: usize = 10;
 
-/// How a token list ends.
+/// The frames that a run has room for: the glyph's, and one for each level.
+const FRAMES: usize = 1 + LEVELS;
+
+/// How a run ends.
 #[derive(Clone, Copy)]
 pub(crate) enum Halt {
     Back,
@@ -39,7 +43,7 @@ fn index_of(i: i64) -> Option<u16>
 }
 
 // The charstring that a call enters, or why it fails.
-fn entered<S: Subroutines>(subrs: &S, levels: u8, index: Option<u16>) -> Result<&[u8], Fault>
+fn entered<S: Subroutines>(subrs: &S, levels: usize, index: Option<u16>) -> Result<&[u8], Fault>
     ensures { IsEntered (S.subrs subrs.now) levels index result }
 {
     if levels == 0 {
@@ -64,43 +68,44 @@ fn take(called: &mut BTreeSet<u16>, index: Option<u16>) -> Result<(), AllocError
     Ok(())
 }
 
-fn run<S: Subroutines>(
-    subrs: &S,
+// Runs a charstring, in each turn the next token of the frame on top, until a token ends the run or no frame is left.
+fn run<'s, S: Subroutines>(
+    subrs: &'s S,
     hints: Hints,
-    levels: u8,
-    charstring: &[u8],
+    charstring: &'s [u8],
     machine: &mut Machine,
     called: &mut BTreeSet<u16>,
 ) -> Result<Halt, AllocError>
     requires { IsWithinLimits (state_of machine.old) }
     ensures runs { IfOk result
-        (λ halt. Runs (run (S.subrs subrs.now) hints levels (tokens charstring.now) (state_of machine.old))
+        (λ halt. Runs (run (S.subrs subrs.now) hints level_limit (tokens charstring.now) (state_of machine.old))
         (ending_of halt (state_of machine.new)) called.old.keys called.new.keys) }
     ensures within { IfOk result (λ halt. EndsWithinLimits (ending_of halt (state_of machine.new))) }
 {
-    for token in Tokens::new(charstring) {
+    let mut frames: ArrayVec<Frame<'s>, FRAMES> = ArrayVec::new();
+    frames.push(Frame::new(charstring));
+    'turns: while let Some(mut frame) = frames.pop() {
+        let Some(token) = frame.next() else {
+            return Ok(Halt::Failed(Fault::Unended));
+        };
         match machine.spend(hints, token)? {
-            Flow::Go => {}
-            Flow::Back => return Ok(Halt::Back),
+            Flow::Go => frames.push(frame),
+            Flow::Back => {}
             Flow::Plain(metrics) => return Ok(Halt::Plain(metrics)),
             Flow::Seac(accent) => return Ok(Halt::Seac(accent)),
             Flow::Fail(fault) => return Ok(Halt::Failed(fault)),
             Flow::Call(i) => {
+                frames.push(frame);
                 let index = index_of(i);
                 take(called, index)?;
-                match entered(subrs, levels, index) {
+                match entered(subrs, frames.remaining_capacity(), index) {
+                    Ok(charstring) => frames.push(Frame::new(charstring)),
                     Err(fault) => return Ok(Halt::Failed(fault)),
-                    Ok(charstring) => {
-                        match run(subrs, hints, levels - 1, charstring, machine, called)? {
-                            Halt::Back => {}
-                            halt => return Ok(halt),
-                        }
-                    }
                 }
             }
         }
     }
-    Ok(Halt::Failed(Fault::Unended))
+    Ok(Halt::Back)
 }
 
 // What an accented glyph answers.
@@ -132,7 +137,7 @@ fn run_glyph<S: Subroutines>(
         (called.new.keys ≡ with_indices called.old.keys (calls_of hints (S.subrs subrs.now) charstring.now)) }
 {
     let mut machine = Machine::new(alloc);
-    let halt = run(subrs, hints, LEVELS, charstring, &mut machine, called)?;
+    let halt = run(subrs, hints, charstring, &mut machine, called)?;
     match halt {
         Halt::Back => Ok(Direct::Failed(Fault::Unended)),
         Halt::Plain(metrics) => Ok(Direct::Plain {

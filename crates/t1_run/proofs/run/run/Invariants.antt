@@ -1,0 +1,12 @@
+use Rattle.t1_char.specs.Tokens.{tokens}
+use Rattle.t1_run.specs.Run.{run, level_limit}
+use Rattle.t1_run.specs.Machine.{state_of}
+use Rattle.t1_run.proofs.Turns.{Turns}
+use Rattle.t1_run.proofs.run.run.Given as goal
+
+abbrev pub decreases-turns : goal.decreases-turns
+decreases-turns g l = l.machine.allowed
+
+abbrev pub invariant-turns : goal.invariant-turns
+invariant-turns g l =
+    Turns (run (g.S.Subroutines.subrs l.subrs) l.hints level_limit (tokens l.charstring) (state_of l.initial.machine)) l.initial.called.keys (g.S.Subroutines.subrs l.subrs) l.hints l.frames.items (state_of l.machine) l.called.keys
