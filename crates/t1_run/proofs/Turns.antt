@@ -6,13 +6,10 @@ use Rattle.std.specs.Ordering.{nat_cmp}
 use Rattle.t1_char.specs.declared.token.Token.{Token}
 use Rattle.t1_char.specs.Tokens.{tokens}
 use Rattle.t1_run.specs.declared.frames.Frame.{Frame}
-use Rattle.t1_run.specs.declared.answer.Accent.{Accent}
 use Rattle.t1_run.specs.declared.answer.Fault.{Fault}
 use Rattle.t1_run.specs.declared.answer.Fault.TheVariants.{Unended}
 use Rattle.t1_run.specs.declared.answer.Hints.{Hints}
-use Rattle.t1_run.specs.declared.answer.Mark.{Mark}
-use Rattle.t1_run.specs.declared.answer.Metrics.{Metrics}
-use Rattle.t1_run.specs.State.{State, Ending, Back, Plain, Seac, Failed}
+use Rattle.t1_run.specs.State.{State, Ending, Back, Failed}
 use Rattle.t1_run.specs.Rules.{Step, Goes, Ends, Calls}
 use Rattle.t1_run.specs.Run.{Subrs, Visit, Outcome, ends, after, visiting, deeper, visit, taken, index_of, entry, enter, then_run, resume, follow, spend, run, level_limit, call, with_indices}
 use Rattle.t1_run.specs.Machine.{Runs}
@@ -25,6 +22,10 @@ use Rattle.t1_run.proofs.Resumed.{resume_after, resume_visiting, resume_twice, r
 -- the visits of a token of the list on top
 abbrev seen : List (List Token) → State → Step → List Visit
 seen below s step = visits_by (length below) (visit s step)
+
+-- a call by the list on top, and from its Back the run of the lists
+abbrev call_on : Subrs → Hints → ℕ → List (List Token) → Option ℕ → State → Outcome
+call_on subrs hints levels lists index s = resume (deeper_by (length lists) (call subrs hints levels index s)) (run_frames subrs hints levels lists)
 
 module _ (subrs : Subrs) (hints : Hints) (levels : ℕ) (below : List (List Token)) where
   abbrev below_runs : State → Outcome
@@ -46,13 +47,17 @@ module _ (subrs : Subrs) (hints : Hints) (levels : ℕ) (below : List (List Toke
         ∙ ap (λ (o : Outcome). resume o below_runs) (deeper_by-visiting (length below) (visit s step) (on step))
         ∙ resume_visiting (seen below s step) (deeper_by (length below) (on step)) below_runs
 
-    -- it ends its list, and from a Back the list below goes on
+    -- it goes on, and so does its list
+    token_goes : (s' : State) → Goes s' ≡ spend hints t s → lists_run ≡ visiting (seen below s (Goes s')) (run_frames subrs hints levels (ts ∷ below) s')
+    token_goes s' e = token_steps (Goes s') e
+
+    -- it ends its list, and from a Back the lists below go on
     token_ends : (end : Ending) → Ends end ≡ spend hints t s → lists_run ≡ visiting (seen below s (Ends end)) (then_run end below_runs)
     token_ends end e =
         token_steps (Ends end) e ∙ ap (λ (o : Outcome). visiting (seen below s (Ends end)) (resume o below_runs)) (deeper_by-ends (length below) end)
 
-    -- it calls, and from a Back of the call, which is one level deeper, its own list goes on
-    token_calls : (s' : State) (i : ℤ) → Calls i s' ≡ spend hints t s → lists_run ≡ visiting (seen below s (Calls i s')) (after (taken (index_of i)) (resume (deeper_by (suc (length below)) (call subrs hints levels (index_of i) s')) (run_frames subrs hints levels (ts ∷ below))))
+    -- it calls, and from a Back of the call its list goes on
+    token_calls : (s' : State) (i : ℤ) → Calls i s' ≡ spend hints t s → lists_run ≡ visiting (seen below s (Calls i s')) (after (taken (index_of i)) (call_on subrs hints levels (ts ∷ below) (index_of i) s'))
     token_calls s' i e =
         let called : Outcome = call subrs hints levels (index_of i) s' in
         let on : State → Outcome = run subrs hints levels ts in
@@ -62,6 +67,15 @@ module _ (subrs : Subrs) (hints : Hints) (levels : ℕ) (below : List (List Toke
         (ap (λ (o : Outcome). resume o below_runs) (deeper_by-after n (taken (index_of i)) (resume (deeper called) on) ∙ ap (after (taken (index_of i))) (deeper_by-resume n (deeper called) on))
         ∙ resume_after (taken (index_of i)) (resume (deeper_by (suc n) called) (λ s. deeper_by n (on s))) below_runs
         ∙ ap (after (taken (index_of i))) (resume_twice (deeper_by (suc n) called) (λ s. deeper_by n (on s)) below_runs))
+
+module _ (subrs : Subrs) (hints : Hints) (lists : List (List Token)) (index : Option ℕ) (s : State) where
+  -- a call that fails ends the run
+  call_fails : (levels : ℕ) (fault : Fault) → call subrs hints levels index s ≡ ends (Failed fault) → call_on subrs hints levels lists index s ≡ ends (Failed fault)
+  call_fails levels fault e = ap (λ (o : Outcome). resume o (run_frames subrs hints levels lists)) (ap (deeper_by (length lists)) e ∙ deeper_by-ends (length lists) (Failed fault))
+
+  -- a call of a Subr puts its tokens on top, where calls may be one level less deep
+  call_enters : (levels : ℕ) (c : List ℕ) → entry subrs index ≡ Some c → call_on subrs hints (suc levels) lists index s ≡ run_frames subrs hints levels (tokens c ∷ lists) s
+  call_enters levels c e = ap (λ (o : Option (List ℕ)). resume (deeper_by (length lists) (enter o (run subrs hints levels) s)) (run_frames subrs hints (suc levels) lists)) e
 
 -- ---- what is left of a whole run
 
@@ -79,7 +93,7 @@ pub record Turns (whole : Outcome) (old : List ℕ) (subrs : Subrs) (hints : Hin
   pub left : Leaves whole old (run_frames subrs hints levels (lists_of frames) s) now
   pub within : IsWithinLimits s
 
--- In a turn the token t of the frame on top is next; f is that frame after it.
+-- In a turn the token t of the frame on top is next; f is that frame after it, and below it is the rest.
 pub record Turn (whole : Outcome) (old : List ℕ) (subrs : Subrs) (hints : Hints) (rest : List Frame) (f : Frame) (t : Token) (s : State) (now : List ℕ) : Type 0 where
   pub levels : ℕ
   pub depth : levels + (length rest + 1) ≡ suc level_limit
@@ -90,163 +104,134 @@ with_indices-append set [] js = refl
 with_indices-append set (i ∷ is) js = with_indices-append (insert_key nat_cmp set i) is js
 
 module _ {whole : Outcome} {old : List ℕ} where
-  left_by : (a b : Outcome) (now : List ℕ) → a ≡ b → Leaves whole old a now → Leaves whole old b now
-  left_by a b now e k = record { calls = k.calls; visits = k.visits; goes = k.goes ∙ ap (λ (o : Outcome). after k.calls (visiting k.visits o)) e; took = k.took }
+  left_as : (a b : Outcome) (now : List ℕ) → a ≡ b → Leaves whole old a now → Leaves whole old b now
+  left_as a b now e k = record { calls = k.calls; visits = k.visits; goes = k.goes ∙ ap (λ (o : Outcome). after k.calls (visiting k.visits o)) e; took = k.took }
 
-  -- more calls and visits
-  left_after : (visits : List Visit) (more : List ℕ) (o : Outcome) (now mid : List ℕ) → mid ≡ with_indices now more → Leaves whole old (visiting visits (after more o)) now → Leaves whole old o mid
-  left_after visits more o now mid m k =
-      let moved : after k.calls (visiting k.visits (visiting visits (after more o))) ≡ after (k.calls ++ more) (visiting (k.visits ++ visits) o) =
+  -- after more visits and calls
+  left_after : (visits : List Visit) (more : List ℕ) (a o : Outcome) (now mid : List ℕ) → a ≡ visiting visits (after more o) → mid ≡ with_indices now more → Leaves whole old a now → Leaves whole old o mid
+  left_after visits more a o now mid e m k =
+      let so_far : Outcome → Outcome = λ (o : Outcome). after k.calls (visiting k.visits o) in
+      let moved : so_far (visiting visits (after more o)) ≡ after (k.calls ++ more) (visiting (k.visits ++ visits) o) =
       λ i. record { ending = o.ending; indices = sym (append_assoc k.calls more o.indices) i; visits = sym (append_assoc k.visits visits o.visits) i }
       in
       record {
         calls = k.calls ++ more;
         visits = k.visits ++ visits;
-        goes = k.goes ∙ moved;
+        goes = k.goes ∙ ap so_far e ∙ moved;
         took = m ∙ ap (λ (set : List ℕ). with_indices set more) k.took ∙ sym (with_indices-append old k.calls more);
       }
 
-  left_ends : (end : Ending) (now : List ℕ) → Leaves whole old (ends end) now → Runs whole end old now
-  left_ends end now k =
+  left_ends : (end : Ending) (a : Outcome) (now : List ℕ) → a ≡ ends end → Leaves whole old a now → Runs whole end old now
+  left_ends end a now e k =
+      let goes : whole ≡ after k.calls (visiting k.visits (ends end)) = k.goes ∙ ap (λ (o : Outcome). after k.calls (visiting k.visits o)) e in
       record {
-        ends_so = ap (λ (o : Outcome). o.ending) (sym k.goes);
-        called = k.took ∙ ap (with_indices old) (sym (append-nil k.calls)) ∙ ap (λ (o : Outcome). with_indices old o.indices) (sym k.goes);
+        ends_so = ap (λ (o : Outcome). o.ending) (sym goes);
+        called = k.took ∙ ap (with_indices old) (sym (append-nil k.calls)) ∙ ap (λ (o : Outcome). with_indices old o.indices) (sym goes);
       }
 
--- ---- frames
+-- ---- turns of the frames
 
-lists_push : (rest : List Frame) (f : Frame) → lists_of (rest ++ f ∷ []) ≡ frame_left f ∷ lists_of rest
-lists_push rest f = ap reverse (map-append frame_left rest (f ∷ [])) ∙ reverse-append (map frame_left rest) (frame_left f ∷ [])
+lists_push : (frames rest : List Frame) (f : Frame) → frames ≡ rest ++ f ∷ [] → lists_of frames ≡ frame_left f ∷ lists_of rest
+lists_push frames rest f pushed =
+    ap lists_of pushed ∙ ap reverse (map-append frame_left rest (f ∷ [])) ∙ reverse-append (map frame_left rest) (frame_left f ∷ [])
 
-length_push : (rest : List Frame) (f : Frame) → length (rest ++ f ∷ []) ≡ length rest + 1
-length_push rest f = length-append rest (f ∷ [])
+length_push : (frames rest : List Frame) (f : Frame) → frames ≡ rest ++ f ∷ [] → length frames ≡ length rest + 1
+length_push frames rest f pushed = ap length pushed ∙ length-append rest (f ∷ [])
 
+-- before the first turn the glyph's frame stands alone
 pub begins : (subrs : Subrs) (hints : Hints) (c : List ℕ) (s : State) (old : List ℕ) (frames : List Frame) (f : Frame) → frames ≡ [] ++ f ∷ [] → frame_left f ≡ tokens c → IsWithinLimits s → Turns (run subrs hints level_limit (tokens c) s) old subrs hints frames s old
 begins subrs hints c s old frames f first all within =
     let goes : run subrs hints level_limit (tokens c) s ≡ run_frames subrs hints level_limit (lists_of frames) s =
-    ap (λ (ts : List Token). run subrs hints level_limit ts s) (sym all)
-    ∙ sym (resume_nothing (run subrs hints level_limit (frame_left f) s))
-    ∙ ap (λ (fs : List Frame). run_frames subrs hints level_limit (lists_of fs) s) (sym first)
+    sym (ap (λ (lists : List (List Token)). run_frames subrs hints level_limit lists s) (lists_push frames [] f first ∙ ap (λ (ts : List Token). ts ∷ []) all)
+    ∙ resume_nothing (run subrs hints level_limit (tokens c) s))
     in
-    record { levels = level_limit; depth = ap (λ (fs : List Frame). level_limit + length fs) first; left = record { calls = []; visits = []; goes = goes; took = refl }; within = within }
+    record {
+      levels = level_limit;
+      depth = ap (λ n. level_limit + n) (length_push frames [] f first);
+      left = record { calls = []; visits = []; goes = goes; took = refl };
+      within = within;
+    }
 
-module _ {whole : Outcome} {old : List ℕ} {subrs : Subrs} {hints : Hints} {frames : List Frame} {s : State} {now : List ℕ} (inv : Turns whole old subrs hints frames s now) where
-  abbrev lists_left : List (List Token) → Outcome
-  lists_left lists = run_frames subrs hints inv.levels lists s
+module _ {whole : Outcome} {old : List ℕ} {subrs : Subrs} {hints : Hints} {frames : List Frame} {s : State} {now : List ℕ} (inv : Turns whole old subrs hints frames s now) (rest : List Frame) (f : Frame) (popped : frames ≡ rest ++ f ∷ []) where
+  top : (ts : List Token) → frame_left f ≡ ts → Leaves whole old (run_frames subrs hints inv.levels (ts ∷ lists_of rest) s) now
+  top ts e =
+      let lists : lists_of frames ≡ ts ∷ lists_of rest = lists_push frames rest f popped ∙ ap (λ (ts : List Token). ts ∷ lists_of rest) e in
+      left_as (run_frames subrs hints inv.levels (lists_of frames) s) (run_frames subrs hints inv.levels (ts ∷ lists_of rest) s) now
+      (ap (λ (lists : List (List Token)). run_frames subrs hints inv.levels lists s) lists) inv.left
 
-  -- no frame is left
-  pub all_back : frames ≡ [] → Runs whole (Back s) old now
-  all_back none = left_ends (Back s) now (left_by (lists_left (lists_of frames)) (ends (Back s)) now (ap (λ (fs : List Frame). lists_left (lists_of fs)) none) inv.left)
+  -- no token is left on top
+  pub runs_out : frame_left f ≡ [] → Runs whole (Failed Unended) old now
+  runs_out none = left_ends (Failed Unended) (run_frames subrs hints inv.levels ([] ∷ lists_of rest) s) now (none_left subrs hints inv.levels (lists_of rest) s) (top [] none)
 
-  module _ (rest : List Frame) (f : Frame) (popped : frames ≡ rest ++ f ∷ []) where
-    top : (ts : List Token) → frame_left f ≡ ts → Leaves whole old (lists_left (ts ∷ lists_of rest)) now
-    top ts e = left_by (lists_left (lists_of frames)) (lists_left (ts ∷ lists_of rest)) now (ap lists_left (ap lists_of popped ∙ lists_push rest f ∙ ap (λ (ts : List Token). ts ∷ lists_of rest) e)) inv.left
-
-    -- no token is left on top
-    pub runs_out : frame_left f ≡ [] → Runs whole (Failed Unended) old now
-    runs_out none = left_ends (Failed Unended) now (left_by (lists_left ([] ∷ lists_of rest)) (ends (Failed Unended)) now (none_left subrs hints inv.levels (lists_of rest) s) (top [] none))
-
-    pub turn : (f' : Frame) (t : Token) → frame_left f ≡ t ∷ frame_left f' → Turn whole old subrs hints rest f' t s now
-    turn f' t next =
-        record {
-          levels = inv.levels;
-          depth = ap (λ n. inv.levels + n) (sym (length_push rest f) ∙ ap length (sym popped)) ∙ inv.depth;
-          left = top (t ∷ frame_left f') next;
-        }
-
--- ---- turns
+  -- the frame on top gives its next token
+  pub turn : (f' : Frame) (t : Token) → frame_left f ≡ t ∷ frame_left f' → Turn whole old subrs hints rest f' t s now
+  turn f' t next =
+      record { levels = inv.levels; depth = ap (λ n. inv.levels + n) (sym (length_push frames rest f popped)) ∙ inv.depth; left = top (t ∷ frame_left f') next }
 
 module _ {whole : Outcome} {old : List ℕ} {subrs : Subrs} {hints : Hints} {rest : List Frame} {f : Frame} {t : Token} {s : State} {now : List ℕ} (in_turn : Turn whole old subrs hints rest f t s now) where
   abbrev lists_now : Outcome
   lists_now = run_frames subrs hints in_turn.levels ((t ∷ frame_left f) ∷ lists_of rest) s
 
-  abbrev below_run : State → Outcome
-  below_run = run_frames subrs hints (suc in_turn.levels) (lists_of rest)
-
-  -- after the visits of the token and its calls
-  then_left : (visits : List Visit) (more : List ℕ) (o : Outcome) (mid : List ℕ) → lists_now ≡ visiting visits (after more o) → mid ≡ with_indices now more → Leaves whole old o mid
-  then_left visits more o mid e m = left_after visits more o now mid m (left_by lists_now (visiting visits (after more o)) now e in_turn.left)
-
-  pub on_goes : (frames' : List Frame) (s' : State) → frames' ≡ rest ++ f ∷ [] → Goes s' ≡ spend hints t s → IsWithinLimits s' → Turns whole old subrs hints frames' s' now
-  on_goes frames' s' pushed e within =
-      let visits : List Visit = seen (lists_of rest) s (Goes s') in
-      let goes : lists_now ≡ visiting visits (run_frames subrs hints in_turn.levels (lists_of frames') s') =
-      token_steps subrs hints in_turn.levels (lists_of rest) t (frame_left f) s (Goes s') e
-      ∙ ap (λ (lists : List (List Token)). visiting visits (run_frames subrs hints in_turn.levels lists s')) (sym (ap lists_of pushed ∙ lists_push rest f))
+  -- the token goes on: its frame stays
+  pub on_goes : (frames : List Frame) (s' : State) → frames ≡ rest ++ f ∷ [] → Goes s' ≡ spend hints t s → IsWithinLimits s' → Turns whole old subrs hints frames s' now
+  on_goes frames s' pushed e within =
+      let goes : lists_now ≡ visiting (seen (lists_of rest) s (Goes s')) (run_frames subrs hints in_turn.levels (lists_of frames) s') =
+      token_goes subrs hints in_turn.levels (lists_of rest) t (frame_left f) s s' e
+      ∙ ap (λ (lists : List (List Token)). visiting (seen (lists_of rest) s (Goes s')) (run_frames subrs hints in_turn.levels lists s')) (sym (lists_push frames rest f pushed))
       in
       record {
         levels = in_turn.levels;
-        depth = ap (λ n. in_turn.levels + n) (ap length pushed ∙ length_push rest f) ∙ in_turn.depth;
-        left = then_left visits [] (run_frames subrs hints in_turn.levels (lists_of frames') s') now goes refl;
+        depth = ap (λ n. in_turn.levels + n) (length_push frames rest f pushed) ∙ in_turn.depth;
+        left = left_after (seen (lists_of rest) s (Goes s')) [] lists_now (run_frames subrs hints in_turn.levels (lists_of frames) s') now now goes refl in_turn.left;
         within = within;
       }
 
+  -- it goes back: its frame is gone
   pub on_back : (s' : State) → Ends (Back s') ≡ spend hints t s → IsWithinLimits s' → Turns whole old subrs hints rest s' now
   on_back s' e within =
       record {
         levels = suc in_turn.levels;
         depth = omega (arith, in_turn.depth);
-        left = then_left (seen (lists_of rest) s (Ends (Back s'))) [] (below_run s') now (token_ends subrs hints in_turn.levels (lists_of rest) t (frame_left f) s (Back s') e) refl;
+        left = left_after (seen (lists_of rest) s (Ends (Back s'))) [] lists_now (run_frames subrs hints (suc in_turn.levels) (lists_of rest) s') now now (token_ends subrs hints in_turn.levels (lists_of rest) t (frame_left f) s (Back s') e) refl in_turn.left;
         within = within;
       }
 
-  on_end : (end : Ending) → ((g : State → Outcome) → then_run end g ≡ ends end) → Ends end ≡ spend hints t s → Runs whole end old now
-  on_end end stuck e =
-      let visits : List Visit = seen (lists_of rest) s (Ends end) in
-      left_ends end now (then_left visits [] (ends end) now (token_ends subrs hints in_turn.levels (lists_of rest) t (frame_left f) s end e ∙ ap (visiting visits) (stuck below_run)) refl)
+  -- it ends the glyph
+  pub on_end : (end : Ending) → ((g : State → Outcome) → then_run end g ≡ ends end) → Ends end ≡ spend hints t s → Runs whole end old now
+  on_end end stops e =
+      let below_run : State → Outcome = run_frames subrs hints (suc in_turn.levels) (lists_of rest) in
+      left_ends end (then_run end below_run) now (stops below_run)
+      (left_after (seen (lists_of rest) s (Ends end)) [] lists_now (then_run end below_run) now now (token_ends subrs hints in_turn.levels (lists_of rest) t (frame_left f) s end e) refl in_turn.left)
 
-  pub on_plain : (m : Metrics) (marks : List Mark) → Ends (Plain m marks) ≡ spend hints t s → Runs whole (Plain m marks) old now
-  on_plain m marks e = on_end (Plain m marks) (λ g. refl) e
-
-  pub on_seac : (a : Accent) → Ends (Seac a) ≡ spend hints t s → Runs whole (Seac a) old now
-  on_seac a e = on_end (Seac a) (λ g. refl) e
-
-  pub on_failed : (fault : Fault) → Ends (Failed fault) ≡ spend hints t s → Runs whole (Failed fault) old now
-  on_failed fault e = on_end (Failed fault) (λ g. refl) e
-
-  -- a call, where this many more levels are left
+  -- it calls, where so many levels are left above its frame
   module _ (s' : State) (i : ℤ) (index : Option ℕ) (callers : List Frame) (levels : ℕ) (mid : List ℕ) (e : Calls i s' ≡ spend hints t s) (is : index ≡ index_of i) (pushed : callers ≡ rest ++ f ∷ []) (room : levels + length callers ≡ suc level_limit) (took : mid ≡ with_indices now (taken index)) where
-    abbrev deep : ℕ
-    deep = suc (length (lists_of rest))
-
-    abbrev callers_run : State → Outcome
-    callers_run = run_frames subrs hints levels (frame_left f ∷ lists_of rest)
-
-    called : Leaves whole old (resume (deeper_by deep (call subrs hints levels index s')) callers_run) mid
+    called : Leaves whole old (call_on subrs hints levels (lists_of callers) index s') mid
     called =
         let visits : List Visit = seen (lists_of rest) s (Calls i s') in
-        let same : in_turn.levels ≡ levels = omega (arith, in_turn.depth, room, ap length pushed, length_push rest f) in
-        let calls : lists_now ≡ visiting visits (after (taken index) (resume (deeper_by deep (call subrs hints levels index s')) callers_run)) =
+        let same : in_turn.levels ≡ levels = omega (arith, in_turn.depth, room, length_push callers rest f pushed) in
+        let goes : lists_now ≡ visiting visits (after (taken index) (call_on subrs hints levels (lists_of callers) index s')) =
         token_calls subrs hints in_turn.levels (lists_of rest) t (frame_left f) s s' i e
-        ∙ ap (λ (k : Option ℕ). visiting visits (after (taken k) (resume (deeper_by deep (call subrs hints in_turn.levels k s')) (run_frames subrs hints in_turn.levels (frame_left f ∷ lists_of rest))))) (sym is)
-        ∙ ap (λ n. visiting visits (after (taken index) (resume (deeper_by deep (call subrs hints n index s')) (run_frames subrs hints n (frame_left f ∷ lists_of rest))))) same
+        ∙ ap (λ (index : Option ℕ). visiting visits (after (taken index) (call_on subrs hints in_turn.levels (frame_left f ∷ lists_of rest) index s'))) (sym is)
+        ∙ ap (λ (lists : List (List Token)). visiting visits (after (taken index) (call_on subrs hints in_turn.levels lists index s'))) (sym (lists_push callers rest f pushed))
+        ∙ ap (λ n. visiting visits (after (taken index) (call_on subrs hints n (lists_of callers) index s'))) same
         in
-        then_left visits (taken index) (resume (deeper_by deep (call subrs hints levels index s')) callers_run) mid calls took
+        left_after visits (taken index) lists_now (call_on subrs hints levels (lists_of callers) index s') now mid goes took in_turn.left
 
+    -- the call fails
     pub on_fault : (fault : Fault) → call subrs hints levels index s' ≡ ends (Failed fault) → Runs whole (Failed fault) old mid
-    on_fault fault failed =
-        let ended : resume (deeper_by deep (call subrs hints levels index s')) callers_run ≡ ends (Failed fault) =
-        ap (λ (o : Outcome). resume o callers_run) (ap (deeper_by deep) failed ∙ deeper_by-ends deep (Failed fault))
-        in
-        left_ends (Failed fault) mid (left_by (resume (deeper_by deep (call subrs hints levels index s')) callers_run) (ends (Failed fault)) mid ended called)
+    on_fault fault failed = left_ends (Failed fault) (call_on subrs hints levels (lists_of callers) index s') mid (call_fails subrs hints (lists_of callers) index s' levels fault failed) called
 
-  pub on_call : (s' : State) (i : ℤ) (index : Option ℕ) (callers frames' : List Frame) (levels : ℕ) (mid c : List ℕ) (g : Frame) → Calls i s' ≡ spend hints t s → index ≡ index_of i → callers ≡ rest ++ f ∷ [] → levels + length callers ≡ suc level_limit → mid ≡ with_indices now (taken index) → frames' ≡ callers ++ g ∷ [] → (0 < levels) × (entry subrs index ≡ Some c) → frame_left g ≡ tokens c → IsWithinLimits s' → Turns whole old subrs hints frames' s' mid
-  on_call s' i index callers frames' zero mid c g e is pushed room took entered enters all within = absurd (omega (arith, enters.0))
-  on_call s' i index callers frames' (suc levels) mid c g e is pushed room took entered enters all within =
-      let callers_run : State → Outcome = run_frames subrs hints (suc levels) (frame_left f ∷ lists_of rest) in
-      let deep : ℕ = suc (length (lists_of rest)) in
-      let runs : call subrs hints (suc levels) index s' ≡ run subrs hints levels (frame_left g) s' =
-      ap (λ (o : Option (List ℕ)). enter o (run subrs hints levels) s') enters.1 ∙ ap (λ (ts : List Token). run subrs hints levels ts s') (sym all)
-      in
-      let lists : frame_left g ∷ frame_left f ∷ lists_of rest ≡ lists_of frames' =
-      sym (ap lists_of entered ∙ lists_push callers g ∙ ap (λ (ls : List (List Token)). frame_left g ∷ ls) (ap lists_of pushed ∙ lists_push rest f))
-      in
-      let goes : resume (deeper_by deep (call subrs hints (suc levels) index s')) callers_run ≡ run_frames subrs hints levels (lists_of frames') s' =
-      ap (λ (o : Outcome). resume (deeper_by deep o) callers_run) runs ∙ ap (λ (ls : List (List Token)). run_frames subrs hints levels ls s') lists
+  -- a Subr is called: its frame is on top
+  pub on_call : (s' : State) (i : ℤ) (index : Option ℕ) (callers frames : List Frame) (levels : ℕ) (mid c : List ℕ) (g : Frame) → Calls i s' ≡ spend hints t s → index ≡ index_of i → callers ≡ rest ++ f ∷ [] → levels + length callers ≡ suc level_limit → mid ≡ with_indices now (taken index) → frames ≡ callers ++ g ∷ [] → (0 < levels) × (entry subrs index ≡ Some c) → frame_left g ≡ tokens c → IsWithinLimits s' → Turns whole old subrs hints frames s' mid
+  on_call s' i index callers frames zero mid c g e is pushed room took entered enters all within = absurd (omega (arith, enters.0))
+  on_call s' i index callers frames (suc levels) mid c g e is pushed room took entered enters all within =
+      let lists : lists_of frames ≡ tokens c ∷ lists_of callers = lists_push frames callers g entered ∙ ap (λ (ts : List Token). ts ∷ lists_of callers) all in
+      let goes : call_on subrs hints (suc levels) (lists_of callers) index s' ≡ run_frames subrs hints levels (lists_of frames) s' =
+      call_enters subrs hints (lists_of callers) index s' levels c enters.1 ∙ ap (λ (lists : List (List Token)). run_frames subrs hints levels lists s') (sym lists)
       in
       record {
         levels = levels;
-        depth = omega (arith, room, ap length entered, length_push callers g);
-        left = left_by (resume (deeper_by deep (call subrs hints (suc levels) index s')) callers_run) (run_frames subrs hints levels (lists_of frames') s') mid goes (called s' i index callers (suc levels) mid e is pushed room took);
+        depth = omega (arith, room, length_push frames callers g entered);
+        left = left_as (call_on subrs hints (suc levels) (lists_of callers) index s') (run_frames subrs hints levels (lists_of frames) s') mid goes (called s' i index callers (suc levels) mid e is pushed room took);
         within = within;
       }

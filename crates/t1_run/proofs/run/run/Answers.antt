@@ -1,6 +1,7 @@
-use Rattle.std.proofs.Common.{rules}
+use Rattle.std.proofs.Common.{rules, refl}
+use Rattle.t1_run.specs.State.{Plain, Seac, Failed}
 use Rattle.t1_run.specs.Machine.{state_of}
-use Rattle.t1_run.proofs.Turns.{begins, turn, runs_out, on_goes, on_back, on_plain, on_seac, on_failed, on_fault, on_call}
+use Rattle.t1_run.proofs.Turns.{begins, turn, runs_out, on_goes, on_back, on_end, on_fault, on_call}
 use Rattle.t1_run.proofs.run.run.Goals as goal
 
 pub turns-init : goal.turns-init
@@ -23,18 +24,18 @@ turns-preserved-in-Back g c =
 
 pub returns-in-Plain-clause-runs : goal.returns-in-Plain-clause-runs
 returns-in-Plain-clause-runs g c =
-    on_plain (turn c.turns.invariant c.pop.new.self.items c.in-Some.frame c.in-Some.ensures.items c.next.new.self c.in-Some-next.token c.in-Some-next.ensures)
-    c.in-Plain.metrics c.spend.new.self.marks.items (search rules)
+    on_end (turn c.turns.invariant c.pop.new.self.items c.in-Some.frame c.in-Some.ensures.items c.next.new.self c.in-Some-next.token c.in-Some-next.ensures)
+    (Plain c.in-Plain.metrics c.spend.new.self.marks.items) (λ g. refl) (search rules)
 
 pub returns-in-Seac-clause-runs : goal.returns-in-Seac-clause-runs
 returns-in-Seac-clause-runs g c =
-    on_seac (turn c.turns.invariant c.pop.new.self.items c.in-Some.frame c.in-Some.ensures.items c.next.new.self c.in-Some-next.token c.in-Some-next.ensures)
-    c.in-Seac.accent (search rules)
+    on_end (turn c.turns.invariant c.pop.new.self.items c.in-Some.frame c.in-Some.ensures.items c.next.new.self c.in-Some-next.token c.in-Some-next.ensures)
+    (Seac c.in-Seac.accent) (λ g. refl) (search rules)
 
 pub returns-in-Fail-clause-runs : goal.returns-in-Fail-clause-runs
 returns-in-Fail-clause-runs g c =
-    on_failed (turn c.turns.invariant c.pop.new.self.items c.in-Some.frame c.in-Some.ensures.items c.next.new.self c.in-Some-next.token c.in-Some-next.ensures)
-    c.in-Fail.fault (search rules)
+    on_end (turn c.turns.invariant c.pop.new.self.items c.in-Some.frame c.in-Some.ensures.items c.next.new.self c.in-Some-next.token c.in-Some-next.ensures)
+    (Failed c.in-Fail.fault) (λ g. refl) (search rules)
 
 pub returns-in-Err-clause-runs : goal.returns-in-Err-clause-runs
 returns-in-Err-clause-runs g c =
