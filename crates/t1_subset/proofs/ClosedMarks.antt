@@ -1,6 +1,5 @@
 -- Marks that are closed, and within each closed set, are what is kept.
 use Rattle.std.proofs.Common.{◌≡◌, ℕ, ◌+◌, ◌<◌, ◌≤◌, true, List, [], ◌∷◌, refl, sym, ◌∙◌, ap, subst, inl, inr, length, take, take_all, get_or, filter, cond, arith, is_some, Some, true≢false, zero, suc}
-use Rattle.std.specs.Global.{Vec}
 use Rattle.std.specs.List.{list_any, IsDistinct}
 use Rattle.std.specs.Map.{lookup}
 use Rattle.std.proofs.lemmas.Map.Steps.{length-le_from_keys}
@@ -14,9 +13,7 @@ use Rattle.t1_font.specs.FontValue.{FontValue, name_cmp, notdef}
 use Rattle.t1_subset.specs.Interpreter.{Interpreter, Names, is_name}
 use Rattle.t1_subset.specs.Keep.{Closed, has, keep, parts, parts_here, charstring}
 use Rattle.t1_subset.specs.Laws.{IsOf}
-use Rattle.t1_subset.specs.Marked.{Holds}
-use Rattle.t1_subset.specs.declared.marks.Marked.{Marked}
-use Rattle.t1_subset.specs.Marks.{names_of, push_new, push_all}
+use Rattle.t1_subset.specs.Marks.{push_new, push_all}
 use Rattle.t1_subset.proofs.Sets.{name_same, tied, itself, any_filter, here_or, here, or_cases, in_list, from_in_list, same_members}
 use Rattle.t1_subset.proofs.Kept.{keep_least, keep_from}
 use Rattle.t1_subset.proofs.MarkLists.{is_in, all_more, all_there, all_from, all_distinct, all_length, all_front}
@@ -98,13 +95,3 @@ module _ {O : Type 0} (m : Interpreter O) (f : FontValue) (a : Names) where
   pub marks_few : (ms : List (List ℕ)) (i : ℕ) → Marks m f a ms i → length ms ≤ maps.len f.glyphs
   marks_few ms i k = subst (λ (n : ℕ). length ms ≤ n) (sym (maps.len-entries f.glyphs)) (length-le_from_keys (eq_by_cmp_equiv nat_list_cmp_total) ms (maps.entries f.glyphs) k.distinct
       (λ q h. ap is_some (sym (find_lookup q (maps.entries f.glyphs)) ∙ sym (maps.get-entries f.glyphs q)) ∙ k.inside q h))
-
-pub get_or-names : (vs : List (Vec ℕ)) (i : ℕ) (v : Vec ℕ) → get_or (names_of vs) i v.items ≡ (get_or vs i v).items
-get_or-names [] i v = refl
-get_or-names (w ∷ vs) zero v = refl
-get_or-names (w ∷ vs) (suc i) v = get_or-names vs i v
-
--- marks in memory
-module _ {O : Type 0} (m : Interpreter O) (f : FontValue) (a : Names) where
-  pub settle : (k : Marked) (xs : List (List ℕ)) (i : ℕ) → Holds k xs → Marks m f a xs i → Holds k (names_of k.order.items) × Marks m f a (names_of k.order.items) i
-  settle k xs i h w = (record { order = refl; set = h.set ∙ ap (λ ms. sets.from_list {R = name_cmp} ms) (sym h.order) }, subst (λ (ms : List (List ℕ)). Marks m f a ms i) (sym h.order) w)

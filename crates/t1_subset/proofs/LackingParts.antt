@@ -173,3 +173,11 @@ lent_here xs i y d h e = ap lent (from_here xs i (get_or xs i d) h (get_or-same 
     get_or-same [] i d h = refl
     get_or-same (x ∷ xs) zero d h = refl
     get_or-same (x ∷ xs) (suc i) d h = get_or-same xs i d (omega arith)
+
+-- a name of a list that comes to the set comes from what is left of the list
+pub copy_step : (copies new : Names) (ns : List (Bor (List ℕ))) (i : ℕ) (v : List ℕ) (d : Bor (List ℕ)) → i < length ns → v ≡ (get_or ns i d).now → new ≡ sets.insert copies v
+    → sets.union new (of (lent (drop (i + 1) ns))) ≡ sets.union copies (of (lent (drop i ns)))
+copy_step copies new ns i v d h e is =
+    ap (λ (s : Names). sets.union s (of (lent (drop (i + 1) ns)))) is
+    ∙ (insert_union nat_list_cmp_total name_same copies v (lent (drop (i + 1) ns))
+    ∙ ap (λ ps. sets.union copies (of ps)) (sym (lent_here ns i v d h e)))

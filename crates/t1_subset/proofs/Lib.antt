@@ -20,6 +20,7 @@ pub mod Fonts
 mod NameSets
 mod ProfileRuns
 mod MarkLists
+mod KeptCalls
 mod Marking
 mod ClosedMarks
 mod NumberSets

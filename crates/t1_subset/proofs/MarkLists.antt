@@ -69,18 +69,6 @@ pub all_front : (i : ℕ) (ps ms : List (List ℕ)) → i ≤ length ms → take
 all_front i [] ms h = refl
 all_front i (p ∷ ps) ms h = all_front i ps (push_new ms p) (omega (arith, new_length p ms (list_any (is_name p) ms))) ∙ new_front p ms i (list_any (is_name p) ms) h
 
-pub length-names : (vs : List (Vec ℕ)) → length (names_of vs) ≡ length vs
-length-names [] = refl
-length-names (v ∷ vs) = ap suc (length-names vs)
-
-pub names-append : (vs ws : List (Vec ℕ)) → names_of (vs ++ ws) ≡ names_of vs ++ names_of ws
-names-append [] ws = refl
-names-append (v ∷ vs) ws = ap (λ ns. v.items ∷ ns) (names-append vs ws)
-
--- a set of the names, with one more
-pub set_push : (ms : List (List ℕ)) (n : List ℕ) → sets.insert (sets.from_list {R = name_cmp} ms) n ≡ sets.from_list (ms ++ n ∷ [])
-set_push ms n = sym (sets.from_list_push nat_list_cmp_total name_same ms n)
-
 -- a list from a place on begins with what stands there
 pub from_here : {X : Type 0} (xs : List X) (i : ℕ) (x : X) → i < length xs → x ≡ get_or xs i x → drop i xs ≡ x ∷ drop (i + 1) xs
 from_here xs i x h e = rw (add-one) (drop-cons xs i x h ∙ ap (λ y. y ∷ drop (suc i) xs) (sym e))

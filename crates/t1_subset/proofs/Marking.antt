@@ -1,27 +1,38 @@
--- What marking does to the marks in memory.
-use Rattle.std.proofs.Common.{◌≡◌, ℕ, Bool, true, false, List, [], ◌∷◌, ◌++◌, sym, ◌∙◌, ap, cond, subst}
-use Rattle.std.specs.Global.{Vec}
+-- Names that are lent, as marks.
+use Rattle.std.proofs.Common.{◌≡◌, ℕ, ◌<◌, ◌≤◌, Bool, true, false, ◌||◌, List, [], ◌∷◌, ◌++◌, Option, Some, None, refl, ap, ◌∙◌, cond, length, get_or, slice_get, arith, zero, suc}
+use Rattle.std.specs.Prelude.{nat_eq}
+use Rattle.std.specs.Borrow.{Bor}
+use Rattle.std.specs.Cmp.Lexicographic.{pointwise, texts_ties}
 use Rattle.std.specs.List.{list_any}
-use Rattle.std.specs.Cmp.Lexicographic.{nat_list_cmp_total}
-use Rattle.std.specs.FinSet as sets
-use Rattle.t1_subset.specs.declared.marks.Marked.{Marked}
-use Rattle.t1_subset.specs.Interpreter.{Names, is_name}
-use Rattle.t1_subset.specs.Marks.{names_of, push_new}
-use Rattle.t1_subset.specs.Marked.{Holds}
-use Rattle.t1_subset.proofs.MarkLists.{names-append, set_push}
+use Rattle.std.proofs.lemmas.List.{map-append}
+use Rattle.indexmap.specs.IndexSet.{insert_key}
+use Rattle.t1_subset.specs.Interpreter.{is_name}
+use Rattle.t1_subset.specs.Marks.{lent, push_new}
 
-pub holds_more : (m k : Marked) (v : Vec ℕ) (n : List ℕ) → v.items ≡ n → k.order.items ≡ m.order.items ++ v ∷ [] → k.set ≡ sets.insert m.set n → (ms : List (List ℕ)) → Holds m ms → Holds k (ms ++ n ∷ [])
-holds_more m k v n is o s ms h = record {
-  order = ap names_of o ∙ names-append m.order.items (v ∷ []) ∙ (λ i. h.order i ++ is i ∷ []);
-  set = s ∙ ap (λ (t : Names). sets.insert t n) h.set ∙ set_push ms n;
-}
+-- equal bytes, wherever they lie
+abbrev pub same_bytes : Bor (List ℕ) → Bor (List ℕ) → Bool
+same_bytes a b = pointwise nat_eq a.now b.now
 
--- whether a name is marked, by the set
-pub marked_so : (m : Marked) (ms : List (List ℕ)) (n : List ℕ) (b : Bool) → b ≡ sets.contains m.set n → Holds m ms → list_any (is_name n) ms ≡ b
-marked_so m ms n b e h = sym (sets.contains-from_list nat_list_cmp_total ms n) ∙ ap (λ (t : Names). sets.contains t n) (sym h.set) ∙ sym e
+any_lent : (n : List ℕ) (ks : List (Bor (List ℕ))) → list_any (λ k. pointwise nat_eq n k.now) ks ≡ list_any (is_name n) (lent ks)
+any_lent n [] = refl
+any_lent n (k ∷ ks) = λ i. texts_ties n k.now i || any_lent n ks i
 
-pub pushed : (ms : List (List ℕ)) (n : List ℕ) (k : Marked) → list_any (is_name n) ms ≡ false → Holds k (ms ++ n ∷ []) → Holds k (push_new ms n)
-pushed ms n k e h = subst (Holds k) (ap (λ b. cond b ms (ms ++ n ∷ [])) (sym e)) h
+chosen : (b : Bool) (ks : List (Bor (List ℕ))) (k : Bor (List ℕ)) → lent (cond b ks (ks ++ k ∷ [])) ≡ cond b (lent ks) (lent ks ++ k.now ∷ [])
+chosen true ks k = refl
+chosen false ks k = map-append (λ (n : Bor (List ℕ)). n.now) ks (k ∷ [])
 
-pub stays : (ms : List (List ℕ)) (n : List ℕ) (k : Marked) → list_any (is_name n) ms ≡ true → Holds k ms → Holds k (push_new ms n)
-stays ms n k e h = subst (Holds k) (ap (λ b. cond b ms (ms ++ n ∷ [])) (sym e)) h
+-- a key that is inserted is a name at the end, unless it is there
+pub lent_insert : (ks : List (Bor (List ℕ))) (k : Bor (List ℕ)) → lent (insert_key same_bytes ks k) ≡ push_new (lent ks) k.now
+lent_insert ks k = chosen (list_any (same_bytes k) ks) ks k ∙ ap (λ b. cond b (lent ks) (lent ks ++ k.now ∷ [])) (any_lent k.now ks)
+
+-- what stands at a place
+pub got : (ms : List (List ℕ)) (i : ℕ) (n : List ℕ) → Some n ≡ slice_get ms i → (i < length ms) × (get_or ms i n ≡ n)
+got [] i n e = cc
+got (m ∷ ms) zero n e = (omega arith, cc)
+got (m ∷ ms) (suc i) n e = let r = got ms i n e in let l = r.0 in (omega (arith, l), r.1)
+
+-- no name stands at a place past the end
+pub past : (ms : List (List ℕ)) (i : ℕ) → None ≡ slice_get ms i → length ms ≤ i
+past [] i e = omega arith
+past (m ∷ ms) zero e = cc
+past (m ∷ ms) (suc i) e = let l = past ms i e in omega (arith, l)

@@ -2,7 +2,6 @@
 use Rattle.std.proofs.Common.{◌≡◌, ℕ, Bool, true, false, ◌||◌, List, [], ◌∷◌, ◌++◌, refl, sym, ◌∙◌, ap, Less, Equal, Greater, flat_map, inl, inr}
 use Rattle.std.proofs.Math.Bool.{or_assoc}
 use Rattle.std.proofs.lemmas.List.Folds.{list_any-append}
-use Rattle.std.specs.Global.{Vec}
 use Rattle.std.specs.List.{list_any}
 use Rattle.std.specs.Ordering.{nat_cmp, eq_by_cmp, match_ordering}
 use Rattle.std.specs.Cmp.{nat_cmp_total}
@@ -12,8 +11,6 @@ use Rattle.std.specs.FinSet as sets
 use Rattle.std.specs.FinSet.{nat_cmp-IsAntisymmetric}
 use Rattle.t1_font.specs.FontValue.{name_cmp}
 use Rattle.t1_subset.specs.Interpreter.{Numbers}
-use Rattle.t1_subset.specs.Marks.{names_of}
-use Rattle.t1_subset.specs.NameSets.{set_by}
 use Rattle.t1_subset.proofs.NameSets.{or_same, or_later}
 use Rattle.t1_subset.proofs.Sets.{name_same, any_at, any_one, any_flat, any_flat_from, in_list, from_in_list, in_items, from_in_items, same_members, any_append, any_append_left, any_append_right}
 
@@ -71,7 +68,7 @@ union_lists ks ls = same _ _ (λ q.
     ∙ sym (list_any-append (eq_by_cmp nat_cmp q) ks ls) ∙ sym (in_of (ks ++ ls) q))
 
 -- what comes of the names of a list comes of the members of their set
-module _ (g : List ℕ → List ℕ) (low : List ℕ) (vs : List (Vec ℕ)) where
+module _ (g : List ℕ → List ℕ) (low : List ℕ) (all : List (List ℕ)) where
   abbrev by : ℕ → List ℕ → Bool
   by q n = list_any (eq_by_cmp nat_cmp q) (g n)
 
@@ -84,9 +81,9 @@ module _ (g : List ℕ → List ℕ) (low : List ℕ) (vs : List (Vec ℕ)) wher
         any_append_right (eq_by_cmp nat_cmp q) low (flat_map g ms) (any_flat_from nat_cmp_total nat_cmp-IsAntisymmetric g q ms (any_at nat_list_cmp_total name_same (by q) one.0 ms (h one.0 one.1) one.2))
   ]
 
-  pub of_members : of (low ++ flat_map g (names_of vs)) ≡ of (low ++ flat_map g (sets.items (set_by vs)))
+  pub of_members : of (low ++ flat_map g all) ≡ of (low ++ flat_map g (sets.items (sets.from_list {R = name_cmp} all)))
   of_members = same_members nat_cmp_total nat_cmp-IsAntisymmetric _ _
-      (λ q h. from_in_list nat_cmp_total nat_cmp-IsAntisymmetric (low ++ flat_map g (sets.items (set_by vs))) q (to q (names_of vs) (sets.items (set_by vs))
-      (λ n w. in_items nat_list_cmp_total name_same (set_by vs) n (from_in_list nat_list_cmp_total name_same (names_of vs) n w)) (in_list nat_cmp_total nat_cmp-IsAntisymmetric (low ++ flat_map g (names_of vs)) q h)))
-      (λ q h. from_in_list nat_cmp_total nat_cmp-IsAntisymmetric (low ++ flat_map g (names_of vs)) q (to q (sets.items (set_by vs)) (names_of vs)
-      (λ n w. in_list nat_list_cmp_total name_same (names_of vs) n (from_in_items nat_list_cmp_total name_same (set_by vs) n w)) (in_list nat_cmp_total nat_cmp-IsAntisymmetric (low ++ flat_map g (sets.items (set_by vs))) q h)))
+      (λ q h. from_in_list nat_cmp_total nat_cmp-IsAntisymmetric (low ++ flat_map g (sets.items (sets.from_list {R = name_cmp} all))) q (to q all (sets.items (sets.from_list {R = name_cmp} all))
+      (λ n w. in_items nat_list_cmp_total name_same (sets.from_list {R = name_cmp} all) n (from_in_list nat_list_cmp_total name_same all n w)) (in_list nat_cmp_total nat_cmp-IsAntisymmetric (low ++ flat_map g all) q h)))
+      (λ q h. from_in_list nat_cmp_total nat_cmp-IsAntisymmetric (low ++ flat_map g all) q (to q (sets.items (sets.from_list {R = name_cmp} all)) all
+      (λ n w. in_list nat_list_cmp_total name_same all n (from_in_items nat_list_cmp_total name_same (sets.from_list {R = name_cmp} all) n w)) (in_list nat_cmp_total nat_cmp-IsAntisymmetric (low ++ flat_map g (sets.items (sets.from_list {R = name_cmp} all))) q h)))

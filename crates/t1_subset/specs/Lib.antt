@@ -13,7 +13,6 @@ pub mod Marks
 pub mod NameSets
 pub mod Lacking
 pub mod Runs
-pub mod Marked
 pub mod Refusals
 pub mod Merging
 pub mod Headline

@@ -1,6 +1,7 @@
 -- Names that are marked: lists of names without repeats.
 use Rattle.std.specs.Prelude.{ℕ, cond, List, [], ◌∷◌, ◌++◌, map}
 use Rattle.std.specs.Borrow.{Bor}
+use Rattle.std.specs.Coded.{Coded, coded_list, coded_ℕ}
 use Rattle.std.specs.Global.{Vec}
 use Rattle.std.specs.List.{list_any}
 use Rattle.std.specs.FinSet as sets
@@ -25,3 +26,6 @@ push_new ns n = cond (list_any (is_name n) ns) ns (ns ++ n ∷ [])
 abbrev pub push_all : List (List ℕ) → List (List ℕ) → List (List ℕ)
 push_all ns [] = ns
 push_all ns (p ∷ ps) = push_all (push_new ns p) ps
+
+abbrev pub marks_code : Coded (List (List ℕ))
+marks_code = coded_list (coded_list coded_ℕ)

@@ -12,10 +12,10 @@ ghost use Rattle.t1_subset.specs.Marks.{names_of, lent, asked};
 ghost use Rattle.t1_subset.specs.NameSets.{set_by, number_set};
 ghost use Rattle.t1_subset.specs.Refusals.{Absent};
 
-use crate::calls::called_by;
 use crate::fault::SubsetFault;
-use crate::marks::{has_glyph, kept_names};
-use crate::needed::Closure;
+use crate::marks::has_glyph;
+use crate::names::NameSet;
+use crate::needed::{Closure, needed};
 use std::alloc::{AllocError, Global};
 use t1_font::Font;
 
@@ -31,15 +31,27 @@ fn first_absent<'a>(font: &Font, names: &'a [&'a [u8]]) -> Option<&'a [u8]>
     None
 }
 
+/// Copies of names, upwards by their bytes and without repeats.
+fn upwards(alloc: Global, names: &[&[u8]]) -> Result<Vec<Vec<u8>>, AllocError>
+    ensures names { IfOk result (λ vs. set_by vs.items ≡ asked names.now) }
+    ensures upwards { IfOk result (λ vs. IsStrictlySortedBy name_cmp (names_of vs.items)) }
+{
+    let mut copies = NameSet::new(alloc);
+    'names: for name in names {
+        copies.insert(Vec::from_slice(alloc, name)?)?;
+    }
+    copies.into_names(alloc)
+}
+
 /// What these names of the font need of it.
-fn needed(alloc: Global, font: &Font, names: &[&[u8]]) -> Result<Closure, AllocError>
+fn closure_of(alloc: Global, font: &Font, names: &[&[u8]]) -> Result<Closure, AllocError>
     requires { IsOf font.now (asked names.now) }
     ensures names { IfOk result (λ c. set_by c.names.items ≡ keep profile font.now (asked names.now)) }
     ensures upwards { IfOk result (λ c. IsStrictlySortedBy name_cmp (names_of c.names.items)) }
     ensures subrs { IfOk result (λ c. number_set c.subrs ≡ kept profile font.now (asked names.now)) }
 {
-    let names = kept_names(alloc, font, names)?.into_names(alloc)?;
-    let subrs = called_by(alloc, font, names.as_slice())?;
+    let (marks, subrs) = needed(alloc, font, names)?;
+    let names = upwards(alloc, marks.as_slice())?;
     Ok(Closure { names, subrs })
 }
 
@@ -62,7 +74,7 @@ pub fn closure(alloc: Global, font: &Font, names: &[&[u8]]) -> Result<Closure, S
             Err(_) => Err(SubsetFault::Memory),
         };
     }
-    match needed(alloc, font, names) {
+    match closure_of(alloc, font, names) {
         Ok(closure) => Ok(closure),
         Err(_) => Err(SubsetFault::Memory),
     }

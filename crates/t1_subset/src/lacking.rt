@@ -11,8 +11,9 @@ ghost use Rattle.t1_subset.specs.Conflicts.{first_where, smallest, wants, part_c
 ghost use Rattle.t1_subset.specs.Differences.{bytes_of};
 ghost use Rattle.t1_subset.specs.Lacking.{lacks, lacking_among, named_in};
 
-use crate::marks::{has_glyph, parts_of_glyph};
+use crate::marks::has_glyph;
 use crate::names::NameSet;
+use crate::runs::parts_of_glyph;
 use crate::shells::same_bytes;
 use crate::users::smaller;
 use std::alloc::{AllocError, Global};

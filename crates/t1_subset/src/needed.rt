@@ -1,6 +1,19 @@
 //! What a set of names needs of a font.
 
+ghost use Rattle.std.specs.Prelude.{◌≡◌, IfOk};
+ghost use Rattle.std.specs.FinSet as sets;
+ghost use Rattle.t1_subset.specs.Profile.{profile};
+ghost use Rattle.t1_subset.specs.Keep.{keep, kept};
+ghost use Rattle.t1_subset.specs.Laws.{IsOf};
+ghost use Rattle.t1_subset.specs.Marks.{asked};
+ghost use Rattle.t1_subset.specs.NameSets.{number_set};
+
+use crate::calls::{add_all, first_four};
+use crate::marks::{Marks, mark_parts};
+use crate::runs::run_of;
+use std::alloc::{AllocError, Global};
 use std::collections::BTreeSet;
+use t1_font::Font;
 
 /// What a set of glyph names needs of a font: the glyphs that are kept, and the Subrs that are kept as
 /// they are.
@@ -10,4 +23,31 @@ pub struct Closure {
     pub names: Vec<Vec<u8>>,
     /// The indices of the Subrs, 0 to 3 among them, whether the font has them or not.
     pub subrs: BTreeSet<u16>,
+}
+
+/// The names that a set of the font's names keeps, as they are met, and the Subrs that are kept with them.
+///
+/// Each glyph that is kept is run once.
+pub(crate) fn needed<'a>(
+    alloc: Global,
+    font: &Font,
+    names: &[&'a [u8]],
+) -> Result<(Marks<'a>, BTreeSet<u16>), AllocError>
+    requires { IsOf font.now (asked names.now) }
+    ensures names { IfOk result (λ r. sets.from_list r.0 ≡ keep profile font.now (asked names.now)) }
+    ensures subrs { IfOk result (λ r. number_set r.1 ≡ kept profile font.now (asked names.now)) }
+{
+    font.is_font();
+    let mut marks = Marks::new(alloc);
+    marks.mark(b".notdef")?;
+    marks.mark_all(names)?;
+    let mut calls = first_four(alloc)?;
+    let mut place = 0;
+    'marks: while let Some(name) = marks.get(place) {
+        let (parts, more) = run_of(alloc, font, name)?;
+        mark_parts(font, &mut marks, parts.as_slice())?;
+        add_all(&mut calls, &more)?;
+        place += 1;
+    }
+    Ok((marks, calls))
 }

@@ -12,13 +12,50 @@ use crate::names::NameSet;
 use std::alloc::{AllocError, Global};
 use std::collections::BTreeSet;
 use t1_font::Font;
-use t1_run::{Glyphs, direct_and_executed, parts_of};
+use t1_run::{Glyphs, direct, direct_and_executed, parts_of};
 
 /// The Subrs that the glyphs of a font execute, and the parts that they name.
 #[derive(Drop)]
 pub(crate) struct Runs {
     pub(crate) calls: BTreeSet<u16>,
     pub(crate) parts: NameSet,
+}
+
+/// What the run of a glyph comes to: the parts that it names, and the Subrs that it executes.
+pub(crate) fn run_of(
+    alloc: Global,
+    font: &Font,
+    name: &[u8],
+) -> Result<(Vec<&'static str>, BTreeSet<u16>), AllocError>
+    ensures parts { IfOk result (λ r. map (λ s. s.now) r.0.items ≡ parts profile font.now.subrs (charstring font.now name.now)) }
+    ensures calls { IfOk result (λ r. number_set r.1 ≡ profile.exec font.now.subrs (charstring font.now name.now)) }
+{
+    font.is_font();
+    match font.glyph(name) {
+        Some(charstring) => {
+            let (outcome, calls) = direct_and_executed(alloc, font, charstring)?;
+            Ok((parts_of(alloc, &outcome)?, calls))
+        }
+        None => Ok((Vec::new(alloc), BTreeSet::new(alloc))),
+    }
+}
+
+/// The parts that a glyph of the font names.
+pub(crate) fn parts_of_glyph(
+    alloc: Global,
+    font: &Font,
+    name: &[u8],
+) -> Result<Vec<&'static str>, AllocError>
+    ensures { IfOk result (λ ps. map (λ s. s.now) ps.items ≡ parts profile font.now.subrs (charstring font.now name.now)) }
+{
+    font.is_font();
+    match font.glyph(name) {
+        Some(charstring) => {
+            let outcome = direct(alloc, font, charstring)?;
+            parts_of(alloc, &outcome)
+        }
+        None => Ok(Vec::new(alloc)),
+    }
 }
 
 /// Adds the names of parts.
@@ -36,13 +73,9 @@ fn add_run(alloc: Global, font: &Font, runs: &mut Runs, name: &[u8]) -> Result<(
     ensures calls { OnOk result (number_set runs.new.calls ≡ sets.union (number_set runs.old.calls) (profile.exec font.now.subrs (charstring font.now name.now))) }
     ensures parts { OnOk result (runs.new.parts ≡ sets.union runs.old.parts (sets.from_list (parts profile font.now.subrs (charstring font.now name.now)))) }
 {
-    font.is_font();
-    if let Some(charstring) = font.glyph(name) {
-        let (outcome, calls) = direct_and_executed(alloc, font, charstring)?;
-        add_all(&mut runs.calls, &calls)?;
-        let more = parts_of(alloc, &outcome)?;
-        add_parts(alloc, &mut runs.parts, more.as_slice())?;
-    }
+    let (parts, calls) = run_of(alloc, font, name)?;
+    add_all(&mut runs.calls, &calls)?;
+    add_parts(alloc, &mut runs.parts, parts.as_slice())?;
     Ok(())
 }
 

@@ -3,5 +3,5 @@ use Rattle.t1_subset.specs.Marks.{lent}
 use Rattle.t1_subset.proofs.Absent.{none_absent}
 use Rattle.t1_subset.proofs.closures.closure.Goals as goal
 
-pub needed-requires : goal.needed-requires
-needed-requires c = none_absent c.args.font.now (lent c.args.names.now) (sym c.in_default.ensures)
+pub closure_of-requires : goal.closure_of-requires
+closure_of-requires c = none_absent c.args.font.now (lent c.args.names.now) (sym c.in_default.ensures)

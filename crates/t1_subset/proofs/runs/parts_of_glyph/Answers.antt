@@ -1,7 +1,7 @@
 use Rattle.std.proofs.Common.{◌≡◌, List, ℕ, map, Vec, Bor, Global, IfOk, subst, ◌∙◌, ap, sym}
 use Rattle.t1_run.specs.Drawings.{parts_of}
 use Rattle.t1_subset.proofs.ProfileRuns.{parts_are, no_parts}
-use Rattle.t1_subset.proofs.marks.parts_of_glyph.Goals as goal
+use Rattle.t1_subset.proofs.runs.parts_of_glyph.Goals as goal
 
 pub returns-in_ok-outcome-in-Some : goal.returns-in_ok-outcome-in-Some
 returns-in_ok-outcome-in-Some c =
