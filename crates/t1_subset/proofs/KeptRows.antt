@@ -134,10 +134,10 @@ module _ (e : Encoding) (ss : List (ℕ × List ℕ)) (es : List (List ℕ × Li
       let items : List (List ℕ) = sets.items (sets.from_list {R = name_cmp} l) in
       sets.contains-from_list nat_cmp_total (0 ∷ 1 ∷ 2 ∷ 3 ∷ flat_map at items) i
       ∙ ap (λ b. eq_by_cmp nat_cmp i 0 || (eq_by_cmp nat_cmp i 1 || (eq_by_cmp nat_cmp i 2 || (eq_by_cmp nat_cmp i 3 || b))))
-          (flat_items nat_cmp_total nat_cmp-IsAntisymmetric at i items
-          ∙ (any_items nat_list_cmp_total name_same (λ n. list_any (eq_by_cmp nat_cmp i) (at n)) l
-          ∙ ((λ d. list_any (λ n. (any_items nat_cmp_total nat_cmp-IsAntisymmetric (eq_by_cmp nat_cmp i) (charstring (font_of e ss es) n) ∙ ap (list_any (eq_by_cmp nat_cmp i)) (charstring_listed n)) d) l)
-          ∙ sym (flat_items nat_cmp_total nat_cmp-IsAntisymmetric (λ n. unwrap_or (at_name es n) []) i l))))
+      (flat_items nat_cmp_total nat_cmp-IsAntisymmetric at i items
+      ∙ (any_items nat_list_cmp_total name_same (λ n. list_any (eq_by_cmp nat_cmp i) (at n)) l
+      ∙ ((λ d. list_any (λ n. (any_items nat_cmp_total nat_cmp-IsAntisymmetric (eq_by_cmp nat_cmp i) (charstring (font_of e ss es) n) ∙ ap (list_any (eq_by_cmp nat_cmp i)) (charstring_listed n)) d) l)
+      ∙ sym (flat_items nat_cmp_total nat_cmp-IsAntisymmetric (λ n. unwrap_or (at_name es n) []) i l))))
       ∙ sym (sets.contains-from_list nat_cmp_total (calls_listed l) i))
 
 -- ---- rows

@@ -285,5 +285,5 @@ codes_of_V = (64, codes "V") ∷ (66, codes "V") ∷ []
 code_66_differs : conflict spelled (font_of (table codes_of_A) subrs glyphs) (font_of (table codes_of_V) subrs glyphs) ≡ Some (CodeDiffers 66)
 code_66_differs = lowest (font_of (table codes_of_A) subrs glyphs) (font_of (table codes_of_V) subrs glyphs) (CodeDiffers 66)
     (conflicts_are (table codes_of_A) (table codes_of_V) subrs subrs glyphs glyphs tt tt tt tt None (Some 66) (shells_same (table codes_of_A) (table codes_of_V) subrs subrs glyphs glyphs tt tt tt tt refl refl)
-        ((λ d. first_where (λ c. not (agrees (maps.get-from_sorted nat_cmp codes_of_A c tt d) (maps.get-from_sorted nat_cmp codes_of_V c tt d))) (keys_are nat_cmp_total nat_cmp-IsAntisymmetric codes_of_A codes_of_V tt tt d)) ∙ refl)
+    ((λ d. first_where (λ c. not (agrees (maps.get-from_sorted nat_cmp codes_of_A c tt d) (maps.get-from_sorted nat_cmp codes_of_V c tt d))) (keys_are nat_cmp_total nat_cmp-IsAntisymmetric codes_of_A codes_of_V tt tt d)) ∙ refl)
     ∙ refl)

@@ -14,17 +14,19 @@ fn refusal(alloc: Global, left: &Font, right: &Font) -> Option<Conflict> {
     }
 }
 
+/// Why two fonts don't merge, where both orders say the same.
+fn refusal_of_both(alloc: Global, left: &Font, right: &Font) -> Option<Conflict> {
+    let one = refusal(alloc, left, right);
+    let other = refusal(alloc, right, left);
+    if one == other { one } else { None }
+}
+
 /// Why the fonts of two files don't merge, where both orders say the same.
 fn conflict(alloc: Global, left: &[u8], right: &[u8]) -> Option<Conflict> {
     let (Ok(left), Ok(right)) = (read(alloc, left), read(alloc, right)) else {
         return None;
     };
-    let one = refusal(alloc, &left, &right);
-    if one == refusal(alloc, &right, &left) {
-        one
-    } else {
-        None
-    }
+    refusal_of_both(alloc, &left, &right)
 }
 
 /// The canonical PFB of what the fonts of two files come to, where they merge.
