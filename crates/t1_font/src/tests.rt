@@ -1,13 +1,16 @@
-//! Font files from outside: each fault, the borders of the grammar, and the font Tiny.
+//! Font files from outside: each fault, the borders of the grammar, and the font Tiny; and what cuts and joins of fonts
+//! answer with ample memory.
 
 mod again;
+mod cuts;
 mod edges;
 mod faults;
 mod long;
+mod prefixes;
 mod rows;
 mod tiny;
 
-use crate::{Font, ReadFault, read};
+use crate::{Font, Form, ReadFault, read, write};
 use std::alloc::{AllocError, Global};
 use t1_bytes::{EEXEC_KEY, EEXEC_LEAD, seal};
 
@@ -41,6 +44,21 @@ fn font(alloc: Global, clear: &[u8], private: &[u8]) -> Result<Font, ReadFault> 
         Ok(file) => read(alloc, file.as_slice()),
         Err(_) => Err(ReadFault::Memory),
     }
+}
+
+/// The canonical file of a file's font.
+fn rewritten(alloc: Global, file: &[u8], form: Form) -> Result<Vec<u8>, ReadFault> {
+    let font = read(alloc, file)?;
+    match write(alloc, &font, form) {
+        Ok(file) => Ok(file),
+        Err(_) => Err(ReadFault::Memory),
+    }
+}
+
+/// How many glyphs a file's font has, and its weight.
+fn counts(alloc: Global, file: &[u8]) -> Result<(usize, u32), ReadFault> {
+    let font = read(alloc, file)?;
+    Ok((font.names().count(), font.weight()))
 }
 
 /// Why such a file spells no font; `None` where it spells one.

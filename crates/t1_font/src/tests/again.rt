@@ -2,8 +2,8 @@
 
 use super::rows::{private, with};
 use super::tiny::PFA;
-use super::{CLEAR, GLYPHS, file, joined};
-use crate::{Font, Form, Part, ReadFault, read, write};
+use super::{CLEAR, GLYPHS, counts, file, joined, rewritten};
+use crate::{Form, Part, ReadFault, read};
 use bstr::ByteSlice;
 use std::alloc::{AllocError, Global};
 use std::test::Fail;
@@ -33,10 +33,12 @@ fn other_words(alloc: Global) -> Result<Vec<u8>, AllocError> {
     joined(alloc, np.as_slice(), b"closefile\n")
 }
 
-/// The private text of a font as PFB.
-fn written(alloc: Global, font: &Font) -> Result<Vec<u8>, AllocError> {
-    let file = write(alloc, font, Form::Pfa)?;
-    let Ok((_, mut cipher)) = split_eexec(alloc, file.as_slice()) else {
+/// The private text of what a file's font is written as.
+fn written(alloc: Global, file: &[u8]) -> Result<Vec<u8>, AllocError> {
+    let Ok(pfa) = rewritten(alloc, file, Form::Pfa) else {
+        return Err(AllocError);
+    };
+    let Ok((_, mut cipher)) = split_eexec(alloc, pfa.as_slice()) else {
         return Err(AllocError);
     };
     if cipher.len() < 4 {
@@ -45,32 +47,33 @@ fn written(alloc: Global, font: &Font) -> Result<Vec<u8>, AllocError> {
     Vec::from_slice(alloc, open(cipher.as_mut_slice(), EEXEC_KEY, EEXEC_LEAD))
 }
 
+/// The kept words of a file's font, each with a blank: those around the bytes of a Subr, after the last Subr, and those
+/// around the bytes of a glyph.
+fn words(alloc: Global, file: &[u8]) -> Result<Vec<u8>, AllocError> {
+    let Ok(font) = read(alloc, file) else {
+        return Err(AllocError);
+    };
+    let mut words = Vec::new(alloc);
+    for part in [
+        Part::SubrsRd,
+        Part::SubrsPut,
+        Part::SubrsDef,
+        Part::GlyphsRd,
+        Part::GlyphsDef,
+    ] {
+        words.extend_from_slice(font.text(part))?;
+        words.push(b' ')?;
+    }
+    Ok(words)
+}
+
 #[test]
 fn other_words_are_kept(rt: HostRuntime) -> Result<(), Fail> {
     let text = other_words(rt.alloc())?;
     let file = file(rt.alloc(), &PFA[..313], text.as_slice())?;
-    let Ok(font) = read(rt.alloc(), file.as_slice()) else {
-        assert!(rt; false, "refused");
-        return Ok(());
-    };
-    assert_eq!(rt;
-        font.text(Part::SubrsRd),
-        b"-|".as_slice(),
-        "before the bytes of a Subr"
-    );
-    assert_eq!(rt; font.text(Part::SubrsPut), b"|".as_slice(), "after them");
-    assert_eq!(rt;
-        font.text(Part::SubrsDef),
-        b"|-".as_slice(),
-        "after the last"
-    );
-    assert_eq!(rt;
-        font.text(Part::GlyphsRd),
-        b"-|".as_slice(),
-        "before the bytes of a glyph"
-    );
-    assert_eq!(rt; font.text(Part::GlyphsDef), b"|-".as_slice(), "after them");
-    let again = written(rt.alloc(), &font)?;
+    let words = words(rt.alloc(), file.as_slice())?;
+    assert_eq!(rt; words.as_slice(), b"-| | |- -| |- ".as_slice());
+    let again = written(rt.alloc(), file.as_slice())?;
     assert!(rt;
         again.as_slice().starts_with(text.as_slice()),
         "the words are written again"
@@ -78,28 +81,17 @@ fn other_words_are_kept(rt: HostRuntime) -> Result<(), Fail> {
     Ok(())
 }
 
-/// The lengths of a font's two files and of what is read of them again.
+/// Whether a font's two files are written again in either form from each other, and its weight.
 fn twice(alloc: Global, clear: &[u8], private: &[u8]) -> Result<(bool, u32), ReadFault> {
     let Ok(file) = file(alloc, clear, private) else {
         return Err(ReadFault::Memory);
     };
-    let font = read(alloc, file.as_slice())?;
-    let (Ok(pfa), Ok(pfb)) = (
-        write(alloc, &font, Form::Pfa),
-        write(alloc, &font, Form::Pfb),
-    ) else {
-        return Err(ReadFault::Memory);
-    };
-    let one = read(alloc, pfa.as_slice())?;
-    let other = read(alloc, pfb.as_slice())?;
-    let (Ok(first), Ok(second)) = (
-        write(alloc, &one, Form::Pfb),
-        write(alloc, &other, Form::Pfa),
-    ) else {
-        return Err(ReadFault::Memory);
-    };
+    let pfa = rewritten(alloc, file.as_slice(), Form::Pfa)?;
+    let pfb = rewritten(alloc, file.as_slice(), Form::Pfb)?;
+    let first = rewritten(alloc, pfa.as_slice(), Form::Pfb)?;
+    let second = rewritten(alloc, pfb.as_slice(), Form::Pfa)?;
     let same = first.as_slice() == pfb.as_slice() && second.as_slice() == pfa.as_slice();
-    Ok((same, font.weight()))
+    Ok((same, counts(alloc, file.as_slice())?.1))
 }
 
 #[test]

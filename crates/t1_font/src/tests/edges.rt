@@ -1,7 +1,8 @@
 //! The borders of the grammar: what still reads, and what it reads as.
 
-use super::{CLEAR, GLYPHS, fault, font, joined};
-use crate::{Form, ReadFault, write};
+use super::{CLEAR, GLYPHS, counts, fault, file, font, joined, rewritten};
+use crate::{Font, Form, ReadFault};
+use std::alloc::Global;
 use std::test::Fail;
 use t1_run::Subroutines;
 
@@ -114,35 +115,59 @@ fn codes_at_their_limits(rt: HostRuntime) -> Result<(), Fail> {
     Ok(())
 }
 
+/// What a font says of codes 65 and 66: whether the first has no name, and the second the name Y; and whether it has a
+/// table.
+fn codes(font: &Font) -> (bool, bool, bool) {
+    (
+        font.encoding_at(65).is_none(),
+        font.encoding_at(66) == Some(b"Y".as_slice()),
+        font.encoding_word().is_none(),
+    )
+}
+
+/// What a font says of its Subrs: whether there is a table, how many are declared, and whether 0 and 2 are present.
+fn subrs(font: &Font) -> (bool, u16, bool, bool) {
+    (
+        font.has_subrs(),
+        font.count(),
+        font.present(0),
+        font.present(2),
+    )
+}
+
+/// What fonts of these texts say of their codes and Subrs, with lenIV.
+fn said(
+    alloc: Global,
+    clear: &[u8],
+    private: &[u8],
+) -> Option<((bool, bool, bool), (bool, u16, bool, bool), u8)> {
+    match font(alloc, clear, private) {
+        Ok(font) => Some((codes(&font), subrs(&font), font.len_iv())),
+        Err(_) => None,
+    }
+}
+
 #[test]
 fn last_entries_and_first_words(rt: HostRuntime) -> Result<(), Fail> {
     let clear =
         b"%!\n/Encoding 256 array dup 65/X put dup 66/Y put dup 65/.notdef put def currentfile eexec ";
     let private =
         b"/lenIV 0 def /lenIV 9 def /Subrs 3 array dup 2 1 a \x01 b dup 2 1 c \x0b d ND\nx /CharStrings 9 dict dup begin /.notdef 1 e \x01 f /.notdef 1 g \x02 end\nend closefileclosefile/Subrs 0 array ";
-    let Ok(font) = font(rt.alloc(), clear, private) else {
-        assert!(rt; false, "the font is refused");
-        return Ok(());
-    };
     assert_eq!(rt;
-        font.encoding_at(65),
-        None,
-        "a later .notdef takes a code away"
+        said(rt.alloc(), clear, private),
+        Some(((true, true, true), (true, 3, false, true), 0)),
+        "a later .notdef takes a code away, the first lenIV counts, a gap stays"
     );
+    let file = file(rt.alloc(), clear, private)?;
     assert_eq!(rt;
-        font.encoding_at(66),
-        Some(b"Y".as_slice()),
-        "the other code stays"
+        counts(rt.alloc(), file.as_slice()),
+        Ok((1, 446)),
+        "one name, and one Subr"
     );
-    assert_eq!(rt; font.encoding_word(), None, "a table");
-    assert_eq!(rt;
-        (font.has_subrs(), font.len_iv(), font.count(), font.weight()),
-        (true, 0, 3, 446),
-        "the counts"
+    let again = rewritten(rt.alloc(), file.as_slice(), Form::Pfb);
+    assert!(rt;
+        again.is_ok_and(|pfb| pfb.as_slice().starts_with(b"\x80\x01")),
+        "a PFB"
     );
-    assert_eq!(rt; (font.present(0), font.present(2)), (false, true), "a gap");
-    assert_eq!(rt; font.names().count(), 1, "one name");
-    let again = write(rt.alloc(), &font, Form::Pfb)?;
-    assert!(rt; again.as_slice().starts_with(b"\x80\x01"), "a PFB");
     Ok(())
 }

@@ -1,12 +1,13 @@
 //! The font Tiny: its two files, and changed files.
 
 use super::tiny::{PFA, PFB};
-use super::{fault, file, joined};
-use crate::{Font, Form, ReadFault, read, write};
+use super::{counts, fault, file, joined, rewritten};
+use crate::{Form, ReadFault, read};
 use bstr::ByteSlice;
 use std::alloc::{AllocError, Global};
 use std::test::Fail;
 use t1_bytes::{CHARSTRING_KEY, EEXEC_KEY, EEXEC_LEAD, open, seal, split_eexec};
+use t1_run::Glyphs;
 
 /// The private text of Tiny.
 pub fn private(alloc: Global) -> Result<Vec<u8>, AllocError> {
@@ -31,13 +32,10 @@ pub fn with(alloc: Global, text: &[u8], old: &[u8], new: &[u8]) -> Result<Vec<u8
     Ok(changed)
 }
 
-/// Whether a font is written as Tiny's PFA.
-fn is_tiny(alloc: Global, font: Result<Font, ReadFault>) -> bool {
-    match font {
-        Ok(font) => match write(alloc, &font, Form::Pfa) {
-            Ok(file) => file.as_slice() == PFA.as_slice(),
-            Err(_) => false,
-        },
+/// Whether a file's font is written as Tiny's PFA.
+fn is_tiny(alloc: Global, file: &[u8]) -> bool {
+    match rewritten(alloc, file, Form::Pfa) {
+        Ok(file) => file.as_slice() == PFA.as_slice(),
         Err(_) => false,
     }
 }
@@ -45,20 +43,22 @@ fn is_tiny(alloc: Global, font: Result<Font, ReadFault>) -> bool {
 #[test]
 fn tiny_is_written_again(rt: HostRuntime) -> Result<(), Fail> {
     for (name, file) in [("PFA", PFA.as_slice()), ("PFB", PFB.as_slice())] {
+        assert!(rt; is_tiny(rt.alloc(), file), "the {name} as PFA");
+        let pfb = rewritten(rt.alloc(), file, Form::Pfb);
         assert!(rt;
-            is_tiny(rt.alloc(), read(rt.alloc(), file)),
-            "the {name} as PFA"
+            pfb.is_ok_and(|pfb| pfb.as_slice() == PFB.as_slice()),
+            "the {name} as PFB"
         );
-        if let Ok(font) = read(rt.alloc(), file) {
-            let pfb = write(rt.alloc(), &font, Form::Pfb)?;
-            assert_eq!(rt; pfb.as_slice(), PFB.as_slice(), "the {name} as PFB");
-            assert_eq!(rt;
-                (font.names().count(), font.weight()),
-                (11, 4936),
-                "glyphs and weight of the {name}"
-            );
-        }
+        assert_eq!(rt;
+            counts(rt.alloc(), file),
+            Ok((11, 4936)),
+            "glyphs and weight of the {name}"
+        );
     }
+    assert!(rt;
+        is_tiny(rt.alloc(), &PFB[..1333]),
+        "a PFB that ends after its cipher"
+    );
     let mut upper = Vec::from_slice(rt.alloc(), PFA)?;
     for byte in &mut upper.as_mut_slice()[313..2357] {
         *byte = if *byte == b'\n' {
@@ -68,7 +68,7 @@ fn tiny_is_written_again(rt: HostRuntime) -> Result<(), Fail> {
         };
     }
     assert!(rt;
-        is_tiny(rt.alloc(), read(rt.alloc(), upper.as_slice())),
+        is_tiny(rt.alloc(), upper.as_slice()),
         "digits in upper case, lines that end in CR"
     );
     Ok(())
@@ -77,7 +77,7 @@ fn tiny_is_written_again(rt: HostRuntime) -> Result<(), Fail> {
 #[test]
 fn changed_private_texts(rt: HostRuntime) -> Result<(), Fail> {
     let text = private(rt.alloc())?;
-    let rows: [(&[u8], &[u8], Option<ReadFault>); 9] = [
+    let rows: [(&[u8], &[u8], Option<ReadFault>); 10] = [
         (
             b"dup 0 15 RD ",
             b"dup 0 3 RD ",
@@ -105,6 +105,11 @@ fn changed_private_texts(rt: HostRuntime) -> Result<(), Fail> {
             Some(ReadFault::BadLenIV),
         ),
         (
+            b"dup 9 7 RD ",
+            b"dup 9 65535 RD ",
+            Some(ReadFault::BadSubrs { at: 482 }),
+        ),
+        (
             b"2 index",
             b"/Subrs 0 array ND 2 index",
             Some(ReadFault::Hybrid),
@@ -128,7 +133,7 @@ fn changed_private_texts(rt: HostRuntime) -> Result<(), Fail> {
     )?;
     let other = file(rt.alloc(), &PFA[..313], counted.as_slice())?;
     assert!(rt;
-        is_tiny(rt.alloc(), read(rt.alloc(), other.as_slice())),
+        is_tiny(rt.alloc(), other.as_slice()),
         "another size of the dictionary"
     );
     Ok(())
@@ -143,11 +148,16 @@ fn changed_clear_texts(rt: HostRuntime) -> Result<(), Fail> {
         "code 256"
     );
     let octal = with(rt.alloc(), PFA, b"dup 65 /X put", b"dup 8#101 /X put")?;
-    assert!(rt;
-        is_tiny(rt.alloc(), read(rt.alloc(), octal.as_slice())),
-        "octal 101"
-    );
+    assert!(rt; is_tiny(rt.alloc(), octal.as_slice()), "octal 101");
     Ok(())
+}
+
+/// Whether a file's font has a glyph with these bytes.
+fn has_glyph(alloc: Global, file: &[u8], name: &[u8], plain: &[u8]) -> bool {
+    match read(alloc, file) {
+        Ok(font) => font.glyph(name) == Some(plain),
+        Err(_) => false,
+    }
 }
 
 #[test]
@@ -168,10 +178,10 @@ fn a_second_glyph_of_a_name(rt: HostRuntime) -> Result<(), Fail> {
         entry.as_slice(),
     )?;
     let file = file(rt.alloc(), &PFA[..313], changed.as_slice())?;
-    let counts = match read(rt.alloc(), file.as_slice()) {
-        Ok(font) => Some((font.names().count(), font.weight())),
-        Err(_) => None,
-    };
-    assert_eq!(rt; counts, Some((11, 4933)), "X has the bytes of Y");
+    assert_eq!(rt; counts(rt.alloc(), file.as_slice()), Ok((11, 4933)));
+    assert!(rt;
+        has_glyph(rt.alloc(), file.as_slice(), b"X", &y),
+        "X has the bytes of Y"
+    );
     Ok(())
 }

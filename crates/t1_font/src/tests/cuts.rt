@@ -1,0 +1,309 @@
+//! Cuts of fonts, and the fonts of the entries of two, with ample memory.
+
+ghost use Rattle.std.specs.Prelude.{◌≡◌, ℕ, Bool, true, List, IfOk};
+ghost use Rattle.std.specs.FinMap as fin;
+ghost use Rattle.std.specs.FinSet as sets;
+ghost use Rattle.t1_bytes.specs.declared.form.Form.TheVariants.{Pfb};
+ghost use Rattle.t1_font.specs.FontValue.{notdef};
+ghost use Rattle.t1_font.specs.Cut.{set_of_names, restrict};
+ghost use Rattle.t1_font.specs.Canon.{canon};
+ghost use Rattle.t1_font.specs.IsFont.{IsFont};
+
+use super::file;
+use super::rows::with;
+use super::tiny::{PFA, PFB};
+use crate::{Font, Form, PartsFault, STUB, join_parts, read, restrict, write};
+use std::alloc::{AllocError, Global};
+use std::collections::BTreeSet;
+use std::ops::Range;
+use std::test::Fail;
+use t1_run::{Glyphs, Subroutines};
+
+/// `.notdef`, and those of these names that the font has.
+fn known(alloc: Global, font: &Font, names: &[&[u8]]) -> Result<Vec<Vec<u8>>, AllocError>
+    ensures known { IfOk result (λ v. (n : List ℕ) → sets.contains (set_of_names v.items) n ≡ true → fin.contains_key font.now.glyphs n ≡ true) }
+    ensures notdef { IfOk result (λ v. sets.contains (set_of_names v.items) notdef ≡ true) }
+{
+    font.is_font();
+    let mut known = Vec::new(alloc);
+    known.push(Vec::from_slice(alloc, b".notdef")?)?;
+    'names: for name in names {
+        if font.glyph(name).is_some() {
+            known.push(Vec::from_slice(alloc, name)?)?;
+        }
+    }
+    Ok(known)
+}
+
+/// The set of these indices.
+fn set_of(alloc: Global, indices: &[u16]) -> Result<BTreeSet<u16>, AllocError> {
+    let mut set = BTreeSet::new(alloc);
+    for index in indices {
+        set.insert(*index)?;
+    }
+    Ok(set)
+}
+
+/// The canonical PFB of a font that is cut to `.notdef`, to those of the names that it has, and to these Subrs.
+fn cut(alloc: Global, font: &Font, names: &[&[u8]], subrs: &[u16]) -> Result<Vec<u8>, AllocError>
+    ensures { IfOk result (λ v. (p : List ℕ → Bool) × ((s : ℕ → Bool) × (IsFont (restrict p s font.now) × (v.items ≡ canon (restrict p s font.now) Pfb)))) }
+{
+    let names = known(alloc, font, names)?;
+    let subrs = set_of(alloc, subrs)?;
+    let cut = restrict(alloc, font, names.as_slice(), &subrs)?;
+    cut.is_font();
+    write(alloc, &cut, Form::Pfb)
+}
+
+/// The canonical PFB of the font of the entries of both. Cut to `.notdef` alone both have to be one font, so that
+/// nothing but the entries of their tables tells them apart.
+fn both(alloc: Global, first: &Font, second: &Font) -> Result<Vec<u8>, PartsFault> {
+    let one = cut(alloc, first, &[], &[])?;
+    let other = cut(alloc, second, &[], &[])?;
+    if one.as_slice() != other.as_slice() {
+        return Err(PartsFault::Memory);
+    }
+    let joined = join_parts(alloc, first, second)?;
+    Ok(write(alloc, &joined, Form::Pfb)?)
+}
+
+/// The same, of the fonts of two files.
+fn joined(alloc: Global, first: &[u8], second: &[u8]) -> Result<Vec<u8>, PartsFault> {
+    let (Ok(first), Ok(second)) = (read(alloc, first), read(alloc, second)) else {
+        return Err(PartsFault::Memory);
+    };
+    both(alloc, &first, &second)
+}
+
+/// The canonical PFB of Tiny, cut to `.notdef`, to these names and to these Subrs.
+fn tiny_cut(alloc: Global, names: &[&[u8]], subrs: &[u16]) -> Result<Vec<u8>, AllocError> {
+    let Ok(font) = read(alloc, PFA) else {
+        return Err(AllocError);
+    };
+    cut(alloc, &font, names, subrs)
+}
+
+/// The names of a font's glyphs, each with a blank.
+fn names_text(alloc: Global, font: &Font) -> Result<Vec<u8>, AllocError> {
+    let mut text = Vec::new(alloc);
+    for name in font.names() {
+        text.extend_from_slice(name)?;
+        text.push(b' ')?;
+    }
+    Ok(text)
+}
+
+/// The digits of a font's ten Subrs, with a dash for one that is `return`.
+fn subrs_text(alloc: Global, font: &Font) -> Result<Vec<u8>, AllocError> {
+    let mut text = Vec::new(alloc);
+    for index in 0..10u8 {
+        let is_stub = font.get(u16::from(index)) == Some(STUB);
+        text.push(if is_stub { b'-' } else { b'0' + index })?;
+    }
+    Ok(text)
+}
+
+/// The names and the Subrs of a file's font as a text, its weight, and the length of its PFA.
+fn shown(alloc: Global, file: &[u8]) -> Result<(Vec<u8>, u32, usize), AllocError> {
+    let Ok(font) = read(alloc, file) else {
+        return Err(AllocError);
+    };
+    let mut text = names_text(alloc, &font)?;
+    text.extend_from_slice(subrs_text(alloc, &font)?.as_slice())?;
+    let pfa = write(alloc, &font, Form::Pfa)?;
+    Ok((text, font.weight(), pfa.len()))
+}
+
+/// Names and Subrs; what Tiny cut to them shows, its weight, and the length of its PFA. Subr 3 of Tiny is `return`
+/// itself, Subr 8 has no bytes, and Tiny has no Subr 12.
+const CUTS: [(&[&[u8]], &[u16], &[u8], u32, usize); 5] = [
+    (&[], &[], b".notdef ----------", 2149, 2102),
+    (&[], &[0, 1, 2, 3], b".notdef 012-------", 2167, 2141),
+    (
+        &[b"X"],
+        &[12, 5, 3, 2, 1, 0],
+        b".notdef X 012--5----",
+        2444,
+        2224,
+    ),
+    (
+        &[b"Y", b"X", b"Y"],
+        &[0, 1, 2, 3, 5, 6],
+        b".notdef X Y 012--56---",
+        2718,
+        2301,
+    ),
+    (
+        &[
+            b"acute", b"Y", b"X", b"N", b"L", b"H", b"F", b"B", b"Aacute", b"A", b".notdef",
+        ],
+        &[0, 1, 2, 3, 4, 5, 6, 7, 8, 9],
+        b".notdef A Aacute B F H L N X Y acute 012-456789",
+        4936,
+        2893,
+    ),
+];
+
+#[test]
+fn cuts_of_tiny(rt: HostRuntime) -> Result<(), Fail> {
+    for (names, subrs, text, weight, length) in CUTS {
+        let file = tiny_cut(rt.alloc(), names, subrs)?;
+        let (entries, weighs, pfa) = shown(rt.alloc(), file.as_slice())?;
+        assert_eq!(rt; entries.as_slice(), text);
+        assert_eq!(rt; (weighs, pfa), (weight, length), "{text:?}");
+    }
+    Ok(())
+}
+
+#[test]
+fn joins_of_tiny(rt: HostRuntime) -> Result<(), Fail> {
+    let x = tiny_cut(rt.alloc(), &[b"X"], &[0, 1, 2, 3, 5])?;
+    let y = tiny_cut(rt.alloc(), &[b"Y"], &[0, 1, 2, 3, 5, 6])?;
+    let both = tiny_cut(rt.alloc(), &[b"X", b"Y"], &[0, 1, 2, 3, 5, 6])?;
+    let other = with(rt.alloc(), PFB, b"dup 66 /Y put", b"dup 66 /A put")?;
+    let rows: [(&[u8], &[u8], &[u8], &str); 5] = [
+        (&x, &y, &both, "two cuts"),
+        (&y, &x, &both, "in the other order"),
+        (PFB, &x, PFB, "a font and its cut"),
+        (PFB, &other, PFB, "two names of a code"),
+        (&other, PFB, &other, "the first stands"),
+    ];
+    for (first, second, want, what) in rows {
+        let got = joined(rt.alloc(), first, second)?;
+        assert!(rt; got.as_slice() == want, "{what}");
+    }
+    Ok(())
+}
+
+/// A font with a head of so many blanks, `.notdef` and a glyph.
+fn headed(alloc: Global, head: usize, glyph: &[u8]) -> Result<Vec<u8>, AllocError> {
+    let mut clear = Vec::new(alloc);
+    clear.resize(head, b' ')?;
+    clear.extend_from_slice(b"/Encoding StandardEncoding def\ncurrentfile eexec\n")?;
+    let mut private = Vec::from_slice(alloc, b"/lenIV 0 def /CharStrings 2 dict dup begin\n")?;
+    private.extend_from_slice(b"/.notdef 1 RD x ND\n")?;
+    private.extend_from_slice(glyph)?;
+    private.extend_from_slice(b" 1 RD x ND\nend\nmark currentfile closefile\n")?;
+    file(alloc, clear.as_slice(), private.as_slice())
+}
+
+#[test]
+fn joins_at_the_limit_of_weight(rt: HostRuntime) -> Result<(), Fail> {
+    // The clear tail has 18 bytes and the private texts 13 and 27; each of the three glyphs weighs 257.
+    for (head, want) in [
+        (16_776_387usize, None),
+        (16_776_388, Some(PartsFault::Limit)),
+    ] {
+        let x = headed(rt.alloc(), head, b"/X")?;
+        let y = headed(rt.alloc(), head, b"/Y")?;
+        assert_eq!(rt;
+            joined(rt.alloc(), x.as_slice(), y.as_slice()).err(),
+            want,
+            "a head of {head} bytes"
+        );
+    }
+    Ok(())
+}
+
+/// Adds a line for each number: what stands before its digits, and what stands after them.
+fn add_lines(
+    alloc: Global,
+    text: &mut Vec<u8>,
+    numbers: Range<u32>,
+    before: &[u8],
+    after: &[u8],
+) -> Result<(), AllocError> {
+    for number in numbers {
+        text.extend_from_slice(before)?;
+        text.extend_from_slice(number.to_string(alloc)?.as_bytes())?;
+        text.extend_from_slice(after)?;
+    }
+    Ok(())
+}
+
+/// A clear text in which each code has a name, its digits.
+fn coded(alloc: Global) -> Result<Vec<u8>, AllocError> {
+    let mut text = Vec::from_slice(alloc, b"%!\n/Encoding 256 array ")?;
+    for code in 0..256u32 {
+        let digits = code.to_string(alloc)?;
+        text.extend_from_slice(b"dup ")?;
+        text.extend_from_slice(digits.as_bytes())?;
+        text.extend_from_slice(b"/")?;
+        text.extend_from_slice(digits.as_bytes())?;
+        text.extend_from_slice(b" put ")?;
+    }
+    text.extend_from_slice(b"def\ncurrentfile eexec\n")?;
+    Ok(text)
+}
+
+/// A font of 256 codes, 2,000 Subrs of two bytes, and 4,001 glyphs of one byte: `.notdef`, and those of the names `0` to
+/// `3999`.
+fn large(alloc: Global) -> Result<Vec<u8>, AllocError> {
+    let clear = coded(alloc)?;
+    let mut private = Vec::from_slice(alloc, b"/lenIV 0 def /Subrs 2000 array\n")?;
+    add_lines(alloc, &mut private, 0..2000, b"dup ", b" 2 RD ab NP\n")?;
+    private.extend_from_slice(b"ND\n/CharStrings 4001 dict dup begin\n/.notdef 1 RD x ND\n")?;
+    add_lines(alloc, &mut private, 0..4000, b"/", b" 1 RD x ND\n")?;
+    private.extend_from_slice(b"end\nmark currentfile closefile\n")?;
+    file(alloc, clear.as_slice(), private.as_slice())
+}
+
+/// The canonical PFB of a file's font that is cut to `.notdef`, to the names of such lengths, and to these Subrs.
+fn part(
+    alloc: Global,
+    file: &[u8],
+    lengths: Range<usize>,
+    subrs: Range<u16>,
+) -> Result<Vec<u8>, AllocError> {
+    let Ok(font) = read(alloc, file) else {
+        return Err(AllocError);
+    };
+    let names: Vec<&[u8]> = font
+        .names()
+        .filter(|name| lengths.contains(&name.len()))
+        .collect(alloc)?;
+    let subrs: Vec<u16> = subrs.collect(alloc)?;
+    cut(alloc, &font, names.as_slice(), subrs.as_slice())
+}
+
+/// How many glyphs a file's font has, its weight, and whether its codes 99 and 100 have names.
+fn counted(alloc: Global, file: &[u8]) -> Option<(usize, u32, bool, bool)> {
+    let Ok(font) = read(alloc, file) else {
+        return None;
+    };
+    let codes = (
+        font.encoding_at(99).is_some(),
+        font.encoding_at(100).is_some(),
+    );
+    Some((font.names().count(), font.weight(), codes.0, codes.1))
+}
+
+#[test]
+fn thousands_of_entries(rt: HostRuntime) -> Result<(), Fail> {
+    let file = large(rt.alloc())?;
+    let one = part(rt.alloc(), file.as_slice(), 1..4, 0..1000)?;
+    let other = part(rt.alloc(), file.as_slice(), 3..5, 500..2000)?;
+    let both = joined(rt.alloc(), one.as_slice(), other.as_slice())?;
+    // The kept texts have 3, 18, 13, 1 and 27 bytes; a Subr of two bytes weighs 130, and a glyph 257.
+    let weights = [
+        62 + 1_000 * 130 + 1_000 * 129 + 1_001 * 257,
+        62 + 1_500 * 130 + 500 * 129 + 3_901 * 257,
+        62 + 2_000 * 130 + 4_001 * 257,
+    ];
+    assert_eq!(rt;
+        counted(rt.alloc(), one.as_slice()),
+        Some((1_001, weights[0], true, true)),
+        "names of at most three digits"
+    );
+    assert_eq!(rt;
+        counted(rt.alloc(), other.as_slice()),
+        Some((3_901, weights[1], false, true)),
+        "names of at least three digits"
+    );
+    assert_eq!(rt;
+        counted(rt.alloc(), both.as_slice()),
+        Some((4_001, weights[2], true, true)),
+        "all"
+    );
+    Ok(())
+}
