@@ -1,5 +1,5 @@
 -- Worked rows of what is kept: definitions over sets, computed over lists.
-use Rattle.std.proofs.Common.{◌≡◌, ℕ, Bool, true, false, cond, not, ◌&&◌, ◌||◌, T, List, [], ◌∷◌, ◌++◌, map, filter, flat_map, refl, sym, ◌∙◌, ap, Ordering, Option, Some, None, is_some, unwrap_or}
+use Rattle.std.proofs.Common.{◌≡◌, ℕ, Bool, true, not, ◌&&◌, ◌||◌, T, List, [], ◌∷◌, ◌++◌, map, filter, flat_map, refl, sym, ◌∙◌, ap, Ordering, Option, None, is_some, unwrap_or}
 use Rattle.std.specs.Prelude.{codes}
 use Rattle.std.specs.List.{list_any, list_all}
 use Rattle.std.specs.Ordering.{eq_by_cmp, nat_cmp}
@@ -12,7 +12,7 @@ use Rattle.std.specs.FinSet.{FinSet, IsAntisymmetric, nat_cmp-IsAntisymmetric}
 use Rattle.t1_font.specs.Cut.{stub}
 use Rattle.t1_font.specs.FontValue.{FontValue, Shell, Encoding, Word, name_cmp, notdef}
 use Rattle.t1_subset.specs.Interpreter.{Interpreter, Names}
-use Rattle.t1_subset.specs.Keep.{sets_of, charstring, has, parts, parts_here, is_closed, is_needed, keep, called_by, kept}
+use Rattle.t1_subset.specs.Keep.{sets_of, charstring, has, parts_here, is_closed, is_needed, keep, called_by, kept}
 use Rattle.t1_subset.proofs.Sets.{name_same, all_append, all_map, all_at, all_from, any_one, any_at, any_flat, any_flat_from, in_list, from_in_list, in_items, from_in_items}
 
 -- ---- sets of lists

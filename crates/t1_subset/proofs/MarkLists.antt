@@ -1,15 +1,12 @@
 -- Names at the end of a list, and what a list of marks holds.
 use Rattle.std.proofs.Common.{◌≡◌, ℕ, ◌+◌, ◌<◌, ◌≤◌, Bool, true, false, List, [], ◌∷◌, ◌++◌, refl, sym, ◌∙◌, ap, ◌⊎◌, inl, inr, length, take, cond, arith, length-append, true≢false, suc, drop, get_or, drop-cons, add-one}
-use Rattle.std.specs.Global.{Vec}
 use Rattle.std.specs.List.{list_any, IsDistinct}
 use Rattle.std.proofs.lemmas.Map.Keys.{IsDistinct-push}
 use Rattle.std.proofs.lemmas.List.{take-append-le}
 use Rattle.std.specs.Cmp.{eq_by_cmp_equiv}
 use Rattle.std.specs.Cmp.Lexicographic.{nat_list_cmp_total}
-use Rattle.std.specs.FinSet as sets
-use Rattle.t1_font.specs.FontValue.{name_cmp}
 use Rattle.t1_subset.specs.Interpreter.{is_name}
-use Rattle.t1_subset.specs.Marks.{names_of, push_new, push_all}
+use Rattle.t1_subset.specs.Marks.{push_new, push_all}
 use Rattle.t1_subset.proofs.Sets.{name_same, tied, itself, any_append, any_append_left, any_append_right, here_or, here, later}
 
 abbrev pub is_in : List ℕ → List (List ℕ) → Type 0

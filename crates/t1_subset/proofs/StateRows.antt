@@ -1,5 +1,5 @@
 -- Worked rows of the states of fonts and of conflicts: definitions over maps, computed over lists.
-use Rattle.std.proofs.Common.{◌≡◌, ℕ, Bool, true, false, cond, not, ◌&&◌, ◌||◌, T, List, [], ◌∷◌, ◌++◌, map, flat_map, refl, sym, ◌∙◌, ap, Ordering, Option, Some, None, is_some, option_map, unwrap_or}
+use Rattle.std.proofs.Common.{◌≡◌, ℕ, Bool, true, false, cond, not, ◌&&◌, ◌||◌, T, List, [], ◌∷◌, ◌++◌, map, flat_map, refl, ◌∙◌, ap, Ordering, Option, Some, None, is_some, option_map, unwrap_or}
 use Rattle.std.specs.Prelude.{codes}
 use Rattle.std.specs.List.{list_any, list_all}
 use Rattle.std.specs.Ordering.{eq_by_cmp, nat_cmp}
@@ -14,10 +14,9 @@ use Rattle.t1_font.specs.Entries.{last_entries}
 use Rattle.t1_font.specs.FontValue.{FontValue, Shell, Encoding, Word, Codes, name_cmp, notdef}
 use Rattle.t1_font.proofs.MapCuts.{get-map_values, entries-map_values}
 use Rattle.t1_font.proofs.CutEntries.{entries-merged}
-use Rattle.t1_subset.specs.Interpreter.{is_name}
 use Rattle.t1_subset.specs.States.{joined, is_stub, is_called, entry_state, subr_state, state_of_entry}
 use Rattle.t1_subset.specs.StateValues.{states_of, all_parts}
-use Rattle.t1_subset.specs.Conflicts.{ShellPart, Conflict, ShellDiffers, CodeDiffers, GlyphDiffers, PartLacks, SubrDiffers, OverLimit, Head, EncodingPart, Private, SubrsTable, first_where, members, keys_of_both, found, agrees, same_keys, same_kind, codes_of_both, glyph_names, called_at, executed_at, code_clashes, wants, wanted_by, part_clashes, subr_clashes, used_by, is_within, shell_conflict, code_conflict, glyph_conflict, part_conflict, subr_conflict, states_conflict, conflict}
+use Rattle.t1_subset.specs.Conflicts.{ShellPart, Conflict, ShellDiffers, CodeDiffers, GlyphDiffers, PartLacks, SubrDiffers, OverLimit, Head, EncodingPart, Private, SubrsTable, first_where, members, keys_of_both, found, agrees, same_keys, same_kind, codes_of_both, glyph_names, called_at, executed_at, code_clashes, wanted_by, used_by, is_within, shell_conflict, code_conflict, glyph_conflict, part_conflict, subr_conflict, states_conflict, conflict}
 use Rattle.t1_subset.proofs.Conflicts.{passes_none}
 use Rattle.t1_subset.proofs.Maps.{get-merged}
 use Rattle.t1_subset.proofs.Sets.{name_same}

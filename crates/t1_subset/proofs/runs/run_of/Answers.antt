@@ -1,4 +1,4 @@
-use Rattle.std.proofs.Common.{◌≡◌, List, ℕ, map, Bor, ◌∙◌, ap, sym}
+use Rattle.std.proofs.Common.{List, ℕ, map, Bor, ◌∙◌, ap, sym}
 use Rattle.t1_run.specs.Drawings.{parts_of}
 use Rattle.t1_subset.specs.Profile.{set_of}
 use Rattle.t1_subset.proofs.ProfileRuns.{parts_are, no_parts}
