@@ -3,7 +3,6 @@ mod counts;
 mod drawings;
 mod engines;
 mod merges;
-mod prefixes;
 mod subsets;
 mod tiny;
 
@@ -14,6 +13,7 @@ use std::io::{ErrorKind, Read, Write};
 use std::test::Fail;
 use t1_font::ReadFault;
 use t1_join::{JoinFault, ListFault};
+use t1_subset::{Conflict, ShellPart};
 
 /// How a reader or a writer behaves: the most bytes of a call, and the call that fails.
 #[derive(Clone, Copy)]
@@ -317,8 +317,79 @@ fn lines_of_places(rt: HostRuntime) {
     assert!(rt; is_refused(alloc, repeated, "refused: repeated in line 2\n"));
     let index = Reason::Join(JoinFault::Subr { index: 65534 });
     assert!(rt; is_refused(alloc, index, "refused: subr 65534 differs\n"));
-    let entry = Reason::Font(ReadFault::BadGlyphs { at: 905 });
-    assert!(rt; is_refused(alloc, entry, "refused: bad CharStrings at 905\n"));
+}
+
+/// Faults of font files, and what is printed of each.
+const FONTS: [(ReadFault, &str); 14] = [
+    (ReadFault::TooLong, "refused: file too long\n"),
+    (
+        ReadFault::BadSegment { at: 319 },
+        "refused: bad segment at 319\n",
+    ),
+    (ReadFault::NoEexec, "refused: no eexec\n"),
+    (ReadFault::ShortCipher, "refused: cipher too short\n"),
+    (ReadFault::NoEncoding, "refused: no Encoding\n"),
+    (
+        ReadFault::BadEncoding { at: 195 },
+        "refused: bad Encoding at 195\n",
+    ),
+    (ReadFault::NoCharStrings, "refused: no CharStrings\n"),
+    (ReadFault::BadLenIV, "refused: bad lenIV\n"),
+    (
+        ReadFault::BadSubrs { at: 269 },
+        "refused: bad Subrs at 269\n",
+    ),
+    (
+        ReadFault::BadGlyphs { at: 905 },
+        "refused: bad CharStrings at 905\n",
+    ),
+    (ReadFault::Hybrid, "refused: hybrid font\n"),
+    (ReadFault::NoClosefile, "refused: no closefile\n"),
+    (ReadFault::NoNotdef, "refused: no .notdef\n"),
+    (ReadFault::Limit, "refused: over a limit\n"),
+];
+
+#[test]
+fn lines_of_fonts(rt: HostRuntime) {
+    for (fault, want) in FONTS {
+        assert!(rt;
+            is_refused(rt.alloc(), Reason::Font(fault), want),
+            "{fault:?}"
+        );
+    }
+}
+
+/// Parts of shells, and what is printed where fonts differ in one.
+const SHELLS: [(ShellPart, &str); 9] = [
+    (ShellPart::Head, "refused: shells differ in head\n"),
+    (ShellPart::Encoding, "refused: shells differ in encoding\n"),
+    (
+        ShellPart::ClearTail,
+        "refused: shells differ in clear tail\n",
+    ),
+    (ShellPart::Private, "refused: shells differ in private\n"),
+    (
+        ShellPart::SubrsTable,
+        "refused: shells differ in Subrs table\n",
+    ),
+    (
+        ShellPart::SubrsWords,
+        "refused: shells differ in Subrs words\n",
+    ),
+    (ShellPart::Middle, "refused: shells differ in middle\n"),
+    (
+        ShellPart::GlyphsWords,
+        "refused: shells differ in CharStrings words\n",
+    ),
+    (ShellPart::Tail, "refused: shells differ in tail\n"),
+];
+
+#[test]
+fn lines_of_shells(rt: HostRuntime) {
+    for (part, want) in SHELLS {
+        let reason = Reason::Merge(Conflict::Shell { part });
+        assert!(rt; is_refused(rt.alloc(), reason, want), "{part:?}");
+    }
 }
 
 #[test]
