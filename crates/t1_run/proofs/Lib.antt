@@ -2,6 +2,7 @@ pub mod Locality
 pub mod DrawingLocality
 mod Resumed
 mod Turns
+mod StandardNames
 pub mod Limits
 pub mod LimitsOfRuns
 mod Rows
