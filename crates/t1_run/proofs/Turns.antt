@@ -1,6 +1,6 @@
 -- One turn of a run: the next token of the frame on top, and what it makes of the frames.
-use Rattle.std.proofs.Common.{◌≡◌, refl, sym, ap, ◌∙◌, ℕ, zero, suc, ◌+◌, ◌<◌, List, [], ◌∷◌, ◌++◌, map, length, length-append, append_assoc, reverse, ℤ, Option, Some, arith}
-use Rattle.std.proofs.lemmas.List.{map-append, append-nil, reverse-append}
+use Rattle.std.proofs.Common.{◌≡◌, refl, sym, ap, subst, ◌∙◌, ℕ, zero, suc, ◌+◌, ◌-◌, ◌<◌, List, [], ◌∷◌, ◌++◌, map, length, take, length-append, append_assoc, reverse, ℤ, Option, Some, arith}
+use Rattle.std.proofs.lemmas.List.{map-append, append-nil, reverse-append, take_at}
 use Rattle.std.specs.BTreeSet.{insert_key}
 use Rattle.std.specs.Ordering.{nat_cmp}
 use Rattle.t1_char.specs.declared.token.Token.{Token}
@@ -138,6 +138,12 @@ lists_push frames rest f pushed =
 length_push : (frames rest : List Frame) (f : Frame) → frames ≡ rest ++ f ∷ [] → length frames ≡ length rest + 1
 length_push frames rest f pushed = ap length pushed ∙ length-append rest (f ∷ [])
 
+-- what is left of frames without the one on top
+pub without_top : (frames rest : List Frame) (f : Frame) → frames ≡ rest ++ f ∷ [] → take (length frames - 1) frames ≡ rest
+without_top frames rest f pushed =
+    let few : length frames ≡ length rest + 1 = length_push frames rest f pushed in
+    ap (take (length frames - 1)) pushed ∙ take_at rest (f ∷ []) (length frames - 1) (omega (arith, few))
+
 -- before the first turn the glyph's frame stands alone
 pub begins : (subrs : Subrs) (hints : Hints) (c : List ℕ) (s : State) (old : List ℕ) (frames : List Frame) (f : Frame) → frames ≡ [] ++ f ∷ [] → frame_left f ≡ tokens c → IsWithinLimits s → Turns (run subrs hints level_limit (tokens c) s) old subrs hints frames s old
 begins subrs hints c s old frames f first all within =
@@ -187,14 +193,15 @@ module _ {whole : Outcome} {old : List ℕ} {subrs : Subrs} {hints : Hints} {res
       }
 
   -- it goes back: its frame is gone
-  pub on_back : (s' : State) → Ends (Back s') ≡ spend hints t s → IsWithinLimits s' → Turns whole old subrs hints rest s' now
-  on_back s' e within =
-      record {
+  pub on_back : (frames : List Frame) (s' : State) → frames ≡ rest → Ends (Back s') ≡ spend hints t s → IsWithinLimits s' → Turns whole old subrs hints frames s' now
+  on_back frames s' popped e within =
+      subst (λ (frames : List Frame). Turns whole old subrs hints frames s' now) (sym popped)
+      (record {
         levels = suc in_turn.levels;
         depth = omega (arith, in_turn.depth);
         left = left_after (seen (lists_of rest) s (Ends (Back s'))) [] lists_now (run_frames subrs hints (suc in_turn.levels) (lists_of rest) s') now now (token_ends subrs hints in_turn.levels (lists_of rest) t (frame_left f) s (Back s') e) refl in_turn.left;
         within = within;
-      }
+      })
 
   -- it ends the glyph
   pub on_end : (end : Ending) → ((g : State → Outcome) → then_run end g ≡ ends end) → Ends end ≡ spend hints t s → Runs whole end old now

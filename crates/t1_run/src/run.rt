@@ -1,8 +1,9 @@
 // Runs of charstrings.
 
-ghost use Rattle.std.specs.Prelude.{◌≡◌, ◌≤◌, IfOk, OnOk, MatchResult, [], Some};
+ghost use Rattle.std.specs.Prelude.{◌≡◌, ◌≤◌, IfOk, OnOk, MatchResult, ◌<◌, length, [], Some};
 ghost use Rattle.std.specs.Option.{option_copied};
 ghost use Rattle.t1_char.specs.Tokens.{tokens};
+ghost use Rattle.t1_run.specs.Frames.{TopYields};
 ghost use Rattle.t1_run.specs.Limits.{IsWithinLimits, EndsWithinLimits};
 ghost use Rattle.t1_run.specs.State.{start, Seac};
 ghost use Rattle.t1_run.specs.Run.{run, level_limit, direct_by, direct, exec, calls_of, with_indices, index_of, taken, entry, call};
@@ -15,6 +16,7 @@ use crate::subroutines::Subroutines;
 use arrayvec::ArrayVec;
 use std::alloc::{AllocError, Global};
 use std::collections::BTreeSet;
+use t1_char::Token;
 
 /// How deep calls may be, this project's limit.
 const LEVELS: usize = 10;
@@ -68,6 +70,14 @@ fn take(called: &mut BTreeSet<u16>, index: Option<u16>) -> Result<(), AllocError
     Ok(())
 }
 
+// The next token of the frame on top, where one is left.
+fn next_of_top(frames: &mut ArrayVec<Frame<'_>, FRAMES>) -> Option<Token>
+    ensures { 0 < length frames.old.items → TopYields frames.old.items result frames.new.items }
+{
+    let top = frames.len().checked_sub(1)?;
+    frames[top].next()
+}
+
 // Runs a charstring, in each turn the next token of the frame on top, until a token ends the run or no frame is left.
 fn run<'s, S: Subroutines>(
     subrs: &'s S,
@@ -84,18 +94,19 @@ fn run<'s, S: Subroutines>(
 {
     let mut frames: ArrayVec<Frame<'s>, FRAMES> = ArrayVec::new();
     frames.push(Frame::new(charstring));
-    'turns: while let Some(mut frame) = frames.pop() {
-        let Some(token) = frame.next() else {
+    'turns: while !frames.is_empty() {
+        let Some(token) = next_of_top(&mut frames) else {
             return Ok(Halt::Failed(Fault::Unended));
         };
         match machine.spend(hints, token)? {
-            Flow::Go => frames.push(frame),
-            Flow::Back => {}
+            Flow::Go => {}
+            Flow::Back => {
+                frames.pop();
+            }
             Flow::Plain(metrics) => return Ok(Halt::Plain(metrics)),
             Flow::Seac(accent) => return Ok(Halt::Seac(accent)),
             Flow::Fail(fault) => return Ok(Halt::Failed(fault)),
             Flow::Call(i) => {
-                frames.push(frame);
                 let index = index_of(i);
                 take(called, index)?;
                 match entered(subrs, frames.remaining_capacity(), index) {
