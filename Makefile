@@ -16,7 +16,7 @@ uninstall:
 	rm -f $(DESTDIR)$(PREFIX)/bin/t1subset $(DESTDIR)$(PREFIX)/share/man/man1/t1subset.1
 
 test:
-	rt ci
+	.ci/run
 
 # The wrong bodies that the gate doesn't try; before a release, and after a change of a contract.
 wrong-bodies:
