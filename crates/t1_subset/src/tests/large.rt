@@ -84,21 +84,49 @@ fn count_of_all(alloc: Global, fonts: &[Font]) -> Option<usize> {
     }
 }
 
-/// How many glyphs two subsets of a file's font come to by `merge` and by `merge_all`.
+/// How many glyphs two fonts come to by `merge` and by `merge_all`.
+fn counts_of_two(alloc: Global, one: Font, other: Font) -> (Option<usize>, Option<usize>) {
+    let two = merged_count(alloc, &one, &other);
+    (two, count_of_all(alloc, &[one, other]))
+}
+
+/// The same of a font and a subset of another.
+fn counts_with(
+    alloc: Global,
+    one: Font,
+    font: &Font,
+    numbers: Range<u32>,
+) -> (Option<usize>, Option<usize>) {
+    match cut(alloc, font, numbers) {
+        Ok(other) => counts_of_two(alloc, one, other),
+        Err(_) => (None, None),
+    }
+}
+
+/// The same of two subsets of a font.
+fn counts_of_cuts(
+    alloc: Global,
+    font: &Font,
+    one: Range<u32>,
+    other: Range<u32>,
+) -> (Option<usize>, Option<usize>) {
+    match cut(alloc, font, one) {
+        Ok(one) => counts_with(alloc, one, font, other),
+        Err(_) => (None, None),
+    }
+}
+
+/// The same of two subsets of a file's font.
 fn counts(
     alloc: Global,
     file: &[u8],
     one: Range<u32>,
     other: Range<u32>,
 ) -> (Option<usize>, Option<usize>) {
-    let Ok(font) = read(alloc, file) else {
-        return (None, None);
-    };
-    let (Ok(one), Ok(other)) = (cut(alloc, &font, one), cut(alloc, &font, other)) else {
-        return (None, None);
-    };
-    let two = merged_count(alloc, &one, &other);
-    (two, count_of_all(alloc, &[one, other]))
+    match read(alloc, file) {
+        Ok(font) => counts_of_cuts(alloc, &font, one, other),
+        Err(_) => (None, None),
+    }
 }
 
 #[test]
@@ -110,13 +138,29 @@ fn thousands_of_glyphs(rt: HostRuntime) -> Result<(), Fail> {
     Ok(())
 }
 
-/// Whether the fonts of two files are too heavy together, and neither is by itself.
-fn too_heavy(alloc: Global, one: &[u8], other: &[u8]) -> bool {
-    let (Ok(one), Ok(other)) = (read(alloc, one), read(alloc, other)) else {
-        return false;
+/// Whether two fonts are too heavy together, and the first is not with itself.
+fn over_together(alloc: Global, one: &Font, other: &Font) -> bool {
+    let over = match merge(alloc, one, other) {
+        Err(Conflict::Limit) => true,
+        _ => false,
     };
-    let over = merge(alloc, &one, &other).err() == Some(Conflict::Limit);
-    over && merge(alloc, &one, &one).is_ok()
+    over && merge(alloc, one, one).is_ok()
+}
+
+/// The same of a font and that of a file.
+fn too_heavy_with(alloc: Global, one: &Font, other: &[u8]) -> bool {
+    match read(alloc, other) {
+        Ok(other) => over_together(alloc, one, &other),
+        Err(_) => false,
+    }
+}
+
+/// The same of the fonts of two files.
+fn too_heavy(alloc: Global, one: &[u8], other: &[u8]) -> bool {
+    match read(alloc, one) {
+        Ok(one) => too_heavy_with(alloc, &one, other),
+        Err(_) => false,
+    }
 }
 
 #[test]

@@ -1,6 +1,6 @@
 //! Mergers of two and of many fonts, and each conflict with its data, in both orders.
 
-use super::fonts::{ACCENTED, GLYPHS, SHELL, SUBRS, Shell, cut, font, whole};
+use super::fonts::{ACCENTED, GLYPHS, SHELL, SUBRS, Shell, cut, font, whole, written};
 use crate::{Conflict, ShellPart, merge, merge_all};
 use std::alloc::{AllocError, Global};
 use std::test::Fail;
@@ -21,27 +21,48 @@ fn refusal_of_both(alloc: Global, left: &Font, right: &Font) -> Option<Conflict>
     if one == other { one } else { None }
 }
 
-/// Why the fonts of two files don't merge, where both orders say the same.
-fn conflict(alloc: Global, left: &[u8], right: &[u8]) -> Option<Conflict> {
-    let (Ok(left), Ok(right)) = (read(alloc, left), read(alloc, right)) else {
-        return None;
-    };
-    refusal_of_both(alloc, &left, &right)
+/// Why a font and that of a file don't merge, where both orders say the same.
+fn conflict_with(alloc: Global, left: &Font, right: &[u8]) -> Option<Conflict> {
+    match read(alloc, right) {
+        Ok(right) => refusal_of_both(alloc, left, &right),
+        Err(_) => None,
+    }
 }
 
-/// The canonical PFB of what the fonts of two files come to, where they merge.
-fn merged(alloc: Global, left: &[u8], right: &[u8]) -> Vec<u8> {
-    let (Ok(left), Ok(right)) = (read(alloc, left), read(alloc, right)) else {
-        return Vec::new(alloc);
-    };
-    match merge(alloc, &left, &right) {
-        Ok(both) => write(alloc, &both, Form::Pfb).unwrap_or(Vec::new(alloc)),
+/// Why the fonts of two files don't merge, where both orders say the same.
+fn conflict(alloc: Global, left: &[u8], right: &[u8]) -> Option<Conflict> {
+    match read(alloc, left) {
+        Ok(left) => conflict_with(alloc, &left, right),
+        Err(_) => None,
+    }
+}
+
+/// The canonical PFB of what two fonts come to, where they merge.
+fn both(alloc: Global, left: &Font, right: &Font) -> Vec<u8> {
+    match merge(alloc, left, right) {
+        Ok(both) => written(alloc, &both),
         Err(_) => Vec::new(alloc),
     }
 }
 
-/// Shells that differ from the one above in one part.
-const CLEAR: [(Shell, ShellPart); 3] = [
+/// The same of a font and that of a file.
+fn merged_with(alloc: Global, left: &Font, right: &[u8]) -> Vec<u8> {
+    match read(alloc, right) {
+        Ok(right) => both(alloc, left, &right),
+        Err(_) => Vec::new(alloc),
+    }
+}
+
+/// The same of the fonts of two files.
+fn merged(alloc: Global, left: &[u8], right: &[u8]) -> Vec<u8> {
+    match read(alloc, left) {
+        Ok(left) => merged_with(alloc, &left, right),
+        Err(_) => Vec::new(alloc),
+    }
+}
+
+/// Shells that differ from the one above in one part; of two parts that differ the first is told.
+const CHANGED: [(Shell, ShellPart); 12] = [
     (
         Shell {
             head: b"%!x\n",
@@ -63,10 +84,6 @@ const CLEAR: [(Shell, ShellPart); 3] = [
         },
         ShellPart::ClearTail,
     ),
-];
-
-/// The same, in the private text; of two parts that differ the first is told.
-const INNER: [(Shell, ShellPart); 9] = [
     (
         Shell {
             private: b"/lenIV 0 def /password 1 def\n",
@@ -130,25 +147,46 @@ const INNER: [(Shell, ShellPart); 9] = [
 
 /// Whether the shells of two fonts differ in this part.
 fn differs(alloc: Global, left: &[u8], right: &[u8], part: ShellPart) -> bool {
-    conflict(alloc, left, right) == Some(Conflict::Shell { part })
+    match conflict(alloc, left, right) {
+        Some(Conflict::Shell { part: told }) => told == part,
+        _ => false,
+    }
+}
+
+/// Whether a font's shell differs from this one in this part.
+fn shell_differs(
+    alloc: Global,
+    file: &[u8],
+    shell: &Shell,
+    part: ShellPart,
+) -> Result<bool, AllocError> {
+    let other = font(alloc, shell, &SUBRS, &GLYPHS)?;
+    Ok(differs(alloc, file, other.as_slice(), part))
+}
+
+/// The first part of the shells above that isn't told.
+fn first_untold(alloc: Global, file: &[u8]) -> Result<Option<ShellPart>, AllocError> {
+    for (shell, part) in &CHANGED {
+        if !shell_differs(alloc, file, shell, *part)? {
+            return Ok(Some(*part));
+        }
+    }
+    Ok(None)
 }
 
 #[test]
 fn shells_that_differ(rt: HostRuntime) -> Result<(), Fail> {
     let one = whole(rt.alloc())?;
-    for (shell, part) in CLEAR.iter().chain(INNER.iter()) {
-        let other = font(rt.alloc(), shell, &SUBRS, &GLYPHS)?;
-        assert!(rt;
-            differs(rt.alloc(), one.as_slice(), other.as_slice(), *part),
-            "{part:?}"
-        );
-    }
+    assert_eq!(rt; first_untold(rt.alloc(), one.as_slice())?, None);
+    Ok(())
+}
+
+#[test]
+fn an_index_that_one_font_lacks(rt: HostRuntime) -> Result<(), Fail> {
+    let one = whole(rt.alloc())?;
     let few = font(rt.alloc(), &SHELL, &SUBRS[..9], &GLYPHS)?;
     let table = ShellPart::SubrsTable;
-    assert!(rt;
-        differs(rt.alloc(), one.as_slice(), few.as_slice(), table),
-        "an absent index"
-    );
+    assert!(rt; differs(rt.alloc(), one.as_slice(), few.as_slice(), table));
     Ok(())
 }
 
@@ -163,55 +201,96 @@ fn two_words_of_encodings(rt: HostRuntime) -> Result<(), Fail> {
     Ok(())
 }
 
+/// Whether two fonts differ in the name of this code.
+fn code_differs(alloc: Global, left: &[u8], right: &[u8], want: u8) -> bool {
+    match conflict(alloc, left, right) {
+        Some(Conflict::Code { code }) => code == want,
+        _ => false,
+    }
+}
+
+/// Whether two fonts differ in the glyph of this name.
+fn glyph_differs(alloc: Global, left: &[u8], right: &[u8], want: &[u8]) -> bool {
+    match conflict(alloc, left, right) {
+        Some(Conflict::Glyph { name }) => name.as_slice() == want,
+        _ => false,
+    }
+}
+
+/// Whether two fonts differ in the Subr of this index, which this glyph executes, or none.
+fn subr_differs(alloc: Global, left: &[u8], right: &[u8], want: u16, user: Option<&[u8]>) -> bool {
+    match conflict(alloc, left, right) {
+        Some(Conflict::Subr { index, glyph }) => {
+            index == want && glyph.as_ref().map(|name| name.as_slice()) == user
+        }
+        _ => false,
+    }
+}
+
 #[test]
-fn entries_that_differ(rt: HostRuntime) -> Result<(), Fail> {
+fn codes_that_differ(rt: HostRuntime) -> Result<(), Fail> {
     let one = whole(rt.alloc())?;
     let encoding = b"/Encoding 256 array dup 65 /X put dup 66 /A put dup 67 /A put def";
     let other = font(rt.alloc(), &Shell { encoding, ..SHELL }, &SUBRS, &GLYPHS)?;
-    let code = conflict(rt.alloc(), one.as_slice(), other.as_slice());
-    assert_eq!(rt; code, Some(Conflict::Code { code: 66 }), "of codes");
-    let mut glyphs = GLYPHS;
-    glyphs[1] = (b"A", b"\x0e");
-    glyphs[3] = (b"B", b"\x0e");
-    let other = font(rt.alloc(), &SHELL, &SUBRS, &glyphs)?;
-    let name = Vec::from_slice(rt.alloc(), b"A")?;
-    let glyph = conflict(rt.alloc(), one.as_slice(), other.as_slice());
-    assert_eq!(rt; glyph, Some(Conflict::Glyph { name }), "of glyphs");
-    let mut subrs = SUBRS;
-    subrs[8] = (b"8", b"\x0e");
-    let other = font(rt.alloc(), &SHELL, &subrs, &GLYPHS)?;
-    let subr = conflict(rt.alloc(), one.as_slice(), other.as_slice());
-    let unused = Conflict::Subr {
-        index: 8,
-        glyph: None,
-    };
-    assert_eq!(rt; subr, Some(unused), "a Subr that no glyph executes");
+    assert!(rt; code_differs(rt.alloc(), one.as_slice(), other.as_slice(), 66));
     Ok(())
 }
 
 #[test]
-fn what_glyphs_execute(rt: HostRuntime) -> Result<(), Fail> {
-    let file = whole(rt.alloc())?;
+fn glyphs_that_differ(rt: HostRuntime) -> Result<(), Fail> {
+    let one = whole(rt.alloc())?;
+    let mut glyphs = GLYPHS;
+    glyphs[1] = (b"A", b"\x0e");
+    glyphs[3] = (b"B", b"\x0e");
+    let other = font(rt.alloc(), &SHELL, &SUBRS, &glyphs)?;
+    assert!(rt; glyph_differs(rt.alloc(), one.as_slice(), other.as_slice(), b"A"));
+    Ok(())
+}
+
+#[test]
+fn a_subr_that_no_glyph_executes(rt: HostRuntime) -> Result<(), Fail> {
+    let one = whole(rt.alloc())?;
+    let mut subrs = SUBRS;
+    subrs[8] = (b"8", b"\x0e");
+    let other = font(rt.alloc(), &SHELL, &subrs, &GLYPHS)?;
+    assert!(rt; subr_differs(rt.alloc(), one.as_slice(), other.as_slice(), 8, None));
+    Ok(())
+}
+
+/// The subset over X of a font whose Subr 5 is `return`.
+fn x_of_another(alloc: Global) -> Result<Vec<u8>, AllocError> {
     let mut subrs = SUBRS;
     subrs[5] = (b"5", b"\x0b");
-    let other = font(rt.alloc(), &SHELL, &subrs, &GLYPHS)?;
-    let used = cut(rt.alloc(), other.as_slice(), &[b"X"]);
+    let other = font(alloc, &SHELL, &subrs, &GLYPHS)?;
+    Ok(cut(alloc, other.as_slice(), &[b"X"]))
+}
+
+#[test]
+fn a_stub_that_is_used(rt: HostRuntime) -> Result<(), Fail> {
+    let file = whole(rt.alloc())?;
+    let used = x_of_another(rt.alloc())?;
     let y = cut(rt.alloc(), file.as_slice(), &[b"Y"]);
-    let glyph = Some(Vec::from_slice(rt.alloc(), b"X")?);
-    let subr = conflict(rt.alloc(), y.as_slice(), used.as_slice());
-    assert_eq!(rt;
-        subr,
-        Some(Conflict::Subr { index: 5, glyph }),
-        "a used stub"
-    );
+    assert!(rt; subr_differs(rt.alloc(), y.as_slice(), used.as_slice(), 5, Some(b"X")));
+    Ok(())
+}
+
+#[test]
+fn a_stub_that_one_font_uses(rt: HostRuntime) -> Result<(), Fail> {
+    let file = whole(rt.alloc())?;
+    let used = x_of_another(rt.alloc())?;
     let a = cut(rt.alloc(), file.as_slice(), &[b"A"]);
     let one = merged(rt.alloc(), a.as_slice(), used.as_slice());
     let two = merged(rt.alloc(), used.as_slice(), a.as_slice());
-    assert!(rt;
-        !one.is_empty() && one.as_slice() == two.as_slice(),
-        "a stub that one font uses"
-    );
+    assert!(rt; !one.is_empty() && one.as_slice() == two.as_slice());
     Ok(())
+}
+
+/// Whether a glyph of one of two fonts lacks a part.
+fn part_lacks(alloc: Global, left: &[u8], right: &[u8], of: &[u8], want: &[u8]) -> bool {
+    match conflict(alloc, left, right) {
+        Some(Conflict::Part { glyph, part }) => glyph.as_slice() == of && part.as_slice() == want,
+        _ => false,
+    }
 }
 
 #[test]
@@ -220,12 +299,14 @@ fn what_glyphs_name(rt: HostRuntime) -> Result<(), Fail> {
     let other = font(rt.alloc(), &SHELL, &SUBRS, &GLYPHS[..8])?;
     let accented = cut(rt.alloc(), other.as_slice(), &[b"Aacute"]);
     let acute = cut(rt.alloc(), file.as_slice(), &[b"acute"]);
-    let glyph = Vec::from_slice(rt.alloc(), b"Aacute")?;
-    let part = Vec::from_slice(rt.alloc(), b"acute")?;
-    let lacks = conflict(rt.alloc(), accented.as_slice(), acute.as_slice());
-    assert_eq!(rt;
-        lacks,
-        Some(Conflict::Part { glyph, part }),
+    assert!(rt;
+        part_lacks(
+            rt.alloc(),
+            accented.as_slice(),
+            acute.as_slice(),
+            b"Aacute",
+            b"acute"
+        ),
         "a part that one font lacks"
     );
     let a = cut(rt.alloc(), file.as_slice(), &[b"A"]);
@@ -281,21 +362,27 @@ fn subsets_of_one_font(rt: HostRuntime) -> Result<(), Fail> {
     Ok(())
 }
 
+/// Whether files are refused from left to right for the glyph of this name.
+fn last_glyph_differs(alloc: Global, files: &[Vec<u8>], want: &[u8]) -> bool {
+    match all_merged(alloc, files) {
+        Err(Conflict::Glyph { name }) => name.as_slice() == want,
+        _ => false,
+    }
+}
+
 #[test]
-fn lists_that_are_refused(rt: HostRuntime) -> Result<(), Fail> {
-    let file = whole(rt.alloc())?;
+fn no_fonts(rt: HostRuntime) {
     let empty = all_merged(rt.alloc(), &[]).err();
-    assert_eq!(rt; empty, Some(Conflict::Empty), "no fonts");
+    assert_eq!(rt; empty, Some(Conflict::Empty));
+}
+
+#[test]
+fn the_first_and_the_last_differ(rt: HostRuntime) -> Result<(), Fail> {
+    let file = whole(rt.alloc())?;
     let mut files = cuts(rt.alloc(), file.as_slice(), &[&[b"acute"], &[b"X"]])?;
     let mut glyphs = GLYPHS;
     glyphs[8] = (b"acute", ACCENTED);
     files.push(font(rt.alloc(), &SHELL, &SUBRS, &glyphs)?)?;
-    let name = Vec::from_slice(rt.alloc(), b"acute")?;
-    let last = all_merged(rt.alloc(), files.as_slice()).err();
-    assert_eq!(rt;
-        last,
-        Some(Conflict::Glyph { name }),
-        "the first and the last differ"
-    );
+    assert!(rt; last_glyph_differs(rt.alloc(), files.as_slice(), b"acute"));
     Ok(())
 }
