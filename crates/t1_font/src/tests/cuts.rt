@@ -67,12 +67,28 @@ fn both(alloc: Global, first: &Font, second: &Font) -> Result<Vec<u8>, PartsFaul
     Ok(write(alloc, &joined, Form::Pfb)?)
 }
 
+/// The same, of a font and that of a file.
+fn joined_with(alloc: Global, first: &Font, second: &[u8]) -> Result<Vec<u8>, PartsFault> {
+    match read(alloc, second) {
+        Ok(second) => both(alloc, first, &second),
+        Err(_) => Err(PartsFault::Memory),
+    }
+}
+
 /// The same, of the fonts of two files.
 fn joined(alloc: Global, first: &[u8], second: &[u8]) -> Result<Vec<u8>, PartsFault> {
-    let (Ok(first), Ok(second)) = (read(alloc, first), read(alloc, second)) else {
-        return Err(PartsFault::Memory);
-    };
-    both(alloc, &first, &second)
+    match read(alloc, first) {
+        Ok(first) => joined_with(alloc, &first, second),
+        Err(_) => Err(PartsFault::Memory),
+    }
+}
+
+/// Whether this is what the fonts of two files come to.
+fn joins_to(alloc: Global, first: &[u8], second: &[u8], want: &[u8]) -> bool {
+    match joined(alloc, first, second) {
+        Ok(both) => both.as_slice() == want,
+        Err(_) => false,
+    }
 }
 
 /// The canonical PFB of Tiny, cut to `.notdef`, to these names and to these Subrs.
@@ -103,15 +119,38 @@ fn subrs_text(alloc: Global, font: &Font) -> Result<Vec<u8>, AllocError> {
     Ok(text)
 }
 
-/// The names and the Subrs of a file's font as a text, its weight, and the length of its PFA.
+/// The names and the Subrs of a font as a text.
+fn entries_text(alloc: Global, font: &Font) -> Result<Vec<u8>, AllocError> {
+    let mut text = names_text(alloc, font)?;
+    text.extend_from_slice(subrs_text(alloc, font)?.as_slice())?;
+    Ok(text)
+}
+
+/// What a font shows: the names and the Subrs as a text, its weight, and the length of its PFA.
+fn shown_of(alloc: Global, font: &Font) -> Result<(Vec<u8>, u32, usize), AllocError> {
+    let length = write(alloc, font, Form::Pfa)?.len();
+    let text = entries_text(alloc, font)?;
+    Ok((text, font.weight(), length))
+}
+
+/// The same of a file's font.
 fn shown(alloc: Global, file: &[u8]) -> Result<(Vec<u8>, u32, usize), AllocError> {
-    let Ok(font) = read(alloc, file) else {
-        return Err(AllocError);
-    };
-    let mut text = names_text(alloc, &font)?;
-    text.extend_from_slice(subrs_text(alloc, &font)?.as_slice())?;
-    let pfa = write(alloc, &font, Form::Pfa)?;
-    Ok((text, font.weight(), pfa.len()))
+    match read(alloc, file) {
+        Ok(font) => shown_of(alloc, &font),
+        Err(_) => Err(AllocError),
+    }
+}
+
+/// Whether Tiny, cut to these names and Subrs, shows this.
+fn cut_shows(
+    alloc: Global,
+    names: &[&[u8]],
+    subrs: &[u16],
+    want: (&[u8], u32, usize),
+) -> Result<bool, AllocError> {
+    let file = tiny_cut(alloc, names, subrs)?;
+    let (text, weight, length) = shown(alloc, file.as_slice())?;
+    Ok((text.as_slice(), weight, length) == want)
 }
 
 /// Names and Subrs; what Tiny cut to them shows, its weight, and the length of its PFA. Subr 3 of Tiny is `return`
@@ -147,10 +186,8 @@ const CUTS: [(&[&[u8]], &[u16], &[u8], u32, usize); 5] = [
 #[test]
 fn cuts_of_tiny(rt: HostRuntime) -> Result<(), Fail> {
     for (names, subrs, text, weight, length) in CUTS {
-        let file = tiny_cut(rt.alloc(), names, subrs)?;
-        let (entries, weighs, pfa) = shown(rt.alloc(), file.as_slice())?;
-        assert_eq!(rt; entries.as_slice(), text);
-        assert_eq!(rt; (weighs, pfa), (weight, length), "{text:?}");
+        let shows = cut_shows(rt.alloc(), names, subrs, (text, weight, length))?;
+        assert!(rt; shows, "{text:?}");
     }
     Ok(())
 }
@@ -169,8 +206,7 @@ fn joins_of_tiny(rt: HostRuntime) -> Result<(), Fail> {
         (&other, PFB, &other, "the first stands"),
     ];
     for (first, second, want, what) in rows {
-        let got = joined(rt.alloc(), first, second)?;
-        assert!(rt; got.as_slice() == want, "{what}");
+        assert!(rt; joins_to(rt.alloc(), first, second, want), "{what}");
     }
     Ok(())
 }
@@ -248,34 +284,49 @@ fn large(alloc: Global) -> Result<Vec<u8>, AllocError> {
     file(alloc, clear.as_slice(), private.as_slice())
 }
 
-/// The canonical PFB of a file's font that is cut to `.notdef`, to the names of such lengths, and to these Subrs.
+/// The canonical PFB of a font that is cut to `.notdef`, to the names of such lengths, and to these Subrs.
+fn part_of(
+    alloc: Global,
+    font: &Font,
+    lengths: Range<usize>,
+    subrs: Range<u16>,
+) -> Result<Vec<u8>, AllocError> {
+    let names: Vec<&[u8]> = font
+        .names()
+        .filter(|name| lengths.contains(&name.len()))
+        .collect(alloc)?;
+    let subrs: Vec<u16> = subrs.collect(alloc)?;
+    cut(alloc, font, names.as_slice(), subrs.as_slice())
+}
+
+/// The same of a file's font.
 fn part(
     alloc: Global,
     file: &[u8],
     lengths: Range<usize>,
     subrs: Range<u16>,
 ) -> Result<Vec<u8>, AllocError> {
-    let Ok(font) = read(alloc, file) else {
-        return Err(AllocError);
-    };
-    let names: Vec<&[u8]> = font
-        .names()
-        .filter(|name| lengths.contains(&name.len()))
-        .collect(alloc)?;
-    let subrs: Vec<u16> = subrs.collect(alloc)?;
-    cut(alloc, &font, names.as_slice(), subrs.as_slice())
+    match read(alloc, file) {
+        Ok(font) => part_of(alloc, &font, lengths, subrs),
+        Err(_) => Err(AllocError),
+    }
 }
 
-/// How many glyphs a file's font has, its weight, and whether its codes 99 and 100 have names.
-fn counted(alloc: Global, file: &[u8]) -> Option<(usize, u32, bool, bool)> {
-    let Ok(font) = read(alloc, file) else {
-        return None;
-    };
+/// How many glyphs a font has, its weight, and whether its codes 99 and 100 have names.
+fn counts_of(font: &Font) -> (usize, u32, bool, bool) {
     let codes = (
         font.encoding_at(99).is_some(),
         font.encoding_at(100).is_some(),
     );
-    Some((font.names().count(), font.weight(), codes.0, codes.1))
+    (font.names().count(), font.weight(), codes.0, codes.1)
+}
+
+/// Whether a file's font has these.
+fn counts_as(alloc: Global, file: &[u8], want: (usize, u32, bool, bool)) -> bool {
+    match read(alloc, file) {
+        Ok(font) => counts_of(&font) == want,
+        Err(_) => false,
+    }
 }
 
 #[test]
@@ -290,19 +341,20 @@ fn thousands_of_entries(rt: HostRuntime) -> Result<(), Fail> {
         62 + 1_500 * 130 + 500 * 129 + 3_901 * 257,
         62 + 2_000 * 130 + 4_001 * 257,
     ];
-    assert_eq!(rt;
-        counted(rt.alloc(), one.as_slice()),
-        Some((1_001, weights[0], true, true)),
+    assert!(rt;
+        counts_as(rt.alloc(), one.as_slice(), (1_001, weights[0], true, true)),
         "names of at most three digits"
     );
-    assert_eq!(rt;
-        counted(rt.alloc(), other.as_slice()),
-        Some((3_901, weights[1], false, true)),
+    assert!(rt;
+        counts_as(
+            rt.alloc(),
+            other.as_slice(),
+            (3_901, weights[1], false, true)
+        ),
         "names of at least three digits"
     );
-    assert_eq!(rt;
-        counted(rt.alloc(), both.as_slice()),
-        Some((4_001, weights[2], true, true)),
+    assert!(rt;
+        counts_as(rt.alloc(), both.as_slice(), (4_001, weights[2], true, true)),
         "all"
     );
     Ok(())
