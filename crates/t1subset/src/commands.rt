@@ -32,17 +32,20 @@ after `--`, and each one may stand more than once. OUT is opened only after the 
 
 Example: t1subset subset font.pfb some.pfa A B Aacute";
 
-fn subset_command<'a>(alloc: Global) -> Result<Command<'a>, AllocError> {
-    let names = Arg::new(alloc, "NAME")
+fn names_word<'a>(alloc: Global) -> Arg<'a> {
+    Arg::new(alloc, "NAME")
         .num_args(0..)
         .action(ArgAction::Append)
-        .help("The names of the glyphs that are kept, without their `/`");
+        .help("The names of the glyphs that are kept, without their `/`")
+}
+
+fn subset_command<'a>(alloc: Global) -> Result<Command<'a>, AllocError> {
     Command::new(alloc, "subset")
         .about("Writes a subset of a font that draws as the font")
         .after_help(SUBSET_HELP)
         .arg(word(alloc, "IN", "The font"))?
         .arg(word(alloc, "OUT", "The file that is written"))?
-        .arg(names)
+        .arg(names_word(alloc))
 }
 
 const MERGE_HELP: &str = "\
@@ -53,17 +56,20 @@ complete.
 
 Example: t1subset merge all.pfa one.pfa two.pfa";
 
-fn merge_command<'a>(alloc: Global) -> Result<Command<'a>, AllocError> {
-    let fonts = Arg::new(alloc, "IN")
+fn fonts_word<'a>(alloc: Global) -> Arg<'a> {
+    Arg::new(alloc, "IN")
         .num_args(1..)
         .required(true)
         .action(ArgAction::Append)
-        .help("The fonts");
+        .help("The fonts")
+}
+
+fn merge_command<'a>(alloc: Global) -> Result<Command<'a>, AllocError> {
     Command::new(alloc, "merge")
         .about("Merges subsets of a font into one")
         .after_help(MERGE_HELP)
         .arg(word(alloc, "OUT", "The file that is written"))?
-        .arg(fonts)
+        .arg(fonts_word(alloc))
 }
 
 const CONVERT_HELP: &str = "\
