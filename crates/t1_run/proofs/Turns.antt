@@ -138,6 +138,10 @@ lists_push frames rest f pushed =
 length_push : (frames rest : List Frame) (f : Frame) → frames ≡ rest ++ f ∷ [] → length frames ≡ length rest + 1
 length_push frames rest f pushed = ap length pushed ∙ length-append rest (f ∷ [])
 
+-- there is a frame on top
+pub some_pushed : (frames rest : List Frame) (f : Frame) → frames ≡ rest ++ f ∷ [] → 0 < length frames
+some_pushed frames rest f pushed = let few : length frames ≡ length rest + 1 = length_push frames rest f pushed in omega (arith, few)
+
 -- what is left of frames without the one on top
 pub without_top : (frames rest : List Frame) (f : Frame) → frames ≡ rest ++ f ∷ [] → take (length frames - 1) frames ≡ rest
 without_top frames rest f pushed =

@@ -94,7 +94,7 @@ fn run<'s, S: Subroutines>(
 {
     let mut frames: ArrayVec<Frame<'s>, FRAMES> = ArrayVec::new();
     frames.push(Frame::new(charstring));
-    'turns: while !frames.is_empty() {
+    'turns: loop {
         let Some(token) = next_of_top(&mut frames) else {
             return Ok(Halt::Failed(Fault::Unended));
         };
@@ -102,6 +102,9 @@ fn run<'s, S: Subroutines>(
             Flow::Go => {}
             Flow::Back => {
                 frames.pop();
+                if frames.is_empty() {
+                    return Ok(Halt::Back);
+                }
             }
             Flow::Plain(metrics) => return Ok(Halt::Plain(metrics)),
             Flow::Seac(accent) => return Ok(Halt::Seac(accent)),
@@ -116,7 +119,6 @@ fn run<'s, S: Subroutines>(
             }
         }
     }
-    Ok(Halt::Back)
 }
 
 // What an accented glyph answers.

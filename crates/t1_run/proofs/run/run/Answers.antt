@@ -1,68 +1,66 @@
-use Rattle.std.proofs.Common.{rules, refl, ◌∙◌, length, ◌<◌}
+use Rattle.std.proofs.Common.{rules, refl, ◌∙◌}
 use Rattle.t1_run.specs.State.{Plain, Seac, Failed}
 use Rattle.t1_run.specs.Machine.{state_of}
-use Rattle.t1_run.proofs.Turns.{begins, turn, runs_out, without_top, on_goes, on_back, on_end, on_fault, on_call}
+use Rattle.t1_run.proofs.Turns.{begins, turn, runs_out, some_pushed, without_top, on_goes, on_back, on_end, on_fault, on_call}
 use Rattle.t1_run.proofs.run.run.Goals as goal
 
 pub turns-init : goal.turns-init
 turns-init g c =
-    begins (g.S.Subroutines.subrs c.args.subrs.now) c.args.hints c.args.charstring.now (state_of c.args.machine.now) c.args.called.now.keys c.push.new.self.items c.new.result (search rules) c.new.ensures c.requires
+    (search rules, begins (g.S.Subroutines.subrs c.args.subrs.now) c.args.hints c.args.charstring.now (state_of c.args.machine.now) c.args.called.now.keys c.push.new.self.items c.new.result (search rules) c.new.ensures c.requires)
 
 pub returns-in_default-clause-runs : goal.returns-in_default-clause-runs
 returns-in_default-clause-runs g c =
-    let some : 0 < length c.turns.frames.items = search rules in
-    let top = c.in_default.ensures some in
-    runs_out c.turns.invariant top.below top.before top.was top.yields.0
+    let top = c.in_default.ensures c.turns.invariant.0 in
+    runs_out c.turns.invariant.1 top.below top.before top.was top.yields.0
 
 pub turns-preserved-in-Go : goal.turns-preserved-in-Go
 turns-preserved-in-Go g c =
-    let some : 0 < length c.turns.frames.items = search rules in
-    let top = c.in-Some.ensures some in
-    on_goes (turn c.turns.invariant top.below top.before top.was top.after c.in-Some.token top.yields)
-    c.next_of_top.new.frames.items (state_of c.spend.new.self) top.is (search rules) (search rules)
+    let top = c.in-Some.ensures c.turns.invariant.0 in (
+      some_pushed c.next_of_top.new.frames.items top.below top.after top.is,
+      on_goes (turn c.turns.invariant.1 top.below top.before top.was top.after c.in-Some.token top.yields)
+          c.next_of_top.new.frames.items (state_of c.spend.new.self) top.is (search rules) (search rules),
+    )
 
-pub turns-preserved-in-Back : goal.turns-preserved-in-Back
-turns-preserved-in-Back g c =
-    let some : 0 < length c.turns.frames.items = search rules in
-    let top = c.in-Some.ensures some in
-    on_back (turn c.turns.invariant top.below top.before top.was top.after c.in-Some.token top.yields)
-    c.pop.new.self.items (state_of c.spend.new.self) (c.pop.ensures.rest ∙ without_top c.next_of_top.new.frames.items top.below top.after top.is) (search rules) (search rules)
+pub turns-preserved-else-is_empty : goal.turns-preserved-else-is_empty
+turns-preserved-else-is_empty g c =
+    let top = c.in-Some.ensures c.turns.invariant.0 in (
+      search rules,
+      on_back (turn c.turns.invariant.1 top.below top.before top.was top.after c.in-Some.token top.yields)
+          c.pop.new.self.items (state_of c.spend.new.self) (c.pop.ensures.rest ∙ without_top c.next_of_top.new.frames.items top.below top.after top.is) (search rules) (search rules),
+    )
 
 pub returns-in-Plain-clause-runs : goal.returns-in-Plain-clause-runs
 returns-in-Plain-clause-runs g c =
-    let some : 0 < length c.turns.frames.items = search rules in
-    let top = c.in-Some.ensures some in
-    on_end (turn c.turns.invariant top.below top.before top.was top.after c.in-Some.token top.yields)
+    let top = c.in-Some.ensures c.turns.invariant.0 in
+    on_end (turn c.turns.invariant.1 top.below top.before top.was top.after c.in-Some.token top.yields)
     (Plain c.in-Plain.metrics c.spend.new.self.marks.items) (λ g. refl) (search rules)
 
 pub returns-in-Seac-clause-runs : goal.returns-in-Seac-clause-runs
 returns-in-Seac-clause-runs g c =
-    let some : 0 < length c.turns.frames.items = search rules in
-    let top = c.in-Some.ensures some in
-    on_end (turn c.turns.invariant top.below top.before top.was top.after c.in-Some.token top.yields)
+    let top = c.in-Some.ensures c.turns.invariant.0 in
+    on_end (turn c.turns.invariant.1 top.below top.before top.was top.after c.in-Some.token top.yields)
     (Seac c.in-Seac.accent) (λ g. refl) (search rules)
 
 pub returns-in-Fail-clause-runs : goal.returns-in-Fail-clause-runs
 returns-in-Fail-clause-runs g c =
-    let some : 0 < length c.turns.frames.items = search rules in
-    let top = c.in-Some.ensures some in
-    on_end (turn c.turns.invariant top.below top.before top.was top.after c.in-Some.token top.yields)
+    let top = c.in-Some.ensures c.turns.invariant.0 in
+    on_end (turn c.turns.invariant.1 top.below top.before top.was top.after c.in-Some.token top.yields)
     (Failed c.in-Fail.fault) (λ g. refl) (search rules)
 
 pub returns-in-Err-clause-runs : goal.returns-in-Err-clause-runs
 returns-in-Err-clause-runs g c =
-    let some : 0 < length c.turns.frames.items = search rules in
-    let top = c.in-Some.ensures some in
-    on_fault (turn c.turns.invariant top.below top.before top.was top.after c.in-Some.token top.yields)
+    let top = c.in-Some.ensures c.turns.invariant.0 in
+    on_fault (turn c.turns.invariant.1 top.below top.before top.was top.after c.in-Some.token top.yields)
     (state_of c.spend.new.self) c.in-Call.i c.index_of-index.result c.next_of_top.new.frames.items c.remaining_capacity.result c.take.new.called.keys
     (search rules) (search rules) top.is c.remaining_capacity.ensures c.in_ok-take-in-Call.ensures
     c.in-Err.fault (c.in-Err.ensures c.args.hints (state_of c.spend.new.self))
 
 pub turns-preserved : goal.turns-preserved
 turns-preserved g c =
-    let some : 0 < length c.turns.frames.items = search rules in
-    let top = c.in-Some.ensures some in
-    on_call (turn c.turns.invariant top.below top.before top.was top.after c.in-Some.token top.yields)
-    (state_of c.spend.new.self) c.in-Call.i c.index_of-index.result c.next_of_top.new.frames.items c.push-in-Ok.new.self.items c.remaining_capacity.result c.take.new.called.keys c.in-Ok.charstring.now c.new-in-Ok.result
-    (search rules) (search rules) top.is c.remaining_capacity.ensures c.in_ok-take-in-Call.ensures c.push-in-Ok.ensures.items
-    c.in-Ok.ensures c.new-in-Ok.ensures (search rules)
+    let top = c.in-Some.ensures c.turns.invariant.0 in (
+      some_pushed c.push-in-Ok.new.self.items c.next_of_top.new.frames.items c.new-in-Ok.result c.push-in-Ok.ensures.items,
+      on_call (turn c.turns.invariant.1 top.below top.before top.was top.after c.in-Some.token top.yields)
+          (state_of c.spend.new.self) c.in-Call.i c.index_of-index.result c.next_of_top.new.frames.items c.push-in-Ok.new.self.items c.remaining_capacity.result c.take.new.called.keys c.in-Ok.charstring.now c.new-in-Ok.result
+          (search rules) (search rules) top.is c.remaining_capacity.ensures c.in_ok-take-in-Call.ensures c.push-in-Ok.ensures.items
+          c.in-Ok.ensures c.new-in-Ok.ensures (search rules),
+    )

@@ -1,3 +1,4 @@
+use Rattle.std.proofs.Common.{◌<◌, length}
 use Rattle.t1_char.specs.Tokens.{tokens}
 use Rattle.t1_run.specs.Run.{run, level_limit}
 use Rattle.t1_run.specs.Machine.{state_of}
@@ -9,4 +10,5 @@ decreases-turns g l = l.machine.allowed
 
 abbrev pub invariant-turns : goal.invariant-turns
 invariant-turns g l =
+    (0 < length l.frames.items) ×
     Turns (run (g.S.Subroutines.subrs l.subrs) l.hints level_limit (tokens l.charstring) (state_of l.initial.machine)) l.initial.called.keys (g.S.Subroutines.subrs l.subrs) l.hints l.frames.items (state_of l.machine) l.called.keys
