@@ -10,3 +10,8 @@ pub mod ListingLemmas
 pub mod LineTexts
 pub mod WrittenLemmas
 pub mod ConflictLemmas
+pub mod Searches
+pub mod Merges
+pub mod Conflicts
+pub mod Sorted
+pub mod Places

@@ -1,30 +1,35 @@
 // Tables: finite maps, joined key by key.
-ghost use Rattle.std.specs.Prelude.{◌≡◌, OnOk, OnErr, IfOk, MatchOption, IsTrue, ◌↔◌};
+ghost use Rattle.std.specs.Prelude.{◌≡◌, ◌++◌, OnOk, OnErr, IfOk, MatchOption};
 ghost use Rattle.std.specs.Option.{option_map, option_copied};
 ghost use Rattle.std.specs.FinMap as fin;
-ghost use Rattle.t1_join.specs.Join.{states_agree};
-ghost use Rattle.t1_join.specs.TableMeaning.{TableMeaning, TablesAgree, joined_table, with_absent, IsFirstConflict};
+ghost use Rattle.t1_join.specs.Meaning.{meaning_cmp, same_meaning};
+ghost use Rattle.t1_join.specs.Passes.{first_met, merge};
+ghost use Rattle.t1_join.specs.TableMeaning.{TablesAgree, IsFirstConflict, entry_meanings, pair_meaning};
 
 use crate::keys::{Kept, Key};
 use crate::partial::Join;
 use std::alloc::{AllocError, Global};
-use std::collections::{BTreeMap, btree_map};
+use std::cmp::Ordering;
 use std::marker::Model;
+use std::slice;
 
-/// A finite map, seen by the meanings of its keys and values.
+/// A finite map, seen by the meanings of its keys and values: its entries stand upwards by key.
 #[derive(Drop)]
 pub struct Table<K: Key, V: Kept> {
-    map: BTreeMap<K, V>,
+    entries: Vec<(K, V)>,
 }
 
 impl<K: Key, V: Kept> Model for Table<K, V> {
-    ghost use Rattle.t1_join.specs.TableMeaning.{TableMeaning, table_code, meaning_of_entries};
+    ghost use Rattle.t1_join.specs.Meaning.{meaning_cmp};
+    ghost use Rattle.t1_join.specs.TableMeaning.{TableMeaning, table_code, meaning_of_entries, entry_meanings, Rises};
 
     ghost Value = { TableMeaning };
 
     ghost coded = { table_code };
 
-    ghost view = { λ t. meaning_of_entries K.meaning V.meaning t.map.entries };
+    ghost view = { λ t. meaning_of_entries K.meaning V.meaning t.entries.items };
+
+    ghost invariant = { λ t. Rises meaning_cmp (entry_meanings K.meaning V.meaning t.entries.items) };
 }
 
 impl<K: Key + Drop, V: Kept + Drop> Table<K, V> {
@@ -33,7 +38,7 @@ impl<K: Key + Drop, V: Kept + Drop> Table<K, V> {
         ensures { result ≡ fin.empty }
     {
         Table {
-            map: BTreeMap::new(alloc),
+            entries: Vec::new(alloc),
         }
     }
 
@@ -42,7 +47,10 @@ impl<K: Key + Drop, V: Kept + Drop> Table<K, V> {
         ensures ok { OnOk result (self.new ≡ fin.insert self.old (K.meaning key) (V.meaning value)) }
         ensures err { OnErr result (self.new ≡ self.old) }
     {
-        self.map.insert(key, value)?;
+        match self.entries.binary_search_by(|entry| entry.0.cmp(&key)) {
+            Ok(at) => self.entries[at].1 = value,
+            Err(at) => self.entries.insert(at, (key, value))?,
+        }
         Ok(())
     }
 
@@ -50,7 +58,10 @@ impl<K: Key + Drop, V: Kept + Drop> Table<K, V> {
     pub fn get(&self, key: &K) -> Option<&V>
         ensures { option_map V.meaning (option_copied result) ≡ fin.get self.now (K.meaning key.now) }
     {
-        self.map.get(key)
+        match self.entries.binary_search_by(|entry| entry.0.cmp(key)) {
+            Ok(at) => Some(&self.entries[at].1),
+            Err(_) => None,
+        }
     }
 
     /// The entries, upwards by key.
@@ -58,17 +69,7 @@ impl<K: Key + Drop, V: Kept + Drop> Table<K, V> {
         ensures { result ≡ fin.entries self.now }
     {
         Entries {
-            inner: self.map.iter(),
-        }
-    }
-
-    // Whether the value at the key joins with what the table has there.
-    fn fits(&self, key: &K, value: &V) -> bool
-        ensures { result ≡ states_agree (Some (V.meaning value.now)) (fin.get self.now (K.meaning key.now)) }
-    {
-        match self.get(key) {
-            Some(own) => value.same(own),
-            None => true,
+            inner: self.entries.iter(),
         }
     }
 
@@ -76,34 +77,89 @@ impl<K: Key + Drop, V: Kept + Drop> Table<K, V> {
     pub fn conflict(&self, other: &Table<K, V>) -> Option<&K>
         ensures { MatchOption result (TablesAgree self.now other.now) (λ k. IsFirstConflict self.now other.now (K.meaning k.now)) }
     {
-        for (k, v) in self.entries() {
-            if !other.fits(k, v) {
-                return Some(k);
+        first_conflict(&self.entries, &other.entries)
+    }
+}
+
+// The first key that one pass over both tables meets with two values that differ.
+fn first_conflict<'t, K: Key, V: Kept>(first: &'t [(K, V)], second: &[(K, V)]) -> Option<&'t K>
+    ensures { option_map K.meaning (option_copied result) ≡ first_met meaning_cmp same_meaning (entry_meanings K.meaning V.meaning first.now) (entry_meanings K.meaning V.meaning second.now) }
+{
+    let mut i = 0;
+    let mut j = 0;
+    'pass: while i < first.len() && j < second.len() {
+        match first[i].0.cmp(&second[j].0) {
+            Ordering::Less => i += 1,
+            Ordering::Greater => j += 1,
+            Ordering::Equal => {
+                if !first[i].1.same(&second[j].1) {
+                    return Some(&first[i].0);
+                }
+                i += 1;
+                j += 1;
             }
         }
-        None
     }
+    None
+}
 
-    // Puts a copy of the value at a copy of the key, unless the key has one.
-    fn insert_absent(&mut self, alloc: Global, key: &K, value: &V) -> Result<(), AllocError>
-        ensures ok { OnOk result (self.new ≡ with_absent self.old (K.meaning key.now) (V.meaning value.now)) }
-        ensures err { OnErr result (self.new ≡ self.old) }
-    {
-        if self.get(key).is_some() {
-            return Ok(());
-        }
-        self.insert(key.copy(alloc)?, value.copy(alloc)?)
-    }
+// An entry of the same meanings.
+fn copied<K: Key + Drop, V: Kept + Drop>(
+    alloc: Global,
+    entry: &(K, V),
+) -> Result<(K, V), AllocError>
+    ensures { IfOk result (λ e. pair_meaning K.meaning V.meaning e ≡ pair_meaning K.meaning V.meaning entry.now) }
+{
+    let key = entry.0.copy(alloc)?;
+    let value = entry.1.copy(alloc)?;
+    Ok((key, value))
+}
 
-    // Puts copies of the other's entries at the keys that have none.
-    fn add_all(&mut self, alloc: Global, other: &Table<K, V>) -> Result<(), AllocError>
-        ensures ok { OnOk result (self.new ≡ joined_table self.old other.now) }
-    {
-        for (k, v) in other.entries() {
-            self.insert_absent(alloc, k, v)?;
-        }
-        Ok(())
+// Adds copies of these entries at the end.
+fn add_copies<K: Key + Drop, V: Kept + Drop>(
+    alloc: Global,
+    all: &mut Vec<(K, V)>,
+    entries: &[(K, V)],
+) -> Result<(), AllocError>
+    ensures { OnOk result (entry_meanings K.meaning V.meaning all.new.items ≡ entry_meanings K.meaning V.meaning all.old.items ++ entry_meanings K.meaning V.meaning entries.now) }
+{
+    for entry in entries {
+        all.push(copied(alloc, entry)?)?;
     }
+    Ok(())
+}
+
+// Copies of the entries of both, upwards by key, in one pass by two positions: the first's where both have a key.
+fn merged<K: Key + Drop, V: Kept + Drop>(
+    alloc: Global,
+    first: &[(K, V)],
+    second: &[(K, V)],
+) -> Result<Vec<(K, V)>, AllocError>
+    ensures { IfOk result (λ all. entry_meanings K.meaning V.meaning all.items ≡ merge meaning_cmp (entry_meanings K.meaning V.meaning first.now) (entry_meanings K.meaning V.meaning second.now)) }
+{
+    let mut all = Vec::new(alloc);
+    let mut i = 0;
+    let mut j = 0;
+    'pass: while i < first.len() && j < second.len() {
+        match first[i].0.cmp(&second[j].0) {
+            Ordering::Less => {
+                all.push(copied(alloc, &first[i])?)?;
+                i += 1;
+            }
+            Ordering::Equal => {
+                all.push(copied(alloc, &first[i])?)?;
+                i += 1;
+                j += 1;
+            }
+            Ordering::Greater => {
+                all.push(copied(alloc, &second[j])?)?;
+                j += 1;
+            }
+        }
+    }
+    add_copies(alloc, &mut all, &first[i..])?;
+    add_copies(alloc, &mut all, &second[j..])?;
+    Ok(all)
 }
 
 impl<K: Key + Drop, V: Kept + Drop> Join for Table<K, V> {
@@ -125,27 +181,27 @@ impl<K: Key + Drop, V: Kept + Drop> Join for Table<K, V> {
     }
 
     fn join(&self, alloc: Global, other: &Table<K, V>) -> Result<Table<K, V>, AllocError> {
-        let mut both = Table::new(alloc);
-        both.add_all(alloc, self)?;
-        both.add_all(alloc, other)?;
-        Ok(both)
+        Ok(Table {
+            entries: merged(alloc, &self.entries, &other.entries)?,
+        })
     }
 }
 
 /// The entries of a table, upwards by key.
 #[derive(Drop)]
 pub struct Entries<'a, K: Key, V: Kept> {
-    inner: btree_map::Iter<'a, K, V>,
+    inner: slice::Iter<'a, (K, V)>,
 }
 
 impl<'a, K: Key, V: Kept> Model for Entries<'a, K, V> {
-    ghost use Rattle.std.specs.Prelude.{List, ◌∷◌};
+    ghost use Rattle.std.specs.Prelude.{List};
+    ghost use Rattle.std.specs.Slice.Iter.{iter_rest};
     ghost use Rattle.t1_join.specs.Meaning.{Meaning};
     ghost use Rattle.t1_join.specs.TableMeaning.{entry_meanings};
 
     ghost Value = { List (Meaning × Meaning) };
 
-    ghost view = { λ s. entry_meanings K.meaning V.meaning s.inner };
+    ghost view = { λ s. entry_meanings K.meaning V.meaning (iter_rest s.inner) };
 }
 
 impl<'a, K: Key, V: Kept> Iterator for Entries<'a, K, V> {
@@ -161,6 +217,7 @@ impl<'a, K: Key, V: Kept> Iterator for Entries<'a, K, V> {
     ghost remaining = { λ s. at_most (length s) };
 
     fn next(&mut self) -> Option<(&'a K, &'a V)> {
-        self.inner.next()
+        let (key, value) = self.inner.next()?;
+        Some((key, value))
     }
 }

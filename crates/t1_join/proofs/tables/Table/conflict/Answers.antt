@@ -1,23 +1,15 @@
-use Rattle.std.proofs.Common.{sym, ◌∙◌, subst, true≢false}
-use Rattle.std.proofs.lemmas.Map.Iter.{rest_more}
-use Rattle.t1_join.specs.TableMeaning.{lent_meanings}
-use Rattle.t1_join.proofs.ScanLemmas.{Scanned, scan_start, scan_step, scan_found}
+use Rattle.std.proofs.Common.{sym, ◌∙◌, ◌≡◌}
+use Rattle.std.specs.Borrow.{Bor}
+use Rattle.std.specs.Option.{option_map, option_copied}
+use Rattle.t1_join.specs.Meaning.{meaning_cmp, same_meaning}
+use Rattle.t1_join.specs.Passes.{first_met}
+use Rattle.t1_join.specs.TableMeaning.{entry_meanings}
+use Rattle.t1_join.proofs.Conflicts.{conflict_is, read_copied}
 use Rattle.t1_join.proofs.tables.Table.conflict.Goals as goal
 
-pub loop-k-init : goal.loop-k-init
-loop-k-init g c =
-    subst (Scanned c.args.self.now c.args.other.now)
-    (sym (c.into_iter-k-iterator.ensures.into_iter_gives ∙ c.entries-k-items.ensures))
-    (scan_start c.args.self.now c.args.other.now)
-
-pub returns-then-not-fits : goal.returns-then-not-fits
-returns-then-not-fits g c =
-    scan_found c.args.self.now c.args.other.now (lent_meanings g.K.Kept.meaning g.V.Kept.meaning (c.in-Some.k, c.in-Some.v)) c.next.new.self
-    (subst (Scanned c.args.self.now c.args.other.now) (rest_more (lent_meanings g.K.Kept.meaning g.V.Kept.meaning) _ _ _ _ c.in-Some.is c.next.ensures.steps) c.loop-k.invariant)
-    (λ a. true≢false (sym a ∙ sym c.fits.ensures ∙ c.if-not-fits.true))
-
-pub loop-k-preserved : goal.loop-k-preserved
-loop-k-preserved g c =
-    scan_step c.args.self.now c.args.other.now (lent_meanings g.K.Kept.meaning g.V.Kept.meaning (c.in-Some.k, c.in-Some.v)) c.next.new.self
-    (subst (Scanned c.args.self.now c.args.other.now) (rest_more (lent_meanings g.K.Kept.meaning g.V.Kept.meaning) _ _ _ _ c.in-Some.is c.next.ensures.steps) c.loop-k.invariant)
-    (sym c.fits.ensures ∙ c.if-not-fits.false)
+pub returns : goal.returns
+returns g c =
+    let mine = entry_meanings g.K.Kept.meaning g.V.Kept.meaning c.self.inside.entries.items in
+    let others = entry_meanings g.K.Kept.meaning g.V.Kept.meaning c.other.inside.entries.items in
+    let met : option_map g.K.Kept.meaning (option_copied c.first_conflict.result) ≡ first_met meaning_cmp same_meaning mine others = rw (← c.deref.ensures.value, ← c.deref-2.ensures.value) c.first_conflict.ensures in
+    conflict_is (λ (k : Bor g.row.K.Denot). g.K.Kept.meaning k.now) mine others c.args.self.now c.args.other.now c.self.invariant c.other.invariant c.self.view_is c.other.view_is c.first_conflict.result (sym (read_copied g.K.Kept.meaning c.first_conflict.result) ∙ met)

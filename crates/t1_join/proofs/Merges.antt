@@ -1,0 +1,189 @@
+-- One pass over two lists of entries whose keys rise.
+use Rattle.std.proofs.Common.{◌≡◌, refl, sym, ap, ◌∙◌, subst, ℕ, ◌+◌, ◌<◌, ◌≤◌, arith, Bool, true, false, cond, ◌&&◌, ◌⊎◌, T, List, [], ◌∷◌, ◌++◌, map, length, get_or, take, take_all, drop, ◌-◌, append_assoc, Option, Some, None, inl, inr}
+use Rattle.std.proofs.lemmas.List.{map-append, append-nil, drop_more, drop_all, length-drop}
+use Rattle.std.specs.declared.cmp.Ordering.{Ordering}
+use Rattle.std.specs.declared.cmp.Ordering.TheVariants.{Less, Equal, Greater}
+use Rattle.std.specs.Ordering.{ordering_reverse, is_eq, is_lt}
+use Rattle.std.specs.Cmp.{IsTotalOrder, alike_right}
+use Rattle.std.specs.FinMap.{find, from_sorted, from_entries, entries, entries-from_sorted, get-from_sorted, get-from_entries, IsAntisymmetric, same_map}
+use Rattle.std.specs.FinMap.Entries.{below_all, by_order}
+use Rattle.t1_join.specs.TableMeaning.{Rises}
+use Rattle.t1_join.specs.Passes.{weave, merge}
+
+-- ---- the loop: what is out, and then the merge of what is left, is the merge of all
+
+module _ {K X Y : Type 0} (R : K → K → Ordering) (v : Y → K × X) where
+  -- so far, and with what is left of both
+  abbrev pub Merging : List Y → List Y → List Y → ℕ → ℕ → Type 0
+  Merging es fs out i j = map v out ++ merge R (map v (drop i es)) (map v (drop j fs)) ≡ merge R (map v es) (map v fs)
+
+  seam : (out : List Y) (x : Y) (rest : List (K × X)) → map v (out ++ x ∷ []) ++ rest ≡ map v out ++ v x ∷ rest
+  seam out x rest = ap (λ (a : List (K × X)). a ++ rest) (map-append v out (x ∷ [])) ∙ append_assoc (map v out) (v x ∷ []) rest
+
+  nothing_more : (xs : List (K × X)) → merge R xs [] ≡ xs
+  nothing_more [] = refl
+  nothing_more (x ∷ xs) = ap (λ (a : List (K × X)). x ∷ a) (nothing_more xs)
+
+  module _ (es fs out : List Y) (i j : ℕ) (d d' : Y) (in_es : i < length es) (in_fs : j < length fs) (h : Merging es fs out i j) where
+    x : Y
+    x = get_or es i d
+
+    y : Y
+    y = get_or fs j d'
+
+    opened : map v out ++ merge R (v x ∷ map v (drop (i + 1) es)) (v y ∷ map v (drop (j + 1) fs)) ≡ merge R (map v es) (map v fs)
+    unfolding x y
+    opened = (λ k. map v out ++ merge R (map v (sym (drop_more es i d in_es) k)) (map v (sym (drop_more fs j d' in_fs) k))) ∙ h
+
+    chosen : (r : Ordering) → R (v x).0 (v y).0 ≡ r → map v out ++ by_order r (v x ∷ merge R (map v (drop (i + 1) es)) (v y ∷ map v (drop (j + 1) fs))) (v x ∷ merge R (map v (drop (i + 1) es)) (map v (drop (j + 1) fs))) (v y ∷ weave R (v x) (merge R (map v (drop (i + 1) es))) (map v (drop (j + 1) fs))) ≡ merge R (map v es) (map v fs)
+    chosen r e = subst (λ (r : Ordering). map v out ++ by_order r (v x ∷ merge R (map v (drop (i + 1) es)) (v y ∷ map v (drop (j + 1) fs))) (v x ∷ merge R (map v (drop (i + 1) es)) (map v (drop (j + 1) fs))) (v y ∷ weave R (v x) (merge R (map v (drop (i + 1) es))) (map v (drop (j + 1) fs))) ≡ merge R (map v es) (map v fs)) e opened
+
+    pub first_goes : R (v (get_or es i d)).0 (v (get_or fs j d')).0 ≡ Less → Merging es fs (out ++ get_or es i d ∷ []) (i + 1) j
+    unfolding x y
+    first_goes e = (λ k. map v (out ++ x ∷ []) ++ merge R (map v (drop (i + 1) es)) (map v (drop_more fs j d' in_fs k))) ∙ seam out x _ ∙ chosen Less e
+
+    pub both_go : R (v (get_or es i d)).0 (v (get_or fs j d')).0 ≡ Equal → Merging es fs (out ++ get_or es i d ∷ []) (i + 1) (j + 1)
+    unfolding x y
+    both_go e = seam out x _ ∙ chosen Equal e
+
+    pub second_goes : R (v (get_or es i d)).0 (v (get_or fs j d')).0 ≡ Greater → Merging es fs (out ++ get_or fs j d' ∷ []) i (j + 1)
+    unfolding x y
+    second_goes e = (λ k. map v (out ++ y ∷ []) ++ merge R (map v (drop_more es i d in_es k)) (map v (drop (j + 1) fs))) ∙ seam out y _ ∙ chosen Greater e
+
+  left : (out es fs : List Y) (w : List (K × X)) → (es ≡ []) ⊎ (fs ≡ []) → map v out ++ merge R (map v es) (map v fs) ≡ w → map v ((out ++ es) ++ fs) ≡ w
+  left out es fs w (inl none) h =
+      ap (λ (a : List Y). map v ((out ++ a) ++ fs)) none ∙ ap (λ (a : List Y). map v (a ++ fs)) (append-nil out) ∙ map-append v out fs
+      ∙ ap (λ (a : List Y). map v out ++ merge R (map v a) (map v fs)) (sym none) ∙ h
+  left out es fs w (inr none) h =
+      ap (λ (a : List Y). map v ((out ++ es) ++ a)) none ∙ ap (map v) (append-nil (out ++ es)) ∙ map-append v out es
+      ∙ ap (λ (a : List (K × X)). map v out ++ a) (sym (nothing_more (map v es)))
+      ∙ ap (λ (a : List Y). map v out ++ merge R (map v es) (map v a)) (sym none) ∙ h
+
+  -- what stands from i on, as a slice has it
+  rest_of : (xs : List Y) (i : ℕ) → take (length xs - i) (drop i xs) ≡ drop i xs
+  rest_of xs i = take_all (length xs - i) (drop i xs) (omega (arith, length-drop i xs))
+
+  -- where one list is used up, the rest of both ends the merge
+  pub ended : (es fs out : List Y) (i j : ℕ) → (length es ≤ i) ⊎ (length fs ≤ j) → Merging es fs out i j → map v ((out ++ take (length es - i) (drop i es)) ++ take (length fs - j) (drop j fs)) ≡ merge R (map v es) (map v fs)
+  ended es fs out i j (inl h) m = rw (rest_of es i, rest_of fs j) (left out (drop i es) (drop j fs) _ (inl (drop_all i es h)) m)
+  ended es fs out i j (inr h) m = rw (rest_of es i, rest_of fs j) (left out (drop i es) (drop j fs) _ (inr (drop_all j fs h)) m)
+
+  -- the same where copies of both rests come after what is out
+  pub ended_by_copies : (es fs out : List Y) (i j : ℕ) → (length es ≤ i) ⊎ (length fs ≤ j) → Merging es fs out i j → (once twice : List Y) →
+      map v once ≡ map v out ++ map v (take (length es - i) (drop i es)) → map v twice ≡ map v once ++ map v (take (length fs - j) (drop j fs)) → map v twice ≡ merge R (map v es) (map v fs)
+  ended_by_copies es fs out i j over m once twice p q =
+      q ∙ ap (λ (a : List (K × X)). a ++ map v (take (length fs - j) (drop j fs))) (p ∙ sym (map-append v out (take (length es - i) (drop i es))))
+      ∙ sym (map-append v (out ++ take (length es - i) (drop i es)) (take (length fs - j) (drop j fs)))
+      ∙ ended es fs out i j over m
+
+-- ---- the merge of two lists whose keys rise is that of their maps
+
+pub both_true : (a b : Bool) → T (a && b) → T a × T b
+both_true true b h = (tt, h)
+both_true false b h = absurd h
+
+pub make_both : (a b : Bool) → T a → T b → T (a && b)
+make_both true b p q = q
+make_both false b p q = p
+
+lt_is : (r : Ordering) → T (is_lt r) → r ≡ Less
+lt_is Less h = refl
+lt_is Equal h = absurd h
+lt_is Greater h = absurd h
+
+pub is_lt_from : {r : Ordering} → r ≡ Less → T (is_lt r)
+is_lt_from e = subst (λ r. T (is_lt r)) (sym e) tt
+
+-- the first of two values that is there
+abbrev first_of : {X : Type 0} → Option X → Option X → Option X
+first_of None y = y
+first_of (Some x) y = Some x
+
+module _ {K X : Type 0} {R : K → K → Ordering} (o : IsTotalOrder R) where
+  pub Below-less : (x y : K) (es : List (K × X)) → R x y ≡ Less → T (below_all R y es) → T (below_all R x es)
+  Below-less x y [] p h = tt
+  Below-less x y (e ∷ es) p h = make_both _ _ (is_lt_from (o.trans x y e.0 p (lt_is _ (both_true _ _ h).0))) (Below-less x y es p (both_true _ _ h).1)
+
+  pub below_tied : (x y : K) (es : List (K × X)) → R x y ≡ Equal → T (below_all R y es) → T (below_all R x es)
+  below_tied x y [] p h = tt
+  below_tied x y (e ∷ es) p h = make_both _ _ (is_lt_from (o.congr x y e.0 p ∙ lt_is _ (both_true _ _ h).0)) (below_tied x y es p (both_true _ _ h).1)
+
+  pub find_below : (q : K) (es : List (K × X)) → T (below_all R q es) → find R q es ≡ None
+  find_below q [] h = refl
+  find_below q (e ∷ es) h = ap (λ r. cond (is_eq r) (Some e.1) (find R q es)) (lt_is _ (both_true _ _ h).0) ∙ find_below q es (both_true _ _ h).1
+
+  -- what is below both lists is below their merge
+  below_weave : (x : K) (e : K × X) (rest : List (K × X) → List (K × X)) (fs : List (K × X)) → R x e.0 ≡ Less → ((gs : List (K × X)) → T (below_all R x gs) → T (below_all R x (rest gs))) → T (below_all R x fs) → T (below_all R x (weave R e rest fs))
+  below_weave x e rest [] p k h = make_both _ _ (is_lt_from p) (k [] tt)
+  below_weave x e rest (f ∷ fs) p k h =
+      elim (R e.0 f.0) as (λ r. T (below_all R x (by_order r (e ∷ rest (f ∷ fs)) (e ∷ rest fs) (f ∷ weave R e rest fs)))) [
+        | Less ↦ make_both _ _ (is_lt_from p) (k (f ∷ fs) h)
+        | Equal ↦ make_both _ _ (is_lt_from p) (k fs (both_true _ _ h).1)
+        | Greater ↦ make_both _ _ (both_true _ _ h).0 (below_weave x e rest fs p k (both_true _ _ h).1)
+      ]
+
+  below_merge : (x : K) (es fs : List (K × X)) → T (below_all R x es) → T (below_all R x fs) → T (below_all R x (merge R es fs))
+  below_merge x [] fs g h = h
+  below_merge x (e ∷ es) fs g h = below_weave x e (merge R es) fs (lt_is _ (both_true _ _ g).0) (λ gs k. below_merge x es gs (both_true _ _ g).1 k) h
+
+  -- the keys of the merge rise
+  rises_weave : (e : K × X) (es fs : List (K × X)) → T (below_all R e.0 es) → ((gs : List (K × X)) → Rises R gs → Rises R (merge R es gs)) → Rises R fs → Rises R (weave R e (merge R es) fs)
+  rises_weave e es [] b k h = make_both _ _ (below_merge e.0 es [] b tt) (k [] tt)
+  rises_weave e es (f ∷ fs) b k h =
+      let fb = (both_true _ _ h).0 in
+      let fr = (both_true _ _ h).1 in
+      elim (R e.0 f.0) as (λ r. R e.0 f.0 ≡ r → Rises R (by_order r (e ∷ merge R es (f ∷ fs)) (e ∷ merge R es fs) (f ∷ weave R e (merge R es) fs))) [
+        | Less ↦ λ p. make_both _ _ (below_merge e.0 es (f ∷ fs) b (make_both _ _ (is_lt_from p) (Below-less e.0 f.0 fs p fb))) (k (f ∷ fs) h)
+        | Equal ↦ λ p. make_both _ _ (below_merge e.0 es fs b (below_tied e.0 f.0 fs p fb)) (k fs fr)
+        | Greater ↦ λ p.
+            let less : R f.0 e.0 ≡ Less = o.antisymm f.0 e.0 ∙ ap ordering_reverse p in
+            make_both _ _ (below_weave f.0 e (merge R es) fs less (λ gs. below_merge f.0 es gs (Below-less f.0 e.0 es less b)) fb) (rises_weave e es fs b k fr)
+      ] refl
+
+  pub rises_merge : (es fs : List (K × X)) → Rises R es → Rises R fs → Rises R (merge R es fs)
+  rises_merge [] fs g h = h
+  rises_merge (e ∷ es) fs g h = rises_weave e es fs (both_true _ _ g).0 (λ gs k. rises_merge es gs (both_true _ _ g).1 k) h
+
+  -- and it finds what the first list finds, or else the second
+  found_weave : (q : K) (e : K × X) (es fs : List (K × X)) → T (below_all R e.0 es) → ((gs : List (K × X)) → Rises R gs → find R q (merge R es gs) ≡ first_of (find R q es) (find R q gs)) → Rises R fs → find R q (weave R e (merge R es) fs) ≡ first_of (find R q (e ∷ es)) (find R q fs)
+  found_weave q e es [] b k h =
+      elim (is_eq (R q e.0)) as (λ t. cond t (Some e.1) (find R q (merge R es [])) ≡ first_of (cond t (Some e.1) (find R q es)) None) [ true ↦ refl | false ↦ k [] tt ]
+  found_weave q e es (f ∷ fs) b k h =
+      elim (R e.0 f.0) as (λ r. R e.0 f.0 ≡ r → find R q (by_order r (e ∷ merge R es (f ∷ fs)) (e ∷ merge R es fs) (f ∷ weave R e (merge R es) fs)) ≡ first_of (find R q (e ∷ es)) (find R q (f ∷ fs))) [
+        | Less ↦ λ p. elim (is_eq (R q e.0)) as (λ t. cond t (Some e.1) (find R q (merge R es (f ∷ fs))) ≡ first_of (cond t (Some e.1) (find R q es)) (find R q (f ∷ fs))) [ true ↦ refl | false ↦ k (f ∷ fs) h ]
+        | Equal ↦ λ p.
+            let same : is_eq (R q f.0) ≡ is_eq (R q e.0) = ap is_eq (sym (alike_right o e.0 f.0 q p)) in
+            elim (is_eq (R q e.0)) as (λ t. is_eq (R q f.0) ≡ t → cond t (Some e.1) (find R q (merge R es fs)) ≡ first_of (cond t (Some e.1) (find R q es)) (find R q (f ∷ fs))) [
+              | true ↦ λ s. refl
+              | false ↦ λ s. k fs (both_true _ _ h).1 ∙ ap (λ t. first_of (find R q es) (cond t (Some f.1) (find R q fs))) (sym s)
+            ] same
+        | Greater ↦ λ p.
+            let less : R f.0 e.0 ≡ Less = o.antisymm f.0 e.0 ∙ ap ordering_reverse p in
+            let rest = found_weave q e es fs b k (both_true _ _ h).1 in
+            elim (R q f.0) as (λ r. R q f.0 ≡ r → cond (is_eq r) (Some f.1) (find R q (weave R e (merge R es) fs)) ≡ first_of (find R q (e ∷ es)) (cond (is_eq r) (Some f.1) (find R q fs))) [
+              | Less ↦ λ _. rest
+              | Greater ↦ λ _. rest
+              | Equal ↦ λ t.
+                  let low : R q e.0 ≡ Less = o.congr q f.0 e.0 t ∙ less in
+                  ap (λ (w : Option X). first_of w (Some f.1)) (sym (find_below q (e ∷ es) (make_both _ _ (is_lt_from low) (Below-less q e.0 es low b))))
+            ] refl
+      ] refl
+
+  found_merge : (q : K) (es fs : List (K × X)) → Rises R es → Rises R fs → find R q (merge R es fs) ≡ first_of (find R q es) (find R q fs)
+  found_merge q [] fs g h = refl
+  found_merge q (e ∷ es) fs g h = found_weave q e es fs (both_true _ _ g).0 (λ gs k. found_merge q es gs (both_true _ _ g).1 k) h
+
+  -- the map of what one pass makes of the entries of two maps
+  pub merged_from_sorted : IsAntisymmetric R → (es fs : List (K × X)) → Rises R es → Rises R fs → from_sorted {R = R} (merge R es fs) ≡ from_entries (entries (from_sorted {R = R} es) ++ entries (from_sorted {R = R} fs))
+  merged_from_sorted same es fs g h =
+      same_map o same _ _ (λ q.
+      get-from_sorted R (merge R es fs) q (rises_merge es fs g h) ∙ found_merge q es fs g h ∙ sym (found_both q es fs)
+      ∙ sym (get-from_entries o (entries (from_sorted {R = R} es) ++ entries (from_sorted {R = R} fs)) q ∙ (λ i. find R q (entries-from_sorted R es g i ++ entries-from_sorted R fs h i))))
+    where
+      find_in : (t : Bool) (a : X) (x y : Option X) → cond t (Some a) (first_of x y) ≡ first_of (cond t (Some a) x) y
+      find_in true a x y = refl
+      find_in false a x y = refl
+
+      found_both : (q : K) (es fs : List (K × X)) → find R q (es ++ fs) ≡ first_of (find R q es) (find R q fs)
+      found_both q [] fs = refl
+      found_both q (e ∷ es) fs = ap (cond (is_eq (R q e.0)) (Some e.1)) (found_both q es fs) ∙ find_in (is_eq (R q e.0)) e.1 (find R q es) (find R q fs)
