@@ -13,7 +13,8 @@ use Rattle.t1_join.specs.Join.{State, states_agree}
 use Rattle.std.specs.Ordering.{is_eq, ordering_reverse}
 use Rattle.std.specs.Cmp.{IsTotalOrder, alike_right, tied_itself}
 use Rattle.t1_join.specs.TableMeaning.{Rises, TableMeaning, TablesAgree, IsFirstConflict}
-use Rattle.t1_join.proofs.Merges.{both_true, make_both, is_lt_from, Below-less, below_tied, find_below}
+use Rattle.t1_join.proofs.Sorted.{both_true, make_both, is_lt_from}
+use Rattle.t1_join.proofs.Merges.{Below-less, below_tied, find_below}
 use Rattle.t1_join.specs.Passes.{met, first_met}
 
 module _ {K X Y : Type 0} (R : K → K → Ordering) (same : X → X → Bool) (v : Y → K × X) where

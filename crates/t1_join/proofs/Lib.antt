@@ -1,5 +1,5 @@
+pub mod Sorted
 pub mod EntryLemmas
-pub mod ScanLemmas
 pub mod OrderLemmas
 pub mod FrontLemmas
 pub mod Rows
@@ -13,5 +13,4 @@ pub mod ConflictLemmas
 pub mod Searches
 pub mod Merges
 pub mod Conflicts
-pub mod Sorted
 pub mod Places

@@ -2,7 +2,8 @@
 use Rattle.std.proofs.Common.{◌≡◌, ◌<◌, ◌≤◌, ◌==◌, ℕ, refl, sym, ◌∙◌, subst, List, [], ◌∷◌, length, cond, Bool, true, false, not, Option, None, Some, Result, Ok, Err, nat_le, ◌&&◌, ◌*◌, arith}
 use Rattle.std.specs.Prelude.{option_and_then, if◌then◌else◌}
 use Rattle.std.specs.Option.{option_map}
-use Rattle.std.specs.Result.{result_ok}
+use Rattle.std.specs.Bool.{MatchBool}
+use Rattle.std.specs.Result.{result_ok, IfOk, OnErr}
 use Rattle.std.specs.Ordering.{eq_by_cmp}
 use Rattle.std.proofs.lemmas.Bool.{leb-true}
 use Rattle.std.proofs.lemmas.Cmp.{nat_list_cmp_total}
@@ -12,7 +13,7 @@ use Rattle.hex.specs.declared.error.FromHexError.{FromHexError}
 use Rattle.hex.proofs.HexLemmas.{decode_of-ok}
 use Rattle.t1_join.specs.Meaning.{Meaning, meaning_cmp, of_number}
 use Rattle.t1_join.specs.Join.{State, joined_state}
-use Rattle.t1_join.specs.TableMeaning.{TableMeaning, joined_table}
+use Rattle.t1_join.specs.TableMeaning.{TableMeaning, IsNewEntry, IsRepeated, joined_table}
 use Rattle.t1_join.specs.TableLaws.{get_joined}
 use Rattle.t1_join.specs.ListingMeaning.{ListingMeaning, IsValue, IsIndex, IsListing, is_name}
 use Rattle.t1_join.specs.ListingText.{Entry, subr, glyph, split_at, digits_after, up_to, index_of, name_of, bytes_of, subr_of, glyph_of, entry_of, with_entry}
@@ -143,6 +144,12 @@ entry_listed l (glyph n v) h e = record {
   subr_values = h.subr_values;
   glyph_values = each_insert value_at l.glyphs n v e.1 h.glyph_values;
 }
+
+-- what holds of a table, with and without the entry, holds of it once the entry was added or refused
+pub table_added : {F : Type 0} (P : TableMeaning → Type 0) (old new : TableMeaning) (k v : Meaning) (r : Result Bool F) → IfOk r (λ b. MatchBool b (IsNewEntry old k v new) (IsRepeated old k new)) → OnErr r (new ≡ old) → P old → P (fin.insert old k v) → P new
+table_added P old new k v (Ok true) h e p q = subst P (sym h.new_entry) q
+table_added P old new k v (Ok false) h e p q = subst P (sym h.unchanged) p
+table_added P old new k v (Err x) h e p q = subst P (sym e) p
 
 pub both_listed : (l r : ListingMeaning) → IsListing l → IsListing r → IsListing (record { subrs = joined_table l.subrs r.subrs; glyphs = joined_table l.glyphs r.glyphs })
 both_listed l r h k = record {

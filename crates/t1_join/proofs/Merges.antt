@@ -9,6 +9,7 @@ use Rattle.std.specs.FinMap.{find, from_sorted, from_entries, entries, entries-f
 use Rattle.std.specs.FinMap.Entries.{below_all, by_order}
 use Rattle.t1_join.specs.TableMeaning.{Rises}
 use Rattle.t1_join.specs.Passes.{weave, merge}
+use Rattle.t1_join.proofs.Sorted.{both_true, make_both, lt_is, is_lt_from}
 
 -- ---- the loop: what is out, and then the merge of what is left, is the merge of all
 
@@ -77,22 +78,6 @@ module _ {K X Y : Type 0} (R : K → K → Ordering) (v : Y → K × X) where
       ∙ ended es fs out i j over m
 
 -- ---- the merge of two lists whose keys rise is that of their maps
-
-pub both_true : (a b : Bool) → T (a && b) → T a × T b
-both_true true b h = (tt, h)
-both_true false b h = absurd h
-
-pub make_both : (a b : Bool) → T a → T b → T (a && b)
-make_both true b p q = q
-make_both false b p q = p
-
-lt_is : (r : Ordering) → T (is_lt r) → r ≡ Less
-lt_is Less h = refl
-lt_is Equal h = absurd h
-lt_is Greater h = absurd h
-
-pub is_lt_from : {r : Ordering} → r ≡ Less → T (is_lt r)
-is_lt_from e = subst (λ r. T (is_lt r)) (sym e) tt
 
 -- the first of two values that is there
 abbrev first_of : {X : Type 0} → Option X → Option X → Option X

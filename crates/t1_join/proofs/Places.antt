@@ -10,7 +10,8 @@ use Rattle.std.specs.FinMap.{put, is_sorted, from_sorted, entries-from_sorted, e
 use Rattle.std.specs.FinMap.Entries.{by_order, is_sorted-put}
 use Rattle.std.specs.FinMap as fin
 use Rattle.t1_join.specs.TableMeaning.{Rises}
-use Rattle.t1_join.proofs.Searches.{both_true, above, rising}
+use Rattle.t1_join.proofs.Sorted.{both_true}
+use Rattle.t1_join.proofs.Searches.{above, rising}
 
 module _ {K X Y : Type 0} {R : K → K → Ordering} (o : IsTotalOrder R) (v : Y → K × X) where
   -- what `put` makes of a first entry, by how the key compares with the entry's

@@ -9,15 +9,7 @@ use Rattle.std.specs.List.Sorted.{IsNonDecreasingBy, IsSearchInRange, IsBinarySe
 use Rattle.std.specs.FinMap.{find, from_sorted, get, get-from_sorted}
 use Rattle.std.specs.FinMap.Entries.{below_all}
 use Rattle.t1_join.specs.TableMeaning.{Rises}
-
-pub both_true : (a b : Bool) → T (a && b) → T a × T b
-both_true true b h = (tt, h)
-both_true false b h = absurd h
-
-lt_is : (r : Ordering) → T (is_lt r) → r ≡ Less
-lt_is Less h = refl
-lt_is Equal h = absurd h
-lt_is Greater h = absurd h
+use Rattle.t1_join.proofs.Sorted.{both_true, lt_is}
 
 not_eq : (r : Ordering) → (r ≡ Equal → ⊥) → is_eq r ≡ false
 not_eq Less h = refl

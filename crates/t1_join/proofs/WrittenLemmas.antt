@@ -18,8 +18,15 @@ use Rattle.t1_join.specs.ListingMeaning.{ListingMeaning, IsIndex, IsListing}
 use Rattle.t1_join.specs.ListingText.{Entry, subr, glyph, lines_of, same_key, read_entry, read_lines, listing_from, listing_result, listing_of, subr_line, glyph_line, text_of}
 use Rattle.t1_join.specs.LineMeaning.{IsEntry}
 use Rattle.t1_join.proofs.EntryLemmas.{same_by_cmp, is_eq-Equal}
-use Rattle.t1_join.proofs.ScanLemmas.{first, second, is_lt-Less, not_below, present_first}
+use Rattle.t1_join.proofs.Sorted.{both_true, lt_is}
+use Rattle.t1_join.proofs.Merges.{find_below}
 use Rattle.t1_join.proofs.LineTexts.{bare_line, entry_read, line_first}
+
+present_first : (b : Bool) (x : State) (v : Meaning) (z : State) → (b ≡ true → x ≡ None) → joined_state x (cond b (Some v) z) ≡ joined_state (cond b (Some v) x) z
+present_first true None v z h = refl
+present_first false None v z h = refl
+present_first false (Some w) v z h = refl
+present_first true (Some w) v z h = cc (h refl)
 
 -- ---- entries, line by line
 
@@ -83,13 +90,13 @@ above_differs k q l = by (eq_by_cmp meaning_cmp q k) refl
 -- the entries that are found at their keys
 each_found : (P : Meaning → Meaning → Type 0) (es : List (Meaning × Meaning)) → T (fin.is_sorted meaning_cmp es) → ((k v : Meaning) → fin.find meaning_cmp k es ≡ Some v → P k v) → AllByRecursion (λ e. P e.0 e.1) es
 each_found P [] s h = tt
-each_found P (e ∷ es) s h = (h e.0 e.1 (ap (λ o. cond (is_eq o) (Some e.1) (fin.find meaning_cmp e.0 es)) (tied_itself nat_list_cmp_total e.0)), each_found P es (second _ _ s) (λ k v f. h k v (later k v f (eq_by_cmp meaning_cmp k e.0) refl)))
+each_found P (e ∷ es) s h = (h e.0 e.1 (ap (λ o. cond (is_eq o) (Some e.1) (fin.find meaning_cmp e.0 es)) (tied_itself nat_list_cmp_total e.0)), each_found P es (both_true _ _ s).1 (λ k v f. h k v (later k v f (eq_by_cmp meaning_cmp k e.0) refl)))
   where
     later : (k v : Meaning) → fin.find meaning_cmp k es ≡ Some v → (b : Bool) → eq_by_cmp meaning_cmp k e.0 ≡ b → cond (eq_by_cmp meaning_cmp k e.0) (Some e.1) (fin.find meaning_cmp k es) ≡ Some v
     later k v f false t = ap (λ b. cond b (Some e.1) (fin.find meaning_cmp k es)) t ∙ f
     later k v f true t =
         let same : k ≡ e.0 = same_by_cmp k e.0 (is_eq-Equal (meaning_cmp k e.0) t) in
-        let none : fin.find meaning_cmp k es ≡ None = ap (λ q. fin.find meaning_cmp q es) same ∙ not_below e.0 es (first _ _ s) in
+        let none : fin.find meaning_cmp k es ≡ None = ap (λ q. fin.find meaning_cmp q es) same ∙ find_below nat_list_cmp_total e.0 es (both_true _ _ s).0 in
         let never : None ≡ Some v = sym none ∙ f in
         absurd (none_some never)
       where
@@ -110,9 +117,9 @@ value_at m q = fin.get m q
 get_all : (es : List (Meaning × Meaning)) (m : TableMeaning) (q : Meaning) → T (fin.is_sorted meaning_cmp es) → value_at (put_all es m) q ≡ joined_state (fin.find meaning_cmp q es) (fin.get m q)
 get_all [] m q s = refl
 get_all (e ∷ es) m q s =
-    get_all es (fin.insert m e.0 e.1) q (second _ _ s)
+    get_all es (fin.insert m e.0 e.1) q (both_true _ _ s).1
     ∙ ap (joined_state (fin.find meaning_cmp q es)) (fin.get-insert nat_list_cmp_total m e.0 e.1 q)
-    ∙ present_first (eq_by_cmp meaning_cmp q e.0) (fin.find meaning_cmp q es) e.1 (fin.get m q) (λ t. ap (λ k. fin.find meaning_cmp k es) (same_by_cmp q e.0 (is_eq-Equal (meaning_cmp q e.0) t)) ∙ not_below e.0 es (first _ _ s))
+    ∙ present_first (eq_by_cmp meaning_cmp q e.0) (fin.find meaning_cmp q es) e.1 (fin.get m q) (λ t. ap (λ k. fin.find meaning_cmp k es) (same_by_cmp q e.0 (is_eq-Equal (meaning_cmp q e.0) t)) ∙ find_below nat_list_cmp_total e.0 es (both_true _ _ s).0)
 
 state_none : (x : State) → joined_state x None ≡ x
 state_none None = refl
@@ -133,12 +140,12 @@ module _ (made : Meaning × Meaning → Entry) (Good : Meaning → Type 0) (keye
   fresh_after : (e : Meaning × Meaning) (es : List (Meaning × Meaning)) (seen : List Entry) → Good e.0 → AllByRecursion (λ f. Good f.0) es → T (below_all meaning_cmp e.0 es) → Fresh es seen → Fresh es (made e ∷ seen)
   fresh_after e [] seen g gs s h = tt
   fresh_after e (f ∷ fs) seen g gs s h =
-      let apart : same_key (made f) (made e) ≡ false = keyed e f g gs.0 ∙ above_differs e.0 f.0 (is_lt-Less (meaning_cmp e.0 f.0) (first _ _ s)) in
-      (ap (λ b. b || list_any (same_key (made f)) seen) apart ∙ h.0, fresh_after e fs seen g gs.1 (second _ _ s) h.1)
+      let apart : same_key (made f) (made e) ≡ false = keyed e f g gs.0 ∙ above_differs e.0 f.0 (lt_is (meaning_cmp e.0 f.0) (both_true _ _ s).0) in
+      (ap (λ b. b || list_any (same_key (made f)) seen) apart ∙ h.0, fresh_after e fs seen g gs.1 (both_true _ _ s).1 h.1)
 
   apart_entries : (es : List (Meaning × Meaning)) (seen : List Entry) → AllByRecursion (λ f. Good f.0) es → T (fin.is_sorted meaning_cmp es) → Fresh es seen → Apart (map made es) seen
   apart_entries [] seen g s h = tt
-  apart_entries (e ∷ es) seen g s h = (h.0, apart_entries es (made e ∷ seen) g.1 (second _ _ s) (fresh_after e es seen g.0 g.1 (first _ _ s) h.1))
+  apart_entries (e ∷ es) seen g s h = (h.0, apart_entries es (made e ∷ seen) g.1 (both_true _ _ s).1 (fresh_after e es seen g.0 g.1 (both_true _ _ s).0 h.1))
 
 -- ---- a listing's entries
 

@@ -8,6 +8,7 @@ ghost use Rattle.t1_join.specs.ListingText.{listing_of, text_of, subr_line, glyp
 ghost use Rattle.t1_join.specs.Meaning.{of_number};
 ghost use Rattle.t1_join.specs.LineMeaning.{line_entry, has_entry, IsEntry, IsAdded};
 
+use crate::gathered::Gathered;
 use crate::keys::Kept;
 use crate::lines::{Line, read_line, split_at_byte};
 use crate::partial::Join;
@@ -102,14 +103,35 @@ impl Listing {
     {
         let _ = &self.subrs;
     }
+}
 
-    // A listing with no entry.
-    fn new(alloc: Global) -> Listing
+// The entries of the lines that were read.
+#[derive(Drop)]
+struct Lines {
+    subrs: Gathered<u16, Vec<u8>>,
+    glyphs: Gathered<Vec<u8>, Vec<u8>>,
+}
+
+impl Model for Lines {
+    ghost use Rattle.t1_join.specs.ListingMeaning.{ListingMeaning, listing_code, IsListing};
+
+    ghost Value = { ListingMeaning };
+
+    ghost coded = { listing_code };
+
+    ghost view = { λ l. record { subrs = l.subrs; glyphs = l.glyphs } };
+
+    ghost invariant = { λ l. IsListing (record { subrs = l.subrs; glyphs = l.glyphs }) };
+}
+
+impl Lines {
+    // No line.
+    fn new(alloc: Global) -> Lines
         ensures { result ≡ record { subrs = fin.empty; glyphs = fin.empty } }
     {
-        Listing {
-            subrs: Table::new(alloc),
-            glyphs: Table::new(alloc),
+        Lines {
+            subrs: Gathered::new(alloc),
+            glyphs: Gathered::new(alloc),
         }
     }
 
@@ -119,20 +141,18 @@ impl Listing {
         ensures { IfOk result (λ new. MatchBool new (IsAdded self.old (line_entry line) self.new) (IsTrue (has_entry self.old (line_entry line)))) }
     {
         match line {
-            Line::Subr(index, bytes) => {
-                if self.subrs.get(&index).is_some() {
-                    return Ok(false);
-                }
-                self.subrs.insert(index, bytes)?;
-            }
-            Line::Glyph(name, bytes) => {
-                if self.glyphs.get(&name).is_some() {
-                    return Ok(false);
-                }
-                self.glyphs.insert(name, bytes)?;
-            }
+            Line::Subr(index, bytes) => self.subrs.add(index, bytes),
+            Line::Glyph(name, bytes) => self.glyphs.add(name, bytes),
         }
-        Ok(true)
+    }
+
+    // The listing of the lines.
+    fn listing(self, alloc: Global) -> Result<Listing, AllocError>
+        ensures { IfOk result (λ l. l ≡ self) }
+    {
+        let subrs = self.subrs.table(alloc)?;
+        let glyphs = self.glyphs.table(alloc)?;
+        Ok(Listing { subrs, glyphs })
     }
 }
 
@@ -143,21 +163,21 @@ impl Listing {
 pub fn read(alloc: Global, text: &[u8]) -> Result<Listing, ListFault>
     ensures { MatchResult result (λ l. listing_of text.now ≡ Ok l) (λ e. (e ≡ ListFault.Memory) ⊎ (listing_of text.now ≡ Err e)) }
 {
-    let mut listing = Listing::new(alloc);
+    let mut lines = Lines::new(alloc);
     let mut rest = text;
     let mut line = 1usize;
     while let Some((front, back)) = split_at_byte(rest, b'\n') {
         let Some(entry) = read_line(alloc, front)? else {
             return Err(ListFault::BadLine { line });
         };
-        if !listing.add(entry)? {
+        if !lines.add(entry)? {
             return Err(ListFault::Repeated { line });
         }
         rest = back;
         line += 1;
     }
     if rest.is_empty() {
-        Ok(listing)
+        Ok(lines.listing(alloc)?)
     } else {
         Err(ListFault::BadLine { line })
     }

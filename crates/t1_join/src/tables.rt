@@ -4,12 +4,13 @@ ghost use Rattle.std.specs.Option.{option_map, option_copied};
 ghost use Rattle.std.specs.FinMap as fin;
 ghost use Rattle.t1_join.specs.Meaning.{meaning_cmp, same_meaning};
 ghost use Rattle.t1_join.specs.Passes.{first_met, merge};
-ghost use Rattle.t1_join.specs.TableMeaning.{TablesAgree, IsFirstConflict, entry_meanings, pair_meaning};
+ghost use Rattle.t1_join.specs.TableMeaning.{TablesAgree, IsFirstConflict, entry_meanings, first_meanings, pair_meaning};
 
 use crate::keys::{Kept, Key};
 use crate::partial::Join;
 use std::alloc::{AllocError, Global};
 use std::cmp::Ordering;
+use std::collections::BTreeMap;
 use std::marker::Model;
 use std::slice;
 
@@ -40,6 +41,17 @@ impl<K: Key + Drop, V: Kept + Drop> Table<K, V> {
         Table {
             entries: Vec::new(alloc),
         }
+    }
+
+    /// The entries of a map, which has them upwards by key.
+    pub(crate) fn of_map(alloc: Global, map: BTreeMap<K, V>) -> Result<Self, AllocError>
+        ensures { IfOk result (λ t. t ≡ first_meanings K.meaning V.meaning map.entries) }
+    {
+        let mut entries = Vec::with_capacity(alloc, map.len())?;
+        for entry in map {
+            entries.push(entry)?;
+        }
+        Ok(Table { entries })
     }
 
     /// Puts the value at the key. Where memory is refused the table stays as it was, and the pair is dropped.
