@@ -1,9 +1,9 @@
 -- One pass over two lists of entries whose keys rise.
-use Rattle.std.proofs.Common.{◌≡◌, refl, sym, ap, ◌∙◌, subst, ℕ, ◌+◌, ◌<◌, ◌≤◌, arith, Bool, true, false, cond, ◌&&◌, ◌⊎◌, T, List, [], ◌∷◌, ◌++◌, map, length, get_or, take, take_all, drop, ◌-◌, append_assoc, Option, Some, None, inl, inr}
+use Rattle.std.proofs.Common.{◌≡◌, refl, sym, ap, ◌∙◌, subst, ℕ, ◌+◌, ◌<◌, ◌≤◌, arith, Bool, true, false, cond, ◌⊎◌, T, List, [], ◌∷◌, ◌++◌, map, length, get_or, take, take_all, drop, ◌-◌, append_assoc, Option, Some, None, inl, inr}
 use Rattle.std.proofs.lemmas.List.{map-append, append-nil, drop_more, drop_all, length-drop}
 use Rattle.std.specs.declared.cmp.Ordering.{Ordering}
 use Rattle.std.specs.declared.cmp.Ordering.TheVariants.{Less, Equal, Greater}
-use Rattle.std.specs.Ordering.{ordering_reverse, is_eq, is_lt}
+use Rattle.std.specs.Ordering.{ordering_reverse, is_eq}
 use Rattle.std.specs.Cmp.{IsTotalOrder, alike_right}
 use Rattle.std.specs.FinMap.{find, from_sorted, from_entries, entries, entries-from_sorted, get-from_sorted, get-from_entries, IsAntisymmetric, same_map}
 use Rattle.std.specs.FinMap.Entries.{below_all, by_order}

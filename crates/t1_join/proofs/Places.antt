@@ -1,12 +1,12 @@
 -- Entries put where a search says: the finite map with that key's value.
-use Rattle.std.proofs.Common.{◌≡◌, refl, sym, ap, ◌∙◌, subst, ℕ, zero, suc, ◌<◌, ◌≤◌, arith, List, [], ◌∷◌, map, length, get_or, slice_set, Ok, Err, T}
+use Rattle.std.proofs.Common.{◌≡◌, refl, sym, ap, ◌∙◌, subst, ℕ, zero, suc, ◌<◌, ◌≤◌, arith, List, [], ◌∷◌, map, length, get_or, slice_set, Ok, Err}
 use Rattle.std.specs.List.{insert}
 use Rattle.std.specs.List.Sorted.{IsBinarySearchResult}
 use Rattle.std.specs.declared.cmp.Ordering.{Ordering}
 use Rattle.std.specs.declared.cmp.Ordering.TheVariants.{Less, Equal, Greater}
 use Rattle.std.specs.Ordering.{ordering_reverse}
 use Rattle.std.specs.Cmp.{IsTotalOrder, alike_right, tied_back}
-use Rattle.std.specs.FinMap.{put, is_sorted, from_sorted, entries-from_sorted, entries-insert, same_entries_map}
+use Rattle.std.specs.FinMap.{put, from_sorted, entries-from_sorted, entries-insert, same_entries_map}
 use Rattle.std.specs.FinMap.Entries.{by_order, is_sorted-put}
 use Rattle.std.specs.FinMap as fin
 use Rattle.t1_join.specs.TableMeaning.{Rises}

@@ -1,8 +1,8 @@
 -- What a binary search by key finds among entries whose keys rise: what the finite map of them has at the key.
-use Rattle.std.proofs.Common.{◌≡◌, refl, sym, ap, ◌∙◌, ℕ, zero, suc, ◌<◌, ◌≤◌, arith, Bool, true, false, cond, ◌&&◌, ◌⊎◌, T, List, [], ◌∷◌, map, length, get_or, Some, None, Result, Ok, Err, inl, inr}
+use Rattle.std.proofs.Common.{◌≡◌, refl, sym, ap, ◌∙◌, ℕ, zero, suc, ◌<◌, ◌≤◌, arith, false, cond, ◌⊎◌, T, List, [], ◌∷◌, map, length, get_or, Some, None, Result, Ok, Err, inl, inr}
 use Rattle.std.specs.declared.cmp.Ordering.{Ordering}
 use Rattle.std.specs.declared.cmp.Ordering.TheVariants.{Less, Equal, Greater}
-use Rattle.std.specs.Ordering.{ordering_index, ordering_reverse, is_eq, is_lt}
+use Rattle.std.specs.Ordering.{ordering_index, ordering_reverse, is_eq}
 use Rattle.std.specs.Cmp.{IsTotalOrder, alike_right, tied_back}
 use Rattle.std.proofs.lemmas.Bool.{cases_lt}
 use Rattle.std.specs.List.Sorted.{IsNonDecreasingBy, IsSearchInRange, IsBinarySearchResult}
