@@ -7,7 +7,7 @@ mod subsets;
 mod tiny;
 
 use crate::{Counted, Name, Reason, RunFault, read_all, run_join, status, write_fault};
-use std::alloc::{AllocError, Global};
+use std::alloc::Global;
 use std::io;
 use std::io::{ErrorKind, Read, Write};
 use std::test::Fail;
@@ -107,19 +107,41 @@ impl Write for Sink {
     }
 }
 
+/// A fault, as a word.
+fn fault_word(fault: &RunFault) -> &'static str {
+    match fault {
+        RunFault::Refused(Reason::Memory) => "memory",
+        RunFault::Refused(_) => "refused",
+        RunFault::Read => "read",
+        RunFault::Write => "write",
+    }
+}
+
 /// What a run answers, as a word.
 fn word(outcome: &Result<(), RunFault>) -> &'static str {
     match outcome {
         Ok(()) => "ok",
-        Err(RunFault::Refused(Reason::Memory)) => "memory",
-        Err(RunFault::Refused(_)) => "refused",
-        Err(RunFault::Read) => "read",
-        Err(RunFault::Write) => "write",
+        Err(fault) => fault_word(fault),
     }
 }
 
+/// How reading at most 100 bytes ends, as a word, and how many bytes were read where it is well.
+fn read_100<R: Read>(alloc: Global, reader: &mut Counted<R>) -> (&'static str, usize) {
+    match read_all(alloc, reader, 100) {
+        Ok(bytes) => ("ok", bytes.len()),
+        Err(fault) => (fault_word(&fault), 0),
+    }
+}
+
+/// The same of these bytes by a plan, and how many calls were made.
+fn read_by(alloc: Global, bytes: &[u8], plan: Plan) -> (&'static str, usize, u64) {
+    let mut reader = Source::new(bytes, plan);
+    let (got, length) = read_100(alloc, &mut reader);
+    (got, length, reader.calls())
+}
+
 #[test]
-fn turns_of_read_all(rt: HostRuntime) -> Result<(), Fail> {
+fn turns_of_read_all(rt: HostRuntime) {
     let bytes = [7u8; 101];
     let one = Plan { most: 1, ..FINE };
     let stops = Plan {
@@ -133,24 +155,16 @@ fn turns_of_read_all(rt: HostRuntime) -> Result<(), Fail> {
         (101, one, "refused"),
         (100, stops, "read"),
     ] {
-        let mut reader = Source::new(&bytes[..count], plan);
-        let got = read_all(rt.alloc(), &mut reader, 100);
-        let length = match &got {
-            Ok(v) => v.len(),
-            Err(_) => count,
-        };
-        assert_eq!(rt; length, count);
-        assert_eq!(rt; word(&got.map(|_| ())), want, "{count}");
-        assert_eq!(rt; reader.calls(), 101);
+        let (got, length, calls) = read_by(rt.alloc(), &bytes[..count], plan);
+        assert_eq!(rt; got, want, "{count}");
+        assert!(rt; got != "ok" || length == count, "{count}");
+        assert_eq!(rt; calls, 101, "{count}");
     }
     let mut busy = Counted::new(Busy);
-    assert_eq!(rt;
-        word(&read_all(rt.alloc(), &mut busy, 100).map(|_| ())),
-        "read"
-    );
+    let (got, _) = read_100(rt.alloc(), &mut busy);
+    assert_eq!(rt; got, "read");
     assert_eq!(rt; busy.calls(), 101);
     assert_eq!(rt; busy.failed(), 101);
-    Ok(())
 }
 
 const LEFT: &[u8] = b"S 5 ef060b\nG X 8b0e\n";
@@ -159,22 +173,6 @@ const RIGHT: &[u8] = b"G Y 0E\nS 5 ef060b\n";
 
 const BOTH: &[u8] = b"S 5 ef060b\nG X 8b0e\nG Y 0e\n";
 
-/// Joins two texts in memory, and answers how it ended and what is out.
-fn outcome(
-    alloc: Global,
-    left: &[u8],
-    right: &[u8],
-) -> Result<(Result<(), RunFault>, Vec<u8>), AllocError> {
-    let mut text = Vec::with_capacity(alloc, 256)?;
-    let ended = run_join(
-        alloc,
-        &mut Counted::new(left),
-        &mut Counted::new(right),
-        &mut Counted::new(&mut text),
-    );
-    Ok((ended, text))
-}
-
 /// The line of a fault, or nothing where there is none.
 fn line_of(alloc: Global, ended: &Result<(), RunFault>) -> Vec<u8> {
     let mut line = Vec::new(alloc);
@@ -182,6 +180,18 @@ fn line_of(alloc: Global, ended: &Result<(), RunFault>) -> Vec<u8> {
         let _ = write_fault(alloc, fault, &mut Counted::new(&mut line));
     }
     line
+}
+
+/// Whether of two texts in memory this is written, and this is the line of the refusal.
+fn joins(alloc: Global, left: &[u8], right: &[u8], text: &[u8], line: &[u8]) -> bool {
+    let mut out = Vec::new(alloc);
+    let ended = run_join(
+        alloc,
+        &mut Counted::new(left),
+        &mut Counted::new(right),
+        &mut Counted::new(&mut out),
+    );
+    out.as_slice() == text && line_of(alloc, &ended).as_slice() == line
 }
 
 /// Two listings, and what is written of them or the line of their refusal.
@@ -217,69 +227,108 @@ const JOINS: [(&[u8], &[u8], &[u8], &[u8]); 13] = [
 ];
 
 #[test]
-fn joins_listings(rt: HostRuntime) -> Result<(), Fail> {
+fn joins_listings(rt: HostRuntime) {
     for (left, right, text, line) in JOINS {
-        let (ended, out) = outcome(rt.alloc(), left, right)?;
-        assert_eq!(rt; out.as_slice(), text);
-        assert_eq!(rt; line_of(rt.alloc(), &ended).as_slice(), line);
+        assert!(rt; joins(rt.alloc(), left, right, text, line));
     }
-    Ok(())
+}
+
+/// What two readers and a writer were called for.
+#[derive(Clone, Copy)]
+struct Joined {
+    word: &'static str,
+    left_failed: u64,
+    right_failed: u64,
+    right_calls: u64,
+    writes: u64,
+    is_both: bool,
+}
+
+/// Joins LEFT and RIGHT by plans.
+fn joined_from(alloc: Global, first: Plan, second: Plan) -> Joined {
+    let mut left = Source::new(LEFT, first);
+    let mut right = Source::new(RIGHT, second);
+    let mut out = Counted::new(Sink::new(Vec::new(alloc), FINE));
+    let ended = run_join(alloc, &mut left, &mut right, &mut out);
+    let writes = out.calls();
+    Joined {
+        word: word(&ended),
+        left_failed: left.failed(),
+        right_failed: right.failed(),
+        right_calls: right.calls(),
+        writes,
+        is_both: out.into_inner().text.as_slice() == BOTH,
+    }
 }
 
 #[test]
-fn each_read_fails(rt: HostRuntime) -> Result<(), Fail> {
+fn each_read_fails(rt: HostRuntime) {
     for (first, second) in [(1u64, 0u64), (0, 1)] {
         for fails in 1..100u64 {
-            let plan = |most: u64| Plan {
-                most: 3,
-                fails: fails * most,
-                ..FINE
+            let plan = Plan { most: 3, ..FINE };
+            let left = Plan {
+                fails: fails * first,
+                ..plan
             };
-            let mut left = Source::new(LEFT, plan(first));
-            let mut right = Source::new(RIGHT, plan(second));
-            let mut out = Counted::new(Sink::new(Vec::new(rt.alloc()), FINE));
-            let ended = run_join(rt.alloc(), &mut left, &mut right, &mut out);
-            if left.failed() == 0 && right.failed() == 0 {
-                assert_eq!(rt; word(&ended), "ok");
-                assert_eq!(rt; out.into_inner().text.as_slice(), BOTH);
+            let right = Plan {
+                fails: fails * second,
+                ..plan
+            };
+            let got = joined_from(rt.alloc(), left, right);
+            if got.left_failed == 0 && got.right_failed == 0 {
+                assert_eq!(rt; got.word, "ok");
+                assert!(rt; got.is_both);
                 break;
             }
-            assert_eq!(rt; word(&ended), "read");
-            assert_eq!(rt; out.calls(), 0, "nothing is written");
-            assert_eq!(rt; right.calls() == 0, second == 0, "the first input stops it");
+            assert_eq!(rt; got.word, "read");
+            assert_eq!(rt; got.writes, 0, "nothing is written");
+            assert_eq!(rt;
+                got.right_calls == 0,
+                second == 0,
+                "the first input stops it"
+            );
         }
     }
-    Ok(())
+}
+
+/// Joins LEFT and RIGHT into a writer of a plan: how it ends, how many calls failed, whether all is out, and whether a
+/// prefix of it is.
+fn joined_into(alloc: Global, plan: Plan) -> (&'static str, u64, bool, bool) {
+    let mut out = Counted::new(Sink::new(Vec::new(alloc), plan));
+    let ended = run_join(
+        alloc,
+        &mut Source::new(LEFT, FINE),
+        &mut Source::new(RIGHT, FINE),
+        &mut out,
+    );
+    let failed = out.failed();
+    let text = out.into_inner().text;
+    (
+        word(&ended),
+        failed,
+        text.as_slice() == BOTH,
+        BOTH.starts_with(text.as_slice()),
+    )
 }
 
 #[test]
-fn each_write_fails(rt: HostRuntime) -> Result<(), Fail> {
+fn each_write_fails(rt: HostRuntime) {
     for kind in [ErrorKind::Other, ErrorKind::Interrupted] {
         for most in [1usize, 2, 0] {
             for fails in 1..100u64 {
                 let plan = Plan { most, fails, kind };
-                let room = Vec::with_capacity(rt.alloc(), 64)?;
-                let mut out = Counted::new(Sink::new(room, plan));
-                let ended = run_join(
-                    rt.alloc(),
-                    &mut Source::new(LEFT, FINE),
-                    &mut Source::new(RIGHT, FINE),
-                    &mut out,
-                );
-                let failed = out.failed();
-                let text = out.into_inner().text;
+                let (got, failed, is_both, begins) = joined_into(rt.alloc(), plan);
                 if failed == 0 {
-                    assert_eq!(rt; word(&ended), "ok");
-                    assert_eq!(rt; text.as_slice(), BOTH);
+                    assert_eq!(rt; got, "ok");
+                    assert!(rt; is_both);
                     break;
                 }
                 assert_eq!(rt; failed, 1, "the first failed call is the last");
-                assert_eq!(rt; word(&ended), "write");
-                assert!(rt; BOTH.starts_with(text.as_slice()));
+                assert_eq!(rt; got, "write");
+                assert!(rt; begins);
             }
         }
     }
-    Ok(())
 }
 
 /// Whether a fault is told by this line and has this status.
@@ -294,6 +343,14 @@ fn is_refused(alloc: Global, reason: Reason, want: &str) -> bool {
     is_told(alloc, &RunFault::Refused(reason), want, 1)
 }
 
+/// How a fault is told to a writer that takes nothing, and by how many calls.
+fn told_in_vain(alloc: Global) -> (&'static str, u64) {
+    let plan = Plan { most: 0, ..FINE };
+    let mut full = Counted::new(Sink::new(Vec::new(alloc), plan));
+    let ended = write_fault(alloc, &RunFault::Read, &mut full);
+    (word(&ended), full.calls())
+}
+
 #[test]
 fn lines_of_faults(rt: HostRuntime) {
     let alloc = rt.alloc();
@@ -301,11 +358,7 @@ fn lines_of_faults(rt: HostRuntime) {
     assert!(rt; is_told(alloc, &RunFault::Write, "failed: write\n", 3));
     assert!(rt; is_refused(alloc, Reason::TooLong, "refused: file too long\n"));
     assert!(rt; is_refused(alloc, Reason::Memory, "refused: out of memory\n"));
-    let plan = Plan { most: 0, ..FINE };
-    let mut full = Counted::new(Sink::new(Vec::new(alloc), plan));
-    let ended = write_fault(alloc, &RunFault::Read, &mut full);
-    assert_eq!(rt; word(&ended), "write", "a writer that takes nothing");
-    assert_eq!(rt; full.calls(), 1);
+    assert_eq!(rt; told_in_vain(alloc), ("write", 1));
 }
 
 #[test]

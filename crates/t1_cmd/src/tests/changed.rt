@@ -1,5 +1,6 @@
 //! Files of the font Tiny, and of it with changes.
 use super::tiny::{PFA, PFB};
+use crate::texts::push_number;
 use std::alloc::{AllocError, Global};
 use t1_bytes::{CHARSTRING_KEY, EEXEC_KEY, EEXEC_LEAD, open, seal};
 
@@ -53,75 +54,85 @@ pub fn with_all(alloc: Global, text: &[u8], old: &[u8], new: &[u8]) -> Result<Ve
     Ok(changed)
 }
 
+/// Adds the bytes with lead bytes that are zero, encrypted.
+fn push_sealed(alloc: Global, out: &mut Vec<u8>, plain: &[u8], key: u16) -> Result<(), AllocError> {
+    let cipher = sealed(alloc, plain, key)?;
+    out.extend_from_slice(cipher.as_slice())
+}
+
 /// A file with the clear text of Tiny and this private text.
-pub fn tiny_with(alloc: Global, private: &[u8]) -> Result<Vec<u8>, AllocError> {
+fn tiny_with(alloc: Global, private: &[u8]) -> Result<Vec<u8>, AllocError> {
     let mut file = Vec::from_slice(alloc, &PFA[..313])?;
-    file.extend_from_slice(sealed(alloc, private, EEXEC_KEY)?.as_slice())?;
+    push_sealed(alloc, &mut file, private, EEXEC_KEY)?;
     Ok(file)
+}
+
+/// The private text of Tiny with `new` in place of each `old`.
+fn private_changed(alloc: Global, old: &[u8], new: &[u8]) -> Result<Vec<u8>, AllocError> {
+    let text = private(alloc)?;
+    with_all(alloc, text.as_slice(), old, new)
 }
 
 /// A file of Tiny with `new` for each `old` in its private text.
 pub fn tiny_changed(alloc: Global, old: &[u8], new: &[u8]) -> Result<Vec<u8>, AllocError> {
-    let text = private(alloc)?;
-    tiny_with(
-        alloc,
-        with_all(alloc, text.as_slice(), old, new)?.as_slice(),
-    )
+    let text = private_changed(alloc, old, new)?;
+    tiny_with(alloc, text.as_slice())
+}
+
+/// Adds the length and the encrypted bytes of an entry of a table.
+fn push_entry(alloc: Global, out: &mut Vec<u8>, plain: &[u8]) -> Result<(), AllocError> {
+    push_number(alloc, out, plain.len().saturating_add(4))?;
+    out.extend_from_slice(b" RD ")?;
+    push_sealed(alloc, out, plain, CHARSTRING_KEY)
 }
 
 /// What begins an entry of a table, then the length and the encrypted bytes.
-pub fn entry(alloc: Global, start: &[u8], plain: &[u8]) -> Result<Vec<u8>, AllocError> {
+fn entry(alloc: Global, start: &[u8], plain: &[u8]) -> Result<Vec<u8>, AllocError> {
     let mut entry = Vec::from_slice(alloc, start)?;
-    entry.extend_from_slice(plain.len().saturating_add(4).to_string(alloc)?.as_bytes())?;
-    entry.extend_from_slice(b" RD ")?;
-    entry.extend_from_slice(sealed(alloc, plain, CHARSTRING_KEY)?.as_slice())?;
+    push_entry(alloc, &mut entry, plain)?;
     Ok(entry)
 }
 
-/// A private text with one more entry at the end of its glyphs.
-pub fn with_glyph(
+/// What ends the glyphs of Tiny and comes after them.
+const GLYPHS_END: &[u8] = b"end\nend\nreadonly put";
+
+/// Adds the entry of a glyph, and the end of the glyphs.
+fn push_last(
     alloc: Global,
-    private: &[u8],
+    out: &mut Vec<u8>,
     name: &[u8],
     plain: &[u8],
-) -> Result<Vec<u8>, AllocError> {
-    let mut start = Vec::from_slice(alloc, b"/")?;
-    start.extend_from_slice(name)?;
-    start.push(b' ')?;
-    let mut end = entry(alloc, start.as_slice(), plain)?;
-    end.extend_from_slice(b" ND\nend\nend\nreadonly put")?;
-    with_all(alloc, private, b"end\nend\nreadonly put", end.as_slice())
+) -> Result<(), AllocError> {
+    out.push(b'/')?;
+    out.extend_from_slice(name)?;
+    out.push(b' ')?;
+    push_entry(alloc, out, plain)?;
+    out.extend_from_slice(b" ND\n")?;
+    out.extend_from_slice(GLYPHS_END)
 }
 
 /// A file of Tiny with one more entry at the end of its glyphs.
 pub fn tiny_and(alloc: Global, name: &[u8], plain: &[u8]) -> Result<Vec<u8>, AllocError> {
-    let text = private(alloc)?;
-    tiny_with(
-        alloc,
-        with_glyph(alloc, text.as_slice(), name, plain)?.as_slice(),
-    )
+    let mut end = Vec::new(alloc);
+    push_last(alloc, &mut end, name, plain)?;
+    tiny_changed(alloc, GLYPHS_END, end.as_slice())
 }
 
-/// Tiny's private text with other bytes for the Subr whose entry begins so.
-pub fn with_subr(
+/// A file of Tiny with other bytes for the Subr whose entry begins so.
+pub fn tiny_with_subr(
     alloc: Global,
     start: &[u8],
     old: &[u8],
     new: &[u8],
 ) -> Result<Vec<u8>, AllocError> {
-    let text = private(alloc)?;
-    with_all(
-        alloc,
-        text.as_slice(),
-        entry(alloc, start, old)?.as_slice(),
-        entry(alloc, start, new)?.as_slice(),
-    )
+    let old = entry(alloc, start, old)?;
+    let new = entry(alloc, start, new)?;
+    tiny_changed(alloc, old.as_slice(), new.as_slice())
 }
 
 /// A file of Tiny whose Subr 5 is `return`.
 pub fn without_subr_5(alloc: Global) -> Result<Vec<u8>, AllocError> {
-    let text = with_subr(alloc, b"dup 5 ", b"\xef\x06\x0b", b"\x0b")?;
-    tiny_with(alloc, text.as_slice())
+    tiny_with_subr(alloc, b"dup 5 ", b"\xef\x06\x0b", b"\x0b")
 }
 
 /// A file of Tiny without the glyph acute.

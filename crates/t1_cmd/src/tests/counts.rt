@@ -5,26 +5,42 @@ use std::io;
 use std::io::{Read, Write};
 use std::test::Fail;
 
+/// Whether a read gives this many bytes.
+fn reads(reader: &mut Counted<&[u8]>, buffer: &mut [u8], count: usize) -> bool {
+    match reader.read(buffer) {
+        Ok(got) => got == count,
+        Err(_) => false,
+    }
+}
+
 #[test]
-fn reads_and_writes_are_handed_on(rt: HostRuntime) -> Result<(), Fail> {
+fn reads_are_handed_on(rt: HostRuntime) {
     let mut reader = Counted::new(b"abcdef".as_slice());
     let mut buffer = [0u8; 4];
     for (count, bytes) in [(4usize, b"abcd"), (2, b"efcd"), (0, b"efcd")] {
-        let got = reader.read(&mut buffer)?;
-        assert_eq!(rt; got, count);
-        assert_eq!(rt; buffer.as_slice(), bytes.as_slice());
+        assert!(rt; reads(&mut reader, &mut buffer, count));
+        assert!(rt; buffer.as_slice() == bytes.as_slice());
     }
     assert_eq!(rt; (reader.calls(), reader.failed()), (3, 0));
+}
+
+/// Whether a write takes this many bytes.
+fn takes(writer: &mut Counted<Sink>, bytes: &[u8], count: usize) -> bool {
+    match writer.write(bytes) {
+        Ok(got) => got == count,
+        Err(_) => false,
+    }
+}
+
+#[test]
+fn writes_are_handed_on(rt: HostRuntime) {
     let plan = Plan { most: 4, ..FINE };
     let mut writer = Counted::new(Sink::new(Vec::new(rt.alloc()), plan));
-    for bytes in [b"abcdef", b"bcdefg"] {
-        let got = writer.write(bytes)?;
-        assert_eq!(rt; got, 4);
-    }
+    assert!(rt; takes(&mut writer, b"abcdef", 4));
+    assert!(rt; takes(&mut writer, b"bcdefg", 4));
     assert_eq!(rt; (writer.calls(), writer.failed()), (2, 0));
     let text = writer.into_inner().text;
-    assert_eq!(rt; text.as_slice(), b"abcdbcde".as_slice());
-    Ok(())
+    assert!(rt; text.as_slice() == b"abcdbcde".as_slice());
 }
 
 /// A writer that counts its flushes.

@@ -1,14 +1,14 @@
 //! Drawings of glyphs of the font Tiny and of changed ones.
-use super::changed::{tiny_and, tiny_with, with_glyph, with_subr, without_acute};
-use super::engines::{Engine, answer};
+use super::changed::{tiny_and, without_acute};
+use super::engines::{Engine, answer, answers};
 use super::subsets::subset;
 use super::tiny::PFA;
 use std::alloc::Global;
 use std::test::Fail;
-use t1_font::read;
+use t1_font::{Font, read};
 
 #[test]
-fn glyphs_of_tiny(rt: HostRuntime) -> Result<(), Fail> {
+fn glyphs_of_tiny(rt: HostRuntime) {
     let rows: [(&[u8], &[u8], &str); 8] = [
         (
             b"X",
@@ -40,32 +40,11 @@ fn glyphs_of_tiny(rt: HostRuntime) -> Result<(), Fail> {
         ),
     ];
     for (name, want, what) in rows {
-        let got = answer(rt.alloc(), Engine::Show(name), PFA);
-        assert_eq!(rt; got.as_slice(), want, "{what}");
+        assert!(rt;
+            answers(rt.alloc(), Engine::Show(name), PFA, want),
+            "{what}"
+        );
     }
-    Ok(())
-}
-
-#[test]
-fn faults_of_parts(rt: HostRuntime) -> Result<(), Fail> {
-    let aacute = b"\x8b\xf8\x88\x0d\xbd\xf7\x0c\xf7\x5c\xcc\xf7\x56\x0c\x06";
-    let base_zero = b"\x8b\xf8\x88\x0d\xbd\xf7\x0c\xf7\x5c\x8b\xf7\x56\x0c\x06";
-    let no_part = tiny_and(rt.alloc(), b"M", base_zero)?;
-    let nested = tiny_and(rt.alloc(), b"A", aacute)?;
-    let missing = without_acute(rt.alloc())?;
-    let part_fault = tiny_and(rt.alloc(), b"A", b"\x8b\xf8\x88\x0d\xff")?;
-    let rows: [(&[u8], &[u8], &[u8]); 5] = [
-        (no_part.as_slice(), b"M", b"fault NoPart\n"),
-        (nested.as_slice(), b"A", b"fault NestedSeac\n"),
-        (nested.as_slice(), b"Aacute", b"fault NestedSeac\n"),
-        (missing.as_slice(), b"Aacute", b"fault MissingPart\n"),
-        (part_fault.as_slice(), b"Aacute", b"fault PartFault\n"),
-    ];
-    for (file, name, want) in rows {
-        let got = answer(rt.alloc(), Engine::Show(name), file);
-        assert_eq!(rt; got.as_slice(), want);
-    }
-    Ok(())
 }
 
 /// A charstring that makes one mark of each kind but flex and Replace, with and without horizontal or vertical parts.
@@ -94,74 +73,114 @@ close
 line 2 2
 ";
 
-#[test]
-fn marks_and_numbers(rt: HostRuntime) -> Result<(), Fail> {
-    let third = b"width 250 0\nbearing 0 0\npart 0 0\nmove 21845/65536 0\n";
-    let minus_third = b"width 250 0\nbearing 0 0\npart 0 0\nmove -21845/65536 0\n";
-    let far = b"width 250 0\nbearing 0 0\npart 0 0\nmove 2147483647 0\nmove 2147483648 0\n";
-    let metrics = b"width 3 4\nbearing 1 2\npart 0 0\n";
-    let rows: [(&[u8], &[u8], &str); 9] = [
-        (MARKS, MARKS_SHOWN, "each mark"),
-        (
-            b"\x8b\xf7\x8e\x0d\x8c\x8e\x0c\x0c\x16\x0e",
-            third,
-            "a third",
-        ),
-        (
-            b"\x8b\xf7\x8e\x0d\x8a\x8e\x0c\x0c\x16\x0e",
-            minus_third,
-            "a third to the left",
-        ),
-        (
-            b"\x8b\xf7\x8e\x0d\xff\x7f\xff\xff\xff\x16\x8c\x16\x0e",
-            far,
-            "the farthest point",
-        ),
-        (
-            b"\x8c\x8d\x8e\x8f\x0c\x07\x0e",
-            metrics,
-            "two-dimensional metrics",
-        ),
-        (
-            b"\x8b\xf7\x8e\x0d\xff\x7f\xff\xff\xff\x16\x8d\x16\x0e",
-            b"fault Range\n",
-            "too far",
-        ),
-        (b"\x06", b"fault Underflow\n", "no operand"),
-        (b"", b"fault Unended\n", "no bytes"),
-        (b"\x8c\x0c\x11", b"fault EmptyPop\n", "nothing to pop"),
-    ];
-    for (plain, want, what) in rows {
-        let file = tiny_and(rt.alloc(), b"G", plain)?;
-        let got = answer(rt.alloc(), Engine::Show(b"G"), file.as_slice());
-        assert_eq!(rt; got.as_slice(), want, "{what}");
+const AACUTE: &[u8] = b"\x8b\xf8\x88\x0d\xbd\xf7\x0c\xf7\x5c\xcc\xf7\x56\x0c\x06";
+
+/// A glyph that Tiny is given, its charstring, a glyph, and what that draws.
+type Row = (
+    &'static [u8],
+    &'static [u8],
+    &'static [u8],
+    &'static [u8],
+    &'static str,
+);
+
+const CHANGED: [Row; 13] = [
+    (b"G", MARKS, b"G", MARKS_SHOWN, "each mark"),
+    (
+        b"G",
+        b"\x8b\xf7\x8e\x0d\x8c\x8e\x0c\x0c\x16\x0e",
+        b"G",
+        b"width 250 0\nbearing 0 0\npart 0 0\nmove 21845/65536 0\n",
+        "a third",
+    ),
+    (
+        b"G",
+        b"\x8b\xf7\x8e\x0d\x8a\x8e\x0c\x0c\x16\x0e",
+        b"G",
+        b"width 250 0\nbearing 0 0\npart 0 0\nmove -21845/65536 0\n",
+        "a third to the left",
+    ),
+    (
+        b"G",
+        b"\x8b\xf7\x8e\x0d\xff\x7f\xff\xff\xff\x16\x8c\x16\x0e",
+        b"G",
+        b"width 250 0\nbearing 0 0\npart 0 0\nmove 2147483647 0\nmove 2147483648 0\n",
+        "the farthest point",
+    ),
+    (
+        b"G",
+        b"\x8c\x8d\x8e\x8f\x0c\x07\x0e",
+        b"G",
+        b"width 3 4\nbearing 1 2\npart 0 0\n",
+        "two-dimensional metrics",
+    ),
+    (
+        b"G",
+        b"\x8b\xf7\x8e\x0d\xff\x7f\xff\xff\xff\x16\x8d\x16\x0e",
+        b"G",
+        b"fault Range\n",
+        "too far",
+    ),
+    (b"G", b"\x06", b"G", b"fault Underflow\n", "no operand"),
+    (b"G", b"", b"G", b"fault Unended\n", "no bytes"),
+    (
+        b"G",
+        b"\x8c\x0c\x11",
+        b"G",
+        b"fault EmptyPop\n",
+        "nothing to pop",
+    ),
+    (
+        b"M",
+        b"\x8b\xf8\x88\x0d\xbd\xf7\x0c\xf7\x5c\x8b\xf7\x56\x0c\x06",
+        b"M",
+        b"fault NoPart\n",
+        "code 0 for a base",
+    ),
+    (
+        b"A",
+        AACUTE,
+        b"A",
+        b"fault NestedSeac\n",
+        "itself for a base",
+    ),
+    (
+        b"A",
+        AACUTE,
+        b"Aacute",
+        b"fault NestedSeac\n",
+        "such a base",
+    ),
+    (
+        b"A",
+        b"\x8b\xf8\x88\x0d\xff",
+        b"Aacute",
+        b"fault PartFault\n",
+        "a base with a fault",
+    ),
+];
+
+/// Whether a glyph draws so in the file of Tiny that has this glyph, too.
+fn drawn_with(alloc: Global, row: Row) -> bool {
+    let (name, plain, shown, want, _) = row;
+    match tiny_and(alloc, name, plain) {
+        Ok(file) => answers(alloc, Engine::Show(shown), file.as_slice(), want),
+        Err(_) => false,
     }
-    Ok(())
 }
 
 #[test]
-fn chains_of_calls(rt: HostRuntime) -> Result<(), Fail> {
-    // Subr 9 calls the Subr whose index is the operand on top. Below the indices of the chain's calls of Subr 9
-    // stands that of Subr 3, which goes back.
-    let rows: [(&[u8], &[u8], &str); 2] = [
-        (
-            b"\x8b\xf8\x88\x0d\x8e\x94\x94\x94\x94\x94\x94\x94\x94\x94\x0a\x0e",
-            b"width 500 0\nbearing 0 0\npart 0 0\n",
-            "ten nested calls",
-        ),
-        (
-            b"\x8b\xf8\x88\x0d\x8e\x94\x94\x94\x94\x94\x94\x94\x94\x94\x94\x0a\x0e",
-            b"fault Nesting\n",
-            "eleven nested calls",
-        ),
-    ];
-    let private = with_subr(rt.alloc(), b"dup 9 ", b"\x94\x0a\x0b", b"\x0a\x0b")?;
-    for (plain, want, what) in rows {
-        let text = with_glyph(rt.alloc(), private.as_slice(), b"G", plain)?;
-        let file = tiny_with(rt.alloc(), text.as_slice())?;
-        let got = answer(rt.alloc(), Engine::Show(b"G"), file.as_slice());
-        assert_eq!(rt; got.as_slice(), want, "{what}");
+fn changed_glyphs(rt: HostRuntime) {
+    for row in CHANGED {
+        assert!(rt; drawn_with(rt.alloc(), row), "{}", row.4);
     }
+}
+
+#[test]
+fn a_part_that_is_missing(rt: HostRuntime) -> Result<(), Fail> {
+    let file = without_acute(rt.alloc())?;
+    let want = b"fault MissingPart\n";
+    assert!(rt; answers(rt.alloc(), Engine::Show(b"Aacute"), file.as_slice(), want));
     Ok(())
 }
 
@@ -169,21 +188,31 @@ const NAMES: [&str; 11] = [
     ".notdef", "A", "Aacute", "B", "F", "H", "L", "N", "X", "Y", "acute",
 ];
 
-/// How many glyphs a file has, where each draws as it does in Tiny; 0 where one doesn't.
-fn drawn_as_in_tiny(alloc: Global, file: &[u8]) -> usize {
-    let Ok(font) = read(alloc, file) else {
-        return 0;
-    };
+/// Whether the glyph of a name draws in a file as it does in Tiny.
+fn is_as_in_tiny(alloc: Global, file: &[u8], name: &[u8]) -> bool {
+    let want = answer(alloc, Engine::Show(name), PFA);
+    answers(alloc, Engine::Show(name), file, want.as_slice())
+}
+
+/// How many glyphs the font of a file has, where each draws as it does in Tiny; 0 where one doesn't.
+fn count_drawn(alloc: Global, font: &Font, file: &[u8]) -> usize {
     let mut count = 0usize;
     for name in font.names() {
-        let got = answer(alloc, Engine::Show(name), file);
-        let want = answer(alloc, Engine::Show(name), PFA);
-        if got.as_slice() != want.as_slice() {
+        if !is_as_in_tiny(alloc, file, name) {
             return 0;
         }
         count = count.saturating_add(1);
     }
     count
+}
+
+/// The same of the file of Tiny's subset by these names.
+fn drawn_as_in_tiny(alloc: Global, names: &[&[u8]]) -> usize {
+    let file = subset(alloc, PFA, names);
+    match read(alloc, file.as_slice()) {
+        Ok(font) => count_drawn(alloc, &font, file.as_slice()),
+        Err(_) => 0,
+    }
 }
 
 #[test]
@@ -193,13 +222,11 @@ fn subsets_draw_as_tiny(rt: HostRuntime) {
     // all but those of the 11 - k other names: 55, 34, 34, 19 and seven times 10 pairs.
     let mut count = 0usize;
     for (i, first) in NAMES.iter().enumerate() {
-        let alone = subset(rt.alloc(), PFA, &[first.as_bytes()]);
-        let drawn = drawn_as_in_tiny(rt.alloc(), alone.as_slice());
+        let drawn = drawn_as_in_tiny(rt.alloc(), &[first.as_bytes()]);
         assert!(rt; drawn > 0, "{first}");
         count = count.saturating_add(drawn);
         for second in NAMES.iter().skip(i.saturating_add(1)) {
-            let both = subset(rt.alloc(), PFA, &[first.as_bytes(), second.as_bytes()]);
-            let drawn = drawn_as_in_tiny(rt.alloc(), both.as_slice());
+            let drawn = drawn_as_in_tiny(rt.alloc(), &[first.as_bytes(), second.as_bytes()]);
             assert!(rt; drawn > 0, "{first} and {second}");
             count = count.saturating_add(drawn);
         }

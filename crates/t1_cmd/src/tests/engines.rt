@@ -52,6 +52,11 @@ pub fn answer(alloc: Global, engine: Engine<'_>, input: &[u8]) -> Vec<u8> {
     line_of(alloc, &ended)
 }
 
+/// Whether an engine writes this of bytes in memory, or it is the line of its fault.
+pub fn answers(alloc: Global, engine: Engine<'_>, input: &[u8], want: &[u8]) -> bool {
+    answer(alloc, engine, input).as_slice() == want
+}
+
 #[test]
 fn tiny_is_checked(rt: HostRuntime) {
     let files: [(&[u8], &[u8], &str); 3] = [
@@ -68,11 +73,7 @@ fn tiny_is_checked(rt: HostRuntime) {
         (b"", b"refused: no eexec\n", "an empty file"),
     ];
     for (file, want, what) in files {
-        assert_eq!(rt;
-            answer(rt.alloc(), Engine::Check, file).as_slice(),
-            want,
-            "{what}"
-        );
+        assert!(rt; answers(rt.alloc(), Engine::Check, file, want), "{what}");
     }
 }
 
@@ -82,10 +83,10 @@ fn tiny_in_both_forms(rt: HostRuntime) {
         (PFA.as_slice(), "the PFA file"),
         (PFB.as_slice(), "the PFB file"),
     ] {
-        let pfa = answer(rt.alloc(), Engine::Convert(Form::Pfa), file);
-        assert!(rt; pfa.as_slice() == PFA.as_slice(), "pfa of {what}");
-        let pfb = answer(rt.alloc(), Engine::Convert(Form::Pfb), file);
-        assert!(rt; pfb.as_slice() == PFB.as_slice(), "pfb of {what}");
+        let pfa = answers(rt.alloc(), Engine::Convert(Form::Pfa), file, PFA);
+        assert!(rt; pfa, "pfa of {what}");
+        let pfb = answers(rt.alloc(), Engine::Convert(Form::Pfb), file, PFB);
+        assert!(rt; pfb, "pfb of {what}");
     }
 }
 
@@ -117,8 +118,7 @@ glyph acute 10
 
 #[test]
 fn tiny_is_listed(rt: HostRuntime) {
-    let got = answer(rt.alloc(), Engine::List, PFB);
-    assert_eq!(rt; got.as_slice(), TINY_LISTED);
+    assert!(rt; answers(rt.alloc(), Engine::List, PFB, TINY_LISTED));
 }
 
 /// What spells an Encoding, and what a font of it is listed with first.
@@ -160,8 +160,17 @@ fn encodings_are_listed(rt: HostRuntime) -> Result<(), Fail> {
     Ok(())
 }
 
+/// How an engine ends over a reader of a plan, as a word, how many calls of that reader failed, and how many calls of the
+/// writer were made.
+fn read_by(alloc: Global, engine: Engine<'_>, plan: Plan) -> (&'static str, u64, u64) {
+    let mut reader = Source::new(PFA, plan);
+    let mut out = Counted::new(Sink::new(Vec::new(alloc), FINE));
+    let ended = run(alloc, engine, &mut reader, &mut out);
+    (word(&ended), reader.failed(), out.calls())
+}
+
 #[test]
-fn each_read_fails(rt: HostRuntime) -> Result<(), Fail> {
+fn each_read_fails(rt: HostRuntime) {
     for engine in ENGINES {
         for fails in 1..9u64 {
             let plan = Plan {
@@ -169,15 +178,12 @@ fn each_read_fails(rt: HostRuntime) -> Result<(), Fail> {
                 fails,
                 ..FINE
             };
-            let mut reader = Source::new(PFA, plan);
-            let mut out = Counted::new(Sink::new(Vec::new(rt.alloc()), FINE));
-            let ended = run(rt.alloc(), engine, &mut reader, &mut out);
-            let want = if reader.failed() == 0 { "ok" } else { "read" };
-            assert_eq!(rt; word(&ended), want, "call {fails}");
-            assert_eq!(rt; out.calls() == 0, reader.failed() > 0, "call {fails}");
+            let (got, failed, writes) = read_by(rt.alloc(), engine, plan);
+            let want = if failed == 0 { "ok" } else { "read" };
+            assert_eq!(rt; got, want, "call {fails}");
+            assert_eq!(rt; writes == 0, failed > 0, "call {fails}");
         }
     }
-    Ok(())
 }
 
 const ENGINES: [Engine; 4] = [
@@ -187,8 +193,23 @@ const ENGINES: [Engine; 4] = [
     Engine::Convert(Form::Pfb),
 ];
 
+/// How an engine ends over a writer of a plan, as a word, how many calls of that writer failed, and whether a prefix of the
+/// text is out.
+fn written_by(
+    alloc: Global,
+    engine: Engine<'_>,
+    plan: Plan,
+    whole: &[u8],
+) -> (&'static str, u64, bool) {
+    let mut out = Counted::new(Sink::new(Vec::new(alloc), plan));
+    let ended = run(alloc, engine, &mut Source::new(PFA, FINE), &mut out);
+    let failed = out.failed();
+    let text = out.into_inner().text;
+    (word(&ended), failed, whole.starts_with(text.as_slice()))
+}
+
 #[test]
-fn each_write_fails(rt: HostRuntime) -> Result<(), Fail> {
+fn each_write_fails(rt: HostRuntime) {
     for engine in ENGINES {
         let whole = answer(rt.alloc(), engine, PFA);
         for (most, fails, kind) in [
@@ -197,17 +218,11 @@ fn each_write_fails(rt: HostRuntime) -> Result<(), Fail> {
             (9, 3, ErrorKind::Interrupted),
             (0, 0, ErrorKind::Other),
         ] {
-            let room = Vec::with_capacity(rt.alloc(), 4096)?;
-            let mut out = Counted::new(Sink::new(room, Plan { most, fails, kind }));
-            let ended = run(rt.alloc(), engine, &mut Source::new(PFA, FINE), &mut out);
-            assert_eq!(rt; word(&ended), "write", "{most} bytes a call, call {fails}");
-            assert_eq!(rt; out.failed(), 1, "the first failed call is the last");
-            let text = out.into_inner().text;
-            assert!(rt;
-                whole.as_slice().starts_with(text.as_slice()),
-                "a prefix is out"
-            );
+            let plan = Plan { most, fails, kind };
+            let (got, failed, begins) = written_by(rt.alloc(), engine, plan, whole.as_slice());
+            assert_eq!(rt; got, "write", "{most} bytes a call, call {fails}");
+            assert_eq!(rt; failed, 1, "the first failed call is the last");
+            assert!(rt; begins, "a prefix is out");
         }
     }
-    Ok(())
 }

@@ -1,9 +1,9 @@
 //! Merges of subsets of the font Tiny and of fonts that differ from it.
 use super::changed::{
-    sealed, tiny_and, tiny_changed, tiny_encoded, tiny_with, with_all, with_subr, without_acute,
+    sealed, tiny_and, tiny_changed, tiny_encoded, tiny_with_subr, with_all, without_acute,
     without_subr_5,
 };
-use super::engines::{Engine, answer};
+use super::engines::{Engine, answer, answers};
 use super::line_of;
 use super::subsets::{heaviest, subset};
 use super::tiny::PFA;
@@ -42,43 +42,59 @@ fn either<'a>(alloc: Global, left: &'a [u8], right: &'a [u8]) -> Result<Vec<u8>,
     }
 }
 
+/// Whether two files in either order merge to this, or it is the line of their refusal.
+fn merges<'a>(alloc: Global, left: &'a [u8], right: &'a [u8], want: &[u8]) -> bool {
+    match either(alloc, left, right) {
+        Ok(got) => got.as_slice() == want,
+        Err(_) => false,
+    }
+}
+
+/// Whether the subsets of Tiny by two lists of names merge to that by a third.
+fn subsets_merge(alloc: Global, left: &[&[u8]], right: &[&[u8]], want: &[&[u8]]) -> bool {
+    let left = subset(alloc, PFA, left);
+    let right = subset(alloc, PFA, right);
+    let want = subset(alloc, PFA, want);
+    merges(alloc, left.as_slice(), right.as_slice(), want.as_slice())
+}
+
 #[test]
-fn subsets_of_one_font(rt: HostRuntime) -> Result<(), Fail> {
-    let x = subset(rt.alloc(), PFA, &[b"X"]);
-    let y = subset(rt.alloc(), PFA, &[b"Y"]);
-    let h = subset(rt.alloc(), PFA, &[b"H"]);
-    let none = subset(rt.alloc(), PFA, &[]);
-    let both = subset(rt.alloc(), PFA, &[b"X", b"Y"]);
-    let all = subset(rt.alloc(), PFA, &[b"X", b"Y", b"H"]);
-    let rows: [(&[u8], &[u8], &[u8]); 4] = [
-        (x.as_slice(), y.as_slice(), both.as_slice()),
-        (y.as_slice(), none.as_slice(), y.as_slice()),
-        (h.as_slice(), both.as_slice(), all.as_slice()),
-        (PFA, PFA, PFA),
+fn subsets_of_one_font(rt: HostRuntime) {
+    let rows: [(&[&[u8]], &[&[u8]], &[&[u8]]); 3] = [
+        (&[b"X"], &[b"Y"], &[b"X", b"Y"]),
+        (&[b"Y"], &[], &[b"Y"]),
+        (&[b"H"], &[b"X", b"Y"], &[b"X", b"Y", b"H"]),
     ];
     for (left, right, want) in rows {
-        let got = either(rt.alloc(), left, right)?;
-        assert!(rt; got.as_slice() == want);
+        assert!(rt; subsets_merge(rt.alloc(), left, right, want));
     }
-    Ok(())
+    assert!(rt; merges(rt.alloc(), PFA, PFA, PFA));
 }
 
 #[test]
 fn shells_and_codes_that_differ(rt: HostRuntime) -> Result<(), Fail> {
     let word = tiny_encoded(rt.alloc(), b"/Encoding StandardEncoding def")?;
+    let want = b"refused: shells differ in encoding\n";
+    assert!(rt; merges(rt.alloc(), PFA, word.as_slice(), want));
     let code = with_all(rt.alloc(), PFA, b"dup 66 /Y put", b"dup 66 /A put")?;
+    assert!(rt;
+        merges(
+            rt.alloc(),
+            PFA,
+            code.as_slice(),
+            b"refused: code 66 differs\n"
+        )
+    );
+    Ok(())
+}
+
+#[test]
+fn private_texts_that_differ(rt: HostRuntime) -> Result<(), Fail> {
     let password = tiny_changed(rt.alloc(), b"5839", b"5840")?;
-    let rows: [(&[u8], &str); 3] = [
-        (word.as_slice(), "refused: shells differ in encoding\n"),
-        (code.as_slice(), "refused: code 66 differs\n"),
-        (password.as_slice(), "refused: shells differ in private\n"),
-    ];
-    for (other, want) in rows {
-        let got = either(rt.alloc(), PFA, other)?;
-        assert_eq!(rt; got.as_slice(), want.as_bytes());
-    }
+    let want = b"refused: shells differ in private\n";
+    assert!(rt; merges(rt.alloc(), PFA, password.as_slice(), want));
     let first = merged(rt.alloc(), b"", password.as_slice())?;
-    assert_eq!(rt; first.as_slice(), b"refused: no eexec\n".as_slice());
+    assert!(rt; first.as_slice() == b"refused: no eexec\n".as_slice());
     Ok(())
 }
 
@@ -86,17 +102,28 @@ fn shells_and_codes_that_differ(rt: HostRuntime) -> Result<(), Fail> {
 fn glyphs_that_differ(rt: HostRuntime) -> Result<(), Fail> {
     let a = tiny_and(rt.alloc(), b"A", b"\x8b\xf8\x88\x0d\x0e")?;
     let b = tiny_and(rt.alloc(), b"B", b"\x8b\xf8\x88\x0d\x0e")?;
-    let got = either(rt.alloc(), a.as_slice(), b.as_slice())?;
-    assert_eq!(rt; got.as_slice(), b"refused: glyph A differs\n".as_slice());
+    assert!(rt;
+        merges(
+            rt.alloc(),
+            a.as_slice(),
+            b.as_slice(),
+            b"refused: glyph A differs\n"
+        )
+    );
     Ok(())
 }
 
 #[test]
 fn a_subr_that_no_glyph_executes(rt: HostRuntime) -> Result<(), Fail> {
-    let text = with_subr(rt.alloc(), b"dup 8 ", b"", b"\x0e")?;
-    let other = tiny_with(rt.alloc(), text.as_slice())?;
-    let got = either(rt.alloc(), PFA, other.as_slice())?;
-    assert_eq!(rt; got.as_slice(), b"refused: subr 8 differs\n".as_slice());
+    let other = tiny_with_subr(rt.alloc(), b"dup 8 ", b"", b"\x0e")?;
+    assert!(rt;
+        merges(
+            rt.alloc(),
+            PFA,
+            other.as_slice(),
+            b"refused: subr 8 differs\n"
+        )
+    );
     Ok(())
 }
 
@@ -121,54 +148,87 @@ fn heavy(alloc: Global, name: &[u8]) -> Result<Vec<u8>, AllocError> {
 fn fonts_that_are_too_heavy_together(rt: HostRuntime) -> Result<(), Fail> {
     let a = heavy(rt.alloc(), b"/A")?;
     let b = heavy(rt.alloc(), b"/B")?;
-    let got = either(rt.alloc(), a.as_slice(), b.as_slice())?;
-    assert_eq!(rt; got.as_slice(), b"refused: over a limit\n".as_slice());
+    assert!(rt;
+        merges(
+            rt.alloc(),
+            a.as_slice(),
+            b.as_slice(),
+            b"refused: over a limit\n"
+        )
+    );
     Ok(())
 }
 
 const OWN_X: &[u8] =
     b"width 300 0\nbearing 50 0\npart 0 0\nmove 50 0\nline 50 700\nline -50 700\nclose\n";
 
+/// The subset by X of the font whose Subr 5 is `return`.
+fn own_x(alloc: Global) -> Result<Vec<u8>, AllocError> {
+    let other = without_subr_5(alloc)?;
+    Ok(subset(alloc, other.as_slice(), &[b"X"]))
+}
+
+/// That subset merged with one of Tiny by this name.
+fn own_x_and(alloc: Global, name: &[u8]) -> Result<Vec<u8>, AllocError> {
+    let used = own_x(alloc)?;
+    let cut = subset(alloc, PFA, &[name]);
+    either(alloc, cut.as_slice(), used.as_slice())
+}
+
 #[test]
 fn a_subr_that_differs(rt: HostRuntime) -> Result<(), Fail> {
-    let other = without_subr_5(rt.alloc())?;
-    let used = subset(rt.alloc(), other.as_slice(), &[b"X"]);
-    let y = subset(rt.alloc(), PFA, &[b"Y"]);
-    let a = subset(rt.alloc(), PFA, &[b"A"]);
-    let got = either(rt.alloc(), y.as_slice(), used.as_slice())?;
-    assert_eq!(rt;
-        got.as_slice(),
-        b"refused: subr 5 differs, used by X\n".as_slice()
-    );
-    let both = either(rt.alloc(), a.as_slice(), used.as_slice())?;
-    let drawn = answer(rt.alloc(), Engine::Show(b"X"), both.as_slice());
-    assert_eq!(rt; drawn.as_slice(), OWN_X, "X draws as in its own font");
+    let got = own_x_and(rt.alloc(), b"Y")?;
+    assert!(rt; got.as_slice() == b"refused: subr 5 differs, used by X\n".as_slice());
+    Ok(())
+}
+
+const OWN_X_LISTED: &[u8] =
+    b"code 65 X\nsubr 0 11\nsubr 1 5\nsubr 2 5\nsubr 3 1\nsubr 4 1\nsubr 5 1\nsubr 6 3\n";
+
+#[test]
+fn a_subr_that_one_font_uses(rt: HostRuntime) -> Result<(), Fail> {
+    let both = own_x_and(rt.alloc(), b"A")?;
+    let drawn = answers(rt.alloc(), Engine::Show(b"X"), both.as_slice(), OWN_X);
+    assert!(rt; drawn, "X draws as in its own font");
     let listed = answer(rt.alloc(), Engine::List, both.as_slice());
     assert!(rt;
-        listed.as_slice().starts_with(
-            b"code 65 X\nsubr 0 11\nsubr 1 5\nsubr 2 5\nsubr 3 1\nsubr 4 1\nsubr 5 1\nsubr 6 3\n"
-        ),
+        listed.as_slice().starts_with(OWN_X_LISTED),
         "Subr 5 is return"
     );
     Ok(())
 }
 
+/// The subset by Aacute of the font without acute.
+fn accented(alloc: Global) -> Result<Vec<u8>, AllocError> {
+    let other = without_acute(alloc)?;
+    Ok(subset(alloc, other.as_slice(), &[b"Aacute"]))
+}
+
+/// That subset merged with one of Tiny by A.
+fn accented_and_a(alloc: Global) -> Result<Vec<u8>, AllocError> {
+    let left = accented(alloc)?;
+    let right = subset(alloc, PFA, &[b"A"]);
+    either(alloc, left.as_slice(), right.as_slice())
+}
+
+/// Whether a file is refused beside the subset of Tiny by acute, since its Aacute lacks that part.
+fn lacks_acute(alloc: Global, file: &[u8]) -> bool {
+    let acute = subset(alloc, PFA, &[b"acute"]);
+    let want = b"refused: glyph Aacute lacks part acute\n";
+    merges(alloc, file, acute.as_slice(), want)
+}
+
 #[test]
 fn a_part_that_one_font_lacks(rt: HostRuntime) -> Result<(), Fail> {
-    let other = without_acute(rt.alloc())?;
-    let accented = subset(rt.alloc(), other.as_slice(), &[b"Aacute"]);
-    let acute = subset(rt.alloc(), PFA, &[b"acute"]);
-    let a = subset(rt.alloc(), PFA, &[b"A"]);
-    let lacks = b"refused: glyph Aacute lacks part acute\n".as_slice();
-    let got = either(rt.alloc(), accented.as_slice(), acute.as_slice())?;
-    assert_eq!(rt; got.as_slice(), lacks);
-    let both = either(rt.alloc(), accented.as_slice(), a.as_slice())?;
-    for file in [other.as_slice(), both.as_slice()] {
-        let drawn = answer(rt.alloc(), Engine::Show(b"Aacute"), file);
-        assert_eq!(rt; drawn.as_slice(), b"fault MissingPart\n".as_slice());
-    }
-    let got = either(rt.alloc(), both.as_slice(), acute.as_slice())?;
-    assert_eq!(rt; got.as_slice(), lacks, "that result, too");
+    let left = accented(rt.alloc())?;
+    assert!(rt; lacks_acute(rt.alloc(), left.as_slice()));
+    let both = accented_and_a(rt.alloc())?;
+    assert!(rt;
+        lacks_acute(rt.alloc(), both.as_slice()),
+        "that result, too"
+    );
+    let want = b"fault MissingPart\n";
+    assert!(rt; answers(rt.alloc(), Engine::Show(b"Aacute"), both.as_slice(), want));
     Ok(())
 }
 
@@ -176,8 +236,13 @@ fn a_part_that_one_font_lacks(rt: HostRuntime) -> Result<(), Fail> {
 fn the_heaviest_font(rt: HostRuntime) -> Result<(), Fail> {
     let font = heaviest(rt.alloc())?;
     let got = merged(rt.alloc(), font.as_slice(), font.as_slice())?;
-    let want = answer(rt.alloc(), Engine::Convert(Form::Pfa), font.as_slice());
-    assert!(rt; got.as_slice() == want.as_slice(), "merged with itself");
+    let is_kept = answers(
+        rt.alloc(),
+        Engine::Convert(Form::Pfa),
+        font.as_slice(),
+        got.as_slice(),
+    );
+    assert!(rt; is_kept, "merged with itself");
     Ok(())
 }
 

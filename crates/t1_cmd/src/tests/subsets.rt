@@ -1,11 +1,11 @@
 //! Subsets of the font Tiny and of changed ones.
 use super::changed::{sealed, tiny_and};
-use super::engines::{Engine, answer};
+use super::engines::{Engine, answer, answers};
 use super::tiny::{PFA, PFB};
 use std::alloc::{AllocError, Global};
 use std::test::Fail;
 use t1_bytes::EEXEC_KEY;
-use t1_font::{Form, read};
+use t1_font::{Font, Form, read};
 use t1_run::Subroutines;
 
 /// The PFA file of a subset, or the line of its refusal.
@@ -13,22 +13,56 @@ pub fn subset(alloc: Global, input: &[u8], names: &[&[u8]]) -> Vec<u8> {
     answer(alloc, Engine::Subset(names, Form::Pfa), input)
 }
 
-/// The names of a file's glyphs, and its Subrs that are no `return`.
-fn kept(alloc: Global, file: &[u8]) -> Result<Vec<u8>, AllocError> {
-    let mut text = Vec::new(alloc);
-    let Ok(font) = read(alloc, file) else {
-        return Ok(text);
-    };
+/// Adds the names of a font's glyphs.
+fn push_names(font: &Font, text: &mut Vec<u8>) -> Result<(), AllocError> {
     for name in font.names() {
         text.extend_from_slice(name)?;
         text.push(b' ')?;
     }
+    Ok(())
+}
+
+/// Whether a charstring is there and is no `return`.
+fn acts(plain: Option<&[u8]>) -> bool {
+    match plain {
+        Some(bytes) => bytes != [11].as_slice(),
+        None => false,
+    }
+}
+
+/// Adds a digit for each of a font's Subrs that is no `return`.
+fn push_subrs(font: &Font, text: &mut Vec<u8>) -> Result<(), AllocError> {
     for index in 0..10u16 {
-        if font.get(index).unwrap_or(&[11]) != [11].as_slice() {
+        if acts(font.get(index)) {
             text.push(b'0' + index as u8)?;
         }
     }
+    Ok(())
+}
+
+/// The names of a font's glyphs, and its Subrs that are no `return`.
+fn kept(alloc: Global, font: &Font) -> Result<Vec<u8>, AllocError> {
+    let mut text = Vec::new(alloc);
+    push_names(font, &mut text)?;
+    push_subrs(font, &mut text)?;
     Ok(text)
+}
+
+/// Whether this is what a font keeps.
+fn font_keeps(alloc: Global, font: &Font, want: &[u8]) -> bool {
+    match kept(alloc, font) {
+        Ok(text) => text.as_slice() == want,
+        Err(_) => false,
+    }
+}
+
+/// Whether the subset of a file keeps this.
+fn keeps(alloc: Global, input: &[u8], names: &[&[u8]], want: &[u8]) -> bool {
+    let file = subset(alloc, input, names);
+    match read(alloc, file.as_slice()) {
+        Ok(font) => font_keeps(alloc, &font, want),
+        Err(_) => false,
+    }
 }
 
 /// Names, and what their subset of Tiny keeps.
@@ -43,12 +77,10 @@ const KEPT: [(&[&[u8]], &[u8]); 7] = [
 ];
 
 #[test]
-fn what_names_keep(rt: HostRuntime) -> Result<(), Fail> {
+fn what_names_keep(rt: HostRuntime) {
     for (names, want) in KEPT {
-        let file = subset(rt.alloc(), PFB, names);
-        assert_eq!(rt; kept(rt.alloc(), file.as_slice())?.as_slice(), want);
+        assert!(rt; keeps(rt.alloc(), PFB, names, want));
     }
-    Ok(())
 }
 
 /// A glyph of Tiny with another charstring, and what its subset keeps.
@@ -69,8 +101,7 @@ const CHANGED_KEPT: [(&[u8], &[u8], &[u8]); 2] = [
 fn what_changed_glyphs_keep(rt: HostRuntime) -> Result<(), Fail> {
     for (name, plain, want) in CHANGED_KEPT {
         let font = tiny_and(rt.alloc(), name, plain)?;
-        let file = subset(rt.alloc(), font.as_slice(), &[name]);
-        assert_eq!(rt; kept(rt.alloc(), file.as_slice())?.as_slice(), want);
+        assert!(rt; keeps(rt.alloc(), font.as_slice(), &[name], want));
     }
     Ok(())
 }
@@ -148,22 +179,23 @@ const SUBSETS: [(&[&[u8]], usize, &[u8], &[u8]); 4] = [
     ),
 ];
 
+/// The size of a file, and whether it is checked and listed so.
+fn seen(alloc: Global, file: &[u8], checked: &[u8], listed: &[u8]) -> (usize, bool, bool) {
+    let is_checked = answers(alloc, Engine::Check, file, checked);
+    let is_listed = answers(alloc, Engine::List, file, listed);
+    (file.len(), is_checked, is_listed)
+}
+
 #[test]
 fn sizes_of_subsets(rt: HostRuntime) {
     for (names, size, checked, listed) in SUBSETS {
         let file = subset(rt.alloc(), PFA, names);
-        assert_eq!(rt; file.len(), size);
-        let got = answer(rt.alloc(), Engine::Check, file.as_slice());
-        assert_eq!(rt; got.as_slice(), checked);
-        let got = answer(rt.alloc(), Engine::List, file.as_slice());
-        assert_eq!(rt; got.as_slice(), listed);
+        let got = seen(rt.alloc(), file.as_slice(), checked, listed);
+        assert_eq!(rt; got, (size, true, true));
     }
     let file = subset(rt.alloc(), PFA, &[b"N"]);
-    let got = answer(rt.alloc(), Engine::Check, file.as_slice());
-    assert_eq!(rt;
-        got.as_slice(),
-        b"ok 5 glyphs, 10 subrs, weight 3259\n".as_slice()
-    );
+    let want = b"ok 5 glyphs, 10 subrs, weight 3259\n";
+    assert!(rt; answers(rt.alloc(), Engine::Check, file.as_slice(), want));
 }
 
 #[test]
@@ -174,8 +206,7 @@ fn names_that_are_absent(rt: HostRuntime) {
         (&PFA[..312], &[b"Zed"], b"refused: no eexec\n"),
     ];
     for (file, names, want) in rows {
-        let got = subset(rt.alloc(), file, names);
-        assert_eq!(rt; got.as_slice(), want);
+        assert!(rt; answers(rt.alloc(), Engine::Subset(names, Form::Pfa), file, want));
     }
 }
 
@@ -196,10 +227,8 @@ fn the_heaviest_font(rt: HostRuntime) -> Result<(), Fail> {
     let file = heaviest(rt.alloc())?;
     let cut = subset(rt.alloc(), file.as_slice(), &[]);
     for font in [file.as_slice(), cut.as_slice()] {
-        assert_eq!(rt;
-            answer(rt.alloc(), Engine::Check, font).as_slice(),
-            b"ok 1 glyphs, 1 subrs, weight 16777216\n".as_slice()
-        );
+        let want = b"ok 1 glyphs, 1 subrs, weight 16777216\n";
+        assert!(rt; answers(rt.alloc(), Engine::Check, font, want));
     }
     Ok(())
 }
