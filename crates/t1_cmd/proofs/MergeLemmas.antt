@@ -1,5 +1,5 @@
 -- How the engine that merges fonts ends.
-use Rattle.std.proofs.Common.{◌≡◌, ℕ, refl, sym, ◌∙◌, ap, subst, List, [], ◌∷◌, ◌++◌, ◌⊎◌, inl, ⊎_elim, Option, None, Result, Ok, Err}
+use Rattle.std.proofs.Common.{◌≡◌, ℕ, refl, sym, ◌∙◌, ap, subst, List, [], ◌∷◌, ◌++◌, inl, ⊎_elim, Option, None, Result, Ok, Err}
 use Rattle.t1_bytes.specs.declared.form.Form.{Form}
 use Rattle.t1_font.specs.FontValue.{FontValue}
 use Rattle.t1_font.proofs.MapCuts.{Some_None}
@@ -17,8 +17,7 @@ use Rattle.t1_cmd.specs.declared.faults.Reason.TheVariants.{TooLong, Memory, Lis
 use Rattle.t1_cmd.specs.declared.faults.RunFault.{RunFault}
 use Rattle.t1_cmd.specs.declared.faults.RunFault.TheVariants.{Refused, Read, Write}
 use Rattle.t1_cmd.specs.Inputs.{Input, Say}
-use Rattle.t1_cmd.specs.declared.counting.Counted.{Counted}
-use Rattle.t1_cmd.specs.Runs.{Stops, RunEnds}
+use Rattle.t1_cmd.specs.Runs.{Stops}
 use Rattle.t1_cmd.specs.Fonts.{font_input}
 use Rattle.t1_cmd.specs.Mergers.{InputsStop, IsTold, MergesTo, MergeStops}
 use Rattle.t1_cmd.proofs.RunLemmas.{stops_together}
@@ -95,12 +94,6 @@ merge_stops form is fs (Refused (NoGlyph n)) h s = stops_together font_input (Me
 merge_stops form is fs (Refused (Merge f)) h s = stops_together font_input (MergesTo form) is fs (Merge f) h s
 merge_stops form is fs Read h s = absurd s
 merge_stops form is fs Write h s = absurd s
-
--- an engine that stops has not written
-pub stopped : (form : Form) {W : Type 0} (contents : W → Option (List ℕ)) (is : List Input) (w : Counted W) (e : RunFault) → Stops font_input (MergesTo form) is e → RunEnds font_input (MergesTo form) contents is w w (Err e)
-stopped form contents is w (Refused r) h = (refl, h)
-stopped form contents is w Read h = (refl, h)
-stopped form contents is w Write h = absurd h
 
 pub same_text : (x y : List ℕ) → ◌≡◌ {A = Result (List ℕ) Reason} (Ok x) (Ok y) → y ≡ x
 same_text x y e = cc

@@ -104,6 +104,12 @@ module _ {A : Type 0} (understand : List ℕ → Result A Reason) where
     stops_after front i rest Read h s = first_at HasFailed front i rest h s
     stops_after front i rest Write h s = absurd s
 
+    -- an engine that stops has not written
+    pub stopped : {W : Type 0} (contents : W → Option (List ℕ)) (is : List Input) (w : Counted W) (e : RunFault) → Stops understand Answers is e → RunEnds understand Answers contents is w w (Err e)
+    stopped contents is w (Refused r) h = (refl, h)
+    stopped contents is w Read h = (refl, h)
+    stopped contents is w Write h = absurd h
+
     -- the inputs are refused together
     pub stops_together : (is : List Input) (xs : List A) (r : Reason) → Say understand is xs → Answers xs (Err r) → Stops understand Answers is (Refused r)
     stops_together is xs r h a = by r a
