@@ -1,6 +1,6 @@
 -- The first conflict that one pass over two sorted lists meets is the smallest.
-use Rattle.std.proofs.Common.{◌≡◌, refl, sym, ap, ◌∙◌, subst, ℕ, ◌+◌, ◌<◌, ◌≤◌, Bool, true, false, cond, T, List, [], ◌∷◌, map, length, get_or, drop, Option, Some, None, inl, inr, ◌⊎◌, true≢false}
-use Rattle.std.proofs.lemmas.List.{drop_more, drop_all}
+use Rattle.std.proofs.Common.{◌≡◌, refl, sym, ap, ◌∙◌, subst, ℕ, ◌≤◌, Bool, true, false, cond, T, List, [], ◌∷◌, map, length, drop, Option, Some, None, inl, inr, ◌⊎◌, true≢false}
+use Rattle.std.proofs.lemmas.List.{drop_all}
 use Rattle.std.specs.declared.cmp.Ordering.{Ordering}
 use Rattle.std.specs.declared.cmp.Ordering.TheVariants.{Less, Equal, Greater}
 use Rattle.std.specs.FinMap.Entries.{by_order, below_all}
@@ -21,36 +21,6 @@ module _ {K X Y : Type 0} (R : K → K → Ordering) (same : X → X → Bool) (
   -- what is left meets what all meets
   abbrev pub Meeting : List Y → List Y → ℕ → ℕ → Type 0
   Meeting es fs i j = first_met R same (map v (drop i es)) (map v (drop j fs)) ≡ first_met R same (map v es) (map v fs)
-
-  module _ (es fs : List Y) (i j : ℕ) (d d' : Y) (in_es : i < length es) (in_fs : j < length fs) (h : Meeting es fs i j) where
-    x : Y
-    x = get_or es i d
-
-    y : Y
-    y = get_or fs j d'
-
-    opened : first_met R same (v x ∷ map v (drop (i + 1) es)) (v y ∷ map v (drop (j + 1) fs)) ≡ first_met R same (map v es) (map v fs)
-    unfolding x y
-    opened = (λ k. first_met R same (map v (sym (drop_more es i d in_es) k)) (map v (sym (drop_more fs j d' in_fs) k))) ∙ h
-
-    chosen : (r : Ordering) → R (v x).0 (v y).0 ≡ r → by_order r (first_met R same (map v (drop (i + 1) es)) (v y ∷ map v (drop (j + 1) fs))) (cond (same (v x).1 (v y).1) (first_met R same (map v (drop (i + 1) es)) (map v (drop (j + 1) fs))) (Some (v x).0)) (met R same (v x) (first_met R same (map v (drop (i + 1) es))) (map v (drop (j + 1) fs))) ≡ first_met R same (map v es) (map v fs)
-    chosen r e = subst (λ (r : Ordering). by_order r (first_met R same (map v (drop (i + 1) es)) (v y ∷ map v (drop (j + 1) fs))) (cond (same (v x).1 (v y).1) (first_met R same (map v (drop (i + 1) es)) (map v (drop (j + 1) fs))) (Some (v x).0)) (met R same (v x) (first_met R same (map v (drop (i + 1) es))) (map v (drop (j + 1) fs))) ≡ first_met R same (map v es) (map v fs)) e opened
-
-    pub first_passes : R (v (get_or es i d)).0 (v (get_or fs j d')).0 ≡ Less → Meeting es fs (i + 1) j
-    unfolding x y
-    first_passes e = (λ k. first_met R same (map v (drop (i + 1) es)) (map v (drop_more fs j d' in_fs k))) ∙ chosen Less e
-
-    pub second_passes : R (v (get_or es i d)).0 (v (get_or fs j d')).0 ≡ Greater → Meeting es fs i (j + 1)
-    unfolding x y
-    second_passes e = (λ k. first_met R same (map v (drop_more es i d in_es k)) (map v (drop (j + 1) fs))) ∙ chosen Greater e
-
-    pub both_pass : R (v (get_or es i d)).0 (v (get_or fs j d')).0 ≡ Equal → same (v (get_or es i d)).1 (v (get_or fs j d')).1 ≡ true → Meeting es fs (i + 1) (j + 1)
-    unfolding x y
-    both_pass e s = (λ k. cond (sym s k) (first_met R same (map v (drop (i + 1) es)) (map v (drop (j + 1) fs))) (Some (v x).0)) ∙ chosen Equal e
-
-    pub meets : R (v (get_or es i d)).0 (v (get_or fs j d')).0 ≡ Equal → same (v (get_or es i d)).1 (v (get_or fs j d')).1 ≡ false → first_met R same (map v es) (map v fs) ≡ Some (v (get_or es i d)).0
-    unfolding x y
-    meets e s = sym ((λ k. cond (sym s k) (first_met R same (map v (drop (i + 1) es)) (map v (drop (j + 1) fs))) (Some (v x).0)) ∙ chosen Equal e)
 
   nothing_met : (xs : List (K × X)) → first_met R same xs [] ≡ None
   nothing_met [] = refl

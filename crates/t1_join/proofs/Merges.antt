@@ -1,6 +1,6 @@
 -- One pass over two lists of entries whose keys rise.
-use Rattle.std.proofs.Common.{◌≡◌, refl, sym, ap, ◌∙◌, subst, ℕ, ◌+◌, ◌<◌, ◌≤◌, arith, Bool, true, false, cond, ◌⊎◌, T, List, [], ◌∷◌, ◌++◌, map, length, get_or, take, take_all, drop, ◌-◌, append_assoc, Option, Some, None, inl, inr}
-use Rattle.std.proofs.lemmas.List.{map-append, append-nil, drop_more, drop_all, length-drop}
+use Rattle.std.proofs.Common.{◌≡◌, refl, sym, ap, ◌∙◌, ℕ, ◌≤◌, arith, Bool, true, false, cond, ◌⊎◌, T, List, [], ◌∷◌, ◌++◌, map, length, take, take_all, drop, ◌-◌, Option, Some, None, inl, inr}
+use Rattle.std.proofs.lemmas.List.{map-append, append-nil, drop_all, length-drop}
 use Rattle.std.specs.declared.cmp.Ordering.{Ordering}
 use Rattle.std.specs.declared.cmp.Ordering.TheVariants.{Less, Equal, Greater}
 use Rattle.std.specs.Ordering.{ordering_reverse, is_eq}
@@ -18,38 +18,9 @@ module _ {K X Y : Type 0} (R : K → K → Ordering) (v : Y → K × X) where
   abbrev pub Merging : List Y → List Y → List Y → ℕ → ℕ → Type 0
   Merging es fs out i j = map v out ++ merge R (map v (drop i es)) (map v (drop j fs)) ≡ merge R (map v es) (map v fs)
 
-  seam : (out : List Y) (x : Y) (rest : List (K × X)) → map v (out ++ x ∷ []) ++ rest ≡ map v out ++ v x ∷ rest
-  seam out x rest = ap (λ (a : List (K × X)). a ++ rest) (map-append v out (x ∷ [])) ∙ append_assoc (map v out) (v x ∷ []) rest
-
   nothing_more : (xs : List (K × X)) → merge R xs [] ≡ xs
   nothing_more [] = refl
   nothing_more (x ∷ xs) = ap (λ (a : List (K × X)). x ∷ a) (nothing_more xs)
-
-  module _ (es fs out : List Y) (i j : ℕ) (d d' : Y) (in_es : i < length es) (in_fs : j < length fs) (h : Merging es fs out i j) where
-    x : Y
-    x = get_or es i d
-
-    y : Y
-    y = get_or fs j d'
-
-    opened : map v out ++ merge R (v x ∷ map v (drop (i + 1) es)) (v y ∷ map v (drop (j + 1) fs)) ≡ merge R (map v es) (map v fs)
-    unfolding x y
-    opened = (λ k. map v out ++ merge R (map v (sym (drop_more es i d in_es) k)) (map v (sym (drop_more fs j d' in_fs) k))) ∙ h
-
-    chosen : (r : Ordering) → R (v x).0 (v y).0 ≡ r → map v out ++ by_order r (v x ∷ merge R (map v (drop (i + 1) es)) (v y ∷ map v (drop (j + 1) fs))) (v x ∷ merge R (map v (drop (i + 1) es)) (map v (drop (j + 1) fs))) (v y ∷ weave R (v x) (merge R (map v (drop (i + 1) es))) (map v (drop (j + 1) fs))) ≡ merge R (map v es) (map v fs)
-    chosen r e = subst (λ (r : Ordering). map v out ++ by_order r (v x ∷ merge R (map v (drop (i + 1) es)) (v y ∷ map v (drop (j + 1) fs))) (v x ∷ merge R (map v (drop (i + 1) es)) (map v (drop (j + 1) fs))) (v y ∷ weave R (v x) (merge R (map v (drop (i + 1) es))) (map v (drop (j + 1) fs))) ≡ merge R (map v es) (map v fs)) e opened
-
-    pub first_goes : R (v (get_or es i d)).0 (v (get_or fs j d')).0 ≡ Less → Merging es fs (out ++ get_or es i d ∷ []) (i + 1) j
-    unfolding x y
-    first_goes e = (λ k. map v (out ++ x ∷ []) ++ merge R (map v (drop (i + 1) es)) (map v (drop_more fs j d' in_fs k))) ∙ seam out x _ ∙ chosen Less e
-
-    pub both_go : R (v (get_or es i d)).0 (v (get_or fs j d')).0 ≡ Equal → Merging es fs (out ++ get_or es i d ∷ []) (i + 1) (j + 1)
-    unfolding x y
-    both_go e = seam out x _ ∙ chosen Equal e
-
-    pub second_goes : R (v (get_or es i d)).0 (v (get_or fs j d')).0 ≡ Greater → Merging es fs (out ++ get_or fs j d' ∷ []) i (j + 1)
-    unfolding x y
-    second_goes e = (λ k. map v (out ++ y ∷ []) ++ merge R (map v (drop_more es i d in_es k)) (map v (drop (j + 1) fs))) ∙ seam out y _ ∙ chosen Greater e
 
   left : (out es fs : List Y) (w : List (K × X)) → (es ≡ []) ⊎ (fs ≡ []) → map v out ++ merge R (map v es) (map v fs) ≡ w → map v ((out ++ es) ++ fs) ≡ w
   left out es fs w (inl none) h =
