@@ -1,5 +1,5 @@
 -- Encryption and decryption are the two directions of one relation.
-use Rattle.std.proofs.Common.{◌≡◌, ◌↔◌, ℕ, zero, suc, ◌+◌, ◌/◌, ◌<◌, ◌^◌, List, [], ◌∷◌, ◌++◌, length, take, drop, refl, sym, ap, subst, ◌∙◌, arith}
+use Rattle.std.proofs.Common.{◌≡◌, ◌↔◌, ℕ, zero, suc, ◌+◌, ◌/◌, ◌<◌, ◌^◌, List, [], ◌∷◌, ◌++◌, length, take, drop, refl, sym, ap, subst, ◌∙◌, slice_set, slice_index_or, arith}
 use Rattle.std.specs.Prelude.{bit_xor, replicate}
 use Rattle.std.proofs.lemmas.List.{take_at, drop_at, length-append, length-replicate}
 use Rattle.std.specs.Int.Bits.{xor_assoc, xor_self, xor_zero_r}
@@ -70,6 +70,15 @@ encrypted_bytes (p ∷ ps) key k h =
     let c = bit_xor p (key / 256) in
     let small : key / 256 < 2 ^ 8 = omega arith in
     (xor_lt 8 p (key / 256) h.0 small, encrypted_bytes ps (next_key key c) (omega arith) h.1)
+
+-- the last byte of a cipher is decrypted by the key that stands before it
+pub last_byte : (bytes : List ℕ) (at now : ℕ) → at + 1 ≡ length bytes →
+    take at bytes ++ decrypted now (drop at bytes) ≡ slice_set bytes at (bit_xor (slice_index_or bytes at 0) (now / 256))
+last_byte [] zero now e = absurd (omega (arith, e))
+last_byte [] (suc at) now e = absurd (omega (arith, e))
+last_byte (b ∷ []) zero now e = refl
+last_byte (b ∷ c ∷ bytes) zero now e = absurd (omega (arith, e))
+last_byte (b ∷ bytes) (suc at) now e = ap (λ (rest : List ℕ). b ∷ rest) (last_byte bytes at now (omega (arith, e)))
 
 -- ---- lead bytes
 

@@ -16,11 +16,25 @@ pub const EEXEC_LEAD: u8 = 4;
 /// The key that the cipher of each charstring starts with. Its lead bytes are as many as lenIV says.
 pub const CHARSTRING_KEY: u16 = 4330;
 
+// What each key is made with, of the key before and the cipher byte.
+const FACTOR: u64 = 52845;
+
+const SUMMAND: u64 = 22719;
+
 /// The key after a cipher byte.
 fn key_after(key: u16, cipher: u8) -> u16
     ensures { result ≡ next_key key cipher }
 {
-    (((cipher as u32 + key as u32) * 52845 + 22719) % 65536) as u16
+    (((cipher as u64 + key as u64) * FACTOR + SUMMAND) % 65536) as u16
+}
+
+/// The key after two cipher bytes. Nothing here waits for the key between them.
+fn key_after_both(key: u16, first: u8, second: u8) -> u16
+    ensures { result ≡ next_key (next_key key first) second }
+{
+    let of_first = (first as u64 + key as u64) * (FACTOR * FACTOR);
+    let of_second = (second as u64 + SUMMAND) * FACTOR + SUMMAND;
+    ((of_first + of_second) % 65536) as u16
 }
 
 /// Encrypts bytes in place, under a cipher whose key starts as `key`. Lead bytes are encrypted like
@@ -43,10 +57,17 @@ pub fn decrypt(bytes: &mut [u8], key: u16)
     ensures cipher { Enciphers key bytes.new bytes.old }
 {
     let mut now = key;
-    for byte in bytes.iter_mut() {
-        let cipher = *byte;
-        *byte = cipher ^ (now / 256) as u8;
-        now = key_after(now, cipher);
+    let mut at = 0;
+    'pairs: while at + 1 < bytes.len() {
+        let first = bytes[at];
+        let second = bytes[at + 1];
+        bytes[at] = first ^ (now / 256) as u8;
+        bytes[at + 1] = second ^ (key_after(now, first) / 256) as u8;
+        now = key_after_both(now, first, second);
+        at += 2;
+    }
+    if at < bytes.len() {
+        bytes[at] ^= (now / 256) as u8;
     }
 }
 

@@ -3,8 +3,6 @@
 
 mod commands;
 mod perform;
-#[cfg(test)]
-mod tests;
 
 use std::io::Write;
 use std::process::ExitCode;

@@ -1,0 +1,162 @@
+#!/usr/bin/env python3
+"""Runs the built program on rows of words, and compares its status, what it prints and which files it leaves.
+
+usage: tools/test_program.py [PROGRAM...]    without a name the two builds that `rt ci` leaves
+"""
+import os
+import subprocess
+import sys
+import tempfile
+from collections import namedtuple
+
+TOP = os.path.join(os.path.dirname(os.path.abspath(__file__)), "..")
+BUILDS = [os.path.join(TOP, "crates/t1subset/out/t1subset" + by) for by in ("", ".by-rattle")]
+
+# What stands where a text is clap's.
+SOME = object()
+
+# A font of two glyphs, one of whose names begins with `-`.
+DASHED = b"""\
+%!
+/Encoding StandardEncoding def
+currentfile eexec
+d9d66f6370c127631d46139186078a356fc2d10224c8e12685c13b098df815d8
+a9b03732dad86e0dc7e5c6a5cb54fe668163ca856cc9fdb8078c6b5aa2c52d45
+0f0772c85ec5f94dd679ad3d8c763702087a163f0a78cce094e822d4fb6fe01c
+cfc73f031a55957a3b1cf6aa42b1133b141833
+""" + (b"0" * 64 + b"\n") * 8 + b"cleartomark\n"
+
+LISTED = b"""\
+encoding StandardEncoding
+glyph -a 5
+glyph .notdef 1
+"""
+
+DRAWN = b"""\
+width 250 0
+bearing 0 0
+part 0 0
+"""
+
+# The words; the exit status; what is printed, and on standard error; the files that stand changed afterwards.
+Row = namedtuple("Row", "words status out err left", defaults=(b"", b"", {}))
+
+
+def example(name):
+    with open(os.path.join(TOP, "examples", name), "rb") as f:
+        return f.read()
+
+
+def files():
+    """The files that each row finds."""
+    named = ["tiny.pfa", "tiny.pfb", "left.listing", "right.listing", "other.listing"]
+    given = {name: example(name) for name in named}
+    given["dashed.pfa"] = DASHED
+    given["no.font"] = b"no font"
+    given["no.listing"] = b"no listing"
+    given["old"] = b"what stood here"
+    return given
+
+
+def rows_of_words():
+    """Words that ask for help or don't parse."""
+    commands = ["subset", "merge", "check", "list", "show", "pfa", "pfb", "join"]
+    yield Row(["--help"], 0, SOME)
+    yield Row(["--version"], 0, b"t1subset 0.1.0\n")
+    for command in commands:
+        yield Row([command, "--help"], 0, SOME)
+        yield Row([command], 2, b"", SOME)
+    yield Row([], 2, b"", SOME)
+    yield Row(["tiny.pfa"], 2, b"", SOME)
+    yield Row(["check", "tiny.pfa", "more"], 2, b"", SOME)
+    yield Row(["merge", "out"], 2, b"", SOME)
+    yield Row(["show", "dashed.pfa", "-a"], 2, b"", SOME)
+    yield Row(["check", b"\xff"], 2, b"", b"error: the arguments are not UTF-8\n")
+
+
+def rows_of_fonts():
+    """What is said of a font, and what is refused."""
+    yield Row(["check", "dashed.pfa"], 0, b"ok 2 glyphs, 0 subrs, weight 579\n")
+    yield Row(["check", "tiny.pfb"], 0, b"ok 11 glyphs, 10 subrs, weight 4936\n")
+    yield Row(["check", "no.font"], 1, b"", b"refused: no eexec\n")
+    yield Row(["check", "absent"], 3, b"", b"failed: read\n")
+    yield Row(["list", "dashed.pfa"], 0, LISTED)
+    yield Row(["show", "dashed.pfa", "--", "-a"], 0, DRAWN)
+    yield Row(["show", "dashed.pfa", ".notdef"], 0, b"fault NoWidth\n")
+    yield Row(["show", "dashed.pfa", "Zed"], 1, b"", b"refused: no glyph Zed\n")
+    yield Row(["show", "absent", "Zed"], 3, b"", b"failed: read\n")
+
+
+def rows_of_outputs(given):
+    """OUT is opened only once the result is complete, and may be an input."""
+    pfa, pfb = given["tiny.pfa"], given["tiny.pfb"]
+    yield Row(["pfa", "tiny.pfb", "out"], 0, b"", b"", {"out": pfa})
+    yield Row(["pfb", "tiny.pfa", "out"], 0, b"", b"", {"out": pfb})
+    yield Row(["pfb", "tiny.pfa", "tiny.pfa"], 0, b"", b"", {"tiny.pfa": pfb})
+    yield Row(["pfb", "tiny.pfb", "old"], 0, b"", b"", {"old": pfb})
+    yield Row(["merge", "tiny.pfb", "tiny.pfa", "tiny.pfb"], 0, b"", b"", {"tiny.pfb": pfa})
+    yield Row(["pfb", "no.font", "out"], 1, b"", b"refused: no eexec\n")
+    yield Row(["pfb", "no.font", "old"], 1, b"", b"refused: no eexec\n")
+    yield Row(["subset", "tiny.pfa", "old", "X", "Zed"], 1, b"", b"refused: no glyph Zed\n")
+    yield Row(["merge", "old", "tiny.pfa", "no.font"], 1, b"", b"refused: no eexec\n")
+    yield Row(["merge", "old", "no.font", "absent"], 3, b"", b"failed: read\n")
+    yield Row(["pfa", "tiny.pfb", "no.folder/out"], 3, b"", b"failed: write\n")
+
+
+def rows_of_listings():
+    """All inputs are opened before the first is read."""
+    refused = b"refused: subr 150 differs\n"
+    yield Row(["join", "left.listing", "right.listing"], 0, example("both.listing"))
+    yield Row(["join", "left.listing", "other.listing"], 1, b"", refused)
+    yield Row(["join", "no.listing", "left.listing"], 1, b"", b"refused: bad line 1\n")
+    yield Row(["join", "no.listing", "absent"], 3, b"", b"failed: read\n")
+
+
+def same(written, want):
+    return written != b"" if want is SOME else written == want
+
+
+def wrong(program, row, given):
+    """What is wrong with a run of the program, or None."""
+    with tempfile.TemporaryDirectory() as folder:
+        for name, text in given.items():
+            with open(os.path.join(folder, name), "wb") as f:
+                f.write(text)
+        words = [os.fsencode(word) for word in [program, *row.words]]
+        done = subprocess.run(words, cwd=folder, stdin=subprocess.DEVNULL, capture_output=True, timeout=60)
+        stand = {}
+        for name in os.listdir(folder):
+            with open(os.path.join(folder, name), "rb") as f:
+                stand[name] = f.read()
+    if done.returncode != row.status:
+        return f"status {done.returncode}"
+    if not same(done.stdout, row.out):
+        return f"printed {done.stdout!r}"
+    if not same(done.stderr, row.err):
+        return f"said {done.stderr!r}"
+    return None if stand == {**given, **row.left} else "left other files"
+
+
+def full(program):
+    """A printed result that isn't taken is a failed write."""
+    with open("/dev/full", "wb") as out:
+        words = [program, "check", os.path.join(TOP, "examples/tiny.pfa")]
+        done = subprocess.run(words, stdout=out, stderr=subprocess.PIPE, timeout=60)
+    if (done.returncode, done.stderr) != (3, b"failed: write\n"):
+        sys.exit(f"{program}: status {done.returncode}, {done.stderr!r}, where standard output is full")
+
+
+def main():
+    given = files()
+    rows = [*rows_of_words(), *rows_of_fonts(), *rows_of_outputs(given), *rows_of_listings()]
+    programs = [os.path.abspath(it) for it in sys.argv[1:]] or BUILDS
+    for program in programs:
+        for row in rows:
+            fault = wrong(program, row, given)
+            if fault:
+                sys.exit(f"{program} {row.words}: {fault}")
+        full(program)
+    print(f"t1subset: {len(rows) + 1} rows of words, by {len(programs)} builds", file=sys.stderr)
+
+
+main()
