@@ -1,4 +1,5 @@
 pub mod Sorted
+pub mod TreeEntries
 pub mod EntryLemmas
 pub mod OrderLemmas
 pub mod FrontLemmas

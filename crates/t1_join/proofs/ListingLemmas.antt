@@ -18,7 +18,8 @@ use Rattle.t1_join.specs.TableLaws.{get_joined}
 use Rattle.t1_join.specs.ListingMeaning.{ListingMeaning, IsValue, IsIndex, IsListing, is_name}
 use Rattle.t1_join.specs.ListingText.{Entry, subr, glyph, split_at, digits_after, up_to, index_of, name_of, bytes_of, subr_of, glyph_of, entry_of, with_entry}
 use Rattle.t1_join.specs.LineMeaning.{IsEntry}
-use Rattle.t1_join.proofs.EntryLemmas.{same_by_cmp, is_eq-Equal}
+use Rattle.t1_join.proofs.EntryLemmas.{same_by_cmp}
+use Rattle.t1_join.proofs.TreeEntries.{is_eq-Equal}
 
 bytes_fit : (hex v : List ℕ) → bytes_of hex ≡ Some v → IsValue v
 bytes_fit hex v h = by (nat_le (length hex) 131070) refl (decode_of hex) refl h

@@ -143,3 +143,24 @@ module _ {K X : Type 0} {R : K → K → Ordering} (o : IsTotalOrder R) where
       found_both : (q : K) (es fs : List (K × X)) → find R q (es ++ fs) ≡ first_of (find R q es) (find R q fs)
       found_both q [] fs = refl
       found_both q (e ∷ es) fs = ap (cond (is_eq (R q e.0)) (Some e.1)) (found_both q es fs) ∙ find_in (is_eq (R q e.0)) e.1 (find R q es) (find R q fs)
+
+-- ---- keys that are seen by what they stand for
+
+module _ {K M X : Type 0} (k : K → M) (R : K → K → Ordering) (S : M → M → Ordering) (by : (x y : K) → R x y ≡ S (k x) (k y)) where
+  abbrev pub keyed : K × X → M × X
+  keyed e = (k e.0, e.1)
+
+  weave_keys : (e : K × X) (rest : List (K × X) → List (K × X)) (seen : List (M × X) → List (M × X)) (fs : List (K × X)) → ((gs : List (K × X)) → seen (map keyed gs) ≡ map keyed (rest gs)) → weave S (keyed e) seen (map keyed fs) ≡ map keyed (weave R e rest fs)
+  weave_keys e rest seen [] h = ap (λ (a : List (M × X)). keyed e ∷ a) (h [])
+  weave_keys e rest seen (f ∷ fs) h =
+      ap (λ r. by_order r (keyed e ∷ seen (map keyed (f ∷ fs))) (keyed e ∷ seen (map keyed fs)) (keyed f ∷ weave S (keyed e) seen (map keyed fs))) (sym (by e.0 f.0))
+      ∙ (elim (R e.0 f.0) as (λ r. by_order r (keyed e ∷ seen (map keyed (f ∷ fs))) (keyed e ∷ seen (map keyed fs)) (keyed f ∷ weave S (keyed e) seen (map keyed fs)) ≡ map keyed (by_order r (e ∷ rest (f ∷ fs)) (e ∷ rest fs) (f ∷ weave R e rest fs))) [
+        | Less ↦ ap (λ (a : List (M × X)). keyed e ∷ a) (h (f ∷ fs))
+        | Equal ↦ ap (λ (a : List (M × X)). keyed e ∷ a) (h fs)
+        | Greater ↦ ap (λ (a : List (M × X)). keyed f ∷ a) (weave_keys e rest seen fs h)
+      ])
+
+  -- a merge of the keys is one of what they stand for
+  pub merge_keys : (es fs : List (K × X)) → merge S (map keyed es) (map keyed fs) ≡ map keyed (merge R es fs)
+  merge_keys [] fs = refl
+  merge_keys (e ∷ es) fs = weave_keys e (merge R es) (merge S (map keyed es)) fs (merge_keys es)

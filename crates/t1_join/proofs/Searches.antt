@@ -54,6 +54,10 @@ module _ {K X Y : Type 0} {R : K → K → Ordering} (o : IsTotalOrder R) (v : Y
       ap (λ r. cond (is_eq r) (Some (v y).1) (find R q (map v ys))) (o.antisymm q (v y).0 ∙ ap ordering_reverse below)
       ∙ found q ys i d (both_true _ _ h).1 (omega arith) e
 
+  -- so it stands in the finite map at q
+  pub found_at : (q : K) (ys : List Y) (i : ℕ) (d : Y) → Rises R (map v ys) → i < length ys → R (v (get_or ys i d)).0 q ≡ Equal → get (from_sorted {R = R} (map v ys)) q ≡ Some (v (get_or ys i d)).1
+  found_at q ys i d h inside tied = get-from_sorted R (map v ys) q h ∙ found q ys i d h inside tied
+
   -- where no key ties with q, nothing is found
   absent : (q : K) (ys : List Y) → ((i : ℕ) (d : Y) → i < length ys → R (v (get_or ys i d)).0 q ≡ Equal → ⊥) → find R q (map v ys) ≡ None
   absent q [] h = refl

@@ -17,7 +17,8 @@ use Rattle.t1_join.specs.TableLaws.{same_table}
 use Rattle.t1_join.specs.ListingMeaning.{ListingMeaning, IsIndex, IsListing}
 use Rattle.t1_join.specs.ListingText.{Entry, subr, glyph, lines_of, same_key, read_entry, read_lines, listing_from, listing_result, listing_of, subr_line, glyph_line, text_of}
 use Rattle.t1_join.specs.LineMeaning.{IsEntry}
-use Rattle.t1_join.proofs.EntryLemmas.{same_by_cmp, is_eq-Equal}
+use Rattle.t1_join.proofs.EntryLemmas.{same_by_cmp}
+use Rattle.t1_join.proofs.TreeEntries.{is_eq-Equal}
 use Rattle.t1_join.proofs.Sorted.{both_true, lt_is}
 use Rattle.t1_join.proofs.Merges.{find_below}
 use Rattle.t1_join.proofs.LineTexts.{bare_line, entry_read, line_first}

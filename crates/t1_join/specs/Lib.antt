@@ -4,6 +4,7 @@ pub mod StateLaws
 pub mod FlatMeaning
 pub mod TableMeaning
 pub mod TableLaws
+pub mod Entries
 pub mod Passes
 pub mod Groupings
 pub mod ListingMeaning
