@@ -16,7 +16,7 @@ use crate::texts::push_about;
 use crate::writing::write_text;
 use std::alloc::{AllocError, Global};
 use std::io::{Read, Write};
-use t1_font::{Font, Form, ReadFault, read, write};
+use t1_font::{Font, Form, ReadFault, Source, read, write};
 use t1_run::Subroutines;
 
 fn refused_font(fault: ReadFault) -> RunFault
@@ -29,8 +29,8 @@ fn refused_font(fault: ReadFault) -> RunFault
     }
 }
 
-/// The font that a reader's bytes spell.
-pub(crate) fn read_font<R: Read>(alloc: Global, reader: &mut Counted<R>) -> Result<Font, RunFault>
+/// The source of the font that a reader's bytes spell.
+pub(crate) fn read_font<R: Read>(alloc: Global, reader: &mut Counted<R>) -> Result<Source, RunFault>
     ensures ends { InputEnds font_input (λ f. f) (input_of R.remaining reader.old reader.new) result }
     ensures turns { calls_of reader.new ≤ calls_of reader.old + (file_limit + 1) }
 {
@@ -39,10 +39,10 @@ pub(crate) fn read_font<R: Read>(alloc: Global, reader: &mut Counted<R>) -> Resu
 }
 
 // The canonical file of a font.
-pub(crate) fn font_file(alloc: Global, font: Font, form: Form) -> Result<Vec<u8>, AllocError>
-    ensures { IfOk result (λ text. file_answer form font ≡ Ok text.items) }
+pub(crate) fn font_file(alloc: Global, font: &Font<'_>, form: Form) -> Result<Vec<u8>, AllocError>
+    ensures { IfOk result (λ text. file_answer form font.now ≡ Ok text.items) }
 {
-    let text = write(alloc, &font, form)?;
+    let text = write(alloc, font, form)?;
     Ok(text)
 }
 
@@ -59,13 +59,14 @@ pub fn run_convert<R: Read, W: Write>(
         (input_of R.remaining reader.old reader.new ∷ []) writer.old writer.new result }
     ensures turns { calls_of reader.new ≤ calls_of reader.old + (file_limit + 1) }
 {
-    let font = read_font(alloc, reader)?;
-    let text = font_file(alloc, font, form)?;
+    let source = read_font(alloc, reader)?;
+    let font = source.font(alloc)?;
+    let text = font_file(alloc, &font, form)?;
     write_text(writer, text.as_slice())
 }
 
 // How many glyphs a font has.
-fn glyph_count(font: &Font) -> usize
+fn glyph_count(font: &Font<'_>) -> usize
     ensures { result ≡ fin.len font.now.glyphs }
 {
     font.is_font();
@@ -77,7 +78,7 @@ fn glyph_count(font: &Font) -> usize
 }
 
 // How many Subrs of a font are present.
-fn subr_count(font: &Font) -> usize
+fn subr_count(font: &Font<'_>) -> usize
     ensures { result ≡ fin.len font.now.subrs }
 {
     font.is_font();
@@ -91,12 +92,12 @@ fn subr_count(font: &Font) -> usize
 }
 
 // The line of a font that reads.
-fn check_line(alloc: Global, font: Font) -> Result<Vec<u8>, AllocError>
-    ensures { IfOk result (λ text. check_answer font ≡ Ok text.items) }
+fn check_line(alloc: Global, font: &Font<'_>) -> Result<Vec<u8>, AllocError>
+    ensures { IfOk result (λ text. check_answer font.now ≡ Ok text.items) }
 {
     let mut text = Vec::new(alloc);
-    push_about(alloc, &mut text, b"ok ", glyph_count(&font))?;
-    push_about(alloc, &mut text, b" glyphs, ", subr_count(&font))?;
+    push_about(alloc, &mut text, b"ok ", glyph_count(font))?;
+    push_about(alloc, &mut text, b" glyphs, ", subr_count(font))?;
     push_about(alloc, &mut text, b" subrs, weight ", font.weight() as usize)?;
     text.push(b'\n')?;
     Ok(text)
@@ -114,7 +115,8 @@ pub fn run_check<R: Read, W: Write>(
         (input_of R.remaining reader.old reader.new ∷ []) writer.old writer.new result }
     ensures turns { calls_of reader.new ≤ calls_of reader.old + (file_limit + 1) }
 {
-    let font = read_font(alloc, reader)?;
-    let text = check_line(alloc, font)?;
+    let source = read_font(alloc, reader)?;
+    let font = source.font(alloc)?;
+    let text = check_line(alloc, &font)?;
     write_text(writer, text.as_slice())
 }

@@ -21,7 +21,7 @@ use t1_font::Font;
 use t1_run::{Glyphs, Subroutines};
 
 // The line of a code that has a name; nothing for any other.
-fn push_code(alloc: Global, out: &mut Vec<u8>, font: &Font, code: u8) -> Result<(), AllocError>
+fn push_code(alloc: Global, out: &mut Vec<u8>, font: &Font<'_>, code: u8) -> Result<(), AllocError>
     ensures { OnOk result (out.new.items ≡ out.old.items ++ line_at code_line code (name_at font.now.encoding code)) }
 {
     if let Some(name) = font.encoding_at(code) {
@@ -34,7 +34,12 @@ fn push_code(alloc: Global, out: &mut Vec<u8>, font: &Font, code: u8) -> Result<
 }
 
 // The line of a Subr that is present; nothing for any other.
-fn push_subr(alloc: Global, out: &mut Vec<u8>, font: &Font, index: u16) -> Result<(), AllocError>
+fn push_subr(
+    alloc: Global,
+    out: &mut Vec<u8>,
+    font: &Font<'_>,
+    index: u16,
+) -> Result<(), AllocError>
     ensures { OnOk result (out.new.items ≡ out.old.items ++ line_at subr_line index (subr_at font.now index)) }
 {
     if let Some(body) = font.get(index) {
@@ -46,7 +51,12 @@ fn push_subr(alloc: Global, out: &mut Vec<u8>, font: &Font, index: u16) -> Resul
 }
 
 // The line of a glyph that the font has; nothing for any other.
-fn push_glyph(alloc: Global, out: &mut Vec<u8>, font: &Font, name: &[u8]) -> Result<(), AllocError>
+fn push_glyph(
+    alloc: Global,
+    out: &mut Vec<u8>,
+    font: &Font<'_>,
+    name: &[u8],
+) -> Result<(), AllocError>
     ensures { OnOk result (out.new.items ≡ out.old.items ++ line_at glyph_line name.now (fin.get font.now.glyphs name.now)) }
 {
     if let Some(plain) = font.glyph(name) {
@@ -59,7 +69,7 @@ fn push_glyph(alloc: Global, out: &mut Vec<u8>, font: &Font, name: &[u8]) -> Res
 }
 
 // A line for each code of a table.
-fn push_codes(alloc: Global, out: &mut Vec<u8>, font: &Font) -> Result<(), AllocError>
+fn push_codes(alloc: Global, out: &mut Vec<u8>, font: &Font<'_>) -> Result<(), AllocError>
     requires { word_of font.now.encoding ≡ None }
     ensures { OnOk result (out.new.items ≡ out.old.items ++ encoding_lines font.now.encoding) }
 {
@@ -70,7 +80,7 @@ fn push_codes(alloc: Global, out: &mut Vec<u8>, font: &Font) -> Result<(), Alloc
     Ok(())
 }
 
-fn push_encoding(alloc: Global, out: &mut Vec<u8>, font: &Font) -> Result<(), AllocError>
+fn push_encoding(alloc: Global, out: &mut Vec<u8>, font: &Font<'_>) -> Result<(), AllocError>
     ensures { OnOk result (out.new.items ≡ out.old.items ++ encoding_lines font.now.encoding) }
 {
     let Some(word) = font.encoding_word() else {
@@ -82,7 +92,7 @@ fn push_encoding(alloc: Global, out: &mut Vec<u8>, font: &Font) -> Result<(), Al
     Ok(())
 }
 
-fn push_subrs(alloc: Global, out: &mut Vec<u8>, font: &Font) -> Result<(), AllocError>
+fn push_subrs(alloc: Global, out: &mut Vec<u8>, font: &Font<'_>) -> Result<(), AllocError>
     ensures { OnOk result (out.new.items ≡ out.old.items ++ flat_map (λ e. subr_line e.0 e.1) (fin.entries font.now.subrs)) }
 {
     font.is_font();
@@ -92,7 +102,7 @@ fn push_subrs(alloc: Global, out: &mut Vec<u8>, font: &Font) -> Result<(), Alloc
     Ok(())
 }
 
-fn push_glyphs(alloc: Global, out: &mut Vec<u8>, font: &Font) -> Result<(), AllocError>
+fn push_glyphs(alloc: Global, out: &mut Vec<u8>, font: &Font<'_>) -> Result<(), AllocError>
     ensures { OnOk result (out.new.items ≡ out.old.items ++ flat_map (λ e. glyph_line e.0 e.1) (fin.entries font.now.glyphs)) }
 {
     'names: for name in font.names() {
@@ -102,13 +112,13 @@ fn push_glyphs(alloc: Global, out: &mut Vec<u8>, font: &Font) -> Result<(), Allo
 }
 
 // The lines of a font.
-fn list_text(alloc: Global, font: Font) -> Result<Vec<u8>, AllocError>
-    ensures { IfOk result (λ text. list_answer font ≡ Ok text.items) }
+fn list_text(alloc: Global, font: &Font<'_>) -> Result<Vec<u8>, AllocError>
+    ensures { IfOk result (λ text. list_answer font.now ≡ Ok text.items) }
 {
     let mut text = Vec::new(alloc);
-    push_encoding(alloc, &mut text, &font)?;
-    push_subrs(alloc, &mut text, &font)?;
-    push_glyphs(alloc, &mut text, &font)?;
+    push_encoding(alloc, &mut text, font)?;
+    push_subrs(alloc, &mut text, font)?;
+    push_glyphs(alloc, &mut text, font)?;
     Ok(text)
 }
 
@@ -125,7 +135,8 @@ pub fn run_list<R: Read, W: Write>(
         (input_of R.remaining reader.old reader.new ∷ []) writer.old writer.new result }
     ensures turns { calls_of reader.new ≤ calls_of reader.old + (file_limit + 1) }
 {
-    let font = read_font(alloc, reader)?;
-    let text = list_text(alloc, font)?;
+    let source = read_font(alloc, reader)?;
+    let font = source.font(alloc)?;
+    let text = list_text(alloc, &font)?;
     write_text(writer, text.as_slice())
 }

@@ -13,38 +13,49 @@ use crate::fonts::{font_file, read_font};
 use crate::writing::write_text;
 use std::alloc::{AllocError, Global};
 use std::io::{Read, Write};
-use t1_font::{Font, Form};
+use t1_font::{Font, Form, Source};
 use t1_subset::{Conflict, merge_all};
 
-// One more font.
-fn keep(fonts: &mut Vec<Font>, font: Font) -> Result<(), AllocError>
-    ensures { OnOk result (fonts.new.items ≡ fonts.old.items ++ font ∷ []) }
+// One more source.
+fn keep(sources: &mut Vec<Source>, source: Source) -> Result<(), AllocError>
+    ensures { OnOk result (sources.new.items ≡ sources.old.items ++ source ∷ []) }
 {
-    match fonts.push(font) {
+    match sources.push(source) {
         Ok(_) => Ok(()),
         Err(_) => Err(AllocError),
     }
 }
 
-// The fonts that the readers' bytes spell, one after the other.
-fn read_fonts<R: Read>(alloc: Global, readers: &mut [Counted<R>]) -> Result<Vec<Font>, RunFault>
-    ensures says { IfOk result (λ fonts. Say font_input (inputs_of R.remaining readers.old readers.new) fonts.items) }
+// The sources of the fonts that the readers' bytes spell, one after the other.
+fn read_fonts<R: Read>(alloc: Global, readers: &mut [Counted<R>]) -> Result<Vec<Source>, RunFault>
+    ensures says { IfOk result (λ sources. Say font_input (inputs_of R.remaining readers.old readers.new) sources.items) }
     ensures stops { IfErr result (λ e. InputsStop font_input (inputs_of R.remaining readers.old readers.new) e) }
     ensures turns { InTurns readers.old readers.new }
 {
-    let mut fonts = Vec::new(alloc);
+    let mut sources = Vec::new(alloc);
     'readers: for i in 0..readers.len() {
-        let font = match read_font(alloc, &mut readers[i]) {
-            Ok(font) => font,
+        let source = match read_font(alloc, &mut readers[i]) {
+            Ok(source) => source,
             Err(fault) => return Err(fault),
         };
-        keep(&mut fonts, font)?;
+        keep(&mut sources, source)?;
+    }
+    Ok(sources)
+}
+
+// The font of each source.
+fn fonts_of(alloc: Global, sources: &[Source]) -> Result<Vec<Font<'_>>, AllocError>
+    ensures { IfOk result (λ fonts. fonts.items ≡ sources.now) }
+{
+    let mut fonts = Vec::with_capacity(alloc, sources.len())?;
+    'sources: for source in sources {
+        fonts.push(source.font(alloc)?)?;
     }
     Ok(fonts)
 }
 
 // The font that fonts come to, merged from left to right.
-fn merged(alloc: Global, fonts: &[Font]) -> Result<Font, RunFault>
+fn merged<'a>(alloc: Global, fonts: &[Font<'a>]) -> Result<Font<'a>, RunFault>
     ensures comes { IfOk result (λ j. ComesTo fonts.now j) }
     ensures refused { IfErr result (λ e. (form : Form) → MergeStops form fonts.now e) }
 {
@@ -56,7 +67,7 @@ fn merged(alloc: Global, fonts: &[Font]) -> Result<Font, RunFault>
 }
 
 // The canonical file of the font that fonts come to.
-fn merged_file(alloc: Global, fonts: &[Font], form: Form) -> Result<Vec<u8>, RunFault>
+fn merged_file(alloc: Global, fonts: &[Font<'_>], form: Form) -> Result<Vec<u8>, RunFault>
     ensures text { IfOk result (λ text. MergesTo form fonts.now (Ok text.items)) }
     ensures refused { IfErr result (λ e. MergeStops form fonts.now e) }
 {
@@ -64,7 +75,7 @@ fn merged_file(alloc: Global, fonts: &[Font], form: Form) -> Result<Vec<u8>, Run
         Ok(font) => font,
         Err(fault) => return Err(fault),
     };
-    let text = font_file(alloc, font, form)?;
+    let text = font_file(alloc, &font, form)?;
     Ok(text)
 }
 
@@ -86,10 +97,11 @@ pub fn run_merge<R: Read, W: Write>(
     ensures subsets { WritesUnion W.contents form (inputs_of R.remaining readers.old readers.new) writer.old writer.new result }
     ensures turns { InTurns readers.old readers.new }
 {
-    let fonts = match read_fonts(alloc, readers) {
-        Ok(fonts) => fonts,
+    let sources = match read_fonts(alloc, readers) {
+        Ok(sources) => sources,
         Err(fault) => return Err(fault),
     };
+    let fonts = fonts_of(alloc, sources.as_slice())?;
     let text = match merged_file(alloc, fonts.as_slice(), form) {
         Ok(text) => text,
         Err(fault) => return Err(fault),

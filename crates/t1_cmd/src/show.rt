@@ -207,11 +207,11 @@ fn drawing_text(alloc: Global, name: &[u8], drawing: &Drawing) -> Result<Vec<u8>
 }
 
 // The text of what the glyph of a name draws.
-fn shown_glyph(alloc: Global, font: Font, name: &[u8]) -> Result<Vec<u8>, RunFault>
-    ensures text { IfOk result (λ text. show_answer name.now font ≡ Ok text.items) }
-    ensures refused { IfErr result (λ e. ShowStops (show_answer name.now font) e) }
+fn shown_glyph(alloc: Global, font: &Font<'_>, name: &[u8]) -> Result<Vec<u8>, RunFault>
+    ensures text { IfOk result (λ text. show_answer name.now font.now ≡ Ok text.items) }
+    ensures refused { IfErr result (λ e. ShowStops (show_answer name.now font.now) e) }
 {
-    let drawing = draw(alloc, &font, name)?;
+    let drawing = draw(alloc, font, name)?;
     drawing_text(alloc, name, &drawing)
 }
 
@@ -231,7 +231,8 @@ pub fn run_show<R: Read, W: Write>(
         (input_of R.remaining reader.old reader.new ∷ []) writer.old writer.new result }
     ensures turns { calls_of reader.new ≤ calls_of reader.old + (file_limit + 1) }
 {
-    let font = read_font(alloc, reader)?;
-    let text = shown_glyph(alloc, font, name)?;
+    let source = read_font(alloc, reader)?;
+    let font = source.font(alloc)?;
+    let text = shown_glyph(alloc, &font, name)?;
     write_text(writer, text.as_slice())
 }

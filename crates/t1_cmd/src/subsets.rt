@@ -21,7 +21,7 @@ use t1_font::{Font, Form};
 use t1_subset::{SubsetFault, subset};
 
 // The subset of a font.
-fn cut(alloc: Global, font: &Font, names: &[&[u8]]) -> Result<Font, RunFault>
+fn cut<'a>(alloc: Global, font: &Font<'a>, names: &[&[u8]]) -> Result<Font<'a>, RunFault>
     ensures cut { IfOk result (λ s. s ≡ subset profile font.now (asked names.now)) }
     ensures present { OnOk result (first_absent font.now (lent names.now) ≡ None) }
     ensures refused { IfErr result (λ e. (text : List ℕ) → ShowStops (unless_absent (first_absent font.now (lent names.now)) text) e) }
@@ -37,15 +37,20 @@ fn cut(alloc: Global, font: &Font, names: &[&[u8]]) -> Result<Font, RunFault>
 }
 
 // The canonical file of a font's subset.
-fn subset_file(alloc: Global, font: Font, names: &[&[u8]], form: Form) -> Result<Vec<u8>, RunFault>
-    ensures text { IfOk result (λ text. subset_answer form (lent names.now) font ≡ Ok text.items) }
-    ensures refused { IfErr result (λ e. ShowStops (subset_answer form (lent names.now) font) e) }
+fn subset_file(
+    alloc: Global,
+    font: &Font<'_>,
+    names: &[&[u8]],
+    form: Form,
+) -> Result<Vec<u8>, RunFault>
+    ensures text { IfOk result (λ text. subset_answer form (lent names.now) font.now ≡ Ok text.items) }
+    ensures refused { IfErr result (λ e. ShowStops (subset_answer form (lent names.now) font.now) e) }
 {
-    let cut = match cut(alloc, &font, names) {
+    let cut = match cut(alloc, font, names) {
         Ok(cut) => cut,
         Err(fault) => return Err(fault),
     };
-    let text = font_file(alloc, cut, form)?;
+    let text = font_file(alloc, &cut, form)?;
     Ok(text)
 }
 
@@ -68,7 +73,8 @@ pub fn run_subset<R: Read, W: Write>(
         (input_of R.remaining reader.old reader.new ∷ []) writer.old writer.new result }
     ensures turns { calls_of reader.new ≤ calls_of reader.old + (file_limit + 1) }
 {
-    let font = read_font(alloc, reader)?;
-    let text = subset_file(alloc, font, names, form)?;
+    let source = read_font(alloc, reader)?;
+    let font = source.font(alloc)?;
+    let text = subset_file(alloc, &font, names, form)?;
     write_text(writer, text.as_slice())
 }

@@ -31,15 +31,15 @@ const FINE: Plan = Plan {
 
 /// Bytes in memory that are read by a plan.
 #[derive(Drop)]
-struct Source<'a> {
+struct Feed<'a> {
     bytes: &'a [u8],
     plan: Plan,
     calls: u64,
 }
 
-impl<'a> Source<'a> {
-    fn new(bytes: &'a [u8], plan: Plan) -> Counted<Source<'a>> {
-        Counted::new(Source {
+impl<'a> Feed<'a> {
+    fn new(bytes: &'a [u8], plan: Plan) -> Counted<Feed<'a>> {
+        Counted::new(Feed {
             bytes,
             plan,
             calls: 0,
@@ -47,7 +47,7 @@ impl<'a> Source<'a> {
     }
 }
 
-impl Read for Source<'_> {
+impl Read for Feed<'_> {
     fn read(&mut self, buf: &mut [u8]) -> io::Result<usize> {
         self.calls = self.calls.saturating_add(1);
         if self.calls == self.plan.fails {
@@ -135,7 +135,7 @@ fn read_100<R: Read>(alloc: Global, reader: &mut Counted<R>) -> (&'static str, u
 
 /// The same of these bytes by a plan, and how many calls were made.
 fn read_by(alloc: Global, bytes: &[u8], plan: Plan) -> (&'static str, usize, u64) {
-    let mut reader = Source::new(bytes, plan);
+    let mut reader = Feed::new(bytes, plan);
     let (got, length) = read_100(alloc, &mut reader);
     (got, length, reader.calls())
 }
@@ -248,8 +248,8 @@ struct Joined {
 
 /// Joins LEFT and RIGHT by plans.
 fn joined_from(alloc: Global, first: Plan, second: Plan) -> Joined {
-    let mut left = Source::new(LEFT, first);
-    let mut right = Source::new(RIGHT, second);
+    let mut left = Feed::new(LEFT, first);
+    let mut right = Feed::new(RIGHT, second);
     let mut out = Counted::new(Sink::new(Vec::new(alloc), FINE));
     let ended = run_join(alloc, &mut left, &mut right, &mut out);
     let writes = out.calls();
@@ -299,8 +299,8 @@ fn joined_into(alloc: Global, plan: Plan) -> (&'static str, u64, bool, bool) {
     let mut out = Counted::new(Sink::new(Vec::new(alloc), plan));
     let ended = run_join(
         alloc,
-        &mut Source::new(LEFT, FINE),
-        &mut Source::new(RIGHT, FINE),
+        &mut Feed::new(LEFT, FINE),
+        &mut Feed::new(RIGHT, FINE),
         &mut out,
     );
     let failed = out.failed();

@@ -3,6 +3,10 @@
 //! Two documents carry subsets of one font, each in a file of its own. A tool that joins the documents reads both
 //! files, merges the fonts, and writes one file with all glyphs of both. [`cut_and_joined`] does all of that over bytes
 //! in memory, and its contract is what the library promises to such a tool.
+//!
+//! A file is read into a [`Source`], which owns its bytes and lends the [`Font`]; a font that is cut or merged from
+//! others borrows from their sources, too. So a source is kept until what comes of its fonts is written, and the steps
+//! here take files or sources and answer files.
 #![tactic(auto)]
 
 mod refusal;
@@ -25,7 +29,7 @@ ghost use Rattle.t1_example.specs.Joining.{AreSubsets, CanBeCut, IsMemory, union
 
 pub use refusal::Refusal;
 use std::alloc::Global;
-use t1_font::{Font, Form, read, write};
+use t1_font::{Font, Form, Source, read, write};
 use t1_subset::{Conflict, merge, subset};
 
 /// Which of two fonts is the left one of a merge.
@@ -37,18 +41,24 @@ pub enum Order {
     SecondIntoFirst,
 }
 
-// The file of a subset of a font, as a document carries it.
-fn cut(alloc: Global, font: &Font, names: &[&[u8]], form: Form) -> Result<Vec<u8>, Refusal>
-    ensures { IsOf font.now (asked names.now) → Fits form font.now →
-        MatchResult result (λ v. read_font v.items ≡ Ok (subset profile font.now (asked names.now))) IsMemory }
+// The file of a subset of a source's font, as a document carries it.
+fn cut(alloc: Global, source: &Source, names: &[&[u8]], form: Form) -> Result<Vec<u8>, Refusal>
+    ensures { IsOf source.now (asked names.now) → Fits form source.now →
+        MatchResult result (λ v. read_font v.items ≡ Ok (subset profile source.now (asked names.now))) IsMemory }
 {
-    let subset = subset(alloc, font, names)?;
+    let font = source.font(alloc)?;
+    let subset = subset(alloc, &font, names)?;
     let file = write(alloc, &subset, form)?;
     Ok(file)
 }
 
-// What two fonts come to, merged in this order.
-fn merged(alloc: Global, first: &Font, second: &Font, order: Order) -> Result<Font, Conflict>
+// What two fonts come to, merged in this order; it borrows from the sources of both.
+fn merged<'a>(
+    alloc: Global,
+    first: &Font<'a>,
+    second: &Font<'a>,
+    order: Order,
+) -> Result<Font<'a>, Conflict>
     ensures { MergesSubsets first.now second.now result }
 {
     match order {
@@ -57,15 +67,23 @@ fn merged(alloc: Global, first: &Font, second: &Font, order: Order) -> Result<Fo
     }
 }
 
-// What the fonts of two files come to.
-fn both(alloc: Global, first: &[u8], second: &[u8], order: Order) -> Result<Font, Refusal>
-    ensures { (f : FontValue) (a b : Names) → IsFont f → IsOf f a → IsOf f b → AreSubsets f a b first.now second.now →
-        MatchResult result (λ j. j ≡ union_subset f a b) IsMemory }
+// The file of what the fonts of two sources come to.
+fn merged_file(
+    alloc: Global,
+    first: &Source,
+    second: &Source,
+    order: Order,
+    form: Form,
+) -> Result<Vec<u8>, Refusal>
+    ensures { (f : FontValue) (a b : Names) → IsFont f → IsOf f a → IsOf f b →
+        first.now ≡ subset profile f a → second.now ≡ subset profile f b →
+        MatchResult result (λ v. v.items ≡ canon (union_subset f a b) form) IsMemory }
 {
-    let one = read(alloc, first)?;
-    let other = read(alloc, second)?;
+    let one = first.font(alloc)?;
+    let other = second.font(alloc)?;
     let font = merged(alloc, &one, &other, order)?;
-    Ok(font)
+    let file = write(alloc, &font, form)?;
+    Ok(file)
 }
 
 // The file of what the fonts of two files come to: the work of a tool that joins documents.
@@ -79,9 +97,9 @@ fn joined(
     ensures { (f : FontValue) (a b : Names) → IsFont f → IsOf f a → IsOf f b → AreSubsets f a b first.now second.now →
         MatchResult result (λ v. v.items ≡ canon (union_subset f a b) form) IsMemory }
 {
-    let font = both(alloc, first, second, order)?;
-    let file = write(alloc, &font, form)?;
-    Ok(file)
+    let one = read(alloc, first)?;
+    let other = read(alloc, second)?;
+    merged_file(alloc, &one, &other, order, form)
 }
 
 /// The file of what two subsets of a font come to: the font of a file is read and cut to both sets of names; both
@@ -104,9 +122,9 @@ pub fn cut_and_joined(
         IfOk result (λ v. (g : FontValue) (n : List ℕ) → Spells v.items g →
         sets.contains (keep profile f (sets.union (asked first.now) (asked second.now))) n ≡ true → AnswersAlike f g n) }
 {
-    let font = read(alloc, file)?;
-    let one = cut(alloc, &font, first, form)?;
-    let other = cut(alloc, &font, second, form)?;
+    let source = read(alloc, file)?;
+    let one = cut(alloc, &source, first, form)?;
+    let other = cut(alloc, &source, second, form)?;
     joined(alloc, one.as_slice(), other.as_slice(), order, form)
 }
 

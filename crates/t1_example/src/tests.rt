@@ -4,7 +4,7 @@ use crate::{Order, Refusal, cut_and_joined};
 use std::alloc::{AllocError, Global};
 use std::test::Fail;
 use t1_bytes::{EEXEC_KEY, EEXEC_LEAD, seal};
-use t1_font::{Form, ReadFault, read};
+use t1_font::{Font, Form, ReadFault, read};
 use t1_subset::SubsetFault;
 
 /// The clear text of a font.
@@ -37,17 +37,23 @@ fn file(alloc: Global) -> Result<Vec<u8>, AllocError> {
     Ok(file)
 }
 
-/// The names of the glyphs of a file's font, each with a blank.
-fn names(alloc: Global, file: &[u8]) -> Result<Vec<u8>, AllocError> {
-    let Ok(font) = read(alloc, file) else {
-        return Err(AllocError);
-    };
+/// The names of a font's glyphs, each with a blank.
+fn names(alloc: Global, font: &Font<'_>) -> Result<Vec<u8>, AllocError> {
     let mut text = Vec::new(alloc);
     for name in font.names() {
         text.extend_from_slice(name)?;
         text.push(b' ')?;
     }
     Ok(text)
+}
+
+/// The same of a file's font.
+fn names_in(alloc: Global, file: &[u8]) -> Result<Vec<u8>, AllocError> {
+    let Ok(source) = read(alloc, file) else {
+        return Err(AllocError);
+    };
+    let font = source.font(alloc)?;
+    names(alloc, &font)
 }
 
 /// The file of the subsets of A and of B, joined.
@@ -65,7 +71,7 @@ fn either_order(rt: HostRuntime) -> Result<(), Fail> {
         let one = joined(rt.alloc(), Order::FirstIntoSecond, form)?;
         let other = joined(rt.alloc(), Order::SecondIntoFirst, form)?;
         assert_eq!(rt; one.as_slice(), other.as_slice());
-        let names = names(rt.alloc(), one.as_slice())?;
+        let names = names_in(rt.alloc(), one.as_slice())?;
         assert_eq!(rt; names.as_slice(), b".notdef A B ".as_slice());
     }
     Ok(())

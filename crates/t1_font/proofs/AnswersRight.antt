@@ -1,17 +1,23 @@
 -- What was answered, by the relations.
-use Rattle.std.proofs.Common.{ℕ, List, [], ◌∷◌, get_or, Fits, w8, suc}
+use Rattle.std.proofs.Common.{◌≡◌, ◌∙◌, sym, subst, ℕ, List, [], ◌∷◌, Result, Ok, Err, get_or, Fits, w8, suc}
 use Rattle.t1_bytes.specs.Laws.{AreBytes}
 use Rattle.t1_font.specs.declared.fault.ReadFault.{ReadFault}
 use Rattle.t1_font.specs.declared.fault.ReadFault.TheVariants.{TooLong, BadSegment, NoEexec, ShortCipher, NoEncoding, BadEncoding, NoCharStrings, BadLenIV, BadSubrs, BadGlyphs, Hybrid, NoClosefile, NoNotdef, Limit, Memory}
 use Rattle.t1_font.specs.ReadFont.{read_font}
 use Rattle.t1_font.specs.Reasons.{Refuses}
-use Rattle.t1_font.specs.Answers.{Refused}
+use Rattle.t1_font.specs.Reading.{Reading}
+use Rattle.t1_font.specs.Answers.{Refused, Shown}
 use Rattle.t1_font.proofs.ReasonLaws.{refuses}
 
 -- the bytes of a slice are bytes
 pub bytes_of_slice : (xs : List ℕ) → ((i : ℕ) → Fits w8 (get_or xs i 0)) → AreBytes xs
 bytes_of_slice [] h = tt
 bytes_of_slice (x ∷ xs) h = ((h 0).fits, bytes_of_slice xs (λ i. h (suc i)))
+
+-- what shows one reading shows another that reads the same
+pub shown_same : {X A : Type 0} (Shows : X → A → Type 0) (x : Result X ReadFault) (r s : Reading A) → r.read ≡ s.read → Shown Shows x s → Shown Shows x r
+shown_same Shows (Ok x) r s same h = (h.0, same ∙ h.1, h.2)
+shown_same Shows (Err e) r s same h = subst (Refused e) (sym same) h
 
 pub fault_right : (file : List ℕ) (e : ReadFault) → Refused e (read_font file) → Refuses file e
 fault_right file Memory h = tt

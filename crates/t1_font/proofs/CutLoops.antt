@@ -1,22 +1,20 @@
 -- Maps that are built entry by entry: what is put so far, and what is left.
-use Rattle.std.proofs.Common.{◌≡◌, ℕ, Ordering, Bool, true, false, cond, List, [], ◌∷◌, ◌++◌, map, Option, Some, None, unwrap_or, is_some, inl, inr, refl, sym, ap, ◌∙◌}
-use Rattle.std.specs.Prelude.{filter}
+use Rattle.std.proofs.Common.{◌≡◌, ℕ, Ordering, Bool, true, false, cond, List, [], ◌∷◌, ◌++◌, Option, Some, None, is_some, inl, inr, refl, sym, ap, ◌∙◌}
 use Rattle.std.specs.List.{list_any}
 use Rattle.std.specs.Ordering.{is_eq, eq_by_cmp}
 use Rattle.std.specs.Cmp.{IsTotalOrder, Equal-is}
 use Rattle.std.specs.Cmp.Lexicographic.{nat_list_cmp_total}
 use Rattle.std.specs.FinSet as sets
 use Rattle.std.specs.FinSet.{IsAntisymmetric}
-use Rattle.t1_bytes.specs.Grammar.{choice}
-use Rattle.std.specs.FinMap.{FinMap, get, entries, empty, contains_key, same_map, retain_keys}
+use Rattle.std.specs.FinMap.{FinMap, get, empty, contains_key, same_map, retain_keys}
 use Rattle.std.proofs.lemmas.List.{append_assoc, append-nil}
+use Rattle.t1_bytes.specs.Grammar.{choice}
 use Rattle.t1_font.specs.Entries.{map_of, last_value}
 use Rattle.t1_font.specs.FontValue.{FontValue}
-use Rattle.t1_font.specs.Cut.{stub, put_all_into, entry_of, map_values, merged, restrict_encoding, restrict}
+use Rattle.t1_font.specs.Cut.{stub, put_all_into, entry_of, map_values, restrict_encoding, restrict}
 use Rattle.t1_font.proofs.MapLaws.{map_of-append, map_of-nil, get-map_of}
-use Rattle.t1_font.proofs.MapCuts.{is_or_not, entries-map_values, get-retain}
-use Rattle.t1_font.proofs.CutEntries.{merged-is, entries-retain_values}
-use Rattle.t1_font.proofs.FontAgain.{map_again, name_same}
+use Rattle.t1_font.proofs.MapCuts.{is_or_not, get-retain}
+use Rattle.t1_font.proofs.FontAgain.{name_same}
 
 -- the entries of these keys in a map
 abbrev pub entries_of : {K : Type 0} {R : K → K → Ordering} → FinMap R (List ℕ) → List K → List (K × List ℕ)
@@ -32,29 +30,7 @@ module _ {K : Type 0} {R : K → K → Ordering} (o : IsTotalOrder R) (same : Is
   pub put_first : (es : List (K × List ℕ)) → put_all_into {R = R} empty es ≡ map_of es
   put_first es = ap (λ m. put_all_into m es) (sym (map_of-nil o same)) ∙ put_more [] es
 
-  -- the entries of a map make it again
-  pub put_again : (m : FinMap R (List ℕ)) → put_all_into {R = R} empty (entries m) ≡ m
-  put_again m = put_first (entries m) ∙ map_again o same m
-
-  pub put_valued : (f : K → List ℕ → List ℕ) (m : FinMap R (List ℕ)) → put_all_into {R = R} empty (map (λ e. (e.0, f e.0 e.1)) (entries m)) ≡ map_values f m
-  put_valued f m = ap (put_all_into empty) (sym (entries-map_values o same f m)) ∙ put_again (map_values f m)
-
-  pub put_filtered : (p : List ℕ → Bool) (m : FinMap R (List ℕ)) → put_all_into {R = R} empty (filter (λ e. p e.1) (entries m)) ≡ retain_keys m (λ k. p (unwrap_or (get m k) []))
-  put_filtered p m = ap (put_all_into empty) (sym (entries-retain_values o same m p [])) ∙ put_again (retain_keys m (λ k. p (unwrap_or (get m k) [])))
-
-  -- a second map's entries, and then a first's
-  pub put_both : (m n : FinMap R (List ℕ)) → put_all_into {R = R} (put_all_into empty (entries n)) (entries m) ≡ merged m n
-  put_both m n = ap (λ x. put_all_into x (entries m)) (put_first (entries n)) ∙ (put_more (entries n) (entries m) ∙ sym (merged-is o same m n))
-
   -- ---- the entries of some keys
-
-  -- one key's entry, and then those of the rest
-  pub put_one : (m into : FinMap R (List ℕ)) (k : K) (ks : List K) → put_all_into (put_all_into into (entry_of k (get m k))) (entries_of m ks) ≡ put_all_into into (entries_of m (k ∷ ks))
-  put_one m into k ks = by_value (get m k)
-    where
-      by_value : (v : Option (List ℕ)) → put_all_into (put_all_into into (entry_of k v)) (entries_of m ks) ≡ put_all_into into (entry_of k v ++ entries_of m ks)
-      by_value None = refl
-      by_value (Some c) = refl
 
   choice_none : (x : Option (List ℕ)) → choice x None ≡ x
   choice_none None = refl

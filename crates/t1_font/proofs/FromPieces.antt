@@ -1,15 +1,17 @@
 -- The font of the pieces that were read, and why there is none.
-use Rattle.std.proofs.Common.{◌≡◌, inl, inr, ℕ, ◌≤◌, ◌<◌, Bool, true, false, ◌&&◌, leb, Option, Some, None, Ok, Err, refl, sym, subst, ◌∙◌, arith, true≢false}
+use Rattle.std.proofs.Common.{◌≡◌, inl, inr, ℕ, ◌≤◌, ◌<◌, Bool, true, false, ◌&&◌, leb, List, Option, Some, None, Ok, Err, refl, sym, subst, ◌∙◌, arith, true≢false}
 use Rattle.std.specs.Ordering.{nat_cmp}
 use Rattle.std.specs.FinMap.{len}
-use Rattle.std.proofs.lemmas.Bool.{leb-true, le-leb, and_parts, and_from}
-use Rattle.t1_font.specs.declared.private.SubrsParts.{SubrsParts}
+use Rattle.std.proofs.lemmas.Bool.{le-leb, and_from}
+use Rattle.t1_font.specs.declared.subrs.SubrsParts.{SubrsParts}
 use Rattle.t1_font.specs.declared.private.PrivateParts.{PrivateParts}
 use Rattle.t1_font.specs.declared.fault.ReadFault.TheVariants.{NoNotdef, Limit}
 use Rattle.t1_font.specs.FontValue.{FontValue, Named, name_cmp, IsWithin, weight, declared_count, count_limit, weight_limit}
 use Rattle.t1_font.specs.FontModel.{clamp}
 use Rattle.t1_font.specs.Entries.{last_entries}
+use Rattle.t1_font.specs.Gathering.{Entries}
 use Rattle.t1_font.specs.Held.{HoldsGlyphs, glyph_bodies}
+use Rattle.t1_font.specs.Marks.{Glyph}
 use Rattle.t1_font.specs.Pieces.{ClearPieces, SubrsPieces, PrivatePieces}
 use Rattle.t1_font.specs.ReadFont.{subrs_shell, shell_of, font_of, subr_entries, glyph_entries, is_within, font_from}
 use Rattle.t1_font.specs.Answers.{ShowsSubrs, ShowsPrivate, declared_in}
@@ -17,19 +19,24 @@ use Rattle.std.specs.Option.{option_map}
 use Rattle.t1_font.proofs.ValueLaws.{within_of, within_again}
 
 -- a font without `.notdef`
-pub lacks_notdef : (c : ClearPieces) (p : PrivatePieces) (x : PrivateParts) → ShowsPrivate x p → x.glyphs.has_notdef ≡ false → (font_from c p).read ≡ Err NoNotdef
+pub lacks_notdef : (c : ClearPieces) (p : PrivatePieces) (x : PrivateParts) (g : Entries) → ShowsPrivate x g p → x.glyphs.has_notdef ≡ false → (font_from c p).read ≡ Err NoNotdef
 unfolding font_from
-lacks_notdef c p x shows none = rw (sym shows.glyphs.notdef ∙ none) refl
+lacks_notdef c p x g shows none = rw (sym shows.glyphs.notdef ∙ none) refl
 
-same_declared : (iv : ℕ) (o : Option SubrsParts) (s : Option SubrsPieces) → ShowsSubrs iv o s → declared_in o ≡ declared_count (option_map subrs_shell s)
-same_declared iv None None h = refl
-same_declared iv None (Some s) h = absurd h
-same_declared iv (Some x) None h = absurd h
-same_declared iv (Some x) (Some s) h = h.table.declared
+same_declared : (o : Option SubrsParts) (s : Option SubrsPieces) → ShowsSubrs o s → declared_in o ≡ declared_count (option_map subrs_shell s)
+same_declared None None h = refl
+same_declared None (Some s) h = absurd h
+same_declared (Some x) None h = absurd h
+same_declared (Some x) (Some s) h = h.declared
 
-few_held : (iv : ℕ) (bodies : Named) (p : PrivatePieces) → HoldsGlyphs p.len_iv bodies p.glyphs → len (glyph_bodies p.len_iv p.glyphs) ≤ count_limit → len bodies ≤ count_limit
-few_held iv bodies p (inl same) few = subst (λ m. len m ≤ count_limit) (sym same) few
-few_held iv bodies p (inr h) few = absurd (omega (arith, h.1, few))
+few_held : (bodies : Named) (p : PrivatePieces) → HoldsGlyphs p.len_iv bodies p.glyphs → len (glyph_bodies p.len_iv p.glyphs) ≤ count_limit → len bodies ≤ count_limit
+few_held bodies p (inl same) few = subst (λ m. len m ≤ count_limit) (sym same) few
+few_held bodies p (inr h) few = absurd (omega (arith, h.1, few))
+
+-- so many glyphs, no more than a font may have, are those of the entries
+pub glyphs_held : (iv : ℕ) (bodies : Named) (gs : List Glyph) → HoldsGlyphs iv bodies gs → len bodies ≤ count_limit → bodies ≡ glyph_bodies iv gs
+glyphs_held iv bodies gs (inl same) few = same
+glyphs_held iv bodies gs (inr h) few = absurd (omega (arith, h.0, few))
 
 abbrev within : ClearPieces → PrivatePieces → Bool
 within c p = is_within (shell_of c p) (last_entries nat_cmp (subr_entries p)) (last_entries name_cmp (glyph_entries p))
@@ -41,41 +48,37 @@ not_within c p h = by_test (within c p) refl
     by_test true e = absurd (h (within_of c p e))
     by_test false e = refl
 
-over : (c : ClearPieces) (p : PrivatePieces) (x : PrivateParts) → ShowsPrivate x p → x.glyphs.has_notdef ≡ true → within c p ≡ false → (font_from c p).read ≡ Err Limit
+over : (c : ClearPieces) (p : PrivatePieces) (x : PrivateParts) (g : Entries) → ShowsPrivate x g p → x.glyphs.has_notdef ≡ true → within c p ≡ false → (font_from c p).read ≡ Err Limit
 unfolding font_from
-over c p x shows there no_room = rw (sym shows.glyphs.notdef ∙ there, no_room) refl
+over c p x g shows there no_room = rw (sym shows.glyphs.notdef ∙ there, no_room) refl
 
-abbrev fits : PrivateParts → Bool
-fits x = leb (declared_in x.subrs) count_limit && leb (len x.glyphs.bodies) count_limit
+abbrev fits : PrivateParts → Entries → Bool
+fits x g = leb (declared_in x.subrs) count_limit && leb (len g.glyphs) count_limit
 
 -- more Subrs or glyphs than a font may have
-pub counts_over : (c : ClearPieces) (p : PrivatePieces) (x : PrivateParts) → ShowsPrivate x p → x.glyphs.has_notdef ≡ true → fits x ≡ false → (font_from c p).read ≡ Err Limit
-counts_over c p x shows there no_room = over c p x shows there (not_within c p (λ w.
-    true≢false (sym (and_from (leb (declared_in x.subrs) count_limit) (leb (len x.glyphs.bodies) count_limit)
-    (le-leb _ _ (subst (λ (n : ℕ). n ≤ count_limit) (sym (same_declared p.len_iv x.subrs p.subrs shows.subrs)) w.declared))
-    (le-leb _ _ (few_held p.len_iv x.glyphs.bodies p shows.glyphs.bodies w.glyphs))) ∙ no_room)))
+pub counts_over : (c : ClearPieces) (p : PrivatePieces) (x : PrivateParts) (g : Entries) → ShowsPrivate x g p → x.glyphs.has_notdef ≡ true → fits x g ≡ false → (font_from c p).read ≡ Err Limit
+counts_over c p x g shows there no_room = over c p x g shows there (not_within c p (λ w.
+    true≢false (sym (and_from (leb (declared_in x.subrs) count_limit) (leb (len g.glyphs) count_limit)
+    (le-leb _ _ (subst (λ (n : ℕ). n ≤ count_limit) (sym (same_declared x.subrs p.subrs shows.subrs)) w.declared))
+    (le-leb _ _ (few_held g.glyphs p shows.glyph_bodies w.glyphs))) ∙ no_room)))
 
-pub weight_over : (c : ClearPieces) (p : PrivatePieces) (x : PrivateParts) (f : FontValue) (n : ℕ) → ShowsPrivate x p → x.glyphs.has_notdef ≡ true → f ≡ font_of c p → n ≡ clamp (weight f) → weight_limit < n → (font_from c p).read ≡ Err Limit
-weight_over c p x f n shows there same is heavy = over c p x shows there (not_within c p (λ w. heavier (weight f) n (subst (λ (v : FontValue). weight v ≤ weight_limit) (sym same) w.weight) is heavy))
+pub weight_over : (c : ClearPieces) (p : PrivatePieces) (x : PrivateParts) (g : Entries) (f : FontValue) (n : ℕ) → ShowsPrivate x g p → x.glyphs.has_notdef ≡ true → f ≡ font_of c p → n ≡ clamp (weight f) → weight_limit < n → (font_from c p).read ≡ Err Limit
+weight_over c p x g f n shows there same is heavy = over c p x g shows there (not_within c p (λ w. heavier (weight f) n (subst (λ (v : FontValue). weight v ≤ weight_limit) (sym same) w.weight) is heavy))
   where
     heavier : (m n : ℕ) → m ≤ weight_limit → n ≡ clamp m → weight_limit < n → ⊥
     heavier m n light e h = omega (arith, e, h, light)
 
 -- a font within the limits
-pub font_is : (c : ClearPieces) (p : PrivatePieces) (x : PrivateParts) (f : FontValue) (n : ℕ) → ShowsPrivate x p → x.glyphs.has_notdef ≡ true → fits x ≡ true → f ≡ font_of c p → n ≡ clamp (weight f) → n ≤ weight_limit → (font_from c p).read ≡ Ok f
+pub font_is : (c : ClearPieces) (p : PrivatePieces) (x : PrivateParts) (g : Entries) (f : FontValue) (n : ℕ) → ShowsPrivate x g p → x.glyphs.has_notdef ≡ true →
+    declared_in x.subrs ≤ count_limit → len g.glyphs ≤ count_limit → f ≡ font_of c p → n ≡ clamp (weight f) → n ≤ weight_limit → (font_from c p).read ≡ Ok f
 unfolding font_from
-font_is c p x f n shows there room same is light =
-    let both = and_parts (leb (declared_in x.subrs) count_limit) (leb (len x.glyphs.bodies) count_limit) room in
-    let declared : declared_count (shell_of c p).subrs ≤ count_limit = subst (λ (k : ℕ). k ≤ count_limit) (same_declared p.len_iv x.subrs p.subrs shows.subrs) (leb-true _ _ both.0) in
-    let glyphs : len (font_of c p).glyphs ≤ count_limit = few x.glyphs.bodies shows.glyphs.bodies (leb-true _ _ both.1) in
+font_is c p x g f n shows there few_subrs few_glyphs same is light =
+    let declared : declared_count (shell_of c p).subrs ≤ count_limit = subst (λ (k : ℕ). k ≤ count_limit) (same_declared x.subrs p.subrs shows.subrs) few_subrs in
+    let glyphs : len (font_of c p).glyphs ≤ count_limit = subst (λ (m : Named). len m ≤ count_limit) (glyphs_held p.len_iv g.glyphs p.glyphs shows.glyph_bodies few_glyphs) few_glyphs in
     let weighs : weight (font_of c p) ≤ weight_limit = subst (λ (v : FontValue). weight v ≤ weight_limit) same (lighter (weight f) n is light) in
     let same_font : font_of c p ≡ f = sym same in
     let yes : within c p ≡ true = within_again c p (record { declared = declared; glyphs = glyphs; weight = weighs }) in
     rw (sym shows.glyphs.notdef ∙ there, yes) (λ i. Ok (same_font i))
   where
-    few : (bodies : Named) → HoldsGlyphs p.len_iv bodies p.glyphs → len bodies ≤ count_limit → len (glyph_bodies p.len_iv p.glyphs) ≤ count_limit
-    few bodies (inl e) h = subst (λ m. len m ≤ count_limit) e h
-    few bodies (inr k) h = absurd (omega (arith, k.0, h))
-
     lighter : (m n : ℕ) → n ≡ clamp m → n ≤ weight_limit → m ≤ weight_limit
     lighter m n e h = omega (arith, e, h)

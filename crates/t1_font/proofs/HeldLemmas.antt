@@ -1,12 +1,12 @@
 -- One more entry of a table that is held.
 use Rattle.std.proofs.Common.{◌≡◌, inl, inr, ℕ, ◌≤◌, ◌<◌, ◌||◌, Bool, true, false, List, [], ◌∷◌, ◌++◌, map, Some, refl, sym, ap, subst, ◌∙◌, arith}
-use Rattle.std.specs.Prelude.{unwrap_or}
+use Rattle.std.specs.Prelude.{unwrap_or, filter}
 use Rattle.std.specs.Str.{bytes_eq}
 use Rattle.std.specs.Ordering.{nat_cmp}
 use Rattle.std.specs.Cmp.{nat_cmp_total}
 use Rattle.std.specs.Cmp.Lexicographic.{nat_list_cmp_total}
 use Rattle.std.specs.FinSet.{slice_cmp-IsAntisymmetric, nat_cmp-IsAntisymmetric}
-use Rattle.std.specs.FinMap.{len, insert, remove, empty}
+use Rattle.std.specs.FinMap.{len, insert, empty, from_sorted}
 use Rattle.std.proofs.lemmas.List.{map_push}
 use Rattle.t1_font.specs.FontValue.{Numbered, Named, name_cmp, notdef, count_limit}
 use Rattle.t1_font.specs.Charstrings.{plain_of}
@@ -14,7 +14,8 @@ use Rattle.t1_font.specs.Entries.{map_of, names_of, has_name}
 use Rattle.t1_font.specs.Subrs.{Subr}
 use Rattle.t1_font.specs.Marks.{Glyph}
 use Rattle.t1_font.specs.Held.{first_words, HoldsSubrs, HoldsGlyphs, subr_bodies, glyph_bodies, names_notdef}
-use Rattle.t1_font.proofs.MapLaws.{map_of-append, map_of-nil, names_of-nil, names_of-put, names_of-notdef, len-grows}
+use Rattle.t1_font.specs.Gathering.{named}
+use Rattle.t1_font.proofs.MapLaws.{map_of-append, map_of-nil, entries-map_of, len-grows}
 
 pub no_subrs : (iv : ℕ) → empty ≡ subr_bodies iv []
 no_subrs iv = sym (map_of-nil nat_cmp_total nat_cmp-IsAntisymmetric)
@@ -22,15 +23,16 @@ no_subrs iv = sym (map_of-nil nat_cmp_total nat_cmp-IsAntisymmetric)
 pub no_glyphs : (iv : ℕ) → empty ≡ glyph_bodies iv []
 no_glyphs iv = sym (map_of-nil nat_list_cmp_total (slice_cmp-IsAntisymmetric nat_cmp-IsAntisymmetric))
 
-pub no_names : empty ≡ names_of {R = nat_cmp} []
-no_names = sym (names_of-nil nat_cmp_total nat_cmp-IsAntisymmetric)
+pub no_codes : empty ≡ map_of {R = nat_cmp} []
+no_codes = sym (map_of-nil nat_cmp_total nat_cmp-IsAntisymmetric)
 
 -- one more put
-pub put_name : (es : List (ℕ × List ℕ)) (e : ℕ × List ℕ) (names next : Numbered) → has_name e ≡ true → next ≡ insert names e.0 e.1 → names ≡ names_of es → next ≡ names_of (es ++ e ∷ [])
-put_name es e names next h put same = put ∙ (ap (λ m. insert m e.0 e.1) same ∙ sym (names_of-put nat_cmp_total nat_cmp-IsAntisymmetric es e h))
+pub one_code_more : (es : List (ℕ × List ℕ)) (e : ℕ × List ℕ) (codes next : Numbered) → next ≡ insert codes e.0 e.1 → codes ≡ map_of es → next ≡ map_of (es ++ e ∷ [])
+one_code_more es e codes next put same = put ∙ (ap (λ m. insert m e.0 e.1) same ∙ sym (map_of-append nat_cmp_total nat_cmp-IsAntisymmetric es e))
 
-pub put_notdef : (es : List (ℕ × List ℕ)) (e : ℕ × List ℕ) (names next : Numbered) → has_name e ≡ false → next ≡ remove names e.0 → names ≡ names_of es → next ≡ names_of (es ++ e ∷ [])
-put_notdef es e names next h put same = put ∙ (ap (λ m. remove m e.0) same ∙ sym (names_of-notdef nat_cmp_total nat_cmp-IsAntisymmetric es e h))
+-- the names among the last puts
+pub names_put : (es : List (ℕ × List ℕ)) (codes : Numbered) → codes ≡ map_of es → named codes ≡ names_of es
+names_put es codes same = ap named same ∙ ap (λ last. from_sorted {R = nat_cmp} (filter has_name last)) (entries-map_of nat_cmp_total nat_cmp-IsAntisymmetric es)
 
 -- the words of the first entry stay
 pub first_more : {A : Type 0} (f : A → List ℕ × List ℕ) (es : List A) (x : A) → first_words f (es ++ x ∷ []) ≡ Some (unwrap_or (first_words f es) (f x))

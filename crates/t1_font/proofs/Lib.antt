@@ -3,8 +3,9 @@ pub mod SubrLemmas
 pub mod MarkLemmas
 pub mod EntryLemmas
 pub mod MapLaws
-pub mod MapModels
-pub mod Slots
+pub mod Buffers
+pub mod Drains
+pub mod Sourced
 pub mod TableLoops
 pub mod HeldLemmas
 pub mod FontReaders
@@ -49,4 +50,5 @@ pub mod TinyNumbers
 mod TinyFiles
 pub mod CutEntries
 pub mod CutLoops
+pub mod LentTables
 mod TinyCuts

@@ -129,29 +129,6 @@ module _ {K : Type 0} {R : K → K → Ordering} (o : IsTotalOrder R) (same : Is
       ∙ (last_value-append q es e
       ∙ (ap (cond (is_eq (R q e.0)) (Some e.1)) (sym (get-map_of es q)) ∙ sym (maps.get-insert o (map_of es) e.0 e.1 q))))
 
-  -- and its name stands at its code, or takes the name of the code away
-  pub names_of-put : (es : List (K × List ℕ)) (e : K × List ℕ) → has_name e ≡ true → names_of {R = R} (es ++ e ∷ []) ≡ maps.insert (names_of es) e.0 e.1
-  names_of-put es e n = maps.same_map o same _ _ (λ q.
-      get-names_of (es ++ e ∷ []) q
-      ∙ (ap unless_notdef (last_value-append q es e)
-      ∙ (by_key (is_eq (R q e.0)) (last_value R q es)
-      ∙ (ap (cond (is_eq (R q e.0)) (Some e.1)) (sym (get-names_of es q)) ∙ sym (maps.get-insert o (names_of es) e.0 e.1 q)))))
-    where
-      by_key : (b : Bool) (rest : Option (List ℕ)) → unless_notdef (cond b (Some e.1) rest) ≡ cond b (Some e.1) (unless_notdef rest)
-      by_key true rest = rw n refl
-      by_key false rest = refl
-
-  pub names_of-notdef : (es : List (K × List ℕ)) (e : K × List ℕ) → has_name e ≡ false → names_of {R = R} (es ++ e ∷ []) ≡ maps.remove (names_of es) e.0
-  names_of-notdef es e n = maps.same_map o same _ _ (λ q.
-      get-names_of (es ++ e ∷ []) q
-      ∙ (ap unless_notdef (last_value-append q es e)
-      ∙ (by_key (is_eq (R q e.0)) (last_value R q es)
-      ∙ (ap (cond (is_eq (R q e.0)) None) (sym (get-names_of es q)) ∙ sym (maps.get-remove o (names_of es) e.0 q)))))
-    where
-      by_key : (b : Bool) (rest : Option (List ℕ)) → unless_notdef (cond b (Some e.1) rest) ≡ cond b None (unless_notdef rest)
-      by_key true rest = rw n refl
-      by_key false rest = refl
-
   -- a map never loses an entry by one more
   pub len-grows : {X : Type 0} (m : FinMap R X) (k : K) (v : X) → maps.len m ≤ maps.len (maps.insert m k v)
   len-grows m k v = subst (λ n. maps.len m ≤ n) (sym (maps.len-insert o m k v)) (by_key (maps.contains_key m k))
@@ -163,6 +140,3 @@ module _ {K : Type 0} {R : K → K → Ordering} (o : IsTotalOrder R) (same : Is
   -- no entries make an empty map
   pub map_of-nil : map_of {R = R} [] ≡ maps.empty
   map_of-nil = maps.same_map o same _ _ (λ q. get-map_of [] q ∙ sym (maps.get-empty R q))
-
-  pub names_of-nil : names_of {R = R} [] ≡ maps.empty
-  names_of-nil = maps.same_map o same _ _ (λ q. get-names_of [] q ∙ sym (maps.get-empty R q))

@@ -1,18 +1,23 @@
 -- What code returned, against what a reading reads.
-use Rattle.std.specs.Prelude.{◌≡◌, ℕ, Option, Some, None, Result, Ok, Err}
+use Rattle.std.specs.Prelude.{◌≡◌, ℕ, List, Option, Some, None, Result, Ok, Err}
+use Rattle.std.specs.Option.{option_map}
 use Rattle.t1_font.specs.declared.fault.ReadFault.{ReadFault}
 use Rattle.t1_font.specs.declared.fault.ReadFault.TheVariants.{Memory}
 use Rattle.t1_font.specs.declared.encoding.EncodingParts.{EncodingParts}
 use Rattle.t1_font.specs.declared.encoding.EncodingParts.TheVariants as parts
 use Rattle.t1_font.specs.declared.encoding.ClearParts.{ClearParts}
-use Rattle.t1_font.specs.declared.private.SubrsParts.{SubrsParts}
+use Rattle.t1_font.specs.declared.subrs.SubrsParts.{SubrsParts}
+use Rattle.t1_font.specs.declared.glyphs.GlyphsParts.{GlyphsParts}
+use Rattle.t1_font.specs.declared.private.Before.{Before}
 use Rattle.t1_font.specs.declared.private.PrivateParts.{PrivateParts}
 use Rattle.t1_font.specs.Reading.{Reading}
-use Rattle.t1_font.specs.FontValue.{Encoding, Word, Codes}
+use Rattle.t1_font.specs.FontValue.{Numbered, Encoding, Word, Codes}
 use Rattle.t1_font.specs.Pieces.{ClearPieces, SubrsPieces, PrivatePieces}
-use Rattle.t1_font.specs.ReadFont.{encoding_value}
-use Rattle.t1_font.specs.Views.{phrase_view}
-use Rattle.t1_font.specs.Held.{IsSubrTable, IsGlyphTable}
+use Rattle.t1_font.specs.Marks.{Glyph}
+use Rattle.t1_font.specs.ReadFont.{encoding_value, subrs_of}
+use Rattle.t1_font.specs.Views.{phrase_view, words_view}
+use Rattle.t1_font.specs.Gathering.{Entries, named}
+use Rattle.t1_font.specs.Held.{first_words, subr_words, glyph_words, names_notdef, HoldsSubrs, HoldsGlyphs}
 
 -- want of memory may come in place of each answer
 abbrev pub Refused : {A : Type 0} → ReadFault → Result A ReadFault → Type 0
@@ -29,34 +34,47 @@ abbrev pub Answers : {X A : Type 0} → (X → A) → Result X ReadFault → Rea
 Answers view (Ok x) r = r.read ≡ Ok (view x)
 Answers view (Err e) r = Refused e r.read
 
-abbrev pub encoding_view : EncodingParts → Encoding
-encoding_view (parts.OneWord w) = Word w.now
-encoding_view (parts.Puts names) = Codes names
+-- the Encoding of what was read, with what is gathered of codes
+abbrev pub encoding_view : EncodingParts → Numbered → Encoding
+encoding_view (parts.OneWord w) codes = Word w.now
+encoding_view parts.Puts codes = Codes (named codes)
 
-pub record ShowsClear (x : ClearParts) (c : ClearPieces) : Type 0 where
+pub record ShowsClear (x : ClearParts) (codes : Numbered) (c : ClearPieces) : Type 0 where
   pub head : x.head.now ≡ c.head
-  pub encoding : encoding_view x.encoding ≡ encoding_value c.encoding
+  pub encoding : encoding_view x.encoding codes ≡ encoding_value c.encoding
   pub clear_tail : x.clear_tail.now ≡ c.clear_tail
 
-pub record ShowsTable (iv : ℕ) (x : SubrsParts) (s : SubrsPieces) : Type 0 where
-  pub table : IsSubrTable s.declared iv x.table s.entries
+pub record ShowsTable (x : SubrsParts) (s : SubrsPieces) : Type 0 where
+  pub declared : x.declared ≡ s.declared
+  pub words : option_map words_view x.words ≡ first_words subr_words s.entries
   pub closing : phrase_view x.closing ≡ s.closing
 
-abbrev pub ShowsSubrs : ℕ → Option SubrsParts → Option SubrsPieces → Type 0
-ShowsSubrs len_iv None None = Unit {0}
-ShowsSubrs len_iv None (Some s) = ⊥
-ShowsSubrs len_iv (Some x) None = ⊥
-ShowsSubrs len_iv (Some x) (Some s) = ShowsTable len_iv x s
+abbrev pub ShowsSubrs : Option SubrsParts → Option SubrsPieces → Type 0
+ShowsSubrs None None = Unit {0}
+ShowsSubrs None (Some s) = ⊥
+ShowsSubrs (Some x) None = ⊥
+ShowsSubrs (Some x) (Some s) = ShowsTable x s
 
-pub record ShowsPrivate (x : PrivateParts) (p : PrivatePieces) : Type 0 where
-  pub private : x.private.now ≡ p.private
-  pub len_iv : x.len_iv ≡ p.len_iv
-  pub subrs : ShowsSubrs p.len_iv x.subrs p.subrs
-  pub middle : x.middle.now ≡ p.middle
-  pub glyphs : IsGlyphTable p.len_iv x.glyphs p.glyphs
-  pub tail : x.tail.now ≡ p.tail
+pub record ShowsGlyphs (x : GlyphsParts) (gs : List Glyph) : Type 0 where
+  pub words : option_map words_view x.words ≡ first_words glyph_words gs
+  pub notdef : x.has_notdef ≡ names_notdef gs
 
 -- how many Subrs are declared in what was read
 abbrev pub declared_in : Option SubrsParts → ℕ
 declared_in None = 0
-declared_in (Some x) = x.table.declared
+declared_in (Some x) = x.declared
+
+-- what stands before the glyphs, with what is gathered of Subrs
+pub record ShowsBefore (x : Before) (subrs : Numbered) (s : Option SubrsPieces) : Type 0 where
+  pub table : ShowsSubrs x.subrs s
+  pub bodies : HoldsSubrs (declared_in x.subrs) x.len_iv subrs (subrs_of s)
+
+pub record ShowsPrivate (x : PrivateParts) (g : Entries) (p : PrivatePieces) : Type 0 where
+  pub private : x.private.now ≡ p.private
+  pub len_iv : x.len_iv ≡ p.len_iv
+  pub subrs : ShowsSubrs x.subrs p.subrs
+  pub subr_bodies : HoldsSubrs (declared_in x.subrs) p.len_iv g.subrs (subrs_of p.subrs)
+  pub middle : x.middle.now ≡ p.middle
+  pub glyphs : ShowsGlyphs x.glyphs p.glyphs
+  pub glyph_bodies : HoldsGlyphs p.len_iv g.glyphs p.glyphs
+  pub tail : x.tail.now ≡ p.tail

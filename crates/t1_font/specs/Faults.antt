@@ -1,5 +1,5 @@
 -- What reading a table returned, against what reading gives.
-use Rattle.std.specs.Prelude.{◌≡◌, ℕ, List, length, drop, Result, Ok, Err}
+use Rattle.std.specs.Prelude.{◌≡◌, ℕ, List, length, drop, Err}
 use Rattle.std.specs.List.{prefix_len}
 use Rattle.t1_bytes.specs.declared.fault.BytesFault.{BytesFault}
 use Rattle.t1_bytes.specs.declared.fault.BytesFault.TheVariants as bytes
@@ -17,10 +17,6 @@ left_after_white bytes = length (drop (prefix_len is_white bytes) bytes)
 abbrev pub TableFails : {A B : Type 0} → TableError → Table A B → Type 0
 TableFails Memory read = Unit {0}
 TableFails (Left n) read = (left : List ℕ) × (read ≡ Err left) × (n ≡ left_after_white left)
-
-abbrev pub TableGives : {X A B : Type 0} → (X → List A × B × List ℕ) → Result X TableError → Table A B → Type 0
-TableGives view (Ok x) read = read ≡ Ok (view x)
-TableGives view (Err e) read = TableFails e read
 
 -- a fault of the containers, as one of the file
 abbrev pub read_fault : BytesFault → ReadFault

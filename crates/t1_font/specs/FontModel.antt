@@ -5,14 +5,14 @@ use Rattle.std.proofs.lemmas.Bool.{ltb-true}
 use Rattle.std.specs.Coded.{Coded, code_by, coded×, coded⊎, coded_ℕ, coded_option}
 use Rattle.std.specs.FinMap.{get, entries}
 use Rattle.std.specs.Option.{option_map}
-use Rattle.t1_font.specs.declared.font.KeptSubrs.{KeptSubrs}
-use Rattle.t1_font.specs.declared.font.KeptShell.{KeptShell}
-use Rattle.t1_font.specs.declared.font.KeptEncoding.{KeptEncoding}
-use Rattle.t1_font.specs.declared.font.KeptEncoding.TheVariants as kept
+use Rattle.t1_font.specs.declared.shell.KeptSubrs.{KeptSubrs}
+use Rattle.t1_font.specs.declared.shell.KeptShell.{KeptShell}
+use Rattle.t1_font.specs.declared.font.LentEncoding.{LentEncoding}
+use Rattle.t1_font.specs.declared.font.LentEncoding.TheVariants as lent
 use Rattle.t1_font.specs.declared.font.Part.{Part}
 use Rattle.t1_font.specs.declared.font.Part.TheVariants.{Head, ClearTail, Private, Middle, Tail, SubrsRd, SubrsPut, SubrsDef, GlyphsRd, GlyphsDef}
 use Rattle.t1_font.specs.FontValue.{FontValue, Shell, SubrsShell, Encoding, Word, Codes, Numbered, Named, declared_count}
-use Rattle.t1_font.specs.MapModels.{bytes_code, numbered_code, named_code}
+use Rattle.t1_font.specs.Lent.{bytes_code, numbered_code, named_code}
 
 -- ---- views
 
@@ -22,9 +22,9 @@ subrs_view s = record { declared = s.declared; rd = s.rd.items; put = s.put.item
 abbrev pub shell_view : KeptShell → Shell
 shell_view s = record { head = s.head.items; clear_tail = s.clear_tail.items; private = s.private.items; middle = s.middle.items; tail = s.tail.items; len_iv = s.len_iv; subrs = option_map subrs_view s.subrs; glyphs_rd = s.glyphs_rd.items; glyphs_def = s.glyphs_def.items }
 
-abbrev pub encoding_of : KeptEncoding → Encoding
-encoding_of (kept.Word w) = Word w.items
-encoding_of (kept.Codes names) = Codes names
+abbrev pub encoding_of : LentEncoding → Encoding
+encoding_of (lent.Word w) = Word w.now
+encoding_of (lent.Codes names) = Codes names
 
 -- ---- codes: a font as lists and numbers
 

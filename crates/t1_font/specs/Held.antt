@@ -1,20 +1,16 @@
 -- What code holds of a table that it has read so far.
 use Rattle.std.specs.Prelude.{◌≡◌, ◌⊎◌, ℕ, ◌≤◌, ◌<◌, Bool, List, [], ◌∷◌, map, Option, Some, None, Result, Ok, Err}
-use Rattle.std.specs.Option.{option_map}
 use Rattle.std.specs.List.{list_any}
 use Rattle.std.specs.Str.{bytes_eq}
 use Rattle.std.specs.FinMap.{len}
 use Rattle.t1_bytes.specs.Grammar.{Table}
 use Rattle.t1_font.specs.declared.fault.TableError.{TableError}
-use Rattle.t1_font.specs.declared.subrs.SubrTable.{SubrTable}
-use Rattle.t1_font.specs.declared.glyphs.GlyphTable.{GlyphTable}
 use Rattle.t1_font.specs.FontValue.{Numbered, Named, notdef, count_limit}
 use Rattle.t1_font.specs.Charstrings.{plain_of}
 use Rattle.t1_font.specs.Entries.{map_of}
 use Rattle.t1_font.specs.Subrs.{Subr}
 use Rattle.t1_font.specs.Marks.{Glyph}
 use Rattle.t1_font.specs.Faults.{TableFails}
-use Rattle.t1_font.specs.Views.{words_view}
 
 -- the words of the first entry, where there is one
 abbrev pub first_words : {A : Type 0} → (A → List ℕ × List ℕ) → List A → Option (List ℕ × List ℕ)
@@ -46,18 +42,6 @@ HoldsGlyphs len_iv bodies es = (bodies ≡ glyph_bodies len_iv es) ⊎ ((count_l
 -- one of these entries is `.notdef`
 abbrev pub names_notdef : List Glyph → Bool
 names_notdef es = list_any (λ e. bytes_eq notdef e.name) es
-
-pub record IsSubrTable (count iv : ℕ) (t : SubrTable) (es : List Subr) : Type 0 where
-  pub declared : t.declared ≡ count
-  pub len_iv : t.len_iv ≡ iv
-  pub words : option_map words_view t.words ≡ first_words subr_words es
-  pub bodies : HoldsSubrs count iv t.bodies es
-
-pub record IsGlyphTable (iv : ℕ) (t : GlyphTable) (es : List Glyph) : Type 0 where
-  pub len_iv : t.len_iv ≡ iv
-  pub words : option_map words_view t.words ≡ first_words glyph_words es
-  pub bodies : HoldsGlyphs iv t.bodies es
-  pub notdef : t.has_notdef ≡ names_notdef es
 
 -- what was returned holds a table that is read, with its close and what stands after it; or it isn't read
 abbrev pub TableHeld : {X A B : Type 0} → (X → List A → B → List ℕ → Type 0) → Result X TableError → Table A B → Type 0

@@ -1,13 +1,38 @@
 -- The laws of reading, each the contract of a function in `laws`.
-use Rattle.std.specs.Prelude.{◌≡◌, ◌↔◌, ℕ, List, Ok, Err}
+use Rattle.std.specs.Prelude.{◌≡◌, ◌↔◌, ℕ, Bool, List, Ok, Err}
 use Rattle.std.specs.Ordering.{nat_cmp}
 use Rattle.std.specs.FinMap as maps
+use Rattle.t1_bytes.specs.Grammar.{IsExact, first}
 use Rattle.t1_font.specs.declared.fault.ReadFault.{ReadFault}
 use Rattle.t1_font.specs.FontValue.{FontValue, name_cmp}
 use Rattle.t1_font.specs.Entries.{map_of, names_of, last_value, unless_notdef}
 use Rattle.t1_font.specs.ReadFont.{read_font}
 use Rattle.t1_font.specs.Spelling.{Spells}
 use Rattle.t1_font.specs.Reasons.{Reason}
+use Rattle.t1_font.specs.Words.{word, keyword, decimal, name, phrase_of}
+use Rattle.t1_font.specs.Marks.{encoding_mark, subrs_mark, chars_mark, len_iv_mark, len_iv, closefile, encoding_start, code_entry, encoding_end, glyph, glyphs_end}
+use Rattle.t1_font.specs.Subrs.{subr, subrs_end}
+
+-- what is read of each part of the grammar is what is spelled, and the other way round
+pub record ReadsAsSpelled : Type 0 where
+  pub words : IsExact word
+  pub keywords : (w : List ℕ) → IsExact (keyword w)
+  pub numbers : IsExact decimal
+  pub names : IsExact name
+  pub phrases : (test : List ℕ → Bool) → IsExact (phrase_of test)
+  pub encodings : IsExact (first encoding_mark)
+  pub starts : IsExact encoding_start
+  pub codes : IsExact code_entry
+  pub encoding_ends : IsExact encoding_end
+  pub lenIVs : IsExact (first len_iv_mark)
+  pub lead_counts : IsExact len_iv
+  pub tables : IsExact (first subrs_mark)
+  pub subrs : (declared iv : ℕ) → IsExact (subr declared iv)
+  pub subrs_ends : IsExact subrs_end
+  pub charstrings : IsExact (first chars_mark)
+  pub glyphs : (iv : ℕ) → IsExact (glyph iv)
+  pub glyphs_ends : IsExact glyphs_end
+  pub closes : IsExact (first closefile)
 
 -- what is read is what the file spells
 abbrev pub ReadsSpelled : Type 0

@@ -9,7 +9,10 @@ pub mod Reading
 pub mod Pieces
 pub mod FontValue
 pub mod Entries
-pub mod MapModels
+pub mod Lent
+pub mod Ranges
+pub mod Gathering
+pub mod Sources
 pub mod FontModel
 pub mod IsFont
 pub mod Joins

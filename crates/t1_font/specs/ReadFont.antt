@@ -86,14 +86,19 @@ font_from c p = do
   must Limit (is_within (shell_of c p) (last_entries nat_cmp (subr_entries p)) (last_entries name_cmp (glyph_entries p)))
   give (font_of c p)
 
+-- of a clear text and a private text
+abbrev pub font_texts : List ℕ → List ℕ → Reading FontValue
+font_texts clear private = do
+  outside ← clear_pieces clear
+  inside ← private_pieces private
+  font_from outside inside
+
 unfoldable pub font_file : List ℕ → Reading FontValue
 font_file file = do
   must TooLong (nat_le (length file) file_limit)
   flat ← flat_text file
   parts ← flat_pieces flat
-  outside ← clear_pieces parts.clear
-  inside ← private_pieces (private_text parts.cipher)
-  font_from outside inside
+  font_texts parts.clear (private_text parts.cipher)
 
 -- the font of a file, or the first fault that applies
 abbrev pub read_font : List ℕ → Result FontValue ReadFault

@@ -7,94 +7,115 @@ ghost use Rattle.std.specs.FinMap as fin;
 ghost use Rattle.std.specs.FinSet as sets;
 ghost use Rattle.t1_font.specs.FontValue.{notdef};
 ghost use Rattle.t1_font.specs.FontModel.{encoding_of};
+ghost use Rattle.t1_font.specs.Lent.{lent_names};
 ghost use Rattle.t1_font.specs.Cut.{stub, put_all_into, entry_of, set_of_names, map_values, restrict_encoding, restrict};
 
-use crate::copies::shell_again;
-use crate::font::{Font, FontParts, KeptEncoding};
-use crate::maps::{Named, Numbered};
+use crate::font::{Font, FontParts, LentEncoding};
+use crate::lent::{Named, Numbered};
+use crate::source::drained;
 use std::alloc::{AllocError, Global};
-use std::collections::BTreeSet;
+use std::collections::{BTreeMap, BTreeSet};
 
 /// The charstring `return`, which takes the place of a Subr that is cut (Adobe Type 1 Font Format 1.1, chapter 8).
 pub const STUB: &[u8] = &[11];
 
 /// Keeps the glyph of a name, where there is one.
-fn keep_named(alloc: Global, cut: &mut Named, glyphs: &Named, name: &[u8]) -> Result<(), AllocError>
-    ensures { OnOk result (cut.new ≡ put_all_into cut.old (entry_of name.now (fin.get glyphs.now name.now))) }
+fn keep_named<'a>(
+    cut: &mut BTreeMap<&'a [u8], &'a [u8]>,
+    glyphs: &Named<'a>,
+    name: &[u8],
+) -> Result<(), AllocError>
+    ensures { OnOk result (lent_names cut.new.entries ≡ put_all_into (lent_names cut.old.entries) (entry_of name.now (fin.get glyphs.now name.now))) }
 {
-    if let Some(body) = glyphs.get(name) {
-        let name = Vec::from_slice(alloc, name)?;
-        cut.insert(name, Vec::from_slice(alloc, body)?)?;
+    if let Some((name, body)) = glyphs.entry(name) {
+        cut.insert(name, body)?;
     }
     Ok(())
 }
 
 /// The glyphs of these names.
-fn cut_glyphs(alloc: Global, glyphs: &Named, names: &[Vec<u8>]) -> Result<Named, AllocError>
+fn cut_glyphs<'a>(
+    alloc: Global,
+    glyphs: &Named<'a>,
+    names: &[Vec<u8>],
+) -> Result<Named<'a>, AllocError>
     ensures { IfOk result (λ m. m ≡ fin.retain_keys glyphs.now (sets.contains (set_of_names names.now))) }
 {
-    let mut cut = Named::new(alloc);
+    let mut cut = BTreeMap::new(alloc);
     'names: for name in names {
-        keep_named(alloc, &mut cut, glyphs, name.as_slice())?;
+        keep_named(&mut cut, glyphs, name.as_slice())?;
     }
-    Ok(cut)
+    Ok(Named {
+        entries: drained(alloc, cut)?,
+    })
 }
 
 /// The codes whose names are those of glyphs.
-fn cut_codes(alloc: Global, codes: &Numbered, glyphs: &Named) -> Result<Numbered, AllocError>
+fn cut_codes<'a>(
+    alloc: Global,
+    codes: &Numbered<'a>,
+    glyphs: &Named<'_>,
+) -> Result<Numbered<'a>, AllocError>
     ensures { IfOk result (λ m. m ≡ fin.retain_keys codes.now (λ c. fin.contains_key glyphs.now (unwrap_or (fin.get codes.now c) []))) }
 {
-    let mut cut = Numbered::new(alloc);
+    let mut cut = Vec::new(alloc);
     'codes: for (code, name) in codes.entries() {
         if glyphs.get(name).is_some() {
-            cut.insert(alloc, code, name)?;
+            cut.push((code, name))?;
         }
     }
-    Ok(cut)
+    Ok(Numbered { entries: cut })
 }
 
 /// An Encoding of the names of glyphs alone; a word as it is.
-fn cut_encoding(
+fn cut_encoding<'a>(
     alloc: Global,
-    encoding: &KeptEncoding,
-    glyphs: &Named,
-) -> Result<KeptEncoding, AllocError>
+    encoding: &LentEncoding<'a>,
+    glyphs: &Named<'_>,
+) -> Result<LentEncoding<'a>, AllocError>
     ensures { IfOk result (λ e. encoding_of e ≡ restrict_encoding (fin.contains_key glyphs.now) (encoding_of encoding.now)) }
 {
     match encoding {
-        KeptEncoding::Word(word) => Ok(KeptEncoding::Word(Vec::from_slice(
-            alloc,
-            word.as_slice(),
-        )?)),
-        KeptEncoding::Codes(codes) => Ok(KeptEncoding::Codes(cut_codes(alloc, codes, glyphs)?)),
+        LentEncoding::Word(word) => Ok(LentEncoding::Word(word)),
+        LentEncoding::Codes(codes) => Ok(LentEncoding::Codes(cut_codes(alloc, codes, glyphs)?)),
     }
+}
+
+/// A Subr that is kept, or `return` in its place.
+fn kept_or_stub<'a>(is_kept: bool, body: &'a [u8]) -> &'a [u8]
+    ensures { result.now ≡ cond is_kept body.now stub }
+{
+    if is_kept { body } else { STUB }
 }
 
 /// The Subrs, all but those of the set replaced by `return`.
-fn cut_subrs(alloc: Global, subrs: &Numbered, kept: &BTreeSet<u16>) -> Result<Numbered, AllocError>
+fn cut_subrs<'a>(
+    alloc: Global,
+    subrs: &Numbered<'a>,
+    kept: &BTreeSet<u16>,
+) -> Result<Numbered<'a>, AllocError>
     ensures { IfOk result (λ m. m ≡ map_values (λ i c. cond (contains nat_cmp kept.now i) c stub) subrs.now) }
 {
-    let mut cut = Numbered::new(alloc);
+    let mut cut = Vec::with_capacity(alloc, subrs.entries.len())?;
     'bodies: for (index, body) in subrs.entries() {
-        let body = if kept.contains(&index) { body } else { STUB };
-        cut.insert(alloc, index, body)?;
+        cut.push((index, kept_or_stub(kept.contains(&index), body)))?;
     }
-    Ok(cut)
+    Ok(Numbered { entries: cut })
 }
 
 /// The parts of a font that is cut.
-fn cut_parts(
+fn cut_parts<'a>(
     alloc: Global,
-    parts: &FontParts,
+    parts: &FontParts<'a>,
     names: &[Vec<u8>],
     subrs: &BTreeSet<u16>,
-) -> Result<FontParts, AllocError>
+) -> Result<FontParts<'a>, AllocError>
     requires { (n : List ℕ) → sets.contains (set_of_names names.now) n ≡ true → fin.contains_key parts.now.glyphs n ≡ true }
     ensures { IfOk result (λ f. f ≡ restrict (sets.contains (set_of_names names.now)) (contains nat_cmp subrs.now) parts.now) }
 {
     let glyphs = cut_glyphs(alloc, &parts.glyphs, names)?;
     Ok(FontParts {
-        shell: shell_again(alloc, &parts.shell)?,
+        shell: parts.shell,
         encoding: cut_encoding(alloc, &parts.encoding, &glyphs)?,
         subrs: cut_subrs(alloc, &parts.subrs, subrs)?,
         glyphs,
@@ -110,12 +131,12 @@ fn cut_parts(
 /// # Errors
 ///
 /// Where a growth was refused.
-pub fn restrict(
+pub fn restrict<'a>(
     alloc: Global,
-    font: &Font,
+    font: &Font<'a>,
     names: &[Vec<u8>],
     subrs: &BTreeSet<u16>,
-) -> Result<Font, AllocError>
+) -> Result<Font<'a>, AllocError>
     requires known { (n : List ℕ) → sets.contains (set_of_names names.now) n ≡ true → fin.contains_key font.now.glyphs n ≡ true }
     requires notdef { sets.contains (set_of_names names.now) notdef ≡ true }
     ensures { IfOk result (λ f. f ≡ restrict (sets.contains (set_of_names names.now)) (contains nat_cmp subrs.now) font.now) }

@@ -5,7 +5,9 @@ ghost use Rattle.std.specs.Option.{option_map};
 ghost use Rattle.t1_bytes.specs.Grammar.{first, table_at};
 ghost use Rattle.t1_font.specs.Words.{name};
 ghost use Rattle.t1_font.specs.Marks.{break_comes, encoding_mark, is_octal, octal_after, octal, code, code_entry, encoding_end, encoding_word, encoding_table, loop_range, loop_body, encoding_loop, encoding_start, readonly, may_be};
-ghost use Rattle.t1_font.specs.Entries.{names_of};
+ghost use Rattle.std.specs.FinMap as fin;
+ghost use Rattle.t1_font.specs.Entries.{map_of};
+ghost use Rattle.t1_font.specs.Gathering.{CodesAlone};
 ghost use Rattle.t1_font.specs.Held.{TableHeld};
 ghost use Rattle.t1_font.specs.ReadFont.{encoding_value};
 ghost use Rattle.t1_font.specs.Views.{put_view};
@@ -13,10 +15,8 @@ ghost use Rattle.t1_font.specs.Pieces.{encoding_from, clear_pieces};
 ghost use Rattle.t1_font.specs.Answers.{Shown, encoding_view, ShowsClear};
 
 use crate::fault::{ReadFault, TableError};
-use crate::glyphs::is_notdef;
-use crate::maps::Numbered;
+use crate::gathered::Gathered;
 use crate::words::{decimal_at, is_regular, keyword_at, regular_at, word_at};
-use std::alloc::{AllocError, Global};
 use t1_bytes::texts::{find_from, fixed_at, gap_at, white_at};
 
 fn break_comes(bytes: &[u8]) -> bool
@@ -227,33 +227,22 @@ fn encoding_start_at(bytes: &[u8]) -> Option<(Option<&[u8]>, &[u8])>
     Some((None, after_loop(rest)))
 }
 
-/// Puts a name at its code; `.notdef` takes the code's name away.
-fn keep_put(names: &mut Numbered, alloc: Global, put: Put<'_>) -> Result<(), AllocError>
-    ensures { OnOk result ((es : List (ℕ × List ℕ)) → names.old ≡ names_of es → names.new ≡ names_of (es ++ put_view put.entry ∷ [])) }
+/// The entries of the table, kept, and what stands after their close.
+fn puts_at<'a>(bytes: &'a [u8], gathered: &mut Gathered<'a>) -> Result<&'a [u8], TableError>
+    requires { gathered.old.codes ≡ fin.empty }
+    ensures shown { TableHeld (λ x es close rest. (gathered.new.codes ≡ map_of es) × (x.now ≡ rest)) result (table_at code_entry encoding_end bytes.now) }
+    ensures others { OnOk result (CodesAlone gathered.old gathered.new) }
 {
-    if is_notdef(put.name) {
-        names.remove(put.code as u16);
-        return Ok(());
-    }
-    names.insert(alloc, put.code as u16, put.name)?;
-    Ok(())
-}
-
-/// The entries of the table, and what stands after their close.
-fn puts_at(alloc: Global, bytes: &[u8]) -> Result<(Numbered, &[u8]), TableError>
-    ensures { TableHeld (λ x es close rest. (x.0 ≡ names_of es) × (x.1.now ≡ rest)) result (table_at code_entry encoding_end bytes.now) }
-{
-    let mut names = Numbered::new(alloc);
     let mut rest = bytes;
     'entries: loop {
         if let Some(after) = encoding_end_at(rest) {
-            return Ok((names, after));
+            return Ok(after);
         }
         let Some((put, after)) = code_entry_at(rest) else {
             let (_, left) = white_at(rest);
             return Err(TableError::Left(left.len()));
         };
-        keep_put(&mut names, alloc, put)?;
+        gathered.keep_code(put.code, put.name)?;
         rest = after;
     }
 }
@@ -273,15 +262,15 @@ fn first_encoding(bytes: &[u8]) -> Option<(&[u8], &[u8])>
     None
 }
 
-/// The Encoding: its word, or the names of its codes.
-#[derive(Drop)]
+/// The Encoding: its word, or the names of codes, which are gathered.
+#[derive(Clone, Copy)]
 pub enum EncodingParts<'a> {
     OneWord(&'a [u8]),
-    Puts(Numbered),
+    Puts,
 }
 
 /// The pieces of the clear text.
-#[derive(Drop)]
+#[derive(Clone, Copy)]
 pub struct ClearParts<'a> {
     pub head: &'a [u8],
     pub encoding: EncodingParts<'a>,
@@ -291,14 +280,16 @@ pub struct ClearParts<'a> {
 /// The names of the table's codes, in the last part of the clear text.
 #[tactic(auto, unfolding(crate::specs::Pieces::encoding_from))]
 fn table_from<'a>(
-    alloc: Global,
     clear: &[u8],
     rest: &'a [u8],
+    gathered: &mut Gathered<'a>,
 ) -> Result<(EncodingParts<'a>, &'a [u8]), ReadFault>
-    ensures { Shown (λ x e. (encoding_view x.0 ≡ encoding_value e.0) × (x.1.now ≡ e.1)) result (encoding_from clear.now None rest.now) }
+    requires { gathered.old.codes ≡ fin.empty }
+    ensures shown { Shown (λ x e. (encoding_view x.0 gathered.new.codes ≡ encoding_value e.0) × (x.1.now ≡ e.1)) result (encoding_from clear.now None rest.now) }
+    ensures others { OnOk result (CodesAlone gathered.old gathered.new) }
 {
-    match puts_at(alloc, rest) {
-        Ok((names, after)) => Ok((EncodingParts::Puts(names), after)),
+    match puts_at(rest, gathered) {
+        Ok(after) => Ok((EncodingParts::Puts, after)),
         Err(TableError::Memory) => Err(ReadFault::Memory),
         Err(TableError::Left(left)) => Err(ReadFault::BadEncoding {
             at: clear.len().saturating_sub(left),
@@ -309,23 +300,30 @@ fn table_from<'a>(
 /// The Encoding from its word, or from its table's entries on.
 #[tactic(auto, unfolding(crate::specs::Pieces::encoding_from))]
 fn encoding_from<'a>(
-    alloc: Global,
     clear: &[u8],
     word: Option<&'a [u8]>,
     rest: &'a [u8],
+    gathered: &mut Gathered<'a>,
 ) -> Result<(EncodingParts<'a>, &'a [u8]), ReadFault>
-    ensures { Shown (λ x e. (encoding_view x.0 ≡ encoding_value e.0) × (x.1.now ≡ e.1)) result (encoding_from clear.now (option_map (λ w. w.now) word.entry) rest.now) }
+    requires { gathered.old.codes ≡ fin.empty }
+    ensures shown { Shown (λ x e. (encoding_view x.0 gathered.new.codes ≡ encoding_value e.0) × (x.1.now ≡ e.1)) result (encoding_from clear.now (option_map (λ w. w.now) word.entry) rest.now) }
+    ensures others { OnOk result (CodesAlone gathered.old gathered.new) }
 {
     match word {
         Some(word) => Ok((EncodingParts::OneWord(word), rest)),
-        None => table_from(alloc, clear, rest),
+        None => table_from(clear, rest, gathered),
     }
 }
 
 /// The head, the Encoding, and the rest of a clear text.
 #[tactic(auto, unfolding(crate::specs::Pieces::clear_pieces))]
-pub fn clear_parts(alloc: Global, clear: &[u8]) -> Result<ClearParts<'_>, ReadFault>
-    ensures { Shown ShowsClear result (clear_pieces clear.now) }
+pub(crate) fn clear_parts<'a>(
+    clear: &'a [u8],
+    gathered: &mut Gathered<'a>,
+) -> Result<ClearParts<'a>, ReadFault>
+    requires { gathered.old.codes ≡ fin.empty }
+    ensures shown { Shown (λ x c. ShowsClear x gathered.new.codes c) result (clear_pieces clear.now) }
+    ensures others { OnOk result (CodesAlone gathered.old gathered.new) }
 {
     let Some((head, after)) = first_encoding(clear) else {
         return Err(ReadFault::NoEncoding);
@@ -333,12 +331,10 @@ pub fn clear_parts(alloc: Global, clear: &[u8]) -> Result<ClearParts<'_>, ReadFa
     let Some((word, rest)) = encoding_start_at(after) else {
         return Err(ReadFault::BadEncoding { at: head.len() });
     };
-    match encoding_from(alloc, clear, word, rest) {
-        Ok((encoding, clear_tail)) => Ok(ClearParts {
-            head,
-            encoding,
-            clear_tail,
-        }),
-        Err(fault) => Err(fault),
-    }
+    let (encoding, clear_tail) = encoding_from(clear, word, rest, gathered)?;
+    Ok(ClearParts {
+        head,
+        encoding,
+        clear_tail,
+    })
 }

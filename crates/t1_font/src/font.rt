@@ -3,54 +3,32 @@
 ghost use Rattle.std.specs.Prelude.{◌≡◌, is_some};
 ghost use Rattle.std.specs.Option.{option_map};
 ghost use Rattle.std.specs.FinMap as fin;
-ghost use Rattle.t1_font.specs.FontValue.{weight, texts_weight};
-ghost use Rattle.t1_font.specs.FontModel.{clamp, shell_view, part_of, of_subrs, word_of, name_at, names_in};
+ghost use Rattle.t1_font.specs.FontValue.{weight};
+ghost use Rattle.t1_font.specs.FontModel.{clamp, part_of, word_of, name_at, names_in};
 ghost use Rattle.t1_font.specs.IsFont.{IsFont};
 
-use crate::maps::{Named, NamedEntries, Numbered};
+use crate::lent::{Named, NamedEntries, Numbered};
+use crate::shell::KeptShell;
 use std::marker::Model;
 use t1_run::{Glyphs, Subroutines};
 
-/// What is kept of a table of Subrs beside its Subrs.
-#[derive(Drop)]
-pub(crate) struct KeptSubrs {
-    pub(crate) declared: u16,
-    pub(crate) rd: Vec<u8>,
-    pub(crate) put: Vec<u8>,
-    pub(crate) closing: Vec<u8>,
-}
-
 /// The Encoding: one word, or the names of codes.
 #[derive(Drop)]
-pub(crate) enum KeptEncoding {
-    Word(Vec<u8>),
-    Codes(Numbered),
-}
-
-/// What two fonts have to share, beside the indices that are present.
-#[derive(Drop)]
-pub(crate) struct KeptShell {
-    pub(crate) head: Vec<u8>,
-    pub(crate) clear_tail: Vec<u8>,
-    pub(crate) private: Vec<u8>,
-    pub(crate) middle: Vec<u8>,
-    pub(crate) tail: Vec<u8>,
-    pub(crate) len_iv: u8,
-    pub(crate) subrs: Option<KeptSubrs>,
-    pub(crate) glyphs_rd: Vec<u8>,
-    pub(crate) glyphs_def: Vec<u8>,
+pub(crate) enum LentEncoding<'a> {
+    Word(&'a [u8]),
+    Codes(Numbered<'a>),
 }
 
 /// The parts of a font, which together need not be one.
 #[derive(Drop)]
-pub(crate) struct FontParts {
-    pub(crate) shell: KeptShell,
-    pub(crate) encoding: KeptEncoding,
-    pub(crate) subrs: Numbered,
-    pub(crate) glyphs: Named,
+pub(crate) struct FontParts<'a> {
+    pub(crate) shell: &'a KeptShell,
+    pub(crate) encoding: LentEncoding<'a>,
+    pub(crate) subrs: Numbered<'a>,
+    pub(crate) glyphs: Named<'a>,
 }
 
-impl Model for FontParts {
+impl<'a> Model for FontParts<'a> {
     ghost use Rattle.t1_font.specs.FontValue.{FontValue};
     ghost use Rattle.t1_font.specs.FontModel.{font_code, shell_view, encoding_of};
 
@@ -58,19 +36,20 @@ impl Model for FontParts {
 
     ghost coded = { font_code };
 
-    ghost view = { λ p. record { shell = shell_view p.shell; encoding = encoding_of p.encoding; subrs = p.subrs; glyphs = p.glyphs } };
+    ghost view = { λ p. record { shell = shell_view p.shell.now; encoding = encoding_of p.encoding; subrs = p.subrs; glyphs = p.glyphs } };
 }
 
 /// A Type 1 font program (Adobe Type 1 Font Format 1.1, chapter 2): its kept texts, its Encoding, its
 /// Subrs by index and its glyphs by name, their charstrings plain.
 ///
-/// A font is within the limits of this library, and its canonical file is read as the font itself.
+/// A font is within the limits of this library, and its canonical file is read as the font itself. It borrows its names,
+/// charstrings and texts from a [`Source`](crate::Source), or from several of one shell.
 #[derive(Drop)]
-pub struct Font {
-    pub(crate) parts: FontParts,
+pub struct Font<'a> {
+    pub(crate) parts: FontParts<'a>,
 }
 
-impl Model for Font {
+impl<'a> Model for Font<'a> {
     ghost use Rattle.t1_font.specs.FontValue.{FontValue};
     ghost use Rattle.t1_font.specs.FontModel.{font_code};
     ghost use Rattle.t1_font.specs.IsFont.{IsFont};
@@ -109,7 +88,7 @@ pub enum Part {
     GlyphsDef,
 }
 
-impl Font {
+impl<'a> Font<'a> {
     /// Says of a font what each font is: a value whose canonical file is read as the value itself.
     ///
     /// It does nothing when it runs: proofs about fonts call it.
@@ -120,7 +99,7 @@ impl Font {
     }
 
     /// The names of the glyphs, upwards by their bytes.
-    pub fn names(&self) -> Names<'_>
+    pub fn names(&self) -> Names<'_, 'a>
         ensures { result ≡ names_in self.now.glyphs }
     {
         Names {
@@ -129,30 +108,30 @@ impl Font {
     }
 
     /// The word that is the whole Encoding, such as `StandardEncoding`; `None` for a table.
-    pub fn encoding_word(&self) -> Option<&[u8]>
+    pub fn encoding_word(&self) -> Option<&'a [u8]>
         ensures { option_map (λ w. w.now) result ≡ word_of self.now.encoding }
     {
         match &self.parts.encoding {
-            KeptEncoding::Word(word) => Some(word.as_slice()),
-            KeptEncoding::Codes(_) => None,
+            LentEncoding::Word(word) => Some(*word),
+            LentEncoding::Codes(_) => None,
         }
     }
 
     /// The name of a code, where the Encoding is a table that has the code; `.notdef` is no name.
-    pub fn encoding_at(&self, code: u8) -> Option<&[u8]>
+    pub fn encoding_at(&self, code: u8) -> Option<&'a [u8]>
         ensures { option_map (λ n. n.now) result ≡ name_at self.now.encoding code }
     {
         match &self.parts.encoding {
-            KeptEncoding::Word(_) => None,
-            KeptEncoding::Codes(names) => names.get(code as u16),
+            LentEncoding::Word(_) => None,
+            LentEncoding::Codes(names) => names.get(code as u16),
         }
     }
 
     /// A kept text, or kept words; a word that isn't kept is empty.
-    pub fn text(&self, part: Part) -> &[u8]
+    pub fn text(&self, part: Part) -> &'a [u8]
         ensures { result.now ≡ part_of part self.now.shell }
     {
-        let shell = &self.parts.shell;
+        let shell = self.parts.shell;
         match part {
             Part::Head => shell.head.as_slice(),
             Part::ClearTail => shell.clear_tail.as_slice(),
@@ -197,9 +176,9 @@ impl Font {
     }
 }
 
-impl FontParts {
+impl<'a> FontParts<'a> {
     /// The plain charstring of a Subr.
-    fn subr(&self, index: u16) -> Option<&[u8]>
+    fn subr(&self, index: u16) -> Option<&'a [u8]>
         ensures { option_map (λ b. b.now) result ≡ fin.get self.now.subrs index }
     {
         self.subrs.get(index)
@@ -215,56 +194,13 @@ impl FontParts {
     }
 }
 
-impl KeptShell {
-    /// How many bytes the five kept texts have, as far as 64 bits hold it.
-    fn texts_weight(&self) -> u64
-        ensures { result ≡ clamp (texts_weight (shell_view self.now)) }
-    {
-        (self.head.len() as u64)
-            .saturating_add(self.clear_tail.len() as u64)
-            .saturating_add(self.private.len() as u64)
-            .saturating_add(self.middle.len() as u64)
-            .saturating_add(self.tail.len() as u64)
-    }
-
-    /// The word before the bytes of each Subr.
-    fn subrs_rd(&self) -> &[u8]
-        ensures { result.now ≡ of_subrs (λ s. s.rd) (shell_view self.now).subrs }
-    {
-        match &self.subrs {
-            Some(kept) => kept.rd.as_slice(),
-            None => &[],
-        }
-    }
-
-    /// The phrase after the bytes of each Subr.
-    fn subrs_put(&self) -> &[u8]
-        ensures { result.now ≡ of_subrs (λ s. s.put) (shell_view self.now).subrs }
-    {
-        match &self.subrs {
-            Some(kept) => kept.put.as_slice(),
-            None => &[],
-        }
-    }
-
-    /// The phrase that closes the table of Subrs.
-    fn subrs_def(&self) -> &[u8]
-        ensures { result.now ≡ of_subrs (λ s. s.closing) (shell_view self.now).subrs }
-    {
-        match &self.subrs {
-            Some(kept) => kept.closing.as_slice(),
-            None => &[],
-        }
-    }
-}
-
 /// The names of a font's glyphs, upwards by their bytes.
 #[derive(Drop)]
-pub struct Names<'a> {
-    inner: NamedEntries<'a>,
+pub struct Names<'t, 'a> {
+    inner: NamedEntries<'t, 'a>,
 }
 
-impl<'a> Model for Names<'a> {
+impl<'t, 'a> Model for Names<'t, 'a> {
     ghost use Rattle.std.specs.Prelude.{List, ℕ, map};
 
     ghost Value = { List (List ℕ) };
@@ -272,7 +208,7 @@ impl<'a> Model for Names<'a> {
     ghost view = { λ s. map (λ e. e.0) s.inner };
 }
 
-impl<'a> Iterator for Names<'a> {
+impl<'t, 'a> Iterator for Names<'t, 'a> {
     type Item = &'a [u8];
 
     ghost use Rattle.std.specs.Prelude.{length};
@@ -284,14 +220,12 @@ impl<'a> Iterator for Names<'a> {
     ghost remaining = { λ s. at_most (length s) };
 
     fn next(&mut self) -> Option<&'a [u8]> {
-        match self.inner.next() {
-            Some((name, _)) => Some(name.as_slice()),
-            None => None,
-        }
+        let (name, _) = self.inner.next()?;
+        Some(name)
     }
 }
 
-impl Subroutines for Font {
+impl<'a> Subroutines for Font<'a> {
     ghost use Rattle.t1_font.specs.FontValue.{declared_count};
     ghost use Rattle.t1_font.specs.FontModel.{subr_at, subrs_below};
 
@@ -313,7 +247,7 @@ impl Subroutines for Font {
     }
 }
 
-impl Glyphs for Font {
+impl<'a> Glyphs for Font<'a> {
     ghost use Rattle.std.specs.FinMap as fin;
 
     ghost glyphs = { λ f. fin.get f.glyphs };

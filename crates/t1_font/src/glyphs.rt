@@ -6,17 +6,19 @@ ghost use Rattle.std.specs.Str.{bytes_eq};
 ghost use Rattle.t1_font.specs.FontValue.{notdef};
 ghost use Rattle.t1_bytes.specs.Grammar.{table_at};
 ghost use Rattle.t1_font.specs.Marks.{Glyph, glyph, glyphs_end};
-ghost use Rattle.t1_font.specs.Held.{HoldsGlyphs, IsGlyphTable, TableHeld};
+ghost use Rattle.std.specs.FinMap as fin;
+ghost use Rattle.t1_font.specs.Answers.{ShowsGlyphs};
+ghost use Rattle.t1_font.specs.Gathering.{GlyphsAlone};
+ghost use Rattle.t1_font.specs.Held.{HoldsGlyphs, TableHeld};
 ghost use Rattle.t1_font.specs.Views.{glyph_view};
 
-use crate::charstrings::plain;
 use crate::encoding::name_at;
 use crate::fault::TableError;
+use crate::gathered::Gathered;
 use crate::limits::COUNT_LIMIT;
-use crate::maps::Named;
 use crate::subrs::length_at;
 use crate::words::{Phrase, Words, first_words, keyword_at, one_white_at, phrase_at, word_at};
-use std::alloc::{AllocError, Global};
+use std::alloc::AllocError;
 use t1_bytes::texts::{count_at, gap_at, white_at};
 
 /// An entry, as it is spelled.
@@ -57,33 +59,27 @@ fn glyphs_end_at(bytes: &[u8]) -> Option<&[u8]>
     Some(rest)
 }
 
-/// A table of glyphs. Where there are more than a font may have, not all of them are in `bodies`.
-#[derive(Drop)]
-pub struct GlyphTable<'a> {
-    pub len_iv: u8,
+/// What is read of a table of glyphs beside its glyphs: the words of the first entry, and whether one is `.notdef`.
+#[derive(Clone, Copy)]
+pub struct GlyphsParts<'a> {
     pub words: Option<Words<'a>>,
-    pub bodies: Named,
     pub has_notdef: bool,
 }
 
 /// Keeps the plain charstring of one more entry, unless there are more than a font may have.
-fn keep_glyph(
-    bodies: &mut Named,
-    alloc: Global,
-    buffer: &mut Vec<u8>,
-    entry: GlyphEntry<'_>,
+fn keep_glyph<'a>(
+    gathered: &mut Gathered<'a>,
+    entry: GlyphEntry<'a>,
     len_iv: u8,
 ) -> Result<(), AllocError>
     requires { len_iv ≤ length entry.body.now }
-    ensures { OnOk result ((es : List Glyph) → HoldsGlyphs len_iv bodies.old es → HoldsGlyphs len_iv bodies.new (es ++ glyph_view entry.entry ∷ [])) }
+    ensures shown { OnOk result ((es : List Glyph) → HoldsGlyphs len_iv gathered.old.glyphs es → HoldsGlyphs len_iv gathered.new.glyphs (es ++ glyph_view entry.entry ∷ [])) }
+    ensures others { OnOk result (GlyphsAlone gathered.old gathered.new) }
 {
-    if bodies.len() > COUNT_LIMIT {
+    if gathered.glyph_count() > COUNT_LIMIT {
         return Ok(());
     }
-    let name = Vec::from_slice(alloc, entry.name)?;
-    let plain = plain(buffer, entry.body, len_iv)?;
-    bodies.insert(name, Vec::from_slice(alloc, plain)?)?;
-    Ok(())
+    gathered.keep_glyph(entry.name, entry.body, len_iv)
 }
 
 /// Whether a name is the one that each font has.
@@ -93,28 +89,23 @@ pub fn is_notdef(name: &[u8]) -> bool
     b".notdef".as_slice() == name
 }
 
-/// The entries, and what stands after what closes them.
-pub fn glyphs_at(
-    alloc: Global,
-    bytes: &[u8],
+/// The entries, and what stands after what closes them. Where there are more than a font may have, not all of them are
+/// kept.
+pub(crate) fn glyphs_at<'a>(
+    bytes: &'a [u8],
     len_iv: u8,
-) -> Result<(GlyphTable<'_>, &[u8]), TableError>
-    ensures { TableHeld (λ x es close rest. IsGlyphTable len_iv x.0 es × (x.1.now ≡ rest)) result (table_at (glyph len_iv) glyphs_end bytes.now) }
+    gathered: &mut Gathered<'a>,
+) -> Result<(GlyphsParts<'a>, &'a [u8]), TableError>
+    requires { gathered.old.glyphs ≡ fin.empty }
+    ensures shown { TableHeld (λ x es close rest. ShowsGlyphs x.0 es × HoldsGlyphs len_iv gathered.new.glyphs es × (x.1.now ≡ rest)) result (table_at (glyph len_iv) glyphs_end bytes.now) }
+    ensures others { OnOk result (GlyphsAlone gathered.old gathered.new) }
 {
     let mut words = None;
-    let mut bodies = Named::new(alloc);
     let mut has_notdef = false;
-    let mut buffer = Vec::new(alloc);
     let mut rest = bytes;
     'entries: loop {
         if let Some(after) = glyphs_end_at(rest) {
-            let table = GlyphTable {
-                len_iv,
-                words,
-                bodies,
-                has_notdef,
-            };
-            return Ok((table, after));
+            return Ok((GlyphsParts { words, has_notdef }, after));
         }
         let Some((entry, after)) = glyph_at(rest, len_iv) else {
             let (_, left) = white_at(rest);
@@ -122,7 +113,7 @@ pub fn glyphs_at(
         };
         words = Some(first_words(words, entry.rd, entry.nd));
         has_notdef |= is_notdef(entry.name);
-        keep_glyph(&mut bodies, alloc, &mut buffer, entry, len_iv)?;
+        keep_glyph(gathered, entry, len_iv)?;
         rest = after;
     }
 }

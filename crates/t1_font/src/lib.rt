@@ -1,27 +1,29 @@
 //! Type 1 fonts: reading PFA and PFB files, the font value, and writing it.
 //!
-//! [`read`] answers the [`Font`] that a file spells, or the first fault. [`write`] gives the one
-//! canonical file of a font, in either [`Form`], which is read as the font again. A font is an
-//! implementation of `t1_run`'s `Subroutines` and `Glyphs`, so its charstrings can be run and drawn.
+//! [`read`] answers the [`Source`] of the font that a file spells, or the first fault, and [`Source::font`] lends the
+//! [`Font`]. [`write`] gives the one canonical file of a font, in either [`Form`], which is read as the font again. A
+//! font is an implementation of `t1_run`'s `Subroutines` and `Glyphs`, so its charstrings can be run and drawn.
 //!
 //! The specifications speak of a font as a `FontValue` (`specs/FontValue.antt`), and of reading as a
 //! relation, `Spells`, and as a function, `read_font`, which laws tie together.
 #![tactic(auto)]
 
-mod charstrings;
-mod copies;
 mod cut;
 mod encoding;
 mod fault;
 mod file;
 mod font;
+mod gathered;
 mod glyphs;
 pub mod laws;
+mod lent;
 mod limits;
-mod maps;
 mod marks;
 mod parts;
 mod private;
+mod ranges;
+mod shell;
+mod source;
 mod subrs;
 mod words;
 mod writing;
@@ -31,6 +33,7 @@ pub use fault::ReadFault;
 pub use file::read;
 pub use font::{Font, Names, Part};
 pub use parts::{PartsFault, join_parts};
+pub use source::Source;
 pub use t1_bytes::Form;
 pub use t1_run::{Curve, DrawFault, Drawing, DrawnPart, Fault, Mark, Point, draw};
 pub use writing::write;

@@ -1,19 +1,21 @@
 //! A font of the entries of two.
 
-ghost use Rattle.std.specs.Prelude.{◌≡◌, IfOk, MatchResult};
+ghost use Rattle.std.specs.Prelude.{◌≡◌, ◌++◌, map, IfOk, OnOk, MatchResult};
 ghost use Rattle.std.specs.Option.{option_map};
 ghost use Rattle.std.specs.FinMap as fin;
 ghost use Rattle.t1_font.specs.FontModel.{encoding_of};
 ghost use Rattle.t1_font.specs.Cut.{map_values, merged, joined_subr, join_encodings, join_parts};
 ghost use Rattle.t1_font.specs.WriteLaws.{SameKind};
 ghost use Rattle.t1_font.specs.Joins.{Refuses};
+ghost use Rattle.t1_font.specs.Lent.{with_bytes};
+ghost use Rattle.t1_join.specs.Passes.{merge};
 
-use crate::copies::{add_glyphs, add_names, shell_again};
 use crate::cut::STUB;
-use crate::font::{Font, FontParts, KeptEncoding};
+use crate::font::{Font, FontParts, LentEncoding};
+use crate::lent::{Named, Numbered};
 use crate::limits::{COUNT_LIMIT, WEIGHT_LIMIT};
-use crate::maps::{Named, Numbered};
 use std::alloc::{AllocError, Global};
+use std::cmp::Ordering;
 
 /// Why the entries of two fonts are not one font.
 #[derive(Clone, Copy, Debug, PartialEq, Eq)]
@@ -35,42 +37,96 @@ impl From<AllocError> for PartsFault {
     }
 }
 
+/// Puts the rest of a table's entries at the end.
+fn add_rest<'a, K: Ord + Copy>(
+    all: &mut Vec<(K, &'a [u8])>,
+    rest: &[(K, &'a [u8])],
+) -> Result<(), AllocError>
+    ensures { OnOk result (map with_bytes all.new.items ≡ map with_bytes all.old.items ++ map with_bytes rest.now) }
+{
+    'rest: for (key, body) in rest {
+        all.push((*key, *body))?;
+    }
+    Ok(())
+}
+
+/// The entries of both, upwards by key, in one pass by two positions: the first's where both have a key.
+fn merged<'a, K: Ord + Copy>(
+    alloc: Global,
+    first: &[(K, &'a [u8])],
+    second: &[(K, &'a [u8])],
+) -> Result<Vec<(K, &'a [u8])>, AllocError>
+    ensures { IfOk result (λ all. map with_bytes all.items ≡ merge K.cmp (map with_bytes first.now) (map with_bytes second.now)) }
+{
+    let mut all = Vec::new(alloc);
+    let mut i = 0;
+    let mut j = 0;
+    'pass: while i < first.len() && j < second.len() {
+        let here = &first[i];
+        let there = &second[j];
+        match here.0.cmp(&there.0) {
+            Ordering::Less => {
+                all.push((here.0, here.1))?;
+                i += 1;
+            }
+            Ordering::Equal => {
+                all.push((here.0, here.1))?;
+                i += 1;
+                j += 1;
+            }
+            Ordering::Greater => {
+                all.push((there.0, there.1))?;
+                j += 1;
+            }
+        }
+    }
+    add_rest(&mut all, &first[i..])?;
+    add_rest(&mut all, &second[j..])?;
+    Ok(all)
+}
+
 /// The glyphs of both, the first's where both have a name.
-fn join_glyphs(alloc: Global, first: &Named, second: &Named) -> Result<Named, AllocError>
+fn join_glyphs<'a>(
+    alloc: Global,
+    first: &Named<'a>,
+    second: &Named<'a>,
+) -> Result<Named<'a>, AllocError>
     ensures { IfOk result (λ m. m ≡ merged first.now second.now) }
 {
-    let mut joined = Named::new(alloc);
-    add_glyphs(alloc, &mut joined, second)?;
-    add_glyphs(alloc, &mut joined, first)?;
-    Ok(joined)
+    Ok(Named {
+        entries: merged(alloc, &first.entries, &second.entries)?,
+    })
 }
 
 /// The codes of both, with the first's name where both have a code.
-fn join_codes(alloc: Global, first: &Numbered, second: &Numbered) -> Result<Numbered, AllocError>
+fn join_codes<'a>(
+    alloc: Global,
+    first: &Numbered<'a>,
+    second: &Numbered<'a>,
+) -> Result<Numbered<'a>, AllocError>
     ensures { IfOk result (λ m. m ≡ merged first.now second.now) }
 {
-    let mut joined = Numbered::new(alloc);
-    add_names(alloc, &mut joined, second)?;
-    add_names(alloc, &mut joined, first)?;
-    Ok(joined)
+    Ok(Numbered {
+        entries: merged(alloc, &first.entries, &second.entries)?,
+    })
 }
 
 /// The Encoding of both: a word as it is in the first.
-fn join_encoding(
+fn join_encoding<'a>(
     alloc: Global,
-    first: &KeptEncoding,
-    second: &KeptEncoding,
-) -> Result<KeptEncoding, AllocError>
+    first: &LentEncoding<'a>,
+    second: &LentEncoding<'a>,
+) -> Result<LentEncoding<'a>, AllocError>
     requires { SameKind (encoding_of first.now) (encoding_of second.now) }
     ensures { IfOk result (λ e. encoding_of e ≡ join_encodings (encoding_of first.now) (encoding_of second.now)) }
 {
     match (first, second) {
-        (KeptEncoding::Codes(first), KeptEncoding::Codes(second)) => {
-            Ok(KeptEncoding::Codes(join_codes(alloc, first, second)?))
+        (LentEncoding::Codes(first), LentEncoding::Codes(second)) => {
+            Ok(LentEncoding::Codes(join_codes(alloc, first, second)?))
         }
-        (KeptEncoding::Word(word), _) | (_, KeptEncoding::Word(word)) => Ok(KeptEncoding::Word(
-            Vec::from_slice(alloc, word.as_slice())?,
-        )),
+        (LentEncoding::Word(word), _) | (_, LentEncoding::Word(word)) => {
+            Ok(LentEncoding::Word(word))
+        }
     }
 }
 
@@ -85,27 +141,32 @@ fn joined_subr<'a>(first: &'a [u8], second: Option<&'a [u8]>) -> &'a [u8]
 }
 
 /// The Subrs of the first, its stubs giving way to the second's Subrs.
-fn join_subrs(alloc: Global, first: &Numbered, second: &Numbered) -> Result<Numbered, AllocError>
+fn join_subrs<'a>(
+    alloc: Global,
+    first: &Numbered<'a>,
+    second: &Numbered<'a>,
+) -> Result<Numbered<'a>, AllocError>
     ensures { IfOk result (λ m. m ≡ map_values (λ i c. joined_subr c (fin.get second.now i)) first.now) }
 {
-    let mut joined = Numbered::new(alloc);
+    let mut joined = Vec::with_capacity(alloc, first.entries.len())?;
     'bodies: for (index, body) in first.entries() {
-        joined.insert(alloc, index, joined_subr(body, second.get(index)))?;
+        let other = second.get_near(joined.len(), index);
+        joined.push((index, joined_subr(body, other)))?;
     }
-    Ok(joined)
+    Ok(Numbered { entries: joined })
 }
 
 /// The entries of both, whatever they weigh.
-fn joined_parts(
+fn joined_parts<'a>(
     alloc: Global,
-    first: &FontParts,
-    second: &FontParts,
-) -> Result<FontParts, AllocError>
+    first: &FontParts<'a>,
+    second: &FontParts<'a>,
+) -> Result<FontParts<'a>, AllocError>
     requires { SameKind first.now.encoding second.now.encoding }
     ensures { IfOk result (λ f. f ≡ join_parts first.now second.now) }
 {
     Ok(FontParts {
-        shell: shell_again(alloc, &first.shell)?,
+        shell: first.shell,
         encoding: join_encoding(alloc, &first.encoding, &second.encoding)?,
         subrs: join_subrs(alloc, &first.subrs, &second.subrs)?,
         glyphs: join_glyphs(alloc, &first.glyphs, &second.glyphs)?,
@@ -114,7 +175,7 @@ fn joined_parts(
 
 /// The font of the entries of both fonts, a Subr that is `return` giving way to the other font's
 /// entry (Adobe Type 1 Font Format 1.1, chapters 2 and 8). Where both have another entry at a key,
-/// the first's stands.
+/// the first's stands. The first font decides which Subrs are present: an entry of the second alone is left out.
 ///
 /// Both fonts have one shell, and one word or two tables as their Encodings.
 ///
@@ -122,7 +183,11 @@ fn joined_parts(
 ///
 /// `Limit` where the font of both has more glyphs or weighs more than a font may; `Memory` where a
 /// growth was refused.
-pub fn join_parts(alloc: Global, first: &Font, second: &Font) -> Result<Font, PartsFault>
+pub fn join_parts<'a>(
+    alloc: Global,
+    first: &Font<'a>,
+    second: &Font<'a>,
+) -> Result<Font<'a>, PartsFault>
     requires shells { first.now.shell ≡ second.now.shell }
     requires encodings { SameKind first.now.encoding second.now.encoding }
     ensures { MatchResult result (λ f. f ≡ join_parts first.now second.now) (Refuses first.now second.now) }

@@ -1,42 +1,37 @@
 //! The private text.
 
-ghost use Rattle.std.specs.Prelude.{◌≡◌, ◌++◌, length, Option, Some, None, []};
+ghost use Rattle.std.specs.Prelude.{◌≡◌, ◌++◌, length, Option, Some, None, [], OnOk};
+ghost use Rattle.std.specs.FinMap as fin;
 ghost use Rattle.std.specs.Option.{option_map};
 ghost use Rattle.t1_bytes.specs.Grammar.{first};
-ghost use Rattle.t1_font.specs.Marks.{closefile};
+ghost use Rattle.t1_font.specs.Marks.{closefile, glyph, glyphs_end};
 ghost use Rattle.t1_font.specs.Pieces.{SubrsPieces, has_subrs, iv_of, tail_after, glyphs_from, tables_from, private_pieces};
-ghost use Rattle.t1_font.specs.declared.fault.ReadFault.TheVariants.{BadSubrs};
+ghost use Rattle.t1_font.specs.declared.fault.ReadFault.TheVariants.{BadSubrs, BadGlyphs};
 ghost use Rattle.t1_font.specs.Subrs.{subr, subrs_end};
 ghost use Rattle.t1_font.specs.Reading.{table};
-ghost use Rattle.t1_font.specs.Answers.{Answers, Shown, ShowsTable, ShowsSubrs, ShowsPrivate};
+ghost use Rattle.t1_font.specs.Answers.{Answers, Shown, ShowsTable, ShowsGlyphs, ShowsBefore, ShowsPrivate};
+ghost use Rattle.t1_font.specs.Gathering.{SubrsAlone, GlyphsAlone};
+ghost use Rattle.t1_font.specs.Held.{HoldsSubrs, HoldsGlyphs};
 
 use crate::fault::{ReadFault, TableError};
-use crate::glyphs::{GlyphTable, glyphs_at};
+use crate::gathered::Gathered;
+use crate::glyphs::{GlyphsParts, glyphs_at};
 use crate::marks::{first_chars, first_close, first_len_iv, first_subrs, len_iv_at};
-use crate::subrs::{SubrTable, subrs_at};
-use crate::words::Phrase;
-use std::alloc::Global;
+use crate::subrs::{SubrsParts, subrs_at};
 
-/// The table of Subrs, and the phrase that closes it.
-#[derive(Drop)]
-pub struct SubrsParts<'a> {
-    pub table: SubrTable<'a>,
-    pub closing: Phrase<'a>,
-}
-
-/// The pieces of the private text; the tail is what stands through `closefile`.
-#[derive(Drop)]
+/// The pieces of the private text; the tail is what stands through `closefile`. The charstrings are gathered.
+#[derive(Clone, Copy)]
 pub struct PrivateParts<'a> {
     pub private: &'a [u8],
     pub len_iv: u8,
     pub subrs: Option<SubrsParts<'a>>,
     pub middle: &'a [u8],
-    pub glyphs: GlyphTable<'a>,
+    pub glyphs: GlyphsParts<'a>,
     pub tail: &'a [u8],
 }
 
 /// What stands before the glyphs.
-#[derive(Drop)]
+#[derive(Clone, Copy)]
 pub struct Before<'a> {
     pub private: &'a [u8],
     pub len_iv: u8,
@@ -93,73 +88,87 @@ fn through_close(bytes: &[u8]) -> Option<&[u8]>
     None
 }
 
+/// The table of glyphs, in the last part of the private text.
+fn glyphs_parts<'a>(
+    text: &[u8],
+    len_iv: u8,
+    rest: &'a [u8],
+    gathered: &mut Gathered<'a>,
+) -> Result<(GlyphsParts<'a>, &'a [u8]), ReadFault>
+    requires { gathered.old.glyphs ≡ fin.empty }
+    ensures shown { Shown (λ x t. ShowsGlyphs x.0 t.0 × HoldsGlyphs len_iv gathered.new.glyphs t.0 × (x.1.now ≡ t.2)) result (table BadGlyphs (length text.now) (glyph len_iv) glyphs_end rest.now) }
+    ensures others { OnOk result (GlyphsAlone gathered.old gathered.new) }
+{
+    match glyphs_at(rest, len_iv, gathered) {
+        Ok(found) => Ok(found),
+        Err(TableError::Memory) => Err(ReadFault::Memory),
+        Err(TableError::Left(left)) => Err(ReadFault::BadGlyphs {
+            at: text.len().saturating_sub(left),
+        }),
+    }
+}
+
 /// The glyphs after their marker, and what is kept of the rest.
 #[tactic(auto, unfolding(crate::specs::Pieces::glyphs_from))]
 fn glyphs_from<'a>(
-    alloc: Global,
     text: &[u8],
     before: Before<'a>,
     rest: &'a [u8],
+    gathered: &mut Gathered<'a>,
 ) -> Result<PrivateParts<'a>, ReadFault>
-    ensures { (s : Option SubrsPieces) → ShowsSubrs before.entry.len_iv before.entry.subrs s → Shown ShowsPrivate result (glyphs_from text.now before.entry.private.now s before.entry.middle.now before.entry.len_iv rest.now) }
+    requires { gathered.old.glyphs ≡ fin.empty }
+    ensures shown { (s : Option SubrsPieces) → ShowsBefore before.entry gathered.old.subrs s → Shown (λ x p. ShowsPrivate x gathered.new p) result (glyphs_from text.now before.entry.private.now s before.entry.middle.now before.entry.len_iv rest.now) }
+    ensures codes { OnOk result (gathered.new.codes ≡ gathered.old.codes) }
 {
-    let (glyphs, after) = match glyphs_at(alloc, rest, before.len_iv) {
-        Ok(found) => found,
-        Err(TableError::Memory) => return Err(ReadFault::Memory),
-        Err(TableError::Left(left)) => {
-            return Err(ReadFault::BadGlyphs {
-                at: text.len().saturating_sub(left),
-            });
-        }
-    };
-    match tail_after(before.middle, after) {
-        Ok(tail) => Ok(PrivateParts {
-            private: before.private,
-            len_iv: before.len_iv,
-            subrs: before.subrs,
-            middle: before.middle,
-            glyphs,
-            tail,
-        }),
-        Err(fault) => Err(fault),
-    }
+    let (glyphs, after) = glyphs_parts(text, before.len_iv, rest, gathered)?;
+    let tail = tail_after(before.middle, after)?;
+    Ok(PrivateParts {
+        private: before.private,
+        len_iv: before.len_iv,
+        subrs: before.subrs,
+        middle: before.middle,
+        glyphs,
+        tail,
+    })
 }
 
 /// The tables of a private text without Subrs.
 #[tactic(auto, unfolding(crate::specs::Pieces::tables_from))]
 fn tables_without<'a>(
-    alloc: Global,
     text: &[u8],
     private: &'a [u8],
     rest: &'a [u8],
+    gathered: &mut Gathered<'a>,
 ) -> Result<PrivateParts<'a>, ReadFault>
-    ensures { Shown ShowsPrivate result (tables_from text.now ((private.now, tt), rest.now) None) }
+    requires subrs { gathered.old.subrs ≡ fin.empty }
+    requires glyphs { gathered.old.glyphs ≡ fin.empty }
+    ensures shown { Shown (λ x p. ShowsPrivate x gathered.new p) result (tables_from text.now ((private.now, tt), rest.now) None) }
+    ensures codes { OnOk result (gathered.new.codes ≡ gathered.old.codes) }
 {
-    let len_iv = match iv_of(private) {
-        Ok(len_iv) => len_iv,
-        Err(fault) => return Err(fault),
-    };
+    let len_iv = iv_of(private)?;
     let before = Before {
         private,
         len_iv,
         subrs: None,
         middle: &[],
     };
-    glyphs_from(alloc, text, before, rest)
+    glyphs_from(text, before, rest, gathered)
 }
 
-/// The table of subroutines, in the last part of the private text.
+/// The table of Subrs, in the last part of the private text.
 fn subrs_parts<'a>(
-    alloc: Global,
     text: &[u8],
     declared: u32,
     len_iv: u8,
     rest: &'a [u8],
+    gathered: &mut Gathered<'a>,
 ) -> Result<(SubrsParts<'a>, &'a [u8]), ReadFault>
-    ensures { Shown (λ x t. ShowsTable len_iv x.0 (record { declared = declared; entries = t.0; closing = t.1 }) × (x.1.now ≡ t.2)) result (table BadSubrs (length text.now) (subr declared len_iv) subrs_end rest.now) }
+    requires { gathered.old.subrs ≡ fin.empty }
+    ensures shown { Shown (λ x t. ShowsTable x.0 (record { declared = declared; entries = t.0; closing = t.1 }) × HoldsSubrs declared len_iv gathered.new.subrs t.0 × (x.1.now ≡ t.2)) result (table BadSubrs (length text.now) (subr declared len_iv) subrs_end rest.now) }
+    ensures others { OnOk result (SubrsAlone gathered.old gathered.new) }
 {
-    match subrs_at(alloc, rest, declared, len_iv) {
-        Ok((table, closing, after)) => Ok((SubrsParts { table, closing }, after)),
+    match subrs_at(rest, declared, len_iv, gathered) {
+        Ok(found) => Ok(found),
         Err(TableError::Memory) => Err(ReadFault::Memory),
         Err(TableError::Left(left)) => Err(ReadFault::BadSubrs {
             at: text.len().saturating_sub(left),
@@ -170,22 +179,19 @@ fn subrs_parts<'a>(
 /// The tables of a private text, from the entries of Subrs on.
 #[tactic(auto, unfolding(crate::specs::Pieces::tables_from))]
 fn tables_with<'a>(
-    alloc: Global,
     text: &[u8],
     private: &'a [u8],
     declared: u32,
     rest: &'a [u8],
+    gathered: &mut Gathered<'a>,
 ) -> Result<PrivateParts<'a>, ReadFault>
-    ensures { Shown ShowsPrivate result (tables_from text.now (([], tt), []) (Some ((private.now, declared), rest.now))) }
+    requires subrs { gathered.old.subrs ≡ fin.empty }
+    requires glyphs { gathered.old.glyphs ≡ fin.empty }
+    ensures shown { Shown (λ x p. ShowsPrivate x gathered.new p) result (tables_from text.now (([], tt), []) (Some ((private.now, declared), rest.now))) }
+    ensures codes { OnOk result (gathered.new.codes ≡ gathered.old.codes) }
 {
-    let len_iv = match iv_of(private) {
-        Ok(len_iv) => len_iv,
-        Err(fault) => return Err(fault),
-    };
-    let (subrs, between) = match subrs_parts(alloc, text, declared, len_iv, rest) {
-        Ok(found) => found,
-        Err(fault) => return Err(fault),
-    };
+    let len_iv = iv_of(private)?;
+    let (subrs, between) = subrs_parts(text, declared, len_iv, rest, gathered)?;
     let Some((middle, glyphs)) = first_chars(between) else {
         return Err(ReadFault::BadGlyphs {
             at: text.len().saturating_sub(between.len()),
@@ -197,22 +203,28 @@ fn tables_with<'a>(
         subrs: Some(subrs),
         middle,
     };
-    glyphs_from(alloc, text, before, glyphs)
+    glyphs_from(text, before, glyphs, gathered)
 }
 
 /// The pieces of a private text.
 #[tactic(auto, unfolding(crate::specs::Pieces::private_pieces, crate::specs::Pieces::tables_from))]
-pub fn private_parts(alloc: Global, text: &[u8]) -> Result<PrivateParts<'_>, ReadFault>
-    ensures { Shown ShowsPrivate result (private_pieces text.now) }
+pub(crate) fn private_parts<'a>(
+    text: &'a [u8],
+    gathered: &mut Gathered<'a>,
+) -> Result<PrivateParts<'a>, ReadFault>
+    requires subrs { gathered.old.subrs ≡ fin.empty }
+    requires glyphs { gathered.old.glyphs ≡ fin.empty }
+    ensures shown { Shown (λ x p. ShowsPrivate x gathered.new p) result (private_pieces text.now) }
+    ensures codes { OnOk result (gathered.new.codes ≡ gathered.old.codes) }
 {
     let Some((front, after)) = first_chars(text) else {
         return Err(ReadFault::NoCharStrings);
     };
     let Some((private, declared, entries)) = first_subrs(text) else {
-        return tables_without(alloc, text, front, after);
+        return tables_without(text, front, after, gathered);
     };
     if private.len() < front.len() {
-        return tables_with(alloc, text, private, declared, entries);
+        return tables_with(text, private, declared, entries, gathered);
     }
-    tables_without(alloc, text, front, after)
+    tables_without(text, front, after, gathered)
 }

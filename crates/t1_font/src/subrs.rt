@@ -2,17 +2,19 @@
 
 ghost use Rattle.std.specs.Prelude.{◌≡◌, ◌<◌, ◌≤◌, ◌++◌, ◌∷◌, [], List, OnOk, IfSome, length};
 ghost use Rattle.std.specs.Option.{option_map};
-ghost use Rattle.t1_font.specs.Held.{HoldsSubrs, IsSubrTable, TableHeld};
+ghost use Rattle.std.specs.FinMap as fin;
+ghost use Rattle.t1_font.specs.Answers.{ShowsTable};
+ghost use Rattle.t1_font.specs.Gathering.{SubrsAlone};
+ghost use Rattle.t1_font.specs.Held.{HoldsSubrs, TableHeld};
 ghost use Rattle.t1_font.specs.Subrs.{Subr, subr, subrs_end, subrs_at, index_below, length_from};
 ghost use Rattle.t1_font.specs.Views.{subr_view, phrase_view};
 
-use crate::charstrings::plain;
 use crate::fault::TableError;
-use crate::maps::Numbered;
+use crate::gathered::Gathered;
 use crate::words::{
     Phrase, Words, decimal_at, first_words, keyword_at, one_white_at, phrase_at, word_at,
 };
-use std::alloc::{AllocError, Global};
+use std::alloc::AllocError;
 use t1_bytes::texts::{count_at, gap_at, white_at};
 
 /// An entry, as it is spelled.
@@ -91,62 +93,59 @@ fn subrs_end_at(bytes: &[u8]) -> Option<(Phrase<'_>, &[u8])>
     phrase_at(rest, false)
 }
 
-/// A table of Subrs.
-#[derive(Drop)]
-pub struct SubrTable<'a> {
+/// What is read of a table of Subrs beside its Subrs: the declared count, the words of the first entry, and the phrase
+/// that closes it.
+#[derive(Clone, Copy)]
+pub struct SubrsParts<'a> {
     pub declared: u32,
-    pub len_iv: u8,
     pub words: Option<Words<'a>>,
-    pub bodies: Numbered,
+    pub closing: Phrase<'a>,
 }
 
 /// Keeps the plain charstring of one more entry. An index over 65,535 is kept of no font, since its
 /// declared count is over the limit.
 fn keep_subr(
-    bodies: &mut Numbered,
-    alloc: Global,
-    buffer: &mut Vec<u8>,
+    gathered: &mut Gathered<'_>,
     entry: SubrEntry<'_>,
     declared: u32,
     len_iv: u8,
 ) -> Result<(), AllocError>
     requires index { entry.index < declared }
     requires length { len_iv ≤ length entry.body.now }
-    ensures { OnOk result ((es : List Subr) → HoldsSubrs declared len_iv bodies.old es → HoldsSubrs declared len_iv bodies.new (es ++ subr_view entry.entry ∷ [])) }
+    ensures shown { OnOk result ((es : List Subr) → HoldsSubrs declared len_iv gathered.old.subrs es → HoldsSubrs declared len_iv gathered.new.subrs (es ++ subr_view entry.entry ∷ [])) }
+    ensures others { OnOk result (SubrsAlone gathered.old gathered.new) }
 {
     let Ok(index) = u16::try_from(entry.index) else {
         return Ok(());
     };
-    bodies.insert(alloc, index, plain(buffer, entry.body, len_iv)?)?;
-    Ok(())
+    gathered.keep_subr(index, entry.body, len_iv)
 }
 
 /// The entries, the phrase that closes the table, and what stands after it.
-pub fn subrs_at(
-    alloc: Global,
-    bytes: &[u8],
+pub(crate) fn subrs_at<'a>(
+    bytes: &'a [u8],
     declared: u32,
     len_iv: u8,
-) -> Result<(SubrTable<'_>, Phrase<'_>, &[u8]), TableError>
-    ensures { TableHeld (λ x es close rest. IsSubrTable declared len_iv x.0 es × (phrase_view x.1 ≡ close) × (x.2.now ≡ rest)) result (subrs_at declared len_iv bytes.now) }
+    gathered: &mut Gathered<'_>,
+) -> Result<(SubrsParts<'a>, &'a [u8]), TableError>
+    requires { gathered.old.subrs ≡ fin.empty }
+    ensures shown { TableHeld (λ x es close rest. ShowsTable x.0 (record { declared = declared; entries = es; closing = close }) × HoldsSubrs declared len_iv gathered.new.subrs es × (x.1.now ≡ rest)) result (subrs_at declared len_iv bytes.now) }
+    ensures others { OnOk result (SubrsAlone gathered.old gathered.new) }
 {
     let mut words = None;
-    let mut bodies = Numbered::new(alloc);
-    let mut buffer = Vec::new(alloc);
     let mut rest = bytes;
     'entries: loop {
         if let Some((entry, after)) = subr_at(rest, declared, len_iv) {
             words = Some(first_words(words, entry.rd, entry.put));
-            keep_subr(&mut bodies, alloc, &mut buffer, entry, declared, len_iv)?;
+            keep_subr(gathered, entry, declared, len_iv)?;
             rest = after;
         } else if let Some((closing, after)) = subrs_end_at(rest) {
-            let table = SubrTable {
+            let parts = SubrsParts {
                 declared,
-                len_iv,
                 words,
-                bodies,
+                closing,
             };
-            return Ok((table, closing, after));
+            return Ok((parts, after));
         } else {
             let (_, left) = white_at(rest);
             return Err(TableError::Left(left.len()));

@@ -10,7 +10,7 @@ mod prefixes;
 mod rows;
 mod tiny;
 
-use crate::{Font, Form, ReadFault, read, write};
+use crate::{Form, ReadFault, Source, read, write};
 use std::alloc::{AllocError, Global};
 use t1_bytes::{EEXEC_KEY, EEXEC_LEAD, seal};
 
@@ -38,30 +38,45 @@ fn joined(alloc: Global, first: &[u8], second: &[u8]) -> Result<Vec<u8>, AllocEr
     Ok(text)
 }
 
-/// The font of such a file.
-fn font(alloc: Global, clear: &[u8], private: &[u8]) -> Result<Font, ReadFault> {
+/// What such a file reads as.
+fn source(alloc: Global, clear: &[u8], private: &[u8]) -> Result<Source, ReadFault> {
     match file(alloc, clear, private) {
         Ok(file) => read(alloc, file.as_slice()),
         Err(_) => Err(ReadFault::Memory),
     }
 }
 
+/// The canonical file of the font that a source lends.
+fn lent_file(alloc: Global, source: &Source, form: Form) -> Result<Vec<u8>, AllocError> {
+    let font = source.font(alloc)?;
+    write(alloc, &font, form)
+}
+
 /// The canonical file of a file's font.
 fn rewritten(alloc: Global, file: &[u8], form: Form) -> Result<Vec<u8>, ReadFault> {
-    let font = read(alloc, file)?;
-    match write(alloc, &font, form) {
+    let source = read(alloc, file)?;
+    match lent_file(alloc, &source, form) {
         Ok(file) => Ok(file),
         Err(_) => Err(ReadFault::Memory),
     }
 }
 
-/// How many glyphs a file's font has, and its weight.
-fn counts(alloc: Global, file: &[u8]) -> Result<(usize, u32), ReadFault> {
-    let font = read(alloc, file)?;
+/// How many glyphs the font of a source has, and its weight.
+fn lent_counts(alloc: Global, source: &Source) -> Result<(usize, u32), AllocError> {
+    let font = source.font(alloc)?;
     Ok((font.names().count(), font.weight()))
+}
+
+/// The same of a file's font.
+fn counts(alloc: Global, file: &[u8]) -> Result<(usize, u32), ReadFault> {
+    let source = read(alloc, file)?;
+    match lent_counts(alloc, &source) {
+        Ok(counts) => Ok(counts),
+        Err(_) => Err(ReadFault::Memory),
+    }
 }
 
 /// Why such a file spells no font; `None` where it spells one.
 fn fault(alloc: Global, clear: &[u8], private: &[u8]) -> Option<ReadFault> {
-    font(alloc, clear, private).err()
+    source(alloc, clear, private).err()
 }

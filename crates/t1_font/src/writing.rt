@@ -14,8 +14,9 @@ ghost use Rattle.t1_font.specs.Writing.{subr_text, glyph_text, subrs_part, glyph
 ghost use Rattle.t1_font.specs.Canon.{sealed_body, subr_entry, glyph_entry, subrs_pieces, encoding_pieces, canon_clear, canon_private, canon};
 ghost use Rattle.t1_font.specs.WriteLaws.{Fits};
 
-use crate::font::{Font, FontParts, KeptEncoding, KeptShell, KeptSubrs};
-use crate::maps::{Named, Numbered};
+use crate::font::{Font, FontParts, LentEncoding};
+use crate::lent::{Named, Numbered};
+use crate::shell::{KeptShell, KeptSubrs};
 use std::alloc::{AllocError, Global};
 use t1_bytes::{
     CHARSTRING_KEY, EEXEC_KEY, EEXEC_LEAD, Form, encrypt, hex_lines, segments, trailer,
@@ -101,7 +102,7 @@ fn put_subrs(
     out: &mut Vec<u8>,
     kept: &KeptSubrs,
     len_iv: u8,
-    subrs: &Numbered,
+    subrs: &Numbered<'_>,
 ) -> Result<(), AllocError>
     ensures { OnOk result (out.new.items ≡ out.old.items ++ subrs_part (Some (subrs_pieces len_iv (fin.entries subrs.now) (subrs_view kept.now)))) }
 {
@@ -121,7 +122,7 @@ fn put_table(
     alloc: Global,
     out: &mut Vec<u8>,
     shell: &KeptShell,
-    subrs: &Numbered,
+    subrs: &Numbered<'_>,
 ) -> Result<(), AllocError>
     ensures { OnOk result (out.new.items ≡ out.old.items ++ subrs_part (option_map (subrs_pieces shell.now.len_iv (fin.entries subrs.now)) (shell_view shell.now).subrs)) }
 {
@@ -162,7 +163,7 @@ fn put_glyphs(
     alloc: Global,
     out: &mut Vec<u8>,
     shell: &KeptShell,
-    glyphs: &Named,
+    glyphs: &Named<'_>,
 ) -> Result<(), AllocError>
     ensures { OnOk result (out.new.items ≡ out.old.items ++ glyphs_part (map (glyph_entry (shell_view shell.now)) (fin.entries glyphs.now))) }
 {
@@ -170,14 +171,14 @@ fn put_glyphs(
     put_number(alloc, out, glyphs.len())?;
     out.extend_from_slice(b" dict dup begin")?;
     'glyphs: for (name, plain) in glyphs.entries() {
-        put_glyph(alloc, out, shell, name.as_slice(), plain.as_slice())?;
+        put_glyph(alloc, out, shell, name, plain)?;
     }
     out.extend_from_slice(b"\nend")?;
     Ok(())
 }
 
 /// Writes the names of codes, and what closes them.
-fn put_codes(alloc: Global, out: &mut Vec<u8>, names: &Numbered) -> Result<(), AllocError>
+fn put_codes(alloc: Global, out: &mut Vec<u8>, names: &Numbered<'_>) -> Result<(), AllocError>
     ensures { OnOk result (out.new.items ≡ out.old.items ++ puts_text (fin.entries names.now)) }
 {
     'codes: for (code, name) in names.entries() {
@@ -192,17 +193,21 @@ fn put_codes(alloc: Global, out: &mut Vec<u8>, names: &Numbered) -> Result<(), A
 }
 
 /// Writes the Encoding.
-fn put_encoding(alloc: Global, out: &mut Vec<u8>, encoding: &KeptEncoding) -> Result<(), AllocError>
+fn put_encoding(
+    alloc: Global,
+    out: &mut Vec<u8>,
+    encoding: &LentEncoding<'_>,
+) -> Result<(), AllocError>
     ensures { OnOk result (out.new.items ≡ out.old.items ++ encoding_text (encoding_pieces (encoding_of encoding.now))) }
 {
     out.extend_from_slice(b"/Encoding ")?;
     match encoding {
-        KeptEncoding::Word(word) => {
-            out.extend_from_slice(word.as_slice())?;
+        LentEncoding::Word(word) => {
+            out.extend_from_slice(word)?;
             out.extend_from_slice(b" def")?;
             Ok(())
         }
-        KeptEncoding::Codes(names) => {
+        LentEncoding::Codes(names) => {
             out.extend_from_slice(TABLE_START)?;
             put_codes(alloc, out, names)?;
             Ok(())
@@ -211,18 +216,18 @@ fn put_encoding(alloc: Global, out: &mut Vec<u8>, encoding: &KeptEncoding) -> Re
 }
 
 /// How many bytes the Encoding has at most, as far as it can be told.
-fn encoding_room(encoding: &KeptEncoding) -> usize {
+fn encoding_room(encoding: &LentEncoding<'_>) -> usize {
     match encoding {
-        KeptEncoding::Word(word) => word.len().saturating_add(MARKERS),
-        KeptEncoding::Codes(names) => names.weight(MARKERS as u64, 0) as usize,
+        LentEncoding::Word(word) => word.len().saturating_add(MARKERS),
+        LentEncoding::Codes(names) => names.weight(MARKERS as u64, 0) as usize,
     }
 }
 
 /// The canonical clear text.
-fn clear_text(alloc: Global, parts: &FontParts) -> Result<Vec<u8>, AllocError>
+fn clear_text(alloc: Global, parts: &FontParts<'_>) -> Result<Vec<u8>, AllocError>
     ensures { IfOk result (λ v. v.items ≡ canon_clear parts.now) }
 {
-    let shell = &parts.shell;
+    let shell = parts.shell;
     let room = encoding_room(&parts.encoding)
         .saturating_add(shell.head.len())
         .saturating_add(shell.clear_tail.len());
@@ -235,10 +240,10 @@ fn clear_text(alloc: Global, parts: &FontParts) -> Result<Vec<u8>, AllocError>
 }
 
 /// Writes the canonical private text.
-fn put_private(alloc: Global, out: &mut Vec<u8>, parts: &FontParts) -> Result<(), AllocError>
+fn put_private(alloc: Global, out: &mut Vec<u8>, parts: &FontParts<'_>) -> Result<(), AllocError>
     ensures { OnOk result (out.new.items ≡ out.old.items ++ canon_private parts.now) }
 {
-    let shell = &parts.shell;
+    let shell = parts.shell;
     out.extend_from_slice(shell.private.as_slice())?;
     put_table(alloc, out, shell, &parts.subrs)?;
     out.extend_from_slice(shell.middle.as_slice())?;
@@ -249,7 +254,7 @@ fn put_private(alloc: Global, out: &mut Vec<u8>, parts: &FontParts) -> Result<()
 }
 
 /// The cipher of the canonical private text, its lead bytes zero.
-fn cipher(alloc: Global, parts: &FontParts) -> Result<Vec<u8>, AllocError>
+fn cipher(alloc: Global, parts: &FontParts<'_>) -> Result<Vec<u8>, AllocError>
     ensures { IfOk result (λ v. v.items ≡ private_cipher (canon_private parts.now)) }
 {
     let room = (parts.weight() as usize).saturating_add(MARKERS);
@@ -291,7 +296,7 @@ fn pfb(alloc: Global, clear: &[u8], cipher: &[u8]) -> Result<Vec<u8>, AllocError
 }
 
 /// The file of the canonical texts of a font's parts.
-fn canonical(alloc: Global, parts: &FontParts, form: Form) -> Result<Vec<u8>, AllocError>
+fn canonical(alloc: Global, parts: &FontParts<'_>, form: Form) -> Result<Vec<u8>, AllocError>
     requires clear { length (canon_clear parts.now) ≤ 2 ^ 26 }
     requires cipher { length (private_cipher (canon_private parts.now)) ≤ 2 ^ 26 }
     ensures { IfOk result (λ v. v.items ≡ canon parts.now form) }
@@ -311,7 +316,7 @@ fn canonical(alloc: Global, parts: &FontParts, form: Form) -> Result<Vec<u8>, Al
 /// # Errors
 ///
 /// Want of memory alone.
-pub fn write(alloc: Global, font: &Font, form: Form) -> Result<Vec<u8>, AllocError>
+pub fn write(alloc: Global, font: &Font<'_>, form: Form) -> Result<Vec<u8>, AllocError>
     ensures canon { IfOk result (λ v. v.items ≡ canon font.now form) }
     ensures again { IfOk result (λ v. Fits form font.now → read_font v.items ≡ Ok font.now) }
     ensures short { IfOk result (λ v. length v.items ≤ file_limit) }

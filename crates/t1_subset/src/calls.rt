@@ -37,7 +37,7 @@ pub(crate) fn first_four(alloc: Global) -> Result<BTreeSet<u16>, AllocError>
 /// Whether a glyph of the font executes the index.
 pub(crate) fn executed_by(
     alloc: Global,
-    font: &Font,
+    font: &Font<'_>,
     name: &[u8],
     index: u16,
 ) -> Result<bool, AllocError>

@@ -20,7 +20,7 @@ use std::alloc::{AllocError, Global};
 use t1_font::Font;
 
 /// The first of these names that the font lacks.
-fn first_absent<'a>(font: &Font, names: &'a [&'a [u8]]) -> Option<&'a [u8]>
+fn first_absent<'a>(font: &Font<'_>, names: &'a [&'a [u8]]) -> Option<&'a [u8]>
     ensures { option_map (λ n. n.now) result ≡ first_where (λ n. not (has font.now n)) (lent names.now) }
 {
     'names: for name in names {
@@ -44,7 +44,7 @@ fn upwards(alloc: Global, names: &[&[u8]]) -> Result<Vec<Vec<u8>>, AllocError>
 }
 
 /// What these names of the font need of it.
-fn closure_of(alloc: Global, font: &Font, names: &[&[u8]]) -> Result<Closure, AllocError>
+fn closure_of(alloc: Global, font: &Font<'_>, names: &[&[u8]]) -> Result<Closure, AllocError>
     requires { IsOf font.now (asked names.now) }
     ensures names { IfOk result (λ c. set_by c.names.items ≡ keep profile font.now (asked names.now)) }
     ensures upwards { IfOk result (λ c. IsStrictlySortedBy name_cmp (names_of c.names.items)) }
@@ -61,7 +61,7 @@ fn closure_of(alloc: Global, font: &Font, names: &[&[u8]]) -> Result<Closure, Al
 ///
 /// It fails with [`SubsetFault::NoSuchGlyph`] where the font lacks a name that is asked for, the first
 /// such, and else for want of memory alone.
-pub fn closure(alloc: Global, font: &Font, names: &[&[u8]]) -> Result<Closure, SubsetFault>
+pub fn closure(alloc: Global, font: &Font<'_>, names: &[&[u8]]) -> Result<Closure, SubsetFault>
     ensures names { IfOk result (λ c. set_by c.names.items ≡ keep profile font.now (asked names.now)) }
     ensures upwards { IfOk result (λ c. IsStrictlySortedBy name_cmp (names_of c.names.items)) }
     ensures subrs { IfOk result (λ c. number_set c.subrs ≡ kept profile font.now (asked names.now)) }

@@ -11,8 +11,8 @@ use t1_font::Font;
 /// The smallest code that both Encodings have, with different names.
 pub(crate) fn code_conflict(
     alloc: Global,
-    left: &Font,
-    right: &Font,
+    left: &Font<'_>,
+    right: &Font<'_>,
 ) -> Result<Option<u8>, AllocError>
     ensures { IfOk result (λ code. code ≡ code_conflict left.now right.now) }
 {
@@ -28,8 +28,8 @@ pub(crate) fn code_conflict(
 /// The smallest name that both fonts have, with different charstrings.
 pub(crate) fn glyph_conflict<'a>(
     alloc: Global,
-    left: &'a Font,
-    right: &'a Font,
+    left: &'a Font<'_>,
+    right: &'a Font<'_>,
 ) -> Result<Option<&'a [u8]>, AllocError>
     ensures { IfOk result (λ name. option_map (λ n. n.now) name ≡ glyph_conflict left.now right.now) }
 {

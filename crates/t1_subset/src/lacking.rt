@@ -20,7 +20,7 @@ use std::alloc::{AllocError, Global};
 use t1_font::Font;
 
 /// Whether the font lacks the name, and the other has it.
-fn lacks(font: &Font, other: &Font, name: &[u8]) -> bool
+fn lacks(font: &Font<'_>, other: &Font<'_>, name: &[u8]) -> bool
     ensures { result ≡ lacks font.now other.now name.now }
 {
     !has_glyph(font, name) && has_glyph(other, name)
@@ -29,8 +29,8 @@ fn lacks(font: &Font, other: &Font, name: &[u8]) -> bool
 /// Adds the part, where the font lacks it and the other font has it.
 fn add_if_lacking(
     alloc: Global,
-    font: &Font,
-    other: &Font,
+    font: &Font<'_>,
+    other: &Font<'_>,
     lacking: &mut NameSet,
     part: &[u8],
 ) -> Result<(), AllocError>
@@ -46,8 +46,8 @@ fn add_if_lacking(
 /// Adds those of these names that the font lacks and the other font has.
 fn add_lacking(
     alloc: Global,
-    font: &Font,
-    other: &Font,
+    font: &Font<'_>,
+    other: &Font<'_>,
     lacking: &mut NameSet,
     parts: &NameSet,
 ) -> Result<(), AllocError>
@@ -63,8 +63,8 @@ fn add_lacking(
 /// glyphs of each name.
 pub(crate) fn part_conflict(
     alloc: Global,
-    left: &Font,
-    right: &Font,
+    left: &Font<'_>,
+    right: &Font<'_>,
     left_parts: &NameSet,
     right_parts: &NameSet,
 ) -> Result<Option<Vec<u8>>, AllocError>
@@ -91,7 +91,7 @@ fn is_among(parts: &[&str], part: &[u8]) -> bool
 }
 
 /// Whether a glyph of the font names a part that the font lacks.
-fn wants(alloc: Global, font: &Font, name: &[u8], part: &[u8]) -> Result<bool, AllocError>
+fn wants(alloc: Global, font: &Font<'_>, name: &[u8], part: &[u8]) -> Result<bool, AllocError>
     ensures { IfOk result (λ is_wanted. is_wanted ≡ wants profile font.now name.now part.now) }
 {
     if has_glyph(font, part) {
@@ -102,7 +102,7 @@ fn wants(alloc: Global, font: &Font, name: &[u8], part: &[u8]) -> Result<bool, A
 }
 
 /// The smallest glyph of the font that names a part which the font lacks.
-fn first_seeker(alloc: Global, font: &Font, part: &[u8]) -> Result<Option<Vec<u8>>, AllocError>
+fn first_seeker(alloc: Global, font: &Font<'_>, part: &[u8]) -> Result<Option<Vec<u8>>, AllocError>
     ensures { IfOk result (λ name. option_map bytes_of name ≡ first_where (λ n. wants profile font.now n part.now) (names_in font.now.glyphs)) }
 {
     'names: for name in font.names() {
@@ -116,8 +116,8 @@ fn first_seeker(alloc: Global, font: &Font, part: &[u8]) -> Result<Option<Vec<u8
 /// The smallest glyph of either font that names a part which its font lacks; no bytes where there is none.
 pub(crate) fn seeker(
     alloc: Global,
-    left: &Font,
-    right: &Font,
+    left: &Font<'_>,
+    right: &Font<'_>,
     part: &[u8],
 ) -> Result<Vec<u8>, AllocError>
     ensures { IfOk result (λ name. name.items ≡ unwrap_or (smallest (wanted_by profile left.now right.now part.now) (glyph_names left.now right.now)) []) }

@@ -76,7 +76,7 @@ impl<'a> Marks<'a> {
 }
 
 /// Whether the font has a glyph of this name.
-pub(crate) fn has_glyph(font: &Font, name: &[u8]) -> bool
+pub(crate) fn has_glyph(font: &Font<'_>, name: &[u8]) -> bool
     ensures { result ≡ has font.now name.now }
 {
     font.glyph(name).is_some()
@@ -84,7 +84,7 @@ pub(crate) fn has_glyph(font: &Font, name: &[u8]) -> bool
 
 /// Marks those parts that the font has.
 pub(crate) fn mark_parts(
-    font: &Font,
+    font: &Font<'_>,
     marks: &mut Marks<'_>,
     parts: &[&'static str],
 ) -> Result<(), AllocError>

@@ -19,7 +19,7 @@ use std::alloc::Global;
 use t1_font::{Font, PartsFault, join_parts};
 
 /// The lowest conflict of two fonts' shells, codes and glyphs, or want of memory.
-fn entries_conflict(alloc: Global, left: &Font, right: &Font) -> Result<(), Conflict>
+fn entries_conflict(alloc: Global, left: &Font<'_>, right: &Font<'_>) -> Result<(), Conflict>
     ensures ok { IfOk result (λ _. entries_conflict left.now right.now ≡ None) }
     ensures err { IfErr result (λ e. Tells e (entries_conflict left.now right.now)) }
 {
@@ -45,8 +45,8 @@ fn entries_conflict(alloc: Global, left: &Font, right: &Font) -> Result<(), Conf
 /// memory.
 fn runs_conflict(
     alloc: Global,
-    left: &Font,
-    right: &Font,
+    left: &Font<'_>,
+    right: &Font<'_>,
     left_runs: &Runs,
     right_runs: &Runs,
 ) -> Result<(), Conflict>
@@ -76,7 +76,7 @@ fn runs_conflict(
 }
 
 /// The font of the entries of two fonts whose states join, if it is within the limits.
-fn both(alloc: Global, left: &Font, right: &Font) -> Result<Font, Conflict>
+fn both<'a>(alloc: Global, left: &Font<'a>, right: &Font<'a>) -> Result<Font<'a>, Conflict>
     requires { states_conflict profile left.now right.now ≡ None }
     ensures ok { IfOk result (λ j. Join profile left.now right.now × (j ≡ joined_font profile left.now right.now)) }
     ensures err { IfErr result (λ e. Tells e (conflict profile left.now right.now)) }
@@ -93,7 +93,12 @@ fn both(alloc: Global, left: &Font, right: &Font) -> Result<Font, Conflict>
 
 /// The join of two fonts, or their lowest conflict. `runs` is what the runs of the left font's glyphs come to, and
 /// becomes what those of the join come to.
-fn joined(alloc: Global, left: &Font, right: &Font, runs: &mut Runs) -> Result<Font, Conflict>
+fn joined<'a>(
+    alloc: Global,
+    left: &Font<'a>,
+    right: &Font<'a>,
+    runs: &mut Runs,
+) -> Result<Font<'a>, Conflict>
     requires { IsRuns runs.old left.now }
     ensures ok { IfOk result (λ j. Join profile left.now right.now × (j ≡ joined_font profile left.now right.now)) }
     ensures err { IfErr result (λ e. Tells e (conflict profile left.now right.now)) }
@@ -116,7 +121,7 @@ fn joined(alloc: Global, left: &Font, right: &Font, runs: &mut Runs) -> Result<F
 }
 
 /// The join of two fonts, or their lowest conflict.
-fn merged(alloc: Global, left: &Font, right: &Font) -> Result<Font, Conflict>
+fn merged<'a>(alloc: Global, left: &Font<'a>, right: &Font<'a>) -> Result<Font<'a>, Conflict>
     ensures ok { IfOk result (λ j. Join profile left.now right.now × (j ≡ joined_font profile left.now right.now)) }
     ensures err { IfErr result (λ e. Tells e (conflict profile left.now right.now)) }
 {
@@ -127,7 +132,7 @@ fn merged(alloc: Global, left: &Font, right: &Font) -> Result<Font, Conflict>
 }
 
 /// A copy of a font, which is its join with itself.
-fn copied(alloc: Global, font: &Font) -> Result<Font, Conflict>
+fn copied<'a>(alloc: Global, font: &Font<'a>) -> Result<Font<'a>, Conflict>
     ensures ok { IfOk result (λ j. j ≡ font.now) }
     ensures err { IfErr result (λ e. e ≡ Conflict.Memory) }
 {
@@ -136,7 +141,7 @@ fn copied(alloc: Global, font: &Font) -> Result<Font, Conflict>
 }
 
 /// The join so far, or the first font where nothing is joined yet.
-fn latest<'a>(all: &'a Option<Font>, first: &'a Font) -> &'a Font
+fn latest<'t, 'a>(all: &'t Option<Font<'a>>, first: &'t Font<'a>) -> &'t Font<'a>
     ensures { result.now ≡ unwrap_or all.now first.now }
 {
     match all {
@@ -146,16 +151,16 @@ fn latest<'a>(all: &'a Option<Font>, first: &'a Font) -> &'a Font
 }
 
 /// The join of a font with others, from left to right.
-fn joined_from(alloc: Global, first: &Font, rest: &[Font]) -> Result<Font, Conflict>
+fn joined_from<'a>(alloc: Global, first: &Font<'a>, rest: &[Font<'a>]) -> Result<Font<'a>, Conflict>
     ensures ok { IfOk result (λ j. Merges profile (left_tree (Leaf first.now) rest.now) j) }
     ensures err { IfErr result (λ e. (e ≡ Conflict.Memory) ⊎ StopsAt first.now rest.now e) }
 {
     let Ok(mut runs) = runs_of(alloc, first) else {
         return Err(Conflict::Memory);
     };
-    let mut all: Option<Font> = None;
+    let mut all: Option<Font<'a>> = None;
     'rest: for font in rest {
-        let left = latest(&all, first);
+        let left = latest(&all, &*first);
         match joined(alloc, left, font, &mut runs) {
             Ok(more) => all = Some(more),
             Err(conflict) => return Err(conflict),
@@ -168,7 +173,7 @@ fn joined_from(alloc: Global, first: &Font, rest: &[Font]) -> Result<Font, Confl
 }
 
 /// The join of fonts from left to right.
-fn all_joined(alloc: Global, fonts: &[Font]) -> Result<Font, Conflict>
+fn all_joined<'a>(alloc: Global, fonts: &[Font<'a>]) -> Result<Font<'a>, Conflict>
     ensures ok { IfOk result (λ j. ComesTo fonts.now j) }
     ensures err { IfErr result (λ e. IsRefused fonts.now e) }
 {
@@ -189,7 +194,7 @@ fn all_joined(alloc: Global, fonts: &[Font]) -> Result<Font, Conflict>
 /// answered in place of either.
 ///
 /// Two subsets of one font always join, and their join is the subset of both sets of names.
-pub fn merge(alloc: Global, left: &Font, right: &Font) -> Result<Font, Conflict>
+pub fn merge<'a>(alloc: Global, left: &Font<'a>, right: &Font<'a>) -> Result<Font<'a>, Conflict>
     ensures ok { IfOk result (λ j. Join profile left.now right.now × (j ≡ joined_font profile left.now right.now)) }
     ensures err { IfErr result (λ e. Tells e (conflict profile left.now right.now)) }
     ensures subsets { MergesSubsets left.now right.now result }
@@ -203,7 +208,7 @@ pub fn merge(alloc: Global, left: &Font, right: &Font) -> Result<Font, Conflict>
 /// and else with the conflict of the first font that doesn't join those before it.
 ///
 /// Subsets of one font always join, and their join is the subset of all their sets of names.
-pub fn merge_all(alloc: Global, fonts: &[Font]) -> Result<Font, Conflict>
+pub fn merge_all<'a>(alloc: Global, fonts: &[Font<'a>]) -> Result<Font<'a>, Conflict>
     ensures ok { IfOk result (λ j. ComesTo fonts.now j) }
     ensures err { IfErr result (λ e. IsRefused fonts.now e) }
     ensures subsets { MergesAllSubsets fonts.now result }

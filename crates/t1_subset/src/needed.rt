@@ -30,7 +30,7 @@ pub struct Closure {
 /// Each glyph that is kept is run once.
 pub(crate) fn needed<'a>(
     alloc: Global,
-    font: &Font,
+    font: &Font<'_>,
     names: &[&'a [u8]],
 ) -> Result<(Marks<'a>, BTreeSet<u16>), AllocError>
     requires { IsOf font.now (asked names.now) }

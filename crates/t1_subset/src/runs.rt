@@ -24,7 +24,7 @@ pub(crate) struct Runs {
 /// What the run of a glyph comes to: the parts that it names, and the Subrs that it executes.
 pub(crate) fn run_of(
     alloc: Global,
-    font: &Font,
+    font: &Font<'_>,
     name: &[u8],
 ) -> Result<(Vec<&'static str>, BTreeSet<u16>), AllocError>
     ensures parts { IfOk result (λ r. map (λ s. s.now) r.0.items ≡ parts profile font.now.subrs (charstring font.now name.now)) }
@@ -43,7 +43,7 @@ pub(crate) fn run_of(
 /// The parts that a glyph of the font names.
 pub(crate) fn parts_of_glyph(
     alloc: Global,
-    font: &Font,
+    font: &Font<'_>,
     name: &[u8],
 ) -> Result<Vec<&'static str>, AllocError>
     ensures { IfOk result (λ ps. map (λ s. s.now) ps.items ≡ parts profile font.now.subrs (charstring font.now name.now)) }
@@ -69,7 +69,7 @@ fn add_parts(alloc: Global, parts: &mut NameSet, more: &[&str]) -> Result<(), Al
 }
 
 /// Adds what the run of a glyph comes to.
-fn add_run(alloc: Global, font: &Font, runs: &mut Runs, name: &[u8]) -> Result<(), AllocError>
+fn add_run(alloc: Global, font: &Font<'_>, runs: &mut Runs, name: &[u8]) -> Result<(), AllocError>
     ensures calls { OnOk result (number_set runs.new.calls ≡ sets.union (number_set runs.old.calls) (profile.exec font.now.subrs (charstring font.now name.now))) }
     ensures parts { OnOk result (runs.new.parts ≡ sets.union runs.old.parts (sets.from_list (parts profile font.now.subrs (charstring font.now name.now)))) }
 {
@@ -80,7 +80,7 @@ fn add_run(alloc: Global, font: &Font, runs: &mut Runs, name: &[u8]) -> Result<(
 }
 
 /// What the runs of all glyphs of the font come to, one run for each.
-pub(crate) fn runs_of(alloc: Global, font: &Font) -> Result<Runs, AllocError>
+pub(crate) fn runs_of(alloc: Global, font: &Font<'_>) -> Result<Runs, AllocError>
     ensures calls { IfOk result (λ runs. number_set runs.calls ≡ called_in font.now) }
     ensures parts { IfOk result (λ runs. runs.parts ≡ named_in font.now) }
 {

@@ -42,14 +42,14 @@ pub(crate) fn differ(left: Option<&[u8]>, right: Option<&[u8]>) -> bool
 }
 
 /// Whether the fonts have the same kept text, or words, here.
-fn same_text(left: &Font, right: &Font, part: Part) -> bool
+fn same_text(left: &Font<'_>, right: &Font<'_>, part: Part) -> bool
     ensures { result ≡ is_name (part_of part left.now.shell) (part_of part right.now.shell) }
 {
     same_bytes(left.text(part), right.text(part))
 }
 
 /// Whether the Encodings are the same word or both tables.
-fn same_encoding(left: &Font, right: &Font) -> bool
+fn same_encoding(left: &Font<'_>, right: &Font<'_>) -> bool
     ensures { result ≡ same_kind left.now.encoding right.now.encoding }
 {
     match (left.encoding_word(), right.encoding_word()) {
@@ -60,7 +60,7 @@ fn same_encoding(left: &Font, right: &Font) -> bool
 }
 
 /// Whether the same Subrs are present.
-fn same_indices(left: &Font, right: &Font) -> bool
+fn same_indices(left: &Font<'_>, right: &Font<'_>) -> bool
     ensures { result ≡ same_keys left.now.subrs right.now.subrs }
 {
     left.is_font();
@@ -75,7 +75,7 @@ fn same_indices(left: &Font, right: &Font) -> bool
 }
 
 /// Whether a part of the shells is the same.
-fn same_part(left: &Font, right: &Font, part: ShellPart) -> bool
+fn same_part(left: &Font<'_>, right: &Font<'_>, part: ShellPart) -> bool
     ensures { result ≡ same_part left.now right.now (shell_part part) }
 {
     match part {
@@ -104,7 +104,7 @@ fn same_part(left: &Font, right: &Font, part: ShellPart) -> bool
 }
 
 /// The first of these parts that differs.
-fn first_differing(left: &Font, right: &Font, parts: &[ShellPart]) -> Option<ShellPart>
+fn first_differing(left: &Font<'_>, right: &Font<'_>, parts: &[ShellPart]) -> Option<ShellPart>
     ensures { option_map shell_part result ≡ first_where (λ part. not (same_part left.now right.now part)) (map shell_part parts.now) }
 {
     'parts: for part in parts {
@@ -116,7 +116,7 @@ fn first_differing(left: &Font, right: &Font, parts: &[ShellPart]) -> Option<She
 }
 
 /// The first part in which the shells differ.
-pub(crate) fn shell_conflict(left: &Font, right: &Font) -> Option<ShellPart>
+pub(crate) fn shell_conflict(left: &Font<'_>, right: &Font<'_>) -> Option<ShellPart>
     ensures { option_map shell_part result ≡ shell_conflict left.now right.now }
 {
     first_differing(left, right, &PARTS)

@@ -17,11 +17,11 @@ use t1_font::{Font, restrict};
 /// The font cut to what a set of names needs of it, its closure: its glyphs and a table Encoding cut to the
 /// names that are kept, and each present Subr that isn't kept replaced by the charstring `return`, so that
 /// its index stays present (Adobe Type 1 Font Format 1.1, chapters 2 and 8). All else is as it is. Each
-/// glyph that is kept draws as in the font, or faults as in it.
+/// glyph that is kept draws as in the font, or faults as in it. The subset borrows from where the font borrows.
 ///
 /// It fails with [`SubsetFault::NoSuchGlyph`] where the font lacks a name that is asked for, the first
 /// such, and else for want of memory alone.
-pub fn subset(alloc: Global, font: &Font, names: &[&[u8]]) -> Result<Font, SubsetFault>
+pub fn subset<'a>(alloc: Global, font: &Font<'a>, names: &[&[u8]]) -> Result<Font<'a>, SubsetFault>
     ensures ok { IfOk result (λ s. s ≡ subset profile font.now (asked names.now)) }
     ensures draws { IfOk result (λ s. (n : List ℕ) → sets.contains (keep profile font.now (asked names.now)) n ≡ true → DrawsAlike font.now s n) }
     ensures present { OnOk result (first_where (λ n. not (has font.now n)) (lent names.now) ≡ None) }

@@ -33,7 +33,7 @@ fn put<'a, K: Key + Drop>(
 /// The names of the codes of a table Encoding.
 pub(crate) fn code_table<'a>(
     alloc: Global,
-    font: &'a Font,
+    font: &'a Font<'_>,
 ) -> Result<Table<u16, &'a [u8]>, AllocError>
     ensures { IfOk result (λ table. (c : ℕ) → fin.get table (of_number c) ≡ code_state font.now.encoding c) }
 {
@@ -48,7 +48,7 @@ pub(crate) fn code_table<'a>(
 /// The charstrings of the glyphs.
 pub(crate) fn glyph_table<'a>(
     alloc: Global,
-    font: &'a Font,
+    font: &'a Font<'_>,
 ) -> Result<Table<&'a [u8], &'a [u8]>, AllocError>
     ensures { IfOk result (λ table. (n : List ℕ) → fin.get table n ≡ fin.get font.now.glyphs n) }
 {
@@ -70,7 +70,7 @@ fn past_stub(entry: Option<&[u8]>) -> Option<&[u8]>
 }
 
 /// The Subrs that are no `return`.
-fn entry_table<'a>(alloc: Global, font: &'a Font) -> Result<Table<u16, &'a [u8]>, AllocError>
+fn entry_table<'a>(alloc: Global, font: &'a Font<'_>) -> Result<Table<u16, &'a [u8]>, AllocError>
     ensures { IfOk result (λ table. (i : ℕ) → fin.get table (of_number i) ≡ past_stub (fin.get font.now.subrs i)) }
 {
     font.is_font();
@@ -84,7 +84,7 @@ fn entry_table<'a>(alloc: Global, font: &'a Font) -> Result<Table<u16, &'a [u8]>
 /// The states of the Subrs, of which the glyphs execute these: each entry but a `return` that is not executed.
 pub(crate) fn subr_table<'a>(
     alloc: Global,
-    font: &'a Font,
+    font: &'a Font<'_>,
     calls: &BTreeSet<u16>,
 ) -> Result<Table<u16, &'a [u8]>, AllocError>
     requires { number_set calls.now ≡ called_in font.now }

@@ -18,7 +18,7 @@ use t1_font::Font;
 use t1_run::Subroutines;
 
 /// Whether each Subr that both fonts have is the same.
-fn same_entries(left: &Font, right: &Font) -> bool
+fn same_entries(left: &Font<'_>, right: &Font<'_>) -> bool
     ensures { result ≡ true → EntriesAgree left.now right.now }
 {
     left.is_font();
@@ -34,8 +34,8 @@ fn same_entries(left: &Font, right: &Font) -> bool
 /// The smallest index at which the states of both fonts don't join, by what the glyphs of each execute.
 pub(crate) fn subr_conflict(
     alloc: Global,
-    left: &Font,
-    right: &Font,
+    left: &Font<'_>,
+    right: &Font<'_>,
     left_calls: &BTreeSet<u16>,
     right_calls: &BTreeSet<u16>,
 ) -> Result<Option<u16>, AllocError>
@@ -75,7 +75,7 @@ pub(crate) fn smaller(first: Option<Vec<u8>>, second: Option<Vec<u8>>) -> Option
 }
 
 /// The smallest glyph of the font that executes the index.
-fn first_user(alloc: Global, font: &Font, index: u16) -> Result<Option<Vec<u8>>, AllocError>
+fn first_user(alloc: Global, font: &Font<'_>, index: u16) -> Result<Option<Vec<u8>>, AllocError>
     ensures { IfOk result (λ name. option_map bytes_of name ≡ first_where (λ n. executes profile font.now n index) (names_in font.now.glyphs)) }
 {
     'names: for name in font.names() {
@@ -89,8 +89,8 @@ fn first_user(alloc: Global, font: &Font, index: u16) -> Result<Option<Vec<u8>>,
 /// The smallest glyph of either font that executes the index there.
 pub(crate) fn user(
     alloc: Global,
-    left: &Font,
-    right: &Font,
+    left: &Font<'_>,
+    right: &Font<'_>,
     index: u16,
 ) -> Result<Option<Vec<u8>>, AllocError>
     ensures { IfOk result (λ name. option_map bytes_of name ≡ smallest (used_by profile left.now right.now index) (glyph_names left.now right.now)) }

@@ -5,7 +5,7 @@ use super::subsets::subset;
 use super::tiny::PFA;
 use std::alloc::Global;
 use std::test::Fail;
-use t1_font::{Font, read};
+use t1_font::{Source, read};
 
 #[test]
 fn glyphs_of_tiny(rt: HostRuntime) {
@@ -195,7 +195,10 @@ fn is_as_in_tiny(alloc: Global, file: &[u8], name: &[u8]) -> bool {
 }
 
 /// How many glyphs the font of a file has, where each draws as it does in Tiny; 0 where one doesn't.
-fn count_drawn(alloc: Global, font: &Font, file: &[u8]) -> usize {
+fn count_drawn(alloc: Global, source: &Source, file: &[u8]) -> usize {
+    let Ok(font) = source.font(alloc) else {
+        return 0;
+    };
     let mut count = 0usize;
     for name in font.names() {
         if !is_as_in_tiny(alloc, file, name) {
@@ -210,7 +213,7 @@ fn count_drawn(alloc: Global, font: &Font, file: &[u8]) -> usize {
 fn drawn_as_in_tiny(alloc: Global, names: &[&[u8]]) -> usize {
     let file = subset(alloc, PFA, names);
     match read(alloc, file.as_slice()) {
-        Ok(font) => count_drawn(alloc, &font, file.as_slice()),
+        Ok(source) => count_drawn(alloc, &source, file.as_slice()),
         Err(_) => 0,
     }
 }

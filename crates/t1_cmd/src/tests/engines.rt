@@ -1,7 +1,7 @@
 //! The engines over one font: what they write of the font Tiny and of changed ones, and how they end.
 use super::changed::tiny_encoded;
 use super::tiny::{PFA, PFB};
-use super::{FINE, Plan, Sink, Source, line_of, word};
+use super::{FINE, Feed, Plan, Sink, line_of, word};
 use crate::{Counted, RunFault, run_check, run_convert, run_list, run_show, run_subset};
 use std::alloc::Global;
 use std::io::{ErrorKind, Read, Write};
@@ -163,7 +163,7 @@ fn encodings_are_listed(rt: HostRuntime) -> Result<(), Fail> {
 /// How an engine ends over a reader of a plan, as a word, how many calls of that reader failed, and how many calls of the
 /// writer were made.
 fn read_by(alloc: Global, engine: Engine<'_>, plan: Plan) -> (&'static str, u64, u64) {
-    let mut reader = Source::new(PFA, plan);
+    let mut reader = Feed::new(PFA, plan);
     let mut out = Counted::new(Sink::new(Vec::new(alloc), FINE));
     let ended = run(alloc, engine, &mut reader, &mut out);
     (word(&ended), reader.failed(), out.calls())
@@ -202,7 +202,7 @@ fn written_by(
     whole: &[u8],
 ) -> (&'static str, u64, bool) {
     let mut out = Counted::new(Sink::new(Vec::new(alloc), plan));
-    let ended = run(alloc, engine, &mut Source::new(PFA, FINE), &mut out);
+    let ended = run(alloc, engine, &mut Feed::new(PFA, FINE), &mut out);
     let failed = out.failed();
     let text = out.into_inner().text;
     (word(&ended), failed, whole.starts_with(text.as_slice()))

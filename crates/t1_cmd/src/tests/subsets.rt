@@ -5,7 +5,7 @@ use super::tiny::{PFA, PFB};
 use std::alloc::{AllocError, Global};
 use std::test::Fail;
 use t1_bytes::EEXEC_KEY;
-use t1_font::{Font, Form, read};
+use t1_font::{Font, Form, Source, read};
 use t1_run::Subroutines;
 
 /// The PFA file of a subset, or the line of its refusal.
@@ -14,7 +14,7 @@ pub fn subset(alloc: Global, input: &[u8], names: &[&[u8]]) -> Vec<u8> {
 }
 
 /// Adds the names of a font's glyphs.
-fn push_names(font: &Font, text: &mut Vec<u8>) -> Result<(), AllocError> {
+fn push_names(font: &Font<'_>, text: &mut Vec<u8>) -> Result<(), AllocError> {
     for name in font.names() {
         text.extend_from_slice(name)?;
         text.push(b' ')?;
@@ -31,7 +31,7 @@ fn acts(plain: Option<&[u8]>) -> bool {
 }
 
 /// Adds a digit for each of a font's Subrs that is no `return`.
-fn push_subrs(font: &Font, text: &mut Vec<u8>) -> Result<(), AllocError> {
+fn push_subrs(font: &Font<'_>, text: &mut Vec<u8>) -> Result<(), AllocError> {
     for index in 0..10u16 {
         if acts(font.get(index)) {
             text.push(b'0' + index as u8)?;
@@ -41,16 +41,17 @@ fn push_subrs(font: &Font, text: &mut Vec<u8>) -> Result<(), AllocError> {
 }
 
 /// The names of a font's glyphs, and its Subrs that are no `return`.
-fn kept(alloc: Global, font: &Font) -> Result<Vec<u8>, AllocError> {
+fn kept(alloc: Global, source: &Source) -> Result<Vec<u8>, AllocError> {
+    let font = source.font(alloc)?;
     let mut text = Vec::new(alloc);
-    push_names(font, &mut text)?;
-    push_subrs(font, &mut text)?;
+    push_names(&font, &mut text)?;
+    push_subrs(&font, &mut text)?;
     Ok(text)
 }
 
 /// Whether this is what a font keeps.
-fn font_keeps(alloc: Global, font: &Font, want: &[u8]) -> bool {
-    match kept(alloc, font) {
+fn font_keeps(alloc: Global, source: &Source, want: &[u8]) -> bool {
+    match kept(alloc, source) {
         Ok(text) => text.as_slice() == want,
         Err(_) => false,
     }
@@ -60,7 +61,7 @@ fn font_keeps(alloc: Global, font: &Font, want: &[u8]) -> bool {
 fn keeps(alloc: Global, input: &[u8], names: &[&[u8]], want: &[u8]) -> bool {
     let file = subset(alloc, input, names);
     match read(alloc, file.as_slice()) {
-        Ok(font) => font_keeps(alloc, &font, want),
+        Ok(source) => font_keeps(alloc, &source, want),
         Err(_) => false,
     }
 }

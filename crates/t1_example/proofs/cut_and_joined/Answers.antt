@@ -9,23 +9,23 @@ use Rattle.t1_example.specs.Joining.{IsMemory, union_subset}
 use Rattle.t1_example.proofs.Callers.{readable, file_refused, drawn}
 use Rattle.t1_example.proofs.cut_and_joined.Goals as goal
 
-pub returns-in_err-font-clause-bytes : goal.returns-in_err-font-clause-bytes
-returns-in_err-font-clause-bytes c = let p = err_from_is_err_and c.from_residual.result c.from_residual.ensures.1 in rw (p.1, p.2) (λ f k.
-    file_refused c.args.file.now (asked c.args.first.now) (asked c.args.second.now) c.args.form f c.in_err-font.field-0.0 k c.in_err-font.ensures.exact)
+pub returns-in_err-source-clause-bytes : goal.returns-in_err-source-clause-bytes
+returns-in_err-source-clause-bytes c = let p = err_from_is_err_and c.from_residual.result c.from_residual.ensures.1 in rw (p.1, p.2) (λ f k.
+    file_refused c.args.file.now (asked c.args.first.now) (asked c.args.second.now) c.args.form f c.in_err-source.field-0.0 k c.in_err-source.ensures.exact)
 
-pub returns-in_err-font-clause-draws : goal.returns-in_err-font-clause-draws
-returns-in_err-font-clause-draws c = let p = err_from_is_err_and c.from_residual.result c.from_residual.ensures.1 in rw (p.1) (λ f k. tt)
+pub returns-in_err-source-clause-draws : goal.returns-in_err-source-clause-draws
+returns-in_err-source-clause-draws c = let p = err_from_is_err_and c.from_residual.result c.from_residual.ensures.1 in rw (p.1) (λ f k. tt)
 
 pub returns-in_err-one-clause-bytes : goal.returns-in_err-one-clause-bytes
 returns-in_err-one-clause-bytes c = let p = err_from_is_err_and c.from_residual-in_err-one.result c.from_residual-in_err-one.ensures.1 in rw (p.1, p.2) (λ f k.
-    let r = readable c.args.file.now (asked c.args.first.now) (asked c.args.second.now) c.args.form f c.in_ok-font.font k c.in_ok-font.ensures.right in c.in_err-one.ensures r.first r.fits)
+    let r = readable c.args.file.now (asked c.args.first.now) (asked c.args.second.now) c.args.form f c.in_ok-source.source k c.in_ok-source.ensures.right in c.in_err-one.ensures r.first r.fits)
 
 pub returns-in_err-one-clause-draws : goal.returns-in_err-one-clause-draws
 returns-in_err-one-clause-draws c = let p = err_from_is_err_and c.from_residual-in_err-one.result c.from_residual-in_err-one.ensures.1 in rw (p.1) (λ f k. tt)
 
 pub returns-in_err-other-clause-bytes : goal.returns-in_err-other-clause-bytes
 returns-in_err-other-clause-bytes c = let p = err_from_is_err_and c.from_residual-in_err-other.result c.from_residual-in_err-other.ensures.1 in rw (p.1, p.2) (λ f k.
-    let r = readable c.args.file.now (asked c.args.first.now) (asked c.args.second.now) c.args.form f c.in_ok-font.font k c.in_ok-font.ensures.right in c.in_err-other.ensures r.second r.fits)
+    let r = readable c.args.file.now (asked c.args.first.now) (asked c.args.second.now) c.args.form f c.in_ok-source.source k c.in_ok-source.ensures.right in c.in_err-other.ensures r.second r.fits)
 
 pub returns-in_err-other-clause-draws : goal.returns-in_err-other-clause-draws
 returns-in_err-other-clause-draws c = let p = err_from_is_err_and c.from_residual-in_err-other.result c.from_residual-in_err-other.ensures.1 in rw (p.1) (λ f k. tt)
@@ -34,14 +34,14 @@ pub returns-clause-bytes : goal.returns-clause-bytes
 returns-clause-bytes c = λ f k.
     let a = asked c.args.first.now in
     let b = asked c.args.second.now in
-    let r = readable c.args.file.now a b c.args.form f c.in_ok-font.font k c.in_ok-font.ensures.right in
+    let r = readable c.args.file.now a b c.args.form f c.in_ok-source.source k c.in_ok-source.ensures.right in
     subst (λ (j : FontValue). MatchResult c.joined.result (λ (v : Vec ℕ Global). v.items ≡ canon (union_subset j a b) c.args.form) IsMemory) r.is
-    (c.joined.ensures c.in_ok-font.font a b (subst (λ (j : FontValue). IsFont j) c.font.view_is c.font.invariant) r.first r.second
+    (c.joined.ensures c.in_ok-source.source a b (subst (λ (j : FontValue). IsFont j) c.source.view_is c.source.invariant) r.first r.second
     (ap read_font c.as_slice.ensures.value ∙ c.in_ok-one.ensures r.first r.fits, ap read_font c.as_slice-2.ensures.value ∙ c.in_ok-other.ensures r.second r.fits))
 
 pub returns-clause-draws : goal.returns-clause-draws
 returns-clause-draws c = λ f k.
     let a = asked c.args.first.now in
     let b = asked c.args.second.now in
-    let r = readable c.args.file.now a b c.args.form f c.in_ok-font.font k c.in_ok-font.ensures.right in
-    drawn c.joined.result f a b c.args.form (subst (λ (j : FontValue). IsFont j) (c.font.view_is ∙ r.is) c.font.invariant) k.first k.second k.fits (returns-clause-bytes c f k)
+    let r = readable c.args.file.now a b c.args.form f c.in_ok-source.source k c.in_ok-source.ensures.right in
+    drawn c.joined.result f a b c.args.form (subst (λ (j : FontValue). IsFont j) (c.source.view_is ∙ r.is) c.source.invariant) k.first k.second k.fits (returns-clause-bytes c f k)

@@ -1,9 +1,9 @@
 //! What is written is read again: other words, other numbers of lead bytes, no Subrs, one glyph.
 
 use super::rows::{private, with};
-use super::tiny::PFA;
-use super::{CLEAR, GLYPHS, counts, file, joined, rewritten};
-use crate::{Font, Form, Part, ReadFault, read};
+use super::tiny::{PFA, PFB};
+use super::{CLEAR, GLYPHS, counts, file, joined, lent_file, rewritten};
+use crate::{Font, Form, Part, ReadFault, Source, read, write};
 use bstr::ByteSlice;
 use std::alloc::{AllocError, Global};
 use std::test::Fail;
@@ -49,7 +49,7 @@ fn written(alloc: Global, file: &[u8]) -> Result<Vec<u8>, AllocError> {
 
 /// The kept words of a font, each with a blank: those around the bytes of a Subr, after the last Subr, and those around
 /// the bytes of a glyph.
-fn words_of(alloc: Global, font: &Font) -> Result<Vec<u8>, AllocError> {
+fn words_of(alloc: Global, font: &Font<'_>) -> Result<Vec<u8>, AllocError> {
     let mut words = Vec::new(alloc);
     for part in [
         Part::SubrsRd,
@@ -64,10 +64,16 @@ fn words_of(alloc: Global, font: &Font) -> Result<Vec<u8>, AllocError> {
     Ok(words)
 }
 
+/// The same of the font that a source lends.
+fn lent_words(alloc: Global, source: &Source) -> Result<Vec<u8>, AllocError> {
+    let font = source.font(alloc)?;
+    words_of(alloc, &font)
+}
+
 /// The same of a file's font.
 fn words(alloc: Global, file: &[u8]) -> Result<Vec<u8>, AllocError> {
     match read(alloc, file) {
-        Ok(font) => words_of(alloc, &font),
+        Ok(source) => lent_words(alloc, &source),
         Err(_) => Err(AllocError),
     }
 }
@@ -137,4 +143,27 @@ fn both_forms_are_read_again(rt: HostRuntime) -> Result<(), Fail> {
         "no Subrs but a count, no codes"
     );
     Ok(())
+}
+
+/// Whether a source lends the font of this canonical PFB each time, and while it is lent once already.
+fn lends_again(alloc: Global, source: &Source, pfb: &[u8]) -> Result<bool, AllocError> {
+    let font = source.font(alloc)?;
+    let again = lent_file(alloc, source, Form::Pfb)?;
+    let first = write(alloc, &font, Form::Pfb)?;
+    Ok(first.as_slice() == pfb && again.as_slice() == pfb)
+}
+
+/// Whether a file's font is lent twice as the font of this canonical PFB.
+fn is_lent_twice(alloc: Global, file: &[u8], pfb: &[u8]) -> bool {
+    match read(alloc, file) {
+        Ok(source) => lends_again(alloc, &source, pfb).is_ok_and(|same| same),
+        Err(_) => false,
+    }
+}
+
+#[test]
+fn a_source_lends_its_font_twice(rt: HostRuntime) {
+    for (name, file) in [("PFA", PFA.as_slice()), ("PFB", PFB.as_slice())] {
+        assert!(rt; is_lent_twice(rt.alloc(), file, PFB), "the {name}");
+    }
 }

@@ -9,10 +9,10 @@ ghost use Rattle.t1_font.specs.Cut.{set_of_names, restrict};
 ghost use Rattle.t1_font.specs.Canon.{canon};
 ghost use Rattle.t1_font.specs.IsFont.{IsFont};
 
-use super::file;
 use super::rows::with;
 use super::tiny::{PFA, PFB};
-use crate::{Font, Form, PartsFault, STUB, join_parts, read, restrict, write};
+use super::{file, lent_file};
+use crate::{Font, Form, PartsFault, STUB, Source, join_parts, read, restrict, write};
 use std::alloc::{AllocError, Global};
 use std::collections::BTreeSet;
 use std::ops::Range;
@@ -20,7 +20,7 @@ use std::test::Fail;
 use t1_run::{Glyphs, Subroutines};
 
 /// `.notdef`, and those of these names that the font has.
-fn known(alloc: Global, font: &Font, names: &[&[u8]]) -> Result<Vec<Vec<u8>>, AllocError>
+fn known(alloc: Global, font: &Font<'_>, names: &[&[u8]]) -> Result<Vec<Vec<u8>>, AllocError>
     ensures known { IfOk result (λ v. (n : List ℕ) → sets.contains (set_of_names v.items) n ≡ true → fin.contains_key font.now.glyphs n ≡ true) }
     ensures notdef { IfOk result (λ v. sets.contains (set_of_names v.items) notdef ≡ true) }
 {
@@ -45,7 +45,12 @@ fn set_of(alloc: Global, indices: &[u16]) -> Result<BTreeSet<u16>, AllocError> {
 }
 
 /// The canonical PFB of a font that is cut to `.notdef`, to those of the names that it has, and to these Subrs.
-fn cut(alloc: Global, font: &Font, names: &[&[u8]], subrs: &[u16]) -> Result<Vec<u8>, AllocError>
+fn cut(
+    alloc: Global,
+    font: &Font<'_>,
+    names: &[&[u8]],
+    subrs: &[u16],
+) -> Result<Vec<u8>, AllocError>
     ensures { IfOk result (λ v. (p : List ℕ → Bool) × ((s : ℕ → Bool) × (IsFont (restrict p s font.now) × (v.items ≡ canon (restrict p s font.now) Pfb)))) }
 {
     let names = known(alloc, font, names)?;
@@ -57,7 +62,7 @@ fn cut(alloc: Global, font: &Font, names: &[&[u8]], subrs: &[u16]) -> Result<Vec
 
 /// The canonical PFB of the font of the entries of both. Cut to `.notdef` alone both have to be one font, so that
 /// nothing but the entries of their tables tells them apart.
-fn both(alloc: Global, first: &Font, second: &Font) -> Result<Vec<u8>, PartsFault> {
+fn both<'a>(alloc: Global, first: &Font<'a>, second: &Font<'a>) -> Result<Vec<u8>, PartsFault> {
     let one = cut(alloc, first, &[], &[])?;
     let other = cut(alloc, second, &[], &[])?;
     if one.as_slice() != other.as_slice() {
@@ -67,10 +72,30 @@ fn both(alloc: Global, first: &Font, second: &Font) -> Result<Vec<u8>, PartsFaul
     Ok(write(alloc, &joined, Form::Pfb)?)
 }
 
-/// The same, of a font and that of a file.
-fn joined_with(alloc: Global, first: &Font, second: &[u8]) -> Result<Vec<u8>, PartsFault> {
+/// The same, of a font and that of a source.
+fn joined_to<'a>(
+    alloc: Global,
+    first: &Font<'a>,
+    second: &'a Source,
+) -> Result<Vec<u8>, PartsFault> {
+    let second = second.font(alloc)?;
+    both(alloc, first, &second)
+}
+
+/// The same, of the fonts of two sources.
+fn lent_joined<'a>(
+    alloc: Global,
+    first: &'a Source,
+    second: &'a Source,
+) -> Result<Vec<u8>, PartsFault> {
+    let first = first.font(alloc)?;
+    joined_to(alloc, &first, second)
+}
+
+/// The same, of the fonts of a source and of a file.
+fn joined_with(alloc: Global, first: &Source, second: &[u8]) -> Result<Vec<u8>, PartsFault> {
     match read(alloc, second) {
-        Ok(second) => both(alloc, first, &second),
+        Ok(second) => lent_joined(alloc, first, &second),
         Err(_) => Err(PartsFault::Memory),
     }
 }
@@ -91,16 +116,27 @@ fn joins_to(alloc: Global, first: &[u8], second: &[u8], want: &[u8]) -> bool {
     }
 }
 
-/// The canonical PFB of Tiny, cut to `.notdef`, to these names and to these Subrs.
-fn tiny_cut(alloc: Global, names: &[&[u8]], subrs: &[u16]) -> Result<Vec<u8>, AllocError> {
-    let Ok(font) = read(alloc, PFA) else {
-        return Err(AllocError);
-    };
+/// The canonical PFB of the font of a source, cut to `.notdef`, to those of the names that it has, and to these Subrs.
+fn lent_cut(
+    alloc: Global,
+    source: &Source,
+    names: &[&[u8]],
+    subrs: &[u16],
+) -> Result<Vec<u8>, AllocError> {
+    let font = source.font(alloc)?;
     cut(alloc, &font, names, subrs)
 }
 
+/// The canonical PFB of Tiny, cut to `.notdef`, to these names and to these Subrs.
+fn tiny_cut(alloc: Global, names: &[&[u8]], subrs: &[u16]) -> Result<Vec<u8>, AllocError> {
+    let Ok(source) = read(alloc, PFA) else {
+        return Err(AllocError);
+    };
+    lent_cut(alloc, &source, names, subrs)
+}
+
 /// The names of a font's glyphs, each with a blank.
-fn names_text(alloc: Global, font: &Font) -> Result<Vec<u8>, AllocError> {
+fn names_text(alloc: Global, font: &Font<'_>) -> Result<Vec<u8>, AllocError> {
     let mut text = Vec::new(alloc);
     for name in font.names() {
         text.extend_from_slice(name)?;
@@ -110,7 +146,7 @@ fn names_text(alloc: Global, font: &Font) -> Result<Vec<u8>, AllocError> {
 }
 
 /// The digits of a font's ten Subrs, with a dash for one that is `return`.
-fn subrs_text(alloc: Global, font: &Font) -> Result<Vec<u8>, AllocError> {
+fn subrs_text(alloc: Global, font: &Font<'_>) -> Result<Vec<u8>, AllocError> {
     let mut text = Vec::new(alloc);
     for index in 0..10u8 {
         let is_stub = font.get(u16::from(index)) == Some(STUB);
@@ -120,23 +156,24 @@ fn subrs_text(alloc: Global, font: &Font) -> Result<Vec<u8>, AllocError> {
 }
 
 /// The names and the Subrs of a font as a text.
-fn entries_text(alloc: Global, font: &Font) -> Result<Vec<u8>, AllocError> {
+fn entries_text(alloc: Global, font: &Font<'_>) -> Result<Vec<u8>, AllocError> {
     let mut text = names_text(alloc, font)?;
     text.extend_from_slice(subrs_text(alloc, font)?.as_slice())?;
     Ok(text)
 }
 
-/// What a font shows: the names and the Subrs as a text, its weight, and the length of its PFA.
-fn shown_of(alloc: Global, font: &Font) -> Result<(Vec<u8>, u32, usize), AllocError> {
-    let length = write(alloc, font, Form::Pfa)?.len();
-    let text = entries_text(alloc, font)?;
+/// What the font of a source shows: the names and the Subrs as a text, its weight, and the length of its PFA.
+fn lent_shown(alloc: Global, source: &Source) -> Result<(Vec<u8>, u32, usize), AllocError> {
+    let length = lent_file(alloc, source, Form::Pfa)?.len();
+    let font = source.font(alloc)?;
+    let text = entries_text(alloc, &font)?;
     Ok((text, font.weight(), length))
 }
 
 /// The same of a file's font.
 fn shown(alloc: Global, file: &[u8]) -> Result<(Vec<u8>, u32, usize), AllocError> {
     match read(alloc, file) {
-        Ok(font) => shown_of(alloc, &font),
+        Ok(source) => lent_shown(alloc, &source),
         Err(_) => Err(AllocError),
     }
 }
@@ -198,16 +235,96 @@ fn joins_of_tiny(rt: HostRuntime) -> Result<(), Fail> {
     let y = tiny_cut(rt.alloc(), &[b"Y"], &[0, 1, 2, 3, 5, 6])?;
     let both = tiny_cut(rt.alloc(), &[b"X", b"Y"], &[0, 1, 2, 3, 5, 6])?;
     let other = with(rt.alloc(), PFB, b"dup 66 /Y put", b"dup 66 /A put")?;
-    let rows: [(&[u8], &[u8], &[u8], &str); 5] = [
+    let rows: [(&[u8], &[u8], &[u8], &str); 6] = [
         (&x, &y, &both, "two cuts"),
         (&y, &x, &both, "in the other order"),
         (PFB, &x, PFB, "a font and its cut"),
+        (&x, PFB, PFB, "a cut and its font"),
         (PFB, &other, PFB, "two names of a code"),
         (&other, PFB, &other, "the first stands"),
     ];
     for (first, second, want, what) in rows {
         assert!(rt; joins_to(rt.alloc(), first, second, want), "{what}");
     }
+    Ok(())
+}
+
+/// A font that is cut to `.notdef`, to those of the names that it has, and to these Subrs.
+fn cut_font<'a>(
+    alloc: Global,
+    font: &Font<'a>,
+    names: &[&[u8]],
+    subrs: &[u16],
+) -> Result<Font<'a>, AllocError> {
+    let names = known(alloc, font, names)?;
+    let subrs = set_of(alloc, subrs)?;
+    restrict(alloc, font, names.as_slice(), &subrs)
+}
+
+/// The same of the font of a source, which is lent for no longer than it is cut.
+fn lent_cut_font<'a>(
+    alloc: Global,
+    source: &'a Source,
+    names: &[&[u8]],
+    subrs: &[u16],
+) -> Result<Font<'a>, AllocError> {
+    let font = source.font(alloc)?;
+    cut_font(alloc, &font, names, subrs)
+}
+
+/// The canonical PFB of the entries of X of the first source's font and of Y of the second's, neither of them written
+/// and read again on the way.
+fn lent_x_and_y<'a>(
+    alloc: Global,
+    first: &'a Source,
+    second: &'a Source,
+) -> Result<Vec<u8>, PartsFault> {
+    let x = lent_cut_font(alloc, first, &[b"X"], &[0, 1, 2, 3, 5])?;
+    let y = lent_cut_font(alloc, second, &[b"Y"], &[0, 1, 2, 3, 5, 6])?;
+    both(alloc, &x, &y)
+}
+
+/// The same, of a source and of a file.
+fn x_and_y_with(alloc: Global, first: &Source, second: &[u8]) -> Result<Vec<u8>, PartsFault> {
+    match read(alloc, second) {
+        Ok(second) => lent_x_and_y(alloc, first, &second),
+        Err(_) => Err(PartsFault::Memory),
+    }
+}
+
+/// The same, of two files.
+fn x_and_y(alloc: Global, first: &[u8], second: &[u8]) -> Result<Vec<u8>, PartsFault> {
+    match read(alloc, first) {
+        Ok(first) => x_and_y_with(alloc, &first, second),
+        Err(_) => Err(PartsFault::Memory),
+    }
+}
+
+/// The same, of one file that is read once.
+fn x_and_y_of_one(alloc: Global, file: &[u8]) -> Result<Vec<u8>, PartsFault> {
+    match read(alloc, file) {
+        Ok(source) => lent_x_and_y(alloc, &source, &source),
+        Err(_) => Err(PartsFault::Memory),
+    }
+}
+
+#[test]
+fn joins_of_fonts_of_two_sources(rt: HostRuntime) -> Result<(), Fail> {
+    let x = tiny_cut(rt.alloc(), &[b"X"], &[0, 1, 2, 3, 5])?;
+    let y = tiny_cut(rt.alloc(), &[b"Y"], &[0, 1, 2, 3, 5, 6])?;
+    let both = tiny_cut(rt.alloc(), &[b"X", b"Y"], &[0, 1, 2, 3, 5, 6])?;
+    let rows: [(&[u8], &[u8], &str); 4] = [
+        (PFA, PFB, "cuts of two sources of one font"),
+        (PFA, &y, "a cut, and a font that was cut before"),
+        (&x, PFB, "a font that was cut before, and a cut"),
+        (&x, &y, "two fonts that were cut before"),
+    ];
+    for (first, second, what) in rows {
+        let got = x_and_y(rt.alloc(), first, second)?;
+        assert!(rt; got.as_slice() == both.as_slice(), "{what}");
+    }
+    let got = x_and_y_of_one(rt.alloc(), PFA)?;
+    assert!(rt; got.as_slice() == both.as_slice(), "cuts of one source");
     Ok(())
 }
 
@@ -287,7 +404,7 @@ fn large(alloc: Global) -> Result<Vec<u8>, AllocError> {
 /// The canonical PFB of a font that is cut to `.notdef`, to the names of such lengths, and to these Subrs.
 fn part_of(
     alloc: Global,
-    font: &Font,
+    font: &Font<'_>,
     lengths: Range<usize>,
     subrs: Range<u16>,
 ) -> Result<Vec<u8>, AllocError> {
@@ -299,6 +416,17 @@ fn part_of(
     cut(alloc, font, names.as_slice(), subrs.as_slice())
 }
 
+/// The same of the font of a source.
+fn lent_part(
+    alloc: Global,
+    source: &Source,
+    lengths: Range<usize>,
+    subrs: Range<u16>,
+) -> Result<Vec<u8>, AllocError> {
+    let font = source.font(alloc)?;
+    part_of(alloc, &font, lengths, subrs)
+}
+
 /// The same of a file's font.
 fn part(
     alloc: Global,
@@ -307,13 +435,13 @@ fn part(
     subrs: Range<u16>,
 ) -> Result<Vec<u8>, AllocError> {
     match read(alloc, file) {
-        Ok(font) => part_of(alloc, &font, lengths, subrs),
+        Ok(source) => lent_part(alloc, &source, lengths, subrs),
         Err(_) => Err(AllocError),
     }
 }
 
 /// How many glyphs a font has, its weight, and whether its codes 99 and 100 have names.
-fn counts_of(font: &Font) -> (usize, u32, bool, bool) {
+fn counts_of(font: &Font<'_>) -> (usize, u32, bool, bool) {
     let codes = (
         font.encoding_at(99).is_some(),
         font.encoding_at(100).is_some(),
@@ -321,10 +449,18 @@ fn counts_of(font: &Font) -> (usize, u32, bool, bool) {
     (font.names().count(), font.weight(), codes.0, codes.1)
 }
 
+/// Whether the font of a source has these.
+fn lent_counts_as(alloc: Global, source: &Source, want: (usize, u32, bool, bool)) -> bool {
+    match source.font(alloc) {
+        Ok(font) => counts_of(&font) == want,
+        Err(_) => false,
+    }
+}
+
 /// Whether a file's font has these.
 fn counts_as(alloc: Global, file: &[u8], want: (usize, u32, bool, bool)) -> bool {
     match read(alloc, file) {
-        Ok(font) => counts_of(&font) == want,
+        Ok(source) => lent_counts_as(alloc, &source, want),
         Err(_) => false,
     }
 }

@@ -1,8 +1,8 @@
 //! The borders of the grammar: what still reads, and what it reads as.
 
-use super::{CLEAR, GLYPHS, counts, fault, file, font, joined, rewritten};
-use crate::{Font, Form, ReadFault};
-use std::alloc::Global;
+use super::{CLEAR, GLYPHS, counts, fault, file, joined, rewritten, source};
+use crate::{Font, Form, ReadFault, Source};
+use std::alloc::{AllocError, Global};
 use std::test::Fail;
 use t1_run::Subroutines;
 
@@ -117,7 +117,7 @@ fn codes_at_their_limits(rt: HostRuntime) -> Result<(), Fail> {
 
 /// What a font says of codes 65 and 66: whether the first has no name, and the second the name Y; and whether it has a
 /// table.
-fn codes(font: &Font) -> (bool, bool, bool) {
+fn codes(font: &Font<'_>) -> (bool, bool, bool) {
     (
         font.encoding_at(65).is_none(),
         font.encoding_at(66) == Some(b"Y".as_slice()),
@@ -126,7 +126,7 @@ fn codes(font: &Font) -> (bool, bool, bool) {
 }
 
 /// What a font says of its Subrs: whether there is a table, how many are declared, and whether 0 and 2 are present.
-fn subrs(font: &Font) -> (bool, u16, bool, bool) {
+fn subrs(font: &Font<'_>) -> (bool, u16, bool, bool) {
     (
         font.has_subrs(),
         font.count(),
@@ -135,14 +135,19 @@ fn subrs(font: &Font) -> (bool, u16, bool, bool) {
     )
 }
 
-/// What fonts of these texts say of their codes and Subrs, with lenIV.
-fn said(
-    alloc: Global,
-    clear: &[u8],
-    private: &[u8],
-) -> Option<((bool, bool, bool), (bool, u16, bool, bool), u8)> {
-    match font(alloc, clear, private) {
-        Ok(font) => Some((codes(&font), subrs(&font), font.len_iv())),
+/// What a font says of its codes and of its Subrs, and its lenIV.
+type Said = ((bool, bool, bool), (bool, u16, bool, bool), u8);
+
+/// What the font of a source says.
+fn said_of(alloc: Global, source: &Source) -> Result<Said, AllocError> {
+    let font = source.font(alloc)?;
+    Ok((codes(&font), subrs(&font), font.len_iv()))
+}
+
+/// What the font of these texts says.
+fn said(alloc: Global, clear: &[u8], private: &[u8]) -> Option<Said> {
+    match source(alloc, clear, private) {
+        Ok(source) => said_of(alloc, &source).ok(),
         Err(_) => None,
     }
 }

@@ -1,13 +1,13 @@
 //! Each prefix of the files of the font Tiny.
 
+use super::counts;
 use super::tiny::{PFA, PFB};
-use crate::{ReadFault, read};
+use crate::ReadFault;
 use std::alloc::Global;
 
 /// The weight of a file's font.
 fn weight(alloc: Global, file: &[u8]) -> Result<u32, ReadFault> {
-    let font = read(alloc, file)?;
-    Ok(font.weight())
+    Ok(counts(alloc, file)?.1)
 }
 
 #[test]

@@ -2,7 +2,7 @@
 
 use super::tiny::{PFA, PFB};
 use super::{counts, fault, file, joined, rewritten};
-use crate::{Form, ReadFault, read};
+use crate::{Form, ReadFault, Source, read};
 use bstr::ByteSlice;
 use std::alloc::{AllocError, Global};
 use std::test::Fail;
@@ -152,10 +152,18 @@ fn changed_clear_texts(rt: HostRuntime) -> Result<(), Fail> {
     Ok(())
 }
 
-/// Whether a file's font has a glyph with these bytes.
+/// Whether the font of a source has a glyph with these bytes.
+fn lends_glyph(alloc: Global, source: &Source, name: &[u8], plain: &[u8]) -> bool {
+    match source.font(alloc) {
+        Ok(font) => font.glyph(name) == Some(plain),
+        Err(_) => false,
+    }
+}
+
+/// The same of a file's font.
 fn has_glyph(alloc: Global, file: &[u8], name: &[u8], plain: &[u8]) -> bool {
     match read(alloc, file) {
-        Ok(font) => font.glyph(name) == Some(plain),
+        Ok(source) => lends_glyph(alloc, &source, name, plain),
         Err(_) => false,
     }
 }

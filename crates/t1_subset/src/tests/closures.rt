@@ -4,7 +4,7 @@ use super::fonts::{cut, whole};
 use crate::{Closure, SubsetFault, closure, subset};
 use std::alloc::{AllocError, Global};
 use std::test::Fail;
-use t1_font::{Font, read};
+use t1_font::{Font, Source, read};
 
 /// The names of a closure, each with a blank, and the digits of its Subrs.
 fn text_of(alloc: Global, closure: &Closure) -> Result<Vec<u8>, AllocError> {
@@ -21,15 +21,26 @@ fn text_of(alloc: Global, closure: &Closure) -> Result<Vec<u8>, AllocError> {
     Ok(text)
 }
 
-/// What names of a file's font keep, as a text; the name that it lacks.
-fn kept(alloc: Global, file: &[u8], names: &[&[u8]]) -> Result<Vec<u8>, AllocError> {
-    let Ok(font) = read(alloc, file) else {
-        return Err(AllocError);
-    };
-    match closure(alloc, &font, names) {
+/// What names of a font keep, as a text; the name that it lacks.
+fn font_keeps(alloc: Global, font: &Font<'_>, names: &[&[u8]]) -> Result<Vec<u8>, AllocError> {
+    match closure(alloc, font, names) {
         Ok(closure) => text_of(alloc, &closure),
         Err(SubsetFault::NoSuchGlyph { name }) => Ok(name),
         Err(SubsetFault::Memory) => Err(AllocError),
+    }
+}
+
+/// The same of a source's font.
+fn source_keeps(alloc: Global, source: &Source, names: &[&[u8]]) -> Result<Vec<u8>, AllocError> {
+    let font = source.font(alloc)?;
+    font_keeps(alloc, &font, names)
+}
+
+/// The same of a file's font.
+fn kept(alloc: Global, file: &[u8], names: &[&[u8]]) -> Result<Vec<u8>, AllocError> {
+    match read(alloc, file) {
+        Ok(source) => source_keeps(alloc, &source, names),
+        Err(_) => Err(AllocError),
     }
 }
 
@@ -66,17 +77,25 @@ const ABSENT: [(&[&[u8]], &[u8]); 4] = [
 ];
 
 /// Whether a subset is refused for this name.
-fn lacks(alloc: Global, font: &Font, names: &[&[u8]], want: &[u8]) -> bool {
+fn lacks(alloc: Global, font: &Font<'_>, names: &[&[u8]], want: &[u8]) -> bool {
     match subset(alloc, font, names) {
         Err(SubsetFault::NoSuchGlyph { name }) => name.as_slice() == want,
         _ => false,
     }
 }
 
+/// The same of a source's font.
+fn source_lacks(alloc: Global, source: &Source, names: &[&[u8]], want: &[u8]) -> bool {
+    match source.font(alloc) {
+        Ok(font) => lacks(alloc, &font, names, want),
+        Err(_) => false,
+    }
+}
+
 /// The same of a file's font.
 fn file_lacks(alloc: Global, file: &[u8], names: &[&[u8]], want: &[u8]) -> bool {
     match read(alloc, file) {
-        Ok(font) => lacks(alloc, &font, names, want),
+        Ok(source) => source_lacks(alloc, &source, names, want),
         Err(_) => false,
     }
 }

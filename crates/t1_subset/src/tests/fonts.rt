@@ -3,7 +3,7 @@
 use crate::subset;
 use std::alloc::{AllocError, Global};
 use t1_bytes::{CHARSTRING_KEY, EEXEC_KEY, EEXEC_LEAD, seal};
-use t1_font::{Font, Form, read, write};
+use t1_font::{Font, Form, Source, read, write};
 
 /// An index or a name as its entry spells it, and its plain charstring.
 pub type Entry = (&'static [u8], &'static [u8]);
@@ -164,14 +164,22 @@ pub fn whole(alloc: Global) -> Result<Vec<u8>, AllocError> {
 }
 
 /// The canonical PFB of a font.
-pub fn written(alloc: Global, font: &Font) -> Vec<u8> {
+pub fn written(alloc: Global, font: &Font<'_>) -> Vec<u8> {
     write(alloc, font, Form::Pfb).unwrap_or(Vec::new(alloc))
 }
 
 /// The same of its subset; nothing where there is none.
-fn cut_of(alloc: Global, font: &Font, names: &[&[u8]]) -> Vec<u8> {
+fn cut_of(alloc: Global, font: &Font<'_>, names: &[&[u8]]) -> Vec<u8> {
     match subset(alloc, font, names) {
         Ok(cut) => written(alloc, &cut),
+        Err(_) => Vec::new(alloc),
+    }
+}
+
+/// The same of the subset of a source's font.
+fn lent_cut(alloc: Global, source: &Source, names: &[&[u8]]) -> Vec<u8> {
+    match source.font(alloc) {
+        Ok(font) => cut_of(alloc, &font, names),
         Err(_) => Vec::new(alloc),
     }
 }
@@ -179,7 +187,7 @@ fn cut_of(alloc: Global, font: &Font, names: &[&[u8]]) -> Vec<u8> {
 /// The same of the subset of a file's font.
 pub fn cut(alloc: Global, file: &[u8], names: &[&[u8]]) -> Vec<u8> {
     match read(alloc, file) {
-        Ok(font) => cut_of(alloc, &font, names),
+        Ok(source) => lent_cut(alloc, &source, names),
         Err(_) => Vec::new(alloc),
     }
 }

@@ -5,7 +5,7 @@ use crate::{Conflict, SubsetFault, closure, merge, merge_all, subset};
 use std::alloc::{AllocError, Global};
 use std::ops::Range;
 use std::test::Fail;
-use t1_font::{Font, read};
+use t1_font::{Font, Source, read};
 
 /// A name of six bytes for a number below 100,000, in the order of the numbers.
 fn numbered(alloc: Global, number: u32) -> Result<Vec<u8>, AllocError> {
@@ -52,7 +52,7 @@ fn lent<'a>(alloc: Global, names: &'a [Vec<u8>]) -> Result<Vec<&'a [u8]>, AllocE
 }
 
 /// The subset of a font over the glyphs of these numbers, where its closure has as many glyphs.
-fn cut(alloc: Global, font: &Font, numbers: Range<u32>) -> Result<Font, SubsetFault> {
+fn cut<'a>(alloc: Global, font: &Font<'a>, numbers: Range<u32>) -> Result<Font<'a>, SubsetFault> {
     let Ok(names) = names(alloc, numbers) else {
         return Err(SubsetFault::Memory);
     };
@@ -69,7 +69,7 @@ fn cut(alloc: Global, font: &Font, numbers: Range<u32>) -> Result<Font, SubsetFa
 }
 
 /// How many glyphs two fonts come to.
-fn merged_count(alloc: Global, one: &Font, other: &Font) -> Option<usize> {
+fn merged_count<'a>(alloc: Global, one: &Font<'a>, other: &Font<'a>) -> Option<usize> {
     match merge(alloc, one, other) {
         Ok(both) => Some(both.names().count()),
         Err(_) => None,
@@ -77,7 +77,7 @@ fn merged_count(alloc: Global, one: &Font, other: &Font) -> Option<usize> {
 }
 
 /// How many glyphs fonts come to.
-fn count_of_all(alloc: Global, fonts: &[Font]) -> Option<usize> {
+fn count_of_all(alloc: Global, fonts: &[Font<'_>]) -> Option<usize> {
     match merge_all(alloc, fonts) {
         Ok(all) => Some(all.names().count()),
         Err(_) => None,
@@ -85,16 +85,20 @@ fn count_of_all(alloc: Global, fonts: &[Font]) -> Option<usize> {
 }
 
 /// How many glyphs two fonts come to by `merge` and by `merge_all`.
-fn counts_of_two(alloc: Global, one: Font, other: Font) -> (Option<usize>, Option<usize>) {
+fn counts_of_two<'a>(
+    alloc: Global,
+    one: Font<'a>,
+    other: Font<'a>,
+) -> (Option<usize>, Option<usize>) {
     let two = merged_count(alloc, &one, &other);
     (two, count_of_all(alloc, &[one, other]))
 }
 
 /// The same of a font and a subset of another.
-fn counts_with(
+fn counts_with<'a>(
     alloc: Global,
-    one: Font,
-    font: &Font,
+    one: Font<'a>,
+    font: &Font<'a>,
     numbers: Range<u32>,
 ) -> (Option<usize>, Option<usize>) {
     match cut(alloc, font, numbers) {
@@ -106,12 +110,25 @@ fn counts_with(
 /// The same of two subsets of a font.
 fn counts_of_cuts(
     alloc: Global,
-    font: &Font,
+    font: &Font<'_>,
     one: Range<u32>,
     other: Range<u32>,
 ) -> (Option<usize>, Option<usize>) {
     match cut(alloc, font, one) {
         Ok(one) => counts_with(alloc, one, font, other),
+        Err(_) => (None, None),
+    }
+}
+
+/// The same of two subsets of a source's font.
+fn lent_counts(
+    alloc: Global,
+    source: &Source,
+    one: Range<u32>,
+    other: Range<u32>,
+) -> (Option<usize>, Option<usize>) {
+    match source.font(alloc) {
+        Ok(font) => counts_of_cuts(alloc, &font, one, other),
         Err(_) => (None, None),
     }
 }
@@ -124,7 +141,7 @@ fn counts(
     other: Range<u32>,
 ) -> (Option<usize>, Option<usize>) {
     match read(alloc, file) {
-        Ok(font) => counts_of_cuts(alloc, &font, one, other),
+        Ok(source) => lent_counts(alloc, &source, one, other),
         Err(_) => (None, None),
     }
 }
@@ -139,7 +156,7 @@ fn thousands_of_glyphs(rt: HostRuntime) -> Result<(), Fail> {
 }
 
 /// Whether two fonts are too heavy together, and the first is not with itself.
-fn over_together(alloc: Global, one: &Font, other: &Font) -> bool {
+fn over_together<'a>(alloc: Global, one: &Font<'a>, other: &Font<'a>) -> bool {
     let over = match merge(alloc, one, other) {
         Err(Conflict::Limit) => true,
         _ => false,
@@ -147,10 +164,26 @@ fn over_together(alloc: Global, one: &Font, other: &Font) -> bool {
     over && merge(alloc, one, one).is_ok()
 }
 
-/// The same of a font and that of a file.
-fn too_heavy_with(alloc: Global, one: &Font, other: &[u8]) -> bool {
-    match read(alloc, other) {
+/// The same of a font and that of a source.
+fn over_with<'a>(alloc: Global, one: &Font<'a>, other: &'a Source) -> bool {
+    match other.font(alloc) {
         Ok(other) => over_together(alloc, one, &other),
+        Err(_) => false,
+    }
+}
+
+/// The same of the fonts of two sources.
+fn lent_over<'a>(alloc: Global, one: &'a Source, other: &'a Source) -> bool {
+    match one.font(alloc) {
+        Ok(one) => over_with(alloc, &one, other),
+        Err(_) => false,
+    }
+}
+
+/// The same of the fonts of a source and of a file.
+fn too_heavy_with(alloc: Global, one: &Source, other: &[u8]) -> bool {
+    match read(alloc, other) {
+        Ok(other) => lent_over(alloc, one, &other),
         Err(_) => false,
     }
 }

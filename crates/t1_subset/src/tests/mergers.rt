@@ -4,10 +4,10 @@ use super::fonts::{ACCENTED, GLYPHS, SHELL, SUBRS, Shell, cut, font, whole, writ
 use crate::{Conflict, ShellPart, merge, merge_all};
 use std::alloc::{AllocError, Global};
 use std::test::Fail;
-use t1_font::{Font, Form, read, write};
+use t1_font::{Font, Form, Source, read, write};
 
 /// Why two fonts don't merge.
-fn refusal(alloc: Global, left: &Font, right: &Font) -> Option<Conflict> {
+fn refusal<'a>(alloc: Global, left: &Font<'a>, right: &Font<'a>) -> Option<Conflict> {
     match merge(alloc, left, right) {
         Ok(_) => None,
         Err(conflict) => Some(conflict),
@@ -15,16 +15,32 @@ fn refusal(alloc: Global, left: &Font, right: &Font) -> Option<Conflict> {
 }
 
 /// Why two fonts don't merge, where both orders say the same.
-fn refusal_of_both(alloc: Global, left: &Font, right: &Font) -> Option<Conflict> {
+fn refusal_of_both<'a>(alloc: Global, left: &Font<'a>, right: &Font<'a>) -> Option<Conflict> {
     let one = refusal(alloc, left, right);
     let other = refusal(alloc, right, left);
     if one == other { one } else { None }
 }
 
-/// Why a font and that of a file don't merge, where both orders say the same.
-fn conflict_with(alloc: Global, left: &Font, right: &[u8]) -> Option<Conflict> {
-    match read(alloc, right) {
+/// The same of a font and that of a source.
+fn refusal_with<'a>(alloc: Global, left: &Font<'a>, right: &'a Source) -> Option<Conflict> {
+    match right.font(alloc) {
         Ok(right) => refusal_of_both(alloc, left, &right),
+        Err(_) => None,
+    }
+}
+
+/// The same of the fonts of two sources.
+fn lent_refusal<'a>(alloc: Global, left: &'a Source, right: &'a Source) -> Option<Conflict> {
+    match left.font(alloc) {
+        Ok(left) => refusal_with(alloc, &left, right),
+        Err(_) => None,
+    }
+}
+
+/// The same of the fonts of a source and of a file.
+fn conflict_with(alloc: Global, left: &Source, right: &[u8]) -> Option<Conflict> {
+    match read(alloc, right) {
+        Ok(right) => lent_refusal(alloc, left, &right),
         Err(_) => None,
     }
 }
@@ -38,17 +54,33 @@ fn conflict(alloc: Global, left: &[u8], right: &[u8]) -> Option<Conflict> {
 }
 
 /// The canonical PFB of what two fonts come to, where they merge.
-fn both(alloc: Global, left: &Font, right: &Font) -> Vec<u8> {
+fn both<'a>(alloc: Global, left: &Font<'a>, right: &Font<'a>) -> Vec<u8> {
     match merge(alloc, left, right) {
         Ok(both) => written(alloc, &both),
         Err(_) => Vec::new(alloc),
     }
 }
 
-/// The same of a font and that of a file.
-fn merged_with(alloc: Global, left: &Font, right: &[u8]) -> Vec<u8> {
-    match read(alloc, right) {
+/// The same of a font and that of a source.
+fn both_with<'a>(alloc: Global, left: &Font<'a>, right: &'a Source) -> Vec<u8> {
+    match right.font(alloc) {
         Ok(right) => both(alloc, left, &right),
+        Err(_) => Vec::new(alloc),
+    }
+}
+
+/// The same of the fonts of two sources.
+fn lent_both<'a>(alloc: Global, left: &'a Source, right: &'a Source) -> Vec<u8> {
+    match left.font(alloc) {
+        Ok(left) => both_with(alloc, &left, right),
+        Err(_) => Vec::new(alloc),
+    }
+}
+
+/// The same of the fonts of a source and of a file.
+fn merged_with(alloc: Global, left: &Source, right: &[u8]) -> Vec<u8> {
+    match read(alloc, right) {
+        Ok(right) => lent_both(alloc, left, &right),
         Err(_) => Vec::new(alloc),
     }
 }
@@ -315,19 +347,51 @@ fn what_glyphs_name(rt: HostRuntime) -> Result<(), Fail> {
     Ok(())
 }
 
-/// What files come to, merged from left to right, as a canonical PFB; why they come to nothing.
-fn all_merged(alloc: Global, files: &[Vec<u8>]) -> Result<Vec<u8>, Conflict> {
-    let mut fonts = Vec::new(alloc);
+/// The sources of files.
+fn sources(alloc: Global, files: &[Vec<u8>]) -> Result<Vec<Source>, AllocError> {
+    let mut sources = Vec::new(alloc);
     for file in files {
-        let Ok(font) = read(alloc, file.as_slice()) else {
-            return Err(Conflict::Memory);
+        let Ok(source) = read(alloc, file.as_slice()) else {
+            return Err(AllocError);
         };
-        if fonts.push(font).is_err() {
-            return Err(Conflict::Memory);
+        if sources.push(source).is_err() {
+            return Err(AllocError);
         }
     }
-    let merged = merge_all(alloc, fonts.as_slice())?;
+    Ok(sources)
+}
+
+/// The fonts that sources lend.
+fn lent<'a>(alloc: Global, sources: &'a [Source]) -> Result<Vec<Font<'a>>, AllocError> {
+    let mut fonts = Vec::new(alloc);
+    for source in sources {
+        if fonts.push(source.font(alloc)?).is_err() {
+            return Err(AllocError);
+        }
+    }
+    Ok(fonts)
+}
+
+/// What fonts come to, merged from left to right, as a canonical PFB; why they come to nothing.
+fn written_merger(alloc: Global, fonts: &[Font<'_>]) -> Result<Vec<u8>, Conflict> {
+    let merged = merge_all(alloc, fonts)?;
     write(alloc, &merged, Form::Pfb).map_err(|_| Conflict::Memory)
+}
+
+/// The same of the fonts of sources.
+fn lent_merger(alloc: Global, sources: &[Source]) -> Result<Vec<u8>, Conflict> {
+    match lent(alloc, sources) {
+        Ok(fonts) => written_merger(alloc, fonts.as_slice()),
+        Err(_) => Err(Conflict::Memory),
+    }
+}
+
+/// The same of the fonts of files.
+fn all_merged(alloc: Global, files: &[Vec<u8>]) -> Result<Vec<u8>, Conflict> {
+    match sources(alloc, files) {
+        Ok(sources) => lent_merger(alloc, sources.as_slice()),
+        Err(_) => Err(Conflict::Memory),
+    }
 }
 
 /// The subsets of a file's font over each of these sets of names.

@@ -1,13 +1,25 @@
-use Rattle.std.proofs.Common.{nat_cmp, ap, ◌∙◌}
+use Rattle.std.proofs.Common.{◌++◌, [], unwrap_or, ap, sym, ◌∙◌, map}
 use Rattle.std.specs.Prelude.{filter}
 use Rattle.std.specs.Cmp.{nat_cmp_total}
-use Rattle.std.specs.FinMap.{empty, contains_key, nat_cmp-IsAntisymmetric}
-use Rattle.t1_font.specs.Cut.{put_all_into}
-use Rattle.t1_font.proofs.CutLoops.{put_filtered}
+use Rattle.std.specs.FinMap.{get, contains_key, retain_keys, nat_cmp-IsAntisymmetric}
+use Rattle.std.proofs.lemmas.Map.Iter.{rest_all}
+use Rattle.t1_join.proofs.Sorted.{rises_of, map_of}
+use Rattle.t1_font.specs.Lent.{lent_number}
+use Rattle.t1_font.proofs.CutEntries.{entries-retain_values}
+use Rattle.t1_font.proofs.LentTables.{all_out}
 use Rattle.t1_font.proofs.cut.cut_codes.Goals as goal
 
 pub codes-init : goal.codes-init
 codes-init c =
-    ap (λ m. put_all_into m (filter (λ e. contains_key c.args.glyphs.now e.1) c.into_iter-code-iterator.result)) c.new-cut.ensures
-    ∙ (ap (λ es. put_all_into {R = nat_cmp} empty (filter (λ e. contains_key c.args.glyphs.now e.1) es)) (c.into_iter-code-iterator.ensures.into_iter_gives ∙ c.entries-code-items.ensures)
-    ∙ put_filtered nat_cmp_total nat_cmp-IsAntisymmetric (contains_key c.args.glyphs.now) c.args.codes.now)
+    (λ k. map lent_number (c.new-cut.ensures.items k) ++ filter (λ e. contains_key c.args.glyphs.now e.1) ((c.into_iter-code-iterator.ensures.into_iter_gives ∙ c.entries-code-items.ensures) k))
+    ∙ sym (entries-retain_values nat_cmp_total nat_cmp-IsAntisymmetric c.args.codes.now (contains_key c.args.glyphs.now) [])
+
+pub invariant_of-result : goal.invariant_of-result
+invariant_of-result c =
+    rises_of _ (retain_keys c.args.codes.now (λ k. contains_key c.args.glyphs.now (unwrap_or (get c.args.codes.now k) [])))
+    (all_out lent_number c.codes.cut.items _ _ (ap (filter (λ e. contains_key c.args.glyphs.now e.1)) (rest_all lent_number _ _ _ c.in-None.is c.next.ensures.steps)) c.codes.invariant)
+
+pub returns : goal.returns
+returns c =
+    map_of _ (retain_keys c.args.codes.now (λ k. contains_key c.args.glyphs.now (unwrap_or (get c.args.codes.now k) [])))
+    (all_out lent_number c.codes.cut.items _ _ (ap (filter (λ e. contains_key c.args.glyphs.now e.1)) (rest_all lent_number _ _ _ c.in-None.is c.next.ensures.steps)) c.codes.invariant)

@@ -2,8 +2,9 @@ use Rattle.std.proofs.Common.{◌≡◌, drop, map}
 use Rattle.std.specs.FinMap as fin
 use Rattle.std.specs.FinSet as sets
 use Rattle.t1_font.specs.Cut.{put_all_into, set_of_names}
+use Rattle.t1_font.specs.Lent.{lent_names}
 use Rattle.t1_font.proofs.CutLoops.{entries_of}
 use Rattle.t1_font.proofs.cut.cut_glyphs.Given as goal
 
 abbrev pub invariant-names : goal.invariant-names
-invariant-names l = put_all_into l.cut (entries_of l.fn.glyphs (map (λ v. v.items) (drop l.name-index l.fn.names))) ≡ fin.retain_keys l.fn.glyphs (sets.contains (set_of_names l.fn.names))
+invariant-names l = put_all_into (lent_names l.cut.entries) (entries_of l.fn.glyphs (map (λ v. v.items) (drop l.name-index l.fn.names))) ≡ fin.retain_keys l.fn.glyphs (sets.contains (set_of_names l.fn.names))

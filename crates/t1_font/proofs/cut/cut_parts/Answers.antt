@@ -1,4 +1,4 @@
-use Rattle.std.proofs.Common.{sym}
+use Rattle.std.proofs.Common.{refl, sym}
 use Rattle.std.specs.Ordering.{nat_cmp}
 use Rattle.std.specs.BTreeSet.{contains}
 use Rattle.std.specs.FinSet as sets
@@ -10,6 +10,6 @@ use Rattle.t1_font.proofs.cut.cut_parts.Goals as goal
 pub returns : goal.returns
 returns c =
     cut_font (sets.contains (set_of_names c.args.names.now)) (contains nat_cmp c.args.subrs.now) c.args.parts.now
-    (record { shell = shell_view c.parts.inside.shell; encoding = encoding_of c.parts.inside.encoding; subrs = c.parts.inside.subrs; glyphs = c.parts.inside.glyphs })
-    (record { shell = shell_view c.in_ok-shell_again.field-0; encoding = encoding_of c.in_ok-cut_encoding.field-0; subrs = c.in_ok-cut_subrs.field-0; glyphs = c.in_ok-glyphs.glyphs })
-    (sym c.parts.view_is) c.requires c.in_ok-shell_again.ensures c.in_ok-cut_encoding.ensures c.in_ok-cut_subrs.ensures c.in_ok-glyphs.ensures
+    (record { shell = shell_view c.parts.inside.shell.now; encoding = encoding_of c.parts.inside.encoding; subrs = c.parts.inside.subrs; glyphs = c.parts.inside.glyphs })
+    (record { shell = shell_view c.parts.inside.shell.now; encoding = encoding_of c.in_ok-cut_encoding.field-0; subrs = c.in_ok-cut_subrs.field-0; glyphs = c.in_ok-glyphs.glyphs })
+    (sym c.parts.view_is) c.requires refl c.in_ok-cut_encoding.ensures c.in_ok-cut_subrs.ensures c.in_ok-glyphs.ensures

@@ -1,14 +1,27 @@
-use Rattle.std.proofs.Common.{nat_cmp, ap, ◌∙◌, map, cond, List, ℕ}
+use Rattle.std.proofs.Common.{◌++◌, nat_cmp, ap, sym, ◌∙◌, map, cond, List, ℕ}
 use Rattle.std.specs.BTreeSet.{contains}
 use Rattle.std.specs.Cmp.{nat_cmp_total}
-use Rattle.std.specs.FinMap.{empty, nat_cmp-IsAntisymmetric}
-use Rattle.t1_font.specs.Cut.{stub, put_all_into}
-use Rattle.t1_font.proofs.CutLoops.{put_valued}
+use Rattle.std.specs.FinMap.{nat_cmp-IsAntisymmetric}
+use Rattle.std.proofs.lemmas.Map.Iter.{rest_all}
+use Rattle.t1_join.proofs.Sorted.{rises_of, map_of}
+use Rattle.t1_font.specs.Lent.{lent_number}
+use Rattle.t1_font.specs.Cut.{stub, map_values}
+use Rattle.t1_font.proofs.MapCuts.{entries-map_values}
+use Rattle.t1_font.proofs.LentTables.{all_out}
 use Rattle.t1_font.proofs.cut.cut_subrs.Goals as goal
 
 pub bodies-init : goal.bodies-init
 bodies-init c =
     let f : ℕ → List ℕ → List ℕ = λ i b. cond (contains nat_cmp c.args.kept.now i) b stub in
-    ap (λ m. put_all_into m (map (λ e. (e.0, f e.0 e.1)) c.into_iter-index-iterator.result)) c.new-cut.ensures
-    ∙ (ap (λ es. put_all_into {R = nat_cmp} empty (map (λ e. (e.0, f e.0 e.1)) es)) (c.into_iter-index-iterator.ensures.into_iter_gives ∙ c.entries-index-items.ensures)
-    ∙ put_valued nat_cmp_total nat_cmp-IsAntisymmetric f c.args.subrs.now)
+    (λ k. map lent_number (c.in_ok-cut.ensures.items k) ++ map (λ e. (e.0, f e.0 e.1)) ((c.into_iter-index-iterator.ensures.into_iter_gives ∙ c.entries-index-items.ensures) k))
+    ∙ sym (entries-map_values nat_cmp_total nat_cmp-IsAntisymmetric f c.args.subrs.now)
+
+pub invariant_of-result : goal.invariant_of-result
+invariant_of-result c =
+    let f : ℕ → List ℕ → List ℕ = λ i b. cond (contains nat_cmp c.args.kept.now i) b stub in
+    rises_of _ (map_values f c.args.subrs.now) (all_out lent_number c.bodies.cut.items _ _ (ap (map (λ e. (e.0, f e.0 e.1))) (rest_all lent_number _ _ _ c.in-None.is c.next.ensures.steps)) c.bodies.invariant)
+
+pub returns : goal.returns
+returns c =
+    let f : ℕ → List ℕ → List ℕ = λ i b. cond (contains nat_cmp c.args.kept.now i) b stub in
+    map_of _ (map_values f c.args.subrs.now) (all_out lent_number c.bodies.cut.items _ _ (ap (map (λ e. (e.0, f e.0 e.1))) (rest_all lent_number _ _ _ c.in-None.is c.next.ensures.steps)) c.bodies.invariant)

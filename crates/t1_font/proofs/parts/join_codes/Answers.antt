@@ -1,12 +1,17 @@
-use Rattle.std.proofs.Common.{ap, ◌∙◌}
+use Rattle.std.proofs.Common.{nat_cmp, map, ◌≡◌, ◌∙◌}
 use Rattle.std.specs.Cmp.{nat_cmp_total}
-use Rattle.std.specs.FinMap.{entries, nat_cmp-IsAntisymmetric}
-use Rattle.t1_font.specs.Cut.{put_all_into}
-use Rattle.t1_font.proofs.CutLoops.{put_both}
+use Rattle.std.specs.FinMap.{nat_cmp-IsAntisymmetric}
+use Rattle.t1_join.specs.Passes.{merge}
+use Rattle.t1_font.specs.Lent.{lent_number}
+use Rattle.t1_font.proofs.LentTables.{merge_rises, merge_is}
 use Rattle.t1_font.proofs.parts.join_codes.Goals as goal
+
+pub invariant_of-result : goal.invariant_of-result
+invariant_of-result c =
+    let one_pass : map lent_number c.in_ok-merged.field-0.items ≡ merge nat_cmp (map lent_number c.first.inside.entries.items) (map lent_number c.second.inside.entries.items) = c.in_ok-merged.ensures ∙ (λ i. merge nat_cmp (map lent_number (c.deref.ensures.value i)) (map lent_number (c.deref-2.ensures.value i))) in
+    merge_rises nat_cmp_total (map lent_number c.in_ok-merged.field-0.items) (map lent_number c.first.inside.entries.items) (map lent_number c.second.inside.entries.items) one_pass c.first.invariant c.second.invariant
 
 pub returns : goal.returns
 returns c =
-    c.in_ok-add_names-2.ensures
-    ∙ (ap (λ m. put_all_into m (entries c.args.first.now)) (c.in_ok-add_names.ensures ∙ ap (λ m. put_all_into m (entries c.args.second.now)) c.new-joined.ensures)
-    ∙ put_both nat_cmp_total nat_cmp-IsAntisymmetric c.args.first.now c.args.second.now)
+    let one_pass : map lent_number c.in_ok-merged.field-0.items ≡ merge nat_cmp (map lent_number c.first.inside.entries.items) (map lent_number c.second.inside.entries.items) = c.in_ok-merged.ensures ∙ (λ i. merge nat_cmp (map lent_number (c.deref.ensures.value i)) (map lent_number (c.deref-2.ensures.value i))) in
+    merge_is nat_cmp_total nat_cmp-IsAntisymmetric (map lent_number c.in_ok-merged.field-0.items) (map lent_number c.first.inside.entries.items) (map lent_number c.second.inside.entries.items) c.args.first.now c.args.second.now one_pass c.first.invariant c.second.invariant c.first.view_is c.second.view_is

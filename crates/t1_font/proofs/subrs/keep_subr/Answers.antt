@@ -1,12 +1,15 @@
 use Rattle.std.proofs.Common.{ap, ◌∙◌, arith, nat_cmp}
+use Rattle.std.proofs.lemmas.Result.{on_ok_weaker}
 use Rattle.std.specs.FinMap.{insert}
+use Rattle.t1_font.specs.Charstrings.{plain_of}
+use Rattle.t1_font.specs.Gathering.{Entries}
 use Rattle.t1_font.specs.Views.{subr_view}
 use Rattle.t1_font.proofs.HeldLemmas.{one_subr_more}
 use Rattle.t1_font.proofs.subrs.keep_subr.Goals as goal
 
-pub returns : goal.returns
-returns c = λ es h few. one_subr_more c.args.declared c.args.len_iv c.args.bodies.now c.insert.new.self es (subr_view c.args.entry)
-    (c.in_ok-insert.ensures.ok ∙ (ap (λ i. insert {R = nat_cmp} c.args.bodies.now i c.in_ok-plain.field-0.now) c.in-Ok.ensures.1 ∙ ap (insert {R = nat_cmp} c.args.bodies.now c.args.entry.index) c.in_ok-plain.ensures)) h few
+pub returns-clause-shown : goal.returns-clause-shown
+returns-clause-shown c = on_ok_weaker c.keep_subr.result (λ kept es h few. one_subr_more c.args.declared c.args.len_iv c.args.gathered.now.subrs _ es (subr_view c.args.entry)
+    (ap (λ (g : Entries). g.subrs) kept ∙ ap (λ i. insert {R = nat_cmp} c.args.gathered.now.subrs i (plain_of c.args.len_iv c.args.entry.body.now)) c.in-Ok.ensures.1) h few) c.keep_subr.ensures
 
-pub returns-in_default : goal.returns-in_default
-returns-in_default c = λ es h few. absurd (c.in_default.ensures (omega (arith, c.requires.index, few)))
+pub returns-in_default-clause-shown : goal.returns-in_default-clause-shown
+returns-in_default-clause-shown c = λ es h few. absurd (c.in_default.ensures (omega (arith, c.requires.index, few)))

@@ -6,7 +6,7 @@ use Rattle.t1_font.proofs.writing.put_private.Goals as goal
 
 pub returns : goal.returns
 returns c =
-    six_put c.args.out.now.items c.parts.inside.shell.private.items _ c.parts.inside.shell.middle.items _ c.parts.inside.shell.tail.items _ _ _ _ _ _ _
+    six_put c.args.out.now.items c.parts.inside.shell.now.private.items _ c.parts.inside.shell.now.middle.items _ c.parts.inside.shell.now.tail.items _ _ _ _ _ _ _
     (c.in_ok-extend_from_slice.ensures.items ∙ ap (λ b. c.args.out.now.items ++ b) c.as_slice.ensures.value)
     c.in_ok-put_table.ensures
     (c.in_ok-extend_from_slice-2.ensures.items ∙ ap (λ b. c.put_table.new.out.items ++ b) c.as_slice-2.ensures.value)

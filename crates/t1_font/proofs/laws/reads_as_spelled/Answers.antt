@@ -1,0 +1,27 @@
+use Rattle.t1_bytes.proofs.Grammars.{first_exact}
+use Rattle.t1_font.proofs.WordLemmas.{word_exact, keyword_exact, decimal_exact, name_exact, phrase_exact}
+use Rattle.t1_font.proofs.MarkLemmas.{encoding_mark_exact, subrs_mark_exact, chars_mark_exact, len_iv_mark_exact, len_iv_exact, closefile_exact, encoding_start_exact, code_entry_exact, encoding_end_exact, glyph_exact, glyphs_end_exact}
+use Rattle.t1_font.proofs.SubrLemmas.{subr_exact, subrs_end_exact}
+use Rattle.t1_font.proofs.laws.reads_as_spelled.Goals as goal
+
+pub returns : goal.returns
+returns c = record {
+  words = word_exact;
+  keywords = keyword_exact;
+  numbers = decimal_exact;
+  names = name_exact;
+  phrases = phrase_exact;
+  encodings = first_exact _ encoding_mark_exact;
+  starts = encoding_start_exact;
+  codes = code_entry_exact;
+  encoding_ends = encoding_end_exact;
+  lenIVs = first_exact _ len_iv_mark_exact;
+  lead_counts = len_iv_exact;
+  tables = first_exact _ subrs_mark_exact;
+  subrs = subr_exact;
+  subrs_ends = subrs_end_exact;
+  charstrings = first_exact _ chars_mark_exact;
+  glyphs = glyph_exact;
+  glyphs_ends = glyphs_end_exact;
+  closes = first_exact _ closefile_exact;
+}

@@ -1,0 +1,6 @@
+use Rattle.t1_join.specs.Entries.{entries_by}
+use Rattle.t1_font.proofs.Sourced.{CodesKept}
+use Rattle.t1_font.proofs.source.keep_codes.Given as goal
+
+abbrev pub invariant-codes : goal.invariant-codes
+invariant-codes l = CodesKept l.fn.buffer.items (entries_by (λ k. k) (λ n. n.now) l.fn.codes.entries) l.buffer.items l.kept.items (entries_by (λ k. k) (λ n. n.now) l.code-iterator)

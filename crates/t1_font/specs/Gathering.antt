@@ -1,0 +1,64 @@
+-- What is gathered of a font while it is read.
+use Rattle.std.specs.Prelude.{◌≡◌, ℕ, List, length, filter}
+use Rattle.std.specs.Borrow.{Bor}
+use Rattle.std.specs.Coded.{Coded, code_by, coded×}
+use Rattle.std.specs.FinMap.{from_entries, from_sorted, entries, empty}
+use Rattle.std.proofs.Common.{refl}
+use Rattle.t1_join.specs.Entries.{entries_by}
+use Rattle.t1_font.specs.declared.gathered.Gathered.TheInside.{Inside}
+use Rattle.t1_font.specs.declared.ranges.Range.{Range}
+use Rattle.t1_font.specs.FontValue.{Numbered, Named}
+use Rattle.t1_font.specs.Entries.{has_name}
+use Rattle.t1_font.specs.Lent.{numbered_code, named_code}
+use Rattle.t1_font.specs.Ranges.{bytes_at, AllInside}
+
+-- the last name of each code, `.notdef` among them, and the last plain charstring of each Subr and of each glyph
+pub record Entries : Type 0 where
+  pub codes : Numbered
+  pub subrs : Numbered
+  pub glyphs : Named
+
+abbrev pub entries_code : Coded Entries
+entries_code = code_by (Numbered × (Numbered × Named)) (coded× numbered_code (coded× numbered_code named_code))
+    (λ g. (g.codes, (g.subrs, g.glyphs))) (λ p. record { codes = p.0; subrs = p.1.0; glyphs = p.1.1 }) (λ g. refl)
+
+-- nothing
+abbrev pub no_entries : Entries
+no_entries = record { codes = empty; subrs = empty; glyphs = empty }
+
+-- the names of codes, which stand elsewhere
+abbrev pub gathered_codes : List (ℕ × Bor (List ℕ)) → Numbered
+gathered_codes es = from_entries (entries_by (λ k. k) (λ n. n.now) es)
+
+-- the charstrings of a buffer, by index and by name
+abbrev pub gathered_subrs : List ℕ → List (ℕ × Range) → Numbered
+gathered_subrs buffer es = from_entries (entries_by (λ k. k) (bytes_at buffer) es)
+
+abbrev pub gathered_glyphs : List ℕ → List (Bor (List ℕ) × Range) → Named
+gathered_glyphs buffer es = from_entries (entries_by (λ k. k.now) (bytes_at buffer) es)
+
+abbrev pub gathered_value : Inside → Entries
+gathered_value g = record {
+  codes = gathered_codes g.codes.entries;
+  subrs = gathered_subrs g.buffer.items g.subrs.entries;
+  glyphs = gathered_glyphs g.buffer.items g.glyphs.entries;
+}
+
+-- each range is inside the buffer
+pub record IsGathered (g : Inside) : Type 0 where
+  pub subrs : AllInside (length g.buffer.items) g.subrs.entries
+  pub glyphs : AllInside (length g.buffer.items) g.glyphs.entries
+
+-- the names of codes, but for `.notdef`
+abbrev pub named : Numbered → Numbered
+named m = from_sorted (filter has_name (entries m))
+
+-- nothing changed but the names of codes, the Subrs, or the glyphs
+abbrev pub CodesAlone : Entries → Entries → Type 0
+CodesAlone old new = (new.subrs ≡ old.subrs) × (new.glyphs ≡ old.glyphs)
+
+abbrev pub SubrsAlone : Entries → Entries → Type 0
+SubrsAlone old new = (new.codes ≡ old.codes) × (new.glyphs ≡ old.glyphs)
+
+abbrev pub GlyphsAlone : Entries → Entries → Type 0
+GlyphsAlone old new = (new.codes ≡ old.codes) × (new.subrs ≡ old.subrs)

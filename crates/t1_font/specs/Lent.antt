@@ -1,0 +1,31 @@
+-- What borrowed entries stand for, and the codes of finite maps to byte lists.
+use Rattle.std.specs.Prelude.{ℕ, List, map}
+use Rattle.std.specs.Borrow.{Bor}
+use Rattle.std.specs.Coded.{Coded, coded_list, coded_ℕ}
+use Rattle.std.specs.FinMap.{code, from_entries}
+use Rattle.t1_font.specs.FontValue.{Numbered, Named}
+
+abbrev pub bytes_code : Coded (List ℕ)
+bytes_code = coded_list coded_ℕ
+
+abbrev pub numbered_code : Coded Numbered
+numbered_code = code coded_ℕ bytes_code
+
+abbrev pub named_code : Coded Named
+named_code = code bytes_code bytes_code
+
+-- an entry, its bytes where they are lent
+abbrev pub with_bytes : {K : Type 0} → K × Bor (List ℕ) → K × List ℕ
+with_bytes e = (e.0, e.1.now)
+
+-- an entry by number
+abbrev pub lent_number : ℕ × Bor (List ℕ) → ℕ × List ℕ
+lent_number e = (e.0, e.1.now)
+
+-- an entry by name
+abbrev pub lent_name : Bor (List ℕ) × Bor (List ℕ) → List ℕ × List ℕ
+lent_name e = (e.0.now, e.1.now)
+
+-- the map of entries by name, in any order: at a repeated name the first stands
+abbrev pub lent_names : List (Bor (List ℕ) × Bor (List ℕ)) → Named
+lent_names es = from_entries (map lent_name es)

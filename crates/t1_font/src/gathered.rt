@@ -1,0 +1,116 @@
+//! What is gathered of a font while it is read.
+
+ghost use Rattle.std.specs.Prelude.{◌≡◌, ◌≤◌, ◌+◌, ◌++◌, length, IfOk, OnOk, OnErr};
+ghost use Rattle.std.specs.FinMap as fin;
+ghost use Rattle.t1_bytes.specs.Cipher.{decrypted};
+ghost use Rattle.t1_font.specs.Charstrings.{plain_of};
+ghost use Rattle.t1_font.specs.Gathering.{no_entries};
+
+use crate::ranges::Range;
+use std::alloc::{AllocError, Global};
+use std::collections::BTreeMap;
+use std::marker::Model;
+use t1_bytes::{CHARSTRING_KEY, decrypt};
+
+/// The entries of a font's tables as they are read, one after another: names by code, and plain charstrings of Subrs by
+/// index and of glyphs by name. Of a repeated key the last stands.
+///
+/// Names stay where they stand in the file's texts. The charstrings stand in one buffer, in the order in which they were
+/// read, each behind its lead bytes.
+#[derive(Drop)]
+pub(crate) struct Gathered<'a> {
+    pub(crate) codes: BTreeMap<u16, &'a [u8]>,
+    pub(crate) buffer: Vec<u8>,
+    pub(crate) subrs: BTreeMap<u16, Range>,
+    pub(crate) glyphs: BTreeMap<&'a [u8], Range>,
+}
+
+impl<'a> Model for Gathered<'a> {
+    ghost use Rattle.t1_font.specs.Gathering.{Entries, entries_code, gathered_value, IsGathered};
+
+    ghost Value = { Entries };
+
+    ghost coded = { entries_code };
+
+    ghost view = { gathered_value };
+
+    ghost invariant = { IsGathered };
+}
+
+/// Puts the plain charstring of one that stands in a file behind lenIV lead bytes at the end of a buffer, and answers
+/// where it stands there.
+fn add_plain(buffer: &mut Vec<u8>, body: &[u8], len_iv: u8) -> Result<Range, AllocError>
+    requires { len_iv ≤ length body.now }
+    ensures grown { OnOk result (buffer.new.items ≡ buffer.old.items ++ decrypted 4330 body.now) }
+    ensures start { IfOk result (λ r. r.start ≡ length buffer.old.items + len_iv) }
+    ensures end { IfOk result (λ r. r.end ≡ length buffer.old.items + length body.now) }
+    ensures kept { OnErr result (buffer.new.items ≡ buffer.old.items) }
+{
+    let lead = buffer.len();
+    buffer.extend_from_slice(body)?;
+    let (_, added) = buffer.as_mut_slice().split_at_mut(lead);
+    decrypt(added, CHARSTRING_KEY);
+    Ok(Range {
+        start: lead + len_iv as usize,
+        end: buffer.len(),
+    })
+}
+
+impl<'a> Gathered<'a> {
+    /// No entries.
+    pub(crate) fn new(alloc: Global) -> Self
+        ensures { result ≡ no_entries }
+    {
+        Gathered {
+            codes: BTreeMap::new(alloc),
+            buffer: Vec::new(alloc),
+            subrs: BTreeMap::new(alloc),
+            glyphs: BTreeMap::new(alloc),
+        }
+    }
+
+    /// Puts a name at a code.
+    pub(crate) fn keep_code(&mut self, code: u8, name: &'a [u8]) -> Result<(), AllocError>
+        ensures { OnOk result (self.new ≡ record { codes = fin.insert self.old.codes code name.now; subrs = self.old.subrs; glyphs = self.old.glyphs }) }
+    {
+        self.codes.insert(code as u16, name)?;
+        Ok(())
+    }
+
+    /// Puts a Subr's charstring, plain, at its index.
+    pub(crate) fn keep_subr(
+        &mut self,
+        index: u16,
+        body: &[u8],
+        len_iv: u8,
+    ) -> Result<(), AllocError>
+        requires { len_iv ≤ length body.now }
+        ensures { OnOk result (self.new ≡ record { codes = self.old.codes; subrs = fin.insert self.old.subrs index (plain_of len_iv body.now); glyphs = self.old.glyphs }) }
+    {
+        let place = add_plain(&mut self.buffer, body, len_iv)?;
+        self.subrs.insert(index, place)?;
+        Ok(())
+    }
+
+    /// Puts a glyph's charstring, plain, at its name.
+    pub(crate) fn keep_glyph(
+        &mut self,
+        name: &'a [u8],
+        body: &[u8],
+        len_iv: u8,
+    ) -> Result<(), AllocError>
+        requires { len_iv ≤ length body.now }
+        ensures { OnOk result (self.new ≡ record { codes = self.old.codes; subrs = self.old.subrs; glyphs = fin.insert self.old.glyphs name.now (plain_of len_iv body.now) }) }
+    {
+        let place = add_plain(&mut self.buffer, body, len_iv)?;
+        self.glyphs.insert(name, place)?;
+        Ok(())
+    }
+
+    /// How many glyphs there are.
+    pub(crate) fn glyph_count(&self) -> usize
+        ensures { result ≡ fin.len self.now.glyphs }
+    {
+        self.glyphs.len()
+    }
+}

@@ -1,0 +1,158 @@
+//! The shell of a font: its kept texts, and the words of its tables.
+
+ghost use Rattle.std.specs.Prelude.{◌≡◌, ◌≤◌, [], Option, unwrap_or, IfOk};
+ghost use Rattle.std.specs.Option.{option_map};
+ghost use Rattle.t1_font.specs.FontValue.{count_limit, texts_weight};
+ghost use Rattle.t1_font.specs.FontModel.{clamp, subrs_view, shell_view, of_subrs};
+ghost use Rattle.t1_font.specs.Gathering.{Entries};
+ghost use Rattle.t1_font.specs.Views.{phrase_view, words_view};
+ghost use Rattle.t1_font.specs.Pieces.{ClearPieces, SubrsPieces, PrivatePieces};
+ghost use Rattle.t1_font.specs.ReadFont.{subrs_shell, shell_of};
+ghost use Rattle.t1_font.specs.Answers.{ShowsClear, ShowsTable, ShowsSubrs, ShowsPrivate, declared_in};
+
+use crate::encoding::ClearParts;
+use crate::private::PrivateParts;
+use crate::subrs::SubrsParts;
+use crate::words::{Phrase, Words};
+use std::alloc::{AllocError, Global};
+
+/// What is kept of a table of Subrs beside its Subrs.
+#[derive(Drop)]
+pub(crate) struct KeptSubrs {
+    pub(crate) declared: u16,
+    pub(crate) rd: Vec<u8>,
+    pub(crate) put: Vec<u8>,
+    pub(crate) closing: Vec<u8>,
+}
+
+/// What two fonts have to share, beside the indices that are present.
+#[derive(Drop)]
+pub(crate) struct KeptShell {
+    pub(crate) head: Vec<u8>,
+    pub(crate) clear_tail: Vec<u8>,
+    pub(crate) private: Vec<u8>,
+    pub(crate) middle: Vec<u8>,
+    pub(crate) tail: Vec<u8>,
+    pub(crate) len_iv: u8,
+    pub(crate) subrs: Option<KeptSubrs>,
+    pub(crate) glyphs_rd: Vec<u8>,
+    pub(crate) glyphs_def: Vec<u8>,
+}
+
+impl KeptShell {
+    /// How many bytes the five kept texts have, as far as 64 bits hold it.
+    pub(crate) fn texts_weight(&self) -> u64
+        ensures { result ≡ clamp (texts_weight (shell_view self.now)) }
+    {
+        (self.head.len() as u64)
+            .saturating_add(self.clear_tail.len() as u64)
+            .saturating_add(self.private.len() as u64)
+            .saturating_add(self.middle.len() as u64)
+            .saturating_add(self.tail.len() as u64)
+    }
+
+    /// The word before the bytes of each Subr.
+    pub(crate) fn subrs_rd(&self) -> &[u8]
+        ensures { result.now ≡ of_subrs (λ s. s.rd) (shell_view self.now).subrs }
+    {
+        match &self.subrs {
+            Some(kept) => kept.rd.as_slice(),
+            None => &[],
+        }
+    }
+
+    /// The phrase after the bytes of each Subr.
+    pub(crate) fn subrs_put(&self) -> &[u8]
+        ensures { result.now ≡ of_subrs (λ s. s.put) (shell_view self.now).subrs }
+    {
+        match &self.subrs {
+            Some(kept) => kept.put.as_slice(),
+            None => &[],
+        }
+    }
+
+    /// The phrase that closes the table of Subrs.
+    pub(crate) fn subrs_def(&self) -> &[u8]
+        ensures { result.now ≡ of_subrs (λ s. s.closing) (shell_view self.now).subrs }
+    {
+        match &self.subrs {
+            Some(kept) => kept.closing.as_slice(),
+            None => &[],
+        }
+    }
+}
+
+/// The bytes of a phrase, with one blank between its words.
+fn phrase_bytes(alloc: Global, phrase: Phrase<'_>) -> Result<Vec<u8>, AllocError>
+    ensures { IfOk result (λ v. v.items ≡ phrase_view phrase.entry) }
+{
+    let mut bytes = Vec::new(alloc);
+    if let Some(access) = phrase.access {
+        bytes.extend_from_slice(access)?;
+        bytes.push(b' ')?;
+    }
+    bytes.extend_from_slice(phrase.word)?;
+    Ok(bytes)
+}
+
+/// The kept words of a table, empty where it has no entry.
+fn kept_words(alloc: Global, words: Option<Words<'_>>) -> Result<(Vec<u8>, Vec<u8>), AllocError>
+    ensures { IfOk result (λ x. (x.0.items, x.1.items) ≡ unwrap_or (option_map words_view words.entry) ([], [])) }
+{
+    match words {
+        Some(words) => {
+            let rd = Vec::from_slice(alloc, words.rd)?;
+            Ok((rd, phrase_bytes(alloc, words.phrase)?))
+        }
+        None => Ok((Vec::new(alloc), Vec::new(alloc))),
+    }
+}
+
+/// What is kept of a table of Subrs beside its Subrs.
+fn kept_subrs(alloc: Global, parts: SubrsParts<'_>) -> Result<KeptSubrs, AllocError>
+    requires { parts.declared ≤ count_limit }
+    ensures { IfOk result (λ s. (p : SubrsPieces) → ShowsTable parts.entry p → subrs_view s ≡ subrs_shell p) }
+{
+    let (rd, put) = kept_words(alloc, parts.words)?;
+    let closing = phrase_bytes(alloc, parts.closing)?;
+    Ok(KeptSubrs {
+        declared: parts.declared as u16,
+        rd,
+        put,
+        closing,
+    })
+}
+
+/// The same, where there is such a table.
+fn kept_table(alloc: Global, parts: Option<SubrsParts<'_>>) -> Result<Option<KeptSubrs>, AllocError>
+    requires { declared_in parts ≤ count_limit }
+    ensures { IfOk result (λ s. (p : Option SubrsPieces) → ShowsSubrs parts.entry p → option_map subrs_view s ≡ option_map subrs_shell p) }
+{
+    match parts {
+        Some(parts) => Ok(Some(kept_subrs(alloc, parts)?)),
+        None => Ok(None),
+    }
+}
+
+/// The shell of what was read.
+pub(crate) fn kept_shell(
+    alloc: Global,
+    outside: &ClearParts<'_>,
+    inside: &PrivateParts<'_>,
+) -> Result<KeptShell, AllocError>
+    requires { declared_in inside.now.subrs ≤ count_limit }
+    ensures { IfOk result (λ s. (c : ClearPieces) (p : PrivatePieces) (g : Entries) → ShowsClear outside.now g.codes c → ShowsPrivate inside.now g p → shell_view s ≡ shell_of c p) }
+{
+    let (glyphs_rd, glyphs_def) = kept_words(alloc, inside.glyphs.words)?;
+    Ok(KeptShell {
+        head: Vec::from_slice(alloc, outside.head)?,
+        clear_tail: Vec::from_slice(alloc, outside.clear_tail)?,
+        private: Vec::from_slice(alloc, inside.private)?,
+        middle: Vec::from_slice(alloc, inside.middle)?,
+        tail: Vec::from_slice(alloc, inside.tail)?,
+        len_iv: inside.len_iv,
+        subrs: kept_table(alloc, inside.subrs)?,
+        glyphs_rd,
+        glyphs_def,
+    })
+}

@@ -1,0 +1,222 @@
+//! A font that owns its bytes.
+
+ghost use Rattle.std.specs.Prelude.{◌≡◌, ◌++◌, ℕ, List, map, length, filter, IfOk, OnOk};
+ghost use Rattle.std.specs.List.Sorted.{IsStrictlySortedBy};
+ghost use Rattle.std.specs.Map.{keys_of};
+ghost use Rattle.std.specs.Ordering.{nat_cmp};
+ghost use Rattle.std.specs.FinMap.{from_sorted, entries};
+ghost use Rattle.t1_join.specs.TableMeaning.{Rises};
+ghost use Rattle.t1_font.specs.Entries.{has_name};
+ghost use Rattle.t1_font.specs.FontModel.{encoding_of};
+ghost use Rattle.t1_font.specs.FontValue.{name_cmp};
+ghost use Rattle.t1_font.specs.Gathering.{gathered_codes, gathered_glyphs};
+ghost use Rattle.t1_font.specs.Ranges.{bytes_at, IsInside, AllInside, numbered_at, named_at};
+ghost use Rattle.t1_font.specs.Sources.{NamesInside};
+
+use crate::font::{Font, FontParts, LentEncoding};
+use crate::glyphs::is_notdef;
+use crate::lent::{Named, Numbered};
+use crate::ranges::Range;
+use crate::shell::KeptShell;
+use std::alloc::{AllocError, Global};
+use std::collections::BTreeMap;
+use std::marker::Model;
+
+/// The Encoding: one word, or the names of codes.
+#[derive(Drop)]
+pub(crate) enum KeptEncoding {
+    Word(Vec<u8>),
+    Codes(Vec<(u16, Range)>),
+}
+
+/// The parts of a font that owns them, which together need not be one. Names and charstrings are ranges of the buffer.
+#[derive(Drop)]
+pub(crate) struct SourceParts {
+    pub(crate) shell: KeptShell,
+    pub(crate) encoding: KeptEncoding,
+    pub(crate) buffer: Vec<u8>,
+    pub(crate) subrs: Vec<(u16, Range)>,
+    pub(crate) glyphs: Vec<(Range, Range)>,
+}
+
+impl Model for SourceParts {
+    ghost use Rattle.t1_font.specs.FontValue.{FontValue};
+    ghost use Rattle.t1_font.specs.FontModel.{font_code};
+    ghost use Rattle.t1_font.specs.Sources.{source_value, IsSource};
+
+    ghost Value = { FontValue };
+
+    ghost coded = { font_code };
+
+    ghost view = { source_value };
+
+    ghost invariant = { IsSource };
+}
+
+/// What [`read`](crate::read) reads: a font program that owns its bytes. [`Source::font`] lends the font.
+///
+/// It has one buffer of all names and plain charstrings, and tables of where each stands there.
+#[derive(Drop)]
+pub struct Source {
+    pub(crate) parts: SourceParts,
+}
+
+impl Model for Source {
+    ghost use Rattle.t1_font.specs.FontValue.{FontValue};
+    ghost use Rattle.t1_font.specs.FontModel.{font_code};
+    ghost use Rattle.t1_font.specs.IsFont.{IsFont};
+
+    ghost Value = { FontValue };
+
+    ghost coded = { font_code };
+
+    ghost view = { λ s. s.parts };
+
+    ghost invariant = { λ s. IsFont s.parts };
+}
+
+impl Source {
+    /// The font, which borrows its names, charstrings and texts. The source lives as long as the font, and as every
+    /// font that is cut or merged from it.
+    ///
+    /// # Errors
+    ///
+    /// Where a growth was refused.
+    pub fn font(&self, alloc: Global) -> Result<Font<'_>, AllocError>
+        ensures { IfOk result (λ f. f ≡ self.now) }
+    {
+        let parts = self.parts.lent(alloc)?;
+        Ok(Font { parts })
+    }
+}
+
+/// The entries by number, each lent from the buffer.
+fn numbered<'a>(
+    alloc: Global,
+    entries: &[(u16, Range)],
+    buffer: &'a [u8],
+) -> Result<Numbered<'a>, AllocError>
+    requires inside { AllInside (length buffer.now) entries.now }
+    requires rises { Rises nat_cmp (map (numbered_at buffer.now) entries.now) }
+    ensures { IfOk result (λ m. m ≡ from_sorted (map (numbered_at buffer.now) entries.now)) }
+{
+    let mut lent = Vec::with_capacity(alloc, entries.len())?;
+    'entries: for (number, place) in entries {
+        lent.push((*number, &buffer[place.start..place.end]))?;
+    }
+    Ok(Numbered { entries: lent })
+}
+
+/// The entries by name, each lent from the buffer.
+fn named<'a>(
+    alloc: Global,
+    entries: &[(Range, Range)],
+    buffer: &'a [u8],
+) -> Result<Named<'a>, AllocError>
+    requires names { NamesInside (length buffer.now) entries.now }
+    requires inside { AllInside (length buffer.now) entries.now }
+    requires rises { Rises name_cmp (map (named_at buffer.now) entries.now) }
+    ensures { IfOk result (λ m. m ≡ from_sorted (map (named_at buffer.now) entries.now)) }
+{
+    let mut lent = Vec::with_capacity(alloc, entries.len())?;
+    'entries: for (name, place) in entries {
+        lent.push((
+            &buffer[name.start..name.end],
+            &buffer[place.start..place.end],
+        ))?;
+    }
+    Ok(Named { entries: lent })
+}
+
+impl SourceParts {
+    /// The Encoding, lent.
+    fn encoding(&self, alloc: Global) -> Result<LentEncoding<'_>, AllocError>
+        ensures { IfOk result (λ e. encoding_of e ≡ self.now.encoding) }
+    {
+        match &self.encoding {
+            KeptEncoding::Word(word) => Ok(LentEncoding::Word(word.as_slice())),
+            KeptEncoding::Codes(names) => {
+                Ok(LentEncoding::Codes(numbered(alloc, names, &self.buffer)?))
+            }
+        }
+    }
+
+    /// The parts, lent.
+    pub(crate) fn lent(&self, alloc: Global) -> Result<FontParts<'_>, AllocError>
+        ensures { IfOk result (λ f. f ≡ self.now) }
+    {
+        Ok(FontParts {
+            shell: &self.shell,
+            encoding: self.encoding(alloc)?,
+            subrs: numbered(alloc, &self.subrs, &self.buffer)?,
+            glyphs: named(alloc, &self.glyphs, &self.buffer)?,
+        })
+    }
+}
+
+/// The entries of a map that is used up, in the order of their keys.
+pub(crate) fn drained<K: Ord + Drop, V: Drop>(
+    alloc: Global,
+    map: BTreeMap<K, V>,
+) -> Result<Vec<(K, V)>, AllocError>
+    ensures items { IfOk result (λ v. v.items ≡ map.entries) }
+    ensures ordered { IfOk result (λ _. IsStrictlySortedBy K.cmp (keys_of map.entries)) }
+{
+    let mut entries = Vec::with_capacity(alloc, map.len())?;
+    'entries: for entry in map {
+        entries.push(entry)?;
+    }
+    Ok(entries)
+}
+
+/// Puts bytes at the end of a buffer, and answers where they stand there.
+fn add_bytes(buffer: &mut Vec<u8>, bytes: &[u8]) -> Result<Range, AllocError>
+    ensures grown { OnOk result (buffer.new.items ≡ buffer.old.items ++ bytes.now) }
+    ensures place { IfOk result (λ r. bytes_at buffer.new.items r ≡ bytes.now) }
+    ensures inside { IfOk result (λ r. IsInside (length buffer.new.items) r) }
+{
+    let start = buffer.len();
+    buffer.extend_from_slice(bytes)?;
+    Ok(Range {
+        start,
+        end: buffer.len(),
+    })
+}
+
+/// Puts the names of codes at the end of the buffer; `.notdef` is no name.
+pub(crate) fn keep_codes(
+    alloc: Global,
+    codes: BTreeMap<u16, &[u8]>,
+    buffer: &mut Vec<u8>,
+) -> Result<Vec<(u16, Range)>, AllocError>
+    ensures entries { IfOk result (λ v. map (numbered_at buffer.new.items) v.items ≡ filter has_name (entries (gathered_codes codes.entry.entries))) }
+    ensures inside { IfOk result (λ v. AllInside (length buffer.new.items) v.items) }
+    ensures longer { OnOk result ((more : List ℕ) × (buffer.new.items ≡ buffer.old.items ++ more)) }
+{
+    let mut kept = Vec::with_capacity(alloc, codes.len())?;
+    'codes: for (code, name) in codes {
+        if !is_notdef(name) {
+            kept.push((code, add_bytes(buffer, name)?))?;
+        }
+    }
+    Ok(kept)
+}
+
+/// Puts the names of glyphs at the end of the buffer where their charstrings stand.
+pub(crate) fn keep_names(
+    alloc: Global,
+    glyphs: BTreeMap<&[u8], Range>,
+    buffer: &mut Vec<u8>,
+) -> Result<Vec<(Range, Range)>, AllocError>
+    requires { AllInside (length buffer.old.items) glyphs.entries }
+    ensures entries { IfOk result (λ v. map (named_at buffer.new.items) v.items ≡ entries (gathered_glyphs buffer.old.items glyphs.entry.entries)) }
+    ensures names { IfOk result (λ v. NamesInside (length buffer.new.items) v.items) }
+    ensures inside { IfOk result (λ v. AllInside (length buffer.new.items) v.items) }
+    ensures longer { OnOk result ((more : List ℕ) × (buffer.new.items ≡ buffer.old.items ++ more)) }
+{
+    let mut kept = Vec::with_capacity(alloc, glyphs.len())?;
+    'names: for (name, place) in glyphs {
+        kept.push((add_bytes(buffer, name)?, place))?;
+    }
+    Ok(kept)
+}
