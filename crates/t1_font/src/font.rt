@@ -172,16 +172,16 @@ impl<'a> Font<'a> {
     pub fn present(&self, index: u16) -> bool
         ensures { result ≡ fin.contains_key self.now.subrs index }
     {
-        self.parts.subrs.get(index).is_some()
+        self.parts.subr(index).is_some()
     }
 }
 
 impl<'a> FontParts<'a> {
-    /// The plain charstring of a Subr.
+    /// The plain charstring of a Subr. Where all below it are present, it stands at the place of its index.
     fn subr(&self, index: u16) -> Option<&'a [u8]>
         ensures { option_map (λ b. b.now) result ≡ fin.get self.now.subrs index }
     {
-        self.subrs.get(index)
+        self.subrs.get_near(index as usize, index)
     }
 
     /// The weight, as far as 64 bits hold it.
