@@ -1,4 +1,4 @@
--- The mark and the cipher are read as they are spelled, and a flat text is split as the definition says.
+-- The marker and the cipher are read as they are spelled, and a flat text is split as the definition says.
 use Rattle.std.proofs.Common.{◌≡◌, ℕ, ◌+◌, ◌≤◌, ◌-◌, List, [], ◌++◌, length, append_assoc, Option, Some, None, Result, Ok, Err, MatchResult, refl, sym, ap, ◌∙◌, arith}
 use Rattle.std.specs.Prelude.{codes}
 use Rattle.std.proofs.lemmas.List.{append-nil, length-append}
@@ -8,7 +8,7 @@ use Rattle.t1_bytes.specs.declared.fault.BytesFault.{BytesFault}
 use Rattle.t1_bytes.specs.declared.fault.BytesFault.TheVariants.{BadSegment, Memory, NoEexec, ShortCipher}
 use Rattle.t1_bytes.specs.Grammar.{first}
 use Rattle.t1_bytes.specs.White.{is_white, white, gap}
-use Rattle.t1_bytes.specs.Eexec.{eexec_mark, is_hex_text, cipher_text, split_view, IsSplit, SplitFails, or_short, split_after, split_of}
+use Rattle.t1_bytes.specs.Eexec.{eexec_marker, is_hex_text, cipher_text, split_view, IsSplit, SplitFails, or_short, split_after, split_of}
 use Rattle.t1_bytes.specs.Faults.{Refused, Answers, OrMemory}
 use Rattle.t1_bytes.proofs.HexLemmas.{same_Ok}
 use Rattle.std.specs.Global.{Vec}
@@ -26,34 +26,34 @@ pub cipher_exact : IsExact cipher_text
 unfolding cipher_text
 cipher_exact = that_exact _ _ (bind_exact _ _ (run_exact _) (λ _. either_exact _ _ (bind_exact _ _ (before_exact is_hex_text) (λ _. bind_exact _ _ (run_exact _) (λ digits. pure_exact _))) all_exact))
 
-pub eexec_exact : IsExact eexec_mark
-unfolding eexec_mark
+pub eexec_exact : IsExact eexec_marker
+unfolding eexec_marker
 eexec_exact = bind_exact _ _ (fixed_exact (codes "currentfile")) (λ currentfile. bind_exact _ _ gap_exact (λ between. bind_exact _ _ (fixed_exact (codes "eexec")) (λ eexec. bind_exact _ _ (before_exact _) (λ _. pure_exact (currentfile ++ between ++ eexec)))))
 
-pub eexec_begins : Begins (codes "currentfile") eexec_mark
-unfolding eexec_mark
+pub eexec_begins : Begins (codes "currentfile") eexec_marker
+unfolding eexec_marker
 eexec_begins bytes e = rw e refl
 
 -- ---- what the definition gives is the split, or the reason that there is none
 
-split_is : (flat : List ℕ) (found : Option ((List ℕ × List ℕ) × List ℕ)) → (first eexec_mark).read flat ≡ found → MatchResult {T = ℕ × List ℕ} (split_after found) (λ x. IsSplit flat x.0 x.1) (SplitFails flat)
+split_is : (flat : List ℕ) (found : Option ((List ℕ × List ℕ) × List ℕ)) → (first eexec_marker).read flat ≡ found → MatchResult {T = ℕ × List ℕ} (split_after found) (λ x. IsSplit flat x.0 x.1) (SplitFails flat)
 split_is flat None e = e
-split_is flat (Some ((front, mark), after)) e = by_cipher (cipher_text.read after) refl
+split_is flat (Some ((front, marker), after)) e = by_cipher (cipher_text.read after) refl
   where
-    by_cipher : (secret : Option (List ℕ × List ℕ)) → cipher_text.read after ≡ secret → MatchResult {T = ℕ × List ℕ} (or_short (λ s. (length front + length mark, s.0)) secret) (λ x. IsSplit flat x.0 x.1) (SplitFails flat)
-    by_cipher None k = (front, mark, after, (first_exact eexec_mark eexec_exact).takes flat ((front, mark), after) e, k)
-    by_cipher (Some (cipher, rest)) k = record { front = front; mark = mark; after = after; rest = rest; first_mark = (first_exact eexec_mark eexec_exact).takes flat ((front, mark), after) e; secret = cipher_exact.takes after (cipher, rest) k; place = refl }
+    by_cipher : (secret : Option (List ℕ × List ℕ)) → cipher_text.read after ≡ secret → MatchResult {T = ℕ × List ℕ} (or_short (λ s. (length front + length marker, s.0)) secret) (λ x. IsSplit flat x.0 x.1) (SplitFails flat)
+    by_cipher None k = (front, marker, after, (first_exact eexec_marker eexec_exact).takes flat ((front, marker), after) e, k)
+    by_cipher (Some (cipher, rest)) k = record { front = front; marker = marker; after = after; rest = rest; first_marker = (first_exact eexec_marker eexec_exact).takes flat ((front, marker), after) e; secret = cipher_exact.takes after (cipher, rest) k; place = refl }
 
 pub split_right : (flat : List ℕ) → MatchResult {T = ℕ × List ℕ} (split_of flat) (λ x. IsSplit flat x.0 x.1) (SplitFails flat)
 unfolding split_of
-split_right flat = split_is flat ((first eexec_mark).read flat) refl
+split_right flat = split_is flat ((first eexec_marker).read flat) refl
 
 -- a split is what the definition gives
 pub split_again : (flat : List ℕ) (at : ℕ) (cipher : List ℕ) → IsSplit flat at cipher → split_of flat ≡ Ok (at, cipher)
 unfolding split_of
 split_again flat at cipher s =
-    ap split_after (front_again (first eexec_mark) (first_exact eexec_mark eexec_exact) flat ((s.front, s.mark), s.after) s.first_mark)
-    ∙ (ap (or_short (λ x. (length s.front + length s.mark, x.0))) (front_again cipher_text cipher_exact s.after (cipher, s.rest) s.secret)
+    ap split_after (front_again (first eexec_marker) (first_exact eexec_marker eexec_exact) flat ((s.front, s.marker), s.after) s.first_marker)
+    ∙ (ap (or_short (λ x. (length s.front + length s.marker, x.0))) (front_again cipher_text cipher_exact s.after (cipher, s.rest) s.secret)
     ∙ ap (λ (n : ℕ). Ok (n, cipher)) (sym s.place))
 
 -- a reason is what the definition gives
@@ -61,24 +61,24 @@ pub fails_again : (flat : List ℕ) (fault : BytesFault) → SplitFails flat fau
 unfolding split_of
 fails_again flat NoEexec s = ap split_after s
 fails_again flat ShortCipher s =
-    ap split_after (front_again (first eexec_mark) (first_exact eexec_mark eexec_exact) flat ((s.0, s.1), s.2) s.3) ∙ ap (or_short (λ x. (length s.0 + length s.1, x.0))) s.4
+    ap split_after (front_again (first eexec_marker) (first_exact eexec_marker eexec_exact) flat ((s.0, s.1), s.2) s.3) ∙ ap (or_short (λ x. (length s.0 + length s.1, x.0))) s.4
 fails_again flat (BadSegment at) s = absurd s
 fails_again flat Memory s = absurd s
 
 -- ---- what is known of what was read
 
-pub mark_found : {A : Type 0} (o : Option (A × List ℕ)) (rest : List ℕ) → option_map (λ (x : A × List ℕ). x.1) o ≡ Some rest → (a : A) × (o ≡ Some (a, rest))
-mark_found None rest e = absurd (none-some rest e)
-mark_found {A} (Some x) rest e = (x.0, ap (λ (r : List ℕ). Some (x.0, r)) (same_Some x.1 rest e))
+pub marker_found : {A : Type 0} (o : Option (A × List ℕ)) (rest : List ℕ) → option_map (λ (x : A × List ℕ). x.1) o ≡ Some rest → (a : A) × (o ≡ Some (a, rest))
+marker_found None rest e = absurd (none-some rest e)
+marker_found {A} (Some x) rest e = (x.0, ap (λ (r : List ℕ). Some (x.0, r)) (same_Some x.1 rest e))
 
-pub mark_absent : {A : Type 0} (o : Option (A × List ℕ)) → option_map (λ (x : A × List ℕ). x.1) o ≡ None → o ≡ None
-mark_absent None e = refl
-mark_absent (Some x) e = absurd cc
+pub marker_absent : {A : Type 0} (o : Option (A × List ℕ)) → option_map (λ (x : A × List ℕ). x.1) o ≡ None → o ≡ None
+marker_absent None e = refl
+marker_absent (Some x) e = absurd cc
 
--- the mark's value is its own text
-pub mark_own : (mark own rest : List ℕ) → eexec_mark.Spells mark own rest → own ≡ mark
-unfolding eexec_mark gap
-mark_own mark own rest s =
+-- the marker's value is its own text
+pub marker_own : (marker own rest : List ℕ) → eexec_marker.Spells marker own rest → own ≡ marker
+unfolding eexec_marker gap
+marker_own marker own rest s =
     let last : s.5.5.5.2 ≡ [] = s.5.5.5.5.0 in
     let none : s.5.5.5.1 ≡ [] = s.5.5.5.4.0 in
     let parts : own ≡ s.0 ++ (s.5.0 ++ (s.5.5.0 ++ ([] ++ []))) =
@@ -90,26 +90,26 @@ mark_own mark own rest s =
 abbrev pub placed : ℕ → Option (List ℕ × List ℕ) → Result (ℕ × List ℕ) BytesFault
 placed n secret = or_short (λ x. (n, x.0)) secret
 
-found_place : (flat front mark after : List ℕ) → (first eexec_mark).read flat ≡ Some ((front, mark), after) → length front + length mark ≡ length flat - length after
-found_place flat front mark after e =
-    let s = (first_exact eexec_mark eexec_exact).takes flat ((front, mark), after) e in
-    let own : s.2.0 ≡ mark = mark_own mark s.2.0 after s.2.2 in
+found_place : (flat front marker after : List ℕ) → (first eexec_marker).read flat ≡ Some ((front, marker), after) → length front + length marker ≡ length flat - length after
+found_place flat front marker after e =
+    let s = (first_exact eexec_marker eexec_exact).takes flat ((front, marker), after) e in
+    let own : s.2.0 ≡ marker = marker_own marker s.2.0 after s.2.2 in
     omega (arith, ap length s.1, length-append s.0 after, ap length s.2.1, length-append front s.2.0, ap length own)
 
-pub split_within : (flat after : List ℕ) → option_map (λ (x : (List ℕ × List ℕ) × List ℕ). x.1) ((first eexec_mark).read flat) ≡ Some after → length after ≤ length flat
+pub split_within : (flat after : List ℕ) → option_map (λ (x : (List ℕ × List ℕ) × List ℕ). x.1) ((first eexec_marker).read flat) ≡ Some after → length after ≤ length flat
 split_within flat after e =
-    let found = mark_found ((first eexec_mark).read flat) after e in
-    let s = (first_exact eexec_mark eexec_exact).takes flat (found.0, after) found.1 in
+    let found = marker_found ((first eexec_marker).read flat) after e in
+    let s = (first_exact eexec_marker eexec_exact).takes flat (found.0, after) found.1 in
     omega (arith, ap length s.1, length-append s.0 after)
 
-pub split_absent : (flat : List ℕ) → option_map (λ (x : (List ℕ × List ℕ) × List ℕ). x.1) ((first eexec_mark).read flat) ≡ None → split_of flat ≡ Err NoEexec
+pub split_absent : (flat : List ℕ) → option_map (λ (x : (List ℕ × List ℕ) × List ℕ). x.1) ((first eexec_marker).read flat) ≡ None → split_of flat ≡ Err NoEexec
 unfolding split_of
-split_absent flat e = ap split_after (mark_absent ((first eexec_mark).read flat) e)
+split_absent flat e = ap split_after (marker_absent ((first eexec_marker).read flat) e)
 
-pub split_found : (flat after : List ℕ) → option_map (λ (x : (List ℕ × List ℕ) × List ℕ). x.1) ((first eexec_mark).read flat) ≡ Some after → split_of flat ≡ placed (length flat - length after) (cipher_text.read after)
+pub split_found : (flat after : List ℕ) → option_map (λ (x : (List ℕ × List ℕ) × List ℕ). x.1) ((first eexec_marker).read flat) ≡ Some after → split_of flat ≡ placed (length flat - length after) (cipher_text.read after)
 unfolding split_of
 split_found flat after e =
-    let found = mark_found ((first eexec_mark).read flat) after e in
+    let found = marker_found ((first eexec_marker).read flat) after e in
     ap split_after found.1 ∙ ap (λ (n : ℕ). placed n (cipher_text.read after)) (found_place flat found.0.0 found.0.1 after found.1)
 
 pub ok_placed : (n : ℕ) (secret : Option (List ℕ × List ℕ)) (cipher : List ℕ) → or_short (λ (x : List ℕ × List ℕ). x.0) secret ≡ Ok cipher → placed n secret ≡ Ok (n, cipher)

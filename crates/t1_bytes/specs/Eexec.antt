@@ -7,7 +7,7 @@ use Rattle.t1_bytes.specs.declared.fault.BytesFault.TheVariants.{BadSegment, NoE
 use Rattle.t1_bytes.specs.Grammar.{Grammar, pure, ◌>>=◌, ◌>>◌, that, run, before, fixed, either, all, first, AtFront, Lacks}
 use Rattle.t1_bytes.specs.White.{is_white, gap}
 
--- ---- the mark
+-- ---- the marker
 
 -- a blank, a tab, CR or LF
 abbrev pub is_blank : ℕ → Bool
@@ -19,8 +19,8 @@ blank_comes [] = false
 blank_comes (b ∷ bs) = is_blank b
 
 -- `currentfile`, white space and `eexec`, before a blank, a tab, CR or LF; its value is its own bytes
-unfoldable pub eexec_mark : Grammar (List ℕ)
-eexec_mark = do
+unfoldable pub eexec_marker : Grammar (List ℕ)
+eexec_marker = do
   currentfile ← fixed (codes "currentfile")
   between ← gap
   eexec ← fixed (codes "eexec")
@@ -80,20 +80,20 @@ cipher_text = that has_four (do
 
 -- ---- the split
 
--- A flat text is split at the offset `at`: through there it is its clear text, which ends with the first mark, and this is the cipher that follows.
+-- A flat text is split at the offset `at`: through there it is its clear text, which ends with the first marker, and this is the cipher that follows.
 pub record IsSplit (flat : List ℕ) (at : ℕ) (cipher : List ℕ) : Type 0 where
   pub front : List ℕ
-  pub mark : List ℕ
+  pub marker : List ℕ
   pub after : List ℕ
   pub rest : List ℕ
-  pub first_mark : AtFront (first eexec_mark) flat ((front, mark), after)
+  pub first_marker : AtFront (first eexec_marker) flat ((front, marker), after)
   pub secret : AtFront cipher_text after (cipher, rest)
-  pub place : at ≡ length front + length mark
+  pub place : at ≡ length front + length marker
 
--- Why a flat text isn't split: it has no mark, or no cipher follows the first one. Want of memory is no reason of the text.
+-- Why a flat text isn't split: it has no marker, or no cipher follows the first one. Want of memory is no reason of the text.
 abbrev pub SplitFails : List ℕ → BytesFault → Type 0
-SplitFails flat NoEexec = Lacks eexec_mark flat
-SplitFails flat ShortCipher = (front mark after : List ℕ) × AtFront (first eexec_mark) flat ((front, mark), after) × (cipher_text.read after ≡ None)
+SplitFails flat NoEexec = Lacks eexec_marker flat
+SplitFails flat ShortCipher = (front marker after : List ℕ) × AtFront (first eexec_marker) flat ((front, marker), after) × (cipher_text.read after ≡ None)
 SplitFails flat (BadSegment at) = ⊥
 SplitFails flat Memory = ⊥
 
@@ -108,11 +108,11 @@ abbrev pub or_short : {A B : Type 0} → (A → B) → Option A → Result B Byt
 or_short f (Some x) = Ok (f x)
 or_short f None = Err ShortCipher
 
--- the split at a mark that was found, if one was
+-- the split at a marker that was found, if one was
 abbrev pub split_after : Option ((List ℕ × List ℕ) × List ℕ) → Result (ℕ × List ℕ) BytesFault
 split_after None = Err NoEexec
 split_after (Some found) = or_short (λ secret. (length found.0.0 + length found.0.1, secret.0)) (cipher_text.read found.1)
 
 -- the offset after `eexec` and the cipher, or why there is none
 unfoldable pub split_of : List ℕ → Result (ℕ × List ℕ) BytesFault
-split_of flat = split_after ((first eexec_mark).read flat)
+split_of flat = split_after ((first eexec_marker).read flat)

@@ -3,7 +3,7 @@
 ghost use Rattle.std.specs.Prelude.{◌≡◌, ℕ, List, Some, Ok, Err, MatchResult, length, take_while};
 ghost use Rattle.std.specs.Option.{option_map};
 ghost use Rattle.t1_bytes.specs.Grammar.{run, first};
-ghost use Rattle.t1_bytes.specs.Eexec.{is_blank, blank_comes, eexec_mark, is_hex_text, cipher_text, split_view, IsSplit, SplitFails, or_short, split_of};
+ghost use Rattle.t1_bytes.specs.Eexec.{is_blank, blank_comes, eexec_marker, is_hex_text, cipher_text, split_view, IsSplit, SplitFails, or_short, split_of};
 ghost use Rattle.t1_bytes.specs.Faults.{Answers, OrMemory};
 ghost use Rattle.t1_bytes.specs.declared.fault.BytesFault.{BytesFault};
 
@@ -26,10 +26,10 @@ fn blank_comes(bytes: &[u8]) -> bool
     !bytes.is_empty() && is_blank(bytes[0])
 }
 
-/// What stands after the mark at the front of bytes.
-#[tactic(auto, unfolding(crate::specs::Eexec::eexec_mark))]
-fn eexec_mark_at(bytes: &[u8]) -> Option<&[u8]>
-    ensures { option_map (λ x. x.now) result ≡ option_map (λ x. x.1) (eexec_mark.read bytes.now) }
+/// What stands after the marker at the front of bytes.
+#[tactic(auto, unfolding(crate::specs::Eexec::eexec_marker))]
+fn eexec_marker_at(bytes: &[u8]) -> Option<&[u8]>
+    ensures { option_map (λ x. x.now) result ≡ option_map (λ x. x.1) (eexec_marker.read bytes.now) }
 {
     let (_, rest) = fixed_at(bytes, b"currentfile")?;
     let (_, rest) = gap_at(rest)?;
@@ -40,14 +40,14 @@ fn eexec_mark_at(bytes: &[u8]) -> Option<&[u8]>
     Some(rest)
 }
 
-/// What stands after the first mark.
+/// What stands after the first marker.
 fn after_eexec(flat: &[u8]) -> Option<&[u8]>
-    ensures { option_map (λ x. x.now) result ≡ option_map (λ x. x.1) ((first eexec_mark).read flat.now) }
+    ensures { option_map (λ x. x.now) result ≡ option_map (λ x. x.1) ((first eexec_marker).read flat.now) }
 {
     let mut from = 0;
     'places: while let Some(place) = find_from(flat, b"currentfile", from) {
         let (_, here) = flat.split_at(place);
-        if let Some(after) = eexec_mark_at(here) {
+        if let Some(after) = eexec_marker_at(here) {
             return Some(after);
         }
         from = place + 1;
@@ -82,7 +82,7 @@ fn after_blanks(bytes: &[u8]) -> &[u8]
     rest
 }
 
-/// The cipher bytes of what follows the mark.
+/// The cipher bytes of what follows the marker.
 #[tactic(auto, unfolding(crate::specs::Eexec::cipher_text, crate::specs::Eexec::spelled_ahead, crate::specs::Eexec::digits_ahead))]
 fn cipher_after(alloc: Global, after: &[u8]) -> Result<Vec<u8>, BytesFault>
     ensures { Answers (λ v. v.items) result (or_short (λ x. x.0) (cipher_text.read after.now)) }
@@ -99,7 +99,7 @@ fn cipher_after(alloc: Global, after: &[u8]) -> Result<Vec<u8>, BytesFault>
     Ok(cipher)
 }
 
-/// The offset after the first mark, and the cipher bytes that follow.
+/// The offset after the first marker, and the cipher bytes that follow.
 fn split(alloc: Global, flat: &[u8]) -> Result<(usize, Vec<u8>), BytesFault>
     ensures { Answers split_view result (split_of flat.now) }
 {

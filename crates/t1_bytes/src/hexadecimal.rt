@@ -44,6 +44,25 @@ fn put_line(out: &mut Vec<u8>, line: &[u8]) -> Result<(), AllocError>
     Ok(())
 }
 
+/// Writes the lines of [`hex_lines`] at the end.
+///
+/// # Errors
+///
+/// Where a growth was refused.
+pub fn put_hex_lines(out: &mut Vec<u8>, bytes: &[u8]) -> Result<(), AllocError>
+    ensures { OnOk result (out.new.items ≡ out.old.items ++ hex_lines bytes.now) }
+{
+    'lines: for line in bytes.chunks(LINE) {
+        put_line(out, line)?;
+    }
+    Ok(())
+}
+
+/// How many bytes the lines of so many bytes have, as far as it can be told.
+fn lines_len(bytes: usize) -> usize {
+    bytes.saturating_mul(2).saturating_add(bytes.div_ceil(LINE))
+}
+
 /// The bytes as hexadecimal text: lower-case digits, 64 on each line, LF after each line, a short
 /// last one too. No bytes have no line.
 ///
@@ -54,11 +73,7 @@ pub fn hex_lines(alloc: Global, bytes: &[u8]) -> Result<Vec<u8>, BytesFault>
     ensures text { IfOk result (λ v. v.items ≡ hex_lines bytes.now) }
     ensures memory { IfErr result (λ fault. fault ≡ Memory) }
 {
-    let lines = bytes.len().div_ceil(LINE);
-    let size = bytes.len().saturating_mul(2).saturating_add(lines);
-    let mut out = Vec::with_capacity(alloc, size)?;
-    'lines: for line in bytes.chunks(LINE) {
-        put_line(&mut out, line)?;
-    }
+    let mut out = Vec::with_capacity(alloc, lines_len(bytes.len()))?;
+    put_hex_lines(&mut out, bytes)?;
     Ok(out)
 }

@@ -38,7 +38,7 @@ pub fn one_split()
     ensures { OneSplit }
 {}
 
-/// A flat text is refused for want of `eexec` where no offset has the mark, and nowhere else.
+/// A flat text is refused for want of `eexec` where no offset has the marker, and nowhere else.
 pub fn lacks_everywhere()
     ensures { LacksEverywhere }
 {}

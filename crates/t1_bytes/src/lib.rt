@@ -23,8 +23,8 @@ pub use cipher::{CHARSTRING_KEY, EEXEC_KEY, EEXEC_LEAD, decrypt, encrypt, open, 
 pub use eexec::split_eexec;
 pub use fault::BytesFault;
 pub use form::Form;
-pub use hexadecimal::{hex_lines, trailer};
-pub use pfb::{flatten, segments};
+pub use hexadecimal::{hex_lines, put_hex_lines, trailer};
+pub use pfb::{flatten, is_segmented, segments};
 
 #[cfg(test)]
 mod tests;

@@ -3,7 +3,7 @@
 ghost use Rattle.std.specs.Prelude.{◌≡◌, ◌++◌, ◌≤◌, ◌<◌, ◌^◌, ℕ, List, length, Ok, Err, MatchResult, OnOk, IfOk, IfErr};
 ghost use Rattle.std.specs.Option.{option_map};
 ghost use Rattle.t1_bytes.specs.declared.fault.BytesFault.TheVariants.{Memory};
-ghost use Rattle.t1_bytes.specs.Segments.{segment, end, IsFlat, IsBad, flat_of};
+ghost use Rattle.t1_bytes.specs.Segments.{segment, end, starts_segment, IsFlat, IsBad, flat_of};
 ghost use Rattle.t1_bytes.specs.Texts.{segment_text, pfb_text};
 ghost use Rattle.t1_bytes.specs.Faults.{Gives, Refuses};
 
@@ -47,14 +47,21 @@ fn end_at(bytes: &[u8]) -> Option<(&[u8], &[u8])>
     fixed_at(bytes, &[MARK, END])
 }
 
+/// Whether a file is in segments: its first byte is 128. The flat text of any other file is the file itself.
+pub fn is_segmented(file: &[u8]) -> bool
+    ensures { result ≡ starts_segment file.now }
+{
+    file.starts_with(&[MARK])
+}
+
 /// The flat text of a file, by the reading of segments from left to right.
 fn flat(alloc: Global, file: &[u8]) -> Result<Vec<u8>, BytesFault>
     ensures { Gives (λ v. v.items) result (flat_of file.now) }
 {
-    if !file.starts_with(&[MARK]) {
+    if !is_segmented(file) {
         return Ok(Vec::from_slice(alloc, file)?);
     }
-    let mut flat = Vec::new(alloc);
+    let mut flat = Vec::with_capacity(alloc, file.len())?;
     let mut rest = file;
     'segments: loop {
         if let Some(_) = end_at(rest) {

@@ -219,7 +219,7 @@ fn splits_flat_texts(rt: HostRuntime) {
         (
             b"% currentfile eexec \x81\x82\x83\x84",
             Ok((19, b"\x81\x82\x83\x84")),
-            "a mark in a comment",
+            "a marker in a comment",
         ),
         (
             b"currentfile % eexec \x81\x82\x83\x84",

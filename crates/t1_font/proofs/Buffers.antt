@@ -1,20 +1,18 @@
 -- Ranges of a buffer that grows.
 use Rattle.std.proofs.Common.{◌≡◌, refl, sym, ap, subst, ◌∙◌, ℕ, ◌+◌, ◌-◌, ◌≤◌, arith, List, [], ◌∷◌, ◌++◌, length, take, take_all, drop}
-use Rattle.std.proofs.lemmas.List.{length-append, length-drop, take-append-le, drop-append-le, drop-drop, drop_at}
-use Rattle.std.proofs.lemmas.List.Elements.{All-cons, All-head, All-tail}
+use Rattle.std.proofs.lemmas.List.{map_push, length-append, length-drop, take-append-le, drop-append-le, drop-drop, drop_at}
+use Rattle.std.proofs.lemmas.List.Elements.{All-nil, All-cons, All-head, All-tail, All-append}
 use Rattle.std.specs.declared.cmp.Ordering.{Ordering}
-use Rattle.std.specs.declared.cmp.Ordering.TheVariants.{Less, Equal, Greater}
-use Rattle.std.specs.Ordering.{match_ordering}
-use Rattle.std.specs.BTreeMap.{insert_entry}
 use Rattle.std.specs.Cmp.{IsTotalOrder}
 use Rattle.std.specs.FinMap as fin
-use Rattle.std.specs.FinMap.{IsAntisymmetric, from_entries}
+use Rattle.std.specs.FinMap.{IsAntisymmetric}
 use Rattle.t1_bytes.specs.Cipher.{decrypted}
 use Rattle.t1_bytes.proofs.Ciphers.{length-decrypted}
-use Rattle.t1_join.specs.Entries.{entries_by}
-use Rattle.t1_join.proofs.TreeEntries.{map_insert}
+use Rattle.t1_join.specs.Entries.{entry_by, entries_by}
 use Rattle.t1_font.specs.declared.ranges.Range.{Range}
 use Rattle.t1_font.specs.Charstrings.{plain_of}
+use Rattle.t1_font.specs.Entries.{map_of}
+use Rattle.t1_font.proofs.MapLaws.{map_of-append}
 use Rattle.t1_font.specs.Ranges.{bytes_at, IsInside, AllInside}
 
 -- a longer buffer has the same bytes in the same ranges
@@ -26,6 +24,11 @@ bytes_longer buffer more r h =
 pub inside_longer : (m n : ℕ) (r : Range) → m ≤ n → IsInside m r → IsInside n r
 inside_longer m n r le h = record { ordered = h.ordered; within = omega (arith, le, h.within) }
 
+-- an entry that is put at the end of others, in their map
+pub pushed : {K V M : Type 0} (f : K → M) (g : V → List ℕ) {S : M → M → Ordering} → IsTotalOrder S → IsAntisymmetric S → (es : List (K × V)) (k : K) (v : V) →
+    map_of {R = S} (entries_by f g (es ++ (k, v) ∷ [])) ≡ fin.insert (map_of (entries_by f g es)) (f k) (g v)
+pushed f g {S} o same es k v = ap (map_of {R = S}) (map_push (entry_by f g) es (k, v)) ∙ map_of-append o same (entries_by f g es) (f k, g v)
+
 module _ {K : Type 0} where
   pub all_longer : (m n : ℕ) (es : List (K × Range)) → m ≤ n → AllInside m es → AllInside n es
   all_longer m n es le h = λ k d l. inside_longer m n _ le (h k d l)
@@ -34,18 +37,6 @@ module _ {K : Type 0} where
   entries_longer f buffer more [] h = refl
   entries_longer f buffer more (e ∷ es) h =
       λ i. (f e.0, bytes_longer buffer more e.1 (All-head (λ (e : K × Range). IsInside (length buffer) e.1) e es h) i) ∷ entries_longer f buffer more es (All-tail (λ (e : K × Range). IsInside (length buffer) e.1) e es h) i
-
-  -- one more range
-  pub inside_insert : (R : K → K → Ordering) (n : ℕ) (es : List (K × Range)) (k : K) (r : Range) → IsInside n r → AllInside n es → AllInside n (insert_entry R es k r)
-  inside_insert R n [] k r i h = All-cons (λ (e : K × Range). IsInside n e.1) (k, r) [] i h
-  inside_insert R n (e ∷ es) k r i h =
-      let first = All-head (λ (e : K × Range). IsInside n e.1) e es h in
-      let rest = All-tail (λ (e : K × Range). IsInside n e.1) e es h in
-      elim (R k e.0) as (λ o. AllInside n (match_ordering o ((k, r) ∷ e ∷ es) ((e.0, r) ∷ es) (e ∷ insert_entry R es k r))) [
-        | Less ↦ All-cons (λ (e : K × Range). IsInside n e.1) (k, r) (e ∷ es) i h
-        | Equal ↦ All-cons (λ (e : K × Range). IsInside n e.1) (e.0, r) es i rest
-        | Greater ↦ All-cons (λ (e : K × Range). IsInside n e.1) e (insert_entry R es k r) first (inside_insert R n es k r i rest)
-      ]
 
 -- where a buffer is another with more bytes
 module _ (old new more : List ℕ) (is : new ≡ old ++ more) where
@@ -82,13 +73,14 @@ module _ (buffer body now : List ℕ) (iv : ℕ) (r : Range) (room : iv ≤ leng
   others_stay f es h = ap (λ b. entries_by f (bytes_at b) es) grown ∙ entries_longer f buffer (decrypted 4330 body) es h
 
   -- with an entry of the charstring
-  module _ {K : Type 0} (R : K → K → Ordering) (es more : List (K × Range)) (k : K) (is : more ≡ insert_entry R es k r) (inside : AllInside (length buffer) es) where
+  module _ {K : Type 0} (es more : List (K × Range)) (k : K) (is : more ≡ es ++ (k, r) ∷ []) (inside : AllInside (length buffer) es) where
     pub all_inside : AllInside (length now) more
-    all_inside = subst (AllInside (length now)) (sym is) (inside_insert R (length now) es k r plain_inside (still_inside es inside))
+    all_inside =
+        let Inside = λ (e : K × Range). IsInside (length now) e.1 in
+        subst (AllInside (length now)) (sym is) (All-append Inside es ((k, r) ∷ []) (still_inside es inside) (All-cons Inside (k, r) [] plain_inside (All-nil Inside)))
 
-    pub map_with : {M : Type 0} (f : K → M) (S : M → M → Ordering) → IsTotalOrder S → IsAntisymmetric S → ((x y : K) → R x y ≡ S (f x) (f y)) →
-        from_entries {R = S} (entries_by f (bytes_at now) more) ≡ fin.insert (from_entries (entries_by f (bytes_at buffer) es)) (f k) (plain_of iv body)
-    map_with f S o same by =
-        ap (λ all. from_entries {R = S} (entries_by f (bytes_at now) all)) is
-        ∙ (map_insert f (bytes_at now) R S o same by es k r
-        ∙ (λ i. fin.insert (from_entries {R = S} (others_stay f es inside i)) (f k) (plain_at i)))
+    pub map_with : {M : Type 0} (f : K → M) {S : M → M → Ordering} → IsTotalOrder S → IsAntisymmetric S → map_of {R = S} (entries_by f (bytes_at now) more) ≡ fin.insert (map_of (entries_by f (bytes_at buffer) es)) (f k) (plain_of iv body)
+    map_with f {S} o same =
+        ap (λ all. map_of {R = S} (entries_by f (bytes_at now) all)) is
+        ∙ (pushed f (bytes_at now) o same es k r
+        ∙ (λ i. fin.insert (map_of {R = S} (others_stay f es inside i)) (f k) (plain_at i)))

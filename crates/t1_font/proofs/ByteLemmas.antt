@@ -17,7 +17,7 @@ use Rattle.t1_bytes.specs.Laws.{AreBytes}
 use Rattle.t1_bytes.proofs.Ciphers.{sealed_bytes}
 use Rattle.t1_font.specs.FontValue.{FontValue, Shell, SubrsShell, Encoding, Word, Codes, Numbered}
 use Rattle.t1_font.specs.Subrs.{Subr}
-use Rattle.t1_font.specs.Marks.{Glyph}
+use Rattle.t1_font.specs.Glyphs.{Glyph}
 use Rattle.t1_font.specs.Canon.{sealed_body, subr_entry, glyph_entry, subrs_pieces, encoding_pieces, canon_clear, canon_private, canon}
 use Rattle.t1_font.specs.Writing.{subr_text, subrs_text, subrs_part, glyph_text, glyphs_text, glyphs_part, puts_text, encoding_text}
 use Rattle.t1_font.specs.IsFont.{IsFont, IsEncoding, SubrsFit, SubrWords, EncodingBytes, SubrsBytes, HasBytes}

@@ -9,18 +9,19 @@ use Rattle.t1_bytes.specs.White.{gap}
 use Rattle.t1_bytes.proofs.Grammars.{that_read}
 use Rattle.t1_bytes.proofs.Tables.{table_at-step}
 use Rattle.t1_font.specs.Words.{is_regular, word, keyword, decimal}
-use Rattle.t1_font.specs.Marks.{encoding_mark, encoding_word, encoding_table, encoding_loop, encoding_start, octal, code, code_entry, encoding_end}
+use Rattle.t1_font.specs.Markers.{encoding_marker}
+use Rattle.t1_font.specs.Encoding.{encoding_word, encoding_table, encoding_loop, encoding_start, octal, code, code_entry, encoding_end}
 use Rattle.t1_font.specs.Pieces.{EncodingText, OneWord, Puts, encoding_from, clear_pieces}
 use Rattle.t1_font.specs.Writing.{puts_text, encoding_text}
-use Rattle.t1_font.specs.IsFont.{IsWord, IsCode, NoMark}
+use Rattle.t1_font.specs.IsFont.{IsWord, IsCode, NoMarker}
 use Rattle.t1_font.proofs.EntryLemmas.{code_entry_eats, code_entry_apart}
 use Rattle.t1_font.proofs.Written.{gap_one, word_read, keyword_read, black, black_digits, decimal_read, no_white}
 use Rattle.t1_font.proofs.GlyphsWritten.{fixed_read, name_read, is_word_of}
 use Rattle.t1_font.proofs.Moves.{first_behind, encoding_moves}
 
-pub encoding_mark_read : (rest : List ℕ) → encoding_mark.read (codes "/Encoding" ++ (32 ∷ rest)) ≡ Some (tt, 32 ∷ rest)
-unfolding encoding_mark
-encoding_mark_read rest = rw (fixed_read (codes "/Encoding") (32 ∷ rest)) refl
+pub encoding_marker_read : (rest : List ℕ) → encoding_marker.read (codes "/Encoding" ++ (32 ∷ rest)) ≡ Some (tt, 32 ∷ rest)
+unfolding encoding_marker
+encoding_marker_read rest = rw (fixed_read (codes "/Encoding") (32 ∷ rest)) refl
 
 pub encoding_word_read : (w rest : List ℕ) → IsWord 32 w → Stops is_regular rest → encoding_word.read (32 ∷ (w ++ (codes " def" ++ rest))) ≡ Some (w, rest)
 unfolding encoding_word
@@ -110,13 +111,13 @@ unfolding encoding_start
 start_table rest = rw (no_word (codes "0 1 255 {1 index exch /.notdef put} for" ++ (10 ∷ rest)), table_begins (codes "0 1 255 {1 index exch /.notdef put} for" ++ (10 ∷ rest)), loop_read rest) refl
 
 -- the canonical clear text, without the line end behind it
-pub clear_again : (head : List ℕ) (encoding : EncodingText) (tail : List ℕ) → NoMark encoding_mark head → IsEncodingText encoding → Stops is_regular tail → (clear_pieces (head ++ (encoding_text encoding ++ tail))).read ≡ Ok (record { head = head; encoding = encoding; clear_tail = tail })
+pub clear_again : (head : List ℕ) (encoding : EncodingText) (tail : List ℕ) → NoMarker encoding_marker head → IsEncodingText encoding → Stops is_regular tail → (clear_pieces (head ++ (encoding_text encoding ++ tail))).read ≡ Ok (record { head = head; encoding = encoding; clear_tail = tail })
 unfolding clear_pieces encoding_from
 clear_again head (OneWord w) tail none h s =
     let t : List ℕ = w ++ (codes " def" ++ tail) in
     let regrouped : encoding_text (OneWord w) ++ tail ≡ codes "/Encoding" ++ (32 ∷ t) = simp append_assoc in
-    let mark : first_at encoding_mark (head ++ (codes "/Encoding" ++ (32 ∷ t))) ≡ Some ((head, tt), 32 ∷ t) = first_behind encoding_mark head _ tt (32 ∷ t) (encoding_moves head [] _ none) (encoding_mark_read t) in
-    rw (regrouped, mark, start_word w tail h s) refl
+    let marker : first_at encoding_marker (head ++ (codes "/Encoding" ++ (32 ∷ t))) ≡ Some ((head, tt), 32 ∷ t) = first_behind encoding_marker head _ tt (32 ∷ t) (encoding_moves head [] _ none) (encoding_marker_read t) in
+    rw (regrouped, marker, start_word w tail h s) refl
 clear_again head (Puts es) tail none h s =
     let line = puts_line es in
     let p : List ℕ = puts_text es ++ tail in
@@ -124,5 +125,5 @@ clear_again head (Puts es) tail none h s =
     let shown : p ≡ 10 ∷ (line.0 ++ tail) = ap (λ (u : List ℕ). u ++ tail) line.1 in
     let start : encoding_start.read (32 ∷ t) ≡ Some (None, p) =
     subst (λ (u : List ℕ). encoding_start.read (codes " 256 array" ++ (10 ∷ (codes "0 1 255 {1 index exch /.notdef put} for" ++ u))) ≡ Some (None, u)) (sym shown) (start_table (line.0 ++ tail)) in
-    let mark : first_at encoding_mark (head ++ (codes "/Encoding" ++ (32 ∷ t))) ≡ Some ((head, tt), 32 ∷ t) = first_behind encoding_mark head _ tt (32 ∷ t) (encoding_moves head [] _ none) (encoding_mark_read t) in
-    rw (mark, start, puts_read es tail h s) refl
+    let marker : first_at encoding_marker (head ++ (codes "/Encoding" ++ (32 ∷ t))) ≡ Some ((head, tt), 32 ∷ t) = first_behind encoding_marker head _ tt (32 ∷ t) (encoding_moves head [] _ none) (encoding_marker_read t) in
+    rw (marker, start, puts_read es tail h s) refl

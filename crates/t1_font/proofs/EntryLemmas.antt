@@ -12,9 +12,10 @@ use Rattle.t1_bytes.proofs.Tables.{Eats, Apart}
 use Rattle.t1_bytes.proofs.SegmentLemmas.{Eats-spelled}
 use Rattle.t1_bytes.specs.White.{is_white}
 use Rattle.t1_font.specs.Words.{is_regular, keyword, name}
-use Rattle.t1_font.specs.Marks.{code_entry, encoding_end, glyph, glyphs_end}
+use Rattle.t1_font.specs.Encoding.{code_entry, encoding_end}
+use Rattle.t1_font.specs.Glyphs.{glyph, glyphs_end}
 use Rattle.t1_font.proofs.WordLemmas.{keyword_text}
-use Rattle.t1_font.proofs.MarkLemmas.{code_entry_exact, glyph_exact}
+use Rattle.t1_font.proofs.MarkerLemmas.{code_entry_exact, glyph_exact}
 
 pub code_entry_eats : Eats code_entry
 unfolding code_entry

@@ -1,35 +1,39 @@
 -- A flat text is cut where it is split.
-use Rattle.std.proofs.Common.{◌≡◌, ℕ, ◌≤◌, List, ◌++◌, length, take, Ok, refl, sym, ap, ◌∙◌, arith}
+use Rattle.std.proofs.Common.{◌≡◌, ℕ, ◌≤◌, List, ◌++◌, length, take, false, Result, Ok, Err, refl, sym, ap, subst, ◌∙◌, arith}
 use Rattle.std.proofs.lemmas.List.{length-append, take_at}
 use Rattle.std.proofs.lemmas.Bool.{leb-true}
 use Rattle.t1_bytes.specs.declared.fault.BytesFault.{BytesFault}
 use Rattle.t1_bytes.specs.declared.fault.BytesFault.TheVariants.{BadSegment, NoEexec, ShortCipher, Memory}
 use Rattle.t1_bytes.specs.Grammar.{first}
-use Rattle.t1_bytes.specs.Eexec.{eexec_mark, cipher_text, IsSplit, SplitFails}
+use Rattle.t1_bytes.specs.Eexec.{eexec_marker, cipher_text, IsSplit, SplitFails}
 use Rattle.t1_bytes.specs.Faults.{OrMemory}
 use Rattle.t1_bytes.proofs.Grammars.{first_exact, front_again}
-use Rattle.t1_bytes.proofs.EexecLemmas.{cipher_exact, eexec_exact, mark_own}
+use Rattle.t1_bytes.proofs.EexecLemmas.{cipher_exact, eexec_exact, marker_own}
 use Rattle.t1_font.specs.Faults.{read_fault}
-use Rattle.t1_font.specs.Answers.{Refused}
+use Rattle.t1_bytes.specs.Segments.{starts_segment}
+use Rattle.t1_font.specs.declared.fault.ReadFault.{ReadFault}
+use Rattle.t1_font.specs.Reading.{Reading}
+use Rattle.t1_font.specs.ReadFont.{flat_text, file_pieces}
+use Rattle.t1_font.specs.Answers.{Shown, Refused}
 use Rattle.t1_font.specs.Pieces.{FlatPieces, flat_pieces}
 
 pub split_pieces : (flat : List ℕ) (at : ℕ) (cipher : List ℕ) → IsSplit flat at cipher → (p : FlatPieces) × ((flat_pieces flat).read ≡ Ok p) × ((take at flat ≡ p.clear) × (cipher ≡ p.cipher))
 unfolding flat_pieces
 split_pieces flat at cipher s =
-    let m = s.first_mark in
-    let own : m.2.0 ≡ s.mark = mark_own s.mark m.2.0 s.after m.2.2 in
-    let text : m.0 ≡ s.front ++ s.mark = m.2.1 ∙ ap (λ (u : List ℕ). s.front ++ u) own in
-    let whole : flat ≡ (s.front ++ s.mark) ++ s.after = m.1 ∙ ap (λ (u : List ℕ). u ++ s.after) text in
-    let place : at ≡ length (s.front ++ s.mark) = s.place ∙ sym (length-append s.front s.mark) in (
-      record { clear = s.front ++ s.mark; cipher = cipher },
-      rw (front_again (first eexec_mark) (first_exact eexec_mark eexec_exact) flat ((s.front, s.mark), s.after) m, front_again cipher_text cipher_exact s.after (cipher, s.rest) s.secret) refl,
-      (ap (take at) whole ∙ take_at (s.front ++ s.mark) s.after at (sym place), refl),
+    let m = s.first_marker in
+    let own : m.2.0 ≡ s.marker = marker_own s.marker m.2.0 s.after m.2.2 in
+    let text : m.0 ≡ s.front ++ s.marker = m.2.1 ∙ ap (λ (u : List ℕ). s.front ++ u) own in
+    let whole : flat ≡ (s.front ++ s.marker) ++ s.after = m.1 ∙ ap (λ (u : List ℕ). u ++ s.after) text in
+    let place : at ≡ length (s.front ++ s.marker) = s.place ∙ sym (length-append s.front s.marker) in (
+      record { clear = s.front ++ s.marker; cipher = cipher },
+      rw (front_again (first eexec_marker) (first_exact eexec_marker eexec_exact) flat ((s.front, s.marker), s.after) m, front_again cipher_text cipher_exact s.after (cipher, s.rest) s.secret) refl,
+      (ap (take at) whole ∙ take_at (s.front ++ s.marker) s.after at (sym place), refl),
     )
 
 pub split_within : (flat : List ℕ) (at : ℕ) (cipher : List ℕ) → IsSplit flat at cipher → at ≤ length flat
 split_within flat at cipher s =
-    let m = s.first_mark in
-    let own : m.2.0 ≡ s.mark = mark_own s.mark m.2.0 s.after m.2.2 in
+    let m = s.first_marker in
+    let own : m.2.0 ≡ s.marker = marker_own s.marker m.2.0 s.after m.2.2 in
     omega (arith, ap length m.1, length-append m.0 s.after, ap length m.2.1, length-append s.front m.2.0, ap length own, s.place)
 
 pub split_lead : (flat : List ℕ) (at : ℕ) (cipher : List ℕ) → IsSplit flat at cipher → 4 ≤ length cipher
@@ -40,5 +44,15 @@ pub split_fails : (flat : List ℕ) (fault : BytesFault) → OrMemory (SplitFail
 unfolding flat_pieces
 split_fails flat Memory h = tt
 split_fails flat NoEexec h = rw h refl
-split_fails flat ShortCipher h = rw (front_again (first eexec_mark) (first_exact eexec_mark eexec_exact) flat ((h.0, h.1), h.2) h.3, h.4) refl
+split_fails flat ShortCipher h = rw (front_again (first eexec_marker) (first_exact eexec_marker eexec_exact) flat ((h.0, h.1), h.2) h.3, h.4) refl
 split_fails flat (BadSegment at) h = absurd h
+
+-- a file that is not in segments is its own flat text
+pub plain_pieces : (file : List ℕ) → starts_segment file ≡ false → (file_pieces file).read ≡ (flat_pieces file).read
+unfolding flat_text
+plain_pieces file h = rw h refl
+
+-- what shows a reading shows another that reads the same
+pub shown_alike : {X A : Type 0} (Shows : X → A → Type 0) (x : Result X ReadFault) (r s : Reading A) → r.read ≡ s.read → Shown Shows x s → Shown Shows x r
+shown_alike Shows (Ok x) r s e h = (h.0, e ∙ h.1, h.2)
+shown_alike Shows (Err f) r s e h = subst (λ o. Refused f o) (sym e) h

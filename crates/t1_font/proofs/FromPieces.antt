@@ -1,17 +1,14 @@
 -- The font of the pieces that were read, and why there is none.
-use Rattle.std.proofs.Common.{◌≡◌, inl, inr, ℕ, ◌≤◌, ◌<◌, Bool, true, false, ◌&&◌, leb, List, Option, Some, None, Ok, Err, refl, sym, subst, ◌∙◌, arith, true≢false}
+use Rattle.std.proofs.Common.{◌≡◌, ℕ, ◌≤◌, ◌<◌, Bool, true, false, Option, Some, None, Ok, Err, refl, sym, ap, subst, ◌∙◌, arith}
 use Rattle.std.specs.Ordering.{nat_cmp}
 use Rattle.std.specs.FinMap.{len}
-use Rattle.std.proofs.lemmas.Bool.{le-leb, and_from}
 use Rattle.t1_font.specs.declared.subrs.SubrsParts.{SubrsParts}
 use Rattle.t1_font.specs.declared.private.PrivateParts.{PrivateParts}
 use Rattle.t1_font.specs.declared.fault.ReadFault.TheVariants.{NoNotdef, Limit}
-use Rattle.t1_font.specs.FontValue.{FontValue, Named, name_cmp, IsWithin, weight, declared_count, count_limit, weight_limit}
+use Rattle.t1_font.specs.FontValue.{FontValue, name_cmp, IsWithin, weight, declared_count, count_limit, weight_limit}
 use Rattle.t1_font.specs.FontModel.{clamp}
 use Rattle.t1_font.specs.Entries.{last_entries}
 use Rattle.t1_font.specs.Gathering.{Entries}
-use Rattle.t1_font.specs.Held.{HoldsGlyphs, glyph_bodies}
-use Rattle.t1_font.specs.Marks.{Glyph}
 use Rattle.t1_font.specs.Pieces.{ClearPieces, SubrsPieces, PrivatePieces}
 use Rattle.t1_font.specs.ReadFont.{subrs_shell, shell_of, font_of, subr_entries, glyph_entries, is_within, font_from}
 use Rattle.t1_font.specs.Answers.{ShowsSubrs, ShowsPrivate, declared_in}
@@ -29,15 +26,6 @@ same_declared None (Some s) h = absurd h
 same_declared (Some x) None h = absurd h
 same_declared (Some x) (Some s) h = h.declared
 
-few_held : (bodies : Named) (p : PrivatePieces) → HoldsGlyphs p.len_iv bodies p.glyphs → len (glyph_bodies p.len_iv p.glyphs) ≤ count_limit → len bodies ≤ count_limit
-few_held bodies p (inl same) few = subst (λ m. len m ≤ count_limit) (sym same) few
-few_held bodies p (inr h) few = absurd (omega (arith, h.1, few))
-
--- so many glyphs, no more than a font may have, are those of the entries
-pub glyphs_held : (iv : ℕ) (bodies : Named) (gs : List Glyph) → HoldsGlyphs iv bodies gs → len bodies ≤ count_limit → bodies ≡ glyph_bodies iv gs
-glyphs_held iv bodies gs (inl same) few = same
-glyphs_held iv bodies gs (inr h) few = absurd (omega (arith, h.0, few))
-
 abbrev within : ClearPieces → PrivatePieces → Bool
 within c p = is_within (shell_of c p) (last_entries nat_cmp (subr_entries p)) (last_entries name_cmp (glyph_entries p))
 
@@ -52,15 +40,13 @@ over : (c : ClearPieces) (p : PrivatePieces) (x : PrivateParts) (g : Entries) �
 unfolding font_from
 over c p x g shows there no_room = rw (sym shows.glyphs.notdef ∙ there, no_room) refl
 
-abbrev fits : PrivateParts → Entries → Bool
-fits x g = leb (declared_in x.subrs) count_limit && leb (len g.glyphs) count_limit
+-- more Subrs are declared than a font may have
+pub declared_over : (c : ClearPieces) (p : PrivatePieces) (x : PrivateParts) (g : Entries) → ShowsPrivate x g p → x.glyphs.has_notdef ≡ true → count_limit < declared_in x.subrs → (font_from c p).read ≡ Err Limit
+declared_over c p x g shows there many = over c p x g shows there (not_within c p (λ w. omega (arith, same_declared x.subrs p.subrs shows.subrs, w.declared, many)))
 
--- more Subrs or glyphs than a font may have
-pub counts_over : (c : ClearPieces) (p : PrivatePieces) (x : PrivateParts) (g : Entries) → ShowsPrivate x g p → x.glyphs.has_notdef ≡ true → fits x g ≡ false → (font_from c p).read ≡ Err Limit
-counts_over c p x g shows there no_room = over c p x g shows there (not_within c p (λ w.
-    true≢false (sym (and_from (leb (declared_in x.subrs) count_limit) (leb (len g.glyphs) count_limit)
-    (le-leb _ _ (subst (λ (n : ℕ). n ≤ count_limit) (sym (same_declared x.subrs p.subrs shows.subrs)) w.declared))
-    (le-leb _ _ (few_held g.glyphs p shows.glyph_bodies w.glyphs))) ∙ no_room)))
+-- more glyphs are there
+pub glyphs_over : (c : ClearPieces) (p : PrivatePieces) (x : PrivateParts) (g : Entries) (f : FontValue) → ShowsPrivate x g p → x.glyphs.has_notdef ≡ true → f ≡ font_of c p → count_limit < len f.glyphs → (font_from c p).read ≡ Err Limit
+glyphs_over c p x g f shows there same many = over c p x g shows there (not_within c p (λ w. omega (arith, ap (λ (v : FontValue). len v.glyphs) same, w.glyphs, many)))
 
 pub weight_over : (c : ClearPieces) (p : PrivatePieces) (x : PrivateParts) (g : Entries) (f : FontValue) (n : ℕ) → ShowsPrivate x g p → x.glyphs.has_notdef ≡ true → f ≡ font_of c p → n ≡ clamp (weight f) → weight_limit < n → (font_from c p).read ≡ Err Limit
 weight_over c p x g f n shows there same is heavy = over c p x g shows there (not_within c p (λ w. heavier (weight f) n (subst (λ (v : FontValue). weight v ≤ weight_limit) (sym same) w.weight) is heavy))
@@ -70,11 +56,11 @@ weight_over c p x g f n shows there same is heavy = over c p x g shows there (no
 
 -- a font within the limits
 pub font_is : (c : ClearPieces) (p : PrivatePieces) (x : PrivateParts) (g : Entries) (f : FontValue) (n : ℕ) → ShowsPrivate x g p → x.glyphs.has_notdef ≡ true →
-    declared_in x.subrs ≤ count_limit → len g.glyphs ≤ count_limit → f ≡ font_of c p → n ≡ clamp (weight f) → n ≤ weight_limit → (font_from c p).read ≡ Ok f
+    declared_in x.subrs ≤ count_limit → len f.glyphs ≤ count_limit → f ≡ font_of c p → n ≡ clamp (weight f) → n ≤ weight_limit → (font_from c p).read ≡ Ok f
 unfolding font_from
 font_is c p x g f n shows there few_subrs few_glyphs same is light =
     let declared : declared_count (shell_of c p).subrs ≤ count_limit = subst (λ (k : ℕ). k ≤ count_limit) (same_declared x.subrs p.subrs shows.subrs) few_subrs in
-    let glyphs : len (font_of c p).glyphs ≤ count_limit = subst (λ (m : Named). len m ≤ count_limit) (glyphs_held p.len_iv g.glyphs p.glyphs shows.glyph_bodies few_glyphs) few_glyphs in
+    let glyphs : len (font_of c p).glyphs ≤ count_limit = subst (λ (v : FontValue). len v.glyphs ≤ count_limit) same few_glyphs in
     let weighs : weight (font_of c p) ≤ weight_limit = subst (λ (v : FontValue). weight v ≤ weight_limit) same (lighter (weight f) n is light) in
     let same_font : font_of c p ≡ f = sym same in
     let yes : within c p ≡ true = within_again c p (record { declared = declared; glyphs = glyphs; weight = weighs }) in

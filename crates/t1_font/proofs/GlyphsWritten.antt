@@ -10,7 +10,7 @@ use Rattle.t1_bytes.specs.White.{white}
 use Rattle.t1_bytes.proofs.Grammars.{fixed_exact, bind_read, that_read, run_read}
 use Rattle.t1_bytes.proofs.Tables.{table_at-step}
 use Rattle.t1_font.specs.Words.{is_regular, is_word, keyword, name, is_name}
-use Rattle.t1_font.specs.Marks.{Glyph, glyph, glyphs_end}
+use Rattle.t1_font.specs.Glyphs.{Glyph, glyph, glyphs_end}
 use Rattle.t1_font.specs.Writing.{glyphs_text}
 use Rattle.t1_font.specs.IsFont.{IsWord, IsPhrase}
 use Rattle.t1_font.proofs.EntryLemmas.{glyph_eats, glyph_apart}

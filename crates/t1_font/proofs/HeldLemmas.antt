@@ -1,21 +1,21 @@
 -- One more entry of a table that is held.
-use Rattle.std.proofs.Common.{◌≡◌, inl, inr, ℕ, ◌≤◌, ◌<◌, ◌||◌, Bool, true, false, List, [], ◌∷◌, ◌++◌, map, Some, refl, sym, ap, subst, ◌∙◌, arith}
+use Rattle.std.proofs.Common.{◌≡◌, ℕ, ◌||◌, Bool, true, false, List, [], ◌∷◌, ◌++◌, map, Some, refl, sym, ap, ◌∙◌}
 use Rattle.std.specs.Prelude.{unwrap_or, filter}
 use Rattle.std.specs.Str.{bytes_eq}
 use Rattle.std.specs.Ordering.{nat_cmp}
 use Rattle.std.specs.Cmp.{nat_cmp_total}
 use Rattle.std.specs.Cmp.Lexicographic.{nat_list_cmp_total}
 use Rattle.std.specs.FinSet.{slice_cmp-IsAntisymmetric, nat_cmp-IsAntisymmetric}
-use Rattle.std.specs.FinMap.{len, insert, empty, from_sorted}
+use Rattle.std.specs.FinMap.{insert, empty, from_sorted}
 use Rattle.std.proofs.lemmas.List.{map_push}
-use Rattle.t1_font.specs.FontValue.{Numbered, Named, name_cmp, notdef, count_limit}
+use Rattle.t1_font.specs.FontValue.{Numbered, Named, name_cmp, notdef}
 use Rattle.t1_font.specs.Charstrings.{plain_of}
 use Rattle.t1_font.specs.Entries.{map_of, names_of, has_name}
 use Rattle.t1_font.specs.Subrs.{Subr}
-use Rattle.t1_font.specs.Marks.{Glyph}
+use Rattle.t1_font.specs.Glyphs.{Glyph}
 use Rattle.t1_font.specs.Held.{first_words, HoldsSubrs, HoldsGlyphs, subr_bodies, glyph_bodies, names_notdef}
 use Rattle.t1_font.specs.Gathering.{named}
-use Rattle.t1_font.proofs.MapLaws.{map_of-append, map_of-nil, entries-map_of, len-grows}
+use Rattle.t1_font.proofs.MapLaws.{map_of-append, map_of-nil, entries-map_of}
 
 pub no_subrs : (iv : ℕ) → empty ≡ subr_bodies iv []
 no_subrs iv = sym (map_of-nil nat_cmp_total nat_cmp-IsAntisymmetric)
@@ -49,23 +49,9 @@ glyphs_more iv es e =
     ap (map_of {R = name_cmp}) (map_push (λ (g : Glyph). (g.name, plain_of iv g.body)) es e)
     ∙ map_of-append nat_list_cmp_total (slice_cmp-IsAntisymmetric nat_cmp-IsAntisymmetric) (map (λ (g : Glyph). (g.name, plain_of iv g.body)) es) (e.name, plain_of iv e.body)
 
-glyphs_grow : (iv : ℕ) (es : List Glyph) (e : Glyph) → len (glyph_bodies iv es) ≤ len (glyph_bodies iv (es ++ e ∷ []))
-glyphs_grow iv es e = subst (λ m. len (glyph_bodies iv es) ≤ len m) (sym (glyphs_more iv es e)) (len-grows nat_list_cmp_total (slice_cmp-IsAntisymmetric nat_cmp-IsAntisymmetric) (glyph_bodies iv es) e.name (plain_of iv e.body))
-
--- a table with more glyphs than a font may have is left as it is
-pub still_over : (iv : ℕ) (bodies : Named) (es : List Glyph) (e : Glyph) → count_limit < len bodies → HoldsGlyphs iv bodies es → HoldsGlyphs iv bodies (es ++ e ∷ [])
-still_over iv bodies es e over (inl same) =
-    let more : len (glyph_bodies iv es) ≤ len (glyph_bodies iv (es ++ e ∷ [])) = glyphs_grow iv es e in
-    let now : count_limit < len (glyph_bodies iv es) = subst (λ m. count_limit < len m) same over in
-    inr (over, omega arith)
-still_over iv bodies es e over (inr h) =
-    let more : len (glyph_bodies iv es) ≤ len (glyph_bodies iv (es ++ e ∷ [])) = glyphs_grow iv es e in
-    inr (over, omega (arith, h.1))
-
--- and one with fewer takes the glyph
-pub one_glyph_more : (iv : ℕ) (bodies next : Named) (es : List Glyph) (e : Glyph) → len bodies ≤ count_limit → next ≡ insert bodies e.name (plain_of iv e.body) → HoldsGlyphs iv bodies es → HoldsGlyphs iv next (es ++ e ∷ [])
-one_glyph_more iv bodies next es e few put (inl same) = inl (put ∙ (ap (λ m. insert m e.name (plain_of iv e.body)) same ∙ sym (glyphs_more iv es e)))
-one_glyph_more iv bodies next es e few put (inr h) = absurd (omega (arith, h.0))
+-- one more glyph
+pub one_glyph_more : (iv : ℕ) (bodies next : Named) (es : List Glyph) (e : Glyph) → next ≡ insert bodies e.name (plain_of iv e.body) → HoldsGlyphs iv bodies es → HoldsGlyphs iv next (es ++ e ∷ [])
+one_glyph_more iv bodies next es e put same = put ∙ (ap (λ m. insert m e.name (plain_of iv e.body)) same ∙ sym (glyphs_more iv es e))
 
 pub one_subr_more : (declared iv : ℕ) (bodies next : Numbered) (es : List Subr) (e : Subr) → next ≡ insert bodies e.index (plain_of iv e.body) → HoldsSubrs declared iv bodies es → HoldsSubrs declared iv next (es ++ e ∷ [])
 one_subr_more declared iv bodies next es e put h few = put ∙ (ap (λ m. insert m e.index (plain_of iv e.body)) (h few) ∙ sym (subrs_more iv es e))

@@ -8,7 +8,7 @@ use Rattle.std.specs.FinMap.{FinMap, find, get, get-entries, entries, len, len-e
 use Rattle.std.proofs.lemmas.Slice.Eq.{bytes_eq-Decides}
 use Rattle.std.proofs.lemmas.Bool.{leb-true}
 use Rattle.t1_font.specs.FontValue.{FontValue, Shell, SubrsShell, Encoding, Word, Codes, Numbered, notdef, total, subr_weight, glyph_weight, weight, count_limit, weight_limit}
-use Rattle.t1_font.specs.Marks.{len_iv}
+use Rattle.t1_font.specs.Markers.{len_iv}
 use Rattle.t1_font.specs.Pieces.{iv_of}
 use Rattle.t1_font.specs.Spelling.{IsLenIV, said, unsaid}
 use Rattle.t1_font.specs.Cut.{stub, map_values, merged, restrict, restrict_encoding, join_encodings, joined_subr, join_parts}

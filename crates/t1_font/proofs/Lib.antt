@@ -1,6 +1,7 @@
 pub mod WordLemmas
 pub mod SubrLemmas
-pub mod MarkLemmas
+pub mod MarkerLemmas
+pub mod Lasts
 pub mod EntryLemmas
 pub mod MapLaws
 pub mod Buffers
@@ -39,7 +40,7 @@ pub mod RoundTrip
 pub mod ReadBack
 pub mod ReadBytes
 pub mod ReadEntries
-pub mod ReadMarks
+pub mod ReadMarkers
 pub mod ReadClear
 pub mod ReadPrivate
 pub mod ReadFontLaws

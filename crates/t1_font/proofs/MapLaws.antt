@@ -1,5 +1,5 @@
 -- The maps of a font's entries: each key has its last value.
-use Rattle.std.proofs.Common.{◌≡◌, ℕ, ◌+◌, ◌≤◌, ◌++◌, subst, arith, Bool, true, false, cond, ◌&&◌, T, List, [], ◌∷◌, length, Option, Some, None, refl, sym, ap, ◌∙◌, inl, inr}
+use Rattle.std.proofs.Common.{◌≡◌, ℕ, ◌++◌, Bool, true, false, cond, ◌&&◌, T, List, [], ◌∷◌, length, Option, Some, None, refl, sym, ap, ◌∙◌, inl, inr}
 use Rattle.std.specs.Prelude.{filter}
 use Rattle.std.specs.Ordering.{is_lt, is_eq}
 use Rattle.std.specs.declared.cmp.Ordering.{Ordering}
@@ -7,7 +7,6 @@ use Rattle.std.specs.declared.cmp.Ordering.TheVariants.{Less, Equal, Greater}
 use Rattle.std.specs.Cmp.{IsTotalOrder, Equal-is}
 use Rattle.std.specs.FinSet.{IsAntisymmetric}
 use Rattle.std.specs.FinMap as maps
-use Rattle.std.specs.FinMap.{FinMap}
 use Rattle.std.specs.FinMap.Entries.{below_all, is_sorted-put, find-put}
 use Rattle.std.proofs.lemmas.Bool.{cases_Bool}
 use Rattle.t1_bytes.specs.Grammar.{choice}
@@ -35,7 +34,7 @@ regroup (Some x) b v rest = refl
 regroup None true v rest = refl
 regroup None false v rest = refl
 
-choice-none : (o : Option (List ℕ)) → choice o None ≡ o
+pub choice-none : {X : Type 0} (o : Option X) → choice o None ≡ o
 choice-none (Some x) = refl
 choice-none None = refl
 
@@ -128,14 +127,6 @@ module _ {K : Type 0} {R : K → K → Ordering} (o : IsTotalOrder R) (same : Is
       get-map_of (es ++ e ∷ []) q
       ∙ (last_value-append q es e
       ∙ (ap (cond (is_eq (R q e.0)) (Some e.1)) (sym (get-map_of es q)) ∙ sym (maps.get-insert o (map_of es) e.0 e.1 q))))
-
-  -- a map never loses an entry by one more
-  pub len-grows : {X : Type 0} (m : FinMap R X) (k : K) (v : X) → maps.len m ≤ maps.len (maps.insert m k v)
-  len-grows m k v = subst (λ n. maps.len m ≤ n) (sym (maps.len-insert o m k v)) (by_key (maps.contains_key m k))
-    where
-      by_key : (b : Bool) → maps.len m ≤ cond b (maps.len m) (maps.len m + 1)
-      by_key true = omega arith
-      by_key false = omega arith
 
   -- no entries make an empty map
   pub map_of-nil : map_of {R = R} [] ≡ maps.empty

@@ -9,9 +9,9 @@ use Rattle.std.proofs.lemmas.Bool.{cases_Bool}
 use Rattle.t1_bytes.specs.Grammar.{Grammar, pure, ◌>>=◌, that, run, before, fixed, NoneIn, Stops, first_at}
 use Rattle.t1_bytes.proofs.Grammars.{first_here}
 use Rattle.t1_bytes.specs.White.{is_white, gap}
-use Rattle.t1_bytes.specs.Eexec.{eexec_mark, blank_comes}
+use Rattle.t1_bytes.specs.Eexec.{eexec_marker, blank_comes}
 use Rattle.t1_font.specs.Words.{is_regular, keyword, decimal, digits_after, is_decimal}
-use Rattle.t1_font.specs.Marks.{subrs_mark, chars_mark, encoding_mark, white_comes, break_comes}
+use Rattle.t1_font.specs.Markers.{subrs_marker, chars_marker, encoding_marker, white_comes, break_comes}
 use Rattle.t1_bytes.proofs.Places.{prepend}
 use Rattle.t1_font.proofs.FirstPlace.{prepend-nil, prepend-prepend, one_place}
 use Rattle.t1_font.proofs.Borders.{strip, fixed_strip}
@@ -165,40 +165,40 @@ module _ (r s : List ℕ) where
     | inr t ↦ rw (t.2, t.3) (G.alike t.1)
   ]
 
-  subrs_behind : Behind (47 ∷ r) (47 ∷ s) subrs_mark
-  unfolding subrs_mark
+  subrs_behind : Behind (47 ∷ r) (47 ∷ s) subrs_marker
+  unfolding subrs_marker
   subrs_behind b xs =
       then_within _ _ _ (fixed_behind (47 ∷ r) (47 ∷ s) 47 (codes "Subrs") (slash_word (codes "Subrs") r refl) (slash_word (codes "Subrs") s refl) b xs)
       (slash_bind _ _ slash_gap (λ _. slash_bind _ _ slash_decimal (λ declared. slash_bind _ _ slash_gap (λ _. slash_bind _ _ (slash_keyword (codes "array")) (λ _. slash_bind _ _ (before_within (47 ∷ r) (47 ∷ s) white_comes (λ b bs cs. refl) refl) (λ _. pure_within (47 ∷ r) (47 ∷ s) declared))))))
 
-  chars_behind : Behind (47 ∷ r) (47 ∷ s) chars_mark
-  unfolding chars_mark
+  chars_behind : Behind (47 ∷ r) (47 ∷ s) chars_marker
+  unfolding chars_marker
   chars_behind b xs =
       then_within _ _ _ (fixed_behind (47 ∷ r) (47 ∷ s) 47 (codes "CharStrings") (slash_word (codes "CharStrings") r refl) (slash_word (codes "CharStrings") s refl) b xs)
       (slash_bind _ _ slash_gap (λ _. slash_bind _ _ slash_decimal (λ declared. slash_bind _ _ slash_gap (λ _. slash_bind _ _ (slash_keyword (codes "dict")) (λ _. slash_bind _ _ slash_gap (λ _. slash_bind _ _ (slash_keyword (codes "dup")) (λ _. slash_bind _ _ slash_gap (λ _. slash_bind _ _ (slash_keyword (codes "begin")) (λ _. before_within (47 ∷ r) (47 ∷ s) white_comes (λ b bs cs. refl) refl)))))))))
 
-  encoding_behind : Behind (47 ∷ r) (47 ∷ s) encoding_mark
-  unfolding encoding_mark
+  encoding_behind : Behind (47 ∷ r) (47 ∷ s) encoding_marker
+  unfolding encoding_marker
   encoding_behind b xs =
       then_within _ _ _ (fixed_behind (47 ∷ r) (47 ∷ s) 47 (codes "Encoding") (slash_word (codes "Encoding") r refl) (slash_word (codes "Encoding") s refl) b xs)
       (before_within (47 ∷ r) (47 ∷ s) break_comes (λ b bs cs. refl) refl)
 
 -- the end of the clear text, before two texts that begin with no white space and no letter of it
-pub eexec_within : (u v : List ℕ) → Stops is_white u → Stops is_white v → Foreign (codes "currentfile") u → Foreign (codes "currentfile") v → Foreign (codes "eexec") u → Foreign (codes "eexec") v → blank_comes u ≡ blank_comes v → Within u v eexec_mark
-unfolding eexec_mark
+pub eexec_within : (u v : List ℕ) → Stops is_white u → Stops is_white v → Foreign (codes "currentfile") u → Foreign (codes "currentfile") v → Foreign (codes "eexec") u → Foreign (codes "eexec") v → blank_comes u ≡ blank_comes v → Within u v eexec_marker
+unfolding eexec_marker
 eexec_within u v s t a b c d e = bind_within u v _ _ (fixed_within u v (codes "currentfile") a b) (λ currentfile. bind_within u v _ _ (gap_within u v s t) (λ between. bind_within u v _ _ (fixed_within u v (codes "eexec") c d) (λ eexec. bind_within u v _ _ (before_within u v blank_comes (λ b bs cs. refl) e) (λ _. pure_within u v (currentfile ++ between ++ eexec)))))
 
-pub subrs_moves : (front r s : List ℕ) → NoneIn subrs_mark front (47 ∷ r) → NoneIn subrs_mark front (47 ∷ s)
-subrs_moves front r s = none_moves (47 ∷ r) (47 ∷ s) subrs_mark (subrs_behind r s) front
+pub subrs_moves : (front r s : List ℕ) → NoneIn subrs_marker front (47 ∷ r) → NoneIn subrs_marker front (47 ∷ s)
+subrs_moves front r s = none_moves (47 ∷ r) (47 ∷ s) subrs_marker (subrs_behind r s) front
 
-pub chars_moves : (front r s : List ℕ) → NoneIn chars_mark front (47 ∷ r) → NoneIn chars_mark front (47 ∷ s)
-chars_moves front r s = none_moves (47 ∷ r) (47 ∷ s) chars_mark (chars_behind r s) front
+pub chars_moves : (front r s : List ℕ) → NoneIn chars_marker front (47 ∷ r) → NoneIn chars_marker front (47 ∷ s)
+chars_moves front r s = none_moves (47 ∷ r) (47 ∷ s) chars_marker (chars_behind r s) front
 
-pub encoding_moves : (front r s : List ℕ) → NoneIn encoding_mark front (47 ∷ r) → NoneIn encoding_mark front (47 ∷ s)
-encoding_moves front r s = none_moves (47 ∷ r) (47 ∷ s) encoding_mark (encoding_behind r s) front
+pub encoding_moves : (front r s : List ℕ) → NoneIn encoding_marker front (47 ∷ r) → NoneIn encoding_marker front (47 ∷ s)
+encoding_moves front r s = none_moves (47 ∷ r) (47 ∷ s) encoding_marker (encoding_behind r s) front
 
-pub eexec_moves : (front r s : List ℕ) → NoneIn eexec_mark front (47 ∷ r) → NoneIn eexec_mark front (47 ∷ s)
-eexec_moves front r s = none_moves (47 ∷ r) (47 ∷ s) eexec_mark (behind (47 ∷ r) (47 ∷ s) eexec_mark (eexec_within (47 ∷ r) (47 ∷ s) refl refl
+pub eexec_moves : (front r s : List ℕ) → NoneIn eexec_marker front (47 ∷ r) → NoneIn eexec_marker front (47 ∷ s)
+eexec_moves front r s = none_moves (47 ∷ r) (47 ∷ s) eexec_marker (behind (47 ∷ r) (47 ∷ s) eexec_marker (eexec_within (47 ∷ r) (47 ∷ s) refl refl
     (slash_word (codes "currentfile") r refl) (slash_word (codes "currentfile") s refl)
     (slash_word (codes "eexec") r refl) (slash_word (codes "eexec") s refl) refl)) front
 

@@ -12,12 +12,13 @@ use Rattle.t1_bytes.proofs.Grammars.{first_exact, first_here}
 use Rattle.t1_bytes.proofs.Places.{prepend}
 use Rattle.t1_font.specs.Words.{is_regular}
 use Rattle.t1_font.specs.Subrs.{Subr, subr, subrs_end}
-use Rattle.t1_font.specs.Marks.{subrs_mark, chars_mark, closefile, Glyph, white_comes}
+use Rattle.t1_font.specs.Markers.{subrs_marker, chars_marker, closefile, white_comes}
+use Rattle.t1_font.specs.Glyphs.{Glyph}
 use Rattle.t1_font.specs.declared.fault.ReadFault.{ReadFault}
 use Rattle.t1_font.specs.Pieces.{SubrsPieces, PrivatePieces, private_pieces, tables_from, before_place, glyphs_from, tail_after, has_subrs, iv_of}
 use Rattle.t1_font.specs.Writing.{subrs_text, subrs_part, glyphs_text, glyphs_part, private_written}
-use Rattle.t1_font.specs.IsFont.{IsPhrase, NoMark}
-use Rattle.t1_font.proofs.MarkLemmas.{closefile_exact}
+use Rattle.t1_font.specs.IsFont.{IsPhrase, NoMarker}
+use Rattle.t1_font.proofs.MarkerLemmas.{closefile_exact}
 use Rattle.t1_font.proofs.Written.{IsSubr, gap_one, keyword_read, decimal_read, black_digits, table_read}
 use Rattle.t1_font.proofs.FirstPlace.{one_place}
 use Rattle.t1_font.proofs.Borders.{fixed_strip}
@@ -37,10 +38,10 @@ AreOptional iv middle (Some s) = ArePieces iv s
 -- a private text that can be written
 pub record IsWritable (p : PrivatePieces) : Type 0 where
   pub iv : (iv_of p.private).read ≡ Ok p.len_iv
-  pub no_subrs : NoMark subrs_mark p.private
-  pub no_chars : NoMark chars_mark p.private
+  pub no_subrs : NoMarker subrs_marker p.private
+  pub no_chars : NoMarker chars_marker p.private
   pub middle_apart : Stops is_regular p.middle
-  pub middle_chars : NoMark chars_mark p.middle
+  pub middle_chars : NoMarker chars_marker p.middle
   pub middle_subrs : has_subrs p.middle ≡ false
   pub tail_apart : Stops is_regular p.tail
   pub tail_subrs : has_subrs p.tail ≡ false
@@ -51,9 +52,9 @@ pub record IsWritable (p : PrivatePieces) : Type 0 where
 
 -- ---- the markers
 
-pub subrs_mark_read : (declared : ℕ) (rest : List ℕ) → declared < 10 ^ 9 → white_comes rest ≡ true → subrs_mark.read (codes "/Subrs " ++ (digits declared ++ (codes " array" ++ rest))) ≡ Some (declared, rest)
-unfolding subrs_mark
-subrs_mark_read declared rest few w =
+pub subrs_marker_read : (declared : ℕ) (rest : List ℕ) → declared < 10 ^ 9 → white_comes rest ≡ true → subrs_marker.read (codes "/Subrs " ++ (digits declared ++ (codes " array" ++ rest))) ≡ Some (declared, rest)
+unfolding subrs_marker
+subrs_marker_read declared rest few w =
     let t2 : List ℕ = codes "array" ++ rest in
     let t1 : List ℕ = digits declared ++ (32 ∷ t2) in
     rw (
@@ -69,9 +70,9 @@ subrs_mark_read declared rest few w =
     white_stops [] w = tt
     white_stops (b ∷ bs) w = rw w refl
 
-pub chars_mark_read : (n : ℕ) (rest : List ℕ) → n < 10 ^ 9 → chars_mark.read (codes "/CharStrings " ++ (digits n ++ (codes " dict dup begin" ++ (10 ∷ rest)))) ≡ Some (tt, 10 ∷ rest)
-unfolding chars_mark
-chars_mark_read n rest few =
+pub chars_marker_read : (n : ℕ) (rest : List ℕ) → n < 10 ^ 9 → chars_marker.read (codes "/CharStrings " ++ (digits n ++ (codes " dict dup begin" ++ (10 ∷ rest)))) ≡ Some (tt, 10 ∷ rest)
+unfolding chars_marker
+chars_marker_read n rest few =
     let t4 : List ℕ = codes "begin" ++ (10 ∷ rest) in
     let t3 : List ℕ = codes "dup" ++ (32 ∷ t4) in
     let t2 : List ℕ = codes "dict" ++ (32 ∷ t3) in
@@ -138,21 +139,21 @@ glyphs_line : (es : List Glyph) → (r : List ℕ) × (glyphs_text es ≡ 10 ∷
 glyphs_line [] = (_, refl)
 glyphs_line (e ∷ es) = (_, refl)
 
-pub chars_part_read : (es : List Glyph) (rest : List ℕ) → length es ≤ 65535 → chars_mark.read (glyphs_part es ++ rest) ≡ Some (tt, glyphs_text es ++ rest)
+pub chars_part_read : (es : List Glyph) (rest : List ℕ) → length es ≤ 65535 → chars_marker.read (glyphs_part es ++ rest) ≡ Some (tt, glyphs_text es ++ rest)
 chars_part_read es rest few =
     let line = glyphs_line es in
     let regrouped : glyphs_part es ++ rest ≡ codes "/CharStrings " ++ (digits (length es) ++ (codes " dict dup begin" ++ (glyphs_text es ++ rest))) = simp append_assoc in
     let shown : glyphs_text es ++ rest ≡ 10 ∷ (line.0 ++ rest) = ap (λ (u : List ℕ). u ++ rest) line.1 in
-    ap chars_mark.read (regrouped ∙ ap (λ (u : List ℕ). codes "/CharStrings " ++ (digits (length es) ++ (codes " dict dup begin" ++ u))) shown) ∙ (chars_mark_read (length es) (line.0 ++ rest) (omega (arith, few)) ∙ ap (λ (u : List ℕ). Some (tt, u)) (sym shown))
+    ap chars_marker.read (regrouped ∙ ap (λ (u : List ℕ). codes "/CharStrings " ++ (digits (length es) ++ (codes " dict dup begin" ++ u))) shown) ∙ (chars_marker_read (length es) (line.0 ++ rest) (omega (arith, few)) ∙ ap (λ (u : List ℕ). Some (tt, u)) (sym shown))
 
 nothing_subrs : has_subrs [] ≡ false
-unfolding first_at subrs_mark
+unfolding first_at subrs_marker
 nothing_subrs = refl
 
 -- what is read where the two markers are known
-pieces_read : (text : List ℕ) (chars : (List ℕ × Unit {0}) × List ℕ) (mark : Option ((List ℕ × ℕ) × List ℕ)) (o : Result PrivatePieces ReadFault) → first_at chars_mark text ≡ Some chars → first_at subrs_mark text ≡ mark → (tables_from text chars (before_place (length chars.0.0) mark)).read ≡ o → (private_pieces text).read ≡ o
+pieces_read : (text : List ℕ) (chars : (List ℕ × Unit {0}) × List ℕ) (marker : Option ((List ℕ × ℕ) × List ℕ)) (o : Result PrivatePieces ReadFault) → first_at chars_marker text ≡ Some chars → first_at subrs_marker text ≡ marker → (tables_from text chars (before_place (length chars.0.0) marker)).read ≡ o → (private_pieces text).read ≡ o
 unfolding private_pieces
-pieces_read text chars mark o e k t = rw (e, k) t
+pieces_read text chars marker o e k t = rw (e, k) t
 
 -- without Subrs
 no_tables_again : (p : PrivatePieces) (text junk : List ℕ) → IsWritable p → (tables_from text ((p.private, tt), glyphs_text p.glyphs ++ (p.tail ++ (10 ∷ junk))) None).read ≡ Ok (record { private = p.private; len_iv = p.len_iv; subrs = None; middle = []; glyphs = p.glyphs; tail = p.tail })
@@ -165,9 +166,9 @@ no_subrs_again p junk h e =
     let g : List ℕ = glyphs_part p.glyphs ++ t in
     let text : List ℕ = p.private ++ g in
     let place : (List ℕ × Unit {0}) × List ℕ = ((p.private, tt), glyphs_text p.glyphs ++ t) in
-    let chars : first_at chars_mark text ≡ Some place = first_behind chars_mark p.private g tt _ (chars_moves p.private [] _ h.no_chars) (chars_part_read p.glyphs t h.few) in
-    let subrs : before_place (length p.private) (first_at subrs_mark text) ≡ None = ap (before_place (length p.private)) (past_none subrs_mark p.private g (subrs_moves p.private [] _ h.no_subrs)) ∙ not_before p.private (first_at subrs_mark g) in
-    pieces_read text place (first_at subrs_mark text) _ chars refl (ap (λ (o : Option ((List ℕ × ℕ) × List ℕ)). (tables_from text place o).read) subrs ∙ no_tables_again p text junk h)
+    let chars : first_at chars_marker text ≡ Some place = first_behind chars_marker p.private g tt _ (chars_moves p.private [] _ h.no_chars) (chars_part_read p.glyphs t h.few) in
+    let subrs : before_place (length p.private) (first_at subrs_marker text) ≡ None = ap (before_place (length p.private)) (past_none subrs_marker p.private g (subrs_moves p.private [] _ h.no_subrs)) ∙ not_before p.private (first_at subrs_marker g) in
+    pieces_read text place (first_at subrs_marker text) _ chars refl (ap (λ (o : Option ((List ℕ × ℕ) × List ℕ)). (tables_from text place o).read) subrs ∙ no_tables_again p text junk h)
 
 -- a marker that stands somewhere is found
 pub is_found : {A : Type 0} (g : Grammar A) (front after : List ℕ) (a : A) (rest : List ℕ) → g.read after ≡ Some (a, rest) → (x : (List ℕ × A) × List ℕ) × (first_at g (front ++ after) ≡ Some x)
@@ -185,19 +186,19 @@ subrs_line : (es : List Subr) (closing : List ℕ) → (r : List ℕ) × (subrs_
 subrs_line [] closing = (_, refl)
 subrs_line (e ∷ es) closing = (_, refl)
 
-pub subrs_part_read : (s : SubrsPieces) (rest : List ℕ) → s.declared ≤ 65535 → subrs_mark.read (subrs_part (Some s) ++ rest) ≡ Some (s.declared, subrs_text s.entries s.closing ++ rest)
+pub subrs_part_read : (s : SubrsPieces) (rest : List ℕ) → s.declared ≤ 65535 → subrs_marker.read (subrs_part (Some s) ++ rest) ≡ Some (s.declared, subrs_text s.entries s.closing ++ rest)
 subrs_part_read s rest few =
     let line = subrs_line s.entries s.closing in
     let regrouped : subrs_part (Some s) ++ rest ≡ codes "/Subrs " ++ (digits s.declared ++ (codes " array" ++ (subrs_text s.entries s.closing ++ rest))) = simp append_assoc in
-    ap subrs_mark.read regrouped ∙ subrs_mark_read s.declared (subrs_text s.entries s.closing ++ rest) (omega (arith, few)) (ap (λ (u : List ℕ). white_comes (u ++ rest)) line.1)
+    ap subrs_marker.read regrouped ∙ subrs_marker_read s.declared (subrs_text s.entries s.closing ++ rest) (omega (arith, few)) (ap (λ (u : List ℕ). white_comes (u ++ rest)) line.1)
 
 stops_slash : (middle rest : List ℕ) → Stops is_regular middle → Stops is_regular (middle ++ (47 ∷ rest))
 stops_slash [] rest s = refl
 stops_slash (b ∷ middle) rest s = s
 
 -- no CharStrings marker stands where a Subrs marker does
-not_chars : (rest : List ℕ) → chars_mark.read (codes "/Subrs " ++ rest) ≡ None
-unfolding chars_mark
+not_chars : (rest : List ℕ) → chars_marker.read (codes "/Subrs " ++ rest) ≡ None
+unfolding chars_marker
 not_chars rest = rw (fixed_strip (codes "/CharStrings") (codes "/Subrs " ++ rest)) refl
 
 before_is : (n : ℕ) (x : (List ℕ × ℕ) × List ℕ) → ltb (length x.0.0) n ≡ true → before_place n (Some x) ≡ Some x
@@ -213,7 +214,7 @@ tables_again p s text chars junk h k =
     let m : List ℕ = p.middle ++ g in
     let table : List ℕ = subrs_text s.entries s.closing ++ m in
     let read : table_at (subr s.declared p.len_iv) subrs_end table ≡ Ok (s.entries, s.closing, m) = table_read s.declared p.len_iv s.entries s.closing m k.entries (closing_read s.closing k.closing) (stops_slash p.middle _ h.middle_apart) in
-    let next : first_at chars_mark m ≡ Some ((p.middle, tt), glyphs_text p.glyphs ++ t) = first_behind chars_mark p.middle g tt _ (chars_moves p.middle [] _ h.middle_chars) (chars_part_read p.glyphs t h.few) in
+    let next : first_at chars_marker m ≡ Some ((p.middle, tt), glyphs_text p.glyphs ++ t) = first_behind chars_marker p.middle g tt _ (chars_moves p.middle [] _ h.middle_chars) (chars_part_read p.glyphs t h.few) in
     rw (h.iv, read, next, glyphs_from_read text p.private (Some s) p.middle p.len_iv p.glyphs p.tail junk h.glyphs h.tail_apart h.middle_subrs h.tail_subrs h.tail_ends) refl
 
 with_subrs_again : (p : PrivatePieces) (s : SubrsPieces) (junk : List ℕ) → IsWritable p → ArePieces p.len_iv s
@@ -225,11 +226,11 @@ with_subrs_again p s junk h k =
     let b : List ℕ = subrs_part (Some s) ++ m in
     let text : List ℕ = p.private ++ b in
     let table : List ℕ = subrs_text s.entries s.closing ++ m in
-    let subrs : first_at subrs_mark text ≡ Some ((p.private, s.declared), table) = first_behind subrs_mark p.private b s.declared table (subrs_moves p.private [] _ h.no_subrs) (subrs_part_read s m k.declared) in
+    let subrs : first_at subrs_marker text ≡ Some ((p.private, s.declared), table) = first_behind subrs_marker p.private b s.declared table (subrs_moves p.private [] _ h.no_subrs) (subrs_part_read s m k.declared) in
     let q : List ℕ = codes "Subrs " ++ (digits s.declared ++ (codes " array" ++ subrs_text s.entries s.closing)) in
-    let y = is_found chars_mark (q ++ p.middle) g tt _ (chars_part_read p.glyphs t h.few) in
-    let here : first_at chars_mark b ≡ Some ((47 ∷ y.0.0.0, y.0.0.1), y.0.1) = one_place chars_mark 47 (q ++ m) (not_chars ((digits s.declared ++ (codes " array" ++ subrs_text s.entries s.closing)) ++ m)) ∙ ap (prepend (47 ∷ [])) (ap (first_at chars_mark) (sym (append_assoc q p.middle g)) ∙ y.1) in
-    let chars : first_at chars_mark text ≡ Some ((p.private ++ (47 ∷ y.0.0.0), y.0.0.1), y.0.1) = past_none chars_mark p.private b (chars_moves p.private [] _ h.no_chars) ∙ ap (prepend p.private) here in
+    let y = is_found chars_marker (q ++ p.middle) g tt _ (chars_part_read p.glyphs t h.few) in
+    let here : first_at chars_marker b ≡ Some ((47 ∷ y.0.0.0, y.0.0.1), y.0.1) = one_place chars_marker 47 (q ++ m) (not_chars ((digits s.declared ++ (codes " array" ++ subrs_text s.entries s.closing)) ++ m)) ∙ ap (prepend (47 ∷ [])) (ap (first_at chars_marker) (sym (append_assoc q p.middle g)) ∙ y.1) in
+    let chars : first_at chars_marker text ≡ Some ((p.private ++ (47 ∷ y.0.0.0), y.0.0.1), y.0.1) = past_none chars_marker p.private b (chars_moves p.private [] _ h.no_chars) ∙ ap (prepend p.private) here in
     let place : (List ℕ × Unit {0}) × List ℕ = ((p.private ++ (47 ∷ y.0.0.0), y.0.0.1), y.0.1) in
     let before : ltb (length p.private) (length place.0.0) ≡ true = lt-ltb _ _ (omega (arith, length-append p.private (47 ∷ y.0.0.0))) in
     pieces_read text place (Some ((p.private, s.declared), table)) _ chars subrs (ap (λ (o : Option ((List ℕ × ℕ) × List ℕ)). (tables_from text place o).read) (before_is (length place.0.0) ((p.private, s.declared), table) before) ∙ tables_again p s text place junk h k)

@@ -8,10 +8,10 @@ use Rattle.std.proofs.lemmas.Bool.{cases_Bool}
 use Rattle.std.proofs.lemmas.List.{append-nil, length-append}
 use Rattle.t1_bytes.specs.Grammar.{Grammar, pure, ◌>>=◌, ◌>>◌, before, NoneIn, Stops, first, first_at, fixed}
 use Rattle.t1_bytes.specs.White.{is_white, has_bytes, gap}
-use Rattle.t1_bytes.specs.Eexec.{eexec_mark, blank_comes}
+use Rattle.t1_bytes.specs.Eexec.{eexec_marker, blank_comes}
 use Rattle.t1_bytes.proofs.Grammars.{first_exact, fixed_exact}
 use Rattle.t1_font.specs.Words.{is_regular, word, phrase_of, phrase_after, is_access}
-use Rattle.t1_font.specs.Marks.{closefile}
+use Rattle.t1_font.specs.Markers.{closefile}
 use Rattle.t1_font.proofs.WordLemmas.{phrase_exact}
 use Rattle.t1_font.proofs.Borders.{strip, fixed_strip}
 use Rattle.t1_font.proofs.Written.{black, word_has}
@@ -126,12 +126,12 @@ gap_alike c s u v h k e = by_test (has_bytes a) (gap_front s (codes "eexec" ++ u
         let before_u : (second c a).read (word ++ u) ≡ None = ap (second c a).read (append_assoc rest (codes "eexec") u) ∙ (sym first ∙ e) in
         ap (option_and_then (λ x. (second c x.0).read x.1)) q ∙ (ap (second c a).read (sym (append_assoc rest (codes "eexec") v)) ∙ second_alike c a word u v long h k before_u)
 
-pub eexec_alike : (y u v : List ℕ) → 11 ≤ length y → blank_comes u ≡ true → blank_comes v ≡ true → eexec_mark.read (y ++ (codes "eexec" ++ u)) ≡ None → eexec_mark.read (y ++ (codes "eexec" ++ v)) ≡ None
-unfolding eexec_mark
+pub eexec_alike : (y u v : List ℕ) → 11 ≤ length y → blank_comes u ≡ true → blank_comes v ≡ true → eexec_marker.read (y ++ (codes "eexec" ++ u)) ≡ None → eexec_marker.read (y ++ (codes "eexec" ++ v)) ≡ None
+unfolding eexec_marker
 eexec_alike y u v long h k e = by_strip (strip (codes "currentfile") y) refl
   where
-    by_strip : (o : Option (List ℕ)) → strip (codes "currentfile") y ≡ o → eexec_mark.read (y ++ (codes "eexec" ++ v)) ≡ None
+    by_strip : (o : Option (List ℕ)) → strip (codes "currentfile") y ≡ o → eexec_marker.read (y ++ (codes "eexec" ++ v)) ≡ None
     by_strip None s = rw (fixed_strip (codes "currentfile") (y ++ (codes "eexec" ++ v)), strip_inner (codes "currentfile") y (codes "eexec" ++ v) long, s) refl
     by_strip (Some r) s =
-        let first : eexec_mark.read (y ++ (codes "eexec" ++ u)) ≡ (gap >>= second (codes "currentfile")).read (r ++ (codes "eexec" ++ u)) = rw (fixed_strip (codes "currentfile") (y ++ (codes "eexec" ++ u)), strip_inner (codes "currentfile") y (codes "eexec" ++ u) long, s) refl in
+        let first : eexec_marker.read (y ++ (codes "eexec" ++ u)) ≡ (gap >>= second (codes "currentfile")).read (r ++ (codes "eexec" ++ u)) = rw (fixed_strip (codes "currentfile") (y ++ (codes "eexec" ++ u)), strip_inner (codes "currentfile") y (codes "eexec" ++ u) long, s) refl in
         rw (fixed_strip (codes "currentfile") (y ++ (codes "eexec" ++ v)), strip_inner (codes "currentfile") y (codes "eexec" ++ v) long, s) (gap_alike (codes "currentfile") r u v h k (sym first ∙ e))

@@ -11,27 +11,28 @@ use Rattle.std.proofs.lemmas.List.{append-nil, length-append}
 use Rattle.std.proofs.lemmas.Bool.{cases_Bool}
 use Rattle.t1_bytes.specs.Grammar.{NoneIn, Stops, first, first_at, AtFront}
 use Rattle.t1_bytes.specs.White.{is_white, white, has_bytes, gap}
-use Rattle.t1_bytes.specs.Eexec.{eexec_mark, blank_comes}
+use Rattle.t1_bytes.specs.Eexec.{eexec_marker, blank_comes}
 use Rattle.t1_bytes.specs.Laws.{AreBytes}
 use Rattle.t1_bytes.proofs.Grammars.{that_read, run_read}
 use Rattle.t1_font.specs.Words.{is_regular, keyword}
-use Rattle.t1_font.specs.Marks.{encoding_mark, encoding_start, encoding_word, code_entry, encoding_end}
+use Rattle.t1_font.specs.Markers.{encoding_marker}
+use Rattle.t1_font.specs.Encoding.{encoding_start, encoding_word, code_entry, encoding_end}
 use Rattle.t1_font.specs.Pieces.{EncodingText, OneWord, Puts, ClearPieces, PrivatePieces}
 use Rattle.t1_font.specs.FontValue.{notdef}
 use Rattle.t1_font.specs.Entries.{last_value, unless_notdef}
 use Rattle.t1_font.specs.ReadFont.{encoding_value, shell_of}
 use Rattle.t1_font.specs.Spelling.{IsCut, SpellsEncoding, IsClear}
-use Rattle.t1_font.specs.IsFont.{IsWord, IsClearShell, IsEncoding, NoMark}
+use Rattle.t1_font.specs.IsFont.{IsWord, IsClearShell, IsEncoding, NoMarker}
 use Rattle.t1_font.proofs.WordLemmas.{keyword_text}
 use Rattle.t1_font.proofs.MapLaws.{get-names_of}
 use Rattle.t1_font.proofs.MapCuts.{Some_same, Some_None}
 use Rattle.t1_font.proofs.GlyphsWritten.{fixed_read}
-use Rattle.t1_font.proofs.SplitWritten.{mark_own}
+use Rattle.t1_font.proofs.SplitWritten.{marker_own}
 use Rattle.t1_font.proofs.Moves.{first_behind, eexec_moves, encoding_moves}
 use Rattle.t1_font.proofs.ReadBack.{eexec_alike}
 use Rattle.t1_font.proofs.ReadBytes.{parts_bytes, entries_have}
 use Rattle.t1_font.proofs.ReadEntries.{word_of, put_of, IsReadPut, last_has}
-use Rattle.t1_font.proofs.ReadMarks.{meet, NoneIn-left, NoneIn-right, encoding_slash, IsMark, mark_is, is_plain, mark_plain, plain_right}
+use Rattle.t1_font.proofs.ReadMarkers.{meet, NoneIn-left, NoneIn-right, encoding_slash, IsMarker, marker_is, is_plain, marker_plain, plain_right}
 
 -- ---- the Encoding ends with `def`
 
@@ -112,70 +113,70 @@ encoding_of (Puts puts) bytes rest s h = λ c n e.
     let here : IsReadPut (c, n) = last_has nat_cmp nat_cmp-IsAntisymmetric (λ c n. IsReadPut (c, n)) puts all c n found.0 in
     record { code = here.code; name = here.name; put = found.1 }
 
--- ---- the clear text ends with the first mark
+-- ---- the clear text ends with the first marker
 
 gap_read : (between rest : List ℕ) → AllByRecursion (λ b. is_white b ≡ true) between → has_bytes between ≡ true → Stops is_white rest → gap.read (between ++ rest) ≡ Some (between, rest)
 unfolding gap
 gap_read between rest w h s = that_read has_bytes white (between ++ rest) between rest (run_read is_white between rest w s) h
 
-mark_read : (own after v : List ℕ) → IsMark own after → blank_comes v ≡ true → eexec_mark.read (own ++ v) ≡ Some (own, v)
-unfolding eexec_mark
-mark_read own after v m b =
+marker_read : (own after v : List ℕ) → IsMarker own after → blank_comes v ≡ true → eexec_marker.read (own ++ v) ≡ Some (own, v)
+unfolding eexec_marker
+marker_read own after v m b =
     let whole : own ++ v ≡ codes "currentfile" ++ (m.between ++ (codes "eexec" ++ v)) = ap (λ (u : List ℕ). u ++ v) m.parts ∙ (λ i. codes "currentfile" ++ append_assoc m.between (codes "eexec") v i) in
     rw (whole, fixed_read (codes "currentfile") (m.between ++ (codes "eexec" ++ v)), gap_read m.between (codes "eexec" ++ v) m.white m.some refl, fixed_read (codes "eexec") v, b) (ap (λ (u : List ℕ). Some (u, v)) (sym m.parts))
 
-blank_moves : (z core u v : List ℕ) → 11 ≤ length core → blank_comes u ≡ true → blank_comes v ≡ true → NoneIn eexec_mark z (core ++ (codes "eexec" ++ u)) → NoneIn eexec_mark z (core ++ (codes "eexec" ++ v))
+blank_moves : (z core u v : List ℕ) → 11 ≤ length core → blank_comes u ≡ true → blank_comes v ≡ true → NoneIn eexec_marker z (core ++ (codes "eexec" ++ u)) → NoneIn eexec_marker z (core ++ (codes "eexec" ++ v))
 blank_moves [] core u v long h k none = tt
 blank_moves (b ∷ z) core u v long h k none =
     let y : List ℕ = b ∷ (z ++ core) in
-    let before : eexec_mark.read (y ++ (codes "eexec" ++ u)) ≡ None = ap (λ (t : List ℕ). eexec_mark.read (b ∷ t)) (append_assoc z core (codes "eexec" ++ u)) ∙ none.0 in
-    let moved : eexec_mark.read (y ++ (codes "eexec" ++ v)) ≡ None = eexec_alike y u v (omega (arith, long, length-append z core)) h k before in
-    (ap (λ (t : List ℕ). eexec_mark.read (b ∷ t)) (sym (append_assoc z core (codes "eexec" ++ v))) ∙ moved, blank_moves z core u v long h k none.1)
+    let before : eexec_marker.read (y ++ (codes "eexec" ++ u)) ≡ None = ap (λ (t : List ℕ). eexec_marker.read (b ∷ t)) (append_assoc z core (codes "eexec" ++ u)) ∙ none.0 in
+    let moved : eexec_marker.read (y ++ (codes "eexec" ++ v)) ≡ None = eexec_alike y u v (omega (arith, long, length-append z core)) h k before in
+    (ap (λ (t : List ℕ). eexec_marker.read (b ∷ t)) (sym (append_assoc z core (codes "eexec" ++ v))) ∙ moved, blank_moves z core u v long h k none.1)
 
--- the mark's text, up to its last word
-core_parts : (own after u : List ℕ) (m : IsMark own after) → own ++ u ≡ (codes "currentfile" ++ m.between) ++ (codes "eexec" ++ u)
+-- the marker's text, up to its last word
+core_parts : (own after u : List ℕ) (m : IsMarker own after) → own ++ u ≡ (codes "currentfile" ++ m.between) ++ (codes "eexec" ++ u)
 core_parts own after u m = ap (λ (t : List ℕ). t ++ u) m.parts ∙ (λ i. codes "currentfile" ++ append_assoc m.between (codes "eexec") u i)
 
-line_moves : (z own after : List ℕ) → IsMark own after → NoneIn eexec_mark z (own ++ after) → NoneIn eexec_mark z (own ++ 10 ∷ [])
+line_moves : (z own after : List ℕ) → IsMarker own after → NoneIn eexec_marker z (own ++ after) → NoneIn eexec_marker z (own ++ 10 ∷ [])
 line_moves z own after m none =
     let core : List ℕ = codes "currentfile" ++ m.between in
-    subst (NoneIn eexec_mark z) (sym (core_parts own after (10 ∷ []) m)) (blank_moves z core after (10 ∷ []) (omega arith) m.blank refl (subst (NoneIn eexec_mark z) (core_parts own after after m) none))
+    subst (NoneIn eexec_marker z) (sym (core_parts own after (10 ∷ []) m)) (blank_moves z core after (10 ∷ []) (omega arith) m.blank refl (subst (NoneIn eexec_marker z) (core_parts own after after m) none))
 
--- `def` doesn't end within the mark
+-- `def` doesn't end within the marker
 not_def : (s : List ℕ) (y : ℕ) (z : List ℕ) → codes "def" ≡ s ++ (y ∷ z) → y ≡ 99 → ⊥
 not_def [] y z e c = let k : 100 ≡ y = ap (λ (u : List ℕ). get_or u 0 0) e in absurd (omega (arith, k, c))
 not_def (a ∷ []) y z e c = let k : 101 ≡ y = ap (λ (u : List ℕ). get_or u 1 0) e in absurd (omega (arith, k, c))
 not_def (a ∷ b ∷ []) y z e c = let k : 102 ≡ y = ap (λ (u : List ℕ). get_or u 2 0) e in absurd (omega (arith, k, c))
 not_def (a ∷ b ∷ d ∷ s) y z e c = absurd (omega (arith, ap length e, length-append s (y ∷ z)))
 
-not_within : (x front own after tail : List ℕ) (y : ℕ) (z : List ℕ) → x ++ codes "def" ≡ front ++ (y ∷ z) → own ≡ y ∷ (z ++ tail) → IsMark own after → ⊥
+not_within : (x front own after tail : List ℕ) (y : ℕ) (z : List ℕ) → x ++ codes "def" ≡ front ++ (y ∷ z) → own ≡ y ∷ (z ++ tail) → IsMarker own after → ⊥
 not_within x front own after tail y z e o m =
     let first : y ≡ 99 = ap (λ (u : List ℕ). get_or u 0 0) (sym o ∙ m.parts) in
     elim (meet x (codes "def") front (y ∷ z) e) [
       | inl s ↦ not_def s.0 y z s.2 first
       | inr s ↦
           let whole : own ≡ (s.0 ∷ s.1) ++ (codes "def" ++ tail) = o ∙ (ap (λ (u : List ℕ). u ++ tail) s.3 ∙ append_assoc (s.0 ∷ s.1) (codes "def") tail) in
-          let plain = plain_right (s.0 ∷ s.1) (codes "def" ++ tail) (subst (λ (u : List ℕ). AllByRecursion (λ b. is_plain b ≡ true) u) whole (mark_plain own after m)) in
+          let plain = plain_right (s.0 ∷ s.1) (codes "def" ++ tail) (subst (λ (u : List ℕ). AllByRecursion (λ b. is_plain b ≡ true) u) whole (marker_plain own after m)) in
           true≢false (sym plain.0)
     ]
 
-pub tail_through : (x tail front own after : List ℕ) → (x ++ codes "def") ++ tail ≡ front ++ own → IsMark own after → NoneIn eexec_mark front (own ++ after) → option_map (λ y. y.1) ((first eexec_mark).read (tail ++ 10 ∷ [])) ≡ Some (10 ∷ [])
+pub tail_through : (x tail front own after : List ℕ) → (x ++ codes "def") ++ tail ≡ front ++ own → IsMarker own after → NoneIn eexec_marker front (own ++ after) → option_map (λ y. y.1) ((first eexec_marker).read (tail ++ 10 ∷ [])) ≡ Some (10 ∷ [])
 tail_through x tail front own after e m none = elim (meet (x ++ codes "def") tail front own e) [
   | inl s ↦
-      let inner : NoneIn eexec_mark s.0 (own ++ after) = NoneIn-right eexec_mark (x ++ codes "def") s.0 (own ++ after) (subst (λ (u : List ℕ). NoneIn eexec_mark u (own ++ after)) s.1 none) in
-      let found : first_at eexec_mark (s.0 ++ (own ++ 10 ∷ [])) ≡ Some ((s.0, own), 10 ∷ []) = first_behind eexec_mark s.0 (own ++ 10 ∷ []) own (10 ∷ []) (line_moves s.0 own after m inner) (mark_read own after (10 ∷ []) m refl) in
+      let inner : NoneIn eexec_marker s.0 (own ++ after) = NoneIn-right eexec_marker (x ++ codes "def") s.0 (own ++ after) (subst (λ (u : List ℕ). NoneIn eexec_marker u (own ++ after)) s.1 none) in
+      let found : first_at eexec_marker (s.0 ++ (own ++ 10 ∷ [])) ≡ Some ((s.0, own), 10 ∷ []) = first_behind eexec_marker s.0 (own ++ 10 ∷ []) own (10 ∷ []) (line_moves s.0 own after m inner) (marker_read own after (10 ∷ []) m refl) in
       let whole : tail ++ 10 ∷ [] ≡ s.0 ++ (own ++ 10 ∷ []) = ap (λ (u : List ℕ). u ++ 10 ∷ []) s.2 ∙ append_assoc s.0 own (10 ∷ []) in
-      ap (λ (u : List ℕ). option_map (λ y. y.1) (first_at eexec_mark u)) whole ∙ ap (option_map (λ y. y.1)) found
+      ap (λ (u : List ℕ). option_map (λ y. y.1) (first_at eexec_marker u)) whole ∙ ap (option_map (λ y. y.1)) found
   | inr s ↦ absurd (not_within x front own after tail s.0 s.1 s.2 s.3 m)
 ]
 
-pub head_before : (head r front own after : List ℕ) → head ++ (47 ∷ r) ≡ front ++ own → IsMark own after → NoneIn eexec_mark front (own ++ after) → NoMark eexec_mark head
+pub head_before : (head r front own after : List ℕ) → head ++ (47 ∷ r) ≡ front ++ own → IsMarker own after → NoneIn eexec_marker front (own ++ after) → NoMarker eexec_marker head
 head_before head r front own after e m none = elim (meet head (47 ∷ r) front own e) [
   | inl s ↦
-      let inner : NoneIn eexec_mark head (s.0 ++ (own ++ after)) = NoneIn-left eexec_mark head s.0 (own ++ after) (subst (λ (u : List ℕ). NoneIn eexec_mark u (own ++ after)) s.1 none) in
+      let inner : NoneIn eexec_marker head (s.0 ++ (own ++ after)) = NoneIn-left eexec_marker head s.0 (own ++ after) (subst (λ (u : List ℕ). NoneIn eexec_marker u (own ++ after)) s.1 none) in
       let slash : s.0 ++ (own ++ after) ≡ 47 ∷ (r ++ after) = sym (append_assoc s.0 own after) ∙ ap (λ (u : List ℕ). u ++ after) (sym s.2) in
-      eexec_moves head (r ++ after) [] (subst (NoneIn eexec_mark head) slash inner)
-  | inr s ↦ let plain = plain_right (s.0 ∷ s.1) (47 ∷ r) (subst (λ (u : List ℕ). AllByRecursion (λ b. is_plain b ≡ true) u) s.3 (mark_plain own after m)) in absurd (true≢false (sym plain.0))
+      eexec_moves head (r ++ after) [] (subst (NoneIn eexec_marker head) slash inner)
+  | inr s ↦ let plain = plain_right (s.0 ∷ s.1) (47 ∷ r) (subst (λ (u : List ℕ). AllByRecursion (λ b. is_plain b ≡ true) u) s.3 (marker_plain own after m)) in absurd (true≢false (sym plain.0))
 ]
 
 -- ---- the whole
@@ -188,22 +189,22 @@ pub record IsReadClear (c : ClearPieces) (p : PrivatePieces) : Type 0 where
 
 pub clear_of : (flat clear cipher : List ℕ) (c : ClearPieces) (p : PrivatePieces) → IsCut flat clear cipher → IsClear clear c → AreBytes clear → IsReadClear c p
 clear_of flat clear cipher c p cut s h =
-    let f = s.mark.2 in
+    let f = s.marker.2 in
     let slash = encoding_slash f.0 s.after f.2 in
-    let text = parts_bytes clear s.mark.0 s.after s.mark.1 h in
-    let head = parts_bytes s.mark.0 c.head f.0 f.1 text.0 in
+    let text = parts_bytes clear s.marker.0 s.after s.marker.1 h in
+    let head = parts_bytes s.marker.0 c.head f.0 f.1 text.0 in
     let ends = encoding_ends c.encoding s.after c.clear_tail s.encoding in
-    let e = cut.mark.2 in
-    let mark = mark_is cut.own e.0 cut.after e.2 in
-    let through : clear ≡ cut.front ++ e.0 = cut.clear_is ∙ ap (λ (u : List ℕ). cut.front ++ u) (sym (mark_own cut.own e.0 cut.after e.2)) in
-    let behind : clear ≡ c.head ++ (47 ∷ (slash.0 ++ s.after)) = s.mark.1 ∙ (ap (λ (u : List ℕ). u ++ s.after) (f.1 ∙ ap (λ (u : List ℕ). c.head ++ u) slash.1) ∙ append_assoc c.head (47 ∷ slash.0) s.after) in
-    let last : clear ≡ ((s.mark.0 ++ ends.body) ++ codes "def") ++ c.clear_tail = s.mark.1 ∙ (ap (λ (u : List ℕ). s.mark.0 ++ u) ends.parts ∙ grouped s.mark.0 ends.body (codes "def") c.clear_tail) in
+    let e = cut.marker.2 in
+    let marker = marker_is cut.own e.0 cut.after e.2 in
+    let through : clear ≡ cut.front ++ e.0 = cut.clear_is ∙ ap (λ (u : List ℕ). cut.front ++ u) (sym (marker_own cut.own e.0 cut.after e.2)) in
+    let behind : clear ≡ c.head ++ (47 ∷ (slash.0 ++ s.after)) = s.marker.1 ∙ (ap (λ (u : List ℕ). u ++ s.after) (f.1 ∙ ap (λ (u : List ℕ). c.head ++ u) slash.1) ∙ append_assoc c.head (47 ∷ slash.0) s.after) in
+    let last : clear ≡ ((s.marker.0 ++ ends.body) ++ codes "def") ++ c.clear_tail = s.marker.1 ∙ (ap (λ (u : List ℕ). s.marker.0 ++ u) ends.parts ∙ grouped s.marker.0 ends.body (codes "def") c.clear_tail) in
     record {
       shell = record {
-        head_encoding = encoding_moves c.head (slash.0 ++ s.after) [] (subst (λ (u : List ℕ). NoneIn encoding_mark c.head (u ++ s.after)) slash.1 f.3);
-        head_eexec = head_before c.head (slash.0 ++ s.after) cut.front e.0 cut.after (sym behind ∙ through) mark e.3;
+        head_encoding = encoding_moves c.head (slash.0 ++ s.after) [] (subst (λ (u : List ℕ). NoneIn encoding_marker c.head (u ++ s.after)) slash.1 f.3);
+        head_eexec = head_before c.head (slash.0 ++ s.after) cut.front e.0 cut.after (sym behind ∙ through) marker e.3;
         tail_apart = ends.apart;
-        tail_ends = tail_through (s.mark.0 ++ ends.body) c.clear_tail cut.front e.0 cut.after (sym last ∙ through) mark e.3;
+        tail_ends = tail_through (s.marker.0 ++ ends.body) c.clear_tail cut.front e.0 cut.after (sym last ∙ through) marker e.3;
       };
       head = head.0;
       tail = (parts_bytes s.after (ends.body ++ codes "def") c.clear_tail ends.parts text.1).1;

@@ -13,7 +13,8 @@ use Rattle.t1_bytes.specs.Cipher.{decrypted}
 use Rattle.t1_bytes.proofs.Ciphers.{length-decrypted}
 use Rattle.t1_font.specs.Words.{word, name, phrase_of, phrase_after, is_access, passes}
 use Rattle.t1_font.specs.Subrs.{Subr, subr, index_below, length_from}
-use Rattle.t1_font.specs.Marks.{code, code_entry, Glyph, glyph}
+use Rattle.t1_font.specs.Encoding.{code, code_entry}
+use Rattle.t1_font.specs.Glyphs.{Glyph, glyph}
 use Rattle.t1_font.specs.Charstrings.{plain_of}
 use Rattle.t1_font.specs.Entries.{last_value}
 use Rattle.t1_font.specs.IsFont.{IsWord, IsPhrase, IsCharstring}

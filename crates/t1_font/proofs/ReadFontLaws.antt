@@ -17,7 +17,8 @@ use Rattle.t1_bytes.proofs.Ciphers.{decrypted-is}
 use Rattle.t1_bytes.proofs.Grammars.{first_exact, front_again}
 use Rattle.t1_font.specs.Words.{is_regular}
 use Rattle.t1_font.specs.Subrs.{Subr}
-use Rattle.t1_font.specs.Marks.{closefile, Glyph, glyph}
+use Rattle.t1_font.specs.Markers.{closefile}
+use Rattle.t1_font.specs.Glyphs.{Glyph, glyph}
 use Rattle.t1_font.specs.Charstrings.{plain_of}
 use Rattle.t1_font.specs.Pieces.{ClearPieces, SubrsPieces, PrivatePieces}
 use Rattle.t1_font.specs.FontValue.{FontValue, SubrsShell, name_cmp, notdef, declared_count, count_limit, IsWithin}
@@ -27,18 +28,18 @@ use Rattle.t1_font.specs.Spelling.{IsPrivate, IsCut, Texts, Spells}
 use Rattle.t1_font.specs.Canon.{canon}
 use Rattle.t1_font.specs.IsFont.{IsWord, IsPhrase, IsCharstring, IsPrivateShell, SubrWords, SubrsFit, AreGlyphs, IsFont, HasBytes}
 use Rattle.t1_font.proofs.MapLaws.{entries-map_of, get-map_of, find-last}
-use Rattle.t1_font.proofs.MarkLemmas.{closefile_exact, close_parts}
+use Rattle.t1_font.proofs.MarkerLemmas.{closefile_exact, close_parts}
 use Rattle.t1_font.proofs.ReadLaws.{iv_sound}
 use Rattle.t1_font.proofs.SpellingLaws.{is_iv, reads}
 use Rattle.t1_font.proofs.ValueLaws.{notdef_is}
 use Rattle.t1_font.proofs.FontAgain.{name_same}
 use Rattle.t1_font.proofs.ByteLemmas.{has_bytes, canon_bytes}
 use Rattle.t1_font.proofs.RoundTrip.{round_trip}
-use Rattle.t1_font.proofs.SplitWritten.{mark_own}
+use Rattle.t1_font.proofs.SplitWritten.{marker_own}
 use Rattle.t1_font.proofs.ReadBack.{tail_ends_of}
 use Rattle.t1_font.proofs.ReadBytes.{parts_bytes, flat_bytes, cipher_bytes_of, decrypted_bytes, entries_have}
 use Rattle.t1_font.proofs.ReadEntries.{plain_fits, IsReadSubr, IsReadGlyph, glyph_of, last_has, all_mapped}
-use Rattle.t1_font.proofs.ReadMarks.{encoding_slash}
+use Rattle.t1_font.proofs.ReadMarkers.{encoding_slash}
 use Rattle.t1_font.proofs.ReadClear.{clear_of}
 use Rattle.t1_font.proofs.ReadPrivate.{stops_front, glyphs_stops, IsReadSubrs, middle_of}
 
@@ -141,9 +142,9 @@ private_of text c p s h =
 
 cut_bytes : (flat clear cipher : List ℕ) → IsCut flat clear cipher → AreBytes flat → AreBytes clear × AreBytes cipher
 cut_bytes flat clear cipher s h =
-    let a = parts_bytes flat s.mark.0 s.after s.mark.1 h in
-    let e = s.mark.2 in
-    let same : s.mark.0 ≡ clear = e.1 ∙ (ap (λ (u : List ℕ). s.front ++ u) (mark_own s.own e.0 s.after e.2) ∙ sym s.clear_is) in
+    let a = parts_bytes flat s.marker.0 s.after s.marker.1 h in
+    let e = s.marker.2 in
+    let same : s.marker.0 ≡ clear = e.1 ∙ (ap (λ (u : List ℕ). s.front ++ u) (marker_own s.own e.0 s.after e.2) ∙ sym s.clear_is) in
     let b = parts_bytes s.after s.secret.0 s.rest s.secret.1 a.1 in
     (subst AreBytes same a.0, cipher_bytes_of cipher s.secret.0 s.rest s.secret.2 b.0)
 
@@ -190,13 +191,13 @@ spelled_starts : (file flat : List ℕ) (f : FontValue) → IsFlat file flat →
 spelled_starts file flat f flat_is s =
     let t = s.pieces.texts in
     let c = s.pieces.clear_is in
-    let e = t.cut.mark.2 in
-    let m = c.mark.2 in
+    let e = t.cut.marker.2 in
+    let m = c.marker.2 in
     let slash = encoding_slash m.0 c.after m.2 in
     let same : flat ≡ t.flat = one_flat.texts file flat t.flat flat_is t.flat_is in
-    let clear : t.cut.mark.0 ≡ s.pieces.clear = e.1 ∙ (ap (λ (u : List ℕ). t.cut.front ++ u) (mark_own t.cut.own e.0 t.cut.after e.2) ∙ sym t.cut.clear_is) in
-    let behind : s.pieces.clear ≡ s.outside.head ++ (47 ∷ (slash.0 ++ c.after)) = c.mark.1 ∙ (ap (λ (u : List ℕ). u ++ c.after) (m.1 ∙ ap (λ (u : List ℕ). s.outside.head ++ u) slash.1) ∙ append_assoc s.outside.head (47 ∷ slash.0) c.after) in
-    let whole : flat ≡ s.outside.head ++ (47 ∷ ((slash.0 ++ c.after) ++ t.cut.after)) = same ∙ (t.cut.mark.1 ∙ (ap (λ (u : List ℕ). u ++ t.cut.after) (clear ∙ behind) ∙ append_assoc s.outside.head (47 ∷ (slash.0 ++ c.after)) t.cut.after)) in
+    let clear : t.cut.marker.0 ≡ s.pieces.clear = e.1 ∙ (ap (λ (u : List ℕ). t.cut.front ++ u) (marker_own t.cut.own e.0 t.cut.after e.2) ∙ sym t.cut.clear_is) in
+    let behind : s.pieces.clear ≡ s.outside.head ++ (47 ∷ (slash.0 ++ c.after)) = c.marker.1 ∙ (ap (λ (u : List ℕ). u ++ c.after) (m.1 ∙ ap (λ (u : List ℕ). s.outside.head ++ u) slash.1) ∙ append_assoc s.outside.head (47 ∷ slash.0) c.after) in
+    let whole : flat ≡ s.outside.head ++ (47 ∷ ((slash.0 ++ c.after) ++ t.cut.after)) = same ∙ (t.cut.marker.1 ∙ (ap (λ (u : List ℕ). u ++ t.cut.after) (clear ∙ behind) ∙ append_assoc s.outside.head (47 ∷ (slash.0 ++ c.after)) t.cut.after)) in
     ap (λ (g : FontValue). starts_segment g.shell.head) s.value ∙ (starts_head s.outside.head ((slash.0 ++ c.after) ++ t.cut.after) ∙ ap starts_segment (sym whole))
 
 -- a font's head begins with byte 128 exactly where its flat text does

@@ -9,7 +9,7 @@ use Rattle.t1_font.specs.Pieces.{SubrsPieces, ClearPieces, PrivatePieces, flat_p
 use Rattle.t1_font.specs.ReadFont.{bad_segment, flat_text, font_from, font_file}
 use Rattle.t1_font.proofs.SubrLemmas.{subr_exact, subrs_end_exact, subr_eats, subr_apart}
 use Rattle.t1_bytes.proofs.EexecLemmas.{cipher_exact, eexec_exact}
-use Rattle.t1_font.proofs.MarkLemmas.{encoding_mark_exact, encoding_start_exact, code_entry_exact, encoding_end_exact, subrs_mark_exact, chars_mark_exact, len_iv_mark_exact, len_iv_exact, closefile_exact, glyph_exact, glyphs_end_exact}
+use Rattle.t1_font.proofs.MarkerLemmas.{encoding_marker_exact, encoding_start_exact, code_entry_exact, encoding_end_exact, subrs_marker_exact, chars_marker_exact, len_iv_marker_exact, len_iv_exact, closefile_exact, glyph_exact, glyphs_end_exact}
 use Rattle.t1_font.proofs.EntryLemmas.{code_entry_eats, code_entry_apart, glyph_eats, glyph_apart}
 use Rattle.t1_font.proofs.ReadingLaws.{IsSound, give_sound, bind_sound, must_sound, wanted_sound, optional_sound, table_sound}
 
@@ -27,7 +27,7 @@ flat_sound file = record {
 
 pub flat_pieces_sound : (flat : List ℕ) → IsSound (flat_pieces flat)
 unfolding flat_pieces
-flat_pieces_sound flat = bind_sound _ _ (wanted_sound _ _ (first_exact _ eexec_exact) flat) (λ mark. bind_sound _ _ (wanted_sound _ _ cipher_exact mark.1) (λ cipher. give_sound _))
+flat_pieces_sound flat = bind_sound _ _ (wanted_sound _ _ (first_exact _ eexec_exact) flat) (λ marker. bind_sound _ _ (wanted_sound _ _ cipher_exact marker.1) (λ cipher. give_sound _))
 
 encoding_sound : (clear : List ℕ) (start : Option (List ℕ)) (rest : List ℕ) → IsSound (encoding_from clear start rest)
 unfolding encoding_from
@@ -36,16 +36,16 @@ encoding_sound clear None rest = bind_sound _ _ (table_sound BadEncoding (length
 
 pub clear_sound : (clear : List ℕ) → IsSound (clear_pieces clear)
 unfolding clear_pieces
-clear_sound clear = bind_sound _ _ (wanted_sound _ _ (first_exact _ encoding_mark_exact) clear) (λ mark. bind_sound _ _ (wanted_sound _ _ encoding_start_exact mark.1) (λ start. bind_sound _ _ (encoding_sound clear start.0 start.1) (λ encoding. give_sound _)))
+clear_sound clear = bind_sound _ _ (wanted_sound _ _ (first_exact _ encoding_marker_exact) clear) (λ marker. bind_sound _ _ (wanted_sound _ _ encoding_start_exact marker.1) (λ start. bind_sound _ _ (encoding_sound clear start.0 start.1) (λ encoding. give_sound _)))
 
-iv_at_sound : (mark : Option ((List ℕ × Unit {0}) × List ℕ)) → IsSound (iv_at mark)
+iv_at_sound : (marker : Option ((List ℕ × Unit {0}) × List ℕ)) → IsSound (iv_at marker)
 unfolding iv_at
 iv_at_sound None = give_sound 4
-iv_at_sound (Some mark) = bind_sound _ _ (wanted_sound _ _ len_iv_exact mark.1) (λ n. give_sound n.0)
+iv_at_sound (Some marker) = bind_sound _ _ (wanted_sound _ _ len_iv_exact marker.1) (λ n. give_sound n.0)
 
 pub iv_sound : (private : List ℕ) → IsSound (iv_of private)
 unfolding iv_of
-iv_sound private = bind_sound _ _ (optional_sound _ (first_exact _ len_iv_mark_exact) private) iv_at_sound
+iv_sound private = bind_sound _ _ (optional_sound _ (first_exact _ len_iv_marker_exact) private) iv_at_sound
 
 tail_sound : (middle rest : List ℕ) → IsSound (tail_after middle rest)
 unfolding tail_after
@@ -55,14 +55,14 @@ glyphs_sound : (text private : List ℕ) (subrs : Option SubrsPieces) (middle : 
 unfolding glyphs_from
 glyphs_sound text private subrs middle iv rest = bind_sound _ _ (table_sound BadGlyphs (length text) _ _ (glyph_exact iv) glyphs_end_exact (glyph_eats iv) (glyph_apart iv) rest) (λ glyphs. bind_sound _ _ (tail_sound middle glyphs.2) (λ tail. give_sound _))
 
-tables_sound : (text : List ℕ) (chars : (List ℕ × Unit {0}) × List ℕ) (mark : Option ((List ℕ × ℕ) × List ℕ)) → IsSound (tables_from text chars mark)
+tables_sound : (text : List ℕ) (chars : (List ℕ × Unit {0}) × List ℕ) (marker : Option ((List ℕ × ℕ) × List ℕ)) → IsSound (tables_from text chars marker)
 unfolding tables_from
 tables_sound text chars None = bind_sound _ _ (iv_sound chars.0.0) (λ iv. glyphs_sound text chars.0.0 None _ iv chars.1)
-tables_sound text chars (Some mark) = bind_sound _ _ (iv_sound mark.0.0) (λ iv. bind_sound _ _ (table_sound BadSubrs (length text) _ _ (subr_exact mark.0.1 iv) subrs_end_exact (subr_eats mark.0.1 iv) (subr_apart mark.0.1 iv) mark.1) (λ subrs. bind_sound _ _ (wanted_sound _ _ (first_exact _ chars_mark_exact) subrs.2) (λ next. glyphs_sound text mark.0.0 _ next.0.0 iv next.1)))
+tables_sound text chars (Some marker) = bind_sound _ _ (iv_sound marker.0.0) (λ iv. bind_sound _ _ (table_sound BadSubrs (length text) _ _ (subr_exact marker.0.1 iv) subrs_end_exact (subr_eats marker.0.1 iv) (subr_apart marker.0.1 iv) marker.1) (λ subrs. bind_sound _ _ (wanted_sound _ _ (first_exact _ chars_marker_exact) subrs.2) (λ next. glyphs_sound text marker.0.0 _ next.0.0 iv next.1)))
 
 pub private_sound : (text : List ℕ) → IsSound (private_pieces text)
 unfolding private_pieces
-private_sound text = bind_sound _ _ (wanted_sound _ _ (first_exact _ chars_mark_exact) text) (λ chars. bind_sound _ _ (optional_sound _ (first_exact _ subrs_mark_exact) text) (λ mark. tables_sound text chars _))
+private_sound text = bind_sound _ _ (wanted_sound _ _ (first_exact _ chars_marker_exact) text) (λ chars. bind_sound _ _ (optional_sound _ (first_exact _ subrs_marker_exact) text) (λ marker. tables_sound text chars _))
 
 pub font_sound : (c : ClearPieces) (p : PrivatePieces) → IsSound (font_from c p)
 unfolding font_from

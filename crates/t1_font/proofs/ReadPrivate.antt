@@ -6,14 +6,15 @@ use Rattle.t1_bytes.specs.Grammar.{NoneIn, Stops, first}
 use Rattle.t1_bytes.specs.Laws.{AreBytes}
 use Rattle.t1_font.specs.Words.{is_regular, word, keyword, phrase_of, phrase_after, is_access, passes}
 use Rattle.t1_font.specs.Subrs.{Subr, subr, subrs_end}
-use Rattle.t1_font.specs.Marks.{subrs_mark, chars_mark, glyphs_end}
+use Rattle.t1_font.specs.Markers.{subrs_marker, chars_marker}
+use Rattle.t1_font.specs.Glyphs.{glyphs_end}
 use Rattle.t1_font.specs.Pieces.{SubrsPieces, PrivatePieces}
 use Rattle.t1_font.specs.Spelling.{TableAt, NotBefore, nowhere, later, Start, SpellsTables}
-use Rattle.t1_font.specs.IsFont.{NoMark, IsPhrase}
+use Rattle.t1_font.specs.IsFont.{NoMarker, IsPhrase}
 use Rattle.t1_font.proofs.Moves.{subrs_moves, chars_moves}
 use Rattle.t1_font.proofs.ReadBytes.{parts_bytes, entries_have}
 use Rattle.t1_font.proofs.ReadEntries.{phrase_is, IsReadSubr, subr_of}
-use Rattle.t1_font.proofs.ReadMarks.{lacks_none, before_slash, subrs_slash, chars_slash}
+use Rattle.t1_font.proofs.ReadMarkers.{lacks_none, before_slash, subrs_slash, chars_slash}
 
 -- ---- what stops a word
 
@@ -52,16 +53,16 @@ found_parts bytes front own own_text after r e f k = e ∙ (ap (λ (u : List ℕ
 
 -- text, without the markers of tables in front of it
 pub record IsStarted (text private rest : List ℕ) : Type 0 where
-  pub no_subrs : NoMark subrs_mark private
-  pub no_chars : NoMark chars_mark private
+  pub no_subrs : NoMarker subrs_marker private
+  pub no_chars : NoMarker chars_marker private
   pub before : List ℕ
   pub parts : text ≡ private ++ (before ++ rest)
 
-not_before : (text private m : List ℕ) → text ≡ private ++ (47 ∷ m) → NotBefore text (length private) → NoMark subrs_mark private
-not_before text private m e (nowhere lacks) = before_slash subrs_mark subrs_moves private m text [] (sym e ∙ sym (append-nil text)) (omega (arith, ap length e, length-append private (47 ∷ m))) (lacks_none subrs_mark text lacks)
+not_before : (text private m : List ℕ) → text ≡ private ++ (47 ∷ m) → NotBefore text (length private) → NoMarker subrs_marker private
+not_before text private m e (nowhere lacks) = before_slash subrs_marker subrs_moves private m text [] (sym e ∙ sym (append-nil text)) (omega (arith, ap length e, length-append private (47 ∷ m))) (lacks_none subrs_marker text lacks)
 not_before text private m e (later front declared after s long) =
     let t = s.2 in
-    before_slash subrs_mark subrs_moves private m front (t.0 ++ after) (sym e ∙ (s.1 ∙ (ap (λ (u : List ℕ). u ++ after) t.1 ∙ append_assoc front t.0 after))) long t.3
+    before_slash subrs_marker subrs_moves private m front (t.0 ++ after) (sym e ∙ (s.1 ∙ (ap (λ (u : List ℕ). u ++ after) t.1 ∙ append_assoc front t.0 after))) long t.3
 
 pub started : (text private : List ℕ) (declared : Option ℕ) (rest : List ℕ) → Start text private declared rest → IsStarted text private rest
 started text private None rest s =
@@ -70,7 +71,7 @@ started text private None rest s =
     let parts = found_parts text private c.0 s.0.0 rest k.0 s.0.1 c.1 k.1 in
     record {
       no_subrs = not_before text private (k.0 ++ rest) parts s.1;
-      no_chars = chars_moves private (k.0 ++ rest) [] (subst (λ (u : List ℕ). NoneIn chars_mark private (u ++ rest)) k.1 c.3);
+      no_chars = chars_moves private (k.0 ++ rest) [] (subst (λ (u : List ℕ). NoneIn chars_marker private (u ++ rest)) k.1 c.3);
       before = 47 ∷ k.0;
       parts = parts;
     }
@@ -81,8 +82,8 @@ started text private (Some declared) rest s =
     let parts = found_parts text private m.0 s.3.0 rest k.0 s.3.1 m.1 k.1 in
     let chars : text ≡ s.0 ++ (c.0 ++ s.1) = s.2.1 ∙ (ap (λ (u : List ℕ). u ++ s.1) c.1 ∙ append_assoc s.0 c.0 s.1) in
     record {
-      no_subrs = subrs_moves private (k.0 ++ rest) [] (subst (λ (u : List ℕ). NoneIn subrs_mark private (u ++ rest)) k.1 m.3);
-      no_chars = before_slash chars_mark chars_moves private (k.0 ++ rest) s.0 (c.0 ++ s.1) (sym parts ∙ chars) (omega (arith, s.4)) c.3;
+      no_subrs = subrs_moves private (k.0 ++ rest) [] (subst (λ (u : List ℕ). NoneIn subrs_marker private (u ++ rest)) k.1 m.3);
+      no_chars = before_slash chars_marker chars_moves private (k.0 ++ rest) s.0 (c.0 ++ s.1) (sym parts ∙ chars) (omega (arith, s.4)) c.3;
       before = 47 ∷ k.0;
       parts = parts;
     }
@@ -109,11 +110,11 @@ table_of declared iv es closing bytes between s h =
 
 -- what is known of the middle, of Subrs and of what stands behind the marker of the glyphs
 pub record IsReadMiddle (p : PrivatePieces) (o : Option SubrsPieces) (glyphs : List ℕ) : Type 0 where
-  pub no_subrs : NoMark subrs_mark p.private
-  pub no_chars : NoMark chars_mark p.private
+  pub no_subrs : NoMarker subrs_marker p.private
+  pub no_chars : NoMarker chars_marker p.private
   pub private : AreBytes p.private
   pub apart : Stops is_regular p.middle
-  pub middle_chars : NoMark chars_mark p.middle
+  pub middle_chars : NoMarker chars_marker p.middle
   pub middle : AreBytes p.middle
   pub after : AreBytes glyphs
 
@@ -130,7 +131,7 @@ middle_of text p None glyphs s h =
         no_chars = a.no_chars;
         private = b.0;
         apart = subst (Stops is_regular) (sym s.1) tt;
-        middle_chars = subst (NoMark chars_mark) (sym s.1) tt;
+        middle_chars = subst (NoMarker chars_marker) (sym s.1) tt;
         middle = subst AreBytes (sym s.1) tt;
         after = (parts_bytes (a.before ++ glyphs) a.before glyphs refl b.1).1;
       },
@@ -149,7 +150,7 @@ middle_of text p (Some x) glyphs s h =
         no_chars = a.no_chars;
         private = b.0;
         apart = stops_front p.middle (47 ∷ (k.0 ++ glyphs)) (subst (Stops is_regular) e t.apart);
-        middle_chars = chars_moves p.middle (k.0 ++ glyphs) [] (subst (λ (u : List ℕ). NoneIn chars_mark p.middle (u ++ glyphs)) k.1 c.3);
+        middle_chars = chars_moves p.middle (k.0 ++ glyphs) [] (subst (λ (u : List ℕ). NoneIn chars_marker p.middle (u ++ glyphs)) k.1 c.3);
         middle = d.0;
         after = (parts_bytes (47 ∷ (k.0 ++ glyphs)) (47 ∷ k.0) glyphs refl d.1).1;
       },

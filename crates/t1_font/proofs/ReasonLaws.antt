@@ -6,7 +6,8 @@ use Rattle.t1_bytes.proofs.Grammars.{first_exact}
 use Rattle.t1_bytes.specs.Cipher.{private_text}
 use Rattle.t1_font.specs.declared.fault.ReadFault.{ReadFault}
 use Rattle.t1_font.specs.declared.fault.ReadFault.TheVariants.{TooLong, BadSegment, NoEexec, ShortCipher, NoEncoding, BadEncoding, NoCharStrings, BadLenIV, BadSubrs, BadGlyphs, Hybrid, NoClosefile, NoNotdef, Limit, Memory}
-use Rattle.t1_font.specs.Marks.{encoding_mark, encoding_start, closefile, len_iv_mark}
+use Rattle.t1_font.specs.Markers.{encoding_marker, closefile, len_iv_marker}
+use Rattle.t1_font.specs.Encoding.{encoding_start}
 use Rattle.t1_font.specs.Pieces.{ClearPieces, SubrsPieces, PrivatePieces, flat_pieces, encoding_from, clear_pieces, iv_at, iv_of, has_subrs, through, tail_after, glyphs_from, tables_from, private_pieces}
 use Rattle.std.specs.Ordering.{nat_cmp}
 use Rattle.t1_font.specs.FontValue.{FontValue, file_limit, name_cmp}
@@ -15,7 +16,7 @@ use Rattle.t1_font.specs.ReadFont.{shell_of, subr_entries, glyph_entries, is_wit
 use Rattle.t1_font.specs.Spelling.{Start, SpellsTables, IsClear, IsLenIV, HasTables, HasGlyphs, IsPrivate, Texts, HasPieces}
 use Rattle.t1_font.specs.Reasons.{CutFails, ClearFails, BadIV, IsHybrid, PrivateFails, FontFails, HasFlat, Reason}
 use Rattle.t1_font.proofs.ReadLaws.{file_sound}
-use Rattle.t1_font.proofs.MarkLemmas.{closefile_exact}
+use Rattle.t1_font.proofs.MarkerLemmas.{closefile_exact}
 use Rattle.t1_font.proofs.ReadingLaws.{front_again, optional_sound}
 use Rattle.t1_font.proofs.ValueLaws.{notdef_is, within_of, within_again}
 use Rattle.t1_font.proofs.SpellingLaws.{by_start, start_none, start_some, iv_is, is_iv, clear_is, is_clear, is_cut, private_is, is_private, texts_are, text_again}
@@ -47,10 +48,10 @@ clear_fails clear e s = elim s [
   ]
 ]
   where
-    puts_fail : (mark : (List ℕ × Unit {0}) × List ℕ) → AtFront (first encoding_mark) clear mark → (start : Option (List ℕ)) (rest : List ℕ) → AtFront encoding_start mark.1 (start, rest) → (encoding_from clear start rest).Fails e → ClearFails clear e
-    puts_fail mark a (Some w) rest b t = absurd t
-    puts_fail mark a None rest b t = elim t [
-      | inl r ↦ subst (ClearFails clear) (sym r.2) (inr (mark.0.0, mark.1, rest, r.0, a, b, r.1, refl))
+    puts_fail : (marker : (List ℕ × Unit {0}) × List ℕ) → AtFront (first encoding_marker) clear marker → (start : Option (List ℕ)) (rest : List ℕ) → AtFront encoding_start marker.1 (start, rest) → (encoding_from clear start rest).Fails e → ClearFails clear e
+    puts_fail marker a (Some w) rest b t = absurd t
+    puts_fail marker a None rest b t = elim t [
+      | inl r ↦ subst (ClearFails clear) (sym r.2) (inr (marker.0.0, marker.1, rest, r.0, a, b, r.1, refl))
       | inr r ↦ absurd r.2
     ]
 
@@ -58,11 +59,11 @@ clear_fails clear e s = elim s [
 
 iv_fails : (private : List ℕ) (e : ReadFault) → (iv_of private).Fails e → BadIV private × (e ≡ BadLenIV)
 unfolding iv_of iv_at
-iv_fails private e s = elim s [ inl p ↦ absurd p | inr p ↦ by_mark p.0 p.1 p.2 ]
+iv_fails private e s = elim s [ inl p ↦ absurd p | inr p ↦ by_marker p.0 p.1 p.2 ]
   where
-    by_mark : (mark : Option ((List ℕ × Unit {0}) × List ℕ)) → MatchOption mark ((first len_iv_mark).read private ≡ None) (AtFront (first len_iv_mark) private) → (iv_at mark).Fails e → BadIV private × (e ≡ BadLenIV)
-    by_mark None m t = absurd t
-    by_mark (Some x) m t = elim t [ inl p ↦ ((x.0.0, x.1, m, p.0), p.1) | inr p ↦ absurd p.2 ]
+    by_marker : (marker : Option ((List ℕ × Unit {0}) × List ℕ)) → MatchOption marker ((first len_iv_marker).read private ≡ None) (AtFront (first len_iv_marker) private) → (iv_at marker).Fails e → BadIV private × (e ≡ BadLenIV)
+    by_marker None m t = absurd t
+    by_marker (Some x) m t = elim t [ inl p ↦ ((x.0.0, x.1, m, p.0), p.1) | inr p ↦ absurd p.2 ]
 
 abbrev TailFails : List ℕ → List ℕ → ReadFault → Type 0
 TailFails middle after e = (IsHybrid middle after × (e ≡ Hybrid)) ⊎ ((has_subrs middle ≡ false) × (has_subrs after ≡ false) × ((first closefile).read after ≡ None) × (e ≡ NoClosefile))

@@ -9,12 +9,13 @@ use Rattle.t1_bytes.specs.Segments.{IsFlat}
 use Rattle.t1_bytes.proofs.Grammars.{first_exact}
 use Rattle.t1_bytes.specs.Eexec.{cipher_text}
 use Rattle.t1_font.specs.declared.fault.ReadFault.{ReadFault}
-use Rattle.t1_font.specs.Marks.{encoding_start, chars_mark, subrs_mark, len_iv_mark, len_iv, closefile}
+use Rattle.t1_font.specs.Encoding.{encoding_start}
+use Rattle.t1_font.specs.Markers.{chars_marker, subrs_marker, len_iv_marker, len_iv, closefile}
 use Rattle.t1_font.specs.Pieces.{FlatPieces, EncodingText, OneWord, Puts, ClearPieces, SubrsPieces, PrivatePieces, flat_pieces, encoding_from, clear_pieces, iv_at, iv_of, has_subrs, through, tail_after, glyphs_from, before_place, tables_from, private_pieces}
 use Rattle.t1_font.specs.FontValue.{FontValue, notdef, file_limit, IsWithin}
 use Rattle.t1_font.specs.ReadFont.{font_of, flat_text, font_from, font_file, read_font}
 use Rattle.t1_font.specs.Spelling.{IsCut, SpellsEncoding, IsClear, IsLenIV, said, unsaid, nowhere, later, Start, SpellsTables, IsPrivate, Texts, Spells}
-use Rattle.t1_font.proofs.MarkLemmas.{closefile_exact}
+use Rattle.t1_font.proofs.MarkerLemmas.{closefile_exact}
 use Rattle.t1_font.proofs.ReadingLaws.{front_again}
 use Rattle.t1_font.proofs.ReadLaws.{file_sound}
 use Rattle.t1_font.proofs.ValueLaws.{notdef_is, within_of, within_again, private_again, private_enciphers, lead_length}
@@ -23,11 +24,11 @@ use Rattle.t1_font.proofs.ValueLaws.{notdef_is, within_of, within_again, private
 
 cut_is : (flat : List ℕ) (parts : FlatPieces) → (flat_pieces flat).Is parts → IsCut flat parts.clear parts.cipher
 unfolding flat_pieces
-cut_is flat parts s = subst (λ (p : FlatPieces). IsCut flat p.clear p.cipher) s.2.2 (record { front = s.0.0.0; own = s.0.0.1; after = s.0.1; rest = s.2.0.1; mark = s.1; secret = s.2.1; clear_is = refl })
+cut_is flat parts s = subst (λ (p : FlatPieces). IsCut flat p.clear p.cipher) s.2.2 (record { front = s.0.0.0; own = s.0.0.1; after = s.0.1; rest = s.2.0.1; marker = s.1; secret = s.2.1; clear_is = refl })
 
 pub is_cut : (flat clear cipher : List ℕ) → IsCut flat clear cipher → (flat_pieces flat).Is (record { clear = clear; cipher = cipher })
 unfolding flat_pieces
-is_cut flat clear cipher s = (((s.front, s.own), s.after), s.mark, ((cipher, s.rest), s.secret, ap (λ (c : List ℕ). let p : FlatPieces = record { clear = c; cipher = cipher } in p) (sym s.clear_is)))
+is_cut flat clear cipher s = (((s.front, s.own), s.after), s.marker, ((cipher, s.rest), s.secret, ap (λ (c : List ℕ). let p : FlatPieces = record { clear = c; cipher = cipher } in p) (sym s.clear_is)))
 
 cut_four : (flat clear cipher : List ℕ) → IsCut flat clear cipher → 4 ≤ length cipher
 unfolding cipher_text
@@ -47,21 +48,21 @@ is_encoding clear bytes (Puts puts) after s = ((None, s.0), s.2, ((puts, s.1, af
 
 pub clear_is : (clear : List ℕ) (c : ClearPieces) → (clear_pieces clear).Is c → IsClear clear c
 unfolding clear_pieces
-clear_is clear c s = subst (IsClear clear) s.2.2.2 (record { after = s.0.1; mark = s.1; encoding = encoding_is clear s.0.1 s.2.0.0 s.2.0.1 s.2.2.0 s.2.1 s.2.2.1 })
+clear_is clear c s = subst (IsClear clear) s.2.2.2 (record { after = s.0.1; marker = s.1; encoding = encoding_is clear s.0.1 s.2.0.0 s.2.0.1 s.2.2.0 s.2.1 s.2.2.1 })
 
 pub is_clear : (clear : List ℕ) (c : ClearPieces) → IsClear clear c → (clear_pieces clear).Is c
 unfolding clear_pieces
-is_clear clear c s = let e = is_encoding clear s.after c.encoding c.clear_tail s.encoding in (((c.head, tt), s.after), s.mark, (e.0, e.1, ((c.encoding, c.clear_tail), e.2, refl)))
+is_clear clear c s = let e = is_encoding clear s.after c.encoding c.clear_tail s.encoding in (((c.head, tt), s.after), s.marker, (e.0, e.1, ((c.encoding, c.clear_tail), e.2, refl)))
 
 -- ---- the private text
 
 pub iv_is : (private : List ℕ) (n : ℕ) → (iv_of private).Is n → IsLenIV private n
 unfolding iv_of iv_at
-iv_is private n s = by_mark s.0 s.1 s.2
+iv_is private n s = by_marker s.0 s.1 s.2
   where
-    by_mark : (mark : Option ((List ℕ × Unit {0}) × List ℕ)) → MatchOption mark ((first len_iv_mark).read private ≡ None) (AtFront (first len_iv_mark) private) → (iv_at mark).Is n → IsLenIV private n
-    by_mark None m t = unsaid m (sym t)
-    by_mark (Some x) m t = said x.0.0 x.1 t.0.1 m (subst (λ (k : ℕ). AtFront len_iv x.1 (k, t.0.1)) t.2 t.1)
+    by_marker : (marker : Option ((List ℕ × Unit {0}) × List ℕ)) → MatchOption marker ((first len_iv_marker).read private ≡ None) (AtFront (first len_iv_marker) private) → (iv_at marker).Is n → IsLenIV private n
+    by_marker None m t = unsaid m (sym t)
+    by_marker (Some x) m t = said x.0.0 x.1 t.0.1 m (subst (λ (k : ℕ). AtFront len_iv x.1 (k, t.0.1)) t.2 t.1)
 
 pub is_iv : (private : List ℕ) (n : ℕ) → IsLenIV private n → (iv_of private).Is n
 unfolding iv_of iv_at
@@ -122,16 +123,16 @@ without : (text : List ℕ) (chars : (List ℕ × Unit {0}) × List ℕ) (p : Pr
 unfolding tables_from
 without text chars p a s = glyphs_are text chars.0.0 None [] s.0 chars.1 p (a, refl) (iv_is chars.0.0 s.0 s.1) s.2
 
-with_subrs : (text : List ℕ) (chars : (List ℕ × Unit {0}) × List ℕ) (mark : (List ℕ × ℕ) × List ℕ) (p : PrivatePieces) → Start text mark.0.0 (Some mark.0.1) mark.1 → (tables_from text chars (Some mark)).Is p → IsPrivate text p
+with_subrs : (text : List ℕ) (chars : (List ℕ × Unit {0}) × List ℕ) (marker : (List ℕ × ℕ) × List ℕ) (p : PrivatePieces) → Start text marker.0.0 (Some marker.0.1) marker.1 → (tables_from text chars (Some marker)).Is p → IsPrivate text p
 unfolding tables_from
-with_subrs text chars mark p a s =
+with_subrs text chars marker p a s =
     let x = s.2.0 in
     let n = s.2.2.0 in
-    glyphs_are text mark.0.0 _ n.0.0 s.0 n.1 p (mark.1, x.2, a, s.2.1, s.2.2.1) (iv_is mark.0.0 s.0 s.1) s.2.2.2
+    glyphs_are text marker.0.0 _ n.0.0 s.0 n.1 p (marker.1, x.2, a, s.2.1, s.2.2.1) (iv_is marker.0.0 s.0 s.1) s.2.2.2
 
 -- what the first markers make of a private text is what the start of its tables makes of it
-pub by_start : (text : List ℕ) (C : Option ((List ℕ × ℕ) × List ℕ) → Type 0) (X : Type 0) (chars : (List ℕ × Unit {0}) × List ℕ) (mark : Option ((List ℕ × ℕ) × List ℕ)) → AtFront (first chars_mark) text chars → MatchOption mark ((first subrs_mark).read text ≡ None) (AtFront (first subrs_mark) text)
-    → C (before_place (length chars.0.0) mark) → (Start text chars.0.0 None chars.1 → C None → X) → ((x : (List ℕ × ℕ) × List ℕ) → Start text x.0.0 (Some x.0.1) x.1 → C (Some x) → X) → X
+pub by_start : (text : List ℕ) (C : Option ((List ℕ × ℕ) × List ℕ) → Type 0) (X : Type 0) (chars : (List ℕ × Unit {0}) × List ℕ) (marker : Option ((List ℕ × ℕ) × List ℕ)) → AtFront (first chars_marker) text chars → MatchOption marker ((first subrs_marker).read text ≡ None) (AtFront (first subrs_marker) text)
+    → C (before_place (length chars.0.0) marker) → (Start text chars.0.0 None chars.1 → C None → X) → ((x : (List ℕ × ℕ) × List ℕ) → Start text x.0.0 (Some x.0.1) x.1 → C (Some x) → X) → X
 by_start text C X chars None a m t f g = f (a, nowhere m) t
 by_start text C X chars (Some x) a m t f g = elim (cases_Bool (ltb (length x.0.0) (length chars.0.0))) [
   | inl lt ↦ let u : C (Some x) = rw lt at t in g x (chars.0.0, chars.1, a, m, ltb-true _ _ lt) u
@@ -144,14 +145,14 @@ private_is text p s = by_start text (λ o. (tables_from text s.0 o).Is p) (IsPri
 
 -- a start of tables is found again
 pub start_none : (text private rest : List ℕ) (C : (List ℕ × Unit {0}) × List ℕ → Option ((List ℕ × ℕ) × List ℕ) → Type 0) → Start text private None rest → C ((private, tt), rest) None
-    → (chars : (List ℕ × Unit {0}) × List ℕ) × AtFront (first chars_mark) text chars × ((mark : Option ((List ℕ × ℕ) × List ℕ)) × MatchOption mark ((first subrs_mark).read text ≡ None) (AtFront (first subrs_mark) text) × C chars (before_place (length chars.0.0) mark))
+    → (chars : (List ℕ × Unit {0}) × List ℕ) × AtFront (first chars_marker) text chars × ((marker : Option ((List ℕ × ℕ) × List ℕ)) × MatchOption marker ((first subrs_marker).read text ≡ None) (AtFront (first subrs_marker) text) × C chars (before_place (length chars.0.0) marker))
 start_none text private rest C h c = elim h.1 [
   | nowhere l ↦ (((private, tt), rest), h.0, (None, l, c))
   | later front declared after a ge ↦ (((private, tt), rest), h.0, (Some ((front, declared), after), a, rw (le-ltb (length front) (length private) ge) c))
 ]
 
 pub start_some : (text private rest : List ℕ) (declared : ℕ) (C : (List ℕ × Unit {0}) × List ℕ → Option ((List ℕ × ℕ) × List ℕ) → Type 0) → Start text private (Some declared) rest → ((chars : (List ℕ × Unit {0}) × List ℕ) → C chars (Some ((private, declared), rest)))
-    → (chars : (List ℕ × Unit {0}) × List ℕ) × AtFront (first chars_mark) text chars × ((mark : Option ((List ℕ × ℕ) × List ℕ)) × MatchOption mark ((first subrs_mark).read text ≡ None) (AtFront (first subrs_mark) text) × C chars (before_place (length chars.0.0) mark))
+    → (chars : (List ℕ × Unit {0}) × List ℕ) × AtFront (first chars_marker) text chars × ((marker : Option ((List ℕ × ℕ) × List ℕ)) × MatchOption marker ((first subrs_marker).read text ≡ None) (AtFront (first subrs_marker) text) × C chars (before_place (length chars.0.0) marker))
 start_some text private rest declared C h c = (((h.0, tt), h.1), h.2, (Some ((private, declared), rest), h.3, rw (lt-ltb (length private) (length h.0) h.4) (c ((h.0, tt), h.1))))
 
 pub is_private : (text : List ℕ) (p : PrivatePieces) → IsPrivate text p → (private_pieces text).Is p

@@ -9,14 +9,14 @@ use Rattle.std.proofs.lemmas.Option.{none-some, same_Some}
 use Rattle.std.proofs.lemmas.Bool.{cases_Bool, leb-true, and_parts, or_parts, not-true, ne_eqb}
 use Rattle.t1_bytes.specs.Grammar.{Grammar, pure, ◌>>=◌, ◌>>◌, before, Stops, NoneIn, first, first_at, fixed}
 use Rattle.t1_bytes.specs.White.{is_white, gap}
-use Rattle.t1_bytes.specs.Eexec.{eexec_mark, blank_comes, cipher_text}
+use Rattle.t1_bytes.specs.Eexec.{eexec_marker, blank_comes, cipher_text}
 use Rattle.t1_bytes.proofs.Grammars.{first_exact}
 use Rattle.t1_bytes.proofs.Places.{prepend}
 use Rattle.t1_bytes.proofs.EexecLemmas.{eexec_exact}
 use Rattle.t1_font.specs.Words.{is_regular, is_delimiter, is_digit}
 use Rattle.t1_font.specs.Pieces.{EncodingText, OneWord, Puts, flat_pieces}
 use Rattle.t1_font.specs.Writing.{puts_text, encoding_text}
-use Rattle.t1_font.specs.IsFont.{IsCode, NoMark}
+use Rattle.t1_font.specs.IsFont.{IsCode, NoMarker}
 use Rattle.t1_font.proofs.Written.{AllRegular, gap_one, digits_are}
 use Rattle.t1_font.proofs.ClearWritten.{IsEncodingText}
 use Rattle.t1_font.proofs.Borders.{strip, fixed_strip}
@@ -41,11 +41,11 @@ differs_strip (c ∷ w) (b ∷ bs) rest h = elim (cases_Bool (eqb c b)) [
   | inr t ↦ rw t refl
 ]
 
-no_eexec : (bytes : List ℕ) → strip (codes "currentfile") bytes ≡ None → eexec_mark.read bytes ≡ None
-unfolding eexec_mark
+no_eexec : (bytes : List ℕ) → strip (codes "currentfile") bytes ≡ None → eexec_marker.read bytes ≡ None
+unfolding eexec_marker
 no_eexec bytes h = rw (fixed_strip (codes "currentfile") bytes, h) refl
 
-pub free_none : (text after : List ℕ) → is_free (codes "currentfile") text ≡ true → NoneIn eexec_mark text after
+pub free_none : (text after : List ℕ) → is_free (codes "currentfile") text ≡ true → NoneIn eexec_marker text after
 free_none [] after h = tt
 free_none (b ∷ text) after h = let both = and_parts (differs (codes "currentfile") (b ∷ text)) (is_free (codes "currentfile") text) h in (no_eexec (b ∷ (text ++ after)) (differs_strip (codes "currentfile") (b ∷ text) after both.0), free_none text after both.1)
 
@@ -74,45 +74,45 @@ no_second : (currentfile s : List ℕ) (b : ℕ) (rest : List ℕ) → AllRegula
 no_second currentfile [] b rest a w e = rw (gap_one (b ∷ rest) w, fixed_strip (codes "eexec") (b ∷ rest), e) refl
 no_second currentfile (c ∷ s) b rest a w e = rw (no_gap c (s ++ (32 ∷ (b ∷ rest))) (regular_black c a.0)) refl
 
--- no mark begins in a word, where neither white space nor `e` stands behind the blank behind it
-no_mark_at : (t : List ℕ) (b : ℕ) (rest : List ℕ) → AllRegular t → is_white b ≡ false → eqb 101 b ≡ false → eexec_mark.read (t ++ (32 ∷ (b ∷ rest))) ≡ None
-unfolding eexec_mark
-no_mark_at t b rest a w e = elim (strip_word (codes "currentfile") (refl, (refl, (refl, (refl, (refl, (refl, (refl, (refl, (refl, (refl, (refl, tt))))))))))) t (b ∷ rest) a) [
+-- no marker begins in a word, where neither white space nor `e` stands behind the blank behind it
+no_marker_at : (t : List ℕ) (b : ℕ) (rest : List ℕ) → AllRegular t → is_white b ≡ false → eqb 101 b ≡ false → eexec_marker.read (t ++ (32 ∷ (b ∷ rest))) ≡ None
+unfolding eexec_marker
+no_marker_at t b rest a w e = elim (strip_word (codes "currentfile") (refl, (refl, (refl, (refl, (refl, (refl, (refl, (refl, (refl, (refl, (refl, tt))))))))))) t (b ∷ rest) a) [
   | inl n ↦ no_eexec (t ++ (32 ∷ (b ∷ rest))) n
   | inr s ↦ rw (fixed_strip (codes "currentfile") (t ++ (32 ∷ (b ∷ rest))), s.2) (no_second (codes "currentfile") s.0 b rest s.1 w e)
 ]
 
-pub word_none : (w : List ℕ) (b : ℕ) (rest : List ℕ) → AllRegular w → is_white b ≡ false → eqb 101 b ≡ false → NoneIn eexec_mark w (32 ∷ (b ∷ rest))
+pub word_none : (w : List ℕ) (b : ℕ) (rest : List ℕ) → AllRegular w → is_white b ≡ false → eqb 101 b ≡ false → NoneIn eexec_marker w (32 ∷ (b ∷ rest))
 word_none [] b rest a w e = tt
-word_none (c ∷ t) b rest a w e = (no_mark_at (c ∷ t) b rest a w e, word_none t b rest a.1 w e)
+word_none (c ∷ t) b rest a w e = (no_marker_at (c ∷ t) b rest a w e, word_none t b rest a.1 w e)
 
 -- ---- the Encoding
 
-digit_none : (w after : List ℕ) → AllByRecursion (λ b. is_digit b ≡ true) w → NoneIn eexec_mark w after
+digit_none : (w after : List ℕ) → AllByRecursion (λ b. is_digit b ≡ true) w → NoneIn eexec_marker w after
 digit_none [] after h = tt
 digit_none (b ∷ w) after h =
     let low : b ≤ 57 = leb-true b 57 (and_parts (leb 48 b) (leb b 57) h.0).1 in
     let other : eqb 99 b ≡ false = ne_eqb 99 b (λ e. omega arith) in
     (no_eexec (b ∷ (w ++ after)) (rw other refl), digit_none w after h.1)
 
-pub digits_none : (n : ℕ) (after : List ℕ) → n < 2 ^ 64 → NoneIn eexec_mark (digits n) after
+pub digits_none : (n : ℕ) (after : List ℕ) → n < 2 ^ 64 → NoneIn eexec_marker (digits n) after
 digits_none n after h = digit_none (digits n) after (digits_are n h).made
 
-puts_none : (es : List (ℕ × List ℕ)) (after : List ℕ) → AllByRecursion (λ e. IsCode e.0 e.1) es → NoneIn eexec_mark (puts_text es) after
+puts_none : (es : List (ℕ × List ℕ)) (after : List ℕ) → AllByRecursion (λ e. IsCode e.0 e.1) es → NoneIn eexec_marker (puts_text es) after
 puts_none [] after h = free_none (10 ∷ codes "readonly def") after refl
 puts_none (e ∷ es) after h =
     let p : List ℕ = puts_text es in
-    NoneIn-append eexec_mark (10 ∷ codes "dup ") (digits e.0 ++ (codes " /" ++ (e.1 ++ (codes " put" ++ p)))) after (free_none (10 ∷ codes "dup ") _ refl)
-    (NoneIn-append eexec_mark (digits e.0) (codes " /" ++ (e.1 ++ (codes " put" ++ p))) after (digits_none e.0 _ (omega (arith, h.0.code)))
-    (NoneIn-append eexec_mark (codes " /") (e.1 ++ (codes " put" ++ p)) after (free_none (codes " /") _ refl)
-    (NoneIn-append eexec_mark e.1 (codes " put" ++ p) after (word_none e.1 112 _ h.0.name.regular refl refl)
-    (NoneIn-append eexec_mark (codes " put") p after (free_none (codes " put") _ refl) (puts_none es after h.1)))))
+    NoneIn-append eexec_marker (10 ∷ codes "dup ") (digits e.0 ++ (codes " /" ++ (e.1 ++ (codes " put" ++ p)))) after (free_none (10 ∷ codes "dup ") _ refl)
+    (NoneIn-append eexec_marker (digits e.0) (codes " /" ++ (e.1 ++ (codes " put" ++ p))) after (digits_none e.0 _ (omega (arith, h.0.code)))
+    (NoneIn-append eexec_marker (codes " /") (e.1 ++ (codes " put" ++ p)) after (free_none (codes " /") _ refl)
+    (NoneIn-append eexec_marker e.1 (codes " put" ++ p) after (word_none e.1 112 _ h.0.name.regular refl refl)
+    (NoneIn-append eexec_marker (codes " put") p after (free_none (codes " put") _ refl) (puts_none es after h.1)))))
 
-pub encoding_none : (encoding : EncodingText) (after : List ℕ) → IsEncodingText encoding → NoneIn eexec_mark (encoding_text encoding) after
+pub encoding_none : (encoding : EncodingText) (after : List ℕ) → IsEncodingText encoding → NoneIn eexec_marker (encoding_text encoding) after
 encoding_none (OneWord w) after h =
-    NoneIn-append eexec_mark (codes "/Encoding ") (w ++ codes " def") after (free_none (codes "/Encoding ") _ refl) (NoneIn-append eexec_mark w (codes " def") after (word_none w 100 _ h.regular refl refl) (free_none (codes " def") after refl))
+    NoneIn-append eexec_marker (codes "/Encoding ") (w ++ codes " def") after (free_none (codes "/Encoding ") _ refl) (NoneIn-append eexec_marker w (codes " def") after (word_none w 100 _ h.regular refl refl) (free_none (codes " def") after refl))
 encoding_none (Puts es) after h =
-    NoneIn-append eexec_mark (codes "/Encoding 256 array" ++ (10 ∷ codes "0 1 255 {1 index exch /.notdef put} for")) (puts_text es) after (free_none (codes "/Encoding 256 array" ++ (10 ∷ codes "0 1 255 {1 index exch /.notdef put} for")) _ refl) (puts_none es after h)
+    NoneIn-append eexec_marker (codes "/Encoding 256 array" ++ (10 ∷ codes "0 1 255 {1 index exch /.notdef put} for")) (puts_text es) after (free_none (codes "/Encoding 256 array" ++ (10 ∷ codes "0 1 255 {1 index exch /.notdef put} for")) _ refl) (puts_none es after h)
 
 -- ---- the split
 
@@ -124,7 +124,7 @@ pub record IsBorder (v : List ℕ) : Type 0 where
   pub blank : blank_comes v ≡ false
 
 abbrev pub IsClearEnd : List ℕ → Type 0
-IsClearEnd tail = option_map (λ x. x.1) ((first eexec_mark).read (tail ++ 10 ∷ [])) ≡ Some (10 ∷ [])
+IsClearEnd tail = option_map (λ x. x.1) ((first eexec_marker).read (tail ++ 10 ∷ [])) ≡ Some (10 ∷ [])
 
 found_with : (o : Option ((List ℕ × List ℕ) × List ℕ)) (r : List ℕ) → option_map (λ x. x.1) o ≡ Some r → (x : (List ℕ × List ℕ) × List ℕ) × (o ≡ Some x) × (x.1 ≡ r)
 found_with None r h = absurd (none-some r h)
@@ -134,25 +134,25 @@ starts_slash : (encoding : EncodingText) → (r : List ℕ) × (encoding_text en
 starts_slash (OneWord w) = (_, refl)
 starts_slash (Puts es) = (_, refl)
 
-pub eexec_found : (head : List ℕ) (encoding : EncodingText) (tail v : List ℕ) → NoMark eexec_mark head → IsEncodingText encoding → IsClearEnd tail → IsBorder v
-    → (x : (List ℕ × List ℕ) × List ℕ) × (first_at eexec_mark ((head ++ (encoding_text encoding ++ tail)) ++ (10 ∷ v)) ≡ Some x) × (x.1 ≡ 10 ∷ v)
+pub eexec_found : (head : List ℕ) (encoding : EncodingText) (tail v : List ℕ) → NoMarker eexec_marker head → IsEncodingText encoding → IsClearEnd tail → IsBorder v
+    → (x : (List ℕ × List ℕ) × List ℕ) × (first_at eexec_marker ((head ++ (encoding_text encoding ++ tail)) ++ (10 ∷ v)) ≡ Some x) × (x.1 ≡ 10 ∷ v)
 eexec_found head encoding tail v none ok ends border =
-    let f = found_with (first_at eexec_mark (tail ++ 10 ∷ [])) (10 ∷ []) ends in
+    let f = found_with (first_at eexec_marker (tail ++ 10 ∷ [])) (10 ∷ []) ends in
     let e : List ℕ = encoding_text encoding in
     let slash = starts_slash encoding in
     let nil_foreign : Foreign (codes "currentfile") [] = (refl, (refl, (refl, (refl, (refl, (refl, (refl, (refl, (refl, (refl, (refl, tt))))))))))) in
     let nil_second : Foreign (codes "eexec") [] = (refl, (refl, (refl, (refl, (refl, tt))))) in
-    let more : first_at eexec_mark ((tail ++ 10 ∷ []) ++ v) ≡ Some (f.0.0, f.0.1 ++ v) = first_grows eexec_mark v (eexec_within [] v tt border.white nil_foreign border.current nil_second border.eexec (sym border.blank)) (tail ++ 10 ∷ []) f.0 f.1 in
-    let in_head : NoneIn eexec_mark head (e ++ ((tail ++ 10 ∷ []) ++ v)) = subst (λ (u : List ℕ). NoneIn eexec_mark head (u ++ ((tail ++ 10 ∷ []) ++ v))) (sym slash.1) (eexec_moves head [] (slash.0 ++ ((tail ++ 10 ∷ []) ++ v)) none) in
-    let clear : first_at eexec_mark (head ++ (e ++ ((tail ++ 10 ∷ []) ++ v))) ≡ prepend head (prepend e (Some (f.0.0, f.0.1 ++ v))) =
-    past_none eexec_mark head (e ++ ((tail ++ 10 ∷ []) ++ v)) in_head ∙ ap (prepend head) (past_none eexec_mark e ((tail ++ 10 ∷ []) ++ v) (encoding_none encoding _ ok) ∙ ap (prepend e) more) in
+    let more : first_at eexec_marker ((tail ++ 10 ∷ []) ++ v) ≡ Some (f.0.0, f.0.1 ++ v) = first_grows eexec_marker v (eexec_within [] v tt border.white nil_foreign border.current nil_second border.eexec (sym border.blank)) (tail ++ 10 ∷ []) f.0 f.1 in
+    let in_head : NoneIn eexec_marker head (e ++ ((tail ++ 10 ∷ []) ++ v)) = subst (λ (u : List ℕ). NoneIn eexec_marker head (u ++ ((tail ++ 10 ∷ []) ++ v))) (sym slash.1) (eexec_moves head [] (slash.0 ++ ((tail ++ 10 ∷ []) ++ v)) none) in
+    let clear : first_at eexec_marker (head ++ (e ++ ((tail ++ 10 ∷ []) ++ v))) ≡ prepend head (prepend e (Some (f.0.0, f.0.1 ++ v))) =
+    past_none eexec_marker head (e ++ ((tail ++ 10 ∷ []) ++ v)) in_head ∙ ap (prepend head) (past_none eexec_marker e ((tail ++ 10 ∷ []) ++ v) (encoding_none encoding _ ok) ∙ ap (prepend e) more) in
     let regrouped : (head ++ (e ++ tail)) ++ (10 ∷ v) ≡ head ++ (e ++ ((tail ++ 10 ∷ []) ++ v)) = simp append_assoc in
-    (((head ++ (e ++ f.0.0.0), f.0.0.1), f.0.1 ++ v), ap (first_at eexec_mark) regrouped ∙ clear, ap (λ (u : List ℕ). u ++ v) f.2)
+    (((head ++ (e ++ f.0.0.0), f.0.0.1), f.0.1 ++ v), ap (first_at eexec_marker) regrouped ∙ clear, ap (λ (u : List ℕ). u ++ v) f.2)
 
--- the mark's value is its own text
-pub mark_own : (mark own rest : List ℕ) → eexec_mark.Spells mark own rest → own ≡ mark
-unfolding eexec_mark gap
-mark_own mark own rest s =
+-- the marker's value is its own text
+pub marker_own : (marker own rest : List ℕ) → eexec_marker.Spells marker own rest → own ≡ marker
+unfolding eexec_marker gap
+marker_own marker own rest s =
     let last : s.5.5.5.2 ≡ [] = s.5.5.5.5.0 in
     let none : s.5.5.5.1 ≡ [] = s.5.5.5.4.0 in
     let parts : own ≡ s.0 ++ (s.5.0 ++ (s.5.5.0 ++ ([] ++ []))) =
@@ -165,11 +165,11 @@ line_skipped : (v : List ℕ) → cipher_text.read (10 ∷ v) ≡ cipher_text.re
 unfolding cipher_text
 line_skipped v = rw one-add refl
 
-pub split_again : (clear v cipher rest : List ℕ) (x : (List ℕ × List ℕ) × List ℕ) → first_at eexec_mark (clear ++ (10 ∷ v)) ≡ Some x → x.1 ≡ 10 ∷ v → cipher_text.read v ≡ Some (cipher, rest) → (flat_pieces (clear ++ (10 ∷ v))).read ≡ Ok (record { clear = clear; cipher = cipher })
+pub split_again : (clear v cipher rest : List ℕ) (x : (List ℕ × List ℕ) × List ℕ) → first_at eexec_marker (clear ++ (10 ∷ v)) ≡ Some x → x.1 ≡ 10 ∷ v → cipher_text.read v ≡ Some (cipher, rest) → (flat_pieces (clear ++ (10 ∷ v))).read ≡ Ok (record { clear = clear; cipher = cipher })
 unfolding flat_pieces
 split_again clear v cipher rest x e after c =
-    let s = (first_exact eexec_mark eexec_exact).takes (clear ++ (10 ∷ v)) x e in
-    let whole : clear ++ (10 ∷ v) ≡ (x.0.0 ++ x.0.1) ++ (10 ∷ v) = s.1 ∙ (λ i. (s.2.1 ∙ ap (λ (u : List ℕ). x.0.0 ++ u) (mark_own x.0.1 s.2.0 x.1 s.2.2)) i ++ after i) in
+    let s = (first_exact eexec_marker eexec_exact).takes (clear ++ (10 ∷ v)) x e in
+    let whole : clear ++ (10 ∷ v) ≡ (x.0.0 ++ x.0.1) ++ (10 ∷ v) = s.1 ∙ (λ i. (s.2.1 ∙ ap (λ (u : List ℕ). x.0.0 ++ u) (marker_own x.0.1 s.2.0 x.1 s.2.2)) i ++ after i) in
     let same : x.0.0 ++ x.0.1 ≡ clear = sym (append_cancel_right clear (x.0.0 ++ x.0.1) (10 ∷ v) whole) in
     let secret : cipher_text.read x.1 ≡ Some (cipher, rest) = ap cipher_text.read after ∙ (line_skipped v ∙ c) in
     rw (e, secret, same) refl

@@ -15,7 +15,7 @@ use Rattle.t1_bytes.specs.Cipher.{Enciphers, decrypted, private_text}
 use Rattle.t1_bytes.proofs.Ciphers.{Enciphers-decrypted, decrypted-is, length-decrypted}
 use Rattle.t1_bytes.specs.Grammar.{choice}
 use Rattle.t1_font.specs.Charstrings.{plain_of}
-use Rattle.t1_font.specs.Marks.{Glyph}
+use Rattle.t1_font.specs.Glyphs.{Glyph}
 use Rattle.t1_font.specs.Pieces.{ClearPieces, PrivatePieces}
 use Rattle.t1_font.specs.FontValue.{name_cmp, notdef, weight_of, IsWithin, declared_count, count_limit, weight_limit}
 use Rattle.t1_font.specs.Entries.{last_entries, last_value}

@@ -13,7 +13,7 @@ use Rattle.t1_font.specs.declared.private.PrivateParts.{PrivateParts}
 use Rattle.t1_font.specs.Reading.{Reading}
 use Rattle.t1_font.specs.FontValue.{Numbered, Encoding, Word, Codes}
 use Rattle.t1_font.specs.Pieces.{ClearPieces, SubrsPieces, PrivatePieces}
-use Rattle.t1_font.specs.Marks.{Glyph}
+use Rattle.t1_font.specs.Glyphs.{Glyph}
 use Rattle.t1_font.specs.ReadFont.{encoding_value, subrs_of}
 use Rattle.t1_font.specs.Views.{phrase_view, words_view}
 use Rattle.t1_font.specs.Gathering.{Entries, named}

@@ -6,7 +6,7 @@ use Rattle.t1_bytes.specs.declared.form.Form.{Form}
 use Rattle.t1_bytes.specs.Cipher.{sealed, private_cipher}
 use Rattle.t1_bytes.specs.Texts.{file_text}
 use Rattle.t1_font.specs.Subrs.{Subr}
-use Rattle.t1_font.specs.Marks.{Glyph}
+use Rattle.t1_font.specs.Glyphs.{Glyph}
 use Rattle.t1_font.specs.Pieces.{EncodingText, OneWord, Puts, ClearPieces, SubrsPieces, PrivatePieces}
 use Rattle.t1_font.specs.FontValue.{FontValue, Shell, SubrsShell, Encoding, Word, Codes}
 use Rattle.t1_font.specs.Writing.{private_written, clear_written}

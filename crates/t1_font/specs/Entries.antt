@@ -1,9 +1,10 @@
 -- Lists of entries in the order of a file, and the maps that they make: of a repeated key the last entry stands.
-use Rattle.std.specs.Prelude.{ℕ, not, Bool, List, [], ◌∷◌, filter, Option, Some, None, if◌then◌else◌}
+use Rattle.std.specs.Prelude.{◌≡◌, ℕ, not, Bool, false, List, [], ◌∷◌, filter, Option, Some, None, if◌then◌else◌}
 use Rattle.std.specs.Str.{bytes_eq}
 use Rattle.std.specs.Ordering.{is_eq}
 use Rattle.std.specs.declared.cmp.Ordering.{Ordering}
 use Rattle.std.specs.FinMap as maps
+use Rattle.std.specs.List.Sorted.{IsPermutation, IsSortedByKey, IsStableByKey}
 use Rattle.t1_bytes.specs.Grammar.{choice}
 use Rattle.t1_font.specs.FontValue.{notdef}
 
@@ -18,9 +19,30 @@ module _ {K : Type 0} (R : K → K → Ordering) where
   last_entries es = put_all es []
 
   -- the value of the last entry with this key
-  abbrev pub last_value : K → List (K × List ℕ) → Option (List ℕ)
+  abbrev pub last_value : {X : Type 0} → K → List (K × X) → Option X
   last_value key [] = None
   last_value key (e ∷ es) = choice (last_value key es) (if is_eq (R key e.0) then Some e.1 else None)
+
+-- ---- each key once
+
+module _ {K V : Type 0} (R : K → K → Ordering) where
+  -- whether the next entry has the key of this one
+  abbrev pub comes_again : K → List (K × V) → Bool
+  comes_again key [] = false
+  comes_again key (e ∷ es) = is_eq (R e.0 key)
+
+  -- of entries with one key that stand together the last
+  abbrev pub run_ends : List (K × V) → List (K × V)
+  run_ends [] = []
+  run_ends (e ∷ es) = if comes_again e.0 es then run_ends es else e ∷ run_ends es
+
+  -- in the order of the keys, of each key the last entry
+  pub record AreLast (entries last : List (K × V)) : Type 0 where
+    pub sorted : List (K × V)
+    pub same : IsPermutation entries sorted
+    pub rise : IsSortedByKey (λ e. e.0) R sorted
+    pub stable : IsStableByKey (λ e. e.0) R entries sorted
+    pub last_is : last ≡ run_ends sorted
 
 -- the map of entries
 abbrev pub map_of : {K : Type 0} {R : K → K → Ordering} → List (K × List ℕ) → maps.FinMap R (List ℕ)

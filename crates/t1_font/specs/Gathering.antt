@@ -2,13 +2,13 @@
 use Rattle.std.specs.Prelude.{◌≡◌, ℕ, List, length, filter}
 use Rattle.std.specs.Borrow.{Bor}
 use Rattle.std.specs.Coded.{Coded, code_by, coded×}
-use Rattle.std.specs.FinMap.{from_entries, from_sorted, entries, empty}
+use Rattle.std.specs.FinMap.{from_sorted, entries, empty}
 use Rattle.std.proofs.Common.{refl}
 use Rattle.t1_join.specs.Entries.{entries_by}
 use Rattle.t1_font.specs.declared.gathered.Gathered.TheInside.{Inside}
 use Rattle.t1_font.specs.declared.ranges.Range.{Range}
 use Rattle.t1_font.specs.FontValue.{Numbered, Named}
-use Rattle.t1_font.specs.Entries.{has_name}
+use Rattle.t1_font.specs.Entries.{has_name, map_of}
 use Rattle.t1_font.specs.Lent.{numbered_code, named_code}
 use Rattle.t1_font.specs.Ranges.{bytes_at, AllInside}
 
@@ -28,26 +28,26 @@ no_entries = record { codes = empty; subrs = empty; glyphs = empty }
 
 -- the names of codes, which stand elsewhere
 abbrev pub gathered_codes : List (ℕ × Bor (List ℕ)) → Numbered
-gathered_codes es = from_entries (entries_by (λ k. k) (λ n. n.now) es)
+gathered_codes es = map_of (entries_by (λ k. k) (λ n. n.now) es)
 
 -- the charstrings of a buffer, by index and by name
 abbrev pub gathered_subrs : List ℕ → List (ℕ × Range) → Numbered
-gathered_subrs buffer es = from_entries (entries_by (λ k. k) (bytes_at buffer) es)
+gathered_subrs buffer es = map_of (entries_by (λ k. k) (bytes_at buffer) es)
 
 abbrev pub gathered_glyphs : List ℕ → List (Bor (List ℕ) × Range) → Named
-gathered_glyphs buffer es = from_entries (entries_by (λ k. k.now) (bytes_at buffer) es)
+gathered_glyphs buffer es = map_of (entries_by (λ k. k.now) (bytes_at buffer) es)
 
 abbrev pub gathered_value : Inside → Entries
 gathered_value g = record {
-  codes = gathered_codes g.codes.entries;
-  subrs = gathered_subrs g.buffer.items g.subrs.entries;
-  glyphs = gathered_glyphs g.buffer.items g.glyphs.entries;
+  codes = gathered_codes g.codes.items;
+  subrs = gathered_subrs g.buffer.items g.subrs.items;
+  glyphs = gathered_glyphs g.buffer.items g.glyphs.items;
 }
 
 -- each range is inside the buffer
 pub record IsGathered (g : Inside) : Type 0 where
-  pub subrs : AllInside (length g.buffer.items) g.subrs.entries
-  pub glyphs : AllInside (length g.buffer.items) g.glyphs.entries
+  pub subrs : AllInside (length g.buffer.items) g.subrs.items
+  pub glyphs : AllInside (length g.buffer.items) g.glyphs.items
 
 -- the names of codes, but for `.notdef`
 abbrev pub named : Numbered → Numbered

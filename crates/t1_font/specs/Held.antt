@@ -1,15 +1,14 @@
 -- What code holds of a table that it has read so far.
-use Rattle.std.specs.Prelude.{◌≡◌, ◌⊎◌, ℕ, ◌≤◌, ◌<◌, Bool, List, [], ◌∷◌, map, Option, Some, None, Result, Ok, Err}
+use Rattle.std.specs.Prelude.{◌≡◌, ℕ, ◌≤◌, Bool, List, [], ◌∷◌, map, Option, Some, None, Result, Ok, Err}
 use Rattle.std.specs.List.{list_any}
 use Rattle.std.specs.Str.{bytes_eq}
-use Rattle.std.specs.FinMap.{len}
 use Rattle.t1_bytes.specs.Grammar.{Table}
 use Rattle.t1_font.specs.declared.fault.TableError.{TableError}
 use Rattle.t1_font.specs.FontValue.{Numbered, Named, notdef, count_limit}
 use Rattle.t1_font.specs.Charstrings.{plain_of}
 use Rattle.t1_font.specs.Entries.{map_of}
 use Rattle.t1_font.specs.Subrs.{Subr}
-use Rattle.t1_font.specs.Marks.{Glyph}
+use Rattle.t1_font.specs.Glyphs.{Glyph}
 use Rattle.t1_font.specs.Faults.{TableFails}
 
 -- the words of the first entry, where there is one
@@ -35,9 +34,9 @@ glyph_bodies len_iv es = map_of (map (λ e. (e.name, plain_of len_iv e.body)) es
 abbrev pub HoldsSubrs : ℕ → ℕ → Numbered → List Subr → Type 0
 HoldsSubrs declared len_iv bodies es = declared ≤ count_limit → bodies ≡ subr_bodies len_iv es
 
--- the glyphs of these entries, or more of them than a font may have
+-- the glyphs of these entries
 abbrev pub HoldsGlyphs : ℕ → Named → List Glyph → Type 0
-HoldsGlyphs len_iv bodies es = (bodies ≡ glyph_bodies len_iv es) ⊎ ((count_limit < len bodies) × (count_limit < len (glyph_bodies len_iv es)))
+HoldsGlyphs len_iv bodies es = bodies ≡ glyph_bodies len_iv es
 
 -- one of these entries is `.notdef`
 abbrev pub names_notdef : List Glyph → Bool

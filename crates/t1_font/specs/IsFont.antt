@@ -6,9 +6,9 @@ use Rattle.std.specs.Str.{bytes_eq}
 use Rattle.std.specs.FinMap.{get, contains_key, len, entries}
 use Rattle.t1_bytes.specs.Laws.{AreBytes}
 use Rattle.t1_bytes.specs.Grammar.{Grammar, first, NoneIn, Stops}
-use Rattle.t1_bytes.specs.Eexec.{eexec_mark}
+use Rattle.t1_bytes.specs.Eexec.{eexec_marker}
 use Rattle.t1_font.specs.Words.{is_regular, phrase_of, passes}
-use Rattle.t1_font.specs.Marks.{encoding_mark, subrs_mark, chars_mark, closefile}
+use Rattle.t1_font.specs.Markers.{encoding_marker, subrs_marker, chars_marker, closefile}
 use Rattle.t1_font.specs.Pieces.{iv_of, has_subrs}
 use Rattle.t1_font.specs.FontValue.{FontValue, Shell, SubrsShell, Encoding, Word, Codes, Numbered, Named, notdef, count_limit, weight_limit, weight}
 
@@ -34,23 +34,23 @@ pub record IsCharstring (iv : ℕ) (c : List ℕ) : Type 0 where
 -- ---- the shell
 
 -- the marker g can be read nowhere in the text, where a slash stands behind it
-abbrev pub NoMark : {A : Type 0} → Grammar A → List ℕ → Type 0
-NoMark g text = NoneIn g text (47 ∷ [])
+abbrev pub NoMarker : {A : Type 0} → Grammar A → List ℕ → Type 0
+NoMarker g text = NoneIn g text (47 ∷ [])
 
 -- the clear text around the Encoding: neither an Encoding marker nor `currentfile eexec` in `head`; the first `currentfile eexec` of `clear_tail` ends it
 pub record IsClearShell (s : Shell) : Type 0 where
-  pub head_encoding : NoMark encoding_mark s.head
-  pub head_eexec : NoMark eexec_mark s.head
+  pub head_encoding : NoMarker encoding_marker s.head
+  pub head_eexec : NoMarker eexec_marker s.head
   pub tail_apart : Stops is_regular s.clear_tail
-  pub tail_ends : option_map (λ x. x.1) ((first eexec_mark).read (s.clear_tail ++ 10 ∷ [])) ≡ Some (10 ∷ [])
+  pub tail_ends : option_map (λ x. x.1) ((first eexec_marker).read (s.clear_tail ++ 10 ∷ [])) ≡ Some (10 ∷ [])
 
 -- the private text around the tables: its lenIV, no marker of a table, and a first `closefile` that ends it
 pub record IsPrivateShell (s : Shell) : Type 0 where
   pub iv : (iv_of s.private).read ≡ Ok s.len_iv
-  pub no_subrs : NoMark subrs_mark s.private
-  pub no_chars : NoMark chars_mark s.private
+  pub no_subrs : NoMarker subrs_marker s.private
+  pub no_chars : NoMarker chars_marker s.private
   pub middle_apart : Stops is_regular s.middle
-  pub middle_chars : NoMark chars_mark s.middle
+  pub middle_chars : NoMarker chars_marker s.middle
   pub middle_subrs : has_subrs s.middle ≡ false
   pub tail_apart : Stops is_regular s.tail
   pub tail_subrs : has_subrs s.tail ≡ false

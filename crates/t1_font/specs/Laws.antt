@@ -10,7 +10,9 @@ use Rattle.t1_font.specs.ReadFont.{read_font}
 use Rattle.t1_font.specs.Spelling.{Spells}
 use Rattle.t1_font.specs.Reasons.{Reason}
 use Rattle.t1_font.specs.Words.{word, keyword, decimal, name, phrase_of}
-use Rattle.t1_font.specs.Marks.{encoding_mark, subrs_mark, chars_mark, len_iv_mark, len_iv, closefile, encoding_start, code_entry, encoding_end, glyph, glyphs_end}
+use Rattle.t1_font.specs.Markers.{encoding_marker, subrs_marker, chars_marker, len_iv_marker, len_iv, closefile}
+use Rattle.t1_font.specs.Encoding.{encoding_start, code_entry, encoding_end}
+use Rattle.t1_font.specs.Glyphs.{glyph, glyphs_end}
 use Rattle.t1_font.specs.Subrs.{subr, subrs_end}
 
 -- what is read of each part of the grammar is what is spelled, and the other way round
@@ -20,16 +22,16 @@ pub record ReadsAsSpelled : Type 0 where
   pub numbers : IsExact decimal
   pub names : IsExact name
   pub phrases : (test : List ℕ → Bool) → IsExact (phrase_of test)
-  pub encodings : IsExact (first encoding_mark)
+  pub encodings : IsExact (first encoding_marker)
   pub starts : IsExact encoding_start
   pub codes : IsExact code_entry
   pub encoding_ends : IsExact encoding_end
-  pub lenIVs : IsExact (first len_iv_mark)
+  pub lenIVs : IsExact (first len_iv_marker)
   pub lead_counts : IsExact len_iv
-  pub tables : IsExact (first subrs_mark)
+  pub tables : IsExact (first subrs_marker)
   pub subrs : (declared iv : ℕ) → IsExact (subr declared iv)
   pub subrs_ends : IsExact subrs_end
-  pub charstrings : IsExact (first chars_mark)
+  pub charstrings : IsExact (first chars_marker)
   pub glyphs : (iv : ℕ) → IsExact (glyph iv)
   pub glyphs_ends : IsExact glyphs_end
   pub closes : IsExact (first closefile)

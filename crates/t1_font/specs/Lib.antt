@@ -1,9 +1,11 @@
+pub mod Glyphs
+pub mod Encoding
 pub mod Words
 pub mod Subrs
 pub mod Views
 pub mod Faults
 pub mod FaultTexts
-pub mod Marks
+pub mod Markers
 pub mod Charstrings
 pub mod Reading
 pub mod Pieces

@@ -1,10 +1,12 @@
 -- The pieces of a font's two texts.
 use Rattle.std.specs.Prelude.{ℕ, ◌-◌, ◌||◌, not, nat_lt, List, [], ◌++◌, Bool, length, Option, Some, None, is_some, if◌then◌else◌}
 use Rattle.t1_bytes.specs.Grammar.{first}
-use Rattle.t1_bytes.specs.Eexec.{eexec_mark, cipher_text}
+use Rattle.t1_bytes.specs.Eexec.{eexec_marker, cipher_text}
 use Rattle.t1_font.specs.declared.fault.ReadFault.TheVariants.{NoEexec, ShortCipher, NoEncoding, BadEncoding, NoCharStrings, BadLenIV, BadSubrs, BadGlyphs, Hybrid, NoClosefile}
 use Rattle.t1_font.specs.Subrs.{Subr, subr, subrs_end}
-use Rattle.t1_font.specs.Marks.{encoding_mark, encoding_start, code_entry, encoding_end, subrs_mark, chars_mark, len_iv_mark, len_iv, closefile, Glyph, glyph, glyphs_end}
+use Rattle.t1_font.specs.Markers.{encoding_marker, subrs_marker, chars_marker, len_iv_marker, len_iv, closefile}
+use Rattle.t1_font.specs.Encoding.{encoding_start, code_entry, encoding_end}
+use Rattle.t1_font.specs.Glyphs.{Glyph, glyph, glyphs_end}
 use Rattle.t1_font.specs.Reading.{Reading, give, ◌>>=◌, ◌>>◌, must, wanted, optional, table}
 
 -- ---- the flat text
@@ -16,9 +18,9 @@ pub record FlatPieces : Type 0 where
 -- the clear text through the first `currentfile eexec`, and the cipher after it
 unfoldable pub flat_pieces : List ℕ → Reading FlatPieces
 flat_pieces flat = do
-  mark ← wanted NoEexec (first eexec_mark) flat
-  cipher ← wanted ShortCipher cipher_text mark.1
-  give (record { clear = mark.0.0 ++ mark.0.1; cipher = cipher.0 })
+  marker ← wanted NoEexec (first eexec_marker) flat
+  cipher ← wanted ShortCipher cipher_text marker.1
+  give (record { clear = marker.0.0 ++ marker.0.1; cipher = cipher.0 })
 
 -- ---- the clear text
 
@@ -39,10 +41,10 @@ encoding_from clear None rest = do
 
 unfoldable pub clear_pieces : List ℕ → Reading ClearPieces
 clear_pieces clear = do
-  mark ← wanted NoEncoding (first encoding_mark) clear
-  start ← wanted (BadEncoding (length mark.0.0)) encoding_start mark.1
+  marker ← wanted NoEncoding (first encoding_marker) clear
+  start ← wanted (BadEncoding (length marker.0.0)) encoding_start marker.1
   encoding ← encoding_from clear start.0 start.1
-  give (record { head = mark.0.0; encoding = encoding.0; clear_tail = encoding.1 })
+  give (record { head = marker.0.0; encoding = encoding.0; clear_tail = encoding.1 })
 
 -- ---- the private text
 
@@ -62,17 +64,17 @@ pub record PrivatePieces : Type 0 where
 -- the first `/lenIV` decides; without one lenIV is 4
 unfoldable pub iv_at : Option ((List ℕ × Unit {0}) × List ℕ) → Reading ℕ
 iv_at None = give 4
-iv_at (Some mark) = do
-  n ← wanted BadLenIV len_iv mark.1
+iv_at (Some marker) = do
+  n ← wanted BadLenIV len_iv marker.1
   give n.0
 
 unfoldable pub iv_of : List ℕ → Reading ℕ
 iv_of private = do
-  mark ← optional (first len_iv_mark) private
-  iv_at mark
+  marker ← optional (first len_iv_marker) private
+  iv_at marker
 
 abbrev pub has_subrs : List ℕ → Bool
-has_subrs text = is_some ((first subrs_mark).read text)
+has_subrs text = is_some ((first subrs_marker).read text)
 
 -- through the first `closefile`, or to the end
 abbrev pub through : Option ((List ℕ × List ℕ) × List ℕ) → List ℕ → List ℕ
@@ -102,14 +104,14 @@ unfoldable pub tables_from : List ℕ → (List ℕ × Unit {0}) × List ℕ →
 tables_from text chars None = do
   iv ← iv_of chars.0.0
   glyphs_from text chars.0.0 None [] iv chars.1
-tables_from text chars (Some mark) = do
-  iv ← iv_of mark.0.0
-  subrs ← table BadSubrs (length text) (subr mark.0.1 iv) subrs_end mark.1
-  next ← wanted (BadGlyphs (length text - length subrs.2)) (first chars_mark) subrs.2
-  glyphs_from text mark.0.0 (Some (record { declared = mark.0.1; entries = subrs.0; closing = subrs.1 })) next.0.0 iv next.1
+tables_from text chars (Some marker) = do
+  iv ← iv_of marker.0.0
+  subrs ← table BadSubrs (length text) (subr marker.0.1 iv) subrs_end marker.1
+  next ← wanted (BadGlyphs (length text - length subrs.2)) (first chars_marker) subrs.2
+  glyphs_from text marker.0.0 (Some (record { declared = marker.0.1; entries = subrs.0; closing = subrs.1 })) next.0.0 iv next.1
 
 unfoldable pub private_pieces : List ℕ → Reading PrivatePieces
 private_pieces text = do
-  chars ← wanted NoCharStrings (first chars_mark) text
-  mark ← optional (first subrs_mark) text
-  tables_from text chars (before_place (length chars.0.0) mark)
+  chars ← wanted NoCharStrings (first chars_marker) text
+  marker ← optional (first subrs_marker) text
+  tables_from text chars (before_place (length chars.0.0) marker)

@@ -12,7 +12,7 @@ use Rattle.t1_font.specs.declared.fault.ReadFault.TheVariants.{TooLong, BadSegme
 use Rattle.t1_font.specs.FontValue.{SubrsShell, Shell, Encoding, Word, Codes, FontValue, name_cmp, notdef, file_limit, count_limit, weight_limit, weight_of, declared_count}
 use Rattle.t1_font.specs.Entries.{last_entries, map_of, names_of}
 use Rattle.t1_font.specs.Subrs.{Subr}
-use Rattle.t1_font.specs.Pieces.{EncodingText, OneWord, Puts, ClearPieces, SubrsPieces, PrivatePieces, flat_pieces, clear_pieces, private_pieces}
+use Rattle.t1_font.specs.Pieces.{FlatPieces, EncodingText, OneWord, Puts, ClearPieces, SubrsPieces, PrivatePieces, flat_pieces, clear_pieces, private_pieces}
 use Rattle.t1_font.specs.Reading.{Reading, give, ◌>>=◌, ◌>>◌, must}
 
 -- ---- the value of the pieces
@@ -72,6 +72,12 @@ bad_segment (Err at) = Err (BadSegment at)
 
 unfoldable pub flat_text : List ℕ → Reading (List ℕ)
 flat_text file = record { Is = IsFlat file; Fails = λ e. (at : ℕ) × IsBad file at × (e ≡ BadSegment at); read = bad_segment (flat_of file) }
+
+-- the clear text of a file, and its cipher
+abbrev pub file_pieces : List ℕ → Reading FlatPieces
+file_pieces file = do
+  flat ← flat_text file
+  flat_pieces flat
 
 abbrev pub has_notdef : PrivatePieces → Bool
 has_notdef p = list_any (λ g. bytes_eq notdef g.name) p.glyphs

@@ -3,12 +3,14 @@ use Rattle.std.specs.Prelude.{◌≡◌, ◌⊎◌, ℕ, ◌-◌, ◌≤◌, ◌
 use Rattle.std.specs.FinMap as maps
 use Rattle.t1_bytes.specs.Grammar.{first, BreaksOff, AtFront, Lacks}
 use Rattle.t1_bytes.specs.Segments.{IsFlat, IsBad}
-use Rattle.t1_bytes.specs.Eexec.{eexec_mark, cipher_text}
+use Rattle.t1_bytes.specs.Eexec.{eexec_marker, cipher_text}
 use Rattle.t1_font.specs.declared.fault.ReadFault.{ReadFault}
 use Rattle.t1_font.specs.declared.fault.ReadFault.TheVariants.{TooLong, BadSegment, NoEexec, ShortCipher, NoEncoding, BadEncoding, NoCharStrings, BadLenIV, BadSubrs, BadGlyphs, Hybrid, NoClosefile, NoNotdef, Limit, Memory}
 use Rattle.t1_font.specs.Faults.{left_after_white}
 use Rattle.t1_font.specs.Subrs.{Subr, subr, subrs_end}
-use Rattle.t1_font.specs.Marks.{encoding_mark, encoding_start, code_entry, encoding_end, chars_mark, len_iv_mark, len_iv, closefile, glyph, glyphs_end}
+use Rattle.t1_font.specs.Markers.{encoding_marker, chars_marker, len_iv_marker, len_iv, closefile}
+use Rattle.t1_font.specs.Encoding.{encoding_start, code_entry, encoding_end}
+use Rattle.t1_font.specs.Glyphs.{glyph, glyphs_end}
 use Rattle.t1_font.specs.Pieces.{ClearPieces, PrivatePieces, has_subrs, through}
 use Rattle.t1_font.specs.FontValue.{notdef, file_limit, IsWithin}
 use Rattle.t1_font.specs.ReadFont.{font_of}
@@ -16,26 +18,26 @@ use Rattle.t1_font.specs.Spelling.{TableAt, IsClear, IsLenIV, Start, HasTables, 
 
 -- a flat text that can't be cut
 abbrev pub CutFails : List ℕ → ReadFault → Type 0
-CutFails flat NoEexec = Lacks eexec_mark flat
-CutFails flat ShortCipher = (front own after : List ℕ) × AtFront (first eexec_mark) flat ((front, own), after) × (cipher_text.read after ≡ None)
+CutFails flat NoEexec = Lacks eexec_marker flat
+CutFails flat ShortCipher = (front own after : List ℕ) × AtFront (first eexec_marker) flat ((front, own), after) × (cipher_text.read after ≡ None)
 CutFails flat e = ⊥
 
 -- neither form of the Encoding begins after its marker
 abbrev pub NoFormAt : List ℕ → ℕ → Type 0
-NoFormAt clear at = (head after : List ℕ) × AtFront (first encoding_mark) clear ((head, tt), after) × (encoding_start.read after ≡ None) × (at ≡ length head)
+NoFormAt clear at = (head after : List ℕ) × AtFront (first encoding_marker) clear ((head, tt), after) × (encoding_start.read after ≡ None) × (at ≡ length head)
 
 -- the entries of the Encoding break off
 abbrev pub BadPutAt : List ℕ → ℕ → Type 0
-BadPutAt clear at = (head after entries left : List ℕ) × AtFront (first encoding_mark) clear ((head, tt), after) × AtFront encoding_start after (None, entries) × BreaksOff code_entry encoding_end entries left × (at ≡ length clear - left_after_white left)
+BadPutAt clear at = (head after entries left : List ℕ) × AtFront (first encoding_marker) clear ((head, tt), after) × AtFront encoding_start after (None, entries) × BreaksOff code_entry encoding_end entries left × (at ≡ length clear - left_after_white left)
 
 abbrev pub ClearFails : List ℕ → ReadFault → Type 0
-ClearFails clear NoEncoding = Lacks encoding_mark clear
+ClearFails clear NoEncoding = Lacks encoding_marker clear
 ClearFails clear (BadEncoding at) = NoFormAt clear at ⊎ BadPutAt clear at
 ClearFails clear e = ⊥
 
 -- the first `/lenIV` isn't followed by a lenIV
 abbrev pub BadIV : List ℕ → Type 0
-BadIV private = (front after : List ℕ) × AtFront (first len_iv_mark) private ((front, tt), after) × (len_iv.read after ≡ None)
+BadIV private = (front after : List ℕ) × AtFront (first len_iv_marker) private ((front, tt), after) × (len_iv.read after ≡ None)
 
 -- the entries of Subrs break off
 abbrev pub BadSubrsAt : List ℕ → ℕ → Type 0
@@ -43,7 +45,7 @@ BadSubrsAt text at = (private after left : List ℕ) × (declared iv : ℕ) × S
 
 -- no CharStrings marker stands after Subrs
 abbrev pub NoneAfterSubrs : List ℕ → ℕ → Type 0
-NoneAfterSubrs text at = (private after between closing : List ℕ) × (declared iv : ℕ) × (entries : List Subr) × Start text private (Some declared) after × IsLenIV private iv × TableAt (subr declared iv) subrs_end entries closing after between × Lacks chars_mark between × (at ≡ length text - length between)
+NoneAfterSubrs text at = (private after between closing : List ℕ) × (declared iv : ℕ) × (entries : List Subr) × Start text private (Some declared) after × IsLenIV private iv × TableAt (subr declared iv) subrs_end entries closing after between × Lacks chars_marker between × (at ≡ length text - length between)
 
 -- the entries of CharStrings break off
 abbrev pub BadGlyphsAt : List ℕ → ℕ → Type 0
@@ -54,7 +56,7 @@ abbrev pub IsHybrid : List ℕ → List ℕ → Type 0
 IsHybrid middle after = (has_subrs middle ≡ true) ⊎ (has_subrs (through ((first closefile).read after) after) ≡ true)
 
 abbrev pub PrivateFails : List ℕ → ReadFault → Type 0
-PrivateFails text NoCharStrings = Lacks chars_mark text
+PrivateFails text NoCharStrings = Lacks chars_marker text
 PrivateFails text BadLenIV = (private after : List ℕ) × (declared : Option ℕ) × Start text private declared after × BadIV private
 PrivateFails text (BadSubrs at) = BadSubrsAt text at
 PrivateFails text (BadGlyphs at) = NoneAfterSubrs text at ⊎ BadGlyphsAt text at

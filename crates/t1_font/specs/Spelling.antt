@@ -4,9 +4,11 @@ use Rattle.std.specs.FinMap as maps
 use Rattle.t1_bytes.specs.Cipher.{Enciphers}
 use Rattle.t1_bytes.specs.Grammar.{Grammar, first, IsTable, AtFront, Lacks}
 use Rattle.t1_bytes.specs.Segments.{IsFlat}
-use Rattle.t1_bytes.specs.Eexec.{eexec_mark, cipher_text}
+use Rattle.t1_bytes.specs.Eexec.{eexec_marker, cipher_text}
 use Rattle.t1_font.specs.Subrs.{subr, subrs_end}
-use Rattle.t1_font.specs.Marks.{encoding_mark, encoding_start, code_entry, encoding_end, subrs_mark, chars_mark, len_iv_mark, len_iv, closefile, glyph, glyphs_end}
+use Rattle.t1_font.specs.Markers.{encoding_marker, subrs_marker, chars_marker, len_iv_marker, len_iv, closefile}
+use Rattle.t1_font.specs.Encoding.{encoding_start, code_entry, encoding_end}
+use Rattle.t1_font.specs.Glyphs.{glyph, glyphs_end}
 use Rattle.t1_font.specs.Pieces.{EncodingText, OneWord, Puts, ClearPieces, SubrsPieces, PrivatePieces, has_subrs}
 use Rattle.t1_font.specs.FontValue.{FontValue, notdef, file_limit, IsWithin}
 use Rattle.t1_font.specs.ReadFont.{font_of}
@@ -21,7 +23,7 @@ pub record IsCut (flat clear cipher : List ℕ) : Type 0 where
   pub own : List ℕ
   pub after : List ℕ
   pub rest : List ℕ
-  pub mark : AtFront (first eexec_mark) flat ((front, own), after)
+  pub marker : AtFront (first eexec_marker) flat ((front, own), after)
   pub secret : AtFront cipher_text after (cipher, rest)
   pub clear_is : clear ≡ front ++ own
 
@@ -32,28 +34,28 @@ SpellsEncoding (Puts puts) bytes rest = (entries closing : List ℕ) × AtFront 
 -- the head, the first Encoding, and what stands after it
 pub record IsClear (clear : List ℕ) (c : ClearPieces) : Type 0 where
   pub after : List ℕ
-  pub mark : AtFront (first encoding_mark) clear ((c.head, tt), after)
+  pub marker : AtFront (first encoding_marker) clear ((c.head, tt), after)
   pub encoding : SpellsEncoding c.encoding after c.clear_tail
 
 -- the first `/lenIV` of the text before the tables says n; without one n is 4
 pub data IsLenIV (private : List ℕ) (n : ℕ) : Type 0 where
-  said : (front after rest : List ℕ) → AtFront (first len_iv_mark) private ((front, tt), after) → AtFront len_iv after (n, rest) → IsLenIV private n
-  unsaid : Lacks len_iv_mark private → n ≡ 4 → IsLenIV private n
+  said : (front after rest : List ℕ) → AtFront (first len_iv_marker) private ((front, tt), after) → AtFront len_iv after (n, rest) → IsLenIV private n
+  unsaid : Lacks len_iv_marker private → n ≡ 4 → IsLenIV private n
 
 -- no Subrs marker stands before a place
 pub data NotBefore (text : List ℕ) (place : ℕ) : Type 0 where
-  nowhere : Lacks subrs_mark text → NotBefore text place
-  later : (front : List ℕ) (declared : ℕ) (after : List ℕ) → AtFront (first subrs_mark) text ((front, declared), after) → place ≤ length front → NotBefore text place
+  nowhere : Lacks subrs_marker text → NotBefore text place
+  later : (front : List ℕ) (declared : ℕ) (after : List ℕ) → AtFront (first subrs_marker) text ((front, declared), after) → place ≤ length front → NotBefore text place
 
 -- where the tables begin: private stands before the marker of Subrs, where there are any, else before that of CharStrings
 abbrev pub Start : List ℕ → List ℕ → Option ℕ → List ℕ → Type 0
-Start text private None rest = AtFront (first chars_mark) text ((private, tt), rest) × NotBefore text (length private)
-Start text private (Some declared) rest = (chars after : List ℕ) × AtFront (first chars_mark) text ((chars, tt), after) × AtFront (first subrs_mark) text ((private, declared), rest) × (length private < length chars)
+Start text private None rest = AtFront (first chars_marker) text ((private, tt), rest) × NotBefore text (length private)
+Start text private (Some declared) rest = (chars after : List ℕ) × AtFront (first chars_marker) text ((chars, tt), after) × AtFront (first subrs_marker) text ((private, declared), rest) × (length private < length chars)
 
 -- the private text up to its glyphs
 abbrev pub SpellsTables : List ℕ → PrivatePieces → Option SubrsPieces → List ℕ → Type 0
 SpellsTables text p None glyphs = Start text p.private None glyphs × (p.middle ≡ [])
-SpellsTables text p (Some s) glyphs = (entries between : List ℕ) × Start text p.private (Some s.declared) entries × TableAt (subr s.declared p.len_iv) subrs_end s.entries s.closing entries between × AtFront (first chars_mark) between ((p.middle, tt), glyphs)
+SpellsTables text p (Some s) glyphs = (entries between : List ℕ) × Start text p.private (Some s.declared) entries × TableAt (subr s.declared p.len_iv) subrs_end s.entries s.closing entries between × AtFront (first chars_marker) between ((p.middle, tt), glyphs)
 
 pub record HasTables (text : List ℕ) (p : PrivatePieces) (glyphs : List ℕ) : Type 0 where
   pub tables : SpellsTables text p p.subrs glyphs

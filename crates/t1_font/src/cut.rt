@@ -3,6 +3,8 @@
 ghost use Rattle.std.specs.Prelude.{◌≡◌, ℕ, List, [], true, cond, unwrap_or, IfOk, OnOk};
 ghost use Rattle.std.specs.Ordering.{nat_cmp};
 ghost use Rattle.std.specs.BTreeSet.{contains};
+ghost use Rattle.std.specs.List.Sorted.{IsStrictlySortedBy};
+ghost use Rattle.std.specs.Map.{keys_of};
 ghost use Rattle.std.specs.FinMap as fin;
 ghost use Rattle.std.specs.FinSet as sets;
 ghost use Rattle.t1_font.specs.FontValue.{notdef};
@@ -12,12 +14,26 @@ ghost use Rattle.t1_font.specs.Cut.{stub, put_all_into, entry_of, set_of_names, 
 
 use crate::font::{Font, FontParts, LentEncoding};
 use crate::lent::{Named, Numbered};
-use crate::source::drained;
 use std::alloc::{AllocError, Global};
 use std::collections::{BTreeMap, BTreeSet};
 
 /// The charstring `return`, which takes the place of a Subr that is cut (Adobe Type 1 Font Format 1.1, chapter 8).
 pub const STUB: &[u8] = &[11];
+
+/// The entries of a map that is used up, in the order of their keys.
+fn drained<K: Ord + Drop, V: Drop>(
+    alloc: Global,
+    map: BTreeMap<K, V>,
+) -> Result<Vec<(K, V)>, AllocError>
+    ensures items { IfOk result (λ v. v.items ≡ map.entries) }
+    ensures ordered { IfOk result (λ _. IsStrictlySortedBy K.cmp (keys_of map.entries)) }
+{
+    let mut entries = Vec::with_capacity(alloc, map.len())?;
+    'entries: for entry in map {
+        entries.push(entry)?;
+    }
+    Ok(entries)
+}
 
 /// Keeps the glyph of a name, where there is one.
 fn keep_named<'a>(

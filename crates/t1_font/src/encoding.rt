@@ -4,7 +4,8 @@ ghost use Rattle.std.specs.Prelude.{◌≡◌, ◌++◌, ◌∷◌, [], ℕ, Lis
 ghost use Rattle.std.specs.Option.{option_map};
 ghost use Rattle.t1_bytes.specs.Grammar.{first, table_at};
 ghost use Rattle.t1_font.specs.Words.{name};
-ghost use Rattle.t1_font.specs.Marks.{break_comes, encoding_mark, is_octal, octal_after, octal, code, code_entry, encoding_end, encoding_word, encoding_table, loop_range, loop_body, encoding_loop, encoding_start, readonly, may_be};
+ghost use Rattle.t1_font.specs.Markers.{break_comes, encoding_marker};
+ghost use Rattle.t1_font.specs.Encoding.{is_octal, octal_after, octal, code, code_entry, encoding_end, encoding_word, encoding_table, loop_range, loop_body, encoding_loop, encoding_start, readonly, may_be};
 ghost use Rattle.std.specs.FinMap as fin;
 ghost use Rattle.t1_font.specs.Entries.{map_of};
 ghost use Rattle.t1_font.specs.Gathering.{CodesAlone};
@@ -26,9 +27,9 @@ fn break_comes(bytes: &[u8]) -> bool
 }
 
 /// The Encoding marker.
-#[tactic(auto, unfolding(crate::specs::Marks::encoding_mark))]
-fn encoding_mark_at(bytes: &[u8]) -> Option<&[u8]>
-    ensures { option_map (λ x. (tt, x.now)) result ≡ encoding_mark.read bytes.now }
+#[tactic(auto, unfolding(crate::specs::Markers::encoding_marker))]
+fn encoding_marker_at(bytes: &[u8]) -> Option<&[u8]>
+    ensures { option_map (λ x. (tt, x.now)) result ≡ encoding_marker.read bytes.now }
 {
     let (_, rest) = fixed_at(bytes, b"/Encoding")?;
     if !break_comes(rest) {
@@ -68,7 +69,7 @@ fn octal_digits(digits: &[u8]) -> Option<u32>
 }
 
 /// `8#` and octal digits.
-#[tactic(auto, unfolding(crate::specs::Marks::octal))]
+#[tactic(auto, unfolding(crate::specs::Encoding::octal))]
 fn octal_at(bytes: &[u8]) -> Option<(u32, &[u8])>
     ensures { option_map (λ x. (x.0, x.1.now)) result ≡ octal.read bytes.now }
 {
@@ -79,7 +80,7 @@ fn octal_at(bytes: &[u8]) -> Option<(u32, &[u8])>
 }
 
 /// A code, in decimal or in octal digits.
-#[tactic(auto, unfolding(crate::specs::Marks::code))]
+#[tactic(auto, unfolding(crate::specs::Encoding::code))]
 fn code_at(bytes: &[u8]) -> Option<(u8, &[u8])>
     ensures { option_map (λ x. (x.0, x.1.now)) result ≡ code.read bytes.now }
 {
@@ -101,7 +102,7 @@ pub struct Put<'a> {
 }
 
 /// An entry of the table.
-#[tactic(auto, unfolding(crate::specs::Marks::code_entry))]
+#[tactic(auto, unfolding(crate::specs::Encoding::code_entry))]
 fn code_entry_at(bytes: &[u8]) -> Option<(Put<'_>, &[u8])>
     ensures { option_map (λ x. (put_view x.0, x.1.now)) result ≡ code_entry.read bytes.now }
 {
@@ -129,7 +130,7 @@ fn after_readonly(bytes: &[u8]) -> &[u8]
 }
 
 /// What stands after the close of the table.
-#[tactic(auto, unfolding(crate::specs::Marks::encoding_end))]
+#[tactic(auto, unfolding(crate::specs::Encoding::encoding_end))]
 fn encoding_end_at(bytes: &[u8]) -> Option<&[u8]>
     ensures { option_map (λ x. x.now) result ≡ option_map (λ x. x.1) (encoding_end.read bytes.now) }
 {
@@ -139,7 +140,7 @@ fn encoding_end_at(bytes: &[u8]) -> Option<&[u8]>
 }
 
 /// A word that is the whole Encoding.
-#[tactic(auto, unfolding(crate::specs::Marks::encoding_word))]
+#[tactic(auto, unfolding(crate::specs::Encoding::encoding_word))]
 fn encoding_word_at(bytes: &[u8]) -> Option<(&[u8], &[u8])>
     ensures { option_map (λ x. (x.0.now, x.1.now)) result ≡ encoding_word.read bytes.now }
 {
@@ -151,7 +152,7 @@ fn encoding_word_at(bytes: &[u8]) -> Option<(&[u8], &[u8])>
 }
 
 /// How a table begins.
-#[tactic(auto, unfolding(crate::specs::Marks::encoding_table))]
+#[tactic(auto, unfolding(crate::specs::Encoding::encoding_table))]
 fn encoding_table_at(bytes: &[u8]) -> Option<(&[u8], &[u8])>
     ensures { option_map (λ x. (x.0.now, x.1.now)) result ≡ encoding_table.read bytes.now }
 {
@@ -191,7 +192,7 @@ fn loop_body_at(bytes: &[u8]) -> Option<(&[u8], &[u8])>
 }
 
 /// The loop that names all codes `.notdef`.
-#[tactic(auto, unfolding(crate::specs::Marks::encoding_loop))]
+#[tactic(auto, unfolding(crate::specs::Encoding::encoding_loop))]
 fn encoding_loop_at(bytes: &[u8]) -> Option<(&[u8], &[u8])>
     ensures { option_map (λ x. (x.0.now, x.1.now)) result ≡ encoding_loop.read bytes.now }
 {
@@ -216,7 +217,7 @@ fn after_loop(bytes: &[u8]) -> &[u8]
 }
 
 /// How the Encoding begins: its word, or none before the entries of a table.
-#[tactic(auto, unfolding(crate::specs::Marks::encoding_start))]
+#[tactic(auto, unfolding(crate::specs::Encoding::encoding_start))]
 fn encoding_start_at(bytes: &[u8]) -> Option<(Option<&[u8]>, &[u8])>
     ensures { option_map (λ x. (option_map (λ w. w.now) x.0, x.1.now)) result ≡ encoding_start.read bytes.now }
 {
@@ -249,12 +250,12 @@ fn puts_at<'a>(bytes: &'a [u8], gathered: &mut Gathered<'a>) -> Result<&'a [u8],
 
 /// What stands before the first Encoding marker, and what stands after it.
 fn first_encoding(bytes: &[u8]) -> Option<(&[u8], &[u8])>
-    ensures { option_map (λ x. ((x.0.now, tt), x.1.now)) result ≡ (first encoding_mark).read bytes.now }
+    ensures { option_map (λ x. ((x.0.now, tt), x.1.now)) result ≡ (first encoding_marker).read bytes.now }
 {
     let mut from = 0;
     'places: while let Some(place) = find_from(bytes, b"/Encoding", from) {
         let (front, here) = bytes.split_at(place);
-        if let Some(rest) = encoding_mark_at(here) {
+        if let Some(rest) = encoding_marker_at(here) {
             return Some((front, rest));
         }
         from = place + 1;

@@ -1,15 +1,14 @@
 //! Reading a font file.
 
-ghost use Rattle.std.specs.Prelude.{◌≡◌, ◌≤◌, ◌++◌, ◌&&◌, nat_le, ℕ, List, length, take, map, true, IfOk, OnOk, MatchResult};
+ghost use Rattle.std.specs.Prelude.{◌≡◌, ◌≤◌, ◌++◌, ℕ, List, length, take, map, true, IfOk, OnOk, MatchResult};
 ghost use Rattle.std.specs.Ordering.{nat_cmp};
-ghost use Rattle.std.specs.FinMap as fin;
 ghost use Rattle.t1_join.specs.TableMeaning.{Rises};
 ghost use Rattle.t1_font.specs.FontValue.{count_limit, weight};
 ghost use Rattle.t1_font.specs.FontModel.{clamp};
 ghost use Rattle.t1_font.specs.Gathering.{gathered_codes};
 ghost use Rattle.t1_font.specs.Pieces.{ClearPieces, PrivatePieces, flat_pieces};
 ghost use Rattle.t1_font.specs.Ranges.{AllInside, numbered_at};
-ghost use Rattle.t1_font.specs.ReadFont.{font_of, flat_text, font_from, font_texts, font_file};
+ghost use Rattle.t1_font.specs.ReadFont.{font_of, flat_text, file_pieces, font_from, font_texts, font_file};
 ghost use Rattle.t1_font.specs.Answers.{Answers, Shown, ShowsClear, ShowsPrivate, encoding_view, declared_in};
 ghost use Rattle.t1_font.specs.Sources.{kept_encoding, codes_of};
 ghost use Rattle.t1_font.specs.Spelling.{Spells};
@@ -17,17 +16,16 @@ ghost use Rattle.t1_font.specs.Reasons.{Refuses};
 
 use crate::encoding::{ClearParts, EncodingParts, clear_parts};
 use crate::fault::ReadFault;
-use crate::gathered::Gathered;
+use crate::gathered::{Gathered, last_entries};
 use crate::limits::{COUNT_LIMIT, FILE_LIMIT, WEIGHT_LIMIT};
 use crate::private::{PrivateParts, private_parts};
 use crate::shell::kept_shell;
-use crate::source::{KeptEncoding, Source, SourceParts, drained, keep_codes, keep_names};
+use crate::source::{KeptEncoding, Source, SourceParts, keep_codes, keep_names};
 use crate::subrs::SubrsParts;
 use std::alloc::{AllocError, Global};
-use std::collections::BTreeMap;
-use t1_bytes::{EEXEC_KEY, EEXEC_LEAD, flatten, open, split_eexec};
+use t1_bytes::{EEXEC_KEY, EEXEC_LEAD, flatten, is_segmented, open, split_eexec};
 
-/// The flat text of a file that is short enough.
+/// The flat text of a file.
 #[tactic(auto, unfolding(crate::specs::ReadFont::flat_text))]
 fn flat_text(alloc: Global, file: &[u8]) -> Result<Vec<u8>, ReadFault>
     ensures { Answers (λ v. v.items) result (flat_text file.now) }
@@ -47,14 +45,36 @@ fn split(alloc: Global, flat: &[u8]) -> Result<(usize, Vec<u8>), ReadFault>
     }
 }
 
+/// The clear text of a flat text, and its cipher.
+fn cut_flat(alloc: Global, flat: &[u8]) -> Result<(Vec<u8>, Vec<u8>), ReadFault>
+    ensures parts { Shown (λ x p. (x.0.items ≡ p.clear) × (x.1.items ≡ p.cipher)) result (flat_pieces flat.now) }
+    ensures lead { IfOk result (λ x. 4 ≤ length x.1.items) }
+{
+    let (end, cipher) = split(alloc, flat)?;
+    let clear = Vec::from_slice(alloc, &flat[..end])?;
+    Ok((clear, cipher))
+}
+
+/// The clear text of a file, and its cipher. A file that is not in segments is flat already, and isn't copied.
+fn cut_file(alloc: Global, file: &[u8]) -> Result<(Vec<u8>, Vec<u8>), ReadFault>
+    ensures parts { Shown (λ x p. (x.0.items ≡ p.clear) × (x.1.items ≡ p.cipher)) result (file_pieces file.now) }
+    ensures lead { IfOk result (λ x. 4 ≤ length x.1.items) }
+{
+    if !is_segmented(file) {
+        return cut_flat(alloc, file);
+    }
+    let flat = flat_text(alloc, file)?;
+    cut_flat(alloc, flat.as_slice())
+}
+
 /// The Encoding of what was read, its names put at the end of the buffer.
 fn kept_encoding(
     alloc: Global,
     parts: EncodingParts<'_>,
-    codes: BTreeMap<u16, &[u8]>,
+    codes: Vec<(u16, &[u8])>,
     buffer: &mut Vec<u8>,
 ) -> Result<KeptEncoding, AllocError>
-    ensures value { IfOk result (λ e. kept_encoding buffer.new.items e ≡ encoding_view parts.entry (gathered_codes codes.entry.entries)) }
+    ensures value { IfOk result (λ e. kept_encoding buffer.new.items e ≡ encoding_view parts.entry (gathered_codes codes.entry.items)) }
     ensures inside { IfOk result (λ e. AllInside (length buffer.new.items) (codes_of e)) }
     ensures rise { IfOk result (λ e. Rises nat_cmp (map (numbered_at buffer.new.items) (codes_of e))) }
     ensures longer { OnOk result ((more : List ℕ) × (buffer.new.items ≡ buffer.old.items ++ more)) }
@@ -72,15 +92,14 @@ fn source_parts(
     inside: &PrivateParts<'_>,
     gathered: Gathered<'_>,
 ) -> Result<SourceParts, AllocError>
-    requires declared { declared_in inside.now.subrs ≤ count_limit }
-    requires glyphs { fin.len gathered.glyphs ≤ count_limit }
+    requires { declared_in inside.now.subrs ≤ count_limit }
     ensures { IfOk result (λ f. (c : ClearPieces) (p : PrivatePieces) → ShowsClear outside.now gathered.entry.codes c → ShowsPrivate inside.now gathered.entry p → f ≡ font_of c p) }
 {
     let shell = kept_shell(alloc, outside, inside)?;
     let mut buffer = gathered.buffer;
     let encoding = kept_encoding(alloc, outside.encoding, gathered.codes, &mut buffer)?;
     let glyphs = keep_names(alloc, gathered.glyphs, &mut buffer)?;
-    let subrs = drained(alloc, gathered.subrs)?;
+    let subrs = last_entries(alloc, gathered.subrs)?;
     Ok(SourceParts {
         shell,
         encoding,
@@ -100,13 +119,6 @@ fn declared_in(parts: &Option<SubrsParts<'_>>) -> u32
     }
 }
 
-/// Whether no more Subrs are declared, and no more glyphs are there, than a font may have.
-fn counts_fit(inside: &PrivateParts<'_>, gathered: &Gathered<'_>) -> bool
-    ensures { result ≡ (nat_le (declared_in inside.now.subrs) count_limit && nat_le (fin.len gathered.now.glyphs) count_limit) }
-{
-    declared_in(&inside.subrs) as usize <= COUNT_LIMIT && gathered.glyph_count() <= COUNT_LIMIT
-}
-
 /// The weight of a source's parts, as far as 64 bits hold it.
 fn weight_of(alloc: Global, parts: &SourceParts) -> Result<u64, AllocError>
     ensures { IfOk result (λ n. n ≡ clamp (weight parts.now)) }
@@ -115,7 +127,7 @@ fn weight_of(alloc: Global, parts: &SourceParts) -> Result<u64, AllocError>
     Ok(font.weight())
 }
 
-/// The parts of the font that was read, if they are within the limit of weight.
+/// The parts of the font that was read, if it has no more glyphs than a font may have, and weighs no more.
 fn light_parts(
     alloc: Global,
     outside: &ClearParts<'_>,
@@ -123,18 +135,20 @@ fn light_parts(
     gathered: Gathered<'_>,
 ) -> Result<SourceParts, ReadFault>
     requires declared { declared_in inside.now.subrs ≤ count_limit }
-    requires glyphs { fin.len gathered.glyphs ≤ count_limit }
     requires notdef { inside.now.glyphs.has_notdef ≡ true }
     ensures { (c : ClearPieces) (p : PrivatePieces) → ShowsClear outside.now gathered.entry.codes c → ShowsPrivate inside.now gathered.entry p → Answers (λ f. f) result (font_from c p) }
 {
-    let Ok(parts) = source_parts(alloc, outside, inside, gathered) else {
+    let parts = source_parts(alloc, outside, inside, gathered)?;
+    if parts.glyph_count() > COUNT_LIMIT {
+        return Err(ReadFault::Limit);
+    }
+    let Ok(weight) = weight_of(alloc, &parts) else {
         return Err(ReadFault::Memory);
     };
-    match weight_of(alloc, &parts) {
-        Ok(weight) if weight > WEIGHT_LIMIT => Err(ReadFault::Limit),
-        Ok(_) => Ok(parts),
-        Err(_) => Err(ReadFault::Memory),
+    if weight > WEIGHT_LIMIT {
+        return Err(ReadFault::Limit);
     }
+    Ok(parts)
 }
 
 /// The font that was read, if it has `.notdef` and is within the limits.
@@ -149,7 +163,7 @@ fn font_from(
     if !inside.glyphs.has_notdef {
         return Err(ReadFault::NoNotdef);
     }
-    if !counts_fit(inside, &gathered) {
+    if declared_in(&inside.subrs) as usize > COUNT_LIMIT {
         return Err(ReadFault::Limit);
     }
     light_parts(alloc, outside, inside, gathered)
@@ -159,7 +173,7 @@ fn font_from(
 fn text_parts(alloc: Global, clear: &[u8], private: &[u8]) -> Result<SourceParts, ReadFault>
     ensures { Answers (λ f. f) result (font_texts clear.now private.now) }
 {
-    let mut gathered = Gathered::new(alloc);
+    let mut gathered = Gathered::new(alloc, private.len())?;
     let outside = clear_parts(clear, &mut gathered)?;
     let inside = private_parts(private, &mut gathered)?;
     font_from(alloc, &outside, &inside, gathered)
@@ -173,10 +187,9 @@ fn file_parts(alloc: Global, file: &[u8]) -> Result<SourceParts, ReadFault>
     if file.len() > FILE_LIMIT {
         return Err(ReadFault::TooLong);
     }
-    let flat = flat_text(alloc, file)?;
-    let (end, mut cipher) = split(alloc, flat.as_slice())?;
+    let (clear, mut cipher) = cut_file(alloc, file)?;
     let private = open(cipher.as_mut_slice(), EEXEC_KEY, EEXEC_LEAD);
-    text_parts(alloc, &flat.as_slice()[..end], private)
+    text_parts(alloc, clear.as_slice(), private)
 }
 
 /// Reads a font file: PFA or PFB, in any spelling of the Type 1 grammar that this library accepts

@@ -4,25 +4,25 @@ ghost use Rattle.std.specs.Prelude.{◌≡◌, ◌≤◌, ◌+◌, ◌++◌, len
 ghost use Rattle.std.specs.FinMap as fin;
 ghost use Rattle.t1_bytes.specs.Cipher.{decrypted};
 ghost use Rattle.t1_font.specs.Charstrings.{plain_of};
+ghost use Rattle.t1_font.specs.Entries.{comes_again, AreLast};
 ghost use Rattle.t1_font.specs.Gathering.{no_entries};
 
 use crate::ranges::Range;
 use std::alloc::{AllocError, Global};
-use std::collections::BTreeMap;
+use std::cmp::Ordering;
 use std::marker::Model;
 use t1_bytes::{CHARSTRING_KEY, decrypt};
 
-/// The entries of a font's tables as they are read, one after another: names by code, and plain charstrings of Subrs by
+/// The entries of a font's tables in the order in which they were read: names by code, and plain charstrings of Subrs by
 /// index and of glyphs by name. Of a repeated key the last stands.
 ///
-/// Names stay where they stand in the file's texts. The charstrings stand in one buffer, in the order in which they were
-/// read, each behind its lead bytes.
+/// Names stay where they stand in the file's texts. The charstrings stand in one buffer, each behind its lead bytes.
 #[derive(Drop)]
 pub(crate) struct Gathered<'a> {
-    pub(crate) codes: BTreeMap<u16, &'a [u8]>,
+    pub(crate) codes: Vec<(u16, &'a [u8])>,
     pub(crate) buffer: Vec<u8>,
-    pub(crate) subrs: BTreeMap<u16, Range>,
-    pub(crate) glyphs: BTreeMap<&'a [u8], Range>,
+    pub(crate) subrs: Vec<(u16, Range)>,
+    pub(crate) glyphs: Vec<(&'a [u8], Range)>,
 }
 
 impl<'a> Model for Gathered<'a> {
@@ -57,23 +57,23 @@ fn add_plain(buffer: &mut Vec<u8>, body: &[u8], len_iv: u8) -> Result<Range, All
 }
 
 impl<'a> Gathered<'a> {
-    /// No entries.
-    pub(crate) fn new(alloc: Global) -> Self
-        ensures { result ≡ no_entries }
+    /// No entries, with room for so many bytes of charstrings.
+    pub(crate) fn new(alloc: Global, room: usize) -> Result<Self, AllocError>
+        ensures { IfOk result (λ g. g ≡ no_entries) }
     {
-        Gathered {
-            codes: BTreeMap::new(alloc),
-            buffer: Vec::new(alloc),
-            subrs: BTreeMap::new(alloc),
-            glyphs: BTreeMap::new(alloc),
-        }
+        Ok(Gathered {
+            codes: Vec::new(alloc),
+            buffer: Vec::with_capacity(alloc, room)?,
+            subrs: Vec::new(alloc),
+            glyphs: Vec::new(alloc),
+        })
     }
 
     /// Puts a name at a code.
     pub(crate) fn keep_code(&mut self, code: u8, name: &'a [u8]) -> Result<(), AllocError>
         ensures { OnOk result (self.new ≡ record { codes = fin.insert self.old.codes code name.now; subrs = self.old.subrs; glyphs = self.old.glyphs }) }
     {
-        self.codes.insert(code as u16, name)?;
+        self.codes.push((code as u16, name))?;
         Ok(())
     }
 
@@ -88,7 +88,7 @@ impl<'a> Gathered<'a> {
         ensures { OnOk result (self.new ≡ record { codes = self.old.codes; subrs = fin.insert self.old.subrs index (plain_of len_iv body.now); glyphs = self.old.glyphs }) }
     {
         let place = add_plain(&mut self.buffer, body, len_iv)?;
-        self.subrs.insert(index, place)?;
+        self.subrs.push((index, place))?;
         Ok(())
     }
 
@@ -103,14 +103,37 @@ impl<'a> Gathered<'a> {
         ensures { OnOk result (self.new ≡ record { codes = self.old.codes; subrs = self.old.subrs; glyphs = fin.insert self.old.glyphs name.now (plain_of len_iv body.now) }) }
     {
         let place = add_plain(&mut self.buffer, body, len_iv)?;
-        self.glyphs.insert(name, place)?;
+        self.glyphs.push((name, place))?;
         Ok(())
     }
+}
 
-    /// How many glyphs there are.
-    pub(crate) fn glyph_count(&self) -> usize
-        ensures { result ≡ fin.len self.now.glyphs }
-    {
-        self.glyphs.len()
+/// Whether the first of these entries has the key.
+fn comes_again<K: Ord, V>(key: &K, entries: &[(K, V)]) -> bool
+    ensures { result ≡ comes_again K.cmp key.now entries.now }
+{
+    match entries.first() {
+        Some(entry) => matches!(entry.0.cmp(key), Ordering::Equal),
+        None => false,
     }
+}
+
+/// The entries upwards by key, of a repeated key the last.
+pub(crate) fn last_entries<K: Ord + Copy + Drop, V: Copy + Drop>(
+    alloc: Global,
+    entries: Vec<(K, V)>,
+) -> Result<Vec<(K, V)>, AllocError>
+    ensures { IfOk result (λ last. AreLast K.cmp entries.items last.items) }
+{
+    let mut sorted = entries;
+    sorted.sort_by_key(|entry| entry.0)?;
+    let mut last = Vec::with_capacity(alloc, sorted.len())?;
+    let mut rest = sorted.as_slice();
+    'entries: while let Some((entry, after)) = rest.split_first() {
+        if !comes_again(&entry.0, after) {
+            last.push(*entry)?;
+        }
+        rest = after;
+    }
+    Ok(last)
 }

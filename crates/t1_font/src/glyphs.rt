@@ -5,7 +5,7 @@ ghost use Rattle.std.specs.Option.{option_map};
 ghost use Rattle.std.specs.Str.{bytes_eq};
 ghost use Rattle.t1_font.specs.FontValue.{notdef};
 ghost use Rattle.t1_bytes.specs.Grammar.{table_at};
-ghost use Rattle.t1_font.specs.Marks.{Glyph, glyph, glyphs_end};
+ghost use Rattle.t1_font.specs.Glyphs.{Glyph, glyph, glyphs_end};
 ghost use Rattle.std.specs.FinMap as fin;
 ghost use Rattle.t1_font.specs.Answers.{ShowsGlyphs};
 ghost use Rattle.t1_font.specs.Gathering.{GlyphsAlone};
@@ -15,7 +15,6 @@ ghost use Rattle.t1_font.specs.Views.{glyph_view};
 use crate::encoding::name_at;
 use crate::fault::TableError;
 use crate::gathered::Gathered;
-use crate::limits::COUNT_LIMIT;
 use crate::subrs::length_at;
 use crate::words::{Phrase, Words, first_words, keyword_at, one_white_at, phrase_at, word_at};
 use std::alloc::AllocError;
@@ -31,7 +30,7 @@ pub struct GlyphEntry<'a> {
 }
 
 /// An entry of a table with this lenIV.
-#[tactic(auto, unfolding(crate::specs::Marks::glyph))]
+#[tactic(auto, unfolding(crate::specs::Glyphs::glyph))]
 fn glyph_at(bytes: &[u8], len_iv: u8) -> Option<(GlyphEntry<'_>, &[u8])>
     ensures value { option_map (λ x. (glyph_view x.0, x.1.now)) result ≡ (glyph len_iv).read bytes.now }
     ensures length { IfSome result (λ x. len_iv ≤ length x.0.body.now) }
@@ -50,7 +49,7 @@ fn glyph_at(bytes: &[u8], len_iv: u8) -> Option<(GlyphEntry<'_>, &[u8])>
 }
 
 /// What stands after the close of the table.
-#[tactic(auto, unfolding(crate::specs::Marks::glyphs_end))]
+#[tactic(auto, unfolding(crate::specs::Glyphs::glyphs_end))]
 fn glyphs_end_at(bytes: &[u8]) -> Option<&[u8]>
     ensures { option_map (λ x. x.now) result ≡ option_map (λ x. x.1) (glyphs_end.read bytes.now) }
 {
@@ -66,7 +65,7 @@ pub struct GlyphsParts<'a> {
     pub has_notdef: bool,
 }
 
-/// Keeps the plain charstring of one more entry, unless there are more than a font may have.
+/// Keeps the plain charstring of one more entry.
 fn keep_glyph<'a>(
     gathered: &mut Gathered<'a>,
     entry: GlyphEntry<'a>,
@@ -76,9 +75,6 @@ fn keep_glyph<'a>(
     ensures shown { OnOk result ((es : List Glyph) → HoldsGlyphs len_iv gathered.old.glyphs es → HoldsGlyphs len_iv gathered.new.glyphs (es ++ glyph_view entry.entry ∷ [])) }
     ensures others { OnOk result (GlyphsAlone gathered.old gathered.new) }
 {
-    if gathered.glyph_count() > COUNT_LIMIT {
-        return Ok(());
-    }
     gathered.keep_glyph(entry.name, entry.body, len_iv)
 }
 
@@ -89,8 +85,7 @@ pub fn is_notdef(name: &[u8]) -> bool
     b".notdef".as_slice() == name
 }
 
-/// The entries, and what stands after what closes them. Where there are more than a font may have, not all of them are
-/// kept.
+/// The entries, and what stands after what closes them.
 pub(crate) fn glyphs_at<'a>(
     bytes: &'a [u8],
     len_iv: u8,

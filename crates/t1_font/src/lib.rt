@@ -18,7 +18,7 @@ mod glyphs;
 pub mod laws;
 mod lent;
 mod limits;
-mod marks;
+mod markers;
 mod parts;
 mod private;
 mod ranges;

@@ -4,7 +4,8 @@ ghost use Rattle.std.specs.Prelude.{◌≡◌, ◌++◌, length, Option, Some, N
 ghost use Rattle.std.specs.FinMap as fin;
 ghost use Rattle.std.specs.Option.{option_map};
 ghost use Rattle.t1_bytes.specs.Grammar.{first};
-ghost use Rattle.t1_font.specs.Marks.{closefile, glyph, glyphs_end};
+ghost use Rattle.t1_font.specs.Markers.{closefile};
+ghost use Rattle.t1_font.specs.Glyphs.{glyph, glyphs_end};
 ghost use Rattle.t1_font.specs.Pieces.{SubrsPieces, has_subrs, iv_of, tail_after, glyphs_from, tables_from, private_pieces};
 ghost use Rattle.t1_font.specs.declared.fault.ReadFault.TheVariants.{BadSubrs, BadGlyphs};
 ghost use Rattle.t1_font.specs.Subrs.{subr, subrs_end};
@@ -16,7 +17,7 @@ ghost use Rattle.t1_font.specs.Held.{HoldsSubrs, HoldsGlyphs};
 use crate::fault::{ReadFault, TableError};
 use crate::gathered::Gathered;
 use crate::glyphs::{GlyphsParts, glyphs_at};
-use crate::marks::{first_chars, first_close, first_len_iv, first_subrs, len_iv_at};
+use crate::markers::{first_chars, first_close, first_len_iv, first_subrs, len_iv_at};
 use crate::subrs::{SubrsParts, subrs_at};
 
 /// The pieces of the private text; the tail is what stands through `closefile`. The charstrings are gathered.

@@ -1,10 +1,8 @@
 //! A font that owns its bytes.
 
 ghost use Rattle.std.specs.Prelude.{◌≡◌, ◌++◌, ℕ, List, map, length, filter, IfOk, OnOk};
-ghost use Rattle.std.specs.List.Sorted.{IsStrictlySortedBy};
-ghost use Rattle.std.specs.Map.{keys_of};
 ghost use Rattle.std.specs.Ordering.{nat_cmp};
-ghost use Rattle.std.specs.FinMap.{from_sorted, entries};
+ghost use Rattle.std.specs.FinMap.{from_sorted, entries, len};
 ghost use Rattle.t1_join.specs.TableMeaning.{Rises};
 ghost use Rattle.t1_font.specs.Entries.{has_name};
 ghost use Rattle.t1_font.specs.FontModel.{encoding_of};
@@ -14,12 +12,12 @@ ghost use Rattle.t1_font.specs.Ranges.{bytes_at, IsInside, AllInside, numbered_a
 ghost use Rattle.t1_font.specs.Sources.{NamesInside};
 
 use crate::font::{Font, FontParts, LentEncoding};
+use crate::gathered::last_entries;
 use crate::glyphs::is_notdef;
 use crate::lent::{Named, Numbered};
 use crate::ranges::Range;
 use crate::shell::KeptShell;
 use std::alloc::{AllocError, Global};
-use std::collections::BTreeMap;
 use std::marker::Model;
 
 /// The Encoding: one word, or the names of codes.
@@ -141,6 +139,13 @@ impl SourceParts {
         }
     }
 
+    /// How many glyphs there are.
+    pub(crate) fn glyph_count(&self) -> usize
+        ensures { result ≡ len self.now.glyphs }
+    {
+        self.glyphs.len()
+    }
+
     /// The parts, lent.
     pub(crate) fn lent(&self, alloc: Global) -> Result<FontParts<'_>, AllocError>
         ensures { IfOk result (λ f. f ≡ self.now) }
@@ -152,21 +157,6 @@ impl SourceParts {
             glyphs: named(alloc, &self.glyphs, &self.buffer)?,
         })
     }
-}
-
-/// The entries of a map that is used up, in the order of their keys.
-pub(crate) fn drained<K: Ord + Drop, V: Drop>(
-    alloc: Global,
-    map: BTreeMap<K, V>,
-) -> Result<Vec<(K, V)>, AllocError>
-    ensures items { IfOk result (λ v. v.items ≡ map.entries) }
-    ensures ordered { IfOk result (λ _. IsStrictlySortedBy K.cmp (keys_of map.entries)) }
-{
-    let mut entries = Vec::with_capacity(alloc, map.len())?;
-    'entries: for entry in map {
-        entries.push(entry)?;
-    }
-    Ok(entries)
 }
 
 /// Puts bytes at the end of a buffer, and answers where they stand there.
@@ -183,18 +173,19 @@ fn add_bytes(buffer: &mut Vec<u8>, bytes: &[u8]) -> Result<Range, AllocError>
     })
 }
 
-/// Puts the names of codes at the end of the buffer; `.notdef` is no name.
+/// Puts the last name of each code at the end of the buffer; `.notdef` is no name.
 pub(crate) fn keep_codes(
     alloc: Global,
-    codes: BTreeMap<u16, &[u8]>,
+    codes: Vec<(u16, &[u8])>,
     buffer: &mut Vec<u8>,
 ) -> Result<Vec<(u16, Range)>, AllocError>
-    ensures entries { IfOk result (λ v. map (numbered_at buffer.new.items) v.items ≡ filter has_name (entries (gathered_codes codes.entry.entries))) }
+    ensures entries { IfOk result (λ v. map (numbered_at buffer.new.items) v.items ≡ filter has_name (entries (gathered_codes codes.entry.items))) }
     ensures inside { IfOk result (λ v. AllInside (length buffer.new.items) v.items) }
     ensures longer { OnOk result ((more : List ℕ) × (buffer.new.items ≡ buffer.old.items ++ more)) }
 {
-    let mut kept = Vec::with_capacity(alloc, codes.len())?;
-    'codes: for (code, name) in codes {
+    let last = last_entries(alloc, codes)?;
+    let mut kept = Vec::with_capacity(alloc, last.len())?;
+    'codes: for (code, name) in last {
         if !is_notdef(name) {
             kept.push((code, add_bytes(buffer, name)?))?;
         }
@@ -202,20 +193,22 @@ pub(crate) fn keep_codes(
     Ok(kept)
 }
 
-/// Puts the names of glyphs at the end of the buffer where their charstrings stand.
+/// Puts the names of glyphs at the end of the buffer where their charstrings stand. Of a repeated name the last glyph
+/// stands.
 pub(crate) fn keep_names(
     alloc: Global,
-    glyphs: BTreeMap<&[u8], Range>,
+    glyphs: Vec<(&[u8], Range)>,
     buffer: &mut Vec<u8>,
 ) -> Result<Vec<(Range, Range)>, AllocError>
-    requires { AllInside (length buffer.old.items) glyphs.entries }
-    ensures entries { IfOk result (λ v. map (named_at buffer.new.items) v.items ≡ entries (gathered_glyphs buffer.old.items glyphs.entry.entries)) }
+    requires { AllInside (length buffer.old.items) glyphs.items }
+    ensures entries { IfOk result (λ v. map (named_at buffer.new.items) v.items ≡ entries (gathered_glyphs buffer.old.items glyphs.entry.items)) }
     ensures names { IfOk result (λ v. NamesInside (length buffer.new.items) v.items) }
     ensures inside { IfOk result (λ v. AllInside (length buffer.new.items) v.items) }
     ensures longer { OnOk result ((more : List ℕ) × (buffer.new.items ≡ buffer.old.items ++ more)) }
 {
-    let mut kept = Vec::with_capacity(alloc, glyphs.len())?;
-    'names: for (name, place) in glyphs {
+    let last = last_entries(alloc, glyphs)?;
+    let mut kept = Vec::with_capacity(alloc, last.len())?;
+    'names: for (name, place) in last {
         kept.push((add_bytes(buffer, name)?, place))?;
     }
     Ok(kept)

@@ -17,9 +17,10 @@ ghost use Rattle.t1_font.specs.WriteLaws.{Fits};
 use crate::font::{Font, FontParts, LentEncoding};
 use crate::lent::{Named, Numbered};
 use crate::shell::{KeptShell, KeptSubrs};
+use itoa::Buffer;
 use std::alloc::{AllocError, Global};
 use t1_bytes::{
-    CHARSTRING_KEY, EEXEC_KEY, EEXEC_LEAD, Form, encrypt, hex_lines, segments, trailer,
+    CHARSTRING_KEY, EEXEC_KEY, EEXEC_LEAD, Form, encrypt, put_hex_lines, segments, trailer,
 };
 
 /// How many bytes of a private text the weight of its font leaves out at most: the markers, the
@@ -31,11 +32,11 @@ const TABLE_START: &[u8; 49] = b"256 array
 0 1 255 {1 index exch /.notdef put} for";
 
 /// Writes a number in decimal digits at the end.
-fn put_number(alloc: Global, out: &mut Vec<u8>, number: usize) -> Result<(), AllocError>
+fn put_number(out: &mut Vec<u8>, number: usize) -> Result<(), AllocError>
     ensures { OnOk result (out.new.items ≡ out.old.items ++ decimal number) }
 {
-    let digits = number.to_string(alloc)?;
-    out.extend_from_slice(digits.as_bytes())
+    let mut digits = Buffer::new();
+    out.extend_from_slice(digits.format(number).as_bytes())
 }
 
 /// Writes a charstring at the end as it stands in a file: behind lenIV zeros, encrypted.
@@ -52,7 +53,6 @@ fn put_sealed(out: &mut Vec<u8>, plain: &[u8], len_iv: u8) -> Result<(), AllocEr
 
 /// Writes what follows the key of an entry: its length, its bytes, and the kept words around them.
 fn put_body(
-    alloc: Global,
     out: &mut Vec<u8>,
     plain: &[u8],
     len_iv: u8,
@@ -62,7 +62,7 @@ fn put_body(
     ensures { OnOk result (out.new.items ≡ out.old.items ++ (32 ∷ (decimal (len_iv + length plain.now) ++ (32 ∷ (rd.now ++ (32 ∷ (sealed_body len_iv plain.now ++ (32 ∷ phrase.now)))))))) }
 {
     out.push(b' ')?;
-    put_number(alloc, out, len_iv as usize + plain.len())?;
+    put_number(out, len_iv as usize + plain.len())?;
     out.push(b' ')?;
     out.extend_from_slice(rd)?;
     out.push(b' ')?;
@@ -74,7 +74,6 @@ fn put_body(
 
 /// Writes an entry of Subrs, after the end of the line before it.
 fn put_subr(
-    alloc: Global,
     out: &mut Vec<u8>,
     kept: &KeptSubrs,
     len_iv: u8,
@@ -84,9 +83,8 @@ fn put_subr(
     ensures { OnOk result (out.new.items ≡ out.old.items ++ subr_text (subr_entry len_iv (subrs_view kept.now) (index, plain.now))) }
 {
     out.extend_from_slice(b"\ndup ")?;
-    put_number(alloc, out, index as usize)?;
+    put_number(out, index as usize)?;
     put_body(
-        alloc,
         out,
         plain,
         len_iv,
@@ -98,7 +96,6 @@ fn put_subr(
 
 /// Writes the table of Subrs.
 fn put_subrs(
-    alloc: Global,
     out: &mut Vec<u8>,
     kept: &KeptSubrs,
     len_iv: u8,
@@ -107,10 +104,10 @@ fn put_subrs(
     ensures { OnOk result (out.new.items ≡ out.old.items ++ subrs_part (Some (subrs_pieces len_iv (fin.entries subrs.now) (subrs_view kept.now)))) }
 {
     out.extend_from_slice(b"/Subrs ")?;
-    put_number(alloc, out, kept.declared as usize)?;
+    put_number(out, kept.declared as usize)?;
     out.extend_from_slice(b" array")?;
     'subrs: for (index, plain) in subrs.entries() {
-        put_subr(alloc, out, kept, len_iv, index, plain)?;
+        put_subr(out, kept, len_iv, index, plain)?;
     }
     out.push(b'\n')?;
     out.extend_from_slice(kept.closing.as_slice())?;
@@ -119,7 +116,6 @@ fn put_subrs(
 
 /// Writes the table of Subrs where there is one.
 fn put_table(
-    alloc: Global,
     out: &mut Vec<u8>,
     shell: &KeptShell,
     subrs: &Numbered<'_>,
@@ -128,7 +124,7 @@ fn put_table(
 {
     match &shell.subrs {
         Some(kept) => {
-            put_subrs(alloc, out, kept, shell.len_iv, subrs)?;
+            put_subrs(out, kept, shell.len_iv, subrs)?;
             Ok(())
         }
         None => Ok(()),
@@ -137,7 +133,6 @@ fn put_table(
 
 /// Writes a glyph, after the end of the line before it.
 fn put_glyph(
-    alloc: Global,
     out: &mut Vec<u8>,
     shell: &KeptShell,
     name: &[u8],
@@ -148,7 +143,6 @@ fn put_glyph(
     out.extend_from_slice(b"\n/")?;
     out.extend_from_slice(name)?;
     put_body(
-        alloc,
         out,
         plain,
         shell.len_iv,
@@ -160,7 +154,6 @@ fn put_glyph(
 
 /// Writes the table of glyphs.
 fn put_glyphs(
-    alloc: Global,
     out: &mut Vec<u8>,
     shell: &KeptShell,
     glyphs: &Named<'_>,
@@ -168,22 +161,22 @@ fn put_glyphs(
     ensures { OnOk result (out.new.items ≡ out.old.items ++ glyphs_part (map (glyph_entry (shell_view shell.now)) (fin.entries glyphs.now))) }
 {
     out.extend_from_slice(b"/CharStrings ")?;
-    put_number(alloc, out, glyphs.len())?;
+    put_number(out, glyphs.len())?;
     out.extend_from_slice(b" dict dup begin")?;
     'glyphs: for (name, plain) in glyphs.entries() {
-        put_glyph(alloc, out, shell, name, plain)?;
+        put_glyph(out, shell, name, plain)?;
     }
     out.extend_from_slice(b"\nend")?;
     Ok(())
 }
 
 /// Writes the names of codes, and what closes them.
-fn put_codes(alloc: Global, out: &mut Vec<u8>, names: &Numbered<'_>) -> Result<(), AllocError>
+fn put_codes(out: &mut Vec<u8>, names: &Numbered<'_>) -> Result<(), AllocError>
     ensures { OnOk result (out.new.items ≡ out.old.items ++ puts_text (fin.entries names.now)) }
 {
     'codes: for (code, name) in names.entries() {
         out.extend_from_slice(b"\ndup ")?;
-        put_number(alloc, out, code as usize)?;
+        put_number(out, code as usize)?;
         out.extend_from_slice(b" /")?;
         out.extend_from_slice(name)?;
         out.extend_from_slice(b" put")?;
@@ -194,7 +187,6 @@ fn put_codes(alloc: Global, out: &mut Vec<u8>, names: &Numbered<'_>) -> Result<(
 
 /// Writes the Encoding.
 fn put_encoding(
-    alloc: Global,
     out: &mut Vec<u8>,
     encoding: &LentEncoding<'_>,
 ) -> Result<(), AllocError>
@@ -209,7 +201,7 @@ fn put_encoding(
         }
         LentEncoding::Codes(names) => {
             out.extend_from_slice(TABLE_START)?;
-            put_codes(alloc, out, names)?;
+            put_codes(out, names)?;
             Ok(())
         }
     }
@@ -233,21 +225,21 @@ fn clear_text(alloc: Global, parts: &FontParts<'_>) -> Result<Vec<u8>, AllocErro
         .saturating_add(shell.clear_tail.len());
     let mut out = Vec::with_capacity(alloc, room)?;
     out.extend_from_slice(shell.head.as_slice())?;
-    put_encoding(alloc, &mut out, &parts.encoding)?;
+    put_encoding(&mut out, &parts.encoding)?;
     out.extend_from_slice(shell.clear_tail.as_slice())?;
     out.push(b'\n')?;
     Ok(out)
 }
 
 /// Writes the canonical private text.
-fn put_private(alloc: Global, out: &mut Vec<u8>, parts: &FontParts<'_>) -> Result<(), AllocError>
+fn put_private(out: &mut Vec<u8>, parts: &FontParts<'_>) -> Result<(), AllocError>
     ensures { OnOk result (out.new.items ≡ out.old.items ++ canon_private parts.now) }
 {
     let shell = parts.shell;
     out.extend_from_slice(shell.private.as_slice())?;
-    put_table(alloc, out, shell, &parts.subrs)?;
+    put_table(out, shell, &parts.subrs)?;
     out.extend_from_slice(shell.middle.as_slice())?;
-    put_glyphs(alloc, out, shell, &parts.glyphs)?;
+    put_glyphs(out, shell, &parts.glyphs)?;
     out.extend_from_slice(shell.tail.as_slice())?;
     out.push(b'\n')?;
     Ok(())
@@ -260,7 +252,7 @@ fn cipher(alloc: Global, parts: &FontParts<'_>) -> Result<Vec<u8>, AllocError>
     let room = (parts.weight() as usize).saturating_add(MARKERS);
     let mut out = Vec::with_capacity(alloc, room)?;
     out.resize(EEXEC_LEAD as usize, 0)?;
-    put_private(alloc, &mut out, parts)?;
+    put_private(&mut out, parts)?;
     encrypt(out.as_mut_slice(), EEXEC_KEY);
     Ok(out)
 }
@@ -269,16 +261,15 @@ fn cipher(alloc: Global, parts: &FontParts<'_>) -> Result<Vec<u8>, AllocError>
 fn pfa(alloc: Global, clear: &[u8], cipher: &[u8]) -> Result<Vec<u8>, AllocError>
     ensures { IfOk result (λ v. v.items ≡ file_text Pfa clear.now cipher.now) }
 {
-    let Ok(lines) = hex_lines(alloc, cipher) else {
-        return Err(AllocError);
-    };
+    // Two digits and a part of the end of a line for each byte.
+    let lines = cipher.len().saturating_mul(2).saturating_add(cipher.len() / 32);
     let room = clear
         .len()
-        .saturating_add(lines.len())
-        .saturating_add(trailer().len());
+        .saturating_add(lines)
+        .saturating_add(trailer().len() + 1);
     let mut out = Vec::with_capacity(alloc, room)?;
     out.extend_from_slice(clear)?;
-    out.extend_from_slice(lines.as_slice())?;
+    put_hex_lines(&mut out, cipher)?;
     out.extend_from_slice(trailer())?;
     Ok(out)
 }

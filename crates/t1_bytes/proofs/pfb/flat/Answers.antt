@@ -13,10 +13,10 @@ segments-preserved c =
 
 pub returns-in-Some : goal.returns-in-Some
 returns-in-Some c =
-    let whole = flat_at_start c.args.file.now c.starts_with.result c.starts_with.ensures.value c.if-not-starts_with.false in
+    let whole = flat_at_start c.args.file.now (sym c.is_segmented.ensures ∙ c.if-not-is_segmented.false) in
     whole ∙ joined_end c.segments.flat.items c.segments.rest.now _ (length c.args.file.now) _ (sym c.in-Some.ensures) c.segments.invariant.so_far
 
 pub returns-in-None : goal.returns-in-None
 returns-in-None c =
-    let whole = flat_at_start c.args.file.now c.starts_with.result c.starts_with.ensures.value c.if-not-starts_with.false in
+    let whole = flat_at_start c.args.file.now (sym c.is_segmented.ensures ∙ c.if-not-is_segmented.false) in
     whole ∙ joined_bad c.segments.flat.items c.segments.rest.now (length c.args.file.now) _ (sym c.in_default.ensures) (sym c.in-None.ensures) c.segments.invariant.so_far

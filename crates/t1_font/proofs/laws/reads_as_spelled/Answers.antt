@@ -1,6 +1,6 @@
 use Rattle.t1_bytes.proofs.Grammars.{first_exact}
 use Rattle.t1_font.proofs.WordLemmas.{word_exact, keyword_exact, decimal_exact, name_exact, phrase_exact}
-use Rattle.t1_font.proofs.MarkLemmas.{encoding_mark_exact, subrs_mark_exact, chars_mark_exact, len_iv_mark_exact, len_iv_exact, closefile_exact, encoding_start_exact, code_entry_exact, encoding_end_exact, glyph_exact, glyphs_end_exact}
+use Rattle.t1_font.proofs.MarkerLemmas.{encoding_marker_exact, subrs_marker_exact, chars_marker_exact, len_iv_marker_exact, len_iv_exact, closefile_exact, encoding_start_exact, code_entry_exact, encoding_end_exact, glyph_exact, glyphs_end_exact}
 use Rattle.t1_font.proofs.SubrLemmas.{subr_exact, subrs_end_exact}
 use Rattle.t1_font.proofs.laws.reads_as_spelled.Goals as goal
 
@@ -11,16 +11,16 @@ returns c = record {
   numbers = decimal_exact;
   names = name_exact;
   phrases = phrase_exact;
-  encodings = first_exact _ encoding_mark_exact;
+  encodings = first_exact _ encoding_marker_exact;
   starts = encoding_start_exact;
   codes = code_entry_exact;
   encoding_ends = encoding_end_exact;
-  lenIVs = first_exact _ len_iv_mark_exact;
+  lenIVs = first_exact _ len_iv_marker_exact;
   lead_counts = len_iv_exact;
-  tables = first_exact _ subrs_mark_exact;
+  tables = first_exact _ subrs_marker_exact;
   subrs = subr_exact;
   subrs_ends = subrs_end_exact;
-  charstrings = first_exact _ chars_mark_exact;
+  charstrings = first_exact _ chars_marker_exact;
   glyphs = glyph_exact;
   glyphs_ends = glyphs_end_exact;
   closes = first_exact _ closefile_exact;

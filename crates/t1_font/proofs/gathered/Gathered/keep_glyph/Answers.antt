@@ -1,8 +1,8 @@
-use Rattle.std.proofs.Common.{◌∙◌, ap, refl}
+use Rattle.std.proofs.Common.{◌∙◌, ap}
 use Rattle.std.proofs.lemmas.Cmp.{nat_list_cmp_total}
 use Rattle.std.specs.FinMap as fin
 use Rattle.t1_font.specs.Charstrings.{plain_of}
-use Rattle.t1_font.specs.FontValue.{name_cmp}
+use Rattle.t1_font.specs.Entries.{map_of}
 use Rattle.t1_font.specs.Gathering.{Entries, gathered_codes}
 use Rattle.t1_font.proofs.Buffers.{all_inside, still_inside, others_stay, map_with}
 use Rattle.t1_font.proofs.FontAgain.{name_same}
@@ -14,8 +14,8 @@ invariant_of-self-2 c =
     let now = c.add_plain.new.buffer.items in
     let put = c.in_ok-place.ensures in
     record {
-      subrs = still_inside was c.args.body.now now c.args.len_iv c.in_ok-place.place c.requires put.grown put.start put.end c.self.inside.subrs.entries c.self.invariant.subrs;
-      glyphs = all_inside was c.args.body.now now c.args.len_iv c.in_ok-place.place c.requires put.grown put.start put.end (λ x y. name_cmp x.now y.now) c.self.inside.glyphs.entries c.insert.new.self.entries c.args.name c.in_ok-insert.ensures.entries c.self.invariant.glyphs;
+      subrs = still_inside was c.args.body.now now c.args.len_iv c.in_ok-place.place c.requires put.grown put.start put.end c.self.inside.subrs.items c.self.invariant.subrs;
+      glyphs = all_inside was c.args.body.now now c.args.len_iv c.in_ok-place.place c.requires put.grown put.start put.end c.self.inside.glyphs.items c.push.new.self.items c.args.name c.in_ok-push.ensures.items c.self.invariant.glyphs;
     }
 
 pub returns : goal.returns
@@ -24,8 +24,8 @@ returns c =
     let now = c.add_plain.new.buffer.items in
     let put = c.in_ok-place.ensures in
     (λ i. record {
-      codes = gathered_codes c.self.inside.codes.entries;
-      subrs = fin.from_entries (others_stay was c.args.body.now now c.args.len_iv c.in_ok-place.place c.requires put.grown put.start put.end (λ k. k) c.self.inside.subrs.entries c.self.invariant.subrs i);
-      glyphs = map_with was c.args.body.now now c.args.len_iv c.in_ok-place.place c.requires put.grown put.start put.end (λ x y. name_cmp x.now y.now) c.self.inside.glyphs.entries c.insert.new.self.entries c.args.name c.in_ok-insert.ensures.entries c.self.invariant.glyphs (λ n. n.now) name_cmp nat_list_cmp_total name_same (λ x y. refl) i;
+      codes = gathered_codes c.self.inside.codes.items;
+      subrs = map_of (others_stay was c.args.body.now now c.args.len_iv c.in_ok-place.place c.requires put.grown put.start put.end (λ k. k) c.self.inside.subrs.items c.self.invariant.subrs i);
+      glyphs = map_with was c.args.body.now now c.args.len_iv c.in_ok-place.place c.requires put.grown put.start put.end c.self.inside.glyphs.items c.push.new.self.items c.args.name c.in_ok-push.ensures.items c.self.invariant.glyphs (λ n. n.now) nat_list_cmp_total name_same i;
     })
     ∙ ap (λ (g : Entries). record { codes = g.codes; subrs = g.subrs; glyphs = fin.insert g.glyphs c.args.name.now (plain_of c.args.len_iv c.args.body.now) }) c.self.view_is

@@ -1,9 +1,9 @@
 use Rattle.std.proofs.Common.{sym, ap, ◌∙◌, arith}
 use Rattle.std.specs.Prelude.{codes}
-use Rattle.t1_font.specs.Marks.{closefile}
-use Rattle.t1_font.proofs.MarkLemmas.{closefile_begins}
+use Rattle.t1_font.specs.Markers.{closefile}
+use Rattle.t1_font.proofs.MarkerLemmas.{closefile_begins}
 use Rattle.t1_bytes.proofs.Places.{found_at, passed_at, nowhere_at}
-use Rattle.t1_font.proofs.marks.first_close.Goals as goal
+use Rattle.t1_font.proofs.markers.first_close.Goals as goal
 
 pub returns-in-Some-close_at : goal.returns-in-Some-close_at
 returns-in-Some-close_at c =

@@ -4,28 +4,30 @@ use Rattle.std.specs.Prelude.{codes}
 use Rattle.bstr.specs.Find.{OccursAt, Nowhere}
 use Rattle.t1_bytes.specs.Grammar.{Grammar, first}
 use Rattle.t1_bytes.proofs.Grammars.{IsExact, pure_exact, bind_exact, that_exact, run_exact, fixed_exact, before_exact, either_exact, first_exact}
-use Rattle.t1_font.specs.Marks.{encoding_mark, subrs_mark, chars_mark, len_iv_mark, len_iv, closefile, encoding_word, encoding_table, loop_range, loop_body, encoding_loop, octal, octal_after, code, code_entry, may_be, encoding_end, encoding_start, glyph, glyphs_end}
+use Rattle.t1_font.specs.Markers.{encoding_marker, subrs_marker, chars_marker, len_iv_marker, len_iv, closefile}
+use Rattle.t1_font.specs.Encoding.{encoding_word, encoding_table, loop_range, loop_body, encoding_loop, octal, octal_after, code, code_entry, may_be, encoding_end, encoding_start}
+use Rattle.t1_font.specs.Glyphs.{glyph, glyphs_end}
 use Rattle.t1_bytes.proofs.EexecLemmas.{white_exact, gap_exact}
 use Rattle.t1_font.proofs.WordLemmas.{one_white_exact, word_exact, keyword_exact, decimal_exact, name_exact, phrase_exact}
 use Rattle.t1_font.proofs.SubrLemmas.{length_exact}
 use Rattle.t1_bytes.proofs.Grammars.{count_exact}
 use Rattle.t1_bytes.proofs.Places.{NoneBelow, Begins, more_none}
 
-pub encoding_mark_exact : IsExact encoding_mark
-unfolding encoding_mark
-encoding_mark_exact = bind_exact _ _ (fixed_exact (codes "/Encoding")) (λ _. before_exact _)
+pub encoding_marker_exact : IsExact encoding_marker
+unfolding encoding_marker
+encoding_marker_exact = bind_exact _ _ (fixed_exact (codes "/Encoding")) (λ _. before_exact _)
 
-pub subrs_mark_exact : IsExact subrs_mark
-unfolding subrs_mark
-subrs_mark_exact = bind_exact _ _ (fixed_exact (codes "/Subrs")) (λ _. bind_exact _ _ gap_exact (λ _. bind_exact _ _ decimal_exact (λ declared. bind_exact _ _ gap_exact (λ _. bind_exact _ _ (keyword_exact (codes "array")) (λ _. bind_exact _ _ (before_exact _) (λ _. pure_exact declared))))))
+pub subrs_marker_exact : IsExact subrs_marker
+unfolding subrs_marker
+subrs_marker_exact = bind_exact _ _ (fixed_exact (codes "/Subrs")) (λ _. bind_exact _ _ gap_exact (λ _. bind_exact _ _ decimal_exact (λ declared. bind_exact _ _ gap_exact (λ _. bind_exact _ _ (keyword_exact (codes "array")) (λ _. bind_exact _ _ (before_exact _) (λ _. pure_exact declared))))))
 
-pub chars_mark_exact : IsExact chars_mark
-unfolding chars_mark
-chars_mark_exact = bind_exact _ _ (fixed_exact (codes "/CharStrings")) (λ _. bind_exact _ _ gap_exact (λ _. bind_exact _ _ decimal_exact (λ _. bind_exact _ _ gap_exact (λ _. bind_exact _ _ (keyword_exact (codes "dict")) (λ _. bind_exact _ _ gap_exact (λ _. bind_exact _ _ (keyword_exact (codes "dup")) (λ _. bind_exact _ _ gap_exact (λ _. bind_exact _ _ (keyword_exact (codes "begin")) (λ _. before_exact _)))))))))
+pub chars_marker_exact : IsExact chars_marker
+unfolding chars_marker
+chars_marker_exact = bind_exact _ _ (fixed_exact (codes "/CharStrings")) (λ _. bind_exact _ _ gap_exact (λ _. bind_exact _ _ decimal_exact (λ _. bind_exact _ _ gap_exact (λ _. bind_exact _ _ (keyword_exact (codes "dict")) (λ _. bind_exact _ _ gap_exact (λ _. bind_exact _ _ (keyword_exact (codes "dup")) (λ _. bind_exact _ _ gap_exact (λ _. bind_exact _ _ (keyword_exact (codes "begin")) (λ _. before_exact _)))))))))
 
-pub len_iv_mark_exact : IsExact len_iv_mark
-unfolding len_iv_mark
-len_iv_mark_exact = bind_exact _ _ (fixed_exact (codes "/lenIV")) (λ _. before_exact _)
+pub len_iv_marker_exact : IsExact len_iv_marker
+unfolding len_iv_marker
+len_iv_marker_exact = bind_exact _ _ (fixed_exact (codes "/lenIV")) (λ _. before_exact _)
 
 pub len_iv_exact : IsExact len_iv
 unfolding len_iv
@@ -95,26 +97,26 @@ glyphs_end_exact = bind_exact _ _ white_exact (λ _. keyword_exact (codes "end")
 
 -- ---- where a marker's text stands
 
-pub subrs_begins : Begins (codes "/Subrs") subrs_mark
-unfolding subrs_mark
+pub subrs_begins : Begins (codes "/Subrs") subrs_marker
+unfolding subrs_marker
 subrs_begins bytes e = rw e refl
 
-pub subrs_none : (bytes : List ℕ) (from to : ℕ) → to ≤ length bytes + 1 → NoneBelow subrs_mark bytes from → Nowhere (OccursAt bytes (codes "/Subrs")) from to → NoneBelow subrs_mark bytes to
-subrs_none bytes from to = more_none (codes "/Subrs") subrs_mark subrs_begins bytes from to
+pub subrs_none : (bytes : List ℕ) (from to : ℕ) → to ≤ length bytes + 1 → NoneBelow subrs_marker bytes from → Nowhere (OccursAt bytes (codes "/Subrs")) from to → NoneBelow subrs_marker bytes to
+subrs_none bytes from to = more_none (codes "/Subrs") subrs_marker subrs_begins bytes from to
 
-pub encoding_begins : Begins (codes "/Encoding") encoding_mark
-unfolding encoding_mark
+pub encoding_begins : Begins (codes "/Encoding") encoding_marker
+unfolding encoding_marker
 encoding_begins bytes e = rw e refl
 
-pub encoding_none : (bytes : List ℕ) (from to : ℕ) → to ≤ length bytes + 1 → NoneBelow encoding_mark bytes from → Nowhere (OccursAt bytes (codes "/Encoding")) from to → NoneBelow encoding_mark bytes to
-encoding_none bytes from to = more_none (codes "/Encoding") encoding_mark encoding_begins bytes from to
+pub encoding_none : (bytes : List ℕ) (from to : ℕ) → to ≤ length bytes + 1 → NoneBelow encoding_marker bytes from → Nowhere (OccursAt bytes (codes "/Encoding")) from to → NoneBelow encoding_marker bytes to
+encoding_none bytes from to = more_none (codes "/Encoding") encoding_marker encoding_begins bytes from to
 
-pub chars_begins : Begins (codes "/CharStrings") chars_mark
-unfolding chars_mark
+pub chars_begins : Begins (codes "/CharStrings") chars_marker
+unfolding chars_marker
 chars_begins bytes e = rw e refl
 
-pub len_iv_begins : Begins (codes "/lenIV") len_iv_mark
-unfolding len_iv_mark
+pub len_iv_begins : Begins (codes "/lenIV") len_iv_marker
+unfolding len_iv_marker
 len_iv_begins bytes e = rw e refl
 
 pub closefile_begins : Begins (codes "closefile") closefile

@@ -2,7 +2,7 @@ use Rattle.std.proofs.Common.{◌≡◌, length, ap, ◌∙◌}
 use Rattle.std.specs.Prelude.{min}
 use Rattle.std.specs.Slice.Iter.{chunks_rest}
 use Rattle.t1_bytes.proofs.HexLemmas.{next_line}
-use Rattle.t1_bytes.proofs.hexadecimal.hex_lines.Goals as goal
+use Rattle.t1_bytes.proofs.hexadecimal.put_hex_lines.Goals as goal
 
 pub lines-preserved : goal.lines-preserved
 lines-preserved c =

@@ -1,63 +1,8 @@
--- The markers of font text, and the entries of its tables.
-use Rattle.std.specs.Prelude.{ℕ, ◌+◌, ◌-◌, ◌*◌, ◌&&◌, not, nat_le, Bool, true, false, List, [], ◌∷◌, length, codes, Option, Some, None}
-use Rattle.t1_bytes.specs.Grammar.{Grammar, pure, ◌>>=◌, ◌>>◌, that, run, count, before, fixed, either}
-use Rattle.t1_bytes.specs.White.{is_white, white, gap}
-use Rattle.t1_font.specs.Words.{is_regular, one_white, word, keyword, decimal, name, phrase_of, passes}
-use Rattle.t1_font.specs.Subrs.{length_from}
-
--- white space comes
-abbrev pub white_comes : List ℕ → Bool
-white_comes [] = false
-white_comes (b ∷ bs) = is_white b
-
--- white space or a delimiter comes
-abbrev pub break_comes : List ℕ → Bool
-break_comes [] = false
-break_comes (b ∷ bs) = not (is_regular b)
-
-unfoldable pub encoding_mark : Grammar (Unit {0})
-encoding_mark = do
-  fixed (codes "/Encoding")
-  before break_comes
-
--- the value is the declared count
-unfoldable pub subrs_mark : Grammar ℕ
-subrs_mark = do
-  fixed (codes "/Subrs")
-  gap
-  declared ← decimal
-  gap
-  keyword (codes "array")
-  before white_comes
-  pure declared
-
-unfoldable pub chars_mark : Grammar (Unit {0})
-chars_mark = do
-  fixed (codes "/CharStrings")
-  gap
-  decimal
-  gap
-  keyword (codes "dict")
-  gap
-  keyword (codes "dup")
-  gap
-  keyword (codes "begin")
-  before white_comes
-
-unfoldable pub len_iv_mark : Grammar (Unit {0})
-len_iv_mark = do
-  fixed (codes "/lenIV")
-  before white_comes
-
-unfoldable pub len_iv : Grammar ℕ
-len_iv = do
-  white
-  that (λ n. nat_le n 255) decimal
-
-unfoldable pub closefile : Grammar (List ℕ)
-closefile = fixed (codes "closefile")
-
--- ---- the Encoding
+-- The Encoding of the clear text.
+use Rattle.std.specs.Prelude.{ℕ, ◌+◌, ◌-◌, ◌*◌, ◌&&◌, nat_le, Bool, true, List, [], ◌∷◌, length, codes, Option, Some, None}
+use Rattle.t1_bytes.specs.Grammar.{Grammar, pure, ◌>>=◌, ◌>>◌, that, run, fixed, either}
+use Rattle.t1_bytes.specs.White.{white, gap}
+use Rattle.t1_font.specs.Words.{is_regular, word, keyword, decimal, name}
 
 -- a word that is the whole Encoding
 unfoldable pub encoding_word : Grammar (List ℕ)
@@ -167,30 +112,3 @@ encoding_start = either (do
     encoding_table
     may_be encoding_loop
     pure None)
-
--- ---- the glyphs
-
-pub record Glyph : Type 0 where
-  pub name : List ℕ
-  pub rd : List ℕ
-  pub body : List ℕ
-  pub nd : List ℕ
-
-unfoldable pub glyph : ℕ → Grammar Glyph
-glyph iv = do
-  white
-  n ← name
-  gap
-  len ← length_from iv
-  gap
-  rd ← word
-  one_white
-  body ← count len
-  white
-  nd ← phrase_of (passes true)
-  pure (record { name = n; rd = rd; body = body; nd = nd })
-
-unfoldable pub glyphs_end : Grammar (List ℕ)
-glyphs_end = do
-  white
-  keyword (codes "end")

@@ -8,9 +8,9 @@ use Rattle.std.proofs.lemmas.List.{append-nil, length-append}
 use Rattle.t1_bytes.specs.Grammar.{Grammar, fixed, first_at, choice, NoneIn}
 use Rattle.t1_bytes.proofs.Grammars.{and_then_none}
 use Rattle.t1_bytes.specs.White.{is_white, has_bytes, gap}
-use Rattle.t1_bytes.specs.Eexec.{eexec_mark, blank_comes}
-use Rattle.t1_font.specs.Marks.{encoding_mark, subrs_mark, chars_mark}
-use Rattle.t1_font.specs.IsFont.{NoMark}
+use Rattle.t1_bytes.specs.Eexec.{eexec_marker, blank_comes}
+use Rattle.t1_font.specs.Markers.{encoding_marker, subrs_marker, chars_marker}
+use Rattle.t1_font.specs.IsFont.{NoMarker}
 
 -- ---- two divisions of a text
 
@@ -49,7 +49,7 @@ lacks_none g (b ∷ bs) e =
     (subst (λ (u : List ℕ). g.read (b ∷ u) ≡ None) (sym (append-nil bs)) (and_then_none (λ x. (([], x.0), x.1)) (g.read (b ∷ bs)) parts.0), lacks_none g bs (and_then_none (λ y. ((b ∷ y.0.0, y.0.1), y.1)) (first_at g bs) parts.1))
 
 -- no marker stands in a text, if none does in one that is at least as long, and a slash stands behind it
-pub before_slash : {A : Type 0} (g : Grammar A) → ((front r s : List ℕ) → NoneIn g front (47 ∷ r) → NoneIn g front (47 ∷ s)) → (a m b c : List ℕ) → a ++ (47 ∷ m) ≡ b ++ c → length a ≤ length b → NoneIn g b c → NoMark g a
+pub before_slash : {A : Type 0} (g : Grammar A) → ((front r s : List ℕ) → NoneIn g front (47 ∷ r) → NoneIn g front (47 ∷ s)) → (a m b c : List ℕ) → a ++ (47 ∷ m) ≡ b ++ c → length a ≤ length b → NoneIn g b c → NoMarker g a
 before_slash g moves a m b c e long none = elim (meet a (47 ∷ m) b c e) [
   | inl s ↦
       let inner : NoneIn g a (s.0 ++ c) = NoneIn-left g a s.0 c (subst (λ (u : List ℕ). NoneIn g u c) s.1 none) in
@@ -69,29 +69,29 @@ Slash own = (r : List ℕ) × (own ≡ 47 ∷ r)
 slash : (w own front back : List ℕ) → own ≡ front ++ back → front ≡ 47 ∷ w → Slash own
 slash w own front back e f = (w ++ back, e ∙ ap (λ (u : List ℕ). u ++ back) f)
 
-pub encoding_slash : (own rest : List ℕ) → encoding_mark.Spells tt own rest → Slash own
-unfolding encoding_mark
+pub encoding_slash : (own rest : List ℕ) → encoding_marker.Spells tt own rest → Slash own
+unfolding encoding_marker
 encoding_slash own rest s = slash (codes "Encoding") own s.1 s.2 s.3 (fixed_text (codes "/Encoding") s.0 s.1 (s.2 ++ rest) s.4)
 
-pub subrs_slash : (declared : ℕ) (own rest : List ℕ) → subrs_mark.Spells declared own rest → Slash own
-unfolding subrs_mark
+pub subrs_slash : (declared : ℕ) (own rest : List ℕ) → subrs_marker.Spells declared own rest → Slash own
+unfolding subrs_marker
 subrs_slash declared own rest s = slash (codes "Subrs") own s.1 s.2 s.3 (fixed_text (codes "/Subrs") s.0 s.1 (s.2 ++ rest) s.4)
 
-pub chars_slash : (own rest : List ℕ) → chars_mark.Spells tt own rest → Slash own
-unfolding chars_mark
+pub chars_slash : (own rest : List ℕ) → chars_marker.Spells tt own rest → Slash own
+unfolding chars_marker
 chars_slash own rest s = slash (codes "CharStrings") own s.1 s.2 s.3 (fixed_text (codes "/CharStrings") s.0 s.1 (s.2 ++ rest) s.4)
 
 -- `currentfile`, white space, `eexec`, before a blank
-pub record IsMark (own after : List ℕ) : Type 0 where
+pub record IsMarker (own after : List ℕ) : Type 0 where
   pub between : List ℕ
   pub parts : own ≡ codes "currentfile" ++ (between ++ codes "eexec")
   pub white : AllByRecursion (λ b. is_white b ≡ true) between
   pub some : has_bytes between ≡ true
   pub blank : blank_comes after ≡ true
 
-pub mark_is : (mark own after : List ℕ) → eexec_mark.Spells mark own after → IsMark own after
-unfolding eexec_mark gap
-mark_is mark own after s =
+pub marker_is : (marker own after : List ℕ) → eexec_marker.Spells marker own after → IsMarker own after
+unfolding eexec_marker gap
+marker_is marker own after s =
     let last : s.5.5.5.2 ≡ [] = s.5.5.5.5.0 in
     let none : s.5.5.5.1 ≡ [] = s.5.5.5.4.0 in
     let first : s.1 ≡ codes "currentfile" = fixed_text (codes "currentfile") s.0 s.1 (s.2 ++ after) s.4 in
@@ -135,6 +135,6 @@ pub plain_right : (a b : List ℕ) → ArePlain (a ++ b) → ArePlain b
 plain_right [] b h = h
 plain_right (x ∷ a) b h = plain_right a b h.1
 
-pub mark_plain : (own after : List ℕ) → IsMark own after → ArePlain own
-mark_plain own after m = subst ArePlain (sym m.parts) (plain_both (codes "currentfile") (m.between ++ codes "eexec") (refl, (refl, (refl, (refl, (refl, (refl, (refl, (refl, (refl, (refl, (refl, tt)))))))))))
+pub marker_plain : (own after : List ℕ) → IsMarker own after → ArePlain own
+marker_plain own after m = subst ArePlain (sym m.parts) (plain_both (codes "currentfile") (m.between ++ codes "eexec") (refl, (refl, (refl, (refl, (refl, (refl, (refl, (refl, (refl, (refl, (refl, tt)))))))))))
     (plain_both m.between (codes "eexec") (whites_plain m.between m.white) (refl, (refl, (refl, (refl, (refl, tt)))))))

@@ -3,7 +3,7 @@
 ghost use Rattle.std.specs.Prelude.{◌≡◌};
 ghost use Rattle.std.specs.Option.{option_map};
 ghost use Rattle.t1_bytes.specs.Grammar.{first};
-ghost use Rattle.t1_font.specs.Marks.{subrs_mark, chars_mark, len_iv_mark, len_iv, closefile, white_comes};
+ghost use Rattle.t1_font.specs.Markers.{subrs_marker, chars_marker, len_iv_marker, len_iv, closefile, white_comes};
 
 use crate::words::{decimal_at, keyword_at};
 use t1_bytes::texts::{find_from, fixed_at, gap_at, is_white, white_at};
@@ -15,9 +15,9 @@ pub fn white_comes(bytes: &[u8]) -> bool
 }
 
 /// A Subrs marker, with its declared count.
-#[tactic(auto, unfolding(crate::specs::Marks::subrs_mark))]
-fn subrs_mark_at(bytes: &[u8]) -> Option<(u32, &[u8])>
-    ensures { option_map (λ x. (x.0, x.1.now)) result ≡ subrs_mark.read bytes.now }
+#[tactic(auto, unfolding(crate::specs::Markers::subrs_marker))]
+fn subrs_marker_at(bytes: &[u8]) -> Option<(u32, &[u8])>
+    ensures { option_map (λ x. (x.0, x.1.now)) result ≡ subrs_marker.read bytes.now }
 {
     let (_, rest) = fixed_at(bytes, b"/Subrs")?;
     let (_, rest) = gap_at(rest)?;
@@ -32,12 +32,12 @@ fn subrs_mark_at(bytes: &[u8]) -> Option<(u32, &[u8])>
 
 /// What stands before the first Subrs marker, its declared count, and what stands after it.
 pub fn first_subrs(bytes: &[u8]) -> Option<(&[u8], u32, &[u8])>
-    ensures { option_map (λ x. ((x.0.now, x.1), x.2.now)) result ≡ (first subrs_mark).read bytes.now }
+    ensures { option_map (λ x. ((x.0.now, x.1), x.2.now)) result ≡ (first subrs_marker).read bytes.now }
 {
     let mut from = 0;
     'places: while let Some(place) = find_from(bytes, b"/Subrs", from) {
         let (front, here) = bytes.split_at(place);
-        if let Some((declared, rest)) = subrs_mark_at(here) {
+        if let Some((declared, rest)) = subrs_marker_at(here) {
             return Some((front, declared, rest));
         }
         from = place + 1;
@@ -46,9 +46,9 @@ pub fn first_subrs(bytes: &[u8]) -> Option<(&[u8], u32, &[u8])>
 }
 
 /// The CharStrings marker.
-#[tactic(auto, unfolding(crate::specs::Marks::chars_mark))]
-fn chars_mark_at(bytes: &[u8]) -> Option<&[u8]>
-    ensures { option_map (λ x. (tt, x.now)) result ≡ chars_mark.read bytes.now }
+#[tactic(auto, unfolding(crate::specs::Markers::chars_marker))]
+fn chars_marker_at(bytes: &[u8]) -> Option<&[u8]>
+    ensures { option_map (λ x. (tt, x.now)) result ≡ chars_marker.read bytes.now }
 {
     let (_, rest) = fixed_at(bytes, b"/CharStrings")?;
     let (_, rest) = gap_at(rest)?;
@@ -67,12 +67,12 @@ fn chars_mark_at(bytes: &[u8]) -> Option<&[u8]>
 
 /// What stands before the first CharStrings marker, and what stands after it.
 pub fn first_chars(bytes: &[u8]) -> Option<(&[u8], &[u8])>
-    ensures { option_map (λ x. ((x.0.now, tt), x.1.now)) result ≡ (first chars_mark).read bytes.now }
+    ensures { option_map (λ x. ((x.0.now, tt), x.1.now)) result ≡ (first chars_marker).read bytes.now }
 {
     let mut from = 0;
     'places: while let Some(place) = find_from(bytes, b"/CharStrings", from) {
         let (front, here) = bytes.split_at(place);
-        if let Some(rest) = chars_mark_at(here) {
+        if let Some(rest) = chars_marker_at(here) {
             return Some((front, rest));
         }
         from = place + 1;
@@ -80,10 +80,10 @@ pub fn first_chars(bytes: &[u8]) -> Option<(&[u8], &[u8])>
     None
 }
 
-/// The mark of lenIV.
-#[tactic(auto, unfolding(crate::specs::Marks::len_iv_mark))]
-fn len_iv_mark_at(bytes: &[u8]) -> Option<&[u8]>
-    ensures { option_map (λ x. (tt, x.now)) result ≡ len_iv_mark.read bytes.now }
+/// The marker of lenIV.
+#[tactic(auto, unfolding(crate::specs::Markers::len_iv_marker))]
+fn len_iv_marker_at(bytes: &[u8]) -> Option<&[u8]>
+    ensures { option_map (λ x. (tt, x.now)) result ≡ len_iv_marker.read bytes.now }
 {
     let (_, rest) = fixed_at(bytes, b"/lenIV")?;
     if !white_comes(rest) {
@@ -92,14 +92,14 @@ fn len_iv_mark_at(bytes: &[u8]) -> Option<&[u8]>
     Some(rest)
 }
 
-/// What stands before the first mark of lenIV, and what stands after it.
+/// What stands before the first marker of lenIV, and what stands after it.
 pub fn first_len_iv(bytes: &[u8]) -> Option<(&[u8], &[u8])>
-    ensures { option_map (λ x. ((x.0.now, tt), x.1.now)) result ≡ (first len_iv_mark).read bytes.now }
+    ensures { option_map (λ x. ((x.0.now, tt), x.1.now)) result ≡ (first len_iv_marker).read bytes.now }
 {
     let mut from = 0;
     'places: while let Some(place) = find_from(bytes, b"/lenIV", from) {
         let (front, here) = bytes.split_at(place);
-        if let Some(rest) = len_iv_mark_at(here) {
+        if let Some(rest) = len_iv_marker_at(here) {
             return Some((front, rest));
         }
         from = place + 1;
@@ -108,7 +108,7 @@ pub fn first_len_iv(bytes: &[u8]) -> Option<(&[u8], &[u8])>
 }
 
 /// The number of lead bytes.
-#[tactic(auto, unfolding(crate::specs::Marks::len_iv))]
+#[tactic(auto, unfolding(crate::specs::Markers::len_iv))]
 pub fn len_iv_at(bytes: &[u8]) -> Option<(u8, &[u8])>
     ensures { option_map (λ x. (x.0, x.1.now)) result ≡ len_iv.read bytes.now }
 {
@@ -136,7 +136,7 @@ pub fn first_close(bytes: &[u8]) -> Option<(&[u8], &[u8], &[u8])>
 }
 
 /// The word at the end of a font's own text.
-#[tactic(auto, unfolding(crate::specs::Marks::closefile))]
+#[tactic(auto, unfolding(crate::specs::Markers::closefile))]
 fn close_at(bytes: &[u8]) -> Option<(&[u8], &[u8])>
     ensures { option_map (λ x. (x.0.now, x.1.now)) result ≡ closefile.read bytes.now }
 {

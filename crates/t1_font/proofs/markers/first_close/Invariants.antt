@@ -1,10 +1,10 @@
 use Rattle.std.proofs.Common.{◌≤◌, ◌-◌, length}
-use Rattle.t1_font.specs.Marks.{len_iv_mark}
+use Rattle.t1_font.specs.Markers.{closefile}
 use Rattle.t1_bytes.proofs.Places.{NoneBelow}
-use Rattle.t1_font.proofs.marks.first_len_iv.Given as goal
+use Rattle.t1_font.proofs.markers.first_close.Given as goal
 
 abbrev pub invariant-places : goal.invariant-places
-invariant-places l = record { within : l.from ≤ length l.bytes; passed : NoneBelow len_iv_mark l.bytes l.from }
+invariant-places l = record { within : l.from ≤ length l.bytes; passed : NoneBelow closefile l.bytes l.from }
 
 abbrev pub decreases-places : goal.decreases-places
 decreases-places l = length l.bytes - l.from

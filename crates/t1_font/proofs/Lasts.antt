@@ -1,0 +1,202 @@
+-- The last entries of a list, each key once, and the map of the list.
+use native.Mathlib.Numerals.{unary_clauses}
+use Rattle.std.proofs.Common.{◌≡◌, ℕ, refl, sym, ap, subst, ◌∙◌, arith, ◌⊎◌, inl, inr, Bool, true, false, cond, not, ◌&&◌, List, [], ◌∷◌, Option, Some, None, get_or, zero, suc}
+use Rattle.std.specs.Prelude.{filter}
+use Rattle.std.specs.Option.{option_map}
+use Rattle.std.specs.List.{All, AllByRecursion}
+use Rattle.std.specs.List.Sorted.{IsSortedByKey, IsStableByKey, IsStrictlySortedBy, ties}
+use Rattle.std.specs.declared.cmp.Ordering.{Ordering}
+use Rattle.std.specs.declared.cmp.Ordering.TheVariants.{Less, Equal, Greater}
+use Rattle.std.specs.Ordering.{is_lt, is_eq, ordering_reverse}
+use Rattle.std.specs.Cmp.{IsTotalOrder, alike_right, Equal-is}
+use Rattle.std.specs.FinSet.{IsAntisymmetric}
+use Rattle.std.specs.FinMap as fin
+use Rattle.std.specs.Map.{keys_of}
+use Rattle.std.proofs.lemmas.List.Elements.{All-nil, All-cons, All-head, All-tail}
+use Rattle.std.proofs.lemmas.List.Sorted.{All-permutation}
+use Rattle.t1_bytes.specs.Grammar.{choice}
+use Rattle.t1_join.specs.Entries.{entries_by}
+use Rattle.t1_join.specs.TableMeaning.{Rises}
+use Rattle.t1_join.proofs.TreeEntries.{sorted_entries}
+use Rattle.t1_font.specs.Entries.{comes_again, run_ends, AreLast, last_value, map_of}
+use Rattle.t1_font.proofs.MapLaws.{get-map_of, choice-none}
+
+-- ---- the last of a list
+
+abbrev last_of : {Y : Type 0} → List Y → Option Y
+last_of [] = None
+last_of (y ∷ ys) = choice (last_of ys) (Some y)
+
+map_choice : {Y X : Type 0} (h : Y → X) (o p : Option Y) → option_map h (choice o p) ≡ choice (option_map h o) (option_map h p)
+map_choice h None p = refl
+map_choice h (Some y) p = refl
+
+tie_is : (r s : Ordering) → s ≡ ordering_reverse r → is_eq r ≡ (not (is_lt r) && not (is_lt s))
+tie_is Less s e = refl
+tie_is Equal s e = rw e refl
+tie_is Greater s e = rw e refl
+
+-- neither below nor tied, so above
+must_be_less : (r s : Ordering) → s ≡ ordering_reverse r → is_lt s ≡ false → is_eq s ≡ false → r ≡ Less
+must_be_less Less s e below tied = refl
+must_be_less Equal s e below tied = cc
+must_be_less Greater s e below tied = cc
+
+module _ {K V : Type 0} {R : K → K → Ordering} (o : IsTotalOrder R) where
+  abbrev key : K × V → K
+  key e = e.0
+
+  abbrev first_up : K → List (K × V) → Type 0
+  first_up k [] = Unit {0}
+  first_up k (e ∷ es) = is_lt (R e.0 k) ≡ false
+
+  head_up : (e : K × V) (es : List (K × V)) → IsSortedByKey key R (e ∷ es) → first_up e.0 es
+  head_up e [] up = tt
+  head_up e (f ∷ fs) up = up zero e (omega arith) (omega arith)
+
+  tail_up : (e : K × V) (es : List (K × V)) → IsSortedByKey key R (e ∷ es) → IsSortedByKey key R es
+  tail_up e es up = λ k d low high. subst (λ n. is_lt (R (key (get_or es n d)) (key (get_or es k d))) ≡ false) (omega arith) (simp unary_clauses at (up (suc k) d (omega arith) (omega (arith, high))))
+
+  -- a key below the first entry's is below all
+  below_first : (k : K) (e : K × V) (es : List (K × V)) → R k e.0 ≡ Less → IsSortedByKey key R (e ∷ es) → All (λ x. R k x.0 ≡ Less) (e ∷ es)
+  below_first k e [] less up = All-cons (λ (x : K × V). R k x.0 ≡ Less) e [] less (All-nil (λ (x : K × V). R k x.0 ≡ Less))
+  below_first k e (f ∷ fs) less up =
+      All-cons (λ (x : K × V). R k x.0 ≡ Less) e (f ∷ fs) less (below_first k f fs (lower (R f.0 e.0) refl (head_up e (f ∷ fs) up)) (tail_up e (f ∷ fs) up))
+    where
+      lower : (r : Ordering) → R f.0 e.0 ≡ r → is_lt r ≡ false → R k f.0 ≡ Less
+      lower Less h same = cc
+      lower Equal h same = alike_right o f.0 e.0 k h ∙ less
+      lower Greater h same = o.trans k e.0 f.0 less (o.antisymm e.0 f.0 ∙ ap ordering_reverse h)
+
+  -- the ends of runs are among the entries
+  all_ends : (P : K × V → Type 0) (es : List (K × V)) → All P es → All P (run_ends R es)
+  all_ends P [] h = h
+  all_ends P (e ∷ es) h =
+      let rest = all_ends P es (All-tail P e es h) in
+      elim (comes_again R e.0 es) as (λ b. All P (cond b (run_ends R es) (e ∷ run_ends R es))) [ true ↦ rest | false ↦ All-cons P e (run_ends R es) (All-head P e es h) rest ]
+
+  pub all_last : (P : K × V → Type 0) (es last : List (K × V)) → AreLast R es last → All P es → All P last
+  all_last P es last are h = subst (All P) (sym are.last_is) (all_ends P are.sorted (All-permutation P es are.sorted are.same h))
+
+  above_ends : (e : K × V) (es : List (K × V)) → comes_again R e.0 es ≡ false → IsSortedByKey key R (e ∷ es) → All (λ x. R e.0 x.0 ≡ Less) es
+  above_ends e [] alone up = All-nil (λ (x : K × V). R e.0 x.0 ≡ Less)
+  above_ends e (f ∷ fs) alone up = below_first e.0 f fs (must_be_less (R e.0 f.0) (R f.0 e.0) (o.antisymm f.0 e.0) (head_up e (f ∷ fs) up) alone) (tail_up e (f ∷ fs) up)
+
+  keys_all : (k : K) (es : List (K × V)) → All (λ x. R k x.0 ≡ Less) es → AllByRecursion (λ y. R k y ≡ Less) (keys_of es)
+  keys_all k [] h = tt
+  keys_all k (e ∷ es) h = (All-head (λ (x : K × V). R k x.0 ≡ Less) e es h, keys_all k es (All-tail (λ (x : K × V). R k x.0 ≡ Less) e es h))
+
+  ends_rise : (es : List (K × V)) → IsSortedByKey key R es → IsStrictlySortedBy R (keys_of (run_ends R es))
+  unfolding IsStrictlySortedBy
+  ends_rise [] up = tt
+  ends_rise (e ∷ es) up =
+      let rest = ends_rise es (tail_up e es up) in
+      elim (comes_again R e.0 es) as (λ b. comes_again R e.0 es ≡ b → IsStrictlySortedBy R (keys_of (cond b (run_ends R es) (e ∷ run_ends R es)))) [
+        | true ↦ λ h. rest
+        | false ↦ λ h. (keys_all e.0 (run_ends R es) (all_ends (λ x. R e.0 x.0 ≡ Less) es (above_ends e es h up)), rest)
+      ] refl
+
+  pub last_rise : (es last : List (K × V)) → AreLast R es last → IsStrictlySortedBy R (keys_of last)
+  last_rise es last are = subst (λ l. IsStrictlySortedBy R (keys_of l)) (sym are.last_is) (ends_rise are.sorted are.rise)
+
+-- ---- by what keys and values stand for
+
+module _ {K M : Type 0} (f : K → M) (R : K → K → Ordering) (S : M → M → Ordering) (o : IsTotalOrder S) (by : (x y : K) → R x y ≡ S (f x) (f y)) where
+  pub order : IsTotalOrder R
+  order = record {
+    antisymm = λ x y. by x y ∙ o.antisymm (f x) (f y) ∙ ap ordering_reverse (sym (by y x));
+    trans = λ x y z p q. by x z ∙ o.trans (f x) (f y) (f z) (sym (by x y) ∙ p) (sym (by y z) ∙ q);
+    congr = λ x y z p. by x z ∙ o.congr (f x) (f y) (f z) (sym (by x y) ∙ p) ∙ sym (by y z);
+  }
+
+module _ {K V M X : Type 0} (f : K → M) (g : V → X) (R : K → K → Ordering) (S : M → M → Ordering) (o : IsTotalOrder S) (by : (x y : K) → R x y ≡ S (f x) (f y)) where
+  abbrev lt : K × V → K × V → Bool
+  lt x y = is_lt (R x.0 y.0)
+
+  -- the value of a key is that of the last entry that ties with one of its entries
+  value_by : (m : M) (e : K × V) → S m (f e.0) ≡ Equal → (es : List (K × V)) → last_value S m (entries_by f g es) ≡ option_map (λ (x : K × V). g x.1) (last_of (filter (ties lt e) es))
+  value_by m e t [] = refl
+  value_by m e t (d ∷ ds) =
+      let tied : is_eq (S m (f d.0)) ≡ ties lt e d = ap is_eq (o.congr m (f e.0) (f d.0) t ∙ sym (by e.0 d.0)) ∙ tie_is (R e.0 d.0) (R d.0 e.0) ((order f R S o by).antisymm d.0 e.0) in
+      (λ i. choice (value_by m e t ds i) (cond (tied i) (Some (g d.1)) None))
+      ∙ (elim (ties lt e d)
+      as (λ b. choice (option_map (λ (x : K × V). g x.1) (last_of (filter (ties lt e) ds))) (cond b (Some (g d.1)) None) ≡ option_map (λ (x : K × V). g x.1) (last_of (cond b (d ∷ filter (ties lt e) ds) (filter (ties lt e) ds)))) [
+        | true ↦ sym (map_choice (λ (x : K × V). g x.1) (last_of (filter (ties lt e) ds)) (Some d))
+        | false ↦ choice-none _
+      ])
+
+  -- a key has an entry, or no value
+  found_or_none : (m : M) (es : List (K × V)) → ((e : K × V) × (S m (f e.0) ≡ Equal)) ⊎ (last_value S m (entries_by f g es) ≡ None)
+  found_or_none m [] = inr refl
+  found_or_none m (e ∷ es) = elim (found_or_none m es) [
+    | inl found ↦ inl found
+    | inr none ↦ elim (S m (f e.0)) as (λ r. S m (f e.0) ≡ r → ((d : K × V) × (S m (f d.0) ≡ Equal)) ⊎ (choice (last_value S m (entries_by f g es)) (cond (is_eq r) (Some (g e.1)) None) ≡ None)) [
+      | Less ↦ λ h. inr (choice-none _ ∙ none)
+      | Equal ↦ λ h. inl (e, h)
+      | Greater ↦ λ h. inr (choice-none _ ∙ none)
+    ] refl
+  ]
+
+  -- where entries that tie stand in their order, each key has its value
+  same_last : (es sorted : List (K × V)) → IsStableByKey (λ (e : K × V). e.0) R es sorted → (m : M) → last_value S m (entries_by f g sorted) ≡ last_value S m (entries_by f g es)
+  same_last es sorted stable m = elim (found_or_none m es) [
+    | inl e ↦ by_entry e.0 e.1
+    | inr none ↦ elim (found_or_none m sorted) [
+      | inl e ↦ by_entry e.0 e.1
+      | inr nowhere ↦ nowhere ∙ sym none
+    ]
+  ]
+    where
+      by_entry : (e : K × V) → S m (f e.0) ≡ Equal → last_value S m (entries_by f g sorted) ≡ last_value S m (entries_by f g es)
+      by_entry e t = value_by m e t sorted ∙ (ap (λ es. option_map (λ (x : K × V). g x.1) (last_of es)) (stable e) ∙ sym (value_by m e t es))
+
+  -- a key below all has no value
+  none_above : (m : M) (e : K × V) → S m (f e.0) ≡ Equal → (es : List (K × V)) → All (λ x. R e.0 x.0 ≡ Less) es → last_value S m (entries_by f g es) ≡ None
+  none_above m e t [] h = refl
+  none_above m e t (d ∷ ds) h =
+      let less : S m (f d.0) ≡ Less = o.congr m (f e.0) (f d.0) t ∙ (sym (by e.0 d.0) ∙ All-head (λ (x : K × V). R e.0 x.0 ≡ Less) d ds h) in
+      (λ i. choice (none_above m e t ds (All-tail (λ (x : K × V). R e.0 x.0 ≡ Less) d ds h) i) (cond (is_eq (less i)) (Some (g d.1)) None))
+
+  -- where the next entry has the key, this one's value is not the last
+  passed_over : (m : M) (e : K × V) (es : List (K × V)) → comes_again R e.0 es ≡ true → choice (last_value S m (entries_by f g es)) (cond (is_eq (S m (f e.0))) (Some (g e.1)) None) ≡ last_value S m (entries_by f g es)
+  passed_over m e [] again = cc
+  passed_over m e (d ∷ ds) again =
+      let alike : S m (f d.0) ≡ S m (f e.0) = alike_right o (f d.0) (f e.0) m (sym (by d.0 e.0) ∙ (Equal-is (R d.0 e.0)).0 again) in
+      ap (λ r. choice (choice (last_value S m (entries_by f g ds)) (cond (is_eq (S m (f d.0))) (Some (g d.1)) None)) (cond (is_eq r) (Some (g e.1)) None)) (sym alike)
+      ∙ by_test (last_value S m (entries_by f g ds)) (is_eq (S m (f d.0)))
+    where
+      by_test : (v : Option X) (b : Bool) → choice (choice v (cond b (Some (g d.1)) None)) (cond b (Some (g e.1)) None) ≡ choice v (cond b (Some (g d.1)) None)
+      by_test (Some x) b = refl
+      by_test None true = refl
+      by_test None false = refl
+
+  find_ends : (es : List (K × V)) → IsSortedByKey (λ (e : K × V). e.0) R es → (m : M) → fin.find S m (entries_by f g (run_ends R es)) ≡ last_value S m (entries_by f g es)
+  find_ends [] up m = refl
+  find_ends (e ∷ es) up m =
+      let rest = find_ends es (tail_up (order f R S o by) e es up) m in
+      elim (comes_again R e.0 es)
+      as (λ b. comes_again R e.0 es ≡ b → fin.find S m (entries_by f g (cond b (run_ends R es) (e ∷ run_ends R es))) ≡ choice (last_value S m (entries_by f g es)) (cond (is_eq (S m (f e.0))) (Some (g e.1)) None)) [
+        | true ↦ λ h. rest ∙ sym (passed_over m e es h)
+        | false ↦ λ h. elim (S m (f e.0))
+          as (λ r. S m (f e.0) ≡ r → cond (is_eq r) (Some (g e.1)) (fin.find S m (entries_by f g (run_ends R es))) ≡ choice (last_value S m (entries_by f g es)) (cond (is_eq r) (Some (g e.1)) None)) [
+            | Less ↦ λ t. rest ∙ sym (choice-none _)
+            | Equal ↦ λ t. ap (λ v. choice v (Some (g e.1))) (sym (none_above m e t es (above_ends (order f R S o by) e es h up)))
+            | Greater ↦ λ t. rest ∙ sym (choice-none _)
+          ] refl
+      ] refl
+
+module _ {K V M : Type 0} (f : K → M) (g : V → List ℕ) (R : K → K → Ordering) (S : M → M → Ordering) (o : IsTotalOrder S) (same : IsAntisymmetric S) (by : (x y : K) → R x y ≡ S (f x) (f y)) (es last : List (K × V)) (are : AreLast R es last) where
+  pub lasts_rise : Rises S (entries_by f g last)
+  lasts_rise = sorted_entries f g R S o same by last (last_rise (order f R S o by) es last are)
+
+  -- the map of the last entries is that of all
+  pub lasts_map : fin.from_sorted {R = S} (entries_by f g last) ≡ map_of (entries_by f g es)
+  lasts_map = fin.same_map o same _ _ (λ q.
+      fin.get-from_sorted S (entries_by f g last) q lasts_rise
+      ∙ (ap (λ l. fin.find S q (entries_by f g l)) are.last_is
+      ∙ (find_ends f g R S o by are.sorted are.rise q
+      ∙ (same_last f g R S o by es are.sorted are.stable q ∙ sym (get-map_of o same (entries_by f g es) q)))))
+
+  -- and they are its entries
+  pub lasts_are : entries_by f g last ≡ fin.entries {R = S} (map_of (entries_by f g es))
+  lasts_are = sym (fin.entries-from_sorted S (entries_by f g last) lasts_rise) ∙ ap fin.entries lasts_map
