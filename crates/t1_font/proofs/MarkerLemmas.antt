@@ -1,7 +1,6 @@
--- Markers are read as they are spelled, and begin with their own text.
-use Rattle.std.proofs.Common.{◌≡◌, ℕ, ◌+◌, ◌≤◌, List, [], ◌++◌, length, Some, refl, ap, ◌∙◌}
+-- Markers are read as they are spelled.
+use Rattle.std.proofs.Common.{◌≡◌, ℕ, List, [], ◌++◌, Some, ap, ◌∙◌}
 use Rattle.std.specs.Prelude.{codes}
-use Rattle.bstr.specs.Find.{OccursAt, Nowhere}
 use Rattle.t1_bytes.specs.Grammar.{Grammar, first}
 use Rattle.t1_bytes.proofs.Grammars.{IsExact, pure_exact, bind_exact, that_exact, run_exact, fixed_exact, before_exact, either_exact, first_exact}
 use Rattle.t1_font.specs.Markers.{encoding_marker, subrs_marker, chars_marker, len_iv_marker, len_iv, closefile}
@@ -11,7 +10,6 @@ use Rattle.t1_bytes.proofs.EexecLemmas.{white_exact, gap_exact}
 use Rattle.t1_font.proofs.WordLemmas.{one_white_exact, word_exact, keyword_exact, decimal_exact, name_exact, phrase_exact}
 use Rattle.t1_font.proofs.SubrLemmas.{length_exact}
 use Rattle.t1_bytes.proofs.Grammars.{count_exact}
-use Rattle.t1_bytes.proofs.Places.{NoneBelow, Begins, more_none}
 
 pub encoding_marker_exact : IsExact encoding_marker
 unfolding encoding_marker
@@ -95,33 +93,7 @@ pub glyphs_end_exact : IsExact glyphs_end
 unfolding glyphs_end
 glyphs_end_exact = bind_exact _ _ white_exact (λ _. keyword_exact (codes "end"))
 
--- ---- where a marker's text stands
-
-pub subrs_begins : Begins (codes "/Subrs") subrs_marker
-unfolding subrs_marker
-subrs_begins bytes e = rw e refl
-
-pub subrs_none : (bytes : List ℕ) (from to : ℕ) → to ≤ length bytes + 1 → NoneBelow subrs_marker bytes from → Nowhere (OccursAt bytes (codes "/Subrs")) from to → NoneBelow subrs_marker bytes to
-subrs_none bytes from to = more_none (codes "/Subrs") subrs_marker subrs_begins bytes from to
-
-pub encoding_begins : Begins (codes "/Encoding") encoding_marker
-unfolding encoding_marker
-encoding_begins bytes e = rw e refl
-
-pub encoding_none : (bytes : List ℕ) (from to : ℕ) → to ≤ length bytes + 1 → NoneBelow encoding_marker bytes from → Nowhere (OccursAt bytes (codes "/Encoding")) from to → NoneBelow encoding_marker bytes to
-encoding_none bytes from to = more_none (codes "/Encoding") encoding_marker encoding_begins bytes from to
-
-pub chars_begins : Begins (codes "/CharStrings") chars_marker
-unfolding chars_marker
-chars_begins bytes e = rw e refl
-
-pub len_iv_begins : Begins (codes "/lenIV") len_iv_marker
-unfolding len_iv_marker
-len_iv_begins bytes e = rw e refl
-
-pub closefile_begins : Begins (codes "closefile") closefile
-unfolding closefile
-closefile_begins bytes e = e
+-- ---- the end of the private text
 
 -- the text through the first `closefile`
 pub close_parts : (bytes front own rest : List ℕ) → (first closefile).read bytes ≡ Some ((front, own), rest) → bytes ≡ (front ++ own) ++ rest

@@ -1,7 +1,10 @@
 -- The markers of font text: where its parts begin, and where a font's own text ends.
 use Rattle.std.specs.Prelude.{ℕ, not, nat_le, Bool, false, List, [], ◌∷◌, codes}
+use Rattle.std.specs.Option.{option_and_then}
+use Rattle.std.proofs.Common.{ap}
 use Rattle.t1_bytes.specs.Grammar.{Grammar, pure, ◌>>=◌, ◌>>◌, that, before, fixed}
 use Rattle.t1_bytes.specs.White.{is_white, white, gap}
+use Rattle.t1_bytes.proofs.Places.{Begins}
 use Rattle.t1_font.specs.Words.{is_regular, keyword, decimal}
 
 -- white space comes
@@ -55,3 +58,25 @@ len_iv = do
 
 unfoldable pub closefile : Grammar (List ℕ)
 closefile = fixed (codes "closefile")
+
+-- ---- the text that each begins with
+
+pub encoding_begins : Begins (codes "/Encoding") encoding_marker
+unfolding encoding_marker
+encoding_begins bytes none = ap (option_and_then _) none
+
+pub subrs_begins : Begins (codes "/Subrs") subrs_marker
+unfolding subrs_marker
+subrs_begins bytes none = ap (option_and_then _) none
+
+pub chars_begins : Begins (codes "/CharStrings") chars_marker
+unfolding chars_marker
+chars_begins bytes none = ap (option_and_then _) none
+
+pub len_iv_begins : Begins (codes "/lenIV") len_iv_marker
+unfolding len_iv_marker
+len_iv_begins bytes none = ap (option_and_then _) none
+
+pub closefile_begins : Begins (codes "closefile") closefile
+unfolding closefile
+closefile_begins bytes none = none

@@ -2,9 +2,7 @@
 
 ghost use Rattle.std.specs.Prelude.{◌≡◌, ◌++◌, ◌∷◌, [], ℕ, List, OnOk, Some, None, if◌then◌else◌};
 ghost use Rattle.std.specs.Option.{option_map};
-ghost use Rattle.t1_bytes.specs.Grammar.{first, table_at};
-ghost use Rattle.t1_font.specs.Words.{name};
-ghost use Rattle.t1_font.specs.Markers.{break_comes, encoding_marker};
+ghost use Rattle.t1_bytes.specs.Grammar.{table_at};
 ghost use Rattle.t1_font.specs.Encoding.{is_octal, octal_after, octal, code, code_entry, encoding_end, encoding_word, encoding_table, loop_range, loop_body, encoding_loop, encoding_start, readonly, may_be};
 ghost use Rattle.std.specs.FinMap as fin;
 ghost use Rattle.t1_font.specs.Entries.{map_of};
@@ -17,39 +15,9 @@ ghost use Rattle.t1_font.specs.Answers.{Shown, encoding_view, ShowsClear};
 
 use crate::fault::{ReadFault, TableError};
 use crate::gathered::Gathered;
-use crate::words::{decimal_at, is_regular, keyword_at, regular_at, word_at};
-use t1_bytes::texts::{find_from, fixed_at, gap_at, white_at};
-
-fn break_comes(bytes: &[u8]) -> bool
-    ensures { result ≡ break_comes bytes.now }
-{
-    !bytes.is_empty() && !is_regular(bytes[0])
-}
-
-/// The Encoding marker.
-#[tactic(auto, unfolding(crate::specs::Markers::encoding_marker))]
-fn encoding_marker_at(bytes: &[u8]) -> Option<&[u8]>
-    ensures { option_map (λ x. (tt, x.now)) result ≡ encoding_marker.read bytes.now }
-{
-    let (_, rest) = fixed_at(bytes, b"/Encoding")?;
-    if !break_comes(rest) {
-        return None;
-    }
-    Some(rest)
-}
-
-/// A slash and the name after it.
-#[tactic(auto, unfolding(crate::specs::Words::name))]
-pub fn name_at(bytes: &[u8]) -> Option<(&[u8], &[u8])>
-    ensures { option_map (λ x. (x.0.now, x.1.now)) result ≡ name.read bytes.now }
-{
-    let (_, rest) = fixed_at(bytes, b"/")?;
-    let (name, rest) = regular_at(rest);
-    if name.is_empty() || name.len() > 127 {
-        return None;
-    }
-    Some((name, rest))
-}
+use crate::markers::{EncodingMarker, first};
+use crate::words::{decimal_at, keyword_at, name_at, regular_at, word_at};
+use t1_bytes::texts::{fixed_at, gap_at, white_at};
 
 /// The number that 1 to 9 octal digits spell.
 fn octal_digits(digits: &[u8]) -> Option<u32>
@@ -248,21 +216,6 @@ fn puts_at<'a>(bytes: &'a [u8], gathered: &mut Gathered<'a>) -> Result<&'a [u8],
     }
 }
 
-/// What stands before the first Encoding marker, and what stands after it.
-fn first_encoding(bytes: &[u8]) -> Option<(&[u8], &[u8])>
-    ensures { option_map (λ x. ((x.0.now, tt), x.1.now)) result ≡ (first encoding_marker).read bytes.now }
-{
-    let mut from = 0;
-    'places: while let Some(place) = find_from(bytes, b"/Encoding", from) {
-        let (front, here) = bytes.split_at(place);
-        if let Some(rest) = encoding_marker_at(here) {
-            return Some((front, rest));
-        }
-        from = place + 1;
-    }
-    None
-}
-
 /// The Encoding: its word, or the names of codes, which are gathered.
 #[derive(Clone, Copy)]
 pub enum EncodingParts<'a> {
@@ -326,7 +279,7 @@ pub(crate) fn clear_parts<'a>(
     ensures shown { Shown (λ x c. ShowsClear x gathered.new.codes c) result (clear_pieces clear.now) }
     ensures others { OnOk result (CodesAlone gathered.old gathered.new) }
 {
-    let Some((head, after)) = first_encoding(clear) else {
+    let Some((head, _, after)) = first::<EncodingMarker>(clear) else {
         return Err(ReadFault::NoEncoding);
     };
     let Some((word, rest)) = encoding_start_at(after) else {

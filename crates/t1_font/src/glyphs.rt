@@ -12,11 +12,12 @@ ghost use Rattle.t1_font.specs.Gathering.{GlyphsAlone};
 ghost use Rattle.t1_font.specs.Held.{HoldsGlyphs, TableHeld};
 ghost use Rattle.t1_font.specs.Views.{glyph_view};
 
-use crate::encoding::name_at;
 use crate::fault::TableError;
 use crate::gathered::Gathered;
 use crate::subrs::length_at;
-use crate::words::{Phrase, Words, first_words, keyword_at, one_white_at, phrase_at, word_at};
+use crate::words::{
+    Phrase, Words, first_words, keyword_at, name_at, one_white_at, phrase_at, word_at,
+};
 use std::alloc::AllocError;
 use t1_bytes::texts::{count_at, gap_at, white_at};
 

@@ -17,7 +17,7 @@ ghost use Rattle.t1_font.specs.Held.{HoldsSubrs, HoldsGlyphs};
 use crate::fault::{ReadFault, TableError};
 use crate::gathered::Gathered;
 use crate::glyphs::{GlyphsParts, glyphs_at};
-use crate::markers::{first_chars, first_close, first_len_iv, first_subrs, len_iv_at};
+use crate::markers::{CharsMarker, Closefile, LenIvMarker, SubrsMarker, first, len_iv_at};
 use crate::subrs::{SubrsParts, subrs_at};
 
 /// The pieces of the private text; the tail is what stands through `closefile`. The charstrings are gathered.
@@ -44,7 +44,7 @@ pub struct Before<'a> {
 fn has_subrs(text: &[u8]) -> bool
     ensures { result ≡ has_subrs text.now }
 {
-    first_subrs(text).is_some()
+    first::<SubrsMarker>(text).is_some()
 }
 
 /// lenIV, by the text before the tables.
@@ -52,7 +52,7 @@ fn has_subrs(text: &[u8]) -> bool
 fn iv_of(private: &[u8]) -> Result<u8, ReadFault>
     ensures { Answers (λ n. n) result (iv_of private.now) }
 {
-    let Some((_, after)) = first_len_iv(private) else {
+    let Some((_, _, after)) = first::<LenIvMarker>(private) else {
         return Ok(4);
     };
     match len_iv_at(after) {
@@ -82,11 +82,9 @@ fn tail_after<'a>(middle: &[u8], rest: &'a [u8]) -> Result<&'a [u8], ReadFault>
 fn through_close(bytes: &[u8]) -> Option<&[u8]>
     ensures { option_map (λ x. x.now) result ≡ option_map (λ x. x.0.0 ++ x.0.1) ((first closefile).read bytes.now) }
 {
-    if let Some((front, own, _)) = first_close(bytes) {
-        let (through, _) = bytes.split_at(front.len() + own.len());
-        return Some(through);
-    }
-    None
+    let (_, _, rest) = first::<Closefile>(bytes)?;
+    let (through, _) = bytes.split_at(bytes.len() - rest.len());
+    Some(through)
 }
 
 /// The table of glyphs, in the last part of the private text.
@@ -193,7 +191,7 @@ fn tables_with<'a>(
 {
     let len_iv = iv_of(private)?;
     let (subrs, between) = subrs_parts(text, declared, len_iv, rest, gathered)?;
-    let Some((middle, glyphs)) = first_chars(between) else {
+    let Some((middle, _, glyphs)) = first::<CharsMarker>(between) else {
         return Err(ReadFault::BadGlyphs {
             at: text.len().saturating_sub(between.len()),
         });
@@ -218,14 +216,14 @@ pub(crate) fn private_parts<'a>(
     ensures shown { Shown (λ x p. ShowsPrivate x gathered.new p) result (private_pieces text.now) }
     ensures codes { OnOk result (gathered.new.codes ≡ gathered.old.codes) }
 {
-    let Some((front, after)) = first_chars(text) else {
+    let Some((front, _, after)) = first::<CharsMarker>(text) else {
         return Err(ReadFault::NoCharStrings);
     };
-    let Some((private, declared, entries)) = first_subrs(text) else {
+    let Some((private, subrs, entries)) = first::<SubrsMarker>(text) else {
         return tables_without(text, front, after, gathered);
     };
     if private.len() < front.len() {
-        return tables_with(text, private, declared, entries, gathered);
+        return tables_with(text, private, subrs.declared, entries, gathered);
     }
     tables_without(text, front, after, gathered)
 }

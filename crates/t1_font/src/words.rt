@@ -3,10 +3,10 @@
 ghost use Rattle.std.specs.Prelude.{◌≡◌, length, take_while, unwrap_or, Some, None, if◌then◌else◌};
 ghost use Rattle.std.specs.Option.{option_map};
 ghost use Rattle.t1_bytes.specs.Grammar.{run, that};
-ghost use Rattle.t1_font.specs.Words.{is_delimiter, is_regular, one_white, word, keyword, decimal, digits_after, is_decimal, is_access, phrase_of, passes};
+ghost use Rattle.t1_font.specs.Words.{is_delimiter, is_regular, one_white, word, keyword, decimal, digits_after, is_decimal, name, is_access, phrase_of, passes};
 ghost use Rattle.t1_font.specs.Views.{phrase_view, words_view};
 
-use t1_bytes::texts::{count_at, gap_at, is_white};
+use t1_bytes::texts::{count_at, fixed_at, gap_at, is_white};
 
 fn is_delimiter(byte: u8) -> bool
     ensures { result ≡ is_delimiter byte }
@@ -100,6 +100,19 @@ pub fn decimal_at(bytes: &[u8]) -> Option<(u32, &[u8])>
     let (digits, rest) = regular_at(bytes);
     let value = decimal_of(digits)?;
     Some((value, rest))
+}
+
+/// A slash and the name after it.
+#[tactic(auto, unfolding(crate::specs::Words::name))]
+pub fn name_at(bytes: &[u8]) -> Option<(&[u8], &[u8])>
+    ensures { option_map (λ x. (x.0.now, x.1.now)) result ≡ name.read bytes.now }
+{
+    let (_, rest) = fixed_at(bytes, b"/")?;
+    let (name, rest) = regular_at(rest);
+    if name.is_empty() || name.len() > 127 {
+        return None;
+    }
+    Some((name, rest))
 }
 
 /// One word, or an access word and one more.
