@@ -9,7 +9,7 @@ use Rattle.t1_subset.specs.Conflicts.{Conflict, conflict}
 use Rattle.t1_subset.specs.Profile.{profile}
 use Rattle.t1_subset.specs.Refusals.{Tells}
 use Rattle.t1_subset.specs.Trees.{Tree, Leaf, Both, left_tree, Merges}
-use Rattle.t1_subset.specs.Merging.{ComesTo, IsRefused, StopsAt}
+use Rattle.t1_subset.specs.Merger.{ComesTo, IsRefused, StopsAt}
 use Rattle.t1_subset.proofs.Conflicts.{no_conflict}
 use Rattle.t1_subset.proofs.Orders.{one_result}
 use Rattle.t1_cmd.specs.declared.faults.Reason.{Reason}

@@ -2,7 +2,7 @@
 ghost use Rattle.std.specs.Prelude.{◌≡◌, ◌+◌, ◌≤◌, ◌∷◌, [], List, ℕ, None, Ok, OnOk, IfOk, IfErr};
 ghost use Rattle.t1_subset.specs.Profile.{profile};
 ghost use Rattle.t1_subset.specs.Keep.{subset};
-ghost use Rattle.t1_subset.specs.Marks.{lent, asked};
+ghost use Rattle.t1_subset.specs.NameSets.{lent, asked};
 ghost use Rattle.t1_cmd.specs.Count.{calls_of, inner_of};
 ghost use Rattle.t1_cmd.specs.Inputs.{input_of, file_limit};
 ghost use Rattle.t1_cmd.specs.Runs.{RunEnds, Succeeds};
@@ -55,8 +55,8 @@ fn subset_file(
 }
 
 /// Writes the canonical file, in one of the two forms, of the subset of a font that keeps what these names need: their
-/// glyphs and `.notdef`, the parts of accented glyphs, and the Subrs that all of these execute. A name is without its
-/// `/`, and may be asked for more than once.
+/// glyphs and `.notdef`, the components of accented glyphs, and the Subrs that all of these execute. A name is without
+/// its `/`, and may be asked for more than once.
 ///
 /// A file that is no font is refused before a name that the font lacks; of several such names the first is told, as
 /// [`Reason::NoGlyph`].

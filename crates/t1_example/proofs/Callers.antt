@@ -32,7 +32,7 @@ use Rattle.t1_subset.proofs.Sets.{name_same, itself, or_left, or_right, in_list,
 use Rattle.t1_example.specs.declared.refusal.Refusal.{Refusal}
 use Rattle.t1_example.specs.Joining.{CanBeCut, IsMemory, union_subset}
 use Rattle.t1_subset.specs.declared.conflict.Conflict.{Conflict}
-use Rattle.t1_subset.specs.Merging.{MergesSubsets}
+use Rattle.t1_subset.specs.Merger.{MergesSubsets}
 
 -- a subset begins as its font does
 pub cut_fits : (form : Form) (f : FontValue) (a : Names) → Fits form f → Fits form (subset profile f a)

@@ -22,8 +22,8 @@ ghost use Rattle.t1_font.specs.WriteLaws.{Fits};
 ghost use Rattle.t1_subset.specs.Interpreter.{Names};
 ghost use Rattle.t1_subset.specs.Keep.{keep, subset};
 ghost use Rattle.t1_subset.specs.Laws.{AnswersAlike, IsOf};
-ghost use Rattle.t1_subset.specs.Marks.{asked};
-ghost use Rattle.t1_subset.specs.Merging.{MergesSubsets};
+ghost use Rattle.t1_subset.specs.NameSets.{asked};
+ghost use Rattle.t1_subset.specs.Merger.{MergesSubsets};
 ghost use Rattle.t1_subset.specs.Profile.{profile};
 ghost use Rattle.t1_example.specs.Joining.{AreSubsets, CanBeCut, IsMemory, union_subset};
 

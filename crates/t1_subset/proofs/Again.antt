@@ -11,10 +11,10 @@ use Rattle.t1_font.specs.FontValue.{FontValue, Encoding, Word, Codes, name_cmp, 
 use Rattle.t1_font.specs.Cut.{restrict, restrict_encoding, stub}
 use Rattle.t1_font.proofs.MapCuts.{get-map_values, get-retain}
 use Rattle.t1_subset.specs.Interpreter.{Interpreter, Names}
-use Rattle.t1_subset.specs.Keep.{has, charstring, parts, parts_here, keep, kept, subset}
+use Rattle.t1_subset.specs.Keep.{has, charstring, components, components_here, keep, kept, subset}
 use Rattle.t1_subset.proofs.Sets.{clash, is_or_not, name_same, same_members}
 use Rattle.t1_subset.proofs.Maps.{maps_same}
-use Rattle.t1_subset.proofs.Kept.{InFont, keep_has, keep_least, keep_closed, part_here, part_here_from, kept_cases, kept_low, kept_call, kept_more, calls}
+use Rattle.t1_subset.proofs.Kept.{InFont, keep_has, keep_least, keep_closed, component_here, component_here_from, kept_cases, kept_low, kept_call, kept_more, calls}
 use Rattle.t1_subset.proofs.JoinOfSubsets.{same_font}
 use Rattle.t1_subset.proofs.CutFonts.{get-glyph, has_some, runs_alike}
 
@@ -88,21 +88,21 @@ module _ {O : Type 0} (m : Interpreter O) (f : FontValue) (base : has f notdef �
   pub keep_in : (n : List ℕ) → sets.contains (keep m f a) n ≡ true → has sub n ≡ true
   keep_in n k = ap is_some (glyph_same n k) ∙ keep_has m f a n k
 
-  parts_same : (n : List ℕ) → sets.contains (keep m f a) n ≡ true → parts m sub.subrs (charstring sub n) ≡ parts m f.subrs (charstring f n)
-  parts_same n k =
+  components_same : (n : List ℕ) → sets.contains (keep m f a) n ≡ true → components m sub.subrs (charstring sub n) ≡ components m f.subrs (charstring f n)
+  components_same n k =
       let c = has_some (maps.get f.glyphs n) (keep_has m f a n k) in
-      ap (λ x. parts m sub.subrs (unwrap_or x [])) (glyph_same n k ∙ c.1) ∙ ap m.names (runs_alike m f base a inside n c.0 k c.1).0 ∙ ap (λ x. parts m f.subrs (unwrap_or x [])) (sym c.1)
+      ap (λ x. components m sub.subrs (unwrap_or x [])) (glyph_same n k ∙ c.1) ∙ ap m.names (runs_alike m f base a inside n c.0 k c.1).0 ∙ ap (λ x. components m f.subrs (unwrap_or x [])) (sym c.1)
 
   calls_same : (n : List ℕ) → sets.contains (keep m f a) n ≡ true → calls m sub n ≡ calls m f n
   calls_same n k =
       let c = has_some (maps.get f.glyphs n) (keep_has m f a n k) in
       ap (λ x. m.exec sub.subrs (unwrap_or x [])) (glyph_same n k ∙ c.1) ∙ (runs_alike m f base a inside n c.0 k c.1).1 ∙ ap (λ x. m.exec f.subrs (unwrap_or x [])) (sym c.1)
 
-  part_down : (n p : List ℕ) → sets.contains (keep m f a) n ≡ true → sets.contains (parts_here m f n) p ≡ true → sets.contains (parts_here m sub n) p ≡ true
-  part_down n p k h = part_here_from m sub n p (ap (list_any (eq_by_cmp name_cmp p)) (parts_same n k) ∙ (part_here m f n p h).0) (keep_in p ((keep_closed m f a base inside).parts n p k h))
+  component_down : (n p : List ℕ) → sets.contains (keep m f a) n ≡ true → sets.contains (components_here m f n) p ≡ true → sets.contains (components_here m sub n) p ≡ true
+  component_down n p k h = component_here_from m sub n p (ap (list_any (eq_by_cmp name_cmp p)) (components_same n k) ∙ (component_here m f n p h).0) (keep_in p ((keep_closed m f a base inside).components n p k h))
 
-  part_up : (n p : List ℕ) → sets.contains (keep m f a) n ≡ true → sets.contains (parts_here m sub n) p ≡ true → sets.contains (parts_here m f n) p ≡ true
-  part_up n p k h = part_here_from m f n p (sym (ap (list_any (eq_by_cmp name_cmp p)) (parts_same n k)) ∙ (part_here m sub n p h).0) (keep_has m f a p (in_keep p (part_here m sub n p h).1))
+  component_up : (n p : List ℕ) → sets.contains (keep m f a) n ≡ true → sets.contains (components_here m sub n) p ≡ true → sets.contains (components_here m f n) p ≡ true
+  component_up n p k h = component_here_from m f n p (sym (ap (list_any (eq_by_cmp name_cmp p)) (components_same n k)) ∙ (component_here m sub n p h).0) (keep_has m f a p (in_keep p (component_here m sub n p h).1))
 
   pub base_kept : has sub notdef ≡ true
   base_kept = keep_in notdef (keep_closed m f a base inside).notdef
@@ -114,16 +114,16 @@ module _ {O : Type 0} (m : Interpreter O) (f : FontValue) (base : has f notdef �
     keep_less : (n : List ℕ) → sets.contains (keep m f b) n ≡ true → sets.contains (keep m f a) n ≡ true
     keep_less n h =
         let closed = keep_closed m f a base inside in
-        keep_least m f b (keep m f a) (keep_has m f a) (record { asked = λ n h. in_keep n (within n h); notdef = closed.notdef; parts = closed.parts }) n h
+        keep_least m f b (keep m f a) (keep_has m f a) (record { asked = λ n h. in_keep n (within n h); notdef = closed.notdef; components = closed.components }) n h
 
     pub keep_again : keep m sub b ≡ keep m f b
     keep_again =
         let here = keep_closed m f b base in_font in
         let there = keep_closed m sub b base_kept within in
         same_members nat_list_cmp_total name_same (keep m sub b) (keep m f b)
-        (λ n h. keep_least m sub b (keep m f b) (λ q w. keep_in q (keep_less q w)) (record { asked = here.asked; notdef = here.notdef; parts = λ q p w part. here.parts q p w (part_up q p (keep_less q w) part) }) n h)
+        (λ n h. keep_least m sub b (keep m f b) (λ q w. keep_in q (keep_less q w)) (record { asked = here.asked; notdef = here.notdef; components = λ q p w component. here.components q p w (component_up q p (keep_less q w) component) }) n h)
         (λ n h. keep_least m f b (keep m sub b) (λ q w. keep_has m f a q (in_keep q (keep_has m sub b q w)))
-        (record { asked = there.asked; notdef = there.notdef; parts = λ q p w part. there.parts q p w (part_down q p (in_keep q (keep_has m sub b q w)) part) }) n h)
+        (record { asked = there.asked; notdef = there.notdef; components = λ q p w component. there.components q p w (component_down q p (in_keep q (keep_has m sub b q w)) component) }) n h)
 
     pub kept_again : kept m sub b ≡ kept m f b
     kept_again = same_members nat_cmp_total nat_cmp-IsAntisymmetric (kept m sub b) (kept m f b)

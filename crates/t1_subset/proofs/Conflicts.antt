@@ -12,9 +12,9 @@ use Rattle.t1_font.specs.FontValue.{FontValue, Shell, Encoding, Word, Codes, wei
 use Rattle.t1_font.specs.FontModel.{of_subrs}
 use Rattle.t1_font.specs.WriteLaws.{SameKind}
 use Rattle.t1_font.proofs.MapCuts.{Some_same, Some_None, get-map_values}
-use Rattle.t1_subset.specs.Conflicts.{ShellPart, Head, EncodingPart, ClearTail, Private, SubrsTable, SubrsWords, Middle, GlyphsWords, Tail, Conflict, ShellDiffers, CodeDiffers, GlyphDiffers, PartLacks, SubrDiffers, OverLimit, first_where, members, smallest, found, keys_of_both, agrees, same_number, same_bool, same_words, same_keys, same_kind, codes_of_both, executes, calls_for, called_at, wants, same_part, code_clashes, glyph_clashes, glyph_names, wanted_by, part_clashes, subr_clashes, used_by, is_within, shell_conflict, code_conflict, glyph_conflict, part_conflict, subr_conflict, states_conflict, conflict}
-use Rattle.t1_subset.specs.Interpreter.{Interpreter, is_name}
-use Rattle.t1_subset.specs.Keep.{has, parts}
+use Rattle.t1_subset.specs.Conflicts.{ShellPart, Head, EncodingPart, ClearTail, Private, SubrsTable, SubrsWords, Middle, GlyphsWords, Tail, Conflict, ShellDiffers, CodeDiffers, GlyphDiffers, LacksComponent, SubrDiffers, OverLimit, first_where, members, smallest, found, keys_of_both, agrees, same_number, same_bool, same_words, same_keys, same_kind, codes_of_both, executes, calls_for, called_at, wants, same_part, code_clashes, glyph_clashes, glyph_names, wanted_by, component_clashes, subr_clashes, used_by, is_within, shell_conflict, code_conflict, glyph_conflict, component_conflict, subr_conflict, states_conflict, conflict}
+use Rattle.t1_subset.specs.Interpreter.{Interpreter, same_bytes}
+use Rattle.t1_subset.specs.Keep.{has, components}
 use Rattle.t1_subset.specs.States.{IsWithin, Agree, joined, code_state, is_sought, subr_state, state_of_glyph, state_of_entry, joined_font, Compatible, Join}
 use Rattle.t1_subset.proofs.Flat.{agree_back}
 use Rattle.t1_subset.proofs.Maps.{any_in, any_of, get-merged, maps_same}
@@ -126,7 +126,7 @@ agrees_so (Some v) (Some w) h = tied nat_list_cmp_total name_same v w h
 pub so_agrees : (x y : Option (List ℕ)) → Agree x y → agrees x y ≡ true
 so_agrees None y h = refl
 so_agrees (Some v) None h = refl
-so_agrees (Some v) (Some w) h = ap (λ u. is_name v u) (sym h) ∙ itself nat_list_cmp_total name_same v
+so_agrees (Some v) (Some w) h = ap (λ u. same_bytes v u) (sym h) ∙ itself nat_list_cmp_total name_same v
 
 -- a test that decides equality is the same both ways
 pub test_back : {X : Type 0} (t : X → X → Bool) → ((x y : X) → t x y ≡ true → x ≡ y) → ((x : X) → t x x ≡ true) → (x y : X) → t x y ≡ t y x
@@ -149,8 +149,8 @@ module _ {X : Type 0} (t : X → X → Bool) where
   pub swaps : Decides → (x y : X) → t x y ≡ t y x
   swaps d = test_back t d.so d.self
 
-pub names_decide : Decides is_name
-names_decide = record { so = tied nat_list_cmp_total name_same; self = itself nat_list_cmp_total name_same }
+pub bytes_decide : Decides same_bytes
+bytes_decide = record { so = tied nat_list_cmp_total name_same; self = itself nat_list_cmp_total name_same }
 
 pub numbers_decide : Decides same_number
 numbers_decide = record { so = tied nat_cmp_total nat_cmp-IsAntisymmetric; self = itself nat_cmp_total nat_cmp-IsAntisymmetric }
@@ -173,34 +173,34 @@ subrs_so None None p d w = refl
 subrs_so None (Some t) p d w = absurd (true≢false (sym p))
 subrs_so (Some s) None p d w = absurd (true≢false p)
 subrs_so (Some s) (Some t) p d w =
-    let rd = names_decide.so s.rd t.rd (first_so (is_name s.rd t.rd) _ w) in
-    let more = second_so (is_name s.rd t.rd) _ w in
-    let put = names_decide.so s.put t.put (first_so (is_name s.put t.put) _ more) in
-    let closing = names_decide.so s.closing t.closing (second_so (is_name s.put t.put) _ more) in
+    let rd = bytes_decide.so s.rd t.rd (first_so (same_bytes s.rd t.rd) _ w) in
+    let more = second_so (same_bytes s.rd t.rd) _ w in
+    let put = bytes_decide.so s.put t.put (first_so (same_bytes s.put t.put) _ more) in
+    let closing = bytes_decide.so s.closing t.closing (second_so (same_bytes s.put t.put) _ more) in
     λ i. Some (record { declared = d i; rd = rd i; put = put i; closing = closing i })
 
 words_self : (s : Option SubrsShell) → same_words s s ≡ true
-words_self s = and_so (is_name (of_subrs (λ w. w.rd) s) (of_subrs (λ w. w.rd) s)) _ (names_decide.self (of_subrs (λ w. w.rd) s))
-    (and_so (is_name (of_subrs (λ w. w.put) s) (of_subrs (λ w. w.put) s)) _ (names_decide.self (of_subrs (λ w. w.put) s)) (names_decide.self (of_subrs (λ w. w.closing) s)))
+words_self s = and_so (same_bytes (of_subrs (λ w. w.rd) s) (of_subrs (λ w. w.rd) s)) _ (bytes_decide.self (of_subrs (λ w. w.rd) s))
+    (and_so (same_bytes (of_subrs (λ w. w.put) s) (of_subrs (λ w. w.put) s)) _ (bytes_decide.self (of_subrs (λ w. w.put) s)) (bytes_decide.self (of_subrs (λ w. w.closing) s)))
 
 words_swap : (s t : Option SubrsShell) → same_words s t ≡ same_words t s
-words_swap s t = λ i. swaps is_name names_decide (of_subrs (λ w. w.rd) s) (of_subrs (λ w. w.rd) t) i
-    && (swaps is_name names_decide (of_subrs (λ w. w.put) s) (of_subrs (λ w. w.put) t) i && swaps is_name names_decide (of_subrs (λ w. w.closing) s) (of_subrs (λ w. w.closing) t) i)
+words_swap s t = λ i. swaps same_bytes bytes_decide (of_subrs (λ w. w.rd) s) (of_subrs (λ w. w.rd) t) i
+    && (swaps same_bytes bytes_decide (of_subrs (λ w. w.put) s) (of_subrs (λ w. w.put) t) i && swaps same_bytes bytes_decide (of_subrs (λ w. w.closing) s) (of_subrs (λ w. w.closing) t) i)
 
 kind_so : (d e : Encoding) → same_kind d e ≡ true → SameKind d e
-kind_so (Word v) (Word w) h = names_decide.so v w h
+kind_so (Word v) (Word w) h = bytes_decide.so v w h
 kind_so (Word v) (Codes t) h = true≢false (sym h)
 kind_so (Codes s) (Word w) h = true≢false (sym h)
 kind_so (Codes s) (Codes t) h = tt
 
 so_kind : (d e : Encoding) → SameKind d e → same_kind d e ≡ true
-so_kind (Word v) (Word w) h = is_same is_name names_decide v w h
+so_kind (Word v) (Word w) h = is_same same_bytes bytes_decide v w h
 so_kind (Word v) (Codes t) h = absurd h
 so_kind (Codes s) (Word w) h = absurd h
 so_kind (Codes s) (Codes t) h = refl
 
 pub kind_swap : (d e : Encoding) → same_kind d e ≡ same_kind e d
-kind_swap (Word v) (Word w) = swaps is_name names_decide v w
+kind_swap (Word v) (Word w) = swaps same_bytes bytes_decide v w
 kind_swap (Word v) (Codes t) = refl
 kind_swap (Codes s) (Word w) = refl
 kind_swap (Codes s) (Codes t) = refl
@@ -209,7 +209,7 @@ pub agrees_swap : (x y : Option (List ℕ)) → agrees x y ≡ agrees y x
 agrees_swap None None = refl
 agrees_swap None (Some w) = refl
 agrees_swap (Some v) None = refl
-agrees_swap (Some v) (Some w) = swaps is_name names_decide v w
+agrees_swap (Some v) (Some w) = swaps same_bytes bytes_decide v w
 
 pub agrees_none : (x y : Option (List ℕ)) → is_some y ≡ false → agrees x y ≡ true
 agrees_none None y h = refl
@@ -222,18 +222,18 @@ codes_swap (Word v) (Codes t) = refl
 codes_swap (Codes s) (Word w) = refl
 codes_swap (Codes s) (Codes t) = both_back nat_cmp_total nat_cmp-IsAntisymmetric s t
 
--- ---- parts that are lacking
+-- ---- components that are lacking
 
 module _ {O : Type 0} (m : Interpreter O) where
-  -- some glyph calls for the part exactly where the part is sought
+  -- some glyph calls for the component exactly where the component is sought
   pub wanting : (f g : FontValue) (p : List ℕ) → is_sought m f p ≡ true → (n : List ℕ) × (maps.contains_key (glyph_names f g) n ≡ true) × (calls_for m f n p ≡ true)
   wanting f g p h =
-      let r = any_in nat_list_cmp_total name_same (λ n c. list_any (is_name p) (parts m f.subrs c)) f.glyphs h in
+      let r = any_in nat_list_cmp_total name_same (λ n c. list_any (same_bytes p) (components m f.subrs c)) f.glyphs h in
       (r.0, in_both nat_list_cmp_total name_same f.glyphs g.glyphs r.0 ∙ ap (λ b. b || has g r.0) (ap is_some r.2), ap (called_at m f p) r.2 ∙ r.3)
 
   called_sought : (f : FontValue) (p n : List ℕ) (x : Option (List ℕ)) → maps.get f.glyphs n ≡ x → called_at m f p x ≡ true → is_sought m f p ≡ true
   called_sought f p n None e h = absurd (true≢false (sym h))
-  called_sought f p n (Some c) e h = any_of nat_list_cmp_total name_same (λ n c. list_any (is_name p) (parts m f.subrs c)) f.glyphs n c e h
+  called_sought f p n (Some c) e h = any_of nat_list_cmp_total name_same (λ n c. list_any (same_bytes p) (components m f.subrs c)) f.glyphs n c e h
 
   pub sought : (f : FontValue) (p n : List ℕ) → calls_for m f n p ≡ true → is_sought m f p ≡ true
   sought f p n h = called_sought f p n (maps.get f.glyphs n) refl h
@@ -246,20 +246,20 @@ module _ {O : Type 0} (m : Interpreter O) where
   module _ (f g : FontValue) where
     same_shells : AllByRecursion (λ part. not (same_part f g part) ≡ false) (Head ∷ EncodingPart ∷ ClearTail ∷ Private ∷ SubrsTable ∷ SubrsWords ∷ Middle ∷ GlyphsWords ∷ Tail ∷ []) → f.shell ≡ g.shell
     same_shells h =
-        let head = names_decide.so f.shell.head g.shell.head (not_false _ h.0) in
-        let clear_tail = names_decide.so f.shell.clear_tail g.shell.clear_tail (not_false _ h.1.1.0) in
+        let head = bytes_decide.so f.shell.head g.shell.head (not_false _ h.0) in
+        let clear_tail = bytes_decide.so f.shell.clear_tail g.shell.clear_tail (not_false _ h.1.1.0) in
         let privates = not_false _ h.1.1.1.0 in
-        let private = names_decide.so f.shell.private g.shell.private (first_so (is_name f.shell.private g.shell.private) _ privates) in
-        let len_iv = numbers_decide.so f.shell.len_iv g.shell.len_iv (second_so (is_name f.shell.private g.shell.private) _ privates) in
+        let private = bytes_decide.so f.shell.private g.shell.private (first_so (same_bytes f.shell.private g.shell.private) _ privates) in
+        let len_iv = numbers_decide.so f.shell.len_iv g.shell.len_iv (second_so (same_bytes f.shell.private g.shell.private) _ privates) in
         let table = not_false _ h.1.1.1.1.0 in
         let there = bools_decide.so (is_some f.shell.subrs) (is_some g.shell.subrs) (first_so (same_bool (is_some f.shell.subrs) (is_some g.shell.subrs)) _ table) in
         let count = numbers_decide.so (declared_count f.shell.subrs) (declared_count g.shell.subrs) (first_so (same_number (declared_count f.shell.subrs) (declared_count g.shell.subrs)) _ (second_so (same_bool (is_some f.shell.subrs) (is_some g.shell.subrs)) _ table)) in
         let subrs = subrs_so f.shell.subrs g.shell.subrs there count (not_false _ h.1.1.1.1.1.0) in
-        let middle = names_decide.so f.shell.middle g.shell.middle (not_false _ h.1.1.1.1.1.1.0) in
+        let middle = bytes_decide.so f.shell.middle g.shell.middle (not_false _ h.1.1.1.1.1.1.0) in
         let words = not_false _ h.1.1.1.1.1.1.1.0 in
-        let rd = names_decide.so f.shell.glyphs_rd g.shell.glyphs_rd (first_so (is_name f.shell.glyphs_rd g.shell.glyphs_rd) _ words) in
-        let def = names_decide.so f.shell.glyphs_def g.shell.glyphs_def (second_so (is_name f.shell.glyphs_rd g.shell.glyphs_rd) _ words) in
-        let tail = names_decide.so f.shell.tail g.shell.tail (not_false _ h.1.1.1.1.1.1.1.1.0) in
+        let rd = bytes_decide.so f.shell.glyphs_rd g.shell.glyphs_rd (first_so (same_bytes f.shell.glyphs_rd g.shell.glyphs_rd) _ words) in
+        let def = bytes_decide.so f.shell.glyphs_def g.shell.glyphs_def (second_so (same_bytes f.shell.glyphs_rd g.shell.glyphs_rd) _ words) in
+        let tail = bytes_decide.so f.shell.tail g.shell.tail (not_false _ h.1.1.1.1.1.1.1.1.0) in
         λ i. record { head = head i; clear_tail = clear_tail i; private = private i; middle = middle i; tail = tail i; len_iv = len_iv i; subrs = subrs i; glyphs_rd = rd i; glyphs_def = def i }
 
     table_keys : same_part f g SubrsTable ≡ true → same_keys f.subrs g.subrs ≡ true
@@ -293,8 +293,8 @@ module _ {O : Type 0} (m : Interpreter O) where
       | inr k ↦ agrees_none (subr_state m f i) (subr_state m g i) (no_state i (maps.get g.subrs i) (not_so (maps.contains_key g.subrs i) (λ w. clash (maps.contains_key (keys_of_both f.subrs g.subrs) i) (in_both nat_cmp_total nat_cmp-IsAntisymmetric f.subrs g.subrs i ∙ or_right (maps.contains_key f.subrs i) (maps.contains_key g.subrs i) w) k)))
     ]
 
-    -- a part that f lacks and seeks, and g has, clashes
-    lacks_clashes : (p : List ℕ) → has f p ≡ false → is_sought m f p ≡ true → has g p ≡ true → part_clashes m f g p ≡ true
+    -- a component that f lacks and seeks, and g has, clashes
+    lacks_clashes : (p : List ℕ) → has f p ≡ false → is_sought m f p ≡ true → has g p ≡ true → component_clashes m f g p ≡ true
     lacks_clashes p l s h =
         let w = wanting f g p s in
         and_so (has f p || has g p) (list_any (wanted_by m f g p) (members (glyph_names f g))) (or_right (has f p) (has g p) h)
@@ -307,15 +307,15 @@ module _ {O : Type 0} (m : Interpreter O) where
     wanted_back : (p : List ℕ) → wanted_by m f g p ≡ wanted_by m g f p
     wanted_back p = λ i n. or_swap (wants m f n p) (wants m g n p) i
 
-    part_back : (p : List ℕ) → part_clashes m f g p ≡ part_clashes m g f p
-    part_back p = λ i. or_swap (has f p) (has g p) i && list_any (wanted_back p i) (members (names_back i))
+    component_back : (p : List ℕ) → component_clashes m f g p ≡ component_clashes m g f p
+    component_back p = λ i. or_swap (has f p) (has g p) i && list_any (wanted_back p i) (members (names_back i))
 
   module _ (f g : FontValue) where
-    no_part_clash : part_conflict m f g ≡ None → (p : List ℕ) → has g p ≡ true → part_clashes m f g p ≡ false
-    no_part_clash h p k = smallest_none nat_list_cmp_total name_same (part_clashes m f g) (glyph_names f g) p h (in_both nat_list_cmp_total name_same f.glyphs g.glyphs p ∙ or_right (has f p) (has g p) k)
+    no_component_clash : component_conflict m f g ≡ None → (p : List ℕ) → has g p ≡ true → component_clashes m f g p ≡ false
+    no_component_clash h p k = smallest_none nat_list_cmp_total name_same (component_clashes m f g) (glyph_names f g) p h (in_both nat_list_cmp_total name_same f.glyphs g.glyphs p ∙ or_right (has f p) (has g p) k)
 
-    part_conflict_back : part_conflict m f g ≡ part_conflict m g f
-    part_conflict_back = λ i. smallest (λ p. part_back f g p i) (names_back f g i)
+    component_conflict_back : component_conflict m f g ≡ component_conflict m g f
+    component_conflict_back = λ i. smallest (λ p. component_back f g p i) (names_back f g i)
 
     lone_agrees : (b : Bool) (c : List ℕ) → b ≡ false → Agree {V = Option (List ℕ)} (cond b (Some None) None) (Some (Some c))
     lone_agrees true c h = absurd (true≢false h)
@@ -326,14 +326,14 @@ module _ {O : Type 0} (m : Interpreter O) where
     both_lack true false = tt
     both_lack false t = tt
 
-    lacking_agrees : part_conflict m f g ≡ None → (n d : List ℕ) → maps.get f.glyphs n ≡ None → maps.get g.glyphs n ≡ Some d → Agree (state_of_glyph m f n None) (state_of_glyph m g n (Some d))
-    lacking_agrees h n d l k = lone_agrees (is_sought m f n) d (not_so (is_sought m f n) (λ s. clash (part_clashes m f g n) (lacks_clashes f g n (ap is_some l) s (ap is_some k)) (no_part_clash h n (ap is_some k))))
+    lacking_agrees : component_conflict m f g ≡ None → (n d : List ℕ) → maps.get f.glyphs n ≡ None → maps.get g.glyphs n ≡ Some d → Agree (state_of_glyph m f n None) (state_of_glyph m g n (Some d))
+    lacking_agrees h n d l k = lone_agrees (is_sought m f n) d (not_so (is_sought m f n) (λ s. clash (component_clashes m f g n) (lacks_clashes f g n (ap is_some l) s (ap is_some k)) (no_component_clash h n (ap is_some k))))
 
-  names_at : (f g : FontValue) → part_conflict m f g ≡ None → (n : List ℕ) (x y : Option (List ℕ)) → maps.get f.glyphs n ≡ x → maps.get g.glyphs n ≡ y → agrees x y ≡ true → Agree (state_of_glyph m f n x) (state_of_glyph m g n y)
+  names_at : (f g : FontValue) → component_conflict m f g ≡ None → (n : List ℕ) (x y : Option (List ℕ)) → maps.get f.glyphs n ≡ x → maps.get g.glyphs n ≡ y → agrees x y ≡ true → Agree (state_of_glyph m f n x) (state_of_glyph m g n y)
   names_at f g h n None None k l a = both_lack f g (is_sought m f n) (is_sought m g n)
   names_at f g h n None (Some d) k l a = lacking_agrees f g h n d k l
-  names_at f g h n (Some c) None k l a = agree_back (state_of_glyph m g n None) (Some (Some c)) (lacking_agrees g f (sym (part_conflict_back f g) ∙ h) n c l k)
-  names_at f g h n (Some c) (Some d) k l a = ap Some (names_decide.so c d a)
+  names_at f g h n (Some c) None k l a = agree_back (state_of_glyph m g n None) (Some (Some c)) (lacking_agrees g f (sym (component_conflict_back f g) ∙ h) n c l k)
+  names_at f g h n (Some c) (Some d) k l a = ap Some (bytes_decide.so c d a)
 
   module _ (f g : FontValue) where
     pub compatible : states_conflict m f g ≡ None → Compatible m f g
@@ -341,7 +341,7 @@ module _ {O : Type 0} (m : Interpreter O) where
         let a = found_none ShellDiffers (shell_conflict f g) _ h in
         let b = found_none CodeDiffers (code_conflict f g) _ a.1 in
         let c = found_none GlyphDiffers (glyph_conflict f g) _ b.1 in
-        let d = found_none (λ p. PartLacks (unwrap_or (smallest (wanted_by m f g p) (glyph_names f g)) []) p) (part_conflict m f g) _ c.1 in
+        let d = found_none (λ p. LacksComponent (unwrap_or (smallest (wanted_by m f g p) (glyph_names f g)) []) p) (component_conflict m f g) _ c.1 in
         let e = found_none (λ i. SubrDiffers i (smallest (used_by m f g i) (glyph_names f g))) (subr_conflict m f g) None d.1 in
         let shells = none_passes (λ part. not (same_part f g part)) (Head ∷ EncodingPart ∷ ClearTail ∷ Private ∷ SubrsTable ∷ SubrsWords ∷ Middle ∷ GlyphsWords ∷ Tail ∷ []) a.0 in
         record {
@@ -366,26 +366,26 @@ module _ {O : Type 0} (m : Interpreter O) (f g : FontValue) (c : Compatible m f 
   shell_so t d part = is_same t d (part f.shell) (part g.shell) (ap part c.shells)
 
   part_so : (part : ShellPart) → not (same_part f g part) ≡ false
-  part_so Head = false_of _ (shell_so is_name names_decide (λ s. s.head))
+  part_so Head = false_of _ (shell_so same_bytes bytes_decide (λ s. s.head))
   part_so EncodingPart = false_of _ (so_kind f.encoding g.encoding c.kinds)
-  part_so ClearTail = false_of _ (shell_so is_name names_decide (λ s. s.clear_tail))
-  part_so Private = false_of _ (and_so (is_name f.shell.private g.shell.private) (same_number f.shell.len_iv g.shell.len_iv) (shell_so is_name names_decide (λ s. s.private)) (shell_so same_number numbers_decide (λ s. s.len_iv)))
+  part_so ClearTail = false_of _ (shell_so same_bytes bytes_decide (λ s. s.clear_tail))
+  part_so Private = false_of _ (and_so (same_bytes f.shell.private g.shell.private) (same_number f.shell.len_iv g.shell.len_iv) (shell_so same_bytes bytes_decide (λ s. s.private)) (shell_so same_number numbers_decide (λ s. s.len_iv)))
   part_so SubrsTable = false_of _ (and_so (same_bool (is_some f.shell.subrs) (is_some g.shell.subrs)) _ (shell_so same_bool bools_decide (λ s. is_some s.subrs))
       (and_so (same_number (declared_count f.shell.subrs) (declared_count g.shell.subrs)) _ (shell_so same_number numbers_decide (λ s. declared_count s.subrs)) (so_keys nat_cmp_total nat_cmp-IsAntisymmetric f.subrs g.subrs c.present)))
   part_so SubrsWords = false_of _ (ap (λ (s : Shell). same_words f.shell.subrs s.subrs) (sym c.shells) ∙ words_self f.shell.subrs)
-  part_so Middle = false_of _ (shell_so is_name names_decide (λ s. s.middle))
-  part_so GlyphsWords = false_of _ (and_so (is_name f.shell.glyphs_rd g.shell.glyphs_rd) _ (shell_so is_name names_decide (λ s. s.glyphs_rd)) (shell_so is_name names_decide (λ s. s.glyphs_def)))
-  part_so Tail = false_of _ (shell_so is_name names_decide (λ s. s.tail))
+  part_so Middle = false_of _ (shell_so same_bytes bytes_decide (λ s. s.middle))
+  part_so GlyphsWords = false_of _ (and_so (same_bytes f.shell.glyphs_rd g.shell.glyphs_rd) _ (shell_so same_bytes bytes_decide (λ s. s.glyphs_rd)) (shell_so same_bytes bytes_decide (λ s. s.glyphs_def)))
+  part_so Tail = false_of _ (shell_so same_bytes bytes_decide (λ s. s.tail))
 
   glyph_at : (n : List ℕ) (x y : Option (List ℕ)) → Agree (state_of_glyph m f n x) (state_of_glyph m g n y) → agrees x y ≡ true
   glyph_at n None y h = refl
   glyph_at n (Some v) None h = refl
-  glyph_at n (Some v) (Some w) h = is_same is_name names_decide v w (Some_same h)
+  glyph_at n (Some v) (Some w) h = is_same same_bytes bytes_decide v w (Some_same h)
 
   glyph_so : (n : List ℕ) → glyph_clashes f g n ≡ false
   glyph_so n = false_of _ (glyph_at n (maps.get f.glyphs n) (maps.get g.glyphs n) (c.names n))
 
--- a part that one lacks and seeks is lacking in the other
+-- a component that one lacks and seeks is lacking in the other
 module _ {O : Type 0} (m : Interpreter O) (f g : FontValue) where
   lacking_both : (p n : List ℕ) (x y : Option (List ℕ)) → Agree (state_of_glyph m f p x) (state_of_glyph m g p y) → is_sought m f p ≡ true → is_some x ≡ false → is_some y ≡ false
   lacking_both p n None None h s l = refl
@@ -410,8 +410,8 @@ module _ {O : Type 0} (m : Interpreter O) (f g : FontValue) (c : Compatible m f 
     | inr b ↦ or_none m f g (has f p) (has g p) (wants_nothing m g f (compatible_back m f g c) p n b) (not_true m f g (has g p) (first_so (not (has g p)) (calls_for m g n p) b))
   ]
 
-  no_part : (p : List ℕ) → part_clashes m f g p ≡ false
-  no_part p = not_so (part_clashes m f g p) (λ h.
+  no_component : (p : List ℕ) → component_clashes m f g p ≡ false
+  no_component p = not_so (component_clashes m f g p) (λ h.
       let w = any_one nat_list_cmp_total name_same (wanted_by m f g p) (members (glyph_names f g)) (second_so (has f p || has g p) (list_any (wanted_by m f g p) (members (glyph_names f g))) h) in
       clash (has f p || has g p) (first_so (has f p || has g p) (list_any (wanted_by m f g p) (members (glyph_names f g))) h) (wanted_gone p w.0 w.2))
 
@@ -420,7 +420,7 @@ module _ {O : Type 0} (m : Interpreter O) (f g : FontValue) (c : Compatible m f 
       none_found ShellDiffers (shell_conflict f g) _ (passes_none (λ part. not (same_part f g part)) (Head ∷ EncodingPart ∷ ClearTail ∷ Private ∷ SubrsTable ∷ SubrsWords ∷ Middle ∷ GlyphsWords ∷ Tail ∷ []) (part_so m f g c))
       (none_found CodeDiffers (code_conflict f g) _ (passes_none (code_clashes f g) (members (codes_of_both f.encoding g.encoding)) (λ k. false_of _ (so_agrees (code_state f.encoding k) (code_state g.encoding k) (c.codes k))))
       (none_found GlyphDiffers (glyph_conflict f g) _ (passes_none (glyph_clashes f g) (members (glyph_names f g)) (glyph_so m f g c))
-      (none_found (λ p. PartLacks (unwrap_or (smallest (wanted_by m f g p) (glyph_names f g)) []) p) (part_conflict m f g) _ (passes_none (part_clashes m f g) (members (glyph_names f g)) no_part)
+      (none_found (λ p. LacksComponent (unwrap_or (smallest (wanted_by m f g p) (glyph_names f g)) []) p) (component_conflict m f g) _ (passes_none (component_clashes m f g) (members (glyph_names f g)) no_component)
       (none_found (λ i. SubrDiffers i (smallest (used_by m f g i) (glyph_names f g))) (subr_conflict m f g) None (passes_none (subr_clashes m f g) (members (keys_of_both f.subrs g.subrs)) (λ i. false_of _ (so_agrees (subr_state m f i) (subr_state m g i) (c.subrs i)))) refl))))
 
 pub within_so : {O : Type 0} (m : Interpreter O) (f g : FontValue) → is_within m f g ≡ true → IsWithin (joined_font m f g)
@@ -448,15 +448,15 @@ no_conflict m f g = (
 
 module _ {O : Type 0} (m : Interpreter O) (f g : FontValue) where
   part_swap : (part : ShellPart) → same_part f g part ≡ same_part g f part
-  part_swap Head = swaps is_name names_decide f.shell.head g.shell.head
+  part_swap Head = swaps same_bytes bytes_decide f.shell.head g.shell.head
   part_swap EncodingPart = kind_swap f.encoding g.encoding
-  part_swap ClearTail = swaps is_name names_decide f.shell.clear_tail g.shell.clear_tail
-  part_swap Private = λ i. swaps is_name names_decide f.shell.private g.shell.private i && swaps same_number numbers_decide f.shell.len_iv g.shell.len_iv i
+  part_swap ClearTail = swaps same_bytes bytes_decide f.shell.clear_tail g.shell.clear_tail
+  part_swap Private = λ i. swaps same_bytes bytes_decide f.shell.private g.shell.private i && swaps same_number numbers_decide f.shell.len_iv g.shell.len_iv i
   part_swap SubrsTable = λ i. swaps same_bool bools_decide (is_some f.shell.subrs) (is_some g.shell.subrs) i && (swaps same_number numbers_decide (declared_count f.shell.subrs) (declared_count g.shell.subrs) i && and_swap (list_all (maps.contains_key g.subrs) (maps.keys f.subrs)) (list_all (maps.contains_key f.subrs) (maps.keys g.subrs)) i)
   part_swap SubrsWords = words_swap f.shell.subrs g.shell.subrs
-  part_swap Middle = swaps is_name names_decide f.shell.middle g.shell.middle
-  part_swap GlyphsWords = λ i. swaps is_name names_decide f.shell.glyphs_rd g.shell.glyphs_rd i && swaps is_name names_decide f.shell.glyphs_def g.shell.glyphs_def i
-  part_swap Tail = swaps is_name names_decide f.shell.tail g.shell.tail
+  part_swap Middle = swaps same_bytes bytes_decide f.shell.middle g.shell.middle
+  part_swap GlyphsWords = λ i. swaps same_bytes bytes_decide f.shell.glyphs_rd g.shell.glyphs_rd i && swaps same_bytes bytes_decide f.shell.glyphs_def g.shell.glyphs_def i
+  part_swap Tail = swaps same_bytes bytes_decide f.shell.tail g.shell.tail
 
   shell_back : shell_conflict f g ≡ shell_conflict g f
   shell_back = λ i. first_where (λ part. not (part_swap part i)) (Head ∷ EncodingPart ∷ ClearTail ∷ Private ∷ SubrsTable ∷ SubrsWords ∷ Middle ∷ GlyphsWords ∷ Tail ∷ [])
@@ -481,7 +481,7 @@ module _ {O : Type 0} (m : Interpreter O) (f g : FontValue) where
       found ShellDiffers (shell_back i)
       (found CodeDiffers (code_back i)
       (found GlyphDiffers (glyph_back i)
-      (found (λ p. PartLacks (unwrap_or (wanter_back p i) []) p) (part_conflict_back m f g i)
+      (found (λ p. LacksComponent (unwrap_or (wanter_back p i) []) p) (component_conflict_back m f g i)
       (found (λ k. SubrDiffers k (user_back k i)) (subr_back i) None))))
 
   limit_back : (x : Option Conflict) → states_conflict m f g ≡ x → found (λ c. c) x (cond (is_within m f g) None (Some OverLimit)) ≡ found (λ c. c) x (cond (is_within m g f) None (Some OverLimit))

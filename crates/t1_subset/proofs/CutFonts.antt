@@ -11,10 +11,10 @@ use Rattle.t1_font.specs.Cut.{stub}
 use Rattle.t1_font.specs.FontValue.{total, FontValue, notdef, weight}
 use Rattle.t1_font.proofs.Kept.{restrict_light}
 use Rattle.t1_font.proofs.MapCuts.{get-map_values, get-retain, Some_None, total-le, length_total}
-use Rattle.t1_subset.specs.Interpreter.{Interpreter, Names, is_name}
-use Rattle.t1_subset.specs.Keep.{keep, kept, parts, has, subset}
+use Rattle.t1_subset.specs.Interpreter.{Interpreter, Names, same_bytes}
+use Rattle.t1_subset.specs.Keep.{keep, kept, components, has, subset}
 use Rattle.t1_subset.specs.States.{Agree, joined, is_called, is_sought, entry_state, state_of_entry, subr_state, is_stub}
-use Rattle.t1_subset.proofs.Kept.{InFont, keep_closed, kept_call, part_here_from}
+use Rattle.t1_subset.proofs.Kept.{InFont, keep_closed, kept_call, component_here_from}
 use Rattle.t1_subset.proofs.Maps.{any_in}
 use Rattle.t1_subset.proofs.Sets.{clash, is_or_not, not_so, name_same}
 
@@ -68,11 +68,11 @@ module _ {O : Type 0} (m : Interpreter O) (f : FontValue) (base : has f notdef �
 
   pub not_sought : (n : List ℕ) → has f n ≡ true → sets.contains (keep m f a) n ≡ false → is_sought m (subset m f a) n ≡ false
   not_sought n is out = not_so (is_sought m (subset m f a) n) (λ h.
-      let r = any_in nat_list_cmp_total name_same (λ k v. list_any (is_name n) (parts m (subset m f a).subrs v)) (subset m f a).glyphs h in
+      let r = any_in nat_list_cmp_total name_same (λ k v. list_any (same_bytes n) (components m (subset m f a).subrs v)) (subset m f a).glyphs h in
       let g = kept_glyph r.0 r.1 r.2 in
       clash (sets.contains (keep m f a) n)
-      ((keep_closed m f a base inside).parts r.0 n g.0 (part_here_from m f r.0 n
-      (ap (λ x. list_any (is_name n) (parts m f.subrs (unwrap_or x []))) g.1 ∙ ap (λ d. list_any (is_name n) (m.names d)) (sym (runs_alike r.0 r.1 g.0 g.1).0) ∙ r.3) is)) out)
+      ((keep_closed m f a base inside).components r.0 n g.0 (component_here_from m f r.0 n
+      (ap (λ x. list_any (same_bytes n) (components m f.subrs (unwrap_or x []))) g.1 ∙ ap (λ d. list_any (same_bytes n) (m.names d)) (sym (runs_alike r.0 r.1 g.0 g.1).0) ∙ r.3) is)) out)
 
   bottom_at : (i : ℕ) → sets.contains (kept m f a) i ≡ false → (x : Option (List ℕ)) → state_of_entry m (subset m f a) i (option_map (λ c. cond (sets.contains (kept m f a) i) c stub) x) ≡ None
   bottom_at i out None = refl

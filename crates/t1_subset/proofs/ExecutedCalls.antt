@@ -19,7 +19,7 @@ use Rattle.t1_subset.specs.Profile.{profile, set_of}
 use Rattle.t1_subset.specs.States.{is_called, is_stub, state_of_entry, subr_state}
 use Rattle.t1_subset.specs.Conflicts.{agrees, first_where, smallest, members, keys_of_both, executes, executed_at, used_by, glyph_names, subr_clashes, subr_conflict}
 use Rattle.t1_subset.specs.Differences.{smaller, EntriesAgree}
-use Rattle.t1_subset.specs.NameSets.{called_in}
+use Rattle.t1_subset.specs.Calls.{called_in}
 use Rattle.t1_subset.proofs.Conflicts.{passes_none, in_both, agrees_none}
 use Rattle.t1_subset.proofs.Smallest.{smallest_is}
 use Rattle.t1_subset.proofs.Maps.{any_in, any_of}

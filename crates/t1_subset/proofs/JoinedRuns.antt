@@ -8,16 +8,16 @@ use Rattle.t1_font.specs.FontValue.{FontValue}
 use Rattle.t1_subset.specs.declared.runs.Runs.{Runs}
 use Rattle.t1_subset.specs.Profile.{profile}
 use Rattle.t1_subset.specs.States.{Compatible, joined_font, is_sought}
-use Rattle.t1_subset.specs.NameSets.{number_set, called_in}
+use Rattle.t1_subset.specs.Calls.{number_set, called_in}
 use Rattle.t1_subset.specs.Lacking.{named_in}
 use Rattle.t1_subset.specs.Runs.{IsRuns}
 use Rattle.t1_subset.proofs.Sets.{name_same}
 use Rattle.t1_subset.proofs.States.{called_in_join, sought_in_join}
 use Rattle.t1_subset.proofs.Conflicts.{wanting, sought}
 use Rattle.t1_subset.proofs.ExecutedCalls.{called_so}
-use Rattle.t1_subset.proofs.LackingParts.{named_by, naming}
+use Rattle.t1_subset.proofs.LackingComponents.{named_by, naming}
 
--- a part is named by some glyph exactly where it is among those of all glyphs
+-- a component is named by some glyph exactly where it is among those of all glyphs
 named_so : (f : FontValue) (p : List ℕ) → sets.contains (named_in f) p ≡ is_sought profile f p
 named_so f p = both_ways (sets.contains (named_in f) p) (is_sought profile f p)
     (λ h. let one = named_by f p h in sought profile f p one.0 one.2)
@@ -35,9 +35,9 @@ module _ (f g : FontValue) (c : Compatible profile f g) where
       ∙ (λ k. sym (named_so f p) k || sym (named_so g p) k) ∙ sym (sets.contains-union nat_list_cmp_total (named_in f) (named_in g) p))
 
   -- the runs of both fonts are those of their join
-  pub runs_joined : (r s t : Runs) → IsRuns r f → IsRuns s g → number_set t.calls ≡ sets.union (number_set r.calls) (number_set s.calls) → t.parts ≡ sets.union r.parts s.parts
+  pub runs_joined : (r s t : Runs) → IsRuns r f → IsRuns s g → number_set t.calls ≡ sets.union (number_set r.calls) (number_set s.calls) → t.components ≡ sets.union r.components s.components
       → (j : FontValue) → j ≡ joined_font profile f g → IsRuns t j
-  runs_joined r s t a b calls parts j is = subst (λ (j : FontValue). IsRuns t j) (sym is) (record {
+  runs_joined r s t a b calls components j is = subst (λ (j : FontValue). IsRuns t j) (sym is) (record {
     calls = calls ∙ (λ i. sets.union (a.calls i) (b.calls i)) ∙ sym called_join;
-    parts = parts ∙ (λ i. sets.union (a.parts i) (b.parts i)) ∙ sym named_join;
+    components = components ∙ (λ i. sets.union (a.components i) (b.components i)) ∙ sym named_join;
   })

@@ -9,7 +9,7 @@ use Rattle.std.specs.FinSet.{nat_cmp-IsAntisymmetric}
 use Rattle.std.specs.FinMap as maps
 use Rattle.t1_font.specs.FontValue.{FontValue, name_cmp, notdef}
 use Rattle.t1_subset.specs.Interpreter.{Interpreter, Names, Numbers}
-use Rattle.t1_subset.specs.Keep.{Closed, is_closed, is_needed, keep, kept, parts, parts_here, has, charstring}
+use Rattle.t1_subset.specs.Keep.{Closed, is_closed, is_needed, keep, kept, components, components_here, has, charstring}
 use Rattle.t1_subset.proofs.Sets.{and_so, not_or_so, not_or_from, any_at, any_one, all_at, all_from, any_filter, any_filter_from, same_members, in_union, in_union_left, in_union_right, in_list, from_in_list, in_items, from_in_items, any_flat, any_flat_from, name_same, each_set, all_sets, any_append, any_append_left, any_append_right}
 
 module _ {O : Type 0} (m : Interpreter O) (f : FontValue) where
@@ -17,18 +17,18 @@ module _ {O : Type 0} (m : Interpreter O) (f : FontValue) where
 
   pub closed_from_test : (a s : Names) → is_closed m f a s ≡ true → Closed m f a s
   closed_from_test a s h =
-      let two = second_so (sets.contains s notdef) (sets.is_subset a s && list_all (λ n. sets.is_subset (parts_here m f n) s) (sets.items s)) h in
+      let two = second_so (sets.contains s notdef) (sets.is_subset a s && list_all (λ n. sets.is_subset (components_here m f n) s) (sets.items s)) h in
       record {
-        asked = sets.is_subset-contains nat_list_cmp_total a s (first_so (sets.is_subset a s) (list_all (λ n. sets.is_subset (parts_here m f n) s) (sets.items s)) two);
-        notdef = first_so (sets.contains s notdef) (sets.is_subset a s && list_all (λ n. sets.is_subset (parts_here m f n) s) (sets.items s)) h;
-        parts = λ n p is part. sets.is_subset-contains nat_list_cmp_total (parts_here m f n) s
-            (all_at nat_list_cmp_total name_same (λ n. sets.is_subset (parts_here m f n) s) n (sets.items s) (second_so (sets.is_subset a s) (list_all (λ n. sets.is_subset (parts_here m f n) s) (sets.items s)) two) (in_items nat_list_cmp_total name_same s n is)) p part;
+        asked = sets.is_subset-contains nat_list_cmp_total a s (first_so (sets.is_subset a s) (list_all (λ n. sets.is_subset (components_here m f n) s) (sets.items s)) two);
+        notdef = first_so (sets.contains s notdef) (sets.is_subset a s && list_all (λ n. sets.is_subset (components_here m f n) s) (sets.items s)) h;
+        components = λ n p is component. sets.is_subset-contains nat_list_cmp_total (components_here m f n) s
+            (all_at nat_list_cmp_total name_same (λ n. sets.is_subset (components_here m f n) s) n (sets.items s) (second_so (sets.is_subset a s) (list_all (λ n. sets.is_subset (components_here m f n) s) (sets.items s)) two) (in_items nat_list_cmp_total name_same s n is)) p component;
       }
 
   pub closed_test : (a s : Names) → Closed m f a s → is_closed m f a s ≡ true
-  closed_test a s c = and_so (sets.contains s notdef) (sets.is_subset a s && list_all (λ n. sets.is_subset (parts_here m f n) s) (sets.items s)) c.notdef
-      (and_so (sets.is_subset a s) (list_all (λ n. sets.is_subset (parts_here m f n) s) (sets.items s)) (sets.contains-is_subset nat_list_cmp_total a s c.asked)
-      (all_from nat_list_cmp_total name_same (λ n. sets.is_subset (parts_here m f n) s) (sets.items s) (λ n is. sets.contains-is_subset nat_list_cmp_total (parts_here m f n) s (λ p part. c.parts n p (from_in_items nat_list_cmp_total name_same s n is) part))))
+  closed_test a s c = and_so (sets.contains s notdef) (sets.is_subset a s && list_all (λ n. sets.is_subset (components_here m f n) s) (sets.items s)) c.notdef
+      (and_so (sets.is_subset a s) (list_all (λ n. sets.is_subset (components_here m f n) s) (sets.items s)) (sets.contains-is_subset nat_list_cmp_total a s c.asked)
+      (all_from nat_list_cmp_total name_same (λ n. sets.is_subset (components_here m f n) s) (sets.items s) (λ n is. sets.contains-is_subset nat_list_cmp_total (components_here m f n) s (λ p component. c.components n p (from_in_items nat_list_cmp_total name_same s n is) component))))
 
   -- ---- members
 
@@ -38,11 +38,11 @@ module _ {O : Type 0} (m : Interpreter O) (f : FontValue) where
   pub key_of_has : (n : List ℕ) → has f n ≡ true → list_any (eq_by_cmp name_cmp n) (maps.keys f.glyphs) ≡ true
   key_of_has n h = sym (maps.contains_key-keys f.glyphs n) ∙ h
 
-  pub part_here : (n p : List ℕ) → sets.contains (parts_here m f n) p ≡ true → (list_any (eq_by_cmp name_cmp p) (parts m f.subrs (charstring f n)) ≡ true) × (has f p ≡ true)
-  part_here n p h = any_filter nat_list_cmp_total name_same (has f) p (parts m f.subrs (charstring f n)) (in_list nat_list_cmp_total name_same (filter (has f) (parts m f.subrs (charstring f n))) p h)
+  pub component_here : (n p : List ℕ) → sets.contains (components_here m f n) p ≡ true → (list_any (eq_by_cmp name_cmp p) (components m f.subrs (charstring f n)) ≡ true) × (has f p ≡ true)
+  component_here n p h = any_filter nat_list_cmp_total name_same (has f) p (components m f.subrs (charstring f n)) (in_list nat_list_cmp_total name_same (filter (has f) (components m f.subrs (charstring f n))) p h)
 
-  pub part_here_from : (n p : List ℕ) → list_any (eq_by_cmp name_cmp p) (parts m f.subrs (charstring f n)) ≡ true → has f p ≡ true → sets.contains (parts_here m f n) p ≡ true
-  part_here_from n p h is = from_in_list nat_list_cmp_total name_same (filter (has f) (parts m f.subrs (charstring f n))) p (any_filter_from nat_list_cmp_total name_same (has f) p (parts m f.subrs (charstring f n)) h is)
+  pub component_here_from : (n p : List ℕ) → list_any (eq_by_cmp name_cmp p) (components m f.subrs (charstring f n)) ≡ true → has f p ≡ true → sets.contains (components_here m f n) p ≡ true
+  component_here_from n p h is = from_in_list nat_list_cmp_total name_same (filter (has f) (components m f.subrs (charstring f n))) p (any_filter_from nat_list_cmp_total name_same (has f) p (components m f.subrs (charstring f n)) h is)
 
   -- ---- keep
 
@@ -70,13 +70,13 @@ module _ {O : Type 0} (m : Interpreter O) (f : FontValue) where
   keep_closed a base inside = record {
     asked = λ n h. keep_from a n (inside n h) (λ s i c. c.asked n h);
     notdef = keep_from a notdef base (λ s i c. c.notdef);
-    parts = λ n p h part. keep_from a p (part_here n p part).1 (λ s i c. c.parts n p (keep_least a s i c n h) part);
+    components = λ n p h component. keep_from a p (component_here n p component).1 (λ s i c. c.components n p (keep_least a s i c n h) component);
   }
 
   -- ---- distribution
 
   pub keep_more : (a b : Names) → ((n : List ℕ) → sets.contains a n ≡ true → sets.contains b n ≡ true) → (n : List ℕ) → sets.contains (keep m f a) n ≡ true → sets.contains (keep m f b) n ≡ true
-  keep_more a b sub n h = keep_from b n (keep_has a n h) (λ s i c. keep_least a s i (record { asked = λ q is. c.asked q (sub q is); notdef = c.notdef; parts = c.parts }) n h)
+  keep_more a b sub n h = keep_from b n (keep_has a n h) (λ s i c. keep_least a s i (record { asked = λ q is. c.asked q (sub q is); notdef = c.notdef; components = c.components }) n h)
 
   pub keep_union : (a b : Names) → has f notdef ≡ true → InFont a → InFont b → keep m f (sets.union a b) ≡ sets.union (keep m f a) (keep m f b)
   keep_union a b base ia ib =
@@ -90,7 +90,7 @@ module _ {O : Type 0} (m : Interpreter O) (f : FontValue) where
       (record {
         asked = λ q w. elim (in_union nat_list_cmp_total name_same a b q w) [ inl x ↦ in_union_left nat_list_cmp_total name_same ka kb q (ca.asked q x) | inr y ↦ in_union_right nat_list_cmp_total name_same ka kb q (cb.asked q y) ];
         notdef = in_union_left nat_list_cmp_total name_same ka kb notdef ca.notdef;
-        parts = λ q p w part. elim (in_union nat_list_cmp_total name_same ka kb q w) [ inl x ↦ in_union_left nat_list_cmp_total name_same ka kb p (ca.parts q p x part) | inr y ↦ in_union_right nat_list_cmp_total name_same ka kb p (cb.parts q p y part) ];
+        components = λ q p w component. elim (in_union nat_list_cmp_total name_same ka kb q w) [ inl x ↦ in_union_left nat_list_cmp_total name_same ka kb p (ca.components q p x component) | inr y ↦ in_union_right nat_list_cmp_total name_same ka kb p (cb.components q p y component) ];
       }) n h)
       (λ n h. elim (in_union nat_list_cmp_total name_same ka kb n h) [
         | inl x ↦ keep_more a (sets.union a b) (in_union_left nat_list_cmp_total name_same a b) n x

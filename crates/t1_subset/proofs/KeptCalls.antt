@@ -1,4 +1,4 @@
--- The Subrs that marks execute, as the marks are walked.
+-- The Subrs that the glyphs of a closure execute, as the closure is walked.
 use Rattle.std.proofs.Common.{◌≡◌, ℕ, ◌+◌, ◌<◌, ◌≤◌, Bool, ◌||◌, List, [], ◌∷◌, ◌++◌, sym, ◌∙◌, ap, length, take, take_all, get_or}
 use Rattle.std.proofs.Math.Bool.{or_assoc}
 use Rattle.std.proofs.lemmas.List.Folds.{list_any_more, list_any-append}
@@ -33,16 +33,16 @@ module _ (f : FontValue) where
       ∙ ap (λ b. list_any (eq_by_cmp nat_cmp q) low || b)
       (both_ways _ _ (any_flat nat_cmp_total nat_cmp-IsAntisymmetric (λ n. sets.items (calls_by f n)) q ns) (any_flat_from nat_cmp_total nat_cmp-IsAntisymmetric (λ n. sets.items (calls_by f n)) q ns)))
 
-  -- with the calls of the next mark
-  pub calls_step : (ms : List (List ℕ)) (i : ℕ) (n : List ℕ) (s new : Numbers) → i < length ms → get_or ms i n ≡ n → s ≡ calls_to f (take i ms) → new ≡ sets.union s (calls_by f n) → new ≡ calls_to f (take (i + 1) ms)
-  calls_step ms i n s new h e is more = sets.same_set nat_cmp_total nat_cmp-IsAntisymmetric new (calls_to f (take (i + 1) ms)) (λ q.
+  -- with the calls of the next name
+  pub calls_step : (ns : List (List ℕ)) (i : ℕ) (n : List ℕ) (s new : Numbers) → i < length ns → get_or ns i n ≡ n → s ≡ calls_to f (take i ns) → new ≡ sets.union s (calls_by f n) → new ≡ calls_to f (take (i + 1) ns)
+  calls_step ns i n s new h e is more = sets.same_set nat_cmp_total nat_cmp-IsAntisymmetric new (calls_to f (take (i + 1) ns)) (λ q.
       ap (λ (t : Numbers). sets.contains t q) more
       ∙ (sets.contains-union nat_cmp_total s (calls_by f n) q
-      ∙ ((λ d. (ap (λ (t : Numbers). sets.contains t q) is ∙ in_calls (take i ms) q) d || (sets.contains-items (calls_by f n) q ∙ ap (runs q) (sym e)) d)
-      ∙ (or_assoc (list_any (eq_by_cmp nat_cmp q) low) (list_any (runs q) (take i ms)) (runs q (get_or ms i n))
-      ∙ (ap (λ b. list_any (eq_by_cmp nat_cmp q) low || b) (sym (list_any_more (runs q) ms i n h))
-      ∙ sym (in_calls (take (i + 1) ms) q))))))
+      ∙ ((λ d. (ap (λ (t : Numbers). sets.contains t q) is ∙ in_calls (take i ns) q) d || (sets.contains-items (calls_by f n) q ∙ ap (runs q) (sym e)) d)
+      ∙ (or_assoc (list_any (eq_by_cmp nat_cmp q) low) (list_any (runs q) (take i ns)) (runs q (get_or ns i n))
+      ∙ (ap (λ b. list_any (eq_by_cmp nat_cmp q) low || b) (sym (list_any_more (runs q) ns i n h))
+      ∙ sym (in_calls (take (i + 1) ns) q))))))
 
-  -- at the end it is what the set of all marks executes
-  pub calls_end : (ms : List (List ℕ)) (i : ℕ) (s : Numbers) (k : Names) → length ms ≤ i → s ≡ calls_to f (take i ms) → sets.from_list ms ≡ k → s ≡ called_by profile f k
-  calls_end ms i s k h is e = is ∙ (ap (calls_to f) (take_all i ms h) ∙ (of_members (λ n. sets.items (calls_by f n)) low ms ∙ ap (called_by profile f) e))
+  -- at the end it is what the set of all names executes
+  pub calls_end : (ns : List (List ℕ)) (i : ℕ) (s : Numbers) (k : Names) → length ns ≤ i → s ≡ calls_to f (take i ns) → sets.from_list ns ≡ k → s ≡ called_by profile f k
+  calls_end ns i s k h is e = is ∙ (ap (calls_to f) (take_all i ns h) ∙ (of_members (λ n. sets.items (calls_by f n)) low ns ∙ ap (called_by profile f) e))

@@ -12,7 +12,7 @@ use Rattle.std.specs.FinSet.{FinSet, IsAntisymmetric, nat_cmp-IsAntisymmetric}
 use Rattle.t1_font.specs.Cut.{stub}
 use Rattle.t1_font.specs.FontValue.{FontValue, Shell, Encoding, Word, name_cmp, notdef}
 use Rattle.t1_subset.specs.Interpreter.{Interpreter, Names}
-use Rattle.t1_subset.specs.Keep.{sets_of, charstring, has, parts_here, is_closed, is_needed, keep, called_by, kept}
+use Rattle.t1_subset.specs.Keep.{sets_of, charstring, has, components_here, is_closed, is_needed, keep, called_by, kept}
 use Rattle.t1_subset.proofs.Sets.{name_same, all_append, all_map, all_at, all_from, any_one, any_at, any_flat, any_flat_from, in_list, from_in_list, in_items, from_in_items}
 
 -- ---- sets of lists
@@ -66,7 +66,7 @@ all_sets p (n ∷ ns) =
     ∙ ap (λ b. list_all (λ l. p (sets.from_list l)) (lists_of ns) && b) (sym (all_map (λ l. p (sets.from_list l)) (λ l. n ∷ l) (lists_of ns)))
     ∙ sym (all_append (λ l. p (sets.from_list l)) (lists_of ns) (map (λ l. n ∷ l) (lists_of ns)))
 
--- ---- small fonts, and an interpreter to whom each byte of a charstring is an index that is executed, and a part of this one letter
+-- ---- small fonts, and an interpreter to whom each byte of a charstring is an index that is executed, and a component of this one letter
 
 abbrev pub letters : List ℕ → List (List ℕ)
 letters c = map (λ b. b ∷ []) c
@@ -97,21 +97,21 @@ module _ (e : Encoding) (ss : List (ℕ × List ℕ)) (es : List (List ℕ × Li
   names_listed : maps.keys (font_of e ss es).glyphs ≡ map (λ e. e.0) es
   names_listed = ap (map (λ e. e.0)) (maps.entries-from_sorted name_cmp es h)
 
-  -- the parts of a glyph that the list has
-  abbrev parts_listed : List ℕ → List (List ℕ)
-  parts_listed n = filter (λ p. is_some (at_name es p)) (letters (unwrap_or (at_name es n) []))
+  -- the components of a glyph that the list has
+  abbrev components_listed : List ℕ → List (List ℕ)
+  components_listed n = filter (λ p. is_some (at_name es p)) (letters (unwrap_or (at_name es n) []))
 
-  parts_are : (l : List (List ℕ)) (n : List ℕ) → sets.is_subset (parts_here spelled (font_of e ss es) n) (sets.from_list l) ≡ list_all (named l) (parts_listed n)
-  parts_are l n = subset_of_lists nat_list_cmp_total name_same (filter (has (font_of e ss es)) (letters (charstring (font_of e ss es) n))) l
+  components_are : (l : List (List ℕ)) (n : List ℕ) → sets.is_subset (components_here spelled (font_of e ss es) n) (sets.from_list l) ≡ list_all (named l) (components_listed n)
+  components_are l n = subset_of_lists nat_list_cmp_total name_same (filter (has (font_of e ss es)) (letters (charstring (font_of e ss es) n))) l
       ∙ (λ i. list_all (named l) (filter (λ p. has_listed p i) (letters (charstring_listed n i))))
 
   abbrev closed_listed : List (List ℕ) → List (List ℕ) → Bool
-  closed_listed a l = named l notdef && (list_all (named l) a && list_all (λ n. list_all (named l) (parts_listed n)) l)
+  closed_listed a l = named l notdef && (list_all (named l) a && list_all (λ n. list_all (named l) (components_listed n)) l)
 
   closed_is : (a l : List (List ℕ)) → is_closed spelled (font_of e ss es) (sets.from_list a) (sets.from_list l) ≡ closed_listed a l
   closed_is a l =
-      (λ i. sets.contains-from_list nat_list_cmp_total l notdef i && (subset_of_lists nat_list_cmp_total name_same a l i && all_items nat_list_cmp_total name_same (λ n. sets.is_subset (parts_here spelled (font_of e ss es) n) (sets.from_list l)) l i))
-      ∙ (λ i. named l notdef && (list_all (named l) a && list_all (λ n. parts_are l n i) l))
+      (λ i. sets.contains-from_list nat_list_cmp_total l notdef i && (subset_of_lists nat_list_cmp_total name_same a l i && all_items nat_list_cmp_total name_same (λ n. sets.is_subset (components_here spelled (font_of e ss es) n) (sets.from_list l)) l i))
+      ∙ (λ i. named l notdef && (list_all (named l) a && list_all (λ n. components_are l n i) l))
 
   abbrev needed_listed : List (List ℕ) → List ℕ → Bool
   needed_listed a n = list_all (λ l. not (closed_listed a l) || named l n) (lists_of (map (λ e. e.0) es))
@@ -162,11 +162,11 @@ calls l = called_listed (Word (codes "StandardEncoding")) subrs glyphs tt l
 keep_none : keep spelled small (sets.from_list []) ≡ sets.from_list (notdef ∷ [])
 keep_none = keeps [] ∙ refl
 
--- a part of a glyph that is asked for
+-- a component of a glyph that is asked for
 keep_V : keep spelled small (sets.from_list (codes "V" ∷ [])) ≡ sets.from_list (notdef ∷ codes "A" ∷ codes "V" ∷ [])
 keep_V = keeps (codes "V" ∷ []) ∙ refl
 
--- a part, but not what it is a part of
+-- a component, but not what it is a component of
 keep_A_and_B : keep spelled small (sets.from_list (codes "B" ∷ codes "A" ∷ [])) ≡ sets.from_list (notdef ∷ codes "A" ∷ codes "B" ∷ [])
 keep_A_and_B = keeps (codes "B" ∷ codes "A" ∷ []) ∙ refl
 
@@ -177,6 +177,6 @@ keep_Q = keeps (codes "Q" ∷ []) ∙ refl
 kept_none : kept spelled small (sets.from_list []) ≡ sets.from_list (0 ∷ 1 ∷ 2 ∷ 3 ∷ [])
 kept_none = ap (called_by spelled small) keep_none ∙ (calls (notdef ∷ []) ∙ refl)
 
--- what V and its part A execute
+-- what V and its component A execute
 kept_V : kept spelled small (sets.from_list (codes "V" ∷ [])) ≡ sets.from_list (0 ∷ 1 ∷ 2 ∷ 3 ∷ 5 ∷ 65 ∷ 90 ∷ [])
 kept_V = ap (called_by spelled small) keep_V ∙ (calls (notdef ∷ codes "A" ∷ codes "V" ∷ []) ∙ refl)

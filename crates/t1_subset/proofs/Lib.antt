@@ -19,10 +19,10 @@ pub mod Again
 pub mod Fonts
 mod NameSets
 mod ProfileRuns
-mod MarkLists
+mod ClosureLists
 mod KeptCalls
-mod Marking
-mod ClosedMarks
+mod LentNames
+mod ClosureSteps
 mod NumberSets
 mod ExecutedCalls
 mod Absent
@@ -30,7 +30,7 @@ mod SubsetCuts
 mod FirstNames
 mod FirstConflicts
 mod SetUnions
-mod LackingParts
+mod LackingComponents
 mod TableStates
 mod JoinedRuns
 mod MergedFonts

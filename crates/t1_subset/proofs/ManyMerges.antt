@@ -17,11 +17,11 @@ use Rattle.t1_subset.specs.States.{Join, joined_font}
 use Rattle.t1_subset.specs.Conflicts.{Conflict, conflict}
 use Rattle.t1_subset.specs.Refusals.{Tells}
 use Rattle.t1_subset.specs.Trees.{Tree, Leaf, Both, EachLeaf, leaves, map_tree, left_tree, Merges, union_all}
-use Rattle.t1_subset.specs.Merging.{DrawsBoth, StopsAt, ComesTo, IsRefused, MergesSubsets, MergesAllSubsets}
+use Rattle.t1_subset.specs.Merger.{DrawsBoth, StopsAt, ComesTo, IsRefused, MergesSubsets, MergesAllSubsets}
 use Rattle.t1_subset.proofs.Alike.{left_alike, right_alike}
 use Rattle.t1_subset.proofs.Conflicts.{no_conflict}
 use Rattle.t1_subset.proofs.Fonts.{font_within, two_subsets, many_subsets}
-use Rattle.t1_subset.proofs.MarkLists.{from_here}
+use Rattle.t1_subset.proofs.ClosureLists.{from_here}
 use Rattle.t1_subset.proofs.Orders.{join_self, one_result}
 use Rattle.t1_subset.proofs.Sets.{in_union, clash, name_same}
 

@@ -15,7 +15,7 @@ use Rattle.t1_subset.specs.Profile.{profile}
 use Rattle.t1_subset.specs.Differences.{shell_part, bytes_of}
 use Rattle.t1_subset.specs.Refusals.{Tells}
 use Rattle.t1_subset.specs.Runs.{entries_conflict, runs_conflict}
-use Rattle.t1_subset.specs.Conflicts.{Conflict, ShellDiffers, CodeDiffers, GlyphDiffers, PartLacks, SubrDiffers, OverLimit, found, shell_conflict, code_conflict, glyph_conflict, states_conflict, conflict, is_within}
+use Rattle.t1_subset.specs.Conflicts.{Conflict, ShellDiffers, CodeDiffers, GlyphDiffers, LacksComponent, SubrDiffers, OverLimit, found, shell_conflict, code_conflict, glyph_conflict, states_conflict, conflict, is_within}
 use Rattle.t1_subset.proofs.Conflicts.{compatible, within_so, found_none}
 use Rattle.t1_subset.proofs.Fonts.{font_within}
 use Rattle.t1_subset.proofs.JoinedEntries.{joined_are_entries}
@@ -53,7 +53,7 @@ tells_on : (e : Refusal) (c d : Option Conflict) → ((x : Conflict) → c ≡ S
 tells_on (refusal.Shell p) c d h t = h (ShellDiffers (shell_part p)) t
 tells_on (refusal.Code n) c d h t = h (CodeDiffers n) t
 tells_on (refusal.Glyph n) c d h t = h (GlyphDiffers n.items) t
-tells_on (refusal.Part g p) c d h t = h (PartLacks g.items p.items) t
+tells_on (refusal.Part g p) c d h t = h (LacksComponent g.items p.items) t
 tells_on (refusal.Subr i g) c d h t = h (SubrDiffers i (option_map bytes_of g)) t
 tells_on refusal.Limit c d h t = h OverLimit t
 tells_on refusal.Memory c d h t = tt

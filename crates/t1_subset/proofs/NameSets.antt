@@ -11,8 +11,7 @@ use Rattle.std.specs.Cmp.Lexicographic.{nat_list_cmp_total}
 use Rattle.std.specs.BTreeSet.{insert_key}
 use Rattle.std.specs.FinSet as sets
 use Rattle.t1_font.specs.FontValue.{name_cmp}
-use Rattle.t1_subset.specs.Marks.{names_of}
-use Rattle.t1_subset.specs.NameSets.{set_by, IsLeast}
+use Rattle.t1_subset.specs.NameSets.{names_of, set_by, IsLeast}
 use Rattle.t1_subset.specs.Interpreter.{Names}
 use Rattle.t1_subset.proofs.FirstNames.{not_itself, one_way}
 use Rattle.t1_subset.proofs.Sets.{name_same, or_cases, here, itself, tied}

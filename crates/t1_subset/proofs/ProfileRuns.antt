@@ -7,13 +7,13 @@ use Rattle.t1_font.specs.FontValue.{FontValue}
 use Rattle.t1_font.specs.FontModel.{subr_at}
 use Rattle.t1_font.specs.IsFont.{IsFont}
 use Rattle.t1_font.proofs.FontReaders.{all_seen}
-use Rattle.t1_subset.specs.Keep.{parts, charstring}
+use Rattle.t1_subset.specs.Keep.{components, charstring}
 use Rattle.t1_subset.specs.Profile.{profile}
 
-pub parts_are : (f : FontValue) → IsFont f → (n c : List ℕ) → maps.get f.glyphs n ≡ Some c → parts_of (direct (subr_at f) c) ≡ parts profile f.subrs (charstring f n)
+pub components_are : (f : FontValue) → IsFont f → (n c : List ℕ) → maps.get f.glyphs n ≡ Some c → parts_of (direct (subr_at f) c) ≡ components profile f.subrs (charstring f n)
 unfolding profile
-parts_are f h n c e = ap (λ s. parts_of (direct s c)) (all_seen f h) ∙ ap (λ x. parts_of (direct (maps.get f.subrs) (unwrap_or x []))) (sym e)
+components_are f h n c e = ap (λ s. parts_of (direct s c)) (all_seen f h) ∙ ap (λ x. parts_of (direct (maps.get f.subrs) (unwrap_or x []))) (sym e)
 
-pub no_parts : (f : FontValue) (n : List ℕ) → maps.get f.glyphs n ≡ None → [] ≡ parts profile f.subrs (charstring f n)
+pub no_components : (f : FontValue) (n : List ℕ) → maps.get f.glyphs n ≡ None → [] ≡ components profile f.subrs (charstring f n)
 unfolding profile
-no_parts f n e = ap (λ x. parts_of (direct (maps.get f.subrs) (unwrap_or x []))) (sym e)
+no_components f n e = ap (λ x. parts_of (direct (maps.get f.subrs) (unwrap_or x []))) (sym e)

@@ -15,8 +15,8 @@ use Rattle.t1_font.specs.FontValue.{FontValue, Shell, Encoding, Word, Codes, nam
 use Rattle.t1_font.proofs.MapCuts.{get-map_values, entries-map_values}
 use Rattle.t1_font.proofs.CutEntries.{entries-merged}
 use Rattle.t1_subset.specs.States.{joined, is_stub, is_called, entry_state, subr_state, state_of_entry}
-use Rattle.t1_subset.specs.StateValues.{states_of, all_parts}
-use Rattle.t1_subset.specs.Conflicts.{ShellPart, Conflict, ShellDiffers, CodeDiffers, GlyphDiffers, PartLacks, SubrDiffers, OverLimit, Head, EncodingPart, Private, SubrsTable, first_where, members, keys_of_both, found, agrees, same_keys, same_kind, codes_of_both, glyph_names, called_at, executed_at, code_clashes, wanted_by, used_by, is_within, shell_conflict, code_conflict, glyph_conflict, part_conflict, subr_conflict, states_conflict, conflict}
+use Rattle.t1_subset.specs.StateValues.{states_of, all_components}
+use Rattle.t1_subset.specs.Conflicts.{ShellPart, Conflict, ShellDiffers, CodeDiffers, GlyphDiffers, LacksComponent, SubrDiffers, OverLimit, Head, EncodingPart, Private, SubrsTable, first_where, members, keys_of_both, found, agrees, same_keys, same_kind, codes_of_both, glyph_names, called_at, executed_at, code_clashes, wanted_by, used_by, is_within, shell_conflict, code_conflict, glyph_conflict, component_conflict, subr_conflict, states_conflict, conflict}
 use Rattle.t1_subset.proofs.Conflicts.{passes_none}
 use Rattle.t1_subset.proofs.Maps.{get-merged}
 use Rattle.t1_subset.proofs.Sets.{name_same}
@@ -38,18 +38,18 @@ module _ (e : Encoding) (ss : List (ℕ × List ℕ)) (es : List (List ℕ × Li
   subr_listed i = get-map_values nat_cmp_total nat_cmp-IsAntisymmetric (entry_state spelled (font_of e ss es)) (font_of e ss es).subrs i
       ∙ (λ d. option_map (λ c. cond (is_stub c && not (called_is i d)) None (Some c)) (maps.get-from_sorted nat_cmp ss i hs d))
 
-  abbrev parts_listed : List (List ℕ)
-  parts_listed = flat_map (λ g. letters g.1) es
+  abbrev components_listed : List (List ℕ)
+  components_listed = flat_map (λ g. letters g.1) es
 
-  parts_are : all_parts spelled (font_of e ss es) ≡ parts_listed
-  parts_are = ap (flat_map (λ g. letters g.1)) (maps.entries-from_sorted name_cmp es h)
+  components_are : all_components spelled (font_of e ss es) ≡ components_listed
+  components_are = ap (flat_map (λ g. letters g.1)) (maps.entries-from_sorted name_cmp es h)
 
   -- the state of a name
-  name_listed : (n : List ℕ) → maps.get (states_of spelled (font_of e ss es)).names n ≡ joined (option_map Some (at_name es n)) (find name_cmp n (map (λ p. (p, None)) parts_listed))
+  name_listed : (n : List ℕ) → maps.get (states_of spelled (font_of e ss es)).names n ≡ joined (option_map Some (at_name es n)) (find name_cmp n (map (λ p. (p, None)) components_listed))
   name_listed n =
-      get-merged nat_list_cmp_total name_same (map_values (λ n c. Some c) (font_of e ss es).glyphs) (maps.from_entries (map (λ p. (p, None)) (all_parts spelled (font_of e ss es)))) n
-      ∙ (λ d. joined (get-map_values nat_list_cmp_total name_same (λ n c. Some c) (font_of e ss es).glyphs n d) (maps.get-from_entries nat_list_cmp_total (map (λ p. (p, None)) (all_parts spelled (font_of e ss es))) n d))
-      ∙ (λ d. joined (option_map Some (glyph_listed e ss es h n d)) (find name_cmp n (map (λ p. (p, None)) (parts_are d))))
+      get-merged nat_list_cmp_total name_same (map_values (λ n c. Some c) (font_of e ss es).glyphs) (maps.from_entries (map (λ p. (p, None)) (all_components spelled (font_of e ss es)))) n
+      ∙ (λ d. joined (get-map_values nat_list_cmp_total name_same (λ n c. Some c) (font_of e ss es).glyphs n d) (maps.get-from_entries nat_list_cmp_total (map (λ p. (p, None)) (all_components spelled (font_of e ss es))) n d))
+      ∙ (λ d. joined (option_map Some (glyph_listed e ss es h n d)) (find name_cmp n (map (λ p. (p, None)) (components_are d))))
 
 -- ---- rows of states
 
@@ -118,18 +118,18 @@ module _ (e k : Encoding) (ss ts : List (ℕ × List ℕ)) (es fs : List (List �
   glyphs_are : glyph_conflict f g ≡ first_where glyph_differs names
   glyphs_are = λ d. first_where (λ n. not (agrees (glyph_listed e ss es he n d) (glyph_listed k ts fs hf n d))) (names_are d)
 
-  -- a glyph that is there calls for a part that its list lacks
+  -- a glyph that is there calls for a component that its list lacks
   abbrev wanted_listed : List ℕ → List ℕ → Bool
   wanted_listed p n = (not (is_some (at_name es p)) && called_at spelled f p (at_name es n)) || (not (is_some (at_name fs p)) && called_at spelled g p (at_name fs n))
 
   wanted_are : (p n : List ℕ) → wanted_by spelled f g p n ≡ wanted_listed p n
   wanted_are p n = λ d. (not (has_listed e ss es he p d) && called_at spelled f p (glyph_listed e ss es he n d)) || (not (has_listed k ts fs hf p d) && called_at spelled g p (glyph_listed k ts fs hf n d))
 
-  abbrev part_lacks : List ℕ → Bool
-  part_lacks p = (is_some (at_name es p) || is_some (at_name fs p)) && list_any (wanted_listed p) names
+  abbrev lacking_listed : List ℕ → Bool
+  lacking_listed p = (is_some (at_name es p) || is_some (at_name fs p)) && list_any (wanted_listed p) names
 
-  parts_lack : part_conflict spelled f g ≡ first_where part_lacks names
-  parts_lack = λ d. first_where (λ p. (has_listed e ss es he p d || has_listed k ts fs hf p d) && list_any (λ n. wanted_are p n d) (names_are d)) (names_are d)
+  lacking_are : component_conflict spelled f g ≡ first_where lacking_listed names
+  lacking_are = λ d. first_where (λ p. (has_listed e ss es he p d || has_listed k ts fs hf p d) && list_any (λ n. wanted_are p n d) (names_are d)) (names_are d)
 
   -- an entry, or the bottom where it is a stub that is not called
   abbrev state_by : Bool → Option (List ℕ) → Option (List ℕ)
@@ -173,7 +173,7 @@ module _ (e k : Encoding) (ss ts : List (ℕ × List ℕ)) (es fs : List (List �
       found ShellDiffers part
       (found CodeDiffers code
       (found GlyphDiffers (first_where glyph_differs names)
-      (found (λ p. PartLacks (unwrap_or (first_where (wanted_listed p) names) []) p) (first_where part_lacks names)
+      (found (λ p. LacksComponent (unwrap_or (first_where (wanted_listed p) names) []) p) (first_where lacking_listed names)
       (found (λ i. SubrDiffers i (first_where (used_listed i) names)) (first_where subr_differs (keys_listed nat_cmp ss ts)) None))))
 
   conflicts_are : (part : Option ShellPart) (code : Option ℕ) → shell_conflict f g ≡ part → code_conflict f g ≡ code → states_conflict spelled f g ≡ listed part code
@@ -181,7 +181,7 @@ module _ (e k : Encoding) (ss ts : List (ℕ × List ℕ)) (es fs : List (List �
       found ShellDiffers (s d)
       (found CodeDiffers (c d)
       (found GlyphDiffers (glyphs_are d)
-      (found (λ p. PartLacks (unwrap_or (first_where (λ n. wanted_are p n d) (names_are d)) []) p) (parts_lack d)
+      (found (λ p. LacksComponent (unwrap_or (first_where (λ n. wanted_are p n d) (names_are d)) []) p) (lacking_are d)
       (found (λ i. SubrDiffers i (first_where (λ n. used_are i n d) (names_are d))) (subrs_differ d) None))))
 
   -- of one kind of Encoding, and with the same indices, the shells are the same
@@ -219,7 +219,7 @@ index_lacks = conflicts_are standard standard ((0, stub) ∷ []) [] ((notdef, []
     (passes_none (code_clashes (font_of standard ((0, stub) ∷ []) ((notdef, []) ∷ [])) (font_of standard [] ((notdef, []) ∷ []))) (members (codes_of_both standard standard)) (λ c. refl))
     ∙ refl
 
--- V without its part A, as a cut of another font might have it
+-- V without its component A, as a cut of another font might have it
 abbrev V_alone : List (List ℕ × List ℕ)
 V_alone = (notdef, []) ∷ (codes "V", codes "AZ") ∷ []
 
@@ -232,8 +232,8 @@ other_B = (notdef, []) ∷ (codes "A", 5 ∷ []) ∷ (codes "B", 8 ∷ []) ∷ [
 B_differs : conflict spelled (font_of standard subrs A_and_B) (font_of standard subrs other_B) ≡ Some (GlyphDiffers (codes "B"))
 B_differs = lowest (font_of standard subrs A_and_B) (font_of standard subrs other_B) (GlyphDiffers (codes "B")) (in_both subrs subrs A_and_B other_B tt tt tt tt refl ∙ refl)
 
-V_lacks_A : conflict spelled (font_of standard subrs V_alone) (font_of standard subrs A_and_B) ≡ Some (PartLacks (codes "V") (codes "A"))
-V_lacks_A = lowest (font_of standard subrs V_alone) (font_of standard subrs A_and_B) (PartLacks (codes "V") (codes "A")) (in_both subrs subrs V_alone A_and_B tt tt tt tt refl ∙ refl)
+V_lacks_A : conflict spelled (font_of standard subrs V_alone) (font_of standard subrs A_and_B) ≡ Some (LacksComponent (codes "V") (codes "A"))
+V_lacks_A = lowest (font_of standard subrs V_alone) (font_of standard subrs A_and_B) (LacksComponent (codes "V") (codes "A")) (in_both subrs subrs V_alone A_and_B tt tt tt tt refl ∙ refl)
 
 -- 5 is another charstring, that A executes; 0 is told by no glyph
 abbrev other_5 : List (ℕ × List ℕ)

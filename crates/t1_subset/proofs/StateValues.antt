@@ -11,16 +11,16 @@ use Rattle.std.specs.FinMap.{find}
 use Rattle.t1_font.specs.Cut.{map_values}
 use Rattle.t1_font.specs.FontValue.{FontValue, name_cmp}
 use Rattle.t1_font.proofs.MapCuts.{get-map_values}
-use Rattle.t1_subset.specs.Interpreter.{Interpreter, is_name}
-use Rattle.t1_subset.specs.Keep.{parts}
-use Rattle.t1_subset.specs.StateValues.{states_of, all_parts, StatesAgree}
+use Rattle.t1_subset.specs.Interpreter.{Interpreter, same_bytes}
+use Rattle.t1_subset.specs.Keep.{components}
+use Rattle.t1_subset.specs.StateValues.{states_of, all_components, StatesAgree}
 use Rattle.t1_subset.specs.States.{Agree, joined, is_sought, entry_state, state_of_entry, subr_state, state_of_glyph, name_state, Compatible}
 use Rattle.t1_subset.proofs.Maps.{get-merged}
 use Rattle.t1_subset.proofs.Sets.{name_same}
 
-find_sought : (n : List ℕ) (ps : List (List ℕ)) → ◌≡◌ {A = Option (Option (List ℕ))} (find name_cmp n (map (λ p. (p, None)) ps)) (cond (list_any (is_name n) ps) (Some None) None)
+find_sought : (n : List ℕ) (ps : List (List ℕ)) → ◌≡◌ {A = Option (Option (List ℕ))} (find name_cmp n (map (λ p. (p, None)) ps)) (cond (list_any (same_bytes n) ps) (Some None) None)
 find_sought n [] = refl
-find_sought n (p ∷ ps) = elim (is_name n p) as (λ b. ◌≡◌ {A = Option (Option (List ℕ))} (cond b (Some None) (find name_cmp n (map (λ p. (p, None)) ps))) (cond (b || list_any (is_name n) ps) (Some None) None)) [ true ↦ refl | false ↦ find_sought n ps ]
+find_sought n (p ∷ ps) = elim (same_bytes n p) as (λ b. ◌≡◌ {A = Option (Option (List ℕ))} (cond b (Some None) (find name_cmp n (map (λ p. (p, None)) ps))) (cond (b || list_any (same_bytes n) ps) (Some None) None)) [ true ↦ refl | false ↦ find_sought n ps ]
 
 any_flat_map : {J : Type 0} (p : List ℕ → Bool) (f : J → List (List ℕ)) (xs : List J) → list_any p (flat_map f xs) ≡ list_any (λ x. list_any p (f x)) xs
 any_flat_map p f [] = refl
@@ -40,10 +40,10 @@ module _ {O : Type 0} (m : Interpreter O) (f : FontValue) where
 
   pub name_value : (n : List ℕ) → maps.get (states_of m f).names n ≡ name_state m f n
   name_value n =
-      get-merged nat_list_cmp_total name_same (map_values (λ n c. Some c) f.glyphs) (maps.from_entries (map (λ p. (p, None)) (all_parts m f))) n
-      ∙ ap (λ x. joined x (maps.get (maps.from_entries {R = name_cmp} (map (λ p. (p, None)) (all_parts m f))) n)) (get-map_values nat_list_cmp_total name_same (λ n c. Some c) f.glyphs n)
-      ∙ ap (joined (option_map (λ c. Some c) (maps.get f.glyphs n))) (maps.get-from_entries nat_list_cmp_total (map (λ p. (p, None)) (all_parts m f)) n ∙ find_sought n (all_parts m f)
-      ∙ ap (λ b. cond b (Some None) None) (any_flat_map (is_name n) (λ g. parts m f.subrs g.1) (maps.entries f.glyphs)))
+      get-merged nat_list_cmp_total name_same (map_values (λ n c. Some c) f.glyphs) (maps.from_entries (map (λ p. (p, None)) (all_components m f))) n
+      ∙ ap (λ x. joined x (maps.get (maps.from_entries {R = name_cmp} (map (λ p. (p, None)) (all_components m f))) n)) (get-map_values nat_list_cmp_total name_same (λ n c. Some c) f.glyphs n)
+      ∙ ap (joined (option_map (λ c. Some c) (maps.get f.glyphs n))) (maps.get-from_entries nat_list_cmp_total (map (λ p. (p, None)) (all_components m f)) n ∙ find_sought n (all_components m f)
+      ∙ ap (λ b. cond b (Some None) None) (any_flat_map (same_bytes n) (λ g. components m f.subrs g.1) (maps.entries f.glyphs)))
       ∙ name_at n (maps.get f.glyphs n)
 
   some_mapped : {X Y : Type 0} (g : X → Y) (x : Option X) → is_some (option_map g x) ≡ is_some x

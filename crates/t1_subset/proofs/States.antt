@@ -10,8 +10,8 @@ use Rattle.t1_font.specs.Cut.{stub, join_encodings}
 use Rattle.t1_font.specs.FontValue.{FontValue, Encoding, Word, Codes}
 use Rattle.t1_font.specs.WriteLaws.{SameKind}
 use Rattle.t1_font.proofs.MapCuts.{get-map_values, Some_same, Some_None}
-use Rattle.t1_subset.specs.Interpreter.{Interpreter, is_name}
-use Rattle.t1_subset.specs.Keep.{parts}
+use Rattle.t1_subset.specs.Interpreter.{Interpreter, same_bytes}
+use Rattle.t1_subset.specs.Keep.{components}
 use Rattle.t1_subset.specs.States.{Agree, joined, is_called, is_sought, state_of_entry, subr_state, state_of_glyph, name_state, code_state, joined_font, Compatible, is_stub}
 use Rattle.t1_subset.proofs.Flat.{agree_back, joined_back, joined_some}
 use Rattle.t1_subset.proofs.Maps.{get-merged, maps_same, any_in, any_of}
@@ -98,8 +98,8 @@ module _ {O : Type 0} (m : Interpreter O) (f : FontValue) where
   pub calls_it : (n c : List ℕ) (i : ℕ) → maps.get f.glyphs n ≡ Some c → sets.contains (m.exec f.subrs c) i ≡ true → is_called m f i ≡ true
   calls_it n c i is h = any_of nat_list_cmp_total name_same (λ k v. sets.contains (m.exec f.subrs v) i) f.glyphs n c is h
 
-  pub seeks_it : (n c p : List ℕ) → maps.get f.glyphs n ≡ Some c → list_any (is_name p) (parts m f.subrs c) ≡ true → is_sought m f p ≡ true
-  seeks_it n c p is h = any_of nat_list_cmp_total name_same (λ k v. list_any (is_name p) (parts m f.subrs v)) f.glyphs n c is h
+  pub seeks_it : (n c p : List ℕ) → maps.get f.glyphs n ≡ Some c → list_any (same_bytes p) (components m f.subrs c) ≡ true → is_sought m f p ≡ true
+  seeks_it n c p is h = any_of nat_list_cmp_total name_same (λ k v. list_any (same_bytes p) (components m f.subrs v)) f.glyphs n c is h
 
 -- ---- the left side runs as before
 
@@ -147,23 +147,23 @@ module _ {O : Type 0} (m : Interpreter O) (f g : FontValue) (c : Compatible m f 
       ])
 
   abbrev names_it : List ℕ → maps.FinMap nat_cmp (List ℕ) → List ℕ → Bool
-  names_it p s v = list_any (is_name p) (parts m s v)
+  names_it p s v = list_any (same_bytes p) (components m s v)
 
-  same_parts : (p : List ℕ) (s t : maps.FinMap nat_cmp (List ℕ)) (v : List ℕ) → m.direct s v ≡ m.direct t v → names_it p s v ≡ names_it p t v
-  same_parts p s t v h = ap (λ d. list_any (is_name p) (m.names d)) h
+  same_components : (p : List ℕ) (s t : maps.FinMap nat_cmp (List ℕ)) (v : List ℕ) → m.direct s v ≡ m.direct t v → names_it p s v ≡ names_it p t v
+  same_components p s t v h = ap (λ d. list_any (same_bytes p) (m.names d)) h
 
   pub sought_in_join : (p : List ℕ) → is_sought m whole p ≡ (is_sought m f p || is_sought m g p)
   sought_in_join p = both_ways (is_sought m whole p) (is_sought m f p || is_sought m g p)
       (λ h. let r = any_in nat_list_cmp_total name_same (λ k v. names_it p whole.subrs v) whole.glyphs h in
       elim (joined_some (maps.get f.glyphs r.0) (maps.get g.glyphs r.0) r.1 (sym (glyph_in_join m f g r.0) ∙ r.2)) [
-        | inl x ↦ or_left (is_sought m f p) (is_sought m g p) (seeks_it m f r.0 r.1 p x (sym (same_parts p whole.subrs f.subrs r.1 (left_runs m f g r.0 r.1 x).0) ∙ r.3))
-        | inr y ↦ or_right (is_sought m f p) (is_sought m g p) (seeks_it m g r.0 r.1 p y (sym (same_parts p whole.subrs g.subrs r.1 (right_runs r.0 r.1 y).0) ∙ r.3))
+        | inl x ↦ or_left (is_sought m f p) (is_sought m g p) (seeks_it m f r.0 r.1 p x (sym (same_components p whole.subrs f.subrs r.1 (left_runs m f g r.0 r.1 x).0) ∙ r.3))
+        | inr y ↦ or_right (is_sought m f p) (is_sought m g p) (seeks_it m g r.0 r.1 p y (sym (same_components p whole.subrs g.subrs r.1 (right_runs r.0 r.1 y).0) ∙ r.3))
       ])
       (λ h. elim (or_cases (is_sought m f p) (is_sought m g p) h) [
         | inl x ↦ let r = any_in nat_list_cmp_total name_same (λ k v. names_it p f.subrs v) f.glyphs x in
-            seeks_it m whole r.0 r.1 p (left_glyph m f g r.0 r.1 r.2) (same_parts p whole.subrs f.subrs r.1 (left_runs m f g r.0 r.1 r.2).0 ∙ r.3)
+            seeks_it m whole r.0 r.1 p (left_glyph m f g r.0 r.1 r.2) (same_components p whole.subrs f.subrs r.1 (left_runs m f g r.0 r.1 r.2).0 ∙ r.3)
         | inr y ↦ let r = any_in nat_list_cmp_total name_same (λ k v. names_it p g.subrs v) g.glyphs y in
-            seeks_it m whole r.0 r.1 p (right_glyph r.0 r.1 r.2) (same_parts p whole.subrs g.subrs r.1 (right_runs r.0 r.1 r.2).0 ∙ r.3)
+            seeks_it m whole r.0 r.1 p (right_glyph r.0 r.1 r.2) (same_components p whole.subrs g.subrs r.1 (right_runs r.0 r.1 r.2).0 ∙ r.3)
       ])
 
   -- ---- the states of the join

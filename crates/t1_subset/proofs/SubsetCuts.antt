@@ -11,7 +11,7 @@ use Rattle.t1_subset.specs.Interpreter.{Interpreter, Names, Numbers}
 use Rattle.t1_subset.specs.Keep.{keep, kept, subset}
 use Rattle.t1_subset.specs.Laws.{IsOf, DrawsAlike}
 use Rattle.t1_subset.specs.Profile.{profile}
-use Rattle.t1_subset.specs.NameSets.{number_set}
+use Rattle.t1_subset.specs.Calls.{number_set}
 use Rattle.t1_subset.proofs.Kept.{keep_has, keep_closed}
 use Rattle.t1_subset.proofs.Alike.{subset_alike}
 

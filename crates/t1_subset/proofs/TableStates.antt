@@ -16,15 +16,15 @@ use Rattle.t1_join.specs.TableMeaning.{TableMeaning, TablesAgree, IsFirstConflic
 use Rattle.t1_font.specs.FontValue.{FontValue, Named, declared_count}
 use Rattle.t1_font.specs.FontModel.{names_in}
 use Rattle.t1_font.specs.IsFont.{IsFont}
-use Rattle.t1_subset.specs.Interpreter.{Numbers, is_name}
+use Rattle.t1_subset.specs.Interpreter.{Numbers, same_bytes}
 use Rattle.t1_subset.specs.Profile.{profile}
 use Rattle.t1_subset.specs.States.{code_state, subr_state, state_of_entry, is_called, is_stub}
 use Rattle.t1_subset.specs.JoinedEntries.{past_stub}
-use Rattle.t1_subset.specs.NameSets.{number_set, called_in}
+use Rattle.t1_subset.specs.Calls.{number_set, called_in}
 use Rattle.t1_subset.specs.Keep.{has}
 use Rattle.t1_subset.specs.Conflicts.{agrees, members, code_conflict, glyph_clashes, glyph_conflict, glyph_names, subr_conflict}
 use Rattle.t1_subset.specs.Differences.{with_state}
-use Rattle.t1_subset.proofs.Conflicts.{names_decide, passes_none, in_both}
+use Rattle.t1_subset.proofs.Conflicts.{bytes_decide, passes_none, in_both}
 use Rattle.t1_subset.proofs.Sets.{is_or_not, not_so, name_same, tied, itself, here, later, or_left}
 use Rattle.t1_subset.proofs.Smallest.{smallest_is}
 use Rattle.t1_subset.proofs.FirstConflicts.{there_of, first_code, no_code, no_name}
@@ -32,15 +32,15 @@ use Rattle.t1_subset.proofs.ExecutedCalls.{called_so, first_subr, no_subr}
 
 -- ---- states that agree
 
-same_bytes : (v w : Meaning) → same_meaning v w ≡ is_name v w
-same_bytes v w = both_ways (same_meaning v w) (is_name v w)
-    (λ h. subst (λ (u : List ℕ). is_name v u ≡ true) (same_meaning-true v w h) (names_decide.self v))
-    (λ h. subst (λ (u : List ℕ). same_meaning v u ≡ true) (names_decide.so v w h) (same_meaning-self v))
+meanings_as_bytes : (v w : Meaning) → same_meaning v w ≡ same_bytes v w
+meanings_as_bytes v w = both_ways (same_meaning v w) (same_bytes v w)
+    (λ h. subst (λ (u : List ℕ). same_bytes v u ≡ true) (same_meaning-true v w h) (bytes_decide.self v))
+    (λ h. subst (λ (u : List ℕ). same_meaning v u ≡ true) (bytes_decide.so v w h) (same_meaning-self v))
 
 agree_alike : (x y : Option Meaning) → states_agree x y ≡ agrees x y
 agree_alike None y = refl
 agree_alike (Some v) None = refl
-agree_alike (Some v) (Some w) = same_bytes v w
+agree_alike (Some v) (Some w) = meanings_as_bytes v w
 
 no_clash : (x y a b : Option Meaning) → x ≡ a → y ≡ b → StatesAgree x y → not (agrees a b) ≡ false
 no_clash x y a b e f h = ap not ((λ i. agrees (sym e i) (sym f i)) ∙ sym (agree_alike x y) ∙ h)
@@ -145,8 +145,8 @@ module _ (t : TableMeaning) (x : ℕ → Option (List ℕ)) (n : ℕ) (h : Shows
 
 -- the table has the glyphs but for those of these names, which are the font's
 pub record Fills (g : Named) (t : TableMeaning) (left : List (List ℕ)) : Type 0 where
-  pub shown : (q : List ℕ) → list_any (is_name q) left ≡ false → maps.get t q ≡ maps.get g q
-  pub there : (q : List ℕ) → list_any (is_name q) left ≡ true → maps.contains_key g q ≡ true
+  pub shown : (q : List ℕ) → list_any (same_bytes q) left ≡ false → maps.get t q ≡ maps.get g q
+  pub there : (q : List ℕ) → list_any (same_bytes q) left ≡ true → maps.contains_key g q ≡ true
 
 not_there : (x : Option (List ℕ)) → is_some x ≡ false → None ≡ x
 not_there None h = refl
@@ -155,26 +155,26 @@ not_there (Some v) h = absurd (true≢false h)
 module _ (g : Named) where
   pub fills_none : (t : TableMeaning) (left : List (List ℕ)) → t ≡ maps.empty → left ≡ names_in g → Fills g t left
   fills_none t left e is = record {
-    shown = λ q h. ap (λ (t : TableMeaning). maps.get t q) e ∙ maps.get-empty meaning_cmp q ∙ not_there (maps.get g q) (maps.contains_key-keys g q ∙ ap (list_any (is_name q)) (sym is) ∙ h);
-    there = λ q h. maps.contains_key-keys g q ∙ ap (list_any (is_name q)) (sym is) ∙ h;
+    shown = λ q h. ap (λ (t : TableMeaning). maps.get t q) e ∙ maps.get-empty meaning_cmp q ∙ not_there (maps.get g q) (maps.contains_key-keys g q ∙ ap (list_any (same_bytes q)) (sym is) ∙ h);
+    there = λ q h. maps.contains_key-keys g q ∙ ap (list_any (same_bytes q)) (sym is) ∙ h;
   }
 
   pub fills_more : (t u : TableMeaning) (n c : List ℕ) (left : List (List ℕ)) → Fills g t (n ∷ left) → maps.get g n ≡ Some c → u ≡ maps.insert t n c → Fills g u left
   fills_more t u n c left h e is = record {
     shown = λ q w. ap (λ (t : TableMeaning). maps.get t q) is ∙ maps.get-insert nat_list_cmp_total t n c q
-        ∙ (elim (is_or_not (is_name q n)) [
+        ∙ (elim (is_or_not (same_bytes q n)) [
           | inl a ↦ ap (λ b. cond b (Some c) (maps.get t q)) a ∙ sym e ∙ ap (maps.get g) (sym (tied nat_list_cmp_total name_same q n a))
           | inr a ↦ ap (λ b. cond b (Some c) (maps.get t q)) a ∙ h.shown q ((λ i. a i || w i))
         ]);
-    there = λ q w. h.there q (later (is_name q) n left w);
+    there = λ q w. h.there q (later (same_bytes q) n left w);
   }
 
   pub fills_next : (t u : TableMeaning) (n : List ℕ) (left : List (List ℕ)) (s : Option (List ℕ)) → Fills g t (n ∷ left) → u ≡ with_state t n s → s ≡ maps.get g n → Fills g u left
-  fills_next t u n left None h is e = absurd (true≢false (sym (h.there n (here (is_name n) n left (itself nat_list_cmp_total name_same n))) ∙ ap is_some (sym e)))
+  fills_next t u n left None h is e = absurd (true≢false (sym (h.there n (here (same_bytes n) n left (itself nat_list_cmp_total name_same n))) ∙ ap is_some (sym e)))
   fills_next t u n left (Some c) h is e = fills_more t u n c left h (sym e) is
 
   pub fills_all : (t : TableMeaning) (left : List (List ℕ)) → Fills g t left → left ≡ [] → (q : List ℕ) → maps.get t q ≡ maps.get g q
-  fills_all t left h e q = h.shown q (ap (list_any (is_name q)) e)
+  fills_all t left h e q = h.shown q (ap (list_any (same_bytes q)) e)
 
 -- ---- the smallest glyph
 

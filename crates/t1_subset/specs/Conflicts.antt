@@ -9,8 +9,8 @@ use Rattle.std.specs.FinSet as sets
 use Rattle.t1_font.specs.FontValue.{FontValue, SubrsShell, Encoding, Word, Codes, name_cmp, declared_count, count_limit, weight_limit, weight}
 use Rattle.t1_font.specs.FontModel.{of_subrs}
 use Rattle.t1_font.specs.Cut.{map_values, merged}
-use Rattle.t1_subset.specs.Interpreter.{Interpreter, is_name}
-use Rattle.t1_subset.specs.Keep.{has, parts}
+use Rattle.t1_subset.specs.Interpreter.{Interpreter, same_bytes}
+use Rattle.t1_subset.specs.Keep.{has, components}
 use Rattle.t1_subset.specs.States.{code_state, subr_state, joined_font}
 
 -- the parts of a shell, in the order in which they are compared
@@ -25,12 +25,12 @@ pub data ShellPart : Type 0 where
   GlyphsWords : ShellPart
   Tail : ShellPart
 
--- why two fonts do not join, by the numbers of the table of conflicts; the glyph of a part is the smallest that names it in the font that lacks it, and that of a Subr the smallest that executes it
+-- why two fonts do not join, by the numbers of the table of conflicts; the glyph of a component is the smallest that names it in the font that lacks it, and that of a Subr the smallest that executes it
 pub data Conflict : Type 0 where
   ShellDiffers : (part : ShellPart) → Conflict
   CodeDiffers : (code : ℕ) → Conflict
   GlyphDiffers : (name : List ℕ) → Conflict
-  PartLacks : (glyph part : List ℕ) → Conflict
+  LacksComponent : (glyph component : List ℕ) → Conflict
   SubrDiffers : (index : ℕ) (user : Option (List ℕ)) → Conflict
   OverLimit : Conflict
 
@@ -67,7 +67,7 @@ keys_of_both a b = map_values (λ k v. 0) (merged a b)
 abbrev pub agrees : Option (List ℕ) → Option (List ℕ) → Bool
 agrees None y = true
 agrees (Some v) None = true
-agrees (Some v) (Some w) = is_name v w
+agrees (Some v) (Some w) = same_bytes v w
 
 abbrev pub same_number : ℕ → ℕ → Bool
 same_number = eq_by_cmp nat_cmp
@@ -77,7 +77,7 @@ same_bool a b = cond a b (not b)
 
 -- the words of two tables of Subrs are the same, nothing where there is no table
 abbrev pub same_words : Option SubrsShell → Option SubrsShell → Bool
-same_words s t = is_name (of_subrs (λ w. w.rd) s) (of_subrs (λ w. w.rd) t) && (is_name (of_subrs (λ w. w.put) s) (of_subrs (λ w. w.put) t) && is_name (of_subrs (λ w. w.closing) s) (of_subrs (λ w. w.closing) t))
+same_words s t = same_bytes (of_subrs (λ w. w.rd) s) (of_subrs (λ w. w.rd) t) && (same_bytes (of_subrs (λ w. w.put) s) (of_subrs (λ w. w.put) t) && same_bytes (of_subrs (λ w. w.closing) s) (of_subrs (λ w. w.closing) t))
 
 -- each key of either is one of the other
 abbrev pub same_keys : {K X : Type 0} {R : K → K → Ordering} → maps.FinMap R X → maps.FinMap R X → Bool
@@ -85,7 +85,7 @@ same_keys a b = list_all (maps.contains_key b) (maps.keys a) && list_all (maps.c
 
 -- the same word, or both tables
 abbrev pub same_kind : Encoding → Encoding → Bool
-same_kind (Word v) (Word w) = is_name v w
+same_kind (Word v) (Word w) = same_bytes v w
 same_kind (Word v) (Codes t) = false
 same_kind (Codes s) (Word w) = false
 same_kind (Codes s) (Codes t) = true
@@ -105,15 +105,15 @@ clashes_at a b k = not (agrees (maps.get a k) (maps.get b k))
 module _ (f g : FontValue) where
   -- whether a shell part is the same
   abbrev pub same_part : ShellPart → Bool
-  same_part Head = is_name f.shell.head g.shell.head
+  same_part Head = same_bytes f.shell.head g.shell.head
   same_part EncodingPart = same_kind f.encoding g.encoding
-  same_part ClearTail = is_name f.shell.clear_tail g.shell.clear_tail
-  same_part Private = is_name f.shell.private g.shell.private && same_number f.shell.len_iv g.shell.len_iv
+  same_part ClearTail = same_bytes f.shell.clear_tail g.shell.clear_tail
+  same_part Private = same_bytes f.shell.private g.shell.private && same_number f.shell.len_iv g.shell.len_iv
   same_part SubrsTable = same_bool (is_some f.shell.subrs) (is_some g.shell.subrs) && (same_number (declared_count f.shell.subrs) (declared_count g.shell.subrs) && same_keys f.subrs g.subrs)
   same_part SubrsWords = same_words f.shell.subrs g.shell.subrs
-  same_part Middle = is_name f.shell.middle g.shell.middle
-  same_part GlyphsWords = is_name f.shell.glyphs_rd g.shell.glyphs_rd && is_name f.shell.glyphs_def g.shell.glyphs_def
-  same_part Tail = is_name f.shell.tail g.shell.tail
+  same_part Middle = same_bytes f.shell.middle g.shell.middle
+  same_part GlyphsWords = same_bytes f.shell.glyphs_rd g.shell.glyphs_rd && same_bytes f.shell.glyphs_def g.shell.glyphs_def
+  same_part Tail = same_bytes f.shell.tail g.shell.tail
 
   abbrev pub code_clashes : ℕ → Bool
   code_clashes c = not (agrees (code_state f.encoding c) (code_state g.encoding c))
@@ -146,24 +146,24 @@ module _ {O : Type 0} (m : Interpreter O) where
 
   abbrev pub called_at : FontValue → List ℕ → Option (List ℕ) → Bool
   called_at f p None = false
-  called_at f p (Some c) = list_any (is_name p) (parts m f.subrs c)
+  called_at f p (Some c) = list_any (same_bytes p) (components m f.subrs c)
 
-  -- the glyph of this name names the part
+  -- the glyph of this name names the component
   abbrev pub calls_for : FontValue → List ℕ → List ℕ → Bool
   calls_for f n p = called_at f p (maps.get f.glyphs n)
 
-  -- the font lacks a part that its glyph of this name calls for
+  -- the font lacks a component that its glyph of this name calls for
   abbrev pub wants : FontValue → List ℕ → List ℕ → Bool
   wants f n p = not (has f p) && calls_for f n p
 
   module _ (f g : FontValue) where
-    -- a glyph of either font calls for a part that its font lacks
+    -- a glyph of either font calls for a component that its font lacks
     abbrev pub wanted_by : List ℕ → List ℕ → Bool
     wanted_by p n = wants f n p || wants g n p
 
-    -- one font has the part, and the other lacks it and calls for it
-    abbrev pub part_clashes : List ℕ → Bool
-    part_clashes p = (has f p || has g p) && list_any (wanted_by p) (members (glyph_names f g))
+    -- one font has the component, and the other lacks it and calls for it
+    abbrev pub component_clashes : List ℕ → Bool
+    component_clashes p = (has f p || has g p) && list_any (wanted_by p) (members (glyph_names f g))
 
     -- the entries differ, and neither is a stub that no glyph executes
     abbrev pub subr_clashes : ℕ → Bool
@@ -176,8 +176,8 @@ module _ {O : Type 0} (m : Interpreter O) where
     abbrev pub is_within : Bool
     is_within = nat_le (weight (joined_font m f g)) weight_limit && nat_le (maps.len (joined_font m f g).glyphs) count_limit
 
-    abbrev pub part_conflict : Option (List ℕ)
-    part_conflict = smallest part_clashes (glyph_names f g)
+    abbrev pub component_conflict : Option (List ℕ)
+    component_conflict = smallest component_clashes (glyph_names f g)
 
     abbrev pub subr_conflict : Option ℕ
     subr_conflict = smallest subr_clashes (keys_of_both f.subrs g.subrs)
@@ -188,7 +188,7 @@ module _ {O : Type 0} (m : Interpreter O) where
         found ShellDiffers (shell_conflict f g)
         (found CodeDiffers (code_conflict f g)
         (found GlyphDiffers (glyph_conflict f g)
-        (found (λ p. PartLacks (unwrap_or (smallest (wanted_by p) (glyph_names f g)) []) p) part_conflict
+        (found (λ p. LacksComponent (unwrap_or (smallest (wanted_by p) (glyph_names f g)) []) p) component_conflict
         (found (λ i. SubrDiffers i (smallest (used_by i) (glyph_names f g))) subr_conflict None))))
 
     -- the lowest conflict of two fonts

@@ -13,11 +13,11 @@ Names = sets.FinSet name_cmp
 abbrev pub Numbers : Type 0
 Numbers = sets.FinSet nat_cmp
 
--- the names are the same
-abbrev pub is_name : List ℕ → List ℕ → Bool
-is_name a b = is_eq (name_cmp a b)
+-- the bytes are the same
+abbrev pub same_bytes : List ℕ → List ℕ → Bool
+same_bytes a b = is_eq (name_cmp a b)
 
--- An interpreter: what a charstring comes to in a font of these Subrs, the indices that it executes, and the parts that an outcome names; it depends on no Subr but those that it executes.
+-- An interpreter: what a charstring comes to in a font of these Subrs, the indices that it executes, and the components that an outcome names; it depends on no Subr but those that it executes.
 pub record Interpreter (O : Type 0) : Type 0 where
   pub direct : Numbered → List ℕ → O
   pub exec : Numbered → List ℕ → Numbers

@@ -22,18 +22,18 @@ module _ (f : FontValue) where
   abbrev pub has : List ℕ → Bool
   has n = maps.contains_key f.glyphs n
 
--- the parts that a charstring names
-abbrev pub parts : {O : Type 0} → Interpreter O → Numbered → List ℕ → List (List ℕ)
-parts m s c = m.names (m.direct s c)
+-- the components that a charstring names: of an accented glyph, its base and its accent
+abbrev pub components : {O : Type 0} → Interpreter O → Numbered → List ℕ → List (List ℕ)
+components m s c = m.names (m.direct s c)
 
 module _ {O : Type 0} (m : Interpreter O) (f : FontValue) where
-  -- those parts of a glyph that the font has
-  abbrev pub parts_here : List ℕ → Names
-  parts_here n = sets.from_list (filter (has f) (parts m f.subrs (charstring f n)))
+  -- those components of a glyph that the font has
+  abbrev pub components_here : List ℕ → Names
+  components_here n = sets.from_list (filter (has f) (components m f.subrs (charstring f n)))
 
-  -- a set of names has those asked for, `.notdef`, and the parts of each of its names
+  -- a set of names has those asked for, `.notdef`, and the components of each of its names
   abbrev pub is_closed : Names → Names → Bool
-  is_closed asked s = sets.contains s notdef && (sets.is_subset asked s && list_all (λ n. sets.is_subset (parts_here n) s) (sets.items s))
+  is_closed asked s = sets.contains s notdef && (sets.is_subset asked s && list_all (λ n. sets.is_subset (components_here n) s) (sets.items s))
 
   -- a name is in each closed set of the font's names
   abbrev pub is_needed : Names → List ℕ → Bool
@@ -59,4 +59,4 @@ module _ {O : Type 0} (m : Interpreter O) (f : FontValue) where
   pub record Closed (a s : Names) : Type 0 where
     pub asked : (n : List ℕ) → sets.contains a n ≡ true → sets.contains s n ≡ true
     pub notdef : sets.contains s notdef ≡ true
-    pub parts : (n p : List ℕ) → sets.contains s n ≡ true → sets.contains (parts_here n) p ≡ true → sets.contains s p ≡ true
+    pub components : (n p : List ℕ) → sets.contains s n ≡ true → sets.contains (components_here n) p ≡ true → sets.contains s p ≡ true

@@ -9,10 +9,11 @@ pub mod Trees
 pub mod Conflicts
 pub mod Laws
 pub mod Differences
-pub mod Marks
 pub mod NameSets
+pub mod ClosureNames
+pub mod Calls
 pub mod Lacking
 pub mod Runs
 pub mod Refusals
-pub mod Merging
+pub mod Merger
 pub mod Headline

@@ -1,16 +1,24 @@
--- Sets of names and of indices in memory.
-use Rattle.std.specs.Prelude.{◌≡◌, ℕ, true, List, flat_map}
+-- Names in memory, as lists and as sets.
+use Rattle.std.specs.Prelude.{◌≡◌, ℕ, true, List, map}
 use Rattle.std.specs.declared.cmp.Ordering.TheVariants.{Less}
+use Rattle.std.specs.Borrow.{Bor}
 use Rattle.std.specs.Global.{Vec}
 use Rattle.std.specs.Coded.{Coded, coded_list, coded_ℕ}
-use Rattle.t1_font.specs.FontValue.{FontValue, name_cmp}
-use Rattle.t1_font.specs.FontModel.{names_in}
-use Rattle.std.specs.BTreeSet.{BTreeSet}
 use Rattle.std.specs.FinSet as sets
-use Rattle.t1_subset.specs.Interpreter.{Names, Numbers}
-use Rattle.t1_subset.specs.Keep.{charstring}
-use Rattle.t1_subset.specs.Profile.{profile}
-use Rattle.t1_subset.specs.Marks.{names_of}
+use Rattle.t1_font.specs.FontValue.{name_cmp}
+use Rattle.t1_subset.specs.Interpreter.{Names}
+
+-- the names of a list, as bytes
+abbrev pub names_of : List (Vec ℕ) → List (List ℕ)
+names_of vs = map (λ v. v.items) vs
+
+-- the names of a list that is lent
+abbrev pub lent : List (Bor (List ℕ)) → List (List ℕ)
+lent ns = map (λ n. n.now) ns
+
+-- the set of the names that are asked for
+abbrev pub asked : List (Bor (List ℕ)) → Names
+asked ns = sets.from_list (lent ns)
 
 abbrev pub names_code : Coded Names
 names_code = sets.code (coded_list coded_ℕ)
@@ -18,14 +26,6 @@ names_code = sets.code (coded_list coded_ℕ)
 -- the set of names in the order of their bytes
 abbrev pub set_by : List (Vec ℕ) → Names
 set_by vs = sets.from_list (names_of vs)
-
--- a set of indices in memory
-abbrev pub number_set : BTreeSet ℕ → Numbers
-number_set s = sets.from_list s.keys
-
--- the indices that the glyphs of a font execute
-abbrev pub called_in : FontValue → Numbers
-called_in f = sets.from_list (flat_map (λ n. sets.items (profile.exec f.subrs (charstring f n))) (names_in f.glyphs))
 
 -- a name of the set, of which none is smaller
 pub record IsLeast (s : Names) (n : List ℕ) : Type 0 where

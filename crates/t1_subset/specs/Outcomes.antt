@@ -3,15 +3,15 @@ use Rattle.std.specs.Prelude.{List, ℕ, map, Option, option_map}
 use Rattle.std.specs.FinMap as maps
 use Rattle.t1_font.specs.FontValue.{FontValue}
 use Rattle.t1_subset.specs.Interpreter.{Interpreter}
-use Rattle.t1_subset.specs.Keep.{parts}
+use Rattle.t1_subset.specs.Keep.{components}
 
--- a part's own outcome, where the font has the part
-abbrev pub part_outcome : {O : Type 0} → Interpreter O → FontValue → List ℕ → Option O
-part_outcome m f p = option_map (m.direct f.subrs) (maps.get f.glyphs p)
+-- a component's own outcome, where the font has the component
+abbrev pub component_outcome : {O : Type 0} → Interpreter O → FontValue → List ℕ → Option O
+component_outcome m f p = option_map (m.direct f.subrs) (maps.get f.glyphs p)
 
--- the outcome of a charstring, and those of its parts
+-- the outcome of a charstring, and those of its components
 abbrev pub seen : {O : Type 0} → Interpreter O → FontValue → List ℕ → O × List (Option O)
-seen m f c = (m.direct f.subrs c, map (part_outcome m f) (parts m f.subrs c))
+seen m f c = (m.direct f.subrs c, map (component_outcome m f) (components m f.subrs c))
 
 -- what a drawing is a function of
 abbrev pub drawing : {O : Type 0} → Interpreter O → FontValue → List ℕ → Option (O × List (Option O))

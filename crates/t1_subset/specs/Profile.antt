@@ -27,6 +27,6 @@ pub profile_local : (s t : Numbered) (c : List ℕ) → ((i : ℕ) → sets.cont
 profile_local s t c h =
     let l = local (maps.get s) (maps.get t) c (λ i k. sym (h i (in_set_of (exec (maps.get s) c) i k))) in (l.0, ap set_of l.1)
 
--- what a charstring answers where hints are replaced, what it executes, and the standard names of its parts
+-- what a charstring answers where hints are replaced, what it executes, and the standard names of its components
 unfoldable pub profile : Interpreter Ending
 profile = record { direct = λ s c. direct (maps.get s) c; exec = λ s c. set_of (exec (maps.get s) c); names = parts_of; local = profile_local }

@@ -5,7 +5,7 @@ use Rattle.t1_subset.specs.declared.fault.SubsetFault.{SubsetFault}
 use Rattle.t1_subset.specs.declared.fault.SubsetFault.TheVariants.{NoSuchGlyph, Memory}
 use Rattle.t1_subset.specs.declared.conflict.Conflict.{Conflict as Refusal}
 use Rattle.t1_subset.specs.declared.conflict.Conflict.TheVariants as refusal
-use Rattle.t1_subset.specs.Conflicts.{Conflict, ShellDiffers, CodeDiffers, GlyphDiffers, PartLacks, SubrDiffers, OverLimit}
+use Rattle.t1_subset.specs.Conflicts.{Conflict, ShellDiffers, CodeDiffers, GlyphDiffers, LacksComponent, SubrDiffers, OverLimit}
 use Rattle.t1_subset.specs.Differences.{shell_part, bytes_of}
 
 -- the refusal names the first name that is absent; want of memory says nothing
@@ -18,7 +18,7 @@ abbrev pub Tells : Refusal → Option Conflict → Type 0
 Tells (refusal.Shell p) c = c ≡ Some (ShellDiffers (shell_part p))
 Tells (refusal.Code n) c = c ≡ Some (CodeDiffers n)
 Tells (refusal.Glyph n) c = c ≡ Some (GlyphDiffers n.items)
-Tells (refusal.Part g p) c = c ≡ Some (PartLacks g.items p.items)
+Tells (refusal.Part g p) c = c ≡ Some (LacksComponent g.items p.items)
 Tells (refusal.Subr i g) c = c ≡ Some (SubrDiffers i (option_map bytes_of g))
 Tells refusal.Limit c = c ≡ Some OverLimit
 Tells refusal.Memory c = Unit {0}

@@ -7,7 +7,7 @@ use Rattle.t1_font.specs.FontValue.{FontValue, Shell, Encoding, name_cmp}
 use Rattle.t1_font.specs.Cut.{map_values, merged}
 use Rattle.t1_font.specs.WriteLaws.{SameKind}
 use Rattle.t1_subset.specs.Interpreter.{Interpreter}
-use Rattle.t1_subset.specs.Keep.{parts}
+use Rattle.t1_subset.specs.Keep.{components}
 use Rattle.t1_subset.specs.States.{Agree, entry_state, code_state}
 
 -- at each present index its state, at each name that is there or sought its charstring or None
@@ -18,9 +18,9 @@ pub record States : Type 0 where
   pub names : maps.FinMap name_cmp (Option (List ℕ))
 
 module _ {O : Type 0} (m : Interpreter O) (f : FontValue) where
-  -- all parts that the glyphs name
-  abbrev pub all_parts : List (List ℕ)
-  all_parts = flat_map (λ g. parts m f.subrs g.1) (maps.entries f.glyphs)
+  -- all components that the glyphs name
+  abbrev pub all_components : List (List ℕ)
+  all_components = flat_map (λ g. components m f.subrs g.1) (maps.entries f.glyphs)
 
   -- the states of a font
   abbrev pub states_of : States
@@ -28,7 +28,7 @@ module _ {O : Type 0} (m : Interpreter O) (f : FontValue) where
     shell = f.shell;
     encoding = f.encoding;
     subrs = map_values (entry_state m f) f.subrs;
-    names = merged (map_values (λ n c. Some c) f.glyphs) (maps.from_entries (map (λ p. (p, None)) all_parts));
+    names = merged (map_values (λ n c. Some c) f.glyphs) (maps.from_entries (map (λ p. (p, None)) all_components));
   }
 
 -- two values agree where all their states join

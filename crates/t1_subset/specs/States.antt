@@ -8,8 +8,8 @@ use Rattle.std.specs.FinSet as sets
 use Rattle.t1_font.specs.FontValue.{FontValue, Encoding, Word, Codes, count_limit, weight_limit, weight}
 use Rattle.t1_font.specs.Cut.{map_values, merged, stub, join_encodings}
 use Rattle.t1_font.specs.WriteLaws.{SameKind}
-use Rattle.t1_subset.specs.Interpreter.{Interpreter, is_name}
-use Rattle.t1_subset.specs.Keep.{parts}
+use Rattle.t1_subset.specs.Interpreter.{Interpreter, same_bytes}
+use Rattle.t1_subset.specs.Keep.{components}
 
 -- ---- flat states: None is the bottom
 
@@ -44,9 +44,9 @@ module _ {O : Type 0} (m : Interpreter O) where
     abbrev pub is_called : ℕ → Bool
     is_called i = list_any (λ g. sets.contains (m.exec f.subrs g.1) i) (maps.entries f.glyphs)
 
-    -- some glyph names the part
+    -- some glyph names the component
     abbrev pub is_sought : List ℕ → Bool
-    is_sought n = list_any (λ g. list_any (is_name n) (parts m f.subrs g.1)) (maps.entries f.glyphs)
+    is_sought n = list_any (λ g. list_any (same_bytes n) (components m f.subrs g.1)) (maps.entries f.glyphs)
 
     -- an entry, or the bottom where it is a stub that no glyph executes
     abbrev pub entry_state : ℕ → List ℕ → Option (List ℕ)

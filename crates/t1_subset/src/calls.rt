@@ -4,7 +4,7 @@ ghost use Rattle.std.specs.Prelude.{◌≡◌, IfOk, OnOk, ◌∷◌, []};
 ghost use Rattle.std.specs.FinSet as sets;
 ghost use Rattle.t1_subset.specs.Profile.{profile};
 ghost use Rattle.t1_subset.specs.Conflicts.{executes};
-ghost use Rattle.t1_subset.specs.NameSets.{number_set};
+ghost use Rattle.t1_subset.specs.Calls.{number_set};
 
 use std::alloc::{AllocError, Global};
 use std::collections::BTreeSet;

@@ -8,13 +8,13 @@ ghost use Rattle.t1_subset.specs.Profile.{profile};
 ghost use Rattle.t1_subset.specs.Keep.{has, keep, kept};
 ghost use Rattle.t1_subset.specs.Laws.{IsOf};
 ghost use Rattle.t1_subset.specs.Conflicts.{first_where};
-ghost use Rattle.t1_subset.specs.Marks.{names_of, lent, asked};
-ghost use Rattle.t1_subset.specs.NameSets.{set_by, number_set};
+ghost use Rattle.t1_subset.specs.Calls.{number_set};
+ghost use Rattle.t1_subset.specs.NameSets.{names_of, lent, asked, set_by};
 ghost use Rattle.t1_subset.specs.Refusals.{Absent};
 
+use crate::closure_names::has_glyph;
 use crate::fault::SubsetFault;
-use crate::marks::has_glyph;
-use crate::names::NameSet;
+use crate::name_sets::NameSet;
 use crate::needed::{Closure, needed};
 use std::alloc::{AllocError, Global};
 use t1_font::Font;
@@ -50,13 +50,13 @@ fn closure_of(alloc: Global, font: &Font<'_>, names: &[&[u8]]) -> Result<Closure
     ensures upwards { IfOk result (λ c. IsStrictlySortedBy name_cmp (names_of c.names.items)) }
     ensures subrs { IfOk result (λ c. number_set c.subrs ≡ kept profile font.now (asked names.now)) }
 {
-    let (marks, subrs) = needed(alloc, font, names)?;
-    let names = upwards(alloc, marks.as_slice())?;
+    let (closure, subrs) = needed(alloc, font, names)?;
+    let names = upwards(alloc, closure.as_slice())?;
     Ok(Closure { names, subrs })
 }
 
 /// What a set of names needs of a font: the glyphs of these names and `.notdef`, with each accented glyph
-/// those of its parts that the font has, by StandardEncoding (Adobe Type 1 Font Format 1.1, chapter 6);
+/// those of its components that the font has, by StandardEncoding (Adobe Type 1 Font Format 1.1, chapter 6);
 /// and the Subrs 0 to 3 with all that these glyphs execute. A name may be asked for more than once.
 ///
 /// It fails with [`SubsetFault::NoSuchGlyph`] where the font lacks a name that is asked for, the first

@@ -33,7 +33,7 @@ pub enum Conflict {
     Code { code: u8 },
     /// Both fonts have the name, with different charstrings.
     Glyph { name: Vec<u8> },
-    /// One font lacks the part, which this glyph of its own names, the smallest such; the other font has it.
+    /// One font lacks the part, a component that this glyph of its own names, the smallest such; the other font has it.
     Part { glyph: Vec<u8>, part: Vec<u8> },
     /// The entries of the Subr differ, and neither is a `return` that no glyph of its font executes. The glyph
     /// is the smallest of either font that executes the index there, where one does.

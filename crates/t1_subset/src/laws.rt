@@ -37,7 +37,7 @@ pub fn subset_of_subset()
     ensures { SubsetOfSubset profile }
 {}
 
-/// What a subset doesn't keep is the bottom in it; a part that it seeks and lacks is lacking in the font.
+/// What a subset doesn't keep is the bottom in it; a component that it seeks and lacks is lacking in the font.
 pub fn bottom()
     ensures { Bottom profile }
 {}

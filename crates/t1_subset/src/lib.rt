@@ -2,15 +2,15 @@
 #![tactic(auto)]
 
 mod calls;
+mod closure_names;
 mod closures;
 mod conflict;
 mod entries;
 mod fault;
 mod lacking;
 pub mod laws;
-mod marks;
 mod merger;
-mod names;
+mod name_sets;
 mod needed;
 mod runs;
 mod shells;

@@ -7,11 +7,11 @@ ghost use Rattle.t1_subset.specs.Conflicts.{conflict, states_conflict};
 ghost use Rattle.t1_subset.specs.Runs.{IsRuns, entries_conflict, runs_conflict};
 ghost use Rattle.t1_subset.specs.Trees.{Merges, Leaf, left_tree};
 ghost use Rattle.t1_subset.specs.Refusals.{Tells};
-ghost use Rattle.t1_subset.specs.Merging.{DrawsBoth, StopsAt, ComesTo, IsRefused, MergesSubsets, MergesAllSubsets};
+ghost use Rattle.t1_subset.specs.Merger.{DrawsBoth, StopsAt, ComesTo, IsRefused, MergesSubsets, MergesAllSubsets};
 
 use crate::conflict::Conflict;
 use crate::entries::{code_conflict, glyph_conflict};
-use crate::lacking::{part_conflict, seeker};
+use crate::lacking::{component_conflict, seeker};
 use crate::runs::{Runs, add_runs, runs_of};
 use crate::shells::shell_conflict;
 use crate::users::{subr_conflict, user};
@@ -55,11 +55,20 @@ fn runs_conflict(
     ensures ok { IfOk result (λ _. runs_conflict left.now right.now ≡ None) }
     ensures err { IfErr result (λ e. Tells e (runs_conflict left.now right.now)) }
 {
-    match part_conflict(alloc, left, right, &left_runs.parts, &right_runs.parts) {
+    match component_conflict(
+        alloc,
+        left,
+        right,
+        &left_runs.components,
+        &right_runs.components,
+    ) {
         Err(_) => return Err(Conflict::Memory),
-        Ok(Some(part)) => {
-            return match seeker(alloc, left, right, part.as_slice()) {
-                Ok(glyph) => Err(Conflict::Part { glyph, part }),
+        Ok(Some(component)) => {
+            return match seeker(alloc, left, right, component.as_slice()) {
+                Ok(glyph) => Err(Conflict::Part {
+                    glyph,
+                    part: component,
+                }),
                 Err(_) => Err(Conflict::Memory),
             };
         }
@@ -187,7 +196,7 @@ fn all_joined<'a>(alloc: Global, fonts: &[Font<'a>]) -> Result<Font<'a>, Conflic
 /// The font that two fonts make together: the shell of both, the codes and glyphs of either, and for each Subr
 /// the entry of either, where one that is `return` and that no glyph of its font executes gives way to the other
 /// (Adobe Type 1 Font Format 1.1, chapters 2 and 8). It is answered exactly where the fonts join: where their
-/// shells are the same, what both have is the same, no font lacks a part that it needs and the other has, and
+/// shells are the same, what both have is the same, no font lacks a component that it needs and the other has, and
 /// the font of both is within the limits.
 ///
 /// Else the lowest [`Conflict`] is answered, the same in both orders of the fonts; want of memory may be

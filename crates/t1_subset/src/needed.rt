@@ -5,11 +5,11 @@ ghost use Rattle.std.specs.FinSet as sets;
 ghost use Rattle.t1_subset.specs.Profile.{profile};
 ghost use Rattle.t1_subset.specs.Keep.{keep, kept};
 ghost use Rattle.t1_subset.specs.Laws.{IsOf};
-ghost use Rattle.t1_subset.specs.Marks.{asked};
-ghost use Rattle.t1_subset.specs.NameSets.{number_set};
+ghost use Rattle.t1_subset.specs.Calls.{number_set};
+ghost use Rattle.t1_subset.specs.NameSets.{asked};
 
 use crate::calls::{add_all, first_four};
-use crate::marks::{Marks, mark_parts};
+use crate::closure_names::{ClosureNames, add_components};
 use crate::runs::run_of;
 use std::alloc::{AllocError, Global};
 use std::collections::BTreeSet;
@@ -32,22 +32,22 @@ pub(crate) fn needed<'a>(
     alloc: Global,
     font: &Font<'_>,
     names: &[&'a [u8]],
-) -> Result<(Marks<'a>, BTreeSet<u16>), AllocError>
+) -> Result<(ClosureNames<'a>, BTreeSet<u16>), AllocError>
     requires { IsOf font.now (asked names.now) }
     ensures names { IfOk result (λ r. sets.from_list r.0 ≡ keep profile font.now (asked names.now)) }
     ensures subrs { IfOk result (λ r. number_set r.1 ≡ kept profile font.now (asked names.now)) }
 {
     font.is_font();
-    let mut marks = Marks::new(alloc);
-    marks.mark(b".notdef")?;
-    marks.mark_all(names)?;
+    let mut closure = ClosureNames::new(alloc);
+    closure.add(b".notdef")?;
+    closure.add_all(names)?;
     let mut calls = first_four(alloc)?;
     let mut place = 0;
-    'marks: while let Some(name) = marks.get(place) {
-        let (parts, more) = run_of(alloc, font, name)?;
-        mark_parts(font, &mut marks, parts.as_slice())?;
+    'closure: while let Some(name) = closure.get(place) {
+        let (components, more) = run_of(alloc, font, name)?;
+        add_components(font, &mut closure, components.as_slice())?;
         add_all(&mut calls, &more)?;
         place += 1;
     }
-    Ok((marks, calls))
+    Ok((closure, calls))
 }

@@ -3,7 +3,7 @@
 ghost use Rattle.std.specs.Prelude.{◌≡◌, not, map};
 ghost use Rattle.std.specs.Option.{option_map};
 ghost use Rattle.t1_font.specs.FontModel.{part_of};
-ghost use Rattle.t1_subset.specs.Interpreter.{is_name};
+ghost use Rattle.t1_subset.specs.Interpreter.{same_bytes};
 ghost use Rattle.t1_subset.specs.Conflicts.{agrees, first_where, same_kind, same_keys, same_part, shell_conflict};
 ghost use Rattle.t1_subset.specs.Differences.{shell_part};
 
@@ -26,7 +26,7 @@ const PARTS: [ShellPart; 9] = [
 
 /// Whether two byte strings are the same.
 pub(crate) fn same_bytes(left: &[u8], right: &[u8]) -> bool
-    ensures { result ≡ is_name left.now right.now }
+    ensures { result ≡ same_bytes left.now right.now }
 {
     left == right
 }
@@ -43,7 +43,7 @@ pub(crate) fn differ(left: Option<&[u8]>, right: Option<&[u8]>) -> bool
 
 /// Whether the fonts have the same kept text, or words, here.
 fn same_text(left: &Font<'_>, right: &Font<'_>, part: Part) -> bool
-    ensures { result ≡ is_name (part_of part left.now.shell) (part_of part right.now.shell) }
+    ensures { result ≡ same_bytes (part_of part left.now.shell) (part_of part right.now.shell) }
 {
     same_bytes(left.text(part), right.text(part))
 }

@@ -8,7 +8,7 @@ ghost use Rattle.t1_subset.specs.Profile.{profile};
 ghost use Rattle.t1_subset.specs.States.{code_state, subr_state};
 ghost use Rattle.t1_subset.specs.JoinedEntries.{past_stub};
 ghost use Rattle.t1_subset.specs.Differences.{with_state};
-ghost use Rattle.t1_subset.specs.NameSets.{number_set, called_in};
+ghost use Rattle.t1_subset.specs.Calls.{number_set, called_in};
 
 use std::alloc::{AllocError, Global};
 use std::collections::BTreeSet;

@@ -7,7 +7,7 @@ ghost use Rattle.t1_font.specs.FontModel.{names_in};
 ghost use Rattle.t1_subset.specs.Profile.{profile};
 ghost use Rattle.t1_subset.specs.Conflicts.{first_where, smallest, executes, subr_conflict, used_by, glyph_names};
 ghost use Rattle.t1_subset.specs.Differences.{bytes_of, smaller, EntriesAgree};
-ghost use Rattle.t1_subset.specs.NameSets.{number_set, called_in};
+ghost use Rattle.t1_subset.specs.Calls.{number_set, called_in};
 
 use crate::calls::executed_by;
 use crate::shells::differ;

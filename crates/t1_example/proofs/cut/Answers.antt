@@ -4,7 +4,7 @@ use Rattle.t1_font.specs.FontValue.{FontValue}
 use Rattle.t1_font.specs.WriteLaws.{Fits}
 use Rattle.t1_subset.specs.Keep.{subset}
 use Rattle.t1_subset.specs.Laws.{IsOf}
-use Rattle.t1_subset.specs.Marks.{lent, asked}
+use Rattle.t1_subset.specs.NameSets.{lent, asked}
 use Rattle.t1_subset.specs.Profile.{profile}
 use Rattle.t1_example.proofs.Callers.{none_lacking, cut_fits}
 use Rattle.t1_example.proofs.cut.Goals as goal

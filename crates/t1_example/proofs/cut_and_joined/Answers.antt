@@ -4,7 +4,7 @@ use Rattle.t1_font.specs.Canon.{canon}
 use Rattle.t1_font.specs.FontValue.{FontValue}
 use Rattle.t1_font.specs.IsFont.{IsFont}
 use Rattle.t1_font.specs.ReadFont.{read_font}
-use Rattle.t1_subset.specs.Marks.{asked}
+use Rattle.t1_subset.specs.NameSets.{asked}
 use Rattle.t1_example.specs.Joining.{IsMemory, union_subset}
 use Rattle.t1_example.proofs.Callers.{readable, file_refused, drawn}
 use Rattle.t1_example.proofs.cut_and_joined.Goals as goal

@@ -55,7 +55,8 @@ pub const SUBRS: [Entry; 10] = [
 /// The bytes of an accented glyph of A (code 65) and acute (code 194).
 pub const ACCENTED: &[u8] = b"\x8b\xf8\x88\x0d\xbd\xf7\x0c\xf7\x5c\xcc\xf7\x56\x0c\x06";
 
-/// Glyphs: A, X and Y call Subrs, Aacute and N have parts, and the parts of N are B, which has parts of its own, and acute.
+/// Glyphs: A, X and Y call Subrs, Aacute and N have components, and the components of N are B, which has components of
+/// its own, and acute.
 pub const GLYPHS: [Entry; 9] = [
     (b".notdef", b"\x8b\xf7\x8e\x0d\x0e"),
     (b"A", b"\x8b\xf8\x88\x0d\x8b\x16\x91\x0a\x09\x0e"),

@@ -317,8 +317,8 @@ fn a_stub_that_one_font_uses(rt: HostRuntime) -> Result<(), Fail> {
     Ok(())
 }
 
-/// Whether a glyph of one of two fonts lacks a part.
-fn part_lacks(alloc: Global, left: &[u8], right: &[u8], of: &[u8], want: &[u8]) -> bool {
+/// Whether a glyph of one of two fonts lacks a component.
+fn lacks_component(alloc: Global, left: &[u8], right: &[u8], of: &[u8], want: &[u8]) -> bool {
     match conflict(alloc, left, right) {
         Some(Conflict::Part { glyph, part }) => glyph.as_slice() == of && part.as_slice() == want,
         _ => false,
@@ -332,18 +332,18 @@ fn what_glyphs_name(rt: HostRuntime) -> Result<(), Fail> {
     let accented = cut(rt.alloc(), other.as_slice(), &[b"Aacute"]);
     let acute = cut(rt.alloc(), file.as_slice(), &[b"acute"]);
     assert!(rt;
-        part_lacks(
+        lacks_component(
             rt.alloc(),
             accented.as_slice(),
             acute.as_slice(),
             b"Aacute",
             b"acute"
         ),
-        "a part that one font lacks"
+        "a component that one font lacks"
     );
     let a = cut(rt.alloc(), file.as_slice(), &[b"A"]);
     let both = merged(rt.alloc(), accented.as_slice(), a.as_slice());
-    assert!(rt; !both.is_empty(), "a part that both lack");
+    assert!(rt; !both.is_empty(), "a component that both lack");
     Ok(())
 }
 

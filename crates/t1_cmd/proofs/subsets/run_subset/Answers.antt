@@ -1,7 +1,7 @@
 use Rattle.std.proofs.Common.{[], ◌∷◌, sym, ◌∙◌, ap, subst, Ok}
 use Rattle.std.proofs.lemmas.Result.{err_from_is_err_and}
 use Rattle.t1_font.specs.FontValue.{FontValue}
-use Rattle.t1_subset.specs.Marks.{lent}
+use Rattle.t1_subset.specs.NameSets.{lent}
 use Rattle.t1_cmd.specs.Inputs.{input_of}
 use Rattle.t1_cmd.specs.Answers.{Prints}
 use Rattle.t1_cmd.specs.Fonts.{font_input}

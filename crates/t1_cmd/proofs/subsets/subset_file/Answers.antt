@@ -3,7 +3,7 @@ use Rattle.std.specs.FinSet as sets
 use Rattle.t1_font.specs.Canon.{canon}
 use Rattle.t1_subset.specs.Profile.{profile}
 use Rattle.t1_subset.specs.Keep.{subset}
-use Rattle.t1_subset.specs.Marks.{lent}
+use Rattle.t1_subset.specs.NameSets.{lent}
 use Rattle.t1_cmd.specs.declared.faults.Reason.{Reason}
 use Rattle.t1_cmd.specs.Subsets.{unless_absent}
 use Rattle.t1_cmd.proofs.subsets.subset_file.Goals as goal

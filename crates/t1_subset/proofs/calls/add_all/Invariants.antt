@@ -1,6 +1,6 @@
 use Rattle.std.proofs.Common.{◌≡◌, nat_cmp}
 use Rattle.std.specs.FinSet as sets
-use Rattle.t1_subset.specs.NameSets.{number_set}
+use Rattle.t1_subset.specs.Calls.{number_set}
 use Rattle.t1_subset.proofs.calls.add_all.Given as goal
 
 abbrev pub invariant-more : goal.invariant-more

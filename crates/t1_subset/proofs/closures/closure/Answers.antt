@@ -1,5 +1,5 @@
 use Rattle.std.proofs.Common.{sym}
-use Rattle.t1_subset.specs.Marks.{lent}
+use Rattle.t1_subset.specs.NameSets.{lent}
 use Rattle.t1_subset.proofs.Absent.{none_absent}
 use Rattle.t1_subset.proofs.closures.closure.Goals as goal
 

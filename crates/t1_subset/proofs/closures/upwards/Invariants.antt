@@ -1,7 +1,7 @@
 use Rattle.std.proofs.Common.{◌≡◌, drop}
 use Rattle.std.specs.FinSet as sets
 use Rattle.t1_font.specs.FontValue.{name_cmp}
-use Rattle.t1_subset.specs.Marks.{lent, asked}
+use Rattle.t1_subset.specs.NameSets.{lent, asked}
 use Rattle.t1_subset.proofs.closures.upwards.Given as goal
 
 abbrev pub invariant-names : goal.invariant-names

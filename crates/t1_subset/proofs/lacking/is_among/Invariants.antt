@@ -1,7 +1,7 @@
 use Rattle.std.proofs.Common.{◌≡◌, drop, map}
 use Rattle.std.specs.List.{list_any}
-use Rattle.t1_subset.specs.Interpreter.{is_name}
+use Rattle.t1_subset.specs.Interpreter.{same_bytes}
 use Rattle.t1_subset.proofs.lacking.is_among.Given as goal
 
-abbrev pub invariant-parts : goal.invariant-parts
-invariant-parts l = list_any (is_name l.part) (map (λ s. s.now) (drop l.named-index l.parts)) ≡ list_any (is_name l.part) (map (λ s. s.now) l.parts)
+abbrev pub invariant-components : goal.invariant-components
+invariant-components l = list_any (same_bytes l.component) (map (λ s. s.now) (drop l.named-index l.components)) ≡ list_any (same_bytes l.component) (map (λ s. s.now) l.components)

@@ -10,4 +10,4 @@ returns-in-Err-runs_conflict-clause-err c = tells_runs c.args.left.now c.args.ri
 
 pub returns-in-Ok-add_runs-clause-runs : goal.returns-in-Ok-add_runs-clause-runs
 returns-in-Ok-add_runs-clause-runs c = runs_joined c.args.left.now c.args.right.now c.in_ok-font.ensures.ok.0.states c.args.runs.now c.in-Ok.more c.add_runs.new.runs c.requires
-    (record { calls = c.in-Ok.ensures.calls; parts = c.in-Ok.ensures.parts }) c.in-Ok-add_runs.ensures.calls c.in-Ok-add_runs.ensures.parts c.in_ok-font.font c.in_ok-font.ensures.ok.1
+    (record { calls = c.in-Ok.ensures.calls; components = c.in-Ok.ensures.components }) c.in-Ok-add_runs.ensures.calls c.in-Ok-add_runs.ensures.components c.in_ok-font.font c.in_ok-font.ensures.ok.1

@@ -1,58 +1,59 @@
 use Rattle.std.proofs.Common.{◌≡◌, ℕ, ◌+◌, take, List, [], Bor, map, filter, sym, ◌∙◌, ap, subst, refl, arith, nat_cmp}
 use Rattle.std.specs.FinSet as sets
 use Rattle.t1_font.specs.FontValue.{notdef}
-use Rattle.t1_subset.specs.Keep.{has, charstring, parts, keep}
+use Rattle.t1_subset.specs.Keep.{has, charstring, components, keep}
 use Rattle.t1_subset.specs.Profile.{profile}
-use Rattle.t1_subset.specs.Marks.{lent, asked, push_new, push_all}
-use Rattle.t1_subset.specs.NameSets.{number_set}
-use Rattle.t1_subset.proofs.ClosedMarks.{Marks, marks_start, marks_step, marks_end, marks_few}
+use Rattle.t1_subset.specs.Calls.{number_set}
+use Rattle.t1_subset.specs.ClosureNames.{push_new, push_all}
+use Rattle.t1_subset.specs.NameSets.{lent, asked}
+use Rattle.t1_subset.proofs.ClosureSteps.{ClosureSoFar, closure_start, closure_step, closure_end, closure_few}
 use Rattle.t1_subset.proofs.KeptCalls.{calls_to, calls_step, calls_end}
-use Rattle.t1_subset.proofs.MarkLists.{all_front}
-use Rattle.t1_subset.proofs.Marking.{got, past}
+use Rattle.t1_subset.proofs.ClosureLists.{all_front}
+use Rattle.t1_subset.proofs.LentNames.{got, past}
 use Rattle.t1_subset.proofs.needed.needed.Goals as goal
 
-pub marks-init : goal.marks-init
-marks-init c =
+pub closure-init : goal.closure-init
+closure-init c =
     let f = c.args.font.now in
-    let start : c.mark_all.new.self ≡ push_all (push_new [] notdef) (lent c.args.names.now) =
-    c.in_ok-mark_all.ensures ∙ ap (λ (ms : List (List ℕ)). push_all ms (lent c.args.names.now)) (c.in_ok-mark.ensures ∙ ap (λ (ms : List (List ℕ)). push_new ms notdef) c.new-marks.ensures) in (
-      subst (λ (ms : List (List ℕ)). Marks profile f (asked c.args.names.now) ms 0) (sym start) (marks_start profile f (asked c.args.names.now) (lent c.args.names.now) c.is_font.ensures.glyphs.notdef c.requires refl),
+    let start : c.add_all.new.self ≡ push_all (push_new [] notdef) (lent c.args.names.now) =
+    c.in_ok-add_all.ensures ∙ ap (λ (ns : List (List ℕ)). push_all ns (lent c.args.names.now)) (c.in_ok-add.ensures ∙ ap (λ (ns : List (List ℕ)). push_new ns notdef) c.new-closure.ensures) in (
+      subst (λ (ns : List (List ℕ)). ClosureSoFar profile f (asked c.args.names.now) ns 0) (sym start) (closure_start profile f (asked c.args.names.now) (lent c.args.names.now) c.is_font.ensures.glyphs.notdef c.requires refl),
       ap (λ (ks : List ℕ). sets.from_list {R = nat_cmp} ks) c.in_ok-calls.ensures,
     )
 
 pub overflow_add-place : goal.overflow_add-place
 overflow_add-place c =
-    let few = marks_few profile c.args.font.now (asked c.args.names.now) c.marks.marks c.marks.place c.marks.invariant.0 in
-    let at = (got c.marks.marks c.marks.place c.in-Some.name.now c.in-Some.ensures).0 in
+    let few = closure_few profile c.args.font.now (asked c.args.names.now) c.closure.closure c.closure.place c.closure.invariant.0 in
+    let at = (got c.closure.closure c.closure.place c.in-Some.name.now c.in-Some.ensures).0 in
     let most = c.is_font.ensures.glyphs.few in
     omega (arith, few, at, most)
 
-pub marks-smaller : goal.marks-smaller
-marks-smaller c =
-    let few = marks_few profile c.args.font.now (asked c.args.names.now) c.marks.marks c.marks.place c.marks.invariant.0 in
-    let at = (got c.marks.marks c.marks.place c.in-Some.name.now c.in-Some.ensures).0 in
+pub closure-smaller : goal.closure-smaller
+closure-smaller c =
+    let few = closure_few profile c.args.font.now (asked c.args.names.now) c.closure.closure c.closure.place c.closure.invariant.0 in
+    let at = (got c.closure.closure c.closure.place c.in-Some.name.now c.in-Some.ensures).0 in
     omega (arith, few, at)
 
-pub marks-preserved : goal.marks-preserved
-marks-preserved c =
+pub closure-preserved : goal.closure-preserved
+closure-preserved c =
     let f = c.args.font.now in
     let n = c.in-Some.name.now in
-    let ms = c.marks.marks in
-    let at = got ms c.marks.place n c.in-Some.ensures in
-    let found = filter (has f) (parts profile f.subrs (charstring f n)) in
-    let more : c.mark_parts.new.marks ≡ push_all ms found =
-    c.in_ok-mark_parts.ensures ∙ ap (λ (ps : List (List ℕ)). push_all ms (filter (has f) ps)) (ap (map (λ (s : Bor (List ℕ)). s.now)) c.as_slice.ensures.value ∙ c.in_ok-parts.ensures.parts) in
+    let ns = c.closure.closure in
+    let at = got ns c.closure.place n c.in-Some.ensures in
+    let found = filter (has f) (components profile f.subrs (charstring f n)) in
+    let more : c.add_components.new.closure ≡ push_all ns found =
+    c.in_ok-add_components.ensures ∙ ap (λ (ps : List (List ℕ)). push_all ns (filter (has f) ps)) (ap (map (λ (s : Bor (List ℕ)). s.now)) c.as_slice.ensures.value ∙ c.in_ok-components.ensures.components) in
     let l = at.0 in (
-      subst (λ (ms : List (List ℕ)). Marks profile f (asked c.args.names.now) ms (c.marks.place + 1)) (sym more) (marks_step profile f (asked c.args.names.now) ms c.marks.place n c.marks.invariant.0 at.0 at.1),
-      calls_step f ms c.marks.place n (number_set c.marks.calls) (number_set c.add_all.new.calls) at.0 at.1 c.marks.invariant.1 (c.in_ok-add_all.ensures ∙ ap (sets.union (number_set c.marks.calls)) c.in_ok-parts.ensures.calls)
-          ∙ ap (calls_to f) (sym (ap (take (c.marks.place + 1)) more ∙ all_front (c.marks.place + 1) found ms (omega (arith, l)))),
+      subst (λ (ns : List (List ℕ)). ClosureSoFar profile f (asked c.args.names.now) ns (c.closure.place + 1)) (sym more) (closure_step profile f (asked c.args.names.now) ns c.closure.place n c.closure.invariant.0 at.0 at.1),
+      calls_step f ns c.closure.place n (number_set c.closure.calls) (number_set c.add_all-in-Some.new.calls) at.0 at.1 c.closure.invariant.1 (c.in_ok-add_all-2.ensures ∙ ap (sets.union (number_set c.closure.calls)) c.in_ok-components.ensures.calls)
+          ∙ ap (calls_to f) (sym (ap (take (c.closure.place + 1)) more ∙ all_front (c.closure.place + 1) found ns (omega (arith, l)))),
     )
 
 pub returns-clause-names : goal.returns-clause-names
-returns-clause-names c = marks_end profile c.args.font.now (asked c.args.names.now) c.marks.marks c.marks.place c.marks.invariant.0 (past c.marks.marks c.marks.place c.in_default.ensures)
+returns-clause-names c = closure_end profile c.args.font.now (asked c.args.names.now) c.closure.closure c.closure.place c.closure.invariant.0 (past c.closure.closure c.closure.place c.in_default.ensures)
 
 pub returns-clause-subrs : goal.returns-clause-subrs
 returns-clause-subrs c =
-    let end = past c.marks.marks c.marks.place c.in_default.ensures in
-    calls_end c.args.font.now c.marks.marks c.marks.place (number_set c.marks.calls) (keep profile c.args.font.now (asked c.args.names.now)) end c.marks.invariant.1
-    (marks_end profile c.args.font.now (asked c.args.names.now) c.marks.marks c.marks.place c.marks.invariant.0 end)
+    let end = past c.closure.closure c.closure.place c.in_default.ensures in
+    calls_end c.args.font.now c.closure.closure c.closure.place (number_set c.closure.calls) (keep profile c.args.font.now (asked c.args.names.now)) end c.closure.invariant.1
+    (closure_end profile c.args.font.now (asked c.args.names.now) c.closure.closure c.closure.place c.closure.invariant.0 end)

@@ -4,14 +4,14 @@ use Rattle.std.specs.Cmp.Lexicographic.{nat_list_cmp_total}
 use Rattle.std.proofs.lemmas.Map.Iter.{rest_more, rest_all}
 use Rattle.t1_font.specs.FontValue.{name_cmp}
 use Rattle.t1_font.specs.FontModel.{names_in}
-use Rattle.t1_subset.specs.Keep.{parts, charstring}
+use Rattle.t1_subset.specs.Keep.{components, charstring}
 use Rattle.t1_subset.specs.Profile.{profile}
-use Rattle.t1_subset.specs.NameSets.{number_set}
+use Rattle.t1_subset.specs.Calls.{number_set}
 use Rattle.t1_subset.proofs.Sets.{name_same}
 use Rattle.t1_subset.proofs.SetUnions as names
 use Rattle.t1_subset.proofs.NumberSets.{union_lists, union_step, union_none}
 use Rattle.t1_subset.proofs.ExecutedCalls.{calls_by, calls_of}
-use Rattle.t1_subset.proofs.LackingParts.{named_of, none_named}
+use Rattle.t1_subset.proofs.LackingComponents.{named_of, none_named}
 use Rattle.t1_subset.proofs.runs.runs_of.Goals as goal
 
 pub names-init : goal.names-init
@@ -28,8 +28,8 @@ names-preserved c =
       union_step (number_set c.names.runs.calls) (number_set c.add_run.new.runs.calls) (calls_by f c.in-Some.name.now) (calls_of f c.next.new.self) c.in_ok-add_run.ensures.calls
           ∙ ap (λ (ns : List (List ℕ)). sets.union (number_set c.names.runs.calls) (sets.from_list {R = nat_cmp} (calls_of f ns))) (sym more)
           ∙ c.names.invariant.0,
-      names.list_union nat_list_cmp_total name_same c.names.runs.parts c.add_run.new.runs.parts (parts profile f.subrs (charstring f c.in-Some.name.now)) (named_of f c.next.new.self) c.in_ok-add_run.ensures.parts
-          ∙ ap (λ (ns : List (List ℕ)). sets.union c.names.runs.parts (sets.from_list {R = name_cmp} (named_of f ns))) (sym more)
+      names.list_union nat_list_cmp_total name_same c.names.runs.components c.add_run.new.runs.components (components profile f.subrs (charstring f c.in-Some.name.now)) (named_of f c.next.new.self) c.in_ok-add_run.ensures.components
+          ∙ ap (λ (ns : List (List ℕ)). sets.union c.names.runs.components (sets.from_list {R = name_cmp} (named_of f ns))) (sym more)
           ∙ c.names.invariant.1,
     )
 
@@ -40,9 +40,9 @@ returns-clause-calls c =
     ∙ ap (λ (ns : List (List ℕ)). sets.union (number_set c.names.runs.calls) (sets.from_list {R = nat_cmp} (calls_of f ns))) (sym (rest_all (λ (s : Bor (List ℕ)). s.now) _ _ _ c.in-None.is c.next.ensures.steps))
     ∙ c.names.invariant.0
 
-pub returns-clause-parts : goal.returns-clause-parts
-returns-clause-parts c =
+pub returns-clause-components : goal.returns-clause-components
+returns-clause-components c =
     let f = c.args.font.now in
-    sym (names.union_none nat_list_cmp_total name_same c.names.runs.parts)
-    ∙ ap (λ (ns : List (List ℕ)). sets.union c.names.runs.parts (sets.from_list {R = name_cmp} (named_of f ns))) (sym (rest_all (λ (s : Bor (List ℕ)). s.now) _ _ _ c.in-None.is c.next.ensures.steps))
+    sym (names.union_none nat_list_cmp_total name_same c.names.runs.components)
+    ∙ ap (λ (ns : List (List ℕ)). sets.union c.names.runs.components (sets.from_list {R = name_cmp} (named_of f ns))) (sym (rest_all (λ (s : Bor (List ℕ)). s.now) _ _ _ c.in-None.is c.next.ensures.steps))
     ∙ c.names.invariant.1

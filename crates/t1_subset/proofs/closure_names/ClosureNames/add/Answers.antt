@@ -1,0 +1,8 @@
+use Rattle.std.proofs.Common.{ap, ◌∙◌, ℕ, List}
+use Rattle.t1_subset.specs.ClosureNames.{push_new}
+use Rattle.t1_subset.specs.NameSets.{lent}
+use Rattle.t1_subset.proofs.LentNames.{lent_insert}
+use Rattle.t1_subset.proofs.closure_names.ClosureNames.add.Goals as goal
+
+pub returns : goal.returns
+returns c = ap lent c.in_ok-insert.ensures.keys ∙ lent_insert c.self.inside.names.keys c.args.name ∙ ap (λ (ns : List (List ℕ)). push_new ns c.args.name.now) c.self.view_is
