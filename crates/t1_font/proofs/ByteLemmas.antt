@@ -16,10 +16,9 @@ use Rattle.t1_bytes.specs.Texts.{segment_text, hex_byte, hex_rest, hex_lines, tr
 use Rattle.t1_bytes.specs.Laws.{AreBytes}
 use Rattle.t1_bytes.proofs.Ciphers.{sealed_bytes}
 use Rattle.t1_font.specs.FontValue.{FontValue, Shell, SubrsShell, Encoding, Word, Codes, Numbered}
-use Rattle.t1_font.specs.Subrs.{Subr}
-use Rattle.t1_font.specs.Glyphs.{Glyph}
-use Rattle.t1_font.specs.Canon.{sealed_body, subr_entry, glyph_entry, subrs_pieces, encoding_pieces, canon_clear, canon_private, canon}
-use Rattle.t1_font.specs.Writing.{subr_text, subrs_text, subrs_part, glyph_text, glyphs_text, glyphs_part, puts_text, encoding_text}
+use Rattle.t1_font.specs.Entry.{Body}
+use Rattle.t1_font.specs.Canon.{sealed_body, sealed_entry, subr_entry, glyph_entry, subrs_pieces, encoding_pieces, canon_clear, canon_private, canon}
+use Rattle.t1_font.specs.Writing.{body_text, entry_text, entries_text, index_text, subrs_text, subrs_part, name_text, glyphs_text, glyphs_part, puts_text, encoding_text}
 use Rattle.t1_font.specs.IsFont.{IsFont, IsEncoding, SubrsFit, SubrWords, EncodingBytes, SubrsBytes, HasBytes}
 use Rattle.t1_font.proofs.MapCuts.{Some_None, entries_all}
 use Rattle.t1_font.proofs.FontAgain.{name_same}
@@ -66,48 +65,36 @@ line = omega arith
 blank_bytes : (bs : List ℕ) → AreBytes bs → AreBytes (32 ∷ bs)
 blank_bytes bs h = (blank, h)
 
-subr_bytes : (e : Subr) → AreBytes e.rd → AreBytes e.body → AreBytes e.put → AreBytes (subr_text e)
-subr_bytes e rd body put =
-    let t4 : List ℕ = e.body ++ (32 ∷ e.put) in
-    let t3 : List ℕ = e.rd ++ (32 ∷ t4) in
-    let t2 : List ℕ = digits (length e.body) ++ (32 ∷ t3) in
-    let t1 : List ℕ = digits e.index ++ (32 ∷ t2) in
-    let b4 = AreBytes-append e.body (32 ∷ e.put) body (blank_bytes e.put put) in
-    let b3 = AreBytes-append e.rd (32 ∷ t4) rd (blank_bytes t4 b4) in
-    let b2 = AreBytes-append (digits (length e.body)) (32 ∷ t3) (digits_bytes (length e.body)) (blank_bytes t3 b3) in
-    let b1 = AreBytes-append (digits e.index) (32 ∷ t2) (digits_bytes e.index) (blank_bytes t2 b2) in
-    AreBytes-append (10 ∷ codes "dup ") t1 (small_bytes (10 ∷ codes "dup ") refl) b1
-
-glyph_bytes : (e : Glyph) → AreBytes e.name → AreBytes e.rd → AreBytes e.body → AreBytes e.nd → AreBytes (glyph_text e)
-glyph_bytes e name rd body nd =
-    let t4 : List ℕ = e.body ++ (32 ∷ e.nd) in
-    let t3 : List ℕ = e.rd ++ (32 ∷ t4) in
-    let t2 : List ℕ = digits (length e.body) ++ (32 ∷ t3) in
-    let t1 : List ℕ = e.name ++ (32 ∷ t2) in
-    let b4 = AreBytes-append e.body (32 ∷ e.nd) body (blank_bytes e.nd nd) in
-    let b3 = AreBytes-append e.rd (32 ∷ t4) rd (blank_bytes t4 b4) in
-    let b2 = AreBytes-append (digits (length e.body)) (32 ∷ t3) (digits_bytes (length e.body)) (blank_bytes t3 b3) in
-    let b1 = AreBytes-append e.name (32 ∷ t2) name (blank_bytes t2 b2) in
-    AreBytes-append (10 ∷ codes "/") t1 (small_bytes (10 ∷ codes "/") refl) b1
-
 -- ---- the tables
 
-subrs_bytes : (iv : ℕ) (s : SubrsShell) (es : List (ℕ × List ℕ)) → AreBytes s.rd → AreBytes s.put → AreBytes s.closing → AllByRecursion (λ e. AreBytes e.1) es → AreBytes (subrs_text (map (subr_entry iv s) es) s.closing)
-subrs_bytes iv s [] rd put closing all = (line, closing)
-subrs_bytes iv s (e ∷ es) rd put closing all =
-    AreBytes-append (subr_text (subr_entry iv s e)) (subrs_text (map (subr_entry iv s) es) s.closing) (subr_bytes (subr_entry iv s e) rd (body_bytes iv e.1 all.0) put) (subrs_bytes iv s es rd put closing all.1)
+behind_bytes : (b : Body) → AreBytes b.rd → AreBytes b.bytes → AreBytes b.phrase → AreBytes (body_text b)
+behind_bytes b rd bytes phrase =
+    let t3 : List ℕ = b.bytes ++ (32 ∷ b.phrase) in
+    let t2 : List ℕ = b.rd ++ (32 ∷ t3) in
+    let b3 = AreBytes-append b.bytes (32 ∷ b.phrase) bytes (blank_bytes b.phrase phrase) in
+    let b2 = AreBytes-append b.rd (32 ∷ t3) rd (blank_bytes t3 b3) in
+    blank_bytes (digits (length b.bytes) ++ (32 ∷ t2)) (AreBytes-append (digits (length b.bytes)) (32 ∷ t2) (digits_bytes (length b.bytes)) (blank_bytes t2 b2))
 
-glyphs_bytes : (s : Shell) (es : List (List ℕ × List ℕ)) → AreBytes s.glyphs_rd → AreBytes s.glyphs_def → AllByRecursion (λ e. AreBytes e.0 × AreBytes e.1) es → AreBytes (glyphs_text (map (glyph_entry s) es))
-glyphs_bytes s [] rd nd all = small_bytes (10 ∷ codes "end") refl
-glyphs_bytes s (e ∷ es) rd nd all =
-    AreBytes-append (glyph_text (glyph_entry s e)) (glyphs_text (map (glyph_entry s) es)) (glyph_bytes (glyph_entry s e) all.0.0 rd (body_bytes s.len_iv e.1 all.0.1) nd) (glyphs_bytes s es rd nd all.1)
+entries_bytes : {K : Type 0} (key_text : K → List ℕ) (iv : ℕ) (rd phrase closing : List ℕ) → AreBytes rd → AreBytes phrase → AreBytes closing → (es : List (K × List ℕ)) → AllByRecursion (λ e. AreBytes (key_text e.0) × AreBytes e.1) es → AreBytes (entries_text key_text (map (sealed_entry iv rd phrase) es) closing)
+entries_bytes key_text iv rd phrase closing r p c [] all = (line, c)
+entries_bytes key_text iv rd phrase closing r p c (e ∷ es) all =
+    let b : Body = record { rd = rd; bytes = sealed_body iv e.1; phrase = phrase } in
+    AreBytes-append (entry_text key_text (sealed_entry iv rd phrase e)) (entries_text key_text (map (sealed_entry iv rd phrase) es) closing)
+    (line, AreBytes-append (key_text e.0) (body_text b) all.0.0 (behind_bytes b r (body_bytes iv e.1 all.0.1) p))
+    (entries_bytes key_text iv rd phrase closing r p c es all.1)
+
+index_bytes : (i : ℕ) → AreBytes (index_text i)
+index_bytes i = AreBytes-append (codes "dup ") (digits i) (small_bytes (codes "dup ") refl) (digits_bytes i)
+
+name_bytes : (n : List ℕ) → AreBytes n → AreBytes (name_text n)
+name_bytes n h = AreBytes-append (codes "/") n (small_bytes (codes "/") refl) h
 
 part_bytes : (iv : ℕ) (o : Option SubrsShell) (m : Numbered) → SubrsBytes o → ((i : ℕ) (c : List ℕ) → get m i ≡ Some c → AreBytes c) → AreBytes (subrs_part (option_map (subrs_pieces iv (entries m)) o))
 part_bytes iv None m h k = tt
 part_bytes iv (Some t) m h k =
-    let all = entries_all nat_cmp_total nat_cmp-IsAntisymmetric (λ i c. AreBytes c) m k in
+    let all = entries_all nat_cmp_total nat_cmp-IsAntisymmetric (λ i c. AreBytes (index_text i) × AreBytes c) m (λ i c e. (index_bytes i, k i c e)) in
     let table : List ℕ = subrs_text (map (subr_entry iv t) (entries m)) t.closing in
-    let table_is = subrs_bytes iv t (entries m) h.0 h.1 h.2 all in
+    let table_is = entries_bytes index_text iv t.rd t.put t.closing h.0 h.1 h.2 (entries m) all in
     AreBytes-append (codes "/Subrs ") (digits t.declared ++ (codes " array" ++ table)) (small_bytes (codes "/Subrs ") refl)
     (AreBytes-append (digits t.declared) (codes " array" ++ table) (digits_bytes t.declared) (AreBytes-append (codes " array") table (small_bytes (codes " array") refl) table_is))
 
@@ -116,10 +103,10 @@ private_bytes f h =
     let s = f.shell in
     let gs = map (glyph_entry s) (entries f.glyphs) in
     let o = option_map (subrs_pieces s.len_iv (entries f.subrs)) s.subrs in
-    let all = entries_all nat_list_cmp_total name_same (λ n c. AreBytes n × AreBytes c) f.glyphs (λ n c e. (h.names n c e, h.glyphs n c e)) in
+    let all = entries_all nat_list_cmp_total name_same (λ n c. AreBytes (name_text n) × AreBytes c) f.glyphs (λ n c e. (name_bytes n (h.names n c e), h.glyphs n c e)) in
     let end : List ℕ = s.tail ++ 10 ∷ [] in
     let end_is = AreBytes-append s.tail (10 ∷ []) h.texts.tail (line, tt) in
-    let table_is = glyphs_bytes s (entries f.glyphs) h.rd h.def all in
+    let table_is = entries_bytes name_text s.len_iv s.glyphs_rd s.glyphs_def (codes "end") h.rd h.def (small_bytes (codes "end") refl) (entries f.glyphs) all in
     let part_is : AreBytes (glyphs_part gs) =
     AreBytes-append (codes "/CharStrings ") (digits (length gs) ++ (codes " dict dup begin" ++ glyphs_text gs)) (small_bytes (codes "/CharStrings ") refl)
     (AreBytes-append (digits (length gs)) (codes " dict dup begin" ++ glyphs_text gs) (digits_bytes (length gs)) (AreBytes-append (codes " dict dup begin") (glyphs_text gs) (small_bytes (codes " dict dup begin") refl) table_is)) in

@@ -16,7 +16,7 @@ use Rattle.t1_font.specs.Writing.{puts_text, encoding_text}
 use Rattle.t1_font.specs.IsFont.{IsWord, IsCode, NoMarker}
 use Rattle.t1_font.proofs.EntryLemmas.{code_entry_eats, code_entry_apart}
 use Rattle.t1_font.proofs.Written.{gap_one, word_read, keyword_read, black, black_digits, decimal_read, no_white}
-use Rattle.t1_font.proofs.GlyphsWritten.{fixed_read, name_read, is_word_of}
+use Rattle.t1_font.proofs.EntriesWritten.{fixed_read, name_read, is_word_of}
 use Rattle.t1_font.proofs.Moves.{first_behind, encoding_moves}
 
 pub encoding_marker_read : (rest : List ℕ) → encoding_marker.read (codes "/Encoding" ++ (32 ∷ rest)) ≡ Some (tt, 32 ∷ rest)

@@ -1,21 +1,126 @@
--- The entries of the Encoding and of the glyphs have bytes, and no close can be read where one stands.
-use Rattle.std.proofs.Common.{◌≡◌, ℕ, List, ◌∷◌, length, take, drop, Some, None, refl, sym, ap, ◌∙◌, arith, ◌++◌}
+-- Entries are read as they are spelled and have bytes, and no close can be read where one stands.
+use Rattle.std.proofs.Common.{◌≡◌, ℕ, ◌<◌, true, false, true≢false, List, [], ◌∷◌, length, take, drop, Some, None, refl, sym, ap, ◌∙◌, arith, ◌++◌}
 use Rattle.std.specs.Prelude.{codes}
 use Rattle.std.specs.List.{prefix_len}
 use Rattle.std.specs.Str.{bytes_eq}
 use Rattle.std.proofs.lemmas.Slice.Eq.{bytes_eq-Decides}
 use Rattle.std.proofs.lemmas.Option.{cond_some, option_and_then_some}
 use Rattle.std.proofs.lemmas.List.{length-append}
-use Rattle.t1_bytes.specs.Grammar.{fixed}
-use Rattle.t1_bytes.proofs.Grammars.{fixed_exact}
+use Rattle.t1_bytes.specs.Grammar.{Grammar, fixed}
+use Rattle.t1_bytes.specs.White.{is_white, gap}
+use Rattle.t1_bytes.proofs.Grammars.{IsExact, pure_exact, bind_exact, that_exact, count_exact, fixed_exact}
 use Rattle.t1_bytes.proofs.Tables.{Eats, Apart}
 use Rattle.t1_bytes.proofs.SegmentLemmas.{Eats-spelled}
-use Rattle.t1_bytes.specs.White.{is_white}
-use Rattle.t1_font.specs.Words.{is_regular, keyword, name}
+use Rattle.t1_bytes.proofs.EexecLemmas.{white_exact, gap_exact}
+use Rattle.t1_font.specs.Words.{is_regular, word, keyword, name, phrase_of, passes}
 use Rattle.t1_font.specs.Encoding.{code_entry, encoding_end}
-use Rattle.t1_font.specs.Glyphs.{glyph, glyphs_end}
-use Rattle.t1_font.proofs.WordLemmas.{keyword_text}
-use Rattle.t1_font.proofs.MarkerLemmas.{code_entry_exact, glyph_exact}
+use Rattle.t1_font.specs.Entry.{Body, length_from, body, entry}
+use Rattle.t1_font.specs.Subrs.{subr_key, subr, subrs_end}
+use Rattle.t1_font.specs.Glyphs.{glyph_key, glyph, glyphs_end}
+use Rattle.t1_font.proofs.WordLemmas.{one_white_exact, word_exact, keyword_exact, decimal_exact, name_exact, phrase_exact, keyword_text}
+use Rattle.t1_font.proofs.MarkerLemmas.{code_entry_exact}
+
+-- ---- charstrings by a key
+
+body_exact : (iv : ℕ) → IsExact (body iv)
+unfolding body length_from
+body_exact iv =
+    bind_exact _ _ gap_exact (λ _. bind_exact _ _ (that_exact _ _ decimal_exact) (λ len. bind_exact _ _ gap_exact (λ _. bind_exact _ _ word_exact (λ rd.
+    bind_exact _ _ one_white_exact (λ _. bind_exact _ _ (count_exact len) (λ bytes. bind_exact _ _ white_exact (λ _. bind_exact _ _ (phrase_exact (passes true)) (λ phrase. pure_exact _))))))))
+
+gap_has : (a text rest : List ℕ) → gap.Spells a text rest → 0 < length text
+unfolding gap
+gap_has [] text rest s = absurd (true≢false (sym s.1))
+gap_has (b ∷ bs) text rest s = omega (arith, ap length s.0.0)
+
+body_has : (iv : ℕ) (b : Body) (text rest : List ℕ) → (body iv).Spells b text rest → 0 < length text
+unfolding body
+body_has iv b text rest s = omega (arith, ap length s.3, length-append s.1 s.2, gap_has s.0 s.1 _ s.4)
+
+module _ {K : Type 0} (key : Grammar K) (iv : ℕ) where
+  pub entry_exact : IsExact key → IsExact (entry key iv)
+  unfolding entry
+  entry_exact exact = bind_exact _ _ exact (λ k. bind_exact _ _ (body_exact iv) (λ b. pure_exact _))
+
+  pub entry_eats : IsExact key → Eats (entry key iv)
+  unfolding entry
+  entry_eats exact = Eats-spelled (entry key iv) (entry_exact exact) (λ e text rest s. omega (arith, ap length s.3, length-append s.1 s.2, ap length s.5.3, length-append s.5.1 s.5.2, body_has iv s.5.0 s.5.1 _ s.5.4))
+
+  -- where a key stands, the table does not end
+  pub entry_apart : {B : Type 0} (close : Grammar B) → Apart key close → Apart (entry key iv) close
+  unfolding entry
+  entry_apart close apart bytes x e = option_and_then_some _ (key.read bytes) x e (λ y h k. apart bytes y h)
+
+-- ---- Subrs
+
+pub subr_key_exact : (declared : ℕ) → IsExact (subr_key declared)
+unfolding subr_key
+subr_key_exact declared = bind_exact _ _ white_exact (λ _. bind_exact _ _ (keyword_exact (codes "dup")) (λ _. bind_exact _ _ gap_exact (λ _. that_exact _ _ decimal_exact)))
+
+pub subrs_end_exact : IsExact subrs_end
+unfolding subrs_end
+subrs_end_exact = bind_exact _ _ white_exact (λ _. phrase_exact (passes false))
+
+-- no phrase without `dup` begins with `dup`
+no_phrase : (bytes : List ℕ) (x : List ℕ × List ℕ) → (keyword (codes "dup")).read bytes ≡ Some x → (phrase_of (passes false)).read bytes ≡ None
+unfolding keyword phrase_of word
+no_phrase bytes x e =
+    let n = prefix_len is_regular bytes in
+    let t = cond_some (bytes_eq (codes "dup") (take n bytes)) (take n bytes, drop n bytes) x e in
+    let dup : take n bytes ≡ codes "dup" = sym ((bytes_eq-Decides (codes "dup") (take n bytes)).0 t.0) in
+    rw dup refl
+
+pub subr_key_apart : (declared : ℕ) → Apart (subr_key declared) subrs_end
+unfolding subr_key subrs_end
+subr_key_apart declared bytes x e =
+    let r = drop (prefix_len is_white bytes) bytes in
+    option_and_then_some _ ((keyword (codes "dup")).read r) x e (λ y h k. no_phrase r y h)
+
+pub subr_exact : (declared iv : ℕ) → IsExact (subr declared iv)
+subr_exact declared iv = entry_exact (subr_key declared) iv (subr_key_exact declared)
+
+pub subr_eats : (declared iv : ℕ) → Eats (subr declared iv)
+subr_eats declared iv = entry_eats (subr_key declared) iv (subr_key_exact declared)
+
+pub subr_apart : (declared iv : ℕ) → Apart (subr declared iv) subrs_end
+subr_apart declared iv = entry_apart (subr_key declared) iv subrs_end (subr_key_apart declared)
+
+-- ---- the glyphs
+
+pub glyph_key_exact : IsExact glyph_key
+unfolding glyph_key
+glyph_key_exact = bind_exact _ _ white_exact (λ _. name_exact)
+
+pub glyphs_end_exact : IsExact glyphs_end
+unfolding glyphs_end
+glyphs_end_exact = bind_exact _ _ white_exact (λ _. keyword_exact (codes "end"))
+
+-- a name begins with a slash
+name_slash : (bytes : List ℕ) (x : List ℕ × List ℕ) → name.read bytes ≡ Some x → (rest : List ℕ) × (bytes ≡ 47 ∷ rest)
+unfolding name
+name_slash bytes x e = option_and_then_some _ ((fixed (codes "/")).read bytes) x e (λ y h k.
+    let s = (fixed_exact (codes "/")).takes bytes y h in
+    let slash : codes "/" ≡ y.0 = (bytes_eq-Decides (codes "/") y.0).0 s.2.1 in
+    (y.1, s.1 ∙ ap (λ (u : List ℕ). u ++ y.1) (s.2.0.0 ∙ sym slash)))
+
+no_end : (rest : List ℕ) → (keyword (codes "end")).read (47 ∷ rest) ≡ None
+unfolding keyword
+no_end rest = refl
+
+pub glyph_key_apart : Apart glyph_key glyphs_end
+unfolding glyph_key glyphs_end
+glyph_key_apart bytes x e = let s = name_slash (drop (prefix_len is_white bytes) bytes) x e in rw s.1 (no_end s.0)
+
+pub glyph_exact : (iv : ℕ) → IsExact (glyph iv)
+glyph_exact iv = entry_exact glyph_key iv glyph_key_exact
+
+pub glyph_eats : (iv : ℕ) → Eats (glyph iv)
+glyph_eats iv = entry_eats glyph_key iv glyph_key_exact
+
+pub glyph_apart : (iv : ℕ) → Apart (glyph iv) glyphs_end
+glyph_apart iv = entry_apart glyph_key iv glyphs_end glyph_key_apart
+
+-- ---- codes
 
 pub code_entry_eats : Eats code_entry
 unfolding code_entry
@@ -37,27 +142,3 @@ unfolding code_entry encoding_end
 code_entry_apart bytes x e =
     let r = drop (prefix_len is_white bytes) bytes in
     option_and_then_some _ ((keyword (codes "dup")).read r) x e (λ y h k. let none = no_closing r y h in rw (none.0, none.1) refl)
-
-pub glyph_eats : (iv : ℕ) → Eats (glyph iv)
-unfolding glyph name
-glyph_eats iv = Eats-spelled (glyph iv) (glyph_exact iv) (λ a text rest s.
-    let n = s.5.4 in
-    omega (arith, ap length s.3, length-append s.1 s.2, ap length s.5.3, length-append s.5.1 s.5.2, ap length n.3, length-append n.1 n.2, ap length n.4.0.0, n.4.0.1))
-
--- a name begins with a slash
-name_slash : (bytes : List ℕ) (x : List ℕ × List ℕ) → name.read bytes ≡ Some x → (rest : List ℕ) × (bytes ≡ 47 ∷ rest)
-unfolding name
-name_slash bytes x e = option_and_then_some _ ((fixed (codes "/")).read bytes) x e (λ y h k.
-    let s = (fixed_exact (codes "/")).takes bytes y h in
-    let slash : codes "/" ≡ y.0 = (bytes_eq-Decides (codes "/") y.0).0 s.2.1 in
-    (y.1, s.1 ∙ ap (λ (u : List ℕ). u ++ y.1) (s.2.0.0 ∙ sym slash)))
-
-no_end : (rest : List ℕ) → (keyword (codes "end")).read (47 ∷ rest) ≡ None
-unfolding keyword
-no_end rest = refl
-
-pub glyph_apart : (iv : ℕ) → Apart (glyph iv) glyphs_end
-unfolding glyph glyphs_end
-glyph_apart iv bytes x e =
-    let r = drop (prefix_len is_white bytes) bytes in
-    option_and_then_some _ (name.read r) x e (λ y h k. let s = name_slash r y h in rw s.1 (no_end s.0))

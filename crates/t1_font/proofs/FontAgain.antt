@@ -1,5 +1,5 @@
 -- The pieces of a font can be written, and give the font again.
-use Rattle.std.proofs.Common.{◌≡◌, ℕ, ◌+◌, ◌≤◌, ◌<◌, Ordering, true, false, List, [], ◌∷◌, ◌++◌, map, length, Option, Some, None, is_some, refl, sym, ap, ◌∙◌, arith, true≢false}
+use Rattle.std.proofs.Common.{◌≡◌, ℕ, ◌+◌, ◌<◌, Ordering, true, false, List, [], ◌∷◌, map, length, Option, Some, None, is_some, refl, sym, ap, ◌∙◌, arith, true≢false}
 use Rattle.std.specs.List.{AllByRecursion}
 use Rattle.std.specs.Option.{option_map}
 use Rattle.std.specs.Str.{bytes_eq}
@@ -7,19 +7,16 @@ use Rattle.std.specs.Cmp.{IsTotalOrder, nat_cmp_total}
 use Rattle.std.specs.Cmp.Lexicographic.{nat_list_cmp_total}
 use Rattle.std.specs.FinMap.{FinMap, find, get, entries, entries_sorted, len-entries, contains_key, get-entries, same_map, IsAntisymmetric, nat_cmp-IsAntisymmetric, slice_cmp-IsAntisymmetric}
 use Rattle.std.proofs.lemmas.List.{length-map}
-use Rattle.t1_bytes.specs.Grammar.{Stops}
 use Rattle.t1_bytes.proofs.Ciphers.{opened-sealed, length-sealed}
-use Rattle.t1_font.specs.Words.{is_regular, phrase_of, passes}
 use Rattle.t1_font.specs.Charstrings.{plain_of}
 use Rattle.t1_font.specs.FontValue.{FontValue, Shell, SubrsShell, Encoding, Word, Codes, Numbered, Named, name_cmp, notdef}
 use Rattle.t1_font.specs.Entries.{map_of, names_of, last_value, unless_notdef}
 use Rattle.t1_font.specs.ReadFont.{encoding_value, of_first, subrs_shell, subr_entries, font_of}
-use Rattle.t1_font.specs.Canon.{sealed_body, subr_entry, glyph_entry, subrs_pieces, inside_of, outside_of, encoding_pieces}
+use Rattle.t1_font.specs.Entry.{plain_entries}
+use Rattle.t1_font.specs.Canon.{sealed_body, sealed_entry, subr_entry, glyph_entry, subrs_pieces, inside_of, outside_of, encoding_pieces}
 use Rattle.t1_font.specs.IsFont.{IsFont, IsWord, IsPhrase, IsCharstring, SubrsFit, SubrWords, IsCode, IsEncoding}
 use Rattle.t1_font.proofs.MapLaws.{get-map_of, get-names_of}
-use Rattle.t1_font.proofs.Written.{IsSubr}
-use Rattle.t1_font.proofs.GlyphsWritten.{IsGlyph, is_word_of}
-use Rattle.t1_font.proofs.Phrases.{phrase_behind, phrase_starts}
+use Rattle.t1_font.proofs.EntriesWritten.{IsEntry}
 use Rattle.t1_font.proofs.PrivateWritten.{AreOptional, IsWritable}
 use Rattle.t1_font.proofs.ClearWritten.{IsEncodingText}
 use Rattle.t1_font.proofs.MapCuts.{entries_all, T_true, last-sorted}
@@ -54,24 +51,20 @@ module _ {K : Type 0} {R : K → K → Ordering} (o : IsTotalOrder R) (same : Is
 
 -- ---- the entries, written and read
 
-subrs_opened : (iv : ℕ) (s : SubrsShell) (es : List (ℕ × List ℕ)) → map (λ e. (e.index, plain_of iv e.body)) (map (subr_entry iv s) es) ≡ es
-subrs_opened iv s [] = refl
-subrs_opened iv s (e ∷ es) = λ i. (e.0, plain_again iv e.1 i) ∷ subrs_opened iv s es i
+opened_again : {K : Type 0} (iv : ℕ) (rd phrase : List ℕ) (es : List (K × List ℕ)) → plain_entries iv (map (sealed_entry iv rd phrase) es) ≡ es
+opened_again iv rd phrase [] = refl
+opened_again iv rd phrase (e ∷ es) = λ i. (e.0, plain_again iv e.1 i) ∷ opened_again iv rd phrase es i
 
-glyphs_opened : (s : Shell) (es : List (List ℕ × List ℕ)) → map (λ e. (e.name, plain_of s.len_iv e.body)) (map (glyph_entry s) es) ≡ es
-glyphs_opened s [] = refl
-glyphs_opened s (e ∷ es) = λ i. (e.0, plain_again s.len_iv e.1 i) ∷ glyphs_opened s es i
-
-rd_again : (iv : ℕ) (s : SubrsShell) (es : List (ℕ × List ℕ)) → SubrWords es s → of_first (λ e. e.rd) (map (subr_entry iv s) es) ≡ s.rd
+rd_again : (iv : ℕ) (s : SubrsShell) (es : List (ℕ × List ℕ)) → SubrWords es s → of_first (λ e. e.body.rd) (map (subr_entry iv s) es) ≡ s.rd
 rd_again iv s [] h = sym h.0
 rd_again iv s (e ∷ es) h = refl
 
-put_again : (iv : ℕ) (s : SubrsShell) (es : List (ℕ × List ℕ)) → SubrWords es s → of_first (λ e. e.put) (map (subr_entry iv s) es) ≡ s.put
+put_again : (iv : ℕ) (s : SubrsShell) (es : List (ℕ × List ℕ)) → SubrWords es s → of_first (λ e. e.body.phrase) (map (subr_entry iv s) es) ≡ s.put
 put_again iv s [] h = sym h.1
 put_again iv s (e ∷ es) h = refl
 
 -- a map with a key has entries
-glyph_words_at : (s : Shell) (es : List (List ℕ × List ℕ)) → 0 < length es → (of_first (λ g. g.rd) (map (glyph_entry s) es) ≡ s.glyphs_rd) × (of_first (λ g. g.nd) (map (glyph_entry s) es) ≡ s.glyphs_def)
+glyph_words_at : (s : Shell) (es : List (List ℕ × List ℕ)) → 0 < length es → (of_first (λ g. g.body.rd) (map (glyph_entry s) es) ≡ s.glyphs_rd) × (of_first (λ g. g.body.phrase) (map (glyph_entry s) es) ≡ s.glyphs_def)
 glyph_words_at s [] h = absurd (omega arith)
 glyph_words_at s (e ∷ es) h = (refl, refl)
 
@@ -79,7 +72,7 @@ has_entries : {K X : Type 0} (R : K → K → Ordering) (es : List (K × X)) (k 
 has_entries R [] k h = absurd (true≢false (sym h))
 has_entries R (e ∷ es) k h = omega arith
 
-glyph_words_again : (s : Shell) (m : Named) → contains_key m notdef ≡ true → (of_first (λ g. g.rd) (map (glyph_entry s) (entries m)) ≡ s.glyphs_rd) × (of_first (λ g. g.nd) (map (glyph_entry s) (entries m)) ≡ s.glyphs_def)
+glyph_words_again : (s : Shell) (m : Named) → contains_key m notdef ≡ true → (of_first (λ g. g.body.rd) (map (glyph_entry s) (entries m)) ≡ s.glyphs_rd) × (of_first (λ g. g.body.phrase) (map (glyph_entry s) (entries m)) ≡ s.glyphs_def)
 glyph_words_again s m h = glyph_words_at s (entries m) (has_entries name_cmp (entries m) notdef (sym (ap is_some (get-entries m notdef)) ∙ h))
 
 -- ---- the Encoding
@@ -103,7 +96,7 @@ none_again m h = ap map_of (sym h) ∙ map_again nat_cmp_total nat_cmp-IsAntisym
 
 map_subrs : (s : Shell) (gs : List (List ℕ × List ℕ)) (o : Option SubrsShell) (m : Numbered) → SubrsFit s o m → map_of (subr_entries (record { private = s.private; len_iv = s.len_iv; subrs = option_map (subrs_pieces s.len_iv (entries m)) o; middle = s.middle; glyphs = map (glyph_entry s) gs; tail = s.tail })) ≡ m
 map_subrs s gs None m h = none_again m h.0
-map_subrs s gs (Some t) m h = ap map_of (subrs_opened s.len_iv t (entries m)) ∙ map_again nat_cmp_total nat_cmp-IsAntisymmetric m
+map_subrs s gs (Some t) m h = ap map_of (opened_again s.len_iv t.rd t.put (entries m)) ∙ map_again nat_cmp_total nat_cmp-IsAntisymmetric m
 
 -- the font of its pieces
 pub font_again : (f : FontValue) → IsFont f → font_of (outside_of f.shell (encoding_pieces f.encoding)) (inside_of f.shell (entries f.subrs) (entries f.glyphs)) ≡ f
@@ -112,7 +105,7 @@ font_again f h =
     let o = subrs_again f.shell f.shell.subrs f.subrs h.subrs in
     let s = map_subrs f.shell (entries f.glyphs) f.shell.subrs f.subrs h.subrs in
     let w = glyph_words_again f.shell f.glyphs h.glyphs.notdef in
-    let g : map_of (map (λ g. (g.name, plain_of f.shell.len_iv g.body)) (map (glyph_entry f.shell) (entries f.glyphs))) ≡ f.glyphs = ap map_of (glyphs_opened f.shell (entries f.glyphs)) ∙ map_again nat_list_cmp_total name_same f.glyphs in
+    let g : map_of (plain_entries f.shell.len_iv (map (glyph_entry f.shell) (entries f.glyphs))) ≡ f.glyphs = ap map_of (opened_again f.shell.len_iv f.shell.glyphs_rd f.shell.glyphs_def (entries f.glyphs)) ∙ map_again nat_list_cmp_total name_same f.glyphs in
     λ i. record {
       shell = record { head = f.shell.head; clear_tail = f.shell.clear_tail; private = f.shell.private; middle = f.shell.middle; tail = f.shell.tail; len_iv = f.shell.len_iv; subrs = o i; glyphs_rd = w.0 i; glyphs_def = w.1 i };
       encoding = e i;
@@ -122,41 +115,22 @@ font_again f h =
 
 -- ---- the pieces can be written
 
-phrase_of_is : (p : List ℕ) → IsPhrase true p → (rest : List ℕ) → Stops is_regular rest → (phrase_of (passes true)).read (p ++ rest) ≡ Some (p, rest)
-phrase_of_is p h rest s = phrase_behind true p rest h s
-
-subr_writable : (iv : ℕ) (s : SubrsShell) (es : List (ℕ × List ℕ)) → s.declared ≤ 65535 → SubrWords es s → AllByRecursion (λ e. (e.0 < s.declared) × IsCharstring iv e.1) es → AllByRecursion (IsSubr s.declared iv) (map (subr_entry iv s) es)
-subr_writable iv s [] few w all = tt
-subr_writable iv s (e ∷ es) few w all = entries_writable (e ∷ es) all
-  where
-    entries_writable : (fs : List (ℕ × List ℕ)) → AllByRecursion (λ e. (e.0 < s.declared) × IsCharstring iv e.1) fs → AllByRecursion (IsSubr s.declared iv) (map (subr_entry iv s) fs)
-    entries_writable [] all = tt
-    entries_writable (f ∷ fs) all = (
-      record {
-        index = all.0.0;
-        few = few;
-        long = omega (arith, length-body iv f.1);
-        short = omega (arith, length-body iv f.1, all.0.1.short);
-        rd = w.0.regular;
-        rd_word = is_word_of s.rd w.0;
-        put = phrase_of_is s.put w.1;
-        put_black = phrase_starts true s.put w.1;
-      },
-      entries_writable fs all.1,
-    )
-
-glyph_writable : (s : Shell) (es : List (List ℕ × List ℕ)) → IsWord 32 s.glyphs_rd → IsPhrase true s.glyphs_def → AllByRecursion (λ e. IsWord 127 e.0 × IsCharstring s.len_iv e.1) es → AllByRecursion (IsGlyph s.len_iv) (map (glyph_entry s) es)
-glyph_writable s [] rd nd all = tt
-glyph_writable s (e ∷ es) rd nd all = (
-  record { name = all.0.0; long = omega (arith, length-body s.len_iv e.1); short = omega (arith, length-body s.len_iv e.1, all.0.1.short); rd = rd; nd = nd },
-  glyph_writable s es rd nd all.1,
+entries_writable : {K : Type 0} (IsKey : K → Type 0) (iv : ℕ) (rd phrase : List ℕ) → IsWord 32 rd → IsPhrase true phrase → (es : List (K × List ℕ)) → AllByRecursion (λ e. IsKey e.0 × IsCharstring iv e.1) es → AllByRecursion (IsEntry IsKey iv) (map (sealed_entry iv rd phrase) es)
+entries_writable IsKey iv rd phrase r p [] all = tt
+entries_writable IsKey iv rd phrase r p (e ∷ es) all = (
+  (all.0.0, record { long = omega (arith, length-body iv e.1); short = omega (arith, length-body iv e.1, all.0.1.short); rd = r; phrase = p }),
+  entries_writable IsKey iv rd phrase r p es all.1,
 )
+
+subr_writable : (iv : ℕ) (s : SubrsShell) (es : List (ℕ × List ℕ)) → SubrWords es s → AllByRecursion (λ e. (e.0 < s.declared) × IsCharstring iv e.1) es → AllByRecursion (IsEntry (λ i. i < s.declared) iv) (map (subr_entry iv s) es)
+subr_writable iv s [] w all = tt
+subr_writable iv s (e ∷ es) w all = entries_writable (λ i. i < s.declared) iv s.rd s.put w.0 w.1 (e ∷ es) all
 
 subrs_writable : (s : Shell) (o : Option SubrsShell) (m : Numbered) → SubrsFit s o m → AreOptional s.len_iv s.middle (option_map (subrs_pieces s.len_iv (entries m)) o)
 subrs_writable s None m h = h.1
 subrs_writable s (Some t) m h = record {
   declared = h.declared;
-  entries = subr_writable s.len_iv t (entries m) h.declared h.words (entries_all nat_cmp_total nat_cmp-IsAntisymmetric (λ i c. (i < t.declared) × IsCharstring s.len_iv c) m (λ i c e. (h.below i c e, h.bodies i c e)));
+  entries = subr_writable s.len_iv t (entries m) h.words (entries_all nat_cmp_total nat_cmp-IsAntisymmetric (λ i c. (i < t.declared) × IsCharstring s.len_iv c) m (λ i c e. (h.below i c e, h.bodies i c e)));
   closing = h.closing;
 }
 
@@ -174,6 +148,6 @@ font_writable f h =
       tail_subrs = p.tail_subrs;
       tail_ends = p.tail_ends;
       subrs = subrs_writable f.shell f.shell.subrs f.subrs h.subrs;
-      glyphs = glyph_writable f.shell (entries f.glyphs) h.glyphs.rd h.glyphs.def (entries_all nat_list_cmp_total name_same (λ n c. IsWord 127 n × IsCharstring f.shell.len_iv c) f.glyphs (λ n c e. (h.glyphs.names n c e, h.glyphs.bodies n c e)));
+      glyphs = entries_writable (IsWord 127) f.shell.len_iv f.shell.glyphs_rd f.shell.glyphs_def h.glyphs.rd h.glyphs.def (entries f.glyphs) (entries_all nat_list_cmp_total name_same (λ n c. IsWord 127 n × IsCharstring f.shell.len_iv c) f.glyphs (λ n c e. (h.glyphs.names n c e, h.glyphs.bodies n c e)));
       few = omega (arith, length-map (entries f.glyphs) (glyph_entry f.shell), len-entries f.glyphs, h.glyphs.few);
     }

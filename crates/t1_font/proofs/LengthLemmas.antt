@@ -18,8 +18,9 @@ use Rattle.t1_bytes.specs.Texts.{segment_text, hex_rest, hex_lines, trailer}
 use Rattle.t1_bytes.proofs.Ciphers.{length-sealed}
 use Rattle.t1_font.specs.Words.{word, phrase_of, phrase_after, is_access, passes}
 use Rattle.t1_font.specs.FontValue.{FontValue, Shell, SubrsShell, Encoding, Word, Codes, Numbered, total, subr_weight, glyph_weight, weight, file_limit}
-use Rattle.t1_font.specs.Writing.{subr_text, subrs_text, subrs_part, glyph_text, glyphs_text, glyphs_part, puts_text, encoding_text}
-use Rattle.t1_font.specs.Canon.{sealed_body, subr_entry, glyph_entry, subrs_pieces, encoding_pieces, canon_clear, canon_private, canon}
+use Rattle.t1_font.specs.Writing.{body_text, entry_text, entries_text, index_text, subrs_text, subrs_part, name_text, glyphs_text, glyphs_part, puts_text, encoding_text}
+use Rattle.t1_font.specs.Entry.{Body}
+use Rattle.t1_font.specs.Canon.{sealed_body, sealed_entry, subr_entry, glyph_entry, subrs_pieces, encoding_pieces, canon_clear, canon_private, canon}
 use Rattle.t1_font.specs.WriteLaws.{CanonLength}
 use Rattle.t1_font.specs.IsFont.{IsFont, IsWord, IsPhrase, IsCharstring, SubrsFit, SubrWords, IsCode, IsEncoding}
 use Rattle.t1_font.proofs.WordLemmas.{phrase_exact}
@@ -41,37 +42,26 @@ phrase_short b p h = let s = (phrase_exact (passes b)).takes p (p, []) h.whole i
 digits_short : (n : ℕ) → n ≤ 65535 → length (digits n) ≤ 5
 digits_short n h = length-decimal-le 5 n (omega arith) (omega arith) (omega arith)
 
-subr_short : (i n : ℕ) (rd body put : List ℕ) → i ≤ 65535 → n ≤ 65535 → length rd ≤ 32 → length put ≤ 32
-    → length (10 ∷ (codes "dup" ++ (32 ∷ (digits i ++ (32 ∷ (digits n ++ (32 ∷ (rd ++ (32 ∷ (body ++ (32 ∷ put))))))))))) ≤ 83 + length body
-subr_short i n rd body put hi hn hr hp =
-    omega (arith, digits_short i hi, digits_short n hn, length-append (digits i) (32 ∷ (digits n ++ (32 ∷ (rd ++ (32 ∷ (body ++ (32 ∷ put))))))), length-append (digits n) (32 ∷ (rd ++ (32 ∷ (body ++ (32 ∷ put))))), length-append rd (32 ∷ (body ++ (32 ∷ put))), length-append body (32 ∷ put))
+body_short : (b : Body) → length b.bytes ≤ 65535 → length b.rd ≤ 32 → length b.phrase ≤ 32 → length (body_text b) ≤ 73 + length b.bytes
+body_short b n r p =
+    let t2 : List ℕ = b.bytes ++ (32 ∷ b.phrase) in
+    let t1 : List ℕ = b.rd ++ (32 ∷ t2) in
+    omega (arith, digits_short (length b.bytes) n, r, p, length-append (digits (length b.bytes)) (32 ∷ t1), length-append b.rd (32 ∷ t2), length-append b.bytes (32 ∷ b.phrase))
 
-glyph_short : (n : ℕ) (name rd body nd : List ℕ) → n ≤ 65535 → length name ≤ 127 → length rd ≤ 32 → length nd ≤ 32 → length (10 ∷ (codes "/" ++ (name ++ (32 ∷ (digits n ++ (32 ∷ (rd ++ (32 ∷ (body ++ (32 ∷ nd)))))))))) ≤ 202 + length body
-glyph_short n name rd body nd hn hm hr hp =
-    omega (arith, digits_short n hn, length-append name (32 ∷ (digits n ++ (32 ∷ (rd ++ (32 ∷ (body ++ (32 ∷ nd))))))), length-append (digits n) (32 ∷ (rd ++ (32 ∷ (body ++ (32 ∷ nd))))), length-append rd (32 ∷ (body ++ (32 ∷ nd))), length-append body (32 ∷ nd))
+-- a table is no longer than it weighs, but for its end
+entries_long : {K : Type 0} (key_text : K → List ℕ) (IsKey : K → Type 0) (weight : K → List ℕ → ℕ) (iv : ℕ) (rd phrase closing : List ℕ) → ((k : K) (c : List ℕ) → IsKey k → length (key_text k) + 74 + iv + length c ≤ weight k c) → IsWord 32 rd → IsPhrase true phrase
+    → (es : List (K × List ℕ)) → AllByRecursion (λ e. IsKey e.0 × IsCharstring iv e.1) es → length (entries_text key_text (map (sealed_entry iv rd phrase) es) closing) ≤ total weight es + 1 + length closing
+entries_long key_text IsKey weight iv rd phrase closing heavy r p [] all = omega arith
+entries_long key_text IsKey weight iv rd phrase closing heavy r p (e ∷ es) all =
+    let b : Body = record { rd = rd; bytes = sealed_body iv e.1; phrase = phrase } in
+    let size : length (sealed_body iv e.1) ≡ iv + length e.1 = length-body iv e.1 in
+    let behind : length (body_text b) ≤ 73 + length (sealed_body iv e.1) = body_short b (omega (arith, size, all.0.1.short)) r.few (phrase_short true phrase p) in
+    let first : length (entry_text key_text (sealed_entry iv rd phrase e)) ≤ weight e.0 e.1 = omega (arith, size, behind, heavy e.0 e.1 all.0.0, length-append (key_text e.0) (body_text b)) in
+    omega (arith, first, entries_long key_text IsKey weight iv rd phrase closing heavy r p es all.1, length-append (entry_text key_text (sealed_entry iv rd phrase e)) (entries_text key_text (map (sealed_entry iv rd phrase) es) closing))
 
--- the tables are no longer than they weigh, but for their ends
 subrs_long : (iv : ℕ) (s : SubrsShell) (es : List (ℕ × List ℕ)) → length s.closing ≤ 32 → SubrWords es s → AllByRecursion (λ e. (e.0 ≤ 65535) × IsCharstring iv e.1) es → length (subrs_text (map (subr_entry iv s) es) s.closing) ≤ total (subr_weight iv) es + 33
 subrs_long iv s [] away w all = omega arith
-subrs_long iv s (e ∷ es) away w all = rest_long (e ∷ es) all
-  where
-    rest_long : (fs : List (ℕ × List ℕ)) → AllByRecursion (λ e. (e.0 ≤ 65535) × IsCharstring iv e.1) fs → length (subrs_text (map (subr_entry iv s) fs) s.closing) ≤ total (subr_weight iv) fs + 33
-    rest_long [] all = omega arith
-    rest_long (f ∷ fs) all =
-        let body : length (sealed_body iv f.1) ≡ iv + length f.1 = length-body iv f.1 in
-        let first : length (subr_text (subr_entry iv s f)) ≤ 83 + length (sealed_body iv f.1) = subr_short f.0 (length (sealed_body iv f.1)) s.rd (sealed_body iv f.1) s.put all.0.0 (omega (arith, all.0.1.short)) w.0.few (phrase_short true s.put w.1) in
-        let both = length-append (subr_text (subr_entry iv s f)) (subrs_text (map (subr_entry iv s) fs) s.closing) in
-        let more = rest_long fs all.1 in
-        omega arith
-
-glyphs_long : (s : Shell) (es : List (List ℕ × List ℕ)) → IsWord 32 s.glyphs_rd → IsPhrase true s.glyphs_def → AllByRecursion (λ e. IsWord 127 e.0 × IsCharstring s.len_iv e.1) es → length (glyphs_text (map (glyph_entry s) es)) ≤ total (glyph_weight s.len_iv) es + 4
-glyphs_long s [] rd nd all = omega arith
-glyphs_long s (e ∷ es) rd nd all =
-    let body : length (sealed_body s.len_iv e.1) ≡ s.len_iv + length e.1 = length-body s.len_iv e.1 in
-    let first : length (glyph_text (glyph_entry s e)) ≤ 202 + length (sealed_body s.len_iv e.1) = glyph_short (length (sealed_body s.len_iv e.1)) e.0 s.glyphs_rd (sealed_body s.len_iv e.1) s.glyphs_def (omega (arith, all.0.1.short)) all.0.0.few rd.few (phrase_short true s.glyphs_def nd) in
-    let both = length-append (glyph_text (glyph_entry s e)) (glyphs_text (map (glyph_entry s) es)) in
-    let more = glyphs_long s es rd nd all.1 in
-    omega arith
+subrs_long iv s (e ∷ es) away w all = omega (arith, away, entries_long index_text (λ i. i ≤ 65535) (subr_weight iv) iv s.rd s.put s.closing (λ i c h. omega (arith, digits_short i h)) w.0 w.1 (e ∷ es) all)
 
 part_long : (s : Shell) (o : Option SubrsShell) (m : Numbered) → SubrsFit s o m → length (subrs_part (option_map (subrs_pieces s.len_iv (entries m)) o)) ≤ total (subr_weight s.len_iv) (entries m) + 60
 part_long s None m h = omega arith
@@ -91,7 +81,7 @@ private_long f h =
     let all = entries_all nat_list_cmp_total name_same (λ n c. IsWord 127 n × IsCharstring s.len_iv c) f.glyphs (λ n c e. (h.glyphs.names n c e, h.glyphs.bodies n c e)) in
     let count : length gs ≤ 65535 = omega (arith, length-map (entries f.glyphs) (glyph_entry s), len-entries f.glyphs, h.glyphs.few) in
     let end : List ℕ = s.tail ++ 10 ∷ [] in
-    let table : length (glyphs_text gs) ≤ total (glyph_weight s.len_iv) (entries f.glyphs) + 4 = glyphs_long s (entries f.glyphs) h.glyphs.rd h.glyphs.def all in
+    let table : length (glyphs_text gs) ≤ total (glyph_weight s.len_iv) (entries f.glyphs) + 4 = omega (arith, entries_long name_text (IsWord 127) (glyph_weight s.len_iv) s.len_iv s.glyphs_rd s.glyphs_def (codes "end") (λ n c k. omega (arith, k.few)) h.glyphs.rd h.glyphs.def (entries f.glyphs) all) in
     let part : length (glyphs_part gs) ≤ total (glyph_weight s.len_iv) (entries f.glyphs) + 38 = omega (arith, table, digits_short (length gs) count, length-append (digits (length gs)) (codes " dict dup begin" ++ glyphs_text gs)) in
     let subrs : length (subrs_part o) ≤ total (subr_weight s.len_iv) (entries f.subrs) + 60 = part_long s s.subrs f.subrs h.subrs in
     omega (arith, part, subrs, length-append s.private (subrs_part o ++ (s.middle ++ (glyphs_part gs ++ end))), length-append (subrs_part o) (s.middle ++ (glyphs_part gs ++ end)), length-append s.middle (glyphs_part gs ++ end), length-append (glyphs_part gs) end, length-append s.tail (10 ∷ []))

@@ -1,5 +1,4 @@
 pub mod WordLemmas
-pub mod SubrLemmas
 pub mod MarkerLemmas
 pub mod Lasts
 pub mod EntryLemmas
@@ -27,7 +26,7 @@ pub mod Borders
 pub mod Moves
 pub mod Written
 pub mod Phrases
-pub mod GlyphsWritten
+pub mod EntriesWritten
 pub mod MapCuts
 pub mod ClearWritten
 pub mod PrivateWritten

@@ -5,11 +5,8 @@ use Rattle.t1_bytes.specs.Grammar.{Grammar, first}
 use Rattle.t1_bytes.proofs.Grammars.{IsExact, pure_exact, bind_exact, that_exact, run_exact, fixed_exact, before_exact, either_exact, first_exact}
 use Rattle.t1_font.specs.Markers.{encoding_marker, subrs_marker, chars_marker, len_iv_marker, len_iv, closefile}
 use Rattle.t1_font.specs.Encoding.{encoding_word, encoding_table, loop_range, loop_body, encoding_loop, octal, octal_after, code, code_entry, may_be, encoding_end, encoding_start}
-use Rattle.t1_font.specs.Glyphs.{glyph, glyphs_end}
 use Rattle.t1_bytes.proofs.EexecLemmas.{white_exact, gap_exact}
-use Rattle.t1_font.proofs.WordLemmas.{one_white_exact, word_exact, keyword_exact, decimal_exact, name_exact, phrase_exact}
-use Rattle.t1_font.proofs.SubrLemmas.{length_exact}
-use Rattle.t1_bytes.proofs.Grammars.{count_exact}
+use Rattle.t1_font.proofs.WordLemmas.{word_exact, keyword_exact, decimal_exact, name_exact}
 
 pub encoding_marker_exact : IsExact encoding_marker
 unfolding encoding_marker
@@ -80,18 +77,6 @@ code_entry_exact = bind_exact _ _ white_exact (λ _. bind_exact _ _ (keyword_exa
 pub encoding_end_exact : IsExact encoding_end
 unfolding encoding_end
 encoding_end_exact = bind_exact _ _ white_exact (λ _. bind_exact _ _ (may_be_exact _ (bind_exact _ _ (keyword_exact (codes "readonly")) (λ _. gap_exact))) (λ _. keyword_exact (codes "def")))
-
--- ---- the glyphs
-
-pub glyph_exact : (iv : ℕ) → IsExact (glyph iv)
-unfolding glyph
-glyph_exact iv =
-    bind_exact _ _ white_exact (λ _. bind_exact _ _ name_exact (λ n. bind_exact _ _ gap_exact (λ _. bind_exact _ _ (length_exact iv) (λ len. bind_exact _ _ gap_exact (λ _. bind_exact _ _ word_exact (λ rd.
-    bind_exact _ _ one_white_exact (λ _. bind_exact _ _ (count_exact len) (λ body. bind_exact _ _ white_exact (λ _. bind_exact _ _ (phrase_exact _) (λ nd. pure_exact _))))))))))
-
-pub glyphs_end_exact : IsExact glyphs_end
-unfolding glyphs_end
-glyphs_end_exact = bind_exact _ _ white_exact (λ _. keyword_exact (codes "end"))
 
 -- ---- the end of the private text
 

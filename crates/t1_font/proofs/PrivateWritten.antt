@@ -11,24 +11,24 @@ use Rattle.t1_bytes.specs.Grammar.{Grammar, Stops, first, first_at, table_at}
 use Rattle.t1_bytes.proofs.Grammars.{first_exact, first_here}
 use Rattle.t1_bytes.proofs.Places.{prepend}
 use Rattle.t1_font.specs.Words.{is_regular}
-use Rattle.t1_font.specs.Subrs.{Subr, subr, subrs_end}
+use Rattle.t1_font.specs.Entry.{Entry}
+use Rattle.t1_font.specs.Subrs.{subr, subrs_end}
 use Rattle.t1_font.specs.Markers.{subrs_marker, chars_marker, closefile, white_comes}
 use Rattle.t1_font.specs.Glyphs.{Glyph}
 use Rattle.t1_font.specs.declared.fault.ReadFault.{ReadFault}
 use Rattle.t1_font.specs.Pieces.{SubrsPieces, PrivatePieces, private_pieces, tables_from, before_place, glyphs_from, tail_after, has_subrs, iv_of}
-use Rattle.t1_font.specs.Writing.{subrs_text, subrs_part, glyphs_text, glyphs_part, private_written}
-use Rattle.t1_font.specs.IsFont.{IsPhrase, NoMarker}
+use Rattle.t1_font.specs.Writing.{entries_text, index_text, subrs_text, subrs_part, name_text, glyphs_text, glyphs_part, private_written}
+use Rattle.t1_font.specs.IsFont.{IsWord, IsPhrase, NoMarker}
 use Rattle.t1_font.proofs.MarkerLemmas.{closefile_exact}
-use Rattle.t1_font.proofs.Written.{IsSubr, gap_one, keyword_read, decimal_read, black_digits, table_read}
+use Rattle.t1_font.proofs.Written.{gap_one, keyword_read, decimal_read, black_digits}
 use Rattle.t1_font.proofs.FirstPlace.{one_place}
 use Rattle.t1_font.proofs.Borders.{fixed_strip}
 use Rattle.t1_font.proofs.Moves.{Within, fixed_within, first_grows, past_none, first_behind, subrs_moves, chars_moves}
-use Rattle.t1_font.proofs.Phrases.{closing_read}
-use Rattle.t1_font.proofs.GlyphsWritten.{IsGlyph, glyphs_read, fixed_read}
+use Rattle.t1_font.proofs.EntriesWritten.{IsEntry, subrs_read, glyphs_read, fixed_read}
 
 pub record ArePieces (iv : ℕ) (s : SubrsPieces) : Type 0 where
   pub declared : s.declared ≤ 65535
-  pub entries : AllByRecursion (IsSubr s.declared iv) s.entries
+  pub entries : AllByRecursion (IsEntry (λ i. i < s.declared) iv) s.entries
   pub closing : IsPhrase false s.closing
 
 abbrev pub AreOptional : ℕ → List ℕ → Option SubrsPieces → Type 0
@@ -47,7 +47,7 @@ pub record IsWritable (p : PrivatePieces) : Type 0 where
   pub tail_subrs : has_subrs p.tail ≡ false
   pub tail_ends : option_map (λ x. x.1) ((first closefile).read p.tail) ≡ Some []
   pub subrs : AreOptional p.len_iv p.middle p.subrs
-  pub glyphs : AllByRecursion (IsGlyph p.len_iv) p.glyphs
+  pub glyphs : AllByRecursion (IsEntry (IsWord 127) p.len_iv) p.glyphs
   pub few : length p.glyphs ≤ 65535
 
 -- ---- the markers
@@ -117,7 +117,7 @@ tail_read middle tail junk m t e =
     let more : first_at closefile (tail ++ (10 ∷ junk)) ≡ Some (f.0.0, f.0.1 ++ (10 ∷ junk)) = first_grows closefile (10 ∷ junk) (closefile_grows junk) tail f.0 f.1 in
     rw (more, m, f.3, t) refl
 
-pub glyphs_from_read : (text private : List ℕ) (subrs : Option SubrsPieces) (middle : List ℕ) (iv : ℕ) (es : List Glyph) (tail junk : List ℕ) → AllByRecursion (IsGlyph iv) es → Stops is_regular tail → has_subrs middle ≡ false → has_subrs tail ≡ false
+pub glyphs_from_read : (text private : List ℕ) (subrs : Option SubrsPieces) (middle : List ℕ) (iv : ℕ) (es : List Glyph) (tail junk : List ℕ) → AllByRecursion (IsEntry (IsWord 127) iv) es → Stops is_regular tail → has_subrs middle ≡ false → has_subrs tail ≡ false
     → option_map (λ x. x.1) ((first closefile).read tail) ≡ Some [] → (glyphs_from text private subrs middle iv (glyphs_text es ++ (tail ++ (10 ∷ junk)))).read ≡ Ok (record { private = private; len_iv = iv; subrs = subrs; middle = middle; glyphs = es; tail = tail })
 unfolding glyphs_from
 glyphs_from_read text private subrs middle iv es tail junk all apart m t e = rw (glyphs_read iv es (tail ++ (10 ∷ junk)) all (stops_then tail junk apart), tail_read middle tail junk m t e) refl
@@ -135,13 +135,13 @@ not_before front (Some x) =
     let late : ltb (length (front ++ x.0.0)) (length front) ≡ false = le-ltb (length (front ++ x.0.0)) (length front) (omega (arith, length-append front x.0.0)) in
     rw late refl
 
-glyphs_line : (es : List Glyph) → (r : List ℕ) × (glyphs_text es ≡ 10 ∷ r)
-glyphs_line [] = (_, refl)
-glyphs_line (e ∷ es) = (_, refl)
+begins_line : {K : Type 0} (key_text : K → List ℕ) (es : List (Entry K)) (closing : List ℕ) → (r : List ℕ) × (entries_text key_text es closing ≡ 10 ∷ r)
+begins_line key_text [] closing = (_, refl)
+begins_line key_text (e ∷ es) closing = (_, refl)
 
 pub chars_part_read : (es : List Glyph) (rest : List ℕ) → length es ≤ 65535 → chars_marker.read (glyphs_part es ++ rest) ≡ Some (tt, glyphs_text es ++ rest)
 chars_part_read es rest few =
-    let line = glyphs_line es in
+    let line = begins_line name_text es (codes "end") in
     let regrouped : glyphs_part es ++ rest ≡ codes "/CharStrings " ++ (digits (length es) ++ (codes " dict dup begin" ++ (glyphs_text es ++ rest))) = simp append_assoc in
     let shown : glyphs_text es ++ rest ≡ 10 ∷ (line.0 ++ rest) = ap (λ (u : List ℕ). u ++ rest) line.1 in
     ap chars_marker.read (regrouped ∙ ap (λ (u : List ℕ). codes "/CharStrings " ++ (digits (length es) ++ (codes " dict dup begin" ++ u))) shown) ∙ (chars_marker_read (length es) (line.0 ++ rest) (omega (arith, few)) ∙ ap (λ (u : List ℕ). Some (tt, u)) (sym shown))
@@ -182,13 +182,9 @@ is_found g (b ∷ front) after a rest e = elim (read_or_not (g.read (b ∷ (fron
     read_or_not None = inl refl
     read_or_not (Some x) = inr (x, refl)
 
-subrs_line : (es : List Subr) (closing : List ℕ) → (r : List ℕ) × (subrs_text es closing ≡ 10 ∷ r)
-subrs_line [] closing = (_, refl)
-subrs_line (e ∷ es) closing = (_, refl)
-
 pub subrs_part_read : (s : SubrsPieces) (rest : List ℕ) → s.declared ≤ 65535 → subrs_marker.read (subrs_part (Some s) ++ rest) ≡ Some (s.declared, subrs_text s.entries s.closing ++ rest)
 subrs_part_read s rest few =
-    let line = subrs_line s.entries s.closing in
+    let line = begins_line index_text s.entries s.closing in
     let regrouped : subrs_part (Some s) ++ rest ≡ codes "/Subrs " ++ (digits s.declared ++ (codes " array" ++ (subrs_text s.entries s.closing ++ rest))) = simp append_assoc in
     ap subrs_marker.read regrouped ∙ subrs_marker_read s.declared (subrs_text s.entries s.closing ++ rest) (omega (arith, few)) (ap (λ (u : List ℕ). white_comes (u ++ rest)) line.1)
 
@@ -213,7 +209,7 @@ tables_again p s text chars junk h k =
     let g : List ℕ = glyphs_part p.glyphs ++ t in
     let m : List ℕ = p.middle ++ g in
     let table : List ℕ = subrs_text s.entries s.closing ++ m in
-    let read : table_at (subr s.declared p.len_iv) subrs_end table ≡ Ok (s.entries, s.closing, m) = table_read s.declared p.len_iv s.entries s.closing m k.entries (closing_read s.closing k.closing) (stops_slash p.middle _ h.middle_apart) in
+    let read : table_at (subr s.declared p.len_iv) subrs_end table ≡ Ok (s.entries, s.closing, m) = subrs_read s.declared p.len_iv s.entries s.closing m k.declared k.entries k.closing (stops_slash p.middle _ h.middle_apart) in
     let next : first_at chars_marker m ≡ Some ((p.middle, tt), glyphs_text p.glyphs ++ t) = first_behind chars_marker p.middle g tt _ (chars_moves p.middle [] _ h.middle_chars) (chars_part_read p.glyphs t h.few) in
     rw (h.iv, read, next, glyphs_from_read text p.private (Some s) p.middle p.len_iv p.glyphs p.tail junk h.glyphs h.tail_apart h.middle_subrs h.tail_subrs h.tail_ends) refl
 

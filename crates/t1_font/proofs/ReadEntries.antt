@@ -1,27 +1,30 @@
 -- What is known of the words and entries that were read of bytes.
-use Rattle.std.proofs.Common.{◌≡◌, ℕ, ◌≤◌, ◌<◌, Ordering, Bool, true, false, leb, cond, List, [], ◌∷◌, ◌++◌, map, length, Option, Some, None, refl, sym, subst, ◌∙◌, arith}
+use Rattle.std.proofs.Common.{◌≡◌, ℕ, ◌≤◌, ◌<◌, Ordering, Bool, true, false, leb, cond, List, [], ◌∷◌, ◌++◌, length, Option, Some, None, refl, sym, subst, ◌∙◌, arith}
 use Rattle.std.specs.Prelude.{codes}
 use Rattle.std.specs.List.{AllByRecursion}
 use Rattle.std.specs.Ordering.{is_eq}
-use Rattle.std.specs.Cmp.{Equal-is}
-use Rattle.std.specs.FinMap.{IsAntisymmetric}
+use Rattle.std.specs.Cmp.{IsTotalOrder, Equal-is}
+use Rattle.std.specs.FinMap.{get, IsAntisymmetric}
 use Rattle.std.proofs.lemmas.Bool.{leb-true, ltb-true, and_parts}
 use Rattle.std.proofs.lemmas.List.{length-drop}
-use Rattle.t1_bytes.specs.Grammar.{choice}
+use Rattle.t1_bytes.specs.Grammar.{Grammar, choice}
 use Rattle.t1_bytes.specs.Laws.{AreBytes}
 use Rattle.t1_bytes.specs.Cipher.{decrypted}
 use Rattle.t1_bytes.proofs.Ciphers.{length-decrypted}
 use Rattle.t1_font.specs.Words.{word, name, phrase_of, phrase_after, is_access, passes}
-use Rattle.t1_font.specs.Subrs.{Subr, subr, index_below, length_from}
+use Rattle.t1_font.specs.Entry.{Body, Entry, length_from, body, entry, plain_entries}
+use Rattle.t1_font.specs.Subrs.{Subr, subr_key, subr}
 use Rattle.t1_font.specs.Encoding.{code, code_entry}
-use Rattle.t1_font.specs.Glyphs.{Glyph, glyph}
+use Rattle.t1_font.specs.Glyphs.{Glyph, glyph_key, glyph}
 use Rattle.t1_font.specs.Charstrings.{plain_of}
-use Rattle.t1_font.specs.Entries.{last_value}
+use Rattle.t1_font.specs.Entries.{last_value, map_of}
 use Rattle.t1_font.specs.IsFont.{IsWord, IsPhrase, IsCharstring}
 use Rattle.t1_font.proofs.MapCuts.{Some_same, Some_None}
 use Rattle.t1_font.proofs.ByteLemmas.{AreBytes-append}
 use Rattle.t1_font.proofs.ReadBytes.{parts_bytes, drop_bytes, decrypted_bytes}
 use Rattle.t1_font.proofs.ReadBack.{whole_of}
+use Rattle.t1_font.proofs.MapLaws.{get-map_of}
+use Rattle.t1_font.proofs.EntriesWritten.{IsBody}
 
 -- ---- words
 
@@ -53,87 +56,59 @@ phrase_is b p text rest s h =
     let a = parts_bytes text s.1 s.2 s.3 h in
     record { whole = whole_of (passes b) p text rest s; bytes = after_bytes (passes b) (is_access s.0) s.0 p s.2 rest s.5 (subst AreBytes s.4.0.0.0 a.0) a.1 }
 
--- ---- charstrings
-
--- one that stands in a file
-pub record IsBody (iv : ℕ) (body : List ℕ) : Type 0 where
-  pub long : iv ≤ length body
-  pub short : length body ≤ 65535
-  pub bytes : AreBytes body
-
-pub plain_fits : (iv : ℕ) (body : List ℕ) → IsBody iv body → IsCharstring iv (plain_of iv body)
-plain_fits iv body h = record {
-  short = omega (arith, h.long, h.short, length-drop iv (decrypted 4330 body), length-decrypted body 4330);
-  bytes = drop_bytes iv (decrypted 4330 body) (decrypted_bytes body 4330 (omega arith) h.bytes);
-}
-
 -- ---- entries
 
-pub record IsReadSubr (declared iv : ℕ) (e : Subr) : Type 0 where
-  pub index : e.index < declared
-  pub rd : IsWord 32 e.rd
-  pub body : IsBody iv e.body
-  pub put : IsPhrase true e.put
-
-pub subr_of : (declared iv : ℕ) (e : Subr) (text rest : List ℕ) → (subr declared iv).Spells e text rest → AreBytes text → IsReadSubr declared iv e
-unfolding subr index_below length_from
-subr_of declared iv e text rest s h =
+body_of : (iv : ℕ) (b : Body) (text rest : List ℕ) → (body iv).Spells b text rest → AreBytes text → IsBody iv b × AreBytes b.bytes
+unfolding body length_from
+body_of iv body text rest s h =
     let h1 = parts_bytes text s.1 s.2 s.3 h in
-    let h2 = parts_bytes s.2 s.5.1 s.5.2 s.5.3 h1.1 in
-    let h3 = parts_bytes s.5.2 s.5.5.1 s.5.5.2 s.5.5.3 h2.1 in
-    let i = s.5.5.5 in
-    let h4 = parts_bytes s.5.5.2 i.1 i.2 i.3 h3.1 in
-    let h5 = parts_bytes i.2 i.5.1 i.5.2 i.5.3 h4.1 in
-    let n = i.5.5 in
-    let h6 = parts_bytes i.5.2 n.1 n.2 n.3 h5.1 in
-    let h7 = parts_bytes n.2 n.5.1 n.5.2 n.5.3 h6.1 in
+    let n = s.5 in
+    let h2 = parts_bytes s.2 n.1 n.2 n.3 h1.1 in
+    let h3 = parts_bytes n.2 n.5.1 n.5.2 n.5.3 h2.1 in
     let r = n.5.5 in
-    let h8 = parts_bytes n.5.2 r.1 r.2 r.3 h7.1 in
-    let h9 = parts_bytes r.2 r.5.1 r.5.2 r.5.3 h8.1 in
+    let h4 = parts_bytes n.5.2 r.1 r.2 r.3 h3.1 in
+    let h5 = parts_bytes r.2 r.5.1 r.5.2 r.5.3 h4.1 in
     let b = r.5.5 in
-    let h10 = parts_bytes r.5.2 b.1 b.2 b.3 h9.1 in
-    let h11 = parts_bytes b.2 b.5.1 b.5.2 b.5.3 h10.1 in
+    let h6 = parts_bytes r.5.2 b.1 b.2 b.3 h5.1 in
+    let h7 = parts_bytes b.2 b.5.1 b.5.2 b.5.3 h6.1 in
     let p = b.5.5 in
-    let h12 = parts_bytes b.5.2 p.1 p.2 p.3 h11.1 in
+    let h8 = parts_bytes b.5.2 p.1 p.2 p.3 h7.1 in
     let size = and_parts (leb iv n.0) (leb n.0 65535) n.4.1 in
-    subst (IsReadSubr declared iv) p.5.1 (record {
-      index = ltb-true i.0 declared i.4.1;
-      rd = word_of r.0 r.1 _ r.4 h8.0;
-      body = record { long = omega (arith, leb-true iv n.0 size.0, b.4.1); short = omega (arith, leb-true n.0 65535 size.1, b.4.1); bytes = subst AreBytes b.4.0 h10.0 };
-      put = phrase_is true p.0 p.1 _ p.4 h12.0;
-    })
+    subst (λ (x : Body). IsBody iv x × AreBytes x.bytes) p.5.1 (
+      record {
+        long = omega (arith, leb-true iv n.0 size.0, b.4.1);
+        short = omega (arith, leb-true n.0 65535 size.1, b.4.1);
+        rd = word_of r.0 r.1 _ r.4 h4.0;
+        phrase = phrase_is true p.0 p.1 _ p.4 h8.0;
+      },
+      subst AreBytes b.4.0 h6.0,
+    )
 
-pub record IsReadGlyph (iv : ℕ) (e : Glyph) : Type 0 where
-  pub name : IsWord 127 e.name
-  pub rd : IsWord 32 e.rd
-  pub body : IsBody iv e.body
-  pub nd : IsPhrase true e.nd
+-- an entry that was read of bytes
+abbrev pub IsRead : {K : Type 0} → (K → Type 0) → ℕ → Entry K → Type 0
+IsRead IsKey iv e = IsKey e.key × IsBody iv e.body × AreBytes e.body.bytes
 
-pub glyph_of : (iv : ℕ) (e : Glyph) (text rest : List ℕ) → (glyph iv).Spells e text rest → AreBytes text → IsReadGlyph iv e
-unfolding glyph length_from
-glyph_of iv e text rest s h =
+entry_of : {K : Type 0} (key : Grammar K) (IsKey : K → Type 0) → ((k : K) (text rest : List ℕ) → key.Spells k text rest → AreBytes text → IsKey k) → (iv : ℕ) (e : Entry K) (text rest : List ℕ) → (entry key iv).Spells e text rest → AreBytes text → IsRead IsKey iv e
+unfolding entry
+entry_of key IsKey key_is iv e text rest s h =
     let h1 = parts_bytes text s.1 s.2 s.3 h in
-    let m = s.5 in
-    let h2 = parts_bytes s.2 m.1 m.2 m.3 h1.1 in
-    let h3 = parts_bytes m.2 m.5.1 m.5.2 m.5.3 h2.1 in
-    let n = m.5.5 in
-    let h4 = parts_bytes m.5.2 n.1 n.2 n.3 h3.1 in
-    let h5 = parts_bytes n.2 n.5.1 n.5.2 n.5.3 h4.1 in
-    let r = n.5.5 in
-    let h6 = parts_bytes n.5.2 r.1 r.2 r.3 h5.1 in
-    let h7 = parts_bytes r.2 r.5.1 r.5.2 r.5.3 h6.1 in
-    let b = r.5.5 in
-    let h8 = parts_bytes r.5.2 b.1 b.2 b.3 h7.1 in
-    let h9 = parts_bytes b.2 b.5.1 b.5.2 b.5.3 h8.1 in
-    let p = b.5.5 in
-    let h10 = parts_bytes b.5.2 p.1 p.2 p.3 h9.1 in
-    let size = and_parts (leb iv n.0) (leb n.0 65535) n.4.1 in
-    subst (IsReadGlyph iv) p.5.1 (record {
-      name = name_of m.0 m.1 _ m.4 h2.0;
-      rd = word_of r.0 r.1 _ r.4 h6.0;
-      body = record { long = omega (arith, leb-true iv n.0 size.0, b.4.1); short = omega (arith, leb-true n.0 65535 size.1, b.4.1); bytes = subst AreBytes b.4.0 h8.0 };
-      nd = phrase_is true p.0 p.1 _ p.4 h10.0;
-    })
+    let b = s.5 in
+    let k = body_of iv b.0 b.1 _ b.4 (parts_bytes s.2 b.1 b.2 b.3 h1.1).0 in
+    subst (IsRead IsKey iv) b.5.1 (key_is s.0 s.1 _ s.4 h1.0, k.0, k.1)
+
+subr_key_of : (declared i : ℕ) (text rest : List ℕ) → (subr_key declared).Spells i text rest → AreBytes text → i < declared
+unfolding subr_key
+subr_key_of declared i text rest s h = ltb-true i declared s.5.5.5.1
+
+pub subr_of : (declared iv : ℕ) (e : Subr) (text rest : List ℕ) → (subr declared iv).Spells e text rest → AreBytes text → IsRead (λ i. i < declared) iv e
+subr_of declared = entry_of (subr_key declared) (λ i. i < declared) (subr_key_of declared)
+
+glyph_key_of : (n text rest : List ℕ) → glyph_key.Spells n text rest → AreBytes text → IsWord 127 n
+unfolding glyph_key
+glyph_key_of n text rest s h = name_of n s.2 rest s.5 (parts_bytes text s.1 s.2 s.3 h).1
+
+pub glyph_of : (iv : ℕ) (e : Glyph) (text rest : List ℕ) → (glyph iv).Spells e text rest → AreBytes text → IsRead (IsWord 127) iv e
+glyph_of = entry_of glyph_key (IsWord 127) glyph_key_of
 
 pub record IsReadPut (e : ℕ × List ℕ) : Type 0 where
   pub code : e.0 ≤ 255
@@ -167,6 +142,16 @@ last_has R same P (e ∷ es) all q v h = by_rest (λ k. last_has R same P es all
     by_rest again (Some x) k t = again (k ∙ t)
     by_rest again None k t = by_key (is_eq (R q e.0)) refl t
 
-pub all_mapped : {A B : Type 0} (P : A → Type 0) (Q : B → Type 0) (f : A → B) → ((a : A) → P a → Q (f a)) → (xs : List A) → AllByRecursion P xs → AllByRecursion Q (map f xs)
-all_mapped P Q f g [] h = tt
-all_mapped P Q f g (x ∷ xs) h = (g x h.0, all_mapped P Q f g xs h.1)
+plain_fits : (iv : ℕ) (b : Body) → IsBody iv b → AreBytes b.bytes → IsCharstring iv (plain_of iv b.bytes)
+plain_fits iv b h bytes = record {
+  short = omega (arith, h.long, h.short, length-drop iv (decrypted 4330 b.bytes), length-decrypted b.bytes 4330);
+  bytes = drop_bytes iv (decrypted 4330 b.bytes) (decrypted_bytes b.bytes 4330 (omega arith) bytes);
+}
+
+all_fit : {K : Type 0} (IsKey : K → Type 0) (iv : ℕ) (es : List (Entry K)) → AllByRecursion (IsRead IsKey iv) es → AllByRecursion (λ e. IsKey e.0 × IsCharstring iv e.1) (plain_entries iv es)
+all_fit IsKey iv [] all = tt
+all_fit IsKey iv (e ∷ es) all = ((all.0.0, plain_fits iv e.body all.0.1 all.0.2), all_fit IsKey iv es all.1)
+
+-- so it is of each charstring in the map of such entries
+pub map_fits : {K : Type 0} {R : K → K → Ordering} → IsTotalOrder R → IsAntisymmetric R → (IsKey : K → Type 0) (iv : ℕ) (es : List (Entry K)) → AllByRecursion (IsRead IsKey iv) es → (k : K) (v : List ℕ) → get {R = R} (map_of (plain_entries iv es)) k ≡ Some v → IsKey k × IsCharstring iv v
+map_fits {R = R} o same IsKey iv es all k v e = last_has R same (λ k v. IsKey k × IsCharstring iv v) (plain_entries iv es) (all_fit IsKey iv es all) k v (sym (get-map_of o same (plain_entries iv es) k) ∙ e)

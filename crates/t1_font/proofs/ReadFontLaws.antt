@@ -1,12 +1,12 @@
 -- What is read of a file of bytes is a font.
-use Rattle.std.proofs.Common.{◌≡◌, ℕ, ◌≤◌, ◌<◌, true, cond, List, [], ◌∷◌, ◌++◌, map, Option, Some, None, is_some, Ok, refl, sym, ap, subst, ◌∙◌, append_assoc, arith, true≢false}
+use Rattle.std.proofs.Common.{◌≡◌, ℕ, ◌≤◌, ◌<◌, true, cond, List, [], ◌∷◌, ◌++◌, Option, Some, None, is_some, Ok, refl, sym, ap, subst, ◌∙◌, append_assoc, arith, true≢false}
 use Rattle.std.specs.List.{AllByRecursion, list_any}
 use Rattle.std.specs.Option.{option_map}
 use Rattle.std.specs.Str.{bytes_eq}
 use Rattle.std.specs.Ordering.{nat_cmp, is_eq}
 use Rattle.std.specs.Cmp.{nat_cmp_total, tied_itself}
 use Rattle.std.specs.Cmp.Lexicographic.{nat_list_cmp_total}
-use Rattle.std.specs.FinMap.{get, find, contains_key, nat_cmp-IsAntisymmetric}
+use Rattle.std.specs.FinMap.{find, contains_key, nat_cmp-IsAntisymmetric}
 use Rattle.t1_bytes.specs.declared.form.Form.TheVariants.{Pfb}
 use Rattle.t1_bytes.specs.Cipher.{decrypted}
 use Rattle.t1_bytes.specs.Grammar.{Stops, first, choice}
@@ -16,18 +16,19 @@ use Rattle.t1_bytes.proofs.ContainerLaws.{one_flat}
 use Rattle.t1_bytes.proofs.Ciphers.{decrypted-is}
 use Rattle.t1_bytes.proofs.Grammars.{first_exact, front_again}
 use Rattle.t1_font.specs.Words.{is_regular}
+use Rattle.t1_font.specs.Entry.{plain_entries}
 use Rattle.t1_font.specs.Subrs.{Subr}
 use Rattle.t1_font.specs.Markers.{closefile}
 use Rattle.t1_font.specs.Glyphs.{Glyph, glyph}
 use Rattle.t1_font.specs.Charstrings.{plain_of}
 use Rattle.t1_font.specs.Pieces.{ClearPieces, SubrsPieces, PrivatePieces}
-use Rattle.t1_font.specs.FontValue.{FontValue, SubrsShell, name_cmp, notdef, declared_count, count_limit, IsWithin}
+use Rattle.t1_font.specs.FontValue.{FontValue, SubrsShell, notdef, declared_count, count_limit, IsWithin}
 use Rattle.t1_font.specs.Entries.{map_of, last_entries, last_value}
 use Rattle.t1_font.specs.ReadFont.{of_first, subrs_of, subrs_shell, glyph_entries, shell_of, font_of, read_font}
 use Rattle.t1_font.specs.Spelling.{IsPrivate, IsCut, Texts, Spells}
 use Rattle.t1_font.specs.Canon.{canon}
-use Rattle.t1_font.specs.IsFont.{IsWord, IsPhrase, IsCharstring, IsPrivateShell, SubrWords, SubrsFit, AreGlyphs, IsFont, HasBytes}
-use Rattle.t1_font.proofs.MapLaws.{entries-map_of, get-map_of, find-last}
+use Rattle.t1_font.specs.IsFont.{IsWord, IsPhrase, IsPrivateShell, SubrWords, SubrsFit, AreGlyphs, IsFont, HasBytes}
+use Rattle.t1_font.proofs.MapLaws.{entries-map_of, find-last}
 use Rattle.t1_font.proofs.MarkerLemmas.{closefile_exact, close_parts}
 use Rattle.t1_font.proofs.ReadLaws.{iv_sound}
 use Rattle.t1_font.proofs.SpellingLaws.{is_iv, reads}
@@ -38,7 +39,7 @@ use Rattle.t1_font.proofs.RoundTrip.{round_trip}
 use Rattle.t1_font.proofs.SplitWritten.{marker_own}
 use Rattle.t1_font.proofs.ReadBack.{tail_ends_of}
 use Rattle.t1_font.proofs.ReadBytes.{parts_bytes, flat_bytes, cipher_bytes_of, decrypted_bytes, entries_have}
-use Rattle.t1_font.proofs.ReadEntries.{plain_fits, IsReadSubr, IsReadGlyph, glyph_of, last_has, all_mapped}
+use Rattle.t1_font.proofs.ReadEntries.{IsRead, glyph_of, map_fits}
 use Rattle.t1_font.proofs.ReadMarkers.{encoding_slash}
 use Rattle.t1_font.proofs.ReadClear.{clear_of}
 use Rattle.t1_font.proofs.ReadPrivate.{stops_front, glyphs_stops, IsReadSubrs, middle_of}
@@ -60,38 +61,32 @@ words_by : (l : List (ℕ × List ℕ)) (s : SubrsShell) → (l ≡ [] → ⊥) 
 words_by [] s some rd put = absurd (some refl)
 words_by (e ∷ es) s some rd put = (rd, put)
 
-words_of : (declared iv : ℕ) (closing : List ℕ) (es : List Subr) → AllByRecursion (IsReadSubr declared iv) es → SubrWords (last_entries nat_cmp (map (λ s. (s.index, plain_of iv s.body)) es)) (subrs_shell (record { declared = declared; entries = es; closing = closing }))
+words_of : (declared iv : ℕ) (closing : List ℕ) (es : List Subr) → AllByRecursion (IsRead (λ i. i < declared) iv) es → SubrWords (last_entries nat_cmp (plain_entries iv es)) (subrs_shell (record { declared = declared; entries = es; closing = closing }))
 words_of declared iv closing [] all = (refl, refl)
-words_of declared iv closing (e ∷ es) all = words_by _ _ (no_entries (e.index, plain_of iv e.body) (map (λ s. (s.index, plain_of iv s.body)) es)) all.0.rd all.0.put
+words_of declared iv closing (e ∷ es) all = words_by _ _ (no_entries (e.key, plain_of iv e.body.bytes) (plain_entries iv es)) all.0.1.rd all.0.1.phrase
 
-pub subrs_of_font : (c : ClearPieces) (p : PrivatePieces) (o : Option SubrsPieces) → IsReadSubrs p o → declared_count (option_map subrs_shell o) ≤ count_limit → SubrsFit (shell_of c p) (option_map subrs_shell o) (map_of (map (λ s. (s.index, plain_of p.len_iv s.body)) (subrs_of o)))
+pub subrs_of_font : (c : ClearPieces) (p : PrivatePieces) (o : Option SubrsPieces) → IsReadSubrs p o → declared_count (option_map subrs_shell o) ≤ count_limit → SubrsFit (shell_of c p) (option_map subrs_shell o) (map_of (plain_entries p.len_iv (subrs_of o)))
 subrs_of_font c p None h few = (entries-map_of nat_cmp_total nat_cmp-IsAntisymmetric [], h)
 subrs_of_font c p (Some x) h few =
-    let iv = p.len_iv in
-    let es : List (ℕ × List ℕ) = map (λ s. (s.index, plain_of iv s.body)) x.entries in
-    let all : AllByRecursion (λ e. (e.0 < x.declared) × IsCharstring iv e.1) es = all_mapped (IsReadSubr x.declared iv) (λ e. (e.0 < x.declared) × IsCharstring iv e.1) (λ s. (s.index, plain_of iv s.body)) (λ e k. (k.index, plain_fits iv e.body k.body)) x.entries h.0 in
-    let has : (i : ℕ) (v : List ℕ) → get {R = nat_cmp} (map_of es) i ≡ Some v → (i < x.declared) × IsCharstring iv v = λ i v e. last_has nat_cmp nat_cmp-IsAntisymmetric (λ i v. (i < x.declared) × IsCharstring iv v) es all i v (sym (get-map_of nat_cmp_total nat_cmp-IsAntisymmetric es i) ∙ e) in
+    let has = map_fits nat_cmp_total nat_cmp-IsAntisymmetric (λ i. i < x.declared) p.len_iv x.entries h.0 in
     record {
       declared = few;
       below = λ i v e. (has i v e).0;
       bodies = λ i v e. (has i v e).1;
-      words = subst (λ (l : List (ℕ × List ℕ)). SubrWords l (subrs_shell x)) (sym (entries-map_of nat_cmp_total nat_cmp-IsAntisymmetric es)) (words_of x.declared iv x.closing x.entries h.0);
+      words = subst (λ (l : List (ℕ × List ℕ)). SubrWords l (subrs_shell x)) (sym (entries-map_of nat_cmp_total nat_cmp-IsAntisymmetric (plain_entries p.len_iv x.entries))) (words_of x.declared p.len_iv x.closing x.entries h.0);
       closing = h.1;
     }
 
 -- ---- the glyphs
 
-glyph_words : (iv : ℕ) (gs : List Glyph) → AllByRecursion (IsReadGlyph iv) gs → list_any (λ g. bytes_eq notdef g.name) gs ≡ true → IsWord 32 (of_first (λ g. g.rd) gs) × IsPhrase true (of_first (λ g. g.nd) gs)
+glyph_words : (iv : ℕ) (gs : List Glyph) → AllByRecursion (IsRead (IsWord 127) iv) gs → list_any (λ g. bytes_eq notdef g.key) gs ≡ true → IsWord 32 (of_first (λ g. g.body.rd) gs) × IsPhrase true (of_first (λ g. g.body.phrase) gs)
 glyph_words iv [] all some = absurd (true≢false (sym some))
-glyph_words iv (g ∷ gs) all some = (all.0.rd, all.0.nd)
+glyph_words iv (g ∷ gs) all some = (all.0.1.rd, all.0.1.phrase)
 
-pub glyphs_of_font : (c : ClearPieces) (p : PrivatePieces) → AllByRecursion (IsReadGlyph p.len_iv) p.glyphs → contains_key (font_of c p).glyphs notdef ≡ true → IsWithin (font_of c p) → AreGlyphs (shell_of c p) (map_of (glyph_entries p))
+pub glyphs_of_font : (c : ClearPieces) (p : PrivatePieces) → AllByRecursion (IsRead (IsWord 127) p.len_iv) p.glyphs → contains_key (font_of c p).glyphs notdef ≡ true → IsWithin (font_of c p) → AreGlyphs (shell_of c p) (map_of (glyph_entries p))
 glyphs_of_font c p h some within =
-    let iv = p.len_iv in
-    let es : List (List ℕ × List ℕ) = glyph_entries p in
-    let all : AllByRecursion (λ e. IsWord 127 e.0 × IsCharstring iv e.1) es = all_mapped (IsReadGlyph iv) (λ e. IsWord 127 e.0 × IsCharstring iv e.1) (λ g. (g.name, plain_of iv g.body)) (λ g k. (k.name, plain_fits iv g.body k.body)) p.glyphs h in
-    let has : (n v : List ℕ) → get {R = name_cmp} (map_of es) n ≡ Some v → IsWord 127 n × IsCharstring iv v = λ n v e. last_has name_cmp name_same (λ n v. IsWord 127 n × IsCharstring iv v) es all n v (sym (get-map_of nat_list_cmp_total name_same es n) ∙ e) in
-    let words = glyph_words iv p.glyphs h (sym (notdef_is c p) ∙ some) in
+    let has = map_fits nat_list_cmp_total name_same (IsWord 127) p.len_iv p.glyphs h in
+    let words = glyph_words p.len_iv p.glyphs h (sym (notdef_is c p) ∙ some) in
     record {
       rd = words.0;
       def = words.1;
@@ -109,7 +104,7 @@ pub record IsReadPrivate (c : ClearPieces) (p : PrivatePieces) : Type 0 where
   pub middle : AreBytes p.middle
   pub tail : AreBytes p.tail
   pub subrs : IsReadSubrs p p.subrs
-  pub glyphs : AllByRecursion (IsReadGlyph p.len_iv) p.glyphs
+  pub glyphs : AllByRecursion (IsRead (IsWord 127) p.len_iv) p.glyphs
 
 pub private_of : (text : List ℕ) (c : ClearPieces) (p : PrivatePieces) → IsPrivate text p → AreBytes text → IsReadPrivate c p
 private_of text c p s h =
@@ -135,7 +130,7 @@ private_of text c p s h =
       middle = m.0.middle;
       tail = (parts_bytes s.after p.tail s.rest whole a.1).0;
       subrs = m.1;
-      glyphs = entries_have (glyph p.len_iv) (IsReadGlyph p.len_iv) (glyph_of p.len_iv) p.glyphs t.2.0 (t.2.1 ++ s.after) t.2.3 b.0;
+      glyphs = entries_have (glyph p.len_iv) (IsRead (IsWord 127) p.len_iv) (glyph_of p.len_iv) p.glyphs t.2.0 (t.2.1 ++ s.after) t.2.3 b.0;
     }
 
 -- ---- the file

@@ -7,10 +7,9 @@ use Rattle.t1_font.specs.declared.fault.ReadFault.{ReadFault}
 use Rattle.t1_font.specs.declared.fault.ReadFault.TheVariants.{BadSegment, BadEncoding, BadSubrs, BadGlyphs}
 use Rattle.t1_font.specs.Pieces.{SubrsPieces, ClearPieces, PrivatePieces, flat_pieces, encoding_from, clear_pieces, iv_at, iv_of, tail_after, glyphs_from, tables_from, private_pieces}
 use Rattle.t1_font.specs.ReadFont.{bad_segment, flat_text, font_from, font_file}
-use Rattle.t1_font.proofs.SubrLemmas.{subr_exact, subrs_end_exact, subr_eats, subr_apart}
 use Rattle.t1_bytes.proofs.EexecLemmas.{cipher_exact, eexec_exact}
-use Rattle.t1_font.proofs.MarkerLemmas.{encoding_marker_exact, encoding_start_exact, code_entry_exact, encoding_end_exact, subrs_marker_exact, chars_marker_exact, len_iv_marker_exact, len_iv_exact, closefile_exact, glyph_exact, glyphs_end_exact}
-use Rattle.t1_font.proofs.EntryLemmas.{code_entry_eats, code_entry_apart, glyph_eats, glyph_apart}
+use Rattle.t1_font.proofs.MarkerLemmas.{encoding_marker_exact, encoding_start_exact, code_entry_exact, encoding_end_exact, subrs_marker_exact, chars_marker_exact, len_iv_marker_exact, len_iv_exact, closefile_exact}
+use Rattle.t1_font.proofs.EntryLemmas.{code_entry_eats, code_entry_apart, subr_exact, subr_eats, subr_apart, subrs_end_exact, glyph_exact, glyph_eats, glyph_apart, glyphs_end_exact}
 use Rattle.t1_font.proofs.ReadingLaws.{IsSound, give_sound, bind_sound, must_sound, wanted_sound, optional_sound, table_sound}
 
 pub flat_sound : (file : List ℕ) → IsSound (flat_text file)

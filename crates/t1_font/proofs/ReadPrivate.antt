@@ -1,5 +1,5 @@
 -- The private text of a file that was read is that of a font.
-use Rattle.std.proofs.Common.{◌≡◌, ℕ, Bool, true, false, List, [], ◌∷◌, ◌++◌, length, Option, Some, None, refl, sym, ap, subst, ◌∙◌, append_assoc, arith}
+use Rattle.std.proofs.Common.{◌≡◌, ℕ, ◌<◌, Bool, true, false, List, [], ◌∷◌, ◌++◌, length, Option, Some, None, refl, sym, ap, subst, ◌∙◌, append_assoc, arith}
 use Rattle.std.specs.List.{AllByRecursion}
 use Rattle.std.proofs.lemmas.List.{append-nil, length-append}
 use Rattle.t1_bytes.specs.Grammar.{NoneIn, Stops, first}
@@ -13,7 +13,7 @@ use Rattle.t1_font.specs.Spelling.{TableAt, NotBefore, nowhere, later, Start, Sp
 use Rattle.t1_font.specs.IsFont.{NoMarker, IsPhrase}
 use Rattle.t1_font.proofs.Moves.{subrs_moves, chars_moves}
 use Rattle.t1_font.proofs.ReadBytes.{parts_bytes, entries_have}
-use Rattle.t1_font.proofs.ReadEntries.{phrase_is, IsReadSubr, subr_of}
+use Rattle.t1_font.proofs.ReadEntries.{phrase_is, IsRead, subr_of}
 use Rattle.t1_font.proofs.ReadMarkers.{lacks_none, before_slash, subrs_slash, chars_slash}
 
 -- ---- what stops a word
@@ -92,7 +92,7 @@ started text private (Some declared) rest s =
 
 -- what is known of the entries of a table, of its closing phrase and of what stands behind it
 pub record IsReadTable (declared iv : ℕ) (es : List Subr) (last between : List ℕ) : Type 0 where
-  pub entries : AllByRecursion (IsReadSubr declared iv) es
+  pub entries : AllByRecursion (IsRead (λ i. i < declared) iv) es
   pub closing : IsPhrase false last
   pub apart : Stops is_regular between
   pub bytes : AreBytes between
@@ -102,7 +102,7 @@ table_of declared iv es closing bytes between s h =
     let a = parts_bytes bytes s.0 between s.1 h in
     let b = parts_bytes s.0 s.2.0 s.2.1 s.2.2 a.0 in
     record {
-      entries = entries_have (subr declared iv) (IsReadSubr declared iv) (subr_of declared iv) es s.2.0 (s.2.1 ++ between) s.2.3 b.0;
+      entries = entries_have (subr declared iv) (IsRead (λ i. i < declared) iv) (subr_of declared iv) es s.2.0 (s.2.1 ++ between) s.2.3 b.0;
       closing = closing_is closing s.2.1 between s.2.4 b.1;
       apart = subrs_stops closing s.2.1 between s.2.4;
       bytes = a.1;
@@ -120,7 +120,7 @@ pub record IsReadMiddle (p : PrivatePieces) (o : Option SubrsPieces) (glyphs : L
 
 abbrev pub IsReadSubrs : PrivatePieces → Option SubrsPieces → Type 0
 IsReadSubrs p None = p.middle ≡ []
-IsReadSubrs p (Some s) = AllByRecursion (IsReadSubr s.declared p.len_iv) s.entries × IsPhrase false s.closing
+IsReadSubrs p (Some s) = AllByRecursion (IsRead (λ i. i < s.declared) p.len_iv) s.entries × IsPhrase false s.closing
 
 pub middle_of : (text : List ℕ) (p : PrivatePieces) (o : Option SubrsPieces) (glyphs : List ℕ) → SpellsTables text p o glyphs → AreBytes text → IsReadMiddle p o glyphs × IsReadSubrs p o
 middle_of text p None glyphs s h =

@@ -1,6 +1,6 @@
 -- What is tested on lists of entries holds of the font.
 use Rattle.std.proofs.Common.{◌≡◌, ℕ, ◌≤◌, Bool, true, false, cond, ◌||◌, ◌&&◌, leb, List, [], ◌∷◌, ◌++◌, length, take, drop, Option, Some, None, refl, sym, ap, ◌∙◌, arith}
-use Rattle.std.specs.Prelude.{is_some, map}
+use Rattle.std.specs.Prelude.{is_some}
 use Rattle.std.specs.List.{list_any}
 use Rattle.std.specs.Str.{bytes_eq}
 use Rattle.std.specs.FinMap as maps
@@ -15,6 +15,7 @@ use Rattle.t1_bytes.specs.Cipher.{Enciphers, decrypted, private_text}
 use Rattle.t1_bytes.proofs.Ciphers.{Enciphers-decrypted, decrypted-is, length-decrypted}
 use Rattle.t1_bytes.specs.Grammar.{choice}
 use Rattle.t1_font.specs.Charstrings.{plain_of}
+use Rattle.t1_font.specs.Entry.{plain_entries}
 use Rattle.t1_font.specs.Glyphs.{Glyph}
 use Rattle.t1_font.specs.Pieces.{ClearPieces, PrivatePieces}
 use Rattle.t1_font.specs.FontValue.{name_cmp, notdef, weight_of, IsWithin, declared_count, count_limit, weight_limit}
@@ -31,9 +32,11 @@ some_choice (Some x) false v = refl
 some_choice None true v = refl
 some_choice None false v = refl
 
-some_last : (q : List ℕ) (iv : ℕ) (gs : List Glyph) → is_some (last_value name_cmp q (map (λ g. (g.name, plain_of iv g.body)) gs)) ≡ list_any (λ g. bytes_eq q g.name) gs
+some_last : (q : List ℕ) (iv : ℕ) (gs : List Glyph) → is_some (last_value name_cmp q (plain_entries iv gs)) ≡ list_any (λ g. bytes_eq q g.key) gs
 some_last q iv [] = refl
-some_last q iv (g ∷ gs) = some_choice (last_value name_cmp q (map (λ g. (g.name, plain_of iv g.body)) gs)) (is_eq (name_cmp q g.name)) (plain_of iv g.body) ∙ (ap (λ b. b || is_some (last_value name_cmp q (map (λ g. (g.name, plain_of iv g.body)) gs))) (is_eq-slice_cmp q g.name) ∙ ap (λ b. bytes_eq q g.name || b) (some_last q iv gs))
+some_last q iv (g ∷ gs) =
+    some_choice (last_value name_cmp q (plain_entries iv gs)) (is_eq (name_cmp q g.key)) (plain_of iv g.body.bytes)
+    ∙ (ap (λ b. b || is_some (last_value name_cmp q (plain_entries iv gs))) (is_eq-slice_cmp q g.key) ∙ ap (λ b. bytes_eq q g.key || b) (some_last q iv gs))
 
 pub notdef_is : (c : ClearPieces) (p : PrivatePieces) → maps.contains_key (font_of c p).glyphs notdef ≡ has_notdef p
 notdef_is c p = ap is_some (get-map_of nat_list_cmp_total name_same (glyph_entries p) notdef) ∙ some_last notdef p.len_iv p.glyphs

@@ -1,20 +1,17 @@
--- Words and the table of Subrs are read as they are written.
-use Rattle.std.proofs.Common.{◌≡◌, ℕ, ◌+◌, ◌-◌, ◌*◌, ◌≤◌, ◌<◌, ◌^◌, ◌%◌, ◌||◌, true, false, leb, List, [], ◌∷◌, ◌++◌, length, Some, Ok, refl, ap, ◌∙◌, append_assoc, arith}
+-- Words are read as they are written.
+use Rattle.std.proofs.Common.{◌≡◌, ℕ, ◌+◌, ◌-◌, ◌*◌, ◌≤◌, ◌<◌, ◌^◌, ◌%◌, ◌||◌, true, false, leb, List, [], ◌∷◌, ◌++◌, length, Some, refl, ap, ◌∙◌, arith}
 use Rattle.std.specs.Prelude.{codes}
 use Rattle.std.specs.Fmt.{decimal as digits}
 use Rattle.std.specs.List.{AllByRecursion, prefix_len}
 use Rattle.std.specs.Str.{bytes_eq}
 use Rattle.std.proofs.lemmas.Slice.Eq.{bytes_eq-Decides}
-use Rattle.std.proofs.lemmas.Bool.{le-leb, lt-ltb, leb-true, and_parts, and_from, or_parts, not-true, agree_below_at}
+use Rattle.std.proofs.lemmas.Bool.{le-leb, leb-true, and_parts, and_from, or_parts, not-true, agree_below_at}
 use Rattle.std.proofs.lemmas.Fmt.{decimal_by_steps, length-decimal-le, decimal_nonempty}
-use Rattle.t1_bytes.specs.Grammar.{pure, that, Stops, run, count, with_front, table_at}
+use Rattle.t1_bytes.specs.Grammar.{pure, that, Stops, run, count}
 use Rattle.t1_bytes.specs.White.{is_white, white, has_bytes, gap}
 use Rattle.t1_bytes.proofs.Grammars.{count_exact, bind_read, that_read, run_read}
-use Rattle.t1_font.specs.Words.{is_regular, one_white, word, is_word, keyword, decimal, is_delimiter, is_digit, starts_white, is_decimal, all_digits, digits_after, phrase_of, passes}
-use Rattle.t1_font.specs.Subrs.{Subr, subr, subrs_end, index_below, length_from}
-use Rattle.t1_bytes.proofs.Tables.{table_at-step}
-use Rattle.t1_font.proofs.SubrLemmas.{subr_eats, subr_apart}
-use Rattle.t1_font.specs.Writing.{subrs_text}
+use Rattle.t1_font.specs.Words.{is_regular, one_white, word, is_word, keyword, decimal, is_delimiter, is_digit, starts_white, is_decimal, all_digits, digits_after}
+use Rattle.t1_font.specs.Entry.{length_from}
 
 pub white_one : (b : ℕ) (rest : List ℕ) → is_white b ≡ true → Stops is_white rest → white.read (b ∷ rest) ≡ Some (b ∷ [], rest)
 white_one b rest w s = run_read is_white (b ∷ []) rest (w, tt) s
@@ -97,21 +94,6 @@ black_digits n rest small = black (digits n) rest (digits_regular (digits n) (di
 pub count_read : (body rest : List ℕ) → (count (length body)).read (body ++ rest) ≡ Some (body, rest)
 count_read body rest = (count_exact (length body)).again body body rest (refl, refl)
 
--- an entry that can be written
-pub record IsSubr (declared iv : ℕ) (e : Subr) : Type 0 where
-  pub index : e.index < declared
-  pub few : declared ≤ 65535
-  pub long : iv ≤ length e.body
-  pub short : length e.body ≤ 65535
-  pub rd : AllRegular e.rd
-  pub rd_word : is_word e.rd ≡ true
-  pub put : (rest : List ℕ) → Stops is_regular rest → (phrase_of (passes true)).read (e.put ++ rest) ≡ Some (e.put, rest)
-  pub put_black : (rest : List ℕ) → Stops is_white (e.put ++ rest)
-
-index_read : (declared n : ℕ) (rest : List ℕ) → n < declared → n < 10 ^ 9 → Stops is_regular rest → (index_below declared).read (digits n ++ rest) ≡ Some (n, rest)
-unfolding index_below
-index_read declared n rest h small s = that_read _ decimal (digits n ++ rest) n rest (decimal_read n rest small s) (lt-ltb n declared h)
-
 pub length_read : (iv n : ℕ) (rest : List ℕ) → iv ≤ n → n ≤ 65535 → Stops is_regular rest → (length_from iv).read (digits n ++ rest) ≡ Some (n, rest)
 unfolding length_from
 length_read iv n rest h k s = that_read _ decimal (digits n ++ rest) n rest (decimal_read n rest (omega arith) s) (and_from _ _ (le-leb iv n h) (le-leb n 65535 k))
@@ -123,49 +105,9 @@ one_read rest = that_read starts_white (count 1) (32 ∷ rest) (32 ∷ []) rest 
 pub word_has : (w : List ℕ) → is_word w ≡ true → 0 < length w
 word_has w h = leb-true 1 (length w) (and_parts (leb 1 (length w)) (leb (length w) 32) h).0
 
-dup_regular : AllRegular (codes "dup")
+pub dup_regular : AllRegular (codes "dup")
 dup_regular = (refl, (refl, (refl, tt)))
 
 pub no_white : (bytes : List ℕ) → Stops is_white bytes → prefix_len is_white bytes ≡ 0
 no_white [] s = refl
 no_white (b ∷ bs) s = rw s refl
-
-pub subr_read : (declared iv : ℕ) (e : Subr) (rest : List ℕ) → IsSubr declared iv e → Stops is_regular rest → (subr declared iv).read (10 ∷ (codes "dup" ++ (32 ∷ (digits e.index ++ (32 ∷ (digits (length e.body) ++ (32 ∷ (e.rd ++ (32 ∷ (e.body ++ (32 ∷ (e.put ++ rest)))))))))))) ≡ Some (e, rest)
-unfolding subr
-subr_read declared iv e rest h s =
-    let t9 : List ℕ = 32 ∷ (e.put ++ rest) in
-    let t8 : List ℕ = e.body ++ t9 in
-    let t7 : List ℕ = e.rd ++ (32 ∷ t8) in
-    let t5 : List ℕ = digits (length e.body) ++ (32 ∷ t7) in
-    let t3 : List ℕ = digits e.index ++ (32 ∷ t5) in
-    let small : e.index < 10 ^ 9 = omega (arith, h.index, h.few) in
-    let fits : length e.body < 10 ^ 9 = omega (arith, h.short) in
-    rw (
-      keyword_read (codes "dup") (32 ∷ t3) dup_regular refl,
-      gap_one t3 (black_digits e.index (32 ∷ t5) small),
-      index_read declared e.index (32 ∷ t5) h.index small refl,
-      gap_one t5 (black_digits (length e.body) (32 ∷ t7) fits),
-      length_read iv (length e.body) (32 ∷ t7) h.long h.short refl,
-      gap_one t7 (black e.rd (32 ∷ t8) h.rd (word_has e.rd h.rd_word)),
-      word_read e.rd (32 ∷ t8) h.rd h.rd_word refl,
-      one_read t8,
-      count_read e.body t9,
-      no_white (e.put ++ rest) (h.put_black rest),
-      h.put rest s,
-    ) refl
-
-begins_line : (es : List Subr) (closing_phrase rest : List ℕ) → Stops is_regular (subrs_text es closing_phrase ++ rest)
-begins_line [] closing_phrase rest = refl
-begins_line (e ∷ es) closing_phrase rest = refl
-
--- the whole table, read from its canonical text
-pub table_read : (declared iv : ℕ) (es : List Subr) (closing_phrase rest : List ℕ) → AllByRecursion (IsSubr declared iv) es → ((after : List ℕ) → Stops is_regular after → subrs_end.read (10 ∷ (closing_phrase ++ after)) ≡ Some (closing_phrase, after)) → Stops is_regular rest
-    → table_at (subr declared iv) subrs_end (subrs_text es closing_phrase ++ rest) ≡ Ok (es, closing_phrase, rest)
-table_read declared iv [] closing_phrase rest all closing s = rw (table_at-step (subr declared iv) subrs_end (subr_eats declared iv) (10 ∷ (closing_phrase ++ rest)), closing rest s) refl
-table_read declared iv (e ∷ es) closing_phrase rest all closing s =
-    let others : List ℕ = subrs_text es closing_phrase ++ rest in
-    let text : List ℕ = 10 ∷ (codes "dup" ++ (32 ∷ (digits e.index ++ (32 ∷ (digits (length e.body) ++ (32 ∷ (e.rd ++ (32 ∷ (e.body ++ (32 ∷ (e.put ++ others))))))))))) in
-    let regrouped : subrs_text (e ∷ es) closing_phrase ++ rest ≡ text = simp append_assoc in
-    let here : (subr declared iv).read text ≡ Some (e, others) = subr_read declared iv e others all.0 (begins_line es closing_phrase rest) in
-    let one : table_at (subr declared iv) subrs_end text ≡ with_front (e ∷ []) (table_at (subr declared iv) subrs_end others) = rw (table_at-step (subr declared iv) subrs_end (subr_eats declared iv) text, subr_apart declared iv text (e, others) here, here) refl in
-    ap (table_at (subr declared iv) subrs_end) regrouped ∙ (one ∙ ap (with_front (e ∷ [])) (table_read declared iv es closing_phrase rest all.1 closing s))

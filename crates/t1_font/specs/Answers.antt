@@ -17,7 +17,7 @@ use Rattle.t1_font.specs.Glyphs.{Glyph}
 use Rattle.t1_font.specs.ReadFont.{encoding_value, subrs_of}
 use Rattle.t1_font.specs.Views.{phrase_view, words_view}
 use Rattle.t1_font.specs.Gathering.{Entries, named}
-use Rattle.t1_font.specs.Held.{first_words, subr_words, glyph_words, names_notdef, HoldsSubrs, HoldsGlyphs}
+use Rattle.t1_font.specs.Held.{first_words, names_notdef, HoldsSubrs, HoldsGlyphs}
 
 -- want of memory may come in place of each answer
 abbrev pub Refused : {A : Type 0} → ReadFault → Result A ReadFault → Type 0
@@ -46,7 +46,7 @@ pub record ShowsClear (x : ClearParts) (codes : Numbered) (c : ClearPieces) : Ty
 
 pub record ShowsTable (x : SubrsParts) (s : SubrsPieces) : Type 0 where
   pub declared : x.declared ≡ s.declared
-  pub words : option_map words_view x.words ≡ first_words subr_words s.entries
+  pub words : option_map words_view x.words ≡ first_words s.entries
   pub closing : phrase_view x.closing ≡ s.closing
 
 abbrev pub ShowsSubrs : Option SubrsParts → Option SubrsPieces → Type 0
@@ -56,7 +56,7 @@ ShowsSubrs (Some x) None = ⊥
 ShowsSubrs (Some x) (Some s) = ShowsTable x s
 
 pub record ShowsGlyphs (x : GlyphsParts) (gs : List Glyph) : Type 0 where
-  pub words : option_map words_view x.words ≡ first_words glyph_words gs
+  pub words : option_map words_view x.words ≡ first_words gs
   pub notdef : x.has_notdef ≡ names_notdef gs
 
 -- how many Subrs are declared in what was read

@@ -5,6 +5,7 @@ use Rattle.std.specs.FinMap.{entries}
 use Rattle.t1_bytes.specs.declared.form.Form.{Form}
 use Rattle.t1_bytes.specs.Cipher.{sealed, private_cipher}
 use Rattle.t1_bytes.specs.Texts.{file_text}
+use Rattle.t1_font.specs.Entry.{Entry}
 use Rattle.t1_font.specs.Subrs.{Subr}
 use Rattle.t1_font.specs.Glyphs.{Glyph}
 use Rattle.t1_font.specs.Pieces.{EncodingText, OneWord, Puts, ClearPieces, SubrsPieces, PrivatePieces}
@@ -15,13 +16,17 @@ use Rattle.t1_font.specs.Writing.{private_written, clear_written}
 abbrev pub sealed_body : ℕ → List ℕ → List ℕ
 sealed_body len_iv plain = sealed 4330 len_iv plain
 
+-- an entry for a key and its charstring, with these words
+abbrev pub sealed_entry : {K : Type 0} → ℕ → List ℕ → List ℕ → K × List ℕ → Entry K
+sealed_entry len_iv rd phrase e = record { key = e.0; body = record { rd = rd; bytes = sealed_body len_iv e.1; phrase = phrase } }
+
 -- an entry of Subrs, with the kept words
 abbrev pub subr_entry : ℕ → SubrsShell → ℕ × List ℕ → Subr
-subr_entry len_iv s e = record { index = e.0; rd = s.rd; body = sealed_body len_iv e.1; put = s.put }
+subr_entry len_iv s e = sealed_entry len_iv s.rd s.put e
 
 -- a glyph, with the kept words
 abbrev pub glyph_entry : Shell → List ℕ × List ℕ → Glyph
-glyph_entry s e = record { name = e.0; rd = s.glyphs_rd; body = sealed_body s.len_iv e.1; nd = s.glyphs_def }
+glyph_entry s e = sealed_entry s.len_iv s.glyphs_rd s.glyphs_def e
 
 -- the table of Subrs with these entries, in the order of their indices
 abbrev pub subrs_pieces : ℕ → List (ℕ × List ℕ) → SubrsShell → SubrsPieces

@@ -1,16 +1,16 @@
 -- Reading a font file.
-use Rattle.std.specs.Prelude.{◌≡◌, ℕ, ◌&&◌, nat_le, Bool, List, [], ◌∷◌, length, map, Option, Some, None, Result, Ok, Err}
+use Rattle.std.specs.Prelude.{◌≡◌, ℕ, ◌&&◌, nat_le, Bool, List, [], ◌∷◌, length, Option, Some, None, Result, Ok, Err}
 use Rattle.std.specs.List.{list_any}
 use Rattle.std.specs.Str.{bytes_eq}
 use Rattle.std.specs.Ordering.{nat_cmp}
 use Rattle.std.specs.Option.{option_map}
 use Rattle.t1_bytes.specs.Segments.{IsFlat, IsBad, flat_of}
 use Rattle.t1_bytes.specs.Cipher.{private_text}
-use Rattle.t1_font.specs.Charstrings.{plain_of}
 use Rattle.t1_font.specs.declared.fault.ReadFault.{ReadFault}
 use Rattle.t1_font.specs.declared.fault.ReadFault.TheVariants.{TooLong, BadSegment, NoNotdef, Limit}
 use Rattle.t1_font.specs.FontValue.{SubrsShell, Shell, Encoding, Word, Codes, FontValue, name_cmp, notdef, file_limit, count_limit, weight_limit, weight_of, declared_count}
 use Rattle.t1_font.specs.Entries.{last_entries, map_of, names_of}
+use Rattle.t1_font.specs.Entry.{plain_entries}
 use Rattle.t1_font.specs.Subrs.{Subr}
 use Rattle.t1_font.specs.Pieces.{FlatPieces, EncodingText, OneWord, Puts, ClearPieces, SubrsPieces, PrivatePieces, flat_pieces, clear_pieces, private_pieces}
 use Rattle.t1_font.specs.Reading.{Reading, give, ◌>>=◌, ◌>>◌, must}
@@ -27,11 +27,11 @@ subrs_of (Some s) = s.entries
 
 -- each Subr of the file, plain
 abbrev pub subr_entries : PrivatePieces → List (ℕ × List ℕ)
-subr_entries p = map (λ s. (s.index, plain_of p.len_iv s.body)) (subrs_of p.subrs)
+subr_entries p = plain_entries p.len_iv (subrs_of p.subrs)
 
 -- each glyph of the file, plain
 abbrev pub glyph_entries : PrivatePieces → List (List ℕ × List ℕ)
-glyph_entries p = map (λ g. (g.name, plain_of p.len_iv g.body)) p.glyphs
+glyph_entries p = plain_entries p.len_iv p.glyphs
 
 -- of the first entry; nothing where there is none
 abbrev pub of_first : {A : Type 0} → (A → List ℕ) → List A → List ℕ
@@ -42,8 +42,8 @@ of_first f (x ∷ xs) = f x
 abbrev pub subrs_shell : SubrsPieces → SubrsShell
 subrs_shell s = record {
   declared = s.declared;
-  rd = of_first (λ e. e.rd) s.entries;
-  put = of_first (λ e. e.put) s.entries;
+  rd = of_first (λ e. e.body.rd) s.entries;
+  put = of_first (λ e. e.body.phrase) s.entries;
   closing = s.closing;
 }
 
@@ -56,8 +56,8 @@ shell_of c p = record {
   tail = p.tail;
   len_iv = p.len_iv;
   subrs = option_map subrs_shell p.subrs;
-  glyphs_rd = of_first (λ g. g.rd) p.glyphs;
-  glyphs_def = of_first (λ g. g.nd) p.glyphs;
+  glyphs_rd = of_first (λ g. g.body.rd) p.glyphs;
+  glyphs_def = of_first (λ g. g.body.phrase) p.glyphs;
 }
 
 abbrev pub font_of : ClearPieces → PrivatePieces → FontValue
@@ -80,7 +80,7 @@ file_pieces file = do
   flat_pieces flat
 
 abbrev pub has_notdef : PrivatePieces → Bool
-has_notdef p = list_any (λ g. bytes_eq notdef g.name) p.glyphs
+has_notdef p = list_any (λ g. bytes_eq notdef g.key) p.glyphs
 
 -- the limits of a font with these entries
 abbrev pub is_within : Shell → List (ℕ × List ℕ) → List (List ℕ × List ℕ) → Bool

@@ -5,48 +5,38 @@ ghost use Rattle.std.specs.Option.{option_map};
 ghost use Rattle.std.specs.Str.{bytes_eq};
 ghost use Rattle.t1_font.specs.FontValue.{notdef};
 ghost use Rattle.t1_bytes.specs.Grammar.{table_at};
-ghost use Rattle.t1_font.specs.Glyphs.{Glyph, glyph, glyphs_end};
+ghost use Rattle.t1_font.specs.Glyphs.{Glyph, glyph_key, glyph, glyphs_end};
 ghost use Rattle.std.specs.FinMap as fin;
 ghost use Rattle.t1_font.specs.Answers.{ShowsGlyphs};
 ghost use Rattle.t1_font.specs.Gathering.{GlyphsAlone};
 ghost use Rattle.t1_font.specs.Held.{HoldsGlyphs, TableHeld};
-ghost use Rattle.t1_font.specs.Views.{glyph_view};
+ghost use Rattle.t1_font.specs.Views.{entry_view};
 
+use crate::entry::{Body, body_at};
 use crate::fault::TableError;
 use crate::gathered::Gathered;
-use crate::subrs::length_at;
-use crate::words::{
-    Phrase, Words, first_words, keyword_at, name_at, one_white_at, phrase_at, word_at,
-};
+use crate::words::{Words, first_words, keyword_at, name_at};
 use std::alloc::AllocError;
-use t1_bytes::texts::{count_at, gap_at, white_at};
+use t1_bytes::texts::white_at;
 
-/// An entry, as it is spelled.
-#[derive(Clone, Copy)]
-pub struct GlyphEntry<'a> {
-    pub name: &'a [u8],
-    pub rd: &'a [u8],
-    pub body: &'a [u8],
-    pub nd: Phrase<'a>,
-}
-
-/// An entry of a table with this lenIV.
-#[tactic(auto, unfolding(crate::specs::Glyphs::glyph))]
-fn glyph_at(bytes: &[u8], len_iv: u8) -> Option<(GlyphEntry<'_>, &[u8])>
-    ensures value { option_map (λ x. (glyph_view x.0, x.1.now)) result ≡ (glyph len_iv).read bytes.now }
-    ensures length { IfSome result (λ x. len_iv ≤ length x.0.body.now) }
+/// A name, and what stands before it.
+#[tactic(auto, unfolding(crate::specs::Glyphs::glyph_key))]
+fn glyph_key_at(bytes: &[u8]) -> Option<(&[u8], &[u8])>
+    ensures { option_map (λ x. (x.0.now, x.1.now)) result ≡ glyph_key.read bytes.now }
 {
     let (_, rest) = white_at(bytes);
-    let (name, rest) = name_at(rest)?;
-    let (_, rest) = gap_at(rest)?;
-    let (len, rest) = length_at(rest, len_iv)?;
-    let (_, rest) = gap_at(rest)?;
-    let (rd, rest) = word_at(rest)?;
-    let (_, rest) = one_white_at(rest)?;
-    let (body, rest) = count_at(rest, len as usize)?;
-    let (_, rest) = white_at(rest);
-    let (nd, rest) = phrase_at(rest, true)?;
-    Some((GlyphEntry { name, rd, body, nd }, rest))
+    name_at(rest)
+}
+
+/// An entry of a table with this lenIV: its name and what stands behind it.
+#[tactic(auto, unfolding(crate::specs::Entry::entry))]
+fn glyph_at(bytes: &[u8], len_iv: u8) -> Option<(&[u8], Body<'_>, &[u8])>
+    ensures value { option_map (λ x. (entry_view x.0.now x.1, x.2.now)) result ≡ (glyph len_iv).read bytes.now }
+    ensures length { IfSome result (λ x. len_iv ≤ length x.1.bytes.now) }
+{
+    let (name, rest) = glyph_key_at(bytes)?;
+    let (body, rest) = body_at(rest, len_iv)?;
+    Some((name, body, rest))
 }
 
 /// What stands after the close of the table.
@@ -69,14 +59,15 @@ pub struct GlyphsParts<'a> {
 /// Keeps the plain charstring of one more entry.
 fn keep_glyph<'a>(
     gathered: &mut Gathered<'a>,
-    entry: GlyphEntry<'a>,
+    name: &'a [u8],
+    body: Body<'_>,
     len_iv: u8,
 ) -> Result<(), AllocError>
-    requires { len_iv ≤ length entry.body.now }
-    ensures shown { OnOk result ((es : List Glyph) → HoldsGlyphs len_iv gathered.old.glyphs es → HoldsGlyphs len_iv gathered.new.glyphs (es ++ glyph_view entry.entry ∷ [])) }
+    requires { len_iv ≤ length body.bytes.now }
+    ensures shown { OnOk result ((es : List Glyph) → HoldsGlyphs len_iv gathered.old.glyphs es → HoldsGlyphs len_iv gathered.new.glyphs (es ++ entry_view name.now body.entry ∷ [])) }
     ensures others { OnOk result (GlyphsAlone gathered.old gathered.new) }
 {
-    gathered.keep_glyph(entry.name, entry.body, len_iv)
+    gathered.keep_glyph(name, body.bytes, len_iv)
 }
 
 /// Whether a name is the one that each font has.
@@ -103,13 +94,13 @@ pub(crate) fn glyphs_at<'a>(
         if let Some(after) = glyphs_end_at(rest) {
             return Ok((GlyphsParts { words, has_notdef }, after));
         }
-        let Some((entry, after)) = glyph_at(rest, len_iv) else {
+        let Some((name, body, after)) = glyph_at(rest, len_iv) else {
             let (_, left) = white_at(rest);
             return Err(TableError::Left(left.len()));
         };
-        words = Some(first_words(words, entry.rd, entry.nd));
-        has_notdef |= is_notdef(entry.name);
-        keep_glyph(gathered, entry, len_iv)?;
+        words = Some(first_words(words, body.rd, body.phrase));
+        has_notdef |= is_notdef(name);
+        keep_glyph(gathered, name, body, len_iv)?;
         rest = after;
     }
 }

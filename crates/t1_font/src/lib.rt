@@ -10,6 +10,7 @@
 
 mod cut;
 mod encoding;
+mod entry;
 mod fault;
 mod file;
 mod font;

@@ -6,33 +6,26 @@ ghost use Rattle.std.specs.FinMap as fin;
 ghost use Rattle.t1_font.specs.Answers.{ShowsTable};
 ghost use Rattle.t1_font.specs.Gathering.{SubrsAlone};
 ghost use Rattle.t1_font.specs.Held.{HoldsSubrs, TableHeld};
-ghost use Rattle.t1_font.specs.Subrs.{Subr, subr, subrs_end, subrs_at, index_below, length_from};
-ghost use Rattle.t1_font.specs.Views.{subr_view, phrase_view};
+ghost use Rattle.t1_font.specs.Subrs.{Subr, subr, subr_key, subrs_end, subrs_at};
+ghost use Rattle.t1_font.specs.Views.{entry_view, phrase_view};
 
+use crate::entry::{Body, body_at};
 use crate::fault::TableError;
 use crate::gathered::Gathered;
-use crate::words::{
-    Phrase, Words, decimal_at, first_words, keyword_at, one_white_at, phrase_at, word_at,
-};
+use crate::words::{Phrase, Words, decimal_at, first_words, keyword_at, phrase_at};
 use std::alloc::AllocError;
-use t1_bytes::texts::{count_at, gap_at, white_at};
+use t1_bytes::texts::{gap_at, white_at};
 
-/// An entry, as it is spelled.
-#[derive(Clone, Copy)]
-pub struct SubrEntry<'a> {
-    pub index: u32,
-    pub rd: &'a [u8],
-    pub body: &'a [u8],
-    pub put: Phrase<'a>,
-}
-
-/// An index below the declared count.
-#[tactic(auto, unfolding(crate::specs::Subrs::index_below))]
-fn index_at(bytes: &[u8], declared: u32) -> Option<(u32, &[u8])>
-    ensures value { option_map (λ x. (x.0, x.1.now)) result ≡ (index_below declared).read bytes.now }
+/// An index below the declared count, and what stands before it.
+#[tactic(auto, unfolding(crate::specs::Subrs::subr_key))]
+fn subr_key_at(bytes: &[u8], declared: u32) -> Option<(u32, &[u8])>
+    ensures value { option_map (λ x. (x.0, x.1.now)) result ≡ (subr_key declared).read bytes.now }
     ensures below { IfSome result (λ x. x.0 < declared) }
 {
-    let (index, rest) = decimal_at(bytes)?;
+    let (_, rest) = white_at(bytes);
+    let (_, rest) = keyword_at(rest, b"dup")?;
+    let (_, rest) = gap_at(rest)?;
+    let (index, rest) = decimal_at(rest)?;
     if index < declared {
         Some((index, rest))
     } else {
@@ -40,48 +33,16 @@ fn index_at(bytes: &[u8], declared: u32) -> Option<(u32, &[u8])>
     }
 }
 
-/// The length of a charstring with lead bytes.
-#[tactic(auto, unfolding(crate::specs::Subrs::length_from))]
-pub fn length_at(bytes: &[u8], len_iv: u8) -> Option<(u32, &[u8])>
-    ensures value { option_map (λ x. (x.0, x.1.now)) result ≡ (length_from len_iv).read bytes.now }
-    ensures room { IfSome result (λ x. len_iv ≤ x.0) }
+/// An entry of a table with this declared count and lenIV: its index and what stands behind it.
+#[tactic(auto, unfolding(crate::specs::Entry::entry))]
+fn subr_at(bytes: &[u8], declared: u32, len_iv: u8) -> Option<(u32, Body<'_>, &[u8])>
+    ensures value { option_map (λ x. (entry_view x.0 x.1, x.2.now)) result ≡ (subr declared len_iv).read bytes.now }
+    ensures index { IfSome result (λ x. x.0 < declared) }
+    ensures length { IfSome result (λ x. len_iv ≤ length x.1.bytes.now) }
 {
-    let (len, rest) = decimal_at(bytes)?;
-    if len_iv as u32 <= len && len <= 65535 {
-        Some((len, rest))
-    } else {
-        None
-    }
-}
-
-/// An entry of a table with this declared count and lenIV.
-#[tactic(auto, unfolding(crate::specs::Subrs::subr))]
-fn subr_at(bytes: &[u8], declared: u32, len_iv: u8) -> Option<(SubrEntry<'_>, &[u8])>
-    ensures value { option_map (λ x. (subr_view x.0, x.1.now)) result ≡ (subr declared len_iv).read bytes.now }
-    ensures index { IfSome result (λ x. x.0.index < declared) }
-    ensures length { IfSome result (λ x. len_iv ≤ length x.0.body.now) }
-{
-    let (_, rest) = white_at(bytes);
-    let (_, rest) = keyword_at(rest, b"dup")?;
-    let (_, rest) = gap_at(rest)?;
-    let (index, rest) = index_at(rest, declared)?;
-    let (_, rest) = gap_at(rest)?;
-    let (len, rest) = length_at(rest, len_iv)?;
-    let (_, rest) = gap_at(rest)?;
-    let (rd, rest) = word_at(rest)?;
-    let (_, rest) = one_white_at(rest)?;
-    let (body, rest) = count_at(rest, len as usize)?;
-    let (_, rest) = white_at(rest);
-    let (put, rest) = phrase_at(rest, true)?;
-    Some((
-        SubrEntry {
-            index,
-            rd,
-            body,
-            put,
-        },
-        rest,
-    ))
+    let (index, rest) = subr_key_at(bytes, declared)?;
+    let (body, rest) = body_at(rest, len_iv)?;
+    Some((index, body, rest))
 }
 
 /// The phrase that closes the table.
@@ -106,19 +67,20 @@ pub struct SubrsParts<'a> {
 /// declared count is over the limit.
 fn keep_subr(
     gathered: &mut Gathered<'_>,
-    entry: SubrEntry<'_>,
+    index: u32,
+    body: Body<'_>,
     declared: u32,
     len_iv: u8,
 ) -> Result<(), AllocError>
-    requires index { entry.index < declared }
-    requires length { len_iv ≤ length entry.body.now }
-    ensures shown { OnOk result ((es : List Subr) → HoldsSubrs declared len_iv gathered.old.subrs es → HoldsSubrs declared len_iv gathered.new.subrs (es ++ subr_view entry.entry ∷ [])) }
+    requires index { index < declared }
+    requires length { len_iv ≤ length body.bytes.now }
+    ensures shown { OnOk result ((es : List Subr) → HoldsSubrs declared len_iv gathered.old.subrs es → HoldsSubrs declared len_iv gathered.new.subrs (es ++ entry_view index body.entry ∷ [])) }
     ensures others { OnOk result (SubrsAlone gathered.old gathered.new) }
 {
-    let Ok(index) = u16::try_from(entry.index) else {
+    let Ok(index) = u16::try_from(index) else {
         return Ok(());
     };
-    gathered.keep_subr(index, entry.body, len_iv)
+    gathered.keep_subr(index, body.bytes, len_iv)
 }
 
 /// The entries, the phrase that closes the table, and what stands after it.
@@ -135,9 +97,9 @@ pub(crate) fn subrs_at<'a>(
     let mut words = None;
     let mut rest = bytes;
     'entries: loop {
-        if let Some((entry, after)) = subr_at(rest, declared, len_iv) {
-            words = Some(first_words(words, entry.rd, entry.put));
-            keep_subr(gathered, entry, declared, len_iv)?;
+        if let Some((index, body, after)) = subr_at(rest, declared, len_iv) {
+            words = Some(first_words(words, body.rd, body.phrase));
+            keep_subr(gathered, index, body, declared, len_iv)?;
             rest = after;
         } else if let Some((closing, after)) = subrs_end_at(rest) {
             let parts = SubrsParts {

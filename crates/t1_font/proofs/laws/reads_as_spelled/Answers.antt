@@ -1,7 +1,7 @@
 use Rattle.t1_bytes.proofs.Grammars.{first_exact}
 use Rattle.t1_font.proofs.WordLemmas.{word_exact, keyword_exact, decimal_exact, name_exact, phrase_exact}
-use Rattle.t1_font.proofs.MarkerLemmas.{encoding_marker_exact, subrs_marker_exact, chars_marker_exact, len_iv_marker_exact, len_iv_exact, closefile_exact, encoding_start_exact, code_entry_exact, encoding_end_exact, glyph_exact, glyphs_end_exact}
-use Rattle.t1_font.proofs.SubrLemmas.{subr_exact, subrs_end_exact}
+use Rattle.t1_font.proofs.MarkerLemmas.{encoding_marker_exact, subrs_marker_exact, chars_marker_exact, len_iv_marker_exact, len_iv_exact, closefile_exact, encoding_start_exact, code_entry_exact, encoding_end_exact}
+use Rattle.t1_font.proofs.EntryLemmas.{subr_exact, subrs_end_exact, glyph_exact, glyphs_end_exact}
 use Rattle.t1_font.proofs.laws.reads_as_spelled.Goals as goal
 
 pub returns : goal.returns

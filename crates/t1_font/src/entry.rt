@@ -1,0 +1,48 @@
+//! What stands behind the key of an entry, in the tables of subroutines and of glyphs.
+
+ghost use Rattle.std.specs.Prelude.{◌≡◌, ◌≤◌, IfSome, length};
+ghost use Rattle.std.specs.Option.{option_map};
+ghost use Rattle.t1_font.specs.Entry.{length_from, body};
+ghost use Rattle.t1_font.specs.Views.{body_view};
+
+use crate::words::{Phrase, decimal_at, one_white_at, phrase_at, word_at};
+use t1_bytes::texts::{count_at, gap_at, white_at};
+
+/// What stands behind a key, as it is spelled.
+#[derive(Clone, Copy)]
+pub struct Body<'a> {
+    pub rd: &'a [u8],
+    pub bytes: &'a [u8],
+    pub phrase: Phrase<'a>,
+}
+
+/// The length of a charstring with lead bytes.
+#[tactic(auto, unfolding(crate::specs::Entry::length_from))]
+fn length_at(bytes: &[u8], len_iv: u8) -> Option<(u32, &[u8])>
+    ensures value { option_map (λ x. (x.0, x.1.now)) result ≡ (length_from len_iv).read bytes.now }
+    ensures room { IfSome result (λ x. len_iv ≤ x.0) }
+{
+    let (len, rest) = decimal_at(bytes)?;
+    if len_iv as u32 <= len && len <= 65535 {
+        Some((len, rest))
+    } else {
+        None
+    }
+}
+
+/// What stands behind a key in a table with this lenIV.
+#[tactic(auto, unfolding(crate::specs::Entry::body))]
+pub fn body_at(bytes: &[u8], len_iv: u8) -> Option<(Body<'_>, &[u8])>
+    ensures value { option_map (λ x. (body_view x.0, x.1.now)) result ≡ (body len_iv).read bytes.now }
+    ensures length { IfSome result (λ x. len_iv ≤ length x.0.bytes.now) }
+{
+    let (_, rest) = gap_at(bytes)?;
+    let (len, rest) = length_at(rest, len_iv)?;
+    let (_, rest) = gap_at(rest)?;
+    let (rd, rest) = word_at(rest)?;
+    let (_, rest) = one_white_at(rest)?;
+    let (bytes, rest) = count_at(rest, len as usize)?;
+    let (_, rest) = white_at(rest);
+    let (phrase, rest) = phrase_at(rest, true)?;
+    Some((Body { rd, bytes, phrase }, rest))
+}
