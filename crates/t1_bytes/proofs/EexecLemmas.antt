@@ -8,12 +8,12 @@ use Rattle.t1_bytes.specs.declared.fault.BytesFault.{BytesFault}
 use Rattle.t1_bytes.specs.declared.fault.BytesFault.TheVariants.{BadSegment, Memory, NoEexec, ShortCipher}
 use Rattle.t1_bytes.specs.Grammar.{first}
 use Rattle.t1_bytes.specs.White.{is_white, white, gap}
-use Rattle.t1_bytes.specs.Eexec.{eexec_marker, is_hex_text, cipher_text, split_view, IsSplit, SplitFails, or_short, split_after, split_of}
+use Rattle.t1_bytes.specs.Eexec.{eexec_marker, is_hex_text, hex_cipher, cipher_text, split_view, IsSplit, SplitFails, or_short, split_after, split_of}
 use Rattle.t1_bytes.specs.Faults.{Refused, Answers, OrMemory}
 use Rattle.t1_bytes.proofs.HexLemmas.{same_Ok}
 use Rattle.std.specs.Global.{Vec}
-use Rattle.t1_bytes.proofs.Grammars.{IsExact, pure_exact, bind_exact, that_exact, run_exact, fixed_exact, before_exact, either_exact, all_exact, first_exact, front_again}
-use Rattle.t1_bytes.proofs.Places.{Begins}
+use Rattle.t1_bytes.proofs.Grammars.{IsExact, pure_exact, bind_exact, that_exact, run_exact, fixed_exact, before_exact, either_exact, all_exact, first_exact, front_again, unspelled, unread}
+use Rattle.t1_bytes.proofs.Places.{Begins, unread_lacks, lacks_unread}
 
 pub white_exact : IsExact white
 white_exact = run_exact is_white
@@ -22,9 +22,12 @@ pub gap_exact : IsExact gap
 unfolding gap
 gap_exact = that_exact _ _ white_exact
 
+pub hex_exact : IsExact hex_cipher
+hex_exact = bind_exact _ _ (before_exact is_hex_text) (λ _. bind_exact _ _ (run_exact _) (λ digits. pure_exact _))
+
 pub cipher_exact : IsExact cipher_text
 unfolding cipher_text
-cipher_exact = that_exact _ _ (bind_exact _ _ (run_exact _) (λ _. either_exact _ _ (bind_exact _ _ (before_exact is_hex_text) (λ _. bind_exact _ _ (run_exact _) (λ digits. pure_exact _))) all_exact))
+cipher_exact = that_exact _ _ (bind_exact _ _ (run_exact _) (λ _. either_exact _ _ hex_exact all_exact))
 
 pub eexec_exact : IsExact eexec_marker
 unfolding eexec_marker
@@ -37,11 +40,11 @@ eexec_begins bytes e = rw e refl
 -- ---- what the definition gives is the split, or the reason that there is none
 
 split_is : (flat : List ℕ) (found : Option ((List ℕ × List ℕ) × List ℕ)) → (first eexec_marker).read flat ≡ found → MatchResult {T = ℕ × List ℕ} (split_after found) (λ x. IsSplit flat x.0 x.1) (SplitFails flat)
-split_is flat None e = e
+split_is flat None e = unread_lacks eexec_marker eexec_exact flat e
 split_is flat (Some ((front, marker), after)) e = by_cipher (cipher_text.read after) refl
   where
     by_cipher : (secret : Option (List ℕ × List ℕ)) → cipher_text.read after ≡ secret → MatchResult {T = ℕ × List ℕ} (or_short (λ s. (length front + length marker, s.0)) secret) (λ x. IsSplit flat x.0 x.1) (SplitFails flat)
-    by_cipher None k = (front, marker, after, (first_exact eexec_marker eexec_exact).takes flat ((front, marker), after) e, k)
+    by_cipher None k = (front, marker, after, (first_exact eexec_marker eexec_exact).takes flat ((front, marker), after) e, unspelled cipher_text cipher_exact after k)
     by_cipher (Some (cipher, rest)) k = record { front = front; marker = marker; after = after; rest = rest; first_marker = (first_exact eexec_marker eexec_exact).takes flat ((front, marker), after) e; secret = cipher_exact.takes after (cipher, rest) k; place = refl }
 
 pub split_right : (flat : List ℕ) → MatchResult {T = ℕ × List ℕ} (split_of flat) (λ x. IsSplit flat x.0 x.1) (SplitFails flat)
@@ -59,9 +62,9 @@ split_again flat at cipher s =
 -- a reason is what the definition gives
 pub fails_again : (flat : List ℕ) (fault : BytesFault) → SplitFails flat fault → split_of flat ≡ Err fault
 unfolding split_of
-fails_again flat NoEexec s = ap split_after s
+fails_again flat NoEexec s = ap split_after (lacks_unread eexec_marker eexec_exact flat s)
 fails_again flat ShortCipher s =
-    ap split_after (front_again (first eexec_marker) (first_exact eexec_marker eexec_exact) flat ((s.0, s.1), s.2) s.3) ∙ ap (or_short (λ x. (length s.0 + length s.1, x.0))) s.4
+    ap split_after (front_again (first eexec_marker) (first_exact eexec_marker eexec_exact) flat ((s.0, s.1), s.2) s.3) ∙ ap (or_short (λ x. (length s.0 + length s.1, x.0))) (unread cipher_text cipher_exact s.2 s.4)
 fails_again flat (BadSegment at) s = absurd s
 fails_again flat Memory s = absurd s
 

@@ -4,14 +4,26 @@ use Rattle.std.specs.List.{AllByRecursion, prefix_len}
 use Rattle.std.specs.Option.{option_and_then}
 use Rattle.std.specs.Str.{bytes_eq}
 use Rattle.std.proofs.lemmas.List.{take_at, drop_at, take-append-drop, append-nil, length-append, length-take-le}
-use Rattle.std.proofs.lemmas.Option.{cond_some, option_and_then_some, same_Some}
+use Rattle.std.proofs.lemmas.Option.{cond_some, none-some, option_and_then_some, same_Some}
 use Rattle.std.proofs.lemmas.Bool.{leb-true, le-leb, cases_Bool}
-use Rattle.t1_bytes.specs.Grammar.{Grammar, pure, ◌>>=◌, that, Stops, run, all, count, before, fixed, choice, either, first_at, first, NoneIn, AtFront}
+use Rattle.t1_bytes.specs.Grammar.{Grammar, pure, ◌>>=◌, that, Stops, run, all, count, before, fixed, choice, either, first_at, first, NoneIn, AtFront, NotAtFront}
 pub use Rattle.t1_bytes.specs.Grammar.{IsExact}
 
 -- what the front of bytes spells is read there
 pub front_again : {A : Type 0} (g : Grammar A) → IsExact g → (bytes : List ℕ) (x : A × List ℕ) → AtFront g bytes x → g.read bytes ≡ Some x
 front_again g G bytes x s = ap g.read s.1 ∙ G.again x.0 s.0 x.1 s.2
+
+-- where nothing is read, nothing is spelled
+pub unspelled : {A : Type 0} (g : Grammar A) → IsExact g → (bytes : List ℕ) → g.read bytes ≡ None → NotAtFront g bytes
+unspelled g G bytes e = λ x s. none-some x (sym e ∙ front_again g G bytes x s)
+
+-- where nothing is spelled, nothing is read
+pub unread : {A : Type 0} (g : Grammar A) → IsExact g → (bytes : List ℕ) → NotAtFront g bytes → g.read bytes ≡ None
+unread {A} g G bytes none = by_read (g.read bytes) refl
+  where
+    by_read : (o : Option (A × List ℕ)) → g.read bytes ≡ o → o ≡ None
+    by_read None e = refl
+    by_read (Some x) e = absurd (none x (G.takes bytes x e))
 
 pub pure_exact : {A : Type 0} (a : A) → IsExact (pure a)
 pure_exact {A} a = record {
@@ -109,11 +121,11 @@ pub either_exact : {A : Type 0} (g h : Grammar A) → IsExact g → IsExact h �
 either_exact g h G H = record {
   takes = λ bytes x e. elim (choice_some (g.read bytes) (h.read bytes) x e) [
     | inl p ↦ let s = G.takes bytes x p in (s.0, s.1, inl s.2)
-    | inr p ↦ let s = H.takes bytes x p.1 in (s.0, s.1, inr (s.2, ap g.read (sym s.1) ∙ p.0))
+    | inr p ↦ let s = H.takes bytes x p.1 in (s.0, s.1, inr (s.2, unspelled g G (s.0 ++ x.1) (ap g.read (sym s.1) ∙ p.0)))
   ];
   again = λ a text rest s. elim s [
     | inl p ↦ rw (G.again a text rest p) refl
-    | inr p ↦ rw (p.1, H.again a text rest p.0) refl
+    | inr p ↦ rw (unread g G (text ++ rest) p.1, H.again a text rest p.0) refl
   ];
 }
 
@@ -141,7 +153,7 @@ first_takes g G (b ∷ bs) x e = elim (choice_some (option_and_then (λ y. Some 
       let s = first_takes g G bs y q in
       let parts : bs ≡ y.0.0 ++ (s.2.0 ++ y.1) = s.1 ∙ (ap (λ (u : List ℕ). u ++ y.1) s.2.1 ∙ append_assoc y.0.0 s.2.0 y.1) in
       subst (Found g (b ∷ bs)) (same_Some ((b ∷ y.0.0, y.0.1), y.1) x r)
-      (b ∷ s.0, ap (λ (u : List ℕ). b ∷ u) s.1, (s.2.0, ap (λ (u : List ℕ). b ∷ u) s.2.1, s.2.2, (subst (λ (u : List ℕ). g.read (b ∷ u) ≡ None) parts none, s.2.3))))
+      (b ∷ s.0, ap (λ (u : List ℕ). b ∷ u) s.1, (s.2.0, ap (λ (u : List ℕ). b ∷ u) s.2.1, s.2.2, (unspelled g G (b ∷ (y.0.0 ++ (s.2.0 ++ y.1))) (subst (λ (u : List ℕ). g.read (b ∷ u) ≡ None) parts none), s.2.3))))
 ]
 
 pub first_here : {A : Type 0} (g : Grammar A) (bytes : List ℕ) (a : A) (rest : List ℕ) → g.read bytes ≡ Some (a, rest) → first_at g bytes ≡ Some (([], a), rest)
@@ -152,7 +164,7 @@ first_here g (b ∷ bs) a rest e = rw e refl
 first_again : {A : Type 0} (g : Grammar A) → IsExact g → (front : List ℕ) (a : A) (own rest : List ℕ) → g.Spells a own rest → NoneIn g front (own ++ rest) → first_at g (front ++ (own ++ rest)) ≡ Some ((front, a), rest)
 unfolding first_at
 first_again g G [] a own rest s none = first_here g (own ++ rest) a rest (G.again a own rest s)
-first_again g G (b ∷ front) a own rest s none = rw (none.0, first_again g G front a own rest s none.1) refl
+first_again g G (b ∷ front) a own rest s none = rw (unread g G (b ∷ (front ++ (own ++ rest))) none.0, first_again g G front a own rest s none.1) refl
 
 pub first_exact : {A : Type 0} (g : Grammar A) → IsExact g → IsExact (first g)
 first_exact g G = record {

@@ -1,12 +1,12 @@
 -- The first place where a grammar can be read, from places where it can't.
-use Rattle.std.proofs.Common.{◌≡◌, ℕ, zero, suc, ◌+◌, ◌≤◌, ◌<◌, inl, inr, List, [], ◌∷◌, ◌++◌, length, take, drop, get_or, Option, Some, None, refl, sym, ap, subst, ◌∙◌, arith, ◌-◌, add_assoc, below_more}
+use Rattle.std.proofs.Common.{◌≡◌, ℕ, zero, suc, ◌+◌, ◌≤◌, ◌<◌, inl, inr, List, [], ◌∷◌, ◌++◌, length, take, drop, get_or, Option, Some, None, refl, sym, ap, subst, ◌∙◌, append_assoc, arith, ◌-◌, add_assoc, below_more}
 use Rattle.std.specs.Option.{option_and_then}
-use Rattle.std.proofs.lemmas.List.{length-append, append-nil, length-drop, get_or-drop, get_or_append_left}
+use Rattle.std.proofs.lemmas.List.{length-append, append-nil, drop_at, length-drop, get_or-drop, get_or_append_left}
 use Rattle.std.proofs.lemmas.Slice.Eq.{bytes_eq-Decides}
 use Rattle.std.proofs.lemmas.Bool.{cases_lt}
 use Rattle.bstr.specs.Find.{OccursAt, Nowhere}
-use Rattle.t1_bytes.specs.Grammar.{Grammar, fixed, choice, first_at}
-use Rattle.t1_bytes.proofs.Grammars.{fixed_exact, first_here, and_then_none}
+use Rattle.t1_bytes.specs.Grammar.{Grammar, fixed, choice, first_at, Has, Lacks}
+use Rattle.t1_bytes.proofs.Grammars.{IsExact, fixed_exact, first_exact, first_here, and_then_none, unspelled, unread}
 
 -- a place found behind these bytes
 abbrev pub prepend : {A : Type 0} → List ℕ → Option ((List ℕ × A) × List ℕ) → Option ((List ℕ × A) × List ℕ)
@@ -53,12 +53,24 @@ unfolding first_at
 first_nowhere g [] none = rw (none 0 (omega arith)) refl
 first_nowhere g (b ∷ bs) none = one_place g b bs (none 0 (omega arith)) ∙ ap (prepend (b ∷ [])) (first_nowhere g bs (λ k h. none (suc k) (omega arith)))
 
--- where g is found nowhere, it can be read at no place
-pub lacking : {A : Type 0} (g : Grammar A) (bytes : List ℕ) → first_at g bytes ≡ None → (k : ℕ) → k ≤ length bytes → g.read (drop k bytes) ≡ None
+-- where g is found nowhere, it stands nowhere
+pub unread_lacks : {A : Type 0} (g : Grammar A) → IsExact g → (bytes : List ℕ) → first_at g bytes ≡ None → Lacks g bytes
 unfolding first_at
-lacking g [] e k h = let none : k ≡ 0 = omega arith in rw none (and_then_none (λ x. (([], x.0), x.1)) (g.read []) e)
-lacking g (b ∷ bs) e zero h = and_then_none (λ x. (([], x.0), x.1)) (g.read (b ∷ bs)) (both_none _ _ e).0
-lacking g (b ∷ bs) e (suc k) h = lacking g bs (and_then_none (λ y. ((b ∷ y.0.0, y.0.1), y.1)) (first_at g bs) (both_none _ _ e).1) k (omega arith)
+unread_lacks g G [] e zero = unspelled g G [] (and_then_none (λ x. (([], x.0), x.1)) (g.read []) e)
+unread_lacks g G [] e (suc k) = unspelled g G [] (and_then_none (λ x. (([], x.0), x.1)) (g.read []) e)
+unread_lacks g G (b ∷ bs) e zero = unspelled g G (b ∷ bs) (and_then_none (λ x. (([], x.0), x.1)) (g.read (b ∷ bs)) (both_none _ _ e).0)
+unread_lacks g G (b ∷ bs) e (suc k) = unread_lacks g G bs (and_then_none (λ y. ((b ∷ y.0.0, y.0.1), y.1)) (first_at g bs) (both_none _ _ e).1) k
+
+-- where g stands nowhere, it is found nowhere
+pub lacks_unread : {A : Type 0} (g : Grammar A) → IsExact g → (bytes : List ℕ) → Lacks g bytes → first_at g bytes ≡ None
+lacks_unread g G bytes lacks = first_nowhere g bytes (λ k h. unread g G (drop k bytes) (lacks k))
+
+-- where g is found, it stands
+pub found_has : {A : Type 0} (g : Grammar A) → IsExact g → (bytes : List ℕ) (x : (List ℕ × A) × List ℕ) → first_at g bytes ≡ Some x → Has g bytes
+found_has g G bytes x e =
+    let s = (first_exact g G).takes bytes x e in
+    let parts : bytes ≡ x.0.0 ++ (s.2.0 ++ x.1) = s.1 ∙ (ap (λ (u : List ℕ). u ++ x.1) s.2.1 ∙ append_assoc x.0.0 s.2.0 x.1) in
+    (length x.0.0, (x.0.1, x.1), (s.2.0, ap (drop (length x.0.0)) parts ∙ drop_at x.0.0 (s.2.0 ++ x.1) (length x.0.0) refl, s.2.2))
 
 -- where a text stands, its bytes occur
 fixed_occurs : (w bytes : List ℕ) (k : ℕ) (x : List ℕ × List ℕ) → (fixed w).read (drop k bytes) ≡ Some x → k ≤ length bytes → OccursAt bytes w k

@@ -4,7 +4,7 @@ use Rattle.std.specs.Global.{Vec}
 use Rattle.hex.specs.Hex.{is_hex_digit, hex_digit_value}
 use Rattle.t1_bytes.specs.declared.fault.BytesFault.{BytesFault}
 use Rattle.t1_bytes.specs.declared.fault.BytesFault.TheVariants.{BadSegment, NoEexec, ShortCipher, Memory}
-use Rattle.t1_bytes.specs.Grammar.{Grammar, pure, ◌>>=◌, ◌>>◌, that, run, before, fixed, either, all, first, AtFront, Lacks}
+use Rattle.t1_bytes.specs.Grammar.{Grammar, pure, ◌>>=◌, ◌>>◌, that, run, before, fixed, either, all, first, AtFront, NotAtFront, Lacks}
 use Rattle.t1_bytes.specs.White.{is_white, gap}
 
 -- ---- the marker
@@ -93,7 +93,7 @@ pub record IsSplit (flat : List ℕ) (at : ℕ) (cipher : List ℕ) : Type 0 whe
 -- Why a flat text isn't split: it has no marker, or no cipher follows the first one. Want of memory is no reason of the text.
 abbrev pub SplitFails : List ℕ → BytesFault → Type 0
 SplitFails flat NoEexec = Lacks eexec_marker flat
-SplitFails flat ShortCipher = (front marker after : List ℕ) × AtFront (first eexec_marker) flat ((front, marker), after) × (cipher_text.read after ≡ None)
+SplitFails flat ShortCipher = (front marker after : List ℕ) × AtFront (first eexec_marker) flat ((front, marker), after) × NotAtFront cipher_text after
 SplitFails flat (BadSegment at) = ⊥
 SplitFails flat Memory = ⊥
 

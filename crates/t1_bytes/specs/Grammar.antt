@@ -10,6 +10,14 @@ pub record Grammar (A : Type 0) : Type 1 where
   pub Spells : A → List ℕ → List ℕ → Type 0
   pub read : List ℕ → Option (A × List ℕ)
 
+-- the front of bytes spells a value, and what follows is the rest
+abbrev pub AtFront : {A : Type 0} → Grammar A → List ℕ → A × List ℕ → Type 0
+AtFront g bytes x = (text : List ℕ) × (bytes ≡ text ++ x.1) × g.Spells x.0 text x.1
+
+-- the front of bytes spells no value
+abbrev pub NotAtFront : {A : Type 0} → Grammar A → List ℕ → Type 0
+NotAtFront {A} g bytes = (x : A × List ℕ) → AtFront g bytes x → ⊥
+
 -- no bytes
 abbrev pub pure : {A : Type 0} → A → Grammar A
 pure a = record { Spells = λ b text rest. (text ≡ []) × (a ≡ b); read = λ bytes. Some (a, bytes) }
@@ -73,10 +81,10 @@ abbrev pub choice : {A : Type 0} → Option A → Option A → Option A
 choice (Some x) other = Some x
 choice None other = other
 
--- what g spells, or what h spells where g can't be read
+-- what g spells, or what h spells where g spells nothing
 abbrev pub either : {A : Type 0} → Grammar A → Grammar A → Grammar A
 either g h = record {
-  Spells = λ a text rest. g.Spells a text rest ⊎ (h.Spells a text rest × (g.read (text ++ rest) ≡ None));
+  Spells = λ a text rest. g.Spells a text rest ⊎ (h.Spells a text rest × NotAtFront g (text ++ rest));
   read = λ bytes. choice (g.read bytes) (h.read bytes);
 }
 
@@ -85,25 +93,25 @@ unfoldable pub first_at : {A : Type 0} → Grammar A → List ℕ → Option ((L
 first_at g [] = option_and_then (λ x. Some (([], x.0), x.1)) (g.read [])
 first_at g (b ∷ bs) = choice (option_and_then (λ x. Some (([], x.0), x.1)) (g.read (b ∷ bs))) (option_and_then (λ x. Some ((b ∷ x.0.0, x.0.1), x.1)) (first_at g bs))
 
--- g can be read at no place of front, which after follows
+-- g stands at no place of front, which after follows
 abbrev pub NoneIn : {A : Type 0} → Grammar A → List ℕ → List ℕ → Type 0
 NoneIn g [] after = Unit {0}
-NoneIn g (b ∷ front) after = (g.read (b ∷ (front ++ after)) ≡ None) × NoneIn g front after
+NoneIn g (b ∷ front) after = NotAtFront g (b ∷ (front ++ after)) × NoneIn g front after
 
--- any bytes up to the first place where g can be read, and g there
+-- any bytes up to the first place where g stands, and g there
 abbrev pub first : {A : Type 0} → Grammar A → Grammar (List ℕ × A)
 first g = record {
   Spells = λ a text rest. (own : List ℕ) × (text ≡ a.0 ++ own) × g.Spells a.1 own rest × NoneIn g a.0 (own ++ rest);
   read = first_at g;
 }
 
--- the front of bytes spells a value, and what follows is the rest
-abbrev pub AtFront : {A : Type 0} → Grammar A → List ℕ → A × List ℕ → Type 0
-AtFront g bytes x = (text : List ℕ) × (bytes ≡ text ++ x.1) × g.Spells x.0 text x.1
+-- g stands at some offset of bytes
+abbrev pub Has : {A : Type 0} → Grammar A → List ℕ → Type 0
+Has {A} g bytes = (k : ℕ) × (x : A × List ℕ) × AtFront g (drop k bytes) x
 
--- g can be read at no place of bytes
+-- g stands at no offset of bytes
 abbrev pub Lacks : {A : Type 0} → Grammar A → List ℕ → Type 0
-Lacks g bytes = (first g).read bytes ≡ None
+Lacks g bytes = (k : ℕ) → NotAtFront g (drop k bytes)
 
 -- a grammar is exact: what is read is spelled so, and what is spelled so is read
 pub record IsExact {A : Type 0} (g : Grammar A) : Type 0 where
@@ -126,9 +134,9 @@ pub record BreaksOff {A B : Type 0} (entry : Grammar A) (close : Grammar B) (byt
   pub xs : List A
   pub front : List ℕ
   pub parts : bytes ≡ front ++ left
-  pub read : Entries entry xs front left
-  pub no_entry : entry.read left ≡ None
-  pub no_close : close.read left ≡ None
+  pub entries : Entries entry xs front left
+  pub no_entry : NotAtFront entry left
+  pub no_close : NotAtFront close left
 
 -- the entries, what closes them and what stands after it; or what is left where they break off
 abbrev pub Table : Type 0 → Type 0 → Type 0

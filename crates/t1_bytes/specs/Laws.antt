@@ -4,16 +4,24 @@ use Rattle.std.specs.List.{AllByRecursion}
 use Rattle.t1_bytes.specs.declared.fault.BytesFault.{BytesFault}
 use Rattle.t1_bytes.specs.declared.fault.BytesFault.TheVariants.{NoEexec}
 use Rattle.t1_bytes.specs.Cipher.{Enciphers, encrypted, decrypted, sealed, opened}
-use Rattle.t1_bytes.specs.Grammar.{AtFront, IsExact, first}
+use Rattle.t1_bytes.specs.Grammar.{AtFront, IsExact, count, fixed, first}
+use Rattle.t1_bytes.specs.White.{white, gap}
 use Rattle.t1_bytes.specs.Segments.{segment, end, IsFlat, IsBad}
-use Rattle.t1_bytes.specs.Eexec.{eexec_marker, blank_comes, is_hex_text, cipher_text, IsSplit, SplitFails}
+use Rattle.t1_bytes.specs.Eexec.{eexec_marker, blank_comes, is_hex_text, hex_cipher, cipher_text, IsSplit, SplitFails}
 use Rattle.t1_bytes.specs.Texts.{pfb_text, hex_lines, trailer}
 
--- what is read of segments, of their end, of the marker and of the cipher is what is spelled, and what is spelled is read
+-- what is read of counted bytes, of a fixed text, of white space, of segments and their end, of the marker and of the cipher
+-- is what is spelled, and what is spelled is read
 pub record ReadsAsSpelled : Type 0 where
+  pub counts : (n : ℕ) → IsExact (count n)
+  pub texts : (text : List ℕ) → IsExact (fixed text)
+  pub whites : IsExact white
+  pub gaps : IsExact gap
   pub segments : IsExact segment
   pub ends : IsExact end
-  pub markers : IsExact (first eexec_marker)
+  pub markers : IsExact eexec_marker
+  pub first_markers : IsExact (first eexec_marker)
+  pub hex_ciphers : IsExact hex_cipher
   pub ciphers : IsExact cipher_text
 
 -- encryption and decryption undo each other
@@ -63,7 +71,7 @@ pub record OneSplit : Type 0 where
   pub reasons : (flat : List ℕ) (fault other : BytesFault) → SplitFails flat fault → SplitFails flat other → fault ≡ other
   pub apart : (flat : List ℕ) (at : ℕ) (cipher : List ℕ) (fault : BytesFault) → IsSplit flat at cipher → SplitFails flat fault → ⊥
 
--- a flat text is refused for want of `eexec` exactly where the marker stands at no offset
+-- a flat text is refused for want of `eexec` exactly where the marker is read at no offset
 abbrev pub LacksEverywhere : Type 0
 LacksEverywhere = (flat : List ℕ) → SplitFails flat NoEexec ↔ ((k : ℕ) → k ≤ length flat → eexec_marker.read (drop k flat) ≡ None)
 

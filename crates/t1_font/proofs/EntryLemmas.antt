@@ -22,10 +22,14 @@ use Rattle.t1_font.proofs.MarkerLemmas.{code_entry_exact}
 
 -- ---- charstrings by a key
 
-body_exact : (iv : ℕ) → IsExact (body iv)
-unfolding body length_from
+pub length_exact : (iv : ℕ) → IsExact (length_from iv)
+unfolding length_from
+length_exact iv = that_exact _ _ decimal_exact
+
+pub body_exact : (iv : ℕ) → IsExact (body iv)
+unfolding body
 body_exact iv =
-    bind_exact _ _ gap_exact (λ _. bind_exact _ _ (that_exact _ _ decimal_exact) (λ len. bind_exact _ _ gap_exact (λ _. bind_exact _ _ word_exact (λ rd.
+    bind_exact _ _ gap_exact (λ _. bind_exact _ _ (length_exact iv) (λ len. bind_exact _ _ gap_exact (λ _. bind_exact _ _ word_exact (λ rd.
     bind_exact _ _ one_white_exact (λ _. bind_exact _ _ (count_exact len) (λ bytes. bind_exact _ _ white_exact (λ _. bind_exact _ _ (phrase_exact (passes true)) (λ phrase. pure_exact _))))))))
 
 gap_has : (a text rest : List ℕ) → gap.Spells a text rest → 0 < length text

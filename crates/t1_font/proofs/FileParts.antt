@@ -7,7 +7,8 @@ use Rattle.t1_bytes.specs.declared.fault.BytesFault.TheVariants.{BadSegment, NoE
 use Rattle.t1_bytes.specs.Grammar.{first}
 use Rattle.t1_bytes.specs.Eexec.{eexec_marker, cipher_text, IsSplit, SplitFails}
 use Rattle.t1_bytes.specs.Faults.{OrMemory}
-use Rattle.t1_bytes.proofs.Grammars.{first_exact, front_again}
+use Rattle.t1_bytes.proofs.Grammars.{first_exact, front_again, unread}
+use Rattle.t1_bytes.proofs.Places.{lacks_unread}
 use Rattle.t1_bytes.proofs.EexecLemmas.{cipher_exact, eexec_exact, marker_own}
 use Rattle.t1_font.specs.Faults.{read_fault}
 use Rattle.t1_bytes.specs.Segments.{starts_segment}
@@ -43,8 +44,8 @@ split_lead flat at cipher s = leb-true 4 (length cipher) s.secret.2.1
 pub split_fails : (flat : List ℕ) (fault : BytesFault) → OrMemory (SplitFails flat) fault → Refused (read_fault fault) (flat_pieces flat).read
 unfolding flat_pieces
 split_fails flat Memory h = tt
-split_fails flat NoEexec h = rw h refl
-split_fails flat ShortCipher h = rw (front_again (first eexec_marker) (first_exact eexec_marker eexec_exact) flat ((h.0, h.1), h.2) h.3, h.4) refl
+split_fails flat NoEexec h = rw (lacks_unread eexec_marker eexec_exact flat h) refl
+split_fails flat ShortCipher h = rw (front_again (first eexec_marker) (first_exact eexec_marker eexec_exact) flat ((h.0, h.1), h.2) h.3, unread cipher_text cipher_exact h.2 h.4) refl
 split_fails flat (BadSegment at) h = absurd h
 
 -- a file that is not in segments is its own flat text

@@ -7,7 +7,7 @@ use Rattle.t1_font.specs.declared.private.PrivateParts.{PrivateParts}
 use Rattle.t1_font.specs.declared.fault.ReadFault.TheVariants.{NoNotdef, Limit}
 use Rattle.t1_font.specs.FontValue.{FontValue, name_cmp, IsWithin, weight, declared_count, count_limit, weight_limit}
 use Rattle.t1_font.specs.FontModel.{clamp}
-use Rattle.t1_font.specs.Entries.{last_entries, map_of}
+use Rattle.t1_font.specs.Entries.{last_entries}
 use Rattle.t1_font.specs.Gathering.{Entries}
 use Rattle.t1_font.specs.Pieces.{ClearPieces, SubrsPieces, PrivatePieces}
 use Rattle.t1_font.specs.ReadFont.{subrs_shell, shell_of, font_of, subr_entries, glyph_entries, is_within, font_from}

@@ -16,6 +16,7 @@ pub mod AnswersRight
 pub mod Lengths
 pub mod WriteAnswers
 pub mod ValueLaws
+pub mod HasSubrs
 pub mod ReadingLaws
 pub mod ReadLaws
 pub mod SpellingLaws

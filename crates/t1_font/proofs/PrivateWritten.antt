@@ -7,7 +7,7 @@ use Rattle.std.specs.Option.{option_map}
 use Rattle.std.proofs.lemmas.List.{length-append, append-nil}
 use Rattle.std.proofs.lemmas.Option.{none-some, same_Some}
 use Rattle.std.proofs.lemmas.Bool.{lt-ltb, le-ltb}
-use Rattle.t1_bytes.specs.Grammar.{Grammar, Stops, first, first_at, table_at}
+use Rattle.t1_bytes.specs.Grammar.{Grammar, Stops, first, first_at, Lacks, table_at}
 use Rattle.t1_bytes.proofs.Grammars.{first_exact, first_here}
 use Rattle.t1_bytes.proofs.Places.{prepend}
 use Rattle.t1_font.specs.Words.{is_regular}
@@ -19,7 +19,8 @@ use Rattle.t1_font.specs.declared.fault.ReadFault.{ReadFault}
 use Rattle.t1_font.specs.Pieces.{SubrsPieces, PrivatePieces, private_pieces, tables_from, before_place, glyphs_from, tail_after, has_subrs, iv_of}
 use Rattle.t1_font.specs.Writing.{entries_text, index_text, subrs_text, subrs_part, name_text, glyphs_text, glyphs_part, private_written}
 use Rattle.t1_font.specs.IsFont.{IsWord, IsPhrase, NoMarker}
-use Rattle.t1_font.proofs.MarkerLemmas.{closefile_exact}
+use Rattle.t1_font.proofs.MarkerLemmas.{subrs_marker_exact, chars_marker_exact, closefile_exact}
+use Rattle.t1_font.proofs.HasSubrs.{subrs_lack, lack_subrs}
 use Rattle.t1_font.proofs.Written.{gap_one, keyword_read, decimal_read, black_digits}
 use Rattle.t1_font.proofs.FirstPlace.{one_place}
 use Rattle.t1_font.proofs.Borders.{fixed_strip}
@@ -42,9 +43,9 @@ pub record IsWritable (p : PrivatePieces) : Type 0 where
   pub no_chars : NoMarker chars_marker p.private
   pub middle_apart : Stops is_regular p.middle
   pub middle_chars : NoMarker chars_marker p.middle
-  pub middle_subrs : has_subrs p.middle ≡ false
+  pub middle_subrs : Lacks subrs_marker p.middle
   pub tail_apart : Stops is_regular p.tail
-  pub tail_subrs : has_subrs p.tail ≡ false
+  pub tail_subrs : Lacks subrs_marker p.tail
   pub tail_ends : option_map (λ x. x.1) ((first closefile).read p.tail) ≡ Some []
   pub subrs : AreOptional p.len_iv p.middle p.subrs
   pub glyphs : AllByRecursion (IsEntry (IsWord 127) p.len_iv) p.glyphs
@@ -110,14 +111,14 @@ whole_found tail h = by_found (first_at closefile tail) refl h
         let nothing : x.1 ≡ [] = same_Some x.1 [] k in
         (x, e, nothing, sym (s.1 ∙ ap (λ (u : List ℕ). s.0 ++ u) nothing ∙ append-nil s.0 ∙ s.2.1 ∙ ap (λ (u : List ℕ). x.0.0 ++ u) (closefile_text x.0.1 s.2.0 x.1 s.2.2)))
 
-pub tail_read : (middle tail junk : List ℕ) → has_subrs middle ≡ false → has_subrs tail ≡ false → option_map (λ x. x.1) ((first closefile).read tail) ≡ Some [] → (tail_after middle (tail ++ (10 ∷ junk))).read ≡ Ok tail
+pub tail_read : (middle tail junk : List ℕ) → Lacks subrs_marker middle → Lacks subrs_marker tail → option_map (λ x. x.1) ((first closefile).read tail) ≡ Some [] → (tail_after middle (tail ++ (10 ∷ junk))).read ≡ Ok tail
 unfolding tail_after
 tail_read middle tail junk m t e =
     let f = whole_found tail e in
     let more : first_at closefile (tail ++ (10 ∷ junk)) ≡ Some (f.0.0, f.0.1 ++ (10 ∷ junk)) = first_grows closefile (10 ∷ junk) (closefile_grows junk) tail f.0 f.1 in
-    rw (more, m, f.3, t) refl
+    rw (more, lack_subrs middle m, f.3, lack_subrs tail t) refl
 
-pub glyphs_from_read : (text private : List ℕ) (subrs : Option SubrsPieces) (middle : List ℕ) (iv : ℕ) (es : List Glyph) (tail junk : List ℕ) → AllByRecursion (IsEntry (IsWord 127) iv) es → Stops is_regular tail → has_subrs middle ≡ false → has_subrs tail ≡ false
+pub glyphs_from_read : (text private : List ℕ) (subrs : Option SubrsPieces) (middle : List ℕ) (iv : ℕ) (es : List Glyph) (tail junk : List ℕ) → AllByRecursion (IsEntry (IsWord 127) iv) es → Stops is_regular tail → Lacks subrs_marker middle → Lacks subrs_marker tail
     → option_map (λ x. x.1) ((first closefile).read tail) ≡ Some [] → (glyphs_from text private subrs middle iv (glyphs_text es ++ (tail ++ (10 ∷ junk)))).read ≡ Ok (record { private = private; len_iv = iv; subrs = subrs; middle = middle; glyphs = es; tail = tail })
 unfolding glyphs_from
 glyphs_from_read text private subrs middle iv es tail junk all apart m t e = rw (glyphs_read iv es (tail ++ (10 ∷ junk)) all (stops_then tail junk apart), tail_read middle tail junk m t e) refl
@@ -146,9 +147,12 @@ chars_part_read es rest few =
     let shown : glyphs_text es ++ rest ≡ 10 ∷ (line.0 ++ rest) = ap (λ (u : List ℕ). u ++ rest) line.1 in
     ap chars_marker.read (regrouped ∙ ap (λ (u : List ℕ). codes "/CharStrings " ++ (digits (length es) ++ (codes " dict dup begin" ++ u))) shown) ∙ (chars_marker_read (length es) (line.0 ++ rest) (omega (arith, few)) ∙ ap (λ (u : List ℕ). Some (tt, u)) (sym shown))
 
-nothing_subrs : has_subrs [] ≡ false
+nothing_found : has_subrs [] ≡ false
 unfolding first_at subrs_marker
-nothing_subrs = refl
+nothing_found = refl
+
+nothing_subrs : Lacks subrs_marker []
+nothing_subrs = subrs_lack [] nothing_found
 
 -- what is read where the two markers are known
 pieces_read : (text : List ℕ) (chars : (List ℕ × Unit {0}) × List ℕ) (marker : Option ((List ℕ × ℕ) × List ℕ)) (o : Result PrivatePieces ReadFault) → first_at chars_marker text ≡ Some chars → first_at subrs_marker text ≡ marker → (tables_from text chars (before_place (length chars.0.0) marker)).read ≡ o → (private_pieces text).read ≡ o
@@ -166,8 +170,8 @@ no_subrs_again p junk h e =
     let g : List ℕ = glyphs_part p.glyphs ++ t in
     let text : List ℕ = p.private ++ g in
     let place : (List ℕ × Unit {0}) × List ℕ = ((p.private, tt), glyphs_text p.glyphs ++ t) in
-    let chars : first_at chars_marker text ≡ Some place = first_behind chars_marker p.private g tt _ (chars_moves p.private [] _ h.no_chars) (chars_part_read p.glyphs t h.few) in
-    let subrs : before_place (length p.private) (first_at subrs_marker text) ≡ None = ap (before_place (length p.private)) (past_none subrs_marker p.private g (subrs_moves p.private [] _ h.no_subrs)) ∙ not_before p.private (first_at subrs_marker g) in
+    let chars : first_at chars_marker text ≡ Some place = first_behind chars_marker chars_marker_exact p.private g tt _ (chars_moves p.private [] _ h.no_chars) (chars_part_read p.glyphs t h.few) in
+    let subrs : before_place (length p.private) (first_at subrs_marker text) ≡ None = ap (before_place (length p.private)) (past_none subrs_marker subrs_marker_exact p.private g (subrs_moves p.private [] _ h.no_subrs)) ∙ not_before p.private (first_at subrs_marker g) in
     pieces_read text place (first_at subrs_marker text) _ chars refl (ap (λ (o : Option ((List ℕ × ℕ) × List ℕ)). (tables_from text place o).read) subrs ∙ no_tables_again p text junk h)
 
 -- a marker that stands somewhere is found
@@ -210,7 +214,7 @@ tables_again p s text chars junk h k =
     let m : List ℕ = p.middle ++ g in
     let table : List ℕ = subrs_text s.entries s.closing ++ m in
     let read : table_at (subr s.declared p.len_iv) subrs_end table ≡ Ok (s.entries, s.closing, m) = subrs_read s.declared p.len_iv s.entries s.closing m k.declared k.entries k.closing (stops_slash p.middle _ h.middle_apart) in
-    let next : first_at chars_marker m ≡ Some ((p.middle, tt), glyphs_text p.glyphs ++ t) = first_behind chars_marker p.middle g tt _ (chars_moves p.middle [] _ h.middle_chars) (chars_part_read p.glyphs t h.few) in
+    let next : first_at chars_marker m ≡ Some ((p.middle, tt), glyphs_text p.glyphs ++ t) = first_behind chars_marker chars_marker_exact p.middle g tt _ (chars_moves p.middle [] _ h.middle_chars) (chars_part_read p.glyphs t h.few) in
     rw (h.iv, read, next, glyphs_from_read text p.private (Some s) p.middle p.len_iv p.glyphs p.tail junk h.glyphs h.tail_apart h.middle_subrs h.tail_subrs h.tail_ends) refl
 
 with_subrs_again : (p : PrivatePieces) (s : SubrsPieces) (junk : List ℕ) → IsWritable p → ArePieces p.len_iv s
@@ -222,11 +226,11 @@ with_subrs_again p s junk h k =
     let b : List ℕ = subrs_part (Some s) ++ m in
     let text : List ℕ = p.private ++ b in
     let table : List ℕ = subrs_text s.entries s.closing ++ m in
-    let subrs : first_at subrs_marker text ≡ Some ((p.private, s.declared), table) = first_behind subrs_marker p.private b s.declared table (subrs_moves p.private [] _ h.no_subrs) (subrs_part_read s m k.declared) in
+    let subrs : first_at subrs_marker text ≡ Some ((p.private, s.declared), table) = first_behind subrs_marker subrs_marker_exact p.private b s.declared table (subrs_moves p.private [] _ h.no_subrs) (subrs_part_read s m k.declared) in
     let q : List ℕ = codes "Subrs " ++ (digits s.declared ++ (codes " array" ++ subrs_text s.entries s.closing)) in
     let y = is_found chars_marker (q ++ p.middle) g tt _ (chars_part_read p.glyphs t h.few) in
     let here : first_at chars_marker b ≡ Some ((47 ∷ y.0.0.0, y.0.0.1), y.0.1) = one_place chars_marker 47 (q ++ m) (not_chars ((digits s.declared ++ (codes " array" ++ subrs_text s.entries s.closing)) ++ m)) ∙ ap (prepend (47 ∷ [])) (ap (first_at chars_marker) (sym (append_assoc q p.middle g)) ∙ y.1) in
-    let chars : first_at chars_marker text ≡ Some ((p.private ++ (47 ∷ y.0.0.0), y.0.0.1), y.0.1) = past_none chars_marker p.private b (chars_moves p.private [] _ h.no_chars) ∙ ap (prepend p.private) here in
+    let chars : first_at chars_marker text ≡ Some ((p.private ++ (47 ∷ y.0.0.0), y.0.0.1), y.0.1) = past_none chars_marker chars_marker_exact p.private b (chars_moves p.private [] _ h.no_chars) ∙ ap (prepend p.private) here in
     let place : (List ℕ × Unit {0}) × List ℕ = ((p.private ++ (47 ∷ y.0.0.0), y.0.0.1), y.0.1) in
     let before : ltb (length p.private) (length place.0.0) ≡ true = lt-ltb _ _ (omega (arith, length-append p.private (47 ∷ y.0.0.0))) in
     pieces_read text place (Some ((p.private, s.declared), table)) _ chars subrs (ap (λ (o : Option ((List ℕ × ℕ) × List ℕ)). (tables_from text place o).read) (before_is (length place.0.0) ((p.private, s.declared), table) before) ∙ tables_again p s text place junk h k)

@@ -1,12 +1,11 @@
 -- The texts of markers that were read, and where no marker stands.
-use Rattle.std.proofs.Common.{◌≡◌, ℕ, ◌≤◌, inl, inr, ◌⊎◌, Bool, true, eqb, not, ◌&&◌, List, [], ◌∷◌, ◌++◌, length, drop, get_or, Option, Some, None, refl, sym, ap, subst, ◌∙◌, append_assoc, arith, true≢false}
+use Rattle.std.proofs.Common.{◌≡◌, ℕ, suc, ◌≤◌, inl, inr, ◌⊎◌, Bool, true, eqb, not, ◌&&◌, List, [], ◌∷◌, ◌++◌, length, drop, get_or, refl, sym, ap, subst, ◌∙◌, append_assoc, arith, true≢false}
 use Rattle.std.specs.Prelude.{codes}
 use Rattle.std.specs.List.{AllByRecursion}
 use Rattle.std.proofs.lemmas.Slice.Eq.{bytes_eq-Decides}
 use Rattle.std.proofs.lemmas.Bool.{cases_Bool, eqb-true}
 use Rattle.std.proofs.lemmas.List.{append-nil, length-append}
-use Rattle.t1_bytes.specs.Grammar.{Grammar, fixed, first_at, choice, NoneIn}
-use Rattle.t1_bytes.proofs.Grammars.{and_then_none}
+use Rattle.t1_bytes.specs.Grammar.{Grammar, fixed, NotAtFront, NoneIn, Lacks}
 use Rattle.t1_bytes.specs.White.{is_white, has_bytes, gap}
 use Rattle.t1_bytes.specs.Eexec.{eexec_marker, blank_comes}
 use Rattle.t1_font.specs.Markers.{encoding_marker, subrs_marker, chars_marker}
@@ -30,23 +29,16 @@ meet (x ∷ a) b (y ∷ c) d e =
 
 pub NoneIn-left : {A : Type 0} (g : Grammar A) (a b c : List ℕ) → NoneIn g (a ++ b) c → NoneIn g a (b ++ c)
 NoneIn-left g [] b c h = tt
-NoneIn-left g (x ∷ a) b c h = (subst (λ (u : List ℕ). g.read (x ∷ u) ≡ None) (append_assoc a b c) h.0, NoneIn-left g a b c h.1)
+NoneIn-left g (x ∷ a) b c h = (subst (λ (u : List ℕ). NotAtFront g (x ∷ u)) (append_assoc a b c) h.0, NoneIn-left g a b c h.1)
 
 pub NoneIn-right : {A : Type 0} (g : Grammar A) (a b c : List ℕ) → NoneIn g (a ++ b) c → NoneIn g b c
 NoneIn-right g [] b c h = h
 NoneIn-right g (x ∷ a) b c h = NoneIn-right g a b c h.1
 
-both_none : {A : Type 0} (o p : Option A) → choice o p ≡ None → (o ≡ None) × (p ≡ None)
-both_none None p e = (refl, e)
-both_none (Some x) p e = absurd cc
-
 -- a text that lacks a marker has it at no place
-pub lacks_none : {A : Type 0} (g : Grammar A) (bytes : List ℕ) → first_at g bytes ≡ None → NoneIn g bytes []
-unfolding first_at
-lacks_none g [] e = tt
-lacks_none g (b ∷ bs) e =
-    let parts = both_none _ _ e in
-    (subst (λ (u : List ℕ). g.read (b ∷ u) ≡ None) (sym (append-nil bs)) (and_then_none (λ x. (([], x.0), x.1)) (g.read (b ∷ bs)) parts.0), lacks_none g bs (and_then_none (λ y. ((b ∷ y.0.0, y.0.1), y.1)) (first_at g bs) parts.1))
+pub lacks_none : {A : Type 0} (g : Grammar A) (bytes : List ℕ) → Lacks g bytes → NoneIn g bytes []
+lacks_none g [] lacks = tt
+lacks_none g (b ∷ bs) lacks = (subst (λ (u : List ℕ). NotAtFront g (b ∷ u)) (sym (append-nil bs)) (lacks 0), lacks_none g bs (λ k. lacks (suc k)))
 
 -- no marker stands in a text, if none does in one that is at least as long, and a slash stands behind it
 pub before_slash : {A : Type 0} (g : Grammar A) → ((front r s : List ℕ) → NoneIn g front (47 ∷ r) → NoneIn g front (47 ∷ s)) → (a m b c : List ℕ) → a ++ (47 ∷ m) ≡ b ++ c → length a ≤ length b → NoneIn g b c → NoMarker g a

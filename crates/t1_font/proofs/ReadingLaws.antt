@@ -65,7 +65,7 @@ pub table_sound : {A B : Type 0} (bad : ℕ → ReadFault) (len : ℕ) (entry : 
 table_sound {A} {B} bad len entry close E C eats apart bytes = record {
   right = by_table (table_at entry close bytes) (table_reads entry close E C eats bytes);
   again = λ x s. ap (in_table bad len) (ap (table_at entry close) s.1 ∙ table_again entry close E C eats apart x.0 x.1 s.0 x.2 s.2);
-  refused = λ e s. ap (in_table bad len) (break_again entry close E eats apart bytes s.0 s.1) ∙ ap (λ (x : ReadFault). Err x) (sym s.2);
+  refused = λ e s. ap (in_table bad len) (break_again entry close E C eats apart bytes s.0 s.1) ∙ ap (λ (x : ReadFault). Err x) (sym s.2);
 }
   where
     by_table : (t : Table A B) → Read entry close bytes t → MatchResult (in_table bad len t) (table bad len entry close bytes).Is (table bad len entry close bytes).Fails

@@ -1,12 +1,15 @@
 -- Reading refuses a file exactly for its reason.
-use Rattle.std.proofs.Common.{◌≡◌, ◌⊎◌, ℕ, Bool, true, false, true≢false, not, ◌||◌, List, [], length, Option, Some, None, Result, Err, MatchOption, MatchResult, refl, sym, ap, subst, ◌∙◌, inl, inr}
+use Rattle.std.proofs.Common.{◌≡◌, ◌⊎◌, ℕ, Bool, true, false, true≢false, not, ◌||◌, List, [], ◌++◌, length, Option, Some, None, Result, Err, MatchOption, MatchResult, refl, sym, ap, subst, ◌∙◌, inl, inr}
 use Rattle.std.proofs.lemmas.Bool.{or_parts, not-true, not-false, or_cases, leb-true, le-leb, leb-false, lt-leb}
-use Rattle.t1_bytes.specs.Grammar.{first, AtFront}
-use Rattle.t1_bytes.proofs.Grammars.{first_exact}
+use Rattle.t1_bytes.specs.Grammar.{first, AtFront, Lacks}
+use Rattle.t1_bytes.proofs.Grammars.{first_exact, unspelled, unread}
+use Rattle.t1_bytes.proofs.Places.{unread_lacks, lacks_unread}
+use Rattle.t1_bytes.proofs.EexecLemmas.{cipher_exact, eexec_exact}
+use Rattle.t1_bytes.specs.Eexec.{eexec_marker, cipher_text}
 use Rattle.t1_bytes.specs.Cipher.{private_text}
 use Rattle.t1_font.specs.declared.fault.ReadFault.{ReadFault}
 use Rattle.t1_font.specs.declared.fault.ReadFault.TheVariants.{TooLong, BadSegment, NoEexec, ShortCipher, NoEncoding, BadEncoding, NoCharStrings, BadLenIV, BadSubrs, BadGlyphs, Hybrid, NoClosefile, NoNotdef, Limit, Memory}
-use Rattle.t1_font.specs.Markers.{encoding_marker, closefile, len_iv_marker}
+use Rattle.t1_font.specs.Markers.{encoding_marker, subrs_marker, chars_marker, closefile, len_iv_marker, len_iv}
 use Rattle.t1_font.specs.Encoding.{encoding_start}
 use Rattle.t1_font.specs.Pieces.{ClearPieces, SubrsPieces, PrivatePieces, flat_pieces, encoding_from, clear_pieces, iv_at, iv_of, has_subrs, through, tail_after, glyphs_from, tables_from, private_pieces}
 use Rattle.std.specs.Ordering.{nat_cmp}
@@ -16,7 +19,8 @@ use Rattle.t1_font.specs.ReadFont.{shell_of, subr_entries, glyph_entries, is_wit
 use Rattle.t1_font.specs.Spelling.{Start, SpellsTables, IsClear, IsLenIV, HasTables, HasGlyphs, IsPrivate, Texts, HasPieces}
 use Rattle.t1_font.specs.Reasons.{CutFails, ClearFails, BadIV, IsHybrid, PrivateFails, FontFails, HasFlat, Reason}
 use Rattle.t1_font.proofs.ReadLaws.{file_sound}
-use Rattle.t1_font.proofs.MarkerLemmas.{closefile_exact}
+use Rattle.t1_font.proofs.MarkerLemmas.{encoding_marker_exact, chars_marker_exact, len_iv_exact, closefile_exact, encoding_start_exact}
+use Rattle.t1_font.proofs.HasSubrs.{subrs_lack, lack_subrs, subrs_stand, stand_subrs}
 use Rattle.t1_font.proofs.ReadingLaws.{front_again, optional_sound}
 use Rattle.t1_font.proofs.ValueLaws.{notdef_is, within_of, within_again}
 use Rattle.t1_font.proofs.SpellingLaws.{by_start, start_none, start_some, iv_is, is_iv, clear_is, is_clear, is_cut, private_is, is_private, texts_are, text_again}
@@ -26,9 +30,9 @@ use Rattle.t1_font.proofs.SpellingLaws.{by_start, start_none, start_some, iv_is,
 cut_fails : (flat : List ℕ) (e : ReadFault) → (flat_pieces flat).Fails e → CutFails flat e
 unfolding flat_pieces
 cut_fails flat e s = elim s [
-  | inl p ↦ subst (CutFails flat) (sym p.1) p.0
+  | inl p ↦ subst (CutFails flat) (sym p.1) (unread_lacks eexec_marker eexec_exact flat p.0)
   | inr p ↦ elim p.2 [
-    | inl q ↦ subst (CutFails flat) (sym q.1) (p.0.0.0, p.0.0.1, p.0.1, p.1, q.0)
+    | inl q ↦ subst (CutFails flat) (sym q.1) (p.0.0.0, p.0.0.1, p.0.1, p.1, unspelled cipher_text cipher_exact p.0.1 q.0)
     | inr q ↦ absurd q.2
   ]
 ]
@@ -38,9 +42,9 @@ cut_fails flat e s = elim s [
 clear_fails : (clear : List ℕ) (e : ReadFault) → (clear_pieces clear).Fails e → ClearFails clear e
 unfolding clear_pieces encoding_from
 clear_fails clear e s = elim s [
-  | inl p ↦ subst (ClearFails clear) (sym p.1) p.0
+  | inl p ↦ subst (ClearFails clear) (sym p.1) (unread_lacks encoding_marker encoding_marker_exact clear p.0)
   | inr p ↦ elim p.2 [
-    | inl q ↦ subst (ClearFails clear) (sym q.1) (inl (p.0.0.0, p.0.1, p.1, q.0, refl))
+    | inl q ↦ subst (ClearFails clear) (sym q.1) (inl (p.0.0.0, p.0.1, p.1, unspelled encoding_start encoding_start_exact p.0.1 q.0, refl))
     | inr q ↦ elim q.2 [
       | inl r ↦ puts_fail p.0 p.1 q.0.0 q.0.1 q.1 r
       | inr r ↦ absurd r.2
@@ -63,10 +67,10 @@ iv_fails private e s = elim s [ inl p ↦ absurd p | inr p ↦ by_marker p.0 p.1
   where
     by_marker : (marker : Option ((List ℕ × Unit {0}) × List ℕ)) → MatchOption marker ((first len_iv_marker).read private ≡ None) (AtFront (first len_iv_marker) private) → (iv_at marker).Fails e → BadIV private × (e ≡ BadLenIV)
     by_marker None m t = absurd t
-    by_marker (Some x) m t = elim t [ inl p ↦ ((x.0.0, x.1, m, p.0), p.1) | inr p ↦ absurd p.2 ]
+    by_marker (Some x) m t = elim t [ inl p ↦ ((x.0.0, x.1, m, unspelled len_iv len_iv_exact x.1 p.0), p.1) | inr p ↦ absurd p.2 ]
 
 abbrev TailFails : List ℕ → List ℕ → ReadFault → Type 0
-TailFails middle after e = (IsHybrid middle after × (e ≡ Hybrid)) ⊎ ((has_subrs middle ≡ false) × (has_subrs after ≡ false) × ((first closefile).read after ≡ None) × (e ≡ NoClosefile))
+TailFails middle after e = (IsHybrid middle after × (e ≡ Hybrid)) ⊎ (Lacks subrs_marker middle × Lacks subrs_marker after × Lacks closefile after × (e ≡ NoClosefile))
 
 close_read : (after : List ℕ) (close : Option ((List ℕ × List ℕ) × List ℕ)) → MatchOption close ((first closefile).read after ≡ None) (AtFront (first closefile) after) → (first closefile).read after ≡ close
 close_read after None m = m
@@ -81,15 +85,16 @@ tail_fails middle after e s = elim s [
     | inr q ↦ elim q.2 [
       | inl r ↦
           let both = or_parts (has_subrs middle) (has_subrs (through p.0 after)) (not-true (has_subrs middle || has_subrs (through p.0 after)) q.1) in
-          inr (both.0, ap (λ o. has_subrs (through o after)) (sym r.0 ∙ close_read after p.0 p.1) ∙ both.1, r.0, r.1)
+          inr (subrs_lack middle both.0, subrs_lack after (ap (λ o. has_subrs (through o after)) (sym r.0 ∙ close_read after p.0 p.1) ∙ both.1), unread_lacks closefile closefile_exact after r.0, r.1)
       | inr r ↦ absurd r.2
     ]
   ]
 ]
   where
     two : (close : Option ((List ℕ × List ℕ) × List ℕ)) → MatchOption close ((first closefile).read after ≡ None) (AtFront (first closefile) after) → (has_subrs middle ≡ true) ⊎ (has_subrs (through close after) ≡ true) → IsHybrid middle after
-    two close m (inl a) = inl a
-    two close m (inr b) = inr (ap (λ o. has_subrs (through o after)) (close_read after close m) ∙ b)
+    two close m (inl a) = inl (subrs_stand middle a)
+    two None m (inr b) = inr (inr (unread_lacks closefile closefile_exact after m, subrs_stand after b))
+    two (Some x) m (inr b) = inr (inl (x.0.0, x.0.1, x.1, m, subrs_stand (x.0.0 ++ x.0.1) b))
 
 abbrev made : List ℕ → ℕ → Option SubrsPieces → List ℕ → PrivatePieces
 made private iv subrs middle = record { private = private; len_iv = iv; subrs = subrs; middle = middle; glyphs = []; tail = [] }
@@ -117,7 +122,7 @@ glyphs_fail text private subrs middle iv rest e tables i s = elim s [
 private_fails : (text : List ℕ) (e : ReadFault) → (private_pieces text).Fails e → PrivateFails text e
 unfolding private_pieces tables_from
 private_fails text e s = elim s [
-  | inl p ↦ subst (PrivateFails text) (sym p.1) p.0
+  | inl p ↦ subst (PrivateFails text) (sym p.1) (unread_lacks chars_marker chars_marker_exact text p.0)
   | inr p ↦ elim p.2 [
     | inl q ↦ absurd q
     | inr q ↦ by_start text (λ o. (tables_from text p.0 o).Fails e) (PrivateFails text e) p.0 q.0 p.1 q.1 q.2 (without p.0) (with_subrs p.0)
@@ -138,7 +143,7 @@ private_fails text e s = elim s [
           elim p.2 [
             | inl q ↦ subst (PrivateFails text) (sym q.2) (x.0.0, x.1, q.0, x.0.1, p.0, a, i, q.1, refl)
             | inr q ↦ elim q.2 [
-              | inl r ↦ subst (PrivateFails text) (sym r.1) (inl (x.0.0, x.1, q.0.2, q.0.1, x.0.1, p.0, q.0.0, a, i, q.1, r.0, refl))
+              | inl r ↦ subst (PrivateFails text) (sym r.1) (inl (x.0.0, x.1, q.0.2, q.0.1, x.0.1, p.0, q.0.0, a, i, q.1, unread_lacks chars_marker chars_marker_exact q.0.2 r.0, refl))
               | inr r ↦ glyphs_fail text x.0.0 _ r.0.0.0 p.0 r.0.1 e (x.1, q.0.2, a, q.1, r.1) i r.2
             ]
           ]
@@ -160,20 +165,20 @@ font_fails c p e s = elim s [
 
 fails_cut : (flat : List ℕ) (e : ReadFault) → CutFails flat e → (flat_pieces flat).Fails e
 unfolding flat_pieces
-fails_cut flat NoEexec s = inl (s, refl)
-fails_cut flat ShortCipher s = inr (((s.0, s.1), s.2), s.3, inl (s.4, refl))
+fails_cut flat NoEexec s = inl (lacks_unread eexec_marker eexec_exact flat s, refl)
+fails_cut flat ShortCipher s = inr (((s.0, s.1), s.2), s.3, inl (unread cipher_text cipher_exact s.2 s.4, refl))
 fails_cut flat e s = absurd s
 
 fails_clear : (clear : List ℕ) (e : ReadFault) → ClearFails clear e → (clear_pieces clear).Fails e
 unfolding clear_pieces encoding_from
-fails_clear clear NoEncoding s = inl (s, refl)
-fails_clear clear (BadEncoding at) (inl s) = inr (((s.0, tt), s.1), s.2, inl (s.3, ap (λ (n : ℕ). BadEncoding n) s.4))
+fails_clear clear NoEncoding s = inl (lacks_unread encoding_marker encoding_marker_exact clear s, refl)
+fails_clear clear (BadEncoding at) (inl s) = inr (((s.0, tt), s.1), s.2, inl (unread encoding_start encoding_start_exact s.1 s.3, ap (λ (n : ℕ). BadEncoding n) s.4))
 fails_clear clear (BadEncoding at) (inr s) = inr (((s.0, tt), s.1), s.4, inr ((None, s.2), s.5, inl (inl (s.3, s.6, ap (λ (n : ℕ). BadEncoding n) s.7))))
 fails_clear clear e s = absurd s
 
 fails_iv : (private : List ℕ) → BadIV private → (iv_of private).Fails BadLenIV
 unfolding iv_of iv_at
-fails_iv private s = inr (Some ((s.0, tt), s.1), s.2, inl (s.3, refl))
+fails_iv private s = inr (Some ((s.0, tt), s.1), s.2, inl (unread len_iv len_iv_exact s.1 s.3, refl))
 
 fails_none : (text private rest : List ℕ) (e : ReadFault) → Start text private None rest → (tables_from text ((private, tt), rest) None).Fails e → (private_pieces text).Fails e
 unfolding private_pieces
@@ -209,18 +214,25 @@ not_either false false h = elim h [ inl e ↦ sym e | inr e ↦ sym e ]
 
 fails_tail : (middle after : List ℕ) → IsHybrid middle after → (tail_after middle after).Fails Hybrid
 unfolding tail_after
-fails_tail middle after h = inr ((first closefile).read after, (optional_sound (first closefile) (first_exact closefile closefile_exact) after).right, inl (not_either _ _ h, refl))
+fails_tail middle after h = inr ((first closefile).read after, (optional_sound (first closefile) (first_exact closefile closefile_exact) after).right, inl (not_either _ _ (found h), refl))
+  where
+    found : IsHybrid middle after → (has_subrs middle ≡ true) ⊎ (has_subrs (through ((first closefile).read after) after) ≡ true)
+    found (inl a) = inl (stand_subrs middle a)
+    found (inr (inl s)) = inr (ap (λ o. has_subrs (through o after)) (front_again (first closefile) (first_exact closefile closefile_exact) after ((s.0, s.1), s.2) s.3) ∙ stand_subrs (s.0 ++ s.1) s.4)
+    found (inr (inr s)) = inr (ap (λ o. has_subrs (through o after)) (lacks_unread closefile closefile_exact after s.0) ∙ stand_subrs after s.1)
 
-fails_close : (middle after : List ℕ) → has_subrs middle ≡ false → has_subrs after ≡ false → (first closefile).read after ≡ None → (tail_after middle after).Fails NoClosefile
+fails_close : (middle after : List ℕ) → Lacks subrs_marker middle → Lacks subrs_marker after → Lacks closefile after → (tail_after middle after).Fails NoClosefile
 unfolding tail_after
-fails_close middle after m a none = inr (None, none, inr (tt, rw (m, a) refl, inl (none, refl)))
+fails_close middle after m a lacks =
+    let none = lacks_unread closefile closefile_exact after lacks in
+    inr (None, none, inr (tt, rw (lack_subrs middle m, lack_subrs after a) refl, inl (none, refl)))
 
 fails_private : (text : List ℕ) (e : ReadFault) → PrivateFails text e → (private_pieces text).Fails e
 unfolding private_pieces tables_from glyphs_from
-fails_private text NoCharStrings s = inl (s, refl)
+fails_private text NoCharStrings s = inl (lacks_unread chars_marker chars_marker_exact text s, refl)
 fails_private text BadLenIV s = fails_start text s.0 s.1 s.2 s.3 s.4
 fails_private text (BadSubrs at) s = fails_some text s.0 s.1 s.3 (BadSubrs at) s.5 (λ _. inr (s.4, is_iv s.0 s.4 s.6, inl (s.2, s.7, ap (λ (n : ℕ). BadSubrs n) s.8)))
-fails_private text (BadGlyphs at) (inl s) = fails_some text s.0 s.1 s.4 (BadGlyphs at) s.7 (λ _. inr (s.5, is_iv s.0 s.5 s.8, inr ((s.6, s.3, s.2), s.9, inl (s.10, ap (λ (n : ℕ). BadGlyphs n) s.11))))
+fails_private text (BadGlyphs at) (inl s) = fails_some text s.0 s.1 s.4 (BadGlyphs at) s.7 (λ _. inr (s.5, is_iv s.0 s.5 s.8, inr ((s.6, s.3, s.2), s.9, inl (lacks_unread chars_marker chars_marker_exact s.2 s.10, ap (λ (n : ℕ). BadGlyphs n) s.11))))
 fails_private text (BadGlyphs at) (inr s) = fails_glyphs text s.0 s.1 (BadGlyphs at) s.3 (inl (s.2, s.4, ap (λ (n : ℕ). BadGlyphs n) s.5))
 fails_private text Hybrid s = fails_glyphs text s.0 s.2.start Hybrid s.2.tables (inr ((s.0.glyphs, s.2.closing, s.1), s.2.glyphs, inl (fails_tail s.0.middle s.1 s.3)))
 fails_private text NoClosefile s = fails_glyphs text s.0 s.2.start NoClosefile s.2.tables (inr ((s.0.glyphs, s.2.closing, s.1), s.2.glyphs, inl (fails_close s.0.middle s.1 s.3 s.4 s.5)))

@@ -1,12 +1,13 @@
 -- A file spells a font exactly where reading it gives that font.
-use Rattle.std.proofs.Common.{◌≡◌, ℕ, ◌≤◌, true, false, ◌||◌, ltb, List, [], ◌++◌, length, take, Option, Some, None, Result, Ok, Err, MatchOption, MatchResult, refl, sym, ap, subst, ◌∙◌, inl, inr}
+use Rattle.std.proofs.Common.{◌≡◌, ℕ, ◌≤◌, true, ◌||◌, ltb, List, [], ◌++◌, length, take, Option, Some, None, Result, Ok, Err, MatchOption, MatchResult, refl, sym, ap, subst, ◌∙◌, inl, inr}
 use Rattle.std.proofs.lemmas.Bool.{cases_Bool, or_parts, not-true, ltb-true, ltb-false, lt-ltb, le-ltb, leb-true, le-leb}
 use Rattle.std.proofs.lemmas.Option.{none-some}
 use Rattle.std.specs.FinMap as maps
 use Rattle.t1_bytes.specs.Cipher.{decrypted, private_text}
-use Rattle.t1_bytes.specs.Grammar.{first, AtFront}
+use Rattle.t1_bytes.specs.Grammar.{first, AtFront, Lacks}
 use Rattle.t1_bytes.specs.Segments.{IsFlat}
 use Rattle.t1_bytes.proofs.Grammars.{first_exact}
+use Rattle.t1_bytes.proofs.Places.{unread_lacks, lacks_unread}
 use Rattle.t1_bytes.specs.Eexec.{cipher_text}
 use Rattle.t1_font.specs.declared.fault.ReadFault.{ReadFault}
 use Rattle.t1_font.specs.Encoding.{encoding_start}
@@ -15,7 +16,8 @@ use Rattle.t1_font.specs.Pieces.{FlatPieces, EncodingText, OneWord, Puts, ClearP
 use Rattle.t1_font.specs.FontValue.{FontValue, notdef, file_limit, IsWithin}
 use Rattle.t1_font.specs.ReadFont.{font_of, flat_text, font_from, font_file, read_font}
 use Rattle.t1_font.specs.Spelling.{IsCut, SpellsEncoding, IsClear, IsLenIV, said, unsaid, nowhere, later, Start, SpellsTables, IsPrivate, Texts, Spells}
-use Rattle.t1_font.proofs.MarkerLemmas.{closefile_exact}
+use Rattle.t1_font.proofs.MarkerLemmas.{subrs_marker_exact, len_iv_marker_exact, closefile_exact}
+use Rattle.t1_font.proofs.HasSubrs.{subrs_lack, lack_subrs}
 use Rattle.t1_font.proofs.ReadingLaws.{front_again}
 use Rattle.t1_font.proofs.ReadLaws.{file_sound}
 use Rattle.t1_font.proofs.ValueLaws.{notdef_is, within_of, within_again, private_again, private_enciphers, lead_length}
@@ -61,13 +63,13 @@ unfolding iv_of iv_at
 iv_is private n s = by_marker s.0 s.1 s.2
   where
     by_marker : (marker : Option ((List ℕ × Unit {0}) × List ℕ)) → MatchOption marker ((first len_iv_marker).read private ≡ None) (AtFront (first len_iv_marker) private) → (iv_at marker).Is n → IsLenIV private n
-    by_marker None m t = unsaid m (sym t)
+    by_marker None m t = unsaid (unread_lacks len_iv_marker len_iv_marker_exact private m) (sym t)
     by_marker (Some x) m t = said x.0.0 x.1 t.0.1 m (subst (λ (k : ℕ). AtFront len_iv x.1 (k, t.0.1)) t.2 t.1)
 
 pub is_iv : (private : List ℕ) (n : ℕ) → IsLenIV private n → (iv_of private).Is n
 unfolding iv_of iv_at
 is_iv private n (said front after rest a b) = (Some ((front, tt), after), a, ((n, rest), b, refl))
-is_iv private n (unsaid l e) = (None, l, sym e)
+is_iv private n (unsaid l e) = (None, lacks_unread len_iv_marker len_iv_marker_exact private l, sym e)
 
 record IsTail (middle after tail : List ℕ) : Type 0 where
   front : List ℕ
@@ -75,7 +77,7 @@ record IsTail (middle after tail : List ℕ) : Type 0 where
   rest : List ℕ
   close : AtFront (first closefile) after ((front, own), rest)
   tail_is : tail ≡ front ++ own
-  single : (has_subrs middle ≡ false) × (has_subrs tail ≡ false)
+  single : Lacks subrs_marker middle × Lacks subrs_marker tail
 
 tail_is : (middle after tail : List ℕ) → (tail_after middle after).Is tail → IsTail middle after tail
 unfolding tail_after
@@ -89,7 +91,7 @@ tail_is middle after tail s =
       rest = end.1;
       close = s.2.2.1;
       tail_is = sym s.2.2.2;
-      single = (both.0, ap has_subrs (sym (ap (λ o. through o after) same ∙ s.2.2.2)) ∙ both.1);
+      single = (subrs_lack middle both.0, subrs_lack tail (ap has_subrs (sym (ap (λ o. through o after) same ∙ s.2.2.2)) ∙ both.1));
     }
   where
     one_close : (close : Option ((List ℕ × List ℕ) × List ℕ)) → MatchOption close ((first closefile).read after ≡ None) (AtFront (first closefile) after) → close ≡ Some s.2.2.0
@@ -101,7 +103,7 @@ unfolding tail_after
 is_tail middle after tail s = (
   Some ((s.front, s.own), s.rest),
   s.close,
-  (tt, rw (s.single.0, ap has_subrs (sym s.tail_is) ∙ s.single.1) refl, (((s.front, s.own), s.rest), s.close, sym s.tail_is)),
+  (tt, rw (lack_subrs middle s.single.0, ap has_subrs (sym s.tail_is) ∙ lack_subrs tail s.single.1) refl, (((s.front, s.own), s.rest), s.close, sym s.tail_is)),
 )
 
 glyphs_are : (text private : List ℕ) (subrs : Option SubrsPieces) (middle : List ℕ) (iv : ℕ) (rest : List ℕ) (p : PrivatePieces) → SpellsTables text (record p { private = private; len_iv = iv; subrs = subrs; middle = middle }) subrs rest → IsLenIV private iv
@@ -133,7 +135,7 @@ with_subrs text chars marker p a s =
 -- what the first markers make of a private text is what the start of its tables makes of it
 pub by_start : (text : List ℕ) (C : Option ((List ℕ × ℕ) × List ℕ) → Type 0) (X : Type 0) (chars : (List ℕ × Unit {0}) × List ℕ) (marker : Option ((List ℕ × ℕ) × List ℕ)) → AtFront (first chars_marker) text chars → MatchOption marker ((first subrs_marker).read text ≡ None) (AtFront (first subrs_marker) text)
     → C (before_place (length chars.0.0) marker) → (Start text chars.0.0 None chars.1 → C None → X) → ((x : (List ℕ × ℕ) × List ℕ) → Start text x.0.0 (Some x.0.1) x.1 → C (Some x) → X) → X
-by_start text C X chars None a m t f g = f (a, nowhere m) t
+by_start text C X chars None a m t f g = f (a, nowhere (unread_lacks subrs_marker subrs_marker_exact text m)) t
 by_start text C X chars (Some x) a m t f g = elim (cases_Bool (ltb (length x.0.0) (length chars.0.0))) [
   | inl lt ↦ let u : C (Some x) = rw lt at t in g x (chars.0.0, chars.1, a, m, ltb-true _ _ lt) u
   | inr ge ↦ let u : C None = rw ge at t in f (a, later x.0.0 x.0.1 x.1 m (ltb-false _ _ ge)) u
@@ -147,7 +149,7 @@ private_is text p s = by_start text (λ o. (tables_from text s.0 o).Is p) (IsPri
 pub start_none : (text private rest : List ℕ) (C : (List ℕ × Unit {0}) × List ℕ → Option ((List ℕ × ℕ) × List ℕ) → Type 0) → Start text private None rest → C ((private, tt), rest) None
     → (chars : (List ℕ × Unit {0}) × List ℕ) × AtFront (first chars_marker) text chars × ((marker : Option ((List ℕ × ℕ) × List ℕ)) × MatchOption marker ((first subrs_marker).read text ≡ None) (AtFront (first subrs_marker) text) × C chars (before_place (length chars.0.0) marker))
 start_none text private rest C h c = elim h.1 [
-  | nowhere l ↦ (((private, tt), rest), h.0, (None, l, c))
+  | nowhere l ↦ (((private, tt), rest), h.0, (None, lacks_unread subrs_marker subrs_marker_exact text l, c))
   | later front declared after a ge ↦ (((private, tt), rest), h.0, (Some ((front, declared), after), a, rw (le-ltb (length front) (length private) ge) c))
 ]
 

@@ -10,7 +10,7 @@ use Rattle.std.proofs.lemmas.Bool.{cases_Bool, leb-true, and_parts, or_parts, no
 use Rattle.t1_bytes.specs.Grammar.{Grammar, pure, ◌>>=◌, ◌>>◌, before, Stops, NoneIn, first, first_at, fixed}
 use Rattle.t1_bytes.specs.White.{is_white, gap}
 use Rattle.t1_bytes.specs.Eexec.{eexec_marker, blank_comes, cipher_text}
-use Rattle.t1_bytes.proofs.Grammars.{first_exact}
+use Rattle.t1_bytes.proofs.Grammars.{first_exact, unspelled}
 use Rattle.t1_bytes.proofs.Places.{prepend}
 use Rattle.t1_bytes.proofs.EexecLemmas.{eexec_exact}
 use Rattle.t1_font.specs.Words.{is_regular, is_delimiter, is_digit}
@@ -47,7 +47,7 @@ no_eexec bytes h = rw (fixed_strip (codes "currentfile") bytes, h) refl
 
 pub free_none : (text after : List ℕ) → is_free (codes "currentfile") text ≡ true → NoneIn eexec_marker text after
 free_none [] after h = tt
-free_none (b ∷ text) after h = let both = and_parts (differs (codes "currentfile") (b ∷ text)) (is_free (codes "currentfile") text) h in (no_eexec (b ∷ (text ++ after)) (differs_strip (codes "currentfile") (b ∷ text) after both.0), free_none text after both.1)
+free_none (b ∷ text) after h = let both = and_parts (differs (codes "currentfile") (b ∷ text)) (is_free (codes "currentfile") text) h in (unspelled eexec_marker eexec_exact (b ∷ (text ++ after)) (no_eexec (b ∷ (text ++ after)) (differs_strip (codes "currentfile") (b ∷ text) after both.0)), free_none text after both.1)
 
 -- ---- a word and a blank
 
@@ -84,7 +84,7 @@ no_marker_at t b rest a w e = elim (strip_word (codes "currentfile") (refl, (ref
 
 pub word_none : (w : List ℕ) (b : ℕ) (rest : List ℕ) → AllRegular w → is_white b ≡ false → eqb 101 b ≡ false → NoneIn eexec_marker w (32 ∷ (b ∷ rest))
 word_none [] b rest a w e = tt
-word_none (c ∷ t) b rest a w e = (no_marker_at (c ∷ t) b rest a w e, word_none t b rest a.1 w e)
+word_none (c ∷ t) b rest a w e = (unspelled eexec_marker eexec_exact (c ∷ (t ++ (32 ∷ (b ∷ rest)))) (no_marker_at (c ∷ t) b rest a w e), word_none t b rest a.1 w e)
 
 -- ---- the Encoding
 
@@ -93,7 +93,7 @@ digit_none [] after h = tt
 digit_none (b ∷ w) after h =
     let low : b ≤ 57 = leb-true b 57 (and_parts (leb 48 b) (leb b 57) h.0).1 in
     let other : eqb 99 b ≡ false = ne_eqb 99 b (λ e. omega arith) in
-    (no_eexec (b ∷ (w ++ after)) (rw other refl), digit_none w after h.1)
+    (unspelled eexec_marker eexec_exact (b ∷ (w ++ after)) (no_eexec (b ∷ (w ++ after)) (rw other refl)), digit_none w after h.1)
 
 pub digits_none : (n : ℕ) (after : List ℕ) → n < 2 ^ 64 → NoneIn eexec_marker (digits n) after
 digits_none n after h = digit_none (digits n) after (digits_are n h).made
@@ -145,7 +145,7 @@ eexec_found head encoding tail v none ok ends border =
     let more : first_at eexec_marker ((tail ++ 10 ∷ []) ++ v) ≡ Some (f.0.0, f.0.1 ++ v) = first_grows eexec_marker v (eexec_within [] v tt border.white nil_foreign border.current nil_second border.eexec (sym border.blank)) (tail ++ 10 ∷ []) f.0 f.1 in
     let in_head : NoneIn eexec_marker head (e ++ ((tail ++ 10 ∷ []) ++ v)) = subst (λ (u : List ℕ). NoneIn eexec_marker head (u ++ ((tail ++ 10 ∷ []) ++ v))) (sym slash.1) (eexec_moves head [] (slash.0 ++ ((tail ++ 10 ∷ []) ++ v)) none) in
     let clear : first_at eexec_marker (head ++ (e ++ ((tail ++ 10 ∷ []) ++ v))) ≡ prepend head (prepend e (Some (f.0.0, f.0.1 ++ v))) =
-    past_none eexec_marker head (e ++ ((tail ++ 10 ∷ []) ++ v)) in_head ∙ ap (prepend head) (past_none eexec_marker e ((tail ++ 10 ∷ []) ++ v) (encoding_none encoding _ ok) ∙ ap (prepend e) more) in
+    past_none eexec_marker eexec_exact head (e ++ ((tail ++ 10 ∷ []) ++ v)) in_head ∙ ap (prepend head) (past_none eexec_marker eexec_exact e ((tail ++ 10 ∷ []) ++ v) (encoding_none encoding _ ok) ∙ ap (prepend e) more) in
     let regrouped : (head ++ (e ++ tail)) ++ (10 ∷ v) ≡ head ++ (e ++ ((tail ++ 10 ∷ []) ++ v)) = simp append_assoc in
     (((head ++ (e ++ f.0.0.0), f.0.0.1), f.0.1 ++ v), ap (first_at eexec_marker) regrouped ∙ clear, ap (λ (u : List ℕ). u ++ v) f.2)
 

@@ -4,7 +4,7 @@ use Rattle.std.specs.List.{list_any}
 use Rattle.std.specs.Str.{bytes_eq}
 use Rattle.t1_bytes.specs.Grammar.{Table}
 use Rattle.t1_font.specs.declared.fault.TableError.{TableError}
-use Rattle.t1_font.specs.FontValue.{Numbered, Named, name_cmp, notdef, count_limit}
+use Rattle.t1_font.specs.FontValue.{Numbered, Named, notdef, count_limit}
 use Rattle.t1_font.specs.Entries.{map_of}
 use Rattle.t1_font.specs.Entry.{Entry, plain_entries}
 use Rattle.t1_font.specs.Subrs.{Subr}

@@ -5,11 +5,11 @@ use Rattle.std.specs.Option.{option_map}
 use Rattle.std.specs.Str.{bytes_eq}
 use Rattle.std.specs.FinMap.{get, contains_key, len, entries}
 use Rattle.t1_bytes.specs.Laws.{AreBytes}
-use Rattle.t1_bytes.specs.Grammar.{Grammar, first, NoneIn, Stops}
+use Rattle.t1_bytes.specs.Grammar.{Grammar, first, NoneIn, Stops, Lacks}
 use Rattle.t1_bytes.specs.Eexec.{eexec_marker}
 use Rattle.t1_font.specs.Words.{is_regular, phrase_of, passes}
 use Rattle.t1_font.specs.Markers.{encoding_marker, subrs_marker, chars_marker, closefile}
-use Rattle.t1_font.specs.Pieces.{iv_of, has_subrs}
+use Rattle.t1_font.specs.Pieces.{iv_of}
 use Rattle.t1_font.specs.FontValue.{FontValue, Shell, SubrsShell, Encoding, Word, Codes, Numbered, Named, notdef, count_limit, weight_limit, weight}
 
 -- ---- words
@@ -33,7 +33,7 @@ pub record IsCharstring (iv : ℕ) (c : List ℕ) : Type 0 where
 
 -- ---- the shell
 
--- the marker g can be read nowhere in the text, where a slash stands behind it
+-- the marker g stands at no place of the text, where a slash stands behind it
 abbrev pub NoMarker : {A : Type 0} → Grammar A → List ℕ → Type 0
 NoMarker g text = NoneIn g text (47 ∷ [])
 
@@ -51,9 +51,9 @@ pub record IsPrivateShell (s : Shell) : Type 0 where
   pub no_chars : NoMarker chars_marker s.private
   pub middle_apart : Stops is_regular s.middle
   pub middle_chars : NoMarker chars_marker s.middle
-  pub middle_subrs : has_subrs s.middle ≡ false
+  pub middle_subrs : Lacks subrs_marker s.middle
   pub tail_apart : Stops is_regular s.tail
-  pub tail_subrs : has_subrs s.tail ≡ false
+  pub tail_subrs : Lacks subrs_marker s.tail
   pub tail_ends : option_map (λ x. x.1) ((first closefile).read s.tail) ≡ Some []
 
 -- the five kept texts are bytes

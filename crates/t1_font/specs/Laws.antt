@@ -9,11 +9,12 @@ use Rattle.t1_font.specs.Entries.{map_of, names_of, last_value, unless_notdef}
 use Rattle.t1_font.specs.ReadFont.{read_font}
 use Rattle.t1_font.specs.Spelling.{Spells}
 use Rattle.t1_font.specs.Reasons.{Reason}
-use Rattle.t1_font.specs.Words.{word, keyword, decimal, name, phrase_of}
+use Rattle.t1_font.specs.Words.{one_white, word, keyword, decimal, name, phrase_of}
 use Rattle.t1_font.specs.Markers.{encoding_marker, subrs_marker, chars_marker, len_iv_marker, len_iv, closefile}
-use Rattle.t1_font.specs.Encoding.{encoding_start, code_entry, encoding_end}
-use Rattle.t1_font.specs.Glyphs.{glyph, glyphs_end}
-use Rattle.t1_font.specs.Subrs.{subr, subrs_end}
+use Rattle.t1_font.specs.Encoding.{encoding_word, encoding_table, encoding_loop, encoding_start, octal, code, code_entry, encoding_end}
+use Rattle.t1_font.specs.Glyphs.{glyph_key, glyph, glyphs_end}
+use Rattle.t1_font.specs.Entry.{length_from, body}
+use Rattle.t1_font.specs.Subrs.{subr_key, subr, subrs_end}
 
 -- what is read of each part of the grammar is what is spelled, and the other way round
 pub record ReadsAsSpelled : Type 0 where
@@ -22,18 +23,33 @@ pub record ReadsAsSpelled : Type 0 where
   pub numbers : IsExact decimal
   pub names : IsExact name
   pub phrases : (test : List ℕ → Bool) → IsExact (phrase_of test)
+  pub blanks : IsExact one_white
+  pub encoding_markers : IsExact encoding_marker
   pub encodings : IsExact (first encoding_marker)
+  pub encoding_words : IsExact encoding_word
+  pub encoding_tables : IsExact encoding_table
+  pub encoding_loops : IsExact encoding_loop
   pub starts : IsExact encoding_start
+  pub octals : IsExact octal
+  pub code_numbers : IsExact code
   pub codes : IsExact code_entry
   pub encoding_ends : IsExact encoding_end
+  pub len_iv_markers : IsExact len_iv_marker
   pub lenIVs : IsExact (first len_iv_marker)
   pub lead_counts : IsExact len_iv
+  pub subrs_markers : IsExact subrs_marker
   pub tables : IsExact (first subrs_marker)
+  pub lengths : (iv : ℕ) → IsExact (length_from iv)
+  pub bodies : (iv : ℕ) → IsExact (body iv)
+  pub subr_keys : (declared : ℕ) → IsExact (subr_key declared)
   pub subrs : (declared iv : ℕ) → IsExact (subr declared iv)
   pub subrs_ends : IsExact subrs_end
+  pub chars_markers : IsExact chars_marker
   pub charstrings : IsExact (first chars_marker)
+  pub glyph_keys : IsExact glyph_key
   pub glyphs : (iv : ℕ) → IsExact (glyph iv)
   pub glyphs_ends : IsExact glyphs_end
+  pub close_markers : IsExact closefile
   pub closes : IsExact (first closefile)
 
 -- what is read is what the file spells

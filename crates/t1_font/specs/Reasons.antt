@@ -1,17 +1,17 @@
 -- Why a file spells no font: the first row whose condition holds. Each row names the pieces that were spelled before it.
-use Rattle.std.specs.Prelude.{◌≡◌, ◌⊎◌, ℕ, ◌-◌, ◌≤◌, ◌<◌, true, false, List, length, Option, Some, None}
+use Rattle.std.specs.Prelude.{◌≡◌, ◌⊎◌, ℕ, ◌-◌, ◌≤◌, ◌<◌, true, false, List, ◌++◌, length, Option, Some, None}
 use Rattle.std.specs.FinMap as maps
-use Rattle.t1_bytes.specs.Grammar.{first, BreaksOff, AtFront, Lacks}
+use Rattle.t1_bytes.specs.Grammar.{first, BreaksOff, AtFront, NotAtFront, Has, Lacks}
 use Rattle.t1_bytes.specs.Segments.{IsFlat, IsBad}
 use Rattle.t1_bytes.specs.Eexec.{eexec_marker, cipher_text}
 use Rattle.t1_font.specs.declared.fault.ReadFault.{ReadFault}
 use Rattle.t1_font.specs.declared.fault.ReadFault.TheVariants.{TooLong, BadSegment, NoEexec, ShortCipher, NoEncoding, BadEncoding, NoCharStrings, BadLenIV, BadSubrs, BadGlyphs, Hybrid, NoClosefile, NoNotdef, Limit, Memory}
 use Rattle.t1_font.specs.Faults.{left_after_white}
 use Rattle.t1_font.specs.Subrs.{Subr, subr, subrs_end}
-use Rattle.t1_font.specs.Markers.{encoding_marker, chars_marker, len_iv_marker, len_iv, closefile}
+use Rattle.t1_font.specs.Markers.{encoding_marker, subrs_marker, chars_marker, len_iv_marker, len_iv, closefile}
 use Rattle.t1_font.specs.Encoding.{encoding_start, code_entry, encoding_end}
 use Rattle.t1_font.specs.Glyphs.{glyph, glyphs_end}
-use Rattle.t1_font.specs.Pieces.{ClearPieces, PrivatePieces, has_subrs, through}
+use Rattle.t1_font.specs.Pieces.{ClearPieces, PrivatePieces}
 use Rattle.t1_font.specs.FontValue.{notdef, file_limit, IsWithin}
 use Rattle.t1_font.specs.ReadFont.{font_of}
 use Rattle.t1_font.specs.Spelling.{TableAt, IsClear, IsLenIV, Start, HasTables, HasGlyphs, Texts, HasPieces}
@@ -19,12 +19,12 @@ use Rattle.t1_font.specs.Spelling.{TableAt, IsClear, IsLenIV, Start, HasTables, 
 -- a flat text that can't be cut
 abbrev pub CutFails : List ℕ → ReadFault → Type 0
 CutFails flat NoEexec = Lacks eexec_marker flat
-CutFails flat ShortCipher = (front own after : List ℕ) × AtFront (first eexec_marker) flat ((front, own), after) × (cipher_text.read after ≡ None)
+CutFails flat ShortCipher = (front own after : List ℕ) × AtFront (first eexec_marker) flat ((front, own), after) × NotAtFront cipher_text after
 CutFails flat e = ⊥
 
 -- neither form of the Encoding begins after its marker
 abbrev pub NoFormAt : List ℕ → ℕ → Type 0
-NoFormAt clear at = (head after : List ℕ) × AtFront (first encoding_marker) clear ((head, tt), after) × (encoding_start.read after ≡ None) × (at ≡ length head)
+NoFormAt clear at = (head after : List ℕ) × AtFront (first encoding_marker) clear ((head, tt), after) × NotAtFront encoding_start after × (at ≡ length head)
 
 -- the entries of the Encoding break off
 abbrev pub BadPutAt : List ℕ → ℕ → Type 0
@@ -37,7 +37,7 @@ ClearFails clear e = ⊥
 
 -- the first `/lenIV` isn't followed by a lenIV
 abbrev pub BadIV : List ℕ → Type 0
-BadIV private = (front after : List ℕ) × AtFront (first len_iv_marker) private ((front, tt), after) × (len_iv.read after ≡ None)
+BadIV private = (front after : List ℕ) × AtFront (first len_iv_marker) private ((front, tt), after) × NotAtFront len_iv after
 
 -- the entries of Subrs break off
 abbrev pub BadSubrsAt : List ℕ → ℕ → Type 0
@@ -51,9 +51,13 @@ NoneAfterSubrs text at = (private after between closing : List ℕ) × (declared
 abbrev pub BadGlyphsAt : List ℕ → ℕ → Type 0
 BadGlyphsAt text at = (p : PrivatePieces) × (start left : List ℕ) × HasTables text p start × BreaksOff (glyph p.len_iv) glyphs_end start left × (at ≡ length text - left_after_white left)
 
--- a Subrs marker in the middle, or after the glyphs up to the first `closefile` or the end
+-- a Subrs marker in the text that the first `closefile` ends
+abbrev pub SubrsInTail : List ℕ → Type 0
+SubrsInTail after = (front own rest : List ℕ) × AtFront (first closefile) after ((front, own), rest) × Has subrs_marker (front ++ own)
+
+-- a Subrs marker in the middle, or after the glyphs: in the text that the first `closefile` ends, or anywhere where there is none
 abbrev pub IsHybrid : List ℕ → List ℕ → Type 0
-IsHybrid middle after = (has_subrs middle ≡ true) ⊎ (has_subrs (through ((first closefile).read after) after) ≡ true)
+IsHybrid middle after = Has subrs_marker middle ⊎ (SubrsInTail after ⊎ (Lacks closefile after × Has subrs_marker after))
 
 abbrev pub PrivateFails : List ℕ → ReadFault → Type 0
 PrivateFails text NoCharStrings = Lacks chars_marker text
@@ -61,7 +65,7 @@ PrivateFails text BadLenIV = (private after : List ℕ) × (declared : Option �
 PrivateFails text (BadSubrs at) = BadSubrsAt text at
 PrivateFails text (BadGlyphs at) = NoneAfterSubrs text at ⊎ BadGlyphsAt text at
 PrivateFails text Hybrid = (p : PrivatePieces) × (after : List ℕ) × HasGlyphs text p after × IsHybrid p.middle after
-PrivateFails text NoClosefile = (p : PrivatePieces) × (after : List ℕ) × HasGlyphs text p after × (has_subrs p.middle ≡ false) × (has_subrs after ≡ false) × Lacks closefile after
+PrivateFails text NoClosefile = (p : PrivatePieces) × (after : List ℕ) × HasGlyphs text p after × Lacks subrs_marker p.middle × Lacks subrs_marker after × Lacks closefile after
 PrivateFails text e = ⊥
 
 abbrev pub FontFails : ClearPieces → PrivatePieces → ReadFault → Type 0

@@ -1,5 +1,5 @@
 -- Which font a file spells: each piece is a text of its grammar, and each marker is the first of its kind.
-use Rattle.std.specs.Prelude.{◌≡◌, ℕ, ◌≤◌, ◌<◌, true, false, List, [], ◌++◌, length, Option, Some, None}
+use Rattle.std.specs.Prelude.{◌≡◌, ℕ, ◌≤◌, ◌<◌, true, List, [], ◌++◌, length, Option, Some, None}
 use Rattle.std.specs.FinMap as maps
 use Rattle.t1_bytes.specs.Cipher.{Enciphers}
 use Rattle.t1_bytes.specs.Grammar.{Grammar, first, IsTable, AtFront, Lacks}
@@ -9,7 +9,7 @@ use Rattle.t1_font.specs.Subrs.{subr, subrs_end}
 use Rattle.t1_font.specs.Markers.{encoding_marker, subrs_marker, chars_marker, len_iv_marker, len_iv, closefile}
 use Rattle.t1_font.specs.Encoding.{encoding_start, code_entry, encoding_end}
 use Rattle.t1_font.specs.Glyphs.{glyph, glyphs_end}
-use Rattle.t1_font.specs.Pieces.{EncodingText, OneWord, Puts, ClearPieces, SubrsPieces, PrivatePieces, has_subrs}
+use Rattle.t1_font.specs.Pieces.{EncodingText, OneWord, Puts, ClearPieces, SubrsPieces, PrivatePieces}
 use Rattle.t1_font.specs.FontValue.{FontValue, notdef, file_limit, IsWithin}
 use Rattle.t1_font.specs.ReadFont.{font_of}
 
@@ -76,7 +76,7 @@ pub record IsPrivate (text : List ℕ) (p : PrivatePieces) : Type 0 where
   pub before : HasGlyphs text p after
   pub close : AtFront (first closefile) after ((front, own), rest)
   pub tail : p.tail ≡ front ++ own
-  pub single : (has_subrs p.middle ≡ false) × (has_subrs p.tail ≡ false)
+  pub single : Lacks subrs_marker p.middle × Lacks subrs_marker p.tail
 
 -- the clear text and the private text of a file
 pub record Texts (file clear text : List ℕ) : Type 0 where
