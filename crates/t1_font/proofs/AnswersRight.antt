@@ -7,7 +7,7 @@ use Rattle.t1_font.specs.ReadFont.{read_font}
 use Rattle.t1_font.specs.Reasons.{Refuses}
 use Rattle.t1_font.specs.Reading.{Reading}
 use Rattle.t1_font.specs.Answers.{Refused, Shown}
-use Rattle.t1_font.proofs.ReasonLaws.{refuses}
+use Rattle.t1_font.proofs.ReadRight.{refuses}
 
 -- the bytes of a slice are bytes
 pub bytes_of_slice : (xs : List ℕ) → ((i : ℕ) → Fits w8 (get_or xs i 0)) → AreBytes xs
@@ -15,7 +15,7 @@ bytes_of_slice [] h = tt
 bytes_of_slice (x ∷ xs) h = ((h 0).fits, bytes_of_slice xs (λ i. h (suc i)))
 
 -- what shows one reading shows another that reads the same
-pub shown_same : {X A : Type 0} (Shows : X → A → Type 0) (x : Result X ReadFault) (r s : Reading A) → r.read ≡ s.read → Shown Shows x s → Shown Shows x r
+pub shown_same : {X A : Type 0} (Shows : X → A → Type 0) (x : Result X ReadFault) (r s : Reading A) → r ≡ s → Shown Shows x s → Shown Shows x r
 shown_same Shows (Ok x) r s same h = (h.0, same ∙ h.1, h.2)
 shown_same Shows (Err e) r s same h = subst (Refused e) (sym same) h
 

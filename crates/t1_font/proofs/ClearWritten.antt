@@ -112,7 +112,7 @@ unfolding encoding_start
 start_table rest = rw (no_word (codes "0 1 255 {1 index exch /.notdef put} for" ++ (10 ∷ rest)), table_begins (codes "0 1 255 {1 index exch /.notdef put} for" ++ (10 ∷ rest)), loop_read rest) refl
 
 -- the canonical clear text, without the line end behind it
-pub clear_again : (head : List ℕ) (encoding : EncodingText) (tail : List ℕ) → NoMarker encoding_marker head → IsEncodingText encoding → Stops is_regular tail → (clear_pieces (head ++ (encoding_text encoding ++ tail))).read ≡ Ok (record { head = head; encoding = encoding; clear_tail = tail })
+pub clear_again : (head : List ℕ) (encoding : EncodingText) (tail : List ℕ) → NoMarker encoding_marker head → IsEncodingText encoding → Stops is_regular tail → clear_pieces (head ++ (encoding_text encoding ++ tail)) ≡ Ok (record { head = head; encoding = encoding; clear_tail = tail })
 unfolding clear_pieces encoding_from
 clear_again head (OneWord w) tail none h s =
     let t : List ℕ = w ++ (codes " def" ++ tail) in

@@ -1,5 +1,5 @@
 -- A flat text is cut where it is split.
-use Rattle.std.proofs.Common.{◌≡◌, ℕ, ◌≤◌, List, ◌++◌, length, take, false, Result, Ok, Err, refl, sym, ap, subst, ◌∙◌, arith}
+use Rattle.std.proofs.Common.{◌≡◌, ℕ, ◌≤◌, List, ◌++◌, length, take, false, Ok, refl, sym, ap, ◌∙◌, arith}
 use Rattle.std.proofs.lemmas.List.{length-append, take_at}
 use Rattle.std.proofs.lemmas.Bool.{leb-true}
 use Rattle.t1_bytes.specs.declared.fault.BytesFault.{BytesFault}
@@ -12,13 +12,11 @@ use Rattle.t1_bytes.proofs.Places.{lacks_unread}
 use Rattle.t1_bytes.proofs.EexecLemmas.{cipher_exact, eexec_exact, marker_own}
 use Rattle.t1_font.specs.Faults.{read_fault}
 use Rattle.t1_bytes.specs.Segments.{starts_segment}
-use Rattle.t1_font.specs.declared.fault.ReadFault.{ReadFault}
-use Rattle.t1_font.specs.Reading.{Reading}
 use Rattle.t1_font.specs.ReadFont.{flat_text, file_pieces}
-use Rattle.t1_font.specs.Answers.{Shown, Refused}
+use Rattle.t1_font.specs.Answers.{Refused}
 use Rattle.t1_font.specs.Pieces.{FlatPieces, flat_pieces}
 
-pub split_pieces : (flat : List ℕ) (at : ℕ) (cipher : List ℕ) → IsSplit flat at cipher → (p : FlatPieces) × ((flat_pieces flat).read ≡ Ok p) × ((take at flat ≡ p.clear) × (cipher ≡ p.cipher))
+pub split_pieces : (flat : List ℕ) (at : ℕ) (cipher : List ℕ) → IsSplit flat at cipher → (p : FlatPieces) × (flat_pieces flat ≡ Ok p) × ((take at flat ≡ p.clear) × (cipher ≡ p.cipher))
 unfolding flat_pieces
 split_pieces flat at cipher s =
     let m = s.first_marker in
@@ -41,7 +39,7 @@ pub split_lead : (flat : List ℕ) (at : ℕ) (cipher : List ℕ) → IsSplit fl
 unfolding cipher_text
 split_lead flat at cipher s = leb-true 4 (length cipher) s.secret.2.1
 
-pub split_fails : (flat : List ℕ) (fault : BytesFault) → OrMemory (SplitFails flat) fault → Refused (read_fault fault) (flat_pieces flat).read
+pub split_fails : (flat : List ℕ) (fault : BytesFault) → OrMemory (SplitFails flat) fault → Refused (read_fault fault) (flat_pieces flat)
 unfolding flat_pieces
 split_fails flat Memory h = tt
 split_fails flat NoEexec h = rw (lacks_unread eexec_marker eexec_exact flat h) refl
@@ -49,11 +47,6 @@ split_fails flat ShortCipher h = rw (front_again (first eexec_marker) (first_exa
 split_fails flat (BadSegment at) h = absurd h
 
 -- a file that is not in segments is its own flat text
-pub plain_pieces : (file : List ℕ) → starts_segment file ≡ false → (file_pieces file).read ≡ (flat_pieces file).read
+pub plain_pieces : (file : List ℕ) → starts_segment file ≡ false → file_pieces file ≡ flat_pieces file
 unfolding flat_text
 plain_pieces file h = rw h refl
-
--- what shows a reading shows another that reads the same
-pub shown_alike : {X A : Type 0} (Shows : X → A → Type 0) (x : Result X ReadFault) (r s : Reading A) → r.read ≡ s.read → Shown Shows x s → Shown Shows x r
-shown_alike Shows (Ok x) r s e h = (h.0, e ∙ h.1, h.2)
-shown_alike Shows (Err f) r s e h = subst (λ o. Refused f o) (sym e) h

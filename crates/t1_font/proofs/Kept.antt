@@ -16,15 +16,13 @@ use Rattle.t1_font.specs.IsFont.{IsFont, IsWord, IsCharstring, SubrsFit, SubrWor
 use Rattle.t1_font.specs.WriteLaws.{SameKind}
 use Rattle.t1_font.proofs.MapCuts.{get-map_values, entries-map_values, get-retain, get-merged, total-le, length_total, joined, Some_same, Some_None}
 use Rattle.std.specs.Cmp.Lexicographic.{nat_list_cmp_total}
-use Rattle.t1_font.proofs.ReadLaws.{iv_sound}
-use Rattle.t1_font.proofs.Readings.{is_of}
-use Rattle.t1_font.proofs.SpellingLaws.{iv_is}
+use Rattle.t1_font.proofs.ReadRight.{iv_is}
 use Rattle.t1_font.proofs.FontAgain.{name_same}
 
 -- lenIV is at most 255
-iv_small : (private : List ℕ) (iv : ℕ) → (iv_of private).read ≡ Ok iv → iv ≤ 255
+iv_small : (private : List ℕ) (iv : ℕ) → iv_of private ≡ Ok iv → iv ≤ 255
 unfolding len_iv
-iv_small private iv h = by_said (iv_is private iv (is_of (iv_of private) (iv_sound private) iv h))
+iv_small private iv h = by_said (iv_is private iv h)
   where
     by_said : IsLenIV private iv → iv ≤ 255
     by_said (said front after rest a b) = leb-true iv 255 b.2.5.1

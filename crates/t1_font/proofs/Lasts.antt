@@ -178,11 +178,11 @@ module _ {K V M X : Type 0} (f : K → M) (g : V → X) (R : K → K → Orderin
       as (λ b. comes_again R e.0 es ≡ b → fin.find S m (entries_by f g (cond b (run_ends R es) (e ∷ run_ends R es))) ≡ choice (last_value S m (entries_by f g es)) (cond (is_eq (S m (f e.0))) (Some (g e.1)) None)) [
         | true ↦ λ h. rest ∙ sym (passed_over m e es h)
         | false ↦ λ h. elim (S m (f e.0))
-          as (λ r. S m (f e.0) ≡ r → cond (is_eq r) (Some (g e.1)) (fin.find S m (entries_by f g (run_ends R es))) ≡ choice (last_value S m (entries_by f g es)) (cond (is_eq r) (Some (g e.1)) None)) [
-            | Less ↦ λ t. rest ∙ sym (choice-none _)
-            | Equal ↦ λ t. ap (λ v. choice v (Some (g e.1))) (sym (none_above m e t es (above_ends (order f R S o by) e es h up)))
-            | Greater ↦ λ t. rest ∙ sym (choice-none _)
-          ] refl
+            as (λ r. S m (f e.0) ≡ r → cond (is_eq r) (Some (g e.1)) (fin.find S m (entries_by f g (run_ends R es))) ≡ choice (last_value S m (entries_by f g es)) (cond (is_eq r) (Some (g e.1)) None)) [
+              | Less ↦ λ t. rest ∙ sym (choice-none _)
+              | Equal ↦ λ t. ap (λ v. choice v (Some (g e.1))) (sym (none_above m e t es (above_ends (order f R S o by) e es h up)))
+              | Greater ↦ λ t. rest ∙ sym (choice-none _)
+            ] refl
       ] refl
 
 module _ {K V M : Type 0} (f : K → M) (g : V → List ℕ) (R : K → K → Ordering) (S : M → M → Ordering) (o : IsTotalOrder S) (same : IsAntisymmetric S) (by : (x y : K) → R x y ≡ S (f x) (f y)) (es last : List (K × V)) (are : AreLast R es last) where

@@ -18,10 +18,8 @@ pub mod WriteAnswers
 pub mod ValueLaws
 pub mod HasSubrs
 pub mod ReadingLaws
-pub mod ReadLaws
-pub mod SpellingLaws
-pub mod ReasonLaws
-pub mod Readings
+pub mod ReadRight
+pub mod ReadAgain
 pub mod FirstPlace
 pub mod Borders
 pub mod Moves

@@ -30,8 +30,8 @@ use Rattle.t1_font.specs.Canon.{canon}
 use Rattle.t1_font.specs.IsFont.{IsWord, IsPhrase, IsPrivateShell, SubrWords, SubrsFit, AreGlyphs, IsFont, HasBytes}
 use Rattle.t1_font.proofs.MapLaws.{entries-map_of, find-last}
 use Rattle.t1_font.proofs.MarkerLemmas.{closefile_exact, close_parts}
-use Rattle.t1_font.proofs.ReadLaws.{iv_sound}
-use Rattle.t1_font.proofs.SpellingLaws.{is_iv, reads}
+use Rattle.t1_font.proofs.ReadRight.{reads}
+use Rattle.t1_font.proofs.ReadAgain.{is_iv}
 use Rattle.t1_font.proofs.ValueLaws.{notdef_is}
 use Rattle.t1_font.proofs.FontAgain.{name_same}
 use Rattle.t1_font.proofs.ByteLemmas.{has_bytes, canon_bytes}
@@ -116,7 +116,7 @@ private_of text c p s h =
     let whole : s.after ≡ p.tail ++ s.rest = close_parts s.after s.front s.own s.rest found ∙ ap (λ (u : List ℕ). u ++ s.rest) (sym s.tail) in
     record {
       shell = record {
-        iv = (iv_sound p.private).again p.len_iv (is_iv p.private p.len_iv s.before.tables.len_iv);
+        iv = is_iv p.private p.len_iv s.before.tables.len_iv;
         no_subrs = m.0.no_subrs;
         no_chars = m.0.no_chars;
         middle_apart = m.0.apart;

@@ -1,73 +1,60 @@
--- A reading reads what is, and refuses for the reason that holds.
-use Rattle.std.proofs.Common.{◌≡◌, ℕ, inl, inr, Bool, true, false, true≢false, List, Option, Some, None, Result, Ok, Err, MatchOption, MatchResult, refl, sym, ap, ◌∙◌}
-use Rattle.t1_bytes.specs.Grammar.{Grammar, Table, table_at, AtFront}
-use Rattle.t1_bytes.proofs.Grammars.{IsExact}
-use Rattle.t1_bytes.proofs.Tables.{Eats, Apart, Read, table_reads, table_again, break_again}
+-- Readings, step by step: what holds of the value that is read, and what of the fault.
+use Rattle.std.proofs.Common.{◌≡◌, ℕ, ◌-◌, Bool, true, false, List, Option, Some, None, Result, Ok, Err, MatchResult, refl, subst}
+use Rattle.t1_bytes.specs.Grammar.{Grammar, Table, table_at, BreaksOff, first, AtFront, NotAtFront, Lacks}
+use Rattle.t1_bytes.proofs.Grammars.{IsExact, first_exact, unspelled}
+use Rattle.t1_bytes.proofs.Places.{unread_lacks}
+use Rattle.t1_bytes.proofs.Tables.{Eats, Read, table_reads}
 use Rattle.t1_font.specs.declared.fault.ReadFault.{ReadFault}
-use Rattle.t1_font.specs.Reading.{Reading, if_ok, or_fault, give, ◌>>=◌, must, wanted, optional, in_table, table}
+use Rattle.t1_font.specs.Faults.{left_after_white}
+use Rattle.t1_font.specs.Reading.{Reading, or_fault, give, ◌>>=◌, must, wanted, in_table, table}
+use Rattle.t1_font.specs.Spelling.{TableAt}
 
-pub record IsSound {A : Type 0} (r : Reading A) : Type 0 where
-  pub right : MatchResult r.read r.Is r.Fails
-  pub again : (a : A) → r.Is a → r.read ≡ Ok a
-  pub refused : (e : ReadFault) → r.Fails e → r.read ≡ Err e
+-- the value that is read is so, and the fault is
+pub record Reads {A : Type 0} (r : Reading A) (Is : A → Type 0) (Fails : ReadFault → Type 0) : Type 0 where
+  pub right : MatchResult r Is Fails
 
-pub give_sound : {A : Type 0} (a : A) → IsSound (give a)
-give_sound a = record { right = refl; again = λ b s. ap (λ (x : _). Ok x) s; refused = λ e f. absurd f }
+pub value_is : {A : Type 0} {Is : A → Type 0} {Fails : ReadFault → Type 0} (r : Reading A) → Reads r Is Fails → (a : A) → r ≡ Ok a → Is a
+value_is {A} {Is} {Fails} r R a e = subst (λ (o : Result A ReadFault). MatchResult o Is Fails) e R.right
 
-pub matched : {A : Type 0} {P P' : A → Type 0} {Q Q' : ReadFault → Type 0} (o : Result A ReadFault) → ((a : A) → P a → P' a) → ((e : ReadFault) → Q e → Q' e) → MatchResult o P Q → MatchResult o P' Q'
-matched (Ok a) f g h = f a h
-matched (Err e) f g h = g e h
+pub fault_is : {A : Type 0} {Is : A → Type 0} {Fails : ReadFault → Type 0} (r : Reading A) → Reads r Is Fails → (fault : ReadFault) → r ≡ Err fault → Fails fault
+fault_is {A} {Is} {Fails} r R fault e = subst (λ (o : Result A ReadFault). MatchResult o Is Fails) e R.right
 
-pub bind_sound : {A B : Type 0} (r : Reading A) (f : A → Reading B) → IsSound r → ((a : A) → IsSound (f a)) → IsSound (r >>= f)
-bind_sound {A} {B} r f R F = record {
-  right = onward r.read R.right;
-  again = λ b s. ap (if_ok (λ a. (f a).read)) (R.again s.0 s.1) ∙ (F s.0).again b s.2;
-  refused = λ e s. elim s [
-    | inl p ↦ ap (if_ok (λ a. (f a).read)) (R.refused e p)
-    | inr p ↦ ap (if_ok (λ a. (f a).read)) (R.again p.0 p.1) ∙ (F p.0).refused e p.2
-  ];
-}
-  where
-    onward : (o : Result A ReadFault) → MatchResult o r.Is r.Fails → MatchResult (if_ok (λ a. (f a).read) o) (r >>= f).Is (r >>= f).Fails
-    onward (Ok a) h = matched (f a).read (λ b s. (a, h, s)) (λ e s. inr (a, h, s)) (F a).right
-    onward (Err e) h = inl h
+module _ {B : Type 0} {Is : B → Type 0} {Fails : ReadFault → Type 0} where
+  pub give_reads : (b : B) → Is b → Reads (give b) Is Fails
+  give_reads b s = record { right = s }
 
-pub must_sound : (fault : ReadFault) (test : Bool) → IsSound (must fault test)
-must_sound fault true = record { right = refl; again = λ _ s. refl; refused = λ e f. absurd (true≢false f.0) }
-must_sound fault false = record { right = (refl, refl); again = λ _ s. absurd (true≢false (sym s)); refused = λ e f. ap (λ (x : ReadFault). Err x) (sym f.1) }
+  -- in other words
+  pub reads_as : {P : B → Type 0} {Q : ReadFault → Type 0} (r : Reading B) → Reads r P Q → ((b : B) → P b → Is b) → ((e : ReadFault) → Q e → Fails e) → Reads r Is Fails
+  reads_as (Ok b) R on_value on_fault = record { right = on_value b R.right }
+  reads_as (Err e) R on_value on_fault = record { right = on_fault e R.right }
 
-pub front_again : {A : Type 0} (g : Grammar A) → IsExact g → (bytes : List ℕ) (x : A × List ℕ) → AtFront g bytes x → g.read bytes ≡ Some x
-front_again g G bytes x s = ap g.read s.1 ∙ G.again x.0 s.0 x.1 s.2
+  -- one after another
+  pub reads_then : {A : Type 0} {P : A → Type 0} {Q : ReadFault → Type 0} (r : Reading A) (f : A → Reading B) → Reads r P Q → ((a : A) → P a → Reads (f a) Is Fails) → ((e : ReadFault) → Q e → Fails e) → Reads (r >>= f) Is Fails
+  reads_then (Ok a) f R on_value on_fault = on_value a R.right
+  reads_then (Err e) f R on_value on_fault = record { right = on_fault e R.right }
 
-pub wanted_sound : {A : Type 0} (fault : ReadFault) (g : Grammar A) → IsExact g → (bytes : List ℕ) → IsSound (wanted fault g bytes)
-wanted_sound {A} fault g G bytes = record {
-  right = by_read (g.read bytes) refl;
-  again = λ x s. ap (or_fault fault) (front_again g G bytes x s);
-  refused = λ e f. ap (or_fault fault) f.0 ∙ ap (λ (x : ReadFault). Err x) (sym f.1);
-}
-  where
-    by_read : (o : Option (A × List ℕ)) → g.read bytes ≡ o → MatchResult (or_fault fault o) (AtFront g bytes) (λ e. (g.read bytes ≡ None) × (e ≡ fault))
-    by_read (Some x) e = G.takes bytes x e
-    by_read None e = (e, refl)
+  pub must_then : (fault : ReadFault) (test : Bool) (f : Unit {0} → Reading B) → (test ≡ true → Reads (f tt) Is Fails) → (test ≡ false → Fails fault) → Reads (must fault test >>= f) Is Fails
+  must_then fault true f on_value on_fault = on_value refl
+  must_then fault false f on_value on_fault = record { right = on_fault refl }
 
-pub optional_sound : {A : Type 0} (g : Grammar A) → IsExact g → (bytes : List ℕ) → IsSound (optional g bytes)
-optional_sound {A} g G bytes = record { right = by_read (g.read bytes) refl; again = by_value; refused = λ e f. absurd f }
-  where
-    by_read : (o : Option (A × List ℕ)) → g.read bytes ≡ o → MatchOption o (g.read bytes ≡ None) (AtFront g bytes)
-    by_read (Some x) e = G.takes bytes x e
-    by_read None e = e
+  pub wanted_then : {A : Type 0} (fault : ReadFault) (g : Grammar A) → IsExact g → (bytes : List ℕ) (f : A × List ℕ → Reading B) → ((x : A × List ℕ) → AtFront g bytes x → Reads (f x) Is Fails) → (NotAtFront g bytes → Fails fault) → Reads (wanted fault g bytes >>= f) Is Fails
+  wanted_then {A} fault g G bytes f on_value on_fault = by_read (g.read bytes) refl
+    where
+      by_read : (o : Option (A × List ℕ)) → g.read bytes ≡ o → Reads (or_fault fault o >>= f) Is Fails
+      by_read (Some x) e = on_value x (G.takes bytes x e)
+      by_read None e = record { right = on_fault (unspelled g G bytes e) }
 
-    by_value : (o : Option (A × List ℕ)) → MatchOption o (g.read bytes ≡ None) (AtFront g bytes) → (optional g bytes).read ≡ Ok o
-    by_value (Some x) s = ap (λ (y : Option (A × List ℕ)). Ok y) (front_again g G bytes x s)
-    by_value None s = ap (λ (y : Option (A × List ℕ)). Ok y) s
+  pub first_then : {A : Type 0} (fault : ReadFault) (g : Grammar A) → IsExact g → (bytes : List ℕ) (f : (List ℕ × A) × List ℕ → Reading B) → ((x : (List ℕ × A) × List ℕ) → AtFront (first g) bytes x → Reads (f x) Is Fails) → (Lacks g bytes → Fails fault) → Reads (wanted fault (first g) bytes >>= f) Is Fails
+  first_then {A} fault g G bytes f on_value on_fault = by_read ((first g).read bytes) refl
+    where
+      by_read : (o : Option ((List ℕ × A) × List ℕ)) → (first g).read bytes ≡ o → Reads (or_fault fault o >>= f) Is Fails
+      by_read (Some x) e = on_value x ((first_exact g G).takes bytes x e)
+      by_read None e = record { right = on_fault (unread_lacks g G bytes e) }
 
-pub table_sound : {A B : Type 0} (bad : ℕ → ReadFault) (len : ℕ) (entry : Grammar A) (close : Grammar B) → IsExact entry → IsExact close → Eats entry → Apart entry close → (bytes : List ℕ) → IsSound (table bad len entry close bytes)
-table_sound {A} {B} bad len entry close E C eats apart bytes = record {
-  right = by_table (table_at entry close bytes) (table_reads entry close E C eats bytes);
-  again = λ x s. ap (in_table bad len) (ap (table_at entry close) s.1 ∙ table_again entry close E C eats apart x.0 x.1 s.0 x.2 s.2);
-  refused = λ e s. ap (in_table bad len) (break_again entry close E C eats apart bytes s.0 s.1) ∙ ap (λ (x : ReadFault). Err x) (sym s.2);
-}
-  where
-    by_table : (t : Table A B) → Read entry close bytes t → MatchResult (in_table bad len t) (table bad len entry close bytes).Is (table bad len entry close bytes).Fails
-    by_table (Ok x) r = r
-    by_table (Err left) r = (left, r, refl)
+  pub table_then : {A C : Type 0} (bad : ℕ → ReadFault) (len : ℕ) (entry : Grammar A) (close : Grammar C) → IsExact entry → IsExact close → Eats entry → (bytes : List ℕ) (f : List A × C × List ℕ → Reading B)
+      → ((x : List A × C × List ℕ) → TableAt entry close x.0 x.1 bytes x.2 → Reads (f x) Is Fails) → ((left : List ℕ) → BreaksOff entry close bytes left → Fails (bad (len - left_after_white left))) → Reads (table bad len entry close bytes >>= f) Is Fails
+  table_then {A} {C} bad len entry close E X eats bytes f on_value on_fault = by_table (table_at entry close bytes) (table_reads entry close E X eats bytes)
+    where
+      by_table : (t : Table A C) → Read entry close bytes t → Reads (in_table bad len t >>= f) Is Fails
+      by_table (Ok x) r = on_value x r
+      by_table (Err left) r = record { right = on_fault left r }

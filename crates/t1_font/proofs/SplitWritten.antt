@@ -165,7 +165,7 @@ line_skipped : (v : List ℕ) → cipher_text.read (10 ∷ v) ≡ cipher_text.re
 unfolding cipher_text
 line_skipped v = rw one-add refl
 
-pub split_again : (clear v cipher rest : List ℕ) (x : (List ℕ × List ℕ) × List ℕ) → first_at eexec_marker (clear ++ (10 ∷ v)) ≡ Some x → x.1 ≡ 10 ∷ v → cipher_text.read v ≡ Some (cipher, rest) → (flat_pieces (clear ++ (10 ∷ v))).read ≡ Ok (record { clear = clear; cipher = cipher })
+pub split_again : (clear v cipher rest : List ℕ) (x : (List ℕ × List ℕ) × List ℕ) → first_at eexec_marker (clear ++ (10 ∷ v)) ≡ Some x → x.1 ≡ 10 ∷ v → cipher_text.read v ≡ Some (cipher, rest) → flat_pieces (clear ++ (10 ∷ v)) ≡ Ok (record { clear = clear; cipher = cipher })
 unfolding flat_pieces
 split_again clear v cipher rest x e after c =
     let s = (first_exact eexec_marker eexec_exact).takes (clear ++ (10 ∷ v)) x e in

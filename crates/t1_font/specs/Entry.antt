@@ -11,6 +11,7 @@ pub record Body : Type 0 where
   pub bytes : List ℕ
   pub phrase : List ℕ
 
+-- a key, and what stands behind it
 pub record Entry (K : Type 0) : Type 0 where
   pub key : K
   pub body : Body

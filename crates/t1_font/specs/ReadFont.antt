@@ -1,10 +1,10 @@
 -- Reading a font file.
-use Rattle.std.specs.Prelude.{◌≡◌, ℕ, ◌&&◌, nat_le, Bool, List, [], ◌∷◌, length, Option, Some, None, Result, Ok, Err}
+use Rattle.std.specs.Prelude.{ℕ, ◌&&◌, nat_le, Bool, List, [], ◌∷◌, length, Option, Some, None, Result, Ok, Err}
 use Rattle.std.specs.List.{list_any}
 use Rattle.std.specs.Str.{bytes_eq}
 use Rattle.std.specs.Ordering.{nat_cmp}
 use Rattle.std.specs.Option.{option_map}
-use Rattle.t1_bytes.specs.Segments.{IsFlat, IsBad, flat_of}
+use Rattle.t1_bytes.specs.Segments.{flat_of}
 use Rattle.t1_bytes.specs.Cipher.{private_text}
 use Rattle.t1_font.specs.declared.fault.ReadFault.{ReadFault}
 use Rattle.t1_font.specs.declared.fault.ReadFault.TheVariants.{TooLong, BadSegment, NoNotdef, Limit}
@@ -71,7 +71,7 @@ bad_segment (Ok flat) = Ok flat
 bad_segment (Err at) = Err (BadSegment at)
 
 unfoldable pub flat_text : List ℕ → Reading (List ℕ)
-flat_text file = record { Is = IsFlat file; Fails = λ e. (at : ℕ) × IsBad file at × (e ≡ BadSegment at); read = bad_segment (flat_of file) }
+flat_text file = bad_segment (flat_of file)
 
 -- the clear text of a file, and its cipher
 abbrev pub file_pieces : List ℕ → Reading FlatPieces
@@ -108,4 +108,4 @@ font_file file = do
 
 -- the font of a file, or the first fault that applies
 abbrev pub read_font : List ℕ → Result FontValue ReadFault
-read_font file = (font_file file).read
+read_font file = font_file file

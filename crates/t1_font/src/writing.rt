@@ -84,13 +84,7 @@ fn put_subr(
 {
     out.extend_from_slice(b"\ndup ")?;
     put_number(out, index as usize)?;
-    put_body(
-        out,
-        plain,
-        len_iv,
-        kept.rd.as_slice(),
-        kept.put.as_slice(),
-    )?;
+    put_body(out, plain, len_iv, kept.rd.as_slice(), kept.put.as_slice())?;
     Ok(())
 }
 
@@ -115,11 +109,7 @@ fn put_subrs(
 }
 
 /// Writes the table of Subrs where there is one.
-fn put_table(
-    out: &mut Vec<u8>,
-    shell: &KeptShell,
-    subrs: &Numbered<'_>,
-) -> Result<(), AllocError>
+fn put_table(out: &mut Vec<u8>, shell: &KeptShell, subrs: &Numbered<'_>) -> Result<(), AllocError>
     ensures { OnOk result (out.new.items ≡ out.old.items ++ subrs_part (option_map (subrs_pieces shell.now.len_iv (fin.entries subrs.now)) (shell_view shell.now).subrs)) }
 {
     match &shell.subrs {
@@ -153,11 +143,7 @@ fn put_glyph(
 }
 
 /// Writes the table of glyphs.
-fn put_glyphs(
-    out: &mut Vec<u8>,
-    shell: &KeptShell,
-    glyphs: &Named<'_>,
-) -> Result<(), AllocError>
+fn put_glyphs(out: &mut Vec<u8>, shell: &KeptShell, glyphs: &Named<'_>) -> Result<(), AllocError>
     ensures { OnOk result (out.new.items ≡ out.old.items ++ glyphs_part (map (glyph_entry (shell_view shell.now)) (fin.entries glyphs.now))) }
 {
     out.extend_from_slice(b"/CharStrings ")?;
@@ -186,10 +172,7 @@ fn put_codes(out: &mut Vec<u8>, names: &Numbered<'_>) -> Result<(), AllocError>
 }
 
 /// Writes the Encoding.
-fn put_encoding(
-    out: &mut Vec<u8>,
-    encoding: &LentEncoding<'_>,
-) -> Result<(), AllocError>
+fn put_encoding(out: &mut Vec<u8>, encoding: &LentEncoding<'_>) -> Result<(), AllocError>
     ensures { OnOk result (out.new.items ≡ out.old.items ++ encoding_text (encoding_pieces (encoding_of encoding.now))) }
 {
     out.extend_from_slice(b"/Encoding ")?;
@@ -262,7 +245,10 @@ fn pfa(alloc: Global, clear: &[u8], cipher: &[u8]) -> Result<Vec<u8>, AllocError
     ensures { IfOk result (λ v. v.items ≡ file_text Pfa clear.now cipher.now) }
 {
     // Two digits and a part of the end of a line for each byte.
-    let lines = cipher.len().saturating_mul(2).saturating_add(cipher.len() / 32);
+    let lines = cipher
+        .len()
+        .saturating_mul(2)
+        .saturating_add(cipher.len() / 32);
     let room = clear
         .len()
         .saturating_add(lines)

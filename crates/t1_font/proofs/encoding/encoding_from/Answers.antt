@@ -8,6 +8,6 @@ pub returns-in-Some-clause-shown : goal.returns-in-Some-clause-shown
 unfolding encoding_from
 returns-in-Some-clause-shown c = (
   (OneWord c.in-Some.word.now, c.args.rest.now),
-  ap (λ (o : Option (Bor (List ℕ))). (encoding_from c.args.clear.now (option_map (λ (w : Bor (List ℕ)). w.now) o) c.args.rest.now).read) c.in-Some.is,
+  ap (λ (o : Option (Bor (List ℕ))). encoding_from c.args.clear.now (option_map (λ (w : Bor (List ℕ)). w.now) o) c.args.rest.now) c.in-Some.is,
   (refl, refl),
 )

@@ -1,4 +1,4 @@
-use Rattle.t1_font.proofs.SpellingLaws.{reads}
+use Rattle.t1_font.proofs.ReadRight.{reads}
 use Rattle.t1_font.proofs.ReadFontLaws.{read_is_font}
 use Rattle.t1_font.proofs.AnswersRight.{bytes_of_slice, fault_right}
 use Rattle.t1_font.proofs.file.read.Goals as goal

@@ -15,4 +15,4 @@ pub returns-in-Ok-clause-lead : goal.returns-in-Ok-clause-lead
 returns-in-Ok-clause-lead c = split_lead c.args.flat.now c.in-Ok.end c.in-Ok.cipher.items c.in-Ok.ensures.right
 
 pub returns-in-Err-clause-parts : goal.returns-in-Err-clause-parts
-returns-in-Err-clause-parts c = subst (λ (e : ReadFault). Refused e (flat_pieces c.args.flat.now).read) (sym c.from.ensures) (split_fails c.args.flat.now c.in-Err.fault c.in-Err.ensures.right)
+returns-in-Err-clause-parts c = subst (λ (e : ReadFault). Refused e (flat_pieces c.args.flat.now)) (sym c.from.ensures) (split_fails c.args.flat.now c.in-Err.fault c.in-Err.ensures.right)

@@ -12,7 +12,7 @@ pub entries-preserved-in_ok-push : goal.entries-preserved-in_ok-push
 entries-preserved-in_ok-push g c =
     let ends = run_ends g.K.Ord.cmp c.in-Some.after.now in
     moved c.entries.last.items (run_ends g.K.Ord.cmp c.entries.rest.now) (run_ends g.K.Ord.cmp c.as_slice-rest.result.now) c.entries.invariant c.push.new.self.items ends c.in-Some.entry.now c.in_ok-push.ensures.items
-        (ap (run_ends g.K.Ord.cmp) c.in-Some.ensures.cases.0 ∙ ap (λ b. cond b ends (c.in-Some.entry.now ∷ ends)) (sym c.comes_again.ensures ∙ c.if-not-comes_again.true))
+    (ap (run_ends g.K.Ord.cmp) c.in-Some.ensures.cases.0 ∙ ap (λ b. cond b ends (c.in-Some.entry.now ∷ ends)) (sym c.comes_again.ensures ∙ c.if-not-comes_again.true))
 
 pub entries-preserved : goal.entries-preserved
 entries-preserved g c =

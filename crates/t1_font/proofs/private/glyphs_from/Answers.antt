@@ -6,7 +6,7 @@ pub returns-clause-shown : goal.returns-clause-shown
 unfolding glyphs_from
 returns-clause-shown c = λ s before.
     let h = c.in_ok-glyphs.ensures.shown in
-    let tail : (tail_after c.args.before.middle.now h.0.2).read ≡ Ok c.in_ok-tail.tail.now = subst (λ (r : List ℕ). (tail_after c.args.before.middle.now r).read ≡ Ok c.in_ok-tail.tail.now) h.2.2 c.in_ok-tail.ensures in (
+    let tail : tail_after c.args.before.middle.now h.0.2 ≡ Ok c.in_ok-tail.tail.now = subst (λ (r : List ℕ). tail_after c.args.before.middle.now r ≡ Ok c.in_ok-tail.tail.now) h.2.2 c.in_ok-tail.ensures in (
       record { private = c.args.before.private.now; len_iv = c.args.before.len_iv; subrs = s; middle = c.args.before.middle.now; glyphs = h.0.0; tail = c.in_ok-tail.tail.now },
       rw (h.1, tail) refl,
       record {
