@@ -18,8 +18,9 @@ use Rattle.t1_bytes.specs.Grammar.{choice}
 use Rattle.t1_join.specs.Entries.{entries_by}
 use Rattle.t1_join.specs.TableMeaning.{Rises}
 use Rattle.t1_join.proofs.TreeEntries.{sorted_entries}
-use Rattle.t1_font.specs.Entries.{comes_again, run_ends, AreLast, last_value, map_of}
+use Rattle.t1_font.specs.Entries.{comes_again, run_ends, AreLast, AreSettled, last_value, map_of}
 use Rattle.t1_font.proofs.MapLaws.{get-map_of, choice-none}
+use Rattle.t1_font.proofs.FontAgain.{map_again}
 
 -- ---- the last of a list
 
@@ -200,3 +201,17 @@ module _ {K V M : Type 0} (f : K → M) (g : V → List ℕ) (R : K → K → Or
   -- and they are its entries
   pub lasts_are : entries_by f g last ≡ fin.entries {R = S} (map_of (entries_by f g es))
   lasts_are = sym (fin.entries-from_sorted S (entries_by f g last) lasts_rise) ∙ ap fin.entries lasts_map
+
+  -- which is the map of the last entries alone, in any order
+  pub lasts_again : map_of {R = S} (entries_by f g last) ≡ map_of (entries_by f g es)
+  lasts_again = ap (map_of {R = S}) lasts_are ∙ map_again o same (map_of (entries_by f g es))
+
+-- entries that are settled have the map that they had, and no others are among them
+module _ {K V M : Type 0} (f : K → M) (R : K → K → Ordering) (S : M → M → Ordering) (o : IsTotalOrder S) (by : (x y : K) → R x y ≡ S (f x) (f y)) (old new : List (K × V)) where
+  pub settled_map : IsAntisymmetric S → (g : V → List ℕ) → AreSettled R old new → map_of {R = S} (entries_by f g new) ≡ map_of (entries_by f g old)
+  settled_map same g (inl is) = ap (λ es. map_of {R = S} (entries_by f g es)) is
+  settled_map same g (inr are) = lasts_again f g R S o same by old new are
+
+  pub settled_all : (P : K × V → Type 0) → AreSettled R old new → All P old → All P new
+  settled_all P (inl is) h = subst (All P) (sym is) h
+  settled_all P (inr are) h = all_last (order f R S o by) P old new are h

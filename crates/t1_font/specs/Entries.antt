@@ -1,5 +1,5 @@
 -- Lists of entries in the order of a file, and the maps that they make: of a repeated key the last entry stands.
-use Rattle.std.specs.Prelude.{◌≡◌, ℕ, not, Bool, false, List, [], ◌∷◌, filter, Option, Some, None, if◌then◌else◌}
+use Rattle.std.specs.Prelude.{◌≡◌, ◌⊎◌, ℕ, not, Bool, false, List, [], ◌∷◌, filter, Option, Some, None, if◌then◌else◌}
 use Rattle.std.specs.Str.{bytes_eq}
 use Rattle.std.specs.Ordering.{is_eq}
 use Rattle.std.specs.declared.cmp.Ordering.{Ordering}
@@ -43,6 +43,10 @@ module _ {K V : Type 0} (R : K → K → Ordering) where
     pub rise : IsSortedByKey (λ e. e.0) R sorted
     pub stable : IsStableByKey (λ e. e.0) R entries sorted
     pub last_is : last ≡ run_ends sorted
+
+  -- the entries as they are, or of each key the last
+  abbrev pub AreSettled : List (K × V) → List (K × V) → Type 0
+  AreSettled old new = (new ≡ old) ⊎ AreLast old new
 
 -- the map of entries
 abbrev pub map_of : {K : Type 0} {R : K → K → Ordering} → List (K × List ℕ) → maps.FinMap R (List ℕ)

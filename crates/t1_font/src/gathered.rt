@@ -1,16 +1,17 @@
 //! What is gathered of a font while it is read.
 
-ghost use Rattle.std.specs.Prelude.{◌≡◌, ◌≤◌, ◌+◌, ◌++◌, length, IfOk, OnOk, OnErr};
+ghost use Rattle.std.specs.Prelude.{◌≡◌, ◌≤◌, ◌+◌, ◌++◌, [], length, IfOk, OnOk, OnErr};
 ghost use Rattle.std.specs.FinMap as fin;
 ghost use Rattle.t1_bytes.specs.Cipher.{decrypted};
 ghost use Rattle.t1_font.specs.Charstrings.{plain_of};
-ghost use Rattle.t1_font.specs.Entries.{comes_again, AreLast};
+ghost use Rattle.t1_font.specs.Entries.{comes_again, AreLast, AreSettled};
 ghost use Rattle.t1_font.specs.Gathering.{no_entries};
 
 use crate::ranges::Range;
 use std::alloc::{AllocError, Global};
 use std::cmp::Ordering;
 use std::marker::Model;
+use std::mem;
 use t1_bytes::{CHARSTRING_KEY, decrypt};
 
 /// The entries of a font's tables in the order in which they were read: names by code, and plain charstrings of Subrs by
@@ -23,6 +24,8 @@ pub(crate) struct Gathered<'a> {
     pub(crate) buffer: Vec<u8>,
     pub(crate) subrs: Vec<(u16, Range)>,
     pub(crate) glyphs: Vec<(&'a [u8], Range)>,
+    /// How many glyphs there may be until those are looked for whose names come again.
+    pub(crate) glyph_room: usize,
 }
 
 impl<'a> Model for Gathered<'a> {
@@ -66,6 +69,7 @@ impl<'a> Gathered<'a> {
             buffer: Vec::with_capacity(alloc, room)?,
             subrs: Vec::new(alloc),
             glyphs: Vec::new(alloc),
+            glyph_room: ROOM,
         })
     }
 
@@ -102,10 +106,34 @@ impl<'a> Gathered<'a> {
         requires { len_iv ≤ length body.now }
         ensures { OnOk result (self.new ≡ record { codes = self.old.codes; subrs = self.old.subrs; glyphs = fin.insert self.old.glyphs name.now (plain_of len_iv body.now) }) }
     {
+        self.glyph_room = settle(&mut self.glyphs, self.glyph_room)?;
         let place = add_plain(&mut self.buffer, body, len_iv)?;
         self.glyphs.push((name, place))?;
         Ok(())
     }
+}
+
+/// How many entries of a table are gathered before the first look for those whose keys come again.
+const ROOM: usize = 4096;
+
+/// Where there are so many entries, keeps of each key the last alone. Answers how many there may be until the next time:
+/// twice as many as are left, so that a table of repeated keys takes no more room than one of all of them once.
+fn settle<K: Ord + Copy + Drop, V: Copy + Drop>(
+    entries: &mut Vec<(K, V)>,
+    room: usize,
+) -> Result<usize, AllocError>
+    ensures settled { OnOk result (AreSettled K.cmp entries.old.items entries.new.items) }
+    ensures lost { OnErr result (entries.new.items ≡ []) }
+{
+    if entries.len() < room {
+        return Ok(room);
+    }
+    let alloc = *entries.allocator();
+    let all = mem::replace(entries, Vec::new(alloc));
+    let last = last_entries(alloc, all)?;
+    let next = last.len().saturating_mul(2).max(ROOM);
+    *entries = last;
+    Ok(next)
 }
 
 /// Whether the first of these entries has the key.
