@@ -6,7 +6,7 @@ use Rattle.t1_font.specs.declared.fault.ReadFault.TheVariants.{TooLong, BadSegme
 use Rattle.t1_font.specs.ReadFont.{read_font}
 use Rattle.t1_font.specs.Reasons.{Refuses}
 use Rattle.t1_font.specs.Reading.{Reading}
-use Rattle.t1_font.specs.Answers.{Refused, Shown}
+use Rattle.t1_font.specs.Answers.{Refused, Shown, Answers}
 use Rattle.t1_font.proofs.ReadRight.{refuses}
 
 -- the bytes of a slice are bytes
@@ -18,6 +18,10 @@ bytes_of_slice (x ∷ xs) h = ((h 0).fits, bytes_of_slice xs (λ i. h (suc i)))
 pub shown_same : {X A : Type 0} (Shows : X → A → Type 0) (x : Result X ReadFault) (r s : Reading A) → r ≡ s → Shown Shows x s → Shown Shows x r
 shown_same Shows (Ok x) r s same h = (h.0, same ∙ h.1, h.2)
 shown_same Shows (Err e) r s same h = subst (Refused e) (sym same) h
+
+pub answers_same : {X : Type 0} (x : Result X ReadFault) (r s : Reading X) → r ≡ s → Answers (λ v. v) x s → Answers (λ v. v) x r
+answers_same (Ok x) r s same h = same ∙ h
+answers_same (Err e) r s same h = subst (Refused e) (sym same) h
 
 pub fault_right : (file : List ℕ) (e : ReadFault) → Refused e (read_font file) → Refuses file e
 fault_right file Memory h = tt

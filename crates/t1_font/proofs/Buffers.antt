@@ -1,6 +1,7 @@
--- Ranges of a buffer that grows.
-use Rattle.std.proofs.Common.{◌≡◌, refl, sym, ap, subst, ◌∙◌, ℕ, ◌+◌, ◌-◌, ◌≤◌, arith, List, [], ◌∷◌, ◌++◌, length, take, take_all, drop}
-use Rattle.std.proofs.lemmas.List.{map_push, length-append, length-drop, take-append-le, drop-append-le, drop-drop, drop_at}
+-- Ranges of a buffer of which a part was decrypted where it stands, or which has grown.
+use Rattle.std.proofs.Common.{◌≡◌, refl, sym, ap, subst, ◌∙◌, ℕ, ◌+◌, ◌-◌, ◌≤◌, arith, List, [], ◌∷◌, ◌++◌, map, length, take, take_all, drop}
+use Rattle.std.proofs.lemmas.List.{append_assoc, map_push, length-append, length-drop, length-take-le, take-append-le, drop-append-le, drop-drop, drop_at, take-append-drop}
+use Rattle.std.proofs.lemmas.Slice.{drop-append-drop}
 use Rattle.std.proofs.lemmas.List.Elements.{All-nil, All-cons, All-head, All-tail, All-append}
 use Rattle.std.specs.declared.cmp.Ordering.{Ordering}
 use Rattle.std.specs.Cmp.{IsTotalOrder}
@@ -8,12 +9,14 @@ use Rattle.std.specs.FinMap as fin
 use Rattle.std.specs.FinMap.{IsAntisymmetric}
 use Rattle.t1_bytes.specs.Cipher.{decrypted}
 use Rattle.t1_bytes.proofs.Ciphers.{length-decrypted}
-use Rattle.t1_join.specs.Entries.{entry_by, entries_by}
+use Rattle.t1_join.specs.Entries.{entries_by}
 use Rattle.t1_font.specs.declared.ranges.Range.{Range}
+use Rattle.t1_font.specs.declared.places.Place.{Place}
+use Rattle.t1_font.specs.Places.{ending, placed}
 use Rattle.t1_font.specs.Charstrings.{plain_of}
 use Rattle.t1_font.specs.Entries.{map_of}
 use Rattle.t1_font.proofs.MapLaws.{map_of-append}
-use Rattle.t1_font.specs.Ranges.{bytes_at, IsInside, AllInside}
+use Rattle.t1_font.specs.Ranges.{bytes_at, IsInside, AllInside, NamesInside, named_at}
 
 -- a longer buffer has the same bytes in the same ranges
 pub bytes_longer : (buffer more : List ℕ) (r : Range) → IsInside (length buffer) r → bytes_at (buffer ++ more) r ≡ bytes_at buffer r
@@ -25,9 +28,9 @@ pub inside_longer : (m n : ℕ) (r : Range) → m ≤ n → IsInside m r → IsI
 inside_longer m n r le h = record { ordered = h.ordered; within = omega (arith, le, h.within) }
 
 -- an entry that is put at the end of others, in their map
-pub pushed : {K V M : Type 0} (f : K → M) (g : V → List ℕ) {S : M → M → Ordering} → IsTotalOrder S → IsAntisymmetric S → (es : List (K × V)) (k : K) (v : V) →
-    map_of {R = S} (entries_by f g (es ++ (k, v) ∷ [])) ≡ fin.insert (map_of (entries_by f g es)) (f k) (g v)
-pushed f g {S} o same es k v = ap (map_of {R = S}) (map_push (entry_by f g) es (k, v)) ∙ map_of-append o same (entries_by f g es) (f k, g v)
+pub pushed : {E K : Type 0} (h : E → K × List ℕ) {S : K → K → Ordering} → IsTotalOrder S → IsAntisymmetric S → (es : List E) (e : E) →
+    map_of {R = S} (map h (es ++ e ∷ [])) ≡ fin.insert (map_of (map h es)) (h e).0 (h e).1
+pushed h {S} o same es e = ap (map_of {R = S}) (map_push h es e) ∙ map_of-append o same (map h es) (h e)
 
 module _ {K : Type 0} where
   pub all_longer : (m n : ℕ) (es : List (K × Range)) → m ≤ n → AllInside m es → AllInside n es
@@ -38,6 +41,16 @@ module _ {K : Type 0} where
   entries_longer f buffer more (e ∷ es) h =
       λ i. (f e.0, bytes_longer buffer more e.1 (All-head (λ (e : K × Range). IsInside (length buffer) e.1) e es h) i) ∷ entries_longer f buffer more es (All-tail (λ (e : K × Range). IsInside (length buffer) e.1) e es h) i
 
+pub names_wider : (m n : ℕ) (es : List (Range × Range)) → m ≤ n → NamesInside m es → NamesInside n es
+names_wider m n es le h = λ k d l. inside_longer m n _ le (h k d l)
+
+pub names_longer : (buffer more : List ℕ) (es : List (Range × Range)) → NamesInside (length buffer) es → AllInside (length buffer) es → map (named_at (buffer ++ more)) es ≡ map (named_at buffer) es
+names_longer buffer more [] g h = refl
+names_longer buffer more (e ∷ es) g h =
+    let Name = λ (e : Range × Range). IsInside (length buffer) e.0 in
+    let Body = λ (e : Range × Range). IsInside (length buffer) e.1 in
+    λ i. (bytes_longer buffer more e.0 (All-head Name e es g) i, bytes_longer buffer more e.1 (All-head Body e es h) i) ∷ names_longer buffer more es (All-tail Name e es g) (All-tail Body e es h) i
+
 -- where a buffer is another with more bytes
 module _ (old new more : List ℕ) (is : new ≡ old ++ more) where
   pub longer_by : length old ≤ length new
@@ -46,41 +59,138 @@ module _ (old new more : List ℕ) (is : new ≡ old ++ more) where
   pub entries_in : {K M : Type 0} (f : K → M) (es : List (K × Range)) → AllInside (length old) es → entries_by f (bytes_at new) es ≡ entries_by f (bytes_at old) es
   entries_in f es h = ap (λ b. entries_by f (bytes_at b) es) is ∙ entries_longer f old more es h
 
+  pub names_in : (es : List (Range × Range)) → NamesInside (length old) es → AllInside (length old) es → map (named_at new) es ≡ map (named_at old) es
+  names_in es g h = ap (λ b. map (named_at b) es) is ∙ names_longer old more es g h
+
   pub all_in : {K : Type 0} (es : List (K × Range)) → AllInside (length old) es → AllInside (length new) es
   all_in es h = all_longer (length old) (length new) es longer_by h
 
--- a charstring that was decrypted at the end of a buffer, behind its lead bytes
-module _ (buffer body now : List ℕ) (iv : ℕ) (r : Range) (room : iv ≤ length body) (grown : now ≡ buffer ++ decrypted 4330 body) (start : r.start ≡ length buffer + iv) (end : r.end ≡ length buffer + length body) where
-  long : length now ≡ length buffer + length body
-  long = ap length grown ∙ length-append buffer (decrypted 4330 body) ∙ ap (λ n. length buffer + n) (length-decrypted body 4330)
+-- ---- places from the end
 
-  pub plain_inside : IsInside (length now) r
-  plain_inside = record { ordered = omega (arith, start, end, room); within = omega (arith, end, long) }
+pub ending_of : (n at : ℕ) (text : List ℕ) → at ≤ length text → n ≤ length (drop at text) → ending n (drop at text) ≡ drop (length text - n) text
+ending_of n at text fits room =
+    drop-drop (length (drop at text) - n) at text ∙ ap (λ k. drop k text) (omega (arith, length-drop at text, fits, room))
 
-  pub still_inside : {K : Type 0} (es : List (K × Range)) → AllInside (length buffer) es → AllInside (length now) es
-  still_inside es h = all_longer (length buffer) (length now) es (omega (arith, long)) h
+-- a charstring that was decrypted where it stands in a buffer, which was read up to `at`, and of which `left` bytes are
+-- left behind its entry
+pub record Decrypted (was now : List ℕ) (at left iv : ℕ) (body : Place) (cipher plain : Range) : Type 0 where
+  pub fits : at ≤ length was
+  pub room : body.len + body.behind ≤ length (drop at was)
+  pub lead : iv ≤ body.len
+  pub past : left ≤ body.behind
+  pub start : cipher.start ≡ length was - (body.len + body.behind)
+  pub end : cipher.end ≡ length was - body.behind
+  pub is : now ≡ take cipher.start was ++ decrypted 4330 (bytes_at was cipher) ++ drop cipher.end was
+  pub plain_start : plain.start ≡ cipher.start + iv
+  pub plain_end : plain.end ≡ cipher.end
 
-  pub plain_at : bytes_at now r ≡ plain_of iv body
+-- a name before the charstring
+pub record Named (was : List ℕ) (at : ℕ) (name body : Place) (part : Range) : Type 0 where
+  pub room : name.len + name.behind ≤ length (drop at was)
+  pub order : body.len + body.behind ≤ name.behind
+  pub start : part.start ≡ length was - (name.len + name.behind)
+  pub end : part.end ≡ length was - name.behind
+
+module _ (was now : List ℕ) (at left iv : ℕ) (body : Place) (cipher plain : Range) (d : Decrypted was now at left iv body cipher plain) where
+  long : body.len + body.behind ≤ length was - at
+  long = omega (arith, d.room, length-drop at was)
+
+  pub cipher_inside : IsInside (length was) cipher
+  cipher_inside = record { ordered = omega (arith, d.start, d.end, long, d.fits); within = omega (arith, d.end) }
+
+  size : length (decrypted 4330 (bytes_at was cipher)) ≡ body.len
+  size = length-decrypted (bytes_at was cipher) 4330 ∙ (length-take-le (cipher.end - cipher.start) (drop cipher.start was) (omega (arith, length-drop cipher.start was, d.start, d.end, long, d.fits)) ∙ omega (arith, d.start, d.end, long, d.fits))
+
+  front : length (take cipher.start was) ≡ cipher.start
+  front = length-take-le cipher.start was (omega (arith, d.start, d.fits))
+
+  abbrev head : List ℕ
+  head = take cipher.start was ++ decrypted 4330 (bytes_at was cipher)
+
+  head_length : length head ≡ cipher.end
+  head_length = length-append (take cipher.start was) (decrypted 4330 (bytes_at was cipher)) ∙ omega (arith, size, front, d.start, d.end, long, d.fits)
+
+  by_parts : now ≡ take cipher.start was ++ (decrypted 4330 (bytes_at was cipher) ++ drop cipher.end was)
+  by_parts = d.is ∙ append_assoc (take cipher.start was) (decrypted 4330 (bytes_at was cipher)) (drop cipher.end was)
+
+  pub same_length : length now ≡ length was
+  same_length = omega (arith, ap length d.is, length-append head (drop cipher.end was), head_length, length-drop cipher.end was, d.end)
+
+  -- what stands before it stays
+  bytes_stay : (r : Range) → IsInside cipher.start r → bytes_at now r ≡ bytes_at was r
+  bytes_stay r h =
+      let short : IsInside (length (take cipher.start was)) r = subst (λ n. IsInside n r) (sym front) h in
+      ap (λ b. bytes_at b r) by_parts
+      ∙ (bytes_longer (take cipher.start was) (decrypted 4330 (bytes_at was cipher) ++ drop cipher.end was) r short
+      ∙ sym (ap (λ b. bytes_at b r) (sym (take-append-drop cipher.start was)) ∙ bytes_longer (take cipher.start was) (drop cipher.start was) r short))
+
+  earlier : (r : Range) → IsInside at r → bytes_at now r ≡ bytes_at was r
+  earlier r h = bytes_stay r (inside_longer at cipher.start r (omega (arith, d.start, long, d.fits)) h)
+
+  pub entries_stay : {K M : Type 0} (f : K → M) (es : List (K × Range)) → AllInside at es → entries_by f (bytes_at now) es ≡ entries_by f (bytes_at was) es
+  entries_stay f [] h = refl
+  entries_stay f (e ∷ es) h =
+      λ i. (f e.0, earlier e.1 (All-head (λ (e : _ × Range). IsInside at e.1) e es h) i) ∷ entries_stay f es (All-tail (λ (e : _ × Range). IsInside at e.1) e es h) i
+
+  pub names_stay : (es : List (Range × Range)) → NamesInside at es → AllInside at es → map (named_at now) es ≡ map (named_at was) es
+  names_stay [] g h = refl
+  names_stay (e ∷ es) g h =
+      let Name = λ (e : Range × Range). IsInside at e.0 in
+      let Body = λ (e : Range × Range). IsInside at e.1 in
+      λ i. (earlier e.0 (All-head Name e es g) i, earlier e.1 (All-head Body e es h) i) ∷ names_stay es (All-tail Name e es g) (All-tail Body e es h) i
+
+  -- and what is left behind it
+  pub rest_stays : drop (length now - left) now ≡ ending left (drop at was)
+  rest_stays =
+      (λ i. drop (same_length i - left) (d.is i))
+      ∙ (drop-append-drop cipher.end was head (length was - left) (omega (arith, d.end, d.past)) head_length
+      ∙ sym (ending_of left at was d.fits (omega (arith, d.past, d.room))))
+
+  -- the charstring is plain behind its lead bytes
+  pub plain_at : bytes_at now plain ≡ plain_of iv (placed (drop at was) body)
   plain_at =
-      let size : r.end - r.start ≡ length body - iv = omega (arith, start, end) in
-      let left : length (drop iv (decrypted 4330 body)) ≤ length body - iv = omega (arith, length-drop iv (decrypted 4330 body), length-decrypted body 4330) in
-      (λ i. take (size i) (drop (start i) (grown i)))
-      ∙ ap (take (length body - iv)) (sym (drop-drop iv (length buffer) (buffer ++ decrypted 4330 body)) ∙ ap (drop iv) (drop_at buffer (decrypted 4330 body) (length buffer) refl))
-      ∙ take_all (length body - iv) (drop iv (decrypted 4330 body)) left
+      let from : drop cipher.start was ≡ ending (body.len + body.behind) (drop at was) = ap (λ k. drop k was) d.start ∙ sym (ending_of (body.len + body.behind) at was d.fits d.room) in
+      let here : bytes_at was cipher ≡ placed (drop at was) body = λ i. take (short i) (from i) in
+      let tail : drop cipher.start now ≡ decrypted 4330 (bytes_at was cipher) ++ drop cipher.end was = ap (drop cipher.start) by_parts ∙ drop_at (take cipher.start was) (decrypted 4330 (bytes_at was cipher) ++ drop cipher.end was) cipher.start front in
+      let plain_long : plain.end - plain.start ≡ body.len - iv = omega (arith, d.plain_start, d.plain_end, d.start, d.end, long, d.fits) in
+      let room_for : body.len - iv ≤ length (drop iv (decrypted 4330 (bytes_at was cipher))) = omega (arith, length-drop iv (decrypted 4330 (bytes_at was cipher)), size) in
+      (λ i. take (plain_long i) (drop (d.plain_start i) now))
+      ∙ (ap (take (body.len - iv)) (sym (drop-drop iv cipher.start now) ∙ (ap (drop iv) tail ∙ drop-append-le iv (decrypted 4330 (bytes_at was cipher)) (drop cipher.end was) (omega (arith, size, d.lead))))
+      ∙ (take-append-le (body.len - iv) (drop iv (decrypted 4330 (bytes_at was cipher))) (drop cipher.end was) room_for
+      ∙ (take_all (body.len - iv) (drop iv (decrypted 4330 (bytes_at was cipher))) (omega (arith, length-drop iv (decrypted 4330 (bytes_at was cipher)), size)) ∙ ap (plain_of iv) here)))
+    where
+      short : cipher.end - cipher.start ≡ body.len
+      short = omega (arith, d.start, d.end, long, d.fits)
 
-  -- entries that stood before the charstring stand for what they stood for
-  pub others_stay : {K M : Type 0} (f : K → M) (es : List (K × Range)) → AllInside (length buffer) es → entries_by f (bytes_at now) es ≡ entries_by f (bytes_at buffer) es
-  others_stay f es h = ap (λ b. entries_by f (bytes_at b) es) grown ∙ entries_longer f buffer (decrypted 4330 body) es h
+  -- it stands before what d.is left
+  pub plain_inside : IsInside (length now - left) plain
+  plain_inside = record { ordered = omega (arith, d.plain_start, d.plain_end, d.start, d.end, d.lead, long, d.fits); within = omega (arith, d.plain_end, d.end, d.past, same_length) }
 
-  -- with an entry of the charstring
-  module _ {K : Type 0} (es more : List (K × Range)) (k : K) (is : more ≡ es ++ (k, r) ∷ []) (inside : AllInside (length buffer) es) where
-    pub all_inside : AllInside (length now) more
-    all_inside =
-        let Inside = λ (e : K × Range). IsInside (length now) e.1 in
-        subst (AllInside (length now)) (sym is) (All-append Inside es ((k, r) ∷ []) (still_inside es inside) (All-cons Inside (k, r) [] plain_inside (All-nil Inside)))
+  pub goes_on : at ≤ length now - left
+  goes_on = omega (arith, same_length, long, d.fits, d.past)
 
-    pub map_with : {M : Type 0} (f : K → M) {S : M → M → Ordering} → IsTotalOrder S → IsAntisymmetric S → map_of {R = S} (entries_by f (bytes_at now) more) ≡ fin.insert (map_of (entries_by f (bytes_at buffer) es)) (f k) (plain_of iv body)
-    map_with f {S} o same =
-        ap (λ all. map_of {R = S} (entries_by f (bytes_at now) all)) is
-        ∙ (pushed f (bytes_at now) o same es k r
-        ∙ (λ i. fin.insert (map_of {R = S} (others_stay f es inside i)) (f k) (plain_at i)))
+  pub at_inside : length now - left ≤ length now
+  at_inside = omega arith
+
+  -- a name that stands before it stays
+  module _ (name : Place) (part : Range) (n : Named was at name body part) where
+    name_before : IsInside cipher.start part
+    name_before = record { ordered = omega (arith, n.start, n.end, n.room, length-drop at was); within = omega (arith, n.end, n.order, d.start) }
+
+    pub name_at : bytes_at now part ≡ placed (drop at was) name
+    name_at =
+        let from : drop part.start was ≡ ending (name.len + name.behind) (drop at was) = ap (λ k. drop k was) n.start ∙ sym (ending_of (name.len + name.behind) at was d.fits n.room) in
+        bytes_stay part name_before ∙ (λ i. take (short i) (from i))
+      where
+        short : part.end - part.start ≡ name.len
+        short = omega (arith, n.start, n.end, n.room, length-drop at was, d.fits)
+
+    pub name_inside : IsInside (length now - left) part
+    name_inside = record { ordered = name_before.ordered; within = omega (arith, n.end, n.order, d.past, same_length) }
+
+-- one entry more
+pub with_one : {K : Type 0} (n : ℕ) (es more : List (K × Range)) (e : K × Range) → more ≡ es ++ e ∷ [] → AllInside n es → IsInside n e.1 → AllInside n more
+with_one n es more e is h one = let Inside = λ (x : _ × Range). IsInside n x.1 in subst (AllInside n) (sym is) (All-append Inside es (e ∷ []) h (All-cons Inside e [] one (All-nil Inside)))
+
+pub names_with_one : (n : ℕ) (es more : List (Range × Range)) (e : Range × Range) → more ≡ es ++ e ∷ [] → NamesInside n es → IsInside n e.0 → NamesInside n more
+names_with_one n es more e is h one = let Inside = λ (x : Range × Range). IsInside n x.0 in subst (NamesInside n) (sym is) (All-append Inside es (e ∷ []) h (All-cons Inside e [] one (All-nil Inside)))

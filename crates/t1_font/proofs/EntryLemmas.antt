@@ -5,7 +5,7 @@ use Rattle.std.specs.List.{prefix_len}
 use Rattle.std.specs.Str.{bytes_eq}
 use Rattle.std.proofs.lemmas.Slice.Eq.{bytes_eq-Decides}
 use Rattle.std.proofs.lemmas.Option.{cond_some, option_and_then_some}
-use Rattle.std.proofs.lemmas.List.{length-append}
+use Rattle.std.proofs.lemmas.List.{append_assoc, length-append}
 use Rattle.t1_bytes.specs.Grammar.{Grammar, fixed}
 use Rattle.t1_bytes.specs.White.{is_white, gap}
 use Rattle.t1_bytes.proofs.Grammars.{IsExact, pure_exact, bind_exact, that_exact, count_exact, fixed_exact}
@@ -14,10 +14,12 @@ use Rattle.t1_bytes.proofs.SegmentLemmas.{Eats-spelled}
 use Rattle.t1_bytes.proofs.EexecLemmas.{white_exact, gap_exact}
 use Rattle.t1_font.specs.Words.{is_regular, word, keyword, name, phrase_of, passes}
 use Rattle.t1_font.specs.Encoding.{code_entry, encoding_end}
+use Rattle.t1_font.specs.Places.{StandsIn}
 use Rattle.t1_font.specs.Entry.{Body, length_from, body, entry}
 use Rattle.t1_font.specs.Subrs.{subr_key, subr, subrs_end}
 use Rattle.t1_font.specs.Glyphs.{glyph_key, glyph, glyphs_end}
 use Rattle.t1_font.proofs.WordLemmas.{one_white_exact, word_exact, keyword_exact, decimal_exact, name_exact, phrase_exact, keyword_text}
+use Rattle.t1_font.proofs.PlaceLemmas.{behind}
 use Rattle.t1_font.proofs.MarkerLemmas.{code_entry_exact}
 
 -- ---- charstrings by a key
@@ -94,6 +96,16 @@ subr_apart declared iv = entry_apart (subr_key declared) iv subrs_end (subr_key_
 pub glyph_key_exact : IsExact glyph_key
 unfolding glyph_key
 glyph_key_exact = bind_exact _ _ white_exact (λ _. name_exact)
+
+-- a name stands right before what is left
+pub name_stands : (bytes : List ℕ) (x : List ℕ × List ℕ) → glyph_key.read bytes ≡ Some x → StandsIn bytes x.0 (length x.1)
+unfolding glyph_key name
+name_stands bytes x e =
+    let h = glyph_key_exact.takes bytes x e in
+    let k = h.2 in
+    let n = k.5 in
+    behind k.1 (k.2 ++ x.1) bytes x.0 (length x.1) (h.1 ∙ (ap (λ t. t ++ x.1) k.3 ∙ append_assoc k.1 k.2 x.1))
+    (record { before = n.1; after = x.1; whole = ap (λ t. t ++ x.1) (n.3 ∙ ap (λ t. n.1 ++ t) n.5.0.0) ∙ append_assoc n.1 x.0 x.1; size = refl })
 
 pub glyphs_end_exact : IsExact glyphs_end
 unfolding glyphs_end

@@ -22,8 +22,10 @@ pub mod ReadRight
 pub mod ReadAgain
 pub mod FirstPlace
 pub mod Borders
+pub mod NamedLasts
 pub mod Moves
 pub mod Written
+pub mod PlaceLemmas
 pub mod Phrases
 pub mod EntriesWritten
 pub mod MapCuts

@@ -119,7 +119,7 @@ tail_read middle tail junk m t e =
     rw (more, lack_subrs middle m, f.3, lack_subrs tail t) refl
 
 pub glyphs_from_read : (text private : List ℕ) (subrs : Option SubrsPieces) (middle : List ℕ) (iv : ℕ) (es : List Glyph) (tail junk : List ℕ) → AllByRecursion (IsEntry (IsWord 127) iv) es → Stops is_regular tail → Lacks subrs_marker middle → Lacks subrs_marker tail
-    → option_map (λ x. x.1) ((first closefile).read tail) ≡ Some [] → glyphs_from text private subrs middle iv (glyphs_text es ++ (tail ++ (10 ∷ junk))) ≡ Ok (record { private = private; len_iv = iv; subrs = subrs; middle = middle; glyphs = es; tail = tail })
+    → option_map (λ x. x.1) ((first closefile).read tail) ≡ Some [] → glyphs_from (length text) private subrs middle iv (glyphs_text es ++ (tail ++ (10 ∷ junk))) ≡ Ok (record { private = private; len_iv = iv; subrs = subrs; middle = middle; glyphs = es; tail = tail })
 unfolding glyphs_from
 glyphs_from_read text private subrs middle iv es tail junk all apart m t e = rw (glyphs_read iv es (tail ++ (10 ∷ junk)) all (stops_then tail junk apart), tail_read middle tail junk m t e) refl
   where
@@ -155,12 +155,12 @@ nothing_subrs : Lacks subrs_marker []
 nothing_subrs = subrs_lack [] nothing_found
 
 -- what is read where the two markers are known
-pieces_read : (text : List ℕ) (chars : (List ℕ × Unit {0}) × List ℕ) (marker : Option ((List ℕ × ℕ) × List ℕ)) (o : Result PrivatePieces ReadFault) → first_at chars_marker text ≡ Some chars → first_at subrs_marker text ≡ marker → tables_from text chars (before_place (length chars.0.0) marker) ≡ o → private_pieces text ≡ o
+pieces_read : (text : List ℕ) (chars : (List ℕ × Unit {0}) × List ℕ) (marker : Option ((List ℕ × ℕ) × List ℕ)) (o : Result PrivatePieces ReadFault) → first_at chars_marker text ≡ Some chars → first_at subrs_marker text ≡ marker → tables_from (length text) chars (before_place (length chars.0.0) marker) ≡ o → private_pieces text ≡ o
 unfolding private_pieces
 pieces_read text chars marker o e k t = rw (e, k) t
 
 -- without Subrs
-no_tables_again : (p : PrivatePieces) (text junk : List ℕ) → IsWritable p → tables_from text ((p.private, tt), glyphs_text p.glyphs ++ (p.tail ++ (10 ∷ junk))) None ≡ Ok (record { private = p.private; len_iv = p.len_iv; subrs = None; middle = []; glyphs = p.glyphs; tail = p.tail })
+no_tables_again : (p : PrivatePieces) (text junk : List ℕ) → IsWritable p → tables_from (length text) ((p.private, tt), glyphs_text p.glyphs ++ (p.tail ++ (10 ∷ junk))) None ≡ Ok (record { private = p.private; len_iv = p.len_iv; subrs = None; middle = []; glyphs = p.glyphs; tail = p.tail })
 unfolding tables_from
 no_tables_again p text junk h = rw (h.iv, glyphs_from_read text p.private None [] p.len_iv p.glyphs p.tail junk h.glyphs h.tail_apart nothing_subrs h.tail_subrs h.tail_ends) refl
 
@@ -172,7 +172,7 @@ no_subrs_again p junk h e =
     let place : (List ℕ × Unit {0}) × List ℕ = ((p.private, tt), glyphs_text p.glyphs ++ t) in
     let chars : first_at chars_marker text ≡ Some place = first_behind chars_marker chars_marker_exact p.private g tt _ (chars_moves p.private [] _ h.no_chars) (chars_part_read p.glyphs t h.few) in
     let subrs : before_place (length p.private) (first_at subrs_marker text) ≡ None = ap (before_place (length p.private)) (past_none subrs_marker subrs_marker_exact p.private g (subrs_moves p.private [] _ h.no_subrs)) ∙ not_before p.private (first_at subrs_marker g) in
-    pieces_read text place (first_at subrs_marker text) _ chars refl (ap (λ (o : Option ((List ℕ × ℕ) × List ℕ)). tables_from text place o) subrs ∙ no_tables_again p text junk h)
+    pieces_read text place (first_at subrs_marker text) _ chars refl (ap (λ (o : Option ((List ℕ × ℕ) × List ℕ)). tables_from (length text) place o) subrs ∙ no_tables_again p text junk h)
 
 -- a marker that stands somewhere is found
 pub is_found : {A : Type 0} (g : Grammar A) (front after : List ℕ) (a : A) (rest : List ℕ) → g.read after ≡ Some (a, rest) → (x : (List ℕ × A) × List ℕ) × (first_at g (front ++ after) ≡ Some x)
@@ -206,7 +206,7 @@ before_is n x t = rw t refl
 
 -- the tables, where the markers are known
 tables_again : (p : PrivatePieces) (s : SubrsPieces) (text : List ℕ) (chars : (List ℕ × Unit {0}) × List ℕ) (junk : List ℕ) → IsWritable p → ArePieces p.len_iv s
-    → tables_from text chars (Some ((p.private, s.declared), subrs_text s.entries s.closing ++ (p.middle ++ (glyphs_part p.glyphs ++ (p.tail ++ (10 ∷ junk)))))) ≡ Ok (record { private = p.private; len_iv = p.len_iv; subrs = Some s; middle = p.middle; glyphs = p.glyphs; tail = p.tail })
+    → tables_from (length text) chars (Some ((p.private, s.declared), subrs_text s.entries s.closing ++ (p.middle ++ (glyphs_part p.glyphs ++ (p.tail ++ (10 ∷ junk)))))) ≡ Ok (record { private = p.private; len_iv = p.len_iv; subrs = Some s; middle = p.middle; glyphs = p.glyphs; tail = p.tail })
 unfolding tables_from
 tables_again p s text chars junk h k =
     let t : List ℕ = p.tail ++ (10 ∷ junk) in
@@ -233,7 +233,7 @@ with_subrs_again p s junk h k =
     let chars : first_at chars_marker text ≡ Some ((p.private ++ (47 ∷ y.0.0.0), y.0.0.1), y.0.1) = past_none chars_marker chars_marker_exact p.private b (chars_moves p.private [] _ h.no_chars) ∙ ap (prepend p.private) here in
     let place : (List ℕ × Unit {0}) × List ℕ = ((p.private ++ (47 ∷ y.0.0.0), y.0.0.1), y.0.1) in
     let before : ltb (length p.private) (length place.0.0) ≡ true = lt-ltb _ _ (omega (arith, length-append p.private (47 ∷ y.0.0.0))) in
-    pieces_read text place (Some ((p.private, s.declared), table)) _ chars subrs (ap (λ (o : Option ((List ℕ × ℕ) × List ℕ)). tables_from text place o) (before_is (length place.0.0) ((p.private, s.declared), table) before) ∙ tables_again p s text place junk h k)
+    pieces_read text place (Some ((p.private, s.declared), table)) _ chars subrs (ap (λ (o : Option ((List ℕ × ℕ) × List ℕ)). tables_from (length text) place o) (before_is (length place.0.0) ((p.private, s.declared), table) before) ∙ tables_again p s text place junk h k)
 
 regrouped : (a b c d t junk : List ℕ) → (a ++ (b ++ (c ++ (d ++ (t ++ 10 ∷ []))))) ++ junk ≡ a ++ (b ++ (c ++ (d ++ (t ++ (10 ∷ junk)))))
 regrouped a b c d t junk = simp append_assoc

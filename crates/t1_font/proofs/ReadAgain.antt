@@ -106,25 +106,25 @@ fails_close middle after m a lacks = rw (lack_subrs middle m, lacks_unread close
 -- ---- the tables
 
 -- where the tables begin, the private text is read as they are
-start_none : (text private rest : List ℕ) → Start text private None rest → (o : Reading PrivatePieces) → tables_from text ((private, tt), rest) None ≡ o → private_pieces text ≡ o
+start_none : (text private rest : List ℕ) → Start text private None rest → (o : Reading PrivatePieces) → tables_from (length text) ((private, tt), rest) None ≡ o → private_pieces text ≡ o
 unfolding private_pieces
 start_none text private rest h o t = elim h.1 [
   | nowhere l ↦ rw (found chars_marker chars_marker_exact text ((private, tt), rest) h.0, lacks_unread subrs_marker subrs_marker_exact text l) t
   | later front declared after a ge ↦ rw (found chars_marker chars_marker_exact text ((private, tt), rest) h.0, found subrs_marker subrs_marker_exact text ((front, declared), after) a, le-ltb (length front) (length private) ge) t
 ]
 
-start_some : (text private rest : List ℕ) (declared : ℕ) → Start text private (Some declared) rest → (o : Reading PrivatePieces) → ((chars : (List ℕ × Unit {0}) × List ℕ) → tables_from text chars (Some ((private, declared), rest)) ≡ o) → private_pieces text ≡ o
+start_some : (text private rest : List ℕ) (declared : ℕ) → Start text private (Some declared) rest → (o : Reading PrivatePieces) → ((chars : (List ℕ × Unit {0}) × List ℕ) → tables_from (length text) chars (Some ((private, declared), rest)) ≡ o) → private_pieces text ≡ o
 unfolding private_pieces
 start_some text private rest declared h o t =
     rw (found chars_marker chars_marker_exact text ((h.0, tt), h.1) h.2, found subrs_marker subrs_marker_exact text ((private, declared), rest) h.3, lt-ltb (length private) (length h.0) h.4) (t ((h.0, tt), h.1))
 
 -- up to the glyphs, it is read as they are
-behind_tables : (text : List ℕ) (p : PrivatePieces) (start : List ℕ) → HasTables text p start → (o : Reading PrivatePieces) → glyphs_from text p.private p.subrs p.middle p.len_iv start ≡ o → private_pieces text ≡ o
+behind_tables : (text : List ℕ) (p : PrivatePieces) (start : List ℕ) → HasTables text p start → (o : Reading PrivatePieces) → glyphs_from (length text) p.private p.subrs p.middle p.len_iv start ≡ o → private_pieces text ≡ o
 unfolding tables_from
 behind_tables text p start has o g = by_subrs p.subrs refl has.tables
   where
-    glyphs : (middle : List ℕ) (s : Option SubrsPieces) → p.subrs ≡ s → p.middle ≡ middle → glyphs_from text p.private s middle p.len_iv start ≡ o
-    glyphs middle s k m = subst (λ (s : Option SubrsPieces). glyphs_from text p.private s middle p.len_iv start ≡ o) k (subst (λ (x : List ℕ). glyphs_from text p.private p.subrs x p.len_iv start ≡ o) m g)
+    glyphs : (middle : List ℕ) (s : Option SubrsPieces) → p.subrs ≡ s → p.middle ≡ middle → glyphs_from (length text) p.private s middle p.len_iv start ≡ o
+    glyphs middle s k m = subst (λ (s : Option SubrsPieces). glyphs_from (length text) p.private s middle p.len_iv start ≡ o) k (subst (λ (x : List ℕ). glyphs_from (length text) p.private p.subrs x p.len_iv start ≡ o) m g)
 
     iv : iv_of p.private ≡ Ok p.len_iv
     iv = is_iv p.private p.len_iv has.len_iv

@@ -116,7 +116,7 @@ abbrev made : List ℕ → ℕ → Option SubrsPieces → List ℕ → PrivatePi
 made private iv subrs middle = record { private = private; len_iv = iv; subrs = subrs; middle = middle; glyphs = []; tail = [] }
 
 glyphs_reads : (text private : List ℕ) (subrs : Option SubrsPieces) (middle : List ℕ) (iv : ℕ) (rest : List ℕ) → SpellsTables text (made private iv subrs middle) subrs rest → IsLenIV private iv
-    → Reads (glyphs_from text private subrs middle iv rest) (IsPrivate text) (PrivateFails text)
+    → Reads (glyphs_from (length text) private subrs middle iv rest) (IsPrivate text) (PrivateFails text)
 unfolding glyphs_from
 glyphs_reads text private subrs middle iv rest tables i =
     table_then BadGlyphs (length text) (glyph iv) glyphs_end (glyph_exact iv) glyphs_end_exact (glyph_eats iv) rest _ (λ x t.
@@ -136,11 +136,11 @@ glyphs_reads text private subrs middle iv rest tables i =
     tail_fault gs closing after t e (inl f) = subst (PrivateFails text) (sym f.1) (record (made private iv subrs middle) { glyphs = gs; tail = [] }, after, before gs closing after [] t, f.0)
     tail_fault gs closing after t e (inr f) = subst (PrivateFails text) (sym f.3) (record (made private iv subrs middle) { glyphs = gs; tail = [] }, after, before gs closing after [] t, f.0, f.1, f.2)
 
-without : (text : List ℕ) (chars : (List ℕ × Unit {0}) × List ℕ) → Start text chars.0.0 None chars.1 → Reads (tables_from text chars None) (IsPrivate text) (PrivateFails text)
+without : (text : List ℕ) (chars : (List ℕ × Unit {0}) × List ℕ) → Start text chars.0.0 None chars.1 → Reads (tables_from (length text) chars None) (IsPrivate text) (PrivateFails text)
 unfolding tables_from
 without text chars a = reads_then (iv_of chars.0.0) _ (iv_reads chars.0.0) (λ iv i. glyphs_reads text chars.0.0 None [] iv chars.1 (a, refl) i) (λ e f. subst (PrivateFails text) (sym f.1) (chars.0.0, chars.1, None, a, f.0))
 
-with_subrs : (text : List ℕ) (chars : (List ℕ × Unit {0}) × List ℕ) (x : (List ℕ × ℕ) × List ℕ) → Start text x.0.0 (Some x.0.1) x.1 → Reads (tables_from text chars (Some x)) (IsPrivate text) (PrivateFails text)
+with_subrs : (text : List ℕ) (chars : (List ℕ × Unit {0}) × List ℕ) (x : (List ℕ × ℕ) × List ℕ) → Start text x.0.0 (Some x.0.1) x.1 → Reads (tables_from (length text) chars (Some x)) (IsPrivate text) (PrivateFails text)
 unfolding tables_from
 with_subrs text chars x a =
     reads_then (iv_of x.0.0) _ (iv_reads x.0.0) (λ iv i.
@@ -155,7 +155,7 @@ private_reads : (text : List ℕ) → Reads (private_pieces text) (IsPrivate tex
 unfolding private_pieces
 private_reads text = first_then NoCharStrings chars_marker chars_marker_exact text _ (λ chars c. by_marker chars c ((first subrs_marker).read text) refl) (λ lacks. lacks)
   where
-    by_marker : (chars : (List ℕ × Unit {0}) × List ℕ) → AtFront (first chars_marker) text chars → (o : Option ((List ℕ × ℕ) × List ℕ)) → (first subrs_marker).read text ≡ o → Reads (tables_from text chars (before_place (length chars.0.0) o)) (IsPrivate text) (PrivateFails text)
+    by_marker : (chars : (List ℕ × Unit {0}) × List ℕ) → AtFront (first chars_marker) text chars → (o : Option ((List ℕ × ℕ) × List ℕ)) → (first subrs_marker).read text ≡ o → Reads (tables_from (length text) chars (before_place (length chars.0.0) o)) (IsPrivate text) (PrivateFails text)
     by_marker chars c None e = without text chars (c, nowhere (unread_lacks subrs_marker subrs_marker_exact text e))
     by_marker chars c (Some x) e =
         let m = (first_exact subrs_marker subrs_marker_exact).takes text x e in

@@ -15,7 +15,7 @@ use Rattle.t1_font.specs.FontValue.{Numbered, Encoding, Word, Codes}
 use Rattle.t1_font.specs.Pieces.{ClearPieces, SubrsPieces, PrivatePieces}
 use Rattle.t1_font.specs.Glyphs.{Glyph}
 use Rattle.t1_font.specs.ReadFont.{encoding_value, subrs_of}
-use Rattle.t1_font.specs.Views.{phrase_view, words_view}
+use Rattle.t1_font.specs.Views.{words_view}
 use Rattle.t1_font.specs.Gathering.{Entries, named}
 use Rattle.t1_font.specs.Held.{first_words, names_notdef, HoldsSubrs, HoldsGlyphs}
 
@@ -47,7 +47,7 @@ pub record ShowsClear (x : ClearParts) (codes : Numbered) (c : ClearPieces) : Ty
 pub record ShowsTable (x : SubrsParts) (s : SubrsPieces) : Type 0 where
   pub declared : x.declared ≡ s.declared
   pub words : option_map words_view x.words ≡ first_words s.entries
-  pub closing : phrase_view x.closing ≡ s.closing
+  pub closing : x.closing.items ≡ s.closing
 
 abbrev pub ShowsSubrs : Option SubrsParts → Option SubrsPieces → Type 0
 ShowsSubrs None None = Unit {0}
@@ -70,11 +70,11 @@ pub record ShowsBefore (x : Before) (subrs : Numbered) (s : Option SubrsPieces) 
   pub bodies : HoldsSubrs (declared_in x.subrs) x.len_iv subrs (subrs_of s)
 
 pub record ShowsPrivate (x : PrivateParts) (g : Entries) (p : PrivatePieces) : Type 0 where
-  pub private : x.private.now ≡ p.private
+  pub private : x.private.items ≡ p.private
   pub len_iv : x.len_iv ≡ p.len_iv
   pub subrs : ShowsSubrs x.subrs p.subrs
   pub subr_bodies : HoldsSubrs (declared_in x.subrs) p.len_iv g.subrs (subrs_of p.subrs)
-  pub middle : x.middle.now ≡ p.middle
+  pub middle : x.middle.items ≡ p.middle
   pub glyphs : ShowsGlyphs x.glyphs p.glyphs
   pub glyph_bodies : HoldsGlyphs p.len_iv g.glyphs p.glyphs
-  pub tail : x.tail.now ≡ p.tail
+  pub tail : x.tail.items ≡ p.tail

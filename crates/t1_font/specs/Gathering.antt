@@ -1,30 +1,28 @@
 -- What is gathered of a font while it is read.
-use Rattle.std.specs.Prelude.{◌≡◌, ℕ, List, length, filter}
+use Rattle.std.specs.Prelude.{◌≡◌, ℕ, ◌≤◌, List, length, filter, map, drop}
 use Rattle.std.specs.Borrow.{Bor}
 use Rattle.std.specs.Coded.{Coded, code_by, coded×}
-use Rattle.std.specs.FinMap.{from_sorted, entries, empty}
+use Rattle.std.specs.FinMap.{from_sorted, entries}
 use Rattle.std.proofs.Common.{refl}
 use Rattle.t1_join.specs.Entries.{entries_by}
 use Rattle.t1_font.specs.declared.gathered.Gathered.TheInside.{Inside}
 use Rattle.t1_font.specs.declared.ranges.Range.{Range}
 use Rattle.t1_font.specs.FontValue.{Numbered, Named}
 use Rattle.t1_font.specs.Entries.{has_name, map_of}
-use Rattle.t1_font.specs.Lent.{numbered_code, named_code}
-use Rattle.t1_font.specs.Ranges.{bytes_at, AllInside}
+use Rattle.t1_font.specs.Lent.{bytes_code, numbered_code, named_code}
+use Rattle.t1_font.specs.Ranges.{bytes_at, AllInside, NamesInside, named_at}
 
--- the last name of each code, `.notdef` among them, and the last plain charstring of each Subr and of each glyph
+-- what is left of the private text; the last name of each code, `.notdef` among them, and the last plain charstring of
+-- each Subr and of each glyph
 pub record Entries : Type 0 where
+  pub rest : List ℕ
   pub codes : Numbered
   pub subrs : Numbered
   pub glyphs : Named
 
 abbrev pub entries_code : Coded Entries
-entries_code = code_by (Numbered × (Numbered × Named)) (coded× numbered_code (coded× numbered_code named_code))
-    (λ g. (g.codes, (g.subrs, g.glyphs))) (λ p. record { codes = p.0; subrs = p.1.0; glyphs = p.1.1 }) (λ g. refl)
-
--- nothing
-abbrev pub no_entries : Entries
-no_entries = record { codes = empty; subrs = empty; glyphs = empty }
+entries_code = code_by (List ℕ × (Numbered × (Numbered × Named))) (coded× bytes_code (coded× numbered_code (coded× numbered_code named_code)))
+    (λ g. (g.rest, (g.codes, (g.subrs, g.glyphs)))) (λ p. record { rest = p.0; codes = p.1.0; subrs = p.1.1.0; glyphs = p.1.1.1 }) (λ g. refl)
 
 -- the names of codes, which stand elsewhere
 abbrev pub gathered_codes : List (ℕ × Bor (List ℕ)) → Numbered
@@ -34,28 +32,31 @@ gathered_codes es = map_of (entries_by (λ k. k) (λ n. n.now) es)
 abbrev pub gathered_subrs : List ℕ → List (ℕ × Range) → Numbered
 gathered_subrs buffer es = map_of (entries_by (λ k. k) (bytes_at buffer) es)
 
-abbrev pub gathered_glyphs : List ℕ → List (Bor (List ℕ) × Range) → Named
-gathered_glyphs buffer es = map_of (entries_by (λ k. k.now) (bytes_at buffer) es)
+abbrev pub gathered_glyphs : List ℕ → List (Range × Range) → Named
+gathered_glyphs buffer es = map_of (map (named_at buffer) es)
 
 abbrev pub gathered_value : Inside → Entries
 gathered_value g = record {
+  rest = drop g.at g.buffer.items;
   codes = gathered_codes g.codes.items;
   subrs = gathered_subrs g.buffer.items g.subrs.items;
   glyphs = gathered_glyphs g.buffer.items g.glyphs.items;
 }
 
--- each range is inside the buffer
+-- what is gathered stands before what is left
 pub record IsGathered (g : Inside) : Type 0 where
-  pub subrs : AllInside (length g.buffer.items) g.subrs.items
-  pub glyphs : AllInside (length g.buffer.items) g.glyphs.items
+  pub at : g.at ≤ length g.buffer.items
+  pub subrs : AllInside g.at g.subrs.items
+  pub names : NamesInside g.at g.glyphs.items
+  pub glyphs : AllInside g.at g.glyphs.items
 
 -- the names of codes, but for `.notdef`
 abbrev pub named : Numbered → Numbered
 named m = from_sorted (filter has_name (entries m))
 
--- nothing changed but the names of codes, the Subrs, or the glyphs
+-- nothing changed but the names of codes; the Subrs, or the glyphs, and what is left
 abbrev pub CodesAlone : Entries → Entries → Type 0
-CodesAlone old new = (new.subrs ≡ old.subrs) × (new.glyphs ≡ old.glyphs)
+CodesAlone old new = (new.rest ≡ old.rest) × (new.subrs ≡ old.subrs) × (new.glyphs ≡ old.glyphs)
 
 abbrev pub SubrsAlone : Entries → Entries → Type 0
 SubrsAlone old new = (new.codes ≡ old.codes) × (new.glyphs ≡ old.glyphs)

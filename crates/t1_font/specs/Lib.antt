@@ -14,6 +14,7 @@ pub mod FontValue
 pub mod Entries
 pub mod Lent
 pub mod Ranges
+pub mod Places
 pub mod Gathering
 pub mod Sources
 pub mod FontModel

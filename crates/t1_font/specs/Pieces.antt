@@ -88,10 +88,10 @@ tail_after middle rest = do
   end ← wanted NoClosefile (first closefile) rest
   give (end.0.0 ++ end.0.1)
 
--- what stands before the CharStrings marker, and the glyphs after it
-unfoldable pub glyphs_from : List ℕ → List ℕ → Option SubrsPieces → List ℕ → ℕ → List ℕ → Reading PrivatePieces
-glyphs_from text private subrs middle iv rest = do
-  glyphs ← table BadGlyphs (length text) (glyph iv) glyphs_end rest
+-- what stands before the CharStrings marker, and the glyphs after it, in a private text of so many bytes
+unfoldable pub glyphs_from : ℕ → List ℕ → Option SubrsPieces → List ℕ → ℕ → List ℕ → Reading PrivatePieces
+glyphs_from size private subrs middle iv rest = do
+  glyphs ← table BadGlyphs size (glyph iv) glyphs_end rest
   tail ← tail_after middle glyphs.2
   give (record { private = private; len_iv = iv; subrs = subrs; middle = middle; glyphs = glyphs.0; tail = tail })
 
@@ -100,18 +100,18 @@ abbrev pub before_place : ℕ → Option ((List ℕ × ℕ) × List ℕ) → Opt
 before_place n None = None
 before_place n (Some x) = if nat_lt (length x.0.0) n then Some x else None
 
-unfoldable pub tables_from : List ℕ → (List ℕ × Unit {0}) × List ℕ → Option ((List ℕ × ℕ) × List ℕ) → Reading PrivatePieces
-tables_from text chars None = do
+unfoldable pub tables_from : ℕ → (List ℕ × Unit {0}) × List ℕ → Option ((List ℕ × ℕ) × List ℕ) → Reading PrivatePieces
+tables_from size chars None = do
   iv ← iv_of chars.0.0
-  glyphs_from text chars.0.0 None [] iv chars.1
-tables_from text chars (Some marker) = do
+  glyphs_from size chars.0.0 None [] iv chars.1
+tables_from size chars (Some marker) = do
   iv ← iv_of marker.0.0
-  subrs ← table BadSubrs (length text) (subr marker.0.1 iv) subrs_end marker.1
-  next ← wanted (BadGlyphs (length text - length subrs.2)) (first chars_marker) subrs.2
-  glyphs_from text marker.0.0 (Some (record { declared = marker.0.1; entries = subrs.0; closing = subrs.1 })) next.0.0 iv next.1
+  subrs ← table BadSubrs size (subr marker.0.1 iv) subrs_end marker.1
+  next ← wanted (BadGlyphs (size - length subrs.2)) (first chars_marker) subrs.2
+  glyphs_from size marker.0.0 (Some (record { declared = marker.0.1; entries = subrs.0; closing = subrs.1 })) next.0.0 iv next.1
 
 unfoldable pub private_pieces : List ℕ → Reading PrivatePieces
 private_pieces text = do
   chars ← wanted NoCharStrings (first chars_marker) text
   marker ← optional (first subrs_marker) text
-  tables_from text chars (before_place (length chars.0.0) marker)
+  tables_from (length text) chars (before_place (length chars.0.0) marker)

@@ -16,6 +16,10 @@ pub record IsInside (size : ℕ) (r : Range) : Type 0 where
 abbrev pub AllInside : {K : Type 0} → ℕ → List (K × Range) → Type 0
 AllInside size es = All (λ e. IsInside size e.1) es
 
+-- the range of each name is
+abbrev pub NamesInside : ℕ → List (Range × Range) → Type 0
+NamesInside size es = All (λ e. IsInside size e.0) es
+
 -- an entry by number, and one by name
 abbrev pub numbered_at : List ℕ → ℕ × Range → ℕ × List ℕ
 numbered_at buffer e = (e.0, bytes_at buffer e.1)

@@ -1,6 +1,5 @@
 -- What a source stands for, and what holds of each.
 use Rattle.std.specs.Prelude.{ℕ, List, [], map, length}
-use Rattle.std.specs.List.{All}
 use Rattle.std.specs.Ordering.{nat_cmp}
 use Rattle.std.specs.FinMap.{from_sorted}
 use Rattle.t1_join.specs.TableMeaning.{Rises}
@@ -10,7 +9,7 @@ use Rattle.t1_font.specs.declared.source.KeptEncoding.TheVariants as kept
 use Rattle.t1_font.specs.declared.source.SourceParts.TheInside.{Inside}
 use Rattle.t1_font.specs.FontModel.{shell_view}
 use Rattle.t1_font.specs.FontValue.{FontValue, Encoding, Word, Codes, name_cmp}
-use Rattle.t1_font.specs.Ranges.{IsInside, AllInside, numbered_at, named_at}
+use Rattle.t1_font.specs.Ranges.{AllInside, NamesInside, numbered_at, named_at}
 
 abbrev pub kept_encoding : List ℕ → KeptEncoding → Encoding
 kept_encoding buffer (kept.Word w) = Word w.items
@@ -29,10 +28,6 @@ source_value s = record {
   subrs = from_sorted (map (numbered_at s.buffer.items) s.subrs.items);
   glyphs = from_sorted (map (named_at s.buffer.items) s.glyphs.items);
 }
-
--- the range of each name is inside a buffer of so many bytes
-abbrev pub NamesInside : ℕ → List (Range × Range) → Type 0
-NamesInside size es = All (λ e. IsInside size e.0) es
 
 -- each range is inside the buffer, and the keys rise
 pub record IsSource (s : Inside) : Type 0 where

@@ -1,7 +1,8 @@
 //! Reading a font file.
 
-ghost use Rattle.std.specs.Prelude.{◌≡◌, ◌≤◌, ◌++◌, ℕ, List, length, take, map, true, IfOk, OnOk, MatchResult};
+ghost use Rattle.std.specs.Prelude.{◌≡◌, ◌≤◌, ◌++◌, ℕ, List, length, take, drop, map, true, IfOk, OnOk, MatchResult};
 ghost use Rattle.std.specs.Ordering.{nat_cmp};
+ghost use Rattle.t1_bytes.specs.Cipher.{decrypted};
 ghost use Rattle.t1_join.specs.TableMeaning.{Rises};
 ghost use Rattle.t1_font.specs.FontValue.{count_limit, weight};
 ghost use Rattle.t1_font.specs.FontModel.{clamp};
@@ -16,14 +17,15 @@ ghost use Rattle.t1_font.specs.Reasons.{Refuses};
 
 use crate::encoding::{ClearParts, EncodingParts, clear_parts};
 use crate::fault::ReadFault;
-use crate::gathered::{Gathered, last_entries};
+use crate::gathered::Gathered;
 use crate::limits::{COUNT_LIMIT, FILE_LIMIT, WEIGHT_LIMIT};
 use crate::private::{PrivateParts, private_parts};
+use crate::repeats::{last_entries, last_names};
 use crate::shell::kept_shell;
-use crate::source::{KeptEncoding, Source, SourceParts, keep_codes, keep_names};
+use crate::source::{KeptEncoding, Source, SourceParts, keep_codes};
 use crate::subrs::SubrsParts;
 use std::alloc::{AllocError, Global};
-use t1_bytes::{EEXEC_KEY, EEXEC_LEAD, flatten, is_segmented, open, split_eexec};
+use t1_bytes::{EEXEC_KEY, EEXEC_LEAD, decrypt, flatten, is_segmented, split_eexec};
 
 /// The flat text of a file.
 #[tactic(auto, unfolding(crate::specs::ReadFont::flat_text))]
@@ -89,16 +91,16 @@ fn kept_encoding(
 fn source_parts(
     alloc: Global,
     outside: &ClearParts<'_>,
-    inside: &PrivateParts<'_>,
+    inside: PrivateParts,
     gathered: Gathered<'_>,
 ) -> Result<SourceParts, AllocError>
-    requires { declared_in inside.now.subrs ≤ count_limit }
-    ensures { IfOk result (λ f. (c : ClearPieces) (p : PrivatePieces) → ShowsClear outside.now gathered.entry.codes c → ShowsPrivate inside.now gathered.entry p → f ≡ font_of c p) }
+    requires { declared_in inside.subrs ≤ count_limit }
+    ensures { IfOk result (λ f. (c : ClearPieces) (p : PrivatePieces) → ShowsClear outside.now gathered.entry.codes c → ShowsPrivate inside gathered.entry p → f ≡ font_of c p) }
 {
     let shell = kept_shell(alloc, outside, inside)?;
     let mut buffer = gathered.buffer;
     let encoding = kept_encoding(alloc, outside.encoding, gathered.codes, &mut buffer)?;
-    let glyphs = keep_names(alloc, gathered.glyphs, &mut buffer)?;
+    let glyphs = last_names(alloc, buffer.as_slice(), gathered.glyphs)?;
     let subrs = last_entries(alloc, gathered.subrs)?;
     Ok(SourceParts {
         shell,
@@ -110,7 +112,7 @@ fn source_parts(
 }
 
 /// How many Subrs are declared.
-fn declared_in(parts: &Option<SubrsParts<'_>>) -> u32
+fn declared_in(parts: &Option<SubrsParts>) -> u32
     ensures { result ≡ declared_in parts.now }
 {
     match parts {
@@ -131,12 +133,12 @@ fn weight_of(alloc: Global, parts: &SourceParts) -> Result<u64, AllocError>
 fn light_parts(
     alloc: Global,
     outside: &ClearParts<'_>,
-    inside: &PrivateParts<'_>,
+    inside: PrivateParts,
     gathered: Gathered<'_>,
 ) -> Result<SourceParts, ReadFault>
-    requires declared { declared_in inside.now.subrs ≤ count_limit }
-    requires notdef { inside.now.glyphs.has_notdef ≡ true }
-    ensures { (c : ClearPieces) (p : PrivatePieces) → ShowsClear outside.now gathered.entry.codes c → ShowsPrivate inside.now gathered.entry p → Answers (λ f. f) result (font_from c p) }
+    requires declared { declared_in inside.subrs ≤ count_limit }
+    requires notdef { inside.glyphs.has_notdef ≡ true }
+    ensures { (c : ClearPieces) (p : PrivatePieces) → ShowsClear outside.now gathered.entry.codes c → ShowsPrivate inside gathered.entry p → Answers (λ f. f) result (font_from c p) }
 {
     let parts = source_parts(alloc, outside, inside, gathered)?;
     if parts.glyph_count() > COUNT_LIMIT {
@@ -155,10 +157,10 @@ fn light_parts(
 fn font_from(
     alloc: Global,
     outside: &ClearParts<'_>,
-    inside: &PrivateParts<'_>,
+    inside: PrivateParts,
     gathered: Gathered<'_>,
 ) -> Result<SourceParts, ReadFault>
-    ensures { (c : ClearPieces) (p : PrivatePieces) → ShowsClear outside.now gathered.entry.codes c → ShowsPrivate inside.now gathered.entry p → Answers (λ f. f) result (font_from c p) }
+    ensures { (c : ClearPieces) (p : PrivatePieces) → ShowsClear outside.now gathered.entry.codes c → ShowsPrivate inside gathered.entry p → Answers (λ f. f) result (font_from c p) }
 {
     if !inside.glyphs.has_notdef {
         return Err(ReadFault::NoNotdef);
@@ -169,14 +171,27 @@ fn font_from(
     light_parts(alloc, outside, inside, gathered)
 }
 
-/// The parts of the font of a clear text and a private text.
-fn text_parts(alloc: Global, clear: &[u8], private: &[u8]) -> Result<SourceParts, ReadFault>
-    ensures { Answers (λ f. f) result (font_texts clear.now private.now) }
+/// Decrypts the cipher of a private text, where it stands.
+fn open_private(cipher: &mut Vec<u8>)
+    ensures { cipher.new.items ≡ decrypted 55665 cipher.old.items }
 {
-    let mut gathered = Gathered::new(alloc, private.len())?;
+    decrypt(cipher.as_mut_slice(), EEXEC_KEY);
+}
+
+/// The parts of the font of a clear text, and of a private text that stands in a buffer from `at` on.
+fn text_parts(
+    alloc: Global,
+    clear: &[u8],
+    buffer: Vec<u8>,
+    at: usize,
+) -> Result<SourceParts, ReadFault>
+    requires { at ≤ length buffer.items }
+    ensures { Answers (λ f. f) result (font_texts clear.now (drop at buffer.items)) }
+{
+    let mut gathered = Gathered::new(alloc, buffer, at);
     let outside = clear_parts(clear, &mut gathered)?;
-    let inside = private_parts(private, &mut gathered)?;
-    font_from(alloc, &outside, &inside, gathered)
+    let inside = private_parts(alloc, &mut gathered)?;
+    font_from(alloc, &outside, inside, gathered)
 }
 
 /// The parts of the font that a file spells.
@@ -188,8 +203,8 @@ fn file_parts(alloc: Global, file: &[u8]) -> Result<SourceParts, ReadFault>
         return Err(ReadFault::TooLong);
     }
     let (clear, mut cipher) = cut_file(alloc, file)?;
-    let private = open(cipher.as_mut_slice(), EEXEC_KEY, EEXEC_LEAD);
-    text_parts(alloc, clear.as_slice(), private)
+    open_private(&mut cipher);
+    text_parts(alloc, clear.as_slice(), cipher, EEXEC_LEAD as usize)
 }
 
 /// Reads a font file: PFA or PFB, in any spelling of the Type 1 grammar that this library accepts

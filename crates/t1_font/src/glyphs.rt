@@ -1,22 +1,24 @@
 //! The table of glyphs.
 
-ghost use Rattle.std.specs.Prelude.{◌≡◌, ◌≤◌, ◌++◌, ◌∷◌, [], List, OnOk, IfSome, length};
+ghost use Rattle.std.specs.Prelude.{◌≡◌, ◌≤◌, ◌+◌, OnOk, IfSome, length};
 ghost use Rattle.std.specs.Option.{option_map};
 ghost use Rattle.std.specs.Str.{bytes_eq};
 ghost use Rattle.t1_font.specs.FontValue.{notdef};
 ghost use Rattle.t1_bytes.specs.Grammar.{table_at};
-ghost use Rattle.t1_font.specs.Glyphs.{Glyph, glyph_key, glyph, glyphs_end};
+ghost use Rattle.t1_font.specs.Glyphs.{glyph_key, glyph, glyphs_end};
 ghost use Rattle.std.specs.FinMap as fin;
 ghost use Rattle.t1_font.specs.Answers.{ShowsGlyphs};
 ghost use Rattle.t1_font.specs.Gathering.{GlyphsAlone};
 ghost use Rattle.t1_font.specs.Held.{HoldsGlyphs, TableHeld};
+ghost use Rattle.t1_font.specs.Places.{StandsIn};
 ghost use Rattle.t1_font.specs.Views.{entry_view};
 
 use crate::entry::{Body, body_at};
 use crate::fault::TableError;
 use crate::gathered::Gathered;
+use crate::places::Place;
 use crate::words::{Words, first_words, keyword_at, name_at};
-use std::alloc::AllocError;
+use std::alloc::Global;
 use t1_bytes::texts::white_at;
 
 /// A name, and what stands before it.
@@ -28,15 +30,41 @@ fn glyph_key_at(bytes: &[u8]) -> Option<(&[u8], &[u8])>
     name_at(rest)
 }
 
-/// An entry of a table with this lenIV: its name and what stands behind it.
+/// An entry of the table: its name, how many bytes stand behind that, and what they begin with.
+#[derive(Clone, Copy)]
+pub struct GlyphEntry<'a> {
+    pub name: &'a [u8],
+    pub behind: usize,
+    pub body: Body<'a>,
+}
+
+impl<'a> GlyphEntry<'a> {
+    /// Where the name stands.
+    fn name_place(&self) -> Place
+        ensures len { result.len ≡ length self.now.name.now }
+        ensures behind { result.behind ≡ self.now.behind }
+    {
+        Place {
+            len: self.name.len(),
+            behind: self.behind,
+        }
+    }
+}
+
+/// An entry of a table with this lenIV.
 #[tactic(auto, unfolding(crate::specs::Entry::entry))]
-fn glyph_at(bytes: &[u8], len_iv: u8) -> Option<(&[u8], Body<'_>, &[u8])>
-    ensures value { option_map (λ x. (entry_view x.0.now x.1, x.2.now)) result ≡ (glyph len_iv).read bytes.now }
-    ensures length { IfSome result (λ x. len_iv ≤ length x.1.bytes.now) }
+fn glyph_at(bytes: &[u8], len_iv: u8) -> Option<(GlyphEntry<'_>, &[u8])>
+    ensures value { option_map (λ x. (entry_view x.0.name.now x.0.body, x.1.now)) result ≡ (glyph len_iv).read bytes.now }
+    ensures length { IfSome result (λ x. len_iv ≤ length x.0.body.bytes.now) }
+    ensures name { IfSome result (λ x. StandsIn bytes.now x.0.name.now x.0.behind) }
+    ensures body { IfSome result (λ x. StandsIn bytes.now x.0.body.bytes.now x.0.body.behind) }
+    ensures order { IfSome result (λ x. length x.0.body.bytes.now + x.0.body.behind ≤ x.0.behind) }
+    ensures left { IfSome result (λ x. length x.1.now ≤ x.0.body.behind) }
 {
     let (name, rest) = glyph_key_at(bytes)?;
+    let behind = rest.len();
     let (body, rest) = body_at(rest, len_iv)?;
-    Some((name, body, rest))
+    Some((GlyphEntry { name, behind, body }, rest))
 }
 
 /// What stands after the close of the table.
@@ -50,24 +78,10 @@ fn glyphs_end_at(bytes: &[u8]) -> Option<&[u8]>
 }
 
 /// What is read of a table of glyphs beside its glyphs: the words of the first entry, and whether one is `.notdef`.
-#[derive(Clone, Copy)]
-pub struct GlyphsParts<'a> {
-    pub words: Option<Words<'a>>,
+#[derive(Drop)]
+pub struct GlyphsParts {
+    pub words: Option<Words>,
     pub has_notdef: bool,
-}
-
-/// Keeps the plain charstring of one more entry.
-fn keep_glyph<'a>(
-    gathered: &mut Gathered<'a>,
-    name: &'a [u8],
-    body: Body<'_>,
-    len_iv: u8,
-) -> Result<(), AllocError>
-    requires { len_iv ≤ length body.bytes.now }
-    ensures shown { OnOk result ((es : List Glyph) → HoldsGlyphs len_iv gathered.old.glyphs es → HoldsGlyphs len_iv gathered.new.glyphs (es ++ entry_view name.now body.entry ∷ [])) }
-    ensures others { OnOk result (GlyphsAlone gathered.old gathered.new) }
-{
-    gathered.keep_glyph(name, body.bytes, len_iv)
 }
 
 /// Whether a name is the one that each font has.
@@ -77,30 +91,31 @@ pub fn is_notdef(name: &[u8]) -> bool
     b".notdef".as_slice() == name
 }
 
-/// The entries, and what stands after what closes them.
-pub(crate) fn glyphs_at<'a>(
-    bytes: &'a [u8],
+/// The entries, through what closes them.
+pub(crate) fn glyphs_at(
+    alloc: Global,
     len_iv: u8,
-    gathered: &mut Gathered<'a>,
-) -> Result<(GlyphsParts<'a>, &'a [u8]), TableError>
+    gathered: &mut Gathered<'_>,
+) -> Result<GlyphsParts, TableError>
     requires { gathered.old.glyphs ≡ fin.empty }
-    ensures shown { TableHeld (λ x es close rest. ShowsGlyphs x.0 es × HoldsGlyphs len_iv gathered.new.glyphs es × (x.1.now ≡ rest)) result (table_at (glyph len_iv) glyphs_end bytes.now) }
+    ensures shown { TableHeld (λ x es close rest. ShowsGlyphs x es × HoldsGlyphs len_iv gathered.new.glyphs es × (gathered.new.rest ≡ rest)) result (table_at (glyph len_iv) glyphs_end gathered.old.rest) }
     ensures others { OnOk result (GlyphsAlone gathered.old gathered.new) }
 {
     let mut words = None;
     let mut has_notdef = false;
-    let mut rest = bytes;
     'entries: loop {
-        if let Some(after) = glyphs_end_at(rest) {
-            return Ok((GlyphsParts { words, has_notdef }, after));
+        if let Some(after) = glyphs_end_at(gathered.rest()) {
+            let left = after.len();
+            gathered.pass_to(left);
+            return Ok(GlyphsParts { words, has_notdef });
         }
-        let Some((name, body, after)) = glyph_at(rest, len_iv) else {
-            let (_, left) = white_at(rest);
+        let Some((entry, after)) = glyph_at(gathered.rest(), len_iv) else {
+            let (_, left) = white_at(gathered.rest());
             return Err(TableError::Left(left.len()));
         };
-        words = Some(first_words(words, body.rd, body.phrase));
-        has_notdef |= is_notdef(name);
-        keep_glyph(gathered, name, body, len_iv)?;
-        rest = after;
+        words = Some(first_words(alloc, words, entry.body.rd, entry.body.phrase)?);
+        has_notdef |= is_notdef(entry.name);
+        let (name, body, left) = (entry.name_place(), entry.body.place(), after.len());
+        gathered.keep_glyph(name, body, left, len_iv)?;
     }
 }

@@ -1,6 +1,6 @@
 //! The private text.
 
-ghost use Rattle.std.specs.Prelude.{◌≡◌, ◌++◌, length, Option, Some, None, [], OnOk};
+ghost use Rattle.std.specs.Prelude.{◌≡◌, ◌++◌, Option, Some, None, [], OnOk};
 ghost use Rattle.std.specs.FinMap as fin;
 ghost use Rattle.std.specs.Option.{option_map};
 ghost use Rattle.t1_bytes.specs.Grammar.{first};
@@ -19,25 +19,26 @@ use crate::gathered::Gathered;
 use crate::glyphs::{GlyphsParts, glyphs_at};
 use crate::markers::{CharsMarker, Closefile, LenIvMarker, SubrsMarker, first, len_iv_at};
 use crate::subrs::{SubrsParts, subrs_at};
+use std::alloc::Global;
 
 /// The pieces of the private text; the tail is what stands through `closefile`. The charstrings are gathered.
-#[derive(Clone, Copy)]
-pub struct PrivateParts<'a> {
-    pub private: &'a [u8],
+#[derive(Drop)]
+pub struct PrivateParts {
+    pub private: Vec<u8>,
     pub len_iv: u8,
-    pub subrs: Option<SubrsParts<'a>>,
-    pub middle: &'a [u8],
-    pub glyphs: GlyphsParts<'a>,
-    pub tail: &'a [u8],
+    pub subrs: Option<SubrsParts>,
+    pub middle: Vec<u8>,
+    pub glyphs: GlyphsParts,
+    pub tail: Vec<u8>,
 }
 
 /// What stands before the glyphs.
-#[derive(Clone, Copy)]
-pub struct Before<'a> {
-    pub private: &'a [u8],
+#[derive(Drop)]
+pub struct Before {
+    pub private: Vec<u8>,
     pub len_iv: u8,
-    pub subrs: Option<SubrsParts<'a>>,
-    pub middle: &'a [u8],
+    pub subrs: Option<SubrsParts>,
+    pub middle: Vec<u8>,
 }
 
 /// Whether a Subrs marker stands in a text.
@@ -87,40 +88,41 @@ fn through_close(bytes: &[u8]) -> Option<&[u8]>
     Some(through)
 }
 
-/// The table of glyphs, in the last part of the private text.
-fn glyphs_parts<'a>(
-    text: &[u8],
+/// The table of glyphs, in the last part of a private text of so many bytes.
+fn glyphs_parts(
+    alloc: Global,
+    size: usize,
     len_iv: u8,
-    rest: &'a [u8],
-    gathered: &mut Gathered<'a>,
-) -> Result<(GlyphsParts<'a>, &'a [u8]), ReadFault>
+    gathered: &mut Gathered<'_>,
+) -> Result<GlyphsParts, ReadFault>
     requires { gathered.old.glyphs ≡ fin.empty }
-    ensures shown { Shown (λ x t. ShowsGlyphs x.0 t.0 × HoldsGlyphs len_iv gathered.new.glyphs t.0 × (x.1.now ≡ t.2)) result (table BadGlyphs (length text.now) (glyph len_iv) glyphs_end rest.now) }
+    ensures shown { Shown (λ x t. ShowsGlyphs x t.0 × HoldsGlyphs len_iv gathered.new.glyphs t.0 × (gathered.new.rest ≡ t.2)) result (table BadGlyphs size (glyph len_iv) glyphs_end gathered.old.rest) }
     ensures others { OnOk result (GlyphsAlone gathered.old gathered.new) }
 {
-    match glyphs_at(rest, len_iv, gathered) {
+    match glyphs_at(alloc, len_iv, gathered) {
         Ok(found) => Ok(found),
         Err(TableError::Memory) => Err(ReadFault::Memory),
         Err(TableError::Left(left)) => Err(ReadFault::BadGlyphs {
-            at: text.len().saturating_sub(left),
+            at: size.saturating_sub(left),
         }),
     }
 }
 
 /// The glyphs after their marker, and what is kept of the rest.
 #[tactic(auto, unfolding(crate::specs::Pieces::glyphs_from))]
-fn glyphs_from<'a>(
-    text: &[u8],
-    before: Before<'a>,
-    rest: &'a [u8],
-    gathered: &mut Gathered<'a>,
-) -> Result<PrivateParts<'a>, ReadFault>
+fn glyphs_from(
+    alloc: Global,
+    size: usize,
+    before: Before,
+    gathered: &mut Gathered<'_>,
+) -> Result<PrivateParts, ReadFault>
     requires { gathered.old.glyphs ≡ fin.empty }
-    ensures shown { (s : Option SubrsPieces) → ShowsBefore before.entry gathered.old.subrs s → Shown (λ x p. ShowsPrivate x gathered.new p) result (glyphs_from text.now before.entry.private.now s before.entry.middle.now before.entry.len_iv rest.now) }
+    ensures shown { (s : Option SubrsPieces) → ShowsBefore before gathered.old.subrs s → Shown (λ x p. ShowsPrivate x gathered.new p) result (glyphs_from size before.private.items s before.middle.items before.len_iv gathered.old.rest) }
     ensures codes { OnOk result (gathered.new.codes ≡ gathered.old.codes) }
 {
-    let (glyphs, after) = glyphs_parts(text, before.len_iv, rest, gathered)?;
-    let tail = tail_after(before.middle, after)?;
+    let glyphs = glyphs_parts(alloc, size, before.len_iv, gathered)?;
+    let kept = tail_after(before.middle.as_slice(), gathered.rest())?;
+    let tail = Vec::from_slice(alloc, kept)?;
     Ok(PrivateParts {
         private: before.private,
         len_iv: before.len_iv,
@@ -131,99 +133,110 @@ fn glyphs_from<'a>(
     })
 }
 
-/// The tables of a private text without Subrs.
+/// The tables of a private text without Subrs, before the entries of glyphs.
 #[tactic(auto, unfolding(crate::specs::Pieces::tables_from))]
-fn tables_without<'a>(
-    text: &[u8],
-    private: &'a [u8],
-    rest: &'a [u8],
-    gathered: &mut Gathered<'a>,
-) -> Result<PrivateParts<'a>, ReadFault>
+fn tables_without(
+    alloc: Global,
+    size: usize,
+    private: Vec<u8>,
+    gathered: &mut Gathered<'_>,
+) -> Result<PrivateParts, ReadFault>
     requires subrs { gathered.old.subrs ≡ fin.empty }
     requires glyphs { gathered.old.glyphs ≡ fin.empty }
-    ensures shown { Shown (λ x p. ShowsPrivate x gathered.new p) result (tables_from text.now ((private.now, tt), rest.now) None) }
+    ensures shown { Shown (λ x p. ShowsPrivate x gathered.new p) result (tables_from size ((private.items, tt), gathered.old.rest) None) }
     ensures codes { OnOk result (gathered.new.codes ≡ gathered.old.codes) }
 {
-    let len_iv = iv_of(private)?;
+    let len_iv = iv_of(private.as_slice())?;
     let before = Before {
         private,
         len_iv,
         subrs: None,
-        middle: &[],
+        middle: Vec::new(alloc),
     };
-    glyphs_from(text, before, rest, gathered)
+    glyphs_from(alloc, size, before, gathered)
 }
 
-/// The table of Subrs, in the last part of the private text.
-fn subrs_parts<'a>(
-    text: &[u8],
+/// The table of Subrs, in the last part of a private text of so many bytes.
+fn subrs_parts(
+    alloc: Global,
+    size: usize,
     declared: u32,
     len_iv: u8,
-    rest: &'a [u8],
-    gathered: &mut Gathered<'a>,
-) -> Result<(SubrsParts<'a>, &'a [u8]), ReadFault>
+    gathered: &mut Gathered<'_>,
+) -> Result<SubrsParts, ReadFault>
     requires { gathered.old.subrs ≡ fin.empty }
-    ensures shown { Shown (λ x t. ShowsTable x.0 (record { declared = declared; entries = t.0; closing = t.1 }) × HoldsSubrs declared len_iv gathered.new.subrs t.0 × (x.1.now ≡ t.2)) result (table BadSubrs (length text.now) (subr declared len_iv) subrs_end rest.now) }
+    ensures shown { Shown (λ x t. ShowsTable x (record { declared = declared; entries = t.0; closing = t.1 }) × HoldsSubrs declared len_iv gathered.new.subrs t.0 × (gathered.new.rest ≡ t.2)) result (table BadSubrs size (subr declared len_iv) subrs_end gathered.old.rest) }
     ensures others { OnOk result (SubrsAlone gathered.old gathered.new) }
 {
-    match subrs_at(rest, declared, len_iv, gathered) {
+    match subrs_at(alloc, declared, len_iv, gathered) {
         Ok(found) => Ok(found),
         Err(TableError::Memory) => Err(ReadFault::Memory),
         Err(TableError::Left(left)) => Err(ReadFault::BadSubrs {
-            at: text.len().saturating_sub(left),
+            at: size.saturating_sub(left),
         }),
     }
 }
 
-/// The tables of a private text, from the entries of Subrs on.
+/// The tables of a private text, before the entries of Subrs.
 #[tactic(auto, unfolding(crate::specs::Pieces::tables_from))]
-fn tables_with<'a>(
-    text: &[u8],
-    private: &'a [u8],
+fn tables_with(
+    alloc: Global,
+    size: usize,
+    private: Vec<u8>,
     declared: u32,
-    rest: &'a [u8],
-    gathered: &mut Gathered<'a>,
-) -> Result<PrivateParts<'a>, ReadFault>
+    gathered: &mut Gathered<'_>,
+) -> Result<PrivateParts, ReadFault>
     requires subrs { gathered.old.subrs ≡ fin.empty }
     requires glyphs { gathered.old.glyphs ≡ fin.empty }
-    ensures shown { Shown (λ x p. ShowsPrivate x gathered.new p) result (tables_from text.now (([], tt), []) (Some ((private.now, declared), rest.now))) }
+    ensures shown { Shown (λ x p. ShowsPrivate x gathered.new p) result (tables_from size (([], tt), []) (Some ((private.items, declared), gathered.old.rest))) }
     ensures codes { OnOk result (gathered.new.codes ≡ gathered.old.codes) }
 {
-    let len_iv = iv_of(private)?;
-    let (subrs, between) = subrs_parts(text, declared, len_iv, rest, gathered)?;
+    let len_iv = iv_of(private.as_slice())?;
+    let subrs = subrs_parts(alloc, size, declared, len_iv, gathered)?;
+    let between = gathered.rest();
     let Some((middle, _, glyphs)) = first::<CharsMarker>(between) else {
         return Err(ReadFault::BadGlyphs {
-            at: text.len().saturating_sub(between.len()),
+            at: size.saturating_sub(between.len()),
         });
     };
+    let middle = Vec::from_slice(alloc, middle)?;
+    let left = glyphs.len();
+    gathered.pass_to(left);
     let before = Before {
         private,
         len_iv,
         subrs: Some(subrs),
         middle,
     };
-    glyphs_from(text, before, glyphs, gathered)
+    glyphs_from(alloc, size, before, gathered)
 }
 
 /// The pieces of a private text.
 #[tactic(auto, unfolding(crate::specs::Pieces::private_pieces, crate::specs::Pieces::tables_from))]
-pub(crate) fn private_parts<'a>(
-    text: &'a [u8],
-    gathered: &mut Gathered<'a>,
-) -> Result<PrivateParts<'a>, ReadFault>
+pub(crate) fn private_parts(
+    alloc: Global,
+    gathered: &mut Gathered<'_>,
+) -> Result<PrivateParts, ReadFault>
     requires subrs { gathered.old.subrs ≡ fin.empty }
     requires glyphs { gathered.old.glyphs ≡ fin.empty }
-    ensures shown { Shown (λ x p. ShowsPrivate x gathered.new p) result (private_pieces text.now) }
+    ensures shown { Shown (λ x p. ShowsPrivate x gathered.new p) result (private_pieces gathered.old.rest) }
     ensures codes { OnOk result (gathered.new.codes ≡ gathered.old.codes) }
 {
-    let Some((front, _, after)) = first::<CharsMarker>(text) else {
+    let text = gathered.rest();
+    let size = text.len();
+    let Some((front, _, glyphs)) = first::<CharsMarker>(text) else {
         return Err(ReadFault::NoCharStrings);
     };
-    let Some((private, subrs, entries)) = first::<SubrsMarker>(text) else {
-        return tables_without(text, front, after, gathered);
-    };
-    if private.len() < front.len() {
-        return tables_with(text, private, subrs.declared, entries, gathered);
+    if let Some((private, subrs, entries)) = first::<SubrsMarker>(text) {
+        if private.len() < front.len() {
+            let private = Vec::from_slice(alloc, private)?;
+            let left = entries.len();
+            gathered.pass_to(left);
+            return tables_with(alloc, size, private, subrs.declared, gathered);
+        }
     }
-    tables_without(text, front, after, gathered)
+    let private = Vec::from_slice(alloc, front)?;
+    let left = glyphs.len();
+    gathered.pass_to(left);
+    tables_without(alloc, size, private, gathered)
 }

@@ -5,7 +5,7 @@ ghost use Rattle.std.specs.Option.{option_map};
 ghost use Rattle.t1_font.specs.FontValue.{count_limit, texts_weight};
 ghost use Rattle.t1_font.specs.FontModel.{clamp, subrs_view, shell_view, of_subrs};
 ghost use Rattle.t1_font.specs.Gathering.{Entries};
-ghost use Rattle.t1_font.specs.Views.{phrase_view, words_view};
+ghost use Rattle.t1_font.specs.Views.{words_view};
 ghost use Rattle.t1_font.specs.Pieces.{ClearPieces, SubrsPieces, PrivatePieces};
 ghost use Rattle.t1_font.specs.ReadFont.{subrs_shell, shell_of};
 ghost use Rattle.t1_font.specs.Answers.{ShowsClear, ShowsTable, ShowsSubrs, ShowsPrivate, declared_in};
@@ -13,7 +13,7 @@ ghost use Rattle.t1_font.specs.Answers.{ShowsClear, ShowsTable, ShowsSubrs, Show
 use crate::encoding::ClearParts;
 use crate::private::PrivateParts;
 use crate::subrs::SubrsParts;
-use crate::words::{Phrase, Words};
+use crate::words::Words;
 use std::alloc::{AllocError, Global};
 
 /// What is kept of a table of Subrs beside its Subrs.
@@ -82,55 +82,38 @@ impl KeptShell {
     }
 }
 
-/// The bytes of a phrase, with one blank between its words.
-fn phrase_bytes(alloc: Global, phrase: Phrase<'_>) -> Result<Vec<u8>, AllocError>
-    ensures { IfOk result (λ v. v.items ≡ phrase_view phrase.entry) }
-{
-    let mut bytes = Vec::new(alloc);
-    if let Some(access) = phrase.access {
-        bytes.extend_from_slice(access)?;
-        bytes.push(b' ')?;
-    }
-    bytes.extend_from_slice(phrase.word)?;
-    Ok(bytes)
-}
-
 /// The kept words of a table, empty where it has no entry.
-fn kept_words(alloc: Global, words: Option<Words<'_>>) -> Result<(Vec<u8>, Vec<u8>), AllocError>
-    ensures { IfOk result (λ x. (x.0.items, x.1.items) ≡ unwrap_or (option_map words_view words.entry) ([], [])) }
+fn kept_words(alloc: Global, words: Option<Words>) -> (Vec<u8>, Vec<u8>)
+    ensures { (result.0.items, result.1.items) ≡ unwrap_or (option_map words_view words) ([], []) }
 {
     match words {
-        Some(words) => {
-            let rd = Vec::from_slice(alloc, words.rd)?;
-            Ok((rd, phrase_bytes(alloc, words.phrase)?))
-        }
-        None => Ok((Vec::new(alloc), Vec::new(alloc))),
+        Some(words) => (words.rd, words.phrase),
+        None => (Vec::new(alloc), Vec::new(alloc)),
     }
 }
 
 /// What is kept of a table of Subrs beside its Subrs.
-fn kept_subrs(alloc: Global, parts: SubrsParts<'_>) -> Result<KeptSubrs, AllocError>
+fn kept_subrs(alloc: Global, parts: SubrsParts) -> KeptSubrs
     requires { parts.declared ≤ count_limit }
-    ensures { IfOk result (λ s. (p : SubrsPieces) → ShowsTable parts.entry p → subrs_view s ≡ subrs_shell p) }
+    ensures { (p : SubrsPieces) → ShowsTable parts p → subrs_view result ≡ subrs_shell p }
 {
-    let (rd, put) = kept_words(alloc, parts.words)?;
-    let closing = phrase_bytes(alloc, parts.closing)?;
-    Ok(KeptSubrs {
+    let (rd, put) = kept_words(alloc, parts.words);
+    KeptSubrs {
         declared: parts.declared as u16,
         rd,
         put,
-        closing,
-    })
+        closing: parts.closing,
+    }
 }
 
 /// The same, where there is such a table.
-fn kept_table(alloc: Global, parts: Option<SubrsParts<'_>>) -> Result<Option<KeptSubrs>, AllocError>
+fn kept_table(alloc: Global, parts: Option<SubrsParts>) -> Option<KeptSubrs>
     requires { declared_in parts ≤ count_limit }
-    ensures { IfOk result (λ s. (p : Option SubrsPieces) → ShowsSubrs parts.entry p → option_map subrs_view s ≡ option_map subrs_shell p) }
+    ensures { (p : Option SubrsPieces) → ShowsSubrs parts p → option_map subrs_view result ≡ option_map subrs_shell p }
 {
     match parts {
-        Some(parts) => Ok(Some(kept_subrs(alloc, parts)?)),
-        None => Ok(None),
+        Some(parts) => Some(kept_subrs(alloc, parts)),
+        None => None,
     }
 }
 
@@ -138,20 +121,20 @@ fn kept_table(alloc: Global, parts: Option<SubrsParts<'_>>) -> Result<Option<Kep
 pub(crate) fn kept_shell(
     alloc: Global,
     outside: &ClearParts<'_>,
-    inside: &PrivateParts<'_>,
+    inside: PrivateParts,
 ) -> Result<KeptShell, AllocError>
-    requires { declared_in inside.now.subrs ≤ count_limit }
-    ensures { IfOk result (λ s. (c : ClearPieces) (p : PrivatePieces) (g : Entries) → ShowsClear outside.now g.codes c → ShowsPrivate inside.now g p → shell_view s ≡ shell_of c p) }
+    requires { declared_in inside.subrs ≤ count_limit }
+    ensures { IfOk result (λ s. (c : ClearPieces) (p : PrivatePieces) (g : Entries) → ShowsClear outside.now g.codes c → ShowsPrivate inside g p → shell_view s ≡ shell_of c p) }
 {
-    let (glyphs_rd, glyphs_def) = kept_words(alloc, inside.glyphs.words)?;
+    let (glyphs_rd, glyphs_def) = kept_words(alloc, inside.glyphs.words);
     Ok(KeptShell {
         head: Vec::from_slice(alloc, outside.head)?,
         clear_tail: Vec::from_slice(alloc, outside.clear_tail)?,
-        private: Vec::from_slice(alloc, inside.private)?,
-        middle: Vec::from_slice(alloc, inside.middle)?,
-        tail: Vec::from_slice(alloc, inside.tail)?,
+        private: inside.private,
+        middle: inside.middle,
+        tail: inside.tail,
         len_iv: inside.len_iv,
-        subrs: kept_table(alloc, inside.subrs)?,
+        subrs: kept_table(alloc, inside.subrs),
         glyphs_rd,
         glyphs_def,
     })

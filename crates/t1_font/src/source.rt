@@ -7,15 +7,14 @@ ghost use Rattle.t1_join.specs.TableMeaning.{Rises};
 ghost use Rattle.t1_font.specs.Entries.{has_name};
 ghost use Rattle.t1_font.specs.FontModel.{encoding_of};
 ghost use Rattle.t1_font.specs.FontValue.{name_cmp};
-ghost use Rattle.t1_font.specs.Gathering.{gathered_codes, gathered_glyphs};
-ghost use Rattle.t1_font.specs.Ranges.{bytes_at, IsInside, AllInside, numbered_at, named_at};
-ghost use Rattle.t1_font.specs.Sources.{NamesInside};
+ghost use Rattle.t1_font.specs.Gathering.{gathered_codes};
+ghost use Rattle.t1_font.specs.Ranges.{bytes_at, IsInside, AllInside, NamesInside, numbered_at, named_at};
 
 use crate::font::{Font, FontParts, LentEncoding};
-use crate::gathered::last_entries;
 use crate::glyphs::is_notdef;
 use crate::lent::{Named, Numbered};
 use crate::ranges::Range;
+use crate::repeats::last_entries;
 use crate::shell::KeptShell;
 use std::alloc::{AllocError, Global};
 use std::marker::Model;
@@ -189,27 +188,6 @@ pub(crate) fn keep_codes(
         if !is_notdef(name) {
             kept.push((code, add_bytes(buffer, name)?))?;
         }
-    }
-    Ok(kept)
-}
-
-/// Puts the names of glyphs at the end of the buffer where their charstrings stand. Of a repeated name the last glyph
-/// stands.
-pub(crate) fn keep_names(
-    alloc: Global,
-    glyphs: Vec<(&[u8], Range)>,
-    buffer: &mut Vec<u8>,
-) -> Result<Vec<(Range, Range)>, AllocError>
-    requires { AllInside (length buffer.old.items) glyphs.items }
-    ensures entries { IfOk result (λ v. map (named_at buffer.new.items) v.items ≡ entries (gathered_glyphs buffer.old.items glyphs.entry.items)) }
-    ensures names { IfOk result (λ v. NamesInside (length buffer.new.items) v.items) }
-    ensures inside { IfOk result (λ v. AllInside (length buffer.new.items) v.items) }
-    ensures longer { OnOk result ((more : List ℕ) × (buffer.new.items ≡ buffer.old.items ++ more)) }
-{
-    let last = last_entries(alloc, glyphs)?;
-    let mut kept = Vec::with_capacity(alloc, last.len())?;
-    'names: for (name, place) in last {
-        kept.push((add_bytes(buffer, name)?, place))?;
     }
     Ok(kept)
 }

@@ -1,19 +1,23 @@
 //! The table of subroutines.
 
-ghost use Rattle.std.specs.Prelude.{◌≡◌, ◌<◌, ◌≤◌, ◌++◌, ◌∷◌, [], List, OnOk, IfSome, length};
+ghost use Rattle.std.specs.Prelude.{◌≡◌, ◌<◌, ◌≤◌, ◌+◌, OnOk, IfSome, length};
 ghost use Rattle.std.specs.Option.{option_map};
 ghost use Rattle.std.specs.FinMap as fin;
 ghost use Rattle.t1_font.specs.Answers.{ShowsTable};
 ghost use Rattle.t1_font.specs.Gathering.{SubrsAlone};
 ghost use Rattle.t1_font.specs.Held.{HoldsSubrs, TableHeld};
-ghost use Rattle.t1_font.specs.Subrs.{Subr, subr, subr_key, subrs_end, subrs_at};
+ghost use Rattle.t1_font.specs.Subrs.{subr, subr_key, subrs_end, subrs_at};
+ghost use Rattle.t1_font.specs.FontValue.{count_limit};
+ghost use Rattle.t1_font.specs.Charstrings.{plain_of};
+ghost use Rattle.t1_font.specs.Places.{StandsIn, ending, placed};
 ghost use Rattle.t1_font.specs.Views.{entry_view, phrase_view};
 
 use crate::entry::{Body, body_at};
 use crate::fault::TableError;
 use crate::gathered::Gathered;
-use crate::words::{Phrase, Words, decimal_at, first_words, keyword_at, phrase_at};
-use std::alloc::AllocError;
+use crate::places::Place;
+use crate::words::{Phrase, Words, decimal_at, first_words, keyword_at, phrase_at, phrase_bytes};
+use std::alloc::{AllocError, Global};
 use t1_bytes::texts::{gap_at, white_at};
 
 /// An index below the declared count, and what stands before it.
@@ -39,6 +43,8 @@ fn subr_at(bytes: &[u8], declared: u32, len_iv: u8) -> Option<(u32, Body<'_>, &[
     ensures value { option_map (λ x. (entry_view x.0 x.1, x.2.now)) result ≡ (subr declared len_iv).read bytes.now }
     ensures index { IfSome result (λ x. x.0 < declared) }
     ensures length { IfSome result (λ x. len_iv ≤ length x.1.bytes.now) }
+    ensures body { IfSome result (λ x. StandsIn bytes.now x.1.bytes.now x.1.behind) }
+    ensures left { IfSome result (λ x. length x.2.now ≤ x.1.behind) }
 {
     let (index, rest) = subr_key_at(bytes, declared)?;
     let (body, rest) = body_at(rest, len_iv)?;
@@ -56,60 +62,64 @@ fn subrs_end_at(bytes: &[u8]) -> Option<(Phrase<'_>, &[u8])>
 
 /// What is read of a table of Subrs beside its Subrs: the declared count, the words of the first entry, and the phrase
 /// that closes it.
-#[derive(Clone, Copy)]
-pub struct SubrsParts<'a> {
+#[derive(Drop)]
+pub struct SubrsParts {
     pub declared: u32,
-    pub words: Option<Words<'a>>,
-    pub closing: Phrase<'a>,
+    pub words: Option<Words>,
+    pub closing: Vec<u8>,
 }
 
-/// Keeps the plain charstring of one more entry. An index over 65,535 is kept of no font, since its
-/// declared count is over the limit.
+/// Keeps the plain charstring of one more entry, behind which so many bytes are left. An index over 65,535 is kept of no
+/// font, since its declared count is over the limit.
 fn keep_subr(
     gathered: &mut Gathered<'_>,
     index: u32,
-    body: Body<'_>,
-    declared: u32,
+    body: Place,
+    left: usize,
     len_iv: u8,
 ) -> Result<(), AllocError>
-    requires index { index < declared }
-    requires length { len_iv ≤ length body.bytes.now }
-    ensures shown { OnOk result ((es : List Subr) → HoldsSubrs declared len_iv gathered.old.subrs es → HoldsSubrs declared len_iv gathered.new.subrs (es ++ entry_view index body.entry ∷ [])) }
+    requires body { body.len + body.behind ≤ length gathered.old.rest }
+    requires lead { len_iv ≤ body.len }
+    requires left { left ≤ body.behind }
+    ensures kept { OnOk result (index ≤ count_limit → gathered.new.subrs ≡ fin.insert gathered.old.subrs index (plain_of len_iv (placed gathered.old.rest body))) }
+    ensures rest { OnOk result (gathered.new.rest ≡ ending left gathered.old.rest) }
     ensures others { OnOk result (SubrsAlone gathered.old gathered.new) }
 {
     let Ok(index) = u16::try_from(index) else {
+        gathered.pass_to(left);
         return Ok(());
     };
-    gathered.keep_subr(index, body.bytes, len_iv)
+    gathered.keep_subr(index, body, left, len_iv)
 }
 
-/// The entries, the phrase that closes the table, and what stands after it.
-pub(crate) fn subrs_at<'a>(
-    bytes: &'a [u8],
+/// The entries, through the phrase that closes the table.
+pub(crate) fn subrs_at(
+    alloc: Global,
     declared: u32,
     len_iv: u8,
     gathered: &mut Gathered<'_>,
-) -> Result<(SubrsParts<'a>, &'a [u8]), TableError>
+) -> Result<SubrsParts, TableError>
     requires { gathered.old.subrs ≡ fin.empty }
-    ensures shown { TableHeld (λ x es close rest. ShowsTable x.0 (record { declared = declared; entries = es; closing = close }) × HoldsSubrs declared len_iv gathered.new.subrs es × (x.1.now ≡ rest)) result (subrs_at declared len_iv bytes.now) }
+    ensures shown { TableHeld (λ x es close rest. ShowsTable x (record { declared = declared; entries = es; closing = close }) × HoldsSubrs declared len_iv gathered.new.subrs es × (gathered.new.rest ≡ rest)) result (subrs_at declared len_iv gathered.old.rest) }
     ensures others { OnOk result (SubrsAlone gathered.old gathered.new) }
 {
     let mut words = None;
-    let mut rest = bytes;
     'entries: loop {
-        if let Some((index, body, after)) = subr_at(rest, declared, len_iv) {
-            words = Some(first_words(words, body.rd, body.phrase));
-            keep_subr(gathered, index, body, declared, len_iv)?;
-            rest = after;
-        } else if let Some((closing, after)) = subrs_end_at(rest) {
-            let parts = SubrsParts {
+        if let Some((index, body, after)) = subr_at(gathered.rest(), declared, len_iv) {
+            words = Some(first_words(alloc, words, body.rd, body.phrase)?);
+            let (body, left) = (body.place(), after.len());
+            keep_subr(gathered, index, body, left, len_iv)?;
+        } else if let Some((closing, after)) = subrs_end_at(gathered.rest()) {
+            let closing = phrase_bytes(alloc, closing)?;
+            let left = after.len();
+            gathered.pass_to(left);
+            return Ok(SubrsParts {
                 declared,
                 words,
                 closing,
-            };
-            return Ok((parts, after));
+            });
         } else {
-            let (_, left) = white_at(rest);
+            let (_, left) = white_at(gathered.rest());
             return Err(TableError::Left(left.len()));
         }
     }

@@ -1,11 +1,12 @@
 //! Words of font text.
 
-ghost use Rattle.std.specs.Prelude.{◌≡◌, length, take_while, unwrap_or, Some, None, if◌then◌else◌};
+ghost use Rattle.std.specs.Prelude.{◌≡◌, length, take_while, unwrap_or, IfOk, Some, None, if◌then◌else◌};
 ghost use Rattle.std.specs.Option.{option_map};
 ghost use Rattle.t1_bytes.specs.Grammar.{run, that};
 ghost use Rattle.t1_font.specs.Words.{is_delimiter, is_regular, one_white, word, keyword, decimal, digits_after, is_decimal, name, is_access, phrase_of, passes};
 ghost use Rattle.t1_font.specs.Views.{phrase_view, words_view};
 
+use std::alloc::{AllocError, Global};
 use t1_bytes::texts::{count_at, fixed_at, gap_at, is_white};
 
 fn is_delimiter(byte: u8) -> bool
@@ -122,20 +123,41 @@ pub struct Phrase<'a> {
     pub word: &'a [u8],
 }
 
+/// The bytes of a phrase, with one blank between its words.
+pub fn phrase_bytes(alloc: Global, phrase: Phrase<'_>) -> Result<Vec<u8>, AllocError>
+    ensures { IfOk result (λ v. v.items ≡ phrase_view phrase.entry) }
+{
+    let mut bytes = Vec::new(alloc);
+    if let Some(access) = phrase.access {
+        bytes.extend_from_slice(access)?;
+        bytes.push(b' ')?;
+    }
+    bytes.extend_from_slice(phrase.word)?;
+    Ok(bytes)
+}
+
 /// The words of a table's first entry: the one before its bytes, and the phrase after them.
-#[derive(Clone, Copy)]
-pub struct Words<'a> {
-    pub rd: &'a [u8],
-    pub phrase: Phrase<'a>,
+#[derive(Drop)]
+pub struct Words {
+    pub rd: Vec<u8>,
+    pub phrase: Vec<u8>,
 }
 
 /// The words that are kept: those of the first entry.
-pub fn first_words<'a>(words: Option<Words<'a>>, rd: &'a [u8], phrase: Phrase<'a>) -> Words<'a>
-    ensures { words_view result ≡ unwrap_or (option_map words_view words.entry) (rd.now, phrase_view phrase.entry) }
+pub fn first_words(
+    alloc: Global,
+    words: Option<Words>,
+    rd: &[u8],
+    phrase: Phrase<'_>,
+) -> Result<Words, AllocError>
+    ensures { IfOk result (λ w. words_view w ≡ unwrap_or (option_map words_view words) (rd.now, phrase_view phrase.entry)) }
 {
     match words {
-        Some(words) => words,
-        None => Words { rd, phrase },
+        Some(words) => Ok(words),
+        None => Ok(Words {
+            rd: Vec::from_slice(alloc, rd)?,
+            phrase: phrase_bytes(alloc, phrase)?,
+        }),
     }
 }
 

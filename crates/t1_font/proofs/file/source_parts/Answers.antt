@@ -1,57 +1,59 @@
-use Rattle.std.proofs.Common.{◌≡◌, ◌++◌, ◌∙◌, refl, sym, ap, subst, map, length}
+use Rattle.std.proofs.Common.{◌≡◌, ◌∙◌, ℕ, List, refl, ap, subst, map, length}
 use Rattle.std.proofs.lemmas.Cmp.{nat_cmp_total}
-use Rattle.std.proofs.lemmas.List.{append_assoc}
-use Rattle.std.specs.FinMap.{nat_cmp-IsAntisymmetric}
+use Rattle.std.specs.FinMap.{entries, nat_cmp-IsAntisymmetric}
 use Rattle.std.specs.Ordering.{nat_cmp}
-use Rattle.t1_join.specs.TableMeaning.{Rises}
 use Rattle.t1_join.proofs.Sorted.{rises_of, map_of}
 use Rattle.t1_font.specs.Answers.{encoding_view}
 use Rattle.t1_font.specs.Entries.{map_of as map_by_last}
 use Rattle.t1_font.specs.FontValue.{name_cmp}
 use Rattle.t1_font.specs.Gathering.{Entries, gathered_glyphs}
-use Rattle.t1_font.specs.Ranges.{bytes_at, IsInside, named_at}
-use Rattle.t1_font.specs.Sources.{codes_of}
-use Rattle.t1_font.proofs.Buffers.{all_in, entries_in}
+use Rattle.t1_font.specs.Ranges.{bytes_at, IsInside, AllInside, NamesInside, named_at}
+use Rattle.t1_font.proofs.Buffers.{all_longer, names_wider, all_in, entries_in, names_in, longer_by}
 use Rattle.t1_font.proofs.Lasts.{all_last, lasts_rise, lasts_map}
-use Rattle.t1_font.proofs.Sourced.{encoding_in}
 use Rattle.t1_font.proofs.file.source_parts.Goals as goal
+
+subrs_inside : (c : goal.In_ok-subrs) → AllInside (length c.gathered.inside.buffer.items) c.gathered.inside.subrs.items
+subrs_inside c = all_longer c.gathered.inside.at (length c.gathered.inside.buffer.items) c.gathered.inside.subrs.items c.gathered.invariant.at c.gathered.invariant.subrs
+
+names_inside : (c : goal.In_ok-subrs) → NamesInside (length c.gathered.inside.buffer.items) c.gathered.inside.glyphs.items
+names_inside c = names_wider c.gathered.inside.at (length c.gathered.inside.buffer.items) c.gathered.inside.glyphs.items c.gathered.invariant.at c.gathered.invariant.names
+
+glyphs_inside : (c : goal.In_ok-subrs) → AllInside (length c.gathered.inside.buffer.items) c.gathered.inside.glyphs.items
+glyphs_inside c = all_longer c.gathered.inside.at (length c.gathered.inside.buffer.items) c.gathered.inside.glyphs.items c.gathered.invariant.at c.gathered.invariant.glyphs
+
+-- the glyphs that are kept
+named_so : (c : goal.In_ok-subrs) → map (named_at c.kept_encoding.new.buffer.items) c.in_ok-glyphs.glyphs.items ≡ entries (gathered_glyphs c.kept_encoding.new.buffer.items c.gathered.inside.glyphs.items)
+named_so c = subst (λ (b : List ℕ). map (named_at b) c.in_ok-glyphs.glyphs.items ≡ entries (gathered_glyphs b c.gathered.inside.glyphs.items)) c.as_slice.ensures.value c.in_ok-glyphs.ensures.entries
 
 pub invariant_of-result : goal.invariant_of-result
 invariant_of-result c =
-    let first = c.in_ok-encoding.ensures in
-    let last = c.in_ok-glyphs.ensures in
-    let subrs = c.in_ok-subrs.ensures in
+    let encoding = c.in_ok-encoding.ensures in
     let read = c.gathered.inside.buffer.items in
-    let coded = c.kept_encoding.new.buffer.items in
-    let whole = c.keep_names.new.buffer.items in
-    let inside = all_in read whole (first.longer.0 ++ last.longer.0) (last.longer.1 ∙ (ap (λ b. b ++ last.longer.0) first.longer.1 ∙ append_assoc read first.longer.0 last.longer.0)) c.gathered.inside.subrs.items c.gathered.invariant.subrs in
+    let whole = c.kept_encoding.new.buffer.items in
+    let glyphs = c.in_ok-glyphs.ensures.inside (length whole) (names_wider (length read) (length whole) c.gathered.inside.glyphs.items (longer_by read whole encoding.longer.0 encoding.longer.1) (names_inside c)) (all_in read whole encoding.longer.0 encoding.longer.1 c.gathered.inside.glyphs.items (glyphs_inside c)) in
     record {
-      codes_inside = all_in coded whole last.longer.0 last.longer.1 (codes_of c.in_ok-encoding.encoding) first.inside;
-      subrs_inside = all_last nat_cmp_total (λ e. IsInside (length whole) e.1) c.gathered.inside.subrs.items c.in_ok-subrs.subrs.items subrs inside;
-      names_inside = last.names;
-      glyphs_inside = last.inside;
-      codes_rise = subst (Rises nat_cmp) (sym (entries_in coded whole last.longer.0 last.longer.1 (λ k. k) (codes_of c.in_ok-encoding.encoding) first.inside)) first.rise;
-      subrs_rise = lasts_rise (λ k. k) (bytes_at whole) nat_cmp nat_cmp nat_cmp_total nat_cmp-IsAntisymmetric (λ x y. refl) c.gathered.inside.subrs.items c.in_ok-subrs.subrs.items subrs;
-      glyphs_rise = rises_of (map (named_at whole) c.in_ok-glyphs.glyphs.items) (gathered_glyphs coded c.gathered.inside.glyphs.items) last.entries;
+      codes_inside = encoding.inside;
+      subrs_inside = all_last nat_cmp_total (λ e. IsInside (length whole) e.1) c.gathered.inside.subrs.items c.in_ok-subrs.subrs.items c.in_ok-subrs.ensures (all_in read whole encoding.longer.0 encoding.longer.1 c.gathered.inside.subrs.items (subrs_inside c));
+      names_inside = glyphs.0;
+      glyphs_inside = glyphs.1;
+      codes_rise = encoding.rise;
+      subrs_rise = lasts_rise (λ k. k) (bytes_at whole) nat_cmp nat_cmp nat_cmp_total nat_cmp-IsAntisymmetric (λ x y. refl) c.gathered.inside.subrs.items c.in_ok-subrs.subrs.items c.in_ok-subrs.ensures;
+      glyphs_rise = rises_of (map (named_at whole) c.in_ok-glyphs.glyphs.items) (gathered_glyphs whole c.gathered.inside.glyphs.items) (named_so c);
     }
 
 pub returns : goal.returns
 returns c = λ o p clear shows.
     let first = c.in_ok-encoding.ensures in
-    let last = c.in_ok-glyphs.ensures in
-    let items = c.in_ok-subrs.ensures in
     let read = c.gathered.inside.buffer.items in
-    let coded = c.kept_encoding.new.buffer.items in
-    let whole = c.keep_names.new.buffer.items in
-    let is : whole ≡ read ++ (first.longer.0 ++ last.longer.0) = last.longer.1 ∙ (ap (λ b. b ++ last.longer.0) first.longer.1 ∙ append_assoc read first.longer.0 last.longer.0) in
+    let whole = c.kept_encoding.new.buffer.items in
     let shell = c.in_ok-shell.ensures o p c.args.gathered clear shows in
-    let encoding = encoding_in coded whole last.longer.0 last.longer.1 c.in_ok-encoding.encoding first.inside ∙ (first.value ∙ (ap (λ (g : Entries). encoding_view c.args.outside.now.encoding g.codes) c.gathered.view_is ∙ clear.encoding)) in
+    let encoding = first.value ∙ (ap (λ (g : Entries). encoding_view c.args.outside.now.encoding g.codes) c.gathered.view_is ∙ clear.encoding) in
     let subrs =
-    lasts_map (λ k. k) (bytes_at whole) nat_cmp nat_cmp nat_cmp_total nat_cmp-IsAntisymmetric (λ x y. refl) c.gathered.inside.subrs.items c.in_ok-subrs.subrs.items items
-    ∙ (ap (λ es. map_by_last {R = nat_cmp} es) (entries_in read whole (first.longer.0 ++ last.longer.0) is (λ k. k) c.gathered.inside.subrs.items c.gathered.invariant.subrs)
+    lasts_map (λ k. k) (bytes_at whole) nat_cmp nat_cmp nat_cmp_total nat_cmp-IsAntisymmetric (λ x y. refl) c.gathered.inside.subrs.items c.in_ok-subrs.subrs.items c.in_ok-subrs.ensures
+    ∙ (ap (λ es. map_by_last {R = nat_cmp} es) (entries_in read whole first.longer.0 first.longer.1 (λ k. k) c.gathered.inside.subrs.items (subrs_inside c))
     ∙ (ap (λ (g : Entries). g.subrs) c.gathered.view_is ∙ shows.subr_bodies c.requires)) in
     let glyphs =
-    map_of (map (named_at whole) c.in_ok-glyphs.glyphs.items) (gathered_glyphs coded c.gathered.inside.glyphs.items) last.entries
-    ∙ (ap (λ es. map_by_last {R = name_cmp} es) (entries_in read coded first.longer.0 first.longer.1 (λ n. n.now) c.gathered.inside.glyphs.items c.gathered.invariant.glyphs)
+    map_of (map (named_at whole) c.in_ok-glyphs.glyphs.items) (gathered_glyphs whole c.gathered.inside.glyphs.items) (named_so c)
+    ∙ (ap (λ es. map_by_last {R = name_cmp} es) (names_in read whole first.longer.0 first.longer.1 c.gathered.inside.glyphs.items (names_inside c) (glyphs_inside c))
     ∙ (ap (λ (g : Entries). g.glyphs) c.gathered.view_is ∙ shows.glyph_bodies)) in
     λ i. record { shell = shell i; encoding = encoding i; subrs = subrs i; glyphs = glyphs i }

@@ -1,4 +1,4 @@
-use Rattle.std.proofs.Common.{◌≡◌, refl, subst, ◌∙◌, List, ℕ, Ok}
+use Rattle.std.proofs.Common.{◌≡◌, refl, sym, ◌∙◌, Ok}
 use Rattle.t1_font.specs.Pieces.{glyphs_from, tail_after}
 use Rattle.t1_font.proofs.private.glyphs_from.Goals as goal
 
@@ -6,8 +6,8 @@ pub returns-clause-shown : goal.returns-clause-shown
 unfolding glyphs_from
 returns-clause-shown c = λ s before.
     let h = c.in_ok-glyphs.ensures.shown in
-    let tail : tail_after c.args.before.middle.now h.0.2 ≡ Ok c.in_ok-tail.tail.now = subst (λ (r : List ℕ). tail_after c.args.before.middle.now r ≡ Ok c.in_ok-tail.tail.now) h.2.2 c.in_ok-tail.ensures in (
-      record { private = c.args.before.private.now; len_iv = c.args.before.len_iv; subrs = s; middle = c.args.before.middle.now; glyphs = h.0.0; tail = c.in_ok-tail.tail.now },
+    let tail : tail_after c.args.before.middle.items h.0.2 ≡ Ok c.in_ok-kept.kept.now = (λ i. tail_after (sym c.as_slice.ensures.value i) (sym (c.rest.ensures ∙ h.2.2) i)) ∙ c.in_ok-kept.ensures in (
+      record { private = c.args.before.private.items; len_iv = c.args.before.len_iv; subrs = s; middle = c.args.before.middle.items; glyphs = h.0.0; tail = c.in_ok-kept.kept.now },
       rw (h.1, tail) refl,
       record {
         private = refl;
@@ -17,6 +17,6 @@ returns-clause-shown c = λ s before.
         middle = refl;
         glyphs = h.2.0;
         glyph_bodies = h.2.1;
-        tail = refl;
+        tail = c.in_ok-tail.ensures.items;
       },
     )

@@ -1,5 +1,5 @@
-use Rattle.std.proofs.Common.{◌∙◌, refl, [], None}
-use Rattle.t1_font.specs.Pieces.{tables_from, glyphs_from}
+use Rattle.std.proofs.Common.{◌≡◌, ◌∙◌, ap, sym, None, Ok}
+use Rattle.t1_font.specs.Pieces.{iv_of, tables_from, glyphs_from}
 use Rattle.t1_font.proofs.AnswersRight.{shown_same}
 use Rattle.t1_font.proofs.HeldLemmas.{none_numbered}
 use Rattle.t1_font.proofs.private.tables_without.Goals as goal
@@ -7,7 +7,9 @@ use Rattle.t1_font.proofs.private.tables_without.Goals as goal
 pub returns-clause-shown : goal.returns-clause-shown
 unfolding tables_from
 returns-clause-shown c =
-    let iv = c.in_ok-len_iv.len_iv in
-    shown_same _ c.glyphs_from.result (tables_from c.args.text.now ((c.args.private.now, tt), c.args.rest.now) None) (glyphs_from c.args.text.now c.args.private.now None [] iv c.args.rest.now)
-    (rw c.in_ok-len_iv.ensures refl)
+    let private = c.args.private.items in
+    let rest = c.args.gathered.now.rest in
+    let iv : iv_of private ≡ Ok c.in_ok-len_iv.len_iv = ap iv_of (sym c.as_slice.ensures.value) ∙ c.in_ok-len_iv.ensures in
+    shown_same _ c.glyphs_from.result (tables_from c.args.size ((private, tt), rest) None) (glyphs_from c.args.size private None c.new.result.items c.in_ok-len_iv.len_iv rest)
+    (rw iv (ap (λ m. glyphs_from c.args.size private None m c.in_ok-len_iv.len_iv rest) (sym c.new.ensures.items)))
     (c.glyphs_from.ensures.shown None (record { table = tt; bodies = λ few. c.requires.subrs ∙ none_numbered }))

@@ -1,58 +1,86 @@
-use Rattle.std.proofs.Common.{ℕ, List, ◌∙◌, ap, sym, subst, refl, length}
+use Rattle.std.proofs.Common.{ℕ, List, ◌≡◌, ◌∙◌, ◌≤◌, ap, arith, refl, sym, subst, ◌+◌, ◌-◌, length, drop, map}
 use Rattle.std.proofs.lemmas.Cmp.{nat_list_cmp_total}
 use Rattle.std.specs.FinMap as fin
+use Rattle.t1_font.specs.declared.ranges.Range.{Range}
 use Rattle.t1_font.specs.Charstrings.{plain_of}
 use Rattle.t1_font.specs.Entries.{map_of}
 use Rattle.t1_font.specs.FontValue.{name_cmp}
-use Rattle.t1_font.specs.Gathering.{Entries, gathered_codes, gathered_subrs}
-use Rattle.t1_font.specs.Ranges.{bytes_at, IsInside, AllInside}
-use Rattle.t1_font.proofs.Buffers.{all_inside, still_inside, others_stay, map_with}
+use Rattle.t1_font.specs.Gathering.{Entries, gathered_codes, gathered_glyphs}
+use Rattle.t1_font.specs.Places.{ending, placed}
+use Rattle.t1_font.specs.Ranges.{named_at, IsInside, AllInside, NamesInside}
+use Rattle.t1_font.proofs.Buffers.{Decrypted, Named, pushed, with_one, names_with_one, all_longer, names_wider, entries_stay, names_stay, rest_stays, plain_at, plain_inside, name_at, name_inside, goes_on}
 use Rattle.t1_font.proofs.FontAgain.{name_same}
-use Rattle.t1_font.proofs.Lasts.{settled_map, settled_all}
 use Rattle.t1_font.proofs.gathered.Gathered.keep_glyph.Goals as goal
+
+now_long : (c : goal.After-self-3-1) → c.len-3.result ≡ length c.decrypt_in.new.buffer.items
+now_long c = c.len-3.ensures ∙ c.decrypt_in.new.buffer.ok.0
+
+decrypted_so : (c : goal.After-self-3-1) → Decrypted c.self.inside.buffer.items c.decrypt_in.new.buffer.items c.self.inside.at c.args.left c.args.len_iv c.args.body c.part_at-cipher.result (record { start = c.part_at-cipher.result.start + c.args.len_iv; end = c.part_at-cipher.result.end })
+decrypted_so c = record {
+  fits = c.self.invariant.at;
+  room = subst (λ (g : Entries). c.args.body.len + c.args.body.behind ≤ length g.rest) (sym c.self.view_is) (omega (arith, c.requires.name, c.requires.body));
+  lead = c.requires.lead;
+  past = c.requires.left;
+  start = c.part_at-cipher.ensures.start ∙ ap (λ n. n - (c.args.body.len + c.args.body.behind)) (c.len-2.ensures ∙ c.self.inside.buffer.ok.0);
+  end = c.part_at-cipher.ensures.end ∙ ap (λ n. n - c.args.body.behind) (c.len-2.ensures ∙ c.self.inside.buffer.ok.0);
+  is = c.decrypt_in.ensures;
+  plain_start = refl;
+  plain_end = refl;
+}
+
+named_so : (c : goal.After-self-3-1) → Named c.self.inside.buffer.items c.self.inside.at c.args.name c.args.body c.part_at-name.result
+named_so c = record {
+  room = subst (λ (g : Entries). c.args.name.len + c.args.name.behind ≤ length g.rest) (sym c.self.view_is) c.requires.name;
+  order = c.requires.body;
+  start = c.part_at-name.ensures.start ∙ ap (λ n. n - (c.args.name.len + c.args.name.behind)) (c.len.ensures ∙ c.self.inside.buffer.ok.0);
+  end = c.part_at-name.ensures.end ∙ ap (λ n. n - c.args.name.behind) (c.len.ensures ∙ c.self.inside.buffer.ok.0);
+}
+
+settled_so : (c : goal.After-self-3-1) → gathered_glyphs c.self.inside.buffer.items c.settle_names.new.entries.items ≡ gathered_glyphs c.self.inside.buffer.items c.self.inside.glyphs.items
+settled_so c = subst (λ (b : List ℕ). gathered_glyphs b c.settle_names.new.entries.items ≡ gathered_glyphs b c.self.inside.glyphs.items) c.as_slice.ensures.value c.in_ok-self-inside.ensures.settled
 
 pub invariant_of-self-2 : goal.invariant_of-self-2
 invariant_of-self-2 c =
-    let was = c.self.inside.buffer.items in
-    let now = c.add_plain.new.buffer.items in
-    let put = c.in_ok-place.ensures in
-    let inside = settled_all (λ n. n.now) (λ x y. name_cmp x.now y.now) name_cmp nat_list_cmp_total (λ x y. refl) c.self.inside.glyphs.items c.settle.new.entries.items (λ e. IsInside (length was) e.1) c.in_ok-self-inside.ensures.settled c.self.invariant.glyphs in
+    let d = decrypted_so c in
+    let was = c.self.inside.at in
+    let now = c.len-3.result - c.args.left in
+    let plain : Range = record { start = c.part_at-cipher.result.start + c.args.len_iv; end = c.part_at-cipher.result.end } in
+    let wider : was ≤ now = omega (arith, goes_on _ _ _ _ _ _ _ _ d, now_long c) in
+    let one : IsInside now plain = subst (λ n. IsInside (n - c.args.left) plain) (sym (now_long c)) (plain_inside _ _ _ _ _ _ _ _ d) in
+    let name : IsInside now c.part_at-name.result = subst (λ n. IsInside (n - c.args.left) c.part_at-name.result) (sym (now_long c)) (name_inside _ _ _ _ _ _ _ _ d _ _ (named_so c)) in
+    let settled = c.in_ok-self-inside.ensures.inside was c.self.invariant.names c.self.invariant.glyphs in
     record {
-      subrs = still_inside was c.args.body.now now c.args.len_iv c.in_ok-place.place c.requires put.grown put.start put.end c.self.inside.subrs.items c.self.invariant.subrs;
-      glyphs = all_inside was c.args.body.now now c.args.len_iv c.in_ok-place.place c.requires put.grown put.start put.end c.settle.new.entries.items c.push.new.self.items c.args.name c.in_ok-push.ensures.items inside;
+      at = omega (arith, now_long c);
+      subrs = all_longer was now c.self.inside.subrs.items wider c.self.invariant.subrs;
+      names = names_with_one now c.settle_names.new.entries.items c.push.new.self.items _ c.in_ok-push.ensures.items (names_wider was now c.settle_names.new.entries.items wider settled.0) name;
+      glyphs = with_one now c.settle_names.new.entries.items c.push.new.self.items _ c.in_ok-push.ensures.items (all_longer was now c.settle_names.new.entries.items wider settled.1) one;
     }
 
 pub returns : goal.returns
 returns c =
+    let d = decrypted_so c in
     let was = c.self.inside.buffer.items in
-    let now = c.add_plain.new.buffer.items in
-    let put = c.in_ok-place.ensures in
-    let inside = settled_all (λ n. n.now) (λ x y. name_cmp x.now y.now) name_cmp nat_list_cmp_total (λ x y. refl) c.self.inside.glyphs.items c.settle.new.entries.items (λ e. IsInside (length was) e.1) c.in_ok-self-inside.ensures.settled c.self.invariant.glyphs in
-    let settled = settled_map (λ n. n.now) (λ x y. name_cmp x.now y.now) name_cmp nat_list_cmp_total (λ x y. refl) c.self.inside.glyphs.items c.settle.new.entries.items name_same (bytes_at was) c.in_ok-self-inside.ensures.settled in
+    let now = c.decrypt_in.new.buffer.items in
+    let settled = c.in_ok-self-inside.ensures.inside c.self.inside.at c.self.invariant.names c.self.invariant.glyphs in
+    let together =
+    ap (λ es. map_of {R = name_cmp} (map (named_at now) es)) c.in_ok-push.ensures.items
+    ∙ (pushed (named_at now) nat_list_cmp_total name_same c.settle_names.new.entries.items (c.part_at-name.result, _)
+    ∙ ((λ i. fin.insert (map_of {R = name_cmp} (names_stay _ _ _ _ _ _ _ _ d c.settle_names.new.entries.items settled.0 settled.1 i)) (name_at _ _ _ _ _ _ _ _ d _ _ (named_so c) i) (plain_at _ _ _ _ _ _ _ _ d i))
+    ∙ ap (λ m. fin.insert m (placed (drop c.self.inside.at was) c.args.name) (plain_of c.args.len_iv (placed (drop c.self.inside.at was) c.args.body))) (settled_so c))) in
     (λ i. record {
+      rest = (ap (λ n. drop (n - c.args.left) now) (now_long c) ∙ rest_stays _ _ _ _ _ _ _ _ d) i;
       codes = gathered_codes c.self.inside.codes.items;
-      subrs = map_of (others_stay was c.args.body.now now c.args.len_iv c.in_ok-place.place c.requires put.grown put.start put.end (λ k. k) c.self.inside.subrs.items c.self.invariant.subrs i);
-      glyphs = map_with was c.args.body.now now c.args.len_iv c.in_ok-place.place c.requires put.grown put.start put.end c.settle.new.entries.items c.push.new.self.items c.args.name c.in_ok-push.ensures.items inside (λ n. n.now) nat_list_cmp_total name_same i;
+      subrs = map_of (entries_stay _ _ _ _ _ _ _ _ d (λ k. k) c.self.inside.subrs.items c.self.invariant.subrs i);
+      glyphs = together i;
     })
-    ∙ ap (λ m. record { codes = gathered_codes c.self.inside.codes.items; subrs = gathered_subrs was c.self.inside.subrs.items; glyphs = fin.insert m c.args.name.now (plain_of c.args.len_iv c.args.body.now) }) settled
-    ∙ ap (λ (g : Entries). record { codes = g.codes; subrs = g.subrs; glyphs = fin.insert g.glyphs c.args.name.now (plain_of c.args.len_iv c.args.body.now) }) c.self.view_is
-
-pub invariant_of-self-in_err-place : goal.invariant_of-self-in_err-place
-invariant_of-self-in_err-place c =
-    let was = c.self.inside.buffer.items in
-    let inside = settled_all (λ n. n.now) (λ x y. name_cmp x.now y.now) name_cmp nat_list_cmp_total (λ x y. refl) c.self.inside.glyphs.items c.settle.new.entries.items (λ e. IsInside (length was) e.1) c.in_ok-self-inside.ensures.settled c.self.invariant.glyphs in
-    record {
-      subrs = subst (λ (b : List ℕ). AllInside (length b) c.self.inside.subrs.items) (sym c.in_err-place.ensures.kept) c.self.invariant.subrs;
-      glyphs = subst (λ (b : List ℕ). AllInside (length b) c.settle.new.entries.items) (sym c.in_err-place.ensures.kept) inside;
-    }
+    ∙ ap (λ (g : Entries). record { rest = ending c.args.left g.rest; codes = g.codes; subrs = g.subrs; glyphs = fin.insert g.glyphs (placed g.rest c.args.name) (plain_of c.args.len_iv (placed g.rest c.args.body)) }) c.self.view_is
 
 pub invariant_of-self-in_err-push : goal.invariant_of-self-in_err-push
 invariant_of-self-in_err-push c =
-    let was = c.self.inside.buffer.items in
-    let now = c.add_plain.new.buffer.items in
-    let put = c.in_ok-place.ensures in
-    let inside = settled_all (λ n. n.now) (λ x y. name_cmp x.now y.now) name_cmp nat_list_cmp_total (λ x y. refl) c.self.inside.glyphs.items c.settle.new.entries.items (λ e. IsInside (length was) e.1) c.in_ok-self-inside.ensures.settled c.self.invariant.glyphs in
+    let settled = c.in_ok-self-inside.ensures.inside c.self.inside.at c.self.invariant.names c.self.invariant.glyphs in
     record {
-      subrs = still_inside was c.args.body.now now c.args.len_iv c.in_ok-place.place c.requires put.grown put.start put.end c.self.inside.subrs.items c.self.invariant.subrs;
-      glyphs = subst (AllInside (length now)) (sym c.in_err-push.ensures.items) (still_inside was c.args.body.now now c.args.len_iv c.in_ok-place.place c.requires put.grown put.start put.end c.settle.new.entries.items inside);
+      at = c.self.invariant.at;
+      subrs = c.self.invariant.subrs;
+      names = subst (NamesInside c.self.inside.at) (sym c.in_err-push.ensures.items) settled.0;
+      glyphs = subst (AllInside c.self.inside.at) (sym c.in_err-push.ensures.items) settled.1;
     }

@@ -1,31 +1,72 @@
-use Rattle.std.proofs.Common.{◌∙◌, ap}
+use Rattle.std.proofs.Common.{◌≡◌, ◌∙◌, ◌≤◌, ap, arith, refl, sym, subst, ◌+◌, ◌-◌, length, drop, map}
 use Rattle.std.proofs.lemmas.Cmp.{nat_cmp_total}
 use Rattle.std.specs.FinMap as fin
 use Rattle.std.specs.FinSet.{nat_cmp-IsAntisymmetric}
+use Rattle.std.specs.Ordering.{nat_cmp}
 use Rattle.t1_font.specs.Charstrings.{plain_of}
 use Rattle.t1_font.specs.Entries.{map_of}
 use Rattle.t1_font.specs.Gathering.{Entries, gathered_codes}
-use Rattle.t1_font.proofs.Buffers.{all_inside, still_inside, others_stay, map_with}
+use Rattle.t1_font.specs.Places.{ending, placed}
+use Rattle.t1_font.specs.Ranges.{bytes_at, numbered_at, IsInside, AllInside}
+use Rattle.t1_font.proofs.Buffers.{Decrypted, pushed, with_one, all_longer, names_wider, entries_stay, names_stay, rest_stays, plain_at, plain_inside, goes_on}
+use Rattle.t1_font.proofs.Lasts.{settled_map, settled_all}
 use Rattle.t1_font.proofs.gathered.Gathered.keep_subr.Goals as goal
+
+now_long : (c : goal.After-self-3-1) → c.len-2.result ≡ length c.decrypt_in.new.buffer.items
+now_long c = c.len-2.ensures ∙ c.decrypt_in.new.buffer.ok.0
+
+decrypted_so : (c : goal.After-self-3-1) → Decrypted c.self.inside.buffer.items c.decrypt_in.new.buffer.items c.self.inside.at c.args.left c.args.len_iv c.args.body c.part_at-cipher.result (record { start = c.part_at-cipher.result.start + c.args.len_iv; end = c.part_at-cipher.result.end })
+decrypted_so c = record {
+  fits = c.self.invariant.at;
+  room = subst (λ (g : Entries). c.args.body.len + c.args.body.behind ≤ length g.rest) (sym c.self.view_is) c.requires.body;
+  lead = c.requires.lead;
+  past = c.requires.left;
+  start = c.part_at-cipher.ensures.start ∙ ap (λ n. n - (c.args.body.len + c.args.body.behind)) (c.len.ensures ∙ c.self.inside.buffer.ok.0);
+  end = c.part_at-cipher.ensures.end ∙ ap (λ n. n - c.args.body.behind) (c.len.ensures ∙ c.self.inside.buffer.ok.0);
+  is = c.decrypt_in.ensures;
+  plain_start = refl;
+  plain_end = refl;
+}
 
 pub invariant_of-self-2 : goal.invariant_of-self-2
 invariant_of-self-2 c =
-    let was = c.self.inside.buffer.items in
-    let now = c.add_plain.new.buffer.items in
-    let put = c.in_ok-place.ensures in
+    let d = decrypted_so c in
+    let was = c.self.inside.at in
+    let now = c.len-2.result - c.args.left in
+    let wider : was ≤ now = omega (arith, goes_on _ _ _ _ _ _ _ _ d, now_long c) in
+    let one : IsInside now (record { start = c.part_at-cipher.result.start + c.args.len_iv; end = c.part_at-cipher.result.end }) = subst (λ n. IsInside (n - c.args.left) (record { start = c.part_at-cipher.result.start + c.args.len_iv; end = c.part_at-cipher.result.end })) (sym (now_long c)) (plain_inside _ _ _ _ _ _ _ _ d) in
+    let subrs = settled_all (λ k. k) nat_cmp nat_cmp nat_cmp_total (λ x y. refl) c.self.inside.subrs.items c.settle.new.entries.items (λ e. IsInside was e.1) c.in_ok-self-inside.ensures.settled c.self.invariant.subrs in
     record {
-      subrs = all_inside was c.args.body.now now c.args.len_iv c.in_ok-place.place c.requires put.grown put.start put.end c.self.inside.subrs.items c.push.new.self.items c.args.index c.in_ok-push.ensures.items c.self.invariant.subrs;
-      glyphs = still_inside was c.args.body.now now c.args.len_iv c.in_ok-place.place c.requires put.grown put.start put.end c.self.inside.glyphs.items c.self.invariant.glyphs;
+      at = omega (arith, now_long c);
+      subrs = with_one now c.settle.new.entries.items c.push.new.self.items _ c.in_ok-push.ensures.items (all_longer was now c.settle.new.entries.items wider subrs) one;
+      names = names_wider was now c.self.inside.glyphs.items wider c.self.invariant.names;
+      glyphs = all_longer was now c.self.inside.glyphs.items wider c.self.invariant.glyphs;
     }
 
 pub returns : goal.returns
 returns c =
+    let d = decrypted_so c in
     let was = c.self.inside.buffer.items in
-    let now = c.add_plain.new.buffer.items in
-    let put = c.in_ok-place.ensures in
+    let now = c.decrypt_in.new.buffer.items in
+    let subrs = settled_all (λ k. k) nat_cmp nat_cmp nat_cmp_total (λ x y. refl) c.self.inside.subrs.items c.settle.new.entries.items (λ e. IsInside c.self.inside.at e.1) c.in_ok-self-inside.ensures.settled c.self.invariant.subrs in
+    let settled = settled_map (λ k. k) nat_cmp nat_cmp nat_cmp_total (λ x y. refl) c.self.inside.subrs.items c.settle.new.entries.items nat_cmp-IsAntisymmetric (bytes_at was) c.in_ok-self-inside.ensures.settled in
+    let together =
+    ap (λ es. map_of {R = nat_cmp} (map (numbered_at now) es)) c.in_ok-push.ensures.items
+    ∙ (pushed (numbered_at now) nat_cmp_total nat_cmp-IsAntisymmetric c.settle.new.entries.items (c.args.index, _)
+    ∙ (λ i. fin.insert (map_of {R = nat_cmp} (entries_stay _ _ _ _ _ _ _ _ d (λ k. k) c.settle.new.entries.items subrs i)) c.args.index (plain_at _ _ _ _ _ _ _ _ d i))
+    ∙ ap (λ m. fin.insert m c.args.index (plain_of c.args.len_iv (placed (drop c.self.inside.at was) c.args.body))) settled) in
     (λ i. record {
+      rest = (ap (λ n. drop (n - c.args.left) now) (now_long c) ∙ rest_stays _ _ _ _ _ _ _ _ d) i;
       codes = gathered_codes c.self.inside.codes.items;
-      subrs = map_with was c.args.body.now now c.args.len_iv c.in_ok-place.place c.requires put.grown put.start put.end c.self.inside.subrs.items c.push.new.self.items c.args.index c.in_ok-push.ensures.items c.self.invariant.subrs (λ k. k) nat_cmp_total nat_cmp-IsAntisymmetric i;
-      glyphs = map_of (others_stay was c.args.body.now now c.args.len_iv c.in_ok-place.place c.requires put.grown put.start put.end (λ n. n.now) c.self.inside.glyphs.items c.self.invariant.glyphs i);
+      subrs = together i;
+      glyphs = map_of (names_stay _ _ _ _ _ _ _ _ d c.self.inside.glyphs.items c.self.invariant.names c.self.invariant.glyphs i);
     })
-    ∙ ap (λ (g : Entries). record { codes = g.codes; subrs = fin.insert g.subrs c.args.index (plain_of c.args.len_iv c.args.body.now); glyphs = g.glyphs }) c.self.view_is
+    ∙ ap (λ (g : Entries). record { rest = ending c.args.left g.rest; codes = g.codes; subrs = fin.insert g.subrs c.args.index (plain_of c.args.len_iv (placed g.rest c.args.body)); glyphs = g.glyphs }) c.self.view_is
+
+pub invariant_of-self-in_err-push : goal.invariant_of-self-in_err-push
+invariant_of-self-in_err-push c = record {
+  at = c.self.invariant.at;
+  subrs = subst (AllInside c.self.inside.at) (sym c.in_err-push.ensures.items) (settled_all (λ k. k) nat_cmp nat_cmp nat_cmp_total (λ x y. refl) c.self.inside.subrs.items c.settle.new.entries.items (λ e. IsInside c.self.inside.at e.1) c.in_ok-self-inside.ensures.settled c.self.invariant.subrs);
+  names = c.self.invariant.names;
+  glyphs = c.self.invariant.glyphs;
+}

@@ -3,7 +3,7 @@ use Rattle.std.proofs.lemmas.List.Sorted.{answers_always}
 use Rattle.std.proofs.lemmas.List.{nil_from_length}
 use Rattle.t1_font.specs.Entries.{run_ends}
 use Rattle.t1_font.proofs.Drains.{moved, all_moved}
-use Rattle.t1_font.proofs.gathered.last_entries.Goals as goal
+use Rattle.t1_font.proofs.repeats.last_entries.Goals as goal
 
 pub entries-init : goal.entries-init
 entries-init g c = ap (λ items. items ++ run_ends g.K.Ord.cmp c.as_slice-rest.result.now) c.in_ok-last.ensures.items

@@ -1,0 +1,31 @@
+use Rattle.std.proofs.Common.{◌≡◌, ◌≤◌, ◌∙◌, ap, arith, sym, refl, drop, ℕ, List, Ok, Err, length}
+use Rattle.std.proofs.lemmas.Bool.{le-leb}
+use Rattle.t1_bytes.specs.Cipher.{decrypted, private_text}
+use Rattle.t1_bytes.proofs.Ciphers.{length-decrypted}
+use Rattle.t1_font.specs.FontValue.{FontValue, file_limit}
+use Rattle.t1_font.specs.Pieces.{FlatPieces, flat_pieces}
+use Rattle.t1_font.specs.ReadFont.{flat_text, file_pieces, font_texts, font_file}
+use Rattle.t1_font.specs.Reading.{Reading, if_ok}
+use Rattle.t1_font.proofs.AnswersRight.{answers_same}
+use Rattle.t1_font.proofs.file.file_parts.Goals as goal
+
+grouped : {A B C : Type 0} (r : Reading A) (f : A → Reading B) (g : B → Reading C) → if_ok (λ x. if_ok g (f x)) r ≡ if_ok g (if_ok f r)
+grouped (Ok x) f g = refl
+grouped (Err e) f g = refl
+
+-- the font of a file that is not too long, where it is cut
+file_is : (file : List ℕ) (p : FlatPieces) → length file ≤ file_limit → file_pieces file ≡ Ok p → font_file file ≡ font_texts p.clear (private_text p.cipher)
+unfolding font_file
+file_is file p short cut =
+    let texts : FlatPieces → Reading FontValue = λ parts. font_texts parts.clear (private_text parts.cipher) in
+    rw (le-leb (length file) file_limit short) (grouped (flat_text file) flat_pieces texts ∙ ap (if_ok texts) cut)
+
+pub returns : goal.returns
+returns c =
+    let h = c.in_ok-clear.ensures.parts in
+    answers_same c.text_parts.result _ (font_texts c.as_slice.result.now (drop 4 c.open_private.new.cipher.items))
+    (file_is c.args.file.now h.0 c.if-file-gt-FILE_LIMIT.false h.1 ∙ (λ i. font_texts (sym (c.as_slice.ensures.value ∙ h.2.0) i) (drop 4 (sym (c.open_private.ensures ∙ ap (decrypted 55665) h.2.1) i))))
+    c.text_parts.ensures
+
+pub text_parts-requires : goal.text_parts-requires
+text_parts-requires c = omega (arith, c.in_ok-clear.ensures.lead, ap length c.open_private.ensures, length-decrypted c.in_ok-clear.cipher.items 55665)
