@@ -1,14 +1,17 @@
 -- The marker and the cipher are read as they are spelled, and a flat text is split as the definition says.
-use Rattle.std.proofs.Common.{◌≡◌, ℕ, ◌+◌, ◌≤◌, ◌-◌, List, [], ◌++◌, length, append_assoc, Option, Some, None, Result, Ok, Err, MatchResult, refl, sym, ap, ◌∙◌, arith}
+use Rattle.std.proofs.Common.{◌≡◌, ℕ, ◌+◌, ◌≤◌, ◌-◌, List, [], ◌++◌, length, drop, append_assoc, Option, Some, None, Result, Ok, Err, MatchResult, refl, sym, ap, ◌∙◌, arith}
 use Rattle.std.specs.Prelude.{codes}
 use Rattle.std.proofs.lemmas.List.{append-nil, length-append}
+use Rattle.std.proofs.Math.Seq.{drop-append-add}
+use Rattle.t1_bytes.specs.declared.eexec.Cipher.{Cipher}
+use Rattle.t1_bytes.specs.declared.eexec.Cipher.TheVariants.{Last, Spelled}
 use Rattle.std.specs.Option.{option_map}
 use Rattle.std.proofs.lemmas.Option.{same_Some, none-some}
 use Rattle.t1_bytes.specs.declared.fault.BytesFault.{BytesFault}
 use Rattle.t1_bytes.specs.declared.fault.BytesFault.TheVariants.{BadSegment, Memory, NoEexec, ShortCipher}
 use Rattle.t1_bytes.specs.Grammar.{first}
 use Rattle.t1_bytes.specs.White.{is_white, white, gap}
-use Rattle.t1_bytes.specs.Eexec.{eexec_marker, is_hex_text, hex_cipher, cipher_text, split_view, IsSplit, SplitFails, or_short, split_after, split_of}
+use Rattle.t1_bytes.specs.Eexec.{eexec_marker, is_hex_text, hex_cipher, cipher_text, split_view, cipher_in, last_bytes, IsSplit, SplitFails, or_short, split_after, split_of}
 use Rattle.t1_bytes.specs.Faults.{Refused, Answers, OrMemory}
 use Rattle.t1_bytes.proofs.HexLemmas.{same_Ok}
 use Rattle.std.specs.Global.{Vec}
@@ -115,6 +118,17 @@ split_found flat after e =
     let found = marker_found ((first eexec_marker).read flat) after e in
     ap split_after found.1 ∙ ap (λ (n : ℕ). placed n (cipher_text.read after)) (found_place flat found.0.0 found.0.1 after found.1)
 
+-- the cipher of what stands after the marker is that of the whole text
+cipher_behind : (front after : List ℕ) (c : Cipher) → last_bytes c ≤ length after → cipher_in after c ≡ cipher_in (front ++ after) c
+cipher_behind front after (Spelled v) room = refl
+cipher_behind front after (Last n) room = sym (ap (λ k. drop k (front ++ after)) (omega (arith, room, length-append front after)) ∙ drop-append-add front after (length after - n))
+
+pub cipher_stays : (flat after : List ℕ) → option_map (λ (x : (List ℕ × List ℕ) × List ℕ). x.1) ((first eexec_marker).read flat) ≡ Some after → (c : Cipher) → last_bytes c ≤ length after → cipher_in after c ≡ cipher_in flat c
+cipher_stays flat after e c room =
+    let found = marker_found ((first eexec_marker).read flat) after e in
+    let whole = (first_exact eexec_marker eexec_exact).takes flat (found.0, after) found.1 in
+    cipher_behind whole.0 after c room ∙ ap (λ (t : List ℕ). cipher_in t c) (sym whole.1)
+
 pub ok_placed : (n : ℕ) (secret : Option (List ℕ × List ℕ)) (cipher : List ℕ) → or_short (λ (x : List ℕ × List ℕ). x.0) secret ≡ Ok cipher → placed n secret ≡ Ok (n, cipher)
 ok_placed n None cipher e = absurd cc
 ok_placed n (Some x) cipher e = ap (λ (c : List ℕ). Ok (n, c)) (same_Ok {E = BytesFault} x.0 cipher e)
@@ -136,6 +150,6 @@ kept_fault NoEexec flat answer e r = let right = split_right flat in rw (e ∙ r
 kept_fault ShortCipher flat answer e r = let right = split_right flat in rw (e ∙ r) at right
 kept_fault (BadSegment at) flat answer e r = let right = split_right flat in rw (e ∙ r) at right
 
-pub split_answers : (flat : List ℕ) (r : Result (ℕ × Vec ℕ) BytesFault) → Answers split_view r (split_of flat) → MatchResult r (λ x. IsSplit flat x.0 x.1.items) (OrMemory (SplitFails flat))
-split_answers flat (Ok x) h = let right = split_right flat in rw h at right
-split_answers flat (Err fault) h = kept_fault fault flat (split_of flat) refl h
+pub split_answers : {X : Type 0} (view : X → ℕ × List ℕ) (flat : List ℕ) (r : Result X BytesFault) → Answers view r (split_of flat) → MatchResult r (λ x. IsSplit flat (view x).0 (view x).1) (OrMemory (SplitFails flat))
+split_answers view flat (Ok x) h = let right = split_right flat in rw h at right
+split_answers view flat (Err fault) h = kept_fault fault flat (split_of flat) refl h

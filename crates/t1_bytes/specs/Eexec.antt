@@ -1,9 +1,11 @@
 -- The end of the clear text, and the cipher after it (Adobe Type 1 Font Format 1.1, chapter 7).
-use Rattle.std.specs.Prelude.{◌≡◌, ℕ, ◌+◌, ◌*◌, ◌==◌, ◌&&◌, ◌||◌, nat_le, Bool, true, false, List, [], ◌∷◌, ◌++◌, length, take, take_while, filter, codes, unwrap_or, Option, Some, None, Result, Ok, Err}
+use Rattle.std.specs.Prelude.{◌≡◌, ℕ, ◌+◌, ◌-◌, ◌*◌, ◌==◌, ◌&&◌, ◌||◌, nat_le, Bool, true, false, List, [], ◌∷◌, ◌++◌, length, take, drop, take_while, filter, codes, unwrap_or, Option, Some, None, Result, Ok, Err}
 use Rattle.std.specs.Global.{Vec}
 use Rattle.hex.specs.Hex.{is_hex_digit, hex_digit_value}
 use Rattle.t1_bytes.specs.declared.fault.BytesFault.{BytesFault}
 use Rattle.t1_bytes.specs.declared.fault.BytesFault.TheVariants.{BadSegment, NoEexec, ShortCipher, Memory}
+use Rattle.t1_bytes.specs.declared.eexec.Cipher.{Cipher}
+use Rattle.t1_bytes.specs.declared.eexec.Cipher.TheVariants.{Last, Spelled}
 use Rattle.t1_bytes.specs.Grammar.{Grammar, pure, ◌>>=◌, ◌>>◌, that, run, before, fixed, either, all, first, AtFront, NotAtFront, Lacks}
 use Rattle.t1_bytes.specs.White.{is_white, gap}
 
@@ -100,6 +102,16 @@ SplitFails flat Memory = ⊥
 -- an answer of code, its cipher as bytes
 abbrev pub split_view : ℕ × Vec ℕ → ℕ × List ℕ
 split_view x = (x.0, x.1.items)
+
+-- the cipher of a text, where code says it is
+abbrev pub cipher_in : List ℕ → Cipher → List ℕ
+cipher_in text (Last n) = drop (length text - n) text
+cipher_in text (Spelled v) = v.items
+
+-- how many of the last bytes of a text are the cipher
+abbrev pub last_bytes : Cipher → ℕ
+last_bytes (Last n) = n
+last_bytes (Spelled v) = 0
 
 -- ---- the same, as a function
 

@@ -1,9 +1,9 @@
 //! The end of the clear text, and the cipher after it (Adobe Type 1 Font Format 1.1, chapter 7).
 
-ghost use Rattle.std.specs.Prelude.{◌≡◌, ℕ, List, Some, Ok, Err, MatchResult, length, take_while};
+ghost use Rattle.std.specs.Prelude.{◌≡◌, ◌≤◌, ℕ, List, Some, Ok, Err, IfOk, MatchResult, length, take_while};
 ghost use Rattle.std.specs.Option.{option_map};
 ghost use Rattle.t1_bytes.specs.Grammar.{run, first};
-ghost use Rattle.t1_bytes.specs.Eexec.{is_blank, blank_comes, eexec_marker, is_hex_text, cipher_text, split_view, IsSplit, SplitFails, or_short, split_of};
+ghost use Rattle.t1_bytes.specs.Eexec.{is_blank, blank_comes, eexec_marker, is_hex_text, cipher_text, split_view, cipher_in, last_bytes, IsSplit, SplitFails, or_short, split_of};
 ghost use Rattle.t1_bytes.specs.Faults.{Answers, OrMemory};
 ghost use Rattle.t1_bytes.specs.declared.fault.BytesFault.{BytesFault};
 
@@ -82,32 +82,71 @@ fn after_blanks(bytes: &[u8]) -> &[u8]
     rest
 }
 
-/// The cipher bytes of what follows the marker.
+/// The cipher of a flat text: the last bytes of the text, so many of them, or the bytes that hexadecimal digits spell.
+#[derive(Drop)]
+pub enum Cipher {
+    Last(usize),
+    Spelled(Vec<u8>),
+}
+
+/// The cipher of what follows the marker.
 #[tactic(auto, unfolding(crate::specs::Eexec::cipher_text, crate::specs::Eexec::spelled_ahead, crate::specs::Eexec::digits_ahead))]
-fn cipher_after(alloc: Global, after: &[u8]) -> Result<Vec<u8>, BytesFault>
-    ensures { Answers (λ v. v.items) result (or_short (λ x. x.0) (cipher_text.read after.now)) }
+fn cipher_after(alloc: Global, after: &[u8]) -> Result<Cipher, BytesFault>
+    ensures cipher { Answers (cipher_in after.now) result (or_short (λ x. x.0) (cipher_text.read after.now)) }
+    ensures last { IfOk result (λ c. last_bytes c ≤ length after.now) }
 {
     let text = after_blanks(after);
-    let cipher = if is_hex_text(text) {
-        hex_bytes(alloc, text)?
-    } else {
-        Vec::from_slice(alloc, text)?
-    };
+    if !is_hex_text(text) {
+        if text.len() < 4 {
+            return Err(BytesFault::ShortCipher);
+        }
+        return Ok(Cipher::Last(text.len()));
+    }
+    let cipher = hex_bytes(alloc, text)?;
     if cipher.len() < 4 {
         return Err(BytesFault::ShortCipher);
     }
-    Ok(cipher)
+    Ok(Cipher::Spelled(cipher))
 }
 
-/// The offset after the first marker, and the cipher bytes that follow.
-fn split(alloc: Global, flat: &[u8]) -> Result<(usize, Vec<u8>), BytesFault>
-    ensures { Answers split_view result (split_of flat.now) }
+/// The offset after the first marker, and the cipher that follows.
+fn find(alloc: Global, flat: &[u8]) -> Result<(usize, Cipher), BytesFault>
+    ensures found { Answers (λ x. (x.0, cipher_in flat.now x.1)) result (split_of flat.now) }
+    ensures last { IfOk result (λ x. last_bytes x.1 ≤ length flat.now) }
 {
     let Some(after) = after_eexec(flat) else {
         return Err(BytesFault::NoEexec);
     };
     match cipher_after(alloc, after) {
         Ok(cipher) => Ok((flat.len() - after.len(), cipher)),
+        Err(fault) => Err(fault),
+    }
+}
+
+/// The offset after the first `eexec` that stands as [`split_eexec`] says, and the cipher that follows, which isn't
+/// copied where it is binary.
+///
+/// # Errors
+///
+/// Those of [`split_eexec`].
+pub fn find_cipher(alloc: Global, flat: &[u8]) -> Result<(usize, Cipher), BytesFault>
+    ensures right { MatchResult result (λ x. IsSplit flat.now x.0 (cipher_in flat.now x.1)) (OrMemory (SplitFails flat.now)) }
+    ensures exact { Answers (λ x. (x.0, cipher_in flat.now x.1)) result (split_of flat.now) }
+    ensures last { IfOk result (λ x. last_bytes x.1 ≤ length flat.now) }
+{
+    find(alloc, flat)
+}
+
+/// The offset after the first marker, and the cipher bytes that follow.
+fn split(alloc: Global, flat: &[u8]) -> Result<(usize, Vec<u8>), BytesFault>
+    ensures { Answers split_view result (split_of flat.now) }
+{
+    match find(alloc, flat) {
+        Ok((at, Cipher::Spelled(cipher))) => Ok((at, cipher)),
+        Ok((at, Cipher::Last(len))) => {
+            let cipher = Vec::from_slice(alloc, &flat[flat.len() - len..])?;
+            Ok((at, cipher))
+        }
         Err(fault) => Err(fault),
     }
 }

@@ -20,7 +20,7 @@ mod pfb;
 pub mod texts;
 
 pub use cipher::{CHARSTRING_KEY, EEXEC_KEY, EEXEC_LEAD, decrypt, encrypt, open, seal};
-pub use eexec::split_eexec;
+pub use eexec::{Cipher, find_cipher, split_eexec};
 pub use fault::BytesFault;
 pub use form::Form;
 pub use hexadecimal::{hex_lines, put_hex_lines, trailer};

@@ -1,8 +1,9 @@
 //! Reading a font file.
 
-ghost use Rattle.std.specs.Prelude.{◌≡◌, ◌≤◌, ◌++◌, ℕ, List, length, take, drop, map, true, IfOk, OnOk, MatchResult};
+ghost use Rattle.std.specs.Prelude.{◌≡◌, ◌≤◌, ◌+◌, ◌++◌, ℕ, List, length, take, drop, map, true, IfOk, OnOk, MatchResult};
 ghost use Rattle.std.specs.Ordering.{nat_cmp};
 ghost use Rattle.t1_bytes.specs.Cipher.{decrypted};
+ghost use Rattle.t1_bytes.specs.Eexec.{cipher_in, last_bytes};
 ghost use Rattle.t1_join.specs.TableMeaning.{Rises};
 ghost use Rattle.t1_font.specs.FontValue.{count_limit, weight};
 ghost use Rattle.t1_font.specs.FontModel.{clamp};
@@ -25,7 +26,7 @@ use crate::shell::kept_shell;
 use crate::source::{KeptEncoding, Source, SourceParts, keep_codes};
 use crate::subrs::SubrsParts;
 use std::alloc::{AllocError, Global};
-use t1_bytes::{EEXEC_KEY, EEXEC_LEAD, decrypt, flatten, is_segmented, split_eexec};
+use t1_bytes::{Cipher, EEXEC_KEY, EEXEC_LEAD, decrypt, find_cipher, flatten, is_segmented};
 
 /// The flat text of a file.
 #[tactic(auto, unfolding(crate::specs::ReadFont::flat_text))]
@@ -36,37 +37,78 @@ fn flat_text(alloc: Global, file: &[u8]) -> Result<Vec<u8>, ReadFault>
 }
 
 /// Where the clear text of a flat text ends, and the cipher.
-fn split(alloc: Global, flat: &[u8]) -> Result<(usize, Vec<u8>), ReadFault>
-    ensures parts { Shown (λ x p. (take x.0 flat.now ≡ p.clear) × (x.1.items ≡ p.cipher)) result (flat_pieces flat.now) }
+fn found(alloc: Global, flat: &[u8]) -> Result<(usize, Cipher), ReadFault>
+    ensures parts { Shown (λ x p. (take x.0 flat.now ≡ p.clear) × (cipher_in flat.now x.1 ≡ p.cipher)) result (flat_pieces flat.now) }
     ensures end { IfOk result (λ x. x.0 ≤ length flat.now) }
-    ensures lead { IfOk result (λ x. 4 ≤ length x.1.items) }
+    ensures last { IfOk result (λ x. last_bytes x.1 ≤ length flat.now) }
+    ensures lead { IfOk result (λ x. 4 ≤ length (cipher_in flat.now x.1)) }
 {
-    match split_eexec(alloc, flat) {
+    match find_cipher(alloc, flat) {
         Ok((end, cipher)) => Ok((end, cipher)),
         Err(fault) => Err(ReadFault::from(fault)),
     }
 }
 
-/// The clear text of a flat text, and its cipher.
-fn cut_flat(alloc: Global, flat: &[u8]) -> Result<(Vec<u8>, Vec<u8>), ReadFault>
-    ensures parts { Shown (λ x p. (x.0.items ≡ p.clear) × (x.1.items ≡ p.cipher)) result (flat_pieces flat.now) }
-    ensures lead { IfOk result (λ x. 4 ≤ length x.1.items) }
-{
-    let (end, cipher) = split(alloc, flat)?;
-    let clear = Vec::from_slice(alloc, &flat[..end])?;
-    Ok((clear, cipher))
+/// The clear text of a file, and a buffer in which the cipher stands from an offset on.
+#[derive(Drop)]
+pub(crate) struct CutFile {
+    clear: Vec<u8>,
+    buffer: Vec<u8>,
+    from: usize,
 }
 
-/// The clear text of a file, and its cipher. A file that is not in segments is flat already, and isn't copied.
-fn cut_file(alloc: Global, file: &[u8]) -> Result<(Vec<u8>, Vec<u8>), ReadFault>
-    ensures parts { Shown (λ x p. (x.0.items ≡ p.clear) × (x.1.items ≡ p.cipher)) result (file_pieces file.now) }
-    ensures lead { IfOk result (λ x. 4 ≤ length x.1.items) }
+/// A flat text, cut. A binary cipher stays where it stands.
+fn cut_flat(alloc: Global, flat: Vec<u8>) -> Result<CutFile, ReadFault>
+    ensures parts { Shown (λ x p. (x.clear.items ≡ p.clear) × (drop x.from x.buffer.items ≡ p.cipher)) result (flat_pieces flat.items) }
+    ensures lead { IfOk result (λ x. x.from + 4 ≤ length x.buffer.items) }
+{
+    let (end, cipher) = found(alloc, flat.as_slice())?;
+    let clear = Vec::from_slice(alloc, &flat[..end])?;
+    match cipher {
+        Cipher::Last(len) => {
+            let from = flat.len() - len;
+            Ok(CutFile {
+                clear,
+                buffer: flat,
+                from,
+            })
+        }
+        Cipher::Spelled(buffer) => Ok(CutFile {
+            clear,
+            buffer,
+            from: 0,
+        }),
+    }
+}
+
+/// A file that is its own flat text, cut. A hexadecimal cipher is all that is copied of it beside its clear text.
+fn cut_plain(alloc: Global, file: &[u8]) -> Result<CutFile, ReadFault>
+    ensures parts { Shown (λ x p. (x.clear.items ≡ p.clear) × (drop x.from x.buffer.items ≡ p.cipher)) result (flat_pieces file.now) }
+    ensures lead { IfOk result (λ x. x.from + 4 ≤ length x.buffer.items) }
+{
+    let (end, cipher) = found(alloc, file)?;
+    let clear = Vec::from_slice(alloc, &file[..end])?;
+    let buffer = match cipher {
+        Cipher::Last(len) => Vec::from_slice(alloc, &file[file.len() - len..])?,
+        Cipher::Spelled(cipher) => cipher,
+    };
+    Ok(CutFile {
+        clear,
+        buffer,
+        from: 0,
+    })
+}
+
+/// A file, cut.
+fn cut_file(alloc: Global, file: &[u8]) -> Result<CutFile, ReadFault>
+    ensures parts { Shown (λ x p. (x.clear.items ≡ p.clear) × (drop x.from x.buffer.items ≡ p.cipher)) result (file_pieces file.now) }
+    ensures lead { IfOk result (λ x. x.from + 4 ≤ length x.buffer.items) }
 {
     if !is_segmented(file) {
-        return cut_flat(alloc, file);
+        return cut_plain(alloc, file);
     }
     let flat = flat_text(alloc, file)?;
-    cut_flat(alloc, flat.as_slice())
+    cut_flat(alloc, flat)
 }
 
 /// The Encoding of what was read, its names put at the end of the buffer.
@@ -171,11 +213,14 @@ fn font_from(
     light_parts(alloc, outside, inside, gathered)
 }
 
-/// Decrypts the cipher of a private text, where it stands.
-fn open_private(cipher: &mut Vec<u8>)
-    ensures { cipher.new.items ≡ decrypted 55665 cipher.old.items }
+/// Decrypts the cipher of a private text, which stands in a buffer from an offset on, where it stands.
+fn open_private(buffer: &mut Vec<u8>, from: usize)
+    requires { from ≤ length buffer.old.items }
+    ensures value { drop from buffer.new.items ≡ decrypted 55665 (drop from buffer.old.items) }
+    ensures same { length buffer.new.items ≡ length buffer.old.items }
 {
-    decrypt(cipher.as_mut_slice(), EEXEC_KEY);
+    let (_, cipher) = buffer.as_mut_slice().split_at_mut(from);
+    decrypt(cipher, EEXEC_KEY);
 }
 
 /// The parts of the font of a clear text, and of a private text that stands in a buffer from `at` on.
@@ -202,9 +247,11 @@ fn file_parts(alloc: Global, file: &[u8]) -> Result<SourceParts, ReadFault>
     if file.len() > FILE_LIMIT {
         return Err(ReadFault::TooLong);
     }
-    let (clear, mut cipher) = cut_file(alloc, file)?;
-    open_private(&mut cipher);
-    text_parts(alloc, clear.as_slice(), cipher, EEXEC_LEAD as usize)
+    let cut = cut_file(alloc, file)?;
+    let mut buffer = cut.buffer;
+    open_private(&mut buffer, cut.from);
+    let at = cut.from + EEXEC_LEAD as usize;
+    text_parts(alloc, cut.clear.as_slice(), buffer, at)
 }
 
 /// Reads a font file: PFA or PFB, in any spelling of the Type 1 grammar that this library accepts

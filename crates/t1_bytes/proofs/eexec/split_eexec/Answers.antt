@@ -5,7 +5,7 @@ use Rattle.t1_bytes.proofs.EexecLemmas.{split_answers, split_again, fails_again}
 use Rattle.t1_bytes.proofs.eexec.split_eexec.Goals as goal
 
 pub returns-clause-right : goal.returns-clause-right
-returns-clause-right c = split_answers c.args.flat.now c.split.result c.split.ensures
+returns-clause-right c = split_answers split_view c.args.flat.now c.split.result c.split.ensures
 
 pub returns-clause-only : goal.returns-clause-only
 returns-clause-only c = λ at cipher s. subst (Answers split_view c.split.result) (split_again c.args.flat.now at cipher s) c.split.ensures

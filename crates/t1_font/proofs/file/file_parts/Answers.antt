@@ -1,7 +1,7 @@
-use Rattle.std.proofs.Common.{◌≡◌, ◌≤◌, ◌∙◌, ap, arith, sym, refl, drop, ℕ, List, Ok, Err, length}
+use Rattle.std.proofs.Common.{◌+◌, ◌≡◌, ◌≤◌, ◌∙◌, ap, arith, sym, refl, drop, ℕ, List, Ok, Err, length}
 use Rattle.std.proofs.lemmas.Bool.{le-leb}
-use Rattle.t1_bytes.specs.Cipher.{decrypted, private_text}
-use Rattle.t1_bytes.proofs.Ciphers.{length-decrypted}
+use Rattle.std.proofs.lemmas.List.{drop-drop}
+use Rattle.t1_bytes.specs.Cipher.{private_text}
 use Rattle.t1_font.specs.FontValue.{FontValue, file_limit}
 use Rattle.t1_font.specs.Pieces.{FlatPieces, flat_pieces}
 use Rattle.t1_font.specs.ReadFont.{flat_text, file_pieces, font_texts, font_file}
@@ -22,10 +22,13 @@ file_is file p short cut =
 
 pub returns : goal.returns
 returns c =
-    let h = c.in_ok-clear.ensures.parts in
-    answers_same c.text_parts.result _ (font_texts c.as_slice.result.now (drop 4 c.open_private.new.cipher.items))
-    (file_is c.args.file.now h.0 c.if-file-gt-FILE_LIMIT.false h.1 ∙ (λ i. font_texts (sym (c.as_slice.ensures.value ∙ h.2.0) i) (drop 4 (sym (c.open_private.ensures ∙ ap (decrypted 55665) h.2.1) i))))
+    let h = c.in_ok-cut.ensures.parts in
+    let from = c.in_ok-cut.cut.from in
+    let buffer = c.open_private.new.buffer.items in
+    let private : private_text h.0.cipher ≡ drop (from + 4) buffer = ap private_text (sym h.2.1) ∙ (ap (drop 4) (sym c.open_private.ensures.value) ∙ (drop-drop 4 from buffer ∙ ap (λ k. drop k buffer) (omega arith))) in
+    answers_same c.text_parts.result _ (font_texts c.as_slice.result.now (drop (from + 4) buffer))
+    (file_is c.args.file.now h.0 c.if-file-gt-FILE_LIMIT.false h.1 ∙ (λ i. font_texts (sym (c.as_slice.ensures.value ∙ h.2.0) i) (private i)))
     c.text_parts.ensures
 
 pub text_parts-requires : goal.text_parts-requires
-text_parts-requires c = omega (arith, c.in_ok-clear.ensures.lead, ap length c.open_private.ensures, length-decrypted c.in_ok-clear.cipher.items 55665)
+text_parts-requires c = omega (arith, c.in_ok-cut.ensures.lead, c.open_private.ensures.same)
