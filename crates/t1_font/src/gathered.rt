@@ -58,6 +58,18 @@ fn part_at(size: usize, place: Place) -> Range
     }
 }
 
+/// A charstring's part of a buffer without its lead bytes.
+fn behind_lead(part: Range, len_iv: u8) -> Range
+    requires { part.start + len_iv ≤ part.end }
+    ensures start { result.start ≡ part.start + len_iv }
+    ensures end { result.end ≡ part.end }
+{
+    Range {
+        start: part.start + len_iv as usize,
+        end: part.end,
+    }
+}
+
 /// Decrypts the charstring in a part of a buffer, where it stands.
 fn decrypt_in(buffer: &mut Vec<u8>, part: Range)
     requires { IsInside (length buffer.old.items) part }
@@ -125,10 +137,7 @@ impl<'a> Gathered<'a> {
     {
         self.subr_room = settle(&mut self.subrs, self.subr_room)?;
         let cipher = part_at(self.buffer.len(), body);
-        let plain = Range {
-            start: cipher.start + len_iv as usize,
-            end: cipher.end,
-        };
+        let plain = behind_lead(cipher, len_iv);
         self.subrs.push((index, plain))?;
         decrypt_in(&mut self.buffer, cipher);
         self.at = self.buffer.len() - left;
@@ -152,10 +161,7 @@ impl<'a> Gathered<'a> {
         self.glyph_room = settle_names(&mut self.glyphs, self.buffer.as_slice(), self.glyph_room)?;
         let name = part_at(self.buffer.len(), name);
         let cipher = part_at(self.buffer.len(), body);
-        let plain = Range {
-            start: cipher.start + len_iv as usize,
-            end: cipher.end,
-        };
+        let plain = behind_lead(cipher, len_iv);
         self.glyphs.push((name, plain))?;
         decrypt_in(&mut self.buffer, cipher);
         self.at = self.buffer.len() - left;

@@ -15,7 +15,7 @@ use Rattle.t1_font.proofs.gathered.Gathered.keep_glyph.Goals as goal
 now_long : (c : goal.After-self-3-1) → c.len-3.result ≡ length c.decrypt_in.new.buffer.items
 now_long c = c.len-3.ensures ∙ c.decrypt_in.new.buffer.ok.0
 
-decrypted_so : (c : goal.After-self-3-1) → Decrypted c.self.inside.buffer.items c.decrypt_in.new.buffer.items c.self.inside.at c.args.left c.args.len_iv c.args.body c.part_at-cipher.result (record { start = c.part_at-cipher.result.start + c.args.len_iv; end = c.part_at-cipher.result.end })
+decrypted_so : (c : goal.After-self-3-1) → Decrypted c.self.inside.buffer.items c.decrypt_in.new.buffer.items c.self.inside.at c.args.left c.args.len_iv c.args.body c.part_at-cipher.result c.behind_lead-plain.result
 decrypted_so c = record {
   fits = c.self.invariant.at;
   room = subst (λ (g : Entries). c.args.body.len + c.args.body.behind ≤ length g.rest) (sym c.self.view_is) (omega (arith, c.requires.name, c.requires.body));
@@ -24,8 +24,8 @@ decrypted_so c = record {
   start = c.part_at-cipher.ensures.start ∙ ap (λ n. n - (c.args.body.len + c.args.body.behind)) (c.len-2.ensures ∙ c.self.inside.buffer.ok.0);
   end = c.part_at-cipher.ensures.end ∙ ap (λ n. n - c.args.body.behind) (c.len-2.ensures ∙ c.self.inside.buffer.ok.0);
   is = c.decrypt_in.ensures;
-  plain_start = refl;
-  plain_end = refl;
+  plain_start = c.behind_lead-plain.ensures.start;
+  plain_end = c.behind_lead-plain.ensures.end;
 }
 
 named_so : (c : goal.After-self-3-1) → Named c.self.inside.buffer.items c.self.inside.at c.args.name c.args.body c.part_at-name.result
@@ -44,7 +44,7 @@ invariant_of-self-2 c =
     let d = decrypted_so c in
     let was = c.self.inside.at in
     let now = c.len-3.result - c.args.left in
-    let plain : Range = record { start = c.part_at-cipher.result.start + c.args.len_iv; end = c.part_at-cipher.result.end } in
+    let plain : Range = c.behind_lead-plain.result in
     let wider : was ≤ now = omega (arith, goes_on _ _ _ _ _ _ _ _ d, now_long c) in
     let one : IsInside now plain = subst (λ n. IsInside (n - c.args.left) plain) (sym (now_long c)) (plain_inside _ _ _ _ _ _ _ _ d) in
     let name : IsInside now c.part_at-name.result = subst (λ n. IsInside (n - c.args.left) c.part_at-name.result) (sym (now_long c)) (name_inside _ _ _ _ _ _ _ _ d _ _ (named_so c)) in
