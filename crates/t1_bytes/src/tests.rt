@@ -3,8 +3,8 @@
 mod tiny;
 
 use crate::{
-    BytesFault, CHARSTRING_KEY, EEXEC_KEY, EEXEC_LEAD, decrypt, encrypt, flatten, hex_lines, open,
-    seal, segments, split_eexec, trailer,
+    BytesFault, CHARSTRING_KEY, Cipher, EEXEC_KEY, EEXEC_LEAD, decrypt, encrypt, find_cipher,
+    flatten, hex_lines, open, seal, segments, split_eexec, trailer,
 };
 use std::alloc::{AllocError, Global};
 use std::test::Fail;
@@ -21,8 +21,23 @@ fn flattens(alloc: Global, file: &[u8], want: Result<&[u8], BytesFault>) -> bool
 
 /// Whether a flat text is split into this offset and cipher, or the fault is this one.
 fn splits(alloc: Global, flat: &[u8], want: Result<(usize, &[u8]), BytesFault>) -> bool {
-    match (split_eexec(alloc, flat), want) {
+    let split = match (split_eexec(alloc, flat), want) {
         (Ok((at, cipher)), Ok((place, bytes))) => at == place && cipher.as_slice() == bytes,
+        (Err(fault), Err(other)) => fault == other,
+        _ => false,
+    };
+    split && finds(alloc, flat, want)
+}
+
+/// Whether the cipher of a flat text is found so: the last bytes, where it is binary.
+fn finds(alloc: Global, flat: &[u8], want: Result<(usize, &[u8]), BytesFault>) -> bool {
+    match (find_cipher(alloc, flat), want) {
+        (Ok((at, Cipher::Last(len))), Ok((place, bytes))) => {
+            at == place && len == bytes.len() && flat.ends_with(bytes)
+        }
+        (Ok((at, Cipher::Spelled(cipher))), Ok((place, bytes))) => {
+            at == place && cipher.as_slice() == bytes
+        }
         (Err(fault), Err(other)) => fault == other,
         _ => false,
     }

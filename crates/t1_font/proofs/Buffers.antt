@@ -95,9 +95,6 @@ module _ (was now : List ℕ) (at left iv : ℕ) (body : Place) (cipher plain : 
   long : body.len + body.behind ≤ length was - at
   long = omega (arith, d.room, length-drop at was)
 
-  pub cipher_inside : IsInside (length was) cipher
-  cipher_inside = record { ordered = omega (arith, d.start, d.end, long, d.fits); within = omega (arith, d.end) }
-
   size : length (decrypted 4330 (bytes_at was cipher)) ≡ body.len
   size = length-decrypted (bytes_at was cipher) 4330 ∙ (length-take-le (cipher.end - cipher.start) (drop cipher.start was) (omega (arith, length-drop cipher.start was, d.start, d.end, long, d.fits)) ∙ omega (arith, d.start, d.end, long, d.fits))
 
@@ -168,9 +165,6 @@ module _ (was now : List ℕ) (at left iv : ℕ) (body : Place) (cipher plain : 
 
   pub goes_on : at ≤ length now - left
   goes_on = omega (arith, same_length, long, d.fits, d.past)
-
-  pub at_inside : length now - left ≤ length now
-  at_inside = omega arith
 
   -- a name that stands before it stays
   module _ (name : Place) (part : Range) (n : Named was at name body part) where

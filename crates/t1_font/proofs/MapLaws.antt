@@ -76,7 +76,7 @@ module _ {K : Type 0} {R : K → K → Ordering} (o : IsTotalOrder R) (same : Is
       let rest = below_filter x p es (right_T _ _ h) in
       elim (p e) as (λ b. T (below_all R x (cond b (e ∷ filter p es) (filter p es)))) [ true ↦ and_T _ _ (left_T _ _ h) rest | false ↦ rest ]
 
-  sorted_filter : (p : K × List ℕ → Bool) (es : List (K × List ℕ)) → IsSorted es → IsSorted (filter p es)
+  pub sorted_filter : (p : K × List ℕ → Bool) (es : List (K × List ℕ)) → IsSorted es → IsSorted (filter p es)
   sorted_filter p [] h = tt
   sorted_filter p (e ∷ es) h =
       let rest = sorted_filter p es (right_T _ _ h) in

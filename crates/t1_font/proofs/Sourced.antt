@@ -1,21 +1,12 @@
 -- Names that are put at the end of a buffer, and the entries that are kept of them.
-use Rattle.std.proofs.Common.{◌≡◌, refl, sym, ap, subst, ◌∙◌, ℕ, ◌≤◌, arith, Bool, true, false, cond, T, List, [], ◌∷◌, ◌++◌, map, length}
+use Rattle.std.proofs.Common.{◌≡◌, sym, ap, subst, ◌∙◌, ℕ, ◌≤◌, arith, Bool, true, false, cond, List, [], ◌∷◌, ◌++◌, map, length}
 use Rattle.std.specs.Prelude.{filter}
-use Rattle.std.specs.FinMap.{from_sorted}
-use Rattle.std.specs.FinMap.Entries.{below_all}
-use Rattle.std.specs.declared.cmp.Ordering.{Ordering}
 use Rattle.std.proofs.lemmas.List.{append_assoc, append-nil, length-append, map-append}
 use Rattle.std.proofs.lemmas.List.Elements.{All-nil, All-cons, All-append}
-use Rattle.t1_join.specs.TableMeaning.{Rises}
-use Rattle.t1_join.proofs.Sorted.{both_true, make_both}
 use Rattle.t1_font.specs.declared.ranges.Range.{Range}
-use Rattle.t1_font.specs.declared.source.KeptEncoding.{KeptEncoding}
-use Rattle.t1_font.specs.declared.source.KeptEncoding.TheVariants as kept
 use Rattle.t1_font.specs.Entries.{has_name}
 use Rattle.t1_font.specs.Ranges.{bytes_at, IsInside, AllInside, numbered_at}
-use Rattle.t1_font.specs.FontValue.{Codes}
-use Rattle.t1_font.specs.Sources.{kept_encoding, codes_of}
-use Rattle.t1_font.proofs.Buffers.{all_longer, entries_longer, entries_in}
+use Rattle.t1_font.proofs.Buffers.{all_longer, entries_longer}
 use Rattle.t1_font.proofs.Drains.{moved}
 
 -- ---- names of codes
@@ -56,24 +47,3 @@ module _ (old : List ℕ) (all : List (ℕ × List ℕ)) (buffer : List ℕ) (ke
 
       stay : map (numbered_at now) kept ≡ map (numbered_at buffer) kept
       stay = ap (λ b. map (numbered_at b) kept) grown ∙ entries_longer (λ k. k) buffer name kept h.inside
-
--- ---- the Encoding
-
--- entries of which some are left out rise
-module _ {K X : Type 0} (R : K → K → Ordering) (p : K × X → Bool) where
-  below_filter : (x : K) (es : List (K × X)) → T (below_all R x es) → T (below_all R x (filter p es))
-  below_filter x [] h = tt
-  below_filter x (e ∷ es) h =
-      let both = both_true _ _ h in
-      elim (p e) as (λ b. T (below_all R x (cond b (e ∷ filter p es) (filter p es)))) [ true ↦ make_both _ _ both.0 (below_filter x es both.1) | false ↦ below_filter x es both.1 ]
-
-  pub rises_filter : (es : List (K × X)) → Rises R es → Rises R (filter p es)
-  rises_filter [] h = tt
-  rises_filter (e ∷ es) h =
-      let both = both_true _ _ h in
-      elim (p e) as (λ b. Rises R (cond b (e ∷ filter p es) (filter p es))) [ true ↦ make_both _ _ (below_filter e.0 es both.0) (rises_filter es both.1) | false ↦ rises_filter es both.1 ]
-
--- the Encoding stays where the buffer grows
-pub encoding_in : (old new more : List ℕ) → new ≡ old ++ more → (e : KeptEncoding) → AllInside (length old) (codes_of e) → kept_encoding new e ≡ kept_encoding old e
-encoding_in old new more is (kept.Word w) h = refl
-encoding_in old new more is (kept.Codes names) h = ap (λ es. Codes (from_sorted es)) (entries_in old new more is (λ k. k) names.items h)
