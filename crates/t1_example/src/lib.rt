@@ -47,9 +47,12 @@ fn cut(alloc: Global, source: &Source, names: &[&[u8]], form: Form) -> Result<Ve
         MatchResult result (λ v. read_font v.items ≡ Ok (subset profile source.now (asked names.now))) IsMemory }
 {
     let font = source.font(alloc)?;
-    let subset = subset(alloc, &font, names)?;
-    let file = write(alloc, &subset, form)?;
-    Ok(file)
+    let subset = subset(alloc, &font, names);
+    drop(font);
+    let subset = subset?;
+    let file = write(alloc, &subset, form);
+    drop(subset);
+    Ok(file?)
 }
 
 // What two fonts come to, merged in this order; it borrows from the sources of both.
@@ -80,10 +83,20 @@ fn merged_file(
         MatchResult result (λ v. v.items ≡ canon (union_subset f a b) form) IsMemory }
 {
     let one = first.font(alloc)?;
-    let other = second.font(alloc)?;
-    let font = merged(alloc, &one, &other, order)?;
-    let file = write(alloc, &font, form)?;
-    Ok(file)
+    let other = match second.font(alloc) {
+        Ok(other) => other,
+        Err(_) => {
+            drop(one);
+            return Err(Refusal::Memory);
+        }
+    };
+    let font = merged(alloc, &one, &other, order);
+    drop(one);
+    drop(other);
+    let font = font?;
+    let file = write(alloc, &font, form);
+    drop(font);
+    Ok(file?)
 }
 
 // The file of what the fonts of two files come to: the work of a tool that joins documents.
@@ -98,8 +111,17 @@ fn joined(
         MatchResult result (λ v. v.items ≡ canon (union_subset f a b) form) IsMemory }
 {
     let one = read(alloc, first)?;
-    let other = read(alloc, second)?;
-    merged_file(alloc, &one, &other, order, form)
+    let other = match read(alloc, second) {
+        Ok(other) => other,
+        Err(fault) => {
+            drop(one);
+            return Err(Refusal::Read(fault));
+        }
+    };
+    let file = merged_file(alloc, &one, &other, order, form);
+    drop(one);
+    drop(other);
+    file
 }
 
 /// The file of what two subsets of a font come to: the font of a file is read and cut to both sets of names; both
@@ -123,8 +145,16 @@ pub fn cut_and_joined(
         sets.contains (keep profile f (sets.union (asked first.now) (asked second.now))) n ≡ true → AnswersAlike f g n) }
 {
     let source = read(alloc, file)?;
-    let one = cut(alloc, &source, first, form)?;
-    let other = cut(alloc, &source, second, form)?;
+    let one = match cut(alloc, &source, first, form) {
+        Ok(one) => one,
+        Err(refusal) => {
+            drop(source);
+            return Err(refusal);
+        }
+    };
+    let other = cut(alloc, &source, second, form);
+    drop(source);
+    let other = other?;
     joined(alloc, one.as_slice(), other.as_slice(), order, form)
 }
 

@@ -1,9 +1,11 @@
-use Rattle.std.proofs.Common.{◌≡◌, ◌∙◌, ap, subst, ℕ, Vec, Global, MatchResult}
+use Rattle.std.proofs.Common.{◌≡◌, ◌∙◌, ap, sym, subst, ℕ, Vec, Global, MatchResult}
 use Rattle.std.proofs.lemmas.Result.{err_from_is_err_and}
 use Rattle.t1_font.specs.Canon.{canon}
 use Rattle.t1_font.specs.FontValue.{FontValue}
 use Rattle.t1_font.specs.IsFont.{IsFont}
 use Rattle.t1_font.specs.ReadFont.{read_font}
+use Rattle.t1_font.proofs.AnswersRight.{bytes_of_slice}
+use Rattle.t1_font.proofs.ReadFontLaws.{spelled_font}
 use Rattle.t1_subset.specs.NameSets.{asked}
 use Rattle.t1_example.specs.Joining.{IsMemory, union_subset}
 use Rattle.t1_example.proofs.Callers.{readable, file_refused, drawn}
@@ -16,12 +18,9 @@ returns-in_err-source-clause-bytes c = let p = err_from_is_err_and c.from_residu
 pub returns-in_err-source-clause-draws : goal.returns-in_err-source-clause-draws
 returns-in_err-source-clause-draws c = let p = err_from_is_err_and c.from_residual.result c.from_residual.ensures.1 in rw (p.1) (λ f k. tt)
 
-pub returns-in_err-one-clause-bytes : goal.returns-in_err-one-clause-bytes
-returns-in_err-one-clause-bytes c = let p = err_from_is_err_and c.from_residual-in_err-one.result c.from_residual-in_err-one.ensures.1 in rw (p.1, p.2) (λ f k.
-    let r = readable c.args.file.now (asked c.args.first.now) (asked c.args.second.now) c.args.form f c.in_ok-source.source k c.in_ok-source.ensures.right in c.in_err-one.ensures r.first r.fits)
-
-pub returns-in_err-one-clause-draws : goal.returns-in_err-one-clause-draws
-returns-in_err-one-clause-draws c = let p = err_from_is_err_and c.from_residual-in_err-one.result c.from_residual-in_err-one.ensures.1 in rw (p.1) (λ f k. tt)
+pub returns-in-Err-clause-bytes : goal.returns-in-Err-clause-bytes
+returns-in-Err-clause-bytes c = λ f k.
+    let r = readable c.args.file.now (asked c.args.first.now) (asked c.args.second.now) c.args.form f c.in_ok-source.source k c.in_ok-source.ensures.right in c.in-Err.ensures r.first r.fits
 
 pub returns-in_err-other-clause-bytes : goal.returns-in_err-other-clause-bytes
 returns-in_err-other-clause-bytes c = let p = err_from_is_err_and c.from_residual-in_err-other.result c.from_residual-in_err-other.ensures.1 in rw (p.1, p.2) (λ f k.
@@ -36,12 +35,12 @@ returns-clause-bytes c = λ f k.
     let b = asked c.args.second.now in
     let r = readable c.args.file.now a b c.args.form f c.in_ok-source.source k c.in_ok-source.ensures.right in
     subst (λ (j : FontValue). MatchResult c.joined.result (λ (v : Vec ℕ Global). v.items ≡ canon (union_subset j a b) c.args.form) IsMemory) r.is
-    (c.joined.ensures c.in_ok-source.source a b (subst (λ (j : FontValue). IsFont j) c.source.view_is c.source.invariant) r.first r.second
-    (ap read_font c.as_slice.ensures.value ∙ c.in_ok-one.ensures r.first r.fits, ap read_font c.as_slice-2.ensures.value ∙ c.in_ok-other.ensures r.second r.fits))
+    (c.joined.ensures c.in_ok-source.source a b (subst (λ (j : FontValue). IsFont j) (sym r.is) (spelled_font c.args.file.now f (bytes_of_slice c.args.file.now c.type_inv.file) k.spelled)) r.first r.second
+    (ap read_font c.as_slice.ensures.value ∙ c.in-Ok.ensures r.first r.fits, ap read_font c.as_slice-2.ensures.value ∙ c.in_ok-other.ensures r.second r.fits))
 
 pub returns-clause-draws : goal.returns-clause-draws
 returns-clause-draws c = λ f k.
     let a = asked c.args.first.now in
     let b = asked c.args.second.now in
     let r = readable c.args.file.now a b c.args.form f c.in_ok-source.source k c.in_ok-source.ensures.right in
-    drawn c.joined.result f a b c.args.form (subst (λ (j : FontValue). IsFont j) (c.source.view_is ∙ r.is) c.source.invariant) k.first k.second k.fits (returns-clause-bytes c f k)
+    drawn c.joined.result f a b c.args.form (spelled_font c.args.file.now f (bytes_of_slice c.args.file.now c.type_inv.file) k.spelled) k.first k.second k.fits (returns-clause-bytes c f k)

@@ -9,12 +9,12 @@ pub returns-in_err-one : goal.returns-in_err-one
 returns-in_err-one c = let p = err_from_is_err_and c.from_residual.result c.from_residual.ensures.1 in rw (p.1, p.2) (λ f a b w i k e.
     only_memory (read_font c.args.first.now) (subset profile f a) c.in_err-one.field-0.0 e.0 c.in_err-one.ensures.exact)
 
-pub returns-in_err-other : goal.returns-in_err-other
-returns-in_err-other c = let p = err_from_is_err_and c.from_residual-in_err-other.result c.from_residual-in_err-other.ensures.1 in rw (p.1, p.2) (λ f a b w i k e.
-    only_memory (read_font c.args.second.now) (subset profile f b) c.in_err-other.field-0.0 e.1 c.in_err-other.ensures.exact)
+pub returns-in-Err : goal.returns-in-Err
+returns-in-Err c = λ f a b w i k e.
+    only_memory (read_font c.args.second.now) (subset profile f b) c.in-Err.fault e.1 c.in-Err.ensures.exact
 
 pub returns : goal.returns
 returns c = λ f a b w i k e.
-    c.merged_file.ensures f a b w i k
+    c.merged_file-file.ensures f a b w i k
     (read_back c.args.first.now (subset profile f a) c.in_ok-one.one e.0 c.in_ok-one.ensures.exact)
-    (read_back c.args.second.now (subset profile f b) c.in_ok-other.other e.1 c.in_ok-other.ensures.exact)
+    (read_back c.args.second.now (subset profile f b) c.in-Ok.other e.1 c.in-Ok.ensures.exact)
