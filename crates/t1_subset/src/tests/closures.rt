@@ -24,7 +24,11 @@ fn text_of(alloc: Global, closure: &Closure) -> Result<Vec<u8>, AllocError> {
 /// What names of a font keep, as a text; the name that it lacks.
 fn font_keeps(alloc: Global, font: &Font<'_>, names: &[&[u8]]) -> Result<Vec<u8>, AllocError> {
     match closure(alloc, font, names) {
-        Ok(closure) => text_of(alloc, &closure),
+        Ok(closure) => {
+            let text = text_of(alloc, &closure);
+            drop(closure);
+            text
+        }
         Err(SubsetFault::NoSuchGlyph { name }) => Ok(name),
         Err(SubsetFault::Memory) => Err(AllocError),
     }
@@ -33,13 +37,19 @@ fn font_keeps(alloc: Global, font: &Font<'_>, names: &[&[u8]]) -> Result<Vec<u8>
 /// The same of a source's font.
 fn source_keeps(alloc: Global, source: &Source, names: &[&[u8]]) -> Result<Vec<u8>, AllocError> {
     let font = source.font(alloc)?;
-    font_keeps(alloc, &font, names)
+    let kept = font_keeps(alloc, &font, names);
+    drop(font);
+    kept
 }
 
 /// The same of a file's font.
 fn kept(alloc: Global, file: &[u8], names: &[&[u8]]) -> Result<Vec<u8>, AllocError> {
     match read(alloc, file) {
-        Ok(source) => source_keeps(alloc, &source, names),
+        Ok(source) => {
+            let kept = source_keeps(alloc, &source, names);
+            drop(source);
+            kept
+        }
         Err(_) => Err(AllocError),
     }
 }
@@ -79,15 +89,23 @@ const ABSENT: [(&[&[u8]], &[u8]); 4] = [
 /// Whether a subset is refused for this name.
 fn lacks(alloc: Global, font: &Font<'_>, names: &[&[u8]], want: &[u8]) -> bool {
     match subset(alloc, font, names) {
+        Ok(cut) => {
+            drop(cut);
+            false
+        }
         Err(SubsetFault::NoSuchGlyph { name }) => name.as_slice() == want,
-        _ => false,
+        Err(SubsetFault::Memory) => false,
     }
 }
 
 /// The same of a source's font.
 fn source_lacks(alloc: Global, source: &Source, names: &[&[u8]], want: &[u8]) -> bool {
     match source.font(alloc) {
-        Ok(font) => lacks(alloc, &font, names, want),
+        Ok(font) => {
+            let told = lacks(alloc, &font, names, want);
+            drop(font);
+            told
+        }
         Err(_) => false,
     }
 }
@@ -95,7 +113,11 @@ fn source_lacks(alloc: Global, source: &Source, names: &[&[u8]], want: &[u8]) ->
 /// The same of a file's font.
 fn file_lacks(alloc: Global, file: &[u8], names: &[&[u8]], want: &[u8]) -> bool {
     match read(alloc, file) {
-        Ok(source) => source_lacks(alloc, &source, names, want),
+        Ok(source) => {
+            let told = source_lacks(alloc, &source, names, want);
+            drop(source);
+            told
+        }
         Err(_) => false,
     }
 }

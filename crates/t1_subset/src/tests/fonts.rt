@@ -172,7 +172,11 @@ pub fn written(alloc: Global, font: &Font<'_>) -> Vec<u8> {
 /// The same of its subset; nothing where there is none.
 fn cut_of(alloc: Global, font: &Font<'_>, names: &[&[u8]]) -> Vec<u8> {
     match subset(alloc, font, names) {
-        Ok(cut) => written(alloc, &cut),
+        Ok(cut) => {
+            let file = written(alloc, &cut);
+            drop(cut);
+            file
+        }
         Err(_) => Vec::new(alloc),
     }
 }
@@ -180,7 +184,11 @@ fn cut_of(alloc: Global, font: &Font<'_>, names: &[&[u8]]) -> Vec<u8> {
 /// The same of the subset of a source's font.
 fn lent_cut(alloc: Global, source: &Source, names: &[&[u8]]) -> Vec<u8> {
     match source.font(alloc) {
-        Ok(font) => cut_of(alloc, &font, names),
+        Ok(font) => {
+            let file = cut_of(alloc, &font, names);
+            drop(font);
+            file
+        }
         Err(_) => Vec::new(alloc),
     }
 }
@@ -188,7 +196,11 @@ fn lent_cut(alloc: Global, source: &Source, names: &[&[u8]]) -> Vec<u8> {
 /// The same of the subset of a file's font.
 pub fn cut(alloc: Global, file: &[u8], names: &[&[u8]]) -> Vec<u8> {
     match read(alloc, file) {
-        Ok(source) => lent_cut(alloc, &source, names),
+        Ok(source) => {
+            let file = lent_cut(alloc, &source, names);
+            drop(source);
+            file
+        }
         Err(_) => Vec::new(alloc),
     }
 }

@@ -64,6 +64,7 @@ fn cut<'a>(alloc: Global, font: &Font<'a>, numbers: Range<u32>) -> Result<Font<'
     if closed == cut.names().count() {
         Ok(cut)
     } else {
+        drop(cut);
         Err(SubsetFault::Memory)
     }
 }
@@ -71,7 +72,11 @@ fn cut<'a>(alloc: Global, font: &Font<'a>, numbers: Range<u32>) -> Result<Font<'
 /// How many glyphs two fonts come to.
 fn merged_count<'a>(alloc: Global, one: &Font<'a>, other: &Font<'a>) -> Option<usize> {
     match merge(alloc, one, other) {
-        Ok(both) => Some(both.names().count()),
+        Ok(both) => {
+            let count = Some(both.names().count());
+            drop(both);
+            count
+        }
         Err(_) => None,
     }
 }
@@ -79,7 +84,11 @@ fn merged_count<'a>(alloc: Global, one: &Font<'a>, other: &Font<'a>) -> Option<u
 /// How many glyphs fonts come to.
 fn count_of_all(alloc: Global, fonts: &[Font<'_>]) -> Option<usize> {
     match merge_all(alloc, fonts) {
-        Ok(all) => Some(all.names().count()),
+        Ok(all) => {
+            let count = Some(all.names().count());
+            drop(all);
+            count
+        }
         Err(_) => None,
     }
 }
@@ -103,7 +112,10 @@ fn counts_with<'a>(
 ) -> (Option<usize>, Option<usize>) {
     match cut(alloc, font, numbers) {
         Ok(other) => counts_of_two(alloc, one, other),
-        Err(_) => (None, None),
+        Err(_) => {
+            drop(one);
+            (None, None)
+        }
     }
 }
 
@@ -128,7 +140,11 @@ fn lent_counts(
     other: Range<u32>,
 ) -> (Option<usize>, Option<usize>) {
     match source.font(alloc) {
-        Ok(font) => counts_of_cuts(alloc, &font, one, other),
+        Ok(font) => {
+            let counts = counts_of_cuts(alloc, &font, one, other);
+            drop(font);
+            counts
+        }
         Err(_) => (None, None),
     }
 }
@@ -141,7 +157,11 @@ fn counts(
     other: Range<u32>,
 ) -> (Option<usize>, Option<usize>) {
     match read(alloc, file) {
-        Ok(source) => lent_counts(alloc, &source, one, other),
+        Ok(source) => {
+            let counts = lent_counts(alloc, &source, one, other);
+            drop(source);
+            counts
+        }
         Err(_) => (None, None),
     }
 }
@@ -155,19 +175,30 @@ fn thousands_of_glyphs(rt: HostRuntime) -> Result<(), Fail> {
     Ok(())
 }
 
+/// Why two fonts don't merge.
+fn fault_of<'a>(alloc: Global, one: &Font<'a>, other: &Font<'a>) -> Option<Conflict> {
+    match merge(alloc, one, other) {
+        Ok(both) => {
+            drop(both);
+            None
+        }
+        Err(conflict) => Some(conflict),
+    }
+}
+
 /// Whether two fonts are too heavy together, and the first is not with itself.
 fn over_together<'a>(alloc: Global, one: &Font<'a>, other: &Font<'a>) -> bool {
-    let over = match merge(alloc, one, other) {
-        Err(Conflict::Limit) => true,
-        _ => false,
-    };
-    over && merge(alloc, one, one).is_ok()
+    fault_of(alloc, one, other) == Some(Conflict::Limit) && fault_of(alloc, one, one).is_none()
 }
 
 /// The same of a font and that of a source.
 fn over_with<'a>(alloc: Global, one: &Font<'a>, other: &'a Source) -> bool {
     match other.font(alloc) {
-        Ok(other) => over_together(alloc, one, &other),
+        Ok(other) => {
+            let over = over_together(alloc, one, &other);
+            drop(other);
+            over
+        }
         Err(_) => false,
     }
 }
@@ -175,7 +206,11 @@ fn over_with<'a>(alloc: Global, one: &Font<'a>, other: &'a Source) -> bool {
 /// The same of the fonts of two sources.
 fn lent_over<'a>(alloc: Global, one: &'a Source, other: &'a Source) -> bool {
     match one.font(alloc) {
-        Ok(one) => over_with(alloc, &one, other),
+        Ok(one) => {
+            let over = over_with(alloc, &one, other);
+            drop(one);
+            over
+        }
         Err(_) => false,
     }
 }
@@ -183,7 +218,11 @@ fn lent_over<'a>(alloc: Global, one: &'a Source, other: &'a Source) -> bool {
 /// The same of the fonts of a source and of a file.
 fn too_heavy_with(alloc: Global, one: &Source, other: &[u8]) -> bool {
     match read(alloc, other) {
-        Ok(other) => lent_over(alloc, one, &other),
+        Ok(other) => {
+            let over = lent_over(alloc, one, &other);
+            drop(other);
+            over
+        }
         Err(_) => false,
     }
 }
@@ -191,7 +230,11 @@ fn too_heavy_with(alloc: Global, one: &Source, other: &[u8]) -> bool {
 /// The same of the fonts of two files.
 fn too_heavy(alloc: Global, one: &[u8], other: &[u8]) -> bool {
     match read(alloc, one) {
-        Ok(one) => too_heavy_with(alloc, &one, other),
+        Ok(one) => {
+            let over = too_heavy_with(alloc, &one, other);
+            drop(one);
+            over
+        }
         Err(_) => false,
     }
 }

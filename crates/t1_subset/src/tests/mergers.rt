@@ -9,7 +9,10 @@ use t1_font::{Font, Form, Source, read, write};
 /// Why two fonts don't merge.
 fn refusal<'a>(alloc: Global, left: &Font<'a>, right: &Font<'a>) -> Option<Conflict> {
     match merge(alloc, left, right) {
-        Ok(_) => None,
+        Ok(both) => {
+            drop(both);
+            None
+        }
         Err(conflict) => Some(conflict),
     }
 }
@@ -18,13 +21,23 @@ fn refusal<'a>(alloc: Global, left: &Font<'a>, right: &Font<'a>) -> Option<Confl
 fn refusal_of_both<'a>(alloc: Global, left: &Font<'a>, right: &Font<'a>) -> Option<Conflict> {
     let one = refusal(alloc, left, right);
     let other = refusal(alloc, right, left);
-    if one == other { one } else { None }
+    let is_same = one == other;
+    drop(other);
+    if is_same {
+        return one;
+    }
+    drop(one);
+    None
 }
 
 /// The same of a font and that of a source.
 fn refusal_with<'a>(alloc: Global, left: &Font<'a>, right: &'a Source) -> Option<Conflict> {
     match right.font(alloc) {
-        Ok(right) => refusal_of_both(alloc, left, &right),
+        Ok(right) => {
+            let told = refusal_of_both(alloc, left, &right);
+            drop(right);
+            told
+        }
         Err(_) => None,
     }
 }
@@ -32,7 +45,11 @@ fn refusal_with<'a>(alloc: Global, left: &Font<'a>, right: &'a Source) -> Option
 /// The same of the fonts of two sources.
 fn lent_refusal<'a>(alloc: Global, left: &'a Source, right: &'a Source) -> Option<Conflict> {
     match left.font(alloc) {
-        Ok(left) => refusal_with(alloc, &left, right),
+        Ok(left) => {
+            let told = refusal_with(alloc, &left, right);
+            drop(left);
+            told
+        }
         Err(_) => None,
     }
 }
@@ -40,7 +57,11 @@ fn lent_refusal<'a>(alloc: Global, left: &'a Source, right: &'a Source) -> Optio
 /// The same of the fonts of a source and of a file.
 fn conflict_with(alloc: Global, left: &Source, right: &[u8]) -> Option<Conflict> {
     match read(alloc, right) {
-        Ok(right) => lent_refusal(alloc, left, &right),
+        Ok(right) => {
+            let told = lent_refusal(alloc, left, &right);
+            drop(right);
+            told
+        }
         Err(_) => None,
     }
 }
@@ -48,7 +69,11 @@ fn conflict_with(alloc: Global, left: &Source, right: &[u8]) -> Option<Conflict>
 /// Why the fonts of two files don't merge, where both orders say the same.
 fn conflict(alloc: Global, left: &[u8], right: &[u8]) -> Option<Conflict> {
     match read(alloc, left) {
-        Ok(left) => conflict_with(alloc, &left, right),
+        Ok(left) => {
+            let told = conflict_with(alloc, &left, right);
+            drop(left);
+            told
+        }
         Err(_) => None,
     }
 }
@@ -56,7 +81,11 @@ fn conflict(alloc: Global, left: &[u8], right: &[u8]) -> Option<Conflict> {
 /// The canonical PFB of what two fonts come to, where they merge.
 fn both<'a>(alloc: Global, left: &Font<'a>, right: &Font<'a>) -> Vec<u8> {
     match merge(alloc, left, right) {
-        Ok(both) => written(alloc, &both),
+        Ok(both) => {
+            let file = written(alloc, &both);
+            drop(both);
+            file
+        }
         Err(_) => Vec::new(alloc),
     }
 }
@@ -64,7 +93,11 @@ fn both<'a>(alloc: Global, left: &Font<'a>, right: &Font<'a>) -> Vec<u8> {
 /// The same of a font and that of a source.
 fn both_with<'a>(alloc: Global, left: &Font<'a>, right: &'a Source) -> Vec<u8> {
     match right.font(alloc) {
-        Ok(right) => both(alloc, left, &right),
+        Ok(right) => {
+            let file = both(alloc, left, &right);
+            drop(right);
+            file
+        }
         Err(_) => Vec::new(alloc),
     }
 }
@@ -72,7 +105,11 @@ fn both_with<'a>(alloc: Global, left: &Font<'a>, right: &'a Source) -> Vec<u8> {
 /// The same of the fonts of two sources.
 fn lent_both<'a>(alloc: Global, left: &'a Source, right: &'a Source) -> Vec<u8> {
     match left.font(alloc) {
-        Ok(left) => both_with(alloc, &left, right),
+        Ok(left) => {
+            let file = both_with(alloc, &left, right);
+            drop(left);
+            file
+        }
         Err(_) => Vec::new(alloc),
     }
 }
@@ -80,7 +117,11 @@ fn lent_both<'a>(alloc: Global, left: &'a Source, right: &'a Source) -> Vec<u8> 
 /// The same of the fonts of a source and of a file.
 fn merged_with(alloc: Global, left: &Source, right: &[u8]) -> Vec<u8> {
     match read(alloc, right) {
-        Ok(right) => lent_both(alloc, left, &right),
+        Ok(right) => {
+            let file = lent_both(alloc, left, &right);
+            drop(right);
+            file
+        }
         Err(_) => Vec::new(alloc),
     }
 }
@@ -88,91 +129,95 @@ fn merged_with(alloc: Global, left: &Source, right: &[u8]) -> Vec<u8> {
 /// The same of the fonts of two files.
 fn merged(alloc: Global, left: &[u8], right: &[u8]) -> Vec<u8> {
     match read(alloc, left) {
-        Ok(left) => merged_with(alloc, &left, right),
+        Ok(left) => {
+            let file = merged_with(alloc, &left, right);
+            drop(left);
+            file
+        }
         Err(_) => Vec::new(alloc),
     }
 }
 
-/// Shells that differ from the one above in one part; of two parts that differ the first is told.
-const CHANGED: [(Shell, ShellPart); 12] = [
-    (
-        Shell {
-            head: b"%!x\n",
-            ..SHELL
+/// One part of a shell, as a file spells it.
+#[derive(Clone, Copy)]
+enum Change {
+    Head(&'static [u8]),
+    Encoding(&'static [u8]),
+    ClearTail(&'static [u8]),
+    Private(&'static [u8]),
+    Subrs(&'static [u8]),
+    Put(&'static [u8]),
+    Closing(&'static [u8]),
+    Middle(&'static [u8]),
+    Def(&'static [u8]),
+    Tail(&'static [u8]),
+}
+
+/// A shell with one part changed.
+fn with(change: Change, shell: Shell) -> Shell {
+    match change {
+        Change::Head(head) => Shell { head, ..shell },
+        Change::Encoding(encoding) => Shell { encoding, ..shell },
+        Change::ClearTail(clear_tail) => Shell {
+            clear_tail,
+            ..shell
         },
-        ShellPart::Head,
-    ),
+        Change::Private(private) => Shell { private, ..shell },
+        Change::Subrs(subrs) => Shell { subrs, ..shell },
+        Change::Put(put) => Shell { put, ..shell },
+        Change::Closing(closing) => Shell { closing, ..shell },
+        Change::Middle(middle) => Shell { middle, ..shell },
+        Change::Def(def) => Shell { def, ..shell },
+        Change::Tail(tail) => Shell { tail, ..shell },
+    }
+}
+
+/// The shell above with these parts changed.
+fn changed(changes: &[Change]) -> Shell {
+    let mut shell = SHELL;
+    for change in changes {
+        shell = with(*change, shell);
+    }
+    shell
+}
+
+/// What is changed in shells that differ from the one above, and the part that is told; of two parts that differ it is
+/// the first.
+const CHANGED: [(&[Change], ShellPart); 12] = [
+    (&[Change::Head(b"%!x\n")], ShellPart::Head),
     (
-        Shell {
-            encoding: b"/Encoding StandardEncoding def",
-            ..SHELL
-        },
+        &[Change::Encoding(b"/Encoding StandardEncoding def")],
         ShellPart::Encoding,
     ),
     (
-        Shell {
-            clear_tail: b"\n\ncurrentfile eexec ",
-            ..SHELL
-        },
+        &[Change::ClearTail(b"\n\ncurrentfile eexec ")],
         ShellPart::ClearTail,
     ),
     (
-        Shell {
-            private: b"/lenIV 0 def /password 1 def\n",
-            ..SHELL
-        },
+        &[Change::Private(b"/lenIV 0 def /password 1 def\n")],
         ShellPart::Private,
     ),
     (
-        Shell {
-            subrs: b"/Subrs 11 array\n",
-            ..SHELL
-        },
+        &[Change::Subrs(b"/Subrs 11 array\n")],
         ShellPart::SubrsTable,
     ),
     (
-        Shell {
-            subrs: b"",
-            middle: b"",
-            ..SHELL
-        },
+        &[Change::Subrs(b""), Change::Middle(b"")],
         ShellPart::SubrsTable,
     ),
-    (Shell { put: b"|", ..SHELL }, ShellPart::SubrsWords),
+    (&[Change::Put(b"|")], ShellPart::SubrsWords),
+    (&[Change::Closing(b"|-\n")], ShellPart::SubrsWords),
+    (&[Change::Middle(b"3 index ")], ShellPart::Middle),
+    (&[Change::Def(b"|-")], ShellPart::GlyphsWords),
     (
-        Shell {
-            closing: b"|-\n",
-            ..SHELL
-        },
-        ShellPart::SubrsWords,
-    ),
-    (
-        Shell {
-            middle: b"3 index ",
-            ..SHELL
-        },
-        ShellPart::Middle,
-    ),
-    (
-        Shell {
-            def: b"|-",
-            ..SHELL
-        },
-        ShellPart::GlyphsWords,
-    ),
-    (
-        Shell {
-            tail: b"\nmark currentfile closefile",
-            ..SHELL
-        },
+        &[Change::Tail(b"\nmark currentfile closefile")],
         ShellPart::Tail,
     ),
     (
-        Shell {
-            tail: b"\nmark currentfile closefile",
-            middle: b"3 index ",
-            ..SHELL
-        },
+        &[
+            Change::Tail(b"\nmark currentfile closefile"),
+            Change::Middle(b"3 index "),
+        ],
         ShellPart::Middle,
     ),
 ];
@@ -181,7 +226,11 @@ const CHANGED: [(Shell, ShellPart); 12] = [
 fn differs(alloc: Global, left: &[u8], right: &[u8], part: ShellPart) -> bool {
     match conflict(alloc, left, right) {
         Some(Conflict::Shell { part: told }) => told == part,
-        _ => false,
+        Some(other) => {
+            drop(other);
+            false
+        }
+        None => false,
     }
 }
 
@@ -198,9 +247,9 @@ fn shell_differs(
 
 /// The first part of the shells above that isn't told.
 fn first_untold(alloc: Global, file: &[u8]) -> Result<Option<ShellPart>, AllocError> {
-    for (shell, part) in &CHANGED {
-        if !shell_differs(alloc, file, shell, *part)? {
-            return Ok(Some(*part));
+    for (changes, part) in CHANGED {
+        if !shell_differs(alloc, file, &changed(changes), part)? {
+            return Ok(Some(part));
         }
     }
     Ok(None)
@@ -237,7 +286,11 @@ fn two_words_of_encodings(rt: HostRuntime) -> Result<(), Fail> {
 fn code_differs(alloc: Global, left: &[u8], right: &[u8], want: u8) -> bool {
     match conflict(alloc, left, right) {
         Some(Conflict::Code { code }) => code == want,
-        _ => false,
+        Some(other) => {
+            drop(other);
+            false
+        }
+        None => false,
     }
 }
 
@@ -245,7 +298,11 @@ fn code_differs(alloc: Global, left: &[u8], right: &[u8], want: u8) -> bool {
 fn glyph_differs(alloc: Global, left: &[u8], right: &[u8], want: &[u8]) -> bool {
     match conflict(alloc, left, right) {
         Some(Conflict::Glyph { name }) => name.as_slice() == want,
-        _ => false,
+        Some(other) => {
+            drop(other);
+            false
+        }
+        None => false,
     }
 }
 
@@ -255,7 +312,11 @@ fn subr_differs(alloc: Global, left: &[u8], right: &[u8], want: u16, user: Optio
         Some(Conflict::Subr { index, glyph }) => {
             index == want && glyph.as_ref().map(|name| name.as_slice()) == user
         }
-        _ => false,
+        Some(other) => {
+            drop(other);
+            false
+        }
+        None => false,
     }
 }
 
@@ -321,7 +382,11 @@ fn a_stub_that_one_font_uses(rt: HostRuntime) -> Result<(), Fail> {
 fn lacks_component(alloc: Global, left: &[u8], right: &[u8], of: &[u8], want: &[u8]) -> bool {
     match conflict(alloc, left, right) {
         Some(Conflict::Part { glyph, part }) => glyph.as_slice() == of && part.as_slice() == want,
-        _ => false,
+        Some(other) => {
+            drop(other);
+            false
+        }
+        None => false,
     }
 }
 
