@@ -46,6 +46,16 @@ pub(crate) fn font_file(alloc: Global, font: &Font<'_>, form: Form) -> Result<Ve
     Ok(text)
 }
 
+// The same of a source's font.
+fn file_of(alloc: Global, source: &Source, form: Form) -> Result<Vec<u8>, AllocError>
+    ensures { IfOk result (λ text. file_answer form source.now ≡ Ok text.items) }
+{
+    let font = source.font(alloc)?;
+    let text = font_file(alloc, &font, form);
+    drop(font);
+    text
+}
+
 /// Writes a font's canonical file in one of the two forms.
 pub fn run_convert<R: Read, W: Write>(
     alloc: Global,
@@ -60,8 +70,9 @@ pub fn run_convert<R: Read, W: Write>(
     ensures turns { calls_of reader.new ≤ calls_of reader.old + (file_limit + 1) }
 {
     let source = read_font(alloc, reader)?;
-    let font = source.font(alloc)?;
-    let text = font_file(alloc, &font, form)?;
+    let text = file_of(alloc, &source, form);
+    drop(source);
+    let text = text?;
     write_text(writer, text.as_slice())
 }
 
@@ -103,6 +114,16 @@ fn check_line(alloc: Global, font: &Font<'_>) -> Result<Vec<u8>, AllocError>
     Ok(text)
 }
 
+// The same of a source's font.
+fn line_of(alloc: Global, source: &Source) -> Result<Vec<u8>, AllocError>
+    ensures { IfOk result (λ text. check_answer source.now ≡ Ok text.items) }
+{
+    let font = source.font(alloc)?;
+    let text = check_line(alloc, &font);
+    drop(font);
+    text
+}
+
 /// Writes one line that says that a font reads: how many glyphs it has, how many Subrs are present, and its weight.
 pub fn run_check<R: Read, W: Write>(
     alloc: Global,
@@ -116,7 +137,8 @@ pub fn run_check<R: Read, W: Write>(
     ensures turns { calls_of reader.new ≤ calls_of reader.old + (file_limit + 1) }
 {
     let source = read_font(alloc, reader)?;
-    let font = source.font(alloc)?;
-    let text = check_line(alloc, &font)?;
+    let text = line_of(alloc, &source);
+    drop(source);
+    let text = text?;
     write_text(writer, text.as_slice())
 }

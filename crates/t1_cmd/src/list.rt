@@ -17,7 +17,7 @@ use crate::texts::{push_about, push_number, push_shown};
 use crate::writing::write_text;
 use std::alloc::{AllocError, Global};
 use std::io::{Read, Write};
-use t1_font::Font;
+use t1_font::{Font, Source};
 use t1_run::{Glyphs, Subroutines};
 
 // The line of a code that has a name; nothing for any other.
@@ -122,6 +122,16 @@ fn list_text(alloc: Global, font: &Font<'_>) -> Result<Vec<u8>, AllocError>
     Ok(text)
 }
 
+// The same of a source's font.
+fn lines_of(alloc: Global, source: &Source) -> Result<Vec<u8>, AllocError>
+    ensures { IfOk result (λ text. list_answer source.now ≡ Ok text.items) }
+{
+    let font = source.font(alloc)?;
+    let text = list_text(alloc, &font);
+    drop(font);
+    text
+}
+
 /// Writes a line for the Encoding, or for each of its codes, then for each Subr that is present, then for each glyph,
 /// each in the order of their keys. Lengths are plain, in bytes.
 pub fn run_list<R: Read, W: Write>(
@@ -136,7 +146,8 @@ pub fn run_list<R: Read, W: Write>(
     ensures turns { calls_of reader.new ≤ calls_of reader.old + (file_limit + 1) }
 {
     let source = read_font(alloc, reader)?;
-    let font = source.font(alloc)?;
-    let text = list_text(alloc, &font)?;
+    let text = lines_of(alloc, &source);
+    drop(source);
+    let text = text?;
     write_text(writer, text.as_slice())
 }

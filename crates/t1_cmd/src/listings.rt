@@ -47,7 +47,9 @@ fn joined_text(alloc: Global, left: &Listing, right: &Listing) -> Result<Vec<u8>
     ensures refused { IfErr result (λ e. (fault : JoinFault) × (IsJoinFault left.now right.now fault × (e ≡ RunFault.Refused (join_reason fault)))) }
 {
     let both = join(alloc, left, right).map_err(refused_join)?;
-    match listing::write(alloc, &both) {
+    let text = listing::write(alloc, &both);
+    drop(both);
+    match text {
         Ok(text) => Ok(text),
         Err(_) => Err(refused_join(JoinFault::Memory)),
     }
@@ -73,7 +75,16 @@ pub fn run_join<R: Read, S: Read, W: Write>(
     ensures second_turns { calls_of second.new ≤ calls_of second.old + (file_limit + 1) }
 {
     let left = read_listing(alloc, first)?;
-    let right = read_listing(alloc, second)?;
-    let text = joined_text(alloc, &left, &right)?;
+    let right = match read_listing(alloc, second) {
+        Ok(right) => right,
+        Err(fault) => {
+            drop(left);
+            return Err(fault);
+        }
+    };
+    let text = joined_text(alloc, &left, &right);
+    drop(left);
+    drop(right);
+    let text = text?;
     write_text(writer, text.as_slice())
 }

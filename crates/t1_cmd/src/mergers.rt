@@ -75,7 +75,9 @@ fn merged_file(alloc: Global, fonts: &[Font<'_>], form: Form) -> Result<Vec<u8>,
         Ok(font) => font,
         Err(fault) => return Err(fault),
     };
-    let text = font_file(alloc, &font, form)?;
+    let text = font_file(alloc, &font, form);
+    drop(font);
+    let text = text?;
     Ok(text)
 }
 

@@ -16,7 +16,7 @@ use crate::texts::push_number;
 use crate::writing::write_text;
 use std::alloc::{AllocError, Global};
 use std::io::{Read, Write};
-use t1_font::{DrawFault, Drawing, DrawnPart, Fault, Font, Mark, Point, draw};
+use t1_font::{DrawFault, Drawing, DrawnPart, Fault, Font, Mark, Point, Source, draw};
 
 // How many counts of 1/65536 are a unit.
 const UNIT: u64 = 65536;
@@ -212,7 +212,20 @@ fn shown_glyph(alloc: Global, font: &Font<'_>, name: &[u8]) -> Result<Vec<u8>, R
     ensures refused { IfErr result (λ e. ShowStops (show_answer name.now font.now) e) }
 {
     let drawing = draw(alloc, font, name)?;
-    drawing_text(alloc, name, &drawing)
+    let text = drawing_text(alloc, name, &drawing);
+    drop(drawing);
+    text
+}
+
+// The same of a glyph of a source's font.
+fn shown_of(alloc: Global, source: &Source, name: &[u8]) -> Result<Vec<u8>, RunFault>
+    ensures text { IfOk result (λ text. show_answer name.now source.now ≡ Ok text.items) }
+    ensures refused { IfErr result (λ e. ShowStops (show_answer name.now source.now) e) }
+{
+    let font = source.font(alloc)?;
+    let text = shown_glyph(alloc, &font, name);
+    drop(font);
+    text
 }
 
 /// Writes what the glyph of a name, without its `/`, draws: its width, its side bearing, its parts and their marks, or
@@ -232,7 +245,8 @@ pub fn run_show<R: Read, W: Write>(
     ensures turns { calls_of reader.new ≤ calls_of reader.old + (file_limit + 1) }
 {
     let source = read_font(alloc, reader)?;
-    let font = source.font(alloc)?;
-    let text = shown_glyph(alloc, &font, name)?;
+    let text = shown_of(alloc, &source, name);
+    drop(source);
+    let text = text?;
     write_text(writer, text.as_slice())
 }

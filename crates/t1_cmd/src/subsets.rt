@@ -17,7 +17,7 @@ use crate::fonts::{font_file, read_font};
 use crate::writing::write_text;
 use std::alloc::Global;
 use std::io::{Read, Write};
-use t1_font::{Font, Form};
+use t1_font::{Font, Form, Source};
 use t1_subset::{SubsetFault, subset};
 
 // The subset of a font.
@@ -50,8 +50,26 @@ fn subset_file(
         Ok(cut) => cut,
         Err(fault) => return Err(fault),
     };
-    let text = font_file(alloc, &cut, form)?;
+    let text = font_file(alloc, &cut, form);
+    drop(cut);
+    let text = text?;
     Ok(text)
+}
+
+// The same of a source's font.
+fn subset_of(
+    alloc: Global,
+    source: &Source,
+    names: &[&[u8]],
+    form: Form,
+) -> Result<Vec<u8>, RunFault>
+    ensures text { IfOk result (λ text. subset_answer form (lent names.now) source.now ≡ Ok text.items) }
+    ensures refused { IfErr result (λ e. ShowStops (subset_answer form (lent names.now) source.now) e) }
+{
+    let font = source.font(alloc)?;
+    let text = subset_file(alloc, &font, names, form);
+    drop(font);
+    text
 }
 
 /// Writes the canonical file, in one of the two forms, of the subset of a font that keeps what these names need: their
@@ -74,7 +92,8 @@ pub fn run_subset<R: Read, W: Write>(
     ensures turns { calls_of reader.new ≤ calls_of reader.old + (file_limit + 1) }
 {
     let source = read_font(alloc, reader)?;
-    let font = source.font(alloc)?;
-    let text = subset_file(alloc, &font, names, form)?;
+    let text = subset_of(alloc, &source, names, form);
+    drop(source);
+    let text = text?;
     write_text(writer, text.as_slice())
 }

@@ -129,7 +129,11 @@ fn word(outcome: &Result<(), RunFault>) -> &'static str {
 fn read_100<R: Read>(alloc: Global, reader: &mut Counted<R>) -> (&'static str, usize) {
     match read_all(alloc, reader, 100) {
         Ok(bytes) => ("ok", bytes.len()),
-        Err(fault) => (fault_word(&fault), 0),
+        Err(fault) => {
+            let word = fault_word(&fault);
+            drop(fault);
+            (word, 0)
+        }
     }
 }
 
@@ -179,7 +183,7 @@ const BOTH: &[u8] = b"S 5 ef060b\nG X 8b0e\nG Y 0e\n";
 fn line_of(alloc: Global, ended: &Result<(), RunFault>) -> Vec<u8> {
     let mut line = Vec::new(alloc);
     if let Err(fault) = ended {
-        let _ = write_fault(alloc, fault, &mut Counted::new(&mut line));
+        drop(write_fault(alloc, fault, &mut Counted::new(&mut line)));
     }
     line
 }
@@ -193,7 +197,9 @@ fn joins(alloc: Global, left: &[u8], right: &[u8], text: &[u8], line: &[u8]) -> 
         &mut Counted::new(right),
         &mut Counted::new(&mut out),
     );
-    out.as_slice() == text && line_of(alloc, &ended).as_slice() == line
+    let told = line_of(alloc, &ended);
+    drop(ended);
+    out.as_slice() == text && told.as_slice() == line
 }
 
 /// Two listings, and what is written of them or the line of their refusal.
@@ -252,9 +258,11 @@ fn joined_from(alloc: Global, first: Plan, second: Plan) -> Joined {
     let mut right = Feed::new(RIGHT, second);
     let mut out = Counted::new(Sink::new(Vec::new(alloc), FINE));
     let ended = run_join(alloc, &mut left, &mut right, &mut out);
+    let word = word(&ended);
+    drop(ended);
     let writes = out.calls();
     Joined {
-        word: word(&ended),
+        word,
         left_failed: left.failed(),
         right_failed: right.failed(),
         right_calls: right.calls(),
@@ -303,10 +311,12 @@ fn joined_into(alloc: Global, plan: Plan) -> (&'static str, u64, bool, bool) {
         &mut Feed::new(RIGHT, FINE),
         &mut out,
     );
+    let word = word(&ended);
+    drop(ended);
     let failed = out.failed();
     let text = out.into_inner().text;
     (
-        word(&ended),
+        word,
         failed,
         text.as_slice() == BOTH,
         BOTH.starts_with(text.as_slice()),
@@ -337,12 +347,17 @@ fn each_write_fails(rt: HostRuntime) {
 fn is_told(alloc: Global, fault: &RunFault, want: &str, code: u8) -> bool {
     let mut line = Vec::new(alloc);
     let ended = write_fault(alloc, fault, &mut Counted::new(&mut line));
-    ended.is_ok() && line.as_slice() == want.as_bytes() && status(fault) == code
+    let is_ok = ended.is_ok();
+    drop(ended);
+    is_ok && line.as_slice() == want.as_bytes() && status(fault) == code
 }
 
 /// The same of a refusal, whose status is 1.
 fn is_refused(alloc: Global, reason: Reason, want: &str) -> bool {
-    is_told(alloc, &RunFault::Refused(reason), want, 1)
+    let fault = RunFault::Refused(reason);
+    let told = is_told(alloc, &fault, want, 1);
+    drop(fault);
+    told
 }
 
 /// How a fault is told to a writer that takes nothing, and by how many calls.
@@ -350,7 +365,9 @@ fn told_in_vain(alloc: Global) -> (&'static str, u64) {
     let plan = Plan { most: 0, ..FINE };
     let mut full = Counted::new(Sink::new(Vec::new(alloc), plan));
     let ended = write_fault(alloc, &RunFault::Read, &mut full);
-    (word(&ended), full.calls())
+    let word = word(&ended);
+    drop(ended);
+    (word, full.calls())
 }
 
 #[test]

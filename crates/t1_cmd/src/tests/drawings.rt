@@ -5,7 +5,7 @@ use super::subsets::subset;
 use super::tiny::PFA;
 use std::alloc::Global;
 use std::test::Fail;
-use t1_font::{Source, read};
+use t1_font::{Font, Source, read};
 
 #[test]
 fn glyphs_of_tiny(rt: HostRuntime) {
@@ -194,11 +194,8 @@ fn is_as_in_tiny(alloc: Global, file: &[u8], name: &[u8]) -> bool {
     answers(alloc, Engine::Show(name), file, want.as_slice())
 }
 
-/// How many glyphs the font of a file has, where each draws as it does in Tiny; 0 where one doesn't.
-fn count_drawn(alloc: Global, source: &Source, file: &[u8]) -> usize {
-    let Ok(font) = source.font(alloc) else {
-        return 0;
-    };
+/// How many glyphs a font has, where each of them draws in its file as it does in Tiny; 0 where one doesn't.
+fn count_drawn(alloc: Global, font: &Font<'_>, file: &[u8]) -> usize {
     let mut count = 0usize;
     for name in font.names() {
         if !is_as_in_tiny(alloc, file, name) {
@@ -209,11 +206,27 @@ fn count_drawn(alloc: Global, source: &Source, file: &[u8]) -> usize {
     count
 }
 
+/// The same of a source's font.
+fn lent_drawn(alloc: Global, source: &Source, file: &[u8]) -> usize {
+    match source.font(alloc) {
+        Ok(font) => {
+            let count = count_drawn(alloc, &font, file);
+            drop(font);
+            count
+        }
+        Err(_) => 0,
+    }
+}
+
 /// The same of the file of Tiny's subset by these names.
 fn drawn_as_in_tiny(alloc: Global, names: &[&[u8]]) -> usize {
     let file = subset(alloc, PFA, names);
     match read(alloc, file.as_slice()) {
-        Ok(source) => count_drawn(alloc, &source, file.as_slice()),
+        Ok(source) => {
+            let count = lent_drawn(alloc, &source, file.as_slice());
+            drop(source);
+            count
+        }
         Err(_) => 0,
     }
 }

@@ -43,13 +43,16 @@ pub fn answer(alloc: Global, engine: Engine<'_>, input: &[u8]) -> Vec<u8> {
         &mut Counted::new(input),
         &mut Counted::new(&mut out),
     );
-    if ended.is_ok() {
+    let is_ok = ended.is_ok();
+    let line = line_of(alloc, &ended);
+    drop(ended);
+    if is_ok {
         return out;
     }
     if !out.is_empty() {
         return Vec::new(alloc);
     }
-    line_of(alloc, &ended)
+    line
 }
 
 /// Whether an engine writes this of bytes in memory, or it is the line of its fault.
@@ -166,7 +169,9 @@ fn read_by(alloc: Global, engine: Engine<'_>, plan: Plan) -> (&'static str, u64,
     let mut reader = Feed::new(PFA, plan);
     let mut out = Counted::new(Sink::new(Vec::new(alloc), FINE));
     let ended = run(alloc, engine, &mut reader, &mut out);
-    (word(&ended), reader.failed(), out.calls())
+    let word = word(&ended);
+    drop(ended);
+    (word, reader.failed(), out.calls())
 }
 
 #[test]
@@ -203,9 +208,11 @@ fn written_by(
 ) -> (&'static str, u64, bool) {
     let mut out = Counted::new(Sink::new(Vec::new(alloc), plan));
     let ended = run(alloc, engine, &mut Feed::new(PFA, FINE), &mut out);
+    let word = word(&ended);
+    drop(ended);
     let failed = out.failed();
     let text = out.into_inner().text;
-    (word(&ended), failed, whole.starts_with(text.as_slice()))
+    (word, failed, whole.starts_with(text.as_slice()))
 }
 
 #[test]

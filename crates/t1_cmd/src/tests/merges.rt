@@ -17,10 +17,10 @@ use t1_font::Form;
 fn merged_from(alloc: Global, readers: &mut [Counted<&[u8]>]) -> Vec<u8> {
     let mut out = Vec::new(alloc);
     let ended = run_merge(alloc, readers, Form::Pfa, &mut Counted::new(&mut out));
-    if ended.is_ok() {
-        return out;
-    }
-    line_of(alloc, &ended)
+    let is_ok = ended.is_ok();
+    let line = line_of(alloc, &ended);
+    drop(ended);
+    if is_ok { out } else { line }
 }
 
 /// The same, of two files.

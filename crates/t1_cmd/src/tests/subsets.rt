@@ -41,12 +41,19 @@ fn push_subrs(font: &Font<'_>, text: &mut Vec<u8>) -> Result<(), AllocError> {
 }
 
 /// The names of a font's glyphs, and its Subrs that are no `return`.
+fn kept_by(alloc: Global, font: &Font<'_>) -> Result<Vec<u8>, AllocError> {
+    let mut text = Vec::new(alloc);
+    push_names(font, &mut text)?;
+    push_subrs(font, &mut text)?;
+    Ok(text)
+}
+
+/// The same of a source's font.
 fn kept(alloc: Global, source: &Source) -> Result<Vec<u8>, AllocError> {
     let font = source.font(alloc)?;
-    let mut text = Vec::new(alloc);
-    push_names(&font, &mut text)?;
-    push_subrs(&font, &mut text)?;
-    Ok(text)
+    let text = kept_by(alloc, &font);
+    drop(font);
+    text
 }
 
 /// Whether this is what a font keeps.
@@ -61,7 +68,11 @@ fn font_keeps(alloc: Global, source: &Source, want: &[u8]) -> bool {
 fn keeps(alloc: Global, input: &[u8], names: &[&[u8]], want: &[u8]) -> bool {
     let file = subset(alloc, input, names);
     match read(alloc, file.as_slice()) {
-        Ok(source) => font_keeps(alloc, &source, want),
+        Ok(source) => {
+            let is_kept = font_keeps(alloc, &source, want);
+            drop(source);
+            is_kept
+        }
         Err(_) => false,
     }
 }

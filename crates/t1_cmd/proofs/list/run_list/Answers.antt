@@ -14,13 +14,8 @@ returns-clause-ends g c =
     (input_of g.R.Read.remaining c.args.reader.now c.read_font.new.reader ∷ [])
     (c.in_ok-source.source ∷ [])
     c.args.writer.now c.write_text.new.writer c.as_slice.result.now c.write_text.result
-    (c.in_ok-source.ensures.ends, tt) (ap Ok c.as_slice.ensures.value ∙ (sym c.in_ok-text.ensures ∙ ap list_answer c.in_ok-font.ensures))
+    (c.in_ok-source.ensures.ends, tt) (ap Ok c.as_slice.ensures.value ∙ sym c.in_ok-text.ensures)
     c.write_text.ensures.whole c.write_text.ensures.fault c.write_text.ensures.prefix c.write_text.ensures.rose
-
-pub returns-in_err-font-clause-succeeds : goal.returns-in_err-font-clause-succeeds
-returns-in_err-font-clause-succeeds g c =
-    let p = err_from_is_err_and c.from_residual-in_err-font.result c.from_residual-in_err-font.ensures.1 in
-    lacks_memory list_answer g.W.Write.contents (input_of g.R.Read.remaining c.args.reader.now c.read_font.new.reader) c.args.writer.now c.from_residual-in_err-font.result _ p.1 p.2
 
 pub returns-in_err-text-clause-succeeds : goal.returns-in_err-text-clause-succeeds
 returns-in_err-text-clause-succeeds g c =

@@ -1,13 +1,11 @@
-use Rattle.std.proofs.Common.{[], ◌∷◌, sym, ◌∙◌, ap, subst, Ok}
+use Rattle.std.proofs.Common.{[], ◌∷◌, sym, ◌∙◌, ap, Ok}
 use Rattle.std.proofs.lemmas.Result.{err_from_is_err_and}
-use Rattle.t1_font.specs.FontValue.{FontValue}
 use Rattle.t1_subset.specs.NameSets.{lent}
 use Rattle.t1_cmd.specs.Inputs.{input_of}
 use Rattle.t1_cmd.specs.Answers.{Prints}
 use Rattle.t1_cmd.specs.Fonts.{font_input}
-use Rattle.t1_cmd.specs.DrawingText.{ShowStops}
 use Rattle.t1_cmd.specs.Subsets.{subset_answer}
-use Rattle.t1_cmd.proofs.FontLemmas.{ends_well, lacks_memory, refused_ends}
+use Rattle.t1_cmd.proofs.FontLemmas.{ends_well, refused_ends}
 use Rattle.t1_cmd.proofs.RunLemmas.{write_ends}
 use Rattle.t1_cmd.proofs.subsets.run_subset.Goals as goal
 
@@ -17,19 +15,13 @@ returns-clause-ends g c =
     (input_of g.R.Read.remaining c.args.reader.now c.read_font.new.reader ∷ [])
     (c.in_ok-source.source ∷ [])
     c.args.writer.now c.write_text.new.writer c.as_slice.result.now c.write_text.result
-    (c.in_ok-source.ensures.ends, tt) (ap Ok c.as_slice.ensures.value ∙ (sym c.in_ok-text.ensures.text ∙ ap (subset_answer c.args.form (lent c.args.names.now)) c.in_ok-font.ensures))
+    (c.in_ok-source.ensures.ends, tt) (ap Ok c.as_slice.ensures.value ∙ sym c.in_ok-text.ensures.text)
     c.write_text.ensures.whole c.write_text.ensures.fault c.write_text.ensures.prefix c.write_text.ensures.rose
-
-pub returns-in_err-font-clause-succeeds : goal.returns-in_err-font-clause-succeeds
-returns-in_err-font-clause-succeeds g c =
-    let p = err_from_is_err_and c.from_residual-in_err-font.result c.from_residual-in_err-font.ensures.1 in
-    lacks_memory (subset_answer c.args.form (lent c.args.names.now)) g.W.Write.contents (input_of g.R.Read.remaining c.args.reader.now c.read_font.new.reader) c.args.writer.now c.from_residual-in_err-font.result _ p.1 p.2
 
 pub returns-in_err-text-clause-ends : goal.returns-in_err-text-clause-ends
 returns-in_err-text-clause-ends g c =
     let p = err_from_is_err_and c.from_residual-in_err-text.result c.from_residual-in_err-text.ensures.1 in
-    refused_ends (subset_answer c.args.form (lent c.args.names.now)) g.W.Write.contents (input_of g.R.Read.remaining c.args.reader.now c.read_font.new.reader) c.in_ok-source.source c.args.writer.now c.from_residual-in_err-text.result _ c.in_err-text.field-0.0 p.1 p.2 c.in_ok-source.ensures.ends
-    (subst (λ (f : FontValue). ShowStops (subset_answer c.args.form (lent c.args.names.now) f) c.in_err-text.field-0.0) c.in_ok-font.ensures c.in_err-text.ensures.refused)
+    refused_ends (subset_answer c.args.form (lent c.args.names.now)) g.W.Write.contents (input_of g.R.Read.remaining c.args.reader.now c.read_font.new.reader) c.in_ok-source.source c.args.writer.now c.from_residual-in_err-text.result _ c.in_err-text.field-0.0 p.1 p.2 c.in_ok-source.ensures.ends c.in_err-text.ensures.refused
 
 pub returns-in_err-text-clause-succeeds : goal.returns-in_err-text-clause-succeeds
 returns-in_err-text-clause-succeeds g c = ends_well (subset_answer c.args.form (lent c.args.names.now)) g.W.Write.contents (input_of g.R.Read.remaining c.args.reader.now c.read_font.new.reader) c.args.writer.now c.args.writer.now c.from_residual-in_err-text.result (returns-in_err-text-clause-ends g c)
