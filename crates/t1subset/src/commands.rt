@@ -139,29 +139,56 @@ read or write.
 
 Example: t1subset subset font.pfb some.pfa A B Aacute";
 
-fn program<'a>(alloc: Global) -> Result<Command<'a>, AllocError> {
+/// Adds a command to the program's, where there is memory for all of it.
+fn with<'a>(
+    program: Result<Command<'a>, AllocError>,
+    command: Result<Command<'a>, AllocError>,
+) -> Result<Command<'a>, AllocError> {
+    let program = match program {
+        Ok(program) => program,
+        Err(error) => {
+            drop(command);
+            return Err(error);
+        }
+    };
+    match command {
+        Ok(command) => program.subcommand(command),
+        Err(error) => {
+            drop(program);
+            Err(error)
+        }
+    }
+}
+
+fn pfa_command<'a>(alloc: Global) -> Result<Command<'a>, AllocError> {
+    let about = "Writes a font's canonical file as PFA, text and hexadecimal";
+    convert_command(alloc, "pfa", about)
+}
+
+fn pfb_command<'a>(alloc: Global) -> Result<Command<'a>, AllocError> {
+    let about = "Writes a font's canonical file as PFB, in binary segments";
+    convert_command(alloc, "pfb", about)
+}
+
+/// The program without its commands.
+fn bare_program<'a>(alloc: Global) -> Command<'a> {
     Command::new(alloc, "t1subset")
         .version("0.1.0")
         .about("Subsets and merges Type 1 fonts, and checks, lists, shows and rewrites them")
         .after_help(PROGRAM_HELP)
         .subcommand_required(true)
         .arg_required_else_help(true)
-        .subcommand(subset_command(alloc)?)?
-        .subcommand(merge_command(alloc)?)?
-        .subcommand(check_command(alloc)?)?
-        .subcommand(list_command(alloc)?)?
-        .subcommand(show_command(alloc)?)?
-        .subcommand(convert_command(
-            alloc,
-            "pfa",
-            "Writes a font's canonical file as PFA, text and hexadecimal",
-        )?)?
-        .subcommand(convert_command(
-            alloc,
-            "pfb",
-            "Writes a font's canonical file as PFB, in binary segments",
-        )?)?
-        .subcommand(join_command(alloc)?)
+}
+
+fn program<'a>(alloc: Global) -> Result<Command<'a>, AllocError> {
+    let program = with(Ok(bare_program(alloc)), subset_command(alloc));
+    let program = with(program, merge_command(alloc));
+    let program = with(program, check_command(alloc));
+    let program = with(program, list_command(alloc));
+    let program = with(program, show_command(alloc));
+    let program = with(program, pfa_command(alloc));
+    let program = with(program, pfb_command(alloc));
+    with(program, join_command(alloc))
 }
 
 /// What the words ask for, or clap's text for words that don't parse.

@@ -169,15 +169,18 @@ fn perform<R: Files, O: Write + Drop>(
     matches: &ArgMatches<'_>,
     out: O,
 ) -> Result<(), RunFault> {
-    match matches.subcommand() {
-        Some(("subset", given)) => subset(rt, alloc, given),
-        Some(("merge", given)) => merge(rt, alloc, given),
-        Some(("check", given)) => check(rt, alloc, given, out),
-        Some(("list", given)) => list(rt, alloc, given, out),
-        Some(("show", given)) => show(rt, alloc, given, out),
-        Some(("pfa", given)) => convert(rt, alloc, given, Form::Pfa),
-        Some(("pfb", given)) => convert(rt, alloc, given, Form::Pfb),
-        Some(("join", given)) => {
+    let Some((word, given)) = matches.subcommand() else {
+        return Ok(());
+    };
+    match word {
+        "subset" => subset(rt, alloc, given),
+        "merge" => merge(rt, alloc, given),
+        "check" => check(rt, alloc, given, out),
+        "list" => list(rt, alloc, given, out),
+        "show" => show(rt, alloc, given, out),
+        "pfa" => convert(rt, alloc, given, Form::Pfa),
+        "pfb" => convert(rt, alloc, given, Form::Pfb),
+        "join" => {
             let (left, right) = (given.get_str("A"), given.get_str("B"));
             join(rt, alloc, left.unwrap_or(""), right.unwrap_or(""), out)
         }
