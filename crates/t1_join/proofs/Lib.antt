@@ -6,7 +6,6 @@ pub mod FrontLemmas
 pub mod Rows
 pub mod SplitLemmas
 pub mod ReadLemmas
-pub mod LimitLemmas
 pub mod ListingLemmas
 pub mod LineTexts
 pub mod WrittenLemmas

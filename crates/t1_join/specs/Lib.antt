@@ -1,6 +1,7 @@
 pub mod Meaning
 pub mod Join
 pub mod StateLaws
+pub mod Products
 pub mod FlatMeaning
 pub mod TableMeaning
 pub mod TableLaws

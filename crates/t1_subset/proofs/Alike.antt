@@ -13,7 +13,7 @@ use Rattle.t1_subset.specs.States.{joined_font, Compatible}
 use Rattle.t1_subset.specs.Profile.{profile}
 use Rattle.t1_subset.specs.Laws.{IsOf, DrawsAlike, AnswersAlike}
 use Rattle.t1_subset.proofs.CutFonts.{get-glyph, has_some, subrs_alike}
-use Rattle.t1_subset.proofs.States.{left_glyph, left_subrs, font_back, compatible_back}
+use Rattle.t1_subset.proofs.JoinedStates.{left_glyph, left_subrs, font_back, compatible_back}
 use Rattle.t1_subset.proofs.Drawings.{subset_draws, join_draws}
 use Rattle.t1_subset.proofs.Pictures.{runs_by_rules, pictures_alike}
 

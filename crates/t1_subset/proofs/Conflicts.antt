@@ -19,7 +19,7 @@ use Rattle.t1_subset.specs.States.{IsWithin, Agree, joined, code_state, is_sough
 use Rattle.t1_subset.proofs.Flat.{agree_back}
 use Rattle.t1_subset.proofs.Maps.{any_in, any_of, get-merged, maps_same}
 use Rattle.t1_subset.proofs.Sets.{name_same, and_so, or_left, or_right, or_cases, is_or_not, clash, not_so, tied, itself, any_one, any_at, all_at, all_from}
-use Rattle.t1_subset.proofs.States.{font_back, compatible_back}
+use Rattle.t1_subset.proofs.JoinedStates.{font_back, compatible_back}
 use Rattle.std.proofs.lemmas.Bool.{leb-true, le-leb}
 
 -- ---- searches
@@ -222,6 +222,14 @@ codes_swap (Word v) (Codes t) = refl
 codes_swap (Codes s) (Word w) = refl
 codes_swap (Codes s) (Codes t) = both_back nat_cmp_total nat_cmp-IsAntisymmetric s t
 
+-- ---- what is shared
+
+-- the shells are equal, the same Subrs are present, and the Encodings are the same word or both tables
+pub record Shares (f g : FontValue) : Type 0 where
+  pub shells : f.shell ≡ g.shell
+  pub present : (i : ℕ) → maps.contains_key f.subrs i ≡ maps.contains_key g.subrs i
+  pub kinds : SameKind f.encoding g.encoding
+
 -- ---- components that are lacking
 
 module _ {O : Type 0} (m : Interpreter O) where
@@ -336,6 +344,15 @@ module _ {O : Type 0} (m : Interpreter O) where
   names_at f g h n (Some c) (Some d) k l a = ap Some (bytes_decide.so c d a)
 
   module _ (f g : FontValue) where
+    pub shares : shell_conflict f g ≡ None → Shares f g
+    shares h =
+        let parts = none_passes (λ part. not (same_part f g part)) (Head ∷ EncodingPart ∷ ClearTail ∷ Private ∷ SubrsTable ∷ SubrsWords ∷ Middle ∷ GlyphsWords ∷ Tail ∷ []) h in
+        record {
+          shells = same_shells f g parts;
+          present = keys_so nat_cmp_total nat_cmp-IsAntisymmetric f.subrs g.subrs (table_keys f g (not_false (same_part f g SubrsTable) parts.1.1.1.1.0));
+          kinds = kind_so f.encoding g.encoding (not_false (same_part f g EncodingPart) parts.1.0);
+        }
+
     pub compatible : states_conflict m f g ≡ None → Compatible m f g
     compatible h =
         let a = found_none ShellDiffers (shell_conflict f g) _ h in
@@ -343,11 +360,11 @@ module _ {O : Type 0} (m : Interpreter O) where
         let c = found_none GlyphDiffers (glyph_conflict f g) _ b.1 in
         let d = found_none (λ p. LacksComponent (unwrap_or (smallest (wanted_by m f g p) (glyph_names f g)) []) p) (component_conflict m f g) _ c.1 in
         let e = found_none (λ i. SubrDiffers i (smallest (used_by m f g i) (glyph_names f g))) (subr_conflict m f g) None d.1 in
-        let shells = none_passes (λ part. not (same_part f g part)) (Head ∷ EncodingPart ∷ ClearTail ∷ Private ∷ SubrsTable ∷ SubrsWords ∷ Middle ∷ GlyphsWords ∷ Tail ∷ []) a.0 in
+        let same = shares a.0 in
         record {
-          shells = same_shells f g shells;
-          present = keys_so nat_cmp_total nat_cmp-IsAntisymmetric f.subrs g.subrs (table_keys f g (not_false (same_part f g SubrsTable) shells.1.1.1.1.0));
-          kinds = kind_so f.encoding g.encoding (not_false (same_part f g EncodingPart) shells.1.0);
+          shells = same.shells;
+          present = same.present;
+          kinds = same.kinds;
           subrs = λ i. agrees_so (subr_state m f i) (subr_state m g i) (subrs_agree_at f g e.0 i);
           names = λ n. names_at f g d.0 n (maps.get f.glyphs n) (maps.get g.glyphs n) refl refl (glyphs_agree_at f g c.0 n);
           codes = λ k. agrees_so (code_state f.encoding k) (code_state g.encoding k) (codes_agree_at f g f.encoding g.encoding b.0 k);
@@ -361,7 +378,7 @@ and_swap true false = refl
 and_swap false true = refl
 and_swap false false = refl
 
-module _ {O : Type 0} (m : Interpreter O) (f g : FontValue) (c : Compatible m f g) where
+module _ (f g : FontValue) (c : Shares f g) where
   shell_so : {X : Type 0} (t : X → X → Bool) → Decides t → (part : Shell → X) → t (part f.shell) (part g.shell) ≡ true
   shell_so t d part = is_same t d (part f.shell) (part g.shell) (ap part c.shells)
 
@@ -376,6 +393,13 @@ module _ {O : Type 0} (m : Interpreter O) (f g : FontValue) (c : Compatible m f 
   part_so Middle = false_of _ (shell_so same_bytes bytes_decide (λ s. s.middle))
   part_so GlyphsWords = false_of _ (and_so (same_bytes f.shell.glyphs_rd g.shell.glyphs_rd) _ (shell_so same_bytes bytes_decide (λ s. s.glyphs_rd)) (shell_so same_bytes bytes_decide (λ s. s.glyphs_def)))
   part_so Tail = false_of _ (shell_so same_bytes bytes_decide (λ s. s.tail))
+
+  pub no_shell_conflict : shell_conflict f g ≡ None
+  no_shell_conflict = passes_none (λ part. not (same_part f g part)) (Head ∷ EncodingPart ∷ ClearTail ∷ Private ∷ SubrsTable ∷ SubrsWords ∷ Middle ∷ GlyphsWords ∷ Tail ∷ []) part_so
+
+module _ {O : Type 0} (m : Interpreter O) (f g : FontValue) (c : Compatible m f g) where
+  pub shared_so : Shares f g
+  shared_so = record { shells = c.shells; present = c.present; kinds = c.kinds }
 
   glyph_at : (n : List ℕ) (x y : Option (List ℕ)) → Agree (state_of_glyph m f n x) (state_of_glyph m g n y) → agrees x y ≡ true
   glyph_at n None y h = refl
@@ -417,7 +441,7 @@ module _ {O : Type 0} (m : Interpreter O) (f g : FontValue) (c : Compatible m f 
 
   pub no_states_conflict : states_conflict m f g ≡ None
   no_states_conflict =
-      none_found ShellDiffers (shell_conflict f g) _ (passes_none (λ part. not (same_part f g part)) (Head ∷ EncodingPart ∷ ClearTail ∷ Private ∷ SubrsTable ∷ SubrsWords ∷ Middle ∷ GlyphsWords ∷ Tail ∷ []) (part_so m f g c))
+      none_found ShellDiffers (shell_conflict f g) _ (no_shell_conflict f g (shared_so m f g c))
       (none_found CodeDiffers (code_conflict f g) _ (passes_none (code_clashes f g) (members (codes_of_both f.encoding g.encoding)) (λ k. false_of _ (so_agrees (code_state f.encoding k) (code_state g.encoding k) (c.codes k))))
       (none_found GlyphDiffers (glyph_conflict f g) _ (passes_none (glyph_clashes f g) (members (glyph_names f g)) (glyph_so m f g c))
       (none_found (λ p. LacksComponent (unwrap_or (smallest (wanted_by m f g p) (glyph_names f g)) []) p) (component_conflict m f g) _ (passes_none (component_clashes m f g) (members (glyph_names f g)) no_component)

@@ -11,7 +11,7 @@ use Rattle.t1_subset.specs.JoinedEntries.{past_stub, EntriesJoin}
 use Rattle.t1_subset.specs.States.{Agree, joined, is_called, state_of_entry, joined_font, Compatible, is_stub}
 use Rattle.t1_subset.proofs.Maps.{maps_same}
 use Rattle.t1_subset.proofs.JoinOfSubsets.{same_font}
-use Rattle.t1_subset.proofs.States.{glyph_agree, subr_in_join}
+use Rattle.t1_subset.proofs.JoinedStates.{glyph_agree, subr_in_join}
 use Rattle.t1_subset.proofs.CutFonts.{stub_is}
 
 -- s and t: the entry is a stub; u and v: it is called

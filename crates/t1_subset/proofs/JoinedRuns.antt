@@ -12,7 +12,7 @@ use Rattle.t1_subset.specs.Calls.{number_set, called_in}
 use Rattle.t1_subset.specs.Lacking.{named_in}
 use Rattle.t1_subset.specs.Runs.{IsRuns}
 use Rattle.t1_subset.proofs.Sets.{name_same}
-use Rattle.t1_subset.proofs.States.{called_in_join, sought_in_join}
+use Rattle.t1_subset.proofs.JoinedStates.{called_in_join, sought_in_join}
 use Rattle.t1_subset.proofs.Conflicts.{wanting, sought}
 use Rattle.t1_subset.proofs.ExecutedCalls.{called_so}
 use Rattle.t1_subset.proofs.LackingComponents.{named_by, naming}

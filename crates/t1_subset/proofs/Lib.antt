@@ -5,10 +5,9 @@ pub mod Flat
 pub mod CutFonts
 pub mod JoinOfSubsets
 pub mod Trees
-pub mod States
+pub mod JoinedStates
 pub mod Order
 pub mod Orders
-pub mod StateValues
 pub mod Drawings
 pub mod Conflicts
 pub mod JoinedEntries
@@ -31,6 +30,11 @@ mod FirstNames
 mod FirstConflicts
 mod SetUnions
 mod LackingComponents
+mod TableWeights
+mod Numbered
+mod SoughtNames
+mod ByNumber
+pub mod FontStates
 mod TableStates
 mod JoinedRuns
 mod MergedFonts

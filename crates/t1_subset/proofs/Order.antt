@@ -15,7 +15,7 @@ use Rattle.t1_subset.proofs.Flat.{under_self, under_trans, under_same, under_lef
 use Rattle.t1_subset.proofs.Maps.{maps_same}
 use Rattle.t1_subset.proofs.JoinOfSubsets.{same_font}
 use Rattle.t1_subset.proofs.Sets.{name_same}
-use Rattle.t1_subset.proofs.States.{entry_of, subr_joined, name_joined, code_joined, kind_joined, present_joined, font_back, compatible_back}
+use Rattle.t1_subset.proofs.JoinedStates.{entry_of, subr_joined, name_joined, code_joined, kind_joined, present_joined, font_back, compatible_back}
 use Rattle.t1_subset.proofs.CutFonts.{stub_is}
 
 kind_self : (e : Encoding) → SameKind e e

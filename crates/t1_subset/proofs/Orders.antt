@@ -11,7 +11,7 @@ use Rattle.t1_subset.specs.States.{IsWithin, Agree, subr_state, name_state, code
 use Rattle.t1_subset.specs.Trees.{Tree, Leaf, Both, EachLeaf, leaves, Merges, left_tree, folded, EachPair}
 use Rattle.t1_subset.proofs.Flat.{agree_joined}
 use Rattle.t1_subset.proofs.Order.{below_self, below_trans, below_same, below_left, below_right, below_both, join_below, below_within, bounded}
-use Rattle.t1_subset.proofs.States.{subr_joined, name_joined, code_joined, present_joined, font_back, compatible_back}
+use Rattle.t1_subset.proofs.JoinedStates.{subr_joined, name_joined, code_joined, present_joined, font_back, compatible_back}
 
 -- ---- each leaf, and each of the list of leaves
 

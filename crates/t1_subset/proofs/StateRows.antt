@@ -14,11 +14,15 @@ use Rattle.t1_font.specs.Entries.{last_entries}
 use Rattle.t1_font.specs.FontValue.{FontValue, Shell, Encoding, Word, Codes, name_cmp, notdef}
 use Rattle.t1_font.proofs.MapCuts.{get-map_values, entries-map_values}
 use Rattle.t1_font.proofs.CutEntries.{entries-merged}
-use Rattle.t1_subset.specs.States.{joined, is_stub, is_called, entry_state, subr_state, state_of_entry}
-use Rattle.t1_subset.specs.StateValues.{states_of, all_components}
+use Rattle.t1_subset.specs.States.{is_stub, is_called, subr_state, state_of_entry}
+use Rattle.t1_join.specs.Join.{joined_state}
+use Rattle.t1_join.specs.Meaning.{of_number}
+use Rattle.t1_join.specs.TableLaws.{get_joined}
+use Rattle.t1_subset.specs.StateTables.{states_of, all_components, used_subrs, subr_part, name_part, name_meaning}
+use Rattle.t1_subset.proofs.FontStates.{get-used}
+use Rattle.t1_subset.proofs.Numbered.{get-numbered}
 use Rattle.t1_subset.specs.Conflicts.{ShellPart, Conflict, ShellDiffers, CodeDiffers, GlyphDiffers, LacksComponent, SubrDiffers, OverLimit, Head, EncodingPart, Private, SubrsTable, first_where, members, keys_of_both, found, agrees, same_keys, same_kind, codes_of_both, glyph_names, called_at, executed_at, code_clashes, wanted_by, used_by, is_within, shell_conflict, code_conflict, glyph_conflict, component_conflict, subr_conflict, states_conflict, conflict}
 use Rattle.t1_subset.proofs.Conflicts.{passes_none}
-use Rattle.t1_subset.proofs.Maps.{get-merged}
 use Rattle.t1_subset.proofs.Sets.{name_same}
 use Rattle.t1_subset.proofs.KeptRows.{letters, spelled, shell_of, font_of, at_name, glyph_listed, has_listed, glyphs, subrs, small}
 
@@ -30,13 +34,19 @@ module _ (e : Encoding) (ss : List (ℕ × List ℕ)) (es : List (List ℕ × Li
   called_is : (i : ℕ) → is_called spelled (font_of e ss es) i ≡ called_listed i
   called_is i = λ d. list_any (λ g. sets.contains-from_list nat_cmp_total g.1 i d) (maps.entries-from_sorted name_cmp es h d)
 
-  abbrev entry_listed : ℕ → List ℕ → Option (List ℕ)
-  entry_listed i c = cond (is_stub c && not (called_listed i)) None (Some c)
+  -- the state of an index of the list
+  abbrev state_listed : ℕ → Option (List ℕ) → Option (List ℕ)
+  state_listed i None = None
+  state_listed i (Some c) = cond (is_stub c && not (called_listed i)) None (Some c)
 
-  -- the state of an index in the value of all states
-  subr_listed : (i : ℕ) → maps.get (states_of spelled (font_of e ss es)).subrs i ≡ option_map (entry_listed i) (find nat_cmp i ss)
-  subr_listed i = get-map_values nat_cmp_total nat_cmp-IsAntisymmetric (entry_state spelled (font_of e ss es)) (font_of e ss es).subrs i
-      ∙ (λ d. option_map (λ c. cond (is_stub c && not (called_is i d)) None (Some c)) (maps.get-from_sorted nat_cmp ss i hs d))
+  state_at : (i : ℕ) (x : Option (List ℕ)) → state_of_entry spelled (font_of e ss es) i x ≡ state_listed i x
+  state_at i None = refl
+  state_at i (Some c) = λ d. cond (is_stub c && not (called_is i d)) None (Some c)
+
+  -- the state of an index in the table of all states
+  subr_listed : (i : ℕ) → maps.get (subr_part (states_of spelled (font_of e ss es))) (of_number i) ≡ state_listed i (find nat_cmp i ss)
+  subr_listed i = get-numbered (used_subrs spelled (font_of e ss es)) (of_number i) ∙ get-used spelled (font_of e ss es) i
+      ∙ ap (state_of_entry spelled (font_of e ss es) i) (maps.get-from_sorted nat_cmp ss i hs) ∙ state_at i (find nat_cmp i ss)
 
   abbrev components_listed : List (List ℕ)
   components_listed = flat_map (λ g. letters g.1) es
@@ -45,11 +55,12 @@ module _ (e : Encoding) (ss : List (ℕ × List ℕ)) (es : List (List ℕ × Li
   components_are = ap (flat_map (λ g. letters g.1)) (maps.entries-from_sorted name_cmp es h)
 
   -- the state of a name
-  name_listed : (n : List ℕ) → maps.get (states_of spelled (font_of e ss es)).names n ≡ joined (option_map Some (at_name es n)) (find name_cmp n (map (λ p. (p, None)) components_listed))
+  name_listed : (n : List ℕ) → maps.get (name_part (states_of spelled (font_of e ss es))) n
+      ≡ joined_state (option_map (λ c. name_meaning (Some c)) (at_name es n)) (find name_cmp n (map (λ p. (p, name_meaning None)) components_listed))
   name_listed n =
-      get-merged nat_list_cmp_total name_same (map_values (λ n c. Some c) (font_of e ss es).glyphs) (maps.from_entries (map (λ p. (p, None)) (all_components spelled (font_of e ss es)))) n
-      ∙ (λ d. joined (get-map_values nat_list_cmp_total name_same (λ n c. Some c) (font_of e ss es).glyphs n d) (maps.get-from_entries nat_list_cmp_total (map (λ p. (p, None)) (all_components spelled (font_of e ss es))) n d))
-      ∙ (λ d. joined (option_map Some (glyph_listed e ss es h n d)) (find name_cmp n (map (λ p. (p, None)) (components_are d))))
+      get_joined (map_values (λ n c. name_meaning (Some c)) (font_of e ss es).glyphs) (maps.from_entries (map (λ p. (p, name_meaning None)) (all_components spelled (font_of e ss es)))) n
+      ∙ (λ d. joined_state (get-map_values nat_list_cmp_total name_same (λ n c. name_meaning (Some c)) (font_of e ss es).glyphs n d) (maps.get-from_entries nat_list_cmp_total (map (λ p. (p, name_meaning None)) (all_components spelled (font_of e ss es))) n d))
+      ∙ (λ d. joined_state (option_map (λ c. name_meaning (Some c)) (glyph_listed e ss es h n d)) (find name_cmp n (map (λ p. (p, name_meaning None)) (components_are d))))
 
 -- ---- rows of states
 
@@ -57,27 +68,27 @@ abbrev standard : Encoding
 standard = Word (codes "StandardEncoding")
 
 -- `return` that no glyph executes
-state_0 : maps.get (states_of spelled small).subrs 0 ≡ Some None
+state_0 : maps.get (subr_part (states_of spelled small)) (of_number 0) ≡ None
 state_0 = subr_listed standard subrs glyphs tt tt 0 ∙ refl
 
-state_5 : maps.get (states_of spelled small).subrs 5 ≡ Some (Some (12 ∷ []))
+state_5 : maps.get (subr_part (states_of spelled small)) (of_number 5) ≡ Some (12 ∷ [])
 state_5 = subr_listed standard subrs glyphs tt tt 5 ∙ refl
 
 -- `return` that B executes
-state_7 : maps.get (states_of spelled small).subrs 7 ≡ Some (Some stub)
+state_7 : maps.get (subr_part (states_of spelled small)) (of_number 7) ≡ Some stub
 state_7 = subr_listed standard subrs glyphs tt tt 7 ∙ refl
 
-state_6 : maps.get (states_of spelled small).subrs 6 ≡ None
+state_6 : maps.get (subr_part (states_of spelled small)) (of_number 6) ≡ None
 state_6 = subr_listed standard subrs glyphs tt tt 6 ∙ refl
 
-state_A : maps.get (states_of spelled small).names (codes "A") ≡ Some (Some (5 ∷ []))
+state_A : maps.get (name_part (states_of spelled small)) (codes "A") ≡ Some (name_meaning (Some (5 ∷ [])))
 state_A = name_listed standard subrs glyphs tt tt (codes "A") ∙ refl
 
 -- sought by V
-state_Z : maps.get (states_of spelled small).names (codes "Z") ≡ Some None
+state_Z : maps.get (name_part (states_of spelled small)) (codes "Z") ≡ Some (name_meaning None)
 state_Z = name_listed standard subrs glyphs tt tt (codes "Z") ∙ refl
 
-state_Q : maps.get (states_of spelled small).names (codes "Q") ≡ None
+state_Q : maps.get (name_part (states_of spelled small)) (codes "Q") ≡ None
 state_Q = name_listed standard subrs glyphs tt tt (codes "Q") ∙ refl
 
 -- ---- conflicts of two fonts of one shell

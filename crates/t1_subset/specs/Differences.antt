@@ -1,5 +1,5 @@
 -- How the code sees what differs in two fonts.
-use Rattle.std.specs.Prelude.{◌≡◌, ◌<◌, ℕ, true, cond, List, Option, Some, None}
+use Rattle.std.specs.Prelude.{◌≡◌, ◌<◌, ℕ, Bool, true, not, ◌&&◌, cond, List, Option, Some, None}
 use Rattle.std.specs.Global.{Vec}
 use Rattle.std.specs.FinMap as maps
 use Rattle.std.specs.declared.cmp.Ordering.{Ordering}
@@ -9,6 +9,7 @@ use Rattle.t1_join.specs.TableMeaning.{TableMeaning}
 use Rattle.t1_font.specs.FontValue.{FontValue, declared_count}
 use Rattle.t1_subset.specs.declared.conflict.ShellPart.{ShellPart as Part}
 use Rattle.t1_subset.specs.declared.conflict.ShellPart.TheVariants as part
+use Rattle.t1_subset.specs.States.{is_stub}
 use Rattle.t1_subset.specs.Conflicts.{agrees, ShellPart, Head, EncodingPart, ClearTail, Private, SubrsTable, SubrsWords, Middle, GlyphsWords, Tail}
 
 abbrev pub shell_part : Part → ShellPart
@@ -29,6 +30,11 @@ bytes_of v = v.items
 abbrev pub with_state : TableMeaning → Meaning → Option Meaning → TableMeaning
 with_state t k None = t
 with_state t k (Some v) = maps.insert t k v
+
+-- an entry, but for a stub that is not executed
+abbrev pub entry_state : Option (List ℕ) → Bool → Option (List ℕ)
+entry_state None is_called = None
+entry_state (Some c) is_called = cond (is_stub c && not is_called) None (Some c)
 
 -- the smaller of two, where they are there
 abbrev pub smaller : {K : Type 0} → (K → K → Ordering) → Option K → Option K → Option K

@@ -11,7 +11,7 @@ use Rattle.t1_font.specs.Cut.{join_parts}
 use Rattle.t1_subset.specs.Interpreter.{Interpreter, Names}
 use Rattle.t1_subset.specs.Keep.{has, keep, kept, subset, Closed}
 use Rattle.t1_subset.specs.States.{Compatible, Join, IsWithin, joined, joined_font, subr_state, name_state, code_state, is_sought}
-use Rattle.t1_subset.specs.StateValues.{states_of, StatesAgree}
+use Rattle.t1_subset.specs.StateTables.{states_of, StatesAgree, StatesJoin}
 use Rattle.t1_subset.specs.Conflicts.{conflict}
 use Rattle.t1_subset.specs.JoinedEntries.{EntriesJoin}
 use Rattle.t1_subset.specs.Trees.{Tree, EachLeaf, leaves, map_tree, union_all, Merges, Leaf, left_tree, folded, EachPair}
@@ -109,7 +109,8 @@ module _ {O : Type 0} (m : Interpreter O) where
   -- the states of a join are the joined states
   abbrev pub StatesOfJoin : Type 0
   StatesOfJoin = (f g : FontValue) → Join m f g →
-      ((i : ℕ) → subr_state m (joined_font m f g) i ≡ joined (subr_state m f i) (subr_state m g i))
+      StatesJoin (states_of m f) (states_of m g) (states_of m (joined_font m f g))
+      × ((i : ℕ) → subr_state m (joined_font m f g) i ≡ joined (subr_state m f i) (subr_state m g i))
       × ((n : List ℕ) → name_state m (joined_font m f g) n ≡ joined (name_state m f n) (name_state m g n))
       × ((c : ℕ) → code_state (joined_font m f g).encoding c ≡ joined (code_state f.encoding c) (code_state g.encoding c))
 
@@ -129,9 +130,9 @@ module _ {O : Type 0} (m : Interpreter O) where
       (EachPair m (f ∷ fs) → IsWithin (folded m f fs) → Merges m (left_tree (Leaf f) fs) (folded m f fs))
       × ((j : FontValue) → Merges m (left_tree (Leaf f) fs) j → EachPair m (f ∷ fs) × (folded m f fs ≡ j) × IsWithin j)
 
-  -- the values of the states agree exactly where the states join
-  abbrev pub AgreeIsCompatible : Type 0
-  AgreeIsCompatible = (f g : FontValue) → StatesAgree (states_of m f) (states_of m g) ↔ Compatible m f g
+  -- fonts join exactly where their states agree
+  abbrev pub JoinWhereStatesAgree : Type 0
+  JoinWhereStatesAgree = (f g : FontValue) → IsFont f → StatesAgree (states_of m f) (states_of m g) ↔ Join m f g
 
   -- two fonts have no conflict exactly where they join
   abbrev pub NoConflictIsJoin : Type 0

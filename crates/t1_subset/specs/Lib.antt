@@ -2,7 +2,10 @@ pub mod Interpreter
 pub mod Profile
 pub mod Keep
 pub mod States
-pub mod StateValues
+pub mod StateTables
+pub mod StateLaws
+pub mod NameStates
+pub mod SoughtNames
 pub mod JoinedEntries
 pub mod Outcomes
 pub mod Trees

@@ -1,6 +1,6 @@
 //! Laws of subsets and mergers, over the definitions alone.
 
-ghost use Rattle.t1_subset.specs.Laws.{KeepIsLeast, KeepIsMonotone, Distribution, SubsetIsFont, SubsetOfSubset, Bottom, SubsetsDraw, TwoSubsets, ManySubsets, JoinIsFont, JoinIsSymmetric, JoinIsIdempotent, StatesOfJoin, JoinsDraw, AnyOrder, AcceptedByPairs, AgreeIsCompatible, NoConflictIsJoin, ConflictIsSymmetric, JoinHasEntries, CallsDrawAlike};
+ghost use Rattle.t1_subset.specs.Laws.{KeepIsLeast, KeepIsMonotone, Distribution, SubsetIsFont, SubsetOfSubset, Bottom, SubsetsDraw, TwoSubsets, ManySubsets, JoinIsFont, JoinIsSymmetric, JoinIsIdempotent, StatesOfJoin, JoinsDraw, AnyOrder, AcceptedByPairs, JoinWhereStatesAgree, NoConflictIsJoin, ConflictIsSymmetric, JoinHasEntries, CallsDrawAlike};
 ghost use Rattle.t1_subset.specs.Profile.{profile};
 ghost use Rattle.t1_subset.specs.Headline.{Headline};
 
@@ -94,9 +94,9 @@ pub fn accepted_by_pairs()
     ensures { AcceptedByPairs profile }
 {}
 
-/// Values of states agree exactly where the states join.
-pub fn agree_is_compatible()
-    ensures { AgreeIsCompatible profile }
+/// Fonts join exactly where their states agree.
+pub fn join_where_states_agree()
+    ensures { JoinWhereStatesAgree profile }
 {}
 
 /// Two fonts have no conflict exactly where they join.

@@ -11,9 +11,13 @@ mod lacking;
 pub mod laws;
 mod merger;
 mod name_sets;
+mod name_states;
 mod needed;
 mod runs;
 mod shells;
+mod state_joins;
+mod state_making;
+mod state_value;
 mod subsets;
 mod tables;
 mod users;
@@ -23,6 +27,8 @@ pub use conflict::{Conflict, ShellPart};
 pub use fault::SubsetFault;
 pub use merger::{merge, merge_all};
 pub use needed::Closure;
+pub use state_making::states;
+pub use state_value::States;
 pub use subsets::subset;
 
 #[cfg(test)]

@@ -1,28 +1,29 @@
 //! The states of a font's codes, glyphs and Subrs, as tables that join key by key.
 
-ghost use Rattle.std.specs.Prelude.{◌≡◌, ℕ, List, IfOk, OnOk};
+ghost use Rattle.std.specs.Prelude.{◌≡◌, ℕ, List, Some, IfOk, OnOk};
 ghost use Rattle.std.specs.Option.{option_map};
 ghost use Rattle.std.specs.FinMap as fin;
-ghost use Rattle.t1_join.specs.Meaning.{of_number};
+ghost use Rattle.t1_font.specs.Cut.{map_values};
 ghost use Rattle.t1_subset.specs.Profile.{profile};
-ghost use Rattle.t1_subset.specs.States.{code_state, subr_state};
-ghost use Rattle.t1_subset.specs.JoinedEntries.{past_stub};
-ghost use Rattle.t1_subset.specs.Differences.{with_state};
+ghost use Rattle.t1_subset.specs.StateTables.{numbered, name_meaning, code_states, used_subrs};
+ghost use Rattle.t1_subset.specs.NameStates.{state_meaning};
+ghost use Rattle.t1_subset.specs.Differences.{with_state, entry_state};
 ghost use Rattle.t1_subset.specs.Calls.{number_set, called_in};
 
+use crate::name_states::{NameState, NameTable};
 use std::alloc::{AllocError, Global};
 use std::collections::BTreeSet;
 use t1_font::{Font, STUB};
-use t1_join::{Key, Table};
+use t1_join::{Kept, Key, Table};
 use t1_run::{Glyphs, Subroutines};
 
 /// Puts a state at a key, where there is one.
-fn put<'a, K: Key + Drop>(
-    table: &mut Table<K, &'a [u8]>,
+fn put<K: Key + Drop, V: Kept + Drop>(
+    table: &mut Table<K, V>,
     key: K,
-    state: Option<&'a [u8]>,
+    state: Option<V>,
 ) -> Result<(), AllocError>
-    ensures { OnOk result (table.new ≡ with_state table.old (K.meaning key) (option_map (λ b. b.now) state.entry)) }
+    ensures { OnOk result (table.new ≡ with_state table.old (K.meaning key) (option_map V.meaning state)) }
 {
     match state {
         Some(state) => table.insert(key, state),
@@ -35,7 +36,7 @@ pub(crate) fn code_table<'a>(
     alloc: Global,
     font: &'a Font<'_>,
 ) -> Result<Table<u16, &'a [u8]>, AllocError>
-    ensures { IfOk result (λ table. (c : ℕ) → fin.get table (of_number c) ≡ code_state font.now.encoding c) }
+    ensures { IfOk result (λ table. table ≡ code_states font.now.encoding) }
 {
     font.is_font();
     let mut table = Table::new(alloc);
@@ -59,41 +60,57 @@ pub(crate) fn glyph_table<'a>(
     Ok(table)
 }
 
-/// An entry, but for one that is `return`.
-fn past_stub(entry: Option<&[u8]>) -> Option<&[u8]>
-    ensures { option_map (λ b. b.now) result ≡ past_stub (option_map (λ b. b.now) entry.entry) }
+/// The state of a name that has this charstring.
+fn charstring_state(charstring: Option<&[u8]>) -> Option<NameState<'_>>
+    ensures { option_map state_meaning result ≡ option_map (λ c. name_meaning (Some c.now)) charstring.entry }
 {
-    match entry {
-        Some(body) if body == STUB => None,
-        entry => entry,
+    match charstring {
+        Some(charstring) => Some(NameState::Charstring(charstring)),
+        None => None,
     }
 }
 
-/// The Subrs that are no `return`.
-fn entry_table<'a>(alloc: Global, font: &'a Font<'_>) -> Result<Table<u16, &'a [u8]>, AllocError>
-    ensures { IfOk result (λ table. (i : ℕ) → fin.get table (of_number i) ≡ past_stub (fin.get font.now.subrs i)) }
+/// The charstrings of the glyphs, as the states of their names.
+pub(crate) fn glyph_states<'a>(
+    alloc: Global,
+    font: &'a Font<'_>,
+) -> Result<NameTable<'a>, AllocError>
+    ensures { IfOk result (λ table. table ≡ map_values (λ n c. name_meaning (Some c)) font.now.glyphs) }
 {
-    font.is_font();
     let mut table = Table::new(alloc);
-    'indices: for index in 0..font.count() {
-        put(&mut table, index, past_stub(font.get(index)))?;
+    'names: for name in font.names() {
+        put(&mut table, name, charstring_state(font.glyph(name)))?;
     }
     Ok(table)
 }
 
-/// The states of the Subrs, of which the glyphs execute these: each entry but a `return` that is not executed.
+/// The state of a Subr: its entry, but for a `return` that is not executed.
+fn subr_state<'a>(entry: Option<&'a [u8]>, is_called: bool) -> Option<&'a [u8]>
+    ensures { option_map (λ b. b.now) result ≡ entry_state (option_map (λ b. b.now) entry.entry) is_called }
+{
+    match entry {
+        Some(body) if body == STUB && !is_called => None,
+        entry => entry,
+    }
+}
+
+/// The states of the Subrs, of which the glyphs execute these.
 pub(crate) fn subr_table<'a>(
     alloc: Global,
     font: &'a Font<'_>,
     calls: &BTreeSet<u16>,
 ) -> Result<Table<u16, &'a [u8]>, AllocError>
     requires { number_set calls.now ≡ called_in font.now }
-    ensures { IfOk result (λ table. (i : ℕ) → fin.get table (of_number i) ≡ subr_state profile font.now i) }
+    ensures { IfOk result (λ table. table ≡ numbered (used_subrs profile font.now)) }
 {
     font.is_font();
-    let mut table = entry_table(alloc, font)?;
-    'calls: for index in calls {
-        put(&mut table, *index, font.get(*index))?;
+    let mut table = Table::new(alloc);
+    'indices: for index in 0..font.count() {
+        put(
+            &mut table,
+            index,
+            subr_state(font.get(index), calls.contains(&index)),
+        )?;
     }
     Ok(table)
 }

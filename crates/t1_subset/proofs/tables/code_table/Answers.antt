@@ -1,15 +1,16 @@
 use Rattle.std.proofs.Common.{◌∙◌, arith}
 use Rattle.t1_subset.specs.States.{code_state}
 use Rattle.t1_subset.proofs.FirstConflicts.{named_so}
-use Rattle.t1_subset.proofs.TableStates.{shows_none, shows_next, shows_all, beyond}
+use Rattle.t1_subset.proofs.TableStates.{beyond}
+use Rattle.t1_subset.proofs.ByNumber.{has_none, has_next, codes_filled}
 use Rattle.t1_subset.proofs.tables.code_table.Goals as goal
 
 pub codes-init : goal.codes-init
-codes-init c = shows_none _ (code_state c.args.font.now.encoding) c.new-table.ensures
+codes-init c = has_none _ (code_state c.args.font.now.encoding) c.new-table.ensures
 
 pub codes-preserved : goal.codes-preserved
-codes-preserved c = shows_next c.codes.table (code_state c.args.font.now.encoding) c.codes.code c.codes.invariant c.put.new.table _ c.in_ok-put.ensures
+codes-preserved c = has_next c.codes.table (code_state c.args.font.now.encoding) c.codes.code c.codes.invariant c.put.new.table _ c.in_ok-put.ensures
     (c.encoding_at.ensures ∙ named_so c.args.font.now.encoding c.codes.code)
 
 pub returns : goal.returns
-returns c = shows_all c.codes.table (code_state c.args.font.now.encoding) c.codes.code c.codes.invariant (λ i l. beyond c.args.font.now c.is_font.ensures i (let t = c.codes-test.false in omega arith))
+returns c = codes_filled c.args.font.now.encoding c.codes.table c.codes.code c.codes.invariant (λ i l. beyond c.args.font.now c.is_font.ensures i (let t = c.codes-test.false in omega arith))

@@ -1,6 +1,6 @@
 use Rattle.t1_subset.specs.States.{code_state}
-use Rattle.t1_subset.proofs.TableStates.{ShowsBelow}
+use Rattle.t1_subset.proofs.ByNumber.{HasBelow}
 use Rattle.t1_subset.proofs.tables.code_table.Given as goal
 
 abbrev pub invariant-codes : goal.invariant-codes
-invariant-codes l = ShowsBelow l.table (code_state l.font.encoding) l.code
+invariant-codes l = HasBelow l.table (code_state l.font.encoding) l.code

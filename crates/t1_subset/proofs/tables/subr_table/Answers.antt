@@ -1,16 +1,29 @@
-use Rattle.std.proofs.Common.{ℕ, List, Bor, ◌∙◌, subst}
-use Rattle.std.proofs.lemmas.Map.Iter.{rest_more, rest_all}
+use Rattle.std.proofs.Common.{◌∙◌, ap, sym, arith}
+use Rattle.std.specs.FinSet as sets
+use Rattle.std.specs.Cmp.{nat_cmp_total}
 use Rattle.t1_font.proofs.FontReaders.{subrs_seen}
-use Rattle.t1_subset.proofs.TableStates.{Called, called_first, called_next, called_all}
+use Rattle.t1_subset.specs.Interpreter.{Numbers}
+use Rattle.t1_subset.specs.Profile.{profile}
+use Rattle.t1_subset.specs.States.{subr_state, state_of_entry}
+use Rattle.t1_subset.specs.StateTables.{used_subrs}
+use Rattle.t1_subset.proofs.ExecutedCalls.{called_so}
+use Rattle.t1_subset.proofs.FirstConflicts.{absent_beyond}
+use Rattle.t1_subset.proofs.FontStates.{get-used}
+use Rattle.t1_subset.proofs.ByNumber.{has_none, has_next, has_all, entry_is}
 use Rattle.t1_subset.proofs.tables.subr_table.Goals as goal
 
-pub calls-init : goal.calls-init
-calls-init c = called_first c.args.font.now c.in_ok-table.table _ c.args.calls.now c.requires c.in_ok-table.ensures c.into_iter-index-iterator.ensures.into_iter_gives.0
+pub indices-init : goal.indices-init
+indices-init c = has_none _ (subr_state profile c.args.font.now) c.new-table.ensures
 
-pub calls-preserved : goal.calls-preserved
-calls-preserved c = called_next c.args.font.now c.calls.table c.put.new.table c.in-Some.index.now c.next.new.self _
-    (subst (λ (ks : List ℕ). Called c.args.font.now c.calls.table ks) (rest_more (λ (k : Bor ℕ). k.now) _ _ _ _ c.in-Some.is c.next.ensures.steps) c.calls.invariant)
-    c.in_ok-put.ensures (c.get.ensures ∙ subrs_seen c.args.font.now c.is_font.ensures c.in-Some.index.now)
+pub indices-preserved : goal.indices-preserved
+indices-preserved c =
+    let f = c.args.font.now in let i = c.indices.index-counter in
+    has_next c.indices.table (subr_state profile f) i c.indices.invariant c.put.new.table _ c.in_ok-put.ensures
+    (c.subr_state.ensures ∙ entry_is f i _ _ c.contains.result (c.get.ensures ∙ subrs_seen f c.is_font.ensures i)
+    (c.contains.ensures ∙ sym (sets.contains-from_list nat_cmp_total c.args.calls.now.keys i) ∙ ap (λ (s : Numbers). sets.contains s i) c.requires ∙ called_so f i))
 
 pub returns : goal.returns
-returns c = called_all c.args.font.now c.calls.table c.calls.index-iterator c.calls.invariant (rest_all (λ (k : Bor ℕ). k.now) _ _ _ c.in-None.is c.next.ensures.steps)
+returns c =
+    let f = c.args.font.now in
+    has_all c.indices.table (subr_state profile f) c.indices.index-counter c.indices.invariant
+    (λ i l. ap (state_of_entry profile f i) (absent_beyond f c.is_font.ensures i (let t = c.indices-test.false in omega (arith, c.count-index-end.ensures)))) (used_subrs profile f) (get-used profile f)

@@ -1,5 +1,7 @@
-use Rattle.t1_subset.proofs.TableStates.{Called}
+use Rattle.t1_subset.specs.Profile.{profile}
+use Rattle.t1_subset.specs.States.{subr_state}
+use Rattle.t1_subset.proofs.ByNumber.{HasBelow}
 use Rattle.t1_subset.proofs.tables.subr_table.Given as goal
 
-abbrev pub invariant-calls : goal.invariant-calls
-invariant-calls l = Called l.font l.table l.index-iterator
+abbrev pub invariant-indices : goal.invariant-indices
+invariant-indices l = HasBelow l.table (subr_state profile l.font) l.index-counter

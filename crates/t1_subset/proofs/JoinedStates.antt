@@ -51,7 +51,7 @@ glyphs_agree m f g n (Some c) (Some d) h = Some_same h
 pub glyph_agree : {O : Type 0} (m : Interpreter O) (f g : FontValue) → Compatible m f g → (n : List ℕ) → Agree (maps.get f.glyphs n) (maps.get g.glyphs n)
 glyph_agree m f g c n = glyphs_agree m f g n (maps.get f.glyphs n) (maps.get g.glyphs n) (c.names n)
 
-constant : {X Y Z : Type 0} (z : Z) (x : Option X) (y : Option Y) → is_some x ≡ is_some y → option_map (λ v. z) x ≡ option_map (λ v. z) y
+pub constant : {X Y Z : Type 0} (z : Z) (x : Option X) (y : Option Y) → is_some x ≡ is_some y → option_map (λ v. z) x ≡ option_map (λ v. z) y
 constant z None None h = refl
 constant z None (Some v) h = absurd (true≢false (sym h))
 constant z (Some v) None h = absurd (true≢false h)
@@ -221,7 +221,7 @@ kind_joined (Word v) e h = refl
 kind_joined (Codes s) (Word w) h = tt
 kind_joined (Codes s) (Codes t) h = tt
 
-is_some_map : {X Y : Type 0} (y : Y) (x : Option X) → is_some (option_map (λ v. y) x) ≡ is_some x
+pub is_some_map : {X Y : Type 0} (y : Y) (x : Option X) → is_some (option_map (λ v. y) x) ≡ is_some x
 is_some_map y None = refl
 is_some_map y (Some v) = refl
 

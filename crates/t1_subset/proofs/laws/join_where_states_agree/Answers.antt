@@ -1,0 +1,7 @@
+use Rattle.t1_subset.specs.Profile.{profile}
+use Rattle.t1_subset.proofs.Fonts.{font_within}
+use Rattle.t1_subset.proofs.FontStates.{join_exactly}
+use Rattle.t1_subset.proofs.laws.join_where_states_agree.Goals as goal
+
+pub returns : goal.returns
+returns c f g h = join_exactly profile f g (font_within f h)

@@ -1,0 +1,133 @@
+-- The states of a font as tables, and what these weigh.
+use Rattle.std.specs.Prelude.{◌≡◌, ◌≤◌, ℕ, ◌+◌, ◌*◌, ◌-◌, not, List, [], ◌∷◌, map, flat_map, filter, length, Option, Some, None, is_some}
+use Rattle.std.specs.declared.cmp.Ordering.{Ordering}
+use Rattle.std.specs.Coded.{Coded, coded×, coded_option, coded_ℕ}
+use Rattle.std.specs.Ordering.{nat_cmp}
+use Rattle.std.specs.FinMap as maps
+use Rattle.t1_join.specs.Meaning.{Meaning, of_number}
+use Rattle.t1_join.specs.Products.{SameJoin, BothJoin, FittingAgree, FittingJoin}
+use Rattle.t1_join.specs.TableMeaning.{TableMeaning, TablesJoin, table_code, joined_table}
+use Rattle.t1_font.specs.FontValue.{FontValue, Shell, Encoding, Word, Codes, Numbered, total, texts_weight, weight_limit, count_limit}
+use Rattle.t1_font.specs.FontModel.{shell_code, word_of}
+use Rattle.t1_font.specs.Lent.{bytes_code}
+use Rattle.t1_font.specs.Cut.{map_values}
+use Rattle.t1_subset.specs.Interpreter.{Interpreter}
+use Rattle.t1_subset.specs.Keep.{components}
+use Rattle.t1_subset.specs.States.{subr_state}
+use Rattle.t1_subset.specs.Conflicts.{KeySet}
+
+-- what has to be the same in fonts that join: the shell, the Encoding where it is a word, the indices that are present
+abbrev pub Shared : Type 0
+Shared = Shell × (Option (List ℕ) × KeySet nat_cmp)
+
+-- what is shared, and the states of codes, of names and of Subrs, each at its key where it is not the bottom
+abbrev pub StatesValue : Type 0
+StatesValue = Shared × (TableMeaning × (TableMeaning × TableMeaning))
+
+abbrev pub code_part : StatesValue → TableMeaning
+code_part s = s.1.0
+
+abbrev pub name_part : StatesValue → TableMeaning
+name_part s = s.1.1.0
+
+abbrev pub subr_part : StatesValue → TableMeaning
+subr_part s = s.1.1.1
+
+abbrev pub states_code : Coded StatesValue
+states_code = coded× (coded× shell_code (coded× (coded_option bytes_code) (maps.code coded_ℕ coded_ℕ))) (coded× table_code (coded× table_code table_code))
+
+-- ---- the states of a font
+
+-- a map by number as a table
+abbrev pub numbered : Numbered → TableMeaning
+numbered m = maps.from_sorted (map (λ e. (of_number e.0, e.1)) (maps.entries m))
+
+-- the meaning of a name's state: nothing where the name is sought, else a mark and the charstring
+abbrev pub name_meaning : Option (List ℕ) → Meaning
+name_meaning None = []
+name_meaning (Some c) = 0 ∷ c
+
+abbrev pub shared_of : FontValue → Shared
+shared_of f = (f.shell, (word_of f.encoding, map_values (λ i c. 0) f.subrs))
+
+abbrev pub code_states : Encoding → TableMeaning
+code_states (Word w) = maps.empty
+code_states (Codes t) = numbered t
+
+module _ {O : Type 0} (m : Interpreter O) (f : FontValue) where
+  -- the Subrs whose state is not the bottom
+  abbrev pub used_subrs : Numbered
+  used_subrs = maps.retain_keys f.subrs (λ i. is_some (subr_state m f i))
+
+  -- all components that the glyphs name
+  abbrev pub all_components : List (List ℕ)
+  all_components = flat_map (λ g. components m f.subrs g.1) (maps.entries f.glyphs)
+
+  -- the names that are there, and those that are sought
+  abbrev pub name_states : TableMeaning
+  name_states = joined_table (map_values (λ n c. name_meaning (Some c)) f.glyphs) (maps.from_entries (map (λ p. (p, name_meaning None)) all_components))
+
+  -- the states of a font
+  abbrev pub states_of : StatesValue
+  states_of = (shared_of f, (code_states f.encoding, (name_states, numbered used_subrs)))
+
+-- ---- weights
+
+-- the entries whose keys the table lacks
+abbrev pub new_entries : {K X : Type 0} {R : K → K → Ordering} → maps.FinMap R X → List (K × X) → List (K × X)
+new_entries m es = filter (λ e. not (maps.contains_key m e.0)) es
+
+-- what a Subr weighs beyond a stub
+abbrev pub subr_adds : Meaning → Meaning → ℕ
+subr_adds i c = length c - 1
+
+-- what a name's state adds to the weight of a font, and to its count of glyphs
+abbrev pub name_adds : ℕ → Meaning → Meaning → ℕ
+name_adds len_iv n [] = 0
+name_adds len_iv n (mark ∷ c) = 256 + len_iv + length c
+
+abbrev pub name_counts : Meaning → Meaning → ℕ
+name_counts n [] = 0
+name_counts n (mark ∷ c) = 1
+
+-- the weight of a font whose states are all the bottom
+abbrev pub shared_weight : Shared → ℕ
+shared_weight s = texts_weight s.0 + maps.len s.1.1 * (129 + s.0.len_iv)
+
+-- the weight of a font of these states, and how many glyphs it has
+abbrev pub states_weight : StatesValue → ℕ
+states_weight s = shared_weight s.0 + total subr_adds (maps.entries (subr_part s)) + total (name_adds s.0.0.len_iv) (maps.entries (name_part s))
+
+abbrev pub states_glyphs : StatesValue → ℕ
+states_glyphs s = total name_counts (maps.entries (name_part s))
+
+-- a font of these states is within the limits
+pub record StatesFit (s : StatesValue) : Type 0 where
+  pub weight : states_weight s ≤ weight_limit
+  pub glyphs : states_glyphs s ≤ count_limit
+
+-- ---- joins
+
+-- part by part: what is shared is the same, and each table joins key by key
+abbrev pub PartsJoin : StatesValue → StatesValue → StatesValue → Type 0
+PartsJoin = BothJoin SameJoin (BothJoin TablesJoin (BothJoin TablesJoin TablesJoin))
+
+-- the states join part by part, within the limits
+abbrev pub StatesAgree : StatesValue → StatesValue → Type 0
+StatesAgree = FittingAgree PartsJoin StatesFit
+
+abbrev pub StatesJoin : StatesValue → StatesValue → StatesValue → Type 0
+StatesJoin = FittingJoin PartsJoin StatesFit
+
+-- the states fit, and this is what they weigh and how many glyphs they are
+pub record IsSized (s : StatesValue) (weight glyphs : ℕ) : Type 0 where
+  pub fits : StatesFit s
+  pub weighs : weight ≡ states_weight s
+  pub counts : glyphs ≡ states_glyphs s
+
+-- what a font of the joined states weighs, and how many glyphs it has, where the second's new entries come to the first's
+abbrev pub joint_weight : StatesValue → StatesValue → ℕ
+joint_weight s t = states_weight s + total subr_adds (new_entries (subr_part s) (maps.entries (subr_part t))) + total (name_adds s.0.0.len_iv) (new_entries (name_part s) (maps.entries (name_part t)))
+
+abbrev pub joint_glyphs : StatesValue → StatesValue → ℕ
+joint_glyphs s t = states_glyphs s + total name_counts (new_entries (name_part s) (maps.entries (name_part t)))

@@ -1,0 +1,187 @@
+//! The join of states.
+
+ghost use Rattle.std.specs.Prelude.{◌≡◌, ◌≤◌, ◌↔◌, ◌+◌, [], cond, IsTrue};
+ghost use Rattle.std.specs.FinMap as maps;
+ghost use Rattle.t1_join.specs.TableMeaning.{TablesAgree};
+ghost use Rattle.t1_font.specs.FontValue.{total, weight_limit, count_limit};
+ghost use Rattle.t1_font.specs.FontModel.{clamp};
+ghost use Rattle.t1_subset.specs.StateTables.{StatesFit, code_part, name_part, subr_part, new_entries, subr_adds, name_adds, name_counts, shared_of, joint_weight, joint_glyphs};
+ghost use Rattle.t1_subset.specs.NameStates.{state_meaning};
+ghost use Rattle.t1_subset.specs.StateLaws.{PartsAgree};
+
+use crate::name_states::{NameState, NameTable};
+use crate::shells::shell_conflict;
+use crate::state_value::States;
+use std::alloc::{AllocError, Global};
+use t1_font::Font;
+use t1_join::{Join, Kept, Key, Table};
+
+/// The largest weight of a font.
+const WEIGHT_LIMIT: u64 = 16_777_216;
+
+/// The largest number of a font's glyphs.
+const COUNT_LIMIT: u64 = 65_535;
+
+/// The bytes of a Subr beyond those of a `return`.
+fn subr_adds(body: &[u8]) -> u64
+    ensures { result ≡ subr_adds [] body.now }
+{
+    (body.len() as u64).saturating_sub(1)
+}
+
+/// What the state of a name adds to the weight of a font with this lenIV.
+fn name_adds(len_iv: u8, state: &NameState<'_>) -> u64
+    ensures { result ≡ name_adds len_iv [] (state_meaning state.now) }
+{
+    match state {
+        NameState::Sought => 0,
+        NameState::Charstring(body) => 256 + len_iv as u64 + body.len() as u64,
+    }
+}
+
+/// How many glyphs the state of a name is.
+fn name_counts(state: &NameState<'_>) -> u64
+    ensures { result ≡ name_counts [] (state_meaning state.now) }
+{
+    match state {
+        NameState::Sought => 0,
+        NameState::Charstring(_) => 1,
+    }
+}
+
+/// Whether the table has the key.
+fn has<K: Key + Drop, V: Kept + Drop>(table: &Table<K, V>, key: &K) -> bool
+    ensures { result ≡ maps.contains_key table.now (K.meaning key.now) }
+{
+    table.get(key).is_some()
+}
+
+/// What an entry adds, unless it is there.
+fn unless_there(is_there: bool, adds: u64) -> u64
+    ensures { result ≡ cond is_there 0 adds }
+{
+    if is_there { 0 } else { adds }
+}
+
+/// `before` and what the Subrs of the other table that the first lacks weigh beyond a `return`, as far as 64 bits hold it.
+fn with_subrs(before: u64, own: &Table<u16, &[u8]>, other: &Table<u16, &[u8]>) -> u64
+    ensures { result ≡ clamp (before + total subr_adds (new_entries own.now (maps.entries other.now))) }
+{
+    let mut weight = before;
+    'entries: for (index, body) in other.entries() {
+        weight = weight.saturating_add(unless_there(has(own, index), subr_adds(body)));
+    }
+    weight
+}
+
+/// `before` and what the names of the other table that the first lacks add to the weight, as far as 64 bits hold it.
+fn with_names<'a>(before: u64, len_iv: u8, own: &NameTable<'a>, other: &NameTable<'a>) -> u64
+    ensures { result ≡ clamp (before + total (name_adds len_iv) (new_entries own.now (maps.entries other.now))) }
+{
+    let mut weight = before;
+    'entries: for (name, state) in other.entries() {
+        weight = weight.saturating_add(unless_there(has(&*own, name), name_adds(len_iv, state)));
+    }
+    weight
+}
+
+/// `before` and how many glyphs the names of the other table are that the first lacks, as far as 64 bits hold it.
+fn with_glyphs<'a>(before: u64, own: &NameTable<'a>, other: &NameTable<'a>) -> u64
+    ensures { result ≡ clamp (before + total name_counts (new_entries own.now (maps.entries other.now))) }
+{
+    let mut count = before;
+    'entries: for (name, state) in other.entries() {
+        count = count.saturating_add(unless_there(has(&*own, name), name_counts(state)));
+    }
+    count
+}
+
+/// Whether the fonts share what fonts have to share to join.
+fn same_shared(own: &Font<'_>, other: &Font<'_>) -> bool
+    ensures { IsTrue result ↔ (shared_of own.now ≡ shared_of other.now) }
+{
+    shell_conflict(own, other).is_none()
+}
+
+impl<'a> States<'a> {
+    /// What a font of the joined states weighs, as far as 64 bits hold it.
+    fn joint_weight(&self, other: &States<'a>) -> u64
+        ensures { result ≡ clamp (joint_weight self.now other.now) }
+    {
+        let with_subrs = with_subrs(self.weight, &self.subrs, &other.subrs);
+        with_names(with_subrs, self.shell.len_iv(), &self.names, &other.names)
+    }
+
+    /// How many glyphs a font of the joined states has, as far as 64 bits hold it.
+    fn joint_glyphs(&self, other: &States<'a>) -> u64
+        ensures { result ≡ clamp (joint_glyphs self.now other.now) }
+    {
+        with_glyphs(self.glyphs, &self.names, &other.names)
+    }
+
+    /// Whether the joined states are within the limits.
+    fn fits_with(&self, other: &States<'a>) -> bool
+        ensures { IsTrue result ↔ ((joint_weight self.now other.now ≤ weight_limit) × (joint_glyphs self.now other.now ≤ count_limit)) }
+    {
+        self.joint_weight(other) <= WEIGHT_LIMIT && self.joint_glyphs(other) <= COUNT_LIMIT
+    }
+
+    /// Whether the states of names and of Subrs join.
+    fn names_and_subrs_agree(&self, other: &States<'a>) -> bool
+        ensures { IsTrue result ↔ (TablesAgree (name_part self.now) (name_part other.now) × TablesAgree (subr_part self.now) (subr_part other.now)) }
+    {
+        self.names.agrees(&other.names) && self.subrs.agrees(&other.subrs)
+    }
+
+    /// Whether the states of codes, of names and of Subrs join.
+    fn tables_agree(&self, other: &States<'a>) -> bool
+        ensures { IsTrue result ↔ (TablesAgree (code_part self.now) (code_part other.now) × (TablesAgree (name_part self.now) (name_part other.now) × TablesAgree (subr_part self.now) (subr_part other.now))) }
+    {
+        self.codes.agrees(&other.codes) && self.names_and_subrs_agree(other)
+    }
+
+    /// Whether all is the same that has to be, and all states join.
+    fn parts_agree(&self, other: &States<'a>) -> bool
+        ensures { IsTrue result ↔ PartsAgree self.now other.now }
+    {
+        same_shared(self.shell, other.shell) && self.tables_agree(other)
+    }
+
+    /// Says of states that they are within the limits. It does nothing when it runs: proofs call it.
+    fn fits(&self)
+        ensures { StatesFit self.now }
+    {
+        let _weight = &self.weight;
+    }
+}
+
+impl<'a> Join for States<'a> {
+    ghost use Rattle.t1_subset.specs.StateTables.{StatesValue, StatesAgree, StatesJoin};
+    ghost use Rattle.t1_subset.specs.StateLaws.{states_laws};
+
+    ghost Meaning = { StatesValue };
+
+    ghost meaning = { λ s. s };
+
+    ghost Agrees = { StatesAgree };
+
+    ghost Joins = { StatesJoin };
+
+    ghost laws = { states_laws };
+
+    fn agrees(&self, other: &States<'a>) -> bool {
+        self.fits();
+        self.parts_agree(other) && self.fits_with(other)
+    }
+
+    fn join(&self, alloc: Global, other: &States<'a>) -> Result<States<'a>, AllocError> {
+        Ok(States {
+            shell: self.shell,
+            codes: self.codes.join(alloc, &other.codes)?,
+            names: self.names.join(alloc, &other.names)?,
+            subrs: self.subrs.join(alloc, &other.subrs)?,
+            weight: self.joint_weight(other),
+            glyphs: self.joint_glyphs(other),
+        })
+    }
+}

@@ -1,0 +1,34 @@
+//! The states of a font, as one value.
+
+use crate::name_states::NameTable;
+use std::marker::Model;
+use t1_font::Font;
+use t1_join::Table;
+
+/// The states of a font: what fonts have to share to join, and the states of its codes, names and Subrs.
+///
+/// A code's state is its name, where the Encoding is a table; a name's its charstring, or that a glyph of the font
+/// names it as a component and the font lacks it; a Subr's its entry, but for a `return` that no glyph of the font executes
+/// (Adobe Type 1 Font Format 1.1, chapters 2, 6 and 8). All else is nothing, and joins with all.
+#[derive(Drop)]
+pub struct States<'a> {
+    /// A font of what is shared.
+    pub(crate) shell: &'a Font<'a>,
+    pub(crate) codes: Table<u16, &'a [u8]>,
+    pub(crate) names: NameTable<'a>,
+    pub(crate) subrs: Table<u16, &'a [u8]>,
+    pub(crate) weight: u64,
+    pub(crate) glyphs: u64,
+}
+
+impl<'a> Model for States<'a> {
+    ghost use Rattle.t1_subset.specs.StateTables.{StatesValue, states_code, shared_of, IsSized};
+
+    ghost Value = { StatesValue };
+
+    ghost coded = { states_code };
+
+    ghost view = { λ s. (shared_of s.shell.now, (s.codes, (s.names, s.subrs))) };
+
+    ghost invariant = { λ s. IsSized (shared_of s.shell.now, (s.codes, (s.names, s.subrs))) s.weight s.glyphs };
+}
