@@ -65,7 +65,7 @@ pub left_snoc : {X : Type 0} (t : Tree X) (xs : List X) (x : X) → left_tree t 
 left_snoc t [] x = refl
 left_snoc t (y ∷ ys) x = left_snoc (Both t (Leaf y)) ys x
 
-left_leaves : {X : Type 0} (t : Tree X) (xs : List X) → leaves (left_tree t xs) ≡ leaves t ++ xs
+pub left_leaves : {X : Type 0} (t : Tree X) (xs : List X) → leaves (left_tree t xs) ≡ leaves t ++ xs
 left_leaves t [] = sym (append-nil (leaves t))
 left_leaves t (x ∷ xs) = left_leaves (Both t (Leaf x)) xs ∙ append_assoc (leaves t) (x ∷ []) xs
 

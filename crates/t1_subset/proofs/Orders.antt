@@ -15,7 +15,7 @@ use Rattle.t1_subset.proofs.JoinedStates.{subr_joined, name_joined, code_joined,
 
 -- ---- each leaf, and each of the list of leaves
 
-by_append : {X : Type 0} (P : X → Type 0) (xs ys : List X) → AllByRecursion P xs → AllByRecursion P ys → AllByRecursion P (xs ++ ys)
+pub by_append : {X : Type 0} (P : X → Type 0) (xs ys : List X) → AllByRecursion P xs → AllByRecursion P ys → AllByRecursion P (xs ++ ys)
 by_append P [] ys h k = k
 by_append P (x ∷ xs) ys h k = (h.0, by_append P xs ys h.1 k)
 
@@ -28,7 +28,7 @@ module _ {X : Type 0} (P : X → Type 0) where
   all_leaves (Leaf x) h = (h, tt)
   all_leaves (Both s t) h = by_append P (leaves s) (leaves t) (all_leaves s h.0) (all_leaves t h.1)
 
-  each_leaf : (t : Tree X) → AllByRecursion P (leaves t) → EachLeaf P t
+  pub each_leaf : (t : Tree X) → AllByRecursion P (leaves t) → EachLeaf P t
   each_leaf (Leaf x) h = h.0
   each_leaf (Both s t) h = let r = by_parts P (leaves s) (leaves t) h in (each_leaf s r.0, each_leaf t r.1)
 

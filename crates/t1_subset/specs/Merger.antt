@@ -12,7 +12,7 @@ use Rattle.t1_subset.specs.Profile.{profile}
 use Rattle.t1_subset.specs.Laws.{IsOf, DrawsAlike}
 use Rattle.t1_subset.specs.Conflicts.{conflict}
 use Rattle.t1_subset.specs.Refusals.{Tells}
-use Rattle.t1_subset.specs.Trees.{Leaf, left_tree, Merges, union_all}
+use Rattle.t1_subset.specs.Trees.{Tree, Leaf, leaves, left_tree, Merges, union_all}
 
 -- each glyph of either font does in j what it did
 abbrev pub DrawsBoth : FontValue → FontValue → FontValue → Type 0
@@ -32,6 +32,14 @@ pub record StopsAt (f : FontValue) (fs : List FontValue) (e : Refusal) : Type 0 
 abbrev pub ComesTo : List FontValue → FontValue → Type 0
 ComesTo [] j = ⊥
 ComesTo (f ∷ fs) j = Merges profile (left_tree (Leaf f) fs) j
+
+-- each grouping of the fonts, in their order, comes to a font
+abbrev pub EachGroupingMerges : List FontValue → Type 0
+EachGroupingMerges fs = (t : Tree FontValue) → leaves t ≡ fs → (j : FontValue) × Merges profile t j
+
+-- some grouping of the fonts, in their order, comes to j
+abbrev pub SomeGroupingMerges : List FontValue → FontValue → Type 0
+SomeGroupingMerges fs j = (t : Tree FontValue) × (leaves t ≡ fs) × Merges profile t j
 
 -- there are no fonts, or a growth was refused, or a font does not join those before it
 abbrev pub IsRefused : List FontValue → Refusal → Type 0

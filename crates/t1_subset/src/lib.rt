@@ -7,6 +7,7 @@ mod closures;
 mod conflict;
 mod entries;
 mod fault;
+mod groupings;
 mod lacking;
 pub mod laws;
 mod merger;

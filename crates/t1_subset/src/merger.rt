@@ -1,6 +1,9 @@
 //! The join of two fonts, or their lowest conflict.
 
-ghost use Rattle.std.specs.Prelude.{◌≡◌, ◌⊎◌, IfOk, IfErr, None, unwrap_or};
+ghost use Rattle.std.specs.Prelude.{◌≡◌, ◌<◌, ◌⊎◌, length, IfOk, IfErr, None, unwrap_or, map};
+ghost use Rattle.std.specs.List.{AllByRecursion};
+ghost use Rattle.t1_font.specs.IsFont.{IsFont};
+ghost use Rattle.t1_subset.specs.StateTables.{states_of};
 ghost use Rattle.t1_subset.specs.Profile.{profile};
 ghost use Rattle.t1_subset.specs.States.{Join, joined_font};
 ghost use Rattle.t1_subset.specs.Conflicts.{conflict, states_conflict};
@@ -11,12 +14,15 @@ ghost use Rattle.t1_subset.specs.Merger.{DrawsBoth, StopsAt, ComesTo, IsRefused,
 
 use crate::conflict::Conflict;
 use crate::entries::{code_conflict, glyph_conflict};
+use crate::groupings::{copied, made_of, states_of_all};
 use crate::lacking::{component_conflict, seeker};
 use crate::runs::{Runs, add_runs, runs_of};
 use crate::shells::shell_conflict;
+use crate::state_value::States;
 use crate::users::{subr_conflict, user};
 use std::alloc::Global;
 use t1_font::{Font, PartsFault, join_parts};
+use t1_join::join_all;
 
 /// The lowest conflict of two fonts' shells, codes and glyphs, or want of memory.
 fn entries_conflict(alloc: Global, left: &Font<'_>, right: &Font<'_>) -> Result<(), Conflict>
@@ -85,7 +91,11 @@ fn runs_conflict(
 }
 
 /// The font of the entries of two fonts whose states join, if it is within the limits.
-fn both<'a>(alloc: Global, left: &Font<'a>, right: &Font<'a>) -> Result<Font<'a>, Conflict>
+pub(crate) fn both<'a>(
+    alloc: Global,
+    left: &Font<'a>,
+    right: &Font<'a>,
+) -> Result<Font<'a>, Conflict>
     requires { states_conflict profile left.now right.now ≡ None }
     ensures ok { IfOk result (λ j. Join profile left.now right.now × (j ≡ joined_font profile left.now right.now)) }
     ensures err { IfErr result (λ e. Tells e (conflict profile left.now right.now)) }
@@ -140,15 +150,6 @@ fn merged<'a>(alloc: Global, left: &Font<'a>, right: &Font<'a>) -> Result<Font<'
     }
 }
 
-/// A copy of a font, which is its join with itself.
-fn copied<'a>(alloc: Global, font: &Font<'a>) -> Result<Font<'a>, Conflict>
-    ensures ok { IfOk result (λ j. j ≡ font.now) }
-    ensures err { IfErr result (λ e. e ≡ Conflict.Memory) }
-{
-    font.is_font();
-    merged(alloc, font, font)
-}
-
 /// The join so far, or the first font where nothing is joined yet.
 fn latest<'t, 'a>(all: &'t Option<Font<'a>>, first: &'t Font<'a>) -> &'t Font<'a>
     ensures { result.now ≡ unwrap_or all.now first.now }
@@ -182,7 +183,7 @@ fn joined_from<'a>(alloc: Global, first: &Font<'a>, rest: &[Font<'a>]) -> Result
 }
 
 /// The join of fonts from left to right.
-fn all_joined<'a>(alloc: Global, fonts: &[Font<'a>]) -> Result<Font<'a>, Conflict>
+fn joined_in_turn<'a>(alloc: Global, fonts: &[Font<'a>]) -> Result<Font<'a>, Conflict>
     ensures ok { IfOk result (λ j. ComesTo fonts.now j) }
     ensures err { IfErr result (λ e. IsRefused fonts.now e) }
 {
@@ -191,6 +192,25 @@ fn all_joined<'a>(alloc: Global, fonts: &[Font<'a>]) -> Result<Font<'a>, Conflic
     }
     let first = &fonts[0];
     joined_from(alloc, first, &fonts[1..])
+}
+
+/// The join of fonts, one or more.
+fn all_joined<'a>(
+    alloc: Global,
+    fonts: &[Font<'a>],
+    all_states: &[States<'_, '_>],
+) -> Result<Font<'a>, Conflict>
+    requires some { 0 < length fonts.now }
+    requires states { all_states.now ≡ map (states_of profile) fonts.now }
+    requires fonts { AllByRecursion IsFont fonts.now }
+    ensures ok { IfOk result (λ j. ComesTo fonts.now j) }
+    ensures err { IfErr result (λ e. IsRefused fonts.now e) }
+{
+    match join_all(alloc, all_states) {
+        Err(_) => Err(Conflict::Memory),
+        Ok(Some(_)) => made_of(alloc, fonts),
+        Ok(None) => joined_in_turn(alloc, fonts),
+    }
 }
 
 /// The font that two fonts make together: the shell of both, the codes and glyphs of either, and for each Subr
@@ -222,5 +242,11 @@ pub fn merge_all<'a>(alloc: Global, fonts: &[Font<'a>]) -> Result<Font<'a>, Conf
     ensures err { IfErr result (λ e. IsRefused fonts.now e) }
     ensures subsets { MergesAllSubsets fonts.now result }
 {
-    all_joined(alloc, fonts)
+    if fonts.is_empty() {
+        return Err(Conflict::Empty);
+    }
+    match states_of_all(alloc, fonts) {
+        Ok(all_states) => all_joined(alloc, fonts, all_states.as_slice()),
+        Err(_) => Err(Conflict::Memory),
+    }
 }

@@ -103,9 +103,9 @@ fn same_shared(own: &Font<'_>, other: &Font<'_>) -> bool
     shell_conflict(own, other).is_none()
 }
 
-impl<'a> States<'a> {
+impl<'t, 'a> States<'t, 'a> {
     /// What a font of the joined states weighs, as far as 64 bits hold it.
-    fn joint_weight(&self, other: &States<'a>) -> u64
+    fn joint_weight(&self, other: &States<'t, 'a>) -> u64
         ensures { result ≡ clamp (joint_weight self.now other.now) }
     {
         let with_subrs = with_subrs(self.weight, &self.subrs, &other.subrs);
@@ -113,35 +113,35 @@ impl<'a> States<'a> {
     }
 
     /// How many glyphs a font of the joined states has, as far as 64 bits hold it.
-    fn joint_glyphs(&self, other: &States<'a>) -> u64
+    fn joint_glyphs(&self, other: &States<'t, 'a>) -> u64
         ensures { result ≡ clamp (joint_glyphs self.now other.now) }
     {
         with_glyphs(self.glyphs, &self.names, &other.names)
     }
 
     /// Whether the joined states are within the limits.
-    fn fits_with(&self, other: &States<'a>) -> bool
+    fn fits_with(&self, other: &States<'t, 'a>) -> bool
         ensures { IsTrue result ↔ ((joint_weight self.now other.now ≤ weight_limit) × (joint_glyphs self.now other.now ≤ count_limit)) }
     {
         self.joint_weight(other) <= WEIGHT_LIMIT && self.joint_glyphs(other) <= COUNT_LIMIT
     }
 
     /// Whether the states of names and of Subrs join.
-    fn names_and_subrs_agree(&self, other: &States<'a>) -> bool
+    fn names_and_subrs_agree(&self, other: &States<'t, 'a>) -> bool
         ensures { IsTrue result ↔ (TablesAgree (name_part self.now) (name_part other.now) × TablesAgree (subr_part self.now) (subr_part other.now)) }
     {
         self.names.agrees(&other.names) && self.subrs.agrees(&other.subrs)
     }
 
     /// Whether the states of codes, of names and of Subrs join.
-    fn tables_agree(&self, other: &States<'a>) -> bool
+    fn tables_agree(&self, other: &States<'t, 'a>) -> bool
         ensures { IsTrue result ↔ (TablesAgree (code_part self.now) (code_part other.now) × (TablesAgree (name_part self.now) (name_part other.now) × TablesAgree (subr_part self.now) (subr_part other.now))) }
     {
         self.codes.agrees(&other.codes) && self.names_and_subrs_agree(other)
     }
 
     /// Whether all is the same that has to be, and all states join.
-    fn parts_agree(&self, other: &States<'a>) -> bool
+    fn parts_agree(&self, other: &States<'t, 'a>) -> bool
         ensures { IsTrue result ↔ PartsAgree self.now other.now }
     {
         same_shared(self.shell, other.shell) && self.tables_agree(other)
@@ -155,7 +155,7 @@ impl<'a> States<'a> {
     }
 }
 
-impl<'a> Join for States<'a> {
+impl<'t, 'a> Join for States<'t, 'a> {
     ghost use Rattle.t1_subset.specs.StateTables.{StatesValue, StatesAgree, StatesJoin};
     ghost use Rattle.t1_subset.specs.StateLaws.{states_laws};
 
@@ -169,12 +169,12 @@ impl<'a> Join for States<'a> {
 
     ghost laws = { states_laws };
 
-    fn agrees(&self, other: &States<'a>) -> bool {
+    fn agrees(&self, other: &States<'t, 'a>) -> bool {
         self.fits();
         self.parts_agree(other) && self.fits_with(other)
     }
 
-    fn join(&self, alloc: Global, other: &States<'a>) -> Result<States<'a>, AllocError> {
+    fn join(&self, alloc: Global, other: &States<'t, 'a>) -> Result<States<'t, 'a>, AllocError> {
         Ok(States {
             shell: self.shell,
             codes: self.codes.join(alloc, &other.codes)?,

@@ -62,7 +62,7 @@ fn glyph_count(font: &Font<'_>) -> u64
 }
 
 /// The states of a font. Each of its glyphs is run once.
-pub fn states<'a>(alloc: Global, font: &'a Font<'a>) -> Result<States<'a>, AllocError>
+pub fn states<'t, 'a>(alloc: Global, font: &'t Font<'a>) -> Result<States<'t, 'a>, AllocError>
     ensures { IfOk result (λ s. s ≡ states_of profile font.now) }
 {
     font.is_font();

@@ -11,17 +11,17 @@ use t1_join::Table;
 /// names it as a component and the font lacks it; a Subr's its entry, but for a `return` that no glyph of the font executes
 /// (Adobe Type 1 Font Format 1.1, chapters 2, 6 and 8). All else is nothing, and joins with all.
 #[derive(Drop)]
-pub struct States<'a> {
+pub struct States<'t, 'a> {
     /// A font of what is shared.
-    pub(crate) shell: &'a Font<'a>,
-    pub(crate) codes: Table<u16, &'a [u8]>,
-    pub(crate) names: NameTable<'a>,
-    pub(crate) subrs: Table<u16, &'a [u8]>,
+    pub(crate) shell: &'t Font<'a>,
+    pub(crate) codes: Table<u16, &'t [u8]>,
+    pub(crate) names: NameTable<'t>,
+    pub(crate) subrs: Table<u16, &'t [u8]>,
     pub(crate) weight: u64,
     pub(crate) glyphs: u64,
 }
 
-impl<'a> Model for States<'a> {
+impl<'t, 'a> Model for States<'t, 'a> {
     ghost use Rattle.t1_subset.specs.StateTables.{StatesValue, states_code, shared_of, IsSized};
 
     ghost Value = { StatesValue };

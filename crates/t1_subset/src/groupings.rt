@@ -1,0 +1,56 @@
+//! The join of many fonts at once: their states are joined first, and then the font is made in a balanced grouping.
+
+ghost use Rattle.std.specs.Prelude.{◌≡◌, ◌<◌, IfOk, IfErr, map, length};
+ghost use Rattle.std.specs.List.{AllByRecursion};
+ghost use Rattle.t1_font.specs.IsFont.{IsFont};
+ghost use Rattle.t1_subset.specs.Profile.{profile};
+ghost use Rattle.t1_subset.specs.StateTables.{states_of};
+ghost use Rattle.t1_subset.specs.Merger.{EachGroupingMerges, SomeGroupingMerges};
+
+use crate::conflict::Conflict;
+use crate::merger::both;
+use crate::state_making::states;
+use crate::state_value::States;
+use std::alloc::{AllocError, Global};
+use t1_font::Font;
+
+/// The states of each of the fonts.
+pub(crate) fn states_of_all<'t, 'a>(
+    alloc: Global,
+    fonts: &'t [Font<'a>],
+) -> Result<Vec<States<'t, 'a>>, AllocError>
+    ensures states { IfOk result (λ all. all.items ≡ map (states_of profile) fonts.now) }
+    ensures fonts { IfOk result (λ _. AllByRecursion IsFont fonts.now) }
+{
+    let mut all = Vec::with_capacity(alloc, fonts.len())?;
+    'fonts: for font in fonts {
+        font.is_font();
+        all.push(states(alloc, font)?)?;
+    }
+    Ok(all)
+}
+
+/// A copy of a font, which is its join with itself.
+pub(crate) fn copied<'a>(alloc: Global, font: &Font<'a>) -> Result<Font<'a>, Conflict>
+    ensures ok { IfOk result (λ j. j ≡ font.now) }
+    ensures err { IfErr result (λ e. e ≡ Conflict.Memory) }
+{
+    font.is_font();
+    both(alloc, font, font)
+}
+
+/// The font that fonts make together which are known to merge, in a balanced grouping.
+pub(crate) fn made_of<'a>(alloc: Global, fonts: &[Font<'a>]) -> Result<Font<'a>, Conflict>
+    requires some { 0 < length fonts.now }
+    requires merges { EachGroupingMerges fonts.now }
+    ensures ok { IfOk result (λ j. SomeGroupingMerges fonts.now j) }
+    ensures err { IfErr result (λ e. e ≡ Conflict.Memory) }
+{
+    if fonts.len() == 1 {
+        return copied(alloc, &fonts[0]);
+    }
+    let (front, back) = fonts.split_at(fonts.len() / 2);
+    let front = made_of(alloc, front)?;
+    let back = made_of(alloc, back)?;
+    both(alloc, &front, &back)
+}
