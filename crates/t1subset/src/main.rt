@@ -2,6 +2,7 @@
 #![tactic(auto)]
 
 mod commands;
+mod output;
 mod perform;
 
 use std::io::Write;

@@ -1,5 +1,6 @@
 //! Performs what the words ask for.
 use crate::commands::parse;
+use crate::output::save;
 use clap::{ArgMatches, Error};
 use std::alloc::{AllocError, Global};
 use std::io::{ErrorKind, Write};
@@ -94,12 +95,6 @@ fn show<R: Files, O: Write + Drop>(
     print(out, text.as_slice())
 }
 
-/// Writes a result to a file, which is opened only now.
-fn save<R: Files>(rt: &R, path: &str, text: &[u8]) -> Result<(), RunFault> {
-    let out = fs::create(rt, path).map_err(|_| RunFault::Write)?;
-    write_text(&mut Counted::new(out), text)
-}
-
 fn convert<R: Files>(
     rt: &R,
     alloc: Global,
@@ -109,7 +104,12 @@ fn convert<R: Files>(
     let mut input = font(rt, given)?;
     let mut text = Vec::new(alloc);
     run_convert(alloc, &mut input, form, &mut Counted::new(&mut text))?;
-    save(rt, given.get_str("OUT").unwrap_or(""), text.as_slice())
+    save(
+        rt,
+        alloc,
+        given.get_str("OUT").unwrap_or(""),
+        text.as_slice(),
+    )
 }
 
 /// The names that the words give, as bytes.
@@ -132,7 +132,12 @@ fn subset<R: Files>(rt: &R, alloc: Global, given: &ArgMatches<'_>) -> Result<(),
         Form::Pfa,
         &mut Counted::new(&mut text),
     )?;
-    save(rt, given.get_str("OUT").unwrap_or(""), text.as_slice())
+    save(
+        rt,
+        alloc,
+        given.get_str("OUT").unwrap_or(""),
+        text.as_slice(),
+    )
 }
 
 /// The fonts that the words name, all of them opened.
@@ -160,7 +165,12 @@ fn merge<R: Files>(rt: &R, alloc: Global, given: &ArgMatches<'_>) -> Result<(), 
         Form::Pfa,
         &mut Counted::new(&mut text),
     )?;
-    save(rt, given.get_str("OUT").unwrap_or(""), text.as_slice())
+    save(
+        rt,
+        alloc,
+        given.get_str("OUT").unwrap_or(""),
+        text.as_slice(),
+    )
 }
 
 fn perform<R: Files, O: Write + Drop>(

@@ -1,0 +1,60 @@
+#!/usr/bin/env python3
+"""Looks that each test and each wrong body that docs/VECTORS.md names is there, and that each row names a test."""
+import os
+import re
+import sys
+
+TOP = os.path.join(os.path.dirname(os.path.abspath(__file__)), "..")
+TEST = re.compile(r"`(\w+)/([\w/]+\.rt)::(\w+)`")
+BODY = re.compile(r"`(\w+)/(\w+)`")
+
+
+def has_test(crate, path, name):
+    try:
+        with open(os.path.join(TOP, "crates", crate, "src", path), encoding="utf-8") as f:
+            return re.search(rf"#\[test\]\nfn {name}\(", f.read()) is not None
+    except OSError:
+        return False
+
+
+def has_body(crate, name):
+    places = (f"crates/{crate}/must-fail", f"tools/wrong-bodies/{crate}")
+    return any(os.path.isfile(os.path.join(TOP, place, name + ".edit")) for place in places)
+
+
+def rows():
+    """The rows of the tables, each with its number as a line."""
+    with open(os.path.join(TOP, "docs/VECTORS.md"), encoding="utf-8") as f:
+        for number, line in enumerate(f, 1):
+            # An escaped bar stands inside a cell.
+            cells = re.split(r"(?<!\\)\|", line.strip())
+            if line.startswith("| ") and cells[1].strip() != "Row":
+                yield number, [cell.strip() for cell in cells[1:-1]]
+
+
+def faults():
+    count = 0
+    for number, cells in rows():
+        if len(cells) != 3 or not TEST.search(cells[1]):
+            yield f"line {number}: no row with a test"
+            continue
+        count += 1
+        for crate, path, name in TEST.findall(cells[1]):
+            if not has_test(crate, path, name):
+                yield f"line {number}: no test {crate}/{path}::{name}"
+        for crate, name in BODY.findall(cells[2]):
+            if not has_body(crate, name):
+                yield f"line {number}: no wrong body {crate}/{name}"
+    if count == 0:
+        yield "no rows"
+    print(f"vectors: {count} rows", file=sys.stderr)
+
+
+def main():
+    wrong = list(faults())
+    for fault in wrong:
+        print(f"docs/VECTORS.md, {fault}", file=sys.stderr)
+    return 1 if wrong else 0
+
+
+sys.exit(main())
