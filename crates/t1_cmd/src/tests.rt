@@ -2,6 +2,7 @@ mod changed;
 mod counts;
 mod drawings;
 mod engines;
+mod failing_merges;
 mod merges;
 mod subsets;
 mod tiny;

@@ -22,7 +22,7 @@ enum Before {
 }
 
 /// What stands under OUT's name.
-fn before<R: Files>(rt: &R, path: &str) -> Before {
+fn what_stands<R: Files>(rt: &R, path: &str) -> Before {
     let found = match fs::symlink_metadata(rt, path) {
         Ok(found) => found,
         Err(error) if error.kind() == ErrorKind::NotFound => return Before::Nothing,
@@ -68,7 +68,7 @@ fn can_replace<F: OpenFile>(new: &F, old: &Metadata) -> bool {
 
 /// A new file that can come to OUT's name once it is whole, and its path.
 fn replacement<R: Files>(rt: &R, alloc: Global, path: &str) -> Option<(String, R::File)> {
-    let before = before(rt, path);
+    let before = what_stands(rt, path);
     if matches!(before, Before::Other) {
         return None;
     }

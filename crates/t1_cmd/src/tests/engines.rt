@@ -191,11 +191,12 @@ fn each_read_fails(rt: HostRuntime) {
     }
 }
 
-const ENGINES: [Engine; 4] = [
+const ENGINES: [Engine; 5] = [
     Engine::Check,
     Engine::List,
     Engine::Show(b"Aacute"),
     Engine::Convert(Form::Pfb),
+    Engine::Subset(&[b"X"], Form::Pfa),
 ];
 
 /// How an engine ends over a writer of a plan, as a word, how many calls of that writer failed, and whether a prefix of the
@@ -215,20 +216,33 @@ fn written_by(
     (word, failed, whole.starts_with(text.as_slice()))
 }
 
+/// A writer that takes no byte.
+const NOTHING: Plan = Plan { most: 0, ..FINE };
+
+/// A writer whose third call is interrupted.
+const INTERRUPTED: Plan = Plan {
+    most: 9,
+    fails: 3,
+    kind: ErrorKind::Interrupted,
+};
+
 #[test]
 fn each_write_fails(rt: HostRuntime) {
     for engine in ENGINES {
         let whole = answer(rt.alloc(), engine, PFA);
-        for (most, fails, kind) in [
-            (7usize, 1u64, ErrorKind::Other),
-            (7, 4, ErrorKind::Other),
-            (9, 3, ErrorKind::Interrupted),
-            (0, 0, ErrorKind::Other),
-        ] {
-            let plan = Plan { most, fails, kind };
+        let last = whole.len() as u64;
+        let one = Plan { most: 1, ..FINE };
+        for fails in 0..last.saturating_add(2) {
+            let plan = Plan { fails, ..one };
+            let ends_well = fails == 0 || fails > last;
+            let want = if ends_well { ("ok", 0) } else { ("write", 1) };
             let (got, failed, begins) = written_by(rt.alloc(), engine, plan, whole.as_slice());
-            assert_eq!(rt; got, "write", "{most} bytes a call, call {fails}");
-            assert_eq!(rt; failed, 1, "the first failed call is the last");
+            assert_eq!(rt; (got, failed), want, "call {fails}");
+            assert!(rt; begins, "a prefix is out");
+        }
+        for plan in [NOTHING, INTERRUPTED] {
+            let (got, failed, begins) = written_by(rt.alloc(), engine, plan, whole.as_slice());
+            assert_eq!(rt; (got, failed), ("write", 1));
             assert!(rt; begins, "a prefix is out");
         }
     }
