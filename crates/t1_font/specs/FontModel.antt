@@ -6,7 +6,7 @@ use Rattle.std.specs.Coded.{Coded, code_by, coded×, coded⊎, coded_ℕ, coded_
 use Rattle.std.specs.FinMap.{get, entries}
 use Rattle.std.specs.Option.{option_map}
 use Rattle.t1_font.specs.declared.shell.KeptSubrs.{KeptSubrs}
-use Rattle.t1_font.specs.declared.shell.KeptShell.{KeptShell}
+use Rattle.t1_font.specs.declared.shell.Shell.TheInside as shells
 use Rattle.t1_font.specs.declared.font.LentEncoding.{LentEncoding}
 use Rattle.t1_font.specs.declared.font.LentEncoding.TheVariants as lent
 use Rattle.t1_font.specs.declared.font.Part.{Part}
@@ -19,7 +19,7 @@ use Rattle.t1_font.specs.Lent.{bytes_code, numbered_code, named_code}
 abbrev pub subrs_view : KeptSubrs → SubrsShell
 subrs_view s = record { declared = s.declared; rd = s.rd.items; put = s.put.items; closing = s.closing.items }
 
-abbrev pub shell_view : KeptShell → Shell
+abbrev pub shell_view : shells.Inside → Shell
 shell_view s = record { head = s.head.items; clear_tail = s.clear_tail.items; private = s.private.items; middle = s.middle.items; tail = s.tail.items; len_iv = s.len_iv; subrs = option_map subrs_view s.subrs; glyphs_rd = s.glyphs_rd.items; glyphs_def = s.glyphs_def.items }
 
 abbrev pub encoding_of : LentEncoding → Encoding

@@ -7,7 +7,6 @@ use Rattle.t1_font.specs.declared.ranges.Range.{Range}
 use Rattle.t1_font.specs.declared.source.KeptEncoding.{KeptEncoding}
 use Rattle.t1_font.specs.declared.source.KeptEncoding.TheVariants as kept
 use Rattle.t1_font.specs.declared.source.SourceParts.TheInside.{Inside}
-use Rattle.t1_font.specs.FontModel.{shell_view}
 use Rattle.t1_font.specs.FontValue.{FontValue, Encoding, Word, Codes, name_cmp}
 use Rattle.t1_font.specs.Ranges.{AllInside, NamesInside, numbered_at, named_at}
 
@@ -23,7 +22,7 @@ codes_of (kept.Codes names) = names.items
 -- the font of the bytes in the ranges
 abbrev pub source_value : Inside → FontValue
 source_value s = record {
-  shell = shell_view s.shell;
+  shell = s.shell;
   encoding = kept_encoding s.buffer.items s.encoding;
   subrs = from_sorted (map (numbered_at s.buffer.items) s.subrs.items);
   glyphs = from_sorted (map (named_at s.buffer.items) s.glyphs.items);

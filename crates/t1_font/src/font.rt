@@ -4,11 +4,11 @@ ghost use Rattle.std.specs.Prelude.{◌≡◌, is_some};
 ghost use Rattle.std.specs.Option.{option_map};
 ghost use Rattle.std.specs.FinMap as fin;
 ghost use Rattle.t1_font.specs.FontValue.{weight};
-ghost use Rattle.t1_font.specs.FontModel.{clamp, part_of, word_of, name_at, names_in};
+ghost use Rattle.t1_font.specs.FontModel.{clamp, part_of, word_of, name_at, names_in, subr_at};
 ghost use Rattle.t1_font.specs.IsFont.{IsFont};
 
 use crate::lent::{Named, NamedEntries, Numbered};
-use crate::shell::KeptShell;
+use crate::shell::Shell;
 use std::marker::Model;
 use t1_run::{Glyphs, Subroutines};
 
@@ -22,7 +22,7 @@ pub(crate) enum LentEncoding<'a> {
 /// The parts of a font, which together need not be one.
 #[derive(Drop)]
 pub(crate) struct FontParts<'a> {
-    pub(crate) shell: &'a KeptShell,
+    pub(crate) shell: &'a Shell,
     pub(crate) encoding: LentEncoding<'a>,
     pub(crate) subrs: Numbered<'a>,
     pub(crate) glyphs: Named<'a>,
@@ -30,13 +30,13 @@ pub(crate) struct FontParts<'a> {
 
 impl<'a> Model for FontParts<'a> {
     ghost use Rattle.t1_font.specs.FontValue.{FontValue};
-    ghost use Rattle.t1_font.specs.FontModel.{font_code, shell_view, encoding_of};
+    ghost use Rattle.t1_font.specs.FontModel.{font_code, encoding_of};
 
     ghost Value = { FontValue };
 
     ghost coded = { font_code };
 
-    ghost view = { λ p. record { shell = shell_view p.shell.now; encoding = encoding_of p.encoding; subrs = p.subrs; glyphs = p.glyphs } };
+    ghost view = { λ p. record { shell = p.shell.now; encoding = encoding_of p.encoding; subrs = p.subrs; glyphs = p.glyphs } };
 }
 
 /// A Type 1 font program (Adobe Type 1 Font Format 1.1, chapter 2): its kept texts, its Encoding, its
@@ -127,37 +127,32 @@ impl<'a> Font<'a> {
         }
     }
 
+    /// The shell, which fonts of one source share. It lives as long as the source.
+    pub fn shell(&self) -> &'a Shell
+        ensures { result.now ≡ self.now.shell }
+    {
+        self.parts.shell
+    }
+
     /// A kept text, or kept words; a word that isn't kept is empty.
     pub fn text(&self, part: Part) -> &'a [u8]
         ensures { result.now ≡ part_of part self.now.shell }
     {
-        let shell = self.parts.shell;
-        match part {
-            Part::Head => shell.head.as_slice(),
-            Part::ClearTail => shell.clear_tail.as_slice(),
-            Part::Private => shell.private.as_slice(),
-            Part::Middle => shell.middle.as_slice(),
-            Part::Tail => shell.tail.as_slice(),
-            Part::SubrsRd => shell.subrs_rd(),
-            Part::SubrsPut => shell.subrs_put(),
-            Part::SubrsDef => shell.subrs_def(),
-            Part::GlyphsRd => shell.glyphs_rd.as_slice(),
-            Part::GlyphsDef => shell.glyphs_def.as_slice(),
-        }
+        self.shell().text(part)
     }
 
     /// Whether the font has a table of Subrs.
     pub fn has_subrs(&self) -> bool
         ensures { result ≡ is_some self.now.shell.subrs }
     {
-        self.parts.shell.subrs.is_some()
+        self.shell().has_subrs()
     }
 
     /// How many lead bytes a charstring has in a file.
     pub fn len_iv(&self) -> u8
         ensures { result ≡ self.now.shell.len_iv }
     {
-        self.parts.shell.len_iv
+        self.shell().len_iv()
     }
 
     /// The weight by which a font is limited: the bytes of the five kept texts, and for each
@@ -172,7 +167,23 @@ impl<'a> Font<'a> {
     pub fn present(&self, index: u16) -> bool
         ensures { result ≡ fin.contains_key self.now.subrs index }
     {
-        self.parts.subr(index).is_some()
+        self.subr(index).is_some()
+    }
+
+    /// The plain charstring of a Subr, where it has an entry. It is lent for as long as the font's source lives.
+    pub fn subr(&self, index: u16) -> Option<&'a [u8]>
+        ensures entry { option_map (λ b. b.now) result ≡ fin.get self.now.subrs index }
+        ensures shown { option_map (λ b. b.now) result ≡ subr_at self.now index }
+    {
+        self.parts.subr(index)
+    }
+
+    /// The plain charstring of a glyph, where the font has it. The name is without its `/`. It is lent for as long as the
+    /// font's source lives.
+    pub fn charstring(&self, name: &[u8]) -> Option<&'a [u8]>
+        ensures { option_map (λ b. b.now) result ≡ fin.get self.now.glyphs name.now }
+    {
+        self.parts.glyphs.get(name)
     }
 }
 
@@ -189,8 +200,9 @@ impl<'a> FontParts<'a> {
         ensures { result ≡ clamp (weight self.now) }
     {
         let texts = self.shell.texts_weight();
-        let with_subrs = self.subrs.weight(texts, self.shell.len_iv);
-        self.glyphs.weight(with_subrs, self.shell.len_iv)
+        let len_iv = self.shell.len_iv();
+        let with_subrs = self.subrs.weight(texts, len_iv);
+        self.glyphs.weight(with_subrs, len_iv)
     }
 }
 
@@ -236,14 +248,11 @@ impl<'a> Subroutines for Font<'a> {
     ghost below = { subrs_below };
 
     fn count(&self) -> u16 {
-        match &self.parts.shell.subrs {
-            Some(kept) => kept.declared,
-            None => 0,
-        }
+        self.shell().declared_count()
     }
 
     fn get(&self, i: u16) -> Option<&[u8]> {
-        self.parts.subr(i)
+        self.subr(i)
     }
 }
 
@@ -253,6 +262,6 @@ impl<'a> Glyphs for Font<'a> {
     ghost glyphs = { λ f. fin.get f.glyphs };
 
     fn glyph(&self, name: &[u8]) -> Option<&[u8]> {
-        self.parts.glyphs.get(name)
+        self.charstring(name)
     }
 }

@@ -36,6 +36,7 @@ pub use fault::ReadFault;
 pub use file::read;
 pub use font::{Font, Names, Part};
 pub use parts::{PartsFault, join_parts};
+pub use shell::Shell;
 pub use source::Source;
 pub use t1_bytes::Form;
 pub use t1_run::{Curve, DrawFault, Drawing, DrawnPart, Fault, Mark, Point, draw};

@@ -1,9 +1,9 @@
 //! The shell of a font: its kept texts, and the words of its tables.
 
-ghost use Rattle.std.specs.Prelude.{◌≡◌, ◌≤◌, [], Option, unwrap_or, IfOk};
+ghost use Rattle.std.specs.Prelude.{◌≡◌, ◌≤◌, [], Option, is_some, unwrap_or, IfOk};
 ghost use Rattle.std.specs.Option.{option_map};
-ghost use Rattle.t1_font.specs.FontValue.{count_limit, texts_weight};
-ghost use Rattle.t1_font.specs.FontModel.{clamp, subrs_view, shell_view, of_subrs};
+ghost use Rattle.t1_font.specs.FontValue.{count_limit, declared_count, texts_weight};
+ghost use Rattle.t1_font.specs.FontModel.{clamp, part_of, subrs_view, of_subrs};
 ghost use Rattle.t1_font.specs.Gathering.{Entries};
 ghost use Rattle.t1_font.specs.Views.{words_view};
 ghost use Rattle.t1_font.specs.Pieces.{ClearPieces, SubrsPieces, PrivatePieces};
@@ -11,10 +11,12 @@ ghost use Rattle.t1_font.specs.ReadFont.{subrs_shell, shell_of};
 ghost use Rattle.t1_font.specs.Answers.{ShowsClear, ShowsTable, ShowsSubrs, ShowsPrivate, declared_in};
 
 use crate::encoding::ClearParts;
+use crate::font::Part;
 use crate::private::PrivateParts;
 use crate::subrs::SubrsParts;
 use crate::words::Words;
 use std::alloc::{AllocError, Global};
+use std::marker::Model;
 
 /// What is kept of a table of Subrs beside its Subrs.
 #[derive(Drop)]
@@ -25,9 +27,10 @@ pub(crate) struct KeptSubrs {
     pub(crate) closing: Vec<u8>,
 }
 
-/// What two fonts have to share, beside the indices that are present.
+/// The shell of a font (Adobe Type 1 Font Format 1.1, chapter 2): its kept texts, the kept words of its tables, lenIV and
+/// the declared count of Subrs. Fonts that are merged have to share it.
 #[derive(Drop)]
-pub(crate) struct KeptShell {
+pub struct Shell {
     pub(crate) head: Vec<u8>,
     pub(crate) clear_tail: Vec<u8>,
     pub(crate) private: Vec<u8>,
@@ -39,10 +42,63 @@ pub(crate) struct KeptShell {
     pub(crate) glyphs_def: Vec<u8>,
 }
 
-impl KeptShell {
+impl Model for Shell {
+    ghost use Rattle.t1_font.specs.FontValue.{Shell as ShellValue};
+    ghost use Rattle.t1_font.specs.FontModel.{shell_code, shell_view};
+
+    ghost Value = { ShellValue };
+
+    ghost coded = { shell_code };
+
+    ghost view = { shell_view };
+}
+
+impl Shell {
+    /// A kept text, or kept words; a word that isn't kept is empty.
+    pub fn text(&self, part: Part) -> &[u8]
+        ensures { result.now ≡ part_of part self.now }
+    {
+        match part {
+            Part::Head => self.head.as_slice(),
+            Part::ClearTail => self.clear_tail.as_slice(),
+            Part::Private => self.private.as_slice(),
+            Part::Middle => self.middle.as_slice(),
+            Part::Tail => self.tail.as_slice(),
+            Part::SubrsRd => self.subrs_rd(),
+            Part::SubrsPut => self.subrs_put(),
+            Part::SubrsDef => self.subrs_def(),
+            Part::GlyphsRd => self.glyphs_rd.as_slice(),
+            Part::GlyphsDef => self.glyphs_def.as_slice(),
+        }
+    }
+
+    /// Whether there is a table of Subrs.
+    pub fn has_subrs(&self) -> bool
+        ensures { result ≡ is_some self.now.subrs }
+    {
+        self.subrs.is_some()
+    }
+
+    /// How many Subrs are declared, 0 where there is no table of them.
+    pub fn declared_count(&self) -> u16
+        ensures { result ≡ declared_count self.now.subrs }
+    {
+        match &self.subrs {
+            Some(kept) => kept.declared,
+            None => 0,
+        }
+    }
+
+    /// How many lead bytes a charstring has in a file.
+    pub fn len_iv(&self) -> u8
+        ensures { result ≡ self.now.len_iv }
+    {
+        self.len_iv
+    }
+
     /// How many bytes the five kept texts have, as far as 64 bits hold it.
     pub(crate) fn texts_weight(&self) -> u64
-        ensures { result ≡ clamp (texts_weight (shell_view self.now)) }
+        ensures { result ≡ clamp (texts_weight self.now) }
     {
         (self.head.len() as u64)
             .saturating_add(self.clear_tail.len() as u64)
@@ -52,8 +108,8 @@ impl KeptShell {
     }
 
     /// The word before the bytes of each Subr.
-    pub(crate) fn subrs_rd(&self) -> &[u8]
-        ensures { result.now ≡ of_subrs (λ s. s.rd) (shell_view self.now).subrs }
+    fn subrs_rd(&self) -> &[u8]
+        ensures { result.now ≡ of_subrs (λ s. s.rd) self.now.subrs }
     {
         match &self.subrs {
             Some(kept) => kept.rd.as_slice(),
@@ -62,8 +118,8 @@ impl KeptShell {
     }
 
     /// The phrase after the bytes of each Subr.
-    pub(crate) fn subrs_put(&self) -> &[u8]
-        ensures { result.now ≡ of_subrs (λ s. s.put) (shell_view self.now).subrs }
+    fn subrs_put(&self) -> &[u8]
+        ensures { result.now ≡ of_subrs (λ s. s.put) self.now.subrs }
     {
         match &self.subrs {
             Some(kept) => kept.put.as_slice(),
@@ -72,8 +128,8 @@ impl KeptShell {
     }
 
     /// The phrase that closes the table of Subrs.
-    pub(crate) fn subrs_def(&self) -> &[u8]
-        ensures { result.now ≡ of_subrs (λ s. s.closing) (shell_view self.now).subrs }
+    fn subrs_def(&self) -> &[u8]
+        ensures { result.now ≡ of_subrs (λ s. s.closing) self.now.subrs }
     {
         match &self.subrs {
             Some(kept) => kept.closing.as_slice(),
@@ -122,12 +178,12 @@ pub(crate) fn kept_shell(
     alloc: Global,
     outside: &ClearParts<'_>,
     inside: PrivateParts,
-) -> Result<KeptShell, AllocError>
+) -> Result<Shell, AllocError>
     requires { declared_in inside.subrs ≤ count_limit }
-    ensures { IfOk result (λ s. (c : ClearPieces) (p : PrivatePieces) (g : Entries) → ShowsClear outside.now g.codes c → ShowsPrivate inside g p → shell_view s ≡ shell_of c p) }
+    ensures { IfOk result (λ s. (c : ClearPieces) (p : PrivatePieces) (g : Entries) → ShowsClear outside.now g.codes c → ShowsPrivate inside g p → s ≡ shell_of c p) }
 {
     let (glyphs_rd, glyphs_def) = kept_words(alloc, inside.glyphs.words);
-    Ok(KeptShell {
+    Ok(Shell {
         head: Vec::from_slice(alloc, outside.head)?,
         clear_tail: Vec::from_slice(alloc, outside.clear_tail)?,
         private: inside.private,

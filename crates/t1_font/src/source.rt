@@ -15,7 +15,7 @@ use crate::glyphs::is_notdef;
 use crate::lent::{Named, Numbered};
 use crate::ranges::Range;
 use crate::repeats::last_entries;
-use crate::shell::KeptShell;
+use crate::shell::Shell;
 use std::alloc::{AllocError, Global};
 use std::marker::Model;
 
@@ -29,7 +29,7 @@ pub(crate) enum KeptEncoding {
 /// The parts of a font that owns them, which together need not be one. Names and charstrings are ranges of the buffer.
 #[derive(Drop)]
 pub(crate) struct SourceParts {
-    pub(crate) shell: KeptShell,
+    pub(crate) shell: Shell,
     pub(crate) encoding: KeptEncoding,
     pub(crate) buffer: Vec<u8>,
     pub(crate) subrs: Vec<(u16, Range)>,

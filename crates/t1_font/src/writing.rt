@@ -8,7 +8,7 @@ ghost use Rattle.t1_bytes.specs.Cipher.{private_cipher};
 ghost use Rattle.t1_bytes.specs.Texts.{file_text};
 ghost use Rattle.t1_bytes.specs.declared.form.Form.TheVariants.{Pfa, Pfb};
 ghost use Rattle.t1_font.specs.FontValue.{file_limit};
-ghost use Rattle.t1_font.specs.FontModel.{subrs_view, shell_view, encoding_of};
+ghost use Rattle.t1_font.specs.FontModel.{subrs_view, encoding_of};
 ghost use Rattle.t1_font.specs.ReadFont.{read_font};
 ghost use Rattle.t1_font.specs.Writing.{subr_text, glyph_text, subrs_part, glyphs_part, puts_text, encoding_text};
 ghost use Rattle.t1_font.specs.Canon.{sealed_body, subr_entry, glyph_entry, subrs_pieces, encoding_pieces, canon_clear, canon_private, canon};
@@ -16,7 +16,7 @@ ghost use Rattle.t1_font.specs.WriteLaws.{Fits};
 
 use crate::font::{Font, FontParts, LentEncoding};
 use crate::lent::{Named, Numbered};
-use crate::shell::{KeptShell, KeptSubrs};
+use crate::shell::{KeptSubrs, Shell};
 use itoa::Buffer;
 use std::alloc::{AllocError, Global};
 use t1_bytes::{
@@ -109,8 +109,8 @@ fn put_subrs(
 }
 
 /// Writes the table of Subrs where there is one.
-fn put_table(out: &mut Vec<u8>, shell: &KeptShell, subrs: &Numbered<'_>) -> Result<(), AllocError>
-    ensures { OnOk result (out.new.items ≡ out.old.items ++ subrs_part (option_map (subrs_pieces shell.now.len_iv (fin.entries subrs.now)) (shell_view shell.now).subrs)) }
+fn put_table(out: &mut Vec<u8>, shell: &Shell, subrs: &Numbered<'_>) -> Result<(), AllocError>
+    ensures { OnOk result (out.new.items ≡ out.old.items ++ subrs_part (option_map (subrs_pieces shell.now.len_iv (fin.entries subrs.now)) shell.now.subrs)) }
 {
     match &shell.subrs {
         Some(kept) => {
@@ -122,13 +122,8 @@ fn put_table(out: &mut Vec<u8>, shell: &KeptShell, subrs: &Numbered<'_>) -> Resu
 }
 
 /// Writes a glyph, after the end of the line before it.
-fn put_glyph(
-    out: &mut Vec<u8>,
-    shell: &KeptShell,
-    name: &[u8],
-    plain: &[u8],
-) -> Result<(), AllocError>
-    ensures { OnOk result (out.new.items ≡ out.old.items ++ glyph_text (glyph_entry (shell_view shell.now) (name.now, plain.now))) }
+fn put_glyph(out: &mut Vec<u8>, shell: &Shell, name: &[u8], plain: &[u8]) -> Result<(), AllocError>
+    ensures { OnOk result (out.new.items ≡ out.old.items ++ glyph_text (glyph_entry shell.now (name.now, plain.now))) }
 {
     out.extend_from_slice(b"\n/")?;
     out.extend_from_slice(name)?;
@@ -143,8 +138,8 @@ fn put_glyph(
 }
 
 /// Writes the table of glyphs.
-fn put_glyphs(out: &mut Vec<u8>, shell: &KeptShell, glyphs: &Named<'_>) -> Result<(), AllocError>
-    ensures { OnOk result (out.new.items ≡ out.old.items ++ glyphs_part (map (glyph_entry (shell_view shell.now)) (fin.entries glyphs.now))) }
+fn put_glyphs(out: &mut Vec<u8>, shell: &Shell, glyphs: &Named<'_>) -> Result<(), AllocError>
+    ensures { OnOk result (out.new.items ≡ out.old.items ++ glyphs_part (map (glyph_entry shell.now) (fin.entries glyphs.now))) }
 {
     out.extend_from_slice(b"/CharStrings ")?;
     put_number(out, glyphs.len())?;
