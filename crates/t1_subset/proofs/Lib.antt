@@ -39,6 +39,7 @@ mod TableStates
 mod JoinedRuns
 mod MergedFonts
 pub mod ManyMerges
+mod ListMergers
 mod StateTrees
 pub mod Headline
 pub mod KeptRows

@@ -1,5 +1,5 @@
 -- What merges come to, and what merges of the subsets of one font come to.
-use Rattle.std.specs.Prelude.{◌≡◌, ◌⊎◌, ℕ, true, List, [], ◌∷◌, ◌++◌, map, Result, MatchResult}
+use Rattle.std.specs.Prelude.{◌≡◌, ◌⊎◌, ℕ, true, List, [], ◌∷◌, ◌++◌, map, Result, MatchResult, IsPermutation}
 use Rattle.std.specs.FinSet as sets
 use Rattle.std.specs.List.{AllByRecursion}
 use Rattle.t1_font.specs.FontValue.{FontValue}
@@ -9,10 +9,19 @@ use Rattle.t1_subset.specs.declared.conflict.Conflict.TheVariants.{Memory, Empty
 use Rattle.t1_subset.specs.Interpreter.{Names}
 use Rattle.t1_subset.specs.Keep.{has, subset}
 use Rattle.t1_subset.specs.Profile.{profile}
+use Rattle.t1_subset.specs.States.{Join, joined_font, IsWithin}
 use Rattle.t1_subset.specs.Laws.{IsOf, DrawsAlike}
 use Rattle.t1_subset.specs.Conflicts.{conflict}
 use Rattle.t1_subset.specs.Refusals.{Tells}
-use Rattle.t1_subset.specs.Trees.{Tree, Leaf, leaves, left_tree, Merges, union_all}
+use Rattle.t1_subset.specs.Trees.{Tree, Leaf, leaves, left_tree, folded, EachPair, Merges, union_all}
+
+-- the fonts join, and this is their join; or their lowest conflict is told, or a growth was refused
+abbrev pub IsMerger : FontValue → FontValue → Result FontValue Refusal → Type 0
+IsMerger f g r = MatchResult r (λ j. Join profile f g × (j ≡ joined_font profile f g)) (λ e. Tells e (conflict profile f g))
+
+-- a font merged with itself is itself, or a growth was refused
+abbrev pub MergesItself : FontValue → FontValue → Result FontValue Refusal → Type 0
+MergesItself f g r = f ≡ g → MatchResult r (λ j. j ≡ f) (λ e. e ≡ Memory)
 
 -- each glyph of either font does in j what it did
 abbrev pub DrawsBoth : FontValue → FontValue → FontValue → Type 0
@@ -32,6 +41,31 @@ pub record StopsAt (f : FontValue) (fs : List FontValue) (e : Refusal) : Type 0 
 abbrev pub ComesTo : List FontValue → FontValue → Type 0
 ComesTo [] j = ⊥
 ComesTo (f ∷ fs) j = Merges profile (left_tree (Leaf f) fs) j
+
+-- each glyph of each of the fonts does in j what it did
+abbrev pub DrawsAll : List FontValue → FontValue → Type 0
+DrawsAll fs j = AllByRecursion (λ f. (n : List ℕ) → has f n ≡ true → DrawsAlike f j n) fs
+
+-- there are fonts, each two of them have states that join, and the font of all is within the limits
+abbrev pub AllJoin : List FontValue → Type 0
+AllJoin [] = ⊥
+AllJoin (f ∷ fs) = EachPair profile (f ∷ fs) × IsWithin (folded profile f fs)
+
+-- the fonts are accepted exactly where all of them join, but for a growth that was refused
+abbrev pub AcceptsAllJoin : List FontValue → Result FontValue Refusal → Type 0
+AcceptsAllJoin fs r = MatchResult r (λ j. AllJoin fs) (λ e. (e ≡ Memory) ⊎ ¬ AllJoin fs)
+
+-- this order and grouping of the fonts comes to j, and to no other font
+abbrev pub MergesTo : Tree FontValue → FontValue → Type 0
+MergesTo t j = Merges profile t j × ((k : FontValue) → Merges profile t k → k ≡ j)
+
+-- this order and grouping of the fonts comes to no font
+abbrev pub MergesToNone : Tree FontValue → Type 0
+MergesToNone t = (k : FontValue) → ¬ Merges profile t k
+
+-- each order and grouping of the fonts comes to the font that is answered, or each comes to none, or a growth was refused
+abbrev pub MergesInAnyOrder : List FontValue → Result FontValue Refusal → Type 0
+MergesInAnyOrder fs r = (t : Tree FontValue) → IsPermutation fs (leaves t) → MatchResult r (λ j. MergesTo t j) (λ e. (e ≡ Memory) ⊎ MergesToNone t)
 
 -- each grouping of the fonts, in their order, comes to a font
 abbrev pub EachGroupingMerges : List FontValue → Type 0

@@ -10,7 +10,7 @@ ghost use Rattle.t1_subset.specs.Conflicts.{conflict, states_conflict};
 ghost use Rattle.t1_subset.specs.Runs.{IsRuns, entries_conflict, runs_conflict};
 ghost use Rattle.t1_subset.specs.Trees.{Merges, Leaf, left_tree};
 ghost use Rattle.t1_subset.specs.Refusals.{Tells};
-ghost use Rattle.t1_subset.specs.Merger.{DrawsBoth, StopsAt, ComesTo, IsRefused, MergesSubsets, MergesAllSubsets};
+ghost use Rattle.t1_subset.specs.Merger.{IsMerger, MergesItself, DrawsBoth, DrawsAll, StopsAt, ComesTo, IsRefused, AcceptsAllJoin, MergesInAnyOrder, MergesSubsets, MergesAllSubsets};
 
 use crate::conflict::Conflict;
 use crate::entries::{code_conflict, glyph_conflict};
@@ -220,26 +220,34 @@ fn all_joined<'a>(
 /// the font of both is within the limits.
 ///
 /// Else the lowest [`Conflict`] is answered, the same in both orders of the fonts; want of memory may be
-/// answered in place of either.
+/// answered in place of either. A font merged with itself is itself.
 ///
 /// Two subsets of one font always join, and their join is the subset of both sets of names.
 pub fn merge<'a>(alloc: Global, left: &Font<'a>, right: &Font<'a>) -> Result<Font<'a>, Conflict>
     ensures ok { IfOk result (λ j. Join profile left.now right.now × (j ≡ joined_font profile left.now right.now)) }
     ensures err { IfErr result (λ e. Tells e (conflict profile left.now right.now)) }
+    ensures other_order { IsMerger right.now left.now result }
+    ensures itself { MergesItself left.now right.now result }
     ensures subsets { MergesSubsets left.now right.now result }
     ensures draws { IfOk result (λ j. DrawsBoth left.now right.now j) }
 {
+    left.is_font();
     merged(alloc, left, right)
 }
 
 /// The font that fonts make together, merged from left to right; any other order and grouping of the merges
-/// comes to the same font, or is refused too. It is refused with [`Conflict::Empty`] where there are no fonts,
-/// and else with the conflict of the first font that doesn't join those before it.
+/// comes to the same font, or is refused too. Fonts are accepted exactly where there is one or more, the states of each two
+/// of them join, and the font of all is within the limits. They are refused with [`Conflict::Empty`] where there are no fonts,
+/// and else with the conflict of the first font that doesn't join those before it. Each glyph of each of the fonts draws in
+/// the result as it did.
 ///
 /// Subsets of one font always join, and their join is the subset of all their sets of names.
 pub fn merge_all<'a>(alloc: Global, fonts: &[Font<'a>]) -> Result<Font<'a>, Conflict>
     ensures ok { IfOk result (λ j. ComesTo fonts.now j) }
     ensures err { IfErr result (λ e. IsRefused fonts.now e) }
+    ensures accepted { AcceptsAllJoin fonts.now result }
+    ensures any_order { MergesInAnyOrder fonts.now result }
+    ensures draws { IfOk result (λ j. DrawsAll fonts.now j) }
     ensures subsets { MergesAllSubsets fonts.now result }
 {
     if fonts.is_empty() {

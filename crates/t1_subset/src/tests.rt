@@ -4,3 +4,4 @@ mod closures;
 mod fonts;
 mod large;
 mod mergers;
+mod rows;

@@ -127,7 +127,7 @@ fn merged_with(alloc: Global, left: &Source, right: &[u8]) -> Vec<u8> {
 }
 
 /// The same of the fonts of two files.
-fn merged(alloc: Global, left: &[u8], right: &[u8]) -> Vec<u8> {
+pub fn merged(alloc: Global, left: &[u8], right: &[u8]) -> Vec<u8> {
     match read(alloc, left) {
         Ok(left) => {
             let file = merged_with(alloc, &left, right);
@@ -307,7 +307,13 @@ fn glyph_differs(alloc: Global, left: &[u8], right: &[u8], want: &[u8]) -> bool 
 }
 
 /// Whether two fonts differ in the Subr of this index, which this glyph executes, or none.
-fn subr_differs(alloc: Global, left: &[u8], right: &[u8], want: u16, user: Option<&[u8]>) -> bool {
+pub fn subr_differs(
+    alloc: Global,
+    left: &[u8],
+    right: &[u8],
+    want: u16,
+    user: Option<&[u8]>,
+) -> bool {
     match conflict(alloc, left, right) {
         Some(Conflict::Subr { index, glyph }) => {
             index == want && glyph.as_ref().map(|name| name.as_slice()) == user
@@ -350,36 +356,8 @@ fn a_subr_that_no_glyph_executes(rt: HostRuntime) -> Result<(), Fail> {
     Ok(())
 }
 
-/// The subset over X of a font whose Subr 5 is `return`.
-fn x_of_another(alloc: Global) -> Result<Vec<u8>, AllocError> {
-    let mut subrs = SUBRS;
-    subrs[5] = (b"5", b"\x0b");
-    let other = font(alloc, &SHELL, &subrs, &GLYPHS)?;
-    Ok(cut(alloc, other.as_slice(), &[b"X"]))
-}
-
-#[test]
-fn a_stub_that_is_used(rt: HostRuntime) -> Result<(), Fail> {
-    let file = whole(rt.alloc())?;
-    let used = x_of_another(rt.alloc())?;
-    let y = cut(rt.alloc(), file.as_slice(), &[b"Y"]);
-    assert!(rt; subr_differs(rt.alloc(), y.as_slice(), used.as_slice(), 5, Some(b"X")));
-    Ok(())
-}
-
-#[test]
-fn a_stub_that_one_font_uses(rt: HostRuntime) -> Result<(), Fail> {
-    let file = whole(rt.alloc())?;
-    let used = x_of_another(rt.alloc())?;
-    let a = cut(rt.alloc(), file.as_slice(), &[b"A"]);
-    let one = merged(rt.alloc(), a.as_slice(), used.as_slice());
-    let two = merged(rt.alloc(), used.as_slice(), a.as_slice());
-    assert!(rt; !one.is_empty() && one.as_slice() == two.as_slice());
-    Ok(())
-}
-
 /// Whether a glyph of one of two fonts lacks a component.
-fn lacks_component(alloc: Global, left: &[u8], right: &[u8], of: &[u8], want: &[u8]) -> bool {
+pub fn lacks_component(alloc: Global, left: &[u8], right: &[u8], of: &[u8], want: &[u8]) -> bool {
     match conflict(alloc, left, right) {
         Some(Conflict::Part { glyph, part }) => glyph.as_slice() == of && part.as_slice() == want,
         Some(other) => {
@@ -388,28 +366,6 @@ fn lacks_component(alloc: Global, left: &[u8], right: &[u8], of: &[u8], want: &[
         }
         None => false,
     }
-}
-
-#[test]
-fn what_glyphs_name(rt: HostRuntime) -> Result<(), Fail> {
-    let file = whole(rt.alloc())?;
-    let other = font(rt.alloc(), &SHELL, &SUBRS, &GLYPHS[..8])?;
-    let accented = cut(rt.alloc(), other.as_slice(), &[b"Aacute"]);
-    let acute = cut(rt.alloc(), file.as_slice(), &[b"acute"]);
-    assert!(rt;
-        lacks_component(
-            rt.alloc(),
-            accented.as_slice(),
-            acute.as_slice(),
-            b"Aacute",
-            b"acute"
-        ),
-        "a component that one font lacks"
-    );
-    let a = cut(rt.alloc(), file.as_slice(), &[b"A"]);
-    let both = merged(rt.alloc(), accented.as_slice(), a.as_slice());
-    assert!(rt; !both.is_empty(), "a component that both lack");
-    Ok(())
 }
 
 /// The sources of files.
@@ -452,7 +408,7 @@ fn lent_merger(alloc: Global, sources: &[Source]) -> Result<Vec<u8>, Conflict> {
 }
 
 /// The same of the fonts of files.
-fn all_merged(alloc: Global, files: &[Vec<u8>]) -> Result<Vec<u8>, Conflict> {
+pub fn all_merged(alloc: Global, files: &[Vec<u8>]) -> Result<Vec<u8>, Conflict> {
     match sources(alloc, files) {
         Ok(sources) => lent_merger(alloc, sources.as_slice()),
         Err(_) => Err(Conflict::Memory),

@@ -1,5 +1,12 @@
 use Rattle.t1_subset.proofs.ManyMerges.{of_subsets, draws_both}
+use Rattle.t1_subset.proofs.ListMergers.{other_order, itself}
 use Rattle.t1_subset.proofs.merger.merge.Goals as goal
+
+pub returns-clause-other_order : goal.returns-clause-other_order
+returns-clause-other_order c = other_order c.args.left.now c.args.right.now c.merged.result c.merged.ensures.ok c.merged.ensures.err
+
+pub returns-clause-itself : goal.returns-clause-itself
+returns-clause-itself c = itself c.args.left.now c.args.right.now c.is_font.ensures c.merged.result c.merged.ensures.ok c.merged.ensures.err
 
 pub returns-clause-subsets : goal.returns-clause-subsets
 returns-clause-subsets c = of_subsets c.args.left.now c.args.right.now c.merged.result c.merged.ensures.ok c.merged.ensures.err
