@@ -4,12 +4,15 @@
 usage: tools/test_program.py [PROGRAM...]    without a name the two builds that `rt ci` leaves
 """
 import os
+import resource
+import signal
+import stat
 import subprocess
 import sys
 import tempfile
 from collections import namedtuple
 
-TOP = os.path.join(os.path.dirname(os.path.abspath(__file__)), "..")
+TOP = os.path.abspath(os.path.join(os.path.dirname(os.path.abspath(__file__)), ".."))
 BUILDS = [os.path.join(TOP, "crates/t1subset/out/t1subset" + by) for by in ("", ".by-rattle")]
 
 # What stands where a text is clap's.
@@ -146,6 +149,52 @@ def full(program):
         sys.exit(f"{program}: status {done.returncode}, {done.stderr!r}, where standard output is full")
 
 
+def small_files_alone():
+    """Files of at most 1,000 bytes can be written, and a longer write fails."""
+    signal.signal(signal.SIGXFSZ, signal.SIG_IGN)
+    resource.setrlimit(resource.RLIMIT_FSIZE, (1000, 1000))
+
+
+def kept_output(program, folder):
+    """A write that fails leaves OUT as it was, and nothing beside it."""
+    with open("old", "wb") as f:
+        f.write(b"what stood here")
+    words = [program, "pfa", os.path.join(TOP, "examples/tiny.pfb"), "old"]
+    done = subprocess.run(words, capture_output=True, preexec_fn=small_files_alone, timeout=60)
+    with open("old", "rb") as f:
+        stands = f.read()
+    return (done.returncode, done.stderr, stands, os.listdir(folder)) == (3, b"failed: write\n", b"what stood here", ["old"])
+
+
+def same_output(program, folder):
+    """OUT keeps its permissions; a link leads to what it led to, and a file that has two names is one file."""
+    os.chmod("old", 0o640)
+    os.link("old", "other")
+    os.symlink("linked", "link")
+    for out in ("old", "link", "new"):
+        subprocess.run([program, "pfa", os.path.join(TOP, "examples/tiny.pfb"), out], check=True, timeout=60)
+    whole = example("tiny.pfa")
+    written = [open(name, "rb").read() == whole for name in ("old", "other", "linked", "new")]
+    os.remove("other")
+    subprocess.run([program, "pfb", os.path.join(TOP, "examples/tiny.pfb"), "old"], check=True, timeout=60)
+    mode = stat.S_IMODE(os.stat("old").st_mode)
+    names = sorted(os.listdir(folder))
+    return all(written) and mode == 0o640 and os.path.islink("link") and names == ["link", "linked", "new", "old"]
+
+
+def outputs(program):
+    """What becomes of the file that OUT names."""
+    here = os.getcwd()
+    with tempfile.TemporaryDirectory() as folder:
+        os.chdir(folder)
+        try:
+            for test in (kept_output, same_output):
+                if not test(program, folder):
+                    sys.exit(f"{program}: {test.__doc__} Not so.")
+        finally:
+            os.chdir(here)
+
+
 def main():
     given = files()
     rows = [*rows_of_words(), *rows_of_fonts(), *rows_of_outputs(given), *rows_of_listings()]
@@ -156,7 +205,8 @@ def main():
             if fault:
                 sys.exit(f"{program} {row.words}: {fault}")
         full(program)
-    print(f"t1subset: {len(rows) + 1} rows of words, by {len(programs)} builds", file=sys.stderr)
+        outputs(program)
+    print(f"t1subset: {len(rows) + 3} rows of words, by {len(programs)} builds", file=sys.stderr)
 
 
 main()
