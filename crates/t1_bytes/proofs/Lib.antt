@@ -3,6 +3,7 @@ pub mod Grammars
 pub mod Tables
 pub mod Places
 pub mod SegmentLemmas
+pub mod SegmentMoves
 pub mod PfbLemmas
 pub mod HexLemmas
 pub mod DigitsAhead

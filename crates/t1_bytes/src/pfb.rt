@@ -100,6 +100,44 @@ pub fn flatten(alloc: Global, file: &[u8]) -> Result<Vec<u8>, BytesFault>
     flat(alloc, file)
 }
 
+/// Flattens a file in its own vector, by the reading of segments from left to right.
+fn join(file: &mut Vec<u8>) -> Result<(), BytesFault>
+    ensures { Gives (λ _. file.new.items) result (flat_of file.old.items) }
+{
+    if !is_segmented(file.as_slice()) {
+        return Ok(());
+    }
+    let mut len = 0;
+    let mut at = 0;
+    'segments: loop {
+        let (_, rest) = file.as_slice().split_at(at);
+        if let Some(_) = end_at(rest) {
+            file.truncate(len);
+            return Ok(());
+        }
+        let Some((data, after)) = segment_at(rest) else {
+            return Err(BytesFault::BadSegment { at });
+        };
+        let size = data.len();
+        let next = file.len() - after.len();
+        file.copy_within(next - size..next, len);
+        len += size;
+        at = next;
+    }
+}
+
+/// Makes a file its flat text, in its own vector: the data of the segments is moved to the front, and what stands behind
+/// it is cut off. It takes no memory; [`flatten`] says what the flat text is.
+///
+/// # Errors
+///
+/// `BadSegment`, as [`flatten`] has it. What the vector holds then is not said.
+pub fn flatten_in_place(file: &mut Vec<u8>) -> Result<(), BytesFault>
+    ensures { Gives (λ _. file.new.items) result (flat_of file.old.items) }
+{
+    join(file)
+}
+
 /// Writes a segment at the end.
 fn put_segment(out: &mut Vec<u8>, kind: u8, bytes: &[u8]) -> Result<(), AllocError>
     requires { length bytes.now < 2 ^ 32 }
