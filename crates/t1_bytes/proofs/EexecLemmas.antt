@@ -11,10 +11,9 @@ use Rattle.t1_bytes.specs.declared.fault.BytesFault.{BytesFault}
 use Rattle.t1_bytes.specs.declared.fault.BytesFault.TheVariants.{BadSegment, Memory, NoEexec, ShortCipher}
 use Rattle.t1_bytes.specs.Grammar.{first}
 use Rattle.t1_bytes.specs.White.{is_white, white, gap}
-use Rattle.t1_bytes.specs.Eexec.{eexec_marker, is_hex_text, hex_cipher, cipher_text, split_view, cipher_in, last_bytes, IsSplit, SplitFails, or_short, split_after, split_of}
+use Rattle.t1_bytes.specs.Eexec.{eexec_marker, is_hex_text, hex_cipher, cipher_text, cipher_in, last_bytes, IsSplit, SplitFails, or_short, split_after, split_of}
 use Rattle.t1_bytes.specs.Faults.{Refused, Answers, OrMemory}
 use Rattle.t1_bytes.proofs.HexLemmas.{same_Ok}
-use Rattle.std.specs.Global.{Vec}
 use Rattle.t1_bytes.proofs.Grammars.{IsExact, pure_exact, bind_exact, that_exact, run_exact, fixed_exact, before_exact, either_exact, all_exact, first_exact, front_again, unspelled, unread}
 use Rattle.t1_bytes.proofs.Places.{Begins, unread_lacks, lacks_unread}
 

@@ -24,7 +24,7 @@ pub use eexec::{Cipher, find_cipher, split_eexec};
 pub use fault::BytesFault;
 pub use form::Form;
 pub use hexadecimal::{hex_lines, put_hex_lines, trailer};
-pub use pfb::{flatten, flatten_in_place, is_segmented, segments};
+pub use pfb::{flatten, flatten_in_place, segments};
 
 #[cfg(test)]
 mod tests;

@@ -48,36 +48,20 @@ fn end_at(bytes: &[u8]) -> Option<(&[u8], &[u8])>
 }
 
 /// Whether a file is in segments: its first byte is 128. The flat text of any other file is the file itself.
-pub fn is_segmented(file: &[u8]) -> bool
+fn is_segmented(file: &[u8]) -> bool
     ensures { result ≡ starts_segment file.now }
 {
     file.starts_with(&[MARK])
 }
 
-/// The flat text of a file, by the reading of segments from left to right.
+/// The flat text of a file, in a vector of its own.
 fn flat(alloc: Global, file: &[u8]) -> Result<Vec<u8>, BytesFault>
     ensures { Gives (λ v. v.items) result (flat_of file.now) }
 {
-    if !is_segmented(file) {
-        return Ok(Vec::from_slice(alloc, file)?);
-    }
-    let mut flat = Vec::with_capacity(alloc, file.len())?;
-    let mut rest = file;
-    'segments: loop {
-        if let Some(_) = end_at(rest) {
-            return Ok(flat);
-        }
-        match segment_at(rest) {
-            Some((data, after)) => {
-                flat.extend_from_slice(data)?;
-                rest = after;
-            }
-            None => {
-                return Err(BytesFault::BadSegment {
-                    at: file.len() - rest.len(),
-                });
-            }
-        }
+    let mut flat = Vec::from_slice(alloc, file)?;
+    match join(&mut flat) {
+        Ok(()) => Ok(flat),
+        Err(fault) => Err(fault),
     }
 }
 

@@ -16,7 +16,7 @@ use crate::texts::push_about;
 use crate::writing::write_text;
 use std::alloc::{AllocError, Global};
 use std::io::{Read, Write};
-use t1_font::{Font, Form, ReadFault, Source, read, write};
+use t1_font::{Font, Form, ReadFault, Source, read_vec, write};
 use t1_run::Subroutines;
 
 fn refused_font(fault: ReadFault) -> RunFault
@@ -35,7 +35,7 @@ pub(crate) fn read_font<R: Read>(alloc: Global, reader: &mut Counted<R>) -> Resu
     ensures turns { calls_of reader.new ≤ calls_of reader.old + (file_limit + 1) }
 {
     let bytes = read_all(alloc, reader, FILE_LIMIT)?;
-    read(alloc, bytes.as_slice()).map_err(refused_font)
+    read_vec(alloc, bytes).map_err(refused_font)
 }
 
 // The canonical file of a font.

@@ -1,5 +1,5 @@
 -- A flat text is cut where it is split.
-use Rattle.std.proofs.Common.{◌≡◌, ℕ, ◌≤◌, List, ◌++◌, length, take, false, Ok, refl, sym, ap, ◌∙◌, arith}
+use Rattle.std.proofs.Common.{◌≡◌, ℕ, ◌≤◌, List, ◌++◌, length, take, Ok, refl, sym, ap, ◌∙◌, arith}
 use Rattle.std.proofs.lemmas.List.{length-append, take_at}
 use Rattle.std.proofs.lemmas.Bool.{leb-true}
 use Rattle.t1_bytes.specs.declared.fault.BytesFault.{BytesFault}
@@ -11,8 +11,6 @@ use Rattle.t1_bytes.proofs.Grammars.{first_exact, front_again, unread}
 use Rattle.t1_bytes.proofs.Places.{lacks_unread}
 use Rattle.t1_bytes.proofs.EexecLemmas.{cipher_exact, eexec_exact, marker_own}
 use Rattle.t1_font.specs.Faults.{read_fault}
-use Rattle.t1_bytes.specs.Segments.{starts_segment}
-use Rattle.t1_font.specs.ReadFont.{flat_text, file_pieces}
 use Rattle.t1_font.specs.Answers.{Refused}
 use Rattle.t1_font.specs.Pieces.{FlatPieces, flat_pieces}
 
@@ -45,8 +43,3 @@ split_fails flat Memory h = tt
 split_fails flat NoEexec h = rw (lacks_unread eexec_marker eexec_exact flat h) refl
 split_fails flat ShortCipher h = rw (front_again (first eexec_marker) (first_exact eexec_marker eexec_exact) flat ((h.0, h.1), h.2) h.3, unread cipher_text cipher_exact h.2 h.4) refl
 split_fails flat (BadSegment at) h = absurd h
-
--- a file that is not in segments is its own flat text
-pub plain_pieces : (file : List ℕ) → starts_segment file ≡ false → file_pieces file ≡ flat_pieces file
-unfolding flat_text
-plain_pieces file h = rw h refl

@@ -11,6 +11,7 @@ ghost use Rattle.t1_font.specs.Gathering.{gathered_codes};
 ghost use Rattle.t1_font.specs.Pieces.{ClearPieces, PrivatePieces, flat_pieces};
 ghost use Rattle.t1_font.specs.Ranges.{AllInside, numbered_at};
 ghost use Rattle.t1_font.specs.ReadFont.{font_of, flat_text, file_pieces, font_from, font_texts, font_file};
+ghost use Rattle.t1_bytes.specs.Laws.{AreBytes};
 ghost use Rattle.t1_font.specs.Answers.{Answers, Shown, ShowsClear, ShowsPrivate, encoding_view, declared_in};
 ghost use Rattle.t1_font.specs.Sources.{kept_encoding, codes_of};
 ghost use Rattle.t1_font.specs.Spelling.{Spells};
@@ -26,14 +27,18 @@ use crate::shell::kept_shell;
 use crate::source::{KeptEncoding, Source, SourceParts, keep_codes};
 use crate::subrs::SubrsParts;
 use std::alloc::{AllocError, Global};
-use t1_bytes::{Cipher, EEXEC_KEY, EEXEC_LEAD, decrypt, find_cipher, flatten, is_segmented};
+use t1_bytes::{Cipher, EEXEC_KEY, EEXEC_LEAD, decrypt, find_cipher, flatten_in_place};
 
-/// The flat text of a file.
+/// The flat text of a file, in the file's own vector.
 #[tactic(auto, unfolding(crate::specs::ReadFont::flat_text))]
-fn flat_text(alloc: Global, file: &[u8]) -> Result<Vec<u8>, ReadFault>
-    ensures { Answers (λ v. v.items) result (flat_text file.now) }
+fn flat_text(file: Vec<u8>) -> Result<Vec<u8>, ReadFault>
+    ensures { Answers (λ v. v.items) result (flat_text file.items) }
 {
-    Ok(flatten(alloc, file)?)
+    let mut flat = file;
+    match flatten_in_place(&mut flat) {
+        Ok(()) => Ok(flat),
+        Err(fault) => Err(ReadFault::from(fault)),
+    }
 }
 
 /// Where the clear text of a flat text ends, and the cipher.
@@ -81,33 +86,12 @@ fn cut_flat(alloc: Global, flat: Vec<u8>) -> Result<CutFile, ReadFault>
     }
 }
 
-/// A file that is its own flat text, cut. A hexadecimal cipher is all that is copied of it beside its clear text.
-fn cut_plain(alloc: Global, file: &[u8]) -> Result<CutFile, ReadFault>
-    ensures parts { Shown (λ x p. (x.clear.items ≡ p.clear) × (drop x.from x.buffer.items ≡ p.cipher)) result (flat_pieces file.now) }
-    ensures lead { IfOk result (λ x. x.from + 4 ≤ length x.buffer.items) }
-{
-    let (end, cipher) = found(alloc, file)?;
-    let clear = Vec::from_slice(alloc, &file[..end])?;
-    let buffer = match cipher {
-        Cipher::Last(len) => Vec::from_slice(alloc, &file[file.len() - len..])?,
-        Cipher::Spelled(cipher) => cipher,
-    };
-    Ok(CutFile {
-        clear,
-        buffer,
-        from: 0,
-    })
-}
-
 /// A file, cut.
-fn cut_file(alloc: Global, file: &[u8]) -> Result<CutFile, ReadFault>
-    ensures parts { Shown (λ x p. (x.clear.items ≡ p.clear) × (drop x.from x.buffer.items ≡ p.cipher)) result (file_pieces file.now) }
+fn cut_file(alloc: Global, file: Vec<u8>) -> Result<CutFile, ReadFault>
+    ensures parts { Shown (λ x p. (x.clear.items ≡ p.clear) × (drop x.from x.buffer.items ≡ p.cipher)) result (file_pieces file.items) }
     ensures lead { IfOk result (λ x. x.from + 4 ≤ length x.buffer.items) }
 {
-    if !is_segmented(file) {
-        return cut_plain(alloc, file);
-    }
-    let flat = flat_text(alloc, file)?;
+    let flat = flat_text(file)?;
     cut_flat(alloc, flat)
 }
 
@@ -241,8 +225,8 @@ fn text_parts(
 
 /// The parts of the font that a file spells.
 #[tactic(auto, unfolding(crate::specs::ReadFont::font_file))]
-fn file_parts(alloc: Global, file: &[u8]) -> Result<SourceParts, ReadFault>
-    ensures { Answers (λ f. f) result (font_file file.now) }
+fn file_parts(alloc: Global, file: Vec<u8>) -> Result<SourceParts, ReadFault>
+    ensures { Answers (λ f. f) result (font_file file.items) }
 {
     if file.len() > FILE_LIMIT {
         return Err(ReadFault::TooLong);
@@ -254,8 +238,33 @@ fn file_parts(alloc: Global, file: &[u8]) -> Result<SourceParts, ReadFault>
     text_parts(alloc, cut.clear.as_slice(), buffer, at)
 }
 
+/// Says of bytes that they are numbers below 256. It does nothing when it runs: proofs call it.
+fn are_bytes(bytes: &[u8])
+    ensures { AreBytes bytes.now }
+{
+    let _bytes = bytes;
+}
+
+/// Reads a font file that is handed over, as [`read`] reads one that is lent. What it answers owns the file's vector, in
+/// which a binary cipher was decrypted where it stood; a hexadecimal cipher takes half of its digits beside it.
+///
+/// # Errors
+///
+/// Those of [`read`].
+pub fn read_vec(alloc: Global, file: Vec<u8>) -> Result<Source, ReadFault>
+    ensures right { MatchResult result (Spells file.items) (Refuses file.items) }
+    ensures exact { Answers (λ f. f) result (font_file file.items) }
+{
+    are_bytes(file.as_slice());
+    match file_parts(alloc, file) {
+        Ok(parts) => Ok(Source { parts }),
+        Err(fault) => Err(fault),
+    }
+}
+
 /// Reads a font file: PFA or PFB, in any spelling of the Type 1 grammar that this library accepts
-/// (Adobe Type 1 Font Format 1.1, chapters 2, 5, 6 and 7; Technical Note 5040).
+/// (Adobe Type 1 Font Format 1.1, chapters 2, 5, 6 and 7; Technical Note 5040). It reads a copy of the file;
+/// [`read_vec`] takes the file itself.
 ///
 /// # Errors
 ///
@@ -266,8 +275,8 @@ pub fn read(alloc: Global, file: &[u8]) -> Result<Source, ReadFault>
     ensures right { MatchResult result (Spells file.now) (Refuses file.now) }
     ensures exact { Answers (λ f. f) result (font_file file.now) }
 {
-    match file_parts(alloc, file) {
-        Ok(parts) => Ok(Source { parts }),
-        Err(fault) => Err(fault),
+    match Vec::from_slice(alloc, file) {
+        Ok(file) => read_vec(alloc, file),
+        Err(_) => Err(ReadFault::Memory),
     }
 }

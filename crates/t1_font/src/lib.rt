@@ -33,7 +33,7 @@ mod writing;
 
 pub use cut::{STUB, restrict};
 pub use fault::ReadFault;
-pub use file::read;
+pub use file::{read, read_vec};
 pub use font::{Font, Names, Part};
 pub use parts::{PartsFault, join_parts};
 pub use shell::Shell;

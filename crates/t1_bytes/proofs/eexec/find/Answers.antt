@@ -1,6 +1,5 @@
-use Rattle.std.proofs.Common.{◌≡◌, sym, ap, subst, ◌∙◌, ◌-◌, Ok, arith, length, ℕ, List}
-use Rattle.t1_bytes.specs.declared.eexec.Cipher.{Cipher}
-use Rattle.t1_bytes.specs.Eexec.{cipher_text, cipher_in, last_bytes}
+use Rattle.std.proofs.Common.{sym, ap, ◌∙◌, ◌-◌, Ok, arith, length, ℕ, List}
+use Rattle.t1_bytes.specs.Eexec.{cipher_text, cipher_in}
 use Rattle.t1_bytes.proofs.EexecLemmas.{split_within, split_absent, split_found, ok_placed, err_placed, cipher_stays}
 use Rattle.t1_bytes.proofs.eexec.find.Goals as goal
 

@@ -1,4 +1,4 @@
-use Rattle.std.proofs.Common.{◌≡◌, ℕ, ◌+◌, ◌-◌, List, refl, sym, ap, subst, ◌∙◌, arith, length, take, drop, Some, None, Ok, Err, Result}
+use Rattle.std.proofs.Common.{◌≡◌, ℕ, ◌+◌, ◌-◌, List, refl, sym, ap, subst, ◌∙◌, arith, length, take, drop, Ok, Err}
 use Rattle.std.proofs.lemmas.List.{length-drop}
 use Rattle.t1_bytes.specs.Segments.{segment, end, starts_segment}
 use Rattle.t1_bytes.proofs.SegmentLemmas.{joined_end, joined_bad, segment_eats, flat_at_start}

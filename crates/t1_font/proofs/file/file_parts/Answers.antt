@@ -1,4 +1,4 @@
-use Rattle.std.proofs.Common.{◌+◌, ◌≡◌, ◌≤◌, ◌∙◌, ap, arith, sym, refl, drop, ℕ, List, Ok, Err, length}
+use Rattle.std.proofs.Common.{rules, ◌+◌, ◌≡◌, ◌≤◌, ◌∙◌, ap, arith, sym, refl, drop, ℕ, List, Ok, Err, length}
 use Rattle.std.proofs.lemmas.Bool.{le-leb}
 use Rattle.std.proofs.lemmas.List.{drop-drop}
 use Rattle.t1_bytes.specs.Cipher.{private_text}
@@ -27,7 +27,7 @@ returns c =
     let buffer = c.open_private.new.buffer.items in
     let private : private_text h.0.cipher ≡ drop (from + 4) buffer = ap private_text (sym h.2.1) ∙ (ap (drop 4) (sym c.open_private.ensures.value) ∙ (drop-drop 4 from buffer ∙ ap (λ k. drop k buffer) (omega arith))) in
     answers_same c.text_parts.result _ (font_texts c.as_slice.result.now (drop (from + 4) buffer))
-    (file_is c.args.file.now h.0 c.if-file-gt-FILE_LIMIT.false h.1 ∙ (λ i. font_texts (sym (c.as_slice.ensures.value ∙ h.2.0) i) (private i)))
+    (file_is c.args.file.items h.0 (search rules) h.1 ∙ (λ i. font_texts (sym (c.as_slice.ensures.value ∙ h.2.0) i) (private i)))
     c.text_parts.ensures
 
 pub text_parts-requires : goal.text_parts-requires
