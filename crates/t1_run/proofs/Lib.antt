@@ -1,4 +1,5 @@
 pub mod Locality
+mod Mirrors
 pub mod DrawingLocality
 mod Resumed
 mod Turns
