@@ -86,14 +86,13 @@ fn enciphers_worked_bytes(rt: HostRuntime) -> Result<(), Fail> {
         assert!(rt; lead as usize <= plain.len());
         let text = &plain[lead as usize..];
         let mut bytes = seal(rt.alloc(), text, key, lead)?;
-        assert_eq!(rt; bytes.as_slice(), cipher, "sealed: {name}");
+        assert!(rt; bytes.as_slice() == cipher, "sealed: {name}");
         decrypt(bytes.as_mut_slice(), key);
-        assert_eq!(rt; bytes.as_slice(), plain, "decrypted: {name}");
+        assert!(rt; bytes.as_slice() == plain, "decrypted: {name}");
         encrypt(bytes.as_mut_slice(), key);
-        assert_eq!(rt; bytes.as_slice(), cipher, "encrypted: {name}");
-        assert_eq!(rt;
-            open(bytes.as_mut_slice(), key, lead),
-            text,
+        assert!(rt; bytes.as_slice() == cipher, "encrypted: {name}");
+        assert!(rt;
+            open(bytes.as_mut_slice(), key, lead) == text,
             "opened: {name}"
         );
     }
@@ -199,7 +198,7 @@ const BYTES: &[u8; 40] =
 
 #[test]
 fn splits_flat_texts(rt: HostRuntime) {
-    let rows: [(&[u8], Result<(usize, &[u8]), BytesFault>, &str); 33] = [
+    let rows: [(&[u8], Result<(usize, &[u8]), BytesFault>, &str); 19] = [
         (b"", Err(BytesFault::NoEexec), "no bytes"),
         (
             b"currentfile eexec",
@@ -291,6 +290,15 @@ fn splits_flat_texts(rt: HostRuntime) {
             Ok((17, b"\x81\x82\x83\x84 \n")),
             "binary to the end",
         ),
+    ];
+    for (flat, want, name) in rows {
+        assert!(rt; splits(rt.alloc(), flat, want), "{name}");
+    }
+}
+
+#[test]
+fn splits_digits(rt: HostRuntime) {
+    let rows: [(&[u8], Result<(usize, &[u8]), BytesFault>, &str); 14] = [
         (
             b"currentfile eexec D9d66F63",
             Ok((17, b"\xd9\xd6\x6f\x63")),
@@ -385,11 +393,11 @@ fn writes_lines_of_digits(rt: HostRuntime) -> Result<(), Fail> {
     for (count, text) in rows {
         assert!(rt; count <= 33);
         let lines = hex_lines(rt.alloc(), &bytes[..count])?;
-        assert_eq!(rt; lines.as_slice(), text, "{count} bytes");
+        assert!(rt; lines.as_slice() == text, "{count} bytes");
     }
     let mixed = hex_lines(rt.alloc(), b"\x00\x09\x10\x7f\xf0\xff")?;
-    assert_eq!(rt; mixed.as_slice(), b"0009107ff0ff\n".as_slice());
-    assert_eq!(rt; trailer().len(), 532);
+    assert!(rt; mixed.as_slice() == b"0009107ff0ff\n".as_slice());
+    assert!(rt; trailer().len() == 532);
     Ok(())
 }
 
@@ -414,16 +422,29 @@ const CLEAR: usize = 313;
 /// How many bytes the private text of Tiny has.
 const PRIVATE: usize = 1004;
 
+/// Where the private text of Tiny begins in a file of it, and the text.
+fn private_text(alloc: Global, file: &[u8]) -> Result<(usize, Vec<u8>), BytesFault> {
+    let flat = flatten(alloc, file)?;
+    let (at, mut cipher) = split_eexec(alloc, flat.as_slice())?;
+    cipher.truncate(4 + PRIVATE);
+    let text = open(cipher.as_mut_slice(), EEXEC_KEY, EEXEC_LEAD);
+    Ok((at, text.to_vec(alloc)?))
+}
+
+/// A clear part and a cipher as a PFA: the cipher in lines of digits.
+fn with_digits(alloc: Global, clear: &[u8], cipher: &[u8]) -> Result<Vec<u8>, BytesFault> {
+    let lines = hex_lines(alloc, cipher)?;
+    let digits = joined(alloc, clear, lines.as_slice())?;
+    Ok(joined(alloc, digits.as_slice(), trailer())?)
+}
+
 #[test]
 fn takes_tiny_apart_and_together(rt: HostRuntime) -> Result<(), Fail> {
+    let clear = &PFA[..CLEAR];
     for (file, form) in [(PFA.as_slice(), "PFA"), (PFB.as_slice(), "PFB")] {
-        let flat = flatten(rt.alloc(), file)?;
-        let flat = flat.as_slice();
-        let (at, mut cipher) = split_eexec(rt.alloc(), flat)?;
-        assert_eq!(rt; at, CLEAR - 1, "the offset in {form}");
-        assert!(rt; 4 + PRIVATE <= cipher.len());
-        cipher.truncate(4 + PRIVATE);
-        let private = open(cipher.as_mut_slice(), EEXEC_KEY, EEXEC_LEAD);
+        let (at, private) = private_text(rt.alloc(), file)?;
+        let private = private.as_slice();
+        assert!(rt; at == CLEAR - 1, "the offset in {form}");
         assert!(rt;
             private.starts_with(b"dup /Private 9 dict dup begin\n/RD {string"),
             "the beginning in {form}"
@@ -432,16 +453,12 @@ fn takes_tiny_apart_and_together(rt: HostRuntime) -> Result<(), Fail> {
             private.ends_with(b"definefont pop\nmark currentfile closefile\n"),
             "the end in {form}"
         );
-
-        let sealed = seal(rt.alloc(), private, EEXEC_KEY, EEXEC_LEAD)?;
-        assert!(rt; CLEAR <= flat.len() && sealed.len() <= 2893);
-        let (clear, _) = flat.split_at(CLEAR);
-        let pfb = segments(rt.alloc(), clear, sealed.as_slice(), trailer())?;
-        assert_eq!(rt; pfb.as_slice(), PFB.as_slice(), "segments of {form}");
-        let mut pfa = clear.to_vec(rt.alloc())?;
-        pfa.extend_from_slice(hex_lines(rt.alloc(), sealed.as_slice())?.as_slice())?;
-        pfa.extend_from_slice(trailer())?;
-        assert_eq!(rt; pfa.as_slice(), PFA.as_slice(), "lines of {form}");
+        let cipher = seal(rt.alloc(), private, EEXEC_KEY, EEXEC_LEAD)?;
+        assert!(rt; cipher.len() <= 2893);
+        let pfb = segments(rt.alloc(), clear, cipher.as_slice(), trailer())?;
+        assert!(rt; pfb.as_slice() == PFB.as_slice(), "segments of {form}");
+        let pfa = with_digits(rt.alloc(), clear, cipher.as_slice())?;
+        assert!(rt; pfa.as_slice() == PFA.as_slice(), "lines of {form}");
     }
     Ok(())
 }
@@ -505,44 +522,50 @@ fn takes_large_files(rt: HostRuntime) -> Result<(), Fail> {
     let alloc = rt.alloc();
     let comments = repeated(alloc, b"% currentfile\n", 10_000)?;
     let clear = joined(alloc, comments.as_slice(), b"currentfile eexec\n")?;
-    let clear = clear.as_slice();
     let private = repeated(alloc, b"dup 5 {", 20_000)?;
     let cipher = seal(alloc, private.as_slice(), EEXEC_KEY, EEXEC_LEAD)?;
+    assert!(rt; clear.len() <= 200_000 && cipher.len() <= 200_000);
+    let pfb = segments(alloc, clear.as_slice(), cipher.as_slice(), trailer())?;
     let lines = hex_lines(alloc, cipher.as_slice())?;
     let digits = repeated(alloc, b"d9", 150_000)?;
     let pieces = repeated(alloc, b"\x80\x01\x0e\0\0\0% currentfile\n", 10_000)?;
-    assert!(rt; clear.len() <= 200_000 && cipher.len() <= 200_000);
-    let rows = [
+    let rows: [(&[u8], &[u8], Option<BytesFault>, &str); 7] = [
+        (pfb.as_slice(), b"", None, "a PFB"),
+        (clear.as_slice(), lines.as_slice(), None, "a PFA"),
         (
-            segments(alloc, clear, cipher.as_slice(), trailer())?,
-            None,
-            "a PFB",
-        ),
-        (joined(alloc, clear, lines.as_slice())?, None, "a PFA"),
-        (
-            joined(alloc, clear, digits.as_slice())?,
+            clear.as_slice(),
+            digits.as_slice(),
             None,
             "one long line of digits",
         ),
         (
-            joined(alloc, clear, b"\x81\x82\x83")?,
+            clear.as_slice(),
+            b"\x81\x82\x83",
             Some(BytesFault::ShortCipher),
             "three bytes",
         ),
-        (comments, Some(BytesFault::NoEexec), "a clear text alone"),
         (
-            joined(alloc, pieces.as_slice(), b"\x80\x03")?,
+            comments.as_slice(),
+            b"",
+            Some(BytesFault::NoEexec),
+            "a clear text alone",
+        ),
+        (
+            pieces.as_slice(),
+            b"\x80\x03",
             Some(BytesFault::NoEexec),
             "many segments",
         ),
         (
-            joined(alloc, pieces.as_slice(), b"\x80\x04")?,
+            pieces.as_slice(),
+            b"\x80\x04",
             Some(BytesFault::BadSegment { at: 200_000 }),
             "type 4 after many segments",
         ),
     ];
-    for (file, want, name) in &rows {
-        assert!(rt; refusal(alloc, file.as_slice()) == *want, "{name}");
+    for (front, back, want, name) in rows {
+        let file = joined(alloc, front, back)?;
+        assert!(rt; refusal(alloc, file.as_slice()) == want, "{name}");
     }
     Ok(())
 }

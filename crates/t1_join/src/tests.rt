@@ -14,9 +14,15 @@ type Numbered = Table<u16, Vec<u8>>;
 fn table(alloc: Global, from: u16, to: u16, byte: u8) -> Result<Numbered, AllocError> {
     let mut table = Table::new(alloc);
     for key in from..to {
-        table.insert(key, vec![in alloc; byte]?)?;
+        put(alloc, &mut table, key, byte)?;
     }
     Ok(table)
+}
+
+// Puts a value of one byte at a key.
+fn put(alloc: Global, table: &mut Numbered, key: u16, byte: u8) -> Result<(), AllocError> {
+    let value = [byte].as_slice().to_vec(alloc)?;
+    table.insert(key, value)
 }
 
 // Whether the table has the byte alone at the key.
@@ -39,45 +45,30 @@ fn keys_of_both<K: Key + Drop, V: Kept + Drop>(
     Ok(Some(left.join(alloc, right)?.entries().count()))
 }
 
+// The table that keeps the last value of a key, and each key once.
+fn small(alloc: Global) -> Result<Numbered, AllocError> {
+    let mut small = table(alloc, 9, 12, 1)?;
+    put(alloc, &mut small, 3, 1)?;
+    put(alloc, &mut small, 10, 7)?;
+    Ok(small)
+}
+
 #[test]
 fn tables(rt: HostRuntime) -> Result<(), Fail> {
     let alloc = rt.alloc();
-    let mut one = table(alloc, 9, 12, 1)?;
-    one.insert(3, vec![in alloc; 1]?)?;
-    one.insert(10, vec![in alloc; 7]?)?;
+    let one = small(alloc)?;
     assert!(rt; holds(&one, 10, 7), "the last value of a key stands");
-    let mut keys = Vec::new(alloc);
-    for (key, _) in one.entries() {
-        keys.push(*key)?;
-    }
-    assert_eq!(rt;
-        keys.as_slice(),
-        [3, 9, 10, 11].as_slice(),
-        "upwards by key"
-    );
+    let upwards = one.entries().map(|(key, _)| *key).eq([3, 9, 10, 11]);
+    assert!(rt; upwards, "upwards by key");
     let rows = [
-        (
-            table(alloc, 9, 12, 1)?,
-            Some(10),
-            None,
-            "one key in conflict",
-        ),
-        (
-            table(alloc, 9, 12, 2)?,
-            Some(9),
-            None,
-            "the smallest key in conflict",
-        ),
-        (
-            table(alloc, 12, 60_000, 2)?,
-            None,
-            Some(59_992),
-            "many entries",
-        ),
+        (9, 12, 1, Some(10), None, "one key in conflict"),
+        (9, 12, 2, Some(9), None, "the smallest key in conflict"),
+        (12, 60_000, 2, None, Some(59_992), "many entries"),
     ];
-    for (other, conflict, count, what) in &rows {
-        assert_eq!(rt; one.conflict(other).copied(), *conflict, "{what}");
-        assert_eq!(rt; keys_of_both(alloc, &one, other)?, *count, "{what}");
+    for (from, to, byte, conflict, count, what) in rows {
+        let other = table(alloc, from, to, byte)?;
+        assert!(rt; one.conflict(&other).copied() == conflict, "{what}");
+        assert!(rt; keys_of_both(alloc, &one, &other)? == count, "{what}");
     }
     Ok(())
 }
@@ -215,83 +206,110 @@ fn many_lines(alloc: Global) -> Result<Vec<u8>, AllocError> {
     joined(alloc, subrs.as_slice(), glyphs.as_slice())
 }
 
-// The text that two listings join to, or the key in conflict.
-fn outcome(alloc: Global, left: &Listing, right: &Listing) -> Result<Vec<u8>, AllocError> {
-    match listing::join(alloc, left, right) {
-        Ok(both) => listing::write(alloc, &both),
-        Err(JoinFault::Subr { index }) => Ok(format!(in alloc; "index {index}")?.into_bytes()),
-        Err(JoinFault::Glyph { name }) => joined(alloc, b"name ", name.as_slice()),
-        Err(JoinFault::Memory) => Err(AllocError),
+// What two listings join to: the text of both, or the key in conflict.
+#[derive(Clone, Copy)]
+enum Want<'a> {
+    Text(&'a [u8]),
+    Subr(u16),
+    Glyph(&'a [u8]),
+}
+
+// Whether two texts are listings that join so.
+fn join_so(alloc: Global, left: &[u8], right: &[u8], want: Want<'_>) -> bool {
+    match (listing::read(alloc, left), listing::read(alloc, right)) {
+        (Ok(left), Ok(right)) => listings_join_so(alloc, &left, &right, want),
+        _ => false,
+    }
+}
+
+fn listings_join_so(alloc: Global, left: &Listing, right: &Listing, want: Want<'_>) -> bool {
+    match (listing::join(alloc, left, right), want) {
+        (Ok(both), Want::Text(text)) => is_written_so(alloc, &both, text),
+        (Err(JoinFault::Subr { index }), Want::Subr(key)) => index == key,
+        (Err(JoinFault::Glyph { name }), Want::Glyph(key)) => name.as_slice() == key,
+        _ => false,
+    }
+}
+
+fn is_written_so(alloc: Global, listing: &Listing, text: &[u8]) -> bool {
+    match listing::write(alloc, listing) {
+        Ok(written) => written.as_slice() == text,
+        Err(_) => false,
     }
 }
 
 #[test]
-fn listings_join(rt: HostRuntime) -> Result<(), Fail> {
+fn listings_join(rt: HostRuntime) {
     let alloc = rt.alloc();
     let left: &[u8] = b"S 5 ef060b\nG X 8b0e\n";
     let right: &[u8] = b"G Y 0E\nS 5 ef060b\n";
     let both: &[u8] = b"S 5 ef060b\nG X 8b0e\nG Y 0e\n";
     let one: &[u8] = b"S 10 0b\nS 9 0b\nG A 0e\n";
     let other: &[u8] = b"S 10 0c\nS 9 0c\nG A 0d\n";
-    let rows: [(&[u8], &[u8], &[u8], &str); 11] = [
-        (left, right, both, "two listings"),
-        (right, left, both, "in the other order"),
-        (b"", b"", b"", "two empty listings"),
-        (b"S 00005 0b\n", b"", b"S 5 0b\n", "leading zeros"),
+    let rows: [(&[u8], &[u8], Want<'_>, &str); 11] = [
+        (left, right, Want::Text(both), "two listings"),
+        (right, left, Want::Text(both), "in the other order"),
+        (b"", b"", Want::Text(b""), "two empty listings"),
+        (
+            b"S 00005 0b\n",
+            b"",
+            Want::Text(b"S 5 0b\n"),
+            "leading zeros",
+        ),
         (
             b"G b 0e\nG B 0e\nS 10 aB\nS 9 \n",
             b"",
-            b"S 9 \nS 10 ab\nG B 0e\nG b 0e\n",
+            Want::Text(b"S 9 \nS 10 ab\nG B 0e\nG b 0e\n"),
             "order, cases, an empty value",
         ),
         (
             b"G \x80\xff\x01 0e\n",
             b"",
-            b"G \x80\xff\x01 0e\n",
+            Want::Text(b"G \x80\xff\x01 0e\n"),
             "other bytes in a name",
         ),
         (
             b"S 5 ef060b\n",
             b"S 5 0b\n",
-            b"index 5",
+            Want::Subr(5),
             "an index in conflict",
         ),
-        (b"S 7 \n", b"S 7 0b\n", b"index 7", "an entry of no bytes"),
-        (one, other, b"index 9", "the smallest index"),
+        (
+            b"S 7 \n",
+            b"S 7 0b\n",
+            Want::Subr(7),
+            "an entry of no bytes",
+        ),
+        (one, other, Want::Subr(9), "the smallest index"),
         (
             other,
             one,
-            b"index 9",
+            Want::Subr(9),
             "the smallest index, in the other order",
         ),
         (
             b"G b 0e\nG A 0e\nS 1 0b\n",
             b"G A 0d\nG b 0d\n",
-            b"name A",
+            Want::Glyph(b"A"),
             "the smallest name",
         ),
     ];
     for (left, right, want, what) in rows {
-        let left = listing::read(alloc, left).ok().ok_or("left")?;
-        let right = listing::read(alloc, right).ok().ok_or("right")?;
-        assert!(rt; outcome(alloc, &left, &right)?.as_slice() == want, "{what}");
+        assert!(rt; join_so(alloc, left, right, want), "{what}");
     }
-    Ok(())
 }
 
 #[test]
 fn many_lines_join(rt: HostRuntime) -> Result<(), Fail> {
     let alloc = rt.alloc();
     let text = many_lines(alloc)?;
-    let many = listing::read(alloc, text.as_slice()).ok().ok_or("many")?;
-    let rows: [(&[u8], &[u8]); 3] = [
-        (b"S 64999 0b\n", text.as_slice()),
-        (b"S 64999 0c\n", b"index 64999"),
-        (b"G 19999 0c\n", b"name 19999"),
+    let rows: [(&[u8], Want<'_>); 3] = [
+        (b"S 64999 0b\n", Want::Text(text.as_slice())),
+        (b"S 64999 0c\n", Want::Subr(64999)),
+        (b"G 19999 0c\n", Want::Glyph(b"19999")),
     ];
     for (right, want) in rows {
-        let right = listing::read(alloc, right).ok().ok_or("right")?;
-        assert!(rt; outcome(alloc, &many, &right)?.as_slice() == want);
+        assert!(rt; join_so(alloc, text.as_slice(), right, want));
     }
     Ok(())
 }
@@ -315,16 +333,8 @@ fn repeated(line: usize) -> Option<ListFault> {
 }
 
 #[test]
-fn reads_listings(rt: HostRuntime) -> Result<(), Fail> {
-    let alloc = rt.alloc();
-    let longest_name = long_line(alloc, 127, 2)?;
-    let longer_name = long_line(alloc, 128, 2)?;
-    let longest_value = long_line(alloc, 1, 131_070)?;
-    let longer_value = long_line(alloc, 1, 131_072)?;
-    let many = many_lines(alloc)?;
-    let bad = joined(alloc, many.as_slice(), b"S 65535 0b\n")?;
-    let twice = joined(alloc, many.as_slice(), b"G 10000 0e\n")?;
-    let rows: [(&[u8], Option<ListFault>, &str); 30] = [
+fn reads_listings(rt: HostRuntime) {
+    let rows: [(&[u8], Option<ListFault>, &str); 23] = [
         (b"S 65535 0b\n", bad_line(1), "an index over the largest"),
         (b"S 000001 0b\n", bad_line(1), "six digits"),
         (b"S  0b\n", bad_line(1), "no digit"),
@@ -360,28 +370,49 @@ fn reads_listings(rt: HostRuntime) -> Result<(), Fail> {
             "an index and a name are two keys",
         ),
         (b"S 65534 0b\n", None, "the largest index"),
-        (longest_name.as_slice(), None, "the longest name"),
+    ];
+    for (text, want, what) in rows {
+        assert!(rt; listing::read(rt.alloc(), text).err() == want, "{what}");
+    }
+}
+
+#[test]
+fn reads_long_lines(rt: HostRuntime) -> Result<(), Fail> {
+    let rows = [
+        (127, 2, None, "the longest name"),
+        (128, 2, bad_line(1), "a name of one byte more"),
+        (1, 131_070, None, "the longest value"),
+        (1, 131_072, bad_line(1), "a value of one byte more"),
+    ];
+    for (name, digits, want, what) in rows {
+        let line = long_line(rt.alloc(), name, digits)?;
+        assert!(rt;
+            listing::read(rt.alloc(), line.as_slice()).err() == want,
+            "{what}"
+        );
+    }
+    Ok(())
+}
+
+#[test]
+fn reads_many_lines(rt: HostRuntime) -> Result<(), Fail> {
+    let alloc = rt.alloc();
+    let many = many_lines(alloc)?;
+    let rows: [(&[u8], Option<ListFault>, &str); 3] = [
+        (b"", None, "many lines"),
+        (b"S 65535 0b\n", bad_line(75_001), "a bad line after many"),
         (
-            longer_name.as_slice(),
-            bad_line(1),
-            "a name of one byte more",
-        ),
-        (longest_value.as_slice(), None, "the longest value"),
-        (
-            longer_value.as_slice(),
-            bad_line(1),
-            "a value of one byte more",
-        ),
-        (many.as_slice(), None, "many lines"),
-        (bad.as_slice(), bad_line(75_001), "a bad line after many"),
-        (
-            twice.as_slice(),
+            b"G 10000 0e\n",
             repeated(75_001),
             "a name twice, after many lines",
         ),
     ];
-    for (text, want, what) in &rows {
-        assert!(rt; listing::read(alloc, text).err() == *want, "{what}");
+    for (last, want, what) in rows {
+        let text = joined(alloc, many.as_slice(), last)?;
+        assert!(rt;
+            listing::read(alloc, text.as_slice()).err() == want,
+            "{what}"
+        );
     }
     Ok(())
 }
