@@ -1,0 +1,10 @@
+use Rattle.std.proofs.Common.{rules, ◌≡◌, true}
+use Rattle.std.proofs.lemmas.Result.{IfOk-weaker}
+use Rattle.t1_run.specs.declared.answer.Hints.TheVariants.{Kept}
+use Rattle.t1_run.specs.Rules.{with_arguments}
+use Rattle.t1_run.specs.Machine.{step_of, is_one, state_of}
+use Rattle.t1_run.proofs.machine.Machine.call_other.Goals as goal
+
+pub returns-clause-one : goal.returns-clause-one
+returns-clause-one c =
+    IfOk-weaker c.with_arguments.result _ _ (λ flow same is. let k = same is in search rules) c.with_arguments.ensures.one
