@@ -237,6 +237,7 @@ pub fn both_answers<S: Subroutines>(
 ) -> Result<BothAnswers, AllocError>
     ensures direct { IfOk result (λ b. value_of b.direct ≡ direct (S.subrs subrs.now) charstring.now) }
     ensures direct3 { IfOk result (λ b. kept_value b ≡ direct3 (S.subrs subrs.now) charstring.now) }
+    ensures within { IfOk result (λ b. EndsWithinLimits (value_of b.direct) × EndsWithinLimits (kept_value b)) }
     ensures executed { IfOk result (λ b. b.executed.keys ≡ exec (S.subrs subrs.now) charstring.now) }
 {
     let mut executed = BTreeSet::new(alloc);
@@ -254,6 +255,21 @@ pub fn both_answers<S: Subroutines>(
         direct3: Some(kept),
         executed,
     })
+}
+
+/// What [`direct`] and [`executed`] answer of a plain charstring, by the runs of [`both_answers`]. It fails for want of
+/// memory alone.
+pub fn direct_and_executed<S: Subroutines>(
+    alloc: Global,
+    subrs: &S,
+    charstring: &[u8],
+) -> Result<(Direct, BTreeSet<u16>), AllocError>
+    ensures answer { IfOk result (λ r. value_of r.0 ≡ direct (S.subrs subrs.now) charstring.now) }
+    ensures within { IfOk result (λ r. EndsWithinLimits (value_of r.0)) }
+    ensures indices { IfOk result (λ r. r.1.keys ≡ exec (S.subrs subrs.now) charstring.now) }
+{
+    let both = both_answers(alloc, subrs, charstring)?;
+    Ok((both.direct, both.executed))
 }
 
 /// The indices that `callsubr` takes in the run of a plain charstring, up to its end or fault, where hints are replaced or
