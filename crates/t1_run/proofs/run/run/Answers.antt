@@ -8,10 +8,10 @@ use Rattle.t1_run.proofs.run.run.Goals as goal
 
 pub turns-init : goal.turns-init
 turns-init g c = (
-    search rules,
-    begins (g.S.Subroutines.subrs c.args.subrs.now) c.args.hints c.args.charstring.now (state_of c.args.machine.now) c.args.called.now.keys c.push.new.self.items c.new.result (search rules) c.new.ensures c.requires,
-    mirror_begins (g.S.Subroutines.subrs c.args.subrs.now) c.args.hints Kept c.args.charstring.now (state_of c.args.machine.now) c.push.new.self.items c.new.result (search rules) c.new.ensures,
-  )
+  search rules,
+  begins (g.S.Subroutines.subrs c.args.subrs.now) c.args.hints c.args.charstring.now (state_of c.args.machine.now) c.args.called.now.keys c.push.new.self.items c.new.result (search rules) c.new.ensures c.requires,
+  mirror_begins (g.S.Subroutines.subrs c.args.subrs.now) c.args.hints Kept c.args.charstring.now (state_of c.args.machine.now) c.push.new.self.items c.new.result (search rules) c.new.ensures,
+)
 
 pub returns-in_default-clause-runs : goal.returns-in_default-clause-runs
 returns-in_default-clause-runs g c =
