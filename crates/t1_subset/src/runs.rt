@@ -2,7 +2,9 @@
 
 ghost use Rattle.std.specs.Prelude.{◌≡◌, IfOk, OnOk, map};
 ghost use Rattle.std.specs.FinSet as sets;
-ghost use Rattle.t1_subset.specs.Profile.{profile};
+ghost use Rattle.t1_run.specs.Machine.{value_of};
+ghost use Rattle.t1_run.specs.BothAnswers.{kept_value};
+ghost use Rattle.t1_subset.specs.Profile.{profile, names_of_both};
 ghost use Rattle.t1_subset.specs.Keep.{components, charstring};
 ghost use Rattle.t1_subset.specs.Calls.{number_set, called_in};
 ghost use Rattle.t1_subset.specs.Lacking.{named_in};
@@ -12,7 +14,7 @@ use crate::name_sets::NameSet;
 use std::alloc::{AllocError, Global};
 use std::collections::BTreeSet;
 use t1_font::Font;
-use t1_run::{Glyphs, direct, direct_and_executed, parts_of};
+use t1_run::{BothAnswers, Glyphs, both_answers, parts_of};
 
 /// The Subrs that the glyphs of a font execute, and the components that they name.
 #[derive(Drop)]
@@ -21,7 +23,21 @@ pub(crate) struct Runs {
     pub(crate) components: NameSet,
 }
 
-/// What the run of a glyph comes to: the components that it names, and the Subrs that it executes.
+/// The components that the outcomes of a charstring name, where hints are replaced and where they are kept.
+fn names_of(alloc: Global, both: &BothAnswers) -> Result<Vec<&'static str>, AllocError>
+    ensures { IfOk result (λ ps. map (λ s. s.now) ps.items ≡ names_of_both (value_of both.now.direct, kept_value both.now)) }
+{
+    let mut names = parts_of(alloc, &both.direct)?;
+    let kept = match &both.direct3 {
+        Some(kept) => kept,
+        None => &both.direct,
+    };
+    let more = parts_of(alloc, kept)?;
+    names.extend_from_slice(more.as_slice())?;
+    Ok(names)
+}
+
+/// What the runs of a glyph come to: the components that they name, and the Subrs that they execute.
 pub(crate) fn run_of(
     alloc: Global,
     font: &Font<'_>,
@@ -33,8 +49,9 @@ pub(crate) fn run_of(
     font.is_font();
     match font.glyph(name) {
         Some(charstring) => {
-            let (outcome, calls) = direct_and_executed(alloc, font, charstring)?;
-            Ok((parts_of(alloc, &outcome)?, calls))
+            let both = both_answers(alloc, font, charstring)?;
+            let names = names_of(alloc, &both)?;
+            Ok((names, both.executed))
         }
         None => Ok((Vec::new(alloc), BTreeSet::new(alloc))),
     }
@@ -48,14 +65,8 @@ pub(crate) fn components_of_glyph(
 ) -> Result<Vec<&'static str>, AllocError>
     ensures { IfOk result (λ ps. map (λ s. s.now) ps.items ≡ components profile font.now.subrs (charstring font.now name.now)) }
 {
-    font.is_font();
-    match font.glyph(name) {
-        Some(charstring) => {
-            let outcome = direct(alloc, font, charstring)?;
-            parts_of(alloc, &outcome)
-        }
-        None => Ok(Vec::new(alloc)),
-    }
+    let (components, _) = run_of(alloc, font, name)?;
+    Ok(components)
 }
 
 /// Adds the names of components.
