@@ -2,6 +2,7 @@
 
 mod closures;
 mod fonts;
+mod kept;
 mod large;
 mod mergers;
 mod rows;
