@@ -2,6 +2,7 @@
 
 mod closures;
 mod fonts;
+mod growths;
 mod large;
 mod mergers;
 mod rows;
