@@ -2,6 +2,7 @@
 
 mod closures;
 mod fonts;
+mod growths;
 mod kept;
 mod large;
 mod mergers;
