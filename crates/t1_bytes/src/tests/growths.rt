@@ -53,10 +53,10 @@ fn growths(rt: HostRuntime) -> Result<(), Fail> {
 #[test]
 fn no_growth(rt: HostRuntime) -> Result<(), Fail> {
     let mut bytes = *b"\x10\xbf\x31\x70\xf9";
-    assert!(rt; open(bytes.as_mut_slice(), CHARSTRING_KEY, 4) == b"\x0b");
+    assert!(rt; open(bytes.as_mut_slice(), CHARSTRING_KEY, 4) == b"\x0b".as_slice());
     encrypt(bytes.as_mut_slice(), CHARSTRING_KEY);
     decrypt(bytes.as_mut_slice(), CHARSTRING_KEY);
-    assert!(rt; bytes == *b"\x00\x00\x00\x00\x0b");
+    assert!(rt; bytes.as_slice() == b"\x00\x00\x00\x00\x0b".as_slice());
     let mut file = Vec::new(rt.alloc());
     flatten_in_place(&mut file)?;
     assert!(rt; file.is_empty() && trailer().len() == 532);

@@ -52,7 +52,7 @@ fn draws_right(alloc: Global, font: &GlyphFont<'_>) -> Result<bool, AllocError> 
     let Drawing::Drawn { parts: kept, .. } = draw3(alloc, font, b"Aacute")? else {
         return Ok(false);
     };
-    Ok(parts.len() == 2 && kept.len() == 2 && names.as_slice() == ["A", "acute"])
+    Ok(parts.len() == 2 && kept.len() == 2 && names.as_slice() == ["A", "acute"].as_slice())
 }
 
 // Whether all of these calls answer right.
