@@ -37,6 +37,26 @@ fn writes(
     Ok(written(out, ended)?.is_some_and(|text| text.as_slice() == want))
 }
 
+/// The PFA of Tiny's subset of X.
+fn subset_of_x(alloc: Global) -> Result<Option<Vec<u8>>, AllocError> {
+    let mut out = Vec::with_capacity(alloc, 2224)?;
+    let ended = run(
+        alloc,
+        Engine::Subset(&[b"X"], Form::Pfa),
+        &mut Counted::new(PFA.as_slice()),
+        &mut Counted::new(&mut out),
+    );
+    written(out, ended)
+}
+
+/// Whether it has its size, and is the same when it is cut again.
+fn subsets(alloc: Global) -> Result<bool, AllocError> {
+    match (subset_of_x(alloc)?, subset_of_x(alloc)?) {
+        (Some(one), Some(other)) => Ok(one.len() == 2224 && one.as_slice() == other.as_slice()),
+        _ => Ok(false),
+    }
+}
+
 /// Whether two listings join to this text.
 fn joins(alloc: Global, left: &[u8], right: &[u8], want: &[u8]) -> Result<bool, AllocError> {
     let mut out = Vec::with_capacity(alloc, want.len())?;
@@ -98,20 +118,11 @@ close
 const LISTED: &[u8] = b"S 5 ef060b\nG X 8b0e\nG Y 0e\n";
 
 /// The engines over Tiny's PFA, and what they write.
-const ENGINES: [(Engine<'static>, &[u8]); 5] = [
+const ENGINES: [(Engine<'static>, &[u8]); 4] = [
     (Engine::Check, CHECKED),
     (Engine::List, super::engines::TINY_LISTED),
     (Engine::Show(b"X"), SHOWN),
     (Engine::Convert(Form::Pfb), PFB),
-    (
-        Engine::Subset(
-            &[
-                b"A", b"Aacute", b"B", b"F", b"H", b"L", b"N", b"X", b"Y", b"acute",
-            ],
-            Form::Pfb,
-        ),
-        PFB,
-    ),
 ];
 
 /// Whether each engine writes right.
@@ -121,7 +132,8 @@ fn write_right(alloc: Global) -> Result<bool, AllocError> {
             return Ok(false);
         }
     }
-    Ok(joins(alloc, LEFT, RIGHT, LISTED)? && merges(alloc)? && reads(alloc)? && tells(alloc)?)
+    let fonts = subsets(alloc)? && merges(alloc)?;
+    Ok(fonts && joins(alloc, LEFT, RIGHT, LISTED)? && reads(alloc)? && tells(alloc)?)
 }
 
 #[test]
