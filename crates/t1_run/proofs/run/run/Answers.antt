@@ -1,6 +1,6 @@
-use Rattle.std.proofs.Common.{rules, refl, ◌∙◌, ap, List, []}
+use Rattle.std.proofs.Common.{rules, refl, ◌∙◌}
 use Rattle.t1_run.specs.declared.answer.Hints.TheVariants.{Kept}
-use Rattle.t1_run.specs.State.{Back, Plain, Seac, Failed}
+use Rattle.t1_run.specs.State.{Plain, Seac, Failed}
 use Rattle.t1_run.specs.Machine.{state_of}
 use Rattle.t1_run.proofs.Turns.{begins, turn, runs_out, some_pushed, without_top, on_goes, on_back, on_last, on_end, on_fault, on_call}
 use Rattle.t1_run.proofs.Mirrors.{mirror_begins, mirror_turn, mirror_out, mirror_goes, mirror_back, mirror_last, mirror_end, mirror_fault, mirror_call}

@@ -1,8 +1,5 @@
-use Rattle.std.proofs.Common.{rules, ◌≡◌, true}
+use Rattle.std.proofs.Common.{rules}
 use Rattle.std.proofs.lemmas.Result.{IfOk-weaker}
-use Rattle.t1_run.specs.declared.answer.Hints.TheVariants.{Kept}
-use Rattle.t1_run.specs.Rules.{with_arguments}
-use Rattle.t1_run.specs.Machine.{step_of, is_one, state_of}
 use Rattle.t1_run.proofs.machine.Machine.call_other.Goals as goal
 
 pub returns-clause-one : goal.returns-clause-one
