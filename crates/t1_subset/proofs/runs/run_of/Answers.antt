@@ -1,5 +1,4 @@
-use Rattle.std.proofs.Common.{◌≡◌, List, ℕ, map, Bor, ◌∙◌, ap, sym}
-use Rattle.t1_run.specs.State.{Ending}
+use Rattle.std.proofs.Common.{List, ℕ, map, Bor, ◌∙◌, ap, sym}
 use Rattle.t1_subset.specs.Profile.{set_of, names_of_both}
 use Rattle.t1_subset.proofs.ProfileRuns.{components_are, no_components}
 use Rattle.t1_subset.proofs.ExecutedCalls.{calls_are, no_calls}
