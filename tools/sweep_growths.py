@@ -12,6 +12,7 @@ import collections
 import glob
 import os
 import re
+import shutil
 import subprocess
 import sys
 import tempfile
@@ -70,7 +71,8 @@ class Shim:
         self.folder = folder
         self.path = os.path.join(folder, "refuse_growth.so")
         source = os.path.join(TOP, "tools/refuse_growth.c")
-        subprocess.run(["cc", "-shared", "-fPIC", "-O1", "-o", self.path, source, "-ldl"], check=True)
+        compiler = next(filter(shutil.which, ["cc", "gcc", "clang"]), "cc")
+        subprocess.run([compiler, "-shared", "-fPIC", "-O1", "-o", self.path, source, "-ldl"], check=True)
 
     def run(self, words, number):
         """The finished process, and whether it met the growth that is refused: of this number, or `all`."""
