@@ -1,18 +1,22 @@
-/* Preloaded under a program: its growth number REFUSE_AT is refused, and the file REFUSED_FLAG is made then. */
+/* Preloaded under a program: its growth number REFUSE_AT is refused, or every growth where that is "all", and the file
+ * REFUSED_FLAG is made then. */
 #define _GNU_SOURCE
 #include <dlfcn.h>
 #include <errno.h>
 #include <fcntl.h>
 #include <stdlib.h>
+#include <limits.h>
 #include <unistd.h>
+
+#define ALL LONG_MAX
 
 static int refused(void) {
     static long count, at = -1;
     if (at < 0) {
         const char *word = getenv("REFUSE_AT");
-        at = word ? atol(word) : 0;
+        at = !word ? 0 : *word == 'a' ? ALL : atol(word);
     }
-    if (++count != at) return 0;
+    if (++count != at && at != ALL) return 0;
     const char *flag = getenv("REFUSED_FLAG");
     if (flag) close(open(flag, O_CREAT | O_WRONLY, 0600));
     errno = ENOMEM;

@@ -1,26 +1,29 @@
 #!/usr/bin/env python3
-"""Runs a built program with each of its growths refused in turn, until a run meets no refusal.
+"""Refuses each growth in turn, upwards until a run meets none, over what `rt ci` built.
 
-Each run has to end by itself with a status that the program documents, and a run with memory has to give the
-right bytes, or the one line by which the words are refused. A run without it gives these too, or no bytes and the
-reason. A test has to end by itself or by one of its assertions.
+In each crate a test `growths` makes every call that grows, and makes it again where it answers want of memory: so each
+run of it has to end well. A test `no_growth` makes calls that take no memory, and ends well with every growth refused.
+A word of the program answers right, or that it is out of memory with nothing written. A call that grows and is named
+in no such test is a fault, and so is a sweep that met no growth.
 
-usage: tools/sweep_growths.py            the program and the test binaries that are built
-Wants gcc. Part of no gate.
+usage: tools/sweep_growths.py    wants a C compiler
 """
 import collections
 import glob
 import os
-import signal
+import re
+import shutil
 import subprocess
 import sys
 import tempfile
+from concurrent.futures import ThreadPoolExecutor
 
-TOP = os.path.join(os.path.dirname(os.path.abspath(__file__)), "..")
-PROGRAM = os.path.join(TOP, "bin/t1subset")
+TOP = os.path.abspath(os.path.join(os.path.dirname(os.path.abspath(__file__)), ".."))
+PROGRAM = os.path.join(TOP, "crates/t1subset/out/t1subset")
+CRATES = ["t1_bytes", "t1_char", "t1_run", "t1_join", "t1_font", "t1_subset", "t1_example", "t1_cmd"]
 TINY = os.path.join(TOP, "examples/tiny.")
 NO_MEMORY = b"refused: out of memory\n"
-
+LANES = os.cpu_count() or 1
 LISTED = b"""code 65 X
 subr 0 11
 subr 1 5
@@ -61,34 +64,50 @@ close
 Case = collections.namedtuple("Case", "words want out refusal", defaults=(None, None))
 
 
-def runs(shim, folder, words):
-    """Each run as (number, refused or not, finished process)."""
-    flag = os.path.join(folder, "refused")
-    number = 0
-    while True:
-        number += 1
-        env = dict(os.environ, LD_PRELOAD=shim, REFUSE_AT=str(number), REFUSED_FLAG=flag)
+class Shim:
+    """The growths that are refused under a program."""
+
+    def __init__(self, folder):
+        self.folder = folder
+        self.path = os.path.join(folder, "refuse_growth.so")
+        source = os.path.join(TOP, "tools/refuse_growth.c")
+        compiler = next(filter(shutil.which, ["cc", "gcc", "clang"]), "cc")
+        subprocess.run([compiler, "-shared", "-fPIC", "-O1", "-o", self.path, source, "-ldl"], check=True)
+
+    def run(self, words, number):
+        """The finished process, and whether it met the growth that is refused: of this number, or `all`."""
+        flag = os.path.join(self.folder, f"refused-{os.getpid()}-{number}-{id(words)}")
+        env = dict(os.environ, LD_PRELOAD=self.path, REFUSE_AT=str(number), REFUSED_FLAG=flag)
         done = subprocess.run(words, env=env, stdin=subprocess.DEVNULL, capture_output=True, timeout=120)
-        refused = os.path.exists(flag)
-        if refused:
+        met = os.path.exists(flag)
+        if met:
             os.remove(flag)
-        yield number, refused, done
-        if not refused:
-            return
+        return done, met
 
 
-def taken(path):
-    """The bytes of a file, which is removed; none where it isn't there."""
-    if not os.path.exists(path):
-        return b""
-    with open(path, "rb") as f:
-        written = f.read()
-    os.remove(path)
-    return written
+def sweep_test(shim, words):
+    """How many growths a test meets; each of its runs ends well."""
+
+    def one(number):
+        done, met = shim.run(words, number)
+        if done.returncode != 0:
+            sys.exit(f"{' '.join(words)}, growth {number}: status {done.returncode}: {done.stderr.decode()}")
+        return met
+
+    count = 0
+    with ThreadPoolExecutor(LANES) as pool:
+        while True:
+            met = list(pool.map(one, range(count + 1, count + 1 + 16 * LANES)))
+            count += sum(met)
+            if not all(met):
+                break
+    if count == 0:
+        sys.exit(f"{' '.join(words)} met no growth")
+    return count
 
 
 def wrong(case, refused, done, written):
-    """What is wrong with a run, or None."""
+    """What is wrong with a run of the program, or None."""
     told = case.want is None or written == case.want
     if done.returncode < 0:
         return "ended by a signal"
@@ -107,25 +126,31 @@ def wrong(case, refused, done, written):
     return None
 
 
-def sweep(shim, folder, case):
+def taken(path):
+    """The bytes of a file, which is removed; none where it isn't there."""
+    if not os.path.exists(path):
+        return b""
+    with open(path, "rb") as f:
+        written = f.read()
+    os.remove(path)
+    return written
+
+
+def sweep_words(shim, case):
+    """How many growths the program meets by these words; each of its runs ends as the program documents."""
     words = [PROGRAM] + case.words
-    for number, refused, done in runs(shim, folder, words):
+    number, refused = 0, True
+    while refused:
+        number += 1
+        done, refused = shim.run(words, number)
         written = taken(case.out) if case.out else done.stdout
-        fault = wrong(case, refused, done, written)
+        left = [name for name in os.listdir(shim.folder) if name.endswith(".part")]
+        fault = wrong(case, refused, done, written) or (left and f"{left[0]} is left")
         if fault:
             sys.exit(f"{' '.join(words)}, growth {number}: status {done.returncode}: {fault}")
-    print(f"t1subset {' '.join(case.words)}: {number - 1} growths refused in turn")
-
-
-def sweep_test(shim, folder, words):
-    for number, refused, done in runs(shim, folder, words):
-        told = f"{' '.join(words)}, growth {number}: status {done.returncode}"
-        if done.returncode < 0 and done.returncode != -signal.SIGABRT:
-            sys.exit(f"{told}: ended by a signal")
-        if not refused and done.returncode != 0:
-            sys.exit(f"{told}: wrong with memory")
-    print(f"{' '.join(words)}: {number - 1} growths refused in turn")
-
+    if number == 1:
+        sys.exit(f"{' '.join(words)} met no growth")
+    return number - 1
 
 def ciphered(text, opens):
     """A text through the cipher of eexec, which is opened or closed."""
@@ -191,26 +216,86 @@ def listing_cases():
     yield Case(["join", "--help"], None)
 
 
-def tests_that_are_built():
-    for tests in sorted(glob.glob(os.path.join(TOP, "crates/*/out/*_tests"))):
-        listed = subprocess.run([tests, "--list"], capture_output=True, text=True, check=True).stdout
-        for line in listed.splitlines():
-            name, kind = line.rsplit(": ", 1)
-            if kind == "test":
-                yield [tests, name]
+def text_of(path):
+    with open(path, encoding="utf-8") as f:
+        return f.read()
+
+
+def bodies_of_tests(crate):
+    """The body of each function of a test module that stands at the margin, by its file and its name."""
+    pattern = re.compile(r"^(?:pub(?:\(\w+\))? )?fn (\w+)(.*?)^}", re.M | re.S)
+    source = os.path.join(TOP, "crates", crate, "src")
+    for path in glob.glob(source + "/tests/*.rt") + [source + "/tests.rt"]:
+        for name, body in pattern.findall(text_of(path)):
+            yield (path, name), body
+
+
+def called_in(crate):
+    """The names that the tests of growths of a crate call, and those that these call in the test module."""
+    bodies = dict(bodies_of_tests(crate))
+    found = [(path, name) for path, name in bodies if name.startswith(("growths", "no_growth"))]
+    called = set()
+    for path, name in found:
+        for word in re.findall(r"(\w+)\(", bodies[path, name]):
+            called.add(word)
+            here = [(path, word)] if (path, word) in bodies else [key for key in bodies if key[1] == word]
+            found.extend(key for key in here if key not in found)
+    return called
+
+
+def calls_that_grow(crate):
+    """The names of the functions and methods that a crate hands on and that may want memory."""
+    source = os.path.join(TOP, "crates", crate, "src")
+    root = text_of(source + "/lib.rt")
+    handed_on = set(re.findall(r"\w+", " ".join(re.findall(r"^pub use (?!t1_)[^;]*;", root, re.M))))
+    rooms = set(re.findall(r"^pub mod (\w+);", root, re.M)) | {"lib"}
+    pattern = re.compile(r"^( *)pub fn (\w+)(?:<[^(]*>)?\(([^)]*)\)(?: -> ([^{\n]*))?", re.M)
+    for path in sorted(glob.glob(source + "/*.rt")):
+        room = os.path.basename(path)[:-3]
+        for indent, name, parameters, answer in pattern.findall(text_of(path)):
+            grows = "Global" in parameters or re.search("AllocError|BytesFault", answer)
+            if grows and (indent or name in handed_on or room in rooms):
+                yield name
+
+
+def built_tests(crate):
+    """The words that run each test of growths of a crate, and whether it refuses all."""
+    path = os.path.join(TOP, "crates", crate, "out", crate + "_tests")
+    listed = subprocess.run([path, "--list"], capture_output=True, text=True, check=True).stdout
+    for name in re.findall(r"^(.*): test$", listed, re.M):
+        word = name.rsplit("::", 1)[-1]
+        if word.startswith(("growths", "no_growth")):
+            yield [path, name], word == "no_growth"
+
+
+def sweep_crate(shim, crate):
+    """How many runs a crate's tests took."""
+    lacking = sorted(set(calls_that_grow(crate)) - called_in(crate))
+    if lacking:
+        sys.exit(f"{crate}: no test of growths calls {', '.join(lacking)}")
+    runs = 0
+    for words, refuses_all in built_tests(crate):
+        if refuses_all:
+            done, met = shim.run(words, "all")
+            if met or done.returncode != 0:
+                sys.exit(f"{' '.join(words)}: wants memory, or fails: {done.stderr.decode()}")
+            runs += 1
+        else:
+            runs += sweep_test(shim, words) + 1
+    if runs == 0:
+        sys.exit(f"{crate} has no test of growths")
+    return runs
 
 
 def main():
+    runs = 0
     with tempfile.TemporaryDirectory() as folder:
-        shim = os.path.join(folder, "refuse_growth.so")
-        source = os.path.join(TOP, "tools/refuse_growth.c")
-        subprocess.run(["gcc", "-shared", "-fPIC", "-O1", "-o", shim, source, "-ldl"], check=True)
-        for case in listing_cases():
-            sweep(shim, folder, case)
-        for case in font_cases(folder):
-            sweep(shim, folder, case)
-        for words in tests_that_are_built():
-            sweep_test(shim, folder, words)
+        shim = Shim(folder)
+        for crate in CRATES:
+            runs += sweep_crate(shim, crate)
+        for case in [*listing_cases(), *font_cases(folder)]:
+            runs += sweep_words(shim, case) + 1
+    print(f"sweep of growths: {runs} runs, each refused growth answered")
 
 
 main()

@@ -3,6 +3,7 @@ mod counts;
 mod drawings;
 mod engines;
 mod failing_merges;
+mod growths;
 mod merges;
 mod subsets;
 mod tiny;

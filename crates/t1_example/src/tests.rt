@@ -96,3 +96,21 @@ fn refusals(rt: HostRuntime) -> Result<(), Fail> {
     assert!(rt; refusal(rt.alloc(), b"%!", b"A") == no_font);
     Ok(())
 }
+
+/// The names in the file of both subsets.
+fn joined_names(alloc: Global) -> Result<Vec<u8>, AllocError> {
+    let file = joined(alloc, Order::FirstIntoSecond, Form::Pfb)?;
+    names_in(alloc, file.as_slice())
+}
+
+// `tools/sweep_growths.py` refuses one growth after the other: a call that then answers want of memory answers right when
+// it is made again.
+#[test]
+fn growths(rt: HostRuntime) -> Result<(), Fail> {
+    let names = match joined_names(rt.alloc()) {
+        Err(AllocError) => joined_names(rt.alloc())?,
+        answer => answer?,
+    };
+    assert!(rt; names.as_slice() == b".notdef A B ".as_slice());
+    Ok(())
+}

@@ -5,6 +5,7 @@ mod again;
 mod cuts;
 mod edges;
 mod faults;
+mod growths;
 mod long;
 mod prefixes;
 mod rows;

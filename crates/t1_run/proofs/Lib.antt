@@ -1,4 +1,6 @@
 pub mod Locality
+mod Indices
+mod Mirrors
 pub mod DrawingLocality
 mod Resumed
 mod Turns

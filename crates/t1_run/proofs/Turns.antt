@@ -20,11 +20,11 @@ use Rattle.t1_run.proofs.Resumed.{resume_after, resume_visiting, resume_twice, r
 -- ---- what the next token of the list on top makes of a run of lists
 
 -- the visits of a token of the list on top
-abbrev seen : List (List Token) → State → Step → List Visit
+abbrev pub seen : List (List Token) → State → Step → List Visit
 seen below s step = visits_by (length below) (visit s step)
 
 -- a call by the list on top, and from its Back the run of the lists
-abbrev call_on : Subrs → Hints → ℕ → List (List Token) → Option ℕ → State → Outcome
+abbrev pub call_on : Subrs → Hints → ℕ → List (List Token) → Option ℕ → State → Outcome
 call_on subrs hints levels lists index s = resume (deeper_by (length lists) (call subrs hints levels index s)) (run_frames subrs hints levels lists)
 
 module _ (subrs : Subrs) (hints : Hints) (levels : ℕ) (below : List (List Token)) where
@@ -32,7 +32,7 @@ module _ (subrs : Subrs) (hints : Hints) (levels : ℕ) (below : List (List Toke
   below_runs = run_frames subrs hints (suc levels) below
 
   -- there is none
-  none_left : (s : State) → run_frames subrs hints levels ([] ∷ below) s ≡ ends (Failed Unended)
+  pub none_left : (s : State) → run_frames subrs hints levels ([] ∷ below) s ≡ ends (Failed Unended)
   none_left s = ap (λ (o : Outcome). resume o below_runs) (deeper_by-ends (length below) (Failed Unended))
 
   module _ (t : Token) (ts : List Token) (s : State) where
@@ -48,16 +48,16 @@ module _ (subrs : Subrs) (hints : Hints) (levels : ℕ) (below : List (List Toke
         ∙ resume_visiting (seen below s step) (deeper_by (length below) (on step)) below_runs
 
     -- it goes on, and so does its list
-    token_goes : (s' : State) → Goes s' ≡ spend hints t s → lists_run ≡ visiting (seen below s (Goes s')) (run_frames subrs hints levels (ts ∷ below) s')
+    pub token_goes : (s' : State) → Goes s' ≡ spend hints t s → lists_run ≡ visiting (seen below s (Goes s')) (run_frames subrs hints levels (ts ∷ below) s')
     token_goes s' e = token_steps (Goes s') e
 
     -- it ends its list, and from a Back the lists below go on
-    token_ends : (end : Ending) → Ends end ≡ spend hints t s → lists_run ≡ visiting (seen below s (Ends end)) (then_run end below_runs)
+    pub token_ends : (end : Ending) → Ends end ≡ spend hints t s → lists_run ≡ visiting (seen below s (Ends end)) (then_run end below_runs)
     token_ends end e =
         token_steps (Ends end) e ∙ ap (λ (o : Outcome). visiting (seen below s (Ends end)) (resume o below_runs)) (deeper_by-ends (length below) end)
 
     -- it calls, and from a Back of the call its list goes on
-    token_calls : (s' : State) (i : ℤ) → Calls i s' ≡ spend hints t s → lists_run ≡ visiting (seen below s (Calls i s')) (after (taken (index_of i)) (call_on subrs hints levels (ts ∷ below) (index_of i) s'))
+    pub token_calls : (s' : State) (i : ℤ) → Calls i s' ≡ spend hints t s → lists_run ≡ visiting (seen below s (Calls i s')) (after (taken (index_of i)) (call_on subrs hints levels (ts ∷ below) (index_of i) s'))
     token_calls s' i e =
         let called : Outcome = call subrs hints levels (index_of i) s' in
         let on : State → Outcome = run subrs hints levels ts in
@@ -70,11 +70,11 @@ module _ (subrs : Subrs) (hints : Hints) (levels : ℕ) (below : List (List Toke
 
 module _ (subrs : Subrs) (hints : Hints) (lists : List (List Token)) (index : Option ℕ) (s : State) where
   -- a call that fails ends the run
-  call_fails : (levels : ℕ) (fault : Fault) → call subrs hints levels index s ≡ ends (Failed fault) → call_on subrs hints levels lists index s ≡ ends (Failed fault)
+  pub call_fails : (levels : ℕ) (fault : Fault) → call subrs hints levels index s ≡ ends (Failed fault) → call_on subrs hints levels lists index s ≡ ends (Failed fault)
   call_fails levels fault e = ap (λ (o : Outcome). resume o (run_frames subrs hints levels lists)) (ap (deeper_by (length lists)) e ∙ deeper_by-ends (length lists) (Failed fault))
 
   -- a call of a Subr puts its tokens on top, where calls may be one level less deep
-  call_enters : (levels : ℕ) (c : List ℕ) → entry subrs index ≡ Some c → call_on subrs hints (suc levels) lists index s ≡ run_frames subrs hints levels (tokens c ∷ lists) s
+  pub call_enters : (levels : ℕ) (c : List ℕ) → entry subrs index ≡ Some c → call_on subrs hints (suc levels) lists index s ≡ run_frames subrs hints levels (tokens c ∷ lists) s
   call_enters levels c e = ap (λ (o : Option (List ℕ)). resume (deeper_by (length lists) (enter o (run subrs hints levels) s)) (run_frames subrs hints (suc levels) lists)) e
 
 -- ---- what is left of a whole run
@@ -131,11 +131,11 @@ module _ {whole : Outcome} {old : List ℕ} where
 
 -- ---- turns of the frames
 
-lists_push : (frames rest : List Frame) (f : Frame) → frames ≡ rest ++ f ∷ [] → lists_of frames ≡ frame_left f ∷ lists_of rest
+pub lists_push : (frames rest : List Frame) (f : Frame) → frames ≡ rest ++ f ∷ [] → lists_of frames ≡ frame_left f ∷ lists_of rest
 lists_push frames rest f pushed =
     ap lists_of pushed ∙ ap reverse (map-append frame_left rest (f ∷ [])) ∙ reverse-append (map frame_left rest) (frame_left f ∷ [])
 
-length_push : (frames rest : List Frame) (f : Frame) → frames ≡ rest ++ f ∷ [] → length frames ≡ length rest + 1
+pub length_push : (frames rest : List Frame) (f : Frame) → frames ≡ rest ++ f ∷ [] → length frames ≡ length rest + 1
 length_push frames rest f pushed = ap length pushed ∙ length-append rest (f ∷ [])
 
 -- there is a frame on top
@@ -206,6 +206,13 @@ module _ {whole : Outcome} {old : List ℕ} {subrs : Subrs} {hints : Hints} {res
         left = left_after (seen (lists_of rest) s (Ends (Back s'))) [] lists_now (run_frames subrs hints (suc in_turn.levels) (lists_of rest) s') now now (token_ends subrs hints in_turn.levels (lists_of rest) t (frame_left f) s (Back s') e) refl in_turn.left;
         within = within;
       })
+
+  -- it goes back, and no frame is left
+  pub on_last : (frames : List Frame) (s' : State) → frames ≡ rest → frames ≡ [] → Ends (Back s') ≡ spend hints t s → Runs whole (Back s') old now
+  on_last frames s' popped none e =
+      let below_run : List Frame → Outcome = λ (frames : List Frame). run_frames subrs hints (suc in_turn.levels) (lists_of frames) s' in
+      left_ends (Back s') (below_run rest) now (ap below_run (sym popped ∙ none))
+      (left_after (seen (lists_of rest) s (Ends (Back s'))) [] lists_now (below_run rest) now now (token_ends subrs hints in_turn.levels (lists_of rest) t (frame_left f) s (Back s') e) refl in_turn.left)
 
   -- it ends the glyph
   pub on_end : (end : Ending) → ((g : State → Outcome) → then_run end g ≡ ends end) → Ends end ≡ spend hints t s → Runs whole end old now

@@ -9,3 +9,4 @@ pub mod Tables
 pub mod Standard
 pub mod Drawings
 pub mod Pictures
+pub mod BothAnswers

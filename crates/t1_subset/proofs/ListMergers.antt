@@ -38,15 +38,17 @@ alike_trans : (f p j : FontValue) (n : List ℕ) → DrawsAlike f p n → DrawsA
 alike_trans f p j n a b = record {
   charstring = b.charstring ∙ a.charstring;
   answer = λ c is. b.answer c (a.charstring ∙ is) ∙ a.answer c is;
+  answer3 = λ c is. b.answer3 c (a.charstring ∙ is) ∙ a.answer3 c is;
   executes = λ c is. b.executes c (a.charstring ∙ is) ∙ a.executes c is;
   draws = b.draws ∙ a.draws;
+  draws3 = b.draws3 ∙ a.draws3;
 }
 
 abbrev Draws : FontValue → FontValue → Type 0
 Draws j f = (n : List ℕ) → has f n ≡ true → DrawsAlike f j n
 
 draws_self : (f : FontValue) → Draws f f
-draws_self f n h = record { charstring = refl; answer = λ c is. refl; executes = λ c is. refl; draws = refl }
+draws_self f n h = record { charstring = refl; answer = λ c is. refl; answer3 = λ c is. refl; executes = λ c is. refl; draws = refl; draws3 = refl }
 
 draws_on : (f p j : FontValue) → Draws p f → Draws j p → Draws j f
 draws_on f p j a b n h = alike_trans f p j n (a n h) (b n (ap is_some (a n h).charstring ∙ h))

@@ -1,19 +1,22 @@
 -- The interpreter of the laws, as runs of charstrings in code.
 use Rattle.std.proofs.Common.{◌≡◌, ℕ, List, [], sym, ap, ◌∙◌, Some, None, unwrap_or}
 use Rattle.std.specs.FinMap as maps
-use Rattle.t1_run.specs.Run.{direct}
-use Rattle.t1_run.specs.Drawings.{parts_of}
+use Rattle.t1_run.specs.Run.{Subrs, direct, direct3}
 use Rattle.t1_font.specs.FontValue.{FontValue}
 use Rattle.t1_font.specs.FontModel.{subr_at}
 use Rattle.t1_font.specs.IsFont.{IsFont}
 use Rattle.t1_font.proofs.FontReaders.{all_seen}
 use Rattle.t1_subset.specs.Keep.{components, charstring}
-use Rattle.t1_subset.specs.Profile.{profile}
+use Rattle.t1_subset.specs.Profile.{profile, names_of_both}
 
-pub components_are : (f : FontValue) → IsFont f → (n c : List ℕ) → maps.get f.glyphs n ≡ Some c → parts_of (direct (subr_at f) c) ≡ components profile f.subrs (charstring f n)
+-- the components of a charstring, by what a font shows of its Subrs
+abbrev pub names_by : Subrs → List ℕ → List (List ℕ)
+names_by s c = names_of_both (direct s c, direct3 s c)
+
+pub components_are : (f : FontValue) → IsFont f → (n c : List ℕ) → maps.get f.glyphs n ≡ Some c → names_by (subr_at f) c ≡ components profile f.subrs (charstring f n)
 unfolding profile
-components_are f h n c e = ap (λ s. parts_of (direct s c)) (all_seen f h) ∙ ap (λ x. parts_of (direct (maps.get f.subrs) (unwrap_or x []))) (sym e)
+components_are f h n c e = ap (λ s. names_by s c) (all_seen f h) ∙ ap (λ x. names_by (maps.get f.subrs) (unwrap_or x [])) (sym e)
 
 pub no_components : (f : FontValue) (n : List ℕ) → maps.get f.glyphs n ≡ None → [] ≡ components profile f.subrs (charstring f n)
 unfolding profile
-no_components f n e = ap (λ x. parts_of (direct (maps.get f.subrs) (unwrap_or x []))) (sym e)
+no_components f n e = ap (λ x. names_by (maps.get f.subrs) (unwrap_or x [])) (sym e)

@@ -70,9 +70,11 @@ stops_at (f ∷ before) x after fs j h is e t = subst (λ (fs : List FontValue).
 pub each_merges : (fs : List FontValue) (j : FontValue) → AllByRecursion IsFont fs → ComesTo fs j → EachGroupingMerges fs
 each_merges [] j w h t e = absurd h
 each_merges (f ∷ fs) j w h t e =
-    let same : leaves (left_tree (Leaf f) fs) ≡ leaves t = left_leaves (Leaf f) fs ∙ sym e in
-    (j, any_order profile (left_tree (Leaf f) fs) t (subst (IsPermutation (leaves (left_tree (Leaf f) fs))) same (IsPermutation-refl (leaves (left_tree (Leaf f) fs))))
-    (each_leaf IsWithin (left_tree (Leaf f) fs) (subst (AllByRecursion IsWithin) (sym (left_leaves (Leaf f) fs)) (all_within (f ∷ fs) w))) j h)
+    let same : leaves (left_tree (Leaf f) fs) ≡ leaves t = left_leaves (Leaf f) fs ∙ sym e in (
+      j,
+      any_order profile (left_tree (Leaf f) fs) t (subst (IsPermutation (leaves (left_tree (Leaf f) fs))) same (IsPermutation-refl (leaves (left_tree (Leaf f) fs))))
+          (each_leaf IsWithin (left_tree (Leaf f) fs) (subst (AllByRecursion IsWithin) (sym (left_leaves (Leaf f) fs)) (all_within (f ∷ fs) w))) j h,
+    )
 
 -- ---- what is noted of each font
 

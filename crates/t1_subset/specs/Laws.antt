@@ -2,8 +2,8 @@
 use Rattle.std.specs.Prelude.{◌≡◌, ◌↔◌, ◌≤◌, ℕ, true, false, List, ◌∷◌, Some, None, IsPermutation}
 use Rattle.std.specs.FinSet as sets
 use Rattle.std.specs.FinMap as maps
-use Rattle.t1_run.specs.Run.{direct, exec}
-use Rattle.t1_run.specs.Drawings.{draw}
+use Rattle.t1_run.specs.Run.{direct, direct3, exec}
+use Rattle.t1_run.specs.Drawings.{draw, draw3}
 use Rattle.t1_font.specs.FontValue.{FontValue, weight}
 use Rattle.t1_font.specs.FontModel.{subr_at}
 use Rattle.t1_font.specs.IsFont.{IsFont}
@@ -24,19 +24,23 @@ IsOf f a = (n : List ℕ) → sets.contains a n ≡ true → has f n ≡ true
 abbrev pub Inside : Names → Names → Type 0
 Inside a b = (n : List ℕ) → sets.contains a n ≡ true → sets.contains b n ≡ true
 
--- what a glyph of f does in j, it does as in f: its charstring, its run and the Subrs that it executes, its drawing
+-- what a glyph of f does in j, it does as in f, where hints are replaced and where they are kept: its charstring, its runs and the Subrs that they execute, its drawings
 pub record DrawsAlike (f j : FontValue) (n : List ℕ) : Type 0 where
   pub charstring : maps.get j.glyphs n ≡ maps.get f.glyphs n
   pub answer : (c : List ℕ) → maps.get f.glyphs n ≡ Some c → direct (maps.get j.subrs) c ≡ direct (maps.get f.subrs) c
+  pub answer3 : (c : List ℕ) → maps.get f.glyphs n ≡ Some c → direct3 (maps.get j.subrs) c ≡ direct3 (maps.get f.subrs) c
   pub executes : (c : List ℕ) → maps.get f.glyphs n ≡ Some c → exec (maps.get j.subrs) c ≡ exec (maps.get f.subrs) c
   pub draws : draw (maps.get j.subrs) (maps.get j.glyphs) n ≡ draw (maps.get f.subrs) (maps.get f.glyphs) n
+  pub draws3 : draw3 (maps.get j.subrs) (maps.get j.glyphs) n ≡ draw3 (maps.get f.subrs) (maps.get f.glyphs) n
 
--- what calls answer of a glyph of f, they answer of it in j: what its charstring does by itself, what it executes, and what it draws, over what each font shows to an interpreter
+-- what calls answer of a glyph of f, they answer of it in j: what its charstring does by itself and what it draws, where hints are replaced and where they are kept, and what it executes, over what each font shows to an interpreter
 pub record AnswersAlike (f j : FontValue) (n : List ℕ) : Type 0 where
   pub charstring : maps.get j.glyphs n ≡ maps.get f.glyphs n
   pub answer : (c : List ℕ) → maps.get f.glyphs n ≡ Some c → direct (subr_at j) c ≡ direct (subr_at f) c
+  pub answer3 : (c : List ℕ) → maps.get f.glyphs n ≡ Some c → direct3 (subr_at j) c ≡ direct3 (subr_at f) c
   pub executes : (c : List ℕ) → maps.get f.glyphs n ≡ Some c → exec (subr_at j) c ≡ exec (subr_at f) c
   pub draws : draw (subr_at j) (maps.get j.glyphs) n ≡ draw (subr_at f) (maps.get f.glyphs) n
+  pub draws3 : draw3 (subr_at j) (maps.get j.glyphs) n ≡ draw3 (subr_at f) (maps.get f.glyphs) n
 
 -- of two fonts what is drawn alike is answered alike by calls
 abbrev pub CallsDrawAlike : Type 0

@@ -2,16 +2,32 @@
 
 ghost use Rattle.std.specs.Prelude.{◌≡◌, IfOk, OnOk, ◌∷◌, [], map};
 ghost use Rattle.std.specs.FinSet as sets;
-ghost use Rattle.t1_subset.specs.Profile.{profile};
+ghost use Rattle.t1_run.specs.Machine.{value_of};
+ghost use Rattle.t1_run.specs.BothAnswers.{kept_value};
+ghost use Rattle.t1_subset.specs.Profile.{profile, names_of_both};
 ghost use Rattle.t1_subset.specs.Keep.{components, charstring};
 ghost use Rattle.t1_subset.specs.Calls.{number_set};
 
 use std::alloc::{AllocError, Global};
 use std::collections::BTreeSet;
 use t1_font::Font;
-use t1_run::{Glyphs, direct_and_executed, parts_of};
+use t1_run::{BothAnswers, Glyphs, both_answers, parts_of};
 
-/// What the run of a glyph comes to: the components that it names, and the Subrs that it executes.
+/// The components that the outcomes of a charstring name, where hints are replaced and where they are kept.
+fn names_of(alloc: Global, both: &BothAnswers) -> Result<Vec<&'static str>, AllocError>
+    ensures { IfOk result (λ ps. map (λ s. s.now) ps.items ≡ names_of_both (value_of both.now.direct, kept_value both.now)) }
+{
+    let mut names = parts_of(alloc, &both.direct)?;
+    let kept = match &both.direct3 {
+        Some(kept) => kept,
+        None => &both.direct,
+    };
+    let more = parts_of(alloc, kept)?;
+    names.extend_from_slice(more.as_slice())?;
+    Ok(names)
+}
+
+/// What the runs of a glyph come to: the components that they name, and the Subrs that they execute.
 pub(crate) fn run_of(
     alloc: Global,
     font: &Font<'_>,
@@ -23,8 +39,9 @@ pub(crate) fn run_of(
     font.is_font();
     match font.glyph(name) {
         Some(charstring) => {
-            let (outcome, calls) = direct_and_executed(alloc, font, charstring)?;
-            Ok((parts_of(alloc, &outcome)?, calls))
+            let both = both_answers(alloc, font, charstring)?;
+            let names = names_of(alloc, &both)?;
+            Ok((names, both.executed))
         }
         None => Ok((Vec::new(alloc), BTreeSet::new(alloc))),
     }

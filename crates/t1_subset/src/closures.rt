@@ -57,7 +57,8 @@ fn closure_of(alloc: Global, font: &Font<'_>, names: &[&[u8]]) -> Result<Closure
 
 /// What a set of names needs of a font: the glyphs of these names and `.notdef`, with each accented glyph
 /// those of its components that the font has, by StandardEncoding (Adobe Type 1 Font Format 1.1, chapter 6);
-/// and the Subrs 0 to 3 with all that these glyphs execute. A name may be asked for more than once.
+/// and the Subrs 0 to 3 with all that these glyphs execute, where hints are replaced or where they are
+/// kept. A name may be asked for more than once.
 ///
 /// It fails with [`SubsetFault::NoSuchGlyph`] where the font lacks a name that is asked for, the first
 /// such, and else for want of memory alone.

@@ -114,9 +114,9 @@ pub fn join_has_entries()
     ensures { JoinHasEntries profile }
 {}
 
-/// A glyph that does in one font what it does in another does so for every call: `direct`, `executed` and `draw` of
-/// `t1_run` answer of the one font what they answer of the other. So the drawings of subsets and mergers, which the clauses
-/// of [`subset`](crate::subset) and [`merge`](crate::merge) tell over the maps of fonts, are those of the calls.
+/// A glyph that does in one font what it does in another does so for every call: `direct`, `direct3`, `executed`, `draw` and
+/// `draw3` of `t1_run` answer of the one font what they answer of the other. So the drawings of subsets and mergers, which
+/// the clauses of [`subset`](crate::subset) and [`merge`](crate::merge) tell over the maps of fonts, are those of the calls.
 pub fn calls_draw_alike()
     ensures { CallsDrawAlike }
 {}

@@ -9,9 +9,9 @@ ghost use Rattle.t1_subset.specs.Merger.{IsMerger, MergesItself, DrawsBoth, Draw
 
 use crate::callers::Callers;
 use crate::conflict::Conflict;
-use crate::searches::states_conflict;
 use crate::groupings::{made_of, noted};
 use crate::in_turn::all_join;
+use crate::searches::states_conflict;
 use crate::state_making::states_and_callers;
 use crate::state_value::States;
 use std::alloc::Global;
@@ -111,9 +111,7 @@ pub fn merge_all<'a>(alloc: Global, fonts: &[Font<'a>]) -> Result<Font<'a>, Conf
         return Err(Conflict::Empty);
     }
     match noted(alloc, fonts) {
-        Ok((states, callers)) => {
-            all_merged(alloc, fonts, states.as_slice(), callers.as_slice())
-        }
+        Ok((states, callers)) => { all_merged(alloc, fonts, states.as_slice(), callers.as_slice()) }
         Err(_) => Err(Conflict::Memory),
     }
 }

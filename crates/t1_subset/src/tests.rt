@@ -2,6 +2,8 @@
 
 mod closures;
 mod fonts;
+mod growths;
+mod kept;
 mod large;
 mod mergers;
 mod rows;

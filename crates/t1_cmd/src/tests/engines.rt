@@ -93,7 +93,7 @@ fn tiny_in_both_forms(rt: HostRuntime) {
     }
 }
 
-const TINY_LISTED: &[u8] = b"code 65 X
+pub const TINY_LISTED: &[u8] = b"code 65 X
 code 66 Y
 code 194 H
 subr 0 11

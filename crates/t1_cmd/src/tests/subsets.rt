@@ -210,6 +210,20 @@ fn sizes_of_subsets(rt: HostRuntime) {
     assert!(rt; answers(rt.alloc(), Engine::Check, file.as_slice(), want));
 }
 
+/// `15 5 1 3 callothersubr pop div callsubr` between a move and a closepath: Subr 3, or Subr 5 where hints are kept.
+const BOTH_ANSWERS: &[u8] =
+    b"\x8b\xf8\x88\x0d\x8b\x16\x9a\x90\x8c\x8e\x0c\x10\x0c\x11\x0c\x0c\x0a\x09\x0e";
+
+#[test]
+fn both_answers_to_hint_replacement(rt: HostRuntime) -> Result<(), Fail> {
+    let font = tiny_and(rt.alloc(), b"P", BOTH_ANSWERS)?;
+    let file = subset(rt.alloc(), font.as_slice(), &[b"P"]);
+    let want = b"ok 2 glyphs, 10 subrs, weight 2448\n";
+    assert!(rt; answers(rt.alloc(), Engine::Check, file.as_slice(), want));
+    assert!(rt; keeps(rt.alloc(), font.as_slice(), &[b"P"], b".notdef P 0125"));
+    Ok(())
+}
+
 #[test]
 fn names_that_are_absent(rt: HostRuntime) {
     let rows: [(&[u8], &[&[u8]], &[u8]); 3] = [

@@ -101,7 +101,7 @@ fn joined_with(alloc: Global, first: &Source, second: &[u8]) -> Result<Vec<u8>, 
 }
 
 /// The same, of the fonts of two files.
-fn joined(alloc: Global, first: &[u8], second: &[u8]) -> Result<Vec<u8>, PartsFault> {
+pub fn joined(alloc: Global, first: &[u8], second: &[u8]) -> Result<Vec<u8>, PartsFault> {
     match read(alloc, first) {
         Ok(first) => joined_with(alloc, &first, second),
         Err(_) => Err(PartsFault::Memory),
@@ -128,7 +128,7 @@ fn lent_cut(
 }
 
 /// The canonical PFB of Tiny, cut to `.notdef`, to these names and to these Subrs.
-fn tiny_cut(alloc: Global, names: &[&[u8]], subrs: &[u16]) -> Result<Vec<u8>, AllocError> {
+pub fn tiny_cut(alloc: Global, names: &[&[u8]], subrs: &[u16]) -> Result<Vec<u8>, AllocError> {
     let Ok(source) = read(alloc, PFA) else {
         return Err(AllocError);
     };

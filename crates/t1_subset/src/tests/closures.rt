@@ -43,7 +43,7 @@ fn source_keeps(alloc: Global, source: &Source, names: &[&[u8]]) -> Result<Vec<u
 }
 
 /// The same of a file's font.
-fn kept(alloc: Global, file: &[u8], names: &[&[u8]]) -> Result<Vec<u8>, AllocError> {
+pub fn kept(alloc: Global, file: &[u8], names: &[&[u8]]) -> Result<Vec<u8>, AllocError> {
     match read(alloc, file) {
         Ok(source) => {
             let kept = source_keeps(alloc, &source, names);

@@ -7,7 +7,10 @@ pub rest-init : goal.rest-init
 rest-init c = (omega arith, λ fs h d. starts fs c.args.states.now c.args.callers.now h d c.requires.some)
 
 pub rest-preserved : goal.rest-preserved
-rest-preserved c = (omega arith, λ fs h d.
-    let far = subst (λ (s : StatesValue). JoinedSoFar (take c.rest.place fs) s (take c.rest.place c.args.callers.now)) (sym (c.latest-left.ensures ∙ ap (unwrap_or c.rest.all) c.index-states-0.is)) (c.rest.invariant.1 fs h _) in
-    goes_on fs c.args.states.now c.args.callers.now h c.rest.place c.rest-test.true _ _ _ c.index-states-place.is far c.in-Ok.more
-    (c.in-Ok.ensures.ok far.font (noted_at fs c.args.states.now c.args.callers.now h c.rest.place c.rest-test.true).font (next_states fs c.args.states.now c.args.callers.now h c.rest.place c.rest-test.true _ _ _ c.index-states-place.is far)))
+rest-preserved c = (
+  omega arith,
+  λ fs h d.
+      let far = subst (λ (s : StatesValue). JoinedSoFar (take c.rest.place fs) s (take c.rest.place c.args.callers.now)) (sym (c.latest-left.ensures ∙ ap (unwrap_or c.rest.all) c.index-states-0.is)) (c.rest.invariant.1 fs h _) in
+      goes_on fs c.args.states.now c.args.callers.now h c.rest.place c.rest-test.true _ _ _ c.index-states-place.is far c.in-Ok.more
+      (c.in-Ok.ensures.ok far.font (noted_at fs c.args.states.now c.args.callers.now h c.rest.place c.rest-test.true).font (next_states fs c.args.states.now c.args.callers.now h c.rest.place c.rest-test.true _ _ _ c.index-states-place.is far)),
+)

@@ -1,0 +1,64 @@
+//! Each call that grows, over the two files of Tiny, and those that take no memory. `tools/sweep_growths.py` refuses one
+//! growth of the first test after the other: a call that then answers want of memory answers right when it is made again.
+//! In the second it refuses all.
+
+use super::tiny::{PFA, PFB};
+use super::{CLEAR, private_text, with_digits};
+use crate::{
+    BytesFault, CHARSTRING_KEY, Cipher, EEXEC_KEY, EEXEC_LEAD, decrypt, encrypt, find_cipher,
+    flatten_in_place, hex_lines, open, put_hex_lines, seal, segments, trailer,
+};
+use std::alloc::Global;
+use std::test::Fail;
+
+/// Whether a file of Tiny is taken apart and put together again in both forms.
+fn is_put_together(alloc: Global, file: &[u8]) -> Result<bool, BytesFault> {
+    let (_, text) = private_text(alloc, file)?;
+    let cipher = seal(alloc, text.as_slice(), EEXEC_KEY, EEXEC_LEAD)?;
+    if cipher.len() > 2893 {
+        return Ok(false);
+    }
+    let pfb = segments(alloc, &PFA[..CLEAR], cipher.as_slice(), trailer())?;
+    let pfa = with_digits(alloc, &PFA[..CLEAR], cipher.as_slice())?;
+    Ok(pfb.as_slice() == PFB.as_slice() && pfa.as_slice() == PFA.as_slice())
+}
+
+/// Whether the cipher of Tiny is found in the digits of its PFA, and written as lines of digits again.
+fn is_spelled(alloc: Global) -> Result<bool, BytesFault> {
+    let (at, cipher) = find_cipher(alloc, PFA)?;
+    let Cipher::Spelled(bytes) = cipher else {
+        return Ok(false);
+    };
+    let lines = hex_lines(alloc, bytes.as_slice())?;
+    let mut again = Vec::new(alloc);
+    put_hex_lines(&mut again, bytes.as_slice())?;
+    Ok(at == CLEAR - 1 && again.as_slice() == lines.as_slice())
+}
+
+/// Whether all of these calls answer right.
+fn answers_right(alloc: Global) -> Result<bool, BytesFault> {
+    Ok(is_put_together(alloc, PFA)? && is_put_together(alloc, PFB)? && is_spelled(alloc)?)
+}
+
+#[test]
+fn growths(rt: HostRuntime) -> Result<(), Fail> {
+    let right = match answers_right(rt.alloc()) {
+        Err(BytesFault::Memory) => answers_right(rt.alloc())?,
+        answer => answer?,
+    };
+    assert!(rt; right);
+    Ok(())
+}
+
+#[test]
+fn no_growth(rt: HostRuntime) -> Result<(), Fail> {
+    let mut bytes = *b"\x10\xbf\x31\x70\xf9";
+    assert!(rt; open(bytes.as_mut_slice(), CHARSTRING_KEY, 4) == b"\x0b".as_slice());
+    encrypt(bytes.as_mut_slice(), CHARSTRING_KEY);
+    decrypt(bytes.as_mut_slice(), CHARSTRING_KEY);
+    assert!(rt; bytes.as_slice() == b"\x00\x00\x00\x00\x0b".as_slice());
+    let mut file = Vec::new(rt.alloc());
+    flatten_in_place(&mut file)?;
+    assert!(rt; file.is_empty() && trailer().len() == 532);
+    Ok(())
+}

@@ -1,0 +1,147 @@
+//! Each engine, over Tiny and two listings, with room for what it writes. `tools/sweep_growths.py` refuses one growth after
+//! the other: an engine that is then refused memory writes nothing, and writes right when it is run again.
+use super::engines::{Engine, run};
+use super::tiny::{PFA, PFB};
+use super::{LEFT, RIGHT};
+use crate::{Counted, Reason, RunFault, read_all, run_join, run_merge, write_fault};
+use std::alloc::{AllocError, Global};
+use std::test::Fail;
+use t1_font::Form;
+
+/// What an engine wrote, where it ended well; want of memory where it was refused and wrote nothing.
+fn written(out: Vec<u8>, ended: Result<(), RunFault>) -> Result<Option<Vec<u8>>, AllocError> {
+    match ended {
+        Ok(()) => Ok(Some(out)),
+        Err(RunFault::Refused(Reason::Memory)) if out.is_empty() => Err(AllocError),
+        Err(fault) => {
+            drop(fault);
+            Ok(None)
+        }
+    }
+}
+
+/// Whether an engine writes this of a file.
+fn writes(
+    alloc: Global,
+    engine: Engine<'_>,
+    input: &[u8],
+    want: &[u8],
+) -> Result<bool, AllocError> {
+    let mut out = Vec::with_capacity(alloc, want.len())?;
+    let ended = run(
+        alloc,
+        engine,
+        &mut Counted::new(input),
+        &mut Counted::new(&mut out),
+    );
+    Ok(written(out, ended)?.is_some_and(|text| text.as_slice() == want))
+}
+
+/// The PFA of Tiny's subset of X.
+fn subset_of_x(alloc: Global) -> Result<Option<Vec<u8>>, AllocError> {
+    let mut out = Vec::with_capacity(alloc, 2224)?;
+    let ended = run(
+        alloc,
+        Engine::Subset(&[b"X"], Form::Pfa),
+        &mut Counted::new(PFA.as_slice()),
+        &mut Counted::new(&mut out),
+    );
+    written(out, ended)
+}
+
+/// Whether it has its size, and is the same when it is cut again.
+fn subsets(alloc: Global) -> Result<bool, AllocError> {
+    match (subset_of_x(alloc)?, subset_of_x(alloc)?) {
+        (Some(one), Some(other)) => Ok(one.len() == 2224 && one.as_slice() == other.as_slice()),
+        _ => Ok(false),
+    }
+}
+
+/// Whether two listings join to this text.
+fn joins(alloc: Global, left: &[u8], right: &[u8], want: &[u8]) -> Result<bool, AllocError> {
+    let mut out = Vec::with_capacity(alloc, want.len())?;
+    let ended = run_join(
+        alloc,
+        &mut Counted::new(left),
+        &mut Counted::new(right),
+        &mut Counted::new(&mut out),
+    );
+    Ok(written(out, ended)?.is_some_and(|text| text.as_slice() == want))
+}
+
+/// Whether a file is read whole.
+fn reads(alloc: Global) -> Result<bool, AllocError> {
+    match read_all(alloc, &mut Counted::new(PFA.as_slice()), PFA.len()) {
+        Ok(bytes) => Ok(bytes.as_slice() == PFA.as_slice()),
+        Err(RunFault::Refused(Reason::Memory)) => Err(AllocError),
+        Err(fault) => {
+            drop(fault);
+            Ok(false)
+        }
+    }
+}
+
+/// Whether a fault is told by its line.
+fn tells(alloc: Global) -> Result<bool, AllocError> {
+    let mut out = Vec::with_capacity(alloc, 20)?;
+    let ended = write_fault(alloc, &RunFault::Read, &mut Counted::new(&mut out));
+    Ok(written(out, ended)?.is_some_and(|text| text.as_slice() == b"failed: read\n".as_slice()))
+}
+
+/// Whether Tiny's two files merge to its PFA.
+fn merges(alloc: Global) -> Result<bool, AllocError> {
+    let mut readers = Vec::new(alloc);
+    readers.push(Counted::new(PFA.as_slice()))?;
+    readers.push(Counted::new(PFB.as_slice()))?;
+    let mut out = Vec::with_capacity(alloc, PFA.len())?;
+    let ended = run_merge(
+        alloc,
+        readers.as_mut_slice(),
+        Form::Pfa,
+        &mut Counted::new(&mut out),
+    );
+    Ok(written(out, ended)?.is_some_and(|text| text.as_slice() == PFA.as_slice()))
+}
+
+const CHECKED: &[u8] = b"ok 11 glyphs, 10 subrs, weight 4936\n";
+
+const SHOWN: &[u8] = b"width 300 0
+bearing 50 0
+part 0 0
+move 50 0
+line 150 0
+line 150 700
+line 50 700
+close
+";
+
+const LISTED: &[u8] = b"S 5 ef060b\nG X 8b0e\nG Y 0e\n";
+
+/// The engines over Tiny's PFA, and what they write.
+const ENGINES: [(Engine<'static>, &[u8]); 4] = [
+    (Engine::Check, CHECKED),
+    (Engine::List, super::engines::TINY_LISTED),
+    (Engine::Show(b"X"), SHOWN),
+    (Engine::Convert(Form::Pfb), PFB),
+];
+
+/// Whether each engine writes right.
+fn write_right(alloc: Global) -> Result<bool, AllocError> {
+    for (engine, want) in ENGINES {
+        if !writes(alloc, engine, PFA, want)? {
+            return Ok(false);
+        }
+    }
+    let fonts = subsets(alloc)? && merges(alloc)?;
+    Ok(fonts && joins(alloc, LEFT, RIGHT, LISTED)? && reads(alloc)? && tells(alloc)?)
+}
+
+#[test]
+fn growths(rt: HostRuntime) -> Result<(), Fail> {
+    let right = match write_right(rt.alloc()) {
+        Err(AllocError) => write_right(rt.alloc())?,
+        answer => answer?,
+    };
+    assert!(rt; right);
+    Ok(())
+}

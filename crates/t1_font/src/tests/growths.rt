@@ -1,0 +1,49 @@
+//! Each call that grows, over the two files of Tiny. `tools/sweep_growths.py` refuses one growth after the other: a call
+//! that then answers want of memory answers right when it is made again.
+
+use super::cuts::{joined, tiny_cut};
+use super::rewritten;
+use super::tiny::{PFA, PFB};
+use crate::{Form, PartsFault, ReadFault, read_vec};
+use std::alloc::Global;
+use std::test::Fail;
+
+/// Whether a file of Tiny is written again in both forms, and takes its place where its bytes are handed over.
+fn is_written_again(alloc: Global, file: &[u8]) -> Result<bool, ReadFault> {
+    let pfa = rewritten(alloc, file, Form::Pfa)?;
+    let pfb = rewritten(alloc, file, Form::Pfb)?;
+    let source = read_vec(alloc, Vec::from_slice(alloc, file)?)?;
+    drop(source);
+    Ok(pfa.as_slice() == PFA.as_slice() && pfb.as_slice() == PFB.as_slice())
+}
+
+/// Whether two cuts of Tiny join to the cut to the names of both.
+fn cuts_join(alloc: Global) -> Result<bool, PartsFault> {
+    let x = tiny_cut(alloc, &[b"X"], &[0, 1, 2, 3, 5])?;
+    let y = tiny_cut(alloc, &[b"Y"], &[0, 1, 2, 3, 5, 6])?;
+    let both = tiny_cut(alloc, &[b"X", b"Y"], &[0, 1, 2, 3, 5, 6])?;
+    let parts = joined(alloc, x.as_slice(), y.as_slice())?;
+    Ok(parts.as_slice() == both.as_slice())
+}
+
+#[test]
+fn growths_of_files(rt: HostRuntime) -> Result<(), Fail> {
+    for file in [PFA.as_slice(), PFB.as_slice()] {
+        let right = match is_written_again(rt.alloc(), file) {
+            Err(ReadFault::Memory) => is_written_again(rt.alloc(), file)?,
+            answer => answer?,
+        };
+        assert!(rt; right);
+    }
+    Ok(())
+}
+
+#[test]
+fn growths_of_parts(rt: HostRuntime) -> Result<(), Fail> {
+    let right = match cuts_join(rt.alloc()) {
+        Err(PartsFault::Memory) => cuts_join(rt.alloc()).is_ok_and(|right| right),
+        answer => answer.is_ok_and(|right| right),
+    };
+    assert!(rt; right);
+    Ok(())
+}

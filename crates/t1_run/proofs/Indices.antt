@@ -1,0 +1,69 @@
+-- Indices that are in a set already: adding them again changes nothing.
+use Rattle.std.proofs.Common.{◌≡◌, refl, sym, ap, ◌∙◌, ℕ, List, [], ◌∷◌, ◌⊎◌, inl, inr, ◌<◌, arith}
+use Rattle.std.specs.declared.cmp.Ordering.{Ordering}
+use Rattle.std.specs.declared.cmp.Ordering.TheVariants.{Less, Equal, Greater}
+use Rattle.std.specs.Cmp.{ranked}
+use Rattle.std.specs.BTreeSet.{insert_key}
+use Rattle.std.specs.Ordering.{nat_cmp, match_ordering, MatchOrdering}
+use Rattle.t1_run.specs.Run.{with_indices}
+
+-- The index stands in the list, and all before it are less.
+abbrev Reached : ℕ → List ℕ → Type 0
+Reached i [] = ⊥
+Reached i (x ∷ xs) = (x ≡ i) ⊎ ((x < i) × Reached i xs)
+
+reached_insert : (i : ℕ) (ks : List ℕ) → Reached i (insert_key nat_cmp ks i)
+reached_insert i [] = inl refl
+reached_insert i (x ∷ xs) =
+    let P : Ordering → Type 0 = λ r. Reached i (match_ordering r (i ∷ x ∷ xs) (x ∷ xs) (x ∷ insert_key nat_cmp xs i)) in
+    let by : (r : Ordering) → MatchOrdering r (i < x) (i ≡ x) (x < i) → P r = λ r. elim r as (λ r. MatchOrdering r (i < x) (i ≡ x) (x < i) → P r) [ Less ↦ λ h. inl refl | Equal ↦ λ h. inl (sym h) | Greater ↦ λ h. inr (h, reached_insert i xs) ] in
+    by (nat_cmp i x) (ranked i x (nat_cmp i x) refl)
+
+before_reached : (i j x : ℕ) (xs : List ℕ) → j < x → Reached i (x ∷ xs) → j < i
+before_reached i j x xs less (inl e) = omega (arith, less, e)
+before_reached i j x xs less (inr h) = omega (arith, less, h.0)
+
+reached_insert_other : (i j : ℕ) (ks : List ℕ) → Reached i ks → Reached i (insert_key nat_cmp ks j)
+reached_insert_other i j [] h = absurd h
+reached_insert_other i j (x ∷ xs) h =
+    let rest : Reached i xs → Reached i (insert_key nat_cmp xs j) = reached_insert_other i j xs in
+    let P : Ordering → Type 0 = λ r. Reached i (match_ordering r (j ∷ x ∷ xs) (x ∷ xs) (x ∷ insert_key nat_cmp xs j)) in
+    let by : (r : Ordering) → MatchOrdering r (j < x) (j ≡ x) (x < j) → P r = λ r. elim r as (λ r. MatchOrdering r (j < x) (j ≡ x) (x < j) → P r) [ Less ↦ λ less. inr (before_reached i j x xs less h, h) | Equal ↦ λ e. h | Greater ↦ λ more. elim h [ inl e ↦ inl e | inr k ↦ inr (k.0, rest k.1) ] ] in
+    by (nat_cmp j x) (ranked j x (nat_cmp j x) refl)
+
+not_below : (i x : ℕ) (xs : List ℕ) → i < x → Reached i (x ∷ xs) → ⊥
+not_below i x xs less (inl e) = absurd (omega (arith, less, e))
+not_below i x xs less (inr h) = absurd (omega (arith, less, h.0))
+
+reached_rest : (i x : ℕ) (xs : List ℕ) → x < i → Reached i (x ∷ xs) → Reached i xs
+reached_rest i x xs more (inl e) = absurd (omega (arith, more, e))
+reached_rest i x xs more (inr h) = h.1
+
+-- it is there already
+insert_reached : (i : ℕ) (ks : List ℕ) → Reached i ks → insert_key nat_cmp ks i ≡ ks
+insert_reached i [] h = absurd h
+insert_reached i (x ∷ xs) h =
+    let rest : Reached i xs → insert_key nat_cmp xs i ≡ xs = insert_reached i xs in
+    let P : Ordering → Type 0 = λ r. match_ordering r (i ∷ x ∷ xs) (x ∷ xs) (x ∷ insert_key nat_cmp xs i) ≡ x ∷ xs in
+    let by : (r : Ordering) → MatchOrdering r (i < x) (i ≡ x) (x < i) → P r = λ r. elim r as (λ r. MatchOrdering r (i < x) (i ≡ x) (x < i) → P r) [ Less ↦ λ less. absurd (not_below i x xs less h) | Equal ↦ λ e. refl | Greater ↦ λ more. ap (λ (ks : List ℕ). x ∷ ks) (rest (reached_rest i x xs more h)) ] in
+    by (nat_cmp i x) (ranked i x (nat_cmp i x) refl)
+
+reached_with : (j : ℕ) (is set : List ℕ) → Reached j set → Reached j (with_indices set is)
+reached_with j [] set h = h
+reached_with j (i ∷ is) set h = reached_with j is (insert_key nat_cmp set i) (reached_insert_other j i set h)
+
+abbrev AllReached : List ℕ → List ℕ → Type 0
+AllReached set [] = Unit {0}
+AllReached set (i ∷ is) = Reached i set × AllReached set is
+
+all_reached : (is set : List ℕ) → AllReached (with_indices set is) is
+all_reached [] set = tt
+all_reached (i ∷ is) set = (reached_with i is (insert_key nat_cmp set i) (reached_insert i set), all_reached is (insert_key nat_cmp set i))
+
+with_reached : (is set : List ℕ) → AllReached set is → with_indices set is ≡ set
+with_reached [] set h = refl
+with_reached (i ∷ is) set h = ap (λ (ks : List ℕ). with_indices ks is) (insert_reached i set h.0) ∙ with_reached is set h.1
+
+-- the same indices a second time
+pub with_again : (is set : List ℕ) → with_indices (with_indices set is) is ≡ with_indices set is
+with_again is set = with_reached is (with_indices set is) (all_reached is set)

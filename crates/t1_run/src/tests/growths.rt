@@ -1,0 +1,72 @@
+// Each call that grows, over the small font. `tools/sweep_growths.py` refuses one growth after the other: a call that then
+// answers want of memory, its one fault, answers right when it is made again.
+
+use crate::tests::executes::are;
+use crate::tests::fonts::GlyphFont;
+use crate::{
+    Direct, Drawing, both_answers, direct, direct_and_executed, direct3, draw, draw3, executed,
+    parts_of,
+};
+use std::alloc::{AllocError, Global};
+use std::test::Fail;
+
+// `0 500 hsbw 0 6 callsubr closepath endchar`, of two more Subrs than one.
+const TWO_CALLS: [u8; 12] = [
+    0x8B, 0xF8, 0x88, 0x0D, 0x8B, 0x16, 0x90, 0x0A, 0x91, 0x0A, 0x09, 0x0E,
+];
+
+// `50 120 200 65 194 seac`, after a width.
+const SEAC: [u8; 14] = [
+    0x8B, 0xF8, 0x88, 0x0D, 0xBD, 0xF7, 0x0C, 0xF7, 0x5C, 0xCC, 0xF7, 0x56, 0x0C, 0x06,
+];
+
+// Whether a charstring of two calls is answered with its marks and both indices.
+fn runs_right(alloc: Global, font: &GlyphFont<'_>) -> Result<bool, AllocError> {
+    let plain = direct(alloc, font, &TWO_CALLS)?;
+    let (answer, both) = direct_and_executed(alloc, font, &TWO_CALLS)?;
+    let alone = executed(alloc, font, &TWO_CALLS)?;
+    let Direct::Plain { marks, .. } = &plain else {
+        return Ok(false);
+    };
+    Ok(marks.len() == 4 && answer == plain && are(&alone, &[5, 6]) && are(&both, &[5, 6]))
+}
+
+// `0 20 hstem 7 4 callsubr`: Subr 7, or Subr 3 where hints are kept.
+const HINTS: [u8; 11] = [
+    0x8B, 0xF8, 0x88, 0x0D, 0x8B, 0x9F, 0x01, 0x92, 0x8F, 0x0A, 0x0E,
+];
+
+// Whether a charstring that replaces hints is answered by both runs.
+fn runs_twice_right(alloc: Global, font: &GlyphFont<'_>) -> Result<bool, AllocError> {
+    let kept = direct3(alloc, font, &HINTS)?;
+    let both = both_answers(alloc, font, &HINTS)?;
+    Ok(both.direct3 == Some(kept) && are(&both.executed, &[3, 4, 7]))
+}
+
+// Whether an accented glyph draws two parts, which its outcome names.
+fn draws_right(alloc: Global, font: &GlyphFont<'_>) -> Result<bool, AllocError> {
+    let names = parts_of(alloc, &direct(alloc, font, &SEAC)?)?;
+    let Drawing::Drawn { parts, .. } = draw(alloc, font, b"Aacute")? else {
+        return Ok(false);
+    };
+    let Drawing::Drawn { parts: kept, .. } = draw3(alloc, font, b"Aacute")? else {
+        return Ok(false);
+    };
+    Ok(parts.len() == 2 && kept.len() == 2 && names.as_slice() == ["A", "acute"].as_slice())
+}
+
+// Whether all of these calls answer right.
+fn answers_right(alloc: Global) -> Result<bool, AllocError> {
+    let font = GlyphFont::new(alloc, &[], &[], None)?;
+    Ok(runs_right(alloc, &font)? && runs_twice_right(alloc, &font)? && draws_right(alloc, &font)?)
+}
+
+#[test]
+fn growths(rt: HostRuntime) -> Result<(), Fail> {
+    let right = match answers_right(rt.alloc()) {
+        Err(AllocError) => answers_right(rt.alloc())?,
+        answer => answer?,
+    };
+    assert!(rt; right);
+    Ok(())
+}

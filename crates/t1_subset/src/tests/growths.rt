@@ -1,0 +1,111 @@
+//! Each call that grows, over a small font. `tools/sweep_growths.py` refuses one growth after the other: a call that then
+//! answers want of memory answers right when it is made again. `None` is another refusal, which is wrong.
+
+use super::fonts::whole;
+use crate::{Conflict, SubsetFault, closure, merge, merge_all, states, subset};
+use std::alloc::{AllocError, Global};
+use std::test::Fail;
+use t1_font::{Font, Form, Source, read, write};
+
+/// The canonical PFB of what a call answers, and nothing of another refusal.
+fn file_of(alloc: Global, font: Option<Font<'_>>) -> Result<Vec<u8>, AllocError> {
+    match font {
+        Some(font) => {
+            let file = write(alloc, &font, Form::Pfb);
+            drop(font);
+            file
+        }
+        None => Ok(Vec::new(alloc)),
+    }
+}
+
+fn cut<'a>(
+    alloc: Global,
+    font: &Font<'a>,
+    names: &[&[u8]],
+) -> Result<Option<Font<'a>>, AllocError> {
+    match subset(alloc, font, names) {
+        Ok(cut) => Ok(Some(cut)),
+        Err(SubsetFault::Memory) => Err(AllocError),
+        Err(fault) => {
+            drop(fault);
+            Ok(None)
+        }
+    }
+}
+
+fn joined<'a>(answer: Result<Font<'a>, Conflict>) -> Result<Option<Font<'a>>, AllocError> {
+    match answer {
+        Ok(both) => Ok(Some(both)),
+        Err(Conflict::Memory) => Err(AllocError),
+        Err(conflict) => {
+            drop(conflict);
+            Ok(None)
+        }
+    }
+}
+
+/// How many Subrs names keep.
+fn kept(alloc: Global, font: &Font<'_>, names: &[&[u8]]) -> Result<usize, AllocError> {
+    match closure(alloc, font, names) {
+        Ok(closure) => {
+            let count = closure.subrs.len();
+            drop(closure);
+            Ok(count)
+        }
+        Err(SubsetFault::Memory) => Err(AllocError),
+        Err(fault) => {
+            drop(fault);
+            Ok(0)
+        }
+    }
+}
+
+/// Whether two subsets merge, by both calls, to the subset of the names of both.
+fn subsets_merge(alloc: Global, font: &Font<'_>) -> Result<bool, AllocError> {
+    let both = file_of(alloc, cut(alloc, font, &[b"X", b"Aacute"])?)?;
+    let (Some(x), Some(a)) = (cut(alloc, font, &[b"X"])?, cut(alloc, font, &[b"Aacute"])?) else {
+        return Ok(false);
+    };
+    let merged = file_of(alloc, joined(merge(alloc, &x, &a))?)?;
+    let fonts = vec![in alloc; x, a]?;
+    let all = file_of(alloc, joined(merge_all(alloc, fonts.as_slice()))?)?;
+    Ok(merged.as_slice() == both.as_slice() && all.as_slice() == both.as_slice())
+}
+
+/// Whether all calls answer right.
+fn font_answers_right(alloc: Global, font: &Font<'_>) -> Result<bool, AllocError> {
+    let subrs = kept(alloc, font, &[b"X"])?;
+    let made = states(alloc, font)?;
+    drop(made);
+    Ok(subrs == 5 && subsets_merge(alloc, font)?)
+}
+
+fn source_answers_right(alloc: Global, source: &Source) -> Result<bool, AllocError> {
+    let font = source.font(alloc)?;
+    let right = font_answers_right(alloc, &font);
+    drop(font);
+    right
+}
+
+fn answers_right(alloc: Global) -> Result<bool, AllocError> {
+    let file = whole(alloc)?;
+    match read(alloc, file.as_slice()) {
+        Ok(source) => {
+            let right = source_answers_right(alloc, &source);
+            drop(source);
+            right
+        }
+        Err(_) => Err(AllocError),
+    }
+}
+
+#[test]
+fn growths(rt: HostRuntime) -> Result<(), Fail> {
+    let right = match answers_right(rt.alloc()) {
+        Err(AllocError) => answers_right(rt.alloc())?,
+        answer => answer?,
+    };
+    assert!(rt; right);
+    Ok(())
+}
