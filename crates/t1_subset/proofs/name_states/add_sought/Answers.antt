@@ -1,12 +1,15 @@
-use Rattle.std.proofs.Common.{rules, ◌≡◌, OnOk, Some, [], cond, ℕ, ◌+◌, ◌-◌, ◌*◌, ◌<◌, ◌≤◌, length, ◌/◌, ◌%◌, Bool, true, false, nat_eq, nat_lt, List, ◌∷◌, ◌++◌, slice_index_or, slice_set, bit_and, bit_or, Fits, w8, w32, w64, Bor, MutBor}
-use Rattle.std.specs.FinMap as maps
+use Rattle.std.proofs.Common.{rules, ◌≡◌, ◌∙◌, ap, List, ◌∷◌}
 use Rattle.t1_join.specs.Meaning.{Meaning}
+use Rattle.t1_subset.proofs.SoughtNames.{with_sought, sought_next, sought_all}
 use Rattle.t1_subset.proofs.name_states.add_sought.Goals as goal
 
--- src/name_states.rt:48:5
 pub seekers-init : goal.seekers-init
-seekers-init c = ?
+seekers-init c = λ q. sought_all c.args.names.now c.args.seekers.now c.into_iter-component-iterator.result q (c.into_iter-component-iterator.ensures.into_iter_gives ∙ c.entries-component-items.ensures)
 
--- src/name_states.rt:48:5
 pub seekers-preserved : goal.seekers-preserved
-seekers-preserved c = ?
+seekers-preserved c = λ q.
+    let e : Meaning × Meaning = (c.in-Some.component.now.now, c.in-Some.field-0-1.now.now) in
+    let left : e ∷ c.next.new.self ≡ c.seekers.component-iterator = search rules in
+    sought_next c.seekers.names c.insert.new.self e c.next.new.self q c.in_ok-insert.ensures.ok
+    ∙ ap (λ (es : List (Meaning × Meaning)). with_sought c.seekers.names es q) left
+    ∙ c.seekers.invariant q
