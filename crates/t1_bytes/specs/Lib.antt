@@ -2,6 +2,7 @@ pub mod Cipher
 pub mod Grammar
 pub mod White
 pub mod Segments
+pub mod Limits
 pub mod Faults
 pub mod FaultTexts
 pub mod Eexec

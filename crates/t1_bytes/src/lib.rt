@@ -16,6 +16,7 @@ mod fault;
 mod form;
 mod hexadecimal;
 pub mod laws;
+mod limits;
 mod pfb;
 pub mod texts;
 
@@ -24,6 +25,7 @@ pub use eexec::{Cipher, find_cipher, split_eexec};
 pub use fault::BytesFault;
 pub use form::Form;
 pub use hexadecimal::{hex_lines, put_hex_lines, trailer};
+pub use limits::FILE_LIMIT;
 pub use pfb::{flatten, flatten_in_place, segments};
 
 #[cfg(test)]

@@ -4,6 +4,7 @@ ghost use Rattle.std.specs.Prelude.{◌≡◌, ◌++◌, ◌≤◌, ◌<◌, ◌
 ghost use Rattle.std.specs.Option.{option_map};
 ghost use Rattle.t1_bytes.specs.declared.fault.BytesFault.TheVariants.{Memory};
 ghost use Rattle.t1_bytes.specs.Segments.{segment, end, starts_segment, IsFlat, IsBad, flat_of};
+ghost use Rattle.t1_bytes.specs.Limits.{file_limit};
 ghost use Rattle.t1_bytes.specs.Texts.{segment_text, pfb_text};
 ghost use Rattle.t1_bytes.specs.Faults.{Gives, Refuses};
 
@@ -136,7 +137,8 @@ fn put_segment(out: &mut Vec<u8>, kind: u8, bytes: &[u8]) -> Result<(), AllocErr
 }
 
 /// The PFB file of a clear part, a binary cipher and a trailer: a text, a binary and a text
-/// segment, and the end (Technical Note 5040). Each argument has at most 2^26 bytes.
+/// segment, and the end (Technical Note 5040). Each argument has at most
+/// [`FILE_LIMIT`](crate::FILE_LIMIT) bytes.
 ///
 /// # Errors
 ///
@@ -147,9 +149,9 @@ pub fn segments(
     cipher: &[u8],
     trailer: &[u8],
 ) -> Result<Vec<u8>, BytesFault>
-    requires clear { length clear.now ≤ 2 ^ 26 }
-    requires cipher { length cipher.now ≤ 2 ^ 26 }
-    requires trailer { length trailer.now ≤ 2 ^ 26 }
+    requires clear { length clear.now ≤ file_limit }
+    requires cipher { length cipher.now ≤ file_limit }
+    requires trailer { length trailer.now ≤ file_limit }
     ensures text { IfOk result (λ v. v.items ≡ pfb_text clear.now cipher.now trailer.now) }
     ensures memory { IfErr result (λ fault. fault ≡ Memory) }
 {

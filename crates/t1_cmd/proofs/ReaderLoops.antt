@@ -6,7 +6,8 @@ use Rattle.t1_cmd.specs.declared.faults.Reason.TheVariants.{TooLong, Memory, Lis
 use Rattle.t1_cmd.specs.declared.faults.RunFault.{RunFault}
 use Rattle.t1_cmd.specs.declared.faults.RunFault.TheVariants.{Refused, Read, Write}
 use Rattle.t1_cmd.specs.Count.{inner_of, calls_of}
-use Rattle.t1_cmd.specs.Inputs.{Input, input_of, file_limit, HasFailed, IsRefused, FirstWith, Say}
+use Rattle.t1_cmd.specs.Inputs.{Input, input_of, HasFailed, IsRefused, FirstWith, Say}
+use Rattle.t1_bytes.specs.Limits.{file_limit}
 use Rattle.t1_cmd.specs.Runs.{InputStops}
 use Rattle.t1_cmd.specs.Fonts.{font_input}
 use Rattle.t1_cmd.specs.Mergers.{inputs_of, InTurns, InputsStop}

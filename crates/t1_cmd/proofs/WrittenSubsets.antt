@@ -27,7 +27,8 @@ use Rattle.t1_cmd.specs.declared.faults.Reason.TheVariants.{TooLong, Memory, Lis
 use Rattle.t1_cmd.specs.declared.faults.RunFault.{RunFault}
 use Rattle.t1_cmd.specs.declared.faults.RunFault.TheVariants.{Refused, Read, Write}
 use Rattle.t1_cmd.specs.Count.{inner_of}
-use Rattle.t1_cmd.specs.Inputs.{Input, HasFailed, IsRefused, FirstWith, values_of, value_and, file_limit}
+use Rattle.t1_cmd.specs.Inputs.{Input, HasFailed, IsRefused, FirstWith, values_of, value_and}
+use Rattle.t1_bytes.specs.Limits.{file_limit}
 use Rattle.t1_cmd.specs.Answers.{with_reason}
 use Rattle.t1_cmd.specs.Runs.{AppendsPrefix, RunEnds, Stops, RefusedTogether}
 use Rattle.t1_cmd.specs.Fonts.{font_input, font_reason}

@@ -2,7 +2,7 @@
 use Rattle.std.specs.Prelude.{ℕ, ◌≡◌, List, [], ◌∷◌, length, Result, Ok, Err, nat_lt, if◌then◌else◌}
 use Rattle.t1_cmd.specs.declared.faults.Reason.{Reason}
 use Rattle.t1_cmd.specs.declared.faults.Reason.TheVariants.{TooLong}
-use Rattle.t1_cmd.specs.Inputs.{file_limit}
+use Rattle.t1_bytes.specs.Limits.{file_limit}
 
 -- an answer whose fault is told as a reason
 abbrev pub with_reason : {A F : Type 0} → (F → Reason) → Result A F → Result A Reason

@@ -5,10 +5,6 @@ use Rattle.t1_cmd.specs.declared.counting.Counted.{Counted}
 use Rattle.t1_cmd.specs.declared.faults.Reason.{Reason}
 use Rattle.t1_cmd.specs.Count.{next_count, last_count, inner_of, failed_of}
 
--- the largest input, in bytes
-abbrev pub file_limit : ℕ
-file_limit = 67108864
-
 -- one reader: its bytes, where these are known, and its failed calls before and after
 pub record Input : Type 0 where
   pub known : Option (List ℕ)

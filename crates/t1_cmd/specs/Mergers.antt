@@ -12,7 +12,8 @@ use Rattle.t1_cmd.specs.declared.faults.Reason.TheVariants.{Memory, Merge}
 use Rattle.t1_cmd.specs.declared.faults.RunFault.{RunFault}
 use Rattle.t1_cmd.specs.declared.faults.RunFault.TheVariants.{Refused, Read, Write}
 use Rattle.t1_cmd.specs.Count.{calls_of}
-use Rattle.t1_cmd.specs.Inputs.{Input, HasFailed, IsRefused as InputIsRefused, FirstWith, input_of, file_limit}
+use Rattle.t1_cmd.specs.Inputs.{Input, HasFailed, IsRefused as InputIsRefused, FirstWith, input_of}
+use Rattle.t1_bytes.specs.Limits.{file_limit}
 
 -- ---- readers
 

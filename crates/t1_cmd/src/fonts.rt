@@ -3,7 +3,8 @@ ghost use Rattle.std.specs.Prelude.{◌≡◌, ◌+◌, ◌≤◌, ◌∷◌, []
 ghost use Rattle.std.specs.FinMap as fin;
 ghost use Rattle.t1_font.specs.FontValue.{FontValue};
 ghost use Rattle.t1_cmd.specs.Count.{calls_of, inner_of};
-ghost use Rattle.t1_cmd.specs.Inputs.{input_of, file_limit};
+ghost use Rattle.t1_cmd.specs.Inputs.{input_of};
+ghost use Rattle.t1_bytes.specs.Limits.{file_limit};
 ghost use Rattle.t1_cmd.specs.Runs.{InputEnds, RunEnds, Succeeds};
 ghost use Rattle.t1_cmd.specs.Answers.{Prints};
 ghost use Rattle.t1_cmd.specs.Fonts.{font_reason, font_input, file_answer};
@@ -11,11 +12,12 @@ ghost use Rattle.t1_cmd.specs.CheckText.{check_answer};
 
 use crate::counting::Counted;
 use crate::faults::{Reason, RunFault};
-use crate::reading::{FILE_LIMIT, read_all};
+use crate::reading::read_all;
 use crate::texts::push_about;
 use crate::writing::write_text;
 use std::alloc::{AllocError, Global};
 use std::io::{Read, Write};
+use t1_bytes::FILE_LIMIT;
 use t1_font::{Font, Form, ReadFault, Source, read_vec, write};
 use t1_run::Subroutines;
 

@@ -3,16 +3,18 @@ ghost use Rattle.std.specs.Prelude.{◌≡◌, ◌+◌, ◌≤◌, [], ◌∷◌
 ghost use Rattle.t1_join.specs.ListingJoin.{IsJoined, IsJoinFault};
 ghost use Rattle.t1_join.specs.ListingText.{text_of};
 ghost use Rattle.t1_cmd.specs.Count.{calls_of, inner_of};
-ghost use Rattle.t1_cmd.specs.Inputs.{input_of, file_limit};
+ghost use Rattle.t1_cmd.specs.Inputs.{input_of};
+ghost use Rattle.t1_bytes.specs.Limits.{file_limit};
 ghost use Rattle.t1_cmd.specs.Runs.{InputEnds, RunEnds, Succeeds};
 ghost use Rattle.t1_cmd.specs.Listings.{list_reason, join_reason, listing_input, JoinsTo};
 
 use crate::counting::Counted;
 use crate::faults::{Reason, RunFault};
-use crate::reading::{FILE_LIMIT, read_all};
+use crate::reading::read_all;
 use crate::writing::write_text;
 use std::alloc::Global;
 use std::io::{Read, Write};
+use t1_bytes::FILE_LIMIT;
 use t1_join::{JoinFault, ListFault, Listing, join, listing};
 
 fn refused_list(fault: ListFault) -> RunFault

@@ -8,9 +8,6 @@ use crate::faults::{Reason, RunFault};
 use std::alloc::Global;
 use std::io::{ErrorKind, Read};
 
-/// The most bytes of an input: 64 MiB.
-pub const FILE_LIMIT: usize = 67_108_864;
-
 const CHUNK: usize = 4096;
 
 /// All the bytes of a reader, which is called at most `limit + 1` times, interrupted calls included.

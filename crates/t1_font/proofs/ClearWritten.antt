@@ -10,7 +10,7 @@ use Rattle.t1_bytes.proofs.Grammars.{that_read}
 use Rattle.t1_bytes.proofs.Tables.{table_at-step}
 use Rattle.t1_font.specs.Words.{is_regular, word, keyword, decimal}
 use Rattle.t1_font.specs.Markers.{encoding_marker}
-use Rattle.t1_font.specs.Encoding.{encoding_word, encoding_table, encoding_loop, encoding_start, octal, code, code_entry, encoding_end}
+use Rattle.t1_font.specs.Encoding.{encoding_word, encoding_table, encoding_loop, Whole, OpensPuts, encoding_start, octal, code, code_entry, encoding_end}
 use Rattle.t1_font.specs.Pieces.{EncodingText, OneWord, Puts, encoding_from, clear_pieces}
 use Rattle.t1_font.specs.Writing.{puts_text, encoding_text}
 use Rattle.t1_font.specs.IsFont.{IsWord, IsCode, NoMarker}
@@ -103,11 +103,11 @@ IsEncodingText (Puts es) = AllByRecursion (λ e. IsCode e.0 e.1) es
 -- the canonical clear text, without the line end behind it
 -- ---- the start of the Encoding
 
-start_word : (w rest : List ℕ) → IsWord 32 w → Stops is_regular rest → encoding_start.read (32 ∷ (w ++ (codes " def" ++ rest))) ≡ Some (Some w, rest)
+start_word : (w rest : List ℕ) → IsWord 32 w → Stops is_regular rest → encoding_start.read (32 ∷ (w ++ (codes " def" ++ rest))) ≡ Some (Whole w, rest)
 unfolding encoding_start
 start_word w rest h s = rw (encoding_word_read w rest h s) refl
 
-start_table : (rest : List ℕ) → encoding_start.read (codes " 256 array" ++ (10 ∷ (codes "0 1 255 {1 index exch /.notdef put} for" ++ (10 ∷ rest)))) ≡ Some (None, 10 ∷ rest)
+start_table : (rest : List ℕ) → encoding_start.read (codes " 256 array" ++ (10 ∷ (codes "0 1 255 {1 index exch /.notdef put} for" ++ (10 ∷ rest)))) ≡ Some (OpensPuts, 10 ∷ rest)
 unfolding encoding_start
 start_table rest = rw (no_word (codes "0 1 255 {1 index exch /.notdef put} for" ++ (10 ∷ rest)), table_begins (codes "0 1 255 {1 index exch /.notdef put} for" ++ (10 ∷ rest)), loop_read rest) refl
 
@@ -124,7 +124,7 @@ clear_again head (Puts es) tail none h s =
     let p : List ℕ = puts_text es ++ tail in
     let t : List ℕ = codes "256 array" ++ (10 ∷ (codes "0 1 255 {1 index exch /.notdef put} for" ++ p)) in
     let shown : p ≡ 10 ∷ (line.0 ++ tail) = ap (λ (u : List ℕ). u ++ tail) line.1 in
-    let start : encoding_start.read (32 ∷ t) ≡ Some (None, p) =
-    subst (λ (u : List ℕ). encoding_start.read (codes " 256 array" ++ (10 ∷ (codes "0 1 255 {1 index exch /.notdef put} for" ++ u))) ≡ Some (None, u)) (sym shown) (start_table (line.0 ++ tail)) in
+    let start : encoding_start.read (32 ∷ t) ≡ Some (OpensPuts, p) =
+    subst (λ (u : List ℕ). encoding_start.read (codes " 256 array" ++ (10 ∷ (codes "0 1 255 {1 index exch /.notdef put} for" ++ u))) ≡ Some (OpensPuts, u)) (sym shown) (start_table (line.0 ++ tail)) in
     let marker : first_at encoding_marker (head ++ (codes "/Encoding" ++ (32 ∷ t))) ≡ Some ((head, tt), 32 ∷ t) = first_behind encoding_marker encoding_marker_exact head _ tt (32 ∷ t) (encoding_moves head [] _ none) (encoding_marker_read t) in
     rw (marker, start, puts_read es tail h s) refl

@@ -9,13 +9,13 @@ use Rattle.t1_bytes.specs.Grammar.{Grammar, that, run, fixed, Stops, with_front,
 use Rattle.t1_bytes.specs.White.{white}
 use Rattle.t1_bytes.proofs.Grammars.{IsExact, fixed_exact, bind_read, that_read, run_read}
 use Rattle.t1_bytes.proofs.Tables.{Apart, table_at-step}
-use Rattle.t1_font.specs.Words.{is_regular, is_word, keyword, name, is_name}
+use Rattle.t1_font.specs.Words.{is_regular, is_word, keyword, name, is_name, next_name}
 use Rattle.t1_font.specs.Entry.{Body, Entry, body, entry}
 use Rattle.t1_font.specs.Subrs.{Subr, subr_key, subr, subrs_end}
-use Rattle.t1_font.specs.Glyphs.{Glyph, glyph_key, glyph, glyphs_end}
+use Rattle.t1_font.specs.Glyphs.{Glyph, glyph, glyphs_end}
 use Rattle.t1_font.specs.Writing.{body_text, entry_text, entries_text, index_text, subrs_text, name_text, glyphs_text}
 use Rattle.t1_font.specs.IsFont.{IsWord, IsPhrase}
-use Rattle.t1_font.proofs.EntryLemmas.{entry_eats, entry_apart, subr_key_exact, subr_key_apart, glyph_key_exact, glyph_key_apart}
+use Rattle.t1_font.proofs.EntryLemmas.{entry_eats, entry_apart, subr_key_exact, subr_key_apart, next_name_exact, next_name_apart}
 use Rattle.t1_font.proofs.Written.{white_one, gap_one, word_read, keyword_read, decimal_read, dup_regular, black, black_digits, count_read, length_read, one_read, no_white}
 use Rattle.t1_font.proofs.Phrases.{phrase_behind, phrase_starts, closing_read}
 
@@ -105,13 +105,13 @@ subrs_read declared iv es closing rest few all ends s = table_read (subr_key dec
 
 -- ---- the glyphs
 
-glyph_key_read : (n rest : List ℕ) → IsWord 127 n → Stops is_regular rest → glyph_key.read (10 ∷ (name_text n ++ rest)) ≡ Some (n, rest)
-unfolding glyph_key
-glyph_key_read n rest h s = bind_read white (λ _. name) (10 ∷ (name_text n ++ rest)) (10 ∷ []) (codes "/" ++ (n ++ rest)) _ (white_one 10 (codes "/" ++ (n ++ rest)) refl refl) (name_read n rest h s)
+next_name_read : (n rest : List ℕ) → IsWord 127 n → Stops is_regular rest → next_name.read (10 ∷ (name_text n ++ rest)) ≡ Some (n, rest)
+unfolding next_name
+next_name_read n rest h s = bind_read white (λ _. name) (10 ∷ (name_text n ++ rest)) (10 ∷ []) (codes "/" ++ (n ++ rest)) _ (white_one 10 (codes "/" ++ (n ++ rest)) refl refl) (name_read n rest h s)
 
 end_read : (rest : List ℕ) → Stops is_regular rest → glyphs_end.read (10 ∷ (codes "end" ++ rest)) ≡ Some (codes "end", rest)
 unfolding glyphs_end
 end_read rest s = bind_read white (λ _. keyword (codes "end")) (10 ∷ (codes "end" ++ rest)) (10 ∷ []) (codes "end" ++ rest) _ (white_one 10 (codes "end" ++ rest) refl refl) (keyword_read (codes "end") rest (refl, (refl, (refl, tt))) s)
 
 pub glyphs_read : (iv : ℕ) (es : List Glyph) (rest : List ℕ) → AllByRecursion (IsEntry (IsWord 127) iv) es → Stops is_regular rest → table_at (glyph iv) glyphs_end (glyphs_text es ++ rest) ≡ Ok (es, codes "end", rest)
-glyphs_read iv es rest all s = table_read glyph_key glyphs_end glyph_key_exact glyph_key_apart name_text (IsWord 127) glyph_key_read iv es (codes "end") rest all end_read s
+glyphs_read iv es rest all s = table_read next_name glyphs_end next_name_exact next_name_apart name_text (IsWord 127) next_name_read iv es (codes "end") rest all end_read s

@@ -12,12 +12,12 @@ use Rattle.t1_bytes.proofs.Grammars.{IsExact, pure_exact, bind_exact, that_exact
 use Rattle.t1_bytes.proofs.Tables.{Eats, Apart}
 use Rattle.t1_bytes.proofs.SegmentLemmas.{Eats-spelled}
 use Rattle.t1_bytes.proofs.EexecLemmas.{white_exact, gap_exact}
-use Rattle.t1_font.specs.Words.{is_regular, word, keyword, name, phrase_of, passes}
+use Rattle.t1_font.specs.Words.{is_regular, word, keyword, name, phrase_of, passes, next_name}
 use Rattle.t1_font.specs.Encoding.{code_entry, encoding_end}
 use Rattle.t1_font.specs.Places.{StandsIn}
 use Rattle.t1_font.specs.Entry.{Body, length_from, body, entry}
 use Rattle.t1_font.specs.Subrs.{subr_key, subr, subrs_end}
-use Rattle.t1_font.specs.Glyphs.{glyph_key, glyph, glyphs_end}
+use Rattle.t1_font.specs.Glyphs.{glyph, glyphs_end}
 use Rattle.t1_font.proofs.WordLemmas.{one_white_exact, word_exact, keyword_exact, decimal_exact, name_exact, phrase_exact, keyword_text}
 use Rattle.t1_font.proofs.PlaceLemmas.{behind}
 use Rattle.t1_font.proofs.MarkerLemmas.{code_entry_exact}
@@ -93,15 +93,15 @@ subr_apart declared iv = entry_apart (subr_key declared) iv subrs_end (subr_key_
 
 -- ---- the glyphs
 
-pub glyph_key_exact : IsExact glyph_key
-unfolding glyph_key
-glyph_key_exact = bind_exact _ _ white_exact (λ _. name_exact)
+pub next_name_exact : IsExact next_name
+unfolding next_name
+next_name_exact = bind_exact _ _ white_exact (λ _. name_exact)
 
 -- a name stands right before what is left
-pub name_stands : (bytes : List ℕ) (x : List ℕ × List ℕ) → glyph_key.read bytes ≡ Some x → StandsIn bytes x.0 (length x.1)
-unfolding glyph_key name
+pub name_stands : (bytes : List ℕ) (x : List ℕ × List ℕ) → next_name.read bytes ≡ Some x → StandsIn bytes x.0 (length x.1)
+unfolding next_name name
 name_stands bytes x e =
-    let h = glyph_key_exact.takes bytes x e in
+    let h = next_name_exact.takes bytes x e in
     let k = h.2 in
     let n = k.5 in
     behind k.1 (k.2 ++ x.1) bytes x.0 (length x.1) (h.1 ∙ (ap (λ t. t ++ x.1) k.3 ∙ append_assoc k.1 k.2 x.1))
@@ -123,18 +123,18 @@ no_end : (rest : List ℕ) → (keyword (codes "end")).read (47 ∷ rest) ≡ No
 unfolding keyword
 no_end rest = refl
 
-pub glyph_key_apart : Apart glyph_key glyphs_end
-unfolding glyph_key glyphs_end
-glyph_key_apart bytes x e = let s = name_slash (drop (prefix_len is_white bytes) bytes) x e in rw s.1 (no_end s.0)
+pub next_name_apart : Apart next_name glyphs_end
+unfolding next_name glyphs_end
+next_name_apart bytes x e = let s = name_slash (drop (prefix_len is_white bytes) bytes) x e in rw s.1 (no_end s.0)
 
 pub glyph_exact : (iv : ℕ) → IsExact (glyph iv)
-glyph_exact iv = entry_exact glyph_key iv glyph_key_exact
+glyph_exact iv = entry_exact next_name iv next_name_exact
 
 pub glyph_eats : (iv : ℕ) → Eats (glyph iv)
-glyph_eats iv = entry_eats glyph_key iv glyph_key_exact
+glyph_eats iv = entry_eats next_name iv next_name_exact
 
 pub glyph_apart : (iv : ℕ) → Apart (glyph iv) glyphs_end
-glyph_apart iv = entry_apart glyph_key iv glyphs_end glyph_key_apart
+glyph_apart iv = entry_apart next_name iv glyphs_end next_name_apart
 
 -- ---- codes
 

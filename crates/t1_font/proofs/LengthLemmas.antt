@@ -17,7 +17,8 @@ use Rattle.t1_bytes.specs.Cipher.{private_cipher}
 use Rattle.t1_bytes.specs.Texts.{segment_text, hex_rest, hex_lines, trailer}
 use Rattle.t1_bytes.proofs.Ciphers.{length-sealed}
 use Rattle.t1_font.specs.Words.{word, phrase_of, phrase_after, is_access, passes}
-use Rattle.t1_font.specs.FontValue.{FontValue, Shell, SubrsShell, Encoding, Word, Codes, Numbered, total, subr_weight, glyph_weight, weight, file_limit}
+use Rattle.t1_font.specs.FontValue.{FontValue, Shell, SubrsShell, Encoding, Word, Codes, Numbered, total, subr_weight, glyph_weight, weight}
+use Rattle.t1_bytes.specs.Limits.{file_limit}
 use Rattle.t1_font.specs.Writing.{body_text, entry_text, entries_text, index_text, subrs_text, subrs_part, name_text, glyphs_text, glyphs_part, puts_text, encoding_text}
 use Rattle.t1_font.specs.Entry.{Body}
 use Rattle.t1_font.specs.Canon.{sealed_body, sealed_entry, subr_entry, glyph_entry, subrs_pieces, encoding_pieces, canon_clear, canon_private, canon}

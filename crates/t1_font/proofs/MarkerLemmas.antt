@@ -4,7 +4,7 @@ use Rattle.std.specs.Prelude.{codes}
 use Rattle.t1_bytes.specs.Grammar.{Grammar, first}
 use Rattle.t1_bytes.proofs.Grammars.{IsExact, pure_exact, bind_exact, that_exact, run_exact, fixed_exact, before_exact, either_exact, first_exact}
 use Rattle.t1_font.specs.Markers.{encoding_marker, subrs_marker, chars_marker, len_iv_marker, len_iv, closefile}
-use Rattle.t1_font.specs.Encoding.{encoding_word, encoding_table, loop_range, loop_body, encoding_loop, octal, octal_after, code, code_entry, may_be, encoding_end, encoding_start}
+use Rattle.t1_font.specs.Encoding.{encoding_word, encoding_table, loop_range, loop_body, encoding_loop, octal, octal_after, code, code_entry, may_be, encoding_end, array_start, array_end, Whole, encoding_start}
 use Rattle.t1_bytes.proofs.EexecLemmas.{white_exact, gap_exact}
 use Rattle.t1_font.proofs.WordLemmas.{word_exact, keyword_exact, decimal_exact, name_exact}
 
@@ -58,10 +58,6 @@ unfolding encoding_loop
 encoding_loop_exact =
     bind_exact _ _ loop_range_exact (λ _. bind_exact _ _ white_exact (λ _. bind_exact _ _ (fixed_exact (codes "{")) (λ _. bind_exact _ _ loop_body_exact (λ _. bind_exact _ _ white_exact (λ _. bind_exact _ _ (fixed_exact (codes "}")) (λ _. bind_exact _ _ white_exact (λ _. keyword_exact (codes "for"))))))))
 
-pub encoding_start_exact : IsExact encoding_start
-unfolding encoding_start
-encoding_start_exact = either_exact _ _ (bind_exact _ _ encoding_word_exact (λ w. pure_exact (Some w))) (bind_exact _ _ encoding_table_exact (λ _. bind_exact _ _ (may_be_exact _ encoding_loop_exact) (λ _. pure_exact _)))
-
 pub octal_exact : IsExact octal
 unfolding octal
 octal_exact = bind_exact _ _ (fixed_exact (codes "8#")) (λ _. bind_exact _ _ (that_exact _ _ (run_exact _)) (λ w. pure_exact (octal_after 0 w)))
@@ -77,6 +73,19 @@ code_entry_exact = bind_exact _ _ white_exact (λ _. bind_exact _ _ (keyword_exa
 pub encoding_end_exact : IsExact encoding_end
 unfolding encoding_end
 encoding_end_exact = bind_exact _ _ white_exact (λ _. bind_exact _ _ (may_be_exact _ (bind_exact _ _ (keyword_exact (codes "readonly")) (λ _. gap_exact))) (λ _. keyword_exact (codes "def")))
+
+pub array_start_exact : IsExact array_start
+unfolding array_start
+array_start_exact = bind_exact _ _ white_exact (λ _. fixed_exact (codes "["))
+
+pub array_end_exact : IsExact array_end
+unfolding array_end
+array_end_exact = bind_exact _ _ white_exact (λ _. bind_exact _ _ (fixed_exact (codes "]")) (λ _. encoding_end_exact))
+
+pub encoding_start_exact : IsExact encoding_start
+unfolding encoding_start
+encoding_start_exact = either_exact _ _ (bind_exact _ _ encoding_word_exact (λ w. pure_exact (Whole w)))
+    (either_exact _ _ (bind_exact _ _ encoding_table_exact (λ _. bind_exact _ _ (may_be_exact _ encoding_loop_exact) (λ _. pure_exact _))) (bind_exact _ _ array_start_exact (λ _. pure_exact _)))
 
 -- ---- the end of the private text
 

@@ -4,28 +4,31 @@ use Rattle.std.proofs.lemmas.Bool.{cases_Bool, lt-ltb, le-ltb, le-leb, lt-leb}
 use Rattle.std.specs.FinMap as maps
 use Rattle.std.specs.Ordering.{nat_cmp}
 use Rattle.t1_bytes.specs.Cipher.{private_text}
-use Rattle.t1_bytes.specs.Grammar.{Grammar, first, table_at, AtFront, Lacks}
+use Rattle.t1_bytes.specs.Grammar.{Grammar, first, table_at, counted_at, AtFront, Lacks, TableAt, CountedAt}
 use Rattle.t1_bytes.specs.Eexec.{eexec_marker, cipher_text}
 use Rattle.t1_bytes.proofs.Grammars.{IsExact, first_exact, front_again, unread}
 use Rattle.t1_bytes.proofs.Places.{lacks_unread}
 use Rattle.t1_bytes.proofs.Tables.{Eats, Apart, table_again, break_again}
+use Rattle.t1_bytes.proofs.Counted.{counted_again, count_broken}
 use Rattle.t1_bytes.proofs.SegmentLemmas.{flat_again, bad_again}
 use Rattle.t1_bytes.proofs.EexecLemmas.{cipher_exact, eexec_exact}
 use Rattle.t1_font.specs.declared.fault.ReadFault.{ReadFault}
 use Rattle.t1_font.specs.declared.fault.ReadFault.TheVariants.{TooLong, BadSegment, NoEexec, ShortCipher, NoEncoding, BadEncoding, NoCharStrings, BadLenIV, BadSubrs, BadGlyphs, Hybrid, NoClosefile, NoNotdef, Limit, Memory}
 use Rattle.t1_font.specs.Subrs.{subr, subrs_end}
 use Rattle.t1_font.specs.Glyphs.{glyph, glyphs_end}
-use Rattle.t1_font.specs.Encoding.{encoding_start, code_entry, encoding_end}
+use Rattle.t1_font.specs.Words.{next_name}
+use Rattle.t1_font.specs.Encoding.{Opening, Whole, OpensPuts, OpensNames, encoding_start, code_entry, encoding_end, code_count, array_end}
 use Rattle.t1_font.specs.Markers.{encoding_marker, subrs_marker, chars_marker, len_iv_marker, len_iv, closefile}
 use Rattle.t1_font.specs.Pieces.{EncodingText, OneWord, Puts, ClearPieces, SubrsPieces, PrivatePieces, flat_pieces, encoding_from, clear_pieces, iv_at, iv_of, has_subrs, tail_after, glyphs_from, tables_from, private_pieces}
-use Rattle.t1_font.specs.FontValue.{FontValue, name_cmp, notdef, file_limit, IsWithin}
+use Rattle.t1_font.specs.FontValue.{FontValue, name_cmp, notdef, IsWithin}
+use Rattle.t1_bytes.specs.Limits.{file_limit}
 use Rattle.t1_font.specs.Entries.{last_entries}
 use Rattle.t1_font.specs.Reading.{Reading}
 use Rattle.t1_font.specs.ReadFont.{subr_entries, glyph_entries, shell_of, font_of, is_within, flat_text, font_from, font_texts, font_file, read_font}
-use Rattle.t1_font.specs.Spelling.{TableAt, IsCut, SpellsEncoding, IsClear, IsLenIV, said, unsaid, nowhere, later, Start, SpellsTables, HasTables, IsPrivate, Texts, HasPieces, Spells}
+use Rattle.t1_font.specs.Spelling.{IsCut, SpellsEncoding, IsClear, IsLenIV, said, unsaid, nowhere, later, Start, SpellsTables, HasTables, IsPrivate, Texts, HasPieces, Spells}
 use Rattle.t1_font.specs.Reasons.{CutFails, ClearFails, BadIV, BadSubrsAt, NoneAfterSubrs, BadGlyphsAt, IsHybrid, PrivateFails, FontFails, HasFlat, Reason}
-use Rattle.t1_font.proofs.EntryLemmas.{subr_exact, subrs_end_exact, subr_eats, subr_apart, code_entry_eats, code_entry_apart, glyph_eats, glyph_apart, glyph_exact, glyphs_end_exact}
-use Rattle.t1_font.proofs.MarkerLemmas.{encoding_marker_exact, encoding_start_exact, code_entry_exact, encoding_end_exact, subrs_marker_exact, chars_marker_exact, len_iv_marker_exact, len_iv_exact, closefile_exact}
+use Rattle.t1_font.proofs.EntryLemmas.{subr_exact, subrs_end_exact, subr_eats, subr_apart, code_entry_eats, code_entry_apart, next_name_exact, glyph_eats, glyph_apart, glyph_exact, glyphs_end_exact}
+use Rattle.t1_font.proofs.MarkerLemmas.{encoding_marker_exact, encoding_start_exact, code_entry_exact, encoding_end_exact, array_end_exact, subrs_marker_exact, chars_marker_exact, len_iv_marker_exact, len_iv_exact, closefile_exact}
 use Rattle.t1_font.proofs.HasSubrs.{lack_subrs, stand_subrs}
 use Rattle.t1_font.proofs.ReadRight.{IsTail}
 use Rattle.t1_font.proofs.ValueLaws.{notdef_is, within_of, within_again, private_again}
@@ -37,6 +40,9 @@ found g G bytes x s = front_again (first g) (first_exact g G) bytes x s
 -- a table is read
 table_found : {A B : Type 0} (entry : Grammar A) (close : Grammar B) → IsExact entry → IsExact close → Eats entry → Apart entry close → (xs : List A) (b : B) (bytes rest : List ℕ) → TableAt entry close xs b bytes rest → table_at entry close bytes ≡ Ok (xs, b, rest)
 table_found entry close E C eats apart xs b bytes rest s = ap (table_at entry close) s.1 ∙ table_again entry close E C eats apart xs b s.0 rest s.2
+
+counted_found : {A B : Type 0} (entry : Grammar A) (close : Grammar B) → IsExact entry → IsExact close → (n : ℕ) (xs : List A) (b : B) (bytes rest : List ℕ) → CountedAt entry close n xs b bytes rest → counted_at entry close n bytes ≡ Ok (xs, b, rest)
+counted_found entry close E C n xs b bytes rest s = ap (counted_at entry close n) s.1 ∙ counted_again entry close E C n xs b s.0 rest s.2
 
 -- ---- the flat text
 
@@ -52,10 +58,11 @@ fails_cut flat e s = absurd s
 
 -- ---- the clear text
 
-is_encoding : (clear bytes : List ℕ) (enc : EncodingText) (after : List ℕ) → SpellsEncoding enc bytes after → (start : Option (List ℕ) × List ℕ) × AtFront encoding_start bytes start × (encoding_from clear start.0 start.1 ≡ Ok (enc, after))
+is_encoding : (clear bytes : List ℕ) (enc : EncodingText) (after : List ℕ) → SpellsEncoding enc bytes after → (start : Opening × List ℕ) × AtFront encoding_start bytes start × (encoding_from clear start.0 start.1 ≡ Ok (enc, after))
 unfolding encoding_from
-is_encoding clear bytes (OneWord w) after s = ((Some w, after), s, refl)
-is_encoding clear bytes (Puts puts) after s = ((None, s.0), s.2, rw (table_found code_entry encoding_end code_entry_exact encoding_end_exact code_entry_eats code_entry_apart puts s.1 s.0 after s.3) refl)
+is_encoding clear bytes (OneWord w) after s = ((Whole w, after), s, refl)
+is_encoding clear bytes (Puts puts) after (inl s) = ((OpensPuts, s.0), s.2, rw (table_found code_entry encoding_end code_entry_exact encoding_end_exact code_entry_eats code_entry_apart puts s.1 s.0 after s.3) refl)
+is_encoding clear bytes (Puts puts) after (inr s) = ((OpensNames, s.1), s.4, rw (counted_found next_name array_end next_name_exact array_end_exact code_count s.0 s.2 s.1 after s.5) (ap (λ (p : List (ℕ × List ℕ)). Ok (Puts p, after)) (sym s.3)))
 
 is_clear : (clear : List ℕ) (c : ClearPieces) → IsClear clear c → clear_pieces clear ≡ Ok c
 unfolding clear_pieces
@@ -67,9 +74,12 @@ fails_clear : (clear : List ℕ) (e : ReadFault) → ClearFails clear e → clea
 unfolding clear_pieces encoding_from
 fails_clear clear NoEncoding s = rw (lacks_unread encoding_marker encoding_marker_exact clear s) refl
 fails_clear clear (BadEncoding at) (inl s) = rw (found encoding_marker encoding_marker_exact clear ((s.0, tt), s.1) s.2, unread encoding_start encoding_start_exact s.1 s.3) (ap (λ (n : ℕ). Err (BadEncoding n)) (sym s.4))
-fails_clear clear (BadEncoding at) (inr s) =
+fails_clear clear (BadEncoding at) (inr (inl s)) =
     let broken = break_again code_entry encoding_end code_entry_exact encoding_end_exact code_entry_eats code_entry_apart s.2 s.3 s.6 in
-    rw (found encoding_marker encoding_marker_exact clear ((s.0, tt), s.1) s.4, front_again encoding_start encoding_start_exact s.1 (None, s.2) s.5, broken) (ap (λ (n : ℕ). Err (BadEncoding n)) (sym s.7))
+    rw (found encoding_marker encoding_marker_exact clear ((s.0, tt), s.1) s.4, front_again encoding_start encoding_start_exact s.1 (OpensPuts, s.2) s.5, broken) (ap (λ (n : ℕ). Err (BadEncoding n)) (sym s.7))
+fails_clear clear (BadEncoding at) (inr (inr s)) =
+    let broken = count_broken next_name array_end next_name_exact array_end_exact code_count s.2 s.3 s.6 in
+    rw (found encoding_marker encoding_marker_exact clear ((s.0, tt), s.1) s.4, front_again encoding_start encoding_start_exact s.1 (OpensNames, s.2) s.5, broken) (ap (λ (n : ℕ). Err (BadEncoding n)) (sym s.7))
 fails_clear clear e s = absurd s
 
 -- ---- lenIV and the tail

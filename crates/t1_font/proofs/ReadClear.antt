@@ -1,5 +1,5 @@
 -- The clear text of a file that was read is that of a font.
-use Rattle.std.proofs.Common.{◌≡◌, ℕ, ◌≤◌, inl, inr, true, false, List, [], ◌∷◌, ◌++◌, length, get_or, Option, Some, None, refl, sym, ap, subst, ◌∙◌, append_assoc, arith, true≢false}
+use Rattle.std.proofs.Common.{◌≡◌, ℕ, suc, ◌+◌, ◌≤◌, inl, inr, true, false, List, [], ◌∷◌, ◌++◌, length, get_or, Option, Some, None, refl, sym, ap, subst, ◌∙◌, append_assoc, arith, true≢false}
 use Rattle.std.specs.Prelude.{codes}
 use Rattle.std.specs.List.{AllByRecursion}
 use Rattle.std.specs.Option.{option_map}
@@ -15,9 +15,9 @@ use Rattle.t1_bytes.specs.Eexec.{eexec_marker, blank_comes}
 use Rattle.t1_bytes.specs.Laws.{AreBytes}
 use Rattle.t1_bytes.proofs.Grammars.{that_read, run_read, unspelled, unread}
 use Rattle.t1_bytes.proofs.EexecLemmas.{eexec_exact}
-use Rattle.t1_font.specs.Words.{is_regular, keyword}
+use Rattle.t1_font.specs.Words.{is_regular, keyword, next_name}
 use Rattle.t1_font.specs.Markers.{encoding_marker}
-use Rattle.t1_font.specs.Encoding.{encoding_start, encoding_word, code_entry, encoding_end}
+use Rattle.t1_font.specs.Encoding.{Opening, Whole, OpensPuts, OpensNames, encoding_start, encoding_word, code_entry, encoding_end, array_end, from_code}
 use Rattle.t1_font.specs.Pieces.{EncodingText, OneWord, Puts, ClearPieces, PrivatePieces}
 use Rattle.t1_font.specs.FontValue.{notdef}
 use Rattle.t1_font.specs.Entries.{last_value, unless_notdef}
@@ -32,7 +32,7 @@ use Rattle.t1_font.proofs.SplitWritten.{marker_own}
 use Rattle.t1_font.proofs.Moves.{first_behind, eexec_moves, encoding_moves}
 use Rattle.t1_font.proofs.ReadBack.{eexec_alike}
 use Rattle.t1_font.proofs.ReadBytes.{parts_bytes, entries_have}
-use Rattle.t1_font.proofs.ReadEntries.{word_of, put_of, IsReadPut, last_has}
+use Rattle.t1_font.proofs.ReadEntries.{word_of, put_of, next_name_of, IsReadPut, last_has}
 use Rattle.t1_font.proofs.ReadMarkers.{meet, NoneIn-left, NoneIn-right, encoding_slash, IsMarker, marker_is, is_plain, marker_plain, plain_right}
 
 -- ---- the Encoding ends with `def`
@@ -49,15 +49,24 @@ def_ends w text front own rest bytes s e b =
     let def : own ≡ codes "def" = keyword_text (codes "def") w own rest s in
     record { body = front; parts = b ∙ ap (λ (u : List ℕ). u ++ rest) (e ∙ ap (λ (u : List ℕ). front ++ u) def); apart = s.0.2 }
 
+-- the word of an opening
+word_in : Opening → Option (List ℕ)
+word_in (Whole w) = Some w
+word_in OpensPuts = None
+word_in OpensNames = None
+
 -- a word is its own Encoding
-word_start : (w bytes rest : List ℕ) → AtFront encoding_start bytes (Some w, rest) → (text : List ℕ) × (bytes ≡ text ++ rest) × encoding_word.Spells w text rest
+word_start : (w bytes rest : List ℕ) → AtFront encoding_start bytes (Whole w, rest) → (text : List ℕ) × (bytes ≡ text ++ rest) × encoding_word.Spells w text rest
 unfolding encoding_start
 word_start w bytes rest a = elim a.2 [
   | inl t ↦
       let text : a.0 ≡ t.1 = t.3 ∙ (ap (λ (u : List ℕ). t.1 ++ u) t.5.0 ∙ append-nil t.1) in
       let spelled : encoding_word.Spells t.0 t.1 rest = subst (λ (u : List ℕ). encoding_word.Spells t.0 t.1 (u ++ rest)) t.5.0 t.4 in
-      (t.1, a.1 ∙ ap (λ (u : List ℕ). u ++ rest) text, subst (λ (v : List ℕ). encoding_word.Spells v t.1 rest) (Some_same t.5.1) spelled)
-  | inr t ↦ Some_None (sym t.0.5.5.1)
+      (t.1, a.1 ∙ ap (λ (u : List ℕ). u ++ rest) text, subst (λ (v : List ℕ). encoding_word.Spells v t.1 rest) (Some_same (ap word_in t.5.1)) spelled)
+  | inr t ↦ elim t.0 [
+      | inl u ↦ Some_None (sym (ap word_in u.5.5.1))
+      | inr u ↦ Some_None (sym (ap word_in u.0.5.1))
+    ]
 ]
 
 word_ends : (w text rest bytes : List ℕ) → encoding_word.Spells w text rest → bytes ≡ text ++ rest → IsEnded bytes rest
@@ -77,15 +86,25 @@ close_ends closing text rest front bytes s b =
     let flat : front ++ (s.1 ++ (s.5.1 ++ s.5.2)) ≡ (front ++ (s.1 ++ s.5.1)) ++ s.5.2 = simp append_assoc in
     def_ends closing (front ++ text) (front ++ (s.1 ++ s.5.1)) s.5.2 rest bytes s.5.5 (parts ∙ flat) b
 
+array_ends : (closing text rest : List ℕ) (front bytes : List ℕ) → array_end.Spells closing text rest → bytes ≡ (front ++ text) ++ rest → IsEnded bytes rest
+unfolding array_end
+array_ends closing text rest front bytes s b =
+    let parts : front ++ text ≡ front ++ (s.1 ++ (s.5.1 ++ s.5.2)) = λ i. front ++ (s.3 ∙ (λ j. s.1 ++ s.5.3 j)) i in
+    let flat : front ++ (s.1 ++ (s.5.1 ++ s.5.2)) ≡ (front ++ (s.1 ++ s.5.1)) ++ s.5.2 = simp append_assoc in
+    close_ends closing s.5.2 rest (front ++ (s.1 ++ s.5.1)) bytes s.5.5 (b ∙ ap (λ (u : List ℕ). u ++ rest) (parts ∙ flat))
+
+-- what opens the entries, the entries, their close and a rest
+table_parts : (opening entries closing rest bytes behind : List ℕ) → bytes ≡ opening ++ behind → behind ≡ (entries ++ closing) ++ rest → bytes ≡ ((opening ++ entries) ++ closing) ++ rest
+table_parts opening entries closing rest bytes behind b e = b ∙ (ap (λ (u : List ℕ). opening ++ u) e ∙ simp append_assoc)
+
 pub encoding_ends : (e : EncodingText) (bytes rest : List ℕ) → SpellsEncoding e bytes rest → IsEnded bytes rest
 encoding_ends (OneWord w) bytes rest s = let a = word_start w bytes rest s in word_ends w a.0 rest bytes a.2 a.1
-encoding_ends (Puts puts) bytes rest s =
+encoding_ends (Puts puts) bytes rest (inl s) =
     let t = s.3.2 in
-    let whole : bytes ≡ ((s.2.0 ++ t.0) ++ t.1) ++ rest = s.2.1 ∙ (ap (λ (u : List ℕ). s.2.0 ++ u) (s.3.1 ∙ ap (λ (u : List ℕ). u ++ rest) t.2) ∙ grouped s.2.0 t.0 t.1) in
-    close_ends s.1 t.1 rest (s.2.0 ++ t.0) bytes t.4 whole
-  where
-    grouped : (a b c : List ℕ) → a ++ ((b ++ c) ++ rest) ≡ ((a ++ b) ++ c) ++ rest
-    grouped a b c = simp append_assoc
+    close_ends s.1 t.1 rest (s.2.0 ++ t.0) bytes t.4 (table_parts s.2.0 t.0 t.1 rest bytes s.0 s.2.1 (s.3.1 ∙ ap (λ (u : List ℕ). u ++ rest) t.2))
+encoding_ends (Puts puts) bytes rest (inr s) =
+    let t = s.5.2.1 in
+    array_ends s.2 t.1 rest (s.4.0 ++ t.0) bytes t.4 (table_parts s.4.0 t.0 t.1 rest bytes s.1 s.4.1 (s.5.1 ∙ ap (λ (u : List ℕ). u ++ rest) t.2))
 
 -- ---- and is one of a font
 
@@ -103,16 +122,30 @@ named (Some m) n e = elim (cases_Bool (bytes_eq notdef m)) [
   | inr t ↦ let k : ◌≡◌ {A = Option (List ℕ)} (Some m) (Some n) = rw t at e in (k, subst (λ (u : List ℕ). bytes_eq notdef u ≡ false) (Some_same k) t)
 ]
 
-pub encoding_of : (e : EncodingText) (bytes rest : List ℕ) → SpellsEncoding e bytes rest → AreBytes bytes → IsEncoding (encoding_value e)
-encoding_of (OneWord w) bytes rest s h = let a = word_start w bytes rest s in word_value w a.0 rest a.2 (parts_bytes bytes a.0 rest a.1 h).0
-encoding_of (Puts puts) bytes rest s h = λ c n e.
-    let entries : AreBytes s.0 = (parts_bytes bytes s.2.0 s.0 s.2.1 h).1 in
-    let text : AreBytes s.3.0 = (parts_bytes s.0 s.3.0 rest s.3.1 entries).0 in
-    let front : AreBytes s.3.2.0 = (parts_bytes s.3.0 s.3.2.0 s.3.2.1 s.3.2.2 text).0 in
-    let all : AllByRecursion IsReadPut puts = entries_have code_entry IsReadPut put_of puts s.3.2.0 (s.3.2.1 ++ rest) s.3.2.3 front in
+puts_value : (puts : List (ℕ × List ℕ)) → AllByRecursion IsReadPut puts → IsEncoding (encoding_value (Puts puts))
+puts_value puts all = λ c n e.
     let found = named (last_value nat_cmp c puts) n (sym (get-names_of nat_cmp_total nat_cmp-IsAntisymmetric puts c) ∙ e) in
     let here : IsReadPut (c, n) = last_has nat_cmp nat_cmp-IsAntisymmetric (λ c n. IsReadPut (c, n)) puts all c n found.0 in
     record { code = here.code; name = here.name; put = found.1 }
+
+-- the bytes of entries, behind what opens them
+entries_bytes : (opening behind text entries closing rest bytes : List ℕ) → bytes ≡ opening ++ behind → behind ≡ text ++ rest → text ≡ entries ++ closing → AreBytes bytes → AreBytes entries
+entries_bytes opening behind text entries closing rest bytes b e t h = (parts_bytes text entries closing t (parts_bytes behind text rest e (parts_bytes bytes opening behind b h).1).0).0
+
+-- up to 256 names at the codes of their places
+array_puts : (c : ℕ) (names : List (List ℕ)) → AllByRecursion (IsWord 127) names → c + length names ≤ 256 → AllByRecursion IsReadPut (from_code c names)
+array_puts c [] all few = tt
+array_puts c (n ∷ names) all few = (record { code = omega (arith, few); name = all.0 }, array_puts (suc c) names all.1 (omega (arith, few)))
+
+pub encoding_of : (e : EncodingText) (bytes rest : List ℕ) → SpellsEncoding e bytes rest → AreBytes bytes → IsEncoding (encoding_value e)
+encoding_of (OneWord w) bytes rest s h = let a = word_start w bytes rest s in word_value w a.0 rest a.2 (parts_bytes bytes a.0 rest a.1 h).0
+encoding_of (Puts puts) bytes rest (inl s) h =
+    let t = s.3.2 in
+    puts_value puts (entries_have code_entry IsReadPut put_of puts t.0 (t.1 ++ rest) t.3 (entries_bytes s.2.0 s.0 s.3.0 t.0 t.1 rest bytes s.2.1 s.3.1 t.2 h))
+encoding_of (Puts puts) bytes rest (inr s) h =
+    let t = s.5.2.1 in
+    let all : AllByRecursion (IsWord 127) s.0 = entries_have next_name (IsWord 127) next_name_of s.0 t.0 (t.1 ++ rest) t.3 (entries_bytes s.4.0 s.1 s.5.0 t.0 t.1 rest bytes s.4.1 s.5.1 t.2 h) in
+    puts_value puts (subst (AllByRecursion IsReadPut) (sym s.3) (array_puts 0 s.0 all (omega (arith, s.5.2.0))))
 
 -- ---- the clear text ends with the first marker
 

@@ -11,11 +11,11 @@ use Rattle.t1_bytes.specs.Grammar.{Grammar, choice}
 use Rattle.t1_bytes.specs.Laws.{AreBytes}
 use Rattle.t1_bytes.specs.Cipher.{decrypted}
 use Rattle.t1_bytes.proofs.Ciphers.{length-decrypted}
-use Rattle.t1_font.specs.Words.{word, name, phrase_of, phrase_after, is_access, passes}
+use Rattle.t1_font.specs.Words.{word, name, phrase_of, phrase_after, is_access, passes, next_name}
 use Rattle.t1_font.specs.Entry.{Body, Entry, length_from, body, entry, plain_entries}
 use Rattle.t1_font.specs.Subrs.{Subr, subr_key, subr}
 use Rattle.t1_font.specs.Encoding.{code, code_entry}
-use Rattle.t1_font.specs.Glyphs.{Glyph, glyph_key, glyph}
+use Rattle.t1_font.specs.Glyphs.{Glyph, glyph}
 use Rattle.t1_font.specs.Charstrings.{plain_of}
 use Rattle.t1_font.specs.Entries.{last_value, map_of}
 use Rattle.t1_font.specs.IsFont.{IsWord, IsPhrase, IsCharstring}
@@ -103,12 +103,12 @@ subr_key_of declared i text rest s h = ltb-true i declared s.5.5.5.1
 pub subr_of : (declared iv : ℕ) (e : Subr) (text rest : List ℕ) → (subr declared iv).Spells e text rest → AreBytes text → IsRead (λ i. i < declared) iv e
 subr_of declared = entry_of (subr_key declared) (λ i. i < declared) (subr_key_of declared)
 
-glyph_key_of : (n text rest : List ℕ) → glyph_key.Spells n text rest → AreBytes text → IsWord 127 n
-unfolding glyph_key
-glyph_key_of n text rest s h = name_of n s.2 rest s.5 (parts_bytes text s.1 s.2 s.3 h).1
+pub next_name_of : (n text rest : List ℕ) → next_name.Spells n text rest → AreBytes text → IsWord 127 n
+unfolding next_name
+next_name_of n text rest s h = name_of n s.2 rest s.5 (parts_bytes text s.1 s.2 s.3 h).1
 
 pub glyph_of : (iv : ℕ) (e : Glyph) (text rest : List ℕ) → (glyph iv).Spells e text rest → AreBytes text → IsRead (IsWord 127) iv e
-glyph_of = entry_of glyph_key (IsWord 127) glyph_key_of
+glyph_of = entry_of next_name (IsWord 127) next_name_of
 
 pub record IsReadPut (e : ℕ × List ℕ) : Type 0 where
   pub code : e.0 ≤ 255

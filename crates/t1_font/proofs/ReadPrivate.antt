@@ -2,14 +2,14 @@
 use Rattle.std.proofs.Common.{◌≡◌, ℕ, ◌<◌, Bool, true, false, List, [], ◌∷◌, ◌++◌, length, Option, Some, None, refl, sym, ap, subst, ◌∙◌, append_assoc, arith}
 use Rattle.std.specs.List.{AllByRecursion}
 use Rattle.std.proofs.lemmas.List.{append-nil, length-append}
-use Rattle.t1_bytes.specs.Grammar.{NoneIn, Stops, first}
+use Rattle.t1_bytes.specs.Grammar.{NoneIn, Stops, first, TableAt}
 use Rattle.t1_bytes.specs.Laws.{AreBytes}
 use Rattle.t1_font.specs.Words.{is_regular, word, keyword, phrase_of, phrase_after, is_access, passes}
 use Rattle.t1_font.specs.Subrs.{Subr, subr, subrs_end}
 use Rattle.t1_font.specs.Markers.{subrs_marker, chars_marker}
 use Rattle.t1_font.specs.Glyphs.{glyphs_end}
 use Rattle.t1_font.specs.Pieces.{SubrsPieces, PrivatePieces}
-use Rattle.t1_font.specs.Spelling.{TableAt, NotBefore, nowhere, later, Start, SpellsTables}
+use Rattle.t1_font.specs.Spelling.{NotBefore, nowhere, later, Start, SpellsTables}
 use Rattle.t1_font.specs.IsFont.{NoMarker, IsPhrase}
 use Rattle.t1_font.proofs.Moves.{subrs_moves, chars_moves}
 use Rattle.t1_font.proofs.ReadBytes.{parts_bytes, entries_have}

@@ -4,7 +4,7 @@ use Rattle.std.proofs.lemmas.Bool.{cases_Bool, or_parts, not-true, not-false, or
 use Rattle.std.specs.FinMap as maps
 use Rattle.std.specs.Ordering.{nat_cmp}
 use Rattle.t1_bytes.specs.Cipher.{decrypted, private_text}
-use Rattle.t1_bytes.specs.Grammar.{first, AtFront, Lacks}
+use Rattle.t1_bytes.specs.Grammar.{first, AtFront, Lacks, TableAt}
 use Rattle.t1_bytes.specs.Segments.{IsFlat, IsBad, flat_of}
 use Rattle.t1_bytes.specs.Eexec.{eexec_marker, cipher_text}
 use Rattle.t1_bytes.proofs.Grammars.{first_exact}
@@ -15,18 +15,20 @@ use Rattle.t1_font.specs.declared.fault.ReadFault.{ReadFault}
 use Rattle.t1_font.specs.declared.fault.ReadFault.TheVariants.{TooLong, BadSegment, NoEexec, ShortCipher, NoEncoding, BadEncoding, NoCharStrings, BadLenIV, BadSubrs, BadGlyphs, Hybrid, NoClosefile, NoNotdef, Limit}
 use Rattle.t1_font.specs.Subrs.{subr, subrs_end}
 use Rattle.t1_font.specs.Glyphs.{Glyph, glyph, glyphs_end}
-use Rattle.t1_font.specs.Encoding.{encoding_start, code_entry, encoding_end}
+use Rattle.t1_font.specs.Words.{next_name}
+use Rattle.t1_font.specs.Encoding.{Opening, Whole, OpensPuts, OpensNames, encoding_start, code_entry, encoding_end, code_count, array_end}
 use Rattle.t1_font.specs.Markers.{encoding_marker, subrs_marker, chars_marker, len_iv_marker, len_iv, closefile}
 use Rattle.t1_font.specs.Pieces.{FlatPieces, ClearPieces, SubrsPieces, PrivatePieces, flat_pieces, encoding_from, clear_pieces, iv_at, iv_of, has_subrs, tail_after, glyphs_from, before_place, tables_from, private_pieces}
-use Rattle.t1_font.specs.FontValue.{FontValue, name_cmp, notdef, file_limit, IsWithin}
+use Rattle.t1_font.specs.FontValue.{FontValue, name_cmp, notdef, IsWithin}
+use Rattle.t1_bytes.specs.Limits.{file_limit}
 use Rattle.t1_font.specs.Entries.{last_entries}
 use Rattle.t1_font.specs.ReadFont.{bad_segment, subr_entries, glyph_entries, shell_of, font_of, has_notdef, is_within, flat_text, font_from, font_texts, font_file, read_font}
-use Rattle.t1_font.specs.Spelling.{TableAt, IsCut, SpellsEncoding, IsClear, IsLenIV, said, unsaid, nowhere, later, Start, SpellsTables, HasGlyphs, IsPrivate, Texts, HasPieces, Spells}
+use Rattle.t1_font.specs.Spelling.{IsCut, SpellsEncoding, IsClear, IsLenIV, said, unsaid, nowhere, later, Start, SpellsTables, HasGlyphs, IsPrivate, Texts, HasPieces, Spells}
 use Rattle.t1_font.specs.Reasons.{CutFails, ClearFails, BadIV, IsHybrid, PrivateFails, FontFails, HasFlat, Reason}
-use Rattle.t1_font.proofs.EntryLemmas.{subr_exact, subrs_end_exact, subr_eats, code_entry_eats, glyph_eats, glyph_exact, glyphs_end_exact}
-use Rattle.t1_font.proofs.MarkerLemmas.{encoding_marker_exact, encoding_start_exact, code_entry_exact, encoding_end_exact, subrs_marker_exact, chars_marker_exact, len_iv_marker_exact, len_iv_exact, closefile_exact}
+use Rattle.t1_font.proofs.EntryLemmas.{subr_exact, subrs_end_exact, subr_eats, code_entry_eats, next_name_exact, glyph_eats, glyph_exact, glyphs_end_exact}
+use Rattle.t1_font.proofs.MarkerLemmas.{encoding_marker_exact, encoding_start_exact, code_entry_exact, encoding_end_exact, array_end_exact, subrs_marker_exact, chars_marker_exact, len_iv_marker_exact, len_iv_exact, closefile_exact}
 use Rattle.t1_font.proofs.HasSubrs.{subrs_lack, subrs_stand}
-use Rattle.t1_font.proofs.ReadingLaws.{Reads, value_is, fault_is, give_reads, reads_as, reads_then, must_then, wanted_then, first_then, table_then}
+use Rattle.t1_font.proofs.ReadingLaws.{Reads, value_is, fault_is, give_reads, reads_as, reads_then, must_then, wanted_then, first_then, table_then, counted_then}
 use Rattle.t1_font.proofs.ValueLaws.{notdef_is, within_of, within_again, private_enciphers, lead_length}
 
 -- ---- the flat text
@@ -45,12 +47,14 @@ cut_four flat clear cipher s = leb-true 4 (length cipher) s.secret.2.1
 
 -- ---- the clear text
 
-encoding_reads : (clear head after : List ℕ) (start : Option (List ℕ)) (rest : List ℕ) → AtFront (first encoding_marker) clear ((head, tt), after) → AtFront encoding_start after (start, rest)
+encoding_reads : (clear head after : List ℕ) (start : Opening) (rest : List ℕ) → AtFront (first encoding_marker) clear ((head, tt), after) → AtFront encoding_start after (start, rest)
     → Reads (encoding_from clear start rest) (λ e. SpellsEncoding e.0 after e.1) (ClearFails clear)
 unfolding encoding_from
-encoding_reads clear head after (Some w) rest m a = give_reads _ a
-encoding_reads clear head after None rest m a =
-    table_then BadEncoding (length clear) code_entry encoding_end code_entry_exact encoding_end_exact code_entry_eats rest _ (λ puts t. give_reads _ (rest, puts.1, a, t)) (λ left b. inr (head, after, rest, left, m, a, b, refl))
+encoding_reads clear head after (Whole w) rest m a = give_reads _ a
+encoding_reads clear head after OpensPuts rest m a =
+    table_then BadEncoding (length clear) code_entry encoding_end code_entry_exact encoding_end_exact code_entry_eats rest _ (λ puts t. give_reads _ (inl (rest, puts.1, a, t))) (λ left b. inr (inl (head, after, rest, left, m, a, b, refl)))
+encoding_reads clear head after OpensNames rest m a =
+    counted_then BadEncoding (length clear) next_name array_end next_name_exact array_end_exact code_count rest _ (λ names t. give_reads _ (inr (names.0, rest, names.1, refl, a, t))) (λ left b. inr (inr (head, after, rest, left, m, a, b, refl)))
 
 clear_reads : (clear : List ℕ) → Reads (clear_pieces clear) (IsClear clear) (ClearFails clear)
 unfolding clear_pieces

@@ -1,13 +1,13 @@
 -- Readings, step by step: what holds of the value that is read, and what of the fault.
 use Rattle.std.proofs.Common.{◌≡◌, ℕ, ◌-◌, Bool, true, false, List, Option, Some, None, Result, Ok, Err, MatchResult, refl, subst}
-use Rattle.t1_bytes.specs.Grammar.{Grammar, Table, table_at, BreaksOff, first, AtFront, NotAtFront, Lacks}
+use Rattle.t1_bytes.specs.Grammar.{Grammar, Table, table_at, counted_at, CountedAt, BreaksOff, CountBreaksOff, first, AtFront, NotAtFront, Lacks, TableAt}
 use Rattle.t1_bytes.proofs.Grammars.{IsExact, first_exact, unspelled}
 use Rattle.t1_bytes.proofs.Places.{unread_lacks}
 use Rattle.t1_bytes.proofs.Tables.{Eats, Read, table_reads}
+use Rattle.t1_bytes.proofs.Counted.{CountedRead, counted_reads}
 use Rattle.t1_font.specs.declared.fault.ReadFault.{ReadFault}
 use Rattle.t1_font.specs.Faults.{left_after_white}
-use Rattle.t1_font.specs.Reading.{Reading, or_fault, give, ◌>>=◌, must, wanted, in_table, table}
-use Rattle.t1_font.specs.Spelling.{TableAt}
+use Rattle.t1_font.specs.Reading.{Reading, or_fault, give, ◌>>=◌, must, wanted, in_table, table, counted}
 
 -- the value that is read is so, and the fault is
 pub record Reads {A : Type 0} (r : Reading A) (Is : A → Type 0) (Fails : ReadFault → Type 0) : Type 0 where
@@ -56,5 +56,13 @@ module _ {B : Type 0} {Is : B → Type 0} {Fails : ReadFault → Type 0} where
   table_then {A} {C} bad len entry close E X eats bytes f on_value on_fault = by_table (table_at entry close bytes) (table_reads entry close E X eats bytes)
     where
       by_table : (t : Table A C) → Read entry close bytes t → Reads (in_table bad len t >>= f) Is Fails
+      by_table (Ok x) r = on_value x r
+      by_table (Err left) r = record { right = on_fault left r }
+
+  pub counted_then : {A C : Type 0} (bad : ℕ → ReadFault) (len : ℕ) (entry : Grammar A) (close : Grammar C) → IsExact entry → IsExact close → (n : ℕ) (bytes : List ℕ) (f : List A × C × List ℕ → Reading B)
+      → ((x : List A × C × List ℕ) → CountedAt entry close n x.0 x.1 bytes x.2 → Reads (f x) Is Fails) → ((left : List ℕ) → CountBreaksOff entry close n bytes left → Fails (bad (len - left_after_white left))) → Reads (counted bad len entry close n bytes >>= f) Is Fails
+  counted_then {A} {C} bad len entry close E X n bytes f on_value on_fault = by_table (counted_at entry close n bytes) (counted_reads entry close E X n bytes)
+    where
+      by_table : (t : Table A C) → CountedRead entry close n bytes t → Reads (in_table bad len t >>= f) Is Fails
       by_table (Ok x) r = on_value x r
       by_table (Err left) r = record { right = on_fault left r }

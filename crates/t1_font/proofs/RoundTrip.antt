@@ -17,7 +17,8 @@ use Rattle.t1_bytes.proofs.Grammars.{front_again}
 use Rattle.t1_bytes.proofs.HexLines.{lines_read, binary_read}
 use Rattle.t1_bytes.proofs.PfbLemmas.{pfb_flat}
 use Rattle.t1_font.specs.declared.fault.ReadFault.{ReadFault}
-use Rattle.t1_font.specs.FontValue.{FontValue, SubrsShell, Numbered, notdef, file_limit, count_limit, declared_count, IsWithin}
+use Rattle.t1_font.specs.FontValue.{FontValue, SubrsShell, Numbered, notdef, count_limit, declared_count, IsWithin}
+use Rattle.t1_bytes.specs.Limits.{file_limit}
 use Rattle.t1_font.specs.Pieces.{EncodingText, OneWord, Puts, ClearPieces, PrivatePieces, flat_pieces, private_pieces}
 use Rattle.t1_font.specs.ReadFont.{font_of, has_notdef, flat_text, bad_segment, font_from, font_file, read_font}
 use Rattle.t1_font.specs.Writing.{encoding_text}

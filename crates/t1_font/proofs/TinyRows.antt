@@ -7,12 +7,12 @@ use Rattle.std.specs.FinMap.{find}
 use Rattle.t1_bytes.specs.Grammar.{table_within, first_at}
 use Rattle.t1_bytes.specs.White.{gap}
 use Rattle.t1_font.specs.declared.fault.ReadFault.TheVariants.{BadEncoding, BadLenIV, BadSubrs, BadGlyphs, Hybrid, NoNotdef, Limit}
-use Rattle.t1_font.specs.Words.{one_white, word, keyword, decimal, name, phrase_of}
+use Rattle.t1_font.specs.Words.{one_white, word, keyword, decimal, name, phrase_of, next_name}
 use Rattle.t1_font.specs.Entry.{length_from, body, entry}
 use Rattle.t1_font.specs.Subrs.{subr_key, subrs_end}
 use Rattle.t1_font.specs.Markers.{encoding_marker, subrs_marker, chars_marker, len_iv_marker, len_iv, closefile}
 use Rattle.t1_font.specs.Encoding.{encoding_word, encoding_table, encoding_loop, encoding_start, octal, code, code_entry, encoding_end}
-use Rattle.t1_font.specs.Glyphs.{glyph_key, glyphs_end}
+use Rattle.t1_font.specs.Glyphs.{glyphs_end}
 use Rattle.t1_font.specs.Pieces.{Puts, SubrsPieces, encoding_from, clear_pieces, iv_at, iv_of, tail_after, glyphs_from, tables_from, private_pieces}
 use Rattle.t1_bytes.specs.Cipher.{sealed}
 use Rattle.t1_font.specs.FontValue.{Shell, name_cmp, notdef, weight_of}
@@ -42,55 +42,55 @@ abbrev declaring : ℕ → Shell
 declaring n = record shell { subrs = Some (record { declared = n; rd = codes "RD"; put = codes "NP"; closing = codes "ND" }) }
 
 private_reads : private_pieces private_text ≡ Ok (inside_of shell subrs glyphs)
-unfolding first_at table_within gap one_white word keyword decimal name phrase_of length_from body entry subr_key subrs_end subrs_marker chars_marker len_iv_marker len_iv closefile glyph_key glyphs_end iv_at iv_of tail_after glyphs_from tables_from private_pieces
+unfolding first_at table_within gap one_white word keyword decimal name phrase_of length_from body entry subr_key subrs_end subrs_marker chars_marker len_iv_marker len_iv closefile next_name glyphs_end iv_at iv_of tail_after glyphs_from tables_from private_pieces
 private_reads = refl
 
 subr_too_short : private_pieces (private_with private_lines (codes "/Subrs 10 array") (codes "dup 0 3 RD abc NP" ∷ more_subrs) [] (codes "11") (first_glyph ∷ more_glyphs)) ≡ Err (BadSubrs 269)
-unfolding first_at table_within gap one_white word keyword decimal name phrase_of length_from body entry subr_key subrs_end subrs_marker chars_marker len_iv_marker len_iv closefile glyph_key glyphs_end iv_at iv_of tail_after glyphs_from tables_from private_pieces
+unfolding first_at table_within gap one_white word keyword decimal name phrase_of length_from body entry subr_key subrs_end subrs_marker chars_marker len_iv_marker len_iv closefile next_name glyphs_end iv_at iv_of tail_after glyphs_from tables_from private_pieces
 subr_too_short = refl
 
 glyph_too_short : private_pieces (private_with private_lines (codes "/Subrs 10 array") (first_subr ∷ more_subrs) [] (codes "11") (codes "/.notdef 3 RD abc ND" ∷ more_glyphs)) ≡ Err (BadGlyphs 546)
-unfolding first_at table_within gap one_white word keyword decimal name phrase_of length_from body entry subr_key subrs_end subrs_marker chars_marker len_iv_marker len_iv closefile glyph_key glyphs_end iv_at iv_of tail_after glyphs_from tables_from private_pieces
+unfolding first_at table_within gap one_white word keyword decimal name phrase_of length_from body entry subr_key subrs_end subrs_marker chars_marker len_iv_marker len_iv closefile next_name glyphs_end iv_at iv_of tail_after glyphs_from tables_from private_pieces
 glyph_too_short = refl
 
 -- the entry of Subr 9
 nine_subrs : private_pieces (private_with private_lines (codes "/Subrs 9 array") (first_subr ∷ more_subrs) [] (codes "11") (first_glyph ∷ more_glyphs)) ≡ Err (BadSubrs 481)
-unfolding first_at table_within gap one_white word keyword decimal name phrase_of length_from body entry subr_key subrs_end subrs_marker chars_marker len_iv_marker len_iv closefile glyph_key glyphs_end iv_at iv_of tail_after glyphs_from tables_from private_pieces
+unfolding first_at table_within gap one_white word keyword decimal name phrase_of length_from body entry subr_key subrs_end subrs_marker chars_marker len_iv_marker len_iv closefile next_name glyphs_end iv_at iv_of tail_after glyphs_from tables_from private_pieces
 nine_subrs = refl
 
 many_subrs : private_pieces (private_with private_lines (codes "/Subrs 65535 array") (first_subr ∷ more_subrs) [] (codes "11") (first_glyph ∷ more_glyphs)) ≡ Ok (inside_of (declaring 65535) subrs glyphs)
-unfolding first_at table_within gap one_white word keyword decimal name phrase_of length_from body entry subr_key subrs_end subrs_marker chars_marker len_iv_marker len_iv closefile glyph_key glyphs_end iv_at iv_of tail_after glyphs_from tables_from private_pieces
+unfolding first_at table_within gap one_white word keyword decimal name phrase_of length_from body entry subr_key subrs_end subrs_marker chars_marker len_iv_marker len_iv closefile next_name glyphs_end iv_at iv_of tail_after glyphs_from tables_from private_pieces
 many_subrs = refl
 
 -- read, and over a limit below
 too_many_subrs : private_pieces (private_with private_lines (codes "/Subrs 65536 array") (first_subr ∷ more_subrs) [] (codes "11") (first_glyph ∷ more_glyphs)) ≡ Ok (inside_of (declaring 65536) subrs glyphs)
-unfolding first_at table_within gap one_white word keyword decimal name phrase_of length_from body entry subr_key subrs_end subrs_marker chars_marker len_iv_marker len_iv closefile glyph_key glyphs_end iv_at iv_of tail_after glyphs_from tables_from private_pieces
+unfolding first_at table_within gap one_white word keyword decimal name phrase_of length_from body entry subr_key subrs_end subrs_marker chars_marker len_iv_marker len_iv closefile next_name glyphs_end iv_at iv_of tail_after glyphs_from tables_from private_pieces
 too_many_subrs = refl
 
 second_x : private_pieces (private_with private_lines (codes "/Subrs 10 array") (first_subr ∷ more_subrs) [] (codes "11") (first_glyph ∷ (more_glyphs ++ glyph_line (codes "/X 16") glyph_Y ∷ []))) ≡ Ok (inside_of shell subrs (glyphs ++ (codes "X", glyph_Y) ∷ []))
-unfolding first_at table_within gap one_white word keyword decimal name phrase_of length_from body entry subr_key subrs_end subrs_marker chars_marker len_iv_marker len_iv closefile glyph_key glyphs_end iv_at iv_of tail_after glyphs_from tables_from private_pieces
+unfolding first_at table_within gap one_white word keyword decimal name phrase_of length_from body entry subr_key subrs_end subrs_marker chars_marker len_iv_marker len_iv closefile next_name glyphs_end iv_at iv_of tail_after glyphs_from tables_from private_pieces
 second_x = refl
 
 -- the count of glyphs is not looked at
 other_count : private_pieces (private_with private_lines (codes "/Subrs 10 array") (first_subr ∷ more_subrs) [] (codes "3") (first_glyph ∷ more_glyphs)) ≡ Ok (inside_of shell subrs glyphs)
-unfolding first_at table_within gap one_white word keyword decimal name phrase_of length_from body entry subr_key subrs_end subrs_marker chars_marker len_iv_marker len_iv closefile glyph_key glyphs_end iv_at iv_of tail_after glyphs_from tables_from private_pieces
+unfolding first_at table_within gap one_white word keyword decimal name phrase_of length_from body entry subr_key subrs_end subrs_marker chars_marker len_iv_marker len_iv closefile next_name glyphs_end iv_at iv_of tail_after glyphs_from tables_from private_pieces
 other_count = refl
 
 hybrid : private_pieces (private_with private_lines (codes "/Subrs 10 array") (first_subr ∷ more_subrs) (codes "/Subrs 0 array ND ") (codes "11") (first_glyph ∷ more_glyphs)) ≡ Err Hybrid
-unfolding first_at table_within gap one_white word keyword decimal name phrase_of length_from body entry subr_key subrs_end subrs_marker chars_marker len_iv_marker len_iv closefile glyph_key glyphs_end iv_at iv_of tail_after glyphs_from tables_from private_pieces
+unfolding first_at table_within gap one_white word keyword decimal name phrase_of length_from body entry subr_key subrs_end subrs_marker chars_marker len_iv_marker len_iv closefile next_name glyphs_end iv_at iv_of tail_after glyphs_from tables_from private_pieces
 hybrid = refl
 
 negative_len_iv : private_pieces (private_with (private_lines ++ codes "/lenIV -1 def" ∷ []) (codes "/Subrs 10 array") (first_subr ∷ more_subrs) [] (codes "11") (first_glyph ∷ more_glyphs)) ≡ Err BadLenIV
-unfolding first_at table_within gap one_white word keyword decimal name phrase_of length_from body entry subr_key subrs_end subrs_marker chars_marker len_iv_marker len_iv closefile glyph_key glyphs_end iv_at iv_of tail_after glyphs_from tables_from private_pieces
+unfolding first_at table_within gap one_white word keyword decimal name phrase_of length_from body entry subr_key subrs_end subrs_marker chars_marker len_iv_marker len_iv closefile next_name glyphs_end iv_at iv_of tail_after glyphs_from tables_from private_pieces
 negative_len_iv = refl
 
 four_lead_bytes : private_pieces (private_with (private_lines ++ codes "/lenIV 4 def" ∷ []) (codes "/Subrs 10 array") (first_subr ∷ more_subrs) [] (codes "11") (first_glyph ∷ more_glyphs)) ≡ Ok (inside_of (record shell { private = lines (private_lines ++ codes "/lenIV 4 def" ∷ []) }) subrs glyphs)
-unfolding first_at table_within gap one_white word keyword decimal name phrase_of length_from body entry subr_key subrs_end subrs_marker chars_marker len_iv_marker len_iv closefile glyph_key glyphs_end iv_at iv_of tail_after glyphs_from tables_from private_pieces
+unfolding first_at table_within gap one_white word keyword decimal name phrase_of length_from body entry subr_key subrs_end subrs_marker chars_marker len_iv_marker len_iv closefile next_name glyphs_end iv_at iv_of tail_after glyphs_from tables_from private_pieces
 four_lead_bytes = refl
 
 -- read, and without `.notdef` below
 no_notdef_read : private_pieces (private_with private_lines (codes "/Subrs 10 array") (first_subr ∷ more_subrs) [] (codes "11") more_glyphs) ≡ Ok (inside_of shell subrs (drop 1 glyphs))
-unfolding first_at table_within gap one_white word keyword decimal name phrase_of length_from body entry subr_key subrs_end subrs_marker chars_marker len_iv_marker len_iv closefile glyph_key glyphs_end iv_at iv_of tail_after glyphs_from tables_from private_pieces
+unfolding first_at table_within gap one_white word keyword decimal name phrase_of length_from body entry subr_key subrs_end subrs_marker chars_marker len_iv_marker len_iv closefile next_name glyphs_end iv_at iv_of tail_after glyphs_from tables_from private_pieces
 no_notdef_read = refl
 
 -- ---- the font
@@ -123,11 +123,11 @@ second_x_weight = refl
 weighs : (h : List ℕ) → weight_of (record shell { head = h }) subrs glyphs ≡ length h + 4801
 weighs h = omega arith
 
-heaviest : (h : List ℕ) → length h ≡ 16772415 → is_within (record shell { head = h }) subrs glyphs ≡ true
-heaviest h e = le-leb (weight_of (record shell { head = h }) subrs glyphs) 16777216 (omega (arith, weighs h, e))
+heaviest : (h : List ℕ) → length h ≡ 67104063 → is_within (record shell { head = h }) subrs glyphs ≡ true
+heaviest h e = le-leb (weight_of (record shell { head = h }) subrs glyphs) 67108864 (omega (arith, weighs h, e))
 
-one_byte_more : (h : List ℕ) → length h ≡ 16772416 → is_within (record shell { head = h }) subrs glyphs ≡ false
-one_byte_more h e = lt-leb (weight_of (record shell { head = h }) subrs glyphs) 16777216 (omega (arith, weighs h, e))
+one_byte_more : (h : List ℕ) → length h ≡ 67104064 → is_within (record shell { head = h }) subrs glyphs ≡ false
+one_byte_more h e = lt-leb (weight_of (record shell { head = h }) subrs glyphs) 67108864 (omega (arith, weighs h, e))
 
 -- of two names of a code the last stands, and `.notdef` takes a code away
 last_put : last_names nat_cmp ((66, codes "Y") ∷ (65, codes "X") ∷ (66, codes "Z") ∷ (65, codes ".notdef") ∷ []) ≡ (66, codes "Z") ∷ []
@@ -149,7 +149,7 @@ words_subrs = record {
 }
 
 words_read : private_pieces words_text ≡ Ok (record { private = []; len_iv = 4; subrs = Some words_subrs; middle = 10 ∷ []; glyphs = (record { key = notdef; body = record { rd = codes "-|"; bytes = sealed 4330 4 glyph_notdef; phrase = codes "readonly def" } }) ∷ []; tail = 10 ∷ codes "closefile" })
-unfolding first_at table_within gap one_white word keyword decimal name phrase_of length_from body entry subr_key subrs_end subrs_marker chars_marker len_iv_marker len_iv closefile glyph_key glyphs_end iv_at iv_of tail_after glyphs_from tables_from private_pieces
+unfolding first_at table_within gap one_white word keyword decimal name phrase_of length_from body entry subr_key subrs_end subrs_marker chars_marker len_iv_marker len_iv closefile next_name glyphs_end iv_at iv_of tail_after glyphs_from tables_from private_pieces
 words_read = refl
 
 -- the words of the first entry are kept

@@ -1,5 +1,6 @@
 -- Sums that are cut off at 64 bits.
 use Rattle.std.proofs.Common.{◌≡◌, ℕ, ◌+◌, ◌≤◌, min, arith}
+use Rattle.t1_font.specs.FontValue.{weight_limit}
 use Rattle.t1_font.specs.FontModel.{clamp}
 
 -- a sum that is cut off on the way is cut off at the end
@@ -13,5 +14,5 @@ pub clamp_fits : (n m : ℕ) → m ≡ min n 18446744073709551615 → m ≤ 1844
 clamp_fits n m e = omega (arith, e)
 
 -- a sum that is within the limit is not cut off
-pub clamp_light : (w n : ℕ) → w ≡ clamp n → w ≤ 16777216 → n ≤ 16777216
+pub clamp_light : (w n : ℕ) → w ≡ clamp n → w ≤ weight_limit → n ≤ weight_limit
 clamp_light w n e h = omega (arith, e, h)

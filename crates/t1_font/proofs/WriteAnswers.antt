@@ -3,6 +3,7 @@ use Rattle.std.proofs.Common.{ℕ, ◌≤◌, List, ◌++◌, [], ◌∷◌, len
 use Rattle.std.proofs.lemmas.List.{length-append}
 use Rattle.std.specs.Int.{bytes_low_first}
 use Rattle.t1_bytes.specs.declared.form.Form.TheVariants.{Pfb}
+use Rattle.t1_bytes.specs.Limits.{file_limit}
 use Rattle.t1_bytes.specs.Cipher.{private_cipher}
 use Rattle.t1_bytes.specs.Texts.{segment_text, trailer, pfb_text}
 use Rattle.t1_font.specs.FontValue.{FontValue}
@@ -23,12 +24,12 @@ parts_fit clear cipher tail =
     let more = length-append (segment_text 2 cipher) rest in
     (omega (arith, whole, segment_long 1 clear), omega (arith, whole, more, segment_long 2 cipher))
 
-pub clear_fits : (f : FontValue) → IsFont f → length (canon_clear f) ≤ 67108864
+pub clear_fits : (f : FontValue) → IsFont f → length (canon_clear f) ≤ file_limit
 clear_fits f is =
     let fits = parts_fit (canon_clear f) (private_cipher (canon_private f)) trailer in
     omega (arith, fits.0, canon_short f Pfb is)
 
-pub cipher_fits : (f : FontValue) → IsFont f → length (private_cipher (canon_private f)) ≤ 67108864
+pub cipher_fits : (f : FontValue) → IsFont f → length (private_cipher (canon_private f)) ≤ file_limit
 cipher_fits f is =
     let fits = parts_fit (canon_clear f) (private_cipher (canon_private f)) trailer in
     omega (arith, fits.1, canon_short f Pfb is)

@@ -1,5 +1,5 @@
 -- The Encoding of the clear text.
-use Rattle.std.specs.Prelude.{ℕ, ◌+◌, ◌-◌, ◌*◌, ◌&&◌, nat_le, Bool, true, List, [], ◌∷◌, length, codes, Option, Some, None}
+use Rattle.std.specs.Prelude.{ℕ, suc, ◌+◌, ◌-◌, ◌*◌, ◌&&◌, nat_le, Bool, true, List, [], ◌∷◌, length, codes}
 use Rattle.t1_bytes.specs.Grammar.{Grammar, pure, ◌>>=◌, ◌>>◌, that, run, fixed, either}
 use Rattle.t1_bytes.specs.White.{white, gap}
 use Rattle.t1_font.specs.Words.{is_regular, word, keyword, decimal, name}
@@ -104,11 +104,43 @@ encoding_end = do
   readonly
   keyword (codes "def")
 
--- how the Encoding begins: its word, or none before the entries of a table
-unfoldable pub encoding_start : Grammar (Option (List ℕ))
+-- ---- a literal array
+
+-- an array has a name for each code
+abbrev pub code_count : ℕ
+code_count = 256
+
+unfoldable pub array_start : Grammar (List ℕ)
+array_start = do
+  white
+  fixed (codes "[")
+
+unfoldable pub array_end : Grammar (List ℕ)
+array_end = do
+  white
+  fixed (codes "]")
+  encoding_end
+
+-- each name at the code of its place, from this code on
+abbrev pub from_code : ℕ → List (List ℕ) → List (ℕ × List ℕ)
+from_code c [] = []
+from_code c (n ∷ names) = (c, n) ∷ from_code (suc c) names
+
+-- ---- the three forms
+
+-- the word that is the whole Encoding; or what opens the puts of a table, or the names of a literal array
+pub data Opening : Type 0 where
+  Whole : List ℕ → Opening
+  OpensPuts : Opening
+  OpensNames : Opening
+
+-- how the Encoding begins
+unfoldable pub encoding_start : Grammar Opening
 encoding_start = either (do
   w ← encoding_word
-  pure (Some w)) (do
+  pure (Whole w)) (either (do
     encoding_table
     may_be encoding_loop
-    pure None)
+    pure OpensPuts) (do
+      array_start
+      pure OpensNames))

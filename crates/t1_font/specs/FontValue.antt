@@ -55,16 +55,13 @@ notdef = codes ".notdef"
 
 -- ---- limits
 
--- bytes of a file
-abbrev pub file_limit : ℕ
-file_limit = 67108864
-
 -- Subrs declared, glyphs
 abbrev pub count_limit : ℕ
 count_limit = 65535
 
+-- 2^26
 abbrev pub weight_limit : ℕ
-weight_limit = 16777216
+weight_limit = 67108864
 
 -- f of each entry, added up
 abbrev pub total : {K X : Type 0} → (K → X → ℕ) → List (K × X) → ℕ

@@ -2,22 +2,16 @@
 use Rattle.std.specs.Prelude.{ℕ, List, codes}
 use Rattle.t1_bytes.specs.Grammar.{Grammar, ◌>>◌}
 use Rattle.t1_bytes.specs.White.{white}
-use Rattle.t1_font.specs.Words.{keyword, name}
+use Rattle.t1_font.specs.Words.{keyword, next_name}
 use Rattle.t1_font.specs.Entry.{Entry, entry}
 
 -- a glyph by its name
 abbrev pub Glyph : Type 0
 Glyph = Entry (List ℕ)
 
--- a name, and what stands before it
-unfoldable pub glyph_key : Grammar (List ℕ)
-glyph_key = do
-  white
-  name
-
 -- an entry of a table with this lenIV
 abbrev pub glyph : ℕ → Grammar Glyph
-glyph iv = entry glyph_key iv
+glyph iv = entry next_name iv
 
 unfoldable pub glyphs_end : Grammar (List ℕ)
 glyphs_end = do

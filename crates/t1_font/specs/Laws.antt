@@ -9,10 +9,10 @@ use Rattle.t1_font.specs.Entries.{map_of, names_of, last_value, unless_notdef}
 use Rattle.t1_font.specs.ReadFont.{read_font}
 use Rattle.t1_font.specs.Spelling.{Spells}
 use Rattle.t1_font.specs.Reasons.{Reason}
-use Rattle.t1_font.specs.Words.{one_white, word, keyword, decimal, name, phrase_of}
+use Rattle.t1_font.specs.Words.{one_white, word, keyword, decimal, name, phrase_of, next_name}
 use Rattle.t1_font.specs.Markers.{encoding_marker, subrs_marker, chars_marker, len_iv_marker, len_iv, closefile}
-use Rattle.t1_font.specs.Encoding.{encoding_word, encoding_table, encoding_loop, encoding_start, octal, code, code_entry, encoding_end}
-use Rattle.t1_font.specs.Glyphs.{glyph_key, glyph, glyphs_end}
+use Rattle.t1_font.specs.Encoding.{encoding_word, encoding_table, encoding_loop, encoding_start, octal, code, code_entry, encoding_end, array_start, array_end}
+use Rattle.t1_font.specs.Glyphs.{glyph, glyphs_end}
 use Rattle.t1_font.specs.Entry.{length_from, body}
 use Rattle.t1_font.specs.Subrs.{subr_key, subr, subrs_end}
 
@@ -34,6 +34,8 @@ pub record ReadsAsSpelled : Type 0 where
   pub code_numbers : IsExact code
   pub codes : IsExact code_entry
   pub encoding_ends : IsExact encoding_end
+  pub array_starts : IsExact array_start
+  pub array_ends : IsExact array_end
   pub len_iv_markers : IsExact len_iv_marker
   pub lenIVs : IsExact (first len_iv_marker)
   pub lead_counts : IsExact len_iv
@@ -46,7 +48,7 @@ pub record ReadsAsSpelled : Type 0 where
   pub subrs_ends : IsExact subrs_end
   pub chars_markers : IsExact chars_marker
   pub charstrings : IsExact (first chars_marker)
-  pub glyph_keys : IsExact glyph_key
+  pub next_names : IsExact next_name
   pub glyphs : (iv : ℕ) → IsExact (glyph iv)
   pub glyphs_ends : IsExact glyphs_end
   pub close_markers : IsExact closefile

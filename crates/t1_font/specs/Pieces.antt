@@ -5,9 +5,10 @@ use Rattle.t1_bytes.specs.Eexec.{eexec_marker, cipher_text}
 use Rattle.t1_font.specs.declared.fault.ReadFault.TheVariants.{NoEexec, ShortCipher, NoEncoding, BadEncoding, NoCharStrings, BadLenIV, BadSubrs, BadGlyphs, Hybrid, NoClosefile}
 use Rattle.t1_font.specs.Subrs.{Subr, subr, subrs_end}
 use Rattle.t1_font.specs.Markers.{encoding_marker, subrs_marker, chars_marker, len_iv_marker, len_iv, closefile}
-use Rattle.t1_font.specs.Encoding.{encoding_start, code_entry, encoding_end}
+use Rattle.t1_font.specs.Words.{next_name}
+use Rattle.t1_font.specs.Encoding.{Opening, Whole, OpensPuts, OpensNames, encoding_start, code_entry, encoding_end, code_count, array_end, from_code}
 use Rattle.t1_font.specs.Glyphs.{Glyph, glyph, glyphs_end}
-use Rattle.t1_font.specs.Reading.{Reading, give, ◌>>=◌, ◌>>◌, must, wanted, optional, table}
+use Rattle.t1_font.specs.Reading.{Reading, give, ◌>>=◌, ◌>>◌, must, wanted, optional, table, counted}
 
 -- ---- the flat text
 
@@ -33,11 +34,15 @@ pub record ClearPieces : Type 0 where
   pub encoding : EncodingText
   pub clear_tail : List ℕ
 
-unfoldable pub encoding_from : List ℕ → Option (List ℕ) → List ℕ → Reading (EncodingText × List ℕ)
-encoding_from clear (Some w) rest = give (OneWord w, rest)
-encoding_from clear None rest = do
+-- what is opened, in the last part of the clear text; the names of an array are put at the codes of their places
+unfoldable pub encoding_from : List ℕ → Opening → List ℕ → Reading (EncodingText × List ℕ)
+encoding_from clear (Whole w) rest = give (OneWord w, rest)
+encoding_from clear OpensPuts rest = do
   puts ← table BadEncoding (length clear) code_entry encoding_end rest
   give (Puts puts.0, puts.2)
+encoding_from clear OpensNames rest = do
+  names ← counted BadEncoding (length clear) next_name array_end code_count rest
+  give (Puts (from_code 0 names.0), names.2)
 
 unfoldable pub clear_pieces : List ℕ → Reading ClearPieces
 clear_pieces clear = do

@@ -8,7 +8,8 @@ use Rattle.t1_bytes.specs.Segments.{flat_of}
 use Rattle.t1_bytes.specs.Cipher.{private_text}
 use Rattle.t1_font.specs.declared.fault.ReadFault.{ReadFault}
 use Rattle.t1_font.specs.declared.fault.ReadFault.TheVariants.{TooLong, BadSegment, NoNotdef, Limit}
-use Rattle.t1_font.specs.FontValue.{SubrsShell, Shell, Encoding, Word, Codes, FontValue, name_cmp, notdef, file_limit, count_limit, weight_limit, weight_of, declared_count}
+use Rattle.t1_font.specs.FontValue.{SubrsShell, Shell, Encoding, Word, Codes, FontValue, name_cmp, notdef, count_limit, weight_limit, weight_of, declared_count}
+use Rattle.t1_bytes.specs.Limits.{file_limit}
 use Rattle.t1_font.specs.Entries.{last_entries, map_of, names_of}
 use Rattle.t1_font.specs.Entry.{plain_entries}
 use Rattle.t1_font.specs.Subrs.{Subr}

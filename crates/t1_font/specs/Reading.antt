@@ -1,6 +1,6 @@
 -- What is read of a font's texts: a value, or the first fault. The order of the lines of a reading is the order of the faults.
 use Rattle.std.specs.Prelude.{ℕ, ◌-◌, Bool, List, Option, Some, None, Result, Ok, Err, if◌then◌else◌}
-use Rattle.t1_bytes.specs.Grammar.{Grammar, Table, table_at}
+use Rattle.t1_bytes.specs.Grammar.{Grammar, Table, table_at, counted_at}
 use Rattle.t1_font.specs.declared.fault.ReadFault.{ReadFault}
 use Rattle.t1_font.specs.Faults.{left_after_white}
 
@@ -49,3 +49,7 @@ in_table bad len (Err left) = Err (bad (len - left_after_white left))
 -- entries up to what closes them, in the last part of a text of len bytes
 abbrev pub table : {A B : Type 0} → (ℕ → ReadFault) → ℕ → Grammar A → Grammar B → List ℕ → Reading (List A × B × List ℕ)
 table bad len entry close bytes = in_table bad len (table_at entry close bytes)
+
+-- so many entries and what closes them, in the last part of a text of len bytes
+abbrev pub counted : {A B : Type 0} → (ℕ → ReadFault) → ℕ → Grammar A → Grammar B → ℕ → List ℕ → Reading (List A × B × List ℕ)
+counted bad len entry close n bytes = in_table bad len (counted_at entry close n bytes)

@@ -1,7 +1,7 @@
 -- Why a file spells no font: the first row whose condition holds. Each row names the pieces that were spelled before it.
 use Rattle.std.specs.Prelude.{◌≡◌, ◌⊎◌, ℕ, ◌-◌, ◌≤◌, ◌<◌, true, false, List, ◌++◌, length, Option, Some, None}
 use Rattle.std.specs.FinMap as maps
-use Rattle.t1_bytes.specs.Grammar.{first, BreaksOff, AtFront, NotAtFront, Has, Lacks}
+use Rattle.t1_bytes.specs.Grammar.{first, BreaksOff, CountBreaksOff, AtFront, NotAtFront, Has, Lacks, TableAt}
 use Rattle.t1_bytes.specs.Segments.{IsFlat, IsBad}
 use Rattle.t1_bytes.specs.Eexec.{eexec_marker, cipher_text}
 use Rattle.t1_font.specs.declared.fault.ReadFault.{ReadFault}
@@ -9,12 +9,14 @@ use Rattle.t1_font.specs.declared.fault.ReadFault.TheVariants.{TooLong, BadSegme
 use Rattle.t1_font.specs.Faults.{left_after_white}
 use Rattle.t1_font.specs.Subrs.{Subr, subr, subrs_end}
 use Rattle.t1_font.specs.Markers.{encoding_marker, subrs_marker, chars_marker, len_iv_marker, len_iv, closefile}
-use Rattle.t1_font.specs.Encoding.{encoding_start, code_entry, encoding_end}
+use Rattle.t1_font.specs.Words.{next_name}
+use Rattle.t1_font.specs.Encoding.{OpensPuts, OpensNames, encoding_start, code_entry, encoding_end, code_count, array_end}
 use Rattle.t1_font.specs.Glyphs.{glyph, glyphs_end}
 use Rattle.t1_font.specs.Pieces.{ClearPieces, PrivatePieces}
-use Rattle.t1_font.specs.FontValue.{notdef, file_limit, IsWithin}
+use Rattle.t1_font.specs.FontValue.{notdef, IsWithin}
+use Rattle.t1_bytes.specs.Limits.{file_limit}
 use Rattle.t1_font.specs.ReadFont.{font_of}
-use Rattle.t1_font.specs.Spelling.{TableAt, IsClear, IsLenIV, Start, HasTables, HasGlyphs, Texts, HasPieces}
+use Rattle.t1_font.specs.Spelling.{IsClear, IsLenIV, Start, HasTables, HasGlyphs, Texts, HasPieces}
 
 -- a flat text that can't be cut
 abbrev pub CutFails : List ℕ → ReadFault → Type 0
@@ -22,17 +24,21 @@ CutFails flat NoEexec = Lacks eexec_marker flat
 CutFails flat ShortCipher = (front own after : List ℕ) × AtFront (first eexec_marker) flat ((front, own), after) × NotAtFront cipher_text after
 CutFails flat e = ⊥
 
--- neither form of the Encoding begins after its marker
+-- none of the three forms of the Encoding begins after its marker
 abbrev pub NoFormAt : List ℕ → ℕ → Type 0
 NoFormAt clear at = (head after : List ℕ) × AtFront (first encoding_marker) clear ((head, tt), after) × NotAtFront encoding_start after × (at ≡ length head)
 
--- the entries of the Encoding break off
+-- the puts of the Encoding break off
 abbrev pub BadPutAt : List ℕ → ℕ → Type 0
-BadPutAt clear at = (head after entries left : List ℕ) × AtFront (first encoding_marker) clear ((head, tt), after) × AtFront encoding_start after (None, entries) × BreaksOff code_entry encoding_end entries left × (at ≡ length clear - left_after_white left)
+BadPutAt clear at = (head after entries left : List ℕ) × AtFront (first encoding_marker) clear ((head, tt), after) × AtFront encoding_start after (OpensPuts, entries) × BreaksOff code_entry encoding_end entries left × (at ≡ length clear - left_after_white left)
+
+-- the names of a literal array break off, or are not closed after the last
+abbrev pub BadNameAt : List ℕ → ℕ → Type 0
+BadNameAt clear at = (head after entries left : List ℕ) × AtFront (first encoding_marker) clear ((head, tt), after) × AtFront encoding_start after (OpensNames, entries) × CountBreaksOff next_name array_end code_count entries left × (at ≡ length clear - left_after_white left)
 
 abbrev pub ClearFails : List ℕ → ReadFault → Type 0
 ClearFails clear NoEncoding = Lacks encoding_marker clear
-ClearFails clear (BadEncoding at) = NoFormAt clear at ⊎ BadPutAt clear at
+ClearFails clear (BadEncoding at) = NoFormAt clear at ⊎ (BadPutAt clear at ⊎ BadNameAt clear at)
 ClearFails clear e = ⊥
 
 -- the first `/lenIV` isn't followed by a lenIV

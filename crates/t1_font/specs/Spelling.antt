@@ -1,21 +1,19 @@
 -- Which font a file spells: each piece is a text of its grammar, and each marker is the first of its kind.
-use Rattle.std.specs.Prelude.{◌≡◌, ℕ, ◌≤◌, ◌<◌, true, List, [], ◌++◌, length, Option, Some, None}
+use Rattle.std.specs.Prelude.{◌≡◌, ◌⊎◌, ℕ, ◌≤◌, ◌<◌, true, List, [], ◌++◌, length, Option, Some, None}
 use Rattle.std.specs.FinMap as maps
 use Rattle.t1_bytes.specs.Cipher.{Enciphers}
-use Rattle.t1_bytes.specs.Grammar.{Grammar, first, IsTable, AtFront, Lacks}
+use Rattle.t1_bytes.specs.Grammar.{first, TableAt, CountedAt, AtFront, Lacks}
 use Rattle.t1_bytes.specs.Segments.{IsFlat}
 use Rattle.t1_bytes.specs.Eexec.{eexec_marker, cipher_text}
 use Rattle.t1_font.specs.Subrs.{subr, subrs_end}
 use Rattle.t1_font.specs.Markers.{encoding_marker, subrs_marker, chars_marker, len_iv_marker, len_iv, closefile}
-use Rattle.t1_font.specs.Encoding.{encoding_start, code_entry, encoding_end}
+use Rattle.t1_font.specs.Words.{next_name}
+use Rattle.t1_font.specs.Encoding.{Whole, OpensPuts, OpensNames, encoding_start, code_entry, encoding_end, code_count, array_end, from_code}
 use Rattle.t1_font.specs.Glyphs.{glyph, glyphs_end}
 use Rattle.t1_font.specs.Pieces.{EncodingText, OneWord, Puts, ClearPieces, SubrsPieces, PrivatePieces}
-use Rattle.t1_font.specs.FontValue.{FontValue, notdef, file_limit, IsWithin}
+use Rattle.t1_font.specs.FontValue.{FontValue, notdef, IsWithin}
+use Rattle.t1_bytes.specs.Limits.{file_limit}
 use Rattle.t1_font.specs.ReadFont.{font_of}
-
--- entries and their close stand at the front of bytes, before rest
-abbrev pub TableAt : {A B : Type 0} → Grammar A → Grammar B → List A → B → List ℕ → List ℕ → Type 0
-TableAt entry close xs b bytes rest = (text : List ℕ) × (bytes ≡ text ++ rest) × IsTable entry close xs b text rest
 
 -- clear text through the first `currentfile eexec`, then the cipher's text and a rest
 pub record IsCut (flat clear cipher : List ℕ) : Type 0 where
@@ -27,9 +25,16 @@ pub record IsCut (flat clear cipher : List ℕ) : Type 0 where
   pub secret : AtFront cipher_text after (cipher, rest)
   pub clear_is : clear ≡ front ++ own
 
+abbrev pub SpellsPuts : List (ℕ × List ℕ) → List ℕ → List ℕ → Type 0
+SpellsPuts puts bytes rest = (entries closing : List ℕ) × AtFront encoding_start bytes (OpensPuts, entries) × TableAt code_entry encoding_end puts closing entries rest
+
+-- a literal array: the puts are its names at the codes of their places
+abbrev pub SpellsNames : List (ℕ × List ℕ) → List ℕ → List ℕ → Type 0
+SpellsNames puts bytes rest = (names : List (List ℕ)) × (entries closing : List ℕ) × (puts ≡ from_code 0 names) × AtFront encoding_start bytes (OpensNames, entries) × CountedAt next_name array_end code_count names closing entries rest
+
 abbrev pub SpellsEncoding : EncodingText → List ℕ → List ℕ → Type 0
-SpellsEncoding (OneWord w) bytes rest = AtFront encoding_start bytes (Some w, rest)
-SpellsEncoding (Puts puts) bytes rest = (entries closing : List ℕ) × AtFront encoding_start bytes (None, entries) × TableAt code_entry encoding_end puts closing entries rest
+SpellsEncoding (OneWord w) bytes rest = AtFront encoding_start bytes (Whole w, rest)
+SpellsEncoding (Puts puts) bytes rest = SpellsPuts puts bytes rest ⊎ SpellsNames puts bytes rest
 
 -- the head, the first Encoding, and what stands after it
 pub record IsClear (clear : List ℕ) (c : ClearPieces) : Type 0 where

@@ -59,6 +59,12 @@ name = do
   fixed (codes "/")
   that is_name (run is_regular)
 
+-- white space, and a name behind it
+unfoldable pub next_name : Grammar (List ℕ)
+next_name = do
+  white
+  name
+
 -- a word that takes the next one with it
 abbrev pub is_access : List ℕ → Bool
 is_access w = bytes_eq w (codes "noaccess") || bytes_eq w (codes "readonly") || bytes_eq w (codes "executeonly")

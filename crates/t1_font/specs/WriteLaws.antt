@@ -5,7 +5,8 @@ use Rattle.t1_bytes.specs.declared.form.Form.{Form}
 use Rattle.t1_bytes.specs.declared.form.Form.TheVariants.{Pfa, Pfb}
 use Rattle.t1_bytes.specs.Laws.{AreBytes}
 use Rattle.t1_bytes.specs.Segments.{starts_segment, IsFlat}
-use Rattle.t1_font.specs.FontValue.{FontValue, Encoding, Word, Codes, notdef, file_limit, count_limit, weight_limit, weight}
+use Rattle.t1_font.specs.FontValue.{FontValue, Encoding, Word, Codes, notdef, count_limit, weight_limit, weight}
+use Rattle.t1_bytes.specs.Limits.{file_limit}
 use Rattle.t1_font.specs.FontModel.{subr_at}
 use Rattle.t1_font.specs.ReadFont.{read_font}
 use Rattle.t1_font.specs.Canon.{canon}

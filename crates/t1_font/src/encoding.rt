@@ -1,23 +1,29 @@
 //! The Encoding of the clear text.
 
-ghost use Rattle.std.specs.Prelude.{◌≡◌, ◌++◌, ◌∷◌, [], ℕ, List, OnOk, Some, None, if◌then◌else◌};
+ghost use Rattle.std.specs.Prelude.{◌≡◌, ◌++◌, ◌∷◌, [], ℕ, List, OnOk, Some, None, length, if◌then◌else◌};
 ghost use Rattle.std.specs.Option.{option_map};
-ghost use Rattle.t1_bytes.specs.Grammar.{table_at};
-ghost use Rattle.t1_font.specs.Encoding.{is_octal, octal_after, octal, code, code_entry, encoding_end, encoding_word, encoding_table, loop_range, loop_body, encoding_loop, encoding_start, readonly, may_be};
+ghost use Rattle.t1_bytes.specs.Grammar.{table_at, counted_at};
+ghost use Rattle.t1_font.specs.Words.{next_name};
+ghost use Rattle.t1_font.specs.Encoding.{is_octal, octal_after, octal, code, code_entry, encoding_end, encoding_word, encoding_table, loop_range, loop_body, encoding_loop, encoding_start, readonly, may_be, array_start, array_end, code_count, from_code, OpensPuts, OpensNames};
+ghost use Rattle.t1_font.specs.Faults.{table_fault};
+ghost use Rattle.t1_font.specs.declared.fault.ReadFault.TheVariants.{BadEncoding};
 ghost use Rattle.std.specs.FinMap as fin;
 ghost use Rattle.t1_font.specs.Entries.{map_of};
 ghost use Rattle.t1_font.specs.Gathering.{CodesAlone};
 ghost use Rattle.t1_font.specs.Held.{TableHeld};
 ghost use Rattle.t1_font.specs.ReadFont.{encoding_value};
-ghost use Rattle.t1_font.specs.Views.{put_view};
+ghost use Rattle.t1_font.specs.Views.{put_view, opening_view};
 ghost use Rattle.t1_font.specs.Pieces.{encoding_from, clear_pieces};
 ghost use Rattle.t1_font.specs.Answers.{Shown, encoding_view, ShowsClear};
 
 use crate::fault::{ReadFault, TableError};
 use crate::gathered::Gathered;
 use crate::markers::{EncodingMarker, first};
-use crate::words::{decimal_at, keyword_at, name_at, regular_at, word_at};
+use crate::words::{decimal_at, keyword_at, name_at, next_name_at, regular_at, word_at};
 use t1_bytes::texts::{fixed_at, gap_at, white_at};
+
+/// An array has a name for each code.
+const CODES: u16 = 256;
 
 /// The number that 1 to 9 octal digits spell.
 fn octal_digits(digits: &[u8]) -> Option<u32>
@@ -184,16 +190,49 @@ fn after_loop(bytes: &[u8]) -> &[u8]
     bytes
 }
 
-/// How the Encoding begins: its word, or none before the entries of a table.
+/// How an array begins.
+#[tactic(auto, unfolding(crate::specs::Encoding::array_start))]
+fn array_start_at(bytes: &[u8]) -> Option<(&[u8], &[u8])>
+    ensures { option_map (λ x. (x.0.now, x.1.now)) result ≡ array_start.read bytes.now }
+{
+    let (_, rest) = white_at(bytes);
+    fixed_at(rest, b"[")
+}
+
+/// What stands after the close of an array.
+#[tactic(auto, unfolding(crate::specs::Encoding::array_end))]
+fn array_end_at(bytes: &[u8]) -> Option<&[u8]>
+    ensures { option_map (λ x. x.now) result ≡ option_map (λ x. x.1) (array_end.read bytes.now) }
+{
+    let (_, rest) = white_at(bytes);
+    let (_, rest) = fixed_at(rest, b"]")?;
+    encoding_end_at(rest)
+}
+
+/// How the Encoding begins.
+#[derive(Clone, Copy)]
+pub enum Opening<'a> {
+    /// The one word that it is.
+    Word(&'a [u8]),
+    /// What opens the puts of a table.
+    Puts,
+    /// What opens the names of a literal array.
+    Names,
+}
+
+/// How the Encoding begins, in one of three forms.
 #[tactic(auto, unfolding(crate::specs::Encoding::encoding_start))]
-fn encoding_start_at(bytes: &[u8]) -> Option<(Option<&[u8]>, &[u8])>
-    ensures { option_map (λ x. (option_map (λ w. w.now) x.0, x.1.now)) result ≡ encoding_start.read bytes.now }
+fn encoding_start_at(bytes: &[u8]) -> Option<(Opening<'_>, &[u8])>
+    ensures { option_map (λ x. (opening_view x.0, x.1.now)) result ≡ encoding_start.read bytes.now }
 {
     if let Some((word, rest)) = encoding_word_at(bytes) {
-        return Some((Some(word), rest));
+        return Some((Opening::Word(word), rest));
     }
-    let (_, rest) = encoding_table_at(bytes)?;
-    Some((None, after_loop(rest)))
+    if let Some((_, rest)) = encoding_table_at(bytes) {
+        return Some((Opening::Puts, after_loop(rest)));
+    }
+    let (_, rest) = array_start_at(bytes)?;
+    Some((Opening::Names, rest))
 }
 
 /// The entries of the table, kept, and what stands after their close.
@@ -216,6 +255,28 @@ fn puts_at<'a>(bytes: &'a [u8], gathered: &mut Gathered<'a>) -> Result<&'a [u8],
     }
 }
 
+/// The names of an array, kept at the codes of their places, and what stands after their close.
+fn names_at<'a>(bytes: &'a [u8], gathered: &mut Gathered<'a>) -> Result<&'a [u8], TableError>
+    requires { gathered.old.codes ≡ fin.empty }
+    ensures shown { TableHeld (λ x names close rest. (gathered.new.codes ≡ map_of (from_code 0 names)) × (x.now ≡ rest)) result (counted_at next_name array_end code_count bytes.now) }
+    ensures others { OnOk result (CodesAlone gathered.old gathered.new) }
+{
+    let mut rest = bytes;
+    'names: for code in 0..CODES {
+        let Some((name, after)) = next_name_at(rest) else {
+            let (_, left) = white_at(rest);
+            return Err(TableError::Left(left.len()));
+        };
+        gathered.keep_code(code as u8, name)?;
+        rest = after;
+    }
+    let Some(after) = array_end_at(rest) else {
+        let (_, left) = white_at(rest);
+        return Err(TableError::Left(left.len()));
+    };
+    Ok(after)
+}
+
 /// The Encoding: its word, or the names of codes, which are gathered.
 #[derive(Clone, Copy)]
 pub enum EncodingParts<'a> {
@@ -231,6 +292,18 @@ pub struct ClearParts<'a> {
     pub clear_tail: &'a [u8],
 }
 
+/// Where the entries of the Encoding break off, in the last part of the clear text.
+fn bad_encoding(clear: &[u8], error: TableError) -> ReadFault
+    ensures { result ≡ table_fault BadEncoding (length clear.now) error }
+{
+    match error {
+        TableError::Memory => ReadFault::Memory,
+        TableError::Left(left) => ReadFault::BadEncoding {
+            at: clear.len().saturating_sub(left),
+        },
+    }
+}
+
 /// The names of the table's codes, in the last part of the clear text.
 #[tactic(auto, unfolding(crate::specs::Pieces::encoding_from))]
 fn table_from<'a>(
@@ -239,33 +312,48 @@ fn table_from<'a>(
     gathered: &mut Gathered<'a>,
 ) -> Result<(EncodingParts<'a>, &'a [u8]), ReadFault>
     requires { gathered.old.codes ≡ fin.empty }
-    ensures shown { Shown (λ x e. (encoding_view x.0 gathered.new.codes ≡ encoding_value e.0) × (x.1.now ≡ e.1)) result (encoding_from clear.now None rest.now) }
+    ensures shown { Shown (λ x e. (encoding_view x.0 gathered.new.codes ≡ encoding_value e.0) × (x.1.now ≡ e.1)) result (encoding_from clear.now OpensPuts rest.now) }
     ensures others { OnOk result (CodesAlone gathered.old gathered.new) }
 {
     match puts_at(rest, gathered) {
         Ok(after) => Ok((EncodingParts::Puts, after)),
-        Err(TableError::Memory) => Err(ReadFault::Memory),
-        Err(TableError::Left(left)) => Err(ReadFault::BadEncoding {
-            at: clear.len().saturating_sub(left),
-        }),
+        Err(error) => Err(bad_encoding(clear, error)),
     }
 }
 
-/// The Encoding from its word, or from its table's entries on.
+/// The names of the array, in the last part of the clear text.
 #[tactic(auto, unfolding(crate::specs::Pieces::encoding_from))]
-fn encoding_from<'a>(
+fn array_from<'a>(
     clear: &[u8],
-    word: Option<&'a [u8]>,
     rest: &'a [u8],
     gathered: &mut Gathered<'a>,
 ) -> Result<(EncodingParts<'a>, &'a [u8]), ReadFault>
     requires { gathered.old.codes ≡ fin.empty }
-    ensures shown { Shown (λ x e. (encoding_view x.0 gathered.new.codes ≡ encoding_value e.0) × (x.1.now ≡ e.1)) result (encoding_from clear.now (option_map (λ w. w.now) word.entry) rest.now) }
+    ensures shown { Shown (λ x e. (encoding_view x.0 gathered.new.codes ≡ encoding_value e.0) × (x.1.now ≡ e.1)) result (encoding_from clear.now OpensNames rest.now) }
     ensures others { OnOk result (CodesAlone gathered.old gathered.new) }
 {
-    match word {
-        Some(word) => Ok((EncodingParts::OneWord(word), rest)),
-        None => table_from(clear, rest, gathered),
+    match names_at(rest, gathered) {
+        Ok(after) => Ok((EncodingParts::Puts, after)),
+        Err(error) => Err(bad_encoding(clear, error)),
+    }
+}
+
+/// The Encoding from its word, or from the puts or names on that were opened.
+#[tactic(auto, unfolding(crate::specs::Pieces::encoding_from))]
+fn encoding_from<'a>(
+    clear: &[u8],
+    opening: Opening<'a>,
+    rest: &'a [u8],
+    gathered: &mut Gathered<'a>,
+) -> Result<(EncodingParts<'a>, &'a [u8]), ReadFault>
+    requires { gathered.old.codes ≡ fin.empty }
+    ensures shown { Shown (λ x e. (encoding_view x.0 gathered.new.codes ≡ encoding_value e.0) × (x.1.now ≡ e.1)) result (encoding_from clear.now (opening_view opening) rest.now) }
+    ensures others { OnOk result (CodesAlone gathered.old gathered.new) }
+{
+    match opening {
+        Opening::Word(word) => Ok((EncodingParts::OneWord(word), rest)),
+        Opening::Puts => table_from(clear, rest, gathered),
+        Opening::Names => array_from(clear, rest, gathered),
     }
 }
 
@@ -282,10 +370,10 @@ pub(crate) fn clear_parts<'a>(
     let Some((head, _, after)) = first::<EncodingMarker>(clear) else {
         return Err(ReadFault::NoEncoding);
     };
-    let Some((word, rest)) = encoding_start_at(after) else {
+    let Some((opening, rest)) = encoding_start_at(after) else {
         return Err(ReadFault::BadEncoding { at: head.len() });
     };
-    let (encoding, clear_tail) = encoding_from(clear, word, rest, gathered)?;
+    let (encoding, clear_tail) = encoding_from(clear, opening, rest, gathered)?;
     Ok(ClearParts {
         head,
         encoding,

@@ -20,14 +20,14 @@ ghost use Rattle.t1_font.specs.Reasons.{Refuses};
 use crate::encoding::{ClearParts, EncodingParts, clear_parts};
 use crate::fault::ReadFault;
 use crate::gathered::Gathered;
-use crate::limits::{COUNT_LIMIT, FILE_LIMIT, WEIGHT_LIMIT};
+use crate::limits::{COUNT_LIMIT, WEIGHT_LIMIT};
 use crate::private::{PrivateParts, private_parts};
 use crate::repeats::{last_entries, last_names};
 use crate::shell::kept_shell;
 use crate::source::{KeptEncoding, Source, SourceParts, keep_codes};
 use crate::subrs::SubrsParts;
 use std::alloc::{AllocError, Global};
-use t1_bytes::{Cipher, EEXEC_KEY, EEXEC_LEAD, decrypt, find_cipher, flatten_in_place};
+use t1_bytes::{Cipher, EEXEC_KEY, EEXEC_LEAD, FILE_LIMIT, decrypt, find_cipher, flatten_in_place};
 
 /// The flat text of a file, in the file's own vector.
 #[tactic(auto, unfolding(crate::specs::ReadFont::flat_text))]

@@ -5,30 +5,22 @@ ghost use Rattle.std.specs.Option.{option_map};
 ghost use Rattle.std.specs.Str.{bytes_eq};
 ghost use Rattle.t1_font.specs.FontValue.{notdef};
 ghost use Rattle.t1_bytes.specs.Grammar.{table_at};
-ghost use Rattle.t1_font.specs.Glyphs.{glyph_key, glyph, glyphs_end};
+ghost use Rattle.t1_font.specs.Glyphs.{glyph, glyphs_end};
 ghost use Rattle.std.specs.FinMap as fin;
 ghost use Rattle.t1_font.specs.Answers.{ShowsGlyphs};
 ghost use Rattle.t1_font.specs.Gathering.{GlyphsAlone};
 ghost use Rattle.t1_font.specs.Held.{HoldsGlyphs, TableHeld};
 ghost use Rattle.t1_font.specs.Places.{StandsIn};
 ghost use Rattle.t1_font.specs.Views.{entry_view};
+ghost use Rattle.t1_font.specs.Words.{next_name};
 
 use crate::entry::{Body, body_at};
 use crate::fault::TableError;
 use crate::gathered::Gathered;
 use crate::places::Place;
-use crate::words::{Words, first_words, keyword_at, name_at};
+use crate::words::{Words, first_words, keyword_at, next_name_at};
 use std::alloc::Global;
 use t1_bytes::texts::white_at;
-
-/// A name, and what stands before it.
-#[tactic(auto, unfolding(crate::specs::Glyphs::glyph_key))]
-fn glyph_key_at(bytes: &[u8]) -> Option<(&[u8], &[u8])>
-    ensures { option_map (λ x. (x.0.now, x.1.now)) result ≡ glyph_key.read bytes.now }
-{
-    let (_, rest) = white_at(bytes);
-    name_at(rest)
-}
 
 /// An entry of the table: its name, how many bytes stand behind that, and what they begin with.
 #[derive(Clone, Copy)]
@@ -61,7 +53,7 @@ fn glyph_at(bytes: &[u8], len_iv: u8) -> Option<(GlyphEntry<'_>, &[u8])>
     ensures order { IfSome result (λ x. length x.0.body.bytes.now + x.0.body.behind ≤ x.0.behind) }
     ensures left { IfSome result (λ x. length x.1.now ≤ x.0.body.behind) }
 {
-    let (name, rest) = glyph_key_at(bytes)?;
+    let (name, rest) = next_name_at(bytes)?;
     let behind = rest.len();
     let (body, rest) = body_at(rest, len_iv)?;
     Some((GlyphEntry { name, behind, body }, rest))

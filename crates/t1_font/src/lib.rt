@@ -35,6 +35,7 @@ pub use cut::{STUB, restrict};
 pub use fault::ReadFault;
 pub use file::{read, read_vec};
 pub use font::{Font, Names, Part};
+pub use limits::{COUNT_LIMIT, WEIGHT_LIMIT};
 pub use parts::{PartsFault, join_parts};
 pub use shell::Shell;
 pub use source::Source;

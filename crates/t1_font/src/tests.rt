@@ -2,6 +2,7 @@
 //! answer with ample memory.
 
 mod again;
+mod arrays;
 mod cuts;
 mod edges;
 mod faults;

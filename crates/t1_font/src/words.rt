@@ -3,11 +3,11 @@
 ghost use Rattle.std.specs.Prelude.{◌≡◌, length, take_while, unwrap_or, IfOk, Some, None, if◌then◌else◌};
 ghost use Rattle.std.specs.Option.{option_map};
 ghost use Rattle.t1_bytes.specs.Grammar.{run, that};
-ghost use Rattle.t1_font.specs.Words.{is_delimiter, is_regular, one_white, word, keyword, decimal, digits_after, is_decimal, name, is_access, phrase_of, passes};
+ghost use Rattle.t1_font.specs.Words.{is_delimiter, is_regular, one_white, word, keyword, decimal, digits_after, is_decimal, name, next_name, is_access, phrase_of, passes};
 ghost use Rattle.t1_font.specs.Views.{phrase_view, words_view};
 
 use std::alloc::{AllocError, Global};
-use t1_bytes::texts::{count_at, fixed_at, gap_at, is_white};
+use t1_bytes::texts::{count_at, fixed_at, gap_at, is_white, white_at};
 
 fn is_delimiter(byte: u8) -> bool
     ensures { result ≡ is_delimiter byte }
@@ -114,6 +114,15 @@ pub fn name_at(bytes: &[u8]) -> Option<(&[u8], &[u8])>
         return None;
     }
     Some((name, rest))
+}
+
+/// White space, and a name behind it.
+#[tactic(auto, unfolding(crate::specs::Words::next_name))]
+pub fn next_name_at(bytes: &[u8]) -> Option<(&[u8], &[u8])>
+    ensures { option_map (λ x. (x.0.now, x.1.now)) result ≡ next_name.read bytes.now }
+{
+    let (_, rest) = white_at(bytes);
+    name_at(rest)
 }
 
 /// One word, or an access word and one more.

@@ -7,7 +7,7 @@ ghost use Rattle.std.specs.FinMap as fin;
 ghost use Rattle.t1_bytes.specs.Cipher.{private_cipher};
 ghost use Rattle.t1_bytes.specs.Texts.{file_text};
 ghost use Rattle.t1_bytes.specs.declared.form.Form.TheVariants.{Pfa, Pfb};
-ghost use Rattle.t1_font.specs.FontValue.{file_limit};
+ghost use Rattle.t1_bytes.specs.Limits.{file_limit};
 ghost use Rattle.t1_font.specs.FontModel.{subrs_view, encoding_of};
 ghost use Rattle.t1_font.specs.ReadFont.{read_font};
 ghost use Rattle.t1_font.specs.Writing.{subr_text, glyph_text, subrs_part, glyphs_part, puts_text, encoding_text};

@@ -13,14 +13,8 @@ use crate::name_states::{NameState, NameTable};
 use crate::shells::shell_conflict;
 use crate::state_value::States;
 use std::alloc::{AllocError, Global};
-use t1_font::Font;
+use t1_font::{COUNT_LIMIT, Font, WEIGHT_LIMIT};
 use t1_join::{Join, Kept, Key, Table};
-
-/// The largest weight of a font.
-const WEIGHT_LIMIT: u64 = 16_777_216;
-
-/// The largest number of a font's glyphs.
-const COUNT_LIMIT: u64 = 65_535;
 
 /// The bytes of a Subr beyond those of a `return`.
 fn subr_adds(body: &[u8]) -> u64
@@ -123,7 +117,7 @@ impl<'t, 'a> States<'t, 'a> {
     fn fits_with(&self, other: &States<'t, 'a>) -> bool
         ensures { IsTrue result ↔ ((joint_weight self.now other.now ≤ weight_limit) × (joint_glyphs self.now other.now ≤ count_limit)) }
     {
-        self.joint_weight(other) <= WEIGHT_LIMIT && self.joint_glyphs(other) <= COUNT_LIMIT
+        self.joint_weight(other) <= WEIGHT_LIMIT && self.joint_glyphs(other) <= COUNT_LIMIT as u64
     }
 
     /// Whether the states of names and of Subrs join.

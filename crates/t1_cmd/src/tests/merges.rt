@@ -138,7 +138,7 @@ fn heavy(alloc: Global, name: &[u8]) -> Result<Vec<u8>, AllocError> {
     private.resize(private.len().saturating_add(60_000), b'x')?;
     private.extend_from_slice(b" ND\nend\nclosefile")?;
     let mut file = Vec::new(alloc);
-    file.resize(16_700_000, b' ')?;
+    file.resize(67_000_000, b' ')?;
     file.extend_from_slice(b"/Encoding StandardEncoding def\ncurrentfile eexec\n")?;
     file.extend_from_slice(sealed(alloc, private.as_slice(), EEXEC_KEY)?.as_slice())?;
     Ok(file)

@@ -240,7 +240,7 @@ fn names_that_are_absent(rt: HostRuntime) {
 pub fn heaviest(alloc: Global) -> Result<Vec<u8>, AllocError> {
     // The clear tail has 18 bytes and the private texts 13, 1 and 27; a Subr of no bytes weighs 129, and `.notdef` 257.
     let mut file = Vec::new(alloc);
-    file.resize(16_776_771, b' ')?;
+    file.resize(67_108_419, b' ')?;
     file.extend_from_slice(b"/Encoding StandardEncoding def\ncurrentfile eexec\n")?;
     let private =
         b"/lenIV 0 def /Subrs 9 array dup 5 0 RD  NP ND /CharStrings 1 dict dup begin\n/.notdef 1 RD \x1b ND\nend\nmark currentfile closefile\n";
@@ -252,9 +252,19 @@ pub fn heaviest(alloc: Global) -> Result<Vec<u8>, AllocError> {
 fn the_heaviest_font(rt: HostRuntime) -> Result<(), Fail> {
     let file = heaviest(rt.alloc())?;
     let cut = subset(rt.alloc(), file.as_slice(), &[]);
-    for font in [file.as_slice(), cut.as_slice()] {
-        let want = b"ok 1 glyphs, 1 subrs, weight 16777216\n";
+    let pfb = answer(rt.alloc(), Engine::Convert(Form::Pfb), cut.as_slice());
+    for font in [file.as_slice(), cut.as_slice(), pfb.as_slice()] {
+        let want = b"ok 1 glyphs, 1 subrs, weight 67108864\n";
         assert!(rt; answers(rt.alloc(), Engine::Check, font, want));
     }
+    Ok(())
+}
+
+#[test]
+fn a_byte_over_the_greatest_weight(rt: HostRuntime) -> Result<(), Fail> {
+    let mut file = Vec::from_slice(rt.alloc(), b" ")?;
+    file.extend_from_slice(heaviest(rt.alloc())?.as_slice())?;
+    let want = b"refused: over a limit\n";
+    assert!(rt; answers(rt.alloc(), Engine::Check, file.as_slice(), want));
     Ok(())
 }

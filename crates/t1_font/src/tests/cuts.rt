@@ -344,8 +344,8 @@ fn headed(alloc: Global, head: usize, glyph: &[u8]) -> Result<Vec<u8>, AllocErro
 fn joins_at_the_limit_of_weight(rt: HostRuntime) -> Result<(), Fail> {
     // The clear tail has 18 bytes and the private texts 13 and 27; each of the three glyphs weighs 257.
     for (head, want) in [
-        (16_776_387usize, None),
-        (16_776_388, Some(PartsFault::Limit)),
+        (67_108_035usize, None),
+        (67_108_036, Some(PartsFault::Limit)),
     ] {
         let x = headed(rt.alloc(), head, b"/X")?;
         let y = headed(rt.alloc(), head, b"/Y")?;

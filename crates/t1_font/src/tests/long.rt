@@ -68,8 +68,8 @@ fn weights_at_the_limit(rt: HostRuntime) -> Result<(), Fail> {
     // The clear tail has 18 bytes and the private texts 13 and 27; `.notdef` weighs 257.
     let private = joined(rt.alloc(), b"/lenIV 0 def ", GLYPHS)?;
     for (head, want) in [
-        (16_776_901usize, None),
-        (16_776_902, Some(ReadFault::Limit)),
+        (67_108_549usize, None),
+        (67_108_550, Some(ReadFault::Limit)),
     ] {
         let mut clear = Vec::new(rt.alloc());
         clear.resize(head, b' ')?;
@@ -86,17 +86,17 @@ fn weights_at_the_limit(rt: HostRuntime) -> Result<(), Fail> {
 #[test]
 fn nothing_at_the_limit(rt: HostRuntime) -> Result<(), Fail> {
     let mut nothing = Vec::new(rt.alloc());
-    nothing.resize(67_108_864, 0)?;
+    nothing.resize(268_435_456, 0)?;
     assert_eq!(rt;
         read(rt.alloc(), nothing.as_slice()).err(),
         Some(ReadFault::NoEexec),
-        "64 MiB"
+        "256 MiB"
     );
     nothing.as_mut_slice()[0] = 128;
     assert_eq!(rt;
         read(rt.alloc(), nothing.as_slice()).err(),
         Some(ReadFault::BadSegment { at: 0 }),
-        "64 MiB that begin with 128"
+        "256 MiB that begin with 128"
     );
     nothing.push(0)?;
     assert_eq!(rt;

@@ -2,7 +2,8 @@ use Rattle.std.proofs.Common.{rules, ◌+◌, ◌≡◌, ◌≤◌, ◌∙◌, a
 use Rattle.std.proofs.lemmas.Bool.{le-leb}
 use Rattle.std.proofs.lemmas.List.{drop-drop}
 use Rattle.t1_bytes.specs.Cipher.{private_text}
-use Rattle.t1_font.specs.FontValue.{FontValue, file_limit}
+use Rattle.t1_font.specs.FontValue.{FontValue}
+use Rattle.t1_bytes.specs.Limits.{file_limit}
 use Rattle.t1_font.specs.Pieces.{FlatPieces, flat_pieces}
 use Rattle.t1_font.specs.ReadFont.{flat_text, file_pieces, font_texts, font_file}
 use Rattle.t1_font.specs.Reading.{Reading, if_ok}

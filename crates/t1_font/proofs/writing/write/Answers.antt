@@ -1,5 +1,6 @@
 use Rattle.std.proofs.Common.{◌≤◌, List, ℕ, length, sym, ap, subst, ◌∙◌}
-use Rattle.t1_font.specs.FontValue.{FontValue, file_limit}
+use Rattle.t1_font.specs.FontValue.{FontValue}
+use Rattle.t1_bytes.specs.Limits.{file_limit}
 use Rattle.t1_font.specs.IsFont.{IsFont}
 use Rattle.t1_font.specs.Canon.{canon}
 use Rattle.t1_font.specs.ReadFont.{read_font}

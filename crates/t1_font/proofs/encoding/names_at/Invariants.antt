@@ -1,0 +1,7 @@
+use Rattle.std.proofs.Common.{◌≡◌}
+use Rattle.t1_font.specs.Gathering.{CodesAlone}
+use Rattle.t1_font.proofs.Arrays.{NamesSoFar}
+use Rattle.t1_font.proofs.encoding.names_at.Given as goal
+
+abbrev pub invariant-names : goal.invariant-names
+invariant-names l = NamesSoFar l.bytes l.rest l.gathered.codes l.code × CodesAlone l.initial.gathered l.gathered

@@ -1,0 +1,120 @@
+//! Encodings that are literal arrays.
+
+use super::rewritten;
+use super::tiny::PFA;
+use crate::{Form, ReadFault, read};
+use bstr::ByteSlice;
+use std::alloc::{AllocError, Global};
+use std::test::Fail;
+
+/// Tiny's PFA with this text behind its `/Encoding`.
+fn encoded(alloc: Global, encoding: &[u8]) -> Result<Vec<u8>, AllocError> {
+    let Some(end) = PFA.as_slice().find(b"readonly def") else {
+        return Err(AllocError);
+    };
+    let mut file = Vec::from_slice(alloc, &PFA[..144])?;
+    file.extend_from_slice(encoding)?;
+    file.extend_from_slice(&PFA[end + 12..])?;
+    Ok(file)
+}
+
+/// So many times `.notdef` without blanks, between two texts.
+fn unnamed(alloc: Global, open: &[u8], count: usize, close: &[u8]) -> Result<Vec<u8>, AllocError> {
+    let mut text = Vec::from_slice(alloc, open)?;
+    for _ in 0..count {
+        text.extend_from_slice(b"/.notdef")?;
+    }
+    text.extend_from_slice(close)?;
+    Ok(text)
+}
+
+/// Why Tiny with such an array is refused, if it is.
+fn refusal(alloc: Global, open: &[u8], count: usize, close: &[u8]) -> Option<ReadFault> {
+    let Ok(text) = unnamed(alloc, open, count, close) else {
+        return Some(ReadFault::Memory);
+    };
+    match encoded(alloc, text.as_slice()) {
+        Ok(file) => read(alloc, file.as_slice()).err(),
+        Err(_) => Some(ReadFault::Memory),
+    }
+}
+
+#[test]
+fn arrays_of_no_names(rt: HostRuntime) {
+    let bad = |at| Some(ReadFault::BadEncoding { at });
+    let rows: [(&[u8], usize, &[u8], Option<ReadFault>, &str); 14] = [
+        (b" [", 255, b"] def", bad(2186), "255 names"),
+        (b" [", 256, b"] def", None, "256 names"),
+        (b" [", 257, b"] def", bad(2194), "257 names"),
+        (b"[", 256, b"]def", None, "no white space"),
+        (b" [ ", 256, b" ]readonly def", None, "white space on the inside"),
+        (b" [", 256, b"] readonly readonly def", bad(2194), "readonly twice"),
+        (b" [", 256, b"] readonly", bad(2194), "no def"),
+        (b" [", 256, b"] put", bad(2194), "another word for def"),
+        (b" [", 256, b" defx", bad(2195), "no bracket, and another word"),
+        (b" [ X", 256, b"] def", bad(147), "a word among the names"),
+        (b" [/", 255, b"] def", bad(146), "an empty name"),
+        (b" [(", 256, b"] def", bad(146), "a string among the names"),
+        (b" {", 256, b"} def", bad(135), "a procedure"),
+        (b" 256[", 256, b"] def", bad(135), "a number before the bracket"),
+    ];
+    for (open, count, close, want, name) in rows {
+        assert_eq!(rt; refusal(rt.alloc(), open, count, close), want, "{name}");
+    }
+}
+
+/// Tiny with the array of the names that its codes have, and of these bytes for that of code 255.
+fn tiny_by_array(alloc: Global, last: &[u8]) -> Result<Vec<u8>, AllocError> {
+    let mut text = Vec::from_slice(alloc, b" [")?;
+    for code in 0..255u32 {
+        let name: &[u8] = match code {
+            65 => b"/X ",
+            66 => b"/Y\n",
+            194 => b"/H",
+            _ => b"/.notdef",
+        };
+        text.extend_from_slice(name)?;
+    }
+    text.extend_from_slice(last)?;
+    text.extend_from_slice(b"] readonly def")?;
+    encoded(alloc, text.as_slice())
+}
+
+#[test]
+fn tiny_by_an_array(rt: HostRuntime) -> Result<(), Fail> {
+    let file = tiny_by_array(rt.alloc(), b"/.notdef")?;
+    let written = rewritten(rt.alloc(), file.as_slice(), Form::Pfa);
+    assert!(rt; written.is_ok_and(|written| written.as_slice() == PFA.as_slice()));
+    Ok(())
+}
+
+#[test]
+fn the_last_name_of_an_array(rt: HostRuntime) -> Result<(), Fail> {
+    let file = tiny_by_array(rt.alloc(), b"/Z")?;
+    let written = rewritten(rt.alloc(), file.as_slice(), Form::Pfa);
+    let has_it = |text: Vec<u8>| text.as_slice().find(b"dup 194 /H put\ndup 255 /Z put\nreadonly def").is_some();
+    assert!(rt; written.is_ok_and(has_it));
+    Ok(())
+}
+
+#[test]
+fn an_array_of_no_names_is_a_table(rt: HostRuntime) -> Result<(), Fail> {
+    let text = unnamed(rt.alloc(), b" [", 256, b"] def")?;
+    let file = encoded(rt.alloc(), text.as_slice())?;
+    let written = rewritten(rt.alloc(), file.as_slice(), Form::Pfa);
+    let has_none = |text: Vec<u8>| text.as_slice().find(b"/Encoding 256 array\n0 1 255 {1 index exch /.notdef put} for\nreadonly def").is_some();
+    assert!(rt; written.is_ok_and(has_none));
+    Ok(())
+}
+
+#[test]
+fn names_of_arrays_at_their_limits(rt: HostRuntime) -> Result<(), Fail> {
+    let long = [b'x'; 128];
+    for (length, want) in [(127, None), (128, Some(ReadFault::BadEncoding { at: 146 }))] {
+        let mut open = Vec::from_slice(rt.alloc(), b" [/")?;
+        open.extend_from_slice(&long[..length])?;
+        let got = refusal(rt.alloc(), open.as_slice(), 255, b"] def");
+        assert_eq!(rt; got, want, "a name of {length} bytes");
+    }
+    Ok(())
+}
