@@ -22,9 +22,7 @@ struct Calling {
 const CALLING: [Calling; 10] = [
     Calling {
         name: "marks of each caller after its call",
-        charstring: &[
-            0x8B, 0xF7, 0x8E, 0x0D, 0x92, 0x9B, 0x9B, 0x0A, 0xEF, 0x06, 0x0E,
-        ],
+        charstring: b"\x8b\xf7\x8e\x0d\x92\x9b\x9b\x0a\xef\x06\x0e",
         want: Ok(&[
             Mark::Hstem(HUNDRED, 20 * 65536),
             Mark::Dot,
@@ -35,19 +33,15 @@ const CALLING: [Calling; 10] = [
     },
     Calling {
         name: "a line by the tenth call",
-        charstring: &[
-            0x8B, 0xF7, 0x8E, 0x0D, 0x90, 0x99, 0x99, 0x99, 0x99, 0x99, 0x99, 0x99, 0x99, 0x99,
-            0x0A, 0x0E,
-        ],
+        charstring: b"\x8b\xf7\x8e\x0d\x90\x99\x99\x99\x99\x99\x99\x99\x99\x99\x0a\x0e",
         want: Ok(&[Mark::Line(Point { x: HUNDRED, y: 0 })]),
         executed: &[5, 14],
     },
     Calling {
         name: "a line by the tenth call, twice",
-        charstring: &[
-            0x8B, 0xF7, 0x8E, 0x0D, 0x90, 0x99, 0x99, 0x99, 0x99, 0x99, 0x99, 0x99, 0x99, 0x99,
-            0x0A, 0x90, 0x99, 0x99, 0x99, 0x99, 0x99, 0x99, 0x99, 0x99, 0x99, 0x0A, 0x0E,
-        ],
+        charstring: b"\
+            \x8b\xf7\x8e\x0d\x90\x99\x99\x99\x99\x99\x99\x99\x99\x99\x0a\x90\x99\x99\x99\x99\x99\x99\
+            \x99\x99\x99\x0a\x0e",
         want: Ok(&[
             Mark::Line(Point { x: HUNDRED, y: 0 }),
             Mark::Line(Point {
@@ -59,52 +53,45 @@ const CALLING: [Calling; 10] = [
     },
     Calling {
         name: "a line by the eleventh call",
-        charstring: &[
-            0x8B, 0xF7, 0x8E, 0x0D, 0x90, 0x99, 0x99, 0x99, 0x99, 0x99, 0x99, 0x99, 0x99, 0x99,
-            0x99, 0x0A, 0x0E,
-        ],
+        charstring: b"\x8b\xf7\x8e\x0d\x90\x99\x99\x99\x99\x99\x99\x99\x99\x99\x99\x0a\x0e",
         want: Err(Fault::Nesting),
         executed: &[5, 14],
     },
     Calling {
         name: "a line by the tenth call, and then by the eleventh",
-        charstring: &[
-            0x8B, 0xF7, 0x8E, 0x0D, 0x90, 0x99, 0x99, 0x99, 0x99, 0x99, 0x99, 0x99, 0x99, 0x99,
-            0x0A, 0x90, 0x99, 0x99, 0x99, 0x99, 0x99, 0x99, 0x99, 0x99, 0x99, 0x99, 0x0A, 0x0E,
-        ],
+        charstring: b"\
+            \x8b\xf7\x8e\x0d\x90\x99\x99\x99\x99\x99\x99\x99\x99\x99\x0a\x90\x99\x99\x99\x99\x99\x99\
+            \x99\x99\x99\x99\x0a\x0e",
         want: Err(Fault::Nesting),
         executed: &[5, 14],
     },
     Calling {
         name: "endchar in the tenth call, before a line",
-        charstring: &[
-            0x8B, 0xF7, 0x8E, 0x0D, 0x95, 0x99, 0x99, 0x99, 0x99, 0x99, 0x99, 0x99, 0x99, 0x99,
-            0x0A, 0xEF, 0x06, 0x0E,
-        ],
+        charstring: b"\x8b\xf7\x8e\x0d\x95\x99\x99\x99\x99\x99\x99\x99\x99\x99\x0a\xef\x06\x0e",
         want: Ok(&[]),
         executed: &[10, 14],
     },
     Calling {
         name: "endchar in a call, before a mark of its caller and a call",
-        charstring: &[0x8B, 0xF7, 0x8E, 0x0D, 0x95, 0x9B, 0x0A, 0x90, 0x0A, 0x0E],
+        charstring: b"\x8b\xf7\x8e\x0d\x95\x9b\x0a\x90\x0a\x0e",
         want: Ok(&[]),
         executed: &[10, 16],
     },
     Calling {
         name: "callsubr as the last token of a glyph",
-        charstring: &[0x8B, 0xF7, 0x8E, 0x0D, 0x8E, 0x0A],
+        charstring: b"\x8b\xf7\x8e\x0d\x8e\x0a",
         want: Err(Fault::Unended),
         executed: &[3],
     },
     Calling {
         name: "callsubr as the last token of a Subr",
-        charstring: &[0x8B, 0xF7, 0x8E, 0x0D, 0x9A, 0x0A, 0x0E],
+        charstring: b"\x8b\xf7\x8e\x0d\x9a\x0a\x0e",
         want: Err(Fault::Unended),
         executed: &[3, 15],
     },
     Calling {
         name: "callsubr as the last token of a Subr, of one that ends the glyph",
-        charstring: &[0x8B, 0xF7, 0x8E, 0x0D, 0x95, 0x9C, 0x0A],
+        charstring: b"\x8b\xf7\x8e\x0d\x95\x9c\x0a",
         want: Ok(&[]),
         executed: &[10, 17],
     },

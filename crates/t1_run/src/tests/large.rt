@@ -54,8 +54,8 @@ fn two_counts(drawing: &Drawing) -> (usize, usize) {
 
 // How many marks the parts of an accented glyph have, 5,000 and 7,000.
 fn marks_drawn(alloc: Global) -> Result<(usize, usize), Fail> {
-    let base = charstring(alloc, &WIDTH, 5_000, &[0x0E])?;
-    let accent = charstring(alloc, &WIDTH, 7_000, &[0x0E])?;
+    let base = charstring(alloc, &WIDTH, 5_000, b"\x0e")?;
+    let accent = charstring(alloc, &WIDTH, 7_000, b"\x0e")?;
     let font = GlyphFont::new(alloc, &[], &[(b"A", &base), (b"acute", &accent)], None)?;
     let drawing = draw(alloc, &font, b"Aacute")?;
     Ok(two_counts(&drawing))
