@@ -9,7 +9,7 @@ use Rattle.t1_cmd.specs.declared.faults.Reason.TheVariants.{TooLong, Memory, Lis
 use Rattle.t1_cmd.specs.declared.faults.RunFault.{RunFault}
 use Rattle.t1_cmd.specs.declared.faults.RunFault.TheVariants.{Refused, Read, Write}
 use Rattle.t1_cmd.specs.Count.{inner_of, failed_of, last_count}
-use Rattle.t1_cmd.specs.Inputs.{Input, Rose, HasFailed, AllQuiet, Understood, AllUnderstood, IsRefused, FirstWith, value_and, values_of, Say}
+use Rattle.t1_cmd.specs.Inputs.{Input, Rose, RoseByOne, HasFailed, AllQuiet, Understood, AllUnderstood, IsRefused, FirstWith, value_and, values_of, Say}
 use Rattle.t1_cmd.specs.Runs.{AppendsPrefix, InputStops, RefusedTogether, Stops, RunEnds, Succeeds}
 
 -- a count that stays below its last value did not rise
@@ -127,7 +127,7 @@ module _ {A : Type 0} (understand : List ℕ → Result A Reason) where
         by (Merge n) b = inr (together (Merge n) b)
 
     -- the text was written, or a prefix of it
-    pub write_ends : {W : Type 0} (contents : W → Option (List ℕ)) (is : List Input) (xs : List A) (w v : Counted W) (text : List ℕ) (result : Result (Unit {0}) RunFault) → Say understand is xs → Answers xs (Ok text) → OnOk result (Appends (contents (inner_of w)) (contents (inner_of v)) text) → IfErr result (λ e. e ≡ Write) → OnErr result (AppendsPrefix (contents (inner_of w)) (contents (inner_of v)) text) → OnErr result (Rose (failed_of w) (failed_of v)) → RunEnds understand Answers contents is w v result
+    pub write_ends : {W : Type 0} (contents : W → Option (List ℕ)) (is : List Input) (xs : List A) (w v : Counted W) (text : List ℕ) (result : Result (Unit {0}) RunFault) → Say understand is xs → Answers xs (Ok text) → OnOk result (Appends (contents (inner_of w)) (contents (inner_of v)) text) → IfErr result (λ e. e ≡ Write) → OnErr result (AppendsPrefix (contents (inner_of w)) (contents (inner_of v)) text) → OnErr result (RoseByOne (failed_of w) (failed_of v)) → RunEnds understand Answers contents is w v result
     write_ends contents is xs w v text (Ok u) h a whole fault prefix rose =
         (all_understood is xs h, values_have (λ values. (t : List ℕ) × Answers values (Ok t) × Appends (contents (inner_of w)) (contents (inner_of v)) t) is xs h (text, a, whole))
     write_ends contents is xs w v text (Err e) h a whole fault prefix rose =
@@ -155,7 +155,7 @@ module _ {A : Type 0} (understand : List ℕ → Result A Reason) where
         at xs e text a q same low (Err (Refused (NoGlyph n))) h = ap Refused (refused xs text (NoGlyph n) e a h.1)
         at xs e text a q same low (Err (Refused (Merge n))) h = ap Refused (refused xs text (Merge n) e a h.1)
         at xs e text a q same low (Err Read) h = absurd (first_failed is h.1 q)
-        at xs e text a q same low (Err Write) h = absurd (not_risen (failed_of w) (failed_of v) h.1 same low)
+        at xs e text a q same low (Err Write) h = absurd (not_risen (failed_of w) (failed_of v) (omega (arith, h.1)) same low)
 
         by : (o : Option (List A)) → values_of understand is ≡ o → IfSome o (λ values. (text : List ℕ) → Answers values (Ok text) → AllQuiet is → failed_of v ≡ failed_of w → failed_of w < last_count → IsOkUnless result (Refused Memory))
         by None e = tt

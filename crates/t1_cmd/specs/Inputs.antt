@@ -19,6 +19,10 @@ input_of remaining old new = record { known = remaining (inner_of old); before =
 abbrev pub Rose : ℕ → ℕ → Type 0
 Rose old new = next_count old ≤ new
 
+-- a count rose by one, or stands at its last value
+abbrev pub RoseByOne : ℕ → ℕ → Type 0
+RoseByOne old new = new ≡ next_count old
+
 -- calls of the reader failed
 abbrev pub HasFailed : Input → Type 0
 HasFailed i = Rose i.before i.after

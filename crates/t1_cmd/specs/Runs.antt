@@ -7,7 +7,7 @@ use Rattle.t1_cmd.specs.declared.faults.Reason.TheVariants.{TooLong, Memory}
 use Rattle.t1_cmd.specs.declared.faults.RunFault.{RunFault}
 use Rattle.t1_cmd.specs.declared.faults.RunFault.TheVariants.{Refused, Read, Write}
 use Rattle.t1_cmd.specs.Count.{inner_of, failed_of, last_count}
-use Rattle.t1_cmd.specs.Inputs.{Input, Rose, HasFailed, AllQuiet, AllUnderstood, IsRefused, FirstWith, values_of}
+use Rattle.t1_cmd.specs.Inputs.{Input, Rose, RoseByOne, HasFailed, AllQuiet, AllUnderstood, IsRefused, FirstWith, values_of}
 
 -- the exit status
 abbrev pub status_of : RunFault → ℕ
@@ -32,7 +32,7 @@ abbrev pub WriteRefusal : List ℕ → Option (List ℕ) → Option (List ℕ) �
 WriteRefusal line before after old new (Refused Memory) = Keeps before after
 WriteRefusal line before after old new (Refused r) = ⊥
 WriteRefusal line before after old new Read = ⊥
-WriteRefusal line before after old new Write = AppendsPrefix before after line × Rose old new
+WriteRefusal line before after old new Write = AppendsPrefix before after line × RoseByOne old new
 
 module _ {A : Type 0} (understand : List ℕ → Result A Reason) where
   -- why reading and understanding one input ends without a value
@@ -63,10 +63,10 @@ module _ {A : Type 0} (understand : List ℕ → Result A Reason) where
     abbrev pub Takes : (List ℕ → Type 0) → List Input → Type 0
     Takes Took inputs = AllUnderstood understand inputs × IfSome (values_of understand inputs) (λ values. (text : List ℕ) × Answers values (Ok text) × Took text)
 
-    -- how an engine ends: the whole answer is written; a prefix of it, where the writer failed; else nothing
+    -- how an engine ends: the whole answer is written; a prefix of it, where the writer failed, once; else nothing
     abbrev pub RunEnds : {W : Type 0} → (W → Option (List ℕ)) → List Input → Counted W → Counted W → Result (Unit {0}) RunFault → Type 0
     RunEnds contents inputs w v (Ok u) = Takes (Appends (contents (inner_of w)) (contents (inner_of v))) inputs
-    RunEnds contents inputs w v (Err Write) = Takes (AppendsPrefix (contents (inner_of w)) (contents (inner_of v))) inputs × Rose (failed_of w) (failed_of v)
+    RunEnds contents inputs w v (Err Write) = Takes (AppendsPrefix (contents (inner_of w)) (contents (inner_of v))) inputs × RoseByOne (failed_of w) (failed_of v)
     RunEnds contents inputs w v (Err e) = (v ≡ w) × Stops inputs e
 
     -- where the inputs have a text for an answer and no call failed, it is written, unless memory is refused

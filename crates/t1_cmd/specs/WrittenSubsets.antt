@@ -16,7 +16,7 @@ use Rattle.t1_cmd.specs.declared.faults.Reason.TheVariants.{Memory}
 use Rattle.t1_cmd.specs.declared.faults.RunFault.{RunFault}
 use Rattle.t1_cmd.specs.declared.faults.RunFault.TheVariants.{Refused, Read, Write}
 use Rattle.t1_cmd.specs.Count.{inner_of, failed_of}
-use Rattle.t1_cmd.specs.Inputs.{Input, Rose, HasFailed}
+use Rattle.t1_cmd.specs.Inputs.{Input, RoseByOne, HasFailed}
 use Rattle.t1_cmd.specs.Runs.{AppendsPrefix}
 
 -- the input's bytes are the subset of f over these names, written in some form in which it can be read
@@ -41,7 +41,7 @@ abbrev pub Writes : {W : Type 0} → (W → Option (List ℕ)) → List ℕ → 
 Writes contents text inputs w v (Ok u) = Appends (contents (inner_of w)) (contents (inner_of v)) text
 Writes contents text inputs w v (Err (Refused r)) = (r ≡ Memory) × (v ≡ w)
 Writes contents text inputs w v (Err Read) = SomeFailed inputs × (v ≡ w)
-Writes contents text inputs w v (Err Write) = Rose (failed_of w) (failed_of v) × AppendsPrefix (contents (inner_of w)) (contents (inner_of v)) text
+Writes contents text inputs w v (Err Write) = RoseByOne (failed_of w) (failed_of v) × AppendsPrefix (contents (inner_of w)) (contents (inner_of v)) text
 
 -- Of the written subsets of one font, one or more, the canonical file of the subset over all the names is written.
 abbrev pub WritesUnion : {W : Type 0} → (W → Option (List ℕ)) → Form → List Input → Counted W → Counted W → Result (Unit {0}) RunFault → Type 0

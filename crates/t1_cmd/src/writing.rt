@@ -2,7 +2,7 @@
 ghost use Rattle.std.specs.Prelude.{◌≡◌, ◌+◌, IfErr, OnOk, OnErr};
 ghost use Rattle.std.specs.Io.KnownBytes.{Appends};
 ghost use Rattle.t1_cmd.specs.Count.{failed_of, inner_of};
-ghost use Rattle.t1_cmd.specs.Inputs.{Rose};
+ghost use Rattle.t1_cmd.specs.Inputs.{RoseByOne};
 ghost use Rattle.t1_cmd.specs.Runs.{AppendsPrefix, WriteRefusal};
 ghost use Rattle.t1_cmd.specs.Texts.{fault_line};
 
@@ -20,7 +20,7 @@ pub fn write_text<W: Write>(writer: &mut Counted<W>, text: &[u8]) -> Result<(), 
     ensures fault { IfErr result (λ e. e ≡ RunFault.Write) }
     ensures prefix { OnErr result
         (AppendsPrefix (W.contents (inner_of writer.old)) (W.contents (inner_of writer.new)) text.now) }
-    ensures rose { OnErr result (Rose (failed_of writer.old) (failed_of writer.new)) }
+    ensures rose { OnErr result (RoseByOne (failed_of writer.old) (failed_of writer.new)) }
     ensures fine { OnOk result (failed_of writer.new ≡ failed_of writer.old) }
 {
     let mut at = 0;
