@@ -1,7 +1,7 @@
 -- Tables of so many entries: what is read is what the text spells, or the first place where it breaks off.
 use Rattle.std.proofs.Common.{◌≡◌, ◌⊎◌, inl, inr, ℕ, zero, suc, ◌+◌, ◌-◌, ◌<◌, List, [], ◌∷◌, ◌++◌, length, Option, Some, None, Ok, Err, refl, sym, ap, subst, ◌∙◌, append_assoc, arith}
 use Rattle.std.proofs.lemmas.List.{append-nil}
-use Rattle.t1_bytes.specs.Grammar.{Grammar, NotAtFront, Entries, IsCounted, CountedAt, NextIsMissing, CountBreaksOff, Table, with_front, table_step, counted_at}
+use Rattle.t1_bytes.specs.Grammar.{Grammar, Entries, IsCounted, CountedAt, NextIsMissing, CountBreaksOff, Table, with_front, table_step, counted_at}
 use Rattle.t1_bytes.proofs.Grammars.{IsExact, unspelled, unread}
 use Rattle.t1_bytes.proofs.Tables.{table_front, front_nil, with_front-with_front}
 
@@ -64,23 +64,16 @@ counted_again entry close E C n xs b text rest s =
     (λ i. counted_at entry close (all i) (whole i)) ∙ (entries_counted entry close E zero xs t.0 (t.1 ++ rest) t.3 ∙ (ap (with_front xs) last ∙ ap (λ (zs : List _). Ok (zs, b, rest)) (append-nil xs)))
 
 -- what breaks off is not read
+count_broken_by : {A B : Type 0} (entry : Grammar A) (close : Grammar B) → IsExact entry → (n m : ℕ) (bytes left : List ℕ) (xs : List A) (front : List ℕ) → bytes ≡ front ++ left → Entries entry xs front left → n ≡ length xs + m → counted_at entry close m left ≡ Err left → counted_at entry close n bytes ≡ Err left
+count_broken_by entry close E n m bytes left xs front parts entries all last = (λ i. counted_at entry close (all i) (parts i)) ∙ (entries_counted entry close E m xs front left entries ∙ ap (with_front xs) last)
+
 pub count_broken : {A B : Type 0} (entry : Grammar A) (close : Grammar B) → IsExact entry → IsExact close → (n : ℕ) (bytes left : List ℕ) → CountBreaksOff entry close n bytes left → counted_at entry close n bytes ≡ Err left
+unfolding counted_at
 count_broken entry close E C n bytes left s = by_missing s.missing
   where
-    before : (m : ℕ) → n ≡ length s.xs + m → counted_at entry close m left ≡ Err left → counted_at entry close n bytes ≡ Err left
-    before m all last = (λ i. counted_at entry close (all i) (s.parts i)) ∙ (entries_counted entry close E m s.xs s.front left s.entries ∙ ap (with_front s.xs) last)
-
-    no_entry : (m : ℕ) → NotAtFront entry left → counted_at entry close (suc m) left ≡ Err left
-    unfolding counted_at
-    no_entry m none = rw (unread entry E left none) refl
-
-    no_close : NotAtFront close left → counted_at entry close zero left ≡ Err left
-    unfolding counted_at
-    no_close none = rw (unread close C left none) refl
-
     by_missing : NextIsMissing entry close n (length s.xs) left → counted_at entry close n bytes ≡ Err left
-    by_missing (inl h) = before (suc (n - suc (length s.xs))) (omega (arith, h.0)) (no_entry (n - suc (length s.xs)) h.1)
-    by_missing (inr h) = before zero (omega (arith, h.0)) (no_close h.1)
+    by_missing (inl h) = count_broken_by entry close E n (suc (n - suc (length s.xs))) bytes left s.xs s.front s.parts s.entries (omega (arith, h.0)) (rw (unread entry E left h.1) refl)
+    by_missing (inr h) = count_broken_by entry close E n zero bytes left s.xs s.front s.parts s.entries (omega (arith, h.0)) (rw (unread close C left h.1) refl)
 
 -- ---- in a loop: n entries are left, behind those that were read
 
