@@ -257,8 +257,8 @@ fn pfa(alloc: Global, clear: &[u8], cipher: &[u8]) -> Result<Vec<u8>, AllocError
 
 /// The PFB file of a clear text and a cipher.
 fn pfb(alloc: Global, clear: &[u8], cipher: &[u8]) -> Result<Vec<u8>, AllocError>
-    requires clear { length clear.now ≤ 2 ^ 26 }
-    requires cipher { length cipher.now ≤ 2 ^ 26 }
+    requires clear { length clear.now ≤ file_limit }
+    requires cipher { length cipher.now ≤ file_limit }
     ensures { IfOk result (λ v. v.items ≡ file_text Pfb clear.now cipher.now) }
 {
     match segments(alloc, clear, cipher, trailer()) {
@@ -269,8 +269,8 @@ fn pfb(alloc: Global, clear: &[u8], cipher: &[u8]) -> Result<Vec<u8>, AllocError
 
 /// The file of the canonical texts of a font's parts.
 fn canonical(alloc: Global, parts: &FontParts<'_>, form: Form) -> Result<Vec<u8>, AllocError>
-    requires clear { length (canon_clear parts.now) ≤ 2 ^ 26 }
-    requires cipher { length (private_cipher (canon_private parts.now)) ≤ 2 ^ 26 }
+    requires clear { length (canon_clear parts.now) ≤ file_limit }
+    requires cipher { length (private_cipher (canon_private parts.now)) ≤ file_limit }
     ensures { IfOk result (λ v. v.items ≡ canon parts.now form) }
 {
     let clear = clear_text(alloc, parts)?;
