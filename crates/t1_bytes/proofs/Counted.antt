@@ -34,24 +34,28 @@ counted_reads {A} {B} entry close E C zero bytes = by_close (close.read bytes) r
     by_close : (b : Option (B × List ℕ)) → close.read bytes ≡ b → CountedRead entry close zero bytes (table_step {A = A} b None Err bytes)
     by_close (Some b) c = let s = C.takes bytes b c in (s.0, s.1, (refl, ([], s.0, refl, refl, s.2)))
     by_close None c = record { xs = []; front = []; parts = refl; entries = refl; missing = inr (refl, unspelled close C bytes c) }
-counted_reads {A} {B} entry close E C (suc n) bytes = by_entry (entry.read bytes) refl
+counted_reads {A} {B} entry close E C (suc n) bytes = by_entry (λ x. counted_reads entry close E C n x.1) (entry.read bytes) refl
   where
-    by_entry : (a : Option (A × List ℕ)) → entry.read bytes ≡ a → CountedRead entry close (suc n) bytes (table_step {B = B} None a (counted_at entry close n) bytes)
-    by_entry (Some a) e =
+    by_entry : ((x : A × List ℕ) → CountedRead entry close n x.1 (counted_at entry close n x.1)) → (a : Option (A × List ℕ)) → entry.read bytes ≡ a → CountedRead entry close (suc n) bytes (table_step {B = B} None a (counted_at entry close n) bytes)
+    by_entry again (Some a) e =
         let s = E.takes bytes a e in
         subst (λ (u : List ℕ). CountedRead entry close (suc n) u (with_front (a.0 ∷ []) (counted_at entry close n a.1))) (sym s.1)
-        (counted_front entry close n a.0 s.0 a.1 (counted_at entry close n a.1) s.2 (counted_reads entry close E C n a.1))
-    by_entry None e = record { xs = []; front = []; parts = refl; entries = refl; missing = inl (omega arith, unspelled entry E bytes e) }
+        (counted_front entry close n a.0 s.0 a.1 (counted_at entry close n a.1) s.2 (again a))
+    by_entry again None e = record { xs = []; front = []; parts = refl; entries = refl; missing = inl (omega arith, unspelled entry E bytes e) }
 
 -- reading goes entry by entry
-entries_counted : {A B : Type 0} (entry : Grammar A) (close : Grammar B) → IsExact entry → (n : ℕ) (xs : List A) (text rest : List ℕ) → Entries entry xs text rest → counted_at entry close (length xs + n) (text ++ rest) ≡ with_front xs (counted_at entry close n rest)
+entries_counted : {A B : Type 0} (entry : Grammar A) (close : Grammar B) → IsExact entry → (m n : ℕ) (xs : List A) (text rest : List ℕ) → m ≡ length xs + n → Entries entry xs text rest → counted_at entry close m (text ++ rest) ≡ with_front xs (counted_at entry close n rest)
 unfolding counted_at
-entries_counted entry close E n [] text rest s = rw s (front_nil (counted_at entry close n rest))
-entries_counted entry close E n (a ∷ xs) text rest s =
+entries_counted {A} {B} entry close E m n [] text rest all s =
+    let none : m ≡ n = omega (arith, all) in
+    (λ i. counted_at entry close (none i) (s i ++ rest)) ∙ front_nil (counted_at entry close n rest)
+entries_counted {A} {B} entry close E m n (a ∷ xs) text rest all s =
+    let k : ℕ = length xs + n in
+    let more : m ≡ suc k = omega (arith, all) in
     let whole : text ++ rest ≡ s.0 ++ (s.1 ++ rest) = ap (λ (u : List ℕ). u ++ rest) s.2 ∙ append_assoc s.0 s.1 rest in
     let here : entry.read (s.0 ++ (s.1 ++ rest)) ≡ Some (a, s.1 ++ rest) = E.again a s.0 (s.1 ++ rest) s.3 in
-    let one : counted_at entry close (suc (length xs + n)) (s.0 ++ (s.1 ++ rest)) ≡ with_front (a ∷ []) (counted_at entry close (length xs + n) (s.1 ++ rest)) = rw here refl in
-    ap (counted_at entry close (suc (length xs + n))) whole ∙ (one ∙ (ap (with_front (a ∷ [])) (entries_counted entry close E n xs s.1 rest s.4) ∙ with_front-with_front (a ∷ []) xs (counted_at entry close n rest)))
+    let one : counted_at entry close (suc k) (s.0 ++ (s.1 ++ rest)) ≡ with_front (a ∷ []) (counted_at entry close k (s.1 ++ rest)) = ap (λ (o : Option (A × List ℕ)). table_step {B = B} None o (counted_at entry close k) (s.0 ++ (s.1 ++ rest))) here in
+    (λ i. counted_at entry close (more i) (whole i)) ∙ (one ∙ (ap (with_front (a ∷ [])) (entries_counted entry close E k n xs s.1 rest refl s.4) ∙ with_front-with_front (a ∷ []) xs (counted_at entry close n rest)))
 
 -- what is spelled so is read
 pub counted_again : {A B : Type 0} (entry : Grammar A) (close : Grammar B) → IsExact entry → IsExact close → (n : ℕ) (xs : List A) (b : B) (text rest : List ℕ) → IsCounted entry close n xs b text rest → counted_at entry close n (text ++ rest) ≡ Ok (xs, b, rest)
@@ -60,12 +64,11 @@ counted_again entry close E C n xs b text rest s =
     let t = s.1 in
     let whole : text ++ rest ≡ t.0 ++ (t.1 ++ rest) = ap (λ (u : List ℕ). u ++ rest) t.2 ∙ append_assoc t.0 t.1 rest in
     let last : counted_at entry close zero (t.1 ++ rest) ≡ Ok ([], b, rest) = rw (C.again b t.1 rest t.4) refl in
-    let all : n ≡ length xs + zero = omega (arith, s.0) in
-    (λ i. counted_at entry close (all i) (whole i)) ∙ (entries_counted entry close E zero xs t.0 (t.1 ++ rest) t.3 ∙ (ap (with_front xs) last ∙ ap (λ (zs : List _). Ok (zs, b, rest)) (append-nil xs)))
+    ap (counted_at entry close n) whole ∙ (entries_counted entry close E n zero xs t.0 (t.1 ++ rest) (omega (arith, s.0)) t.3 ∙ (ap (with_front xs) last ∙ ap (λ (zs : List _). Ok (zs, b, rest)) (append-nil xs)))
 
 -- what breaks off is not read
 count_broken_by : {A B : Type 0} (entry : Grammar A) (close : Grammar B) → IsExact entry → (n m : ℕ) (bytes left : List ℕ) (xs : List A) (front : List ℕ) → bytes ≡ front ++ left → Entries entry xs front left → n ≡ length xs + m → counted_at entry close m left ≡ Err left → counted_at entry close n bytes ≡ Err left
-count_broken_by entry close E n m bytes left xs front parts entries all last = (λ i. counted_at entry close (all i) (parts i)) ∙ (entries_counted entry close E m xs front left entries ∙ ap (with_front xs) last)
+count_broken_by entry close E n m bytes left xs front parts entries all last = ap (counted_at entry close n) parts ∙ (entries_counted entry close E n m xs front left all entries ∙ ap (with_front xs) last)
 
 pub count_broken : {A B : Type 0} (entry : Grammar A) (close : Grammar B) → IsExact entry → IsExact close → (n : ℕ) (bytes left : List ℕ) → CountBreaksOff entry close n bytes left → counted_at entry close n bytes ≡ Err left
 unfolding counted_at
@@ -88,14 +91,20 @@ counted_turn entry close n front bytes x total e so_far =
 pub counted_stops : {A B : Type 0} (entry : Grammar A) (close : Grammar B) (n : ℕ) (front : List A) (bytes : List ℕ) (total : Table A B) → entry.read bytes ≡ None
     → with_front front (counted_at entry close (suc n) bytes) ≡ total → total ≡ Err bytes
 unfolding counted_at
-counted_stops entry close n front bytes total e so_far = sym so_far ∙ ap (with_front front) (rw e refl)
+counted_stops entry close n front bytes total e so_far =
+    let one : counted_at entry close (suc n) bytes ≡ Err bytes = rw e refl in
+    sym so_far ∙ ap (with_front front) one
 
 pub counted_closes : {A B : Type 0} (entry : Grammar A) (close : Grammar B) (front : List A) (bytes : List ℕ) (x : B × List ℕ) (total : Table A B) → close.read bytes ≡ Some x
     → with_front front (counted_at entry close zero bytes) ≡ total → total ≡ Ok (front, x.0, x.1)
 unfolding counted_at
-counted_closes entry close front bytes x total c so_far = sym so_far ∙ (ap (with_front front) (rw c refl) ∙ ap (λ (zs : List _). Ok (zs, x.0, x.1)) (append-nil front))
+counted_closes entry close front bytes x total c so_far =
+    let one : counted_at entry close zero bytes ≡ Ok ([], x.0, x.1) = rw c refl in
+    sym so_far ∙ (ap (with_front front) one ∙ ap (λ (zs : List _). Ok (zs, x.0, x.1)) (append-nil front))
 
 pub counted_unclosed : {A B : Type 0} (entry : Grammar A) (close : Grammar B) (front : List A) (bytes : List ℕ) (total : Table A B) → close.read bytes ≡ None
     → with_front front (counted_at entry close zero bytes) ≡ total → total ≡ Err bytes
 unfolding counted_at
-counted_unclosed entry close front bytes total c so_far = sym so_far ∙ ap (with_front front) (rw c refl)
+counted_unclosed entry close front bytes total c so_far =
+    let one : counted_at entry close zero bytes ≡ Err bytes = rw c refl in
+    sym so_far ∙ ap (with_front front) one

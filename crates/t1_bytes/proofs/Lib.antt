@@ -1,6 +1,7 @@
 pub mod Ciphers
 pub mod Grammars
 pub mod Tables
+pub mod Counted
 pub mod Places
 pub mod SegmentLemmas
 pub mod SegmentMoves
