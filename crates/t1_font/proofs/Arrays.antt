@@ -1,6 +1,7 @@
 -- A loop that reads the names of a literal array: what is held so far, and what is left.
 use Rattle.std.proofs.Common.{◌≡◌, ℕ, zero, suc, ◌+◌, ◌-◌, ◌<◌, ◌≤◌, List, [], ◌∷◌, ◌++◌, length, Some, None, Ok, Err, refl, sym, ap, subst, ◌∙◌, arith}
 use Rattle.std.specs.FinMap.{insert}
+use Rattle.std.specs.Ordering.{nat_cmp}
 use Rattle.std.proofs.lemmas.List.{length-append}
 use Rattle.t1_bytes.specs.Grammar.{with_front, counted_at}
 use Rattle.t1_bytes.proofs.Counted.{counted_turn, counted_stops, counted_closes, counted_unclosed}
@@ -27,10 +28,12 @@ module _ (bytes rest : List ℕ) (codes : Numbered) (code : ℕ) (s : NamesSoFar
 
   -- one more name
   pub name_more : (x : List ℕ × List ℕ) (next : Numbered) → code < code_count → next_name.read rest ≡ Some x → next ≡ insert codes code x.0 → NamesSoFar bytes x.1 next (code + 1)
-  name_more x next below e put = record {
+  name_more x next below e put =
+      let placed : from_code 0 (s.names ++ x.0 ∷ []) ≡ from_code 0 s.names ++ (code, x.0) ∷ [] = from_code-push 0 s.names x.0 ∙ ap (λ (k : ℕ). from_code 0 s.names ++ (k, x.0) ∷ []) (omega (arith, s.count)) in
+      record {
     names = s.names ++ x.0 ∷ [];
     count = omega (arith, s.count, length-append s.names (x.0 ∷ []));
-    held = one_code_more (from_code 0 s.names) (code, x.0) codes next put s.held ∙ ap map_of (λ i. from_code 0 s.names ++ (sym s.count i, x.0) ∷ []) ∙ ap map_of (sym (from_code-push 0 s.names x.0));
+    held = one_code_more (from_code 0 s.names) (code, x.0) codes next put s.held ∙ ap (λ (es : List (ℕ × List ℕ)). map_of {R = nat_cmp} es) (sym placed);
     read = subst (λ (k : ℕ). with_front (s.names ++ x.0 ∷ []) (counted_at next_name array_end k x.1) ≡ counted_at next_name array_end code_count bytes) (omega (arith, below))
         (counted_turn next_name array_end (code_count - suc code) s.names rest x _ e (before_one (suc (code_count - suc code)) (omega (arith, below))));
   }

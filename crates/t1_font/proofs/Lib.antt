@@ -9,7 +9,6 @@ pub mod Sourced
 pub mod TableLoops
 pub mod HeldLemmas
 pub mod Arrays
-pub mod TableFaults
 pub mod FontReaders
 pub mod Weights
 pub mod FileParts

@@ -50,7 +50,7 @@ def_ends w text front own rest bytes s e b =
     record { body = front; parts = b ∙ ap (λ (u : List ℕ). u ++ rest) (e ∙ ap (λ (u : List ℕ). front ++ u) def); apart = s.0.2 }
 
 -- the word of an opening
-word_in : Opening → Option (List ℕ)
+abbrev word_in : Opening → Option (List ℕ)
 word_in (Whole w) = Some w
 word_in OpensPuts = None
 word_in OpensNames = None

@@ -2,7 +2,7 @@
 use Rattle.std.specs.Prelude.{ℕ, ◌+◌, ◌-◌, ◌*◌, ◌==◌, ◌&&◌, ◌||◌, not, nat_le, Bool, true, false, List, [], ◌∷◌, ◌++◌, length, codes}
 use Rattle.std.specs.Str.{bytes_eq}
 use Rattle.t1_bytes.specs.Grammar.{Grammar, pure, ◌>>=◌, ◌>>◌, that, run, count, fixed}
-use Rattle.t1_bytes.specs.White.{is_white, gap}
+use Rattle.t1_bytes.specs.White.{white, is_white, gap}
 
 -- ( ) < > [ ] { } / %
 abbrev pub is_delimiter : ℕ → Bool

@@ -347,7 +347,7 @@ fn encoding_from<'a>(
     gathered: &mut Gathered<'a>,
 ) -> Result<(EncodingParts<'a>, &'a [u8]), ReadFault>
     requires { gathered.old.codes ≡ fin.empty }
-    ensures shown { Shown (λ x e. (encoding_view x.0 gathered.new.codes ≡ encoding_value e.0) × (x.1.now ≡ e.1)) result (encoding_from clear.now (opening_view opening) rest.now) }
+    ensures shown { Shown (λ x e. (encoding_view x.0 gathered.new.codes ≡ encoding_value e.0) × (x.1.now ≡ e.1)) result (encoding_from clear.now (opening_view opening.entry) rest.now) }
     ensures others { OnOk result (CodesAlone gathered.old gathered.new) }
 {
     match opening {

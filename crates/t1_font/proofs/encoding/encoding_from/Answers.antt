@@ -1,13 +1,13 @@
-use Rattle.std.proofs.Common.{refl, ap, List, ℕ, Option}
-use Rattle.std.specs.Borrow.{Bor}
-use Rattle.std.specs.Option.{option_map}
+use Rattle.std.proofs.Common.{refl, ap, List, ℕ}
+use Rattle.t1_font.specs.declared.encoding.Opening.{Opening}
+use Rattle.t1_font.specs.Views.{opening_view}
 use Rattle.t1_font.specs.Pieces.{encoding_from, OneWord}
 use Rattle.t1_font.proofs.encoding.encoding_from.Goals as goal
 
-pub returns-in-Some-clause-shown : goal.returns-in-Some-clause-shown
+pub returns-in-Word-clause-shown : goal.returns-in-Word-clause-shown
 unfolding encoding_from
-returns-in-Some-clause-shown c = (
-  (OneWord c.in-Some.word.now, c.args.rest.now),
-  ap (λ (o : Option (Bor (List ℕ))). encoding_from c.args.clear.now (option_map (λ (w : Bor (List ℕ)). w.now) o) c.args.rest.now) c.in-Some.is,
+returns-in-Word-clause-shown c = (
+  (OneWord c.in-Word.word.now, c.args.rest.now),
+  ap (λ (o : Opening). encoding_from c.args.clear.now (opening_view o) c.args.rest.now) c.in-Word.is,
   (refl, refl),
 )
