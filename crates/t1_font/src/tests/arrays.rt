@@ -9,12 +9,13 @@ use std::test::Fail;
 
 /// Tiny's PFA with this text behind its `/Encoding`.
 fn encoded(alloc: Global, encoding: &[u8]) -> Result<Vec<u8>, AllocError> {
-    let Some(end) = PFA.as_slice().find(b"readonly def") else {
+    let tiny: &[u8] = PFA;
+    let Some(end) = tiny.find(b"readonly def") else {
         return Err(AllocError);
     };
-    let mut file = Vec::from_slice(alloc, &PFA[..144])?;
+    let mut file = Vec::from_slice(alloc, &tiny[..144])?;
     file.extend_from_slice(encoding)?;
-    file.extend_from_slice(&PFA[end + 12..])?;
+    file.extend_from_slice(&tiny[end + 12..])?;
     Ok(file)
 }
 
