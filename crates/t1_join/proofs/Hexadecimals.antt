@@ -1,11 +1,14 @@
 -- Digits, and the bytes that they spell.
-use Rattle.std.proofs.Common.{◌≡◌, ◌↔◌, ◌<◌, ◌+◌, ◌*◌, ◌/◌, ◌%◌, ℕ, refl, sym, ◌∙◌, ap, List, [], ◌∷◌, length, map, cond, Bool, true, false, eqb, Option, None, Some, is_some, Result, Ok, Err, nat_le, arith}
+use Rattle.std.proofs.Common.{◌≡◌, ◌↔◌, ◌<◌, ◌+◌, ◌*◌, ◌/◌, ◌%◌, ℕ, refl, sym, ◌∙◌, ap, List, [], ◌∷◌, length, map, cond, Bool, true, false, true≢false, inl, inr, eqb, Option, None, Some, is_some, Result, Ok, Err, nat_le, arith}
 use Rattle.std.specs.Prelude.{unwrap_or, slice_index}
 use Rattle.std.specs.Bool.{IsTrue}
 use Rattle.std.specs.Result.{result_ok, result_unwrap_or}
-use Rattle.std.specs.List.{list_all, AllPass}
-use Rattle.std.proofs.lemmas.Bool.{agree_below_at, eqb-true}
-use Rattle.core.specs.Char.{to_ascii_lowercase}
+use Rattle.std.specs.List.{list_all}
+use Rattle.std.proofs.lemmas.List.Sums.{AllPass-from_list_all, list_all-from_AllPass}
+use Rattle.std.proofs.lemmas.Slice.Eq.{slice_eq-Decides}
+use Rattle.std.proofs.lemmas.Bool.Decides.{Decides-eqb}
+use Rattle.std.proofs.lemmas.Bool.{agree_below_at, eqb-true, cases_Bool}
+use Rattle.std.specs.Char.{to_ascii_lowercase}
 use Rattle.hex.specs.Hex.{IsBytes, lower_digits, encode_with, encode_lower, hex_digit_value, is_hex_digit, digit_or_error, decode_pairs, decode_of, ◌>>=◌}
 use Rattle.hex.specs.declared.error.FromHexError.{FromHexError}
 use Rattle.hex.proofs.HexLemmas.{decode_of-even, decode_of-ok, decode_of-odd, decode_of-digits, decode_of-encode_lower}
@@ -73,19 +76,19 @@ lower_again : (i : ℕ) (s bytes : List ℕ) → decode_pairs i s ≡ Ok bytes �
 unfolding decode_pairs encode_with
 lower_again i [] bytes h = let e : [] ≡ bytes = ok_same [] bytes h in rw (← e) refl
 lower_again i (a ∷ []) bytes h = cc h
-lower_again i (a ∷ b ∷ rest) bytes h = by (hex_digit_value a) (hex_digit_value b) (decode_pairs (i + 2) rest) refl refl refl h
+lower_again i (a ∷ b ∷ rest) bytes h = by (lower_again (i + 2) rest) (hex_digit_value a) (hex_digit_value b) (decode_pairs (i + 2) rest) refl refl refl h
   where
-    by : (x y : Option ℕ) (r : Result (List ℕ) FromHexError) → hex_digit_value a ≡ x → hex_digit_value b ≡ y → decode_pairs (i + 2) rest ≡ r
+    by : ((more : List ℕ) → decode_pairs (i + 2) rest ≡ Ok more → map to_ascii_lowercase rest ≡ encode_lower more) → (x y : Option ℕ) (r : Result (List ℕ) FromHexError) → hex_digit_value a ≡ x → hex_digit_value b ≡ y → decode_pairs (i + 2) rest ≡ r
         → ((digit_or_error a i x >>= λ high. digit_or_error b (i + 1) y >>= λ low. Ok (high * 16 + low)) >>= λ byte. r >>= λ more. Ok (byte ∷ more)) ≡ Ok bytes
         → map to_ascii_lowercase (a ∷ b ∷ rest) ≡ encode_lower bytes
-    by (Some x) (Some y) (Ok more) p q e k =
+    by ih (Some x) (Some y) (Ok more) p q e k =
         let whole : (x * 16 + y) ∷ more ≡ bytes = ok_same _ bytes k in
         let high : (x * 16 + y) / 16 ≡ x = omega (arith, small b y q) in
         let low : (x * 16 + y) % 16 ≡ y = omega (arith, small b y q) in
-        rw (← whole, high, low, digit_again a x p, digit_again b y q, lower_again (i + 2) rest more e) refl
-    by (Some x) (Some y) (Err e) p q r k = cc k
-    by (Some x) None r p q e k = cc k
-    by None y r p q e k = cc k
+        rw (← whole, high, low, digit_again a x p, digit_again b y q, ih more e) refl
+    by ih (Some x) (Some y) (Err e) p q r k = cc k
+    by ih (Some x) None r p q e k = cc k
+    by ih None y r p q e k = cc k
 
 lowered : (d : List ℕ) → SpellsBytes d → map to_ascii_lowercase d ≡ encode_lower (spelled d)
 lowered d h =
@@ -104,3 +107,27 @@ same_spelled a b h k = (
       ok_same (spelled a) (spelled b) (sym (decode_of-encode_lower (spelled a) (spelled_bytes a h)) ∙ (ap decode_of texts ∙ decode_of-encode_lower (spelled b) (spelled_bytes b k))),
   λ same. lowered a h ∙ (ap encode_lower same ∙ sym (lowered b k)),
 )
+
+same_bool : (r s : Bool) → (r ≡ true → s ≡ true) → (s ≡ true → r ≡ true) → r ≡ s
+same_bool true true f g = refl
+same_bool true false f g = sym (f refl)
+same_bool false true f g = g refl
+same_bool false false f g = refl
+
+pub same_result : (a b v w : List ℕ) (r : Bool) → spelled a ≡ v → spelled b ≡ w → SpellsBytes a → SpellsBytes b → (IsTrue r ↔ (map to_ascii_lowercase a ≡ map to_ascii_lowercase b)) → r ≡ same_meaning v w
+same_result a b v w r p q h k t =
+    let d = slice_eq-Decides Decides-eqb v w (same_meaning v w) refl in
+    let s = same_spelled a b h k in
+    same_bool r (same_meaning v w) (λ e. d.1 (sym p ∙ (s.0 (t.0 e) ∙ q))) (λ e. t.1 (s.1 (p ∙ (d.0 e ∙ sym q))))
+
+-- ---- which digits spell
+
+pub digits_spell : (d : List ℕ) → nat_le (length d) 131070 ≡ true → length d % 2 ≡ 0 → is_some (bytes_of d) ≡ list_all is_hex_digit d
+digits_spell d few even = elim (cases_Bool (list_all is_hex_digit d)) [
+  | inl t ↦ let k = decode_of-digits d even (AllPass-from_list_all is_hex_digit d t) in rw (few, k.1, t) refl
+  | inr t ↦ by t (decode_of d) refl
+]
+  where
+    by : list_all is_hex_digit d ≡ false → (r : Result (List ℕ) FromHexError) → decode_of d ≡ r → is_some (bytes_of d) ≡ list_all is_hex_digit d
+    by t (Ok v) e = absurd (true≢false (sym (list_all-from_AllPass is_hex_digit d (decode_of-ok d v e).1) ∙ t))
+    by t (Err x) e = rw (few, e, t) refl

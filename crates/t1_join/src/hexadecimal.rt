@@ -42,7 +42,10 @@ fn are_digits(text: &[u8]) -> bool
 fn spells_bytes(text: &[u8]) -> bool
     ensures { result ≡ is_some (bytes_of text.now) }
 {
-    text.len() <= 131_070 && text.len() % 2 == 0 && are_digits(text)
+    if text.len() > 131_070 || text.len() % 2 != 0 {
+        return false;
+    }
+    are_digits(text)
 }
 
 impl<'a> Hex<'a> {

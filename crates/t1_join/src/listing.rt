@@ -138,7 +138,7 @@ impl<'a> Lines<'a> {
     // Adds what a line says, unless its key is there: then the answer is false.
     fn add(&mut self, line: Line<'a>) -> Result<bool, AllocError>
         requires { IsEntry (line_entry line) }
-        ensures { IfOk result (λ new. MatchBool new (IsAdded self.old (line_entry line) self.new) (IsTrue (has_entry self.old (line_entry line)))) }
+        ensures { IfOk result (λ new. MatchBool new (IsAdded self.old (line_entry line.entry) self.new) (IsTrue (has_entry self.old (line_entry line.entry)))) }
     {
         match line {
             Line::Subr(index, bytes) => self.subrs.add(index, bytes),
@@ -148,7 +148,7 @@ impl<'a> Lines<'a> {
 
     // The listing of the lines.
     fn listing(self, alloc: Global) -> Result<Listing<'a>, AllocError>
-        ensures { IfOk result (λ l. l ≡ self) }
+        ensures { IfOk result (λ l. l ≡ self.entry) }
     {
         let subrs = self.subrs.table(alloc)?;
         let glyphs = self.glyphs.table(alloc)?;
