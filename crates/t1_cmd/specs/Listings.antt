@@ -1,5 +1,5 @@
 -- What the engine of listings answers.
-use Rattle.std.specs.Prelude.{ℕ, ◌≡◌, List, [], ◌∷◌, Result, Ok, Err}
+use Rattle.std.specs.Prelude.{ℕ, ◌≡◌, ◌⊎◌, List, [], ◌∷◌, Result, Ok, Err, IfSome}
 use Rattle.t1_join.specs.declared.listing.ListFault.{ListFault}
 use Rattle.t1_join.specs.declared.listing.ListFault.TheVariants.{BadLine, Repeated, Memory as ListMemory}
 use Rattle.t1_join.specs.declared.listing.JoinFault.{JoinFault}
@@ -9,6 +9,10 @@ use Rattle.t1_join.specs.ListingText.{listing_of, text_of}
 use Rattle.t1_join.specs.ListingJoin.{IsJoined, IsJoinFault}
 use Rattle.t1_cmd.specs.declared.faults.Reason.{Reason}
 use Rattle.t1_cmd.specs.declared.faults.Reason.TheVariants.{Memory, List as ListReason, Join as JoinReason}
+use Rattle.t1_cmd.specs.declared.faults.RunFault.{RunFault}
+use Rattle.t1_cmd.specs.declared.faults.RunFault.TheVariants.{Refused, Read, Write}
+use Rattle.t1_cmd.specs.Inputs.{Input}
+use Rattle.t1_cmd.specs.Runs.{InputStops}
 use Rattle.t1_cmd.specs.Answers.{with_reason, within_limit}
 
 -- a fault of a listing as a reason
@@ -23,12 +27,39 @@ join_reason JoinMemory = Memory
 join_reason (Subr i) = JoinReason (Subr i)
 join_reason (Glyph n) = JoinReason (Glyph n)
 
+-- the bytes of an input, within the limit
+abbrev pub text_input : List ℕ → Result (List ℕ) Reason
+text_input = within_limit Ok
+
+-- the listing that a text spells
+abbrev pub listed : List ℕ → Result ListingMeaning Reason
+listed text = with_reason list_reason (listing_of text)
+
 -- the listing that an input spells, within the limit
 abbrev pub listing_input : List ℕ → Result ListingMeaning Reason
-listing_input = within_limit (λ bytes. with_reason list_reason (listing_of bytes))
+listing_input = within_limit listed
+
+-- what may be answered in place of the listing of a text
+abbrev pub ListRefusal : List ℕ → RunFault → Type 0
+ListRefusal text (Refused Memory) = Unit {0}
+ListRefusal text (Refused r) = listed text ≡ Err r
+ListRefusal text Read = ⊥
+ListRefusal text Write = ⊥
 
 -- two listings are answered with the text of their join, or with their lowest conflict
 abbrev pub JoinsTo : List ListingMeaning → Result (List ℕ) Reason → Type 0
 JoinsTo (left ∷ right ∷ []) (Ok text) = (both : ListingMeaning) × IsJoined left right both × (text ≡ text_of both)
 JoinsTo (left ∷ right ∷ []) (Err r) = (fault : JoinFault) × IsJoinFault left right fault × (r ≡ join_reason fault)
 JoinsTo others answer = ⊥
+
+-- the text of the join of a listing and of that of an input
+abbrev pub JoinsRead : Input → ListingMeaning → List ℕ → Type 0
+JoinsRead i left text = (right : ListingMeaning) × IfSome i.known (λ bytes. listing_input bytes ≡ Ok right) × JoinsTo (left ∷ right ∷ []) (Ok text)
+
+-- both are refused together
+abbrev pub RefusedWith : Input → ListingMeaning → RunFault → Type 0
+RefusedWith i left e = (right : ListingMeaning) × IfSome i.known (λ bytes. listing_input bytes ≡ Ok right) × (r : Reason) × JoinsTo (left ∷ right ∷ []) (Err r) × (e ≡ Refused r)
+
+-- why it is not answered: the input stops, or both are refused together
+abbrev pub StopsRead : Input → ListingMeaning → RunFault → Type 0
+StopsRead i left e = InputStops listing_input i e ⊎ RefusedWith i left e

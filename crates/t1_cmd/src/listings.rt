@@ -6,7 +6,7 @@ ghost use Rattle.t1_cmd.specs.Count.{calls_of, inner_of};
 ghost use Rattle.t1_cmd.specs.Inputs.{input_of};
 ghost use Rattle.t1_bytes.specs.Limits.{file_limit};
 ghost use Rattle.t1_cmd.specs.Runs.{InputEnds, RunEnds, Succeeds};
-ghost use Rattle.t1_cmd.specs.Listings.{list_reason, join_reason, listing_input, JoinsTo};
+ghost use Rattle.t1_cmd.specs.Listings.{list_reason, join_reason, text_input, listed, listing_input, ListRefusal, JoinsTo, JoinsRead, StopsRead};
 
 use crate::counting::Counted;
 use crate::faults::{Reason, RunFault};
@@ -35,16 +35,24 @@ fn refused_join(fault: JoinFault) -> RunFault
     }
 }
 
-fn read_listing<R: Read>(alloc: Global, reader: &mut Counted<R>) -> Result<Listing, RunFault>
-    ensures ends { InputEnds listing_input (λ l. l) (input_of R.remaining reader.old reader.new) result }
+// The whole text of a reader.
+fn read_text<R: Read>(alloc: Global, reader: &mut Counted<R>) -> Result<Vec<u8>, RunFault>
+    ensures ends { InputEnds text_input (λ v. v.items) (input_of R.remaining reader.old reader.new) result }
     ensures turns { calls_of reader.new ≤ calls_of reader.old + (file_limit + 1) }
 {
-    let bytes = read_all(alloc, reader, FILE_LIMIT)?;
-    listing::read(alloc, bytes.as_slice()).map_err(refused_list)
+    read_all(alloc, reader, FILE_LIMIT)
+}
+
+// The listing that a text spells.
+fn listed(alloc: Global, text: &[u8]) -> Result<Listing<'_>, RunFault>
+    ensures listing { IfOk result (λ l. listed text.now ≡ Ok l) }
+    ensures refused { IfErr result (ListRefusal text.now) }
+{
+    listing::read(alloc, text).map_err(refused_list)
 }
 
 // The text of the join of two listings.
-fn joined_text(alloc: Global, left: &Listing, right: &Listing) -> Result<Vec<u8>, RunFault>
+fn joined_text<'a>(alloc: Global, left: &Listing<'a>, right: &Listing<'a>) -> Result<Vec<u8>, RunFault>
     ensures text { IfOk result (λ text. JoinsTo (left.now ∷ right.now ∷ []) (Ok text.items)) }
     ensures refused { IfErr result (λ e. (fault : JoinFault) × (IsJoinFault left.now right.now fault × (e ≡ RunFault.Refused (join_reason fault)))) }
 {
@@ -55,6 +63,17 @@ fn joined_text(alloc: Global, left: &Listing, right: &Listing) -> Result<Vec<u8>
         Ok(text) => Ok(text),
         Err(_) => Err(refused_join(JoinFault::Memory)),
     }
+}
+
+// The text of the join of a listing and of that of a reader.
+fn joined_with<S: Read>(alloc: Global, left: &Listing<'_>, second: &mut Counted<S>) -> Result<Vec<u8>, RunFault>
+    ensures text { IfOk result (λ text. JoinsRead (input_of S.remaining second.old second.new) left.now text.items) }
+    ensures refused { IfErr result (StopsRead (input_of S.remaining second.old second.new) left.now) }
+    ensures turns { calls_of second.new ≤ calls_of second.old + (file_limit + 1) }
+{
+    let text = read_text(alloc, second)?;
+    let right = listed(alloc, text.as_slice())?;
+    joined_text(alloc, left, &right)
 }
 
 /// Writes the text of the join of two listings.
@@ -76,17 +95,8 @@ pub fn run_join<R: Read, S: Read, W: Write>(
     ensures first_turns { calls_of first.new ≤ calls_of first.old + (file_limit + 1) }
     ensures second_turns { calls_of second.new ≤ calls_of second.old + (file_limit + 1) }
 {
-    let left = read_listing(alloc, first)?;
-    let right = match read_listing(alloc, second) {
-        Ok(right) => right,
-        Err(fault) => {
-            drop(left);
-            return Err(fault);
-        }
-    };
-    let text = joined_text(alloc, &left, &right);
-    drop(left);
-    drop(right);
-    let text = text?;
-    write_text(writer, text.as_slice())
+    let text = read_text(alloc, first)?;
+    let left = listed(alloc, text.as_slice())?;
+    let both = joined_with(alloc, &left, second)?;
+    write_text(writer, both.as_slice())
 }

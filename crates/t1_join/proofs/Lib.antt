@@ -7,6 +7,7 @@ pub mod Rows
 pub mod SplitLemmas
 pub mod ReadLemmas
 pub mod ListingLemmas
+pub mod Hexadecimals
 pub mod LineTexts
 pub mod WrittenLemmas
 pub mod ConflictLemmas

@@ -9,8 +9,8 @@ use Rattle.t1_join.specs.declared.lines.Line.TheVariants.{Subr, Glyph}
 use Rattle.t1_join.specs.ListingText.{Entry, subr, glyph, with_entry}
 
 abbrev pub line_entry : Line → Entry
-line_entry (Subr i v) = subr i v.items
-line_entry (Glyph n v) = glyph n.items v.items
+line_entry (Subr i v) = subr i v
+line_entry (Glyph n v) = glyph n.now v
 
 -- the entry has an index or a name, and a value
 abbrev pub IsEntry : Entry → Type 0

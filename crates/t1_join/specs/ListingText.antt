@@ -1,5 +1,5 @@
 -- The text of a listing: lines `S INDEX HEX` and `G NAME HEX`, each ended by a line feed.
-use Rattle.std.specs.Prelude.{ℕ, ◌+◌, ◌-◌, ◌*◌, ◌==◌, ◌&&◌, not, nat_le, Bool, false, if◌then◌else◌, cond, List, [], ◌∷◌, ◌++◌, length, Option, Some, None, Result, Ok, Err, option_and_then, flat_map, slice_index}
+use Rattle.std.specs.Prelude.{ℕ, ◌+◌, ◌-◌, ◌*◌, ◌==◌, ◌&&◌, not, nat_le, Bool, false, if◌then◌else◌, cond, List, [], ◌∷◌, ◌++◌, length, Option, Some, None, unwrap_or, Result, Ok, Err, option_and_then, flat_map, slice_index}
 use Rattle.std.specs.Option.{option_map}
 use Rattle.std.specs.Result.{result_ok}
 use Rattle.std.specs.Ordering.{eq_by_cmp}
@@ -43,6 +43,10 @@ name_of word = cond (is_name word) (Some word) None
 -- pairs of hexadecimal digits, at most 131,070 digits
 abbrev pub bytes_of : List ℕ → Option (List ℕ)
 bytes_of hex = cond (nat_le (length hex) 131070) (result_ok (decode_of hex)) None
+
+-- the bytes that digits spell, where they do
+abbrev pub spelled : List ℕ → List ℕ
+spelled hex = unwrap_or (bytes_of hex) []
 
 abbrev pub subr_of : List ℕ × List ℕ → Option Entry
 subr_of p = option_and_then (λ i. option_map (subr i) (bytes_of p.1)) (index_of p.0)

@@ -47,7 +47,7 @@ pub fn listings_join_alike()
 {}
 
 /// The text that a listing is written as reads as that listing.
-pub fn reads_what_is_written(listing: &Listing)
+pub fn reads_what_is_written(listing: &Listing<'_>)
     ensures { listing_of (text_of listing.now) ≡ Ok listing.now }
 {
     listing.holds_what_lines_spell();

@@ -1,19 +1,18 @@
 // The lines of a listing's text.
-ghost use Rattle.std.specs.Prelude.{◌≡◌, ◌==◌, ◌≤◌, length, IfOk, position, option_and_then, not};
+ghost use Rattle.std.specs.Prelude.{◌≡◌, ◌==◌, ◌≤◌, length, position, option_and_then, not};
 ghost use Rattle.std.specs.List.{list_all};
 ghost use Rattle.std.specs.Option.{option_map};
 ghost use Rattle.t1_join.specs.ListingMeaning.{ends_name, is_name};
-ghost use Rattle.t1_join.specs.ListingText.{split_at, index_of, bytes_of, subr_of, glyph_of, entry_of};
+ghost use Rattle.t1_join.specs.ListingText.{split_at, index_of, subr_of, glyph_of, entry_of};
 ghost use Rattle.t1_join.specs.LineMeaning.{line_entry, slice_pair};
 
-use hex::FromHexError;
-use std::alloc::{AllocError, Global};
+use crate::hexadecimal::Hex;
 
 /// What a line says.
 #[derive(Drop)]
-pub enum Line {
-    Subr(u16, Vec<u8>),
-    Glyph(Vec<u8>, Vec<u8>),
+pub enum Line<'a> {
+    Subr(u16, Hex<'a>),
+    Glyph(&'a [u8], Hex<'a>),
 }
 
 fn find(text: &[u8], byte: u8) -> Option<usize>
@@ -86,67 +85,40 @@ fn may_name(word: &[u8]) -> bool
     has_no_end(word)
 }
 
-fn bytes(alloc: Global, hex: &[u8]) -> Result<Option<Vec<u8>>, AllocError>
-    ensures { IfOk result (λ o. option_map (λ v. v.items) o ≡ bytes_of hex.now) }
-{
-    if hex.len() > 131070 {
-        return Ok(None);
-    }
-    match hex::decode(alloc, hex) {
-        Ok(bytes) => Ok(Some(bytes)),
-        Err(FromHexError::OutOfMemory) => Err(AllocError),
-        Err(_) => Ok(None),
-    }
-}
-
 /// What a line says, without its line feed.
-pub fn read_line(alloc: Global, line: &[u8]) -> Result<Option<Line>, AllocError>
-    ensures { IfOk result (λ o. option_map line_entry o ≡ entry_of line.now) }
+pub fn read_line(line: &[u8]) -> Option<Line<'_>>
+    ensures { option_map line_entry result ≡ entry_of line.now }
 {
-    let Some((kind, after)) = line.split_first() else {
-        return Ok(None);
-    };
-    let Some((blank, rest)) = after.split_first() else {
-        return Ok(None);
-    };
+    let (kind, after) = line.split_first()?;
+    let (blank, rest) = after.split_first()?;
     if *blank != b' ' {
-        return Ok(None);
+        return None;
     }
     if *kind == b'S' {
-        subr(alloc, rest)
+        subr(rest)
     } else if *kind == b'G' {
-        glyph(alloc, rest)
+        glyph(rest)
     } else {
-        Ok(None)
+        None
     }
 }
 
-fn subr(alloc: Global, rest: &[u8]) -> Result<Option<Line>, AllocError>
-    ensures { IfOk result (λ o. option_map line_entry o ≡ option_and_then subr_of (split_at 32 rest.now)) }
+fn subr(rest: &[u8]) -> Option<Line<'_>>
+    ensures { option_map line_entry result ≡ option_and_then subr_of (split_at 32 rest.now) }
 {
-    let Some((word, hex)) = split_at_byte(rest, b' ') else {
-        return Ok(None);
-    };
-    let Some(index) = index(word) else {
-        return Ok(None);
-    };
-    match bytes(alloc, hex)? {
-        Some(bytes) => Ok(Some(Line::Subr(index, bytes))),
-        None => Ok(None),
-    }
+    let (word, digits) = split_at_byte(rest, b' ')?;
+    let index = index(word)?;
+    let bytes = Hex::read(digits)?;
+    Some(Line::Subr(index, bytes))
 }
 
-fn glyph(alloc: Global, rest: &[u8]) -> Result<Option<Line>, AllocError>
-    ensures { IfOk result (λ o. option_map line_entry o ≡ option_and_then glyph_of (split_at 32 rest.now)) }
+fn glyph(rest: &[u8]) -> Option<Line<'_>>
+    ensures { option_map line_entry result ≡ option_and_then glyph_of (split_at 32 rest.now) }
 {
-    let Some((word, hex)) = split_at_byte(rest, b' ') else {
-        return Ok(None);
-    };
+    let (word, digits) = split_at_byte(rest, b' ')?;
     if !may_name(word) {
-        return Ok(None);
+        return None;
     }
-    match bytes(alloc, hex)? {
-        Some(bytes) => Ok(Some(Line::Glyph(word.to_vec(alloc)?, bytes))),
-        None => Ok(None),
-    }
+    let bytes = Hex::read(digits)?;
+    Some(Line::Glyph(word, bytes))
 }

@@ -9,24 +9,24 @@ ghost use Rattle.t1_join.specs.Meaning.{of_number};
 ghost use Rattle.t1_join.specs.LineMeaning.{line_entry, has_entry, IsEntry, IsAdded};
 
 use crate::gathered::Gathered;
-use crate::keys::Kept;
+use crate::hexadecimal::Hex;
 use crate::lines::{Line, read_line, split_at_byte};
 use crate::partial::Join;
 use crate::tables::Table;
 use std::alloc::{AllocError, Global};
 use std::marker::Model;
 
-/// The Subrs of a font by index and its glyphs by name, each with its bytes.
+/// The Subrs of a font by index and its glyphs by name, each with its bytes, all lent by the text that spells them.
 ///
 /// A listing holds only what a text can spell: indices of at most 65,534, names by the rule of Type 1
 /// programs with at most 127 bytes, and at most 65,535 bytes at each.
 #[derive(Drop)]
-pub struct Listing {
-    subrs: Table<u16, Vec<u8>>,
-    glyphs: Table<Vec<u8>, Vec<u8>>,
+pub struct Listing<'a> {
+    subrs: Table<u16, Hex<'a>>,
+    glyphs: Table<&'a [u8], Hex<'a>>,
 }
 
-impl Model for Listing {
+impl<'a> Model for Listing<'a> {
     ghost use Rattle.t1_join.specs.ListingMeaning.{ListingMeaning, listing_code, IsListing};
 
     ghost Value = { ListingMeaning };
@@ -82,16 +82,16 @@ impl From<AllocError> for JoinFault {
     }
 }
 
-impl Listing {
+impl<'a> Listing<'a> {
     /// The Subrs, by index.
-    pub fn subrs(&self) -> &Table<u16, Vec<u8>>
+    pub fn subrs(&self) -> &Table<u16, Hex<'a>>
         ensures { result.now ≡ self.now.subrs }
     {
         &self.subrs
     }
 
     /// The glyphs, by name.
-    pub fn glyphs(&self) -> &Table<Vec<u8>, Vec<u8>>
+    pub fn glyphs(&self) -> &Table<&'a [u8], Hex<'a>>
         ensures { result.now ≡ self.now.glyphs }
     {
         &self.glyphs
@@ -107,12 +107,12 @@ impl Listing {
 
 // The entries of the lines that were read.
 #[derive(Drop)]
-struct Lines {
-    subrs: Gathered<u16, Vec<u8>>,
-    glyphs: Gathered<Vec<u8>, Vec<u8>>,
+struct Lines<'a> {
+    subrs: Gathered<u16, Hex<'a>>,
+    glyphs: Gathered<&'a [u8], Hex<'a>>,
 }
 
-impl Model for Lines {
+impl<'a> Model for Lines<'a> {
     ghost use Rattle.t1_join.specs.ListingMeaning.{ListingMeaning, listing_code, IsListing};
 
     ghost Value = { ListingMeaning };
@@ -124,9 +124,9 @@ impl Model for Lines {
     ghost invariant = { λ l. IsListing (record { subrs = l.subrs; glyphs = l.glyphs }) };
 }
 
-impl Lines {
+impl<'a> Lines<'a> {
     // No line.
-    fn new(alloc: Global) -> Lines
+    fn new(alloc: Global) -> Lines<'a>
         ensures { result ≡ record { subrs = fin.empty; glyphs = fin.empty } }
     {
         Lines {
@@ -136,9 +136,9 @@ impl Lines {
     }
 
     // Adds what a line says, unless its key is there: then the answer is false.
-    fn add(&mut self, line: Line) -> Result<bool, AllocError>
+    fn add(&mut self, line: Line<'a>) -> Result<bool, AllocError>
         requires { IsEntry (line_entry line) }
-        ensures { IfOk result (λ new. MatchBool new (IsAdded self.old (line_entry line) self.new) (IsTrue (has_entry self.old (line_entry line)))) }
+        ensures { IfOk result (λ new. MatchBool new (IsAdded self.old (line_entry line.entry) self.new) (IsTrue (has_entry self.old (line_entry line.entry)))) }
     {
         match line {
             Line::Subr(index, bytes) => self.subrs.add(index, bytes),
@@ -147,8 +147,8 @@ impl Lines {
     }
 
     // The listing of the lines.
-    fn listing(self, alloc: Global) -> Result<Listing, AllocError>
-        ensures { IfOk result (λ l. l ≡ self) }
+    fn listing(self, alloc: Global) -> Result<Listing<'a>, AllocError>
+        ensures { IfOk result (λ l. l ≡ self.entry) }
     {
         let subrs = self.subrs.table(alloc)?;
         let glyphs = self.glyphs.table(alloc)?;
@@ -160,14 +160,14 @@ impl Lines {
 ///
 /// Each line is `S INDEX HEX` or `G NAME HEX` and a line feed; HEX is pairs of hexadecimal digits of
 /// either case, and may be empty.
-pub fn read(alloc: Global, text: &[u8]) -> Result<Listing, ListFault>
+pub fn read(alloc: Global, text: &[u8]) -> Result<Listing<'_>, ListFault>
     ensures { MatchResult result (λ l. listing_of text.now ≡ Ok l) (λ e. (e ≡ ListFault.Memory) ⊎ (listing_of text.now ≡ Err e)) }
 {
     let mut lines = Lines::new(alloc);
     let mut rest = text;
     let mut line = 1usize;
     while let Some((front, back)) = split_at_byte(rest, b'\n') {
-        let Some(entry) = read_line(alloc, front)? else {
+        let Some(entry) = read_line(front) else {
             return Err(ListFault::BadLine { line });
         };
         if !lines.add(entry)? {
@@ -184,12 +184,13 @@ pub fn read(alloc: Global, text: &[u8]) -> Result<Listing, ListFault>
 }
 
 // The blank, the digits and the line feed that end a line.
-fn add_bytes(alloc: Global, out: &mut Vec<u8>, bytes: &[u8]) -> Result<(), AllocError>
+fn add_bytes(alloc: Global, out: &mut Vec<u8>, bytes: &Hex<'_>) -> Result<(), AllocError>
     ensures { OnOk result (out.new.items ≡ out.old.items ++ 32 ∷ (encode_lower bytes.now ++ 10 ∷ [])) }
 {
-    let hex = hex::encode(alloc, bytes)?;
+    let bytes = bytes.bytes(alloc)?;
+    let digits = hex::encode(alloc, bytes.as_slice())?;
     out.push(b' ')?;
-    out.extend_from_slice(hex.as_bytes())?;
+    out.extend_from_slice(digits.as_bytes())?;
     out.push(b'\n')?;
     Ok(())
 }
@@ -198,7 +199,7 @@ fn add_subr_line(
     alloc: Global,
     out: &mut Vec<u8>,
     index: u16,
-    bytes: &[u8],
+    bytes: &Hex<'_>,
 ) -> Result<(), AllocError>
     ensures { OnOk result (out.new.items ≡ out.old.items ++ subr_line (of_number index, bytes.now)) }
 {
@@ -212,7 +213,7 @@ fn add_glyph_line(
     alloc: Global,
     out: &mut Vec<u8>,
     name: &[u8],
-    bytes: &[u8],
+    bytes: &Hex<'_>,
 ) -> Result<(), AllocError>
     ensures { OnOk result (out.new.items ≡ out.old.items ++ glyph_line (name.now, bytes.now)) }
 {
@@ -223,7 +224,7 @@ fn add_glyph_line(
 
 /// The text of a listing: the Subrs upwards by index, then the glyphs upwards by the bytes of their names,
 /// in lower-case hexadecimal. It reads as the same listing (`laws::reads_what_is_written`).
-pub fn write(alloc: Global, listing: &Listing) -> Result<Vec<u8>, AllocError>
+pub fn write(alloc: Global, listing: &Listing<'_>) -> Result<Vec<u8>, AllocError>
     ensures { IfOk result (λ text. text.items ≡ text_of listing.now) }
 {
     let mut out = Vec::new(alloc);
@@ -238,14 +239,18 @@ pub fn write(alloc: Global, listing: &Listing) -> Result<Vec<u8>, AllocError>
 
 /// The listing with the entries of both, or the smallest key in conflict, Subrs before glyphs.
 /// Both orders give one answer (`laws::listings_join_alike`).
-pub fn join(alloc: Global, left: &Listing, right: &Listing) -> Result<Listing, JoinFault>
+pub fn join<'a>(
+    alloc: Global,
+    left: &Listing<'a>,
+    right: &Listing<'a>,
+) -> Result<Listing<'a>, JoinFault>
     ensures { MatchResult result (IsJoined left.now right.now) (IsJoinFault left.now right.now) }
 {
     if let Some(index) = left.subrs.conflict(&right.subrs) {
         return Err(JoinFault::Subr { index: *index });
     }
     if let Some(name) = left.glyphs.conflict(&right.glyphs) {
-        let name = name.copy(alloc)?;
+        let name = name.to_vec(alloc)?;
         return Err(JoinFault::Glyph { name });
     }
     let subrs = left.subrs.join(alloc, &right.subrs)?;

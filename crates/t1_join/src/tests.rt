@@ -222,7 +222,7 @@ fn join_so(alloc: Global, left: &[u8], right: &[u8], want: Want<'_>) -> bool {
     }
 }
 
-fn listings_join_so(alloc: Global, left: &Listing, right: &Listing, want: Want<'_>) -> bool {
+fn listings_join_so(alloc: Global, left: &Listing<'_>, right: &Listing<'_>, want: Want<'_>) -> bool {
     match (listing::join(alloc, left, right), want) {
         (Ok(both), Want::Text(text)) => is_written_so(alloc, &both, text),
         (Err(JoinFault::Subr { index }), Want::Subr(key)) => index == key,
@@ -231,7 +231,7 @@ fn listings_join_so(alloc: Global, left: &Listing, right: &Listing, want: Want<'
     }
 }
 
-fn is_written_so(alloc: Global, listing: &Listing, text: &[u8]) -> bool {
+fn is_written_so(alloc: Global, listing: &Listing<'_>, text: &[u8]) -> bool {
     match listing::write(alloc, listing) {
         Ok(written) => written.as_slice() == text,
         Err(_) => false,
@@ -418,7 +418,7 @@ fn reads_many_lines(rt: HostRuntime) -> Result<(), Fail> {
 }
 
 // The listing that a text spells; want of memory is no answer, and any other fault is a wrong one.
-fn listing_of(alloc: Global, text: &[u8]) -> Result<Option<Listing>, AllocError> {
+fn listing_of(alloc: Global, text: &[u8]) -> Result<Option<Listing<'_>>, AllocError> {
     match listing::read(alloc, text) {
         Ok(listing) => Ok(Some(listing)),
         Err(ListFault::Memory) => Err(AllocError),
@@ -429,8 +429,8 @@ fn listing_of(alloc: Global, text: &[u8]) -> Result<Option<Listing>, AllocError>
 // Whether two listings join to what is written as this text.
 fn is_written_as(
     alloc: Global,
-    left: &Listing,
-    right: &Listing,
+    left: &Listing<'_>,
+    right: &Listing<'_>,
     text: &[u8],
 ) -> Result<bool, AllocError> {
     match listing::join(alloc, left, right) {

@@ -5,20 +5,20 @@ use Rattle.t1_join.proofs.ListingLemmas.{entry_fits}
 use Rattle.t1_join.proofs.ReadLemmas.{bad_line, repeated, next, back_shorter, no_line_feed}
 use Rattle.t1_join.proofs.listing.read.Goals as goal
 
-pub returns-in_default-2 : goal.returns-in_default-2
-returns-in_default-2 c = inr (bad_line _ _ _ _ c.loop-front.invariant _ _ (sym c.in-Some.ensures) (sym c.in_ok-entry.ensures ∙ ap (option_map line_entry) c.in_default-2.is))
+pub returns-in_default-read_line : goal.returns-in_default-read_line
+returns-in_default-read_line c = inr (bad_line _ _ _ _ c.loop-front.invariant _ _ (sym c.in-Some.ensures) (sym c.in_default-read_line.ensures))
 
 pub returns-then-not-branch : goal.returns-then-not-branch
-returns-then-not-branch c = inr (repeated _ _ _ _ c.loop-front.invariant _ _ (sym c.in-Some.ensures) (line_entry c.in-Some-2.entry) (sym c.in_ok-entry.ensures ∙ ap (option_map line_entry) c.in-Some-2.is) (rw c.if-not-branch.true at c.in_ok-add.ensures))
+returns-then-not-branch c = inr (repeated _ _ _ _ c.loop-front.invariant _ _ (sym c.in-Some.ensures) (line_entry c.in-Some-read_line.entry) (sym c.in-Some-read_line.ensures) (rw c.if-not-branch.true at c.in_ok-add.ensures))
 
 pub loop-front-smaller : goal.loop-front-smaller
 loop-front-smaller c = omega (arith, back_shorter _ _ _ _ c.loop-front.invariant _ _ (sym c.in-Some.ensures))
 
 pub loop-front-preserved : goal.loop-front-preserved
-loop-front-preserved c = next _ _ _ _ c.loop-front.invariant _ _ (sym c.in-Some.ensures) (line_entry c.in-Some-2.entry) _ (sym c.in_ok-entry.ensures ∙ ap (option_map line_entry) c.in-Some-2.is) (rw c.if-not-branch.false at c.in_ok-add.ensures).absent (rw c.if-not-branch.false at c.in_ok-add.ensures).new_entry
+loop-front-preserved c = next _ _ _ _ c.loop-front.invariant _ _ (sym c.in-Some.ensures) (line_entry c.in-Some-read_line.entry) _ (sym c.in-Some-read_line.ensures) (rw c.if-not-branch.false at c.in_ok-add.ensures).absent (rw c.if-not-branch.false at c.in_ok-add.ensures).new_entry
 
-pub returns-else-is_empty : goal.returns-else-is_empty
-returns-else-is_empty c = inr (no_line_feed _ _ _ _ c.loop-front.invariant (sym c.in_default.ensures) (λ e. true≢false (sym (ap (λ n. n == 0) e) ∙ sym c.is_empty.ensures ∙ c.if-is_empty.false)))
+pub returns : goal.returns
+returns c = inr (no_line_feed _ _ _ _ c.loop-front.invariant (sym c.in_default.ensures) (λ e. true≢false (sym (ap (λ n. n == 0) e) ∙ sym c.is_empty.ensures ∙ c.if-is_empty.false)))
 
 pub add-requires : goal.add-requires
-add-requires c = entry_fits c.in-Some.front.now (line_entry c.in-Some-2.entry) (sym c.in_ok-entry.ensures ∙ ap (option_map line_entry) c.in-Some-2.is)
+add-requires c = entry_fits c.in-Some.front.now (line_entry c.in-Some-read_line.entry) (sym c.in-Some-read_line.ensures)

@@ -1,0 +1,86 @@
+// Bytes as they stand in the text of a listing.
+ghost use Rattle.std.specs.Prelude.{◌≡◌, IfOk, is_some, Some, None, if◌then◌else◌};
+ghost use Rattle.std.specs.List.{list_all};
+ghost use Rattle.std.specs.Option.{option_map};
+ghost use Rattle.hex.specs.Hex.{is_hex_digit};
+ghost use Rattle.t1_join.specs.ListingText.{bytes_of};
+
+use crate::keys::Kept;
+use std::alloc::{AllocError, Global};
+use std::marker::Model;
+
+/// Bytes by the hexadecimal digits that spell them in a text, which is lent: two digits of either case for each byte, at
+/// most 65,535 bytes.
+#[derive(Drop)]
+pub struct Hex<'a> {
+    digits: &'a [u8],
+}
+
+impl<'a> Model for Hex<'a> {
+    ghost use Rattle.std.specs.Prelude.{◌≡◌, is_some, true};
+    ghost use Rattle.t1_join.specs.Meaning.{Meaning};
+    ghost use Rattle.t1_join.specs.TableMeaning.{meaning_code};
+    ghost use Rattle.t1_join.specs.ListingText.{bytes_of, spelled};
+
+    ghost Value = { Meaning };
+
+    ghost coded = { meaning_code };
+
+    ghost view = { λ h. spelled h.digits.now };
+
+    ghost invariant = { λ h. is_some (bytes_of h.digits.now) ≡ true };
+}
+
+// Whether each byte is a hexadecimal digit.
+fn are_digits(text: &[u8]) -> bool
+    ensures { result ≡ list_all is_hex_digit text.now }
+{
+    text.iter().all(|digit| digit.is_ascii_hexdigit())
+}
+
+// Whether the text is pairs of digits, and few enough.
+fn spells_bytes(text: &[u8]) -> bool
+    ensures { result ≡ is_some (bytes_of text.now) }
+{
+    if text.len() > 131_070 || text.len() % 2 != 0 {
+        return false;
+    }
+    are_digits(text)
+}
+
+impl<'a> Hex<'a> {
+    /// The bytes that a text spells.
+    pub fn read(text: &'a [u8]) -> Option<Hex<'a>>
+        ensures { result ≡ bytes_of text.now }
+    {
+        if spells_bytes(text) {
+            Some(Hex { digits: text })
+        } else {
+            None
+        }
+    }
+
+    /// The bytes themselves.
+    pub fn bytes(&self, alloc: Global) -> Result<Vec<u8>, AllocError>
+        ensures { IfOk result (λ v. v.items ≡ self.now) }
+    {
+        match hex::decode(alloc, self.digits) {
+            Ok(bytes) => Ok(bytes),
+            Err(_) => Err(AllocError),
+        }
+    }
+}
+
+impl<'a> Kept for Hex<'a> {
+    ghost meaning = { λ h. h };
+
+    fn same(&self, other: &Hex<'a>) -> bool {
+        self.digits.eq_ignore_ascii_case(other.digits)
+    }
+
+    fn copy(&self, _alloc: Global) -> Result<Hex<'a>, AllocError> {
+        Ok(Hex {
+            digits: self.digits,
+        })
+    }
+}
