@@ -5,5 +5,6 @@ pub mod ReaderLoops
 pub mod MergeLemmas
 pub mod WrittenSubsets
 pub mod JoinLemmas
+pub mod ListInputs
 pub mod FontLemmas
 pub mod Walks

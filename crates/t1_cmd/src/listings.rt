@@ -1,11 +1,11 @@
 //! The engine that joins two listings.
-ghost use Rattle.std.specs.Prelude.{◌≡◌, ◌+◌, ◌≤◌, [], ◌∷◌, IfOk, IfErr};
+ghost use Rattle.std.specs.Prelude.{◌≡◌, ◌+◌, ◌≤◌, [], ◌∷◌, Ok, IfOk, IfErr, IfSome};
 ghost use Rattle.t1_join.specs.ListingJoin.{IsJoined, IsJoinFault};
 ghost use Rattle.t1_join.specs.ListingText.{text_of};
 ghost use Rattle.t1_cmd.specs.Count.{calls_of, inner_of};
 ghost use Rattle.t1_cmd.specs.Inputs.{input_of};
 ghost use Rattle.t1_bytes.specs.Limits.{file_limit};
-ghost use Rattle.t1_cmd.specs.Runs.{InputEnds, RunEnds, Succeeds};
+ghost use Rattle.t1_cmd.specs.Runs.{InputStops, RunEnds, Succeeds};
 ghost use Rattle.t1_cmd.specs.Listings.{list_reason, join_reason, text_input, listed, listing_input, ListRefusal, JoinsTo, JoinsRead, StopsRead};
 
 use crate::counting::Counted;
@@ -37,7 +37,8 @@ fn refused_join(fault: JoinFault) -> RunFault
 
 // The whole text of a reader.
 fn read_text<R: Read>(alloc: Global, reader: &mut Counted<R>) -> Result<Vec<u8>, RunFault>
-    ensures ends { InputEnds text_input (λ v. v.items) (input_of R.remaining reader.old reader.new) result }
+    ensures text { IfOk result (λ v. IfSome (R.remaining (inner_of reader.old)) (λ bytes. text_input bytes ≡ Ok v.items)) }
+    ensures refused { IfErr result (InputStops listing_input (input_of R.remaining reader.old reader.new)) }
     ensures turns { calls_of reader.new ≤ calls_of reader.old + (file_limit + 1) }
 {
     read_all(alloc, reader, FILE_LIMIT)
