@@ -53,7 +53,7 @@ fn listed(alloc: Global, text: &[u8]) -> Result<Listing<'_>, RunFault>
 }
 
 // The text of the join of two listings.
-fn joined_text<'a>(alloc: Global, left: &Listing<'a>, right: &Listing<'a>) -> Result<Vec<u8>, RunFault>
+fn joined_text(alloc: Global, left: &Listing<'_>, right: &Listing<'_>) -> Result<Vec<u8>, RunFault>
     ensures text { IfOk result (λ text. JoinsTo (left.now ∷ right.now ∷ []) (Ok text.items)) }
     ensures refused { IfErr result (λ e. (fault : JoinFault) × (IsJoinFault left.now right.now fault × (e ≡ RunFault.Refused (join_reason fault)))) }
 {
