@@ -37,12 +37,12 @@ pub record Spent (hints : Hints) (t : Token) (m m' : Machine) (on : Flow) : Type
   pub within : (marks : List Mark) → IsWithinLimits (state_of m marks) → Keeps (m.allowed - 1) (step_of on (state_of m' marks))
 
 -- before the first turn
-pub at_start : (subrs : Subrs) (hints : Hints) (c old : List ℕ) (keeps : Bool) (kept : List Mark) (top : Frame) (m : Machine) → state_of m [] ≡ start → frame_left top ≡ tokens c → kept ≡ [] → Between subrs hints c old keeps true kept ([] ++ top ∷ []) m old
-at_start subrs hints c old keeps kept top m new all none = record {
+pub at_start : (subrs : Subrs) (hints : Hints) (c old : List ℕ) (keeps : Bool) (kept : List Mark) (frames : List Frame) (top : Frame) (m : Machine) → frames ≡ [] ++ top ∷ [] → state_of m [] ≡ start → frame_left top ≡ tokens c → kept ≡ [] → Between subrs hints c old keeps true kept frames m old
+at_start subrs hints c old keeps kept frames top m first new all none = record {
   marks = [];
   all_kept = λ _. none;
-  turns = subst (λ s. Turns (run_glyph subrs hints c) old subrs hints ([] ++ top ∷ []) s old) (sym new) (begins subrs hints c start old ([] ++ top ∷ []) top refl all start_within);
-  mirror = subst (λ s. Mirror (run_glyph subrs hints c) (run_glyph subrs Kept c) subrs hints Kept true ([] ++ top ∷ []) s) (sym new) (mirror_begins subrs hints Kept c start ([] ++ top ∷ []) top refl all);
+  turns = subst (λ s. Turns (run_glyph subrs hints c) old subrs hints frames s old) (sym new) (begins subrs hints c start old frames top first all start_within);
+  mirror = subst (λ s. Mirror (run_glyph subrs hints c) (run_glyph subrs Kept c) subrs hints Kept true frames s) (sym new) (mirror_begins subrs hints Kept c start frames top first all);
 }
 
 -- ---- endings of charstrings

@@ -1,7 +1,7 @@
 use Rattle.std.proofs.lemmas.Result.{IfOk-weaker}
 use Rattle.t1_run.specs.Run.{run_glyph}
 use Rattle.t1_run.proofs.Endings.{named}
-use Rattle.t1_run.proofs.executed.halt_of.Goals as goal
+use Rattle.t1_run.proofs.unmarked.halt_of.Goals as goal
 
 pub returns-clause-parts : goal.returns-clause-parts
 returns-clause-parts g c =

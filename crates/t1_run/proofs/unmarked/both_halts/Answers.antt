@@ -2,7 +2,7 @@ use Rattle.std.proofs.Common.{sym, ap, ◌∙◌, ℕ, List, []}
 use Rattle.t1_run.specs.declared.answer.Hints.TheVariants.{Replaced}
 use Rattle.t1_run.specs.Run.{Outcome, with_indices, calls_of}
 use Rattle.t1_run.proofs.Indices.{with_again}
-use Rattle.t1_run.proofs.executed.both_halts.Goals as goal
+use Rattle.t1_run.proofs.unmarked.both_halts.Goals as goal
 
 -- both runs are one, and its indices are all
 pub returns-then-is_one-clause-executed : goal.returns-then-is_one-clause-executed
