@@ -1,5 +1,5 @@
 -- Turns of a machine: what it does with a token, whatever marks were made before, is a turn of the run after the marks that were.
-use Rattle.std.proofs.Common.{◌≡◌, refl, sym, ap, subst, ◌∙◌, ℕ, suc, ◌+◌, ◌-◌, ◌<◌, Bool, true, List, [], ◌∷◌, ◌++◌, length, ℤ, Option, Some, arith}
+use Rattle.std.proofs.Common.{◌≡◌, refl, sym, ap, subst, ◌∙◌, ℕ, zero, suc, ◌+◌, ◌-◌, ◌<◌, Bool, true, List, [], ◌∷◌, ◌++◌, length, ℤ, Option, Some, arith}
 use Rattle.t1_char.specs.declared.token.Token.{Token}
 use Rattle.t1_char.specs.Tokens.{tokens}
 use Rattle.t1_run.specs.declared.frames.Frame.{Frame}
@@ -10,7 +10,7 @@ use Rattle.t1_run.specs.declared.run.Halt.{Halt}
 use Rattle.t1_run.specs.declared.run.Halt.TheVariants as halt
 use Rattle.t1_run.specs.declared.answer.Mark.{Mark}
 use Rattle.t1_run.specs.declared.answer.Fault.{Fault}
-use Rattle.t1_run.specs.declared.answer.Fault.TheVariants.{Unended}
+use Rattle.t1_run.specs.declared.answer.Fault.TheVariants.{Unended, TooLong}
 use Rattle.t1_run.specs.declared.answer.Hints.{Hints}
 use Rattle.t1_run.specs.declared.answer.Hints.TheVariants.{Kept}
 use Rattle.t1_run.specs.State.{State, Ending, Failed, start}
@@ -35,6 +35,16 @@ pub record Spent (hints : Hints) (t : Token) (m m' : Machine) (on : Flow) : Type
   pub step : Does on m m' (spend hints t)
   pub one : is_one on ≡ true → Does on m m' (spend Kept t)
   pub within : (marks : List Mark) → IsWithinLimits (state_of m marks) → Keeps (m.allowed - 1) (step_of on (state_of m' marks))
+
+-- the run may go on
+abbrev IsGoing : Flow → Type 0
+IsGoing (flow.Fail fault) = ⊥
+IsGoing _ = Unit {0}
+
+-- then fewer tokens are left than before
+pub fewer : (on : Flow) (before after : ℕ) → IsGoing on → (before ≡ 0 → on ≡ flow.Fail TooLong) → after ≡ before - 1 → after < before
+fewer on zero after going spent e = absurd (subst IsGoing (spent refl) going)
+fewer on (suc n) after going spent e = omega (arith, e)
 
 -- before the first turn
 pub at_start : (subrs : Subrs) (hints : Hints) (c old : List ℕ) (keeps : Bool) (kept : List Mark) (frames : List Frame) (top : Frame) (m : Machine) → frames ≡ [] ++ top ∷ [] → state_of m [] ≡ start → frame_left top ≡ tokens c → kept ≡ [] → Between subrs hints c old keeps true kept frames m old

@@ -120,8 +120,12 @@ pub(crate) fn run<'s, S: Subroutines>(
         };
         match machine.spend(hints, token) {
             Flow::Go => {}
-            Flow::Mark(mark) => keep(keeps, kept, mark)?,
-            Flow::Flex(height, before, after) => keep_flex(keeps, kept, height, before, after)?,
+            Flow::Mark(mark) => {
+                keep(keeps, kept, mark)?;
+            }
+            Flow::Flex(height, before, after) => {
+                keep_flex(keeps, kept, height, before, after)?;
+            }
             Flow::Split => {
                 keep(keeps, kept, Mark::Replace)?;
                 is_one = false;

@@ -1,9 +1,10 @@
 use Rattle.std.proofs.Common.{rules, refl, sym, ap, ◌∙◌, List, [], ◌∷◌, ◌++◌}
 use Rattle.t1_run.specs.declared.frames.Frame.{Frame}
+use Rattle.t1_run.specs.declared.answer.Fault.TheVariants.{Unended}
 use Rattle.t1_run.specs.declared.run.Halt.TheVariants as halt
 use Rattle.t1_run.specs.declared.answer.Mark.TheVariants as mark
 use Rattle.t1_run.specs.declared.machine.Flow.TheVariants as flow
-use Rattle.t1_run.proofs.Between.{at_start, out, out_one, goes, ends_so, ends_one, back, last, last_one, fails_so, fails_one, calls}
+use Rattle.t1_run.proofs.Between.{at_start, fewer, out, out_one, goes, ends_so, ends_one, back, last, last_one, fails_so, fails_one, calls}
 use Rattle.t1_run.proofs.run.run.Goals as goal
 
 pub turns-init : goal.turns-init
@@ -11,7 +12,111 @@ turns-init g c =
     at_start (g.S.Subroutines.subrs c.args.subrs.now) c.args.hints c.args.charstring.now c.args.called.now.keys c.args.keeps c.args.kept.now.items _ c.new-top.result c.new-machine.result
     (ap (λ (fs : List Frame). fs ++ c.new-top.result ∷ []) c.new-callers.ensures) c.new-machine.ensures c.new-top.ensures c.requires
 
+pub returns-in_default-clause-runs : goal.returns-in_default-clause-runs
+returns-in_default-clause-runs g c = out c.turns.invariant c.turns.callers.items c.turns.top refl c.in_default.ensures.0
+
+pub returns-in_default-clause-one : goal.returns-in_default-clause-one
+returns-in_default-clause-one g c = out_one c.turns.invariant c.turns.callers.items c.turns.top refl c.in_default.ensures.0
+
 pub turns-preserved-in-Go : goal.turns-preserved-in-Go
 turns-preserved-in-Go g c =
-    goes c.turns.invariant c.turns.callers.items c.turns.top refl c.next.new.self c.in-Some.token c.spend.new.self flow.Go c.in-Some.ensures c.in-Go.ensures
+    let e = c.in-Go.ensures in
+    goes c.turns.invariant c.turns.callers.items c.turns.top refl c.next.new.self c.in-Some.token c.spend.new.self flow.Go c.in-Some.ensures (record { step = e.step; one = e.one; within = e.within })
     c.turns.is_one c.turns.kept.items c.turns.invariant.marks _ refl c.turns.invariant.all_kept (λ h. (h, refl)) refl
+
+pub turns-preserved-in-Continue-1 : goal.turns-preserved-in-Continue-1
+turns-preserved-in-Continue-1 g c =
+    let e = c.in-Mark.ensures in
+    let marks = c.turns.invariant.marks in
+    goes c.turns.invariant c.turns.callers.items c.turns.top refl c.next.new.self c.in-Some.token c.spend.new.self (flow.Mark c.in-Mark.mark) c.in-Some.ensures (record { step = e.step; one = e.one; within = e.within })
+    c.turns.is_one c.keep.new.kept.items (marks ++ c.in-Mark.mark ∷ []) _ refl (c.in_ok-keep-in-Mark.ensures marks c.turns.invariant.all_kept) (λ h. (h, refl)) refl
+
+pub turns-preserved-in-Continue-branch-2 : goal.turns-preserved-in-Continue-branch-2
+turns-preserved-in-Continue-branch-2 g c =
+    let e = c.in-Flex.ensures in
+    let marks = c.turns.invariant.marks in
+    goes c.turns.invariant c.turns.callers.items c.turns.top refl c.next.new.self c.in-Some.token c.spend.new.self (flow.Flex c.in-Flex.height c.in-Flex.before c.in-Flex.after) c.in-Some.ensures (record { step = e.step; one = e.one; within = e.within })
+    c.turns.is_one c.keep_flex.new.kept.items (marks ++ mark.Flex c.in-Flex.height ∷ mark.Curve c.in-Flex.before ∷ mark.Curve c.in-Flex.after ∷ []) _ refl (λ k. let all = c.in_ok-keep_flex-in-Flex.ensures marks c.turns.invariant.all_kept k in search rules) (λ h. (h, refl)) refl
+
+pub turns-smaller-in-Continue-branch-2 : goal.turns-smaller-in-Continue-branch-2
+turns-smaller-in-Continue-branch-2 g c =
+    let e = c.in-Flex.ensures in
+    let inv = c.turns.invariant in
+    fewer (flow.Flex c.in-Flex.height c.in-Flex.before c.in-Flex.after) c.turns.machine.allowed c.spend.new.self.allowed tt e.spent (e.within inv.marks inv.turns.within).1
+
+pub turns-smaller : goal.turns-smaller
+turns-smaller g c =
+    let e = c.in-Call.ensures in
+    let inv = c.turns.invariant in
+    fewer (flow.Call c.in-Call.i) c.turns.machine.allowed c.spend.new.self.allowed tt e.spent (e.within inv.marks inv.turns.within).1
+
+pub turns-preserved-in-Split : goal.turns-preserved-in-Split
+turns-preserved-in-Split g c =
+    let e = c.in-Split.ensures in
+    let marks = c.turns.invariant.marks in
+    goes c.turns.invariant c.turns.callers.items c.turns.top refl c.next.new.self c.in-Some.token c.spend.new.self flow.Split c.in-Some.ensures (record { step = e.step; one = e.one; within = e.within })
+    _ c.keep-in-Split.new.kept.items (marks ++ mark.Replace ∷ []) _ refl (c.in_ok-keep-in-Split.ensures marks c.turns.invariant.all_kept) (λ h. search rules) refl
+
+pub turns-preserved-in-Some-pop : goal.turns-preserved-in-Some-pop
+turns-preserved-in-Some-pop g c =
+    let e = c.in-Back.ensures in
+    back c.turns.invariant c.turns.callers.items c.turns.top refl c.next.new.self c.in-Some.token c.spend.new.self c.in-Some.ensures (record { step = e.step; one = e.one; within = e.within })
+    (c.pop.new.self.items ++ c.in-Some-pop.caller ∷ []) (sym c.in-Some-pop.ensures.items)
+
+pub returns-in-Plain-clause-runs : goal.returns-in-Plain-clause-runs
+returns-in-Plain-clause-runs g c =
+    let e = c.in-Plain.ensures in
+    ends_so c.turns.invariant c.turns.callers.items c.turns.top refl c.next.new.self c.in-Some.token c.spend.new.self (flow.Plain c.in-Plain.metrics) c.in-Some.ensures (record { step = e.step; one = e.one; within = e.within })
+    (halt.Plain c.in-Plain.metrics) refl
+
+pub returns-in-Plain-clause-one : goal.returns-in-Plain-clause-one
+returns-in-Plain-clause-one g c =
+    let e = c.in-Plain.ensures in
+    ends_one c.turns.invariant c.turns.callers.items c.turns.top refl c.next.new.self c.in-Some.token c.spend.new.self (flow.Plain c.in-Plain.metrics) c.in-Some.ensures (record { step = e.step; one = e.one; within = e.within })
+    (halt.Plain c.in-Plain.metrics) refl refl
+
+pub returns-in-Seac-clause-runs : goal.returns-in-Seac-clause-runs
+returns-in-Seac-clause-runs g c =
+    let e = c.in-Seac.ensures in
+    ends_so c.turns.invariant c.turns.callers.items c.turns.top refl c.next.new.self c.in-Some.token c.spend.new.self (flow.Seac c.in-Seac.accent) c.in-Some.ensures (record { step = e.step; one = e.one; within = e.within })
+    (halt.Seac c.in-Seac.accent) refl
+
+pub returns-in-Seac-clause-one : goal.returns-in-Seac-clause-one
+returns-in-Seac-clause-one g c =
+    let e = c.in-Seac.ensures in
+    ends_one c.turns.invariant c.turns.callers.items c.turns.top refl c.next.new.self c.in-Some.token c.spend.new.self (flow.Seac c.in-Seac.accent) c.in-Some.ensures (record { step = e.step; one = e.one; within = e.within })
+    (halt.Seac c.in-Seac.accent) refl refl
+
+pub returns-in-Fail-clause-runs : goal.returns-in-Fail-clause-runs
+returns-in-Fail-clause-runs g c =
+    let e = c.in-Fail.ensures in
+    ends_so c.turns.invariant c.turns.callers.items c.turns.top refl c.next.new.self c.in-Some.token c.spend.new.self (flow.Fail c.in-Fail.fault) c.in-Some.ensures (record { step = e.step; one = e.one; within = e.within })
+    (halt.Failed c.in-Fail.fault) refl
+
+pub returns-in-Fail-clause-one : goal.returns-in-Fail-clause-one
+returns-in-Fail-clause-one g c =
+    let e = c.in-Fail.ensures in
+    ends_one c.turns.invariant c.turns.callers.items c.turns.top refl c.next.new.self c.in-Some.token c.spend.new.self (flow.Fail c.in-Fail.fault) c.in-Some.ensures (record { step = e.step; one = e.one; within = e.within })
+    (halt.Failed c.in-Fail.fault) refl refl
+
+pub returns-in-Err-clause-runs : goal.returns-in-Err-clause-runs
+returns-in-Err-clause-runs g c =
+    let e = c.in-Call.ensures in
+    fails_so c.turns.invariant c.turns.callers.items c.turns.top refl c.next.new.self c.in-Some.token c.spend.new.self c.in-Some.ensures
+    c.in-Call.i (record { step = e.step; one = e.one; within = e.within }) c.index_of-index.result c.remaining_capacity.result (search rules) c.remaining_capacity.ensures
+    c.take.new.called.keys c.in-Err.fault c.in_ok-take-in-Call.ensures c.in-Err.ensures
+
+pub returns-in-Err-clause-one : goal.returns-in-Err-clause-one
+returns-in-Err-clause-one g c =
+    let e = c.in-Call.ensures in
+    fails_one c.turns.invariant c.turns.callers.items c.turns.top refl c.next.new.self c.in-Some.token c.spend.new.self c.in-Some.ensures
+    c.in-Call.i (record { step = e.step; one = e.one; within = e.within }) c.index_of-index.result c.remaining_capacity.result (search rules) c.remaining_capacity.ensures
+    c.in-Err.fault c.in-Err.ensures
+
+pub turns-preserved : goal.turns-preserved
+turns-preserved g c =
+    let e = c.in-Call.ensures in
+    calls c.turns.invariant c.turns.callers.items c.turns.top refl c.next.new.self c.in-Some.token c.spend.new.self c.in-Some.ensures
+    c.in-Call.i (record { step = e.step; one = e.one; within = e.within }) c.index_of-index.result c.remaining_capacity.result (search rules) c.remaining_capacity.ensures
+    c.take.new.called.keys c.in-Ok.charstring.now c.new-top-in-Ok.result c.push.new.self.items (c.push.new.self.items ++ c.new-top-in-Ok.result ∷ [])
+    c.in_ok-take-in-Call.ensures c.in-Ok.ensures c.new-top-in-Ok.ensures c.push.ensures.items refl
