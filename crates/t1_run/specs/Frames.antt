@@ -1,5 +1,5 @@
 -- What the frames of a run stand for: a glyph and the Subrs that are being run (Adobe Type 1 Font Format 1.1, chapter 8).
-use Rattle.std.specs.Prelude.{◌≡◌, ℕ, zero, suc, List, [], ◌∷◌, length, drop, map, reverse}
+use Rattle.std.specs.Prelude.{ℕ, zero, suc, List, [], ◌∷◌, length, drop, map, reverse}
 use Rattle.t1_char.specs.declared.token.Token.{Token}
 use Rattle.t1_char.specs.Tokens.{tokens}
 use Rattle.t1_run.specs.declared.frames.Frame.{Frame}
