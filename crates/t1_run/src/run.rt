@@ -246,11 +246,11 @@ pub struct BothAnswers {
     pub direct: Direct,
     /// What [`direct3`] answers, where that is another run; `None` where it answers the same as [`direct`].
     pub direct3: Option<Direct>,
-    /// What [`executed`] answers.
+    /// What `executed` answers.
     pub executed: BTreeSet<u16>,
 }
 
-/// What [`direct`], [`direct3`] and [`executed`] answer of a plain charstring. It is run once where both answers after
+/// What [`direct`], [`direct3`] and `executed` answer of a plain charstring. It is run once where both answers after
 /// OtherSubr 3 are one, and else twice. It fails for want of memory alone.
 pub fn both_answers<S: Subroutines>(
     alloc: Global,
@@ -279,7 +279,7 @@ pub fn both_answers<S: Subroutines>(
     })
 }
 
-/// What [`direct`] and [`executed`] answer of a plain charstring, by the runs of [`both_answers`]. It fails for want of
+/// What [`direct`] and `executed` answer of a plain charstring, by the runs of [`both_answers`]. It fails for want of
 /// memory alone.
 pub fn direct_and_executed<S: Subroutines>(
     alloc: Global,

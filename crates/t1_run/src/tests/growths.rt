@@ -66,7 +66,12 @@ fn asks_right(alloc: Global, font: &GlyphFont<'_>) -> Result<bool, AllocError> {
 // Whether all of these calls answer right.
 fn answers_right(alloc: Global) -> Result<bool, AllocError> {
     let font = GlyphFont::new(alloc, &[], &[], None)?;
-    Ok(runs_right(alloc, &font)? && runs_twice_right(alloc, &font)? && asks_right(alloc, &font)? && draws_right(alloc, &font)?)
+    Ok(
+        runs_right(alloc, &font)?
+            && runs_twice_right(alloc, &font)?
+            && asks_right(alloc, &font)?
+            && draws_right(alloc, &font)?,
+    )
 }
 
 #[test]
