@@ -3,7 +3,7 @@ use Rattle.t1_run.specs.declared.frames.Frame.{Frame}
 use Rattle.t1_run.specs.declared.run.Halt.TheVariants as halt
 use Rattle.t1_run.specs.declared.answer.Mark.TheVariants as mark
 use Rattle.t1_run.specs.declared.machine.Flow.TheVariants as flow
-use Rattle.t1_run.proofs.Between.{at_start, fewer, out, out_one, goes, ends_so, ends_one, back, fails_so, fails_one, calls}
+use Rattle.t1_run.proofs.Between.{at_start, fewer, out, out_one, goes, ends_so, ends_one, back, last, last_one, fails_so, fails_one, calls}
 use Rattle.t1_run.proofs.run.run.Goals as goal
 
 pub turns-init : goal.turns-init
@@ -119,3 +119,13 @@ turns-preserved g c =
     c.in-Call.i (record { step = e.step; one = e.one; within = e.within }) c.index_of-index.result c.remaining_capacity.result (search rules) c.remaining_capacity.ensures
     c.take.new.called.keys c.in-Ok.charstring.now c.new-top-in-Ok.result c.push.new.self.items (c.push.new.self.items ++ c.new-top-in-Ok.result ∷ [])
     c.in_ok-take-in-Call.ensures c.in-Ok.ensures c.new-top-in-Ok.ensures c.push.ensures.items refl
+
+pub returns-in-None-clause-runs : goal.returns-in-None-clause-runs
+returns-in-None-clause-runs g c =
+    let e = c.in-Back.ensures in
+    last c.turns.invariant c.turns.callers.items c.turns.top refl c.next.new.self c.in-Some.token c.spend.new.self c.in-Some.ensures (record { step = e.step; one = e.one; within = e.within }) (search rules)
+
+pub returns-in-None-clause-one : goal.returns-in-None-clause-one
+returns-in-None-clause-one g c =
+    let e = c.in-Back.ensures in
+    last_one c.turns.invariant c.turns.callers.items c.turns.top refl c.next.new.self c.in-Some.token c.spend.new.self c.in-Some.ensures (record { step = e.step; one = e.one; within = e.within }) (search rules)
