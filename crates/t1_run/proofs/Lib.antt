@@ -4,6 +4,8 @@ mod Mirrors
 pub mod DrawingLocality
 mod Resumed
 mod Turns
+mod Between
+mod Endings
 mod StandardNames
 pub mod Limits
 pub mod LimitsOfRuns

@@ -12,7 +12,6 @@ use Rattle.t1_run.specs.declared.answer.Hints.{Hints}
 use Rattle.t1_run.specs.State.{State, Ending, Back, Failed}
 use Rattle.t1_run.specs.Rules.{Step, Goes, Ends, Calls}
 use Rattle.t1_run.specs.Run.{Subrs, Visit, Outcome, ends, after, visiting, deeper, visit, taken, index_of, entry, enter, then_run, resume, follow, spend, run, level_limit, call, with_indices}
-use Rattle.t1_run.specs.Machine.{Runs}
 use Rattle.t1_run.specs.Frames.{frame_left, lists_of, deeper_by, run_frames}
 use Rattle.t1_run.specs.Limits.{IsWithinLimits}
 use Rattle.t1_run.proofs.Resumed.{resume_after, resume_visiting, resume_twice, resume_nothing, deeper_by-resume, deeper_by-ends, deeper_by-after, deeper_by-visiting, visits_by}
@@ -93,6 +92,11 @@ pub record Turns (whole : Outcome) (old : List ℕ) (subrs : Subrs) (hints : Hin
   pub left : Leaves whole old (run_frames subrs hints levels (lists_of frames) s) now
   pub within : IsWithinLimits s
 
+-- The whole run ended so, and its calls made the new set of the old.
+pub record Ended (whole : Outcome) (end : Ending) (old now : List ℕ) : Type 0 where
+  pub ends_so : end ≡ whole.ending
+  pub called : now ≡ with_indices old whole.indices
+
 -- In a turn the token t of the frame on top is next; f is that frame after it, and below it is the rest.
 pub record Turn (whole : Outcome) (old : List ℕ) (subrs : Subrs) (hints : Hints) (rest : List Frame) (f : Frame) (t : Token) (s : State) (now : List ℕ) : Type 0 where
   pub levels : ℕ
@@ -121,7 +125,7 @@ module _ {whole : Outcome} {old : List ℕ} where
         took = m ∙ ap (λ (set : List ℕ). with_indices set more) k.took ∙ sym (with_indices-append old k.calls more);
       }
 
-  left_ends : (end : Ending) (a : Outcome) (now : List ℕ) → a ≡ ends end → Leaves whole old a now → Runs whole end old now
+  left_ends : (end : Ending) (a : Outcome) (now : List ℕ) → a ≡ ends end → Leaves whole old a now → Ended whole end old now
   left_ends end a now e k =
       let goes : whole ≡ after k.calls (visiting k.visits (ends end)) = k.goes ∙ ap (λ (o : Outcome). after k.calls (visiting k.visits o)) e in
       record {
@@ -170,7 +174,7 @@ module _ {whole : Outcome} {old : List ℕ} {subrs : Subrs} {hints : Hints} {fra
       (ap (λ (lists : List (List Token)). run_frames subrs hints inv.levels lists s) lists) inv.left
 
   -- no token is left on top
-  pub runs_out : frame_left f ≡ [] → Runs whole (Failed Unended) old now
+  pub runs_out : frame_left f ≡ [] → Ended whole (Failed Unended) old now
   runs_out none = left_ends (Failed Unended) (run_frames subrs hints inv.levels ([] ∷ lists_of rest) s) now (none_left subrs hints inv.levels (lists_of rest) s) (top [] none)
 
   -- the frame on top gives its next token
@@ -208,14 +212,14 @@ module _ {whole : Outcome} {old : List ℕ} {subrs : Subrs} {hints : Hints} {res
       })
 
   -- it goes back, and no frame is left
-  pub on_last : (frames : List Frame) (s' : State) → frames ≡ rest → frames ≡ [] → Ends (Back s') ≡ spend hints t s → Runs whole (Back s') old now
+  pub on_last : (frames : List Frame) (s' : State) → frames ≡ rest → frames ≡ [] → Ends (Back s') ≡ spend hints t s → Ended whole (Back s') old now
   on_last frames s' popped none e =
       let below_run : List Frame → Outcome = λ (frames : List Frame). run_frames subrs hints (suc in_turn.levels) (lists_of frames) s' in
       left_ends (Back s') (below_run rest) now (ap below_run (sym popped ∙ none))
       (left_after (seen (lists_of rest) s (Ends (Back s'))) [] lists_now (below_run rest) now now (token_ends subrs hints in_turn.levels (lists_of rest) t (frame_left f) s (Back s') e) refl in_turn.left)
 
   -- it ends the glyph
-  pub on_end : (end : Ending) → ((g : State → Outcome) → then_run end g ≡ ends end) → Ends end ≡ spend hints t s → Runs whole end old now
+  pub on_end : (end : Ending) → ((g : State → Outcome) → then_run end g ≡ ends end) → Ends end ≡ spend hints t s → Ended whole end old now
   on_end end stops e =
       let below_run : State → Outcome = run_frames subrs hints (suc in_turn.levels) (lists_of rest) in
       left_ends end (then_run end below_run) now (stops below_run)
@@ -236,7 +240,7 @@ module _ {whole : Outcome} {old : List ℕ} {subrs : Subrs} {hints : Hints} {res
         left_after visits (taken index) lists_now (call_on subrs hints levels (lists_of callers) index s') now mid goes took in_turn.left
 
     -- the call fails
-    pub on_fault : (fault : Fault) → call subrs hints levels index s' ≡ ends (Failed fault) → Runs whole (Failed fault) old mid
+    pub on_fault : (fault : Fault) → call subrs hints levels index s' ≡ ends (Failed fault) → Ended whole (Failed fault) old mid
     on_fault fault failed = left_ends (Failed fault) (call_on subrs hints levels (lists_of callers) index s') mid (call_fails subrs hints (lists_of callers) index s' levels fault failed) called
 
   -- a Subr is called: its frame is on top

@@ -1,6 +1,5 @@
 -- What the frames of a run stand for: a glyph and the Subrs that are being run (Adobe Type 1 Font Format 1.1, chapter 8).
-use Rattle.std.specs.Prelude.{◌≡◌, ℕ, zero, suc, List, [], ◌∷◌, ◌++◌, Option, length, drop, map, reverse}
-use Rattle.std.specs.Iterator.{YieldsFirst}
+use Rattle.std.specs.Prelude.{ℕ, zero, suc, List, [], ◌∷◌, length, drop, map, reverse}
 use Rattle.t1_char.specs.declared.token.Token.{Token}
 use Rattle.t1_char.specs.Tokens.{tokens}
 use Rattle.t1_run.specs.declared.frames.Frame.{Frame}
@@ -15,15 +14,6 @@ frame_left f = tokens (drop f.offset f.charstring.now)
 -- The token lists that frames have left, the top first; of the frames the last is on top.
 abbrev pub lists_of : List Frame → List (List Token)
 lists_of frames = reverse (map frame_left frames)
-
--- A step of the frame on top: the token that it yields, if it has one left, and the frame after that in its place.
-pub record TopYields (old : List Frame) (token : Option Token) (new : List Frame) : Type 0 where
-  pub below : List Frame
-  pub before : Frame
-  pub after : Frame
-  pub was : old ≡ below ++ before ∷ []
-  pub is : new ≡ below ++ after ∷ []
-  pub yields : YieldsFirst frame_left before token after
 
 -- An outcome whose tokens are executed so many calls deeper.
 abbrev pub deeper_by : ℕ → Outcome → Outcome

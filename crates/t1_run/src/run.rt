@@ -1,34 +1,26 @@
 // Runs of charstrings.
 
-ghost use Rattle.std.specs.Prelude.{◌≡◌, ◌≤◌, IfOk, OnOk, MatchResult, ◌<◌, length, [], Some, true};
+ghost use Rattle.std.specs.Prelude.{◌≡◌, ◌≤◌, IfOk, OnOk, MatchResult, ◌<◌, List, length, [], ◌∷◌, ◌++◌, Some, true};
 ghost use Rattle.std.specs.Option.{option_copied};
-ghost use Rattle.t1_char.specs.Tokens.{tokens};
-ghost use Rattle.t1_run.specs.Frames.{TopYields};
-ghost use Rattle.t1_run.specs.Limits.{IsWithinLimits, EndsWithinLimits};
-ghost use Rattle.t1_run.specs.State.{start, Seac};
-ghost use Rattle.t1_run.specs.Run.{run, run_glyph, level_limit, direct_by, direct, direct3, exec, calls_of, with_indices, index_of, taken, entry, call};
-ghost use Rattle.t1_run.specs.Machine.{state_of, ending_of, value_of, Runs, IsEntered};
+ghost use Rattle.t1_run.specs.Limits.{EndsWithinLimits};
+ghost use Rattle.t1_run.specs.Run.{run_glyph, direct_by, direct, direct3, exec, calls_of, with_indices, index_of, taken, entry, call};
+ghost use Rattle.t1_run.specs.Machine.{ending_of, value_of, AreKept, Runs, IsEntered};
 ghost use Rattle.t1_run.specs.BothAnswers.{kept_value};
 
-use crate::answer::{Accent, Direct, Fault, Hints, Metrics};
+use crate::answer::{Accent, Curve, Direct, Fault, Hints, Mark, Metrics};
 use crate::frames::Frame;
 use crate::machine::{Flow, Machine};
 use crate::subroutines::Subroutines;
 use arrayvec::ArrayVec;
 use std::alloc::{AllocError, Global};
 use std::collections::BTreeSet;
-use t1_char::Token;
 
 /// How deep calls may be, this project's limit.
 const LEVELS: usize = 10;
 
-/// The frames that a run has room for: the glyph's, and one for each level.
-const FRAMES: usize = 1 + LEVELS;
-
-/// How a run ends.
+/// How a charstring ends.
 #[derive(Clone, Copy)]
 pub(crate) enum Halt {
-    Back,
     Plain(Metrics),
     Seac(Accent),
     Failed(Fault),
@@ -71,56 +63,88 @@ fn take(called: &mut BTreeSet<u16>, index: Option<u16>) -> Result<(), AllocError
     Ok(())
 }
 
-// The next token of the frame on top, where one is left.
-fn next_of_top(frames: &mut ArrayVec<Frame<'_>, FRAMES>) -> Option<Token>
-    ensures { 0 < length frames.old.items → TopYields frames.old.items result frames.new.items }
+// Adds a mark, where marks are kept.
+fn keep(keeps: bool, kept: &mut Vec<Mark>, mark: Mark) -> Result<(), AllocError>
+    ensures { OnOk result
+        ((marks : List Mark) → AreKept keeps kept.old.items marks → AreKept keeps kept.new.items (marks ++ mark ∷ [])) }
 {
-    let top = frames.len().checked_sub(1)?;
-    frames[top].next()
+    if keeps {
+        kept.push(mark)?;
+    }
+    Ok(())
 }
 
-// Runs a charstring, in each turn the next token of the frame on top, until a token ends the run or no frame is left; and
-// whether the run is the same where hints are kept.
-fn run<'s, S: Subroutines>(
+// Adds the marks of a flex, where marks are kept.
+fn keep_flex(
+    keeps: bool,
+    kept: &mut Vec<Mark>,
+    height: i64,
+    before: Curve,
+    after: Curve,
+) -> Result<(), AllocError>
+    ensures { OnOk result
+        ((marks : List Mark) → AreKept keeps kept.old.items marks
+        → AreKept keeps kept.new.items (marks ++ (Mark.Flex height ∷ Mark.Curve before ∷ Mark.Curve after ∷ []))) }
+{
+    if keeps {
+        kept.push(Mark::Flex(height))?;
+        kept.push(Mark::Curve(before))?;
+        kept.push(Mark::Curve(after))?;
+    }
+    Ok(())
+}
+
+// Runs a charstring, in each turn the next token of the Subr that was called last, or of the glyph, until a token ends the
+// run; and whether the run is the same where hints are kept. Its marks are kept where they are asked for.
+pub(crate) fn run<'s, S: Subroutines>(
     subrs: &'s S,
     hints: Hints,
     charstring: &'s [u8],
-    machine: &mut Machine,
+    keeps: bool,
+    kept: &mut Vec<Mark>,
     called: &mut BTreeSet<u16>,
 ) -> Result<(Halt, bool), AllocError>
-    requires { IsWithinLimits (state_of machine.old) }
+    requires { kept.old.items ≡ [] }
     ensures runs { IfOk result
-        (λ r. Runs (run (S.subrs subrs.now) hints level_limit (tokens charstring.now) (state_of machine.old))
-        (ending_of r.0 (state_of machine.new)) called.old.keys called.new.keys) }
-    ensures within { IfOk result (λ r. EndsWithinLimits (ending_of r.0 (state_of machine.new))) }
+        (λ r. Runs (run_glyph (S.subrs subrs.now) hints charstring.now) r.0 keeps kept.new.items called.old.keys called.new.keys) }
     ensures one { IfOk result (λ r. r.1 ≡ true
-        → run (S.subrs subrs.now) Hints.Kept level_limit (tokens charstring.now) (state_of machine.old)
-        ≡ run (S.subrs subrs.now) hints level_limit (tokens charstring.now) (state_of machine.old)) }
+        → run_glyph (S.subrs subrs.now) Hints.Kept charstring.now ≡ run_glyph (S.subrs subrs.now) hints charstring.now) }
 {
-    let mut frames: ArrayVec<Frame<'s>, FRAMES> = ArrayVec::new();
-    frames.push(Frame::new(charstring));
+    let mut machine = Machine::new();
+    let mut callers: ArrayVec<Frame<'s>, LEVELS> = ArrayVec::new();
+    let mut top = Frame::new(charstring);
     let mut is_one = true;
     'turns: loop {
-        let Some(token) = next_of_top(&mut frames) else {
+        let Some(token) = top.next() else {
             return Ok((Halt::Failed(Fault::Unended), is_one));
         };
-        match machine.spend(hints, token)? {
+        match machine.spend(hints, token) {
             Flow::Go => {}
-            Flow::Split => is_one = false,
-            Flow::Back => {
-                frames.pop();
-                if frames.is_empty() {
-                    return Ok((Halt::Back, is_one));
-                }
+            Flow::Mark(mark) => {
+                keep(keeps, kept, mark)?;
             }
+            Flow::Flex(height, before, after) => {
+                keep_flex(keeps, kept, height, before, after)?;
+            }
+            Flow::Split => {
+                keep(keeps, kept, Mark::Replace)?;
+                is_one = false;
+            }
+            Flow::Back => match callers.pop() {
+                Some(caller) => top = caller,
+                None => return Ok((Halt::Failed(Fault::Unended), is_one)),
+            },
             Flow::Plain(metrics) => return Ok((Halt::Plain(metrics), is_one)),
             Flow::Seac(accent) => return Ok((Halt::Seac(accent), is_one)),
             Flow::Fail(fault) => return Ok((Halt::Failed(fault), is_one)),
             Flow::Call(i) => {
                 let index = index_of(i);
                 take(called, index)?;
-                match entered(subrs, frames.remaining_capacity(), index) {
-                    Ok(charstring) => frames.push(Frame::new(charstring)),
+                match entered(subrs, callers.remaining_capacity(), index) {
+                    Ok(charstring) => {
+                        callers.push(top);
+                        top = Frame::new(charstring);
+                    }
                     Err(fault) => return Ok((Halt::Failed(fault), is_one)),
                 }
             }
@@ -128,18 +152,26 @@ fn run<'s, S: Subroutines>(
     }
 }
 
-// What an accented glyph answers.
-fn seac(accent: Accent) -> Direct
-    ensures { value_of result ≡ Seac accent }
+// What a charstring answers that ended so, with its marks.
+fn answer_of(halt: Halt, marks: Vec<Mark>) -> Direct
+    ensures { value_of result ≡ ending_of halt marks.items }
 {
-    Direct::Seac {
-        width: accent.metrics.width,
-        sb: accent.metrics.bearing,
-        asb: accent.asb,
-        adx: accent.adx,
-        ady: accent.ady,
-        base: accent.base,
-        accent: accent.accent,
+    match halt {
+        Halt::Plain(metrics) => Direct::Plain {
+            width: metrics.width,
+            sb: metrics.bearing,
+            marks,
+        },
+        Halt::Seac(accent) => Direct::Seac {
+            width: accent.metrics.width,
+            sb: accent.metrics.bearing,
+            asb: accent.asb,
+            adx: accent.adx,
+            ady: accent.ady,
+            base: accent.base,
+            accent: accent.accent,
+        },
+        Halt::Failed(fault) => Direct::Failed(fault),
     }
 }
 
@@ -159,19 +191,9 @@ fn run_glyph<S: Subroutines>(
     ensures one { IfOk result (λ r. r.1 ≡ true
         → run_glyph (S.subrs subrs.now) Hints.Kept charstring.now ≡ run_glyph (S.subrs subrs.now) hints charstring.now) }
 {
-    let mut machine = Machine::new(alloc);
-    let (halt, is_one) = run(subrs, hints, charstring, &mut machine, called)?;
-    let answer = match halt {
-        Halt::Back => Direct::Failed(Fault::Unended),
-        Halt::Plain(metrics) => Direct::Plain {
-            width: metrics.width,
-            sb: metrics.bearing,
-            marks: machine.marks,
-        },
-        Halt::Seac(accent) => seac(accent),
-        Halt::Failed(fault) => Direct::Failed(fault),
-    };
-    Ok((answer, is_one))
+    let mut marks = Vec::new(alloc);
+    let (halt, is_one) = run(subrs, hints, charstring, true, &mut marks, called)?;
+    Ok((answer_of(halt, marks), is_one))
 }
 
 // What a charstring answers by itself, by what the pop after OtherSubr 3 gives.
@@ -224,11 +246,11 @@ pub struct BothAnswers {
     pub direct: Direct,
     /// What [`direct3`] answers, where that is another run; `None` where it answers the same as [`direct`].
     pub direct3: Option<Direct>,
-    /// What [`executed`] answers.
+    /// What `executed` answers.
     pub executed: BTreeSet<u16>,
 }
 
-/// What [`direct`], [`direct3`] and [`executed`] answer of a plain charstring. It is run once where both answers after
+/// What [`direct`], [`direct3`] and `executed` answer of a plain charstring. It is run once where both answers after
 /// OtherSubr 3 are one, and else twice. It fails for want of memory alone.
 pub fn both_answers<S: Subroutines>(
     alloc: Global,
@@ -257,7 +279,7 @@ pub fn both_answers<S: Subroutines>(
     })
 }
 
-/// What [`direct`] and [`executed`] answer of a plain charstring, by the runs of [`both_answers`]. It fails for want of
+/// What [`direct`] and `executed` answer of a plain charstring, by the runs of [`both_answers`]. It fails for want of
 /// memory alone.
 pub fn direct_and_executed<S: Subroutines>(
     alloc: Global,
@@ -270,18 +292,4 @@ pub fn direct_and_executed<S: Subroutines>(
 {
     let both = both_answers(alloc, subrs, charstring)?;
     Ok((both.direct, both.executed))
-}
-
-/// The indices that `callsubr` takes in the run of a plain charstring, up to its end or fault, where hints are replaced or
-/// where they are kept: whole numbers from 0 to 65,534, those of Subrs that are not there or too deep among them. It fails
-/// for want of memory alone.
-pub fn executed<S: Subroutines>(
-    alloc: Global,
-    subrs: &S,
-    charstring: &[u8],
-) -> Result<BTreeSet<u16>, AllocError>
-    ensures indices { IfOk result (λ set. set.keys ≡ exec (S.subrs subrs.now) charstring.now) }
-{
-    let both = both_answers(alloc, subrs, charstring)?;
-    Ok(both.executed)
 }

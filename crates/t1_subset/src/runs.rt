@@ -2,9 +2,7 @@
 
 ghost use Rattle.std.specs.Prelude.{◌≡◌, IfOk, OnOk, map};
 ghost use Rattle.std.specs.FinSet as sets;
-ghost use Rattle.t1_run.specs.Machine.{value_of};
-ghost use Rattle.t1_run.specs.BothAnswers.{kept_value};
-ghost use Rattle.t1_subset.specs.Profile.{profile, names_of_both};
+ghost use Rattle.t1_subset.specs.Profile.{profile};
 ghost use Rattle.t1_subset.specs.Keep.{components, charstring};
 ghost use Rattle.t1_subset.specs.Calls.{number_set, called_in};
 ghost use Rattle.t1_subset.specs.Lacking.{named_in};
@@ -14,27 +12,13 @@ use crate::name_sets::NameSet;
 use std::alloc::{AllocError, Global};
 use std::collections::BTreeSet;
 use t1_font::Font;
-use t1_run::{BothAnswers, Glyphs, both_answers, parts_of};
+use t1_run::{Glyphs, parts_and_executed};
 
 /// The Subrs that the glyphs of a font execute, and the components that they name.
 #[derive(Drop)]
 pub(crate) struct Runs {
     pub(crate) calls: BTreeSet<u16>,
     pub(crate) components: NameSet,
-}
-
-/// The components that the outcomes of a charstring name, where hints are replaced and where they are kept.
-fn names_of(alloc: Global, both: &BothAnswers) -> Result<Vec<&'static str>, AllocError>
-    ensures { IfOk result (λ ps. map (λ s. s.now) ps.items ≡ names_of_both (value_of both.now.direct, kept_value both.now)) }
-{
-    let mut names = parts_of(alloc, &both.direct)?;
-    let kept = match &both.direct3 {
-        Some(kept) => kept,
-        None => &both.direct,
-    };
-    let more = parts_of(alloc, kept)?;
-    names.extend_from_slice(more.as_slice())?;
-    Ok(names)
 }
 
 /// What the runs of a glyph come to: the components that they name, and the Subrs that they execute.
@@ -49,9 +33,8 @@ pub(crate) fn run_of(
     font.is_font();
     match font.glyph(name) {
         Some(charstring) => {
-            let both = both_answers(alloc, font, charstring)?;
-            let names = names_of(alloc, &both)?;
-            Ok((names, both.executed))
+            let (names, executed) = parts_and_executed(alloc, font, charstring)?;
+            Ok((names, executed))
         }
         None => Ok((Vec::new(alloc), BTreeSet::new(alloc))),
     }

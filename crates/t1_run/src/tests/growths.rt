@@ -5,7 +5,7 @@ use crate::tests::executes::are;
 use crate::tests::fonts::GlyphFont;
 use crate::{
     Direct, Drawing, both_answers, direct, direct_and_executed, direct3, draw, draw3, executed,
-    parts_of,
+    parts_and_executed, parts_of,
 };
 use std::alloc::{AllocError, Global};
 use std::test::Fail;
@@ -55,10 +55,23 @@ fn draws_right(alloc: Global, font: &GlyphFont<'_>) -> Result<bool, AllocError> 
     Ok(parts.len() == 2 && kept.len() == 2 && names.as_slice() == ["A", "acute"].as_slice())
 }
 
+// Whether the parts of an accented glyph are named for both runs, and the calls of both told.
+fn asks_right(alloc: Global, font: &GlyphFont<'_>) -> Result<bool, AllocError> {
+    let (names, none) = parts_and_executed(alloc, font, &SEAC)?;
+    let (no_names, calls) = parts_and_executed(alloc, font, &HINTS)?;
+    let are_named = names.as_slice() == ["A", "acute", "A", "acute"].as_slice();
+    Ok(are_named && are(&none, &[]) && no_names.is_empty() && are(&calls, &[3, 4, 7]))
+}
+
 // Whether all of these calls answer right.
 fn answers_right(alloc: Global) -> Result<bool, AllocError> {
     let font = GlyphFont::new(alloc, &[], &[], None)?;
-    Ok(runs_right(alloc, &font)? && runs_twice_right(alloc, &font)? && draws_right(alloc, &font)?)
+    Ok(
+        runs_right(alloc, &font)?
+            && runs_twice_right(alloc, &font)?
+            && asks_right(alloc, &font)?
+            && draws_right(alloc, &font)?,
+    )
 }
 
 #[test]

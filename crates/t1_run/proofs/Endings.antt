@@ -1,0 +1,30 @@
+-- What is asked of how a charstring ended: its answer, and the parts that it names.
+use Rattle.std.proofs.Common.{◌≡◌, refl, sym, ap, subst, ◌∙◌, ℕ, Bool, true, List, []}
+use Rattle.t1_run.specs.declared.run.Halt.{Halt}
+use Rattle.t1_run.specs.declared.run.Halt.TheVariants as halt
+use Rattle.t1_run.specs.declared.answer.Mark.{Mark}
+use Rattle.t1_run.specs.State.{Ending}
+use Rattle.t1_run.specs.Run.{Outcome, at_top}
+use Rattle.t1_run.specs.Machine.{ending_of, Runs}
+use Rattle.t1_run.specs.Limits.{EndsWithinLimits}
+use Rattle.t1_run.specs.Drawings.{parts_of}
+
+-- where marks were kept, it answers with these
+module _ (outcome : Outcome) (h : Halt) (kept : List Mark) (old new : List ℕ) (runs : Runs outcome h true kept old new) (value : Ending) (is : value ≡ ending_of h kept) where
+  with_all : value ≡ ending_of h runs.marks
+  with_all = is ∙ ap (ending_of h) (runs.all_kept refl)
+
+  pub answered : value ≡ at_top outcome.ending
+  answered = with_all ∙ runs.ends_so
+
+  pub answered_within : EndsWithinLimits value
+  answered_within = subst EndsWithinLimits (sym with_all) runs.within
+
+-- its marks don't matter to its parts
+same_parts : (h : Halt) (marks : List Mark) → parts_of (ending_of h []) ≡ parts_of (ending_of h marks)
+same_parts (halt.Plain metrics) marks = refl
+same_parts (halt.Seac accent) marks = refl
+same_parts (halt.Failed fault) marks = refl
+
+pub named : (outcome : Outcome) (h : Halt) (keeps : Bool) (kept : List Mark) (old new : List ℕ) → Runs outcome h keeps kept old new → parts_of (ending_of h []) ≡ parts_of (at_top outcome.ending)
+named outcome h keeps kept old new runs = same_parts h runs.marks ∙ ap parts_of runs.ends_so
