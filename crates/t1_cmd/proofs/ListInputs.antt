@@ -1,6 +1,8 @@
 -- What is known of an input whose text was read, and then understood as a listing.
 use Rattle.std.proofs.Common.{◌≡◌, ℕ, inl, inr, List, [], ◌∷◌, length, Bool, true, false, Option, Some, None, Result, Ok, Err, nat_lt, cond, refl, sym, ap, subst, ◌∙◌}
-use Rattle.std.specs.Prelude.{IfSome}
+use Rattle.std.specs.Prelude.{IfSome, IfOk, IfErr}
+use Rattle.t1_join.specs.declared.listing.JoinFault.{JoinFault}
+use Rattle.t1_join.specs.ListingJoin.{IsJoinFault}
 use Rattle.std.specs.Result.{result_unwrap_or}
 use Rattle.t1_bytes.specs.Limits.{file_limit}
 use Rattle.t1_join.specs.ListingMeaning.{ListingMeaning}
@@ -10,7 +12,7 @@ use Rattle.t1_cmd.specs.declared.faults.RunFault.{RunFault}
 use Rattle.t1_cmd.specs.declared.faults.RunFault.TheVariants.{Refused, Read, Write}
 use Rattle.t1_cmd.specs.Inputs.{Input}
 use Rattle.t1_cmd.specs.Runs.{InputStops, Stops}
-use Rattle.t1_cmd.specs.Listings.{text_input, listed, listing_input, ListRefusal, JoinsTo, StopsRead}
+use Rattle.t1_cmd.specs.Listings.{text_input, listed, listing_input, ListRefusal, join_reason, JoinsTo, JoinsRead, StopsRead}
 use Rattle.t1_cmd.proofs.RunLemmas.{says_understood, stops_after, stops_together}
 
 -- a text within the limit is understood as its input is
@@ -53,3 +55,12 @@ joined_stops first second left e said (inl s) = stops_after listing_input JoinsT
 joined_stops first second left e said (inr s) =
     subst (λ (d : RunFault). Stops listing_input JoinsTo (first ∷ second ∷ []) d) (sym s.4)
     (stops_together listing_input JoinsTo (first ∷ second ∷ []) (left ∷ s.0 ∷ []) s.2 (said, (s.1, tt)) s.3)
+
+-- what two understood texts come to
+pub joins_read : {V : Type 0} (view : V → List ℕ) (i : Input) (left right : ListingMeaning) (r : Result V RunFault) → IfOk r (λ v. JoinsTo (left ∷ right ∷ []) (Ok (view v))) → IfSome i.known (λ bytes. listing_input bytes ≡ Ok right) → IfOk r (λ v. JoinsRead i left (view v))
+joins_read view i left right (Ok v) h said = (right, said, h)
+joins_read view i left right (Err e) h said = tt
+
+pub refused_read : {V : Type 0} (i : Input) (left right : ListingMeaning) (r : Result V RunFault) → IfErr r (λ e. (fault : JoinFault) × (IsJoinFault left right fault × (e ≡ Refused (join_reason fault)))) → IfSome i.known (λ bytes. listing_input bytes ≡ Ok right) → IfErr r (StopsRead i left)
+refused_read i left right (Ok v) h said = tt
+refused_read i left right (Err e) h said = inr (right, said, join_reason h.0, (h.0, h.1.0, refl), h.1.1)
