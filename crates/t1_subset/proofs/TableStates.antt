@@ -126,19 +126,6 @@ module _ (g : Named) where
   pub fills_all : (t : TableMeaning) (left : List (List ℕ)) → Fills g t left → left ≡ [] → (q : List ℕ) → maps.get t q ≡ maps.get g q
   fills_all t left h e q = h.shown q (ap (list_any (same_bytes q)) e)
 
--- ---- the smallest glyph
-
-module _ (f g : FontValue) (s t : TableMeaning) (sf : (q : List ℕ) → maps.get s q ≡ maps.get f.glyphs q) (sg : (q : List ℕ) → maps.get t q ≡ maps.get g.glyphs q) where
-  pub no_glyph : TablesAgree s t → None ≡ glyph_conflict f g
-  no_glyph h = sym (passes_none (glyph_clashes f g) (members (glyph_names f g)) (λ q. no_clash _ _ _ _ (sf q) (sg q) (h q)))
-
-  pub glyph_at : (q : List ℕ) → IsFirstConflict s t q → Some q ≡ glyph_conflict f g
-  glyph_at q h =
-      let it = clash _ _ (maps.get f.glyphs q) (maps.get g.glyphs q) (sf q) (sg q) h.differs in
-      sym (smallest_is nat_list_cmp_total name_same (glyph_clashes f g) (glyph_names f g) q
-      (in_both nat_list_cmp_total name_same f.glyphs g.glyphs q ∙ or_left (has f q) (has g q) (there_of (maps.get f.glyphs q) (maps.get g.glyphs q) it))
-      it (λ p w l. no_clash _ _ _ _ (sf p) (sg p) (h.first p l)))
-
 -- ---- the smallest code
 
 pub beyond : (f : FontValue) → IsFont f → (c : ℕ) → 256 ≤ c → code_state f.encoding c ≡ None

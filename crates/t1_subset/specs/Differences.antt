@@ -41,7 +41,3 @@ abbrev pub smaller : {K : Type 0} → (K → K → Ordering) → Option K → Op
 smaller R None y = y
 smaller R (Some m) None = Some m
 smaller R (Some m) (Some n) = cond (is_lt (R n m)) (Some n) (Some m)
-
--- each entry that both fonts have is the same
-abbrev pub EntriesAgree : FontValue → FontValue → Type 0
-EntriesAgree f g = (i : ℕ) → i < declared_count f.shell.subrs → agrees (maps.get f.subrs i) (maps.get g.subrs i) ≡ true

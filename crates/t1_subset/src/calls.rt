@@ -1,15 +1,51 @@
-//! The Subrs that glyphs execute.
+//! What the run of a glyph comes to: the Subrs that it executes, and the components that it names.
 
-ghost use Rattle.std.specs.Prelude.{◌≡◌, IfOk, OnOk, ◌∷◌, []};
+ghost use Rattle.std.specs.Prelude.{◌≡◌, IfOk, OnOk, ◌∷◌, [], map};
 ghost use Rattle.std.specs.FinSet as sets;
-ghost use Rattle.t1_subset.specs.Profile.{profile};
-ghost use Rattle.t1_subset.specs.Conflicts.{executes};
+ghost use Rattle.t1_run.specs.Machine.{value_of};
+ghost use Rattle.t1_run.specs.BothAnswers.{kept_value};
+ghost use Rattle.t1_subset.specs.Profile.{profile, names_of_both};
+ghost use Rattle.t1_subset.specs.Keep.{components, charstring};
 ghost use Rattle.t1_subset.specs.Calls.{number_set};
 
 use std::alloc::{AllocError, Global};
 use std::collections::BTreeSet;
 use t1_font::Font;
-use t1_run::{Glyphs, executed};
+use t1_run::{BothAnswers, Glyphs, both_answers, parts_of};
+
+/// The components that the outcomes of a charstring name, where hints are replaced and where they are kept.
+fn names_of(alloc: Global, both: &BothAnswers) -> Result<Vec<&'static str>, AllocError>
+    ensures { IfOk result (λ ps. map (λ s. s.now) ps.items ≡ names_of_both (value_of both.now.direct, kept_value both.now)) }
+{
+    let mut names = parts_of(alloc, &both.direct)?;
+    let kept = match &both.direct3 {
+        Some(kept) => kept,
+        None => &both.direct,
+    };
+    let more = parts_of(alloc, kept)?;
+    names.extend_from_slice(more.as_slice())?;
+    Ok(names)
+}
+
+/// What the runs of a glyph come to: the components that they name, and the Subrs that they execute.
+pub(crate) fn run_of(
+    alloc: Global,
+    font: &Font<'_>,
+    name: &[u8],
+) -> Result<(Vec<&'static str>, BTreeSet<u16>), AllocError>
+    ensures components { IfOk result (λ r. map (λ s. s.now) r.0.items ≡ components profile font.now.subrs (charstring font.now name.now)) }
+    ensures calls { IfOk result (λ r. number_set r.1 ≡ profile.exec font.now.subrs (charstring font.now name.now)) }
+{
+    font.is_font();
+    match font.glyph(name) {
+        Some(charstring) => {
+            let both = both_answers(alloc, font, charstring)?;
+            let names = names_of(alloc, &both)?;
+            Ok((names, both.executed))
+        }
+        None => Ok((Vec::new(alloc), BTreeSet::new(alloc))),
+    }
+}
 
 /// Adds the indices of another set.
 pub(crate) fn add_all(calls: &mut BTreeSet<u16>, more: &BTreeSet<u16>) -> Result<(), AllocError>
@@ -32,23 +68,4 @@ pub(crate) fn first_four(alloc: Global) -> Result<BTreeSet<u16>, AllocError>
     calls.insert(2)?;
     calls.insert(3)?;
     Ok(calls)
-}
-
-/// Whether a glyph of the font executes the index.
-pub(crate) fn executed_by(
-    alloc: Global,
-    font: &Font<'_>,
-    name: &[u8],
-    index: u16,
-) -> Result<bool, AllocError>
-    ensures { IfOk result (λ is_used. is_used ≡ executes profile font.now name.now index) }
-{
-    font.is_font();
-    match font.glyph(name) {
-        Some(charstring) => {
-            let calls = executed(alloc, font, charstring)?;
-            Ok(calls.contains(&index))
-        }
-        None => Ok(false),
-    }
 }
