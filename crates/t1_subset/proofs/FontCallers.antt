@@ -1,5 +1,5 @@
 -- The smallest glyphs that execute a Subr or seek a component: as the code notes them, and in a join.
-use Rattle.std.proofs.Common.{◌≡◌, ◌<◌, ℕ, Bool, true, false, not, cond, ◌&&◌, ◌||◌, List, [], ◌∷◌, ◌++◌, map, refl, sym, ◌∙◌, ap, subst, Option, Some, None, is_some, unwrap_or}
+use Rattle.std.proofs.Common.{◌≡◌, ◌<◌, ℕ, zero, suc, replicate, Bool, true, false, not, cond, ◌&&◌, ◌||◌, List, [], ◌∷◌, ◌++◌, map, refl, sym, ◌∙◌, ap, subst, Option, Some, None, is_some, unwrap_or}
 use Rattle.std.specs.List.{list_any, AllByRecursion}
 use Rattle.std.specs.Cmp.{nat_cmp_total}
 use Rattle.std.specs.Cmp.Lexicographic.{nat_list_cmp_total}
@@ -53,6 +53,23 @@ joined_either (Some w) a b v = refl
 pub joined_none : {V : Type 0} (x : Option V) → joined x None ≡ x
 joined_none None = refl
 joined_none (Some v) = refl
+
+-- ---- noting the names of a list, one by one
+
+module _ (p : List ℕ → Bool) where
+  pub noted_first : (x : Option (List ℕ)) (names all : List (List ℕ)) → x ≡ None → names ≡ all → joined x (first_where p names) ≡ first_where p all
+  noted_first x names all none e = λ i. joined (none i) (first_where p (e i))
+
+  pub noted_next : (x y goal : Option (List ℕ)) (n : List ℕ) (names left : List (List ℕ)) → y ≡ joined x (cond (p n) (Some n) None) → names ≡ n ∷ left → joined x (first_where p names) ≡ goal → joined y (first_where p left) ≡ goal
+  noted_next x y goal n names left is more h = ap (λ y. joined y (first_where p left)) is ∙ joined_first x (p n) n (first_where p left) ∙ ap (λ ns. joined x (first_where p ns)) (sym more) ∙ h
+
+  pub noted_last : (x goal : Option (List ℕ)) (names : List (List ℕ)) → names ≡ [] → joined x (first_where p names) ≡ goal → x ≡ goal
+  noted_last x goal names none h = sym (joined_none x) ∙ ap (λ ns. joined x (first_where p ns)) (sym none) ∙ h
+
+pub no_user : (count q : ℕ) → user_at (replicate count None) q ≡ None
+no_user zero q = refl
+no_user (suc count) zero = refl
+no_user (suc count) (suc q) = no_user count q
 
 -- ---- the glyphs of one font
 

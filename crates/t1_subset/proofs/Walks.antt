@@ -1,6 +1,6 @@
 -- Fonts from left to right, by their states and callers.
-use Rattle.std.proofs.Common.{◌≡◌, ◌<◌, ◌+◌, ℕ, zero, suc, inl, inr, ◌⊎◌, Bool, true, false, cond, List, [], ◌∷◌, ◌++◌, map, length, take, take_all, drop, get_or, refl, sym, ◌∙◌, ap, subst, arith, Option, Some, None, Result, Ok, Err, IfOk, IfErr, IsPermutation}
-use Rattle.std.proofs.lemmas.List.{length-map, map-append}
+use Rattle.std.proofs.Common.{◌≡◌, ◌<◌, ◌≤◌, ◌+◌, ℕ, zero, suc, inl, inr, ◌⊎◌, Bool, true, false, cond, List, [], ◌∷◌, ◌++◌, map, length, take, take_all, add-one, drop, get_or, refl, sym, ◌∙◌, ap, subst, arith, Option, Some, None, Result, Ok, Err, IfOk, IfErr, IsPermutation}
+use Rattle.std.proofs.lemmas.List.{length-map, map-append, take_more}
 use Rattle.std.proofs.lemmas.List.Sorted.{IsPermutation-refl}
 use Rattle.std.specs.List.{AllByRecursion}
 use Rattle.t1_font.specs.FontValue.{FontValue}
@@ -139,22 +139,28 @@ module _ (fs : List FontValue) (ss : List StatesValue) (cs : List Callers) (h : 
     pub next_states : AreStatesOf s t far.font at.font
     next_states = record { own_font = far.is_font; other_font = at.is_font; own = far.states; other = e ∙ at.states d }
 
-    pub next_callers : (ds : List Callers) → ds ≡ take (suc i) cs → AreCallers ds far.font at.font
-    next_callers ds is = subst (λ ds. AreCallers ds far.font at.font) (sym (is ∙ at.callers_taken)) (both_callers far.font at.font (take i cs) at.callers far.callers at.of)
+    fonts_next : take (i + 1) fs ≡ take i fs ++ at.font ∷ []
+    fonts_next = ap (λ n. take n fs) (add-one i) ∙ at.fonts_taken
 
-    pub goes_on : (z : StatesValue) → Join profile far.font at.font × (z ≡ states_of profile (joined_font profile far.font at.font)) → JoinedSoFar (take (suc i) fs) z (take (suc i) cs)
+    callers_next : take (i + 1) cs ≡ take i cs ++ at.callers ∷ []
+    callers_next = ap (λ n. take n cs) (add-one i) ∙ at.callers_taken
+
+    pub next_callers : (ds : List Callers) → ds ≡ take (i + 1) cs → AreCallers ds far.font at.font
+    next_callers ds is = subst (λ ds. AreCallers ds far.font at.font) (sym (is ∙ callers_next)) (both_callers far.font at.font (take i cs) at.callers far.callers at.of)
+
+    pub goes_on : (z : StatesValue) → Join profile far.font at.font × (z ≡ states_of profile (joined_font profile far.font at.font)) → JoinedSoFar (take (i + 1) fs) z (take (i + 1) cs)
     goes_on z k = record {
       font = joined_font profile far.font at.font;
-      comes = subst (λ t. ComesTo t (joined_font profile far.font at.font)) (sym at.fonts_taken) (comes_last (take i fs) at.font far.font far.comes k.0);
+      comes = subst (λ t. ComesTo t (joined_font profile far.font at.font)) (sym fonts_next) (comes_last (take i fs) at.font far.font far.comes k.0);
       is_font = joined_is_font profile far.font at.font far.is_font at.is_font k.0;
       states = k.1;
-      callers = subst (λ t. CallersSoFar t (joined_font profile far.font at.font)) (sym at.callers_taken) (more_callers far.font at.font (take i cs) at.callers far.callers at.of k.0.states);
+      callers = subst (λ t. CallersSoFar t (joined_font profile far.font at.font)) (sym callers_next) (more_callers far.font at.font (take i cs) at.callers far.callers at.of k.0.states);
     }
 
     pub stops : (c : Refusal) → Tells c (conflict profile far.font at.font) → IsRefused fs c
     stops c told = stops_at (take i fs) at.font (drop (suc i) fs) fs far.font far.comes at.list c told
 
-  pub ends : (i : ℕ) → length ss ≡ i → (s : StatesValue) → JoinedSoFar (take i fs) s (take i cs) → EachGroupingMerges fs
+  pub ends : (i : ℕ) → length ss ≤ i → (s : StatesValue) → JoinedSoFar (take i fs) s (take i cs) → EachGroupingMerges fs
   ends i l s far = each_merges fs far.font h.fonts (subst (λ t. ComesTo t far.font) (take_all i fs (let n = ap length h.states ∙ length-map fs (states_of profile) in omega (arith, n, l))) far.comes)
 
 -- ---- noting
@@ -172,11 +178,32 @@ noted_more fs ss cs f s c h w is k = record {
   callers = all_more fs cs f c h.callers k;
 }
 
+pub noted_none : (ss : List StatesValue) (cs : List Callers) → ss ≡ [] → cs ≡ [] → AreNoted [] ss cs
+noted_none ss cs es ec = record { fonts = tt; states = es; callers = subst (λ cs. AreCallersOfAll cs []) (sym ec) tt }
+
+pub noted_next : (fs : List FontValue) (i : ℕ) (f : FontValue) → i < length fs → f ≡ get_or fs i f → (ss more_ss : List StatesValue) (cs more_cs : List Callers) (s : StatesValue) (c : Callers)
+    → AreNoted (take i fs) ss cs → IsFont f → s ≡ states_of profile f → AreCallersOf c f → more_ss ≡ ss ++ s ∷ [] → more_cs ≡ cs ++ c ∷ [] → AreNoted (take (i + 1) fs) more_ss more_cs
+noted_next fs i f l e ss more_ss cs more_cs s c h w is k es ec =
+    subst (λ fs. AreNoted fs more_ss more_cs) (sym (take_more fs i f l ∙ ap (λ x. take i fs ++ x ∷ []) (sym e)))
+    (subst (λ ss. AreNoted (take i fs ++ f ∷ []) ss more_cs) (sym es) (subst (λ cs. AreNoted (take i fs ++ f ∷ []) (ss ++ s ∷ []) cs) (sym ec) (noted_more (take i fs) ss cs f s c h w is k)))
+
+pub noted_all : (fs : List FontValue) (i : ℕ) (ss : List StatesValue) (cs : List Callers) → length fs ≤ i → AreNoted (take i fs) ss cs → AreNoted fs ss cs
+noted_all fs i ss cs l h = subst (λ fs. AreNoted fs ss cs) (take_all i fs l) h
+
 pub noted_lengths : (fs : List FontValue) (cs : List Callers) → AreCallersOfAll cs fs → length cs ≡ length fs
 noted_lengths [] [] h = refl
 noted_lengths [] (d ∷ cs) h = absurd h
 noted_lengths (g ∷ fs) [] h = absurd h
 noted_lengths (g ∷ fs) (d ∷ cs) h = ap suc (noted_lengths fs cs h.1)
+
+pub noted_alike : (fs : List FontValue) (ss : List StatesValue) (cs : List Callers) → AreNoted fs ss cs → length cs ≡ length ss
+noted_alike fs ss cs h = noted_lengths fs cs h.callers ∙ sym (ap length h.states ∙ length-map fs (states_of profile))
+
+pub some_noted : (fs : List FontValue) (ss : List StatesValue) (cs : List Callers) → AreNoted fs ss cs → 0 < length ss → 0 < length fs
+some_noted fs ss cs h l = let n = ap length h.states ∙ length-map fs (states_of profile) in omega (arith, n, l)
+
+pub some_states : (fs : List FontValue) (ss : List StatesValue) (cs : List Callers) → AreNoted fs ss cs → 0 < length fs → 0 < length ss
+some_states fs ss cs h l = let n = ap length h.states ∙ length-map fs (states_of profile) in omega (arith, n, l)
 
 -- ---- results
 

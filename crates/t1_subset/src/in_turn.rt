@@ -45,7 +45,9 @@ fn next_joined<'t, 'a>(
     ensures ok { (f g : FontValue) → AreStatesOf left.now right.now f g → IfOk result (λ both. Join profile f g × (both ≡ states_of profile (joined_font profile f g))) }
     ensures err { (f g : FontValue) → AreStatesOf left.now right.now f g → AreCallers callers.now f g → IfErr result (λ e. Tells e (conflict profile f g)) }
 {
-    states_conflict(alloc, left, right, callers)?;
+    if let Err(conflict) = states_conflict(alloc, left, right, callers) {
+        return Err(conflict);
+    }
     joined(alloc, left, right)
 }
 

@@ -50,7 +50,9 @@ fn merged<'a>(alloc: Global, left: &Font<'a>, right: &Font<'a>) -> Result<Font<'
     let Ok((other, other_callers)) = states_and_callers(alloc, right) else {
         return Err(Conflict::Memory);
     };
-    states_conflict(alloc, &own, &other, &[own_callers, other_callers])?;
+    if let Err(conflict) = states_conflict(alloc, &own, &other, &[own_callers, other_callers]) {
+        return Err(conflict);
+    }
     both(alloc, left, right)
 }
 
@@ -66,7 +68,9 @@ fn all_merged<'a>(
     ensures ok { IfOk result (λ j. ComesTo fonts.now j) }
     ensures err { IfErr result (λ e. IsRefused fonts.now e) }
 {
-    all_join(alloc, states, callers)?;
+    if let Err(conflict) = all_join(alloc, states, callers) {
+        return Err(conflict);
+    }
     made_of(alloc, fonts)
 }
 

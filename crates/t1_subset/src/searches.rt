@@ -1,6 +1,6 @@
 //! The lowest conflict of two fonts, by their states and by who uses them: one search for each kind.
 
-ghost use Rattle.std.specs.Prelude.{◌≡◌, IfOk, IfErr, Some, None, []};
+ghost use Rattle.std.specs.Prelude.{◌≡◌, ◌<◌, IfOk, IfErr, Some, None, SomeIff, []};
 ghost use Rattle.std.specs.Option.{option_map, unwrap_or};
 ghost use Rattle.t1_font.specs.FontValue.{FontValue};
 ghost use Rattle.t1_font.specs.IsFont.{IsFont};
@@ -53,12 +53,22 @@ fn one_lacks(own: Option<&NameState<'_>>, other: Option<&NameState<'_>>) -> bool
     is_sought(own) && charstring(other).is_some() || is_sought(other) && charstring(own).is_some()
 }
 
+/// The code as a byte, where it is one.
+fn byte_of(code: u16) -> Option<u8>
+    ensures { SomeIff result (code < 256) code }
+{
+    match u8::try_from(code) {
+        Ok(code) => Some(code),
+        Err(_) => None,
+    }
+}
+
 /// The smallest code that both have, with different names.
 fn code_conflict(own: &Table<u16, &[u8]>, other: &Table<u16, &[u8]>) -> Option<u8>
     ensures { (f g : FontValue) → IsFont f → own.now ≡ code_states f.encoding → other.now ≡ code_states g.encoding → result ≡ code_conflict f g }
 {
     match own.conflict(other) {
-        Some(code) => u8::try_from(*code).ok(),
+        Some(code) => byte_of(*code),
         None => None,
     }
 }
@@ -186,6 +196,8 @@ pub(crate) fn states_conflict(
     ensures ok { (f g : FontValue) → AreStatesOf left.now right.now f g → IfOk result (λ _. states_conflict profile f g ≡ None) }
     ensures err { (f g : FontValue) → AreStatesOf left.now right.now f g → AreCallers callers.now f g → IfErr result (λ e. Tells e (states_conflict profile f g)) }
 {
-    entries_conflict(alloc, left, right)?;
+    if let Err(conflict) = entries_conflict(alloc, left, right) {
+        return Err(conflict);
+    }
     uses_conflict(alloc, left, right, callers)
 }

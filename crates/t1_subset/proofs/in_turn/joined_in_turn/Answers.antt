@@ -1,16 +1,27 @@
-use Rattle.std.proofs.Common.{◌≡◌, ◌∙◌, ap, sym, subst, take, unwrap_or, arith}
+use Rattle.std.proofs.Common.{◌≡◌, ◌≤◌, ◌∙◌, ap, sym, subst, take, unwrap_or, length, arith}
 use Rattle.t1_subset.specs.StateTables.{StatesValue}
-use Rattle.t1_subset.proofs.Walks.{JoinedSoFar, starts, next_states, next_callers, goes_on, stops, ends, noted_at}
+use Rattle.t1_subset.proofs.Walks.{JoinedSoFar, starts, at, next_states, next_callers, goes_on, stops, ends}
 use Rattle.t1_subset.proofs.in_turn.joined_in_turn.Goals as goal
 
 pub rest-init : goal.rest-init
-rest-init c = (omega arith, λ fs h d. starts fs c.args.states.now c.args.callers.now h d c.requires.some)
+rest-init c fs h d = starts fs c.args.states.now c.args.callers.now h d c.requires.some
 
 pub rest-preserved : goal.rest-preserved
-rest-preserved c = (
-  omega arith,
-  λ fs h d.
-      let far = subst (λ (s : StatesValue). JoinedSoFar (take c.rest.place fs) s (take c.rest.place c.args.callers.now)) (sym (c.latest-left.ensures ∙ ap (unwrap_or c.rest.all) c.index-states-0.is)) (c.rest.invariant.1 fs h _) in
-      goes_on fs c.args.states.now c.args.callers.now h c.rest.place c.rest-test.true _ _ _ c.index-states-place.is far c.in-Ok.more
-      (c.in-Ok.ensures.ok far.font (noted_at fs c.args.states.now c.args.callers.now h c.rest.place c.rest-test.true).font (next_states fs c.args.states.now c.args.callers.now h c.rest.place c.rest-test.true _ _ _ c.index-states-place.is far)),
-)
+rest-preserved c fs h d =
+    let ss = c.args.states.now in let cs = c.args.callers.now in let i = c.rest.place in
+    let far = subst (λ (s : StatesValue). JoinedSoFar (take i fs) s (take i cs)) (sym (c.latest-left.ensures ∙ ap (unwrap_or c.rest.all) c.index-states-0.is)) (c.rest.invariant fs h _) in
+    goes_on fs ss cs h i c.rest-test.true _ _ _ c.index-states-place.is far c.in-Ok.more
+    (c.in-Ok.ensures.ok far.font (at fs ss cs h i c.rest-test.true _ _ _ c.index-states-place.is far).font (next_states fs ss cs h i c.rest-test.true _ _ _ c.index-states-place.is far))
+
+pub returns-in-Err-clause-err : goal.returns-in-Err-clause-err
+returns-in-Err-clause-err c fs h =
+    let ss = c.args.states.now in let cs = c.args.callers.now in let i = c.rest.place in
+    let far = subst (λ (s : StatesValue). JoinedSoFar (take i fs) s (take i cs)) (sym (c.latest-left.ensures ∙ ap (unwrap_or c.rest.all) c.index-states-0.is)) (c.rest.invariant fs h _) in
+    stops fs ss cs h i c.rest-test.true _ _ _ c.index-states-place.is far c.in-Err.conflict
+    (c.in-Err.ensures.err far.font (at fs ss cs h i c.rest-test.true _ _ _ c.index-states-place.is far).font (next_states fs ss cs h i c.rest-test.true _ _ _ c.index-states-place.is far)
+    (next_callers fs ss cs h i c.rest-test.true _ _ _ c.index-states-place.is far _ c.index-callers.is))
+
+pub returns-clause-ok : goal.returns-clause-ok
+returns-clause-ok c fs h =
+    let past = c.rest-test.false in
+    ends fs c.args.states.now c.args.callers.now h c.rest.place (omega (arith, past)) _ (c.rest.invariant fs h _)
