@@ -160,8 +160,10 @@ module _ (fs : List FontValue) (ss : List StatesValue) (cs : List Callers) (h : 
     pub stops : (c : Refusal) → Tells c (conflict profile far.font at.font) → IsRefused fs c
     stops c told = stops_at (take i fs) at.font (drop (suc i) fs) fs far.font far.comes at.list c told
 
-  pub ends : (i : ℕ) → length ss ≤ i → (s : StatesValue) → JoinedSoFar (take i fs) s (take i cs) → EachGroupingMerges fs
-  ends i l s far = each_merges fs far.font h.fonts (subst (λ t. ComesTo t far.font) (take_all i fs (let n = ap length h.states ∙ length-map fs (states_of profile) in omega (arith, n, l))) far.comes)
+  pub ends : (i : ℕ) → length ss ≤ i → 0 < length ss → (s : StatesValue → StatesValue) → ((d : StatesValue) → JoinedSoFar (take i fs) (s d) (take i cs)) → EachGroupingMerges fs
+  ends i l some s far =
+      let last = far (states_of profile (noted_at fs ss cs h 0 some).font) in
+      each_merges fs last.font h.fonts (subst (λ t. ComesTo t last.font) (take_all i fs (let n = ap length h.states ∙ length-map fs (states_of profile) in omega (arith, n, l))) last.comes)
 
 -- ---- noting
 
