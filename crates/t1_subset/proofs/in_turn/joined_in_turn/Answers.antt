@@ -1,4 +1,4 @@
-use Rattle.std.proofs.Common.{◌≡◌, ◌≤◌, ◌∙◌, ap, sym, subst, take, get_or, unwrap_or, length, arith}
+use Rattle.std.proofs.Common.{◌≡◌, ◌≤◌, ◌∙◌, ap, refl, sym, subst, take, get_or, unwrap_or, length, arith}
 use Rattle.t1_subset.specs.StateTables.{StatesValue}
 use Rattle.t1_subset.proofs.Walks.{JoinedSoFar, starts, noted_at, next_states, next_callers, goes_on, stops, ends}
 use Rattle.t1_subset.proofs.in_turn.joined_in_turn.Goals as goal
@@ -19,7 +19,7 @@ returns-in-Err-clause-err c fs h =
     let far = subst (λ (s : StatesValue). JoinedSoFar (take i fs) s (take i cs)) (sym (c.latest-left.ensures ∙ ap (unwrap_or c.rest.all) c.index-states-0.is)) (c.rest.invariant fs h _) in
     stops fs ss cs h i c.rest-test.true _ _ _ c.index-states-place.is far c.in-Err.conflict
     (c.in-Err.ensures.err far.font (noted_at fs ss cs h i c.rest-test.true).font (next_states fs ss cs h i c.rest-test.true _ _ _ c.index-states-place.is far)
-    (next_callers fs ss cs h i c.rest-test.true _ _ _ c.index-states-place.is far _ c.index-callers.is))
+    (next_callers fs ss cs h i c.rest-test.true _ _ _ c.index-states-place.is far _ refl))
 
 pub returns-clause-ok : goal.returns-clause-ok
 returns-clause-ok c fs h =
