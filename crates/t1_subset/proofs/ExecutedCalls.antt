@@ -1,29 +1,24 @@
 -- What glyphs execute, in code.
-use Rattle.std.proofs.Common.{◌≡◌, ℕ, ◌<◌, ◌≤◌, Bool, true, false, not, cond, ◌&&◌, List, [], flat_map, refl, sym, ap, ◌∙◌, true≢false, Option, Some, None, is_some, unwrap_or, nat_cmp, nat_lt, arith, inl, inr}
+use Rattle.std.proofs.Common.{◌≡◌, ℕ, ◌<◌, ◌≤◌, true, false, not, List, [], flat_map, refl, sym, ap, ◌∙◌, true≢false, Option, Some, None, is_some, unwrap_or, nat_lt, arith, inl, inr}
 use Rattle.std.proofs.lemmas.Bool.{ltb-true, ltb-false}
-use Rattle.std.specs.List.{list_any}
-use Rattle.std.specs.Ordering.{eq_by_cmp}
-use Rattle.std.specs.Cmp.{nat_cmp_total, both_ways}
-use Rattle.std.specs.Cmp.Lexicographic.{nat_list_cmp_total}
+use Rattle.std.specs.Cmp.{nat_cmp_total}
 use Rattle.std.specs.FinMap as maps
 use Rattle.std.specs.FinSet as sets
 use Rattle.std.specs.FinSet.{nat_cmp-IsAntisymmetric}
 use Rattle.t1_run.specs.Run.{exec}
-use Rattle.t1_font.specs.FontValue.{FontValue, name_cmp, declared_count}
-use Rattle.t1_font.specs.FontModel.{subr_at, names_in}
+use Rattle.t1_font.specs.FontValue.{FontValue, declared_count}
+use Rattle.t1_font.specs.FontModel.{subr_at}
 use Rattle.t1_font.specs.IsFont.{IsFont}
-use Rattle.t1_font.proofs.FontReaders.{subrs_seen, all_seen}
+use Rattle.t1_font.proofs.FontReaders.{all_seen}
 use Rattle.t1_subset.specs.Interpreter.{Numbers}
 use Rattle.t1_subset.specs.Keep.{charstring}
 use Rattle.t1_subset.specs.Profile.{profile, set_of}
-use Rattle.t1_subset.specs.States.{is_called, is_stub, state_of_entry, subr_state}
-use Rattle.t1_subset.specs.Conflicts.{agrees, first_where, smallest, members, keys_of_both, executes, executed_at, used_by, glyph_names, subr_clashes, subr_conflict}
-use Rattle.t1_subset.proofs.Conflicts.{passes_none, in_both, agrees_none}
+use Rattle.t1_subset.specs.States.{state_of_entry, subr_state}
+use Rattle.t1_subset.specs.Conflicts.{agrees, members, keys_of_both, subr_clashes, subr_conflict}
+use Rattle.t1_subset.proofs.Conflicts.{passes_none, in_both}
 use Rattle.t1_subset.proofs.Smallest.{smallest_is}
-use Rattle.t1_subset.proofs.Maps.{any_in, any_of}
-use Rattle.t1_subset.proofs.FirstNames.{smaller_first}
 use Rattle.t1_subset.proofs.FirstConflicts.{there_of, below_of, absent_beyond}
-use Rattle.t1_subset.proofs.Sets.{is_or_not, not_so, or_left, name_same, any_one, any_at, any_flat, any_flat_from, in_list, from_in_list, in_items, from_in_items}
+use Rattle.t1_subset.proofs.Sets.{is_or_not, not_so, or_left}
 
 -- the indices that a name's glyph executes
 abbrev pub calls_by : FontValue → List ℕ → Numbers

@@ -5,7 +5,7 @@ use Rattle.std.specs.Cmp.{nat_cmp_total}
 use Rattle.std.specs.Cmp.Lexicographic.{nat_list_cmp_total}
 use Rattle.std.specs.FinMap as maps
 use Rattle.std.specs.FinSet as sets
-use Rattle.t1_font.specs.Cut.{map_values, merged}
+use Rattle.t1_font.specs.Cut.{merged}
 use Rattle.t1_font.specs.FontValue.{FontValue, Named, Shell, name_cmp, declared_count}
 use Rattle.t1_font.specs.FontModel.{names_in}
 use Rattle.t1_font.proofs.MapCuts.{entries_all, entries-map_values}
@@ -13,7 +13,7 @@ use Rattle.t1_subset.specs.declared.callers.Callers.{Callers}
 use Rattle.t1_subset.specs.Interpreter.{same_bytes}
 use Rattle.t1_subset.specs.Keep.{has, components, charstring}
 use Rattle.t1_subset.specs.Profile.{profile}
-use Rattle.t1_subset.specs.States.{Agree, joined, is_called, is_sought, name_state, state_of_glyph, joined_font, Compatible}
+use Rattle.t1_subset.specs.States.{Agree, joined, is_called, is_sought, state_of_glyph, joined_font, Compatible}
 use Rattle.t1_subset.specs.Conflicts.{first_where, smallest, members, keys_of_both, executes, executed_at, calls_for, called_at, wants, wanted_by, used_by, glyph_names}
 use Rattle.t1_subset.specs.Differences.{smaller}
 use Rattle.t1_subset.specs.Callers.{user_of, seeker_of, user_at, user_from, seeker_from, AreCallersOf}

@@ -1,5 +1,5 @@
 -- The smallest names in conflict, as the code finds them in tables of states.
-use Rattle.std.proofs.Common.{◌≡◌, ℕ, Bool, true, false, not, cond, ◌&&◌, ◌||◌, List, [], ◌∷◌, map, refl, sym, ◌∙◌, ap, true≢false, Ordering, Option, Some, None, is_some, option_map, is_lt}
+use Rattle.std.proofs.Common.{◌≡◌, ℕ, Bool, true, false, not, cond, ◌&&◌, ◌||◌, List, [], ◌∷◌, map, refl, sym, ◌∙◌, ap, Ordering, Option, Some, None, is_some, option_map, is_lt}
 use Rattle.std.specs.List.{list_any, AllByRecursion}
 use Rattle.std.specs.Cmp.{IsTotalOrder, first_so}
 use Rattle.std.specs.Cmp.Lexicographic.{nat_list_cmp_total}

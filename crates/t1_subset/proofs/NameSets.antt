@@ -1,10 +1,8 @@
 -- Names in the order of their bytes, as finite sets.
-use Rattle.std.proofs.Common.{◌≡◌, ℕ, ◌<◌, ◌↔◌, Bool, true, false, ◌||◌, List, [], ◌∷◌, ◌++◌, refl, sym, ◌∙◌, ap, true≢false, inl, inr, length, arith, Option, Some, None, IsSome, IfSome, MatchOption, Ordering, Less, Equal, Greater}
+use Rattle.std.proofs.Common.{◌≡◌, ℕ, Bool, true, false, ◌||◌, List, [], ◌∷◌, ◌++◌, refl, sym, ◌∙◌, ap, Ordering, Less, Equal, Greater}
 use Rattle.std.specs.Global.{Vec}
 use Rattle.std.proofs.lemmas.List.{append-nil}
-use Rattle.std.specs.List.{list_any, All, AllByRecursion}
-use Rattle.std.specs.BTreeMap.Range.{IsLtBy}
-use Rattle.std.proofs.lemmas.List.Elements.{All-head, All-tail}
+use Rattle.std.specs.List.{list_any, AllByRecursion}
 use Rattle.std.specs.List.Sorted.{IsStrictlySortedBy}
 use Rattle.std.specs.Ordering.{eq_by_cmp, match_ordering}
 use Rattle.std.specs.Cmp.Lexicographic.{nat_list_cmp_total}
@@ -12,9 +10,7 @@ use Rattle.std.specs.BTreeSet.{insert_key}
 use Rattle.std.specs.FinSet as sets
 use Rattle.t1_font.specs.FontValue.{name_cmp}
 use Rattle.t1_subset.specs.NameSets.{names_of, set_by}
-use Rattle.t1_subset.specs.Interpreter.{Names}
-use Rattle.t1_subset.proofs.FirstNames.{not_itself, one_way}
-use Rattle.t1_subset.proofs.Sets.{name_same, or_cases, here, itself, tied}
+use Rattle.t1_subset.proofs.Sets.{name_same}
 
 pub or_same : (a b c : Bool) → a ≡ b → (a || c) ≡ (b || (a || c))
 or_same true true c e = refl

@@ -1,21 +1,19 @@
 -- The lowest conflict of two fonts, by their states.
-use Rattle.std.proofs.Common.{◌≡◌, ◌<◌, ℕ, Bool, true, false, not, cond, ◌&&◌, List, [], ◌∷◌, map, refl, sym, ◌∙◌, ap, subst, Option, Some, None, option_map, is_some, unwrap_or, nat_cmp, Ordering}
+use Rattle.std.proofs.Common.{◌≡◌, ◌<◌, ℕ, Bool, true, false, not, cond, ◌&&◌, List, [], ◌∷◌, map, refl, sym, ◌∙◌, ap, Option, Some, None, is_some, unwrap_or}
 use Rattle.std.specs.List.{list_all}
 use Rattle.std.specs.Cmp.{nat_cmp_total}
 use Rattle.std.specs.FinSet.{nat_cmp-IsAntisymmetric}
 use Rattle.std.specs.FinMap as maps
 use Rattle.t1_join.specs.TableMeaning.{TableMeaning}
 use Rattle.t1_font.specs.Cut.{map_values}
-use Rattle.t1_font.specs.FontValue.{FontValue, Shell, Encoding, Word, Codes, Numbered, declared_count}
+use Rattle.t1_font.specs.FontValue.{FontValue, Encoding, Word, Codes, Numbered, declared_count}
 use Rattle.t1_font.specs.FontModel.{word_of}
 use Rattle.t1_font.proofs.MapCuts.{entries-map_values}
 use Rattle.t1_subset.specs.Interpreter.{same_bytes}
 use Rattle.t1_subset.specs.Profile.{profile}
-use Rattle.t1_subset.specs.States.{subr_state}
 use Rattle.t1_subset.specs.StateTables.{Shared, StatesValue, shared_of, code_states, name_states, used_subrs, numbered, states_of}
-use Rattle.t1_subset.specs.Conflicts.{Conflict, ShellPart, Head, EncodingPart, ClearTail, Private, SubrsTable, SubrsWords, Middle, GlyphsWords, Tail, ShellDiffers, CodeDiffers, GlyphDiffers, LacksComponent, SubrDiffers, found, first_where, smallest, members, keys_of_both, same_number, same_bool, same_words, same_keys, same_kind, same_part, shell_conflict, code_conflict, glyph_conflict, component_conflict, subr_conflict, subr_clashes, states_conflict, wanted_by, used_by, glyph_names}
-use Rattle.t1_subset.specs.Clashes.{AreStatesOf, entries_conflict, uses_conflict}
-use Rattle.t1_subset.proofs.Conflicts.{found_none, Shares}
+use Rattle.t1_subset.specs.Conflicts.{ShellPart, Head, EncodingPart, ClearTail, Private, SubrsTable, SubrsWords, Middle, GlyphsWords, Tail, ShellDiffers, CodeDiffers, GlyphDiffers, LacksComponent, SubrDiffers, found, first_where, smallest, members, keys_of_both, same_number, same_bool, same_words, same_keys, same_kind, same_part, shell_conflict, code_conflict, glyph_conflict, component_conflict, subr_conflict, subr_clashes, wanted_by, used_by, glyph_names}
+use Rattle.t1_subset.specs.Clashes.{entries_conflict, uses_conflict}
 use Rattle.t1_font.specs.IsFont.{IsFont}
 use Rattle.t1_subset.proofs.ExecutedCalls.{clash_declared}
 use Rattle.t1_subset.proofs.FontStates.{shared_to}

@@ -1,6 +1,6 @@
 -- Merges of fonts are joins of their states.
-use Rattle.std.proofs.Common.{◌≡◌, ◌<◌, ◌+◌, ℕ, List, [], ◌∷◌, ◌++◌, map, length, get_or, take, refl, sym, ◌∙◌, ap, subst, arith, inl, option_map, Option, Some, None, Contains, Result, Ok, Err, IfOk, IfErr, IsPermutation}
-use Rattle.std.proofs.lemmas.List.{map-append, take_more}
+use Rattle.std.proofs.Common.{◌≡◌, ◌<◌, List, [], ◌∷◌, ◌++◌, map, length, get_or, refl, sym, ◌∙◌, ap, subst, arith, inl, option_map, Option, Some, None, Contains, Result, Ok, Err, IfOk, IfErr, IsPermutation}
+use Rattle.std.proofs.lemmas.List.{map-append}
 use Rattle.std.proofs.lemmas.List.Sorted.{IsPermutation-refl}
 use Rattle.std.specs.List.{AllByRecursion}
 use Rattle.t1_join.specs.Groupings.{Grouping, one, two, Uses, Gives, IsJoinOf}
@@ -22,7 +22,7 @@ use Rattle.t1_subset.proofs.Conflicts.{no_conflict, no_states_conflict}
 use Rattle.t1_subset.proofs.Fonts.{font_within}
 use Rattle.t1_subset.proofs.FontStates.{join_exactly, states_join}
 use Rattle.t1_subset.proofs.ManyMerges.{tells_none, left_leaves}
-use Rattle.t1_subset.proofs.Orders.{each_leaf, by_append, any_order, one_result}
+use Rattle.t1_subset.proofs.Orders.{each_leaf, any_order, one_result}
 
 module _ {O : Type 0} (m : Interpreter O) where
   -- the merges of fonts as joins of their states

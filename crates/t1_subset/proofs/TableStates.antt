@@ -21,13 +21,11 @@ use Rattle.t1_font.specs.IsFont.{IsFont}
 use Rattle.t1_subset.specs.Interpreter.{same_bytes}
 use Rattle.t1_subset.specs.Profile.{profile}
 use Rattle.t1_subset.specs.States.{code_state, subr_state}
-use Rattle.t1_subset.specs.Keep.{has}
-use Rattle.t1_subset.specs.Conflicts.{agrees, members, code_conflict, glyph_clashes, glyph_conflict, glyph_names, subr_conflict}
+use Rattle.t1_subset.specs.Conflicts.{agrees, code_conflict, subr_conflict}
 use Rattle.t1_subset.specs.Differences.{with_state}
-use Rattle.t1_subset.proofs.Conflicts.{bytes_decide, passes_none, in_both}
-use Rattle.t1_subset.proofs.Sets.{is_or_not, not_so, name_same, tied, itself, here, later, or_left}
-use Rattle.t1_subset.proofs.Smallest.{smallest_is}
-use Rattle.t1_subset.proofs.FirstConflicts.{there_of, first_code, no_code, no_name}
+use Rattle.t1_subset.proofs.Conflicts.{bytes_decide}
+use Rattle.t1_subset.proofs.Sets.{is_or_not, not_so, name_same, tied, itself, here, later}
+use Rattle.t1_subset.proofs.FirstConflicts.{first_code, no_code, no_name}
 use Rattle.t1_subset.proofs.ExecutedCalls.{first_subr, no_subr}
 
 -- ---- states that agree

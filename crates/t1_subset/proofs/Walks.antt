@@ -1,5 +1,5 @@
 -- Fonts from left to right, by their states and callers.
-use Rattle.std.proofs.Common.{◌≡◌, ◌<◌, ◌≤◌, ◌+◌, ℕ, zero, suc, inl, inr, ◌⊎◌, Bool, true, false, cond, List, [], ◌∷◌, ◌++◌, map, length, take, take_all, add-one, drop, get_or, refl, sym, ◌∙◌, ap, subst, arith, Option, Some, None, Result, Ok, Err, IfOk, IfErr, IsPermutation}
+use Rattle.std.proofs.Common.{◌≡◌, ◌<◌, ◌≤◌, ◌+◌, ℕ, zero, suc, inl, inr, ◌⊎◌, Bool, true, false, cond, List, [], ◌∷◌, ◌++◌, map, length, take, take_all, add-one, drop, get_or, refl, sym, ◌∙◌, ap, subst, arith, Some, None, Result, Ok, Err, IfOk, IfErr, IsPermutation}
 use Rattle.std.proofs.lemmas.List.{length-map, map-append, take_more}
 use Rattle.std.proofs.lemmas.List.Sorted.{IsPermutation-refl}
 use Rattle.std.specs.List.{AllByRecursion}
@@ -12,13 +12,13 @@ use Rattle.t1_subset.specs.Profile.{profile}
 use Rattle.t1_subset.specs.States.{Join, joined_font, IsWithin}
 use Rattle.t1_subset.specs.StateTables.{StatesValue, StatesAgree, StatesJoin, states_of}
 use Rattle.t1_subset.specs.StateLaws.{states_laws}
-use Rattle.t1_subset.specs.Conflicts.{Conflict, OverLimit, found, is_within, states_conflict, conflict}
+use Rattle.t1_subset.specs.Conflicts.{OverLimit, found, is_within, states_conflict, conflict}
 use Rattle.t1_subset.specs.Refusals.{Tells}
 use Rattle.t1_subset.specs.Callers.{AreCallersOf, AreCallersOfAll}
 use Rattle.t1_subset.specs.Clashes.{AreStatesOf, AreCallers}
-use Rattle.t1_subset.specs.Trees.{Tree, Leaf, Both, leaves, left_tree, Merges}
-use Rattle.t1_subset.specs.Merger.{AreNoted, ComesTo, IsRefused, StopsAt, EachGroupingMerges}
-use Rattle.t1_subset.proofs.Conflicts.{no_conflict, compatible}
+use Rattle.t1_subset.specs.Trees.{Tree, Leaf, leaves, left_tree, Merges}
+use Rattle.t1_subset.specs.Merger.{AreNoted, ComesTo, IsRefused, EachGroupingMerges}
+use Rattle.t1_subset.proofs.Conflicts.{no_conflict}
 use Rattle.t1_subset.proofs.FontCallers.{CallersSoFar, first_callers, both_callers, more_callers}
 use Rattle.t1_subset.proofs.FontStates.{join_exactly, states_join}
 use Rattle.t1_subset.proofs.Fonts.{font_within, joined_is_font}

@@ -1,9 +1,8 @@
 -- Who executes which Subr of a font, and who names which component that the font lacks.
-use Rattle.std.specs.Prelude.{◌≡◌, ◌<◌, ℕ, cond, List, [], ◌∷◌, Option, None, get_or, length}
+use Rattle.std.specs.Prelude.{◌≡◌, ◌<◌, ℕ, List, [], ◌∷◌, Option, None, get_or}
 use Rattle.std.specs.Option.{option_map}
 use Rattle.std.specs.Borrow.{Bor}
 use Rattle.std.specs.FinMap as maps
-use Rattle.t1_join.specs.TableMeaning.{TableMeaning}
 use Rattle.t1_font.specs.FontValue.{FontValue, name_cmp, declared_count}
 use Rattle.t1_font.specs.FontModel.{names_in}
 use Rattle.t1_subset.specs.declared.callers.Callers.{Callers}

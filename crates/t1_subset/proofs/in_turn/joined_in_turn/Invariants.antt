@@ -1,4 +1,4 @@
-use Rattle.std.proofs.Common.{◌≤◌, List, get_or, take, unwrap_or, length}
+use Rattle.std.proofs.Common.{List, get_or, take, unwrap_or}
 use Rattle.t1_font.specs.FontValue.{FontValue}
 use Rattle.t1_subset.specs.StateTables.{StatesValue}
 use Rattle.t1_subset.specs.Merger.{AreNoted}

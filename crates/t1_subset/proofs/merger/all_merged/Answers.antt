@@ -1,4 +1,3 @@
-use Rattle.std.proofs.Common.{sym, ◌∙◌}
 use Rattle.t1_subset.proofs.StateTrees.{comes_ok, refused_err}
 use Rattle.t1_subset.proofs.Walks.{some_states, noted_alike}
 use Rattle.t1_subset.proofs.merger.all_merged.Goals as goal

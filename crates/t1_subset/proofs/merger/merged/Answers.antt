@@ -1,5 +1,4 @@
 use Rattle.std.proofs.Common.{[], ◌∷◌}
-use Rattle.t1_subset.specs.Clashes.{AreStatesOf}
 use Rattle.t1_subset.proofs.FontCallers.{first_callers, both_callers}
 use Rattle.t1_subset.proofs.MergedFonts.{tells_states}
 use Rattle.t1_subset.proofs.merger.merged.Goals as goal

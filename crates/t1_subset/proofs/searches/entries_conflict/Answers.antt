@@ -1,4 +1,4 @@
-use Rattle.std.proofs.Common.{sym, ◌∙◌, ap, subst}
+use Rattle.std.proofs.Common.{sym, ◌∙◌, subst}
 use Rattle.t1_subset.specs.Refusals.{Tells}
 use Rattle.t1_subset.proofs.StateClashes.{shell_alike, shared_seen, codes_seen, names_seen, entries_shell, entries_code, entries_glyph}
 use Rattle.t1_subset.proofs.NameClashes.{glyph_found}

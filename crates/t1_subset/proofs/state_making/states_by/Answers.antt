@@ -1,4 +1,3 @@
-use Rattle.std.proofs.Common.{◌∙◌}
 use Rattle.t1_subset.specs.Profile.{profile}
 use Rattle.t1_subset.specs.StateTables.{shared_of}
 use Rattle.t1_subset.proofs.Fonts.{font_within}
