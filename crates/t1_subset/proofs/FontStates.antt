@@ -54,7 +54,7 @@ same_name None (Some d) e = cc
 same_name (Some c) None e = cc
 same_name (Some c) (Some d) e = cc
 
-abbrev meant : Option (Option (List ℕ)) → State
+abbrev pub meant : Option (Option (List ℕ)) → State
 meant x = option_map name_meaning x
 
 names_to : (x y : Option (Option (List ℕ))) → PlacesAgree (meant x) (meant y) → Agree x y

@@ -29,14 +29,17 @@ mod SubsetCuts
 mod FirstNames
 mod FirstConflicts
 mod SetUnions
-mod LackingComponents
+mod CopiedNames
 mod TableWeights
 mod Numbered
 mod SoughtNames
 mod ByNumber
 pub mod FontStates
 mod TableStates
-mod JoinedRuns
+mod FontCallers
+mod NameClashes
+mod StateClashes
+mod Walks
 mod MergedFonts
 pub mod ManyMerges
 mod ListMergers

@@ -1,5 +1,5 @@
 -- Merging two fonts whose shells and states have no conflict.
-use Rattle.std.proofs.Common.{◌≡◌, inl, inr, Bool, true, false, cond, refl, sym, ◌∙◌, ap, subst, arith, Option, Some, None}
+use Rattle.std.proofs.Common.{◌≡◌, inl, inr, Bool, true, false, cond, refl, sym, ◌∙◌, ap, subst, arith, Option, Some, None, Result, Ok, Err, IfOk, IfErr}
 use Rattle.t1_font.specs.FontValue.{FontValue}
 use Rattle.t1_font.specs.IsFont.{IsFont}
 use Rattle.t1_font.specs.Cut.{join_parts}
@@ -14,7 +14,7 @@ use Rattle.t1_subset.specs.declared.conflict.Conflict.TheVariants as refusal
 use Rattle.t1_subset.specs.Profile.{profile}
 use Rattle.t1_subset.specs.Differences.{shell_part, bytes_of}
 use Rattle.t1_subset.specs.Refusals.{Tells}
-use Rattle.t1_subset.specs.Runs.{entries_conflict, runs_conflict}
+use Rattle.t1_subset.specs.Clashes.{entries_conflict, uses_conflict}
 use Rattle.t1_subset.specs.Conflicts.{Conflict, ShellDiffers, CodeDiffers, GlyphDiffers, LacksComponent, SubrDiffers, OverLimit, found, shell_conflict, code_conflict, glyph_conflict, states_conflict, conflict, is_within}
 use Rattle.t1_subset.proofs.Conflicts.{compatible, within_so, found_none}
 use Rattle.t1_subset.proofs.Fonts.{font_within}
@@ -69,20 +69,28 @@ never d y h = cc
 module _ (f g : FontValue) where
   -- what comes after codes and glyphs
   in_states : (x : Conflict) → entries_conflict f g ≡ Some x → states_conflict profile f g ≡ Some x
-  in_states x h = found_on ShellDiffers (shell_conflict f g) _ _ x (found_on CodeDiffers (code_conflict f g) _ _ x (found_on GlyphDiffers (glyph_conflict f g) None (runs_conflict f g) x (never (runs_conflict f g) x))) h
+  in_states x h = found_on ShellDiffers (shell_conflict f g) _ _ x (found_on CodeDiffers (code_conflict f g) _ _ x (found_on GlyphDiffers (glyph_conflict f g) None (uses_conflict f g) x (never (uses_conflict f g) x))) h
 
-  last : entries_conflict f g ≡ None → states_conflict profile f g ≡ runs_conflict f g
+  pub last : entries_conflict f g ≡ None → states_conflict profile f g ≡ uses_conflict f g
   last h =
       let s = found_none ShellDiffers (shell_conflict f g) _ h in
       let c = found_none CodeDiffers (code_conflict f g) _ s.1 in
       let n = found_none GlyphDiffers (glyph_conflict f g) _ c.1 in
-      λ i. found ShellDiffers (s.0 i) (found CodeDiffers (c.0 i) (found GlyphDiffers (n.0 i) (runs_conflict f g)))
+      λ i. found ShellDiffers (s.0 i) (found CodeDiffers (c.0 i) (found GlyphDiffers (n.0 i) (uses_conflict f g)))
 
-  in_all : (x : Conflict) → states_conflict profile f g ≡ Some x → conflict profile f g ≡ Some x
-  in_all x h = ap (λ o. found (λ c. c) o (cond (is_within profile f g) None (Some OverLimit))) h
+  pub tells_entries : (e : Refusal) → Tells e (entries_conflict f g) → Tells e (states_conflict profile f g)
+  tells_entries e t = tells_on e (entries_conflict f g) (states_conflict profile f g) in_states t
 
-  pub tells_entries : (e : Refusal) → Tells e (entries_conflict f g) → Tells e (conflict profile f g)
-  tells_entries e t = tells_on e (entries_conflict f g) (conflict profile f g) (λ x h. in_all x (in_states x h)) t
+  pub tells_uses : (e : Refusal) → entries_conflict f g ≡ None → Tells e (uses_conflict f g) → Tells e (states_conflict profile f g)
+  tells_uses e n t = subst (Tells e) (sym (last n)) t
 
-  pub tells_runs : (e : Refusal) → entries_conflict f g ≡ None → Tells e (runs_conflict f g) → Tells e (conflict profile f g)
-  tells_runs e n t = tells_on e (runs_conflict f g) (conflict profile f g) (λ x h. in_all x (last n ∙ h)) t
+  pub tells_states : (e : Refusal) → Tells e (states_conflict profile f g) → Tells e (conflict profile f g)
+  tells_states e t = tells_on e (states_conflict profile f g) (conflict profile f g) (λ x h. ap (λ o. found (λ c. c) o (cond (is_within profile f g) None (Some OverLimit))) h) t
+
+  pub then_ok : {X : Type 0} (r : Result X Refusal) → entries_conflict f g ≡ None → IfOk r (λ x. uses_conflict f g ≡ None) → IfOk r (λ x. states_conflict profile f g ≡ None)
+  then_ok (Ok x) n h = last n ∙ h
+  then_ok (Err e) n h = tt
+
+  pub then_err : {X : Type 0} (r : Result X Refusal) → entries_conflict f g ≡ None → IfErr r (λ e. Tells e (uses_conflict f g)) → IfErr r (λ e. Tells e (states_conflict profile f g))
+  then_err (Ok x) n h = tt
+  then_err (Err e) n h = tells_uses e n h

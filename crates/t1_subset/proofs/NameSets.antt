@@ -1,20 +1,16 @@
 -- Names in the order of their bytes, as finite sets.
-use Rattle.std.proofs.Common.{◌≡◌, ℕ, ◌<◌, ◌↔◌, Bool, true, false, ◌||◌, List, [], ◌∷◌, ◌++◌, refl, sym, ◌∙◌, ap, true≢false, inl, inr, length, arith, Option, Some, None, IsSome, IfSome, MatchOption, Ordering, Less, Equal, Greater}
+use Rattle.std.proofs.Common.{◌≡◌, ℕ, Bool, true, false, ◌||◌, List, [], ◌∷◌, ◌++◌, refl, sym, ◌∙◌, ap, Ordering, Less, Equal, Greater}
 use Rattle.std.specs.Global.{Vec}
 use Rattle.std.proofs.lemmas.List.{append-nil}
-use Rattle.std.specs.List.{list_any, All, AllByRecursion}
-use Rattle.std.specs.BTreeMap.Range.{IsLtBy}
-use Rattle.std.proofs.lemmas.List.Elements.{All-head, All-tail}
+use Rattle.std.specs.List.{list_any, AllByRecursion}
 use Rattle.std.specs.List.Sorted.{IsStrictlySortedBy}
 use Rattle.std.specs.Ordering.{eq_by_cmp, match_ordering}
 use Rattle.std.specs.Cmp.Lexicographic.{nat_list_cmp_total}
 use Rattle.std.specs.BTreeSet.{insert_key}
 use Rattle.std.specs.FinSet as sets
 use Rattle.t1_font.specs.FontValue.{name_cmp}
-use Rattle.t1_subset.specs.NameSets.{names_of, set_by, IsLeast}
-use Rattle.t1_subset.specs.Interpreter.{Names}
-use Rattle.t1_subset.proofs.FirstNames.{not_itself, one_way}
-use Rattle.t1_subset.proofs.Sets.{name_same, or_cases, here, itself, tied}
+use Rattle.t1_subset.specs.NameSets.{names_of, set_by}
+use Rattle.t1_subset.proofs.Sets.{name_same}
 
 pub or_same : (a b c : Bool) → a ≡ b → (a || c) ≡ (b || (a || c))
 or_same true true c e = refl
@@ -57,39 +53,6 @@ unfolding IsStrictlySortedBy
 sorted_names [] h = tt
 sorted_names (v ∷ vs) h = (all_names v vs h.0, sorted_names vs h.1)
 
-pub contains_by_list : (vs : List (Vec ℕ)) (q : List ℕ) → list_any (λ (v : Vec ℕ). eq_by_cmp name_cmp q v.items) vs ≡ sets.contains (set_by vs) q
-contains_by_list vs q = any_names vs ∙ sym (sets.contains-from_list nat_list_cmp_total (names_of vs) q)
-  where
-    any_names : (vs : List (Vec ℕ)) → list_any (λ (v : Vec ℕ). eq_by_cmp name_cmp q v.items) vs ≡ list_any (eq_by_cmp name_cmp q) (names_of vs)
-    any_names [] = refl
-    any_names (v ∷ vs) = ap (λ b. eq_by_cmp name_cmp q v.items || b) (any_names vs)
-
 -- where nothing is left, all is taken
 pub all_taken : (taken left all : List (Vec ℕ)) → left ≡ [] → taken ++ left ≡ all → taken ≡ all
 all_taken taken left all h e = sym (append-nil taken) ∙ ap (λ t. taken ++ t) (sym h) ∙ e
-
--- ---- the first of a set
-
-above : (k : Vec ℕ) (vs : List (Vec ℕ)) → All (IsLtBy by_bytes k) vs → (q : List ℕ) → list_any (eq_by_cmp name_cmp q) (names_of vs) ≡ true → name_cmp k.items q ≡ Less
-above k [] h q w = absurd (true≢false (sym w))
-above k (v ∷ vs) h q w = elim (or_cases (eq_by_cmp name_cmp q v.items) (list_any (eq_by_cmp name_cmp q) (names_of vs)) w) [
-  | inl a ↦ ap (name_cmp k.items) (tied nat_list_cmp_total name_same q v.items a) ∙ All-head (IsLtBy by_bytes k) v vs h
-  | inr b ↦ above k vs (All-tail (IsLtBy by_bytes k) v vs h) q b
-]
-
-none_of : (ks : List (Vec ℕ)) → (0 < length ks → ⊥) → ks ≡ []
-none_of [] h = refl
-none_of (k ∷ ks) h = absurd (h (omega arith))
-
-pub first_least : (s : Names) (ks new : List (Vec ℕ)) (r : Option (Vec ℕ)) → set_by ks ≡ s → (IsSome r ↔ (0 < length ks)) → IfSome r (λ k. ks ≡ k ∷ new) → IfSome r (λ k. All (IsLtBy by_bytes k) new)
-    → MatchOption r (s ≡ sets.empty) (λ v. IsLeast s v.items)
-first_least s ks new None e some is all = sym e ∙ ap set_by (none_of ks (λ l. true≢false (sym (some.1 l))))
-first_least s ks new (Some k) e some is all = record {
-  there = ap (λ (t : Names). sets.contains t k.items) (sym (ap set_by (sym is) ∙ e)) ∙ sets.contains-from_list nat_list_cmp_total (names_of (k ∷ new)) k.items ∙ here (eq_by_cmp name_cmp k.items) k.items (names_of new) (itself nat_list_cmp_total name_same k.items);
-  least = λ q h l.
-      let w : list_any (eq_by_cmp name_cmp q) (names_of (k ∷ new)) ≡ true = sym (sets.contains-from_list nat_list_cmp_total (names_of (k ∷ new)) q) ∙ ap (λ (t : Names). sets.contains t q) (ap set_by (sym is) ∙ e) ∙ h in
-      elim (or_cases (eq_by_cmp name_cmp q k.items) (list_any (eq_by_cmp name_cmp q) (names_of new)) w) [
-        | inl a ↦ not_itself nat_list_cmp_total name_same k.items (ap (λ q. name_cmp q k.items) (sym (tied nat_list_cmp_total name_same q k.items a)) ∙ l)
-        | inr b ↦ one_way nat_list_cmp_total name_same k.items q (above k new all q b) l
-      ];
-}

@@ -1,6 +1,6 @@
 -- Merges of fonts are joins of their states.
-use Rattle.std.proofs.Common.{◌≡◌, ◌<◌, ◌+◌, ℕ, List, [], ◌∷◌, ◌++◌, map, length, get_or, take, refl, sym, ◌∙◌, ap, subst, arith, inl, option_map, Option, Some, None, Contains, Result, Ok, Err, IfOk, IfErr, IsPermutation}
-use Rattle.std.proofs.lemmas.List.{map-append, take_more}
+use Rattle.std.proofs.Common.{◌≡◌, ◌<◌, List, [], ◌∷◌, ◌++◌, map, length, get_or, refl, sym, ◌∙◌, ap, subst, arith, inl, option_map, Option, Some, None, Contains, Result, Ok, Err, IfOk, IfErr, IsPermutation}
+use Rattle.std.proofs.lemmas.List.{map-append}
 use Rattle.std.proofs.lemmas.List.Sorted.{IsPermutation-refl}
 use Rattle.std.specs.List.{AllByRecursion}
 use Rattle.t1_join.specs.Groupings.{Grouping, one, two, Uses, Gives, IsJoinOf}
@@ -22,7 +22,7 @@ use Rattle.t1_subset.proofs.Conflicts.{no_conflict, no_states_conflict}
 use Rattle.t1_subset.proofs.Fonts.{font_within}
 use Rattle.t1_subset.proofs.FontStates.{join_exactly, states_join}
 use Rattle.t1_subset.proofs.ManyMerges.{tells_none, left_leaves}
-use Rattle.t1_subset.proofs.Orders.{each_leaf, by_append, any_order, one_result}
+use Rattle.t1_subset.proofs.Orders.{each_leaf, any_order, one_result}
 
 module _ {O : Type 0} (m : Interpreter O) where
   -- the merges of fonts as joins of their states
@@ -53,7 +53,7 @@ module _ {O : Type 0} (m : Interpreter O) where
       let same : values (grouped t) ≡ map (states_of m) fs = leaves_grouped t ∙ ap (map (states_of m)) e in
       record { no_other = λ x h. subst (λ (l : List StatesValue). Contains l x) same h; each = λ x h. subst (λ (l : List StatesValue). Contains l x) (sym same) h }
 
-all_within : (fs : List FontValue) → AllByRecursion IsFont fs → AllByRecursion IsWithin fs
+pub all_within : (fs : List FontValue) → AllByRecursion IsFont fs → AllByRecursion IsWithin fs
 all_within [] h = tt
 all_within (f ∷ fs) h = (font_within f h.0, all_within fs h.1)
 
@@ -139,16 +139,6 @@ refused_err fs l (Ok j) h = tt
 refused_err fs l (Err c) h = refused_memory fs l c h
 
 -- ---- the states of each font
-
-module _ (fs : List FontValue) (i : ℕ) (f : FontValue) (l : i < length fs) (e : f ≡ get_or fs i f) where
-  taken : take (i + 1) fs ≡ take i fs ++ f ∷ []
-  taken = take_more fs i f l ∙ ap (λ x. take i fs ++ x ∷ []) (sym e)
-
-  pub more_states : (all new : List StatesValue) (s : StatesValue) → all ≡ map (states_of profile) (take i fs) → new ≡ all ++ s ∷ [] → s ≡ states_of profile f → new ≡ map (states_of profile) (take (i + 1) fs)
-  more_states all new s h is k = is ∙ (λ d. h d ++ k d ∷ []) ∙ sym (ap (map (states_of profile)) taken ∙ map-append (states_of profile) (take i fs) (f ∷ []))
-
-  pub more_fonts : AllByRecursion IsFont (take i fs) → IsFont f → AllByRecursion IsFont (take (i + 1) fs)
-  more_fonts h w = subst (AllByRecursion IsFont) (sym taken) (by_append IsFont (take i fs) (f ∷ []) h (w, tt))
 
 map_same : (xs : List StatesValue) → map (λ (x : StatesValue). x) xs ≡ xs
 map_same [] = refl

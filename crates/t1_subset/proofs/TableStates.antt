@@ -21,13 +21,11 @@ use Rattle.t1_font.specs.IsFont.{IsFont}
 use Rattle.t1_subset.specs.Interpreter.{same_bytes}
 use Rattle.t1_subset.specs.Profile.{profile}
 use Rattle.t1_subset.specs.States.{code_state, subr_state}
-use Rattle.t1_subset.specs.Keep.{has}
-use Rattle.t1_subset.specs.Conflicts.{agrees, members, code_conflict, glyph_clashes, glyph_conflict, glyph_names, subr_conflict}
+use Rattle.t1_subset.specs.Conflicts.{agrees, code_conflict, subr_conflict}
 use Rattle.t1_subset.specs.Differences.{with_state}
-use Rattle.t1_subset.proofs.Conflicts.{bytes_decide, passes_none, in_both}
-use Rattle.t1_subset.proofs.Sets.{is_or_not, not_so, name_same, tied, itself, here, later, or_left}
-use Rattle.t1_subset.proofs.Smallest.{smallest_is}
-use Rattle.t1_subset.proofs.FirstConflicts.{there_of, first_code, no_code, no_name}
+use Rattle.t1_subset.proofs.Conflicts.{bytes_decide}
+use Rattle.t1_subset.proofs.Sets.{is_or_not, not_so, name_same, tied, itself, here, later}
+use Rattle.t1_subset.proofs.FirstConflicts.{first_code, no_code, no_name}
 use Rattle.t1_subset.proofs.ExecutedCalls.{first_subr, no_subr}
 
 -- ---- states that agree
@@ -125,19 +123,6 @@ module _ (g : Named) where
 
   pub fills_all : (t : TableMeaning) (left : List (List ℕ)) → Fills g t left → left ≡ [] → (q : List ℕ) → maps.get t q ≡ maps.get g q
   fills_all t left h e q = h.shown q (ap (list_any (same_bytes q)) e)
-
--- ---- the smallest glyph
-
-module _ (f g : FontValue) (s t : TableMeaning) (sf : (q : List ℕ) → maps.get s q ≡ maps.get f.glyphs q) (sg : (q : List ℕ) → maps.get t q ≡ maps.get g.glyphs q) where
-  pub no_glyph : TablesAgree s t → None ≡ glyph_conflict f g
-  no_glyph h = sym (passes_none (glyph_clashes f g) (members (glyph_names f g)) (λ q. no_clash _ _ _ _ (sf q) (sg q) (h q)))
-
-  pub glyph_at : (q : List ℕ) → IsFirstConflict s t q → Some q ≡ glyph_conflict f g
-  glyph_at q h =
-      let it = clash _ _ (maps.get f.glyphs q) (maps.get g.glyphs q) (sf q) (sg q) h.differs in
-      sym (smallest_is nat_list_cmp_total name_same (glyph_clashes f g) (glyph_names f g) q
-      (in_both nat_list_cmp_total name_same f.glyphs g.glyphs q ∙ or_left (has f q) (has g q) (there_of (maps.get f.glyphs q) (maps.get g.glyphs q) it))
-      it (λ p w l. no_clash _ _ _ _ (sf p) (sg p) (h.first p l)))
 
 -- ---- the smallest code
 

@@ -1,16 +1,15 @@
 -- How the code sees what differs in two fonts.
-use Rattle.std.specs.Prelude.{◌≡◌, ◌<◌, ℕ, Bool, true, not, ◌&&◌, cond, List, Option, Some, None}
+use Rattle.std.specs.Prelude.{ℕ, Bool, not, ◌&&◌, cond, List, Option, Some, None}
 use Rattle.std.specs.Global.{Vec}
 use Rattle.std.specs.FinMap as maps
 use Rattle.std.specs.declared.cmp.Ordering.{Ordering}
 use Rattle.std.specs.Ordering.{is_lt}
 use Rattle.t1_join.specs.Meaning.{Meaning}
 use Rattle.t1_join.specs.TableMeaning.{TableMeaning}
-use Rattle.t1_font.specs.FontValue.{FontValue, declared_count}
 use Rattle.t1_subset.specs.declared.conflict.ShellPart.{ShellPart as Part}
 use Rattle.t1_subset.specs.declared.conflict.ShellPart.TheVariants as part
 use Rattle.t1_subset.specs.States.{is_stub}
-use Rattle.t1_subset.specs.Conflicts.{agrees, ShellPart, Head, EncodingPart, ClearTail, Private, SubrsTable, SubrsWords, Middle, GlyphsWords, Tail}
+use Rattle.t1_subset.specs.Conflicts.{ShellPart, Head, EncodingPart, ClearTail, Private, SubrsTable, SubrsWords, Middle, GlyphsWords, Tail}
 
 abbrev pub shell_part : Part → ShellPart
 shell_part part.Head = Head
@@ -41,7 +40,3 @@ abbrev pub smaller : {K : Type 0} → (K → K → Ordering) → Option K → Op
 smaller R None y = y
 smaller R (Some m) None = Some m
 smaller R (Some m) (Some n) = cond (is_lt (R n m)) (Some n) (Some m)
-
--- each entry that both fonts have is the same
-abbrev pub EntriesAgree : FontValue → FontValue → Type 0
-EntriesAgree f g = (i : ℕ) → i < declared_count f.shell.subrs → agrees (maps.get f.subrs i) (maps.get g.subrs i) ≡ true

@@ -5,7 +5,6 @@ pub mod States
 pub mod StateTables
 pub mod StateLaws
 pub mod NameStates
-pub mod SoughtNames
 pub mod JoinedEntries
 pub mod Outcomes
 pub mod Trees
@@ -15,8 +14,8 @@ pub mod Differences
 pub mod NameSets
 pub mod ClosureNames
 pub mod Calls
-pub mod Lacking
-pub mod Runs
+pub mod Callers
+pub mod Clashes
 pub mod Refusals
 pub mod Merger
 pub mod Headline

@@ -1,11 +1,9 @@
 -- Names in memory, as lists and as sets.
-use Rattle.std.specs.Prelude.{◌≡◌, ℕ, true, List, map}
-use Rattle.std.specs.declared.cmp.Ordering.TheVariants.{Less}
+use Rattle.std.specs.Prelude.{ℕ, List, map}
 use Rattle.std.specs.Borrow.{Bor}
 use Rattle.std.specs.Global.{Vec}
 use Rattle.std.specs.Coded.{Coded, coded_list, coded_ℕ}
 use Rattle.std.specs.FinSet as sets
-use Rattle.t1_font.specs.FontValue.{name_cmp}
 use Rattle.t1_subset.specs.Interpreter.{Names}
 
 -- the names of a list, as bytes
@@ -26,8 +24,3 @@ names_code = sets.code (coded_list coded_ℕ)
 -- the set of names in the order of their bytes
 abbrev pub set_by : List (Vec ℕ) → Names
 set_by vs = sets.from_list (names_of vs)
-
--- a name of the set, of which none is smaller
-pub record IsLeast (s : Names) (n : List ℕ) : Type 0 where
-  pub there : sets.contains s n ≡ true
-  pub least : (q : List ℕ) → sets.contains s q ≡ true → name_cmp q n ≡ Less → ⊥

@@ -1,15 +1,34 @@
-//! The Subrs that glyphs execute.
+//! What the run of a glyph comes to: the Subrs that it executes, and the components that it names.
 
-ghost use Rattle.std.specs.Prelude.{◌≡◌, IfOk, OnOk, ◌∷◌, []};
+ghost use Rattle.std.specs.Prelude.{◌≡◌, IfOk, OnOk, ◌∷◌, [], map};
 ghost use Rattle.std.specs.FinSet as sets;
 ghost use Rattle.t1_subset.specs.Profile.{profile};
-ghost use Rattle.t1_subset.specs.Conflicts.{executes};
+ghost use Rattle.t1_subset.specs.Keep.{components, charstring};
 ghost use Rattle.t1_subset.specs.Calls.{number_set};
 
 use std::alloc::{AllocError, Global};
 use std::collections::BTreeSet;
 use t1_font::Font;
-use t1_run::{Glyphs, executed};
+use t1_run::{Glyphs, parts_and_executed};
+
+/// What the runs of a glyph come to: the components that they name, and the Subrs that they execute.
+pub(crate) fn run_of(
+    alloc: Global,
+    font: &Font<'_>,
+    name: &[u8],
+) -> Result<(Vec<&'static str>, BTreeSet<u16>), AllocError>
+    ensures components { IfOk result (λ r. map (λ s. s.now) r.0.items ≡ components profile font.now.subrs (charstring font.now name.now)) }
+    ensures calls { IfOk result (λ r. number_set r.1 ≡ profile.exec font.now.subrs (charstring font.now name.now)) }
+{
+    font.is_font();
+    match font.glyph(name) {
+        Some(charstring) => {
+            let (names, executed) = parts_and_executed(alloc, font, charstring)?;
+            Ok((names, executed))
+        }
+        None => Ok((Vec::new(alloc), BTreeSet::new(alloc))),
+    }
+}
 
 /// Adds the indices of another set.
 pub(crate) fn add_all(calls: &mut BTreeSet<u16>, more: &BTreeSet<u16>) -> Result<(), AllocError>
@@ -32,23 +51,4 @@ pub(crate) fn first_four(alloc: Global) -> Result<BTreeSet<u16>, AllocError>
     calls.insert(2)?;
     calls.insert(3)?;
     Ok(calls)
-}
-
-/// Whether a glyph of the font executes the index.
-pub(crate) fn executed_by(
-    alloc: Global,
-    font: &Font<'_>,
-    name: &[u8],
-    index: u16,
-) -> Result<bool, AllocError>
-    ensures { IfOk result (λ is_used. is_used ≡ executes profile font.now name.now index) }
-{
-    font.is_font();
-    match font.glyph(name) {
-        Some(charstring) => {
-            let calls = executed(alloc, font, charstring)?;
-            Ok(calls.contains(&index))
-        }
-        None => Ok(false),
-    }
 }

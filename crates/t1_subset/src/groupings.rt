@@ -1,33 +1,32 @@
 //! The join of many fonts at once: their states are joined first, and then the font is made in a balanced grouping.
 
-ghost use Rattle.std.specs.Prelude.{◌≡◌, ◌<◌, IfOk, IfErr, map, length};
-ghost use Rattle.std.specs.List.{AllByRecursion};
-ghost use Rattle.t1_font.specs.IsFont.{IsFont};
-ghost use Rattle.t1_subset.specs.Profile.{profile};
-ghost use Rattle.t1_subset.specs.StateTables.{states_of};
-ghost use Rattle.t1_subset.specs.Merger.{EachGroupingMerges, SomeGroupingMerges};
+ghost use Rattle.std.specs.Prelude.{◌≡◌, ◌<◌, IfOk, IfErr, length};
+ghost use Rattle.t1_subset.specs.Merger.{AreNoted, EachGroupingMerges, SomeGroupingMerges};
 
+use crate::callers::Callers;
 use crate::conflict::Conflict;
 use crate::merger::both;
-use crate::state_making::states;
+use crate::state_making::states_and_callers;
 use crate::state_value::States;
 use std::alloc::{AllocError, Global};
 use t1_font::Font;
 
-/// The states of each of the fonts.
-pub(crate) fn states_of_all<'t, 'a>(
+/// The states and the callers of each of the fonts.
+pub(crate) fn noted<'t, 'a>(
     alloc: Global,
     fonts: &'t [Font<'a>],
-) -> Result<Vec<States<'t, 'a>>, AllocError>
-    ensures states { IfOk result (λ all. all.items ≡ map (states_of profile) fonts.now) }
-    ensures fonts { IfOk result (λ _. AllByRecursion IsFont fonts.now) }
+) -> Result<(Vec<States<'t, 'a>>, Vec<Callers<'t>>), AllocError>
+    ensures { IfOk result (λ r. AreNoted fonts.now r.0.items r.1.items) }
 {
-    let mut all = Vec::with_capacity(alloc, fonts.len())?;
+    let mut all_states = Vec::with_capacity(alloc, fonts.len())?;
+    let mut all_callers = Vec::with_capacity(alloc, fonts.len())?;
     'fonts: for font in fonts {
         font.is_font();
-        all.push(states(alloc, font)?)?;
+        let (states, callers) = states_and_callers(alloc, font)?;
+        all_states.push(states)?;
+        all_callers.push(callers)?;
     }
-    Ok(all)
+    Ok((all_states, all_callers))
 }
 
 /// A copy of a font, which is its join with itself.

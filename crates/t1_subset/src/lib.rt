@@ -1,27 +1,26 @@
 //! Subsets and mergers of Type 1 fonts.
 #![tactic(auto)]
 
+mod callers;
 mod calls;
 mod closure_names;
 mod closures;
 mod conflict;
-mod entries;
 mod fault;
 mod groupings;
-mod lacking;
+mod in_turn;
 pub mod laws;
 mod merger;
 mod name_sets;
 mod name_states;
 mod needed;
-mod runs;
+mod searches;
 mod shells;
 mod state_joins;
 mod state_making;
 mod state_value;
 mod subsets;
 mod tables;
-mod users;
 
 pub use closures::closure;
 pub use conflict::{Conflict, ShellPart};

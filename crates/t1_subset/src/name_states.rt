@@ -1,8 +1,10 @@
 //! The states of names, and tables of them.
 
-ghost use Rattle.std.specs.Prelude.{◌≡◌, OnOk, map, [], ◌∷◌};
-ghost use Rattle.t1_subset.specs.SoughtNames.{with_sought};
+ghost use Rattle.std.specs.Prelude.{◌≡◌, OnOk, Some, [], cond};
+ghost use Rattle.std.specs.FinMap as maps;
+ghost use Rattle.t1_join.specs.Meaning.{Meaning};
 
+use crate::callers::Seekers;
 use std::alloc::{AllocError, Global};
 use t1_join::{Kept, Table};
 
@@ -36,28 +38,15 @@ impl<'a> Kept for NameState<'a> {
 /// The states of the names of a font.
 pub(crate) type NameTable<'a> = Table<&'a [u8], NameState<'a>>;
 
-/// Adds the component as sought, unless the table has an entry of the name.
-fn add_component<'a>(names: &mut NameTable<'a>, component: &'a [u8]) -> Result<(), AllocError>
-    ensures { OnOk result (names.new ≡ with_sought names.old (component.now ∷ [])) }
-{
-    match names.get(&component) {
-        Some(_) => Ok(()),
-        None => {
-            names.insert(component, NameState::Sought)?;
-            Ok(())
-        }
-    }
-}
-
-/// Adds each of these components as sought, unless the table has an entry of the name.
+/// Adds the components that glyphs seek.
 pub(crate) fn add_sought<'a>(
     names: &mut NameTable<'a>,
-    components: &[&'static str],
+    seekers: &Seekers<'a>,
 ) -> Result<(), AllocError>
-    ensures { OnOk result (names.new ≡ with_sought names.old (map (λ s. s.now) components.now)) }
+    ensures { (q : Meaning) → OnOk result (maps.get names.new q ≡ cond (maps.contains_key seekers.now q) (Some []) (maps.get names.old q)) }
 {
-    'components: for component in components {
-        add_component(names, component.as_bytes())?;
+    'seekers: for (component, _) in seekers.entries() {
+        names.insert(*component, NameState::Sought)?;
     }
     Ok(())
 }

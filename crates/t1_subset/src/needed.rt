@@ -8,9 +8,8 @@ ghost use Rattle.t1_subset.specs.Laws.{IsOf};
 ghost use Rattle.t1_subset.specs.Calls.{number_set};
 ghost use Rattle.t1_subset.specs.NameSets.{asked};
 
-use crate::calls::{add_all, first_four};
+use crate::calls::{add_all, first_four, run_of};
 use crate::closure_names::{ClosureNames, add_components};
-use crate::runs::run_of;
 use std::alloc::{AllocError, Global};
 use std::collections::BTreeSet;
 use t1_font::Font;

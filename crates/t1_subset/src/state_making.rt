@@ -1,52 +1,47 @@
 //! The making of states: one run of each glyph.
 
-ghost use Rattle.std.specs.Prelude.{◌≡◌, IfOk, OnOk};
+ghost use Rattle.std.specs.Prelude.{◌≡◌, ◌<◌, ℕ, List, IfOk};
 ghost use Rattle.std.specs.FinMap as maps;
-ghost use Rattle.t1_font.specs.FontModel.{names_in};
+ghost use Rattle.t1_font.specs.FontValue.{declared_count};
 ghost use Rattle.t1_subset.specs.Profile.{profile};
-ghost use Rattle.t1_subset.specs.Calls.{number_set, called_in};
 ghost use Rattle.t1_subset.specs.StateTables.{name_states, states_of};
-ghost use Rattle.t1_subset.specs.SoughtNames.{named_by, with_sought};
+ghost use Rattle.t1_subset.specs.Callers.{AreCallersOf, user_at, user_of, seeker_of};
 
-use crate::calls::add_all;
+use crate::callers::{Callers, Seekers, Users, note_seekers};
+use crate::calls::run_of;
 use crate::name_states::{NameTable, add_sought};
-use crate::runs::run_of;
 use crate::state_value::States;
 use crate::tables::{code_table, glyph_states, subr_table};
 use std::alloc::{AllocError, Global};
-use std::collections::BTreeSet;
 use t1_font::Font;
+use t1_run::Subroutines;
 
-/// Runs each glyph of a font once. The components that the glyphs name come to the table as sought, where it has no
-/// entry of the name; the Subrs that they execute are answered.
-fn run_glyphs<'a>(
-    alloc: Global,
-    font: &Font<'_>,
-    names: &mut NameTable<'a>,
-) -> Result<BTreeSet<u16>, AllocError>
-    ensures names { OnOk result (names.new ≡ with_sought names.old (named_by font.now (names_in font.now.glyphs))) }
-    ensures calls { IfOk result (λ calls. number_set calls ≡ called_in font.now) }
+/// Who executes which Subr of the font, and who names which component that it lacks. Each glyph is run once.
+fn callers_of<'a>(alloc: Global, font: &'a Font<'_>) -> Result<Callers<'a>, AllocError>
+    ensures { IfOk result (λ callers. AreCallersOf callers font.now) }
 {
-    let mut calls = BTreeSet::new(alloc);
+    let mut users = Users::new(alloc, font.count())?;
+    let mut seekers = Seekers::new(alloc);
     'names: for name in font.names() {
-        let (components, more) = run_of(alloc, font, name)?;
-        add_sought(names, components.as_slice())?;
-        add_all(&mut calls, &more)?;
+        let (components, calls) = run_of(alloc, font, name)?;
+        users.note_all(&calls, name);
+        note_seekers(font, &mut seekers, components.as_slice(), name)?;
     }
-    Ok(calls)
+    Ok(Callers { users, seekers })
 }
 
-/// The states of a font's names, and the Subrs that its glyphs execute.
-fn names_and_calls<'a>(
+/// The states of a font's names, of which these are the seekers.
+fn name_table<'a>(
     alloc: Global,
     font: &'a Font<'_>,
-) -> Result<(NameTable<'a>, BTreeSet<u16>), AllocError>
-    ensures names { IfOk result (λ r. r.0 ≡ name_states profile font.now) }
-    ensures calls { IfOk result (λ r. number_set r.1 ≡ called_in font.now) }
+    seekers: &Seekers<'a>,
+) -> Result<NameTable<'a>, AllocError>
+    requires { (p : List ℕ) → maps.get seekers.now p ≡ seeker_of font.now p }
+    ensures { IfOk result (λ names. names ≡ name_states profile font.now) }
 {
     let mut names = glyph_states(alloc, font)?;
-    let calls = run_glyphs(alloc, font, &mut names)?;
-    Ok((names, calls))
+    add_sought(&mut names, seekers)?;
+    Ok(names)
 }
 
 /// How many glyphs the font has.
@@ -61,18 +56,43 @@ fn glyph_count(font: &Font<'_>) -> u64
     count
 }
 
+/// The states of a font, of which these are the callers.
+fn states_by<'t, 'a>(
+    alloc: Global,
+    font: &'t Font<'a>,
+    callers: &Callers<'t>,
+) -> Result<States<'t, 'a>, AllocError>
+    requires { AreCallersOf callers.now font.now }
+    ensures { IfOk result (λ s. s ≡ states_of profile font.now) }
+{
+    font.is_font();
+    Ok(States {
+        shell: font,
+        codes: code_table(alloc, font)?,
+        names: name_table(alloc, font, &callers.seekers)?,
+        subrs: subr_table(alloc, font, &callers.users)?,
+        weight: font.weight() as u64,
+        glyphs: glyph_count(font),
+    })
+}
+
+/// The states of a font, and its callers. Each of its glyphs is run once.
+pub(crate) fn states_and_callers<'t, 'a>(
+    alloc: Global,
+    font: &'t Font<'a>,
+) -> Result<(States<'t, 'a>, Callers<'t>), AllocError>
+    ensures states { IfOk result (λ r. r.0 ≡ states_of profile font.now) }
+    ensures callers { IfOk result (λ r. AreCallersOf r.1 font.now) }
+{
+    let callers = callers_of(alloc, font)?;
+    let states = states_by(alloc, font, &callers)?;
+    Ok((states, callers))
+}
+
 /// The states of a font. Each of its glyphs is run once.
 pub fn states<'t, 'a>(alloc: Global, font: &'t Font<'a>) -> Result<States<'t, 'a>, AllocError>
     ensures { IfOk result (λ s. s ≡ states_of profile font.now) }
 {
-    font.is_font();
-    let (names, calls) = names_and_calls(alloc, font)?;
-    Ok(States {
-        shell: font,
-        codes: code_table(alloc, font)?,
-        names,
-        subrs: subr_table(alloc, font, &calls)?,
-        weight: font.weight() as u64,
-        glyphs: glyph_count(font),
-    })
+    let (states, _callers) = states_and_callers(alloc, font)?;
+    Ok(states)
 }

@@ -1,18 +1,18 @@
 //! The states of a font's codes, glyphs and Subrs, as tables that join key by key.
 
-ghost use Rattle.std.specs.Prelude.{◌≡◌, ℕ, List, Some, IfOk, OnOk};
+ghost use Rattle.std.specs.Prelude.{◌≡◌, ◌<◌, ℕ, Some, IfOk, OnOk};
 ghost use Rattle.std.specs.Option.{option_map};
-ghost use Rattle.std.specs.FinMap as fin;
 ghost use Rattle.t1_font.specs.Cut.{map_values};
 ghost use Rattle.t1_subset.specs.Profile.{profile};
 ghost use Rattle.t1_subset.specs.StateTables.{numbered, name_meaning, code_states, used_subrs};
 ghost use Rattle.t1_subset.specs.NameStates.{state_meaning};
 ghost use Rattle.t1_subset.specs.Differences.{with_state, entry_state};
-ghost use Rattle.t1_subset.specs.Calls.{number_set, called_in};
+ghost use Rattle.t1_font.specs.FontValue.{declared_count};
+ghost use Rattle.t1_subset.specs.Callers.{user_at, user_of};
 
+use crate::callers::Users;
 use crate::name_states::{NameState, NameTable};
 use std::alloc::{AllocError, Global};
-use std::collections::BTreeSet;
 use t1_font::{Font, STUB};
 use t1_join::{Kept, Key, Table};
 use t1_run::{Glyphs, Subroutines};
@@ -42,20 +42,6 @@ pub(crate) fn code_table<'a>(
     let mut table = Table::new(alloc);
     'codes: for code in 0..256u16 {
         put(&mut table, code, font.encoding_at(code as u8))?;
-    }
-    Ok(table)
-}
-
-/// The charstrings of the glyphs.
-pub(crate) fn glyph_table<'a>(
-    alloc: Global,
-    font: &'a Font<'_>,
-) -> Result<Table<&'a [u8], &'a [u8]>, AllocError>
-    ensures { IfOk result (λ table. (n : List ℕ) → fin.get table n ≡ fin.get font.now.glyphs n) }
-{
-    let mut table = Table::new(alloc);
-    'names: for name in font.names() {
-        put(&mut table, name, font.glyph(name))?;
     }
     Ok(table)
 }
@@ -94,13 +80,13 @@ fn subr_state<'a>(entry: Option<&'a [u8]>, is_called: bool) -> Option<&'a [u8]>
     }
 }
 
-/// The states of the Subrs, of which the glyphs execute these.
+/// The states of the Subrs, of which these glyphs are the users.
 pub(crate) fn subr_table<'a>(
     alloc: Global,
     font: &'a Font<'_>,
-    calls: &BTreeSet<u16>,
+    users: &Users<'_>,
 ) -> Result<Table<u16, &'a [u8]>, AllocError>
-    requires { number_set calls.now ≡ called_in font.now }
+    requires { (i : ℕ) → i < declared_count font.now.shell.subrs → user_at users.now i ≡ user_of font.now i }
     ensures { IfOk result (λ table. table ≡ numbered (used_subrs profile font.now)) }
 {
     font.is_font();
@@ -109,7 +95,7 @@ pub(crate) fn subr_table<'a>(
         put(
             &mut table,
             index,
-            subr_state(font.get(index), calls.contains(&index)),
+            subr_state(font.get(index), users.get(index).is_some()),
         )?;
     }
     Ok(table)

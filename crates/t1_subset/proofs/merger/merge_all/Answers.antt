@@ -6,13 +6,13 @@ pub returns-then-is_empty-clause-any_order : goal.returns-then-is_empty-clause-a
 returns-then-is_empty-clause-any_order c = none_in_any_order c.args.fonts.now c.is_empty.result c.is_empty.ensures c.if-is_empty.true
 
 pub returns-in-Ok-clause-accepted : goal.returns-in-Ok-clause-accepted
-returns-in-Ok-clause-accepted c = accepts c.args.fonts.now c.in-Ok.ensures.fonts c.all_joined.result c.all_joined.ensures.ok c.all_joined.ensures.err
+returns-in-Ok-clause-accepted c = accepts c.args.fonts.now c.in-Ok.ensures.fonts c.all_merged.result c.all_merged.ensures.ok c.all_merged.ensures.err
 
 pub returns-in-Ok-clause-any_order : goal.returns-in-Ok-clause-any_order
-returns-in-Ok-clause-any_order c = in_any_order c.args.fonts.now c.in-Ok.ensures.fonts c.all_joined.result c.all_joined.ensures.ok c.all_joined.ensures.err
+returns-in-Ok-clause-any_order c = in_any_order c.args.fonts.now c.in-Ok.ensures.fonts c.all_merged.result c.all_merged.ensures.ok c.all_merged.ensures.err
 
 pub returns-in-Ok-clause-draws : goal.returns-in-Ok-clause-draws
-returns-in-Ok-clause-draws c = draws_all c.args.fonts.now c.all_joined.result c.all_joined.ensures.ok
+returns-in-Ok-clause-draws c = draws_all c.args.fonts.now c.all_merged.result c.all_merged.ensures.ok
 
 pub returns-in-Ok-clause-subsets : goal.returns-in-Ok-clause-subsets
-returns-in-Ok-clause-subsets c = of_all_subsets c.args.fonts.now c.all_joined.result c.all_joined.ensures.ok c.all_joined.ensures.err
+returns-in-Ok-clause-subsets c = of_all_subsets c.args.fonts.now c.all_merged.result c.all_merged.ensures.ok c.all_merged.ensures.err

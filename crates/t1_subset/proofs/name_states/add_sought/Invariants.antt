@@ -1,7 +1,8 @@
-use Rattle.std.proofs.Common.{◌≡◌, drop}
-use Rattle.t1_subset.specs.NameSets.{lent}
-use Rattle.t1_subset.specs.SoughtNames.{with_sought}
+use Rattle.std.proofs.Common.{◌≡◌, [], cond, Some}
+use Rattle.std.specs.FinMap as maps
+use Rattle.t1_join.specs.Meaning.{Meaning}
+use Rattle.t1_subset.proofs.SoughtNames.{with_sought}
 use Rattle.t1_subset.proofs.name_states.add_sought.Given as goal
 
-abbrev pub invariant-components : goal.invariant-components
-invariant-components l = with_sought l.names (lent (drop l.component-index l.components)) ≡ with_sought l.fn.names (lent l.components)
+abbrev pub invariant-seekers : goal.invariant-seekers
+invariant-seekers l = (q : Meaning) → with_sought l.names l.component-iterator q ≡ cond (maps.contains_key l.seekers q) (Some []) (maps.get l.fn.names q)

@@ -1,29 +1,31 @@
-use Rattle.std.proofs.Common.{◌∙◌, ap, sym, arith}
-use Rattle.std.specs.FinSet as sets
-use Rattle.std.specs.Cmp.{nat_cmp_total}
+use Rattle.std.proofs.Common.{◌≡◌, refl, ◌∙◌, ap, sym, arith, ℕ, List, Bor, Option, Some, None, is_some, option_map}
 use Rattle.t1_font.proofs.FontReaders.{subrs_seen}
-use Rattle.t1_subset.specs.Interpreter.{Numbers}
 use Rattle.t1_subset.specs.Profile.{profile}
 use Rattle.t1_subset.specs.States.{subr_state, state_of_entry}
 use Rattle.t1_subset.specs.StateTables.{used_subrs}
-use Rattle.t1_subset.proofs.ExecutedCalls.{called_so}
+use Rattle.t1_subset.proofs.FontCallers.{called_is}
 use Rattle.t1_subset.proofs.FirstConflicts.{absent_beyond}
 use Rattle.t1_subset.proofs.FontStates.{get-used}
 use Rattle.t1_subset.proofs.ByNumber.{has_none, has_next, has_all, entry_is}
 use Rattle.t1_subset.proofs.tables.subr_table.Goals as goal
+
+-- what is lent is there where it is
+some_lent : (o : Option (Bor (List ℕ))) → is_some o ≡ is_some (option_map (λ (s : Bor (List ℕ)). s.now) o)
+some_lent None = refl
+some_lent (Some s) = refl
 
 pub indices-init : goal.indices-init
 indices-init c = has_none _ (subr_state profile c.args.font.now) c.new-table.ensures
 
 pub indices-preserved : goal.indices-preserved
 indices-preserved c =
-    let f = c.args.font.now in let i = c.indices.index-counter in
+    let f = c.args.font.now in let i = c.indices.index in
     has_next c.indices.table (subr_state profile f) i c.indices.invariant c.put.new.table _ c.in_ok-put.ensures
-    (c.subr_state.ensures ∙ entry_is f i _ _ c.contains.result (c.get.ensures ∙ subrs_seen f c.is_font.ensures i)
-    (c.contains.ensures ∙ sym (sets.contains-from_list nat_cmp_total c.args.calls.now.keys i) ∙ ap (λ (s : Numbers). sets.contains s i) c.requires ∙ called_so f i))
+    (c.subr_state.ensures ∙ entry_is f i _ _ c.is_some.result (c.get.ensures ∙ subrs_seen f c.is_font.ensures i)
+    (c.is_some.ensures ∙ some_lent c.get-in-indices.result ∙ ap is_some (c.get-in-indices.ensures ∙ c.requires i (let t = c.indices-test.true in omega (arith, t, c.count-index-end.ensures))) ∙ sym (called_is f i)))
 
 pub returns : goal.returns
 returns c =
     let f = c.args.font.now in
-    has_all c.indices.table (subr_state profile f) c.indices.index-counter c.indices.invariant
+    has_all c.indices.table (subr_state profile f) c.indices.index c.indices.invariant
     (λ i l. ap (state_of_entry profile f i) (absent_beyond f c.is_font.ensures i (let t = c.indices-test.false in omega (arith, c.count-index-end.ensures)))) (used_subrs profile f) (get-used profile f)

@@ -4,4 +4,4 @@ use Rattle.t1_subset.proofs.ByNumber.{HasBelow}
 use Rattle.t1_subset.proofs.tables.subr_table.Given as goal
 
 abbrev pub invariant-indices : goal.invariant-indices
-invariant-indices l = HasBelow l.table (subr_state profile l.font) l.index-counter
+invariant-indices l = HasBelow l.table (subr_state profile l.font) l.index

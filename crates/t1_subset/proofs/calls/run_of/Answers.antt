@@ -1,0 +1,19 @@
+use Rattle.std.proofs.Common.{List, ℕ, map, Bor, ◌∙◌, ap, sym}
+use Rattle.t1_subset.specs.Profile.{set_of}
+use Rattle.t1_subset.proofs.ProfileRuns.{components_are, no_components}
+use Rattle.t1_subset.proofs.ExecutedCalls.{calls_are, no_calls}
+use Rattle.t1_subset.proofs.calls.run_of.Goals as goal
+
+pub returns-in_ok-names-in-Some-clause-components : goal.returns-in_ok-names-in-Some-clause-components
+returns-in_ok-names-in-Some-clause-components c =
+    c.in_ok-names-in-Some.ensures.names ∙ components_are c.args.font.now c.is_font.ensures c.args.name.now c.in-Some.charstring.now (sym c.in-Some.ensures)
+
+pub returns-in_ok-names-in-Some-clause-calls : goal.returns-in_ok-names-in-Some-clause-calls
+returns-in_ok-names-in-Some-clause-calls c =
+    ap set_of c.in_ok-names-in-Some.ensures.indices ∙ calls_are c.args.font.now c.is_font.ensures c.args.name.now c.in-Some.charstring.now (sym c.in-Some.ensures)
+
+pub returns-in-None-clause-components : goal.returns-in-None-clause-components
+returns-in-None-clause-components c = ap (map (λ (s : Bor (List ℕ)). s.now)) c.new.ensures.items ∙ no_components c.args.font.now c.args.name.now (sym c.in-None.ensures)
+
+pub returns-in-None-clause-calls : goal.returns-in-None-clause-calls
+returns-in-None-clause-calls c = ap set_of c.new-in-None.ensures.empty ∙ no_calls c.args.font.now c.args.name.now (sym c.in-None.ensures)

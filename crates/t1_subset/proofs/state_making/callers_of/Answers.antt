@@ -1,0 +1,47 @@
+use Rattle.std.proofs.Common.{ℕ, List, Bor, map, not, ◌&&◌, cond, Some, None, ap, ◌∙◌, length, arith}
+use Rattle.std.specs.List.{list_any}
+use Rattle.std.specs.FinMap as maps
+use Rattle.std.specs.FinSet as sets
+use Rattle.std.proofs.lemmas.List.{length-replicate}
+use Rattle.std.proofs.lemmas.Map.Iter.{rest_more, rest_all}
+use Rattle.t1_subset.specs.Interpreter.{same_bytes}
+use Rattle.t1_subset.specs.Keep.{has}
+use Rattle.t1_subset.specs.Profile.{profile}
+use Rattle.t1_subset.specs.States.{joined}
+use Rattle.t1_subset.specs.Conflicts.{executes, wants}
+use Rattle.t1_subset.specs.Callers.{user_at}
+use Rattle.t1_subset.proofs.FontCallers.{executes_so, calls_so, noted_first, noted_next, noted_last, no_user}
+use Rattle.t1_subset.proofs.state_making.callers_of.Goals as goal
+
+pub names-init : goal.names-init
+names-init c =
+    let f = c.args.font.now in
+    let all = c.into_iter-name-iterator.ensures.into_iter_gives ∙ c.names-name-items.ensures in (
+      ap length c.in_ok-users.ensures ∙ length-replicate _ _ ∙ c.count.ensures,
+      λ q l. noted_first (λ n. executes profile f n q) _ _ _ (ap (λ us. user_at us q) c.in_ok-users.ensures ∙ no_user _ q) all,
+      λ p. noted_first (λ n. wants profile f n p) _ _ _ (ap (λ t. maps.get t p) c.new-seekers.ensures ∙ maps.get-empty _ p) all,
+    )
+
+pub names-preserved : goal.names-preserved
+names-preserved c =
+    let f = c.args.font.now in
+    let n = c.in-Some.name.now in
+    let more = rest_more (λ (s : Bor (List ℕ)). s.now) _ _ _ _ c.in-Some.is c.next.ensures.steps in
+    let named = ap (map (λ (s : Bor (List ℕ)). s.now)) c.as_slice.ensures.value ∙ c.in_ok-components.ensures.components in (
+      c.note_all.ensures.length ∙ c.names.invariant.0,
+      λ q l. noted_next (λ n. executes profile f n q) (user_at c.names.users q) (user_at c.note_all.new.self q) _ n c.names.name-iterator c.next.new.self
+          (c.note_all.ensures.users q (omega (arith, l, c.names.invariant.0))
+          ∙ ap (λ b. joined (user_at c.names.users q) (cond b (Some n) None)) (ap (λ s. sets.contains s q) c.in_ok-components.ensures.calls ∙ executes_so f n q)) more (c.names.invariant.1 q l),
+      λ q. noted_next (λ n. wants profile f n q) (maps.get c.names.seekers q) (maps.get c.note_seekers.new.seekers q) _ n c.names.name-iterator c.next.new.self
+          (c.in_ok-note_seekers.ensures q
+          ∙ ap (λ b. joined (maps.get c.names.seekers q) (cond (not (has f q) && b) (Some n) None)) (ap (list_any (same_bytes q)) named ∙ calls_so f n q)) more (c.names.invariant.2 q),
+    )
+
+pub returns : goal.returns
+returns c =
+    let f = c.args.font.now in
+    let none = rest_all (λ (s : Bor (List ℕ)). s.now) _ _ _ c.in-None.is c.next.ensures.steps in
+    record {
+      users = λ q l. noted_last (λ n. executes profile f n q) _ _ _ none (c.names.invariant.1 q l);
+      seekers = λ p. noted_last (λ n. wants profile f n p) _ _ _ none (c.names.invariant.2 p);
+    }

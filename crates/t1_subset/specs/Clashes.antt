@@ -1,0 +1,61 @@
+-- How the states of a name differ in two fonts, and the conflicts that are found with and without who uses them.
+use Rattle.std.specs.Prelude.{◌≡◌, ◌<◌, ℕ, Bool, true, false, not, ◌&&◌, ◌||◌, List, [], ◌∷◌, Option, Some, None, is_some}
+use Rattle.std.specs.Option.{option_map, unwrap_or}
+use Rattle.std.specs.FinMap as maps
+use Rattle.t1_join.specs.Meaning.{Meaning}
+use Rattle.t1_join.specs.Join.{State}
+use Rattle.t1_join.specs.TableMeaning.{TableMeaning}
+use Rattle.t1_font.specs.FontValue.{FontValue, declared_count}
+use Rattle.t1_subset.specs.declared.callers.Callers.{Callers}
+use Rattle.t1_font.specs.IsFont.{IsFont}
+use Rattle.t1_subset.specs.Profile.{profile}
+use Rattle.t1_subset.specs.StateTables.{StatesValue, states_of}
+use Rattle.t1_subset.specs.Conflicts.{Conflict, ShellDiffers, CodeDiffers, GlyphDiffers, LacksComponent, SubrDiffers, agrees, found, first_where, smallest, shell_conflict, code_conflict, glyph_conflict, component_conflict, subr_conflict, wanted_by, used_by, glyph_names}
+use Rattle.t1_subset.specs.Callers.{user_from, seeker_from}
+
+-- the charstring of a name, where its state is one
+abbrev pub charstring_in : State → Option (List ℕ)
+charstring_in None = None
+charstring_in (Some []) = None
+charstring_in (Some (mark ∷ c)) = Some c
+
+-- the name is sought
+abbrev pub is_sought_in : State → Bool
+is_sought_in None = false
+is_sought_in (Some []) = true
+is_sought_in (Some (mark ∷ c)) = false
+
+-- two charstrings differ
+abbrev pub charstrings_differ : State → State → Bool
+charstrings_differ x y = not (agrees (charstring_in x) (charstring_in y))
+
+-- one is sought, and the other a charstring
+abbrev pub one_lacks : State → State → Bool
+one_lacks x y = (is_sought_in x && is_some (charstring_in y)) || (is_sought_in y && is_some (charstring_in x))
+
+-- the smallest name whose states clash
+abbrev pub first_clash : (State → State → Bool) → TableMeaning → TableMeaning → Option Meaning
+first_clash clash s t = option_map (λ e. e.0) (first_where (λ e. clash (Some e.1) (maps.get t e.0)) (maps.entries s))
+
+-- among the callers are those of both fonts, and no smaller ones
+pub record AreCallers (cs : List Callers) (f g : FontValue) : Type 0 where
+  pub users : (i : ℕ) → i < declared_count f.shell.subrs → i < declared_count g.shell.subrs → user_from None cs i ≡ smallest (used_by profile f g i) (glyph_names f g)
+  pub seekers : (p : List ℕ) → seeker_from None cs p ≡ smallest (wanted_by profile f g p) (glyph_names f g)
+
+-- the states of two fonts
+pub record AreStatesOf (s t : StatesValue) (f g : FontValue) : Type 0 where
+  pub own_font : IsFont f
+  pub other_font : IsFont g
+  pub own : s ≡ states_of profile f
+  pub other : t ≡ states_of profile g
+
+module _ (f g : FontValue) where
+  -- the lowest conflict of shells, codes and glyphs
+  abbrev pub entries_conflict : Option Conflict
+  entries_conflict = found ShellDiffers (shell_conflict f g) (found CodeDiffers (code_conflict f g) (found GlyphDiffers (glyph_conflict f g) None))
+
+  -- the lowest conflict of what glyphs name and execute
+  abbrev pub uses_conflict : Option Conflict
+  uses_conflict =
+      found (λ p. LacksComponent (unwrap_or (smallest (wanted_by profile f g p) (glyph_names f g)) []) p) (component_conflict profile f g)
+      (found (λ i. SubrDiffers i (smallest (used_by profile f g i) (glyph_names f g))) (subr_conflict profile f g) None)

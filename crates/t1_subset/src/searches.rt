@@ -1,0 +1,203 @@
+//! The lowest conflict of two fonts, by their states and by who uses them: one search for each kind.
+
+ghost use Rattle.std.specs.Prelude.{◌≡◌, ◌<◌, IfOk, IfErr, Some, None, SomeIff, []};
+ghost use Rattle.std.specs.Option.{option_map, unwrap_or};
+ghost use Rattle.t1_font.specs.FontValue.{FontValue};
+ghost use Rattle.t1_font.specs.IsFont.{IsFont};
+ghost use Rattle.t1_subset.specs.Profile.{profile};
+ghost use Rattle.t1_subset.specs.StateTables.{numbered, code_states, used_subrs};
+ghost use Rattle.t1_subset.specs.NameStates.{state_meaning};
+ghost use Rattle.t1_subset.specs.Conflicts.{GlyphDiffers, LacksComponent, SubrDiffers, code_conflict, subr_conflict, states_conflict};
+ghost use Rattle.t1_subset.specs.Clashes.{charstring_in, is_sought_in, charstrings_differ, one_lacks, first_clash, AreStatesOf, AreCallers, entries_conflict, uses_conflict};
+ghost use Rattle.t1_subset.specs.Refusals.{Tells};
+
+use crate::callers::{Callers, seeker, user};
+use crate::conflict::Conflict;
+use crate::name_states::{NameState, NameTable};
+use crate::shells::{differ, shell_conflict};
+use crate::state_value::States;
+use std::alloc::Global;
+use t1_join::Table;
+
+/// The charstring of a name, where its state is one.
+fn charstring<'a>(state: Option<&NameState<'a>>) -> Option<&'a [u8]>
+    ensures { option_map (λ c. c.now) result ≡ charstring_in (option_map (λ s. state_meaning s.now) state.entry) }
+{
+    match state {
+        Some(NameState::Charstring(charstring)) => Some(*charstring),
+        _ => None,
+    }
+}
+
+/// Whether a name is sought.
+fn is_sought(state: Option<&NameState<'_>>) -> bool
+    ensures { result ≡ is_sought_in (option_map (λ s. state_meaning s.now) state.entry) }
+{
+    match state {
+        Some(NameState::Sought) => true,
+        _ => false,
+    }
+}
+
+/// Whether the states of a name are charstrings that differ.
+fn charstrings_differ(own: Option<&NameState<'_>>, other: Option<&NameState<'_>>) -> bool
+    ensures { result ≡ charstrings_differ (option_map (λ s. state_meaning s.now) own.entry) (option_map (λ s. state_meaning s.now) other.entry) }
+{
+    differ(charstring(own), charstring(other))
+}
+
+/// Whether one font seeks a name of which the other has a glyph.
+fn one_lacks(own: Option<&NameState<'_>>, other: Option<&NameState<'_>>) -> bool
+    ensures { result ≡ one_lacks (option_map (λ s. state_meaning s.now) own.entry) (option_map (λ s. state_meaning s.now) other.entry) }
+{
+    is_sought(own) && charstring(other).is_some() || is_sought(other) && charstring(own).is_some()
+}
+
+/// The code as a byte, where it is one.
+fn byte_of(code: u16) -> Option<u8>
+    ensures { SomeIff result (code < 256) code }
+{
+    match u8::try_from(code) {
+        Ok(code) => Some(code),
+        Err(_) => None,
+    }
+}
+
+/// The smallest code that both have, with different names.
+fn code_conflict(own: &Table<u16, &[u8]>, other: &Table<u16, &[u8]>) -> Option<u8>
+    ensures { (f g : FontValue) → IsFont f → own.now ≡ code_states f.encoding → other.now ≡ code_states g.encoding → result ≡ code_conflict f g }
+{
+    match own.conflict(other) {
+        Some(code) => byte_of(*code),
+        None => None,
+    }
+}
+
+/// The smallest name that both have, with different charstrings.
+fn glyph_conflict<'a>(own: &NameTable<'a>, other: &NameTable<'a>) -> Option<&'a [u8]>
+    ensures { option_map (λ n. n.now) result ≡ first_clash charstrings_differ own.now other.now }
+{
+    'names: for (name, state) in own.entries() {
+        if charstrings_differ(Some(state), other.get(name)) {
+            return Some(*name);
+        }
+    }
+    None
+}
+
+/// The smallest name that one seeks, and of which the other has a glyph.
+fn part_conflict<'a>(own: &NameTable<'a>, other: &NameTable<'a>) -> Option<&'a [u8]>
+    ensures { option_map (λ n. n.now) result ≡ first_clash one_lacks own.now other.now }
+{
+    'names: for (name, state) in own.entries() {
+        if one_lacks(Some(state), other.get(name)) {
+            return Some(*name);
+        }
+    }
+    None
+}
+
+/// The smallest index at which the states differ.
+fn subr_conflict(own: &Table<u16, &[u8]>, other: &Table<u16, &[u8]>) -> Option<u16>
+    ensures { (f g : FontValue) → IsFont f → own.now ≡ numbered (used_subrs profile f) → other.now ≡ numbered (used_subrs profile g) → result ≡ subr_conflict profile f g }
+{
+    match own.conflict(other) {
+        Some(index) => Some(*index),
+        None => None,
+    }
+}
+
+/// Tells a glyph that differs, or want of memory.
+fn glyph_differs(alloc: Global, name: &[u8]) -> Conflict
+    ensures { Tells result (Some (GlyphDiffers name.now)) }
+{
+    match Vec::from_slice(alloc, name) {
+        Ok(name) => Conflict::Glyph { name },
+        Err(_) => Conflict::Memory,
+    }
+}
+
+/// Tells a part that is lacking and the glyph that names it, or want of memory.
+fn lacks_part(alloc: Global, glyph: Option<&[u8]>, part: &[u8]) -> Conflict
+    ensures { Tells result (Some (LacksComponent (unwrap_or (option_map (λ n. n.now) glyph.entry) []) part.now)) }
+{
+    let Ok(glyph) = Vec::from_slice(alloc, glyph.unwrap_or(&[])) else {
+        return Conflict::Memory;
+    };
+    match Vec::from_slice(alloc, part) {
+        Ok(part) => Conflict::Part { glyph, part },
+        Err(_) => Conflict::Memory,
+    }
+}
+
+/// Tells a Subr that differs and the glyph that executes it, or want of memory.
+fn subr_differs(alloc: Global, index: u16, user: Option<&[u8]>) -> Conflict
+    ensures { Tells result (Some (SubrDiffers index (option_map (λ n. n.now) user.entry))) }
+{
+    match user {
+        Some(user) => match Vec::from_slice(alloc, user) {
+            Ok(glyph) => Conflict::Subr {
+                index,
+                glyph: Some(glyph),
+            },
+            Err(_) => Conflict::Memory,
+        },
+        None => Conflict::Subr { index, glyph: None },
+    }
+}
+
+/// The lowest conflict of two fonts' shells, codes and glyphs, or want of memory.
+fn entries_conflict(
+    alloc: Global,
+    left: &States<'_, '_>,
+    right: &States<'_, '_>,
+) -> Result<(), Conflict>
+    ensures ok { (f g : FontValue) → AreStatesOf left.now right.now f g → IfOk result (λ _. entries_conflict f g ≡ None) }
+    ensures err { (f g : FontValue) → AreStatesOf left.now right.now f g → IfErr result (λ e. Tells e (entries_conflict f g)) }
+{
+    if let Some(part) = shell_conflict(left.shell, right.shell) {
+        return Err(Conflict::Shell { part });
+    }
+    if let Some(code) = code_conflict(&left.codes, &right.codes) {
+        return Err(Conflict::Code { code });
+    }
+    match glyph_conflict(&left.names, &right.names) {
+        Some(name) => Err(glyph_differs(alloc, name)),
+        None => Ok(()),
+    }
+}
+
+/// The lowest conflict of what two fonts' glyphs name and execute, or want of memory.
+fn uses_conflict(
+    alloc: Global,
+    left: &States<'_, '_>,
+    right: &States<'_, '_>,
+    callers: &[Callers<'_>],
+) -> Result<(), Conflict>
+    ensures ok { (f g : FontValue) → AreStatesOf left.now right.now f g → IfOk result (λ _. uses_conflict f g ≡ None) }
+    ensures err { (f g : FontValue) → AreStatesOf left.now right.now f g → AreCallers callers.now f g → IfErr result (λ e. Tells e (uses_conflict f g)) }
+{
+    if let Some(part) = part_conflict(&left.names, &right.names) {
+        return Err(lacks_part(alloc, seeker(callers, part), part));
+    }
+    match subr_conflict(&left.subrs, &right.subrs) {
+        Some(index) => Err(subr_differs(alloc, index, user(callers, index))),
+        None => Ok(()),
+    }
+}
+
+/// The lowest conflict of two fonts' shells and states, or want of memory. The callers are those of both fonts.
+pub(crate) fn states_conflict(
+    alloc: Global,
+    left: &States<'_, '_>,
+    right: &States<'_, '_>,
+    callers: &[Callers<'_>],
+) -> Result<(), Conflict>
+    ensures ok { (f g : FontValue) → AreStatesOf left.now right.now f g → IfOk result (λ _. states_conflict profile f g ≡ None) }
+    ensures err { (f g : FontValue) → AreStatesOf left.now right.now f g → AreCallers callers.now f g → IfErr result (λ e. Tells e (states_conflict profile f g)) }
+{
+    if let Err(conflict) = entries_conflict(alloc, left, right) {
+        return Err(conflict);
+    }
+    uses_conflict(alloc, left, right, callers)
+}
