@@ -98,6 +98,9 @@ pub fn run_join<R: Read, S: Read, W: Write>(
 {
     let text = read_text(alloc, first)?;
     let left = listed(alloc, text.as_slice())?;
-    let both = joined_with(alloc, &left, second)?;
+    let both = match joined_with(alloc, &left, second) {
+        Ok(both) => both,
+        Err(fault) => return Err(fault),
+    };
     write_text(writer, both.as_slice())
 }

@@ -7,20 +7,26 @@ use Rattle.t1_cmd.proofs.ListInputs.{says, joined_stops}
 use Rattle.t1_cmd.proofs.listings.run_join.Goals as goal
 
 -- the second input stops the engine, or both do
-pub returns-in_err-both-clause-succeeds : goal.returns-in_err-both-clause-succeeds
-returns-in_err-both-clause-succeeds g c =
+pub returns-in-Err-clause-ends : goal.returns-in-Err-clause-ends
+returns-in-Err-clause-ends g c =
     let first = input_of g.R.Read.remaining c.args.first.now c.read_text.new.reader in
     let second = input_of g.S.Read.remaining c.args.second.now c.joined_with.new.second in
     let said = says first c.in_ok-text.text.items c.in_ok-left.left c.in_ok-text.ensures.text (subst (λ (t : List ℕ). listed t ≡ Ok c.in_ok-left.left) c.as_slice.ensures.value c.in_ok-left.ensures.listing) in
-    ends_succeeds listing_input JoinsTo joins_apart g.W.Write.contents (first ∷ second ∷ []) c.args.writer.now c.args.writer.now (Err _)
-    (stopped listing_input JoinsTo g.W.Write.contents (first ∷ second ∷ []) c.args.writer.now _ (joined_stops first second c.in_ok-left.left _ said c.in_err-both.ensures.refused))
+    stopped listing_input JoinsTo g.W.Write.contents (first ∷ second ∷ []) c.args.writer.now c.in-Err.fault (joined_stops first second c.in_ok-left.left c.in-Err.fault said c.in-Err.ensures.refused)
+
+pub returns-in-Err-clause-succeeds : goal.returns-in-Err-clause-succeeds
+returns-in-Err-clause-succeeds g c =
+    let first = input_of g.R.Read.remaining c.args.first.now c.read_text.new.reader in
+    let second = input_of g.S.Read.remaining c.args.second.now c.joined_with.new.second in
+    ends_succeeds listing_input JoinsTo joins_apart g.W.Write.contents (first ∷ second ∷ []) c.args.writer.now c.args.writer.now (Err c.in-Err.fault)
+    (returns-in-Err-clause-ends g c)
 
 pub returns-clause-ends : goal.returns-clause-ends
 returns-clause-ends g c =
     let first = input_of g.R.Read.remaining c.args.first.now c.read_text.new.reader in
     let second = input_of g.S.Read.remaining c.args.second.now c.joined_with.new.second in
     let said = says first c.in_ok-text.text.items c.in_ok-left.left c.in_ok-text.ensures.text (subst (λ (t : List ℕ). listed t ≡ Ok c.in_ok-left.left) c.as_slice.ensures.value c.in_ok-left.ensures.listing) in
-    let both = c.in_ok-both.ensures.text in
+    let both = c.in-Ok.ensures.text in
     write_ends listing_input JoinsTo g.W.Write.contents (first ∷ second ∷ []) (c.in_ok-left.left ∷ both.0 ∷ [])
     c.args.writer.now c.write_text.new.writer c.as_slice-2.result.now c.write_text.result (said, (both.1, tt))
     (subst (λ (t : List ℕ). JoinsTo (c.in_ok-left.left ∷ both.0 ∷ []) (Ok t)) (sym c.as_slice-2.ensures.value) both.2)
