@@ -1,4 +1,5 @@
 use crate::flats::Flat;
+use crate::hexadecimal::Hex;
 use crate::keys::{Kept, Key};
 use crate::laws;
 use crate::listing::{self, JoinFault, ListFault, Listing};
@@ -471,6 +472,14 @@ fn flats_join(alloc: Global) -> Result<bool, AllocError> {
     }
 }
 
+// Whether digits of either case spell their bytes.
+fn digits_spell(alloc: Global) -> Result<bool, AllocError> {
+    match Hex::read(b"eF06") {
+        Some(hex) => Ok(hex.bytes(alloc)?.as_slice() == b"\xef\x06".as_slice()),
+        None => Ok(false),
+    }
+}
+
 // Whether all calls that grow answer right.
 fn answers_right(alloc: Global) -> Result<bool, AllocError> {
     let listings = texts_join(
@@ -479,7 +488,7 @@ fn answers_right(alloc: Global) -> Result<bool, AllocError> {
         b"G Y 0E\nS 5 ef060b\n",
         b"S 5 ef060b\nG X 8b0e\nG Y 0e\n",
     )?;
-    Ok(listings && tables_join(alloc)? && flats_join(alloc)?)
+    Ok(listings && digits_spell(alloc)? && tables_join(alloc)? && flats_join(alloc)?)
 }
 
 // `tools/sweep_growths.py` refuses one growth after the other: a call that then answers want of memory answers right when
