@@ -67,7 +67,11 @@ fn joined_text(alloc: Global, left: &Listing<'_>, right: &Listing<'_>) -> Result
 }
 
 // The text of the join of a listing and of that of a reader.
-fn joined_with<S: Read>(alloc: Global, left: &Listing<'_>, second: &mut Counted<S>) -> Result<Vec<u8>, RunFault>
+fn joined_with<S: Read>(
+    alloc: Global,
+    left: &Listing<'_>,
+    second: &mut Counted<S>,
+) -> Result<Vec<u8>, RunFault>
     ensures text { IfOk result (λ text. JoinsRead (input_of S.remaining second.old second.new) left.now text.items) }
     ensures refused { IfErr result (StopsRead (input_of S.remaining second.old second.new) left.now) }
     ensures turns { calls_of second.new ≤ calls_of second.old + (file_limit + 1) }

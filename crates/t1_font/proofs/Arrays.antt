@@ -31,12 +31,12 @@ module _ (bytes rest : List ℕ) (codes : Numbered) (code : ℕ) (s : NamesSoFar
   name_more x next below e put =
       let placed : from_code 0 (s.names ++ x.0 ∷ []) ≡ from_code 0 s.names ++ (code, x.0) ∷ [] = from_code-push 0 s.names x.0 ∙ ap (λ (k : ℕ). from_code 0 s.names ++ (k, x.0) ∷ []) (omega (arith, s.count)) in
       record {
-    names = s.names ++ x.0 ∷ [];
-    count = omega (arith, s.count, length-append s.names (x.0 ∷ []));
-    held = one_code_more (from_code 0 s.names) (code, x.0) codes next put s.held ∙ ap (λ (es : List (ℕ × List ℕ)). map_of {R = nat_cmp} es) (sym placed);
-    read = subst (λ (k : ℕ). with_front (s.names ++ x.0 ∷ []) (counted_at next_name array_end k x.1) ≡ counted_at next_name array_end code_count bytes) (omega (arith, below))
-        (counted_turn next_name array_end (code_count - suc code) s.names rest x _ e (before_one (suc (code_count - suc code)) (omega (arith, below))));
-  }
+        names = s.names ++ x.0 ∷ [];
+        count = omega (arith, s.count, length-append s.names (x.0 ∷ []));
+        held = one_code_more (from_code 0 s.names) (code, x.0) codes next put s.held ∙ ap (λ (es : List (ℕ × List ℕ)). map_of {R = nat_cmp} es) (sym placed);
+        read = subst (λ (k : ℕ). with_front (s.names ++ x.0 ∷ []) (counted_at next_name array_end k x.1) ≡ counted_at next_name array_end code_count bytes) (omega (arith, below))
+            (counted_turn next_name array_end (code_count - suc code) s.names rest x _ e (before_one (suc (code_count - suc code)) (omega (arith, below))));
+      }
 
   -- no name where one is wanted
   pub name_missing : code < code_count → next_name.read rest ≡ None → counted_at next_name array_end code_count bytes ≡ Err rest

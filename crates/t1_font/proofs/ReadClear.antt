@@ -64,9 +64,9 @@ word_start w bytes rest a = elim a.2 [
       let spelled : encoding_word.Spells t.0 t.1 rest = subst (λ (u : List ℕ). encoding_word.Spells t.0 t.1 (u ++ rest)) t.5.0 t.4 in
       (t.1, a.1 ∙ ap (λ (u : List ℕ). u ++ rest) text, subst (λ (v : List ℕ). encoding_word.Spells v t.1 rest) (Some_same (ap word_in t.5.1)) spelled)
   | inr t ↦ elim t.0 [
-      | inl u ↦ Some_None (sym (ap word_in u.5.5.1))
-      | inr u ↦ Some_None (sym (ap word_in u.0.5.1))
-    ]
+    | inl u ↦ Some_None (sym (ap word_in u.5.5.1))
+    | inr u ↦ Some_None (sym (ap word_in u.0.5.1))
+  ]
 ]
 
 word_ends : (w text rest bytes : List ℕ) → encoding_word.Spells w text rest → bytes ≡ text ++ rest → IsEnded bytes rest

@@ -223,7 +223,12 @@ fn join_so(alloc: Global, left: &[u8], right: &[u8], want: Want<'_>) -> bool {
     }
 }
 
-fn listings_join_so(alloc: Global, left: &Listing<'_>, right: &Listing<'_>, want: Want<'_>) -> bool {
+fn listings_join_so(
+    alloc: Global,
+    left: &Listing<'_>,
+    right: &Listing<'_>,
+    want: Want<'_>,
+) -> bool {
     match (listing::join(alloc, left, right), want) {
         (Ok(both), Want::Text(text)) => is_written_so(alloc, &both, text),
         (Err(JoinFault::Subr { index }), Want::Subr(key)) => index == key,

@@ -48,16 +48,40 @@ fn arrays_of_no_names(rt: HostRuntime) {
         (b" [", 256, b"] def", None, "256 names"),
         (b" [", 257, b"] def", bad(2194), "257 names"),
         (b"[", 256, b"]def", None, "no white space"),
-        (b" [ ", 256, b" ]readonly def", None, "white space on the inside"),
-        (b" [", 256, b"] readonly readonly def", bad(2194), "readonly twice"),
+        (
+            b" [ ",
+            256,
+            b" ]readonly def",
+            None,
+            "white space on the inside",
+        ),
+        (
+            b" [",
+            256,
+            b"] readonly readonly def",
+            bad(2194),
+            "readonly twice",
+        ),
         (b" [", 256, b"] readonly", bad(2194), "no def"),
         (b" [", 256, b"] put", bad(2194), "another word for def"),
-        (b" [", 256, b" defx", bad(2195), "no bracket, and another word"),
+        (
+            b" [",
+            256,
+            b" defx",
+            bad(2195),
+            "no bracket, and another word",
+        ),
         (b" [ X", 256, b"] def", bad(147), "a word among the names"),
         (b" [/", 255, b"] def", bad(146), "an empty name"),
         (b" [(", 256, b"] def", bad(146), "a string among the names"),
         (b" {", 256, b"} def", bad(135), "a procedure"),
-        (b" 256[", 256, b"] def", bad(135), "a number before the bracket"),
+        (
+            b" 256[",
+            256,
+            b"] def",
+            bad(135),
+            "a number before the bracket",
+        ),
     ];
     for (open, count, close, want, name) in rows {
         assert_eq!(rt; refusal(rt.alloc(), open, count, close), want, "{name}");
@@ -93,7 +117,10 @@ fn tiny_by_an_array(rt: HostRuntime) -> Result<(), Fail> {
 fn the_last_name_of_an_array(rt: HostRuntime) -> Result<(), Fail> {
     let file = tiny_by_array(rt.alloc(), b"/Z")?;
     let written = rewritten(rt.alloc(), file.as_slice(), Form::Pfa);
-    let has_it = |text: Vec<u8>| text.as_slice().find(b"dup 194 /H put\ndup 255 /Z put\nreadonly def").is_some();
+    let has_it = |text: Vec<u8>| text
+        .as_slice()
+        .find(b"dup 194 /H put\ndup 255 /Z put\nreadonly def")
+        .is_some();
     assert!(rt; written.is_ok_and(has_it));
     Ok(())
 }
@@ -103,7 +130,10 @@ fn an_array_of_no_names_is_a_table(rt: HostRuntime) -> Result<(), Fail> {
     let text = unnamed(rt.alloc(), b" [", 256, b"] def")?;
     let file = encoded(rt.alloc(), text.as_slice())?;
     let written = rewritten(rt.alloc(), file.as_slice(), Form::Pfa);
-    let has_none = |text: Vec<u8>| text.as_slice().find(b"/Encoding 256 array\n0 1 255 {1 index exch /.notdef put} for\nreadonly def").is_some();
+    let has_none = |text: Vec<u8>| text
+        .as_slice()
+        .find(b"/Encoding 256 array\n0 1 255 {1 index exch /.notdef put} for\nreadonly def")
+        .is_some();
     assert!(rt; written.is_ok_and(has_none));
     Ok(())
 }
