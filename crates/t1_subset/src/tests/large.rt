@@ -243,8 +243,8 @@ fn too_heavy(alloc: Global, one: &[u8], other: &[u8]) -> bool {
 fn a_merger_that_weighs_too_much(rt: HostRuntime) -> Result<(), Fail> {
     let mut plain = Vec::new(rt.alloc());
     plain.resize(65_000, 14)?;
-    let one = many(rt.alloc(), 0..130, plain.as_slice())?;
-    let other = many(rt.alloc(), 130..260, plain.as_slice())?;
+    let one = many(rt.alloc(), 0..520, plain.as_slice())?;
+    let other = many(rt.alloc(), 520..1040, plain.as_slice())?;
     assert!(rt; too_heavy(rt.alloc(), one.as_slice(), other.as_slice()));
     assert!(rt; too_heavy(rt.alloc(), other.as_slice(), one.as_slice()));
     Ok(())
