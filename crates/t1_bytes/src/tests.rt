@@ -46,7 +46,7 @@ fn finds(alloc: Global, flat: &[u8], want: Result<(usize, &[u8]), BytesFault>) -
 
 #[test]
 fn enciphers_worked_bytes(rt: HostRuntime) -> Result<(), Fail> {
-    let rows: [(u16, u8, &[u8], &[u8], &str); 5] = [
+    const ROWS: &[(u16, u8, &[u8], &[u8], &str)] = &[
         (
             EEXEC_KEY,
             EEXEC_LEAD,
@@ -83,7 +83,7 @@ fn enciphers_worked_bytes(rt: HostRuntime) -> Result<(), Fail> {
             "lead bytes that belong to the text",
         ),
     ];
-    for (key, lead, plain, cipher, name) in rows {
+    for &(key, lead, plain, cipher, name) in ROWS {
         assert!(rt; lead as usize <= plain.len());
         let text = &plain[lead as usize..];
         let mut bytes = seal(rt.alloc(), text, key, lead)?;
@@ -102,7 +102,7 @@ fn enciphers_worked_bytes(rt: HostRuntime) -> Result<(), Fail> {
 
 #[test]
 fn flattens_segments(rt: HostRuntime) {
-    let rows: [(&[u8], Result<&[u8], BytesFault>, &str); 23] = [
+    const ROWS: &[(&[u8], Result<&[u8], BytesFault>, &str)] = &[
         (b"", Ok(b""), "no bytes"),
         (b"AB\x80\x03", Ok(b"AB\x80\x03"), "no segments"),
         (b"\x80\x03AB", Ok(b""), "an end, and more bytes"),
@@ -187,19 +187,29 @@ fn flattens_segments(rt: HostRuntime) {
             "a length near 2^32",
         ),
     ];
-    for (file, want, name) in rows {
+    for &(file, want, name) in ROWS {
         assert!(rt; flattens(rt.alloc(), file, want), "{name}");
     }
 }
 
 /// The bytes from 0 to 39.
-const BYTES: &[u8; 40] =
+const BYTES: &[u8] =
     b"\x00\x01\x02\x03\x04\x05\x06\x07\x08\x09\x0a\x0b\x0c\x0d\x0e\x0f\x10\x11\x12\x13\
     \x14\x15\x16\x17\x18\x19\x1a\x1b\x1c\x1d\x1e\x1f\x20\x21\x22\x23\x24\x25\x26\x27";
 
+/// The bytes from 0 to 31: a line of digits.
+const LINE: &[u8] =
+    b"\x00\x01\x02\x03\x04\x05\x06\x07\x08\x09\x0a\x0b\x0c\x0d\x0e\x0f\
+    \x10\x11\x12\x13\x14\x15\x16\x17\x18\x19\x1a\x1b\x1c\x1d\x1e\x1f";
+
+/// The bytes from 0 to 30: a line that breaks off before its last byte.
+const SHORT_LINE: &[u8] =
+    b"\x00\x01\x02\x03\x04\x05\x06\x07\x08\x09\x0a\x0b\x0c\x0d\x0e\x0f\
+    \x10\x11\x12\x13\x14\x15\x16\x17\x18\x19\x1a\x1b\x1c\x1d\x1e";
+
 #[test]
 fn splits_flat_texts(rt: HostRuntime) {
-    let rows: [(&[u8], Result<(usize, &[u8]), BytesFault>, &str); 19] = [
+    const ROWS: &[(&[u8], Result<(usize, &[u8]), BytesFault>, &str)] = &[
         (b"", Err(BytesFault::NoEexec), "no bytes"),
         (
             b"currentfile eexec",
@@ -292,14 +302,14 @@ fn splits_flat_texts(rt: HostRuntime) {
             "binary to the end",
         ),
     ];
-    for (flat, want, name) in rows {
+    for &(flat, want, name) in ROWS {
         assert!(rt; splits(rt.alloc(), flat, want), "{name}");
     }
 }
 
 #[test]
 fn splits_digits(rt: HostRuntime) {
-    let rows: [(&[u8], Result<(usize, &[u8]), BytesFault>, &str); 14] = [
+    const ROWS: &[(&[u8], Result<(usize, &[u8]), BytesFault>, &str)] = &[
         (
             b"currentfile eexec D9d66F63",
             Ok((17, b"\xd9\xd6\x6f\x63")),
@@ -342,36 +352,36 @@ fn splits_digits(rt: HostRuntime) {
         ),
         (
             b"currentfile eexec 000102030405060708090A0B0C0D0E0F101112131415161718191a1b1c1d1e1f\n2021222324252627\n",
-            Ok((17, &BYTES[..40])),
+            Ok((17, BYTES)),
             "a line of 64 digits",
         ),
         (
             b"currentfile eexec 000102030405060708090A0B0C0D0E0F101112131415161718191a1b1c1d1e1f20212223\r\n24252627\r\n",
-            Ok((17, &BYTES[..40])),
+            Ok((17, BYTES)),
             "a line of 72 digits, and CR and LF",
         ),
         (
             b"currentfile eexec 000102030405060708090A0B0C0D0E0F101112131415161718191a1b1c1d1e1f2\n021222324252627",
-            Ok((17, &BYTES[..40])),
+            Ok((17, BYTES)),
             "a line of 65 digits: a byte on two lines",
         ),
         (
             b"currentfile eexec 000102030405060708090A0B0C0D0E \t0F101112131415161718191a1b1c1d1e1f2021222324252627",
-            Ok((17, &BYTES[..40])),
+            Ok((17, BYTES)),
             "white space in a line",
         ),
         (
             b"currentfile eexec 000102030405060708090A0B0C0D0E0F101112131415161718191a1b1c1d1e1g2021222324252627",
-            Ok((17, &BYTES[..31])),
+            Ok((17, SHORT_LINE)),
             "a letter for the last digit of a line",
         ),
         (
             b"currentfile eexec 000102030405060708090A0B0C0D0E0F101112131415161718191a1b1c1d1e1fg2021222324252627",
-            Ok((17, &BYTES[..32])),
+            Ok((17, LINE)),
             "a letter after a line",
         ),
     ];
-    for (flat, want, name) in rows {
+    for &(flat, want, name) in ROWS {
         assert!(rt; splits(rt.alloc(), flat, want), "{name}");
     }
 }
@@ -379,7 +389,7 @@ fn splits_digits(rt: HostRuntime) {
 #[test]
 fn writes_lines_of_digits(rt: HostRuntime) -> Result<(), Fail> {
     let bytes: [u8; 33] = [0xAB; 33];
-    let rows: [(usize, &[u8]); 4] = [
+    const ROWS: &[(usize, &[u8])] = &[
         (0, b""),
         (1, b"ab\n"),
         (
@@ -391,7 +401,7 @@ fn writes_lines_of_digits(rt: HostRuntime) -> Result<(), Fail> {
             b"abababababababababababababababababababababababababababababababab\nab\n",
         ),
     ];
-    for (count, text) in rows {
+    for &(count, text) in ROWS {
         assert!(rt; count <= 33);
         let lines = hex_lines(rt.alloc(), &bytes[..count])?;
         assert!(rt; lines.as_slice() == text, "{count} bytes");
@@ -404,13 +414,13 @@ fn writes_lines_of_digits(rt: HostRuntime) -> Result<(), Fail> {
 
 #[test]
 fn prints_refusals(rt: HostRuntime) -> Result<(), Fail> {
-    let rows = [
+    const ROWS: &[(BytesFault, &str)] = &[
         (BytesFault::BadSegment { at: 319 }, "bad segment at 319"),
         (BytesFault::NoEexec, "no eexec"),
         (BytesFault::ShortCipher, "cipher too short"),
         (BytesFault::Memory, "out of memory"),
     ];
-    for (fault, text) in rows {
+    for &(fault, text) in ROWS {
         let printed = fault.to_string(rt.alloc())?;
         assert_eq!(rt; printed.as_str(), text);
     }

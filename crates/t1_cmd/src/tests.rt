@@ -205,7 +205,7 @@ fn joins(alloc: Global, left: &[u8], right: &[u8], text: &[u8], line: &[u8]) -> 
 }
 
 /// Two listings, and what is written of them or the line of their refusal.
-const JOINS: [(&[u8], &[u8], &[u8], &[u8]); 13] = [
+const JOINS: &[(&[u8], &[u8], &[u8], &[u8])] = &[
     (LEFT, RIGHT, BOTH, b""),
     (RIGHT, LEFT, BOTH, b""),
     (b"", b"", b"", b""),
@@ -238,7 +238,7 @@ const JOINS: [(&[u8], &[u8], &[u8], &[u8]); 13] = [
 
 #[test]
 fn joins_listings(rt: HostRuntime) {
-    for (left, right, text, line) in JOINS {
+    for &(left, right, text, line) in JOINS {
         assert!(rt; joins(rt.alloc(), left, right, text, line));
     }
 }
@@ -394,7 +394,7 @@ fn lines_of_places(rt: HostRuntime) {
 }
 
 /// Faults of font files, and what is printed of each.
-const FONTS: [(ReadFault, &str); 14] = [
+const FONTS: &[(ReadFault, &str)] = &[
     (ReadFault::TooLong, "refused: file too long\n"),
     (
         ReadFault::BadSegment { at: 319 },
@@ -425,7 +425,7 @@ const FONTS: [(ReadFault, &str); 14] = [
 
 #[test]
 fn lines_of_fonts(rt: HostRuntime) {
-    for (fault, want) in FONTS {
+    for &(fault, want) in FONTS {
         assert!(rt;
             is_refused(rt.alloc(), Reason::Font(fault), want),
             "{fault:?}"
@@ -434,7 +434,7 @@ fn lines_of_fonts(rt: HostRuntime) {
 }
 
 /// Parts of shells, and what is printed where fonts differ in one.
-const SHELLS: [(ShellPart, &str); 9] = [
+const SHELLS: &[(ShellPart, &str)] = &[
     (ShellPart::Head, "refused: shells differ in head\n"),
     (ShellPart::Encoding, "refused: shells differ in encoding\n"),
     (
@@ -460,7 +460,7 @@ const SHELLS: [(ShellPart, &str); 9] = [
 
 #[test]
 fn lines_of_shells(rt: HostRuntime) {
-    for (part, want) in SHELLS {
+    for &(part, want) in SHELLS {
         let reason = Reason::Merge(Conflict::Shell { part });
         assert!(rt; is_refused(rt.alloc(), reason, want), "{part:?}");
     }

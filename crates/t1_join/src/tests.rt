@@ -61,12 +61,12 @@ fn tables(rt: HostRuntime) -> Result<(), Fail> {
     assert!(rt; holds(&one, 10, 7), "the last value of a key stands");
     let upwards = one.entries().map(|(key, _)| *key).eq([3, 9, 10, 11]);
     assert!(rt; upwards, "upwards by key");
-    let rows = [
+    const ROWS: &[(u16, u16, u8, Option<u16>, Option<usize>, &str)] = &[
         (9, 12, 1, Some(10), None, "one key in conflict"),
         (9, 12, 2, Some(9), None, "the smallest key in conflict"),
         (12, 60_000, 2, None, Some(59_992), "many entries"),
     ];
-    for (from, to, byte, conflict, count, what) in rows {
+    for &(from, to, byte, conflict, count, what) in ROWS {
         let other = table(alloc, from, to, byte)?;
         assert!(rt; one.conflict(&other).copied() == conflict, "{what}");
         assert!(rt; keys_of_both(alloc, &one, &other)? == count, "{what}");
@@ -247,14 +247,14 @@ fn is_written_so(alloc: Global, listing: &Listing<'_>, text: &[u8]) -> bool {
 #[test]
 fn listings_join(rt: HostRuntime) {
     let alloc = rt.alloc();
-    let left: &[u8] = b"S 5 ef060b\nG X 8b0e\n";
-    let right: &[u8] = b"G Y 0E\nS 5 ef060b\n";
-    let both: &[u8] = b"S 5 ef060b\nG X 8b0e\nG Y 0e\n";
-    let one: &[u8] = b"S 10 0b\nS 9 0b\nG A 0e\n";
-    let other: &[u8] = b"S 10 0c\nS 9 0c\nG A 0d\n";
-    let rows: [(&[u8], &[u8], Want<'_>, &str); 11] = [
-        (left, right, Want::Text(both), "two listings"),
-        (right, left, Want::Text(both), "in the other order"),
+    const LEFT: &[u8] = b"S 5 ef060b\nG X 8b0e\n";
+    const RIGHT: &[u8] = b"G Y 0E\nS 5 ef060b\n";
+    const BOTH: &[u8] = b"S 5 ef060b\nG X 8b0e\nG Y 0e\n";
+    const ONE: &[u8] = b"S 10 0b\nS 9 0b\nG A 0e\n";
+    const OTHER: &[u8] = b"S 10 0c\nS 9 0c\nG A 0d\n";
+    const ROWS: &[(&[u8], &[u8], Want<'static>, &str)] = &[
+        (LEFT, RIGHT, Want::Text(BOTH), "two listings"),
+        (RIGHT, LEFT, Want::Text(BOTH), "in the other order"),
         (b"", b"", Want::Text(b""), "two empty listings"),
         (
             b"S 00005 0b\n",
@@ -286,10 +286,10 @@ fn listings_join(rt: HostRuntime) {
             Want::Subr(7),
             "an entry of no bytes",
         ),
-        (one, other, Want::Subr(9), "the smallest index"),
+        (ONE, OTHER, Want::Subr(9), "the smallest index"),
         (
-            other,
-            one,
+            OTHER,
+            ONE,
             Want::Subr(9),
             "the smallest index, in the other order",
         ),
@@ -300,7 +300,7 @@ fn listings_join(rt: HostRuntime) {
             "the smallest name",
         ),
     ];
-    for (left, right, want, what) in rows {
+    for &(left, right, want, what) in ROWS {
         assert!(rt; join_so(alloc, left, right, want), "{what}");
     }
 }
@@ -330,46 +330,53 @@ fn long_line(alloc: Global, name: usize, digits: usize) -> Result<Vec<u8>, Alloc
     Ok(line)
 }
 
-fn bad_line(line: usize) -> Option<ListFault> {
-    Some(ListFault::BadLine { line })
-}
-
-fn repeated(line: usize) -> Option<ListFault> {
-    Some(ListFault::Repeated { line })
-}
+// The first line is in fault.
+const BAD: Option<ListFault> = Some(ListFault::BadLine { line: 1 });
 
 #[test]
 fn reads_listings(rt: HostRuntime) {
-    let rows: [(&[u8], Option<ListFault>, &str); 23] = [
-        (b"S 65535 0b\n", bad_line(1), "an index over the largest"),
-        (b"S 000001 0b\n", bad_line(1), "six digits"),
-        (b"S  0b\n", bad_line(1), "no digit"),
-        (b"S 1a 0b\n", bad_line(1), "a letter in an index"),
-        (b"G X 0\n", bad_line(1), "odd digits"),
-        (b"G X 0g\n", bad_line(1), "no digit of 16"),
-        (b"G X 0e \n", bad_line(1), "a blank at the end"),
-        (b"G X 0e\r\n", bad_line(1), "CR before LF"),
-        (b"G X\n", bad_line(1), "no blank before the digits"),
-        (b"G  0e\n", bad_line(1), "no name"),
-        (b"G /X 0e\n", bad_line(1), "a delimiter"),
-        (b"G X\t0e\n", bad_line(1), "a tab"),
-        (b"GX 0e\n", bad_line(1), "no blank"),
-        (b"g X 0e\n", bad_line(1), "another letter"),
-        (b"\n", bad_line(1), "an empty line"),
-        (b"S 5 0b", bad_line(1), "no line feed"),
-        (b"S 5 0b\nS 6", bad_line(2), "no line feed at the end"),
+    const ROWS: &[(&[u8], Option<ListFault>, &str)] = &[
+        (b"S 65535 0b\n", BAD, "an index over the largest"),
+        (b"S 000001 0b\n", BAD, "six digits"),
+        (b"S  0b\n", BAD, "no digit"),
+        (b"S 1a 0b\n", BAD, "a letter in an index"),
+        (b"G X 0\n", BAD, "odd digits"),
+        (b"G X 0g\n", BAD, "no digit of 16"),
+        (b"G X 0e \n", BAD, "a blank at the end"),
+        (b"G X 0e\r\n", BAD, "CR before LF"),
+        (b"G X\n", BAD, "no blank before the digits"),
+        (b"G  0e\n", BAD, "no name"),
+        (b"G /X 0e\n", BAD, "a delimiter"),
+        (b"G X\t0e\n", BAD, "a tab"),
+        (b"GX 0e\n", BAD, "no blank"),
+        (b"g X 0e\n", BAD, "another letter"),
+        (b"\n", BAD, "an empty line"),
+        (b"S 5 0b", BAD, "no line feed"),
+        (
+            b"S 5 0b\nS 6",
+            Some(ListFault::BadLine { line: 2 }),
+            "no line feed at the end",
+        ),
         (
             b"S 5 0b\nS 5 0b",
-            bad_line(2),
+            Some(ListFault::BadLine { line: 2 }),
             "no line feed, and its key is there",
         ),
         (
             b"G a 0e\nG b 0e\nG c\nG d\n",
-            bad_line(3),
+            Some(ListFault::BadLine { line: 3 }),
             "the first line in fault",
         ),
-        (b"S 5 0b\nS 05 0b\n", repeated(2), "an index twice"),
-        (b"G 5 0b\nS 5 0b\nG 5 0c\n", repeated(3), "a name twice"),
+        (
+            b"S 5 0b\nS 05 0b\n",
+            Some(ListFault::Repeated { line: 2 }),
+            "an index twice",
+        ),
+        (
+            b"G 5 0b\nS 5 0b\nG 5 0c\n",
+            Some(ListFault::Repeated { line: 3 }),
+            "a name twice",
+        ),
         (
             b"S 5 0b\nG 5 0b\n",
             None,
@@ -377,23 +384,23 @@ fn reads_listings(rt: HostRuntime) {
         ),
         (b"S 65534 0b\n", None, "the largest index"),
     ];
-    for (text, want, what) in rows {
-        assert!(rt; listing::read(rt.alloc(), text).err() == want, "{what}");
+    for &(text, ref want, what) in ROWS {
+        assert!(rt; listing::read(rt.alloc(), text).err() == *want, "{what}");
     }
 }
 
 #[test]
 fn reads_long_lines(rt: HostRuntime) -> Result<(), Fail> {
-    let rows = [
+    const ROWS: &[(usize, usize, Option<ListFault>, &str)] = &[
         (127, 2, None, "the longest name"),
-        (128, 2, bad_line(1), "a name of one byte more"),
+        (128, 2, BAD, "a name of one byte more"),
         (1, 131_070, None, "the longest value"),
-        (1, 131_072, bad_line(1), "a value of one byte more"),
+        (1, 131_072, BAD, "a value of one byte more"),
     ];
-    for (name, digits, want, what) in rows {
+    for &(name, digits, ref want, what) in ROWS {
         let line = long_line(rt.alloc(), name, digits)?;
         assert!(rt;
-            listing::read(rt.alloc(), line.as_slice()).err() == want,
+            listing::read(rt.alloc(), line.as_slice()).err() == *want,
             "{what}"
         );
     }
@@ -404,19 +411,23 @@ fn reads_long_lines(rt: HostRuntime) -> Result<(), Fail> {
 fn reads_many_lines(rt: HostRuntime) -> Result<(), Fail> {
     let alloc = rt.alloc();
     let many = many_lines(alloc)?;
-    let rows: [(&[u8], Option<ListFault>, &str); 3] = [
+    const ROWS: &[(&[u8], Option<ListFault>, &str)] = &[
         (b"", None, "many lines"),
-        (b"S 65535 0b\n", bad_line(75_001), "a bad line after many"),
+        (
+            b"S 65535 0b\n",
+            Some(ListFault::BadLine { line: 75_001 }),
+            "a bad line after many",
+        ),
         (
             b"G 10000 0e\n",
-            repeated(75_001),
+            Some(ListFault::Repeated { line: 75_001 }),
             "a name twice, after many lines",
         ),
     ];
-    for (last, want, what) in rows {
+    for &(last, ref want, what) in ROWS {
         let text = joined(alloc, many.as_slice(), last)?;
         assert!(rt;
-            listing::read(alloc, text.as_slice()).err() == want,
+            listing::read(alloc, text.as_slice()).err() == *want,
             "{what}"
         );
     }

@@ -9,7 +9,7 @@ use t1_font::{Font, Source, read};
 
 #[test]
 fn glyphs_of_tiny(rt: HostRuntime) {
-    let rows: [(&[u8], &[u8], &str); 8] = [
+    const ROWS: &[(&[u8], &[u8], &str)] = &[
         (
             b"X",
             b"width 300 0\nbearing 50 0\npart 0 0\nmove 50 0\nline 150 0\nline 150 700\nline 50 700\nclose\n",
@@ -39,7 +39,7 @@ fn glyphs_of_tiny(rt: HostRuntime) {
             "such a name with a backslash",
         ),
     ];
-    for (name, want, what) in rows {
+    for &(name, want, what) in ROWS {
         assert!(rt;
             answers(rt.alloc(), Engine::Show(name), PFA, want),
             "{what}"
@@ -84,7 +84,7 @@ type Row = (
     &'static str,
 );
 
-const CHANGED: [Row; 13] = [
+const CHANGED: &[Row] = &[
     (b"G", MARKS, b"G", MARKS_SHOWN, "each mark"),
     (
         b"G",
@@ -171,7 +171,7 @@ fn drawn_with(alloc: Global, row: Row) -> bool {
 
 #[test]
 fn changed_glyphs(rt: HostRuntime) {
-    for row in CHANGED {
+    for &row in CHANGED {
         assert!(rt; drawn_with(rt.alloc(), row), "{}", row.4);
     }
 }

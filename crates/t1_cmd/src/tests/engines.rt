@@ -62,7 +62,7 @@ pub fn answers(alloc: Global, engine: Engine<'_>, input: &[u8], want: &[u8]) -> 
 
 #[test]
 fn tiny_is_checked(rt: HostRuntime) {
-    let files: [(&[u8], &[u8], &str); 3] = [
+    const FILES: &[(&[u8], &[u8], &str)] = &[
         (
             PFA,
             b"ok 11 glyphs, 10 subrs, weight 4936\n",
@@ -75,7 +75,7 @@ fn tiny_is_checked(rt: HostRuntime) {
         ),
         (b"", b"refused: no eexec\n", "an empty file"),
     ];
-    for (file, want, what) in files {
+    for &(file, want, what) in FILES {
         assert!(rt; answers(rt.alloc(), Engine::Check, file, want), "{what}");
     }
 }
@@ -125,7 +125,7 @@ fn tiny_is_listed(rt: HostRuntime) {
 }
 
 /// What spells an Encoding, and what a font of it is listed with first.
-const ENCODINGS: [(&[u8], &[u8], &str); 5] = [
+const ENCODINGS: &[(&[u8], &[u8], &str)] = &[
     (
         b"/Encoding 256 array dup 65 /\x7e\x21 put def",
         b"code 65 ~!\nsubr 0 11\n",
@@ -155,7 +155,7 @@ const ENCODINGS: [(&[u8], &[u8], &str); 5] = [
 
 #[test]
 fn encodings_are_listed(rt: HostRuntime) -> Result<(), Fail> {
-    for (encoding, want, what) in ENCODINGS {
+    for &(encoding, want, what) in ENCODINGS {
         let file = tiny_encoded(rt.alloc(), encoding)?;
         let got = answer(rt.alloc(), Engine::List, file.as_slice());
         assert!(rt; got.as_slice().starts_with(want), "{what}");
@@ -176,7 +176,7 @@ fn read_by(alloc: Global, engine: Engine<'_>, plan: Plan) -> (&'static str, u64,
 
 #[test]
 fn each_read_fails(rt: HostRuntime) {
-    for engine in ENGINES {
+    for &engine in ENGINES {
         for fails in 1..9u64 {
             let plan = Plan {
                 most: 500,
@@ -191,7 +191,7 @@ fn each_read_fails(rt: HostRuntime) {
     }
 }
 
-const ENGINES: [Engine; 5] = [
+const ENGINES: &[Engine] = &[
     Engine::Check,
     Engine::List,
     Engine::Show(b"Aacute"),
@@ -228,7 +228,7 @@ const INTERRUPTED: Plan = Plan {
 
 #[test]
 fn each_write_fails(rt: HostRuntime) {
-    for engine in ENGINES {
+    for &engine in ENGINES {
         let whole = answer(rt.alloc(), engine, PFA);
         let last = whole.len() as u64;
         let one = Plan { most: 1, ..FINE };

@@ -118,7 +118,7 @@ close
 const LISTED: &[u8] = b"S 5 ef060b\nG X 8b0e\nG Y 0e\n";
 
 /// The engines over Tiny's PFA, and what they write.
-const ENGINES: [(Engine<'static>, &[u8]); 4] = [
+const ENGINES: &[(Engine<'static>, &[u8])] = &[
     (Engine::Check, CHECKED),
     (Engine::List, super::engines::TINY_LISTED),
     (Engine::Show(b"X"), SHOWN),
@@ -127,7 +127,7 @@ const ENGINES: [(Engine<'static>, &[u8]); 4] = [
 
 /// Whether each engine writes right.
 fn write_right(alloc: Global) -> Result<bool, AllocError> {
-    for (engine, want) in ENGINES {
+    for &(engine, want) in ENGINES {
         if !writes(alloc, engine, PFA, want)? {
             return Ok(false);
         }

@@ -60,12 +60,12 @@ fn subsets_merge(alloc: Global, left: &[&[u8]], right: &[&[u8]], want: &[&[u8]])
 
 #[test]
 fn subsets_of_one_font(rt: HostRuntime) {
-    let rows: [(&[&[u8]], &[&[u8]], &[&[u8]]); 3] = [
+    const ROWS: &[(&[&[u8]], &[&[u8]], &[&[u8]])] = &[
         (&[b"X"], &[b"Y"], &[b"X", b"Y"]),
         (&[b"Y"], &[], &[b"Y"]),
         (&[b"H"], &[b"X", b"Y"], &[b"X", b"Y", b"H"]),
     ];
-    for (left, right, want) in rows {
+    for &(left, right, want) in ROWS {
         assert!(rt; subsets_merge(rt.alloc(), left, right, want));
     }
     assert!(rt; merges(rt.alloc(), PFA, PFA, PFA));

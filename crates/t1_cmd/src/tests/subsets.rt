@@ -78,7 +78,7 @@ fn keeps(alloc: Global, input: &[u8], names: &[&[u8]], want: &[u8]) -> bool {
 }
 
 /// Names, and what their subset of Tiny keeps.
-const KEPT: [(&[&[u8]], &[u8]); 7] = [
+const KEPT: &[(&[&[u8]], &[u8])] = &[
     (&[], b".notdef 012"),
     (&[b"X"], b".notdef X 0125"),
     (&[b"X", b"X"], b".notdef X 0125"),
@@ -90,13 +90,13 @@ const KEPT: [(&[&[u8]], &[u8]); 7] = [
 
 #[test]
 fn what_names_keep(rt: HostRuntime) {
-    for (names, want) in KEPT {
+    for &(names, want) in KEPT {
         assert!(rt; keeps(rt.alloc(), PFB, names, want));
     }
 }
 
 /// A glyph of Tiny with another charstring, and what its subset keeps.
-const CHANGED_KEPT: [(&[u8], &[u8], &[u8]); 2] = [
+const CHANGED_KEPT: &[(&[u8], &[u8], &[u8])] = &[
     (
         b"M",
         b"\x8b\xf8\x88\x0d\xbd\xf7\x0c\xf7\x5c\x8b\xf7\x56\x0c\x06",
@@ -111,7 +111,7 @@ const CHANGED_KEPT: [(&[u8], &[u8], &[u8]); 2] = [
 
 #[test]
 fn what_changed_glyphs_keep(rt: HostRuntime) -> Result<(), Fail> {
-    for (name, plain, want) in CHANGED_KEPT {
+    for &(name, plain, want) in CHANGED_KEPT {
         let font = tiny_and(rt.alloc(), name, plain)?;
         assert!(rt; keeps(rt.alloc(), font.as_slice(), &[name], want));
     }
@@ -164,7 +164,7 @@ glyph Y 12
 ";
 
 /// Names, the size of their subset of Tiny, and what is checked and listed of it.
-const SUBSETS: [(&[&[u8]], usize, &[u8], &[u8]); 4] = [
+const SUBSETS: &[(&[&[u8]], usize, &[u8], &[u8])] = &[
     (
         &[],
         2141,
@@ -200,7 +200,7 @@ fn seen(alloc: Global, file: &[u8], checked: &[u8], listed: &[u8]) -> (usize, bo
 
 #[test]
 fn sizes_of_subsets(rt: HostRuntime) {
-    for (names, size, checked, listed) in SUBSETS {
+    for &(names, size, checked, listed) in SUBSETS {
         let file = subset(rt.alloc(), PFA, names);
         let got = seen(rt.alloc(), file.as_slice(), checked, listed);
         assert_eq!(rt; got, (size, true, true));
@@ -226,12 +226,12 @@ fn both_answers_to_hint_replacement(rt: HostRuntime) -> Result<(), Fail> {
 
 #[test]
 fn names_that_are_absent(rt: HostRuntime) {
-    let rows: [(&[u8], &[&[u8]], &[u8]); 3] = [
+    const ROWS: &[(&[u8], &[&[u8]], &[u8])] = &[
         (PFA, &[b"Zed", b"X"], b"refused: no glyph Zed\n"),
         (PFA, &[b"X", b"Zed", b"Zee"], b"refused: no glyph Zed\n"),
-        (&PFA[..312], &[b"Zed"], b"refused: no eexec\n"),
+        (b"%!", &[b"Zed"], b"refused: no eexec\n"),
     ];
-    for (file, names, want) in rows {
+    for &(file, names, want) in ROWS {
         assert!(rt; answers(rt.alloc(), Engine::Subset(names, Form::Pfa), file, want));
     }
 }

@@ -42,11 +42,10 @@ fn refusal(alloc: Global, open: &[u8], count: usize, close: &[u8]) -> Option<Rea
 
 #[test]
 fn arrays_of_no_names(rt: HostRuntime) {
-    let bad = |at| Some(ReadFault::BadEncoding { at });
-    let rows: [(&[u8], usize, &[u8], Option<ReadFault>, &str); 14] = [
-        (b" [", 255, b"] def", bad(2186), "255 names"),
+    const ROWS: &[(&[u8], usize, &[u8], Option<usize>, &str)] = &[
+        (b" [", 255, b"] def", Some(2186), "255 names"),
         (b" [", 256, b"] def", None, "256 names"),
-        (b" [", 257, b"] def", bad(2194), "257 names"),
+        (b" [", 257, b"] def", Some(2194), "257 names"),
         (b"[", 256, b"]def", None, "no white space"),
         (
             b" [ ",
@@ -59,31 +58,32 @@ fn arrays_of_no_names(rt: HostRuntime) {
             b" [",
             256,
             b"] readonly readonly def",
-            bad(2194),
+            Some(2194),
             "readonly twice",
         ),
-        (b" [", 256, b"] readonly", bad(2194), "no def"),
-        (b" [", 256, b"] put", bad(2194), "another word for def"),
+        (b" [", 256, b"] readonly", Some(2194), "no def"),
+        (b" [", 256, b"] put", Some(2194), "another word for def"),
         (
             b" [",
             256,
             b" defx",
-            bad(2195),
+            Some(2195),
             "no bracket, and another word",
         ),
-        (b" [ X", 256, b"] def", bad(147), "a word among the names"),
-        (b" [/", 255, b"] def", bad(146), "an empty name"),
-        (b" [(", 256, b"] def", bad(146), "a string among the names"),
-        (b" {", 256, b"} def", bad(135), "a procedure"),
+        (b" [ X", 256, b"] def", Some(147), "a word among the names"),
+        (b" [/", 255, b"] def", Some(146), "an empty name"),
+        (b" [(", 256, b"] def", Some(146), "a string among the names"),
+        (b" {", 256, b"} def", Some(135), "a procedure"),
         (
             b" 256[",
             256,
             b"] def",
-            bad(135),
+            Some(135),
             "a number before the bracket",
         ),
     ];
-    for (open, count, close, want, name) in rows {
+    for &(open, count, close, offset, name) in ROWS {
+        let want = offset.map(|at| ReadFault::BadEncoding { at });
         assert_eq!(rt; refusal(rt.alloc(), open, count, close), want, "{name}");
     }
 }
@@ -141,7 +141,11 @@ fn an_array_of_no_names_is_a_table(rt: HostRuntime) -> Result<(), Fail> {
 #[test]
 fn names_of_arrays_at_their_limits(rt: HostRuntime) -> Result<(), Fail> {
     let long = [b'x'; 128];
-    for (length, want) in [(127, None), (128, Some(ReadFault::BadEncoding { at: 146 }))] {
+    const ROWS: &[(usize, Option<ReadFault>)] = &[
+        (127, None),
+        (128, Some(ReadFault::BadEncoding { at: 146 })),
+    ];
+    for &(length, want) in ROWS {
         let mut open = Vec::from_slice(rt.alloc(), b" [/")?;
         open.extend_from_slice(&long[..length])?;
         let got = refusal(rt.alloc(), open.as_slice(), 255, b"] def");

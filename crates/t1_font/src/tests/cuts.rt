@@ -192,7 +192,7 @@ fn cut_shows(
 
 /// Names and Subrs; what Tiny cut to them shows, its weight, and the length of its PFA. Subr 3 of Tiny is `return`
 /// itself, Subr 8 has no bytes, and Tiny has no Subr 12.
-const CUTS: [(&[&[u8]], &[u16], &[u8], u32, usize); 5] = [
+const CUTS: &[(&[&[u8]], &[u16], &[u8], u32, usize)] = &[
     (&[], &[], b".notdef ----------", 2149, 2102),
     (&[], &[0, 1, 2, 3], b".notdef 012-------", 2167, 2141),
     (
@@ -222,7 +222,7 @@ const CUTS: [(&[&[u8]], &[u16], &[u8], u32, usize); 5] = [
 
 #[test]
 fn cuts_of_tiny(rt: HostRuntime) -> Result<(), Fail> {
-    for (names, subrs, text, weight, length) in CUTS {
+    for &(names, subrs, text, weight, length) in CUTS {
         let shows = cut_shows(rt.alloc(), names, subrs, (text, weight, length))?;
         assert!(rt; shows, "{text:?}");
     }
@@ -343,10 +343,11 @@ fn headed(alloc: Global, head: usize, glyph: &[u8]) -> Result<Vec<u8>, AllocErro
 #[test]
 fn joins_at_the_limit_of_weight(rt: HostRuntime) -> Result<(), Fail> {
     // The clear tail has 18 bytes and the private texts 13 and 27; each of the three glyphs weighs 257.
-    for (head, want) in [
-        (67_108_035usize, None),
+    const ROWS: &[(usize, Option<PartsFault>)] = &[
+        (67_108_035, None),
         (67_108_036, Some(PartsFault::Limit)),
-    ] {
+    ];
+    for &(head, want) in ROWS {
         let x = headed(rt.alloc(), head, b"/X")?;
         let y = headed(rt.alloc(), head, b"/Y")?;
         assert_eq!(rt;

@@ -8,8 +8,8 @@ use t1_run::Subroutines;
 
 #[test]
 fn words_at_their_limits(rt: HostRuntime) -> Result<(), Fail> {
-    let bad = Some(ReadFault::BadSubrs { at: 28 });
-    let rows: [(&[u8], Option<ReadFault>, &str); 16] = [
+    const BAD: Option<ReadFault> = Some(ReadFault::BadSubrs { at: 28 });
+    const ROWS: &[(&[u8], Option<ReadFault>, &str)] = &[
         (b"ND\n", None, "an empty table"),
         (
             b"dup 2 0 a  b\ndup 0 0 a  b\nND\n",
@@ -18,7 +18,7 @@ fn words_at_their_limits(rt: HostRuntime) -> Result<(), Fail> {
         ),
         (
             b"dup 3 0 a  b ND\n",
-            bad,
+            BAD,
             "an index equal to the declared count",
         ),
         (b"dup 0 0 RD  dup ND\n", None, "dup as the put-phrase"),
@@ -27,7 +27,7 @@ fn words_at_their_limits(rt: HostRuntime) -> Result<(), Fail> {
             Some(ReadFault::BadSubrs { at: 43 }),
             "noaccess dup doesn't close",
         ),
-        (b"dup 0 0 RD  noaccess", bad, "noaccess without a word"),
+        (b"dup 0 0 RD  noaccess", BAD, "noaccess without a word"),
         (
             b"dup 0 0 12345678901234567890123456789012  NP ND\n",
             None,
@@ -35,7 +35,7 @@ fn words_at_their_limits(rt: HostRuntime) -> Result<(), Fail> {
         ),
         (
             b"dup 0 0 123456789012345678901234567890123  NP ND\n",
-            bad,
+            BAD,
             "a word of 33 bytes",
         ),
         (
@@ -45,7 +45,7 @@ fn words_at_their_limits(rt: HostRuntime) -> Result<(), Fail> {
         ),
         (
             b"dup 0 0 RD  noaccess 123456789012345678901234 ND\n",
-            bad,
+            BAD,
             "a phrase of 33 bytes",
         ),
         (
@@ -53,11 +53,11 @@ fn words_at_their_limits(rt: HostRuntime) -> Result<(), Fail> {
             None,
             "phrases of two words",
         ),
-        (b"dup 0 65536 RD  NP ND\n", bad, "a length of 65,536"),
-        (b"dup 0 65535 RD  NP ND\n", bad, "a length beyond the end"),
+        (b"dup 0 65536 RD  NP ND\n", BAD, "a length of 65,536"),
+        (b"dup 0 65535 RD  NP ND\n", BAD, "a length beyond the end"),
         (
             b"dup 0 1 RD%\x1b NP ND\n",
-            bad,
+            BAD,
             "a delimiter for the one byte of white space",
         ),
         (
@@ -67,11 +67,11 @@ fn words_at_their_limits(rt: HostRuntime) -> Result<(), Fail> {
         ),
         (
             b"dup 0000000002 0 RD  NP ND\n",
-            bad,
+            BAD,
             "an index of ten digits",
         ),
     ];
-    for (table, want, name) in rows {
+    for &(table, want, name) in ROWS {
         let head = joined(rt.alloc(), b"/lenIV 0 def /Subrs 3 array ", table)?;
         let private = joined(rt.alloc(), head.as_slice(), GLYPHS)?;
         assert_eq!(rt;
@@ -85,24 +85,24 @@ fn words_at_their_limits(rt: HostRuntime) -> Result<(), Fail> {
 
 #[test]
 fn codes_at_their_limits(rt: HostRuntime) -> Result<(), Fail> {
-    let bad = Some(ReadFault::BadEncoding { at: 23 });
-    let rows: [(&[u8], Option<ReadFault>, &str); 10] = [
+    const BAD: Option<ReadFault> = Some(ReadFault::BadEncoding { at: 23 });
+    const ROWS: &[(&[u8], Option<ReadFault>, &str)] = &[
         (b"dup 8#000000377/X put def", None, "nine octal digits"),
-        (b"dup 8#0000000377/X put def", bad, "ten octal digits"),
-        (b"dup 8#400/X put def", bad, "octal 256"),
-        (b"dup 8#8/X put def", bad, "a digit that isn't octal"),
-        (b"dup 16#41/X put def", bad, "another radix"),
+        (b"dup 8#0000000377/X put def", BAD, "ten octal digits"),
+        (b"dup 8#400/X put def", BAD, "octal 256"),
+        (b"dup 8#8/X put def", BAD, "a digit that isn't octal"),
+        (b"dup 16#41/X put def", BAD, "another radix"),
         (
             b"dup 000000065/X put readonly def",
             None,
             "nine digits, and readonly",
         ),
-        (b"dup 65/ put def", bad, "an empty name"),
-        (b"readonly readonly def", bad, "readonly twice"),
+        (b"dup 65/ put def", BAD, "an empty name"),
+        (b"readonly readonly def", BAD, "readonly twice"),
         (b"def ", None, "no names"),
-        (b"/X put def", bad, "no dup"),
+        (b"/X put def", BAD, "no dup"),
     ];
-    for (table, want, name) in rows {
+    for &(table, want, name) in ROWS {
         let start = joined(rt.alloc(), b"%!\n/Encoding 256 array ", table)?;
         let clear = joined(rt.alloc(), start.as_slice(), b" currentfile eexec ")?;
         let private = joined(rt.alloc(), b"/lenIV 0 def ", GLYPHS)?;

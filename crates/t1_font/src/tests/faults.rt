@@ -5,7 +5,7 @@ use crate::{ReadFault, read};
 
 #[test]
 fn faults_of_clear_texts(rt: HostRuntime) {
-    let rows: [(&[u8], ReadFault, &str); 9] = [
+    const ROWS: &[(&[u8], ReadFault, &str)] = &[
         (b"", ReadFault::NoEexec, "nothing"),
         (
             b"\x80\x01\x05\0\0\0%!",
@@ -48,14 +48,14 @@ fn faults_of_clear_texts(rt: HostRuntime) {
             "the word 256 is an Encoding",
         ),
     ];
-    for (file, want, name) in rows {
+    for &(file, want, name) in ROWS {
         assert_eq!(rt; read(rt.alloc(), file).err(), Some(want), "{name}");
     }
 }
 
 #[test]
 fn faults_of_private_texts(rt: HostRuntime) {
-    let rows: [(&[u8], ReadFault, &str); 14] = [
+    const ROWS: &[(&[u8], ReadFault, &str)] = &[
         (
             b"/lenIV -1 def",
             ReadFault::NoCharStrings,
@@ -127,7 +127,7 @@ fn faults_of_private_texts(rt: HostRuntime) {
             "no word after lenIV",
         ),
     ];
-    for (private, want, name) in rows {
+    for &(private, want, name) in ROWS {
         assert_eq!(rt; fault(rt.alloc(), CLEAR, private), Some(want), "{name}");
     }
 }

@@ -27,15 +27,15 @@ fn glyph(alloc: Global, name: usize, length: usize) -> Result<Vec<u8>, AllocErro
 
 #[test]
 fn long_names_and_charstrings(rt: HostRuntime) -> Result<(), Fail> {
-    let bad = Some(ReadFault::BadGlyphs { at: 43 });
-    let rows: [(usize, usize, Option<ReadFault>, &str); 5] = [
+    const BAD: Option<ReadFault> = Some(ReadFault::BadGlyphs { at: 43 });
+    const ROWS: &[(usize, usize, Option<ReadFault>, &str)] = &[
         (127, 0, None, "a name of 127 bytes"),
-        (128, 0, bad, "a name of 128 bytes"),
-        (0, 0, bad, "a name of no bytes"),
+        (128, 0, BAD, "a name of 128 bytes"),
+        (0, 0, BAD, "a name of no bytes"),
         (1, 65_535, None, "a charstring of 65,535 bytes"),
-        (1, 65_536, bad, "a charstring of 65,536 bytes"),
+        (1, 65_536, BAD, "a charstring of 65,536 bytes"),
     ];
-    for (name, length, want, what) in rows {
+    for &(name, length, want, what) in ROWS {
         let private = glyph(rt.alloc(), name, length)?;
         assert_eq!(rt;
             fault(rt.alloc(), CLEAR, private.as_slice()),
@@ -49,10 +49,11 @@ fn long_names_and_charstrings(rt: HostRuntime) -> Result<(), Fail> {
 #[test]
 fn long_names_of_codes(rt: HostRuntime) -> Result<(), Fail> {
     let private = joined(rt.alloc(), b"/lenIV 0 def ", GLYPHS)?;
-    for (name, want) in [
-        (127usize, None),
+    const ROWS: &[(usize, Option<ReadFault>)] = &[
+        (127, None),
         (128, Some(ReadFault::BadEncoding { at: 20 })),
-    ] {
+    ];
+    for &(name, want) in ROWS {
         let clear = named(rt.alloc(), name)?;
         assert_eq!(rt;
             fault(rt.alloc(), clear.as_slice(), private.as_slice()),
@@ -67,10 +68,11 @@ fn long_names_of_codes(rt: HostRuntime) -> Result<(), Fail> {
 fn weights_at_the_limit(rt: HostRuntime) -> Result<(), Fail> {
     // The clear tail has 18 bytes and the private texts 13 and 27; `.notdef` weighs 257.
     let private = joined(rt.alloc(), b"/lenIV 0 def ", GLYPHS)?;
-    for (head, want) in [
-        (67_108_549usize, None),
+    const ROWS: &[(usize, Option<ReadFault>)] = &[
+        (67_108_549, None),
         (67_108_550, Some(ReadFault::Limit)),
-    ] {
+    ];
+    for &(head, want) in ROWS {
         let mut clear = Vec::new(rt.alloc());
         clear.resize(head, b' ')?;
         clear.extend_from_slice(b"/Encoding StandardEncoding def\ncurrentfile eexec\n")?;

@@ -77,7 +77,7 @@ fn tiny_is_written_again(rt: HostRuntime) -> Result<(), Fail> {
 #[test]
 fn changed_private_texts(rt: HostRuntime) -> Result<(), Fail> {
     let text = private(rt.alloc())?;
-    let rows: [(&[u8], &[u8], Option<ReadFault>); 10] = [
+    const ROWS: &[(&[u8], &[u8], Option<ReadFault>)] = &[
         (
             b"dup 0 15 RD ",
             b"dup 0 3 RD ",
@@ -117,7 +117,7 @@ fn changed_private_texts(rt: HostRuntime) -> Result<(), Fail> {
         (b"/.notdef 9", b"/.notdeg 9", Some(ReadFault::NoNotdef)),
         (b"closefile", b"closefil", Some(ReadFault::NoClosefile)),
     ];
-    for (old, new, want) in rows {
+    for &(old, new, want) in ROWS {
         let changed = with(rt.alloc(), text.as_slice(), old, new)?;
         assert!(rt;
             fault(rt.alloc(), &PFA[..313], changed.as_slice()) == want,

@@ -60,12 +60,12 @@ fn is_both(both: &BothAnswers, is_one: bool, executed: &[u16]) -> bool {
 #[test]
 fn runs_once_or_twice(rt: HostRuntime) -> Result<(), Fail> {
     let font = Font::new(rt.alloc(), &SUBRS)?;
-    let rows: [(&[u8], bool, &[u16], &str); 3] = [
+    const ROWS: &[(&[u8], bool, &[u16], &str)] = &[
         (&BOTH, false, &[3, 5], "an index made of the answer"),
         (&HINTS, false, &[3, 4, 7], "hint replacement"),
         (&LINES, true, &[5, 6], "no OtherSubr"),
     ];
-    for (charstring, is_one, executed, what) in rows {
+    for &(charstring, is_one, executed, what) in ROWS {
         let both = both_answers(rt.alloc(), &font, charstring)?;
         assert!(rt; is_both(&both, is_one, executed), "{what}");
     }

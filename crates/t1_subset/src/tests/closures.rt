@@ -55,7 +55,7 @@ pub fn kept(alloc: Global, file: &[u8], names: &[&[u8]]) -> Result<Vec<u8>, Allo
 }
 
 /// Names, and what they keep.
-const KEPT: [(&[&[u8]], &[u8]); 7] = [
+const KEPT: &[(&[&[u8]], &[u8])] = &[
     (&[], b".notdef 0123"),
     (&[b".notdef"], b".notdef 0123"),
     (&[b"X"], b".notdef X 01235"),
@@ -68,7 +68,7 @@ const KEPT: [(&[&[u8]], &[u8]); 7] = [
 #[test]
 fn what_names_keep(rt: HostRuntime) -> Result<(), Fail> {
     let file = whole(rt.alloc())?;
-    for (names, want) in KEPT {
+    for &(names, want) in KEPT {
         let got = kept(rt.alloc(), file.as_slice(), names)?;
         assert_eq!(rt; got.as_slice(), want);
         let cut = cut(rt.alloc(), file.as_slice(), names);
@@ -79,7 +79,7 @@ fn what_names_keep(rt: HostRuntime) -> Result<(), Fail> {
 }
 
 /// Names of which the font lacks some, and the first that it lacks.
-const ABSENT: [(&[&[u8]], &[u8]); 4] = [
+const ABSENT: &[(&[&[u8]], &[u8])] = &[
     (&[b"Zed"], b"Zed"),
     (&[b"X", b"Zee", b"Zed"], b"Zee"),
     (&[b"Zed", b"X"], b"Zed"),
@@ -125,7 +125,7 @@ fn file_lacks(alloc: Global, file: &[u8], names: &[&[u8]], want: &[u8]) -> bool 
 #[test]
 fn names_that_are_absent(rt: HostRuntime) -> Result<(), Fail> {
     let file = whole(rt.alloc())?;
-    for (names, want) in ABSENT {
+    for &(names, want) in ABSENT {
         let got = kept(rt.alloc(), file.as_slice(), names)?;
         assert_eq!(rt; got.as_slice(), want, "of a closure");
         let told = file_lacks(rt.alloc(), file.as_slice(), names, want);

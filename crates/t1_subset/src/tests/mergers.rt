@@ -183,7 +183,7 @@ fn changed(changes: &[Change]) -> Shell {
 
 /// What is changed in shells that differ from the one above, and the part that is told; of two parts that differ it is
 /// the first.
-const CHANGED: [(&[Change], ShellPart); 12] = [
+const CHANGED: &[(&[Change], ShellPart)] = &[
     (&[Change::Head(b"%!x\n")], ShellPart::Head),
     (
         &[Change::Encoding(b"/Encoding StandardEncoding def")],
@@ -247,7 +247,7 @@ fn shell_differs(
 
 /// The first part of the shells above that isn't told.
 fn first_untold(alloc: Global, file: &[u8]) -> Result<Option<ShellPart>, AllocError> {
-    for (changes, part) in CHANGED {
+    for &(changes, part) in CHANGED {
         if !shell_differs(alloc, file, &changed(changes), part)? {
             return Ok(Some(part));
         }
@@ -428,7 +428,7 @@ fn cuts(alloc: Global, file: &[u8], sets: &[&[&[u8]]]) -> Result<Vec<Vec<u8>>, A
 }
 
 /// Lists of sets of names, and the names of all of them.
-const LISTS: [(&[&[&[u8]]], &[&[u8]]); 4] = [
+const LISTS: &[(&[&[&[u8]]], &[&[u8]])] = &[
     (&[&[b"X"]], &[b"X"]),
     (&[&[b"X"], &[b"Y"]], &[b"X", b"Y"]),
     (&[&[], &[b"N"], &[b"H"], &[b"X"]], &[b"H", b"N", b"X"]),
@@ -438,7 +438,7 @@ const LISTS: [(&[&[&[u8]]], &[&[u8]]); 4] = [
 #[test]
 fn subsets_of_one_font(rt: HostRuntime) -> Result<(), Fail> {
     let file = whole(rt.alloc())?;
-    for (sets, all) in LISTS {
+    for &(sets, all) in LISTS {
         let files = cuts(rt.alloc(), file.as_slice(), sets)?;
         let want = cut(rt.alloc(), file.as_slice(), all);
         let got = all_merged(rt.alloc(), files.as_slice())?;

@@ -84,7 +84,7 @@ fn a_stub_that_is_used(rt: HostRuntime) -> Result<(), Fail> {
 }
 
 /// The orders of three files.
-const ORDERS: [[usize; 3]; 6] = [
+const ORDERS: &[[usize; 3]] = &[
     [0, 1, 2],
     [0, 2, 1],
     [1, 0, 2],
@@ -119,7 +119,7 @@ fn three_are_refused(
 
 /// The first order in which three files are not refused.
 fn first_accepted(alloc: Global, files: &[&[u8]; 3]) -> Result<Option<[usize; 3]>, AllocError> {
-    for order in ORDERS {
+    for &order in ORDERS {
         let [one, two, three] = order;
         if !three_are_refused(alloc, files[one], files[two], files[three])? {
             return Ok(Some(order));
