@@ -44,6 +44,26 @@ fn finds(alloc: Global, flat: &[u8], want: Result<(usize, &[u8]), BytesFault>) -
     }
 }
 
+/// Whether a plain text behind its lead bytes is sealed as this cipher, and comes back by each call.
+fn is_enciphered(
+    alloc: Global,
+    key: u16,
+    lead: u8,
+    plain: &[u8],
+    cipher: &[u8],
+) -> Result<bool, BytesFault> {
+    let Some(text) = plain.get(lead as usize..) else {
+        return Ok(false);
+    };
+    let mut bytes = seal(alloc, text, key, lead)?;
+    let sealed = bytes.as_slice() == cipher;
+    decrypt(bytes.as_mut_slice(), key);
+    let decrypted = bytes.as_slice() == plain;
+    encrypt(bytes.as_mut_slice(), key);
+    let encrypted = bytes.as_slice() == cipher;
+    Ok(sealed && decrypted && encrypted && open(bytes.as_mut_slice(), key, lead) == text)
+}
+
 #[test]
 fn enciphers_worked_bytes(rt: HostRuntime) -> Result<(), Fail> {
     const ROWS: &[(u16, u8, &[u8], &[u8], &str)] = &[
@@ -84,17 +104,9 @@ fn enciphers_worked_bytes(rt: HostRuntime) -> Result<(), Fail> {
         ),
     ];
     for &(key, lead, plain, cipher, name) in ROWS {
-        assert!(rt; lead as usize <= plain.len());
-        let text = &plain[lead as usize..];
-        let mut bytes = seal(rt.alloc(), text, key, lead)?;
-        assert!(rt; bytes.as_slice() == cipher, "sealed: {name}");
-        decrypt(bytes.as_mut_slice(), key);
-        assert!(rt; bytes.as_slice() == plain, "decrypted: {name}");
-        encrypt(bytes.as_mut_slice(), key);
-        assert!(rt; bytes.as_slice() == cipher, "encrypted: {name}");
         assert!(rt;
-            open(bytes.as_mut_slice(), key, lead) == text,
-            "opened: {name}"
+            is_enciphered(rt.alloc(), key, lead, plain, cipher)?,
+            "{name}"
         );
     }
     Ok(())
@@ -198,13 +210,11 @@ const BYTES: &[u8] =
     \x14\x15\x16\x17\x18\x19\x1a\x1b\x1c\x1d\x1e\x1f\x20\x21\x22\x23\x24\x25\x26\x27";
 
 /// The bytes from 0 to 31: a line of digits.
-const LINE: &[u8] =
-    b"\x00\x01\x02\x03\x04\x05\x06\x07\x08\x09\x0a\x0b\x0c\x0d\x0e\x0f\
+const LINE: &[u8] = b"\x00\x01\x02\x03\x04\x05\x06\x07\x08\x09\x0a\x0b\x0c\x0d\x0e\x0f\
     \x10\x11\x12\x13\x14\x15\x16\x17\x18\x19\x1a\x1b\x1c\x1d\x1e\x1f";
 
 /// The bytes from 0 to 30: a line that breaks off before its last byte.
-const SHORT_LINE: &[u8] =
-    b"\x00\x01\x02\x03\x04\x05\x06\x07\x08\x09\x0a\x0b\x0c\x0d\x0e\x0f\
+const SHORT_LINE: &[u8] = b"\x00\x01\x02\x03\x04\x05\x06\x07\x08\x09\x0a\x0b\x0c\x0d\x0e\x0f\
     \x10\x11\x12\x13\x14\x15\x16\x17\x18\x19\x1a\x1b\x1c\x1d\x1e";
 
 #[test]
@@ -388,26 +398,23 @@ fn splits_digits(rt: HostRuntime) {
 
 #[test]
 fn writes_lines_of_digits(rt: HostRuntime) -> Result<(), Fail> {
-    let bytes: [u8; 33] = [0xAB; 33];
-    const ROWS: &[(usize, &[u8])] = &[
-        (0, b""),
-        (1, b"ab\n"),
+    const ROWS: &[(&[u8], &[u8])] = &[
+        (b"", b""),
+        (b"\xab", b"ab\n"),
         (
-            32,
-            b"abababababababababababababababababababababababababababababababab\n",
+            LINE,
+            b"000102030405060708090a0b0c0d0e0f101112131415161718191a1b1c1d1e1f\n",
         ),
         (
-            33,
-            b"abababababababababababababababababababababababababababababababab\nab\n",
+            BYTES,
+            b"000102030405060708090a0b0c0d0e0f101112131415161718191a1b1c1d1e1f\n2021222324252627\n",
         ),
+        (b"\x00\x09\x10\x7f\xf0\xff", b"0009107ff0ff\n"),
     ];
-    for &(count, text) in ROWS {
-        assert!(rt; count <= 33);
-        let lines = hex_lines(rt.alloc(), &bytes[..count])?;
-        assert!(rt; lines.as_slice() == text, "{count} bytes");
+    for &(bytes, text) in ROWS {
+        let lines = hex_lines(rt.alloc(), bytes)?;
+        assert!(rt; lines.as_slice() == text, "{text:?}");
     }
-    let mixed = hex_lines(rt.alloc(), b"\x00\x09\x10\x7f\xf0\xff")?;
-    assert!(rt; mixed.as_slice() == b"0009107ff0ff\n".as_slice());
     assert!(rt; trailer().len() == 532);
     Ok(())
 }
@@ -449,27 +456,35 @@ fn with_digits(alloc: Global, clear: &[u8], cipher: &[u8]) -> Result<Vec<u8>, By
     Ok(joined(alloc, digits.as_slice(), trailer())?)
 }
 
+/// Whether a file of Tiny is taken apart at its place, from the private text's first words to its last.
+fn is_taken_apart(alloc: Global, file: &[u8]) -> Result<bool, BytesFault> {
+    let (at, text) = private_text(alloc, file)?;
+    let text = text.as_slice();
+    Ok(
+        at == CLEAR - 1
+            && text.starts_with(b"dup /Private 9 dict dup begin\n/RD {string")
+            && text.ends_with(b"definefont pop\nmark currentfile closefile\n"),
+    )
+}
+
+/// Whether a file of Tiny is taken apart and put together again in both forms.
+fn is_put_together(alloc: Global, file: &[u8]) -> Result<bool, BytesFault> {
+    let (_, text) = private_text(alloc, file)?;
+    let cipher = seal(alloc, text.as_slice(), EEXEC_KEY, EEXEC_LEAD)?;
+    if cipher.len() > 2893 {
+        return Ok(false);
+    }
+    let pfb = segments(alloc, &PFA[..CLEAR], cipher.as_slice(), trailer())?;
+    let pfa = with_digits(alloc, &PFA[..CLEAR], cipher.as_slice())?;
+    Ok(pfb.as_slice() == PFB.as_slice() && pfa.as_slice() == PFA.as_slice())
+}
+
 #[test]
 fn takes_tiny_apart_and_together(rt: HostRuntime) -> Result<(), Fail> {
-    let clear = &PFA[..CLEAR];
-    for (file, form) in [(PFA.as_slice(), "PFA"), (PFB.as_slice(), "PFB")] {
-        let (at, private) = private_text(rt.alloc(), file)?;
-        let private = private.as_slice();
-        assert!(rt; at == CLEAR - 1, "the offset in {form}");
-        assert!(rt;
-            private.starts_with(b"dup /Private 9 dict dup begin\n/RD {string"),
-            "the beginning in {form}"
-        );
-        assert!(rt;
-            private.ends_with(b"definefont pop\nmark currentfile closefile\n"),
-            "the end in {form}"
-        );
-        let cipher = seal(rt.alloc(), private, EEXEC_KEY, EEXEC_LEAD)?;
-        assert!(rt; cipher.len() <= 2893);
-        let pfb = segments(rt.alloc(), clear, cipher.as_slice(), trailer())?;
-        assert!(rt; pfb.as_slice() == PFB.as_slice(), "segments of {form}");
-        let pfa = with_digits(rt.alloc(), clear, cipher.as_slice())?;
-        assert!(rt; pfa.as_slice() == PFA.as_slice(), "lines of {form}");
+    const FILES: &[(&[u8], &str)] = &[(PFA, "PFA"), (PFB, "PFB")];
+    for &(file, form) in FILES {
+        assert!(rt; is_taken_apart(rt.alloc(), file)?, "{form}, apart");
+        assert!(rt; is_put_together(rt.alloc(), file)?, "{form}, together");
     }
     Ok(())
 }
@@ -528,55 +543,95 @@ fn repeated(alloc: Global, text: &[u8], times: usize) -> Result<Vec<u8>, AllocEr
     Ok(all)
 }
 
+/// Files of a piece so many times, a text, and another piece so many times; and the refusal of each.
+const LARGE: &[(&[u8], &[u8], &[u8], usize, Option<BytesFault>, &str)] = &[
+    (
+        b"% currentfile\n",
+        b"currentfile eexec\n",
+        b"d9",
+        150_000,
+        None,
+        "one long line of digits",
+    ),
+    (
+        b"% currentfile\n",
+        b"currentfile eexec\n",
+        b"\x81",
+        3,
+        Some(BytesFault::ShortCipher),
+        "three bytes",
+    ),
+    (
+        b"% currentfile\n",
+        b"",
+        b"",
+        0,
+        Some(BytesFault::NoEexec),
+        "a clear text alone",
+    ),
+    (
+        b"\x80\x01\x0e\0\0\0% currentfile\n",
+        b"\x80\x03",
+        b"",
+        0,
+        Some(BytesFault::NoEexec),
+        "many segments",
+    ),
+    (
+        b"\x80\x01\x0e\0\0\0% currentfile\n",
+        b"\x80\x04",
+        b"",
+        0,
+        Some(BytesFault::BadSegment { at: 200_000 }),
+        "type 4 after many segments",
+    ),
+];
+
+/// 10,000 times a piece, a text, and another piece so many times.
+fn large(
+    alloc: Global,
+    piece: &[u8],
+    text: &[u8],
+    last: &[u8],
+    times: usize,
+) -> Result<Vec<u8>, AllocError> {
+    let mut file = repeated(alloc, piece, 10_000)?;
+    file.extend_from_slice(text)?;
+    let rest = repeated(alloc, last, times)?;
+    file.extend_from_slice(rest.as_slice())?;
+    Ok(file)
+}
+
 #[test]
 fn takes_large_files(rt: HostRuntime) -> Result<(), Fail> {
-    let alloc = rt.alloc();
-    let comments = repeated(alloc, b"% currentfile\n", 10_000)?;
-    let clear = joined(alloc, comments.as_slice(), b"currentfile eexec\n")?;
-    let private = repeated(alloc, b"dup 5 {", 20_000)?;
-    let cipher = seal(alloc, private.as_slice(), EEXEC_KEY, EEXEC_LEAD)?;
-    assert!(rt; clear.len() <= 200_000 && cipher.len() <= 200_000);
-    let pfb = segments(alloc, clear.as_slice(), cipher.as_slice(), trailer())?;
-    let lines = hex_lines(alloc, cipher.as_slice())?;
-    let digits = repeated(alloc, b"d9", 150_000)?;
-    let pieces = repeated(alloc, b"\x80\x01\x0e\0\0\0% currentfile\n", 10_000)?;
-    let rows: [(&[u8], &[u8], Option<BytesFault>, &str); 7] = [
-        (pfb.as_slice(), b"", None, "a PFB"),
-        (clear.as_slice(), lines.as_slice(), None, "a PFA"),
-        (
-            clear.as_slice(),
-            digits.as_slice(),
-            None,
-            "one long line of digits",
-        ),
-        (
-            clear.as_slice(),
-            b"\x81\x82\x83",
-            Some(BytesFault::ShortCipher),
-            "three bytes",
-        ),
-        (
-            comments.as_slice(),
-            b"",
-            Some(BytesFault::NoEexec),
-            "a clear text alone",
-        ),
-        (
-            pieces.as_slice(),
-            b"\x80\x03",
-            Some(BytesFault::NoEexec),
-            "many segments",
-        ),
-        (
-            pieces.as_slice(),
-            b"\x80\x04",
-            Some(BytesFault::BadSegment { at: 200_000 }),
-            "type 4 after many segments",
-        ),
-    ];
-    for (front, back, want, name) in rows {
-        let file = joined(alloc, front, back)?;
-        assert!(rt; refusal(alloc, file.as_slice()) == want, "{name}");
+    for &(piece, text, last, times, want, name) in LARGE {
+        let file = large(rt.alloc(), piece, text, last, times)?;
+        assert!(rt; refusal(rt.alloc(), file.as_slice()) == want, "{name}");
     }
+    Ok(())
+}
+
+/// Whether a clear text and a cipher are taken apart again, as segments and as lines of digits.
+fn is_read_again(alloc: Global, clear: &[u8], cipher: &[u8]) -> Result<bool, BytesFault> {
+    if clear.len() > 200_000 || cipher.len() > 200_000 {
+        return Ok(false);
+    }
+    let pfb = segments(alloc, clear, cipher, trailer())?;
+    let pfa = with_digits(alloc, clear, cipher)?;
+    Ok(refusal(alloc, pfb.as_slice()).is_none() && refusal(alloc, pfa.as_slice()).is_none())
+}
+
+#[test]
+fn takes_large_files_that_were_written(rt: HostRuntime) -> Result<(), Fail> {
+    let clear = large(
+        rt.alloc(),
+        b"% currentfile\n",
+        b"currentfile eexec\n",
+        b"",
+        0,
+    )?;
+    let private = repeated(rt.alloc(), b"dup 5 {", 20_000)?;
+    let cipher = seal(rt.alloc(), private.as_slice(), EEXEC_KEY, EEXEC_LEAD)?;
+    assert!(rt; is_read_again(rt.alloc(), clear.as_slice(), cipher.as_slice())?);
     Ok(())
 }

@@ -3,25 +3,13 @@
 //! In the second it refuses all.
 
 use super::tiny::{PFA, PFB};
-use super::{CLEAR, private_text, with_digits};
+use super::{CLEAR, is_put_together};
 use crate::{
-    BytesFault, CHARSTRING_KEY, Cipher, EEXEC_KEY, EEXEC_LEAD, decrypt, encrypt, find_cipher,
-    flatten_in_place, hex_lines, open, put_hex_lines, seal, segments, trailer,
+    BytesFault, CHARSTRING_KEY, Cipher, decrypt, encrypt, find_cipher, flatten_in_place, hex_lines,
+    open, put_hex_lines, trailer,
 };
 use std::alloc::Global;
 use std::test::Fail;
-
-/// Whether a file of Tiny is taken apart and put together again in both forms.
-fn is_put_together(alloc: Global, file: &[u8]) -> Result<bool, BytesFault> {
-    let (_, text) = private_text(alloc, file)?;
-    let cipher = seal(alloc, text.as_slice(), EEXEC_KEY, EEXEC_LEAD)?;
-    if cipher.len() > 2893 {
-        return Ok(false);
-    }
-    let pfb = segments(alloc, &PFA[..CLEAR], cipher.as_slice(), trailer())?;
-    let pfa = with_digits(alloc, &PFA[..CLEAR], cipher.as_slice())?;
-    Ok(pfb.as_slice() == PFB.as_slice() && pfa.as_slice() == PFA.as_slice())
-}
 
 /// Whether the cipher of Tiny is found in the digits of its PFA, and written as lines of digits again.
 fn is_spelled(alloc: Global) -> Result<bool, BytesFault> {
