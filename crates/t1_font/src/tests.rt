@@ -63,6 +63,14 @@ fn rewritten(alloc: Global, file: &[u8], form: Form) -> Result<Vec<u8>, ReadFaul
     }
 }
 
+/// Whether a file's font is written in this form as this file.
+fn is_written_as(alloc: Global, file: &[u8], form: Form, want: &[u8]) -> bool {
+    match rewritten(alloc, file, form) {
+        Ok(written) => written.as_slice() == want,
+        Err(_) => false,
+    }
+}
+
 /// How many glyphs the font of a source has, and its weight.
 fn lent_counts(alloc: Global, source: &Source) -> Result<(usize, u32), AllocError> {
     let font = source.font(alloc)?;

@@ -2,8 +2,8 @@
 
 use super::rows::{private, with};
 use super::tiny::{PFA, PFB};
-use super::{CLEAR, GLYPHS, counts, file, joined, lent_file, rewritten};
-use crate::{Font, Form, Part, ReadFault, Source, read, write};
+use super::{CLEAR, GLYPHS, counts, file, is_written_as, joined, lent_file, rewritten};
+use crate::{Font, Form, Part, Source, read, write};
 use bstr::ByteSlice;
 use std::alloc::{AllocError, Global};
 use std::test::Fail;
@@ -20,17 +20,22 @@ fn with_each(alloc: Global, text: &[u8], old: &[u8], new: &[u8]) -> Result<Vec<u
     Ok(changed)
 }
 
-/// Tiny's private text through `closefile`, with the words of fonts from other makers.
+/// A private text with the words of fonts from other makers.
+fn with_other_words(alloc: Global, text: &[u8]) -> Result<Vec<u8>, AllocError> {
+    let rd = with_each(alloc, text, b"RD ", b"-| ")?;
+    let nd = with_each(alloc, rd.as_slice(), b"ND", b"|-")?;
+    with_each(alloc, nd.as_slice(), b"NP", b"|")
+}
+
+/// Tiny's private text through `closefile`, with such words.
 fn other_words(alloc: Global) -> Result<Vec<u8>, AllocError> {
     let text = private(alloc)?;
-    let end = match text.as_slice().find(b"closefile") {
-        Some(at) => at,
-        None => return Err(AllocError),
+    let Some(end) = text.as_slice().find(b"closefile") else {
+        return Err(AllocError);
     };
-    let rd = with_each(alloc, &text.as_slice()[..end], b"RD ", b"-| ")?;
-    let nd = with_each(alloc, rd.as_slice(), b"ND", b"|-")?;
-    let np = with_each(alloc, nd.as_slice(), b"NP", b"|")?;
-    joined(alloc, np.as_slice(), b"closefile\n")
+    let mut changed = with_other_words(alloc, &text.as_slice()[..end])?;
+    changed.extend_from_slice(b"closefile\n")?;
+    Ok(changed)
 }
 
 /// The private text of what a file's font is written as.
@@ -50,15 +55,16 @@ fn written(alloc: Global, file: &[u8]) -> Result<Vec<u8>, AllocError> {
 /// The kept words of a font, each with a blank: those around the bytes of a Subr, after the last Subr, and those around
 /// the bytes of a glyph.
 fn words_of(alloc: Global, font: &Font<'_>) -> Result<Vec<u8>, AllocError> {
-    let mut words = Vec::new(alloc);
-    for part in [
+    const PARTS: &[Part] = &[
         Part::SubrsRd,
         Part::SubrsPut,
         Part::SubrsDef,
         Part::GlyphsRd,
         Part::GlyphsDef,
-    ] {
-        words.extend_from_slice(font.text(part))?;
+    ];
+    let mut words = Vec::new(alloc);
+    for part in PARTS {
+        words.extend_from_slice(font.text(*part))?;
         words.push(b' ')?;
     }
     Ok(words)
@@ -94,76 +100,104 @@ fn other_words_are_kept(rt: HostRuntime) -> Result<(), Fail> {
     Ok(())
 }
 
-/// Whether a font's two files are written again in either form from each other, and its weight.
-fn twice(alloc: Global, clear: &[u8], private: &[u8]) -> Result<(bool, u32), ReadFault> {
-    let Ok(file) = file(alloc, clear, private) else {
-        return Err(ReadFault::Memory);
-    };
-    let pfa = rewritten(alloc, file.as_slice(), Form::Pfa)?;
-    let pfb = rewritten(alloc, file.as_slice(), Form::Pfb)?;
-    let first = rewritten(alloc, pfa.as_slice(), Form::Pfb)?;
-    let second = rewritten(alloc, pfb.as_slice(), Form::Pfa)?;
-    let same = first.as_slice() == pfb.as_slice() && second.as_slice() == pfa.as_slice();
-    Ok((same, counts(alloc, file.as_slice())?.1))
+/// Whether two files of one font are written in either form from each other.
+fn are_written_again(alloc: Global, pfa: &[u8], pfb: &[u8]) -> bool {
+    is_written_as(alloc, pfa, Form::Pfb, pfb) && is_written_as(alloc, pfb, Form::Pfa, pfa)
 }
 
-/// Whether the two files of a font of this weight are written again in either form from each other.
-fn is_kept(alloc: Global, clear: &[u8], private: &[u8], weight: u32) -> bool {
-    match twice(alloc, clear, private) {
-        Ok((same, weighs)) => same && weighs == weight,
-        Err(_) => false,
+/// Whether what a file's font is written as is written again so.
+fn is_written_again(alloc: Global, file: &[u8]) -> bool {
+    match (
+        rewritten(alloc, file, Form::Pfa),
+        rewritten(alloc, file, Form::Pfb),
+    ) {
+        (Ok(pfa), Ok(pfb)) => are_written_again(alloc, pfa.as_slice(), pfb.as_slice()),
+        _ => false,
     }
+}
+
+/// Whether the files of a font with this weight, of a clear text and of a private one, are written again so.
+fn is_kept(alloc: Global, clear: &[u8], private: &[u8], weight: u32) -> bool {
+    let Ok(file) = file(alloc, clear, private) else {
+        return false;
+    };
+    let weighs = counts(alloc, file.as_slice()).is_ok_and(|counts| counts.1 == weight);
+    weighs && is_written_again(alloc, file.as_slice())
+}
+
+/// A font with 255 lead bytes, and a charstring of no other.
+fn most_lead_bytes(alloc: Global) -> Result<Vec<u8>, AllocError> {
+    let mut text = Vec::from_slice(
+        alloc,
+        b"/lenIV 255 def /CharStrings 1 dict dup begin /.notdef 255 RD ",
+    )?;
+    text.resize(text.len().saturating_add(255), b'x')?;
+    text.extend_from_slice(b" ND end closefile and a rest")?;
+    Ok(text)
 }
 
 #[test]
 fn both_forms_are_read_again(rt: HostRuntime) -> Result<(), Fail> {
-    let zero = joined(rt.alloc(), b"/lenIV 0 def ", GLYPHS)?;
-    assert!(rt;
-        is_kept(rt.alloc(), CLEAR, zero.as_slice(), 318),
-        "lenIV 0, a word, no Subrs, one glyph"
-    );
-    let mut most = Vec::from_slice(
-        rt.alloc(),
-        b"/lenIV 255 def /CharStrings 1 dict dup begin /.notdef 255 RD ",
-    )?;
-    most.resize(most.len() + 255, b'x')?;
-    most.extend_from_slice(b" ND end closefile and a rest")?;
+    const ROWS: &[(&[u8], &[u8], u32, &str)] = &[
+        (
+            CLEAR,
+            b"/lenIV 0 def ",
+            318,
+            "lenIV 0, a word, no Subrs, one glyph",
+        ),
+        (
+            b"/Encoding 256 array def currentfile eexec ",
+            b"/lenIV 0 def /Subrs 7 array ND xclosefilex /closefile ",
+            339,
+            "no Subrs but a count, no codes",
+        ),
+    ];
+    for &(clear, start, weight, name) in ROWS {
+        let private = joined(rt.alloc(), start, GLYPHS)?;
+        assert!(rt;
+            is_kept(rt.alloc(), clear, private.as_slice(), weight),
+            "{name}"
+        );
+    }
+    let most = most_lead_bytes(rt.alloc())?;
     assert!(rt;
         is_kept(rt.alloc(), CLEAR, most.as_slice(), 557),
-        "lenIV 255, and a charstring of no bytes"
-    );
-    let empty = joined(
-        rt.alloc(),
-        b"/lenIV 0 def /Subrs 7 array ND xclosefilex /closefile ",
-        GLYPHS,
-    )?;
-    let clear = b"/Encoding 256 array def currentfile eexec ";
-    assert!(rt;
-        is_kept(rt.alloc(), clear, empty.as_slice(), 339),
-        "no Subrs but a count, no codes"
+        "lenIV 255"
     );
     Ok(())
 }
 
-/// Whether a source lends the font of this canonical PFB each time, and while it is lent once already.
-fn lends_again(alloc: Global, source: &Source, pfb: &[u8]) -> Result<bool, AllocError> {
-    let font = source.font(alloc)?;
-    let again = lent_file(alloc, source, Form::Pfb)?;
-    let first = write(alloc, &font, Form::Pfb)?;
-    Ok(first.as_slice() == pfb && again.as_slice() == pfb)
+/// Whether a font, and one that its source lends while it is lent once already, have this canonical PFB.
+fn are_written_as(alloc: Global, font: &Font<'_>, source: &Source, pfb: &[u8]) -> bool {
+    match (
+        write(alloc, font, Form::Pfb),
+        lent_file(alloc, source, Form::Pfb),
+    ) {
+        (Ok(first), Ok(again)) => first.as_slice() == pfb && again.as_slice() == pfb,
+        _ => false,
+    }
+}
+
+/// Whether a source lends the font of this canonical PFB each time.
+fn lends_again(alloc: Global, source: &Source, pfb: &[u8]) -> bool {
+    match source.font(alloc) {
+        Ok(font) => are_written_as(alloc, &font, source, pfb),
+        Err(_) => false,
+    }
 }
 
 /// Whether a file's font is lent twice as the font of this canonical PFB.
 fn is_lent_twice(alloc: Global, file: &[u8], pfb: &[u8]) -> bool {
     match read(alloc, file) {
-        Ok(source) => lends_again(alloc, &source, pfb).is_ok_and(|same| same),
+        Ok(source) => lends_again(alloc, &source, pfb),
         Err(_) => false,
     }
 }
 
 #[test]
 fn a_source_lends_its_font_twice(rt: HostRuntime) {
-    for (name, file) in [("PFA", PFA.as_slice()), ("PFB", PFB.as_slice())] {
+    const FILES: &[(&str, &[u8])] = &[("PFA", PFA), ("PFB", PFB)];
+    for &(name, file) in FILES {
         assert!(rt; is_lent_twice(rt.alloc(), file, PFB), "the {name}");
     }
 }

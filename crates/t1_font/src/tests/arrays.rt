@@ -1,7 +1,7 @@
 //! Encodings that are literal arrays.
 
-use super::rewritten;
 use super::tiny::PFA;
+use super::{is_written_as, rewritten};
 use crate::{Form, ReadFault, read};
 use bstr::ByteSlice;
 use std::alloc::{AllocError, Global};
@@ -105,23 +105,26 @@ fn tiny_by_array(alloc: Global, last: &[u8]) -> Result<Vec<u8>, AllocError> {
     encoded(alloc, text.as_slice())
 }
 
+/// Whether a file's font is written as a PFA that has this text.
+fn is_written_with(alloc: Global, file: &[u8], text: &[u8]) -> bool {
+    match rewritten(alloc, file, Form::Pfa) {
+        Ok(written) => written.as_slice().find(text).is_some(),
+        Err(_) => false,
+    }
+}
+
 #[test]
 fn tiny_by_an_array(rt: HostRuntime) -> Result<(), Fail> {
     let file = tiny_by_array(rt.alloc(), b"/.notdef")?;
-    let written = rewritten(rt.alloc(), file.as_slice(), Form::Pfa);
-    assert!(rt; written.is_ok_and(|written| written.as_slice() == PFA.as_slice()));
+    assert!(rt; is_written_as(rt.alloc(), file.as_slice(), Form::Pfa, PFA));
     Ok(())
 }
 
 #[test]
 fn the_last_name_of_an_array(rt: HostRuntime) -> Result<(), Fail> {
     let file = tiny_by_array(rt.alloc(), b"/Z")?;
-    let written = rewritten(rt.alloc(), file.as_slice(), Form::Pfa);
-    let has_it = |text: Vec<u8>| text
-        .as_slice()
-        .find(b"dup 194 /H put\ndup 255 /Z put\nreadonly def")
-        .is_some();
-    assert!(rt; written.is_ok_and(has_it));
+    let text = b"dup 194 /H put\ndup 255 /Z put\nreadonly def";
+    assert!(rt; is_written_with(rt.alloc(), file.as_slice(), text));
     Ok(())
 }
 
@@ -129,26 +132,26 @@ fn the_last_name_of_an_array(rt: HostRuntime) -> Result<(), Fail> {
 fn an_array_of_no_names_is_a_table(rt: HostRuntime) -> Result<(), Fail> {
     let text = unnamed(rt.alloc(), b" [", 256, b"] def")?;
     let file = encoded(rt.alloc(), text.as_slice())?;
-    let written = rewritten(rt.alloc(), file.as_slice(), Form::Pfa);
-    let has_none = |text: Vec<u8>| text
-        .as_slice()
-        .find(b"/Encoding 256 array\n0 1 255 {1 index exch /.notdef put} for\nreadonly def")
-        .is_some();
-    assert!(rt; written.is_ok_and(has_none));
+    let text = b"/Encoding 256 array\n0 1 255 {1 index exch /.notdef put} for\nreadonly def";
+    assert!(rt; is_written_with(rt.alloc(), file.as_slice(), text));
     Ok(())
+}
+
+/// Why Tiny is refused with an array whose first name has this many bytes, if it is.
+fn refusal_of_long_name(alloc: Global, length: usize) -> Result<Option<ReadFault>, AllocError> {
+    let mut open = Vec::from_slice(alloc, b" [/")?;
+    open.resize(length.saturating_add(3), b'x')?;
+    Ok(refusal(alloc, open.as_slice(), 255, b"] def"))
 }
 
 #[test]
 fn names_of_arrays_at_their_limits(rt: HostRuntime) -> Result<(), Fail> {
-    let long = [b'x'; 128];
     const ROWS: &[(usize, Option<ReadFault>)] = &[
         (127, None),
         (128, Some(ReadFault::BadEncoding { at: 146 })),
     ];
     for &(length, want) in ROWS {
-        let mut open = Vec::from_slice(rt.alloc(), b" [/")?;
-        open.extend_from_slice(&long[..length])?;
-        let got = refusal(rt.alloc(), open.as_slice(), 255, b"] def");
+        let got = refusal_of_long_name(rt.alloc(), length)?;
         assert_eq!(rt; got, want, "a name of {length} bytes");
     }
     Ok(())

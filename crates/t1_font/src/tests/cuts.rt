@@ -229,23 +229,55 @@ fn cuts_of_tiny(rt: HostRuntime) -> Result<(), Fail> {
     Ok(())
 }
 
+/// Names and Subrs that Tiny is cut to.
+type Cut = (&'static [&'static [u8]], &'static [u16]);
+
+const X: Cut = (&[b"X"], &[0, 1, 2, 3, 5]);
+
+const Y: Cut = (&[b"Y"], &[0, 1, 2, 3, 5, 6]);
+
+const X_AND_Y: Cut = (&[b"X", b"Y"], &[0, 1, 2, 3, 5, 6]);
+
+const ALL: Cut = (
+    &[
+        b"A", b"Aacute", b"B", b"F", b"H", b"L", b"N", b"X", b"Y", b"acute",
+    ],
+    &[0, 1, 2, 3, 4, 5, 6, 7, 8, 9],
+);
+
+/// Whether a file's font and that of Tiny cut to these come to Tiny cut to those.
+fn joins_with(alloc: Global, first: &[u8], cut: Cut, want: Cut) -> Result<bool, AllocError> {
+    let second = tiny_cut(alloc, cut.0, cut.1)?;
+    let both = tiny_cut(alloc, want.0, want.1)?;
+    Ok(joins_to(alloc, first, second.as_slice(), both.as_slice()))
+}
+
+/// The same of Tiny cut to these and to those.
+fn cuts_join(alloc: Global, first: Cut, second: Cut, want: Cut) -> Result<bool, AllocError> {
+    let first = tiny_cut(alloc, first.0, first.1)?;
+    joins_with(alloc, first.as_slice(), second, want)
+}
+
 #[test]
 fn joins_of_tiny(rt: HostRuntime) -> Result<(), Fail> {
-    let x = tiny_cut(rt.alloc(), &[b"X"], &[0, 1, 2, 3, 5])?;
-    let y = tiny_cut(rt.alloc(), &[b"Y"], &[0, 1, 2, 3, 5, 6])?;
-    let both = tiny_cut(rt.alloc(), &[b"X", b"Y"], &[0, 1, 2, 3, 5, 6])?;
-    let other = with(rt.alloc(), PFB, b"dup 66 /Y put", b"dup 66 /A put")?;
-    let rows: [(&[u8], &[u8], &[u8], &str); 6] = [
-        (&x, &y, &both, "two cuts"),
-        (&y, &x, &both, "in the other order"),
-        (PFB, &x, PFB, "a font and its cut"),
-        (&x, PFB, PFB, "a cut and its font"),
-        (PFB, &other, PFB, "two names of a code"),
-        (&other, PFB, &other, "the first stands"),
+    const ROWS: &[(Cut, Cut, Cut, &str)] = &[
+        (X, Y, X_AND_Y, "two cuts"),
+        (Y, X, X_AND_Y, "in the other order"),
+        (ALL, X, ALL, "a font and its cut"),
+        (X, ALL, ALL, "a cut and its font"),
     ];
-    for (first, second, want, what) in rows {
-        assert!(rt; joins_to(rt.alloc(), first, second, want), "{what}");
+    for &(first, second, want, what) in ROWS {
+        assert!(rt; cuts_join(rt.alloc(), first, second, want)?, "{what}");
     }
+    Ok(())
+}
+
+#[test]
+fn the_first_of_two_names_of_a_code_stands(rt: HostRuntime) -> Result<(), Fail> {
+    let other = with(rt.alloc(), PFB, b"dup 66 /Y put", b"dup 66 /A put")?;
+    let other = other.as_slice();
+    assert!(rt; joins_to(rt.alloc(), PFB, other, PFB), "Tiny");
+    assert!(rt; joins_to(rt.alloc(), other, PFB, other), "the other");
     Ok(())
 }
 
@@ -279,8 +311,8 @@ fn lent_x_and_y<'a>(
     first: &'a Source,
     second: &'a Source,
 ) -> Result<Vec<u8>, PartsFault> {
-    let x = lent_cut_font(alloc, first, &[b"X"], &[0, 1, 2, 3, 5])?;
-    let y = lent_cut_font(alloc, second, &[b"Y"], &[0, 1, 2, 3, 5, 6])?;
+    let x = lent_cut_font(alloc, first, X.0, X.1)?;
+    let y = lent_cut_font(alloc, second, Y.0, Y.1)?;
     both(alloc, &x, &y)
 }
 
@@ -308,23 +340,42 @@ fn x_and_y_of_one(alloc: Global, file: &[u8]) -> Result<Vec<u8>, PartsFault> {
     }
 }
 
+/// Whether the entries of X of the first file's font and of Y of the second's come to Tiny cut to both.
+fn x_and_y_join(alloc: Global, first: &[u8], second: &[u8]) -> Result<bool, AllocError> {
+    let both = tiny_cut(alloc, X_AND_Y.0, X_AND_Y.1)?;
+    let got = x_and_y(alloc, first, second);
+    Ok(got.is_ok_and(|got| got.as_slice() == both.as_slice()))
+}
+
+/// The same of one file that is read once.
+fn x_and_y_join_of_one(alloc: Global, file: &[u8]) -> Result<bool, AllocError> {
+    let both = tiny_cut(alloc, X_AND_Y.0, X_AND_Y.1)?;
+    let got = x_and_y_of_one(alloc, file);
+    Ok(got.is_ok_and(|got| got.as_slice() == both.as_slice()))
+}
+
 #[test]
 fn joins_of_fonts_of_two_sources(rt: HostRuntime) -> Result<(), Fail> {
-    let x = tiny_cut(rt.alloc(), &[b"X"], &[0, 1, 2, 3, 5])?;
-    let y = tiny_cut(rt.alloc(), &[b"Y"], &[0, 1, 2, 3, 5, 6])?;
-    let both = tiny_cut(rt.alloc(), &[b"X", b"Y"], &[0, 1, 2, 3, 5, 6])?;
-    let rows: [(&[u8], &[u8], &str); 4] = [
-        (PFA, PFB, "cuts of two sources of one font"),
-        (PFA, &y, "a cut, and a font that was cut before"),
-        (&x, PFB, "a font that was cut before, and a cut"),
-        (&x, &y, "two fonts that were cut before"),
-    ];
-    for (first, second, what) in rows {
-        let got = x_and_y(rt.alloc(), first, second)?;
-        assert!(rt; got.as_slice() == both.as_slice(), "{what}");
-    }
-    let got = x_and_y_of_one(rt.alloc(), PFA)?;
-    assert!(rt; got.as_slice() == both.as_slice(), "cuts of one source");
+    let x = tiny_cut(rt.alloc(), X.0, X.1)?;
+    let y = tiny_cut(rt.alloc(), Y.0, Y.1)?;
+    let (x, y) = (x.as_slice(), y.as_slice());
+    assert!(rt;
+        x_and_y_join(rt.alloc(), PFA, PFB)?,
+        "cuts of two sources of one font"
+    );
+    assert!(rt;
+        x_and_y_join(rt.alloc(), PFA, y)?,
+        "a cut, and a font that was cut before"
+    );
+    assert!(rt;
+        x_and_y_join(rt.alloc(), x, PFB)?,
+        "a font that was cut before, and a cut"
+    );
+    assert!(rt;
+        x_and_y_join(rt.alloc(), x, y)?,
+        "two fonts that were cut before"
+    );
+    assert!(rt; x_and_y_join_of_one(rt.alloc(), PFA)?, "cuts of one source");
     Ok(())
 }
 

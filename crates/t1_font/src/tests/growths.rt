@@ -28,7 +28,8 @@ fn cuts_join(alloc: Global) -> Result<bool, PartsFault> {
 
 #[test]
 fn growths_of_files(rt: HostRuntime) -> Result<(), Fail> {
-    for file in [PFA.as_slice(), PFB.as_slice()] {
+    const FILES: &[&[u8]] = &[PFA, PFB];
+    for &file in FILES {
         let right = match is_written_again(rt.alloc(), file) {
             Err(ReadFault::Memory) => is_written_again(rt.alloc(), file)?,
             answer => answer?,

@@ -1,7 +1,7 @@
 //! The font Tiny: its two files, and changed files.
 
 use super::tiny::{PFA, PFB};
-use super::{counts, fault, file, joined, rewritten};
+use super::{counts, fault, file, is_written_as, joined};
 use crate::{Form, ReadFault, Source, read};
 use bstr::ByteSlice;
 use std::alloc::{AllocError, Global};
@@ -34,32 +34,12 @@ pub fn with(alloc: Global, text: &[u8], old: &[u8], new: &[u8]) -> Result<Vec<u8
 
 /// Whether a file's font is written as Tiny's PFA.
 fn is_tiny(alloc: Global, file: &[u8]) -> bool {
-    match rewritten(alloc, file, Form::Pfa) {
-        Ok(file) => file.as_slice() == PFA.as_slice(),
-        Err(_) => false,
-    }
+    is_written_as(alloc, file, Form::Pfa, PFA)
 }
 
-#[test]
-fn tiny_is_written_again(rt: HostRuntime) -> Result<(), Fail> {
-    for (name, file) in [("PFA", PFA.as_slice()), ("PFB", PFB.as_slice())] {
-        assert!(rt; is_tiny(rt.alloc(), file), "the {name} as PFA");
-        let pfb = rewritten(rt.alloc(), file, Form::Pfb);
-        assert!(rt;
-            pfb.is_ok_and(|pfb| pfb.as_slice() == PFB.as_slice()),
-            "the {name} as PFB"
-        );
-        assert_eq!(rt;
-            counts(rt.alloc(), file),
-            Ok((11, 4936)),
-            "glyphs and weight of the {name}"
-        );
-    }
-    assert!(rt;
-        is_tiny(rt.alloc(), &PFB[..1333]),
-        "a PFB that ends after its cipher"
-    );
-    let mut upper = Vec::from_slice(rt.alloc(), PFA)?;
+/// Tiny's PFA with its digits in upper case, and lines of them that end in CR.
+fn in_upper_case(alloc: Global) -> Result<Vec<u8>, AllocError> {
+    let mut upper = Vec::from_slice(alloc, PFA)?;
     for byte in &mut upper.as_mut_slice()[313..2357] {
         *byte = if *byte == b'\n' {
             b'\r'
@@ -67,9 +47,26 @@ fn tiny_is_written_again(rt: HostRuntime) -> Result<(), Fail> {
             byte.to_ascii_uppercase()
         };
     }
+    Ok(upper)
+}
+
+#[test]
+fn tiny_is_written_again(rt: HostRuntime) -> Result<(), Fail> {
+    const FILES: &[(&str, &[u8])] = &[("PFA", PFA), ("PFB", PFB)];
+    for &(name, file) in FILES {
+        let both = is_tiny(rt.alloc(), file) && is_written_as(rt.alloc(), file, Form::Pfb, PFB);
+        assert!(rt; both, "the {name} in both forms");
+        assert_eq!(rt; counts(rt.alloc(), file), Ok((11, 4936)), "the {name}");
+    }
+    let cut: &[u8] = PFB;
+    assert!(rt;
+        is_tiny(rt.alloc(), &cut[..1333]),
+        "a PFB that ends after its cipher"
+    );
+    let upper = in_upper_case(rt.alloc())?;
     assert!(rt;
         is_tiny(rt.alloc(), upper.as_slice()),
-        "digits in upper case, lines that end in CR"
+        "digits in upper case"
     );
     Ok(())
 }
@@ -168,28 +165,33 @@ fn has_glyph(alloc: Global, file: &[u8], name: &[u8], plain: &[u8]) -> bool {
     }
 }
 
-#[test]
-fn a_second_glyph_of_a_name(rt: HostRuntime) -> Result<(), Fail> {
-    let text = private(rt.alloc())?;
-    let y: [u8; 12] = [
-        0x8B, 0xF8, 0x88, 0x0D, 0x8B, 0x16, 0x90, 0x0A, 0x91, 0x0A, 0x09, 0x0E,
-    ];
-    let Ok(body) = seal(rt.alloc(), &y, CHARSTRING_KEY, 4) else {
-        return Ok(());
+/// The bytes of Tiny's glyph Y.
+const Y: &[u8] = &[
+    0x8B, 0xF8, 0x88, 0x0D, 0x8B, 0x16, 0x90, 0x0A, 0x91, 0x0A, 0x09, 0x0E,
+];
+
+/// Tiny with a second glyph of the name X, with the bytes of Y.
+fn with_a_second_x(alloc: Global) -> Result<Vec<u8>, AllocError> {
+    let Ok(body) = seal(alloc, Y, CHARSTRING_KEY, 4) else {
+        return Err(AllocError);
     };
-    let entry = joined(rt.alloc(), b"/X 16 RD ", body.as_slice())?;
-    let entry = joined(rt.alloc(), entry.as_slice(), b" ND\nend\nend\nreadonly put")?;
+    let mut entry = joined(alloc, b"/X 16 RD ", body.as_slice())?;
+    entry.extend_from_slice(b" ND\nend\nend\nreadonly put")?;
+    let text = private(alloc)?;
     let changed = with(
-        rt.alloc(),
+        alloc,
         text.as_slice(),
         b"end\nend\nreadonly put",
         entry.as_slice(),
     )?;
-    let file = file(rt.alloc(), &PFA[..313], changed.as_slice())?;
+    file(alloc, &PFA[..313], changed.as_slice())
+}
+
+#[test]
+fn a_second_glyph_of_a_name(rt: HostRuntime) -> Result<(), Fail> {
+    let file = with_a_second_x(rt.alloc())?;
     assert_eq!(rt; counts(rt.alloc(), file.as_slice()), Ok((11, 4933)));
-    assert!(rt;
-        has_glyph(rt.alloc(), file.as_slice(), b"X", &y),
-        "X has the bytes of Y"
-    );
+    let has = has_glyph(rt.alloc(), file.as_slice(), b"X", Y);
+    assert!(rt; has, "X has the bytes of Y");
     Ok(())
 }
