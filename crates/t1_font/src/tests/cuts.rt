@@ -294,14 +294,9 @@ fn cut_font<'a>(
 }
 
 /// The same of the font of a source, which is lent for no longer than it is cut.
-fn lent_cut_font<'a>(
-    alloc: Global,
-    source: &'a Source,
-    names: &[&[u8]],
-    subrs: &[u16],
-) -> Result<Font<'a>, AllocError> {
+fn lent_cut_font<'a>(alloc: Global, source: &'a Source, cut: Cut) -> Result<Font<'a>, AllocError> {
     let font = source.font(alloc)?;
-    cut_font(alloc, &font, names, subrs)
+    cut_font(alloc, &font, cut.0, cut.1)
 }
 
 /// The canonical PFB of the entries of X of the first source's font and of Y of the second's, neither of them written
@@ -311,8 +306,8 @@ fn lent_x_and_y<'a>(
     first: &'a Source,
     second: &'a Source,
 ) -> Result<Vec<u8>, PartsFault> {
-    let x = lent_cut_font(alloc, first, X.0, X.1)?;
-    let y = lent_cut_font(alloc, second, Y.0, Y.1)?;
+    let x = lent_cut_font(alloc, first, X)?;
+    let y = lent_cut_font(alloc, second, Y)?;
     both(alloc, &x, &y)
 }
 
