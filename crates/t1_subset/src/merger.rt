@@ -12,6 +12,7 @@ use crate::conflict::Conflict;
 use crate::groupings::{made_of, noted};
 use crate::in_turn::all_join;
 use crate::searches::states_conflict;
+use crate::shells::shell_conflict;
 use crate::state_making::states_and_callers;
 use crate::state_value::States;
 use std::alloc::Global;
@@ -37,11 +38,24 @@ pub(crate) fn both<'a>(
     }
 }
 
-/// The join of two fonts, or their lowest conflict.
+/// Refuses fonts whose shells differ, with the first part that does.
+fn one_shell(left: &Font<'_>, right: &Font<'_>) -> Result<(), Conflict>
+    ensures { IfErr result (λ e. Tells e (conflict profile left.now right.now)) }
+{
+    match shell_conflict(left, right) {
+        Some(part) => Err(Conflict::Shell { part }),
+        None => Ok(()),
+    }
+}
+
+/// The join of two fonts, or their lowest conflict. Where their shells differ, no glyph is run.
 fn merged<'a>(alloc: Global, left: &Font<'a>, right: &Font<'a>) -> Result<Font<'a>, Conflict>
     ensures ok { IfOk result (λ j. Join profile left.now right.now × (j ≡ joined_font profile left.now right.now)) }
     ensures err { IfErr result (λ e. Tells e (conflict profile left.now right.now)) }
 {
+    if let Err(conflict) = one_shell(left, right) {
+        return Err(conflict);
+    }
     left.is_font();
     right.is_font();
     let Ok((own, own_callers)) = states_and_callers(alloc, left) else {

@@ -3,10 +3,10 @@ use Rattle.t1_subset.proofs.FontCallers.{first_callers, both_callers}
 use Rattle.t1_subset.proofs.MergedFonts.{tells_states}
 use Rattle.t1_subset.proofs.merger.merged.Goals as goal
 
-pub returns-in-Err-clause-err : goal.returns-in-Err-clause-err
-returns-in-Err-clause-err c =
+pub returns-in-Err-states_conflict-clause-err : goal.returns-in-Err-states_conflict-clause-err
+returns-in-Err-states_conflict-clause-err c =
     let f = c.args.left.now in let g = c.args.right.now in
-    tells_states f g c.in-Err.conflict (c.in-Err.ensures.err f g (record { own_font = c.is_font.ensures; other_font = c.is_font-2.ensures; own = c.in-Ok.ensures.states; other = c.in-Ok-states_and_callers.ensures.states })
+    tells_states f g c.in-Err-states_conflict.conflict (c.in-Err-states_conflict.ensures.err f g (record { own_font = c.is_font.ensures; other_font = c.is_font-2.ensures; own = c.in-Ok.ensures.states; other = c.in-Ok-states_and_callers.ensures.states })
     (both_callers f g (c.in-Ok.own_callers ∷ []) c.in-Ok-states_and_callers.other_callers (first_callers c.in-Ok.own_callers f c.in-Ok.ensures.callers) c.in-Ok-states_and_callers.ensures.callers))
 
 pub both-requires : goal.both-requires

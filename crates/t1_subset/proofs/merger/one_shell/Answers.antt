@@ -1,0 +1,10 @@
+use Rattle.std.proofs.Common.{sym}
+use Rattle.t1_subset.specs.declared.conflict.Conflict.TheVariants.{Shell}
+use Rattle.t1_subset.proofs.MergedFonts.{tells_entries, tells_states}
+use Rattle.t1_subset.proofs.StateClashes.{entries_shell}
+use Rattle.t1_subset.proofs.merger.one_shell.Goals as goal
+
+pub returns-in-Some : goal.returns-in-Some
+returns-in-Some c =
+    let f = c.args.left.now in let g = c.args.right.now in let e = Shell c.in-Some.part in
+    tells_states f g e (tells_entries f g e (sym (entries_shell f g _ c.in-Some.ensures)))
