@@ -50,6 +50,12 @@ def example(name):
         return f.read()
 
 
+def version_of_the_man_page():
+    """The program's name and version, as the first line of the man page has them between quotes."""
+    with open(os.path.join(TOP, "docs/t1subset.1"), "rb") as f:
+        return f.readline().split(b'"')[1]
+
+
 def files():
     """The files that each row finds."""
     named = ["tiny.pfa", "tiny.pfb", "left.listing", "right.listing", "other.listing"]
@@ -65,7 +71,7 @@ def rows_of_words():
     """Words that ask for help or don't parse."""
     commands = ["subset", "merge", "check", "list", "show", "pfa", "pfb", "join"]
     yield Row(["--help"], 0, SOME)
-    yield Row(["--version"], 0, b"t1subset 0.1.0\n")
+    yield Row(["--version"], 0, version_of_the_man_page() + b"\n")
     for command in commands:
         yield Row([command, "--help"], 0, SOME)
         yield Row([command], 2, b"", SOME)

@@ -10,8 +10,9 @@ fn word<'a>(alloc: Global, name: &'a str, help: &'a str) -> Arg<'a> {
 }
 
 const JOIN_HELP: &str = "\
-A listing has a line `S INDEX HEX` for each Subr and a line `G NAME HEX` for each glyph. The joined listing has the \
-lines of both, Subrs by index and then glyphs by name. Two listings that give one Subr or one glyph different bytes \
+A listing has a line `S INDEX HEX` for each Subr and a line `G NAME HEX` for
+each glyph. The joined listing has the lines of both, Subrs by index and then
+glyphs by name. Two listings that give one Subr or one glyph different bytes
 are refused.
 
 Example: t1subset join one.listing two.listing > both.listing";
@@ -25,10 +26,12 @@ fn join_command<'a>(alloc: Global) -> Result<Command<'a>, AllocError> {
 }
 
 const SUBSET_HELP: &str = "\
-OUT is a font, as PFA, with the glyphs of these names, `.notdef`, the parts of accented glyphs, and the Subrs that all of \
-these execute. Each of its glyphs draws as in IN. A Subr that none of them executes stays as the one command `return`, so \
-that subsets of one font can be merged again. Without a NAME it keeps `.notdef` alone. A NAME that begins with `-` stands \
-after `--`, and each one may stand more than once. OUT is opened only after the result is complete.
+OUT is a font, as PFA, with the glyphs of these names, `.notdef`, the parts of
+accented glyphs, and the Subrs that all of these execute. Each of its glyphs
+draws as in IN. A Subr that none of them executes stays as the one command
+`return`, so that subsets of one font can be merged again. Without a NAME it
+keeps `.notdef` alone. A NAME that begins with `-` stands after `--`, and each
+one may stand more than once. OUT is opened only after the result is complete.
 
 Example: t1subset subset font.pfb some.pfa A B Aacute";
 
@@ -49,10 +52,13 @@ fn subset_command<'a>(alloc: Global) -> Result<Command<'a>, AllocError> {
 }
 
 const MERGE_HELP: &str = "\
-OUT is the font, as PFA, that the fonts make together: of subsets of one font the subset of all their names, byte for \
-byte, in whatever order they stand. Fonts that differ are refused with the first thing in which they do. A Subr that is \
-`return`, and that no glyph of its font executes, gives way to the other font's. OUT is opened only after the result is \
-complete.
+OUT comes first: `t1subset merge a.pfa b.pfa` overwrites a.pfa.
+
+OUT is the font, as PFA, that the fonts make together: of subsets of one font
+the subset of all their names, byte for byte, in whatever order they stand.
+Fonts that differ are refused with the first thing in which they do. A Subr
+that is `return`, and that no glyph of its font executes, gives way to the
+other font's. OUT is opened only after the result is complete.
 
 Example: t1subset merge all.pfa one.pfa two.pfa";
 
@@ -72,28 +78,40 @@ fn merge_command<'a>(alloc: Global) -> Result<Command<'a>, AllocError> {
         .arg(fonts_word(alloc))
 }
 
-const CONVERT_HELP: &str = "\
-IN is a Type 1 font as PFA, PFB or with a raw binary cipher. OUT is its one canonical file in this form: kept texts as \
-they stand, tables in one layout, Subrs by index and glyphs by name, lead bytes zero, the trailer written anew. OUT is \
-opened only after the result is complete.
+const PFA_HELP: &str = "\
+IN is a Type 1 font as PFA, PFB or with a raw binary cipher. OUT is its one
+canonical file in this form: kept texts as they stand, tables in one layout,
+Subrs by index and glyphs by name, lead bytes zero, the trailer written anew.
+OUT is opened only after the result is complete.
 
 Example: t1subset pfa font.pfb font.pfa";
+
+const PFB_HELP: &str = "\
+IN is a Type 1 font as PFA, PFB or with a raw binary cipher. OUT is its one
+canonical file in this form: kept texts as they stand, tables in one layout,
+Subrs by index and glyphs by name, lead bytes zero, the trailer written anew.
+OUT is opened only after the result is complete.
+
+Example: t1subset pfb font.pfa font.pfb";
 
 fn convert_command<'a>(
     alloc: Global,
     name: &'a str,
     about: &'a str,
+    help: &'a str,
 ) -> Result<Command<'a>, AllocError> {
     Command::new(alloc, name)
         .about(about)
-        .after_help(CONVERT_HELP)
+        .after_help(help)
         .arg(word(alloc, "IN", "The font"))?
         .arg(word(alloc, "OUT", "The file that is written"))
 }
 
 const CHECK_HELP: &str = "\
-Prints `ok G glyphs, S subrs, weight W`, where S counts the Subrs that are present and W is the weight by which fonts \
-are limited. A font that doesn't read is refused with the first thing in it that is wrong.
+Prints `ok G glyphs, S subrs, weight W`, where S counts the Subrs that are
+present, and W is about the number of bytes that the font takes in memory:
+fonts are limited by it. A font that doesn't parse is refused with the first
+thing in it that is wrong.
 
 Example: t1subset check font.pfb";
 
@@ -105,9 +123,10 @@ fn check_command<'a>(alloc: Global) -> Result<Command<'a>, AllocError> {
 }
 
 const LIST_HELP: &str = "\
-Prints `encoding WORD`, or a line `code C NAME` for each code; then `subr I LENGTH` for each Subr that is present; then \
-`glyph NAME LENGTH` for each glyph by the bytes of its name. Lengths are those of the plain charstrings. A byte outside \
-33 to 126, and the backslash, is printed as `\\x` and two digits.
+Prints `encoding WORD`, or a line `code C NAME` for each code; then `subr I
+LENGTH` for each Subr that is present; then `glyph NAME LENGTH` for each glyph
+by the bytes of its name. Lengths are those of the plain charstrings. A byte
+outside 33 to 126, and the backslash, is printed as `\\x` and two digits.
 
 Example: t1subset list font.pfb";
 
@@ -119,9 +138,10 @@ fn list_command<'a>(alloc: Global) -> Result<Command<'a>, AllocError> {
 }
 
 const SHOW_HELP: &str = "\
-Prints `width WX WY`, `bearing SBX SBY`, and for each part `part DX DY` and a line for each of its marks, or the one line \
-`fault NAME`. Numbers are charstring units; one that is not whole is printed as its count of 1/65536 unit and `/65536`. \
-A NAME that begins with `-` stands after `--`.
+Prints `width WX WY`, `bearing SBX SBY`, and for each part `part DX DY` and a
+line for each of its marks, or the one line `fault NAME`. Numbers are
+charstring units; one that is not whole is printed as its count of 1/65536
+unit and `/65536`. A NAME that begins with `-` stands after `--`.
 
 Example: t1subset show font.pfb Aacute";
 
@@ -134,8 +154,8 @@ fn show_command<'a>(alloc: Global) -> Result<Command<'a>, AllocError> {
 }
 
 const PROGRAM_HELP: &str = "\
-Exit status: 0 done; 1 refused, with the reason on standard error; 2 the words don't parse; 3 a file doesn't open, \
-read or write.
+Exit status: 0 done; 1 refused, with the reason on standard error; 2 the words
+don't parse; 3 a file doesn't open, read or write.
 
 Example: t1subset subset font.pfb some.pfa A B Aacute";
 
@@ -162,12 +182,12 @@ fn with<'a>(
 
 fn pfa_command<'a>(alloc: Global) -> Result<Command<'a>, AllocError> {
     let about = "Writes a font's canonical file as PFA, text and hexadecimal";
-    convert_command(alloc, "pfa", about)
+    convert_command(alloc, "pfa", about, PFA_HELP)
 }
 
 fn pfb_command<'a>(alloc: Global) -> Result<Command<'a>, AllocError> {
     let about = "Writes a font's canonical file as PFB, in binary segments";
-    convert_command(alloc, "pfb", about)
+    convert_command(alloc, "pfb", about, PFB_HELP)
 }
 
 /// The program without its commands.
