@@ -1,4 +1,4 @@
-// The tokens of a charstring, one after the other.
+//! The tokens of a charstring, one after the other.
 
 ghost use Rattle.std.specs.Prelude.{◌≡◌, ◌≤◌, ◌<◌, ◌+◌, ◌*◌, length, drop};
 ghost use Rattle.std.specs.Iterator.{item_count};
@@ -67,7 +67,7 @@ impl<'a> Iterator for Tokens<'a> {
     }
 }
 
-// The token that begins with `first`, before the bytes that follow.
+/// The token that begins with `first`, before the bytes that follow.
 fn token_at(first: u8, rest: &[u8]) -> Token
     ensures { result ≡ token_at first rest.now }
 {
@@ -96,7 +96,7 @@ fn token_at(first: u8, rest: &[u8]) -> Token
     }
 }
 
-// The size of a number of two bytes.
+/// The size of a number of two bytes.
 fn long_size(high: u8, low: u8) -> u16
     requires { high < 4 }
     ensures { result ≡ high * 256 + low + 108 }
@@ -104,7 +104,7 @@ fn long_size(high: u8, low: u8) -> u16
     u16::from(high) * 256 + u16::from(low) + 108
 }
 
-// How many bytes a token that begins with `first` has after it.
+/// How many bytes a token that begins with `first` has after it.
 fn more_of(first: u8) -> usize
     ensures { result ≡ more_of first }
 {
@@ -116,7 +116,7 @@ fn more_of(first: u8) -> usize
     }
 }
 
-// The command of one byte, if the byte is one.
+/// The command of one byte, if the byte is one.
 fn command(code: u8) -> Token
     ensures { result ≡ coded commands code code }
 {
@@ -142,7 +142,7 @@ fn command(code: u8) -> Token
     Token::Cmd(command)
 }
 
-// The command of two bytes, by its second byte, if there is one.
+/// The command of two bytes, by its second byte, if there is one.
 fn escape(code: u8) -> Token
     ensures { result ≡ coded escapes code (12 * 256 + code) }
 {

@@ -1,4 +1,4 @@
-// Entries as they are read: a tree takes keys in any order at the same price, and its entries make a table in the end.
+//! Entries as they are read: a tree takes keys in any order at the same price, and its entries make a table in the end.
 ghost use Rattle.std.specs.Prelude.{◌≡◌, IfOk, MatchBool, OnErr};
 ghost use Rattle.std.specs.FinMap as fin;
 ghost use Rattle.t1_join.specs.TableMeaning.{IsNewEntry, IsRepeated};

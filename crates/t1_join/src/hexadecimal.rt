@@ -1,4 +1,4 @@
-// Bytes as they stand in the text of a listing.
+//! Bytes as they stand in the text of a listing.
 ghost use Rattle.std.specs.Prelude.{◌≡◌, IfOk, is_some, Some, None, if◌then◌else◌};
 ghost use Rattle.std.specs.List.{list_all};
 ghost use Rattle.std.specs.Option.{option_map};
@@ -31,14 +31,14 @@ impl<'a> Model for Hex<'a> {
     ghost invariant = { λ h. is_some (bytes_of h.digits.now) ≡ true };
 }
 
-// Whether each byte is a hexadecimal digit.
+/// Whether each byte is a hexadecimal digit.
 fn are_digits(text: &[u8]) -> bool
     ensures { result ≡ list_all is_hex_digit text.now }
 {
     text.iter().all(|digit| digit.is_ascii_hexdigit())
 }
 
-// Whether the text is pairs of digits, and few enough.
+/// Whether the text is pairs of digits, and few enough.
 fn spells_bytes(text: &[u8]) -> bool
     ensures { result ≡ is_some (bytes_of text.now) }
 {

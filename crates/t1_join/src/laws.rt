@@ -1,4 +1,4 @@
-// The laws of each partial join, and of listings, over what their values mean.
+//! The laws of each partial join, and of listings, over what their values mean.
 ghost use Rattle.std.specs.Prelude.{◌≡◌};
 ghost use Rattle.t1_join.specs.declared.listing.JoinFault.{JoinFault};
 ghost use Rattle.t1_join.specs.declared.listing.JoinFault.TheVariants.{Memory};

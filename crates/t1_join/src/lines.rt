@@ -1,4 +1,4 @@
-// The lines of a listing's text.
+//! The lines of a listing's text.
 ghost use Rattle.std.specs.Prelude.{◌≡◌, ◌==◌, ◌≤◌, length, position, option_and_then, not};
 ghost use Rattle.std.specs.List.{list_all};
 ghost use Rattle.std.specs.Option.{option_map};
@@ -21,7 +21,7 @@ fn find(text: &[u8], byte: u8) -> Option<usize>
     text.iter().position(|b| *b == byte)
 }
 
-// What stands before and after the first such byte.
+/// What stands before and after the first such byte.
 pub fn split_at_byte(text: &[u8], byte: u8) -> Option<(&[u8], &[u8])>
     ensures { option_map slice_pair result ≡ split_at byte text.now }
 {

@@ -1,4 +1,4 @@
-// Listings: texts of Subrs by index and glyphs by name, and their join.
+//! Listings: texts of Subrs by index and glyphs by name, and their join.
 ghost use Rattle.std.specs.Prelude.{◌≡◌, ◌⊎◌, ◌∷◌, ◌++◌, [], OnOk, MatchResult, MatchBool, IfOk, IsTrue};
 ghost use Rattle.std.specs.FinMap as fin;
 ghost use Rattle.hex.specs.Hex.{encode_lower};
@@ -105,7 +105,7 @@ impl<'a> Listing<'a> {
     }
 }
 
-// The entries of the lines that were read.
+/// The entries of the lines that were read.
 #[derive(Drop)]
 struct Lines<'a> {
     subrs: Gathered<u16, Hex<'a>>,
@@ -125,7 +125,7 @@ impl<'a> Model for Lines<'a> {
 }
 
 impl<'a> Lines<'a> {
-    // No line.
+    /// No line.
     fn new(alloc: Global) -> Lines<'a>
         ensures { result ≡ record { subrs = fin.empty; glyphs = fin.empty } }
     {
@@ -135,7 +135,7 @@ impl<'a> Lines<'a> {
         }
     }
 
-    // Adds what a line says, unless its key is there: then the answer is false.
+    /// Adds what a line says, unless its key is there: then the answer is false.
     fn add(&mut self, line: Line<'a>) -> Result<bool, AllocError>
         requires { IsEntry (line_entry line) }
         ensures { IfOk result (λ new. MatchBool new (IsAdded self.old (line_entry line.entry) self.new) (IsTrue (has_entry self.old (line_entry line.entry)))) }
@@ -146,7 +146,7 @@ impl<'a> Lines<'a> {
         }
     }
 
-    // The listing of the lines.
+    /// The listing of the lines.
     fn listing(self, alloc: Global) -> Result<Listing<'a>, AllocError>
         ensures { IfOk result (λ l. l ≡ self.entry) }
     {
@@ -183,7 +183,7 @@ pub fn read(alloc: Global, text: &[u8]) -> Result<Listing<'_>, ListFault>
     }
 }
 
-// The blank, the digits and the line feed that end a line.
+/// The blank, the digits and the line feed that end a line.
 fn add_bytes(alloc: Global, out: &mut Vec<u8>, bytes: &Hex<'_>) -> Result<(), AllocError>
     ensures { OnOk result (out.new.items ≡ out.old.items ++ 32 ∷ (encode_lower bytes.now ++ 10 ∷ [])) }
 {

@@ -1,4 +1,4 @@
-// Tables: finite maps, joined key by key.
+//! Tables: finite maps, joined key by key.
 ghost use Rattle.std.specs.Prelude.{◌≡◌, ◌++◌, OnOk, OnErr, IfOk, MatchOption};
 ghost use Rattle.std.specs.Option.{option_map, option_copied};
 ghost use Rattle.std.specs.FinMap as fin;
@@ -93,7 +93,7 @@ impl<K: Key + Drop, V: Kept + Drop> Table<K, V> {
     }
 }
 
-// The first key that one pass over both tables meets with two values that differ.
+/// The first key that one pass over both tables meets with two values that differ.
 fn first_conflict<'t, K: Key, V: Kept>(first: &'t [(K, V)], second: &[(K, V)]) -> Option<&'t K>
     ensures { option_map K.meaning (option_copied result) ≡ first_met meaning_cmp same_meaning (entry_meanings K.meaning V.meaning first.now) (entry_meanings K.meaning V.meaning second.now) }
 {
@@ -115,7 +115,7 @@ fn first_conflict<'t, K: Key, V: Kept>(first: &'t [(K, V)], second: &[(K, V)]) -
     None
 }
 
-// An entry of the same meanings.
+/// An entry of the same meanings.
 fn copied<K: Key + Drop, V: Kept + Drop>(
     alloc: Global,
     entry: &(K, V),
@@ -127,7 +127,7 @@ fn copied<K: Key + Drop, V: Kept + Drop>(
     Ok((key, value))
 }
 
-// Adds copies of these entries at the end.
+/// Adds copies of these entries at the end.
 fn add_copies<K: Key + Drop, V: Kept + Drop>(
     alloc: Global,
     all: &mut Vec<(K, V)>,
@@ -141,7 +141,7 @@ fn add_copies<K: Key + Drop, V: Kept + Drop>(
     Ok(())
 }
 
-// Copies of the entries of both, upwards by key, in one pass by two positions: the first's where both have a key.
+/// Copies of the entries of both, upwards by key, in one pass by two positions: the first's where both have a key.
 fn merged<K: Key + Drop, V: Kept + Drop>(
     alloc: Global,
     first: &[(K, V)],

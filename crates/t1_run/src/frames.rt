@@ -1,4 +1,4 @@
-// The charstrings that are being run at once: a glyph, and Subrs of which each is called by the one before it.
+//! The charstrings that are being run at once: a glyph, and Subrs of which each is called by the one before it.
 
 ghost use Rattle.std.specs.Prelude.{◌≡◌, ◌≤◌, length};
 ghost use Rattle.std.specs.Iterator.{YieldsFirst};

@@ -1,4 +1,4 @@
-// Runs of charstrings.
+//! Runs of charstrings.
 
 ghost use Rattle.std.specs.Prelude.{◌≡◌, ◌≤◌, IfOk, OnOk, MatchResult, ◌<◌, List, length, [], ◌∷◌, ◌++◌, Some, true};
 ghost use Rattle.std.specs.Option.{option_copied};
@@ -26,7 +26,7 @@ pub(crate) enum Halt {
     Failed(Fault),
 }
 
-// The index of a call, where it can be that of a Subr.
+/// The index of a call, where it can be that of a Subr.
 fn index_of(i: i64) -> Option<u16>
     ensures { result ≡ index_of i }
 {
@@ -37,7 +37,7 @@ fn index_of(i: i64) -> Option<u16>
     }
 }
 
-// The charstring that a call enters, or why it fails.
+/// The charstring that a call enters, or why it fails.
 fn entered<S: Subroutines>(subrs: &S, levels: usize, index: Option<u16>) -> Result<&[u8], Fault>
     ensures { IsEntered (S.subrs subrs.now) levels index result }
 {
@@ -53,7 +53,7 @@ fn entered<S: Subroutines>(subrs: &S, levels: usize, index: Option<u16>) -> Resu
     }
 }
 
-// The indices with the one that a call took.
+/// The indices with the one that a call took.
 fn take(called: &mut BTreeSet<u16>, index: Option<u16>) -> Result<(), AllocError>
     ensures { OnOk result (called.new.keys ≡ with_indices called.old.keys (taken index)) }
 {
@@ -63,7 +63,7 @@ fn take(called: &mut BTreeSet<u16>, index: Option<u16>) -> Result<(), AllocError
     Ok(())
 }
 
-// Adds a mark, where marks are kept.
+/// Adds a mark, where marks are kept.
 fn keep(keeps: bool, kept: &mut Vec<Mark>, mark: Mark) -> Result<(), AllocError>
     ensures { OnOk result
         ((marks : List Mark) → AreKept keeps kept.old.items marks → AreKept keeps kept.new.items (marks ++ mark ∷ [])) }
@@ -74,7 +74,7 @@ fn keep(keeps: bool, kept: &mut Vec<Mark>, mark: Mark) -> Result<(), AllocError>
     Ok(())
 }
 
-// Adds the marks of a flex, where marks are kept.
+/// Adds the marks of a flex, where marks are kept.
 fn keep_flex(
     keeps: bool,
     kept: &mut Vec<Mark>,
@@ -94,8 +94,8 @@ fn keep_flex(
     Ok(())
 }
 
-// Runs a charstring, in each turn the next token of the Subr that was called last, or of the glyph, until a token ends the
-// run; and whether the run is the same where hints are kept. Its marks are kept where they are asked for.
+/// Runs a charstring, in each turn the next token of the Subr that was called last, or of the glyph, until a token ends the
+/// run; and whether the run is the same where hints are kept. Its marks are kept where they are asked for.
 pub(crate) fn run<'s, S: Subroutines>(
     subrs: &'s S,
     hints: Hints,
@@ -152,7 +152,7 @@ pub(crate) fn run<'s, S: Subroutines>(
     }
 }
 
-// What a charstring answers that ended so, with its marks.
+/// What a charstring answers that ended so, with its marks.
 fn answer_of(halt: Halt, marks: Vec<Mark>) -> Direct
     ensures { value_of result ≡ ending_of halt marks.items }
 {
@@ -175,8 +175,8 @@ fn answer_of(halt: Halt, marks: Vec<Mark>) -> Direct
     }
 }
 
-// What a charstring answers by itself, whether it answers and calls the same where hints are kept, and which Subrs it
-// called, added to `called`.
+/// What a charstring answers by itself, whether it answers and calls the same where hints are kept, and which Subrs it
+/// called, added to `called`.
 fn run_glyph<S: Subroutines>(
     alloc: Global,
     subrs: &S,
@@ -196,7 +196,7 @@ fn run_glyph<S: Subroutines>(
     Ok((answer_of(halt, marks), is_one))
 }
 
-// What a charstring answers by itself, by what the pop after OtherSubr 3 gives.
+/// What a charstring answers by itself, by what the pop after OtherSubr 3 gives.
 pub(crate) fn direct_by<S: Subroutines>(
     alloc: Global,
     subrs: &S,

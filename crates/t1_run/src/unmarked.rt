@@ -1,4 +1,4 @@
-// What a glyph asks of its font: the parts that it names and the Subrs that it executes. Its marks are not kept.
+//! What a glyph asks of its font: the parts that it names and the Subrs that it executes. Its marks are not kept.
 
 ghost use Rattle.std.specs.Prelude.{◌≡◌, IfOk, OnOk, map, [], true};
 ghost use Rattle.t1_run.specs.Run.{run_glyph, calls_of, exec, with_indices};
@@ -12,8 +12,8 @@ use crate::subroutines::Subroutines;
 use std::alloc::{AllocError, Global};
 use std::collections::BTreeSet;
 
-// How a charstring ends, whether it ends and calls the same where hints are kept, and which Subrs it called, added to
-// `called`.
+/// How a charstring ends, whether it ends and calls the same where hints are kept, and which Subrs it called, added to
+/// `called`.
 fn halt_of<S: Subroutines>(
     alloc: Global,
     subrs: &S,
@@ -31,8 +31,8 @@ fn halt_of<S: Subroutines>(
     run(subrs, hints, charstring, false, &mut none, called)
 }
 
-// How a charstring ends where hints are replaced and where they are kept, and which Subrs it executes. It is run once where
-// both answers after OtherSubr 3 are one.
+/// How a charstring ends where hints are replaced and where they are kept, and which Subrs it executes. It is run once where
+/// both answers after OtherSubr 3 are one.
 fn both_halts<S: Subroutines>(
     alloc: Global,
     subrs: &S,

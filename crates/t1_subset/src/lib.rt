@@ -1,4 +1,16 @@
 //! Subsets and mergers of Type 1 fonts.
+//!
+//! [`subset`] cuts a font to the glyphs of some names and to what these need, and [`merge`] and [`merge_all`] make one font
+//! of several: of subsets of one font the subset of all their names. [`states`] answers what fonts are compared by. A font
+//! that is made so borrows from the sources of those that it came from.
+//!
+//! ```text
+//! let some = subset(alloc, &font, &[b"A", b"Aacute"])?;
+//! let other = subset(alloc, &font, &[b"C"])?;
+//! let both = merge(alloc, &some, &other)?;
+//! ```
+//!
+//! `t1_example` is a whole caller, with its contract and proof.
 #![tactic(auto)]
 
 mod callers;
