@@ -243,12 +243,12 @@ fn joins_listings(rt: HostRuntime) {
     }
 }
 
-/// What two readers and a writer were called for.
+/// How a join ends, how many calls of its readers failed, how many of the second one and of the writer were made, and
+/// whether all is out.
 #[derive(Clone, Copy)]
 struct Joined {
     word: &'static str,
-    left_failed: u64,
-    right_failed: u64,
+    failed: u64,
     right_calls: u64,
     writes: u64,
     is_both: bool,
@@ -265,8 +265,7 @@ fn joined_from(alloc: Global, first: Plan, second: Plan) -> Joined {
     let writes = out.calls();
     Joined {
         word,
-        left_failed: left.failed(),
-        right_failed: right.failed(),
+        failed: left.failed().saturating_add(right.failed()),
         right_calls: right.calls(),
         writes,
         is_both: out.into_inner().text.as_slice() == BOTH,
@@ -276,7 +275,7 @@ fn joined_from(alloc: Global, first: Plan, second: Plan) -> Joined {
 /// Whether it ends well where no read failed; else as a failed read, with nothing written and the right listing read only
 /// after the left one.
 fn ends_right(got: Joined, is_left: bool) -> bool {
-    if got.left_failed == 0 && got.right_failed == 0 {
+    if got.failed == 0 {
         got.word == "ok" && got.is_both
     } else {
         got.word == "read" && got.writes == 0 && (got.right_calls == 0) == is_left

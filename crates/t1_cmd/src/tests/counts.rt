@@ -13,13 +13,18 @@ fn reads(reader: &mut Counted<&[u8]>, buffer: &mut [u8], count: usize, bytes: &[
     }
 }
 
+/// Whether three reads into four bytes give the six bytes `abcdef`, then nothing.
+fn reads_in_turn(reader: &mut Counted<&[u8]>) -> bool {
+    let mut buffer = [0u8; 4];
+    reads(reader, &mut buffer, 4, b"abcd")
+        && reads(reader, &mut buffer, 2, b"efcd")
+        && reads(reader, &mut buffer, 0, b"efcd")
+}
+
 #[test]
 fn reads_are_handed_on(rt: HostRuntime) {
     let mut reader = Counted::new(b"abcdef".as_slice());
-    let mut buffer = [0u8; 4];
-    assert!(rt; reads(&mut reader, &mut buffer, 4, b"abcd"));
-    assert!(rt; reads(&mut reader, &mut buffer, 2, b"efcd"));
-    assert!(rt; reads(&mut reader, &mut buffer, 0, b"efcd"));
+    assert!(rt; reads_in_turn(&mut reader));
     assert_eq!(rt; (reader.calls(), reader.failed()), (3, 0));
 }
 

@@ -234,7 +234,7 @@ fn drawn_as_in_tiny(alloc: Global, names: &[&[u8]]) -> usize {
 }
 
 /// The sum of these by a name alone, and by it and each later one; 0 where one of them is.
-fn drawn_with_later(alloc: Global, at: usize, first: &str) -> usize {
+fn drawn_with_later(alloc: Global, at: usize, first: &'static str) -> usize {
     let mut count = drawn_as_in_tiny(alloc, &[first.as_bytes()]);
     for second in NAMES.iter().skip(at.saturating_add(1)) {
         let drawn = drawn_as_in_tiny(alloc, &[first.as_bytes(), second.as_bytes()]);

@@ -80,14 +80,24 @@ fn tiny_is_checked(rt: HostRuntime) {
     }
 }
 
+/// Whether the PFA of a file is that of Tiny.
+fn is_pfa(alloc: Global, file: &[u8]) -> bool {
+    answers(alloc, Engine::Convert(Form::Pfa), file, PFA)
+}
+
+/// Whether the PFB of a file is that of Tiny.
+fn is_pfb(alloc: Global, file: &[u8]) -> bool {
+    answers(alloc, Engine::Convert(Form::Pfb), file, PFB)
+}
+
 #[test]
 fn tiny_in_both_forms(rt: HostRuntime) {
     const FILES: &[(&[u8], &str)] = &[(PFA, "the PFA file"), (PFB, "the PFB file")];
     for &(file, what) in FILES {
-        let pfa = answers(rt.alloc(), Engine::Convert(Form::Pfa), file, PFA);
-        assert!(rt; pfa, "pfa of {what}");
-        let pfb = answers(rt.alloc(), Engine::Convert(Form::Pfb), file, PFB);
-        assert!(rt; pfb, "pfb of {what}");
+        assert!(rt;
+            is_pfa(rt.alloc(), file) && is_pfb(rt.alloc(), file),
+            "{what}"
+        );
     }
 }
 
@@ -204,17 +214,21 @@ const ENGINES: &[Engine] = &[
     Engine::Subset(&[b"X"], Form::Pfa),
 ];
 
-/// How an engine ends over a writer of a plan, as a word, and how many calls of that writer failed; no word where what is
-/// out is no prefix of the text.
-fn written_by(alloc: Global, engine: Engine<'_>, plan: Plan, whole: &[u8]) -> (&'static str, u64) {
+/// How an engine ends over a writer of a plan, as a word, how many calls of that writer failed, and whether a prefix of the
+/// text is out.
+fn written_by(
+    alloc: Global,
+    engine: Engine<'_>,
+    plan: Plan,
+    whole: &[u8],
+) -> (&'static str, u64, bool) {
     let mut out = Counted::new(Sink::new(Vec::new(alloc), plan));
     let ended = run(alloc, engine, &mut Feed::new(PFA, FINE), &mut out);
     let word = word(&ended);
     drop(ended);
     let failed = out.failed();
     let text = out.into_inner().text;
-    let begins = whole.starts_with(text.as_slice());
-    (if begins { word } else { "" }, failed)
+    (word, failed, whole.starts_with(text.as_slice()))
 }
 
 /// A writer that takes no byte.
@@ -227,18 +241,29 @@ const INTERRUPTED: Plan = Plan {
     kind: ErrorKind::Interrupted,
 };
 
-/// Whether an engine ends so over a writer that takes a byte a call, of which one fails.
+/// Whether an engine ends as a failed write over a writer of a plan, after one failed call, with a prefix of the text out.
+fn stops(alloc: Global, engine: Engine<'_>, plan: Plan, whole: &[u8]) -> bool {
+    let (got, failed, begins) = written_by(alloc, engine, plan, whole);
+    got == "write" && failed == 1 && begins
+}
+
+/// Whether an engine ends well over a writer of a plan.
+fn is_fine(alloc: Global, engine: Engine<'_>, plan: Plan, whole: &[u8]) -> bool {
+    let (got, failed, begins) = written_by(alloc, engine, plan, whole);
+    got == "ok" && failed == 0 && begins
+}
+
+/// Whether an engine ends as it must over a writer that takes a byte a call, of which one fails.
 fn writes(alloc: Global, engine: Engine<'_>, whole: &[u8], fails: u64) -> bool {
     let plan = Plan {
         most: 1,
         fails,
         ..FINE
     };
-    let (got, failed) = written_by(alloc, engine, plan, whole);
     if fails == 0 || fails > whole.len() as u64 {
-        got == "ok" && failed == 0
+        is_fine(alloc, engine, plan, whole)
     } else {
-        got == "write" && failed == 1
+        stops(alloc, engine, plan, whole)
     }
 }
 
@@ -250,12 +275,6 @@ fn writes_by_bytes(alloc: Global, engine: Engine<'_>, whole: &[u8]) -> bool {
         }
     }
     true
-}
-
-/// Whether an engine ends as a failed write over a writer of a plan, after one failed call.
-fn stops(alloc: Global, engine: Engine<'_>, plan: Plan, whole: &[u8]) -> bool {
-    let (got, failed) = written_by(alloc, engine, plan, whole);
-    got == "write" && failed == 1
 }
 
 /// Whether an engine ends as it must over each of these writers.

@@ -18,21 +18,22 @@ fn failed_calls(readers: &[Counted<Feed<'_>>]) -> u64 {
     failed
 }
 
+/// How a merger of readers ends, by a plan of the writer.
+fn merged_from(alloc: Global, readers: &mut [Counted<Feed<'_>>], write: Plan) -> Ended {
+    let mut out = Counted::new(Sink::new(Vec::new(alloc), write));
+    let ended = run_merge(alloc, readers, Form::Pfa, &mut out);
+    let word = word(&ended);
+    drop(ended);
+    let failed = failed_calls(readers);
+    let calls = out.calls();
+    let text = out.into_inner().text;
+    (word, failed, calls, PFA.starts_with(text.as_slice()))
+}
+
 /// How Tiny merged with itself ends, by a plan of each reader and of the writer.
 fn merged_by(alloc: Global, first: Plan, second: Plan, write: Plan) -> Ended {
     let mut readers = [Feed::new(PFA, first), Feed::new(PFA, second)];
-    let mut out = Counted::new(Sink::new(Vec::new(alloc), write));
-    let ended = run_merge(alloc, &mut readers, Form::Pfa, &mut out);
-    let word = word(&ended);
-    drop(ended);
-    let calls = out.calls();
-    let text = out.into_inner().text;
-    (
-        word,
-        failed_calls(&readers),
-        calls,
-        PFA.starts_with(text.as_slice()),
-    )
+    merged_from(alloc, &mut readers, write)
 }
 
 /// Whether it ends well and writes where no call of a reader fails; else as a failed read that writes nothing.

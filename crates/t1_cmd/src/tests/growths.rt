@@ -88,12 +88,18 @@ fn tells(alloc: Global) -> Result<bool, AllocError> {
     Ok(written(out, ended)?.is_some_and(|text| text.as_slice() == b"failed: read\n".as_slice()))
 }
 
+/// What readers merge to.
+fn merged(alloc: Global, readers: &mut [Counted<&[u8]>]) -> Result<Option<Vec<u8>>, AllocError> {
+    let mut out = Vec::with_capacity(alloc, PFA.len())?;
+    let ended = run_merge(alloc, readers, Form::Pfa, &mut Counted::new(&mut out));
+    written(out, ended)
+}
+
 /// Whether Tiny's two files merge to its PFA.
 fn merges(alloc: Global) -> Result<bool, AllocError> {
     let mut readers = [Counted::new(PFA.as_slice()), Counted::new(PFB.as_slice())];
-    let mut out = Vec::with_capacity(alloc, PFA.len())?;
-    let ended = run_merge(alloc, &mut readers, Form::Pfa, &mut Counted::new(&mut out));
-    Ok(written(out, ended)?.is_some_and(|text| text.as_slice() == PFA.as_slice()))
+    let text = merged(alloc, &mut readers)?;
+    Ok(text.is_some_and(|text| text.as_slice() == PFA.as_slice()))
 }
 
 const CHECKED: &[u8] = b"ok 11 glyphs, 10 subrs, weight 4936\n";
