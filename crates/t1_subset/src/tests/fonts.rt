@@ -56,7 +56,8 @@ pub const SUBRS: &[Entry] = &[
 pub const ACCENTED: &[u8] = b"\x8b\xf8\x88\x0d\xbd\xf7\x0c\xf7\x5c\xcc\xf7\x56\x0c\x06";
 
 /// Glyphs: A, X and Y call Subrs, Aacute and N have components, and the components of N are B, which has components of
-/// its own, and acute.
+/// its own, and acute. P has `15 5 1 3 callothersubr pop div callsubr` between a move and a closepath: it calls Subr 3, or
+/// Subr 5 where hints are kept.
 pub const GLYPHS: &[Entry] = &[
     (b".notdef", b"\x8b\xf7\x8e\x0d\x0e"),
     (b"A", b"\x8b\xf8\x88\x0d\x8b\x16\x91\x0a\x09\x0e"),
@@ -66,6 +67,10 @@ pub const GLYPHS: &[Entry] = &[
     (
         b"N",
         b"\x8b\xf8\x88\x0d\xbd\xf7\x0c\xf7\x5c\xcd\xf7\x56\x0c\x06",
+    ),
+    (
+        b"P",
+        b"\x8b\xf8\x88\x0d\x8b\x16\x9a\x90\x8c\x8e\x0c\x10\x0c\x11\x0c\x0c\x0a\x09\x0e",
     ),
     (
         b"X",

@@ -34,6 +34,12 @@ fn cut<'a>(
     }
 }
 
+/// Whether this is the canonical PFB of a font.
+fn is_written(alloc: Global, font: &Font<'_>, want: &[u8]) -> Result<bool, AllocError> {
+    let file = write(alloc, font, Form::Pfb)?;
+    Ok(file.as_slice() == want)
+}
+
 /// Whether a merger answers the font of this file.
 fn is_file(
     alloc: Global,
@@ -42,9 +48,9 @@ fn is_file(
 ) -> Result<bool, AllocError> {
     match answer {
         Ok(font) => {
-            let file = write(alloc, &font, Form::Pfb);
+            let is_same = is_written(alloc, &font, want);
             drop(font);
-            Ok(file?.as_slice() == want)
+            is_same
         }
         Err(Conflict::Memory) => Err(AllocError),
         Err(conflict) => {

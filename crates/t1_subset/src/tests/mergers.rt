@@ -440,7 +440,7 @@ fn last_acute_differs(alloc: Global, file: &[u8], other: &[u8]) -> bool {
 #[test]
 fn the_first_and_the_last_differ(rt: HostRuntime) -> Result<(), Fail> {
     let file = whole(rt.alloc())?;
-    let other = with_glyph(rt.alloc(), 8, (b"acute", ACCENTED))?;
+    let other = with_glyph(rt.alloc(), 9, (b"acute", ACCENTED))?;
     assert!(rt; last_acute_differs(rt.alloc(), file.as_slice(), other.as_slice()));
     Ok(())
 }

@@ -16,7 +16,7 @@ fn x_of_another(alloc: Global) -> Result<Vec<u8>, AllocError> {
 
 /// The subset over Aacute of the font without acute.
 fn aacute_alone(alloc: Global) -> Result<Vec<u8>, AllocError> {
-    let other = font(alloc, &SHELL, SUBRS, &GLYPHS[..8])?;
+    let other = font(alloc, &SHELL, SUBRS, &GLYPHS[..9])?;
     Ok(cut(alloc, other.as_slice(), &[b"Aacute"]))
 }
 
