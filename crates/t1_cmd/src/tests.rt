@@ -243,12 +243,12 @@ fn joins_listings(rt: HostRuntime) {
     }
 }
 
-/// What two readers and a writer were called for.
+/// How a join ends, how many calls of its readers failed, how many of the second one and of the writer were made, and
+/// whether all is out.
 #[derive(Clone, Copy)]
 struct Joined {
     word: &'static str,
-    left_failed: u64,
-    right_failed: u64,
+    failed: u64,
     right_calls: u64,
     writes: u64,
     is_both: bool,
@@ -265,41 +265,31 @@ fn joined_from(alloc: Global, first: Plan, second: Plan) -> Joined {
     let writes = out.calls();
     Joined {
         word,
-        left_failed: left.failed(),
-        right_failed: right.failed(),
+        failed: left.failed().saturating_add(right.failed()),
         right_calls: right.calls(),
         writes,
         is_both: out.into_inner().text.as_slice() == BOTH,
     }
 }
 
+/// Whether it ends well where no read failed; else as a failed read, with nothing written and the right listing read only
+/// after the left one.
+fn ends_right(got: Joined, is_left: bool) -> bool {
+    if got.failed == 0 {
+        got.word == "ok" && got.is_both
+    } else {
+        got.word == "read" && got.writes == 0 && (got.right_calls == 0) == is_left
+    }
+}
+
 #[test]
 fn each_read_fails(rt: HostRuntime) {
-    for (first, second) in [(1u64, 0u64), (0, 1)] {
-        for fails in 1..100u64 {
-            let plan = Plan { most: 3, ..FINE };
-            let left = Plan {
-                fails: fails * first,
-                ..plan
-            };
-            let right = Plan {
-                fails: fails * second,
-                ..plan
-            };
-            let got = joined_from(rt.alloc(), left, right);
-            if got.left_failed == 0 && got.right_failed == 0 {
-                assert_eq!(rt; got.word, "ok");
-                assert!(rt; got.is_both);
-                break;
-            }
-            assert_eq!(rt; got.word, "read");
-            assert_eq!(rt; got.writes, 0, "nothing is written");
-            assert_eq!(rt;
-                got.right_calls == 0,
-                second == 0,
-                "the first input stops it"
-            );
-        }
+    let fine = Plan { most: 3, ..FINE };
+    for fails in 1..100u64 {
+        let plan = Plan { fails, ..fine };
+        let left = ends_right(joined_from(rt.alloc(), plan, fine), true);
+        let right = ends_right(joined_from(rt.alloc(), fine, plan), false);
+        assert!(rt; left && right, "call {fails}");
     }
 }
 
@@ -325,22 +315,32 @@ fn joined_into(alloc: Global, plan: Plan) -> (&'static str, u64, bool, bool) {
     )
 }
 
+/// Whether that ends well where no call failed; else as a failed write, of which the first failed call is the last.
+fn joins_into(alloc: Global, plan: Plan) -> bool {
+    let (got, failed, is_both, begins) = joined_into(alloc, plan);
+    if failed == 0 {
+        got == "ok" && is_both
+    } else {
+        got == "write" && failed == 1 && begins
+    }
+}
+
+/// The most bytes that a writer takes, and how it fails.
+const WRITERS: &[(usize, ErrorKind)] = &[
+    (1, ErrorKind::Other),
+    (2, ErrorKind::Other),
+    (0, ErrorKind::Other),
+    (1, ErrorKind::Interrupted),
+    (2, ErrorKind::Interrupted),
+    (0, ErrorKind::Interrupted),
+];
+
 #[test]
 fn each_write_fails(rt: HostRuntime) {
-    for kind in [ErrorKind::Other, ErrorKind::Interrupted] {
-        for most in [1usize, 2, 0] {
-            for fails in 1..100u64 {
-                let plan = Plan { most, fails, kind };
-                let (got, failed, is_both, begins) = joined_into(rt.alloc(), plan);
-                if failed == 0 {
-                    assert_eq!(rt; got, "ok");
-                    assert!(rt; is_both);
-                    break;
-                }
-                assert_eq!(rt; failed, 1, "the first failed call is the last");
-                assert_eq!(rt; got, "write");
-                assert!(rt; begins);
-            }
+    for &(most, kind) in WRITERS {
+        for fails in 1..100u64 {
+            let plan = Plan { most, fails, kind };
+            assert!(rt; joins_into(rt.alloc(), plan), "call {fails}");
         }
     }
 }

@@ -29,7 +29,7 @@ pub fn private(alloc: Global) -> Result<Vec<u8>, AllocError> {
 }
 
 /// The bytes with lead bytes that are zero, encrypted.
-pub fn sealed(alloc: Global, plain: &[u8], key: u16) -> Result<Vec<u8>, AllocError> {
+fn sealed(alloc: Global, plain: &[u8], key: u16) -> Result<Vec<u8>, AllocError> {
     match seal(alloc, plain, key, 4) {
         Ok(cipher) => Ok(cipher),
         Err(_) => Err(AllocError),
@@ -63,6 +63,15 @@ fn push_sealed(alloc: Global, out: &mut Vec<u8>, plain: &[u8], key: u16) -> Resu
 /// A file with the clear text of Tiny and this private text.
 fn tiny_with(alloc: Global, private: &[u8]) -> Result<Vec<u8>, AllocError> {
     let mut file = Vec::from_slice(alloc, &PFA[..313])?;
+    push_sealed(alloc, &mut file, private, EEXEC_KEY)?;
+    Ok(file)
+}
+
+/// A file with this many bytes of clear text before its Encoding, and this private text.
+pub fn file_of(alloc: Global, before: usize, private: &[u8]) -> Result<Vec<u8>, AllocError> {
+    let mut file = Vec::new(alloc);
+    file.resize(before, b' ')?;
+    file.extend_from_slice(b"/Encoding StandardEncoding def\ncurrentfile eexec\n")?;
     push_sealed(alloc, &mut file, private, EEXEC_KEY)?;
     Ok(file)
 }

@@ -5,22 +5,26 @@ use std::io;
 use std::io::{Read, Write};
 use std::test::Fail;
 
-/// Whether a read gives this many bytes.
-fn reads(reader: &mut Counted<&[u8]>, buffer: &mut [u8], count: usize) -> bool {
+/// Whether a read gives this many bytes, and the buffer then has these.
+fn reads(reader: &mut Counted<&[u8]>, buffer: &mut [u8], count: usize, bytes: &[u8]) -> bool {
     match reader.read(buffer) {
-        Ok(got) => got == count,
+        Ok(got) => got == count && *buffer == *bytes,
         Err(_) => false,
     }
+}
+
+/// Whether three reads into four bytes give the six bytes `abcdef`, then nothing.
+fn reads_in_turn(reader: &mut Counted<&[u8]>) -> bool {
+    let mut buffer = [0u8; 4];
+    reads(reader, &mut buffer, 4, b"abcd")
+        && reads(reader, &mut buffer, 2, b"efcd")
+        && reads(reader, &mut buffer, 0, b"efcd")
 }
 
 #[test]
 fn reads_are_handed_on(rt: HostRuntime) {
     let mut reader = Counted::new(b"abcdef".as_slice());
-    let mut buffer = [0u8; 4];
-    for (count, bytes) in [(4usize, b"abcd"), (2, b"efcd"), (0, b"efcd")] {
-        assert!(rt; reads(&mut reader, &mut buffer, count));
-        assert!(rt; buffer.as_slice() == bytes.as_slice());
-    }
+    assert!(rt; reads_in_turn(&mut reader));
     assert_eq!(rt; (reader.calls(), reader.failed()), (3, 0));
 }
 

@@ -80,16 +80,24 @@ fn tiny_is_checked(rt: HostRuntime) {
     }
 }
 
+/// Whether the PFA of a file is that of Tiny.
+fn is_pfa(alloc: Global, file: &[u8]) -> bool {
+    answers(alloc, Engine::Convert(Form::Pfa), file, PFA)
+}
+
+/// Whether the PFB of a file is that of Tiny.
+fn is_pfb(alloc: Global, file: &[u8]) -> bool {
+    answers(alloc, Engine::Convert(Form::Pfb), file, PFB)
+}
+
 #[test]
 fn tiny_in_both_forms(rt: HostRuntime) {
-    for (file, what) in [
-        (PFA.as_slice(), "the PFA file"),
-        (PFB.as_slice(), "the PFB file"),
-    ] {
-        let pfa = answers(rt.alloc(), Engine::Convert(Form::Pfa), file, PFA);
-        assert!(rt; pfa, "pfa of {what}");
-        let pfb = answers(rt.alloc(), Engine::Convert(Form::Pfb), file, PFB);
-        assert!(rt; pfb, "pfb of {what}");
+    const FILES: &[(&[u8], &str)] = &[(PFA, "the PFA file"), (PFB, "the PFB file")];
+    for &(file, what) in FILES {
+        assert!(rt;
+            is_pfa(rt.alloc(), file) && is_pfb(rt.alloc(), file),
+            "{what}"
+        );
     }
 }
 
@@ -174,19 +182,26 @@ fn read_by(alloc: Global, engine: Engine<'_>, plan: Plan) -> (&'static str, u64,
     (word, reader.failed(), out.calls())
 }
 
+/// Whether it ends well and writes where no call of the reader fails; else as a failed read that writes nothing.
+fn reads(alloc: Global, engine: Engine<'_>, fails: u64) -> bool {
+    let plan = Plan {
+        most: 500,
+        fails,
+        ..FINE
+    };
+    let (got, failed, writes) = read_by(alloc, engine, plan);
+    if failed == 0 {
+        got == "ok" && writes > 0
+    } else {
+        got == "read" && writes == 0
+    }
+}
+
 #[test]
 fn each_read_fails(rt: HostRuntime) {
     for &engine in ENGINES {
         for fails in 1..9u64 {
-            let plan = Plan {
-                most: 500,
-                fails,
-                ..FINE
-            };
-            let (got, failed, writes) = read_by(rt.alloc(), engine, plan);
-            let want = if failed == 0 { "ok" } else { "read" };
-            assert_eq!(rt; got, want, "call {fails}");
-            assert_eq!(rt; writes == 0, failed > 0, "call {fails}");
+            assert!(rt; reads(rt.alloc(), engine, fails), "call {fails}");
         }
     }
 }
@@ -226,24 +241,53 @@ const INTERRUPTED: Plan = Plan {
     kind: ErrorKind::Interrupted,
 };
 
+/// Whether an engine ends as a failed write over a writer of a plan, after one failed call, with a prefix of the text out.
+fn stops(alloc: Global, engine: Engine<'_>, plan: Plan, whole: &[u8]) -> bool {
+    let (got, failed, begins) = written_by(alloc, engine, plan, whole);
+    got == "write" && failed == 1 && begins
+}
+
+/// Whether an engine ends well over a writer of a plan.
+fn is_fine(alloc: Global, engine: Engine<'_>, plan: Plan, whole: &[u8]) -> bool {
+    let (got, failed, begins) = written_by(alloc, engine, plan, whole);
+    got == "ok" && failed == 0 && begins
+}
+
+/// Whether an engine ends as it must over a writer that takes a byte a call, of which one fails.
+fn writes(alloc: Global, engine: Engine<'_>, whole: &[u8], fails: u64) -> bool {
+    let plan = Plan {
+        most: 1,
+        fails,
+        ..FINE
+    };
+    if fails == 0 || fails > whole.len() as u64 {
+        is_fine(alloc, engine, plan, whole)
+    } else {
+        stops(alloc, engine, plan, whole)
+    }
+}
+
+/// Whether it does so whichever call fails, and those of none and of one after the last.
+fn writes_by_bytes(alloc: Global, engine: Engine<'_>, whole: &[u8]) -> bool {
+    for fails in 0..(whole.len() as u64).saturating_add(2) {
+        if !writes(alloc, engine, whole, fails) {
+            return false;
+        }
+    }
+    true
+}
+
+/// Whether an engine ends as it must over each of these writers.
+fn writes_or_stops(alloc: Global, engine: Engine<'_>) -> bool {
+    let whole = answer(alloc, engine, PFA);
+    writes_by_bytes(alloc, engine, whole.as_slice())
+        && stops(alloc, engine, NOTHING, whole.as_slice())
+        && stops(alloc, engine, INTERRUPTED, whole.as_slice())
+}
+
 #[test]
 fn each_write_fails(rt: HostRuntime) {
     for &engine in ENGINES {
-        let whole = answer(rt.alloc(), engine, PFA);
-        let last = whole.len() as u64;
-        let one = Plan { most: 1, ..FINE };
-        for fails in 0..last.saturating_add(2) {
-            let plan = Plan { fails, ..one };
-            let ends_well = fails == 0 || fails > last;
-            let want = if ends_well { ("ok", 0) } else { ("write", 1) };
-            let (got, failed, begins) = written_by(rt.alloc(), engine, plan, whole.as_slice());
-            assert_eq!(rt; (got, failed), want, "call {fails}");
-            assert!(rt; begins, "a prefix is out");
-        }
-        for plan in [NOTHING, INTERRUPTED] {
-            let (got, failed, begins) = written_by(rt.alloc(), engine, plan, whole.as_slice());
-            assert_eq!(rt; (got, failed), ("write", 1));
-            assert!(rt; begins, "a prefix is out");
-        }
+        assert!(rt; writes_or_stops(rt.alloc(), engine));
     }
 }

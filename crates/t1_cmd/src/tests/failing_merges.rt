@@ -2,8 +2,7 @@
 use super::tiny::PFA;
 use super::{FINE, Feed, Plan, Sink, word};
 use crate::{Counted, run_merge};
-use std::alloc::{AllocError, Global};
-use std::test::Fail;
+use std::alloc::Global;
 use t1_font::Form;
 
 /// How Tiny merged with itself ends, as a word, how many calls of the readers failed, how many of the writer were made,
@@ -19,60 +18,71 @@ fn failed_calls(readers: &[Counted<Feed<'_>>]) -> u64 {
     failed
 }
 
-/// How Tiny merged with itself ends, by a plan of each reader and of the writer.
-fn merged_by(alloc: Global, first: Plan, second: Plan, write: Plan) -> Result<Ended, AllocError> {
-    let mut readers = Vec::new(alloc);
-    readers.push(Feed::new(PFA, first))?;
-    readers.push(Feed::new(PFA, second))?;
+/// How a merger of readers ends, by a plan of the writer.
+fn merged_from(alloc: Global, readers: &mut [Counted<Feed<'_>>], write: Plan) -> Ended {
     let mut out = Counted::new(Sink::new(Vec::new(alloc), write));
-    let ended = run_merge(alloc, readers.as_mut_slice(), Form::Pfa, &mut out);
+    let ended = run_merge(alloc, readers, Form::Pfa, &mut out);
     let word = word(&ended);
     drop(ended);
+    let failed = failed_calls(readers);
     let calls = out.calls();
     let text = out.into_inner().text;
-    Ok((
-        word,
-        failed_calls(readers.as_slice()),
-        calls,
-        PFA.starts_with(text.as_slice()),
-    ))
+    (word, failed, calls, PFA.starts_with(text.as_slice()))
+}
+
+/// How Tiny merged with itself ends, by a plan of each reader and of the writer.
+fn merged_by(alloc: Global, first: Plan, second: Plan, write: Plan) -> Ended {
+    let mut readers = [Feed::new(PFA, first), Feed::new(PFA, second)];
+    merged_from(alloc, &mut readers, write)
+}
+
+/// Whether it ends well and writes where no call of a reader fails; else as a failed read that writes nothing.
+fn reads(alloc: Global, first: Plan, second: Plan) -> bool {
+    let (word, failed, calls, _) = merged_by(alloc, first, second, FINE);
+    if failed == 0 {
+        word == "ok" && calls > 0
+    } else {
+        word == "read" && calls == 0
+    }
 }
 
 #[test]
-fn each_read_fails(rt: HostRuntime) -> Result<(), Fail> {
+fn each_read_fails(rt: HostRuntime) {
     for fails in 1..9u64 {
         let plan = Plan {
             most: 500,
             fails,
             ..FINE
         };
-        for (first, second) in [(plan, FINE), (FINE, plan)] {
-            let (word, failed, calls, _) = merged_by(rt.alloc(), first, second, FINE)?;
-            assert_eq!(rt;
-                word,
-                if failed == 0 { "ok" } else { "read" },
-                "call {fails}"
-            );
-            assert_eq!(rt; calls == 0, failed > 0, "call {fails}");
-        }
+        let is_right = reads(rt.alloc(), plan, FINE) && reads(rt.alloc(), FINE, plan);
+        assert!(rt; is_right, "call {fails}");
     }
-    Ok(())
+}
+
+/// Whether it ends in this way over a writer that takes a byte a call, of which one fails, with a prefix of Tiny out.
+fn writes(alloc: Global, fails: u64, want: &str) -> bool {
+    let plan = Plan {
+        most: 1,
+        fails,
+        ..FINE
+    };
+    let (word, failed, _, begins) = merged_by(alloc, FINE, FINE, plan);
+    word == want && failed == 0 && begins
 }
 
 #[test]
-fn each_write_fails(rt: HostRuntime) -> Result<(), Fail> {
-    let one = Plan { most: 1, ..FINE };
+fn each_write_fails(rt: HostRuntime) {
     let last = PFA.len() as u64;
     for fails in 0..last.saturating_add(2) {
-        let plan = Plan { fails, ..one };
         let ends_well = fails == 0 || fails > last;
-        let (word, failed, _, begins) = merged_by(rt.alloc(), FINE, FINE, plan)?;
         let want = if ends_well { "ok" } else { "write" };
-        assert_eq!(rt; (word, failed), (want, 0), "call {fails}");
-        assert!(rt; begins, "a prefix is out");
+        assert!(rt; writes(rt.alloc(), fails, want), "call {fails}");
     }
+}
+
+#[test]
+fn a_writer_that_takes_nothing(rt: HostRuntime) {
     let nothing = Plan { most: 0, ..FINE };
-    let (word, failed, calls, begins) = merged_by(rt.alloc(), FINE, FINE, nothing)?;
-    assert_eq!(rt; (word, failed, calls, begins), ("write", 0, 1, true));
-    Ok(())
+    let got = merged_by(rt.alloc(), FINE, FINE, nothing);
+    assert_eq!(rt; got, ("write", 0, 1, true));
 }

@@ -88,19 +88,18 @@ fn tells(alloc: Global) -> Result<bool, AllocError> {
     Ok(written(out, ended)?.is_some_and(|text| text.as_slice() == b"failed: read\n".as_slice()))
 }
 
+/// What readers merge to.
+fn merged(alloc: Global, readers: &mut [Counted<&[u8]>]) -> Result<Option<Vec<u8>>, AllocError> {
+    let mut out = Vec::with_capacity(alloc, PFA.len())?;
+    let ended = run_merge(alloc, readers, Form::Pfa, &mut Counted::new(&mut out));
+    written(out, ended)
+}
+
 /// Whether Tiny's two files merge to its PFA.
 fn merges(alloc: Global) -> Result<bool, AllocError> {
-    let mut readers = Vec::new(alloc);
-    readers.push(Counted::new(PFA.as_slice()))?;
-    readers.push(Counted::new(PFB.as_slice()))?;
-    let mut out = Vec::with_capacity(alloc, PFA.len())?;
-    let ended = run_merge(
-        alloc,
-        readers.as_mut_slice(),
-        Form::Pfa,
-        &mut Counted::new(&mut out),
-    );
-    Ok(written(out, ended)?.is_some_and(|text| text.as_slice() == PFA.as_slice()))
+    let mut readers = [Counted::new(PFA.as_slice()), Counted::new(PFB.as_slice())];
+    let text = merged(alloc, &mut readers)?;
+    Ok(text.is_some_and(|text| text.as_slice() == PFA.as_slice()))
 }
 
 const CHECKED: &[u8] = b"ok 11 glyphs, 10 subrs, weight 4936\n";
@@ -125,14 +124,19 @@ const ENGINES: &[(Engine<'static>, &[u8])] = &[
     (Engine::Convert(Form::Pfb), PFB),
 ];
 
-/// Whether each engine writes right.
-fn write_right(alloc: Global) -> Result<bool, AllocError> {
+/// Whether each of these engines writes right.
+fn engines_write(alloc: Global) -> Result<bool, AllocError> {
     for &(engine, want) in ENGINES {
         if !writes(alloc, engine, PFA, want)? {
             return Ok(false);
         }
     }
-    let fonts = subsets(alloc)? && merges(alloc)?;
+    Ok(true)
+}
+
+/// Whether they do, and the others.
+fn write_right(alloc: Global) -> Result<bool, AllocError> {
+    let fonts = engines_write(alloc)? && subsets(alloc)? && merges(alloc)?;
     Ok(fonts && joins(alloc, LEFT, RIGHT, LISTED)? && reads(alloc)? && tells(alloc)?)
 }
 

@@ -1,6 +1,6 @@
 //! Merges of subsets of the font Tiny and of fonts that differ from it.
 use super::changed::{
-    sealed, tiny_and, tiny_changed, tiny_encoded, tiny_with_subr, with_all, without_acute,
+    file_of, tiny_and, tiny_changed, tiny_encoded, tiny_with_subr, with_all, without_acute,
     without_subr_5,
 };
 use super::engines::{Engine, answer, answers};
@@ -10,7 +10,6 @@ use super::tiny::PFA;
 use crate::{Counted, run_merge};
 use std::alloc::{AllocError, Global};
 use std::test::Fail;
-use t1_bytes::EEXEC_KEY;
 use t1_font::Form;
 
 /// The PFA file that readers merge to, or the line of their refusal.
@@ -24,28 +23,31 @@ fn merged_from(alloc: Global, readers: &mut [Counted<&[u8]>]) -> Vec<u8> {
 }
 
 /// The same, of two files.
-fn merged<'a>(alloc: Global, left: &'a [u8], right: &'a [u8]) -> Result<Vec<u8>, AllocError> {
-    let mut readers = Vec::new(alloc);
-    readers.push(Counted::new(left))?;
-    readers.push(Counted::new(right))?;
-    Ok(merged_from(alloc, readers.as_mut_slice()))
+fn merged<'a>(alloc: Global, left: &'a [u8], right: &'a [u8]) -> Vec<u8> {
+    let mut readers = [Counted::new(left), Counted::new(right)];
+    merged_from(alloc, &mut readers)
 }
 
 /// The same, of two files in either order; nothing where the orders differ.
-fn either<'a>(alloc: Global, left: &'a [u8], right: &'a [u8]) -> Result<Vec<u8>, AllocError> {
-    let one = merged(alloc, left, right)?;
-    let other = merged(alloc, right, left)?;
+fn either<'a>(alloc: Global, left: &'a [u8], right: &'a [u8]) -> Vec<u8> {
+    let one = merged(alloc, left, right);
+    let other = merged(alloc, right, left);
     if one.as_slice() == other.as_slice() {
-        Ok(one)
+        one
     } else {
-        Ok(Vec::new(alloc))
+        Vec::new(alloc)
     }
 }
 
 /// Whether two files in either order merge to this, or it is the line of their refusal.
 fn merges<'a>(alloc: Global, left: &'a [u8], right: &'a [u8], want: &[u8]) -> bool {
-    match either(alloc, left, right) {
-        Ok(got) => got.as_slice() == want,
+    either(alloc, left, right).as_slice() == want
+}
+
+/// The same of Tiny and of a file.
+fn tiny_merges(alloc: Global, file: Result<Vec<u8>, AllocError>, want: &[u8]) -> bool {
+    match file {
+        Ok(file) => merges(alloc, PFA, file.as_slice(), want),
         Err(_) => false,
     }
 }
@@ -72,30 +74,25 @@ fn subsets_of_one_font(rt: HostRuntime) {
 }
 
 #[test]
-fn shells_and_codes_that_differ(rt: HostRuntime) -> Result<(), Fail> {
-    let word = tiny_encoded(rt.alloc(), b"/Encoding StandardEncoding def")?;
+fn shells_and_codes_that_differ(rt: HostRuntime) {
+    let word = tiny_encoded(rt.alloc(), b"/Encoding StandardEncoding def");
     let want = b"refused: shells differ in encoding\n";
-    assert!(rt; merges(rt.alloc(), PFA, word.as_slice(), want));
-    let code = with_all(rt.alloc(), PFA, b"dup 66 /Y put", b"dup 66 /A put")?;
-    assert!(rt;
-        merges(
-            rt.alloc(),
-            PFA,
-            code.as_slice(),
-            b"refused: code 66 differs\n"
-        )
-    );
-    Ok(())
+    assert!(rt; tiny_merges(rt.alloc(), word, want));
+    let code = with_all(rt.alloc(), PFA, b"dup 66 /Y put", b"dup 66 /A put");
+    assert!(rt; tiny_merges(rt.alloc(), code, b"refused: code 66 differs\n"));
 }
 
 #[test]
-fn private_texts_that_differ(rt: HostRuntime) -> Result<(), Fail> {
-    let password = tiny_changed(rt.alloc(), b"5839", b"5840")?;
+fn private_texts_that_differ(rt: HostRuntime) {
+    let password = tiny_changed(rt.alloc(), b"5839", b"5840");
     let want = b"refused: shells differ in private\n";
-    assert!(rt; merges(rt.alloc(), PFA, password.as_slice(), want));
-    let first = merged(rt.alloc(), b"", password.as_slice())?;
-    assert!(rt; first.as_slice() == b"refused: no eexec\n".as_slice());
-    Ok(())
+    assert!(rt; tiny_merges(rt.alloc(), password, want));
+}
+
+#[test]
+fn the_first_font_is_no_font(rt: HostRuntime) {
+    let got = merged(rt.alloc(), b"", PFA);
+    assert!(rt; got.as_slice() == b"refused: no eexec\n".as_slice());
 }
 
 #[test]
@@ -114,21 +111,13 @@ fn glyphs_that_differ(rt: HostRuntime) -> Result<(), Fail> {
 }
 
 #[test]
-fn a_subr_that_no_glyph_executes(rt: HostRuntime) -> Result<(), Fail> {
-    let other = tiny_with_subr(rt.alloc(), b"dup 8 ", b"", b"\x0e")?;
-    assert!(rt;
-        merges(
-            rt.alloc(),
-            PFA,
-            other.as_slice(),
-            b"refused: subr 8 differs\n"
-        )
-    );
-    Ok(())
+fn a_subr_that_no_glyph_executes(rt: HostRuntime) {
+    let other = tiny_with_subr(rt.alloc(), b"dup 8 ", b"", b"\x0e");
+    assert!(rt; tiny_merges(rt.alloc(), other, b"refused: subr 8 differs\n"));
 }
 
-/// A font with a long head and, beside `.notdef`, one long glyph of this name.
-fn heavy(alloc: Global, name: &[u8]) -> Result<Vec<u8>, AllocError> {
+/// A private text with one long glyph of this name beside `.notdef`.
+fn heavy_private(alloc: Global, name: &[u8]) -> Result<Vec<u8>, AllocError> {
     let mut private = Vec::from_slice(
         alloc,
         b"/lenIV 0 def /CharStrings 2 dict dup begin\n/.notdef 0 RD  ND\n",
@@ -137,11 +126,13 @@ fn heavy(alloc: Global, name: &[u8]) -> Result<Vec<u8>, AllocError> {
     private.extend_from_slice(b" 60000 RD ")?;
     private.resize(private.len().saturating_add(60_000), b'x')?;
     private.extend_from_slice(b" ND\nend\nclosefile")?;
-    let mut file = Vec::new(alloc);
-    file.resize(67_000_000, b' ')?;
-    file.extend_from_slice(b"/Encoding StandardEncoding def\ncurrentfile eexec\n")?;
-    file.extend_from_slice(sealed(alloc, private.as_slice(), EEXEC_KEY)?.as_slice())?;
-    Ok(file)
+    Ok(private)
+}
+
+/// A font with a long head and that private text.
+fn heavy(alloc: Global, name: &[u8]) -> Result<Vec<u8>, AllocError> {
+    let private = heavy_private(alloc, name)?;
+    file_of(alloc, 67_000_000, private.as_slice())
 }
 
 #[test]
@@ -172,7 +163,7 @@ fn own_x(alloc: Global) -> Result<Vec<u8>, AllocError> {
 fn own_x_and(alloc: Global, name: &[u8]) -> Result<Vec<u8>, AllocError> {
     let used = own_x(alloc)?;
     let cut = subset(alloc, PFA, &[name]);
-    either(alloc, cut.as_slice(), used.as_slice())
+    Ok(either(alloc, cut.as_slice(), used.as_slice()))
 }
 
 #[test]
@@ -208,7 +199,7 @@ fn accented(alloc: Global) -> Result<Vec<u8>, AllocError> {
 fn accented_and_a(alloc: Global) -> Result<Vec<u8>, AllocError> {
     let left = accented(alloc)?;
     let right = subset(alloc, PFA, &[b"A"]);
-    either(alloc, left.as_slice(), right.as_slice())
+    Ok(either(alloc, left.as_slice(), right.as_slice()))
 }
 
 /// Whether a file is refused beside the subset of Tiny by acute, since its Aacute lacks that part.
@@ -235,7 +226,7 @@ fn a_part_that_one_font_lacks(rt: HostRuntime) -> Result<(), Fail> {
 #[test]
 fn the_heaviest_font(rt: HostRuntime) -> Result<(), Fail> {
     let font = heaviest(rt.alloc())?;
-    let got = merged(rt.alloc(), font.as_slice(), font.as_slice())?;
+    let got = merged(rt.alloc(), font.as_slice(), font.as_slice());
     let is_kept = answers(
         rt.alloc(),
         Engine::Convert(Form::Pfa),

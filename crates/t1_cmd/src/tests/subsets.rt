@@ -1,10 +1,9 @@
 //! Subsets of the font Tiny and of changed ones.
-use super::changed::{sealed, tiny_and};
+use super::changed::{file_of, tiny_and};
 use super::engines::{Engine, answer, answers};
 use super::tiny::{PFA, PFB};
 use std::alloc::{AllocError, Global};
 use std::test::Fail;
-use t1_bytes::EEXEC_KEY;
 use t1_font::{Font, Form, Source, read};
 use t1_run::Subroutines;
 
@@ -191,23 +190,26 @@ const SUBSETS: &[(&[&[u8]], usize, &[u8], &[u8])] = &[
     ),
 ];
 
-/// The size of a file, and whether it is checked and listed so.
-fn seen(alloc: Global, file: &[u8], checked: &[u8], listed: &[u8]) -> (usize, bool, bool) {
-    let is_checked = answers(alloc, Engine::Check, file, checked);
-    let is_listed = answers(alloc, Engine::List, file, listed);
-    (file.len(), is_checked, is_listed)
+/// Whether a subset of Tiny is checked so.
+fn is_checked(alloc: Global, names: &[&[u8]], want: &[u8]) -> bool {
+    let file = subset(alloc, PFA, names);
+    answers(alloc, Engine::Check, file.as_slice(), want)
+}
+
+/// Whether it has this size and is listed so.
+fn is_listed(alloc: Global, names: &[&[u8]], size: usize, want: &[u8]) -> bool {
+    let file = subset(alloc, PFA, names);
+    file.len() == size && answers(alloc, Engine::List, file.as_slice(), want)
 }
 
 #[test]
 fn sizes_of_subsets(rt: HostRuntime) {
     for &(names, size, checked, listed) in SUBSETS {
-        let file = subset(rt.alloc(), PFA, names);
-        let got = seen(rt.alloc(), file.as_slice(), checked, listed);
-        assert_eq!(rt; got, (size, true, true));
+        assert!(rt; is_checked(rt.alloc(), names, checked));
+        assert!(rt; is_listed(rt.alloc(), names, size, listed));
     }
-    let file = subset(rt.alloc(), PFA, &[b"N"]);
     let want = b"ok 5 glyphs, 10 subrs, weight 3259\n";
-    assert!(rt; answers(rt.alloc(), Engine::Check, file.as_slice(), want));
+    assert!(rt; is_checked(rt.alloc(), &[b"N"], want));
 }
 
 /// `15 5 1 3 callothersubr pop div callsubr` between a move and a closepath: Subr 3, or Subr 5 where hints are kept.
@@ -239,13 +241,9 @@ fn names_that_are_absent(rt: HostRuntime) {
 /// A font of the greatest weight, with a Subr of no bytes.
 pub fn heaviest(alloc: Global) -> Result<Vec<u8>, AllocError> {
     // The clear tail has 18 bytes and the private texts 13, 1 and 27; a Subr of no bytes weighs 129, and `.notdef` 257.
-    let mut file = Vec::new(alloc);
-    file.resize(67_108_419, b' ')?;
-    file.extend_from_slice(b"/Encoding StandardEncoding def\ncurrentfile eexec\n")?;
     let private =
         b"/lenIV 0 def /Subrs 9 array dup 5 0 RD  NP ND /CharStrings 1 dict dup begin\n/.notdef 1 RD \x1b ND\nend\nmark currentfile closefile\n";
-    file.extend_from_slice(sealed(alloc, private, EEXEC_KEY)?.as_slice())?;
-    Ok(file)
+    file_of(alloc, 67_108_419, private)
 }
 
 #[test]

@@ -65,15 +65,27 @@ const KEPT: &[(&[&[u8]], &[u8])] = &[
     (&[b"N"], b".notdef A B N acute 012356"),
 ];
 
+/// Whether names of a file's font keep this, or it is the name that the font lacks.
+pub fn keeps(alloc: Global, file: &[u8], names: &[&[u8]], want: &[u8]) -> bool {
+    match kept(alloc, file, names) {
+        Ok(text) => text.as_slice() == want,
+        Err(_) => false,
+    }
+}
+
+/// Whether names of the subset over these names keep this.
+fn cut_keeps(alloc: Global, file: &[u8], names: &[&[u8]], want: &[u8]) -> bool {
+    let cut = cut(alloc, file, names);
+    keeps(alloc, cut.as_slice(), names, want)
+}
+
 #[test]
 fn what_names_keep(rt: HostRuntime) -> Result<(), Fail> {
     let file = whole(rt.alloc())?;
     for &(names, want) in KEPT {
-        let got = kept(rt.alloc(), file.as_slice(), names)?;
-        assert_eq!(rt; got.as_slice(), want);
-        let cut = cut(rt.alloc(), file.as_slice(), names);
-        let again = kept(rt.alloc(), cut.as_slice(), names)?;
-        assert_eq!(rt; again.as_slice(), want, "in the subset");
+        assert!(rt; keeps(rt.alloc(), file.as_slice(), names, want));
+        let again = cut_keeps(rt.alloc(), file.as_slice(), names, want);
+        assert!(rt; again, "in the subset");
     }
     Ok(())
 }
@@ -126,8 +138,8 @@ fn file_lacks(alloc: Global, file: &[u8], names: &[&[u8]], want: &[u8]) -> bool 
 fn names_that_are_absent(rt: HostRuntime) -> Result<(), Fail> {
     let file = whole(rt.alloc())?;
     for &(names, want) in ABSENT {
-        let got = kept(rt.alloc(), file.as_slice(), names)?;
-        assert_eq!(rt; got.as_slice(), want, "of a closure");
+        let got = keeps(rt.alloc(), file.as_slice(), names, want);
+        assert!(rt; got, "of a closure");
         let told = file_lacks(rt.alloc(), file.as_slice(), names, want);
         assert!(rt; told, "of a subset");
     }

@@ -39,7 +39,7 @@ pub const SHELL: Shell = Shell {
 
 /// Subrs: flex and hint replacement as usual, one that another one calls, two that draw a line, one hint, one of no
 /// bytes, and one that calls itself.
-pub const SUBRS: [Entry; 10] = [
+pub const SUBRS: &[Entry] = &[
     (b"0", b"\x8e\x8b\x0c\x10\x0c\x11\x0c\x11\x0c\x21\x0b"),
     (b"1", b"\x8b\x8c\x0c\x10\x0b"),
     (b"2", b"\x8b\x8d\x0c\x10\x0b"),
@@ -56,8 +56,9 @@ pub const SUBRS: [Entry; 10] = [
 pub const ACCENTED: &[u8] = b"\x8b\xf8\x88\x0d\xbd\xf7\x0c\xf7\x5c\xcc\xf7\x56\x0c\x06";
 
 /// Glyphs: A, X and Y call Subrs, Aacute and N have components, and the components of N are B, which has components of
-/// its own, and acute.
-pub const GLYPHS: [Entry; 9] = [
+/// its own, and acute. P has `15 5 1 3 callothersubr pop div callsubr` between a move and a closepath: it calls Subr 3, or
+/// Subr 5 where hints are kept.
+pub const GLYPHS: &[Entry] = &[
     (b".notdef", b"\x8b\xf7\x8e\x0d\x0e"),
     (b"A", b"\x8b\xf8\x88\x0d\x8b\x16\x91\x0a\x09\x0e"),
     (b"Aacute", ACCENTED),
@@ -66,6 +67,10 @@ pub const GLYPHS: [Entry; 9] = [
     (
         b"N",
         b"\x8b\xf8\x88\x0d\xbd\xf7\x0c\xf7\x5c\xcd\xf7\x56\x0c\x06",
+    ),
+    (
+        b"P",
+        b"\x8b\xf8\x88\x0d\x8b\x16\x9a\x90\x8c\x8e\x0c\x10\x0c\x11\x0c\x0c\x0a\x09\x0e",
     ),
     (
         b"X",
@@ -83,6 +88,14 @@ fn sealed(alloc: Global, plain: &[u8], key: u16, lead: u8) -> Result<Vec<u8>, Al
     }
 }
 
+/// Adds these parts, one after the other.
+fn push_all(out: &mut Vec<u8>, parts: &[&[u8]]) -> Result<(), AllocError> {
+    for part in parts {
+        out.extend_from_slice(part)?;
+    }
+    Ok(())
+}
+
 /// An entry of a table: its key, the length, the encrypted bytes and the phrase.
 pub fn put_entry(
     alloc: Global,
@@ -91,15 +104,10 @@ pub fn put_entry(
     plain: &[u8],
     phrase: &[u8],
 ) -> Result<(), AllocError> {
-    out.extend_from_slice(key)?;
-    out.push(b' ')?;
-    out.extend_from_slice(plain.len().to_string(alloc)?.as_bytes())?;
-    out.extend_from_slice(b" RD ")?;
-    out.extend_from_slice(sealed(alloc, plain, CHARSTRING_KEY, 0)?.as_slice())?;
-    out.push(b' ')?;
-    out.extend_from_slice(phrase)?;
-    out.push(b'\n')?;
-    Ok(())
+    let length = plain.len().to_string(alloc)?;
+    push_all(out, &[key, b" ", length.as_bytes(), b" RD "])?;
+    let cipher = sealed(alloc, plain, CHARSTRING_KEY, 0)?;
+    push_all(out, &[cipher.as_slice(), b" ", phrase, b"\n"])
 }
 
 /// The text of a table of Subrs; nothing for a shell without Subrs.
@@ -126,6 +134,31 @@ pub fn glyphs_text(alloc: Global, shell: &Shell, glyphs: &[Entry]) -> Result<Vec
     Ok(text)
 }
 
+/// Adds the private text of a shell, of a table of Subrs and of a text of glyphs.
+fn push_private(
+    out: &mut Vec<u8>,
+    shell: &Shell,
+    subrs: &[u8],
+    glyphs: &[u8],
+) -> Result<(), AllocError> {
+    out.extend_from_slice(shell.private)?;
+    out.extend_from_slice(subrs)?;
+    out.extend_from_slice(shell.middle)?;
+    out.extend_from_slice(b"/CharStrings 9 dict dup begin\n")?;
+    out.extend_from_slice(glyphs)?;
+    out.extend_from_slice(b"end")?;
+    out.extend_from_slice(shell.tail)
+}
+
+/// The file of a shell and of a private text.
+fn file_of(alloc: Global, shell: &Shell, private: &[u8]) -> Result<Vec<u8>, AllocError> {
+    let cipher = sealed(alloc, private, EEXEC_KEY, EEXEC_LEAD)?;
+    let mut file = Vec::new(alloc);
+    push_all(&mut file, &[shell.head, shell.encoding, shell.clear_tail])?;
+    file.extend_from_slice(cipher.as_slice())?;
+    Ok(file)
+}
+
 /// The file of a shell, of Subrs and of a text of glyphs.
 pub fn file(
     alloc: Global,
@@ -133,19 +166,10 @@ pub fn file(
     subrs: &[Entry],
     glyphs: &[u8],
 ) -> Result<Vec<u8>, AllocError> {
-    let mut private = Vec::from_slice(alloc, shell.private)?;
-    private.extend_from_slice(subrs_text(alloc, shell, subrs)?.as_slice())?;
-    private.extend_from_slice(shell.middle)?;
-    private.extend_from_slice(b"/CharStrings 9 dict dup begin\n")?;
-    private.extend_from_slice(glyphs)?;
-    private.extend_from_slice(b"end")?;
-    private.extend_from_slice(shell.tail)?;
-    let mut file = Vec::from_slice(alloc, shell.head)?;
-    file.extend_from_slice(shell.encoding)?;
-    file.extend_from_slice(shell.clear_tail)?;
-    let cipher = sealed(alloc, private.as_slice(), EEXEC_KEY, EEXEC_LEAD)?;
-    file.extend_from_slice(cipher.as_slice())?;
-    Ok(file)
+    let table = subrs_text(alloc, shell, subrs)?;
+    let mut private = Vec::new(alloc);
+    push_private(&mut private, shell, table.as_slice(), glyphs)?;
+    file_of(alloc, shell, private.as_slice())
 }
 
 /// The file of a shell, of Subrs and of glyphs.
@@ -161,7 +185,50 @@ pub fn font(
 
 /// The file of the shell, the Subrs and the glyphs above.
 pub fn whole(alloc: Global) -> Result<Vec<u8>, AllocError> {
-    font(alloc, &SHELL, &SUBRS, &GLYPHS)
+    font(alloc, &SHELL, SUBRS, GLYPHS)
+}
+
+/// The file of these with another shell.
+pub fn with_shell(alloc: Global, shell: &Shell) -> Result<Vec<u8>, AllocError> {
+    font(alloc, shell, SUBRS, GLYPHS)
+}
+
+/// Entries of which the one at this place is another.
+pub fn replaced(
+    alloc: Global,
+    entries: &[Entry],
+    place: usize,
+    entry: Entry,
+) -> Result<Vec<Entry>, AllocError> {
+    let mut changed = Vec::new(alloc);
+    for (at, old) in entries.iter().enumerate() {
+        changed.push(if at == place { entry } else { *old })?;
+    }
+    Ok(changed)
+}
+
+/// The file of the font above with another Subr at this place.
+pub fn with_subr(alloc: Global, place: usize, subr: Entry) -> Result<Vec<u8>, AllocError> {
+    let subrs = replaced(alloc, SUBRS, place, subr)?;
+    font(alloc, &SHELL, subrs.as_slice(), GLYPHS)
+}
+
+/// The file of the font above with another glyph at this place.
+pub fn with_glyph(alloc: Global, place: usize, glyph: Entry) -> Result<Vec<u8>, AllocError> {
+    let glyphs = replaced(alloc, GLYPHS, place, glyph)?;
+    font(alloc, &SHELL, SUBRS, glyphs.as_slice())
+}
+
+/// The texts, lent.
+pub fn lent<'a>(alloc: Global, texts: &'a [Vec<u8>]) -> Result<Vec<&'a [u8]>, AllocError> {
+    let mut lent = Vec::new(alloc);
+    for text in texts {
+        match lent.push(text.as_slice()) {
+            Ok(_) => {}
+            Err(_) => return Err(AllocError),
+        }
+    }
+    Ok(lent)
 }
 
 /// The canonical PFB of a font.

@@ -34,13 +34,55 @@ fn cut<'a>(
     }
 }
 
-fn joined<'a>(answer: Result<Font<'a>, Conflict>) -> Result<Option<Font<'a>>, AllocError> {
+/// Whether this is the canonical PFB of a font.
+fn is_written(alloc: Global, font: &Font<'_>, want: &[u8]) -> Result<bool, AllocError> {
+    let file = write(alloc, font, Form::Pfb)?;
+    Ok(file.as_slice() == want)
+}
+
+/// Whether a merger answers the font of this file.
+fn is_file(
+    alloc: Global,
+    answer: Result<Font<'_>, Conflict>,
+    want: &[u8],
+) -> Result<bool, AllocError> {
     match answer {
-        Ok(both) => Ok(Some(both)),
+        Ok(font) => {
+            let is_same = is_written(alloc, &font, want);
+            drop(font);
+            is_same
+        }
         Err(Conflict::Memory) => Err(AllocError),
         Err(conflict) => {
             drop(conflict);
-            Ok(None)
+            Ok(false)
+        }
+    }
+}
+
+/// Whether two fonts merge, by both calls, to the font of this file.
+fn fonts_merge(alloc: Global, fonts: &[Font<'_>; 2], want: &[u8]) -> Result<bool, AllocError> {
+    let [one, other] = fonts;
+    let two = is_file(alloc, merge(alloc, one, other), want)?;
+    Ok(two && is_file(alloc, merge_all(alloc, fonts), want)?)
+}
+
+/// The same of a font and the subset over Aacute.
+fn merges_with_aacute<'a>(
+    alloc: Global,
+    one: Font<'a>,
+    font: &Font<'a>,
+    want: &[u8],
+) -> Result<bool, AllocError> {
+    match cut(alloc, font, &[b"Aacute"]) {
+        Ok(Some(other)) => fonts_merge(alloc, &[one, other], want),
+        Ok(None) => {
+            drop(one);
+            Ok(false)
+        }
+        Err(AllocError) => {
+            drop(one);
+            Err(AllocError)
         }
     }
 }
@@ -64,13 +106,10 @@ fn kept(alloc: Global, font: &Font<'_>, names: &[&[u8]]) -> Result<usize, AllocE
 /// Whether two subsets merge, by both calls, to the subset of the names of both.
 fn subsets_merge(alloc: Global, font: &Font<'_>) -> Result<bool, AllocError> {
     let both = file_of(alloc, cut(alloc, font, &[b"X", b"Aacute"])?)?;
-    let (Some(x), Some(a)) = (cut(alloc, font, &[b"X"])?, cut(alloc, font, &[b"Aacute"])?) else {
-        return Ok(false);
-    };
-    let merged = file_of(alloc, joined(merge(alloc, &x, &a))?)?;
-    let fonts = vec![in alloc; x, a]?;
-    let all = file_of(alloc, joined(merge_all(alloc, fonts.as_slice()))?)?;
-    Ok(merged.as_slice() == both.as_slice() && all.as_slice() == both.as_slice())
+    match cut(alloc, font, &[b"X"])? {
+        Some(x) => merges_with_aacute(alloc, x, font, both.as_slice()),
+        None => Ok(false),
+    }
 }
 
 /// Whether all calls answer right.

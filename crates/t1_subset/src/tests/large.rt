@@ -1,11 +1,13 @@
 //! Fonts of thousands of glyphs, and two that together are over the limit of weight.
 
-use super::fonts::{SHELL, SUBRS, file, glyphs_text, put_entry};
-use crate::{Conflict, SubsetFault, closure, merge, merge_all, subset};
+use super::closures::kept;
+use super::fonts::{SHELL, SUBRS, cut, file, glyphs_text, lent, put_entry};
+use super::mergers::{all_merged, conflict, merged};
+use crate::Conflict;
 use std::alloc::{AllocError, Global};
 use std::ops::Range;
 use std::test::Fail;
-use t1_font::{Font, Source, read};
+use t1_font::{Source, read};
 
 /// A name of six bytes for a number below 100,000, in the order of the numbers.
 fn numbered(alloc: Global, number: u32) -> Result<Vec<u8>, AllocError> {
@@ -24,7 +26,7 @@ fn many(alloc: Global, numbers: Range<u32>, plain: &[u8]) -> Result<Vec<u8>, All
         let name = numbered(alloc, number)?;
         put_entry(alloc, &mut text, name.as_slice(), plain, SHELL.def)?;
     }
-    file(alloc, &SHELL, &SUBRS, text.as_slice())
+    file(alloc, &SHELL, SUBRS, text.as_slice())
 }
 
 /// The names of these numbers.
@@ -39,130 +41,72 @@ fn names(alloc: Global, numbers: Range<u32>) -> Result<Vec<Vec<u8>>, AllocError>
     Ok(names)
 }
 
-/// The same, lent.
-fn lent<'a>(alloc: Global, names: &'a [Vec<u8>]) -> Result<Vec<&'a [u8]>, AllocError> {
-    let mut lent = Vec::new(alloc);
-    for name in names {
-        match lent.push(name.as_slice()) {
-            Ok(_) => {}
-            Err(_) => return Err(AllocError),
-        }
-    }
-    Ok(lent)
-}
-
-/// The subset of a font over the glyphs of these numbers, where its closure has as many glyphs.
-fn cut<'a>(alloc: Global, font: &Font<'a>, numbers: Range<u32>) -> Result<Font<'a>, SubsetFault> {
-    let Ok(names) = names(alloc, numbers) else {
-        return Err(SubsetFault::Memory);
-    };
-    let Ok(lent) = lent(alloc, names.as_slice()) else {
-        return Err(SubsetFault::Memory);
-    };
-    let closed = closure(alloc, font, lent.as_slice())?.names.len();
-    let cut = subset(alloc, font, lent.as_slice())?;
-    if closed == cut.names().count() {
-        Ok(cut)
+/// The subset of a file's font over glyphs of these names, where its closure keeps this many.
+fn cut_of(alloc: Global, file: &[u8], names: &[&[u8]], count: usize) -> Vec<u8> {
+    let cut = cut(alloc, file, names);
+    if count_kept(alloc, file, names) == count && glyph_count(alloc, cut.as_slice()) == count {
+        cut
     } else {
-        drop(cut);
-        Err(SubsetFault::Memory)
+        Vec::new(alloc)
     }
 }
 
-/// How many glyphs two fonts come to.
-fn merged_count<'a>(alloc: Global, one: &Font<'a>, other: &Font<'a>) -> Option<usize> {
-    match merge(alloc, one, other) {
-        Ok(both) => {
-            let count = Some(both.names().count());
-            drop(both);
-            count
-        }
-        Err(_) => None,
+/// The same over these names.
+fn cut_by_names(alloc: Global, file: &[u8], names: &[Vec<u8>]) -> Vec<u8> {
+    match lent(alloc, names) {
+        Ok(lent) => cut_of(alloc, file, lent.as_slice(), names.len().saturating_add(1)),
+        Err(_) => Vec::new(alloc),
     }
 }
 
-/// How many glyphs fonts come to.
-fn count_of_all(alloc: Global, fonts: &[Font<'_>]) -> Option<usize> {
-    match merge_all(alloc, fonts) {
-        Ok(all) => {
-            let count = Some(all.names().count());
-            drop(all);
-            count
-        }
-        Err(_) => None,
+/// The subset of a file's font over the glyphs of these numbers, where it has these and `.notdef`.
+fn numbered_cut(alloc: Global, file: &[u8], numbers: Range<u32>) -> Vec<u8> {
+    match names(alloc, numbers) {
+        Ok(names) => cut_by_names(alloc, file, names.as_slice()),
+        Err(_) => Vec::new(alloc),
     }
 }
 
-/// How many glyphs two fonts come to by `merge` and by `merge_all`.
-fn counts_of_two<'a>(
-    alloc: Global,
-    one: Font<'a>,
-    other: Font<'a>,
-) -> (Option<usize>, Option<usize>) {
-    let two = merged_count(alloc, &one, &other);
-    (two, count_of_all(alloc, &[one, other]))
-}
-
-/// The same of a font and a subset of another.
-fn counts_with<'a>(
-    alloc: Global,
-    one: Font<'a>,
-    font: &Font<'a>,
-    numbers: Range<u32>,
-) -> (Option<usize>, Option<usize>) {
-    match cut(alloc, font, numbers) {
-        Ok(other) => counts_of_two(alloc, one, other),
-        Err(_) => {
-            drop(one);
-            (None, None)
-        }
+/// How many glyphs names of a file's font keep.
+fn count_kept(alloc: Global, file: &[u8], names: &[&[u8]]) -> usize {
+    match kept(alloc, file, names) {
+        Ok(text) => text.iter().filter(|byte| **byte == b' ').count(),
+        Err(_) => 0,
     }
 }
 
-/// The same of two subsets of a font.
-fn counts_of_cuts(
-    alloc: Global,
-    font: &Font<'_>,
-    one: Range<u32>,
-    other: Range<u32>,
-) -> (Option<usize>, Option<usize>) {
-    match cut(alloc, font, one) {
-        Ok(one) => counts_with(alloc, one, font, other),
-        Err(_) => (None, None),
-    }
-}
-
-/// The same of two subsets of a source's font.
-fn lent_counts(
-    alloc: Global,
-    source: &Source,
-    one: Range<u32>,
-    other: Range<u32>,
-) -> (Option<usize>, Option<usize>) {
+/// How many glyphs a source's font has.
+fn lent_count(alloc: Global, source: &Source) -> usize {
     match source.font(alloc) {
         Ok(font) => {
-            let counts = counts_of_cuts(alloc, &font, one, other);
+            let count = font.names().count();
             drop(font);
-            counts
+            count
         }
-        Err(_) => (None, None),
+        Err(_) => 0,
     }
 }
 
-/// The same of two subsets of a file's font.
-fn counts(
-    alloc: Global,
-    file: &[u8],
-    one: Range<u32>,
-    other: Range<u32>,
-) -> (Option<usize>, Option<usize>) {
+/// How many glyphs a file's font has.
+fn glyph_count(alloc: Global, file: &[u8]) -> usize {
     match read(alloc, file) {
         Ok(source) => {
-            let counts = lent_counts(alloc, &source, one, other);
+            let count = lent_count(alloc, &source);
             drop(source);
-            counts
+            count
         }
-        Err(_) => (None, None),
+        Err(_) => 0,
+    }
+}
+
+/// How many glyphs two fonts come to, by both calls.
+fn merged_count(alloc: Global, one: &[u8], other: &[u8]) -> usize {
+    let two = merged(alloc, one, other);
+    let all = all_merged(alloc, &[one, other]).unwrap_or(Vec::new(alloc));
+    if two.as_slice() == all.as_slice() {
+        glyph_count(alloc, all.as_slice())
+    } else {
+        0
     }
 }
 
@@ -170,81 +114,30 @@ fn counts(
 fn thousands_of_glyphs(rt: HostRuntime) -> Result<(), Fail> {
     // Each is `0 0 hsbw 5 callsubr endchar`.
     let file = many(rt.alloc(), 0..6000, b"\x8b\x8b\x0d\x90\x0a\x0e")?;
-    let got = counts(rt.alloc(), file.as_slice(), 0..3500, 2500..6000);
-    assert_eq!(rt; got, (Some(6001), Some(6001)));
+    let one = numbered_cut(rt.alloc(), file.as_slice(), 0..3500);
+    let other = numbered_cut(rt.alloc(), file.as_slice(), 2500..6000);
+    let got = merged_count(rt.alloc(), one.as_slice(), other.as_slice());
+    assert_eq!(rt; got, 6001);
     Ok(())
 }
 
-/// Why two fonts don't merge.
-fn fault_of<'a>(alloc: Global, one: &Font<'a>, other: &Font<'a>) -> Option<Conflict> {
-    match merge(alloc, one, other) {
-        Ok(both) => {
-            drop(both);
-            None
-        }
-        Err(conflict) => Some(conflict),
-    }
-}
-
-/// Whether two fonts are too heavy together, and the first is not with itself.
-fn over_together<'a>(alloc: Global, one: &Font<'a>, other: &Font<'a>) -> bool {
-    fault_of(alloc, one, other) == Some(Conflict::Limit) && fault_of(alloc, one, one).is_none()
-}
-
-/// The same of a font and that of a source.
-fn over_with<'a>(alloc: Global, one: &Font<'a>, other: &'a Source) -> bool {
-    match other.font(alloc) {
-        Ok(other) => {
-            let over = over_together(alloc, one, &other);
-            drop(other);
-            over
-        }
-        Err(_) => false,
-    }
-}
-
-/// The same of the fonts of two sources.
-fn lent_over<'a>(alloc: Global, one: &'a Source, other: &'a Source) -> bool {
-    match one.font(alloc) {
-        Ok(one) => {
-            let over = over_with(alloc, &one, other);
-            drop(one);
-            over
-        }
-        Err(_) => false,
-    }
-}
-
-/// The same of the fonts of a source and of a file.
-fn too_heavy_with(alloc: Global, one: &Source, other: &[u8]) -> bool {
-    match read(alloc, other) {
-        Ok(other) => {
-            let over = lent_over(alloc, one, &other);
-            drop(other);
-            over
-        }
-        Err(_) => false,
-    }
-}
-
-/// The same of the fonts of two files.
+/// Whether two fonts are too heavy together, in both orders, and the first is not with itself.
 fn too_heavy(alloc: Global, one: &[u8], other: &[u8]) -> bool {
-    match read(alloc, one) {
-        Ok(one) => {
-            let over = too_heavy_with(alloc, &one, other);
-            drop(one);
-            over
-        }
-        Err(_) => false,
-    }
+    let is_over = matches!(conflict(alloc, one, other), Some(Conflict::Limit));
+    is_over && !merged(alloc, one, one).is_empty()
+}
+
+/// The file of the glyphs of these numbers, each of 65,000 bytes.
+fn heavy(alloc: Global, numbers: Range<u32>) -> Result<Vec<u8>, AllocError> {
+    let mut plain = Vec::new(alloc);
+    plain.resize(65_000, 14)?;
+    many(alloc, numbers, plain.as_slice())
 }
 
 #[test]
 fn a_merger_that_weighs_too_much(rt: HostRuntime) -> Result<(), Fail> {
-    let mut plain = Vec::new(rt.alloc());
-    plain.resize(65_000, 14)?;
-    let one = many(rt.alloc(), 0..520, plain.as_slice())?;
-    let other = many(rt.alloc(), 520..1040, plain.as_slice())?;
+    let one = heavy(rt.alloc(), 0..520)?;
+    let other = heavy(rt.alloc(), 520..1040)?;
     assert!(rt; too_heavy(rt.alloc(), one.as_slice(), other.as_slice()));
     assert!(rt; too_heavy(rt.alloc(), other.as_slice(), one.as_slice()));
     Ok(())

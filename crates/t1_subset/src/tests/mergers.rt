@@ -1,26 +1,83 @@
 //! Mergers of two and of many fonts, and each conflict with its data, in both orders.
 
-use super::fonts::{ACCENTED, GLYPHS, SHELL, SUBRS, Shell, cut, font, whole, written};
+use super::fonts::{
+    ACCENTED, GLYPHS, SHELL, SUBRS, Shell, cut, font, lent, replaced, whole, with_glyph,
+    with_shell, with_subr, written,
+};
 use crate::{Conflict, ShellPart, merge, merge_all};
 use std::alloc::{AllocError, Global};
 use std::test::Fail;
 use t1_font::{Font, Form, Source, read, write};
 
-/// Why two fonts don't merge.
-fn refusal<'a>(alloc: Global, left: &Font<'a>, right: &Font<'a>) -> Option<Conflict> {
+/// The canonical PFB of what two fonts come to; why they don't merge.
+fn merger<'a>(alloc: Global, left: &Font<'a>, right: &Font<'a>) -> Result<Vec<u8>, Conflict> {
     match merge(alloc, left, right) {
         Ok(both) => {
+            let file = written(alloc, &both);
             drop(both);
-            None
+            Ok(file)
         }
-        Err(conflict) => Some(conflict),
+        Err(conflict) => Err(conflict),
     }
 }
 
-/// Why two fonts don't merge, where both orders say the same.
-fn refusal_of_both<'a>(alloc: Global, left: &Font<'a>, right: &Font<'a>) -> Option<Conflict> {
-    let one = refusal(alloc, left, right);
-    let other = refusal(alloc, right, left);
+/// The same of a font and that of a source.
+fn merger_with<'a>(alloc: Global, left: &Font<'a>, right: &'a Source) -> Result<Vec<u8>, Conflict> {
+    match right.font(alloc) {
+        Ok(right) => {
+            let answer = merger(alloc, left, &right);
+            drop(right);
+            answer
+        }
+        Err(_) => Err(Conflict::Memory),
+    }
+}
+
+/// The same of the fonts of two sources.
+fn lent_two<'a>(alloc: Global, left: &'a Source, right: &'a Source) -> Result<Vec<u8>, Conflict> {
+    match left.font(alloc) {
+        Ok(left) => {
+            let answer = merger_with(alloc, &left, right);
+            drop(left);
+            answer
+        }
+        Err(_) => Err(Conflict::Memory),
+    }
+}
+
+/// The same of the fonts of a source and of a file.
+fn answer_with(alloc: Global, left: &Source, right: &[u8]) -> Result<Vec<u8>, Conflict> {
+    match read(alloc, right) {
+        Ok(right) => {
+            let answer = lent_two(alloc, left, &right);
+            drop(right);
+            answer
+        }
+        Err(_) => Err(Conflict::Memory),
+    }
+}
+
+/// The same of the fonts of two files.
+fn answer(alloc: Global, left: &[u8], right: &[u8]) -> Result<Vec<u8>, Conflict> {
+    match read(alloc, left) {
+        Ok(left) => {
+            let answer = answer_with(alloc, &left, right);
+            drop(left);
+            answer
+        }
+        Err(_) => Err(Conflict::Memory),
+    }
+}
+
+/// The canonical PFB of what the fonts of two files come to; nothing where they don't merge.
+pub fn merged(alloc: Global, left: &[u8], right: &[u8]) -> Vec<u8> {
+    answer(alloc, left, right).unwrap_or(Vec::new(alloc))
+}
+
+/// Why the fonts of two files don't merge, where both orders say the same.
+pub fn conflict(alloc: Global, left: &[u8], right: &[u8]) -> Option<Conflict> {
+    let one = answer(alloc, left, right).err();
+    let other = answer(alloc, right, left).err();
     let is_same = one == other;
     drop(other);
     if is_same {
@@ -30,194 +87,86 @@ fn refusal_of_both<'a>(alloc: Global, left: &Font<'a>, right: &Font<'a>) -> Opti
     None
 }
 
-/// The same of a font and that of a source.
-fn refusal_with<'a>(alloc: Global, left: &Font<'a>, right: &'a Source) -> Option<Conflict> {
-    match right.font(alloc) {
-        Ok(right) => {
-            let told = refusal_of_both(alloc, left, &right);
-            drop(right);
-            told
-        }
-        Err(_) => None,
-    }
-}
-
-/// The same of the fonts of two sources.
-fn lent_refusal<'a>(alloc: Global, left: &'a Source, right: &'a Source) -> Option<Conflict> {
-    match left.font(alloc) {
-        Ok(left) => {
-            let told = refusal_with(alloc, &left, right);
-            drop(left);
-            told
-        }
-        Err(_) => None,
-    }
-}
-
-/// The same of the fonts of a source and of a file.
-fn conflict_with(alloc: Global, left: &Source, right: &[u8]) -> Option<Conflict> {
-    match read(alloc, right) {
-        Ok(right) => {
-            let told = lent_refusal(alloc, left, &right);
-            drop(right);
-            told
-        }
-        Err(_) => None,
-    }
-}
-
-/// Why the fonts of two files don't merge, where both orders say the same.
-fn conflict(alloc: Global, left: &[u8], right: &[u8]) -> Option<Conflict> {
-    match read(alloc, left) {
-        Ok(left) => {
-            let told = conflict_with(alloc, &left, right);
-            drop(left);
-            told
-        }
-        Err(_) => None,
-    }
-}
-
-/// The canonical PFB of what two fonts come to, where they merge.
-fn both<'a>(alloc: Global, left: &Font<'a>, right: &Font<'a>) -> Vec<u8> {
-    match merge(alloc, left, right) {
-        Ok(both) => {
-            let file = written(alloc, &both);
-            drop(both);
-            file
-        }
-        Err(_) => Vec::new(alloc),
-    }
-}
-
-/// The same of a font and that of a source.
-fn both_with<'a>(alloc: Global, left: &Font<'a>, right: &'a Source) -> Vec<u8> {
-    match right.font(alloc) {
-        Ok(right) => {
-            let file = both(alloc, left, &right);
-            drop(right);
-            file
-        }
-        Err(_) => Vec::new(alloc),
-    }
-}
-
-/// The same of the fonts of two sources.
-fn lent_both<'a>(alloc: Global, left: &'a Source, right: &'a Source) -> Vec<u8> {
-    match left.font(alloc) {
-        Ok(left) => {
-            let file = both_with(alloc, &left, right);
-            drop(left);
-            file
-        }
-        Err(_) => Vec::new(alloc),
-    }
-}
-
-/// The same of the fonts of a source and of a file.
-fn merged_with(alloc: Global, left: &Source, right: &[u8]) -> Vec<u8> {
-    match read(alloc, right) {
-        Ok(right) => {
-            let file = lent_both(alloc, left, &right);
-            drop(right);
-            file
-        }
-        Err(_) => Vec::new(alloc),
-    }
-}
-
-/// The same of the fonts of two files.
-pub fn merged(alloc: Global, left: &[u8], right: &[u8]) -> Vec<u8> {
-    match read(alloc, left) {
-        Ok(left) => {
-            let file = merged_with(alloc, &left, right);
-            drop(left);
-            file
-        }
-        Err(_) => Vec::new(alloc),
-    }
-}
-
-/// One part of a shell, as a file spells it.
-#[derive(Clone, Copy)]
-enum Change {
-    Head(&'static [u8]),
-    Encoding(&'static [u8]),
-    ClearTail(&'static [u8]),
-    Private(&'static [u8]),
-    Subrs(&'static [u8]),
-    Put(&'static [u8]),
-    Closing(&'static [u8]),
-    Middle(&'static [u8]),
-    Def(&'static [u8]),
-    Tail(&'static [u8]),
-}
-
-/// A shell with one part changed.
-fn with(change: Change, shell: Shell) -> Shell {
-    match change {
-        Change::Head(head) => Shell { head, ..shell },
-        Change::Encoding(encoding) => Shell { encoding, ..shell },
-        Change::ClearTail(clear_tail) => Shell {
-            clear_tail,
-            ..shell
-        },
-        Change::Private(private) => Shell { private, ..shell },
-        Change::Subrs(subrs) => Shell { subrs, ..shell },
-        Change::Put(put) => Shell { put, ..shell },
-        Change::Closing(closing) => Shell { closing, ..shell },
-        Change::Middle(middle) => Shell { middle, ..shell },
-        Change::Def(def) => Shell { def, ..shell },
-        Change::Tail(tail) => Shell { tail, ..shell },
-    }
-}
-
-/// The shell above with these parts changed.
-fn changed(changes: &[Change]) -> Shell {
-    let mut shell = SHELL;
-    for change in changes {
-        shell = with(*change, shell);
-    }
-    shell
-}
-
-/// What is changed in shells that differ from the one above, and the part that is told; of two parts that differ it is
-/// the first.
-const CHANGED: &[(&[Change], ShellPart)] = &[
-    (&[Change::Head(b"%!x\n")], ShellPart::Head),
+/// Shells that differ from the one above, and the part that is told; of two parts that differ it is the first.
+const CHANGED: &[(Shell, ShellPart)] = &[
     (
-        &[Change::Encoding(b"/Encoding StandardEncoding def")],
+        Shell {
+            head: b"%!x\n",
+            ..SHELL
+        },
+        ShellPart::Head,
+    ),
+    (
+        Shell {
+            encoding: b"/Encoding StandardEncoding def",
+            ..SHELL
+        },
         ShellPart::Encoding,
     ),
     (
-        &[Change::ClearTail(b"\n\ncurrentfile eexec ")],
+        Shell {
+            clear_tail: b"\n\ncurrentfile eexec ",
+            ..SHELL
+        },
         ShellPart::ClearTail,
     ),
     (
-        &[Change::Private(b"/lenIV 0 def /password 1 def\n")],
+        Shell {
+            private: b"/lenIV 0 def /password 1 def\n",
+            ..SHELL
+        },
         ShellPart::Private,
     ),
     (
-        &[Change::Subrs(b"/Subrs 11 array\n")],
+        Shell {
+            subrs: b"/Subrs 11 array\n",
+            ..SHELL
+        },
         ShellPart::SubrsTable,
     ),
     (
-        &[Change::Subrs(b""), Change::Middle(b"")],
+        Shell {
+            subrs: b"",
+            middle: b"",
+            ..SHELL
+        },
         ShellPart::SubrsTable,
     ),
-    (&[Change::Put(b"|")], ShellPart::SubrsWords),
-    (&[Change::Closing(b"|-\n")], ShellPart::SubrsWords),
-    (&[Change::Middle(b"3 index ")], ShellPart::Middle),
-    (&[Change::Def(b"|-")], ShellPart::GlyphsWords),
+    (Shell { put: b"|", ..SHELL }, ShellPart::SubrsWords),
     (
-        &[Change::Tail(b"\nmark currentfile closefile")],
+        Shell {
+            closing: b"|-\n",
+            ..SHELL
+        },
+        ShellPart::SubrsWords,
+    ),
+    (
+        Shell {
+            middle: b"3 index ",
+            ..SHELL
+        },
+        ShellPart::Middle,
+    ),
+    (
+        Shell {
+            def: b"|-",
+            ..SHELL
+        },
+        ShellPart::GlyphsWords,
+    ),
+    (
+        Shell {
+            tail: b"\nmark currentfile closefile",
+            ..SHELL
+        },
         ShellPart::Tail,
     ),
     (
-        &[
-            Change::Tail(b"\nmark currentfile closefile"),
-            Change::Middle(b"3 index "),
-        ],
+        Shell {
+            middle: b"3 index ",
+            tail: b"\nmark currentfile closefile",
+            ..SHELL
+        },
         ShellPart::Middle,
     ),
 ];
@@ -241,14 +190,14 @@ fn shell_differs(
     shell: &Shell,
     part: ShellPart,
 ) -> Result<bool, AllocError> {
-    let other = font(alloc, shell, &SUBRS, &GLYPHS)?;
+    let other = with_shell(alloc, shell)?;
     Ok(differs(alloc, file, other.as_slice(), part))
 }
 
 /// The first part of the shells above that isn't told.
 fn first_untold(alloc: Global, file: &[u8]) -> Result<Option<ShellPart>, AllocError> {
-    for &(changes, part) in CHANGED {
-        if !shell_differs(alloc, file, &changed(changes), part)? {
+    for &(ref shell, part) in CHANGED {
+        if !shell_differs(alloc, file, shell, part)? {
             return Ok(Some(part));
         }
     }
@@ -265,18 +214,21 @@ fn shells_that_differ(rt: HostRuntime) -> Result<(), Fail> {
 #[test]
 fn an_index_that_one_font_lacks(rt: HostRuntime) -> Result<(), Fail> {
     let one = whole(rt.alloc())?;
-    let few = font(rt.alloc(), &SHELL, &SUBRS[..9], &GLYPHS)?;
+    let few = font(rt.alloc(), &SHELL, &SUBRS[..9], GLYPHS)?;
     let table = ShellPart::SubrsTable;
     assert!(rt; differs(rt.alloc(), one.as_slice(), few.as_slice(), table));
     Ok(())
 }
 
+/// The file of the font above with this for its Encoding.
+fn encoded(alloc: Global, encoding: &'static [u8]) -> Result<Vec<u8>, AllocError> {
+    with_shell(alloc, &Shell { encoding, ..SHELL })
+}
+
 #[test]
 fn two_words_of_encodings(rt: HostRuntime) -> Result<(), Fail> {
-    let encoding = b"/Encoding One def";
-    let one = font(rt.alloc(), &Shell { encoding, ..SHELL }, &SUBRS, &GLYPHS)?;
-    let encoding = b"/Encoding Two def";
-    let other = font(rt.alloc(), &Shell { encoding, ..SHELL }, &SUBRS, &GLYPHS)?;
+    let one = encoded(rt.alloc(), b"/Encoding One def")?;
+    let other = encoded(rt.alloc(), b"/Encoding Two def")?;
     let part = ShellPart::Encoding;
     assert!(rt; differs(rt.alloc(), one.as_slice(), other.as_slice(), part));
     Ok(())
@@ -329,19 +281,23 @@ pub fn subr_differs(
 #[test]
 fn codes_that_differ(rt: HostRuntime) -> Result<(), Fail> {
     let one = whole(rt.alloc())?;
-    let encoding = b"/Encoding 256 array dup 65 /X put dup 66 /A put dup 67 /A put def";
-    let other = font(rt.alloc(), &Shell { encoding, ..SHELL }, &SUBRS, &GLYPHS)?;
+    let codes = b"/Encoding 256 array dup 65 /X put dup 66 /A put dup 67 /A put def";
+    let other = encoded(rt.alloc(), codes)?;
     assert!(rt; code_differs(rt.alloc(), one.as_slice(), other.as_slice(), 66));
     Ok(())
+}
+
+/// The file of the font above with another A and another B.
+fn with_a_and_b(alloc: Global) -> Result<Vec<u8>, AllocError> {
+    let a = replaced(alloc, GLYPHS, 1, (b"A", b"\x0e"))?;
+    let both = replaced(alloc, a.as_slice(), 3, (b"B", b"\x0e"))?;
+    font(alloc, &SHELL, SUBRS, both.as_slice())
 }
 
 #[test]
 fn glyphs_that_differ(rt: HostRuntime) -> Result<(), Fail> {
     let one = whole(rt.alloc())?;
-    let mut glyphs = GLYPHS;
-    glyphs[1] = (b"A", b"\x0e");
-    glyphs[3] = (b"B", b"\x0e");
-    let other = font(rt.alloc(), &SHELL, &SUBRS, &glyphs)?;
+    let other = with_a_and_b(rt.alloc())?;
     assert!(rt; glyph_differs(rt.alloc(), one.as_slice(), other.as_slice(), b"A"));
     Ok(())
 }
@@ -349,9 +305,7 @@ fn glyphs_that_differ(rt: HostRuntime) -> Result<(), Fail> {
 #[test]
 fn a_subr_that_no_glyph_executes(rt: HostRuntime) -> Result<(), Fail> {
     let one = whole(rt.alloc())?;
-    let mut subrs = SUBRS;
-    subrs[8] = (b"8", b"\x0e");
-    let other = font(rt.alloc(), &SHELL, &subrs, &GLYPHS)?;
+    let other = with_subr(rt.alloc(), 8, (b"8", b"\x0e"))?;
     assert!(rt; subr_differs(rt.alloc(), one.as_slice(), other.as_slice(), 8, None));
     Ok(())
 }
@@ -369,10 +323,10 @@ pub fn lacks_component(alloc: Global, left: &[u8], right: &[u8], of: &[u8], want
 }
 
 /// The sources of files.
-fn sources(alloc: Global, files: &[Vec<u8>]) -> Result<Vec<Source>, AllocError> {
+fn sources(alloc: Global, files: &[&[u8]]) -> Result<Vec<Source>, AllocError> {
     let mut sources = Vec::new(alloc);
     for file in files {
-        let Ok(source) = read(alloc, file.as_slice()) else {
+        let Ok(source) = read(alloc, file) else {
             return Err(AllocError);
         };
         if sources.push(source).is_err() {
@@ -383,7 +337,7 @@ fn sources(alloc: Global, files: &[Vec<u8>]) -> Result<Vec<Source>, AllocError> 
 }
 
 /// The fonts that sources lend.
-fn lent<'a>(alloc: Global, sources: &'a [Source]) -> Result<Vec<Font<'a>>, AllocError> {
+fn fonts<'a>(alloc: Global, sources: &'a [Source]) -> Result<Vec<Font<'a>>, AllocError> {
     let mut fonts = Vec::new(alloc);
     for source in sources {
         if fonts.push(source.font(alloc)?).is_err() {
@@ -401,14 +355,14 @@ fn written_merger(alloc: Global, fonts: &[Font<'_>]) -> Result<Vec<u8>, Conflict
 
 /// The same of the fonts of sources.
 fn lent_merger(alloc: Global, sources: &[Source]) -> Result<Vec<u8>, Conflict> {
-    match lent(alloc, sources) {
+    match fonts(alloc, sources) {
         Ok(fonts) => written_merger(alloc, fonts.as_slice()),
         Err(_) => Err(Conflict::Memory),
     }
 }
 
 /// The same of the fonts of files.
-pub fn all_merged(alloc: Global, files: &[Vec<u8>]) -> Result<Vec<u8>, Conflict> {
+pub fn all_merged(alloc: Global, files: &[&[u8]]) -> Result<Vec<u8>, Conflict> {
     match sources(alloc, files) {
         Ok(sources) => lent_merger(alloc, sources.as_slice()),
         Err(_) => Err(Conflict::Memory),
@@ -435,20 +389,35 @@ const LISTS: &[(&[&[&[u8]]], &[&[u8]])] = &[
     (&[&[b"A"], &[b"Aacute"], &[b"A"]], &[b"Aacute"]),
 ];
 
+/// What files come to, merged from left to right; nothing where they don't merge.
+fn list_merged(alloc: Global, files: &[Vec<u8>]) -> Vec<u8> {
+    match lent(alloc, files) {
+        Ok(files) => all_merged(alloc, files.as_slice()).unwrap_or(Vec::new(alloc)),
+        Err(_) => Vec::new(alloc),
+    }
+}
+
+/// Whether the subsets of a file's font over each of these sets of names come to that over all of them.
+fn cuts_merge(alloc: Global, file: &[u8], sets: &[&[&[u8]]], all: &[&[u8]]) -> bool {
+    let want = cut(alloc, file, all);
+    match cuts(alloc, file, sets) {
+        Ok(files) => list_merged(alloc, files.as_slice()).as_slice() == want.as_slice(),
+        Err(_) => false,
+    }
+}
+
 #[test]
 fn subsets_of_one_font(rt: HostRuntime) -> Result<(), Fail> {
     let file = whole(rt.alloc())?;
     for &(sets, all) in LISTS {
-        let files = cuts(rt.alloc(), file.as_slice(), sets)?;
-        let want = cut(rt.alloc(), file.as_slice(), all);
-        let got = all_merged(rt.alloc(), files.as_slice())?;
-        assert!(rt; got.as_slice() == want.as_slice(), "{} subsets", sets.len());
+        let merge = cuts_merge(rt.alloc(), file.as_slice(), sets, all);
+        assert!(rt; merge, "{} subsets", sets.len());
     }
     Ok(())
 }
 
 /// Whether files are refused from left to right for the glyph of this name.
-fn last_glyph_differs(alloc: Global, files: &[Vec<u8>], want: &[u8]) -> bool {
+fn last_glyph_differs(alloc: Global, files: &[&[u8]], want: &[u8]) -> bool {
     match all_merged(alloc, files) {
         Err(Conflict::Glyph { name }) => name.as_slice() == want,
         _ => false,
@@ -461,13 +430,17 @@ fn no_fonts(rt: HostRuntime) {
     assert_eq!(rt; empty, Some(Conflict::Empty));
 }
 
+/// Whether the subsets of a font over acute and over X and another font are refused for acute.
+fn last_acute_differs(alloc: Global, file: &[u8], other: &[u8]) -> bool {
+    let acute = cut(alloc, file, &[b"acute"]);
+    let x = cut(alloc, file, &[b"X"]);
+    last_glyph_differs(alloc, &[acute.as_slice(), x.as_slice(), other], b"acute")
+}
+
 #[test]
 fn the_first_and_the_last_differ(rt: HostRuntime) -> Result<(), Fail> {
     let file = whole(rt.alloc())?;
-    let mut files = cuts(rt.alloc(), file.as_slice(), &[&[b"acute"], &[b"X"]])?;
-    let mut glyphs = GLYPHS;
-    glyphs[8] = (b"acute", ACCENTED);
-    files.push(font(rt.alloc(), &SHELL, &SUBRS, &glyphs)?)?;
-    assert!(rt; last_glyph_differs(rt.alloc(), files.as_slice(), b"acute"));
+    let other = with_glyph(rt.alloc(), 9, (b"acute", ACCENTED))?;
+    assert!(rt; last_acute_differs(rt.alloc(), file.as_slice(), other.as_slice()));
     Ok(())
 }

@@ -1,7 +1,7 @@
 //! Mergers of subsets of three fonts that differ: the font of the other tests, the same with a Subr 5 that is `return`, and
 //! the same without the glyph acute.
 
-use super::fonts::{GLYPHS, SHELL, SUBRS, cut, font, whole, written};
+use super::fonts::{GLYPHS, SHELL, SUBRS, cut, font, whole, with_subr, written};
 use super::mergers::{all_merged, lacks_component, merged, subr_differs};
 use std::alloc::{AllocError, Global};
 use std::test::Fail;
@@ -10,15 +10,13 @@ use t1_run::{DrawFault, Drawing, draw};
 
 /// The subset over X of the font whose Subr 5 is `return`.
 fn x_of_another(alloc: Global) -> Result<Vec<u8>, AllocError> {
-    let mut subrs = SUBRS;
-    subrs[5] = (b"5", b"\x0b");
-    let other = font(alloc, &SHELL, &subrs, &GLYPHS)?;
+    let other = with_subr(alloc, 5, (b"5", b"\x0b"))?;
     Ok(cut(alloc, other.as_slice(), &[b"X"]))
 }
 
 /// The subset over Aacute of the font without acute.
 fn aacute_alone(alloc: Global) -> Result<Vec<u8>, AllocError> {
-    let other = font(alloc, &SHELL, &SUBRS, &GLYPHS[..8])?;
+    let other = font(alloc, &SHELL, SUBRS, &GLYPHS[..9])?;
     Ok(cut(alloc, other.as_slice(), &[b"Aacute"]))
 }
 
@@ -64,22 +62,18 @@ fn comes_to(alloc: Global, left: &[u8], right: &[u8], names: &[&[u8]], want: &[u
         && cut(alloc, one.as_slice(), names).as_slice() == want
 }
 
+/// Whether the subset of a font over A and a subset over this name come to a font of which that is the subset again.
+fn keeps(alloc: Global, file: &[u8], other: &[u8], name: &[u8]) -> bool {
+    let a = cut(alloc, file, &[b"A"]);
+    comes_to(alloc, a.as_slice(), other, &[name], other)
+}
+
 #[test]
 fn a_stub_that_is_used(rt: HostRuntime) -> Result<(), Fail> {
     let file = whole(rt.alloc())?;
     let used = x_of_another(rt.alloc())?;
-    let y = cut(rt.alloc(), file.as_slice(), &[b"Y"]);
-    assert!(rt; subr_differs(rt.alloc(), y.as_slice(), used.as_slice(), 5, Some(b"X")));
-    let a = cut(rt.alloc(), file.as_slice(), &[b"A"]);
-    assert!(rt;
-        comes_to(
-            rt.alloc(),
-            a.as_slice(),
-            used.as_slice(),
-            &[b"X"],
-            used.as_slice()
-        )
-    );
+    assert!(rt; y_differs(rt.alloc(), file.as_slice(), used.as_slice()));
+    assert!(rt; keeps(rt.alloc(), file.as_slice(), used.as_slice(), b"X"));
     Ok(())
 }
 
@@ -93,51 +87,54 @@ const ORDERS: &[[usize; 3]] = &[
     [2, 1, 0],
 ];
 
-/// Whether files are refused at once.
-fn is_refused(alloc: Global, files: &[&[u8]]) -> Result<bool, AllocError> {
-    let mut list = Vec::new(alloc);
-    for file in files {
-        list.push(Vec::from_slice(alloc, file)?)?;
-    }
-    Ok(all_merged(alloc, list.as_slice()).is_err())
-}
-
 /// Whether three files are refused in this order, at once and in both groupings.
-fn three_are_refused(
-    alloc: Global,
-    one: &[u8],
-    two: &[u8],
-    three: &[u8],
-) -> Result<bool, AllocError> {
+fn three_are_refused(alloc: Global, one: &[u8], two: &[u8], three: &[u8]) -> bool {
     let front = merged(alloc, one, two);
     let back = merged(alloc, two, three);
     let from_left = merged(alloc, front.as_slice(), three);
     let from_right = merged(alloc, one, back.as_slice());
-    let at_once = is_refused(alloc, &[one, two, three])?;
-    Ok(at_once && from_left.is_empty() && from_right.is_empty())
+    let at_once = all_merged(alloc, &[one, two, three]).is_err();
+    at_once && from_left.is_empty() && from_right.is_empty()
 }
 
 /// The first order in which three files are not refused.
-fn first_accepted(alloc: Global, files: &[&[u8]; 3]) -> Result<Option<[usize; 3]>, AllocError> {
+fn first_accepted(alloc: Global, files: &[&[u8]; 3]) -> Option<[usize; 3]> {
     for &order in ORDERS {
         let [one, two, three] = order;
-        if !three_are_refused(alloc, files[one], files[two], files[three])? {
-            return Ok(Some(order));
+        if !three_are_refused(alloc, files[one], files[two], files[three]) {
+            return Some(order);
         }
     }
-    Ok(None)
+    None
+}
+
+/// The first order in which these are not refused: the subsets of a font over A and over Y, and one with another Subr 5.
+fn first_accepted_with(alloc: Global, file: &[u8], used: &[u8]) -> Option<[usize; 3]> {
+    let y = cut(alloc, file, &[b"Y"]);
+    let a = cut(alloc, file, &[b"A"]);
+    first_accepted(alloc, &[a.as_slice(), used, y.as_slice()])
+}
+
+/// Whether the merger of the subset over A with the other one is refused beside that over Y, since X executes Subr 5.
+fn merger_differs(alloc: Global, file: &[u8], used: &[u8]) -> bool {
+    let a = cut(alloc, file, &[b"A"]);
+    let both = merged(alloc, a.as_slice(), used);
+    y_differs(alloc, file, both.as_slice())
+}
+
+/// Whether a file is refused beside the subset over Y, since X executes Subr 5.
+fn y_differs(alloc: Global, file: &[u8], used: &[u8]) -> bool {
+    let y = cut(alloc, file, &[b"Y"]);
+    subr_differs(alloc, y.as_slice(), used, 5, Some(b"X"))
 }
 
 #[test]
 fn three_fonts_of_which_two_differ(rt: HostRuntime) -> Result<(), Fail> {
     let file = whole(rt.alloc())?;
     let used = x_of_another(rt.alloc())?;
-    let y = cut(rt.alloc(), file.as_slice(), &[b"Y"]);
-    let a = cut(rt.alloc(), file.as_slice(), &[b"A"]);
-    let files = [a.as_slice(), used.as_slice(), y.as_slice()];
-    assert_eq!(rt; first_accepted(rt.alloc(), &files)?, None);
-    let both = merged(rt.alloc(), a.as_slice(), used.as_slice());
-    assert!(rt; subr_differs(rt.alloc(), both.as_slice(), y.as_slice(), 5, Some(b"X")));
+    let accepted = first_accepted_with(rt.alloc(), file.as_slice(), used.as_slice());
+    assert_eq!(rt; accepted, None);
+    assert!(rt; merger_differs(rt.alloc(), file.as_slice(), used.as_slice()));
     Ok(())
 }
 
@@ -177,33 +174,25 @@ fn file_lacks_part(alloc: Global, file: &[u8], name: &[u8]) -> bool {
     }
 }
 
+/// Whether a file is refused beside the subset of a font over acute, since its Aacute lacks that component.
+fn lacks_acute(alloc: Global, accented: &[u8], file: &[u8]) -> bool {
+    let acute = cut(alloc, file, &[b"acute"]);
+    lacks_component(alloc, accented, acute.as_slice(), b"Aacute", b"acute")
+}
+
+/// Whether the merger of a file with the subset of a font over A is, too, and its Aacute lacks a part.
+fn merger_lacks_acute(alloc: Global, accented: &[u8], file: &[u8]) -> bool {
+    let a = cut(alloc, file, &[b"A"]);
+    let both = merged(alloc, accented, a.as_slice());
+    file_lacks_part(alloc, both.as_slice(), b"Aacute") && lacks_acute(alloc, both.as_slice(), file)
+}
+
 #[test]
 fn a_component_that_is_lacking(rt: HostRuntime) -> Result<(), Fail> {
     let file = whole(rt.alloc())?;
     let accented = aacute_alone(rt.alloc())?;
-    let acute = cut(rt.alloc(), file.as_slice(), &[b"acute"]);
-    let a = cut(rt.alloc(), file.as_slice(), &[b"A"]);
-    let both = merged(rt.alloc(), accented.as_slice(), a.as_slice());
-    assert!(rt;
-        comes_to(
-            rt.alloc(),
-            accented.as_slice(),
-            a.as_slice(),
-            &[b"Aacute"],
-            accented.as_slice()
-        )
-    );
-    assert!(rt; file_lacks_part(rt.alloc(), both.as_slice(), b"Aacute"));
-    for one in [accented, both] {
-        assert!(rt;
-            lacks_component(
-                rt.alloc(),
-                one.as_slice(),
-                acute.as_slice(),
-                b"Aacute",
-                b"acute"
-            )
-        );
-    }
+    assert!(rt; keeps(rt.alloc(), file.as_slice(), accented.as_slice(), b"Aacute"));
+    assert!(rt; lacks_acute(rt.alloc(), accented.as_slice(), file.as_slice()));
+    assert!(rt; merger_lacks_acute(rt.alloc(), accented.as_slice(), file.as_slice()));
     Ok(())
 }
