@@ -40,18 +40,22 @@ fn texts_join(alloc: Global, left: &[u8], right: &[u8], text: &[u8]) -> Result<b
     }
 }
 
-// Whether small tables join to as many keys as they have, two and four at a time.
-fn tables_join(alloc: Global) -> Result<bool, AllocError> {
+// Whether two small tables join to as many keys as they have.
+fn two_tables_join(alloc: Global) -> Result<bool, AllocError> {
     let one = small(alloc)?;
     let other = table(alloc, 11, 14, 1)?;
-    let two = keys_of_both(alloc, &one, &other)?;
-    let list = vec![in alloc;
-        one,
-        other,
-        table(alloc, 20, 22, 1)?,
-        table(alloc, 20, 21, 1)?,
-    ]?;
-    Ok(two == Some(6) && keys_of_all(alloc, list.as_slice())? == Some(8))
+    Ok(keys_of_both(alloc, &one, &other)? == Some(6))
+}
+
+// Whether four do, of which the last three have these keys.
+fn four_tables_join(alloc: Global) -> Result<bool, AllocError> {
+    const KEYS: &[(u16, u16)] = &[(11, 14), (20, 22), (20, 21)];
+    let mut list = Vec::new(alloc);
+    list.push(small(alloc)?)?;
+    for &(from, to) in KEYS {
+        list.push(table(alloc, from, to, 1)?)?;
+    }
+    Ok(keys_of_all(alloc, list.as_slice())? == Some(8))
 }
 
 // Whether flats join to what is in one of them.
@@ -79,7 +83,13 @@ fn answers_right(alloc: Global) -> Result<bool, AllocError> {
         b"G Y 0E\nS 5 ef060b\n",
         b"S 5 ef060b\nG X 8b0e\nG Y 0e\n",
     )?;
-    Ok(listings && digits_spell(alloc)? && tables_join(alloc)? && flats_join(alloc)?)
+    Ok(
+        listings
+            && digits_spell(alloc)?
+            && two_tables_join(alloc)?
+            && four_tables_join(alloc)?
+            && flats_join(alloc)?,
+    )
 }
 
 // `tools/sweep_growths.py` refuses one growth after the other: a call that then answers want of memory answers right when
