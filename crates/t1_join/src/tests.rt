@@ -1,5 +1,6 @@
+mod growths;
+
 use crate::flats::Flat;
-use crate::hexadecimal::Hex;
 use crate::keys::{Kept, Key};
 use crate::laws;
 use crate::listing::{self, JoinFault, ListFault, Listing};
@@ -54,61 +55,105 @@ fn small(alloc: Global) -> Result<Numbered, AllocError> {
     Ok(small)
 }
 
+// Whether that table is right.
+fn small_is_right(alloc: Global) -> Result<bool, AllocError> {
+    let small = small(alloc)?;
+    let upwards = small.entries().map(|(key, _)| *key).eq([3, 9, 10, 11]);
+    Ok(upwards && holds(&small, 10, 7))
+}
+
+// The key at which the small table is in conflict with another, if any, and the number of keys of both, where they join.
+fn small_with(
+    alloc: Global,
+    from: u16,
+    to: u16,
+    byte: u8,
+) -> Result<(Option<u16>, Option<usize>), AllocError> {
+    let small = small(alloc)?;
+    let other = table(alloc, from, to, byte)?;
+    let count = keys_of_both(alloc, &small, &other)?;
+    Ok((small.conflict(&other).copied(), count))
+}
+
 #[test]
 fn tables(rt: HostRuntime) -> Result<(), Fail> {
-    let alloc = rt.alloc();
-    let one = small(alloc)?;
-    assert!(rt; holds(&one, 10, 7), "the last value of a key stands");
-    let upwards = one.entries().map(|(key, _)| *key).eq([3, 9, 10, 11]);
-    assert!(rt; upwards, "upwards by key");
+    assert!(rt;
+        small_is_right(rt.alloc())?,
+        "upwards by key, and the last value of a key stands"
+    );
     const ROWS: &[(u16, u16, u8, Option<u16>, Option<usize>, &str)] = &[
         (9, 12, 1, Some(10), None, "one key in conflict"),
         (9, 12, 2, Some(9), None, "the smallest key in conflict"),
         (12, 60_000, 2, None, Some(59_992), "many entries"),
     ];
     for &(from, to, byte, conflict, count, what) in ROWS {
-        let other = table(alloc, from, to, byte)?;
-        assert!(rt; one.conflict(&other).copied() == conflict, "{what}");
-        assert!(rt; keys_of_both(alloc, &one, &other)? == count, "{what}");
+        let answer = small_with(rt.alloc(), from, to, byte)?;
+        assert!(rt; answer == (conflict, count), "{what}");
     }
     Ok(())
+}
+
+// Whether flats of bytes are full of the same.
+fn are_full_alike(left: &Flat<Vec<u8>>, right: &Flat<Vec<u8>>) -> bool {
+    match (left, right) {
+        (Flat::Full(left), Flat::Full(right)) => left.as_slice() == right.as_slice(),
+        _ => false,
+    }
+}
+
+// Whether a flat joins with nothing to itself, in either order.
+fn joins_with_nothing(alloc: Global, flat: &Flat<Vec<u8>>) -> Result<bool, AllocError> {
+    let right = Flat::Empty.join(alloc, flat)?;
+    let left = flat.join(alloc, &Flat::Empty)?;
+    Ok(are_full_alike(&left, flat) && are_full_alike(&right, flat))
+}
+
+// Whether a long value agrees and joins with nothing.
+fn long_flats_join(alloc: Global) -> Result<bool, AllocError> {
+    let mut text = Vec::new(alloc);
+    text.resize(150_000, 7)?;
+    let long = Flat::Full(text);
+    Ok(Flat::Empty.agrees(&long) && joins_with_nothing(alloc, &long)?)
 }
 
 #[test]
 fn flats(rt: HostRuntime) -> Result<(), Fail> {
-    let alloc = rt.alloc();
     let bytes: &[u8] = b"ab";
     let full = Flat::Full(bytes);
     assert!(rt; full.agrees(&Flat::Empty) && full.agrees(&full));
     assert!(rt; !full.agrees(&Flat::Full(&bytes[..1])));
-    match Flat::Empty.join(alloc, &full)? {
-        Flat::Full(joined) => assert!(rt; joined == bytes),
-        Flat::Empty => assert!(rt; false, "a value joins with nothing to itself"),
-    }
-    let mut text = Vec::new(alloc);
-    text.resize(150_000, 7)?;
-    let long = Flat::Full(text.as_slice().to_vec(alloc)?);
-    assert!(rt; Flat::Empty.agrees(&long));
-    for joined in [
-        Flat::Empty.join(alloc, &long)?,
-        long.join(alloc, &Flat::Empty)?,
-    ] {
-        match joined {
-            Flat::Full(value) => assert!(rt; value.as_slice() == text.as_slice()),
-            Flat::Empty => assert!(rt; false, "a long value joins with nothing to itself"),
-        }
-    }
+    let joins = match Flat::Empty.join(rt.alloc(), &full)? {
+        Flat::Full(joined) => joined == bytes,
+        Flat::Empty => false,
+    };
+    assert!(rt; joins, "a value joins with nothing to itself");
+    assert!(rt; long_flats_join(rt.alloc())?);
     Ok(())
 }
 
-// Many tables with one entry each, and ten keys in all.
-fn many_tables(alloc: Global) -> Result<Vec<Numbered>, AllocError> {
+// The table that has the byte at the key.
+fn table_of_one(alloc: Global, key: u16, byte: u8) -> Result<Numbered, AllocError> {
+    let mut table = Table::new(alloc);
+    put(alloc, &mut table, key, byte)?;
+    Ok(table)
+}
+
+// Tables with one entry each, of these keys and bytes.
+fn tables_of(alloc: Global, entries: &[(u16, u8)]) -> Result<Vec<Numbered>, AllocError> {
     let mut tables = Vec::new(alloc);
-    for number in 0..10_000 {
-        let key = number % 10;
-        tables.push(table(alloc, key, key + 1, 0x0b)?)?;
+    for &(key, byte) in entries {
+        tables.push(table_of_one(alloc, key, byte)?)?;
     }
     Ok(tables)
+}
+
+// Many entries, of ten keys in all.
+fn many_entries(alloc: Global) -> Result<Vec<(u16, u8)>, AllocError> {
+    let mut entries = Vec::new(alloc);
+    for number in 0..10_000 {
+        entries.push((number % 10, 0x0b))?;
+    }
+    Ok(entries)
 }
 
 // The number of keys of all tables, where they join.
@@ -119,68 +164,99 @@ fn keys_of_all(alloc: Global, list: &[Numbered]) -> Result<Option<usize>, AllocE
     }
 }
 
+// The number of keys of tables with one entry each, where they join.
+fn keys_of(alloc: Global, entries: &[(u16, u8)]) -> Result<Option<usize>, AllocError> {
+    let tables = tables_of(alloc, entries)?;
+    keys_of_all(alloc, tables.as_slice())
+}
+
+const THREE: &[(u16, u8)] = &[(5, 0x0b), (6, 0x0e), (5, 0x0b)];
+
+// Whether three tables join to one that has the value of each key.
+fn three_join(alloc: Global) -> Result<bool, AllocError> {
+    let tables = tables_of(alloc, THREE)?;
+    match join_all(alloc, tables.as_slice())? {
+        Some(all) => Ok(holds(&all, 5, 0x0b) && holds(&all, 6, 0x0e)),
+        None => Ok(false),
+    }
+}
+
 #[test]
 fn joins_many(rt: HostRuntime) -> Result<(), Fail> {
-    let alloc = rt.alloc();
-    let mut many = many_tables(alloc)?;
-    many.push(table(alloc, 9, 10, 0x0e)?)?;
-    let rows = [
-        (
-            vec![in alloc;
-                table(alloc, 5, 6, 0x0b)?,
-                table(alloc, 6, 7, 0x0e)?,
-                table(alloc, 5, 6, 0x0b)?,
-            ]?,
-            Some(2),
-            "three",
-        ),
-        (
-            vec![in alloc; table(alloc, 5, 6, 0x0b)?, table(alloc, 5, 6, 0x0e)?]?,
-            None,
-            "two that differ",
-        ),
-        (Vec::new(alloc), None, "none"),
-        (many_tables(alloc)?, Some(10), "many"),
-        (many, None, "many, the last of which differs"),
+    const ROWS: &[(&[(u16, u8)], Option<usize>, &str)] = &[
+        (THREE, Some(2), "three"),
+        (&[(5, 0x0b), (5, 0x0e)], None, "two that differ"),
+        (&[], None, "none"),
     ];
-    for (list, want, what) in &rows {
-        assert_eq!(rt; keys_of_all(alloc, list.as_slice())?, *want, "{what}");
+    for &(entries, want, what) in ROWS {
+        assert!(rt; keys_of(rt.alloc(), entries)? == want, "{what}");
     }
-    let (three, _, _) = &rows[0];
-    let all = join_all(alloc, three.as_slice())?.ok_or("three")?;
-    assert!(rt; holds(&all, 5, 0x0b) && holds(&all, 6, 0x0e));
+    assert!(rt; three_join(rt.alloc())?);
+    let mut many = many_entries(rt.alloc())?;
+    assert!(rt; keys_of(rt.alloc(), many.as_slice())? == Some(10));
+    many.push((9, 0x0e))?;
+    let none = keys_of(rt.alloc(), many.as_slice())?.is_none();
+    assert!(rt; none, "many, the last of which differs");
     Ok(())
+}
+
+// A table of keys and values that are borrowed.
+fn borrowed<'a>(
+    alloc: Global,
+    entries: &[(&'a [u8], &'a [u8])],
+) -> Result<Table<&'a [u8], &'a [u8]>, AllocError> {
+    let mut table = Table::new(alloc);
+    for &(key, value) in entries {
+        table.insert(key, value)?;
+    }
+    Ok(table)
+}
+
+// The number of keys of two such tables, where they join.
+fn borrowed_keys_of_both<'a>(
+    alloc: Global,
+    left: &[(&'a [u8], &'a [u8])],
+    right: &[(&'a [u8], &'a [u8])],
+) -> Result<Option<usize>, AllocError> {
+    let left = borrowed(alloc, left)?;
+    let right = borrowed(alloc, right)?;
+    keys_of_both(alloc, &left, &right)
 }
 
 #[test]
 fn borrowed_keys(rt: HostRuntime) -> Result<(), Fail> {
-    let alloc = rt.alloc();
     let text: &[u8] = b"abcabd";
-    let mut left = Table::new(alloc);
-    left.insert(&text[0..2], &text[2..3])?;
-    let mut right = Table::new(alloc);
-    right.insert(&text[3..5], &text[2..3])?;
-    right.insert(&text[5..], &text[..0])?;
-    assert_eq!(rt; keys_of_both(alloc, &left, &right)?, Some(2));
-    let mut other = Table::new(alloc);
-    other.insert(&text[0..2], &text[0..2])?;
-    assert_eq!(rt; keys_of_both(alloc, &left, &other)?, None);
+    let left = [(&text[0..2], &text[2..3])];
+    let right = [(&text[3..5], &text[2..3]), (&text[5..], &text[..0])];
+    let other = [(&text[0..2], &text[0..2])];
+    assert!(rt; borrowed_keys_of_both(rt.alloc(), &left, &right)? == Some(2));
+    assert!(rt; borrowed_keys_of_both(rt.alloc(), &left, &other)?.is_none());
     Ok(())
 }
 
+// The number of Subrs and of glyphs in a listing, of which a law is stated.
+fn counts_of(alloc: Global, text: &[u8]) -> Option<(usize, usize)> {
+    match listing::read(alloc, text) {
+        Ok(listing) => Some(counts(&listing)),
+        Err(_) => None,
+    }
+}
+
+fn counts(listing: &Listing<'_>) -> (usize, usize) {
+    laws::reads_what_is_written(listing);
+    let subrs = listing.subrs().entries().count();
+    (subrs, listing.glyphs().entries().count())
+}
+
 #[test]
-fn laws_at_types(rt: HostRuntime) -> Result<(), Fail> {
+fn laws_at_types(rt: HostRuntime) {
     laws::commutative::<Numbered>();
     laws::associative::<Table<Vec<u8>, Vec<u8>>>();
     laws::idempotent::<Flat<u16>>();
     laws::one_answer::<Flat<Vec<u8>>>();
     laws::one_conflict();
     laws::listings_join_alike();
-    let listing = listing::read(rt.alloc(), b"S 5 0b\n").ok().ok_or("reads")?;
-    laws::reads_what_is_written(&listing);
-    assert_eq!(rt; listing.subrs().entries().count(), 1);
-    assert_eq!(rt; listing.glyphs().entries().count(), 0);
-    Ok(())
+    assert!(rt; counts_of(rt.alloc(), b"S 5 0b\n") == Some((1, 0)));
 }
 
 // Lines of one kind with the numbers from one to another, and the same digits on each.
@@ -229,10 +305,23 @@ fn listings_join_so(
     right: &Listing<'_>,
     want: Want<'_>,
 ) -> bool {
-    match (listing::join(alloc, left, right), want) {
-        (Ok(both), Want::Text(text)) => is_written_so(alloc, &both, text),
-        (Err(JoinFault::Subr { index }), Want::Subr(key)) => index == key,
-        (Err(JoinFault::Glyph { name }), Want::Glyph(key)) => name.as_slice() == key,
+    match listing::join(alloc, left, right) {
+        Ok(both) => is_text(alloc, &both, want),
+        Err(fault) => is_conflict(&fault, want),
+    }
+}
+
+fn is_text(alloc: Global, both: &Listing<'_>, want: Want<'_>) -> bool {
+    match want {
+        Want::Text(text) => is_written_so(alloc, both, text),
+        _ => false,
+    }
+}
+
+fn is_conflict(fault: &JoinFault, want: Want<'_>) -> bool {
+    match (fault, want) {
+        (JoinFault::Subr { index }, Want::Subr(key)) => *index == key,
+        (JoinFault::Glyph { name }, Want::Glyph(key)) => name.as_slice() == key,
         _ => false,
     }
 }
@@ -307,16 +396,16 @@ fn listings_join(rt: HostRuntime) {
 
 #[test]
 fn many_lines_join(rt: HostRuntime) -> Result<(), Fail> {
-    let alloc = rt.alloc();
-    let text = many_lines(alloc)?;
-    let rows: [(&[u8], Want<'_>); 3] = [
-        (b"S 64999 0b\n", Want::Text(text.as_slice())),
+    let text = many_lines(rt.alloc())?;
+    const ROWS: &[(&[u8], Want<'static>)] = &[
         (b"S 64999 0c\n", Want::Subr(64999)),
         (b"G 19999 0c\n", Want::Glyph(b"19999")),
     ];
-    for (right, want) in rows {
-        assert!(rt; join_so(alloc, text.as_slice(), right, want));
+    for &(right, want) in ROWS {
+        assert!(rt; join_so(rt.alloc(), text.as_slice(), right, want));
     }
+    let same = Want::Text(text.as_slice());
+    assert!(rt; join_so(rt.alloc(), text.as_slice(), b"S 64999 0b\n", same));
     Ok(())
 }
 
@@ -328,6 +417,11 @@ fn long_line(alloc: Global, name: usize, digits: usize) -> Result<Vec<u8>, Alloc
     line.resize(name.saturating_add(digits).saturating_add(3), b'0')?;
     line.push(b'\n')?;
     Ok(line)
+}
+
+// Whether a text is read with this fault, or with none.
+fn is_read_so(alloc: Global, text: &[u8], want: &Option<ListFault>) -> bool {
+    listing::read(alloc, text).err() == *want
 }
 
 // The first line is in fault.
@@ -385,7 +479,7 @@ fn reads_listings(rt: HostRuntime) {
         (b"S 65534 0b\n", None, "the largest index"),
     ];
     for &(text, ref want, what) in ROWS {
-        assert!(rt; listing::read(rt.alloc(), text).err() == *want, "{what}");
+        assert!(rt; is_read_so(rt.alloc(), text, want), "{what}");
     }
 }
 
@@ -399,18 +493,14 @@ fn reads_long_lines(rt: HostRuntime) -> Result<(), Fail> {
     ];
     for &(name, digits, ref want, what) in ROWS {
         let line = long_line(rt.alloc(), name, digits)?;
-        assert!(rt;
-            listing::read(rt.alloc(), line.as_slice()).err() == *want,
-            "{what}"
-        );
+        assert!(rt; is_read_so(rt.alloc(), line.as_slice(), want), "{what}");
     }
     Ok(())
 }
 
 #[test]
 fn reads_many_lines(rt: HostRuntime) -> Result<(), Fail> {
-    let alloc = rt.alloc();
-    let many = many_lines(alloc)?;
+    let many = many_lines(rt.alloc())?;
     const ROWS: &[(&[u8], Option<ListFault>, &str)] = &[
         (b"", None, "many lines"),
         (
@@ -425,105 +515,8 @@ fn reads_many_lines(rt: HostRuntime) -> Result<(), Fail> {
         ),
     ];
     for &(last, ref want, what) in ROWS {
-        let text = joined(alloc, many.as_slice(), last)?;
-        assert!(rt;
-            listing::read(alloc, text.as_slice()).err() == *want,
-            "{what}"
-        );
+        let text = joined(rt.alloc(), many.as_slice(), last)?;
+        assert!(rt; is_read_so(rt.alloc(), text.as_slice(), want), "{what}");
     }
     Ok(())
-}
-
-// The listing that a text spells; want of memory is no answer, and any other fault is a wrong one.
-fn listing_of(alloc: Global, text: &[u8]) -> Result<Option<Listing<'_>>, AllocError> {
-    match listing::read(alloc, text) {
-        Ok(listing) => Ok(Some(listing)),
-        Err(ListFault::Memory) => Err(AllocError),
-        Err(_) => Ok(None),
-    }
-}
-
-// Whether two listings join to what is written as this text.
-fn is_written_as(
-    alloc: Global,
-    left: &Listing<'_>,
-    right: &Listing<'_>,
-    text: &[u8],
-) -> Result<bool, AllocError> {
-    match listing::join(alloc, left, right) {
-        Ok(both) => Ok(listing::write(alloc, &both)?.as_slice() == text),
-        Err(JoinFault::Memory) => Err(AllocError),
-        Err(_) => Ok(false),
-    }
-}
-
-// Whether two texts are listings that join so.
-fn texts_join(alloc: Global, left: &[u8], right: &[u8], text: &[u8]) -> Result<bool, AllocError> {
-    match (listing_of(alloc, left)?, listing_of(alloc, right)?) {
-        (Some(left), Some(right)) => is_written_as(alloc, &left, &right, text),
-        _ => Ok(false),
-    }
-}
-
-// Whether small tables join to as many keys as they have, two and four at a time.
-fn tables_join(alloc: Global) -> Result<bool, AllocError> {
-    let one = small(alloc)?;
-    let other = table(alloc, 11, 14, 1)?;
-    let two = keys_of_both(alloc, &one, &other)?;
-    let list = vec![in alloc;
-        one,
-        other,
-        table(alloc, 20, 22, 1)?,
-        table(alloc, 20, 21, 1)?,
-    ]?;
-    Ok(two == Some(6) && keys_of_all(alloc, list.as_slice())? == Some(8))
-}
-
-// Whether flats join to what is in one of them.
-fn flats_join(alloc: Global) -> Result<bool, AllocError> {
-    let full = Flat::Full(b"ab".to_vec(alloc)?);
-    match Flat::Empty.join(alloc, &full)? {
-        Flat::Full(joined) => Ok(joined.as_slice() == b"ab".as_slice()),
-        Flat::Empty => Ok(false),
-    }
-}
-
-// Whether digits of either case spell their bytes.
-fn digits_spell(alloc: Global) -> Result<bool, AllocError> {
-    match Hex::read(b"eF06") {
-        Some(hex) => Ok(hex.bytes(alloc)?.as_slice() == b"\xef\x06".as_slice()),
-        None => Ok(false),
-    }
-}
-
-// Whether all calls that grow answer right.
-fn answers_right(alloc: Global) -> Result<bool, AllocError> {
-    let listings = texts_join(
-        alloc,
-        b"S 5 ef060b\nG X 8b0e\n",
-        b"G Y 0E\nS 5 ef060b\n",
-        b"S 5 ef060b\nG X 8b0e\nG Y 0e\n",
-    )?;
-    Ok(listings && digits_spell(alloc)? && tables_join(alloc)? && flats_join(alloc)?)
-}
-
-// `tools/sweep_growths.py` refuses one growth after the other: a call that then answers want of memory answers right when
-// it is made again.
-#[test]
-fn growths(rt: HostRuntime) -> Result<(), Fail> {
-    let right = match answers_right(rt.alloc()) {
-        Err(AllocError) => answers_right(rt.alloc())?,
-        answer => answer?,
-    };
-    assert!(rt; right);
-    Ok(())
-}
-
-// The same refuses all growths.
-#[test]
-fn no_growth(rt: HostRuntime) {
-    let one: Numbered = Table::new(rt.alloc());
-    let other: Numbered = Table::new(rt.alloc());
-    assert!(rt; one.get(&5).is_none() && one.entries().next().is_none());
-    assert!(rt; one.conflict(&other).is_none() && one.agrees(&other));
 }

@@ -1,7 +1,7 @@
 // Calls in calls, up to the deepest: what goes on after them, and what doesn't.
 
 use crate::tests::executes::are;
-use crate::tests::fonts::{Font, SUBRS};
+use crate::tests::fonts::Font;
 use crate::{Direct, Fault, Mark, Point, direct_and_executed};
 use std::alloc::Global;
 use std::test::Fail;
@@ -108,7 +108,7 @@ fn is(answer: &Direct, want: Result<&[Mark], Fault>) -> bool {
 
 // The name of the first case that answers or executes something else.
 fn first_other(alloc: Global, cases: &[Calling]) -> Result<Option<&'static str>, Fail> {
-    let font = Font::new(alloc, &SUBRS)?;
+    let font = Font::small(alloc)?;
     for case in cases {
         let (answer, called) = direct_and_executed(alloc, &font, case.charstring)?;
         if !(is(&answer, case.want) && are(&called, case.executed)) {

@@ -1,10 +1,11 @@
 // Each call that grows, over the small font. `tools/sweep_growths.py` refuses one growth after the other: a call that then
 // answers want of memory, its one fault, answers right when it is made again.
 
+use crate::tests::budget::count_of_marks;
 use crate::tests::executes::are;
 use crate::tests::fonts::GlyphFont;
 use crate::{
-    Direct, Drawing, both_answers, direct, direct_and_executed, direct3, draw, draw3, executed,
+    Drawing, both_answers, direct, direct_and_executed, direct3, draw, draw3, executed,
     parts_and_executed, parts_of,
 };
 use std::alloc::{AllocError, Global};
@@ -24,11 +25,13 @@ const SEAC: [u8; 14] = [
 fn runs_right(alloc: Global, font: &GlyphFont<'_>) -> Result<bool, AllocError> {
     let plain = direct(alloc, font, &TWO_CALLS)?;
     let (answer, both) = direct_and_executed(alloc, font, &TWO_CALLS)?;
+    Ok(count_of_marks(&plain) == 4 && answer == plain && are(&both, &[5, 6]))
+}
+
+// Whether its indices alone are right.
+fn executes_right(alloc: Global, font: &GlyphFont<'_>) -> Result<bool, AllocError> {
     let alone = executed(alloc, font, &TWO_CALLS)?;
-    let Direct::Plain { marks, .. } = &plain else {
-        return Ok(false);
-    };
-    Ok(marks.len() == 4 && answer == plain && are(&alone, &[5, 6]) && are(&both, &[5, 6]))
+    Ok(are(&alone, &[5, 6]))
 }
 
 // `0 20 hstem 7 4 callsubr`: Subr 7, or Subr 3 where hints are kept.
@@ -43,16 +46,26 @@ fn runs_twice_right(alloc: Global, font: &GlyphFont<'_>) -> Result<bool, AllocEr
     Ok(both.direct3 == Some(kept) && are(&both.executed, &[3, 4, 7]))
 }
 
-// Whether an accented glyph draws two parts, which its outcome names.
+// How many parts a drawing has.
+fn count_of_parts(drawing: &Drawing) -> usize {
+    match drawing {
+        Drawing::Drawn { parts, .. } => parts.len(),
+        Drawing::Failed(_) => 0,
+    }
+}
+
+// Whether an accented glyph draws two parts.
 fn draws_right(alloc: Global, font: &GlyphFont<'_>) -> Result<bool, AllocError> {
-    let names = parts_of(alloc, &direct(alloc, font, &SEAC)?)?;
-    let Drawing::Drawn { parts, .. } = draw(alloc, font, b"Aacute")? else {
-        return Ok(false);
-    };
-    let Drawing::Drawn { parts: kept, .. } = draw3(alloc, font, b"Aacute")? else {
-        return Ok(false);
-    };
-    Ok(parts.len() == 2 && kept.len() == 2 && names.as_slice() == ["A", "acute"].as_slice())
+    let drawing = draw(alloc, font, b"Aacute")?;
+    let kept = draw3(alloc, font, b"Aacute")?;
+    Ok(count_of_parts(&drawing) == 2 && count_of_parts(&kept) == 2)
+}
+
+// Whether the outcome of an accented glyph names its two parts.
+fn names_right(alloc: Global, font: &GlyphFont<'_>) -> Result<bool, AllocError> {
+    let outcome = direct(alloc, font, &SEAC)?;
+    let names = parts_of(alloc, &outcome)?;
+    Ok(names.as_slice() == ["A", "acute"].as_slice())
 }
 
 // Whether the parts of an accented glyph are named for both runs, and the calls of both told.
@@ -68,9 +81,11 @@ fn answers_right(alloc: Global) -> Result<bool, AllocError> {
     let font = GlyphFont::new(alloc, &[], &[], None)?;
     Ok(
         runs_right(alloc, &font)?
+            && executes_right(alloc, &font)?
             && runs_twice_right(alloc, &font)?
             && asks_right(alloc, &font)?
-            && draws_right(alloc, &font)?,
+            && draws_right(alloc, &font)?
+            && names_right(alloc, &font)?,
     )
 }
 

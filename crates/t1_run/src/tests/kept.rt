@@ -1,7 +1,7 @@
 // What interpreters that keep hints make of glyphs.
 
 use crate::tests::executes::are;
-use crate::tests::fonts::{Font, GlyphFont, SUBRS};
+use crate::tests::fonts::{Font, GlyphFont};
 use crate::{
     BothAnswers, Direct, Drawing, Mark, Point, both_answers, direct, direct3, draw, draw3,
 };
@@ -42,13 +42,22 @@ fn has(answer: &Direct, want: &[Mark]) -> bool {
     }
 }
 
+// Whether a charstring has these marks where hints are replaced, and those where they are kept.
+fn runs_so(
+    alloc: Global,
+    charstring: &[u8],
+    want: &[Mark],
+    want_kept: &[Mark],
+) -> Result<bool, Fail> {
+    let font = Font::small(alloc)?;
+    let replaced = direct(alloc, &font, charstring)?;
+    let kept = direct3(alloc, &font, charstring)?;
+    Ok(has(&replaced, want) && has(&kept, want_kept))
+}
+
 #[test]
 fn runs_where_hints_are_kept(rt: HostRuntime) -> Result<(), Fail> {
-    let font = Font::new(rt.alloc(), &SUBRS)?;
-    let replaced = direct(rt.alloc(), &font, &BOTH)?;
-    assert!(rt; has(&replaced, REPLACED));
-    let kept = direct3(rt.alloc(), &font, &BOTH)?;
-    assert!(rt; has(&kept, KEPT));
+    assert!(rt; runs_so(rt.alloc(), &BOTH, REPLACED, KEPT)?);
     Ok(())
 }
 
@@ -57,17 +66,29 @@ fn is_both(both: &BothAnswers, is_one: bool, executed: &[u16]) -> bool {
     both.direct3.is_none() == is_one && are(&both.executed, executed)
 }
 
+fn answers_both(
+    alloc: Global,
+    charstring: &[u8],
+    is_one: bool,
+    executed: &[u16],
+) -> Result<bool, Fail> {
+    let font = Font::small(alloc)?;
+    let both = both_answers(alloc, &font, charstring)?;
+    Ok(is_both(&both, is_one, executed))
+}
+
 #[test]
 fn runs_once_or_twice(rt: HostRuntime) -> Result<(), Fail> {
-    let font = Font::new(rt.alloc(), &SUBRS)?;
     const ROWS: &[(&[u8], bool, &[u16], &str)] = &[
         (&BOTH, false, &[3, 5], "an index made of the answer"),
         (&HINTS, false, &[3, 4, 7], "hint replacement"),
         (&LINES, true, &[5, 6], "no OtherSubr"),
     ];
     for &(charstring, is_one, executed, what) in ROWS {
-        let both = both_answers(rt.alloc(), &font, charstring)?;
-        assert!(rt; is_both(&both, is_one, executed), "{what}");
+        assert!(rt;
+            answers_both(rt.alloc(), charstring, is_one, executed)?,
+            "{what}"
+        );
     }
     Ok(())
 }

@@ -1,7 +1,7 @@
 // What is large: where there is memory, no call may want more of it.
 
 use crate::tests::budget::charstring;
-use crate::tests::fonts::{Font, GlyphFont, SUBRS};
+use crate::tests::fonts::{Font, GlyphFont};
 use crate::{Drawing, direct, direct_and_executed, draw, executed, parts_of};
 use std::alloc::{AllocError, Global};
 use std::test::Fail;
@@ -66,7 +66,7 @@ const SEAC: [u8; 10] = [0xBD, 0xF7, 0x0C, 0xF7, 0x5C, 0xCC, 0xF7, 0x56, 0x0C, 0x
 
 // How many parts an accented glyph of 60,000 bytes names.
 fn parts_named(alloc: Global) -> Result<usize, Fail> {
-    let font = Font::new(alloc, &SUBRS)?;
+    let font = Font::small(alloc)?;
     let glyph = charstring(alloc, &WIDTH, 29_993, &SEAC)?;
     let outcome = direct(alloc, &font, &glyph)?;
     Ok(parts_of(alloc, &outcome)?.len())
