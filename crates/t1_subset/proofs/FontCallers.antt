@@ -1,8 +1,9 @@
 -- The smallest glyphs that execute a Subr or seek a component: as the code notes them, and in a join.
-use Rattle.std.proofs.Common.{◌≡◌, ◌<◌, ℕ, zero, suc, replicate, Bool, true, false, not, cond, ◌&&◌, ◌||◌, List, [], ◌∷◌, ◌++◌, map, refl, sym, ◌∙◌, ap, subst, Option, Some, None, is_some, unwrap_or}
+use Rattle.std.proofs.Common.{◌≡◌, ◌<◌, ℕ, zero, suc, replicate, Bool, true, false, not, cond, ◌&&◌, ◌||◌, List, [], ◌∷◌, ◌++◌, map, refl, sym, ◌∙◌, ap, subst, Option, Some, None, is_some, unwrap_or, true≢false}
 use Rattle.std.specs.List.{list_any, AllByRecursion}
 use Rattle.std.specs.Cmp.{nat_cmp_total}
 use Rattle.std.specs.Cmp.Lexicographic.{nat_list_cmp_total}
+use Rattle.std.specs.Borrow.{Bor}
 use Rattle.std.specs.FinMap as maps
 use Rattle.std.specs.FinSet as sets
 use Rattle.t1_font.specs.Cut.{merged}
@@ -16,7 +17,7 @@ use Rattle.t1_subset.specs.Profile.{profile}
 use Rattle.t1_subset.specs.States.{Agree, joined, is_called, is_sought, state_of_glyph, joined_font, Compatible}
 use Rattle.t1_subset.specs.Conflicts.{first_where, smallest, members, keys_of_both, executes, executed_at, calls_for, called_at, wants, wanted_by, used_by, glyph_names}
 use Rattle.t1_subset.specs.Differences.{smaller}
-use Rattle.t1_subset.specs.Callers.{user_of, seeker_of, user_at, user_from, seeker_from, AreCallersOf}
+use Rattle.t1_subset.specs.Callers.{same_charstring, user_of, seeker_of, user_at, user_from, seeker_from, AreCallersOf}
 use Rattle.t1_subset.specs.Clashes.{AreCallers}
 use Rattle.t1_subset.proofs.Flat.{agree_back}
 use Rattle.t1_subset.proofs.ExecutedCalls.{calls_by, no_calls}
@@ -25,7 +26,7 @@ use Rattle.t1_subset.proofs.FirstNames.{smaller_first}
 use Rattle.t1_subset.proofs.JoinedStates.{glyph_in_join, glyph_agree, left_runs, right_runs}
 use Rattle.t1_subset.proofs.Conflicts.{sought}
 use Rattle.std.specs.Cmp.{second_so}
-use Rattle.t1_subset.proofs.Sets.{name_same, not_so, clash}
+use Rattle.t1_subset.proofs.Sets.{name_same, not_so, clash, tied}
 
 -- ---- the first of some names
 
@@ -70,6 +71,35 @@ pub no_user : (count q : ℕ) → user_at (replicate count None) q ≡ None
 no_user zero q = refl
 no_user (suc count) zero = refl
 no_user (suc count) (suc q) = no_user count q
+
+-- where the name passes something is noted already, so that noting it changes nothing
+pub known_already : (x : Option (List ℕ)) (b : Bool) (n : List ℕ) → (b ≡ true → is_some x ≡ true) → x ≡ joined x (cond b (Some n) None)
+known_already (Some m) b n h = refl
+known_already None true n h = absurd (true≢false (sym (h refl)))
+known_already None false n h = refl
+
+-- where the name passes something is noted after it
+pub known_then : (x y : Option (List ℕ)) (b : Bool) (n : List ℕ) → y ≡ joined x (cond b (Some n) None) → b ≡ true → is_some y ≡ true
+known_then (Some m) y b n e h = ap is_some e
+known_then None y b n e h = ap is_some (e ∙ ap (λ b. joined None (cond b (Some n) None)) h)
+
+-- what has the same bytes is the same
+pub again_same : (x y : Option (List ℕ)) → same_charstring x y ≡ true → x ≡ y
+again_same None y h = absurd (true≢false (sym h))
+again_same (Some c) None h = absurd (true≢false (sym h))
+again_same (Some c) (Some d) h = ap Some (tied nat_list_cmp_total name_same c d h)
+
+-- a charstring is noted: the indices that it executes have users, and the components that it names, and that the font lacks, have seekers
+pub record IsNoted (f : FontValue) (users : List (Option (Bor (List ℕ)))) (seekers : List ℕ → Option (List ℕ)) (c : Option (List ℕ)) : Type 0 where
+  pub executed : (q : ℕ) → q < declared_count f.shell.subrs → executed_at profile f q c ≡ true → is_some (user_at users q) ≡ true
+  pub named : (p : List ℕ) → (not (has f p) && called_at profile f p c) ≡ true → is_some (seekers p) ≡ true
+
+-- no charstring is noted from the beginning
+pub nothing_noted : (f : FontValue) (users : List (Option (Bor (List ℕ)))) (seekers : List ℕ → Option (List ℕ)) → IsNoted f users seekers None
+nothing_noted f users seekers = record {
+  executed = λ q l h. absurd (true≢false (sym h));
+  named = λ p h. absurd (true≢false (sym (second_so (not (has f p)) false h)));
+}
 
 -- ---- the glyphs of one font
 

@@ -1,11 +1,12 @@
 -- Who executes which Subr of a font, and who names which component that the font lacks.
-use Rattle.std.specs.Prelude.{◌≡◌, ◌<◌, ℕ, List, [], ◌∷◌, Option, None, get_or}
+use Rattle.std.specs.Prelude.{◌≡◌, ◌<◌, ℕ, Bool, false, List, [], ◌∷◌, Option, Some, None, get_or}
 use Rattle.std.specs.Option.{option_map}
 use Rattle.std.specs.Borrow.{Bor}
 use Rattle.std.specs.FinMap as maps
 use Rattle.t1_font.specs.FontValue.{FontValue, name_cmp, declared_count}
 use Rattle.t1_font.specs.FontModel.{names_in}
 use Rattle.t1_subset.specs.declared.callers.Callers.{Callers}
+use Rattle.t1_subset.specs.Interpreter.{same_bytes}
 use Rattle.t1_subset.specs.Profile.{profile}
 use Rattle.t1_subset.specs.Conflicts.{first_where, executes, wants}
 use Rattle.t1_subset.specs.Differences.{smaller}
@@ -17,6 +18,12 @@ user_of f i = first_where (λ n. executes profile f n i) (names_in f.glyphs)
 -- the smallest glyph of the font that names a component which the font lacks
 abbrev pub seeker_of : FontValue → List ℕ → Option (List ℕ)
 seeker_of f p = first_where (λ n. wants profile f n p) (names_in f.glyphs)
+
+-- both are there, and have the same bytes
+abbrev pub same_charstring : Option (List ℕ) → Option (List ℕ) → Bool
+same_charstring None y = false
+same_charstring (Some c) None = false
+same_charstring (Some c) (Some d) = same_bytes c d
 
 -- ---- in code
 

@@ -1,31 +1,50 @@
 //! The making of states: one run of each glyph.
 
 ghost use Rattle.std.specs.Prelude.{◌≡◌, ◌<◌, ℕ, List, IfOk};
+ghost use Rattle.std.specs.Option.{option_map};
 ghost use Rattle.std.specs.FinMap as maps;
 ghost use Rattle.t1_font.specs.FontValue.{declared_count};
 ghost use Rattle.t1_subset.specs.Profile.{profile};
 ghost use Rattle.t1_subset.specs.StateTables.{name_states, states_of};
-ghost use Rattle.t1_subset.specs.Callers.{AreCallersOf, user_at, user_of, seeker_of};
+ghost use Rattle.t1_subset.specs.Callers.{AreCallersOf, same_charstring, user_at, user_of, seeker_of};
 
 use crate::callers::{Callers, Seekers, Users, note_seekers};
 use crate::calls::run_of;
 use crate::name_states::{NameTable, add_sought};
+use crate::shells::same_bytes;
 use crate::state_value::States;
 use crate::tables::{code_table, glyph_states, subr_table};
 use std::alloc::{AllocError, Global};
 use t1_font::Font;
 use t1_run::Subroutines;
 
-/// Who executes which Subr of the font, and who names which component that it lacks. Each glyph is run once.
+/// Whether a glyph has the charstring of the one before it, so that it executes and names the same.
+fn is_again(last: Option<&[u8]>, charstring: Option<&[u8]>) -> bool
+    ensures { result ≡ same_charstring (option_map (λ b. b.now) last.entry) (option_map (λ b. b.now) charstring.entry) }
+{
+    match (last, charstring) {
+        (Some(last), Some(charstring)) => same_bytes(last, charstring),
+        _ => false,
+    }
+}
+
+/// Who executes which Subr of the font, and who names which component that it lacks. Each glyph is run once, and not
+/// where the one before it has the same charstring.
 fn callers_of<'a>(alloc: Global, font: &'a Font<'_>) -> Result<Callers<'a>, AllocError>
     ensures { IfOk result (λ callers. AreCallersOf callers font.now) }
 {
     let mut users = Users::new(alloc, font.count())?;
     let mut seekers = Seekers::new(alloc);
+    let mut last = None;
     'names: for name in font.names() {
+        let charstring = font.charstring(name);
+        if is_again(last, charstring) {
+            continue;
+        }
         let (components, calls) = run_of(alloc, font, name)?;
         users.note_all(&calls, name);
         note_seekers(font, &mut seekers, components.as_slice(), name)?;
+        last = charstring;
     }
     Ok(Callers { users, seekers })
 }
