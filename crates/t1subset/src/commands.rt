@@ -109,9 +109,10 @@ fn convert_command<'a>(
 
 const CHECK_HELP: &str = "\
 Prints `ok G glyphs, S subrs, weight W`, where S counts the Subrs that are
-present, and W is about the number of bytes that the font takes in memory:
-fonts are limited by it. A font that doesn't parse is refused with the first
-thing in it that is wrong.
+present, and W is the weight by which fonts are limited: the lengths of the
+texts around the tables; for each Subr 128, its lead bytes and its length, at
+least 1; and for each glyph 256, its lead bytes and its length. A font that
+doesn't parse is refused with the first thing in it that is wrong.
 
 Example: t1subset check font.pfb";
 
