@@ -207,6 +207,7 @@ def font_cases(folder):
     yield Case(["merge", out, x, y], both, out)
     yield Case(["merge", out, y, x], both, out)
     yield Case(["merge", out, y, other_x], b"", out, b"refused: subr 5 differs, used by X\n")
+    yield Case(["rejoin", out, x, y], both, out)
 
 
 def listing_cases():

@@ -41,6 +41,9 @@ bearing 0 0
 part 0 0
 """
 
+# Charstrings of Subrs that glyphs call: a move across, a move up, and the `return` that stands for a Subr that is cut.
+ACROSS, UP, STUB = b"\xef\x16\x0b", b"\xef\x04\x0b", b"\x0b"
+
 # The words; the exit status; what is printed, and on standard error; the files that stand changed afterwards.
 Row = namedtuple("Row", "words status out err left", defaults=(b"", b"", {}))
 
@@ -48,6 +51,37 @@ Row = namedtuple("Row", "words status out err left", defaults=(b"", b"", {}))
 def example(name):
     with open(os.path.join(TOP, "examples", name), "rb") as f:
         return f.read()
+
+
+def ciphered(text, key):
+    """A text behind four lead bytes that are zero, encrypted."""
+    out = bytearray()
+    for byte in bytes(4) + text:
+        byte ^= key >> 8
+        key = ((byte + key) * 52845 + 22719) & 0xFFFF
+        out.append(byte)
+    return bytes(out)
+
+
+def charstring(plain):
+    cipher = ciphered(plain, 4330)
+    return b"%d RD %s" % (len(cipher), cipher)
+
+
+def small_font(name, subrs, callers):
+    """The canonical PFA of a font of this name: its Subrs, and glyphs that each call one of them."""
+    glyphs = {b".notdef": b"\x8b\xf7\x8e\x0d\x0e"}
+    for glyph, index in callers.items():
+        glyphs[glyph] = b"\x8b\xf7\x8e\x0d" + bytes([139 + index]) + b"\x0a\x0e"
+    lines = [b"/Private 3 dict dup begin", b"/Subrs %d array" % len(subrs)]
+    lines += [b"dup %d %s NP" % (i, charstring(plain)) for i, plain in enumerate(subrs)]
+    lines += [b"ND", b"2 index /CharStrings %d dict dup begin" % len(glyphs)]
+    lines += [b"/%s %s ND" % (glyph, charstring(plain)) for glyph, plain in sorted(glyphs.items())]
+    lines += [b"end", b"end", b"mark currentfile closefile", b""]
+    digits = ciphered(b"\n".join(lines), 55665).hex()
+    cipher = "".join(digits[at:at + 64] + "\n" for at in range(0, len(digits), 64)).encode()
+    head = b"%%!\n/FontName /%s def\n/Encoding StandardEncoding def\ncurrentfile eexec\n" % name
+    return head + cipher + (b"0" * 64 + b"\n") * 8 + b"cleartomark\n"
 
 
 def version_of_the_man_page():
@@ -61,6 +95,9 @@ def files():
     named = ["tiny.pfa", "tiny.pfb", "left.listing", "right.listing", "other.listing"]
     given = {name: example(name) for name in named}
     given["dashed.pfa"] = DASHED
+    given["one.cut"] = small_font(b"ABCDEF+Small", [STUB] * 4 + [ACROSS], {b"A": 4})
+    given["two.cut"] = small_font(b"ZYXWVU+Small", [STUB] * 5 + [UP], {b"B": 5})
+    given["other.cut"] = small_font(b"ZYXWVU+Other", [STUB] * 5 + [UP], {b"B": 5})
     given["no.font"] = b"no font"
     given["no.listing"] = b"no listing"
     given["old"] = b"what stood here"
@@ -69,7 +106,7 @@ def files():
 
 def rows_of_words():
     """Words that ask for help or don't parse."""
-    commands = ["subset", "merge", "check", "list", "show", "pfa", "pfb", "join"]
+    commands = ["subset", "merge", "rejoin", "check", "list", "show", "pfa", "pfb", "join"]
     yield Row(["--help"], 0, SOME)
     yield Row(["--version"], 0, version_of_the_man_page() + b"\n")
     for command in commands:
@@ -79,6 +116,7 @@ def rows_of_words():
     yield Row(["tiny.pfa"], 2, b"", SOME)
     yield Row(["check", "tiny.pfa", "more"], 2, b"", SOME)
     yield Row(["merge", "out"], 2, b"", SOME)
+    yield Row(["rejoin", "out"], 2, b"", SOME)
     yield Row(["show", "dashed.pfa", "-a"], 2, b"", SOME)
     yield Row(["check", b"\xff"], 2, b"", b"error: the arguments are not UTF-8\n")
 
@@ -103,13 +141,28 @@ def rows_of_outputs(given):
     yield Row(["pfb", "tiny.pfa", "out"], 0, b"", b"", {"out": pfb})
     yield Row(["pfb", "tiny.pfa", "tiny.pfa"], 0, b"", b"", {"tiny.pfa": pfb})
     yield Row(["pfb", "tiny.pfb", "old"], 0, b"", b"", {"old": pfb})
-    yield Row(["merge", "tiny.pfb", "tiny.pfa", "tiny.pfb"], 0, b"", b"", {"tiny.pfb": pfa})
+    for word in ("merge", "rejoin"):
+        yield Row([word, "tiny.pfb", "tiny.pfa", "tiny.pfb"], 0, b"", b"", {"tiny.pfb": pfa})
     yield Row(["pfb", "no.font", "out"], 1, b"", b"refused: no eexec\n")
     yield Row(["pfb", "no.font", "old"], 1, b"", b"refused: no eexec\n")
     yield Row(["subset", "tiny.pfa", "old", "X", "Zed"], 1, b"", b"refused: no glyph Zed\n")
     yield Row(["merge", "old", "tiny.pfa", "no.font"], 1, b"", b"refused: no eexec\n")
     yield Row(["merge", "old", "no.font", "absent"], 3, b"", b"failed: read\n")
     yield Row(["pfa", "tiny.pfb", "no.folder/out"], 3, b"", b"failed: write\n")
+
+
+def rows_of_rejoined():
+    """Subsets that other programs cut."""
+    both = small_font(b"Small", [STUB] * 4 + [ACROSS, UP], {b"A": 4, b"B": 5})
+    untagged = small_font(b"Small", [STUB] * 4 + [ACROSS], {b"A": 4})
+    refused = b"refused: shells differ in head\n"
+    yield Row(["merge", "out", "one.cut", "two.cut"], 1, b"", refused)
+    yield Row(["rejoin", "out", "one.cut", "two.cut"], 0, b"", b"", {"out": both})
+    yield Row(["rejoin", "out", "two.cut", "one.cut"], 0, b"", b"", {"out": both})
+    yield Row(["rejoin", "one.cut", "one.cut"], 0, b"", b"", {"one.cut": untagged})
+    yield Row(["rejoin", "old", "one.cut", "other.cut"], 1, b"", refused)
+    yield Row(["rejoin", "old", "one.cut", "no.font"], 1, b"", b"refused: no eexec\n")
+    yield Row(["rejoin", "old", "one.cut", "absent"], 3, b"", b"failed: read\n")
 
 
 def rows_of_listings():
@@ -203,7 +256,7 @@ def outputs(program):
 
 def main():
     given = files()
-    rows = [*rows_of_words(), *rows_of_fonts(), *rows_of_outputs(given), *rows_of_listings()]
+    rows = [*rows_of_words(), *rows_of_fonts(), *rows_of_outputs(given), *rows_of_rejoined(), *rows_of_listings()]
     programs = [os.path.abspath(it) for it in sys.argv[1:]] or BUILDS
     for program in programs:
         for row in rows:

@@ -58,9 +58,23 @@ OUT is the font, as PFA, that the fonts make together: of subsets of one font
 the subset of all their names, byte for byte, in whatever order they stand.
 Fonts that differ are refused with the first thing in which they do. A Subr
 that is `return`, and that no glyph of its font executes, gives way to the
-other font's. OUT is opened only after the result is complete.
+other font's. Subsets that other programs cut mostly need `rejoin`. OUT is
+opened only after the result is complete.
 
 Example: t1subset merge all.pfa one.pfa two.pfa";
+
+const REJOIN_HELP: &str = "\
+OUT comes first: `t1subset rejoin a.pfa b.pfa` overwrites a.pfa.
+
+Merges subsets that other programs cut, such as dvips and pdfTeX. These may
+put a tag of six capitals and `+` before the name of the font, and declare no
+Subrs after the last one that is used. So first the fonts are made even: the
+tags go, each font declares as many Subrs as the one that declares most, and a
+Subr that a font lacks and another has is put in as `return`. What a glyph
+draws stays as it is. Then they are merged as by `merge`, and what still
+differs is refused. OUT is opened only after the result is complete.
+
+Example: t1subset rejoin all.pfa one.pfa two.pfa";
 
 fn fonts_word<'a>(alloc: Global) -> Arg<'a> {
     Arg::new(alloc, "IN")
@@ -70,12 +84,27 @@ fn fonts_word<'a>(alloc: Global) -> Arg<'a> {
         .help("The fonts")
 }
 
-fn merge_command<'a>(alloc: Global) -> Result<Command<'a>, AllocError> {
-    Command::new(alloc, "merge")
-        .about("Merges subsets of a font into one")
-        .after_help(MERGE_HELP)
+fn list_of_fonts_command<'a>(
+    alloc: Global,
+    name: &'a str,
+    about: &'a str,
+    help: &'a str,
+) -> Result<Command<'a>, AllocError> {
+    Command::new(alloc, name)
+        .about(about)
+        .after_help(help)
         .arg(word(alloc, "OUT", "The file that is written"))?
         .arg(fonts_word(alloc))
+}
+
+fn merge_command<'a>(alloc: Global) -> Result<Command<'a>, AllocError> {
+    let about = "Merges subsets of a font into one";
+    list_of_fonts_command(alloc, "merge", about, MERGE_HELP)
+}
+
+fn rejoin_command<'a>(alloc: Global) -> Result<Command<'a>, AllocError> {
+    let about = "Merges subsets of a font that other programs cut";
+    list_of_fonts_command(alloc, "rejoin", about, REJOIN_HELP)
 }
 
 const PFA_HELP: &str = "\
@@ -204,6 +233,7 @@ fn bare_program<'a>(alloc: Global) -> Command<'a> {
 fn program<'a>(alloc: Global) -> Result<Command<'a>, AllocError> {
     let program = with(Ok(bare_program(alloc)), subset_command(alloc));
     let program = with(program, merge_command(alloc));
+    let program = with(program, rejoin_command(alloc));
     let program = with(program, check_command(alloc));
     let program = with(program, list_command(alloc));
     let program = with(program, show_command(alloc));

@@ -7,8 +7,8 @@ use std::io::{ErrorKind, Write};
 use std::rt::Files;
 use std::{fs, io};
 use t1_cmd::{
-    Counted, Reason, RunFault, run_check, run_convert, run_join, run_list, run_merge, run_show,
-    run_subset, status, write_fault, write_text,
+    Counted, Reason, RunFault, run_check, run_convert, run_join, run_list, run_merge, run_rejoin,
+    run_show, run_subset, status, write_fault, write_text,
 };
 use t1_font::Form;
 
@@ -95,6 +95,16 @@ fn show<R: Files, O: Write + Drop>(
     print(out, text.as_slice())
 }
 
+/// Writes a result to the file that the words name.
+fn save_out<R: Files>(
+    rt: &R,
+    alloc: Global,
+    given: &ArgMatches<'_>,
+    text: &[u8],
+) -> Result<(), RunFault> {
+    save(rt, alloc, given.get_str("OUT").unwrap_or(""), text)
+}
+
 fn convert<R: Files>(
     rt: &R,
     alloc: Global,
@@ -104,12 +114,7 @@ fn convert<R: Files>(
     let mut input = font(rt, given)?;
     let mut text = Vec::new(alloc);
     run_convert(alloc, &mut input, form, &mut Counted::new(&mut text))?;
-    save(
-        rt,
-        alloc,
-        given.get_str("OUT").unwrap_or(""),
-        text.as_slice(),
-    )
+    save_out(rt, alloc, given, text.as_slice())
 }
 
 /// The names that the words give, as bytes.
@@ -132,12 +137,7 @@ fn subset<R: Files>(rt: &R, alloc: Global, given: &ArgMatches<'_>) -> Result<(),
         Form::Pfa,
         &mut Counted::new(&mut text),
     )?;
-    save(
-        rt,
-        alloc,
-        given.get_str("OUT").unwrap_or(""),
-        text.as_slice(),
-    )
+    save_out(rt, alloc, given, text.as_slice())
 }
 
 /// The fonts that the words name, all of them opened.
@@ -165,12 +165,19 @@ fn merge<R: Files>(rt: &R, alloc: Global, given: &ArgMatches<'_>) -> Result<(), 
         Form::Pfa,
         &mut Counted::new(&mut text),
     )?;
-    save(
-        rt,
+    save_out(rt, alloc, given, text.as_slice())
+}
+
+fn rejoin<R: Files>(rt: &R, alloc: Global, given: &ArgMatches<'_>) -> Result<(), RunFault> {
+    let mut fonts = fonts(rt, alloc, given)?;
+    let mut text = Vec::new(alloc);
+    run_rejoin(
         alloc,
-        given.get_str("OUT").unwrap_or(""),
-        text.as_slice(),
-    )
+        fonts.as_mut_slice(),
+        Form::Pfa,
+        &mut Counted::new(&mut text),
+    )?;
+    save_out(rt, alloc, given, text.as_slice())
 }
 
 fn perform<R: Files, O: Write + Drop>(
@@ -185,6 +192,7 @@ fn perform<R: Files, O: Write + Drop>(
     match word {
         "subset" => subset(rt, alloc, given),
         "merge" => merge(rt, alloc, given),
+        "rejoin" => rejoin(rt, alloc, given),
         "check" => check(rt, alloc, given, out),
         "list" => list(rt, alloc, given, out),
         "show" => show(rt, alloc, given, out),
