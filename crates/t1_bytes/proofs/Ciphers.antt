@@ -71,15 +71,14 @@ encrypted_bytes (p ∷ ps) key k h =
     let small : key / 256 < 2 ^ 8 = omega arith in
     (xor_lt 8 p (key / 256) h.0 small, encrypted_bytes ps (next_key key c) (omega arith) h.1)
 
--- a last byte alone is enciphered, in either direction, by the key that stands before it
-module _ (cipher : ℕ → List ℕ → List ℕ) (of_one : (b key : ℕ) → cipher key (b ∷ []) ≡ bit_xor b (key / 256) ∷ []) where
-  pub last_byte : (bytes : List ℕ) (at now : ℕ) → at + 1 ≡ length bytes →
-      take at bytes ++ cipher now (drop at bytes) ≡ slice_set bytes at (bit_xor (slice_index_or bytes at 0) (now / 256))
-  last_byte [] zero now e = absurd (omega (arith, e))
-  last_byte [] (suc at) now e = absurd (omega (arith, e))
-  last_byte (b ∷ []) zero now e = of_one b now
-  last_byte (b ∷ c ∷ bytes) zero now e = absurd (omega (arith, e))
-  last_byte (b ∷ bytes) (suc at) now e = ap (λ (rest : List ℕ). b ∷ rest) (last_byte bytes at now (omega (arith, e)))
+-- the last byte of a cipher is decrypted by the key that stands before it
+pub last_byte : (bytes : List ℕ) (at now : ℕ) → at + 1 ≡ length bytes →
+    take at bytes ++ decrypted now (drop at bytes) ≡ slice_set bytes at (bit_xor (slice_index_or bytes at 0) (now / 256))
+last_byte [] zero now e = absurd (omega (arith, e))
+last_byte [] (suc at) now e = absurd (omega (arith, e))
+last_byte (b ∷ []) zero now e = refl
+last_byte (b ∷ c ∷ bytes) zero now e = absurd (omega (arith, e))
+last_byte (b ∷ bytes) (suc at) now e = ap (λ (rest : List ℕ). b ∷ rest) (last_byte bytes at now (omega (arith, e)))
 
 -- ---- lead bytes
 

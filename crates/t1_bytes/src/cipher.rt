@@ -44,17 +44,9 @@ pub fn encrypt(bytes: &mut [u8], key: u16)
     ensures cipher { Enciphers key bytes.old bytes.new }
 {
     let mut now = key;
-    let mut done = 0;
-    'pairs: while done + 1 < bytes.len() {
-        let cipher = bytes[done] ^ (now / 256) as u8;
-        let next = bytes[done + 1] ^ (key_after(now, cipher) / 256) as u8;
-        bytes[done] = cipher;
-        bytes[done + 1] = next;
-        now = key_after_both(now, cipher, next);
-        done += 2;
-    }
-    if done < bytes.len() {
-        bytes[done] ^= (now / 256) as u8;
+    for byte in bytes.iter_mut() {
+        *byte ^= (now / 256) as u8;
+        now = key_after(now, *byte);
     }
 }
 
