@@ -12,3 +12,5 @@ pub mod ListingMeaning
 pub mod ListingText
 pub mod ListingJoin
 pub mod LineMeaning
+pub mod Shown
+pub mod FaultTexts

@@ -12,8 +12,10 @@ use crate::gathered::Gathered;
 use crate::hexadecimal::Hex;
 use crate::lines::{Line, read_line, split_at_byte};
 use crate::partial::Join;
+use crate::shown::Shown;
 use crate::tables::Table;
 use std::alloc::{AllocError, Global};
+use std::fmt;
 use std::marker::Model;
 
 /// The Subrs of a font by index and its glyphs by name, each with its bytes, all lent by the text that spells them.
@@ -49,6 +51,23 @@ pub enum ListFault {
     Memory,
 }
 
+impl fmt::Display for ListFault {
+    ghost use Rattle.std.specs.Prelude.{Some};
+    ghost use Rattle.t1_join.specs.FaultTexts.{list_text};
+
+    ghost output = { λ fault. Some (list_text fault) };
+
+    fn fmt<W: fmt::Write>(&self, f: &mut fmt::Formatter<W>) -> fmt::Result {
+        match self {
+            ListFault::BadLine { line } => write!(f, "bad line {line}"),
+            ListFault::Repeated { line } => write!(f, "repeated in line {line}"),
+            ListFault::Memory => f.write_str("out of memory"),
+        }
+    }
+}
+
+impl std::error::Error for ListFault {}
+
 impl From<AllocError> for ListFault {
     ghost use Rattle.std.specs.Prelude.{◌≡◌};
     ghost use Rattle.t1_join.specs.declared.listing.ListFault.TheVariants.{Memory};
@@ -70,6 +89,23 @@ pub enum JoinFault {
     /// A growth was refused.
     Memory,
 }
+
+impl fmt::Display for JoinFault {
+    ghost use Rattle.std.specs.Prelude.{Some};
+    ghost use Rattle.t1_join.specs.FaultTexts.{join_text};
+
+    ghost output = { λ fault. Some (join_text fault) };
+
+    fn fmt<W: fmt::Write>(&self, f: &mut fmt::Formatter<W>) -> fmt::Result {
+        match self {
+            JoinFault::Subr { index } => write!(f, "subr {index} differs"),
+            JoinFault::Glyph { name } => write!(f, "glyph {} differs", Shown(name.as_slice())),
+            JoinFault::Memory => f.write_str("out of memory"),
+        }
+    }
+}
+
+impl std::error::Error for JoinFault {}
 
 impl From<AllocError> for JoinFault {
     ghost use Rattle.std.specs.Prelude.{◌≡◌};
