@@ -117,6 +117,16 @@ pub one_ok : (fs : List FontValue) (f d : FontValue) → length fs ≡ 1 → f �
 one_ok fs f d l e (Ok j) h = one_merges fs f d j l e h
 one_ok fs f d l e (Err c) h = tt
 
+pub pair : (fs : List FontValue) (f g d d2 : FontValue) → length fs ≡ 2 → f ≡ get_or fs 0 d → g ≡ get_or fs 1 d2 → f ∷ g ∷ [] ≡ fs
+pair [] f g d d2 l e k = absurd (omega (arith, l))
+pair (a ∷ []) f g d d2 l e k = absurd (omega (arith, l))
+pair (a ∷ b ∷ []) f g d d2 l e k = λ i. e i ∷ k i ∷ []
+pair (a ∷ b ∷ c ∷ fs) f g d d2 l e k = absurd (omega (arith, l))
+
+-- a font alone merges
+pub alone : (f : FontValue) → SomeGroupingMerges (f ∷ []) f
+alone f = (Leaf f, refl, refl)
+
 -- one grouping merges as the merges from left to right do
 pub comes_to : (fs : List FontValue) → 0 < length fs → AllByRecursion IsFont fs → (j : FontValue) → SomeGroupingMerges fs j → ComesTo fs j
 comes_to [] l w j h = absurd (omega arith)

@@ -48,6 +48,9 @@ pub(crate) fn made_of<'a>(alloc: Global, fonts: &[Font<'a>]) -> Result<Font<'a>,
     if fonts.len() == 1 {
         return copied(alloc, &fonts[0]);
     }
+    if fonts.len() == 2 {
+        return both(alloc, &fonts[0], &fonts[1]);
+    }
     let (front, back) = fonts.split_at(fonts.len() / 2);
     let front = made_of(alloc, front)?;
     let back = made_of(alloc, back)?;
