@@ -2,6 +2,7 @@ pub mod Locality
 mod Indices
 mod Mirrors
 pub mod DrawingLocality
+pub mod Grown
 mod Resumed
 mod Turns
 mod Between

@@ -4,6 +4,7 @@ pub mod Run
 pub mod Frames
 pub mod Machine
 pub mod Laws
+pub mod Growth
 pub mod Limits
 pub mod Tables
 pub mod Standard

@@ -45,5 +45,6 @@ pub mod ManyMerges
 mod ListMergers
 mod StateTrees
 pub mod Headline
+pub mod Evened
 pub mod KeptRows
 mod StateRows

@@ -19,3 +19,4 @@ pub mod Clashes
 pub mod Refusals
 pub mod Merger
 pub mod Headline
+pub mod Evened

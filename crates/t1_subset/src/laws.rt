@@ -3,6 +3,7 @@
 ghost use Rattle.t1_subset.specs.Laws.{KeepIsLeast, KeepIsMonotone, Distribution, SubsetIsFont, SubsetOfSubset, Bottom, SubsetsDraw, TwoSubsets, ManySubsets, JoinIsFont, JoinIsSymmetric, JoinIsIdempotent, StatesOfJoin, JoinsDraw, AnyOrder, AcceptedByPairs, JoinWhereStatesAgree, NoConflictIsJoin, ConflictIsSymmetric, JoinHasEntries, CallsDrawAlike};
 ghost use Rattle.t1_subset.specs.Profile.{profile};
 ghost use Rattle.t1_subset.specs.Headline.{Headline};
+ghost use Rattle.t1_subset.specs.Evened.{EvenedDraw};
 
 /// For every input that spells a font F and all sets A and B of its glyph names, reading the written subsets of A
 /// and B and merging them, in either order, writes the bytes of the subset of A together with B; over any list of
@@ -119,4 +120,11 @@ pub fn join_has_entries()
 /// the clauses of [`subset`](crate::subset) and [`merge`](crate::merge) tell over the maps of fonts, are those of the calls.
 pub fn calls_draw_alike()
     ensures { CallsDrawAlike }
+{}
+
+/// A glyph that is drawn in a font is drawn the same in the font that this is when it was made even: without its tag, with
+/// more Subrs declared and with stubs where it lacks some. What its charstring answers without a fault, it answers there;
+/// each where hints are replaced and where they are kept, by itself, over the maps of both fonts and as calls see them.
+pub fn evened_draw()
+    ensures { EvenedDraw }
 {}

@@ -1,0 +1,5 @@
+use Rattle.t1_subset.proofs.Evened.{evened_draw}
+use Rattle.t1_subset.proofs.laws.evened_draw.Goals as goal
+
+pub returns : goal.returns
+returns c = evened_draw
