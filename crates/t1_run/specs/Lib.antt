@@ -11,3 +11,4 @@ pub mod Standard
 pub mod Drawings
 pub mod Pictures
 pub mod BothAnswers
+pub mod FaultNames
