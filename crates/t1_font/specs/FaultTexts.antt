@@ -3,6 +3,8 @@ use Rattle.std.specs.Prelude.{ℕ, List, ◌++◌, codes}
 use Rattle.std.specs.Fmt.{decimal}
 use Rattle.t1_font.specs.declared.fault.ReadFault.{ReadFault}
 use Rattle.t1_font.specs.declared.fault.ReadFault.TheVariants.{TooLong, BadSegment, NoEexec, ShortCipher, NoEncoding, BadEncoding, NoCharStrings, BadLenIV, BadSubrs, BadGlyphs, Hybrid, NoClosefile, NoNotdef, Limit, Memory}
+use Rattle.t1_font.specs.declared.parts.PartsFault.{PartsFault}
+use Rattle.t1_font.specs.declared.parts.PartsFault.TheVariants as parts
 
 -- what is printed of a fault
 abbrev pub fault_text : ReadFault → List ℕ
@@ -21,3 +23,8 @@ fault_text NoClosefile = codes "no closefile"
 fault_text NoNotdef = codes "no .notdef"
 fault_text Limit = codes "over a limit"
 fault_text Memory = codes "out of memory"
+
+-- what is printed of entries that are not one font
+abbrev pub parts_text : PartsFault → List ℕ
+parts_text parts.Limit = codes "over a limit"
+parts_text parts.Memory = codes "out of memory"

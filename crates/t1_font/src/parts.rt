@@ -16,6 +16,7 @@ use crate::lent::{Named, Numbered};
 use crate::limits::{COUNT_LIMIT, WEIGHT_LIMIT};
 use std::alloc::{AllocError, Global};
 use std::cmp::Ordering;
+use std::fmt;
 
 /// Why the entries of two fonts are not one font.
 #[derive(Clone, Copy, Debug, PartialEq, Eq)]
@@ -25,6 +26,22 @@ pub enum PartsFault {
     /// A growth was refused.
     Memory,
 }
+
+impl fmt::Display for PartsFault {
+    ghost use Rattle.std.specs.Prelude.{Some};
+    ghost use Rattle.t1_font.specs.FaultTexts.{parts_text};
+
+    ghost output = { λ fault. Some (parts_text fault) };
+
+    fn fmt<W: fmt::Write>(&self, f: &mut fmt::Formatter<W>) -> fmt::Result {
+        f.write_str(match self {
+            PartsFault::Limit => "over a limit",
+            PartsFault::Memory => "out of memory",
+        })
+    }
+}
+
+impl std::error::Error for PartsFault {}
 
 impl From<AllocError> for PartsFault {
     ghost use Rattle.std.specs.Prelude.{◌≡◌};

@@ -1,5 +1,11 @@
 //! Why two fonts do not join.
 
+ghost use Rattle.std.specs.Prelude.{◌≡◌, Some};
+ghost use Rattle.t1_subset.specs.FaultTexts.{part_text, conflict_text};
+
+use std::fmt;
+use t1_join::Shown;
+
 /// A part of a font's shell, in the order in which parts are compared.
 #[derive(Clone, Copy, PartialEq, Eq, Debug)]
 pub enum ShellPart {
@@ -45,3 +51,53 @@ pub enum Conflict {
     /// There are no fonts to merge.
     Empty,
 }
+
+impl fmt::Display for ShellPart {
+    ghost output = { λ part. Some (part_text part) };
+
+    fn fmt<W: fmt::Write>(&self, f: &mut fmt::Formatter<W>) -> fmt::Result {
+        f.write_str(match self {
+            ShellPart::Head => "head",
+            ShellPart::Encoding => "encoding",
+            ShellPart::ClearTail => "clear tail",
+            ShellPart::Private => "private",
+            ShellPart::SubrsTable => "Subrs table",
+            ShellPart::SubrsWords => "Subrs words",
+            ShellPart::Middle => "middle",
+            ShellPart::GlyphsWords => "CharStrings words",
+            ShellPart::Tail => "tail",
+        })
+    }
+}
+
+impl fmt::Display for Conflict {
+    ghost output = { λ conflict. Some (conflict_text conflict) };
+
+    fn fmt<W: fmt::Write>(&self, f: &mut fmt::Formatter<W>) -> fmt::Result {
+        match self {
+            Conflict::Shell { part } => write!(f, "shells differ in {part}"),
+            Conflict::Code { code } => write!(f, "code {code} differs"),
+            Conflict::Glyph { name } => write!(f, "glyph {} differs", Shown(name.as_slice())),
+            Conflict::Part { glyph, part } => {
+                let glyph = Shown(glyph.as_slice());
+                write!(f, "glyph {glyph} lacks part {}", Shown(part.as_slice()))
+            }
+            Conflict::Subr { index, glyph: None } => write!(f, "subr {index} differs"),
+            Conflict::Subr {
+                index,
+                glyph: Some(name),
+            } => {
+                write!(
+                    f,
+                    "subr {index} differs, used by {}",
+                    Shown(name.as_slice())
+                )
+            }
+            Conflict::Limit => f.write_str("over a limit"),
+            Conflict::Memory => f.write_str("out of memory"),
+            Conflict::Empty => f.write_str("nothing to merge"),
+        }
+    }
+}
+
+impl std::error::Error for Conflict {}
