@@ -54,3 +54,4 @@ pub mod CutEntries
 pub mod CutLoops
 pub mod LentTables
 mod TinyCuts
+pub mod TagLemmas

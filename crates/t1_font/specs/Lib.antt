@@ -29,4 +29,6 @@ pub mod Laws
 pub mod Writing
 pub mod Canon
 pub mod Cut
+pub mod Tags
+pub mod Evening
 pub mod WriteLaws

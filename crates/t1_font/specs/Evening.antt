@@ -1,0 +1,82 @@
+-- Fonts made even: subsets that other programs cut have a tag before their font's name, and declare no Subrs after the last one used.
+use Rattle.std.specs.Prelude.{ℕ, max, nat_lt, List, [], ◌∷◌, map, filter}
+use Rattle.std.specs.List.{flat_map}
+use Rattle.std.specs.Option.{option_map}
+use Rattle.std.specs.FinMap.{entries, keys, from_entries}
+use Rattle.t1_font.specs.FontValue.{FontValue, Shell, SubrsShell, Numbered, declared_count}
+use Rattle.t1_font.specs.Cut.{stub, merged}
+use Rattle.t1_font.specs.Tags.{untagged_head}
+
+-- a table that declares at least so many Subrs
+abbrev pub raised : ℕ → SubrsShell → SubrsShell
+raised n s = record { declared = max n s.declared; rd = s.rd; put = s.put; closing = s.closing }
+
+-- a shell without a tag, whose table of Subrs, where there is one, declares at least so many
+abbrev pub even_shell : ℕ → Shell → Shell
+even_shell n s = record {
+  head = untagged_head s.head;
+  clear_tail = s.clear_tail;
+  private = s.private;
+  middle = s.middle;
+  tail = s.tail;
+  len_iv = s.len_iv;
+  subrs = option_map (raised n) s.subrs;
+  glyphs_rd = s.glyphs_rd;
+  glyphs_def = s.glyphs_def;
+}
+
+-- a font of that shell
+abbrev pub even : ℕ → FontValue → FontValue
+even n f = record {
+  shell = even_shell n f.shell;
+  encoding = f.encoding;
+  subrs = f.subrs;
+  glyphs = f.glyphs;
+}
+
+-- ---- stubs
+
+-- a stub at each of these indices
+abbrev pub stubs_at : List ℕ → Numbered
+stubs_at indices = from_entries (map (λ i. (i, stub)) indices)
+
+-- the indices that are below a count
+abbrev pub below : ℕ → List ℕ → List ℕ
+below n indices = filter (λ i. nat_lt i n) indices
+
+-- Subrs with a stub at each of these indices that they lack; where there are none, none
+abbrev pub with_stubs : List ℕ → Numbered → List (ℕ × List ℕ) → Numbered
+with_stubs indices m [] = m
+with_stubs indices m (e ∷ es) = merged m (stubs_at indices)
+
+-- a font with a stub at each of these indices that it declares and lacks; a table without entries has no words to write one with, and stays
+abbrev pub filled : List ℕ → FontValue → FontValue
+filled indices f = record {
+  shell = f.shell;
+  encoding = f.encoding;
+  subrs = with_stubs (below (declared_count f.shell.subrs) indices) f.subrs (entries f.subrs);
+  glyphs = f.glyphs;
+}
+
+-- ---- lists of fonts
+
+-- the largest declared count of a list of fonts
+abbrev pub largest_count : List FontValue → ℕ
+largest_count [] = 0
+largest_count (f ∷ fs) = max (declared_count f.shell.subrs) (largest_count fs)
+
+-- the indices at which a font of the list has a Subr
+abbrev pub indices_of_all : List FontValue → List ℕ
+indices_of_all fs = flat_map (λ f. keys f.subrs) fs
+
+-- the fonts without tags, each with the largest declared count
+abbrev pub evened_shells : List FontValue → List FontValue
+evened_shells fs = map (even (largest_count fs)) fs
+
+-- the fonts, each with a stub where it lacks a Subr that another has
+abbrev pub filled_all : List FontValue → List FontValue
+filled_all fs = map (filled (indices_of_all fs)) fs
+
+-- the fonts made even: without tags, with one declared count, and with Subrs at one set of indices
+abbrev pub evened : List FontValue → List FontValue
+evened fs = filled_all (evened_shells fs)
