@@ -55,3 +55,5 @@ pub mod CutLoops
 pub mod LentTables
 mod TinyCuts
 pub mod TagLemmas
+pub mod Evened
+pub mod Filled

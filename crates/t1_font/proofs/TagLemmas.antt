@@ -1,14 +1,18 @@
 -- Tags are read as they are spelled, and what stands behind them ends the text.
 use Rattle.std.proofs.Common.{◌≡◌, ◌⊎◌, ℕ, zero, suc, ◌-◌, ◌≤◌, ◌<◌, arith, List, [], ◌∷◌, ◌++◌, length, take, Option, Some, None, is_some, eqb, Bool, true, false, cond, inl, inr, refl, sym, ap, subst, ◌∙◌, append_assoc}
-use Rattle.std.specs.Prelude.{codes}
-use Rattle.std.specs.Option.{option_and_then}
-use Rattle.std.proofs.lemmas.Bool.{cases_Bool}
+use Rattle.std.specs.Prelude.{codes, not, ◌==◌}
+use Rattle.std.specs.Option.{option_and_then, option_map}
+use Rattle.std.proofs.lemmas.Bool.{cases_Bool, eqb-true}
 use Rattle.std.proofs.lemmas.List.{length-append, take_at}
 use Rattle.std.proofs.lemmas.Slice.Eq.{bytes_eq-Decides}
-use Rattle.std.proofs.lemmas.Option.{none-some}
-use Rattle.t1_bytes.specs.Grammar.{IsExact, first}
+use Rattle.std.proofs.lemmas.Option.{none-some, same_Some}
+use Rattle.t1_bytes.specs.Grammar.{IsExact, first, fixed, before}
 use Rattle.t1_bytes.proofs.Grammars.{bind_exact, that_exact, count_exact, fixed_exact, first_exact}
 use Rattle.t1_bytes.proofs.EexecLemmas.{white_exact}
+use Rattle.t1_font.specs.Words.{is_regular}
+use Rattle.t1_font.specs.Markers.{encoding_marker, break_comes}
+use Rattle.t1_font.proofs.Borders.{strip, fixed_strip}
+use Rattle.t1_font.proofs.Moves.{is_slashless}
 use Rattle.t1_font.specs.Tags.{tag, name_marker, past_tag, behind_tags, untagged, begins_encoding, named_head, untagged_head}
 
 pub name_marker_exact : IsExact name_marker
@@ -136,3 +140,119 @@ loses_tags head = by_name ((first name_marker).read head) refl
     by_name : (o : Option ((List ℕ × List ℕ) × List ℕ)) → (first name_marker).read head ≡ o → (named_head head o ≡ head) ⊎ Untagged head (named_head head o)
     by_name None e = inl refl
     by_name (Some x) e = by_test x (named head x e) (begins_encoding (untagged x.1)) refl
+
+-- ---- whether a name would begin an Encoding
+
+-- the bytes end, or one comes that ends a word
+abbrev pub ends_word : List ℕ → Bool
+ends_word [] = true
+ends_word (b ∷ bs) = not (is_regular b)
+
+-- the same behind what was read, where something was
+abbrev pub ends_after : Option (List ℕ × List ℕ) → Bool
+ends_after None = false
+ends_after (Some x) = ends_word x.1
+
+pub ends_there : (bytes : List ℕ) → (length bytes == 0) ≡ true → true ≡ ends_word bytes
+ends_there [] h = refl
+ends_there (b ∷ bs) h = absurd (omega (arith, eqb-true (length (b ∷ bs)) 0 h))
+
+break_there : (r : List ℕ) → break_comes (r ++ 47 ∷ []) ≡ ends_word r
+break_there [] = refl
+break_there (b ∷ bs) = refl
+
+strip_before : (w name : List ℕ) → is_slashless w ≡ true → strip w (name ++ 47 ∷ []) ≡ option_map (λ r. r ++ 47 ∷ []) (strip w name)
+strip_before [] name h = refl
+strip_before (c ∷ w) [] h = elim (cases_Bool (eqb c 47)) [
+  | inl t ↦ let k : false ≡ true = rw t at h in absurd cc
+  | inr t ↦ rw t refl
+]
+strip_before (c ∷ w) (b ∷ bs) h = elim (cases_Bool (eqb c 47)) [
+  | inl t ↦ let k : false ≡ true = rw t at h in absurd cc
+  | inr t ↦ let k : is_slashless w ≡ true = rw t at h in elim (cases_Bool (eqb c b)) [
+    | inl s ↦ rw s (strip_before w bs k)
+    | inr s ↦ rw s refl
+  ]
+]
+
+marker_after : (o : Option (List ℕ)) → is_some (option_and_then (λ (x : List ℕ × List ℕ). (before break_comes).read x.1) (option_and_then (λ r. Some (codes "/Encoding", r)) (option_map (λ r. r ++ 47 ∷ []) o))) ≡ ends_after (option_and_then (λ r. Some (codes "Encoding", r)) o)
+marker_after None = refl
+marker_after (Some r) = by_break (break_comes (r ++ 47 ∷ [])) refl ∙ break_there r
+  where
+    by_break : (b : Bool) → break_comes (r ++ 47 ∷ []) ≡ b → is_some ((before break_comes).read (r ++ 47 ∷ [])) ≡ break_comes (r ++ 47 ∷ [])
+    by_break true t = rw t refl
+    by_break false t = rw t refl
+
+pub begins_read : (name : List ℕ) → begins_encoding name ≡ ends_after ((fixed (codes "Encoding")).read name)
+unfolding encoding_marker
+begins_read name =
+    ap (λ (o : Option (List ℕ × List ℕ)). is_some (option_and_then (λ (x : List ℕ × List ℕ). (before break_comes).read x.1) o)) (fixed_strip (codes "/Encoding") (47 ∷ (name ++ 47 ∷ [])))
+    ∙ (ap (λ (o : Option (List ℕ)). is_some (option_and_then (λ (x : List ℕ × List ℕ). (before break_comes).read x.1) (option_and_then (λ r. Some (codes "/Encoding", r)) o))) (strip_before (codes "Encoding") name refl)
+    ∙ (marker_after (strip (codes "Encoding") name)
+    ∙ ap ends_after (sym (fixed_strip (codes "Encoding") name))))
+
+-- ---- a walk over tags
+
+-- what is left of a text where some tags were passed
+abbrev pub Walked : List ℕ → List ℕ → Type 0
+Walked text rest = (n : ℕ) × (length rest ≤ n) × (behind_tags n rest ≡ untagged text)
+
+from_map : (o : Option (List ℕ × List ℕ)) → None ≡ option_map (λ x. x.1) o → o ≡ None
+from_map None e = refl
+from_map (Some x) e = absurd (none-some x.1 e)
+
+to_map : (o : Option (List ℕ × List ℕ)) (r : List ℕ) → Some r ≡ option_map (λ x. x.1) o → (x : List ℕ × List ℕ) × (o ≡ Some x) × (x.1 ≡ r)
+to_map None r e = absurd (none-some r (sym e))
+to_map (Some x) r e = (x, refl, same_Some x.1 r (sym e))
+
+pub walked_on : (text rest next : List ℕ) → Walked text rest → Some next ≡ option_map (λ x. x.1) (tag.read rest) → Walked text next × (length next < length rest)
+walked_on text rest next w e =
+    let x = to_map (tag.read rest) next e in
+    let less : length next < length rest = omega (arith, tag_shortens rest x.0 x.1, ap length x.2) in
+    (by_fuel w.0 w.1 w.2 x.0 x.1 x.2 less, less)
+  where
+    by_fuel : (n : ℕ) → length rest ≤ n → behind_tags n rest ≡ untagged text → (x : List ℕ × List ℕ) → tag.read rest ≡ Some x → x.1 ≡ next → length next < length rest → Walked text next
+    by_fuel zero le h x e is less = absurd (omega (arith, le, less))
+    by_fuel (suc n) le h x e is less = (n, omega (arith, le, less), ap (behind_tags n) (sym is) ∙ (sym (past_one n rest x e) ∙ h))
+
+pub walked_through : (text rest : List ℕ) → Walked text rest → None ≡ option_map (λ x. x.1) (tag.read rest) → rest ≡ untagged text
+walked_through text rest w e = sym (no_tag w.0 rest (from_map (tag.read rest) e)) ∙ w.2
+
+-- ---- a head in parts
+
+-- of the same length as the whole is only the whole
+whole_end : (text end : List ℕ) → EndsWith text end → length end ≡ length text → end ≡ text
+whole_end text end h e = ends h.0 h.1
+  where
+    ends : (u : List ℕ) → text ≡ u ++ end → end ≡ text
+    ends [] is = sym is
+    ends (b ∷ u) is = absurd (omega (arith, ap length is, length-append u end, e))
+
+all_again : (head rest : List ℕ) → Named head rest → take (length head - length rest) head ++ rest ≡ head
+all_again head rest h = ap (λ (u : List ℕ). u ++ rest) (before_name head rest h) ∙ (append_assoc h.before (47 ∷ []) rest ∙ sym h.whole)
+
+either_way : (b : Bool) (x : List ℕ) (y : List ℕ) → y ≡ x → cond b x y ≡ x
+either_way true x y e = refl
+either_way false x y e = e
+
+-- where no name is found
+pub no_name : (head : List ℕ) → None ≡ (first name_marker).read head → untagged_head head ≡ head
+no_name head e = ap (named_head head) (sym e)
+
+module _ (head : List ℕ) (x : (List ℕ × List ℕ) × List ℕ) (e : Some x ≡ (first name_marker).read head) where
+  named_is : untagged_head head ≡ named_head head (Some x)
+  named_is = ap (named_head head) (sym e)
+
+  -- where the name has no tag
+  pub no_tags_there : (name : List ℕ) → name ≡ untagged x.1 → length name ≡ length x.1 → untagged_head head ≡ head
+  no_tags_there name is same =
+      let whole : untagged x.1 ≡ x.1 = whole_end x.1 (untagged x.1) (ends_untagged (length x.1) x.1) (ap length (sym is) ∙ same) in
+      named_is ∙ either_way (begins_encoding (untagged x.1)) head _ (ap (λ (u : List ℕ). take (length head - length x.1) head ++ u) whole ∙ all_again head x.1 (named head x (sym e)))
+
+  -- where it would begin an Encoding
+  pub encoding_there : (name : List ℕ) → name ≡ untagged x.1 → begins_encoding name ≡ true → untagged_head head ≡ head
+  encoding_there name is h = named_is ∙ ap (λ b. cond b head (take (length head - length x.1) head ++ untagged x.1)) (ap begins_encoding (sym is) ∙ h)
+
+  -- where it is left out
+  pub tags_there : (before name : List ℕ) → name ≡ untagged x.1 → before ≡ take (length head - length x.1) head → begins_encoding name ≡ false → before ++ name ≡ untagged_head head
+  tags_there before name is at h = (λ i. at i ++ is i) ∙ sym (named_is ∙ ap (λ b. cond b head (take (length head - length x.1) head ++ untagged x.1)) (ap begins_encoding (sym is) ∙ h))
