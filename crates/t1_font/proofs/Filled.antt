@@ -86,7 +86,7 @@ module _ (m : Numbered) (all fs : List FontValue) (i : ℕ) (d f : FontValue) (r
       ap (λ b. contains_key m q || b) (ap (λ (es : List (ℕ × List ℕ)). is_one q (map (λ e. e.0) es ++ indices_of_all (drop (i + 1) fs))) (sym none))
       ∙ (ap (λ (gs : List FontValue). contains_key m q || is_one q (indices_of_all gs)) (sym next) ∙ h q)
 
-find_stub : (q : ℕ) (indices : List ℕ) → find nat_cmp q (map (λ i. (i, stub)) indices) ≡ cond (is_one q indices) (Some stub) None
+pub find_stub : (q : ℕ) (indices : List ℕ) → find nat_cmp q (map (λ i. (i, stub)) indices) ≡ cond (is_one q indices) (Some stub) None
 find_stub q [] = refl
 find_stub q (j ∷ js) = elim (eq_by_cmp nat_cmp q j) as (λ b. cond b (Some stub) (find nat_cmp q (map (λ i. (i, stub)) js)) ≡ cond (b || is_one q js) (Some stub) None) [ true ↦ refl | false ↦ find_stub q js ]
 

@@ -57,3 +57,5 @@ mod TinyCuts
 pub mod TagLemmas
 pub mod Evened
 pub mod Filled
+pub mod EvenStays
+mod TagRows

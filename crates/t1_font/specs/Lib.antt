@@ -32,4 +32,5 @@ pub mod Cut
 pub mod Tags
 pub mod Evening
 pub mod Filling
+pub mod EveningLaws
 pub mod WriteLaws
