@@ -2,11 +2,9 @@
 use Rattle.std.proofs.Common.{◌≡◌, ℕ, ◌≤◌, arith, Bool, true, false, cond, List, [], ◌∷◌, map, Option, Some, None, is_some, refl, sym, ap, ◌∙◌, true≢false}
 use Rattle.std.specs.Prelude.{max, nat_lt}
 use Rattle.std.specs.Option.{option_map}
-use Rattle.std.specs.Ordering.{nat_cmp, eq_by_cmp}
-use Rattle.std.specs.List.{list_any}
 use Rattle.std.specs.Cmp.{nat_cmp_total}
-use Rattle.std.specs.FinMap.{find, get, entries, keys, contains_key-keys, get-from_entries, get-retain_keys, same_map, nat_cmp-IsAntisymmetric}
-use Rattle.t1_font.specs.FontValue.{FontValue, SubrsShell, Numbered, declared_count}
+use Rattle.std.specs.FinMap.{get, entries, keys, contains_key-keys, get-from_entries, same_map, nat_cmp-IsAntisymmetric}
+use Rattle.t1_font.specs.FontValue.{SubrsShell, Numbered, declared_count}
 use Rattle.t1_font.specs.Cut.{stub, merged}
 use Rattle.t1_font.specs.Evening.{raised, stubs_at, below, with_stubs}
 use Rattle.t1_font.specs.EveningLaws.{EvenStays, FilledStays}

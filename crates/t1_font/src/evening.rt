@@ -18,7 +18,11 @@ fn raised(kept: Option<KeptSubrs>, declared: u16) -> Option<KeptSubrs>
 {
     match kept {
         Some(kept) => Some(KeptSubrs {
-            declared: if kept.declared < declared { declared } else { kept.declared },
+            declared: if kept.declared < declared {
+                declared
+            } else {
+                kept.declared
+            },
             rd: kept.rd,
             put: kept.put,
             closing: kept.closing,

@@ -35,8 +35,8 @@ mod words;
 mod writing;
 
 pub use cut::{STUB, restrict};
-pub use fault::ReadFault;
 pub use evening::even_shells;
+pub use fault::ReadFault;
 pub use file::{read, read_vec};
 pub use filling::fill_all;
 pub use font::{Font, Names, Part};

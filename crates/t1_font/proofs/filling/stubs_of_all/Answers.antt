@@ -24,9 +24,9 @@ fonts-preserved c =
     let subrs : c.font-inside.inside.0.0.subrs ≡ f.subrs = ap (λ (s : Inside). s.parts.subrs) c.font-inside.view_is ∙ ap (λ (f : FontValue). f.subrs) c.font.view_is in
     elim c.if-not-is_empty.branch [
       | then-not-is_empty+in_ok-all w ↦ subst (λ (m : Numbered). IndicesSoFar m (drop (i + 1) fs) fs) (sym w.all-is)
-        (one_more_font c.fonts.all fs fs i f f c.fonts-test.true (sym c.font-item.is) c.fonts.invariant w.in_ok-all.all (w.in_ok-all.ensures ∙ ap (merged c.fonts.all) subrs))
+          (one_more_font c.fonts.all fs fs i f f c.fonts-test.true (sym c.font-item.is) c.fonts.invariant w.in_ok-all.all (w.in_ok-all.ensures ∙ ap (merged c.fonts.all) subrs))
       | else-not-is_empty w ↦ subst (λ (m : Numbered). IndicesSoFar m (drop (i + 1) fs) fs) (sym w.all-is)
-        (no_more_font c.fonts.all fs fs i f f c.fonts-test.true (sym c.font-item.is) c.fonts.invariant (no_entries_there f.subrs (ap (λ (m : Numbered). has_none (entries m)) (sym subrs) ∙ (sym c.is_empty.ensures ∙ w.if-not-is_empty.false))))
+          (no_more_font c.fonts.all fs fs i f f c.fonts-test.true (sym c.font-item.is) c.fonts.invariant (no_entries_there f.subrs (ap (λ (m : Numbered). has_none (entries m)) (sym subrs) ∙ (sym c.is_empty.ensures ∙ w.if-not-is_empty.false))))
     ]
 
 pub returns : goal.returns
