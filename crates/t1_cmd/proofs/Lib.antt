@@ -8,3 +8,4 @@ pub mod JoinLemmas
 pub mod ListInputs
 pub mod FontLemmas
 pub mod Walks
+pub mod RejoinLemmas

@@ -10,4 +10,5 @@ pub mod CheckText
 pub mod ListText
 pub mod DrawingText
 pub mod Mergers
+pub mod Rejoins
 pub mod WrittenSubsets

@@ -11,6 +11,7 @@ mod list;
 mod listings;
 mod mergers;
 mod reading;
+mod rejoins;
 mod show;
 mod subsets;
 #[cfg(test)]
@@ -25,6 +26,7 @@ pub use list::run_list;
 pub use listings::run_join;
 pub use mergers::run_merge;
 pub use reading::read_all;
+pub use rejoins::run_rejoin;
 pub use show::run_show;
 pub use subsets::run_subset;
 pub use t1_bytes::FILE_LIMIT;

@@ -27,7 +27,10 @@ fn keep(sources: &mut Vec<Source>, source: Source) -> Result<(), AllocError>
 }
 
 // The sources of the fonts that the readers' bytes spell, one after the other.
-fn read_fonts<R: Read>(alloc: Global, readers: &mut [Counted<R>]) -> Result<Vec<Source>, RunFault>
+pub(crate) fn read_fonts<R: Read>(
+    alloc: Global,
+    readers: &mut [Counted<R>],
+) -> Result<Vec<Source>, RunFault>
     ensures says { IfOk result (λ sources. Say font_input (inputs_of R.remaining readers.old readers.new) sources.items) }
     ensures stops { IfErr result (λ e. InputsStop font_input (inputs_of R.remaining readers.old readers.new) e) }
     ensures turns { InTurns readers.old readers.new }
@@ -44,7 +47,7 @@ fn read_fonts<R: Read>(alloc: Global, readers: &mut [Counted<R>]) -> Result<Vec<
 }
 
 // The font of each source.
-fn fonts_of(alloc: Global, sources: &[Source]) -> Result<Vec<Font<'_>>, AllocError>
+pub(crate) fn fonts_of(alloc: Global, sources: &[Source]) -> Result<Vec<Font<'_>>, AllocError>
     ensures { IfOk result (λ fonts. fonts.items ≡ sources.now) }
 {
     let mut fonts = Vec::with_capacity(alloc, sources.len())?;
@@ -67,7 +70,11 @@ fn merged<'a>(alloc: Global, fonts: &[Font<'a>]) -> Result<Font<'a>, RunFault>
 }
 
 // The canonical file of the font that fonts come to.
-fn merged_file(alloc: Global, fonts: &[Font<'_>], form: Form) -> Result<Vec<u8>, RunFault>
+pub(crate) fn merged_file(
+    alloc: Global,
+    fonts: &[Font<'_>],
+    form: Form,
+) -> Result<Vec<u8>, RunFault>
     ensures text { IfOk result (λ text. MergesTo form fonts.now (Ok text.items)) }
     ensures refused { IfErr result (λ e. MergeStops form fonts.now e) }
 {

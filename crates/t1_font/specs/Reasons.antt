@@ -1,5 +1,5 @@
 -- Why a file spells no font: the first row whose condition holds. Each row names the pieces that were spelled before it.
-use Rattle.std.specs.Prelude.{◌≡◌, ◌⊎◌, ℕ, ◌-◌, ◌≤◌, ◌<◌, true, false, List, ◌++◌, length, Option, Some, None}
+use Rattle.std.specs.Prelude.{◌≡◌, ◌⊎◌, ℕ, ◌-◌, ◌≤◌, ◌<◌, true, false, List, ◌++◌, length, Option, Some}
 use Rattle.std.specs.FinMap as maps
 use Rattle.t1_bytes.specs.Grammar.{first, BreaksOff, CountBreaksOff, AtFront, NotAtFront, Has, Lacks, TableAt}
 use Rattle.t1_bytes.specs.Segments.{IsFlat, IsBad}

@@ -2,6 +2,7 @@
 //! that then answers want of memory answers right when it is made again.
 
 use super::cuts::{joined, tiny_cut};
+use super::evening::{MARKS, TABLES, evened, is_left};
 use super::rewritten;
 use super::tiny::{PFA, PFB};
 use crate::{Form, PartsFault, ReadFault, read_vec};
@@ -26,6 +27,18 @@ fn cuts_join(alloc: Global) -> Result<bool, PartsFault> {
     Ok(parts.as_slice() == both.as_slice())
 }
 
+/// Whether fonts are made even: `Source::even` leaves a head without its tag, and `even_shells` and `fill_all` the same
+/// Subrs in each.
+fn evens(alloc: Global) -> Result<bool, PartsFault> {
+    let left = is_left(
+        alloc,
+        b"/FontName /ABCDEF+Tiny def ",
+        b"/FontName /Tiny def ",
+    )?;
+    let marks = evened(alloc, TABLES)?;
+    Ok(left && marks.as_slice() == MARKS)
+}
+
 #[test]
 fn growths_of_files(rt: HostRuntime) -> Result<(), Fail> {
     const FILES: &[&[u8]] = &[PFA, PFB];
@@ -43,6 +56,16 @@ fn growths_of_files(rt: HostRuntime) -> Result<(), Fail> {
 fn growths_of_parts(rt: HostRuntime) -> Result<(), Fail> {
     let right = match cuts_join(rt.alloc()) {
         Err(PartsFault::Memory) => cuts_join(rt.alloc()).is_ok_and(|right| right),
+        answer => answer.is_ok_and(|right| right),
+    };
+    assert!(rt; right);
+    Ok(())
+}
+
+#[test]
+fn growths_of_evening(rt: HostRuntime) -> Result<(), Fail> {
+    let right = match evens(rt.alloc()) {
+        Err(PartsFault::Memory) => evens(rt.alloc()).is_ok_and(|right| right),
         answer => answer.is_ok_and(|right| right),
     };
     assert!(rt; right);

@@ -1,4 +1,4 @@
-use Rattle.std.proofs.Common.{refl, ap, List, ℕ}
+use Rattle.std.proofs.Common.{refl, ap}
 use Rattle.t1_font.specs.declared.encoding.Opening.{Opening}
 use Rattle.t1_font.specs.Views.{opening_view}
 use Rattle.t1_font.specs.Pieces.{encoding_from, OneWord}

@@ -1,4 +1,3 @@
-use Rattle.std.proofs.Common.{◌≡◌}
 use Rattle.t1_font.specs.Gathering.{CodesAlone}
 use Rattle.t1_font.proofs.Arrays.{NamesSoFar}
 use Rattle.t1_font.proofs.encoding.names_at.Given as goal

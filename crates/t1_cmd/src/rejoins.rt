@@ -1,0 +1,59 @@
+//! The engine that rejoins fonts that other programs cut.
+ghost use Rattle.std.specs.Prelude.{IfOk, IfErr, Ok};
+ghost use Rattle.t1_cmd.specs.Fonts.{font_input};
+ghost use Rattle.t1_cmd.specs.Runs.{RunEnds, Succeeds};
+ghost use Rattle.t1_cmd.specs.Mergers.{inputs_of, InTurns};
+ghost use Rattle.t1_cmd.specs.Rejoins.{RejoinsTo, RejoinStops};
+
+use crate::counting::Counted;
+use crate::faults::{Reason, RunFault};
+use crate::mergers::{fonts_of, merged_file, read_fonts};
+use crate::writing::write_text;
+use std::alloc::Global;
+use std::io::{Read, Write};
+use t1_font::{Form, PartsFault, Source, even_shells, fill_all};
+use t1_subset::Conflict;
+
+// The canonical file of the font that these come to when they are made even.
+fn rejoined_file(alloc: Global, sources: Vec<Source>, form: Form) -> Result<Vec<u8>, RunFault>
+    ensures text { IfOk result (λ text. RejoinsTo form sources.items (Ok text.items)) }
+    ensures refused { IfErr result (λ e. RejoinStops form sources.items e) }
+{
+    let evened = even_shells(alloc, sources)?;
+    let lent = fonts_of(alloc, evened.as_slice())?;
+    let filled = match fill_all(alloc, lent) {
+        Ok(filled) => filled,
+        Err(PartsFault::Limit) => return Err(RunFault::Refused(Reason::Merge(Conflict::Limit))),
+        Err(PartsFault::Memory) => return Err(RunFault::Refused(Reason::Memory)),
+    };
+    merged_file(alloc, filled.as_slice(), form)
+}
+
+/// Writes the canonical file, in one of the two forms, of the font that fonts come to when they are made even and then
+/// merged from left to right: fonts of one parent that other programs cut have tags before their names, and declare no
+/// Subrs after the last one used.
+///
+/// The inputs are read and understood one after the other, made even and merged after that; of several causes the first
+/// in that order is answered. A font that is too heavy with the stubs that it gets is told as [`Conflict::Limit`].
+pub fn run_rejoin<R: Read, W: Write>(
+    alloc: Global,
+    readers: &mut [Counted<R>],
+    form: Form,
+    writer: &mut Counted<W>,
+) -> Result<(), RunFault>
+    ensures ends { RunEnds font_input (RejoinsTo form) W.contents
+        (inputs_of R.remaining readers.old readers.new) writer.old writer.new result }
+    ensures succeeds { Succeeds font_input (RejoinsTo form)
+        (inputs_of R.remaining readers.old readers.new) writer.old writer.new result }
+    ensures turns { InTurns readers.old readers.new }
+{
+    let sources = match read_fonts(alloc, readers) {
+        Ok(sources) => sources,
+        Err(fault) => return Err(fault),
+    };
+    let text = match rejoined_file(alloc, sources, form) {
+        Ok(text) => text,
+        Err(fault) => return Err(fault),
+    };
+    write_text(writer, text.as_slice())
+}

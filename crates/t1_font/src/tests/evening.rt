@@ -1,0 +1,199 @@
+//! Sources made even, and fonts that are filled.
+
+use super::{GLYPHS, joined, lent_counts, source};
+use crate::{Font, Part, PartsFault, STUB, Source, WEIGHT_LIMIT, even_shells, fill_all};
+use std::alloc::{AllocError, Global};
+use std::test::Fail;
+
+/// Subr 0, of two that are declared.
+const ONE: &[u8] = b"/lenIV 0 def /Subrs 2 array\ndup 0 1 RD \x0e NP\nND\n";
+
+/// Subrs 1 and 4, of five.
+const TWO: &[u8] = b"/lenIV 0 def /Subrs 5 array\ndup 1 1 RD \x0e NP\ndup 4 1 RD \x0e NP\nND\n";
+
+/// None of three.
+const EMPTY: &[u8] = b"/lenIV 0 def /Subrs 3 array\nND\n";
+
+/// No table of Subrs.
+const NONE: &[u8] = b"/lenIV 0 def ";
+
+/// The source of a font with this head, and with these Subrs and blanks behind them.
+fn made(alloc: Global, head: &[u8], subrs: &[u8], blanks: usize) -> Result<Source, AllocError> {
+    let clear = joined(
+        alloc,
+        head,
+        b"/Encoding StandardEncoding def\ncurrentfile eexec\n",
+    )?;
+    let mut private = Vec::from_slice(alloc, subrs)?;
+    private.resize(private.len().saturating_add(blanks), b' ')?;
+    private.extend_from_slice(GLYPHS)?;
+    match source(alloc, clear.as_slice(), private.as_slice()) {
+        Ok(source) => Ok(source),
+        Err(_) => Err(AllocError),
+    }
+}
+
+/// Whether the font of a source has this head.
+fn has_head(alloc: Global, source: &Source, head: &[u8]) -> Result<bool, AllocError> {
+    let font = source.font(alloc)?;
+    Ok(font.text(Part::Head) == head)
+}
+
+/// Whether this is left of a head when its font is made even.
+pub fn is_left(alloc: Global, head: &[u8], want: &[u8]) -> Result<bool, AllocError> {
+    let source = made(alloc, head, ONE, 0)?;
+    let source = source.even(alloc, 7)?;
+    Ok(source.declared_count() == 7 && has_head(alloc, &source, want)?)
+}
+
+/// For each Subr of the first five a letter: a dot where there is none, `s` for a stub, else `b`.
+fn put_marks(marks: &mut Vec<u8>, font: &Font<'_>) -> Result<(), AllocError> {
+    for index in 0..5u16 {
+        let mark = match font.subr(index) {
+            None => b'.',
+            Some(body) if body == STUB => b's',
+            Some(_) => b'b',
+        };
+        marks.push(mark)?;
+    }
+    marks.push(b' ')?;
+    Ok(())
+}
+
+/// The fonts of sources.
+fn fonts_of(alloc: Global, sources: &[Source]) -> Result<Vec<Font<'_>>, AllocError> {
+    let mut fonts = Vec::with_capacity(alloc, sources.len())?;
+    for source in sources {
+        fonts.push(source.font(alloc)?)?;
+    }
+    Ok(fonts)
+}
+
+/// The marks of the fonts of sources when they are filled.
+fn lent_marks(alloc: Global, sources: &[Source]) -> Result<Vec<u8>, PartsFault> {
+    let filled = fill_all(alloc, fonts_of(alloc, sources)?)?;
+    let mut marks = Vec::new(alloc);
+    for font in filled.as_slice() {
+        put_marks(&mut marks, font)?;
+    }
+    Ok(marks)
+}
+
+/// The sources of fonts with these Subrs.
+fn sources(alloc: Global, tables: &[&[u8]]) -> Result<Vec<Source>, AllocError> {
+    let mut sources = Vec::new(alloc);
+    for &table in tables {
+        sources.push(made(alloc, b"%!\n", table, 0)?)?;
+    }
+    Ok(sources)
+}
+
+/// The marks of fonts with these Subrs when they are filled as they are.
+fn filled(alloc: Global, tables: &[&[u8]]) -> Result<Vec<u8>, PartsFault> {
+    let sources = sources(alloc, tables)?;
+    lent_marks(alloc, sources.as_slice())
+}
+
+/// The marks of fonts with these Subrs when they are made even.
+pub fn evened(alloc: Global, tables: &[&[u8]]) -> Result<Vec<u8>, PartsFault> {
+    let sources = even_shells(alloc, sources(alloc, tables)?)?;
+    lent_marks(alloc, sources.as_slice())
+}
+
+/// All four tables.
+pub const TABLES: &[&[u8]] = &[ONE, TWO, EMPTY, NONE];
+
+/// The marks of their fonts when they are made even.
+pub const MARKS: &[u8] = b"bs..s sb..b ..... ..... ";
+
+/// And when they are filled with the counts that they have.
+const AS_THEY_ARE: &[u8] = b"bs... sb..b ..... ..... ";
+
+#[test]
+fn heads_without_tags(rt: HostRuntime) -> Result<(), Fail> {
+    const ROWS: &[(&[u8], &[u8], &str)] = &[
+        (
+            b"%!\n/FontName /ABCDEF+Tiny def\n",
+            b"%!\n/FontName /Tiny def\n",
+            "a tag",
+        ),
+        (
+            b"/FontName\n/ABCDEF+GHIJKL+Tiny def ",
+            b"/FontName\n/Tiny def ",
+            "two tags",
+        ),
+        (
+            b"/FontName /ABCDE+T def ",
+            b"/FontName /ABCDE+T def ",
+            "five letters",
+        ),
+        (
+            b"/FontName /ABCDE1+T def ",
+            b"/FontName /ABCDE1+T def ",
+            "a digit",
+        ),
+        (
+            b"/FontName (ABCDEF+T) def ",
+            b"/FontName (ABCDEF+T) def ",
+            "no slash",
+        ),
+        (
+            b"/FontName /ABCDEF+Encoding def ",
+            b"/FontName /ABCDEF+Encoding def ",
+            "a name that would begin an Encoding",
+        ),
+        (
+            b"/Name /ABCDEF+T def ",
+            b"/Name /ABCDEF+T def ",
+            "another name",
+        ),
+        (b"", b"", "no head"),
+    ];
+    for &(head, want, what) in ROWS {
+        let left = is_left(rt.alloc(), head, want)?;
+        assert!(rt; left, "{what}");
+    }
+    Ok(())
+}
+
+#[test]
+fn counts_and_stubs(rt: HostRuntime) -> Result<(), Fail> {
+    let even = even_shells(rt.alloc(), sources(rt.alloc(), TABLES)?)?;
+    const COUNTS: &[u16] = &[5, 5, 5, 0];
+    for (source, count) in even.as_slice().iter().zip(COUNTS) {
+        assert_eq!(rt; source.declared_count(), *count);
+    }
+    drop(even);
+    let marks = evened(rt.alloc(), TABLES);
+    assert!(rt; marks.is_ok_and(|marks| marks.as_slice() == MARKS));
+    let marks = filled(rt.alloc(), TABLES);
+    assert!(rt; marks.is_ok_and(|marks| marks.as_slice() == AS_THEY_ARE));
+    let none = evened(rt.alloc(), &[]);
+    assert!(rt; none.is_ok_and(|marks| marks.is_empty()));
+    Ok(())
+}
+
+/// Whether a font of this many blanks is refused for its weight when it is filled beside one with other Subrs.
+fn is_refused(alloc: Global, blanks: usize) -> Result<bool, AllocError> {
+    let mut pair = Vec::new(alloc);
+    pair.push(made(alloc, b"%!\n", TWO, blanks)?)?;
+    pair.push(made(alloc, b"%!\n", ONE, 0)?)?;
+    match lent_marks(alloc, pair.as_slice()) {
+        Ok(_) => Ok(false),
+        Err(PartsFault::Limit) => Ok(true),
+        Err(PartsFault::Memory) => Err(AllocError),
+    }
+}
+
+#[test]
+fn filled_up_to_the_limit(rt: HostRuntime) -> Result<(), Fail> {
+    let light = made(rt.alloc(), b"%!\n", TWO, 0)?;
+    let (_, weight) = lent_counts(rt.alloc(), &light)?;
+    drop(light);
+    let room = (WEIGHT_LIMIT as usize).saturating_sub(weight as usize);
+    let fits = is_refused(rt.alloc(), room.saturating_sub(129))?;
+    assert!(rt; !fits, "one stub weighs 129");
+    let heavy = is_refused(rt.alloc(), room.saturating_sub(128))?;
+    assert!(rt; heavy, "one byte too many");
+    Ok(())
+}
