@@ -5,6 +5,7 @@ mod engines;
 mod failing_merges;
 mod growths;
 mod merges;
+mod rejoins;
 mod subsets;
 mod tiny;
 

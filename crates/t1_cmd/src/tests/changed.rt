@@ -2,7 +2,8 @@
 use super::tiny::{PFA, PFB};
 use crate::texts::push_number;
 use std::alloc::{AllocError, Global};
-use t1_bytes::{CHARSTRING_KEY, EEXEC_KEY, EEXEC_LEAD, open, seal};
+use t1_bytes::texts::find_from;
+use t1_bytes::{CHARSTRING_KEY, EEXEC_KEY, EEXEC_LEAD, open, seal, split_eexec};
 
 /// What spells the Encoding of Tiny.
 const ENCODING: &[u8] = b"/Encoding 256 array
@@ -86,6 +87,51 @@ fn private_changed(alloc: Global, old: &[u8], new: &[u8]) -> Result<Vec<u8>, All
 pub fn tiny_changed(alloc: Global, old: &[u8], new: &[u8]) -> Result<Vec<u8>, AllocError> {
     let text = private_changed(alloc, old, new)?;
     tiny_with(alloc, text.as_slice())
+}
+
+/// The private text of a canonical file.
+fn private_of(alloc: Global, file: &[u8]) -> Result<Vec<u8>, AllocError> {
+    let Ok((_, mut cipher)) = split_eexec(alloc, file) else {
+        return Err(AllocError);
+    };
+    if cipher.len() < 4 {
+        return Err(AllocError);
+    }
+    let text = open(cipher.as_mut_slice(), EEXEC_KEY, EEXEC_LEAD);
+    Vec::from_slice(alloc, text)
+}
+
+/// A text without what stands between these two.
+fn without(alloc: Global, text: &[u8], from: &[u8], to: &[u8]) -> Result<Vec<u8>, AllocError> {
+    let Some(start) = find_from(text, from, 0) else {
+        return Err(AllocError);
+    };
+    let Some(end) = find_from(text, to, start) else {
+        return Err(AllocError);
+    };
+    let (front, _) = text.split_at(start);
+    let (_, back) = text.split_at(end);
+    let mut left = Vec::from_slice(alloc, front)?;
+    left.extend_from_slice(back)?;
+    Ok(left)
+}
+
+/// A file of Tiny with the Subrs and glyphs of this subset, where this table of Subrs ends before this entry.
+pub fn cut_short(
+    alloc: Global,
+    subset: &[u8],
+    table: &[u8],
+    entry: &[u8],
+) -> Result<Vec<u8>, AllocError> {
+    let text = private_of(alloc, subset)?;
+    let text = with_all(alloc, text.as_slice(), b"/Subrs 10 array", table)?;
+    let text = without(alloc, text.as_slice(), entry, b"ND\n")?;
+    tiny_with(alloc, text.as_slice())
+}
+
+/// A file of Tiny with this tag before its name.
+pub fn tagged(alloc: Global, file: &[u8], name: &[u8]) -> Result<Vec<u8>, AllocError> {
+    with_all(alloc, file, b"/FontName /Tiny", name)
 }
 
 /// Adds the length and the encrypted bytes of an entry of a table.

@@ -1,9 +1,10 @@
 //! Each engine, over Tiny and two listings, with room for what it writes. `tools/sweep_growths.py` refuses one growth after
 //! the other: an engine that is then refused memory writes nothing, and writes right when it is run again.
+use super::changed::tagged;
 use super::engines::{Engine, run};
 use super::tiny::{PFA, PFB};
 use super::{LEFT, RIGHT};
-use crate::{Counted, Reason, RunFault, read_all, run_join, run_merge, write_fault};
+use crate::{Counted, Reason, RunFault, read_all, run_join, run_merge, run_rejoin, write_fault};
 use std::alloc::{AllocError, Global};
 use std::test::Fail;
 use t1_font::Form;
@@ -102,6 +103,15 @@ fn merges(alloc: Global) -> Result<bool, AllocError> {
     Ok(text.is_some_and(|text| text.as_slice() == PFA.as_slice()))
 }
 
+/// Whether Tiny with a tag and its PFB rejoin to its PFA.
+fn rejoins(alloc: Global) -> Result<bool, AllocError> {
+    let file = tagged(alloc, PFA, b"/FontName /ABCDEF+Tiny")?;
+    let mut readers = [Counted::new(file.as_slice()), Counted::new(PFB.as_slice())];
+    let mut out = Vec::with_capacity(alloc, PFA.len())?;
+    let ended = run_rejoin(alloc, &mut readers, Form::Pfa, &mut Counted::new(&mut out));
+    Ok(written(out, ended)?.is_some_and(|text| text.as_slice() == PFA.as_slice()))
+}
+
 const CHECKED: &[u8] = b"ok 11 glyphs, 10 subrs, weight 4936\n";
 
 const SHOWN: &[u8] = b"width 300 0
@@ -136,7 +146,7 @@ fn engines_write(alloc: Global) -> Result<bool, AllocError> {
 
 /// Whether they do, and the others.
 fn write_right(alloc: Global) -> Result<bool, AllocError> {
-    let fonts = engines_write(alloc)? && subsets(alloc)? && merges(alloc)?;
+    let fonts = engines_write(alloc)? && subsets(alloc)? && merges(alloc)? && rejoins(alloc)?;
     Ok(fonts && joins(alloc, LEFT, RIGHT, LISTED)? && reads(alloc)? && tells(alloc)?)
 }
 
