@@ -6,10 +6,9 @@ use Rattle.std.specs.FinMap.{get}
 use Rattle.t1_run.specs.declared.answer.Point.{Point}
 use Rattle.t1_run.specs.declared.answer.Mark.{Mark}
 use Rattle.t1_run.specs.declared.answer.Mark.TheVariants as mark
-use Rattle.t1_run.specs.declared.answer.Fault.{Fault}
-use Rattle.t1_run.specs.declared.answer.Fault.TheVariants as run
 use Rattle.t1_run.specs.declared.drawings.DrawFault.{DrawFault}
-use Rattle.t1_run.specs.declared.drawings.DrawFault.TheVariants.{Run, NoPart, MissingPart, NestedSeac, PartFault, NoGlyph}
+use Rattle.t1_run.specs.declared.drawings.DrawFault.TheVariants.{NoGlyph}
+use Rattle.t1_run.specs.FaultNames.{fault_name}
 use Rattle.t1_run.specs.Drawings.{Picture, Drawn, Undrawn, draw}
 use Rattle.t1_font.specs.FontValue.{FontValue}
 use Rattle.t1_font.specs.FontModel.{subr_at}
@@ -55,32 +54,6 @@ part_lines part = line (codes "part") (part.0.x ∷ part.0.y ∷ []) ++ flat_map
 -- a glyph: its width, its side bearing, and its parts
 abbrev pub drawn_lines : (width bearing : Point) → List (Point × List Mark) → List ℕ
 drawn_lines width bearing parts = line (codes "width") (width.x ∷ width.y ∷ []) ++ line (codes "bearing") (bearing.x ∷ bearing.y ∷ []) ++ flat_map part_lines parts
-
--- the name of a run's fault
-abbrev pub run_fault_name : Fault → List ℕ
-run_fault_name run.Overflow = codes "Overflow"
-run_fault_name run.Underflow = codes "Underflow"
-run_fault_name run.Nesting = codes "Nesting"
-run_fault_name run.NoSubr = codes "NoSubr"
-run_fault_name run.OtherProc = codes "OtherProc"
-run_fault_name run.BadFlex = codes "BadFlex"
-run_fault_name run.Unended = codes "Unended"
-run_fault_name run.BadToken = codes "BadToken"
-run_fault_name run.NoWidth = codes "NoWidth"
-run_fault_name run.ZeroDivisor = codes "ZeroDivisor"
-run_fault_name run.Range = codes "Range"
-run_fault_name run.NotWhole = codes "NotWhole"
-run_fault_name run.TooLong = codes "TooLong"
-run_fault_name run.EmptyPop = codes "EmptyPop"
-
--- the name of a drawing's fault
-abbrev pub fault_name : DrawFault → List ℕ
-fault_name (Run fault) = run_fault_name fault
-fault_name NoPart = codes "NoPart"
-fault_name MissingPart = codes "MissingPart"
-fault_name NestedSeac = codes "NestedSeac"
-fault_name PartFault = codes "PartFault"
-fault_name NoGlyph = codes "NoGlyph"
 
 -- the line of a drawing's fault
 abbrev pub fault_line : DrawFault → List ℕ

@@ -5,7 +5,7 @@ use Rattle.std.specs.List.{flat_map}
 use Rattle.std.specs.FinMap.{entries}
 use Rattle.t1_font.specs.FontValue.{FontValue, Encoding, Word, Codes}
 use Rattle.t1_cmd.specs.declared.faults.Reason.{Reason}
-use Rattle.t1_cmd.specs.Texts.{shown}
+use Rattle.t1_join.specs.Shown.{shown}
 
 -- a code and its name
 abbrev pub code_line : ℕ → List ℕ → List ℕ

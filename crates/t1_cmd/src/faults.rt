@@ -54,10 +54,10 @@ pub enum Reason {
     #[error("out of memory")]
     Memory,
     /// A text is no listing.
-    #[error("{0:?}")]
+    #[error("{0}")]
     List(ListFault),
     /// Two listings don't join.
-    #[error("{0:?}")]
+    #[error("{0}")]
     Join(JoinFault),
     /// A file spells no font.
     #[error("{0}")]
@@ -66,7 +66,7 @@ pub enum Reason {
     #[error("no glyph {name:?}")]
     NoGlyph { name: Name },
     /// Fonts don't merge.
-    #[error("{0:?}")]
+    #[error("{0}")]
     Merge(Conflict),
 }
 

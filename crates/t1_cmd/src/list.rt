@@ -28,7 +28,7 @@ fn push_code(alloc: Global, out: &mut Vec<u8>, font: &Font<'_>, code: u8) -> Res
     if let Some(name) = font.encoding_at(code) {
         push_about(alloc, out, b"code ", usize::from(code))?;
         out.push(b' ')?;
-        push_shown(out, name)?;
+        push_shown(alloc, out, name)?;
         out.push(b'\n')?;
     }
     Ok(())
@@ -62,7 +62,7 @@ fn push_glyph(
 {
     if let Some(plain) = font.glyph(name) {
         out.extend_from_slice(b"glyph ")?;
-        push_shown(out, name)?;
+        push_shown(alloc, out, name)?;
         push_about(alloc, out, b" ", plain.len())?;
         out.push(b'\n')?;
     }
@@ -88,7 +88,7 @@ fn push_encoding(alloc: Global, out: &mut Vec<u8>, font: &Font<'_>) -> Result<()
         return push_codes(alloc, out, font);
     };
     out.extend_from_slice(b"encoding ")?;
-    push_shown(out, word)?;
+    push_shown(alloc, out, word)?;
     out.push(b'\n')?;
     Ok(())
 }

@@ -8,7 +8,7 @@ ghost use Rattle.t1_bytes.specs.Limits.{file_limit};
 ghost use Rattle.t1_cmd.specs.Runs.{RunEnds, Succeeds};
 ghost use Rattle.t1_cmd.specs.Answers.{Prints};
 ghost use Rattle.t1_cmd.specs.Fonts.{font_input};
-ghost use Rattle.t1_cmd.specs.DrawingText.{amount, number, numbers, line, mark_line, part_lines, drawn_lines, run_fault_name, fault_name, fault_line, picture_answer, show_answer, ShowStops};
+ghost use Rattle.t1_cmd.specs.DrawingText.{amount, number, numbers, line, mark_line, part_lines, drawn_lines, fault_line, picture_answer, show_answer, ShowStops};
 
 use crate::counting::Counted;
 use crate::faults::{Name, Reason, RunFault};
@@ -17,7 +17,7 @@ use crate::texts::push_number;
 use crate::writing::write_text;
 use std::alloc::{AllocError, Global};
 use std::io::{Read, Write};
-use t1_font::{DrawFault, Drawing, DrawnPart, Fault, Font, Mark, Point, Source, draw};
+use t1_font::{DrawFault, Drawing, DrawnPart, Font, Mark, Point, Source, draw};
 
 // How many counts of 1/65536 are a unit.
 const UNIT: u64 = 65536;
@@ -143,46 +143,12 @@ fn drawn(
     Ok(text)
 }
 
-fn run_fault_name(fault: Fault) -> &'static [u8]
-    ensures { result.now ≡ run_fault_name fault }
-{
-    match fault {
-        Fault::Overflow => b"Overflow",
-        Fault::Underflow => b"Underflow",
-        Fault::Nesting => b"Nesting",
-        Fault::NoSubr => b"NoSubr",
-        Fault::OtherProc => b"OtherProc",
-        Fault::BadFlex => b"BadFlex",
-        Fault::Unended => b"Unended",
-        Fault::BadToken => b"BadToken",
-        Fault::NoWidth => b"NoWidth",
-        Fault::ZeroDivisor => b"ZeroDivisor",
-        Fault::Range => b"Range",
-        Fault::NotWhole => b"NotWhole",
-        Fault::TooLong => b"TooLong",
-        Fault::EmptyPop => b"EmptyPop",
-    }
-}
-
-fn fault_name(fault: DrawFault) -> &'static [u8]
-    ensures { result.now ≡ fault_name fault }
-{
-    match fault {
-        DrawFault::Run(fault) => run_fault_name(fault),
-        DrawFault::NoPart => b"NoPart",
-        DrawFault::MissingPart => b"MissingPart",
-        DrawFault::NestedSeac => b"NestedSeac",
-        DrawFault::PartFault => b"PartFault",
-        DrawFault::NoGlyph => b"NoGlyph",
-    }
-}
-
 fn fault_text(alloc: Global, fault: DrawFault) -> Result<Vec<u8>, AllocError>
     ensures { IfOk result (λ text. text.items ≡ fault_line fault) }
 {
     let mut text = Vec::new(alloc);
     text.extend_from_slice(b"fault ")?;
-    text.extend_from_slice(fault_name(fault))?;
+    text.extend_from_slice(fault.name().as_bytes())?;
     text.push(b'\n')?;
     Ok(text)
 }
