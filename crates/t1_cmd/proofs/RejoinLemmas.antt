@@ -1,5 +1,5 @@
 -- How the engine that rejoins fonts ends.
-use Rattle.std.proofs.Common.{◌≡◌, ◌⊎◌, ℕ, ◌≤◌, ◌<◌, arith, List, [], ◌∷◌, inl, inr, Result, Ok, Err}
+use Rattle.std.proofs.Common.{◌≡◌, ℕ, arith, List, [], ◌∷◌, inl, inr, Result, Ok, Err}
 use Rattle.t1_bytes.specs.declared.form.Form.{Form}
 use Rattle.t1_font.specs.FontValue.{FontValue}
 use Rattle.t1_font.specs.Evening.{evened}
