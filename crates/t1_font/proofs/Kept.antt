@@ -20,7 +20,7 @@ use Rattle.t1_font.proofs.ReadRight.{iv_is}
 use Rattle.t1_font.proofs.FontAgain.{name_same}
 
 -- lenIV is at most 255
-iv_small : (private : List ℕ) (iv : ℕ) → iv_of private ≡ Ok iv → iv ≤ 255
+pub iv_small : (private : List ℕ) (iv : ℕ) → iv_of private ≡ Ok iv → iv ≤ 255
 unfolding len_iv
 iv_small private iv h = by_said (iv_is private iv h)
   where
@@ -119,7 +119,7 @@ from_joined : {X : Type 0} (P : X → Type 0) (x y : Option X) (v : X) → joine
 from_joined P None y v h f g = g v h
 from_joined P (Some w) y v h f g = f v h
 
-merged_has : {K X : Type 0} {R : K → K → Ordering} (o : IsTotalOrder R) (same : IsAntisymmetric R) (P : K → X → Type 0) (m n : FinMap R X) → ((q : K) (v : X) → get m q ≡ Some v → P q v) → ((q : K) (v : X) → get n q ≡ Some v → P q v) → (q : K) (v : X) → get (merged m n) q ≡ Some v → P q v
+pub merged_has : {K X : Type 0} {R : K → K → Ordering} (o : IsTotalOrder R) (same : IsAntisymmetric R) (P : K → X → Type 0) (m n : FinMap R X) → ((q : K) (v : X) → get m q ≡ Some v → P q v) → ((q : K) (v : X) → get n q ≡ Some v → P q v) → (q : K) (v : X) → get (merged m n) q ≡ Some v → P q v
 merged_has o same P m n f g q v h = from_joined (P q) (get m q) (get n q) v (sym (get-merged o same m n q) ∙ h) (f q) (g q)
 
 encodings_joined : (d e : Encoding) → SameKind d e → IsEncoding d → IsEncoding e → IsEncoding (join_encodings d e)

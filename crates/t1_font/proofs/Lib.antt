@@ -54,3 +54,6 @@ pub mod CutEntries
 pub mod CutLoops
 pub mod LentTables
 mod TinyCuts
+pub mod TagLemmas
+pub mod Evened
+pub mod Filled

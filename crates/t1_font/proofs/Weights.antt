@@ -1,5 +1,5 @@
 -- Sums that are cut off at 64 bits.
-use Rattle.std.proofs.Common.{◌≡◌, ℕ, ◌+◌, ◌≤◌, min, arith}
+use Rattle.std.proofs.Common.{◌≡◌, ℕ, ◌+◌, ◌≤◌, ◌<◌, min, arith}
 use Rattle.t1_font.specs.FontValue.{weight_limit}
 use Rattle.t1_font.specs.FontModel.{clamp}
 
@@ -16,3 +16,7 @@ clamp_fits n m e = omega (arith, e)
 -- a sum that is within the limit is not cut off
 pub clamp_light : (w n : ℕ) → w ≡ clamp n → w ≤ weight_limit → n ≤ weight_limit
 clamp_light w n e h = omega (arith, e, h)
+
+-- one that is over the limit was over it before
+pub clamp_heavy : (w n : ℕ) → w ≡ clamp n → weight_limit < w → weight_limit < n
+clamp_heavy w n e h = omega (arith, e, h)

@@ -31,4 +31,5 @@ pub mod Canon
 pub mod Cut
 pub mod Tags
 pub mod Evening
+pub mod Filling
 pub mod WriteLaws

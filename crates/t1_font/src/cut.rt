@@ -105,7 +105,7 @@ fn kept_or_stub<'a>(is_kept: bool, body: &'a [u8]) -> &'a [u8]
 }
 
 /// The Subrs, all but those of the set replaced by `return`.
-fn cut_subrs<'a>(
+pub(crate) fn cut_subrs<'a>(
     alloc: Global,
     subrs: &Numbered<'a>,
     kept: &BTreeSet<u16>,

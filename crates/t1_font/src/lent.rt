@@ -5,6 +5,7 @@ ghost use Rattle.std.specs.Option.{option_map};
 ghost use Rattle.std.specs.FinMap as fin;
 ghost use Rattle.t1_font.specs.FontValue.{total, subr_weight, glyph_weight};
 ghost use Rattle.t1_font.specs.FontModel.{clamp};
+ghost use Rattle.t1_font.specs.Filling.{has_none};
 
 use std::marker::Model;
 use std::slice;
@@ -60,6 +61,13 @@ impl<'a> Numbered<'a> {
             Ok(at) => Some(self.entries[at].1),
             Err(_) => None,
         }
+    }
+
+    /// Whether there is no entry.
+    pub fn is_empty(&self) -> bool
+        ensures { result ≡ has_none (fin.entries self.now) }
+    {
+        self.entries.is_empty()
     }
 
     /// What stands at the number, which is looked for at this place first.

@@ -11,8 +11,10 @@
 mod cut;
 mod encoding;
 mod entry;
+mod evening;
 mod fault;
 mod file;
+mod filling;
 mod font;
 mod gathered;
 mod glyphs;
@@ -28,12 +30,15 @@ mod repeats;
 mod shell;
 mod source;
 mod subrs;
+mod tags;
 mod words;
 mod writing;
 
 pub use cut::{STUB, restrict};
 pub use fault::ReadFault;
+pub use evening::even_shells;
 pub use file::{read, read_vec};
+pub use filling::fill_all;
 pub use font::{Font, Names, Part};
 pub use limits::{COUNT_LIMIT, WEIGHT_LIMIT};
 pub use parts::{PartsFault, join_parts};

@@ -99,7 +99,7 @@ fn join_glyphs<'a>(
 }
 
 /// The codes of both, with the first's name where both have a code.
-fn join_codes<'a>(
+pub(crate) fn join_codes<'a>(
     alloc: Global,
     first: &Numbered<'a>,
     second: &Numbered<'a>,

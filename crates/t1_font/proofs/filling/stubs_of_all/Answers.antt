@@ -1,0 +1,35 @@
+use Rattle.std.proofs.Common.{◌≡◌, ◌+◌, ap, sym, subst, ◌∙◌, map, drop, List}
+use Rattle.std.proofs.lemmas.Result.{IfOk-weaker}
+use Rattle.std.specs.Ordering.{nat_cmp}
+use Rattle.std.specs.FinMap.{entries, from_sorted}
+use Rattle.std.proofs.lemmas.List.{drop_all}
+use Rattle.t1_join.proofs.Sorted.{no_entries}
+use Rattle.t1_font.specs.declared.font.Font.TheInside.{Inside}
+use Rattle.t1_font.specs.FontValue.{FontValue, Numbered}
+use Rattle.t1_font.specs.Lent.{lent_number}
+use Rattle.t1_font.specs.Cut.{merged}
+use Rattle.t1_font.specs.Filling.{has_none}
+use Rattle.t1_font.proofs.Filled.{IndicesSoFar, none_so_far, one_more_font, no_more_font, no_entries_there, stubs_of, all_stubs}
+use Rattle.t1_font.proofs.filling.stubs_of_all.Goals as goal
+use Rattle.t1_font.proofs.filling.stubs_of_all.Goals.{then-not-is_empty+in_ok-all, else-not-is_empty}
+
+pub fonts-init : goal.fonts-init
+fonts-init c = none_so_far _ c.args.fonts.now (ap (λ es. from_sorted {R = nat_cmp} (map lent_number es)) c.new.ensures.items ∙ no_entries nat_cmp)
+
+pub fonts-preserved : goal.fonts-preserved
+fonts-preserved c =
+    let fs = c.args.fonts.now in
+    let i = c.fonts.font-index in
+    let f = c.font-item.result in
+    let subrs : c.font-inside.inside.0.0.subrs ≡ f.subrs = ap (λ (s : Inside). s.parts.subrs) c.font-inside.view_is ∙ ap (λ (f : FontValue). f.subrs) c.font.view_is in
+    elim c.if-not-is_empty.branch [
+      | then-not-is_empty+in_ok-all w ↦ subst (λ (m : Numbered). IndicesSoFar m (drop (i + 1) fs) fs) (sym w.all-is)
+        (one_more_font c.fonts.all fs fs i f f c.fonts-test.true (sym c.font-item.is) c.fonts.invariant w.in_ok-all.all (w.in_ok-all.ensures ∙ ap (merged c.fonts.all) subrs))
+      | else-not-is_empty w ↦ subst (λ (m : Numbered). IndicesSoFar m (drop (i + 1) fs) fs) (sym w.all-is)
+        (no_more_font c.fonts.all fs fs i f f c.fonts-test.true (sym c.font-item.is) c.fonts.invariant (no_entries_there f.subrs (ap (λ (m : Numbered). has_none (entries m)) (sym subrs) ∙ (sym c.is_empty.ensures ∙ w.if-not-is_empty.false))))
+    ]
+
+pub returns : goal.returns
+returns c =
+    let fs = c.args.fonts.now in
+    IfOk-weaker c.cut_subrs.result _ _ (λ m e. stubs_of c.fonts.all m fs (subst (λ (gs : List FontValue). IndicesSoFar c.fonts.all gs fs) (drop_all c.fonts.font-index fs c.fonts-test.false) c.fonts.invariant) (e ∙ all_stubs c.new-2.result c.fonts.all c.new-2.ensures.empty)) c.cut_subrs.ensures

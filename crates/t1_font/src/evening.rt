@@ -1,0 +1,152 @@
+//! Sources made even: fonts that other programs cut lose their tags, and declare one count of Subrs.
+
+ghost use Rattle.std.specs.Prelude.{◌≡◌, ◌++◌, ◌∷◌, [], IfOk, OnOk, MatchOption};
+ghost use Rattle.std.specs.Option.{option_map};
+ghost use Rattle.t1_font.specs.FontValue.{declared_count};
+ghost use Rattle.t1_font.specs.FontModel.{subrs_view};
+ghost use Rattle.t1_font.specs.Tags.{untagged_head};
+ghost use Rattle.t1_font.specs.Evening.{raised, even_shell, even, largest_count, evened_shells};
+
+use crate::shell::{KeptSubrs, Shell};
+use crate::source::{Source, SourceParts};
+use crate::tags::untagged_head;
+use std::alloc::{AllocError, Global};
+
+/// A table of Subrs that declares at least so many.
+fn raised(kept: Option<KeptSubrs>, declared: u16) -> Option<KeptSubrs>
+    ensures { option_map subrs_view result ≡ option_map (raised declared) (option_map subrs_view kept) }
+{
+    match kept {
+        Some(kept) => Some(KeptSubrs {
+            declared: if kept.declared < declared { declared } else { kept.declared },
+            rd: kept.rd,
+            put: kept.put,
+            closing: kept.closing,
+        }),
+        None => None,
+    }
+}
+
+/// A shell with the head that it has without tags, where it has any, and a table of at least so many Subrs.
+fn even_shell(shell: Shell, head: Option<Vec<u8>>, declared: u16) -> Shell
+    requires { MatchOption head (untagged_head shell.head ≡ shell.head) (λ v. v.items ≡ untagged_head shell.head) }
+    ensures { result ≡ even_shell declared shell }
+{
+    let Shell {
+        head: tagged,
+        clear_tail,
+        private,
+        middle,
+        tail,
+        len_iv,
+        subrs,
+        glyphs_rd,
+        glyphs_def,
+    } = shell;
+    Shell {
+        head: match head {
+            Some(head) => head,
+            None => tagged,
+        },
+        clear_tail,
+        private,
+        middle,
+        tail,
+        len_iv,
+        subrs: raised(subrs, declared),
+        glyphs_rd,
+        glyphs_def,
+    }
+}
+
+impl Source {
+    /// How many Subrs the font declares, 0 where there is no table of them.
+    pub fn declared_count(&self) -> u16
+        ensures { result ≡ declared_count self.now.shell.subrs }
+    {
+        self.parts.shell.declared_count()
+    }
+
+    /// The font without the tags that other programs put before its name, and with at least this declared count, where it
+    /// has a table of Subrs.
+    ///
+    /// The name is what stands behind the first `/FontName`, white space and a slash. A font whose name without tags would
+    /// be `Encoding` keeps them, since that would begin an Encoding.
+    ///
+    /// # Errors
+    ///
+    /// Where a growth was refused.
+    pub fn even(self, alloc: Global, declared: u16) -> Result<Source, AllocError>
+        ensures { IfOk result (λ f. f ≡ even declared self) }
+    {
+        let head = match untagged_head(alloc, self.parts.shell.head.as_slice()) {
+            Ok(head) => head,
+            Err(fault) => {
+                drop(self);
+                return Err(fault);
+            }
+        };
+        let SourceParts {
+            shell,
+            encoding,
+            buffer,
+            subrs,
+            glyphs,
+        } = self.parts;
+        let shell = even_shell(shell, head, declared);
+        Ok(Source {
+            parts: SourceParts {
+                shell,
+                encoding,
+                buffer,
+                subrs,
+                glyphs,
+            },
+        })
+    }
+}
+
+/// The largest declared count of some sources.
+fn largest_count(sources: &[Source]) -> u16
+    ensures { result ≡ largest_count sources.now }
+{
+    let mut largest = 0;
+    'sources: for source in sources {
+        let declared = source.declared_count();
+        if largest < declared {
+            largest = declared;
+        }
+    }
+    largest
+}
+
+/// One more source.
+fn keep(sources: &mut Vec<Source>, source: Source) -> Result<(), AllocError>
+    ensures { OnOk result (sources.new.items ≡ sources.old.items ++ source ∷ []) }
+{
+    match sources.push(source) {
+        Ok(_) => Ok(()),
+        Err(_) => Err(AllocError),
+    }
+}
+
+/// The sources without tags, each with the largest declared count among them: fonts that other programs cut declare no
+/// Subrs after the last one that is used.
+///
+/// # Errors
+///
+/// Where a growth was refused.
+pub fn even_shells(alloc: Global, sources: Vec<Source>) -> Result<Vec<Source>, AllocError>
+    ensures { IfOk result (λ all. all.items ≡ evened_shells sources.items) }
+{
+    let declared = largest_count(sources.as_slice());
+    let mut all = Vec::with_capacity(alloc, sources.len())?;
+    'sources: for source in sources {
+        let source = match source.even(alloc, declared) {
+            Ok(source) => source,
+            Err(fault) => return Err(fault),
+        };
+        keep(&mut all, source)?;
+    }
+    Ok(all)
+}

@@ -1,0 +1,112 @@
+//! Fonts with one set of Subrs: a stub stands where a font lacks a Subr that another has.
+
+ghost use Rattle.std.specs.Prelude.{◌≡◌, ◌++◌, ◌∷◌, [], ◌≤◌, nat_lt, IfOk, OnOk, MatchResult};
+ghost use Rattle.std.specs.FinMap as fin;
+ghost use Rattle.t1_font.specs.FontValue.{weight, weight_limit};
+ghost use Rattle.t1_font.specs.Cut.{merged};
+ghost use Rattle.t1_font.specs.Evening.{stubs_at, indices_of_all};
+ghost use Rattle.t1_font.specs.Filling.{Fills, FillRefuses, filled_by, AreStubs, FontRefused};
+
+use crate::cut::cut_subrs;
+use crate::font::{Font, FontParts};
+use crate::lent::Numbered;
+use crate::limits::WEIGHT_LIMIT;
+use crate::parts::{PartsFault, join_codes};
+use std::alloc::{AllocError, Global};
+use std::collections::BTreeSet;
+
+/// A stub at each index at which one of the fonts has a Subr.
+fn stubs_of_all<'a>(alloc: Global, fonts: &[Font<'a>]) -> Result<Numbered<'a>, AllocError>
+    ensures { IfOk result (λ m. m ≡ stubs_at (indices_of_all fonts.now)) }
+{
+    let mut all = Numbered {
+        entries: Vec::new(alloc),
+    };
+    'fonts: for font in fonts {
+        if !font.parts.subrs.is_empty() {
+            all = join_codes(alloc, &all, &font.parts.subrs)?;
+        }
+    }
+    cut_subrs(alloc, &all, &BTreeSet::new(alloc))
+}
+
+/// The Subrs, and the stubs below a count at the indices that have none.
+fn with_stubs<'a>(
+    alloc: Global,
+    subrs: &Numbered<'a>,
+    stubs: &Numbered<'a>,
+    declared: u16,
+) -> Result<Numbered<'a>, AllocError>
+    ensures { IfOk result (λ m. m ≡ merged subrs.now (fin.retain_keys stubs.now (λ i. nat_lt i declared))) }
+{
+    let mut below = Vec::with_capacity(alloc, stubs.entries.len())?;
+    'stubs: for (index, body) in stubs.entries() {
+        if index < declared {
+            below.push((index, body))?;
+        }
+    }
+    let below = Numbered { entries: below };
+    join_codes(alloc, subrs, &below)
+}
+
+/// A font with those of the stubs that it declares and lacks; one without Subrs has no words to write them with.
+fn fill<'a>(alloc: Global, font: Font<'a>, stubs: &Numbered<'a>) -> Result<Font<'a>, PartsFault>
+    requires { AreStubs stubs.now }
+    ensures filled { MatchResult result (λ f. f ≡ filled_by stubs.now font.entry) (FontRefused (filled_by stubs.now font.entry)) }
+    ensures light { IfOk result (λ f. weight f ≤ weight_limit) }
+{
+    font.is_font();
+    let parts = font.parts;
+    if parts.subrs.is_empty() {
+        return Ok(Font { parts });
+    }
+    let subrs = match with_stubs(alloc, &parts.subrs, stubs, parts.shell.declared_count()) {
+        Ok(subrs) => subrs,
+        Err(_) => {
+            drop(parts);
+            return Err(PartsFault::Memory);
+        }
+    };
+    let parts = FontParts {
+        shell: parts.shell,
+        encoding: parts.encoding,
+        subrs,
+        glyphs: parts.glyphs,
+    };
+    if parts.weight() > WEIGHT_LIMIT {
+        drop(parts);
+        return Err(PartsFault::Limit);
+    }
+    Ok(Font { parts })
+}
+
+/// One more font.
+fn keep<'a>(fonts: &mut Vec<Font<'a>>, font: Font<'a>) -> Result<(), AllocError>
+    ensures { OnOk result (fonts.new.items ≡ fonts.old.items ++ font.entry ∷ []) }
+{
+    match fonts.push(font) {
+        Ok(_) => Ok(()),
+        Err(_) => Err(AllocError),
+    }
+}
+
+/// The fonts, each with [`STUB`](crate::STUB) at the indices of Subrs that it declares and lacks, and that another font of
+/// them has. A font without Subrs gets none, since it has no words to write them with.
+///
+/// # Errors
+///
+/// `Limit` where one of the fonts weighs more then than a font may; `Memory` where a growth was refused.
+pub fn fill_all<'a>(alloc: Global, fonts: Vec<Font<'a>>) -> Result<Vec<Font<'a>>, PartsFault>
+    ensures { MatchResult result (λ all. Fills fonts.entry.items all.items) (FillRefuses fonts.entry.items) }
+{
+    let stubs = stubs_of_all(alloc, fonts.as_slice())?;
+    let mut all = Vec::with_capacity(alloc, fonts.len())?;
+    'fonts: for font in fonts {
+        let font = match fill(alloc, font, &stubs) {
+            Ok(font) => font,
+            Err(fault) => return Err(fault),
+        };
+        keep(&mut all, font)?;
+    }
+    Ok(all)
+}
