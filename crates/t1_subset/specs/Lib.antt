@@ -20,3 +20,4 @@ pub mod Refusals
 pub mod Merger
 pub mod Headline
 pub mod Evened
+pub mod Rejoins
