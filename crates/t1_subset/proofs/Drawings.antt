@@ -21,7 +21,7 @@ map_alike f g [] h = refl
 map_alike f g (p ∷ ps) h = λ i. h p (here (same_bytes p) p ps (itself nat_list_cmp_total name_same p)) i ∷ map_alike f g ps (λ q w. h q (later (same_bytes q) p ps w)) i
 
 -- a font in which the charstring and its components run as before draws it as before
-seen_alike : {O : Type 0} (m : Interpreter O) (f j : FontValue) (c : List ℕ) → m.direct j.subrs c ≡ m.direct f.subrs c
+pub seen_alike : {O : Type 0} (m : Interpreter O) (f j : FontValue) (c : List ℕ) → m.direct j.subrs c ≡ m.direct f.subrs c
     → ((p : List ℕ) → list_any (same_bytes p) (components m f.subrs c) ≡ true → component_outcome m j p ≡ component_outcome m f p) → seen m j c ≡ seen m f c
 seen_alike m f j c e h = λ i. (e i, (ap (λ d. map (component_outcome m j) (m.names d)) e ∙ map_alike (component_outcome m j) (component_outcome m f) (components m f.subrs c) h) i)
 

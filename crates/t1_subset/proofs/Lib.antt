@@ -46,5 +46,8 @@ mod ListMergers
 mod StateTrees
 pub mod Headline
 pub mod Evened
+pub mod CutCounts
+pub mod Truncated
+pub mod Rejoined
 pub mod KeptRows
 mod StateRows

@@ -34,7 +34,7 @@ itself f g w (Err c) ok err e = tells_none c (conflict profile f g) (ap (λ (g :
 
 -- ---- glyphs
 
-alike_trans : (f p j : FontValue) (n : List ℕ) → DrawsAlike f p n → DrawsAlike p j n → DrawsAlike f j n
+pub alike_trans : (f p j : FontValue) (n : List ℕ) → DrawsAlike f p n → DrawsAlike p j n → DrawsAlike f j n
 alike_trans f p j n a b = record {
   charstring = b.charstring ∙ a.charstring;
   answer = λ c is. b.answer c (a.charstring ∙ is) ∙ a.answer c is;
@@ -106,7 +106,7 @@ has_leaves (Both s t) = let a = has_leaves s in let b = length-append (leaves s)
 no_tree : {X : Type 0} (t : Tree X) → IsPermutation [] (leaves t) → ⊥
 no_tree t p = let a = has_leaves t in let b = length_permutation [] (leaves t) p in omega (arith, a, b)
 
-each_font : (f : FontValue) (fs : List FontValue) → AllByRecursion IsFont (f ∷ fs) → EachLeaf IsFont (left_tree (Leaf f) fs)
+pub each_font : (f : FontValue) (fs : List FontValue) → AllByRecursion IsFont (f ∷ fs) → EachLeaf IsFont (left_tree (Leaf f) fs)
 each_font f fs w = each_leaf IsFont (left_tree (Leaf f) fs) (subst (AllByRecursion IsFont) (sym (left_leaves (Leaf f) fs)) w)
 
 refusal_is : (f : FontValue) (fs : List FontValue) (e : Refusal) (j : FontValue) → IsRefused (f ∷ fs) e → Merges profile (left_tree (Leaf f) fs) j → e ≡ refusal.Memory

@@ -124,7 +124,7 @@ module _ (f : FontValue) (w : IsFont f) where
   all_of_font a [] h n k = elim (in_union nat_list_cmp_total name_same a sets.empty n k) [ inl x ↦ h.0 n x | inr x ↦ clash (sets.contains {R = name_cmp} sets.empty n) x (sets.contains-empty name_cmp n) ]
   all_of_font a (b ∷ more) h n k = elim (in_union nat_list_cmp_total name_same a (union_all (b ∷ more)) n k) [ inl x ↦ h.0 n x | inr x ↦ all_of_font b more h.1 n x ]
 
-  all_merge : (a : Names) (more : List Names) → AllByRecursion (IsOf f) (a ∷ more) → Merges profile (left_tree (Leaf (subset profile f a)) (map (subset profile f) more)) (subset profile f (union_all (a ∷ more)))
+  pub all_merge : (a : Names) (more : List Names) → AllByRecursion (IsOf f) (a ∷ more) → Merges profile (left_tree (Leaf (subset profile f a)) (map (subset profile f) more)) (subset profile f (union_all (a ∷ more)))
   all_merge a more h = subst (λ (t : Tree FontValue). Merges profile t (subset profile f (union_all (a ∷ more)))) (left_map (subset profile f) (Leaf a) more)
       (many_subsets profile f w (a ∷ more) (left_tree (Leaf a) more) (subst (IsPermutation (a ∷ more)) (sym (left_leaves (Leaf a) more)) (IsPermutation-refl (a ∷ more))) (left_each (IsOf f) (Leaf a) more h.0 h.1))
 

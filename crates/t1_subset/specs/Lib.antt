@@ -21,3 +21,4 @@ pub mod Merger
 pub mod Headline
 pub mod Evened
 pub mod FaultTexts
+pub mod Rejoins

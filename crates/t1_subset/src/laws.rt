@@ -4,6 +4,7 @@ ghost use Rattle.t1_subset.specs.Laws.{KeepIsLeast, KeepIsMonotone, Distribution
 ghost use Rattle.t1_subset.specs.Profile.{profile};
 ghost use Rattle.t1_subset.specs.Headline.{Headline};
 ghost use Rattle.t1_subset.specs.Evened.{EvenedDraw};
+ghost use Rattle.t1_subset.specs.Rejoins.{TruncatedSubsetsRejoin};
 
 /// For every input that spells a font F and all sets A and B of its glyph names, reading the written subsets of A
 /// and B and merging them, in either order, writes the bytes of the subset of A together with B; over any list of
@@ -127,4 +128,12 @@ pub fn calls_draw_alike()
 /// each where hints are replaced and where they are kept, by itself, over the maps of both fonts and as calls see them.
 pub fn evened_draw()
     ensures { EvenedDraw }
+{}
+
+/// Subsets of one font that other programs cut, each with any tag and with the font's first Subrs alone, as long as those
+/// that it keeps are among them: made even, they merge in every order and grouping to the subset of all the names, cut to the
+/// largest of the counts and without the font's tag, and to nothing else, so to the same bytes. Each glyph that is kept
+/// draws in it as in the font.
+pub fn truncated_subsets_rejoin()
+    ensures { TruncatedSubsetsRejoin }
 {}
