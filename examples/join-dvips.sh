@@ -85,7 +85,7 @@ echo "joined.ps carries a font: $("$program" check joined.pfa)"
 for name in one two joined; do
     gs -q -dSAFER -sDEVICE=png16m -r100 -o "$name-%d.png" "$name.ps"
 done
-gs -q -dSAFER -dBATCH -sDEVICE=nullpage counted.ps
+gs -q -dSAFER -dBATCH -dNOPAUSE -sDEVICE=nullpage counted.ps
 cmp one-1.png joined-1.png
 cmp two-1.png joined-2.png
 rm counted.ps
