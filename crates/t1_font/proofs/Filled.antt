@@ -65,7 +65,7 @@ some_either : {X : Type 0} (x y : Option X) → is_some (joined x y) ≡ (is_som
 some_either None y = refl
 some_either (Some v) y = refl
 
-indices_next : (q : ℕ) (f : FontValue) (fs : List FontValue) → is_one q (indices_of_all (f ∷ fs)) ≡ (contains_key f.subrs q || is_one q (indices_of_all fs))
+pub indices_next : (q : ℕ) (f : FontValue) (fs : List FontValue) → is_one q (indices_of_all (f ∷ fs)) ≡ (contains_key f.subrs q || is_one q (indices_of_all fs))
 indices_next q f fs = list_any-append (eq_by_cmp nat_cmp q) (keys f.subrs) (indices_of_all fs) ∙ ap (λ b. b || is_one q (indices_of_all fs)) (sym (contains_key-keys f.subrs q))
 
 module _ (m : Numbered) (all fs : List FontValue) (i : ℕ) (d f : FontValue) (room : i < length fs) (is : get_or fs i d ≡ f) (h : IndicesSoFar m (drop i fs) all) where

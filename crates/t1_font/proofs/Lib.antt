@@ -55,6 +55,7 @@ pub mod CutLoops
 pub mod LentTables
 mod TinyCuts
 pub mod TagLemmas
+pub mod UntaggedTwice
 pub mod Evened
 pub mod Filled
 pub mod EvenStays

@@ -139,7 +139,7 @@ abbrev pub is_slashless : List ℕ → Bool
 is_slashless [] = true
 is_slashless (c ∷ w) = cond (eqb c 47) false (is_slashless w)
 
-slash_word : (w r : List ℕ) → is_slashless w ≡ true → Foreign w (47 ∷ r)
+pub slash_word : (w r : List ℕ) → is_slashless w ≡ true → Foreign w (47 ∷ r)
 slash_word [] r h = tt
 slash_word (c ∷ w) r h = elim (cases_Bool (eqb c 47)) [
   | inl t ↦ let k : false ≡ true = rw t at h in absurd (cc)
