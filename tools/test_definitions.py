@@ -12,8 +12,8 @@ import sys
 TOP = os.path.abspath(os.path.join(os.path.dirname(os.path.abspath(__file__)), ".."))
 # `ghost use Rattle.CRATE.specs.MODULE.{NAMES};`: what code declares (`specs.declared`) is no definition.
 IMPORT = re.compile(r"ghost use Rattle\.(t1_\w+)\.specs\.(?!declared)([\w.]+)\.\{([^}]*)\};")
-# A public function, from its name to its body.
-PUBLIC = re.compile(r"^ *pub fn (\w+)(.*?)^ *\{$", re.M | re.S)
+# A public function, from its name to its body, which is empty where the function is a law.
+PUBLIC = re.compile(r"^ *pub fn (\w+)(.*?)^ *\{\}?$", re.M | re.S)
 CLAUSES = re.compile(r"\b(?:ensures|requires)\b.*", re.S)
 
 

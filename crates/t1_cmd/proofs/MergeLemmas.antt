@@ -19,7 +19,7 @@ use Rattle.t1_cmd.specs.declared.faults.RunFault.TheVariants.{Refused, Read, Wri
 use Rattle.t1_cmd.specs.Inputs.{Input, Say}
 use Rattle.t1_cmd.specs.Runs.{Stops}
 use Rattle.t1_cmd.specs.Fonts.{font_input}
-use Rattle.t1_cmd.specs.Mergers.{InputsStop, IsTold, MergesTo, MergeStops}
+use Rattle.t1_cmd.specs.Mergers.{InputsStop, IsTold, MergesTo, AnswerStops}
 use Rattle.t1_cmd.proofs.RunLemmas.{stops_together}
 
 -- ---- merges from left to right
@@ -83,17 +83,17 @@ inputs_stop Answers is (Refused (Merge f)) h = inl h
 inputs_stop Answers is Read h = h
 inputs_stop Answers is Write h = absurd h
 
--- what stops the merge stops the engine
-pub merge_stops : (form : Form) (is : List Input) (fs : List FontValue) (e : RunFault) → Say font_input is fs → MergeStops form fs e → Stops font_input (MergesTo form) is e
-merge_stops form is fs (Refused TooLong) h s = stops_together font_input (MergesTo form) is fs TooLong h s
-merge_stops form is fs (Refused Memory) h s = tt
-merge_stops form is fs (Refused (ListReason f)) h s = stops_together font_input (MergesTo form) is fs (ListReason f) h s
-merge_stops form is fs (Refused (JoinReason f)) h s = stops_together font_input (MergesTo form) is fs (JoinReason f) h s
-merge_stops form is fs (Refused (Font f)) h s = stops_together font_input (MergesTo form) is fs (Font f) h s
-merge_stops form is fs (Refused (NoGlyph n)) h s = stops_together font_input (MergesTo form) is fs (NoGlyph n) h s
-merge_stops form is fs (Refused (Merge f)) h s = stops_together font_input (MergesTo form) is fs (Merge f) h s
-merge_stops form is fs Read h s = absurd s
-merge_stops form is fs Write h s = absurd s
+-- what stops the answer stops the engine
+pub answer_stops : (Answers : List FontValue → Result (List ℕ) Reason → Type 0) (is : List Input) (fs : List FontValue) (e : RunFault) → Say font_input is fs → AnswerStops (Answers fs) e → Stops font_input Answers is e
+answer_stops Answers is fs (Refused TooLong) h s = stops_together font_input Answers is fs TooLong h s
+answer_stops Answers is fs (Refused Memory) h s = tt
+answer_stops Answers is fs (Refused (ListReason f)) h s = stops_together font_input Answers is fs (ListReason f) h s
+answer_stops Answers is fs (Refused (JoinReason f)) h s = stops_together font_input Answers is fs (JoinReason f) h s
+answer_stops Answers is fs (Refused (Font f)) h s = stops_together font_input Answers is fs (Font f) h s
+answer_stops Answers is fs (Refused (NoGlyph n)) h s = stops_together font_input Answers is fs (NoGlyph n) h s
+answer_stops Answers is fs (Refused (Merge f)) h s = stops_together font_input Answers is fs (Merge f) h s
+answer_stops Answers is fs Read h s = absurd s
+answer_stops Answers is fs Write h s = absurd s
 
 pub same_text : (x y : List ℕ) → ◌≡◌ {A = Result (List ℕ) Reason} (Ok x) (Ok y) → y ≡ x
 same_text x y e = cc

@@ -1,20 +1,26 @@
 -- How the engine that rejoins fonts ends.
-use Rattle.std.proofs.Common.{◌≡◌, ℕ, arith, List, [], ◌∷◌, inl, inr, Result, Ok, Err}
+use Rattle.std.proofs.Common.{◌≡◌, ℕ, arith, List, [], ◌∷◌, inl, inr, Result, Ok, Err, sym, ap, subst, ◌∙◌}
+use Rattle.std.specs.List.{AllByRecursion}
 use Rattle.t1_bytes.specs.declared.form.Form.{Form}
 use Rattle.t1_font.specs.FontValue.{FontValue}
+use Rattle.t1_font.specs.Canon.{canon}
 use Rattle.t1_font.specs.Evening.{evened}
 use Rattle.t1_font.specs.Filling.{AreLight, AnyHeavy}
+use Rattle.t1_font.specs.IsFont.{IsFont}
+use Rattle.t1_subset.specs.Merger.{ComesTo}
+use Rattle.t1_subset.specs.Profile.{profile}
+use Rattle.t1_subset.specs.Rejoins.{IsUntagged}
+use Rattle.t1_subset.specs.Trees.{Leaf, left_tree}
+use Rattle.t1_subset.proofs.ManyMerges.{left_leaves}
+use Rattle.t1_subset.proofs.MergingFonts.{merging_fonts_are_even}
+use Rattle.t1_subset.proofs.Orders.{one_result}
 use Rattle.t1_cmd.specs.declared.faults.Reason.{Reason}
 use Rattle.t1_cmd.specs.declared.faults.Reason.TheVariants.{TooLong, Memory, List as ListReason, Join as JoinReason, Font, NoGlyph, Merge}
 use Rattle.t1_cmd.specs.declared.faults.RunFault.{RunFault}
 use Rattle.t1_cmd.specs.declared.faults.RunFault.TheVariants.{Refused, Read, Write}
-use Rattle.t1_cmd.specs.Inputs.{Input, Say}
-use Rattle.t1_cmd.specs.Runs.{Stops}
-use Rattle.t1_cmd.specs.Fonts.{font_input}
-use Rattle.t1_cmd.specs.Mergers.{MergeStops}
-use Rattle.t1_cmd.specs.Rejoins.{RejoinsTo, RejoinStops}
+use Rattle.t1_cmd.specs.Mergers.{MergesTo, MergeStops}
+use Rattle.t1_cmd.specs.Rejoins.{RejoinsTo, RejoinStops, RejoinsWhatMerges}
 use Rattle.t1_cmd.proofs.MergeLemmas.{merges_apart}
-use Rattle.t1_cmd.proofs.RunLemmas.{stops_together}
 
 -- fonts of which each is light are not heavy
 light_or_heavy : (fs : List FontValue) → AreLight fs → AnyHeavy fs → ⊥
@@ -39,14 +45,32 @@ merge_of_even form fs (Refused (Merge e)) l h = inl (l, h)
 merge_of_even form fs Read l h = h
 merge_of_even form fs Write l h = h
 
--- what stops the rejoining stops the engine
-pub rejoin_stops : (form : Form) (is : List Input) (fs : List FontValue) (e : RunFault) → Say font_input is fs → RejoinStops form fs e → Stops font_input (RejoinsTo form) is e
-rejoin_stops form is fs (Refused TooLong) h s = stops_together font_input (RejoinsTo form) is fs TooLong h s
-rejoin_stops form is fs (Refused Memory) h s = tt
-rejoin_stops form is fs (Refused (ListReason f)) h s = stops_together font_input (RejoinsTo form) is fs (ListReason f) h s
-rejoin_stops form is fs (Refused (JoinReason f)) h s = stops_together font_input (RejoinsTo form) is fs (JoinReason f) h s
-rejoin_stops form is fs (Refused (Font f)) h s = stops_together font_input (RejoinsTo form) is fs (Font f) h s
-rejoin_stops form is fs (Refused (NoGlyph n)) h s = stops_together font_input (RejoinsTo form) is fs (NoGlyph n) h s
-rejoin_stops form is fs (Refused (Merge f)) h s = stops_together font_input (RejoinsTo form) is fs (Merge f) h s
-rejoin_stops form is fs Read h s = absurd s
-rejoin_stops form is fs Write h s = absurd s
+-- ---- fonts that merge
+
+all_light : (fs : List FontValue) → AllByRecursion IsFont fs → AreLight fs
+all_light [] h = tt
+all_light (f ∷ fs) h = (h.0.light, all_light fs h.1)
+
+even_already : (fs : List FontValue) (j : FontValue) → AllByRecursion IsUntagged fs → ComesTo fs j → evened fs ≡ fs
+even_already [] j u h = absurd h
+even_already (f ∷ fs) j u h =
+    let all = left_leaves (Leaf f) fs in
+    subst (λ (gs : List FontValue). evened gs ≡ gs) all (merging_fonts_are_even (left_tree (Leaf f) fs) j h (subst (AllByRecursion IsUntagged) (sym all) u))
+
+comes_to_one : (fs : List FontValue) (j k : FontValue) → ComesTo fs j → ComesTo fs k → j ≡ k
+comes_to_one [] j k h i = absurd h
+comes_to_one (f ∷ fs) j k h i = one_result profile (left_tree (Leaf f) fs) j k h i
+
+one_answer : (form : Form) (fs : List FontValue) (text : List ℕ) → MergesTo form fs (Ok text) → (answer : Result (List ℕ) Reason) → MergesTo form fs answer → answer ≡ Ok text
+one_answer form fs text h (Ok other) k = ap Ok (k.2 ∙ (ap (λ (j : FontValue). canon j form) (comes_to_one fs k.0 h.0 k.1 h.1) ∙ sym h.2))
+one_answer form fs text h (Err r) k = let never : MergesTo form fs (Err Memory) = subst (λ (r : Reason). MergesTo form fs (Err r)) (merges_apart form fs text r h k) k in absurd never
+
+rejoined_so : (form : Form) (fs : List FontValue) (text : List ℕ) → evened fs ≡ fs → AreLight fs → MergesTo form fs (Ok text) → (answer : Result (List ℕ) Reason) → RejoinsTo form fs answer → answer ≡ Ok text
+rejoined_so form fs text is light h answer (inl a) = one_answer form fs text h answer (subst (λ (gs : List FontValue). MergesTo form gs answer) is a.1)
+rejoined_so form fs text is light h answer (inr a) = absurd (light_or_heavy fs light (subst AnyHeavy is a.0))
+
+pub rejoins_what_merges : RejoinsWhatMerges
+rejoins_what_merges form fs text fonts u h =
+    let is = even_already fs h.0 u h.1 in
+    let light = all_light fs fonts in
+    (inl (subst AreLight (sym is) light, subst (λ (gs : List FontValue). MergesTo form gs (Ok text)) (sym is) h), rejoined_so form fs text is light h)

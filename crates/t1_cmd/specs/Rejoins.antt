@@ -1,23 +1,27 @@
 -- What the engine that rejoins fonts writes: fonts that other programs cut are made even, and merged.
-use Rattle.std.specs.Prelude.{◌≡◌, ◌⊎◌, ℕ, List, Result, Err}
+use Rattle.std.specs.Prelude.{◌≡◌, ◌⊎◌, ℕ, List, Result, Ok, Err}
 use Rattle.t1_bytes.specs.declared.form.Form.{Form}
+use Rattle.std.specs.List.{AllByRecursion}
 use Rattle.t1_font.specs.FontValue.{FontValue}
+use Rattle.t1_font.specs.IsFont.{IsFont}
 use Rattle.t1_font.specs.Evening.{evened}
 use Rattle.t1_font.specs.Filling.{AreLight, AnyHeavy}
 use Rattle.t1_subset.specs.declared.conflict.Conflict.TheVariants as conflict
+use Rattle.t1_subset.specs.Rejoins.{IsUntagged}
 use Rattle.t1_cmd.specs.declared.faults.Reason.{Reason}
-use Rattle.t1_cmd.specs.declared.faults.Reason.TheVariants.{Memory, Merge}
+use Rattle.t1_cmd.specs.declared.faults.Reason.TheVariants.{Merge}
 use Rattle.t1_cmd.specs.declared.faults.RunFault.{RunFault}
-use Rattle.t1_cmd.specs.declared.faults.RunFault.TheVariants.{Refused, Read, Write}
-use Rattle.t1_cmd.specs.Mergers.{MergesTo}
+use Rattle.t1_cmd.specs.Mergers.{MergesTo, AnswerStops}
 
 -- the fonts, made even, are within the weight limit, and merge to this; or one of them is over it, and that is told
 abbrev pub RejoinsTo : Form → List FontValue → Result (List ℕ) Reason → Type 0
 RejoinsTo form fonts answer = (AreLight (evened fonts) × MergesTo form (evened fonts) answer) ⊎ (AnyHeavy (evened fonts) × (answer ≡ Err (Merge conflict.Limit)))
 
--- which end of an engine is right where the fonts are these
+-- which end of the engine that rejoins is right where the fonts are these
 abbrev pub RejoinStops : Form → List FontValue → RunFault → Type 0
-RejoinStops form fonts (Refused Memory) = Unit {0}
-RejoinStops form fonts (Refused r) = RejoinsTo form fonts (Err r)
-RejoinStops form fonts Read = ⊥
-RejoinStops form fonts Write = ⊥
+RejoinStops form fonts e = AnswerStops (RejoinsTo form fonts) e
+
+-- fonts without tags that merge to a file rejoin to it, and to nothing else
+abbrev pub RejoinsWhatMerges : Type 0
+RejoinsWhatMerges = (form : Form) (fonts : List FontValue) (text : List ℕ) → AllByRecursion IsFont fonts → AllByRecursion IsUntagged fonts → MergesTo form fonts (Ok text)
+    → RejoinsTo form fonts (Ok text) × ((answer : Result (List ℕ) Reason) → RejoinsTo form fonts answer → answer ≡ Ok text)

@@ -7,6 +7,7 @@
 mod counting;
 mod faults;
 mod fonts;
+pub mod laws;
 mod list;
 mod listings;
 mod mergers;

@@ -49,5 +49,6 @@ pub mod Evened
 pub mod CutCounts
 pub mod Truncated
 pub mod Rejoined
+pub mod MergingFonts
 pub mod KeptRows
 mod StateRows

@@ -24,7 +24,7 @@ by_parts P [] ys h = (tt, h)
 by_parts P (x ∷ xs) ys h = let r = by_parts P xs ys h.1 in ((h.0, r.0), r.1)
 
 module _ {X : Type 0} (P : X → Type 0) where
-  all_leaves : (t : Tree X) → EachLeaf P t → AllByRecursion P (leaves t)
+  pub all_leaves : (t : Tree X) → EachLeaf P t → AllByRecursion P (leaves t)
   all_leaves (Leaf x) h = (h, tt)
   all_leaves (Both s t) h = by_append P (leaves s) (leaves t) (all_leaves s h.0) (all_leaves t h.1)
 

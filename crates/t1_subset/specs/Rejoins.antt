@@ -12,7 +12,7 @@ use Rattle.t1_subset.specs.Interpreter.{Names}
 use Rattle.t1_subset.specs.Keep.{keep, kept, subset}
 use Rattle.t1_subset.specs.Profile.{profile}
 use Rattle.t1_subset.specs.Laws.{IsOf, DrawsAlike}
-use Rattle.t1_subset.specs.Trees.{Tree, leaves, union_all}
+use Rattle.t1_subset.specs.Trees.{Tree, leaves, union_all, Merges}
 use Rattle.t1_subset.specs.Merger.{MergesTo}
 
 -- ---- fonts cut to their first Subrs
@@ -86,3 +86,13 @@ pub record Rejoins (f : FontValue) (ts : List Truncated) : Type 0 where
 -- truncated subsets of one font, one or more, rejoin
 abbrev pub TruncatedSubsetsRejoin : Type 0
 TruncatedSubsetsRejoin = (f : FontValue) → IsFont f → (t : Truncated) (ts : List Truncated) → AllByRecursion (IsTruncated f) (t ∷ ts) → Rejoins f (t ∷ ts)
+
+-- ---- fonts that merge
+
+-- a font without a tag before its name
+abbrev pub IsUntagged : FontValue → Type 0
+IsUntagged f = untagged_head f.shell.head ≡ f.shell.head
+
+-- fonts without tags that merge, in some order and grouping, are even already
+abbrev pub MergingFontsAreEven : Type 0
+MergingFontsAreEven = (t : Tree FontValue) (j : FontValue) → Merges profile t j → AllByRecursion IsUntagged (leaves t) → evened (leaves t) ≡ leaves t

@@ -4,7 +4,7 @@ ghost use Rattle.t1_subset.specs.Laws.{KeepIsLeast, KeepIsMonotone, Distribution
 ghost use Rattle.t1_subset.specs.Profile.{profile};
 ghost use Rattle.t1_subset.specs.Headline.{Headline};
 ghost use Rattle.t1_subset.specs.Evened.{EvenedDraw};
-ghost use Rattle.t1_subset.specs.Rejoins.{TruncatedSubsetsRejoin};
+ghost use Rattle.t1_subset.specs.Rejoins.{TruncatedSubsetsRejoin, MergingFontsAreEven};
 
 /// For every input that spells a font F and all sets A and B of its glyph names, reading the written subsets of A
 /// and B and merging them, in either order, writes the bytes of the subset of A together with B; over any list of
@@ -136,4 +136,10 @@ pub fn evened_draw()
 /// draws in it as in the font.
 pub fn truncated_subsets_rejoin()
     ensures { TruncatedSubsetsRejoin }
+{}
+
+/// Fonts without tags that merge, in some order and grouping, are even already: making them even changes none of them, so
+/// they rejoin to what they merge to.
+pub fn merging_fonts_are_even()
+    ensures { MergingFontsAreEven }
 {}

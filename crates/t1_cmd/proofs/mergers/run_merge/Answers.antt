@@ -2,7 +2,7 @@ use Rattle.std.proofs.Common.{Ok, Err, subst, sym, ◌∙◌}
 use Rattle.t1_cmd.specs.Fonts.{font_input}
 use Rattle.t1_cmd.specs.Mergers.{inputs_of, MergesTo, MergeStops}
 use Rattle.t1_cmd.proofs.RunLemmas.{stopped, write_ends, ends_succeeds}
-use Rattle.t1_cmd.proofs.MergeLemmas.{merges_apart, inputs_stop, merge_stops}
+use Rattle.t1_cmd.proofs.MergeLemmas.{merges_apart, inputs_stop, answer_stops}
 use Rattle.t1_cmd.proofs.WrittenSubsets.{writes_union}
 use Rattle.t1_cmd.proofs.mergers.run_merge.Goals as goal
 
@@ -18,7 +18,7 @@ returns-in-Err-clause-succeeds g c =
 pub returns-in-Err-merged_file-clause-ends : goal.returns-in-Err-merged_file-clause-ends
 returns-in-Err-merged_file-clause-ends g c =
     stopped font_input (MergesTo c.args.form) g.W.Write.contents (inputs_of g.R.Read.remaining c.args.readers.now c.read_fonts.new.readers) c.args.writer.now c.in-Err-merged_file.fault
-    (merge_stops c.args.form (inputs_of g.R.Read.remaining c.args.readers.now c.read_fonts.new.readers) c.in-Ok.sources.items c.in-Err-merged_file.fault c.in-Ok.ensures.says
+    (answer_stops (MergesTo c.args.form) (inputs_of g.R.Read.remaining c.args.readers.now c.read_fonts.new.readers) c.in-Ok.sources.items c.in-Err-merged_file.fault c.in-Ok.ensures.says
     (subst (λ fs. MergeStops c.args.form fs c.in-Err-merged_file.fault) (c.as_slice-2.ensures.value ∙ (c.in_ok-fonts.ensures ∙ c.as_slice.ensures.value)) c.in-Err-merged_file.ensures.refused))
 
 pub returns-in-Err-merged_file-clause-succeeds : goal.returns-in-Err-merged_file-clause-succeeds

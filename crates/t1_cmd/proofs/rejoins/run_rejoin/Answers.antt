@@ -3,8 +3,8 @@ use Rattle.t1_cmd.specs.Fonts.{font_input}
 use Rattle.t1_cmd.specs.Mergers.{inputs_of}
 use Rattle.t1_cmd.specs.Rejoins.{RejoinsTo}
 use Rattle.t1_cmd.proofs.RunLemmas.{stopped, write_ends, ends_succeeds}
-use Rattle.t1_cmd.proofs.MergeLemmas.{inputs_stop}
-use Rattle.t1_cmd.proofs.RejoinLemmas.{rejoins_apart, rejoin_stops}
+use Rattle.t1_cmd.proofs.MergeLemmas.{inputs_stop, answer_stops}
+use Rattle.t1_cmd.proofs.RejoinLemmas.{rejoins_apart}
 use Rattle.t1_cmd.proofs.rejoins.run_rejoin.Goals as goal
 
 pub returns-in-Err-clause-ends : goal.returns-in-Err-clause-ends
@@ -19,7 +19,7 @@ returns-in-Err-clause-succeeds g c =
 pub returns-in-Err-rejoined_file-clause-ends : goal.returns-in-Err-rejoined_file-clause-ends
 returns-in-Err-rejoined_file-clause-ends g c =
     stopped font_input (RejoinsTo c.args.form) g.W.Write.contents (inputs_of g.R.Read.remaining c.args.readers.now c.read_fonts.new.readers) c.args.writer.now c.in-Err-rejoined_file.fault
-    (rejoin_stops c.args.form (inputs_of g.R.Read.remaining c.args.readers.now c.read_fonts.new.readers) c.in-Ok.sources.items c.in-Err-rejoined_file.fault c.in-Ok.ensures.says c.in-Err-rejoined_file.ensures.refused)
+    (answer_stops (RejoinsTo c.args.form) (inputs_of g.R.Read.remaining c.args.readers.now c.read_fonts.new.readers) c.in-Ok.sources.items c.in-Err-rejoined_file.fault c.in-Ok.ensures.says c.in-Err-rejoined_file.ensures.refused)
 
 pub returns-in-Err-rejoined_file-clause-succeeds : goal.returns-in-Err-rejoined_file-clause-succeeds
 returns-in-Err-rejoined_file-clause-succeeds g c =
