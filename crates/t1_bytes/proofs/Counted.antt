@@ -1,5 +1,5 @@
 -- Tables of so many entries: what is read is what the text spells, or the first place where it breaks off.
-use Rattle.std.proofs.Common.{◌≡◌, ◌⊎◌, inl, inr, ℕ, zero, suc, ◌+◌, ◌-◌, ◌<◌, List, [], ◌∷◌, ◌++◌, length, Option, Some, None, Ok, Err, refl, sym, ap, subst, ◌∙◌, append_assoc, arith}
+use Rattle.std.proofs.Common.{◌≡◌, inl, inr, ℕ, zero, suc, ◌+◌, ◌-◌, List, [], ◌∷◌, ◌++◌, length, Option, Some, None, Ok, Err, refl, sym, ap, subst, ◌∙◌, append_assoc, arith}
 use Rattle.std.proofs.lemmas.List.{append-nil}
 use Rattle.t1_bytes.specs.Grammar.{Grammar, Entries, IsCounted, CountedAt, NextIsMissing, CountBreaksOff, Table, with_front, table_step, counted_at}
 use Rattle.t1_bytes.proofs.Grammars.{IsExact, unspelled, unread}

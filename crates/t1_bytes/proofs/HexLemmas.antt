@@ -1,5 +1,5 @@
 -- Lines of hexadecimal digits, as the crate `hex` writes them.
-use Rattle.std.proofs.Common.{◌≡◌, ℕ, zero, suc, ◌≤◌, ◌<◌, ◌⊎◌, append_assoc, List, [], ◌∷◌, ◌++◌, length, Result, Ok, refl, sym, ap, ◌∙◌, arith, inl, inr}
+use Rattle.std.proofs.Common.{◌≡◌, ℕ, zero, suc, ◌≤◌, ◌<◌, ◌⊎◌, List, [], ◌∷◌, ◌++◌, length, Result, Ok, refl, ap, ◌∙◌, arith, inl, inr}
 use Rattle.std.specs.Prelude.{min}
 use Rattle.std.proofs.lemmas.Bool.{cases_lt}
 use Rattle.std.proofs.lemmas.List.{length-append, append-nil}
@@ -27,7 +27,7 @@ last_line n [] e = refl
 last_line zero (c ∷ cs) e = absurd (omega arith)
 last_line (suc n) (c ∷ cs) e = ap (λ (text : List ℕ). hex_byte c ++ text) (last_line n cs (omega arith))
 
-one_line : (line rest : List ℕ) → 0 < length line → (length line ≡ 32) ⊎ ((length line ≤ 32) × (rest ≡ [])) → hex_lines (line ++ rest) ≡ encode_lower line ++ (10 ∷ hex_lines rest)
+pub one_line : (line rest : List ℕ) → 0 < length line → (length line ≡ 32) ⊎ ((length line ≤ 32) × (rest ≡ [])) → hex_lines (line ++ rest) ≡ encode_lower line ++ (10 ∷ hex_lines rest)
 unfolding encode_with
 one_line [] rest h e = absurd (omega arith)
 one_line (c ∷ cs) rest h (inl e) = ap (λ (text : List ℕ). hex_byte c ++ text) (full_line 31 cs rest (omega arith))
@@ -39,17 +39,3 @@ line_or_last line [] e = elim (cases_lt (length line) 32) [
   | inr h ↦ inl (omega (arith, length-append line []))
 ]
 line_or_last line (b ∷ bs) e = inl (omega (arith, length-append line (b ∷ bs)))
-
--- one turn of a loop that writes line by line: what is written so far, and the lines of what is left
-pub next_line : (out left line rest total : List ℕ) → left ≡ line ++ rest → length line ≡ min 32 (length left) → 0 < length left → out ++ hex_lines left ≡ total → (out ++ (encode_lower line ++ 10 ∷ [])) ++ hex_lines rest ≡ total
-next_line out left line rest total whole size some so_far =
-    let same : length line ≡ min 32 (length (line ++ rest)) = size ∙ ap (λ (u : List ℕ). min 32 (length u)) whole in
-    let has : 0 < length line = omega (arith, size, some) in
-    let lines : hex_lines left ≡ encode_lower line ++ (10 ∷ hex_lines rest) = ap hex_lines whole ∙ one_line line rest has (line_or_last line rest same) in
-    let regrouped : (out ++ (encode_lower line ++ 10 ∷ [])) ++ hex_lines rest ≡ out ++ (encode_lower line ++ (10 ∷ hex_lines rest)) = simp append_assoc in
-    regrouped ∙ (ap (λ (u : List ℕ). out ++ u) (sym lines) ∙ so_far)
-
--- no bytes are left
-pub no_line : (out left total : List ℕ) → length left ≡ 0 → out ++ hex_lines left ≡ total → out ≡ total
-no_line out [] total e so_far = sym (append-nil out) ∙ so_far
-no_line out (b ∷ bs) total e so_far = absurd (omega arith)

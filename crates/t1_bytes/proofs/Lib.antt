@@ -7,6 +7,7 @@ pub mod SegmentLemmas
 pub mod SegmentMoves
 pub mod PfbLemmas
 pub mod HexLemmas
+pub mod SpreadLines
 pub mod DigitsAhead
 pub mod EexecLemmas
 pub mod HexLines

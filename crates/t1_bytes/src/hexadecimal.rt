@@ -1,6 +1,6 @@
 //! Lines of hexadecimal digits, and the trailer that follows them.
 
-ghost use Rattle.std.specs.Prelude.{◌≡◌, ◌++◌, ◌≤◌, [], ◌∷◌, length, OnOk, IfOk, IfErr};
+ghost use Rattle.std.specs.Prelude.{◌≡◌, ◌+◌, ◌*◌, ◌++◌, ◌≤◌, ◌<◌, [], ◌∷◌, length, take, drop, OnOk, OnErr, IfOk, IfErr};
 ghost use Rattle.hex.specs.Hex.{encode_lower};
 ghost use Rattle.t1_bytes.specs.declared.fault.BytesFault.TheVariants.{Memory};
 ghost use Rattle.t1_bytes.specs.Texts.{hex_lines, trailer};
@@ -30,31 +30,67 @@ pub fn trailer() -> &'static [u8]
     TRAILER
 }
 
-/// Writes one line at the end.
-fn put_line(out: &mut Vec<u8>, line: &[u8]) -> Result<(), AllocError>
-    requires { length line.now ≤ 32 }
-    ensures { OnOk result (out.new.items ≡ out.old.items ++ (encode_lower line.now ++ 10 ∷ [])) }
-{
-    let mut room = [0u8; 2 * LINE];
-    let (digits, _) = room.split_at_mut(2 * line.len());
-    if let Ok(()) = hex::encode_to_slice(line, digits) {
-        out.extend_from_slice(digits)?;
+/// Writes one line at the front of a text.
+fn set_line(text: &mut [u8], line: &[u8])
+    requires { 2 * length line.now < length text.old }
+    ensures {
+        text.new ≡ encode_lower line.now ++ (10 ∷ drop (2 * length line.now + 1) text.old)
     }
-    out.push(b'\n')?;
-    Ok(())
+{
+    let (digits, rest) = text.split_at_mut(2 * line.len());
+    if let Ok(()) = hex::encode_to_slice(line, digits) {
+        rest[0] = b'\n';
+    }
 }
 
-/// Writes the lines of [`hex_lines`] at the end.
+/// Writes the line of some bytes of a text at a place behind the first of them.
+fn spread_line(text: &mut [u8], from: usize, len: usize, to: usize)
+    requires short { len ≤ 32 }
+    requires from { from + len ≤ length text.old }
+    requires to { to + (2 * len + 1) ≤ length text.old }
+    ensures {
+        text.new ≡ take to text.old
+            ++ (encode_lower (take len (drop from text.old)) ++ (10 ∷ drop (to + (2 * len + 1)) text.old))
+    }
+{
+    let mut room = [0u8; LINE];
+    let (line, _) = room.split_at_mut(len);
+    line.copy_from_slice(&text[from..from + len]);
+    let (_, behind) = text.split_at_mut(to);
+    set_line(behind, line);
+}
+
+/// Writes the lines of so many bytes, from `from` on, over these and what stands behind them: the last line first, since
+/// each is longer than its bytes.
+fn spread_lines(text: &mut [u8], from: usize, count: usize, lines: usize)
+    requires enough { count ≤ 32 * lines }
+    requires few { 32 * lines < count + 32 }
+    requires room { length text.old ≡ from + (2 * count + lines) }
+    ensures { text.new ≡ take from text.old ++ hex_lines (take count (drop from text.old)) }
+{
+    let mut left = lines;
+    'lines: while left > 0 {
+        left -= 1;
+        let start = LINE * left;
+        let len = LINE.min(count - start);
+        spread_line(text, from + start, len, from + (2 * LINE + 1) * left);
+    }
+}
+
+/// Makes the bytes of a text from `from` on the lines of [`hex_lines`], in its own vector.
 ///
 /// # Errors
 ///
-/// Where a growth was refused.
-pub fn put_hex_lines(out: &mut Vec<u8>, bytes: &[u8]) -> Result<(), AllocError>
-    ensures { OnOk result (out.new.items ≡ out.old.items ++ hex_lines bytes.now) }
+/// Where a growth was refused; then the text stays.
+pub fn spread_hex_lines(text: &mut Vec<u8>, from: usize) -> Result<(), AllocError>
+    ensures done { OnOk result (text.new.items ≡ take from text.old.items ++ hex_lines (drop from text.old.items)) }
+    ensures same { OnErr result (text.new.items ≡ text.old.items) }
 {
-    'lines: for line in bytes.chunks(LINE) {
-        put_line(out, line)?;
-    }
+    let from = from.min(text.len());
+    let count = text.len() - from;
+    let lines = count.div_ceil(LINE);
+    text.resize(text.len().saturating_add(count).saturating_add(lines), 0)?;
+    spread_lines(text.as_mut_slice(), from, count, lines);
     Ok(())
 }
 
@@ -74,6 +110,7 @@ pub fn hex_lines(alloc: Global, bytes: &[u8]) -> Result<Vec<u8>, BytesFault>
     ensures memory { IfErr result (λ fault. fault ≡ Memory) }
 {
     let mut out = Vec::with_capacity(alloc, lines_len(bytes.len()))?;
-    put_hex_lines(&mut out, bytes)?;
+    out.extend_from_slice(bytes)?;
+    spread_hex_lines(&mut out, 0)?;
     Ok(out)
 }

@@ -5,7 +5,7 @@ mod tiny;
 
 use crate::{
     BytesFault, CHARSTRING_KEY, Cipher, EEXEC_KEY, EEXEC_LEAD, decrypt, encrypt, find_cipher,
-    flatten, hex_lines, open, seal, segments, split_eexec, trailer,
+    flatten, hex_lines, open, seal, segments, split_eexec, spread_hex_lines, trailer,
 };
 use std::alloc::{AllocError, Global};
 use std::test::Fail;
@@ -414,6 +414,10 @@ fn writes_lines_of_digits(rt: HostRuntime) -> Result<(), Fail> {
     for &(bytes, text) in ROWS {
         let lines = hex_lines(rt.alloc(), bytes)?;
         assert!(rt; lines.as_slice() == text, "{text:?}");
+        let mut behind = joined(rt.alloc(), b"eexec\n", bytes)?;
+        spread_hex_lines(&mut behind, 6)?;
+        let want = joined(rt.alloc(), b"eexec\n", text)?;
+        assert!(rt; behind.as_slice() == want.as_slice(), "{text:?}");
     }
     assert!(rt; trailer().len() == 532);
     Ok(())

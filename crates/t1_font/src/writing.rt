@@ -1,11 +1,10 @@
 //! The canonical file of a font.
 
-ghost use Rattle.std.specs.Prelude.{◌≡◌, ◌≤◌, ◌^◌, ◌+◌, ◌++◌, ◌∷◌, length, map, replicate, Some, Ok, OnOk, IfOk};
+ghost use Rattle.std.specs.Prelude.{◌≡◌, ◌≤◌, ◌^◌, ◌+◌, ◌++◌, ◌∷◌, length, take, drop, map, replicate, Some, Ok, OnOk, IfOk};
 ghost use Rattle.std.specs.Fmt.{decimal};
 ghost use Rattle.std.specs.Option.{option_map};
 ghost use Rattle.std.specs.FinMap as fin;
 ghost use Rattle.t1_bytes.specs.Cipher.{private_cipher};
-ghost use Rattle.t1_bytes.specs.Texts.{file_text};
 ghost use Rattle.t1_bytes.specs.declared.form.Form.TheVariants.{Pfa, Pfb};
 ghost use Rattle.t1_bytes.specs.Limits.{file_limit};
 ghost use Rattle.t1_font.specs.FontModel.{subrs_view, encoding_of};
@@ -20,7 +19,7 @@ use crate::shell::{KeptSubrs, Shell};
 use itoa::Buffer;
 use std::alloc::{AllocError, Global};
 use t1_bytes::{
-    CHARSTRING_KEY, EEXEC_KEY, EEXEC_LEAD, Form, encrypt, put_hex_lines, segments, trailer,
+    CHARSTRING_KEY, EEXEC_KEY, EEXEC_LEAD, Form, encrypt, segments, spread_hex_lines, trailer,
 };
 
 /// How many bytes of a private text the weight of its font leaves out at most: the markers, the
@@ -193,20 +192,16 @@ fn encoding_room(encoding: &LentEncoding<'_>) -> usize {
     }
 }
 
-/// The canonical clear text.
-fn clear_text(alloc: Global, parts: &FontParts<'_>) -> Result<Vec<u8>, AllocError>
-    ensures { IfOk result (λ v. v.items ≡ canon_clear parts.now) }
+/// Writes the canonical clear text.
+fn put_clear(out: &mut Vec<u8>, parts: &FontParts<'_>) -> Result<(), AllocError>
+    ensures { OnOk result (out.new.items ≡ out.old.items ++ canon_clear parts.now) }
 {
     let shell = parts.shell;
-    let room = encoding_room(&parts.encoding)
-        .saturating_add(shell.head.len())
-        .saturating_add(shell.clear_tail.len());
-    let mut out = Vec::with_capacity(alloc, room)?;
     out.extend_from_slice(shell.head.as_slice())?;
-    put_encoding(&mut out, &parts.encoding)?;
+    put_encoding(out, &parts.encoding)?;
     out.extend_from_slice(shell.clear_tail.as_slice())?;
     out.push(b'\n')?;
-    Ok(out)
+    Ok(())
 }
 
 /// Writes the canonical private text.
@@ -223,61 +218,73 @@ fn put_private(out: &mut Vec<u8>, parts: &FontParts<'_>) -> Result<(), AllocErro
     Ok(())
 }
 
-/// The cipher of the canonical private text, its lead bytes zero.
-fn cipher(alloc: Global, parts: &FontParts<'_>) -> Result<Vec<u8>, AllocError>
-    ensures { IfOk result (λ v. v.items ≡ private_cipher (canon_private parts.now)) }
+/// Writes the cipher of the canonical private text, its lead bytes zero.
+fn put_cipher(out: &mut Vec<u8>, parts: &FontParts<'_>) -> Result<(), AllocError>
+    ensures { OnOk result (out.new.items ≡ out.old.items ++ private_cipher (canon_private parts.now)) }
 {
-    let room = (parts.weight() as usize).saturating_add(MARKERS);
-    let mut out = Vec::with_capacity(alloc, room)?;
-    out.resize(EEXEC_LEAD as usize, 0)?;
-    put_private(&mut out, parts)?;
-    encrypt(out.as_mut_slice(), EEXEC_KEY);
-    Ok(out)
+    let start = out.len();
+    out.resize(start.saturating_add(EEXEC_LEAD as usize), 0)?;
+    put_private(out, parts)?;
+    let (_, private) = out.as_mut_slice().split_at_mut(start);
+    encrypt(private, EEXEC_KEY);
+    Ok(())
 }
 
-/// The PFA file of a clear text and a cipher.
-fn pfa(alloc: Global, clear: &[u8], cipher: &[u8]) -> Result<Vec<u8>, AllocError>
-    ensures { IfOk result (λ v. v.items ≡ file_text Pfa clear.now cipher.now) }
+/// How many bytes the texts of a font have at most, as far as it can be told.
+fn room_of(parts: &FontParts<'_>) -> usize {
+    encoding_room(&parts.encoding)
+        .saturating_add(parts.weight() as usize)
+        .saturating_add(MARKERS)
+}
+
+/// The canonical clear text and the cipher behind it, and where that begins.
+fn sealed_texts(alloc: Global, parts: &FontParts<'_>) -> Result<(Vec<u8>, usize), AllocError>
+    ensures {
+        IfOk result (λ x. (take x.1 x.0.items ≡ canon_clear parts.now)
+            × (drop x.1 x.0.items ≡ private_cipher (canon_private parts.now)))
+    }
 {
-    // Two digits and a part of the end of a line for each byte.
-    let lines = cipher
-        .len()
-        .saturating_mul(2)
-        .saturating_add(cipher.len() / 32);
-    let room = clear
-        .len()
-        .saturating_add(lines)
-        .saturating_add(trailer().len() + 1);
-    let mut out = Vec::with_capacity(alloc, room)?;
-    out.extend_from_slice(clear)?;
-    put_hex_lines(&mut out, cipher)?;
+    let mut out = Vec::with_capacity(alloc, room_of(parts))?;
+    put_clear(&mut out, parts)?;
+    let start = out.len();
+    put_cipher(&mut out, parts)?;
+    Ok((out, start))
+}
+
+/// The PFA file of a font's parts. The lines of digits are made where the cipher stands, so that it has no room of its own.
+fn pfa(alloc: Global, parts: &FontParts<'_>) -> Result<Vec<u8>, AllocError>
+    ensures { IfOk result (λ v. v.items ≡ canon parts.now Pfa) }
+{
+    let (mut out, start) = sealed_texts(alloc, parts)?;
+    spread_hex_lines(&mut out, start)?;
     out.extend_from_slice(trailer())?;
     Ok(out)
 }
 
-/// The PFB file of a clear text and a cipher.
-fn pfb(alloc: Global, clear: &[u8], cipher: &[u8]) -> Result<Vec<u8>, AllocError>
-    requires clear { length clear.now ≤ file_limit }
-    requires cipher { length cipher.now ≤ file_limit }
-    ensures { IfOk result (λ v. v.items ≡ file_text Pfb clear.now cipher.now) }
+/// The PFB file of a font's parts.
+fn pfb(alloc: Global, parts: &FontParts<'_>) -> Result<Vec<u8>, AllocError>
+    requires clear { length (canon_clear parts.now) ≤ file_limit }
+    requires cipher { length (private_cipher (canon_private parts.now)) ≤ file_limit }
+    ensures { IfOk result (λ v. v.items ≡ canon parts.now Pfb) }
 {
+    let (texts, start) = sealed_texts(alloc, parts)?;
+    let start = start.min(texts.len());
+    let (clear, cipher) = texts.as_slice().split_at(start);
     match segments(alloc, clear, cipher, trailer()) {
         Ok(file) => Ok(file),
         Err(_) => Err(AllocError),
     }
 }
 
-/// The file of the canonical texts of a font's parts.
+/// The file of a font's parts.
 fn canonical(alloc: Global, parts: &FontParts<'_>, form: Form) -> Result<Vec<u8>, AllocError>
     requires clear { length (canon_clear parts.now) ≤ file_limit }
     requires cipher { length (private_cipher (canon_private parts.now)) ≤ file_limit }
     ensures { IfOk result (λ v. v.items ≡ canon parts.now form) }
 {
-    let clear = clear_text(alloc, parts)?;
-    let cipher = cipher(alloc, parts)?;
     match form {
-        Form::Pfa => pfa(alloc, clear.as_slice(), cipher.as_slice()),
-        Form::Pfb => pfb(alloc, clear.as_slice(), cipher.as_slice()),
+        Form::Pfa => pfa(alloc, parts),
+        Form::Pfb => pfb(alloc, parts),
     }
 }
 

@@ -6,7 +6,7 @@ use super::tiny::{PFA, PFB};
 use super::{CLEAR, is_put_together};
 use crate::{
     BytesFault, CHARSTRING_KEY, Cipher, decrypt, encrypt, find_cipher, flatten_in_place, hex_lines,
-    open, put_hex_lines, trailer,
+    open, spread_hex_lines, trailer,
 };
 use std::alloc::Global;
 use std::test::Fail;
@@ -18,9 +18,9 @@ fn is_spelled(alloc: Global) -> Result<bool, BytesFault> {
         return Ok(false);
     };
     let lines = hex_lines(alloc, bytes.as_slice())?;
-    let mut again = Vec::new(alloc);
-    put_hex_lines(&mut again, bytes.as_slice())?;
-    Ok(at == CLEAR - 1 && again.as_slice() == lines.as_slice())
+    let mut spread = bytes;
+    spread_hex_lines(&mut spread, 0)?;
+    Ok(at == CLEAR - 1 && spread.as_slice() == lines.as_slice())
 }
 
 /// Whether all of these calls answer right.
