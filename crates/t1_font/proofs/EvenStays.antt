@@ -170,8 +170,8 @@ indices_again : (indices : List ℕ) (fs : List FontValue) → Among (indices_of
 indices_again indices [] h q one = absurd (true≢false (sym one))
 indices_again indices (f ∷ fs) h q one =
     by_either (contains_key (filled indices f).subrs q) (is_one q (indices_of_all (map (filled indices) fs))) (sym (indices_next q (filled indices f) (map (filled indices) fs)) ∙ one)
-        (filled_among f.subrs (declared_count f.shell.subrs) indices q (λ own. h q (indices_next q f fs ∙ left_true (contains_key f.subrs q) (is_one q (indices_of_all fs)) own)) (entries f.subrs))
-        (indices_again indices fs (λ p l. h p (indices_next p f fs ∙ right_true (contains_key f.subrs p) (is_one p (indices_of_all fs)) l)) q)
+    (filled_among f.subrs (declared_count f.shell.subrs) indices q (λ own. h q (indices_next q f fs ∙ left_true (contains_key f.subrs q) (is_one q (indices_of_all fs)) own)) (entries f.subrs))
+    (indices_again indices fs (λ p l. h p (indices_next p f fs ∙ right_true (contains_key f.subrs p) (is_one p (indices_of_all fs)) l)) q)
 
 fills_once : (o : Option (List ℕ)) (b c d : Bool) → (d ≡ true → b ≡ true) → joined (joined o (cond c (cond b (Some stub) None) None)) (cond c (cond d (Some stub) None) None) ≡ joined o (cond c (cond b (Some stub) None) None)
 fills_once (Some v) b c d h = refl

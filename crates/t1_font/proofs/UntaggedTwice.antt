@@ -1,5 +1,5 @@
 -- A head without tags has none: its name is found at the same place.
-use Rattle.std.proofs.Common.{◌≡◌, ◌⊎◌, ℕ, ◌-◌, List, [], ◌∷◌, ◌++◌, length, take, drop, Option, Some, None, Bool, true, false, cond, eqb, inl, inr, refl, sym, ap, subst, ◌∙◌, arith, append_assoc}
+use Rattle.std.proofs.Common.{◌≡◌, ℕ, ◌-◌, List, [], ◌∷◌, ◌++◌, length, take, drop, Option, Some, None, Bool, true, false, cond, eqb, inl, inr, refl, sym, ap, subst, ◌∙◌, arith, append_assoc}
 use Rattle.std.specs.Prelude.{codes}
 use Rattle.std.specs.List.{prefix_len}
 use Rattle.std.specs.Option.{option_and_then}
@@ -73,18 +73,19 @@ module _ (head : List ℕ) (x : (List ℕ × List ℕ) × List ℕ) (e : (first 
       let b = begins_so x.0.1 own x.1 s.2.2 in
       let all : head ≡ (x.0.0 ++ own) ++ x.1 = s.1 ∙ ap (λ (u : List ℕ). u ++ x.1) s.2.1 in
       let none : NoneIn name_marker x.0.0 (own ++ name) =
-          subst (λ (u : List ℕ). NoneIn name_marker x.0.0 (u ++ name)) (sym b.1)
-              (name_moves (b.0 ++ x.1) (b.0 ++ name) x.0.0 (subst (λ (u : List ℕ). NoneIn name_marker x.0.0 (u ++ x.1)) b.1 s.2.3)) in
-      (x.0.0 ++ own,
-       ap (take (length head - length x.1)) all ∙ take_at (x.0.0 ++ own) x.1 (length head - length x.1) (omega (arith, ap length all, length-append (x.0.0 ++ own) x.1)),
-       ap (first name_marker).read (append_assoc x.0.0 own name) ∙ first_behind name_marker name_marker_exact x.0.0 (own ++ name) x.0.1 name none (name_marker_exact.again x.0.1 own name (before_any x.0.1 own x.1 name s.2.2)))
+      subst (λ (u : List ℕ). NoneIn name_marker x.0.0 (u ++ name)) (sym b.1)
+      (name_moves (b.0 ++ x.1) (b.0 ++ name) x.0.0 (subst (λ (u : List ℕ). NoneIn name_marker x.0.0 (u ++ x.1)) b.1 s.2.3)) in (
+        x.0.0 ++ own,
+        ap (take (length head - length x.1)) all ∙ take_at (x.0.0 ++ own) x.1 (length head - length x.1) (omega (arith, ap length all, length-append (x.0.0 ++ own) x.1)),
+        ap (first name_marker).read (append_assoc x.0.0 own name) ∙ first_behind name_marker name_marker_exact x.0.0 (own ++ name) x.0.1 name none (name_marker_exact.again x.0.1 own name (before_any x.0.1 own x.1 name s.2.2)),
+      )
 
   -- a head that lost its tags has none
   lost_stays : untagged_head (take (length head - length x.1) head ++ untagged x.1) ≡ take (length head - length x.1) head ++ untagged x.1
   lost_stays =
       let f = found (untagged x.1) in
       subst (λ (u : List ℕ). untagged_head (u ++ untagged x.1) ≡ u ++ untagged x.1) (sym f.1)
-          (no_tags_there (f.0 ++ untagged x.1) (x.0, untagged x.1) (sym f.2) (untagged (untagged x.1)) refl (ap length (untagged_twice x.1)))
+      (no_tags_there (f.0 ++ untagged x.1) (x.0, untagged x.1) (sym f.2) (untagged (untagged x.1)) refl (ap length (untagged_twice x.1)))
 
 pub untagged_head_twice : (head : List ℕ) → untagged_head (untagged_head head) ≡ untagged_head head
 untagged_head_twice head = by_name ((first name_marker).read head) refl

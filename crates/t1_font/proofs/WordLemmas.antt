@@ -1,10 +1,15 @@
 -- Words are read as they are spelled.
-use Rattle.std.proofs.Common.{◌≡◌, ℕ, Bool, true, false, List, sym, ◌∙◌}
+use Rattle.std.proofs.Common.{◌≡◌, ℕ, suc, ◌+◌, ◌*◌, ◌-◌, ◌≤◌, ◌<◌, Bool, true, false, ◌&&◌, ◌||◌, not, cond, leb, List, [], ◌∷◌, length, take, drop, Option, Some, None, refl, sym, ap, subst, ◌∙◌, one-add, arith}
 use Rattle.std.specs.Prelude.{codes}
+use Rattle.std.specs.List.{AllByRecursion, prefix_len}
+use Rattle.std.specs.Option.{option_and_then}
+use Rattle.std.proofs.lemmas.Bool.{and_parts, agree_below_at, leb-true, le-leb, lt-leb}
+use Rattle.std.proofs.lemmas.Option.{none-some, cond_some}
 use Rattle.std.proofs.lemmas.Slice.Eq.{bytes_eq-Decides}
+use Rattle.t1_bytes.specs.Grammar.{Stops, fixed}
 use Rattle.t1_bytes.proofs.Grammars.{IsExact, pure_exact, bind_exact, that_exact, run_exact, count_exact, fixed_exact}
 use Rattle.t1_bytes.proofs.EexecLemmas.{gap_exact}
-use Rattle.t1_font.specs.Words.{is_regular, one_white, word, keyword, decimal, name, is_name, is_decimal, digits_after, phrase_after, phrase_of, is_access}
+use Rattle.t1_font.specs.Words.{is_regular, all_regular, regular_comes, first_digit, is_digit, all_digits, one_white, word, keyword, decimal, name, is_name, is_decimal, digits_after, phrase_after, phrase_of, is_access}
 
 pub one_white_exact : IsExact one_white
 unfolding one_white
@@ -38,3 +43,129 @@ phrase_exact test = bind_exact _ _ (that_exact test _ word_exact) (λ first. phr
 pub keyword_text : (w a text rest : List ℕ) → (keyword w).Spells a text rest → text ≡ w
 unfolding keyword
 keyword_text w a text rest s = s.0.0 ∙ sym ((bytes_eq-Decides w a).0 s.1)
+
+-- ---- keywords, by the bytes at the front and the one behind them
+
+regular_bytes : (w : List ℕ) → all_regular w ≡ true → AllByRecursion (λ b. is_regular b ≡ true) w
+regular_bytes [] h = tt
+regular_bytes (b ∷ bs) h = let p = and_parts (is_regular b) (all_regular bs) h in (p.0, regular_bytes bs p.1)
+
+stops_there : (rest : List ℕ) → regular_comes rest ≡ false → Stops is_regular rest
+stops_there [] h = tt
+stops_there (b ∷ bs) h = h
+
+goes_on : (rest : List ℕ) → Stops is_regular rest → regular_comes rest ≡ false
+goes_on [] h = refl
+goes_on (b ∷ bs) h = h
+
+-- where these bytes come and no regular one after them, the word is read
+pub keyword_there : (w bytes : List ℕ) (x : List ℕ × List ℕ) → all_regular w ≡ true → (fixed w).read bytes ≡ Some x → regular_comes x.1 ≡ false → (keyword w).read bytes ≡ Some x
+unfolding keyword
+keyword_there w bytes x h e stop =
+    let s = (fixed_exact w).takes bytes x e in
+    let same : w ≡ x.0 = (bytes_eq-Decides w x.0).0 s.2.1 in
+    let all : AllByRecursion (λ b. is_regular b ≡ true) x.0 = rw (← same) (regular_bytes w h) in
+    ap (keyword w).read s.1 ∙ (keyword_exact w).again x.0 s.0 x.1 ((s.2.0.0, all, stops_there x.1 stop), s.2.1)
+
+-- where the word is read, these bytes come and no regular one after them
+keyword_front : (w bytes : List ℕ) (x : List ℕ × List ℕ) → (keyword w).read bytes ≡ Some x → ((fixed w).read bytes ≡ Some x) × (regular_comes x.1 ≡ false)
+unfolding keyword
+keyword_front w bytes x e =
+    let s = (keyword_exact w).takes bytes x e in
+    let same : w ≡ x.0 = (bytes_eq-Decides w x.0).0 s.2.1 in
+    (ap (fixed w).read s.1 ∙ (fixed_exact w).again x.0 s.0 x.1 ((s.2.0.0, ap length (sym same)), s.2.1), goes_on x.1 s.2.0.2)
+
+-- a keyword is its bytes, where no regular one comes after them
+pub keyword_by_bytes : (w bytes : List ℕ) → all_regular w ≡ true → (keyword w).read bytes ≡ option_and_then (λ x. cond (regular_comes x.1) None (Some x)) ((fixed w).read bytes)
+keyword_by_bytes w bytes h = by_read ((keyword w).read bytes) ((fixed w).read bytes) refl refl
+  where
+    ends : (x : List ℕ × List ℕ) (b : Bool) → (fixed w).read bytes ≡ Some x → regular_comes x.1 ≡ b → (keyword w).read bytes ≡ None → None ≡ cond b None (Some x)
+    ends x true f r k = refl
+    ends x false f r k = absurd (none-some x (sym k ∙ keyword_there w bytes x h f r))
+
+    by_read : (k f : Option (List ℕ × List ℕ)) → (keyword w).read bytes ≡ k → (fixed w).read bytes ≡ f → k ≡ option_and_then (λ x. cond (regular_comes x.1) None (Some x)) f
+    by_read None None k f = refl
+    by_read None (Some x) k f = ends x (regular_comes x.1) f refl k
+    by_read (Some x) f k g = let front = keyword_front w bytes x k in rw (sym g ∙ front.0, front.1) refl
+
+-- ---- decimals, digit by digit
+
+-- what is read of a word whose first k digits spell v: its other bytes, and what stands after them
+abbrev word_after : ℕ → ℕ → List ℕ → List ℕ → Option (ℕ × List ℕ)
+word_after k v w rest = cond (leb 1 (k + length w) && leb (k + length w) 9 && all_digits w) (Some (digits_after v w, rest)) None
+
+abbrev pub decimal_after : ℕ → ℕ → List ℕ → Option (ℕ × List ℕ)
+decimal_after k v bytes = word_after k v (take (prefix_len is_regular bytes) bytes) (drop (prefix_len is_regular bytes) bytes)
+
+read_by_test : (b : Bool) (x : List ℕ × List ℕ) (y : ℕ × List ℕ) → y ≡ (digits_after 0 x.0, x.1) → cond b (Some y) None ≡ option_and_then (λ z. Some (digits_after 0 z.0, z.1)) (cond b (Some x) None)
+read_by_test true x y e = ap Some e
+read_by_test false x y e = refl
+
+pub decimal_starts : (bytes : List ℕ) → decimal_after 0 0 bytes ≡ decimal.read bytes
+unfolding decimal
+decimal_starts bytes =
+    let w = take (prefix_len is_regular bytes) bytes in
+    let whole : 0 + length w ≡ length w = omega arith in
+    rw whole (read_by_test (is_decimal w) (w, drop (prefix_len is_regular bytes) bytes) (digits_after 0 w, drop (prefix_len is_regular bytes) bytes) refl)
+
+digit_regular : (b : ℕ) → is_digit b ≡ true → is_regular b ≡ true
+digit_regular b h =
+    let range = and_parts (leb 48 b) (leb b 57) h in
+    let below : b < 58 = omega (arith, leb-true b 57 range.1) in
+    rw range.0 at (agree_below_at (λ b. not (leb 48 b) || is_regular b) (λ _. true) 58 b refl below)
+
+digit_first : (k v b : ℕ) (bs : List ℕ) → is_digit b ≡ true → decimal_after (k + 1) (v * 10 + (b - 48)) bs ≡ decimal_after k v (b ∷ bs)
+digit_first k v b bs h =
+    let n = length (take (prefix_len is_regular bs) bs) in
+    let longer : k + suc n ≡ k + 1 + n = omega arith in
+    rw (digit_regular b h, one-add, h, longer) refl
+
+-- a digit more
+pub decimal_more : (k v d : ℕ) (bytes after : List ℕ) → Some (d, after) ≡ first_digit bytes → decimal_after (k + 1) (v * 10 + d) after ≡ decimal_after k v bytes
+decimal_more k v d [] after e = absurd (none-some (d, after) (sym e))
+decimal_more k v d (b ∷ bs) after e =
+    let c = cond_some (is_digit b) (b - 48, bs) (d, after) (sym e) in
+    subst (λ (y : ℕ × List ℕ). decimal_after (k + 1) (v * 10 + y.0) y.1 ≡ decimal_after k v (b ∷ bs)) c.1 (digit_first k v b bs c.0)
+
+-- ten digits are too many
+pub decimal_too_long : (v : ℕ) (bytes : List ℕ) → decimal_after 10 v bytes ≡ None
+decimal_too_long v bytes =
+    let w = take (prefix_len is_regular bytes) bytes in
+    let low : leb (10 + length w) 9 ≡ false = lt-leb (10 + length w) 9 (omega arith) in
+    let high : leb 1 (10 + length w) ≡ true = le-leb 1 (10 + length w) (omega arith) in
+    rw (low, high) refl
+
+and_false : (b : Bool) → (b && false) ≡ false
+and_false true = refl
+and_false false = refl
+
+not_digit : (b : ℕ) (bs : List ℕ) → None ≡ first_digit (b ∷ bs) → is_digit b ≡ false
+not_digit b bs e = by_test (is_digit b) (b - 48, bs) e
+  where
+    by_test : (t : Bool) (x : ℕ × List ℕ) → None ≡ cond t (Some x) None → t ≡ false
+    by_test true x e = absurd (none-some x e)
+    by_test false x e = refl
+
+-- a regular byte comes that is no digit
+pub decimal_breaks : (k v : ℕ) (bytes : List ℕ) → None ≡ first_digit bytes → true ≡ regular_comes bytes → None ≡ decimal_after k v bytes
+decimal_breaks k v [] e h = absurd cc
+decimal_breaks k v (b ∷ bs) e h = rw (← h, one-add, not_digit b bs e, and_false) refl
+
+word_ends : (k v : ℕ) (bytes : List ℕ) → regular_comes bytes ≡ false → decimal_after k v bytes ≡ word_after k v [] bytes
+word_ends k v [] h = refl
+word_ends k v (b ∷ bs) h = rw h refl
+
+-- the word ends
+pub decimal_ends : (k v : ℕ) (bytes : List ℕ) → regular_comes bytes ≡ false → 0 < k → k ≤ 9 → decimal_after k v bytes ≡ Some (v, bytes)
+decimal_ends k v bytes h some few =
+    let low : leb 1 (k + 0) ≡ true = le-leb 1 (k + 0) (omega arith) in
+    let high : leb (k + 0) 9 ≡ true = le-leb (k + 0) 9 (omega arith) in
+    word_ends k v bytes h ∙ rw (low, high) refl
+
+-- no digit comes
+pub decimal_empty : (k v : ℕ) (bytes : List ℕ) → k ≡ 0 → None ≡ first_digit bytes → None ≡ decimal_after k v bytes
+decimal_empty k v bytes none e = by_test (regular_comes bytes) refl
+  where
+    by_test : (b : Bool) → regular_comes bytes ≡ b → None ≡ decimal_after k v bytes
+    by_test true h = decimal_breaks k v bytes e (sym h)
+    by_test false h = rw (word_ends k v bytes h, none) refl

@@ -1,5 +1,5 @@
 -- Byte strings that stand in a buffer.
-use Rattle.std.specs.Prelude.{ℕ, ◌≤◌, List, slice_range}
+use Rattle.std.specs.Prelude.{ℕ, ◌+◌, ◌-◌, ◌≤◌, max, List, slice_range}
 use Rattle.std.specs.List.{All}
 use Rattle.t1_font.specs.declared.ranges.Range.{Range}
 
@@ -26,3 +26,10 @@ numbered_at buffer e = (e.0, bytes_at buffer e.1)
 
 abbrev pub named_at : List ℕ → Range × Range → List ℕ × List ℕ
 named_at buffer e = (bytes_at buffer e.0, bytes_at buffer e.1)
+
+-- the weight of a Subr, and of a glyph, whose charstring is in a range
+abbrev pub subr_at_weight : ℕ → ℕ → Range → ℕ
+subr_at_weight len_iv i r = 128 + len_iv + max 1 (r.end - r.start)
+
+abbrev pub glyph_at_weight : ℕ → Range → Range → ℕ
+glyph_at_weight len_iv name r = 256 + len_iv + (r.end - r.start)

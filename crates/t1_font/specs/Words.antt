@@ -1,5 +1,5 @@
 -- Words of font text: white space, names, decimals and phrases.
-use Rattle.std.specs.Prelude.{ℕ, ◌+◌, ◌-◌, ◌*◌, ◌==◌, ◌&&◌, ◌||◌, not, nat_le, Bool, true, false, List, [], ◌∷◌, ◌++◌, length, codes}
+use Rattle.std.specs.Prelude.{ℕ, ◌+◌, ◌-◌, ◌*◌, ◌==◌, ◌&&◌, ◌||◌, not, nat_le, Bool, true, false, List, [], ◌∷◌, ◌++◌, length, codes, Option, Some, None, if◌then◌else◌}
 use Rattle.std.specs.Str.{bytes_eq}
 use Rattle.t1_bytes.specs.Grammar.{Grammar, pure, ◌>>=◌, ◌>>◌, that, run, count, fixed}
 use Rattle.t1_bytes.specs.White.{white, is_white, gap}
@@ -10,6 +10,16 @@ is_delimiter b = b == 40 || b == 41 || b == 60 || b == 62 || b == 91 || b == 93 
 
 abbrev pub is_regular : ℕ → Bool
 is_regular b = not (is_white b || is_delimiter b)
+
+-- each byte is regular
+abbrev pub all_regular : List ℕ → Bool
+all_regular [] = true
+all_regular (b ∷ bs) = is_regular b && all_regular bs
+
+-- a regular byte comes
+abbrev pub regular_comes : List ℕ → Bool
+regular_comes [] = false
+regular_comes (b ∷ bs) = is_regular b
 
 -- one byte of white space
 abbrev pub starts_white : List ℕ → Bool
@@ -35,6 +45,11 @@ is_digit b = nat_le 48 b && nat_le b 57
 abbrev pub all_digits : List ℕ → Bool
 all_digits [] = true
 all_digits (b ∷ bs) = is_digit b && all_digits bs
+
+-- the digit that comes first, and what stands after it
+abbrev pub first_digit : List ℕ → Option (ℕ × List ℕ)
+first_digit [] = None
+first_digit (b ∷ bs) = if is_digit b then Some (b - 48, bs) else None
 
 -- the number that digits spell after the number n
 abbrev pub digits_after : ℕ → List ℕ → ℕ

@@ -5,8 +5,7 @@ ghost use Rattle.std.specs.Ordering.{nat_cmp};
 ghost use Rattle.t1_bytes.specs.Cipher.{decrypted};
 ghost use Rattle.t1_bytes.specs.Eexec.{cipher_in, last_bytes};
 ghost use Rattle.t1_join.specs.TableMeaning.{Rises};
-ghost use Rattle.t1_font.specs.FontValue.{count_limit, weight};
-ghost use Rattle.t1_font.specs.FontModel.{clamp};
+ghost use Rattle.t1_font.specs.FontValue.{count_limit};
 ghost use Rattle.t1_font.specs.Gathering.{gathered_codes};
 ghost use Rattle.t1_font.specs.Pieces.{ClearPieces, PrivatePieces, flat_pieces};
 ghost use Rattle.t1_font.specs.Ranges.{AllInside, numbered_at};
@@ -147,14 +146,6 @@ fn declared_in(parts: &Option<SubrsParts>) -> u32
     }
 }
 
-/// The weight of a source's parts, as far as 64 bits hold it.
-fn weight_of(alloc: Global, parts: &SourceParts) -> Result<u64, AllocError>
-    ensures { IfOk result (λ n. n ≡ clamp (weight parts.now)) }
-{
-    let font = parts.lent(alloc)?;
-    Ok(font.weight())
-}
-
 /// The parts of the font that was read, if it has no more glyphs than a font may have, and weighs no more.
 fn light_parts(
     alloc: Global,
@@ -170,10 +161,7 @@ fn light_parts(
     if parts.glyph_count() > COUNT_LIMIT {
         return Err(ReadFault::Limit);
     }
-    let Ok(weight) = weight_of(alloc, &parts) else {
-        return Err(ReadFault::Memory);
-    };
-    if weight > WEIGHT_LIMIT {
+    if parts.weight() > WEIGHT_LIMIT {
         return Err(ReadFault::Limit);
     }
     Ok(parts)

@@ -1,6 +1,6 @@
 //! Byte strings by number and by name, borrowed, in the order of their keys.
 
-ghost use Rattle.std.specs.Prelude.{◌≡◌, ◌+◌, [], IfSome};
+ghost use Rattle.std.specs.Prelude.{◌≡◌, ◌+◌, max, IfSome};
 ghost use Rattle.std.specs.Option.{option_map};
 ghost use Rattle.std.specs.FinMap as fin;
 ghost use Rattle.t1_font.specs.FontValue.{total, subr_weight, glyph_weight};
@@ -10,23 +10,18 @@ ghost use Rattle.t1_font.specs.Filling.{has_none};
 use std::marker::Model;
 use std::slice;
 
-/// The weight of a Subr: one of no bytes weighs as much as one of one byte.
-fn subr_weight(len_iv: u8, body: &[u8]) -> u64
-    ensures { result ≡ subr_weight len_iv 0 body.now }
+/// The weight of a Subr of so many bytes, as far as 64 bits hold it: one of none weighs as much as one of one byte.
+pub(crate) fn subr_weight(len_iv: u8, len: usize) -> u64
+    ensures { result ≡ clamp (128 + len_iv + max 1 len) }
 {
-    let len = if body.is_empty() {
-        1
-    } else {
-        body.len() as u64
-    };
-    128 + len_iv as u64 + len
+    (128 + len_iv as u64).saturating_add(len.max(1) as u64)
 }
 
-/// The weight of a glyph.
-fn glyph_weight(len_iv: u8, body: &[u8]) -> u64
-    ensures { result ≡ glyph_weight len_iv [] body.now }
+/// The weight of a glyph of so many bytes, as far as 64 bits hold it.
+pub(crate) fn glyph_weight(len_iv: u8, len: usize) -> u64
+    ensures { result ≡ clamp (256 + len_iv + len) }
 {
-    256 + len_iv as u64 + body.len() as u64
+    (256 + len_iv as u64).saturating_add(len as u64)
 }
 
 /// Charstrings by index, or names by code, upwards by number.
@@ -95,7 +90,7 @@ impl<'a> Numbered<'a> {
     {
         let mut weight = before;
         'bodies: for (_, body) in self.entries() {
-            weight = weight.saturating_add(subr_weight(len_iv, body));
+            weight = weight.saturating_add(subr_weight(len_iv, body.len()));
         }
         weight
     }
@@ -199,7 +194,7 @@ impl<'a> Named<'a> {
     {
         let mut weight = before;
         'bodies: for (_, body) in self.entries() {
-            weight = weight.saturating_add(glyph_weight(len_iv, body));
+            weight = weight.saturating_add(glyph_weight(len_iv, body.len()));
         }
         weight
     }

@@ -1,18 +1,18 @@
 //! A font that owns its bytes.
 
-ghost use Rattle.std.specs.Prelude.{◌≡◌, ◌++◌, ℕ, List, map, length, filter, IfOk, OnOk};
+ghost use Rattle.std.specs.Prelude.{◌≡◌, ◌+◌, ◌++◌, ℕ, List, map, length, filter, IfOk, OnOk};
 ghost use Rattle.std.specs.Ordering.{nat_cmp};
 ghost use Rattle.std.specs.FinMap.{from_sorted, entries, len};
 ghost use Rattle.t1_join.specs.TableMeaning.{Rises};
 ghost use Rattle.t1_font.specs.Entries.{has_name};
-ghost use Rattle.t1_font.specs.FontModel.{encoding_of};
-ghost use Rattle.t1_font.specs.FontValue.{name_cmp};
+ghost use Rattle.t1_font.specs.FontModel.{clamp, encoding_of};
+ghost use Rattle.t1_font.specs.FontValue.{name_cmp, total, weight};
 ghost use Rattle.t1_font.specs.Gathering.{gathered_codes};
-ghost use Rattle.t1_font.specs.Ranges.{bytes_at, IsInside, AllInside, NamesInside, numbered_at, named_at};
+ghost use Rattle.t1_font.specs.Ranges.{bytes_at, IsInside, AllInside, NamesInside, numbered_at, named_at, subr_at_weight, glyph_at_weight};
 
 use crate::font::{Font, FontParts, LentEncoding};
 use crate::glyphs::is_notdef;
-use crate::lent::{Named, Numbered};
+use crate::lent::{Named, Numbered, glyph_weight, subr_weight};
 use crate::ranges::Range;
 use crate::repeats::last_entries;
 use crate::shell::Shell;
@@ -125,6 +125,28 @@ fn named<'a>(
     Ok(Named { entries: lent })
 }
 
+/// `before` and the weight of Subrs in these ranges, in a font with this lenIV, as far as 64 bits hold it.
+fn subrs_weight(before: u64, len_iv: u8, subrs: &[(u16, Range)]) -> u64
+    ensures { result ≡ clamp (before + total (subr_at_weight len_iv) subrs.now) }
+{
+    let mut weight = before;
+    'subrs: for (_, body) in subrs {
+        weight = weight.saturating_add(subr_weight(len_iv, body.len()));
+    }
+    weight
+}
+
+/// `before` and the weight of glyphs in these ranges, in a font with this lenIV, as far as 64 bits hold it.
+fn glyphs_weight(before: u64, len_iv: u8, glyphs: &[(Range, Range)]) -> u64
+    ensures { result ≡ clamp (before + total (glyph_at_weight len_iv) glyphs.now) }
+{
+    let mut weight = before;
+    'glyphs: for (_, body) in glyphs {
+        weight = weight.saturating_add(glyph_weight(len_iv, body.len()));
+    }
+    weight
+}
+
 impl SourceParts {
     /// The Encoding, lent.
     fn encoding(&self, alloc: Global) -> Result<LentEncoding<'_>, AllocError>
@@ -143,6 +165,15 @@ impl SourceParts {
         ensures { result ≡ len self.now.glyphs }
     {
         self.glyphs.len()
+    }
+
+    /// The weight, as far as 64 bits hold it.
+    pub(crate) fn weight(&self) -> u64
+        ensures { result ≡ clamp (weight self.now) }
+    {
+        let len_iv = self.shell.len_iv();
+        let with_subrs = subrs_weight(self.shell.texts_weight(), len_iv, self.subrs.as_slice());
+        glyphs_weight(with_subrs, len_iv, self.glyphs.as_slice())
     }
 
     /// The parts, lent.

@@ -1,9 +1,9 @@
 //! Words of font text.
 
-ghost use Rattle.std.specs.Prelude.{◌≡◌, length, take_while, unwrap_or, IfOk, Some, None, if◌then◌else◌};
+ghost use Rattle.std.specs.Prelude.{◌≡◌, ◌<◌, true, length, take_while, unwrap_or, IfOk, IfSome, Some};
 ghost use Rattle.std.specs.Option.{option_map};
 ghost use Rattle.t1_bytes.specs.Grammar.{run, that};
-ghost use Rattle.t1_font.specs.Words.{is_delimiter, is_regular, one_white, word, keyword, decimal, digits_after, is_decimal, name, next_name, is_access, phrase_of, passes};
+ghost use Rattle.t1_font.specs.Words.{is_delimiter, is_regular, one_white, word, keyword, all_regular, regular_comes, first_digit, decimal, name, next_name, is_access, phrase_of, passes};
 ghost use Rattle.t1_font.specs.Views.{phrase_view, words_view};
 
 use std::alloc::{AllocError, Global};
@@ -63,43 +63,58 @@ pub fn word_at(bytes: &[u8]) -> Option<(&[u8], &[u8])>
     Some((front, rest))
 }
 
-/// The whole word `word`.
-#[tactic(auto, unfolding(crate::specs::Words::keyword))]
-pub fn keyword_at<'a>(bytes: &'a [u8], word: &[u8]) -> Option<(&'a [u8], &'a [u8])>
-    ensures { option_map (λ x. (x.0.now, x.1.now)) result ≡ (keyword word.now).read bytes.now }
+/// Whether a regular byte comes.
+fn regular_comes(bytes: &[u8]) -> bool
+    ensures { result ≡ regular_comes bytes.now }
 {
-    let (front, rest) = regular_at(bytes);
-    if word == front {
-        Some((front, rest))
-    } else {
-        None
+    match bytes.first() {
+        Some(byte) => is_regular(*byte),
+        None => false,
     }
 }
 
-/// The number that a word of 1 to 9 digits spells.
-fn decimal_of(word: &[u8]) -> Option<u32>
-    ensures { result ≡ (if is_decimal word.now then Some (digits_after 0 word.now) else None) }
+/// The whole word `word`, whose bytes are regular: these bytes, where no regular one comes after them.
+pub fn keyword_at<'a>(bytes: &'a [u8], word: &[u8]) -> Option<(&'a [u8], &'a [u8])>
+    requires { all_regular word.now ≡ true }
+    ensures { option_map (λ x. (x.0.now, x.1.now)) result ≡ (keyword word.now).read bytes.now }
 {
-    if word.is_empty() || word.len() > 9 {
+    let (front, rest) = fixed_at(bytes, word)?;
+    if regular_comes(rest) {
         return None;
     }
-    let mut value = 0;
-    for b in word {
-        if *b < b'0' || b'9' < *b {
-            return None;
-        }
-        value = value * 10 + (*b - b'0') as u32;
+    Some((front, rest))
+}
+
+/// The digit that comes first, and what stands after it.
+fn digit_at(bytes: &[u8]) -> Option<(u32, &[u8])>
+    ensures digit { option_map (λ x. (x.0, x.1.now)) result ≡ first_digit bytes.now }
+    ensures below { IfSome result (λ x. x.0 < 10) }
+{
+    let (byte, rest) = bytes.split_first()?;
+    if *byte < b'0' || b'9' < *byte {
+        return None;
     }
-    Some(value)
+    Some(((*byte - b'0') as u32, rest))
 }
 
 /// A word of 1 to 9 digits.
-#[tactic(auto, unfolding(crate::specs::Words::decimal))]
 pub fn decimal_at(bytes: &[u8]) -> Option<(u32, &[u8])>
     ensures { option_map (λ x. (x.0, x.1.now)) result ≡ decimal.read bytes.now }
 {
-    let (digits, rest) = regular_at(bytes);
-    let value = decimal_of(digits)?;
+    let mut value = 0;
+    let mut count: usize = 0;
+    let mut rest = bytes;
+    'digits: while let Some((digit, after)) = digit_at(rest) {
+        if count == 9 {
+            return None;
+        }
+        value = value * 10 + digit;
+        count += 1;
+        rest = after;
+    }
+    if count == 0 || regular_comes(rest) {
+        return None;
+    }
     Some((value, rest))
 }
 

@@ -1,9 +1,9 @@
-use Rattle.std.proofs.Common.{◌+◌, min, sym, ap, ◌∙◌, arith}
+use Rattle.std.proofs.Common.{◌+◌, [], sym, ap, ◌∙◌, arith}
 use Rattle.std.proofs.lemmas.Map.Iter.{rest_more, rest_all}
 use Rattle.t1_font.specs.FontValue.{total, glyph_weight}
 use Rattle.t1_font.specs.FontModel.{clamp}
 use Rattle.t1_font.specs.Lent.{lent_name}
-use Rattle.t1_font.proofs.Weights.{clamp_more, clamp_all, clamp_fits}
+use Rattle.t1_font.proofs.Weights.{clamp_step, clamp_all, clamp_fits}
 use Rattle.t1_font.proofs.lent.Named.weight.Goals as goal
 
 pub bodies-init : goal.bodies-init
@@ -12,9 +12,8 @@ bodies-init c = (omega (arith, c.ranges.before.fits), ap (λ es. clamp (c.args.b
 pub bodies-preserved : goal.bodies-preserved
 bodies-preserved c = (
   clamp_fits _ _ c.saturating_add-weight.ensures,
-  ap (λ n. clamp (n + total (glyph_weight c.args.len_iv) c.next.new.self)) (c.saturating_add-weight.ensures ∙ ap (λ n. min (c.bodies.weight + n) 18446744073709551615) c.glyph_weight.ensures)
-      ∙ (clamp_more c.bodies.weight _ _
-      ∙ (ap (λ es. clamp (c.bodies.weight + total (glyph_weight c.args.len_iv) es)) (sym (rest_more lent_name _ _ _ _ c.in-Some.is c.next.ensures.steps)) ∙ c.bodies.invariant.1)),
+  clamp_step c.bodies.weight (glyph_weight c.args.len_iv [] c.in-Some.body.now) c.glyph_weight.result c.saturating_add-weight.result (total (glyph_weight c.args.len_iv) c.next.new.self) c.glyph_weight.ensures c.saturating_add-weight.ensures
+      ∙ (ap (λ es. clamp (c.bodies.weight + total (glyph_weight c.args.len_iv) es)) (sym (rest_more lent_name _ _ _ _ c.in-Some.is c.next.ensures.steps)) ∙ c.bodies.invariant.1),
 )
 
 pub returns : goal.returns
