@@ -16,9 +16,13 @@ pub record Entry (K : Type 0) : Type 0 where
   pub key : K
   pub body : Body
 
+-- how many bytes a charstring has at most, its lead bytes among them
+abbrev pub charstring_limit : ℕ
+charstring_limit = 65535
+
 -- the length of a charstring with lead bytes
 unfoldable pub length_from : ℕ → Grammar ℕ
-length_from iv = that (λ n. nat_le iv n && nat_le n 65535) decimal
+length_from iv = that (λ n. nat_le iv n && nat_le n charstring_limit) decimal
 
 -- what stands behind a key in a table with this lenIV
 unfoldable pub body : ℕ → Grammar Body

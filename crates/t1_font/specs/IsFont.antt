@@ -7,7 +7,8 @@ use Rattle.std.specs.FinMap.{get, contains_key, len, entries}
 use Rattle.t1_bytes.specs.Laws.{AreBytes}
 use Rattle.t1_bytes.specs.Grammar.{Grammar, first, NoneIn, Stops, Lacks}
 use Rattle.t1_bytes.specs.Eexec.{eexec_marker}
-use Rattle.t1_font.specs.Words.{is_regular, phrase_of, passes}
+use Rattle.t1_font.specs.Words.{word_limit, name_limit, is_regular, phrase_of, passes}
+use Rattle.t1_font.specs.Entry.{charstring_limit}
 use Rattle.t1_font.specs.Markers.{encoding_marker, subrs_marker, chars_marker, closefile}
 use Rattle.t1_font.specs.Pieces.{iv_of}
 use Rattle.t1_font.specs.FontValue.{FontValue, Shell, SubrsShell, Encoding, Word, Codes, Numbered, Named, notdef, count_limit, weight_limit, weight}
@@ -28,7 +29,7 @@ pub record IsPhrase (may_be_dup : Bool) (p : List ℕ) : Type 0 where
 
 -- a charstring that has room for its lead bytes
 pub record IsCharstring (iv : ℕ) (c : List ℕ) : Type 0 where
-  pub short : iv + length c ≤ 65535
+  pub short : iv + length c ≤ charstring_limit
   pub bytes : AreBytes c
 
 -- ---- the shell
@@ -69,7 +70,7 @@ pub record AreTexts (s : Shell) : Type 0 where
 -- the kept words of the entries, empty where there are no entries
 abbrev pub SubrWords : List (ℕ × List ℕ) → SubrsShell → Type 0
 SubrWords [] s = (s.rd ≡ []) × (s.put ≡ [])
-SubrWords (e ∷ es) s = IsWord 32 s.rd × IsPhrase true s.put
+SubrWords (e ∷ es) s = IsWord word_limit s.rd × IsPhrase true s.put
 
 -- Subrs that are within their count and fit their charstrings, and the phrase that closes them
 pub record IsSubrs (iv : ℕ) (s : SubrsShell) (m : Numbered) : Type 0 where
@@ -86,9 +87,9 @@ SubrsFit s (Some t) m = IsSubrs s.len_iv t m
 
 -- glyphs with their kept words, `.notdef` among them
 pub record AreGlyphs (s : Shell) (m : Named) : Type 0 where
-  pub rd : IsWord 32 s.glyphs_rd
+  pub rd : IsWord word_limit s.glyphs_rd
   pub def : IsPhrase true s.glyphs_def
-  pub names : (n c : List ℕ) → get m n ≡ Some c → IsWord 127 n
+  pub names : (n c : List ℕ) → get m n ≡ Some c → IsWord name_limit n
   pub bodies : (n c : List ℕ) → get m n ≡ Some c → IsCharstring s.len_iv c
   pub notdef : contains_key m notdef ≡ true
   pub few : len m ≤ count_limit
@@ -96,12 +97,12 @@ pub record AreGlyphs (s : Shell) (m : Named) : Type 0 where
 -- a code, and its name, which isn't `.notdef`
 pub record IsCode (c : ℕ) (n : List ℕ) : Type 0 where
   pub code : c ≤ 255
-  pub name : IsWord 127 n
+  pub name : IsWord name_limit n
   pub put : bytes_eq notdef n ≡ false
 
 -- one word, or the names of codes
 abbrev pub IsEncoding : Encoding → Type 0
-IsEncoding (Word w) = IsWord 32 w
+IsEncoding (Word w) = IsWord word_limit w
 IsEncoding (Codes m) = (c : ℕ) (n : List ℕ) → get m c ≡ Some n → IsCode c n
 
 -- ---- the font

@@ -29,8 +29,16 @@ starts_white (b ∷ bs) = is_white b
 unfoldable pub one_white : Grammar (List ℕ)
 one_white = that starts_white (count 1)
 
+-- how many bytes a word has at most, and a phrase with the blank between its words
+abbrev pub word_limit : ℕ
+word_limit = 32
+
+-- how many bytes a name has at most
+abbrev pub name_limit : ℕ
+name_limit = 127
+
 abbrev pub is_word : List ℕ → Bool
-is_word w = nat_le 1 (length w) && nat_le (length w) 32
+is_word w = nat_le 1 (length w) && nat_le (length w) word_limit
 
 unfoldable pub word : Grammar (List ℕ)
 word = that is_word (run is_regular)
@@ -66,7 +74,7 @@ decimal = do
   pure (digits_after 0 w)
 
 abbrev pub is_name : List ℕ → Bool
-is_name w = nat_le 1 (length w) && nat_le (length w) 127
+is_name w = nat_le 1 (length w) && nat_le (length w) name_limit
 
 -- a slash and the name
 unfoldable pub name : Grammar (List ℕ)
@@ -85,7 +93,7 @@ abbrev pub is_access : List ℕ → Bool
 is_access w = bytes_eq w (codes "noaccess") || bytes_eq w (codes "readonly") || bytes_eq w (codes "executeonly")
 
 abbrev pub is_short : List ℕ → Bool
-is_short w = nat_le (length w) 32
+is_short w = nat_le (length w) word_limit
 
 -- what follows the first word of a phrase, each word of which passes a test
 abbrev pub phrase_after : (List ℕ → Bool) → Bool → List ℕ → Grammar (List ℕ)

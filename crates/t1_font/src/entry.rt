@@ -6,6 +6,7 @@ ghost use Rattle.t1_font.specs.Entry.{length_from, body};
 ghost use Rattle.t1_font.specs.Places.{StandsIn};
 ghost use Rattle.t1_font.specs.Views.{body_view};
 
+use crate::limits::CHARSTRING_LIMIT;
 use crate::places::Place;
 use crate::words::{Phrase, decimal_at, one_white_at, phrase_at, word_at};
 use t1_bytes::texts::{count_at, gap_at, white_at};
@@ -39,7 +40,7 @@ fn length_at(bytes: &[u8], len_iv: u8) -> Option<(u32, &[u8])>
     ensures room { IfSome result (λ x. len_iv ≤ x.0) }
 {
     let (len, rest) = decimal_at(bytes)?;
-    if len_iv as u32 <= len && len <= 65535 {
+    if len_iv as u32 <= len && len <= CHARSTRING_LIMIT {
         Some((len, rest))
     } else {
         None

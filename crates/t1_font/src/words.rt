@@ -6,6 +6,7 @@ ghost use Rattle.t1_bytes.specs.Grammar.{run, that};
 ghost use Rattle.t1_font.specs.Words.{is_delimiter, is_regular, one_white, word, keyword, all_regular, regular_comes, first_digit, decimal, name, next_name, is_access, phrase_of, passes};
 ghost use Rattle.t1_font.specs.Views.{phrase_view, words_view};
 
+use crate::limits::{NAME_LIMIT, WORD_LIMIT};
 use std::alloc::{AllocError, Global};
 use t1_bytes::texts::{count_at, fixed_at, gap_at, is_white, white_at};
 
@@ -57,7 +58,7 @@ pub fn word_at(bytes: &[u8]) -> Option<(&[u8], &[u8])>
     ensures { option_map (λ x. (x.0.now, x.1.now)) result ≡ word.read bytes.now }
 {
     let (front, rest) = regular_at(bytes);
-    if front.is_empty() || front.len() > 32 {
+    if front.is_empty() || front.len() > WORD_LIMIT {
         return None;
     }
     Some((front, rest))
@@ -125,7 +126,7 @@ pub fn name_at(bytes: &[u8]) -> Option<(&[u8], &[u8])>
 {
     let (_, rest) = fixed_at(bytes, b"/")?;
     let (name, rest) = regular_at(rest);
-    if name.is_empty() || name.len() > 127 {
+    if name.is_empty() || name.len() > NAME_LIMIT {
         return None;
     }
     Some((name, rest))
@@ -222,7 +223,7 @@ pub fn phrase_at(bytes: &[u8], may_be_dup: bool) -> Option<(Phrase<'_>, &[u8])>
     }
     let (_, rest) = gap_at(rest)?;
     let (second, rest) = passing_word_at(rest, may_be_dup)?;
-    if first.len() + 1 + second.len() > 32 {
+    if first.len() + 1 + second.len() > WORD_LIMIT {
         return None;
     }
     Some((

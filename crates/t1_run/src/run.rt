@@ -26,11 +26,14 @@ pub(crate) enum Halt {
     Failed(Fault),
 }
 
+/// What the index of a Subr is below: a font declares no more Subrs.
+const SUBR_LIMIT: i64 = 65535;
+
 /// The index of a call, where it can be that of a Subr.
 fn index_of(i: i64) -> Option<u16>
     ensures { result ≡ index_of i }
 {
-    if 0 <= i && i < 65535 {
+    if 0 <= i && i < SUBR_LIMIT {
         Some(i as u16)
     } else {
         None

@@ -26,12 +26,12 @@ fn join_command<'a>(alloc: Global) -> Result<Command<'a>, AllocError> {
 }
 
 const SUBSET_HELP: &str = "\
-OUT is a font, as PFA, with the glyphs of these names, `.notdef`, the parts of
-accented glyphs, and the Subrs that all of these execute. Each of its glyphs
-draws as in IN. A Subr that none of them executes stays as the one command
+Writes to OUT, as PFA, the glyphs of these names, `.notdef`, the components of
+accented glyphs, and the Subrs that these glyphs execute. Each glyph draws as
+in IN. A Subr that none of them executes is replaced by the single command
 `return`, so that subsets of one font can be merged again. Without a NAME it
-keeps `.notdef` alone. A NAME that begins with `-` stands after `--`, and each
-one may stand more than once. OUT is opened only after the result is complete.
+keeps `.notdef` alone. Put `--` before a NAME that begins with `-`. A NAME may
+be given more than once. OUT is opened only when the result is complete.
 
 Example: t1subset subset font.pfb some.pfa A B Aacute";
 
@@ -44,7 +44,7 @@ fn names_word<'a>(alloc: Global) -> Arg<'a> {
 
 fn subset_command<'a>(alloc: Global) -> Result<Command<'a>, AllocError> {
     Command::new(alloc, "subset")
-        .about("Writes a subset of a font that draws as the font")
+        .about("Cuts a font to some of its glyphs")
         .after_help(SUBSET_HELP)
         .arg(word(alloc, "IN", "The font"))?
         .arg(word(alloc, "OUT", "The file that is written"))?
@@ -54,12 +54,12 @@ fn subset_command<'a>(alloc: Global) -> Result<Command<'a>, AllocError> {
 const MERGE_HELP: &str = "\
 OUT comes first: `t1subset merge a.pfa b.pfa` overwrites a.pfa.
 
-OUT is the font, as PFA, that the fonts make together: of subsets of one font
-the subset of all their names, byte for byte, in whatever order they stand.
-Fonts that differ are refused with the first thing in which they do. A Subr
-that is `return`, and that no glyph of its font executes, gives way to the
-other font's. Subsets that other programs cut mostly need `rejoin`. OUT is
-opened only after the result is complete.
+Merges the fonts and writes the result to OUT as PFA. Subsets of one font, in
+any order, give byte for byte the subset of all their names. Fonts that don't
+fit together are refused with the first difference. A Subr that is `return`,
+and that no glyph of its font executes, gives way to the other font's. Subsets
+that other programs cut mostly need `rejoin`. OUT is opened only when the
+result is complete.
 
 Example: t1subset merge all.pfa one.pfa two.pfa";
 
@@ -68,11 +68,12 @@ OUT comes first: `t1subset rejoin a.pfa b.pfa` overwrites a.pfa.
 
 Merges subsets that other programs cut, such as dvips and pdfTeX. These may
 put a tag of six capitals and `+` before the name of the font, and declare no
-Subrs after the last one that is used. So first the fonts are made even: the
-tags go, each font declares as many Subrs as the one that declares most, and a
-Subr that a font lacks and another has is put in as `return`. What a glyph
-draws stays as it is. Then they are merged as by `merge`, and what still
-differs is refused. OUT is opened only after the result is complete.
+Subrs after the last one that is used. So `rejoin` first makes the fonts even:
+it removes the tags, declares as many Subrs in each table as in the largest,
+and adds a Subr `return` where one font lacks a Subr that another has. Each
+glyph that draws without a fault still draws as it did. Then it merges them as
+`merge` does, and refuses what still differs. OUT is opened only when the
+result is complete.
 
 Example: t1subset rejoin all.pfa one.pfa two.pfa";
 
@@ -98,7 +99,7 @@ fn list_of_fonts_command<'a>(
 }
 
 fn merge_command<'a>(alloc: Global) -> Result<Command<'a>, AllocError> {
-    let about = "Merges subsets of a font into one";
+    let about = "Merges subsets of a font into one font";
     list_of_fonts_command(alloc, "merge", about, MERGE_HELP)
 }
 
@@ -108,18 +109,18 @@ fn rejoin_command<'a>(alloc: Global) -> Result<Command<'a>, AllocError> {
 }
 
 const PFA_HELP: &str = "\
-IN is a Type 1 font as PFA, PFB or with a raw binary cipher. OUT is its one
-canonical file in this form: kept texts as they stand, tables in one layout,
-Subrs by index and glyphs by name, lead bytes zero, the trailer written anew.
-OUT is opened only after the result is complete.
+IN is a Type 1 font as PFA, PFB or with a raw binary cipher. OUT becomes its
+one canonical file in this form: the texts around the tables unchanged, the
+tables in a fixed layout with Subrs by index and glyphs by name, lead bytes
+zero, and a standard trailer. OUT is opened only when the result is complete.
 
 Example: t1subset pfa font.pfb font.pfa";
 
 const PFB_HELP: &str = "\
-IN is a Type 1 font as PFA, PFB or with a raw binary cipher. OUT is its one
-canonical file in this form: kept texts as they stand, tables in one layout,
-Subrs by index and glyphs by name, lead bytes zero, the trailer written anew.
-OUT is opened only after the result is complete.
+IN is a Type 1 font as PFA, PFB or with a raw binary cipher. OUT becomes its
+one canonical file in this form: the texts around the tables unchanged, the
+tables in a fixed layout with Subrs by index and glyphs by name, lead bytes
+zero, and a standard trailer. OUT is opened only when the result is complete.
 
 Example: t1subset pfb font.pfa font.pfb";
 
@@ -138,16 +139,16 @@ fn convert_command<'a>(
 
 const CHECK_HELP: &str = "\
 Prints `ok G glyphs, S subrs, weight W`, where S counts the Subrs that are
-present, and W is the weight by which fonts are limited: the lengths of the
-texts around the tables; for each Subr 128, its lead bytes and its length, at
-least 1; and for each glyph 256, its lead bytes and its length. A font that
-doesn't parse is refused with the first thing in it that is wrong.
+present, and W is the weight, which is limited. It adds up the lengths of the
+texts around the tables; for each Subr 128, its lead bytes and its length,
+which counts as at least 1; and for each glyph 256, its lead bytes and its
+length. A font that doesn't parse is refused with its first fault.
 
 Example: t1subset check font.pfb";
 
 fn check_command<'a>(alloc: Global) -> Result<Command<'a>, AllocError> {
     Command::new(alloc, "check")
-        .about("Says whether a font reads")
+        .about("Checks that a font can be read")
         .after_help(CHECK_HELP)
         .arg(word(alloc, "IN", "The font"))
 }
@@ -171,7 +172,7 @@ const SHOW_HELP: &str = "\
 Prints `width WX WY`, `bearing SBX SBY`, and for each part `part DX DY` and a
 line for each of its marks, or the one line `fault NAME`. Numbers are
 charstring units; one that is not whole is printed as its count of 1/65536
-unit and `/65536`. A NAME that begins with `-` stands after `--`.
+unit and `/65536`. Put `--` before a NAME that begins with `-`.
 
 Example: t1subset show font.pfb Aacute";
 
@@ -184,8 +185,8 @@ fn show_command<'a>(alloc: Global) -> Result<Command<'a>, AllocError> {
 }
 
 const PROGRAM_HELP: &str = "\
-Exit status: 0 done; 1 refused, with the reason on standard error; 2 the words
-don't parse; 3 a file doesn't open, read or write.
+Exit status: 0 for success; 1 for a refusal, with the reason on standard error;
+2 for a wrong command line; 3 where a file can't be opened, read or written.
 
 Example: t1subset subset font.pfb some.pfa A B Aacute";
 
