@@ -15,7 +15,7 @@ use crate::writing::write_text;
 use std::alloc::Global;
 use std::io::{Read, Write};
 use t1_bytes::FILE_LIMIT;
-use t1_join::{JoinFault, ListFault, Listing, join, listing};
+use t1_join::{JoinFault, ListFault, Listing, listing, write_joined};
 
 fn refused_list(fault: ListFault) -> RunFault
     ensures { result ≡ RunFault.Refused (list_reason fault) }
@@ -57,13 +57,7 @@ fn joined_text(alloc: Global, left: &Listing<'_>, right: &Listing<'_>) -> Result
     ensures text { IfOk result (λ text. JoinsTo (left.now ∷ right.now ∷ []) (Ok text.items)) }
     ensures refused { IfErr result (λ e. (fault : JoinFault) × (IsJoinFault left.now right.now fault × (e ≡ RunFault.Refused (join_reason fault)))) }
 {
-    let both = join(alloc, left, right).map_err(refused_join)?;
-    let text = listing::write(alloc, &both);
-    drop(both);
-    match text {
-        Ok(text) => Ok(text),
-        Err(_) => Err(refused_join(JoinFault::Memory)),
-    }
+    write_joined(alloc, left, right).map_err(refused_join)
 }
 
 // The text of the join of a listing and of that of a reader.

@@ -15,3 +15,5 @@ pub mod Searches
 pub mod Merges
 pub mod Conflicts
 pub mod Places
+pub mod AnyOrder
+pub mod AtOnce

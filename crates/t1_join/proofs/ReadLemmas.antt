@@ -40,7 +40,7 @@ pub reading_starts : (text : List ℕ) (l : ListingMeaning) → l ≡ listing_fr
 reading_starts text l e = record { seen = []; listing = e; goes_on = refl; counted = omega arith }
 
 -- what the parts of a split are
-shorter : (c : ℕ) (xs : List ℕ) (p : List ℕ × List ℕ) → split_at c xs ≡ Some p → length p.1 + 1 ≤ length xs
+pub shorter : (c : ℕ) (xs : List ℕ) (p : List ℕ × List ℕ) → split_at c xs ≡ Some p → length p.1 + 1 ≤ length xs
 shorter c [] p h = cc
 shorter c (b ∷ bs) p h = by (b == c) (split_at c bs) (shorter c bs) h
   where
@@ -57,7 +57,7 @@ shorter c (b ∷ bs) p h = by (b == c) (split_at c bs) (shorter c bs) h
         let e : with_front b q ≡ p = cc in
         subst (λ (w : List ℕ × List ℕ). length w.1 + 1 ≤ suc (length bs)) e (omega arith)
 
-ended : (n : ℕ) (seen : List Entry) (rest : List ℕ) → length rest ≡ 0 → at_end n seen rest ≡ Ok seen
+pub ended : (n : ℕ) (seen : List Entry) (rest : List ℕ) → length rest ≡ 0 → at_end n seen rest ≡ Ok seen
 ended n seen [] e = refl
 ended n seen (b ∷ rest) e = absurd (omega arith)
 

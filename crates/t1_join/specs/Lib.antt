@@ -12,5 +12,6 @@ pub mod ListingMeaning
 pub mod ListingText
 pub mod ListingJoin
 pub mod LineMeaning
+pub mod Unsorted
 pub mod Shown
 pub mod FaultTexts

@@ -1,9 +1,9 @@
 //! Listings: texts of Subrs by index and glyphs by name, and their join.
-ghost use Rattle.std.specs.Prelude.{◌≡◌, ◌⊎◌, ◌∷◌, ◌++◌, [], OnOk, MatchResult, MatchBool, IfOk, IsTrue};
+ghost use Rattle.std.specs.Prelude.{◌≡◌, ◌⊎◌, ◌∷◌, ◌++◌, [], OnOk, MatchResult, MatchBool, IfOk, IfSome, IsTrue};
 ghost use Rattle.std.specs.FinMap as fin;
 ghost use Rattle.hex.specs.Hex.{encode_lower};
 ghost use Rattle.t1_join.specs.ListingMeaning.{IsListing};
-ghost use Rattle.t1_join.specs.ListingJoin.{IsJoined, IsJoinFault};
+ghost use Rattle.t1_join.specs.ListingJoin.{ListingsAgree, IsJoined, IsJoinFault, IsJoinedText, joined_listing};
 ghost use Rattle.t1_join.specs.ListingText.{listing_of, text_of, subr_line, glyph_line};
 ghost use Rattle.t1_join.specs.Meaning.{of_number};
 ghost use Rattle.t1_join.specs.LineMeaning.{line_entry, has_entry, IsEntry, IsAdded};
@@ -14,6 +14,7 @@ use crate::lines::{Line, read_line, split_at_byte};
 use crate::partial::Join;
 use crate::shown::Shown;
 use crate::tables::Table;
+use crate::unsorted::Unsorted;
 use std::alloc::{AllocError, Global};
 use std::fmt;
 use std::marker::Model;
@@ -192,11 +193,30 @@ impl<'a> Lines<'a> {
     }
 }
 
-/// The listing that a text spells, or its first fault.
-///
-/// Each line is `S INDEX HEX` or `G NAME HEX` and a line feed; HEX is pairs of hexadecimal digits of
-/// either case, and may be empty.
-pub fn read(alloc: Global, text: &[u8]) -> Result<Listing<'_>, ListFault>
+/// The listing that a text spells, or nothing where it has a fault: all lines are read, and then their keys compared.
+fn read_at_once(alloc: Global, text: &[u8]) -> Result<Option<Listing<'_>>, AllocError>
+    ensures { IfOk result (λ o. IfSome o (λ l. listing_of text.now ≡ Ok l)) }
+{
+    let mut lines = Unsorted::new(alloc);
+    let mut rest = text;
+    while let Some((front, after)) = split_at_byte(rest, b'\n') {
+        let Some(line) = read_line(front) else {
+            return Ok(None);
+        };
+        lines.add(line)?;
+        rest = after;
+    }
+    if !rest.is_empty() {
+        return Ok(None);
+    }
+    let Some((subrs, glyphs)) = lines.tables() else {
+        return Ok(None);
+    };
+    Ok(Some(Listing { subrs, glyphs }))
+}
+
+/// The listing that a text spells, or its first fault: each line's key is sought among those before it.
+fn read_in_turn(alloc: Global, text: &[u8]) -> Result<Listing<'_>, ListFault>
     ensures { MatchResult result (λ l. listing_of text.now ≡ Ok l) (λ e. (e ≡ ListFault.Memory) ⊎ (listing_of text.now ≡ Err e)) }
 {
     let mut lines = Lines::new(alloc);
@@ -216,6 +236,19 @@ pub fn read(alloc: Global, text: &[u8]) -> Result<Listing<'_>, ListFault>
         Ok(lines.listing(alloc)?)
     } else {
         Err(ListFault::BadLine { line })
+    }
+}
+
+/// The listing that a text spells, or its first fault.
+///
+/// Each line is `S INDEX HEX` or `G NAME HEX` and a line feed; HEX is pairs of hexadecimal digits of
+/// either case, and may be empty.
+pub fn read(alloc: Global, text: &[u8]) -> Result<Listing<'_>, ListFault>
+    ensures { MatchResult result (λ l. listing_of text.now ≡ Ok l) (λ e. (e ≡ ListFault.Memory) ⊎ (listing_of text.now ≡ Err e)) }
+{
+    match read_at_once(alloc, text)? {
+        Some(listing) => Ok(listing),
+        None => read_in_turn(alloc, text),
     }
 }
 
@@ -273,6 +306,20 @@ pub fn write(alloc: Global, listing: &Listing<'_>) -> Result<Vec<u8>, AllocError
     Ok(out)
 }
 
+/// Nothing where two listings join, and else the smallest key in conflict, Subrs before glyphs.
+fn agreed(alloc: Global, left: &Listing<'_>, right: &Listing<'_>) -> Result<(), JoinFault>
+    ensures { MatchResult result (λ _. ListingsAgree left.now right.now) (IsJoinFault left.now right.now) }
+{
+    if let Some(index) = left.subrs.conflict(&right.subrs) {
+        return Err(JoinFault::Subr { index: *index });
+    }
+    if let Some(name) = left.glyphs.conflict(&right.glyphs) {
+        let name = name.to_vec(alloc)?;
+        return Err(JoinFault::Glyph { name });
+    }
+    Ok(())
+}
+
 /// The listing with the entries of both, or the smallest key in conflict, Subrs before glyphs.
 /// Both orders give one answer (`laws::listings_join_alike`).
 pub fn join<'a>(
@@ -282,14 +329,39 @@ pub fn join<'a>(
 ) -> Result<Listing<'a>, JoinFault>
     ensures { MatchResult result (IsJoined left.now right.now) (IsJoinFault left.now right.now) }
 {
-    if let Some(index) = left.subrs.conflict(&right.subrs) {
-        return Err(JoinFault::Subr { index: *index });
-    }
-    if let Some(name) = left.glyphs.conflict(&right.glyphs) {
-        let name = name.to_vec(alloc)?;
-        return Err(JoinFault::Glyph { name });
-    }
+    agreed(alloc, left, right)?;
     let subrs = left.subrs.join(alloc, &right.subrs)?;
     let glyphs = left.glyphs.join(alloc, &right.glyphs)?;
     Ok(Listing { subrs, glyphs })
+}
+
+/// The text of the entries of both.
+fn text_of_both(
+    alloc: Global,
+    left: &Listing<'_>,
+    right: &Listing<'_>,
+) -> Result<Vec<u8>, AllocError>
+    ensures { IfOk result (λ text. text.items ≡ text_of (joined_listing left.now right.now)) }
+{
+    let mut out = Vec::new(alloc);
+    for (index, hex) in left.subrs.entries_with(&right.subrs) {
+        add_subr_line(alloc, &mut out, *index, hex)?;
+    }
+    for (name, hex) in left.glyphs.entries_with(&right.glyphs) {
+        add_glyph_line(alloc, &mut out, name, hex)?;
+    }
+    Ok(out)
+}
+
+/// The text that the join of two listings is written as, or what keeps them from joining. The joined listing itself, which
+/// may take more than both texts, is not made.
+pub fn write_joined(
+    alloc: Global,
+    left: &Listing<'_>,
+    right: &Listing<'_>,
+) -> Result<Vec<u8>, JoinFault>
+    ensures { MatchResult result (λ text. IsJoinedText left.now right.now text.items) (IsJoinFault left.now right.now) }
+{
+    agreed(alloc, left, right)?;
+    Ok(text_of_both(alloc, left, right)?)
 }

@@ -1,10 +1,13 @@
 //! Tables: finite maps, joined key by key.
-ghost use Rattle.std.specs.Prelude.{◌≡◌, ◌++◌, OnOk, OnErr, IfOk, MatchOption};
+ghost use Rattle.std.specs.Prelude.{◌≡◌, ◌∷◌, ◌++◌, [], true, OnOk, OnErr, IfOk, IfSome, MatchOption};
 ghost use Rattle.std.specs.Option.{option_map, option_copied};
+ghost use Rattle.std.specs.List.Sorted.{IsStrictlySortedBy};
+ghost use Rattle.std.specs.Map.{keys_of};
 ghost use Rattle.std.specs.FinMap as fin;
 ghost use Rattle.t1_join.specs.Meaning.{meaning_cmp, same_meaning};
 ghost use Rattle.t1_join.specs.Passes.{first_met, merge};
-ghost use Rattle.t1_join.specs.TableMeaning.{TablesAgree, IsFirstConflict, entry_meanings, first_meanings, pair_meaning};
+ghost use Rattle.t1_join.specs.TableMeaning.{TablesAgree, IsFirstConflict, joined_table, entry_meanings, first_meanings, pair_meaning};
+ghost use Rattle.t1_join.specs.Unsorted.{IsTableOf};
 
 use crate::keys::{Kept, Key};
 use crate::partial::Join;
@@ -54,6 +57,19 @@ impl<K: Key + Drop, V: Kept + Drop> Table<K, V> {
         Ok(Table { entries })
     }
 
+    /// The table of entries in any order, or nothing where a key comes twice. They are sorted where they stand.
+    pub(crate) fn of_entries(entries: Vec<(K, V)>) -> Option<Self>
+        ensures { IfSome result (IsTableOf (entry_meanings K.meaning V.meaning entries.items)) }
+    {
+        let mut sorted = entries;
+        sorted.sort_unstable_by(|one, other| one.0.cmp(&other.0));
+        if keys_rise(sorted.as_slice()) {
+            Some(Table { entries: sorted })
+        } else {
+            None
+        }
+    }
+
     /// Puts the value at the key. Where memory is refused the table stays as it was, and the pair is dropped.
     pub fn insert(&mut self, key: K, value: V) -> Result<(), AllocError>
         ensures ok { OnOk result (self.new ≡ fin.insert self.old (K.meaning key) (V.meaning value)) }
@@ -85,12 +101,29 @@ impl<K: Key + Drop, V: Kept + Drop> Table<K, V> {
         }
     }
 
+    /// The entries of both tables, upwards by key: the first's where both have the key.
+    pub(crate) fn entries_with<'t>(&'t self, other: &'t Table<K, V>) -> BothEntries<'t, K, V>
+        ensures { result ≡ fin.entries (joined_table self.now other.now) }
+    {
+        BothEntries {
+            first: &self.entries,
+            second: &other.entries,
+        }
+    }
+
     /// The smallest key whose places do not join.
     pub fn conflict(&self, other: &Table<K, V>) -> Option<&K>
         ensures { MatchOption result (TablesAgree self.now other.now) (λ k. IsFirstConflict self.now other.now (K.meaning k.now)) }
     {
         first_conflict(&self.entries, &other.entries)
     }
+}
+
+/// Whether each key is above the one before it.
+fn keys_rise<K: Key, V>(entries: &[(K, V)]) -> bool
+    ensures { result ≡ true → IsStrictlySortedBy K.cmp (keys_of entries.now) }
+{
+    entries.is_sorted_by(|one, other| matches!(one.0.cmp(&other.0), Ordering::Less))
 }
 
 /// The first key that one pass over both tables meets with two values that differ.
@@ -230,6 +263,68 @@ impl<'a, K: Key, V: Kept> Iterator for Entries<'a, K, V> {
 
     fn next(&mut self) -> Option<(&'a K, &'a V)> {
         let (key, value) = self.inner.next()?;
+        Some((key, value))
+    }
+}
+
+/// An entry and what is left of two lists.
+type Taken<'a, K, V> = (&'a (K, V), &'a [(K, V)], &'a [(K, V)]);
+
+/// Takes the entry of the lower key, and the first's where both lists begin with the key: then the second's goes, too.
+fn lower<'a, K: Key, V: Kept>(first: &'a [(K, V)], second: &'a [(K, V)]) -> Option<Taken<'a, K, V>>
+    ensures { MatchOption result
+        (merge meaning_cmp (entry_meanings K.meaning V.meaning first.now) (entry_meanings K.meaning V.meaning second.now) ≡ [])
+        (λ t. merge meaning_cmp (entry_meanings K.meaning V.meaning first.now) (entry_meanings K.meaning V.meaning second.now)
+        ≡ pair_meaning K.meaning V.meaning t.0.now ∷ merge meaning_cmp (entry_meanings K.meaning V.meaning t.1.now) (entry_meanings K.meaning V.meaning t.2.now)) }
+{
+    let Some((one, ones)) = first.split_first() else {
+        let (other, others) = second.split_first()?;
+        return Some((other, first, others));
+    };
+    let Some((other, others)) = second.split_first() else {
+        return Some((one, ones, second));
+    };
+    match one.0.cmp(&other.0) {
+        Ordering::Less => Some((one, ones, second)),
+        Ordering::Equal => Some((one, ones, others)),
+        Ordering::Greater => Some((other, first, others)),
+    }
+}
+
+/// The entries of two tables, upwards by key.
+#[derive(Drop)]
+pub(crate) struct BothEntries<'a, K: Key, V: Kept> {
+    first: &'a [(K, V)],
+    second: &'a [(K, V)],
+}
+
+impl<'a, K: Key, V: Kept> Model for BothEntries<'a, K, V> {
+    ghost use Rattle.std.specs.Prelude.{List};
+    ghost use Rattle.t1_join.specs.Meaning.{Meaning, meaning_cmp};
+    ghost use Rattle.t1_join.specs.Passes.{merge};
+    ghost use Rattle.t1_join.specs.TableMeaning.{entry_meanings};
+
+    ghost Value = { List (Meaning × Meaning) };
+
+    ghost view = { λ s. merge meaning_cmp (entry_meanings K.meaning V.meaning s.first.now) (entry_meanings K.meaning V.meaning s.second.now) };
+}
+
+impl<'a, K: Key, V: Kept> Iterator for BothEntries<'a, K, V> {
+    type Item = (&'a K, &'a V);
+
+    ghost use Rattle.std.specs.Prelude.{length};
+    ghost use Rattle.std.specs.Iterator.{at_most};
+    ghost use Rattle.std.specs.Map.Iter.{TakesFirst};
+    ghost use Rattle.t1_join.specs.TableMeaning.{lent_meanings};
+
+    ghost next_gives = { TakesFirst (lent_meanings K.meaning V.meaning) };
+
+    ghost remaining = { λ s. at_most (length s) };
+
+    fn next(&mut self) -> Option<(&'a K, &'a V)> {
+        let ((key, value), first, second) = lower(self.first, self.second)?;
+        self.first = first;
+        self.second = second;
         Some((key, value))
     }
 }

@@ -18,7 +18,21 @@ fn listing_of(alloc: Global, text: &[u8]) -> Result<Option<Listing<'_>>, AllocEr
     }
 }
 
-// Whether two listings join to what is written as this text.
+// Whether this is the text of the join of two listings.
+fn is_joined_text(
+    alloc: Global,
+    left: &Listing<'_>,
+    right: &Listing<'_>,
+    text: &[u8],
+) -> Result<bool, AllocError> {
+    match listing::write_joined(alloc, left, right) {
+        Ok(written) => Ok(written.as_slice() == text),
+        Err(JoinFault::Memory) => Err(AllocError),
+        Err(_) => Ok(false),
+    }
+}
+
+// Whether two listings join to what is written as this text, with the joined listing and without it.
 fn is_written_as(
     alloc: Global,
     left: &Listing<'_>,
@@ -26,7 +40,10 @@ fn is_written_as(
     text: &[u8],
 ) -> Result<bool, AllocError> {
     match listing::join(alloc, left, right) {
-        Ok(both) => Ok(listing::write(alloc, &both)?.as_slice() == text),
+        Ok(both) => {
+            let same = listing::write(alloc, &both)?.as_slice() == text;
+            Ok(same && is_joined_text(alloc, left, right, text)?)
+        }
         Err(JoinFault::Memory) => Err(AllocError),
         Err(_) => Ok(false),
     }

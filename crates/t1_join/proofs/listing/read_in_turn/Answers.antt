@@ -3,7 +3,7 @@ use Rattle.std.specs.Option.{option_map}
 use Rattle.t1_join.specs.LineMeaning.{line_entry}
 use Rattle.t1_join.proofs.ListingLemmas.{entry_fits}
 use Rattle.t1_join.proofs.ReadLemmas.{bad_line, repeated, next, back_shorter, no_line_feed}
-use Rattle.t1_join.proofs.listing.read.Goals as goal
+use Rattle.t1_join.proofs.listing.read_in_turn.Goals as goal
 
 pub returns-in_default-read_line : goal.returns-in_default-read_line
 returns-in_default-read_line c = inr (bad_line _ _ _ _ c.loop-front.invariant _ _ (sym c.in-Some.ensures) (sym c.in_default-read_line.ensures))

@@ -1,0 +1,97 @@
+-- Entries that were sorted, and the table of them in the order that they had.
+use Rattle.std.proofs.Common.{◌≡◌, refl, sym, ap, subst, ◌∙◌, ◌<◌, ◌+◌, ℕ, Bool, true, false, cond, T, List, [], ◌∷◌, map, length, Option, None, Some, get_or}
+use Rattle.std.specs.declared.cmp.Ordering.{Ordering}
+use Rattle.std.specs.declared.cmp.Ordering.TheVariants.{Less, Equal, Greater}
+use Rattle.std.specs.Cmp.{IsTotalOrder, IsEquivalence}
+use Rattle.std.specs.List.{AllByRecursion, IsDistinct, IsAllAdjacentAnswer}
+use Rattle.std.specs.List.Sorted.{IsPermutation, IsStrictlySortedBy}
+use Rattle.std.specs.Map.{keys_of, lookup}
+use Rattle.std.specs.Ordering.{eq_by_cmp, is_eq}
+use Rattle.std.specs.FinMap as fin
+use Rattle.std.specs.FinMap.Entries.{below_all}
+use Rattle.std.proofs.lemmas.Cmp.{nat_list_cmp_total, eq_by_cmp_equiv}
+use Rattle.std.proofs.lemmas.List.Sorted.{IsPermutation-sym, IsPermutation-map, Contains-permutation, length_permutation}
+use Rattle.std.proofs.lemmas.Map.Keys.{IsDistinct-from_sorted, IsDistinct-IsPermutation, sorted_from_all_adjacent}
+use Rattle.std.proofs.lemmas.Map.Entries.{length-keys_of}
+use Rattle.std.proofs.Math.ListN.{get_or-map}
+use Rattle.std.proofs.lemmas.Map.Views.{Contains-from_lookup, lookup-from_Contains}
+use Rattle.t1_join.specs.Meaning.{Meaning, meaning_cmp}
+use Rattle.t1_join.specs.TableMeaning.{TableMeaning, Rises}
+use Rattle.t1_join.specs.TableLaws.{same_table}
+use Rattle.t1_join.specs.Unsorted.{IsTableOf}
+use Rattle.t1_join.proofs.Sorted.{both_true, lt_is}
+use Rattle.t1_join.proofs.TreeEntries.{is_eq-Equal}
+use Rattle.t1_join.proofs.EntryLemmas.{same_by_cmp}
+
+below_keys : {K X : Type 0} (R : K → K → Ordering) (k : K) (es : List (K × X)) → T (below_all R k es) → AllByRecursion (λ y. R k y ≡ Less) (keys_of es)
+below_keys R k [] h = tt
+below_keys R k (e ∷ es) h = (lt_is _ (both_true _ _ h).0, below_keys R k es (both_true _ _ h).1)
+
+-- keys that rise, as a list
+rising_keys : {K X : Type 0} (R : K → K → Ordering) (es : List (K × X)) → Rises R es → IsStrictlySortedBy R (keys_of es)
+unfolding IsStrictlySortedBy
+rising_keys R [] h = tt
+rising_keys R (e ∷ es) h = (below_keys R e.0 es (both_true _ _ h).0, rising_keys R es (both_true _ _ h).1)
+
+find_is : (q : Meaning) (es : List (Meaning × Meaning)) → fin.find meaning_cmp q es ≡ lookup (eq_by_cmp meaning_cmp q) es
+find_is q [] = refl
+find_is q (e ∷ es) = ap (cond (eq_by_cmp meaning_cmp q e.0) (Some e.1)) (find_is q es)
+
+laws : IsEquivalence (eq_by_cmp meaning_cmp)
+laws = eq_by_cmp_equiv nat_list_cmp_total
+
+one_key : (x y : Meaning) → eq_by_cmp meaning_cmp x y ≡ true → x ≡ y
+one_key x y h = same_by_cmp x y (is_eq-Equal (meaning_cmp x y) h)
+
+abbrev Differ : List (Meaning × Meaning) → Type 0
+Differ es = IsDistinct (eq_by_cmp meaning_cmp) (keys_of es)
+
+-- entries whose keys differ are found in any order
+module _ (xs ys : List (Meaning × Meaning)) (moved : IsPermutation xs ys) (apart : Differ xs) (still : Differ ys) where
+  found_again : (q v : Meaning) → lookup (eq_by_cmp meaning_cmp q) xs ≡ Some v → lookup (eq_by_cmp meaning_cmp q) ys ≡ Some v
+  found_again q v h = lookup-from_Contains laws q v ys still (Contains-permutation xs ys (q, v) moved (Contains-from_lookup one_key q v xs h))
+
+  found_before : (q v : Meaning) → lookup (eq_by_cmp meaning_cmp q) ys ≡ Some v → lookup (eq_by_cmp meaning_cmp q) xs ≡ Some v
+  found_before q v h = lookup-from_Contains laws q v xs apart (Contains-permutation ys xs (q, v) (IsPermutation-sym xs ys moved) (Contains-from_lookup one_key q v ys h))
+
+  found_alike : (q : Meaning) → lookup (eq_by_cmp meaning_cmp q) ys ≡ lookup (eq_by_cmp meaning_cmp q) xs
+  found_alike q = by (lookup (eq_by_cmp meaning_cmp q) ys) refl (lookup (eq_by_cmp meaning_cmp q) xs) refl
+    where
+      by : (a : Option Meaning) → lookup (eq_by_cmp meaning_cmp q) ys ≡ a → (b : Option Meaning) → lookup (eq_by_cmp meaning_cmp q) xs ≡ b → lookup (eq_by_cmp meaning_cmp q) ys ≡ lookup (eq_by_cmp meaning_cmp q) xs
+      by (Some v) h b k = h ∙ sym (found_before q v h)
+      by None h (Some w) k = found_again q w k ∙ sym k
+      by None h None k = h ∙ sym k
+
+-- sorted entries whose keys rise make the table of the entries as they stood
+pub table_of : (xs ys : List (Meaning × Meaning)) → IsPermutation xs ys → Rises meaning_cmp ys → IsTableOf xs (fin.from_sorted ys)
+table_of xs ys moved rises =
+    let still : Differ ys = IsDistinct-from_sorted meaning_cmp (keys_of ys) (rising_keys meaning_cmp ys rises) in
+    let apart : Differ xs = IsDistinct-IsPermutation (eq_by_cmp meaning_cmp) laws.symm (keys_of ys) (keys_of xs) (IsPermutation-map (λ e. e.0) ys xs (IsPermutation-sym xs ys moved)) still in record {
+      differ = apart;
+      table = same_table _ _ (λ q. fin.get-from_sorted meaning_cmp ys q rises ∙ find_is q ys ∙ found_alike xs ys moved apart still q ∙ sym (find_is q xs) ∙ sym (fin.get-from_entries nat_list_cmp_total xs q));
+    }
+
+-- whether the order is less
+abbrev pub is_less : Ordering → Bool
+is_less Less = true
+is_less Equal = false
+is_less Greater = false
+
+less_is : (r : Ordering) → true ≡ is_less r → r ≡ Less
+less_is Less h = refl
+less_is Equal h = cc
+less_is Greater h = cc
+
+no_keys_rise : {K : Type 0} (R : K → K → Ordering) → IsStrictlySortedBy R []
+unfolding IsStrictlySortedBy
+no_keys_rise R = tt
+
+get_key : {K V : Type 0} (es : List (K × V)) (k : ℕ) (d : K × V) → get_or (keys_of es) k d.0 ≡ (get_or es k d).0
+get_key es k d = get_or-map (λ e. e.0) es k d
+
+-- where each two neighbours rise, all keys do
+pub rise_from_neighbours : {K V : Type 0} {R : K → K → Ordering} → IsTotalOrder R → (es : List (K × V)) (r : Bool) → r ≡ true → IsAllAdjacentAnswer (λ x y b. b ≡ is_less (R x.0 y.0)) es r → IsStrictlySortedBy R (keys_of es)
+rise_from_neighbours {R = R} o [] r t h = no_keys_rise R
+rise_from_neighbours {R = R} o (e ∷ es) true t h =
+    sorted_from_all_adjacent o (keys_of (e ∷ es)) e.0 (λ k below. rw (get_key (e ∷ es) k e, get_key (e ∷ es) (k + 1) e) (less_is _ (h k e (rw length-keys_of at below))))
+rise_from_neighbours o (e ∷ es) false t h = cc

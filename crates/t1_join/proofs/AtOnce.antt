@@ -1,0 +1,167 @@
+-- The reading of a listing whose keys are compared when all lines are read.
+use Rattle.std.proofs.Common.{◌≡◌, ◌≤◌, ◌+◌, ℕ, refl, sym, ◌∙◌, ap, subst, List, [], ◌∷◌, ◌++◌, length, map, cond, Bool, true, false, Option, None, Some, Ok, Err, ◌||◌, arith}
+use Rattle.std.specs.List.{AllByRecursion, IsDistinct, list_any}
+use Rattle.std.specs.List.Sorted.{IsPermutation}
+use Rattle.std.specs.Map.{keys_of}
+use Rattle.std.specs.Ordering.{eq_by_cmp}
+use Rattle.std.specs.FinMap as fin
+use Rattle.std.proofs.lemmas.Cmp.{nat_list_cmp_total, eq_by_cmp_equiv}
+use Rattle.std.proofs.lemmas.List.Sorted.{IsPermutation-to_front, IsPermutation-map}
+use Rattle.std.proofs.lemmas.Map.Keys.{IsDistinct-IsPermutation, IsDistinct-head, IsDistinct-tail}
+use Rattle.t1_join.specs.declared.listing.ListFault.TheVariants.{Repeated}
+use Rattle.t1_join.specs.Meaning.{Meaning, meaning_cmp, of_number}
+use Rattle.t1_join.specs.TableMeaning.{TableMeaning}
+use Rattle.t1_join.specs.ListingMeaning.{ListingMeaning, IsListing}
+use Rattle.t1_join.specs.ListingText.{Entry, subr, glyph, split_at, entry_of, lines_of, same_key, read_entry, at_end, read_lines, entries_of, with_entry, listing_from, listing_of, listing_result}
+use Rattle.t1_join.specs.LineMeaning.{IsEntry}
+use Rattle.t1_join.specs.TableLaws.{same_table}
+use Rattle.t1_join.specs.Unsorted.{Unsorted, with_line, IsTableOf, AreTablesOf}
+use Rattle.t1_join.proofs.EntryLemmas.{same_by_cmp}
+use Rattle.t1_join.proofs.SplitLemmas.{lines-split, first_line}
+use Rattle.t1_join.proofs.ReadLemmas.{ended, shorter}
+use Rattle.t1_join.proofs.ListingLemmas.{none_listed, entry_listed, entry_fits}
+
+-- what was read, the newest first, before its keys are compared
+abbrev unsorted : List Entry → Unsorted
+unsorted [] = record { subrs = []; glyphs = [] }
+unsorted (e ∷ es) = with_line e (unsorted es)
+
+-- no entry has the key of an older one
+abbrev Apart : List Entry → Type 0
+Apart [] = Unit {0}
+Apart (e ∷ es) = (list_any (same_key e) es ≡ false) × Apart es
+
+-- how far a text was read: were all keys apart, it would go on
+pub record IsGathering (text : List ℕ) (u : Unsorted) (rest : List ℕ) : Type 0 where
+  pub seen : List Entry
+  pub line : ℕ
+  pub read : u ≡ unsorted seen
+  pub fit : AllByRecursion IsEntry seen
+  pub goes_on : Apart seen → entries_of text ≡ read_lines line seen (lines_of rest).0 (lines_of rest).1
+
+pub gathering_starts : (text : List ℕ) (u : Unsorted) → u ≡ record { subrs = []; glyphs = [] } → IsGathering text u text
+gathering_starts text u e = record { seen = []; line = 1; read = e; fit = tt; goes_on = λ _. refl }
+
+module _ (text : List ℕ) (u : Unsorted) (rest : List ℕ) (r : IsGathering text u rest) where
+  module _ (front back : List ℕ) (split : split_at 10 rest ≡ Some (front, back)) where
+    pub gathered_shorter : length back + 1 ≤ length rest
+    gathered_shorter = shorter 10 rest (front, back) split
+
+    pub gathered_next : (e : Entry) (new : Unsorted) → entry_of front ≡ Some e → new ≡ with_line e u → IsGathering text new back
+    gathered_next e new h n = record {
+      seen = e ∷ r.seen;
+      line = r.line + 1;
+      read = n ∙ ap (with_line e) r.read;
+      fit = (entry_fits front e h, r.fit);
+      goes_on = λ apart.
+          r.goes_on apart.1
+          ∙ ap (λ p. read_lines r.line r.seen p.0 p.1) (lines-split rest ∙ ap (first_line rest) split)
+          ∙ ap (λ x. read_entry r.line r.seen x (λ more. read_lines (r.line + 1) more (lines_of back).0 (lines_of back).1)) h
+          ∙ ap (λ t. cond t (Err (Repeated r.line)) (read_lines (r.line + 1) (e ∷ r.seen) (lines_of back).0 (lines_of back).1)) apart.0;
+    }
+
+abbrev Differ : List (Meaning × Meaning) → Type 0
+Differ es = IsDistinct (eq_by_cmp meaning_cmp) (keys_of es)
+
+abbrev test : Meaning → Meaning → Bool
+test = eq_by_cmp meaning_cmp
+
+-- where keys differ, the last one differs from those before it
+to_front : (es : List (Meaning × Meaning)) (e : Meaning × Meaning) → Differ (es ++ e ∷ []) → Differ (e ∷ es)
+to_front es e h = IsDistinct-IsPermutation test (eq_by_cmp_equiv nat_list_cmp_total).symm _ _ (IsPermutation-map (λ x. x.0) (es ++ e ∷ []) (e ∷ es) (IsPermutation-to_front es e)) h
+
+found_none : (k : Meaning) (es : List (Meaning × Meaning)) → AllByRecursion (λ y. test k y ≡ false) (keys_of es) → fin.find meaning_cmp k es ≡ None
+found_none k [] h = refl
+found_none k (e ∷ es) h = ap (λ b. cond b (Some e.1) (fin.find meaning_cmp k es)) h.0 ∙ found_none k es h.1
+
+none_before : (es : List (Meaning × Meaning)) (e : Meaning × Meaning) → Differ (es ++ e ∷ []) → AllByRecursion (λ y. test e.0 y ≡ false) (keys_of es)
+none_before es e h = IsDistinct-head test e.0 (keys_of es) (to_front es e h)
+
+differ_before : (es : List (Meaning × Meaning)) (e : Meaning × Meaning) → Differ (es ++ e ∷ []) → Differ es
+differ_before es e h = IsDistinct-tail test e.0 (keys_of es) (to_front es e h)
+
+-- the last entry is put at its key
+pushed : (es : List (Meaning × Meaning)) (e : Meaning × Meaning) → Differ (es ++ e ∷ []) → fin.from_entries {R = meaning_cmp} (es ++ e ∷ []) ≡ fin.insert (fin.from_entries es) e.0 e.1
+pushed es e h = fin.from_entries_push nat_list_cmp_total same_by_cmp es e.0 e.1 (found_none e.0 es (none_before es e h))
+
+any_last : (p : Meaning → Bool) (es : List (Meaning × Meaning)) (e : Meaning × Meaning) → list_any p (keys_of (es ++ e ∷ [])) ≡ (p e.0 || list_any p (keys_of es))
+any_last p [] e = refl
+any_last p (f ∷ es) e = ap (λ b. p f.0 || b) (any_last p es e) ∙ exchanged (p f.0) (p e.0) (list_any p (keys_of es))
+  where
+    exchanged : (a b c : Bool) → (a || (b || c)) ≡ (b || (a || c))
+    exchanged true true c = refl
+    exchanged true false c = refl
+    exchanged false b c = refl
+
+-- the keys of one kind are those that lines of it have
+subr_seen : (i : ℕ) (v : Meaning) (es : List Entry) → list_any (same_key (subr i v)) es ≡ list_any (test (of_number i)) (keys_of (unsorted es).subrs)
+subr_seen i v [] = refl
+subr_seen i v (subr j w ∷ es) = ap (λ b. test (of_number i) (of_number j) || b) (subr_seen i v es) ∙ sym (any_last (test (of_number i)) (unsorted es).subrs (of_number j, w))
+subr_seen i v (glyph m w ∷ es) = subr_seen i v es
+
+glyph_seen : (n v : Meaning) (es : List Entry) → list_any (same_key (glyph n v)) es ≡ list_any (test n) (keys_of (unsorted es).glyphs)
+glyph_seen n v [] = refl
+glyph_seen n v (subr j w ∷ es) = glyph_seen n v es
+glyph_seen n v (glyph m w ∷ es) = ap (λ b. test n m || b) (glyph_seen n v es) ∙ sym (any_last (test n) (unsorted es).glyphs (m, w))
+
+none_any : (k : Meaning) (ks : List Meaning) → AllByRecursion (λ y. test k y ≡ false) ks → list_any (test k) ks ≡ false
+none_any k [] h = refl
+none_any k (x ∷ ks) h = ap (λ b. b || list_any (test k) ks) h.0 ∙ none_any k ks h.1
+
+all_apart : (es : List Entry) → Differ (unsorted es).subrs → Differ (unsorted es).glyphs → Apart es
+all_apart [] s g = tt
+all_apart (subr i v ∷ es) s g =
+    let before = (unsorted es).subrs in (subr_seen i v es ∙ none_any (of_number i) (keys_of before) (none_before before (of_number i, v) s), all_apart es (differ_before before (of_number i, v) s) g)
+all_apart (glyph n v ∷ es) s g =
+    let before = (unsorted es).glyphs in (glyph_seen n v es ∙ none_any n (keys_of before) (none_before before (n, v) g), all_apart es s (differ_before before (n, v) g))
+
+abbrev tables : TableMeaning → TableMeaning → ListingMeaning
+tables m n = record { subrs = m; glyphs = n }
+
+abbrev empty_table : TableMeaning
+empty_table = fin.empty
+
+no_entry : empty_table ≡ fin.from_entries {R = meaning_cmp} []
+no_entry = same_table _ _ (λ q. fin.get-empty meaning_cmp q ∙ sym (fin.get-from_entries nat_list_cmp_total [] q))
+
+-- the listing of entries whose keys differ has the tables of them
+listing_is : (es : List Entry) → Differ (unsorted es).subrs → Differ (unsorted es).glyphs → listing_from es ≡ tables (fin.from_entries (unsorted es).subrs) (fin.from_entries (unsorted es).glyphs)
+listing_is [] s g = ap (λ m. tables m m) no_entry
+listing_is (subr i v ∷ es) s g =
+    let before = (unsorted es).subrs in
+    ap (with_entry (subr i v)) (listing_is es (differ_before before (of_number i, v) s) g)
+    ∙ ap (λ m. tables m (fin.from_entries (unsorted es).glyphs)) (sym (pushed before (of_number i, v) s))
+listing_is (glyph n v ∷ es) s g =
+    let before = (unsorted es).glyphs in
+    ap (with_entry (glyph n v)) (listing_is es s (differ_before before (n, v) g))
+    ∙ ap (tables (fin.from_entries (unsorted es).subrs)) (sym (pushed before (n, v) g))
+
+all_listed : (es : List Entry) → AllByRecursion IsEntry es → IsListing (listing_from es)
+all_listed [] h = none_listed
+all_listed (e ∷ es) h = entry_listed (listing_from es) e (all_listed es h.1) h.0
+
+-- where the text ends with its last line and the tables of its entries were made, they are its listing
+module _ (text : List ℕ) (u : Unsorted) (rest : List ℕ) (r : IsGathering text u rest) (t : TableMeaning × TableMeaning) (made : AreTablesOf u t) where
+  subrs_differ : Differ (unsorted r.seen).subrs
+  subrs_differ = subst (λ (x : Unsorted). Differ x.subrs) r.read made.0.differ
+
+  glyphs_differ : Differ (unsorted r.seen).glyphs
+  glyphs_differ = subst (λ (x : Unsorted). Differ x.glyphs) r.read made.1.differ
+
+  made_is : listing_from r.seen ≡ tables t.0 t.1
+  made_is =
+      listing_is r.seen subrs_differ glyphs_differ
+      ∙ ap (λ (x : Unsorted). tables (fin.from_entries x.subrs) (fin.from_entries x.glyphs)) (sym r.read)
+      ∙ ap (tables (fin.from_entries u.subrs)) (sym made.1.table)
+      ∙ ap (λ m. tables m t.1) (sym made.0.table)
+
+  pub gathered_listed : IsListing (tables t.0 t.1)
+  gathered_listed = subst IsListing made_is (all_listed r.seen r.fit)
+
+  pub gathering_ends : split_at 10 rest ≡ None → length rest ≡ 0 → listing_of text ≡ Ok (tables t.0 t.1)
+  gathering_ends whole e =
+      ap listing_result
+      (r.goes_on (all_apart r.seen subrs_differ glyphs_differ)
+      ∙ ap (λ p. read_lines r.line r.seen p.0 p.1) (lines-split rest ∙ ap (first_line rest) whole)
+      ∙ ended r.line r.seen rest e)
+      ∙ ap Ok made_is

@@ -1,0 +1,28 @@
+-- What was read of a listing before its keys are compared.
+use Rattle.std.specs.Prelude.{◌≡◌, List, [], ◌∷◌, ◌++◌}
+use Rattle.std.specs.List.{IsDistinct}
+use Rattle.std.specs.Map.{keys_of}
+use Rattle.std.specs.Ordering.{eq_by_cmp}
+use Rattle.std.specs.FinMap as fin
+use Rattle.t1_join.specs.Meaning.{Meaning, meaning_cmp, of_number}
+use Rattle.t1_join.specs.TableMeaning.{TableMeaning}
+use Rattle.t1_join.specs.ListingText.{Entry, subr, glyph}
+
+-- the entries of Subrs and of glyphs, each in the order of their lines
+pub record Unsorted : Type 0 where
+  pub subrs : List (Meaning × Meaning)
+  pub glyphs : List (Meaning × Meaning)
+
+-- with the entry of one more line
+abbrev pub with_line : Entry → Unsorted → Unsorted
+with_line (subr i v) u = record { subrs = u.subrs ++ (of_number i, v) ∷ []; glyphs = u.glyphs }
+with_line (glyph n v) u = record { subrs = u.subrs; glyphs = u.glyphs ++ (n, v) ∷ [] }
+
+-- no key comes twice, and the table has the entries
+pub record IsTableOf (es : List (Meaning × Meaning)) (t : TableMeaning) : Type 0 where
+  pub differ : IsDistinct (eq_by_cmp meaning_cmp) (keys_of es)
+  pub table : t ≡ fin.from_entries es
+
+-- each is the table of its entries
+abbrev pub AreTablesOf : Unsorted → TableMeaning × TableMeaning → Type 0
+AreTablesOf u t = IsTableOf u.subrs t.0 × IsTableOf u.glyphs t.1
