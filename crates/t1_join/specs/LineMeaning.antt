@@ -1,7 +1,7 @@
 -- What a line that was read says.
 use Rattle.std.specs.Prelude.{◌≡◌, ◌<◌, ℕ, List, Bool, true, false}
 use Rattle.std.specs.FinMap as fin
-use Rattle.t1_join.specs.ListingMeaning.{ListingMeaning, IsValue, is_name}
+use Rattle.t1_join.specs.ListingMeaning.{ListingMeaning, IsValue, index_limit, is_name}
 use Rattle.t1_join.specs.Meaning.{of_number}
 use Rattle.std.specs.Borrow.{Bor}
 use Rattle.t1_join.specs.declared.lines.Line.{Line}
@@ -14,7 +14,7 @@ line_entry (Glyph n v) = glyph n.now v
 
 -- the entry has an index or a name, and a value
 abbrev pub IsEntry : Entry → Type 0
-IsEntry (subr i v) = (i < 65535) × IsValue v
+IsEntry (subr i v) = (i < index_limit) × IsValue v
 IsEntry (glyph n v) = (is_name n ≡ true) × IsValue v
 
 -- two lent lists

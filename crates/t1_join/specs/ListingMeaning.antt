@@ -19,20 +19,32 @@ listing_code = code_by (TableMeaning × TableMeaning) (coded× table_code table_
 abbrev pub ends_name : ℕ → Bool
 ends_name b = list_any (λ x. b == x) (0 ∷ 9 ∷ 10 ∷ 12 ∷ 13 ∷ 32 ∷ codes "()<>[]{}/%")
 
--- a name has 1 to 127 bytes, none of which ends it
-abbrev pub is_name : List ℕ → Bool
-is_name name = nat_le 1 (length name) && nat_le (length name) 127 && list_all (λ b. not (ends_name b)) name
+-- how many bytes a name has at most
+abbrev pub name_limit : ℕ
+name_limit = 127
 
--- a value is at most 65,535 bytes
+-- how many bytes a value has at most
+abbrev pub value_limit : ℕ
+value_limit = 65535
+
+-- what an index is below
+abbrev pub index_limit : ℕ
+index_limit = 65535
+
+-- a name has some bytes, at most as many as the limit, and none that ends it
+abbrev pub is_name : List ℕ → Bool
+is_name name = nat_le 1 (length name) && nat_le (length name) name_limit && list_all (λ b. not (ends_name b)) name
+
+-- a value has bytes, at most as many as the limit
 pub record IsValue (v : Meaning) : Type 0 where
   pub bytes : IsBytes v
-  pub short : length v ≤ 65535
+  pub short : length v ≤ value_limit
 
--- an index is below 65,535
+-- an index is below the limit
 pub record IsIndex (k : Meaning) : Type 0 where
   pub index : ℕ
   pub is : k ≡ of_number index
-  pub small : index < 65535
+  pub small : index < index_limit
 
 -- each entry of a listing has an index or a name, and a value
 pub record IsListing (l : ListingMeaning) : Type 0 where

@@ -33,16 +33,20 @@ digits_after n (c ∷ cs) = cond (nat_le 48 c && nat_le c 57) (digits_after (n *
 abbrev pub up_to : ℕ → ℕ → Option ℕ
 up_to most n = cond (nat_le n most) (Some n) None
 
--- one to five digits, with a value of at most 65,534
+-- one to five digits, with a value below the limit of indices
 abbrev pub index_of : List ℕ → Option ℕ
 index_of word = cond (nat_le 1 (length word) && nat_le (length word) 5) (option_and_then (up_to 65534) (digits_after 0 word)) None
 
 abbrev pub name_of : List ℕ → Option (List ℕ)
 name_of word = cond (is_name word) (Some word) None
 
--- pairs of hexadecimal digits, at most 131,070 digits
+-- how many digits a value has at most, two for each byte
+abbrev pub digits_limit : ℕ
+digits_limit = 131070
+
+-- pairs of hexadecimal digits
 abbrev pub bytes_of : List ℕ → Option (List ℕ)
-bytes_of hex = cond (nat_le (length hex) 131070) (result_ok (decode_of hex)) None
+bytes_of hex = cond (nat_le (length hex) digits_limit) (result_ok (decode_of hex)) None
 
 -- the bytes that digits spell, where they do
 abbrev pub spelled : List ℕ → List ℕ

@@ -38,11 +38,14 @@ fn are_digits(text: &[u8]) -> bool
     text.iter().all(|digit| digit.is_ascii_hexdigit())
 }
 
+/// How many digits a value has at most, two for each of its 65,535 bytes.
+const DIGITS_LIMIT: usize = 131_070;
+
 /// Whether the text is pairs of digits, and few enough.
 fn spells_bytes(text: &[u8]) -> bool
     ensures { result ≡ is_some (bytes_of text.now) }
 {
-    if text.len() > 131_070 || text.len() % 2 != 0 {
+    if text.len() > DIGITS_LIMIT || text.len() % 2 != 0 {
         return false;
     }
     are_digits(text)

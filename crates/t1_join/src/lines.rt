@@ -76,10 +76,13 @@ fn has_no_end(word: &[u8]) -> bool
     word.iter().all(|b| !ends_name(*b))
 }
 
+/// How many bytes a name has at most.
+const NAME_LIMIT: usize = 127;
+
 fn may_name(word: &[u8]) -> bool
     ensures { result ≡ is_name word.now }
 {
-    if word.is_empty() || word.len() > 127 {
+    if word.is_empty() || word.len() > NAME_LIMIT {
         return false;
     }
     has_no_end(word)
