@@ -67,8 +67,8 @@ module _ (whole : List ℕ) (from count lines : ℕ) where
           let kept : take (start + len) text ≡ take (start + len) whole = ap (λ n. take n text) end ∙ (h.front ∙ ap (λ n. take n whole) (sym end)) in
           let most : 32 * left + (count - 32 * left) ≡ count = omega (arith, inside) in
           let rest_is : rest ≡ take (count - 32 * left) (drop start whole) =
-              ap (λ n. drop (32 * left) (take n (drop from whole))) (sym most)
-              ∙ (drop-take (32 * left) (count - 32 * left) (drop from whole) ∙ ap (take (count - 32 * left)) (drop-drop (32 * left) from whole)) in
+          ap (λ n. drop (32 * left) (take n (drop from whole))) (sym most)
+          ∙ (drop-take (32 * left) (count - 32 * left) (drop from whole) ∙ ap (take (count - 32 * left)) (drop-drop (32 * left) from whole)) in
           sym (drop-take start len text) ∙ (ap (drop start) kept ∙ (drop-take start len whole ∙ (sym (take-take len (count - 32 * left) (drop start whole) (omega arith)) ∙ ap (take len) (sym rest_is))))
 
       -- the lines behind it stand already
@@ -100,7 +100,7 @@ module _ (whole : List ℕ) (from count lines : ℕ) where
           let within : to ≤ length text = omega (arith, h.size, room, is, h.few, few, enough) in
           let first : from + min (32 * left) count ≡ start = omega (arith, inside) in
           let written : encode_lower (take len (drop start text)) ++ (10 ∷ drop (to + (2 * len + 1)) text) ≡ hex_lines rest =
-              (λ i. encode_lower (line_stands i) ++ (10 ∷ behind i)) ∙ lines_are in
+          (λ i. encode_lower (line_stands i) ++ (10 ∷ behind i)) ∙ lines_are in
           let new_is : new ≡ take to text ++ hex_lines rest = put ∙ ap (λ (u : List ℕ). take to text ++ u) written in
           let early : from + min (32 * left) count ≤ from + min (32 * next) count = omega (arith, is) in
           record {

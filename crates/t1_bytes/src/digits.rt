@@ -64,7 +64,8 @@ fn line_bytes(line: &[u8]) -> [u8; LINE]
 /// another byte comes before there are enough.
 fn line_at(text: &[u8]) -> Option<(&[u8], &[u8])>
     ensures full { IfSome result (λ x. length x.0.now ≡ 64) }
-    ensures read { IfSome result (λ x. spelled_ahead text.now ≡ paired x.0.now ++ spelled_ahead x.1.now) }
+    ensures read { IfSome result (λ x. spelled_ahead text.now
+        ≡ paired x.0.now ++ spelled_ahead x.1.now) }
     ensures shorter { IfSome result (λ x. length x.1.now < length text.now) }
 {
     let (_, rest) = white_at(text);
@@ -77,7 +78,8 @@ fn line_at(text: &[u8]) -> Option<(&[u8], &[u8])>
 
 /// The next digit, white space before it left out, and what stands after it.
 fn digit_at(text: &[u8]) -> Option<(u8, &[u8])>
-    ensures read { MatchOption result (digits_ahead text.now ≡ []) (λ x. digits_ahead text.now ≡ x.0 ∷ digits_ahead x.1.now) }
+    ensures read { MatchOption result (digits_ahead text.now
+        ≡ []) (λ x. digits_ahead text.now ≡ x.0 ∷ digits_ahead x.1.now) }
     ensures shorter { IfSome result (λ x. length x.1.now < length text.now) }
 {
     let (_, rest) = white_at(text);
@@ -90,7 +92,8 @@ fn digit_at(text: &[u8]) -> Option<(u8, &[u8])>
 
 /// The byte of the next two digits, and what stands after them; `None` where fewer come.
 fn pair_at(text: &[u8]) -> Option<(u8, &[u8])>
-    ensures read { MatchOption result (spelled_ahead text.now ≡ []) (λ x. spelled_ahead text.now ≡ x.0 ∷ spelled_ahead x.1.now) }
+    ensures read { MatchOption result (spelled_ahead text.now
+        ≡ []) (λ x. spelled_ahead text.now ≡ x.0 ∷ spelled_ahead x.1.now) }
     ensures shorter { IfSome result (λ x. length x.1.now < length text.now) }
 {
     let (high, rest) = digit_at(text)?;
@@ -101,7 +104,8 @@ fn pair_at(text: &[u8]) -> Option<(u8, &[u8])>
 /// Appends the bytes of the next digits, as far as the first white space between two bytes, and
 /// answers what stands after them.
 fn put_pairs<'a>(bytes: &mut Vec<u8>, text: &'a [u8]) -> Result<&'a [u8], BytesFault>
-    ensures read { IfOk result (λ rest. bytes.new.items ++ spelled_ahead rest.now ≡ bytes.old.items ++ spelled_ahead text.now) }
+    ensures read { IfOk result (λ rest. bytes.new.items ++ spelled_ahead rest.now
+        ≡ bytes.old.items ++ spelled_ahead text.now) }
     ensures no_longer { IfOk result (λ rest. length rest.now ≤ length text.now) }
     ensures memory { IfErr result (λ fault. fault ≡ Memory) }
 {

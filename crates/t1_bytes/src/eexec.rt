@@ -42,7 +42,8 @@ fn eexec_marker_at(bytes: &[u8]) -> Option<&[u8]>
 
 /// What stands after the first marker.
 fn after_eexec(flat: &[u8]) -> Option<&[u8]>
-    ensures { option_map (λ x. x.now) result ≡ option_map (λ x. x.1) ((first eexec_marker).read flat.now) }
+    ensures { option_map (λ x. x.now) result
+        ≡ option_map (λ x. x.1) ((first eexec_marker).read flat.now) }
 {
     let mut from = 0;
     'places: while let Some(place) = find_from(flat, b"currentfile", from) {
@@ -92,7 +93,8 @@ pub enum Cipher {
 /// The cipher of what follows the marker.
 #[tactic(auto, unfolding(crate::specs::Eexec::cipher_text, crate::specs::Eexec::spelled_ahead, crate::specs::Eexec::digits_ahead))]
 fn cipher_after(alloc: Global, after: &[u8]) -> Result<Cipher, BytesFault>
-    ensures cipher { Answers (cipher_in after.now) result (or_short (λ x. x.0) (cipher_text.read after.now)) }
+    ensures cipher { Answers (cipher_in after.now) result
+        (or_short (λ x. x.0) (cipher_text.read after.now)) }
     ensures last { IfOk result (λ c. last_bytes c ≤ length after.now) }
 {
     let text = after_blanks(after);
@@ -130,7 +132,8 @@ fn find(alloc: Global, flat: &[u8]) -> Result<(usize, Cipher), BytesFault>
 ///
 /// Those of [`split_eexec`].
 pub fn find_cipher(alloc: Global, flat: &[u8]) -> Result<(usize, Cipher), BytesFault>
-    ensures right { MatchResult result (λ x. IsSplit flat.now x.0 (cipher_in flat.now x.1)) (OrMemory (SplitFails flat.now)) }
+    ensures right { MatchResult result (λ x. IsSplit flat.now x.0 (cipher_in flat.now x.1))
+        (OrMemory (SplitFails flat.now)) }
     ensures exact { Answers (λ x. (x.0, cipher_in flat.now x.1)) result (split_of flat.now) }
     ensures last { IfOk result (λ x. last_bytes x.1 ≤ length flat.now) }
 {
@@ -164,9 +167,14 @@ fn split(alloc: Global, flat: &[u8]) -> Result<(usize, Vec<u8>), BytesFault>
 /// `NoEexec` where there is no such `eexec`, and `ShortCipher` where fewer than four cipher bytes
 /// follow it. Want of memory is `Memory`.
 pub fn split_eexec(alloc: Global, flat: &[u8]) -> Result<(usize, Vec<u8>), BytesFault>
-    ensures right { MatchResult result (λ x. IsSplit flat.now x.0 x.1.items) (OrMemory (SplitFails flat.now)) }
-    ensures only { (at : ℕ) (cipher : List ℕ) → IsSplit flat.now at cipher → Answers split_view result (Ok (at, cipher)) }
-    ensures refused { (fault : BytesFault) → SplitFails flat.now fault → Answers split_view result (Err fault) }
+    ensures right { MatchResult result (λ x. IsSplit flat.now x.0 x.1.items)
+        (OrMemory (SplitFails flat.now)) }
+    ensures only { (at : ℕ) (cipher : List ℕ)
+        → IsSplit flat.now at cipher
+        → Answers split_view result (Ok (at, cipher)) }
+    ensures refused { (fault : BytesFault)
+        → SplitFails flat.now fault
+        → Answers split_view result (Err fault) }
     ensures exact { Answers split_view result (split_of flat.now) }
 {
     split(alloc, flat)

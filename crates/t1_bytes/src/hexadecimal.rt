@@ -33,9 +33,7 @@ pub fn trailer() -> &'static [u8]
 /// Writes one line at the front of a text.
 fn set_line(text: &mut [u8], line: &[u8])
     requires { 2 * length line.now < length text.old }
-    ensures {
-        text.new ≡ encode_lower line.now ++ (10 ∷ drop (2 * length line.now + 1) text.old)
-    }
+    ensures { text.new ≡ encode_lower line.now ++ (10 ∷ drop (2 * length line.now + 1) text.old) }
 {
     let (digits, rest) = text.split_at_mut(2 * line.len());
     if let Ok(()) = hex::encode_to_slice(line, digits) {
@@ -48,10 +46,10 @@ fn spread_line(text: &mut [u8], from: usize, len: usize, to: usize)
     requires short { len ≤ 32 }
     requires from { from + len ≤ length text.old }
     requires to { to + (2 * len + 1) ≤ length text.old }
-    ensures {
-        text.new ≡ take to text.old
-            ++ (encode_lower (take len (drop from text.old)) ++ (10 ∷ drop (to + (2 * len + 1)) text.old))
-    }
+    ensures { text.new
+        ≡ take to text.old
+        ++ (encode_lower (take len (drop from text.old))
+        ++ (10 ∷ drop (to + (2 * len + 1)) text.old)) }
 {
     let mut room = [0u8; LINE];
     let (line, _) = room.split_at_mut(len);
@@ -83,7 +81,8 @@ fn spread_lines(text: &mut [u8], from: usize, count: usize, lines: usize)
 ///
 /// Where a growth was refused; then the text stays.
 pub fn spread_hex_lines(text: &mut Vec<u8>, from: usize) -> Result<(), AllocError>
-    ensures done { OnOk result (text.new.items ≡ take from text.old.items ++ hex_lines (drop from text.old.items)) }
+    ensures done { OnOk result (text.new.items
+        ≡ take from text.old.items ++ hex_lines (drop from text.old.items)) }
     ensures same { OnErr result (text.new.items ≡ text.old.items) }
 {
     let from = from.min(text.len());

@@ -1,7 +1,6 @@
 //! Worked bytes, malformed input, and the two files of the font Tiny.
 
 mod growths;
-mod tiny;
 
 use crate::{
     BytesFault, CHARSTRING_KEY, Cipher, EEXEC_KEY, EEXEC_LEAD, decrypt, encrypt, find_cipher,
@@ -9,7 +8,7 @@ use crate::{
 };
 use std::alloc::{AllocError, Global};
 use std::test::Fail;
-use tiny::{PFA, PFB};
+use t1_tiny::{PFA, PFB};
 
 /// Whether the flat text of a file is this one, or the fault is.
 fn flattens(alloc: Global, file: &[u8], want: Result<&[u8], BytesFault>) -> bool {

@@ -69,7 +69,8 @@ pub fn gap_at(bytes: &[u8]) -> Option<(&[u8], &[u8])>
 /// of the bytes.
 pub fn find_from(bytes: &[u8], text: &[u8], from: usize) -> Option<usize>
     ensures within { IfSome result (λ at. (from ≤ at) × (at + length text.now ≤ length bytes.now)) }
-    ensures first { MatchOption result (Nowhere (OccursAt bytes.now text.now) from (length bytes.now + 1)) (Nowhere (OccursAt bytes.now text.now) from) }
+    ensures first { MatchOption result (Nowhere (OccursAt bytes.now text.now) from (length bytes.now
+        + 1)) (Nowhere (OccursAt bytes.now text.now) from) }
     ensures found { IfSome result (OccursAt bytes.now text.now) }
 {
     if from > bytes.len() {

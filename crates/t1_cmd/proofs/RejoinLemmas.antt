@@ -12,7 +12,7 @@ use Rattle.t1_subset.specs.Profile.{profile}
 use Rattle.t1_subset.specs.Rejoins.{IsUntagged}
 use Rattle.t1_subset.specs.Trees.{Leaf, left_tree}
 use Rattle.t1_subset.proofs.ManyMerges.{left_leaves}
-use Rattle.t1_subset.proofs.MergingFonts.{merging_fonts_are_even}
+use Rattle.t1_subset.proofs.rejoining.MergingFonts.{merging_fonts_are_even}
 use Rattle.t1_subset.proofs.Orders.{one_result}
 use Rattle.t1_cmd.specs.declared.faults.Reason.{Reason}
 use Rattle.t1_cmd.specs.declared.faults.Reason.TheVariants.{TooLong, Memory, List as ListReason, Join as JoinReason, Font, NoGlyph, Merge}

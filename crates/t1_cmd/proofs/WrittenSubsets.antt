@@ -10,7 +10,7 @@ use Rattle.t1_font.specs.IsFont.{IsFont}
 use Rattle.t1_font.specs.Canon.{canon}
 use Rattle.t1_font.specs.ReadFont.{read_font}
 use Rattle.t1_font.specs.WriteLaws.{Fits}
-use Rattle.t1_font.proofs.LengthLemmas.{canon_short}
+use Rattle.t1_font.proofs.canonical.LengthLemmas.{canon_short}
 use Rattle.t1_subset.specs.declared.conflict.Conflict.{Conflict as Refusal}
 use Rattle.t1_subset.specs.Interpreter.{Names}
 use Rattle.t1_subset.specs.Profile.{profile}

@@ -33,7 +33,8 @@ fn refused_font(fault: ReadFault) -> RunFault
 
 /// The source of the font that a reader's bytes spell.
 pub(crate) fn read_font<R: Read>(alloc: Global, reader: &mut Counted<R>) -> Result<Source, RunFault>
-    ensures ends { InputEnds font_input (λ f. f) (input_of R.remaining reader.old reader.new) result }
+    ensures ends { InputEnds font_input (λ f. f)
+        (input_of R.remaining reader.old reader.new) result }
     ensures turns { calls_of reader.new ≤ calls_of reader.old + (file_limit + 1) }
 {
     let bytes = read_all(alloc, reader, FILE_LIMIT)?;

@@ -23,7 +23,8 @@ use t1_run::{Glyphs, Subroutines};
 
 // The line of a code that has a name; nothing for any other.
 fn push_code(alloc: Global, out: &mut Vec<u8>, font: &Font<'_>, code: u8) -> Result<(), AllocError>
-    ensures { OnOk result (out.new.items ≡ out.old.items ++ line_at code_line code (name_at font.now.encoding code)) }
+    ensures { OnOk result (out.new.items
+        ≡ out.old.items ++ line_at code_line code (name_at font.now.encoding code)) }
 {
     if let Some(name) = font.encoding_at(code) {
         push_about(alloc, out, b"code ", usize::from(code))?;
@@ -41,7 +42,8 @@ fn push_subr(
     font: &Font<'_>,
     index: u16,
 ) -> Result<(), AllocError>
-    ensures { OnOk result (out.new.items ≡ out.old.items ++ line_at subr_line index (subr_at font.now index)) }
+    ensures { OnOk result (out.new.items
+        ≡ out.old.items ++ line_at subr_line index (subr_at font.now index)) }
 {
     if let Some(body) = font.get(index) {
         push_about(alloc, out, b"subr ", usize::from(index))?;
@@ -58,7 +60,8 @@ fn push_glyph(
     font: &Font<'_>,
     name: &[u8],
 ) -> Result<(), AllocError>
-    ensures { OnOk result (out.new.items ≡ out.old.items ++ line_at glyph_line name.now (fin.get font.now.glyphs name.now)) }
+    ensures { OnOk result (out.new.items
+        ≡ out.old.items ++ line_at glyph_line name.now (fin.get font.now.glyphs name.now)) }
 {
     if let Some(plain) = font.glyph(name) {
         out.extend_from_slice(b"glyph ")?;
@@ -94,7 +97,8 @@ fn push_encoding(alloc: Global, out: &mut Vec<u8>, font: &Font<'_>) -> Result<()
 }
 
 fn push_subrs(alloc: Global, out: &mut Vec<u8>, font: &Font<'_>) -> Result<(), AllocError>
-    ensures { OnOk result (out.new.items ≡ out.old.items ++ flat_map (λ e. subr_line e.0 e.1) (fin.entries font.now.subrs)) }
+    ensures { OnOk result (out.new.items
+        ≡ out.old.items ++ flat_map (λ e. subr_line e.0 e.1) (fin.entries font.now.subrs)) }
 {
     font.is_font();
     'indices: for index in 0..font.count() {
@@ -104,7 +108,8 @@ fn push_subrs(alloc: Global, out: &mut Vec<u8>, font: &Font<'_>) -> Result<(), A
 }
 
 fn push_glyphs(alloc: Global, out: &mut Vec<u8>, font: &Font<'_>) -> Result<(), AllocError>
-    ensures { OnOk result (out.new.items ≡ out.old.items ++ flat_map (λ e. glyph_line e.0 e.1) (fin.entries font.now.glyphs)) }
+    ensures { OnOk result (out.new.items
+        ≡ out.old.items ++ flat_map (λ e. glyph_line e.0 e.1) (fin.entries font.now.glyphs)) }
 {
     'names: for name in font.names() {
         push_glyph(alloc, out, font, name)?;

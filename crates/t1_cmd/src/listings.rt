@@ -37,8 +37,11 @@ fn refused_join(fault: JoinFault) -> RunFault
 
 // The whole text of a reader.
 fn read_text<R: Read>(alloc: Global, reader: &mut Counted<R>) -> Result<Vec<u8>, RunFault>
-    ensures text { IfOk result (λ v. IfSome (R.remaining (inner_of reader.old)) (λ bytes. text_input bytes ≡ Ok v.items)) }
-    ensures refused { IfErr result (InputStops listing_input (input_of R.remaining reader.old reader.new)) }
+    ensures text { IfOk result
+        (λ v. IfSome (R.remaining (inner_of reader.old)) (λ bytes. text_input bytes
+        ≡ Ok v.items)) }
+    ensures refused { IfErr result
+        (InputStops listing_input (input_of R.remaining reader.old reader.new)) }
     ensures turns { calls_of reader.new ≤ calls_of reader.old + (file_limit + 1) }
 {
     read_all(alloc, reader, FILE_LIMIT)
@@ -55,7 +58,8 @@ fn listed(alloc: Global, text: &[u8]) -> Result<Listing<'_>, RunFault>
 // The text of the join of two listings.
 fn joined_text(alloc: Global, left: &Listing<'_>, right: &Listing<'_>) -> Result<Vec<u8>, RunFault>
     ensures text { IfOk result (λ text. JoinsTo (left.now ∷ right.now ∷ []) (Ok text.items)) }
-    ensures refused { IfErr result (λ e. (fault : JoinFault) × (IsJoinFault left.now right.now fault × (e ≡ RunFault.Refused (join_reason fault)))) }
+    ensures refused { IfErr result (λ e. (fault : JoinFault)
+        × (IsJoinFault left.now right.now fault × (e ≡ RunFault.Refused (join_reason fault)))) }
 {
     write_joined(alloc, left, right).map_err(refused_join)
 }
@@ -66,8 +70,10 @@ fn joined_with<S: Read>(
     left: &Listing<'_>,
     second: &mut Counted<S>,
 ) -> Result<Vec<u8>, RunFault>
-    ensures text { IfOk result (λ text. JoinsRead (input_of S.remaining second.old second.new) left.now text.items) }
-    ensures refused { IfErr result (StopsRead (input_of S.remaining second.old second.new) left.now) }
+    ensures text { IfOk result
+        (λ text. JoinsRead (input_of S.remaining second.old second.new) left.now text.items) }
+    ensures refused { IfErr result
+        (StopsRead (input_of S.remaining second.old second.new) left.now) }
     ensures turns { calls_of second.new ≤ calls_of second.old + (file_limit + 1) }
 {
     let text = read_text(alloc, second)?;

@@ -31,8 +31,12 @@ pub(crate) fn read_fonts<R: Read>(
     alloc: Global,
     readers: &mut [Counted<R>],
 ) -> Result<Vec<Source>, RunFault>
-    ensures says { IfOk result (λ sources. Say font_input (inputs_of R.remaining readers.old readers.new) sources.items) }
-    ensures stops { IfErr result (λ e. InputsStop font_input (inputs_of R.remaining readers.old readers.new) e) }
+    ensures says { IfOk result
+        (λ sources. Say font_input
+        (inputs_of R.remaining readers.old readers.new) sources.items) }
+    ensures stops { IfErr result
+        (λ e. InputsStop font_input
+        (inputs_of R.remaining readers.old readers.new) e) }
     ensures turns { InTurns readers.old readers.new }
 {
     let mut sources = Vec::new(alloc);
@@ -103,7 +107,8 @@ pub fn run_merge<R: Read, W: Write>(
         (inputs_of R.remaining readers.old readers.new) writer.old writer.new result }
     ensures succeeds { Succeeds font_input (MergesTo form)
         (inputs_of R.remaining readers.old readers.new) writer.old writer.new result }
-    ensures subsets { WritesUnion W.contents form (inputs_of R.remaining readers.old readers.new) writer.old writer.new result }
+    ensures subsets { WritesUnion W.contents form
+        (inputs_of R.remaining readers.old readers.new) writer.old writer.new result }
     ensures turns { InTurns readers.old readers.new }
 {
     let sources = match read_fonts(alloc, readers) {

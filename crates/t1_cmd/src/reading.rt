@@ -19,10 +19,12 @@ pub fn read_all<R: Read>(
     reader: &mut Counted<R>,
     limit: usize,
 ) -> Result<Vec<u8>, RunFault>
-    ensures all { IfOk result (λ v. IfSome (R.remaining (inner_of reader.old)) (λ xs. v.items ≡ xs)) }
+    ensures all { IfOk result (λ v. IfSome (R.remaining (inner_of reader.old)) (λ xs. v.items
+        ≡ xs)) }
     ensures short { IfOk result (λ v. length v.items ≤ limit) }
     ensures refused { IfErr result
-        (ReadRefusal limit (R.remaining (inner_of reader.old)) (failed_of reader.old) (failed_of reader.new)) }
+        (ReadRefusal limit (R.remaining (inner_of reader.old)) (failed_of reader.old)
+        (failed_of reader.new)) }
     ensures turns { calls_of reader.new ≤ calls_of reader.old + (limit + 1) }
     ensures kept { failed_of reader.old ≤ failed_of reader.new }
 {

@@ -120,7 +120,8 @@ fn push_part(alloc: Global, out: &mut Vec<u8>, part: &DrawnPart) -> Result<(), A
 }
 
 fn push_parts(alloc: Global, out: &mut Vec<u8>, parts: &[DrawnPart]) -> Result<(), AllocError>
-    ensures { OnOk result (out.new.items ≡ out.old.items ++ flat_map (λ p. part_lines (placed p)) parts.now) }
+    ensures { OnOk result (out.new.items
+        ≡ out.old.items ++ flat_map (λ p. part_lines (placed p)) parts.now) }
 {
     for part in parts {
         push_part(alloc, out, part)?;
@@ -154,8 +155,10 @@ fn fault_text(alloc: Global, fault: DrawFault) -> Result<Vec<u8>, AllocError>
 }
 
 fn drawing_text(alloc: Global, name: &[u8], drawing: &Drawing) -> Result<Vec<u8>, RunFault>
-    ensures text { IfOk result (λ text. picture_answer name.now (picture_of drawing.now) ≡ Ok text.items) }
-    ensures refused { IfErr result (λ e. ShowStops (picture_answer name.now (picture_of drawing.now)) e) }
+    ensures text { IfOk result (λ text. picture_answer name.now (picture_of drawing.now)
+        ≡ Ok text.items) }
+    ensures refused { IfErr result
+        (λ e. ShowStops (picture_answer name.now (picture_of drawing.now)) e) }
 {
     match drawing {
         Drawing::Drawn { width, sb, parts } => {

@@ -25,7 +25,8 @@ use t1_subset::{SubsetFault, subset};
 fn cut<'a>(alloc: Global, font: &Font<'a>, names: &[&[u8]]) -> Result<Font<'a>, RunFault>
     ensures cut { IfOk result (λ s. s ≡ subset profile font.now (asked names.now)) }
     ensures present { OnOk result (first_absent font.now (lent names.now) ≡ None) }
-    ensures refused { IfErr result (λ e. (text : List ℕ) → ShowStops (unless_absent (first_absent font.now (lent names.now)) text) e) }
+    ensures refused { IfErr result (λ e. (text : List ℕ)
+        → ShowStops (unless_absent (first_absent font.now (lent names.now)) text) e) }
 {
     match subset(alloc, font, names) {
         Ok(cut) => Ok(cut),
@@ -44,8 +45,10 @@ fn subset_file(
     names: &[&[u8]],
     form: Form,
 ) -> Result<Vec<u8>, RunFault>
-    ensures text { IfOk result (λ text. subset_answer form (lent names.now) font.now ≡ Ok text.items) }
-    ensures refused { IfErr result (λ e. ShowStops (subset_answer form (lent names.now) font.now) e) }
+    ensures text { IfOk result (λ text. subset_answer form (lent names.now) font.now
+        ≡ Ok text.items) }
+    ensures refused { IfErr result
+        (λ e. ShowStops (subset_answer form (lent names.now) font.now) e) }
 {
     let cut = match cut(alloc, font, names) {
         Ok(cut) => cut,
@@ -64,8 +67,10 @@ fn subset_of(
     names: &[&[u8]],
     form: Form,
 ) -> Result<Vec<u8>, RunFault>
-    ensures text { IfOk result (λ text. subset_answer form (lent names.now) source.now ≡ Ok text.items) }
-    ensures refused { IfErr result (λ e. ShowStops (subset_answer form (lent names.now) source.now) e) }
+    ensures text { IfOk result (λ text. subset_answer form (lent names.now) source.now
+        ≡ Ok text.items) }
+    ensures refused { IfErr result
+        (λ e. ShowStops (subset_answer form (lent names.now) source.now) e) }
 {
     let font = source.font(alloc)?;
     let text = subset_file(alloc, &font, names, form);

@@ -7,7 +7,6 @@ mod growths;
 mod merges;
 mod rejoins;
 mod subsets;
-mod tiny;
 
 use crate::{Counted, Name, Reason, RunFault, read_all, run_join, status, write_fault};
 use std::alloc::Global;

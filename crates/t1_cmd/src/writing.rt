@@ -19,7 +19,8 @@ pub fn write_text<W: Write>(writer: &mut Counted<W>, text: &[u8]) -> Result<(), 
         (Appends (W.contents (inner_of writer.old)) (W.contents (inner_of writer.new)) text.now) }
     ensures fault { IfErr result (λ e. e ≡ RunFault.Write) }
     ensures prefix { OnErr result
-        (AppendsPrefix (W.contents (inner_of writer.old)) (W.contents (inner_of writer.new)) text.now) }
+        (AppendsPrefix (W.contents (inner_of writer.old))
+        (W.contents (inner_of writer.new)) text.now) }
     ensures rose { OnErr result (RoseByOne (failed_of writer.old) (failed_of writer.new)) }
     ensures fine { OnOk result (failed_of writer.new ≡ failed_of writer.old) }
 {
@@ -40,9 +41,11 @@ pub fn write_fault<W: Write>(
     writer: &mut Counted<W>,
 ) -> Result<(), RunFault>
     ensures whole { OnOk result
-        (Appends (W.contents (inner_of writer.old)) (W.contents (inner_of writer.new)) (fault_line fault.now)) }
-    ensures refused { IfErr result (WriteRefusal (fault_line fault.now)
-        (W.contents (inner_of writer.old)) (W.contents (inner_of writer.new)) (failed_of writer.old) (failed_of writer.new)) }
+        (Appends (W.contents (inner_of writer.old)) (W.contents (inner_of writer.new))
+        (fault_line fault.now)) }
+    ensures refused { IfErr result
+        (WriteRefusal (fault_line fault.now) (W.contents (inner_of writer.old))
+        (W.contents (inner_of writer.new)) (failed_of writer.old) (failed_of writer.new)) }
 {
     match fault_line_of(alloc, fault) {
         Ok(line) => write_text(writer, line.as_slice()),

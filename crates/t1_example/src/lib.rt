@@ -43,8 +43,10 @@ pub enum Order {
 
 // The file of a subset of a source's font, as a document carries it.
 fn cut(alloc: Global, source: &Source, names: &[&[u8]], form: Form) -> Result<Vec<u8>, Refusal>
-    ensures { IsOf source.now (asked names.now) → Fits form source.now →
-        MatchResult result (λ v. read_font v.items ≡ Ok (subset profile source.now (asked names.now))) IsMemory }
+    ensures { IsOf source.now (asked names.now)
+        → Fits form source.now
+        → MatchResult result (λ v. read_font v.items
+        ≡ Ok (subset profile source.now (asked names.now))) IsMemory }
 {
     let font = source.font(alloc)?;
     let subset = subset(alloc, &font, names);
@@ -107,8 +109,12 @@ fn joined(
     order: Order,
     form: Form,
 ) -> Result<Vec<u8>, Refusal>
-    ensures { (f : FontValue) (a b : Names) → IsFont f → IsOf f a → IsOf f b → AreSubsets f a b first.now second.now →
-        MatchResult result (λ v. v.items ≡ canon (union_subset f a b) form) IsMemory }
+    ensures { (f : FontValue) (a b : Names)
+        → IsFont f
+        → IsOf f a
+        → IsOf f b
+        → AreSubsets f a b first.now second.now
+        → MatchResult result (λ v. v.items ≡ canon (union_subset f a b) form) IsMemory }
 {
     let one = read(alloc, first)?;
     let other = match read(alloc, second) {
@@ -138,11 +144,18 @@ pub fn cut_and_joined(
     order: Order,
     form: Form,
 ) -> Result<Vec<u8>, Refusal>
-    ensures bytes { (f : FontValue) → CanBeCut file.now (asked first.now) (asked second.now) form f →
-        MatchResult result (λ v. v.items ≡ canon (union_subset f (asked first.now) (asked second.now)) form) IsMemory }
-    ensures draws { (f : FontValue) → CanBeCut file.now (asked first.now) (asked second.now) form f →
-        IfOk result (λ v. (g : FontValue) (n : List ℕ) → Spells v.items g →
-        sets.contains (keep profile f (sets.union (asked first.now) (asked second.now))) n ≡ true → AnswersAlike f g n) }
+    ensures bytes { (f : FontValue)
+        → CanBeCut file.now (asked first.now) (asked second.now) form f
+        → MatchResult result (λ v. v.items
+        ≡ canon (union_subset f (asked first.now) (asked second.now)) form) IsMemory }
+    ensures draws { (f : FontValue)
+        → CanBeCut file.now (asked first.now) (asked second.now) form f
+        → IfOk result (λ v. (g : FontValue) (n : List ℕ)
+        → Spells v.items g
+        → sets.contains
+        (keep profile f (sets.union (asked first.now) (asked second.now))) n
+        ≡ true
+        → AnswersAlike f g n) }
 {
     let source = read(alloc, file)?;
     let one = match cut(alloc, &source, first, form) {

@@ -12,7 +12,7 @@ use Rattle.t1_font.specs.Entries.{last_entries, last_value, map_of}
 use Rattle.t1_font.specs.Cut.{merged}
 use Rattle.t1_font.proofs.MapLaws.{get-map_of, entries-map_of}
 use Rattle.t1_font.proofs.MapCuts.{joined, get-merged, get-retain, entries_all}
-use Rattle.t1_font.proofs.FontAgain.{last_again}
+use Rattle.t1_font.proofs.canonical.FontAgain.{last_again}
 
 module _ {K : Type 0} {R : K → K → Ordering} (o : IsTotalOrder R) (same : IsAntisymmetric R) where
   module _ {X : Type 0} where

@@ -14,7 +14,7 @@ use Rattle.t1_font.specs.FontValue.{FontValue}
 use Rattle.t1_font.specs.Cut.{stub, put_all_into, entry_of, map_values, restrict_encoding, restrict}
 use Rattle.t1_font.proofs.MapLaws.{map_of-append, map_of-nil, get-map_of}
 use Rattle.t1_font.proofs.MapCuts.{is_or_not, get-retain}
-use Rattle.t1_font.proofs.FontAgain.{name_same}
+use Rattle.t1_font.proofs.canonical.FontAgain.{name_same}
 
 -- the entries of these keys in a map
 abbrev pub entries_of : {K : Type 0} {R : K → K → Ordering} → FinMap R (List ℕ) → List K → List (K × List ℕ)

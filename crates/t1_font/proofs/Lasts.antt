@@ -20,7 +20,7 @@ use Rattle.t1_join.specs.TableMeaning.{Rises}
 use Rattle.t1_join.proofs.TreeEntries.{sorted_entries}
 use Rattle.t1_font.specs.Entries.{comes_again, run_ends, AreLast, AreSettled, last_value, map_of}
 use Rattle.t1_font.proofs.MapLaws.{get-map_of, choice-none}
-use Rattle.t1_font.proofs.FontAgain.{map_again}
+use Rattle.t1_font.proofs.canonical.FontAgain.{map_again}
 
 -- ---- the last of a list
 

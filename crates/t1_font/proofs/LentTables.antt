@@ -16,7 +16,7 @@ use Rattle.t1_join.proofs.Merges.{rises_merge, merged_from_sorted, keyed, merge_
 use Rattle.t1_font.specs.FontValue.{name_cmp}
 use Rattle.t1_font.specs.Lent.{with_bytes, lent_name, lent_names}
 use Rattle.t1_font.specs.Cut.{put_all_into, entry_of, merged}
-use Rattle.t1_font.proofs.FontAgain.{name_same}
+use Rattle.t1_font.proofs.canonical.FontAgain.{name_same}
 
 -- entries that are out, and nothing is left
 pub all_out : {K X Y : Type 0} (v : Y → K × X) (out : List Y) (left es : List (K × X)) → left ≡ [] → map v out ++ left ≡ es → map v out ≡ es

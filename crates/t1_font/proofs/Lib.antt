@@ -15,48 +15,20 @@ pub mod FileParts
 pub mod FromPieces
 pub mod AnswersRight
 pub mod Lengths
-pub mod WriteAnswers
+pub mod canonical
 pub mod ValueLaws
 pub mod HasSubrs
 pub mod ReadingLaws
 pub mod ReadRight
 pub mod ReadAgain
-pub mod FirstPlace
-pub mod Borders
 pub mod NamedLasts
-pub mod Moves
-pub mod Written
 pub mod PlaceLemmas
-pub mod Phrases
-pub mod EntriesWritten
 pub mod MapCuts
-pub mod ClearWritten
-pub mod PrivateWritten
-pub mod SplitWritten
-pub mod FontAgain
 pub mod ByteLemmas
-pub mod LengthLemmas
 pub mod Kept
-pub mod RoundTrip
-pub mod ReadBack
-pub mod ReadBytes
-pub mod ReadEntries
-pub mod ReadMarkers
-pub mod ReadClear
-pub mod ReadPrivate
-pub mod ReadFontLaws
-pub mod Tiny
-mod TinyRows
-pub mod Decimals
-pub mod TinyNumbers
-mod TinyFiles
+pub mod read_fonts
+pub mod rows
 pub mod CutEntries
 pub mod CutLoops
 pub mod LentTables
-mod TinyCuts
-pub mod TagLemmas
-pub mod UntaggedTwice
-pub mod Evened
-pub mod Filled
-pub mod EvenStays
-mod TagRows
+pub mod even_fonts

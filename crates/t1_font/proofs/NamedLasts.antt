@@ -11,7 +11,7 @@ use Rattle.t1_font.specs.Entries.{AreLast, map_of}
 use Rattle.t1_font.specs.FontValue.{name_cmp}
 use Rattle.t1_font.specs.Gathering.{gathered_glyphs}
 use Rattle.t1_font.specs.Ranges.{bytes_at, named_at}
-use Rattle.t1_font.proofs.FontAgain.{name_same}
+use Rattle.t1_font.proofs.canonical.FontAgain.{name_same}
 use Rattle.t1_font.proofs.Lasts.{all_last, order, lasts_are}
 
 -- a glyph's name, and where the glyph stands

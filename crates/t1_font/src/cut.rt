@@ -41,7 +41,9 @@ fn keep_named<'a>(
     glyphs: &Named<'a>,
     name: &[u8],
 ) -> Result<(), AllocError>
-    ensures { OnOk result (lent_names cut.new.entries ≡ put_all_into (lent_names cut.old.entries) (entry_of name.now (fin.get glyphs.now name.now))) }
+    ensures { OnOk result (lent_names cut.new.entries
+        ≡ put_all_into (lent_names cut.old.entries)
+        (entry_of name.now (fin.get glyphs.now name.now))) }
 {
     if let Some((name, body)) = glyphs.entry(name) {
         cut.insert(name, body)?;
@@ -55,7 +57,8 @@ fn cut_glyphs<'a>(
     glyphs: &Named<'a>,
     names: &[Vec<u8>],
 ) -> Result<Named<'a>, AllocError>
-    ensures { IfOk result (λ m. m ≡ fin.retain_keys glyphs.now (sets.contains (set_of_names names.now))) }
+    ensures { IfOk result (λ m. m
+        ≡ fin.retain_keys glyphs.now (sets.contains (set_of_names names.now))) }
 {
     let mut cut = BTreeMap::new(alloc);
     'names: for name in names {
@@ -72,7 +75,9 @@ fn cut_codes<'a>(
     codes: &Numbered<'a>,
     glyphs: &Named<'_>,
 ) -> Result<Numbered<'a>, AllocError>
-    ensures { IfOk result (λ m. m ≡ fin.retain_keys codes.now (λ c. fin.contains_key glyphs.now (unwrap_or (fin.get codes.now c) []))) }
+    ensures { IfOk result (λ m. m
+        ≡ fin.retain_keys codes.now
+        (λ c. fin.contains_key glyphs.now (unwrap_or (fin.get codes.now c) []))) }
 {
     let mut cut = Vec::new(alloc);
     'codes: for (code, name) in codes.entries() {
@@ -89,7 +94,8 @@ fn cut_encoding<'a>(
     encoding: &LentEncoding<'a>,
     glyphs: &Named<'_>,
 ) -> Result<LentEncoding<'a>, AllocError>
-    ensures { IfOk result (λ e. encoding_of e ≡ restrict_encoding (fin.contains_key glyphs.now) (encoding_of encoding.now)) }
+    ensures { IfOk result (λ e. encoding_of e
+        ≡ restrict_encoding (fin.contains_key glyphs.now) (encoding_of encoding.now)) }
 {
     match encoding {
         LentEncoding::Word(word) => Ok(LentEncoding::Word(word)),
@@ -110,7 +116,8 @@ pub(crate) fn cut_subrs<'a>(
     subrs: &Numbered<'a>,
     kept: &BTreeSet<u16>,
 ) -> Result<Numbered<'a>, AllocError>
-    ensures { IfOk result (λ m. m ≡ map_values (λ i c. cond (contains nat_cmp kept.now i) c stub) subrs.now) }
+    ensures { IfOk result (λ m. m
+        ≡ map_values (λ i c. cond (contains nat_cmp kept.now i) c stub) subrs.now) }
 {
     let mut cut = Vec::with_capacity(alloc, subrs.entries.len())?;
     'bodies: for (index, body) in subrs.entries() {
@@ -126,8 +133,12 @@ fn cut_parts<'a>(
     names: &[Vec<u8>],
     subrs: &BTreeSet<u16>,
 ) -> Result<FontParts<'a>, AllocError>
-    requires { (n : List ℕ) → sets.contains (set_of_names names.now) n ≡ true → fin.contains_key parts.now.glyphs n ≡ true }
-    ensures { IfOk result (λ f. f ≡ restrict (sets.contains (set_of_names names.now)) (contains nat_cmp subrs.now) parts.now) }
+    requires { (n : List ℕ)
+        → sets.contains (set_of_names names.now) n ≡ true
+        → fin.contains_key parts.now.glyphs n ≡ true }
+    ensures { IfOk result (λ f. f
+        ≡ restrict (sets.contains (set_of_names names.now))
+        (contains nat_cmp subrs.now) parts.now) }
 {
     let glyphs = cut_glyphs(alloc, &parts.glyphs, names)?;
     Ok(FontParts {
@@ -153,9 +164,13 @@ pub fn restrict<'a>(
     names: &[Vec<u8>],
     subrs: &BTreeSet<u16>,
 ) -> Result<Font<'a>, AllocError>
-    requires known { (n : List ℕ) → sets.contains (set_of_names names.now) n ≡ true → fin.contains_key font.now.glyphs n ≡ true }
+    requires known { (n : List ℕ)
+        → sets.contains (set_of_names names.now) n ≡ true
+        → fin.contains_key font.now.glyphs n ≡ true }
     requires notdef { sets.contains (set_of_names names.now) notdef ≡ true }
-    ensures { IfOk result (λ f. f ≡ restrict (sets.contains (set_of_names names.now)) (contains nat_cmp subrs.now) font.now) }
+    ensures { IfOk result (λ f. f
+        ≡ restrict (sets.contains (set_of_names names.now))
+        (contains nat_cmp subrs.now) font.now) }
 {
     font.is_font();
     let parts = cut_parts(alloc, &font.parts, names, subrs)?;

@@ -238,7 +238,8 @@ fn encoding_start_at(bytes: &[u8]) -> Option<(Opening<'_>, &[u8])>
 /// The entries of the table, kept, and what stands after their close.
 fn puts_at<'a>(bytes: &'a [u8], gathered: &mut Gathered<'a>) -> Result<&'a [u8], TableError>
     requires { gathered.old.codes ≡ fin.empty }
-    ensures shown { TableHeld (λ x es close rest. (gathered.new.codes ≡ map_of es) × (x.now ≡ rest)) result (table_at code_entry encoding_end bytes.now) }
+    ensures shown { TableHeld (λ x es close rest. (gathered.new.codes ≡ map_of es)
+        × (x.now ≡ rest)) result (table_at code_entry encoding_end bytes.now) }
     ensures others { OnOk result (CodesAlone gathered.old gathered.new) }
 {
     let mut rest = bytes;
@@ -258,7 +259,11 @@ fn puts_at<'a>(bytes: &'a [u8], gathered: &mut Gathered<'a>) -> Result<&'a [u8],
 /// The names of an array, kept at the codes of their places, and what stands after their close.
 fn names_at<'a>(bytes: &'a [u8], gathered: &mut Gathered<'a>) -> Result<&'a [u8], TableError>
     requires { gathered.old.codes ≡ fin.empty }
-    ensures shown { TableHeld (λ x names close rest. (gathered.new.codes ≡ map_of (from_code 0 names)) × (x.now ≡ rest)) result (counted_at next_name array_end code_count bytes.now) }
+    ensures shown { TableHeld (λ x names close rest. (gathered.new.codes
+        ≡ map_of (from_code 0 names))
+        × (x.now
+        ≡ rest)) result
+        (counted_at next_name array_end code_count bytes.now) }
     ensures others { OnOk result (CodesAlone gathered.old gathered.new) }
 {
     let mut rest = bytes;
@@ -312,7 +317,8 @@ fn table_from<'a>(
     gathered: &mut Gathered<'a>,
 ) -> Result<(EncodingParts<'a>, &'a [u8]), ReadFault>
     requires { gathered.old.codes ≡ fin.empty }
-    ensures shown { Shown (λ x e. (encoding_view x.0 gathered.new.codes ≡ encoding_value e.0) × (x.1.now ≡ e.1)) result (encoding_from clear.now OpensPuts rest.now) }
+    ensures shown { Shown (λ x e. (encoding_view x.0 gathered.new.codes ≡ encoding_value e.0)
+        × (x.1.now ≡ e.1)) result (encoding_from clear.now OpensPuts rest.now) }
     ensures others { OnOk result (CodesAlone gathered.old gathered.new) }
 {
     match puts_at(rest, gathered) {
@@ -329,7 +335,8 @@ fn array_from<'a>(
     gathered: &mut Gathered<'a>,
 ) -> Result<(EncodingParts<'a>, &'a [u8]), ReadFault>
     requires { gathered.old.codes ≡ fin.empty }
-    ensures shown { Shown (λ x e. (encoding_view x.0 gathered.new.codes ≡ encoding_value e.0) × (x.1.now ≡ e.1)) result (encoding_from clear.now OpensNames rest.now) }
+    ensures shown { Shown (λ x e. (encoding_view x.0 gathered.new.codes ≡ encoding_value e.0)
+        × (x.1.now ≡ e.1)) result (encoding_from clear.now OpensNames rest.now) }
     ensures others { OnOk result (CodesAlone gathered.old gathered.new) }
 {
     match names_at(rest, gathered) {
@@ -347,7 +354,9 @@ fn encoding_from<'a>(
     gathered: &mut Gathered<'a>,
 ) -> Result<(EncodingParts<'a>, &'a [u8]), ReadFault>
     requires { gathered.old.codes ≡ fin.empty }
-    ensures shown { Shown (λ x e. (encoding_view x.0 gathered.new.codes ≡ encoding_value e.0) × (x.1.now ≡ e.1)) result (encoding_from clear.now (opening_view opening.entry) rest.now) }
+    ensures shown { Shown (λ x e. (encoding_view x.0 gathered.new.codes ≡ encoding_value e.0)
+        × (x.1.now
+        ≡ e.1)) result (encoding_from clear.now (opening_view opening.entry) rest.now) }
     ensures others { OnOk result (CodesAlone gathered.old gathered.new) }
 {
     match opening {
@@ -364,7 +373,8 @@ pub(crate) fn clear_parts<'a>(
     gathered: &mut Gathered<'a>,
 ) -> Result<ClearParts<'a>, ReadFault>
     requires { gathered.old.codes ≡ fin.empty }
-    ensures shown { Shown (λ x c. ShowsClear x gathered.new.codes c) result (clear_pieces clear.now) }
+    ensures shown { Shown (λ x c. ShowsClear x gathered.new.codes c) result
+        (clear_pieces clear.now) }
     ensures others { OnOk result (CodesAlone gathered.old gathered.new) }
 {
     let Some((head, _, after)) = first::<EncodingMarker>(clear) else {

@@ -50,7 +50,8 @@ fn length_at(bytes: &[u8], len_iv: u8) -> Option<(u32, &[u8])>
 /// What stands behind a key in a table with this lenIV.
 #[tactic(auto, unfolding(crate::specs::Entry::body))]
 pub fn body_at(bytes: &[u8], len_iv: u8) -> Option<(Body<'_>, &[u8])>
-    ensures value { option_map (λ x. (body_view x.0, x.1.now)) result ≡ (body len_iv).read bytes.now }
+    ensures value { option_map (λ x. (body_view x.0, x.1.now)) result
+        ≡ (body len_iv).read bytes.now }
     ensures length { IfSome result (λ x. len_iv ≤ length x.0.bytes.now) }
     ensures place { IfSome result (λ x. StandsIn bytes.now x.0.bytes.now x.0.behind) }
     ensures left { IfSome result (λ x. length x.1.now ≤ x.0.behind) }

@@ -14,7 +14,8 @@ use std::alloc::{AllocError, Global};
 
 /// A table of Subrs that declares at least so many.
 fn raised(kept: Option<KeptSubrs>, declared: u16) -> Option<KeptSubrs>
-    ensures { option_map subrs_view result ≡ option_map (raised declared) (option_map subrs_view kept) }
+    ensures { option_map subrs_view result
+        ≡ option_map (raised declared) (option_map subrs_view kept) }
 {
     match kept {
         Some(kept) => Some(KeptSubrs {
@@ -33,7 +34,8 @@ fn raised(kept: Option<KeptSubrs>, declared: u16) -> Option<KeptSubrs>
 
 /// A shell with the head that it has without tags, where it has any, and a table of at least so many Subrs.
 fn even_shell(shell: Shell, head: Option<Vec<u8>>, declared: u16) -> Shell
-    requires { MatchOption head (untagged_head shell.head ≡ shell.head) (λ v. v.items ≡ untagged_head shell.head) }
+    requires { MatchOption head (untagged_head shell.head
+        ≡ shell.head) (λ v. v.items ≡ untagged_head shell.head) }
     ensures { result ≡ even_shell declared shell }
 {
     let Shell {

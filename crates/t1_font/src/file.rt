@@ -42,7 +42,8 @@ fn flat_text(file: Vec<u8>) -> Result<Vec<u8>, ReadFault>
 
 /// Where the clear text of a flat text ends, and the cipher.
 fn found(alloc: Global, flat: &[u8]) -> Result<(usize, Cipher), ReadFault>
-    ensures parts { Shown (λ x p. (take x.0 flat.now ≡ p.clear) × (cipher_in flat.now x.1 ≡ p.cipher)) result (flat_pieces flat.now) }
+    ensures parts { Shown (λ x p. (take x.0 flat.now ≡ p.clear)
+        × (cipher_in flat.now x.1 ≡ p.cipher)) result (flat_pieces flat.now) }
     ensures end { IfOk result (λ x. x.0 ≤ length flat.now) }
     ensures last { IfOk result (λ x. last_bytes x.1 ≤ length flat.now) }
     ensures lead { IfOk result (λ x. 4 ≤ length (cipher_in flat.now x.1)) }
@@ -63,7 +64,8 @@ pub(crate) struct CutFile {
 
 /// A flat text, cut. A binary cipher stays where it stands.
 fn cut_flat(alloc: Global, flat: Vec<u8>) -> Result<CutFile, ReadFault>
-    ensures parts { Shown (λ x p. (x.clear.items ≡ p.clear) × (drop x.from x.buffer.items ≡ p.cipher)) result (flat_pieces flat.items) }
+    ensures parts { Shown (λ x p. (x.clear.items ≡ p.clear)
+        × (drop x.from x.buffer.items ≡ p.cipher)) result (flat_pieces flat.items) }
     ensures lead { IfOk result (λ x. x.from + 4 ≤ length x.buffer.items) }
 {
     let (end, cipher) = found(alloc, flat.as_slice())?;
@@ -87,7 +89,8 @@ fn cut_flat(alloc: Global, flat: Vec<u8>) -> Result<CutFile, ReadFault>
 
 /// A file, cut.
 fn cut_file(alloc: Global, file: Vec<u8>) -> Result<CutFile, ReadFault>
-    ensures parts { Shown (λ x p. (x.clear.items ≡ p.clear) × (drop x.from x.buffer.items ≡ p.cipher)) result (file_pieces file.items) }
+    ensures parts { Shown (λ x p. (x.clear.items ≡ p.clear)
+        × (drop x.from x.buffer.items ≡ p.cipher)) result (file_pieces file.items) }
     ensures lead { IfOk result (λ x. x.from + 4 ≤ length x.buffer.items) }
 {
     let flat = flat_text(file)?;
@@ -101,9 +104,11 @@ fn kept_encoding(
     codes: Vec<(u16, &[u8])>,
     buffer: &mut Vec<u8>,
 ) -> Result<KeptEncoding, AllocError>
-    ensures value { IfOk result (λ e. kept_encoding buffer.new.items e ≡ encoding_view parts.entry (gathered_codes codes.entry.items)) }
+    ensures value { IfOk result (λ e. kept_encoding buffer.new.items e
+        ≡ encoding_view parts.entry (gathered_codes codes.entry.items)) }
     ensures inside { IfOk result (λ e. AllInside (length buffer.new.items) (codes_of e)) }
-    ensures rise { IfOk result (λ e. Rises nat_cmp (map (numbered_at buffer.new.items) (codes_of e))) }
+    ensures rise { IfOk result
+        (λ e. Rises nat_cmp (map (numbered_at buffer.new.items) (codes_of e))) }
     ensures longer { OnOk result ((more : List ℕ) × (buffer.new.items ≡ buffer.old.items ++ more)) }
 {
     match parts {
@@ -120,7 +125,10 @@ fn source_parts(
     gathered: Gathered<'_>,
 ) -> Result<SourceParts, AllocError>
     requires { declared_in inside.subrs ≤ count_limit }
-    ensures { IfOk result (λ f. (c : ClearPieces) (p : PrivatePieces) → ShowsClear outside.now gathered.entry.codes c → ShowsPrivate inside gathered.entry p → f ≡ font_of c p) }
+    ensures { IfOk result (λ f. (c : ClearPieces) (p : PrivatePieces)
+        → ShowsClear outside.now gathered.entry.codes c
+        → ShowsPrivate inside gathered.entry p
+        → f ≡ font_of c p) }
 {
     let shell = kept_shell(alloc, outside, inside)?;
     let mut buffer = gathered.buffer;
@@ -155,7 +163,10 @@ fn light_parts(
 ) -> Result<SourceParts, ReadFault>
     requires declared { declared_in inside.subrs ≤ count_limit }
     requires notdef { inside.glyphs.has_notdef ≡ true }
-    ensures { (c : ClearPieces) (p : PrivatePieces) → ShowsClear outside.now gathered.entry.codes c → ShowsPrivate inside gathered.entry p → Answers (λ f. f) result (font_from c p) }
+    ensures { (c : ClearPieces) (p : PrivatePieces)
+        → ShowsClear outside.now gathered.entry.codes c
+        → ShowsPrivate inside gathered.entry p
+        → Answers (λ f. f) result (font_from c p) }
 {
     let parts = source_parts(alloc, outside, inside, gathered)?;
     if parts.glyph_count() > COUNT_LIMIT {
@@ -174,7 +185,10 @@ fn font_from(
     inside: PrivateParts,
     gathered: Gathered<'_>,
 ) -> Result<SourceParts, ReadFault>
-    ensures { (c : ClearPieces) (p : PrivatePieces) → ShowsClear outside.now gathered.entry.codes c → ShowsPrivate inside gathered.entry p → Answers (λ f. f) result (font_from c p) }
+    ensures { (c : ClearPieces) (p : PrivatePieces)
+        → ShowsClear outside.now gathered.entry.codes c
+        → ShowsPrivate inside gathered.entry p
+        → Answers (λ f. f) result (font_from c p) }
 {
     if !inside.glyphs.has_notdef {
         return Err(ReadFault::NoNotdef);

@@ -37,7 +37,8 @@ fn with_stubs<'a>(
     stubs: &Numbered<'a>,
     declared: u16,
 ) -> Result<Numbered<'a>, AllocError>
-    ensures { IfOk result (λ m. m ≡ merged subrs.now (fin.retain_keys stubs.now (λ i. nat_lt i declared))) }
+    ensures { IfOk result (λ m. m
+        ≡ merged subrs.now (fin.retain_keys stubs.now (λ i. nat_lt i declared))) }
 {
     let mut below = Vec::with_capacity(alloc, stubs.entries.len())?;
     'stubs: for (index, body) in stubs.entries() {
@@ -52,7 +53,8 @@ fn with_stubs<'a>(
 /// A font with those of the stubs that it declares and lacks; one without Subrs has no words to write them with.
 fn fill<'a>(alloc: Global, font: Font<'a>, stubs: &Numbered<'a>) -> Result<Font<'a>, PartsFault>
     requires { AreStubs stubs.now }
-    ensures filled { MatchResult result (λ f. f ≡ filled_by stubs.now font.entry) (FontRefused (filled_by stubs.now font.entry)) }
+    ensures filled { MatchResult result (λ f. f
+        ≡ filled_by stubs.now font.entry) (FontRefused (filled_by stubs.now font.entry)) }
     ensures light { IfOk result (λ f. weight f ≤ weight_limit) }
 {
     font.is_font();
@@ -97,7 +99,8 @@ fn keep<'a>(fonts: &mut Vec<Font<'a>>, font: Font<'a>) -> Result<(), AllocError>
 ///
 /// `Limit` where one of the fonts weighs more then than a font may; `Memory` where a growth was refused.
 pub fn fill_all<'a>(alloc: Global, fonts: Vec<Font<'a>>) -> Result<Vec<Font<'a>>, PartsFault>
-    ensures { MatchResult result (λ all. Fills fonts.entry.items all.items) (FillRefuses fonts.entry.items) }
+    ensures { MatchResult result (λ all. Fills fonts.entry.items all.items)
+        (FillRefuses fonts.entry.items) }
 {
     let stubs = stubs_of_all(alloc, fonts.as_slice())?;
     let mut all = Vec::with_capacity(alloc, fonts.len())?;

@@ -73,7 +73,10 @@ fn behind_lead(part: Range, len_iv: u8) -> Range
 /// Decrypts the charstring in a part of a buffer, where it stands.
 fn decrypt_in(buffer: &mut Vec<u8>, part: Range)
     requires { IsInside (length buffer.old.items) part }
-    ensures { buffer.new.items ≡ take part.start buffer.old.items ++ decrypted 4330 (bytes_at buffer.old.items part) ++ drop part.end buffer.old.items }
+    ensures { buffer.new.items
+        ≡ take part.start buffer.old.items
+        ++ decrypted 4330 (bytes_at buffer.old.items part)
+        ++ drop part.end buffer.old.items }
 {
     let (front, _) = buffer.as_mut_slice().split_at_mut(part.end);
     let (_, body) = front.split_at_mut(part.start);
@@ -84,7 +87,13 @@ impl<'a> Gathered<'a> {
     /// No entries, before the private text, which stands in a buffer from `at` on.
     pub(crate) fn new(alloc: Global, buffer: Vec<u8>, at: usize) -> Self
         requires { at ≤ length buffer.items }
-        ensures { result ≡ record { rest = drop at buffer.items; codes = fin.empty; subrs = fin.empty; glyphs = fin.empty } }
+        ensures { result
+            ≡ record {
+              rest = drop at buffer.items;
+              codes = fin.empty;
+              subrs = fin.empty;
+              glyphs = fin.empty;
+            } }
     {
         Gathered {
             codes: Vec::new(alloc),
@@ -108,14 +117,26 @@ impl<'a> Gathered<'a> {
     /// Passes over what stands before the last `left` bytes.
     pub(crate) fn pass_to(&mut self, left: usize)
         requires { left ≤ length self.old.rest }
-        ensures { self.new ≡ record { rest = ending left self.old.rest; codes = self.old.codes; subrs = self.old.subrs; glyphs = self.old.glyphs } }
+        ensures { self.new
+            ≡ record {
+              rest = ending left self.old.rest;
+              codes = self.old.codes;
+              subrs = self.old.subrs;
+              glyphs = self.old.glyphs;
+            } }
     {
         self.at = self.buffer.len() - left;
     }
 
     /// Puts a name at a code.
     pub(crate) fn keep_code(&mut self, code: u8, name: &'a [u8]) -> Result<(), AllocError>
-        ensures { OnOk result (self.new ≡ record { rest = self.old.rest; codes = fin.insert self.old.codes code name.now; subrs = self.old.subrs; glyphs = self.old.glyphs }) }
+        ensures { OnOk result (self.new
+            ≡ record {
+              rest = self.old.rest;
+              codes = fin.insert self.old.codes code name.now;
+              subrs = self.old.subrs;
+              glyphs = self.old.glyphs;
+            }) }
     {
         self.code_room = settle(&mut self.codes, self.code_room)?;
         self.codes.push((code as u16, name))?;
@@ -133,7 +154,13 @@ impl<'a> Gathered<'a> {
         requires body { body.len + body.behind ≤ length self.old.rest }
         requires lead { len_iv ≤ body.len }
         requires left { left ≤ body.behind }
-        ensures { OnOk result (self.new ≡ record { rest = ending left self.old.rest; codes = self.old.codes; subrs = fin.insert self.old.subrs index (plain_of len_iv (placed self.old.rest body)); glyphs = self.old.glyphs }) }
+        ensures { OnOk result (self.new
+            ≡ record {
+              rest = ending left self.old.rest;
+              codes = self.old.codes;
+              subrs = fin.insert self.old.subrs index (plain_of len_iv (placed self.old.rest body));
+              glyphs = self.old.glyphs;
+            }) }
     {
         self.subr_room = settle(&mut self.subrs, self.subr_room)?;
         let cipher = part_at(self.buffer.len(), body);
@@ -156,7 +183,14 @@ impl<'a> Gathered<'a> {
         requires body { body.len + body.behind ≤ name.behind }
         requires lead { len_iv ≤ body.len }
         requires left { left ≤ body.behind }
-        ensures { OnOk result (self.new ≡ record { rest = ending left self.old.rest; codes = self.old.codes; subrs = self.old.subrs; glyphs = fin.insert self.old.glyphs (placed self.old.rest name) (plain_of len_iv (placed self.old.rest body)) }) }
+        ensures { OnOk result (self.new
+            ≡ record {
+              rest = ending left self.old.rest;
+              codes = self.old.codes;
+              subrs = self.old.subrs;
+              glyphs = fin.insert self.old.glyphs (placed self.old.rest name)
+                  (plain_of len_iv (placed self.old.rest body));
+            }) }
     {
         self.glyph_room = settle_names(&mut self.glyphs, self.buffer.as_slice(), self.glyph_room)?;
         let name = part_at(self.buffer.len(), name);

@@ -46,7 +46,8 @@ impl<'a> GlyphEntry<'a> {
 /// An entry of a table with this lenIV.
 #[tactic(auto, unfolding(crate::specs::Entry::entry))]
 fn glyph_at(bytes: &[u8], len_iv: u8) -> Option<(GlyphEntry<'_>, &[u8])>
-    ensures value { option_map (λ x. (entry_view x.0.name.now x.0.body, x.1.now)) result ≡ (glyph len_iv).read bytes.now }
+    ensures value { option_map (λ x. (entry_view x.0.name.now x.0.body, x.1.now)) result
+        ≡ (glyph len_iv).read bytes.now }
     ensures length { IfSome result (λ x. len_iv ≤ length x.0.body.bytes.now) }
     ensures name { IfSome result (λ x. StandsIn bytes.now x.0.name.now x.0.behind) }
     ensures body { IfSome result (λ x. StandsIn bytes.now x.0.body.bytes.now x.0.body.behind) }
@@ -90,7 +91,10 @@ pub(crate) fn glyphs_at(
     gathered: &mut Gathered<'_>,
 ) -> Result<GlyphsParts, TableError>
     requires { gathered.old.glyphs ≡ fin.empty }
-    ensures shown { TableHeld (λ x es close rest. ShowsGlyphs x es × HoldsGlyphs len_iv gathered.new.glyphs es × (gathered.new.rest ≡ rest)) result (table_at (glyph len_iv) glyphs_end gathered.old.rest) }
+    ensures shown { TableHeld (λ x es close rest. ShowsGlyphs x es
+        × HoldsGlyphs len_iv gathered.new.glyphs es
+        × (gathered.new.rest
+        ≡ rest)) result (table_at (glyph len_iv) glyphs_end gathered.old.rest) }
     ensures others { OnOk result (GlyphsAlone gathered.old gathered.new) }
 {
     let mut words = None;

@@ -32,7 +32,8 @@ pub trait Marker: Copy {
 
 /// What stands before the first marker, the marker, and what stands after it.
 pub fn first<M: Marker>(bytes: &[u8]) -> Option<(&[u8], M, &[u8])>
-    ensures { option_map (λ x. ((x.0.now, M.said x.1), x.2.now)) result ≡ (first M.marker).read bytes.now }
+    ensures { option_map (λ x. ((x.0.now, M.said x.1), x.2.now)) result
+        ≡ (first M.marker).read bytes.now }
 {
     let mut from = 0;
     'places: while let Some(place) = find_from(bytes, M::text(), from) {

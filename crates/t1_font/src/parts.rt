@@ -59,7 +59,8 @@ fn add_rest<'a, K: Ord + Copy>(
     all: &mut Vec<(K, &'a [u8])>,
     rest: &[(K, &'a [u8])],
 ) -> Result<(), AllocError>
-    ensures { OnOk result (map with_bytes all.new.items ≡ map with_bytes all.old.items ++ map with_bytes rest.now) }
+    ensures { OnOk result (map with_bytes all.new.items
+        ≡ map with_bytes all.old.items ++ map with_bytes rest.now) }
 {
     'rest: for (key, body) in rest {
         all.push((*key, *body))?;
@@ -73,7 +74,8 @@ fn merged<'a, K: Ord + Copy>(
     first: &[(K, &'a [u8])],
     second: &[(K, &'a [u8])],
 ) -> Result<Vec<(K, &'a [u8])>, AllocError>
-    ensures { IfOk result (λ all. map with_bytes all.items ≡ merge K.cmp (map with_bytes first.now) (map with_bytes second.now)) }
+    ensures { IfOk result (λ all. map with_bytes all.items
+        ≡ merge K.cmp (map with_bytes first.now) (map with_bytes second.now)) }
 {
     let mut all = Vec::new(alloc);
     let mut i = 0;
@@ -135,7 +137,8 @@ fn join_encoding<'a>(
     second: &LentEncoding<'a>,
 ) -> Result<LentEncoding<'a>, AllocError>
     requires { SameKind (encoding_of first.now) (encoding_of second.now) }
-    ensures { IfOk result (λ e. encoding_of e ≡ join_encodings (encoding_of first.now) (encoding_of second.now)) }
+    ensures { IfOk result (λ e. encoding_of e
+        ≡ join_encodings (encoding_of first.now) (encoding_of second.now)) }
 {
     match (first, second) {
         (LentEncoding::Codes(first), LentEncoding::Codes(second)) => {
@@ -163,7 +166,8 @@ fn join_subrs<'a>(
     first: &Numbered<'a>,
     second: &Numbered<'a>,
 ) -> Result<Numbered<'a>, AllocError>
-    ensures { IfOk result (λ m. m ≡ map_values (λ i c. joined_subr c (fin.get second.now i)) first.now) }
+    ensures { IfOk result (λ m. m
+        ≡ map_values (λ i c. joined_subr c (fin.get second.now i)) first.now) }
 {
     let mut joined = Vec::with_capacity(alloc, first.entries.len())?;
     'bodies: for (index, body) in first.entries() {
@@ -207,7 +211,8 @@ pub fn join_parts<'a>(
 ) -> Result<Font<'a>, PartsFault>
     requires shells { first.now.shell ≡ second.now.shell }
     requires encodings { SameKind first.now.encoding second.now.encoding }
-    ensures { MatchResult result (λ f. f ≡ join_parts first.now second.now) (Refuses first.now second.now) }
+    ensures { MatchResult result (λ f. f
+        ≡ join_parts first.now second.now) (Refuses first.now second.now) }
 {
     first.is_font();
     second.is_font();

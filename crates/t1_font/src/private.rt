@@ -81,7 +81,8 @@ fn tail_after<'a>(middle: &[u8], rest: &'a [u8]) -> Result<&'a [u8], ReadFault>
 
 /// The text through the first `closefile`.
 fn through_close(bytes: &[u8]) -> Option<&[u8]>
-    ensures { option_map (λ x. x.now) result ≡ option_map (λ x. x.0.0 ++ x.0.1) ((first closefile).read bytes.now) }
+    ensures { option_map (λ x. x.now) result
+        ≡ option_map (λ x. x.0.0 ++ x.0.1) ((first closefile).read bytes.now) }
 {
     let (_, _, rest) = first::<Closefile>(bytes)?;
     let (through, _) = bytes.split_at(bytes.len() - rest.len());
@@ -96,7 +97,10 @@ fn glyphs_parts(
     gathered: &mut Gathered<'_>,
 ) -> Result<GlyphsParts, ReadFault>
     requires { gathered.old.glyphs ≡ fin.empty }
-    ensures shown { Shown (λ x t. ShowsGlyphs x t.0 × HoldsGlyphs len_iv gathered.new.glyphs t.0 × (gathered.new.rest ≡ t.2)) result (table BadGlyphs size (glyph len_iv) glyphs_end gathered.old.rest) }
+    ensures shown { Shown (λ x t. ShowsGlyphs x t.0
+        × HoldsGlyphs len_iv gathered.new.glyphs t.0
+        × (gathered.new.rest
+        ≡ t.2)) result (table BadGlyphs size (glyph len_iv) glyphs_end gathered.old.rest) }
     ensures others { OnOk result (GlyphsAlone gathered.old gathered.new) }
 {
     match glyphs_at(alloc, len_iv, gathered) {
@@ -117,7 +121,11 @@ fn glyphs_from(
     gathered: &mut Gathered<'_>,
 ) -> Result<PrivateParts, ReadFault>
     requires { gathered.old.glyphs ≡ fin.empty }
-    ensures shown { (s : Option SubrsPieces) → ShowsBefore before gathered.old.subrs s → Shown (λ x p. ShowsPrivate x gathered.new p) result (glyphs_from size before.private.items s before.middle.items before.len_iv gathered.old.rest) }
+    ensures shown { (s : Option SubrsPieces)
+        → ShowsBefore before gathered.old.subrs s
+        → Shown (λ x p. ShowsPrivate x gathered.new p) result
+        (glyphs_from size before.private.items s before.middle.items before.len_iv
+        gathered.old.rest) }
     ensures codes { OnOk result (gathered.new.codes ≡ gathered.old.codes) }
 {
     let glyphs = glyphs_parts(alloc, size, before.len_iv, gathered)?;
@@ -143,7 +151,8 @@ fn tables_without(
 ) -> Result<PrivateParts, ReadFault>
     requires subrs { gathered.old.subrs ≡ fin.empty }
     requires glyphs { gathered.old.glyphs ≡ fin.empty }
-    ensures shown { Shown (λ x p. ShowsPrivate x gathered.new p) result (tables_from size ((private.items, tt), gathered.old.rest) None) }
+    ensures shown { Shown (λ x p. ShowsPrivate x gathered.new p) result
+        (tables_from size ((private.items, tt), gathered.old.rest) None) }
     ensures codes { OnOk result (gathered.new.codes ≡ gathered.old.codes) }
 {
     let len_iv = iv_of(private.as_slice())?;
@@ -165,7 +174,14 @@ fn subrs_parts(
     gathered: &mut Gathered<'_>,
 ) -> Result<SubrsParts, ReadFault>
     requires { gathered.old.subrs ≡ fin.empty }
-    ensures shown { Shown (λ x t. ShowsTable x (record { declared = declared; entries = t.0; closing = t.1 }) × HoldsSubrs declared len_iv gathered.new.subrs t.0 × (gathered.new.rest ≡ t.2)) result (table BadSubrs size (subr declared len_iv) subrs_end gathered.old.rest) }
+    ensures shown { Shown
+        (λ x t. ShowsTable x
+        (record { declared = declared; entries = t.0; closing = t.1 })
+        × HoldsSubrs declared len_iv gathered.new.subrs t.0
+        × (gathered.new.rest
+        ≡ t.2)) result
+        (table BadSubrs size
+        (subr declared len_iv) subrs_end gathered.old.rest) }
     ensures others { OnOk result (SubrsAlone gathered.old gathered.new) }
 {
     match subrs_at(alloc, declared, len_iv, gathered) {
@@ -188,7 +204,8 @@ fn tables_with(
 ) -> Result<PrivateParts, ReadFault>
     requires subrs { gathered.old.subrs ≡ fin.empty }
     requires glyphs { gathered.old.glyphs ≡ fin.empty }
-    ensures shown { Shown (λ x p. ShowsPrivate x gathered.new p) result (tables_from size (([], tt), []) (Some ((private.items, declared), gathered.old.rest))) }
+    ensures shown { Shown (λ x p. ShowsPrivate x gathered.new p) result
+        (tables_from size (([], tt), []) (Some ((private.items, declared), gathered.old.rest))) }
     ensures codes { OnOk result (gathered.new.codes ≡ gathered.old.codes) }
 {
     let len_iv = iv_of(private.as_slice())?;
@@ -219,7 +236,8 @@ pub(crate) fn private_parts(
 ) -> Result<PrivateParts, ReadFault>
     requires subrs { gathered.old.subrs ≡ fin.empty }
     requires glyphs { gathered.old.glyphs ≡ fin.empty }
-    ensures shown { Shown (λ x p. ShowsPrivate x gathered.new p) result (private_pieces gathered.old.rest) }
+    ensures shown { Shown (λ x p. ShowsPrivate x gathered.new p) result
+        (private_pieces gathered.old.rest) }
     ensures codes { OnOk result (gathered.new.codes ≡ gathered.old.codes) }
 {
     let text = gathered.rest();

@@ -47,8 +47,12 @@ pub(crate) fn settle_names(
     room: usize,
 ) -> Result<usize, AllocError>
     requires { NamesInside (length buffer.now) entries.old.items }
-    ensures settled { OnOk result (gathered_glyphs buffer.now entries.new.items ≡ gathered_glyphs buffer.now entries.old.items) }
-    ensures inside { OnOk result ((n : ℕ) → NamesInside n entries.old.items → AllInside n entries.old.items → NamesInside n entries.new.items × AllInside n entries.new.items) }
+    ensures settled { OnOk result (gathered_glyphs buffer.now entries.new.items
+        ≡ gathered_glyphs buffer.now entries.old.items) }
+    ensures inside { OnOk result ((n : ℕ)
+        → NamesInside n entries.old.items
+        → AllInside n entries.old.items
+        → NamesInside n entries.new.items × AllInside n entries.new.items) }
     ensures lost { OnErr result (entries.new.items ≡ []) }
 {
     if entries.len() < room {
@@ -99,7 +103,8 @@ fn beside_names<'a>(
     glyphs: &[(Range, Range)],
 ) -> Result<Vec<(&'a [u8], (Range, Range))>, AllocError>
     requires { NamesInside (length buffer.now) glyphs.now }
-    ensures { IfOk result (λ v. entries_by (λ n. n.now) (λ e. e) v.items ≡ map (λ e. (bytes_at buffer.now e.0, e)) glyphs.now) }
+    ensures { IfOk result (λ v. entries_by (λ n. n.now) (λ e. e) v.items
+        ≡ map (λ e. (bytes_at buffer.now e.0, e)) glyphs.now) }
 {
     let mut named = Vec::with_capacity(alloc, glyphs.len())?;
     'names: for (name, body) in glyphs {
@@ -115,8 +120,12 @@ pub(crate) fn last_names(
     glyphs: Vec<(Range, Range)>,
 ) -> Result<Vec<(Range, Range)>, AllocError>
     requires { NamesInside (length buffer.now) glyphs.items }
-    ensures entries { IfOk result (λ v. map (named_at buffer.now) v.items ≡ entries (gathered_glyphs buffer.now glyphs.items)) }
-    ensures inside { IfOk result (λ v. (n : ℕ) → NamesInside n glyphs.items → AllInside n glyphs.items → NamesInside n v.items × AllInside n v.items) }
+    ensures entries { IfOk result (λ v. map (named_at buffer.now) v.items
+        ≡ entries (gathered_glyphs buffer.now glyphs.items)) }
+    ensures inside { IfOk result (λ v. (n : ℕ)
+        → NamesInside n glyphs.items
+        → AllInside n glyphs.items
+        → NamesInside n v.items × AllInside n v.items) }
 {
     let named = beside_names(alloc, buffer, glyphs.as_slice())?;
     let last = last_entries(alloc, named)?;

@@ -165,7 +165,9 @@ fn kept_subrs(alloc: Global, parts: SubrsParts) -> KeptSubrs
 /// The same, where there is such a table.
 fn kept_table(alloc: Global, parts: Option<SubrsParts>) -> Option<KeptSubrs>
     requires { declared_in parts ≤ count_limit }
-    ensures { (p : Option SubrsPieces) → ShowsSubrs parts p → option_map subrs_view result ≡ option_map subrs_shell p }
+    ensures { (p : Option SubrsPieces)
+        → ShowsSubrs parts p
+        → option_map subrs_view result ≡ option_map subrs_shell p }
 {
     match parts {
         Some(parts) => Some(kept_subrs(alloc, parts)),
@@ -180,7 +182,10 @@ pub(crate) fn kept_shell(
     inside: PrivateParts,
 ) -> Result<Shell, AllocError>
     requires { declared_in inside.subrs ≤ count_limit }
-    ensures { IfOk result (λ s. (c : ClearPieces) (p : PrivatePieces) (g : Entries) → ShowsClear outside.now g.codes c → ShowsPrivate inside g p → s ≡ shell_of c p) }
+    ensures { IfOk result (λ s. (c : ClearPieces) (p : PrivatePieces) (g : Entries)
+        → ShowsClear outside.now g.codes c
+        → ShowsPrivate inside g p
+        → s ≡ shell_of c p) }
 {
     let (glyphs_rd, glyphs_def) = kept_words(alloc, inside.glyphs.words);
     Ok(Shell {

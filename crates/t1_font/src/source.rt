@@ -209,7 +209,8 @@ pub(crate) fn keep_codes(
     codes: Vec<(u16, &[u8])>,
     buffer: &mut Vec<u8>,
 ) -> Result<Vec<(u16, Range)>, AllocError>
-    ensures entries { IfOk result (λ v. map (numbered_at buffer.new.items) v.items ≡ filter has_name (entries (gathered_codes codes.entry.items))) }
+    ensures entries { IfOk result (λ v. map (numbered_at buffer.new.items) v.items
+        ≡ filter has_name (entries (gathered_codes codes.entry.items))) }
     ensures inside { IfOk result (λ v. AllInside (length buffer.new.items) v.items) }
     ensures longer { OnOk result ((more : List ℕ) × (buffer.new.items ≡ buffer.old.items ++ more)) }
 {

@@ -40,7 +40,8 @@ fn subr_key_at(bytes: &[u8], declared: u32) -> Option<(u32, &[u8])>
 /// An entry of a table with this declared count and lenIV: its index and what stands behind it.
 #[tactic(auto, unfolding(crate::specs::Entry::entry))]
 fn subr_at(bytes: &[u8], declared: u32, len_iv: u8) -> Option<(u32, Body<'_>, &[u8])>
-    ensures value { option_map (λ x. (entry_view x.0 x.1, x.2.now)) result ≡ (subr declared len_iv).read bytes.now }
+    ensures value { option_map (λ x. (entry_view x.0 x.1, x.2.now)) result
+        ≡ (subr declared len_iv).read bytes.now }
     ensures index { IfSome result (λ x. x.0 < declared) }
     ensures length { IfSome result (λ x. len_iv ≤ length x.1.bytes.now) }
     ensures body { IfSome result (λ x. StandsIn bytes.now x.1.bytes.now x.1.behind) }
@@ -81,7 +82,10 @@ fn keep_subr(
     requires body { body.len + body.behind ≤ length gathered.old.rest }
     requires lead { len_iv ≤ body.len }
     requires left { left ≤ body.behind }
-    ensures kept { OnOk result (index ≤ count_limit → gathered.new.subrs ≡ fin.insert gathered.old.subrs index (plain_of len_iv (placed gathered.old.rest body))) }
+    ensures kept { OnOk result (index ≤ count_limit
+        → gathered.new.subrs
+        ≡ fin.insert gathered.old.subrs index
+        (plain_of len_iv (placed gathered.old.rest body))) }
     ensures rest { OnOk result (gathered.new.rest ≡ ending left gathered.old.rest) }
     ensures others { OnOk result (SubrsAlone gathered.old gathered.new) }
 {
@@ -100,7 +104,11 @@ pub(crate) fn subrs_at(
     gathered: &mut Gathered<'_>,
 ) -> Result<SubrsParts, TableError>
     requires { gathered.old.subrs ≡ fin.empty }
-    ensures shown { TableHeld (λ x es close rest. ShowsTable x (record { declared = declared; entries = es; closing = close }) × HoldsSubrs declared len_iv gathered.new.subrs es × (gathered.new.rest ≡ rest)) result (subrs_at declared len_iv gathered.old.rest) }
+    ensures shown { TableHeld
+        (λ x es close rest. ShowsTable x
+        (record { declared = declared; entries = es; closing = close })
+        × HoldsSubrs declared len_iv gathered.new.subrs es
+        × (gathered.new.rest ≡ rest)) result (subrs_at declared len_iv gathered.old.rest) }
     ensures others { OnOk result (SubrsAlone gathered.old gathered.new) }
 {
     let mut words = None;

@@ -70,7 +70,7 @@ fn untagged(bytes: &[u8]) -> &[u8]
 }
 
 /// Whether a name, with what follows it, would begin an Encoding.
-#[tactic(auto, using(crate::proofs::TagLemmas::begins_read))]
+#[tactic(auto, using(crate::proofs::even_fonts::TagLemmas::begins_read))]
 fn begins_encoding(name: &[u8]) -> bool
     ensures { result ≡ begins_encoding name.now }
 {
@@ -82,7 +82,8 @@ fn begins_encoding(name: &[u8]) -> bool
 
 /// What stands before the name in a head and, where the head loses tags, the name without them.
 fn parts_without_tags(head: &[u8]) -> Option<(&[u8], &[u8])>
-    ensures { MatchOption result (untagged_head head.now ≡ head.now) (λ x. x.0.now ++ x.1.now ≡ untagged_head head.now) }
+    ensures { MatchOption result (untagged_head head.now
+        ≡ head.now) (λ x. x.0.now ++ x.1.now ≡ untagged_head head.now) }
 {
     let (_, _, behind) = first::<NameMarker>(head)?;
     let name = untagged(behind);
@@ -95,7 +96,8 @@ fn parts_without_tags(head: &[u8]) -> Option<(&[u8], &[u8])>
 
 /// A head without the tags of its font's name, where it has any.
 pub(crate) fn untagged_head(alloc: Global, head: &[u8]) -> Result<Option<Vec<u8>>, AllocError>
-    ensures { IfOk result (λ o. MatchOption o (untagged_head head.now ≡ head.now) (λ v. v.items ≡ untagged_head head.now)) }
+    ensures { IfOk result (λ o. MatchOption o (untagged_head head.now
+        ≡ head.now) (λ v. v.items ≡ untagged_head head.now)) }
 {
     match parts_without_tags(head) {
         Some((before, name)) => {

@@ -11,7 +11,6 @@ mod growths;
 mod long;
 mod prefixes;
 mod rows;
-mod tiny;
 
 use crate::{Form, ReadFault, Source, read, write};
 use std::alloc::{AllocError, Global};

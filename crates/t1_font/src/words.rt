@@ -175,7 +175,8 @@ pub fn first_words(
     rd: &[u8],
     phrase: Phrase<'_>,
 ) -> Result<Words, AllocError>
-    ensures { IfOk result (λ w. words_view w ≡ unwrap_or (option_map words_view words) (rd.now, phrase_view phrase.entry)) }
+    ensures { IfOk result (λ w. words_view w
+        ≡ unwrap_or (option_map words_view words) (rd.now, phrase_view phrase.entry)) }
 {
     match words {
         Some(words) => Ok(words),
@@ -197,7 +198,8 @@ fn is_access(word: &[u8]) -> bool
 
 /// A word, which may be barred from being `dup`.
 fn passing_word_at(bytes: &[u8], may_be_dup: bool) -> Option<(&[u8], &[u8])>
-    ensures { option_map (λ x. (x.0.now, x.1.now)) result ≡ (that (passes may_be_dup) word).read bytes.now }
+    ensures { option_map (λ x. (x.0.now, x.1.now)) result
+        ≡ (that (passes may_be_dup) word).read bytes.now }
 {
     let (front, rest) = word_at(bytes)?;
     if may_be_dup || b"dup".as_slice() != front {
@@ -209,7 +211,8 @@ fn passing_word_at(bytes: &[u8], may_be_dup: bool) -> Option<(&[u8], &[u8])>
 /// A phrase, whose words may be barred from being `dup`.
 #[tactic(auto, unfolding(crate::specs::Words::phrase_of))]
 pub fn phrase_at(bytes: &[u8], may_be_dup: bool) -> Option<(Phrase<'_>, &[u8])>
-    ensures { option_map (λ x. (phrase_view x.0, x.1.now)) result ≡ (phrase_of (passes may_be_dup)).read bytes.now }
+    ensures { option_map (λ x. (phrase_view x.0, x.1.now)) result
+        ≡ (phrase_of (passes may_be_dup)).read bytes.now }
 {
     let (first, rest) = passing_word_at(bytes, may_be_dup)?;
     if !is_access(first) {

@@ -58,7 +58,15 @@ fn put_body(
     rd: &[u8],
     phrase: &[u8],
 ) -> Result<(), AllocError>
-    ensures { OnOk result (out.new.items ≡ out.old.items ++ (32 ∷ (decimal (len_iv + length plain.now) ++ (32 ∷ (rd.now ++ (32 ∷ (sealed_body len_iv plain.now ++ (32 ∷ phrase.now)))))))) }
+    ensures { OnOk result (out.new.items
+        ≡ out.old.items
+        ++ (32
+        ∷ (decimal (len_iv + length plain.now)
+        ++ (32
+        ∷ (rd.now
+        ++ (32
+        ∷ (sealed_body len_iv plain.now
+        ++ (32 ∷ phrase.now)))))))) }
 {
     out.push(b' ')?;
     put_number(out, len_iv as usize + plain.len())?;
@@ -79,7 +87,9 @@ fn put_subr(
     index: u16,
     plain: &[u8],
 ) -> Result<(), AllocError>
-    ensures { OnOk result (out.new.items ≡ out.old.items ++ subr_text (subr_entry len_iv (subrs_view kept.now) (index, plain.now))) }
+    ensures { OnOk result (out.new.items
+        ≡ out.old.items
+        ++ subr_text (subr_entry len_iv (subrs_view kept.now) (index, plain.now))) }
 {
     out.extend_from_slice(b"\ndup ")?;
     put_number(out, index as usize)?;
@@ -94,7 +104,10 @@ fn put_subrs(
     len_iv: u8,
     subrs: &Numbered<'_>,
 ) -> Result<(), AllocError>
-    ensures { OnOk result (out.new.items ≡ out.old.items ++ subrs_part (Some (subrs_pieces len_iv (fin.entries subrs.now) (subrs_view kept.now)))) }
+    ensures { OnOk result (out.new.items
+        ≡ out.old.items
+        ++ subrs_part
+        (Some (subrs_pieces len_iv (fin.entries subrs.now) (subrs_view kept.now)))) }
 {
     out.extend_from_slice(b"/Subrs ")?;
     put_number(out, kept.declared as usize)?;
@@ -109,7 +122,12 @@ fn put_subrs(
 
 /// Writes the table of Subrs where there is one.
 fn put_table(out: &mut Vec<u8>, shell: &Shell, subrs: &Numbered<'_>) -> Result<(), AllocError>
-    ensures { OnOk result (out.new.items ≡ out.old.items ++ subrs_part (option_map (subrs_pieces shell.now.len_iv (fin.entries subrs.now)) shell.now.subrs)) }
+    ensures { OnOk result (out.new.items
+        ≡ out.old.items
+        ++ subrs_part
+        (option_map
+        (subrs_pieces shell.now.len_iv
+        (fin.entries subrs.now)) shell.now.subrs)) }
 {
     match &shell.subrs {
         Some(kept) => {
@@ -122,7 +140,8 @@ fn put_table(out: &mut Vec<u8>, shell: &Shell, subrs: &Numbered<'_>) -> Result<(
 
 /// Writes a glyph, after the end of the line before it.
 fn put_glyph(out: &mut Vec<u8>, shell: &Shell, name: &[u8], plain: &[u8]) -> Result<(), AllocError>
-    ensures { OnOk result (out.new.items ≡ out.old.items ++ glyph_text (glyph_entry shell.now (name.now, plain.now))) }
+    ensures { OnOk result (out.new.items
+        ≡ out.old.items ++ glyph_text (glyph_entry shell.now (name.now, plain.now))) }
 {
     out.extend_from_slice(b"\n/")?;
     out.extend_from_slice(name)?;
@@ -138,7 +157,8 @@ fn put_glyph(out: &mut Vec<u8>, shell: &Shell, name: &[u8], plain: &[u8]) -> Res
 
 /// Writes the table of glyphs.
 fn put_glyphs(out: &mut Vec<u8>, shell: &Shell, glyphs: &Named<'_>) -> Result<(), AllocError>
-    ensures { OnOk result (out.new.items ≡ out.old.items ++ glyphs_part (map (glyph_entry shell.now) (fin.entries glyphs.now))) }
+    ensures { OnOk result (out.new.items
+        ≡ out.old.items ++ glyphs_part (map (glyph_entry shell.now) (fin.entries glyphs.now))) }
 {
     out.extend_from_slice(b"/CharStrings ")?;
     put_number(out, glyphs.len())?;
@@ -167,7 +187,8 @@ fn put_codes(out: &mut Vec<u8>, names: &Numbered<'_>) -> Result<(), AllocError>
 
 /// Writes the Encoding.
 fn put_encoding(out: &mut Vec<u8>, encoding: &LentEncoding<'_>) -> Result<(), AllocError>
-    ensures { OnOk result (out.new.items ≡ out.old.items ++ encoding_text (encoding_pieces (encoding_of encoding.now))) }
+    ensures { OnOk result (out.new.items
+        ≡ out.old.items ++ encoding_text (encoding_pieces (encoding_of encoding.now))) }
 {
     out.extend_from_slice(b"/Encoding ")?;
     match encoding {
@@ -220,7 +241,8 @@ fn put_private(out: &mut Vec<u8>, parts: &FontParts<'_>) -> Result<(), AllocErro
 
 /// Writes the cipher of the canonical private text, its lead bytes zero.
 fn put_cipher(out: &mut Vec<u8>, parts: &FontParts<'_>) -> Result<(), AllocError>
-    ensures { OnOk result (out.new.items ≡ out.old.items ++ private_cipher (canon_private parts.now)) }
+    ensures { OnOk result (out.new.items
+        ≡ out.old.items ++ private_cipher (canon_private parts.now)) }
 {
     let start = out.len();
     out.resize(start.saturating_add(EEXEC_LEAD as usize), 0)?;
@@ -239,10 +261,8 @@ fn room_of(parts: &FontParts<'_>) -> usize {
 
 /// The canonical clear text and the cipher behind it, and where that begins.
 fn sealed_texts(alloc: Global, parts: &FontParts<'_>) -> Result<(Vec<u8>, usize), AllocError>
-    ensures {
-        IfOk result (λ x. (take x.1 x.0.items ≡ canon_clear parts.now)
-            × (drop x.1 x.0.items ≡ private_cipher (canon_private parts.now)))
-    }
+    ensures { IfOk result (λ x. (take x.1 x.0.items ≡ canon_clear parts.now)
+        × (drop x.1 x.0.items ≡ private_cipher (canon_private parts.now))) }
 {
     let mut out = Vec::with_capacity(alloc, room_of(parts))?;
     put_clear(&mut out, parts)?;

@@ -38,7 +38,10 @@ impl<K: Key + Drop, V: Kept + Drop> Gathered<K, V> {
     /// Adds the entry, unless its key is there: then the answer is false. The map stays as it was there, and where
     /// memory is refused.
     pub(crate) fn add(&mut self, key: K, value: V) -> Result<bool, AllocError>
-        ensures ok { IfOk result (λ new. MatchBool new (IsNewEntry self.old (K.meaning key) (V.meaning value) self.new) (IsRepeated self.old (K.meaning key) self.new)) }
+        ensures ok { IfOk result
+            (λ new. MatchBool new
+            (IsNewEntry self.old (K.meaning key) (V.meaning value) self.new)
+            (IsRepeated self.old (K.meaning key) self.new)) }
         ensures err { OnErr result (self.new ≡ self.old) }
     {
         if self.map.contains_key(&key) {

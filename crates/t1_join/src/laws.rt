@@ -18,8 +18,14 @@ pub fn commutative<J: Join>()
 
 /// Three values join in one grouping where they do in the other, and to the same.
 pub fn associative<J: Join>()
-    ensures from_left { (x y z a b : J.Meaning) → J.Joins x y a → J.Joins a z b → (c : J.Meaning) × J.Joins y z c × J.Joins x c b }
-    ensures from_right { (x y z c b : J.Meaning) → J.Joins y z c → J.Joins x c b → (a : J.Meaning) × J.Joins x y a × J.Joins a z b }
+    ensures from_left { (x y z a b : J.Meaning)
+        → J.Joins x y a
+        → J.Joins a z b
+        → (c : J.Meaning) × J.Joins y z c × J.Joins x c b }
+    ensures from_right { (x y z c b : J.Meaning)
+        → J.Joins y z c
+        → J.Joins x c b
+        → (a : J.Meaning) × J.Joins x y a × J.Joins a z b }
 {}
 
 /// A value joins with itself, to itself.
@@ -35,15 +41,27 @@ pub fn one_answer<J: Join>()
 
 /// Two tables have at most one first conflict, and the same in either order.
 pub fn one_conflict()
-    ensures one { (m n : TableMeaning) (p q : Meaning) → IsFirstConflict m n p → IsFirstConflict m n q → p ≡ q }
-    ensures either_order { (m n : TableMeaning) (q : Meaning) → IsFirstConflict m n q → IsFirstConflict n m q }
+    ensures one { (m n : TableMeaning) (p q : Meaning)
+        → IsFirstConflict m n p
+        → IsFirstConflict m n q
+        → p ≡ q }
+    ensures either_order { (m n : TableMeaning) (q : Meaning)
+        → IsFirstConflict m n q
+        → IsFirstConflict n m q }
 {}
 
 /// Two listings join, or are refused, alike in either order; and where they join nothing but memory is refused.
 pub fn listings_join_alike()
-    ensures joined { (left right both : ListingMeaning) → IsJoined left right both → IsJoined right left both }
-    ensures refused { (left right : ListingMeaning) (fault : JoinFault) → IsJoinFault left right fault → IsJoinFault right left fault }
-    ensures one_of { (left right both : ListingMeaning) (fault : JoinFault) → IsJoined left right both → IsJoinFault left right fault → fault ≡ Memory }
+    ensures joined { (left right both : ListingMeaning)
+        → IsJoined left right both
+        → IsJoined right left both }
+    ensures refused { (left right : ListingMeaning) (fault : JoinFault)
+        → IsJoinFault left right fault
+        → IsJoinFault right left fault }
+    ensures one_of { (left right both : ListingMeaning) (fault : JoinFault)
+        → IsJoined left right both
+        → IsJoinFault left right fault
+        → fault ≡ Memory }
 {}
 
 /// The text that a listing is written as reads as that listing.

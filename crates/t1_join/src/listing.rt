@@ -175,7 +175,9 @@ impl<'a> Lines<'a> {
     /// Adds what a line says, unless its key is there: then the answer is false.
     fn add(&mut self, line: Line<'a>) -> Result<bool, AllocError>
         requires { IsEntry (line_entry line) }
-        ensures { IfOk result (λ new. MatchBool new (IsAdded self.old (line_entry line.entry) self.new) (IsTrue (has_entry self.old (line_entry line.entry)))) }
+        ensures { IfOk result
+            (λ new. MatchBool new (IsAdded self.old (line_entry line.entry) self.new)
+            (IsTrue (has_entry self.old (line_entry line.entry)))) }
     {
         match line {
             Line::Subr(index, bytes) => self.subrs.add(index, bytes),
@@ -217,7 +219,8 @@ fn read_at_once(alloc: Global, text: &[u8]) -> Result<Option<Listing<'_>>, Alloc
 
 /// The listing that a text spells, or its first fault: each line's key is sought among those before it.
 fn read_in_turn(alloc: Global, text: &[u8]) -> Result<Listing<'_>, ListFault>
-    ensures { MatchResult result (λ l. listing_of text.now ≡ Ok l) (λ e. (e ≡ ListFault.Memory) ⊎ (listing_of text.now ≡ Err e)) }
+    ensures { MatchResult result (λ l. listing_of text.now ≡ Ok l) (λ e. (e ≡ ListFault.Memory)
+        ⊎ (listing_of text.now ≡ Err e)) }
 {
     let mut lines = Lines::new(alloc);
     let mut rest = text;
@@ -244,7 +247,8 @@ fn read_in_turn(alloc: Global, text: &[u8]) -> Result<Listing<'_>, ListFault>
 /// Each line is `S INDEX HEX` or `G NAME HEX` and a line feed; HEX is pairs of hexadecimal digits of
 /// either case, and may be empty.
 pub fn read(alloc: Global, text: &[u8]) -> Result<Listing<'_>, ListFault>
-    ensures { MatchResult result (λ l. listing_of text.now ≡ Ok l) (λ e. (e ≡ ListFault.Memory) ⊎ (listing_of text.now ≡ Err e)) }
+    ensures { MatchResult result (λ l. listing_of text.now ≡ Ok l) (λ e. (e ≡ ListFault.Memory)
+        ⊎ (listing_of text.now ≡ Err e)) }
 {
     match read_at_once(alloc, text)? {
         Some(listing) => Ok(listing),
@@ -254,7 +258,8 @@ pub fn read(alloc: Global, text: &[u8]) -> Result<Listing<'_>, ListFault>
 
 /// The blank, the digits and the line feed that end a line.
 fn add_bytes(alloc: Global, out: &mut Vec<u8>, bytes: &Hex<'_>) -> Result<(), AllocError>
-    ensures { OnOk result (out.new.items ≡ out.old.items ++ 32 ∷ (encode_lower bytes.now ++ 10 ∷ [])) }
+    ensures { OnOk result (out.new.items
+        ≡ out.old.items ++ 32 ∷ (encode_lower bytes.now ++ 10 ∷ [])) }
 {
     let bytes = bytes.bytes(alloc)?;
     let digits = hex::encode(alloc, bytes.as_slice())?;
@@ -270,7 +275,8 @@ fn add_subr_line(
     index: u16,
     bytes: &Hex<'_>,
 ) -> Result<(), AllocError>
-    ensures { OnOk result (out.new.items ≡ out.old.items ++ subr_line (of_number index, bytes.now)) }
+    ensures { OnOk result (out.new.items
+        ≡ out.old.items ++ subr_line (of_number index, bytes.now)) }
 {
     let number = index.to_string(alloc)?;
     out.extend_from_slice(b"S ")?;
@@ -308,7 +314,8 @@ pub fn write(alloc: Global, listing: &Listing<'_>) -> Result<Vec<u8>, AllocError
 
 /// Nothing where two listings join, and else the smallest key in conflict, Subrs before glyphs.
 fn agreed(alloc: Global, left: &Listing<'_>, right: &Listing<'_>) -> Result<(), JoinFault>
-    ensures { MatchResult result (λ _. ListingsAgree left.now right.now) (IsJoinFault left.now right.now) }
+    ensures { MatchResult result (λ _. ListingsAgree left.now right.now)
+        (IsJoinFault left.now right.now) }
 {
     if let Some(index) = left.subrs.conflict(&right.subrs) {
         return Err(JoinFault::Subr { index: *index });
@@ -360,7 +367,8 @@ pub fn write_joined(
     left: &Listing<'_>,
     right: &Listing<'_>,
 ) -> Result<Vec<u8>, JoinFault>
-    ensures { MatchResult result (λ text. IsJoinedText left.now right.now text.items) (IsJoinFault left.now right.now) }
+    ensures { MatchResult result (λ text. IsJoinedText left.now right.now text.items)
+        (IsJoinFault left.now right.now) }
 {
     agreed(alloc, left, right)?;
     Ok(text_of_both(alloc, left, right)?)

@@ -72,7 +72,8 @@ impl<K: Key + Drop, V: Kept + Drop> Table<K, V> {
 
     /// Puts the value at the key. Where memory is refused the table stays as it was, and the pair is dropped.
     pub fn insert(&mut self, key: K, value: V) -> Result<(), AllocError>
-        ensures ok { OnOk result (self.new ≡ fin.insert self.old (K.meaning key) (V.meaning value)) }
+        ensures ok { OnOk result (self.new
+            ≡ fin.insert self.old (K.meaning key) (V.meaning value)) }
         ensures err { OnErr result (self.new ≡ self.old) }
     {
         match self.entries.binary_search_by(|entry| entry.0.cmp(&key)) {
@@ -84,7 +85,8 @@ impl<K: Key + Drop, V: Kept + Drop> Table<K, V> {
 
     /// The value at the key.
     pub fn get(&self, key: &K) -> Option<&V>
-        ensures { option_map V.meaning (option_copied result) ≡ fin.get self.now (K.meaning key.now) }
+        ensures { option_map V.meaning (option_copied result)
+            ≡ fin.get self.now (K.meaning key.now) }
     {
         match self.entries.binary_search_by(|entry| entry.0.cmp(key)) {
             Ok(at) => Some(&self.entries[at].1),
@@ -113,7 +115,8 @@ impl<K: Key + Drop, V: Kept + Drop> Table<K, V> {
 
     /// The smallest key whose places do not join.
     pub fn conflict(&self, other: &Table<K, V>) -> Option<&K>
-        ensures { MatchOption result (TablesAgree self.now other.now) (λ k. IsFirstConflict self.now other.now (K.meaning k.now)) }
+        ensures { MatchOption result (TablesAgree self.now other.now)
+            (λ k. IsFirstConflict self.now other.now (K.meaning k.now)) }
     {
         first_conflict(&self.entries, &other.entries)
     }
@@ -128,7 +131,9 @@ fn keys_rise<K: Key, V>(entries: &[(K, V)]) -> bool
 
 /// The first key that one pass over both tables meets with two values that differ.
 fn first_conflict<'t, K: Key, V: Kept>(first: &'t [(K, V)], second: &[(K, V)]) -> Option<&'t K>
-    ensures { option_map K.meaning (option_copied result) ≡ first_met meaning_cmp same_meaning (entry_meanings K.meaning V.meaning first.now) (entry_meanings K.meaning V.meaning second.now) }
+    ensures { option_map K.meaning (option_copied result)
+        ≡ first_met meaning_cmp same_meaning (entry_meanings K.meaning V.meaning first.now)
+        (entry_meanings K.meaning V.meaning second.now) }
 {
     let mut i = 0;
     let mut j = 0;
@@ -153,7 +158,8 @@ fn copied<K: Key + Drop, V: Kept + Drop>(
     alloc: Global,
     entry: &(K, V),
 ) -> Result<(K, V), AllocError>
-    ensures { IfOk result (λ e. pair_meaning K.meaning V.meaning e ≡ pair_meaning K.meaning V.meaning entry.now) }
+    ensures { IfOk result (λ e. pair_meaning K.meaning V.meaning e
+        ≡ pair_meaning K.meaning V.meaning entry.now) }
 {
     let key = entry.0.copy(alloc)?;
     let value = entry.1.copy(alloc)?;
@@ -166,7 +172,9 @@ fn add_copies<K: Key + Drop, V: Kept + Drop>(
     all: &mut Vec<(K, V)>,
     entries: &[(K, V)],
 ) -> Result<(), AllocError>
-    ensures { OnOk result (entry_meanings K.meaning V.meaning all.new.items ≡ entry_meanings K.meaning V.meaning all.old.items ++ entry_meanings K.meaning V.meaning entries.now) }
+    ensures { OnOk result (entry_meanings K.meaning V.meaning all.new.items
+        ≡ entry_meanings K.meaning V.meaning all.old.items
+        ++ entry_meanings K.meaning V.meaning entries.now) }
 {
     for entry in entries {
         all.push(copied(alloc, entry)?)?;
@@ -180,7 +188,9 @@ fn merged<K: Key + Drop, V: Kept + Drop>(
     first: &[(K, V)],
     second: &[(K, V)],
 ) -> Result<Vec<(K, V)>, AllocError>
-    ensures { IfOk result (λ all. entry_meanings K.meaning V.meaning all.items ≡ merge meaning_cmp (entry_meanings K.meaning V.meaning first.now) (entry_meanings K.meaning V.meaning second.now)) }
+    ensures { IfOk result (λ all. entry_meanings K.meaning V.meaning all.items
+        ≡ merge meaning_cmp (entry_meanings K.meaning V.meaning first.now)
+        (entry_meanings K.meaning V.meaning second.now)) }
 {
     let mut all = Vec::new(alloc);
     let mut i = 0;
@@ -273,9 +283,13 @@ type Taken<'a, K, V> = (&'a (K, V), &'a [(K, V)], &'a [(K, V)]);
 /// Takes the entry of the lower key, and the first's where both lists begin with the key: then the second's goes, too.
 fn lower<'a, K: Key, V: Kept>(first: &'a [(K, V)], second: &'a [(K, V)]) -> Option<Taken<'a, K, V>>
     ensures { MatchOption result
-        (merge meaning_cmp (entry_meanings K.meaning V.meaning first.now) (entry_meanings K.meaning V.meaning second.now) ≡ [])
-        (λ t. merge meaning_cmp (entry_meanings K.meaning V.meaning first.now) (entry_meanings K.meaning V.meaning second.now)
-        ≡ pair_meaning K.meaning V.meaning t.0.now ∷ merge meaning_cmp (entry_meanings K.meaning V.meaning t.1.now) (entry_meanings K.meaning V.meaning t.2.now)) }
+        (merge meaning_cmp (entry_meanings K.meaning V.meaning first.now)
+        (entry_meanings K.meaning V.meaning second.now)
+        ≡ []) (λ t. merge meaning_cmp (entry_meanings K.meaning V.meaning first.now)
+        (entry_meanings K.meaning V.meaning second.now)
+        ≡ pair_meaning K.meaning V.meaning t.0.now
+        ∷ merge meaning_cmp (entry_meanings K.meaning V.meaning t.1.now)
+        (entry_meanings K.meaning V.meaning t.2.now)) }
 {
     let Some((one, ones)) = first.split_first() else {
         let (other, others) = second.split_first()?;

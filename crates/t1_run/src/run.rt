@@ -68,8 +68,9 @@ fn take(called: &mut BTreeSet<u16>, index: Option<u16>) -> Result<(), AllocError
 
 /// Adds a mark, where marks are kept.
 fn keep(keeps: bool, kept: &mut Vec<Mark>, mark: Mark) -> Result<(), AllocError>
-    ensures { OnOk result
-        ((marks : List Mark) → AreKept keeps kept.old.items marks → AreKept keeps kept.new.items (marks ++ mark ∷ [])) }
+    ensures { OnOk result ((marks : List Mark)
+        → AreKept keeps kept.old.items marks
+        → AreKept keeps kept.new.items (marks ++ mark ∷ [])) }
 {
     if keeps {
         kept.push(mark)?;
@@ -85,9 +86,10 @@ fn keep_flex(
     before: Curve,
     after: Curve,
 ) -> Result<(), AllocError>
-    ensures { OnOk result
-        ((marks : List Mark) → AreKept keeps kept.old.items marks
-        → AreKept keeps kept.new.items (marks ++ (Mark.Flex height ∷ Mark.Curve before ∷ Mark.Curve after ∷ []))) }
+    ensures { OnOk result ((marks : List Mark)
+        → AreKept keeps kept.old.items marks
+        → AreKept keeps kept.new.items (marks
+        ++ (Mark.Flex height ∷ Mark.Curve before ∷ Mark.Curve after ∷ []))) }
 {
     if keeps {
         kept.push(Mark::Flex(height))?;
@@ -109,9 +111,13 @@ pub(crate) fn run<'s, S: Subroutines>(
 ) -> Result<(Halt, bool), AllocError>
     requires { kept.old.items ≡ [] }
     ensures runs { IfOk result
-        (λ r. Runs (run_glyph (S.subrs subrs.now) hints charstring.now) r.0 keeps kept.new.items called.old.keys called.new.keys) }
+        (λ r. Runs
+        (run_glyph
+        (S.subrs subrs.now) hints charstring.now) r.0 keeps kept.new.items called.old.keys
+        called.new.keys) }
     ensures one { IfOk result (λ r. r.1 ≡ true
-        → run_glyph (S.subrs subrs.now) Hints.Kept charstring.now ≡ run_glyph (S.subrs subrs.now) hints charstring.now) }
+        → run_glyph (S.subrs subrs.now) Hints.Kept charstring.now
+        ≡ run_glyph (S.subrs subrs.now) hints charstring.now) }
 {
     let mut machine = Machine::new();
     let mut callers: ArrayVec<Frame<'s>, LEVELS> = ArrayVec::new();
@@ -187,12 +193,14 @@ fn run_glyph<S: Subroutines>(
     charstring: &[u8],
     called: &mut BTreeSet<u16>,
 ) -> Result<(Direct, bool), AllocError>
-    ensures direct { IfOk result (λ r. value_of r.0 ≡ direct_by hints (S.subrs subrs.now) charstring.now) }
+    ensures direct { IfOk result (λ r. value_of r.0
+        ≡ direct_by hints (S.subrs subrs.now) charstring.now) }
     ensures within { IfOk result (λ r. EndsWithinLimits (value_of r.0)) }
-    ensures called { OnOk result
-        (called.new.keys ≡ with_indices called.old.keys (calls_of hints (S.subrs subrs.now) charstring.now)) }
+    ensures called { OnOk result (called.new.keys
+        ≡ with_indices called.old.keys (calls_of hints (S.subrs subrs.now) charstring.now)) }
     ensures one { IfOk result (λ r. r.1 ≡ true
-        → run_glyph (S.subrs subrs.now) Hints.Kept charstring.now ≡ run_glyph (S.subrs subrs.now) hints charstring.now) }
+        → run_glyph (S.subrs subrs.now) Hints.Kept charstring.now
+        ≡ run_glyph (S.subrs subrs.now) hints charstring.now) }
 {
     let mut marks = Vec::new(alloc);
     let (halt, is_one) = run(subrs, hints, charstring, true, &mut marks, called)?;
@@ -206,7 +214,8 @@ pub(crate) fn direct_by<S: Subroutines>(
     hints: Hints,
     charstring: &[u8],
 ) -> Result<Direct, AllocError>
-    ensures answer { IfOk result (λ d. value_of d ≡ direct_by hints (S.subrs subrs.now) charstring.now) }
+    ensures answer { IfOk result (λ d. value_of d
+        ≡ direct_by hints (S.subrs subrs.now) charstring.now) }
     ensures within { IfOk result (λ d. EndsWithinLimits (value_of d)) }
 {
     let mut called = BTreeSet::new(alloc);
@@ -260,10 +269,13 @@ pub fn both_answers<S: Subroutines>(
     subrs: &S,
     charstring: &[u8],
 ) -> Result<BothAnswers, AllocError>
-    ensures direct { IfOk result (λ b. value_of b.direct ≡ direct (S.subrs subrs.now) charstring.now) }
+    ensures direct { IfOk result (λ b. value_of b.direct
+        ≡ direct (S.subrs subrs.now) charstring.now) }
     ensures direct3 { IfOk result (λ b. kept_value b ≡ direct3 (S.subrs subrs.now) charstring.now) }
-    ensures within { IfOk result (λ b. EndsWithinLimits (value_of b.direct) × EndsWithinLimits (kept_value b)) }
-    ensures executed { IfOk result (λ b. b.executed.keys ≡ exec (S.subrs subrs.now) charstring.now) }
+    ensures within { IfOk result (λ b. EndsWithinLimits (value_of b.direct)
+        × EndsWithinLimits (kept_value b)) }
+    ensures executed { IfOk result (λ b. b.executed.keys
+        ≡ exec (S.subrs subrs.now) charstring.now) }
 {
     let mut executed = BTreeSet::new(alloc);
     let (direct, is_one) = run_glyph(alloc, subrs, Hints::Replaced, charstring, &mut executed)?;

@@ -21,11 +21,13 @@ fn halt_of<S: Subroutines>(
     charstring: &[u8],
     called: &mut BTreeSet<u16>,
 ) -> Result<(Halt, bool), AllocError>
-    ensures parts { IfOk result (λ r. parts_of (ending_of r.0 []) ≡ parts_by hints (S.subrs subrs.now) charstring.now) }
-    ensures called { OnOk result
-        (called.new.keys ≡ with_indices called.old.keys (calls_of hints (S.subrs subrs.now) charstring.now)) }
+    ensures parts { IfOk result (λ r. parts_of (ending_of r.0 [])
+        ≡ parts_by hints (S.subrs subrs.now) charstring.now) }
+    ensures called { OnOk result (called.new.keys
+        ≡ with_indices called.old.keys (calls_of hints (S.subrs subrs.now) charstring.now)) }
     ensures one { IfOk result (λ r. r.1 ≡ true
-        → run_glyph (S.subrs subrs.now) Hints.Kept charstring.now ≡ run_glyph (S.subrs subrs.now) hints charstring.now) }
+        → run_glyph (S.subrs subrs.now) Hints.Kept charstring.now
+        ≡ run_glyph (S.subrs subrs.now) hints charstring.now) }
 {
     let mut none = Vec::new(alloc);
     run(subrs, hints, charstring, false, &mut none, called)
@@ -38,9 +40,10 @@ fn both_halts<S: Subroutines>(
     subrs: &S,
     charstring: &[u8],
 ) -> Result<(Halt, Halt, BTreeSet<u16>), AllocError>
-    ensures replaced { IfOk result
-        (λ r. parts_of (ending_of r.0 []) ≡ parts_by Hints.Replaced (S.subrs subrs.now) charstring.now) }
-    ensures kept { IfOk result (λ r. parts_of (ending_of r.1 []) ≡ parts_by Hints.Kept (S.subrs subrs.now) charstring.now) }
+    ensures replaced { IfOk result (λ r. parts_of (ending_of r.0 [])
+        ≡ parts_by Hints.Replaced (S.subrs subrs.now) charstring.now) }
+    ensures kept { IfOk result (λ r. parts_of (ending_of r.1 [])
+        ≡ parts_by Hints.Kept (S.subrs subrs.now) charstring.now) }
     ensures executed { IfOk result (λ r. r.2.keys ≡ exec (S.subrs subrs.now) charstring.now) }
 {
     let mut executed = BTreeSet::new(alloc);
@@ -60,7 +63,8 @@ pub fn parts_and_executed<S: Subroutines>(
     subrs: &S,
     charstring: &[u8],
 ) -> Result<(Vec<&'static str>, BTreeSet<u16>), AllocError>
-    ensures names { IfOk result (λ r. map (λ s. s.now) r.0.items ≡ parts (S.subrs subrs.now) charstring.now) }
+    ensures names { IfOk result (λ r. map (λ s. s.now) r.0.items
+        ≡ parts (S.subrs subrs.now) charstring.now) }
     ensures indices { IfOk result (λ r. r.1.keys ≡ exec (S.subrs subrs.now) charstring.now) }
 {
     let (replaced, kept, executed) = both_halts(alloc, subrs, charstring)?;

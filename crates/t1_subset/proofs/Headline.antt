@@ -8,7 +8,7 @@ use Rattle.t1_font.specs.Canon.{canon}
 use Rattle.t1_font.specs.IsFont.{IsFont}
 use Rattle.t1_font.specs.ReadFont.{read_font}
 use Rattle.t1_font.specs.WriteLaws.{Fits}
-use Rattle.t1_font.proofs.RoundTrip.{round_trip}
+use Rattle.t1_font.proofs.canonical.RoundTrip.{round_trip}
 use Rattle.t1_subset.specs.Interpreter.{Names}
 use Rattle.t1_subset.specs.Keep.{subset}
 use Rattle.t1_subset.specs.Profile.{profile}

@@ -16,39 +16,10 @@ pub mod Pictures
 pub mod Alike
 pub mod Again
 pub mod Fonts
-mod NameSets
-mod ProfileRuns
-mod ClosureLists
-mod KeptCalls
-mod LentNames
-mod ClosureSteps
-mod NumberSets
-mod ExecutedCalls
-mod Absent
-mod SubsetCuts
-mod FirstNames
-mod FirstConflicts
-mod SetUnions
-mod CopiedNames
-mod TableWeights
-mod Numbered
-mod SoughtNames
-mod ByNumber
-pub mod FontStates
-mod TableStates
-mod FontCallers
-mod NameClashes
-mod StateClashes
-mod Walks
-mod MergedFonts
+mod closing
+pub mod state_tables
 pub mod ManyMerges
 mod ListMergers
-mod StateTrees
 pub mod Headline
-pub mod Evened
-pub mod CutCounts
-pub mod Truncated
-pub mod Rejoined
-pub mod MergingFonts
-pub mod KeptRows
-mod StateRows
+pub mod rejoining
+pub mod rows

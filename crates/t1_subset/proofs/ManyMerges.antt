@@ -21,7 +21,7 @@ use Rattle.t1_subset.specs.Merger.{DrawsBoth, StopsAt, ComesTo, IsRefused, Merge
 use Rattle.t1_subset.proofs.Alike.{left_alike, right_alike}
 use Rattle.t1_subset.proofs.Conflicts.{no_conflict}
 use Rattle.t1_subset.proofs.Fonts.{font_within, two_subsets, many_subsets}
-use Rattle.t1_subset.proofs.ClosureLists.{from_here}
+use Rattle.t1_subset.proofs.closing.ClosureLists.{from_here}
 use Rattle.t1_subset.proofs.Orders.{join_self, one_result}
 use Rattle.t1_subset.proofs.Sets.{in_union, clash, name_same}
 

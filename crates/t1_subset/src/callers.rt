@@ -49,7 +49,11 @@ impl<'a> Users<'a> {
     /// Notes a glyph that executes the index, unless there is a smaller one; glyphs come upwards by name.
     fn note(&mut self, index: u16, glyph: &'a [u8])
         ensures length { length self.new ≡ length self.old }
-        ensures users { (q : ℕ) → q < length self.old → user_at self.new q ≡ joined (user_at self.old q) (cond (same_number q index) (Some glyph.now) None) }
+        ensures users { (q : ℕ)
+            → q < length self.old
+            → user_at self.new q
+            ≡ joined (user_at self.old q)
+            (cond (same_number q index) (Some glyph.now) None) }
     {
         let index = index as usize;
         if index < self.glyphs.len() && self.glyphs[index].is_none() {
@@ -60,7 +64,11 @@ impl<'a> Users<'a> {
     /// Notes a glyph that executes these indices.
     pub(crate) fn note_all(&mut self, calls: &BTreeSet<u16>, glyph: &'a [u8])
         ensures length { length self.new ≡ length self.old }
-        ensures users { (q : ℕ) → q < length self.old → user_at self.new q ≡ joined (user_at self.old q) (cond (sets.contains (number_set calls.now) q) (Some glyph.now) None) }
+        ensures users { (q : ℕ)
+            → q < length self.old
+            → user_at self.new q
+            ≡ joined (user_at self.old q)
+            (cond (sets.contains (number_set calls.now) q) (Some glyph.now) None) }
     {
         'calls: for index in calls {
             self.note(*index, glyph);
@@ -90,7 +98,11 @@ fn note_seeker<'a>(
     component: &'a [u8],
     glyph: &'a [u8],
 ) -> Result<(), AllocError>
-    ensures { (q : List ℕ) → OnOk result (maps.get seekers.new q ≡ joined (maps.get seekers.old q) (cond (not (has font.now q) && same_bytes q component.now) (Some glyph.now) None)) }
+    ensures { (q : List ℕ)
+        → OnOk result (maps.get seekers.new q
+        ≡ joined (maps.get seekers.old q)
+        (cond (not (has font.now q) && same_bytes q component.now)
+        (Some glyph.now) None)) }
 {
     if has_glyph(font, component) {
         return Ok(());
@@ -108,7 +120,11 @@ pub(crate) fn note_seekers<'a>(
     components: &[&'static str],
     glyph: &'a [u8],
 ) -> Result<(), AllocError>
-    ensures { (q : List ℕ) → OnOk result (maps.get seekers.new q ≡ joined (maps.get seekers.old q) (cond (not (has font.now q) && list_any (same_bytes q) (map (λ s. s.now) components.now)) (Some glyph.now) None)) }
+    ensures { (q : List ℕ)
+        → OnOk result (maps.get seekers.new q
+        ≡ joined (maps.get seekers.old q)
+        (cond (not (has font.now q) && list_any (same_bytes q)
+        (map (λ s. s.now) components.now)) (Some glyph.now) None)) }
 {
     'components: for component in components {
         note_seeker(font, seekers, component.as_bytes(), glyph)?;
@@ -125,7 +141,9 @@ pub(crate) struct Callers<'a> {
 
 /// The smaller of two names, where they are there.
 fn smaller<'a>(first: Option<&'a [u8]>, second: Option<&'a [u8]>) -> Option<&'a [u8]>
-    ensures { option_map (λ n. n.now) result ≡ smaller name_cmp (option_map (λ n. n.now) first.entry) (option_map (λ n. n.now) second.entry) }
+    ensures { option_map (λ n. n.now) result
+        ≡ smaller name_cmp (option_map (λ n. n.now) first.entry)
+        (option_map (λ n. n.now) second.entry) }
 {
     match (first, second) {
         (Some(first), Some(second)) => {

@@ -17,8 +17,10 @@ pub(crate) fn run_of(
     font: &Font<'_>,
     name: &[u8],
 ) -> Result<(Vec<&'static str>, BTreeSet<u16>), AllocError>
-    ensures components { IfOk result (λ r. map (λ s. s.now) r.0.items ≡ components profile font.now.subrs (charstring font.now name.now)) }
-    ensures calls { IfOk result (λ r. number_set r.1 ≡ profile.exec font.now.subrs (charstring font.now name.now)) }
+    ensures components { IfOk result (λ r. map (λ s. s.now) r.0.items
+        ≡ components profile font.now.subrs (charstring font.now name.now)) }
+    ensures calls { IfOk result (λ r. number_set r.1
+        ≡ profile.exec font.now.subrs (charstring font.now name.now)) }
 {
     font.is_font();
     match font.glyph(name) {
@@ -32,7 +34,8 @@ pub(crate) fn run_of(
 
 /// Adds the indices of another set.
 pub(crate) fn add_all(calls: &mut BTreeSet<u16>, more: &BTreeSet<u16>) -> Result<(), AllocError>
-    ensures { OnOk result (number_set calls.new ≡ sets.union (number_set calls.old) (number_set more.now)) }
+    ensures { OnOk result (number_set calls.new
+        ≡ sets.union (number_set calls.old) (number_set more.now)) }
 {
     'more: for index in more {
         calls.insert(*index)?;

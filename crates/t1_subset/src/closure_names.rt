@@ -90,7 +90,8 @@ pub(crate) fn add_components(
     closure: &mut ClosureNames<'_>,
     components: &[&'static str],
 ) -> Result<(), AllocError>
-    ensures { OnOk result (closure.new ≡ push_all closure.old (filter (has font.now) (map (λ s. s.now) components.now))) }
+    ensures { OnOk result (closure.new
+        ≡ push_all closure.old (filter (has font.now) (map (λ s. s.now) components.now))) }
 {
     'components: for component in components {
         if has_glyph(font, component.as_bytes()) {

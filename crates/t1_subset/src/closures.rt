@@ -21,7 +21,8 @@ use t1_font::Font;
 
 /// The first of these names that the font lacks.
 fn first_absent<'a>(font: &Font<'_>, names: &'a [&'a [u8]]) -> Option<&'a [u8]>
-    ensures { option_map (λ n. n.now) result ≡ first_where (λ n. not (has font.now n)) (lent names.now) }
+    ensures { option_map (λ n. n.now) result
+        ≡ first_where (λ n. not (has font.now n)) (lent names.now) }
 {
     'names: for name in names {
         if !has_glyph(font, name) {
@@ -46,9 +47,11 @@ fn upwards(alloc: Global, names: &[&[u8]]) -> Result<Vec<Vec<u8>>, AllocError>
 /// What these names of the font need of it.
 fn closure_of(alloc: Global, font: &Font<'_>, names: &[&[u8]]) -> Result<Closure, AllocError>
     requires { IsOf font.now (asked names.now) }
-    ensures names { IfOk result (λ c. set_by c.names.items ≡ keep profile font.now (asked names.now)) }
+    ensures names { IfOk result (λ c. set_by c.names.items
+        ≡ keep profile font.now (asked names.now)) }
     ensures upwards { IfOk result (λ c. IsStrictlySortedBy name_cmp (names_of c.names.items)) }
-    ensures subrs { IfOk result (λ c. number_set c.subrs ≡ kept profile font.now (asked names.now)) }
+    ensures subrs { IfOk result (λ c. number_set c.subrs
+        ≡ kept profile font.now (asked names.now)) }
 {
     let (closure, subrs) = needed(alloc, font, names)?;
     let names = upwards(alloc, closure.as_slice())?;
@@ -63,11 +66,16 @@ fn closure_of(alloc: Global, font: &Font<'_>, names: &[&[u8]]) -> Result<Closure
 /// It fails with [`SubsetFault::NoSuchGlyph`] where the font lacks a name that is asked for, the first
 /// such, and else for want of memory alone.
 pub fn closure(alloc: Global, font: &Font<'_>, names: &[&[u8]]) -> Result<Closure, SubsetFault>
-    ensures names { IfOk result (λ c. set_by c.names.items ≡ keep profile font.now (asked names.now)) }
+    ensures names { IfOk result (λ c. set_by c.names.items
+        ≡ keep profile font.now (asked names.now)) }
     ensures upwards { IfOk result (λ c. IsStrictlySortedBy name_cmp (names_of c.names.items)) }
-    ensures subrs { IfOk result (λ c. number_set c.subrs ≡ kept profile font.now (asked names.now)) }
-    ensures present { OnOk result (first_where (λ n. not (has font.now n)) (lent names.now) ≡ None) }
-    ensures absent { IfErr result (λ e. Absent e (first_where (λ n. not (has font.now n)) (lent names.now))) }
+    ensures subrs { IfOk result (λ c. number_set c.subrs
+        ≡ kept profile font.now (asked names.now)) }
+    ensures present { OnOk result (first_where (λ n. not (has font.now n)) (lent names.now)
+        ≡ None) }
+    ensures absent { IfErr result
+        (λ e. Absent e
+        (first_where (λ n. not (has font.now n)) (lent names.now))) }
 {
     if let Some(name) = first_absent(font, names) {
         return match Vec::from_slice(alloc, name) {

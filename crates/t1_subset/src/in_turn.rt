@@ -24,7 +24,8 @@ fn joined<'t, 'a>(
     right: &States<'t, 'a>,
 ) -> Result<States<'t, 'a>, Conflict>
     ensures ok { IfOk result (λ both. StatesJoin left.now right.now both) }
-    ensures err { IfErr result (λ e. (e ≡ Conflict.Memory) ⊎ ((e ≡ Conflict.Limit) × ¬ StatesAgree left.now right.now)) }
+    ensures err { IfErr result (λ e. (e ≡ Conflict.Memory)
+        ⊎ ((e ≡ Conflict.Limit) × ¬ StatesAgree left.now right.now)) }
 {
     if !left.agrees(right) {
         return Err(Conflict::Limit);
@@ -42,8 +43,14 @@ fn next_joined<'t, 'a>(
     right: &States<'t, 'a>,
     callers: &[Callers<'_>],
 ) -> Result<States<'t, 'a>, Conflict>
-    ensures ok { (f g : FontValue) → AreStatesOf left.now right.now f g → IfOk result (λ both. Join profile f g × (both ≡ states_of profile (joined_font profile f g))) }
-    ensures err { (f g : FontValue) → AreStatesOf left.now right.now f g → AreCallers callers.now f g → IfErr result (λ e. Tells e (conflict profile f g)) }
+    ensures ok { (f g : FontValue)
+        → AreStatesOf left.now right.now f g
+        → IfOk result (λ both. Join profile f g
+        × (both ≡ states_of profile (joined_font profile f g))) }
+    ensures err { (f g : FontValue)
+        → AreStatesOf left.now right.now f g
+        → AreCallers callers.now f g
+        → IfErr result (λ e. Tells e (conflict profile f g)) }
 {
     if let Err(conflict) = states_conflict(alloc, left, right, callers) {
         return Err(conflict);
@@ -72,8 +79,12 @@ fn joined_in_turn(
 ) -> Result<(), Conflict>
     requires some { 0 < length states.now }
     requires callers { length callers.now ≡ length states.now }
-    ensures ok { (fs : List FontValue) → AreNoted fs states.now callers.now → IfOk result (λ _. EachGroupingMerges fs) }
-    ensures err { (fs : List FontValue) → AreNoted fs states.now callers.now → IfErr result (λ e. IsRefused fs e) }
+    ensures ok { (fs : List FontValue)
+        → AreNoted fs states.now callers.now
+        → IfOk result (λ _. EachGroupingMerges fs) }
+    ensures err { (fs : List FontValue)
+        → AreNoted fs states.now callers.now
+        → IfErr result (λ e. IsRefused fs e) }
 {
     let mut all = None;
     'rest: for place in 1..states.len() {
@@ -94,8 +105,12 @@ pub(crate) fn all_join(
 ) -> Result<(), Conflict>
     requires some { 0 < length states.now }
     requires callers { length callers.now ≡ length states.now }
-    ensures ok { (fs : List FontValue) → AreNoted fs states.now callers.now → IfOk result (λ _. EachGroupingMerges fs) }
-    ensures err { (fs : List FontValue) → AreNoted fs states.now callers.now → IfErr result (λ e. IsRefused fs e) }
+    ensures ok { (fs : List FontValue)
+        → AreNoted fs states.now callers.now
+        → IfOk result (λ _. EachGroupingMerges fs) }
+    ensures err { (fs : List FontValue)
+        → AreNoted fs states.now callers.now
+        → IfErr result (λ e. IsRefused fs e) }
 {
     match join_all(alloc, states) {
         Err(_) => Err(Conflict::Memory),

@@ -25,7 +25,8 @@ pub(crate) fn both<'a>(
     right: &Font<'a>,
 ) -> Result<Font<'a>, Conflict>
     requires { states_conflict profile left.now right.now ≡ None }
-    ensures ok { IfOk result (λ j. Join profile left.now right.now × (j ≡ joined_font profile left.now right.now)) }
+    ensures ok { IfOk result (λ j. Join profile left.now right.now
+        × (j ≡ joined_font profile left.now right.now)) }
     ensures err { IfErr result (λ e. Tells e (conflict profile left.now right.now)) }
 {
     match join_parts(alloc, left, right) {
@@ -50,7 +51,8 @@ fn one_shell(left: &Font<'_>, right: &Font<'_>) -> Result<(), Conflict>
 
 /// The join of two fonts, or their lowest conflict. Where their shells differ, no glyph is run.
 fn merged<'a>(alloc: Global, left: &Font<'a>, right: &Font<'a>) -> Result<Font<'a>, Conflict>
-    ensures ok { IfOk result (λ j. Join profile left.now right.now × (j ≡ joined_font profile left.now right.now)) }
+    ensures ok { IfOk result (λ j. Join profile left.now right.now
+        × (j ≡ joined_font profile left.now right.now)) }
     ensures err { IfErr result (λ e. Tells e (conflict profile left.now right.now)) }
 {
     if let Err(conflict) = one_shell(left, right) {
@@ -99,7 +101,8 @@ fn all_merged<'a>(
 ///
 /// Two subsets of one font always join, and their join is the subset of both sets of names.
 pub fn merge<'a>(alloc: Global, left: &Font<'a>, right: &Font<'a>) -> Result<Font<'a>, Conflict>
-    ensures ok { IfOk result (λ j. Join profile left.now right.now × (j ≡ joined_font profile left.now right.now)) }
+    ensures ok { IfOk result (λ j. Join profile left.now right.now
+        × (j ≡ joined_font profile left.now right.now)) }
     ensures err { IfErr result (λ e. Tells e (conflict profile left.now right.now)) }
     ensures other_order { IsMerger right.now left.now result }
     ensures itself { MergesItself left.now right.now result }

@@ -49,7 +49,8 @@ impl NameSet {
     /// The names, upwards by their bytes.
     pub(crate) fn into_names(self, alloc: Global) -> Result<Vec<Vec<u8>>, AllocError>
         ensures members { IfOk result (λ names. set_by names.items ≡ self) }
-        ensures upwards { IfOk result (λ names. IsStrictlySortedBy name_cmp (names_of names.items)) }
+        ensures upwards { IfOk result
+            (λ names. IsStrictlySortedBy name_cmp (names_of names.items)) }
     {
         let mut names = Vec::new(alloc);
         'names: for name in self.names {

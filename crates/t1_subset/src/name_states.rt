@@ -43,7 +43,9 @@ pub(crate) fn add_sought<'a>(
     names: &mut NameTable<'a>,
     seekers: &Seekers<'a>,
 ) -> Result<(), AllocError>
-    ensures { (q : Meaning) → OnOk result (maps.get names.new q ≡ cond (maps.contains_key seekers.now q) (Some []) (maps.get names.old q)) }
+    ensures { (q : Meaning)
+        → OnOk result (maps.get names.new q
+        ≡ cond (maps.contains_key seekers.now q) (Some []) (maps.get names.old q)) }
 {
     'seekers: for (component, _) in seekers.entries() {
         names.insert(*component, NameState::Sought)?;

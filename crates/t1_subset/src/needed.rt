@@ -33,7 +33,8 @@ pub(crate) fn needed<'a>(
     names: &[&'a [u8]],
 ) -> Result<(ClosureNames<'a>, BTreeSet<u16>), AllocError>
     requires { IsOf font.now (asked names.now) }
-    ensures names { IfOk result (λ r. sets.from_list r.0 ≡ keep profile font.now (asked names.now)) }
+    ensures names { IfOk result (λ r. sets.from_list r.0
+        ≡ keep profile font.now (asked names.now)) }
     ensures subrs { IfOk result (λ r. number_set r.1 ≡ kept profile font.now (asked names.now)) }
 {
     font.is_font();

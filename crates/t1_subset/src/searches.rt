@@ -21,7 +21,8 @@ use t1_join::Table;
 
 /// The charstring of a name, where its state is one.
 fn charstring<'a>(state: Option<&NameState<'a>>) -> Option<&'a [u8]>
-    ensures { option_map (λ c. c.now) result ≡ charstring_in (option_map (λ s. state_meaning s.now) state.entry) }
+    ensures { option_map (λ c. c.now) result
+        ≡ charstring_in (option_map (λ s. state_meaning s.now) state.entry) }
 {
     match state {
         Some(NameState::Charstring(charstring)) => Some(*charstring),
@@ -41,14 +42,18 @@ fn is_sought(state: Option<&NameState<'_>>) -> bool
 
 /// Whether the states of a name are charstrings that differ.
 fn charstrings_differ(own: Option<&NameState<'_>>, other: Option<&NameState<'_>>) -> bool
-    ensures { result ≡ charstrings_differ (option_map (λ s. state_meaning s.now) own.entry) (option_map (λ s. state_meaning s.now) other.entry) }
+    ensures { result
+        ≡ charstrings_differ (option_map (λ s. state_meaning s.now) own.entry)
+        (option_map (λ s. state_meaning s.now) other.entry) }
 {
     differ(charstring(own), charstring(other))
 }
 
 /// Whether one font seeks a name of which the other has a glyph.
 fn one_lacks(own: Option<&NameState<'_>>, other: Option<&NameState<'_>>) -> bool
-    ensures { result ≡ one_lacks (option_map (λ s. state_meaning s.now) own.entry) (option_map (λ s. state_meaning s.now) other.entry) }
+    ensures { result
+        ≡ one_lacks (option_map (λ s. state_meaning s.now) own.entry)
+        (option_map (λ s. state_meaning s.now) other.entry) }
 {
     is_sought(own) && charstring(other).is_some() || is_sought(other) && charstring(own).is_some()
 }
@@ -65,7 +70,11 @@ fn byte_of(code: u16) -> Option<u8>
 
 /// The smallest code that both have, with different names.
 fn code_conflict(own: &Table<u16, &[u8]>, other: &Table<u16, &[u8]>) -> Option<u8>
-    ensures { (f g : FontValue) → IsFont f → own.now ≡ code_states f.encoding → other.now ≡ code_states g.encoding → result ≡ code_conflict f g }
+    ensures { (f g : FontValue)
+        → IsFont f
+        → own.now ≡ code_states f.encoding
+        → other.now ≡ code_states g.encoding
+        → result ≡ code_conflict f g }
 {
     match own.conflict(other) {
         Some(code) => byte_of(*code),
@@ -99,7 +108,11 @@ fn part_conflict<'a>(own: &NameTable<'a>, other: &NameTable<'a>) -> Option<&'a [
 
 /// The smallest index at which the states differ.
 fn subr_conflict(own: &Table<u16, &[u8]>, other: &Table<u16, &[u8]>) -> Option<u16>
-    ensures { (f g : FontValue) → IsFont f → own.now ≡ numbered (used_subrs profile f) → other.now ≡ numbered (used_subrs profile g) → result ≡ subr_conflict profile f g }
+    ensures { (f g : FontValue)
+        → IsFont f
+        → own.now ≡ numbered (used_subrs profile f)
+        → other.now ≡ numbered (used_subrs profile g)
+        → result ≡ subr_conflict profile f g }
 {
     match own.conflict(other) {
         Some(index) => Some(*index),
@@ -119,7 +132,8 @@ fn glyph_differs(alloc: Global, name: &[u8]) -> Conflict
 
 /// Tells a part that is lacking and the glyph that names it, or want of memory.
 fn lacks_part(alloc: Global, glyph: Option<&[u8]>, part: &[u8]) -> Conflict
-    ensures { Tells result (Some (LacksComponent (unwrap_or (option_map (λ n. n.now) glyph.entry) []) part.now)) }
+    ensures { Tells result
+        (Some (LacksComponent (unwrap_or (option_map (λ n. n.now) glyph.entry) []) part.now)) }
 {
     let Ok(glyph) = Vec::from_slice(alloc, glyph.unwrap_or(&[])) else {
         return Conflict::Memory;
@@ -152,8 +166,12 @@ fn entries_conflict(
     left: &States<'_, '_>,
     right: &States<'_, '_>,
 ) -> Result<(), Conflict>
-    ensures ok { (f g : FontValue) → AreStatesOf left.now right.now f g → IfOk result (λ _. entries_conflict f g ≡ None) }
-    ensures err { (f g : FontValue) → AreStatesOf left.now right.now f g → IfErr result (λ e. Tells e (entries_conflict f g)) }
+    ensures ok { (f g : FontValue)
+        → AreStatesOf left.now right.now f g
+        → IfOk result (λ _. entries_conflict f g ≡ None) }
+    ensures err { (f g : FontValue)
+        → AreStatesOf left.now right.now f g
+        → IfErr result (λ e. Tells e (entries_conflict f g)) }
 {
     if let Some(part) = shell_conflict(left.shell, right.shell) {
         return Err(Conflict::Shell { part });
@@ -174,8 +192,13 @@ fn uses_conflict(
     right: &States<'_, '_>,
     callers: &[Callers<'_>],
 ) -> Result<(), Conflict>
-    ensures ok { (f g : FontValue) → AreStatesOf left.now right.now f g → IfOk result (λ _. uses_conflict f g ≡ None) }
-    ensures err { (f g : FontValue) → AreStatesOf left.now right.now f g → AreCallers callers.now f g → IfErr result (λ e. Tells e (uses_conflict f g)) }
+    ensures ok { (f g : FontValue)
+        → AreStatesOf left.now right.now f g
+        → IfOk result (λ _. uses_conflict f g ≡ None) }
+    ensures err { (f g : FontValue)
+        → AreStatesOf left.now right.now f g
+        → AreCallers callers.now f g
+        → IfErr result (λ e. Tells e (uses_conflict f g)) }
 {
     if let Some(part) = part_conflict(&left.names, &right.names) {
         return Err(lacks_part(alloc, seeker(callers, part), part));
@@ -193,8 +216,13 @@ pub(crate) fn states_conflict(
     right: &States<'_, '_>,
     callers: &[Callers<'_>],
 ) -> Result<(), Conflict>
-    ensures ok { (f g : FontValue) → AreStatesOf left.now right.now f g → IfOk result (λ _. states_conflict profile f g ≡ None) }
-    ensures err { (f g : FontValue) → AreStatesOf left.now right.now f g → AreCallers callers.now f g → IfErr result (λ e. Tells e (states_conflict profile f g)) }
+    ensures ok { (f g : FontValue)
+        → AreStatesOf left.now right.now f g
+        → IfOk result (λ _. states_conflict profile f g ≡ None) }
+    ensures err { (f g : FontValue)
+        → AreStatesOf left.now right.now f g
+        → AreCallers callers.now f g
+        → IfErr result (λ e. Tells e (states_conflict profile f g)) }
 {
     if let Err(conflict) = entries_conflict(alloc, left, right) {
         return Err(conflict);

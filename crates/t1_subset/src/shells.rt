@@ -33,7 +33,10 @@ pub(crate) fn same_bytes(left: &[u8], right: &[u8]) -> bool
 
 /// Whether two byte strings are there and differ.
 pub(crate) fn differ(left: Option<&[u8]>, right: Option<&[u8]>) -> bool
-    ensures { result ≡ not (agrees (option_map (λ b. b.now) left.entry) (option_map (λ b. b.now) right.entry)) }
+    ensures { result
+        ≡ not
+        (agrees (option_map (λ b. b.now) left.entry)
+        (option_map (λ b. b.now) right.entry)) }
 {
     match (left, right) {
         (Some(left), Some(right)) => !same_bytes(left, right),
@@ -105,7 +108,9 @@ fn same_part(left: &Font<'_>, right: &Font<'_>, part: ShellPart) -> bool
 
 /// The first of these parts that differs.
 fn first_differing(left: &Font<'_>, right: &Font<'_>, parts: &[ShellPart]) -> Option<ShellPart>
-    ensures { option_map shell_part result ≡ first_where (λ part. not (same_part left.now right.now part)) (map shell_part parts.now) }
+    ensures { option_map shell_part result
+        ≡ first_where (λ part. not (same_part left.now right.now part))
+        (map shell_part parts.now) }
 {
     'parts: for part in parts {
         if !same_part(left, right, *part) {

@@ -59,7 +59,9 @@ fn unless_there(is_there: bool, adds: u64) -> u64
 
 /// `before` and what the Subrs of the other table that the first lacks weigh beyond a `return`, as far as 64 bits hold it.
 fn with_subrs(before: u64, own: &Table<u16, &[u8]>, other: &Table<u16, &[u8]>) -> u64
-    ensures { result ≡ clamp (before + total subr_adds (new_entries own.now (maps.entries other.now))) }
+    ensures { result
+        ≡ clamp (before
+        + total subr_adds (new_entries own.now (maps.entries other.now))) }
 {
     let mut weight = before;
     'entries: for (index, body) in other.entries() {
@@ -70,7 +72,9 @@ fn with_subrs(before: u64, own: &Table<u16, &[u8]>, other: &Table<u16, &[u8]>) -
 
 /// `before` and what the names of the other table that the first lacks add to the weight, as far as 64 bits hold it.
 fn with_names<'a>(before: u64, len_iv: u8, own: &NameTable<'a>, other: &NameTable<'a>) -> u64
-    ensures { result ≡ clamp (before + total (name_adds len_iv) (new_entries own.now (maps.entries other.now))) }
+    ensures { result
+        ≡ clamp (before
+        + total (name_adds len_iv) (new_entries own.now (maps.entries other.now))) }
 {
     let mut weight = before;
     'entries: for (name, state) in other.entries() {
@@ -81,7 +85,9 @@ fn with_names<'a>(before: u64, len_iv: u8, own: &NameTable<'a>, other: &NameTabl
 
 /// `before` and how many glyphs the names of the other table are that the first lacks, as far as 64 bits hold it.
 fn with_glyphs<'a>(before: u64, own: &NameTable<'a>, other: &NameTable<'a>) -> u64
-    ensures { result ≡ clamp (before + total name_counts (new_entries own.now (maps.entries other.now))) }
+    ensures { result
+        ≡ clamp (before
+        + total name_counts (new_entries own.now (maps.entries other.now))) }
 {
     let mut count = before;
     'entries: for (name, state) in other.entries() {
@@ -115,21 +121,28 @@ impl<'t, 'a> States<'t, 'a> {
 
     /// Whether the joined states are within the limits.
     fn fits_with(&self, other: &States<'t, 'a>) -> bool
-        ensures { IsTrue result ↔ ((joint_weight self.now other.now ≤ weight_limit) × (joint_glyphs self.now other.now ≤ count_limit)) }
+        ensures { IsTrue result
+            ↔ ((joint_weight self.now other.now ≤ weight_limit)
+            × (joint_glyphs self.now other.now ≤ count_limit)) }
     {
         self.joint_weight(other) <= WEIGHT_LIMIT && self.joint_glyphs(other) <= COUNT_LIMIT as u64
     }
 
     /// Whether the states of names and of Subrs join.
     fn names_and_subrs_agree(&self, other: &States<'t, 'a>) -> bool
-        ensures { IsTrue result ↔ (TablesAgree (name_part self.now) (name_part other.now) × TablesAgree (subr_part self.now) (subr_part other.now)) }
+        ensures { IsTrue result
+            ↔ (TablesAgree (name_part self.now) (name_part other.now)
+            × TablesAgree (subr_part self.now) (subr_part other.now)) }
     {
         self.names.agrees(&other.names) && self.subrs.agrees(&other.subrs)
     }
 
     /// Whether the states of codes, of names and of Subrs join.
     fn tables_agree(&self, other: &States<'t, 'a>) -> bool
-        ensures { IsTrue result ↔ (TablesAgree (code_part self.now) (code_part other.now) × (TablesAgree (name_part self.now) (name_part other.now) × TablesAgree (subr_part self.now) (subr_part other.now))) }
+        ensures { IsTrue result
+            ↔ (TablesAgree (code_part self.now) (code_part other.now)
+            × (TablesAgree (name_part self.now) (name_part other.now)
+            × TablesAgree (subr_part self.now) (subr_part other.now))) }
     {
         self.codes.agrees(&other.codes) && self.names_and_subrs_agree(other)
     }

@@ -20,7 +20,9 @@ use t1_run::Subroutines;
 
 /// Whether a glyph has the charstring of the one before it, so that it executes and names the same.
 fn is_again(last: Option<&[u8]>, charstring: Option<&[u8]>) -> bool
-    ensures { result ≡ same_charstring (option_map (λ b. b.now) last.entry) (option_map (λ b. b.now) charstring.entry) }
+    ensures { result
+        ≡ same_charstring (option_map (λ b. b.now) last.entry)
+        (option_map (λ b. b.now) charstring.entry) }
 {
     match (last, charstring) {
         (Some(last), Some(charstring)) => same_bytes(last, charstring),

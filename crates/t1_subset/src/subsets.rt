@@ -23,9 +23,14 @@ use t1_font::{Font, restrict};
 /// such, and else for want of memory alone.
 pub fn subset<'a>(alloc: Global, font: &Font<'a>, names: &[&[u8]]) -> Result<Font<'a>, SubsetFault>
     ensures ok { IfOk result (λ s. s ≡ subset profile font.now (asked names.now)) }
-    ensures draws { IfOk result (λ s. (n : List ℕ) → sets.contains (keep profile font.now (asked names.now)) n ≡ true → DrawsAlike font.now s n) }
-    ensures present { OnOk result (first_where (λ n. not (has font.now n)) (lent names.now) ≡ None) }
-    ensures absent { IfErr result (λ e. Absent e (first_where (λ n. not (has font.now n)) (lent names.now))) }
+    ensures draws { IfOk result (λ s. (n : List ℕ)
+        → sets.contains (keep profile font.now (asked names.now)) n ≡ true
+        → DrawsAlike font.now s n) }
+    ensures present { OnOk result (first_where (λ n. not (has font.now n)) (lent names.now)
+        ≡ None) }
+    ensures absent { IfErr result
+        (λ e. Absent e
+        (first_where (λ n. not (has font.now n)) (lent names.now))) }
 {
     font.is_font();
     let closure = closure(alloc, font, names)?;

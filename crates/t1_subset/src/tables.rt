@@ -23,7 +23,8 @@ fn put<K: Key + Drop, V: Kept + Drop>(
     key: K,
     state: Option<V>,
 ) -> Result<(), AllocError>
-    ensures { OnOk result (table.new ≡ with_state table.old (K.meaning key) (option_map V.meaning state)) }
+    ensures { OnOk result (table.new
+        ≡ with_state table.old (K.meaning key) (option_map V.meaning state)) }
 {
     match state {
         Some(state) => table.insert(key, state),
@@ -48,7 +49,8 @@ pub(crate) fn code_table<'a>(
 
 /// The state of a name that has this charstring.
 fn charstring_state(charstring: Option<&[u8]>) -> Option<NameState<'_>>
-    ensures { option_map state_meaning result ≡ option_map (λ c. name_meaning (Some c.now)) charstring.entry }
+    ensures { option_map state_meaning result
+        ≡ option_map (λ c. name_meaning (Some c.now)) charstring.entry }
 {
     match charstring {
         Some(charstring) => Some(NameState::Charstring(charstring)),
@@ -61,7 +63,8 @@ pub(crate) fn glyph_states<'a>(
     alloc: Global,
     font: &'a Font<'_>,
 ) -> Result<NameTable<'a>, AllocError>
-    ensures { IfOk result (λ table. table ≡ map_values (λ n c. name_meaning (Some c)) font.now.glyphs) }
+    ensures { IfOk result (λ table. table
+        ≡ map_values (λ n c. name_meaning (Some c)) font.now.glyphs) }
 {
     let mut table = Table::new(alloc);
     'names: for name in font.names() {
@@ -72,7 +75,8 @@ pub(crate) fn glyph_states<'a>(
 
 /// The state of a Subr: its entry, but for a `return` that is not executed.
 fn subr_state<'a>(entry: Option<&'a [u8]>, is_called: bool) -> Option<&'a [u8]>
-    ensures { option_map (λ b. b.now) result ≡ entry_state (option_map (λ b. b.now) entry.entry) is_called }
+    ensures { option_map (λ b. b.now) result
+        ≡ entry_state (option_map (λ b. b.now) entry.entry) is_called }
 {
     match entry {
         Some(body) if body == STUB && !is_called => None,
@@ -86,7 +90,9 @@ pub(crate) fn subr_table<'a>(
     font: &'a Font<'_>,
     users: &Users<'_>,
 ) -> Result<Table<u16, &'a [u8]>, AllocError>
-    requires { (i : ℕ) → i < declared_count font.now.shell.subrs → user_at users.now i ≡ user_of font.now i }
+    requires { (i : ℕ)
+        → i < declared_count font.now.shell.subrs
+        → user_at users.now i ≡ user_of font.now i }
     ensures { IfOk result (λ table. table ≡ numbered (used_subrs profile font.now)) }
 {
     font.is_font();

@@ -2,7 +2,6 @@
 //! growth of the first test after the other: a call that then answers want of memory answers right when it is made again.
 //! In the second it refuses all.
 
-use super::tiny::{PFA, PFB};
 use super::{CLEAR, is_put_together};
 use crate::{
     BytesFault, CHARSTRING_KEY, Cipher, decrypt, encrypt, find_cipher, flatten_in_place, hex_lines,
@@ -10,6 +9,7 @@ use crate::{
 };
 use std::alloc::Global;
 use std::test::Fail;
+use t1_tiny::{PFA, PFB};
 
 /// Whether the cipher of Tiny is found in the digits of its PFA, and written as lines of digits again.
 fn is_spelled(alloc: Global) -> Result<bool, BytesFault> {

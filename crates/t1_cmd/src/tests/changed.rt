@@ -1,9 +1,9 @@
 //! Files of the font Tiny, and of it with changes.
-use super::tiny::{PFA, PFB};
 use crate::texts::push_number;
 use std::alloc::{AllocError, Global};
 use t1_bytes::texts::find_from;
 use t1_bytes::{CHARSTRING_KEY, EEXEC_KEY, EEXEC_LEAD, open, seal, split_eexec};
+use t1_tiny::{PFA, PFB};
 
 /// What spells the Encoding of Tiny.
 const ENCODING: &[u8] = b"/Encoding 256 array

@@ -2,9 +2,9 @@
 use super::changed::{tiny_and, without_acute};
 use super::engines::{Engine, answer, answers};
 use super::subsets::subset;
-use super::tiny::PFA;
 use std::alloc::{AllocError, Global};
 use t1_font::{Font, Source, read};
+use t1_tiny::PFA;
 
 #[test]
 fn glyphs_of_tiny(rt: HostRuntime) {

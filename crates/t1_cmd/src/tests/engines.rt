@@ -1,12 +1,12 @@
 //! The engines over one font: what they write of the font Tiny and of changed ones, and how they end.
 use super::changed::tiny_encoded;
-use super::tiny::{PFA, PFB};
 use super::{FINE, Feed, Plan, Sink, line_of, word};
 use crate::{Counted, RunFault, run_check, run_convert, run_list, run_show, run_subset};
 use std::alloc::Global;
 use std::io::{ErrorKind, Read, Write};
 use std::test::Fail;
 use t1_font::Form;
+use t1_tiny::{PFA, PFB};
 
 /// An engine over one font.
 #[derive(Clone, Copy)]

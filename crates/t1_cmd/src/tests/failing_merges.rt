@@ -1,9 +1,9 @@
 //! Merges whose readers or writer fail.
-use super::tiny::PFA;
 use super::{FINE, Feed, Plan, Sink, word};
 use crate::{Counted, run_merge};
 use std::alloc::Global;
 use t1_font::Form;
+use t1_tiny::PFA;
 
 /// How Tiny merged with itself ends, as a word, how many calls of the readers failed, how many of the writer were made,
 /// and whether a prefix of Tiny is out.

@@ -2,12 +2,12 @@
 //! the other: an engine that is then refused memory writes nothing, and writes right when it is run again.
 use super::changed::tagged;
 use super::engines::{Engine, run};
-use super::tiny::{PFA, PFB};
 use super::{LEFT, RIGHT};
 use crate::{Counted, Reason, RunFault, read_all, run_join, run_merge, run_rejoin, write_fault};
 use std::alloc::{AllocError, Global};
 use std::test::Fail;
 use t1_font::Form;
+use t1_tiny::{PFA, PFB};
 
 /// What an engine wrote, where it ended well; want of memory where it was refused and wrote nothing.
 fn written(out: Vec<u8>, ended: Result<(), RunFault>) -> Result<Option<Vec<u8>>, AllocError> {

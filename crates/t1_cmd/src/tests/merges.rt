@@ -6,11 +6,11 @@ use super::changed::{
 use super::engines::{Engine, answer, answers};
 use super::line_of;
 use super::subsets::{heaviest, subset};
-use super::tiny::PFA;
 use crate::{Counted, run_merge};
 use std::alloc::{AllocError, Global};
 use std::test::Fail;
 use t1_font::Form;
+use t1_tiny::PFA;
 
 /// The PFA file that readers merge to, or the line of their refusal.
 fn merged_from(alloc: Global, readers: &mut [Counted<&[u8]>]) -> Vec<u8> {

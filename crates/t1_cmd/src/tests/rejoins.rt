@@ -2,12 +2,12 @@
 use super::changed::{cut_short, tagged, tiny_changed};
 use super::engines::{Engine, answer};
 use super::subsets::subset;
-use super::tiny::PFA;
 use super::{FINE, Feed, Plan, Sink, line_of, word};
 use crate::{Counted, run_rejoin};
 use std::alloc::{AllocError, Global};
 use std::test::Fail;
 use t1_font::Form;
+use t1_tiny::PFA;
 
 /// The PFA file that two files rejoin to, or the line of their refusal.
 fn rejoined<'a>(alloc: Global, left: &'a [u8], right: &'a [u8]) -> Vec<u8> {

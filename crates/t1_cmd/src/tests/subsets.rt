@@ -1,11 +1,11 @@
 //! Subsets of the font Tiny and of changed ones.
 use super::changed::{file_of, tiny_and};
 use super::engines::{Engine, answer, answers};
-use super::tiny::{PFA, PFB};
 use std::alloc::{AllocError, Global};
 use std::test::Fail;
 use t1_font::{Font, Form, Source, read};
 use t1_run::Subroutines;
+use t1_tiny::{PFA, PFB};
 
 /// The PFA file of a subset, or the line of its refusal.
 pub fn subset(alloc: Global, input: &[u8], names: &[&[u8]]) -> Vec<u8> {

@@ -5,7 +5,7 @@ use Rattle.t1_font.specs.FontValue.{FontValue}
 use Rattle.t1_font.specs.IsFont.{IsFont}
 use Rattle.t1_font.specs.ReadFont.{read_font}
 use Rattle.t1_font.proofs.AnswersRight.{bytes_of_slice}
-use Rattle.t1_font.proofs.ReadFontLaws.{spelled_font}
+use Rattle.t1_font.proofs.read_fonts.ReadFontLaws.{spelled_font}
 use Rattle.t1_subset.specs.NameSets.{asked}
 use Rattle.t1_example.specs.Joining.{IsMemory, union_subset}
 use Rattle.t1_example.proofs.Callers.{readable, file_refused, drawn}

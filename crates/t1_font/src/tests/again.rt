@@ -1,13 +1,13 @@
 //! What is written is read again: other words, other numbers of lead bytes, no Subrs, one glyph.
 
 use super::rows::{private, with};
-use super::tiny::{PFA, PFB};
 use super::{CLEAR, GLYPHS, counts, file, is_written_as, joined, lent_file, rewritten};
 use crate::{Font, Form, Part, Source, read, write};
 use bstr::ByteSlice;
 use std::alloc::{AllocError, Global};
 use std::test::Fail;
 use t1_bytes::{EEXEC_KEY, EEXEC_LEAD, open, split_eexec};
+use t1_tiny::{PFA, PFB};
 
 /// A text with `new` in place of each `old`, of which there are at most 64.
 fn with_each(alloc: Global, text: &[u8], old: &[u8], new: &[u8]) -> Result<Vec<u8>, AllocError> {

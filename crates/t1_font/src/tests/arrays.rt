@@ -1,11 +1,11 @@
 //! Encodings that are literal arrays.
 
-use super::tiny::PFA;
 use super::{is_written_as, rewritten};
 use crate::{Form, ReadFault, read};
 use bstr::ByteSlice;
 use std::alloc::{AllocError, Global};
 use std::test::Fail;
+use t1_tiny::PFA;
 
 /// Tiny's PFA with this text behind its `/Encoding`.
 fn encoded(alloc: Global, encoding: &[u8]) -> Result<Vec<u8>, AllocError> {

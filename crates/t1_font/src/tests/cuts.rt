@@ -10,7 +10,6 @@ ghost use Rattle.t1_font.specs.Canon.{canon};
 ghost use Rattle.t1_font.specs.IsFont.{IsFont};
 
 use super::rows::with;
-use super::tiny::{PFA, PFB};
 use super::{file, lent_file};
 use crate::{Font, Form, PartsFault, STUB, Source, join_parts, read, restrict, write};
 use std::alloc::{AllocError, Global};
@@ -18,6 +17,7 @@ use std::collections::BTreeSet;
 use std::ops::Range;
 use std::test::Fail;
 use t1_run::{Glyphs, Subroutines};
+use t1_tiny::{PFA, PFB};
 
 /// `.notdef`, and those of these names that the font has.
 fn known(alloc: Global, font: &Font<'_>, names: &[&[u8]]) -> Result<Vec<Vec<u8>>, AllocError>

@@ -4,10 +4,10 @@
 use super::cuts::{joined, tiny_cut};
 use super::evening::{MARKS, TABLES, evened, is_left};
 use super::rewritten;
-use super::tiny::{PFA, PFB};
 use crate::{Form, PartsFault, ReadFault, read_vec};
 use std::alloc::Global;
 use std::test::Fail;
+use t1_tiny::{PFA, PFB};
 
 /// Whether a file of Tiny is written again in both forms, and takes its place where its bytes are handed over.
 fn is_written_again(alloc: Global, file: &[u8]) -> Result<bool, ReadFault> {

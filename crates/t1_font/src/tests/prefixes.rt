@@ -1,9 +1,9 @@
 //! Each prefix of the files of the font Tiny.
 
 use super::counts;
-use super::tiny::{PFA, PFB};
 use crate::ReadFault;
 use std::alloc::Global;
+use t1_tiny::{PFA, PFB};
 
 /// The weight of a file's font.
 fn weight(alloc: Global, file: &[u8]) -> Result<u32, ReadFault> {

@@ -1,6 +1,5 @@
 //! The font Tiny: its two files, and changed files.
 
-use super::tiny::{PFA, PFB};
 use super::{counts, fault, file, is_written_as, joined};
 use crate::{Form, ReadFault, Source, read};
 use bstr::ByteSlice;
@@ -8,6 +7,7 @@ use std::alloc::{AllocError, Global};
 use std::test::Fail;
 use t1_bytes::{CHARSTRING_KEY, EEXEC_KEY, EEXEC_LEAD, open, seal, split_eexec};
 use t1_run::Glyphs;
+use t1_tiny::{PFA, PFB};
 
 /// The private text of Tiny.
 pub fn private(alloc: Global) -> Result<Vec<u8>, AllocError> {

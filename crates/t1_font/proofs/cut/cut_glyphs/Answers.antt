@@ -8,7 +8,7 @@ use Rattle.t1_font.specs.Lent.{lent_name, lent_names}
 use Rattle.t1_font.specs.Cut.{put_all_into}
 use Rattle.t1_font.proofs.CutLoops.{entries_of, put_some}
 use Rattle.t1_font.proofs.LentTables.{lent_none, lent_rise, lent_sorted}
-use Rattle.t1_font.proofs.FontAgain.{name_same}
+use Rattle.t1_font.proofs.canonical.FontAgain.{name_same}
 use Rattle.t1_font.proofs.cut.cut_glyphs.Goals as goal
 
 pub names-init : goal.names-init

@@ -4,7 +4,7 @@ use Rattle.t1_font.specs.FontModel.{encoding_of}
 use Rattle.t1_font.specs.Filling.{filled_by}
 use Rattle.t1_font.specs.IsFont.{IsFont}
 use Rattle.t1_font.proofs.Weights.{clamp_light, clamp_heavy}
-use Rattle.t1_font.proofs.Filled.{unfilled, parts_filled, filled_by_is_font}
+use Rattle.t1_font.proofs.even_fonts.Filled.{unfilled, parts_filled, filled_by_is_font}
 use Rattle.t1_font.proofs.filling.fill.Goals as goal
 
 pub returns-then-is_empty-clause-filled : goal.returns-then-is_empty-clause-filled

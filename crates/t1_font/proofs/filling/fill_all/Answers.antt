@@ -4,7 +4,7 @@ use Rattle.std.specs.Vec.Iter.{into_iter_items}
 use Rattle.t1_font.specs.FontValue.{FontValue}
 use Rattle.t1_font.specs.Evening.{stubs_at, indices_of_all}
 use Rattle.t1_font.specs.Filling.{Fills, FillRefuses}
-use Rattle.t1_font.proofs.Filled.{none_filled, all_filled, fills_on, refused_there}
+use Rattle.t1_font.proofs.even_fonts.Filled.{none_filled, all_filled, fills_on, refused_there}
 use Rattle.t1_font.proofs.filling.fill_all.Goals as goal
 
 pub fonts-init : goal.fonts-init

@@ -1,4 +1,4 @@
-use Rattle.t1_font.proofs.LengthLemmas.{canon_short}
+use Rattle.t1_font.proofs.canonical.LengthLemmas.{canon_short}
 use Rattle.t1_font.proofs.laws.canon_is_short.Goals as goal
 
 pub returns : goal.returns

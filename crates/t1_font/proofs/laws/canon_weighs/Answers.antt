@@ -1,4 +1,4 @@
-use Rattle.t1_font.proofs.LengthLemmas.{canon_weighs}
+use Rattle.t1_font.proofs.canonical.LengthLemmas.{canon_weighs}
 use Rattle.t1_font.proofs.laws.canon_weighs.Goals as goal
 
 pub returns : goal.returns

@@ -1,4 +1,4 @@
-use Rattle.t1_font.proofs.EvenStays.{even_fonts_stay}
+use Rattle.t1_font.proofs.even_fonts.EvenStays.{even_fonts_stay}
 use Rattle.t1_font.proofs.laws.even_fonts_stay.Goals as goal
 
 pub returns : goal.returns

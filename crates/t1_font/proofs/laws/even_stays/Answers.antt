@@ -1,4 +1,4 @@
-use Rattle.t1_font.proofs.EvenStays.{even_stays, filled_stays}
+use Rattle.t1_font.proofs.even_fonts.EvenStays.{even_stays, filled_stays}
 use Rattle.t1_font.proofs.laws.even_stays.Goals as goal
 
 pub returns-clause-shell : goal.returns-clause-shell

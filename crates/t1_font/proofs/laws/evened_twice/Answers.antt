@@ -1,5 +1,5 @@
-use Rattle.t1_font.proofs.EvenStays.{evened_twice}
-use Rattle.t1_font.proofs.UntaggedTwice.{untagged_head_twice}
+use Rattle.t1_font.proofs.even_fonts.EvenStays.{evened_twice}
+use Rattle.t1_font.proofs.even_fonts.UntaggedTwice.{untagged_head_twice}
 use Rattle.t1_font.proofs.laws.evened_twice.Goals as goal
 
 pub returns-clause-head : goal.returns-clause-head

@@ -1,4 +1,4 @@
-use Rattle.t1_font.proofs.RoundTrip.{one_canon}
+use Rattle.t1_font.proofs.canonical.RoundTrip.{one_canon}
 use Rattle.t1_font.proofs.laws.fingerprint.Goals as goal
 
 pub returns : goal.returns

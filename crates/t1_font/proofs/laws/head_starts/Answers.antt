@@ -1,4 +1,4 @@
-use Rattle.t1_font.proofs.ReadFontLaws.{head_starts}
+use Rattle.t1_font.proofs.read_fonts.ReadFontLaws.{head_starts}
 use Rattle.t1_font.proofs.laws.head_starts.Goals as goal
 
 pub returns : goal.returns

@@ -1,4 +1,4 @@
-use Rattle.t1_font.proofs.ReadFontLaws.{read_is_font}
+use Rattle.t1_font.proofs.read_fonts.ReadFontLaws.{read_is_font}
 use Rattle.t1_font.proofs.laws.read_is_font.Goals as goal
 
 pub returns : goal.returns

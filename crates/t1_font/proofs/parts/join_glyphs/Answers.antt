@@ -3,7 +3,7 @@ use Rattle.std.specs.Cmp.Lexicographic.{nat_list_cmp_total}
 use Rattle.t1_join.specs.Passes.{merge}
 use Rattle.t1_font.specs.FontValue.{name_cmp}
 use Rattle.t1_font.specs.Lent.{with_bytes, lent_name}
-use Rattle.t1_font.proofs.FontAgain.{name_same}
+use Rattle.t1_font.proofs.canonical.FontAgain.{name_same}
 use Rattle.t1_font.proofs.LentTables.{lent_cmp, names_merged, merge_rises, merge_is}
 use Rattle.t1_font.proofs.parts.join_glyphs.Goals as goal
 

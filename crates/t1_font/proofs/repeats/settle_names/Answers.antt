@@ -3,7 +3,7 @@ use Rattle.std.proofs.lemmas.Cmp.{nat_list_cmp_total}
 use Rattle.t1_font.specs.Entries.{map_of}
 use Rattle.t1_font.specs.FontValue.{name_cmp}
 use Rattle.t1_font.specs.Gathering.{gathered_glyphs}
-use Rattle.t1_font.proofs.FontAgain.{map_again, name_same}
+use Rattle.t1_font.proofs.canonical.FontAgain.{map_again, name_same}
 use Rattle.t1_font.proofs.repeats.settle_names.Goals as goal
 
 pub returns-clause-settled : goal.returns-clause-settled

@@ -1,5 +1,5 @@
 use Rattle.std.proofs.Common.{ap, sym, ◌∙◌}
-use Rattle.t1_font.proofs.TagLemmas.{ends_after, begins_read, ends_there}
+use Rattle.t1_font.proofs.even_fonts.TagLemmas.{ends_after, begins_read, ends_there}
 use Rattle.t1_font.proofs.tags.begins_encoding.Goals as goal
 
 pub returns-then-is_empty : goal.returns-then-is_empty

@@ -1,6 +1,6 @@
 use Rattle.std.proofs.Common.{List, ℕ, sym, ◌∙◌}
 use Rattle.std.specs.Prelude.{codes}
-use Rattle.t1_font.proofs.TagLemmas.{no_tags_there, encoding_there}
+use Rattle.t1_font.proofs.even_fonts.TagLemmas.{no_tags_there, encoding_there}
 use Rattle.t1_font.proofs.tags.parts_without_tags.Goals as goal
 use Rattle.t1_font.proofs.tags.parts_without_tags.Goals.{then-name-behind-via-then-name-behind, then-name-behind-via-else-name-behind+then-begins_encoding}
 

@@ -4,9 +4,9 @@ use Rattle.t1_bytes.specs.Limits.{file_limit}
 use Rattle.t1_font.specs.IsFont.{IsFont}
 use Rattle.t1_font.specs.Canon.{canon}
 use Rattle.t1_font.specs.ReadFont.{read_font}
-use Rattle.t1_font.proofs.RoundTrip.{round_trip}
-use Rattle.t1_font.proofs.LengthLemmas.{canon_short}
-use Rattle.t1_font.proofs.WriteAnswers.{clear_fits, cipher_fits}
+use Rattle.t1_font.proofs.canonical.RoundTrip.{round_trip}
+use Rattle.t1_font.proofs.canonical.LengthLemmas.{canon_short}
+use Rattle.t1_font.proofs.canonical.WriteAnswers.{clear_fits, cipher_fits}
 use Rattle.t1_font.proofs.writing.write.Goals as goal
 
 pub canonical-requires-clause-clear : goal.canonical-requires-clause-clear

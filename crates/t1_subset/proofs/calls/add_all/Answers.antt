@@ -2,7 +2,7 @@ use Rattle.std.proofs.Common.{ℕ, Bor, ◌∙◌, ap, sym, nat_cmp}
 use Rattle.std.specs.FinSet as sets
 use Rattle.std.proofs.lemmas.Map.Iter.{rest_more, rest_all}
 use Rattle.t1_subset.specs.Calls.{number_set}
-use Rattle.t1_subset.proofs.NumberSets.{insert_step, union_none}
+use Rattle.t1_subset.proofs.closing.NumberSets.{insert_step, union_none}
 use Rattle.t1_subset.proofs.calls.add_all.Goals as goal
 
 pub more-preserved : goal.more-preserved

@@ -1,7 +1,7 @@
 use Rattle.std.proofs.Common.{List, ℕ, map, Bor, ◌∙◌, ap, sym}
 use Rattle.t1_subset.specs.Profile.{set_of}
-use Rattle.t1_subset.proofs.ProfileRuns.{components_are, no_components}
-use Rattle.t1_subset.proofs.ExecutedCalls.{calls_are, no_calls}
+use Rattle.t1_subset.proofs.closing.ProfileRuns.{components_are, no_components}
+use Rattle.t1_subset.proofs.closing.ExecutedCalls.{calls_are, no_calls}
 use Rattle.t1_subset.proofs.calls.run_of.Goals as goal
 
 pub returns-in_ok-names-in-Some-clause-components : goal.returns-in_ok-names-in-Some-clause-components

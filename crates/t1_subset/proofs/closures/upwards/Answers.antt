@@ -5,9 +5,9 @@ use Rattle.std.specs.Cmp.Lexicographic.{nat_list_cmp_total}
 use Rattle.t1_font.specs.FontValue.{name_cmp}
 use Rattle.t1_subset.specs.Interpreter.{Names}
 use Rattle.t1_subset.specs.NameSets.{lent, asked, set_by}
-use Rattle.t1_subset.proofs.CopiedNames.{copy_step}
+use Rattle.t1_subset.proofs.closing.CopiedNames.{copy_step}
 use Rattle.t1_subset.proofs.Sets.{name_same}
-use Rattle.t1_subset.proofs.SetUnions.{union_none, union_of_none}
+use Rattle.t1_subset.proofs.closing.SetUnions.{union_none, union_of_none}
 use Rattle.t1_subset.proofs.closures.upwards.Goals as goal
 
 pub names-init : goal.names-init

@@ -1,6 +1,6 @@
 use Rattle.std.proofs.Common.{◌<◌, ◌++◌, ◌∙◌, [], ◌∷◌, length, arith}
 use Rattle.std.proofs.lemmas.List.{take-append-drop}
-use Rattle.t1_subset.proofs.StateTrees.{of_front, of_back, halves_free, merged_ok, merged_err, one_ok, pair, alone}
+use Rattle.t1_subset.proofs.state_tables.StateTrees.{of_front, of_back, halves_free, merged_ok, merged_err, one_ok, pair, alone}
 use Rattle.t1_subset.proofs.groupings.+made_of.Goals as goal
 
 pub returns-then-fonts-eq1-clause-ok : goal.returns-then-fonts-eq1-clause-ok

@@ -1,4 +1,4 @@
-use Rattle.t1_subset.proofs.Walks.{noted_none, noted_next, noted_all}
+use Rattle.t1_subset.proofs.state_tables.Walks.{noted_none, noted_next, noted_all}
 use Rattle.t1_subset.proofs.groupings.noted.Goals as goal
 
 pub fonts-init : goal.fonts-init

@@ -1,6 +1,6 @@
 use Rattle.std.proofs.Common.{refl}
-use Rattle.t1_subset.proofs.StateTrees.{joined_groupings, refused_memory}
-use Rattle.t1_subset.proofs.Walks.{some_noted}
+use Rattle.t1_subset.proofs.state_tables.StateTrees.{joined_groupings, refused_memory}
+use Rattle.t1_subset.proofs.state_tables.Walks.{some_noted}
 use Rattle.t1_subset.proofs.in_turn.all_join.Goals as goal
 
 pub returns-in-Err-clause-err : goal.returns-in-Err-clause-err

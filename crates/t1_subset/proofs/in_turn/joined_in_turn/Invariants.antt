@@ -2,7 +2,7 @@ use Rattle.std.proofs.Common.{List, get_or, take, unwrap_or}
 use Rattle.t1_font.specs.FontValue.{FontValue}
 use Rattle.t1_subset.specs.StateTables.{StatesValue}
 use Rattle.t1_subset.specs.Merger.{AreNoted}
-use Rattle.t1_subset.proofs.Walks.{JoinedSoFar}
+use Rattle.t1_subset.proofs.state_tables.Walks.{JoinedSoFar}
 use Rattle.t1_subset.proofs.in_turn.joined_in_turn.Given as goal
 
 abbrev pub invariant-rest : goal.invariant-rest

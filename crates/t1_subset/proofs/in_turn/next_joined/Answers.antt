@@ -1,5 +1,5 @@
-use Rattle.t1_subset.proofs.MergedFonts.{tells_states}
-use Rattle.t1_subset.proofs.Walks.{joined_ok, joined_err}
+use Rattle.t1_subset.proofs.state_tables.MergedFonts.{tells_states}
+use Rattle.t1_subset.proofs.state_tables.Walks.{joined_ok, joined_err}
 use Rattle.t1_subset.proofs.in_turn.next_joined.Goals as goal
 
 pub returns-in-Err-clause-err : goal.returns-in-Err-clause-err

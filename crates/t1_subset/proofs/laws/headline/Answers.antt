@@ -1,4 +1,4 @@
-use Rattle.t1_font.proofs.ReadFontLaws.{spelled_font}
+use Rattle.t1_font.proofs.read_fonts.ReadFontLaws.{spelled_font}
 use Rattle.t1_subset.proofs.Headline.{comes_to_subset}
 use Rattle.t1_subset.proofs.laws.headline.Goals as goal
 

@@ -1,5 +1,5 @@
-use Rattle.t1_subset.proofs.StateTrees.{comes_ok, refused_err}
-use Rattle.t1_subset.proofs.Walks.{some_states, noted_alike}
+use Rattle.t1_subset.proofs.state_tables.StateTrees.{comes_ok, refused_err}
+use Rattle.t1_subset.proofs.state_tables.Walks.{some_states, noted_alike}
 use Rattle.t1_subset.proofs.merger.all_merged.Goals as goal
 
 pub all_join-requires-clause-some : goal.all_join-requires-clause-some

@@ -1,7 +1,7 @@
 use Rattle.std.proofs.Common.{subst}
 use Rattle.t1_font.specs.Joins.{Refuses}
 use Rattle.t1_subset.specs.Profile.{profile}
-use Rattle.t1_subset.proofs.MergedFonts.{same_shells, same_kinds, joins, over_limit}
+use Rattle.t1_subset.proofs.state_tables.MergedFonts.{same_shells, same_kinds, joins, over_limit}
 use Rattle.t1_subset.proofs.merger.both.Goals as goal
 
 pub join_parts-requires-clause-shells : goal.join_parts-requires-clause-shells

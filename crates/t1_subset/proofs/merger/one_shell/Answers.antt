@@ -1,7 +1,7 @@
 use Rattle.std.proofs.Common.{sym}
 use Rattle.t1_subset.specs.declared.conflict.Conflict.TheVariants.{Shell}
-use Rattle.t1_subset.proofs.MergedFonts.{tells_entries, tells_states}
-use Rattle.t1_subset.proofs.StateClashes.{entries_shell}
+use Rattle.t1_subset.proofs.state_tables.MergedFonts.{tells_entries, tells_states}
+use Rattle.t1_subset.proofs.state_tables.StateClashes.{entries_shell}
 use Rattle.t1_subset.proofs.merger.one_shell.Goals as goal
 
 pub returns-in-Some : goal.returns-in-Some

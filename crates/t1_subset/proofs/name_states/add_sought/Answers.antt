@@ -1,6 +1,6 @@
 use Rattle.std.proofs.Common.{rules, ◌≡◌, ◌∙◌, ap, List, ◌∷◌}
 use Rattle.t1_join.specs.Meaning.{Meaning}
-use Rattle.t1_subset.proofs.SoughtNames.{with_sought, sought_next, sought_all}
+use Rattle.t1_subset.proofs.state_tables.SoughtNames.{with_sought, sought_next, sought_all}
 use Rattle.t1_subset.proofs.name_states.add_sought.Goals as goal
 
 pub seekers-init : goal.seekers-init

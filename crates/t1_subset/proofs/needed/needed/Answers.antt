@@ -6,10 +6,10 @@ use Rattle.t1_subset.specs.Profile.{profile}
 use Rattle.t1_subset.specs.Calls.{number_set}
 use Rattle.t1_subset.specs.ClosureNames.{push_new, push_all}
 use Rattle.t1_subset.specs.NameSets.{lent, asked}
-use Rattle.t1_subset.proofs.ClosureSteps.{ClosureSoFar, closure_start, closure_step, closure_end, closure_few}
-use Rattle.t1_subset.proofs.KeptCalls.{calls_to, calls_step, calls_end}
-use Rattle.t1_subset.proofs.ClosureLists.{all_front}
-use Rattle.t1_subset.proofs.LentNames.{got, past}
+use Rattle.t1_subset.proofs.closing.ClosureSteps.{ClosureSoFar, closure_start, closure_step, closure_end, closure_few}
+use Rattle.t1_subset.proofs.closing.KeptCalls.{calls_to, calls_step, calls_end}
+use Rattle.t1_subset.proofs.closing.ClosureLists.{all_front}
+use Rattle.t1_subset.proofs.closing.LentNames.{got, past}
 use Rattle.t1_subset.proofs.needed.needed.Goals as goal
 
 pub closure-init : goal.closure-init

@@ -3,8 +3,8 @@ use Rattle.std.specs.FinMap as maps
 use Rattle.t1_subset.specs.Profile.{profile}
 use Rattle.t1_subset.specs.Calls.{number_set}
 use Rattle.t1_subset.specs.NameSets.{asked}
-use Rattle.t1_subset.proofs.ClosureSteps.{ClosureSoFar}
-use Rattle.t1_subset.proofs.KeptCalls.{calls_to}
+use Rattle.t1_subset.proofs.closing.ClosureSteps.{ClosureSoFar}
+use Rattle.t1_subset.proofs.closing.KeptCalls.{calls_to}
 use Rattle.t1_subset.proofs.needed.needed.Given as goal
 
 abbrev pub invariant-closure : goal.invariant-closure

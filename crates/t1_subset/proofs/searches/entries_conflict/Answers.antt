@@ -1,7 +1,7 @@
 use Rattle.std.proofs.Common.{sym, ◌∙◌, subst}
 use Rattle.t1_subset.specs.Refusals.{Tells}
-use Rattle.t1_subset.proofs.StateClashes.{shell_alike, shared_seen, codes_seen, names_seen, entries_shell, entries_code, entries_glyph}
-use Rattle.t1_subset.proofs.NameClashes.{glyph_found}
+use Rattle.t1_subset.proofs.state_tables.StateClashes.{shell_alike, shared_seen, codes_seen, names_seen, entries_shell, entries_code, entries_glyph}
+use Rattle.t1_subset.proofs.state_tables.NameClashes.{glyph_found}
 use Rattle.t1_subset.proofs.searches.entries_conflict.Goals as goal
 
 pub returns-in-Some-clause-err : goal.returns-in-Some-clause-err

@@ -1,4 +1,4 @@
-use Rattle.t1_subset.proofs.MergedFonts.{tells_entries, then_ok, then_err}
+use Rattle.t1_subset.proofs.state_tables.MergedFonts.{tells_entries, then_ok, then_err}
 use Rattle.t1_subset.proofs.searches.states_conflict.Goals as goal
 
 pub returns-in-Err-clause-err : goal.returns-in-Err-clause-err

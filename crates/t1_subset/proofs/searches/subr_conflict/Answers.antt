@@ -1,4 +1,4 @@
-use Rattle.t1_subset.proofs.TableStates.{no_subr_clashes, subr_at_conflict, shows_subrs}
+use Rattle.t1_subset.proofs.state_tables.TableStates.{no_subr_clashes, subr_at_conflict, shows_subrs}
 use Rattle.t1_subset.proofs.searches.subr_conflict.Goals as goal
 
 pub returns-in-Some : goal.returns-in-Some

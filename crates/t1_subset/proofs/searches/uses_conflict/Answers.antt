@@ -1,8 +1,8 @@
 use Rattle.std.proofs.Common.{[], sym, ◌∙◌, ap, subst, Some, unwrap_or}
 use Rattle.t1_subset.specs.Conflicts.{LacksComponent, SubrDiffers}
 use Rattle.t1_subset.specs.Refusals.{Tells}
-use Rattle.t1_subset.proofs.StateClashes.{names_seen, subrs_seen, uses_part, uses_subr, subr_clashing}
-use Rattle.t1_subset.proofs.NameClashes.{component_found}
+use Rattle.t1_subset.proofs.state_tables.StateClashes.{names_seen, subrs_seen, uses_part, uses_subr, subr_clashing}
+use Rattle.t1_subset.proofs.state_tables.NameClashes.{component_found}
 use Rattle.t1_subset.proofs.searches.uses_conflict.Goals as goal
 
 pub returns-in-Some-clause-err : goal.returns-in-Some-clause-err

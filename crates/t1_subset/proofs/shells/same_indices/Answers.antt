@@ -1,5 +1,5 @@
 use Rattle.std.proofs.Common.{sym, ◌∙◌, arith}
-use Rattle.t1_subset.proofs.FirstConflicts.{keys_differ, keys_alike, unequal}
+use Rattle.t1_subset.proofs.state_tables.FirstConflicts.{keys_differ, keys_alike, unequal}
 use Rattle.t1_subset.proofs.shells.same_indices.Goals as goal
 
 pub returns-then-present : goal.returns-then-present

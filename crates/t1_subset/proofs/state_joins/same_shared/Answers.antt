@@ -1,5 +1,5 @@
 use Rattle.t1_subset.specs.Differences.{shell_part}
-use Rattle.t1_subset.proofs.FontStates.{shared_test}
+use Rattle.t1_subset.proofs.state_tables.FontStates.{shared_test}
 use Rattle.t1_subset.proofs.state_joins.same_shared.Goals as goal
 
 pub returns : goal.returns

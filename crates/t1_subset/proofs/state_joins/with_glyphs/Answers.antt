@@ -4,7 +4,7 @@ use Rattle.std.proofs.lemmas.Map.Iter.{rest_more, rest_all}
 use Rattle.t1_join.specs.TableMeaning.{lent_meanings}
 use Rattle.t1_subset.specs.NameStates.{state_meaning}
 use Rattle.t1_subset.specs.StateTables.{name_counts}
-use Rattle.t1_subset.proofs.TableWeights.{adds_none, adds_next, adds_all}
+use Rattle.t1_subset.proofs.state_tables.TableWeights.{adds_none, adds_next, adds_all}
 use Rattle.t1_subset.proofs.state_joins.with_glyphs.Goals as goal
 
 pub entries-init : goal.entries-init

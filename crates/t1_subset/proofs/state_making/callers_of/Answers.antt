@@ -11,7 +11,7 @@ use Rattle.t1_subset.specs.Profile.{profile}
 use Rattle.t1_subset.specs.States.{joined}
 use Rattle.t1_subset.specs.Conflicts.{executes, executed_at, called_at, wants}
 use Rattle.t1_subset.specs.Callers.{user_at}
-use Rattle.t1_subset.proofs.FontCallers.{executes_so, calls_so, noted_first, noted_next, noted_last, no_user, known_already, known_then, again_same, nothing_noted}
+use Rattle.t1_subset.proofs.state_tables.FontCallers.{executes_so, calls_so, noted_first, noted_next, noted_last, no_user, known_already, known_then, again_same, nothing_noted}
 use Rattle.t1_subset.proofs.state_making.callers_of.Goals as goal
 
 pub names-init : goal.names-init

@@ -6,7 +6,7 @@ use Rattle.t1_subset.specs.Profile.{profile}
 use Rattle.t1_subset.specs.States.{joined}
 use Rattle.t1_subset.specs.Conflicts.{first_where, executes, wants}
 use Rattle.t1_subset.specs.Callers.{user_of, seeker_of, user_at}
-use Rattle.t1_subset.proofs.FontCallers.{IsNoted}
+use Rattle.t1_subset.proofs.state_tables.FontCallers.{IsNoted}
 use Rattle.t1_subset.proofs.state_making.callers_of.Given as goal
 
 abbrev pub invariant-names : goal.invariant-names

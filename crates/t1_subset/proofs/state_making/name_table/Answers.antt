@@ -1,4 +1,4 @@
-use Rattle.t1_subset.proofs.SoughtNames.{names_made}
+use Rattle.t1_subset.proofs.state_tables.SoughtNames.{names_made}
 use Rattle.t1_subset.proofs.state_making.name_table.Goals as goal
 
 pub returns : goal.returns

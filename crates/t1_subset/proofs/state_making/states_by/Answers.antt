@@ -1,7 +1,7 @@
 use Rattle.t1_subset.specs.Profile.{profile}
 use Rattle.t1_subset.specs.StateTables.{shared_of}
 use Rattle.t1_subset.proofs.Fonts.{font_within}
-use Rattle.t1_subset.proofs.FontStates.{sized}
+use Rattle.t1_subset.proofs.state_tables.FontStates.{sized}
 use Rattle.t1_subset.proofs.state_making.states_by.Goals as goal
 
 pub invariant_of-result : goal.invariant_of-result

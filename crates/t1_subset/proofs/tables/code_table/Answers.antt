@@ -1,8 +1,8 @@
 use Rattle.std.proofs.Common.{◌∙◌, arith}
 use Rattle.t1_subset.specs.States.{code_state}
-use Rattle.t1_subset.proofs.FirstConflicts.{named_so}
-use Rattle.t1_subset.proofs.TableStates.{beyond}
-use Rattle.t1_subset.proofs.ByNumber.{has_none, has_next, codes_filled}
+use Rattle.t1_subset.proofs.state_tables.FirstConflicts.{named_so}
+use Rattle.t1_subset.proofs.state_tables.TableStates.{beyond}
+use Rattle.t1_subset.proofs.state_tables.ByNumber.{has_none, has_next, codes_filled}
 use Rattle.t1_subset.proofs.tables.code_table.Goals as goal
 
 pub codes-init : goal.codes-init

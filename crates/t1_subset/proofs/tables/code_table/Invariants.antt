@@ -1,5 +1,5 @@
 use Rattle.t1_subset.specs.States.{code_state}
-use Rattle.t1_subset.proofs.ByNumber.{HasBelow}
+use Rattle.t1_subset.proofs.state_tables.ByNumber.{HasBelow}
 use Rattle.t1_subset.proofs.tables.code_table.Given as goal
 
 abbrev pub invariant-codes : goal.invariant-codes

@@ -7,7 +7,7 @@ use Rattle.t1_font.specs.FontValue.{Named}
 use Rattle.t1_font.proofs.MapCuts.{get-map_values}
 use Rattle.t1_subset.specs.StateTables.{name_meaning}
 use Rattle.t1_subset.proofs.Sets.{name_same}
-use Rattle.t1_subset.proofs.TableStates.{Fills, fills_none, fills_next, fills_all, keys-valued, read_lent}
+use Rattle.t1_subset.proofs.state_tables.TableStates.{Fills, fills_none, fills_next, fills_all, keys-valued, read_lent}
 use Rattle.t1_subset.proofs.tables.glyph_states.Goals as goal
 
 abbrev states : Named → Named

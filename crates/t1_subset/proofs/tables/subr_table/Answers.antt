@@ -3,10 +3,10 @@ use Rattle.t1_font.proofs.FontReaders.{subrs_seen}
 use Rattle.t1_subset.specs.Profile.{profile}
 use Rattle.t1_subset.specs.States.{subr_state, state_of_entry}
 use Rattle.t1_subset.specs.StateTables.{used_subrs}
-use Rattle.t1_subset.proofs.FontCallers.{called_is}
-use Rattle.t1_subset.proofs.FirstConflicts.{absent_beyond}
-use Rattle.t1_subset.proofs.FontStates.{get-used}
-use Rattle.t1_subset.proofs.ByNumber.{has_none, has_next, has_all, entry_is}
+use Rattle.t1_subset.proofs.state_tables.FontCallers.{called_is}
+use Rattle.t1_subset.proofs.state_tables.FirstConflicts.{absent_beyond}
+use Rattle.t1_subset.proofs.state_tables.FontStates.{get-used}
+use Rattle.t1_subset.proofs.state_tables.ByNumber.{has_none, has_next, has_all, entry_is}
 use Rattle.t1_subset.proofs.tables.subr_table.Goals as goal
 
 -- what is lent is there where it is

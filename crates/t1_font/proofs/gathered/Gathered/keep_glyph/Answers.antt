@@ -9,7 +9,7 @@ use Rattle.t1_font.specs.Gathering.{Entries, gathered_codes, gathered_glyphs}
 use Rattle.t1_font.specs.Places.{ending, placed}
 use Rattle.t1_font.specs.Ranges.{named_at, IsInside, AllInside, NamesInside}
 use Rattle.t1_font.proofs.Buffers.{Decrypted, Named, pushed, with_one, names_with_one, all_longer, names_wider, entries_stay, names_stay, rest_stays, plain_at, plain_inside, name_at, name_inside, goes_on}
-use Rattle.t1_font.proofs.FontAgain.{name_same}
+use Rattle.t1_font.proofs.canonical.FontAgain.{name_same}
 use Rattle.t1_font.proofs.gathered.Gathered.keep_glyph.Goals as goal
 
 now_long : (c : goal.After-self-3-1) → c.len-3.result ≡ length c.decrypt_in.new.buffer.items

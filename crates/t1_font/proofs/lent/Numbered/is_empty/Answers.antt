@@ -4,7 +4,7 @@ use Rattle.std.specs.Ordering.{nat_cmp}
 use Rattle.std.specs.FinMap as fin
 use Rattle.t1_font.specs.Lent.{lent_number}
 use Rattle.t1_font.specs.Filling.{has_none}
-use Rattle.t1_font.proofs.Filled.{lent_none}
+use Rattle.t1_font.proofs.even_fonts.Filled.{lent_none}
 use Rattle.t1_font.proofs.lent.Numbered.is_empty.Goals as goal
 
 pub returns : goal.returns

@@ -4,7 +4,7 @@ use Rattle.t1_bytes.specs.declared.form.Form.TheVariants.{Pfb}
 use Rattle.t1_font.specs.FontValue.{FontValue, Encoding, Word, Codes}
 use Rattle.t1_font.specs.Cut.{restrict_encoding, restrict}
 use Rattle.t1_font.specs.WriteLaws.{SameKind}
-use Rattle.t1_font.proofs.RoundTrip.{one_canon}
+use Rattle.t1_font.proofs.canonical.RoundTrip.{one_canon}
 use Rattle.t1_font.proofs.tests.cuts.both.Goals as goal
 
 is_true : (b : Bool) → not b ≡ false → true ≡ b

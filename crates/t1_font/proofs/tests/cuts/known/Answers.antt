@@ -10,7 +10,7 @@ use Rattle.std.specs.FinMap as fin
 use Rattle.std.specs.FinSet as sets
 use Rattle.t1_font.specs.FontValue.{Named, name_cmp, notdef}
 use Rattle.t1_font.specs.Cut.{set_of_names}
-use Rattle.t1_font.proofs.FontAgain.{name_same}
+use Rattle.t1_font.proofs.canonical.FontAgain.{name_same}
 use Rattle.t1_font.proofs.tests.cuts.known.Goals as goal
 use Rattle.t1_font.proofs.tests.cuts.known.Goals.{then-is_some+in_ok-from_slice-2+in_ok-push-2, else-is_some}
 

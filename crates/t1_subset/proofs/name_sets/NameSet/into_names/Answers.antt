@@ -2,7 +2,7 @@ use Rattle.std.proofs.Common.{◌≡◌, ◌∙◌, ap, sym, subst}
 use Rattle.std.proofs.lemmas.Map.Iter.{rest_all}
 use Rattle.std.specs.List.Sorted.{IsStrictlySortedBy}
 use Rattle.t1_subset.specs.NameSets.{set_by}
-use Rattle.t1_subset.proofs.NameSets.{sorted_names, by_bytes, all_taken}
+use Rattle.t1_subset.proofs.closing.NameSets.{sorted_names, by_bytes, all_taken}
 use Rattle.t1_subset.proofs.name_sets.NameSet.into_names.Goals as goal
 
 all_there : (c : goal.After-drop-name-iterator-2) → c.names.names.items ≡ c.self.inside.names.keys

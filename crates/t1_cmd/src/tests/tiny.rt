@@ -1,1 +1,0 @@
-../../../t1_bytes/src/tests/tiny.rt

@@ -1,0 +1,151 @@
+-- The canonical file of a font is read as the font.
+use Rattle.std.proofs.Common.{◌≡◌, ℕ, ◌≤◌, ◌<◌, ◌^◌, true, false, leb, ◌&&◌, Bool, List, [], ◌∷◌, ◌++◌, length, drop, Option, Some, None, Result, Ok, Err, refl, sym, ap, subst, ◌∙◌, append_assoc, arith}
+use Rattle.std.specs.Prelude.{codes, replicate}
+use Rattle.std.proofs.lemmas.Bool.{le-leb}
+use Rattle.std.proofs.lemmas.List.{length-append}
+use Rattle.std.specs.FinMap as maps
+use Rattle.std.specs.FinMap.{entries}
+use Rattle.t1_bytes.specs.declared.form.Form.{Form}
+use Rattle.t1_bytes.specs.declared.form.Form.TheVariants.{Pfa, Pfb}
+use Rattle.t1_bytes.specs.Cipher.{private_cipher, private_text}
+use Rattle.t1_bytes.specs.Segments.{starts_segment}
+use Rattle.t1_bytes.specs.Eexec.{cipher_text}
+use Rattle.t1_bytes.specs.Texts.{pfb_text, segment_text, hex_lines, trailer}
+use Rattle.t1_bytes.proofs.Ciphers.{decrypted_front, length-sealed}
+use Rattle.t1_bytes.proofs.EexecLemmas.{cipher_exact}
+use Rattle.t1_bytes.proofs.Grammars.{front_again}
+use Rattle.t1_bytes.proofs.HexLines.{lines_read, binary_read}
+use Rattle.t1_bytes.proofs.PfbLemmas.{pfb_flat}
+use Rattle.t1_font.specs.declared.fault.ReadFault.{ReadFault}
+use Rattle.t1_font.specs.FontValue.{FontValue, SubrsShell, Numbered, notdef, count_limit, declared_count, IsWithin}
+use Rattle.t1_bytes.specs.Limits.{file_limit}
+use Rattle.t1_font.specs.Pieces.{EncodingText, OneWord, Puts, ClearPieces, PrivatePieces, flat_pieces, private_pieces}
+use Rattle.t1_font.specs.ReadFont.{font_of, has_notdef, flat_text, bad_segment, font_from, font_file, read_font}
+use Rattle.t1_font.specs.Writing.{encoding_text}
+use Rattle.t1_font.specs.Canon.{encoding_pieces, inside_of, outside_of, canon_clear, canon_private, canon}
+use Rattle.t1_font.specs.IsFont.{IsFont, SubrsFit}
+use Rattle.t1_font.specs.WriteLaws.{Fits}
+use Rattle.t1_font.proofs.ValueLaws.{notdef_is, within_again}
+use Rattle.t1_font.proofs.canonical.ClearWritten.{clear_again}
+use Rattle.t1_font.proofs.canonical.PrivateWritten.{private_again}
+use Rattle.t1_font.proofs.canonical.SplitWritten.{IsBorder, eexec_found, split_again}
+use Rattle.t1_font.proofs.canonical.FontAgain.{font_again, font_writable, encoding_writable}
+use Rattle.t1_font.proofs.ByteLemmas.{has_bytes, cipher_bytes}
+use Rattle.t1_font.proofs.canonical.LengthLemmas.{canon_short}
+
+-- ---- the cipher
+
+-- what stands behind the line end of the clear text
+hex_border : (private : List ℕ) → IsBorder (hex_lines (private_cipher private) ++ trailer)
+hex_border private = record {
+  white = refl;
+  current = (refl, (refl, (refl, (refl, (refl, (refl, (refl, (refl, (refl, (refl, (refl, tt)))))))))));
+  eexec = (refl, (refl, (refl, (refl, (refl, tt)))));
+  blank = refl;
+}
+
+binary_border : (private : List ℕ) → IsBorder (private_cipher private ++ trailer)
+binary_border private = record {
+  white = refl;
+  current = (refl, (refl, (refl, (refl, (refl, (refl, (refl, (refl, (refl, (refl, (refl, tt)))))))))));
+  eexec = (refl, (refl, (refl, (refl, (refl, tt)))));
+  blank = refl;
+}
+
+four_lead : (private : List ℕ) → 4 ≤ length (private_cipher private)
+four_lead private = omega (arith, length-sealed 55665 4 private)
+
+not_hex : (t : Bool) → (t && false) ≡ false
+not_hex true = refl
+not_hex false = refl
+
+binary_cipher : (private : List ℕ) → cipher_text.read (private_cipher private ++ trailer) ≡ Some (private_cipher private ++ trailer, [])
+binary_cipher private =
+    let c : List ℕ = private_cipher private ++ trailer in
+    front_again cipher_text cipher_exact c (c, []) (binary_read c (omega (arith, four_lead private, length-append (private_cipher private) trailer)) refl (not_hex (leb 4 (length c))))
+
+-- the private text of a cipher, whatever is read behind it
+text_again : (private more : List ℕ) → (junk : List ℕ) × (private_text (private_cipher private ++ more) ≡ private ++ junk)
+text_again private more = let r = decrypted_front (replicate 4 0 ++ private) 55665 more in (r.0, ap (drop 4) r.1)
+
+-- ---- the font
+
+value_again : (f : FontValue) → IsFont f → font_from (outside_of f.shell (encoding_pieces f.encoding)) (inside_of f.shell (entries f.subrs) (entries f.glyphs)) ≡ Ok f
+unfolding font_from
+value_again f h =
+    let c : ClearPieces = outside_of f.shell (encoding_pieces f.encoding) in
+    let p : PrivatePieces = inside_of f.shell (entries f.subrs) (entries f.glyphs) in
+    let same = font_again f h in
+    let notdef_there : has_notdef p ≡ true = sym (notdef_is c p) ∙ (ap (λ (g : FontValue). maps.contains_key g.glyphs notdef) same ∙ h.glyphs.notdef) in
+    let limits : IsWithin f = record { declared = count f.shell.subrs f.subrs h.subrs; glyphs = h.glyphs.few; weight = h.light } in
+    let within : IsWithin (font_of c p) = subst IsWithin (sym same) limits in
+    rw (notdef_there, within_again c p within) (ap (λ (g : FontValue). Ok g) same)
+  where
+    count : (o : Option SubrsShell) (m : Numbered) → SubrsFit f.shell o m → declared_count o ≤ count_limit
+    count None m k = omega arith
+    count (Some s) m k = k.declared
+
+-- ---- the file
+
+-- the flat text, of the clear text, the line end behind it, and what stands behind that
+module _ (f : FontValue) where
+  abbrev clear_end : List ℕ
+  clear_end = f.shell.head ++ (encoding_text (encoding_pieces f.encoding) ++ f.shell.clear_tail)
+
+  clear_regrouped : (v : List ℕ) → canon_clear f ++ v ≡ clear_end ++ (10 ∷ v)
+  clear_regrouped v = simp append_assoc
+
+  -- a file with this flat text spells the font, where the cipher that is read begins with the one that was written
+  file_again : (file v more rest : List ℕ) → IsFont f → IsBorder v → cipher_text.read v ≡ Some (private_cipher (canon_private f) ++ more, rest) → length file ≤ file_limit → flat_text file ≡ Ok (canon_clear f ++ v) → read_font file ≡ Ok f
+  unfolding font_file
+  file_again file v more rest h border c short flat =
+      let x = eexec_found f.shell.head (encoding_pieces f.encoding) f.shell.clear_tail v h.clear.head_eexec (encoding_writable f.encoding h.encoding) h.clear.tail_ends border in
+      let split = ap flat_pieces (clear_regrouped v) ∙ split_again clear_end v (private_cipher (canon_private f) ++ more) rest x.0 x.1 x.2 c in
+      let clear = clear_again f.shell.head (encoding_pieces f.encoding) f.shell.clear_tail h.clear.head_encoding (encoding_writable f.encoding h.encoding) h.clear.tail_apart in
+      let text = text_again (canon_private f) more in
+      let private = ap private_pieces text.1 ∙ private_again (inside_of f.shell (entries f.subrs) (entries f.glyphs)) text.0 (font_writable f h) in
+      rw (le-leb (length file) file_limit short, flat, split, clear, private) (value_again f h)
+
+head_starts : (head rest : List ℕ) (e : EncodingText) → starts_segment head ≡ false → starts_segment (head ++ (encoding_text e ++ rest)) ≡ false
+head_starts [] rest (OneWord w) h = refl
+head_starts [] rest (Puts es) h = refl
+head_starts (b ∷ head) rest e h = h
+
+plain_flat : (file : List ℕ) → starts_segment file ≡ false → flat_text file ≡ Ok file
+unfolding flat_text
+plain_flat file s = rw s refl
+
+joined_flat : (clear cipher trailer : List ℕ) → length (pfb_text clear cipher trailer) ≤ file_limit → flat_text (pfb_text clear cipher trailer) ≡ Ok (clear ++ (cipher ++ trailer))
+unfolding flat_text
+joined_flat clear cipher trailer h =
+    let e : List ℕ = 128 ∷ 3 ∷ [] in
+    let t : List ℕ = segment_text 1 trailer ++ e in
+    let c : List ℕ = segment_text 2 cipher ++ t in
+    let a : length clear < 2 ^ 32 = omega (arith, h, length-append clear c) in
+    let b : length cipher < 2 ^ 32 = omega (arith, h, length-append clear c, length-append cipher t) in
+    let d : length trailer < 2 ^ 32 = omega (arith, h, length-append clear c, length-append cipher t, length-append trailer e) in
+    ap bad_segment (pfb_flat clear cipher trailer a b d)
+
+-- reading the canonical file of a font gives the font
+pub round_trip : (f : FontValue) (form : Form) → IsFont f → Fits form f → read_font (canon f form) ≡ Ok f
+round_trip f Pfa h fits =
+    let p = canon_private f in
+    let v : List ℕ = hex_lines (private_cipher p) ++ trailer in
+    let secret = front_again cipher_text cipher_exact v (private_cipher p ++ replicate 256 0, codes "leartomark" ++ 10 ∷ []) (lines_read (private_cipher p) (four_lead p) (cipher_bytes f (has_bytes f h))) in
+    let regrouped : canon f Pfa ≡ f.shell.head ++ (encoding_text (encoding_pieces f.encoding) ++ ((f.shell.clear_tail ++ 10 ∷ []) ++ v)) = simp append_assoc in
+    let starts : starts_segment (canon f Pfa) ≡ false = ap starts_segment regrouped ∙ head_starts f.shell.head ((f.shell.clear_tail ++ 10 ∷ []) ++ v) (encoding_pieces f.encoding) fits in
+    file_again f (canon f Pfa) v (replicate 256 0) (codes "leartomark" ++ 10 ∷ []) h (hex_border p) secret (canon_short f Pfa h) (plain_flat (canon f Pfa) starts)
+round_trip f Pfb h fits =
+    let p = canon_private f in
+    file_again f (canon f Pfb) (private_cipher p ++ trailer) trailer [] h (binary_border p) (binary_cipher p) (canon_short f Pfb h) (joined_flat (canon_clear f) (private_cipher p) trailer (canon_short f Pfb h))
+
+-- fonts with one canonical file are one font
+pub one_canon : (f g : FontValue) (form : Form) → IsFont f → IsFont g → Fits form f → Fits form g → canon f form ≡ canon g form → f ≡ g
+one_canon f g form h k s t e = same_font f g (sym (round_trip f form h s) ∙ (ap read_font e ∙ round_trip g form k t))
+  where
+    or_else : FontValue → Result FontValue ReadFault → FontValue
+    or_else other (Ok x) = x
+    or_else other (Err e) = other
+
+    same_font : (x y : FontValue) → ◌≡◌ {A = Result FontValue ReadFault} (Ok x) (Ok y) → x ≡ y
+    same_font x y e = ap (or_else x) e

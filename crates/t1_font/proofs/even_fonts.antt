@@ -1,0 +1,5 @@
+pub mod TagLemmas
+pub mod UntaggedTwice
+pub mod EvenStays
+pub mod Evened
+pub mod Filled

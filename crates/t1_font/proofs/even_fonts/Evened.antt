@@ -1,0 +1,204 @@
+-- A font made even is a font, and so is one that is filled.
+use Rattle.std.proofs.Common.{◌≡◌, ◌⊎◌, ℕ, ◌≤◌, ◌<◌, arith, Bool, true, false, cond, List, [], ◌∷◌, ◌++◌, map, length, Option, Some, None, is_some, inl, inr, refl, sym, ap, subst, ◌∙◌, append_assoc}
+use Rattle.std.specs.Prelude.{codes, nat_lt}
+use Rattle.std.specs.Option.{option_map, option_and_then}
+use Rattle.std.specs.Ordering.{nat_cmp, eq_by_cmp}
+use Rattle.std.specs.Cmp.{nat_cmp_total, Equal-is}
+use Rattle.std.specs.FinMap.{find, get, entries, get-entries, get-from_entries, retain_keys, same_map, nat_cmp-IsAntisymmetric}
+use Rattle.std.proofs.lemmas.Bool.{ltb-true}
+use Rattle.std.proofs.lemmas.List.{length-append}
+use Rattle.t1_bytes.specs.Grammar.{Grammar, NoneIn, NotAtFront}
+use Rattle.t1_bytes.specs.Laws.{AreBytes}
+use Rattle.t1_bytes.specs.Eexec.{eexec_marker}
+use Rattle.t1_bytes.proofs.Grammars.{unspelled}
+use Rattle.t1_bytes.proofs.EexecLemmas.{eexec_exact}
+use Rattle.t1_font.specs.Markers.{encoding_marker}
+use Rattle.t1_font.specs.FontValue.{FontValue, Shell, SubrsShell, Numbered, declared_count, count_limit, weight_limit, weight}
+use Rattle.t1_font.specs.Cut.{stub, merged}
+use Rattle.t1_font.specs.Tags.{begins_encoding, untagged_head}
+use Rattle.t1_font.specs.Evening.{raised, even_shell, even, stubs_at, below, with_stubs, filled}
+use Rattle.t1_font.specs.IsFont.{IsFont, NoMarker, IsCharstring, SubrsFit, SubrWords, IsWord, IsPhrase}
+use Rattle.t1_font.proofs.ByteLemmas.{AreBytes-append}
+use Rattle.t1_font.proofs.canonical.Borders.{fixed_strip}
+use Rattle.t1_font.proofs.MarkerLemmas.{encoding_marker_exact}
+use Rattle.t1_font.proofs.canonical.Moves.{NoneIn-append, encoding_moves, eexec_moves}
+use Rattle.t1_font.proofs.MapCuts.{is_or_not, joined, get-merged, get-retain, find_first, Some_None}
+use Rattle.t1_font.proofs.Kept.{iv_small, merged_has}
+use Rattle.t1_font.proofs.even_fonts.TagLemmas.{Untagged, loses_tags}
+
+-- ---- no marker stands in a head without tags
+
+module _ {A : Type 0} (g : Grammar A) where
+  front_none : (xs ys after : List ℕ) → NoneIn g (xs ++ ys) after → NoneIn g xs (ys ++ after)
+  front_none [] ys after h = tt
+  front_none (b ∷ xs) ys after h = (subst (λ (u : List ℕ). NotAtFront g (b ∷ u)) (append_assoc xs ys after) h.0, front_none xs ys after h.1)
+
+  back_none : (xs ys after : List ℕ) → NoneIn g (xs ++ ys) after → NoneIn g ys after
+  back_none [] ys after h = h
+  back_none (b ∷ xs) ys after h = back_none xs ys after h.1
+
+  without_tags : ((front r s : List ℕ) → NoneIn g front (47 ∷ r) → NoneIn g front (47 ∷ s)) → (before tags name : List ℕ) → NotAtFront g (47 ∷ (name ++ 47 ∷ [])) → NoMarker g (before ++ 47 ∷ (tags ++ name)) → NoMarker g (before ++ 47 ∷ name)
+  without_tags moves before tags name none h =
+      NoneIn-append g before (47 ∷ name) (47 ∷ []) (moves before ((tags ++ name) ++ 47 ∷ []) (name ++ 47 ∷ []) (front_none before (47 ∷ (tags ++ name)) (47 ∷ []) h))
+      (none, back_none tags name (47 ∷ []) (back_none before (47 ∷ (tags ++ name)) (47 ∷ []) h).1)
+
+not_some : {A : Type 0} (o : Option A) → is_some o ≡ false → o ≡ None
+not_some None h = refl
+not_some (Some x) h = absurd cc
+
+no_encoding_there : (name : List ℕ) → begins_encoding name ≡ false → NotAtFront encoding_marker (47 ∷ (name ++ 47 ∷ []))
+no_encoding_there name h = unspelled encoding_marker encoding_marker_exact (47 ∷ (name ++ 47 ∷ [])) (not_some (encoding_marker.read (47 ∷ (name ++ 47 ∷ []))) h)
+
+no_eexec_there : (text : List ℕ) → NotAtFront eexec_marker (47 ∷ text)
+unfolding eexec_marker
+no_eexec_there text = unspelled eexec_marker eexec_exact (47 ∷ text) (ap (option_and_then _) (fixed_strip (codes "currentfile") (47 ∷ text)))
+
+front_bytes : (xs ys : List ℕ) → AreBytes (xs ++ ys) → AreBytes xs
+front_bytes [] ys h = tt
+front_bytes (b ∷ xs) ys h = (h.0, front_bytes xs ys h.1)
+
+back_bytes : (xs ys : List ℕ) → AreBytes (xs ++ ys) → AreBytes ys
+back_bytes [] ys h = h
+back_bytes (b ∷ xs) ys h = back_bytes xs ys h.1
+
+-- what a head keeps
+pub record HeadFits (old new : List ℕ) : Type 0 where
+  pub encoding : NoMarker encoding_marker old → NoMarker encoding_marker new
+  pub eexec : NoMarker eexec_marker old → NoMarker eexec_marker new
+  pub bytes : AreBytes old → AreBytes new
+  pub short : length new ≤ length old
+
+pub head_fits : (head : List ℕ) → HeadFits head (untagged_head head)
+head_fits head = by_tags (untagged_head head) (loses_tags head)
+  where
+    by_tags : (new : List ℕ) → (new ≡ head) ⊎ Untagged head new → HeadFits head new
+    by_tags new (inl e) = record { encoding = subst (NoMarker encoding_marker) (sym e); eexec = subst (NoMarker eexec_marker) (sym e); bytes = subst AreBytes (sym e); short = omega (arith, ap length e) }
+    by_tags new (inr u) = record {
+      encoding = λ h. subst (NoMarker encoding_marker) (sym u.new_is) (without_tags encoding_marker encoding_moves u.before u.tags u.name (no_encoding_there u.name u.no_encoding) (subst (NoMarker encoding_marker) u.whole h));
+      eexec = λ h. subst (NoMarker eexec_marker) (sym u.new_is) (without_tags eexec_marker eexec_moves u.before u.tags u.name (no_eexec_there (u.name ++ 47 ∷ [])) (subst (NoMarker eexec_marker) u.whole h));
+      bytes = λ h.
+          let all : AreBytes (u.before ++ 47 ∷ (u.tags ++ u.name)) = subst AreBytes u.whole h in
+          let back : AreBytes (47 ∷ (u.tags ++ u.name)) = back_bytes u.before (47 ∷ (u.tags ++ u.name)) all in
+          subst AreBytes (sym u.new_is) (AreBytes-append u.before (47 ∷ u.name) (front_bytes u.before (47 ∷ (u.tags ++ u.name)) all) (back.0, back_bytes u.tags u.name back.1));
+      short = omega (arith, ap length u.whole, ap length u.new_is, length-append u.before (47 ∷ (u.tags ++ u.name)), length-append u.tags u.name, length-append u.before (47 ∷ u.name));
+    }
+
+-- ---- a font made even
+
+words_raised : (n : ℕ) (es : List (ℕ × List ℕ)) (t : SubrsShell) → SubrWords es t → SubrWords es (raised n t)
+words_raised n [] t h = h
+words_raised n (e ∷ es) t h = h
+
+subrs_raised : (n : ℕ) (s : Shell) (o : Option SubrsShell) (m : Numbered) → n ≤ count_limit → SubrsFit s o m → SubrsFit (even_shell n s) (option_map (raised n) o) m
+subrs_raised n s None m le h = h
+subrs_raised n s (Some t) m le h = record {
+  declared = omega (arith, le, h.declared);
+  below = λ i c e. omega (arith, h.below i c e);
+  bodies = h.bodies;
+  words = words_raised n (entries m) t h.words;
+  closing = h.closing;
+}
+
+pub even_light : (n : ℕ) (f : FontValue) → weight (even n f) ≤ weight f
+even_light n f = omega (arith, (head_fits f.shell.head).short)
+
+pub even_is_font : (n : ℕ) (f : FontValue) → n ≤ count_limit → IsFont f → IsFont (even n f)
+even_is_font n f le h =
+    let fits = head_fits f.shell.head in
+    let g = h.glyphs in
+    let p = h.private in
+    record {
+      clear = record { head_encoding = fits.encoding h.clear.head_encoding; head_eexec = fits.eexec h.clear.head_eexec; tail_apart = h.clear.tail_apart; tail_ends = h.clear.tail_ends };
+      private = record { iv = p.iv; no_subrs = p.no_subrs; no_chars = p.no_chars; middle_apart = p.middle_apart; middle_chars = p.middle_chars; middle_subrs = p.middle_subrs; tail_apart = p.tail_apart; tail_subrs = p.tail_subrs; tail_ends = p.tail_ends };
+      texts = record { head = fits.bytes h.texts.head; clear_tail = h.texts.clear_tail; private = h.texts.private; middle = h.texts.middle; tail = h.texts.tail };
+      encoding = h.encoding;
+      subrs = subrs_raised n f.shell f.shell.subrs f.subrs le h.subrs;
+      glyphs = record { rd = g.rd; def = g.def; names = g.names; bodies = g.bodies; notdef = g.notdef; few = g.few };
+      light = omega (arith, even_light n f, h.light);
+    }
+
+-- ---- stubs
+
+abbrev stub_entries : List ℕ → List (ℕ × List ℕ)
+stub_entries indices = map (λ i. (i, stub)) indices
+
+none_either_way : {X : Type 0} (b : Bool) → ◌≡◌ {A = Option X} (cond b None None) None
+none_either_way true = refl
+none_either_way false = refl
+
+find_below : (n i : ℕ) (indices : List ℕ) → find nat_cmp i (stub_entries (below n indices)) ≡ cond (nat_lt i n) (find nat_cmp i (stub_entries indices)) None
+find_below n i [] = sym (none_either_way (nat_lt i n))
+find_below n i (j ∷ js) =
+    let rest = find_below n i js in
+    elim (is_or_not (eq_by_cmp nat_cmp i j)) [
+      | inl e ↦ let same : i ≡ j = nat_cmp-IsAntisymmetric i j ((Equal-is (nat_cmp i j)).0 e) in elim (is_or_not (nat_lt j n)) [
+        | inl t ↦ let low : nat_lt i n ≡ true = ap (λ k. nat_lt k n) same ∙ t in rw (t, low, e) refl
+        | inr t ↦ let high : nat_lt i n ≡ false = ap (λ k. nat_lt k n) same ∙ t in rw t (rest ∙ rw high refl)
+      ]
+      | inr e ↦ elim (is_or_not (nat_lt j n)) [
+        | inl t ↦ rw (t, e) rest
+        | inr t ↦ rw (t, e) rest
+      ]
+    ]
+
+-- the stubs below a count are those of a cut
+pub stubs_below : (n : ℕ) (indices : List ℕ) → stubs_at (below n indices) ≡ retain_keys (stubs_at indices) (λ i. nat_lt i n)
+stubs_below n indices = same_map nat_cmp_total nat_cmp-IsAntisymmetric _ _ (λ q.
+    get-from_entries nat_cmp_total (stub_entries (below n indices)) q
+    ∙ (find_below n q indices
+    ∙ (ap (λ (x : Option (List ℕ)). cond (nat_lt q n) x None) (sym (get-from_entries nat_cmp_total (stub_entries indices) q)) ∙ sym (get-retain nat_cmp_total nat_cmp-IsAntisymmetric (stubs_at indices) (λ i. nat_lt i n) q))))
+
+stub_or_none : (i : ℕ) (indices : List ℕ) (c : List ℕ) → find nat_cmp i (stub_entries indices) ≡ Some c → c ≡ stub
+stub_or_none i [] c e = Some_None (sym e)
+stub_or_none i (j ∷ js) c e = elim (is_or_not (eq_by_cmp nat_cmp i j)) [
+  | inl t ↦ let k : Some stub ≡ Some c = rw t at e in cc
+  | inr t ↦ let k : find nat_cmp i (stub_entries js) ≡ Some c = rw t at e in stub_or_none i js c k
+]
+
+kept_so : (b : Bool) (o : Option (List ℕ)) (c : List ℕ) → cond b o None ≡ Some c → (b ≡ true) × (o ≡ Some c)
+kept_so true o c e = (refl, e)
+kept_so false o c e = Some_None (sym e)
+
+-- what a stub of these is, and where
+pub a_stub : (n : ℕ) (indices : List ℕ) (i : ℕ) (c : List ℕ) → get (stubs_at (below n indices)) i ≡ Some c → (i < n) × (c ≡ stub)
+a_stub n indices i c e =
+    let k = kept_so (nat_lt i n) (find nat_cmp i (stub_entries indices)) c (sym (find_below n i indices) ∙ (sym (get-from_entries nat_cmp_total (stub_entries (below n indices)) i) ∙ e)) in
+    (ltb-true i n k.0, stub_or_none i indices c k.1)
+
+-- ---- a font that is filled
+
+some_words : (k : ℕ) (v : List ℕ) (es : List (ℕ × List ℕ)) (t : SubrsShell) → find nat_cmp k es ≡ Some v → IsWord 32 t.rd × IsPhrase true t.put → SubrWords es t
+some_words k v [] t e h = Some_None (sym e)
+some_words k v (f ∷ fs) t e h = h
+
+stub_fits : (iv : ℕ) (c : List ℕ) → iv ≤ 255 → c ≡ stub → IsCharstring iv c
+stub_fits iv c h e = subst (IsCharstring iv) (sym e) (record { short = omega (arith, h); bytes = (omega arith, tt) })
+
+subrs_filled : (s : Shell) (t : SubrsShell) (m : Numbered) (indices : List ℕ) → s.len_iv ≤ 255 → SubrsFit s (Some t) m → (es : List (ℕ × List ℕ)) → entries m ≡ es → SubrsFit s (Some t) (with_stubs (below t.declared indices) m es)
+subrs_filled s t m indices iv h [] is = h
+subrs_filled s t m indices iv h (e ∷ es) is =
+    let n = stubs_at (below t.declared indices) in
+    let there : get m e.0 ≡ Some e.1 = get-entries m e.0 ∙ (ap (find nat_cmp e.0) is ∙ find_first nat_cmp_total nat_cmp-IsAntisymmetric e es) in
+    let still : find nat_cmp e.0 (entries (merged m n)) ≡ Some e.1 = sym (get-entries (merged m n) e.0) ∙ (get-merged nat_cmp_total nat_cmp-IsAntisymmetric m n e.0 ∙ ap (λ (x : Option (List ℕ)). joined x (get n e.0)) there) in
+    record {
+      declared = h.declared;
+      below = merged_has nat_cmp_total nat_cmp-IsAntisymmetric (λ i c. i < t.declared) m n h.below (λ i c e. (a_stub t.declared indices i c e).0);
+      bodies = merged_has nat_cmp_total nat_cmp-IsAntisymmetric (λ i c. IsCharstring s.len_iv c) m n h.bodies (λ i c e. stub_fits s.len_iv c iv (a_stub t.declared indices i c e).1);
+      words = some_words e.0 e.1 (entries (merged m n)) t still (subst (λ (es : List (ℕ × List ℕ)). SubrWords es t) is h.words);
+      closing = h.closing;
+    }
+
+table_filled : (s : Shell) (o : Option SubrsShell) (m : Numbered) (indices : List ℕ) → s.len_iv ≤ 255 → SubrsFit s o m → SubrsFit s o (with_stubs (below (declared_count o) indices) m (entries m))
+table_filled s None m indices iv h = subst (λ (es : List (ℕ × List ℕ)). SubrsFit s None (with_stubs (below 0 indices) m es)) (sym h.0) h
+table_filled s (Some t) m indices iv h = subrs_filled s t m indices iv h (entries m) refl
+
+pub filled_is_font : (indices : List ℕ) (f : FontValue) → IsFont f → weight (filled indices f) ≤ weight_limit → IsFont (filled indices f)
+filled_is_font indices f h light = record {
+  clear = h.clear;
+  private = h.private;
+  texts = h.texts;
+  encoding = h.encoding;
+  subrs = table_filled f.shell f.shell.subrs f.subrs indices (iv_small f.shell.private f.shell.len_iv h.private.iv) h.subrs;
+  glyphs = h.glyphs;
+  light = light;
+}

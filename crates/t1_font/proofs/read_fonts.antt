@@ -1,0 +1,7 @@
+pub mod ReadBack
+pub mod ReadBytes
+pub mod ReadClear
+pub mod ReadEntries
+pub mod ReadFontLaws
+pub mod ReadMarkers
+pub mod ReadPrivate

@@ -1,0 +1,200 @@
+-- What is read of a file of bytes is a font.
+use Rattle.std.proofs.Common.{◌≡◌, ℕ, ◌≤◌, ◌<◌, true, cond, List, [], ◌∷◌, ◌++◌, Option, Some, None, is_some, Ok, refl, sym, ap, subst, ◌∙◌, append_assoc, arith, true≢false}
+use Rattle.std.specs.List.{AllByRecursion, list_any}
+use Rattle.std.specs.Option.{option_map}
+use Rattle.std.specs.Str.{bytes_eq}
+use Rattle.std.specs.Ordering.{nat_cmp, is_eq}
+use Rattle.std.specs.Cmp.{nat_cmp_total, tied_itself}
+use Rattle.std.specs.Cmp.Lexicographic.{nat_list_cmp_total}
+use Rattle.std.specs.FinMap.{find, contains_key, nat_cmp-IsAntisymmetric}
+use Rattle.t1_bytes.specs.declared.form.Form.TheVariants.{Pfb}
+use Rattle.t1_bytes.specs.Cipher.{decrypted}
+use Rattle.t1_bytes.specs.Grammar.{Stops, first, choice}
+use Rattle.t1_bytes.specs.Laws.{AreBytes}
+use Rattle.t1_bytes.specs.Segments.{starts_segment, IsFlat}
+use Rattle.t1_bytes.proofs.ContainerLaws.{one_flat}
+use Rattle.t1_bytes.proofs.Ciphers.{decrypted-is}
+use Rattle.t1_bytes.proofs.Grammars.{first_exact, front_again}
+use Rattle.t1_font.specs.Words.{is_regular}
+use Rattle.t1_font.specs.Entry.{plain_entries}
+use Rattle.t1_font.specs.Subrs.{Subr}
+use Rattle.t1_font.specs.Markers.{closefile}
+use Rattle.t1_font.specs.Glyphs.{Glyph, glyph}
+use Rattle.t1_font.specs.Charstrings.{plain_of}
+use Rattle.t1_font.specs.Pieces.{ClearPieces, SubrsPieces, PrivatePieces}
+use Rattle.t1_font.specs.FontValue.{FontValue, SubrsShell, notdef, declared_count, count_limit, IsWithin}
+use Rattle.t1_font.specs.Entries.{map_of, last_entries, last_value}
+use Rattle.t1_font.specs.ReadFont.{of_first, subrs_of, subrs_shell, glyph_entries, shell_of, font_of, read_font}
+use Rattle.t1_font.specs.Spelling.{IsPrivate, IsCut, Texts, Spells}
+use Rattle.t1_font.specs.Canon.{canon}
+use Rattle.t1_font.specs.IsFont.{IsWord, IsPhrase, IsPrivateShell, SubrWords, SubrsFit, AreGlyphs, IsFont, HasBytes}
+use Rattle.t1_font.proofs.MapLaws.{entries-map_of, find-last}
+use Rattle.t1_font.proofs.MarkerLemmas.{closefile_exact, close_parts}
+use Rattle.t1_font.proofs.ReadRight.{reads}
+use Rattle.t1_font.proofs.ReadAgain.{is_iv}
+use Rattle.t1_font.proofs.ValueLaws.{notdef_is}
+use Rattle.t1_font.proofs.canonical.FontAgain.{name_same}
+use Rattle.t1_font.proofs.ByteLemmas.{has_bytes, canon_bytes}
+use Rattle.t1_font.proofs.canonical.RoundTrip.{round_trip}
+use Rattle.t1_font.proofs.canonical.SplitWritten.{marker_own}
+use Rattle.t1_font.proofs.read_fonts.ReadBack.{tail_ends_of}
+use Rattle.t1_font.proofs.read_fonts.ReadBytes.{parts_bytes, flat_bytes, cipher_bytes_of, decrypted_bytes, entries_have}
+use Rattle.t1_font.proofs.read_fonts.ReadEntries.{IsRead, glyph_of, map_fits}
+use Rattle.t1_font.proofs.read_fonts.ReadMarkers.{encoding_slash}
+use Rattle.t1_font.proofs.read_fonts.ReadClear.{clear_of}
+use Rattle.t1_font.proofs.read_fonts.ReadPrivate.{stops_front, glyphs_stops, IsReadSubrs, middle_of}
+
+-- ---- Subrs
+
+some_last : (o : Option (List ℕ)) (v : List ℕ) → is_some (choice o (Some v)) ≡ true
+some_last None v = refl
+some_last (Some x) v = refl
+
+-- a table with entries makes a map with entries
+no_entries : (e : ℕ × List ℕ) (es : List (ℕ × List ℕ)) → last_entries nat_cmp (e ∷ es) ≡ [] → ⊥
+no_entries e es h =
+    let found : last_value nat_cmp e.0 (e ∷ es) ≡ None = sym (find-last nat_cmp_total nat_cmp-IsAntisymmetric e.0 (e ∷ es)) ∙ ap (find nat_cmp e.0) h in
+    let there : last_value nat_cmp e.0 (e ∷ es) ≡ choice (last_value nat_cmp e.0 es) (Some e.1) = ap (λ r. choice (last_value nat_cmp e.0 es) (cond (is_eq r) (Some e.1) None)) (tied_itself nat_cmp_total e.0) in
+    true≢false (sym (some_last (last_value nat_cmp e.0 es) e.1) ∙ ap is_some (sym there ∙ found))
+
+words_by : (l : List (ℕ × List ℕ)) (s : SubrsShell) → (l ≡ [] → ⊥) → IsWord 32 s.rd → IsPhrase true s.put → SubrWords l s
+words_by [] s some rd put = absurd (some refl)
+words_by (e ∷ es) s some rd put = (rd, put)
+
+words_of : (declared iv : ℕ) (closing : List ℕ) (es : List Subr) → AllByRecursion (IsRead (λ i. i < declared) iv) es → SubrWords (last_entries nat_cmp (plain_entries iv es)) (subrs_shell (record { declared = declared; entries = es; closing = closing }))
+words_of declared iv closing [] all = (refl, refl)
+words_of declared iv closing (e ∷ es) all = words_by _ _ (no_entries (e.key, plain_of iv e.body.bytes) (plain_entries iv es)) all.0.1.rd all.0.1.phrase
+
+pub subrs_of_font : (c : ClearPieces) (p : PrivatePieces) (o : Option SubrsPieces) → IsReadSubrs p o → declared_count (option_map subrs_shell o) ≤ count_limit → SubrsFit (shell_of c p) (option_map subrs_shell o) (map_of (plain_entries p.len_iv (subrs_of o)))
+subrs_of_font c p None h few = (entries-map_of nat_cmp_total nat_cmp-IsAntisymmetric [], h)
+subrs_of_font c p (Some x) h few =
+    let has = map_fits nat_cmp_total nat_cmp-IsAntisymmetric (λ i. i < x.declared) p.len_iv x.entries h.0 in
+    record {
+      declared = few;
+      below = λ i v e. (has i v e).0;
+      bodies = λ i v e. (has i v e).1;
+      words = subst (λ (l : List (ℕ × List ℕ)). SubrWords l (subrs_shell x)) (sym (entries-map_of nat_cmp_total nat_cmp-IsAntisymmetric (plain_entries p.len_iv x.entries))) (words_of x.declared p.len_iv x.closing x.entries h.0);
+      closing = h.1;
+    }
+
+-- ---- the glyphs
+
+glyph_words : (iv : ℕ) (gs : List Glyph) → AllByRecursion (IsRead (IsWord 127) iv) gs → list_any (λ g. bytes_eq notdef g.key) gs ≡ true → IsWord 32 (of_first (λ g. g.body.rd) gs) × IsPhrase true (of_first (λ g. g.body.phrase) gs)
+glyph_words iv [] all some = absurd (true≢false (sym some))
+glyph_words iv (g ∷ gs) all some = (all.0.1.rd, all.0.1.phrase)
+
+pub glyphs_of_font : (c : ClearPieces) (p : PrivatePieces) → AllByRecursion (IsRead (IsWord 127) p.len_iv) p.glyphs → contains_key (font_of c p).glyphs notdef ≡ true → IsWithin (font_of c p) → AreGlyphs (shell_of c p) (map_of (glyph_entries p))
+glyphs_of_font c p h some within =
+    let has = map_fits nat_list_cmp_total name_same (IsWord 127) p.len_iv p.glyphs h in
+    let words = glyph_words p.len_iv p.glyphs h (sym (notdef_is c p) ∙ some) in
+    record {
+      rd = words.0;
+      def = words.1;
+      names = λ n v e. (has n v e).0;
+      bodies = λ n v e. (has n v e).1;
+      notdef = some;
+      few = within.glyphs;
+    }
+
+-- ---- the private text
+
+pub record IsReadPrivate (c : ClearPieces) (p : PrivatePieces) : Type 0 where
+  pub shell : IsPrivateShell (shell_of c p)
+  pub private : AreBytes p.private
+  pub middle : AreBytes p.middle
+  pub tail : AreBytes p.tail
+  pub subrs : IsReadSubrs p p.subrs
+  pub glyphs : AllByRecursion (IsRead (IsWord 127) p.len_iv) p.glyphs
+
+pub private_of : (text : List ℕ) (c : ClearPieces) (p : PrivatePieces) → IsPrivate text p → AreBytes text → IsReadPrivate c p
+private_of text c p s h =
+    let m = middle_of text p p.subrs s.before.start s.before.tables.tables h in
+    let t = s.before.glyphs in
+    let a = parts_bytes s.before.start t.0 s.after t.1 m.0.after in
+    let b = parts_bytes t.0 t.2.0 t.2.1 t.2.2 a.0 in
+    let found = front_again (first closefile) (first_exact closefile closefile_exact) s.after ((s.front, s.own), s.rest) s.close in
+    let whole : s.after ≡ p.tail ++ s.rest = close_parts s.after s.front s.own s.rest found ∙ ap (λ (u : List ℕ). u ++ s.rest) (sym s.tail) in
+    record {
+      shell = record {
+        iv = is_iv p.private p.len_iv s.before.tables.len_iv;
+        no_subrs = m.0.no_subrs;
+        no_chars = m.0.no_chars;
+        middle_apart = m.0.apart;
+        middle_chars = m.0.middle_chars;
+        middle_subrs = s.single.0;
+        tail_apart = stops_front p.tail s.rest (subst (Stops is_regular) whole (glyphs_stops s.before.closing t.2.1 s.after t.2.4));
+        tail_subrs = s.single.1;
+        tail_ends = ap (λ (u : List ℕ). option_map (λ y. y.1) ((first closefile).read u)) s.tail ∙ tail_ends_of s.after ((s.front, s.own), s.rest) found;
+      };
+      private = m.0.private;
+      middle = m.0.middle;
+      tail = (parts_bytes s.after p.tail s.rest whole a.1).0;
+      subrs = m.1;
+      glyphs = entries_have (glyph p.len_iv) (IsRead (IsWord 127) p.len_iv) (glyph_of p.len_iv) p.glyphs t.2.0 (t.2.1 ++ s.after) t.2.3 b.0;
+    }
+
+-- ---- the file
+
+cut_bytes : (flat clear cipher : List ℕ) → IsCut flat clear cipher → AreBytes flat → AreBytes clear × AreBytes cipher
+cut_bytes flat clear cipher s h =
+    let a = parts_bytes flat s.marker.0 s.after s.marker.1 h in
+    let e = s.marker.2 in
+    let same : s.marker.0 ≡ clear = e.1 ∙ (ap (λ (u : List ℕ). s.front ++ u) (marker_own s.own e.0 s.after e.2) ∙ sym s.clear_is) in
+    let b = parts_bytes s.after s.secret.0 s.rest s.secret.1 a.1 in
+    (subst AreBytes same a.0, cipher_bytes_of cipher s.secret.0 s.rest s.secret.2 b.0)
+
+texts_bytes : (file clear text : List ℕ) → Texts file clear text → AreBytes file → AreBytes clear × AreBytes text
+texts_bytes file clear text s h =
+    let both = cut_bytes s.flat clear s.cipher s.cut (flat_bytes file s.flat s.flat_is h) in
+    let plain = parts_bytes (decrypted 55665 s.cipher) s.lead text (decrypted-is (s.lead ++ text) s.cipher 55665 s.secret) (decrypted_bytes s.cipher 55665 (omega arith) both.1) in
+    (both.0, plain.1)
+
+pub spelled_font : (file : List ℕ) (f : FontValue) → AreBytes file → Spells file f → IsFont f
+spelled_font file f h s =
+    let c = s.outside in
+    let p = s.inside in
+    let t = s.pieces.texts in
+    let bytes = texts_bytes file s.pieces.clear s.pieces.text t h in
+    let clear = clear_of t.flat s.pieces.clear t.cipher c p t.cut s.pieces.clear_is bytes.0 in
+    let private = private_of s.pieces.text c p s.pieces.private_is bytes.1 in
+    let some : contains_key (font_of c p).glyphs notdef ≡ true = subst (λ (f : FontValue). contains_key f.glyphs notdef ≡ true) s.value s.has_notdef in
+    let within : IsWithin (font_of c p) = subst IsWithin s.value s.within in
+    subst IsFont (sym s.value) (record {
+      clear = clear.shell;
+      private = private.shell;
+      texts = record { head = clear.head; clear_tail = clear.tail; private = private.private; middle = private.middle; tail = private.tail };
+      encoding = clear.encoding;
+      subrs = subrs_of_font c p p.subrs private.subrs within.declared;
+      glyphs = glyphs_of_font c p private.glyphs some within;
+      light = within.weight;
+    })
+
+pub read_is_font : (file : List ℕ) (f : FontValue) → AreBytes file → read_font file ≡ Ok f → IsFont f
+read_is_font file f h e = spelled_font file f h (reads file f e)
+
+-- a font is a value of bytes that its own canonical file spells
+pub font_exactly : (f : FontValue) → (IsFont f → HasBytes f × (read_font (canon f Pfb) ≡ Ok f)) × (HasBytes f × (read_font (canon f Pfb) ≡ Ok f) → IsFont f)
+font_exactly f = (λ h. (has_bytes f h, round_trip f Pfb h tt), λ s. read_is_font (canon f Pfb) f (canon_bytes f Pfb s.0) s.1)
+
+-- ---- the first byte
+
+starts_head : (head rest : List ℕ) → starts_segment head ≡ starts_segment (head ++ (47 ∷ rest))
+starts_head [] rest = refl
+starts_head (b ∷ head) rest = refl
+
+spelled_starts : (file flat : List ℕ) (f : FontValue) → IsFlat file flat → Spells file f → starts_segment f.shell.head ≡ starts_segment flat
+spelled_starts file flat f flat_is s =
+    let t = s.pieces.texts in
+    let c = s.pieces.clear_is in
+    let e = t.cut.marker.2 in
+    let m = c.marker.2 in
+    let slash = encoding_slash m.0 c.after m.2 in
+    let same : flat ≡ t.flat = one_flat.texts file flat t.flat flat_is t.flat_is in
+    let clear : t.cut.marker.0 ≡ s.pieces.clear = e.1 ∙ (ap (λ (u : List ℕ). t.cut.front ++ u) (marker_own t.cut.own e.0 t.cut.after e.2) ∙ sym t.cut.clear_is) in
+    let behind : s.pieces.clear ≡ s.outside.head ++ (47 ∷ (slash.0 ++ c.after)) = c.marker.1 ∙ (ap (λ (u : List ℕ). u ++ c.after) (m.1 ∙ ap (λ (u : List ℕ). s.outside.head ++ u) slash.1) ∙ append_assoc s.outside.head (47 ∷ slash.0) c.after) in
+    let whole : flat ≡ s.outside.head ++ (47 ∷ ((slash.0 ++ c.after) ++ t.cut.after)) = same ∙ (t.cut.marker.1 ∙ (ap (λ (u : List ℕ). u ++ t.cut.after) (clear ∙ behind) ∙ append_assoc s.outside.head (47 ∷ (slash.0 ++ c.after)) t.cut.after)) in
+    ap (λ (g : FontValue). starts_segment g.shell.head) s.value ∙ (starts_head s.outside.head ((slash.0 ++ c.after) ++ t.cut.after) ∙ ap starts_segment (sym whole))
+
+-- a font's head begins with byte 128 exactly where its flat text does
+pub head_starts : (file flat : List ℕ) (f : FontValue) → IsFlat file flat → read_font file ≡ Ok f → starts_segment f.shell.head ≡ starts_segment flat
+head_starts file flat f flat_is e = spelled_starts file flat f flat_is (reads file f e)

@@ -1,0 +1,6 @@
+pub mod TagRows
+pub mod Tiny
+pub mod TinyCuts
+pub mod TinyFiles
+pub mod TinyNumbers
+pub mod TinyRows

@@ -1,0 +1,89 @@
+-- Indices in their order, as finite sets, and unions of sets.
+use Rattle.std.proofs.Common.{◌≡◌, ℕ, Bool, true, false, ◌||◌, List, [], ◌∷◌, ◌++◌, refl, sym, ◌∙◌, ap, Less, Equal, Greater, flat_map, inl, inr}
+use Rattle.std.proofs.Math.Bool.{or_assoc}
+use Rattle.std.proofs.lemmas.List.Folds.{list_any-append}
+use Rattle.std.specs.List.{list_any}
+use Rattle.std.specs.Ordering.{nat_cmp, eq_by_cmp, match_ordering}
+use Rattle.std.specs.Cmp.{nat_cmp_total}
+use Rattle.std.specs.Cmp.Lexicographic.{nat_list_cmp_total}
+use Rattle.std.specs.BTreeSet.{insert_key}
+use Rattle.std.specs.FinSet as sets
+use Rattle.std.specs.FinSet.{nat_cmp-IsAntisymmetric}
+use Rattle.t1_font.specs.FontValue.{name_cmp}
+use Rattle.t1_subset.specs.Interpreter.{Numbers}
+use Rattle.t1_subset.proofs.closing.NameSets.{or_same, or_later}
+use Rattle.t1_subset.proofs.Sets.{name_same, any_at, any_one, any_flat, any_flat_from, in_list, from_in_list, in_items, from_in_items, same_members, any_append, any_append_left, any_append_right}
+
+or_none : (a : Bool) → (a || false) ≡ a
+or_none true = refl
+or_none false = refl
+
+or_swapped : (a b c : Bool) → ((a || b) || c) ≡ (b || (a || c))
+or_swapped true true c = refl
+or_swapped true false c = refl
+or_swapped false b c = refl
+
+abbrev of : List ℕ → Numbers
+of ks = sets.from_list ks
+
+in_of : (ks : List ℕ) (q : ℕ) → sets.contains (of ks) q ≡ list_any (eq_by_cmp nat_cmp q) ks
+in_of ks q = sets.contains-from_list nat_cmp_total ks q
+
+same : (s t : Numbers) → ((q : ℕ) → sets.contains s q ≡ sets.contains t q) → s ≡ t
+same s t h = sets.same_set nat_cmp_total nat_cmp-IsAntisymmetric s t h
+
+any_key : (q k : ℕ) (ks : List ℕ) → list_any (eq_by_cmp nat_cmp q) (insert_key nat_cmp ks k) ≡ (eq_by_cmp nat_cmp q k || list_any (eq_by_cmp nat_cmp q) ks)
+any_key q k [] = refl
+any_key q k (x ∷ xs) = elim (nat_cmp k x)
+    as (λ o. nat_cmp k x ≡ o → list_any (eq_by_cmp nat_cmp q) (match_ordering o (k ∷ x ∷ xs) (x ∷ xs) (x ∷ insert_key nat_cmp xs k)) ≡ (eq_by_cmp nat_cmp q k || list_any (eq_by_cmp nat_cmp q) (x ∷ xs))) [
+      | Less ↦ λ h. refl
+      | Equal ↦ λ h. or_same (eq_by_cmp nat_cmp q x) (eq_by_cmp nat_cmp q k) (list_any (eq_by_cmp nat_cmp q) xs) (ap (eq_by_cmp nat_cmp q) (sym (nat_cmp-IsAntisymmetric k x h)))
+      | Greater ↦ λ h. ap (λ b. eq_by_cmp nat_cmp q x || b) (any_key q k xs) ∙ or_later (eq_by_cmp nat_cmp q x) (eq_by_cmp nat_cmp q k) (list_any (eq_by_cmp nat_cmp q) xs)
+    ] refl
+
+-- an index that comes to the set comes from what is left
+pub insert_step : (old : List ℕ) (new : List ℕ) (k : ℕ) (left : List ℕ) → new ≡ insert_key nat_cmp old k → sets.union (of new) (of left) ≡ sets.union (of old) (of (k ∷ left))
+insert_step old new k left e = same _ _ (λ q.
+    sets.contains-union nat_cmp_total (of new) (of left) q
+    ∙ (λ i. (in_of new q ∙ ap (list_any (eq_by_cmp nat_cmp q)) e ∙ any_key q k old) i || in_of left q i)
+    ∙ or_swapped (eq_by_cmp nat_cmp q k) (list_any (eq_by_cmp nat_cmp q) old) (list_any (eq_by_cmp nat_cmp q) left)
+    ∙ (λ i. sym (in_of old q) i || sym (in_of (k ∷ left) q) i)
+    ∙ sym (sets.contains-union nat_cmp_total (of old) (of (k ∷ left)) q))
+
+-- a set that comes to the set comes from what is left
+pub union_step : (old new t : Numbers) (left : List ℕ) → new ≡ sets.union old t → sets.union new (of left) ≡ sets.union old (of (sets.items t ++ left))
+union_step old new t left e = same _ _ (λ q.
+    sets.contains-union nat_cmp_total new (of left) q
+    ∙ (λ i. (ap (λ (s : Numbers). sets.contains s q) e ∙ sets.contains-union nat_cmp_total old t q) i || in_of left q i)
+    ∙ or_assoc (sets.contains old q) (sets.contains t q) (list_any (eq_by_cmp nat_cmp q) left)
+    ∙ ap (λ b. sets.contains old q || b) ((λ i. sets.contains-items t q i || list_any (eq_by_cmp nat_cmp q) left) ∙ sym (list_any-append (eq_by_cmp nat_cmp q) (sets.items t) left) ∙ sym (in_of (sets.items t ++ left) q))
+    ∙ sym (sets.contains-union nat_cmp_total old (of (sets.items t ++ left)) q))
+
+pub union_none : (s : Numbers) → sets.union s (of []) ≡ s
+union_none s = same _ _ (λ q. sets.contains-union nat_cmp_total s (of []) q ∙ ap (λ b. sets.contains s q || b) (in_of [] q) ∙ or_none (sets.contains s q))
+
+pub union_lists : (ks ls : List ℕ) → sets.union (of ks) (of ls) ≡ of (ks ++ ls)
+union_lists ks ls = same _ _ (λ q.
+    sets.contains-union nat_cmp_total (of ks) (of ls) q ∙ (λ i. in_of ks q i || in_of ls q i)
+    ∙ sym (list_any-append (eq_by_cmp nat_cmp q) ks ls) ∙ sym (in_of (ks ++ ls) q))
+
+-- what comes of the names of a list comes of the members of their set
+module _ (g : List ℕ → List ℕ) (low : List ℕ) (all : List (List ℕ)) where
+  abbrev by : ℕ → List ℕ → Bool
+  by q n = list_any (eq_by_cmp nat_cmp q) (g n)
+
+  to : (q : ℕ) (ns ms : List (List ℕ)) → ((n : List ℕ) → list_any (eq_by_cmp name_cmp n) ns ≡ true → list_any (eq_by_cmp name_cmp n) ms ≡ true)
+      → list_any (eq_by_cmp nat_cmp q) (low ++ flat_map g ns) ≡ true → list_any (eq_by_cmp nat_cmp q) (low ++ flat_map g ms) ≡ true
+  to q ns ms h w = elim (any_append (eq_by_cmp nat_cmp q) low (flat_map g ns) w) [
+    | inl a ↦ any_append_left (eq_by_cmp nat_cmp q) low (flat_map g ms) a
+    | inr b ↦
+        let one = any_one nat_list_cmp_total name_same (by q) ns (any_flat nat_cmp_total nat_cmp-IsAntisymmetric g q ns b) in
+        any_append_right (eq_by_cmp nat_cmp q) low (flat_map g ms) (any_flat_from nat_cmp_total nat_cmp-IsAntisymmetric g q ms (any_at nat_list_cmp_total name_same (by q) one.0 ms (h one.0 one.1) one.2))
+  ]
+
+  pub of_members : of (low ++ flat_map g all) ≡ of (low ++ flat_map g (sets.items (sets.from_list {R = name_cmp} all)))
+  of_members = same_members nat_cmp_total nat_cmp-IsAntisymmetric _ _
+      (λ q h. from_in_list nat_cmp_total nat_cmp-IsAntisymmetric (low ++ flat_map g (sets.items (sets.from_list {R = name_cmp} all))) q (to q all (sets.items (sets.from_list {R = name_cmp} all))
+      (λ n w. in_items nat_list_cmp_total name_same (sets.from_list {R = name_cmp} all) n (from_in_list nat_list_cmp_total name_same all n w)) (in_list nat_cmp_total nat_cmp-IsAntisymmetric (low ++ flat_map g all) q h)))
+      (λ q h. from_in_list nat_cmp_total nat_cmp-IsAntisymmetric (low ++ flat_map g all) q (to q (sets.items (sets.from_list {R = name_cmp} all)) all
+      (λ n w. in_list nat_list_cmp_total name_same all n (from_in_items nat_list_cmp_total name_same (sets.from_list {R = name_cmp} all) n w)) (in_list nat_cmp_total nat_cmp-IsAntisymmetric (low ++ flat_map g (sets.items (sets.from_list {R = name_cmp} all))) q h)))

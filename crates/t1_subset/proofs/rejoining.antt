@@ -1,0 +1,5 @@
+pub mod CutCounts
+pub mod Truncated
+pub mod Rejoined
+pub mod MergingFonts
+pub mod Evened

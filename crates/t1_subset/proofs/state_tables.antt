@@ -1,0 +1,14 @@
+pub mod ByNumber
+pub mod FirstConflicts
+pub mod FirstNames
+pub mod FontCallers
+pub mod FontStates
+pub mod MergedFonts
+pub mod NameClashes
+pub mod Numbered
+pub mod SoughtNames
+pub mod StateClashes
+pub mod StateTrees
+pub mod TableStates
+pub mod TableWeights
+pub mod Walks

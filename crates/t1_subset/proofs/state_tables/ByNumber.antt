@@ -1,0 +1,94 @@
+-- Tables that are filled by number, from 0 on.
+use Rattle.std.proofs.Common.{◌≡◌, ℕ, ◌<◌, ◌≤◌, ◌+◌, Bool, true, false, cond, List, refl, sym, ◌∙◌, ap, subst, true≢false, Option, Some, None, nat_cmp, nat_lt, arith, inl, inr}
+use Rattle.std.proofs.lemmas.Bool.{ltb-true, ltb-false}
+use Rattle.std.specs.Ordering.{eq_by_cmp}
+use Rattle.std.specs.Cmp.{nat_cmp_total, both_ways}
+use Rattle.std.specs.FinMap as maps
+use Rattle.std.specs.FinSet.{nat_cmp-IsAntisymmetric}
+use Rattle.t1_join.specs.Meaning.{of_number}
+use Rattle.t1_join.specs.TableMeaning.{TableMeaning}
+use Rattle.t1_font.specs.FontValue.{FontValue, Encoding, Word, Codes, Numbered}
+use Rattle.t1_subset.specs.Profile.{profile}
+use Rattle.t1_subset.specs.States.{code_state, is_called, state_of_entry}
+use Rattle.t1_subset.specs.StateTables.{numbered, code_states}
+use Rattle.t1_subset.specs.Differences.{with_state, entry_state}
+use Rattle.t1_subset.proofs.Maps.{maps_same}
+use Rattle.t1_subset.proofs.state_tables.Numbered.{numbered-empty, numbered-insert}
+use Rattle.t1_subset.proofs.Sets.{is_or_not, not_so, tied, itself}
+
+-- the table has what x gives of the numbers below n, and no more
+pub record HasBelow (t : TableMeaning) (x : ℕ → Option (List ℕ)) (n : ℕ) : Type 0 where
+  pub map : Numbered
+  pub table : t ≡ numbered map
+  pub shown : (i : ℕ) → maps.get map i ≡ cond (nat_lt i n) (x i) None
+
+none_is_below : (i : ℕ) → nat_lt i 0 ≡ false
+none_is_below i = not_so (nat_lt i 0) (λ a. let l : i < 0 = ltb-true i 0 a in omega arith)
+
+at_next : (i n : ℕ) → i ≡ n → nat_lt i (n + 1) ≡ true
+at_next i n e = elim (is_or_not (nat_lt i (n + 1))) [
+  | inl a ↦ a
+  | inr a ↦ let far : n + 1 ≤ i = ltb-false i (n + 1) a in absurd (omega arith)
+]
+
+past_next : (i n : ℕ) → eq_by_cmp nat_cmp i n ≡ false → nat_lt i n ≡ nat_lt i (n + 1)
+past_next i n d = both_ways (nat_lt i n) (nat_lt i (n + 1))
+    (λ a. elim (is_or_not (nat_lt i (n + 1))) [
+      | inl b ↦ b
+      | inr b ↦ let near : i < n = ltb-true i n a in let far : n + 1 ≤ i = ltb-false i (n + 1) b in absurd (omega arith)
+    ])
+    (λ a. elim (is_or_not (nat_lt i n)) [
+      | inl b ↦ b
+      | inr b ↦
+          let near : i < n + 1 = ltb-true i (n + 1) a in let far : n ≤ i = ltb-false i n b in
+          let same : i ≡ n = omega arith in
+          absurd (true≢false (sym (subst (λ (k : ℕ). eq_by_cmp nat_cmp i k ≡ true) same (itself nat_cmp_total nat_cmp-IsAntisymmetric i)) ∙ d))
+    ])
+
+module _ (t : TableMeaning) (x : ℕ → Option (List ℕ)) where
+  pub has_none : t ≡ maps.empty → HasBelow t x 0
+  has_none e = record { map = maps.empty; table = e ∙ numbered-empty; shown = λ i. maps.get-empty nat_cmp i ∙ sym (ap (λ b. cond b (x i) None) (none_is_below i)) }
+
+  pub has_all : (n : ℕ) → HasBelow t x n → ((i : ℕ) → n ≤ i → x i ≡ None) → (m : Numbered) → ((i : ℕ) → maps.get m i ≡ x i) → t ≡ numbered m
+  has_all n h far m is = h.table ∙ ap numbered (maps_same nat_cmp_total nat_cmp-IsAntisymmetric h.map m (λ i. h.shown i ∙ (elim (is_or_not (nat_lt i n)) [
+    | inl a ↦ ap (λ b. cond b (x i) None) a
+    | inr a ↦ ap (λ b. cond b (x i) None) a ∙ sym (far i (ltb-false i n a))
+  ]) ∙ sym (is i)))
+
+module _ (t : TableMeaning) (x : ℕ → Option (List ℕ)) (n : ℕ) (h : HasBelow t x n) where
+  with_one : (v : List ℕ) → x n ≡ Some v → (i : ℕ) → maps.get (maps.insert h.map n v) i ≡ cond (nat_lt i (n + 1)) (x i) None
+  with_one v e i = maps.get-insert nat_cmp_total h.map n v i ∙ (elim (is_or_not (eq_by_cmp nat_cmp i n)) [
+    | inl a ↦
+        let same : i ≡ n = tied nat_cmp_total nat_cmp-IsAntisymmetric i n a in
+        ap (λ b. cond b (Some v) (maps.get h.map i)) a ∙ sym e ∙ ap x (sym same) ∙ sym (ap (λ b. cond b (x i) None) (at_next i n same))
+    | inr a ↦ ap (λ b. cond b (Some v) (maps.get h.map i)) a ∙ h.shown i ∙ ap (λ b. cond b (x i) None) (past_next i n a)
+  ])
+
+  none_either : (b : Bool) (y : Option (List ℕ)) → y ≡ None → y ≡ cond b y None
+  none_either true y e = refl
+  none_either false y e = e
+
+  with_nothing : x n ≡ None → (i : ℕ) → maps.get h.map i ≡ cond (nat_lt i (n + 1)) (x i) None
+  with_nothing e i = h.shown i ∙ (elim (is_or_not (eq_by_cmp nat_cmp i n)) [
+    | inl a ↦
+        let none : x i ≡ None = ap x (tied nat_cmp_total nat_cmp-IsAntisymmetric i n a) ∙ e in
+        sym (none_either (nat_lt i n) (x i) none) ∙ none_either (nat_lt i (n + 1)) (x i) none
+    | inr a ↦ ap (λ b. cond b (x i) None) (past_next i n a)
+  ])
+
+  pub has_next : (u : TableMeaning) (s : Option (List ℕ)) → u ≡ with_state t (of_number n) s → s ≡ x n → HasBelow u x (n + 1)
+  has_next u None is e = record { map = h.map; table = is ∙ h.table; shown = with_nothing (sym e) }
+  has_next u (Some v) is e = record { map = maps.insert h.map n v; table = is ∙ ap (λ (t : TableMeaning). maps.insert t (of_number n) v) h.table ∙ numbered-insert h.map n v; shown = with_one v (sym e) }
+
+-- ---- codes and Subrs
+
+pub codes_filled : (e : Encoding) (t : TableMeaning) (n : ℕ) → HasBelow t (code_state e) n → ((i : ℕ) → n ≤ i → code_state e i ≡ None) → t ≡ code_states e
+codes_filled (Word w) t n h far = has_all t (code_state (Word w)) n h far maps.empty (maps.get-empty nat_cmp) ∙ sym numbered-empty
+codes_filled (Codes s) t n h far = has_all t (code_state (Codes s)) n h far s (λ i. refl)
+
+pub entry_is : (f : FontValue) (i : ℕ) (x y : Option (List ℕ)) (b : Bool) → x ≡ y → b ≡ is_called profile f i → entry_state x b ≡ state_of_entry profile f i y
+entry_is f i x y b e h = (λ j. entry_state (e j) (h j)) ∙ at y
+  where
+    at : (y : Option (List ℕ)) → entry_state y (is_called profile f i) ≡ state_of_entry profile f i y
+    at None = refl
+    at (Some c) = refl

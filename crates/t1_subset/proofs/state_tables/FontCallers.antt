@@ -1,0 +1,258 @@
+-- The smallest glyphs that execute a Subr or seek a component: as the code notes them, and in a join.
+use Rattle.std.proofs.Common.{◌≡◌, ◌<◌, ℕ, zero, suc, replicate, Bool, true, false, not, cond, ◌&&◌, ◌||◌, List, [], ◌∷◌, ◌++◌, map, refl, sym, ◌∙◌, ap, subst, Option, Some, None, is_some, unwrap_or, true≢false}
+use Rattle.std.specs.List.{list_any, AllByRecursion}
+use Rattle.std.specs.Cmp.{nat_cmp_total}
+use Rattle.std.specs.Cmp.Lexicographic.{nat_list_cmp_total}
+use Rattle.std.specs.Borrow.{Bor}
+use Rattle.std.specs.FinMap as maps
+use Rattle.std.specs.FinSet as sets
+use Rattle.t1_font.specs.Cut.{merged}
+use Rattle.t1_font.specs.FontValue.{FontValue, Named, Shell, name_cmp, declared_count}
+use Rattle.t1_font.specs.FontModel.{names_in}
+use Rattle.t1_font.proofs.MapCuts.{entries_all, entries-map_values}
+use Rattle.t1_subset.specs.declared.callers.Callers.{Callers}
+use Rattle.t1_subset.specs.Interpreter.{same_bytes}
+use Rattle.t1_subset.specs.Keep.{has, components, charstring}
+use Rattle.t1_subset.specs.Profile.{profile}
+use Rattle.t1_subset.specs.States.{Agree, joined, is_called, is_sought, state_of_glyph, joined_font, Compatible}
+use Rattle.t1_subset.specs.Conflicts.{first_where, smallest, members, keys_of_both, executes, executed_at, calls_for, called_at, wants, wanted_by, used_by, glyph_names}
+use Rattle.t1_subset.specs.Differences.{smaller}
+use Rattle.t1_subset.specs.Callers.{same_charstring, user_of, seeker_of, user_at, user_from, seeker_from, AreCallersOf}
+use Rattle.t1_subset.specs.Clashes.{AreCallers}
+use Rattle.t1_subset.proofs.Flat.{agree_back}
+use Rattle.t1_subset.proofs.closing.ExecutedCalls.{calls_by, no_calls}
+use Rattle.t1_subset.proofs.closing.ProfileRuns.{no_components}
+use Rattle.t1_subset.proofs.state_tables.FirstNames.{smaller_first}
+use Rattle.t1_subset.proofs.JoinedStates.{glyph_in_join, glyph_agree, left_runs, right_runs}
+use Rattle.t1_subset.proofs.Conflicts.{sought}
+use Rattle.std.specs.Cmp.{second_so}
+use Rattle.t1_subset.proofs.Sets.{name_same, not_so, clash, tied}
+
+-- ---- the first of some names
+
+module _ {K : Type 0} where
+  pub any_first : (p : K → Bool) (ks : List K) → list_any p ks ≡ is_some (first_where p ks)
+  any_first p [] = refl
+  any_first p (k ∷ ks) = elim (p k) as (λ b. (b || list_any p ks) ≡ is_some (cond b (Some k) (first_where p ks))) [ true ↦ refl | false ↦ any_first p ks ]
+
+  any_and : (b : Bool) (p : K → Bool) (ks : List K) → list_any (λ k. b && p k) ks ≡ (b && list_any p ks)
+  any_and true p ks = refl
+  any_and false p [] = refl
+  any_and false p (k ∷ ks) = any_and false p ks
+
+-- what stands there, else the name where it passes, else what comes
+pub joined_first : {V : Type 0} (x : Option V) (b : Bool) (v : V) (y : Option V) → joined (joined x (cond b (Some v) None)) y ≡ joined x (cond b (Some v) y)
+joined_first None true v y = refl
+joined_first None false v y = refl
+joined_first (Some w) b v y = refl
+
+pub joined_either : {V : Type 0} (x : Option V) (a b : Bool) (v : V) → joined (joined x (cond a (Some v) None)) (cond b (Some v) None) ≡ joined x (cond (a || b) (Some v) None)
+joined_either None true b v = refl
+joined_either None false b v = refl
+joined_either (Some w) a b v = refl
+
+pub joined_none : {V : Type 0} (x : Option V) → joined x None ≡ x
+joined_none None = refl
+joined_none (Some v) = refl
+
+-- ---- noting the names of a list, one by one
+
+module _ (p : List ℕ → Bool) where
+  pub noted_first : (x : Option (List ℕ)) (names all : List (List ℕ)) → x ≡ None → names ≡ all → joined x (first_where p names) ≡ first_where p all
+  noted_first x names all none e = λ i. joined (none i) (first_where p (e i))
+
+  pub noted_next : (x y goal : Option (List ℕ)) (n : List ℕ) (names left : List (List ℕ)) → y ≡ joined x (cond (p n) (Some n) None) → names ≡ n ∷ left → joined x (first_where p names) ≡ goal → joined y (first_where p left) ≡ goal
+  noted_next x y goal n names left is more h = ap (λ y. joined y (first_where p left)) is ∙ joined_first x (p n) n (first_where p left) ∙ ap (λ ns. joined x (first_where p ns)) (sym more) ∙ h
+
+  pub noted_last : (x goal : Option (List ℕ)) (names : List (List ℕ)) → names ≡ [] → joined x (first_where p names) ≡ goal → x ≡ goal
+  noted_last x goal names none h = sym (joined_none x) ∙ ap (λ ns. joined x (first_where p ns)) (sym none) ∙ h
+
+pub no_user : (count q : ℕ) → user_at (replicate count None) q ≡ None
+no_user zero q = refl
+no_user (suc count) zero = refl
+no_user (suc count) (suc q) = no_user count q
+
+-- where the name passes something is noted already, so that noting it changes nothing
+pub known_already : (x : Option (List ℕ)) (b : Bool) (n : List ℕ) → (b ≡ true → is_some x ≡ true) → x ≡ joined x (cond b (Some n) None)
+known_already (Some m) b n h = refl
+known_already None true n h = absurd (true≢false (sym (h refl)))
+known_already None false n h = refl
+
+-- where the name passes something is noted after it
+pub known_then : (x y : Option (List ℕ)) (b : Bool) (n : List ℕ) → y ≡ joined x (cond b (Some n) None) → b ≡ true → is_some y ≡ true
+known_then (Some m) y b n e h = ap is_some e
+known_then None y b n e h = ap is_some (e ∙ ap (λ b. joined None (cond b (Some n) None)) h)
+
+-- what has the same bytes is the same
+pub again_same : (x y : Option (List ℕ)) → same_charstring x y ≡ true → x ≡ y
+again_same None y h = absurd (true≢false (sym h))
+again_same (Some c) None h = absurd (true≢false (sym h))
+again_same (Some c) (Some d) h = ap Some (tied nat_list_cmp_total name_same c d h)
+
+-- a charstring is noted: the indices that it executes have users, and the components that it names, and that the font lacks, have seekers
+pub record IsNoted (f : FontValue) (users : List (Option (Bor (List ℕ)))) (seekers : List ℕ → Option (List ℕ)) (c : Option (List ℕ)) : Type 0 where
+  pub executed : (q : ℕ) → q < declared_count f.shell.subrs → executed_at profile f q c ≡ true → is_some (user_at users q) ≡ true
+  pub named : (p : List ℕ) → (not (has f p) && called_at profile f p c) ≡ true → is_some (seekers p) ≡ true
+
+-- no charstring is noted from the beginning
+pub nothing_noted : (f : FontValue) (users : List (Option (Bor (List ℕ)))) (seekers : List ℕ → Option (List ℕ)) → IsNoted f users seekers None
+nothing_noted f users seekers = record {
+  executed = λ q l h. absurd (true≢false (sym h));
+  named = λ p h. absurd (true≢false (sym (second_so (not (has f p)) false h)));
+}
+
+-- ---- the glyphs of one font
+
+module _ (f : FontValue) where
+  pub executes_so : (n : List ℕ) (i : ℕ) → sets.contains (calls_by f n) i ≡ executes profile f n i
+  executes_so n i = at (maps.get f.glyphs n) refl
+    where
+      at : (x : Option (List ℕ)) → maps.get f.glyphs n ≡ x → sets.contains (calls_by f n) i ≡ executed_at profile f i x
+      at None e = ap (λ s. sets.contains s i) (sym (no_calls f n e)) ∙ sets.contains-from_list nat_cmp_total [] i
+      at (Some c) e = ap (λ x. sets.contains (profile.exec f.subrs (unwrap_or x [])) i) e
+
+  pub calls_so : (n p : List ℕ) → list_any (same_bytes p) (components profile f.subrs (charstring f n)) ≡ calls_for profile f n p
+  calls_so n p = at (maps.get f.glyphs n) refl
+    where
+      at : (x : Option (List ℕ)) → maps.get f.glyphs n ≡ x → list_any (same_bytes p) (components profile f.subrs (charstring f n)) ≡ called_at profile f p x
+      at None e = ap (list_any (same_bytes p)) (sym (no_components f n e))
+      at (Some c) e = ap (λ x. list_any (same_bytes p) (components profile f.subrs (unwrap_or x []))) e
+
+  -- what stands of each name, by its entry
+  any_entries : (at : Option (List ℕ) → Bool) (es : List (List ℕ × List ℕ)) → AllByRecursion (λ e. maps.get f.glyphs e.0 ≡ Some e.1) es → list_any (λ e. at (Some e.1)) es ≡ list_any (λ n. at (maps.get f.glyphs n)) (map (λ e. e.0) es)
+  any_entries at [] h = refl
+  any_entries at (e ∷ es) h = λ i. at (sym h.0 i) || any_entries at es h.1 i
+
+  any_glyph : (at : Option (List ℕ) → Bool) → list_any (λ e. at (Some e.1)) (maps.entries f.glyphs) ≡ list_any (λ n. at (maps.get f.glyphs n)) (names_in f.glyphs)
+  any_glyph at = any_entries at (maps.entries f.glyphs) (entries_all nat_list_cmp_total name_same (λ n c. maps.get f.glyphs n ≡ Some c) f.glyphs (λ n c h. h))
+
+  -- an index is called where it has a user
+  pub called_is : (i : ℕ) → is_called profile f i ≡ is_some (user_of f i)
+  called_is i = any_glyph (executed_at profile f i) ∙ any_first (λ n. executes profile f n i) (names_in f.glyphs)
+
+  -- a component that the font lacks is sought where it has a seeker
+  pub sought_is : (p : List ℕ) → is_some (seeker_of f p) ≡ (not (has f p) && is_sought profile f p)
+  sought_is p = sym (any_first (λ n. wants profile f n p) (names_in f.glyphs)) ∙ any_and (not (has f p)) (λ n. calls_for profile f n p) (names_in f.glyphs) ∙ ap (λ b. not (has f p) && b) (sym (any_glyph (called_at profile f p)))
+
+-- ---- two fonts
+
+caller_there : (f : FontValue) (p : List ℕ) (x : Option (List ℕ)) → called_at profile f p x ≡ true → is_some x ≡ true
+caller_there f p None h = h
+caller_there f p (Some c) h = refl
+
+executing_there : (f : FontValue) (i : ℕ) (x : Option (List ℕ)) → executed_at profile f i x ≡ true → is_some x ≡ true
+executing_there f i None h = h
+executing_there f i (Some c) h = refl
+
+module _ (f g : FontValue) where
+  pub smallest_user : (i : ℕ) → smaller name_cmp (user_of f i) (user_of g i) ≡ smallest (used_by profile f g i) (glyph_names f g)
+  smallest_user i = smaller_first nat_list_cmp_total name_same f.glyphs g.glyphs (λ n. executes profile f n i) (λ n. executes profile g n i)
+      (λ n h. executing_there f i (maps.get f.glyphs n) h) (λ n h. executing_there g i (maps.get g.glyphs n) h) _ _ refl refl
+
+  pub smallest_seeker : (p : List ℕ) → smaller name_cmp (seeker_of f p) (seeker_of g p) ≡ smallest (wanted_by profile f g p) (glyph_names f g)
+  smallest_seeker p = smaller_first nat_list_cmp_total name_same f.glyphs g.glyphs (λ n. wants profile f n p) (λ n. wants profile g n p)
+      (λ n h. caller_there f p (maps.get f.glyphs n) (second_so (not (has f p)) (calls_for profile f n p) h)) (λ n h. caller_there g p (maps.get g.glyphs n) (second_so (not (has g p)) (calls_for profile g n p) h)) _ _ refl refl
+
+keys_valued : (es : List (List ℕ × List ℕ)) → map (λ (e : List ℕ × List ℕ). e.0) es ≡ map (λ (e : List ℕ × ℕ). e.0) (map (λ (e : List ℕ × List ℕ). (e.0, 0)) es)
+keys_valued [] = refl
+keys_valued (e ∷ es) = ap (λ (ns : List (List ℕ)). e.0 ∷ ns) (keys_valued es)
+
+names_of_both : (a b : Named) → names_in (merged a b) ≡ members (keys_of_both a b)
+names_of_both a b = keys_valued (maps.entries (merged a b)) ∙ ap (map (λ e. e.0)) (sym (entries-map_values nat_list_cmp_total name_same (λ k v. 0) (merged a b)))
+
+-- ---- the glyphs of a join
+
+or_none : (a : Bool) → a ≡ (a || false)
+or_none true = refl
+or_none false = refl
+
+or_self : (a b c : Bool) → a ≡ b → a ≡ c → a ≡ (b || c)
+or_self true b c h k = ap (λ b. b || c) h
+or_self false b c h k = k ∙ ap (λ b. b || c) h
+
+module _ (f g : FontValue) (c : Compatible profile f g) where
+  abbrev both : FontValue
+  both = joined_font profile f g
+
+  -- what holds of a glyph's charstring in the join holds of it in a font that has it
+  at_join : (p : FontValue → List ℕ → Bool) → ((n v : List ℕ) → maps.get f.glyphs n ≡ Some v → p both v ≡ p f v) → ((n v : List ℕ) → maps.get g.glyphs n ≡ Some v → p both v ≡ p g v)
+      → (at : FontValue → Option (List ℕ) → Bool) → ((h : FontValue) → at h None ≡ false) → ((h : FontValue) (v : List ℕ) → at h (Some v) ≡ p h v)
+      → (n : List ℕ) (x y : Option (List ℕ)) → maps.get f.glyphs n ≡ x → maps.get g.glyphs n ≡ y → Agree x y → at both (joined x y) ≡ (at f x || at g y)
+  at_join p left right at none some n None None hx hy a = none both ∙ (λ i. sym (none f) i || sym (none g) i)
+  at_join p left right at none some n None (Some d) hx hy a = some both d ∙ right n d hy ∙ sym (some g d) ∙ ap (λ b. b || at g (Some d)) (sym (none f))
+  at_join p left right at none some n (Some v) None hx hy a = some both v ∙ left n v hx ∙ sym (some f v) ∙ or_none (at f (Some v)) ∙ ap (λ b. at f (Some v) || b) (sym (none g))
+  at_join p left right at none some n (Some v) (Some d) hx hy a =
+      or_self (at both (Some v)) (at f (Some v)) (at g (Some d)) (some both v ∙ left n v hx ∙ sym (some f v)) (ap (λ u. at both (Some u)) a ∙ some both d ∙ right n d hy ∙ sym (some g d))
+
+  executes_join : (i : ℕ) (n : List ℕ) → executes profile both n i ≡ used_by profile f g i n
+  executes_join i n = ap (executed_at profile both i) (glyph_in_join profile f g n)
+      ∙ at_join (λ h v. sets.contains (profile.exec h.subrs v) i)
+      (λ n v is. ap (λ s. sets.contains s i) (left_runs profile f g n v is).1) (λ n v is. ap (λ s. sets.contains s i) (right_runs profile f g c n v is).1)
+      (λ h x. executed_at profile h i x) (λ h. refl) (λ h v. refl) n (maps.get f.glyphs n) (maps.get g.glyphs n) refl refl (glyph_agree profile f g c n)
+
+  calls_join : (p n : List ℕ) → calls_for profile both n p ≡ (calls_for profile f n p || calls_for profile g n p)
+  calls_join p n = ap (called_at profile both p) (glyph_in_join profile f g n)
+      ∙ at_join (λ h v. list_any (same_bytes p) (components profile h.subrs v))
+      (λ n v is. ap (λ d. list_any (same_bytes p) (profile.names d)) (left_runs profile f g n v is).0) (λ n v is. ap (λ d. list_any (same_bytes p) (profile.names d)) (right_runs profile f g c n v is).0)
+      (λ h x. called_at profile h p x) (λ h. refl) (λ h v. refl) n (maps.get f.glyphs n) (maps.get g.glyphs n) refl refl (glyph_agree profile f g c n)
+
+  -- a component that one font has, the other doesn't seek
+  unsought : (b : Bool) (v : List ℕ) → Agree {V = Option (List ℕ)} (cond b (Some None) None) (Some (Some v)) → b ≡ false
+  unsought true v h = absurd (none_some h)
+    where
+      none_some : ◌≡◌ {A = Option (List ℕ)} None (Some v) → ⊥
+      none_some e = cc
+  unsought false v h = refl
+
+  sought_by : (h : FontValue) (p n : List ℕ) → is_sought profile h p ≡ false → calls_for profile h n p ≡ false
+  sought_by h p n s = not_so (calls_for profile h n p) (λ k. clash (is_sought profile h p) (sought profile h p n k) s)
+
+  wants_at : (p n : List ℕ) (x y : Option (List ℕ)) → Agree (state_of_glyph profile f p x) (state_of_glyph profile g p y)
+      → (not (is_some (joined x y)) && calls_for profile both n p) ≡ ((not (is_some x) && calls_for profile f n p) || (not (is_some y) && calls_for profile g n p))
+  wants_at p n None None a = calls_join p n
+  wants_at p n None (Some d) a = sym (ap (λ b. b || false) (sought_by f p n (unsought (is_sought profile f p) d a)))
+  wants_at p n (Some v) None a = sym (sought_by g p n (unsought (is_sought profile g p) v (agree_back (Some (Some v)) (state_of_glyph profile g p None) a)))
+  wants_at p n (Some v) (Some d) a = refl
+
+  wants_join : (p n : List ℕ) → wants profile both n p ≡ wanted_by profile f g p n
+  wants_join p n = ap (λ x. not (is_some x) && calls_for profile both n p) (glyph_in_join profile f g p) ∙ wants_at p n (maps.get f.glyphs p) (maps.get g.glyphs p) (c.names p)
+
+  pub user_join : (i : ℕ) → user_of both i ≡ smaller name_cmp (user_of f i) (user_of g i)
+  user_join i = (λ k. first_where (λ n. executes_join i n k) (names_in both.glyphs)) ∙ ap (first_where (used_by profile f g i)) (names_of_both f.glyphs g.glyphs) ∙ sym (smallest_user f g i)
+
+  pub seeker_join : (p : List ℕ) → seeker_of both p ≡ smaller name_cmp (seeker_of f p) (seeker_of g p)
+  seeker_join p = (λ k. first_where (λ n. wants_join p n k) (names_in both.glyphs)) ∙ ap (first_where (wanted_by profile f g p)) (names_of_both f.glyphs g.glyphs) ∙ sym (smallest_seeker f g p)
+
+-- ---- the callers of some fonts
+
+-- the callers of fonts are together those of the font that they come to
+pub record CallersSoFar (cs : List Callers) (f : FontValue) : Type 0 where
+  pub users : (i : ℕ) → i < declared_count f.shell.subrs → user_from None cs i ≡ user_of f i
+  pub seekers : (p : List ℕ) → seeker_from None cs p ≡ seeker_of f p
+
+user_last : (best : Option (List ℕ)) (cs : List Callers) (c : Callers) (i : ℕ) → user_from best (cs ++ c ∷ []) i ≡ smaller name_cmp (user_from best cs i) (user_at c.users i)
+user_last best [] c i = refl
+user_last best (d ∷ cs) c i = user_last (smaller name_cmp best (user_at d.users i)) cs c i
+
+seeker_last : (best : Option (List ℕ)) (cs : List Callers) (c : Callers) (p : List ℕ) → seeker_from best (cs ++ c ∷ []) p ≡ smaller name_cmp (seeker_from best cs p) (maps.get c.seekers p)
+seeker_last best [] c p = refl
+seeker_last best (d ∷ cs) c p = seeker_last (smaller name_cmp best (maps.get d.seekers p)) cs c p
+
+pub first_callers : (c : Callers) (f : FontValue) → AreCallersOf c f → CallersSoFar (c ∷ []) f
+first_callers c f h = record { users = h.users; seekers = h.seekers }
+
+module _ (f g : FontValue) (cs : List Callers) (d : Callers) (h : CallersSoFar cs f) (k : AreCallersOf d g) where
+  user_more : (i : ℕ) → i < declared_count f.shell.subrs → i < declared_count g.shell.subrs → user_from None (cs ++ d ∷ []) i ≡ smaller name_cmp (user_of f i) (user_of g i)
+  user_more i l m = user_last None cs d i ∙ (λ t. smaller name_cmp (h.users i l t) (k.users i m t))
+
+  seeker_more : (p : List ℕ) → seeker_from None (cs ++ d ∷ []) p ≡ smaller name_cmp (seeker_of f p) (seeker_of g p)
+  seeker_more p = seeker_last None cs d p ∙ (λ t. smaller name_cmp (h.seekers p t) (k.seekers p t))
+
+  pub both_callers : AreCallers (cs ++ d ∷ []) f g
+  both_callers = record { users = λ i l m. user_more i l m ∙ smallest_user f g i; seekers = λ p. seeker_more p ∙ smallest_seeker f g p }
+
+  pub more_callers : Compatible profile f g → CallersSoFar (cs ++ d ∷ []) (joined_font profile f g)
+  more_callers c = record {
+    users = λ i l. user_more i l (subst (λ (s : Shell). i < declared_count s.subrs) c.shells l) ∙ sym (user_join f g c i);
+    seekers = λ p. seeker_more p ∙ sym (seeker_join f g c p);
+  }

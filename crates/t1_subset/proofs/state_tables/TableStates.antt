@@ -1,0 +1,155 @@
+-- Tables of states, as the code fills and compares them.
+use Rattle.std.proofs.Common.{◌≡◌, ℕ, ◌<◌, ◌≤◌, true, false, not, cond, ◌||◌, List, [], ◌∷◌, Bor, map, option_map, refl, sym, ◌∙◌, ap, subst, true≢false, Option, Some, None, is_some, nat_cmp, nat_lt, arith, inl, inr, Less, Equal, Greater}
+use Rattle.std.proofs.lemmas.Bool.{ltb-true, ltb-false}
+use Rattle.std.specs.List.{list_any}
+use Rattle.std.specs.Ordering.{MatchOrdering}
+use Rattle.std.specs.Cmp.{both_ways, ranks}
+use Rattle.std.specs.Cmp.Lexicographic.{nat_list_cmp_total}
+use Rattle.std.specs.FinMap as maps
+use Rattle.t1_join.specs.Meaning.{Meaning, meaning_cmp, same_meaning, of_number, by_number_law}
+use Rattle.t1_join.specs.Join.{StatesAgree, states_agree}
+use Rattle.t1_join.specs.StateLaws.{same_meaning-true, same_meaning-self}
+use Rattle.t1_join.specs.TableMeaning.{TableMeaning, TablesAgree, IsFirstConflict}
+use Rattle.t1_font.specs.Cut.{map_values}
+use Rattle.t1_font.specs.FontValue.{FontValue, Encoding, Word, Codes, Named, declared_count}
+use Rattle.t1_font.proofs.MapCuts.{entries-map_values}
+use Rattle.t1_subset.specs.StateTables.{numbered, code_states, used_subrs}
+use Rattle.t1_subset.proofs.state_tables.Numbered.{get-numbered}
+use Rattle.t1_subset.proofs.state_tables.FontStates.{get-used}
+use Rattle.t1_font.specs.FontModel.{names_in}
+use Rattle.t1_font.specs.IsFont.{IsFont}
+use Rattle.t1_subset.specs.Interpreter.{same_bytes}
+use Rattle.t1_subset.specs.Profile.{profile}
+use Rattle.t1_subset.specs.States.{code_state, subr_state}
+use Rattle.t1_subset.specs.Conflicts.{agrees, code_conflict, subr_conflict}
+use Rattle.t1_subset.specs.Differences.{with_state}
+use Rattle.t1_subset.proofs.Conflicts.{bytes_decide}
+use Rattle.t1_subset.proofs.Sets.{is_or_not, not_so, name_same, tied, itself, here, later}
+use Rattle.t1_subset.proofs.state_tables.FirstConflicts.{first_code, no_code, no_name}
+use Rattle.t1_subset.proofs.closing.ExecutedCalls.{first_subr, no_subr}
+
+-- ---- states that agree
+
+meanings_as_bytes : (v w : Meaning) → same_meaning v w ≡ same_bytes v w
+meanings_as_bytes v w = both_ways (same_meaning v w) (same_bytes v w)
+    (λ h. subst (λ (u : List ℕ). same_bytes v u ≡ true) (same_meaning-true v w h) (bytes_decide.self v))
+    (λ h. subst (λ (u : List ℕ). same_meaning v u ≡ true) (bytes_decide.so v w h) (same_meaning-self v))
+
+agree_alike : (x y : Option Meaning) → states_agree x y ≡ agrees x y
+agree_alike None y = refl
+agree_alike (Some v) None = refl
+agree_alike (Some v) (Some w) = meanings_as_bytes v w
+
+no_clash : (x y a b : Option Meaning) → x ≡ a → y ≡ b → StatesAgree x y → not (agrees a b) ≡ false
+no_clash x y a b e f h = ap not ((λ i. agrees (sym e i) (sym f i)) ∙ sym (agree_alike x y) ∙ h)
+
+clash : (x y a b : Option Meaning) → x ≡ a → y ≡ b → (StatesAgree x y → ⊥) → not (agrees a b) ≡ true
+clash x y a b e f h = ap not ((λ i. agrees (sym e i) (sym f i)) ∙ sym (agree_alike x y) ∙ not_so (states_agree x y) h)
+
+less_of : (k c : ℕ) → k < c → nat_cmp k c ≡ Less
+less_of k c l = elim (nat_cmp k c) as (λ o. MatchOrdering o (k < c) (k ≡ c) (c < k) → o ≡ Less) [
+  | Less ↦ λ h. refl
+  | Equal ↦ λ h. absurd (omega arith)
+  | Greater ↦ λ h. absurd (omega arith)
+] (ranks k c)
+
+-- ---- tables by number
+
+-- the table shows the states of the numbers
+abbrev pub Shows : TableMeaning → (ℕ → Option (List ℕ)) → Type 0
+Shows t x = (i : ℕ) → maps.get t (of_number i) ≡ x i
+
+pub shows_codes : (e : Encoding) (t : TableMeaning) → t ≡ code_states e → Shows t (code_state e)
+shows_codes (Word w) t is i = ap (λ (t : TableMeaning). maps.get t (of_number i)) is ∙ maps.get-empty meaning_cmp (of_number i)
+shows_codes (Codes s) t is i = ap (λ (t : TableMeaning). maps.get t (of_number i)) is ∙ get-numbered s (of_number i)
+
+pub shows_subrs : (f : FontValue) (t : TableMeaning) → t ≡ numbered (used_subrs profile f) → Shows t (subr_state profile f)
+shows_subrs f t is i = ap (λ (t : TableMeaning). maps.get t (of_number i)) is ∙ get-numbered (used_subrs profile f) (of_number i) ∙ get-used profile f i
+
+module _ (m n : TableMeaning) (x y : ℕ → Option (List ℕ)) (sx : Shows m x) (sy : Shows n y) where
+  pub none_clashes : TablesAgree m n → (i : ℕ) → not (agrees (x i) (y i)) ≡ false
+  none_clashes h i = no_clash _ _ (x i) (y i) (sx i) (sy i) (h (of_number i))
+
+  pub it_clashes : (k : ℕ) → IsFirstConflict m n (of_number k) → not (agrees (x k) (y k)) ≡ true
+  it_clashes k h = clash _ _ (x k) (y k) (sx k) (sy k) h.differs
+
+  pub none_below : (k : ℕ) → IsFirstConflict m n (of_number k) → (i : ℕ) → nat_cmp i k ≡ Less → not (agrees (x i) (y i)) ≡ false
+  none_below k h i l = no_clash _ _ (x i) (y i) (sx i) (sy i) (h.first (of_number i) (sym (by_number_law i k) ∙ l))
+
+-- ---- the table of glyphs
+
+-- what a lent value gives
+pub read_lent : {X : Type 0} (f : List ℕ → X) (x : Option (Bor (List ℕ))) → option_map (λ c. f c.now) x ≡ option_map f (option_map (λ c. c.now) x)
+read_lent f None = refl
+read_lent f (Some c) = refl
+
+keys_valued : (f : List ℕ → List ℕ → List ℕ) (es : List (List ℕ × List ℕ)) → map (λ (e : List ℕ × List ℕ). e.0) (map (λ (e : List ℕ × List ℕ). (e.0, f e.0 e.1)) es) ≡ map (λ (e : List ℕ × List ℕ). e.0) es
+keys_valued f [] = refl
+keys_valued f (e ∷ es) = ap (λ (ns : List (List ℕ)). e.0 ∷ ns) (keys_valued f es)
+
+-- other values make no difference to the keys
+pub keys-valued : (f : List ℕ → List ℕ → List ℕ) (m : Named) → names_in (map_values f m) ≡ names_in m
+keys-valued f m = ap (map (λ e. e.0)) (entries-map_values nat_list_cmp_total name_same f m) ∙ keys_valued f (maps.entries m)
+
+-- the table has the glyphs but for those of these names, which are the font's
+pub record Fills (g : Named) (t : TableMeaning) (left : List (List ℕ)) : Type 0 where
+  pub shown : (q : List ℕ) → list_any (same_bytes q) left ≡ false → maps.get t q ≡ maps.get g q
+  pub there : (q : List ℕ) → list_any (same_bytes q) left ≡ true → maps.contains_key g q ≡ true
+
+not_there : (x : Option (List ℕ)) → is_some x ≡ false → None ≡ x
+not_there None h = refl
+not_there (Some v) h = absurd (true≢false h)
+
+module _ (g : Named) where
+  pub fills_none : (t : TableMeaning) (left : List (List ℕ)) → t ≡ maps.empty → left ≡ names_in g → Fills g t left
+  fills_none t left e is = record {
+    shown = λ q h. ap (λ (t : TableMeaning). maps.get t q) e ∙ maps.get-empty meaning_cmp q ∙ not_there (maps.get g q) (maps.contains_key-keys g q ∙ ap (list_any (same_bytes q)) (sym is) ∙ h);
+    there = λ q h. maps.contains_key-keys g q ∙ ap (list_any (same_bytes q)) (sym is) ∙ h;
+  }
+
+  pub fills_more : (t u : TableMeaning) (n c : List ℕ) (left : List (List ℕ)) → Fills g t (n ∷ left) → maps.get g n ≡ Some c → u ≡ maps.insert t n c → Fills g u left
+  fills_more t u n c left h e is = record {
+    shown = λ q w. ap (λ (t : TableMeaning). maps.get t q) is ∙ maps.get-insert nat_list_cmp_total t n c q
+        ∙ (elim (is_or_not (same_bytes q n)) [
+          | inl a ↦ ap (λ b. cond b (Some c) (maps.get t q)) a ∙ sym e ∙ ap (maps.get g) (sym (tied nat_list_cmp_total name_same q n a))
+          | inr a ↦ ap (λ b. cond b (Some c) (maps.get t q)) a ∙ h.shown q ((λ i. a i || w i))
+        ]);
+    there = λ q w. h.there q (later (same_bytes q) n left w);
+  }
+
+  pub fills_next : (t u : TableMeaning) (n : List ℕ) (left : List (List ℕ)) (s : Option (List ℕ)) → Fills g t (n ∷ left) → u ≡ with_state t n s → s ≡ maps.get g n → Fills g u left
+  fills_next t u n left None h is e = absurd (true≢false (sym (h.there n (here (same_bytes n) n left (itself nat_list_cmp_total name_same n))) ∙ ap is_some (sym e)))
+  fills_next t u n left (Some c) h is e = fills_more t u n c left h (sym e) is
+
+  pub fills_all : (t : TableMeaning) (left : List (List ℕ)) → Fills g t left → left ≡ [] → (q : List ℕ) → maps.get t q ≡ maps.get g q
+  fills_all t left h e q = h.shown q (ap (list_any (same_bytes q)) e)
+
+-- ---- the smallest code
+
+pub beyond : (f : FontValue) → IsFont f → (c : ℕ) → 256 ≤ c → code_state f.encoding c ≡ None
+beyond f h c l = no_name f.encoding h.encoding c l (code_state f.encoding c) refl
+
+module _ (f g : FontValue) (h : IsFont f) (s t : TableMeaning) (sf : Shows s (code_state f.encoding)) (sg : Shows t (code_state g.encoding)) where
+  pub no_code_differs : TablesAgree s t → None ≡ code_conflict f g
+  no_code_differs a = no_code f g h (λ k l. none_clashes s t (code_state f.encoding) (code_state g.encoding) sf sg a k)
+
+  pub code_at : (c : ℕ) → IsFirstConflict s t (of_number c) → Some c ≡ code_conflict f g
+  code_at c a = first_code f g c (it_clashes s t (code_state f.encoding) (code_state g.encoding) sf sg c a)
+      (λ k l. none_below s t (code_state f.encoding) (code_state g.encoding) sf sg c a k (less_of k c l))
+
+  -- a code that differs is one of 256
+  pub code_below : (c : ℕ) → IsFirstConflict s t (of_number c) → c < 256
+  code_below c a = elim (is_or_not (nat_lt c 256)) [
+    | inl l ↦ ltb-true c 256 l
+    | inr l ↦ absurd (true≢false (sym (it_clashes s t (code_state f.encoding) (code_state g.encoding) sf sg c a) ∙ ap (λ x. not (agrees x (code_state g.encoding c))) (beyond f h c (ltb-false c 256 l))))
+  ]
+
+-- ---- the smallest Subr
+
+module _ (f g : FontValue) (h : IsFont f) (s t : TableMeaning) (sf : Shows s (subr_state profile f)) (sg : Shows t (subr_state profile g)) where
+  pub no_subr_clashes : TablesAgree s t → None ≡ subr_conflict profile f g
+  no_subr_clashes a = no_subr f g h (declared_count f.shell.subrs) (omega arith) (λ k l. none_clashes s t (subr_state profile f) (subr_state profile g) sf sg a k)
+
+  pub subr_at_conflict : (i : ℕ) → IsFirstConflict s t (of_number i) → Some i ≡ subr_conflict profile f g
+  subr_at_conflict i a = first_subr f g i (it_clashes s t (subr_state profile f) (subr_state profile g) sf sg i a)
+      (λ k l. none_below s t (subr_state profile f) (subr_state profile g) sf sg i a k (less_of k i l))
