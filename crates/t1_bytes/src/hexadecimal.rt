@@ -51,6 +51,11 @@ fn spread_line(text: &mut [u8], from: usize, len: usize, to: usize)
         ++ (encode_lower (take len (drop from text.old))
         ++ (10 ∷ drop (to + (2 * len + 1)) text.old)) }
 {
+    if from + len <= to {
+        let (front, behind) = text.split_at_mut(to);
+        set_line(behind, &front[from..from + len]);
+        return;
+    }
     let mut room = [0u8; LINE];
     let (line, _) = room.split_at_mut(len);
     line.copy_from_slice(&text[from..from + len]);
