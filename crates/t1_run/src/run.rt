@@ -41,7 +41,7 @@ fn index_of(i: i64) -> Option<u16>
 }
 
 /// The charstring that a call enters, or why it fails.
-fn entered<S: Subroutines>(subrs: &S, levels: usize, index: Option<u16>) -> Result<&[u8], Fault>
+fn enter<S: Subroutines>(subrs: &S, levels: usize, index: Option<u16>) -> Result<&[u8], Fault>
     ensures { IsEntered (S.subrs subrs.now) levels index result }
 {
     if levels == 0 {
@@ -149,7 +149,7 @@ pub(crate) fn run<'s, S: Subroutines>(
             Flow::Call(i) => {
                 let index = index_of(i);
                 take(called, index)?;
-                match entered(subrs, callers.remaining_capacity(), index) {
+                match enter(subrs, callers.remaining_capacity(), index) {
                     Ok(charstring) => {
                         callers.push(top);
                         top = Frame::new(charstring);
