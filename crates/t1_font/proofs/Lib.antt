@@ -23,7 +23,6 @@ pub mod ReadRight
 pub mod ReadAgain
 pub mod FirstPlace
 pub mod Borders
-pub mod NamedLasts
 pub mod Moves
 pub mod Written
 pub mod PlaceLemmas
