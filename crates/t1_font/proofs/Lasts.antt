@@ -1,7 +1,8 @@
 -- The last entries of a list, each key once, and the map of the list.
 use native.Mathlib.Numerals.{unary_clauses}
-use Rattle.std.proofs.Common.{◌≡◌, ℕ, refl, sym, ap, subst, ◌∙◌, arith, ◌⊎◌, inl, inr, Bool, true, false, cond, not, ◌&&◌, List, [], ◌∷◌, Option, Some, None, get_or, zero, suc}
+use Rattle.std.proofs.Common.{◌≡◌, ℕ, ◌+◌, ◌<◌, ◌≤◌, ◌++◌, length, take, drop, set, add-one, refl, sym, ap, subst, ◌∙◌, arith, ◌⊎◌, inl, inr, Bool, true, false, cond, not, ◌&&◌, List, [], ◌∷◌, Option, Some, None, get_or, zero, suc}
 use Rattle.std.specs.Prelude.{filter}
+use Rattle.std.proofs.lemmas.List.{append_assoc, append-nil, nil_from_length, length-set, length-drop, drop-drop, drop-set-lt, take_more_set}
 use Rattle.std.specs.Option.{option_map}
 use Rattle.std.specs.List.{All, AllByRecursion}
 use Rattle.std.specs.List.Sorted.{IsSortedByKey, IsStableByKey, IsStrictlySortedBy, ties}
@@ -18,7 +19,7 @@ use Rattle.t1_bytes.specs.Grammar.{choice}
 use Rattle.t1_join.specs.Entries.{entries_by}
 use Rattle.t1_join.specs.TableMeaning.{Rises}
 use Rattle.t1_join.proofs.TreeEntries.{sorted_entries}
-use Rattle.t1_font.specs.Entries.{comes_again, run_ends, AreLast, AreSettled, last_value, map_of}
+use Rattle.t1_font.specs.Entries.{comes_again, run_end, run_ends, AreLast, AreSettled, last_value, map_of}
 use Rattle.t1_font.proofs.MapLaws.{get-map_of, choice-none}
 use Rattle.t1_font.proofs.canonical.FontAgain.{map_again}
 
@@ -215,3 +216,53 @@ module _ {K V M : Type 0} (f : K → M) (R : K → K → Ordering) (S : M → M 
   pub settled_all : (P : K × V → Type 0) → AreSettled R old new → All P old → All P new
   settled_all P (inl is) h = subst (All P) (sym is) h
   settled_all P (inr are) h = all_last (order f R S o by) P old new are h
+
+-- ---- the last entries of runs, moved to the front
+
+-- of the first `at` entries those that end a run stand in front, and the others are as they were
+pub record EndsMoved {K V : Type 0} (R : K → K → Ordering) (was now : List (K × V)) (at kept : ℕ) : Type 0 where
+  pub behind : kept ≤ at
+  pub long : length now ≡ length was
+  pub left : drop at now ≡ drop at was
+  pub ends : take kept now ++ run_ends R (drop at was) ≡ run_ends R was
+
+end_or_none : {K V : Type 0} (R : K → K → Ordering) (e : K × V) (es : List (K × V)) (o : Option (K × V)) → o ≡ run_end R (e ∷ es) → run_ends R (e ∷ es) ≡ elim o [ None ↦ run_ends R es | Some x ↦ x ∷ run_ends R es ]
+end_or_none R e es o is = subst (λ (p : Option _). run_ends R (e ∷ es) ≡ elim p [ None ↦ run_ends R es | Some x ↦ x ∷ run_ends R es ]) (sym is) (by_test (comes_again R e.0 es))
+  where
+    by_test : (b : Bool) → cond b (run_ends R es) (e ∷ run_ends R es) ≡ elim (cond b None (Some e)) [ None ↦ run_ends R es | Some x ↦ x ∷ run_ends R es ]
+    by_test true = refl
+    by_test false = refl
+
+-- of the entries from a place on: the one there, where it ends a run, and those that do behind it
+next_end : {K V : Type 0} (R : K → K → Ordering) (es : List (K × V)) (at : ℕ) (o : Option (K × V)) → at < length es → o ≡ run_end R (drop at es) → run_ends R (drop at es) ≡ elim o [ None ↦ run_ends R (drop (suc at) es) | Some x ↦ x ∷ run_ends R (drop (suc at) es) ]
+next_end R [] at o h is = absurd (omega arith)
+next_end R (e ∷ es) zero o h is = end_or_none R e es o is
+next_end R (e ∷ es) (suc at) o h is = next_end R es at o (omega arith) is
+
+module _ {K V : Type 0} (R : K → K → Ordering) (was now : List (K × V)) (at kept : ℕ) (h : EndsMoved R was now at kept) (there : at < length was) where
+  left_behind : drop (at + 1) now ≡ drop (at + 1) was
+  left_behind = sym (drop-drop 1 at now) ∙ (ap (drop 1) h.left ∙ drop-drop 1 at was)
+
+  pub end_passed : None ≡ run_end R (drop at now) → EndsMoved R was now (at + 1) kept
+  end_passed e = record {
+    behind = omega (arith, h.behind);
+    long = h.long;
+    left = left_behind;
+    ends = rw (add-one at) (ap (λ t. take kept now ++ t) (sym (next_end R was at None there (e ∙ ap (run_end R) h.left))) ∙ h.ends);
+  }
+
+  pub end_moved : (x : K × V) → Some x ≡ run_end R (drop at now) → EndsMoved R was (set now kept x) (at + 1) (kept + 1)
+  end_moved x e = record {
+    behind = omega (arith, h.behind);
+    long = length-set now kept x ∙ h.long;
+    left = drop-set-lt (at + 1) now kept x (omega (arith, h.behind)) ∙ left_behind;
+    ends = rw (add-one at)
+        (ap (λ t. t ++ run_ends R (drop (suc at) was)) (take_more_set now kept x (omega (arith, h.behind, h.long)))
+        ∙ (append_assoc (take kept now) (x ∷ []) (run_ends R (drop (suc at) was))
+        ∙ (ap (λ t. take kept now ++ t) (sym (next_end R was at (Some x) there (e ∙ ap (run_end R) h.left))) ∙ h.ends)));
+  }
+
+pub ends_moved : {K V : Type 0} (R : K → K → Ordering) (was now : List (K × V)) (at kept : ℕ) → EndsMoved R was now at kept → length was ≤ at → take kept now ≡ run_ends R was
+ends_moved R was now at kept h past =
+    let none : drop at was ≡ [] = nil_from_length (drop at was) (length-drop at was ∙ omega arith) in
+    sym (append-nil (take kept now)) ∙ (ap (λ es. take kept now ++ run_ends R es) (sym none) ∙ h.ends)

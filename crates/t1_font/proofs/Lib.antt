@@ -21,7 +21,6 @@ pub mod HasSubrs
 pub mod ReadingLaws
 pub mod ReadRight
 pub mod ReadAgain
-pub mod NamedLasts
 pub mod PlaceLemmas
 pub mod MapCuts
 pub mod ByteLemmas

@@ -31,6 +31,11 @@ module _ {K V : Type 0} (R : K → K → Ordering) where
   comes_again key [] = false
   comes_again key (e ∷ es) = is_eq (R e.0 key)
 
+  -- the first entry, unless its key comes again
+  abbrev pub run_end : List (K × V) → Option (K × V)
+  run_end [] = None
+  run_end (e ∷ es) = if comes_again e.0 es then None else Some e
+
   -- of entries with one key that stand together the last
   abbrev pub run_ends : List (K × V) → List (K × V)
   run_ends [] = []

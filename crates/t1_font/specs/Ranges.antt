@@ -1,7 +1,9 @@
 -- Byte strings that stand in a buffer.
 use Rattle.std.specs.Prelude.{ℕ, ◌+◌, ◌-◌, ◌≤◌, max, List, slice_range}
 use Rattle.std.specs.List.{All}
+use Rattle.std.specs.declared.cmp.Ordering.{Ordering}
 use Rattle.t1_font.specs.declared.ranges.Range.{Range}
+use Rattle.t1_font.specs.FontValue.{name_cmp}
 
 -- the bytes of a range
 abbrev pub bytes_at : List ℕ → Range → List ℕ
@@ -26,6 +28,10 @@ numbered_at buffer e = (e.0, bytes_at buffer e.1)
 
 abbrev pub named_at : List ℕ → Range × Range → List ℕ × List ℕ
 named_at buffer e = (bytes_at buffer e.0, bytes_at buffer e.1)
+
+-- the order of the names in two ranges
+abbrev pub by_name : List ℕ → Range → Range → Ordering
+by_name buffer r s = name_cmp (bytes_at buffer r) (bytes_at buffer s)
 
 -- the weight of a Subr, and of a glyph, whose charstring is in a range
 abbrev pub subr_at_weight : ℕ → ℕ → Range → ℕ

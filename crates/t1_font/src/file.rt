@@ -133,8 +133,8 @@ fn source_parts(
     let shell = kept_shell(alloc, outside, inside)?;
     let mut buffer = gathered.buffer;
     let encoding = kept_encoding(alloc, outside.encoding, gathered.codes, &mut buffer)?;
-    let glyphs = last_names(alloc, buffer.as_slice(), gathered.glyphs)?;
-    let subrs = last_entries(alloc, gathered.subrs)?;
+    let glyphs = last_names(buffer.as_slice(), gathered.glyphs)?;
+    let subrs = last_entries(gathered.subrs)?;
     Ok(SourceParts {
         shell,
         encoding,

@@ -1,14 +1,13 @@
 //! Entries whose keys may come again: of each key the last stands.
 
-ghost use Rattle.std.specs.Prelude.{◌≡◌, ℕ, [], map, length, IfOk, OnOk, OnErr};
+ghost use Rattle.std.specs.Prelude.{◌≡◌, ◌≤◌, ℕ, [], map, length, drop, IfOk, OnOk, OnErr};
 ghost use Rattle.std.specs.FinMap.{entries};
-ghost use Rattle.t1_join.specs.Entries.{entries_by};
-ghost use Rattle.t1_font.specs.Entries.{comes_again, AreLast, AreSettled};
+ghost use Rattle.t1_font.specs.Entries.{comes_again, run_end, run_ends, AreLast, AreSettled};
 ghost use Rattle.t1_font.specs.Gathering.{gathered_glyphs};
-ghost use Rattle.t1_font.specs.Ranges.{bytes_at, AllInside, NamesInside, named_at};
+ghost use Rattle.t1_font.specs.Ranges.{AllInside, NamesInside, named_at, by_name};
 
 use crate::ranges::Range;
-use std::alloc::{AllocError, Global};
+use std::alloc::AllocError;
 use std::cmp::Ordering;
 use std::mem;
 
@@ -34,7 +33,7 @@ pub(crate) fn settle<K: Ord + Copy + Drop, V: Copy + Drop>(
     }
     let alloc = *entries.allocator();
     let all = mem::replace(entries, Vec::new(alloc));
-    let last = last_entries(alloc, all)?;
+    let last = last_entries(all)?;
     let next = next_room(last.len());
     *entries = last;
     Ok(next)
@@ -46,7 +45,6 @@ pub(crate) fn settle_names(
     buffer: &[u8],
     room: usize,
 ) -> Result<usize, AllocError>
-    requires { NamesInside (length buffer.now) entries.old.items }
     ensures settled { OnOk result (gathered_glyphs buffer.now entries.new.items
         ≡ gathered_glyphs buffer.now entries.old.items) }
     ensures inside { OnOk result ((n : ℕ)
@@ -60,7 +58,7 @@ pub(crate) fn settle_names(
     }
     let alloc = *entries.allocator();
     let all = mem::replace(entries, Vec::new(alloc));
-    let last = last_names(alloc, buffer, all)?;
+    let last = last_names(buffer, all)?;
     let next = next_room(last.len());
     *entries = last;
     Ok(next)
@@ -76,50 +74,94 @@ fn comes_again<K: Ord, V>(key: &K, entries: &[(K, V)]) -> bool
     }
 }
 
+/// The entry at a place, unless its key comes again.
+fn end_at<K: Ord + Copy + Drop, V: Copy + Drop>(entries: &[(K, V)], at: usize) -> Option<(K, V)>
+    requires { at ≤ length entries.now }
+    ensures { result ≡ run_end K.cmp (drop at entries.now) }
+{
+    let (_, rest) = entries.split_at(at);
+    let (entry, after) = rest.split_first()?;
+    if comes_again(&entry.0, after) {
+        return None;
+    }
+    Some(*entry)
+}
+
+/// Keeps of the entries of each key, which stand together, the last alone.
+fn keep_ends<K: Ord + Copy + Drop, V: Copy + Drop>(entries: &mut Vec<(K, V)>)
+    ensures { entries.new.items ≡ run_ends K.cmp entries.old.items }
+{
+    let mut kept = 0;
+    'entries: for at in 0..entries.len() {
+        if let Some(entry) = end_at(entries.as_slice(), at) {
+            entries[kept] = entry;
+            kept += 1;
+        }
+    }
+    entries.truncate(kept);
+}
+
 /// The entries upwards by key, of a repeated key the last.
 pub(crate) fn last_entries<K: Ord + Copy + Drop, V: Copy + Drop>(
-    alloc: Global,
     entries: Vec<(K, V)>,
 ) -> Result<Vec<(K, V)>, AllocError>
     ensures { IfOk result (λ last. AreLast K.cmp entries.items last.items) }
 {
-    let mut sorted = entries;
-    sorted.sort_by_key(|entry| entry.0)?;
-    let mut last = Vec::with_capacity(alloc, sorted.len())?;
-    let mut rest = sorted.as_slice();
-    'entries: while let Some((entry, after)) = rest.split_first() {
-        if !comes_again(&entry.0, after) {
-            last.push(*entry)?;
-        }
-        rest = after;
-    }
+    let mut last = entries;
+    last.sort_by_key(|entry| entry.0)?;
+    keep_ends(&mut last);
     Ok(last)
 }
 
-/// The glyphs, each beside its name.
-fn beside_names<'a>(
-    alloc: Global,
-    buffer: &'a [u8],
-    glyphs: &[(Range, Range)],
-) -> Result<Vec<(&'a [u8], (Range, Range))>, AllocError>
-    requires { NamesInside (length buffer.now) glyphs.now }
-    ensures { IfOk result (λ v. entries_by (λ n. n.now) (λ e. e) v.items
-        ≡ map (λ e. (bytes_at buffer.now e.0, e)) glyphs.now) }
+/// In which order the names in two parts of a buffer are.
+fn name_order(buffer: &[u8], one: Range, other: Range) -> Ordering
+    ensures { result ≡ by_name buffer.now one other }
 {
-    let mut named = Vec::with_capacity(alloc, glyphs.len())?;
-    'names: for (name, body) in glyphs {
-        named.push((&buffer[name.start..name.end], (*name, *body)))?;
+    one.of(buffer).cmp(other.of(buffer))
+}
+
+/// Whether the first of these glyphs has the name.
+fn name_comes_again(buffer: &[u8], name: Range, glyphs: &[(Range, Range)]) -> bool
+    ensures { result ≡ comes_again (by_name buffer.now) name glyphs.now }
+{
+    match glyphs.first() {
+        Some(glyph) => matches!(name_order(buffer, glyph.0, name), Ordering::Equal),
+        None => false,
     }
-    Ok(named)
+}
+
+/// The glyph at a place, unless its name comes again.
+fn named_end_at(buffer: &[u8], glyphs: &[(Range, Range)], at: usize) -> Option<(Range, Range)>
+    requires { at ≤ length glyphs.now }
+    ensures { result ≡ run_end (by_name buffer.now) (drop at glyphs.now) }
+{
+    let (_, rest) = glyphs.split_at(at);
+    let (glyph, after) = rest.split_first()?;
+    if name_comes_again(buffer, glyph.0, after) {
+        return None;
+    }
+    Some(*glyph)
+}
+
+/// Keeps of the glyphs of each name, which stand together, the last alone.
+fn keep_named_ends(buffer: &[u8], glyphs: &mut Vec<(Range, Range)>)
+    ensures { glyphs.new.items ≡ run_ends (by_name buffer.now) glyphs.old.items }
+{
+    let mut kept = 0;
+    'glyphs: for at in 0..glyphs.len() {
+        if let Some(glyph) = named_end_at(buffer, glyphs.as_slice(), at) {
+            glyphs[kept] = glyph;
+            kept += 1;
+        }
+    }
+    glyphs.truncate(kept);
 }
 
 /// The glyphs upwards by the bytes of their names, of a repeated name the last.
 pub(crate) fn last_names(
-    alloc: Global,
     buffer: &[u8],
     glyphs: Vec<(Range, Range)>,
 ) -> Result<Vec<(Range, Range)>, AllocError>
-    requires { NamesInside (length buffer.now) glyphs.items }
     ensures entries { IfOk result (λ v. map (named_at buffer.now) v.items
         ≡ entries (gathered_glyphs buffer.now glyphs.items)) }
     ensures inside { IfOk result (λ v. (n : ℕ)
@@ -127,11 +169,8 @@ pub(crate) fn last_names(
         → AllInside n glyphs.items
         → NamesInside n v.items × AllInside n v.items) }
 {
-    let named = beside_names(alloc, buffer, glyphs.as_slice())?;
-    let last = last_entries(alloc, named)?;
-    let mut kept = Vec::with_capacity(alloc, last.len())?;
-    'names: for (_, glyph) in last {
-        kept.push(glyph)?;
-    }
-    Ok(kept)
+    let mut last = glyphs;
+    last.sort_by(|one, other| name_order(buffer, one.0, other.0))?;
+    keep_named_ends(buffer, &mut last);
+    Ok(last)
 }

@@ -214,7 +214,7 @@ pub(crate) fn keep_codes(
     ensures inside { IfOk result (λ v. AllInside (length buffer.new.items) v.items) }
     ensures longer { OnOk result ((more : List ℕ) × (buffer.new.items ≡ buffer.old.items ++ more)) }
 {
-    let last = last_entries(alloc, codes)?;
+    let last = last_entries(codes)?;
     let mut kept = Vec::with_capacity(alloc, last.len())?;
     'codes: for (code, name) in last {
         if !is_notdef(name) {

@@ -3,27 +3,31 @@
 ghost use Rattle.std.specs.Prelude.{◌≡◌, ◌<◌, true, length, take_while, unwrap_or, IfOk, IfSome, Some};
 ghost use Rattle.std.specs.Option.{option_map};
 ghost use Rattle.t1_bytes.specs.Grammar.{run, that};
-ghost use Rattle.t1_font.specs.Words.{is_delimiter, is_regular, one_white, word, keyword, all_regular, regular_comes, first_digit, decimal, name, next_name, is_access, phrase_of, passes};
+ghost use Rattle.t1_font.specs.Words.{is_regular, one_white, word, keyword, all_regular, regular_comes, first_digit, decimal, name, next_name, is_access, phrase_of, passes};
 ghost use Rattle.t1_font.specs.Views.{phrase_view, words_view};
 
 use crate::limits::{NAME_LIMIT, WORD_LIMIT};
 use std::alloc::{AllocError, Global};
 use t1_bytes::texts::{count_at, fixed_at, gap_at, is_white, white_at};
 
-fn is_delimiter(byte: u8) -> bool
-    ensures { result ≡ is_delimiter byte }
-{
-    matches!(
-        byte,
-        b'(' | b')' | b'<' | b'>' | b'[' | b']' | b'{' | b'}' | b'/' | b'%'
-    )
-}
+/// What each byte is, 32 bytes a row: white space, a delimiter, or regular.
+const KINDS: &[u8; 256] = b"\
+    w........ww.ww..................\
+    w....d..dd.....d............d.d.\
+    ...........................d.d..\
+    ...........................d.d..\
+    ................................\
+    ................................\
+    ................................\
+    ................................\
+";
 
-/// Whether a byte is neither white space nor a delimiter. Letters and digits, which most are, are told first.
+/// Whether a byte is neither white space nor a delimiter. It is looked up, since most of the time that fonts take to read
+/// goes into this.
 pub fn is_regular(byte: u8) -> bool
     ensures { result ≡ is_regular byte }
 {
-    byte.is_ascii_alphanumeric() || !(is_white(byte) || is_delimiter(byte))
+    KINDS[byte as usize] == b'.'
 }
 
 /// How many regular bytes come first.

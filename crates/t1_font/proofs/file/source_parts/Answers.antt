@@ -1,4 +1,4 @@
-use Rattle.std.proofs.Common.{◌≡◌, ◌∙◌, ℕ, List, refl, sym, ap, subst, map, length}
+use Rattle.std.proofs.Common.{◌≡◌, ◌∙◌, ℕ, List, refl, ap, subst, map, length}
 use Rattle.std.proofs.lemmas.Cmp.{nat_cmp_total}
 use Rattle.std.specs.FinMap.{entries, nat_cmp-IsAntisymmetric}
 use Rattle.std.specs.Ordering.{nat_cmp}
@@ -24,14 +24,6 @@ glyphs_inside c = all_longer c.gathered.inside.at (length c.gathered.inside.buff
 -- the glyphs that are kept
 named_so : (c : goal.In_ok-subrs) → map (named_at c.kept_encoding.new.buffer.items) c.in_ok-glyphs.glyphs.items ≡ entries (gathered_glyphs c.kept_encoding.new.buffer.items c.gathered.inside.glyphs.items)
 named_so c = subst (λ (b : List ℕ). map (named_at b) c.in_ok-glyphs.glyphs.items ≡ entries (gathered_glyphs b c.gathered.inside.glyphs.items)) c.as_slice.ensures.value c.in_ok-glyphs.ensures.entries
-
-pub last_names-requires : goal.last_names-requires
-last_names-requires c =
-    let read = c.gathered.inside.buffer.items in
-    let longer = c.in_ok-encoding.ensures.longer in
-    subst (λ (b : List ℕ). NamesInside (length b) c.gathered.inside.glyphs.items) (sym c.as_slice.ensures.value)
-    (names_wider (length read) (length c.kept_encoding.new.buffer.items) c.gathered.inside.glyphs.items (longer_by read c.kept_encoding.new.buffer.items longer.0 longer.1)
-    (names_wider c.gathered.inside.at (length read) c.gathered.inside.glyphs.items c.gathered.invariant.at c.gathered.invariant.names))
 
 pub invariant_of-result : goal.invariant_of-result
 invariant_of-result c =

@@ -1,28 +1,36 @@
-use Rattle.std.proofs.Common.{ℕ, List, ◌++◌, ◌∙◌, sym, ap, map}
-use Rattle.std.specs.Vec.Iter.{into_iter_items}
-use Rattle.std.specs.Borrow.{Bor}
-use Rattle.std.proofs.lemmas.List.{nil_from_length}
+use Rattle.std.proofs.Common.{rules, refl}
+use Rattle.std.specs.Ordering.{is_lt}
+use Rattle.std.proofs.lemmas.Cmp.{nat_list_cmp_total}
+use Rattle.std.proofs.lemmas.List.MinMax.{ranks_by}
+use Rattle.std.proofs.lemmas.Fn.{always_returns_same}
+use Rattle.std.specs.Cmp.{IsTotalOrder}
+use Rattle.t1_font.specs.Entries.{AreLast}
+use Rattle.t1_font.specs.FontValue.{name_cmp}
 use Rattle.t1_font.specs.declared.ranges.Range.{Range}
-use Rattle.t1_font.specs.Ranges.{bytes_at, IsInside}
-use Rattle.t1_font.proofs.Drains.{moved, all_moved}
-use Rattle.t1_font.proofs.NamedLasts.{names_are, all_names}
+use Rattle.t1_font.specs.Ranges.{bytes_at, by_name, IsInside}
+use Rattle.t1_font.proofs.canonical.FontAgain.{name_same}
+use Rattle.t1_font.proofs.Lasts.{all_last, order, lasts_are}
 use Rattle.t1_font.proofs.repeats.last_names.Goals as goal
 
-pub names-init : goal.names-init
-names-init c = ap (λ kept. kept ++ map (λ e. e.1) (into_iter_items c.into_iter-glyph-iterator.result)) c.in_ok-kept.ensures.items
+names_ordered : (buffer : _) → IsTotalOrder (by_name buffer)
+names_ordered buffer = order (bytes_at buffer) (by_name buffer) name_cmp nat_list_cmp_total (λ x y. refl)
 
-pub names-preserved : goal.names-preserved
-names-preserved c = moved c.names.kept.items (map (λ e. e.1) (into_iter_items c.names.glyph-iterator)) _ c.names.invariant c.push.new.self.items (map (λ e. e.1) (into_iter_items c.next.new.self)) c.in-Some.glyph c.in_ok-push.ensures.items (ap (map (λ e. e.1)) c.in-Some.ensures.steps.0)
+last_so : (c : goal.After-keep_named_ends) → AreLast (by_name c.args.buffer.now) c.args.glyphs.items c.keep_named_ends.new.glyphs.items
+last_so c =
+    let rank = ranks_by (names_ordered c.args.buffer.now) (λ (e : Range × Range). e.0) in
+    record {
+      sorted = c.sort_by.new.self.items;
+      same = c.in_ok-sort_by.ensures.permutation;
+      rise = c.in_ok-sort_by.ensures.sorted (λ x y. is_lt (by_name c.args.buffer.now x.0 y.0)) rank (always_returns_same _ _ _ (λ a r f' called. search rules));
+      stable = c.in_ok-sort_by.ensures.stable (λ x y. is_lt (by_name c.args.buffer.now x.0 y.0)) rank (always_returns_same _ _ _ (λ a r f' called. search rules));
+      last_is = c.keep_named_ends.ensures;
+    }
 
-pub returns-clause-entries : goal.returns-clause-entries
-returns-clause-entries c =
-    names_are c.args.buffer.now c.in_ok-named.named.items c.in_ok-last.last.items c.args.glyphs.items c.names.kept.items (c.in_ok-named.ensures ∙ ap (map (λ (e : Range × Range). (bytes_at c.args.buffer.now e.0, e))) c.as_slice.ensures.value) c.in_ok-last.ensures
-    (all_moved c.names.kept.items (map (λ e. e.1) (into_iter_items c.names.glyph-iterator)) _ c.names.invariant (ap (map (λ (e : Bor (List ℕ) × (Range × Range)). e.1)) (nil_from_length (into_iter_items c.names.glyph-iterator) (sym c.names.glyph-iterator.rest.ok.0 ∙ c.in-None.ensures.steps.0)))
-    ∙ ap (map (λ e. e.1)) c.into_iter-glyph-iterator.ensures.into_iter_gives.0)
-
-pub returns-clause-inside : goal.returns-clause-inside
-returns-clause-inside c = λ n names bodies.
-    let all = all_names c.args.buffer.now c.in_ok-named.named.items c.in_ok-last.last.items c.args.glyphs.items c.names.kept.items (c.in_ok-named.ensures ∙ ap (map (λ (e : Range × Range). (bytes_at c.args.buffer.now e.0, e))) c.as_slice.ensures.value) c.in_ok-last.ensures
-    (all_moved c.names.kept.items (map (λ e. e.1) (into_iter_items c.names.glyph-iterator)) _ c.names.invariant (ap (map (λ (e : Bor (List ℕ) × (Range × Range)). e.1)) (nil_from_length (into_iter_items c.names.glyph-iterator) (sym c.names.glyph-iterator.rest.ok.0 ∙ c.in-None.ensures.steps.0)))
-    ∙ ap (map (λ e. e.1)) c.into_iter-glyph-iterator.ensures.into_iter_gives.0) in
-    (all (λ e. IsInside n e.0) names, all (λ e. IsInside n e.1) bodies)
+pub returns : goal.returns
+returns c =
+    let buffer = c.args.buffer.now in
+    let o = names_ordered buffer in
+    record {
+      entries = lasts_are (bytes_at buffer) (bytes_at buffer) (by_name buffer) name_cmp nat_list_cmp_total name_same (λ x y. refl) c.args.glyphs.items c.keep_named_ends.new.glyphs.items (last_so c);
+      inside = λ n names bodies. (all_last o (λ e. IsInside n e.0) c.args.glyphs.items c.keep_named_ends.new.glyphs.items (last_so c) names, all_last o (λ e. IsInside n e.1) c.args.glyphs.items c.keep_named_ends.new.glyphs.items (last_so c) bodies);
+    }
