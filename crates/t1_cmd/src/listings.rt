@@ -61,7 +61,10 @@ fn joined_text(alloc: Global, left: &Listing<'_>, right: &Listing<'_>) -> Result
     ensures refused { IfErr result (λ e. (fault : JoinFault)
         × (IsJoinFault left.now right.now fault × (e ≡ RunFault.Refused (join_reason fault)))) }
 {
-    write_joined(alloc, left, right).map_err(refused_join)
+    match write_joined(alloc, left, right) {
+        Ok(text) => Ok(text),
+        Err(fault) => Err(refused_join(fault)),
+    }
 }
 
 // The text of the join of a listing and of that of a reader.

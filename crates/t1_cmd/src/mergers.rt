@@ -73,19 +73,20 @@ fn merged<'a>(alloc: Global, fonts: &[Font<'a>]) -> Result<Font<'a>, RunFault>
     }
 }
 
-// The canonical file of the font that fonts come to.
+// The canonical file of the font that fonts come to. They are let go before it is written.
 pub(crate) fn merged_file(
     alloc: Global,
-    fonts: &[Font<'_>],
+    fonts: Vec<Font<'_>>,
     form: Form,
 ) -> Result<Vec<u8>, RunFault>
-    ensures text { IfOk result (λ text. MergesTo form fonts.now (Ok text.items)) }
-    ensures refused { IfErr result (λ e. MergeStops form fonts.now e) }
+    ensures text { IfOk result (λ text. MergesTo form fonts.entry.items (Ok text.items)) }
+    ensures refused { IfErr result (λ e. MergeStops form fonts.entry.items e) }
 {
-    let font = match merged(alloc, fonts) {
+    let font = match merged(alloc, fonts.as_slice()) {
         Ok(font) => font,
         Err(fault) => return Err(fault),
     };
+    drop(fonts);
     let text = font_file(alloc, &font, form);
     drop(font);
     let text = text?;
@@ -116,7 +117,7 @@ pub fn run_merge<R: Read, W: Write>(
         Err(fault) => return Err(fault),
     };
     let fonts = fonts_of(alloc, sources.as_slice())?;
-    let text = match merged_file(alloc, fonts.as_slice(), form) {
+    let text = match merged_file(alloc, fonts, form) {
         Ok(text) => text,
         Err(fault) => return Err(fault),
     };

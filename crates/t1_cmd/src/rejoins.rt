@@ -26,7 +26,7 @@ fn rejoined_file(alloc: Global, sources: Vec<Source>, form: Form) -> Result<Vec<
         Err(PartsFault::Limit) => return Err(RunFault::Refused(Reason::Merge(Conflict::Limit))),
         Err(PartsFault::Memory) => return Err(RunFault::Refused(Reason::Memory)),
     };
-    merged_file(alloc, filled.as_slice(), form)
+    merged_file(alloc, filled, form)
 }
 
 /// Writes the canonical file, in one of the two forms, of the font that fonts come to when they are made even and then

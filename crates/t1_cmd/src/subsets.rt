@@ -38,22 +38,23 @@ fn cut<'a>(alloc: Global, font: &Font<'a>, names: &[&[u8]]) -> Result<Font<'a>, 
     }
 }
 
-// The canonical file of a font's subset.
+// The canonical file of a font's subset. The font is let go before that is written.
 fn subset_file(
     alloc: Global,
-    font: &Font<'_>,
+    font: Font<'_>,
     names: &[&[u8]],
     form: Form,
 ) -> Result<Vec<u8>, RunFault>
-    ensures text { IfOk result (λ text. subset_answer form (lent names.now) font.now
+    ensures text { IfOk result (λ text. subset_answer form (lent names.now) font.entry
         ≡ Ok text.items) }
     ensures refused { IfErr result
-        (λ e. ShowStops (subset_answer form (lent names.now) font.now) e) }
+        (λ e. ShowStops (subset_answer form (lent names.now) font.entry) e) }
 {
-    let cut = match cut(alloc, font, names) {
+    let cut = match cut(alloc, &font, names) {
         Ok(cut) => cut,
         Err(fault) => return Err(fault),
     };
+    drop(font);
     let text = font_file(alloc, &cut, form);
     drop(cut);
     let text = text?;
@@ -73,9 +74,7 @@ fn subset_of(
         (λ e. ShowStops (subset_answer form (lent names.now) source.now) e) }
 {
     let font = source.font(alloc)?;
-    let text = subset_file(alloc, &font, names, form);
-    drop(font);
-    text
+    subset_file(alloc, font, names, form)
 }
 
 /// Writes the canonical file, in one of the two forms, of the subset of a font that keeps what these names need: their

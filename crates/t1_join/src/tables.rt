@@ -46,6 +46,15 @@ impl<K: Key + Drop, V: Kept + Drop> Table<K, V> {
         }
     }
 
+    /// A table with no entry, and room for this many.
+    pub fn with_capacity(alloc: Global, room: usize) -> Result<Self, AllocError>
+        ensures { IfOk result (λ t. t ≡ fin.empty) }
+    {
+        Ok(Table {
+            entries: Vec::with_capacity(alloc, room)?,
+        })
+    }
+
     /// The entries of a map, which has them upwards by key.
     pub(crate) fn of_map(alloc: Global, map: BTreeMap<K, V>) -> Result<Self, AllocError>
         ensures { IfOk result (λ t. t ≡ first_meanings K.meaning V.meaning map.entries) }
@@ -192,7 +201,8 @@ fn merged<K: Key + Drop, V: Kept + Drop>(
         ≡ merge meaning_cmp (entry_meanings K.meaning V.meaning first.now)
         (entry_meanings K.meaning V.meaning second.now)) }
 {
-    let mut all = Vec::new(alloc);
+    let room = first.len().saturating_add(second.len());
+    let mut all = Vec::with_capacity(alloc, room)?;
     let mut i = 0;
     let mut j = 0;
     'pass: while i < first.len() && j < second.len() {

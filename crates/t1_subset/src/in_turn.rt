@@ -15,7 +15,7 @@ use crate::conflict::Conflict;
 use crate::searches::states_conflict;
 use crate::state_value::States;
 use std::alloc::Global;
-use t1_join::{Join, join_all};
+use t1_join::{Join, have_join};
 
 /// The joined states of two fonts. Where shells and states have no conflict, the limits are all that refuses them.
 fn joined<'t, 'a>(
@@ -112,9 +112,9 @@ pub(crate) fn all_join(
         → AreNoted fs states.now callers.now
         → IfErr result (λ e. IsRefused fs e) }
 {
-    match join_all(alloc, states) {
+    match have_join(alloc, states) {
         Err(_) => Err(Conflict::Memory),
-        Ok(Some(_)) => Ok(()),
-        Ok(None) => joined_in_turn(alloc, states, callers),
+        Ok(true) => Ok(()),
+        Ok(false) => joined_in_turn(alloc, states, callers),
     }
 }

@@ -72,21 +72,23 @@ fn merged<'a>(alloc: Global, left: &Font<'a>, right: &Font<'a>) -> Result<Font<'
     both(alloc, left, right)
 }
 
-/// The join of fonts, one or more, by the states and callers of each.
+/// The join of fonts, one or more, by the states and callers of each, which are let go before it is made.
 fn all_merged<'a>(
     alloc: Global,
     fonts: &[Font<'a>],
-    states: &[States<'_, '_>],
-    callers: &[Callers<'_>],
+    states: Vec<States<'_, '_>>,
+    callers: Vec<Callers<'_>>,
 ) -> Result<Font<'a>, Conflict>
     requires some { 0 < length fonts.now }
-    requires noted { AreNoted fonts.now states.now callers.now }
+    requires noted { AreNoted fonts.now states.items callers.items }
     ensures ok { IfOk result (λ j. ComesTo fonts.now j) }
     ensures err { IfErr result (λ e. IsRefused fonts.now e) }
 {
-    if let Err(conflict) = all_join(alloc, states, callers) {
+    if let Err(conflict) = all_join(alloc, states.as_slice(), callers.as_slice()) {
         return Err(conflict);
     }
+    drop(states);
+    drop(callers);
     made_of(alloc, fonts)
 }
 
@@ -132,7 +134,7 @@ pub fn merge_all<'a>(alloc: Global, fonts: &[Font<'a>]) -> Result<Font<'a>, Conf
         return Err(Conflict::Empty);
     }
     match noted(alloc, fonts) {
-        Ok((states, callers)) => { all_merged(alloc, fonts, states.as_slice(), callers.as_slice()) }
+        Ok((states, callers)) => all_merged(alloc, fonts, states, callers),
         Err(_) => Err(Conflict::Memory),
     }
 }

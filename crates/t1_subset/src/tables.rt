@@ -17,6 +17,9 @@ use t1_font::{Font, STUB};
 use t1_join::{Kept, Key, Table};
 use t1_run::{Glyphs, Subroutines};
 
+/// How many names there may be that components have: those of StandardEncoding.
+const SOUGHT_ROOM: usize = 149;
+
 /// Puts a state at a key, where there is one.
 fn put<K: Key + Drop, V: Kept + Drop>(
     table: &mut Table<K, V>,
@@ -66,7 +69,7 @@ pub(crate) fn glyph_states<'a>(
     ensures { IfOk result (λ table. table
         ≡ map_values (λ n c. name_meaning (Some c)) font.now.glyphs) }
 {
-    let mut table = Table::new(alloc);
+    let mut table = Table::with_capacity(alloc, font.names().count().saturating_add(SOUGHT_ROOM))?;
     'names: for name in font.names() {
         put(&mut table, name, charstring_state(font.glyph(name)))?;
     }
@@ -96,7 +99,7 @@ pub(crate) fn subr_table<'a>(
     ensures { IfOk result (λ table. table ≡ numbered (used_subrs profile font.now)) }
 {
     font.is_font();
-    let mut table = Table::new(alloc);
+    let mut table = Table::with_capacity(alloc, font.count() as usize)?;
     'indices: for index in 0..font.count() {
         put(
             &mut table,

@@ -1,9 +1,9 @@
 -- Merges of fonts are joins of their states.
-use Rattle.std.proofs.Common.{◌≡◌, ◌<◌, List, [], ◌∷◌, ◌++◌, map, length, get_or, refl, sym, ◌∙◌, ap, subst, arith, inl, option_map, Option, Some, None, Contains, Result, Ok, Err, IfOk, IfErr, IsPermutation}
+use Rattle.std.proofs.Common.{◌≡◌, ◌<◌, List, [], ◌∷◌, ◌++◌, map, length, get_or, refl, sym, ◌∙◌, ap, subst, arith, inl, Bool, true, false, option_map, Option, Some, None, Contains, Result, Ok, Err, IfOk, IfErr, IsPermutation}
 use Rattle.std.proofs.lemmas.List.{map-append}
 use Rattle.std.proofs.lemmas.List.Sorted.{IsPermutation-refl}
 use Rattle.std.specs.List.{AllByRecursion}
-use Rattle.t1_join.specs.Groupings.{Grouping, one, two, Uses, Gives, IsJoinOf}
+use Rattle.t1_join.specs.Groupings.{Grouping, one, two, Uses, Gives, IsJoinOf, HaveJoin}
 use Rattle.t1_join.specs.Groupings.{leaves as values}
 use Rattle.t1_font.specs.FontValue.{FontValue}
 use Rattle.t1_font.specs.IsFont.{IsFont}
@@ -157,3 +157,8 @@ map_same (x ∷ xs) = ap (λ (ys : List StatesValue). x ∷ ys) (map_same xs)
 -- what is joined of the states is joined in each grouping of the fonts
 pub joined_groupings : (fs : List FontValue) (all : List StatesValue) → all ≡ map (states_of profile) fs → AllByRecursion IsFont fs → (o : Option StatesValue) (v : StatesValue) → o ≡ Some v → IsJoinOf StatesJoin (map (λ (x : StatesValue). x) all) (option_map (λ (x : StatesValue). x) o) → EachGroupingMerges fs
 joined_groupings fs all e w o v is h = each_grouping fs w v (subst (λ (xs : List StatesValue). IsJoinOf StatesJoin xs (Some v)) (map_same all ∙ e) (subst (λ (o : Option StatesValue). IsJoinOf StatesJoin (map (λ (x : StatesValue). x) all) (option_map (λ (x : StatesValue). x) o)) is h))
+
+-- so where the states have a join each grouping of the fonts merges
+pub have_groupings : (fs : List FontValue) (all : List StatesValue) → all ≡ map (states_of profile) fs → AllByRecursion IsFont fs → (b : Bool) → b ≡ true → HaveJoin StatesJoin (map (λ (x : StatesValue). x) all) b → EachGroupingMerges fs
+have_groupings fs all e w true t h = joined_groupings fs all e w (Some h.0) h.0 refl h.1
+have_groupings fs all e w false t h = cc

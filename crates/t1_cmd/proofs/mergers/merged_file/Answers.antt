@@ -1,9 +1,17 @@
+use Rattle.std.proofs.Common.{List, subst}
+use Rattle.t1_font.specs.FontValue.{FontValue}
 use Rattle.t1_font.specs.Canon.{canon}
+use Rattle.t1_subset.specs.Merger.{ComesTo}
+use Rattle.t1_cmd.specs.Mergers.{MergeStops}
 use Rattle.t1_cmd.proofs.MergeLemmas.{same_text}
 use Rattle.t1_cmd.proofs.mergers.merged_file.Goals as goal
 
 pub returns-in-Err-clause-refused : goal.returns-in-Err-clause-refused
-returns-in-Err-clause-refused c = c.in-Err.ensures.refused c.args.form
+returns-in-Err-clause-refused c = subst (λ (fs : List FontValue). MergeStops c.args.form fs c.in-Err.fault) c.as_slice.ensures.value (c.in-Err.ensures.refused c.args.form)
 
 pub returns-clause-text : goal.returns-clause-text
-returns-clause-text c = (c.in-Ok.font, c.in-Ok.ensures.comes, same_text (canon c.in-Ok.font c.args.form) c.in_ok-text.text.items c.in_ok-text.ensures)
+returns-clause-text c = (
+  c.in-Ok.font,
+  subst (λ (fs : List FontValue). ComesTo fs c.in-Ok.font) c.as_slice.ensures.value c.in-Ok.ensures.comes,
+  same_text (canon c.in-Ok.font c.args.form) c.in_ok-text.text.items c.in_ok-text.ensures,
+)

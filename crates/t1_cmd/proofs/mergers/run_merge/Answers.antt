@@ -19,7 +19,7 @@ pub returns-in-Err-merged_file-clause-ends : goal.returns-in-Err-merged_file-cla
 returns-in-Err-merged_file-clause-ends g c =
     stopped font_input (MergesTo c.args.form) g.W.Write.contents (inputs_of g.R.Read.remaining c.args.readers.now c.read_fonts.new.readers) c.args.writer.now c.in-Err-merged_file.fault
     (answer_stops (MergesTo c.args.form) (inputs_of g.R.Read.remaining c.args.readers.now c.read_fonts.new.readers) c.in-Ok.sources.items c.in-Err-merged_file.fault c.in-Ok.ensures.says
-    (subst (λ fs. MergeStops c.args.form fs c.in-Err-merged_file.fault) (c.as_slice-2.ensures.value ∙ (c.in_ok-fonts.ensures ∙ c.as_slice.ensures.value)) c.in-Err-merged_file.ensures.refused))
+    (subst (λ fs. MergeStops c.args.form fs c.in-Err-merged_file.fault) (c.in_ok-fonts.ensures ∙ c.as_slice.ensures.value) c.in-Err-merged_file.ensures.refused))
 
 pub returns-in-Err-merged_file-clause-succeeds : goal.returns-in-Err-merged_file-clause-succeeds
 returns-in-Err-merged_file-clause-succeeds g c =
@@ -29,9 +29,9 @@ pub returns-clause-ends : goal.returns-clause-ends
 returns-clause-ends g c =
     write_ends font_input (MergesTo c.args.form) g.W.Write.contents
     (inputs_of g.R.Read.remaining c.args.readers.now c.read_fonts.new.readers) c.in-Ok.sources.items
-    c.args.writer.now c.write_text.new.writer c.as_slice-3.result.now c.write_text.result
+    c.args.writer.now c.write_text.new.writer c.as_slice-2.result.now c.write_text.result
     c.in-Ok.ensures.says
-    (subst (λ t. MergesTo c.args.form c.in-Ok.sources.items (Ok t)) (sym c.as_slice-3.ensures.value) (subst (λ fs. MergesTo c.args.form fs (Ok c.in-Ok-merged_file.text.items)) (c.as_slice-2.ensures.value ∙ (c.in_ok-fonts.ensures ∙ c.as_slice.ensures.value)) c.in-Ok-merged_file.ensures.text))
+    (subst (λ t. MergesTo c.args.form c.in-Ok.sources.items (Ok t)) (sym c.as_slice-2.ensures.value) (subst (λ fs. MergesTo c.args.form fs (Ok c.in-Ok-merged_file.text.items)) (c.in_ok-fonts.ensures ∙ c.as_slice.ensures.value) c.in-Ok-merged_file.ensures.text))
     c.write_text.ensures.whole c.write_text.ensures.fault c.write_text.ensures.prefix c.write_text.ensures.rose
 
 pub returns-in-Err-clause-subsets : goal.returns-in-Err-clause-subsets

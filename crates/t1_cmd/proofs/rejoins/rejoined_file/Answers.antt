@@ -11,10 +11,10 @@ pub returns-clause-text : goal.returns-clause-text
 returns-clause-text c =
     let lent : c.in_ok-lent.lent.items ≡ evened_shells c.args.sources.items = c.in_ok-lent.ensures ∙ (c.as_slice.ensures.value ∙ c.in_ok-evened.ensures) in
     let is : c.in-Ok.filled.items ≡ evened c.args.sources.items = c.in-Ok.ensures.0 ∙ ap filled_all lent in
-    IfOk-weaker c.merged_file.result _ _ (λ t h. inl (subst AreLight is c.in-Ok.ensures.1, subst (λ (fs : List FontValue). MergesTo c.args.form fs (Ok t.items)) (c.as_slice-2.ensures.value ∙ is) h)) c.merged_file.ensures.text
+    IfOk-weaker c.merged_file.result _ _ (λ t h. inl (subst AreLight is c.in-Ok.ensures.1, subst (λ (fs : List FontValue). MergesTo c.args.form fs (Ok t.items)) is h)) c.merged_file.ensures.text
 
 pub returns-clause-refused : goal.returns-clause-refused
 returns-clause-refused c =
     let lent : c.in_ok-lent.lent.items ≡ evened_shells c.args.sources.items = c.in_ok-lent.ensures ∙ (c.as_slice.ensures.value ∙ c.in_ok-evened.ensures) in
     let is : c.in-Ok.filled.items ≡ evened c.args.sources.items = c.in-Ok.ensures.0 ∙ ap filled_all lent in
-    IfErr-weaker c.merged_file.result _ _ (λ e h. merge_of_even c.args.form c.args.sources.items e (subst AreLight is c.in-Ok.ensures.1) (subst (λ (fs : List FontValue). MergeStops c.args.form fs e) (c.as_slice-2.ensures.value ∙ is) h)) c.merged_file.ensures.refused
+    IfErr-weaker c.merged_file.result _ _ (λ e h. merge_of_even c.args.form c.args.sources.items e (subst AreLight is c.in-Ok.ensures.1) (subst (λ (fs : List FontValue). MergeStops c.args.form fs e) is h)) c.merged_file.ensures.refused

@@ -8,10 +8,10 @@ use Rattle.t1_cmd.proofs.subsets.subset_of.Goals as goal
 
 pub returns-clause-text : goal.returns-clause-text
 returns-clause-text c =
-    subst (λ (f : FontValue). IfOk c.subset_file-text.result (λ text. subset_answer c.args.form (lent c.args.names.now) f ≡ Ok text.items))
-    c.in_ok-font.ensures c.subset_file-text.ensures.text
+    subst (λ (f : FontValue). IfOk c.subset_file.result (λ text. subset_answer c.args.form (lent c.args.names.now) f ≡ Ok text.items))
+    c.in_ok-font.ensures c.subset_file.ensures.text
 
 pub returns-clause-refused : goal.returns-clause-refused
 returns-clause-refused c =
-    subst (λ (f : FontValue). IfErr c.subset_file-text.result (λ e. ShowStops (subset_answer c.args.form (lent c.args.names.now) f) e))
-    c.in_ok-font.ensures c.subset_file-text.ensures.refused
+    subst (λ (f : FontValue). IfErr c.subset_file.result (λ e. ShowStops (subset_answer c.args.form (lent c.args.names.now) f) e))
+    c.in_ok-font.ensures c.subset_file.ensures.refused

@@ -14,7 +14,7 @@ abbrev states : Named → Named
 states m = map_values (λ n c. name_meaning (Some c)) m
 
 pub names-init : goal.names-init
-names-init c = fills_none (states c.args.font.now.glyphs) _ _ c.new-table.ensures (c.into_iter-name-iterator.ensures.into_iter_gives ∙ c.names-name-items.ensures ∙ sym (keys-valued (λ n c. name_meaning (Some c)) c.args.font.now.glyphs))
+names-init c = fills_none (states c.args.font.now.glyphs) _ _ c.in_ok-table.ensures (c.into_iter-name-iterator.ensures.into_iter_gives ∙ c.names-name-items.ensures ∙ sym (keys-valued (λ n c. name_meaning (Some c)) c.args.font.now.glyphs))
 
 pub names-preserved : goal.names-preserved
 names-preserved c =
