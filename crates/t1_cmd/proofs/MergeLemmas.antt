@@ -2,7 +2,7 @@
 use Rattle.std.proofs.Common.{◌≡◌, ℕ, refl, sym, ◌∙◌, ap, subst, List, [], ◌∷◌, ◌++◌, inl, ⊎_elim, Option, None, Result, Ok, Err}
 use Rattle.t1_bytes.specs.declared.form.Form.{Form}
 use Rattle.t1_font.specs.FontValue.{FontValue}
-use Rattle.t1_font.proofs.MapCuts.{Some_None}
+use Rattle.t1_font.proofs.MapLemmas.{Some_None}
 use Rattle.t1_subset.specs.declared.conflict.Conflict.{Conflict as Refusal}
 use Rattle.t1_subset.specs.declared.conflict.Conflict.TheVariants as refusal
 use Rattle.t1_subset.specs.Conflicts.{Conflict, conflict}

@@ -13,7 +13,7 @@ use Rattle.t1_font.specs.FontValue.{FontValue, Encoding, Word, Codes, Numbered, 
 use Rattle.t1_font.specs.FontModel.{subr_at, subrs_below, name_at, word_of, names_in}
 use Rattle.t1_font.specs.IsFont.{IsFont, IsEncoding}
 use Rattle.t1_font.proofs.FontReaders.{subrs_seen}
-use Rattle.t1_font.proofs.MapCuts.{T_true, entries_all}
+use Rattle.t1_font.proofs.MapLemmas.{T_true, entries_all}
 use Rattle.t1_cmd.specs.ListText.{line_at, code_line, subr_line, glyph_line, encoding_lines}
 
 -- the entries whose keys are below n

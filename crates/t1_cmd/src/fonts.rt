@@ -83,7 +83,7 @@ pub fn run_convert<R: Read, W: Write>(
 fn glyph_count(font: &Font<'_>) -> usize
     ensures { result ≡ fin.len font.now.glyphs }
 {
-    font.is_font();
+    font.proof_is_font();
     let mut count = 0;
     'names: for _name in font.names() {
         count += 1;
@@ -95,7 +95,7 @@ fn glyph_count(font: &Font<'_>) -> usize
 fn subr_count(font: &Font<'_>) -> usize
     ensures { result ≡ fin.len font.now.subrs }
 {
-    font.is_font();
+    font.proof_is_font();
     let mut present = 0;
     'indices: for index in 0..font.count() {
         if font.present(index) {

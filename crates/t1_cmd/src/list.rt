@@ -77,7 +77,7 @@ fn push_codes(alloc: Global, out: &mut Vec<u8>, font: &Font<'_>) -> Result<(), A
     requires { word_of font.now.encoding ≡ None }
     ensures { OnOk result (out.new.items ≡ out.old.items ++ encoding_lines font.now.encoding) }
 {
-    font.is_font();
+    font.proof_is_font();
     'codes: for code in 0..256u16 {
         push_code(alloc, out, font, code as u8)?;
     }
@@ -100,7 +100,7 @@ fn push_subrs(alloc: Global, out: &mut Vec<u8>, font: &Font<'_>) -> Result<(), A
     ensures { OnOk result (out.new.items
         ≡ out.old.items ++ flat_map (λ e. subr_line e.0 e.1) (fin.entries font.now.subrs)) }
 {
-    font.is_font();
+    font.proof_is_font();
     'indices: for index in 0..font.count() {
         push_subr(alloc, out, font, index)?;
     }

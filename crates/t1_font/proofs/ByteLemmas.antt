@@ -20,7 +20,7 @@ use Rattle.t1_font.specs.Entry.{Body}
 use Rattle.t1_font.specs.Canon.{sealed_body, sealed_entry, subr_entry, glyph_entry, subrs_pieces, encoding_pieces, canon_clear, canon_private, canon}
 use Rattle.t1_font.specs.Writing.{body_text, entry_text, entries_text, index_text, subrs_text, subrs_part, name_text, glyphs_text, glyphs_part, puts_text, encoding_text}
 use Rattle.t1_font.specs.IsFont.{IsFont, IsEncoding, SubrsFit, SubrWords, EncodingBytes, SubrsBytes, HasBytes}
-use Rattle.t1_font.proofs.MapCuts.{Some_None, entries_all}
+use Rattle.t1_font.proofs.MapLemmas.{Some_None, entries_all}
 use Rattle.t1_font.proofs.canonical.FontAgain.{name_same}
 
 pub AreBytes-append : (a b : List ℕ) → AreBytes a → AreBytes b → AreBytes (a ++ b)

@@ -9,9 +9,9 @@ use Rattle.std.specs.FinMap.{FinMap, get, entries, entries_sorted, retain_keys, 
 use Rattle.std.specs.FinMap.Entries.{same_entries, is_sorted-where_key, find-where_key}
 use Rattle.t1_bytes.specs.Grammar.{choice}
 use Rattle.t1_font.specs.Entries.{last_entries, last_value, map_of}
-use Rattle.t1_font.specs.Cut.{merged}
+use Rattle.t1_font.specs.Maps.{merged}
 use Rattle.t1_font.proofs.MapLaws.{get-map_of, entries-map_of}
-use Rattle.t1_font.proofs.MapCuts.{joined, get-merged, get-retain, entries_all}
+use Rattle.t1_font.proofs.MapLemmas.{joined, get-merged, get-retain, entries_all}
 use Rattle.t1_font.proofs.canonical.FontAgain.{last_again}
 
 module _ {K : Type 0} {R : K → K → Ordering} (o : IsTotalOrder R) (same : IsAntisymmetric R) where

@@ -11,9 +11,10 @@ use Rattle.std.proofs.lemmas.List.{append_assoc, append-nil}
 use Rattle.t1_bytes.specs.Grammar.{choice}
 use Rattle.t1_font.specs.Entries.{map_of, last_value}
 use Rattle.t1_font.specs.FontValue.{FontValue}
-use Rattle.t1_font.specs.Cut.{stub, put_all_into, entry_of, map_values, restrict_encoding, restrict}
+use Rattle.t1_font.specs.Cut.{stub, restrict_encoding, restrict}
+use Rattle.t1_font.specs.Maps.{put_all_into, entry_of, map_values}
 use Rattle.t1_font.proofs.MapLaws.{map_of-append, map_of-nil, get-map_of}
-use Rattle.t1_font.proofs.MapCuts.{is_or_not, get-retain}
+use Rattle.t1_font.proofs.MapLemmas.{is_or_not, get-retain}
 use Rattle.t1_font.proofs.canonical.FontAgain.{name_same}
 
 -- the entries of these keys in a map

@@ -11,10 +11,12 @@ use Rattle.t1_font.specs.FontValue.{FontValue, Shell, SubrsShell, Encoding, Word
 use Rattle.t1_font.specs.Markers.{len_iv}
 use Rattle.t1_font.specs.Pieces.{iv_of}
 use Rattle.t1_font.specs.Spelling.{IsLenIV, said, unsaid}
-use Rattle.t1_font.specs.Cut.{stub, map_values, merged, restrict, restrict_encoding, join_encodings, joined_subr, join_parts}
+use Rattle.t1_font.specs.Cut.{stub, restrict, restrict_encoding}
+use Rattle.t1_font.specs.Maps.{map_values, merged}
+use Rattle.t1_font.specs.Joins.{join_encodings, joined_subr, join_parts}
 use Rattle.t1_font.specs.IsFont.{IsFont, IsWord, IsCharstring, SubrsFit, SubrWords, AreGlyphs, IsCode, IsEncoding}
 use Rattle.t1_font.specs.WriteLaws.{SameKind}
-use Rattle.t1_font.proofs.MapCuts.{get-map_values, entries-map_values, get-retain, get-merged, total-le, length_total, joined, Some_same, Some_None}
+use Rattle.t1_font.proofs.MapLemmas.{get-map_values, entries-map_values, get-retain, get-merged, total-le, length_total, joined, Some_same, Some_None}
 use Rattle.std.specs.Cmp.Lexicographic.{nat_list_cmp_total}
 use Rattle.t1_font.proofs.ReadRight.{iv_is}
 use Rattle.t1_font.proofs.canonical.FontAgain.{name_same}

@@ -15,7 +15,7 @@ use Rattle.t1_join.proofs.TreeEntries.{map_insert, sorted_entries, map_sorted}
 use Rattle.t1_join.proofs.Merges.{rises_merge, merged_from_sorted, keyed, merge_keys}
 use Rattle.t1_font.specs.FontValue.{name_cmp}
 use Rattle.t1_font.specs.Lent.{with_bytes, lent_name, lent_names}
-use Rattle.t1_font.specs.Cut.{put_all_into, entry_of, merged}
+use Rattle.t1_font.specs.Maps.{put_all_into, entry_of, merged}
 use Rattle.t1_font.proofs.canonical.FontAgain.{name_same}
 
 -- entries that are out, and nothing is left

@@ -22,7 +22,7 @@ pub mod ReadingLaws
 pub mod ReadRight
 pub mod ReadAgain
 pub mod PlaceLemmas
-pub mod MapCuts
+pub mod MapLemmas
 pub mod ByteLemmas
 pub mod Kept
 pub mod read_fonts

@@ -4,7 +4,8 @@ use Rattle.std.specs.List.{flat_map}
 use Rattle.std.specs.Option.{option_map}
 use Rattle.std.specs.FinMap.{entries, keys, from_entries}
 use Rattle.t1_font.specs.FontValue.{FontValue, Shell, SubrsShell, Numbered, declared_count}
-use Rattle.t1_font.specs.Cut.{stub, merged}
+use Rattle.t1_font.specs.Cut.{stub}
+use Rattle.t1_font.specs.Maps.{merged}
 use Rattle.t1_font.specs.Tags.{untagged_head}
 
 -- a table that declares at least so many Subrs

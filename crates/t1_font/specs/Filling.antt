@@ -5,7 +5,7 @@ use Rattle.std.specs.FinMap.{entries, retain_keys}
 use Rattle.t1_font.specs.declared.parts.PartsFault.{PartsFault}
 use Rattle.t1_font.specs.declared.parts.PartsFault.TheVariants.{Limit, Memory}
 use Rattle.t1_font.specs.FontValue.{FontValue, Numbered, declared_count, weight, weight_limit}
-use Rattle.t1_font.specs.Cut.{merged}
+use Rattle.t1_font.specs.Maps.{merged}
 use Rattle.t1_font.specs.Evening.{stubs_at, filled_all}
 
 -- each of these fonts is within the weight limit

@@ -1,10 +1,31 @@
--- Why the entries of two fonts are not one font.
-use Rattle.std.specs.Prelude.{◌<◌, ◌⊎◌}
-use Rattle.std.specs.FinMap.{len}
+-- A font of the entries of two, and why these are not one font.
+use Rattle.std.specs.Prelude.{◌<◌, ◌⊎◌, ℕ, cond, List, Option, unwrap_or}
+use Rattle.std.specs.Str.{bytes_eq}
+use Rattle.std.specs.FinMap.{get, len}
 use Rattle.t1_font.specs.declared.parts.PartsFault.{PartsFault}
 use Rattle.t1_font.specs.declared.parts.PartsFault.TheVariants.{Limit, Memory}
-use Rattle.t1_font.specs.FontValue.{FontValue, count_limit, weight_limit, weight}
-use Rattle.t1_font.specs.Cut.{join_parts}
+use Rattle.t1_font.specs.FontValue.{FontValue, Encoding, Word, Codes, count_limit, weight_limit, weight}
+use Rattle.t1_font.specs.Cut.{stub}
+use Rattle.t1_font.specs.Maps.{map_values, merged}
+
+-- the codes of both tables; of two words the first, which is to be the second too
+abbrev pub join_encodings : Encoding → Encoding → Encoding
+join_encodings (Word w) e = Word w
+join_encodings (Codes m) (Word w) = Codes m
+join_encodings (Codes m) (Codes n) = Codes (merged m n)
+
+-- the entry c, or where it is a stub the other font's
+abbrev pub joined_subr : List ℕ → Option (List ℕ) → List ℕ
+joined_subr c other = cond (bytes_eq c stub) (unwrap_or other c) c
+
+-- the entries of both fonts, a stub giving way to the other's entry
+abbrev pub join_parts : FontValue → FontValue → FontValue
+join_parts f g = record {
+  shell = f.shell;
+  encoding = join_encodings f.encoding g.encoding;
+  subrs = map_values (λ i c. joined_subr c (get g.subrs i)) f.subrs;
+  glyphs = merged f.glyphs g.glyphs;
+}
 
 -- the font of both has too many glyphs, or weighs too much; or a growth was refused
 abbrev pub Refuses : FontValue → FontValue → PartsFault → Type 0

@@ -28,6 +28,7 @@ pub mod Answers
 pub mod Laws
 pub mod Writing
 pub mod Canon
+pub mod Maps
 pub mod Cut
 pub mod Tags
 pub mod Evening

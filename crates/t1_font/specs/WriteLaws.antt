@@ -10,7 +10,9 @@ use Rattle.t1_bytes.specs.Limits.{file_limit}
 use Rattle.t1_font.specs.FontModel.{subr_at}
 use Rattle.t1_font.specs.ReadFont.{read_font}
 use Rattle.t1_font.specs.Canon.{canon}
-use Rattle.t1_font.specs.Cut.{restrict, join_parts, merged}
+use Rattle.t1_font.specs.Cut.{restrict}
+use Rattle.t1_font.specs.Joins.{join_parts}
+use Rattle.t1_font.specs.Maps.{merged}
 use Rattle.t1_font.specs.IsFont.{HasBytes, IsFont}
 
 -- text that begins with byte 128 would be taken for PFB

@@ -10,7 +10,8 @@ ghost use Rattle.std.specs.FinSet as sets;
 ghost use Rattle.t1_font.specs.FontValue.{notdef};
 ghost use Rattle.t1_font.specs.FontModel.{encoding_of};
 ghost use Rattle.t1_font.specs.Lent.{lent_names};
-ghost use Rattle.t1_font.specs.Cut.{stub, put_all_into, entry_of, set_of_names, map_values, restrict_encoding, restrict};
+ghost use Rattle.t1_font.specs.Cut.{stub, set_of_names, restrict_encoding, restrict};
+ghost use Rattle.t1_font.specs.Maps.{put_all_into, entry_of, map_values};
 
 use crate::font::{Font, FontParts, LentEncoding};
 use crate::lent::{Named, Numbered};
@@ -172,7 +173,7 @@ pub fn restrict<'a>(
         ≡ restrict (sets.contains (set_of_names names.now))
         (contains nat_cmp subrs.now) font.now) }
 {
-    font.is_font();
+    font.proof_is_font();
     let parts = cut_parts(alloc, &font.parts, names, subrs)?;
     Ok(Font { parts })
 }

@@ -3,7 +3,7 @@
 ghost use Rattle.std.specs.Prelude.{◌≡◌, ◌++◌, ◌∷◌, [], ◌≤◌, nat_lt, IfOk, OnOk, MatchResult};
 ghost use Rattle.std.specs.FinMap as fin;
 ghost use Rattle.t1_font.specs.FontValue.{weight, weight_limit};
-ghost use Rattle.t1_font.specs.Cut.{merged};
+ghost use Rattle.t1_font.specs.Maps.{merged};
 ghost use Rattle.t1_font.specs.Evening.{stubs_at, indices_of_all};
 ghost use Rattle.t1_font.specs.Filling.{Fills, FillRefuses, filled_by, AreStubs, FontRefused};
 
@@ -57,7 +57,7 @@ fn fill<'a>(alloc: Global, font: Font<'a>, stubs: &Numbered<'a>) -> Result<Font<
         ≡ filled_by stubs.now font.entry) (FontRefused (filled_by stubs.now font.entry)) }
     ensures light { IfOk result (λ f. weight f ≤ weight_limit) }
 {
-    font.is_font();
+    font.proof_is_font();
     let parts = font.parts;
     if parts.subrs.is_empty() {
         return Ok(Font { parts });

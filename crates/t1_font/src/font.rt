@@ -92,7 +92,7 @@ impl<'a> Font<'a> {
     /// Says of a font what each font is: a value whose canonical file is read as the value itself.
     ///
     /// It does nothing when it runs: proofs about fonts call it.
-    pub fn is_font(&self)
+    pub fn proof_is_font(&self)
         ensures { IsFont self.now }
     {
         let _parts = &self.parts;

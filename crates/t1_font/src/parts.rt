@@ -4,7 +4,8 @@ ghost use Rattle.std.specs.Prelude.{◌≡◌, ◌++◌, map, IfOk, OnOk, MatchR
 ghost use Rattle.std.specs.Option.{option_map};
 ghost use Rattle.std.specs.FinMap as fin;
 ghost use Rattle.t1_font.specs.FontModel.{encoding_of};
-ghost use Rattle.t1_font.specs.Cut.{map_values, merged, joined_subr, join_encodings, join_parts};
+ghost use Rattle.t1_font.specs.Maps.{map_values, merged};
+ghost use Rattle.t1_font.specs.Joins.{joined_subr, join_encodings, join_parts};
 ghost use Rattle.t1_font.specs.WriteLaws.{SameKind};
 ghost use Rattle.t1_font.specs.Joins.{Refuses};
 ghost use Rattle.t1_font.specs.Lent.{with_bytes};
@@ -214,8 +215,8 @@ pub fn join_parts<'a>(
     ensures { MatchResult result (λ f. f
         ≡ join_parts first.now second.now) (Refuses first.now second.now) }
 {
-    first.is_font();
-    second.is_font();
+    first.proof_is_font();
+    second.proof_is_font();
     let parts = joined_parts(alloc, &first.parts, &second.parts)?;
     if parts.glyphs.len() > COUNT_LIMIT || parts.weight() > WEIGHT_LIMIT {
         return Err(PartsFault::Limit);

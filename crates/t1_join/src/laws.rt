@@ -68,5 +68,5 @@ pub fn listings_join_alike()
 pub fn reads_what_is_written(listing: &Listing<'_>)
     ensures { listing_of (text_of listing.now) ≡ Ok listing.now }
 {
-    listing.holds_what_lines_spell();
+    listing.proof_holds_what_lines_spell();
 }

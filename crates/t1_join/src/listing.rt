@@ -135,7 +135,7 @@ impl<'a> Listing<'a> {
     }
 
     /// Each entry has an index or a name, and a value: what one line of a text can spell.
-    pub fn holds_what_lines_spell(&self)
+    pub fn proof_holds_what_lines_spell(&self)
         ensures { IsListing self.now }
     {
         let _ = &self.subrs;

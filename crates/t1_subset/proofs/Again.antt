@@ -9,7 +9,7 @@ use Rattle.std.specs.FinSet as sets
 use Rattle.std.specs.FinSet.{nat_cmp-IsAntisymmetric}
 use Rattle.t1_font.specs.FontValue.{FontValue, Encoding, Word, Codes, name_cmp, notdef}
 use Rattle.t1_font.specs.Cut.{restrict, restrict_encoding, stub}
-use Rattle.t1_font.proofs.MapCuts.{get-map_values, get-retain}
+use Rattle.t1_font.proofs.MapLemmas.{get-map_values, get-retain}
 use Rattle.t1_subset.specs.Interpreter.{Interpreter, Names}
 use Rattle.t1_subset.specs.Keep.{has, charstring, components, components_here, keep, kept, subset}
 use Rattle.t1_subset.proofs.Sets.{clash, is_or_not, name_same, same_members}

@@ -7,11 +7,11 @@ use Rattle.std.specs.Cmp.Lexicographic.{nat_list_cmp_total}
 use Rattle.std.specs.FinSet.{IsAntisymmetric, nat_cmp-IsAntisymmetric}
 use Rattle.std.specs.FinMap as maps
 use Rattle.std.specs.FinMap.{find}
-use Rattle.t1_font.specs.Cut.{merged}
+use Rattle.t1_font.specs.Maps.{merged}
 use Rattle.t1_font.specs.FontValue.{FontValue, Shell, Encoding, Word, Codes, weight, weight_limit, count_limit, SubrsShell, declared_count}
 use Rattle.t1_font.specs.FontModel.{of_subrs}
 use Rattle.t1_font.specs.WriteLaws.{SameKind}
-use Rattle.t1_font.proofs.MapCuts.{Some_same, Some_None, get-map_values}
+use Rattle.t1_font.proofs.MapLemmas.{Some_same, Some_None, get-map_values}
 use Rattle.t1_subset.specs.Conflicts.{ShellPart, Head, EncodingPart, ClearTail, Private, SubrsTable, SubrsWords, Middle, GlyphsWords, Tail, Conflict, ShellDiffers, CodeDiffers, GlyphDiffers, LacksComponent, SubrDiffers, OverLimit, first_where, members, smallest, found, keys_of_both, agrees, same_number, same_bool, same_words, same_keys, same_kind, codes_of_both, executes, calls_for, called_at, wants, same_part, code_clashes, glyph_clashes, glyph_names, wanted_by, component_clashes, subr_clashes, used_by, is_within, shell_conflict, code_conflict, glyph_conflict, component_conflict, subr_conflict, states_conflict, conflict}
 use Rattle.t1_subset.specs.Interpreter.{Interpreter, same_bytes}
 use Rattle.t1_subset.specs.Keep.{has, components}

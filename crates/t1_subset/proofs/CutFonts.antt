@@ -10,7 +10,7 @@ use Rattle.std.proofs.lemmas.Slice.Eq.{bytes_eq-Decides}
 use Rattle.t1_font.specs.Cut.{stub}
 use Rattle.t1_font.specs.FontValue.{total, FontValue, notdef, weight}
 use Rattle.t1_font.proofs.Kept.{restrict_light}
-use Rattle.t1_font.proofs.MapCuts.{get-map_values, get-retain, Some_None, total-le, length_total}
+use Rattle.t1_font.proofs.MapLemmas.{get-map_values, get-retain, Some_None, total-le, length_total}
 use Rattle.t1_subset.specs.Interpreter.{Interpreter, Names, same_bytes}
 use Rattle.t1_subset.specs.Keep.{keep, kept, components, has, subset}
 use Rattle.t1_subset.specs.States.{Agree, joined, is_called, is_sought, entry_state, state_of_entry, subr_state, is_stub}

@@ -5,7 +5,7 @@ use Rattle.std.specs.FinSet as sets
 use Rattle.std.specs.FinMap as maps
 use Rattle.std.specs.Cmp.Lexicographic.{nat_list_cmp_total}
 use Rattle.t1_font.specs.FontValue.{FontValue, notdef}
-use Rattle.t1_font.proofs.MapCuts.{Some_None}
+use Rattle.t1_font.proofs.MapLemmas.{Some_None}
 use Rattle.t1_subset.specs.Interpreter.{Interpreter, Names, same_bytes}
 use Rattle.t1_subset.specs.Keep.{keep, has, components, subset}
 use Rattle.t1_subset.specs.Outcomes.{component_outcome, seen, drawing}

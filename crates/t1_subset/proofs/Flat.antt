@@ -1,6 +1,6 @@
 -- The join of flat states.
 use Rattle.std.proofs.Common.{◌≡◌, refl, sym, ◌∙◌, ap, ◌⊎◌, inl, inr, Option, Some, None}
-use Rattle.t1_font.proofs.MapCuts.{Some_same, Some_None}
+use Rattle.t1_font.proofs.MapLemmas.{Some_same, Some_None}
 use Rattle.t1_subset.specs.States.{Agree, joined, Under}
 
 module _ {V : Type 0} where

@@ -5,10 +5,12 @@ use Rattle.std.specs.Cmp.Lexicographic.{nat_list_cmp_total}
 use Rattle.std.specs.FinSet as sets
 use Rattle.std.specs.FinSet.{nat_cmp-IsAntisymmetric}
 use Rattle.std.specs.FinMap as maps
-use Rattle.t1_font.specs.Cut.{map_values, merged, stub, restrict, restrict_encoding, join_encodings}
+use Rattle.t1_font.specs.Maps.{map_values, merged}
+use Rattle.t1_font.specs.Cut.{stub, restrict, restrict_encoding}
+use Rattle.t1_font.specs.Joins.{join_encodings}
 use Rattle.t1_font.specs.FontValue.{FontValue, Encoding, Word, Codes, notdef}
 use Rattle.t1_font.specs.WriteLaws.{SameKind}
-use Rattle.t1_font.proofs.MapCuts.{get-map_values, get-retain}
+use Rattle.t1_font.proofs.MapLemmas.{get-map_values, get-retain}
 use Rattle.t1_subset.specs.Interpreter.{Interpreter, Names, Numbers}
 use Rattle.t1_subset.specs.Keep.{keep, kept, has, subset}
 use Rattle.t1_subset.specs.States.{IsWithin, Agree, joined, is_sought, subr_state, state_of_glyph, name_state, code_state, joined_font, Compatible, Join}

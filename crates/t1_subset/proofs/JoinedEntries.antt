@@ -3,9 +3,10 @@ use Rattle.std.proofs.Common.{◌≡◌, ℕ, Bool, true, false, cond, not, ◌&
 use Rattle.std.specs.Cmp.{nat_cmp_total}
 use Rattle.std.specs.FinSet.{nat_cmp-IsAntisymmetric}
 use Rattle.std.specs.FinMap as maps
-use Rattle.t1_font.specs.Cut.{stub, joined_subr, join_parts}
+use Rattle.t1_font.specs.Cut.{stub}
+use Rattle.t1_font.specs.Joins.{joined_subr, join_parts}
 use Rattle.t1_font.specs.FontValue.{FontValue}
-use Rattle.t1_font.proofs.MapCuts.{get-map_values}
+use Rattle.t1_font.proofs.MapLemmas.{get-map_values}
 use Rattle.t1_subset.specs.Interpreter.{Interpreter}
 use Rattle.t1_subset.specs.JoinedEntries.{past_stub, EntriesJoin}
 use Rattle.t1_subset.specs.States.{Agree, joined, is_called, state_of_entry, joined_font, Compatible, is_stub}

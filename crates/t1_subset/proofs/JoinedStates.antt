@@ -6,10 +6,11 @@ use Rattle.std.specs.Cmp.Lexicographic.{nat_list_cmp_total}
 use Rattle.std.specs.FinSet as sets
 use Rattle.std.specs.FinSet.{nat_cmp-IsAntisymmetric}
 use Rattle.std.specs.FinMap as maps
-use Rattle.t1_font.specs.Cut.{stub, join_encodings}
+use Rattle.t1_font.specs.Cut.{stub}
+use Rattle.t1_font.specs.Joins.{join_encodings}
 use Rattle.t1_font.specs.FontValue.{FontValue, Encoding, Word, Codes}
 use Rattle.t1_font.specs.WriteLaws.{SameKind}
-use Rattle.t1_font.proofs.MapCuts.{get-map_values, Some_same, Some_None}
+use Rattle.t1_font.proofs.MapLemmas.{get-map_values, Some_same, Some_None}
 use Rattle.t1_subset.specs.Interpreter.{Interpreter, same_bytes}
 use Rattle.t1_subset.specs.Keep.{components}
 use Rattle.t1_subset.specs.States.{Agree, joined, is_called, is_sought, state_of_entry, subr_state, state_of_glyph, name_state, code_state, joined_font, Compatible, is_stub}

@@ -6,9 +6,9 @@ use Rattle.std.specs.Cmp.{IsTotalOrder, first_so, second_so, Equal-is}
 use Rattle.std.specs.FinMap.{FinMap, get, entries, entries_sorted, find, is_sorted, get-entries, same_map}
 use Rattle.std.specs.FinSet.{IsAntisymmetric}
 use Rattle.std.specs.FinMap.Entries.{below_all}
-use Rattle.t1_font.specs.Cut.{merged}
-use Rattle.t1_font.proofs.MapCuts as cuts
-use Rattle.t1_font.proofs.MapCuts.{T_true, Some_same, Some_None, find_first, find_rest}
+use Rattle.t1_font.specs.Maps.{merged}
+use Rattle.t1_font.proofs.MapLemmas as cuts
+use Rattle.t1_font.proofs.MapLemmas.{T_true, Some_same, Some_None, find_first, find_rest}
 use Rattle.t1_subset.specs.States.{joined}
 use Rattle.t1_subset.proofs.Sets.{or_cases, or_left, or_right}
 

@@ -5,10 +5,11 @@ use Rattle.std.specs.Cmp.{nat_cmp_total, first_so}
 use Rattle.std.specs.Cmp.Lexicographic.{nat_list_cmp_total}
 use Rattle.std.specs.FinSet.{nat_cmp-IsAntisymmetric}
 use Rattle.std.specs.FinMap as maps
-use Rattle.t1_font.specs.Cut.{stub, join_encodings}
+use Rattle.t1_font.specs.Cut.{stub}
+use Rattle.t1_font.specs.Joins.{join_encodings}
 use Rattle.t1_font.specs.FontValue.{total, FontValue, Encoding, Word, Codes, Shell, weight, subr_weight, glyph_weight, texts_weight}
 use Rattle.t1_font.specs.WriteLaws.{SameKind}
-use Rattle.t1_font.proofs.MapCuts.{Some_same, total-le, length_total}
+use Rattle.t1_font.proofs.MapLemmas.{Some_same, total-le, length_total}
 use Rattle.t1_subset.specs.Interpreter.{Interpreter}
 use Rattle.t1_subset.specs.States.{IsWithin, is_called, is_sought, state_of_entry, subr_state, state_of_glyph, name_state, code_state, joined_font, Compatible, Join, Under, Below, is_stub}
 use Rattle.t1_subset.proofs.Flat.{under_self, under_trans, under_same, under_left, under_both, under_agree}

@@ -3,7 +3,7 @@ use Rattle.std.proofs.Common.{◌≡◌, ℕ, Option, List, [], ◌∷◌, ◌++
 use Rattle.std.proofs.lemmas.List.Sorted.{All-permutation, IsPermutation-sym}
 use Rattle.std.proofs.lemmas.List.Elements.{recursion_from_All, All-from_recursion}
 use Rattle.std.specs.List.{AllByRecursion}
-use Rattle.t1_font.specs.Cut.{join_encodings}
+use Rattle.t1_font.specs.Joins.{join_encodings}
 use Rattle.t1_font.specs.FontValue.{FontValue, Encoding, Word, Codes}
 use Rattle.t1_font.specs.WriteLaws.{SameKind}
 use Rattle.t1_subset.specs.Interpreter.{Interpreter}

@@ -8,7 +8,7 @@ use Rattle.std.specs.FinMap as maps
 use Rattle.std.specs.FinSet as sets
 use Rattle.t1_font.specs.FontValue.{FontValue, SubrsShell, Encoding, Word, Codes, name_cmp, declared_count, count_limit, weight_limit, weight}
 use Rattle.t1_font.specs.FontModel.{of_subrs}
-use Rattle.t1_font.specs.Cut.{map_values, merged}
+use Rattle.t1_font.specs.Maps.{map_values, merged}
 use Rattle.t1_subset.specs.Interpreter.{Interpreter, same_bytes}
 use Rattle.t1_subset.specs.Keep.{has, components}
 use Rattle.t1_subset.specs.States.{code_state, subr_state, joined_font}

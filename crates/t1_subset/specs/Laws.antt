@@ -7,7 +7,7 @@ use Rattle.t1_run.specs.Drawings.{draw, draw3}
 use Rattle.t1_font.specs.FontValue.{FontValue, weight}
 use Rattle.t1_font.specs.FontModel.{subr_at}
 use Rattle.t1_font.specs.IsFont.{IsFont}
-use Rattle.t1_font.specs.Cut.{join_parts}
+use Rattle.t1_font.specs.Joins.{join_parts}
 use Rattle.t1_subset.specs.Interpreter.{Interpreter, Names}
 use Rattle.t1_subset.specs.Keep.{has, keep, kept, subset, Closed}
 use Rattle.t1_subset.specs.States.{Compatible, Join, IsWithin, joined, joined_font, subr_state, name_state, code_state, is_sought}

@@ -8,7 +8,7 @@ use Rattle.t1_join.specs.Products.{Same, BothAgree, same_laws, both_laws, fittin
 use Rattle.t1_join.specs.TableMeaning.{TableMeaning, TablesAgree, TablesJoin}
 use Rattle.t1_join.specs.TableLaws.{table_laws, get_joined}
 use Rattle.t1_font.specs.FontValue.{total}
-use Rattle.t1_font.proofs.MapCuts.{total-le}
+use Rattle.t1_font.proofs.MapLemmas.{total-le}
 use Rattle.t1_subset.specs.StateTables.{Shared, StatesValue, name_part, subr_part, shared_weight, subr_adds, name_adds, name_counts, states_weight, StatesFit, PartsJoin, StatesAgree, StatesJoin}
 
 -- part by part

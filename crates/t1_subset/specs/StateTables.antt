@@ -10,7 +10,7 @@ use Rattle.t1_join.specs.TableMeaning.{TableMeaning, TablesJoin, table_code, joi
 use Rattle.t1_font.specs.FontValue.{FontValue, Shell, Encoding, Word, Codes, Numbered, total, texts_weight, weight_limit, count_limit}
 use Rattle.t1_font.specs.FontModel.{shell_code, word_of}
 use Rattle.t1_font.specs.Lent.{bytes_code}
-use Rattle.t1_font.specs.Cut.{map_values}
+use Rattle.t1_font.specs.Maps.{map_values}
 use Rattle.t1_subset.specs.Interpreter.{Interpreter}
 use Rattle.t1_subset.specs.Keep.{components}
 use Rattle.t1_subset.specs.States.{subr_state}

@@ -6,7 +6,9 @@ use Rattle.std.specs.Option.{unwrap_or}
 use Rattle.std.specs.FinMap as maps
 use Rattle.std.specs.FinSet as sets
 use Rattle.t1_font.specs.FontValue.{FontValue, Encoding, Word, Codes, count_limit, weight_limit, weight}
-use Rattle.t1_font.specs.Cut.{map_values, merged, stub, join_encodings}
+use Rattle.t1_font.specs.Maps.{map_values, merged}
+use Rattle.t1_font.specs.Cut.{stub}
+use Rattle.t1_font.specs.Joins.{join_encodings}
 use Rattle.t1_font.specs.WriteLaws.{SameKind}
 use Rattle.t1_subset.specs.Interpreter.{Interpreter, same_bytes}
 use Rattle.t1_subset.specs.Keep.{components}

@@ -22,7 +22,7 @@ pub(crate) fn run_of(
     ensures calls { IfOk result (λ r. number_set r.1
         ≡ profile.exec font.now.subrs (charstring font.now name.now)) }
 {
-    font.is_font();
+    font.proof_is_font();
     match font.glyph(name) {
         Some(charstring) => {
             let (names, executed) = parts_and_executed(alloc, font, charstring)?;

@@ -21,7 +21,7 @@ pub(crate) fn noted<'t, 'a>(
     let mut all_states = Vec::with_capacity(alloc, fonts.len())?;
     let mut all_callers = Vec::with_capacity(alloc, fonts.len())?;
     'fonts: for font in fonts {
-        font.is_font();
+        font.proof_is_font();
         let (states, callers) = states_and_callers(alloc, font)?;
         all_states.push(states)?;
         all_callers.push(callers)?;
@@ -34,7 +34,7 @@ pub(crate) fn copied<'a>(alloc: Global, font: &Font<'a>) -> Result<Font<'a>, Con
     ensures ok { IfOk result (λ j. j ≡ font.now) }
     ensures err { IfErr result (λ e. e ≡ Conflict.Memory) }
 {
-    font.is_font();
+    font.proof_is_font();
     both(alloc, font, font)
 }
 

@@ -31,7 +31,7 @@ pub(crate) fn both<'a>(
 {
     match join_parts(alloc, left, right) {
         Ok(font) => {
-            font.is_font();
+            font.proof_is_font();
             Ok(font)
         }
         Err(PartsFault::Limit) => Err(Conflict::Limit),
@@ -58,8 +58,8 @@ fn merged<'a>(alloc: Global, left: &Font<'a>, right: &Font<'a>) -> Result<Font<'
     if let Err(conflict) = one_shell(left, right) {
         return Err(conflict);
     }
-    left.is_font();
-    right.is_font();
+    left.proof_is_font();
+    right.proof_is_font();
     let Ok((own, own_callers)) = states_and_callers(alloc, left) else {
         return Err(Conflict::Memory);
     };
@@ -111,7 +111,7 @@ pub fn merge<'a>(alloc: Global, left: &Font<'a>, right: &Font<'a>) -> Result<Fon
     ensures subsets { MergesSubsets left.now right.now result }
     ensures draws { IfOk result (λ j. DrawsBoth left.now right.now j) }
 {
-    left.is_font();
+    left.proof_is_font();
     merged(alloc, left, right)
 }
 

@@ -37,7 +37,7 @@ pub(crate) fn needed<'a>(
         ≡ keep profile font.now (asked names.now)) }
     ensures subrs { IfOk result (λ r. number_set r.1 ≡ kept profile font.now (asked names.now)) }
 {
-    font.is_font();
+    font.proof_is_font();
     let mut closure = ClosureNames::new(alloc);
     closure.add(b".notdef")?;
     closure.add_all(names)?;

@@ -66,8 +66,8 @@ fn same_encoding(left: &Font<'_>, right: &Font<'_>) -> bool
 fn same_indices(left: &Font<'_>, right: &Font<'_>) -> bool
     ensures { result ≡ same_keys left.now.subrs right.now.subrs }
 {
-    left.is_font();
-    right.is_font();
+    left.proof_is_font();
+    right.proof_is_font();
     let end = left.count().max(right.count());
     'indices: for index in 0..end {
         if left.present(index) != right.present(index) {

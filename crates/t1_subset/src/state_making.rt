@@ -69,7 +69,7 @@ fn name_table<'a>(
 fn glyph_count(font: &Font<'_>) -> u64
     ensures { result ≡ maps.len font.now.glyphs }
 {
-    font.is_font();
+    font.proof_is_font();
     let mut count = 0;
     'names: for _name in font.names() {
         count += 1;
@@ -86,7 +86,7 @@ fn states_by<'t, 'a>(
     requires { AreCallersOf callers.now font.now }
     ensures { IfOk result (λ s. s ≡ states_of profile font.now) }
 {
-    font.is_font();
+    font.proof_is_font();
     Ok(States {
         shell: font,
         codes: code_table(alloc, font)?,

@@ -32,7 +32,7 @@ pub fn subset<'a>(alloc: Global, font: &Font<'a>, names: &[&[u8]]) -> Result<Fon
         (λ e. Absent e
         (first_where (λ n. not (has font.now n)) (lent names.now))) }
 {
-    font.is_font();
+    font.proof_is_font();
     let closure = closure(alloc, font, names)?;
     match restrict(alloc, font, closure.names.as_slice(), &closure.subrs) {
         Ok(font) => Ok(font),

@@ -2,7 +2,7 @@
 
 ghost use Rattle.std.specs.Prelude.{◌≡◌, ◌<◌, ℕ, Some, IfOk, OnOk};
 ghost use Rattle.std.specs.Option.{option_map};
-ghost use Rattle.t1_font.specs.Cut.{map_values};
+ghost use Rattle.t1_font.specs.Maps.{map_values};
 ghost use Rattle.t1_subset.specs.Profile.{profile};
 ghost use Rattle.t1_subset.specs.StateTables.{numbered, name_meaning, code_states, used_subrs};
 ghost use Rattle.t1_subset.specs.NameStates.{state_meaning};
@@ -42,7 +42,7 @@ pub(crate) fn code_table<'a>(
 ) -> Result<Table<u16, &'a [u8]>, AllocError>
     ensures { IfOk result (λ table. table ≡ code_states font.now.encoding) }
 {
-    font.is_font();
+    font.proof_is_font();
     let mut table = Table::new(alloc);
     'codes: for code in 0..256u16 {
         put(&mut table, code, font.encoding_at(code as u8))?;
@@ -98,7 +98,7 @@ pub(crate) fn subr_table<'a>(
         → user_at users.now i ≡ user_of font.now i }
     ensures { IfOk result (λ table. table ≡ numbered (used_subrs profile font.now)) }
 {
-    font.is_font();
+    font.proof_is_font();
     let mut table = Table::with_capacity(alloc, font.count() as usize)?;
     'indices: for index in 0..font.count() {
         put(

@@ -19,7 +19,7 @@ use Rattle.t1_font.proofs.MapLaws.{get-map_of, get-names_of}
 use Rattle.t1_font.proofs.canonical.EntriesWritten.{IsEntry}
 use Rattle.t1_font.proofs.canonical.PrivateWritten.{AreOptional, IsWritable}
 use Rattle.t1_font.proofs.canonical.ClearWritten.{IsEncodingText}
-use Rattle.t1_font.proofs.MapCuts.{entries_all, T_true, last-sorted}
+use Rattle.t1_font.proofs.MapLemmas.{entries_all, T_true, last-sorted}
 
 pub name_same : IsAntisymmetric name_cmp
 name_same = slice_cmp-IsAntisymmetric nat_cmp-IsAntisymmetric

@@ -27,7 +27,7 @@ use Rattle.t1_font.specs.IsFont.{IsFont, IsWord, IsPhrase, IsCharstring, SubrsFi
 use Rattle.t1_font.proofs.WordLemmas.{phrase_exact}
 use Rattle.std.specs.Cmp.Lexicographic.{nat_list_cmp_total}
 use Rattle.t1_font.proofs.canonical.FontAgain.{name_same, length-body}
-use Rattle.t1_font.proofs.MapCuts.{entries_all, T_true}
+use Rattle.t1_font.proofs.MapLemmas.{entries_all, T_true}
 
 after_short : (test : List ℕ → Bool) (access : Bool) (first p text rest : List ℕ) → length first ≤ 32 → (phrase_after test access first).Spells p text rest → length p ≤ 32
 after_short test false first p text rest h s = omega (arith, ap length s.1)

@@ -6,10 +6,11 @@ use Rattle.std.specs.Option.{option_map}
 use Rattle.std.specs.Cmp.{nat_cmp_total}
 use Rattle.std.specs.FinMap.{get, entries, keys, contains_key, contains_key-keys, get-from_entries, same_map, nat_cmp-IsAntisymmetric}
 use Rattle.t1_font.specs.FontValue.{FontValue, SubrsShell, Numbered, declared_count}
-use Rattle.t1_font.specs.Cut.{stub, merged}
+use Rattle.t1_font.specs.Cut.{stub}
+use Rattle.t1_font.specs.Maps.{merged}
 use Rattle.t1_font.specs.Evening.{raised, even, stubs_at, below, with_stubs, filled, largest_count, indices_of_all, evened_shells, filled_all, evened}
 use Rattle.t1_font.specs.EveningLaws.{EvenStays, FilledStays, EvenedTwice, IsEvenWith, EvenFontsStay}
-use Rattle.t1_font.proofs.MapCuts.{joined, get-merged, get-retain}
+use Rattle.t1_font.proofs.MapLemmas.{joined, get-merged, get-retain}
 use Rattle.t1_font.proofs.even_fonts.Evened.{stubs_below}
 use Rattle.t1_font.proofs.even_fonts.Filled.{is_one, find_stub, indices_next}
 use Rattle.t1_font.proofs.even_fonts.UntaggedTwice.{untagged_head_twice}

@@ -14,7 +14,8 @@ use Rattle.t1_bytes.proofs.Grammars.{unspelled}
 use Rattle.t1_bytes.proofs.EexecLemmas.{eexec_exact}
 use Rattle.t1_font.specs.Markers.{encoding_marker}
 use Rattle.t1_font.specs.FontValue.{FontValue, Shell, SubrsShell, Numbered, declared_count, count_limit, weight_limit, weight}
-use Rattle.t1_font.specs.Cut.{stub, merged}
+use Rattle.t1_font.specs.Cut.{stub}
+use Rattle.t1_font.specs.Maps.{merged}
 use Rattle.t1_font.specs.Tags.{begins_encoding, untagged_head}
 use Rattle.t1_font.specs.Evening.{raised, even_shell, even, stubs_at, below, with_stubs, filled}
 use Rattle.t1_font.specs.IsFont.{IsFont, NoMarker, IsCharstring, SubrsFit, SubrWords, IsWord, IsPhrase}
@@ -22,7 +23,7 @@ use Rattle.t1_font.proofs.ByteLemmas.{AreBytes-append}
 use Rattle.t1_font.proofs.canonical.Borders.{fixed_strip}
 use Rattle.t1_font.proofs.MarkerLemmas.{encoding_marker_exact}
 use Rattle.t1_font.proofs.canonical.Moves.{NoneIn-append, encoding_moves, eexec_moves}
-use Rattle.t1_font.proofs.MapCuts.{is_or_not, joined, get-merged, get-retain, find_first, Some_None}
+use Rattle.t1_font.proofs.MapLemmas.{is_or_not, joined, get-merged, get-retain, find_first, Some_None}
 use Rattle.t1_font.proofs.Kept.{iv_small, merged_has}
 use Rattle.t1_font.proofs.even_fonts.TagLemmas.{Untagged, loses_tags}
 

@@ -17,11 +17,12 @@ use Rattle.std.proofs.lemmas.List.Folds.{list_any-append}
 use Rattle.t1_font.specs.declared.parts.PartsFault.{PartsFault}
 use Rattle.t1_font.specs.declared.parts.PartsFault.TheVariants.{Limit, Memory}
 use Rattle.t1_font.specs.FontValue.{FontValue, Numbered, declared_count, weight, weight_limit}
-use Rattle.t1_font.specs.Cut.{stub, map_values, merged}
+use Rattle.t1_font.specs.Cut.{stub}
+use Rattle.t1_font.specs.Maps.{map_values, merged}
 use Rattle.t1_font.specs.Evening.{stubs_at, below, with_stubs, filled, filled_all, indices_of_all, largest_count}
 use Rattle.t1_font.specs.Filling.{AreLight, AnyHeavy, Fills, FillRefuses, has_none, with_these, filled_by, AreStubs, FontRefused}
 use Rattle.t1_font.specs.IsFont.{IsFont}
-use Rattle.t1_font.proofs.MapCuts.{joined, get-merged, get-map_values}
+use Rattle.t1_font.proofs.MapLemmas.{joined, get-merged, get-map_values}
 use Rattle.t1_font.proofs.even_fonts.Evened.{stubs_below, filled_is_font}
 
 -- ---- the largest count

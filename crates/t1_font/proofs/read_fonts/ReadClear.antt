@@ -26,7 +26,7 @@ use Rattle.t1_font.specs.Spelling.{IsCut, SpellsEncoding, IsClear}
 use Rattle.t1_font.specs.IsFont.{IsWord, IsClearShell, IsEncoding, NoMarker}
 use Rattle.t1_font.proofs.WordLemmas.{keyword_text}
 use Rattle.t1_font.proofs.MapLaws.{get-names_of}
-use Rattle.t1_font.proofs.MapCuts.{Some_same, Some_None}
+use Rattle.t1_font.proofs.MapLemmas.{Some_same, Some_None}
 use Rattle.t1_font.proofs.canonical.EntriesWritten.{fixed_read}
 use Rattle.t1_font.proofs.canonical.SplitWritten.{marker_own}
 use Rattle.t1_font.proofs.canonical.Moves.{first_behind, eexec_moves, encoding_moves}

@@ -19,7 +19,7 @@ use Rattle.t1_font.specs.Glyphs.{Glyph, glyph}
 use Rattle.t1_font.specs.Charstrings.{plain_of}
 use Rattle.t1_font.specs.Entries.{last_value, map_of}
 use Rattle.t1_font.specs.IsFont.{IsWord, IsPhrase, IsCharstring}
-use Rattle.t1_font.proofs.MapCuts.{Some_same, Some_None}
+use Rattle.t1_font.proofs.MapLemmas.{Some_same, Some_None}
 use Rattle.t1_font.proofs.ByteLemmas.{AreBytes-append}
 use Rattle.t1_font.proofs.read_fonts.ReadBytes.{parts_bytes, drop_bytes, decrypted_bytes}
 use Rattle.t1_font.proofs.read_fonts.ReadBack.{whole_of}

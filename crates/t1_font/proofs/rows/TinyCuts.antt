@@ -15,8 +15,10 @@ use Rattle.t1_font.specs.Writing.{clear_written, private_written}
 use Rattle.t1_font.specs.Canon.{outside_of, inside_of, canon}
 use Rattle.t1_font.specs.FontValue.{Numbered, Codes, name_cmp, notdef, weight, weight_of}
 use Rattle.t1_font.specs.Entries.{last_entries}
-use Rattle.t1_font.specs.Cut.{stub, map_values, restrict, merged, joined_subr, join_parts}
-use Rattle.t1_font.proofs.MapCuts.{entries-map_values}
+use Rattle.t1_font.specs.Cut.{stub, restrict}
+use Rattle.t1_font.specs.Maps.{map_values, merged}
+use Rattle.t1_font.specs.Joins.{joined_subr, join_parts}
+use Rattle.t1_font.proofs.MapLemmas.{entries-map_values}
 use Rattle.t1_font.proofs.canonical.FontAgain.{name_same}
 use Rattle.t1_font.proofs.CutEntries.{entries-retain, entries-retain_values, entries-merged}
 use Rattle.t1_font.proofs.rows.TinyNumbers.{n0, n1, n2, n3, n4, n5, n6, n7, n8, n9, n10, n15, n16, n19, n65, n66}

@@ -24,7 +24,7 @@ fn known(alloc: Global, font: &Font<'_>, names: &[&[u8]]) -> Result<Vec<Vec<u8>>
     ensures known { IfOk result (λ v. (n : List ℕ) → sets.contains (set_of_names v.items) n ≡ true → fin.contains_key font.now.glyphs n ≡ true) }
     ensures notdef { IfOk result (λ v. sets.contains (set_of_names v.items) notdef ≡ true) }
 {
-    font.is_font();
+    font.proof_is_font();
     let mut known = Vec::new(alloc);
     known.push(Vec::from_slice(alloc, b".notdef")?)?;
     'names: for name in names {
@@ -56,7 +56,7 @@ fn cut(
     let names = known(alloc, font, names)?;
     let subrs = set_of(alloc, subrs)?;
     let cut = restrict(alloc, font, names.as_slice(), &subrs)?;
-    cut.is_font();
+    cut.proof_is_font();
     write(alloc, &cut, Form::Pfb)
 }
 

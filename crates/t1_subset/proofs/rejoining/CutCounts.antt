@@ -7,7 +7,7 @@ use Rattle.std.specs.FinMap as maps
 use Rattle.std.specs.FinSet as sets
 use Rattle.std.specs.FinSet.{nat_cmp-IsAntisymmetric}
 use Rattle.t1_font.specs.FontValue.{FontValue, notdef}
-use Rattle.t1_font.proofs.MapCuts.{get-retain}
+use Rattle.t1_font.proofs.MapLemmas.{get-retain}
 use Rattle.t1_subset.specs.Interpreter.{Interpreter, Names}
 use Rattle.t1_subset.specs.Keep.{Closed, keep, kept, components_here, has, charstring}
 use Rattle.t1_subset.specs.Rejoins.{cut_to, without_tag}

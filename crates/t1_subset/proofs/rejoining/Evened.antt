@@ -10,7 +10,7 @@ use Rattle.t1_run.proofs.Grown.{runs_with_more, draws_with_more}
 use Rattle.t1_font.specs.FontValue.{FontValue, SubrsShell, Numbered, declared_count}
 use Rattle.t1_font.specs.FontModel.{subr_at}
 use Rattle.t1_font.specs.Evening.{raised, even, stubs_at, with_stubs, filled, largest_count, indices_of_all, evened_shells, evened}
-use Rattle.t1_font.proofs.MapCuts.{Some_None}
+use Rattle.t1_font.proofs.MapLemmas.{Some_None}
 use Rattle.t1_subset.specs.Evened.{StaysDrawn, subrs_of, AllStayDrawn, EachBeside, EvenedDraw}
 use Rattle.t1_subset.specs.States.{joined}
 use Rattle.t1_subset.proofs.CutFonts.{cond_some}

@@ -11,7 +11,7 @@ use Rattle.t1_font.specs.FontValue.{FontValue, Shell, SubrsShell, Numbered, name
 use Rattle.t1_font.specs.IsFont.{IsFont, IsWord, IsPhrase, SubrsFit, SubrWords}
 use Rattle.t1_font.specs.Evening.{even, evened}
 use Rattle.t1_font.proofs.even_fonts.Evened.{even_is_font}
-use Rattle.t1_font.proofs.MapCuts.{get-retain, find_first, total-le, Some_None}
+use Rattle.t1_font.proofs.MapLemmas.{get-retain, find_first, total-le, Some_None}
 use Rattle.t1_subset.specs.Interpreter.{Interpreter, Names, Numbers, same_bytes}
 use Rattle.t1_subset.specs.Keep.{keep, kept, subset, has, charstring, components}
 use Rattle.t1_subset.specs.Outcomes.{component_outcome, seen, drawing}

@@ -12,7 +12,7 @@ use Rattle.t1_font.specs.IsFont.{IsFont, SubrsFit, SubrWords}
 use Rattle.t1_font.specs.Tags.{untagged_head}
 use Rattle.t1_font.specs.Cut.{stub, restrict_encoding}
 use Rattle.t1_font.specs.Evening.{raised, even_shell, even, stubs_at, below, with_stubs, filled, largest_count, indices_of_all, evened}
-use Rattle.t1_font.proofs.MapCuts.{get-map_values, get-retain}
+use Rattle.t1_font.proofs.MapLemmas.{get-map_values, get-retain}
 use Rattle.t1_subset.specs.Interpreter.{Names, Numbers}
 use Rattle.t1_subset.specs.Keep.{keep, kept, subset, has}
 use Rattle.t1_subset.specs.Profile.{profile}

@@ -9,10 +9,11 @@ use Rattle.std.specs.FinMap as maps
 use Rattle.std.specs.FinMap.{find, is_sorted}
 use Rattle.std.specs.FinSet as sets
 use Rattle.std.specs.FinSet.{IsAntisymmetric, nat_cmp-IsAntisymmetric}
-use Rattle.t1_font.specs.Cut.{stub, map_values, merged}
+use Rattle.t1_font.specs.Cut.{stub}
+use Rattle.t1_font.specs.Maps.{map_values, merged}
 use Rattle.t1_font.specs.Entries.{last_entries}
 use Rattle.t1_font.specs.FontValue.{FontValue, Shell, Encoding, Word, Codes, name_cmp, notdef}
-use Rattle.t1_font.proofs.MapCuts.{get-map_values, entries-map_values}
+use Rattle.t1_font.proofs.MapLemmas.{get-map_values, entries-map_values}
 use Rattle.t1_font.proofs.CutEntries.{entries-merged}
 use Rattle.t1_subset.specs.States.{is_stub, is_called, subr_state, state_of_entry}
 use Rattle.t1_join.specs.Join.{joined_state}

@@ -6,7 +6,7 @@ use Rattle.std.specs.Cmp.{IsTotalOrder, first_so, second_so}
 use Rattle.std.specs.FinSet.{IsAntisymmetric}
 use Rattle.std.specs.FinMap as maps
 use Rattle.std.specs.FinMap.Entries.{below_all, is_sorted}
-use Rattle.t1_font.proofs.MapCuts.{T_true}
+use Rattle.t1_font.proofs.MapLemmas.{T_true}
 use Rattle.t1_subset.specs.Conflicts.{first_where, smallest, keys_of_both}
 use Rattle.t1_subset.specs.Differences.{smaller}
 use Rattle.t1_subset.proofs.Conflicts.{in_both, passes_none}

@@ -6,10 +6,10 @@ use Rattle.std.specs.Cmp.Lexicographic.{nat_list_cmp_total}
 use Rattle.std.specs.Borrow.{Bor}
 use Rattle.std.specs.FinMap as maps
 use Rattle.std.specs.FinSet as sets
-use Rattle.t1_font.specs.Cut.{merged}
+use Rattle.t1_font.specs.Maps.{merged}
 use Rattle.t1_font.specs.FontValue.{FontValue, Named, Shell, name_cmp, declared_count}
 use Rattle.t1_font.specs.FontModel.{names_in}
-use Rattle.t1_font.proofs.MapCuts.{entries_all, entries-map_values}
+use Rattle.t1_font.proofs.MapLemmas.{entries_all, entries-map_values}
 use Rattle.t1_subset.specs.declared.callers.Callers.{Callers}
 use Rattle.t1_subset.specs.Interpreter.{same_bytes}
 use Rattle.t1_subset.specs.Keep.{has, components, charstring}

@@ -14,12 +14,13 @@ use Rattle.t1_join.specs.Join.{StatesAgree as PlacesAgree}
 use Rattle.t1_join.specs.StateLaws.{same_meaning-true, same_meaning-self, state_itself}
 use Rattle.t1_join.specs.TableMeaning.{TableMeaning, TablesAgree, TablesJoin, joined_table}
 use Rattle.t1_join.specs.TableLaws.{get_joined, same_table}
-use Rattle.t1_font.specs.Cut.{map_values, join_encodings}
+use Rattle.t1_font.specs.Maps.{map_values}
+use Rattle.t1_font.specs.Joins.{join_encodings}
 use Rattle.t1_font.specs.FontModel.{word_of, clamp}
 use Rattle.t1_font.specs.FontValue.{FontValue, Encoding, Word, Codes, Numbered, name_cmp, total, subr_weight, weight, weight_limit, count_limit}
 use Rattle.t1_font.specs.WriteLaws.{SameKind}
 use Rattle.t1_font.proofs.CutEntries.{entries-retain}
-use Rattle.t1_font.proofs.MapCuts.{Some_same, Some_None, get-map_values, entries-map_values, entries_all, get-retain, length_total}
+use Rattle.t1_font.proofs.MapLemmas.{Some_same, Some_None, get-map_values, entries-map_values, entries_all, get-retain, length_total}
 use Rattle.t1_subset.specs.Interpreter.{Interpreter, same_bytes}
 use Rattle.t1_subset.specs.Keep.{components}
 use Rattle.t1_subset.specs.States.{Agree, joined, IsWithin, is_called, is_sought, is_stub, state_of_entry, subr_state, state_of_glyph, name_state, code_state, Compatible, Join, joined_font}

@@ -2,7 +2,7 @@
 use Rattle.std.proofs.Common.{◌≡◌, inl, inr, Bool, true, false, cond, refl, sym, ◌∙◌, ap, subst, arith, Option, Some, None, Result, Ok, Err, IfOk, IfErr}
 use Rattle.t1_font.specs.FontValue.{FontValue}
 use Rattle.t1_font.specs.IsFont.{IsFont}
-use Rattle.t1_font.specs.Cut.{join_parts}
+use Rattle.t1_font.specs.Joins.{join_parts}
 use Rattle.t1_font.specs.Joins.{Refuses}
 use Rattle.t1_font.specs.WriteLaws.{SameKind}
 use Rattle.t1_font.specs.declared.parts.PartsFault.TheVariants.{Limit}

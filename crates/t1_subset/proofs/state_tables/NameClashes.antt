@@ -9,7 +9,7 @@ use Rattle.t1_join.specs.Meaning.{Meaning}
 use Rattle.t1_join.specs.Join.{State}
 use Rattle.t1_join.specs.TableMeaning.{TableMeaning}
 use Rattle.t1_font.specs.FontValue.{FontValue, name_cmp}
-use Rattle.t1_font.proofs.MapCuts.{entries_all}
+use Rattle.t1_font.proofs.MapLemmas.{entries_all}
 use Rattle.t1_subset.specs.Keep.{has}
 use Rattle.t1_subset.specs.Profile.{profile}
 use Rattle.t1_subset.specs.States.{is_sought, name_state, state_of_glyph}

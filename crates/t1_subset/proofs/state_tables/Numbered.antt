@@ -11,7 +11,7 @@ use Rattle.t1_join.specs.Meaning.{Meaning, meaning_cmp, of_number, by_number_law
 use Rattle.t1_join.specs.Join.{joined_state}
 use Rattle.t1_join.specs.TableMeaning.{TableMeaning, joined_table}
 use Rattle.t1_join.specs.TableLaws.{get_joined, same_table}
-use Rattle.t1_font.specs.Cut.{merged}
+use Rattle.t1_font.specs.Maps.{merged}
 use Rattle.t1_font.specs.FontValue.{Numbered}
 use Rattle.t1_subset.specs.StateTables.{numbered}
 use Rattle.t1_subset.proofs.Maps.{get-merged}

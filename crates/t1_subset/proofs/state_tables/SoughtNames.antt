@@ -8,9 +8,9 @@ use Rattle.t1_join.specs.Meaning.{Meaning, meaning_cmp}
 use Rattle.t1_join.specs.Join.{State}
 use Rattle.t1_join.specs.TableMeaning.{TableMeaning}
 use Rattle.t1_join.specs.TableLaws.{same_table}
-use Rattle.t1_font.specs.Cut.{map_values}
+use Rattle.t1_font.specs.Maps.{map_values}
 use Rattle.t1_font.specs.FontValue.{FontValue}
-use Rattle.t1_font.proofs.MapCuts.{get-map_values}
+use Rattle.t1_font.proofs.MapLemmas.{get-map_values}
 use Rattle.t1_subset.specs.Profile.{profile}
 use Rattle.t1_subset.specs.States.{is_sought, state_of_glyph}
 use Rattle.t1_subset.specs.StateTables.{name_meaning, name_states}

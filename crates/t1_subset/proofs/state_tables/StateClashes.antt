@@ -5,10 +5,10 @@ use Rattle.std.specs.Cmp.{nat_cmp_total}
 use Rattle.std.specs.FinSet.{nat_cmp-IsAntisymmetric}
 use Rattle.std.specs.FinMap as maps
 use Rattle.t1_join.specs.TableMeaning.{TableMeaning}
-use Rattle.t1_font.specs.Cut.{map_values}
+use Rattle.t1_font.specs.Maps.{map_values}
 use Rattle.t1_font.specs.FontValue.{FontValue, Encoding, Word, Codes, Numbered, declared_count}
 use Rattle.t1_font.specs.FontModel.{word_of}
-use Rattle.t1_font.proofs.MapCuts.{entries-map_values}
+use Rattle.t1_font.proofs.MapLemmas.{entries-map_values}
 use Rattle.t1_subset.specs.Interpreter.{same_bytes}
 use Rattle.t1_subset.specs.Profile.{profile}
 use Rattle.t1_subset.specs.StateTables.{Shared, StatesValue, shared_of, code_states, name_states, used_subrs, numbered, states_of}

@@ -10,9 +10,9 @@ use Rattle.t1_join.specs.Meaning.{Meaning, meaning_cmp, same_meaning, of_number,
 use Rattle.t1_join.specs.Join.{StatesAgree, states_agree}
 use Rattle.t1_join.specs.StateLaws.{same_meaning-true, same_meaning-self}
 use Rattle.t1_join.specs.TableMeaning.{TableMeaning, TablesAgree, IsFirstConflict}
-use Rattle.t1_font.specs.Cut.{map_values}
+use Rattle.t1_font.specs.Maps.{map_values}
 use Rattle.t1_font.specs.FontValue.{FontValue, Encoding, Word, Codes, Named, declared_count}
-use Rattle.t1_font.proofs.MapCuts.{entries-map_values}
+use Rattle.t1_font.proofs.MapLemmas.{entries-map_values}
 use Rattle.t1_subset.specs.StateTables.{numbered, code_states, used_subrs}
 use Rattle.t1_subset.proofs.state_tables.Numbered.{get-numbered}
 use Rattle.t1_subset.proofs.state_tables.FontStates.{get-used}

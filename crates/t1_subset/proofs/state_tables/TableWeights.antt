@@ -11,7 +11,7 @@ use Rattle.t1_join.specs.TableMeaning.{Rises}
 use Rattle.t1_join.proofs.Sorted.{both_true, make_both, is_lt_from, lt_is}
 use Rattle.t1_join.proofs.Merges.{Below-less, below_tied, find_below, merged_from_sorted, rises_merge}
 use Rattle.std.specs.Option.{option_copied}
-use Rattle.t1_font.specs.Cut.{merged}
+use Rattle.t1_font.specs.Maps.{merged}
 use Rattle.t1_font.specs.FontModel.{clamp}
 use Rattle.t1_font.proofs.Weights.{clamp_more, clamp_all, clamp_fits}
 use Rattle.t1_font.specs.FontValue.{total}

@@ -25,4 +25,4 @@ indices-preserved c =
 pub returns : goal.returns
 returns c =
     let all : declared_count c.args.font.now.shell.subrs ≤ c.indices.index = omega (arith, c.count-index-end.ensures) in
-    c.indices.invariant.0 ∙ count_all c.args.font.now c.is_font.ensures c.indices.index all
+    c.indices.invariant.0 ∙ count_all c.args.font.now c.proof_is_font.ensures c.indices.index all

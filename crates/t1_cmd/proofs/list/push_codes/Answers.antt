@@ -15,4 +15,4 @@ codes-preserved c =
 pub returns : goal.returns
 returns c =
     let all : 256 ≤ c.codes.code = omega arith in
-    c.codes.invariant ∙ ap (λ (t : List ℕ). c.args.out.now.items ++ t) (codes_all c.args.font.now.encoding c.is_font.ensures.encoding c.requires c.codes.code all)
+    c.codes.invariant ∙ ap (λ (t : List ℕ). c.args.out.now.items ++ t) (codes_all c.args.font.now.encoding c.proof_is_font.ensures.encoding c.requires c.codes.code all)

@@ -11,9 +11,9 @@ indices-init c = nothing_more c.args.out.now.items (lines_under c.args.font.now.
 pub indices-preserved : goal.indices-preserved
 indices-preserved c =
     line_more c.args.out.now.items c.indices.out.items c.push_subr.new.out.items (lines_under c.args.font.now.subrs subr_line c.indices.index) (line_at subr_line c.indices.index (subr_at c.args.font.now c.indices.index)) (lines_under c.args.font.now.subrs subr_line (c.indices.index + 1))
-    c.indices.invariant c.in_ok-push_subr.ensures (subrs_more c.args.font.now c.is_font.ensures c.indices.index)
+    c.indices.invariant c.in_ok-push_subr.ensures (subrs_more c.args.font.now c.proof_is_font.ensures c.indices.index)
 
 pub returns : goal.returns
 returns c =
     let all : declared_count c.args.font.now.shell.subrs ≤ c.indices.index = omega (arith, c.count-index-end.ensures) in
-    c.indices.invariant ∙ ap (λ (t : List ℕ). c.args.out.now.items ++ t) (subrs_all c.args.font.now c.is_font.ensures c.indices.index all)
+    c.indices.invariant ∙ ap (λ (t : List ℕ). c.args.out.now.items ++ t) (subrs_all c.args.font.now c.proof_is_font.ensures c.indices.index all)

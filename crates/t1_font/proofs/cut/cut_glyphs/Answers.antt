@@ -5,7 +5,7 @@ use Rattle.std.proofs.lemmas.List.{drop_all}
 use Rattle.t1_join.specs.TableMeaning.{Rises}
 use Rattle.t1_font.specs.FontValue.{name_cmp}
 use Rattle.t1_font.specs.Lent.{lent_name, lent_names}
-use Rattle.t1_font.specs.Cut.{put_all_into}
+use Rattle.t1_font.specs.Maps.{put_all_into}
 use Rattle.t1_font.proofs.CutLoops.{entries_of, put_some}
 use Rattle.t1_font.proofs.LentTables.{lent_none, lent_rise, lent_sorted}
 use Rattle.t1_font.proofs.canonical.FontAgain.{name_same}

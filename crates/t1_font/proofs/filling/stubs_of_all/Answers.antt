@@ -7,7 +7,7 @@ use Rattle.t1_join.proofs.Sorted.{no_entries}
 use Rattle.t1_font.specs.declared.font.Font.TheInside.{Inside}
 use Rattle.t1_font.specs.FontValue.{FontValue, Numbered}
 use Rattle.t1_font.specs.Lent.{lent_number}
-use Rattle.t1_font.specs.Cut.{merged}
+use Rattle.t1_font.specs.Maps.{merged}
 use Rattle.t1_font.specs.Filling.{has_none}
 use Rattle.t1_font.proofs.even_fonts.Filled.{IndicesSoFar, none_so_far, one_more_font, no_more_font, no_entries_there, stubs_of, all_stubs}
 use Rattle.t1_font.proofs.filling.stubs_of_all.Goals as goal

@@ -4,7 +4,7 @@ use Rattle.std.specs.Cmp.{nat_cmp_total}
 use Rattle.std.specs.FinMap.{retain_keys, nat_cmp-IsAntisymmetric}
 use Rattle.std.proofs.lemmas.Map.Iter.{rest_all}
 use Rattle.t1_join.proofs.Sorted.{rises_of, map_of}
-use Rattle.t1_font.specs.Cut.{merged}
+use Rattle.t1_font.specs.Maps.{merged}
 use Rattle.t1_font.specs.FontValue.{Numbered}
 use Rattle.t1_font.specs.Lent.{lent_number}
 use Rattle.t1_font.proofs.CutEntries.{entries-retain}

@@ -4,8 +4,9 @@ use Rattle.std.specs.FinMap.{get, nat_cmp-IsAntisymmetric}
 use Rattle.std.proofs.lemmas.Map.Iter.{rest_all}
 use Rattle.t1_join.proofs.Sorted.{rises_of, map_of}
 use Rattle.t1_font.specs.Lent.{lent_number}
-use Rattle.t1_font.specs.Cut.{joined_subr, map_values}
-use Rattle.t1_font.proofs.MapCuts.{entries-map_values}
+use Rattle.t1_font.specs.Joins.{joined_subr}
+use Rattle.t1_font.specs.Maps.{map_values}
+use Rattle.t1_font.proofs.MapLemmas.{entries-map_values}
 use Rattle.t1_font.proofs.LentTables.{all_out}
 use Rattle.t1_font.proofs.parts.join_subrs.Goals as goal
 

@@ -1,5 +1,5 @@
 use Rattle.std.proofs.Common.{ap₂, ◌∙◌}
-use Rattle.t1_font.specs.Cut.{join_parts}
+use Rattle.t1_font.specs.Joins.{join_parts}
 use Rattle.t1_font.proofs.parts.joined_parts.Goals as goal
 
 pub returns : goal.returns

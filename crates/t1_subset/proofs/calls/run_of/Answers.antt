@@ -6,11 +6,11 @@ use Rattle.t1_subset.proofs.calls.run_of.Goals as goal
 
 pub returns-in_ok-names-in-Some-clause-components : goal.returns-in_ok-names-in-Some-clause-components
 returns-in_ok-names-in-Some-clause-components c =
-    c.in_ok-names-in-Some.ensures.names ∙ components_are c.args.font.now c.is_font.ensures c.args.name.now c.in-Some.charstring.now (sym c.in-Some.ensures)
+    c.in_ok-names-in-Some.ensures.names ∙ components_are c.args.font.now c.proof_is_font.ensures c.args.name.now c.in-Some.charstring.now (sym c.in-Some.ensures)
 
 pub returns-in_ok-names-in-Some-clause-calls : goal.returns-in_ok-names-in-Some-clause-calls
 returns-in_ok-names-in-Some-clause-calls c =
-    ap set_of c.in_ok-names-in-Some.ensures.indices ∙ calls_are c.args.font.now c.is_font.ensures c.args.name.now c.in-Some.charstring.now (sym c.in-Some.ensures)
+    ap set_of c.in_ok-names-in-Some.ensures.indices ∙ calls_are c.args.font.now c.proof_is_font.ensures c.args.name.now c.in-Some.charstring.now (sym c.in-Some.ensures)
 
 pub returns-in-None-clause-components : goal.returns-in-None-clause-components
 returns-in-None-clause-components c = ap (map (λ (s : Bor (List ℕ)). s.now)) c.new.ensures.items ∙ no_components c.args.font.now c.args.name.now (sym c.in-None.ensures)

@@ -6,7 +6,7 @@ pub returns-clause-other_order : goal.returns-clause-other_order
 returns-clause-other_order c = other_order c.args.left.now c.args.right.now c.merged.result c.merged.ensures.ok c.merged.ensures.err
 
 pub returns-clause-itself : goal.returns-clause-itself
-returns-clause-itself c = itself c.args.left.now c.args.right.now c.is_font.ensures c.merged.result c.merged.ensures.ok c.merged.ensures.err
+returns-clause-itself c = itself c.args.left.now c.args.right.now c.proof_is_font.ensures c.merged.result c.merged.ensures.ok c.merged.ensures.err
 
 pub returns-clause-subsets : goal.returns-clause-subsets
 returns-clause-subsets c = of_subsets c.args.left.now c.args.right.now c.merged.result c.merged.ensures.ok c.merged.ensures.err

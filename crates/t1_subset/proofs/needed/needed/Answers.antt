@@ -17,7 +17,7 @@ closure-init c =
     let f = c.args.font.now in
     let start : c.add_all.new.self ≡ push_all (push_new [] notdef) (lent c.args.names.now) =
     c.in_ok-add_all.ensures ∙ ap (λ (ns : List (List ℕ)). push_all ns (lent c.args.names.now)) (c.in_ok-add.ensures ∙ ap (λ (ns : List (List ℕ)). push_new ns notdef) c.new-closure.ensures) in (
-      subst (λ (ns : List (List ℕ)). ClosureSoFar profile f (asked c.args.names.now) ns 0) (sym start) (closure_start profile f (asked c.args.names.now) (lent c.args.names.now) c.is_font.ensures.glyphs.notdef c.requires refl),
+      subst (λ (ns : List (List ℕ)). ClosureSoFar profile f (asked c.args.names.now) ns 0) (sym start) (closure_start profile f (asked c.args.names.now) (lent c.args.names.now) c.proof_is_font.ensures.glyphs.notdef c.requires refl),
       ap (λ (ks : List ℕ). sets.from_list {R = nat_cmp} ks) c.in_ok-calls.ensures,
     )
 
@@ -25,7 +25,7 @@ pub overflow_add-place : goal.overflow_add-place
 overflow_add-place c =
     let few = closure_few profile c.args.font.now (asked c.args.names.now) c.closure.closure c.closure.place c.closure.invariant.0 in
     let at = (got c.closure.closure c.closure.place c.in-Some.name.now c.in-Some.ensures).0 in
-    let most = c.is_font.ensures.glyphs.few in
+    let most = c.proof_is_font.ensures.glyphs.few in
     omega (arith, few, at, most)
 
 pub closure-smaller : goal.closure-smaller

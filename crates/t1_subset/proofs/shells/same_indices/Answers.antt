@@ -8,4 +8,4 @@ returns-then-present c = keys_differ c.args.left.now c.args.right.now c.indices.
 pub returns : goal.returns
 returns c =
     let a = c.indices-test.false in
-    keys_alike c.args.left.now c.args.right.now c.is_font.ensures c.is_font-2.ensures c.indices.index (omega (arith, c.count.ensures, c.max-end.ensures)) (omega (arith, c.count-2.ensures, c.max-end.ensures)) c.indices.invariant
+    keys_alike c.args.left.now c.args.right.now c.proof_is_font.ensures c.proof_is_font-2.ensures c.indices.index (omega (arith, c.count.ensures, c.max-end.ensures)) (omega (arith, c.count-2.ensures, c.max-end.ensures)) c.indices.invariant

@@ -17,7 +17,7 @@ names-init c =
 pub overflow_add-count : goal.overflow_add-count
 overflow_add-count c =
     let more : length c.names._name-iterator ≡ suc (length c.next.new.self) = ap length (rest_more (λ (s : Bor (List ℕ)). s.now) _ _ _ _ c.in-Some.is c.next.ensures.steps) in
-    let few : maps.len c.args.font.now.glyphs ≤ 65535 = c.is_font.ensures.glyphs.few in
+    let few : maps.len c.args.font.now.glyphs ≤ 65535 = c.proof_is_font.ensures.glyphs.few in
     omega (arith, all_counted c.args.font.now.glyphs, c.names.invariant, more, few)
 
 pub names-preserved : goal.names-preserved

@@ -8,19 +8,19 @@ use Rattle.t1_subset.proofs.closing.SubsetCuts.{has_notdef, of_font, cut_is, dra
 use Rattle.t1_subset.proofs.subsets.subset.Goals as goal
 
 pub restrict-requires-clause-known : goal.restrict-requires-clause-known
-restrict-requires-clause-known c = of_font profile c.args.font.now c.is_font.ensures (asked c.args.names.now) (none_absent c.args.font.now (lent c.args.names.now) c.in_ok-closure.ensures.present) c.as_slice.result.now
+restrict-requires-clause-known c = of_font profile c.args.font.now c.proof_is_font.ensures (asked c.args.names.now) (none_absent c.args.font.now (lent c.args.names.now) c.in_ok-closure.ensures.present) c.as_slice.result.now
     (ap set_of_names c.as_slice.ensures.value ∙ c.in_ok-closure.ensures.names)
 
 pub restrict-requires-clause-notdef : goal.restrict-requires-clause-notdef
-restrict-requires-clause-notdef c = has_notdef profile c.args.font.now c.is_font.ensures (asked c.args.names.now) (none_absent c.args.font.now (lent c.args.names.now) c.in_ok-closure.ensures.present) c.as_slice.result.now
+restrict-requires-clause-notdef c = has_notdef profile c.args.font.now c.proof_is_font.ensures (asked c.args.names.now) (none_absent c.args.font.now (lent c.args.names.now) c.in_ok-closure.ensures.present) c.as_slice.result.now
     (ap set_of_names c.as_slice.ensures.value ∙ c.in_ok-closure.ensures.names)
 
 cut : (c : goal.After-drop-closure-in-Ok) → c.in-Ok.font ≡ subset profile c.args.font.now (asked c.args.names.now)
-cut c = c.in-Ok.ensures ∙ cut_is profile c.args.font.now c.is_font.ensures (asked c.args.names.now) (none_absent c.args.font.now (lent c.args.names.now) c.in_ok-closure.ensures.present) c.as_slice.result.now
+cut c = c.in-Ok.ensures ∙ cut_is profile c.args.font.now c.proof_is_font.ensures (asked c.args.names.now) (none_absent c.args.font.now (lent c.args.names.now) c.in_ok-closure.ensures.present) c.as_slice.result.now
     (ap set_of_names c.as_slice.ensures.value ∙ c.in_ok-closure.ensures.names) c.in_ok-closure.closure.subrs c.in_ok-closure.ensures.subrs
 
 pub returns-in-Ok-clause-ok : goal.returns-in-Ok-clause-ok
 returns-in-Ok-clause-ok c = cut c
 
 pub returns-in-Ok-clause-draws : goal.returns-in-Ok-clause-draws
-returns-in-Ok-clause-draws c = draws c.args.font.now c.is_font.ensures (asked c.args.names.now) (none_absent c.args.font.now (lent c.args.names.now) c.in_ok-closure.ensures.present) c.in-Ok.font (cut c)
+returns-in-Ok-clause-draws c = draws c.args.font.now c.proof_is_font.ensures (asked c.args.names.now) (none_absent c.args.font.now (lent c.args.names.now) c.in_ok-closure.ensures.present) c.in-Ok.font (cut c)

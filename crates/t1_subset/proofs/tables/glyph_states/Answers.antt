@@ -2,9 +2,9 @@ use Rattle.std.proofs.Common.{ℕ, List, Bor, Some, option_map, ◌∙◌, ap, s
 use Rattle.std.proofs.lemmas.Map.Iter.{rest_more, rest_all}
 use Rattle.std.specs.Cmp.Lexicographic.{nat_list_cmp_total}
 use Rattle.t1_join.specs.TableLaws.{same_table}
-use Rattle.t1_font.specs.Cut.{map_values}
+use Rattle.t1_font.specs.Maps.{map_values}
 use Rattle.t1_font.specs.FontValue.{Named}
-use Rattle.t1_font.proofs.MapCuts.{get-map_values}
+use Rattle.t1_font.proofs.MapLemmas.{get-map_values}
 use Rattle.t1_subset.specs.StateTables.{name_meaning}
 use Rattle.t1_subset.proofs.Sets.{name_same}
 use Rattle.t1_subset.proofs.state_tables.TableStates.{Fills, fills_none, fills_next, fills_all, keys-valued, read_lent}

@@ -1,5 +1,5 @@
 use Rattle.std.proofs.Common.{Some}
-use Rattle.t1_font.specs.Cut.{map_values}
+use Rattle.t1_font.specs.Maps.{map_values}
 use Rattle.t1_subset.specs.StateTables.{name_meaning}
 use Rattle.t1_subset.proofs.state_tables.TableStates.{Fills}
 use Rattle.t1_subset.proofs.tables.glyph_states.Given as goal

@@ -21,11 +21,11 @@ pub indices-preserved : goal.indices-preserved
 indices-preserved c =
     let f = c.args.font.now in let i = c.indices.index in
     has_next c.indices.table (subr_state profile f) i c.indices.invariant c.put.new.table _ c.in_ok-put.ensures
-    (c.subr_state.ensures ∙ entry_is f i _ _ c.is_some.result (c.get.ensures ∙ subrs_seen f c.is_font.ensures i)
+    (c.subr_state.ensures ∙ entry_is f i _ _ c.is_some.result (c.get.ensures ∙ subrs_seen f c.proof_is_font.ensures i)
     (c.is_some.ensures ∙ some_lent c.get-in-indices.result ∙ ap is_some (c.get-in-indices.ensures ∙ c.requires i (let t = c.indices-test.true in omega (arith, t, c.count-index-end.ensures))) ∙ sym (called_is f i)))
 
 pub returns : goal.returns
 returns c =
     let f = c.args.font.now in
     has_all c.indices.table (subr_state profile f) c.indices.index c.indices.invariant
-    (λ i l. ap (state_of_entry profile f i) (absent_beyond f c.is_font.ensures i (let t = c.indices-test.false in omega (arith, c.count-index-end.ensures)))) (used_subrs profile f) (get-used profile f)
+    (λ i l. ap (state_of_entry profile f i) (absent_beyond f c.proof_is_font.ensures i (let t = c.indices-test.false in omega (arith, c.count-index-end.ensures)))) (used_subrs profile f) (get-used profile f)

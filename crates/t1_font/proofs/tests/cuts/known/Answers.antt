@@ -53,7 +53,7 @@ names-init c =
     let v = c.in_ok-from_slice.field-0 in
     let is : c.push.new.self.items ≡ [] ++ v ∷ [] = c.in_ok-push.ensures.items ∙ ap (λ (vs : List (Vec ℕ)). vs ++ v ∷ []) c.new-known.ensures.items in
     record {
-      known = λ n h. known_more m [] v (none_known m) (ap (fin.contains_key m) c.in_ok-from_slice.ensures.items ∙ c.is_font.ensures.glyphs.notdef) n (ap (λ (vs : List (Vec ℕ)). sets.contains (set_of_names vs) n) (sym is) ∙ h);
+      known = λ n h. known_more m [] v (none_known m) (ap (fin.contains_key m) c.in_ok-from_slice.ensures.items ∙ c.proof_is_font.ensures.glyphs.notdef) n (ap (λ (vs : List (Vec ℕ)). sets.contains (set_of_names vs) n) (sym is) ∙ h);
       notdef = ap (λ (vs : List (Vec ℕ)). sets.contains (set_of_names vs) notdef) is ∙ notdef_first v c.in_ok-from_slice.ensures.items;
     }
 
