@@ -62,7 +62,7 @@ pub(crate) fn fonts_of(alloc: Global, sources: &[Source]) -> Result<Vec<Font<'_>
 }
 
 // The font that fonts come to, merged from left to right.
-fn merged<'a>(alloc: Global, fonts: &[Font<'a>]) -> Result<Font<'a>, RunFault>
+fn merge_fonts<'a>(alloc: Global, fonts: &[Font<'a>]) -> Result<Font<'a>, RunFault>
     ensures comes { IfOk result (λ j. ComesTo fonts.now j) }
     ensures refused { IfErr result (λ e. (form : Form) → MergeStops form fonts.now e) }
 {
@@ -82,7 +82,7 @@ pub(crate) fn merged_file(
     ensures text { IfOk result (λ text. MergesTo form fonts.entry.items (Ok text.items)) }
     ensures refused { IfErr result (λ e. MergeStops form fonts.entry.items e) }
 {
-    let font = match merged(alloc, fonts.as_slice()) {
+    let font = match merge_fonts(alloc, fonts.as_slice()) {
         Ok(font) => font,
         Err(fault) => return Err(fault),
     };

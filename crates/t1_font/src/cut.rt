@@ -22,7 +22,7 @@ use std::collections::{BTreeMap, BTreeSet};
 pub const STUB: &[u8] = &[11];
 
 /// The entries of a map that is used up, in the order of their keys.
-fn drained<K: Ord + Drop, V: Drop>(
+fn drain<K: Ord + Drop, V: Drop>(
     alloc: Global,
     map: BTreeMap<K, V>,
 ) -> Result<Vec<(K, V)>, AllocError>
@@ -66,7 +66,7 @@ fn cut_glyphs<'a>(
         keep_named(&mut cut, glyphs, name.as_slice())?;
     }
     Ok(Named {
-        entries: drained(alloc, cut)?,
+        entries: drain(alloc, cut)?,
     })
 }
 

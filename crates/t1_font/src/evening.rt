@@ -13,7 +13,7 @@ use crate::tags::untagged_head;
 use std::alloc::{AllocError, Global};
 
 /// A table of Subrs that declares at least so many.
-fn raised(kept: Option<KeptSubrs>, declared: u16) -> Option<KeptSubrs>
+fn raise_count(kept: Option<KeptSubrs>, declared: u16) -> Option<KeptSubrs>
     ensures { option_map subrs_view result
         ≡ option_map (raised declared) (option_map subrs_view kept) }
 {
@@ -59,7 +59,7 @@ fn even_shell(shell: Shell, head: Option<Vec<u8>>, declared: u16) -> Shell
         middle,
         tail,
         len_iv,
-        subrs: raised(subrs, declared),
+        subrs: raise_count(subrs, declared),
         glyphs_rd,
         glyphs_def,
     }

@@ -70,7 +70,7 @@ fn add_rest<'a, K: Ord + Copy>(
 }
 
 /// The entries of both, upwards by key, in one pass by two positions: the first's where both have a key.
-fn merged<'a, K: Ord + Copy>(
+fn merge_entries<'a, K: Ord + Copy>(
     alloc: Global,
     first: &[(K, &'a [u8])],
     second: &[(K, &'a [u8])],
@@ -114,7 +114,7 @@ fn join_glyphs<'a>(
     ensures { IfOk result (λ m. m ≡ merged first.now second.now) }
 {
     Ok(Named {
-        entries: merged(alloc, &first.entries, &second.entries)?,
+        entries: merge_entries(alloc, &first.entries, &second.entries)?,
     })
 }
 
@@ -127,7 +127,7 @@ pub(crate) fn join_codes<'a>(
     ensures { IfOk result (λ m. m ≡ merged first.now second.now) }
 {
     Ok(Numbered {
-        entries: merged(alloc, &first.entries, &second.entries)?,
+        entries: merge_entries(alloc, &first.entries, &second.entries)?,
     })
 }
 

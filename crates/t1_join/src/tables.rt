@@ -163,7 +163,7 @@ fn first_conflict<'t, K: Key, V: Kept>(first: &'t [(K, V)], second: &[(K, V)]) -
 }
 
 /// An entry of the same meanings.
-fn copied<K: Key + Drop, V: Kept + Drop>(
+fn copy_entry<K: Key + Drop, V: Kept + Drop>(
     alloc: Global,
     entry: &(K, V),
 ) -> Result<(K, V), AllocError>
@@ -186,13 +186,13 @@ fn add_copies<K: Key + Drop, V: Kept + Drop>(
         ++ entry_meanings K.meaning V.meaning entries.now) }
 {
     for entry in entries {
-        all.push(copied(alloc, entry)?)?;
+        all.push(copy_entry(alloc, entry)?)?;
     }
     Ok(())
 }
 
 /// Copies of the entries of both, upwards by key, in one pass by two positions: the first's where both have a key.
-fn merged<K: Key + Drop, V: Kept + Drop>(
+fn merge_entries<K: Key + Drop, V: Kept + Drop>(
     alloc: Global,
     first: &[(K, V)],
     second: &[(K, V)],
@@ -208,16 +208,16 @@ fn merged<K: Key + Drop, V: Kept + Drop>(
     'pass: while i < first.len() && j < second.len() {
         match first[i].0.cmp(&second[j].0) {
             Ordering::Less => {
-                all.push(copied(alloc, &first[i])?)?;
+                all.push(copy_entry(alloc, &first[i])?)?;
                 i += 1;
             }
             Ordering::Equal => {
-                all.push(copied(alloc, &first[i])?)?;
+                all.push(copy_entry(alloc, &first[i])?)?;
                 i += 1;
                 j += 1;
             }
             Ordering::Greater => {
-                all.push(copied(alloc, &second[j])?)?;
+                all.push(copy_entry(alloc, &second[j])?)?;
                 j += 1;
             }
         }
@@ -247,7 +247,7 @@ impl<K: Key + Drop, V: Kept + Drop> Join for Table<K, V> {
 
     fn join(&self, alloc: Global, other: &Table<K, V>) -> Result<Table<K, V>, AllocError> {
         Ok(Table {
-            entries: merged(alloc, &self.entries, &other.entries)?,
+            entries: merge_entries(alloc, &self.entries, &other.entries)?,
         })
     }
 }

@@ -12,7 +12,7 @@ use std::alloc::{AllocError, Global};
 use t1_font::Font;
 
 /// The states and the callers of each of the fonts.
-pub(crate) fn noted<'t, 'a>(
+pub(crate) fn note_fonts<'t, 'a>(
     alloc: Global,
     fonts: &'t [Font<'a>],
 ) -> Result<(Vec<States<'t, 'a>>, Vec<Callers<'t>>), AllocError>
@@ -30,7 +30,7 @@ pub(crate) fn noted<'t, 'a>(
 }
 
 /// A copy of a font, which is its join with itself.
-pub(crate) fn copied<'a>(alloc: Global, font: &Font<'a>) -> Result<Font<'a>, Conflict>
+pub(crate) fn copy_font<'a>(alloc: Global, font: &Font<'a>) -> Result<Font<'a>, Conflict>
     ensures ok { IfOk result (λ j. j ≡ font.now) }
     ensures err { IfErr result (λ e. e ≡ Conflict.Memory) }
 {
@@ -46,7 +46,7 @@ pub(crate) fn made_of<'a>(alloc: Global, fonts: &[Font<'a>]) -> Result<Font<'a>,
     ensures err { IfErr result (λ e. e ≡ Conflict.Memory) }
 {
     if fonts.len() == 1 {
-        return copied(alloc, &fonts[0]);
+        return copy_font(alloc, &fonts[0]);
     }
     if fonts.len() == 2 {
         return both(alloc, &fonts[0], &fonts[1]);

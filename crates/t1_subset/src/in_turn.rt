@@ -18,7 +18,7 @@ use std::alloc::Global;
 use t1_join::{Join, have_join};
 
 /// The joined states of two fonts. Where shells and states have no conflict, the limits are all that refuses them.
-fn joined<'t, 'a>(
+fn join_noted<'t, 'a>(
     alloc: Global,
     left: &States<'t, 'a>,
     right: &States<'t, 'a>,
@@ -37,7 +37,7 @@ fn joined<'t, 'a>(
 }
 
 /// The joined states of two fonts, or their lowest conflict. The callers are those of both fonts.
-fn next_joined<'t, 'a>(
+fn join_next<'t, 'a>(
     alloc: Global,
     left: &States<'t, 'a>,
     right: &States<'t, 'a>,
@@ -55,7 +55,7 @@ fn next_joined<'t, 'a>(
     if let Err(conflict) = states_conflict(alloc, left, right, callers) {
         return Err(conflict);
     }
-    joined(alloc, left, right)
+    join_noted(alloc, left, right)
 }
 
 /// The states that are joined so far, or the first where nothing is joined yet.
@@ -72,7 +72,7 @@ fn latest<'l, 't, 'a>(
 }
 
 /// The first conflict of fonts from left to right, if there is one.
-fn joined_in_turn(
+fn join_in_turn(
     alloc: Global,
     states: &[States<'_, '_>],
     callers: &[Callers<'_>],
@@ -89,7 +89,7 @@ fn joined_in_turn(
     let mut all = None;
     'rest: for place in 1..states.len() {
         let left = latest(&all, &states[0]);
-        match next_joined(alloc, left, &states[place], &callers[..place + 1]) {
+        match join_next(alloc, left, &states[place], &callers[..place + 1]) {
             Ok(more) => all = Some(more),
             Err(conflict) => return Err(conflict),
         }
@@ -115,6 +115,6 @@ pub(crate) fn all_join(
     match have_join(alloc, states) {
         Err(_) => Err(Conflict::Memory),
         Ok(true) => Ok(()),
-        Ok(false) => joined_in_turn(alloc, states, callers),
+        Ok(false) => join_in_turn(alloc, states, callers),
     }
 }

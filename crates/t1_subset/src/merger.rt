@@ -9,7 +9,7 @@ ghost use Rattle.t1_subset.specs.Merger.{IsMerger, MergesItself, DrawsBoth, Draw
 
 use crate::callers::Callers;
 use crate::conflict::Conflict;
-use crate::groupings::{made_of, noted};
+use crate::groupings::{made_of, note_fonts};
 use crate::in_turn::all_join;
 use crate::searches::states_conflict;
 use crate::shells::shell_conflict;
@@ -50,7 +50,7 @@ fn one_shell(left: &Font<'_>, right: &Font<'_>) -> Result<(), Conflict>
 }
 
 /// The join of two fonts, or their lowest conflict. Where their shells differ, no glyph is run.
-fn merged<'a>(alloc: Global, left: &Font<'a>, right: &Font<'a>) -> Result<Font<'a>, Conflict>
+fn merge_noted<'a>(alloc: Global, left: &Font<'a>, right: &Font<'a>) -> Result<Font<'a>, Conflict>
     ensures ok { IfOk result (λ j. Join profile left.now right.now
         × (j ≡ joined_font profile left.now right.now)) }
     ensures err { IfErr result (λ e. Tells e (conflict profile left.now right.now)) }
@@ -112,7 +112,7 @@ pub fn merge<'a>(alloc: Global, left: &Font<'a>, right: &Font<'a>) -> Result<Fon
     ensures draws { IfOk result (λ j. DrawsBoth left.now right.now j) }
 {
     left.proof_is_font();
-    merged(alloc, left, right)
+    merge_noted(alloc, left, right)
 }
 
 /// The font that fonts make together, merged from left to right; any other order and grouping of the merges
@@ -133,7 +133,7 @@ pub fn merge_all<'a>(alloc: Global, fonts: &[Font<'a>]) -> Result<Font<'a>, Conf
     if fonts.is_empty() {
         return Err(Conflict::Empty);
     }
-    match noted(alloc, fonts) {
+    match note_fonts(alloc, fonts) {
         Ok((states, callers)) => all_merged(alloc, fonts, states, callers),
         Err(_) => Err(Conflict::Memory),
     }

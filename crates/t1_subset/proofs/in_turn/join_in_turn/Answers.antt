@@ -1,7 +1,7 @@
 use Rattle.std.proofs.Common.{◌∙◌, ap, refl, sym, subst, take, get_or, unwrap_or, arith}
 use Rattle.t1_subset.specs.StateTables.{StatesValue}
 use Rattle.t1_subset.proofs.state_tables.Walks.{JoinedSoFar, starts, noted_at, next_states, next_callers, goes_on, stops, ends}
-use Rattle.t1_subset.proofs.in_turn.joined_in_turn.Goals as goal
+use Rattle.t1_subset.proofs.in_turn.join_in_turn.Goals as goal
 
 pub rest-init : goal.rest-init
 rest-init c fs h d = starts fs c.args.states.now c.args.callers.now h d c.requires.some

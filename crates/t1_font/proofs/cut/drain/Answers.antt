@@ -1,6 +1,6 @@
 use Rattle.std.proofs.Common.{◌++◌, ◌∙◌, ap}
 use Rattle.t1_font.proofs.Drains.{moved, all_moved}
-use Rattle.t1_font.proofs.cut.drained.Goals as goal
+use Rattle.t1_font.proofs.cut.drain.Goals as goal
 
 pub entries-init : goal.entries-init
 entries-init g c = ap (λ items. items ++ c.into_iter-entry-iterator.result) c.in_ok-entries.ensures.items ∙ c.into_iter-entry-iterator.ensures.into_iter_gives.0

@@ -1,5 +1,5 @@
 use Rattle.t1_subset.proofs.state_tables.Walks.{noted_none, noted_next, noted_all}
-use Rattle.t1_subset.proofs.groupings.noted.Goals as goal
+use Rattle.t1_subset.proofs.groupings.note_fonts.Goals as goal
 
 pub fonts-init : goal.fonts-init
 fonts-init c = noted_none _ _ c.in_ok-all_states.ensures.items c.in_ok-all_callers.ensures.items

@@ -3,7 +3,7 @@ use Rattle.t1_subset.proofs.Conflicts.{no_states_conflict}
 use Rattle.t1_subset.proofs.Fonts.{font_within}
 use Rattle.t1_subset.proofs.ManyMerges.{self_ok, self_err}
 use Rattle.t1_subset.proofs.Orders.{join_self}
-use Rattle.t1_subset.proofs.groupings.copied.Goals as goal
+use Rattle.t1_subset.proofs.groupings.copy_font.Goals as goal
 
 pub both-requires : goal.both-requires
 both-requires c = no_states_conflict profile c.args.font.now c.args.font.now (join_self profile c.args.font.now (font_within c.args.font.now c.proof_is_font.ensures)).0.states

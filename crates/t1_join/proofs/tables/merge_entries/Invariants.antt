@@ -2,7 +2,7 @@ use Rattle.std.proofs.Common.{◌+◌, ◌-◌, ◌≤◌, length}
 use Rattle.t1_join.specs.Meaning.{meaning_cmp}
 use Rattle.t1_join.specs.TableMeaning.{pair_meaning}
 use Rattle.t1_join.proofs.Merges.{Merging}
-use Rattle.t1_join.proofs.tables.merged.Given as goal
+use Rattle.t1_join.proofs.tables.merge_entries.Given as goal
 
 abbrev pub invariant-pass : goal.invariant-pass
 invariant-pass g l =

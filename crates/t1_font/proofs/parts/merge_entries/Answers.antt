@@ -1,8 +1,8 @@
 use Rattle.std.proofs.Common.{arith, inl, inr, length, ◌≤◌, ◌⊎◌}
 use Rattle.t1_join.proofs.Merges.{ended_by_copies}
 use Rattle.t1_font.specs.Lent.{with_bytes}
-use Rattle.t1_font.proofs.parts.merged.Goals as goal
-use Rattle.t1_font.proofs.parts.merged.Goals.{then-pass-test+else-j-second, else-pass-test}
+use Rattle.t1_font.proofs.parts.merge_entries.Goals as goal
+use Rattle.t1_font.proofs.parts.merge_entries.Goals.{then-pass-test+else-j-second, else-pass-test}
 
 pub returns : goal.returns
 returns g c =
