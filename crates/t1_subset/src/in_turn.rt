@@ -18,7 +18,7 @@ use std::alloc::Global;
 use t1_join::{Join, have_join};
 
 /// The joined states of two fonts. Where shells and states have no conflict, the limits are all that refuses them.
-fn join_noted<'t, 'a>(
+fn join_states<'t, 'a>(
     alloc: Global,
     left: &States<'t, 'a>,
     right: &States<'t, 'a>,
@@ -55,7 +55,7 @@ fn join_next<'t, 'a>(
     if let Err(conflict) = states_conflict(alloc, left, right, callers) {
         return Err(conflict);
     }
-    join_noted(alloc, left, right)
+    join_states(alloc, left, right)
 }
 
 /// The states that are joined so far, or the first where nothing is joined yet.

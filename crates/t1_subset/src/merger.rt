@@ -50,7 +50,7 @@ fn one_shell(left: &Font<'_>, right: &Font<'_>) -> Result<(), Conflict>
 }
 
 /// The join of two fonts, or their lowest conflict. Where their shells differ, no glyph is run.
-fn merge_noted<'a>(alloc: Global, left: &Font<'a>, right: &Font<'a>) -> Result<Font<'a>, Conflict>
+fn merge_two<'a>(alloc: Global, left: &Font<'a>, right: &Font<'a>) -> Result<Font<'a>, Conflict>
     ensures ok { IfOk result (λ j. Join profile left.now right.now
         × (j ≡ joined_font profile left.now right.now)) }
     ensures err { IfErr result (λ e. Tells e (conflict profile left.now right.now)) }
@@ -112,7 +112,7 @@ pub fn merge<'a>(alloc: Global, left: &Font<'a>, right: &Font<'a>) -> Result<Fon
     ensures draws { IfOk result (λ j. DrawsBoth left.now right.now j) }
 {
     left.proof_is_font();
-    merge_noted(alloc, left, right)
+    merge_two(alloc, left, right)
 }
 
 /// The font that fonts make together, merged from left to right; any other order and grouping of the merges

@@ -6,7 +6,7 @@ pub returns-in-Err-clause-err : goal.returns-in-Err-clause-err
 returns-in-Err-clause-err c f g h k = tells_states f g c.in-Err.conflict (c.in-Err.ensures.err f g h k)
 
 pub returns-clause-ok : goal.returns-clause-ok
-returns-clause-ok c f g h = joined_ok _ _ f g h c.join_noted.result c.join_noted.ensures.ok
+returns-clause-ok c f g h = joined_ok _ _ f g h c.join_states.result c.join_states.ensures.ok
 
 pub returns-clause-err : goal.returns-clause-err
-returns-clause-err c f g h k = joined_err _ _ f g h (c.in_default.ensures.ok f g h) c.join_noted.result c.join_noted.ensures.err
+returns-clause-err c f g h k = joined_err _ _ f g h (c.in_default.ensures.ok f g h) c.join_states.result c.join_states.ensures.err

@@ -1,7 +1,7 @@
 use Rattle.std.proofs.Common.{[], ◌∷◌}
 use Rattle.t1_subset.proofs.state_tables.FontCallers.{first_callers, both_callers}
 use Rattle.t1_subset.proofs.state_tables.MergedFonts.{tells_states}
-use Rattle.t1_subset.proofs.merger.merge_noted.Goals as goal
+use Rattle.t1_subset.proofs.merger.merge_two.Goals as goal
 
 pub returns-in-Err-states_conflict-clause-err : goal.returns-in-Err-states_conflict-clause-err
 returns-in-Err-states_conflict-clause-err c =
