@@ -95,7 +95,7 @@ fn glyph_conflict<'a>(own: &NameTable<'a>, other: &NameTable<'a>) -> Option<&'a 
 }
 
 /// The smallest name that one seeks, and of which the other has a glyph.
-fn part_conflict<'a>(own: &NameTable<'a>, other: &NameTable<'a>) -> Option<&'a [u8]>
+fn component_conflict<'a>(own: &NameTable<'a>, other: &NameTable<'a>) -> Option<&'a [u8]>
     ensures { option_map (λ n. n.now) result ≡ first_clash one_lacks own.now other.now }
 {
     'names: for (name, state) in own.entries() {
@@ -131,7 +131,7 @@ fn glyph_differs(alloc: Global, name: &[u8]) -> Conflict
 }
 
 /// Tells a part that is lacking and the glyph that names it, or want of memory.
-fn lacks_part(alloc: Global, glyph: Option<&[u8]>, part: &[u8]) -> Conflict
+fn lacks_component(alloc: Global, glyph: Option<&[u8]>, part: &[u8]) -> Conflict
     ensures { Tells result
         (Some (LacksComponent (unwrap_or (option_map (λ n. n.now) glyph.entry) []) part.now)) }
 {
@@ -200,8 +200,8 @@ fn uses_conflict(
         → AreCallers callers.now f g
         → IfErr result (λ e. Tells e (uses_conflict f g)) }
 {
-    if let Some(part) = part_conflict(&left.names, &right.names) {
-        return Err(lacks_part(alloc, seeker(callers, part), part));
+    if let Some(part) = component_conflict(&left.names, &right.names) {
+        return Err(lacks_component(alloc, seeker(callers, part), part));
     }
     match subr_conflict(&left.subrs, &right.subrs) {
         Some(index) => Err(subr_differs(alloc, index, user(callers, index))),

@@ -6,8 +6,8 @@ use Rattle.t1_subset.proofs.state_tables.NameClashes.{component_found}
 use Rattle.t1_subset.proofs.searches.uses_conflict.Goals as goal
 
 pub returns-in-Some-clause-err : goal.returns-in-Some-clause-err
-returns-in-Some-clause-err c f g h k = subst (Tells c.lacks_part.result) (ap (λ s. Some (LacksComponent (unwrap_or s []) c.in-Some.part.now)) (c.seeker.ensures ∙ k.seekers c.in-Some.part.now)
-    ∙ uses_part f g c.in-Some.part.now (c.in-Some.ensures ∙ component_found f g _ _ (names_seen c.left.inside.shell.now f _ _ _ _ c.left.view_is h.own) (names_seen c.right.inside.shell.now g _ _ _ _ c.right.view_is h.other))) c.lacks_part.ensures
+returns-in-Some-clause-err c f g h k = subst (Tells c.lacks_component.result) (ap (λ s. Some (LacksComponent (unwrap_or s []) c.in-Some.part.now)) (c.seeker.ensures ∙ k.seekers c.in-Some.part.now)
+    ∙ uses_part f g c.in-Some.part.now (c.in-Some.ensures ∙ component_found f g _ _ (names_seen c.left.inside.shell.now f _ _ _ _ c.left.view_is h.own) (names_seen c.right.inside.shell.now g _ _ _ _ c.right.view_is h.other))) c.lacks_component.ensures
 
 pub returns-in-Some-subr_conflict-clause-err : goal.returns-in-Some-subr_conflict-clause-err
 returns-in-Some-subr_conflict-clause-err c f g h k =
