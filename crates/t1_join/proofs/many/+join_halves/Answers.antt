@@ -1,7 +1,7 @@
 use Rattle.std.proofs.Common.{◌++◌, ◌∙◌, arith}
 use Rattle.std.proofs.lemmas.List.{take-append-drop}
-use Rattle.t1_join.proofs.FrontLemmas.{joined_itself, front_refused, back_refused, halves_joined, pair_joined}
-use Rattle.t1_join.proofs.many.+halves_joined.Goals as goal
+use Rattle.t1_join.proofs.FrontLemmas.{joined_itself, front_refused, back_refused, join_halves, pair_joined}
+use Rattle.t1_join.proofs.many.+join_halves.Goals as goal
 
 pub join-requires : goal.join-requires
 join-requires g t c = g.met.J.Join.laws.only_where _ _ _ (g.met.J.Join.laws.idempotent (g.J.Join.meaning c.index-list-0.result))
@@ -21,5 +21,5 @@ returns-in-None-2 g t c = back_refused g.met.J.Join.laws g.J.Join.meaning c.args
     (omega (arith, c.requires, c.if-list-eq1.false, c.split_at.ensures.front_len)) (omega (arith, c.requires, c.if-list-eq1.false, c.split_at.ensures.back_len)) _ c.in-None-2.is c.in_ok-back.ensures
 
 pub returns : goal.returns
-returns g t c = halves_joined g.met.J.Join.laws g.J.Join.meaning c.args.list.now c.split_at.result.0.now c.split_at.result.1.now ((λ i. c.split_at.ensures.front i ++ c.split_at.ensures.back i) ∙ take-append-drop _ c.args.list.now)
+returns g t c = join_halves g.met.J.Join.laws g.J.Join.meaning c.args.list.now c.split_at.result.0.now c.split_at.result.1.now ((λ i. c.split_at.ensures.front i ++ c.split_at.ensures.back i) ∙ take-append-drop _ c.args.list.now)
     (omega (arith, c.requires, c.if-list-eq1.false, c.split_at.ensures.front_len)) (omega (arith, c.requires, c.if-list-eq1.false, c.split_at.ensures.back_len)) _ _ _ _ c.in-Some.is c.in-Some-2.is c.in_ok-front.ensures c.in_ok-back.ensures c.joined-2.result c.joined-2.ensures
