@@ -21,8 +21,7 @@ const KINDS: &[u8; 256] = b"\
     ................................\
 ";
 
-/// Whether a byte is neither white space nor a delimiter. It is looked up, since most of the time that fonts take to read
-/// goes into this.
+/// Whether a byte is neither white space nor a delimiter. It is looked up, since this is asked of each byte of each word.
 pub fn is_regular(byte: u8) -> bool
     ensures { result ≡ is_regular byte }
 {
@@ -44,6 +43,7 @@ pub fn regular_at(bytes: &[u8]) -> (&[u8], &[u8])
 }
 
 /// One byte of white space.
+#[inline(always)]
 #[tactic(auto, unfolding(crate::specs::Words::one_white))]
 pub fn one_white_at(bytes: &[u8]) -> Option<(&[u8], &[u8])>
     ensures { option_map (λ x. (x.0.now, x.1.now)) result ≡ one_white.read bytes.now }
@@ -56,6 +56,7 @@ pub fn one_white_at(bytes: &[u8]) -> Option<(&[u8], &[u8])>
 }
 
 /// A word of 1 to 32 bytes.
+#[inline(always)]
 #[tactic(auto, unfolding(crate::specs::Words::word))]
 pub fn word_at(bytes: &[u8]) -> Option<(&[u8], &[u8])>
     ensures { option_map (λ x. (x.0.now, x.1.now)) result ≡ word.read bytes.now }
@@ -78,6 +79,7 @@ fn regular_comes(bytes: &[u8]) -> bool
 }
 
 /// The whole word `word`, whose bytes are regular: these bytes, where no regular one comes after them.
+#[inline]
 pub fn keyword_at<'a>(bytes: &'a [u8], word: &[u8]) -> Option<(&'a [u8], &'a [u8])>
     requires { all_regular word.now ≡ true }
     ensures { option_map (λ x. (x.0.now, x.1.now)) result ≡ (keyword word.now).read bytes.now }
@@ -102,6 +104,7 @@ fn digit_at(bytes: &[u8]) -> Option<(u32, &[u8])>
 }
 
 /// A word of 1 to 9 digits.
+#[inline(always)]
 pub fn decimal_at(bytes: &[u8]) -> Option<(u32, &[u8])>
     ensures { option_map (λ x. (x.0, x.1.now)) result ≡ decimal.read bytes.now }
 {
@@ -199,6 +202,7 @@ fn is_access(word: &[u8]) -> bool
 }
 
 /// A word, which may be barred from being `dup`.
+#[inline(always)]
 fn passing_word_at(bytes: &[u8], may_be_dup: bool) -> Option<(&[u8], &[u8])>
     ensures { option_map (λ x. (x.0.now, x.1.now)) result ≡ (that (passes may_be_dup) word).read bytes.now }
 {
@@ -210,6 +214,7 @@ fn passing_word_at(bytes: &[u8], may_be_dup: bool) -> Option<(&[u8], &[u8])>
 }
 
 /// A phrase, whose words may be barred from being `dup`.
+#[inline(always)]
 #[tactic(auto, unfolding(crate::specs::Words::phrase_of))]
 pub fn phrase_at(bytes: &[u8], may_be_dup: bool) -> Option<(Phrase<'_>, &[u8])>
     ensures { option_map (λ x. (phrase_view x.0, x.1.now)) result ≡ (phrase_of (passes may_be_dup)).read bytes.now }
