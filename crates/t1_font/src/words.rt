@@ -9,7 +9,7 @@ ghost use Rattle.t1_font.specs.Views.{phrase_view, words_view};
 use std::alloc::{AllocError, Global};
 use t1_bytes::texts::{count_at, fixed_at, gap_at, is_white, white_at};
 
-/// What each byte is, 32 bytes a row: white space, a delimiter, or regular.
+/// What each byte is, 32 bytes a row: `w` white space, `d` a delimiter, `.` regular.
 const KINDS: &[u8; 256] = b"\
     w........ww.ww..................\
     w....d..dd.....d............d.d.\
