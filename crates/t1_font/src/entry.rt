@@ -34,6 +34,7 @@ impl<'a> Body<'a> {
 }
 
 /// The length of a charstring with lead bytes.
+#[inline(always)]
 #[tactic(auto, unfolding(crate::specs::Entry::length_from))]
 fn length_at(bytes: &[u8], len_iv: u8) -> Option<(u32, &[u8])>
     ensures value { option_map (λ x. (x.0, x.1.now)) result ≡ (length_from len_iv).read bytes.now }
@@ -48,6 +49,7 @@ fn length_at(bytes: &[u8], len_iv: u8) -> Option<(u32, &[u8])>
 }
 
 /// What stands behind a key in a table with this lenIV.
+#[inline(always)]
 #[tactic(auto, unfolding(crate::specs::Entry::body))]
 pub fn body_at(bytes: &[u8], len_iv: u8) -> Option<(Body<'_>, &[u8])>
     ensures value { option_map (λ x. (body_view x.0, x.1.now)) result

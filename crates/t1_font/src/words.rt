@@ -10,7 +10,7 @@ use crate::limits::{NAME_LIMIT, WORD_LIMIT};
 use std::alloc::{AllocError, Global};
 use t1_bytes::texts::{count_at, fixed_at, gap_at, is_white, white_at};
 
-/// What each byte is, 32 bytes a row: white space, a delimiter, or regular.
+/// What each byte is, 32 bytes a row: `w` white space, `d` a delimiter, `.` regular.
 const KINDS: &[u8; 256] = b"\
     w........ww.ww..................\
     w....d..dd.....d............d.d.\
@@ -22,8 +22,7 @@ const KINDS: &[u8; 256] = b"\
     ................................\
 ";
 
-/// Whether a byte is neither white space nor a delimiter. It is looked up, since most of the time that fonts take to read
-/// goes into this.
+/// Whether a byte is neither white space nor a delimiter. It is looked up, since this is asked of each byte of each word.
 pub fn is_regular(byte: u8) -> bool
     ensures { result ≡ is_regular byte }
 {
@@ -45,6 +44,7 @@ pub fn regular_at(bytes: &[u8]) -> (&[u8], &[u8])
 }
 
 /// One byte of white space.
+#[inline(always)]
 #[tactic(auto, unfolding(crate::specs::Words::one_white))]
 pub fn one_white_at(bytes: &[u8]) -> Option<(&[u8], &[u8])>
     ensures { option_map (λ x. (x.0.now, x.1.now)) result ≡ one_white.read bytes.now }
@@ -57,6 +57,7 @@ pub fn one_white_at(bytes: &[u8]) -> Option<(&[u8], &[u8])>
 }
 
 /// A word of 1 to 32 bytes.
+#[inline(always)]
 #[tactic(auto, unfolding(crate::specs::Words::word))]
 pub fn word_at(bytes: &[u8]) -> Option<(&[u8], &[u8])>
     ensures { option_map (λ x. (x.0.now, x.1.now)) result ≡ word.read bytes.now }
@@ -79,6 +80,7 @@ fn regular_comes(bytes: &[u8]) -> bool
 }
 
 /// The whole word `word`, whose bytes are regular: these bytes, where no regular one comes after them.
+#[inline]
 pub fn keyword_at<'a>(bytes: &'a [u8], word: &[u8]) -> Option<(&'a [u8], &'a [u8])>
     requires { all_regular word.now ≡ true }
     ensures { option_map (λ x. (x.0.now, x.1.now)) result ≡ (keyword word.now).read bytes.now }
@@ -103,6 +105,7 @@ fn digit_at(bytes: &[u8]) -> Option<(u32, &[u8])>
 }
 
 /// A word of 1 to 9 digits.
+#[inline(always)]
 pub fn decimal_at(bytes: &[u8]) -> Option<(u32, &[u8])>
     ensures { option_map (λ x. (x.0, x.1.now)) result ≡ decimal.read bytes.now }
 {
@@ -201,6 +204,7 @@ fn is_access(word: &[u8]) -> bool
 }
 
 /// A word, which may be barred from being `dup`.
+#[inline(always)]
 fn passing_word_at(bytes: &[u8], may_be_dup: bool) -> Option<(&[u8], &[u8])>
     ensures { option_map (λ x. (x.0.now, x.1.now)) result
         ≡ (that (passes may_be_dup) word).read bytes.now }
@@ -213,6 +217,7 @@ fn passing_word_at(bytes: &[u8], may_be_dup: bool) -> Option<(&[u8], &[u8])>
 }
 
 /// A phrase, whose words may be barred from being `dup`.
+#[inline(always)]
 #[tactic(auto, unfolding(crate::specs::Words::phrase_of))]
 pub fn phrase_at(bytes: &[u8], may_be_dup: bool) -> Option<(Phrase<'_>, &[u8])>
     ensures { option_map (λ x. (phrase_view x.0, x.1.now)) result
