@@ -4,7 +4,7 @@ use Rattle.t1_subset.proofs.state_tables.StateTrees.{of_front, of_back, halves_f
 use Rattle.t1_subset.proofs.groupings.+made_of.Goals as goal
 
 pub returns-then-fonts-eq1-clause-ok : goal.returns-then-fonts-eq1-clause-ok
-returns-then-fonts-eq1-clause-ok t c = one_ok c.args.fonts.now c.index-fonts-0.result _ c.if-fonts-eq1.true c.index-fonts-0.is c.copied.result c.copied.ensures.ok
+returns-then-fonts-eq1-clause-ok t c = one_ok c.args.fonts.now c.index-fonts-0.result _ c.if-fonts-eq1.true c.index-fonts-0.is c.copy_font.result c.copy_font.ensures.ok
 
 pub both-requires : goal.both-requires
 both-requires t c =
