@@ -1,7 +1,6 @@
 -- The reading of a listing whose keys are compared when all lines are read.
-use Rattle.std.proofs.Common.{◌≡◌, ◌≤◌, ◌+◌, ℕ, refl, sym, ◌∙◌, ap, subst, List, [], ◌∷◌, ◌++◌, length, map, cond, Bool, true, false, Option, None, Some, Ok, Err, ◌||◌, arith}
+use Rattle.std.proofs.Common.{◌≡◌, ◌≤◌, ◌+◌, ℕ, refl, sym, ◌∙◌, ap, subst, List, [], ◌∷◌, ◌++◌, length, cond, Bool, true, false, None, Some, Ok, Err, ◌||◌}
 use Rattle.std.specs.List.{AllByRecursion, IsDistinct, list_any}
-use Rattle.std.specs.List.Sorted.{IsPermutation}
 use Rattle.std.specs.Map.{keys_of}
 use Rattle.std.specs.Ordering.{eq_by_cmp}
 use Rattle.std.specs.FinMap as fin
@@ -12,10 +11,10 @@ use Rattle.t1_join.specs.declared.listing.ListFault.TheVariants.{Repeated}
 use Rattle.t1_join.specs.Meaning.{Meaning, meaning_cmp, of_number}
 use Rattle.t1_join.specs.TableMeaning.{TableMeaning}
 use Rattle.t1_join.specs.ListingMeaning.{ListingMeaning, IsListing}
-use Rattle.t1_join.specs.ListingText.{Entry, subr, glyph, split_at, entry_of, lines_of, same_key, read_entry, at_end, read_lines, entries_of, with_entry, listing_from, listing_of, listing_result}
+use Rattle.t1_join.specs.ListingText.{Entry, subr, glyph, split_at, entry_of, lines_of, same_key, read_entry, read_lines, entries_of, with_entry, listing_from, listing_of, listing_result}
 use Rattle.t1_join.specs.LineMeaning.{IsEntry}
 use Rattle.t1_join.specs.TableLaws.{same_table}
-use Rattle.t1_join.specs.Unsorted.{Unsorted, with_line, IsTableOf, AreTablesOf}
+use Rattle.t1_join.specs.Unsorted.{Unsorted, with_line, AreTablesOf}
 use Rattle.t1_join.proofs.EntryLemmas.{same_by_cmp}
 use Rattle.t1_join.proofs.SplitLemmas.{lines-split, first_line}
 use Rattle.t1_join.proofs.ReadLemmas.{ended, shorter}

@@ -4,7 +4,7 @@ use crate::flats::Flat;
 use crate::keys::{Kept, Key};
 use crate::laws;
 use crate::listing::{self, JoinFault, ListFault, Listing};
-use crate::many::join_all;
+use crate::many::{have_join, join_all};
 use crate::partial::Join;
 use crate::tables::Table;
 use std::alloc::{AllocError, Global};
@@ -14,7 +14,7 @@ type Numbered = Table<u16, Vec<u8>>;
 
 // The table that has the byte at each key from one to another.
 fn table(alloc: Global, from: u16, to: u16, byte: u8) -> Result<Numbered, AllocError> {
-    let mut table = Table::new(alloc);
+    let mut table = Table::with_capacity(alloc, 4)?;
     for key in from..to {
         put(alloc, &mut table, key, byte)?;
     }
@@ -156,11 +156,12 @@ fn many_entries(alloc: Global) -> Result<Vec<(u16, u8)>, AllocError> {
     Ok(entries)
 }
 
-// The number of keys of all tables, where they join.
+// The number of keys of all tables, where they join and `have_join` says so; one that no row wants, where it says otherwise.
 fn keys_of_all(alloc: Global, list: &[Numbered]) -> Result<Option<usize>, AllocError> {
-    match join_all(alloc, list)? {
-        Some(all) => Ok(Some(all.entries().count())),
-        None => Ok(None),
+    match (join_all(alloc, list)?, have_join(alloc, list)?) {
+        (Some(all), true) => Ok(Some(all.entries().count())),
+        (None, false) => Ok(None),
+        _ => Ok(Some(usize::MAX)),
     }
 }
 

@@ -1,5 +1,4 @@
 use Rattle.std.proofs.Common.{sym, ◌∙◌, ap, inr, arith, true≢false, ◌==◌}
-use Rattle.std.specs.Option.{option_map}
 use Rattle.t1_join.specs.LineMeaning.{line_entry}
 use Rattle.t1_join.proofs.ListingLemmas.{entry_fits}
 use Rattle.t1_join.proofs.ReadLemmas.{bad_line, repeated, next, back_shorter, no_line_feed}

@@ -1,7 +1,4 @@
-use Rattle.std.proofs.Common.{rules, ◌≡◌, true}
-use Rattle.std.specs.List.Sorted.{IsStrictlySortedBy}
-use Rattle.std.specs.List.{IsAllAdjacentAnswer}
-use Rattle.std.specs.Map.{keys_of}
+use Rattle.std.proofs.Common.{rules}
 use Rattle.std.proofs.lemmas.Fn.{always_returns_same}
 use Rattle.t1_join.proofs.AnyOrder.{rise_from_neighbours, is_less}
 use Rattle.t1_join.proofs.tables.keys_rise.Goals as goal

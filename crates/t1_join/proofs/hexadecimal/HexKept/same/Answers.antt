@@ -1,4 +1,3 @@
-use Rattle.std.proofs.Common.{sym, ◌∙◌}
 use Rattle.t1_join.proofs.Hexadecimals.{same_result}
 use Rattle.t1_join.proofs.hexadecimal.HexKept.same.Goals as goal
 

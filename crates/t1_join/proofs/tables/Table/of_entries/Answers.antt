@@ -1,10 +1,7 @@
-use Rattle.std.proofs.Common.{subst, sym, ◌≡◌, List}
 use Rattle.std.proofs.lemmas.List.Sorted.{IsPermutation-map}
-use Rattle.t1_join.specs.TableMeaning.{entry_meanings, pair_meaning, Rises}
-use Rattle.t1_join.specs.Meaning.{meaning_cmp}
+use Rattle.t1_join.specs.TableMeaning.{entry_meanings, pair_meaning}
 use Rattle.t1_join.proofs.EntryLemmas.{sorted_meanings}
 use Rattle.t1_join.proofs.AnyOrder.{table_of}
-use Rattle.t1_join.proofs.tables.Table.of_entries.Given as given
 use Rattle.t1_join.proofs.tables.Table.of_entries.Goals as goal
 
 pub invariant_of-result : goal.invariant_of-result
