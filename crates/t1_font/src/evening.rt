@@ -148,6 +148,7 @@ pub fn even_shells(alloc: Global, sources: Vec<Source>) -> Result<Vec<Source>, A
     let declared = largest_count(sources.as_slice());
     let mut all = Vec::with_capacity(alloc, sources.len())?;
     'sources: for source in sources {
+        // Spelled out: with `?` each source that is left would be let go field by field, and each step proved.
         let source = match source.even(alloc, declared) {
             Ok(source) => source,
             Err(fault) => return Err(fault),

@@ -105,6 +105,7 @@ pub fn fill_all<'a>(alloc: Global, fonts: Vec<Font<'a>>) -> Result<Vec<Font<'a>>
     let stubs = stubs_of_all(alloc, fonts.as_slice())?;
     let mut all = Vec::with_capacity(alloc, fonts.len())?;
     'fonts: for font in fonts {
+        // Spelled out: with `?` each font that is left would be let go field by field, and each step proved.
         let font = match fill(alloc, font, &stubs) {
             Ok(font) => font,
             Err(fault) => return Err(fault),
