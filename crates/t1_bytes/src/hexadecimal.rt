@@ -30,18 +30,18 @@ pub fn trailer() -> &'static [u8]
     TRAILER
 }
 
-/// Writes one line at the front of a text.
-fn set_line(text: &mut [u8], line: &[u8])
-    requires { 2 * length line.now < length text.old }
-    ensures { text.new ≡ encode_lower line.now ++ (10 ∷ drop (2 * length line.now + 1) text.old) }
+/// Writes one line of digits at the front of a text.
+fn set_line(text: &mut [u8], digits: &[u8])
+    requires { length digits.now < length text.old }
+    ensures { text.new ≡ digits.now ++ (10 ∷ drop (length digits.now + 1) text.old) }
 {
-    let (digits, rest) = text.split_at_mut(2 * line.len());
-    if let Ok(()) = hex::encode_to_slice(line, digits) {
-        rest[0] = b'\n';
-    }
+    let (line, rest) = text.split_at_mut(digits.len());
+    line.copy_from_slice(digits);
+    rest[0] = b'\n';
 }
 
-/// Writes the line of some bytes of a text at a place behind the first of them.
+/// Writes the line of some bytes of a text at a place behind the first of them. The digits are made apart, since the line may
+/// lie over the bytes.
 fn spread_line(text: &mut [u8], from: usize, len: usize, to: usize)
     requires short { len ≤ 32 }
     requires from { from + len ≤ length text.old }
@@ -51,16 +51,12 @@ fn spread_line(text: &mut [u8], from: usize, len: usize, to: usize)
         ++ (encode_lower (take len (drop from text.old))
         ++ (10 ∷ drop (to + (2 * len + 1)) text.old)) }
 {
-    if from + len <= to {
-        let (front, behind) = text.split_at_mut(to);
-        set_line(behind, &front[from..from + len]);
-        return;
+    let mut room = [0u8; 2 * LINE];
+    let (digits, _) = room.split_at_mut(2 * len);
+    if let Ok(()) = hex::encode_to_slice(&text[from..from + len], digits) {
+        let (_, behind) = text.split_at_mut(to);
+        set_line(behind, digits);
     }
-    let mut room = [0u8; LINE];
-    let (line, _) = room.split_at_mut(len);
-    line.copy_from_slice(&text[from..from + len]);
-    let (_, behind) = text.split_at_mut(to);
-    set_line(behind, line);
 }
 
 /// Writes the lines of so many bytes, from `from` on, over these and what stands behind them: the last line first, since
