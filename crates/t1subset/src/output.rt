@@ -1,11 +1,11 @@
 //! The file that a result is written to.
 use std::alloc::Global;
-use std::fs;
 use std::fs::{Metadata, OpenFile, OpenOptions};
-use std::io::ErrorKind;
+use std::io::{ErrorKind, Write};
 use std::os::unix::fs::MetadataExt;
 use std::rt::Files;
-use t1_cmd::{Counted, RunFault, write_text};
+use std::{fs, io};
+use t1_cmd::RunFault;
 
 /// How many names are tried for the file beside OUT.
 const TRIES: u32 = 100;
@@ -82,32 +82,103 @@ fn replacement<R: Files>(rt: &R, alloc: Global, path: &str) -> Option<(String, R
     }
 }
 
-/// Writes a result into the file that stands under OUT's name, or makes one.
-fn write_there<R: Files>(rt: &R, path: &str, text: &[u8]) -> Result<(), RunFault> {
-    let out = fs::create(rt, path).map_err(|_| RunFault::Write)?;
-    write_text(&mut Counted::new(out), text)
+/// OUT, opened.
+#[derive(Drop)]
+struct Opened<F> {
+    file: F,
+    /// Where the result stands until it is whole, if that is beside OUT.
+    beside: Option<String>,
 }
 
-/// Writes a result whole, until the file system has it.
-fn write_whole<F: OpenFile + std::io::Write>(file: &mut F, text: &[u8]) -> Result<(), RunFault> {
-    write_text(&mut Counted::new(&mut *file), text)?;
-    file.sync_all().map_err(|_| RunFault::Write)
+/// OUT as an engine writes to it. The first write opens it, since an engine writes only when its result is complete. The
+/// result is written beside OUT and comes to OUT's name when it is whole, so that what stood there stays where a write fails.
+/// What is no plain file of ours is written as it stands.
+#[derive(Drop)]
+pub struct Out<'a, R: Files> {
+    rt: &'a R,
+    alloc: Global,
+    path: &'a str,
+    opened: Option<Opened<R::File>>,
 }
 
-/// Writes a result to OUT, which is opened only now. It is written beside OUT and comes to OUT's name when it is whole,
-/// so that what stood there stays where a write fails. What is no plain file of ours is written as it stands.
-pub fn save<R: Files>(rt: &R, alloc: Global, path: &str, text: &[u8]) -> Result<(), RunFault> {
-    let Some((name, mut file)) = replacement(rt, alloc, path) else {
-        return write_there(rt, path, text);
-    };
-    let written = write_whole(&mut file, text);
+impl<'a, R: Files> Out<'a, R> {
+    /// The file of this path, which is not opened yet.
+    pub fn new(rt: &'a R, alloc: Global, path: &'a str) -> Out<'a, R> {
+        Out {
+            rt,
+            alloc,
+            path,
+            opened: None,
+        }
+    }
+
+    /// Opens a new file beside OUT, or else OUT.
+    fn open(&self) -> io::Result<Opened<R::File>> {
+        if let Some((name, file)) = replacement(self.rt, self.alloc, self.path) {
+            return Ok(Opened {
+                file,
+                beside: Some(name),
+            });
+        }
+        let file = fs::create(self.rt, self.path)?;
+        Ok(Opened { file, beside: None })
+    }
+
+    /// Ends what the engine did so: a result that is whole comes to OUT's name, and a part of one is removed.
+    pub fn end(self, done: Result<(), RunFault>) -> Result<(), RunFault> {
+        let Out {
+            rt,
+            path,
+            opened,
+            ..
+        } = self;
+        let Some(Opened { file, beside }) = opened else {
+            return done;
+        };
+        let Some(name) = beside else {
+            return done;
+        };
+        let kept = match done {
+            Ok(()) => keep(rt, file, name.as_str(), path),
+            Err(fault) => Err(fault),
+        };
+        if kept.is_err() {
+            let _ = fs::remove_file(rt, name.as_str());
+        }
+        kept
+    }
+}
+
+impl<R: Files> Write for Out<'_, R> {
+    fn write(&mut self, buf: &[u8]) -> io::Result<usize> {
+        if self.opened.is_none() {
+            self.opened = Some(self.open()?);
+        }
+        match &mut self.opened {
+            Some(opened) => opened.file.write(buf),
+            None => Err(io::Error::from(ErrorKind::NotFound)),
+        }
+    }
+
+    fn flush(&mut self) -> io::Result<()> {
+        Ok(())
+    }
+}
+
+/// Gives a whole file OUT's name, once the file system has all of it. Where it can't have the name, its bytes are copied to
+/// what stands there.
+fn keep<R: Files>(rt: &R, file: R::File, name: &str, path: &str) -> Result<(), RunFault> {
+    let synced = file.sync_all();
     drop(file);
-    if written.is_ok() && fs::rename(rt, name.as_str(), path).is_ok() {
+    if synced.is_err() {
+        return Err(RunFault::Write);
+    }
+    if fs::rename(rt, name, path).is_ok() {
         return Ok(());
     }
-    let _ = fs::remove_file(rt, name.as_str());
-    match written {
-        Ok(()) => write_there(rt, path, text),
-        Err(fault) => Err(fault),
+    if fs::copy(rt, name, path).is_err() {
+        return Err(RunFault::Write);
     }
+    let _ = fs::remove_file(rt, name);
+    Ok(())
 }

@@ -1,6 +1,6 @@
 //! Performs what the words ask for.
 use crate::commands::parse;
-use crate::output::save;
+use crate::output::Out;
 use clap::{ArgMatches, Error};
 use std::alloc::{AllocError, Global};
 use std::io::{ErrorKind, Write};
@@ -95,14 +95,9 @@ fn show<R: Files, O: Write + Drop>(
     print(out, text.as_slice())
 }
 
-/// Writes a result to the file that the words name.
-fn save_out<R: Files>(
-    rt: &R,
-    alloc: Global,
-    given: &ArgMatches<'_>,
-    text: &[u8],
-) -> Result<(), RunFault> {
-    save(rt, alloc, given.get_str("OUT").unwrap_or(""), text)
+/// The file that the words name for the result.
+fn out<'a, R: Files>(rt: &'a R, alloc: Global, given: &'a ArgMatches<'a>) -> Out<'a, R> {
+    Out::new(rt, alloc, given.get_str("OUT").unwrap_or(""))
 }
 
 fn convert<R: Files>(
@@ -112,9 +107,9 @@ fn convert<R: Files>(
     form: Form,
 ) -> Result<(), RunFault> {
     let mut input = font(rt, given)?;
-    let mut text = Vec::new(alloc);
-    run_convert(alloc, &mut input, form, &mut Counted::new(&mut text))?;
-    save_out(rt, alloc, given, text.as_slice())
+    let mut out = out(rt, alloc, given);
+    let done = run_convert(alloc, &mut input, form, &mut Counted::new(&mut out));
+    out.end(done)
 }
 
 /// The names that the words give, as bytes.
@@ -129,15 +124,15 @@ fn names<'a>(alloc: Global, given: &ArgMatches<'a>) -> Result<Vec<&'a [u8]>, All
 fn subset<R: Files>(rt: &R, alloc: Global, given: &ArgMatches<'_>) -> Result<(), RunFault> {
     let names = names(alloc, given)?;
     let mut input = font(rt, given)?;
-    let mut text = Vec::new(alloc);
-    run_subset(
+    let mut out = out(rt, alloc, given);
+    let done = run_subset(
         alloc,
         &mut input,
         names.as_slice(),
         Form::Pfa,
-        &mut Counted::new(&mut text),
-    )?;
-    save_out(rt, alloc, given, text.as_slice())
+        &mut Counted::new(&mut out),
+    );
+    out.end(done)
 }
 
 /// The fonts that the words name, all of them opened.
@@ -158,26 +153,26 @@ fn fonts<R: Files>(
 
 fn merge<R: Files>(rt: &R, alloc: Global, given: &ArgMatches<'_>) -> Result<(), RunFault> {
     let mut fonts = fonts(rt, alloc, given)?;
-    let mut text = Vec::new(alloc);
-    run_merge(
+    let mut out = out(rt, alloc, given);
+    let done = run_merge(
         alloc,
         fonts.as_mut_slice(),
         Form::Pfa,
-        &mut Counted::new(&mut text),
-    )?;
-    save_out(rt, alloc, given, text.as_slice())
+        &mut Counted::new(&mut out),
+    );
+    out.end(done)
 }
 
 fn rejoin<R: Files>(rt: &R, alloc: Global, given: &ArgMatches<'_>) -> Result<(), RunFault> {
     let mut fonts = fonts(rt, alloc, given)?;
-    let mut text = Vec::new(alloc);
-    run_rejoin(
+    let mut out = out(rt, alloc, given);
+    let done = run_rejoin(
         alloc,
         fonts.as_mut_slice(),
         Form::Pfa,
-        &mut Counted::new(&mut text),
-    )?;
-    save_out(rt, alloc, given, text.as_slice())
+        &mut Counted::new(&mut out),
+    );
+    out.end(done)
 }
 
 fn perform<R: Files, O: Write + Drop>(
