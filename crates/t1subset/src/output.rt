@@ -94,16 +94,16 @@ struct Opened<F> {
 /// result is written beside OUT and comes to OUT's name when it is whole, so that what stood there stays where a write fails.
 /// What is no plain file of ours is written as it stands.
 #[derive(Drop)]
-pub struct Out<'a, R: Files> {
-    rt: &'a R,
+pub struct Out<'r, 'p, R: Files> {
+    rt: &'r R,
     alloc: Global,
-    path: &'a str,
+    path: &'p str,
     opened: Option<Opened<R::File>>,
 }
 
-impl<'a, R: Files> Out<'a, R> {
+impl<'r, 'p, R: Files> Out<'r, 'p, R> {
     /// The file of this path, which is not opened yet.
-    pub fn new(rt: &'a R, alloc: Global, path: &'a str) -> Out<'a, R> {
+    pub fn new(rt: &'r R, alloc: Global, path: &'p str) -> Out<'r, 'p, R> {
         Out {
             rt,
             alloc,
@@ -149,7 +149,7 @@ impl<'a, R: Files> Out<'a, R> {
     }
 }
 
-impl<R: Files> Write for Out<'_, R> {
+impl<R: Files> Write for Out<'_, '_, R> {
     fn write(&mut self, buf: &[u8]) -> io::Result<usize> {
         if self.opened.is_none() {
             self.opened = Some(self.open()?);

@@ -96,8 +96,13 @@ fn show<R: Files, O: Write + Drop>(
 }
 
 /// The file that the words name for the result.
-fn out<'a, R: Files>(rt: &'a R, alloc: Global, given: &'a ArgMatches<'a>) -> Out<'a, R> {
-    Out::new(rt, alloc, given.get_str("OUT").unwrap_or(""))
+fn out<'r, 'p, R: Files>(
+    rt: &'r R,
+    alloc: Global,
+    given: &'p ArgMatches<'_>,
+) -> Counted<Out<'r, 'p, R>> {
+    let path = given.get_str("OUT").unwrap_or("");
+    Counted::new(Out::new(rt, alloc, path))
 }
 
 fn convert<R: Files>(
@@ -108,8 +113,8 @@ fn convert<R: Files>(
 ) -> Result<(), RunFault> {
     let mut input = font(rt, given)?;
     let mut out = out(rt, alloc, given);
-    let done = run_convert(alloc, &mut input, form, &mut Counted::new(&mut out));
-    out.end(done)
+    let done = run_convert(alloc, &mut input, form, &mut out);
+    out.into_inner().end(done)
 }
 
 /// The names that the words give, as bytes.
@@ -125,14 +130,8 @@ fn subset<R: Files>(rt: &R, alloc: Global, given: &ArgMatches<'_>) -> Result<(),
     let names = names(alloc, given)?;
     let mut input = font(rt, given)?;
     let mut out = out(rt, alloc, given);
-    let done = run_subset(
-        alloc,
-        &mut input,
-        names.as_slice(),
-        Form::Pfa,
-        &mut Counted::new(&mut out),
-    );
-    out.end(done)
+    let done = run_subset(alloc, &mut input, names.as_slice(), Form::Pfa, &mut out);
+    out.into_inner().end(done)
 }
 
 /// The fonts that the words name, all of them opened.
@@ -154,25 +153,15 @@ fn fonts<R: Files>(
 fn merge<R: Files>(rt: &R, alloc: Global, given: &ArgMatches<'_>) -> Result<(), RunFault> {
     let mut fonts = fonts(rt, alloc, given)?;
     let mut out = out(rt, alloc, given);
-    let done = run_merge(
-        alloc,
-        fonts.as_mut_slice(),
-        Form::Pfa,
-        &mut Counted::new(&mut out),
-    );
-    out.end(done)
+    let done = run_merge(alloc, fonts.as_mut_slice(), Form::Pfa, &mut out);
+    out.into_inner().end(done)
 }
 
 fn rejoin<R: Files>(rt: &R, alloc: Global, given: &ArgMatches<'_>) -> Result<(), RunFault> {
     let mut fonts = fonts(rt, alloc, given)?;
     let mut out = out(rt, alloc, given);
-    let done = run_rejoin(
-        alloc,
-        fonts.as_mut_slice(),
-        Form::Pfa,
-        &mut Counted::new(&mut out),
-    );
-    out.end(done)
+    let done = run_rejoin(alloc, fonts.as_mut_slice(), Form::Pfa, &mut out);
+    out.into_inner().end(done)
 }
 
 fn perform<R: Files, O: Write + Drop>(
