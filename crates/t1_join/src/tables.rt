@@ -103,6 +103,31 @@ impl<K: Key + Drop, V: Kept + Drop> Table<K, V> {
         }
     }
 
+    /// The value at the key, which is looked for at this place among the entries first.
+    pub fn get_near(&self, place: usize, key: &K) -> Option<&V>
+        ensures { option_map V.meaning (option_copied result)
+            ≡ fin.get self.now (K.meaning key.now) }
+    {
+        if place < self.entries.len() && self.entries[place].0.cmp(key).is_eq() {
+            return Some(&self.entries[place].1);
+        }
+        self.get(key)
+    }
+
+    /// Puts the value at the key, which is looked for at this place among the entries first. Where memory is refused the
+    /// table stays as it was, and the pair is dropped.
+    pub fn insert_near(&mut self, place: usize, key: K, value: V) -> Result<(), AllocError>
+        ensures ok { OnOk result (self.new
+            ≡ fin.insert self.old (K.meaning key) (V.meaning value)) }
+        ensures err { OnErr result (self.new ≡ self.old) }
+    {
+        if place < self.entries.len() && self.entries[place].0.cmp(&key).is_eq() {
+            self.entries[place].1 = value;
+            return Ok(());
+        }
+        self.insert(key, value)
+    }
+
     /// The entries, upwards by key.
     pub fn entries(&self) -> Entries<'_, K, V>
         ensures { result ≡ fin.entries self.now }

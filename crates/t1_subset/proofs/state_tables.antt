@@ -3,6 +3,7 @@ pub mod FirstConflicts
 pub mod FirstNames
 pub mod FontCallers
 pub mod FontStates
+pub mod FontUsers
 pub mod MergedFonts
 pub mod NameClashes
 pub mod Numbered

@@ -1,15 +1,16 @@
 -- Who executes which Subr of a font, and who names which component that the font lacks.
-use Rattle.std.specs.Prelude.{◌≡◌, ◌<◌, ℕ, Bool, false, List, [], ◌∷◌, Option, Some, None, get_or}
-use Rattle.std.specs.Option.{option_map}
-use Rattle.std.specs.Borrow.{Bor}
+use Rattle.std.specs.Prelude.{◌≡◌, ℕ, Bool, true, false, List, [], ◌∷◌, Option, Some, None, map}
+use Rattle.std.specs.List.{AllByRecursion}
 use Rattle.std.specs.FinMap as maps
-use Rattle.t1_font.specs.FontValue.{FontValue, name_cmp, declared_count}
+use Rattle.t1_font.specs.FontValue.{FontValue, name_cmp}
 use Rattle.t1_font.specs.FontModel.{names_in}
+use Rattle.t1_font.specs.IsFont.{IsFont}
 use Rattle.t1_subset.specs.declared.callers.Callers.{Callers}
 use Rattle.t1_subset.specs.Interpreter.{same_bytes}
 use Rattle.t1_subset.specs.Profile.{profile}
 use Rattle.t1_subset.specs.Conflicts.{first_where, executes, wants}
 use Rattle.t1_subset.specs.Differences.{smaller}
+use Rattle.t1_subset.specs.Users.{user_at}
 
 -- the smallest glyph of the font that executes the index
 abbrev pub user_of : FontValue → ℕ → Option (List ℕ)
@@ -27,21 +28,18 @@ same_charstring (Some c) (Some d) = same_bytes c d
 
 -- ---- in code
 
--- the name that stands at the index
-abbrev pub user_at : List (Option (Bor (List ℕ))) → ℕ → Option (List ℕ)
-user_at us i = option_map (λ n. n.now) (get_or us i None)
-
--- the callers of the font, of each index that it declares and of each component
+-- the callers of the font, of each Subr that it has and of each component
 pub record AreCallersOf (c : Callers) (f : FontValue) : Type 0 where
-  pub users : (i : ℕ) → i < declared_count f.shell.subrs → user_at c.users i ≡ user_of f i
+  pub users : (i : ℕ) → maps.contains_key f.subrs i ≡ true → user_at c.users i ≡ user_of f i
   pub seekers : (p : List ℕ) → maps.get c.seekers p ≡ seeker_of f p
 
--- the callers of each of the fonts
-abbrev pub AreCallersOfAll : List Callers → List FontValue → Type 0
-AreCallersOfAll [] [] = Unit {0}
-AreCallersOfAll [] (f ∷ fs) = ⊥
-AreCallersOfAll (c ∷ cs) [] = ⊥
-AreCallersOfAll (c ∷ cs) (f ∷ fs) = AreCallersOf c f × AreCallersOfAll cs fs
+-- the fonts of which these are the callers
+abbrev pub fonts_of : List Callers → List FontValue
+fonts_of cs = map (λ c. c.font.now) cs
+
+-- each is of a font, whose callers these are
+abbrev pub AreNoted : List Callers → Type 0
+AreNoted cs = AllByRecursion (λ c. IsFont c.font.now × AreCallersOf c c.font.now) cs
 
 -- the smaller of a name and the smallest user of an index among callers
 abbrev pub user_from : Option (List ℕ) → List Callers → ℕ → Option (List ℕ)

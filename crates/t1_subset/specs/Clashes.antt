@@ -1,23 +1,17 @@
 -- How the states of a name differ in two fonts, and the conflicts that are found with and without who uses them.
-use Rattle.std.specs.Prelude.{◌≡◌, ◌<◌, ℕ, Bool, true, false, not, ◌&&◌, ◌||◌, List, [], ◌∷◌, Option, Some, None, is_some}
+use Rattle.std.specs.Prelude.{◌≡◌, ℕ, Bool, true, false, not, ◌&&◌, ◌||◌, List, [], ◌∷◌, Option, Some, None, is_some}
 use Rattle.std.specs.Option.{option_map, unwrap_or}
 use Rattle.std.specs.FinMap as maps
 use Rattle.t1_join.specs.Meaning.{Meaning}
 use Rattle.t1_join.specs.Join.{State}
 use Rattle.t1_join.specs.TableMeaning.{TableMeaning}
-use Rattle.t1_font.specs.FontValue.{FontValue, declared_count}
+use Rattle.t1_font.specs.FontValue.{FontValue}
 use Rattle.t1_subset.specs.declared.callers.Callers.{Callers}
 use Rattle.t1_font.specs.IsFont.{IsFont}
 use Rattle.t1_subset.specs.Profile.{profile}
-use Rattle.t1_subset.specs.StateTables.{StatesValue, states_of}
+use Rattle.t1_subset.specs.StateTables.{StatesValue, states_of, behind_mark}
 use Rattle.t1_subset.specs.Conflicts.{Conflict, ShellDiffers, CodeDiffers, GlyphDiffers, LacksComponent, SubrDiffers, agrees, found, first_where, smallest, shell_conflict, code_conflict, glyph_conflict, component_conflict, subr_conflict, wanted_by, used_by, glyph_names}
 use Rattle.t1_subset.specs.Callers.{user_from, seeker_from}
-
--- the charstring of a name, where its state is one
-abbrev pub charstring_in : State → Option (List ℕ)
-charstring_in None = None
-charstring_in (Some []) = None
-charstring_in (Some (mark ∷ c)) = Some c
 
 -- the name is sought
 abbrev pub is_sought_in : State → Bool
@@ -27,11 +21,11 @@ is_sought_in (Some (mark ∷ c)) = false
 
 -- two charstrings differ
 abbrev pub charstrings_differ : State → State → Bool
-charstrings_differ x y = not (agrees (charstring_in x) (charstring_in y))
+charstrings_differ x y = not (agrees (behind_mark x) (behind_mark y))
 
 -- one is sought, and the other a charstring
 abbrev pub one_lacks : State → State → Bool
-one_lacks x y = (is_sought_in x && is_some (charstring_in y)) || (is_sought_in y && is_some (charstring_in x))
+one_lacks x y = (is_sought_in x && is_some (behind_mark y)) || (is_sought_in y && is_some (behind_mark x))
 
 -- the smallest name whose states clash
 abbrev pub first_clash : (State → State → Bool) → TableMeaning → TableMeaning → Option Meaning
@@ -39,7 +33,7 @@ first_clash clash s t = option_map (λ e. e.0) (first_where (λ e. clash (Some e
 
 -- among the callers are those of both fonts, and no smaller ones
 pub record AreCallers (cs : List Callers) (f g : FontValue) : Type 0 where
-  pub users : (i : ℕ) → i < declared_count f.shell.subrs → i < declared_count g.shell.subrs → user_from None cs i ≡ smallest (used_by profile f g i) (glyph_names f g)
+  pub users : (i : ℕ) → maps.contains_key f.subrs i ≡ true → maps.contains_key g.subrs i ≡ true → user_from None cs i ≡ smallest (used_by profile f g i) (glyph_names f g)
   pub seekers : (p : List ℕ) → seeker_from None cs p ≡ smallest (wanted_by profile f g p) (glyph_names f g)
 
 -- the states of two fonts

@@ -14,6 +14,7 @@ pub mod Differences
 pub mod NameSets
 pub mod ClosureNames
 pub mod Calls
+pub mod Users
 pub mod Callers
 pub mod Clashes
 pub mod Refusals

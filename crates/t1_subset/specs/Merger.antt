@@ -4,7 +4,6 @@ use Rattle.std.specs.FinSet as sets
 use Rattle.std.specs.List.{AllByRecursion}
 use Rattle.t1_font.specs.FontValue.{FontValue}
 use Rattle.t1_font.specs.IsFont.{IsFont}
-use Rattle.t1_subset.specs.declared.callers.Callers.{Callers}
 use Rattle.t1_subset.specs.declared.conflict.Conflict.{Conflict as Refusal}
 use Rattle.t1_subset.specs.declared.conflict.Conflict.TheVariants.{Memory, Empty}
 use Rattle.t1_subset.specs.Interpreter.{Names}
@@ -12,8 +11,6 @@ use Rattle.t1_subset.specs.Keep.{has, subset}
 use Rattle.t1_subset.specs.Profile.{profile}
 use Rattle.t1_subset.specs.States.{Join, joined_font, IsWithin}
 use Rattle.t1_subset.specs.Laws.{IsOf, DrawsAlike}
-use Rattle.t1_subset.specs.StateTables.{StatesValue, states_of}
-use Rattle.t1_subset.specs.Callers.{AreCallersOfAll}
 use Rattle.t1_subset.specs.Conflicts.{conflict}
 use Rattle.t1_subset.specs.Refusals.{Tells}
 use Rattle.t1_subset.specs.Trees.{Tree, Leaf, leaves, left_tree, folded, EachPair, Merges, union_all}
@@ -69,12 +66,6 @@ MergesToNone t = (k : FontValue) → ¬ Merges profile t k
 -- each order and grouping of the fonts comes to the font that is answered, or each comes to none, or a growth was refused
 abbrev pub MergesInAnyOrder : List FontValue → Result FontValue Refusal → Type 0
 MergesInAnyOrder fs r = (t : Tree FontValue) → IsPermutation fs (leaves t) → MatchResult r (λ j. MergesTo t j) (λ e. (e ≡ Memory) ⊎ MergesToNone t)
-
--- the states and the callers of each of the fonts
-pub record AreNoted (fs : List FontValue) (ss : List StatesValue) (cs : List Callers) : Type 0 where
-  pub fonts : AllByRecursion IsFont fs
-  pub states : ss ≡ map (states_of profile) fs
-  pub callers : AreCallersOfAll cs fs
 
 -- each grouping of the fonts, in their order, comes to a font
 abbrev pub EachGroupingMerges : List FontValue → Type 0

@@ -1,5 +1,5 @@
 -- Subsets that were cut to their first Subrs and tagged, and what they come to when they are made even and merged.
-use Rattle.std.specs.Prelude.{◌≡◌, ℕ, ◌≤◌, ◌<◌, max, nat_lt, true, List, [], ◌∷◌, map, Option, IsPermutation}
+use Rattle.std.specs.Prelude.{◌≡◌, ℕ, ◌≤◌, ◌<◌, max, nat_lt, true, List, [], ◌∷◌, map, IsPermutation}
 use Rattle.std.specs.List.{AllByRecursion}
 use Rattle.std.specs.Option.{option_map}
 use Rattle.std.specs.FinMap as maps

@@ -47,6 +47,12 @@ abbrev pub name_meaning : Option (List ℕ) → Meaning
 name_meaning None = []
 name_meaning (Some c) = 0 ∷ c
 
+-- what stands behind the mark of a name's state
+abbrev pub behind_mark : Option Meaning → Option (List ℕ)
+behind_mark None = None
+behind_mark (Some []) = None
+behind_mark (Some (mark ∷ c)) = Some c
+
 abbrev pub shared_of : FontValue → Shared
 shared_of f = (f.shell, (word_of f.encoding, map_values (λ i c. 0) f.subrs))
 

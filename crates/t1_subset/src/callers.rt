@@ -1,92 +1,21 @@
 //! Who executes which Subr of a font, and who names which component that the font lacks: of each the smallest glyph.
 
-ghost use Rattle.std.specs.Prelude.{◌≡◌, ◌<◌, ◌&&◌, ℕ, List, not, IfOk, OnOk, None, Some, cond, length, map, replicate};
+ghost use Rattle.std.specs.Prelude.{◌≡◌, ◌&&◌, ℕ, List, [], not, IfOk, OnOk, None, Some, cond, map};
 ghost use Rattle.std.specs.Option.{option_map};
 ghost use Rattle.std.specs.FinMap as maps;
-ghost use Rattle.std.specs.FinSet as sets;
 ghost use Rattle.std.specs.List.{list_any};
 ghost use Rattle.t1_font.specs.FontValue.{name_cmp};
 ghost use Rattle.t1_subset.specs.Interpreter.{same_bytes};
 ghost use Rattle.t1_subset.specs.States.{joined};
 ghost use Rattle.t1_subset.specs.Keep.{has};
-ghost use Rattle.t1_subset.specs.Calls.{number_set};
-ghost use Rattle.t1_subset.specs.Conflicts.{same_number};
 ghost use Rattle.t1_subset.specs.Differences.{smaller};
-ghost use Rattle.t1_subset.specs.Callers.{user_at, user_from, seeker_from};
+ghost use Rattle.t1_subset.specs.Callers.{user_from, seeker_from};
 
 use crate::closure_names::has_glyph;
+use crate::users::{Users, user_in};
 use std::alloc::{AllocError, Global};
-use std::collections::BTreeSet;
-use std::marker::Model;
 use t1_font::Font;
 use t1_join::Table;
-
-/// The smallest glyph that executes each Subr that a font declares, by index.
-#[derive(Drop)]
-pub(crate) struct Users<'a> {
-    glyphs: Vec<Option<&'a [u8]>>,
-}
-
-impl<'a> Model for Users<'a> {
-    ghost use Rattle.std.specs.Prelude.{List, ℕ, Option};
-    ghost use Rattle.std.specs.Borrow.{Bor};
-
-    ghost Value = { List (Option (Bor (List ℕ))) };
-
-    ghost view = { λ u. u.glyphs.items };
-}
-
-impl<'a> Users<'a> {
-    /// No glyph for any of this many indices.
-    pub(crate) fn new(alloc: Global, count: u16) -> Result<Self, AllocError>
-        ensures { IfOk result (λ users. users ≡ replicate count None) }
-    {
-        Ok(Users {
-            glyphs: vec![in alloc; None; count as usize]?,
-        })
-    }
-
-    /// Notes a glyph that executes the index, unless there is a smaller one; glyphs come upwards by name.
-    fn note(&mut self, index: u16, glyph: &'a [u8])
-        ensures length { length self.new ≡ length self.old }
-        ensures users { (q : ℕ)
-            → q < length self.old
-            → user_at self.new q
-            ≡ joined (user_at self.old q)
-            (cond (same_number q index) (Some glyph.now) None) }
-    {
-        let index = index as usize;
-        if index < self.glyphs.len() && self.glyphs[index].is_none() {
-            self.glyphs[index] = Some(glyph);
-        }
-    }
-
-    /// Notes a glyph that executes these indices.
-    pub(crate) fn note_all(&mut self, calls: &BTreeSet<u16>, glyph: &'a [u8])
-        ensures length { length self.new ≡ length self.old }
-        ensures users { (q : ℕ)
-            → q < length self.old
-            → user_at self.new q
-            ≡ joined (user_at self.old q)
-            (cond (sets.contains (number_set calls.now) q) (Some glyph.now) None) }
-    {
-        'calls: for index in calls {
-            self.note(*index, glyph);
-        }
-    }
-
-    /// The smallest glyph that executes the index.
-    pub(crate) fn get(&self, index: u16) -> Option<&'a [u8]>
-        ensures { option_map (λ n. n.now) result ≡ user_at self.now index }
-    {
-        let index = index as usize;
-        if index < self.glyphs.len() {
-            self.glyphs[index]
-        } else {
-            None
-        }
-    }
-}
 
 /// The smallest glyph that names each component which a font lacks.
 pub(crate) type Seekers<'a> = Table<&'a [u8], &'a [u8]>;
@@ -132,11 +61,12 @@ pub(crate) fn note_seekers<'a>(
     Ok(())
 }
 
-/// Who executes the Subrs of a font, and who names the components that it lacks.
+/// A font, who executes its Subrs, and who names the components that it lacks.
 #[derive(Drop)]
-pub(crate) struct Callers<'a> {
-    pub(crate) users: Users<'a>,
-    pub(crate) seekers: Seekers<'a>,
+pub(crate) struct Callers<'t, 'a> {
+    pub(crate) font: &'t Font<'a>,
+    pub(crate) users: Users<'t>,
+    pub(crate) seekers: Seekers<'t>,
 }
 
 /// The smaller of two names, where they are there.
@@ -159,12 +89,12 @@ fn smaller<'a>(first: Option<&'a [u8]>, second: Option<&'a [u8]>) -> Option<&'a 
 }
 
 /// The smallest glyph that executes the index, among the callers of some fonts.
-pub(crate) fn user<'a>(callers: &[Callers<'a>], index: u16) -> Option<&'a [u8]>
+pub(crate) fn user<'t>(callers: &[Callers<'t, '_>], index: u16) -> Option<&'t [u8]>
     ensures { option_map (λ n. n.now) result ≡ user_from None callers.now index }
 {
     let mut user = None;
     'callers: for callers in callers {
-        user = smaller(user, callers.users.get(index));
+        user = smaller(user, user_in(&callers.users, index));
     }
     user
 }
@@ -180,7 +110,7 @@ fn seeker_in<'a>(seekers: &Seekers<'a>, component: &[u8]) -> Option<&'a [u8]>
 }
 
 /// The smallest glyph that names the component where its font lacks it, among the callers of some fonts.
-pub(crate) fn seeker<'a>(callers: &[Callers<'a>], component: &'a [u8]) -> Option<&'a [u8]>
+pub(crate) fn seeker<'t>(callers: &[Callers<'t, '_>], component: &'t [u8]) -> Option<&'t [u8]>
     ensures { option_map (λ n. n.now) result ≡ seeker_from None callers.now component.now }
 {
     let mut seeker = None;

@@ -1,32 +1,89 @@
 //! The join of many fonts at once: their states are joined first, and then the font is made in a balanced grouping.
 
-ghost use Rattle.std.specs.Prelude.{◌≡◌, ◌<◌, IfOk, IfErr, length};
-ghost use Rattle.t1_subset.specs.Merger.{AreNoted, EachGroupingMerges, SomeGroupingMerges};
+ghost use Rattle.std.specs.Prelude.{◌≡◌, ◌<◌, IfOk, IfErr, length, map};
+ghost use Rattle.t1_join.specs.Groupings.{IsJoinOf, HaveJoin};
+ghost use Rattle.t1_subset.specs.Profile.{profile};
+ghost use Rattle.t1_subset.specs.StateTables.{StatesJoin, states_of};
+ghost use Rattle.t1_subset.specs.Callers.{AreNoted, fonts_of};
+ghost use Rattle.t1_subset.specs.Merger.{EachGroupingMerges, SomeGroupingMerges};
 
 use crate::callers::Callers;
 use crate::conflict::Conflict;
 use crate::merger::both;
-use crate::state_making::states_and_callers;
+use crate::state_making::{callers_of, states_by};
 use crate::state_value::States;
 use std::alloc::{AllocError, Global};
 use t1_font::Font;
+use t1_join::Join;
 
-/// The states and the callers of each of the fonts.
+/// The callers of each of the fonts.
 pub(crate) fn note_fonts<'t, 'a>(
     alloc: Global,
     fonts: &'t [Font<'a>],
-) -> Result<(Vec<States<'t, 'a>>, Vec<Callers<'t>>), AllocError>
-    ensures { IfOk result (λ r. AreNoted fonts.now r.0.items r.1.items) }
+) -> Result<Vec<Callers<'t, 'a>>, AllocError>
+    ensures fonts { IfOk result (λ callers. fonts_of callers.items ≡ fonts.now) }
+    ensures noted { IfOk result (λ callers. AreNoted callers.items) }
 {
-    let mut all_states = Vec::with_capacity(alloc, fonts.len())?;
-    let mut all_callers = Vec::with_capacity(alloc, fonts.len())?;
+    let mut callers = Vec::with_capacity(alloc, fonts.len())?;
     'fonts: for font in fonts {
         font.proof_is_font();
-        let (states, callers) = states_and_callers(alloc, font)?;
-        all_states.push(states)?;
-        all_callers.push(callers)?;
+        callers.push(callers_of(alloc, font)?)?;
     }
-    Ok((all_states, all_callers))
+    Ok(callers)
+}
+
+/// The joined states of fonts, one or more, where they have a join. The states of each font are made as it is joined, so that
+/// those of a few alone take memory at a time.
+fn join_states_of<'t, 'a>(
+    alloc: Global,
+    callers: &[Callers<'t, 'a>],
+) -> Result<Option<States<'t, 'a>>, AllocError>
+    requires some { 0 < length callers.now }
+    requires noted { AreNoted callers.now }
+    ensures { IfOk result (λ o.
+        IsJoinOf StatesJoin (map (states_of profile) (fonts_of callers.now)) o) }
+{
+    if callers.len() == 1 {
+        return Ok(Some(states_by(alloc, &callers[0])?));
+    }
+    let (front, back) = callers.split_at(callers.len() / 2);
+    let front = match join_states_of(alloc, front)? {
+        Some(front) => front,
+        None => return Ok(None),
+    };
+    let back = match join_states_of(alloc, back)? {
+        Some(back) => back,
+        None => return Ok(None),
+    };
+    if !front.agrees(&back) {
+        return Ok(None);
+    }
+    Ok(Some(front.join(alloc, &back)?))
+}
+
+/// Whether the states of fonts, one or more, have a join, which is not made.
+pub(crate) fn states_have_join(
+    alloc: Global,
+    callers: &[Callers<'_, '_>],
+) -> Result<bool, AllocError>
+    requires some { 0 < length callers.now }
+    requires noted { AreNoted callers.now }
+    ensures { IfOk result
+        (HaveJoin StatesJoin (map (states_of profile) (fonts_of callers.now))) }
+{
+    if callers.len() == 1 {
+        return Ok(true);
+    }
+    let (front, back) = callers.split_at(callers.len() / 2);
+    let front = match join_states_of(alloc, front)? {
+        Some(front) => front,
+        None => return Ok(false),
+    };
+    let back = match join_states_of(alloc, back)? {
+        Some(back) => back,
+        None => return Ok(false),
+    };
+    Ok(front.agrees(&back))
 }
 
 /// A copy of a font, which is its join with itself.

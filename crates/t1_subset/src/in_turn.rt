@@ -1,6 +1,6 @@
 //! Why fonts don't merge: their states are joined from left to right, up to the first conflict.
 
-ghost use Rattle.std.specs.Prelude.{◌≡◌, ◌<◌, ◌⊎◌, IfOk, IfErr, List, length, unwrap_or, Some, None};
+ghost use Rattle.std.specs.Prelude.{◌≡◌, ◌<◌, ◌⊎◌, IfOk, IfErr, length};
 ghost use Rattle.t1_font.specs.FontValue.{FontValue};
 ghost use Rattle.t1_subset.specs.Profile.{profile};
 ghost use Rattle.t1_subset.specs.StateTables.{StatesAgree, StatesJoin, states_of};
@@ -8,14 +8,17 @@ ghost use Rattle.t1_subset.specs.States.{Join, joined_font};
 ghost use Rattle.t1_subset.specs.Conflicts.{conflict};
 ghost use Rattle.t1_subset.specs.Clashes.{AreStatesOf, AreCallers};
 ghost use Rattle.t1_subset.specs.Refusals.{Tells};
-ghost use Rattle.t1_subset.specs.Merger.{AreNoted, EachGroupingMerges, IsRefused};
+ghost use Rattle.t1_subset.specs.Callers.{AreCallersOf, AreNoted, fonts_of};
+ghost use Rattle.t1_subset.specs.Merger.{EachGroupingMerges, IsRefused};
 
 use crate::callers::Callers;
 use crate::conflict::Conflict;
+use crate::groupings::states_have_join;
 use crate::searches::states_conflict;
+use crate::state_making::states_by;
 use crate::state_value::States;
 use std::alloc::Global;
-use t1_join::{Join, have_join};
+use t1_join::Join;
 
 /// The joined states of two fonts. Where shells and states have no conflict, the limits are all that refuses them.
 fn join_states<'t, 'a>(
@@ -41,7 +44,7 @@ fn join_next<'t, 'a>(
     alloc: Global,
     left: &States<'t, 'a>,
     right: &States<'t, 'a>,
-    callers: &[Callers<'_>],
+    callers: &[Callers<'_, '_>],
 ) -> Result<States<'t, 'a>, Conflict>
     ensures ok { (f g : FontValue)
         → AreStatesOf left.now right.now f g
@@ -58,63 +61,49 @@ fn join_next<'t, 'a>(
     join_states(alloc, left, right)
 }
 
-/// The states that are joined so far, or the first where nothing is joined yet.
-fn latest<'l, 't, 'a>(
-    all: &'l Option<States<'t, 'a>>,
-    first: &'l States<'t, 'a>,
-) -> &'l States<'t, 'a>
-    ensures { result.now ≡ unwrap_or all.now first.now }
+/// The states of a font, by its callers.
+pub(crate) fn states_of_font<'t, 'a>(
+    alloc: Global,
+    callers: &Callers<'t, 'a>,
+) -> Result<States<'t, 'a>, Conflict>
+    requires { AreCallersOf callers.now callers.now.font.now }
+    ensures ok { IfOk result (λ s. s ≡ states_of profile callers.now.font.now) }
+    ensures err { IfErr result (λ e. e ≡ Conflict.Memory) }
 {
-    match all {
-        Some(all) => all,
-        None => first,
+    match states_by(alloc, callers) {
+        Ok(states) => Ok(states),
+        Err(_) => Err(Conflict::Memory),
     }
 }
 
 /// The first conflict of fonts from left to right, if there is one.
-fn join_in_turn(
-    alloc: Global,
-    states: &[States<'_, '_>],
-    callers: &[Callers<'_>],
-) -> Result<(), Conflict>
-    requires some { 0 < length states.now }
-    requires callers { length callers.now ≡ length states.now }
-    ensures ok { (fs : List FontValue)
-        → AreNoted fs states.now callers.now
-        → IfOk result (λ _. EachGroupingMerges fs) }
-    ensures err { (fs : List FontValue)
-        → AreNoted fs states.now callers.now
-        → IfErr result (λ e. IsRefused fs e) }
+fn join_in_turn(alloc: Global, callers: &[Callers<'_, '_>]) -> Result<(), Conflict>
+    requires some { 0 < length callers.now }
+    requires noted { AreNoted callers.now }
+    ensures ok { IfOk result (λ _. EachGroupingMerges (fonts_of callers.now)) }
+    ensures err { IfErr result (λ e. IsRefused (fonts_of callers.now) e) }
 {
-    let mut all = None;
-    'rest: for place in 1..states.len() {
-        let left = latest(&all, &states[0]);
-        match join_next(alloc, left, &states[place], &callers[..place + 1]) {
-            Ok(more) => all = Some(more),
+    let mut all = states_of_font(alloc, &callers[0])?;
+    'rest: for place in 1..callers.len() {
+        let next = states_of_font(alloc, &callers[place])?;
+        match join_next(alloc, &all, &next, &callers[..place + 1]) {
+            Ok(more) => all = more,
             Err(conflict) => return Err(conflict),
         }
     }
     Ok(())
 }
 
-/// Whether fonts merge, one or more, by the states and callers of each; else the first conflict from left to right.
-pub(crate) fn all_join(
-    alloc: Global,
-    states: &[States<'_, '_>],
-    callers: &[Callers<'_>],
-) -> Result<(), Conflict>
-    requires some { 0 < length states.now }
-    requires callers { length callers.now ≡ length states.now }
-    ensures ok { (fs : List FontValue)
-        → AreNoted fs states.now callers.now
-        → IfOk result (λ _. EachGroupingMerges fs) }
-    ensures err { (fs : List FontValue)
-        → AreNoted fs states.now callers.now
-        → IfErr result (λ e. IsRefused fs e) }
+/// Whether fonts merge, one or more, by the callers of each; else the first conflict from left to right.
+pub(crate) fn all_join(alloc: Global, callers: &[Callers<'_, '_>]) -> Result<(), Conflict>
+    requires some { 0 < length callers.now }
+    requires noted { AreNoted callers.now }
+    ensures ok { IfOk result (λ _. EachGroupingMerges (fonts_of callers.now)) }
+    ensures err { IfErr result (λ e. IsRefused (fonts_of callers.now) e) }
 {
-    match have_join(alloc, states) {
+    match states_have_join(alloc, callers) {
         Err(_) => Err(Conflict::Memory),
         Ok(true) => Ok(()),
-        Ok(false) => join_in_turn(alloc, states, callers),
+        Ok(false) => join_in_turn(alloc, callers),
     }
 }

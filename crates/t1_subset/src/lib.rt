@@ -33,6 +33,7 @@ mod state_making;
 mod state_value;
 mod subsets;
 mod tables;
+mod users;
 
 pub use closures::closure;
 pub use conflict::{Conflict, ShellPart};

@@ -4,17 +4,18 @@ ghost use Rattle.std.specs.Prelude.{◌≡◌, ◌<◌, length, IfOk, IfErr, Non
 ghost use Rattle.t1_subset.specs.Profile.{profile};
 ghost use Rattle.t1_subset.specs.States.{Join, joined_font};
 ghost use Rattle.t1_subset.specs.Conflicts.{conflict, states_conflict};
+ghost use Rattle.t1_font.specs.IsFont.{IsFont};
 ghost use Rattle.t1_subset.specs.Refusals.{Tells};
-ghost use Rattle.t1_subset.specs.Merger.{IsMerger, MergesItself, DrawsBoth, DrawsAll, AreNoted, ComesTo, IsRefused, AcceptsAllJoin, MergesInAnyOrder, MergesSubsets, MergesAllSubsets};
+ghost use Rattle.t1_subset.specs.Callers.{AreCallersOf, AreNoted, fonts_of};
+ghost use Rattle.t1_subset.specs.Merger.{IsMerger, MergesItself, DrawsBoth, DrawsAll, ComesTo, IsRefused, AcceptsAllJoin, MergesInAnyOrder, MergesSubsets, MergesAllSubsets};
 
 use crate::callers::Callers;
 use crate::conflict::Conflict;
 use crate::groupings::{made_of, note_fonts};
-use crate::in_turn::all_join;
+use crate::in_turn::{all_join, states_of_font};
 use crate::searches::states_conflict;
 use crate::shells::shell_conflict;
-use crate::state_making::states_and_callers;
-use crate::state_value::States;
+use crate::state_making::callers_of;
 use std::alloc::Global;
 use t1_font::{Font, PartsFault, join_parts};
 
@@ -49,6 +50,21 @@ fn one_shell(left: &Font<'_>, right: &Font<'_>) -> Result<(), Conflict>
     }
 }
 
+/// The lowest conflict of two fonts' shells and states, by their callers, or want of memory.
+fn conflict_by(alloc: Global, own: Callers<'_, '_>, other: Callers<'_, '_>) -> Result<(), Conflict>
+    requires fonts { IsFont own.font.now × IsFont other.font.now }
+    requires own { AreCallersOf own own.font.now }
+    requires other { AreCallersOf other other.font.now }
+    ensures ok { IfOk result (λ _.
+        states_conflict profile own.entry.font.now other.entry.font.now ≡ None) }
+    ensures err { IfErr result (λ e.
+        Tells e (states_conflict profile own.entry.font.now other.entry.font.now)) }
+{
+    let own_states = states_of_font(alloc, &own)?;
+    let other_states = states_of_font(alloc, &other)?;
+    states_conflict(alloc, &own_states, &other_states, &[own, other])
+}
+
 /// The join of two fonts, or their lowest conflict. Where their shells differ, no glyph is run.
 fn merge_two<'a>(alloc: Global, left: &Font<'a>, right: &Font<'a>) -> Result<Font<'a>, Conflict>
     ensures ok { IfOk result (λ j. Join profile left.now right.now
@@ -60,34 +76,33 @@ fn merge_two<'a>(alloc: Global, left: &Font<'a>, right: &Font<'a>) -> Result<Fon
     }
     left.proof_is_font();
     right.proof_is_font();
-    let Ok((own, own_callers)) = states_and_callers(alloc, left) else {
+    let Ok(own) = callers_of(alloc, left) else {
         return Err(Conflict::Memory);
     };
-    let Ok((other, other_callers)) = states_and_callers(alloc, right) else {
+    let Ok(other) = callers_of(alloc, right) else {
         return Err(Conflict::Memory);
     };
-    if let Err(conflict) = states_conflict(alloc, &own, &other, &[own_callers, other_callers]) {
+    if let Err(conflict) = conflict_by(alloc, own, other) {
         return Err(conflict);
     }
     both(alloc, left, right)
 }
 
-/// The join of fonts, one or more, by the states and callers of each, which are let go before it is made.
-fn all_merged<'a>(
+/// The join of fonts, one or more, by the callers of each, which are let go before it is made.
+fn merge_noted<'a>(
     alloc: Global,
     fonts: &[Font<'a>],
-    states: Vec<States<'_, '_>>,
-    callers: Vec<Callers<'_>>,
+    callers: Vec<Callers<'_, '_>>,
 ) -> Result<Font<'a>, Conflict>
     requires some { 0 < length fonts.now }
-    requires noted { AreNoted fonts.now states.items callers.items }
+    requires fonts { fonts_of callers.items ≡ fonts.now }
+    requires noted { AreNoted callers.items }
     ensures ok { IfOk result (λ j. ComesTo fonts.now j) }
     ensures err { IfErr result (λ e. IsRefused fonts.now e) }
 {
-    if let Err(conflict) = all_join(alloc, states.as_slice(), callers.as_slice()) {
+    if let Err(conflict) = all_join(alloc, callers.as_slice()) {
         return Err(conflict);
     }
-    drop(states);
     drop(callers);
     made_of(alloc, fonts)
 }
@@ -134,7 +149,7 @@ pub fn merge_all<'a>(alloc: Global, fonts: &[Font<'a>]) -> Result<Font<'a>, Conf
         return Err(Conflict::Empty);
     }
     match note_fonts(alloc, fonts) {
-        Ok((states, callers)) => all_merged(alloc, fonts, states, callers),
+        Ok(callers) => merge_noted(alloc, fonts, callers),
         Err(_) => Err(Conflict::Memory),
     }
 }

@@ -5,10 +5,10 @@ ghost use Rattle.std.specs.Option.{option_map, unwrap_or};
 ghost use Rattle.t1_font.specs.FontValue.{FontValue};
 ghost use Rattle.t1_font.specs.IsFont.{IsFont};
 ghost use Rattle.t1_subset.specs.Profile.{profile};
-ghost use Rattle.t1_subset.specs.StateTables.{numbered, code_states, used_subrs};
+ghost use Rattle.t1_subset.specs.StateTables.{numbered, code_states, used_subrs, behind_mark};
 ghost use Rattle.t1_subset.specs.NameStates.{state_meaning};
 ghost use Rattle.t1_subset.specs.Conflicts.{GlyphDiffers, LacksComponent, SubrDiffers, code_conflict, subr_conflict, states_conflict};
-ghost use Rattle.t1_subset.specs.Clashes.{charstring_in, is_sought_in, charstrings_differ, one_lacks, first_clash, AreStatesOf, AreCallers, entries_conflict, uses_conflict};
+ghost use Rattle.t1_subset.specs.Clashes.{is_sought_in, charstrings_differ, one_lacks, first_clash, AreStatesOf, AreCallers, entries_conflict, uses_conflict};
 ghost use Rattle.t1_subset.specs.Refusals.{Tells};
 
 use crate::callers::{Callers, seeker, user};
@@ -22,7 +22,7 @@ use t1_join::Table;
 /// The charstring of a name, where its state is one.
 fn charstring<'a>(state: Option<&NameState<'a>>) -> Option<&'a [u8]>
     ensures { option_map (λ c. c.now) result
-        ≡ charstring_in (option_map (λ s. state_meaning s.now) state.entry) }
+        ≡ behind_mark (option_map (λ s. state_meaning s.now) state.entry) }
 {
     match state {
         Some(NameState::Charstring(charstring)) => Some(*charstring),
@@ -190,7 +190,7 @@ fn uses_conflict(
     alloc: Global,
     left: &States<'_, '_>,
     right: &States<'_, '_>,
-    callers: &[Callers<'_>],
+    callers: &[Callers<'_, '_>],
 ) -> Result<(), Conflict>
     ensures ok { (f g : FontValue)
         → AreStatesOf left.now right.now f g
@@ -214,7 +214,7 @@ pub(crate) fn states_conflict(
     alloc: Global,
     left: &States<'_, '_>,
     right: &States<'_, '_>,
-    callers: &[Callers<'_>],
+    callers: &[Callers<'_, '_>],
 ) -> Result<(), Conflict>
     ensures ok { (f g : FontValue)
         → AreStatesOf left.now right.now f g

@@ -1,22 +1,21 @@
 //! The making of states: one run of each glyph.
 
-ghost use Rattle.std.specs.Prelude.{◌≡◌, ◌<◌, ℕ, List, IfOk};
+ghost use Rattle.std.specs.Prelude.{◌≡◌, ℕ, List, IfOk};
 ghost use Rattle.std.specs.Option.{option_map};
 ghost use Rattle.std.specs.FinMap as maps;
-ghost use Rattle.t1_font.specs.FontValue.{declared_count};
 ghost use Rattle.t1_subset.specs.Profile.{profile};
 ghost use Rattle.t1_subset.specs.StateTables.{name_states, states_of};
-ghost use Rattle.t1_subset.specs.Callers.{AreCallersOf, same_charstring, user_at, user_of, seeker_of};
+ghost use Rattle.t1_subset.specs.Callers.{AreCallersOf, same_charstring, seeker_of};
 
-use crate::callers::{Callers, Seekers, Users, note_seekers};
+use crate::callers::{Callers, Seekers, note_seekers};
 use crate::calls::run_of;
 use crate::name_states::{NameTable, add_sought};
 use crate::shells::same_bytes;
 use crate::state_value::States;
 use crate::tables::{code_table, glyph_states, subr_table};
+use crate::users::{no_users, note_users};
 use std::alloc::{AllocError, Global};
 use t1_font::Font;
-use t1_run::Subroutines;
 
 /// Whether a glyph has the charstring of the one before it, so that it executes and names the same.
 fn is_again(last: Option<&[u8]>, charstring: Option<&[u8]>) -> bool
@@ -32,10 +31,14 @@ fn is_again(last: Option<&[u8]>, charstring: Option<&[u8]>) -> bool
 
 /// Who executes which Subr of the font, and who names which component that it lacks. Each glyph is run once, and not
 /// where the one before it has the same charstring.
-fn callers_of<'a>(alloc: Global, font: &'a Font<'_>) -> Result<Callers<'a>, AllocError>
-    ensures { IfOk result (λ callers. AreCallersOf callers font.now) }
+pub(crate) fn callers_of<'t, 'a>(
+    alloc: Global,
+    font: &'t Font<'a>,
+) -> Result<Callers<'t, 'a>, AllocError>
+    ensures font { IfOk result (λ callers. callers.font.now ≡ font.now) }
+    ensures callers { IfOk result (λ callers. AreCallersOf callers font.now) }
 {
-    let mut users = Users::new(alloc, font.count())?;
+    let mut users = no_users(alloc, font)?;
     let mut seekers = Seekers::new(alloc);
     let mut last = None;
     'names: for name in font.names() {
@@ -44,11 +47,15 @@ fn callers_of<'a>(alloc: Global, font: &'a Font<'_>) -> Result<Callers<'a>, Allo
             continue;
         }
         let (components, calls) = run_of(alloc, font, name)?;
-        users.note_all(&calls, name);
+        note_users(&mut users, &calls, name)?;
         note_seekers(font, &mut seekers, components.as_slice(), name)?;
         last = charstring;
     }
-    Ok(Callers { users, seekers })
+    Ok(Callers {
+        font,
+        users,
+        seekers,
+    })
 }
 
 /// The states of a font's names, of which these are the seekers.
@@ -77,15 +84,15 @@ fn glyph_count(font: &Font<'_>) -> u64
     count
 }
 
-/// The states of a font, of which these are the callers.
-fn states_by<'t, 'a>(
+/// The states of a font, by its callers. No glyph is run.
+pub(crate) fn states_by<'t, 'a>(
     alloc: Global,
-    font: &'t Font<'a>,
-    callers: &Callers<'t>,
+    callers: &Callers<'t, 'a>,
 ) -> Result<States<'t, 'a>, AllocError>
-    requires { AreCallersOf callers.now font.now }
-    ensures { IfOk result (λ s. s ≡ states_of profile font.now) }
+    requires { AreCallersOf callers.now callers.now.font.now }
+    ensures { IfOk result (λ s. s ≡ states_of profile callers.now.font.now) }
 {
+    let font = callers.font;
     font.proof_is_font();
     Ok(States {
         shell: font,
@@ -97,23 +104,10 @@ fn states_by<'t, 'a>(
     })
 }
 
-/// The states of a font, and its callers. Each of its glyphs is run once.
-pub(crate) fn states_and_callers<'t, 'a>(
-    alloc: Global,
-    font: &'t Font<'a>,
-) -> Result<(States<'t, 'a>, Callers<'t>), AllocError>
-    ensures states { IfOk result (λ r. r.0 ≡ states_of profile font.now) }
-    ensures callers { IfOk result (λ r. AreCallersOf r.1 font.now) }
-{
-    let callers = callers_of(alloc, font)?;
-    let states = states_by(alloc, font, &callers)?;
-    Ok((states, callers))
-}
-
 /// The states of a font. Each of its glyphs is run once.
 pub fn states<'t, 'a>(alloc: Global, font: &'t Font<'a>) -> Result<States<'t, 'a>, AllocError>
     ensures { IfOk result (λ s. s ≡ states_of profile font.now) }
 {
-    let (states, _callers) = states_and_callers(alloc, font)?;
-    Ok(states)
+    let callers = callers_of(alloc, font)?;
+    states_by(alloc, &callers)
 }

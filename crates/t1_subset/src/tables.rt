@@ -1,17 +1,18 @@
 //! The states of a font's codes, glyphs and Subrs, as tables that join key by key.
 
-ghost use Rattle.std.specs.Prelude.{◌≡◌, ◌<◌, ℕ, Some, IfOk, OnOk};
+ghost use Rattle.std.specs.Prelude.{◌≡◌, ℕ, true, Some, IfOk, OnOk};
 ghost use Rattle.std.specs.Option.{option_map};
+ghost use Rattle.std.specs.FinMap as maps;
 ghost use Rattle.t1_font.specs.Maps.{map_values};
 ghost use Rattle.t1_subset.specs.Profile.{profile};
 ghost use Rattle.t1_subset.specs.StateTables.{numbered, name_meaning, code_states, used_subrs};
 ghost use Rattle.t1_subset.specs.NameStates.{state_meaning};
 ghost use Rattle.t1_subset.specs.Differences.{with_state, entry_state};
-ghost use Rattle.t1_font.specs.FontValue.{declared_count};
-ghost use Rattle.t1_subset.specs.Callers.{user_at, user_of};
+ghost use Rattle.t1_subset.specs.Users.{user_at};
+ghost use Rattle.t1_subset.specs.Callers.{user_of};
 
-use crate::callers::Users;
 use crate::name_states::{NameState, NameTable};
+use crate::users::{Users, user_in};
 use std::alloc::{AllocError, Global};
 use t1_font::{Font, STUB};
 use t1_join::{Kept, Key, Table};
@@ -21,7 +22,7 @@ use t1_run::{Glyphs, Subroutines};
 const SOUGHT_ROOM: usize = 149;
 
 /// Puts a state at a key, where there is one.
-fn put<K: Key + Drop, V: Kept + Drop>(
+pub(crate) fn put<K: Key + Drop, V: Kept + Drop>(
     table: &mut Table<K, V>,
     key: K,
     state: Option<V>,
@@ -94,17 +95,17 @@ pub(crate) fn subr_table<'a>(
     users: &Users<'_>,
 ) -> Result<Table<u16, &'a [u8]>, AllocError>
     requires { (i : ℕ)
-        → i < declared_count font.now.shell.subrs
+        → maps.contains_key font.now.subrs i ≡ true
         → user_at users.now i ≡ user_of font.now i }
     ensures { IfOk result (λ table. table ≡ numbered (used_subrs profile font.now)) }
 {
     font.proof_is_font();
-    let mut table = Table::with_capacity(alloc, font.count() as usize)?;
+    let mut table = Table::with_capacity(alloc, users.entries().count())?;
     'indices: for index in 0..font.count() {
         put(
             &mut table,
             index,
-            subr_state(font.get(index), users.get(index).is_some()),
+            subr_state(font.get(index), user_in(users, index).is_some()),
         )?;
     }
     Ok(table)

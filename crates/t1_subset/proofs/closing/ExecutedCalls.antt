@@ -44,23 +44,14 @@ state_there f i (Some c) h = refl
 clash_there : (f g : FontValue) (i : ℕ) → subr_clashes profile f g i ≡ true → maps.contains_key f.subrs i ≡ true
 clash_there f g i h = state_there f i (maps.get f.subrs i) (there_of (subr_state profile f i) (subr_state profile g i) h)
 
--- where two states clash, both fonts declare the index
+-- where two states clash, both fonts have the index
 clash_back : (x y : Option (List ℕ)) → not (agrees x y) ≡ true → is_some y ≡ true
 clash_back None y h = absurd (true≢false (sym h))
 clash_back (Some v) None h = absurd (true≢false (sym h))
 clash_back (Some v) (Some w) h = refl
 
-declared : (f : FontValue) → IsFont f → (i : ℕ) → maps.contains_key f.subrs i ≡ true → i < declared_count f.shell.subrs
-declared f h i t = elim (is_or_not (nat_lt i (declared_count f.shell.subrs))) [
-  | inl a ↦ ltb-true i (declared_count f.shell.subrs) a
-  | inr a ↦ absurd (true≢false (sym t ∙ ap is_some (absent_beyond f h i (ltb-false i (declared_count f.shell.subrs) a))))
-]
-
-pub clash_declared : (f g : FontValue) → IsFont f → IsFont g → (i : ℕ) → subr_clashes profile f g i ≡ true → (i < declared_count f.shell.subrs) × (i < declared_count g.shell.subrs)
-clash_declared f g h k i c = (
-  declared f h i (clash_there f g i c),
-  declared g k i (state_there g i (maps.get g.subrs i) (clash_back (subr_state profile f i) (subr_state profile g i) c)),
-)
+pub clash_in_both : (f g : FontValue) (i : ℕ) → subr_clashes profile f g i ≡ true → (maps.contains_key f.subrs i ≡ true) × (maps.contains_key g.subrs i ≡ true)
+clash_in_both f g i c = (clash_there f g i c, state_there g i (maps.get g.subrs i) (clash_back (subr_state profile f i) (subr_state profile g i) c))
 
 pub first_subr : (f g : FontValue) (i : ℕ) → subr_clashes profile f g i ≡ true → ((k : ℕ) → k < i → subr_clashes profile f g k ≡ false) → Some i ≡ subr_conflict profile f g
 first_subr f g i h below = sym (smallest_is nat_cmp_total nat_cmp-IsAntisymmetric (subr_clashes profile f g) (keys_of_both f.subrs g.subrs) i

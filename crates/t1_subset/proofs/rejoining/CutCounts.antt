@@ -1,5 +1,5 @@
 -- What is kept and drawn in a font that is cut to its first Subrs.
-use Rattle.std.proofs.Common.{◌≡◌, ◌<◌, ℕ, nat_lt, Bool, true, false, cond, List, refl, sym, ◌∙◌, ap, inl, inr, Option, Some, None, is_some, filter, nat_cmp, arith}
+use Rattle.std.proofs.Common.{◌≡◌, ◌<◌, ℕ, nat_lt, true, false, cond, List, refl, sym, ◌∙◌, ap, inl, inr, Option, Some, None, is_some, filter}
 use Rattle.std.proofs.lemmas.Bool.{lt-ltb}
 use Rattle.std.specs.Cmp.{nat_cmp_total}
 use Rattle.std.specs.Cmp.Lexicographic.{nat_list_cmp_total}

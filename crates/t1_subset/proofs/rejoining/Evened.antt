@@ -1,5 +1,5 @@
 -- Fonts that are made even have all the Subrs that they had, so their glyphs stay drawn.
-use Rattle.std.proofs.Common.{◌≡◌, ◌<◌, ℕ, nat_lt, max, Bool, true, false, List, [], ◌∷◌, map, refl, sym, ◌∙◌, ap, Option, Some, None, option_map, cond, arith}
+use Rattle.std.proofs.Common.{◌≡◌, ◌<◌, ℕ, nat_lt, List, [], ◌∷◌, map, refl, ◌∙◌, ap, Option, Some, None, option_map, cond, arith}
 use Rattle.std.proofs.lemmas.Bool.{ltb-true, lt-ltb}
 use Rattle.std.specs.Cmp.{nat_cmp_total}
 use Rattle.std.specs.FinMap as maps
@@ -9,8 +9,7 @@ use Rattle.t1_run.specs.Growth.{Extends}
 use Rattle.t1_run.proofs.Grown.{runs_with_more, draws_with_more}
 use Rattle.t1_font.specs.FontValue.{FontValue, SubrsShell, Numbered, declared_count}
 use Rattle.t1_font.specs.FontModel.{subr_at}
-use Rattle.t1_font.specs.Evening.{raised, even, stubs_at, with_stubs, filled, largest_count, indices_of_all, evened_shells, evened}
-use Rattle.t1_font.proofs.MapLemmas.{Some_None}
+use Rattle.t1_font.specs.Evening.{raised, even, stubs_at, with_stubs, filled, largest_count, indices_of_all, evened_shells}
 use Rattle.t1_subset.specs.Evened.{StaysDrawn, subrs_of, AllStayDrawn, EachBeside, EvenedDraw}
 use Rattle.t1_subset.specs.States.{joined}
 use Rattle.t1_subset.proofs.CutFonts.{cond_some}

@@ -1,5 +1,5 @@
 -- Truncated subsets that are made even merge to the subset of all their names, cut to the largest count and without its tag.
-use Rattle.std.proofs.Common.{◌≡◌, ◌<◌, ◌≤◌, ℕ, nat_lt, nat_cmp, Bool, true, false, cond, List, [], ◌∷◌, ◌++◌, map, refl, sym, ◌∙◌, ap, subst, Option, Some, None, option_map, is_some, unwrap_or, inl, inr, arith, IsPermutation}
+use Rattle.std.proofs.Common.{◌≡◌, ◌≤◌, ℕ, nat_lt, nat_cmp, Bool, true, false, cond, List, [], ◌∷◌, map, refl, sym, ◌∙◌, ap, subst, Option, Some, None, option_map, is_some, unwrap_or, inl, inr, arith, IsPermutation}
 use Rattle.std.proofs.lemmas.Bool.{ltb-true, lt-ltb}
 use Rattle.std.specs.List.{list_any, AllByRecursion}
 use Rattle.std.specs.Cmp.{nat_cmp_total}
@@ -7,21 +7,21 @@ use Rattle.std.specs.Cmp.Lexicographic.{nat_list_cmp_total}
 use Rattle.std.specs.FinMap as maps
 use Rattle.std.specs.FinSet as sets
 use Rattle.std.specs.FinSet.{nat_cmp-IsAntisymmetric}
-use Rattle.t1_font.specs.FontValue.{FontValue, Shell, SubrsShell, Numbered, name_cmp, notdef, total, subr_weight, declared_count}
+use Rattle.t1_font.specs.FontValue.{FontValue, SubrsShell, Numbered, name_cmp, total, subr_weight, declared_count}
 use Rattle.t1_font.specs.IsFont.{IsFont, IsWord, IsPhrase, SubrsFit, SubrWords}
-use Rattle.t1_font.specs.Evening.{even, evened}
+use Rattle.t1_font.specs.Evening.{evened}
 use Rattle.t1_font.proofs.even_fonts.Evened.{even_is_font}
 use Rattle.t1_font.proofs.MapLemmas.{get-retain, find_first, total-le, Some_None}
-use Rattle.t1_subset.specs.Interpreter.{Interpreter, Names, Numbers, same_bytes}
-use Rattle.t1_subset.specs.Keep.{keep, kept, subset, has, charstring, components}
-use Rattle.t1_subset.specs.Outcomes.{component_outcome, seen, drawing}
+use Rattle.t1_subset.specs.Interpreter.{Names, Numbers, same_bytes}
+use Rattle.t1_subset.specs.Keep.{keep, kept, subset, components}
+use Rattle.t1_subset.specs.Outcomes.{seen}
 use Rattle.t1_subset.specs.Profile.{profile}
 use Rattle.t1_subset.specs.Laws.{IsOf, DrawsAlike}
-use Rattle.t1_subset.specs.Trees.{Tree, Leaf, leaves, left_tree, union_all, Merges}
+use Rattle.t1_subset.specs.Trees.{Tree, Leaf, leaves, left_tree}
 use Rattle.t1_subset.specs.Merger.{MergesTo}
 use Rattle.t1_subset.specs.Rejoins.{declares, cut_to, without_tag, Truncated, IsTruncated, fonts_of, sets_of, names_of_all, largest, shared_font, rejoined, Rejoins, TruncatedSubsetsRejoin}
 use Rattle.t1_subset.proofs.Alike.{subset_alike}
-use Rattle.t1_subset.proofs.rejoining.CutCounts.{KeepsBelow, keep_same, subrs_below, runs_below}
+use Rattle.t1_subset.proofs.rejoining.CutCounts.{KeepsBelow, keep_same, subrs_below}
 use Rattle.t1_subset.proofs.CutFonts.{cond_some}
 use Rattle.t1_subset.proofs.Drawings.{seen_alike}
 use Rattle.t1_subset.proofs.Fonts.{subset_is_font, any_order_of_fonts}
@@ -30,7 +30,7 @@ use Rattle.t1_subset.proofs.ListMergers.{alike_trans, each_font}
 use Rattle.t1_subset.proofs.ManyMerges.{all_merge, left_leaves}
 use Rattle.t1_subset.proofs.Pictures.{runs_by_rules, pictures_alike, pictures3_alike}
 use Rattle.t1_subset.proofs.Sets.{clash, in_union, name_same}
-use Rattle.t1_subset.proofs.rejoining.Truncated.{WordsOf, words_of, words_empty, get_nothing, get_font, largest_fits, all_fit, Fits, keeps, none_either_way, cut_subset, evened_is}
+use Rattle.t1_subset.proofs.rejoining.Truncated.{WordsOf, words_empty, get_nothing, get_font, largest_fits, all_fit, Fits, keeps, none_either_way, cut_subset, evened_is}
 
 -- ---- tables without entries
 

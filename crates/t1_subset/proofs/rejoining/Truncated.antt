@@ -1,7 +1,7 @@
 -- Truncated subsets that are made even are subsets of one font.
-use Rattle.std.proofs.Common.{◌≡◌, ◌<◌, ◌≤◌, ℕ, max, nat_lt, nat_cmp, Bool, true, false, ◌||◌, cond, List, [], ◌∷◌, ◌++◌, map, length, refl, sym, ◌∙◌, ap, subst, Option, Some, None, option_map, is_some, inl, inr, arith, filter}
+use Rattle.std.proofs.Common.{◌≡◌, ◌<◌, ◌≤◌, ℕ, max, nat_lt, nat_cmp, Bool, true, false, ◌||◌, cond, List, [], ◌∷◌, map, length, refl, sym, ◌∙◌, ap, subst, Option, Some, None, option_map, is_some, inl, inr, arith}
 use Rattle.std.proofs.lemmas.Bool.{ltb-true, ltb-false, lt-ltb, le-ltb}
-use Rattle.std.specs.List.{list_any, flat_map, AllByRecursion}
+use Rattle.std.specs.List.{list_any, AllByRecursion}
 use Rattle.std.specs.Ordering.{eq_by_cmp}
 use Rattle.std.specs.Cmp.{nat_cmp_total}
 use Rattle.std.specs.FinMap as maps
@@ -14,11 +14,11 @@ use Rattle.t1_font.specs.Cut.{stub, restrict_encoding}
 use Rattle.t1_font.specs.Evening.{raised, even_shell, even, stubs_at, below, with_stubs, filled, largest_count, indices_of_all, evened}
 use Rattle.t1_font.proofs.MapLemmas.{get-map_values, get-retain}
 use Rattle.t1_subset.specs.Interpreter.{Names, Numbers}
-use Rattle.t1_subset.specs.Keep.{keep, kept, subset, has}
+use Rattle.t1_subset.specs.Keep.{keep, kept, subset}
 use Rattle.t1_subset.specs.Profile.{profile}
 use Rattle.t1_subset.specs.States.{joined}
 use Rattle.t1_subset.specs.Laws.{IsOf}
-use Rattle.t1_subset.specs.Rejoins.{declares, cut_to, with_head, without_tag, Truncated, IsTruncated, fonts_of, sets_of, largest, shared_font}
+use Rattle.t1_subset.specs.Rejoins.{declares, cut_to, without_tag, Truncated, IsTruncated, fonts_of, sets_of, largest, shared_font}
 use Rattle.t1_subset.proofs.rejoining.CutCounts.{KeepsBelow, keep_same, kept_same}
 use Rattle.t1_subset.proofs.Maps.{get-merged, maps_same}
 use Rattle.t1_subset.proofs.Sets.{is_or_not, not_so, clash, any_append, any_append_left, any_append_right, any_filter, any_filter_from}

@@ -1,5 +1,5 @@
 -- Tables that are filled by number, from 0 on.
-use Rattle.std.proofs.Common.{◌≡◌, ℕ, ◌<◌, ◌≤◌, ◌+◌, Bool, true, false, cond, List, refl, sym, ◌∙◌, ap, subst, true≢false, Option, Some, None, nat_cmp, nat_lt, arith, inl, inr}
+use Rattle.std.proofs.Common.{◌≡◌, ℕ, ◌<◌, ◌≤◌, ◌+◌, Bool, true, false, cond, List, refl, sym, ◌∙◌, ap, subst, true≢false, Option, Some, None, is_some, nat_cmp, nat_lt, arith, inl, inr}
 use Rattle.std.proofs.lemmas.Bool.{ltb-true, ltb-false}
 use Rattle.std.specs.Ordering.{eq_by_cmp}
 use Rattle.std.specs.Cmp.{nat_cmp_total, both_ways}
@@ -86,9 +86,9 @@ pub codes_filled : (e : Encoding) (t : TableMeaning) (n : ℕ) → HasBelow t (c
 codes_filled (Word w) t n h far = has_all t (code_state (Word w)) n h far maps.empty (maps.get-empty nat_cmp) ∙ sym numbered-empty
 codes_filled (Codes s) t n h far = has_all t (code_state (Codes s)) n h far s (λ i. refl)
 
-pub entry_is : (f : FontValue) (i : ℕ) (x y : Option (List ℕ)) (b : Bool) → x ≡ y → b ≡ is_called profile f i → entry_state x b ≡ state_of_entry profile f i y
-entry_is f i x y b e h = (λ j. entry_state (e j) (h j)) ∙ at y
+pub entry_is : (f : FontValue) (i : ℕ) (x y : Option (List ℕ)) (b : Bool) → x ≡ y → (is_some y ≡ true → b ≡ is_called profile f i) → entry_state x b ≡ state_of_entry profile f i y
+entry_is f i x y b e h = ap (λ x. entry_state x b) e ∙ at y h
   where
-    at : (y : Option (List ℕ)) → entry_state y (is_called profile f i) ≡ state_of_entry profile f i y
-    at None = refl
-    at (Some c) = refl
+    at : (y : Option (List ℕ)) → (is_some y ≡ true → b ≡ is_called profile f i) → entry_state y b ≡ state_of_entry profile f i y
+    at None h = refl
+    at (Some c) h = ap (entry_state (Some c)) (h refl)

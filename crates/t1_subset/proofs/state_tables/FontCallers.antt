@@ -1,13 +1,13 @@
 -- The smallest glyphs that execute a Subr or seek a component: as the code notes them, and in a join.
-use Rattle.std.proofs.Common.{◌≡◌, ◌<◌, ℕ, zero, suc, replicate, Bool, true, false, not, cond, ◌&&◌, ◌||◌, List, [], ◌∷◌, ◌++◌, map, refl, sym, ◌∙◌, ap, subst, Option, Some, None, is_some, unwrap_or, true≢false}
+use Rattle.std.proofs.Common.{◌≡◌, ℕ, Bool, true, false, not, cond, ◌&&◌, ◌||◌, List, [], ◌∷◌, ◌++◌, map, refl, sym, ◌∙◌, ap, Option, Some, None, is_some, unwrap_or, true≢false}
 use Rattle.std.specs.List.{list_any, AllByRecursion}
 use Rattle.std.specs.Cmp.{nat_cmp_total}
 use Rattle.std.specs.Cmp.Lexicographic.{nat_list_cmp_total}
-use Rattle.std.specs.Borrow.{Bor}
 use Rattle.std.specs.FinMap as maps
 use Rattle.std.specs.FinSet as sets
+use Rattle.t1_join.specs.TableMeaning.{TableMeaning}
 use Rattle.t1_font.specs.Maps.{merged}
-use Rattle.t1_font.specs.FontValue.{FontValue, Named, Shell, name_cmp, declared_count}
+use Rattle.t1_font.specs.FontValue.{FontValue, Named, name_cmp}
 use Rattle.t1_font.specs.FontModel.{names_in}
 use Rattle.t1_font.proofs.MapLemmas.{entries_all, entries-map_values}
 use Rattle.t1_subset.specs.declared.callers.Callers.{Callers}
@@ -17,13 +17,14 @@ use Rattle.t1_subset.specs.Profile.{profile}
 use Rattle.t1_subset.specs.States.{Agree, joined, is_called, is_sought, state_of_glyph, joined_font, Compatible}
 use Rattle.t1_subset.specs.Conflicts.{first_where, smallest, members, keys_of_both, executes, executed_at, calls_for, called_at, wants, wanted_by, used_by, glyph_names}
 use Rattle.t1_subset.specs.Differences.{smaller}
-use Rattle.t1_subset.specs.Callers.{same_charstring, user_of, seeker_of, user_at, user_from, seeker_from, AreCallersOf}
+use Rattle.t1_subset.specs.Callers.{same_charstring, user_of, seeker_of, user_from, seeker_from, AreCallersOf}
+use Rattle.t1_subset.specs.Users.{user_at}
 use Rattle.t1_subset.specs.Clashes.{AreCallers}
 use Rattle.t1_subset.proofs.Flat.{agree_back}
 use Rattle.t1_subset.proofs.closing.ExecutedCalls.{calls_by, no_calls}
 use Rattle.t1_subset.proofs.closing.ProfileRuns.{no_components}
 use Rattle.t1_subset.proofs.state_tables.FirstNames.{smaller_first}
-use Rattle.t1_subset.proofs.JoinedStates.{glyph_in_join, glyph_agree, left_runs, right_runs}
+use Rattle.t1_subset.proofs.JoinedStates.{glyph_in_join, glyph_agree, present_joined, left_runs, right_runs}
 use Rattle.t1_subset.proofs.Conflicts.{sought}
 use Rattle.std.specs.Cmp.{second_so}
 use Rattle.t1_subset.proofs.Sets.{name_same, not_so, clash, tied}
@@ -67,11 +68,6 @@ module _ (p : List ℕ → Bool) where
   pub noted_last : (x goal : Option (List ℕ)) (names : List (List ℕ)) → names ≡ [] → joined x (first_where p names) ≡ goal → x ≡ goal
   noted_last x goal names none h = sym (joined_none x) ∙ ap (λ ns. joined x (first_where p ns)) (sym none) ∙ h
 
-pub no_user : (count q : ℕ) → user_at (replicate count None) q ≡ None
-no_user zero q = refl
-no_user (suc count) zero = refl
-no_user (suc count) (suc q) = no_user count q
-
 -- where the name passes something is noted already, so that noting it changes nothing
 pub known_already : (x : Option (List ℕ)) (b : Bool) (n : List ℕ) → (b ≡ true → is_some x ≡ true) → x ≡ joined x (cond b (Some n) None)
 known_already (Some m) b n h = refl
@@ -90,12 +86,12 @@ again_same (Some c) None h = absurd (true≢false (sym h))
 again_same (Some c) (Some d) h = ap Some (tied nat_list_cmp_total name_same c d h)
 
 -- a charstring is noted: the indices that it executes have users, and the components that it names, and that the font lacks, have seekers
-pub record IsNoted (f : FontValue) (users : List (Option (Bor (List ℕ)))) (seekers : List ℕ → Option (List ℕ)) (c : Option (List ℕ)) : Type 0 where
-  pub executed : (q : ℕ) → q < declared_count f.shell.subrs → executed_at profile f q c ≡ true → is_some (user_at users q) ≡ true
+pub record IsNoted (f : FontValue) (users : TableMeaning) (seekers : List ℕ → Option (List ℕ)) (c : Option (List ℕ)) : Type 0 where
+  pub executed : (q : ℕ) → maps.contains_key f.subrs q ≡ true → executed_at profile f q c ≡ true → is_some (user_at users q) ≡ true
   pub named : (p : List ℕ) → (not (has f p) && called_at profile f p c) ≡ true → is_some (seekers p) ≡ true
 
 -- no charstring is noted from the beginning
-pub nothing_noted : (f : FontValue) (users : List (Option (Bor (List ℕ)))) (seekers : List ℕ → Option (List ℕ)) → IsNoted f users seekers None
+pub nothing_noted : (f : FontValue) (users : TableMeaning) (seekers : List ℕ → Option (List ℕ)) → IsNoted f users seekers None
 nothing_noted f users seekers = record {
   executed = λ q l h. absurd (true≢false (sym h));
   named = λ p h. absurd (true≢false (sym (second_so (not (has f p)) false h)));
@@ -227,7 +223,7 @@ module _ (f g : FontValue) (c : Compatible profile f g) where
 
 -- the callers of fonts are together those of the font that they come to
 pub record CallersSoFar (cs : List Callers) (f : FontValue) : Type 0 where
-  pub users : (i : ℕ) → i < declared_count f.shell.subrs → user_from None cs i ≡ user_of f i
+  pub users : (i : ℕ) → maps.contains_key f.subrs i ≡ true → user_from None cs i ≡ user_of f i
   pub seekers : (p : List ℕ) → seeker_from None cs p ≡ seeker_of f p
 
 user_last : (best : Option (List ℕ)) (cs : List Callers) (c : Callers) (i : ℕ) → user_from best (cs ++ c ∷ []) i ≡ smaller name_cmp (user_from best cs i) (user_at c.users i)
@@ -242,7 +238,7 @@ pub first_callers : (c : Callers) (f : FontValue) → AreCallersOf c f → Calle
 first_callers c f h = record { users = h.users; seekers = h.seekers }
 
 module _ (f g : FontValue) (cs : List Callers) (d : Callers) (h : CallersSoFar cs f) (k : AreCallersOf d g) where
-  user_more : (i : ℕ) → i < declared_count f.shell.subrs → i < declared_count g.shell.subrs → user_from None (cs ++ d ∷ []) i ≡ smaller name_cmp (user_of f i) (user_of g i)
+  user_more : (i : ℕ) → maps.contains_key f.subrs i ≡ true → maps.contains_key g.subrs i ≡ true → user_from None (cs ++ d ∷ []) i ≡ smaller name_cmp (user_of f i) (user_of g i)
   user_more i l m = user_last None cs d i ∙ (λ t. smaller name_cmp (h.users i l t) (k.users i m t))
 
   seeker_more : (p : List ℕ) → seeker_from None (cs ++ d ∷ []) p ≡ smaller name_cmp (seeker_of f p) (seeker_of g p)
@@ -253,6 +249,6 @@ module _ (f g : FontValue) (cs : List Callers) (d : Callers) (h : CallersSoFar c
 
   pub more_callers : Compatible profile f g → CallersSoFar (cs ++ d ∷ []) (joined_font profile f g)
   more_callers c = record {
-    users = λ i l. user_more i l (subst (λ (s : Shell). i < declared_count s.subrs) c.shells l) ∙ sym (user_join f g c i);
+    users = λ i l. let there = sym (present_joined profile f g i) ∙ l in user_more i there (sym (c.present i) ∙ there) ∙ sym (user_join f g c i);
     seekers = λ p. seeker_more p ∙ sym (seeker_join f g c p);
   }

@@ -13,11 +13,11 @@ use Rattle.t1_font.proofs.MapLemmas.{entries_all}
 use Rattle.t1_subset.specs.Keep.{has}
 use Rattle.t1_subset.specs.Profile.{profile}
 use Rattle.t1_subset.specs.States.{is_sought, name_state, state_of_glyph}
-use Rattle.t1_subset.specs.StateTables.{name_states}
+use Rattle.t1_subset.specs.StateTables.{name_states, behind_mark}
 use Rattle.t1_subset.specs.Conflicts.{agrees, first_where, smallest, members, KeySet, glyph_names, glyph_clashes, glyph_conflict, component_clashes, component_conflict, wanted_by}
 use Rattle.t1_subset.specs.Differences.{smaller}
 use Rattle.t1_subset.specs.Callers.{seeker_of}
-use Rattle.t1_subset.specs.Clashes.{charstring_in, is_sought_in, charstrings_differ, one_lacks, first_clash}
+use Rattle.t1_subset.specs.Clashes.{is_sought_in, charstrings_differ, one_lacks, first_clash}
 use Rattle.t1_subset.proofs.Conflicts.{passes_none, in_both}
 use Rattle.t1_subset.proofs.state_tables.FirstConflicts.{there_of}
 use Rattle.t1_subset.proofs.state_tables.FirstNames.{nothing, no_lower, passing}
@@ -51,9 +51,9 @@ module _ (clashes : State → State → Bool) (s t : TableMeaning) (p : Meaning 
 
 -- ---- the state of a name
 
-charstring_at : (f : FontValue) (n : List ℕ) (x : Option (List ℕ)) → charstring_in (meant (state_of_glyph profile f n x)) ≡ x
+charstring_at : (f : FontValue) (n : List ℕ) (x : Option (List ℕ)) → behind_mark (meant (state_of_glyph profile f n x)) ≡ x
 charstring_at f n (Some c) = refl
-charstring_at f n None = elim (is_sought profile f n) as (λ b. charstring_in (meant (cond b (Some None) None)) ≡ None) [ true ↦ refl | false ↦ refl ]
+charstring_at f n None = elim (is_sought profile f n) as (λ b. behind_mark (meant (cond b (Some None) None)) ≡ None) [ true ↦ refl | false ↦ refl ]
 
 sought_at : (f : FontValue) (n : List ℕ) (x : Option (List ℕ)) → is_sought_in (meant (state_of_glyph profile f n x)) ≡ (not (is_some x) && is_sought profile f n)
 sought_at f n (Some c) = refl
@@ -66,11 +66,11 @@ module _ (f g : FontValue) (s t : TableMeaning) (es : s ≡ name_states profile 
   other : (n : List ℕ) → maps.get t n ≡ meant (name_state profile g n)
   other n = ap (λ (m : TableMeaning). maps.get m n) et ∙ get-names profile g n
 
-  own_charstring : (n : List ℕ) → charstring_in (maps.get s n) ≡ maps.get f.glyphs n
-  own_charstring n = ap charstring_in (own n) ∙ charstring_at f n (maps.get f.glyphs n)
+  own_charstring : (n : List ℕ) → behind_mark (maps.get s n) ≡ maps.get f.glyphs n
+  own_charstring n = ap behind_mark (own n) ∙ charstring_at f n (maps.get f.glyphs n)
 
-  other_charstring : (n : List ℕ) → charstring_in (maps.get t n) ≡ maps.get g.glyphs n
-  other_charstring n = ap charstring_in (other n) ∙ charstring_at g n (maps.get g.glyphs n)
+  other_charstring : (n : List ℕ) → behind_mark (maps.get t n) ≡ maps.get g.glyphs n
+  other_charstring n = ap behind_mark (other n) ∙ charstring_at g n (maps.get g.glyphs n)
 
   own_seeks : (n : List ℕ) → is_sought_in (maps.get s n) ≡ is_some (seeker_of f n)
   own_seeks n = ap is_sought_in (own n) ∙ sought_at f n (maps.get f.glyphs n) ∙ sym (sought_is f n)
@@ -78,7 +78,7 @@ module _ (f g : FontValue) (s t : TableMeaning) (es : s ≡ name_states profile 
   other_seeks : (n : List ℕ) → is_sought_in (maps.get t n) ≡ is_some (seeker_of g n)
   other_seeks n = ap is_sought_in (other n) ∙ sought_at g n (maps.get g.glyphs n) ∙ sym (sought_is g n)
 
-  there_so : (x : State) → is_some (charstring_in x) ≡ true → is_some x ≡ true
+  there_so : (x : State) → is_some (behind_mark x) ≡ true → is_some x ≡ true
   there_so None h = h
   there_so (Some v) h = refl
 

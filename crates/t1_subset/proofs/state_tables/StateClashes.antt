@@ -1,5 +1,5 @@
 -- The lowest conflict of two fonts, by their states.
-use Rattle.std.proofs.Common.{◌≡◌, ◌<◌, ℕ, Bool, true, false, not, cond, ◌&&◌, List, [], ◌∷◌, map, refl, sym, ◌∙◌, ap, Option, Some, None, is_some, unwrap_or}
+use Rattle.std.proofs.Common.{◌≡◌, ℕ, Bool, true, false, not, cond, ◌&&◌, List, [], ◌∷◌, map, refl, sym, ◌∙◌, ap, Option, Some, None, is_some, unwrap_or}
 use Rattle.std.specs.List.{list_all}
 use Rattle.std.specs.Cmp.{nat_cmp_total}
 use Rattle.std.specs.FinSet.{nat_cmp-IsAntisymmetric}
@@ -14,8 +14,7 @@ use Rattle.t1_subset.specs.Profile.{profile}
 use Rattle.t1_subset.specs.StateTables.{Shared, StatesValue, shared_of, code_states, name_states, used_subrs, numbered, states_of}
 use Rattle.t1_subset.specs.Conflicts.{ShellPart, Head, EncodingPart, ClearTail, Private, SubrsTable, SubrsWords, Middle, GlyphsWords, Tail, ShellDiffers, CodeDiffers, GlyphDiffers, LacksComponent, SubrDiffers, found, first_where, smallest, members, keys_of_both, same_number, same_bool, same_words, same_keys, same_kind, same_part, shell_conflict, code_conflict, glyph_conflict, component_conflict, subr_conflict, subr_clashes, wanted_by, used_by, glyph_names}
 use Rattle.t1_subset.specs.Clashes.{entries_conflict, uses_conflict}
-use Rattle.t1_font.specs.IsFont.{IsFont}
-use Rattle.t1_subset.proofs.closing.ExecutedCalls.{clash_declared}
+use Rattle.t1_subset.proofs.closing.ExecutedCalls.{clash_in_both}
 use Rattle.t1_subset.proofs.state_tables.FontStates.{shared_to}
 
 -- ---- shells, by what is shared
@@ -108,10 +107,10 @@ module _ (f g : FontValue) where
   uses_subr x c h = λ i. found (λ p. LacksComponent (unwrap_or (smallest (wanted_by profile f g p) (glyph_names f g)) []) p) (c i)
       (found (λ i. SubrDiffers i (smallest (used_by profile f g i) (glyph_names f g))) (h i) None)
 
--- both fonts declare the index at which their states clash
+-- both fonts have the index at which their states clash
 module _ (f g : FontValue) where
-  pub subr_clashing : IsFont f → IsFont g → (i : ℕ) → Some i ≡ subr_conflict profile f g → (i < declared_count f.shell.subrs) × (i < declared_count g.shell.subrs)
-  subr_clashing h k i is = clash_declared f g h k i (passing_first (subr_clashes profile f g) (members (keys_of_both f.subrs g.subrs)) i (sym is))
+  pub subr_clashing : (i : ℕ) → Some i ≡ subr_conflict profile f g → (maps.contains_key f.subrs i ≡ true) × (maps.contains_key g.subrs i ≡ true)
+  subr_clashing i is = clash_in_both f g i (passing_first (subr_clashes profile f g) (members (keys_of_both f.subrs g.subrs)) i (sym is))
     where
       same_Some : (x y : ℕ) → ◌≡◌ {A = Option ℕ} (Some x) (Some y) → x ≡ y
       same_Some x y e = cc

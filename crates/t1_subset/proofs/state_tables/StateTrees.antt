@@ -1,21 +1,25 @@
 -- Merges of fonts are joins of their states.
-use Rattle.std.proofs.Common.{◌≡◌, ◌<◌, List, [], ◌∷◌, ◌++◌, map, length, get_or, refl, sym, ◌∙◌, ap, subst, arith, inl, Bool, true, false, option_map, Option, Some, None, Contains, Result, Ok, Err, IfOk, IfErr, IsPermutation}
-use Rattle.std.proofs.lemmas.List.{map-append}
+use Rattle.std.proofs.Common.{◌≡◌, ◌<◌, ◌↔◌, true≢false, List, [], ◌∷◌, ◌++◌, map, length, get_or, refl, sym, ◌∙◌, ap, subst, arith, inl, Bool, true, false, Option, Some, None, Contains, Result, Ok, Err, IfOk, IfErr, IsPermutation}
+use Rattle.std.proofs.lemmas.List.{map-append, length-map}
 use Rattle.std.proofs.lemmas.List.Sorted.{IsPermutation-refl}
 use Rattle.std.specs.List.{AllByRecursion}
 use Rattle.t1_join.specs.Groupings.{Grouping, one, two, Uses, Gives, IsJoinOf, HaveJoin}
 use Rattle.t1_join.specs.Groupings.{leaves as values}
+use Rattle.t1_join.proofs.OrderLemmas.{only_itself, none_of_front, none_of_back, halves_apart}
+use Rattle.t1_join.proofs.OrderLemmas.{halves_join as joined_halves}
 use Rattle.t1_font.specs.FontValue.{FontValue}
 use Rattle.t1_font.specs.IsFont.{IsFont}
+use Rattle.t1_subset.specs.declared.callers.Callers.{Callers}
 use Rattle.t1_subset.specs.declared.conflict.Conflict.{Conflict as Refusal}
 use Rattle.t1_subset.specs.declared.conflict.Conflict.TheVariants.{Memory}
+use Rattle.t1_subset.specs.Callers.{fonts_of}
 use Rattle.t1_subset.specs.Conflicts.{states_conflict, conflict}
 use Rattle.t1_subset.specs.Interpreter.{Interpreter}
 use Rattle.t1_subset.specs.Profile.{profile}
 use Rattle.t1_subset.specs.Refusals.{Tells}
 use Rattle.t1_subset.specs.States.{IsWithin, Join, joined_font}
 use Rattle.t1_subset.specs.StateLaws.{states_laws}
-use Rattle.t1_subset.specs.StateTables.{StatesValue, StatesJoin, states_of}
+use Rattle.t1_subset.specs.StateTables.{StatesValue, StatesAgree, StatesJoin, states_of}
 use Rattle.t1_subset.specs.Trees.{Tree, Leaf, Both, EachLeaf, leaves, left_tree, Merges}
 use Rattle.t1_subset.specs.Merger.{EachGroupingMerges, SomeGroupingMerges, ComesTo, IsRefused}
 use Rattle.t1_subset.proofs.Conflicts.{no_conflict, no_states_conflict}
@@ -105,7 +109,7 @@ module _ (fs front back : List FontValue) (h : EachGroupingMerges fs) (e : front
     merged_err (Ok j) h = tt
     merged_err (Err c) h = halves_refuse c h
 
-lone : (fs : List FontValue) (d : FontValue) → length fs ≡ 1 → get_or fs 0 d ∷ [] ≡ fs
+lone : {X : Type 0} (fs : List X) (d : X) → length fs ≡ 1 → get_or fs 0 d ∷ [] ≡ fs
 lone [] d l = absurd (omega arith)
 lone (f ∷ []) d l = refl
 lone (f ∷ g ∷ fs) d l = absurd (omega arith)
@@ -150,15 +154,45 @@ refused_err fs l (Err c) h = refused_memory fs l c h
 
 -- ---- the states of each font
 
-map_same : (xs : List StatesValue) → map (λ (x : StatesValue). x) xs ≡ xs
-map_same [] = refl
-map_same (x ∷ xs) = ap (λ (ys : List StatesValue). x ∷ ys) (map_same xs)
+-- where the states of fonts have a join each grouping of the fonts merges
+pub have_groupings : (fs : List FontValue) → AllByRecursion IsFont fs → (b : Bool) → b ≡ true → HaveJoin StatesJoin (map (states_of profile) fs) b → EachGroupingMerges fs
+have_groupings fs w true t h = each_grouping fs w h.0 h.1
+have_groupings fs w false t h = cc
 
--- what is joined of the states is joined in each grouping of the fonts
-pub joined_groupings : (fs : List FontValue) (all : List StatesValue) → all ≡ map (states_of profile) fs → AllByRecursion IsFont fs → (o : Option StatesValue) (v : StatesValue) → o ≡ Some v → IsJoinOf StatesJoin (map (λ (x : StatesValue). x) all) (option_map (λ (x : StatesValue). x) o) → EachGroupingMerges fs
-joined_groupings fs all e w o v is h = each_grouping fs w v (subst (λ (xs : List StatesValue). IsJoinOf StatesJoin xs (Some v)) (map_same all ∙ e) (subst (λ (o : Option StatesValue). IsJoinOf StatesJoin (map (λ (x : StatesValue). x) all) (option_map (λ (x : StatesValue). x) o)) is h))
+-- ---- the join of the states of a list by that of its halves
 
--- so where the states have a join each grouping of the fonts merges
-pub have_groupings : (fs : List FontValue) (all : List StatesValue) → all ≡ map (states_of profile) fs → AllByRecursion IsFont fs → (b : Bool) → b ≡ true → HaveJoin StatesJoin (map (λ (x : StatesValue). x) all) b → EachGroupingMerges fs
-have_groupings fs all e w true t h = joined_groupings fs all e w (Some h.0) h.0 refl h.1
-have_groupings fs all e w false t h = cc
+abbrev states : List Callers → List StatesValue
+states cs = map (states_of profile) (fonts_of cs)
+
+pub lone_state : (cs : List Callers) (c d : Callers) → length cs ≡ 1 → c ≡ get_or cs 0 d → (s : StatesValue) → s ≡ states_of profile c.font.now → IsJoinOf StatesJoin (states cs) (Some s)
+lone_state cs c d l e s is = only_itself states_laws (states_of profile c.font.now) s (states cs) (ap states (sym (lone cs d l) ∙ ap (λ (b : Callers). b ∷ []) (sym e)))
+    (subst (StatesJoin (states_of profile c.font.now) (states_of profile c.font.now)) (sym is) (states_laws.idempotent (states_of profile c.font.now)))
+
+module _ (cs front back : List Callers) (e : front ++ back ≡ cs) (p : 0 < length front) (q : 0 < length back) where
+  whole : states front ++ states back ≡ states cs
+  whole = sym (map-append (states_of profile) (fonts_of front) (fonts_of back)) ∙ ap (map (states_of profile)) (sym (map-append (λ (c : Callers). c.font.now) front back)) ∙ ap states e
+
+  counted : (ds : List Callers) → 0 < length ds → 0 < length (states ds)
+  counted ds l = let n = length-map (fonts_of ds) (states_of profile) in let m = length-map ds (λ (c : Callers). c.font.now) in omega (arith, n, m, l)
+
+  pub front_apart : (o : Option StatesValue) → o ≡ None → IsJoinOf StatesJoin (states front) o → IsJoinOf StatesJoin (states cs) None
+  front_apart o is h = none_of_front states_laws (states front) (states back) (states cs) whole (counted front p) (counted back q) (subst (IsJoinOf StatesJoin (states front)) is h)
+
+  pub back_apart : (o : Option StatesValue) → o ≡ None → IsJoinOf StatesJoin (states back) o → IsJoinOf StatesJoin (states cs) None
+  back_apart o is h = none_of_back states_laws (states front) (states back) (states cs) whole (counted front p) (counted back q) (subst (IsJoinOf StatesJoin (states back)) is h)
+
+  module _ (o n : Option StatesValue) (a b : StatesValue) (is_a : o ≡ Some a) (is_b : n ≡ Some b) (h : IsJoinOf StatesJoin (states front) o) (k : IsJoinOf StatesJoin (states back) n) where
+    pub both_apart : ¬ StatesAgree a b → IsJoinOf StatesJoin (states cs) None
+    both_apart apart = halves_apart states_laws (states front) (states back) (states cs) whole (counted front p) (counted back q) a b (subst (IsJoinOf StatesJoin (states front)) is_a h) (subst (IsJoinOf StatesJoin (states back)) is_b k) apart
+
+    pub both_joined : (z : StatesValue) → StatesJoin a b z → IsJoinOf StatesJoin (states cs) (Some z)
+    both_joined z j = joined_halves states_laws (states front) (states back) (states cs) whole (counted front p) (counted back q) a b (subst (IsJoinOf StatesJoin (states front)) is_a h) (subst (IsJoinOf StatesJoin (states back)) is_b k) z j
+
+    pub both_answered : (r : Bool) → (r ≡ true) ↔ StatesAgree a b → HaveJoin StatesJoin (states cs) r
+    both_answered true j = let z = states_laws.some_answer a b (j.0 refl) in (z.0, both_joined z.0 z.1)
+    both_answered false j = both_apart (λ h. absurd (true≢false (sym (j.1 h))))
+
+pub lone_answered : (cs : List Callers) → length cs ≡ 1 → HaveJoin StatesJoin (states cs) true
+lone_answered [] l = absurd (omega (arith, l))
+lone_answered (c ∷ []) l = (states_of profile c.font.now, lone_state (c ∷ []) c c refl refl (states_of profile c.font.now) refl)
+lone_answered (c ∷ d ∷ cs) l = absurd (omega (arith, l))

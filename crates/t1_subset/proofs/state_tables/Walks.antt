@@ -1,6 +1,6 @@
 -- Fonts from left to right, by their states and callers.
-use Rattle.std.proofs.Common.{◌≡◌, ◌<◌, ◌≤◌, ◌+◌, ℕ, zero, suc, inl, inr, ◌⊎◌, Bool, true, false, cond, List, [], ◌∷◌, ◌++◌, map, length, take, take_all, add-one, drop, get_or, refl, sym, ◌∙◌, ap, subst, arith, Some, None, Result, Ok, Err, IfOk, IfErr, IsPermutation}
-use Rattle.std.proofs.lemmas.List.{length-map, map-append, take_more}
+use Rattle.std.proofs.Common.{◌≡◌, ◌<◌, ◌≤◌, ◌+◌, ℕ, zero, suc, inl, inr, ◌⊎◌, Bool, true, false, cond, List, [], ◌∷◌, ◌++◌, length, take, take_all, drop, get_or, refl, sym, ◌∙◌, ap, subst, arith, Some, None, Result, Ok, Err, IfOk, IfErr, IsPermutation}
+use Rattle.std.proofs.lemmas.List.{length-map, map-append, take_more, take-append-drop}
 use Rattle.std.proofs.lemmas.List.Sorted.{IsPermutation-refl}
 use Rattle.std.specs.List.{AllByRecursion}
 use Rattle.t1_font.specs.FontValue.{FontValue}
@@ -14,13 +14,14 @@ use Rattle.t1_subset.specs.StateTables.{StatesValue, StatesAgree, StatesJoin, st
 use Rattle.t1_subset.specs.StateLaws.{states_laws}
 use Rattle.t1_subset.specs.Conflicts.{OverLimit, found, is_within, states_conflict, conflict}
 use Rattle.t1_subset.specs.Refusals.{Tells}
-use Rattle.t1_subset.specs.Callers.{AreCallersOf, AreCallersOfAll}
+use Rattle.t1_subset.specs.Callers.{AreCallersOf, AreNoted, fonts_of}
 use Rattle.t1_subset.specs.Clashes.{AreStatesOf, AreCallers}
 use Rattle.t1_subset.specs.Trees.{Tree, Leaf, leaves, left_tree, Merges}
-use Rattle.t1_subset.specs.Merger.{AreNoted, ComesTo, IsRefused, EachGroupingMerges}
+use Rattle.t1_subset.specs.Merger.{ComesTo, IsRefused, EachGroupingMerges}
 use Rattle.t1_subset.proofs.Conflicts.{no_conflict}
 use Rattle.t1_subset.proofs.state_tables.FontCallers.{CallersSoFar, first_callers, both_callers, more_callers}
 use Rattle.t1_subset.proofs.state_tables.FontStates.{join_exactly, states_join}
+use Rattle.t1_subset.proofs.closing.ClosureLists.{from_here}
 use Rattle.t1_subset.proofs.Fonts.{font_within, joined_is_font}
 use Rattle.t1_subset.proofs.ManyMerges.{left_snoc, left_leaves}
 use Rattle.t1_subset.proofs.Orders.{any_order, each_leaf, by_append}
@@ -51,10 +52,10 @@ tells_limit s t f g h free e (inr l) =
 
 -- ---- from left to right
 
--- the fonts before a place come to a font, of which these are the states; their callers are its callers
-pub record JoinedSoFar (before : List FontValue) (s : StatesValue) (cs : List Callers) : Type 0 where
+-- the fonts so far come to a font, of which these are the states; their callers are its callers
+pub record JoinedSoFar (cs : List Callers) (s : StatesValue) : Type 0 where
   pub font : FontValue
-  pub comes : ComesTo before font
+  pub comes : ComesTo (fonts_of cs) font
   pub is_font : IsFont font
   pub states : s ≡ states_of profile font
   pub callers : CallersSoFar cs font
@@ -78,134 +79,81 @@ each_merges (f ∷ fs) j w h t e =
 
 -- ---- what is noted of each font
 
--- what is noted of the font at a place
-pub record NotedAt (fs : List FontValue) (ss : List StatesValue) (cs : List Callers) (i : ℕ) : Type 0 where
-  pub font : FontValue
-  pub is_font : IsFont font
-  pub states : (d : StatesValue) → get_or ss i d ≡ states_of profile font
-  pub callers : Callers
-  pub of : AreCallersOf callers font
-  pub fonts_taken : take (suc i) fs ≡ take i fs ++ font ∷ []
-  pub callers_taken : take (suc i) cs ≡ take i cs ++ callers ∷ []
-  pub list : fs ≡ take i fs ++ font ∷ drop (suc i) fs
+pub all_fonts : (cs : List Callers) → AreNoted cs → AllByRecursion IsFont (fonts_of cs)
+all_fonts [] h = tt
+all_fonts (c ∷ cs) h = (h.0.0, all_fonts cs h.1)
 
-at_place : (fs : List FontValue) → AllByRecursion IsFont fs → (cs : List Callers) → AreCallersOfAll cs fs → (i : ℕ) → i < length fs → NotedAt fs (map (states_of profile) fs) cs i
-at_place [] w cs k i l = absurd (omega (arith, l))
-at_place (f ∷ fs) w [] k i l = absurd k
-at_place (f ∷ fs) w (c ∷ cs) k zero l = record {
-  font = f;
-  is_font = w.0;
-  states = λ d. refl;
-  callers = c;
-  of = k.0;
-  fonts_taken = refl;
-  callers_taken = refl;
-  list = refl;
-}
-at_place (f ∷ fs) w (c ∷ cs) k (suc i) l =
-    let r = at_place fs w.1 cs k.1 i (omega (arith, l)) in
-    record {
-      font = r.font;
-      is_font = r.is_font;
-      states = r.states;
-      callers = r.callers;
-      of = r.of;
-      fonts_taken = ap (λ t. f ∷ t) r.fonts_taken;
-      callers_taken = ap (λ t. c ∷ t) r.callers_taken;
-      list = ap (λ t. f ∷ t) r.list;
-    }
+pub noted_at : (cs : List Callers) → AreNoted cs → (i : ℕ) → i < length cs → (c : Callers) → c ≡ get_or cs i c → IsFont c.font.now × AreCallersOf c c.font.now
+noted_at cs h i l c e = subst (λ (d : Callers). IsFont d.font.now × AreCallersOf d d.font.now) (sym e) (at cs h i l)
+  where
+    at : (cs : List Callers) → AreNoted cs → (i : ℕ) → i < length cs → IsFont (get_or cs i c).font.now × AreCallersOf (get_or cs i c) (get_or cs i c).font.now
+    at [] h i l = absurd (omega (arith, l))
+    at (d ∷ cs) h zero l = h.0
+    at (d ∷ cs) h (suc i) l = at cs h.1 i (omega (arith, l))
 
-pub noted_at : (fs : List FontValue) (ss : List StatesValue) (cs : List Callers) → AreNoted fs ss cs → (i : ℕ) → i < length ss → NotedAt fs ss cs i
-noted_at fs ss cs h i l = subst (λ (ss : List StatesValue). NotedAt fs ss cs i) (sym h.states) (at_place fs h.fonts cs h.callers i (let n = ap length h.states ∙ length-map fs (states_of profile) in omega (arith, n, l)))
+noted_parts : (xs ys : List Callers) → AreNoted (xs ++ ys) → AreNoted xs × AreNoted ys
+noted_parts [] ys h = (tt, h)
+noted_parts (x ∷ xs) ys h = let r = noted_parts xs ys h.1 in ((h.0, r.0), r.1)
+
+-- what is noted of the fonts before a place and of those behind it
+pub noted_before : (cs : List Callers) → AreNoted cs → (i : ℕ) → AreNoted (take i cs)
+noted_before cs h i = (noted_parts (take i cs) (drop i cs) (subst AreNoted (sym (take-append-drop i cs)) h)).0
+
+pub noted_behind : (cs : List Callers) → AreNoted cs → (i : ℕ) → AreNoted (drop i cs)
+noted_behind cs h i = (noted_parts (take i cs) (drop i cs) (subst AreNoted (sym (take-append-drop i cs)) h)).1
 
 -- ---- a step of the walk
 
-module _ (fs : List FontValue) (ss : List StatesValue) (cs : List Callers) (h : AreNoted fs ss cs) where
-  pub starts : (d : StatesValue) → 0 < length ss → JoinedSoFar (take 1 fs) (get_or ss 0 d) (take 1 cs)
-  starts d l =
-      let r = noted_at fs ss cs h 0 l in
-      record {
-        font = r.font;
-        comes = subst (λ t. ComesTo t r.font) (sym r.fonts_taken) refl;
-        is_font = r.is_font;
-        states = r.states d;
-        callers = subst (λ t. CallersSoFar t r.font) (sym r.callers_taken) (first_callers r.callers r.font r.of);
-      }
+pub starts : (cs : List Callers) → AreNoted cs → (c : Callers) → c ≡ get_or cs 0 c → 0 < length cs → (s : StatesValue) → s ≡ states_of profile c.font.now → JoinedSoFar (take 1 cs) s
+starts cs h c e l s k =
+    let noted = noted_at cs h 0 l c e in
+    subst (λ (ds : List Callers). JoinedSoFar ds s) (sym (take_more cs 0 c l ∙ ap (λ (d : Callers). d ∷ []) (sym e)))
+    (record { font = c.font.now; comes = refl; is_font = noted.0; states = k; callers = first_callers c c.font.now noted.1 })
 
-  module _ (i : ℕ) (l : i < length ss) (s t : StatesValue) (d : StatesValue) (e : t ≡ get_or ss i d) (far : JoinedSoFar (take i fs) s (take i cs)) where
-    abbrev pub at : NotedAt fs ss cs i
-    at = noted_at fs ss cs h i l
+module _ (cs : List Callers) (h : AreNoted cs) (i : ℕ) (l : i < length cs) (c : Callers) (e : c ≡ get_or cs i c) (s t : StatesValue) (k : t ≡ states_of profile c.font.now) (far : JoinedSoFar (take i cs) s) where
+  next : take (i + 1) cs ≡ take i cs ++ c ∷ []
+  next = take_more cs i c l ∙ ap (λ (d : Callers). take i cs ++ d ∷ []) (sym e)
 
-    pub next_states : AreStatesOf s t far.font at.font
-    next_states = record { own_font = far.is_font; other_font = at.is_font; own = far.states; other = e ∙ at.states d }
+  pub next_states : AreStatesOf s t far.font c.font.now
+  next_states = record { own_font = far.is_font; other_font = (noted_at cs h i l c e).0; own = far.states; other = k }
 
-    fonts_next : take (i + 1) fs ≡ take i fs ++ at.font ∷ []
-    fonts_next = ap (λ n. take n fs) (add-one i) ∙ at.fonts_taken
+  pub next_callers : (ds : List Callers) → ds ≡ take (i + 1) cs → AreCallers ds far.font c.font.now
+  next_callers ds is = subst (λ (ds : List Callers). AreCallers ds far.font c.font.now) (sym (is ∙ next)) (both_callers far.font c.font.now (take i cs) c far.callers (noted_at cs h i l c e).1)
 
-    callers_next : take (i + 1) cs ≡ take i cs ++ at.callers ∷ []
-    callers_next = ap (λ n. take n cs) (add-one i) ∙ at.callers_taken
+  pub goes_on : (z : StatesValue) → Join profile far.font c.font.now × (z ≡ states_of profile (joined_font profile far.font c.font.now)) → JoinedSoFar (take (i + 1) cs) z
+  goes_on z j =
+      let both = joined_font profile far.font c.font.now in
+      subst (λ (ds : List Callers). JoinedSoFar ds z) (sym next) (record {
+        font = both;
+        comes = subst (λ (fs : List FontValue). ComesTo fs both) (sym (map-append _ (take i cs) (c ∷ []))) (comes_last (fonts_of (take i cs)) c.font.now far.font far.comes j.0);
+        is_font = joined_is_font profile far.font c.font.now far.is_font (noted_at cs h i l c e).0 j.0;
+        states = j.1;
+        callers = more_callers far.font c.font.now (take i cs) c far.callers (noted_at cs h i l c e).1 j.0.states;
+      })
 
-    pub next_callers : (ds : List Callers) → ds ≡ take (i + 1) cs → AreCallers ds far.font at.font
-    next_callers ds is = subst (λ ds. AreCallers ds far.font at.font) (sym (is ∙ callers_next)) (both_callers far.font at.font (take i cs) at.callers far.callers at.of)
+  pub stops : (r : Refusal) → Tells r (conflict profile far.font c.font.now) → IsRefused (fonts_of cs) r
+  stops r told = stops_at (fonts_of (take i cs)) c.font.now (fonts_of (drop (i + 1) cs)) (fonts_of cs) far.font far.comes
+      (ap fonts_of (sym (take-append-drop i cs) ∙ ap (λ (ds : List Callers). take i cs ++ ds) (from_here cs i c l e)) ∙ map-append _ (take i cs) (c ∷ drop (i + 1) cs)) r told
 
-    pub goes_on : (z : StatesValue) → Join profile far.font at.font × (z ≡ states_of profile (joined_font profile far.font at.font)) → JoinedSoFar (take (i + 1) fs) z (take (i + 1) cs)
-    goes_on z k = record {
-      font = joined_font profile far.font at.font;
-      comes = subst (λ t. ComesTo t (joined_font profile far.font at.font)) (sym fonts_next) (comes_last (take i fs) at.font far.font far.comes k.0);
-      is_font = joined_is_font profile far.font at.font far.is_font at.is_font k.0;
-      states = k.1;
-      callers = subst (λ t. CallersSoFar t (joined_font profile far.font at.font)) (sym callers_next) (more_callers far.font at.font (take i cs) at.callers far.callers at.of k.0.states);
-    }
-
-    pub stops : (c : Refusal) → Tells c (conflict profile far.font at.font) → IsRefused fs c
-    stops c told = stops_at (take i fs) at.font (drop (suc i) fs) fs far.font far.comes at.list c told
-
-  pub ends : (i : ℕ) → length ss ≤ i → 0 < length ss → (s : StatesValue → StatesValue) → ((d : StatesValue) → JoinedSoFar (take i fs) (s d) (take i cs)) → EachGroupingMerges fs
-  ends i l some s far =
-      let last = far (states_of profile (noted_at fs ss cs h 0 some).font) in
-      each_merges fs last.font h.fonts (subst (λ t. ComesTo t last.font) (take_all i fs (let n = ap length h.states ∙ length-map fs (states_of profile) in omega (arith, n, l))) last.comes)
+pub ends : (cs : List Callers) → AreNoted cs → (i : ℕ) → length cs ≤ i → (s : StatesValue) → JoinedSoFar (take i cs) s → EachGroupingMerges (fonts_of cs)
+ends cs h i l s far = each_merges (fonts_of cs) far.font (all_fonts cs h) (subst (λ (ds : List Callers). ComesTo (fonts_of ds) far.font) (take_all i cs l) far.comes)
 
 -- ---- noting
 
-all_more : (fs : List FontValue) (cs : List Callers) (f : FontValue) (c : Callers) → AreCallersOfAll cs fs → AreCallersOf c f → AreCallersOfAll (cs ++ c ∷ []) (fs ++ f ∷ [])
-all_more [] [] f c h k = (k, tt)
-all_more [] (d ∷ cs) f c h k = absurd h
-all_more (g ∷ fs) [] f c h k = absurd h
-all_more (g ∷ fs) (d ∷ cs) f c h k = (h.0, all_more fs cs f c h.1 k)
+pub noted_more : (cs : List Callers) (c : Callers) (f : FontValue) → AreNoted cs → IsFont f → c.font.now ≡ f → AreCallersOf c f → AreNoted (cs ++ c ∷ [])
+noted_more cs c f h w e k = by_append _ cs (c ∷ []) h ((subst IsFont (sym e) w, subst (AreCallersOf c) (sym e) k), tt)
 
-pub noted_more : (fs : List FontValue) (ss : List StatesValue) (cs : List Callers) (f : FontValue) (s : StatesValue) (c : Callers) → AreNoted fs ss cs → IsFont f → s ≡ states_of profile f → AreCallersOf c f → AreNoted (fs ++ f ∷ []) (ss ++ s ∷ []) (cs ++ c ∷ [])
-noted_more fs ss cs f s c h w is k = record {
-  fonts = by_append IsFont fs (f ∷ []) h.fonts (w, tt);
-  states = (λ i. h.states i ++ is i ∷ []) ∙ sym (map-append (states_of profile) fs (f ∷ []));
-  callers = all_more fs cs f c h.callers k;
-}
+pub fonts_more : (fs : List FontValue) (i : ℕ) (f : FontValue) → i < length fs → f ≡ get_or fs i f → (cs : List Callers) (c : Callers) → fonts_of cs ≡ take i fs → c.font.now ≡ f → fonts_of (cs ++ c ∷ []) ≡ take (i + 1) fs
+fonts_more fs i f l e cs c h k = map-append _ cs (c ∷ []) ∙ (λ j. h j ++ k j ∷ []) ∙ sym (take_more fs i f l ∙ ap (λ (x : FontValue). take i fs ++ x ∷ []) (sym e))
 
-pub noted_none : (ss : List StatesValue) (cs : List Callers) → ss ≡ [] → cs ≡ [] → AreNoted [] ss cs
-noted_none ss cs es ec = record { fonts = tt; states = es; callers = subst (λ cs. AreCallersOfAll cs []) (sym ec) tt }
+pub some_noted : (fs : List FontValue) (cs : List Callers) → fonts_of cs ≡ fs → 0 < length fs → 0 < length cs
+some_noted fs cs h l = let n = ap length h in let m = length-map cs (λ (c : Callers). c.font.now) in omega (arith, n, m, l)
 
-pub noted_next : (fs : List FontValue) (i : ℕ) (f : FontValue) → i < length fs → f ≡ get_or fs i f → (ss more_ss : List StatesValue) (cs more_cs : List Callers) (s : StatesValue) (c : Callers)
-    → AreNoted (take i fs) ss cs → IsFont f → s ≡ states_of profile f → AreCallersOf c f → more_ss ≡ ss ++ s ∷ [] → more_cs ≡ cs ++ c ∷ [] → AreNoted (take (i + 1) fs) more_ss more_cs
-noted_next fs i f l e ss more_ss cs more_cs s c h w is k es ec =
-    subst (λ fs. AreNoted fs more_ss more_cs) (sym (take_more fs i f l ∙ ap (λ x. take i fs ++ x ∷ []) (sym e)))
-    (subst (λ ss. AreNoted (take i fs ++ f ∷ []) ss more_cs) (sym es) (subst (λ cs. AreNoted (take i fs ++ f ∷ []) (ss ++ s ∷ []) cs) (sym ec) (noted_more (take i fs) ss cs f s c h w is k)))
+pub some_fonts : (cs : List Callers) → 0 < length cs → 0 < length (fonts_of cs)
+some_fonts cs l = let m = length-map cs (λ (c : Callers). c.font.now) in omega (arith, m, l)
 
-pub noted_all : (fs : List FontValue) (i : ℕ) (ss : List StatesValue) (cs : List Callers) → length fs ≤ i → AreNoted (take i fs) ss cs → AreNoted fs ss cs
-noted_all fs i ss cs l h = subst (λ fs. AreNoted fs ss cs) (take_all i fs l) h
-
-pub noted_lengths : (fs : List FontValue) (cs : List Callers) → AreCallersOfAll cs fs → length cs ≡ length fs
-noted_lengths [] [] h = refl
-noted_lengths [] (d ∷ cs) h = absurd h
-noted_lengths (g ∷ fs) [] h = absurd h
-noted_lengths (g ∷ fs) (d ∷ cs) h = ap suc (noted_lengths fs cs h.1)
-
-pub noted_alike : (fs : List FontValue) (ss : List StatesValue) (cs : List Callers) → AreNoted fs ss cs → length cs ≡ length ss
-noted_alike fs ss cs h = noted_lengths fs cs h.callers ∙ sym (ap length h.states ∙ length-map fs (states_of profile))
-
-pub some_noted : (fs : List FontValue) (ss : List StatesValue) (cs : List Callers) → AreNoted fs ss cs → 0 < length ss → 0 < length fs
-some_noted fs ss cs h l = let n = ap length h.states ∙ length-map fs (states_of profile) in omega (arith, n, l)
-
-pub some_states : (fs : List FontValue) (ss : List StatesValue) (cs : List Callers) → AreNoted fs ss cs → 0 < length fs → 0 < length ss
-some_states fs ss cs h l = let n = ap length h.states ∙ length-map fs (states_of profile) in omega (arith, n, l)
+pub font_list : (fs : List FontValue) (cs : List Callers) → fonts_of cs ≡ fs → AreNoted cs → AllByRecursion IsFont fs
+font_list fs cs e h = subst (AllByRecursion IsFont) e (all_fonts cs h)
 
 -- ---- results
 

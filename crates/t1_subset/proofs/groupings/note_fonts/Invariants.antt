@@ -1,6 +1,6 @@
-use Rattle.std.proofs.Common.{take}
-use Rattle.t1_subset.specs.Merger.{AreNoted}
+use Rattle.std.proofs.Common.{◌≡◌, take}
+use Rattle.t1_subset.specs.Callers.{AreNoted, fonts_of}
 use Rattle.t1_subset.proofs.groupings.note_fonts.Given as goal
 
 abbrev pub invariant-fonts : goal.invariant-fonts
-invariant-fonts l = AreNoted (take l.font-index l.fonts) l.all_states.items l.all_callers.items
+invariant-fonts l = (fonts_of l.callers.items ≡ take l.font-index l.fonts) × AreNoted l.callers.items

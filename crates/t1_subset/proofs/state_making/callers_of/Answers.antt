@@ -1,25 +1,26 @@
-use Rattle.std.proofs.Common.{ℕ, ◌<◌, List, Bor, map, not, ◌&&◌, cond, Some, None, ap, sym, ◌∙◌, length, arith}
+use Rattle.std.proofs.Common.{◌≡◌, ℕ, true, List, Bor, map, not, ◌&&◌, cond, Some, None, is_some, ap, sym, ◌∙◌}
 use Rattle.std.specs.List.{list_any}
 use Rattle.std.specs.FinMap as maps
 use Rattle.std.specs.FinSet as sets
-use Rattle.std.proofs.lemmas.List.{length-replicate}
 use Rattle.std.proofs.lemmas.Map.Iter.{rest_more, rest_all}
-use Rattle.t1_font.specs.FontValue.{declared_count}
+use Rattle.t1_join.specs.Meaning.{of_number}
 use Rattle.t1_subset.specs.Interpreter.{same_bytes}
 use Rattle.t1_subset.specs.Keep.{has}
 use Rattle.t1_subset.specs.Profile.{profile}
 use Rattle.t1_subset.specs.States.{joined}
 use Rattle.t1_subset.specs.Conflicts.{executes, executed_at, called_at, wants}
-use Rattle.t1_subset.specs.Callers.{user_at}
-use Rattle.t1_subset.proofs.state_tables.FontCallers.{executes_so, calls_so, noted_first, noted_next, noted_last, no_user, known_already, known_then, again_same, nothing_noted}
+use Rattle.t1_subset.specs.StateTables.{behind_mark}
+use Rattle.t1_subset.specs.Users.{with_user, user_at}
+use Rattle.t1_subset.proofs.state_tables.FontCallers.{executes_so, calls_so, noted_first, noted_next, noted_last, known_already, known_then, again_same, nothing_noted}
+use Rattle.t1_subset.proofs.state_tables.FontUsers.{has_entry, no_user, still_there, behind_with}
 use Rattle.t1_subset.proofs.state_making.callers_of.Goals as goal
 
 pub names-init : goal.names-init
 names-init c =
     let f = c.args.font.now in
     let all = c.into_iter-name-iterator.ensures.into_iter_gives ∙ c.names-name-items.ensures in (
-      ap length c.in_ok-users.ensures ∙ length-replicate _ _ ∙ c.count.ensures,
-      λ q l. noted_first (λ n. executes profile f n q) _ _ _ (ap (λ us. user_at us q) c.in_ok-users.ensures ∙ no_user _ q) all,
+      has_entry f.subrs c.in_ok-users.users c.in_ok-users.ensures,
+      λ q l. noted_first (λ n. executes profile f n q) _ _ _ (no_user f.subrs c.in_ok-users.users c.in_ok-users.ensures q) all,
       λ p. noted_first (λ n. wants profile f n p) _ _ _ (ap (λ t. maps.get t p) c.new-seekers.ensures ∙ maps.get-empty _ p) all,
       nothing_noted f _ _,
     )
@@ -45,23 +46,25 @@ names-preserved c =
     let n = c.in-Some.name.now in
     let more = rest_more (λ (s : Bor (List ℕ)). s.now) _ _ _ _ c.in-Some.is c.next.ensures.steps in
     let named = ap (map (λ (s : Bor (List ℕ)). s.now)) c.as_slice.ensures.value ∙ c.in_ok-components.ensures.components in
-    let users = λ (q : ℕ) (l : q < declared_count f.shell.subrs).
-    c.note_all.ensures.users q (omega (arith, l, c.names.invariant.0))
-    ∙ ap (λ b. joined (user_at c.names.users q) (cond b (Some n) None)) (ap (λ s. sets.contains s q) c.in_ok-components.ensures.calls ∙ executes_so f n q) in
+    let state = λ (q : ℕ).
+    c.in_ok-note_users.ensures q
+    ∙ ap (λ b. with_user (maps.get c.names.users (of_number q)) (cond b (Some n) None)) (ap (λ s. sets.contains s q) c.in_ok-components.ensures.calls ∙ executes_so f n q) in
+    let users = λ (q : ℕ) (l : maps.contains_key f.subrs q ≡ true).
+    ap behind_mark (state q) ∙ behind_with (maps.get c.names.users (of_number q)) (cond (executes profile f n q) (Some n) None) (c.names.invariant.0 q ∙ l) in
     let seekers = λ (q : List ℕ).
     c.in_ok-note_seekers.ensures q
     ∙ ap (λ b. joined (maps.get c.names.seekers q) (cond (not (has f q) && b) (Some n) None)) (ap (list_any (same_bytes q)) named ∙ calls_so f n q) in (
-      c.note_all.ensures.length ∙ c.names.invariant.0,
-      λ q l. noted_next (λ n. executes profile f n q) (user_at c.names.users q) (user_at c.note_all.new.self q) _ n c.names.name-iterator c.next.new.self (users q l) more (c.names.invariant.1 q l),
+      λ q. ap is_some (state q) ∙ still_there (maps.get c.names.users (of_number q)) (cond (executes profile f n q) (Some n) None) ∙ c.names.invariant.0 q,
+      λ q l. noted_next (λ n. executes profile f n q) (user_at c.names.users q) (user_at c.note_users.new.users q) _ n c.names.name-iterator c.next.new.self (users q l) more (c.names.invariant.1 q l),
       λ q. noted_next (λ n. wants profile f n q) (maps.get c.names.seekers q) (maps.get c.note_seekers.new.seekers q) _ n c.names.name-iterator c.next.new.self (seekers q) more (c.names.invariant.2 q),
       record {
-        executed = λ q l h. known_then (user_at c.names.users q) (user_at c.note_all.new.self q) (executes profile f n q) n (users q l) (ap (executed_at profile f q) (sym c.charstring-charstring.ensures) ∙ h);
+        executed = λ q l h. known_then (user_at c.names.users q) (user_at c.note_users.new.users q) (executes profile f n q) n (users q l) (ap (executed_at profile f q) (sym c.charstring-charstring.ensures) ∙ h);
         named = λ q h. known_then (maps.get c.names.seekers q) (maps.get c.note_seekers.new.seekers q) (wants profile f n q) n (seekers q) (ap (λ x. not (has f q) && called_at profile f q x) (sym c.charstring-charstring.ensures) ∙ h);
       },
     )
 
-pub returns : goal.returns
-returns c =
+pub returns-clause-callers : goal.returns-clause-callers
+returns-clause-callers c =
     let f = c.args.font.now in
     let none = rest_all (λ (s : Bor (List ℕ)). s.now) _ _ _ c.in-None.is c.next.ensures.steps in
     record {

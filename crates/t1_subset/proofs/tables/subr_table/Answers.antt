@@ -22,7 +22,7 @@ indices-preserved c =
     let f = c.args.font.now in let i = c.indices.index in
     has_next c.indices.table (subr_state profile f) i c.indices.invariant c.put.new.table _ c.in_ok-put.ensures
     (c.subr_state.ensures ∙ entry_is f i _ _ c.is_some.result (c.get.ensures ∙ subrs_seen f c.proof_is_font.ensures i)
-    (c.is_some.ensures ∙ some_lent c.get-in-indices.result ∙ ap is_some (c.get-in-indices.ensures ∙ c.requires i (let t = c.indices-test.true in omega (arith, t, c.count-index-end.ensures))) ∙ sym (called_is f i)))
+    (λ t. c.is_some.ensures ∙ some_lent c.user_in.result ∙ ap is_some (c.user_in.ensures ∙ c.requires i t) ∙ sym (called_is f i)))
 
 pub returns : goal.returns
 returns c =

@@ -1,0 +1,30 @@
+-- Who executes which Subr of a font, in code.
+use Rattle.std.specs.Prelude.{ℕ, List, [], ◌∷◌, Option, Some, None}
+use Rattle.std.specs.FinMap as maps
+use Rattle.t1_join.specs.Meaning.{Meaning, of_number}
+use Rattle.t1_join.specs.Join.{State}
+use Rattle.t1_join.specs.TableMeaning.{TableMeaning}
+use Rattle.t1_font.specs.FontValue.{Numbered}
+use Rattle.t1_font.specs.Maps.{map_values}
+use Rattle.t1_subset.specs.declared.users.User.{User}
+use Rattle.t1_subset.specs.declared.users.User.TheVariants.{Nobody, Glyph}
+use Rattle.t1_subset.specs.StateTables.{name_meaning, behind_mark}
+
+abbrev pub user_meaning : User → Meaning
+user_meaning Nobody = name_meaning None
+user_meaning (Glyph n) = name_meaning (Some n.now)
+
+-- no user of any Subr
+abbrev pub unused : Numbered → Numbered
+unused subrs = map_values (λ i c. []) subrs
+
+-- what stands of a Subr's user once another is noted: the first stays
+abbrev pub with_user : State → Option (List ℕ) → State
+with_user None u = None
+with_user (Some []) None = Some []
+with_user (Some []) (Some n) = Some (name_meaning (Some n))
+with_user (Some (mark ∷ n)) u = Some (mark ∷ n)
+
+-- the name that stands at the index
+abbrev pub user_at : TableMeaning → ℕ → Option (List ℕ)
+user_at users i = behind_mark (maps.get users (of_number i))
