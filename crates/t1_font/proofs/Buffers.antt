@@ -1,4 +1,4 @@
--- Ranges of a buffer of which a part was decrypted where it stands, or which has grown.
+-- Ranges of a buffer of which a part was decrypted where it stands.
 use Rattle.std.proofs.Common.{◌≡◌, refl, sym, ap, subst, ◌∙◌, ℕ, ◌+◌, ◌-◌, ◌≤◌, arith, List, [], ◌∷◌, ◌++◌, map, length, take, take_all, drop}
 use Rattle.std.proofs.lemmas.List.{append_assoc, map_push, length-append, length-drop, length-take-le, take-append-le, drop-append-le, drop-drop, drop_at, take-append-drop}
 use Rattle.std.proofs.lemmas.Slice.{drop-append-drop}
@@ -19,12 +19,12 @@ use Rattle.t1_font.proofs.MapLaws.{map_of-append}
 use Rattle.t1_font.specs.Ranges.{bytes_at, IsInside, AllInside, NamesInside, named_at}
 
 -- a longer buffer has the same bytes in the same ranges
-pub bytes_longer : (buffer more : List ℕ) (r : Range) → IsInside (length buffer) r → bytes_at (buffer ++ more) r ≡ bytes_at buffer r
+bytes_longer : (buffer more : List ℕ) (r : Range) → IsInside (length buffer) r → bytes_at (buffer ++ more) r ≡ bytes_at buffer r
 bytes_longer buffer more r h =
     ap (take (r.end - r.start)) (drop-append-le r.start buffer more (omega (arith, h.ordered, h.within)))
     ∙ take-append-le (r.end - r.start) (drop r.start buffer) more (omega (arith, length-drop r.start buffer, h.ordered, h.within))
 
-pub inside_longer : (m n : ℕ) (r : Range) → m ≤ n → IsInside m r → IsInside n r
+inside_longer : (m n : ℕ) (r : Range) → m ≤ n → IsInside m r → IsInside n r
 inside_longer m n r le h = record { ordered = h.ordered; within = omega (arith, le, h.within) }
 
 -- an entry that is put at the end of others, in their map
@@ -32,38 +32,11 @@ pub pushed : {E K : Type 0} (h : E → K × List ℕ) {S : K → K → Ordering}
     map_of {R = S} (map h (es ++ e ∷ [])) ≡ fin.insert (map_of (map h es)) (h e).0 (h e).1
 pushed h {S} o same es e = ap (map_of {R = S}) (map_push h es e) ∙ map_of-append o same (map h es) (h e)
 
-module _ {K : Type 0} where
-  pub all_longer : (m n : ℕ) (es : List (K × Range)) → m ≤ n → AllInside m es → AllInside n es
-  all_longer m n es le h = λ k d l. inside_longer m n _ le (h k d l)
-
-  pub entries_longer : {M : Type 0} (f : K → M) (buffer more : List ℕ) (es : List (K × Range)) → AllInside (length buffer) es → entries_by f (bytes_at (buffer ++ more)) es ≡ entries_by f (bytes_at buffer) es
-  entries_longer f buffer more [] h = refl
-  entries_longer f buffer more (e ∷ es) h =
-      λ i. (f e.0, bytes_longer buffer more e.1 (All-head (λ (e : K × Range). IsInside (length buffer) e.1) e es h) i) ∷ entries_longer f buffer more es (All-tail (λ (e : K × Range). IsInside (length buffer) e.1) e es h) i
+pub all_longer : {K : Type 0} (m n : ℕ) (es : List (K × Range)) → m ≤ n → AllInside m es → AllInside n es
+all_longer m n es le h = λ k d l. inside_longer m n _ le (h k d l)
 
 pub names_wider : (m n : ℕ) (es : List (Range × Range)) → m ≤ n → NamesInside m es → NamesInside n es
 names_wider m n es le h = λ k d l. inside_longer m n _ le (h k d l)
-
-pub names_longer : (buffer more : List ℕ) (es : List (Range × Range)) → NamesInside (length buffer) es → AllInside (length buffer) es → map (named_at (buffer ++ more)) es ≡ map (named_at buffer) es
-names_longer buffer more [] g h = refl
-names_longer buffer more (e ∷ es) g h =
-    let Name = λ (e : Range × Range). IsInside (length buffer) e.0 in
-    let Body = λ (e : Range × Range). IsInside (length buffer) e.1 in
-    λ i. (bytes_longer buffer more e.0 (All-head Name e es g) i, bytes_longer buffer more e.1 (All-head Body e es h) i) ∷ names_longer buffer more es (All-tail Name e es g) (All-tail Body e es h) i
-
--- where a buffer is another with more bytes
-module _ (old new more : List ℕ) (is : new ≡ old ++ more) where
-  pub longer_by : length old ≤ length new
-  longer_by = omega (arith, ap length is, length-append old more)
-
-  pub entries_in : {K M : Type 0} (f : K → M) (es : List (K × Range)) → AllInside (length old) es → entries_by f (bytes_at new) es ≡ entries_by f (bytes_at old) es
-  entries_in f es h = ap (λ b. entries_by f (bytes_at b) es) is ∙ entries_longer f old more es h
-
-  pub names_in : (es : List (Range × Range)) → NamesInside (length old) es → AllInside (length old) es → map (named_at new) es ≡ map (named_at old) es
-  names_in es g h = ap (λ b. map (named_at b) es) is ∙ names_longer old more es g h
-
-  pub all_in : {K : Type 0} (es : List (K × Range)) → AllInside (length old) es → AllInside (length new) es
-  all_in es h = all_longer (length old) (length new) es longer_by h
 
 -- ---- places from the end
 

@@ -2,6 +2,10 @@
 use Rattle.std.proofs.Common.{◌≡◌, sym, ap, ◌∙◌, ℕ, ◌+◌, ◌<◌, ◌≤◌, List, [], ◌∷◌, ◌++◌, map, length, take, take_all, get_or}
 use Rattle.std.proofs.lemmas.List.{append_assoc, append-nil, map-append, take_more}
 
+-- the same key with the same value
+pub keyed : {K X : Type 0} {k : K} {x y : X} → x ≡ y → ◌≡◌ {A = K × X} (k, x) (k, y)
+keyed {k = k} e = ap (λ v. (k, v)) e
+
 module _ {A B C : Type 0} (f : A → C) (g : B → C) where
   -- one more
   pub one_more : (out more : List B) (xs : List A) (i : ℕ) (d : A) (y : B) → i < length xs → more ≡ out ++ y ∷ [] → g y ≡ f (get_or xs i d) → map g out ≡ map f (take i xs) → map g more ≡ map f (take (i + 1) xs)

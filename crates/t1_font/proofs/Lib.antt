@@ -12,6 +12,7 @@ pub mod Arrays
 pub mod FontReaders
 pub mod Weights
 pub mod FileParts
+pub mod NoLonger
 pub mod FromPieces
 pub mod AnswersRight
 pub mod Lengths

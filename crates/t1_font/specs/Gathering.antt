@@ -4,6 +4,7 @@ use Rattle.std.specs.Borrow.{Bor}
 use Rattle.std.specs.Coded.{Coded, code_by, coded×}
 use Rattle.std.specs.FinMap.{from_sorted, entries}
 use Rattle.std.proofs.Common.{refl}
+use Rattle.t1_bytes.specs.Limits.{file_limit}
 use Rattle.t1_join.specs.Entries.{entries_by}
 use Rattle.t1_font.specs.declared.gathered.Gathered.TheInside.{Inside}
 use Rattle.t1_font.specs.declared.ranges.Range.{Range}
@@ -43,8 +44,9 @@ gathered_value g = record {
   glyphs = gathered_glyphs g.buffer.items g.glyphs.items;
 }
 
--- what is gathered stands before what is left
+-- what is gathered stands before what is left, in a buffer that is no longer than a file
 pub record IsGathered (g : Inside) : Type 0 where
+  pub short : length g.buffer.items ≤ file_limit
   pub at : g.at ≤ length g.buffer.items
   pub subrs : AllInside g.at g.subrs.items
   pub names : NamesInside g.at g.glyphs.items

@@ -1,14 +1,14 @@
 //! Reading a font file.
 
-ghost use Rattle.std.specs.Prelude.{◌≡◌, ◌≤◌, ◌+◌, ◌++◌, ℕ, List, length, take, drop, map, true, IfOk, OnOk, MatchResult};
+ghost use Rattle.std.specs.Prelude.{◌≡◌, ◌≤◌, ◌+◌, length, take, drop, true, IfOk, MatchResult};
 ghost use Rattle.std.specs.Ordering.{nat_cmp};
 ghost use Rattle.t1_bytes.specs.Cipher.{decrypted};
 ghost use Rattle.t1_bytes.specs.Eexec.{cipher_in, last_bytes};
+ghost use Rattle.t1_bytes.specs.Limits.{file_limit};
 ghost use Rattle.t1_join.specs.TableMeaning.{Rises};
 ghost use Rattle.t1_font.specs.FontValue.{count_limit};
 ghost use Rattle.t1_font.specs.Gathering.{gathered_codes};
 ghost use Rattle.t1_font.specs.Pieces.{ClearPieces, PrivatePieces, flat_pieces};
-ghost use Rattle.t1_font.specs.Ranges.{AllInside, numbered_at};
 ghost use Rattle.t1_font.specs.ReadFont.{font_of, flat_text, file_pieces, font_from, font_texts, font_file};
 ghost use Rattle.t1_bytes.specs.Laws.{AreBytes};
 ghost use Rattle.t1_font.specs.Answers.{Answers, Shown, ShowsClear, ShowsPrivate, encoding_view, declared_in};
@@ -31,7 +31,8 @@ use t1_bytes::{Cipher, EEXEC_KEY, EEXEC_LEAD, FILE_LIMIT, decrypt, find_cipher, 
 /// The flat text of a file, in the file's own vector.
 #[tactic(auto, unfolding(crate::specs::ReadFont::flat_text))]
 fn flat_text(file: Vec<u8>) -> Result<Vec<u8>, ReadFault>
-    ensures { Answers (λ v. v.items) result (flat_text file.items) }
+    ensures value { Answers (λ v. v.items) result (flat_text file.items) }
+    ensures no_longer { IfOk result (λ v. length v.items ≤ length file.items) }
 {
     let mut flat = file;
     match flatten_in_place(&mut flat) {
@@ -47,6 +48,7 @@ fn found(alloc: Global, flat: &[u8]) -> Result<(usize, Cipher), ReadFault>
     ensures end { IfOk result (λ x. x.0 ≤ length flat.now) }
     ensures last { IfOk result (λ x. last_bytes x.1 ≤ length flat.now) }
     ensures lead { IfOk result (λ x. 4 ≤ length (cipher_in flat.now x.1)) }
+    ensures no_longer { IfOk result (λ x. length (cipher_in flat.now x.1) ≤ length flat.now) }
 {
     match find_cipher(alloc, flat) {
         Ok((end, cipher)) => Ok((end, cipher)),
@@ -67,6 +69,7 @@ fn cut_flat(alloc: Global, flat: Vec<u8>) -> Result<CutFile, ReadFault>
     ensures parts { Shown (λ x p. (x.clear.items ≡ p.clear)
         × (drop x.from x.buffer.items ≡ p.cipher)) result (flat_pieces flat.items) }
     ensures lead { IfOk result (λ x. x.from + 4 ≤ length x.buffer.items) }
+    ensures no_longer { IfOk result (λ x. length x.buffer.items ≤ length flat.items) }
 {
     let (end, cipher) = found(alloc, flat.as_slice())?;
     let clear = Vec::from_slice(alloc, &flat[..end])?;
@@ -92,28 +95,25 @@ fn cut_file(alloc: Global, file: Vec<u8>) -> Result<CutFile, ReadFault>
     ensures parts { Shown (λ x p. (x.clear.items ≡ p.clear)
         × (drop x.from x.buffer.items ≡ p.cipher)) result (file_pieces file.items) }
     ensures lead { IfOk result (λ x. x.from + 4 ≤ length x.buffer.items) }
+    ensures no_longer { IfOk result (λ x. length x.buffer.items ≤ length file.items) }
 {
     let flat = flat_text(file)?;
     cut_flat(alloc, flat)
 }
 
-/// The Encoding of what was read, its names put at the end of the buffer.
+/// The Encoding of what was read, which owns its bytes.
 fn kept_encoding(
     alloc: Global,
     parts: EncodingParts<'_>,
     codes: Vec<(u16, &[u8])>,
-    buffer: &mut Vec<u8>,
 ) -> Result<KeptEncoding, AllocError>
-    ensures value { IfOk result (λ e. kept_encoding buffer.new.items e
+    ensures value { IfOk result (λ e. kept_encoding e
         ≡ encoding_view parts.entry (gathered_codes codes.entry.items)) }
-    ensures inside { IfOk result (λ e. AllInside (length buffer.new.items) (codes_of e)) }
-    ensures rise { IfOk result
-        (λ e. Rises nat_cmp (map (numbered_at buffer.new.items) (codes_of e))) }
-    ensures longer { OnOk result ((more : List ℕ) × (buffer.new.items ≡ buffer.old.items ++ more)) }
+    ensures rise { IfOk result (λ e. Rises nat_cmp (codes_of e)) }
 {
     match parts {
         EncodingParts::OneWord(word) => Ok(KeptEncoding::Word(Vec::from_slice(alloc, word)?)),
-        EncodingParts::Puts => Ok(KeptEncoding::Codes(keep_codes(alloc, codes, buffer)?)),
+        EncodingParts::Puts => Ok(KeptEncoding::Codes(keep_codes(alloc, codes)?)),
     }
 }
 
@@ -131,8 +131,8 @@ fn source_parts(
         → f ≡ font_of c p) }
 {
     let shell = kept_shell(alloc, outside, inside)?;
-    let mut buffer = gathered.buffer;
-    let encoding = kept_encoding(alloc, outside.encoding, gathered.codes, &mut buffer)?;
+    let buffer = gathered.buffer;
+    let encoding = kept_encoding(alloc, outside.encoding, gathered.codes)?;
     let glyphs = last_names(buffer.as_slice(), gathered.glyphs)?;
     let subrs = last_entries(gathered.subrs)?;
     Ok(SourceParts {
@@ -216,7 +216,8 @@ fn text_parts(
     buffer: Vec<u8>,
     at: usize,
 ) -> Result<SourceParts, ReadFault>
-    requires { at ≤ length buffer.items }
+    requires inside { at ≤ length buffer.items }
+    requires short { length buffer.items ≤ file_limit }
     ensures { Answers (λ f. f) result (font_texts clear.now (drop at buffer.items)) }
 {
     let mut gathered = Gathered::new(alloc, buffer, at);

@@ -3,6 +3,7 @@
 ghost use Rattle.std.specs.Prelude.{◌≡◌, ◌≤◌, ◌+◌, ◌-◌, ◌++◌, length, take, drop, OnOk};
 ghost use Rattle.std.specs.FinMap as fin;
 ghost use Rattle.t1_bytes.specs.Cipher.{decrypted};
+ghost use Rattle.t1_bytes.specs.Limits.{file_limit};
 ghost use Rattle.t1_font.specs.Charstrings.{plain_of};
 ghost use Rattle.t1_font.specs.Places.{ending, placed};
 ghost use Rattle.t1_font.specs.Ranges.{bytes_at, IsInside};
@@ -47,15 +48,13 @@ impl<'a> Model for Gathered<'a> {
 
 /// The part of a buffer of so many bytes that is at a place.
 fn part_at(size: usize, place: Place) -> Range
-    requires { place.len + place.behind ≤ size }
+    requires inside { place.len + place.behind ≤ size }
+    requires short { size ≤ file_limit }
     ensures start { result.start ≡ size - (place.len + place.behind) }
     ensures end { result.end ≡ size - place.behind }
 {
     let end = size - place.behind;
-    Range {
-        start: end - place.len,
-        end,
-    }
+    Range::new(end - place.len, end)
 }
 
 /// A charstring's part of a buffer without its lead bytes.
@@ -65,7 +64,7 @@ fn behind_lead(part: Range, len_iv: u8) -> Range
     ensures end { result.end ≡ part.end }
 {
     Range {
-        start: part.start + len_iv as usize,
+        start: part.start + len_iv as u32,
         end: part.end,
     }
 }
@@ -78,15 +77,16 @@ fn decrypt_in(buffer: &mut Vec<u8>, part: Range)
         ++ decrypted 4330 (bytes_at buffer.old.items part)
         ++ drop part.end buffer.old.items }
 {
-    let (front, _) = buffer.as_mut_slice().split_at_mut(part.end);
-    let (_, body) = front.split_at_mut(part.start);
+    let (front, _) = buffer.as_mut_slice().split_at_mut(part.end as usize);
+    let (_, body) = front.split_at_mut(part.start as usize);
     decrypt(body, CHARSTRING_KEY);
 }
 
 impl<'a> Gathered<'a> {
     /// No entries, before the private text, which stands in a buffer from `at` on.
     pub(crate) fn new(alloc: Global, buffer: Vec<u8>, at: usize) -> Self
-        requires { at ≤ length buffer.items }
+        requires inside { at ≤ length buffer.items }
+        requires short { length buffer.items ≤ file_limit }
         ensures { result
             ≡ record {
               rest = drop at buffer.items;

@@ -1,6 +1,6 @@
 //! A font that owns its bytes.
 
-ghost use Rattle.std.specs.Prelude.{◌≡◌, ◌+◌, ◌++◌, ℕ, List, map, length, filter, IfOk, OnOk};
+ghost use Rattle.std.specs.Prelude.{◌≡◌, ◌+◌, map, filter, IfOk};
 ghost use Rattle.std.specs.Ordering.{nat_cmp};
 ghost use Rattle.std.specs.FinMap.{from_sorted, entries, len};
 ghost use Rattle.t1_join.specs.TableMeaning.{Rises};
@@ -8,7 +8,8 @@ ghost use Rattle.t1_font.specs.Entries.{has_name};
 ghost use Rattle.t1_font.specs.FontModel.{clamp, encoding_of};
 ghost use Rattle.t1_font.specs.FontValue.{name_cmp, total, weight};
 ghost use Rattle.t1_font.specs.Gathering.{gathered_codes};
-ghost use Rattle.t1_font.specs.Ranges.{bytes_at, IsInside, AllInside, NamesInside, numbered_at, named_at, subr_at_weight, glyph_at_weight};
+ghost use Rattle.t1_font.specs.Ranges.{numbered_at, named_at, subr_at_weight, glyph_at_weight};
+ghost use Rattle.t1_font.specs.Sources.{kept_name};
 
 use crate::font::{Font, FontParts, LentEncoding};
 use crate::glyphs::is_notdef;
@@ -23,10 +24,11 @@ use std::marker::Model;
 #[derive(Drop)]
 pub(crate) enum KeptEncoding {
     Word(Vec<u8>),
-    Codes(Vec<(u16, Range)>),
+    Codes(Vec<(u16, Vec<u8>)>),
 }
 
-/// The parts of a font that owns them, which together need not be one. Names and charstrings are ranges of the buffer.
+/// The parts of a font that owns them, which together need not be one. Names of glyphs and charstrings are ranges of the
+/// buffer.
 #[derive(Drop)]
 pub(crate) struct SourceParts {
     pub(crate) shell: Shell,
@@ -52,7 +54,7 @@ impl Model for SourceParts {
 
 /// What [`read`](crate::read) reads: a font program that owns its bytes. [`Source::font`] lends the font.
 ///
-/// It has one buffer of all names and plain charstrings, and tables of where each stands there.
+/// It has one buffer of all names of glyphs and plain charstrings, and tables of where each stands there.
 #[derive(Drop)]
 pub struct Source {
     pub(crate) parts: SourceParts,
@@ -87,19 +89,30 @@ impl Source {
     }
 }
 
+/// The names of codes, lent.
+fn lent_codes(alloc: Global, codes: &[(u16, Vec<u8>)]) -> Result<Numbered<'_>, AllocError>
+    requires rises { Rises nat_cmp (map kept_name codes.now) }
+    ensures { IfOk result (λ m. m ≡ from_sorted (map kept_name codes.now)) }
+{
+    let mut lent = Vec::with_capacity(alloc, codes.len())?;
+    'codes: for (code, name) in codes {
+        lent.push((*code, name.as_slice()))?;
+    }
+    Ok(Numbered { entries: lent })
+}
+
 /// The entries by number, each lent from the buffer.
 fn numbered<'a>(
     alloc: Global,
     entries: &[(u16, Range)],
     buffer: &'a [u8],
 ) -> Result<Numbered<'a>, AllocError>
-    requires inside { AllInside (length buffer.now) entries.now }
     requires rises { Rises nat_cmp (map (numbered_at buffer.now) entries.now) }
     ensures { IfOk result (λ m. m ≡ from_sorted (map (numbered_at buffer.now) entries.now)) }
 {
     let mut lent = Vec::with_capacity(alloc, entries.len())?;
     'entries: for (number, place) in entries {
-        lent.push((*number, &buffer[place.start..place.end]))?;
+        lent.push((*number, place.of(buffer)))?;
     }
     Ok(Numbered { entries: lent })
 }
@@ -110,17 +123,12 @@ fn named<'a>(
     entries: &[(Range, Range)],
     buffer: &'a [u8],
 ) -> Result<Named<'a>, AllocError>
-    requires names { NamesInside (length buffer.now) entries.now }
-    requires inside { AllInside (length buffer.now) entries.now }
     requires rises { Rises name_cmp (map (named_at buffer.now) entries.now) }
     ensures { IfOk result (λ m. m ≡ from_sorted (map (named_at buffer.now) entries.now)) }
 {
     let mut lent = Vec::with_capacity(alloc, entries.len())?;
     'entries: for (name, place) in entries {
-        lent.push((
-            &buffer[name.start..name.end],
-            &buffer[place.start..place.end],
-        ))?;
+        lent.push((name.of(buffer), place.of(buffer)))?;
     }
     Ok(Named { entries: lent })
 }
@@ -154,9 +162,7 @@ impl SourceParts {
     {
         match &self.encoding {
             KeptEncoding::Word(word) => Ok(LentEncoding::Word(word.as_slice())),
-            KeptEncoding::Codes(names) => {
-                Ok(LentEncoding::Codes(numbered(alloc, names, &self.buffer)?))
-            }
+            KeptEncoding::Codes(names) => Ok(LentEncoding::Codes(lent_codes(alloc, names)?)),
         }
     }
 
@@ -189,36 +195,19 @@ impl SourceParts {
     }
 }
 
-/// Puts bytes at the end of a buffer, and answers where they stand there.
-fn add_bytes(buffer: &mut Vec<u8>, bytes: &[u8]) -> Result<Range, AllocError>
-    ensures grown { OnOk result (buffer.new.items ≡ buffer.old.items ++ bytes.now) }
-    ensures place { IfOk result (λ r. bytes_at buffer.new.items r ≡ bytes.now) }
-    ensures inside { IfOk result (λ r. IsInside (length buffer.new.items) r) }
-{
-    let start = buffer.len();
-    buffer.extend_from_slice(bytes)?;
-    Ok(Range {
-        start,
-        end: buffer.len(),
-    })
-}
-
-/// Puts the last name of each code at the end of the buffer; `.notdef` is no name.
+/// The last name of each code, in its own vector; `.notdef` is no name.
 pub(crate) fn keep_codes(
     alloc: Global,
     codes: Vec<(u16, &[u8])>,
-    buffer: &mut Vec<u8>,
-) -> Result<Vec<(u16, Range)>, AllocError>
-    ensures entries { IfOk result (λ v. map (numbered_at buffer.new.items) v.items
+) -> Result<Vec<(u16, Vec<u8>)>, AllocError>
+    ensures { IfOk result (λ v. map kept_name v.items
         ≡ filter has_name (entries (gathered_codes codes.entry.items))) }
-    ensures inside { IfOk result (λ v. AllInside (length buffer.new.items) v.items) }
-    ensures longer { OnOk result ((more : List ℕ) × (buffer.new.items ≡ buffer.old.items ++ more)) }
 {
     let last = last_entries(codes)?;
     let mut kept = Vec::with_capacity(alloc, last.len())?;
     'codes: for (code, name) in last {
         if !is_notdef(name) {
-            kept.push((code, add_bytes(buffer, name)?))?;
+            kept.push((code, Vec::from_slice(alloc, name)?))?;
         }
     }
     Ok(kept)

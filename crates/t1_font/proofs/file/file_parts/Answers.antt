@@ -31,5 +31,5 @@ returns c =
     (file_is c.args.file.items h.0 (search rules) h.1 ∙ (λ i. font_texts (sym (c.as_slice.ensures.value ∙ h.2.0) i) (private i)))
     c.text_parts.ensures
 
-pub text_parts-requires : goal.text_parts-requires
-text_parts-requires c = omega (arith, c.in_ok-cut.ensures.lead, c.open_private.ensures.same)
+pub text_parts-requires-clause-inside : goal.text_parts-requires-clause-inside
+text_parts-requires-clause-inside c = omega (arith, c.in_ok-cut.ensures.lead, c.open_private.ensures.same)

@@ -4,11 +4,9 @@ use Rattle.std.specs.FinMap.{entries, nat_cmp-IsAntisymmetric}
 use Rattle.std.specs.Ordering.{nat_cmp}
 use Rattle.t1_join.proofs.Sorted.{rises_of, map_of}
 use Rattle.t1_font.specs.Answers.{encoding_view}
-use Rattle.t1_font.specs.Entries.{map_of as map_by_last}
-use Rattle.t1_font.specs.FontValue.{name_cmp}
 use Rattle.t1_font.specs.Gathering.{Entries, gathered_glyphs}
 use Rattle.t1_font.specs.Ranges.{bytes_at, IsInside, AllInside, NamesInside, named_at}
-use Rattle.t1_font.proofs.Buffers.{all_longer, names_wider, all_in, entries_in, names_in, longer_by}
+use Rattle.t1_font.proofs.Buffers.{all_longer, names_wider}
 use Rattle.t1_font.proofs.Lasts.{all_last, lasts_rise, lasts_map}
 use Rattle.t1_font.proofs.file.source_parts.Goals as goal
 
@@ -22,38 +20,31 @@ glyphs_inside : (c : goal.In_ok-subrs) → AllInside (length c.gathered.inside.b
 glyphs_inside c = all_longer c.gathered.inside.at (length c.gathered.inside.buffer.items) c.gathered.inside.glyphs.items c.gathered.invariant.at c.gathered.invariant.glyphs
 
 -- the glyphs that are kept
-named_so : (c : goal.In_ok-subrs) → map (named_at c.kept_encoding.new.buffer.items) c.in_ok-glyphs.glyphs.items ≡ entries (gathered_glyphs c.kept_encoding.new.buffer.items c.gathered.inside.glyphs.items)
+named_so : (c : goal.In_ok-subrs) → map (named_at c.gathered.inside.buffer.items) c.in_ok-glyphs.glyphs.items ≡ entries (gathered_glyphs c.gathered.inside.buffer.items c.gathered.inside.glyphs.items)
 named_so c = subst (λ (b : List ℕ). map (named_at b) c.in_ok-glyphs.glyphs.items ≡ entries (gathered_glyphs b c.gathered.inside.glyphs.items)) c.as_slice.ensures.value c.in_ok-glyphs.ensures.entries
 
 pub invariant_of-result : goal.invariant_of-result
 invariant_of-result c =
-    let encoding = c.in_ok-encoding.ensures in
-    let read = c.gathered.inside.buffer.items in
-    let whole = c.kept_encoding.new.buffer.items in
-    let glyphs = c.in_ok-glyphs.ensures.inside (length whole) (names_wider (length read) (length whole) c.gathered.inside.glyphs.items (longer_by read whole encoding.longer.0 encoding.longer.1) (names_inside c)) (all_in read whole encoding.longer.0 encoding.longer.1 c.gathered.inside.glyphs.items (glyphs_inside c)) in
+    let buffer = c.gathered.inside.buffer.items in
+    let glyphs = c.in_ok-glyphs.ensures.inside (length buffer) (names_inside c) (glyphs_inside c) in
     record {
-      codes_inside = encoding.inside;
-      subrs_inside = all_last nat_cmp_total (λ e. IsInside (length whole) e.1) c.gathered.inside.subrs.items c.in_ok-subrs.subrs.items c.in_ok-subrs.ensures (all_in read whole encoding.longer.0 encoding.longer.1 c.gathered.inside.subrs.items (subrs_inside c));
+      subrs_inside = all_last nat_cmp_total (λ e. IsInside (length buffer) e.1) c.gathered.inside.subrs.items c.in_ok-subrs.subrs.items c.in_ok-subrs.ensures (subrs_inside c);
       names_inside = glyphs.0;
       glyphs_inside = glyphs.1;
-      codes_rise = encoding.rise;
-      subrs_rise = lasts_rise (λ k. k) (bytes_at whole) nat_cmp nat_cmp nat_cmp_total nat_cmp-IsAntisymmetric (λ x y. refl) c.gathered.inside.subrs.items c.in_ok-subrs.subrs.items c.in_ok-subrs.ensures;
-      glyphs_rise = rises_of (map (named_at whole) c.in_ok-glyphs.glyphs.items) (gathered_glyphs whole c.gathered.inside.glyphs.items) (named_so c);
+      codes_rise = c.in_ok-encoding.ensures.rise;
+      subrs_rise = lasts_rise (λ k. k) (bytes_at buffer) nat_cmp nat_cmp nat_cmp_total nat_cmp-IsAntisymmetric (λ x y. refl) c.gathered.inside.subrs.items c.in_ok-subrs.subrs.items c.in_ok-subrs.ensures;
+      glyphs_rise = rises_of (map (named_at buffer) c.in_ok-glyphs.glyphs.items) (gathered_glyphs buffer c.gathered.inside.glyphs.items) (named_so c);
     }
 
 pub returns : goal.returns
 returns c = λ o p clear shows.
-    let first = c.in_ok-encoding.ensures in
-    let read = c.gathered.inside.buffer.items in
-    let whole = c.kept_encoding.new.buffer.items in
+    let buffer = c.gathered.inside.buffer.items in
     let shell = c.in_ok-shell.ensures o p c.args.gathered clear shows in
-    let encoding = first.value ∙ (ap (λ (g : Entries). encoding_view c.args.outside.now.encoding g.codes) c.gathered.view_is ∙ clear.encoding) in
+    let encoding = c.in_ok-encoding.ensures.value ∙ (ap (λ (g : Entries). encoding_view c.args.outside.now.encoding g.codes) c.gathered.view_is ∙ clear.encoding) in
     let subrs =
-    lasts_map (λ k. k) (bytes_at whole) nat_cmp nat_cmp nat_cmp_total nat_cmp-IsAntisymmetric (λ x y. refl) c.gathered.inside.subrs.items c.in_ok-subrs.subrs.items c.in_ok-subrs.ensures
-    ∙ (ap (λ es. map_by_last {R = nat_cmp} es) (entries_in read whole first.longer.0 first.longer.1 (λ k. k) c.gathered.inside.subrs.items (subrs_inside c))
-    ∙ (ap (λ (g : Entries). g.subrs) c.gathered.view_is ∙ shows.subr_bodies c.requires)) in
+    lasts_map (λ k. k) (bytes_at buffer) nat_cmp nat_cmp nat_cmp_total nat_cmp-IsAntisymmetric (λ x y. refl) c.gathered.inside.subrs.items c.in_ok-subrs.subrs.items c.in_ok-subrs.ensures
+    ∙ (ap (λ (g : Entries). g.subrs) c.gathered.view_is ∙ shows.subr_bodies c.requires) in
     let glyphs =
-    map_of (map (named_at whole) c.in_ok-glyphs.glyphs.items) (gathered_glyphs whole c.gathered.inside.glyphs.items) (named_so c)
-    ∙ (ap (λ es. map_by_last {R = name_cmp} es) (names_in read whole first.longer.0 first.longer.1 c.gathered.inside.glyphs.items (names_inside c) (glyphs_inside c))
-    ∙ (ap (λ (g : Entries). g.glyphs) c.gathered.view_is ∙ shows.glyph_bodies)) in
+    map_of (map (named_at buffer) c.in_ok-glyphs.glyphs.items) (gathered_glyphs buffer c.gathered.inside.glyphs.items) (named_so c)
+    ∙ (ap (λ (g : Entries). g.glyphs) c.gathered.view_is ∙ shows.glyph_bodies) in
     λ i. record { shell = shell i; encoding = encoding i; subrs = subrs i; glyphs = glyphs i }

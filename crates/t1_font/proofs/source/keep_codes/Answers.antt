@@ -5,7 +5,7 @@ use Rattle.std.specs.FinMap.{nat_cmp-IsAntisymmetric}
 use Rattle.std.proofs.lemmas.Cmp.{nat_cmp_total}
 use Rattle.t1_join.specs.Entries.{entries_by}
 use Rattle.t1_font.specs.Entries.{has_name}
-use Rattle.t1_font.specs.Ranges.{numbered_at}
+use Rattle.t1_font.specs.Sources.{kept_name}
 use Rattle.std.specs.Borrow.{Bor}
 use Rattle.std.proofs.lemmas.List.{nil_from_length}
 use Rattle.std.specs.Vec.Iter.{into_iter_items}
@@ -15,23 +15,17 @@ use Rattle.t1_font.proofs.Sourced.{no_codes_kept, code_passed, code_kept}
 use Rattle.t1_font.proofs.source.keep_codes.Goals as goal
 
 pub codes-init : goal.codes-init
-codes-init c = no_codes_kept c.args.buffer.now.items _ _ c.in_ok-kept.kept.items c.in_ok-kept.ensures.items refl
+codes-init c = no_codes_kept c.in_ok-kept.kept.items _ c.in_ok-kept.ensures.items
 
 pub codes-preserved-in_ok-push : goal.codes-preserved-in_ok-push
 codes-preserved-in_ok-push c =
-    code_kept c.args.buffer.now.items _ c.codes.buffer.items c.codes.kept.items _ (entries_by (λ k. k) (λ n. n.now) (into_iter_items c.next.new.self)) c.in-Some.code c.in-Some.name.now c.codes.invariant (ap (entries_by (λ k. k) (λ n. n.now)) c.in-Some.ensures.steps.0)
-    c.add_bytes.new.buffer.items c.push.new.self.items c.in_ok-add_bytes.field-0 (ap not (sym c.is_notdef.ensures ∙ c.if-not-is_notdef.true)) c.in_ok-add_bytes.ensures.grown c.in_ok-add_bytes.ensures.place c.in_ok-add_bytes.ensures.inside c.in_ok-push.ensures.items
+    code_kept _ c.codes.kept.items _ (entries_by (λ k. k) (λ n. n.now) (into_iter_items c.next.new.self)) c.in-Some.code c.in-Some.name.now c.codes.invariant (ap (entries_by (λ k. k) (λ n. n.now)) c.in-Some.ensures.steps.0)
+    c.push.new.self.items c.in_ok-from_slice.field-0 (ap not (sym c.is_notdef.ensures ∙ c.if-not-is_notdef.true)) c.in_ok-from_slice.ensures.items c.in_ok-push.ensures.items
 
 pub codes-preserved : goal.codes-preserved
-codes-preserved c = code_passed c.args.buffer.now.items _ c.codes.buffer.items c.codes.kept.items _ (entries_by (λ k. k) (λ n. n.now) (into_iter_items c.next.new.self)) c.in-Some.code c.in-Some.name.now c.codes.invariant (ap (entries_by (λ k. k) (λ n. n.now)) c.in-Some.ensures.steps.0) (ap not (sym c.is_notdef.ensures ∙ c.if-not-is_notdef.false))
+codes-preserved c = code_passed _ c.codes.kept.items _ (entries_by (λ k. k) (λ n. n.now) (into_iter_items c.next.new.self)) c.in-Some.code c.in-Some.name.now c.codes.invariant (ap (entries_by (λ k. k) (λ n. n.now)) c.in-Some.ensures.steps.0) (ap not (sym c.is_notdef.ensures ∙ c.if-not-is_notdef.false))
 
-pub returns-clause-entries : goal.returns-clause-entries
-returns-clause-entries c =
-    all_moved (map (numbered_at c.codes.buffer.items) c.codes.kept.items) _ _ c.codes.invariant.entries (ap (λ (es : List (ℕ × Bor (List ℕ))). filter has_name (entries_by (λ k. k) (λ n. n.now) es)) (nil_from_length (into_iter_items c.codes.code-iterator) (sym c.codes.code-iterator.rest.ok.0 ∙ c.in-None.ensures.steps.0)))
+pub returns : goal.returns
+returns c =
+    all_moved (map kept_name c.codes.kept.items) _ _ c.codes.invariant (ap (λ (es : List (ℕ × Bor (List ℕ))). filter has_name (entries_by (λ k. k) (λ n. n.now) es)) (nil_from_length (into_iter_items c.codes.code-iterator) (sym c.codes.code-iterator.rest.ok.0 ∙ c.in-None.ensures.steps.0)))
     ∙ ap (filter has_name) (ap (entries_by (λ k. k) (λ n. n.now)) c.into_iter-code-iterator.ensures.into_iter_gives.0 ∙ lasts_are (λ k. k) (λ n. n.now) nat_cmp nat_cmp nat_cmp_total nat_cmp-IsAntisymmetric (λ x y. refl) c.args.codes.items c.in_ok-last.last.items c.in_ok-last.ensures)
-
-pub returns-clause-inside : goal.returns-clause-inside
-returns-clause-inside c = c.codes.invariant.inside
-
-pub returns-clause-longer : goal.returns-clause-longer
-returns-clause-longer c = c.codes.invariant.longer

@@ -8,7 +8,7 @@ use Rattle.t1_font.specs.FontValue.{name_cmp}
 use Rattle.t1_font.specs.Gathering.{Entries, gathered_codes, gathered_glyphs}
 use Rattle.t1_font.specs.Places.{ending, placed}
 use Rattle.t1_font.specs.Ranges.{named_at, IsInside, AllInside, NamesInside}
-use Rattle.t1_font.proofs.Buffers.{Decrypted, Named, pushed, with_one, names_with_one, all_longer, names_wider, entries_stay, names_stay, rest_stays, plain_at, plain_inside, name_at, name_inside, goes_on}
+use Rattle.t1_font.proofs.Buffers.{Decrypted, Named, pushed, with_one, names_with_one, all_longer, names_wider, entries_stay, names_stay, rest_stays, plain_at, plain_inside, name_at, name_inside, goes_on, same_length}
 use Rattle.t1_font.proofs.canonical.FontAgain.{name_same}
 use Rattle.t1_font.proofs.gathered.Gathered.keep_glyph.Goals as goal
 
@@ -50,6 +50,7 @@ invariant_of-self-2 c =
     let name : IsInside now c.part_at-name.result = subst (λ n. IsInside (n - c.args.left) c.part_at-name.result) (sym (now_long c)) (name_inside _ _ _ _ _ _ _ _ d _ _ (named_so c)) in
     let settled = c.in_ok-self-inside.ensures.inside was c.self.invariant.names c.self.invariant.glyphs in
     record {
+      short = omega (arith, same_length _ _ _ _ _ _ _ _ d, c.self.invariant.short);
       at = omega (arith, now_long c);
       subrs = all_longer was now c.self.inside.subrs.items wider c.self.invariant.subrs;
       names = names_with_one now c.settle_names.new.entries.items c.push.new.self.items _ c.in_ok-push.ensures.items (names_wider was now c.settle_names.new.entries.items wider settled.0) name;
@@ -79,6 +80,7 @@ pub invariant_of-self-in_err-push : goal.invariant_of-self-in_err-push
 invariant_of-self-in_err-push c =
     let settled = c.in_ok-self-inside.ensures.inside c.self.inside.at c.self.invariant.names c.self.invariant.glyphs in
     record {
+      short = c.self.invariant.short;
       at = c.self.invariant.at;
       subrs = c.self.invariant.subrs;
       names = subst (NamesInside c.self.inside.at) (sym c.in_err-push.ensures.items) settled.0;

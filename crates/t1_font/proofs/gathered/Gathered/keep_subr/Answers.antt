@@ -8,7 +8,7 @@ use Rattle.t1_font.specs.Entries.{map_of}
 use Rattle.t1_font.specs.Gathering.{Entries, gathered_codes}
 use Rattle.t1_font.specs.Places.{ending, placed}
 use Rattle.t1_font.specs.Ranges.{bytes_at, numbered_at, IsInside, AllInside}
-use Rattle.t1_font.proofs.Buffers.{Decrypted, pushed, with_one, all_longer, names_wider, entries_stay, names_stay, rest_stays, plain_at, plain_inside, goes_on}
+use Rattle.t1_font.proofs.Buffers.{Decrypted, pushed, with_one, all_longer, names_wider, entries_stay, names_stay, rest_stays, plain_at, plain_inside, goes_on, same_length}
 use Rattle.t1_font.proofs.Lasts.{settled_map, settled_all}
 use Rattle.t1_font.proofs.gathered.Gathered.keep_subr.Goals as goal
 
@@ -37,6 +37,7 @@ invariant_of-self-2 c =
     let one : IsInside now c.behind_lead-plain.result = subst (λ n. IsInside (n - c.args.left) c.behind_lead-plain.result) (sym (now_long c)) (plain_inside _ _ _ _ _ _ _ _ d) in
     let subrs = settled_all (λ k. k) nat_cmp nat_cmp nat_cmp_total (λ x y. refl) c.self.inside.subrs.items c.settle.new.entries.items (λ e. IsInside was e.1) c.in_ok-self-inside.ensures.settled c.self.invariant.subrs in
     record {
+      short = omega (arith, same_length _ _ _ _ _ _ _ _ d, c.self.invariant.short);
       at = omega (arith, now_long c);
       subrs = with_one now c.settle.new.entries.items c.push.new.self.items _ c.in_ok-push.ensures.items (all_longer was now c.settle.new.entries.items wider subrs) one;
       names = names_wider was now c.self.inside.glyphs.items wider c.self.invariant.names;
@@ -65,6 +66,7 @@ returns c =
 
 pub invariant_of-self-in_err-push : goal.invariant_of-self-in_err-push
 invariant_of-self-in_err-push c = record {
+  short = c.self.invariant.short;
   at = c.self.invariant.at;
   subrs = subst (AllInside c.self.inside.at) (sym c.in_err-push.ensures.items) (settled_all (λ k. k) nat_cmp nat_cmp nat_cmp_total (λ x y. refl) c.self.inside.subrs.items c.settle.new.entries.items (λ e. IsInside c.self.inside.at e.1) c.in_ok-self-inside.ensures.settled c.self.invariant.subrs);
   names = c.self.invariant.names;

@@ -1,0 +1,20 @@
+use Rattle.std.proofs.Common.{◌∙◌, sym, ap, subst, map}
+use Rattle.std.specs.FinMap.{from_sorted}
+use Rattle.std.specs.Ordering.{nat_cmp}
+use Rattle.t1_join.specs.TableMeaning.{Rises}
+use Rattle.t1_font.specs.Lent.{lent_number}
+use Rattle.t1_font.specs.Sources.{kept_name}
+use Rattle.t1_font.proofs.Drains.{keyed, one_more, all_made}
+use Rattle.t1_font.proofs.source.lent_codes.Goals as goal
+
+pub codes-init : goal.codes-init
+codes-init c = ap (map lent_number) c.in_ok-lent.ensures.items
+
+pub codes-preserved : goal.codes-preserved
+codes-preserved c = one_more kept_name lent_number _ _ c.args.codes.now c.codes.code-index _ _ c.codes-test.true c.in_ok-push.ensures.items (keyed c.as_slice.ensures.value ∙ ap kept_name c.codes-item.is) c.codes.invariant
+
+pub invariant_of-result : goal.invariant_of-result
+invariant_of-result c = subst (Rises nat_cmp) (sym (all_made kept_name lent_number c.codes.lent.items c.args.codes.now c.codes.code-index c.codes-test.false c.codes.invariant)) c.requires.rises
+
+pub returns : goal.returns
+returns c = ap (λ es. from_sorted {R = nat_cmp} es) (all_made kept_name lent_number c.codes.lent.items c.args.codes.now c.codes.code-index c.codes-test.false c.codes.invariant)
