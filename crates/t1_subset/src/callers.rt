@@ -9,17 +9,17 @@ ghost use Rattle.t1_font.specs.FontValue.{name_cmp};
 ghost use Rattle.t1_subset.specs.Interpreter.{same_bytes};
 ghost use Rattle.t1_subset.specs.States.{joined};
 ghost use Rattle.t1_subset.specs.Keep.{has};
-ghost use Rattle.t1_subset.specs.Calls.{number_set};
+ghost use Rattle.t1_subset.specs.Profile.{set_of};
 ghost use Rattle.t1_subset.specs.Conflicts.{same_number};
 ghost use Rattle.t1_subset.specs.Differences.{smaller};
 ghost use Rattle.t1_subset.specs.Callers.{user_at, user_from, seeker_from};
 
 use crate::closure_names::has_glyph;
 use std::alloc::{AllocError, Global};
-use std::collections::BTreeSet;
 use std::marker::Model;
 use t1_font::Font;
 use t1_join::Table;
+use t1_run::Called;
 
 /// The smallest glyph that executes each Subr that a font declares, by index.
 #[derive(Drop)]
@@ -62,15 +62,15 @@ impl<'a> Users<'a> {
     }
 
     /// Notes a glyph that executes these indices.
-    pub(crate) fn note_all(&mut self, calls: &BTreeSet<u16>, glyph: &'a [u8])
+    pub(crate) fn note_all(&mut self, calls: &Called, glyph: &'a [u8])
         ensures length { length self.new ≡ length self.old }
         ensures users { (q : ℕ)
             → q < length self.old
             → user_at self.new q
             ≡ joined (user_at self.old q)
-            (cond (sets.contains (number_set calls.now) q) (Some glyph.now) None) }
+            (cond (sets.contains (set_of calls.now) q) (Some glyph.now) None) }
     {
-        'calls: for index in calls {
+        'calls: for index in calls.as_slice() {
             self.note(*index, glyph);
         }
     }

@@ -9,14 +9,14 @@ ghost use Rattle.t1_subset.specs.StateTables.{name_states, states_of};
 ghost use Rattle.t1_subset.specs.Callers.{AreCallersOf, same_charstring, user_at, user_of, seeker_of};
 
 use crate::callers::{Callers, Seekers, Users, note_seekers};
-use crate::calls::run_of;
+use crate::calls::run_alone;
 use crate::name_states::{NameTable, add_sought};
 use crate::shells::same_bytes;
 use crate::state_value::States;
 use crate::tables::{code_table, glyph_states, subr_table};
 use std::alloc::{AllocError, Global};
 use t1_font::Font;
-use t1_run::Subroutines;
+use t1_run::{Called, Subroutines};
 
 /// Whether a glyph has the charstring of the one before it, so that it executes and names the same.
 fn is_again(last: Option<&[u8]>, charstring: Option<&[u8]>) -> bool
@@ -37,13 +37,14 @@ fn callers_of<'a>(alloc: Global, font: &'a Font<'_>) -> Result<Callers<'a>, Allo
 {
     let mut users = Users::new(alloc, font.count())?;
     let mut seekers = Seekers::new(alloc);
+    let mut calls = Called::new(alloc);
     let mut last = None;
     'names: for name in font.names() {
         let charstring = font.charstring(name);
         if is_again(last, charstring) {
             continue;
         }
-        let (components, calls) = run_of(alloc, font, name)?;
+        let components = run_alone(alloc, font, name, &mut calls)?;
         users.note_all(&calls, name);
         note_seekers(font, &mut seekers, components.as_slice(), name)?;
         last = charstring;
