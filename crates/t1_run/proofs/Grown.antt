@@ -1,5 +1,5 @@
 -- A run that ends without a fault calls no absent Subr, so more Subrs change nothing of it.
-use Rattle.std.proofs.Common.{◌≡◌, refl, sym, ap, ◌∙◌, ℕ, zero, suc, List, [], ◌∷◌, map, Option, None, Some, option_map}
+use Rattle.std.proofs.Common.{◌≡◌, refl, ap, ◌∙◌, ℕ, zero, suc, List, [], ◌∷◌, map, Option, None, Some, option_map}
 use Rattle.t1_char.specs.declared.token.Token.{Token}
 use Rattle.t1_char.specs.Tokens.{tokens}
 use Rattle.t1_run.specs.declared.answer.Accent.{Accent}
@@ -8,7 +8,7 @@ use Rattle.t1_run.specs.declared.answer.Hints.TheVariants.{Replaced, Kept}
 use Rattle.t1_run.specs.State.{State, Ending, Back, Plain, Seac, Failed, start}
 use Rattle.t1_run.specs.Rules.{Step, Goes, Ends, Calls}
 use Rattle.t1_run.specs.Run.{Subrs, Outcome, taken, index_of, entry, enter, call, then_run, resume, follow, after, visiting, deeper, visit, spend, run_with, run, level_limit, run_glyph, direct_by, at_top, calls_of, with_indices, exec}
-use Rattle.t1_run.specs.Drawings.{Glyphs, Picture, parts_of, picture, picture_at, of_two, accented_picture, outcome_at, draw_by}
+use Rattle.t1_run.specs.Drawings.{Glyphs, parts_of, picture, picture_at, of_two, accented_picture, outcome_at, draw_by}
 use Rattle.t1_run.specs.Growth.{Extends, NoFault, IsDrawn, RunsWithMore, DrawsWithMore}
 
 -- the second gives what the first does, wherever that ends without a fault

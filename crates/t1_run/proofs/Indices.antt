@@ -1,11 +1,16 @@
--- Indices that are in a set already: adding them again changes nothing.
-use Rattle.std.proofs.Common.{◌≡◌, refl, sym, ap, ◌∙◌, ℕ, List, [], ◌∷◌, ◌⊎◌, inl, inr, ◌<◌, arith}
+-- Indices that come to a set: those that are in it already change nothing.
+use Rattle.std.proofs.Common.{◌≡◌, refl, sym, ap, subst, ◌∙◌, ℕ, zero, suc, List, [], ◌∷◌, ◌++◌, length, get_or, ◌⊎◌, inl, inr, ◌<◌, arith}
 use Rattle.std.specs.declared.cmp.Ordering.{Ordering}
 use Rattle.std.specs.declared.cmp.Ordering.TheVariants.{Less, Equal, Greater}
+use Rattle.std.specs.List.{Contains}
 use Rattle.std.specs.Cmp.{ranked}
 use Rattle.std.specs.BTreeSet.{insert_key}
 use Rattle.std.specs.Ordering.{nat_cmp, match_ordering, MatchOrdering}
 use Rattle.t1_run.specs.Run.{with_indices}
+
+pub with_indices-append : (set is js : List ℕ) → with_indices set (is ++ js) ≡ with_indices (with_indices set is) js
+with_indices-append set [] js = refl
+with_indices-append set (i ∷ is) js = with_indices-append (insert_key nat_cmp set i) is js
 
 -- The index stands in the list, and all before it are less.
 abbrev Reached : ℕ → List ℕ → Type 0
@@ -51,6 +56,15 @@ insert_reached i (x ∷ xs) h =
 reached_with : (j : ℕ) (is set : List ℕ) → Reached j set → Reached j (with_indices set is)
 reached_with j [] set h = h
 reached_with j (i ∷ is) set h = reached_with j is (insert_key nat_cmp set i) (reached_insert_other j i set h)
+
+reached_from : (is set : List ℕ) (i k : ℕ) → k < length is → get_or is k i ≡ i → Reached i (with_indices set is)
+reached_from [] set i k h e = absurd (omega (arith, h))
+reached_from (j ∷ is) set i zero h e = subst (λ n. Reached n (with_indices (insert_key nat_cmp set j) is)) e (reached_with j is (insert_key nat_cmp set j) (reached_insert j set))
+reached_from (j ∷ is) set i (suc k) h e = reached_from is (insert_key nat_cmp set j) i k (omega (arith, h)) e
+
+-- an index of the list comes once more
+pub with_listed : (is set : List ℕ) (i : ℕ) → Contains is i → insert_key nat_cmp (with_indices set is) i ≡ with_indices set is
+with_listed is set i (k, h, e) = insert_reached i (with_indices set is) (reached_from is set i k h e)
 
 abbrev AllReached : List ℕ → List ℕ → Type 0
 AllReached set [] = Unit {0}

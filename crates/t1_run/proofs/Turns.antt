@@ -1,8 +1,6 @@
 -- One turn of a run: the next token of the frame on top, and what it makes of the frames.
 use Rattle.std.proofs.Common.{◌≡◌, refl, sym, ap, subst, ◌∙◌, ℕ, zero, suc, ◌+◌, ◌-◌, ◌<◌, List, [], ◌∷◌, ◌++◌, map, length, take, length-append, append_assoc, reverse, ℤ, Option, Some, arith}
 use Rattle.std.proofs.lemmas.List.{map-append, append-nil, reverse-append, take_at}
-use Rattle.std.specs.BTreeSet.{insert_key}
-use Rattle.std.specs.Ordering.{nat_cmp}
 use Rattle.t1_char.specs.declared.token.Token.{Token}
 use Rattle.t1_char.specs.Tokens.{tokens}
 use Rattle.t1_run.specs.declared.frames.Frame.{Frame}
@@ -14,6 +12,7 @@ use Rattle.t1_run.specs.Rules.{Step, Goes, Ends, Calls}
 use Rattle.t1_run.specs.Run.{Subrs, Visit, Outcome, ends, after, visiting, deeper, visit, taken, index_of, entry, enter, then_run, resume, follow, spend, run, level_limit, call, with_indices}
 use Rattle.t1_run.specs.Frames.{frame_left, lists_of, deeper_by, run_frames}
 use Rattle.t1_run.specs.Limits.{IsWithinLimits}
+use Rattle.t1_run.proofs.Indices.{with_indices-append}
 use Rattle.t1_run.proofs.Resumed.{resume_after, resume_visiting, resume_twice, resume_nothing, deeper_by-resume, deeper_by-ends, deeper_by-after, deeper_by-visiting, visits_by}
 
 -- ---- what the next token of the list on top makes of a run of lists
@@ -102,10 +101,6 @@ pub record Turn (whole : Outcome) (old : List ℕ) (subrs : Subrs) (hints : Hint
   pub levels : ℕ
   pub depth : levels + (length rest + 1) ≡ suc level_limit
   pub left : Leaves whole old (run_frames subrs hints levels ((t ∷ frame_left f) ∷ lists_of rest) s) now
-
-with_indices-append : (set is js : List ℕ) → with_indices set (is ++ js) ≡ with_indices (with_indices set is) js
-with_indices-append set [] js = refl
-with_indices-append set (i ∷ is) js = with_indices-append (insert_key nat_cmp set i) is js
 
 module _ {whole : Outcome} {old : List ℕ} where
   left_as : (a b : Outcome) (now : List ℕ) → a ≡ b → Leaves whole old a now → Leaves whole old b now

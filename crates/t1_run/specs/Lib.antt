@@ -1,6 +1,7 @@
 pub mod State
 pub mod Rules
 pub mod Run
+pub mod Called
 pub mod Frames
 pub mod Machine
 pub mod Laws

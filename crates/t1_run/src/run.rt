@@ -8,6 +8,7 @@ ghost use Rattle.t1_run.specs.Machine.{ending_of, value_of, AreKept, Runs, IsEnt
 ghost use Rattle.t1_run.specs.BothAnswers.{kept_value};
 
 use crate::answer::{Accent, Curve, Direct, Fault, Hints, Mark, Metrics};
+use crate::called::Called;
 use crate::frames::Frame;
 use crate::machine::{Flow, Machine};
 use crate::subroutines::Subroutines;
@@ -57,8 +58,8 @@ fn enter<S: Subroutines>(subrs: &S, levels: usize, index: Option<u16>) -> Result
 }
 
 /// The indices with the one that a call took.
-fn take(called: &mut BTreeSet<u16>, index: Option<u16>) -> Result<(), AllocError>
-    ensures { OnOk result (called.new.keys ≡ with_indices called.old.keys (taken index)) }
+fn take(called: &mut Called, index: Option<u16>) -> Result<(), AllocError>
+    ensures { OnOk result (called.new ≡ with_indices called.old (taken index)) }
 {
     if let Some(index) = index {
         called.insert(index)?;
@@ -107,14 +108,14 @@ pub(crate) fn run<'s, S: Subroutines>(
     charstring: &'s [u8],
     keeps: bool,
     kept: &mut Vec<Mark>,
-    called: &mut BTreeSet<u16>,
+    called: &mut Called,
 ) -> Result<(Halt, bool), AllocError>
     requires { kept.old.items ≡ [] }
     ensures runs { IfOk result
         (λ r. Runs
         (run_glyph
-        (S.subrs subrs.now) hints charstring.now) r.0 keeps kept.new.items called.old.keys
-        called.new.keys) }
+        (S.subrs subrs.now) hints charstring.now) r.0 keeps kept.new.items called.old
+        called.new) }
     ensures one { IfOk result (λ r. r.1 ≡ true
         → run_glyph (S.subrs subrs.now) Hints.Kept charstring.now
         ≡ run_glyph (S.subrs subrs.now) hints charstring.now) }
@@ -191,13 +192,13 @@ fn run_glyph<S: Subroutines>(
     subrs: &S,
     hints: Hints,
     charstring: &[u8],
-    called: &mut BTreeSet<u16>,
+    called: &mut Called,
 ) -> Result<(Direct, bool), AllocError>
     ensures direct { IfOk result (λ r. value_of r.0
         ≡ direct_by hints (S.subrs subrs.now) charstring.now) }
     ensures within { IfOk result (λ r. EndsWithinLimits (value_of r.0)) }
-    ensures called { OnOk result (called.new.keys
-        ≡ with_indices called.old.keys (calls_of hints (S.subrs subrs.now) charstring.now)) }
+    ensures called { OnOk result (called.new
+        ≡ with_indices called.old (calls_of hints (S.subrs subrs.now) charstring.now)) }
     ensures one { IfOk result (λ r. r.1 ≡ true
         → run_glyph (S.subrs subrs.now) Hints.Kept charstring.now
         ≡ run_glyph (S.subrs subrs.now) hints charstring.now) }
@@ -218,7 +219,7 @@ pub(crate) fn direct_by<S: Subroutines>(
         ≡ direct_by hints (S.subrs subrs.now) charstring.now) }
     ensures within { IfOk result (λ d. EndsWithinLimits (value_of d)) }
 {
-    let mut called = BTreeSet::new(alloc);
+    let mut called = Called::new(alloc);
     let (answer, _) = run_glyph(alloc, subrs, hints, charstring, &mut called)?;
     Ok(answer)
 }
@@ -277,20 +278,20 @@ pub fn both_answers<S: Subroutines>(
     ensures executed { IfOk result (λ b. b.executed.keys
         ≡ exec (S.subrs subrs.now) charstring.now) }
 {
-    let mut executed = BTreeSet::new(alloc);
-    let (direct, is_one) = run_glyph(alloc, subrs, Hints::Replaced, charstring, &mut executed)?;
+    let mut called = Called::new(alloc);
+    let (direct, is_one) = run_glyph(alloc, subrs, Hints::Replaced, charstring, &mut called)?;
     if is_one {
         return Ok(BothAnswers {
             direct,
             direct3: None,
-            executed,
+            executed: called.to_set(alloc)?,
         });
     }
-    let (kept, _) = run_glyph(alloc, subrs, Hints::Kept, charstring, &mut executed)?;
+    let (kept, _) = run_glyph(alloc, subrs, Hints::Kept, charstring, &mut called)?;
     Ok(BothAnswers {
         direct,
         direct3: Some(kept),
-        executed,
+        executed: called.to_set(alloc)?,
     })
 }
 

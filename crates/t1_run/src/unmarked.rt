@@ -1,11 +1,12 @@
 //! What a glyph asks of its font: the parts that it names and the Subrs that it executes. Its marks are not kept.
 
 ghost use Rattle.std.specs.Prelude.{◌≡◌, IfOk, OnOk, map, [], true};
-ghost use Rattle.t1_run.specs.Run.{run_glyph, calls_of, exec, with_indices};
+ghost use Rattle.t1_run.specs.Run.{run_glyph, calls_of, exec, with_executed, with_indices};
 ghost use Rattle.t1_run.specs.Machine.{ending_of};
 ghost use Rattle.t1_run.specs.Drawings.{parts, parts_by, parts_of};
 
 use crate::answer::Hints;
+use crate::called::Called;
 use crate::parts::parts_of_halt;
 use crate::run::{Halt, run};
 use crate::subroutines::Subroutines;
@@ -19,12 +20,12 @@ fn halt_of<S: Subroutines>(
     subrs: &S,
     hints: Hints,
     charstring: &[u8],
-    called: &mut BTreeSet<u16>,
+    called: &mut Called,
 ) -> Result<(Halt, bool), AllocError>
     ensures parts { IfOk result (λ r. parts_of (ending_of r.0 [])
         ≡ parts_by hints (S.subrs subrs.now) charstring.now) }
-    ensures called { OnOk result (called.new.keys
-        ≡ with_indices called.old.keys (calls_of hints (S.subrs subrs.now) charstring.now)) }
+    ensures called { OnOk result (called.new
+        ≡ with_indices called.old (calls_of hints (S.subrs subrs.now) charstring.now)) }
     ensures one { IfOk result (λ r. r.1 ≡ true
         → run_glyph (S.subrs subrs.now) Hints.Kept charstring.now
         ≡ run_glyph (S.subrs subrs.now) hints charstring.now) }
@@ -33,45 +34,48 @@ fn halt_of<S: Subroutines>(
     run(subrs, hints, charstring, false, &mut none, called)
 }
 
-/// How a charstring ends where hints are replaced and where they are kept, and which Subrs it executes. It is run once where
-/// both answers after OtherSubr 3 are one.
+/// How a charstring ends where hints are replaced and where they are kept, and which Subrs it executes, added to `called`.
+/// It is run once where both answers after OtherSubr 3 are one.
 fn both_halts<S: Subroutines>(
     alloc: Global,
     subrs: &S,
     charstring: &[u8],
-) -> Result<(Halt, Halt, BTreeSet<u16>), AllocError>
+    called: &mut Called,
+) -> Result<(Halt, Halt), AllocError>
     ensures replaced { IfOk result (λ r. parts_of (ending_of r.0 [])
         ≡ parts_by Hints.Replaced (S.subrs subrs.now) charstring.now) }
     ensures kept { IfOk result (λ r. parts_of (ending_of r.1 [])
         ≡ parts_by Hints.Kept (S.subrs subrs.now) charstring.now) }
-    ensures executed { IfOk result (λ r. r.2.keys ≡ exec (S.subrs subrs.now) charstring.now) }
+    ensures executed { OnOk result (called.new
+        ≡ with_executed called.old (S.subrs subrs.now) charstring.now) }
 {
-    let mut executed = BTreeSet::new(alloc);
-    let (replaced, is_one) = halt_of(alloc, subrs, Hints::Replaced, charstring, &mut executed)?;
+    let (replaced, is_one) = halt_of(alloc, subrs, Hints::Replaced, charstring, called)?;
     if is_one {
-        return Ok((replaced, replaced, executed));
+        return Ok((replaced, replaced));
     }
-    let (kept, _) = halt_of(alloc, subrs, Hints::Kept, charstring, &mut executed)?;
-    Ok((replaced, kept, executed))
+    let (kept, _) = halt_of(alloc, subrs, Hints::Kept, charstring, called)?;
+    Ok((replaced, kept))
 }
 
 /// What a plain charstring asks of its font: the names of its parts, by [`parts_of`](crate::parts_of) where hints are
-/// replaced and then where they are kept, and the indices that it executes, as [`executed`] says. It keeps no marks, and so
-/// it takes no memory but for its answer. It fails for want of memory alone.
+/// replaced and then where they are kept, and the indices that it executes, as [`executed`] says, added to `called`. It
+/// keeps no marks. It fails for want of memory alone, and has then added some of these indices or none.
 pub fn parts_and_executed<S: Subroutines>(
     alloc: Global,
     subrs: &S,
     charstring: &[u8],
-) -> Result<(Vec<&'static str>, BTreeSet<u16>), AllocError>
-    ensures names { IfOk result (λ r. map (λ s. s.now) r.0.items
+    called: &mut Called,
+) -> Result<Vec<&'static str>, AllocError>
+    ensures names { IfOk result (λ names. map (λ s. s.now) names.items
         ≡ parts (S.subrs subrs.now) charstring.now) }
-    ensures indices { IfOk result (λ r. r.1.keys ≡ exec (S.subrs subrs.now) charstring.now) }
+    ensures executed { OnOk result (called.new
+        ≡ with_executed called.old (S.subrs subrs.now) charstring.now) }
 {
-    let (replaced, kept, executed) = both_halts(alloc, subrs, charstring)?;
+    let (replaced, kept) = both_halts(alloc, subrs, charstring, called)?;
     let mut names = parts_of_halt(alloc, replaced)?;
     let more = parts_of_halt(alloc, kept)?;
     names.extend_from_slice(more.as_slice())?;
-    Ok((names, executed))
+    Ok(names)
 }
 
 /// The indices that `callsubr` takes in the run of a plain charstring, up to its end or fault, where hints are replaced or
@@ -84,6 +88,7 @@ pub fn executed<S: Subroutines>(
 ) -> Result<BTreeSet<u16>, AllocError>
     ensures indices { IfOk result (λ set. set.keys ≡ exec (S.subrs subrs.now) charstring.now) }
 {
-    let (_, _, executed) = both_halts(alloc, subrs, charstring)?;
-    Ok(executed)
+    let mut called = Called::new(alloc);
+    both_halts(alloc, subrs, charstring, &mut called)?;
+    called.to_set(alloc)
 }

@@ -2,53 +2,58 @@
 
 ghost use Rattle.std.specs.Prelude.{◌≡◌, IfOk, OnOk, ◌∷◌, [], map};
 ghost use Rattle.std.specs.FinSet as sets;
-ghost use Rattle.t1_subset.specs.Profile.{profile};
+ghost use Rattle.t1_subset.specs.Profile.{profile, set_of};
 ghost use Rattle.t1_subset.specs.Keep.{components, charstring};
-ghost use Rattle.t1_subset.specs.Calls.{number_set};
 
 use std::alloc::{AllocError, Global};
-use std::collections::BTreeSet;
 use t1_font::Font;
-use t1_run::{Glyphs, parts_and_executed};
+use t1_run::{Called, Glyphs, parts_and_executed};
 
-/// What the runs of a glyph come to: the components that they name, and the Subrs that they execute.
+/// The components that the runs of a glyph name; the Subrs that they execute are added to `calls`.
 pub(crate) fn run_of(
     alloc: Global,
     font: &Font<'_>,
     name: &[u8],
-) -> Result<(Vec<&'static str>, BTreeSet<u16>), AllocError>
-    ensures components { IfOk result (λ r. map (λ s. s.now) r.0.items
+    calls: &mut Called,
+) -> Result<Vec<&'static str>, AllocError>
+    ensures components { IfOk result (λ names. map (λ s. s.now) names.items
         ≡ components profile font.now.subrs (charstring font.now name.now)) }
-    ensures calls { IfOk result (λ r. number_set r.1
-        ≡ profile.exec font.now.subrs (charstring font.now name.now)) }
+    ensures calls { OnOk result (set_of calls.new
+        ≡ sets.union (set_of calls.old)
+        (profile.exec font.now.subrs (charstring font.now name.now))) }
 {
     font.proof_is_font();
     match font.glyph(name) {
         Some(charstring) => {
-            let (names, executed) = parts_and_executed(alloc, font, charstring)?;
-            Ok((names, executed))
+            let names = parts_and_executed(alloc, font, charstring, calls)?;
+            Ok(names)
         }
-        None => Ok((Vec::new(alloc), BTreeSet::new(alloc))),
+        None => Ok(Vec::new(alloc)),
     }
 }
 
-/// Adds the indices of another set.
-pub(crate) fn add_all(calls: &mut BTreeSet<u16>, more: &BTreeSet<u16>) -> Result<(), AllocError>
-    ensures { OnOk result (number_set calls.new
-        ≡ sets.union (number_set calls.old) (number_set more.now)) }
+/// The same, where only the Subrs that they execute are left in `calls`.
+pub(crate) fn run_alone(
+    alloc: Global,
+    font: &Font<'_>,
+    name: &[u8],
+    calls: &mut Called,
+) -> Result<Vec<&'static str>, AllocError>
+    ensures components { IfOk result (λ names. map (λ s. s.now) names.items
+        ≡ components profile font.now.subrs (charstring font.now name.now)) }
+    ensures calls { OnOk result (set_of calls.new
+        ≡ profile.exec font.now.subrs (charstring font.now name.now)) }
 {
-    'more: for index in more {
-        calls.insert(*index)?;
-    }
-    Ok(())
+    calls.clear();
+    run_of(alloc, font, name, calls)
 }
 
 /// The indices 0 to 3, which stand in for the PostScript of flex and hint replacement and are always kept
 /// (Adobe Type 1 Font Format 1.1, chapter 8).
-pub(crate) fn first_four(alloc: Global) -> Result<BTreeSet<u16>, AllocError>
-    ensures { IfOk result (λ calls. calls.keys ≡ 0 ∷ 1 ∷ 2 ∷ 3 ∷ []) }
+pub(crate) fn first_four(alloc: Global) -> Result<Called, AllocError>
+    ensures { IfOk result (λ calls. calls ≡ 0 ∷ 1 ∷ 2 ∷ 3 ∷ []) }
 {
-    let mut calls = BTreeSet::new(alloc);
+    let mut calls = Called::new(alloc);
     calls.insert(0)?;
     calls.insert(1)?;
     calls.insert(2)?;

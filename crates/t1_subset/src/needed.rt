@@ -8,7 +8,7 @@ ghost use Rattle.t1_subset.specs.Laws.{IsOf};
 ghost use Rattle.t1_subset.specs.Calls.{number_set};
 ghost use Rattle.t1_subset.specs.NameSets.{asked};
 
-use crate::calls::{add_all, first_four, run_of};
+use crate::calls::{first_four, run_of};
 use crate::closure_names::{ClosureNames, add_components};
 use std::alloc::{AllocError, Global};
 use std::collections::BTreeSet;
@@ -44,10 +44,10 @@ pub(crate) fn needed<'a>(
     let mut calls = first_four(alloc)?;
     let mut place = 0;
     'closure: while let Some(name) = closure.get(place) {
-        let (components, more) = run_of(alloc, font, name)?;
+        let components = run_of(alloc, font, name, &mut calls)?;
         add_components(font, &mut closure, components.as_slice())?;
-        add_all(&mut calls, &more)?;
         place += 1;
     }
-    Ok((closure, calls))
+    let subrs = calls.to_set(alloc)?;
+    Ok((closure, subrs))
 }

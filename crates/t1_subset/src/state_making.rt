@@ -8,7 +8,7 @@ ghost use Rattle.t1_subset.specs.StateTables.{name_states, states_of};
 ghost use Rattle.t1_subset.specs.Callers.{AreCallersOf, same_charstring, seeker_of};
 
 use crate::callers::{Callers, Seekers, note_seekers};
-use crate::calls::run_of;
+use crate::calls::run_alone;
 use crate::name_states::{NameTable, add_sought};
 use crate::shells::same_bytes;
 use crate::state_value::States;
@@ -16,6 +16,7 @@ use crate::tables::{code_table, glyph_states, subr_table};
 use crate::users::{no_users, note_users};
 use std::alloc::{AllocError, Global};
 use t1_font::Font;
+use t1_run::Called;
 
 /// Whether a glyph has the charstring of the one before it, so that it executes and names the same.
 fn is_again(last: Option<&[u8]>, charstring: Option<&[u8]>) -> bool
@@ -40,13 +41,14 @@ pub(crate) fn callers_of<'t, 'a>(
 {
     let mut users = no_users(alloc, font)?;
     let mut seekers = Seekers::new(alloc);
+    let mut calls = Called::new(alloc);
     let mut last = None;
     'names: for name in font.names() {
         let charstring = font.charstring(name);
         if is_again(last, charstring) {
             continue;
         }
-        let (components, calls) = run_of(alloc, font, name)?;
+        let components = run_alone(alloc, font, name, &mut calls)?;
         note_users(&mut users, &calls, name)?;
         note_seekers(font, &mut seekers, components.as_slice(), name)?;
         last = charstring;

@@ -6,16 +6,15 @@ ghost use Rattle.std.specs.FinMap as maps;
 ghost use Rattle.std.specs.FinSet as sets;
 ghost use Rattle.t1_join.specs.Meaning.{of_number};
 ghost use Rattle.t1_subset.specs.StateTables.{numbered};
-ghost use Rattle.t1_subset.specs.Calls.{number_set};
+ghost use Rattle.t1_subset.specs.Profile.{set_of};
 ghost use Rattle.t1_subset.specs.Conflicts.{same_number};
 ghost use Rattle.t1_subset.specs.Users.{user_meaning, unused, with_user, user_at};
 
 use crate::tables::put;
 use std::alloc::{AllocError, Global};
-use std::collections::BTreeSet;
 use t1_font::Font;
 use t1_join::{Kept, Table};
-use t1_run::Subroutines;
+use t1_run::{Called, Subroutines};
 
 /// The smallest glyph that executes a Subr, if one does.
 #[derive(Clone, Copy)]
@@ -94,15 +93,15 @@ fn note_user<'a>(users: &mut Users<'a>, index: u16, glyph: &'a [u8]) -> Result<(
 /// Notes a glyph that executes these indices.
 pub(crate) fn note_users<'a>(
     users: &mut Users<'a>,
-    calls: &BTreeSet<u16>,
+    calls: &Called,
     glyph: &'a [u8],
 ) -> Result<(), AllocError>
     ensures { (q : ℕ)
         → OnOk result (maps.get users.new (of_number q)
         ≡ with_user (maps.get users.old (of_number q))
-        (cond (sets.contains (number_set calls.now) q) (Some glyph.now) None)) }
+        (cond (sets.contains (set_of calls.now) q) (Some glyph.now) None)) }
 {
-    'calls: for index in calls {
+    'calls: for index in calls.as_slice() {
         note_user(users, *index, glyph)?;
     }
     Ok(())

@@ -5,7 +5,7 @@ use crate::tests::budget::count_of_marks;
 use crate::tests::executes::are;
 use crate::tests::fonts::GlyphFont;
 use crate::{
-    Drawing, both_answers, direct, direct_and_executed, direct3, draw, draw3, executed,
+    Called, Drawing, both_answers, direct, direct_and_executed, direct3, draw, draw3, executed,
     parts_and_executed, parts_of,
 };
 use std::alloc::{AllocError, Global};
@@ -68,12 +68,25 @@ fn names_right(alloc: Global, font: &GlyphFont<'_>) -> Result<bool, AllocError> 
     Ok(names.as_slice() == ["A", "acute"].as_slice())
 }
 
-// Whether the parts of an accented glyph are named for both runs, and the calls of both told.
+// Whether the parts of an accented glyph are named for both runs, and the calls of both told: beside an index that was
+// called before, and alone.
 fn asks_right(alloc: Global, font: &GlyphFont<'_>) -> Result<bool, AllocError> {
-    let (names, none) = parts_and_executed(alloc, font, &SEAC)?;
-    let (no_names, calls) = parts_and_executed(alloc, font, &HINTS)?;
+    let mut called = Called::new(alloc);
+    called.insert(65534)?;
+    let names = parts_and_executed(alloc, font, &SEAC, &mut called)?;
+    let no_names = parts_and_executed(alloc, font, &HINTS, &mut called)?;
     let are_named = names.as_slice() == ["A", "acute", "A", "acute"].as_slice();
-    Ok(are_named && are(&none, &[]) && no_names.is_empty() && are(&calls, &[3, 4, 7]))
+    let all = called.to_set(alloc)?;
+    called.clear();
+    let again = parts_and_executed(alloc, font, &HINTS, &mut called)?;
+    let calls = called.to_set(alloc)?;
+    Ok(
+        are_named
+            && no_names.is_empty()
+            && again.is_empty()
+            && are(&all, &[3, 4, 7, 65534])
+            && are(&calls, &[3, 4, 7]),
+    )
 }
 
 // Whether all of these calls answer right.

@@ -9,6 +9,7 @@ use Rattle.std.specs.Cmp.Lexicographic.{nat_list_cmp_total}
 use Rattle.std.specs.BTreeSet.{insert_key}
 use Rattle.std.specs.FinSet as sets
 use Rattle.std.specs.FinSet.{nat_cmp-IsAntisymmetric}
+use Rattle.t1_run.specs.Run.{Subrs, calls, calls3, with_indices, with_executed, exec}
 use Rattle.t1_font.specs.FontValue.{name_cmp}
 use Rattle.t1_subset.specs.Interpreter.{Numbers}
 use Rattle.t1_subset.proofs.closing.NameSets.{or_same, or_later}
@@ -41,31 +42,35 @@ any_key q k (x ∷ xs) = elim (nat_cmp k x)
       | Greater ↦ λ h. ap (λ b. eq_by_cmp nat_cmp q x || b) (any_key q k xs) ∙ or_later (eq_by_cmp nat_cmp q x) (eq_by_cmp nat_cmp q k) (list_any (eq_by_cmp nat_cmp q) xs)
     ] refl
 
--- an index that comes to the set comes from what is left
-pub insert_step : (old : List ℕ) (new : List ℕ) (k : ℕ) (left : List ℕ) → new ≡ insert_key nat_cmp old k → sets.union (of new) (of left) ≡ sets.union (of old) (of (k ∷ left))
-insert_step old new k left e = same _ _ (λ q.
-    sets.contains-union nat_cmp_total (of new) (of left) q
-    ∙ (λ i. (in_of new q ∙ ap (list_any (eq_by_cmp nat_cmp q)) e ∙ any_key q k old) i || in_of left q i)
-    ∙ or_swapped (eq_by_cmp nat_cmp q k) (list_any (eq_by_cmp nat_cmp q) old) (list_any (eq_by_cmp nat_cmp q) left)
-    ∙ (λ i. sym (in_of old q) i || sym (in_of (k ∷ left) q) i)
-    ∙ sym (sets.contains-union nat_cmp_total (of old) (of (k ∷ left)) q))
+-- indices that come to a set
+pub any_with : (q : ℕ) (set is : List ℕ) → list_any (eq_by_cmp nat_cmp q) (with_indices set is) ≡ (list_any (eq_by_cmp nat_cmp q) set || list_any (eq_by_cmp nat_cmp q) is)
+any_with q set [] = sym (or_none (list_any (eq_by_cmp nat_cmp q) set))
+any_with q set (i ∷ is) =
+    any_with q (insert_key nat_cmp set i) is
+    ∙ ap (λ b. b || list_any (eq_by_cmp nat_cmp q) is) (any_key q i set)
+    ∙ or_swapped (eq_by_cmp nat_cmp q i) (list_any (eq_by_cmp nat_cmp q) set) (list_any (eq_by_cmp nat_cmp q) is)
 
--- a set that comes to the set comes from what is left
-pub union_step : (old new t : Numbers) (left : List ℕ) → new ≡ sets.union old t → sets.union new (of left) ≡ sets.union old (of (sets.items t ++ left))
-union_step old new t left e = same _ _ (λ q.
-    sets.contains-union nat_cmp_total new (of left) q
-    ∙ (λ i. (ap (λ (s : Numbers). sets.contains s q) e ∙ sets.contains-union nat_cmp_total old t q) i || in_of left q i)
-    ∙ or_assoc (sets.contains old q) (sets.contains t q) (list_any (eq_by_cmp nat_cmp q) left)
-    ∙ ap (λ b. sets.contains old q || b) ((λ i. sets.contains-items t q i || list_any (eq_by_cmp nat_cmp q) left) ∙ sym (list_any-append (eq_by_cmp nat_cmp q) (sets.items t) left) ∙ sym (in_of (sets.items t ++ left) q))
-    ∙ sym (sets.contains-union nat_cmp_total old (of (sets.items t ++ left)) q))
+-- what a charstring executes comes to a set
+pub of_executed : (set : List ℕ) (subrs : Subrs) (c : List ℕ) → of (with_executed set subrs c) ≡ sets.union (of set) (of (exec subrs c))
+of_executed set subrs c =
+    let any : ℕ → List ℕ → Bool = λ q. list_any (eq_by_cmp nat_cmp q) in
+    let first : List ℕ = calls subrs c in
+    let second : List ℕ = calls3 subrs c in
+    let both : (q : ℕ) (s : List ℕ) → any q (with_executed s subrs c) ≡ ((any q s || any q first) || any q second) =
+    λ q s. any_with q (with_indices s first) second ∙ ap (λ b. b || any q second) (any_with q s first) in
+    same _ _ (λ q.
+    in_of (with_executed set subrs c) q
+    ∙ both q set
+    ∙ or_assoc (any q set) (any q first) (any q second)
+    ∙ ap (λ b. any q set || b) (sym (in_of (exec subrs c) q ∙ both q []))
+    ∙ ap (λ b. b || sets.contains (of (exec subrs c)) q) (sym (in_of set q))
+    ∙ sym (sets.contains-union nat_cmp_total (of set) (of (exec subrs c)) q))
 
 pub union_none : (s : Numbers) → sets.union s (of []) ≡ s
 union_none s = same _ _ (λ q. sets.contains-union nat_cmp_total s (of []) q ∙ ap (λ b. sets.contains s q || b) (in_of [] q) ∙ or_none (sets.contains s q))
 
-pub union_lists : (ks ls : List ℕ) → sets.union (of ks) (of ls) ≡ of (ks ++ ls)
-union_lists ks ls = same _ _ (λ q.
-    sets.contains-union nat_cmp_total (of ks) (of ls) q ∙ (λ i. in_of ks q i || in_of ls q i)
-    ∙ sym (list_any-append (eq_by_cmp nat_cmp q) ks ls) ∙ sym (in_of (ks ++ ls) q))
+pub none_union : (s : Numbers) → sets.union (of []) s ≡ s
+none_union s = same _ _ (λ q. sets.contains-union nat_cmp_total (of []) s q ∙ ap (λ b. b || sets.contains s q) (in_of [] q))
 
 -- what comes of the names of a list comes of the members of their set
 module _ (g : List ℕ → List ℕ) (low : List ℕ) (all : List (List ℕ)) where

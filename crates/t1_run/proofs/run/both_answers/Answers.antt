@@ -9,7 +9,8 @@ pub returns-then-is_one-clause-executed : goal.returns-then-is_one-clause-execut
 returns-then-is_one-clause-executed g c =
     let said = c.in_ok-direct.ensures in
     let calls : List ℕ = calls_of Replaced (g.S.Subroutines.subrs c.args.subrs.now) c.args.charstring.now in
-    said.called
-    ∙ ap (λ (set : List ℕ). with_indices set calls) c.new-executed.ensures.empty
+    c.in_ok-to_set.ensures
+    ∙ said.called
+    ∙ ap (λ (set : List ℕ). with_indices set calls) c.new-called.ensures
     ∙ sym (with_again calls [])
     ∙ ap (λ (o : Outcome). with_indices (with_indices [] calls) o.indices) (sym (said.one c.if-is_one.true))

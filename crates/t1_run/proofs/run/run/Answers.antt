@@ -8,7 +8,7 @@ use Rattle.t1_run.proofs.run.run.Goals as goal
 
 pub turns-init : goal.turns-init
 turns-init g c =
-    at_start (g.S.Subroutines.subrs c.args.subrs.now) c.args.hints c.args.charstring.now c.args.called.now.keys c.args.keeps c.args.kept.now.items _ c.new-top.result c.new-machine.result
+    at_start (g.S.Subroutines.subrs c.args.subrs.now) c.args.hints c.args.charstring.now c.args.called.now c.args.keeps c.args.kept.now.items _ c.new-top.result c.new-machine.result
     (ap (λ (fs : List Frame). fs ++ c.new-top.result ∷ []) c.new-callers.ensures) c.new-machine.ensures c.new-top.ensures c.requires
 
 pub returns-in_default-clause-runs : goal.returns-in_default-clause-runs
@@ -103,7 +103,7 @@ returns-in-Err-clause-runs g c =
     let e = c.in-Call.ensures in
     fails_so c.turns.invariant c.turns.callers.items c.turns.top refl c.next.new.self c.in-Some.token c.spend.new.self c.in-Some.ensures
     c.in-Call.i (record { step = e.step; one = e.one; within = e.within }) c.index_of-index.result c.remaining_capacity.result (search rules) c.remaining_capacity.ensures
-    c.take.new.called.keys c.in-Err.fault c.in_ok-take-in-Call.ensures c.in-Err.ensures
+    c.take.new.called c.in-Err.fault c.in_ok-take-in-Call.ensures c.in-Err.ensures
 
 pub returns-in-Err-clause-one : goal.returns-in-Err-clause-one
 returns-in-Err-clause-one g c =
@@ -117,7 +117,7 @@ turns-preserved g c =
     let e = c.in-Call.ensures in
     calls c.turns.invariant c.turns.callers.items c.turns.top refl c.next.new.self c.in-Some.token c.spend.new.self c.in-Some.ensures
     c.in-Call.i (record { step = e.step; one = e.one; within = e.within }) c.index_of-index.result c.remaining_capacity.result (search rules) c.remaining_capacity.ensures
-    c.take.new.called.keys c.in-Ok.charstring.now c.new-top-in-Ok.result c.push.new.self.items (c.push.new.self.items ++ c.new-top-in-Ok.result ∷ [])
+    c.take.new.called c.in-Ok.charstring.now c.new-top-in-Ok.result c.push.new.self.items (c.push.new.self.items ++ c.new-top-in-Ok.result ∷ [])
     c.in_ok-take-in-Call.ensures c.in-Ok.ensures c.new-top-in-Ok.ensures c.push.ensures.items refl
 
 pub returns-in-None-clause-runs : goal.returns-in-None-clause-runs

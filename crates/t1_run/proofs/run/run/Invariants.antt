@@ -7,4 +7,4 @@ decreases-turns g l = l.machine.allowed
 
 abbrev pub invariant-turns : goal.invariant-turns
 invariant-turns g l =
-    Between (g.S.Subroutines.subrs l.subrs) l.hints l.charstring l.initial.called.keys l.keeps l.is_one l.kept.items (l.callers.items ++ l.top ∷ []) l.machine l.called.keys
+    Between (g.S.Subroutines.subrs l.subrs) l.hints l.charstring l.initial.called l.keeps l.is_one l.kept.items (l.callers.items ++ l.top ∷ []) l.machine l.called

@@ -2,8 +2,7 @@ use Rattle.std.proofs.Common.{◌≡◌, ℕ, ◌+◌, take, List, [], Bor, map,
 use Rattle.std.specs.FinSet as sets
 use Rattle.t1_font.specs.FontValue.{notdef}
 use Rattle.t1_subset.specs.Keep.{has, charstring, components, keep}
-use Rattle.t1_subset.specs.Profile.{profile}
-use Rattle.t1_subset.specs.Calls.{number_set}
+use Rattle.t1_subset.specs.Profile.{profile, set_of}
 use Rattle.t1_subset.specs.ClosureNames.{push_new, push_all}
 use Rattle.t1_subset.specs.NameSets.{lent, asked}
 use Rattle.t1_subset.proofs.closing.ClosureSteps.{ClosureSoFar, closure_start, closure_step, closure_end, closure_few}
@@ -45,7 +44,7 @@ closure-preserved c =
     c.in_ok-add_components.ensures ∙ ap (λ (ps : List (List ℕ)). push_all ns (filter (has f) ps)) (ap (map (λ (s : Bor (List ℕ)). s.now)) c.as_slice.ensures.value ∙ c.in_ok-components.ensures.components) in
     let l = at.0 in (
       subst (λ (ns : List (List ℕ)). ClosureSoFar profile f (asked c.args.names.now) ns (c.closure.place + 1)) (sym more) (closure_step profile f (asked c.args.names.now) ns c.closure.place n c.closure.invariant.0 at.0 at.1),
-      calls_step f ns c.closure.place n (number_set c.closure.calls) (number_set c.add_all-in-Some.new.calls) at.0 at.1 c.closure.invariant.1 (c.in_ok-add_all-2.ensures ∙ ap (sets.union (number_set c.closure.calls)) c.in_ok-components.ensures.calls)
+      calls_step f ns c.closure.place n (set_of c.closure.calls) (set_of c.run_of.new.calls) at.0 at.1 c.closure.invariant.1 c.in_ok-components.ensures.calls
           ∙ ap (calls_to f) (sym (ap (take (c.closure.place + 1)) more ∙ all_front (c.closure.place + 1) found ns (omega (arith, l)))),
     )
 
@@ -55,5 +54,6 @@ returns-clause-names c = closure_end profile c.args.font.now (asked c.args.names
 pub returns-clause-subrs : goal.returns-clause-subrs
 returns-clause-subrs c =
     let end = past c.closure.closure c.closure.place c.in_default.ensures in
-    calls_end c.args.font.now c.closure.closure c.closure.place (number_set c.closure.calls) (keep profile c.args.font.now (asked c.args.names.now)) end c.closure.invariant.1
+    ap set_of c.in_ok-subrs.ensures
+    ∙ calls_end c.args.font.now c.closure.closure c.closure.place (set_of c.closure.calls) (keep profile c.args.font.now (asked c.args.names.now)) end c.closure.invariant.1
     (closure_end profile c.args.font.now (asked c.args.names.now) c.closure.closure c.closure.place c.closure.invariant.0 end)

@@ -1,14 +1,13 @@
 use Rattle.std.proofs.Common.{◌≡◌, ◌-◌, take}
 use Rattle.std.specs.FinMap as maps
-use Rattle.t1_subset.specs.Profile.{profile}
-use Rattle.t1_subset.specs.Calls.{number_set}
+use Rattle.t1_subset.specs.Profile.{profile, set_of}
 use Rattle.t1_subset.specs.NameSets.{asked}
 use Rattle.t1_subset.proofs.closing.ClosureSteps.{ClosureSoFar}
 use Rattle.t1_subset.proofs.closing.KeptCalls.{calls_to}
 use Rattle.t1_subset.proofs.needed.needed.Given as goal
 
 abbrev pub invariant-closure : goal.invariant-closure
-invariant-closure l = ClosureSoFar profile l.font (asked l.names) l.closure l.place × (number_set l.calls ≡ calls_to l.font (take l.place l.closure))
+invariant-closure l = ClosureSoFar profile l.font (asked l.names) l.closure l.place × (set_of l.calls ≡ calls_to l.font (take l.place l.closure))
 
 abbrev pub decreases-closure : goal.decreases-closure
 decreases-closure l = maps.len l.font.glyphs - l.place

@@ -1,5 +1,4 @@
-use Rattle.std.proofs.Common.{◌≡◌, sym, ap, ◌∙◌, Ok, arith}
-use Rattle.std.specs.declared.cmp.Ordering.TheVariants.{Equal}
+use Rattle.std.proofs.Common.{sym, ap, ◌∙◌, Ok, arith}
 use Rattle.std.specs.Cmp.{Equal-is}
 use Rattle.std.specs.FinMap as fin
 use Rattle.std.specs.List.Sorted.{IsBinarySearchResult}
