@@ -27,6 +27,18 @@ fn put(alloc: Global, table: &mut Numbered, key: u16, byte: u8) -> Result<(), Al
     table.insert(key, value)
 }
 
+// The same, where the key is looked for at this place first.
+fn put_near(
+    alloc: Global,
+    table: &mut Numbered,
+    place: usize,
+    key: u16,
+    byte: u8,
+) -> Result<(), AllocError> {
+    let value = [byte].as_slice().to_vec(alloc)?;
+    table.insert_near(place, key, value)
+}
+
 // Whether the table has the byte alone at the key.
 fn holds(table: &Numbered, key: u16, byte: u8) -> bool {
     match table.get(&key) {
@@ -50,8 +62,8 @@ fn keys_of_both<K: Key + Drop, V: Kept + Drop>(
 // The table that keeps the last value of a key, and each key once.
 fn small(alloc: Global) -> Result<Numbered, AllocError> {
     let mut small = table(alloc, 9, 12, 1)?;
-    put(alloc, &mut small, 3, 1)?;
-    put(alloc, &mut small, 10, 7)?;
+    put_near(alloc, &mut small, 0, 3, 1)?;
+    put_near(alloc, &mut small, 2, 10, 7)?;
     Ok(small)
 }
 
@@ -59,7 +71,8 @@ fn small(alloc: Global) -> Result<Numbered, AllocError> {
 fn small_is_right(alloc: Global) -> Result<bool, AllocError> {
     let small = small(alloc)?;
     let upwards = small.entries().map(|(key, _)| *key).eq([3, 9, 10, 11]);
-    Ok(upwards && holds(&small, 10, 7))
+    let near = small.get_near(2, &10).is_some() && small.get_near(9, &11).is_some();
+    Ok(upwards && near && small.get_near(2, &4).is_none() && holds(&small, 10, 7))
 }
 
 // The key at which the small table is in conflict with another, if any, and the number of keys of both, where they join.
