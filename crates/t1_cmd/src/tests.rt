@@ -175,6 +175,16 @@ fn a_reader_that_only_interrupts(rt: HostRuntime) {
     assert_eq!(rt; (busy.calls(), busy.failed()), (101, 101));
 }
 
+// `tools/sweep_growths.py` refuses all growths: what takes no memory answers right.
+#[test]
+fn no_growth(rt: HostRuntime) {
+    let mut busy = Counted::new(Busy);
+    let mut room = [0u8; 4];
+    assert!(rt; busy.read(&mut room).is_err());
+    assert!(rt; busy.calls() == 1 && busy.failed() == 1);
+    assert!(rt; status(&RunFault::Write) == 3);
+}
+
 const LEFT: &[u8] = b"S 5 ef060b\nG X 8b0e\n";
 
 const RIGHT: &[u8] = b"G Y 0E\nS 5 ef060b\n";

@@ -6,7 +6,7 @@ use crate::tests::executes::are;
 use crate::tests::fonts::GlyphFont;
 use crate::{
     Called, Drawing, both_answers, direct, direct_and_executed, direct3, draw, draw3, executed,
-    parts_and_executed, parts_of,
+    parts_and_executed, parts_of, standard_name,
 };
 use std::alloc::{AllocError, Global};
 use std::test::Fail;
@@ -110,4 +110,10 @@ fn growths(rt: HostRuntime) -> Result<(), Fail> {
     };
     assert!(rt; right);
     Ok(())
+}
+
+// `tools/sweep_growths.py` refuses all growths: what takes no memory answers right.
+#[test]
+fn no_growth(rt: HostRuntime) {
+    assert!(rt; standard_name(65) == Some("A") && standard_name(0).is_none());
 }
