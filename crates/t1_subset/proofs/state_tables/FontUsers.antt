@@ -1,5 +1,5 @@
 -- The users of a font's Subrs, as the code notes them.
-use Rattle.std.proofs.Common.{◌≡◌, ℕ, Bool, true, false, cond, ◌||◌, List, [], ◌∷◌, refl, sym, ◌∙◌, ap, true≢false, Option, Some, None, is_some, option_map}
+use Rattle.std.proofs.Common.{◌≡◌, ℕ, Bool, true, false, cond, List, [], ◌∷◌, refl, sym, ◌∙◌, ap, true≢false, Option, Some, None, is_some, option_map}
 use Rattle.std.specs.Cmp.Lexicographic.{nat_list_cmp_total}
 use Rattle.std.specs.Cmp.{nat_cmp_total}
 use Rattle.std.specs.FinMap as maps
@@ -18,16 +18,10 @@ use Rattle.t1_subset.proofs.state_tables.Numbered.{get-numbered, by_number}
 
 -- ---- one user more
 
-pub with_none : (s : State) → with_user s None ≡ s
+with_none : (s : State) → with_user s None ≡ s
 with_none None = refl
 with_none (Some []) = refl
 with_none (Some (mark ∷ n)) = refl
-
-pub with_either : (s : State) (n : List ℕ) (a b : Bool) → with_user (with_user s (cond a (Some n) None)) (cond b (Some n) None) ≡ with_user s (cond (a || b) (Some n) None)
-with_either None n a b = refl
-with_either (Some []) n true b = refl
-with_either (Some []) n false b = refl
-with_either (Some (mark ∷ m)) n a b = refl
 
 pub still_there : (s : State) (u : Option (List ℕ)) → is_some (with_user s u) ≡ is_some s
 still_there None u = refl
@@ -48,10 +42,6 @@ noted : (s : State) (n : List ℕ) (b : Bool) → (b ≡ true → s ≡ Some [])
 noted s n true h = sym (ap (λ s. with_user s (Some n)) (h refl))
 noted s n false h = sym (with_none s)
 
-unnoted : (s : State) (n : List ℕ) (b : Bool) → (b ≡ true → with_user s (Some n) ≡ s) → s ≡ with_user s (cond b (Some n) None)
-unnoted s n true h = sym (h refl)
-unnoted s n false h = sym (with_none s)
-
 module _ (t : TableMeaning) (i : ℕ) (n : List ℕ) (q : ℕ) where
   same : same_number q i ≡ true → maps.get t (of_number q) ≡ maps.get t (of_number i)
   same h = ap (λ k. maps.get t (of_number k)) (tied nat_cmp_total nat_cmp-IsAntisymmetric q i h)
@@ -61,10 +51,6 @@ module _ (t : TableMeaning) (i : ℕ) (n : List ℕ) (q : ℕ) where
   put_user u nobody is =
       ap (λ (u : TableMeaning). maps.get u (of_number q)) is ∙ maps.get-insert nat_list_cmp_total t (of_number i) (0 ∷ n) (of_number q)
       ∙ ap (λ b. cond b (Some (0 ∷ n)) (maps.get t (of_number q))) (by_number q i) ∙ noted (maps.get t (of_number q)) n (same_number q i) (λ h. same h ∙ nobody)
-
-  -- where there is a user, or no Subr
-  pub keep_user : with_user (maps.get t (of_number i)) (Some n) ≡ maps.get t (of_number i) → maps.get t (of_number q) ≡ with_user (maps.get t (of_number q)) (cond (same_number q i) (Some n) None)
-  keep_user kept = unnoted (maps.get t (of_number q)) n (same_number q i) (λ h. ap (λ s. with_user s (Some n)) (same h) ∙ kept ∙ sym (same h))
 
 -- ---- no users
 

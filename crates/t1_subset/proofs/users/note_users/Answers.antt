@@ -7,7 +7,6 @@ use Rattle.t1_join.specs.Meaning.{of_number}
 use Rattle.t1_subset.specs.Conflicts.{same_number}
 use Rattle.t1_subset.specs.Users.{with_user}
 use Rattle.t1_subset.proofs.closing.NumberSets.{any_with}
-use Rattle.t1_subset.proofs.state_tables.FontUsers.{with_none, with_either}
 use Rattle.t1_subset.proofs.users.note_users.Goals as goal
 
 pub calls-init : goal.calls-init
