@@ -4,7 +4,7 @@ use crate::flats::Flat;
 use crate::keys::{Kept, Key};
 use crate::laws;
 use crate::listing::{self, JoinFault, ListFault, Listing};
-use crate::many::{have_join, join_all};
+use crate::many::join_all;
 use crate::partial::Join;
 use crate::tables::Table;
 use std::alloc::{AllocError, Global};
@@ -169,12 +169,11 @@ fn many_entries(alloc: Global) -> Result<Vec<(u16, u8)>, AllocError> {
     Ok(entries)
 }
 
-// The number of keys of all tables, where they join and `have_join` says so; one that no row wants, where it says otherwise.
+// The number of keys of all tables, where they join.
 fn keys_of_all(alloc: Global, list: &[Numbered]) -> Result<Option<usize>, AllocError> {
-    match (join_all(alloc, list)?, have_join(alloc, list)?) {
-        (Some(all), true) => Ok(Some(all.entries().count())),
-        (None, false) => Ok(None),
-        _ => Ok(Some(usize::MAX)),
+    match join_all(alloc, list)? {
+        Some(all) => Ok(Some(all.entries().count())),
+        None => Ok(None),
     }
 }
 
