@@ -26,12 +26,13 @@ fn join_command<'a>(alloc: Global) -> Result<Command<'a>, AllocError> {
 }
 
 const SUBSET_HELP: &str = "\
-Writes to OUT, as PFA, the glyphs of these names, `.notdef`, the components of
-accented glyphs, and the Subrs that these glyphs execute. Each glyph draws as
-in IN. A Subr that none of them executes is replaced by the single command
-`return`, so that subsets of one font can be merged again. Without a NAME it
-keeps `.notdef` alone. Put `--` before a NAME that begins with `-`. A NAME may
-be given more than once. OUT is opened only when the result is complete.
+Cuts the font to the glyphs of these names, `.notdef`, the components of
+accented glyphs, and the Subrs that all of these execute, and writes it to OUT
+as PFA. Each glyph draws as in IN. A Subr that no kept glyph executes is
+replaced by the single command `return`; Subrs 0 to 3 are always kept. So
+subsets of one font can be merged again. Without a NAME it keeps only
+`.notdef`. Put `--` before a NAME that begins with `-`. A NAME may be given
+more than once. OUT is opened only when the result is complete.
 
 Example: t1subset subset font.pfb some.pfa A B Aacute";
 
@@ -39,7 +40,7 @@ fn names_word<'a>(alloc: Global) -> Arg<'a> {
     Arg::new(alloc, "NAME")
         .num_args(0..)
         .action(ArgAction::Append)
-        .help("The names of the glyphs that are kept, without their `/`")
+        .help("The names of the glyphs to keep, without their `/`")
 }
 
 fn subset_command<'a>(alloc: Global) -> Result<Command<'a>, AllocError> {
@@ -56,10 +57,10 @@ OUT comes first: `t1subset merge a.pfa b.pfa` overwrites a.pfa.
 
 Merges the fonts and writes the result to OUT as PFA. Subsets of one font, in
 any order, give byte for byte the subset of all their names. Fonts that don't
-fit together are refused with the first difference. A Subr that is `return`,
-and that no glyph of its font executes, gives way to the other font's. Subsets
-that other programs cut mostly need `rejoin`. OUT is opened only when the
-result is complete.
+merge are refused with the lowest conflict. A Subr that is `return`, and that
+no glyph of its font executes, gives way to the other font's. Subsets that
+other programs cut mostly need `rejoin`. OUT is opened only when the result is
+complete.
 
 Example: t1subset merge all.pfa one.pfa two.pfa";
 
@@ -172,7 +173,7 @@ const SHOW_HELP: &str = "\
 Prints `width WX WY`, `bearing SBX SBY`, and for each part `part DX DY` and a
 line for each of its marks, or the one line `fault NAME`. Numbers are
 charstring units; one that is not whole is printed as its count of 1/65536
-unit and `/65536`. Put `--` before a NAME that begins with `-`.
+unit followed by `/65536`. Put `--` before a NAME that begins with `-`.
 
 Example: t1subset show font.pfb Aacute";
 
@@ -186,11 +187,11 @@ fn show_command<'a>(alloc: Global) -> Result<Command<'a>, AllocError> {
 
 const PROGRAM_HELP: &str = "\
 Exit status: 0 for success; 1 for a refusal, with the reason on standard error;
-2 for a wrong command line; 3 where a file can't be opened, read or written.
+2 for a wrong command line; 3 if a file can't be opened, read or written.
 
 Example: t1subset subset font.pfb some.pfa A B Aacute";
 
-/// Adds a command to the program's, where there is memory for all of it.
+/// Adds a command to those of the program, if there is memory for all of it.
 fn with<'a>(
     program: Result<Command<'a>, AllocError>,
     command: Result<Command<'a>, AllocError>,
@@ -243,7 +244,7 @@ fn program<'a>(alloc: Global) -> Result<Command<'a>, AllocError> {
     with(program, join_command(alloc))
 }
 
-/// What the words ask for, or clap's text for words that don't parse.
+/// What the words ask for, or clap's text if they don't parse.
 pub fn parse<'a>(alloc: Global, words: &'a [String]) -> Result<ArgMatches<'a>, Error> {
     program(alloc)?.try_get_matches_from(words)
 }
