@@ -16,7 +16,7 @@ pub const EEXEC_LEAD: u8 = 4;
 /// The key that the cipher of each charstring starts with. Its lead bytes are as many as lenIV says.
 pub const CHARSTRING_KEY: u16 = 4330;
 
-// What each key is made with, of the key before and the cipher byte.
+// What each key is made with, from the key before it and the cipher byte.
 const FACTOR: u64 = 52845;
 
 const SUMMAND: u64 = 22719;
@@ -28,7 +28,7 @@ fn key_after(key: u16, cipher: u8) -> u16
     (((cipher as u64 + key as u64) * FACTOR + SUMMAND) % 65536) as u16
 }
 
-/// The key after two cipher bytes. Nothing here waits for the key between them.
+/// The key after two cipher bytes, computed without the key between them.
 fn key_after_both(key: u16, first: u8, second: u8) -> u16
     ensures { result ≡ next_key (next_key key first) second }
 {
@@ -72,7 +72,7 @@ pub fn decrypt(bytes: &mut [u8], key: u16)
 }
 
 /// Decrypts a cipher in place, and answers its text, which stands after `lead` lead bytes. A cipher
-/// of no more than these has an empty text.
+/// that is no longer than these has an empty text.
 pub fn open(cipher: &mut [u8], key: u16, lead: u8) -> &[u8]
     ensures { result.now ≡ opened key lead cipher.old }
 {
@@ -85,7 +85,7 @@ pub fn open(cipher: &mut [u8], key: u16, lead: u8) -> &[u8]
 ///
 /// # Errors
 ///
-/// Want of memory alone.
+/// Only want of memory.
 pub fn seal(alloc: Global, text: &[u8], key: u16, lead: u8) -> Result<Vec<u8>, BytesFault>
     ensures text { IfOk result (λ v. v.items ≡ sealed key lead text.now) }
     ensures memory { IfErr result (λ fault. fault ≡ Memory) }

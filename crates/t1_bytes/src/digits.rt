@@ -1,9 +1,9 @@
 //! Hexadecimal digits, and the bytes that they spell, two for each (Adobe Type 1 Font Format 1.1,
 //! chapter 7).
 //!
-//! The cipher of a font file is read in full lines of 64 digits, as most files have them, and a line
-//! of another length byte by byte from where no full line comes. The crate `hex`, which writes such
-//! lines, reads one digit after another, and takes several times as long.
+//! The cipher of a font file is read in full lines of 64 digits, as most files have them; where no
+//! full line follows, it is read byte by byte. The crate `hex`, which writes these lines, reads one
+//! digit after another, and takes several times as long.
 
 ghost use Rattle.std.specs.Prelude.{◌≡◌, ◌++◌, ◌<◌, ◌≤◌, [], ◌∷◌, Ok, length, IfOk, IfErr, IfSome, MatchOption};
 ghost use Rattle.hex.specs.Hex.{is_hex_digit};
@@ -36,8 +36,8 @@ fn digit_value(byte: u8) -> u8
     }
 }
 
-/// Whether each byte is a hexadecimal digit. It looks at all of them, since a loop that may end
-/// early is compiled to one byte at a time.
+/// Whether each byte is a hexadecimal digit. It looks at all of them, since the compiled code of a
+/// loop that may end early takes one byte at a time.
 fn all_hex(bytes: &[u8]) -> bool
     ensures { result ≡ all_hex bytes.now }
 {
@@ -60,8 +60,8 @@ fn line_bytes(line: &[u8]) -> [u8; LINE]
     bytes
 }
 
-/// The digits of a full line, white space before them left out, and what stands after; `None` where
-/// another byte comes before there are enough.
+/// The digits of a full line, without the white space before them, and what stands after them;
+/// `None` if another byte comes before there are enough.
 fn line_at(text: &[u8]) -> Option<(&[u8], &[u8])>
     ensures full { IfSome result (λ x. length x.0.now ≡ 64) }
     ensures read { IfSome result (λ x. spelled_ahead text.now
@@ -76,7 +76,7 @@ fn line_at(text: &[u8]) -> Option<(&[u8], &[u8])>
     Some((line, after))
 }
 
-/// The next digit, white space before it left out, and what stands after it.
+/// The next digit, without the white space before it, and what stands after it.
 fn digit_at(text: &[u8]) -> Option<(u8, &[u8])>
     ensures read { MatchOption result (digits_ahead text.now
         ≡ []) (λ x. digits_ahead text.now ≡ x.0 ∷ digits_ahead x.1.now) }
@@ -90,7 +90,7 @@ fn digit_at(text: &[u8]) -> Option<(u8, &[u8])>
     Some((*digit, after))
 }
 
-/// The byte of the next two digits, and what stands after them; `None` where fewer come.
+/// The byte of the next two digits, and what stands after them; `None` if there are fewer.
 fn pair_at(text: &[u8]) -> Option<(u8, &[u8])>
     ensures read { MatchOption result (spelled_ahead text.now
         ≡ []) (λ x. spelled_ahead text.now ≡ x.0 ∷ spelled_ahead x.1.now) }
@@ -101,7 +101,7 @@ fn pair_at(text: &[u8]) -> Option<(u8, &[u8])>
     Some((digit_value(high) * 16 + digit_value(low), after))
 }
 
-/// Appends the bytes of the next digits, as far as the first white space between two bytes, and
+/// Appends the bytes of the next digits, up to the first white space between two bytes, and
 /// answers what stands after them.
 fn put_pairs<'a>(bytes: &mut Vec<u8>, text: &'a [u8]) -> Result<&'a [u8], BytesFault>
     ensures read { IfOk result (λ rest. bytes.new.items ++ spelled_ahead rest.now
@@ -120,8 +120,9 @@ fn put_pairs<'a>(bytes: &mut Vec<u8>, text: &'a [u8]) -> Result<&'a [u8], BytesF
     Ok(rest)
 }
 
-/// The bytes that the digits at the front of a text spell, two for each, as far as digits and white
-/// space go; an odd last digit is dropped. A line of 64 digits is read at once.
+/// The bytes that the digits at the front of a text spell, two digits for each byte, up to the first
+/// byte that is neither a digit nor white space; an odd last digit is dropped. A line of 64 digits is
+/// read at once.
 pub fn hex_bytes(alloc: Global, text: &[u8]) -> Result<Vec<u8>, BytesFault>
     ensures { Answers (λ v. v.items) result (Ok (spelled_ahead text.now)) }
 {

@@ -83,7 +83,7 @@ fn after_blanks(bytes: &[u8]) -> &[u8]
     rest
 }
 
-/// The cipher of a flat text: the last bytes of the text, so many of them, or the bytes that hexadecimal digits spell.
+/// The cipher of a flat text: a number of bytes at the end of the text, or the bytes that hexadecimal digits spell.
 #[derive(Drop)]
 pub enum Cipher {
     Last(usize),
@@ -125,8 +125,8 @@ fn find(alloc: Global, flat: &[u8]) -> Result<(usize, Cipher), BytesFault>
     }
 }
 
-/// The offset after the first `eexec` that stands as [`split_eexec`] says, and the cipher that follows, which isn't
-/// copied where it is binary.
+/// The offset after the first `eexec` that [`split_eexec`] would accept, and the cipher that follows, which isn't
+/// copied if it is binary.
 ///
 /// # Errors
 ///
@@ -155,17 +155,17 @@ fn split(alloc: Global, flat: &[u8]) -> Result<(usize, Vec<u8>), BytesFault>
 }
 
 /// Splits a flat text: the offset after the first `eexec` that stands after `currentfile` and white
-/// space and before a blank, a tab, CR or LF, and the cipher bytes that follow, lead bytes among
-/// them (Adobe Type 1 Font Format 1.1, chapter 7).
+/// space and before a blank, a tab, CR or LF, and the cipher bytes that follow, including the lead
+/// bytes (Adobe Type 1 Font Format 1.1, chapter 7).
 ///
-/// The cipher is hexadecimal where four hexadecimal digits stand after the blanks, tabs, CR and LF;
-/// then it goes as far as hexadecimal digits and white space do. Otherwise it is binary, and goes
-/// to the end.
+/// The cipher is hexadecimal if four hexadecimal digits follow the blanks, tabs, CR and LF; then it
+/// ends before the first byte that is neither a hexadecimal digit nor white space. Otherwise it is
+/// binary, and goes to the end.
 ///
 /// # Errors
 ///
-/// `NoEexec` where there is no such `eexec`, and `ShortCipher` where fewer than four cipher bytes
-/// follow it. Want of memory is `Memory`.
+/// `NoEexec` if there is no such `eexec`, and `ShortCipher` if fewer than four cipher bytes follow
+/// it. Want of memory is `Memory`.
 pub fn split_eexec(alloc: Global, flat: &[u8]) -> Result<(usize, Vec<u8>), BytesFault>
     ensures right { MatchResult result (λ x. IsSplit flat.now x.0 x.1.items)
         (OrMemory (SplitFails flat.now)) }

@@ -9,13 +9,13 @@ use std::fmt;
 /// The refusals of this crate.
 #[derive(Clone, Copy, Debug, PartialEq, Eq)]
 pub enum BytesFault {
-    /// At this offset of the file neither a segment stands nor the end of the segments.
+    /// At this offset of the file there is neither a segment nor the end of the segments.
     BadSegment { at: usize },
     /// No `eexec` stands after `currentfile` and white space and before a blank, tab, CR or LF.
     NoEexec,
     /// Fewer than four cipher bytes follow `eexec`.
     ShortCipher,
-    /// Memory was wanting. It may come in place of any other fault.
+    /// A growth was refused. This may come in place of any other fault.
     Memory,
 }
 

@@ -3,8 +3,8 @@
 /// The form that a font file is written in.
 #[derive(Clone, Copy, Debug, PartialEq, Eq)]
 pub enum Form {
-    /// Text, its encrypted part in hexadecimal lines.
+    /// Text, with its encrypted part in hexadecimal lines.
     Pfa,
-    /// Segments, the encrypted part in a binary one (Technical Note 5040).
+    /// Segments, with the encrypted part in a binary one (Technical Note 5040).
     Pfb,
 }

@@ -8,7 +8,7 @@ ghost use Rattle.t1_bytes.specs.Texts.{hex_lines, trailer};
 use crate::fault::BytesFault;
 use std::alloc::{AllocError, Global};
 
-/// How many bytes a line has, two digits for each.
+/// How many bytes the digits of a line spell, two digits for each byte.
 pub const LINE: usize = 32;
 
 /// The 8 lines of 64 zeros and the line `cleartomark` that end a font file after its cipher.
@@ -40,8 +40,8 @@ fn set_line(text: &mut [u8], digits: &[u8])
     rest[0] = b'\n';
 }
 
-/// Writes the line of some bytes of a text at a place behind the first of them. The digits are made apart, since the line may
-/// lie over the bytes.
+/// Writes the line of some bytes of a text at a place behind the first of them. The digits are made elsewhere first,
+/// since the line may overlap the bytes.
 fn spread_line(text: &mut [u8], from: usize, len: usize, to: usize)
     requires short { len ≤ 32 }
     requires from { from + len ≤ length text.old }
@@ -59,8 +59,8 @@ fn spread_line(text: &mut [u8], from: usize, len: usize, to: usize)
     }
 }
 
-/// Writes the lines of so many bytes, from `from` on, over these and what stands behind them: the last line first, since
-/// each is longer than its bytes.
+/// Writes the lines of this many bytes, from `from` on, over the bytes and what stands behind them: the last line first,
+/// since each is longer than its bytes.
 fn spread_lines(text: &mut [u8], from: usize, count: usize, lines: usize)
     requires enough { count ≤ 32 * lines }
     requires few { 32 * lines < count + 32 }
@@ -76,11 +76,11 @@ fn spread_lines(text: &mut [u8], from: usize, count: usize, lines: usize)
     }
 }
 
-/// Makes the bytes of a text from `from` on the lines of [`hex_lines`], in its own vector.
+/// Replaces the bytes of a text from `from` on by the lines that [`hex_lines`] gives for them, in the text's own vector.
 ///
 /// # Errors
 ///
-/// Where a growth was refused; then the text stays.
+/// A growth was refused; then the text stays as it was.
 pub fn spread_hex_lines(text: &mut Vec<u8>, from: usize) -> Result<(), AllocError>
     ensures done { OnOk result (text.new.items
         ≡ take from text.old.items ++ hex_lines (drop from text.old.items)) }
@@ -94,17 +94,17 @@ pub fn spread_hex_lines(text: &mut Vec<u8>, from: usize) -> Result<(), AllocErro
     Ok(())
 }
 
-/// How many bytes the lines of so many bytes have, as far as it can be told.
+/// How many bytes the lines of this many bytes have, if the number fits.
 fn lines_len(bytes: usize) -> usize {
     bytes.saturating_mul(2).saturating_add(bytes.div_ceil(LINE))
 }
 
-/// The bytes as hexadecimal text: lower-case digits, 64 on each line, LF after each line, a short
-/// last one too. No bytes have no line.
+/// The bytes as hexadecimal text: lower-case digits, 64 on each line, with LF after each line,
+/// including a short last one. No bytes give no line.
 ///
 /// # Errors
 ///
-/// Want of memory alone.
+/// Only want of memory.
 pub fn hex_lines(alloc: Global, bytes: &[u8]) -> Result<Vec<u8>, BytesFault>
     ensures text { IfOk result (λ v. v.items ≡ hex_lines bytes.now) }
     ensures memory { IfErr result (λ fault. fault ≡ Memory) }

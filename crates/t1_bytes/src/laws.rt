@@ -3,7 +3,7 @@
 
 ghost use Rattle.t1_bytes.specs.Laws.{ReadsAsSpelled, UndoEachOther, OneCipher, OpensSealed, OneFlatText, FlattensWritten, OneSplit, LacksEverywhere, ReadsHexLines, ReadsBinary};
 
-/// What is read of segments and of a flat text is what is spelled, and the other way round.
+/// What is read of segments and of a flat text is what is spelled, and vice versa.
 pub fn reads_as_spelled()
     ensures { ReadsAsSpelled }
 {}
@@ -18,7 +18,7 @@ pub fn one_cipher()
     ensures { OneCipher }
 {}
 
-/// A text that was encrypted after lead bytes that are zero is had again by decryption and dropping these.
+/// A text that was encrypted after lead bytes of zero is recovered by decrypting it and dropping these bytes.
 pub fn opens_sealed()
     ensures { OpensSealed }
 {}
@@ -28,7 +28,7 @@ pub fn one_flat_text()
     ensures { OneFlatText }
 {}
 
-/// What is written in segments is had again as flat text.
+/// What is written in segments is recovered as the flat text.
 pub fn flattens_written()
     ensures { FlattensWritten }
 {}
@@ -38,7 +38,7 @@ pub fn one_split()
     ensures { OneSplit }
 {}
 
-/// A flat text is refused for want of `eexec` where no offset has the marker, and nowhere else.
+/// A flat text is refused for want of `eexec` if no offset has the marker, and only then.
 pub fn lacks_everywhere()
     ensures { LacksEverywhere }
 {}

@@ -2,11 +2,17 @@
 //! charstrings, the split of a flat text into clear text and cipher, and lines of hexadecimal
 //! digits.
 //!
-//! A file's way in is [`flatten`], [`split_eexec`], [`open`]; its way out is [`seal`], and then
+//! A file is read by [`flatten`], [`split_eexec`] and [`open`], and written by [`seal`] and then
 //! [`segments`] or [`hex_lines`], with [`trailer`] at the end.
 //!
+//! ```text
+//! let flat = flatten(alloc, file)?;
+//! let (offset, mut cipher) = split_eexec(alloc, flat.as_slice())?;
+//! let private = open(cipher.as_mut_slice(), EEXEC_KEY, EEXEC_LEAD);
+//! ```
+//!
 //! The specifications speak of texts by grammars (`specs/Grammar.antt`): values that say which
-//! bytes spell what, and how that is read. The laws of these serve the grammar of fonts too.
+//! bytes spell what, and how that is read. Their laws serve the grammar of fonts too.
 #![tactic(auto)]
 
 mod cipher;

@@ -1,4 +1,4 @@
 //! The limit of files.
 
-/// How many bytes a file has at most, and so each part of one, this project's limit: 256 MiB.
+/// The most bytes that a file has, and so each part of a file: 256 MiB. This is the project's own limit.
 pub const FILE_LIMIT: usize = 268_435_456;

@@ -48,7 +48,7 @@ fn end_at(bytes: &[u8]) -> Option<(&[u8], &[u8])>
     fixed_at(bytes, &[MARK, END])
 }
 
-/// Whether a file is in segments: its first byte is 128. The flat text of any other file is the file itself.
+/// Whether a file consists of segments: its first byte is 128. The flat text of any other file is the file itself.
 fn is_segmented(file: &[u8]) -> bool
     ensures { result ≡ starts_segment file.now }
 {
@@ -69,13 +69,13 @@ fn flat(alloc: Global, file: &[u8]) -> Result<Vec<u8>, BytesFault>
 /// The flat text of a file: of a PFB file, which begins with 128, the data of its text and binary
 /// segments, joined; of any other file, the file itself (Technical Note 5040).
 ///
-/// A segment of type 3 ends a PFB file, and so does the end of the input where a segment would
-/// begin. What follows type 3 is ignored. Both are this project's choice.
+/// A segment of type 3 ends a PFB file, and so does the end of the input if it comes where a segment
+/// would begin. What follows type 3 is ignored. Both are this project's choice.
 ///
 /// # Errors
 ///
-/// `BadSegment` with the offset in the file of the first header that doesn't fit: another first
-/// byte, another type, or an end inside the header or its data. Want of memory is `Memory`.
+/// `BadSegment` with the offset in the file of the first header that is wrong: another first byte,
+/// another type, or a file that ends inside the header or its data. Want of memory is `Memory`.
 pub fn flatten(alloc: Global, file: &[u8]) -> Result<Vec<u8>, BytesFault>
     ensures right { MatchResult result (λ v. IsFlat file.now v.items) (Refuses file.now) }
     ensures only { (text : List ℕ) → IsFlat file.now text → Gives (λ v. v.items) result (Ok text) }
@@ -111,12 +111,12 @@ fn join(file: &mut Vec<u8>) -> Result<(), BytesFault>
     }
 }
 
-/// Makes a file its flat text, in its own vector: the data of the segments is moved to the front, and what stands behind
-/// it is cut off. It takes no memory; [`flatten`] says what the flat text is.
+/// Turns a file into its flat text, in its own vector: the data of the segments is moved to the front, and what stands
+/// behind it is cut off. It takes no memory; [`flatten`] says what the flat text is.
 ///
 /// # Errors
 ///
-/// `BadSegment`, as [`flatten`] has it. What the vector holds then is not said.
+/// `BadSegment`, as in [`flatten`]. What the vector then holds is not said.
 pub fn flatten_in_place(file: &mut Vec<u8>) -> Result<(), BytesFault>
     ensures { Gives (λ _. file.new.items) result (flat_of file.old.items) }
 {
@@ -136,13 +136,13 @@ fn put_segment(out: &mut Vec<u8>, kind: u8, bytes: &[u8]) -> Result<(), AllocErr
     Ok(())
 }
 
-/// The PFB file of a clear part, a binary cipher and a trailer: a text, a binary and a text
-/// segment, and the end (Technical Note 5040). Each argument has at most
+/// The PFB file of a clear part, a binary cipher and a trailer: a text segment, a binary segment and
+/// a text segment, and the end (Technical Note 5040). Each argument has at most
 /// [`FILE_LIMIT`](crate::FILE_LIMIT) bytes.
 ///
 /// # Errors
 ///
-/// Want of memory alone.
+/// Only want of memory.
 pub fn segments(
     alloc: Global,
     clear: &[u8],

@@ -1,5 +1,5 @@
-//! Reading from the front of bytes. A reader answers what it read and what stands after it, both
-//! of them parts of the bytes that it was given.
+//! Reading from the front of bytes. A reader answers what it read and what stands after it; both
+//! are parts of the bytes that it was given.
 
 ghost use Rattle.std.specs.Prelude.{◌≡◌, ◌≤◌, ◌+◌, length, take_while, Some, IfSome, MatchOption};
 ghost use Rattle.std.specs.Option.{option_map};
@@ -9,7 +9,7 @@ ghost use Rattle.t1_bytes.specs.White.{is_white, white, gap};
 
 use bstr::ByteSlice;
 
-/// The first `n` bytes; `None` where there are fewer.
+/// The first `n` bytes; `None` if there are fewer.
 pub fn count_at(bytes: &[u8], n: usize) -> Option<(&[u8], &[u8])>
     ensures { option_map (λ x. (x.0.now, x.1.now)) result ≡ (count n).read bytes.now }
 {
@@ -20,7 +20,7 @@ pub fn count_at(bytes: &[u8], n: usize) -> Option<(&[u8], &[u8])>
     }
 }
 
-/// The bytes of `text`; `None` where others stand.
+/// The bytes of `text`; `None` if the front is something else.
 pub fn fixed_at<'a>(bytes: &'a [u8], text: &[u8]) -> Option<(&'a [u8], &'a [u8])>
     ensures { option_map (λ x. (x.0.now, x.1.now)) result ≡ (fixed text.now).read bytes.now }
 {
@@ -46,14 +46,14 @@ fn white_len(bytes: &[u8]) -> usize
     bytes.iter().take_while(|b| is_white(**b)).count()
 }
 
-/// White space, as far as it goes; it may be none.
+/// All the white space at the front; there may be none.
 pub fn white_at(bytes: &[u8]) -> (&[u8], &[u8])
     ensures { Some (result.0.now, result.1.now) ≡ white.read bytes.now }
 {
     bytes.split_at(white_len(bytes))
 }
 
-/// White space of one byte or more, as far as it goes; `None` where there is none.
+/// All the white space at the front, at least one byte; `None` if there is none.
 #[tactic(auto, unfolding(crate::specs::White::gap))]
 pub fn gap_at(bytes: &[u8]) -> Option<(&[u8], &[u8])>
     ensures { option_map (λ x. (x.0.now, x.1.now)) result ≡ gap.read bytes.now }
@@ -65,8 +65,8 @@ pub fn gap_at(bytes: &[u8]) -> Option<(&[u8], &[u8])>
     Some((front, rest))
 }
 
-/// The first offset from `from` on where `text` stands; `None` where there is none, as past the end
-/// of the bytes.
+/// The first offset from `from` on where `text` stands; `None` if there is none, also if `from` is
+/// past the end of the bytes.
 pub fn find_from(bytes: &[u8], text: &[u8], from: usize) -> Option<usize>
     ensures within { IfSome result (λ at. (from ≤ at) × (at + length text.now ≤ length bytes.now)) }
     ensures first { MatchOption result (Nowhere (OccursAt bytes.now text.now) from (length bytes.now

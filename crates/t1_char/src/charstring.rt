@@ -8,7 +8,7 @@ ghost use Rattle.t1_char.specs.Tokens.{tokens, token_at, more_of};
 use crate::token::{Command, Token};
 use byteorder::{BigEndian, ByteOrder};
 
-/// The tokens of a charstring (Adobe Type 1 Font Format 1.1, chapter 6), an iterator over borrowed bytes. It takes no
+/// The tokens of a charstring (Adobe Type 1 Font Format 1.1, chapter 6), as an iterator over borrowed bytes. It takes no
 /// memory, and it ends.
 #[derive(Clone, Copy, Debug)]
 pub struct Tokens<'a> {
@@ -20,7 +20,7 @@ pub struct Tokens<'a> {
 impl<'a> Tokens<'a> {
     ghost use Rattle.t1_char.specs.Charstring.{charstring_of, tokens_left};
 
-    /// All tokens of a plain charstring: one that is decrypted, without its lead bytes.
+    /// All tokens of a plain charstring, which is decrypted and without its lead bytes.
     pub fn new(charstring: &'a [u8]) -> Tokens<'a>
         ensures all { tokens_left result ≡ tokens charstring.now }
         ensures whole { charstring_of result ≡ charstring.now }
@@ -31,8 +31,8 @@ impl<'a> Tokens<'a> {
         }
     }
 
-    /// The tokens of a plain charstring from an offset in bytes on. From an offset that `Tokens` of it reached, they are
-    /// the tokens that were left there; from one inside a token, its last bytes are read as if they began a charstring.
+    /// The tokens of a plain charstring from an offset in bytes on. From an offset that `Tokens` reached in it, they are
+    /// the tokens that were left there; from an offset inside a token, the bytes are read as if a charstring began there.
     pub fn at(charstring: &'a [u8], offset: usize) -> Tokens<'a>
         requires { offset ≤ length charstring.now }
         ensures rest { tokens_left result ≡ tokens (drop offset charstring.now) }
@@ -41,7 +41,7 @@ impl<'a> Tokens<'a> {
         Tokens { charstring, offset }
     }
 
-    /// How many bytes of the charstring are read. From this offset on its tokens are those that are left.
+    /// How many bytes of the charstring have been read. Its tokens from this offset on are those that are left.
     pub fn offset(&self) -> usize
         ensures within { result ≤ length (charstring_of self.now) }
         ensures rest { tokens (drop result (charstring_of self.now)) ≡ tokens_left self.now }

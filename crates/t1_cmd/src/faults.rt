@@ -44,7 +44,7 @@ impl Name {
 
 /// Why the input is refused.
 ///
-/// Want of memory and a file over the limit are members of their own, whichever call met them.
+/// Want of memory and a file over the limit have variants of their own, whichever call met them.
 #[derive(Debug, Drop, Error)]
 pub enum Reason {
     /// An input is over the file limit.
@@ -53,7 +53,7 @@ pub enum Reason {
     /// A growth was refused.
     #[error("out of memory")]
     Memory,
-    /// A text is no listing.
+    /// A text is not a listing.
     #[error("{0}")]
     List(ListFault),
     /// Two listings don't join.
@@ -79,7 +79,7 @@ pub enum RunFault {
     /// A reader failed; nothing was written.
     #[error("failed: read")]
     Read,
-    /// The writer failed; a part of the result may be out.
+    /// The writer failed; a part of the result may have been written.
     #[error("failed: write")]
     Write,
 }

@@ -1,4 +1,4 @@
-//! The engines that take a whole font: one writes it anew, the other says that it reads.
+//! The engines that take a whole font: one writes its canonical file, the other says that it can be read.
 ghost use Rattle.std.specs.Prelude.{◌≡◌, ◌+◌, ◌≤◌, ◌∷◌, [], Ok, IfOk};
 ghost use Rattle.std.specs.FinMap as fin;
 ghost use Rattle.t1_font.specs.FontValue.{FontValue};
@@ -105,7 +105,7 @@ fn subr_count(font: &Font<'_>) -> usize
     present
 }
 
-// The line of a font that reads.
+// The line for a font that can be read.
 fn check_line(alloc: Global, font: &Font<'_>) -> Result<Vec<u8>, AllocError>
     ensures { IfOk result (λ text. check_answer font.now ≡ Ok text.items) }
 {
@@ -127,7 +127,7 @@ fn line_of(alloc: Global, source: &Source) -> Result<Vec<u8>, AllocError>
     text
 }
 
-/// Writes one line that says that a font reads: how many glyphs it has, how many Subrs are present, and its weight.
+/// Writes one line that says that a font can be read: how many glyphs it has, how many Subrs are present, and its weight.
 pub fn run_check<R: Read, W: Write>(
     alloc: Global,
     reader: &mut Counted<R>,

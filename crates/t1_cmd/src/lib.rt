@@ -1,7 +1,15 @@
 //! The engines of `t1subset`: from the bytes of readers to the bytes of a writer.
 //!
 //! Each engine reads whole inputs, makes its whole result, and writes it last. What is written is a stated function
-//! of the bytes that were read; after a refusal, or where a reader failed, nothing is written.
+//! of the bytes that were read; after a refusal, or if a reader failed, nothing is written.
+//!
+//! ```text
+//! let mut text = Vec::new(alloc);
+//! match run_check(alloc, &mut Counted::new(file), &mut Counted::new(&mut text)) {
+//!     Ok(()) => show(&text),
+//!     Err(fault) => write_fault(alloc, &fault, &mut Counted::new(err))?,
+//! }
+//! ```
 #![tactic(auto)]
 
 mod counting;

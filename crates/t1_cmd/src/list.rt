@@ -128,7 +128,7 @@ fn list_text(alloc: Global, font: &Font<'_>) -> Result<Vec<u8>, AllocError>
     Ok(text)
 }
 
-// The same of a source's font.
+// The same for a source's font.
 fn lines_of(alloc: Global, source: &Source) -> Result<Vec<u8>, AllocError>
     ensures { IfOk result (λ text. list_answer source.now ≡ Ok text.items) }
 {
@@ -138,8 +138,8 @@ fn lines_of(alloc: Global, source: &Source) -> Result<Vec<u8>, AllocError>
     text
 }
 
-/// Writes a line for the Encoding, or for each of its codes, then for each Subr that is present, then for each glyph,
-/// each in the order of their keys. Lengths are plain, in bytes.
+/// Writes a line for the Encoding, or for each of its codes, then one for each Subr that is present, then one for each
+/// glyph, in the order of their keys. Lengths are those of the plain charstrings, in bytes.
 pub fn run_list<R: Read, W: Write>(
     alloc: Global,
     reader: &mut Counted<R>,

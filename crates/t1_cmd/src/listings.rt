@@ -67,7 +67,7 @@ fn joined_text(alloc: Global, left: &Listing<'_>, right: &Listing<'_>) -> Result
     }
 }
 
-// The text of the join of a listing and of that of a reader.
+// The text of the join of a listing and a reader's listing.
 fn joined_with<S: Read>(
     alloc: Global,
     left: &Listing<'_>,
@@ -86,8 +86,8 @@ fn joined_with<S: Read>(
 
 /// Writes the text of the join of two listings.
 ///
-/// The first input is read and understood before the second is read. Of several causes the first in that order is
-/// answered, and a conflict of the two listings last.
+/// The first input is read and understood before the second is read. If several things are wrong, the first in that order
+/// is answered, and a conflict of the two listings comes last.
 pub fn run_join<R: Read, S: Read, W: Write>(
     alloc: Global,
     first: &mut Counted<R>,

@@ -73,7 +73,7 @@ fn merge_fonts<'a>(alloc: Global, fonts: &[Font<'a>]) -> Result<Font<'a>, RunFau
     }
 }
 
-// The canonical file of the font that fonts come to. They are let go before it is written.
+// The canonical file of the font that fonts come to. The fonts are dropped before it is written.
 pub(crate) fn merged_file(
     alloc: Global,
     fonts: Vec<Font<'_>>,
@@ -94,10 +94,10 @@ pub(crate) fn merged_file(
 }
 
 /// Writes the canonical file, in one of the two forms, of the font that fonts come to when they are merged from left
-/// to right: of subsets of one font the subset of all their names.
+/// to right. For subsets of one font this is the subset of all their names.
 ///
-/// The inputs are read and understood one after the other, and merged after that; of several causes the first in that
-/// order is answered, and a conflict of the fonts, as [`Reason::Merge`], last.
+/// The inputs are read and understood one after the other, and merged after that. If several things are wrong, the first
+/// in that order is answered, and a conflict of the fonts, as [`Reason::Merge`], comes last.
 pub fn run_merge<R: Read, W: Write>(
     alloc: Global,
     readers: &mut [Counted<R>],

@@ -12,8 +12,8 @@ const CHUNK: usize = 4096;
 
 /// All the bytes of a reader, which is called at most `limit + 1` times, interrupted calls included.
 ///
-/// `TooLong` comes after the call that brought more than `limit` bytes. `Read` is answered only where a call
-/// failed: each other call brings a byte or is the end.
+/// `TooLong` comes after the call that brought more than `limit` bytes. `Read` is answered only if a call
+/// failed: any other call brings a byte or is the end.
 pub fn read_all<R: Read>(
     alloc: Global,
     reader: &mut Counted<R>,

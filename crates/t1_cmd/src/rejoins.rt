@@ -30,11 +30,12 @@ fn rejoined_file(alloc: Global, sources: Vec<Source>, form: Form) -> Result<Vec<
 }
 
 /// Writes the canonical file, in one of the two forms, of the font that fonts come to when they are made even and then
-/// merged from left to right: fonts of one parent that other programs cut have tags before their names, and declare no
+/// merged from left to right. Fonts of one parent that other programs cut have tags before their names, and declare no
 /// Subrs after the last one used.
 ///
-/// The inputs are read and understood one after the other, made even and merged after that; of several causes the first
-/// in that order is answered. A font that is too heavy with the stubs that it gets is told as [`Conflict::Limit`].
+/// The inputs are read and understood one after the other, and then made even and merged. If several things are wrong, the
+/// first in that order is answered. A font that is too heavy with the stubs that it gets is reported as
+/// [`Conflict::Limit`].
 pub fn run_rejoin<R: Read, W: Write>(
     alloc: Global,
     readers: &mut [Counted<R>],

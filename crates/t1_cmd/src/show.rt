@@ -19,7 +19,7 @@ use std::alloc::{AllocError, Global};
 use std::io::{Read, Write};
 use t1_font::{DrawFault, Drawing, DrawnPart, Font, Mark, Point, Source, draw};
 
-// How many counts of 1/65536 are a unit.
+// How many counts of 1/65536 make a unit.
 const UNIT: u64 = 65536;
 
 fn push_amount(alloc: Global, out: &mut Vec<u8>, count: u64) -> Result<(), AllocError>
@@ -187,7 +187,7 @@ fn shown_glyph(alloc: Global, font: &Font<'_>, name: &[u8]) -> Result<Vec<u8>, R
     text
 }
 
-// The same of a glyph of a source's font.
+// The same for a glyph of a source's font.
 fn shown_of(alloc: Global, source: &Source, name: &[u8]) -> Result<Vec<u8>, RunFault>
     ensures text { IfOk result (λ text. show_answer name.now source.now ≡ Ok text.items) }
     ensures refused { IfErr result (λ e. ShowStops (show_answer name.now source.now) e) }
@@ -201,7 +201,7 @@ fn shown_of(alloc: Global, source: &Source, name: &[u8]) -> Result<Vec<u8>, RunF
 /// Writes what the glyph of a name, without its `/`, draws: its width, its side bearing, its parts and their marks, or
 /// the one line of its fault. A name that the font lacks is refused as [`Reason::NoGlyph`].
 ///
-/// A number that is a whole unit is written as that decimal, any other as its count followed by `/65536`.
+/// A whole number of units is written in decimal, any other number as its count followed by `/65536`.
 pub fn run_show<R: Read, W: Write>(
     alloc: Global,
     reader: &mut Counted<R>,

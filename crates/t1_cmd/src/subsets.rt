@@ -38,7 +38,7 @@ fn cut<'a>(alloc: Global, font: &Font<'a>, names: &[&[u8]]) -> Result<Font<'a>, 
     }
 }
 
-// The canonical file of a font's subset. The font is let go before that is written.
+// The canonical file of a font's subset. The font is dropped before the file is written.
 fn subset_file(
     alloc: Global,
     font: Font<'_>,
@@ -61,7 +61,7 @@ fn subset_file(
     Ok(text)
 }
 
-// The same of a source's font.
+// The same for a source's font.
 fn subset_of(
     alloc: Global,
     source: &Source,
@@ -81,7 +81,7 @@ fn subset_of(
 /// glyphs and `.notdef`, the components of accented glyphs, and the Subrs that all of these execute. A name is without
 /// its `/`, and may be asked for more than once.
 ///
-/// A file that is no font is refused before a name that the font lacks; of several such names the first is told, as
+/// A file that is not a font is refused before a name that the font lacks; of several such names the first is reported, as
 /// [`Reason::NoGlyph`].
 pub fn run_subset<R: Read, W: Write>(
     alloc: Global,

@@ -1,4 +1,4 @@
-//! The lines that tell of a fault.
+//! The lines that report a fault.
 ghost use Rattle.std.specs.Prelude.{◌≡◌, ◌++◌, OnOk, IfOk};
 ghost use Rattle.std.specs.Fmt.{decimal};
 ghost use Rattle.t1_join.specs.Shown.{shown};
@@ -8,7 +8,7 @@ use crate::faults::{Reason, RunFault};
 use std::alloc::{AllocError, Global};
 use t1_join::Shown;
 
-/// Puts a name as it is printed at the end.
+/// Adds a name at the end, as it is printed.
 pub(crate) fn push_shown(alloc: Global, out: &mut Vec<u8>, name: &[u8]) -> Result<(), AllocError>
     ensures { OnOk result (out.new.items ≡ out.old.items ++ shown name.now) }
 {
@@ -65,7 +65,7 @@ fn push_reason(alloc: Global, out: &mut Vec<u8>, reason: &Reason) -> Result<(), 
     }
 }
 
-/// The line that tells of a fault.
+/// The line that reports a fault.
 pub fn fault_line_of(alloc: Global, fault: &RunFault) -> Result<Vec<u8>, AllocError>
     ensures { IfOk result (λ line. line.items ≡ fault_line fault.now) }
 {

@@ -13,7 +13,7 @@ use std::alloc::Global;
 use std::io::Write;
 
 /// Writes a whole text by calls of `write`, and does not flush. The first call that fails, is interrupted or takes
-/// no byte is the last, and ends as `Write`; an empty text makes no call.
+/// no byte is the last, and the answer is `Write`; an empty text makes no call.
 pub fn write_text<W: Write>(writer: &mut Counted<W>, text: &[u8]) -> Result<(), RunFault>
     ensures whole { OnOk result
         (Appends (W.contents (inner_of writer.old)) (W.contents (inner_of writer.new)) text.now) }
@@ -34,7 +34,7 @@ pub fn write_text<W: Write>(writer: &mut Counted<W>, text: &[u8]) -> Result<(), 
     Ok(())
 }
 
-/// Makes the line that tells of a fault, and then writes it.
+/// Makes the line that reports a fault, and then writes it.
 pub fn write_fault<W: Write>(
     alloc: Global,
     fault: &RunFault,

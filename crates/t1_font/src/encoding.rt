@@ -91,7 +91,7 @@ fn code_entry_at(bytes: &[u8]) -> Option<(Put<'_>, &[u8])>
     Some((Put { code, name }, rest))
 }
 
-/// `readonly` and white space after it, where they stand.
+/// `readonly` and the white space after it, if they are there.
 fn after_readonly(bytes: &[u8]) -> &[u8]
     ensures { Some result.now ≡ option_map (λ x. x.1) (readonly.read bytes.now) }
 {
@@ -180,7 +180,7 @@ fn encoding_loop_at(bytes: &[u8]) -> Option<(&[u8], &[u8])>
     keyword_at(rest, b"for")
 }
 
-/// The loop, where it stands.
+/// The loop, if it is there.
 fn after_loop(bytes: &[u8]) -> &[u8]
     ensures { Some result.now ≡ option_map (λ x. x.1) ((may_be encoding_loop).read bytes.now) }
 {
@@ -345,7 +345,7 @@ fn array_from<'a>(
     }
 }
 
-/// The Encoding from its word, or from the puts or names on that were opened.
+/// The Encoding, from its word or from the first of its puts or names on.
 #[tactic(auto, unfolding(crate::specs::Pieces::encoding_from))]
 fn encoding_from<'a>(
     clear: &[u8],

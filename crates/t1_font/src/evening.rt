@@ -12,7 +12,7 @@ use crate::source::{Source, SourceParts};
 use crate::tags::untagged_head;
 use std::alloc::{AllocError, Global};
 
-/// A table of Subrs that declares at least so many.
+/// A table of Subrs that declares at least this many.
 fn raise_count(kept: Option<KeptSubrs>, declared: u16) -> Option<KeptSubrs>
     ensures { option_map subrs_view result
         ≡ option_map (raised declared) (option_map subrs_view kept) }
@@ -32,7 +32,7 @@ fn raise_count(kept: Option<KeptSubrs>, declared: u16) -> Option<KeptSubrs>
     }
 }
 
-/// A shell with the head that it has without tags, where it has any, and a table of at least so many Subrs.
+/// A shell whose head loses its tags, if it has any, and whose table declares at least this many Subrs.
 fn even_shell(shell: Shell, head: Option<Vec<u8>>, declared: u16) -> Shell
     requires { MatchOption head (untagged_head shell.head
         ≡ shell.head) (λ v. v.items ≡ untagged_head shell.head) }
@@ -66,22 +66,22 @@ fn even_shell(shell: Shell, head: Option<Vec<u8>>, declared: u16) -> Shell
 }
 
 impl Source {
-    /// How many Subrs the font declares, 0 where there is no table of them.
+    /// How many Subrs the font declares, 0 if there is no table of them.
     pub fn declared_count(&self) -> u16
         ensures { result ≡ declared_count self.now.shell.subrs }
     {
         self.parts.shell.declared_count()
     }
 
-    /// The font without the tags that other programs put before its name, and with at least this declared count, where it
-    /// has a table of Subrs.
+    /// The font without the tags that other programs put before its name, and with at least this declared count if it has
+    /// a table of Subrs.
     ///
     /// The name is what stands behind the first `/FontName`, white space and a slash. A font whose name without tags would
-    /// be `Encoding` keeps them, since that would begin an Encoding.
+    /// be `Encoding` keeps its tags, since that name would begin an Encoding.
     ///
     /// # Errors
     ///
-    /// Where a growth was refused.
+    /// A growth was refused.
     pub fn even(self, alloc: Global, declared: u16) -> Result<Source, AllocError>
         ensures { IfOk result (λ f. f ≡ even declared self) }
     {
@@ -141,14 +141,14 @@ fn keep(sources: &mut Vec<Source>, source: Source) -> Result<(), AllocError>
 ///
 /// # Errors
 ///
-/// Where a growth was refused.
+/// A growth was refused.
 pub fn even_shells(alloc: Global, sources: Vec<Source>) -> Result<Vec<Source>, AllocError>
     ensures { IfOk result (λ all. all.items ≡ evened_shells sources.items) }
 {
     let declared = largest_count(sources.as_slice());
     let mut all = Vec::with_capacity(alloc, sources.len())?;
     'sources: for source in sources {
-        // Spelled out: with `?` each source that is left would be let go field by field, and each step proved.
+        // Spelled out: with `?` each source that is left would be dropped field by field, and each step proved.
         let source = match source.even(alloc, declared) {
             Ok(source) => source,
             Err(fault) => return Err(fault),

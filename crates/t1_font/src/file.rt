@@ -56,7 +56,7 @@ fn found(alloc: Global, flat: &[u8]) -> Result<(usize, Cipher), ReadFault>
     }
 }
 
-/// The clear text of a file, and a buffer in which the cipher stands from an offset on.
+/// The clear text of a file, and a buffer that holds the cipher from an offset on.
 #[derive(Drop)]
 pub(crate) struct CutFile {
     clear: Vec<u8>,
@@ -199,7 +199,7 @@ fn font_from(
     light_parts(alloc, outside, inside, gathered)
 }
 
-/// Decrypts the cipher of a private text, which stands in a buffer from an offset on, where it stands.
+/// Decrypts in place the cipher of a private text, which stands in a buffer from an offset on.
 fn open_private(buffer: &mut Vec<u8>, from: usize)
     requires { from ≤ length buffer.old.items }
     ensures value { drop from buffer.new.items ≡ decrypted 55665 (drop from buffer.old.items) }
@@ -241,15 +241,15 @@ fn file_parts(alloc: Global, file: Vec<u8>) -> Result<SourceParts, ReadFault>
     text_parts(alloc, cut.clear.as_slice(), buffer, at)
 }
 
-/// Says of bytes that they are numbers below 256. It does nothing when it runs: proofs call it.
+/// Tells proofs that bytes are numbers below 256. It does nothing when it runs.
 fn are_bytes(bytes: &[u8])
     ensures { AreBytes bytes.now }
 {
     let _bytes = bytes;
 }
 
-/// Reads a font file that is handed over, as [`read`] reads one that is lent. What it answers owns the file's vector, in
-/// which a binary cipher was decrypted where it stood; a hexadecimal cipher takes half of its digits beside it.
+/// Reads a font file that is handed over, as [`read`] reads one that is lent. The answer owns the file's vector, in which
+/// a binary cipher was decrypted in place; a hexadecimal cipher takes another half of the memory of its digits.
 ///
 /// # Errors
 ///
@@ -272,8 +272,8 @@ pub fn read_vec(alloc: Global, file: Vec<u8>) -> Result<Source, ReadFault>
 /// # Errors
 ///
 /// The first fault, in the order of [`ReadFault`], whose condition holds; `at` is the offset of the
-/// first entry that doesn't read, in the file for a segment, in the flat text for the Encoding, in
-/// the private text for the tables. Want of memory is `Memory`, where a growth was refused.
+/// first entry that doesn't parse: in the file for a segment, in the flat text for the Encoding, in
+/// the private text for the tables. If a growth was refused, the answer is `Memory`.
 pub fn read(alloc: Global, file: &[u8]) -> Result<Source, ReadFault>
     ensures right { MatchResult result (Spells file.now) (Refuses file.now) }
     ensures exact { Answers (λ f. f) result (font_file file.now) }

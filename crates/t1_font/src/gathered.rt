@@ -15,20 +15,20 @@ use std::alloc::{AllocError, Global};
 use std::marker::Model;
 use t1_bytes::{CHARSTRING_KEY, decrypt};
 
-/// What is read of a font's tables: names by code, and charstrings of Subrs by index and of glyphs by name. Of a repeated
-/// key the last stands.
+/// What is read of a font's tables: names by code, and charstrings of Subrs by index and of glyphs by name. The last entry
+/// of a repeated key stands.
 ///
-/// Names of codes stay where they stand in the clear text. The private text stands in a buffer and is read from its
-/// front: names and charstrings stay where they stand there, each charstring decrypted when its entry was read.
+/// Names of codes stay in place in the clear text. The private text stands in a buffer and is read from its front: names
+/// and charstrings stay in place there, and each charstring is decrypted when its entry was read.
 #[derive(Drop)]
 pub(crate) struct Gathered<'a> {
     pub(crate) codes: Vec<(u16, &'a [u8])>,
     pub(crate) buffer: Vec<u8>,
-    /// Up to where the buffer was read.
+    /// The offset up to which the buffer was read.
     pub(crate) at: usize,
     pub(crate) subrs: Vec<(u16, Range)>,
     pub(crate) glyphs: Vec<(Range, Range)>,
-    /// How many of each there may be until those are looked for whose keys come again.
+    /// How many entries of each kind there may be until the next look for repeated keys.
     pub(crate) code_room: usize,
     pub(crate) subr_room: usize,
     pub(crate) glyph_room: usize,
@@ -46,7 +46,7 @@ impl<'a> Model for Gathered<'a> {
     ghost invariant = { IsGathered };
 }
 
-/// The part of a buffer of so many bytes that is at a place.
+/// The part of a buffer of this many bytes that is at a place.
 fn part_at(size: usize, place: Place) -> Range
     requires inside { place.len + place.behind ≤ size }
     requires short { size ≤ file_limit }
@@ -69,7 +69,7 @@ fn behind_lead(part: Range, len_iv: u8) -> Range
     }
 }
 
-/// Decrypts the charstring in a part of a buffer, where it stands.
+/// Decrypts the charstring in a part of a buffer, in place.
 fn decrypt_in(buffer: &mut Vec<u8>, part: Range)
     requires { IsInside (length buffer.old.items) part }
     ensures { buffer.new.items

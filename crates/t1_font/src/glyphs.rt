@@ -77,7 +77,7 @@ pub struct GlyphsParts {
     pub has_notdef: bool,
 }
 
-/// Whether a name is the one that each font has.
+/// Whether a name is `.notdef`, which every font has.
 pub fn is_notdef(name: &[u8]) -> bool
     ensures { result ≡ bytes_eq notdef name.now }
 {

@@ -1,11 +1,17 @@
 //! Type 1 fonts: reading PFA and PFB files, the font value, and writing it.
 //!
 //! [`read`] answers the [`Source`] of the font that a file spells, or the first fault, and [`Source::font`] lends the
-//! [`Font`]. [`write`] gives the one canonical file of a font, in either [`Form`], which is read as the font again. A
-//! font is an implementation of `t1_run`'s `Subroutines` and `Glyphs`, so its charstrings can be run and drawn.
+//! [`Font`]. [`write`] gives the one canonical file of a font, in either [`Form`], which is read as the same font. A font
+//! implements `t1_run`'s `Subroutines` and `Glyphs`, so its charstrings can be run and drawn.
 //!
-//! The specifications speak of a font as a `FontValue` (`specs/FontValue.antt`), and of reading as a
-//! relation, `Spells`, and as a function, `read_font`, which laws tie together.
+//! ```text
+//! let source = read(alloc, file)?;
+//! let font = source.font(alloc)?;
+//! let canonical = write(alloc, &font, Form::Pfb)?;
+//! ```
+//!
+//! The specifications speak of a font as a `FontValue` (`specs/FontValue.antt`), and of reading as a relation, `Spells`,
+//! and as a function, `read_font`; laws tie the two together.
 #![tactic(auto)]
 
 mod cut;

@@ -1,16 +1,16 @@
 //! The limits of fonts.
 
-/// How many bytes a word has at most, and a phrase of two words with the blank between them.
+/// The most bytes that a word has, and that a phrase of two words has with the blank between them.
 pub(crate) const WORD_LIMIT: usize = 32;
 
-/// How many bytes a name has at most.
+/// The most bytes that a name has.
 pub(crate) const NAME_LIMIT: usize = 127;
 
-/// How many bytes a charstring has at most, its lead bytes among them.
+/// The most bytes that a charstring has, including its lead bytes.
 pub(crate) const CHARSTRING_LIMIT: u32 = 65535;
 
-/// How many Subrs a font declares at most, and how many glyphs it has at most.
+/// The most Subrs that a font declares, and the most glyphs that it has.
 pub const COUNT_LIMIT: usize = 65535;
 
-/// How much a font weighs at most, about its bytes: 64 MiB.
+/// The most that a font weighs, which is roughly its bytes: 64 MiB.
 pub const WEIGHT_LIMIT: u64 = 67_108_864;

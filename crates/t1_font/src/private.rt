@@ -21,7 +21,7 @@ use crate::markers::{CharsMarker, Closefile, LenIvMarker, SubrsMarker, first, le
 use crate::subrs::{SubrsParts, subrs_at};
 use std::alloc::Global;
 
-/// The pieces of the private text; the tail is what stands through `closefile`. The charstrings are gathered.
+/// The pieces of the private text; the tail ends with `closefile`. The charstrings are gathered.
 #[derive(Drop)]
 pub struct PrivateParts {
     pub private: Vec<u8>,
@@ -48,7 +48,7 @@ fn has_subrs(text: &[u8]) -> bool
     first::<SubrsMarker>(text).is_some()
 }
 
-/// lenIV, by the text before the tables.
+/// lenIV, from the text before the tables.
 #[tactic(auto, unfolding(crate::specs::Pieces::iv_of, crate::specs::Pieces::iv_at))]
 fn iv_of(private: &[u8]) -> Result<u8, ReadFault>
     ensures { Answers (λ n. n) result (iv_of private.now) }
@@ -89,7 +89,7 @@ fn through_close(bytes: &[u8]) -> Option<&[u8]>
     Some(through)
 }
 
-/// The table of glyphs, in the last part of a private text of so many bytes.
+/// The table of glyphs, in the last part of a private text of this many bytes.
 fn glyphs_parts(
     alloc: Global,
     size: usize,
@@ -165,7 +165,7 @@ fn tables_without(
     glyphs_from(alloc, size, before, gathered)
 }
 
-/// The table of Subrs, in the last part of a private text of so many bytes.
+/// The table of Subrs, in the last part of a private text of this many bytes.
 fn subrs_parts(
     alloc: Global,
     size: usize,

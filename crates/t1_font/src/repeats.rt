@@ -1,4 +1,4 @@
-//! Entries whose keys may come again: of each key the last stands.
+//! Entries whose keys may be repeated: the last entry of each key stands.
 
 ghost use Rattle.std.specs.Prelude.{◌≡◌, ◌≤◌, ℕ, [], map, length, drop, IfOk, OnOk, OnErr};
 ghost use Rattle.std.specs.FinMap.{entries};
@@ -11,16 +11,16 @@ use std::alloc::AllocError;
 use std::cmp::Ordering;
 use std::mem;
 
-/// How many entries of a table are gathered before the first look for those whose keys come again.
+/// How many entries of a table are gathered before the first look for repeated keys.
 pub(crate) const ROOM: usize = 4096;
 
-/// How many entries there may be until the next look where so many are left: twice as many, so that a table of repeated
-/// keys takes no more room than one of all of them once.
+/// How many entries there may be until the next look, if this many are left: twice as many, so that a table of repeated
+/// keys takes no more room than a table with each of them once.
 fn next_room(left: usize) -> usize {
     left.saturating_mul(2).max(ROOM)
 }
 
-/// Where there are so many entries, keeps of each key the last alone. Answers how many there may be until the next time.
+/// If there are this many entries, keeps only the last of each key. Answers how many there may be until the next time.
 pub(crate) fn settle<K: Ord + Copy + Drop, V: Copy + Drop>(
     entries: &mut Vec<(K, V)>,
     room: usize,
@@ -39,7 +39,7 @@ pub(crate) fn settle<K: Ord + Copy + Drop, V: Copy + Drop>(
     Ok(next)
 }
 
-/// The same for entries by a name, whose names and charstrings stand in a buffer.
+/// The same for entries by name, whose names and charstrings stand in a buffer.
 pub(crate) fn settle_names(
     entries: &mut Vec<(Range, Range)>,
     buffer: &[u8],
@@ -87,7 +87,7 @@ fn end_at<K: Ord + Copy + Drop, V: Copy + Drop>(entries: &[(K, V)], at: usize) -
     Some(*entry)
 }
 
-/// Keeps of the entries of each key, which stand together, the last alone.
+/// Keeps only the last of the entries of each key, which stand together.
 fn keep_ends<K: Ord + Copy + Drop, V: Copy + Drop>(entries: &mut Vec<(K, V)>)
     ensures { entries.new.items ≡ run_ends K.cmp entries.old.items }
 {
@@ -101,7 +101,7 @@ fn keep_ends<K: Ord + Copy + Drop, V: Copy + Drop>(entries: &mut Vec<(K, V)>)
     entries.truncate(kept);
 }
 
-/// The entries upwards by key, of a repeated key the last.
+/// The entries upwards by key, with the last of each repeated key.
 pub(crate) fn last_entries<K: Ord + Copy + Drop, V: Copy + Drop>(
     entries: Vec<(K, V)>,
 ) -> Result<Vec<(K, V)>, AllocError>
@@ -113,7 +113,7 @@ pub(crate) fn last_entries<K: Ord + Copy + Drop, V: Copy + Drop>(
     Ok(last)
 }
 
-/// In which order the names in two parts of a buffer are.
+/// The order of the names in two parts of a buffer.
 fn name_order(buffer: &[u8], one: Range, other: Range) -> Ordering
     ensures { result ≡ by_name buffer.now one other }
 {
@@ -143,7 +143,7 @@ fn named_end_at(buffer: &[u8], glyphs: &[(Range, Range)], at: usize) -> Option<(
     Some(*glyph)
 }
 
-/// Keeps of the glyphs of each name, which stand together, the last alone.
+/// Keeps only the last of the glyphs of each name, which stand together.
 fn keep_named_ends(buffer: &[u8], glyphs: &mut Vec<(Range, Range)>)
     ensures { glyphs.new.items ≡ run_ends (by_name buffer.now) glyphs.old.items }
 {
@@ -157,7 +157,7 @@ fn keep_named_ends(buffer: &[u8], glyphs: &mut Vec<(Range, Range)>)
     glyphs.truncate(kept);
 }
 
-/// The glyphs upwards by the bytes of their names, of a repeated name the last.
+/// The glyphs upwards by the bytes of their names, with the last of each repeated name.
 pub(crate) fn last_names(
     buffer: &[u8],
     glyphs: Vec<(Range, Range)>,

@@ -79,7 +79,7 @@ impl Shell {
         self.subrs.is_some()
     }
 
-    /// How many Subrs are declared, 0 where there is no table of them.
+    /// How many Subrs are declared, 0 if there is no table of them.
     pub fn declared_count(&self) -> u16
         ensures { result ≡ declared_count self.now.subrs }
     {
@@ -96,7 +96,7 @@ impl Shell {
         self.len_iv
     }
 
-    /// How many bytes the five kept texts have, as far as 64 bits hold it.
+    /// How many bytes the five kept texts have, or the greatest number of 64 bits if they have more.
     pub(crate) fn texts_weight(&self) -> u64
         ensures { result ≡ clamp (texts_weight self.now) }
     {
@@ -138,7 +138,7 @@ impl Shell {
     }
 }
 
-/// The kept words of a table, empty where it has no entry.
+/// The kept words of a table, empty if it has no entry.
 fn kept_words(alloc: Global, words: Option<Words>) -> (Vec<u8>, Vec<u8>)
     ensures { (result.0.items, result.1.items) ≡ unwrap_or (option_map words_view words) ([], []) }
 {
@@ -162,7 +162,7 @@ fn kept_subrs(alloc: Global, parts: SubrsParts) -> KeptSubrs
     }
 }
 
-/// The same, where there is such a table.
+/// The same, if there is a table of Subrs.
 fn kept_table(alloc: Global, parts: Option<SubrsParts>) -> Option<KeptSubrs>
     requires { declared_in parts ≤ count_limit }
     ensures { (p : Option SubrsPieces)

@@ -70,8 +70,8 @@ pub struct SubrsParts {
     pub closing: Vec<u8>,
 }
 
-/// Keeps the plain charstring of one more entry, behind which so many bytes are left. An index over 65,535 is kept of no
-/// font, since its declared count is over the limit.
+/// Keeps the plain charstring of one more entry, behind which this many bytes are left. An index over 65,535 is not kept:
+/// the declared count of its font is over the limit.
 fn keep_subr(
     gathered: &mut Gathered<'_>,
     index: u32,

@@ -1,4 +1,4 @@
-//! Tags of subsets: six capitals and `+`, which programs that cut a font put before its name (ISO 32000-1, 9.6.4).
+//! Tags of subsets: six capitals and `+`, which programs put before the name of a font that they cut (ISO 32000-1, 9.6.4).
 
 ghost use Rattle.std.specs.Prelude.{◌≡◌, ◌++◌, ℕ, List, codes, IfOk, MatchOption};
 ghost use Rattle.std.specs.List.{list_all};
@@ -80,7 +80,7 @@ fn begins_encoding(name: &[u8]) -> bool
     }
 }
 
-/// What stands before the name in a head and, where the head loses tags, the name without them.
+/// What stands before the name in a head and, if the head loses tags, the name without them.
 fn parts_without_tags(head: &[u8]) -> Option<(&[u8], &[u8])>
     ensures { MatchOption result (untagged_head head.now
         ≡ head.now) (λ x. x.0.now ++ x.1.now ≡ untagged_head head.now) }
@@ -94,7 +94,7 @@ fn parts_without_tags(head: &[u8]) -> Option<(&[u8], &[u8])>
     Some((before, name))
 }
 
-/// A head without the tags of its font's name, where it has any.
+/// A head without the tags of its font's name, if it has any.
 pub(crate) fn untagged_head(alloc: Global, head: &[u8]) -> Result<Option<Vec<u8>>, AllocError>
     ensures { IfOk result (λ o. MatchOption o (untagged_head head.now
         ≡ head.now) (λ v. v.items ≡ untagged_head head.now)) }

@@ -10,7 +10,7 @@ use crate::limits::{NAME_LIMIT, WORD_LIMIT};
 use std::alloc::{AllocError, Global};
 use t1_bytes::texts::{count_at, fixed_at, gap_at, is_white, white_at};
 
-/// What each byte is, 32 bytes a row: `w` white space, `d` a delimiter, `.` regular.
+/// What each byte is, with 32 bytes in a row: `w` white space, `d` a delimiter, `.` regular.
 const KINDS: &[u8; 256] = b"\
     w........ww.ww..................\
     w....d..dd.....d............d.d.\
@@ -22,7 +22,8 @@ const KINDS: &[u8; 256] = b"\
     ................................\
 ";
 
-/// Whether a byte is neither white space nor a delimiter. It is looked up, since this is asked of each byte of each word.
+/// Whether a byte is neither white space nor a delimiter. It is looked up in a table, since this is asked of each byte of
+/// each word.
 pub fn is_regular(byte: u8) -> bool
     ensures { result ≡ is_regular byte }
 {
@@ -79,7 +80,7 @@ fn regular_comes(bytes: &[u8]) -> bool
     }
 }
 
-/// The whole word `word`, whose bytes are regular: these bytes, where no regular one comes after them.
+/// The whole word `word`, whose bytes are regular: these bytes, if no regular byte comes after them.
 #[inline]
 pub fn keyword_at<'a>(bytes: &'a [u8], word: &[u8]) -> Option<(&'a [u8], &'a [u8])>
     requires { all_regular word.now ≡ true }

@@ -1,4 +1,4 @@
-//! A value or nothing, where nothing joins with all.
+//! A value or nothing, where nothing joins with every value.
 ghost use Rattle.std.specs.Prelude.{IsTrue, ◌↔◌};
 ghost use Rattle.t1_join.specs.Join.{State, StatesAgree, StatesJoin};
 

@@ -1,4 +1,4 @@
-//! Entries as they are read: a tree takes keys in any order at the same price, and its entries make a table in the end.
+//! Entries as they are read: a tree takes keys in any order at the same cost, and its entries make a table at the end.
 ghost use Rattle.std.specs.Prelude.{◌≡◌, IfOk, MatchBool, OnErr};
 ghost use Rattle.std.specs.FinMap as fin;
 ghost use Rattle.t1_join.specs.TableMeaning.{IsNewEntry, IsRepeated};
@@ -9,7 +9,7 @@ use std::alloc::{AllocError, Global};
 use std::collections::BTreeMap;
 use std::marker::Model;
 
-/// A finite map that is being made, seen by the meanings of its keys and values.
+/// A finite map that is being built, seen by the meanings of its keys and values.
 #[derive(Drop)]
 pub(crate) struct Gathered<K: Key, V: Kept> {
     map: BTreeMap<K, V>,
@@ -35,7 +35,7 @@ impl<K: Key + Drop, V: Kept + Drop> Gathered<K, V> {
         }
     }
 
-    /// Adds the entry, unless its key is there: then the answer is false. The map stays as it was there, and where
+    /// Adds the entry, unless its key is there: then the answer is false. The map stays as it was if the key is there or
     /// memory is refused.
     pub(crate) fn add(&mut self, key: K, value: V) -> Result<bool, AllocError>
         ensures ok { IfOk result

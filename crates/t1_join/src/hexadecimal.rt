@@ -9,8 +9,8 @@ use crate::keys::Kept;
 use std::alloc::{AllocError, Global};
 use std::marker::Model;
 
-/// Bytes by the hexadecimal digits that spell them in a text, which is lent: two digits of either case for each byte, at
-/// most 65,535 bytes.
+/// Bytes, as the borrowed hexadecimal digits that spell them in a text: two digits of either case for each byte, at most
+/// 65,535 bytes.
 #[derive(Drop)]
 pub struct Hex<'a> {
     digits: &'a [u8],
@@ -38,10 +38,10 @@ fn are_digits(text: &[u8]) -> bool
     text.iter().all(|digit| digit.is_ascii_hexdigit())
 }
 
-/// How many digits a value has at most, two for each of its 65,535 bytes.
+/// The most digits that a value has: two for each of at most 65,535 bytes.
 const DIGITS_LIMIT: usize = 131_070;
 
-/// Whether the text is pairs of digits, and few enough.
+/// Whether the text is pairs of digits, and not too many.
 fn spells_bytes(text: &[u8]) -> bool
     ensures { result ≡ is_some (bytes_of text.now) }
 {

@@ -11,12 +11,12 @@ ghost use Rattle.t1_join.specs.ListingJoin.{IsJoined, IsJoinFault};
 use crate::listing::Listing;
 use crate::partial::Join;
 
-/// Two values join alike in either order.
+/// Two values have the same join in either order.
 pub fn commutative<J: Join>()
     ensures { (x y z : J.Meaning) → J.Joins x y z → J.Joins y x z }
 {}
 
-/// Three values join in one grouping where they do in the other, and to the same.
+/// Three values join in one grouping if they join in the other, and to the same value.
 pub fn associative<J: Join>()
     ensures from_left { (x y z a b : J.Meaning)
         → J.Joins x y a
@@ -28,7 +28,7 @@ pub fn associative<J: Join>()
         → (a : J.Meaning) × J.Joins x y a × J.Joins a z b }
 {}
 
-/// A value joins with itself, to itself.
+/// A value joined with itself is itself.
 pub fn idempotent<J: Join>()
     ensures joins { (x : J.Meaning) → J.Joins x x x }
     ensures agrees { (x : J.Meaning) → J.Agrees x x }
@@ -50,7 +50,7 @@ pub fn one_conflict()
         → IsFirstConflict n m q }
 {}
 
-/// Two listings join, or are refused, alike in either order; and where they join nothing but memory is refused.
+/// Two listings join, or are refused, alike in either order; if they join, only want of memory is refused.
 pub fn listings_join_alike()
     ensures joined { (left right both : ListingMeaning)
         → IsJoined left right both

@@ -21,7 +21,7 @@ fn find(text: &[u8], byte: u8) -> Option<usize>
     text.iter().position(|b| *b == byte)
 }
 
-/// What stands before and after the first such byte.
+/// What stands before and after the first occurrence of a byte.
 pub fn split_at_byte(text: &[u8], byte: u8) -> Option<(&[u8], &[u8])>
     ensures { option_map slice_pair result ≡ split_at byte text.now }
 {
@@ -76,7 +76,7 @@ fn has_no_end(word: &[u8]) -> bool
     word.iter().all(|b| !ends_name(*b))
 }
 
-/// How many bytes a name has at most.
+/// The most bytes that a name has.
 const NAME_LIMIT: usize = 127;
 
 fn may_name(word: &[u8]) -> bool

@@ -41,12 +41,12 @@ impl<'a> Model for Listing<'a> {
     ghost invariant = { λ l. IsListing (record { subrs = l.subrs; glyphs = l.glyphs }) };
 }
 
-/// Why a text is no listing. Lines count from 1, and the first in fault is named.
+/// Why a text is not a listing. Lines are counted from 1, and the first faulty line is named.
 #[derive(Debug, PartialEq, Eq, Drop)]
 pub enum ListFault {
-    /// The line doesn't read, or has no line feed.
+    /// The line doesn't parse, or has no line feed.
     BadLine { line: usize },
-    /// An earlier line has the line's key.
+    /// An earlier line has the key of this line.
     Repeated { line: usize },
     /// A growth was refused.
     Memory,
@@ -83,9 +83,9 @@ impl From<AllocError> for ListFault {
 /// Why two listings don't join.
 #[derive(Debug, Drop)]
 pub enum JoinFault {
-    /// Both have the index, with different bytes: the smallest such index.
+    /// Both have this index, with different bytes; it is the smallest such index.
     Subr { index: u16 },
-    /// All Subrs join, and both have the name, with different bytes: the smallest such name.
+    /// All Subrs join, and both have this name, with different bytes; it is the smallest such name.
     Glyph { name: Vec<u8> },
     /// A growth was refused.
     Memory,
@@ -134,7 +134,7 @@ impl<'a> Listing<'a> {
         &self.glyphs
     }
 
-    /// Each entry has an index or a name, and a value: what one line of a text can spell.
+    /// Each entry has an index or a name, and a value that one line of a text can spell.
     pub fn proof_holds_what_lines_spell(&self)
         ensures { IsListing self.now }
     {
@@ -195,7 +195,7 @@ impl<'a> Lines<'a> {
     }
 }
 
-/// The listing that a text spells, or nothing where it has a fault: all lines are read, and then their keys compared.
+/// The listing that a text spells, or nothing if it has a fault: all lines are read, and then their keys are compared.
 fn read_at_once(alloc: Global, text: &[u8]) -> Result<Option<Listing<'_>>, AllocError>
     ensures { IfOk result (λ o. IfSome o (λ l. listing_of text.now ≡ Ok l)) }
 {
@@ -217,7 +217,7 @@ fn read_at_once(alloc: Global, text: &[u8]) -> Result<Option<Listing<'_>>, Alloc
     Ok(Some(Listing { subrs, glyphs }))
 }
 
-/// The listing that a text spells, or its first fault: each line's key is sought among those before it.
+/// The listing that a text spells, or its first fault: each line's key is looked up among those before it.
 fn read_in_turn(alloc: Global, text: &[u8]) -> Result<Listing<'_>, ListFault>
     ensures { MatchResult result (λ l. listing_of text.now ≡ Ok l) (λ e. (e ≡ ListFault.Memory)
         ⊎ (listing_of text.now ≡ Err e)) }
@@ -312,7 +312,7 @@ pub fn write(alloc: Global, listing: &Listing<'_>) -> Result<Vec<u8>, AllocError
     Ok(out)
 }
 
-/// Nothing where two listings join, and else the smallest key in conflict, Subrs before glyphs.
+/// Nothing if two listings join, otherwise the smallest key in conflict, Subrs before glyphs.
 fn agreed(alloc: Global, left: &Listing<'_>, right: &Listing<'_>) -> Result<(), JoinFault>
     ensures { MatchResult result (λ _. ListingsAgree left.now right.now)
         (IsJoinFault left.now right.now) }
@@ -360,8 +360,8 @@ fn text_of_both(
     Ok(out)
 }
 
-/// The text that the join of two listings is written as, or what keeps them from joining. The joined listing itself, which
-/// may take more than both texts, is not made.
+/// The text of the join of two listings, or what keeps them from joining. The joined listing itself, which may take more
+/// memory than both texts, is not made.
 pub fn write_joined(
     alloc: Global,
     left: &Listing<'_>,

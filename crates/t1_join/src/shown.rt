@@ -5,7 +5,7 @@ ghost use Rattle.t1_join.specs.Shown.{hex_digit, is_plain, escaped, shown};
 
 use std::fmt;
 
-/// A name, or other bytes, to be printed: a byte from 33 to 126 other than the backslash as it stands, and each other one
+/// A name, or other bytes, to be printed: a byte from 33 to 126 other than the backslash as it stands, and any other byte
 /// as `\x` and two hexadecimal digits.
 #[derive(Clone, Copy, Debug)]
 pub struct Shown<'a>(pub &'a [u8]);

@@ -46,7 +46,7 @@ impl<K: Key + Drop, V: Kept + Drop> Table<K, V> {
         }
     }
 
-    /// A table with no entry, and room for this many.
+    /// A table with no entry, and room for this many entries.
     pub fn with_capacity(alloc: Global, room: usize) -> Result<Self, AllocError>
         ensures { IfOk result (λ t. t ≡ fin.empty) }
     {
@@ -55,7 +55,7 @@ impl<K: Key + Drop, V: Kept + Drop> Table<K, V> {
         })
     }
 
-    /// The entries of a map, which has them upwards by key.
+    /// The table of the entries of a map, which stand upwards by key.
     pub(crate) fn of_map(alloc: Global, map: BTreeMap<K, V>) -> Result<Self, AllocError>
         ensures { IfOk result (λ t. t ≡ first_meanings K.meaning V.meaning map.entries) }
     {
@@ -66,7 +66,7 @@ impl<K: Key + Drop, V: Kept + Drop> Table<K, V> {
         Ok(Table { entries })
     }
 
-    /// The table of entries in any order, or nothing where a key comes twice. They are sorted where they stand.
+    /// The table of entries in any order, or nothing if a key comes twice. They are sorted in place.
     pub(crate) fn of_entries(entries: Vec<(K, V)>) -> Option<Self>
         ensures { IfSome result (IsTableOf (entry_meanings K.meaning V.meaning entries.items)) }
     {
@@ -79,7 +79,7 @@ impl<K: Key + Drop, V: Kept + Drop> Table<K, V> {
         }
     }
 
-    /// Puts the value at the key. Where memory is refused the table stays as it was, and the pair is dropped.
+    /// Puts the value at the key. If memory is refused, the table stays as it was, and the pair is dropped.
     pub fn insert(&mut self, key: K, value: V) -> Result<(), AllocError>
         ensures ok { OnOk result (self.new
             ≡ fin.insert self.old (K.meaning key) (V.meaning value)) }
@@ -103,7 +103,7 @@ impl<K: Key + Drop, V: Kept + Drop> Table<K, V> {
         }
     }
 
-    /// The value at the key, which is looked for at this place among the entries first.
+    /// The value at the key, which is first looked for at this place among the entries.
     pub fn get_near(&self, place: usize, key: &K) -> Option<&V>
         ensures { option_map V.meaning (option_copied result)
             ≡ fin.get self.now (K.meaning key.now) }
@@ -114,7 +114,7 @@ impl<K: Key + Drop, V: Kept + Drop> Table<K, V> {
         self.get(key)
     }
 
-    /// Puts the value at the key, which is looked for at this place among the entries first. Where memory is refused the
+    /// Puts the value at the key, which is first looked for at this place among the entries. If memory is refused, the
     /// table stays as it was, and the pair is dropped.
     pub fn insert_near(&mut self, place: usize, key: K, value: V) -> Result<(), AllocError>
         ensures ok { OnOk result (self.new
@@ -137,7 +137,7 @@ impl<K: Key + Drop, V: Kept + Drop> Table<K, V> {
         }
     }
 
-    /// The entries of both tables, upwards by key: the first's where both have the key.
+    /// The entries of both tables, upwards by key: the first table's entry if both have the key.
     pub(crate) fn entries_with<'t>(&'t self, other: &'t Table<K, V>) -> BothEntries<'t, K, V>
         ensures { result ≡ fin.entries (joined_table self.now other.now) }
     {
@@ -163,7 +163,7 @@ fn keys_rise<K: Key, V>(entries: &[(K, V)]) -> bool
     entries.is_sorted_by(|one, other| matches!(one.0.cmp(&other.0), Ordering::Less))
 }
 
-/// The first key that one pass over both tables meets with two values that differ.
+/// The first key at which one pass over both tables meets two different values.
 fn first_conflict<'t, K: Key, V: Kept>(first: &'t [(K, V)], second: &[(K, V)]) -> Option<&'t K>
     ensures { option_map K.meaning (option_copied result)
         ≡ first_met meaning_cmp same_meaning (entry_meanings K.meaning V.meaning first.now)
@@ -187,7 +187,7 @@ fn first_conflict<'t, K: Key, V: Kept>(first: &'t [(K, V)], second: &[(K, V)]) -
     None
 }
 
-/// An entry of the same meanings.
+/// An entry with the same meanings.
 fn copy_entry<K: Key + Drop, V: Kept + Drop>(
     alloc: Global,
     entry: &(K, V),
@@ -216,7 +216,7 @@ fn add_copies<K: Key + Drop, V: Kept + Drop>(
     Ok(())
 }
 
-/// Copies of the entries of both, upwards by key, in one pass by two positions: the first's where both have a key.
+/// Copies of the entries of both, upwards by key, in one pass with two positions: the first table's if both have a key.
 fn merge_entries<K: Key + Drop, V: Kept + Drop>(
     alloc: Global,
     first: &[(K, V)],
@@ -315,7 +315,8 @@ impl<'a, K: Key, V: Kept> Iterator for Entries<'a, K, V> {
 /// An entry and what is left of two lists.
 type Taken<'a, K, V> = (&'a (K, V), &'a [(K, V)], &'a [(K, V)]);
 
-/// Takes the entry of the lower key, and the first's where both lists begin with the key: then the second's goes, too.
+/// Takes the entry with the lower key; if both lists begin with the same key, it takes the first list's entry and drops
+/// the second's.
 fn lower<'a, K: Key, V: Kept>(first: &'a [(K, V)], second: &'a [(K, V)]) -> Option<Taken<'a, K, V>>
     ensures { MatchOption result
         (merge meaning_cmp (entry_meanings K.meaning V.meaning first.now)

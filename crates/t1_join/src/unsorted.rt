@@ -1,4 +1,4 @@
-//! The entries of a listing in the order of its lines, which are sorted once, when all lines are read.
+//! The entries of a listing in the order of its lines; they are sorted once, after all lines have been read.
 ghost use Rattle.std.specs.Prelude.{◌≡◌, [], OnOk, IfSome};
 ghost use Rattle.t1_join.specs.LineMeaning.{line_entry};
 ghost use Rattle.t1_join.specs.Unsorted.{with_line, AreTablesOf};
@@ -9,7 +9,7 @@ use crate::tables::Table;
 use std::alloc::{AllocError, Global};
 use std::marker::Model;
 
-/// The entries of the lines that were read, with every key as often as it came.
+/// The entries of the lines that were read, with each key as often as it came.
 #[derive(Drop)]
 pub(crate) struct Unsorted<'a> {
     subrs: Vec<(u16, Hex<'a>)>,
@@ -48,7 +48,7 @@ impl<'a> Unsorted<'a> {
         Ok(())
     }
 
-    /// The tables of the entries, or nothing where a key comes twice.
+    /// The tables of the entries, or nothing if a key comes twice.
     pub(crate) fn tables(self) -> Option<(Table<u16, Hex<'a>>, Table<&'a [u8], Hex<'a>>)>
         ensures { IfSome result (AreTablesOf self.entry) }
     {

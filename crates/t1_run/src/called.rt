@@ -8,8 +8,8 @@ use std::alloc::{AllocError, Global};
 use std::collections::BTreeSet;
 use std::marker::Model;
 
-/// Indices of Subrs, each once. A run of 100,000 calls adds an index for each: so whether it is in already is told at its
-/// place, and no search is made for it.
+/// Indices of Subrs, each once. A run of 100,000 calls adds an index for each call, so whether an index is already in is
+/// read at its own place, without a search.
 #[derive(Drop)]
 pub struct Called {
     order: Vec<u16>,
@@ -72,7 +72,7 @@ impl Called {
         }
     }
 
-    /// Adds an index. Where memory is wanting, it is the same as before.
+    /// Adds an index. If memory is refused, nothing changes.
     pub fn insert(&mut self, index: u16) -> Result<(), AllocError>
         ensures added { OnOk result (self.new ≡ with_indices self.old (index ∷ [])) }
         ensures unchanged { OnErr result (self.new ≡ self.old) }
@@ -102,7 +102,7 @@ impl Called {
         self.order.as_slice()
     }
 
-    /// The same as a set.
+    /// The indices as a set.
     pub fn to_set(&self, alloc: Global) -> Result<BTreeSet<u16>, AllocError>
         ensures { IfOk result (λ set. set.keys ≡ self.now) }
     {

@@ -1,4 +1,4 @@
-//! The charstrings that are being run at once: a glyph, and Subrs of which each is called by the one before it.
+//! The charstrings that are being run at one time: a glyph, and Subrs that are each called by the charstring before.
 
 ghost use Rattle.std.specs.Prelude.{◌≡◌, ◌≤◌, length};
 ghost use Rattle.std.specs.Iterator.{YieldsFirst};
@@ -6,7 +6,7 @@ ghost use Rattle.t1_char.specs.Tokens.{tokens};
 
 use t1_char::{Token, Tokens};
 
-/// A charstring that is being run, and how far it is read.
+/// A charstring that is being run, and how far it has been read.
 #[derive(Clone, Copy)]
 pub(crate) struct Frame<'a> {
     charstring: &'a [u8],
@@ -37,7 +37,7 @@ impl<'a> Frame<'a> {
         }
     }
 
-    /// The next token of the charstring, where one is left.
+    /// The next token of the charstring, if one is left.
     pub(crate) fn next(&mut self) -> Option<Token>
         ensures { YieldsFirst frame_left self.old result self.new }
     {

@@ -16,7 +16,7 @@ use arrayvec::ArrayVec;
 use std::alloc::{AllocError, Global};
 use std::collections::BTreeSet;
 
-/// How deep calls may be, this project's limit.
+/// How deep calls may be: this project's limit.
 const LEVELS: usize = 10;
 
 /// How a charstring ends.
@@ -27,10 +27,10 @@ pub(crate) enum Halt {
     Failed(Fault),
 }
 
-/// What the index of a Subr is below: a font declares no more Subrs.
+/// The index of a Subr is below this number: a font declares no more Subrs.
 const SUBR_LIMIT: i64 = 65535;
 
-/// The index of a call, where it can be that of a Subr.
+/// The index of a call, if it can be that of a Subr.
 fn index_of(i: i64) -> Option<u16>
     ensures { result ≡ index_of i }
 {
@@ -67,7 +67,7 @@ fn take(called: &mut Called, index: Option<u16>) -> Result<(), AllocError>
     Ok(())
 }
 
-/// Adds a mark, where marks are kept.
+/// Adds a mark, if marks are kept.
 fn keep(keeps: bool, kept: &mut Vec<Mark>, mark: Mark) -> Result<(), AllocError>
     ensures { OnOk result ((marks : List Mark)
         → AreKept keeps kept.old.items marks
@@ -79,7 +79,7 @@ fn keep(keeps: bool, kept: &mut Vec<Mark>, mark: Mark) -> Result<(), AllocError>
     Ok(())
 }
 
-/// Adds the marks of a flex, where marks are kept.
+/// Adds the marks of a flex, if marks are kept.
 fn keep_flex(
     keeps: bool,
     kept: &mut Vec<Mark>,
@@ -100,8 +100,8 @@ fn keep_flex(
     Ok(())
 }
 
-/// Runs a charstring, in each turn the next token of the Subr that was called last, or of the glyph, until a token ends the
-/// run; and whether the run is the same where hints are kept. Its marks are kept where they are asked for.
+/// Runs a charstring until a token ends the run; each turn executes the next token of the Subr that was called last, or of
+/// the glyph. It also answers whether the run is the same where hints are kept. Marks are kept if they are asked for.
 pub(crate) fn run<'s, S: Subroutines>(
     subrs: &'s S,
     hints: Hints,
@@ -162,7 +162,7 @@ pub(crate) fn run<'s, S: Subroutines>(
     }
 }
 
-/// What a charstring answers that ended so, with its marks.
+/// What a charstring answers that ended in this way, with its marks.
 fn answer_of(halt: Halt, marks: Vec<Mark>) -> Direct
     ensures { value_of result ≡ ending_of halt marks.items }
 {
@@ -224,9 +224,9 @@ pub(crate) fn direct_by<S: Subroutines>(
     Ok(answer)
 }
 
-/// What a plain charstring answers by itself, an accented glyph's parts aside, in a font of these Subrs, where hints are
-/// replaced (Adobe Type 1 Font Format 1.1, chapters 6 and 8). Every number in the answer is at most 2^47 in size. It fails
-/// for want of memory alone: a faulty charstring is an answer.
+/// What a plain charstring answers by itself, without an accented glyph's parts, in a font with these Subrs, where hints
+/// are replaced (Adobe Type 1 Font Format 1.1, chapters 6 and 8). Every number in the answer is at most 2^47 in size. It
+/// fails only for want of memory: that a charstring is faulty is an answer.
 pub fn direct<S: Subroutines>(
     alloc: Global,
     subrs: &S,
@@ -238,7 +238,7 @@ pub fn direct<S: Subroutines>(
     direct_by(alloc, subrs, Hints::Replaced, charstring)
 }
 
-/// The same as [`direct`] to an interpreter that keeps hints: the pop after OtherSubr 3 gives 3, and so the Subr that does
+/// The same as [`direct`] for an interpreter that keeps hints: the pop after OtherSubr 3 gives 3, so the Subr that does
 /// nothing is called in place of the one that replaces hints (Adobe Type 1 Font Format 1.1, chapter 8). The mark
 /// [`Mark::Replace`](crate::Mark::Replace) stays.
 pub fn direct3<S: Subroutines>(
@@ -257,14 +257,14 @@ pub fn direct3<S: Subroutines>(
 pub struct BothAnswers {
     /// What [`direct`] answers.
     pub direct: Direct,
-    /// What [`direct3`] answers, where that is another run; `None` where it answers the same as [`direct`].
+    /// What [`direct3`] answers, if its run is a different one; `None` if it answers the same as [`direct`].
     pub direct3: Option<Direct>,
     /// What `executed` answers.
     pub executed: BTreeSet<u16>,
 }
 
-/// What [`direct`], [`direct3`] and `executed` answer of a plain charstring. It is run once where both answers after
-/// OtherSubr 3 are one, and else twice. It fails for want of memory alone.
+/// What [`direct`], [`direct3`] and `executed` answer of a plain charstring. It is run once if both answers after
+/// OtherSubr 3 are the same, otherwise twice. It fails only for want of memory.
 pub fn both_answers<S: Subroutines>(
     alloc: Global,
     subrs: &S,
@@ -295,8 +295,8 @@ pub fn both_answers<S: Subroutines>(
     })
 }
 
-/// What [`direct`] and `executed` answer of a plain charstring, by the runs of [`both_answers`]. It fails for want of
-/// memory alone.
+/// What [`direct`] and `executed` answer of a plain charstring, by the runs of [`both_answers`]. It fails only for want
+/// of memory.
 pub fn direct_and_executed<S: Subroutines>(
     alloc: Global,
     subrs: &S,

@@ -1,4 +1,4 @@
-//! What a glyph asks of its font: the parts that it names and the Subrs that it executes. Its marks are not kept.
+//! What a glyph needs of its font: the parts that it names and the Subrs that it executes. Its marks are not kept.
 
 ghost use Rattle.std.specs.Prelude.{◌≡◌, IfOk, OnOk, map, [], true};
 ghost use Rattle.t1_run.specs.Run.{run_glyph, calls_of, exec, with_executed, with_indices};
@@ -35,7 +35,7 @@ fn halt_of<S: Subroutines>(
 }
 
 /// How a charstring ends where hints are replaced and where they are kept, and which Subrs it executes, added to `called`.
-/// It is run once where both answers after OtherSubr 3 are one.
+/// It is run once if both answers after OtherSubr 3 are the same.
 fn both_halts<S: Subroutines>(
     alloc: Global,
     subrs: &S,
@@ -57,9 +57,9 @@ fn both_halts<S: Subroutines>(
     Ok((replaced, kept))
 }
 
-/// What a plain charstring asks of its font: the names of its parts, by [`parts_of`](crate::parts_of) where hints are
+/// What a plain charstring needs of its font: the names of its parts, by [`parts_of`](crate::parts_of) where hints are
 /// replaced and then where they are kept, and the indices that it executes, as [`executed`] says, added to `called`. It
-/// keeps no marks. It fails for want of memory alone, and has then added some of these indices or none.
+/// keeps no marks. It fails only for want of memory, and has then added some of these indices or none.
 pub fn parts_and_executed<S: Subroutines>(
     alloc: Global,
     subrs: &S,
@@ -79,8 +79,8 @@ pub fn parts_and_executed<S: Subroutines>(
 }
 
 /// The indices that `callsubr` takes in the run of a plain charstring, up to its end or fault, where hints are replaced or
-/// where they are kept: whole numbers from 0 to 65,534, those of Subrs that are not there or too deep among them. It keeps
-/// no marks. It fails for want of memory alone.
+/// where they are kept: whole numbers from 0 to 65,534, including those of Subrs that are absent or too deep. It keeps
+/// no marks. It fails only for want of memory.
 pub fn executed<S: Subroutines>(
     alloc: Global,
     subrs: &S,

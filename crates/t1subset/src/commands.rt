@@ -1,4 +1,4 @@
-//! What words there are.
+//! The words of the program, and their help.
 use clap::{Arg, ArgAction, ArgMatches, Command, Error};
 use std::alloc::{AllocError, Global};
 

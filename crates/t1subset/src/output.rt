@@ -10,14 +10,14 @@ use t1_cmd::RunFault;
 /// How many names are tried for the file beside OUT.
 const TRIES: u32 = 100;
 
-/// What stands under OUT's name before the result does.
+/// What stands under OUT's name before the result is written.
 #[derive(Drop)]
 enum Before {
     /// Nothing.
     Nothing,
     /// A file that may be written, and that has no other name.
     File(Metadata),
-    /// All else, as a device, a pipe, a link or a file that may not be written.
+    /// Anything else, such as a device, a pipe, a link or a file that may not be written.
     Other,
 }
 
@@ -66,7 +66,7 @@ fn can_replace<F: OpenFile>(new: &F, old: &Metadata) -> bool {
     }
 }
 
-/// A new file that can come to OUT's name once it is whole, and its path.
+/// A new file that can take OUT's name once it is whole, and its path.
 fn replacement<R: Files>(rt: &R, alloc: Global, path: &str) -> Option<(String, R::File)> {
     let before = what_stands(rt, path);
     if matches!(before, Before::Other) {
@@ -91,8 +91,8 @@ struct Opened<F> {
 }
 
 /// OUT as an engine writes to it. The first write opens it, since an engine writes only when its result is complete. The
-/// result is written beside OUT and comes to OUT's name when it is whole, so that what stood there stays where a write fails.
-/// What is no plain file of ours is written as it stands.
+/// result is written beside OUT and takes OUT's name when it is whole, so that the old file stays if a write fails. If OUT
+/// is not a plain file of ours, it is written in place.
 #[derive(Drop)]
 pub struct Out<'r, 'p, R: Files> {
     rt: &'r R,
@@ -124,7 +124,7 @@ impl<'r, 'p, R: Files> Out<'r, 'p, R> {
         Ok(Opened { file, beside: None })
     }
 
-    /// Ends what the engine did so: a result that is whole comes to OUT's name, and a part of one is removed.
+    /// Finishes the output of an engine that ended in this way: a whole result takes OUT's name, and a part is removed.
     pub fn end(self, done: Result<(), RunFault>) -> Result<(), RunFault> {
         let Out {
             rt,
@@ -165,8 +165,8 @@ impl<R: Files> Write for Out<'_, '_, R> {
     }
 }
 
-/// Gives a whole file OUT's name, once the file system has all of it. Where it can't have the name, its bytes are copied to
-/// what stands there.
+/// Gives a whole file OUT's name, once all of it is on the disk. If it can't have the name, its bytes are copied to what
+/// stands there.
 fn keep<R: Files>(rt: &R, file: R::File, name: &str, path: &str) -> Result<(), RunFault> {
     let synced = file.sync_all();
     drop(file);

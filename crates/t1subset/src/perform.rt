@@ -12,7 +12,7 @@ use t1_cmd::{
 };
 use t1_font::Form;
 
-/// Why an input that doesn't open ends the run.
+/// How an input that can't be opened ends the run.
 fn not_opened(error: io::Error) -> RunFault {
     if error.kind() == ErrorKind::OutOfMemory {
         RunFault::Refused(Reason::Memory)
@@ -190,7 +190,7 @@ fn perform<R: Files, O: Write + Drop>(
     }
 }
 
-/// Prints help where it was asked for, or why the words don't parse; answers the exit status.
+/// Prints help if it was asked for, otherwise why the words don't parse; answers the exit status.
 fn tell<O: Write + Drop, E: Write + Drop>(error: &Error, mut out: O, mut err: E) -> u8 {
     if error.use_stderr() {
         let _ = write!(err, "{error}");
