@@ -33,7 +33,8 @@ impl<K: Key, V: Kept> Model for Table<K, V> {
 
     ghost view = { λ t. meaning_of_entries K.meaning V.meaning t.entries.items };
 
-    ghost invariant = { λ t. Rises meaning_cmp (entry_meanings K.meaning V.meaning t.entries.items) };
+    ghost invariant = { λ t. Rises meaning_cmp
+        (entry_meanings K.meaning V.meaning t.entries.items) };
 }
 
 impl<K: Key + Drop, V: Kept + Drop> Table<K, V> {
@@ -356,7 +357,9 @@ impl<'a, K: Key, V: Kept> Model for BothEntries<'a, K, V> {
 
     ghost Value = { List (Meaning × Meaning) };
 
-    ghost view = { λ s. merge meaning_cmp (entry_meanings K.meaning V.meaning s.first.now) (entry_meanings K.meaning V.meaning s.second.now) };
+    ghost view = { λ s. merge meaning_cmp
+        (entry_meanings K.meaning V.meaning s.first.now)
+        (entry_meanings K.meaning V.meaning s.second.now) };
 }
 
 impl<'a, K: Key, V: Kept> Iterator for BothEntries<'a, K, V> {

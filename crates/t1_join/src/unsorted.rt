@@ -23,7 +23,10 @@ impl<'a> Model for Unsorted<'a> {
 
     ghost Value = { Unsorted };
 
-    ghost view = { λ u. record { subrs = entry_meanings of_number (λ h. h) u.subrs.items; glyphs = entry_meanings (λ n. n.now) (λ h. h) u.glyphs.items } };
+    ghost view = { λ u. record {
+      subrs = entry_meanings of_number (λ h. h) u.subrs.items;
+      glyphs = entry_meanings (λ n. n.now) (λ h. h) u.glyphs.items;
+    } };
 }
 
 impl<'a> Unsorted<'a> {

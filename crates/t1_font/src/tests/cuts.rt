@@ -21,7 +21,9 @@ use t1_tiny::{PFA, PFB};
 
 /// `.notdef`, and those of these names that the font has.
 fn known(alloc: Global, font: &Font<'_>, names: &[&[u8]]) -> Result<Vec<Vec<u8>>, AllocError>
-    ensures known { IfOk result (λ v. (n : List ℕ) → sets.contains (set_of_names v.items) n ≡ true → fin.contains_key font.now.glyphs n ≡ true) }
+    ensures known { IfOk result (λ v. (n : List ℕ)
+        → sets.contains (set_of_names v.items) n ≡ true
+        → fin.contains_key font.now.glyphs n ≡ true) }
     ensures notdef { IfOk result (λ v. sets.contains (set_of_names v.items) notdef ≡ true) }
 {
     font.proof_is_font();
@@ -51,7 +53,8 @@ fn cut(
     names: &[&[u8]],
     subrs: &[u16],
 ) -> Result<Vec<u8>, AllocError>
-    ensures { IfOk result (λ v. (p : List ℕ → Bool) × ((s : ℕ → Bool) × (IsFont (restrict p s font.now) × (v.items ≡ canon (restrict p s font.now) Pfb)))) }
+    ensures { IfOk result (λ v. (p : List ℕ → Bool) × ((s : ℕ → Bool)
+        × (IsFont (restrict p s font.now) × (v.items ≡ canon (restrict p s font.now) Pfb)))) }
 {
     let names = known(alloc, font, names)?;
     let subrs = set_of(alloc, subrs)?;
