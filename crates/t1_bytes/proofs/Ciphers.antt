@@ -35,9 +35,11 @@ encrypted-is [] (c ∷ cs) key s = absurd s
 encrypted-is (p ∷ ps) [] key s = absurd s
 encrypted-is (p ∷ ps) (c ∷ cs) key s = ap (λ (b : ℕ). b ∷ encrypted (next_key key b) ps) (sym s.0) ∙ ap (λ (bytes : List ℕ). c ∷ bytes) (encrypted-is ps cs (next_key key c) s.1)
 
+-- plain bytes have one cipher under a key, their encryption
 pub is_encrypted : (plains ciphers : List ℕ) (key : ℕ) → Enciphers key plains ciphers ↔ (encrypted key plains ≡ ciphers)
 is_encrypted plains ciphers key = (encrypted-is plains ciphers key, λ e. subst (Enciphers key plains) e (Enciphers-encrypted plains key))
 
+-- a cipher has one plain text under a key, its decryption
 pub is_decrypted : (plains ciphers : List ℕ) (key : ℕ) → Enciphers key plains ciphers ↔ (decrypted key ciphers ≡ plains)
 is_decrypted plains ciphers key = (decrypted-is plains ciphers key, λ e. subst (λ (p : List ℕ). Enciphers key p ciphers) e (Enciphers-decrypted ciphers key))
 
@@ -89,6 +91,7 @@ zeros_bytes : (n : ℕ) (bytes : List ℕ) → AreBytes bytes → AreBytes (repl
 zeros_bytes zero bytes h = h
 zeros_bytes (suc n) bytes h = (omega arith, zeros_bytes n bytes h)
 
+-- what is sealed is bytes
 pub sealed_bytes : (key lead : ℕ) (text : List ℕ) → key < 65536 → AreBytes text → AreBytes (sealed key lead text)
 sealed_bytes key lead text k h = encrypted_bytes (replicate lead 0 ++ text) key k (zeros_bytes lead text h)
 

@@ -70,6 +70,7 @@ counted_again entry close E C n xs b text rest s =
 count_broken_by : {A B : Type 0} (entry : Grammar A) (close : Grammar B) → IsExact entry → (n m : ℕ) (bytes left : List ℕ) (xs : List A) (front : List ℕ) → bytes ≡ front ++ left → Entries entry xs front left → n ≡ length xs + m → counted_at entry close m left ≡ Err left → counted_at entry close n bytes ≡ Err left
 count_broken_by entry close E n m bytes left xs front parts entries all last = ap (counted_at entry close n) parts ∙ (entries_counted entry close E n m xs front left all entries ∙ ap (with_front xs) last)
 
+-- where a counted table breaks off, reading finds that place
 pub count_broken : {A B : Type 0} (entry : Grammar A) (close : Grammar B) → IsExact entry → IsExact close → (n : ℕ) (bytes left : List ℕ) → CountBreaksOff entry close n bytes left → counted_at entry close n bytes ≡ Err left
 unfolding counted_at
 count_broken entry close E C n bytes left s = by_missing s.missing
@@ -88,6 +89,7 @@ counted_turn entry close n front bytes x total e so_far =
     let one : with_front front (counted_at entry close (suc n) bytes) ≡ with_front front (with_front (x.0 ∷ []) (counted_at entry close n x.1)) = ap (with_front front) (rw e refl) in
     sym (with_front-with_front front (x.0 ∷ []) (counted_at entry close n x.1)) ∙ (sym one ∙ so_far)
 
+-- where an entry that is still wanted is missing, reading breaks off
 pub counted_stops : {A B : Type 0} (entry : Grammar A) (close : Grammar B) (n : ℕ) (front : List A) (bytes : List ℕ) (total : Table A B) → entry.read bytes ≡ None
     → with_front front (counted_at entry close (suc n) bytes) ≡ total → total ≡ Err bytes
 unfolding counted_at
@@ -95,6 +97,7 @@ counted_stops entry close n front bytes total e so_far =
     let one : counted_at entry close (suc n) bytes ≡ Err bytes = rw e refl in
     sym so_far ∙ ap (with_front front) one
 
+-- where no more entries are wanted and the close comes, the table is read
 pub counted_closes : {A B : Type 0} (entry : Grammar A) (close : Grammar B) (front : List A) (bytes : List ℕ) (x : B × List ℕ) (total : Table A B) → close.read bytes ≡ Some x
     → with_front front (counted_at entry close zero bytes) ≡ total → total ≡ Ok (front, x.0, x.1)
 unfolding counted_at
@@ -102,6 +105,7 @@ counted_closes entry close front bytes x total c so_far =
     let one : counted_at entry close zero bytes ≡ Ok ([], x.0, x.1) = rw c refl in
     sym so_far ∙ (ap (with_front front) one ∙ ap (λ (zs : List _). Ok (zs, x.0, x.1)) (append-nil front))
 
+-- where no more entries are wanted and the close is missing, reading breaks off
 pub counted_unclosed : {A B : Type 0} (entry : Grammar A) (close : Grammar B) (front : List A) (bytes : List ℕ) (total : Table A B) → close.read bytes ≡ None
     → with_front front (counted_at entry close zero bytes) ≡ total → total ≡ Err bytes
 unfolding counted_at

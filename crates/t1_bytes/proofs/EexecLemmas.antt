@@ -35,6 +35,7 @@ pub eexec_exact : IsExact eexec_marker
 unfolding eexec_marker
 eexec_exact = bind_exact _ _ (fixed_exact (codes "currentfile")) (λ currentfile. bind_exact _ _ gap_exact (λ between. bind_exact _ _ (fixed_exact (codes "eexec")) (λ eexec. bind_exact _ _ (before_exact _) (λ _. pure_exact (currentfile ++ between ++ eexec)))))
 
+-- the marker can be read only where `currentfile` stands
 pub eexec_begins : Begins (codes "currentfile") eexec_marker
 unfolding eexec_marker
 eexec_begins bytes e = rw e refl
@@ -49,6 +50,7 @@ split_is flat (Some ((front, marker), after)) e = by_cipher (cipher_text.read af
     by_cipher None k = (front, marker, after, (first_exact eexec_marker eexec_exact).takes flat ((front, marker), after) e, unspelled cipher_text cipher_exact after k)
     by_cipher (Some (cipher, rest)) k = record { front = front; marker = marker; after = after; rest = rest; first_marker = (first_exact eexec_marker eexec_exact).takes flat ((front, marker), after) e; secret = cipher_exact.takes after (cipher, rest) k; place = refl }
 
+-- the split of a flat text is right, and so is the reason why there is none
 pub split_right : (flat : List ℕ) → MatchResult {T = ℕ × List ℕ} (split_of flat) (λ x. IsSplit flat x.0 x.1) (SplitFails flat)
 unfolding split_of
 split_right flat = split_is flat ((first eexec_marker).read flat) refl
@@ -72,10 +74,12 @@ fails_again flat Memory s = absurd s
 
 -- ---- what is known of what was read
 
+-- where what follows the marker is known, the marker was read
 pub marker_found : {A : Type 0} (o : Option (A × List ℕ)) (rest : List ℕ) → option_map (λ (x : A × List ℕ). x.1) o ≡ Some rest → (a : A) × (o ≡ Some (a, rest))
 marker_found None rest e = absurd (none-some rest e)
 marker_found {A} (Some x) rest e = (x.0, ap (λ (r : List ℕ). Some (x.0, r)) (same_Some x.1 rest e))
 
+-- where nothing follows a marker, no marker was read
 pub marker_absent : {A : Type 0} (o : Option (A × List ℕ)) → option_map (λ (x : A × List ℕ). x.1) o ≡ None → o ≡ None
 marker_absent None e = refl
 marker_absent (Some x) e = absurd cc
@@ -101,16 +105,19 @@ found_place flat front marker after e =
     let own : s.2.0 ≡ marker = marker_own marker s.2.0 after s.2.2 in
     omega (arith, ap length s.1, length-append s.0 after, ap length s.2.1, length-append front s.2.0, ap length own)
 
+-- what follows the first marker is no longer than the flat text
 pub split_within : (flat after : List ℕ) → option_map (λ (x : (List ℕ × List ℕ) × List ℕ). x.1) ((first eexec_marker).read flat) ≡ Some after → length after ≤ length flat
 split_within flat after e =
     let found = marker_found ((first eexec_marker).read flat) after e in
     let s = (first_exact eexec_marker eexec_exact).takes flat (found.0, after) found.1 in
     omega (arith, ap length s.1, length-append s.0 after)
 
+-- a flat text without the marker is refused as NoEexec
 pub split_absent : (flat : List ℕ) → option_map (λ (x : (List ℕ × List ℕ) × List ℕ). x.1) ((first eexec_marker).read flat) ≡ None → split_of flat ≡ Err NoEexec
 unfolding split_of
 split_absent flat e = ap split_after (marker_absent ((first eexec_marker).read flat) e)
 
+-- a flat text with the marker is split after the first one, at the cipher that follows
 pub split_found : (flat after : List ℕ) → option_map (λ (x : (List ℕ × List ℕ) × List ℕ). x.1) ((first eexec_marker).read flat) ≡ Some after → split_of flat ≡ placed (length flat - length after) (cipher_text.read after)
 unfolding split_of
 split_found flat after e =
@@ -122,16 +129,19 @@ cipher_behind : (front after : List ℕ) (c : Cipher) → last_bytes c ≤ lengt
 cipher_behind front after (Spelled v) room = refl
 cipher_behind front after (Last n) room = sym (ap (λ k. drop k (front ++ after)) (omega (arith, room, length-append front after)) ∙ drop-append-add front after (length after - n))
 
+-- a cipher that lies in what follows the marker is the same cipher in the flat text
 pub cipher_stays : (flat after : List ℕ) → option_map (λ (x : (List ℕ × List ℕ) × List ℕ). x.1) ((first eexec_marker).read flat) ≡ Some after → (c : Cipher) → last_bytes c ≤ length after → cipher_in after c ≡ cipher_in flat c
 cipher_stays flat after e c room =
     let found = marker_found ((first eexec_marker).read flat) after e in
     let whole = (first_exact eexec_marker eexec_exact).takes flat (found.0, after) found.1 in
     cipher_behind whole.0 after c room ∙ ap (λ (t : List ℕ). cipher_in t c) (sym whole.1)
 
+-- a cipher that is read is answered with its offset
 pub ok_placed : (n : ℕ) (secret : Option (List ℕ × List ℕ)) (cipher : List ℕ) → or_short (λ (x : List ℕ × List ℕ). x.0) secret ≡ Ok cipher → placed n secret ≡ Ok (n, cipher)
 ok_placed n None cipher e = absurd cc
 ok_placed n (Some x) cipher e = ap (λ (c : List ℕ). Ok (n, c)) (same_Ok {E = BytesFault} x.0 cipher e)
 
+-- a refusal of the cipher is the refusal of the split
 pub err_placed : (fault : BytesFault) (n : ℕ) (secret : Option (List ℕ × List ℕ)) (answer : Result (ℕ × List ℕ) BytesFault) → answer ≡ placed n secret → Refused fault (or_short (λ (x : List ℕ × List ℕ). x.0) secret) → Refused fault answer
 err_placed Memory n secret answer e r = tt
 err_placed NoEexec n (Some x) answer e r = absurd cc
@@ -149,6 +159,7 @@ kept_fault NoEexec flat answer e r = let right = split_right flat in rw (e ∙ r
 kept_fault ShortCipher flat answer e r = let right = split_right flat in rw (e ∙ r) at right
 kept_fault (BadSegment at) flat answer e r = let right = split_right flat in rw (e ∙ r) at right
 
+-- an answer that agrees with the split as a function is right by its relation
 pub split_answers : {X : Type 0} (view : X → ℕ × List ℕ) (flat : List ℕ) (r : Result X BytesFault) → Answers view r (split_of flat) → MatchResult r (λ x. IsSplit flat (view x).0 (view x).1) (OrMemory (SplitFails flat))
 split_answers view flat (Ok x) h = let right = split_right flat in rw h at right
 split_answers view flat (Err fault) h = kept_fault fault flat (split_of flat) refl h

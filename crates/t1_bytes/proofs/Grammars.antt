@@ -102,12 +102,15 @@ all_exact = record {
 
 -- ---- what is read, step by step
 
+-- a text and then the one that follows it are read as one after the other
 pub bind_read : {A B : Type 0} (g : Grammar A) (f : A → Grammar B) (bytes : List ℕ) (a : A) (rest : List ℕ) (r : Option (B × List ℕ)) → g.read bytes ≡ Some (a, rest) → (f a).read rest ≡ r → (g >>= f).read bytes ≡ r
 bind_read g f bytes a rest r e k = ap (option_and_then (λ x. (f x.0).read x.1)) e ∙ k
 
+-- a value that is read and passes the test is read with it
 pub that_read : {A : Type 0} (test : A → Bool) (g : Grammar A) (bytes : List ℕ) (a : A) (rest : List ℕ) → g.read bytes ≡ Some (a, rest) → test a ≡ true → (that test g).read bytes ≡ Some (a, rest)
 that_read test g bytes a rest e t = rw (e, t) refl
 
+-- bytes that pass a test, up to one that fails it, are read as their run
 pub run_read : (p : ℕ → Bool) (text rest : List ℕ) → AllByRecursion (λ b. p b ≡ true) text → Stops p rest → (run p).read (text ++ rest) ≡ Some (text, rest)
 run_read p text rest a s = (run_exact p).again text text rest (refl, a, s)
 
@@ -132,6 +135,7 @@ either_exact g h G H = record {
 pub fixed_exact : (bytes : List ℕ) → IsExact (fixed bytes)
 fixed_exact bytes = that_exact (bytes_eq bytes) (count (length bytes)) (count_exact (length bytes))
 
+-- a value that is only changed is absent where it was absent before
 pub and_then_none : {A B : Type 0} (f : A → B) (o : Option A) → option_and_then (λ x. Some (f x)) o ≡ None → o ≡ None
 and_then_none f None e = refl
 and_then_none f (Some x) e = absurd cc
@@ -156,6 +160,7 @@ first_takes g G (b ∷ bs) x e = elim (choice_some (option_and_then (λ y. Some 
       (b ∷ s.0, ap (λ (u : List ℕ). b ∷ u) s.1, (s.2.0, ap (λ (u : List ℕ). b ∷ u) s.2.1, s.2.2, (unspelled g G (b ∷ (y.0.0 ++ (s.2.0 ++ y.1))) (subst (λ (u : List ℕ). g.read (b ∷ u) ≡ None) parts none), s.2.3))))
 ]
 
+-- a grammar that can be read at the front is found there first
 pub first_here : {A : Type 0} (g : Grammar A) (bytes : List ℕ) (a : A) (rest : List ℕ) → g.read bytes ≡ Some (a, rest) → first_at g bytes ≡ Some (([], a), rest)
 unfolding first_at
 first_here g [] a rest e = rw e refl

@@ -6,6 +6,7 @@ use Rattle.std.proofs.lemmas.List.{length-append, append-nil}
 use Rattle.hex.specs.Hex.{encode_with, encode_lower}
 use Rattle.t1_bytes.specs.Texts.{hex_byte, hex_rest, hex_lines}
 
+-- equal successes have equal values
 pub same_Ok : {E : Type 0} (x y : List ℕ) → ◌≡◌ {A = Result (List ℕ) E} (Ok x) (Ok y) → x ≡ y
 same_Ok x y h = cc
 
@@ -27,6 +28,7 @@ last_line n [] e = refl
 last_line zero (c ∷ cs) e = absurd (omega arith)
 last_line (suc n) (c ∷ cs) e = ap (λ (text : List ℕ). hex_byte c ++ text) (last_line n cs (omega arith))
 
+-- the digits of a line and a line feed come before the lines of the other bytes
 pub one_line : (line rest : List ℕ) → 0 < length line → (length line ≡ 32) ⊎ ((length line ≤ 32) × (rest ≡ [])) → hex_lines (line ++ rest) ≡ encode_lower line ++ (10 ∷ hex_lines rest)
 unfolding encode_with
 one_line [] rest h e = absurd (omega arith)

@@ -47,6 +47,7 @@ rest_again n [] more h = refl
 rest_again zero (b ∷ bs) more h = byte_again b (hex_rest 31 bs ++ more) h.0 ∙ ap (λ (u : List ℕ). b ∷ u) (rest_again 31 bs more h.1)
 rest_again (suc n) (b ∷ bs) more h = byte_again b (hex_rest n bs ++ more) h.0 ∙ ap (λ (u : List ℕ). b ∷ u) (rest_again n bs more h.1)
 
+-- the digits of lines spell the bytes that the lines were written from
 pub lines_again : (bs more : List ℕ) → AreBytes bs → spelled (hex_lines bs ++ more) ≡ bs ++ spelled more
 lines_again [] more h = refl
 lines_again (b ∷ bs) more h = byte_again b (hex_rest 31 bs ++ more) h.0 ∙ ap (λ (u : List ℕ). b ∷ u) (rest_again 31 bs more h.1)

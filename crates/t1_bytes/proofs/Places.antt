@@ -33,6 +33,7 @@ prepend-nil : {A : Type 0} (o : Option ((List ℕ × A) × List ℕ)) → o ≡ 
 prepend-nil None = refl
 prepend-nil (Some x) = refl
 
+-- where a grammar can be read nowhere in the first n bytes, it is sought after them
 pub first_after : {A : Type 0} (g : Grammar A) (bytes : List ℕ) (n : ℕ) → n ≤ length bytes → NoneBelow g bytes n → first_at g bytes ≡ prepend (take n bytes) (first_at g (drop n bytes))
 first_after g bytes zero le none = prepend-nil (first_at g bytes)
 first_after g [] (suc n) le none = absurd (omega arith)
@@ -48,6 +49,7 @@ pub first_found : {A : Type 0} (g : Grammar A) (bytes : List ℕ) (n : ℕ) (a :
 first_found g bytes n a rest le none e =
     first_after g bytes n le none ∙ (ap (prepend (take n bytes)) (first_here g (drop n bytes) a rest e) ∙ ap (λ (f : List ℕ). Some ((f, a), rest)) (append-nil (take n bytes)))
 
+-- where a grammar can be read at no offset, there is no first place
 pub first_nowhere : {A : Type 0} (g : Grammar A) (bytes : List ℕ) → NoneBelow g bytes (length bytes + 1) → first_at g bytes ≡ None
 unfolding first_at
 first_nowhere g [] none = rw (none 0 (omega arith)) refl
@@ -105,6 +107,7 @@ occurs_later bytes w from k le o = record {
   reads = λ j h. get_or-drop from bytes (k + j) 0 ∙ (ap (λ (i : ℕ). get_or bytes i 0) (sym (add_assoc from k j)) ∙ o.reads j h);
 }
 
+-- a word that stands nowhere in the rest of a text stands nowhere in that part of the text
 pub nowhere_later : (bytes w : List ℕ) (from n m : ℕ) → from ≤ length bytes → m ≤ from + n → Nowhere (OccursAt (drop from bytes) w) 0 n → Nowhere (OccursAt bytes w) from m
 nowhere_later bytes w from n m le top none k low high o =
     let e : k ≡ from + (k - from) = omega arith in
@@ -123,12 +126,15 @@ one_more g bytes to none e = below_more _ to none e
 
 -- ---- a search for w, which g begins with
 
+-- a grammar that is read where its first word is met first is found there
 pub found_at : {A : Type 0} (w : List ℕ) (g : Grammar A) → Begins w g → (bytes : List ℕ) (from place : ℕ) (a : A) (rest : List ℕ) → place ≤ length bytes → NoneBelow g bytes from → Nowhere (OccursAt bytes w) from place → g.read (drop place bytes) ≡ Some (a, rest)
     → Some ((take place bytes, a), rest) ≡ first_at g bytes
 found_at w g begins bytes from place a rest le none absent e = sym (first_found g bytes place a rest le (more_none w g begins bytes from place (omega arith) none absent) e)
 
+-- where the word is met and the grammar can't be read, the search goes on behind it
 pub passed_at : {A : Type 0} (w : List ℕ) (g : Grammar A) → Begins w g → (bytes : List ℕ) (from place : ℕ) → place ≤ length bytes → NoneBelow g bytes from → Nowhere (OccursAt bytes w) from place → g.read (drop place bytes) ≡ None → NoneBelow g bytes (place + 1)
 passed_at w g begins bytes from place le none absent e = one_more g bytes place (more_none w g begins bytes from place (omega arith) none absent) e
 
+-- where the word is met no more, the grammar is found nowhere
 pub nowhere_at : {A : Type 0} (w : List ℕ) (g : Grammar A) → Begins w g → (bytes : List ℕ) (from : ℕ) → NoneBelow g bytes from → Nowhere (OccursAt bytes w) from (length bytes + 1) → None ≡ first_at g bytes
 nowhere_at w g begins bytes from none absent = sym (first_nowhere g bytes (more_none w g begins bytes from (length bytes + 1) (omega arith) none absent))

@@ -22,6 +22,7 @@ module _ (whole : List ℕ) (from count lines : ℕ) where
     many : length bytes ≡ count
     many = omega (arith, length-take count (drop from whole), length-drop from whole, room)
 
+    -- before the first line is written, all bytes stand where they stood
     pub at_first : Spread lines whole
     at_first = record {
       size = refl;
@@ -30,6 +31,7 @@ module _ (whole : List ℕ) (from count lines : ℕ) where
       back = drop_all (from + 65 * lines) whole (omega (arith, room, enough)) ∙ ap hex_lines (sym (drop_all (32 * lines) bytes (omega (arith, many, enough))));
     }
 
+    -- after the last line is written, the bytes have become their lines
     pub at_last : (text : List ℕ) → Spread 0 text → text ≡ take from whole ++ hex_lines bytes
     at_last text h =
         let none : from + min (32 * 0) count ≡ from = omega arith in
@@ -95,6 +97,7 @@ module _ (whole : List ℕ) (from count lines : ℕ) where
       lines_are : encode_lower line ++ (10 ∷ hex_lines (drop len rest)) ≡ hex_lines rest
       lines_are = sym (one_line line (drop len rest) (omega (arith, length-take len rest, rest_many, inside)) full_or_last) ∙ ap hex_lines (take-append-drop len rest)
 
+      -- once one more line is written, the lines behind it stay
       pub one_more : (new : List ℕ) → length new ≡ length text → new ≡ take to text ++ (encode_lower (take len (drop start text)) ++ (10 ∷ drop (to + (2 * len + 1)) text)) → Spread left new
       one_more new same put =
           let within : to ≤ length text = omega (arith, h.size, room, is, h.few, few, enough) in
