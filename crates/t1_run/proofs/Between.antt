@@ -86,6 +86,7 @@ module _ {subrs : Subrs} {hints : Hints} {c old : List ℕ} {keeps one : Bool} {
   pub out : frame_left top ≡ [] → Ran (halt.Failed Unended) now
   out none = ran (halt.Failed Unended) _ now refl tt (runs_out inv.turns rest top are none)
 
+  -- where hints are kept it ends the same, if nothing told the runs apart
   pub out_one : frame_left top ≡ [] → one ≡ true → run_glyph subrs Kept c ≡ run_glyph subrs hints c
   out_one none = mirror_out inv.mirror rest top are none
 
@@ -115,6 +116,7 @@ module _ {subrs : Subrs} {hints : Hints} {c old : List ℕ} {keeps one : Bool} {
         ran h (ending_of h inv.marks) now (sym (at_top_is h inv.marks)) (ends_within h inv.marks (m.allowed - 1) (kept_limits (Ends (ending_of h inv.marks)) is))
         (on_end in_turn (ending_of h inv.marks) (stops h inv.marks) (sym is ∙ spent.step inv.marks))
 
+    -- and so it does where hints are kept, if this token tells nothing apart either
     pub ends_one : (h : Halt) → step_of on (state_of m' inv.marks) ≡ Ends (ending_of h inv.marks) → is_one on ≡ true → one ≡ true → run_glyph subrs Kept c ≡ run_glyph subrs hints c
     ends_one h is same = mirror_end in_mirror one (ending_of h inv.marks) (stops h inv.marks) (sym is ∙ spent.step inv.marks) (λ h. (h, sym is ∙ spent.one same inv.marks))
 
@@ -139,6 +141,7 @@ module _ {subrs : Subrs} {hints : Hints} {c old : List ℕ} {keeps one : Bool} {
       pub last : rest ≡ [] → Ran (halt.Failed Unended) now
       last none = ran (halt.Failed Unended) _ now refl tt (on_last turn_now rest (state_of m' inv.marks) refl none (spent.step inv.marks))
 
+      -- and so it does where hints are kept
       pub last_one : rest ≡ [] → one ≡ true → run_glyph subrs Kept c ≡ run_glyph subrs hints c
       last_one none = mirror_last mirror_now one rest (state_of m' inv.marks) refl none (spent.step inv.marks) (λ h. (h, spent.one refl inv.marks))
 
@@ -153,6 +156,7 @@ module _ {subrs : Subrs} {hints : Hints} {c old : List ℕ} {keeps one : Bool} {
           ran (halt.Failed fault) _ mid refl tt
           (on_fault turn_now (state_of m' inv.marks) i index (rest ++ top' ∷ []) levels mid (spent.step inv.marks) is refl room took fault (failed hints (state_of m' inv.marks)))
 
+      -- and so it does where hints are kept
       pub fails_one : (fault : Fault) → ((h : Hints) (s : State) → call subrs h levels index s ≡ ends (Failed fault)) → one ≡ true → run_glyph subrs Kept c ≡ run_glyph subrs hints c
       fails_one fault failed =
           mirror_fault mirror_now one (state_of m' inv.marks) i index (rest ++ top' ∷ []) levels (spent.step inv.marks) (λ h. (h, spent.one refl inv.marks)) is refl room fault (λ h. failed h (state_of m' inv.marks))

@@ -14,9 +14,11 @@ module _ (outcome : Outcome) (h : Halt) (kept : List Mark) (old new : List ℕ) 
   with_all : value ≡ ending_of h runs.marks
   with_all = is ∙ ap (ending_of h) (runs.all_kept refl)
 
+  -- its answer is that of the run
   pub answered : value ≡ at_top outcome.ending
   answered = with_all ∙ runs.ends_so
 
+  -- its answer is within the limits
   pub answered_within : EndsWithinLimits value
   answered_within = subst EndsWithinLimits (sym with_all) runs.within
 
@@ -26,5 +28,6 @@ same_parts (halt.Plain metrics) marks = refl
 same_parts (halt.Seac accent) marks = refl
 same_parts (halt.Failed fault) marks = refl
 
+-- it names the parts of the run's answer, whatever marks were kept
 pub named : (outcome : Outcome) (h : Halt) (keeps : Bool) (kept : List Mark) (old new : List ℕ) → Runs outcome h keeps kept old new → parts_of (ending_of h []) ≡ parts_of (at_top outcome.ending)
 named outcome h keeps kept old new runs = same_parts h runs.marks ∙ ap parts_of runs.ends_so

@@ -69,6 +69,7 @@ module _ (f g : Subrs) (more : Extends f g) where
   glyph_grown hints c h =
       run_with_grown hints (call f hints level_limit) (call g hints level_limit) (tokens c) (call_grown hints level_limit) start (top_ended (run_glyph f hints c).ending h)
 
+  -- a charstring that ends without a fault answers the same where there are more Subrs
   pub direct_grown : (hints : Hints) (c : List ℕ) → NoFault (direct_by hints f c) → direct_by hints g c ≡ direct_by hints f c
   direct_grown hints c h = ap (λ (o : Outcome). at_top o.ending) (glyph_grown hints c h)
 
@@ -80,6 +81,7 @@ module _ (f g : Subrs) (more : Extends f g) where
       ap (λ (is : List ℕ). with_indices (with_indices [] is) (calls_of Kept g c)) (calls_grown Replaced c h)
       ∙ ap (λ (is : List ℕ). with_indices (with_indices [] (calls_of Replaced f c)) is) (calls_grown Kept c k)
 
+-- what ends without a fault ends the same where there are more Subrs, and executes the same indices
 pub runs_with_more : RunsWithMore
 runs_with_more = record {
   answers = λ f g c hints more h. direct_grown f g more hints c h;
@@ -94,6 +96,7 @@ abbrev IsPlain : Option Ending → Type 0
 IsPlain (Some (Plain m ms)) = Unit {0}
 IsPlain _ = ⊥
 
+-- an accented glyph is drawn only of two plain glyphs
 two_plain : (a : Accent) (x y : Option Ending) → IsDrawn (of_two a x y) → IsPlain x × IsPlain y
 two_plain a None y h = absurd h
 two_plain a (Some (Back s)) y h = absurd h
@@ -145,9 +148,11 @@ module _ (hints : Hints) (f g : Subrs) (f' g' : Glyphs) (more : Extends f g) (mo
       ∙ ap (λ (e : Ending). picture_at hints g g' (Some e)) (direct_grown f g more hints c (drawn_ended own (map (outcome_at hints f f') (parts_of own)) h))
       ∙ picture_grown own h
 
+  -- a name that is drawn is drawn the same where there are more glyphs and Subrs
   pub drawn_grown : (name : List ℕ) → IsDrawn (draw_by hints f f' name) → draw_by hints g g' name ≡ draw_by hints f f' name
   drawn_grown name h = glyph_drawn name (f' name) refl h
 
+-- what is drawn is drawn the same where there are more glyphs and Subrs
 pub draws_with_more : DrawsWithMore
 draws_with_more = record {
   draws = λ f g f' g' name more more' h. drawn_grown Replaced f g f' g' more more' name h;

@@ -8,6 +8,7 @@ use Rattle.std.specs.BTreeSet.{insert_key}
 use Rattle.std.specs.Ordering.{nat_cmp, match_ordering, MatchOrdering}
 use Rattle.t1_run.specs.Run.{with_indices}
 
+-- indices are put into a set one list after the other
 pub with_indices-append : (set is js : List ℕ) → with_indices set (is ++ js) ≡ with_indices (with_indices set is) js
 with_indices-append set [] js = refl
 with_indices-append set (i ∷ is) js = with_indices-append (insert_key nat_cmp set i) is js

@@ -13,6 +13,7 @@ resume_after calls o g =
     let on : Outcome = then_run o.ending g in
     λ i. record { ending = on.ending; indices = append_assoc calls o.indices on.indices i; visits = o.visits ++ on.visits }
 
+-- a run that is resumed after visits has these visits first
 pub resume_visiting : (visits : List Visit) (o : Outcome) (g : State → Outcome) → resume (visiting visits o) g ≡ visiting visits (resume o g)
 resume_visiting visits o g =
     let on : Outcome = then_run o.ending g in
@@ -63,14 +64,17 @@ deeper-resume o g =
     rest (Seac a) = refl
     rest (Failed fault) = refl
 
+-- a resumed run is so many calls deeper in both of its parts
 pub deeper_by-resume : (n : ℕ) (o : Outcome) (g : State → Outcome) → deeper_by n (resume o g) ≡ resume (deeper_by n o) (λ s. deeper_by n (g s))
 deeper_by-resume zero o g = refl
 deeper_by-resume (suc n) o g = ap (deeper_by n) (deeper-resume o g) ∙ deeper_by-resume n (deeper o) (λ s. deeper (g s))
 
+-- an ending alone is as deep as before
 pub deeper_by-ends : (n : ℕ) (e : Ending) → deeper_by n (ends e) ≡ ends e
 deeper_by-ends zero e = refl
 deeper_by-ends (suc n) e = deeper_by-ends n e
 
+-- calls that come first stay when a run is deeper
 pub deeper_by-after : (n : ℕ) (calls : List ℕ) (o : Outcome) → deeper_by n (after calls o) ≡ after calls (deeper_by n o)
 deeper_by-after zero calls o = refl
 deeper_by-after (suc n) calls o = deeper_by-after n calls (deeper o)
@@ -80,6 +84,7 @@ pub visits_by : ℕ → List Visit → List Visit
 visits_by zero visits = visits
 visits_by (suc n) visits = visits_by n (map one_deeper visits)
 
+-- visits that come first are deeper with their run
 pub deeper_by-visiting : (n : ℕ) (visits : List Visit) (o : Outcome) → deeper_by n (visiting visits o) ≡ visiting (visits_by n visits) (deeper_by n o)
 unfolding visits_by
 deeper_by-visiting zero visits o = refl

@@ -10,6 +10,7 @@ use Rattle.t1_run.specs.Standard.{named_in}
 abbrev pub name_from : ℕ → List (List ℕ) → ℕ → Option (List ℕ)
 name_from first names code = if nat_le first code then slice_get names (code - first) else None
 
+-- a place below the number of names has its name, and any other what the other runs say
 inside : (names : List (List ℕ)) (place : ℕ) (other : Option (List ℕ)) →
     (if nat_lt place (length names) then slice_get names place else other) ≡ option_or (slice_get names place) other
 inside names place other = by_place (nat_lt place (length names)) refl

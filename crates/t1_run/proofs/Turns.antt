@@ -130,10 +130,12 @@ module _ {whole : Outcome} {old : List ℕ} where
 
 -- ---- turns of the frames
 
+-- a frame that is pushed is the first of the lists
 pub lists_push : (frames rest : List Frame) (f : Frame) → frames ≡ rest ++ f ∷ [] → lists_of frames ≡ frame_left f ∷ lists_of rest
 lists_push frames rest f pushed =
     ap lists_of pushed ∙ ap reverse (map-append frame_left rest (f ∷ [])) ∙ reverse-append (map frame_left rest) (frame_left f ∷ [])
 
+-- a frame that is pushed is one more
 pub length_push : (frames rest : List Frame) (f : Frame) → frames ≡ rest ++ f ∷ [] → length frames ≡ length rest + 1
 length_push frames rest f pushed = ap length pushed ∙ length-append rest (f ∷ [])
 
