@@ -38,14 +38,17 @@ pub record IsGathering (text : List ℕ) (u : Unsorted) (rest : List ℕ) : Type
   pub fit : AllByRecursion IsEntry seen
   pub goes_on : Apart seen → entries_of text ≡ read_lines line seen (lines_of rest).0 (lines_of rest).1
 
+-- before the first line nothing is read
 pub gathering_starts : (text : List ℕ) (u : Unsorted) → u ≡ record { subrs = []; glyphs = [] } → IsGathering text u text
 gathering_starts text u e = record { seen = []; line = 1; read = e; fit = tt; goes_on = λ _. refl }
 
 module _ (text : List ℕ) (u : Unsorted) (rest : List ℕ) (r : IsGathering text u rest) where
   module _ (front back : List ℕ) (split : split_at 10 rest ≡ Some (front, back)) where
+    -- what stands after a line is shorter than what stood before it
     pub gathered_shorter : length back + 1 ≤ length rest
     gathered_shorter = shorter 10 rest (front, back) split
 
+    -- a line that says an entry adds it, whether its key was there or not
     pub gathered_next : (e : Entry) (new : Unsorted) → entry_of front ≡ Some e → new ≡ with_line e u → IsGathering text new back
     gathered_next e new h n = record {
       seen = e ∷ r.seen;
@@ -154,9 +157,11 @@ module _ (text : List ℕ) (u : Unsorted) (rest : List ℕ) (r : IsGathering tex
       ∙ ap (tables (fin.from_entries u.subrs)) (sym made.1.table)
       ∙ ap (λ m. tables m t.1) (sym made.0.table)
 
+  -- the tables of the entries are those of a listing
   pub gathered_listed : IsListing (tables t.0 t.1)
   gathered_listed = subst IsListing made_is (all_listed r.seen r.fit)
 
+  -- if no key came twice, the text spells the listing of all lines
   pub gathering_ends : split_at 10 rest ≡ None → length rest ≡ 0 → listing_of text ≡ Ok (tables t.0 t.1)
   gathering_ends whole e =
       ap listing_result

@@ -24,12 +24,14 @@ tables_back m n h q = state_back (state_at m q) (state_at n q) (h q)
 joined_back : (m n o : TableMeaning) → TablesAgree m n → o ≡ joined_table m n → o ≡ joined_table n m
 joined_back m n o h e = (table_laws.commutes m n o (h, e)).1
 
+-- a first conflict is the first in the other order too
 pub conflict_back : (m n : TableMeaning) (q : Meaning) → IsFirstConflict m n q → IsFirstConflict n m q
 conflict_back m n q c = record {
   differs = λ a. c.differs (state_back (state_at n q) (state_at m q) a);
   first = λ p l. state_back (state_at m p) (state_at n p) (c.first p l);
 }
 
+-- two tables have one first conflict
 pub conflict_one : (m n : TableMeaning) (p q : Meaning) → IsFirstConflict m n p → IsFirstConflict m n q → p ≡ q
 conflict_one m n p q c d = by (meaning_cmp p q) refl
   where
@@ -38,6 +40,7 @@ conflict_one m n p q c d = by (meaning_cmp p q) refl
     by Equal e = same_by_cmp p q e
     by Greater e = absurd (d.differs (c.first q (nat_list_cmp_total.antisymm q p ∙ ap ordering_reverse e)))
 
+-- two listings join in the other order too, to the same listing
 pub joins_back : (left right both : ListingMeaning) → IsJoined left right both → IsJoined right left both
 joins_back left right both j = record {
   subrs_agree = tables_back left.subrs right.subrs j.subrs_agree;
@@ -46,11 +49,13 @@ joins_back left right both j = record {
   glyphs = joined_back left.glyphs right.glyphs both.glyphs j.glyphs_agree j.glyphs;
 }
 
+-- two listings are refused for the same reason in the other order
 pub refused_back : (left right : ListingMeaning) (fault : JoinFault) → IsJoinFault left right fault → IsJoinFault right left fault
 refused_back left right (Subr index) h = conflict_back left.subrs right.subrs (of_number index) h
 refused_back left right (Glyph name) h = (tables_back left.subrs right.subrs h.0, conflict_back left.glyphs right.glyphs name.items h.1)
 refused_back left right Memory h = tt
 
+-- listings that join are refused for want of memory alone
 pub joined_or_refused : (left right both : ListingMeaning) (fault : JoinFault) → IsJoined left right both → IsJoinFault left right fault → fault ≡ Memory
 joined_or_refused left right both (Subr index) j h = absurd (h.differs (j.subrs_agree (of_number index)))
 joined_or_refused left right both (Glyph name) j h = absurd (h.1.differs (j.glyphs_agree name.items))

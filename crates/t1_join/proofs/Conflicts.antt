@@ -26,6 +26,7 @@ module _ {K X Y : Type 0} (R : K → K → Ordering) (same : X → X → Bool) (
   nothing_met [] = refl
   nothing_met (x ∷ xs) = refl
 
+  -- where one of the lists is used up, no conflict is met
   pub meets_nothing : (es fs : List Y) (i j : ℕ) → (length es ≤ i) ⊎ (length fs ≤ j) → Meeting es fs i j → first_met R same (map v es) (map v fs) ≡ None
   meets_nothing es fs i j (inl k) h = sym h ∙ ap (λ (a : List Y). first_met R same (map v a) (map v (drop j fs))) (drop_all i es k)
   meets_nothing es fs i j (inr k) h = sym h ∙ ap (λ (a : List Y). first_met R same (map v (drop i es)) (map v a)) (drop_all j fs k) ∙ nothing_met (map v (drop i es))
@@ -64,6 +65,7 @@ module _ {K X : Type 0} {R : K → K → Ordering} (o : IsTotalOrder R) (same : 
   carried a b None e h = λ q. e q ∙ h q
   carried a b (Some k) e h = (e k ∙ h.0, λ p l. e p ∙ h.1 p l)
 
+  -- the first entry is met rightly if the others are
   says_met : (e : K × X) (es fs : List (K × X)) → T (below_all R e.0 es) → Rises R fs → ((gs : List (K × X)) → Rises R gs → Says R (agree_at es gs) (first_met R same es gs)) → Says R (agree_at (e ∷ es) fs) (met R same e (first_met R same es) fs)
   says_met e es [] b h k = λ q. nothing_right (find R q (e ∷ es))
   says_met e es (f ∷ fs) b h k =
@@ -105,6 +107,7 @@ module _ {B : Type 0} (f : B → Meaning) (es fs : List (Meaning × Meaning)) (m
   agreed q =
       (λ i. states_agree (get (sym is_m i) q) (get (sym is_n i) q)) ∙ (λ i. states_agree (get-from_sorted meaning_cmp es q g i) (get-from_sorted meaning_cmp fs q h i)) ∙ sym (alike (find meaning_cmp q es) (find meaning_cmp q fs))
 
+  -- what the pass over two tables meets is their first conflict, and they join where it meets none
   pub conflict_is : (r : Option B) → option_map f r ≡ first_met meaning_cmp same_meaning es fs → MatchOption r (TablesAgree m n) (λ k. IsFirstConflict m n (f k))
   conflict_is None is =
       let says : Says meaning_cmp (λ q. both_agree same_meaning (find meaning_cmp q es) (find meaning_cmp q fs)) None = subst (λ (k : Option Meaning). Says meaning_cmp (λ q. both_agree same_meaning (find meaning_cmp q es) (find meaning_cmp q fs)) k) (sym is) (says_first nat_list_cmp_total same_meaning es fs g h) in
@@ -113,6 +116,7 @@ module _ {B : Type 0} (f : B → Meaning) (es fs : List (Meaning × Meaning)) (m
       let says : Says meaning_cmp (λ q. both_agree same_meaning (find meaning_cmp q es) (find meaning_cmp q fs)) (Some (f k)) = subst (λ (k : Option Meaning). Says meaning_cmp (λ q. both_agree same_meaning (find meaning_cmp q es) (find meaning_cmp q fs)) k) (sym is) (says_first nat_list_cmp_total same_meaning es fs g h) in
       record { differs = λ a. true≢false (sym a ∙ agreed (f k) ∙ says.0); first = λ p l. agreed p ∙ says.1 p l }
 
+-- a key that is copied from a borrow stays the same
 pub read_copied : {K : Type 0} (f : K → Meaning) (r : Option (Bor K)) → option_map f (option_copied r) ≡ option_map (λ (k : Bor K). f k.now) r
 read_copied f None = refl
 read_copied f (Some k) = refl

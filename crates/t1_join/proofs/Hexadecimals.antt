@@ -17,13 +17,16 @@ use Rattle.t1_join.specs.ListingText.{bytes_of, spelled}
 
 -- ---- digits that spell bytes
 
+-- these digits spell bytes
 abbrev pub SpellsBytes : List ℕ → Type 0
 SpellsBytes d = is_some (bytes_of d) ≡ true
 
+-- unwrapping gives the value that is there
 pub some_again : {A : Type 0} (o : Option A) (x : A) → is_some o ≡ true → Some (unwrap_or o x) ≡ o
 some_again (Some y) x h = refl
 some_again None x h = cc h
 
+-- what is not there is None
 pub none_there : {A : Type 0} (o : Option A) → is_some o ≡ false → ◌≡◌ {A = Option A} None o
 none_there None h = refl
 none_there (Some y) h = cc h
@@ -40,14 +43,17 @@ decodes d h = by (nat_le (length d) 131070) refl (decode_of d) refl h
 ok_same : (a b : List ℕ) → ◌≡◌ {A = Result (List ℕ) FromHexError} (Ok a) (Ok b) → a ≡ b
 ok_same a b h = ap (λ (r : Result (List ℕ) FromHexError). result_unwrap_or r []) h
 
+-- what the crate `hex` decodes is what the digits spell
 pub decoded : (d v : List ℕ) → SpellsBytes d → decode_of d ≡ Ok v → v ≡ spelled d
 decoded d v h e = let k = decodes d h in ok_same v k.0 (sym e ∙ k.1) ∙ sym k.2
 
 -- ---- which digits do
 
+-- more than 131,070 digits spell no value
 pub long_spells_none : (d : List ℕ) → nat_le (length d) 131070 ≡ false → is_some (bytes_of d) ≡ false
 long_spells_none d h = rw h refl
 
+-- digits whose number is odd spell no value
 pub odd_spells_none : (d : List ℕ) → length d % 2 ≡ 1 → is_some (bytes_of d) ≡ false
 odd_spells_none d h = by (nat_le (length d) 131070)
   where
@@ -72,6 +78,7 @@ digit_again c v h =
     let all : again (hex_digit_value c) c ≡ true = agree_below_at (λ c. again (hex_digit_value c) c) (λ _. true) 103 c refl (below c v h) in
     eqb-true _ _ (rw h at all)
 
+-- decoded digits in lower case are the digits that encoding gives
 lower_again : (i : ℕ) (s bytes : List ℕ) → decode_pairs i s ≡ Ok bytes → map to_ascii_lowercase s ≡ encode_lower bytes
 unfolding decode_pairs encode_with
 lower_again i [] bytes h = let e : [] ≡ bytes = ok_same [] bytes h in rw (← e) refl
@@ -114,6 +121,7 @@ same_bool true false f g = sym (f refl)
 same_bool false true f g = g refl
 same_bool false false f g = refl
 
+-- two values are the same exactly where their digits are, without regard to case
 pub same_result : (a b v w : List ℕ) (r : Bool) → spelled a ≡ v → spelled b ≡ w → SpellsBytes a → SpellsBytes b → (IsTrue r ↔ (map to_ascii_lowercase a ≡ map to_ascii_lowercase b)) → r ≡ same_meaning v w
 same_result a b v w r p q h k t =
     let d = slice_eq-Decides Decides-eqb v w (same_meaning v w) refl in
@@ -122,6 +130,7 @@ same_result a b v w r p q h k t =
 
 -- ---- which digits spell
 
+-- an even number of bytes, at most 131,070, spells a value exactly where all are digits
 pub digits_spell : (d : List ℕ) → nat_le (length d) 131070 ≡ true → length d % 2 ≡ 0 → is_some (bytes_of d) ≡ list_all is_hex_digit d
 digits_spell d few even = elim (cases_Bool (list_all is_hex_digit d)) [
   | inl t ↦ let k = decode_of-digits d even (AllPass-from_list_all is_hex_digit d t) in rw (few, k.1, t) refl

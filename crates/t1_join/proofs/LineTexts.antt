@@ -51,6 +51,7 @@ after_push n m (b ∷ bs) d h low high e =
     ap (λ u. cond u (digits_after (n * 10 + (b - 48)) (bs ++ d ∷ [])) None) t
     ∙ after_push (n * 10 + (b - 48)) m bs d h.1 low high (sym (ap (λ u. cond u (digits_after (n * 10 + (b - 48)) bs) None) t) ∙ e)
 
+-- these digits are the decimal of n
 pub record IsNumber (n : ℕ) (w : List ℕ) : Type 0 where
   pub made : AreDigits w
   pub value : digits_after 0 w ≡ Some n
@@ -119,6 +120,7 @@ bytes_read v h =
 
 -- ---- names
 
+-- a name has none of the bytes that end names
 no_end : (c : ℕ) (name : List ℕ) → ends_name c ≡ true → list_all (λ b. not (ends_name b)) name ≡ true → No c name
 no_end c [] e h = tt
 no_end c (b ∷ bs) e h =
@@ -146,6 +148,7 @@ abbrev pub bare_line : Entry → List ℕ
 bare_line (subr i v) = 83 ∷ 32 ∷ (decimal i ++ 32 ∷ encode_lower v)
 bare_line (glyph n v) = 71 ∷ 32 ∷ (n ++ 32 ∷ encode_lower v)
 
+-- the line that is written for an entry says this entry
 pub entry_read : (e : Entry) → IsEntry e → entry_of (bare_line e) ≡ Some e
 entry_read (subr i v) h =
     ap (option_and_then subr_of) (split_after 32 (decimal i) (encode_lower v) (no_digit 32 (decimal i) (omega arith) (number i (omega (arith, h.0))).made))

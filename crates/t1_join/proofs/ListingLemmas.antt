@@ -21,6 +21,7 @@ use Rattle.t1_join.specs.LineMeaning.{IsEntry}
 use Rattle.t1_join.proofs.EntryLemmas.{same_by_cmp}
 use Rattle.t1_join.proofs.TreeEntries.{is_eq-Equal}
 
+-- what digits spell fits an entry
 bytes_fit : (hex v : List ℕ) → bytes_of hex ≡ Some v → IsValue v
 bytes_fit hex v h = by (nat_le (length hex) 131070) refl (decode_of hex) refl h
   where
@@ -129,9 +130,11 @@ index_key k v = IsIndex k
 abbrev value_at : Meaning → Meaning → Type 0
 value_at k v = IsValue v
 
+-- a listing may have no entries
 pub none_listed : IsListing (record { subrs = fin.empty; glyphs = fin.empty })
 none_listed = record { indices = each_none index_key; names = each_none name_key; subr_values = each_none value_at; glyph_values = each_none value_at }
 
+-- a listing with one more entry that fits is a listing
 pub entry_listed : (l : ListingMeaning) (e : Entry) → IsListing l → IsEntry e → IsListing (with_entry e l)
 entry_listed l (subr i v) h e = record {
   indices = each_insert index_key l.subrs (of_number i) v (record { index = i; is = refl; small = e.0 }) h.indices;
@@ -152,6 +155,7 @@ table_added P old new k v (Ok true) h e p q = subst P (sym h.new_entry) q
 table_added P old new k v (Ok false) h e p q = subst P (sym h.unchanged) p
 table_added P old new k v (Err x) h e p q = subst P (sym e) p
 
+-- the joined tables of two listings are those of a listing
 pub both_listed : (l r : ListingMeaning) → IsListing l → IsListing r → IsListing (record { subrs = joined_table l.subrs r.subrs; glyphs = joined_table l.glyphs r.glyphs })
 both_listed l r h k = record {
   indices = each_joined index_key l.subrs r.subrs h.indices k.indices;

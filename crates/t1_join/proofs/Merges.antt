@@ -56,14 +56,17 @@ first_of None y = y
 first_of (Some x) y = Some x
 
 module _ {K X : Type 0} {R : K → K → Ordering} (o : IsTotalOrder R) where
+  -- a key below one that is below all entries is below them all
   pub Below-less : (x y : K) (es : List (K × X)) → R x y ≡ Less → T (below_all R y es) → T (below_all R x es)
   Below-less x y [] p h = tt
   Below-less x y (e ∷ es) p h = make_both _ _ (is_lt_from (o.trans x y e.0 p (lt_is _ (both_true _ _ h).0))) (Below-less x y es p (both_true _ _ h).1)
 
+  -- a key that ties with one that is below all entries is below them all
   pub below_tied : (x y : K) (es : List (K × X)) → R x y ≡ Equal → T (below_all R y es) → T (below_all R x es)
   below_tied x y [] p h = tt
   below_tied x y (e ∷ es) p h = make_both _ _ (is_lt_from (o.congr x y e.0 p ∙ lt_is _ (both_true _ _ h).0)) (below_tied x y es p (both_true _ _ h).1)
 
+  -- a key below all entries is not among them
   pub find_below : (q : K) (es : List (K × X)) → T (below_all R q es) → find R q es ≡ None
   find_below q [] h = refl
   find_below q (e ∷ es) h = ap (λ r. cond (is_eq r) (Some e.1) (find R q es)) (lt_is _ (both_true _ _ h).0) ∙ find_below q es (both_true _ _ h).1
@@ -96,6 +99,7 @@ module _ {K X : Type 0} {R : K → K → Ordering} (o : IsTotalOrder R) where
             make_both _ _ (below_weave f.0 e (merge R es) fs less (λ gs. below_merge f.0 es gs (Below-less f.0 e.0 es less b)) fb) (rises_weave e es fs b k fr)
       ] refl
 
+  -- the keys of a merge rise if those of both lists do
   pub rises_merge : (es fs : List (K × X)) → Rises R es → Rises R fs → Rises R (merge R es fs)
   rises_merge [] fs g h = h
   rises_merge (e ∷ es) fs g h = rises_weave e es fs (both_true _ _ g).0 (λ gs k. rises_merge es gs (both_true _ _ g).1 k) h
@@ -147,6 +151,7 @@ module _ {K X : Type 0} {R : K → K → Ordering} (o : IsTotalOrder R) where
 -- ---- keys that are seen by what they stand for
 
 module _ {K M X : Type 0} (k : K → M) (R : K → K → Ordering) (S : M → M → Ordering) (by : (x y : K) → R x y ≡ S (k x) (k y)) where
+  -- an entry by what its key stands for
   abbrev pub keyed : K × X → M × X
   keyed e = (k e.0, e.1)
 

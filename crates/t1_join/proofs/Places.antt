@@ -22,6 +22,7 @@ module _ {K X Y : Type 0} {R : K → K → Ordering} (o : IsTotalOrder R) (v : Y
   back : (a b : K) (r : Ordering) → R b a ≡ r → R a b ≡ ordering_reverse r
   back a b r h = o.antisymm a b ∙ ap ordering_reverse h
 
+  -- an entry put between those below it and those above it stands where a sorted list puts it
   placed : (y : Y) (ys : List Y) (i : ℕ) → i ≤ length ys →
       ((k : ℕ) (d : Y) → k < i → R (v (get_or ys k d)).0 (v y).0 ≡ Less) →
       ((k : ℕ) (d : Y) → i ≤ k → k < length ys → R (v (get_or ys k d)).0 (v y).0 ≡ Greater) →
@@ -53,9 +54,11 @@ module _ {K X Y : Type 0} {R : K → K → Ordering} (o : IsTotalOrder R) (v : Y
     placed_there : map v (insert ys i y) ≡ put R (v y).0 (v y).1 (map v ys)
     placed_there = let parts = is (rising o v (v y).0 ys h) in placed y ys i inside (λ k d l. parts.0 k d (omega arith) l) (λ k d a l. parts.1 k d a l)
 
+    -- the keys still rise
     pub rises_placed : Rises R (map v (insert ys i y))
     rises_placed = subst (Rises R) (sym placed_there) (is_sorted-put R o (v y).0 (v y).1 (map v ys) h)
 
+    -- the map has the entry too
     pub map_placed : from_sorted {R = R} (map v (insert ys i y)) ≡ fin.insert (from_sorted {R = R} (map v ys)) (v y).0 (v y).1
     map_placed = ap from_sorted placed_there ∙ put_is (v y).0 (v y).1 (map v ys) h
 
@@ -64,8 +67,10 @@ module _ {K X Y : Type 0} {R : K → K → Ordering} (o : IsTotalOrder R) (v : Y
     replaced_there : map v (slice_set ys i y) ≡ put R q (v y).1 (map v ys)
     replaced_there = replaced q y ys i d h inside (is d) same
 
+    -- the keys still rise
     pub rises_replaced : Rises R (map v (slice_set ys i y))
     rises_replaced = subst (Rises R) (sym replaced_there) (is_sorted-put R o q (v y).1 (map v ys) h)
 
+    -- the map has the new value at the key
     pub map_replaced : from_sorted {R = R} (map v (slice_set ys i y)) ≡ fin.insert (from_sorted {R = R} (map v ys)) q (v y).1
     map_replaced = ap from_sorted replaced_there ∙ put_is q (v y).1 (map v ys) h

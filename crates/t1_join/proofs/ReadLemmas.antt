@@ -36,6 +36,7 @@ pub record IsReading (text : List ℕ) (l : ListingMeaning) (line : ℕ) (rest :
   pub goes_on : entries_of text ≡ read_lines line seen (lines_of rest).0 (lines_of rest).1
   pub counted : line + length rest ≤ length text + 1
 
+-- before the first line the listing is empty
 pub reading_starts : (text : List ℕ) (l : ListingMeaning) → l ≡ listing_from [] → IsReading text l 1 text
 reading_starts text l e = record { seen = []; listing = e; goes_on = refl; counted = omega arith }
 
@@ -57,6 +58,7 @@ shorter c (b ∷ bs) p h = by (b == c) (split_at c bs) (shorter c bs) h
         let e : with_front b q ≡ p = cc in
         subst (λ (w : List ℕ × List ℕ). length w.1 + 1 ≤ suc (length bs)) e (omega arith)
 
+-- where nothing is left, reading ends well
 pub ended : (n : ℕ) (seen : List Entry) (rest : List ℕ) → length rest ≡ 0 → at_end n seen rest ≡ Ok seen
 ended n seen [] e = refl
 ended n seen (b ∷ rest) e = absurd (omega arith)
@@ -67,6 +69,7 @@ not_ended n seen (b ∷ rest) e = refl
 
 module _ (text : List ℕ) (l : ListingMeaning) (line : ℕ) (rest : List ℕ) (r : IsReading text l line rest) where
   module _ (front back : List ℕ) (split : split_at 10 rest ≡ Some (front, back)) where
+    -- what stands after a line is shorter than what stood before it
     pub back_shorter : length back + 1 ≤ length rest
     back_shorter = shorter 10 rest (front, back) split
 
@@ -76,6 +79,7 @@ module _ (text : List ℕ) (l : ListingMeaning) (line : ℕ) (rest : List ℕ) (
     next_line : entries_of text ≡ read_entry line r.seen (entry_of front) (λ more. read_lines (line + 1) more (lines_of back).0 (lines_of back).1)
     next_line = r.goes_on ∙ ap (λ p. read_lines line r.seen p.0 p.1) lines_are
 
+    -- a line that says no entry is a bad line
     pub bad_line : entry_of front ≡ None → listing_of text ≡ Err (BadLine line)
     bad_line h = ap listing_result (next_line ∙ ap (λ e. read_entry line r.seen e (λ more. read_lines (line + 1) more (lines_of back).0 (lines_of back).1)) h)
 
@@ -88,9 +92,11 @@ module _ (text : List ℕ) (l : ListingMeaning) (line : ℕ) (rest : List ℕ) (
         ∙ ap (λ x. read_entry line r.seen x (λ more. read_lines (line + 1) more (lines_of back).0 (lines_of back).1)) h
         ∙ ap (λ t. cond t (Err (Repeated line)) (read_lines (line + 1) (e ∷ r.seen) (lines_of back).0 (lines_of back).1)) (sym (known e) ∙ k)
 
+    -- a line whose key is there is a repeated one
     pub repeated : (e : Entry) → entry_of front ≡ Some e → has_entry l e ≡ true → listing_of text ≡ Err (Repeated line)
     repeated e h k = ap listing_result (with_line e true h k)
 
+    -- a line with a new key adds its entry, and reading goes on
     pub next : (e : Entry) (new : ListingMeaning) → entry_of front ≡ Some e → has_entry l e ≡ false → new ≡ with_entry e l → IsReading text new (line + 1) back
     next e new h k n = record {
       seen = e ∷ r.seen;
@@ -103,8 +109,10 @@ module _ (text : List ℕ) (l : ListingMeaning) (line : ℕ) (rest : List ℕ) (
     last : entries_of text ≡ at_end line r.seen rest
     last = r.goes_on ∙ ap (λ p. read_lines line r.seen p.0 p.1) (lines-split rest ∙ ap (first_line rest) whole)
 
+    -- where nothing is left, the text spells the listing so far
     pub reading_ends : length rest ≡ 0 → listing_of text ≡ Ok l
     reading_ends e = ap listing_result (last ∙ ended line r.seen rest e) ∙ ap Ok (sym r.listing)
 
+    -- a last line without a line feed is a bad line
     pub no_line_feed : (length rest ≡ 0 → ⊥) → listing_of text ≡ Err (BadLine line)
     no_line_feed e = ap listing_result (last ∙ not_ended line r.seen rest e)

@@ -70,6 +70,7 @@ module _ {K X Y : Type 0} {R : K → K → Ordering} (o : IsTotalOrder R) (v : Y
   Found q ys (Ok i) = (d : Y) → get (from_sorted {R = R} (map v ys)) q ≡ Some (v (get_or ys i d)).1
   Found q ys (Err i) = get (from_sorted {R = R} (map v ys)) q ≡ None
 
+  -- the search finds a key exactly where the map has it, at the place of its entry
   pub searched : (q : K) (ys : List Y) (r : Result ℕ ℕ) → Rises R (map v ys) → IsSearchInRange r (length ys) → IsBinarySearchResult (λ y. R (v y).0 q) ys r → Found q ys r
   searched q ys (Ok i) h range is = λ d. get-from_sorted R (map v ys) q h ∙ found q ys i d h range (is d)
   searched q ys (Err i) h range is =

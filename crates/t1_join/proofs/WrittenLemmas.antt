@@ -76,6 +76,7 @@ all_map P f (x ∷ xs) h = (h.0, all_map P f xs h.1)
 
 -- ---- the entries of a table, in the order of its keys
 
+-- a key above another is not equal to it
 above_differs : (k q : Meaning) → meaning_cmp k q ≡ Less → eq_by_cmp meaning_cmp q k ≡ false
 above_differs k q l = by (eq_by_cmp meaning_cmp q k) refl
   where
