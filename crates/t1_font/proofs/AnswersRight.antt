@@ -19,10 +19,12 @@ pub shown_same : {X A : Type 0} (Shows : X → A → Type 0) (x : Result X ReadF
 shown_same Shows (Ok x) r s same h = (h.0, same ∙ h.1, h.2)
 shown_same Shows (Err e) r s same h = subst (Refused e) (sym same) h
 
+-- what answers one reading answers another that reads the same
 pub answers_same : {X : Type 0} (x : Result X ReadFault) (r s : Reading X) → r ≡ s → Answers (λ v. v) x s → Answers (λ v. v) x r
 answers_same (Ok x) r s same h = same ∙ h
 answers_same (Err e) r s same h = subst (Refused e) (sym same) h
 
+-- a fault that reading gives is refused for its reason
 pub fault_right : (file : List ℕ) (e : ReadFault) → Refused e (read_font file) → Refuses file e
 fault_right file Memory h = tt
 fault_right file TooLong h = refuses file TooLong h

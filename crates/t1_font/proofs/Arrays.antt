@@ -47,8 +47,10 @@ module _ (bytes rest : List ℕ) (codes : Numbered) (code : ℕ) (all : code_cou
   none_left : with_front s.names (counted_at next_name array_end zero rest) ≡ counted_at next_name array_end code_count bytes
   none_left = before_one bytes rest codes code s zero (omega (arith, all))
 
+  -- where the array closes, its names are read
   pub names_closed : (x : List ℕ × List ℕ) → array_end.read rest ≡ Some x → counted_at next_name array_end code_count bytes ≡ Ok (s.names, x.0, x.1)
   names_closed x e = counted_closes next_name array_end s.names rest x _ e none_left
 
+  -- where it doesn't close, reading breaks off
   pub names_unclosed : array_end.read rest ≡ None → counted_at next_name array_end code_count bytes ≡ Err rest
   names_unclosed e = counted_unclosed next_name array_end s.names rest _ e none_left

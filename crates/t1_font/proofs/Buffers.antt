@@ -32,14 +32,17 @@ pub pushed : {E K : Type 0} (h : E → K × List ℕ) {S : K → K → Ordering}
     map_of {R = S} (map h (es ++ e ∷ [])) ≡ fin.insert (map_of (map h es)) (h e).0 (h e).1
 pushed h {S} o same es e = ap (map_of {R = S}) (map_push h es e) ∙ map_of-append o same (map h es) (h e)
 
+-- charstrings inside the front of a buffer are inside a longer front
 pub all_longer : {K : Type 0} (m n : ℕ) (es : List (K × Range)) → m ≤ n → AllInside m es → AllInside n es
 all_longer m n es le h = λ k d l. inside_longer m n _ le (h k d l)
 
+-- names inside the front of a buffer are inside a longer front
 pub names_wider : (m n : ℕ) (es : List (Range × Range)) → m ≤ n → NamesInside m es → NamesInside n es
 names_wider m n es le h = λ k d l. inside_longer m n _ le (h k d l)
 
 -- ---- places from the end
 
+-- the last bytes of the rest of a text are the last bytes of the text
 pub ending_of : (n at : ℕ) (text : List ℕ) → at ≤ length text → n ≤ length (drop at text) → ending n (drop at text) ≡ drop (length text - n) text
 ending_of n at text fits room =
     drop-drop (length (drop at text) - n) at text ∙ ap (λ k. drop k text) (omega (arith, length-drop at text, fits, room))
@@ -83,6 +86,7 @@ module _ (was now : List ℕ) (at left iv : ℕ) (body : Place) (cipher plain : 
   by_parts : now ≡ take cipher.start was ++ (decrypted 4330 (bytes_at was cipher) ++ drop cipher.end was)
   by_parts = d.is ∙ append_assoc (take cipher.start was) (decrypted 4330 (bytes_at was cipher)) (drop cipher.end was)
 
+  -- the buffer is as long as it was
   pub same_length : length now ≡ length was
   same_length = omega (arith, ap length d.is, length-append head (drop cipher.end was), head_length, length-drop cipher.end was, d.end)
 
@@ -97,11 +101,13 @@ module _ (was now : List ℕ) (at left iv : ℕ) (body : Place) (cipher plain : 
   earlier : (r : Range) → IsInside at r → bytes_at now r ≡ bytes_at was r
   earlier r h = bytes_stay r (inside_longer at cipher.start r (omega (arith, d.start, long, d.fits)) h)
 
+  -- charstrings that were gathered before stay
   pub entries_stay : {K M : Type 0} (f : K → M) (es : List (K × Range)) → AllInside at es → entries_by f (bytes_at now) es ≡ entries_by f (bytes_at was) es
   entries_stay f [] h = refl
   entries_stay f (e ∷ es) h =
       λ i. (f e.0, earlier e.1 (All-head (λ (e : _ × Range). IsInside at e.1) e es h) i) ∷ entries_stay f es (All-tail (λ (e : _ × Range). IsInside at e.1) e es h) i
 
+  -- glyphs that were gathered before stay
   pub names_stay : (es : List (Range × Range)) → NamesInside at es → AllInside at es → map (named_at now) es ≡ map (named_at was) es
   names_stay [] g h = refl
   names_stay (e ∷ es) g h =
@@ -136,6 +142,7 @@ module _ (was now : List ℕ) (at left iv : ℕ) (body : Place) (cipher plain : 
   pub plain_inside : IsInside (length now - left) plain
   plain_inside = record { ordered = omega (arith, d.plain_start, d.plain_end, d.start, d.end, d.lead, long, d.fits); within = omega (arith, d.plain_end, d.end, d.past, same_length) }
 
+  -- what is left stands behind what was read before
   pub goes_on : at ≤ length now - left
   goes_on = omega (arith, same_length, long, d.fits, d.past)
 
@@ -144,6 +151,7 @@ module _ (was now : List ℕ) (at left iv : ℕ) (body : Place) (cipher plain : 
     name_before : IsInside cipher.start part
     name_before = record { ordered = omega (arith, n.start, n.end, n.room, length-drop at was); within = omega (arith, n.end, n.order, d.start) }
 
+    -- the name is the one that was read
     pub name_at : bytes_at now part ≡ placed (drop at was) name
     name_at =
         let from : drop part.start was ≡ ending (name.len + name.behind) (drop at was) = ap (λ k. drop k was) n.start ∙ sym (ending_of (name.len + name.behind) at was d.fits n.room) in
@@ -152,6 +160,7 @@ module _ (was now : List ℕ) (at left iv : ℕ) (body : Place) (cipher plain : 
         short : part.end - part.start ≡ name.len
         short = omega (arith, n.start, n.end, n.room, length-drop at was, d.fits)
 
+    -- it stands before what is left
     pub name_inside : IsInside (length now - left) part
     name_inside = record { ordered = name_before.ordered; within = omega (arith, n.end, n.order, d.past, same_length) }
 
@@ -159,5 +168,6 @@ module _ (was now : List ℕ) (at left iv : ℕ) (body : Place) (cipher plain : 
 pub with_one : {K : Type 0} (n : ℕ) (es more : List (K × Range)) (e : K × Range) → more ≡ es ++ e ∷ [] → AllInside n es → IsInside n e.1 → AllInside n more
 with_one n es more e is h one = let Inside = λ (x : _ × Range). IsInside n x.1 in subst (AllInside n) (sym is) (All-append Inside es (e ∷ []) h (All-cons Inside e [] one (All-nil Inside)))
 
+-- one name more
 pub names_with_one : (n : ℕ) (es more : List (Range × Range)) (e : Range × Range) → more ≡ es ++ e ∷ [] → NamesInside n es → IsInside n e.0 → NamesInside n more
 names_with_one n es more e is h one = let Inside = λ (x : Range × Range). IsInside n x.0 in subst (NamesInside n) (sym is) (All-append Inside es (e ∷ []) h (All-cons Inside e [] one (All-nil Inside)))

@@ -27,10 +27,12 @@ pub AreBytes-append : (a b : List ℕ) → AreBytes a → AreBytes b → AreByte
 AreBytes-append [] b h k = k
 AreBytes-append (x ∷ a) b h k = (h.0, AreBytes-append a b h.1 k)
 
+-- each of these is below 256
 abbrev pub are_small : List ℕ → Bool
 are_small [] = true
 are_small (b ∷ bs) = ltb b 256 && are_small bs
 
+-- numbers that pass the test are bytes
 pub small_bytes : (bs : List ℕ) → are_small bs ≡ true → AreBytes bs
 small_bytes [] h = tt
 small_bytes (b ∷ bs) h = let both = and_parts (ltb b 256) (are_small bs) h in (ltb-true b 256 both.0, small_bytes bs both.1)
@@ -48,10 +50,12 @@ onto_bytes (suc k) n acc h =
     let small : digit_glyph false (n % 10) < 256 = digit_small (n % 10) (omega arith) in
     one_or_more (n / 10 == 0) (digit_glyph false (n % 10)) acc _ small h (onto_bytes k (n / 10) (digit_glyph false (n % 10) ∷ acc) (small, h))
 
+-- the digits of a number are bytes
 pub digits_bytes : (n : ℕ) → AreBytes (digits n)
 unfolding all_digits
 digits_bytes n = onto_bytes 64 n [] tt
 
+-- an encrypted charstring is bytes
 pub body_bytes : (iv : ℕ) (c : List ℕ) → AreBytes c → AreBytes (sealed_body iv c)
 body_bytes iv c h = sealed_bytes 4330 iv c (omega arith) h
 
@@ -98,6 +102,7 @@ part_bytes iv (Some t) m h k =
     AreBytes-append (codes "/Subrs ") (digits t.declared ++ (codes " array" ++ table)) (small_bytes (codes "/Subrs ") refl)
     (AreBytes-append (digits t.declared) (codes " array" ++ table) (digits_bytes t.declared) (AreBytes-append (codes " array") table (small_bytes (codes " array") refl) table_is))
 
+-- the canonical private text of a value of bytes is bytes
 pub private_bytes : (f : FontValue) → HasBytes f → AreBytes (canon_private f)
 private_bytes f h =
     let s = f.shell in
@@ -131,6 +136,7 @@ encoding_bytes (Codes m) h =
     let start : List ℕ = codes "/Encoding 256 array" ++ (10 ∷ codes "0 1 255 {1 index exch /.notdef put} for") in
     AreBytes-append start (puts_text (entries m)) (small_bytes start refl) (puts_bytes (entries m) (entries_all nat_cmp_total nat_cmp-IsAntisymmetric (λ c n. AreBytes n) m h))
 
+-- the canonical clear text of a value of bytes is bytes
 pub clear_bytes : (f : FontValue) → HasBytes f → AreBytes (canon_clear f)
 clear_bytes f h =
     let e = encoding_text (encoding_pieces f.encoding) in
@@ -157,6 +163,7 @@ lines_bytes (b ∷ bs) h = AreBytes-append (hex_byte b) (hex_rest 31 bs) (digits
 trailer_bytes : AreBytes trailer
 trailer_bytes = small_bytes trailer refl
 
+-- the cipher of that private text is bytes
 pub cipher_bytes : (f : FontValue) → HasBytes f → AreBytes (private_cipher (canon_private f))
 cipher_bytes f h = sealed_bytes 55665 4 (canon_private f) (omega arith) (private_bytes f h)
 
@@ -189,6 +196,7 @@ subrs_have : (s : Shell) (o : Option SubrsShell) (m : Numbered) → SubrsFit s o
 subrs_have s None m h i c e = Some_None (sym e ∙ get-entries m i ∙ ap (find nat_cmp i) h.0)
 subrs_have s (Some t) m h i c e = (h.bodies i c e).bytes
 
+-- a font is a value of bytes
 pub has_bytes : (f : FontValue) → IsFont f → HasBytes f
 has_bytes f h = record {
   texts = h.texts;

@@ -21,8 +21,10 @@ module _ {A B C : Type 0} (f : A → C) (g : B → C) where
 -- ---- what an iterator gave, and what it is to give, is all
 
 module _ {A : Type 0} (out xs all : List A) (h : out ++ xs ≡ all) where
+  -- one more is given
   pub moved : (more rest : List A) (x : A) → more ≡ out ++ x ∷ [] → xs ≡ x ∷ rest → more ++ rest ≡ all
   moved more rest x is next = ap (λ m. m ++ rest) is ∙ (append_assoc out (x ∷ []) rest ∙ (ap (λ e. out ++ e) (sym next) ∙ h))
 
+  -- and all are
   pub all_moved : xs ≡ [] → out ≡ all
   all_moved none = sym (append-nil out) ∙ (ap (λ e. out ++ e) (sym none) ∙ h)

@@ -48,6 +48,7 @@ module _ {K : Type 0} (key : Grammar K) (iv : ℕ) where
   unfolding entry
   entry_exact exact = bind_exact _ _ exact (λ k. bind_exact _ _ (body_exact iv) (λ b. pure_exact _))
 
+  -- an entry has at least one byte
   pub entry_eats : IsExact key → Eats (entry key iv)
   unfolding entry
   entry_eats exact = Eats-spelled (entry key iv) (entry_exact exact) (λ e text rest s. omega (arith, ap length s.3, length-append s.1 s.2, ap length s.5.3, length-append s.5.1 s.5.2, body_has iv s.5.0 s.5.1 _ s.5.4))
@@ -76,6 +77,7 @@ no_phrase bytes x e =
     let dup : take n bytes ≡ codes "dup" = sym ((bytes_eq-Decides (codes "dup") (take n bytes)).0 t.0) in
     rw dup refl
 
+-- where a Subr begins, its table doesn't close
 pub subr_key_apart : (declared : ℕ) → Apart (subr_key declared) subrs_end
 unfolding subr_key subrs_end
 subr_key_apart declared bytes x e =
@@ -85,9 +87,11 @@ subr_key_apart declared bytes x e =
 pub subr_exact : (declared iv : ℕ) → IsExact (subr declared iv)
 subr_exact declared iv = entry_exact (subr_key declared) iv (subr_key_exact declared)
 
+-- a Subr has at least one byte
 pub subr_eats : (declared iv : ℕ) → Eats (subr declared iv)
 subr_eats declared iv = entry_eats (subr_key declared) iv (subr_key_exact declared)
 
+-- where a Subr stands, its table doesn't close
 pub subr_apart : (declared iv : ℕ) → Apart (subr declared iv) subrs_end
 subr_apart declared iv = entry_apart (subr_key declared) iv subrs_end (subr_key_apart declared)
 
@@ -123,6 +127,7 @@ no_end : (rest : List ℕ) → (keyword (codes "end")).read (47 ∷ rest) ≡ No
 unfolding keyword
 no_end rest = refl
 
+-- where a name comes, the table of glyphs doesn't close
 pub next_name_apart : Apart next_name glyphs_end
 unfolding next_name glyphs_end
 next_name_apart bytes x e = let s = name_slash (drop (prefix_len is_white bytes) bytes) x e in rw s.1 (no_end s.0)
@@ -130,14 +135,17 @@ next_name_apart bytes x e = let s = name_slash (drop (prefix_len is_white bytes)
 pub glyph_exact : (iv : ℕ) → IsExact (glyph iv)
 glyph_exact iv = entry_exact next_name iv next_name_exact
 
+-- a glyph has at least one byte
 pub glyph_eats : (iv : ℕ) → Eats (glyph iv)
 glyph_eats iv = entry_eats next_name iv next_name_exact
 
+-- where a glyph stands, its table doesn't close
 pub glyph_apart : (iv : ℕ) → Apart (glyph iv) glyphs_end
 glyph_apart iv = entry_apart next_name iv glyphs_end next_name_apart
 
 -- ---- codes
 
+-- a put has at least one byte
 pub code_entry_eats : Eats code_entry
 unfolding code_entry
 code_entry_eats = Eats-spelled code_entry code_entry_exact (λ a text rest s.
@@ -153,6 +161,7 @@ no_closing bytes x e =
     let dup : take n bytes ≡ codes "dup" = sym ((bytes_eq-Decides (codes "dup") (take n bytes)).0 t.0) in
     (rw dup refl, rw dup refl)
 
+-- where a put stands, the Encoding doesn't close
 pub code_entry_apart : Apart code_entry encoding_end
 unfolding code_entry encoding_end
 code_entry_apart bytes x e =

@@ -14,6 +14,7 @@ use Rattle.t1_font.specs.Faults.{read_fault}
 use Rattle.t1_font.specs.Answers.{Refused}
 use Rattle.t1_font.specs.Pieces.{FlatPieces, flat_pieces}
 
+-- the parts of a split are the pieces of the flat text
 pub split_pieces : (flat : List ℕ) (at : ℕ) (cipher : List ℕ) → IsSplit flat at cipher → (p : FlatPieces) × (flat_pieces flat ≡ Ok p) × ((take at flat ≡ p.clear) × (cipher ≡ p.cipher))
 unfolding flat_pieces
 split_pieces flat at cipher s =
@@ -27,16 +28,19 @@ split_pieces flat at cipher s =
       (ap (take at) whole ∙ take_at (s.front ++ s.marker) s.after at (sym place), refl),
     )
 
+-- a flat text is split within its bytes
 pub split_within : (flat : List ℕ) (at : ℕ) (cipher : List ℕ) → IsSplit flat at cipher → at ≤ length flat
 split_within flat at cipher s =
     let m = s.first_marker in
     let own : m.2.0 ≡ s.marker = marker_own s.marker m.2.0 s.after m.2.2 in
     omega (arith, ap length m.1, length-append m.0 s.after, ap length m.2.1, length-append s.front m.2.0, ap length own, s.place)
 
+-- the cipher of a split has at least four bytes
 pub split_lead : (flat : List ℕ) (at : ℕ) (cipher : List ℕ) → IsSplit flat at cipher → 4 ≤ length cipher
 unfolding cipher_text
 split_lead flat at cipher s = leb-true 4 (length cipher) s.secret.2.1
 
+-- where there is no split, the pieces are refused for the same reason
 pub split_fails : (flat : List ℕ) (fault : BytesFault) → OrMemory (SplitFails flat) fault → Refused (read_fault fault) (flat_pieces flat)
 unfolding flat_pieces
 split_fails flat Memory h = tt

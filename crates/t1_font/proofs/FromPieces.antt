@@ -48,6 +48,7 @@ declared_over c p x g shows there many = over c p x g shows there (not_within c 
 pub glyphs_over : (c : ClearPieces) (p : PrivatePieces) (x : PrivateParts) (g : Entries) (f : FontValue) → ShowsPrivate x g p → x.glyphs.has_notdef ≡ true → f ≡ font_of c p → count_limit < len f.glyphs → font_from c p ≡ Err Limit
 glyphs_over c p x g f shows there same many = over c p x g shows there (not_within c p (λ w. omega (arith, ap (λ (v : FontValue). len v.glyphs) same, w.glyphs, many)))
 
+-- a font over the weight limit is refused as Limit
 pub weight_over : (c : ClearPieces) (p : PrivatePieces) (x : PrivateParts) (g : Entries) (f : FontValue) (n : ℕ) → ShowsPrivate x g p → x.glyphs.has_notdef ≡ true → f ≡ font_of c p → n ≡ clamp (weight f) → weight_limit < n → font_from c p ≡ Err Limit
 weight_over c p x g f n shows there same is heavy = over c p x g shows there (not_within c p (λ w. heavier (weight f) n (subst (λ (v : FontValue). weight v ≤ weight_limit) (sym same) w.weight) is heavy))
   where

@@ -7,6 +7,7 @@ use Rattle.t1_font.specs.Markers.{subrs_marker}
 use Rattle.t1_font.specs.Pieces.{has_subrs}
 use Rattle.t1_font.proofs.MarkerLemmas.{subrs_marker_exact}
 
+-- a text in which no marker is found has none
 pub subrs_lack : (text : List ℕ) → has_subrs text ≡ false → Lacks subrs_marker text
 subrs_lack text e = unread_lacks subrs_marker subrs_marker_exact text (by_read ((first subrs_marker).read text) e)
   where
@@ -14,9 +15,11 @@ subrs_lack text e = unread_lacks subrs_marker subrs_marker_exact text (by_read (
     by_read None h = refl
     by_read (Some x) h = absurd (true≢false h)
 
+-- in a text that has no marker none is found
 pub lack_subrs : (text : List ℕ) → Lacks subrs_marker text → has_subrs text ≡ false
 lack_subrs text lacks = ap is_some (lacks_unread subrs_marker subrs_marker_exact text lacks)
 
+-- a text in which a marker is found has one
 pub subrs_stand : (text : List ℕ) → has_subrs text ≡ true → Has subrs_marker text
 subrs_stand text e = by_read ((first subrs_marker).read text) refl e
   where
@@ -24,6 +27,7 @@ subrs_stand text e = by_read ((first subrs_marker).read text) refl e
     by_read None r h = absurd (true≢false (sym h))
     by_read (Some x) r h = found_has subrs_marker subrs_marker_exact text x r
 
+-- in a text that has a marker one is found
 pub stand_subrs : (text : List ℕ) → Has subrs_marker text → has_subrs text ≡ true
 stand_subrs text h = elim (cases_Bool (has_subrs text)) [
   | inl e ↦ e

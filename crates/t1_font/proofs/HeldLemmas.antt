@@ -18,9 +18,11 @@ use Rattle.t1_font.specs.Held.{first_words, HoldsSubrs, HoldsGlyphs, names_notde
 use Rattle.t1_font.specs.Gathering.{named}
 use Rattle.t1_font.proofs.MapLaws.{map_of-append, map_of-nil, entries-map_of}
 
+-- no Subrs are held at first
 pub none_numbered : empty ≡ map_of {R = nat_cmp} []
 none_numbered = sym (map_of-nil nat_cmp_total nat_cmp-IsAntisymmetric)
 
+-- no glyphs are held at first
 pub none_named : empty ≡ map_of {R = name_cmp} []
 none_named = sym (map_of-nil nat_list_cmp_total (slice_cmp-IsAntisymmetric nat_cmp-IsAntisymmetric))
 
@@ -49,9 +51,11 @@ module _ {K : Type 0} {R : K → K → Ordering} (o : IsTotalOrder R) (same : Is
 pub one_glyph_more : (iv : ℕ) (bodies next : Named) (es : List Glyph) (e : Glyph) → next ≡ insert bodies e.key (plain_of iv e.body.bytes) → HoldsGlyphs iv bodies es → HoldsGlyphs iv next (es ++ e ∷ [])
 one_glyph_more = entry_more nat_list_cmp_total (slice_cmp-IsAntisymmetric nat_cmp-IsAntisymmetric)
 
+-- one Subr more
 pub one_subr_more : (declared iv : ℕ) (bodies next : Numbered) (es : List Subr) (e : Subr) → next ≡ insert bodies e.key (plain_of iv e.body.bytes) → HoldsSubrs declared iv bodies es → HoldsSubrs declared iv next (es ++ e ∷ [])
 one_subr_more declared iv bodies next es e put h few = entry_more nat_cmp_total nat_cmp-IsAntisymmetric iv bodies next es e put (h few)
 
+-- `.notdef` is among the names if it was, or if the one more is it
 pub notdef_more : (es : List Glyph) (e : Glyph) → names_notdef (es ++ e ∷ []) ≡ (names_notdef es || bytes_eq notdef e.key)
 notdef_more [] e = by_last (bytes_eq notdef e.key)
   where

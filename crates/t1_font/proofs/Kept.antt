@@ -121,6 +121,7 @@ from_joined : {X : Type 0} (P : X → Type 0) (x y : Option X) (v : X) → joine
 from_joined P None y v h f g = g v h
 from_joined P (Some w) y v h f g = f v h
 
+-- what holds of the entries of two maps holds of the entries of both
 pub merged_has : {K X : Type 0} {R : K → K → Ordering} (o : IsTotalOrder R) (same : IsAntisymmetric R) (P : K → X → Type 0) (m n : FinMap R X) → ((q : K) (v : X) → get m q ≡ Some v → P q v) → ((q : K) (v : X) → get n q ≡ Some v → P q v) → (q : K) (v : X) → get (merged m n) q ≡ Some v → P q v
 merged_has o same P m n f g q v h = from_joined (P q) (get m q) (get n q) v (sym (get-merged o same m n q) ∙ h) (f q) (g q)
 

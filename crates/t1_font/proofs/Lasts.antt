@@ -77,6 +77,7 @@ module _ {K V : Type 0} {R : K → K → Ordering} (o : IsTotalOrder R) where
       let rest = all_ends P es (All-tail P e es h) in
       elim (comes_again R e.0 es) as (λ b. All P (cond b (run_ends R es) (e ∷ run_ends R es))) [ true ↦ rest | false ↦ All-cons P e (run_ends R es) (All-head P e es h) rest ]
 
+  -- what holds of all entries holds of the last ones
   pub all_last : (P : K × V → Type 0) (es last : List (K × V)) → AreLast R es last → All P es → All P last
   all_last P es last are h = subst (All P) (sym are.last_is) (all_ends P are.sorted (All-permutation P es are.sorted are.same h))
 
@@ -98,12 +99,14 @@ module _ {K V : Type 0} {R : K → K → Ordering} (o : IsTotalOrder R) where
         | false ↦ λ h. (keys_all e.0 (run_ends R es) (all_ends (λ x. R e.0 x.0 ≡ Less) es (above_ends e es h up)), rest)
       ] refl
 
+  -- the keys of the last entries rise
   pub last_rise : (es last : List (K × V)) → AreLast R es last → IsStrictlySortedBy R (keys_of last)
   last_rise es last are = subst (λ l. IsStrictlySortedBy R (keys_of l)) (sym are.last_is) (ends_rise are.sorted are.rise)
 
 -- ---- by what keys and values stand for
 
 module _ {K M : Type 0} (f : K → M) (R : K → K → Ordering) (S : M → M → Ordering) (o : IsTotalOrder S) (by : (x y : K) → R x y ≡ S (f x) (f y)) where
+  -- keys are in a total order if what they stand for is
   pub order : IsTotalOrder R
   order = record {
     antisymm = λ x y. by x y ∙ o.antisymm (f x) (f y) ∙ ap ordering_reverse (sym (by y x));
@@ -172,6 +175,7 @@ module _ {K V M X : Type 0} (f : K → M) (g : V → X) (R : K → K → Orderin
       by_test None true = refl
       by_test None false = refl
 
+  -- the last entries of runs have the last value of each key
   find_ends : (es : List (K × V)) → IsSortedByKey (λ (e : K × V). e.0) R es → (m : M) → fin.find S m (entries_by f g (run_ends R es)) ≡ last_value S m (entries_by f g es)
   find_ends [] up m = refl
   find_ends (e ∷ es) up m =
@@ -188,6 +192,7 @@ module _ {K V M X : Type 0} (f : K → M) (g : V → X) (R : K → K → Orderin
       ] refl
 
 module _ {K V M : Type 0} (f : K → M) (g : V → List ℕ) (R : K → K → Ordering) (S : M → M → Ordering) (o : IsTotalOrder S) (same : IsAntisymmetric S) (by : (x y : K) → R x y ≡ S (f x) (f y)) (es last : List (K × V)) (are : AreLast R es last) where
+  -- what the keys of the last entries stand for rises
   pub lasts_rise : Rises S (entries_by f g last)
   lasts_rise = sorted_entries f g R S o same by last (last_rise (order f R S o by) es last are)
 
@@ -209,10 +214,12 @@ module _ {K V M : Type 0} (f : K → M) (g : V → List ℕ) (R : K → K → Or
 
 -- entries that are settled have the map that they had, and no others are among them
 module _ {K V M : Type 0} (f : K → M) (R : K → K → Ordering) (S : M → M → Ordering) (o : IsTotalOrder S) (by : (x y : K) → R x y ≡ S (f x) (f y)) (old new : List (K × V)) where
+  -- the map stays
   pub settled_map : IsAntisymmetric S → (g : V → List ℕ) → AreSettled R old new → map_of {R = S} (entries_by f g new) ≡ map_of (entries_by f g old)
   settled_map same g (inl is) = ap (λ es. map_of {R = S} (entries_by f g es)) is
   settled_map same g (inr are) = lasts_again f g R S o same by old new are
 
+  -- what holds of all entries still does
   pub settled_all : (P : K × V → Type 0) → AreSettled R old new → All P old → All P new
   settled_all P (inl is) h = subst (All P) (sym is) h
   settled_all P (inr are) h = all_last (order f R S o by) P old new are h
@@ -243,6 +250,7 @@ module _ {K V : Type 0} (R : K → K → Ordering) (was now : List (K × V)) (at
   left_behind : drop (at + 1) now ≡ drop (at + 1) was
   left_behind = sym (drop-drop 1 at now) ∙ (ap (drop 1) h.left ∙ drop-drop 1 at was)
 
+  -- an entry whose key comes again is passed over
   pub end_passed : None ≡ run_end R (drop at now) → EndsMoved R was now (at + 1) kept
   end_passed e = record {
     behind = omega (arith, h.behind);
@@ -251,6 +259,7 @@ module _ {K V : Type 0} (R : K → K → Ordering) (was now : List (K × V)) (at
     ends = rw (add-one at) (ap (λ t. take kept now ++ t) (sym (next_end R was at None there (e ∙ ap (run_end R) h.left))) ∙ h.ends);
   }
 
+  -- the last entry of a key is moved to those in front
   pub end_moved : (x : K × V) → Some x ≡ run_end R (drop at now) → EndsMoved R was (set now kept x) (at + 1) (kept + 1)
   end_moved x e = record {
     behind = omega (arith, h.behind);
@@ -262,6 +271,7 @@ module _ {K V : Type 0} (R : K → K → Ordering) (was now : List (K × V)) (at
         ∙ (ap (λ t. take kept now ++ t) (sym (next_end R was at (Some x) there (e ∙ ap (run_end R) h.left))) ∙ h.ends)));
   }
 
+-- behind the last entry, those that end a run are all in front
 pub ends_moved : {K V : Type 0} (R : K → K → Ordering) (was now : List (K × V)) (at kept : ℕ) → EndsMoved R was now at kept → length was ≤ at → take kept now ≡ run_ends R was
 ends_moved R was now at kept h past =
     let none : drop at was ≡ [] = nil_from_length (drop at was) (length-drop at was ∙ omega arith) in

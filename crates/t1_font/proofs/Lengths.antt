@@ -27,12 +27,15 @@ after_key len_iv plain rd phrase = 32 ∷ (decimal (len_iv + length plain) ++ (3
 counted : (len_iv : ℕ) (plain rd phrase : List ℕ) → after_key len_iv plain rd phrase ≡ 32 ∷ (decimal (length (sealed_body len_iv plain)) ++ (32 ∷ (rd ++ (32 ∷ (sealed_body len_iv plain ++ (32 ∷ phrase))))))
 counted len_iv plain rd phrase = ap (λ (n : ℕ). 32 ∷ (decimal n ++ (32 ∷ (rd ++ (32 ∷ (sealed_body len_iv plain ++ (32 ∷ phrase))))))) (sym (length_of_sealed len_iv plain))
 
+-- three texts are put one after the other
 pub three_put : (out a b c one two three : List ℕ) → one ≡ out ++ a → two ≡ one ++ b → three ≡ two ++ c → three ≡ out ++ (a ++ (b ++ c))
 three_put out a b c one two three p q r = r ∙ (ap (λ (x : List ℕ). x ++ c) q ∙ (append_assoc one b c ∙ (ap (λ (x : List ℕ). x ++ (b ++ c)) p ∙ append_assoc out a (b ++ c))))
 
+-- the parts of a glyph's line, put one after the other, are the line
 pub glyph_put : (out one two all : List ℕ) (s : Shell) (name plain : List ℕ) → one ≡ out ++ (10 ∷ 47 ∷ []) → two ≡ one ++ name → all ≡ two ++ after_key s.len_iv plain s.glyphs_rd s.glyphs_def → all ≡ out ++ glyph_text (glyph_entry s (name, plain))
 glyph_put out one two all s name plain a b c = three_put out (10 ∷ 47 ∷ []) name _ one two all a b c ∙ ap (λ (u : List ℕ). out ++ (10 ∷ 47 ∷ (name ++ u))) (counted s.len_iv plain s.glyphs_rd s.glyphs_def)
 
+-- the parts of a Subr's line, put one after the other, are the line
 pub subr_put : (out one two all : List ℕ) (len_iv : ℕ) (s : SubrsShell) (index : ℕ) (plain : List ℕ) → one ≡ out ++ (10 ∷ 100 ∷ 117 ∷ 112 ∷ 32 ∷ []) → two ≡ one ++ decimal index → all ≡ two ++ after_key len_iv plain s.rd s.put → all ≡ out ++ subr_text (subr_entry len_iv s (index, plain))
 subr_put out one two all len_iv s index plain a b c = three_put out (10 ∷ 100 ∷ 117 ∷ 112 ∷ 32 ∷ []) (decimal index) _ one two all a b c ∙ ap (λ (u : List ℕ). out ++ (10 ∷ 100 ∷ 117 ∷ 112 ∷ 32 ∷ (decimal index ++ u))) (counted len_iv plain s.rd s.put)
 

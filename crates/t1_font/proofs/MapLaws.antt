@@ -39,13 +39,16 @@ choice-none (Some x) = refl
 choice-none None = refl
 
 module _ {K : Type 0} {R : K → K → Ordering} (o : IsTotalOrder R) (same : IsAntisymmetric R) where
+  -- the keys rise
   abbrev pub IsSorted : List (K × List ℕ) → Type 0
   IsSorted es = T (maps.is_sorted R es)
 
+  -- entries put one after another into sorted ones are sorted
   pub put_all_sorted : (es into : List (K × List ℕ)) → IsSorted into → IsSorted (put_all R es into)
   put_all_sorted [] into h = h
   put_all_sorted (e ∷ es) into h = put_all_sorted es (maps.put R e.0 e.1 into) (is_sorted-put R o e.0 e.1 into h)
 
+  -- the last entries are sorted
   pub last_sorted : (es : List (K × List ℕ)) → IsSorted (last_entries R es)
   last_sorted es = put_all_sorted es [] tt
 
@@ -55,9 +58,11 @@ module _ {K : Type 0} {R : K → K → Ordering} (o : IsTotalOrder R) (same : Is
       find_put_all q es (maps.put R e.0 e.1 into)
       ∙ (ap (choice (last_value R q es)) (find-put R o q e.0 e.1 into) ∙ regroup (last_value R q es) (is_eq (R q e.0)) e.1 (maps.find R q into))
 
+  -- the last entries have the last value of each key
   pub find-last : (q : K) (es : List (K × List ℕ)) → maps.find R q (last_entries R es) ≡ last_value R q es
   find-last q es = find_put_all q es [] ∙ choice-none (last_value R q es)
 
+  -- the entries of the map are the last ones
   pub entries-map_of : (es : List (K × List ℕ)) → maps.entries {R = R} (map_of es) ≡ last_entries R es
   entries-map_of es = maps.entries-from_sorted R (last_entries R es) (last_sorted es)
 
@@ -65,6 +70,7 @@ module _ {K : Type 0} {R : K → K → Ordering} (o : IsTotalOrder R) (same : Is
   pub get-map_of : (es : List (K × List ℕ)) (q : K) → maps.get {R = R} (map_of es) q ≡ last_value R q es
   get-map_of es q = maps.get-from_sorted R (last_entries R es) q (last_sorted es) ∙ find-last q es
 
+  -- the map has as many keys as there are last entries
   pub len-map_of : (es : List (K × List ℕ)) → maps.len {R = R} (map_of es) ≡ length (last_entries R es)
   len-map_of es = maps.len-entries {R = R} (map_of es) ∙ ap length (entries-map_of es)
 
@@ -76,6 +82,7 @@ module _ {K : Type 0} {R : K → K → Ordering} (o : IsTotalOrder R) (same : Is
       let rest = below_filter x p es (right_T _ _ h) in
       elim (p e) as (λ b. T (below_all R x (cond b (e ∷ filter p es) (filter p es)))) [ true ↦ and_T _ _ (left_T _ _ h) rest | false ↦ rest ]
 
+  -- some of sorted entries are sorted
   pub sorted_filter : (p : K × List ℕ → Bool) (es : List (K × List ℕ)) → IsSorted es → IsSorted (filter p es)
   sorted_filter p [] h = tt
   sorted_filter p (e ∷ es) h =
@@ -86,12 +93,14 @@ module _ {K : Type 0} {R : K → K → Ordering} (o : IsTotalOrder R) (same : Is
   find_below k [] h = refl
   find_below k (e ∷ es) h = rw (less_apart (R k e.0) (left_T _ _ h)) (find_below k es (right_T _ _ h))
 
+  -- the last names of codes are sorted
   pub names_sorted : (es : List (K × List ℕ)) → IsSorted (last_names R es)
   names_sorted es = sorted_filter has_name (last_entries R es) (last_sorted es)
 
   same_key : (q k : K) → is_eq (R q k) ≡ true → q ≡ k
   same_key q k e = same q k ((Equal-is (R q k)).0 e)
 
+  -- a code has its last name, and none where that is `.notdef`
   find_names : (q : K) (es : List (K × List ℕ)) → IsSorted es → maps.find R q (filter has_name es) ≡ unless_notdef (maps.find R q es)
   find_names q [] h = refl
   find_names q (e ∷ es) h =
@@ -117,6 +126,7 @@ module _ {K : Type 0} {R : K → K → Ordering} (o : IsTotalOrder R) (same : Is
   choice-cond true v rest x = refl
   choice-cond false v rest x = refl
 
+  -- the value of a last entry is the last one of its key
   pub last_value-append : (q : K) (es : List (K × List ℕ)) (e : K × List ℕ) → last_value R q (es ++ e ∷ []) ≡ cond (is_eq (R q e.0)) (Some e.1) (last_value R q es)
   last_value-append q [] e = refl
   last_value-append q (d ∷ ds) e = ap (λ o. choice o (cond (is_eq (R q d.0)) (Some d.1) None)) (last_value-append q ds e) ∙ choice-cond (is_eq (R q e.0)) e.1 (last_value R q ds) (cond (is_eq (R q d.0)) (Some d.1) None)

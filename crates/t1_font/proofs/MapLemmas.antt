@@ -46,10 +46,12 @@ module _ {K : Type 0} {R : K → K → Ordering} (o : IsTotalOrder R) (same : Is
     below_more x y (e ∷ es) p h =
         and_so (is_lt (R x e.0)) (below_all R x es) (ap is_lt (o.trans x y e.0 p (less_of (R y e.0) (first_so (is_lt (R y e.0)) (below_all R y es) h)))) (below_more x y es p (second_so (is_lt (R y e.0)) (below_all R y es) h))
 
+    -- a key below all entries is not among them
     pub find_below : (q : K) (es : List (K × X)) → below_all R q es ≡ true → find R q es ≡ None
     find_below q [] h = refl
     find_below q (e ∷ es) h = ap (λ r. cond (is_eq r) (Some e.1) (find R q es)) (less_of (R q e.0) (first_so (is_lt (R q e.0)) (below_all R q es) h)) ∙ find_below q es (second_so (is_lt (R q e.0)) (below_all R q es) h)
 
+    -- the first entry is found at its key
     pub find_first : (e : K × X) (es : List (K × X)) → find R e.0 (e ∷ es) ≡ Some e.1
     find_first e es = ap (λ r. cond (is_eq r) (Some e.1) (find R e.0 es)) (tied_itself o e.0)
 
@@ -60,9 +62,11 @@ module _ {K : Type 0} {R : K → K → Ordering} (o : IsTotalOrder R) (same : Is
       | inr is ↦ is
     ]
 
+    -- what is found among the other entries is found among all
     pub find_rest : (q : K) (v : X) (e : K × X) (es : List (K × X)) → below_all R e.0 es ≡ true → find R q es ≡ Some v → find R q (e ∷ es) ≡ Some v
     find_rest q v e es b h = ap (λ t. cond t (Some e.1) (find R q es)) (find_later q v e es b h) ∙ h
 
+    -- what is found in two lists, one after the other, is what the first has, else the second
     pub find_append : (q : K) (es fs : List (K × X)) → find R q (es ++ fs) ≡ joined (find R q es) (find R q fs)
     find_append q [] fs = refl
     find_append q (e ∷ es) fs = elim (eq_by_cmp R q e.0) as (λ b. cond b (Some e.1) (find R q (es ++ fs)) ≡ joined (cond b (Some e.1) (find R q es)) (find R q fs)) [ true ↦ refl | false ↦ find_append q es fs ]
@@ -70,6 +74,7 @@ module _ {K : Type 0} {R : K → K → Ordering} (o : IsTotalOrder R) (same : Is
     pub get-merged : (m n : FinMap R X) (q : K) → get (merged m n) q ≡ joined (get m q) (get n q)
     get-merged m n q = get-from_entries o (entries m ++ entries n) q ∙ find_append q (entries m) (entries n) ∙ ap (λ x. joined x (find R q (entries n))) (sym (get-entries m q)) ∙ ap (joined (get m q)) (sym (get-entries n q))
 
+    -- a map that is cut to some keys has what it had at these
     pub get-retain : (m : FinMap R X) (p : K → Bool) (q : K) → get (retain_keys m p) q ≡ cond (p q) (get m q) None
     get-retain m p q = get-retain_keys m p q (λ x t. ap p (sym (same q x t)))
 
@@ -78,6 +83,7 @@ module _ {K : Type 0} {R : K → K → Ordering} (o : IsTotalOrder R) (same : Is
     found_all P [] s h = tt
     found_all P (e ∷ es) s h = (h e.0 e.1 (find_first e es), found_all P es (second_so (below_all R e.0 es) (is_sorted R es) s) (λ k v is. h k v (find_rest k v e es (first_so (below_all R e.0 es) (is_sorted R es) s) is)))
 
+    -- what holds at each key holds of each entry
     pub entries_all : (P : K → X → Type 0) (m : FinMap R X) → ((k : K) (v : X) → get m k ≡ Some v → P k v) → AllByRecursion (λ e. P e.0 e.1) (entries m)
     entries_all P m h = found_all P (entries m) (T_true (is_sorted R (entries m)) (entries_sorted m)) (λ k v is. h k v (get-entries m k ∙ is))
 
@@ -108,6 +114,7 @@ module _ {K : Type 0} {R : K → K → Ordering} (o : IsTotalOrder R) (same : Is
     sorted_valued [] = refl
     sorted_valued (e ∷ es) = λ i. below_valued e.0 es i && sorted_valued es i
 
+    -- the entries of a map with other values are its entries with these values
     pub entries-map_values : (m : FinMap R X) → entries (map_values f m) ≡ valued (entries m)
     entries-map_values m = entries-from_sorted R (valued (entries m)) (subst T (sym (sorted_valued (entries m))) (entries_sorted m))
 
@@ -129,6 +136,7 @@ module _ {K : Type 0} {R : K → K → Ordering} (o : IsTotalOrder R) (same : Is
     abbrev pub Below : List (K × X) → List (K × X) → Type 0
     Below es fs = (q : K) (v : X) → find R q es ≡ Some v → (w : X) × (find R q fs ≡ Some w) × (f q v ≤ g q w)
 
+    -- a sum over entries of which each is at another's key with a larger summand is no larger
     pub total_le : (es fs : List (K × X)) → is_sorted R es ≡ true → is_sorted R fs ≡ true → Below es fs → total f es ≤ total g fs
     total_le [] fs s t h = omega arith
     total_le (e ∷ es) [] s t h = Some_None (sym (h e.0 e.1 (find_first e es)).1)
@@ -158,9 +166,11 @@ module _ {K : Type 0} {R : K → K → Ordering} (o : IsTotalOrder R) (same : Is
               omega arith
         ] refl
 
+    -- the same of the entries of maps
     pub total-le : (m n : FinMap R X) → ((q : K) (v : X) → get m q ≡ Some v → (w : X) × (get n q ≡ Some w) × (f q v ≤ g q w)) → total f (entries m) ≤ total g (entries n)
     total-le m n h = total_le (entries m) (entries n) (T_true (is_sorted R (entries m)) (entries_sorted m)) (T_true (is_sorted R (entries n)) (entries_sorted n)) (λ q v is. let r = h q v (get-entries m q ∙ is) in (r.0, sym (get-entries n q) ∙ r.1, r.2))
 
+-- the length of a list is the sum of ones
 pub length_total : {K X : Type 0} (es : List (K × X)) → total (λ k x. 1) es ≡ length es
 length_total [] = refl
 length_total (e ∷ es) = omega (arith, length_total es)

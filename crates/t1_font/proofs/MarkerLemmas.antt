@@ -32,6 +32,7 @@ pub closefile_exact : IsExact closefile
 unfolding closefile
 closefile_exact = fixed_exact (codes "closefile")
 
+-- an optional part is read as it is spelled
 pub may_be_exact : (g : Grammar (List ℕ)) → IsExact g → IsExact (may_be g)
 may_be_exact g G = either_exact _ _ G (pure_exact [])
 

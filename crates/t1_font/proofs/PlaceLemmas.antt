@@ -19,6 +19,7 @@ behind front text whole part n is s = record {
 pub behind_read : {A : Type 0} (g : Grammar A) → IsExact g → (bytes : List ℕ) (x : A × List ℕ) → g.read bytes ≡ Some x → (part : List ℕ) (n : ℕ) → StandsIn x.1 part n → StandsIn bytes part n
 behind_read g G bytes x e part n s = let h = G.takes bytes x e in behind h.0 x.1 bytes part n h.1 s
 
+-- what stands behind a value that was read is the end of the text
 pub ending_read : {A : Type 0} (g : Grammar A) → IsExact g → (bytes : List ℕ) (x : A × List ℕ) → g.read bytes ≡ Some x → ending (length x.1) bytes ≡ x.1
 ending_read g G bytes x e =
     let h = G.takes bytes x e in
@@ -38,9 +39,11 @@ module _ (text part : List ℕ) (n : ℕ) (s : StandsIn text part n) where
   sizes : length text ≡ length s.before + (length part + n)
   sizes = omega (arith, ap length s.whole, length-append s.before (part ++ s.after), length-append part s.after, s.size)
 
+  -- a part and what stands behind it are within the text
   pub stands_within : length part + n ≤ length text
   stands_within = omega (arith, sizes)
 
+  -- the bytes at the place of a part are the part
   pub placed_is : (p : Place) → p.len ≡ length part → p.behind ≡ n → placed text p ≡ part
   placed_is p len at =
       let skip : length text - (p.len + p.behind) ≡ length s.before = omega (arith, sizes, len, at) in

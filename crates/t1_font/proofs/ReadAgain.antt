@@ -84,6 +84,7 @@ fails_clear clear e s = absurd s
 
 -- ---- lenIV and the tail
 
+-- the lenIV that a private text spells is read
 pub is_iv : (private : List ℕ) (n : ℕ) → IsLenIV private n → iv_of private ≡ Ok n
 unfolding iv_of iv_at
 is_iv private n (said front after rest a b) = rw (found len_iv_marker len_iv_marker_exact private ((front, tt), after) a, front_again len_iv len_iv_exact after (n, rest) b) refl
@@ -227,11 +228,13 @@ behind_clear file e s = behind_texts file s.0 s.1 s.3 (Err e) (rw (is_clear s.0 
 
 -- ---- what a file spells, and why it spells nothing
 
+-- a file that spells a font is read as it
 pub reads_again : (file : List ℕ) (font : FontValue) → Spells file font → read_font file ≡ Ok font
 reads_again file font s =
     let there : maps.contains_key (font_of s.outside s.inside).glyphs notdef ≡ true = subst (λ (f : FontValue). maps.contains_key f.glyphs notdef ≡ true) s.value s.has_notdef in
     behind_pieces file s.outside s.inside s.pieces (Ok font) (is_font s.outside s.inside there (subst IsWithin s.value s.within) ∙ ap (λ (f : FontValue). Ok f) (sym s.value))
 
+-- a file with a reason to spell nothing is refused for it
 pub refuses_again : (file : List ℕ) (e : ReadFault) → Reason file e → read_font file ≡ Err e
 unfolding font_file flat_text
 refuses_again file TooLong s = rw (lt-leb (length file) file_limit s) refl

@@ -100,6 +100,7 @@ no_subrs a b h = let both = or_parts (has_subrs a) (has_subrs b) (not-true (has_
 some_subrs : (a b : List ℕ) → not (has_subrs a || has_subrs b) ≡ false → (has_subrs a ≡ true) ⊎ (has_subrs b ≡ true)
 some_subrs a b h = or_cases (has_subrs a) (has_subrs b) (not-false (has_subrs a || has_subrs b) h)
 
+-- the tail is read rightly
 tail_reads : (middle after : List ℕ) → Reads (tail_after middle after) (IsTail middle after) (TailFails middle after)
 unfolding tail_after
 tail_reads middle after = by_close ((first closefile).read after) refl
@@ -119,6 +120,7 @@ tail_reads middle after = by_close ((first closefile).read after) refl
 abbrev made : List ℕ → ℕ → Option SubrsPieces → List ℕ → PrivatePieces
 made private iv subrs middle = record { private = private; len_iv = iv; subrs = subrs; middle = middle; glyphs = []; tail = [] }
 
+-- the table of glyphs and what follows it are read rightly
 glyphs_reads : (text private : List ℕ) (subrs : Option SubrsPieces) (middle : List ℕ) (iv : ℕ) (rest : List ℕ) → SpellsTables text (made private iv subrs middle) subrs rest → IsLenIV private iv
     → Reads (glyphs_from (length text) private subrs middle iv rest) (IsPrivate text) (PrivateFails text)
 unfolding glyphs_from
@@ -155,6 +157,7 @@ with_subrs text chars x a =
     (λ left b. (x.0.0, x.1, left, x.0.1, iv, a, i, b, refl)))
     (λ e f. subst (PrivateFails text) (sym f.1) (x.0.0, x.1, Some x.0.1, a, f.0))
 
+-- the private text is read rightly
 private_reads : (text : List ℕ) → Reads (private_pieces text) (IsPrivate text) (PrivateFails text)
 unfolding private_pieces
 private_reads text = first_then NoCharStrings chars_marker chars_marker_exact text _ (λ chars c. by_marker chars c ((first subrs_marker).read text) refl) (λ lacks. lacks)
@@ -170,6 +173,7 @@ private_reads text = first_then NoCharStrings chars_marker chars_marker_exact te
 
 -- ---- the font
 
+-- the font of these pieces, which has `.notdef` and is within the limits
 pub record IsFontOf (c : ClearPieces) (p : PrivatePieces) (f : FontValue) : Type 0 where
   pub value : f ≡ font_of c p
   pub has_notdef : maps.contains_key f.glyphs notdef ≡ true
@@ -242,8 +246,10 @@ file_reads file =
 
 -- ---- what reading gives
 
+-- the font that is read is spelled by the file
 pub reads : (file : List ℕ) (font : FontValue) → read_font file ≡ Ok font → Spells file font
 reads file font e = value_is (font_file file) (file_reads file) font e
 
+-- the fault that is read is the reason why the file spells no font
 pub refuses : (file : List ℕ) (fault : ReadFault) → read_font file ≡ Err fault → Reason file fault
 refuses file fault e = fault_is (font_file file) (file_reads file) fault e

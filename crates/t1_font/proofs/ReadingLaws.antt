@@ -13,13 +13,16 @@ use Rattle.t1_font.specs.Reading.{Reading, or_fault, give, ◌>>=◌, must, want
 pub record Reads {A : Type 0} (r : Reading A) (Is : A → Type 0) (Fails : ReadFault → Type 0) : Type 0 where
   pub right : MatchResult r Is Fails
 
+-- a value that is read rightly is so
 pub value_is : {A : Type 0} {Is : A → Type 0} {Fails : ReadFault → Type 0} (r : Reading A) → Reads r Is Fails → (a : A) → r ≡ Ok a → Is a
 value_is {A} {Is} {Fails} r R a e = subst (λ (o : Result A ReadFault). MatchResult o Is Fails) e R.right
 
+-- a fault of what is read rightly is so
 pub fault_is : {A : Type 0} {Is : A → Type 0} {Fails : ReadFault → Type 0} (r : Reading A) → Reads r Is Fails → (fault : ReadFault) → r ≡ Err fault → Fails fault
 fault_is {A} {Is} {Fails} r R fault e = subst (λ (o : Result A ReadFault). MatchResult o Is Fails) e R.right
 
 module _ {B : Type 0} {Is : B → Type 0} {Fails : ReadFault → Type 0} where
+  -- a value that is given is read rightly if it is so
   pub give_reads : (b : B) → Is b → Reads (give b) Is Fails
   give_reads b s = record { right = s }
 
@@ -33,10 +36,12 @@ module _ {B : Type 0} {Is : B → Type 0} {Fails : ReadFault → Type 0} where
   reads_then (Ok a) f R on_value on_fault = on_value a R.right
   reads_then (Err e) f R on_value on_fault = record { right = on_fault e R.right }
 
+  -- after a test
   pub must_then : (fault : ReadFault) (test : Bool) (f : Unit {0} → Reading B) → (test ≡ true → Reads (f tt) Is Fails) → (test ≡ false → Fails fault) → Reads (must fault test >>= f) Is Fails
   must_then fault true f on_value on_fault = on_value refl
   must_then fault false f on_value on_fault = record { right = on_fault refl }
 
+  -- after a text that is wanted
   pub wanted_then : {A : Type 0} (fault : ReadFault) (g : Grammar A) → IsExact g → (bytes : List ℕ) (f : A × List ℕ → Reading B) → ((x : A × List ℕ) → AtFront g bytes x → Reads (f x) Is Fails) → (NotAtFront g bytes → Fails fault) → Reads (wanted fault g bytes >>= f) Is Fails
   wanted_then {A} fault g G bytes f on_value on_fault = by_read (g.read bytes) refl
     where
@@ -44,6 +49,7 @@ module _ {B : Type 0} {Is : B → Type 0} {Fails : ReadFault → Type 0} where
       by_read (Some x) e = on_value x (G.takes bytes x e)
       by_read None e = record { right = on_fault (unspelled g G bytes e) }
 
+  -- after the first place of a text that is wanted
   pub first_then : {A : Type 0} (fault : ReadFault) (g : Grammar A) → IsExact g → (bytes : List ℕ) (f : (List ℕ × A) × List ℕ → Reading B) → ((x : (List ℕ × A) × List ℕ) → AtFront (first g) bytes x → Reads (f x) Is Fails) → (Lacks g bytes → Fails fault) → Reads (wanted fault (first g) bytes >>= f) Is Fails
   first_then {A} fault g G bytes f on_value on_fault = by_read ((first g).read bytes) refl
     where
@@ -51,6 +57,7 @@ module _ {B : Type 0} {Is : B → Type 0} {Fails : ReadFault → Type 0} where
       by_read (Some x) e = on_value x ((first_exact g G).takes bytes x e)
       by_read None e = record { right = on_fault (unread_lacks g G bytes e) }
 
+  -- after a table
   pub table_then : {A C : Type 0} (bad : ℕ → ReadFault) (len : ℕ) (entry : Grammar A) (close : Grammar C) → IsExact entry → IsExact close → Eats entry → (bytes : List ℕ) (f : List A × C × List ℕ → Reading B)
       → ((x : List A × C × List ℕ) → TableAt entry close x.0 x.1 bytes x.2 → Reads (f x) Is Fails) → ((left : List ℕ) → BreaksOff entry close bytes left → Fails (bad (len - left_after_white left))) → Reads (table bad len entry close bytes >>= f) Is Fails
   table_then {A} {C} bad len entry close E X eats bytes f on_value on_fault = by_table (table_at entry close bytes) (table_reads entry close E X eats bytes)
@@ -59,6 +66,7 @@ module _ {B : Type 0} {Is : B → Type 0} {Fails : ReadFault → Type 0} where
       by_table (Ok x) r = on_value x r
       by_table (Err left) r = record { right = on_fault left r }
 
+  -- after a counted table
   pub counted_then : {A C : Type 0} (bad : ℕ → ReadFault) (len : ℕ) (entry : Grammar A) (close : Grammar C) → IsExact entry → IsExact close → (n : ℕ) (bytes : List ℕ) (f : List A × C × List ℕ → Reading B)
       → ((x : List A × C × List ℕ) → CountedAt entry close n x.0 x.1 bytes x.2 → Reads (f x) Is Fails) → ((left : List ℕ) → CountBreaksOff entry close n bytes left → Fails (bad (len - left_after_white left))) → Reads (counted bad len entry close n bytes >>= f) Is Fails
   counted_then {A} {C} bad len entry close E X n bytes f on_value on_fault = by_table (counted_at entry close n bytes) (counted_reads entry close E X n bytes)

@@ -38,9 +38,11 @@ some_last q iv (g ∷ gs) =
     some_choice (last_value name_cmp q (plain_entries iv gs)) (is_eq (name_cmp q g.key)) (plain_of iv g.body.bytes)
     ∙ (ap (λ b. b || is_some (last_value name_cmp q (plain_entries iv gs))) (is_eq-slice_cmp q g.key) ∙ ap (λ b. bytes_eq q g.key || b) (some_last q iv gs))
 
+-- a font has `.notdef` exactly where its entries do
 pub notdef_is : (c : ClearPieces) (p : PrivatePieces) → maps.contains_key (font_of c p).glyphs notdef ≡ has_notdef p
 notdef_is c p = ap is_some (get-map_of nat_list_cmp_total name_same (glyph_entries p) notdef) ∙ some_last notdef p.len_iv p.glyphs
 
+-- entries that are tested to be within the limits make a font within them
 pub within_of : (c : ClearPieces) (p : PrivatePieces) → is_within (shell_of c p) (last_entries nat_cmp (subr_entries p)) (last_entries name_cmp (glyph_entries p)) ≡ true → IsWithin (font_of c p)
 within_of c p h =
     let s = last_entries nat_cmp (subr_entries p) in
@@ -53,6 +55,7 @@ within_of c p h =
       weight = rw (entries-map_of nat_cmp_total nat_cmp-IsAntisymmetric (subr_entries p), entries-map_of nat_list_cmp_total name_same (glyph_entries p)) (leb-true _ _ one.1);
     }
 
+-- the entries of a font within the limits pass the test
 pub within_again : (c : ClearPieces) (p : PrivatePieces) → IsWithin (font_of c p) → is_within (shell_of c p) (last_entries nat_cmp (subr_entries p)) (last_entries name_cmp (glyph_entries p)) ≡ true
 within_again c p h =
     let s = last_entries nat_cmp (subr_entries p) in
@@ -63,11 +66,14 @@ within_again c p h =
 
 -- ---- the private text of a cipher
 
+-- a text that was encrypted behind four lead bytes is the private text of its cipher
 pub private_again : (lead text cipher : List ℕ) → Enciphers 55665 (lead ++ text) cipher → length lead ≡ 4 → text ≡ private_text cipher
 private_again lead text cipher s four = sym (ap (drop 4) (decrypted-is (lead ++ text) cipher 55665 s) ∙ drop_at lead text 4 four)
 
+-- a cipher enciphers its lead bytes and its private text
 pub private_enciphers : (cipher : List ℕ) → Enciphers 55665 (take 4 (decrypted 55665 cipher) ++ private_text cipher) cipher
 private_enciphers cipher = rw (take-append-drop 4 (decrypted 55665 cipher)) (Enciphers-decrypted cipher 55665)
 
+-- a cipher of at least four bytes has four lead bytes
 pub lead_length : (cipher : List ℕ) → 4 ≤ length cipher → length (take 4 (decrypted 55665 cipher)) ≡ 4
 lead_length cipher h = length-take-le 4 (decrypted 55665 cipher) (omega (arith, length-decrypted cipher 55665, h))

@@ -18,9 +18,11 @@ clamp_more w x t = omega arith
 pub clamp_step : (w x y sum t : ℕ) → y ≡ clamp x → sum ≡ min (w + y) 18446744073709551615 → clamp (sum + t) ≡ clamp (w + (x + t))
 clamp_step w x y sum t e f = omega arith
 
+-- a sum that was cut off at nothing is whole
 pub clamp_all : (w t : ℕ) → w ≤ 18446744073709551615 → t ≡ clamp (w + 0) → w ≡ t
 clamp_all w t h e = omega (arith, h, e)
 
+-- a sum that is cut off fits 64 bits
 pub clamp_fits : (n m : ℕ) → m ≡ min n 18446744073709551615 → m ≤ 18446744073709551615
 clamp_fits n m e = omega (arith, e)
 
@@ -37,12 +39,14 @@ clamp_heavy w n e h = omega (arith, e, h)
 bytes_in : (buffer : List ℕ) (r : Range) → IsInside (length buffer) r → length (bytes_at buffer r) ≡ r.end - r.start
 bytes_in buffer r h = length-take-le (r.end - r.start) (drop r.start buffer) (omega (arith, length-drop r.start buffer, h.ordered, h.within))
 
+-- Subrs in ranges weigh what their bytes do
 pub subrs_in : (buffer : List ℕ) (len_iv : ℕ) (es : List (ℕ × Range)) → AllInside (length buffer) es → total (subr_at_weight len_iv) es ≡ total (subr_weight len_iv) (map (numbered_at buffer) es)
 subrs_in buffer len_iv [] h = refl
 subrs_in buffer len_iv (e ∷ es) h =
     let Body = λ (e : ℕ × Range). IsInside (length buffer) e.1 in
     rw (bytes_in buffer e.1 (All-head Body e es h), subrs_in buffer len_iv es (All-tail Body e es h)) refl
 
+-- glyphs in ranges weigh what their bytes do
 pub glyphs_in : (buffer : List ℕ) (len_iv : ℕ) (es : List (Range × Range)) → AllInside (length buffer) es → total (glyph_at_weight len_iv) es ≡ total (glyph_weight len_iv) (map (named_at buffer) es)
 glyphs_in buffer len_iv [] h = refl
 glyphs_in buffer len_iv (e ∷ es) h =

@@ -94,6 +94,7 @@ keyword_by_bytes w bytes h = by_read ((keyword w).read bytes) ((fixed w).read by
 abbrev word_after : ℕ → ℕ → List ℕ → List ℕ → Option (ℕ × List ℕ)
 word_after k v w rest = cond (leb 1 (k + length w) && leb (k + length w) 9 && all_digits w) (Some (digits_after v w, rest)) None
 
+-- what is read of a decimal whose first k digits spell v
 abbrev pub decimal_after : ℕ → ℕ → List ℕ → Option (ℕ × List ℕ)
 decimal_after k v bytes = word_after k v (take (prefix_len is_regular bytes) bytes) (drop (prefix_len is_regular bytes) bytes)
 
@@ -101,6 +102,7 @@ read_by_test : (b : Bool) (x : List ℕ × List ℕ) (y : ℕ × List ℕ) → y
 read_by_test true x y e = ap Some e
 read_by_test false x y e = refl
 
+-- before its first digit that is the decimal
 pub decimal_starts : (bytes : List ℕ) → decimal_after 0 0 bytes ≡ decimal.read bytes
 unfolding decimal
 decimal_starts bytes =

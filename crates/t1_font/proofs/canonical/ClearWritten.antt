@@ -20,10 +20,12 @@ use Rattle.t1_font.proofs.canonical.Written.{gap_one, word_read, keyword_read, b
 use Rattle.t1_font.proofs.canonical.EntriesWritten.{fixed_read, name_read, is_word_of}
 use Rattle.t1_font.proofs.canonical.Moves.{first_behind, encoding_moves}
 
+-- the marker of the Encoding is read from its text
 pub encoding_marker_read : (rest : List ℕ) → encoding_marker.read (codes "/Encoding" ++ (32 ∷ rest)) ≡ Some (tt, 32 ∷ rest)
 unfolding encoding_marker
 encoding_marker_read rest = rw (fixed_read (codes "/Encoding") (32 ∷ rest)) refl
 
+-- an Encoding that is a word is read from its text
 pub encoding_word_read : (w rest : List ℕ) → IsWord 32 w → Stops is_regular rest → encoding_word.read (32 ∷ (w ++ (codes " def" ++ rest))) ≡ Some (w, rest)
 unfolding encoding_word
 encoding_word_read w rest h s =
@@ -53,6 +55,7 @@ code_read : (c : ℕ) (rest : List ℕ) → c ≤ 255 → Stops is_regular rest 
 unfolding code
 code_read c rest h s = that_read _ (either decimal octal) (digits c ++ rest) c rest (rw (decimal_read c rest (omega arith) s) refl) (le-leb c 255 h)
 
+-- a put is read from its text
 code_entry_read : (c : ℕ) (n rest : List ℕ) → IsCode c n → Stops is_regular rest → code_entry.read (10 ∷ (codes "dup " ++ (digits c ++ (codes " /" ++ (n ++ (codes " put" ++ rest)))))) ≡ Some ((c, n), rest)
 unfolding code_entry
 code_entry_read c n rest h s =
@@ -82,6 +85,7 @@ encoding_end_read rest s =
       keyword_read (codes "def") rest (refl, (refl, (refl, tt))) s,
     ) refl
 
+-- the puts of an Encoding are read from their text
 pub puts_read : (es : List (ℕ × List ℕ)) (rest : List ℕ) → AllByRecursion (λ e. IsCode e.0 e.1) es → Stops is_regular rest → table_at code_entry encoding_end (puts_text es ++ rest) ≡ Ok (es, codes "def", rest)
 puts_read [] rest all s = rw (table_at-step code_entry encoding_end code_entry_eats (10 ∷ (codes "readonly def" ++ rest)), encoding_end_read rest s) refl
 puts_read (e ∷ es) rest all s =
@@ -96,6 +100,7 @@ puts_read (e ∷ es) rest all s =
 
 -- ---- the whole
 
+-- a word or puts that can be written
 abbrev pub IsEncodingText : EncodingText → Type 0
 IsEncodingText (OneWord w) = IsWord 32 w
 IsEncodingText (Puts es) = AllByRecursion (λ e. IsCode e.0 e.1) es

@@ -28,6 +28,7 @@ name_read n rest h s =
     bind_read (fixed (codes "/")) (λ _. that is_name (run is_regular)) (codes "/" ++ (n ++ rest)) (codes "/") (n ++ rest) (Some (n, rest)) (fixed_read (codes "/") (n ++ rest))
     (that_read is_name (run is_regular) (n ++ rest) n rest (run_read is_regular n rest h.regular s) (and_from _ _ (le-leb 1 (length n) h.some) (le-leb (length n) 127 h.few)))
 
+-- a word of 1 to 32 bytes passes the test for words
 pub is_word_of : (w : List ℕ) → IsWord 32 w → is_word w ≡ true
 is_word_of w h = and_from _ _ (le-leb 1 (length w) h.some) (le-leb (length w) 32 h.few)
 
@@ -44,6 +45,7 @@ pub record IsBody (iv : ℕ) (b : Body) : Type 0 where
 abbrev pub IsEntry : {K : Type 0} → (K → Type 0) → ℕ → Entry K → Type 0
 IsEntry IsKey iv e = IsKey e.key × IsBody iv e.body
 
+-- what stands behind a key is read from its text
 body_read : (iv : ℕ) (b : Body) (rest : List ℕ) → IsBody iv b → Stops is_regular rest → (body iv).read (body_text b ++ rest) ≡ Some (b, rest)
 unfolding body
 body_read iv b rest h s =
@@ -100,6 +102,7 @@ subr_key_read declared few i rest h s =
       lt-ltb i declared h,
     ) refl
 
+-- a table of Subrs is read from its text
 pub subrs_read : (declared iv : ℕ) (es : List Subr) (closing rest : List ℕ) → declared ≤ 65535 → AllByRecursion (IsEntry (λ i. i < declared) iv) es → IsPhrase false closing → Stops is_regular rest → table_at (subr declared iv) subrs_end (subrs_text es closing ++ rest) ≡ Ok (es, closing, rest)
 subrs_read declared iv es closing rest few all ends s = table_read (subr_key declared) subrs_end (subr_key_exact declared) (subr_key_apart declared) index_text (λ i. i < declared) (subr_key_read declared few) iv es closing rest all (closing_read closing ends) s
 
@@ -113,5 +116,6 @@ end_read : (rest : List ℕ) → Stops is_regular rest → glyphs_end.read (10 �
 unfolding glyphs_end
 end_read rest s = bind_read white (λ _. keyword (codes "end")) (10 ∷ (codes "end" ++ rest)) (10 ∷ []) (codes "end" ++ rest) _ (white_one 10 (codes "end" ++ rest) refl refl) (keyword_read (codes "end") rest (refl, (refl, (refl, tt))) s)
 
+-- a table of glyphs is read from its text
 pub glyphs_read : (iv : ℕ) (es : List Glyph) (rest : List ℕ) → AllByRecursion (IsEntry (IsWord 127) iv) es → Stops is_regular rest → table_at (glyph iv) glyphs_end (glyphs_text es ++ rest) ≡ Ok (es, codes "end", rest)
 glyphs_read iv es rest all s = table_read next_name glyphs_end next_name_exact next_name_apart name_text (IsWord 127) next_name_read iv es (codes "end") rest all end_read s

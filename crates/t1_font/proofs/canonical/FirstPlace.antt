@@ -8,6 +8,7 @@ same_front : {A : Type 0} (b : ℕ) (o : Option ((List ℕ × A) × List ℕ)) �
 same_front b None = refl
 same_front b (Some x) = refl
 
+-- where a grammar can't be read at the front, it is sought behind the first byte
 pub one_place : {A : Type 0} (g : Grammar A) (b : ℕ) (bs : List ℕ) → g.read (b ∷ bs) ≡ None → first_at g (b ∷ bs) ≡ prepend (b ∷ []) (first_at g bs)
 unfolding first_at
 one_place g b bs e = rw e (same_front b (first_at g bs))

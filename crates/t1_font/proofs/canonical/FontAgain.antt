@@ -21,11 +21,13 @@ use Rattle.t1_font.proofs.canonical.PrivateWritten.{AreOptional, IsWritable}
 use Rattle.t1_font.proofs.canonical.ClearWritten.{IsEncodingText}
 use Rattle.t1_font.proofs.MapLemmas.{entries_all, T_true, last-sorted}
 
+-- names that are equal in order are equal
 pub name_same : IsAntisymmetric name_cmp
 name_same = slice_cmp-IsAntisymmetric nat_cmp-IsAntisymmetric
 
 -- ---- charstrings
 
+-- an encrypted charstring is decrypted to itself
 pub plain_again : (iv : ℕ) (plain : List ℕ) → plain_of iv (sealed_body iv plain) ≡ plain
 plain_again iv plain = opened-sealed 4330 iv plain
 
@@ -35,9 +37,11 @@ length-body iv plain = length-sealed 4330 iv plain
 -- ---- the entries of a map make it again
 
 module _ {K : Type 0} {R : K → K → Ordering} (o : IsTotalOrder R) (same : IsAntisymmetric R) where
+  -- the last value of a key among the entries of a map is its value
   pub last_again : (m : FinMap R (List ℕ)) (q : K) → last_value R q (entries m) ≡ get m q
   last_again m q = last-sorted o same q (entries m) (T_true _ (entries_sorted m)) ∙ sym (get-entries m q)
 
+  -- the entries of a map make the map
   pub map_again : (m : FinMap R (List ℕ)) → map_of (entries m) ≡ m
   map_again m = same_map o same (map_of (entries m)) m (λ q. get-map_of o same (entries m) q ∙ last_again m q)
 
@@ -81,6 +85,7 @@ encoding_again : (e : Encoding) → IsEncoding e → encoding_value (encoding_pi
 encoding_again (Word w) h = refl
 encoding_again (Codes m) h = ap Codes (names_again nat_cmp_total nat_cmp-IsAntisymmetric m (λ q n e. (h q n e).put))
 
+-- the Encoding of a font can be written
 pub encoding_writable : (e : Encoding) → IsEncoding e → IsEncodingText (encoding_pieces e)
 encoding_writable (Word w) h = h
 encoding_writable (Codes m) h = entries_all nat_cmp_total nat_cmp-IsAntisymmetric IsCode m h
@@ -134,6 +139,7 @@ subrs_writable s (Some t) m h = record {
   closing = h.closing;
 }
 
+-- the private text of a font can be written
 pub font_writable : (f : FontValue) → IsFont f → IsWritable (inside_of f.shell (entries f.subrs) (entries f.glyphs))
 font_writable f h =
     let p = h.private in

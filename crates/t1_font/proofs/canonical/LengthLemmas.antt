@@ -37,6 +37,7 @@ spelled_short : (test : List ℕ → Bool) (p text rest : List ℕ) → (phrase_
 unfolding phrase_of word
 spelled_short test p text rest s = after_short test (is_access s.0) s.0 p s.2 rest (leb-true (length s.0) 32 (and_parts (leb 1 (length s.0)) (leb (length s.0) 32) s.4.0.1).1) s.5
 
+-- a phrase has at most 32 bytes
 pub phrase_short : (b : Bool) (p : List ℕ) → IsPhrase b p → length p ≤ 32
 phrase_short b p h = let s = (phrase_exact (passes b)).takes p (p, []) h.whole in spelled_short (passes b) p s.0 [] s.2
 
@@ -126,6 +127,7 @@ encoding_long : (e : Encoding) → IsEncoding e → length (encoding_text (encod
 encoding_long (Word w) h = omega (arith, h.few, length-append w (codes " def"))
 encoding_long (Codes m) h = omega (arith, puts_long (entries m) (entries_all nat_cmp_total nat_cmp-IsAntisymmetric IsCode m h), codes_few m h)
 
+-- the canonical clear text is longer than its two kept texts by at most 36,701 bytes
 pub clear_long : (f : FontValue) → IsFont f → length (canon_clear f) ≤ length f.shell.head + length f.shell.clear_tail + 36701
 clear_long f h =
     let s = f.shell in

@@ -19,9 +19,11 @@ use Rattle.t1_font.proofs.canonical.FirstPlace.{prepend-nil, prepend-prepend, on
 use Rattle.t1_font.proofs.canonical.Borders.{strip, fixed_strip}
 
 module _ (u v : List ℕ) where
+  -- both are none, or both are one value, before one text with u and v behind it
   abbrev pub Alike : {A : Type 0} → Option (A × List ℕ) → Option (A × List ℕ) → Type 0
   Alike {A} o p = ((o ≡ None) × (p ≡ None)) ⊎ ((a : A) × (ys : List ℕ) × (o ≡ Some (a, ys ++ u)) × (p ≡ Some (a, ys ++ v)))
 
+  -- what g reads of a text is the same before u and before v
   pub record Within {A : Type 0} (g : Grammar A) : Type 0 where
     pub alike : (xs : List ℕ) → Alike (g.read (xs ++ u)) (g.read (xs ++ v))
 
@@ -51,6 +53,7 @@ stops_none : (p : ℕ → Bool) (u : List ℕ) → Stops p u → prefix_len p u 
 stops_none p [] s = refl
 stops_none p (b ∷ bs) s = rw s refl
 
+-- a run that u stops is that of the text before u
 pub run_front : (p : ℕ → Bool) (xs u : List ℕ) → Stops p u → (run p).read (xs ++ u) ≡ Some (take (prefix_len p xs) xs, drop (prefix_len p xs) xs ++ u)
 run_front p [] u s = rw (stops_none p u s) refl
 run_front p (x ∷ xs) u s = elim (cases_Bool (p x)) [
@@ -125,6 +128,7 @@ module _ (u v : List ℕ) where
   abbrev pub Behind : {A : Type 0} → Grammar A → Type 0
   Behind g = (b : ℕ) (xs : List ℕ) → Alike u v (g.read (b ∷ (xs ++ u))) (g.read (b ∷ (xs ++ v)))
 
+  -- what is read alike before both is so behind each first byte
   pub behind : {A : Type 0} (g : Grammar A) → Within u v g → Behind g
   behind g G b xs = G.alike (b ∷ xs)
 
@@ -135,10 +139,12 @@ module _ (u v : List ℕ) where
 
 -- ---- the markers before a slash
 
+-- no slash is among these bytes
 abbrev pub is_slashless : List ℕ → Bool
 is_slashless [] = true
 is_slashless (c ∷ w) = cond (eqb c 47) false (is_slashless w)
 
+-- a word without a slash is no part of a text that begins with one
 pub slash_word : (w r : List ℕ) → is_slashless w ≡ true → Foreign w (47 ∷ r)
 slash_word [] r h = tt
 slash_word (c ∷ w) r h = elim (cases_Bool (eqb c 47)) [
@@ -190,15 +196,19 @@ pub eexec_within : (u v : List ℕ) → Stops is_white u → Stops is_white v �
 unfolding eexec_marker
 eexec_within u v s t a b c d e = bind_within u v _ _ (fixed_within u v (codes "currentfile") a b) (λ currentfile. bind_within u v _ _ (gap_within u v s t) (λ between. bind_within u v _ _ (fixed_within u v (codes "eexec") c d) (λ eexec. bind_within u v _ _ (before_within u v blank_comes (λ b bs cs. refl) e) (λ _. pure_within u v (currentfile ++ between ++ eexec)))))
 
+-- where no marker of Subrs stands before one slash, none does before another
 pub subrs_moves : (front r s : List ℕ) → NoneIn subrs_marker front (47 ∷ r) → NoneIn subrs_marker front (47 ∷ s)
 subrs_moves front r s = none_moves (47 ∷ r) (47 ∷ s) subrs_marker subrs_marker_exact (subrs_behind r s) front
 
+-- where no marker of CharStrings stands before one slash, none does before another
 pub chars_moves : (front r s : List ℕ) → NoneIn chars_marker front (47 ∷ r) → NoneIn chars_marker front (47 ∷ s)
 chars_moves front r s = none_moves (47 ∷ r) (47 ∷ s) chars_marker chars_marker_exact (chars_behind r s) front
 
+-- where no marker of the Encoding stands before one slash, none does before another
 pub encoding_moves : (front r s : List ℕ) → NoneIn encoding_marker front (47 ∷ r) → NoneIn encoding_marker front (47 ∷ s)
 encoding_moves front r s = none_moves (47 ∷ r) (47 ∷ s) encoding_marker encoding_marker_exact (encoding_behind r s) front
 
+-- where no marker of eexec stands before one slash, none does before another
 pub eexec_moves : (front r s : List ℕ) → NoneIn eexec_marker front (47 ∷ r) → NoneIn eexec_marker front (47 ∷ s)
 eexec_moves front r s = none_moves (47 ∷ r) (47 ∷ s) eexec_marker eexec_exact (behind (47 ∷ r) (47 ∷ s) eexec_marker (eexec_within (47 ∷ r) (47 ∷ s) refl refl
     (slash_word (codes "currentfile") r refl) (slash_word (codes "currentfile") s refl)
@@ -210,6 +220,7 @@ nil_alike : {A : Type 0} (v xs : List ℕ) (o p : Option (A × List ℕ)) → Al
 nil_alike v xs o p (inl n) = inl n
 nil_alike v xs o p (inr s) = inr (s.0, s.1, s.2 ∙ ap (λ (u : List ℕ). Some (s.0, u)) (append-nil s.1), s.3)
 
+-- what is read of a text, or not, stays so with v behind it
 pub grows : {A : Type 0} (g : Grammar A) (v : List ℕ) → Within [] v g → (xs : List ℕ) → ((g.read xs ≡ None) × (g.read (xs ++ v) ≡ None)) ⊎ ((a : A) × (ys : List ℕ) × (g.read xs ≡ Some (a, ys)) × (g.read (xs ++ v) ≡ Some (a, ys ++ v)))
 grows g v G xs = nil_alike v xs (g.read xs) (g.read (xs ++ v)) (subst (λ (u : List ℕ). Alike [] v (g.read u) (g.read (xs ++ v))) (append-nil xs) (G.alike xs))
 
@@ -235,10 +246,12 @@ first_grows g v G (b ∷ xs) x e = elim (grows g v G (b ∷ xs)) [
 
 -- ---- a text in which no marker stands, before one with markers
 
+-- a marker that stands in neither of two texts doesn't stand in both, joined
 pub NoneIn-append : {A : Type 0} (g : Grammar A) (xs ys after : List ℕ) → NoneIn g xs (ys ++ after) → NoneIn g ys after → NoneIn g (xs ++ ys) after
 NoneIn-append g [] ys after h k = k
 NoneIn-append g (b ∷ xs) ys after h k = (subst (λ (u : List ℕ). NotAtFront g (b ∷ u)) (sym (append_assoc xs ys after)) h.0, NoneIn-append g xs ys after h.1 k)
 
+-- a grammar that stands nowhere in the front is sought behind it
 pub past_none : {A : Type 0} (g : Grammar A) → IsExact g → (front after : List ℕ) → NoneIn g front after → first_at g (front ++ after) ≡ prepend front (first_at g after)
 past_none g G [] after h = prepend-nil (first_at g after)
 past_none g G (b ∷ front) after h = one_place g b (front ++ after) (unread g G (b ∷ (front ++ after)) h.0) ∙ (ap (prepend (b ∷ [])) (past_none g G front after h.1) ∙ prepend-prepend b front (first_at g after))

@@ -36,6 +36,7 @@ unfolding phrase_of word
 spelled_behind test p text rest s k =
     (s.0, s.1, s.2, s.3, (((s.4.0.0.0, s.4.0.0.1, stops_more is_regular s.2 rest s.4.0.0.2 k), s.4.0.1), s.4.1), after_spelled test (is_access s.0) s.0 p s.2 rest s.5 k)
 
+-- a phrase is read from its text
 pub phrase_behind : (b : Bool) (p rest : List ℕ) → IsPhrase b p → Stops is_regular rest → (phrase_of (passes b)).read (p ++ rest) ≡ Some (p, rest)
 phrase_behind b p rest h k =
     let s = (phrase_exact (passes b)).takes p (p, []) h.whole in
@@ -55,6 +56,7 @@ spelled_starts test p text after s rest =
     let parts : text ≡ s.0 ++ s.2 = s.3 ∙ ap (λ (u : List ℕ). u ++ s.2) s.4.0.0.0 in
     subst (λ (u : List ℕ). Stops is_white (u ++ rest)) (sym parts) (word_starts s.0 s.2 rest s.4.0.0.1 s.4.0.1)
 
+-- a phrase begins with no white space
 pub phrase_starts : (b : Bool) (p : List ℕ) → IsPhrase b p → (rest : List ℕ) → Stops is_white (p ++ rest)
 phrase_starts b p h rest =
     let s = (phrase_exact (passes b)).takes p (p, []) h.whole in

@@ -27,11 +27,13 @@ use Rattle.t1_font.proofs.canonical.Borders.{fixed_strip}
 use Rattle.t1_font.proofs.canonical.Moves.{Within, fixed_within, first_grows, past_none, first_behind, subrs_moves, chars_moves}
 use Rattle.t1_font.proofs.canonical.EntriesWritten.{IsEntry, subrs_read, glyphs_read, fixed_read}
 
+-- a table of Subrs that can be written
 pub record ArePieces (iv : ℕ) (s : SubrsPieces) : Type 0 where
   pub declared : s.declared ≤ 65535
   pub entries : AllByRecursion (IsEntry (λ i. i < s.declared) iv) s.entries
   pub closing : IsPhrase false s.closing
 
+-- a table of Subrs that can be written, or none and nothing before the glyphs
 abbrev pub AreOptional : ℕ → List ℕ → Option SubrsPieces → Type 0
 AreOptional iv middle None = middle ≡ []
 AreOptional iv middle (Some s) = ArePieces iv s
@@ -53,6 +55,7 @@ pub record IsWritable (p : PrivatePieces) : Type 0 where
 
 -- ---- the markers
 
+-- the marker of Subrs is read from its text
 pub subrs_marker_read : (declared : ℕ) (rest : List ℕ) → declared < 10 ^ 9 → white_comes rest ≡ true → subrs_marker.read (codes "/Subrs " ++ (digits declared ++ (codes " array" ++ rest))) ≡ Some (declared, rest)
 unfolding subrs_marker
 subrs_marker_read declared rest few w =
@@ -71,6 +74,7 @@ subrs_marker_read declared rest few w =
     white_stops [] w = tt
     white_stops (b ∷ bs) w = rw w refl
 
+-- the marker of CharStrings is read from its text
 pub chars_marker_read : (n : ℕ) (rest : List ℕ) → n < 10 ^ 9 → chars_marker.read (codes "/CharStrings " ++ (digits n ++ (codes " dict dup begin" ++ (10 ∷ rest)))) ≡ Some (tt, 10 ∷ rest)
 unfolding chars_marker
 chars_marker_read n rest few =
@@ -111,6 +115,7 @@ whole_found tail h = by_found (first_at closefile tail) refl h
         let nothing : x.1 ≡ [] = same_Some x.1 [] k in
         (x, e, nothing, sym (s.1 ∙ ap (λ (u : List ℕ). s.0 ++ u) nothing ∙ append-nil s.0 ∙ s.2.1 ∙ ap (λ (u : List ℕ). x.0.0 ++ u) (closefile_text x.0.1 s.2.0 x.1 s.2.2)))
 
+-- the tail is read through its `closefile`
 pub tail_read : (middle tail junk : List ℕ) → Lacks subrs_marker middle → Lacks subrs_marker tail → option_map (λ x. x.1) ((first closefile).read tail) ≡ Some [] → tail_after middle (tail ++ (10 ∷ junk)) ≡ Ok tail
 unfolding tail_after
 tail_read middle tail junk m t e =
@@ -118,6 +123,7 @@ tail_read middle tail junk m t e =
     let more : first_at closefile (tail ++ (10 ∷ junk)) ≡ Some (f.0.0, f.0.1 ++ (10 ∷ junk)) = first_grows closefile (10 ∷ junk) (closefile_grows junk) tail f.0 f.1 in
     rw (more, lack_subrs middle m, f.3, lack_subrs tail t) refl
 
+-- the glyphs and the tail are read from their texts
 pub glyphs_from_read : (text private : List ℕ) (subrs : Option SubrsPieces) (middle : List ℕ) (iv : ℕ) (es : List Glyph) (tail junk : List ℕ) → AllByRecursion (IsEntry (IsWord 127) iv) es → Stops is_regular tail → Lacks subrs_marker middle → Lacks subrs_marker tail
     → option_map (λ x. x.1) ((first closefile).read tail) ≡ Some [] → glyphs_from (length text) private subrs middle iv (glyphs_text es ++ (tail ++ (10 ∷ junk))) ≡ Ok (record { private = private; len_iv = iv; subrs = subrs; middle = middle; glyphs = es; tail = tail })
 unfolding glyphs_from
@@ -140,6 +146,7 @@ begins_line : {K : Type 0} (key_text : K → List ℕ) (es : List (Entry K)) (cl
 begins_line key_text [] closing = (_, refl)
 begins_line key_text (e ∷ es) closing = (_, refl)
 
+-- the marker is read from the text of the table of glyphs
 pub chars_part_read : (es : List Glyph) (rest : List ℕ) → length es ≤ 65535 → chars_marker.read (glyphs_part es ++ rest) ≡ Some (tt, glyphs_text es ++ rest)
 chars_part_read es rest few =
     let line = begins_line name_text es (codes "end") in
@@ -186,6 +193,7 @@ is_found g (b ∷ front) after a rest e = elim (read_or_not (g.read (b ∷ (fron
     read_or_not None = inl refl
     read_or_not (Some x) = inr (x, refl)
 
+-- the marker is read from the text of the table of Subrs
 pub subrs_part_read : (s : SubrsPieces) (rest : List ℕ) → s.declared ≤ 65535 → subrs_marker.read (subrs_part (Some s) ++ rest) ≡ Some (s.declared, subrs_text s.entries s.closing ++ rest)
 subrs_part_read s rest few =
     let line = begins_line index_text s.entries s.closing in
@@ -217,6 +225,7 @@ tables_again p s text chars junk h k =
     let next : first_at chars_marker m ≡ Some ((p.middle, tt), glyphs_text p.glyphs ++ t) = first_behind chars_marker chars_marker_exact p.middle g tt _ (chars_moves p.middle [] _ h.middle_chars) (chars_part_read p.glyphs t h.few) in
     rw (h.iv, read, next, glyphs_from_read text p.private (Some s) p.middle p.len_iv p.glyphs p.tail junk h.glyphs h.tail_apart h.middle_subrs h.tail_subrs h.tail_ends) refl
 
+-- a private text with Subrs is read from its text
 with_subrs_again : (p : PrivatePieces) (s : SubrsPieces) (junk : List ℕ) → IsWritable p → ArePieces p.len_iv s
     → private_pieces (p.private ++ (subrs_part (Some s) ++ (p.middle ++ (glyphs_part p.glyphs ++ (p.tail ++ (10 ∷ junk)))))) ≡ Ok (record { private = p.private; len_iv = p.len_iv; subrs = Some s; middle = p.middle; glyphs = p.glyphs; tail = p.tail })
 with_subrs_again p s junk h k =

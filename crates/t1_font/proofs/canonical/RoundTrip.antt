@@ -70,6 +70,7 @@ text_again private more = let r = decrypted_front (replicate 4 0 ++ private) 556
 
 -- ---- the font
 
+-- the pieces of a font make the font again
 value_again : (f : FontValue) → IsFont f → font_from (outside_of f.shell (encoding_pieces f.encoding)) (inside_of f.shell (entries f.subrs) (entries f.glyphs)) ≡ Ok f
 unfolding font_from
 value_again f h =

@@ -45,6 +45,7 @@ no_eexec : (bytes : List ℕ) → strip (codes "currentfile") bytes ≡ None →
 unfolding eexec_marker
 no_eexec bytes h = rw (fixed_strip (codes "currentfile") bytes, h) refl
 
+-- no marker stands in a text without `currentfile`
 pub free_none : (text after : List ℕ) → is_free (codes "currentfile") text ≡ true → NoneIn eexec_marker text after
 free_none [] after h = tt
 free_none (b ∷ text) after h = let both = and_parts (differs (codes "currentfile") (b ∷ text)) (is_free (codes "currentfile") text) h in (unspelled eexec_marker eexec_exact (b ∷ (text ++ after)) (no_eexec (b ∷ (text ++ after)) (differs_strip (codes "currentfile") (b ∷ text) after both.0)), free_none text after both.1)
@@ -82,6 +83,7 @@ no_marker_at t b rest a w e = elim (strip_word (codes "currentfile") (refl, (ref
   | inr s ↦ rw (fixed_strip (codes "currentfile") (t ++ (32 ∷ (b ∷ rest))), s.2) (no_second (codes "currentfile") s.0 b rest s.1 w e)
 ]
 
+-- no marker stands in a word before a blank and a byte that doesn't begin `eexec`
 pub word_none : (w : List ℕ) (b : ℕ) (rest : List ℕ) → AllRegular w → is_white b ≡ false → eqb 101 b ≡ false → NoneIn eexec_marker w (32 ∷ (b ∷ rest))
 word_none [] b rest a w e = tt
 word_none (c ∷ t) b rest a w e = (unspelled eexec_marker eexec_exact (c ∷ (t ++ (32 ∷ (b ∷ rest)))) (no_marker_at (c ∷ t) b rest a w e), word_none t b rest a.1 w e)
@@ -95,6 +97,7 @@ digit_none (b ∷ w) after h =
     let other : eqb 99 b ≡ false = ne_eqb 99 b (λ e. omega arith) in
     (unspelled eexec_marker eexec_exact (b ∷ (w ++ after)) (no_eexec (b ∷ (w ++ after)) (rw other refl)), digit_none w after h.1)
 
+-- no marker stands in digits
 pub digits_none : (n : ℕ) (after : List ℕ) → n < 2 ^ 64 → NoneIn eexec_marker (digits n) after
 digits_none n after h = digit_none (digits n) after (digits_are n h).made
 
@@ -108,6 +111,7 @@ puts_none (e ∷ es) after h =
     (NoneIn-append eexec_marker e.1 (codes " put" ++ p) after (word_none e.1 112 _ h.0.name.regular refl refl)
     (NoneIn-append eexec_marker (codes " put") p after (free_none (codes " put") _ refl) (puts_none es after h.1)))))
 
+-- no marker stands in the text of an Encoding
 pub encoding_none : (encoding : EncodingText) (after : List ℕ) → IsEncodingText encoding → NoneIn eexec_marker (encoding_text encoding) after
 encoding_none (OneWord w) after h =
     NoneIn-append eexec_marker (codes "/Encoding ") (w ++ codes " def") after (free_none (codes "/Encoding ") _ refl) (NoneIn-append eexec_marker w (codes " def") after (word_none w 100 _ h.regular refl refl) (free_none (codes " def") after refl))
@@ -123,6 +127,7 @@ pub record IsBorder (v : List ℕ) : Type 0 where
   pub eexec : Foreign (codes "eexec") v
   pub blank : blank_comes v ≡ false
 
+-- the clear text ends with its first marker
 abbrev pub IsClearEnd : List ℕ → Type 0
 IsClearEnd tail = option_map (λ x. x.1) ((first eexec_marker).read (tail ++ 10 ∷ [])) ≡ Some (10 ∷ [])
 
@@ -134,6 +139,7 @@ starts_slash : (encoding : EncodingText) → (r : List ℕ) × (encoding_text en
 starts_slash (OneWord w) = (_, refl)
 starts_slash (Puts es) = (_, refl)
 
+-- the first marker is found at the end of the clear text
 pub eexec_found : (head : List ℕ) (encoding : EncodingText) (tail v : List ℕ) → NoMarker eexec_marker head → IsEncodingText encoding → IsClearEnd tail → IsBorder v
     → (x : (List ℕ × List ℕ) × List ℕ) × (first_at eexec_marker ((head ++ (encoding_text encoding ++ tail)) ++ (10 ∷ v)) ≡ Some x) × (x.1 ≡ 10 ∷ v)
 eexec_found head encoding tail v none ok ends border =
@@ -165,6 +171,7 @@ line_skipped : (v : List ℕ) → cipher_text.read (10 ∷ v) ≡ cipher_text.re
 unfolding cipher_text
 line_skipped v = rw one-add refl
 
+-- a flat text is split where its first marker ends
 pub split_again : (clear v cipher rest : List ℕ) (x : (List ℕ × List ℕ) × List ℕ) → first_at eexec_marker (clear ++ (10 ∷ v)) ≡ Some x → x.1 ≡ 10 ∷ v → cipher_text.read v ≡ Some (cipher, rest) → flat_pieces (clear ++ (10 ∷ v)) ≡ Ok (record { clear = clear; cipher = cipher })
 unfolding flat_pieces
 split_again clear v cipher rest x e after c =

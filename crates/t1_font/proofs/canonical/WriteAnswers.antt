@@ -24,11 +24,13 @@ parts_fit clear cipher tail =
     let more = length-append (segment_text 2 cipher) rest in
     (omega (arith, whole, segment_long 1 clear), omega (arith, whole, more, segment_long 2 cipher))
 
+-- the canonical clear text is within the file limit
 pub clear_fits : (f : FontValue) → IsFont f → length (canon_clear f) ≤ file_limit
 clear_fits f is =
     let fits = parts_fit (canon_clear f) (private_cipher (canon_private f)) trailer in
     omega (arith, fits.0, canon_short f Pfb is)
 
+-- the cipher of the canonical private text is within the file limit
 pub cipher_fits : (f : FontValue) → IsFont f → length (private_cipher (canon_private f)) ≤ file_limit
 cipher_fits f is =
     let fits = parts_fit (canon_clear f) (private_cipher (canon_private f)) trailer in

@@ -13,13 +13,16 @@ use Rattle.t1_bytes.proofs.Grammars.{count_exact, bind_read, that_read, run_read
 use Rattle.t1_font.specs.Words.{is_regular, one_white, word, is_word, keyword, decimal, is_delimiter, is_digit, starts_white, is_decimal, all_digits, digits_after}
 use Rattle.t1_font.specs.Entry.{length_from}
 
+-- one byte of white space is read
 pub white_one : (b : ℕ) (rest : List ℕ) → is_white b ≡ true → Stops is_white rest → white.read (b ∷ rest) ≡ Some (b ∷ [], rest)
 white_one b rest w s = run_read is_white (b ∷ []) rest (w, tt) s
 
+-- a blank is a gap
 pub gap_one : (rest : List ℕ) → Stops is_white rest → gap.read (32 ∷ rest) ≡ Some (32 ∷ [], rest)
 unfolding gap
 gap_one rest s = that_read has_bytes white (32 ∷ rest) (32 ∷ []) rest (white_one 32 rest refl s) refl
 
+-- none of these bytes is white space or a delimiter
 abbrev pub AllRegular : List ℕ → Type 0
 AllRegular w = AllByRecursion (λ b. is_regular b ≡ true) w
 
@@ -67,6 +70,7 @@ after_push n (b ∷ bs) d = after_push (n * 10 + (b - 48)) bs d
 last_digit : (n : ℕ) → n < 10 → is_digit (48 + n) ≡ true
 last_digit n h = and_from (leb 48 (48 + n)) (leb (48 + n) 57) (le-leb 48 (48 + n) (omega arith)) (le-leb (48 + n) 57 (omega arith))
 
+-- these are the digits of n
 pub record IsNumber (n : ℕ) (w : List ℕ) : Type 0 where
   pub made : AreDigits w
   pub value : digits_after 0 w ≡ n
@@ -76,6 +80,7 @@ digits_are = decimal_by_steps IsNumber
     (λ n h. record { made = (last_digit n h, tt); value = omega arith })
     (λ n ds h k. record { made = digits_push ds (48 + n % 10) k.made (last_digit (n % 10) (omega arith)); value = after_push 0 ds (48 + n % 10) ∙ omega (arith, k.value) })
 
+-- a word begins with no white space
 pub black : (w rest : List ℕ) → AllRegular w → 0 < length w → Stops is_white (w ++ rest)
 black [] rest a h = absurd (omega arith)
 black (b ∷ bs) rest a h = regular_black b a.0
@@ -88,6 +93,7 @@ decimal_read n rest small s =
     let some : leb 1 (length (digits n)) ≡ true = le-leb 1 (length (digits n)) (decimal_nonempty n (omega arith)) in
     bind_read (that is_decimal (run is_regular)) (λ w. pure (digits_after 0 w)) (digits n ++ rest) (digits n) rest (Some (n, rest)) (that_read is_decimal (run is_regular) (digits n ++ rest) (digits n) rest (run_read is_regular (digits n) rest (digits_regular (digits n) d.made) s) (and_from _ _ (and_from _ _ some few) (are_all (digits n) d.made))) (rw d.value refl)
 
+-- digits begin with no white space
 pub black_digits : (n : ℕ) (rest : List ℕ) → n < 10 ^ 9 → Stops is_white (digits n ++ rest)
 black_digits n rest small = black (digits n) rest (digits_regular (digits n) (digits_are n (omega arith)).made) (decimal_nonempty n (omega arith))
 
@@ -98,16 +104,19 @@ pub length_read : (iv n : ℕ) (rest : List ℕ) → iv ≤ n → n ≤ 65535 �
 unfolding length_from
 length_read iv n rest h k s = that_read _ decimal (digits n ++ rest) n rest (decimal_read n rest (omega arith) s) (and_from _ _ (le-leb iv n h) (le-leb n 65535 k))
 
+-- a blank is one byte of white space
 pub one_read : (rest : List ℕ) → one_white.read (32 ∷ rest) ≡ Some (32 ∷ [], rest)
 unfolding one_white
 one_read rest = that_read starts_white (count 1) (32 ∷ rest) (32 ∷ []) rest (count_read (32 ∷ []) rest) refl
 
+-- a word has at least one byte
 pub word_has : (w : List ℕ) → is_word w ≡ true → 0 < length w
 word_has w h = leb-true 1 (length w) (and_parts (leb 1 (length w)) (leb (length w) 32) h).0
 
 pub dup_regular : AllRegular (codes "dup")
 dup_regular = (refl, (refl, (refl, tt)))
 
+-- where no white space stands, none is read
 pub no_white : (bytes : List ℕ) → Stops is_white bytes → prefix_len is_white bytes ≡ 0
 no_white [] s = refl
 no_white (b ∷ bs) s = rw s refl

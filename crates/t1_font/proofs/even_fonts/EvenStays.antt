@@ -111,6 +111,7 @@ raised_twice : (n k : ℕ) (o : Option SubrsShell) → n ≤ k → option_map (r
 raised_twice n k None h = refl
 raised_twice n k (Some t) h = λ i. Some (record { declared = max_small n (max k t.declared) (omega (arith, h)) i; rd = t.rd; put = t.put; closing = t.closing })
 
+-- a font that was made even and filled stays when it is made even again
 even_twice : (n k : ℕ) (indices : List ℕ) (f : FontValue) → n ≤ k → even n (filled indices (even k f)) ≡ filled indices (even k f)
 even_twice n k indices f h = λ i. record {
   shell = record {

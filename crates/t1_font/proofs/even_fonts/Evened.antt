@@ -69,6 +69,7 @@ pub record HeadFits (old new : List ℕ) : Type 0 where
   pub bytes : AreBytes old → AreBytes new
   pub short : length new ≤ length old
 
+-- a head without its tags is no longer, is bytes, and has no more markers
 pub head_fits : (head : List ℕ) → HeadFits head (untagged_head head)
 head_fits head = by_tags (untagged_head head) (loses_tags head)
   where
@@ -100,9 +101,11 @@ subrs_raised n s (Some t) m le h = record {
   closing = h.closing;
 }
 
+-- a font made even weighs no more
 pub even_light : (n : ℕ) (f : FontValue) → weight (even n f) ≤ weight f
 even_light n f = omega (arith, (head_fits f.shell.head).short)
 
+-- a font made even is a font
 pub even_is_font : (n : ℕ) (f : FontValue) → n ≤ count_limit → IsFont f → IsFont (even n f)
 even_is_font n f le h =
     let fits = head_fits f.shell.head in
@@ -127,6 +130,7 @@ none_either_way : {X : Type 0} (b : Bool) → ◌≡◌ {A = Option X} (cond b N
 none_either_way true = refl
 none_either_way false = refl
 
+-- an index below n has its stub, and any other none
 find_below : (n i : ℕ) (indices : List ℕ) → find nat_cmp i (stub_entries (below n indices)) ≡ cond (nat_lt i n) (find nat_cmp i (stub_entries indices)) None
 find_below n i [] = sym (none_either_way (nat_lt i n))
 find_below n i (j ∷ js) =
@@ -175,6 +179,7 @@ some_words k v (f ∷ fs) t e h = h
 stub_fits : (iv : ℕ) (c : List ℕ) → iv ≤ 255 → c ≡ stub → IsCharstring iv c
 stub_fits iv c h e = subst (IsCharstring iv) (sym e) (record { short = omega (arith, h); bytes = (omega arith, tt) })
 
+-- the Subrs of a filled font fit its shell
 subrs_filled : (s : Shell) (t : SubrsShell) (m : Numbered) (indices : List ℕ) → s.len_iv ≤ 255 → SubrsFit s (Some t) m → (es : List (ℕ × List ℕ)) → entries m ≡ es → SubrsFit s (Some t) (with_stubs (below t.declared indices) m es)
 subrs_filled s t m indices iv h [] is = h
 subrs_filled s t m indices iv h (e ∷ es) is =
@@ -193,6 +198,7 @@ table_filled : (s : Shell) (o : Option SubrsShell) (m : Numbered) (indices : Lis
 table_filled s None m indices iv h = subst (λ (es : List (ℕ × List ℕ)). SubrsFit s None (with_stubs (below 0 indices) m es)) (sym h.0) h
 table_filled s (Some t) m indices iv h = subrs_filled s t m indices iv h (entries m) refl
 
+-- a font that is filled is a font if it is within the weight limit
 pub filled_is_font : (indices : List ℕ) (f : FontValue) → IsFont f → weight (filled indices f) ≤ weight_limit → IsFont (filled indices f)
 filled_is_font indices f h light = record {
   clear = h.clear;

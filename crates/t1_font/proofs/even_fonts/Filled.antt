@@ -30,18 +30,22 @@ use Rattle.t1_font.proofs.even_fonts.Evened.{stubs_below, filled_is_font}
 max_assoc : (a b c : ℕ) → max (max a b) c ≡ max a (max b c)
 max_assoc a b c = omega arith
 
+-- a larger count is the largest so far
 pub bigger : (new n d : ℕ) → n < d → new ≡ d → new ≡ max n d
 bigger new n d h e = omega (arith, h, e)
 
+-- any other leaves the largest so far
 pub no_bigger : (new n d : ℕ) → d ≤ n → new ≡ n → new ≡ max n d
 no_bigger new n d h e = omega (arith, h, e)
 
+-- behind the last font the largest count is that of all
 pub count_done : (fs : List FontValue) (i n : ℕ) → length fs ≤ i → n ≡ max n (largest_count (drop i fs))
 count_done fs i n h = max_zero n ∙ ap (λ (gs : List FontValue). max n (largest_count gs)) (sym (drop_all i fs h))
   where
     max_zero : (n : ℕ) → n ≡ max n 0
     max_zero n = omega arith
 
+-- the largest count of one more font
 pub count_step : (fs : List FontValue) (i : ℕ) (d : FontValue) (n : ℕ) → i < length fs → max n (largest_count (drop i fs)) ≡ max (max n (declared_count (get_or fs i d).shell.subrs)) (largest_count (drop (i + 1) fs))
 count_step fs i d n h = ap (λ (gs : List FontValue). max n (largest_count gs)) (drop_more fs i d h) ∙ sym (max_assoc n (declared_count (get_or fs i d).shell.subrs) (largest_count (drop (i + 1) fs)))
 
@@ -55,6 +59,7 @@ is_one q indices = list_any (eq_by_cmp nat_cmp q) indices
 abbrev pub IndicesSoFar : Numbered → List FontValue → List FontValue → Type 0
 IndicesSoFar m left all = (q : ℕ) → (contains_key m q || is_one q (indices_of_all left)) ≡ is_one q (indices_of_all all)
 
+-- before the first font no index is met
 pub none_so_far : (m : Numbered) (all : List FontValue) → m ≡ empty → IndicesSoFar m all all
 none_so_far m all e q = ap (λ (o : Option (List ℕ)). is_some o || is_one q (indices_of_all all)) (ap (λ (n : Numbered). get n q) e ∙ get-empty nat_cmp q)
 
@@ -66,6 +71,7 @@ some_either : {X : Type 0} (x y : Option X) → is_some (joined x y) ≡ (is_som
 some_either None y = refl
 some_either (Some v) y = refl
 
+-- an index of some fonts is one of the first or of the others
 pub indices_next : (q : ℕ) (f : FontValue) (fs : List FontValue) → is_one q (indices_of_all (f ∷ fs)) ≡ (contains_key f.subrs q || is_one q (indices_of_all fs))
 indices_next q f fs = list_any-append (eq_by_cmp nat_cmp q) (keys f.subrs) (indices_of_all fs) ∙ ap (λ b. b || is_one q (indices_of_all fs)) (sym (contains_key-keys f.subrs q))
 
@@ -87,6 +93,7 @@ module _ (m : Numbered) (all fs : List FontValue) (i : ℕ) (d f : FontValue) (r
       ap (λ b. contains_key m q || b) (ap (λ (es : List (ℕ × List ℕ)). is_one q (map (λ e. e.0) es ++ indices_of_all (drop (i + 1) fs))) (sym none))
       ∙ (ap (λ (gs : List FontValue). contains_key m q || is_one q (indices_of_all gs)) (sym next) ∙ h q)
 
+-- the stubs at some indices have a stub at each of them, and nothing else
 pub find_stub : (q : ℕ) (indices : List ℕ) → find nat_cmp q (map (λ i. (i, stub)) indices) ≡ cond (is_one q indices) (Some stub) None
 find_stub q [] = refl
 find_stub q (j ∷ js) = elim (eq_by_cmp nat_cmp q j) as (λ b. cond b (Some stub) (find nat_cmp q (map (λ i. (i, stub)) js)) ≡ cond (b || is_one q js) (Some stub) None) [ true ↦ refl | false ↦ find_stub q js ]
@@ -117,6 +124,7 @@ these_are : (n : ℕ) (indices : List ℕ) (m : Numbered) (es : List (ℕ × Lis
 these_are n indices m [] = refl
 these_are n indices m (e ∷ es) = ap (merged m) (sym (stubs_below n indices))
 
+-- filling by the table of stubs is filling at the indices
 pub filled_so : (stubs : Numbered) (indices : List ℕ) (f : FontValue) → stubs ≡ stubs_at indices → filled_by stubs f ≡ filled indices f
 filled_so stubs indices f is = ap (λ (s : Numbered). filled_by s f) is ∙ (λ i. record { shell = f.shell; encoding = f.encoding; subrs = these_are (declared_count f.shell.subrs) indices f.subrs (entries f.subrs) i; glyphs = f.glyphs })
 
@@ -133,12 +141,14 @@ pub record Filling (fs out left : List FontValue) : Type 0 where
   pub all : out ++ map (filled (indices_of_all fs)) left ≡ filled_all fs
   pub light : AreLight out
 
+-- before the first font none is out
 pub none_filled : (fs out left : List FontValue) → out ≡ [] → left ≡ fs → Filling fs out left
 none_filled fs out left none is = record {
   all = λ i. none i ++ map (filled (indices_of_all fs)) (is i);
   light = subst AreLight (sym none) tt;
 }
 
+-- behind the last all are filled
 pub all_filled : (fs out left : List FontValue) → left ≡ [] → Filling fs out left → Fills fs out
 all_filled fs out left none h = (sym (append-nil out) ∙ (ap (λ (l : List FontValue). out ++ map (filled (indices_of_all fs)) l) (sym none) ∙ h.all), h.light)
 
@@ -148,18 +158,21 @@ module _ (stubs : Numbered) (fs out left next : List FontValue) (f : FontValue) 
       ap (λ (x : FontValue). out ++ x ∷ map (filled (indices_of_all fs)) next) (filled_so stubs (indices_of_all fs) f at)
       ∙ (ap (λ (l : List FontValue). out ++ map (filled (indices_of_all fs)) l) (sym is) ∙ h.all)
 
+  -- one more light font is out
   pub fills_on : (more : List FontValue) (g : FontValue) → g ≡ filled_by stubs f → weight g ≤ weight_limit → more ≡ out ++ g ∷ [] → Filling fs more next
   fills_on more g same light put = record {
     all = ap (λ (l : List FontValue). l ++ map (filled (indices_of_all fs)) next) put ∙ (append_assoc out (g ∷ []) (map (filled (indices_of_all fs)) next) ∙ (ap (λ (x : FontValue). out ++ x ∷ map (filled (indices_of_all fs)) next) same ∙ here));
     light = subst AreLight (sym put) (light_append out g h.light light);
   }
 
+  -- the refusal of a font is the refusal of the list
   pub refused_there : (e : PartsFault) → FontRefused (filled_by stubs f) e → FillRefuses fs e
   refused_there Limit heavy = subst AnyHeavy here (heavy_later out (filled_by stubs f) (map (filled (indices_of_all fs)) next) heavy)
   refused_there Memory heavy = tt
 
 -- ---- the parts of one
 
+-- whether there are entries is told by how many there are
 pub lent_none : (es : List (ℕ × Bor (List ℕ))) → (length es == 0) ≡ has_none (map lent_number es)
 lent_none [] = refl
 lent_none (e ∷ es) = elim (cases_Bool (length (e ∷ es) == 0)) [ inl t ↦ absurd (omega (arith, eqb-true (length (e ∷ es)) 0 t)) | inr t ↦ t ]
@@ -168,6 +181,7 @@ none_so : (es : List (ℕ × List ℕ)) → has_none es ≡ true → es ≡ []
 none_so [] h = refl
 none_so (e ∷ es) h = absurd (true≢false (sym h))
 
+-- a map whose entries are none has none
 pub no_entries_there : (m : Numbered) → has_none (entries m) ≡ true → entries m ≡ []
 no_entries_there m h = none_so (entries m) h
 
@@ -194,6 +208,7 @@ pub parts_filled : (stubs : Numbered) (f p : FontValue) (n : ℕ) (subrs : Numbe
 parts_filled stubs f p n subrs is some declared put =
     newly_filled stubs p subrs some (put ∙ ap (λ (k : ℕ). merged p.subrs (retain_keys stubs (λ i. nat_lt i k))) declared) ∙ ap (filled_by stubs) is
 
+-- a font filled by a table of stubs is a font if it is within the weight limit
 pub filled_by_is_font : (stubs : Numbered) (f : FontValue) → AreStubs stubs → IsFont f → weight (filled_by stubs f) ≤ weight_limit → IsFont (filled_by stubs f)
 filled_by_is_font stubs f s h light =
     let is = filled_so stubs s.0 f s.1 in

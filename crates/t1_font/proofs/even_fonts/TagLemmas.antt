@@ -44,6 +44,7 @@ ends_past n text h (Some x) e =
     let r = h x.1 in
     (s.0 ++ r.0, s.1 ∙ (ap (λ (v : List ℕ). s.0 ++ v) r.1 ∙ sym (append_assoc s.0 r.0 (behind_tags n x.1))))
 
+-- what stands behind tags is the end of the text
 pub ends_untagged : (n : ℕ) (text : List ℕ) → EndsWith text (behind_tags n text)
 unfolding behind_tags
 ends_untagged zero text = ([], refl)
@@ -75,6 +76,7 @@ unfolding behind_tags
 none_left zero text h = empty_untagged text h
 none_left (suc n) text h = none_past n text h (none_left n) (tag.read text) refl
 
+-- a text without its tags has none
 pub untagged_twice : (text : List ℕ) → untagged (untagged text) ≡ untagged text
 untagged_twice text = no_tag (length (untagged text)) (untagged text) (none_left (length text) text (omega arith))
 
@@ -91,6 +93,7 @@ regrouped a b c e =
     ∙ (ap (λ (u : List ℕ). a ++ u) (append_assoc b (c ++ 47 ∷ []) e ∙ (ap (λ (u : List ℕ). b ++ u) (append_assoc c (47 ∷ []) e) ∙ sym (append_assoc b c (47 ∷ e))))
     ∙ sym (append_assoc a (b ++ c) (47 ∷ e)))
 
+-- a name that is found in a head stands behind a slash, and ends it
 pub named : (head : List ℕ) (x : (List ℕ × List ℕ) × List ℕ) → (first name_marker).read head ≡ Some x → Named head x.1
 unfolding name_marker
 named head x e =
@@ -153,6 +156,7 @@ abbrev pub ends_after : Option (List ℕ × List ℕ) → Bool
 ends_after None = false
 ends_after (Some x) = ends_word x.1
 
+-- where no bytes are left, a word ends
 pub ends_there : (bytes : List ℕ) → (length bytes == 0) ≡ true → true ≡ ends_word bytes
 ends_there [] h = refl
 ends_there (b ∷ bs) h = absurd (omega (arith, eqb-true (length (b ∷ bs)) 0 h))
@@ -161,6 +165,7 @@ break_there : (r : List ℕ) → break_comes (r ++ 47 ∷ []) ≡ ends_word r
 break_there [] = refl
 break_there (b ∷ bs) = refl
 
+-- a word without a slash is stripped off the same way before a slash
 strip_before : (w name : List ℕ) → is_slashless w ≡ true → strip w (name ++ 47 ∷ []) ≡ option_map (λ r. r ++ 47 ∷ []) (strip w name)
 strip_before [] name h = refl
 strip_before (c ∷ w) [] h = elim (cases_Bool (eqb c 47)) [
@@ -183,6 +188,7 @@ marker_after (Some r) = by_break (break_comes (r ++ 47 ∷ [])) refl ∙ break_t
     by_break true t = rw t refl
     by_break false t = rw t refl
 
+-- a name would begin an Encoding exactly where `Encoding` is read and a word ends behind it
 pub begins_read : (name : List ℕ) → begins_encoding name ≡ ends_after ((fixed (codes "Encoding")).read name)
 unfolding encoding_marker
 begins_read name =
@@ -205,6 +211,7 @@ to_map : (o : Option (List ℕ × List ℕ)) (r : List ℕ) → Some r ≡ optio
 to_map None r e = absurd (none-some r (sym e))
 to_map (Some x) r e = (x, refl, same_Some x.1 r (sym e))
 
+-- one tag more is passed
 pub walked_on : (text rest next : List ℕ) → Walked text rest → Some next ≡ option_map (λ x. x.1) (tag.read rest) → Walked text next × (length next < length rest)
 walked_on text rest next w e =
     let x = to_map (tag.read rest) next e in
@@ -215,6 +222,7 @@ walked_on text rest next w e =
     by_fuel zero le h x e is less = absurd (omega (arith, le, less))
     by_fuel (suc n) le h x e is less = (n, omega (arith, le, less), ap (behind_tags n) (sym is) ∙ (sym (past_one n rest x e) ∙ h))
 
+-- where no tag comes, the text has lost all its tags
 pub walked_through : (text rest : List ℕ) → Walked text rest → None ≡ option_map (λ x. x.1) (tag.read rest) → rest ≡ untagged text
 walked_through text rest w e = sym (no_tag w.0 rest (from_map (tag.read rest) e)) ∙ w.2
 

@@ -87,6 +87,7 @@ module _ (head : List ℕ) (x : (List ℕ × List ℕ) × List ℕ) (e : (first 
       subst (λ (u : List ℕ). untagged_head (u ++ untagged x.1) ≡ u ++ untagged x.1) (sym f.1)
       (no_tags_there (f.0 ++ untagged x.1) (x.0, untagged x.1) (sym f.2) (untagged (untagged x.1)) refl (ap length (untagged_twice x.1)))
 
+-- a head without its tags has none
 pub untagged_head_twice : (head : List ℕ) → untagged_head (untagged_head head) ≡ untagged_head head
 untagged_head_twice head = by_name ((first name_marker).read head) refl
   where

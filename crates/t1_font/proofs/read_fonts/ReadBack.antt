@@ -126,6 +126,7 @@ gap_alike c s u v h k e = by_test (has_bytes a) (gap_front s (codes "eexec" ++ u
         let before_u : (second c a).read (word ++ u) ≡ None = ap (second c a).read (append_assoc rest (codes "eexec") u) ∙ (sym first ∙ e) in
         ap (option_and_then (λ x. (second c x.0).read x.1)) q ∙ (ap (second c a).read (sym (append_assoc rest (codes "eexec") v)) ∙ second_alike c a word u v long h k before_u)
 
+-- behind `eexec` one blank is as good as another to tell that no marker stands before it
 pub eexec_alike : (y u v : List ℕ) → 11 ≤ length y → blank_comes u ≡ true → blank_comes v ≡ true → eexec_marker.read (y ++ (codes "eexec" ++ u)) ≡ None → eexec_marker.read (y ++ (codes "eexec" ++ v)) ≡ None
 unfolding eexec_marker
 eexec_alike y u v long h k e = by_strip (strip (codes "currentfile") y) refl

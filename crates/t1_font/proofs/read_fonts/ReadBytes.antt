@@ -54,6 +54,7 @@ pieces_bytes : (pieces : List (List ℕ)) → AllByRecursion AreBytes pieces →
 pieces_bytes [] h = tt
 pieces_bytes (p ∷ ps) h = AreBytes-append p (flat_map (λ piece. piece) ps) h.0 (pieces_bytes ps h.1)
 
+-- the flat text of a file of bytes is bytes
 pub flat_bytes : (file flat : List ℕ) → IsFlat file flat → AreBytes file → AreBytes flat
 flat_bytes file flat s h = by_start (starts_segment file) s
   where
@@ -81,6 +82,7 @@ filter_bytes p (b ∷ text) h = elim (cases_Bool (p b)) [
   | inr t ↦ rw t (filter_bytes p text h.1)
 ]
 
+-- the cipher that bytes spell is bytes
 pub cipher_bytes_of : (cipher text rest : List ℕ) → cipher_text.Spells cipher text rest → AreBytes text → AreBytes cipher
 unfolding cipher_text
 cipher_bytes_of cipher text rest s h =

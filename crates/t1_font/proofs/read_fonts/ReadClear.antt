@@ -97,6 +97,7 @@ array_ends closing text rest front bytes s b =
 table_parts : (opening entries closing rest bytes behind : List ℕ) → bytes ≡ opening ++ behind → behind ≡ (entries ++ closing) ++ rest → bytes ≡ ((opening ++ entries) ++ closing) ++ rest
 table_parts opening entries closing rest bytes behind b e = b ∙ (ap (λ (u : List ℕ). opening ++ u) e ∙ simp append_assoc)
 
+-- an Encoding ends with `def`
 pub encoding_ends : (e : EncodingText) (bytes rest : List ℕ) → SpellsEncoding e bytes rest → IsEnded bytes rest
 encoding_ends (OneWord w) bytes rest s = let a = word_start w bytes rest s in word_ends w a.0 rest bytes a.2 a.1
 encoding_ends (Puts puts) bytes rest (inl s) =
@@ -137,6 +138,7 @@ array_puts : (c : ℕ) (names : List (List ℕ)) → AllByRecursion (IsWord 127)
 array_puts c [] all few = tt
 array_puts c (n ∷ names) all few = (record { code = omega (arith, few); name = all.0 }, array_puts (suc c) names all.1 (omega (arith, few)))
 
+-- an Encoding that is spelled by bytes is that of a font
 pub encoding_of : (e : EncodingText) (bytes rest : List ℕ) → SpellsEncoding e bytes rest → AreBytes bytes → IsEncoding (encoding_value e)
 encoding_of (OneWord w) bytes rest s h = let a = word_start w bytes rest s in word_value w a.0 rest a.2 (parts_bytes bytes a.0 rest a.1 h).0
 encoding_of (Puts puts) bytes rest (inl s) h =
@@ -194,6 +196,7 @@ not_within x front own after tail y z e o m =
           true≢false (sym plain.0)
     ]
 
+-- the marker at the end of a clear text is the first of its tail
 pub tail_through : (x tail front own after : List ℕ) → (x ++ codes "def") ++ tail ≡ front ++ own → IsMarker own after → NoneIn eexec_marker front (own ++ after) → option_map (λ y. y.1) ((first eexec_marker).read (tail ++ 10 ∷ [])) ≡ Some (10 ∷ [])
 tail_through x tail front own after e m none = elim (meet (x ++ codes "def") tail front own e) [
   | inl s ↦
@@ -204,6 +207,7 @@ tail_through x tail front own after e m none = elim (meet (x ++ codes "def") tai
   | inr s ↦ absurd (not_within x front own after tail s.0 s.1 s.2 s.3 m)
 ]
 
+-- no marker of eexec stands in the head
 pub head_before : (head r front own after : List ℕ) → head ++ (47 ∷ r) ≡ front ++ own → IsMarker own after → NoneIn eexec_marker front (own ++ after) → NoMarker eexec_marker head
 head_before head r front own after e m none = elim (meet head (47 ∷ r) front own e) [
   | inl s ↦
@@ -215,12 +219,14 @@ head_before head r front own after e m none = elim (meet head (47 ∷ r) front o
 
 -- ---- the whole
 
+-- what is known of the clear text
 pub record IsReadClear (c : ClearPieces) (p : PrivatePieces) : Type 0 where
   pub shell : IsClearShell (shell_of c p)
   pub head : AreBytes c.head
   pub tail : AreBytes c.clear_tail
   pub encoding : IsEncoding (encoding_value c.encoding)
 
+-- the clear text that bytes spell is that of a font
 pub clear_of : (flat clear cipher : List ℕ) (c : ClearPieces) (p : PrivatePieces) → IsCut flat clear cipher → IsClear clear c → AreBytes clear → IsReadClear c p
 clear_of flat clear cipher c p cut s h =
     let f = s.marker.2 in

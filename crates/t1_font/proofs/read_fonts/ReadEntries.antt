@@ -28,12 +28,14 @@ use Rattle.t1_font.proofs.canonical.EntriesWritten.{IsBody}
 
 -- ---- words
 
+-- a word that bytes spell is a word of a font
 pub word_of : (w text rest : List ℕ) → word.Spells w text rest → AreBytes text → IsWord 32 w
 unfolding word
 word_of w text rest s h =
     let both = and_parts (leb 1 (length w)) (leb (length w) 32) s.1 in
     record { regular = s.0.1; some = leb-true 1 (length w) both.0; few = leb-true (length w) 32 both.1; bytes = subst AreBytes s.0.0 h }
 
+-- a name that bytes spell is a name of a font
 pub name_of : (n text rest : List ℕ) → name.Spells n text rest → AreBytes text → IsWord 127 n
 unfolding name
 name_of n text rest s h =
@@ -50,6 +52,7 @@ after_bytes test true first p text rest s f h =
     let second : AreBytes w.0 = subst AreBytes w.4.0.0.0 b.0 in
     subst AreBytes w.5.1 (AreBytes-append (first ++ codes " ") w.0 (AreBytes-append first (codes " ") f (omega arith, tt)) second)
 
+-- a phrase that bytes spell is a phrase of a font
 pub phrase_is : (may_be_dup : Bool) (p text rest : List ℕ) → (phrase_of (passes may_be_dup)).Spells p text rest → AreBytes text → IsPhrase may_be_dup p
 unfolding phrase_of word
 phrase_is b p text rest s h =
@@ -58,6 +61,7 @@ phrase_is b p text rest s h =
 
 -- ---- entries
 
+-- what stands behind a key in bytes can be written, and is bytes
 body_of : (iv : ℕ) (b : Body) (text rest : List ℕ) → (body iv).Spells b text rest → AreBytes text → IsBody iv b × AreBytes b.bytes
 unfolding body length_from
 body_of iv body text rest s h =
@@ -100,20 +104,25 @@ subr_key_of : (declared i : ℕ) (text rest : List ℕ) → (subr_key declared).
 unfolding subr_key
 subr_key_of declared i text rest s h = ltb-true i declared s.5.5.5.1
 
+-- a Subr that bytes spell is one of a font
 pub subr_of : (declared iv : ℕ) (e : Subr) (text rest : List ℕ) → (subr declared iv).Spells e text rest → AreBytes text → IsRead (λ i. i < declared) iv e
 subr_of declared = entry_of (subr_key declared) (λ i. i < declared) (subr_key_of declared)
 
+-- a name behind white space that bytes spell is a name of a font
 pub next_name_of : (n text rest : List ℕ) → next_name.Spells n text rest → AreBytes text → IsWord 127 n
 unfolding next_name
 next_name_of n text rest s h = name_of n s.2 rest s.5 (parts_bytes text s.1 s.2 s.3 h).1
 
+-- a glyph that bytes spell is one of a font
 pub glyph_of : (iv : ℕ) (e : Glyph) (text rest : List ℕ) → (glyph iv).Spells e text rest → AreBytes text → IsRead (IsWord 127) iv e
 glyph_of = entry_of next_name (IsWord 127) next_name_of
 
+-- a put of a font: its code and its name
 pub record IsReadPut (e : ℕ × List ℕ) : Type 0 where
   pub code : e.0 ≤ 255
   pub name : IsWord 127 e.1
 
+-- a put that bytes spell is one of a font
 pub put_of : (e : ℕ × List ℕ) (text rest : List ℕ) → code_entry.Spells e text rest → AreBytes text → IsReadPut e
 unfolding code_entry code
 put_of e text rest s h =

@@ -65,6 +65,7 @@ words_of : (declared iv : ℕ) (closing : List ℕ) (es : List Subr) → AllByRe
 words_of declared iv closing [] all = (refl, refl)
 words_of declared iv closing (e ∷ es) all = words_by _ _ (no_entries (e.key, plain_of iv e.body.bytes) (plain_entries iv es)) all.0.1.rd all.0.1.phrase
 
+-- the Subrs that were read fit the shell that was read
 pub subrs_of_font : (c : ClearPieces) (p : PrivatePieces) (o : Option SubrsPieces) → IsReadSubrs p o → declared_count (option_map subrs_shell o) ≤ count_limit → SubrsFit (shell_of c p) (option_map subrs_shell o) (map_of (plain_entries p.len_iv (subrs_of o)))
 subrs_of_font c p None h few = (entries-map_of nat_cmp_total nat_cmp-IsAntisymmetric [], h)
 subrs_of_font c p (Some x) h few =
@@ -83,6 +84,7 @@ glyph_words : (iv : ℕ) (gs : List Glyph) → AllByRecursion (IsRead (IsWord 12
 glyph_words iv [] all some = absurd (true≢false (sym some))
 glyph_words iv (g ∷ gs) all some = (all.0.1.rd, all.0.1.phrase)
 
+-- the glyphs that were read are glyphs of a font
 pub glyphs_of_font : (c : ClearPieces) (p : PrivatePieces) → AllByRecursion (IsRead (IsWord 127) p.len_iv) p.glyphs → contains_key (font_of c p).glyphs notdef ≡ true → IsWithin (font_of c p) → AreGlyphs (shell_of c p) (map_of (glyph_entries p))
 glyphs_of_font c p h some within =
     let has = map_fits nat_list_cmp_total name_same (IsWord 127) p.len_iv p.glyphs h in
@@ -98,6 +100,7 @@ glyphs_of_font c p h some within =
 
 -- ---- the private text
 
+-- what is known of the private text
 pub record IsReadPrivate (c : ClearPieces) (p : PrivatePieces) : Type 0 where
   pub shell : IsPrivateShell (shell_of c p)
   pub private : AreBytes p.private
@@ -106,6 +109,7 @@ pub record IsReadPrivate (c : ClearPieces) (p : PrivatePieces) : Type 0 where
   pub subrs : IsReadSubrs p p.subrs
   pub glyphs : AllByRecursion (IsRead (IsWord 127) p.len_iv) p.glyphs
 
+-- the private text that bytes spell is that of a font
 pub private_of : (text : List ℕ) (c : ClearPieces) (p : PrivatePieces) → IsPrivate text p → AreBytes text → IsReadPrivate c p
 private_of text c p s h =
     let m = middle_of text p p.subrs s.before.start s.before.tables.tables h in
@@ -149,6 +153,7 @@ texts_bytes file clear text s h =
     let plain = parts_bytes (decrypted 55665 s.cipher) s.lead text (decrypted-is (s.lead ++ text) s.cipher 55665 s.secret) (decrypted_bytes s.cipher 55665 (omega arith) both.1) in
     (both.0, plain.1)
 
+-- what a file of bytes spells is a font
 pub spelled_font : (file : List ℕ) (f : FontValue) → AreBytes file → Spells file f → IsFont f
 spelled_font file f h s =
     let c = s.outside in
@@ -169,6 +174,7 @@ spelled_font file f h s =
       light = within.weight;
     })
 
+-- what is read of a file of bytes is a font
 pub read_is_font : (file : List ℕ) (f : FontValue) → AreBytes file → read_font file ≡ Ok f → IsFont f
 read_is_font file f h e = spelled_font file f h (reads file f e)
 
@@ -182,6 +188,7 @@ starts_head : (head rest : List ℕ) → starts_segment head ≡ starts_segment 
 starts_head [] rest = refl
 starts_head (b ∷ head) rest = refl
 
+-- the head of a font begins as its flat text does
 spelled_starts : (file flat : List ℕ) (f : FontValue) → IsFlat file flat → Spells file f → starts_segment f.shell.head ≡ starts_segment flat
 spelled_starts file flat f flat_is s =
     let t = s.pieces.texts in

@@ -27,10 +27,12 @@ meet (x ∷ a) b (y ∷ c) d e =
 
 -- ---- where no marker stands
 
+-- a marker that stands in no place of a text stands in none of its front
 pub NoneIn-left : {A : Type 0} (g : Grammar A) (a b c : List ℕ) → NoneIn g (a ++ b) c → NoneIn g a (b ++ c)
 NoneIn-left g [] b c h = tt
 NoneIn-left g (x ∷ a) b c h = (subst (λ (u : List ℕ). NotAtFront g (x ∷ u)) (append_assoc a b c) h.0, NoneIn-left g a b c h.1)
 
+-- a marker that stands in no place of a text stands in none of its end
 pub NoneIn-right : {A : Type 0} (g : Grammar A) (a b c : List ℕ) → NoneIn g (a ++ b) c → NoneIn g b c
 NoneIn-right g [] b c h = h
 NoneIn-right g (x ∷ a) b c h = NoneIn-right g a b c h.1
@@ -55,20 +57,24 @@ before_slash g moves a m b c e long none = elim (meet a (47 ∷ m) b c e) [
 pub fixed_text : (w a text rest : List ℕ) → (fixed w).Spells a text rest → text ≡ w
 fixed_text w a text rest s = s.0.0 ∙ sym ((bytes_eq-Decides w a).0 s.1)
 
+-- it begins with a slash
 abbrev pub Slash : List ℕ → Type 0
 Slash own = (r : List ℕ) × (own ≡ 47 ∷ r)
 
 slash : (w own front back : List ℕ) → own ≡ front ++ back → front ≡ 47 ∷ w → Slash own
 slash w own front back e f = (w ++ back, e ∙ ap (λ (u : List ℕ). u ++ back) f)
 
+-- the marker of the Encoding begins with a slash
 pub encoding_slash : (own rest : List ℕ) → encoding_marker.Spells tt own rest → Slash own
 unfolding encoding_marker
 encoding_slash own rest s = slash (codes "Encoding") own s.1 s.2 s.3 (fixed_text (codes "/Encoding") s.0 s.1 (s.2 ++ rest) s.4)
 
+-- the marker of Subrs begins with a slash
 pub subrs_slash : (declared : ℕ) (own rest : List ℕ) → subrs_marker.Spells declared own rest → Slash own
 unfolding subrs_marker
 subrs_slash declared own rest s = slash (codes "Subrs") own s.1 s.2 s.3 (fixed_text (codes "/Subrs") s.0 s.1 (s.2 ++ rest) s.4)
 
+-- the marker of CharStrings begins with a slash
 pub chars_slash : (own rest : List ℕ) → chars_marker.Spells tt own rest → Slash own
 unfolding chars_marker
 chars_slash own rest s = slash (codes "CharStrings") own s.1 s.2 s.3 (fixed_text (codes "/CharStrings") s.0 s.1 (s.2 ++ rest) s.4)
@@ -81,6 +87,7 @@ pub record IsMarker (own after : List ℕ) : Type 0 where
   pub some : has_bytes between ≡ true
   pub blank : blank_comes after ≡ true
 
+-- the marker of eexec has these parts
 pub marker_is : (marker own after : List ℕ) → eexec_marker.Spells marker own after → IsMarker own after
 unfolding eexec_marker gap
 marker_is marker own after s =
@@ -100,6 +107,7 @@ marker_is marker own after s =
 
 -- ---- no slash and no `d` stands in that
 
+-- neither a slash nor a `d`
 abbrev pub is_plain : ℕ → Bool
 is_plain b = not (eqb 47 b) && not (eqb 100 b)
 
@@ -123,10 +131,12 @@ plain_both : (a b : List ℕ) → ArePlain a → ArePlain b → ArePlain (a ++ b
 plain_both [] b h k = k
 plain_both (x ∷ a) b h k = (h.0, plain_both a b h.1 k)
 
+-- the end of such a text is such a text
 pub plain_right : (a b : List ℕ) → ArePlain (a ++ b) → ArePlain b
 plain_right [] b h = h
 plain_right (x ∷ a) b h = plain_right a b h.1
 
+-- the marker of eexec is such a text
 pub marker_plain : (own after : List ℕ) → IsMarker own after → ArePlain own
 marker_plain own after m = subst ArePlain (sym m.parts) (plain_both (codes "currentfile") (m.between ++ codes "eexec") (refl, (refl, (refl, (refl, (refl, (refl, (refl, (refl, (refl, (refl, (refl, tt)))))))))))
     (plain_both m.between (codes "eexec") (whites_plain m.between m.white) (refl, (refl, (refl, (refl, (refl, tt)))))))

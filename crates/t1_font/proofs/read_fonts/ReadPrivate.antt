@@ -18,6 +18,7 @@ use Rattle.t1_font.proofs.read_fonts.ReadMarkers.{lacks_none, before_slash, subr
 
 -- ---- what stops a word
 
+-- what stops a word stops it whatever stands behind
 pub stops_front : (a b : List ℕ) → Stops is_regular (a ++ b) → Stops is_regular a
 stops_front [] b s = tt
 stops_front (x ∷ a) b s = s
@@ -37,6 +38,7 @@ subrs_stops : (p text rest : List ℕ) → subrs_end.Spells p text rest → Stop
 unfolding subrs_end
 subrs_stops p text rest s = phrase_stops (passes false) p s.2 rest s.5
 
+-- the end of the glyphs ends a word
 pub glyphs_stops : (p text rest : List ℕ) → glyphs_end.Spells p text rest → Stops is_regular rest
 unfolding glyphs_end keyword
 glyphs_stops p text rest s = s.5.0.2
@@ -64,6 +66,7 @@ not_before text private m e (later front declared after s long) =
     let t = s.2 in
     before_slash subrs_marker subrs_moves private m front (t.0 ++ after) (sym e ∙ (s.1 ∙ (ap (λ (u : List ℕ). u ++ after) t.1 ∙ append_assoc front t.0 after))) long t.3
 
+-- no marker of tables stands before the one that was read
 pub started : (text private : List ℕ) (declared : Option ℕ) (rest : List ℕ) → Start text private declared rest → IsStarted text private rest
 started text private None rest s =
     let c = s.0.2 in
@@ -118,10 +121,12 @@ pub record IsReadMiddle (p : PrivatePieces) (o : Option SubrsPieces) (glyphs : L
   pub middle : AreBytes p.middle
   pub after : AreBytes glyphs
 
+-- what is known of the Subrs, or of their absence
 abbrev pub IsReadSubrs : PrivatePieces → Option SubrsPieces → Type 0
 IsReadSubrs p None = p.middle ≡ []
 IsReadSubrs p (Some s) = AllByRecursion (IsRead (λ i. i < s.declared) p.len_iv) s.entries × IsPhrase false s.closing
 
+-- what bytes spell up to the glyphs is that of a font
 pub middle_of : (text : List ℕ) (p : PrivatePieces) (o : Option SubrsPieces) (glyphs : List ℕ) → SpellsTables text p o glyphs → AreBytes text → IsReadMiddle p o glyphs × IsReadSubrs p o
 middle_of text p None glyphs s h =
     let a = started text p.private None glyphs s.0 in

@@ -103,9 +103,11 @@ canon_is form =
     (λ i. file_text form (clear_written (outside_of shell (Puts (entries-from_sorted nat_cmp puts tt i)))) (private_cipher (private_written (inside_of shell (entries-from_sorted nat_cmp subrs tt i) (entries-from_sorted name_cmp glyphs tt i)))))
     ∙ (λ i. file_text form (clear_is i) (private_cipher (private_is i)))
 
+-- the canonical PFA of Tiny is this file
 pub tiny_pfa : canon tiny Pfa ≡ pfa
 tiny_pfa = canon_is Pfa ∙ written_pfa
 
+-- the canonical PFB of Tiny is this file
 pub tiny_pfb : canon tiny Pfb ≡ pfb
 tiny_pfb = canon_is Pfb ∙ written_pfb
 
