@@ -62,6 +62,7 @@ three_pieces start first second third a b c h k l m =
     let all : third ≡ (([] ++ a) ++ b) ++ c = cc in
     all
 
+-- the lines of parts are those of what the parts stand for
 pub flat_map_placed : {X Y : Type 0} (f : Y → List ℕ) (g : X → Y) (xs : List X) → flat_map (λ x. f (g x)) xs ≡ flat_map f (map g xs)
 flat_map_placed f g [] = refl
 flat_map_placed f g (x ∷ xs) = ap (λ (t : List ℕ). f (g x) ++ t) (flat_map_placed f g xs)

@@ -23,6 +23,7 @@ as_input bytes text r e h = by (nat_lt file_limit (length bytes)) refl e
     by true t k = cc k
     by false t k = rw t (ap listed (ap (λ (x : Result (List ℕ) Reason). result_unwrap_or x []) k) ∙ h)
 
+-- an input whose text spells a listing says it
 pub says : (i : Input) (text : List ℕ) (l : ListingMeaning) → IfSome i.known (λ bytes. text_input bytes ≡ Ok text) → listed text ≡ Ok l → IfSome i.known (λ bytes. listing_input bytes ≡ Ok l)
 says i text l known h = by i.known known
   where
@@ -30,6 +31,7 @@ says i text l known h = by i.known known
     by None k = tt
     by (Some bytes) k = as_input bytes text (Ok l) k h
 
+-- an input whose text is refused is refused for the same reason
 refuses : (i : Input) (text : List ℕ) (r : Reason) → IfSome i.known (λ bytes. text_input bytes ≡ Ok text) → listed text ≡ Err r → IfSome i.known (λ bytes. listing_input bytes ≡ Err r)
 refuses i text r known h = by i.known known
   where
@@ -61,6 +63,7 @@ pub joins_read : {V : Type 0} (view : V → List ℕ) (i : Input) (left right : 
 joins_read view i left right (Ok v) h said = (right, said, h)
 joins_read view i left right (Err e) h said = tt
 
+-- a listing that is refused together with that of an input stops the engine
 pub refused_read : {V : Type 0} (i : Input) (left right : ListingMeaning) (r : Result V RunFault) → IfErr r (λ e. (fault : JoinFault) × (IsJoinFault left right fault × (e ≡ Refused (join_reason fault)))) → IfSome i.known (λ bytes. listing_input bytes ≡ Ok right) → IfErr r (StopsRead i left)
 refused_read i left right (Ok v) h said = tt
 refused_read i left right (Err e) h said = inr (right, said, join_reason h.0, (h.0, h.1.0, refl), h.1.1)

@@ -60,6 +60,7 @@ apart_at : (fs : List FontValue) (j : FontValue) (e : Refusal) → ComesTo fs j 
 apart_at [] j e h s t = h
 apart_at (f ∷ fs) j e h s t = ⊎_elim (λ m. is_memory e m t) (λ s. joined_or_refused f fs j e h s t) s
 
+-- fonts that merge are refused for want of memory alone
 pub merges_apart : (form : Form) (fs : List FontValue) (text : List ℕ) (r : Reason) → MergesTo form fs (Ok text) → MergesTo form fs (Err r) → r ≡ Memory
 merges_apart form fs text TooLong h k = absurd k
 merges_apart form fs text Memory h k = refl
@@ -95,5 +96,6 @@ answer_stops Answers is fs (Refused (Merge f)) h s = stops_together font_input A
 answer_stops Answers is fs Read h s = absurd s
 answer_stops Answers is fs Write h s = absurd s
 
+-- equal successes have equal texts
 pub same_text : (x y : List ℕ) → ◌≡◌ {A = Result (List ℕ) Reason} (Ok x) (Ok y) → y ≡ x
 same_text x y e = cc

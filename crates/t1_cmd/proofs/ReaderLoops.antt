@@ -18,6 +18,7 @@ module _ {X : Type 0} (remaining : X → Option (List ℕ)) where
   abbrev pub Says : Counted X → FontValue → Type 0
   Says r f = IfSome (remaining (inner_of r)) (λ bytes. font_input bytes ≡ Ok f)
 
+  -- a reader was called no more often than one input may take
   abbrev pub InTurn : Counted X → Counted X → Type 0
   InTurn old new = calls_of new ≤ calls_of old + (file_limit + 1)
 
@@ -33,6 +34,7 @@ module _ {X : Type 0} (remaining : X → Option (List ℕ)) where
   first_next [] r x f l e s t = absurd (omega (arith, l))
   first_next (o ∷ os) r x f l e s t = (subst (λ r. Says r f) e s, subst (λ r. InTurn r x) e t, (refl, refl))
 
+  -- one more reader said its font
   pub next : (i : ℕ) (os ns : List (Counted X)) (fs : List FontValue) (r x : Counted X) (f : FontValue) → SoFar i os ns fs → i < length ns → r ≡ get_or ns i r → Says r f → InTurn r x → SoFar (suc i) os (set ns i x) (fs ++ f ∷ [])
   next zero os ns fs r x f h l e s t =
       subst (λ ns. SoFar 1 os (set ns 0 x) (fs ++ f ∷ [])) (sym h.0) (subst (λ fs. SoFar 1 os (set os 0 x) (fs ++ f ∷ [])) (sym h.1)
@@ -42,6 +44,7 @@ module _ {X : Type 0} (remaining : X → Option (List ℕ)) where
   next (suc i) (o ∷ os) (n ∷ ns) [] r x f h l e s t = absurd h
   next (suc i) (o ∷ os) (n ∷ ns) (g ∷ fs) r x f h l e s t = (h.0, h.1, next i os ns fs r x f h.2 (omega (arith, l)) e s t)
 
+  -- the same, as code counts the place
   pub goes_on : (i : ℕ) (os ns : List (Counted X)) (fs : List FontValue) (r x : Counted X) (f : FontValue) → SoFar i os ns fs → i < length ns → r ≡ get_or ns i r → Says r f → InTurn r x → SoFar (i + 1) os (set ns i x) (fs ++ f ∷ [])
   goes_on i os ns fs r x f h l e s t = let more : suc i ≡ i + 1 = omega arith in subst (λ k. SoFar k os (set ns i x) (fs ++ f ∷ [])) more (next i os ns fs r x f h l e s t)
 
@@ -51,6 +54,7 @@ module _ {X : Type 0} (remaining : X → Option (List ℕ)) where
   first_stops P [] r x l e p = absurd (omega (arith, l))
   first_stops P (o ∷ os) r x l e p = inl (subst (λ r. P (input_of remaining r x)) e p)
 
+  -- a reader with a fact is the first, since those before it are understood
   pub first_with : (P : Input → Type 0) (i : ℕ) (os ns : List (Counted X)) (fs : List FontValue) (r x : Counted X) → SoFar i os ns fs → i < length ns → r ≡ get_or ns i r → P (input_of remaining r x) → FirstWith font_input P (inputs_of remaining os (set ns i x))
   first_with P zero os ns fs r x h l e p =
       subst (λ ns. FirstWith font_input P (inputs_of remaining os (set ns 0 x))) (sym h.0) (first_stops P os r x (subst (λ ns. 0 < length ns) h.0 l) (e ∙ ap (λ ns. get_or ns 0 r) h.0) p)
@@ -59,6 +63,7 @@ module _ {X : Type 0} (remaining : X → Option (List ℕ)) where
   first_with P (suc i) (o ∷ os) (n ∷ ns) [] r x h l e p = absurd h
   first_with P (suc i) (o ∷ os) (n ∷ ns) (f ∷ fs) r x h l e p = inr (says_understood font_input (input_of remaining o n) f h.0, first_with P i os ns fs r x h.2 (omega (arith, l)) e p)
 
+  -- what stops a reader stops the reading of all
   pub stops : (i : ℕ) (os ns : List (Counted X)) (fs : List FontValue) (r x : Counted X) (e : RunFault) → SoFar i os ns fs → i < length ns → r ≡ get_or ns i r → InputStops font_input (input_of remaining r x) e → InputsStop font_input (inputs_of remaining os (set ns i x)) e
   stops i os ns fs r x (Refused TooLong) h l e s = first_with (IsRefused font_input TooLong) i os ns fs r x h l e s
   stops i os ns fs r x (Refused Memory) h l e s = tt
@@ -80,6 +85,7 @@ module _ {X : Type 0} (remaining : X → Option (List ℕ)) where
   first_turns [] r x e t = tt
   first_turns (o ∷ os) r x e t = (subst (λ r. InTurn r x) e t, still os)
 
+  -- each reader so far kept its turns
   pub turns_at : (i : ℕ) (os ns : List (Counted X)) (fs : List FontValue) (r x : Counted X) → SoFar i os ns fs → r ≡ get_or ns i r → InTurn r x → InTurns os (set ns i x)
   turns_at zero os ns fs r x h e t = subst (λ ns. InTurns os (set ns 0 x)) (sym h.0) (first_turns os r x (e ∙ ap (λ ns. get_or ns 0 r) h.0) t)
   turns_at (suc i) [] ns fs r x h e t = absurd h
@@ -93,6 +99,7 @@ module _ {X : Type 0} (remaining : X → Option (List ℕ)) where
   none_left [] l = tt
   none_left (o ∷ os) l = absurd (omega (arith, l))
 
+  -- behind the last reader all fonts are said
   pub all_said : (i : ℕ) (os ns : List (Counted X)) (fs : List FontValue) → SoFar i os ns fs → length ns ≤ i → Say font_input (inputs_of remaining os ns) fs
   all_said zero os ns fs h l = subst (λ ns. Say font_input (inputs_of remaining os ns) fs) (sym h.0) (subst (λ fs. Say font_input (inputs_of remaining os os) fs) (sym h.1) (none_left os (subst (λ ns. length ns ≤ 0) h.0 l)))
   all_said (suc i) [] ns fs h l = absurd h
@@ -100,6 +107,7 @@ module _ {X : Type 0} (remaining : X → Option (List ℕ)) where
   all_said (suc i) (o ∷ os) (n ∷ ns) [] h l = absurd h
   all_said (suc i) (o ∷ os) (n ∷ ns) (f ∷ fs) h l = (h.0, all_said i os ns fs h.2 (omega (arith, l)))
 
+  -- and all readers kept their turns
   pub all_turns : (i : ℕ) (os ns : List (Counted X)) (fs : List FontValue) → SoFar i os ns fs → InTurns os ns
   all_turns zero os ns fs h = subst (λ ns. InTurns os ns) (sym h.0) (still os)
   all_turns (suc i) [] ns fs h = absurd h

@@ -28,6 +28,7 @@ light_or_heavy [] l h = h
 light_or_heavy (f ∷ fs) l (inl h) = omega (arith, l.0, h)
 light_or_heavy (f ∷ fs) l (inr h) = light_or_heavy fs l.1 h
 
+-- fonts that rejoin are refused for want of memory alone
 pub rejoins_apart : (form : Form) (fs : List FontValue) (text : List ℕ) (r : Reason) → RejoinsTo form fs (Ok text) → RejoinsTo form fs (Err r) → r ≡ Memory
 rejoins_apart form fs text r (inl a) (inl b) = merges_apart form (evened fs) text r a.1 b.1
 rejoins_apart form fs text r (inl a) (inr b) = absurd (light_or_heavy (evened fs) a.0 b.0)
@@ -69,6 +70,7 @@ rejoined_so : (form : Form) (fs : List FontValue) (text : List ℕ) → evened f
 rejoined_so form fs text is light h answer (inl a) = one_answer form fs text h answer (subst (λ (gs : List FontValue). MergesTo form gs answer) is a.1)
 rejoined_so form fs text is light h answer (inr a) = absurd (light_or_heavy fs light (subst AnyHeavy is a.0))
 
+-- fonts without tags that merge to a file rejoin to it, and to nothing else
 pub rejoins_what_merges : RejoinsWhatMerges
 rejoins_what_merges form fs text fonts u h =
     let is = even_already fs h.0 u h.1 in

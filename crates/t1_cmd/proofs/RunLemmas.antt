@@ -24,6 +24,7 @@ module _ {A : Type 0} (understand : List ℕ → Result A Reason) where
   ok_is_ok : (r : Result A Reason) (x : A) → r ≡ Ok x → IsOk r
   ok_is_ok r x e = subst IsOk (sym e) refl
 
+  -- an input that says a value is understood
   pub says_understood : (i : Input) (x : A) → Says i x → Understood understand i
   says_understood i x h = by i.known h
     where
@@ -31,6 +32,7 @@ module _ {A : Type 0} (understand : List ℕ → Result A Reason) where
       by None h = tt
       by (Some b) h = ok_is_ok (understand b) x h
 
+  -- inputs that say values are all understood
   pub all_understood : (is : List Input) (xs : List A) → Say understand is xs → AllUnderstood understand is
   all_understood [] [] h = tt
   all_understood [] (x ∷ xs) h = absurd h
@@ -53,6 +55,7 @@ module _ {A : Type 0} (understand : List ℕ → Result A Reason) where
       by None h v k = tt
       by (Some b) h v k = one (understand b) v h k
 
+  -- what holds of the values that inputs say holds where all are known
   pub values_have : (P : List A → Type 0) (is : List Input) (xs : List A) → Say understand is xs → P xs → IfSome (values_of understand is) P
   values_have P is xs h p = by (values_of understand is) (values_are is xs h)
     where

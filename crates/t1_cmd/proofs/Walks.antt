@@ -54,6 +54,7 @@ module _ {X : Type 0} where
       ∙ m
       ∙ (λ i. cond (sym q i) (e ∷ under n es) (under n es) ++ entry_at n (cond (is_eq (sym u i)) (Some e.1) (find nat_cmp n es)))
 
+  -- the same behind one more entry, by how n and its key stand
   under_by : (n : ℕ) (e : ℕ × X) (es : List (ℕ × X)) → below_all nat_cmp e.0 es ≡ true → under (n + 1) es ≡ under n es ++ entry_at n (find nat_cmp n es) → (r : Ordering) → nat_cmp n e.0 ≡ r → under (n + 1) (e ∷ es) ≡ under n (e ∷ es) ++ entry_at n (find nat_cmp n (e ∷ es))
   under_by n e es above rest Less u =
       let l : n < e.0 = ranked n e.0 Less (sym u) in
@@ -68,6 +69,7 @@ module _ {X : Type 0} where
       let l : e.0 < n = ranked n e.0 Greater (sym u) in
       under_step n e es true true Greater (lt-ltb e.0 (n + 1) (omega arith)) (lt-ltb e.0 n (omega arith)) u (ap (λ fs. e ∷ fs) rest)
 
+  -- the entries below n + 1 are those below n and the one at n
   pub under_more : (n : ℕ) (es : List (ℕ × X)) → is_sorted nat_cmp es ≡ true → under (n + 1) es ≡ under n es ++ entry_at n (find nat_cmp n es)
   under_more n [] h = refl
   under_more n (e ∷ es) h =
@@ -90,12 +92,15 @@ module _ (m : FinMap nat_cmp (List ℕ)) where
   sorted : is_sorted nat_cmp (entries m) ≡ true
   sorted = T_true (is_sorted nat_cmp (entries m)) (entries_sorted m)
 
+  -- the same of the entries of a map
   pub entries_more : (n : ℕ) → under (n + 1) (entries m) ≡ under n (entries m) ++ entry_at n (get m n)
   entries_more n = under_more n (entries m) sorted ∙ ap (λ o. under n (entries m) ++ entry_at n o) (sym (get-entries m n))
 
+  -- no entry is below 0
   pub entries_none : under 0 (entries m) ≡ []
   entries_none = none_below_zero (entries m)
 
+  -- if all keys are below n, the entries below n are all
   pub entries_under : (n : ℕ) → ((k : ℕ) (v : List ℕ) → get m k ≡ Some v → k < n) → under n (entries m) ≡ entries m
   entries_under n h = all_under n (entries m) (entries_all nat_cmp_total nat_cmp-IsAntisymmetric (λ k v. k < n) m h)
 
@@ -108,15 +113,18 @@ module _ (m : FinMap nat_cmp (List ℕ)) where
     one_line n None = refl
     one_line n (Some v) = append-nil (line n v)
 
+    -- no line is below 0
     pub lines_none : lines_under 0 ≡ []
     lines_none = ap (flat_map (λ e. line e.0 e.1)) entries_none
 
+    -- the lines below n + 1 are those below n and the one of n
     pub lines_more : (n : ℕ) → lines_under (n + 1) ≡ lines_under n ++ line_at line n (get m n)
     lines_more n =
         ap (flat_map (λ e. line e.0 e.1)) (entries_more n)
         ∙ flat_map-append (λ e. line e.0 e.1) (under n (entries m)) (entry_at n (get m n))
         ∙ ap (λ (t : List ℕ). lines_under n ++ t) (one_line n (get m n))
 
+    -- if all keys are below n, the lines below n are all
     pub lines_all : (n : ℕ) → ((k : ℕ) (v : List ℕ) → get m k ≡ Some v → k < n) → lines_under n ≡ flat_map (λ e. line e.0 e.1) (entries m)
     lines_all n h = ap (flat_map (λ e. line e.0 e.1)) (entries_under n h)
 
@@ -126,6 +134,7 @@ module _ {K : Type 0} (line : K → List ℕ → List ℕ) where
   looked_up look [] h = refl
   looked_up look (e ∷ es) h = (λ i. line_at line e.0 (h.0 i) ++ looked_up look es h.1 i)
 
+  -- the lines of the keys of a map, each looked up, are the lines of its entries
   pub keys_looked_up : {R : K → K → Ordering} → IsTotalOrder R → IsAntisymmetric R → (m : FinMap R (List ℕ)) → flat_map (λ k. line_at line k (get m k)) (map (λ e. e.0) (entries m)) ≡ flat_map (λ e. line e.0 e.1) (entries m)
   keys_looked_up o same m = looked_up (get m) (entries m) (entries_all o same (λ k v. get m k ≡ Some v) m (λ k v e. e))
 
@@ -143,12 +152,15 @@ length_entry : {X : Type 0} (n : ℕ) (o : Option X) → length (entry_at n o) �
 length_entry n None = refl
 length_entry n (Some x) = refl
 
+-- a font has as many names as glyphs
 pub names_length : (m : Named) → length (names_in m) ≡ len m
 names_length m = length-map (entries m) (λ e. e.0) ∙ sym (len-entries m)
 
+-- no Subr is below 0
 pub count_none : (m : Numbered) → count_under 0 m ≡ 0
 count_none m = ap length (entries_none m)
 
+-- one index more counts if its Subr is present
 pub count_more : (m : Numbered) (n : ℕ) → count_under (n + 1) m ≡ count_under n m + cond (contains_key m n) 1 0
 count_more m n = ap length (entries_more m n) ∙ length-append (under n (entries m)) (entry_at n (get m n)) ∙ ap (λ k. count_under n m + k) (length_entry n (get m n))
 
@@ -159,12 +171,15 @@ declared f is n l k v e =
     let below : k < declared_count f.shell.subrs = subrs_below f k some in
     omega arith
 
+-- at the declared count all Subrs are counted
 pub count_all : (f : FontValue) → IsFont f → (n : ℕ) → declared_count f.shell.subrs ≤ n → count_under n f.subrs ≡ len f.subrs
 count_all f is n l = ap length (entries_under f.subrs n (declared f is n l)) ∙ sym (len-entries f.subrs)
 
+-- the lines of one index more
 pub subrs_more : (f : FontValue) → IsFont f → (n : ℕ) → lines_under f.subrs subr_line (n + 1) ≡ lines_under f.subrs subr_line n ++ line_at subr_line n (subr_at f n)
 subrs_more f is n = lines_more f.subrs subr_line n ∙ ap (λ o. lines_under f.subrs subr_line n ++ line_at subr_line n o) (sym (subrs_seen f is n))
 
+-- at the declared count all Subrs have their lines
 pub subrs_all : (f : FontValue) → IsFont f → (n : ℕ) → declared_count f.shell.subrs ≤ n → lines_under f.subrs subr_line n ≡ flat_map (λ e. subr_line e.0 e.1) (entries f.subrs)
 subrs_all f is n l = lines_all f.subrs subr_line n (declared f is n l)
 
@@ -175,22 +190,27 @@ abbrev pub codes_under : Encoding → ℕ → List ℕ
 codes_under (Word w) n = []
 codes_under (Codes m) n = lines_under m code_line n
 
+-- no code is below 0
 pub codes_none : (e : Encoding) → codes_under e 0 ≡ []
 codes_none (Word w) = refl
 codes_none (Codes m) = lines_none m code_line
 
+-- the lines of one code more
 pub codes_more : (e : Encoding) (n : ℕ) → codes_under e (n + 1) ≡ codes_under e n ++ line_at code_line n (name_at e n)
 codes_more (Word w) n = refl
 codes_more (Codes m) n = lines_more m code_line n
 
+-- at 256 all codes have their lines
 pub codes_all : (e : Encoding) → IsEncoding e → word_of e ≡ None → (n : ℕ) → 256 ≤ n → codes_under e n ≡ encoding_lines e
 codes_all (Word w) is h n l = absurd cc
 codes_all (Codes m) is h n l = lines_all m code_line n (λ k v e. let few : k ≤ 255 = (is k v e).code in omega arith)
 
 -- ---- texts that grow
 
+-- a text without more stays
 pub nothing_more : (text more : List ℕ) → more ≡ [] → text ≡ text ++ more
 nothing_more text more h = sym (ap (λ (t : List ℕ). text ++ t) h ∙ append-nil text)
 
+-- a line that is added to a text is added to what was written since its start
 pub line_more : (start before after now line next : List ℕ) → before ≡ start ++ now → after ≡ before ++ line → next ≡ now ++ line → after ≡ start ++ next
 line_more start before after now line next h k m = k ∙ ap (λ (t : List ℕ). t ++ line) h ∙ append_assoc start now line ∙ ap (λ (t : List ℕ). start ++ t) (sym m)

@@ -108,6 +108,7 @@ some_failed : (is : List Input) → FirstWith font_input HasFailed is → SomeFa
 some_failed [] d = d
 some_failed (i ∷ is) d = ⊎_elim (λ x. inl x) (λ x. inr (some_failed is x.1)) d
 
+-- an engine that ends as merging does writes the subset over all the names, for written subsets of one font
 pub writes_union : {W : Type 0} (contents : W → Option (List ℕ)) (form : Form) (is : List Input) (w v : Counted W) (result : Result (Unit {0}) RunFault) → RunEnds font_input (MergesTo form) contents is w v result → WritesUnion contents form is w v result
 writes_union contents form is w v (Ok u) ends f h a more s =
     let d = of_known f h form a more is s (λ values. (text : List ℕ) × MergesTo form values (Ok text) × Appends (contents (inner_of w)) (contents (inner_of v)) text) ends.1 in
