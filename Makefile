@@ -18,7 +18,7 @@ uninstall:
 test:
 	.ci/run
 
-# The wrong bodies that the gate doesn't try; before a release, and after a change of a contract.
+# The wrong bodies that the gate doesn't try: before a release, and after a contract changes.
 wrong-bodies:
 	tools/wrong_bodies.py $(CRATES)
 

@@ -23,7 +23,7 @@ def binary(private):
 
 
 def entry(start, plain, lead, end):
-    """An entry of a table: its charstring behind so many lead bytes, encrypted."""
+    """An entry of a table: its charstring behind this many lead bytes, encrypted."""
     return start + b" %d RD " % (lead + len(plain)) + ciphered(bytes(lead) + plain, 4330) + end
 
 
@@ -33,7 +33,7 @@ def program():
 
 
 def cost(words):
-    """Processor seconds, peak kilobytes, and the first line that is printed where a word is refused, else nothing."""
+    """Processor seconds, peak kilobytes, and the first line that is printed if a word is refused, else nothing."""
     done = subprocess.run(
         ["/usr/bin/time", "-f", "%U %S %M"] + words, stdout=subprocess.DEVNULL, stderr=subprocess.PIPE, text=True
     )

@@ -2,11 +2,11 @@
 # Joins two PostScript documents, each with its own subset of one font, into one document with one font.
 #
 # usage: examples/join-documents.sh [FONT [FOLDER]]
-# FONT is a Type 1 font with the glyphs of the two texts below, else one of Debian's package fonts-urw-base35.
-# FOLDER takes the documents and the images of their pages, else out/join-documents.
+# FONT is a Type 1 font with the glyphs of the two texts below, by default one of Debian's package fonts-urw-base35.
+# FOLDER gets the documents and the images of their pages, by default out/join-documents.
 #
-# A document that carried both subsets under their one name would draw with the last of them alone, and lack glyphs.
-# The merged font has the glyphs of both, so each page of the joined document has the very image that it had before.
+# A document that carried both subsets under their common name would draw with the last of them, and lack glyphs.
+# The merged font has the glyphs of both, so each page of the joined document has exactly the image that it had before.
 set -eu
 export LC_ALL=C
 
@@ -60,7 +60,7 @@ between() {
 
 mkdir -p "$folder"
 
-# Two programs write a document each, without knowledge of the other.
+# Two programs write a document each, and neither knows of the other.
 for text in 'one F i r s t space p a g e' 'two S e c o n d space p a g e'; do
     set -- $text
     this=$folder/$1

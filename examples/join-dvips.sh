@@ -2,10 +2,10 @@
 # Joins two documents of TeX and dvips, each with its own subset of one font, into one document with one font.
 #
 # usage: examples/join-dvips.sh [FONT [FOLDER]]
-# FONT is TeX's name of a font whose program is Type 1, else cmr10. FOLDER takes the documents and the images of their
-# pages, else out/join-dvips.
+# FONT is TeX's name of a font whose program is Type 1, by default cmr10. FOLDER gets the documents and the images of
+# their pages, by default out/join-dvips.
 #
-# dvips puts no Subrs behind the last one that a document uses, so its subsets of one font don't merge as they are:
+# dvips declares no Subrs after the last one that a document uses, so its subsets of one font don't merge as they are:
 # `rejoin` makes them even first. Needs Debian's packages texlive-base, texlive-binaries and ghostscript.
 set -eu
 export LC_ALL=C
@@ -24,20 +24,20 @@ for tool in tex dvips gs; do
     command -v "$tool" >/dev/null || missing "$tool" 'run `apt-get install texlive-base texlive-binaries ghostscript`'
 done
 
-# between FIRST LAST DOCUMENT: the lines after the first comment and before the next of the last.
+# between FIRST LAST DOCUMENT: the lines after the first comment FIRST and before the next comment LAST.
 between() {
     awk -v first="%%$1" -v last="%%$2" \
         'inside && index($0, last) == 1 { exit } inside { print } index($0, first) == 1 { inside = 1 }' "$3"
 }
 
-# A font as it stands in a document: where its head begins with a test whether FontDirectory has it, which leaves a truth
-# on the stack, the word after `cleartomark` takes that away. It is no part of the font, so it has to be put back.
+# A font as it stands in a document. If its head begins by testing whether FontDirectory has it, which leaves a boolean on
+# the stack, the words after `cleartomark` consume that boolean. They are not part of the font, so they have to be put back.
 font_text() {
     cat "$1"
     if grep -q '^FontDirectory/' "$1"; then echo '{restore}if'; fi
 }
 
-# page NUMBER DOCUMENT: a document's page, its own sizes and fonts of TeX set up before it.
+# page NUMBER DOCUMENT: a document's page, after the setup of its own TeX sizes and fonts.
 page() {
     echo "%%Page: $1 $1"
     echo '%%BeginPageSetup'
@@ -49,7 +49,7 @@ page() {
 mkdir -p "$folder"
 cd "$folder"
 
-# Two runs of TeX, each of which knows nothing of the other.
+# Two runs of TeX, neither of which knows of the other.
 for text in 'one The first of two pages' 'two Quite another one, by 7 & 8'; do
     name=${text%% *}
     printf '\\nopagenumbers \\font\\x=%s \\x %s\\bye\n' "$font" "$(echo "${text#* }" | sed 's/&/\\&/')" >"$name.tex"
@@ -76,7 +76,7 @@ echo "joined.ps carries a font: $("$program" check joined.pfa)"
     echo '%%EOF'
 } >joined.ps
 
-# What stands on the stack after the document would be there for the next one.
+# What the document leaves on the stack would still be there for the next document.
 {
     cat joined.ps
     echo 'count 0 ne { (the joined document leaves something on the stack\n) print quit } if'

@@ -1,11 +1,11 @@
 #!/usr/bin/env python3
-"""Cuts real fonts by dvips, pdfTeX and Ghostscript, and looks how many pairs of their subsets rejoin.
+"""Cuts real fonts by dvips, pdfTeX and Ghostscript, and counts how many pairs of their subsets rejoin.
 
-usage: tools/rejoin_producers.py [FONTS]    FONTS is how many fonts are tried, 120 unless said
+usage: tools/rejoin_producers.py [FONTS]    FONTS is how many fonts are tried, by default 120
 
-Each font of TeX's map whose program is installed is set in two documents, with other characters in each. Of each pair
-`merge` and `rejoin` are tried; FreeType then draws each glyph of the rejoined font, at 1,000 units and without hints, and
-it has to have the parent's outline and advance.
+Each font of TeX's map whose program is installed is set in two documents with different characters. `merge` and `rejoin`
+are tried on each pair of subsets. FreeType then draws each glyph of the rejoined font, at 1,000 units and without hints,
+which has to have the parent's outline and advance.
 
 Needs the program (bin/t1subset, or T1SUBSET), and Debian's packages texlive-binaries, texlive-base,
 texlive-fonts-recommended, cm-super-minimal, lmodern, tex-gyre, ghostscript and python3-freetype.
@@ -91,7 +91,7 @@ PRODUCERS = {"dvips": by_dvips, "ps2write": by_ghostscript, "pdfTeX": by_pdftex}
 
 
 def joined(folder, word, parts):
-    """What a word answers of two fonts: nothing, or the reason."""
+    """What a word says of two fonts: nothing, or the reason of a refusal."""
     for name, part in zip(("one", "two"), parts):
         with open(os.path.join(folder, name), "wb") as f:
             f.write(part)
@@ -106,7 +106,7 @@ def outline(face, index):
 
 
 def draws_as(path, parent):
-    """Whether FreeType draws each glyph of a font as its parent's, and how many there are."""
+    """Whether FreeType draws each glyph of a font as in its parent, and how many glyphs there are."""
     font, whole = freetype.Face(path), freetype.Face(parent)
     names = [font.get_glyph_name(i) for i in range(font.num_glyphs)]
     same = all(outline(font, i) == outline(whole, whole.get_name_index(n)) for i, n in enumerate(names))
@@ -114,7 +114,7 @@ def draws_as(path, parent):
 
 
 def halves(name):
-    """Two sets of codes, some of them in both, that are the same in each run."""
+    """Two overlapping sets of codes, the same in each run."""
     codes = sorted(set(characters(name)))
     chosen = random.Random(name)
     return [sorted(chosen.sample(codes, min(len(codes), 12))) for _ in range(2)]

@@ -1,5 +1,5 @@
 #!/usr/bin/env python3
-"""Draws glyphs of a font as SVG, from what `t1subset show` says, so that two fonts can be compared by eye.
+"""Draws glyphs of a font as SVG, from what `t1subset show` prints, so that two fonts can be compared by eye.
 
 usage: tools/specimen.py [--program PROGRAM] [--columns N] FONT [NAME...] > specimen.svg
 Without a NAME it draws all glyphs of the font. A glyph that can't be drawn is a crossed box with its fault.
@@ -17,7 +17,7 @@ WIDTH, HEIGHT, BASELINE, MARGIN, LETTERS = 1200, 1500, 1000, 100, 90
 
 
 def shown(program, words):
-    """The lines that the program prints, split into words; it has to end well."""
+    """The lines that the program prints, split into words; it has to succeed."""
     done = subprocess.run([program, *words], capture_output=True, check=False)
     if done.returncode:
         sys.exit(done.stderr.decode("ascii", "backslashreplace").strip())
@@ -25,7 +25,7 @@ def shown(program, words):
 
 
 def spelled(name):
-    """A name as the program prints it, as the word that asks for it."""
+    """The word that asks for a name, from the name as the program prints it."""
     return re.sub(r"\\x([0-9a-f]{2})", lambda code: chr(int(code.group(1), 16)), name)
 
 

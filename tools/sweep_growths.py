@@ -1,12 +1,12 @@
 #!/usr/bin/env python3
-"""Refuses each growth in turn, upwards until a run meets none, over what `rt ci` built.
+"""Refuses one growth after another in what `rt ci` built, until a run meets no refused growth.
 
-In each crate a test `growths` makes every call that grows, and makes it again where it answers want of memory: so each
-run of it has to end well. A test `no_growth` makes calls that take no memory, and ends well with every growth refused.
-A word of the program answers right, or that it is out of memory with nothing written. A call that grows and is named
-in no such test is a fault, and so is a sweep that met no growth.
+In each crate a test `growths` makes every call that grows, and repeats it if it answers want of memory, so each run of
+it has to end well. A test `no_growth` makes calls that take no memory, and ends well with every growth refused. A word
+of the program gives the right answer, or says that it is out of memory and has written nothing. A call that grows and
+is in no such test is a fault, and so is a sweep that met no growth.
 
-usage: tools/sweep_growths.py    wants a C compiler
+usage: tools/sweep_growths.py    needs a C compiler
 """
 import collections
 import glob
@@ -59,8 +59,8 @@ line 150 0
 close
 """
 
-# The words; what they write (None: anything); the file that they write it to (None: standard output); the line by
-# which they are refused, with memory or without it.
+# The words; what they write (None: anything); the file that they write to (None: standard output); the line with
+# which they are refused, with or without memory.
 Case = collections.namedtuple("Case", "words want out refusal", defaults=(None, None))
 
 
@@ -75,7 +75,7 @@ class Shim:
         subprocess.run([compiler, "-shared", "-fPIC", "-O1", "-o", self.path, source, "-ldl"], check=True)
 
     def run(self, words, number):
-        """The finished process, and whether it met the growth that is refused: of this number, or `all`."""
+        """The finished process, and whether it met the refused growth: the one with this number, or `all`."""
         flag = os.path.join(self.folder, f"refused-{os.getpid()}-{number}-{id(words)}")
         env = dict(os.environ, LD_PRELOAD=self.path, REFUSE_AT=str(number), REFUSED_FLAG=flag)
         done = subprocess.run(words, env=env, stdin=subprocess.DEVNULL, capture_output=True, timeout=120)
@@ -120,14 +120,14 @@ def wrong(case, refused, done, written):
         return "done, and the result is not there"
     if not told and written != b"":
         return "a part of the result is out"
-    # The line itself grows, and is left out where that growth is refused.
+    # The line itself needs a growth, and is left out if that one is refused.
     if done.returncode == 1 and done.stderr not in (NO_MEMORY, case.refusal, b""):
         return "another refusal"
     return None
 
 
 def taken(path):
-    """The bytes of a file, which is removed; none where it isn't there."""
+    """The bytes of a file, which is removed; none if it isn't there."""
     if not os.path.exists(path):
         return b""
     with open(path, "rb") as f:
@@ -137,7 +137,7 @@ def taken(path):
 
 
 def sweep_words(shim, case):
-    """How many growths the program meets by these words; each of its runs ends as the program documents."""
+    """How many growths the program meets with these words; each of its runs ends as the man page says."""
     words = [PROGRAM] + case.words
     number, refused = 0, True
     while refused:
@@ -153,7 +153,7 @@ def sweep_words(shim, case):
     return number - 1
 
 def ciphered(text, opens):
-    """A text through the cipher of eexec, which is opened or closed."""
+    """A text encrypted or decrypted by the cipher of eexec."""
     key, out = 55665, bytearray()
     for byte in text:
         other = byte ^ key >> 8
@@ -163,7 +163,7 @@ def ciphered(text, opens):
 
 
 def tiny_without_subr_5():
-    """The font Tiny, its Subr 5 a `return`, with a raw binary cipher."""
+    """The font Tiny with a `return` as its Subr 5, with a raw binary cipher."""
     with open(TINY + "pfb", "rb") as f:
         pfb = f.read()
     clear, private = pfb[6:319], ciphered(pfb[325:1333], True)
@@ -173,7 +173,7 @@ def tiny_without_subr_5():
 
 
 def subset(font, out, names, length=None):
-    """The path of a subset, and its bytes, of which there are so many."""
+    """The path of a subset and its bytes, whose number is checked."""
     subprocess.run([PROGRAM, "subset", font, out] + names, check=True)
     with open(out, "rb") as f:
         written = f.read()
@@ -223,7 +223,7 @@ def text_of(path):
 
 
 def bodies_of_tests(crate):
-    """The body of each function of a test module that stands at the margin, by its file and its name."""
+    """The body of each function of a test module that starts at the margin, by its file and its name."""
     pattern = re.compile(r"^(?:pub(?:\(\w+\))? )?fn (\w+)(.*?)^}", re.M | re.S)
     source = os.path.join(TOP, "crates", crate, "src")
     for path in glob.glob(source + "/tests/*.rt") + [source + "/tests.rt"]:
@@ -245,7 +245,7 @@ def called_in(crate):
 
 
 def calls_that_grow(crate):
-    """The names of the functions and methods that a crate hands on and that may want memory."""
+    """The names of the public functions and methods of a crate that may need memory."""
     source = os.path.join(TOP, "crates", crate, "src")
     root = text_of(source + "/lib.rt")
     handed_on = set(re.findall(r"\w+", " ".join(re.findall(r"^pub use (?!t1_)[^;]*;", root, re.M))))

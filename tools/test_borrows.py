@@ -1,7 +1,7 @@
 #!/usr/bin/env python3
-"""Sees that a source can't be dropped while a font of it lives: a function that does is refused, on a copy, as a borrow.
+"""Checks that a source can't be dropped while its font lives: on a copy, a function that does so is refused as a borrow.
 
-No proof is reached, so an edit of must-fail can't say this.
+The refusal comes before any proof, so an edit of must-fail can't say this.
 
 usage: tools/test_borrows.py
 """
@@ -32,7 +32,7 @@ pub fn weight_without_source(alloc: Global, source: Source) -> u32 {
 
 
 def wanted():
-    """The lines of crates.txt for the crate and those that it stands on; they are lowest first there."""
+    """The lines of crates.txt for the crate and those that it depends on, lowest first as in that file."""
     with open(os.path.join(TOP, "crates.txt"), encoding="utf-8") as f:
         lines = [line for line in f if ":" in line.split("#")[0]]
     names, kept = {CRATE}, []
@@ -45,7 +45,7 @@ def wanted():
 
 
 def copy_to(room):
-    """A copy of these crates, with the function at the end of the file; answers the line that is wrong."""
+    """Copies these crates, with the function at the end of the file; returns the number of the wrong line."""
     lines = wanted()
     with open(os.path.join(room, "crates.txt"), "w", encoding="utf-8") as f:
         f.writelines(lines)

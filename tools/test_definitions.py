@@ -1,8 +1,8 @@
 #!/usr/bin/env python3
-"""Looks that docs/DEFINITIONS.md lists every definition of specs/ that the contract of a public function cites.
+"""Checks that docs/DEFINITIONS.md lists every definition of specs/ that the contract of a public function cites.
 
 usage: tools/test_definitions.py
-Ends with status 1 where one is missing.
+Ends with status 1 if one is missing.
 """
 import glob
 import os
@@ -18,7 +18,7 @@ CLAUSES = re.compile(r"\b(?:ensures|requires)\b.*", re.S)
 
 
 def listed():
-    """The names that stand between backticks in the page."""
+    """The names between backticks on the page."""
     with open(os.path.join(TOP, "docs/DEFINITIONS.md"), encoding="utf-8") as f:
         return set(re.findall(r"`([^`]+)`", f.read()))
 

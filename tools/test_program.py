@@ -15,7 +15,7 @@ from collections import namedtuple
 TOP = os.path.abspath(os.path.join(os.path.dirname(os.path.abspath(__file__)), ".."))
 BUILDS = [os.path.join(TOP, "crates/t1subset/out/t1subset" + by) for by in ("", ".by-rattle")]
 
-# What stands where a text is clap's.
+# Stands for a text that clap writes.
 SOME = object()
 
 # A font of two glyphs, one of whose names begins with `-`.
@@ -44,7 +44,7 @@ part 0 0
 # Charstrings of Subrs that glyphs call: a move across, a move up, and the `return` that stands for a Subr that is cut.
 ACROSS, UP, STUB = b"\xef\x16\x0b", b"\xef\x04\x0b", b"\x0b"
 
-# The words; the exit status; what is printed, and on standard error; the files that stand changed afterwards.
+# The words; the exit status; what is printed on standard output and on standard error; the files that are changed.
 Row = namedtuple("Row", "words status out err left", defaults=(b"", b"", {}))
 
 
@@ -54,7 +54,7 @@ def example(name):
 
 
 def ciphered(text, key):
-    """A text behind four lead bytes that are zero, encrypted."""
+    """A text behind four lead bytes of zero, encrypted."""
     out = bytearray()
     for byte in bytes(4) + text:
         byte ^= key >> 8
@@ -200,7 +200,7 @@ def wrong(program, row, given):
 
 
 def full(program):
-    """A printed result that isn't taken is a failed write."""
+    """A printed result that standard output doesn't take is a failed write."""
     with open("/dev/full", "wb") as out:
         words = [program, "check", os.path.join(TOP, "examples/tiny.pfa")]
         done = subprocess.run(words, stdout=out, stderr=subprocess.PIPE, timeout=60)
@@ -226,7 +226,7 @@ def kept_output(program, folder):
 
 
 def same_output(program, folder):
-    """OUT keeps its permissions; a link leads to what it led to, and a file that has two names is one file."""
+    """OUT keeps its permissions; a link still leads where it led, and a file with two names stays one file."""
     os.chmod("old", 0o640)
     os.link("old", "other")
     os.symlink("linked", "link")

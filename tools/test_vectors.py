@@ -1,5 +1,5 @@
 #!/usr/bin/env python3
-"""Looks that each test and each wrong body that docs/VECTORS.md names is there, and that each row names a test."""
+"""Checks that each test and each wrong body that docs/VECTORS.md names exists, and that each row names a test."""
 import os
 import re
 import sys
@@ -23,7 +23,7 @@ def has_body(crate, name):
 
 
 def rows():
-    """The rows of the tables, each with its number as a line."""
+    """The rows of the tables, each with its line number."""
     with open(os.path.join(TOP, "docs/VECTORS.md"), encoding="utf-8") as f:
         for number, line in enumerate(f, 1):
             # An escaped bar stands inside a cell.

@@ -1,12 +1,12 @@
 #!/usr/bin/env python3
-"""Tries wrong bodies: edits of the code that the prover has to refuse, beyond the few of crates/*/must-fail.
+"""Tries wrong bodies: edits of the code that the prover has to refuse, in addition to the few in crates/*/must-fail.
 
-Each file of tools/wrong-bodies/CRATE/ is an edit in the form of those of must-fail: a line that names the clause
+Each file of tools/wrong-bodies/CRATE/ is an edit in the same form as in must-fail: a line that names the clause
 which has to refuse it, and then lines `file:`, `old:` and `new:`. The edits are tried on copies of the repository,
-several side by side, and the repository itself is left as it is.
+several side by side; the repository itself is not changed.
 
-usage: tools/wrong_bodies.py [--jobs N] [CRATE...]      (all crates where none is named)
-Ends with status 1 where an edit can't be applied or read, or is not refused.
+usage: tools/wrong_bodies.py [--jobs N] [CRATE...]      (all crates if none is named)
+Ends with status 1 if an edit can't be applied or read, or is not refused.
 """
 import argparse
 import concurrent.futures
@@ -19,12 +19,12 @@ import tempfile
 
 TOP = os.path.abspath(os.path.join(os.path.dirname(os.path.abspath(__file__)), ".."))
 EDITS = os.path.join(TOP, "tools/wrong-bodies")
-# An edit after the first costs a load of its crate's proof, and the first of a copy the proof itself.
+# The first edit of a copy costs its crate's proof, and each further edit a load of that proof.
 CHUNK = 12
 
 
 def needs():
-    """What each crate stands on, by its name; the crates are lowest first, as crates.txt has them."""
+    """What each crate depends on, by its name, lowest first as in crates.txt."""
     with open(os.path.join(TOP, "crates.txt"), encoding="utf-8") as f:
         lines = [line.split("#")[0].split(":") for line in f if ":" in line]
     return {name.split()[0]: deps.split() for name, deps in lines}
@@ -35,7 +35,7 @@ def crates():
 
 
 def below(names):
-    """The crates of this repository that these stand on, lowest first."""
+    """The crates of this repository that these depend on, lowest first."""
     wanted = set()
     for crate in reversed(crates()):
         if crate in names or crate in wanted:
@@ -67,7 +67,7 @@ def unnamed(edits):
 
 
 def tried(crate, edits):
-    """What rt says of each of some edits of a crate, tried in a copy of their own."""
+    """What rt says of some edits of a crate, tried in their own copy."""
     with tempfile.TemporaryDirectory(prefix="wrong-bodies-") as room:
         copy_to(room)
         folder = os.path.join(room, "crates", crate, "must-fail")
