@@ -1,12 +1,16 @@
-//! A caller of this library, whole: a font is cut in two and joined again.
+//! A whole caller of this library: a font is cut in two and joined again.
 //!
 //! Two documents carry subsets of one font, each in a file of its own. A tool that joins the documents reads both
 //! files, merges the fonts, and writes one file with all glyphs of both. [`cut_and_joined`] does all of that over bytes
 //! in memory, and its contract is what the library promises to such a tool.
 //!
 //! A file is read into a [`Source`], which owns its bytes and lends the [`Font`]; a font that is cut or merged from
-//! others borrows from their sources, too. So a source is kept until what comes of its fonts is written, and the steps
-//! here take files or sources and answer files.
+//! others also borrows from their sources. So a source is kept until what is made of its fonts has been written, and the
+//! steps here take files or sources and answer files.
+//!
+//! ```text
+//! let both = cut_and_joined(alloc, file, &[b"A"], &[b"B"], Order::SecondIntoFirst, Form::Pfb)?;
+//! ```
 #![tactic(auto)]
 
 mod refusal;
@@ -130,12 +134,12 @@ fn joined(
     file
 }
 
-/// The file of what two subsets of a font come to: the font of a file is read and cut to both sets of names; both
-/// subsets are written, read again and merged; and what they come to is written.
+/// The file of the font that two subsets of a font come to: the font of a file is read and cut to both sets of names;
+/// both subsets are written, read again and merged; and the merged font is written.
 ///
-/// Where the file spells a font, the names are the font's, and the font's head doesn't begin with byte 128 or the form
-/// is PFB, the answer is the file of the subset of all the names, in either order of the merge, and each of its glyphs
-/// runs and draws as in the font. Nothing is refused then but want of memory.
+/// If the file spells a font, the names are the font's, and the font's head doesn't begin with byte 128 or the form is
+/// PFB, the answer is the file of the subset of all the names, in either order of the merge, and each of its glyphs runs
+/// and draws as in the font. Then only want of memory is refused.
 pub fn cut_and_joined(
     alloc: Global,
     file: &[u8],

@@ -13,7 +13,7 @@ pub enum Refusal {
     Subset(SubsetFault),
     /// The subsets don't merge.
     Merge(Conflict),
-    /// A file is not written.
+    /// A growth was refused.
     Memory,
 }
 
