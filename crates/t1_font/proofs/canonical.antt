@@ -1,3 +1,4 @@
+-- What is written of a font is read back.
 pub mod Borders
 pub mod ClearWritten
 pub mod Decimals

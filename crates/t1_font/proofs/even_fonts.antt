@@ -1,3 +1,4 @@
+-- Tags, and fonts that are made even.
 pub mod TagLemmas
 pub mod UntaggedTwice
 pub mod EvenStays

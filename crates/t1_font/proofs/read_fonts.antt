@@ -1,3 +1,4 @@
+-- What is read is a font.
 pub mod ReadBack
 pub mod ReadBytes
 pub mod ReadClear

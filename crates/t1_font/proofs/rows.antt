@@ -1,3 +1,4 @@
+-- Rows that are computed on the definitions.
 pub mod TagRows
 pub mod Tiny
 pub mod TinyCuts
