@@ -1,5 +1,6 @@
 #!/usr/bin/env python3
 """Checks that each test and each wrong body that docs/VECTORS.md names exists, and that each row names a test."""
+import glob
 import os
 import re
 import sys
@@ -18,8 +19,8 @@ def has_test(crate, path, name):
 
 
 def has_body(crate, name):
-    places = (f"crates/{crate}/must-fail", f"tools/wrong-bodies/{crate}")
-    return any(os.path.isfile(os.path.join(TOP, place, name + ".edit")) for place in places)
+    places = (f"crates/{crate}/must-fail", f"tools/wrong-bodies/{crate}", f"tools/wrong-bodies/{crate}/*")
+    return any(glob.glob(os.path.join(TOP, place, name + ".edit")) for place in places)
 
 
 def rows():

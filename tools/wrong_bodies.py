@@ -1,7 +1,7 @@
 #!/usr/bin/env python3
 """Tries wrong bodies: edits of the code that the prover has to refuse, in addition to the few in crates/*/must-fail.
 
-Each file of tools/wrong-bodies/CRATE/ is an edit in the same form as in must-fail: a line that names the clause
+Each file in or below tools/wrong-bodies/CRATE/ is an edit in the same form as in must-fail: a line that names the clause
 which has to refuse it, and then lines `file:`, `old:` and `new:`. The edits are tried on copies of the repository,
 several side by side; the repository itself is not changed.
 
@@ -44,7 +44,7 @@ def below(names):
 
 
 def edits_of(crate):
-    return sorted(glob.glob(os.path.join(EDITS, crate, "*.edit")))
+    return sorted(glob.glob(os.path.join(EDITS, crate, "**/*.edit"), recursive=True))
 
 
 def copy_to(room):
