@@ -14,6 +14,7 @@ missing_front : {A B : Type 0} (entry : Grammar A) (close : Grammar B) (n m : �
 missing_front entry close n m left (inl s) = inl (omega (arith, s.0), s.1)
 missing_front entry close n m left (inr s) = inr (ap suc s.0, s.1)
 
+-- with one more entry at the front, one entry more is read or missing
 counted_front : {A B : Type 0} (entry : Grammar A) (close : Grammar B) (n : ℕ) (a : A) (front bytes : List ℕ) (t : Table A B) → entry.Spells a front bytes → CountedRead entry close n bytes t → CountedRead entry close (suc n) (front ++ bytes) (with_front (a ∷ []) t)
 counted_front entry close n a front bytes (Ok x) s r =
     let t = table_front entry close a front bytes x.0 x.1 x.2 s (r.0, r.1, r.2.1) in

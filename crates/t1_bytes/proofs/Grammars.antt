@@ -143,6 +143,7 @@ and_then_none f (Some x) e = absurd cc
 abbrev Found : {A : Type 0} → Grammar A → List ℕ → (List ℕ × A) × List ℕ → Type 0
 Found g bytes x = (text : List ℕ) × (bytes ≡ text ++ x.1) × (first g).Spells x.0 text x.1
 
+-- what is found first is spelled there, and stands nowhere before
 first_takes : {A : Type 0} (g : Grammar A) → IsExact g → (bytes : List ℕ) (x : (List ℕ × A) × List ℕ) → first_at g bytes ≡ Some x → Found g bytes x
 unfolding first_at
 first_takes g G [] x e = option_and_then_some (λ y. Some (([], y.0), y.1)) (g.read []) x e (λ y p q.

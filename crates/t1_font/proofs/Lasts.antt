@@ -89,6 +89,7 @@ module _ {K V : Type 0} {R : K → K → Ordering} (o : IsTotalOrder R) where
   keys_all k [] h = tt
   keys_all k (e ∷ es) h = (All-head (λ (x : K × V). R k x.0 ≡ Less) e es h, keys_all k es (All-tail (λ (x : K × V). R k x.0 ≡ Less) e es h))
 
+  -- the keys of those that end a run rise
   ends_rise : (es : List (K × V)) → IsSortedByKey key R es → IsStrictlySortedBy R (keys_of (run_ends R es))
   unfolding IsStrictlySortedBy
   ends_rise [] up = tt

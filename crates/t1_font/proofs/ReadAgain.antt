@@ -70,6 +70,7 @@ is_clear clear c s =
     let e = is_encoding clear s.after c.encoding c.clear_tail s.encoding in
     rw (found encoding_marker encoding_marker_exact clear ((c.head, tt), s.after) s.marker, front_again encoding_start encoding_start_exact s.after e.0 e.1, e.2) refl
 
+-- a clear text with a reason to spell nothing is refused for it
 fails_clear : (clear : List ℕ) (e : ReadFault) → ClearFails clear e → clear_pieces clear ≡ Err e
 unfolding clear_pieces encoding_from
 fails_clear clear NoEncoding s = rw (lacks_unread encoding_marker encoding_marker_exact clear s) refl
@@ -98,6 +99,7 @@ is_tail : (middle after tail : List ℕ) → IsTail middle after tail → tail_a
 unfolding tail_after
 is_tail middle after tail s = rw (found closefile closefile_exact after ((s.front, s.own), s.rest) s.close, lack_subrs middle s.single.0, lack_subrs (s.front ++ s.own) (subst (Lacks subrs_marker) s.tail_is s.single.1)) (ap (λ (t : List ℕ). Ok t) (sym s.tail_is))
 
+-- a second table of Subrs is refused
 fails_tail : (middle after : List ℕ) → IsHybrid middle after → tail_after middle after ≡ Err Hybrid
 unfolding tail_after
 fails_tail middle after h = elim (cases_Bool (has_subrs middle)) [
@@ -181,6 +183,7 @@ fails_glyphs text at s =
     let broken = break_again (glyph iv) glyphs_end (glyph_exact iv) glyphs_end_exact (glyph_eats iv) (glyph_apart iv) s.1 s.2 s.4 in
     behind_tables text s.0 s.1 s.3 (Err (BadGlyphs at)) (rw broken (ap (λ (n : ℕ). Err (BadGlyphs n)) (sym s.5)))
 
+-- a private text with a reason to spell nothing is refused for it
 fails_private : (text : List ℕ) (e : ReadFault) → PrivateFails text e → private_pieces text ≡ Err e
 unfolding private_pieces glyphs_from
 fails_private text NoCharStrings s = rw (lacks_unread chars_marker chars_marker_exact text s) refl

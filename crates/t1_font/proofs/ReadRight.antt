@@ -67,6 +67,7 @@ clear_reads clear =
 
 -- ---- the private text
 
+-- lenIV is read rightly
 iv_reads : (private : List ℕ) → Reads (iv_of private) (IsLenIV private) (λ e. BadIV private × (e ≡ BadLenIV))
 unfolding iv_of iv_at
 iv_reads private = by_marker ((first len_iv_marker).read private) refl
@@ -146,6 +147,7 @@ without : (text : List ℕ) (chars : (List ℕ × Unit {0}) × List ℕ) → Sta
 unfolding tables_from
 without text chars a = reads_then (iv_of chars.0.0) _ (iv_reads chars.0.0) (λ iv i. glyphs_reads text chars.0.0 None [] iv chars.1 (a, refl) i) (λ e f. subst (PrivateFails text) (sym f.1) (chars.0.0, chars.1, None, a, f.0))
 
+-- a private text with Subrs is read rightly
 with_subrs : (text : List ℕ) (chars : (List ℕ × Unit {0}) × List ℕ) (x : (List ℕ × ℕ) × List ℕ) → Start text x.0.0 (Some x.0.1) x.1 → Reads (tables_from (length text) chars (Some x)) (IsPrivate text) (PrivateFails text)
 unfolding tables_from
 with_subrs text chars x a =
@@ -234,6 +236,7 @@ texts_read file clear text texts =
     (private_reason file clear text outside texts c))
     (clear_reason file clear text texts)
 
+-- a file is read rightly
 file_reads : (file : List ℕ) → Reads (font_file file) (Spells file) (Reason file)
 unfolding font_file
 file_reads file =

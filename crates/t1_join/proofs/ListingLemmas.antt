@@ -35,6 +35,7 @@ bytes_fit hex v h = by (nat_le (length hex) 131070) refl (decode_of hex) refl h
     by true t (Err e) d h = cc
     by false t r d h = cc
 
+-- an index is below 65,535
 index_small : (word : List ℕ) (i : ℕ) → index_of word ≡ Some i → i < 65535
 index_small word i h = by (nat_le 1 (length word) && nat_le (length word) 5) (digits_after 0 word) h
   where
@@ -57,6 +58,7 @@ name_fits word name h = by (is_name word) refl h
     by true t h = let e : word ≡ name = cc in subst (λ w. is_name w ≡ true) e t
     by false t h = cc
 
+-- what the line of a Subr says fits a listing
 subr_fits : (p : List ℕ × List ℕ) (e : Entry) → subr_of p ≡ Some e → IsEntry e
 subr_fits p e h = by (index_of p.0) refl (bytes_of p.1) refl h
   where
@@ -67,6 +69,7 @@ subr_fits p e h = by (index_of p.0) refl (bytes_of p.1) refl h
     by (Some i) a None b h = cc
     by None a v b h = cc
 
+-- what the line of a glyph says fits a listing
 glyph_fits : (p : List ℕ × List ℕ) (e : Entry) → glyph_of p ≡ Some e → IsEntry e
 glyph_fits p e h = by (name_of p.0) refl (bytes_of p.1) refl h
   where
@@ -104,6 +107,7 @@ module _ (P : Meaning → Meaning → Type 0) where
       none_some : None ≡ Some v → ⊥
       none_some e = cc
 
+  -- what holds of a map and of one more entry holds of both
   each_insert : (m : TableMeaning) (k v : Meaning) → P k v → Each m → Each (fin.insert m k v)
   each_insert m k v p each q w h = by (eq_by_cmp meaning_cmp q k) refl (sym (fin.get-insert nat_list_cmp_total m k v q) ∙ h)
     where

@@ -155,6 +155,7 @@ module _ {K M X : Type 0} (k : K → M) (R : K → K → Ordering) (S : M → M 
   abbrev pub keyed : K × X → M × X
   keyed e = (k e.0, e.1)
 
+  -- a merge step is the same by what the keys stand for
   weave_keys : (e : K × X) (rest : List (K × X) → List (K × X)) (seen : List (M × X) → List (M × X)) (fs : List (K × X)) → ((gs : List (K × X)) → seen (map keyed gs) ≡ map keyed (rest gs)) → weave S (keyed e) seen (map keyed fs) ≡ map keyed (weave R e rest fs)
   weave_keys e rest seen [] h = ap (λ (a : List (M × X)). keyed e ∷ a) (h [])
   weave_keys e rest seen (f ∷ fs) h =

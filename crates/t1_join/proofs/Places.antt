@@ -35,6 +35,7 @@ module _ {K X Y : Type 0} {R : K → K → Ordering} (o : IsTotalOrder R) (v : Y
       ap (λ (rest : List (K × X)). v e ∷ rest) (placed y es i (omega arith) (λ k d l. low (suc k) d (omega arith)) (λ k d a l. high (suc k) d (omega arith) (omega arith)))
       ∙ sym (by_first (v y).0 (v y).1 e es Greater (back (v y).0 (v e).0 Less (low 0 e (omega arith))))
 
+  -- an entry in place of one with its key is that key with another value
   replaced : (q : K) (y : Y) (ys : List Y) (i : ℕ) (d : Y) → Rises R (map v ys) → i < length ys → R (v (get_or ys i d)).0 q ≡ Equal →
       (v y).0 ≡ (v (get_or ys i d)).0 → map v (slice_set ys i y) ≡ put R q (v y).1 (map v ys)
   replaced q y [] i d h l t s = absurd (omega arith)

@@ -118,6 +118,7 @@ accented_grown a h k same (p ∷ q ∷ []) d =
 accented_grown a h k same (p ∷ q ∷ r ∷ ps) d = absurd d
 
 module _ (hints : Hints) (f g : Subrs) (f' g' : Glyphs) (more : Extends f g) (more' : Extends f' g') where
+  -- a plain glyph comes to the same where there is more
   outcome_grown : (n : List ℕ) (x : Option (List ℕ)) → f' n ≡ x → IsPlain (option_map (direct_by hints f) x) → outcome_at hints g g' n ≡ option_map (direct_by hints f) x
   outcome_grown n None is h = absurd h
   outcome_grown n (Some c) is h = ap (option_map (direct_by hints g)) (more' n c is) ∙ ap Some (direct_grown f g more hints c (plain_ended (direct_by hints f c) h))

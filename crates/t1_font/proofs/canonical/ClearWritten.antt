@@ -75,6 +75,7 @@ puts_line : (es : List (ℕ × List ℕ)) → (r : List ℕ) × (puts_text es �
 puts_line [] = (_, refl)
 puts_line (e ∷ es) = (_, refl)
 
+-- the end of a table Encoding is read from its text
 encoding_end_read : (rest : List ℕ) → Stops is_regular rest → encoding_end.read (10 ∷ (codes "readonly def" ++ rest)) ≡ Some (codes "def", rest)
 unfolding encoding_end
 encoding_end_read rest s =

@@ -91,6 +91,7 @@ module _ {K : Type 0} (key : Grammar K) (close : Grammar (List ℕ)) (exact : Is
 
 -- ---- Subrs
 
+-- the index of a Subr is read from its text
 subr_key_read : (declared : ℕ) → declared ≤ 65535 → (i : ℕ) (rest : List ℕ) → i < declared → Stops is_regular rest → (subr_key declared).read (10 ∷ (index_text i ++ rest)) ≡ Some (i, rest)
 unfolding subr_key
 subr_key_read declared few i rest h s =

@@ -102,6 +102,7 @@ above : (k : ℕ) (es : List (ℕ × List ℕ)) → below_all nat_cmp k es ≡ t
 above k [] h all = tt
 above k (e ∷ es) h all = let both = and_parts (is_lt (nat_cmp k e.0)) (below_all nat_cmp k es) h in ((omega (arith, below_lt k e.0 both.0), all.0), above k es both.1 all.1)
 
+-- codes from k to 255 that rise are at most 256 - k
 few_from : (k : ℕ) (es : List (ℕ × List ℕ)) → k ≤ 256 → is_sorted nat_cmp es ≡ true → AllByRecursion (λ e. (k ≤ e.0) × (e.0 ≤ 255)) es → length es + k ≤ 256
 few_from k [] h s all = omega arith
 few_from k (e ∷ es) h s all =

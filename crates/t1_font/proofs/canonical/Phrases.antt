@@ -21,6 +21,7 @@ stops_word : (w back rest : List ℕ) → is_word w ≡ true → Stops is_white 
 stops_word [] back rest h k = absurd (cc)
 stops_word (b ∷ w) back rest h k = k
 
+-- the end of a phrase is spelled before whatever ends a word
 after_spelled : (test : List ℕ → Bool) (access : Bool) (first p text rest : List ℕ) → (phrase_after test access first).Spells p text [] → Stops is_regular rest → (phrase_after test access first).Spells p text rest
 unfolding gap word
 after_spelled test false first p text rest s k = s

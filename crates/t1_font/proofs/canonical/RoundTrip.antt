@@ -116,6 +116,7 @@ plain_flat : (file : List ℕ) → starts_segment file ≡ false → flat_text f
 unfolding flat_text
 plain_flat file s = rw s refl
 
+-- a PFB within the file limit is read as its three parts
 joined_flat : (clear cipher trailer : List ℕ) → length (pfb_text clear cipher trailer) ≤ file_limit → flat_text (pfb_text clear cipher trailer) ≡ Ok (clear ++ (cipher ++ trailer))
 unfolding flat_text
 joined_flat clear cipher trailer h =

@@ -101,6 +101,7 @@ digit_none (b ∷ w) after h =
 pub digits_none : (n : ℕ) (after : List ℕ) → n < 2 ^ 64 → NoneIn eexec_marker (digits n) after
 digits_none n after h = digit_none (digits n) after (digits_are n h).made
 
+-- no marker stands in the text of puts
 puts_none : (es : List (ℕ × List ℕ)) (after : List ℕ) → AllByRecursion (λ e. IsCode e.0 e.1) es → NoneIn eexec_marker (puts_text es) after
 puts_none [] after h = free_none (10 ∷ codes "readonly def") after refl
 puts_none (e ∷ es) after h =

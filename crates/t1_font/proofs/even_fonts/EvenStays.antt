@@ -183,6 +183,7 @@ fills_once None false false d h = refl
 fills_once None false true true h = absurd (true≢false (sym (h refl)))
 fills_once None false true false h = refl
 
+-- Subrs that are filled at some indices stay when they are filled at some of these
 filled_again : (m : Numbered) (n : ℕ) (indices more : List ℕ) → Among more indices → (es : List (ℕ × List ℕ)) → entries m ≡ es → with_stubs (below n more) (with_stubs (below n indices) m es) (entries (with_stubs (below n indices) m es)) ≡ with_stubs (below n indices) m es
 filled_again m n indices more h [] none = ap (with_stubs (below n more) m) none
 filled_again m n indices more h (e ∷ es) is = by_entries (entries (merged m (stubs_at (below n indices))))

@@ -91,6 +91,7 @@ words_raised : (n : ℕ) (es : List (ℕ × List ℕ)) (t : SubrsShell) → Subr
 words_raised n [] t h = h
 words_raised n (e ∷ es) t h = h
 
+-- Subrs still fit a shell that declares more
 subrs_raised : (n : ℕ) (s : Shell) (o : Option SubrsShell) (m : Numbered) → n ≤ count_limit → SubrsFit s o m → SubrsFit (even_shell n s) (option_map (raised n) o) m
 subrs_raised n s None m le h = h
 subrs_raised n s (Some t) m le h = record {

@@ -18,6 +18,7 @@ use Rattle.t1_font.specs.Tags.{name_marker, untagged, begins_encoding, named_hea
 -- ---- no name of a font stands before the slash of another
 
 module _ (r s : List ℕ) where
+  -- where no slash comes before one end of a text, none comes before another
   slash_none : (xs : List ℕ) → (fixed (codes "/")).read (xs ++ 47 ∷ r) ≡ None → (fixed (codes "/")).read (xs ++ 47 ∷ s) ≡ None
   slash_none [] h = absurd (none-some _ (sym h ∙ fixed_strip (codes "/") (47 ∷ r)))
   slash_none (c ∷ xs) h = fixed_strip (codes "/") (c ∷ (xs ++ 47 ∷ s)) ∙ elim (cases_Bool (eqb 47 c)) [

@@ -69,6 +69,7 @@ word_start w bytes rest a = elim a.2 [
   ]
 ]
 
+-- an Encoding that is a word ends with `def`
 word_ends : (w text rest bytes : List ℕ) → encoding_word.Spells w text rest → bytes ≡ text ++ rest → IsEnded bytes rest
 unfolding encoding_word
 word_ends w text rest bytes s b =
@@ -185,6 +186,7 @@ not_def (a ∷ []) y z e c = let k : 101 ≡ y = ap (λ (u : List ℕ). get_or u
 not_def (a ∷ b ∷ []) y z e c = let k : 102 ≡ y = ap (λ (u : List ℕ). get_or u 2 0) e in absurd (omega (arith, k, c))
 not_def (a ∷ b ∷ d ∷ s) y z e c = absurd (omega (arith, ap length e, length-append s (y ∷ z)))
 
+-- the marker of eexec begins nowhere within `def`
 not_within : (x front own after tail : List ℕ) (y : ℕ) (z : List ℕ) → x ++ codes "def" ≡ front ++ (y ∷ z) → own ≡ y ∷ (z ++ tail) → IsMarker own after → ⊥
 not_within x front own after tail y z e o m =
     let first : y ≡ 99 = ap (λ (u : List ℕ). get_or u 0 0) (sym o ∙ m.parts) in

@@ -42,6 +42,7 @@ name_of n text rest s h =
     let both = and_parts (leb 1 (length n)) (leb (length n) 127) s.5.1 in
     record { regular = s.5.0.1; some = leb-true 1 (length n) both.0; few = leb-true (length n) 127 both.1; bytes = subst AreBytes s.5.0.0 (parts_bytes text s.1 s.2 s.3 h).1 }
 
+-- the end of a phrase in bytes is bytes
 after_bytes : (test : List ℕ → Bool) (access : Bool) (first p text rest : List ℕ) → (phrase_after test access first).Spells p text rest → AreBytes first → AreBytes text → AreBytes p
 unfolding word
 after_bytes test false first p text rest s f h = subst AreBytes s.1 f

@@ -100,6 +100,7 @@ pub record IsReadTable (declared iv : ℕ) (es : List Subr) (last between : List
   pub apart : Stops is_regular between
   pub bytes : AreBytes between
 
+-- a table of Subrs in bytes is one of a font
 table_of : (declared iv : ℕ) (es : List Subr) (closing bytes between : List ℕ) → TableAt (subr declared iv) subrs_end es closing bytes between → AreBytes bytes → IsReadTable declared iv es closing between
 table_of declared iv es closing bytes between s h =
     let a = parts_bytes bytes s.0 between s.1 h in
