@@ -175,7 +175,7 @@ fn a_reader_that_only_interrupts(rt: HostRuntime) {
     assert_eq!(rt; (busy.calls(), busy.failed()), (101, 101));
 }
 
-// `tools/sweep_growths.py` refuses all growths: what takes no memory answers right.
+// `tools/sweep_growths.py` refuses all growths: what takes no memory gives the right answer.
 #[test]
 fn no_growth(rt: HostRuntime) {
     let mut busy = Counted::new(Busy);

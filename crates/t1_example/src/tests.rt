@@ -103,8 +103,8 @@ fn joined_names(alloc: Global) -> Result<Vec<u8>, AllocError> {
     names_in(alloc, file.as_slice())
 }
 
-// `tools/sweep_growths.py` refuses one growth after the other: a call that then answers want of memory answers right when
-// it is made again.
+// `tools/sweep_growths.py` refuses one growth after the other: a call that then answers want of memory gives the right
+// answer when it is made again.
 #[test]
 fn growths(rt: HostRuntime) -> Result<(), Fail> {
     let names = match joined_names(rt.alloc()) {

@@ -1,6 +1,6 @@
 //! Each call that grows, over the two files of Tiny, and those that take no memory. `tools/sweep_growths.py` refuses one
-//! growth of the first test after the other: a call that then answers want of memory answers right when it is made again.
-//! In the second it refuses all.
+//! growth of the first test after the other: a call that then answers want of memory gives the right answer when it is
+//! made again. In the second it refuses all.
 
 use super::{CLEAR, is_put_together};
 use crate::{

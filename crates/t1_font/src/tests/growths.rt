@@ -1,5 +1,5 @@
 //! Each call that grows, over the two files of Tiny. `tools/sweep_growths.py` refuses one growth after the other: a call
-//! that then answers want of memory answers right when it is made again.
+//! that then answers want of memory gives the right answer when it is made again.
 
 use super::cuts::{joined, tiny_cut};
 use super::evening::{MARKS, TABLES, evened, is_left};

@@ -109,8 +109,8 @@ fn answers_right(alloc: Global) -> Result<bool, AllocError> {
     )
 }
 
-// `tools/sweep_growths.py` refuses one growth after the other: a call that then answers want of memory answers right when
-// it is made again.
+// `tools/sweep_growths.py` refuses one growth after the other: a call that then answers want of memory gives the right
+// answer when it is made again.
 #[test]
 fn growths(rt: HostRuntime) -> Result<(), Fail> {
     let right = match answers_right(rt.alloc()) {

@@ -1,5 +1,5 @@
 // Each call that grows, over the small font. `tools/sweep_growths.py` refuses one growth after the other: a call that then
-// answers want of memory, its one fault, answers right when it is made again.
+// answers want of memory, its one fault, gives the right answer when it is made again.
 
 use crate::tests::budget::count_of_marks;
 use crate::tests::executes::are;
@@ -112,7 +112,7 @@ fn growths(rt: HostRuntime) -> Result<(), Fail> {
     Ok(())
 }
 
-// `tools/sweep_growths.py` refuses all growths: what takes no memory answers right.
+// `tools/sweep_growths.py` refuses all growths: what takes no memory gives the right answer.
 #[test]
 fn no_growth(rt: HostRuntime) {
     assert!(rt; standard_name(65) == Some("A") && standard_name(0).is_none());
