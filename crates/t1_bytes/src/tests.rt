@@ -29,7 +29,7 @@ fn splits(alloc: Global, flat: &[u8], want: Result<(usize, &[u8]), BytesFault>) 
     split && finds(alloc, flat, want)
 }
 
-/// Whether the cipher of a flat text is found so: the last bytes, where it is binary.
+/// Whether the cipher of a flat text is found so: the last bytes, if it is binary.
 fn finds(alloc: Global, flat: &[u8], want: Result<(usize, &[u8]), BytesFault>) -> bool {
     match (find_cipher(alloc, flat), want) {
         (Ok((at, Cipher::Last(len))), Ok((place, bytes))) => {
@@ -492,7 +492,7 @@ fn takes_tiny_apart_and_together(rt: HostRuntime) -> Result<(), Fail> {
     Ok(())
 }
 
-/// The refusal of a file, where it has no flat text or no cipher.
+/// The refusal of a file, if it has no flat text or no cipher.
 fn refusal(alloc: Global, file: &[u8]) -> Option<BytesFault> {
     match flatten(alloc, file) {
         Ok(flat) => split_eexec(alloc, flat.as_slice()).err(),

@@ -191,7 +191,7 @@ const RIGHT: &[u8] = b"G Y 0E\nS 5 ef060b\n";
 
 const BOTH: &[u8] = b"S 5 ef060b\nG X 8b0e\nG Y 0e\n";
 
-/// The line of a fault, or nothing where there is none.
+/// The line of a fault, or nothing if there is none.
 fn line_of(alloc: Global, ended: &Result<(), RunFault>) -> Vec<u8> {
     let mut line = Vec::new(alloc);
     if let Err(fault) = ended {
@@ -282,7 +282,7 @@ fn joined_from(alloc: Global, first: Plan, second: Plan) -> Joined {
     }
 }
 
-/// Whether it ends well where no read failed; else as a failed read, with nothing written and the right listing read only
+/// Whether it ends well if no read failed; otherwise as a failed read, with nothing written and the right listing read only
 /// after the left one.
 fn ends_right(got: Joined, is_left: bool) -> bool {
     if got.failed == 0 {
@@ -325,7 +325,7 @@ fn joined_into(alloc: Global, plan: Plan) -> (&'static str, u64, bool, bool) {
     )
 }
 
-/// Whether that ends well where no call failed; else as a failed write, of which the first failed call is the last.
+/// Whether that ends well if no call failed; otherwise as a failed write, of which the first failed call is the last.
 fn joins_into(alloc: Global, plan: Plan) -> bool {
     let (got, failed, is_both, begins) = joined_into(alloc, plan);
     if failed == 0 {
@@ -443,7 +443,7 @@ fn lines_of_fonts(rt: HostRuntime) {
     }
 }
 
-/// Parts of shells, and what is printed where fonts differ in one.
+/// Parts of shells, and what is printed if fonts differ in one.
 const SHELLS: &[(ShellPart, &str)] = &[
     (ShellPart::Head, "refused: shells differ in head\n"),
     (ShellPart::Encoding, "refused: shells differ in encoding\n"),

@@ -86,7 +86,7 @@ fn counts(alloc: Global, file: &[u8]) -> Result<(usize, u32), ReadFault> {
     }
 }
 
-/// Why such a file spells no font; `None` where it spells one.
+/// Why such a file spells no font; `None` if it spells one.
 fn fault(alloc: Global, clear: &[u8], private: &[u8]) -> Option<ReadFault> {
     source(alloc, clear, private).err()
 }

@@ -27,7 +27,7 @@ fn put(alloc: Global, table: &mut Numbered, key: u16, byte: u8) -> Result<(), Al
     table.insert(key, value)
 }
 
-// The same, where the key is looked for at this place first.
+// The same, with the key first looked for at this place.
 fn put_near(
     alloc: Global,
     table: &mut Numbered,
@@ -47,7 +47,7 @@ fn holds(table: &Numbered, key: u16, byte: u8) -> bool {
     }
 }
 
-// The number of keys of either table, where they join: through the bounds alone.
+// The number of keys of either table, if they join: through the bounds alone.
 fn keys_of_both<K: Key + Drop, V: Kept + Drop>(
     alloc: Global,
     left: &Table<K, V>,
@@ -75,7 +75,7 @@ fn small_is_right(alloc: Global) -> Result<bool, AllocError> {
     Ok(upwards && near && small.get_near(2, &4).is_none() && holds(&small, 10, 7))
 }
 
-// The key at which the small table is in conflict with another, if any, and the number of keys of both, where they join.
+// The key at which the small table is in conflict with another, if any, and the number of keys of both, if they join.
 fn small_with(
     alloc: Global,
     from: u16,
@@ -169,7 +169,7 @@ fn many_entries(alloc: Global) -> Result<Vec<(u16, u8)>, AllocError> {
     Ok(entries)
 }
 
-// The number of keys of all tables, where they join.
+// The number of keys of all tables, if they join.
 fn keys_of_all(alloc: Global, list: &[Numbered]) -> Result<Option<usize>, AllocError> {
     match join_all(alloc, list)? {
         Some(all) => Ok(Some(all.entries().count())),
@@ -177,7 +177,7 @@ fn keys_of_all(alloc: Global, list: &[Numbered]) -> Result<Option<usize>, AllocE
     }
 }
 
-// The number of keys of tables with one entry each, where they join.
+// The number of keys of tables with one entry each, if they join.
 fn keys_of(alloc: Global, entries: &[(u16, u8)]) -> Result<Option<usize>, AllocError> {
     let tables = tables_of(alloc, entries)?;
     keys_of_all(alloc, tables.as_slice())
@@ -225,7 +225,7 @@ fn borrowed<'a>(
     Ok(table)
 }
 
-// The number of keys of two such tables, where they join.
+// The number of keys of two such tables, if they join.
 fn borrowed_keys_of_both<'a>(
     alloc: Global,
     left: &[(&'a [u8], &'a [u8])],
@@ -437,7 +437,7 @@ fn is_read_so(alloc: Global, text: &[u8], want: &Option<ListFault>) -> bool {
     listing::read(alloc, text).err() == *want
 }
 
-// The first line is in fault.
+// The first line is faulty.
 const BAD: Option<ListFault> = Some(ListFault::BadLine { line: 1 });
 
 #[test]

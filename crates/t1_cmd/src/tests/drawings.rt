@@ -196,7 +196,7 @@ fn is_as_in_tiny(alloc: Global, file: &[u8], name: &[u8]) -> bool {
     answers(alloc, Engine::Show(name), file, want.as_slice())
 }
 
-/// How many glyphs a font has, where each of them draws in its file as it does in Tiny; 0 where one doesn't.
+/// How many glyphs a font has, if each of them draws in its file as it does in Tiny; 0 if one doesn't.
 fn count_drawn(alloc: Global, font: &Font<'_>, file: &[u8]) -> usize {
     let mut count = 0usize;
     for name in font.names() {
@@ -233,7 +233,7 @@ fn drawn_as_in_tiny(alloc: Global, names: &[&[u8]]) -> usize {
     }
 }
 
-/// The sum of these by a name alone, and by it and each later one; 0 where one of them is.
+/// The sum of these by a name alone, and by it and each later one; 0 if one of them is.
 fn drawn_with_later(alloc: Global, at: usize, first: &'static str) -> usize {
     let mut count = drawn_as_in_tiny(alloc, &[first.as_bytes()]);
     for second in NAMES.iter().skip(at.saturating_add(1)) {

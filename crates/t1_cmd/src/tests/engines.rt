@@ -182,7 +182,7 @@ fn read_by(alloc: Global, engine: Engine<'_>, plan: Plan) -> (&'static str, u64,
     (word, reader.failed(), out.calls())
 }
 
-/// Whether it ends well and writes where no call of the reader fails; else as a failed read that writes nothing.
+/// Whether it ends well and writes if no call of the reader fails; otherwise as a failed read that writes nothing.
 fn reads(alloc: Global, engine: Engine<'_>, fails: u64) -> bool {
     let plan = Plan {
         most: 500,

@@ -36,7 +36,7 @@ fn merged_by(alloc: Global, first: Plan, second: Plan, write: Plan) -> Ended {
     merged_from(alloc, &mut readers, write)
 }
 
-/// Whether it ends well and writes where no call of a reader fails; else as a failed read that writes nothing.
+/// Whether it ends well and writes if no call of a reader fails; otherwise as a failed read that writes nothing.
 fn reads(alloc: Global, first: Plan, second: Plan) -> bool {
     let (word, failed, calls, _) = merged_by(alloc, first, second, FINE);
     if failed == 0 {

@@ -9,7 +9,7 @@ use std::test::Fail;
 use t1_font::Form;
 use t1_tiny::{PFA, PFB};
 
-/// What an engine wrote, where it ended well; want of memory where it was refused and wrote nothing.
+/// What an engine wrote, if it ended well; want of memory if it was refused and wrote nothing.
 fn written(out: Vec<u8>, ended: Result<(), RunFault>) -> Result<Option<Vec<u8>>, AllocError> {
     match ended {
         Ok(()) => Ok(Some(out)),

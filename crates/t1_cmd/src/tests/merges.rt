@@ -28,7 +28,7 @@ fn merged<'a>(alloc: Global, left: &'a [u8], right: &'a [u8]) -> Vec<u8> {
     merged_from(alloc, &mut readers)
 }
 
-/// The same, of two files in either order; nothing where the orders differ.
+/// The same, of two files in either order; nothing if the orders differ.
 fn either<'a>(alloc: Global, left: &'a [u8], right: &'a [u8]) -> Vec<u8> {
     let one = merged(alloc, left, right);
     let other = merged(alloc, right, left);
