@@ -172,7 +172,6 @@ module _ (stubs : Numbered) (fs out left next : List FontValue) (f : FontValue) 
 
 -- ---- the parts of one
 
--- whether there are entries is told by how many there are
 pub lent_none : (es : List (ℕ × Bor (List ℕ))) → (length es == 0) ≡ has_none (map lent_number es)
 lent_none [] = refl
 lent_none (e ∷ es) = elim (cases_Bool (length (e ∷ es) == 0)) [ inl t ↦ absurd (omega (arith, eqb-true (length (e ∷ es)) 0 t)) | inr t ↦ t ]
