@@ -246,9 +246,6 @@ module _ {O : Type 0} (m : Interpreter O) where
   pub sought : (f : FontValue) (p n : List ℕ) → calls_for m f n p ≡ true → is_sought m f p ≡ true
   sought f p n h = called_sought f p n (maps.get f.glyphs n) refl h
 
-  called_absent : (f : FontValue) (p n : List ℕ) (x : Option (List ℕ)) → maps.get f.glyphs n ≡ x → is_sought m f p ≡ false → called_at m f p x ≡ false
-  called_absent f p n x e h = not_so (called_at m f p x) (λ k. clash (is_sought m f p) (called_sought f p n x e k) h)
-
   -- ---- from no conflict to the join
 
   module _ (f g : FontValue) where

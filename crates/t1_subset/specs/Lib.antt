@@ -7,7 +7,7 @@ pub mod StateLaws
 pub mod NameStates
 pub mod JoinedEntries
 pub mod Outcomes
-pub mod Trees
+pub mod Groupings
 pub mod Conflicts
 pub mod Laws
 pub mod Differences

@@ -47,11 +47,6 @@ joined_first None true v y = refl
 joined_first None false v y = refl
 joined_first (Some w) b v y = refl
 
-pub joined_either : {V : Type 0} (x : Option V) (a b : Bool) (v : V) → joined (joined x (cond a (Some v) None)) (cond b (Some v) None) ≡ joined x (cond (a || b) (Some v) None)
-joined_either None true b v = refl
-joined_either None false b v = refl
-joined_either (Some w) a b v = refl
-
 pub joined_none : {V : Type 0} (x : Option V) → joined x None ≡ x
 joined_none None = refl
 joined_none (Some v) = refl
