@@ -18,7 +18,8 @@ use Rattle.t1_subset.proofs.JoinedStates.{constant, entry_of}
 use Rattle.t1_subset.proofs.JoinOfSubsets.{same_font}
 use Rattle.t1_subset.proofs.Maps.{maps_same}
 use Rattle.t1_subset.proofs.Sets.{name_same}
-use Rattle.t1_subset.proofs.state_tables.FontStates.{meant, get-names, get-used, shared_to}
+use Rattle.t1_subset.proofs.state_tables.FontStates.{meant, get-names, get-used}
+use Rattle.t1_subset.proofs.Shares.{shared_to}
 use Rattle.t1_subset.proofs.state_tables.Numbered.{get-numbered}
 
 same_numbered : (s t : Numbered) → numbered s ≡ numbered t → (i : ℕ) → maps.get s i ≡ maps.get t i

@@ -9,6 +9,8 @@ pub mod JoinedStates
 pub mod Known
 pub mod Orders
 pub mod Drawings
+pub mod Searching
+pub mod Shares
 pub mod Conflicts
 pub mod JoinedEntries
 pub mod Smallest

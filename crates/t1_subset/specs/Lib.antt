@@ -1,6 +1,8 @@
 pub mod Interpreter
 pub mod Profile
 pub mod Keep
+pub mod Searches
+pub mod Shared
 pub mod States
 pub mod StateTables
 pub mod StateLaws

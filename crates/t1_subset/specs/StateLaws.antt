@@ -9,7 +9,8 @@ use Rattle.t1_join.specs.TableMeaning.{TableMeaning, TablesAgree, TablesJoin}
 use Rattle.t1_join.specs.TableLaws.{table_laws, table_by_pairs, get_joined}
 use Rattle.t1_font.specs.FontValue.{total}
 use Rattle.t1_font.proofs.MapLemmas.{total-le}
-use Rattle.t1_subset.specs.StateTables.{Shared, StatesValue, name_part, subr_part, shared_weight, subr_adds, name_adds, name_counts, states_weight, StatesFit, PartsJoin, StatesAgree, StatesJoin}
+use Rattle.t1_subset.specs.StateTables.{StatesValue, name_part, subr_part, shared_weight, subr_adds, name_adds, name_counts, states_weight, StatesFit, PartsJoin, StatesAgree, StatesJoin}
+use Rattle.t1_subset.specs.Shared.{Shared}
 
 -- part by part
 abbrev pub PartsAgree : StatesValue → StatesValue → Type 0

@@ -9,7 +9,7 @@ use Rattle.t1_font.proofs.even_fonts.EvenStays.{even_fonts_stay}
 use Rattle.t1_subset.specs.Profile.{profile}
 use Rattle.t1_subset.specs.Rejoins.{IsUntagged, MergingFontsAreEven}
 use Rattle.t1_subset.proofs.Orders.{Below, above}
-use Rattle.t1_subset.proofs.state_tables.FontStates.{shared_to}
+use Rattle.t1_subset.proofs.Shares.{shared_to}
 
 each_even : (j : FontValue) (fs : List FontValue) → AllByRecursion (Below profile j) fs → AllByRecursion IsUntagged fs → AllByRecursion (IsEvenWith j) fs
 each_even j [] b u = tt

@@ -15,7 +15,8 @@ use Rattle.t1_subset.specs.Interpreter.{same_bytes}
 use Rattle.t1_subset.specs.Keep.{has, components, charstring}
 use Rattle.t1_subset.specs.Profile.{profile}
 use Rattle.t1_subset.specs.States.{Agree, joined, is_called, is_sought, state_of_glyph, joined_font, Compatible}
-use Rattle.t1_subset.specs.Conflicts.{first_where, smallest, members, keys_of_both, executes, executed_at, calls_for, called_at, wants, wanted_by, used_by, glyph_names}
+use Rattle.t1_subset.specs.Conflicts.{keys_of_both, executes, executed_at, calls_for, called_at, wants, wanted_by, used_by, glyph_names}
+use Rattle.t1_subset.specs.Searches.{smallest, members, first_where}
 use Rattle.t1_subset.specs.Differences.{smaller}
 use Rattle.t1_subset.specs.Callers.{same_charstring, user_of, seeker_of, user_from, seeker_from, AreCallersOf}
 use Rattle.t1_subset.specs.Users.{user_at}

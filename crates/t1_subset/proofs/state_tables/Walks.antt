@@ -12,7 +12,8 @@ use Rattle.t1_subset.specs.Profile.{profile}
 use Rattle.t1_subset.specs.States.{Join, joined_font, IsWithin}
 use Rattle.t1_subset.specs.StateTables.{StatesValue, StatesAgree, StatesJoin, states_of}
 use Rattle.t1_subset.specs.StateLaws.{states_laws}
-use Rattle.t1_subset.specs.Conflicts.{OverLimit, found, is_within, states_conflict, conflict}
+use Rattle.t1_subset.specs.Conflicts.{OverLimit, is_within, states_conflict, conflict}
+use Rattle.t1_subset.specs.Searches.{found}
 use Rattle.t1_subset.specs.Refusals.{Tells}
 use Rattle.t1_subset.specs.Callers.{AreCallersOf, AreNoted, fonts_of}
 use Rattle.t1_subset.specs.Clashes.{AreStatesOf, AreCallers}
