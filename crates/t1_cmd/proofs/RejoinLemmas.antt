@@ -10,8 +10,8 @@ use Rattle.t1_font.specs.IsFont.{IsFont}
 use Rattle.t1_subset.specs.Merger.{ComesTo}
 use Rattle.t1_subset.specs.Profile.{profile}
 use Rattle.t1_subset.specs.Rejoins.{IsUntagged}
-use Rattle.t1_subset.specs.Trees.{Leaf, left_tree}
-use Rattle.t1_subset.proofs.ManyMerges.{left_leaves}
+use Rattle.t1_join.specs.Groupings.{one, from_left}
+use Rattle.t1_join.proofs.OrderLemmas.{leaves_from_left}
 use Rattle.t1_subset.proofs.rejoining.MergingFonts.{merging_fonts_are_even}
 use Rattle.t1_subset.proofs.Orders.{one_result}
 use Rattle.t1_cmd.specs.declared.faults.Reason.{Reason}
@@ -55,12 +55,12 @@ all_light (f ∷ fs) h = (h.0.light, all_light fs h.1)
 even_already : (fs : List FontValue) (j : FontValue) → AllByRecursion IsUntagged fs → ComesTo fs j → evened fs ≡ fs
 even_already [] j u h = absurd h
 even_already (f ∷ fs) j u h =
-    let all = left_leaves (Leaf f) fs in
-    subst (λ (gs : List FontValue). evened gs ≡ gs) all (merging_fonts_are_even (left_tree (Leaf f) fs) j h (subst (AllByRecursion IsUntagged) (sym all) u))
+    let all = leaves_from_left (one f) fs in
+    subst (λ (gs : List FontValue). evened gs ≡ gs) all (merging_fonts_are_even (from_left (one f) fs) j h (subst (AllByRecursion IsUntagged) (sym all) u))
 
 comes_to_one : (fs : List FontValue) (j k : FontValue) → ComesTo fs j → ComesTo fs k → j ≡ k
 comes_to_one [] j k h i = absurd h
-comes_to_one (f ∷ fs) j k h i = one_result profile (left_tree (Leaf f) fs) j k h i
+comes_to_one (f ∷ fs) j k h i = one_result profile (from_left (one f) fs) j k h i
 
 one_answer : (form : Form) (fs : List FontValue) (text : List ℕ) → MergesTo form fs (Ok text) → (answer : Result (List ℕ) Reason) → MergesTo form fs answer → answer ≡ Ok text
 one_answer form fs text h (Ok other) k = ap Ok (k.2 ∙ (ap (λ (j : FontValue). canon j form) (comes_to_one fs k.0 h.0 k.1 h.1) ∙ sym h.2))

@@ -17,7 +17,7 @@ use Rattle.t1_subset.specs.Profile.{profile}
 use Rattle.t1_subset.specs.Keep.{subset}
 use Rattle.t1_subset.specs.Laws.{IsOf}
 use Rattle.t1_subset.specs.Merger.{IsRefused as FontsRefused}
-use Rattle.t1_subset.specs.Trees.{union_all}
+use Rattle.t1_subset.specs.Groupings.{union_all}
 use Rattle.t1_subset.proofs.Fonts.{subset_is_font}
 use Rattle.t1_subset.proofs.Headline.{subset_again}
 use Rattle.t1_subset.proofs.ManyMerges.{of_all_subsets}

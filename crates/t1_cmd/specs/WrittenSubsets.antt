@@ -10,7 +10,7 @@ use Rattle.t1_subset.specs.Interpreter.{Names}
 use Rattle.t1_subset.specs.Profile.{profile}
 use Rattle.t1_subset.specs.Keep.{subset}
 use Rattle.t1_subset.specs.Laws.{IsOf}
-use Rattle.t1_subset.specs.Trees.{union_all}
+use Rattle.t1_subset.specs.Groupings.{union_all}
 use Rattle.t1_cmd.specs.declared.counting.Counted.{Counted}
 use Rattle.t1_cmd.specs.declared.faults.Reason.TheVariants.{Memory}
 use Rattle.t1_cmd.specs.declared.faults.RunFault.{RunFault}

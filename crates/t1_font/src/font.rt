@@ -7,7 +7,7 @@ ghost use Rattle.t1_font.specs.FontValue.{weight};
 ghost use Rattle.t1_font.specs.FontModel.{clamp, part_of, word_of, name_at, names_in, subr_at};
 ghost use Rattle.t1_font.specs.IsFont.{IsFont};
 
-use crate::lent::{Named, NamedEntries, Numbered};
+use crate::lent::{Named, NamedEntries, Numbered, NumberedEntries};
 use crate::shell::Shell;
 use std::marker::Model;
 use t1_run::{Glyphs, Subroutines};
@@ -104,6 +104,15 @@ impl<'a> Font<'a> {
     {
         Names {
             inner: self.parts.glyphs.entries(),
+        }
+    }
+
+    /// The indices of the Subrs that have an entry, upwards.
+    pub fn indices(&self) -> Indices<'_, 'a>
+        ensures { result ≡ fin.keys self.now.subrs }
+    {
+        Indices {
+            inner: self.parts.subrs.entries(),
         }
     }
 
@@ -234,6 +243,37 @@ impl<'t, 'a> Iterator for Names<'t, 'a> {
     fn next(&mut self) -> Option<&'a [u8]> {
         let (name, _) = self.inner.next()?;
         Some(name)
+    }
+}
+
+/// The indices of a font's Subrs, upwards.
+#[derive(Drop)]
+pub struct Indices<'t, 'a> {
+    inner: NumberedEntries<'t, 'a>,
+}
+
+impl<'t, 'a> Model for Indices<'t, 'a> {
+    ghost use Rattle.std.specs.Prelude.{List, ℕ, map};
+
+    ghost Value = { List ℕ };
+
+    ghost view = { λ s. map (λ e. e.0) s.inner };
+}
+
+impl<'t, 'a> Iterator for Indices<'t, 'a> {
+    type Item = u16;
+
+    ghost use Rattle.std.specs.Prelude.{length};
+    ghost use Rattle.std.specs.Iterator.{at_most};
+    ghost use Rattle.std.specs.Map.Iter.{TakesFirst};
+
+    ghost next_gives = { TakesFirst (λ i. i) };
+
+    ghost remaining = { λ s. at_most (length s) };
+
+    fn next(&mut self) -> Option<u16> {
+        let (index, _) = self.inner.next()?;
+        Some(index)
     }
 }
 

@@ -45,7 +45,7 @@ pub use evening::even_shells;
 pub use fault::ReadFault;
 pub use file::{read, read_vec};
 pub use filling::fill_all;
-pub use font::{Font, Names, Part};
+pub use font::{Font, Indices, Names, Part};
 pub use limits::{COUNT_LIMIT, WEIGHT_LIMIT};
 pub use parts::{PartsFault, join_parts};
 pub use shell::Shell;

@@ -20,6 +20,13 @@ same_laws = record {
   idempotent = λ x. (refl, refl);
 }
 
+-- what joins each of two values that join joins their join; so it is of joins where nothing but pairs is compared, and not of those within limits
+abbrev pub AgreesByPairs : {M : Type 0} → (M → M → Type 0) → (M → M → M → Type 0) → Type 0
+AgreesByPairs {M} Agrees Joins = (x y z w : M) → Joins x y w → Agrees x z → Agrees y z → Agrees w z
+
+pub same_by_pairs : {M : Type 0} → AgreesByPairs {M = M} Same SameJoin
+same_by_pairs x y z w h a b = h.1 ∙ a
+
 -- ---- pairs, part by part
 
 abbrev pub BothAgree : {M N : Type 0} → (M → M → Type 0) → (N → N → Type 0) → M × N → M × N → Type 0
@@ -40,6 +47,9 @@ both_laws l m = record {
       ((s.0, t.0), (s.1, t.1), (s.2, t.2));
   idempotent = λ x. (l.idempotent x.0, m.idempotent x.1);
 }
+
+pub both_by_pairs : {M N : Type 0} {A : M → M → Type 0} {J : M → M → M → Type 0} {B : N → N → Type 0} {K : N → N → N → Type 0} → AgreesByPairs A J → AgreesByPairs B K → AgreesByPairs (BothAgree A B) (BothJoin J K)
+both_by_pairs p q x y z w h a b = (p x.0 y.0 z.0 w.0 h.0 a.0 b.0, q x.1 y.1 z.1 w.1 h.1 a.1 b.1)
 
 -- ---- values within limits
 

@@ -1,120 +1,25 @@
 -- Two fonts have no conflict exactly where they join, and one conflict in both orders.
-use Rattle.std.proofs.Common.{◌≡◌, ◌↔◌, ℕ, Bool, true, false, cond, not, ◌&&◌, ◌||◌, List, [], ◌∷◌, map, option_map, refl, sym, ◌∙◌, ap, subst, true≢false, inl, inr, Ordering, Option, Some, None, is_some, unwrap_or, nat_le}
-use Rattle.std.specs.List.{list_any, list_all, AllByRecursion}
-use Rattle.std.specs.Ordering.{eq_by_cmp}
-use Rattle.std.specs.Cmp.{IsTotalOrder, nat_cmp_total, both_ways, first_so, second_so}
+use Rattle.std.proofs.Common.{◌≡◌, ◌↔◌, ℕ, Bool, true, false, cond, not, ◌&&◌, ◌||◌, List, [], refl, sym, ◌∙◌, ap, subst, true≢false, inl, inr, Ordering, Option, Some, None, is_some, unwrap_or, nat_le}
+use Rattle.std.specs.List.{list_any}
+use Rattle.std.specs.Cmp.{IsTotalOrder, nat_cmp_total, first_so, second_so}
 use Rattle.std.specs.Cmp.Lexicographic.{nat_list_cmp_total}
 use Rattle.std.specs.FinSet.{IsAntisymmetric, nat_cmp-IsAntisymmetric}
 use Rattle.std.specs.FinMap as maps
-use Rattle.std.specs.FinMap.{find}
-use Rattle.t1_font.specs.Maps.{merged}
-use Rattle.t1_font.specs.FontValue.{FontValue, Shell, Encoding, Word, Codes, weight, weight_limit, count_limit, SubrsShell, declared_count}
-use Rattle.t1_font.specs.FontModel.{of_subrs}
-use Rattle.t1_font.specs.WriteLaws.{SameKind}
-use Rattle.t1_font.proofs.MapLemmas.{Some_same, Some_None, get-map_values}
-use Rattle.t1_subset.specs.Conflicts.{ShellPart, Head, EncodingPart, ClearTail, Private, SubrsTable, SubrsWords, Middle, GlyphsWords, Tail, Conflict, ShellDiffers, CodeDiffers, GlyphDiffers, LacksComponent, SubrDiffers, OverLimit, first_where, members, smallest, found, keys_of_both, agrees, same_number, same_bool, same_words, same_keys, same_kind, codes_of_both, executes, calls_for, called_at, wants, same_part, code_clashes, glyph_clashes, glyph_names, wanted_by, component_clashes, subr_clashes, used_by, is_within, shell_conflict, code_conflict, glyph_conflict, component_conflict, subr_conflict, states_conflict, conflict}
+use Rattle.t1_font.specs.FontValue.{FontValue, Encoding, Word, Codes, weight, weight_limit, count_limit}
+use Rattle.t1_font.proofs.MapLemmas.{Some_same, Some_None}
+use Rattle.t1_subset.specs.Conflicts.{Conflict, ShellDiffers, CodeDiffers, GlyphDiffers, LacksComponent, SubrDiffers, OverLimit, keys_of_both, agrees, codes_of_both, executes, calls_for, called_at, wants, code_clashes, glyph_clashes, glyph_names, wanted_by, component_clashes, subr_clashes, used_by, is_within, shell_conflict, code_conflict, glyph_conflict, component_conflict, subr_conflict, states_conflict, conflict}
+use Rattle.t1_subset.specs.Searches.{members, smallest, found}
+use Rattle.t1_subset.specs.Shared.{shared_of}
 use Rattle.t1_subset.specs.Interpreter.{Interpreter, same_bytes}
 use Rattle.t1_subset.specs.Keep.{has, components}
-use Rattle.t1_subset.specs.States.{IsWithin, Agree, joined, code_state, is_sought, subr_state, state_of_glyph, state_of_entry, joined_font, Compatible, Join}
+use Rattle.t1_subset.specs.States.{IsWithin, Agree, code_state, is_sought, subr_state, state_of_glyph, state_of_entry, joined_font, Compatible, Join}
 use Rattle.t1_subset.proofs.Flat.{agree_back}
-use Rattle.t1_subset.proofs.Maps.{any_in, any_of, get-merged, maps_same}
-use Rattle.t1_subset.proofs.Sets.{name_same, and_so, or_left, or_right, or_cases, is_or_not, clash, not_so, tied, itself, any_one, any_at, all_at, all_from}
+use Rattle.t1_subset.proofs.Maps.{any_in, any_of}
+use Rattle.t1_subset.proofs.Sets.{name_same, and_so, or_left, or_right, or_cases, is_or_not, clash, not_so, tied, itself, any_one, any_at}
 use Rattle.t1_subset.proofs.JoinedStates.{font_back, compatible_back}
 use Rattle.std.proofs.lemmas.Bool.{leb-true, le-leb}
-
--- ---- searches
-
-pub not_false : (b : Bool) → not b ≡ false → b ≡ true
-not_false true h = refl
-not_false false h = absurd (true≢false h)
-
-pub false_of : (b : Bool) → b ≡ true → not b ≡ false
-false_of true h = refl
-false_of false h = absurd (true≢false (sym h))
-
-pub or_swap : (a b : Bool) → (a || b) ≡ (b || a)
-or_swap true true = refl
-or_swap true false = refl
-or_swap false true = refl
-or_swap false false = refl
-
-module _ {X : Type 0} (p : X → Bool) where
-  pub none_passes : (xs : List X) → first_where p xs ≡ None → AllByRecursion (λ x. p x ≡ false) xs
-  none_passes [] h = tt
-  none_passes (x ∷ xs) h =
-      elim (p x) as (λ b. p x ≡ b → cond b (Some x) (first_where p xs) ≡ None → (p x ≡ false) × AllByRecursion (λ x. p x ≡ false) xs) [
-        | true ↦ λ e h. Some_None h
-        | false ↦ λ e h. (e, none_passes xs h)
-      ] refl h
-
-  pub passes_none : (xs : List X) → ((x : X) → p x ≡ false) → first_where p xs ≡ None
-  passes_none [] h = refl
-  passes_none (x ∷ xs) h = ap (λ b. cond b (Some x) (first_where p xs)) (h x) ∙ passes_none xs h
-
-pub found_none : {X Y : Type 0} (f : X → Y) (x : Option X) (e : Option Y) → found f x e ≡ None → (x ≡ None) × (e ≡ None)
-found_none f None e h = (refl, h)
-found_none f (Some x) e h = Some_None h
-
-pub none_found : {X Y : Type 0} (f : X → Y) (x : Option X) (e : Option Y) → x ≡ None → e ≡ None → found f x e ≡ None
-none_found f x e h k = ap (λ x. found f x e) h ∙ k
-
-module _ {K : Type 0} {R : K → K → Ordering} (o : IsTotalOrder R) (same : IsAntisymmetric R) where
-  none_at : (p : K → Bool) (q : K) (ks : List K) → AllByRecursion (λ k. p k ≡ false) ks → list_any (eq_by_cmp R q) ks ≡ true → p q ≡ false
-  none_at p q [] all h = absurd (true≢false (sym h))
-  none_at p q (k ∷ ks) all h = elim (or_cases (eq_by_cmp R q k) (list_any (eq_by_cmp R q) ks) h) [
-    | inl a ↦ ap p (tied o same q k a) ∙ all.0
-    | inr b ↦ none_at p q ks all.1 b
-  ]
-
-  pub none_at_all : (p : K → Bool) (ks : List K) (q : K) → first_where p ks ≡ None → list_any (eq_by_cmp R q) ks ≡ true → p q ≡ false
-  none_at_all p ks q h k = none_at p q ks (none_passes p ks h) k
-
-  found_key : {X : Type 0} (q : K) (es : List (K × X)) → is_some (find R q es) ≡ list_any (eq_by_cmp R q) (map (λ e. e.0) es)
-  found_key q [] = refl
-  found_key q (e ∷ es) = elim (eq_by_cmp R q e.0) as (λ b. is_some (cond b (Some e.1) (find R q es)) ≡ (b || list_any (eq_by_cmp R q) (map (λ e. e.0) es))) [ true ↦ refl | false ↦ found_key q es ]
-
-  pub contains-members : (s : maps.FinMap R ℕ) (q : K) → maps.contains_key s q ≡ list_any (eq_by_cmp R q) (members s)
-  contains-members s q = ap is_some (maps.get-entries s q) ∙ found_key q (maps.entries s)
-
-  -- nothing of the set passes
-  pub smallest_none : (p : K → Bool) (s : maps.FinMap R ℕ) (q : K) → smallest p s ≡ None → maps.contains_key s q ≡ true → p q ≡ false
-  smallest_none p s q h k = none_at p q (members s) (none_passes p (members s) h) (sym (contains-members s q) ∙ k)
-
-  module _ {X : Type 0} where
-    get-both : (a b : maps.FinMap R X) (q : K) → maps.get (keys_of_both a b) q ≡ option_map (λ v. 0) (joined (maps.get a q) (maps.get b q))
-    get-both a b q = get-map_values o same (λ k v. 0) (merged a b) q ∙ ap (option_map (λ v. 0)) (get-merged o same a b q)
-
-    in_one : (x y : Option X) → is_some (option_map {U = ℕ} (λ v. 0) (joined x y)) ≡ (is_some x || is_some y)
-    in_one None None = refl
-    in_one None (Some w) = refl
-    in_one (Some v) y = refl
-
-    pub in_both : (a b : maps.FinMap R X) (q : K) → maps.contains_key (keys_of_both a b) q ≡ (maps.contains_key a q || maps.contains_key b q)
-    in_both a b q = ap is_some (get-both a b q) ∙ in_one (maps.get a q) (maps.get b q)
-
-    one_back : (x y : Option X) → option_map {U = ℕ} (λ v. 0) (joined x y) ≡ option_map (λ v. 0) (joined y x)
-    one_back None None = refl
-    one_back None (Some w) = refl
-    one_back (Some v) None = refl
-    one_back (Some v) (Some w) = refl
-
-    pub both_back : (a b : maps.FinMap R X) → keys_of_both a b ≡ keys_of_both b a
-    both_back a b = maps_same o same (keys_of_both a b) (keys_of_both b a) (λ q. get-both a b q ∙ one_back (maps.get a q) (maps.get b q) ∙ sym (get-both b a q))
-
-module _ {K : Type 0} {R : K → K → Ordering} (o : IsTotalOrder R) (same : IsAntisymmetric R) {X : Type 0} (a b : maps.FinMap R X) where
-  there : same_keys a b ≡ true → (q : K) → maps.contains_key a q ≡ true → maps.contains_key b q ≡ true
-  there h q k = all_at o same (maps.contains_key b) q (maps.keys a) (first_so (list_all (maps.contains_key b) (maps.keys a)) _ h) (sym (maps.contains_key-keys a q) ∙ k)
-
-  back : same_keys a b ≡ true → (q : K) → maps.contains_key b q ≡ true → maps.contains_key a q ≡ true
-  back h q k = all_at o same (maps.contains_key a) q (maps.keys b) (second_so (list_all (maps.contains_key b) (maps.keys a)) _ h) (sym (maps.contains_key-keys b q) ∙ k)
-
-  pub keys_so : same_keys a b ≡ true → (q : K) → maps.contains_key a q ≡ maps.contains_key b q
-  keys_so h q = both_ways (maps.contains_key a q) (maps.contains_key b q) (there h q) (back h q)
-
-  pub so_keys : ((q : K) → maps.contains_key a q ≡ maps.contains_key b q) → same_keys a b ≡ true
-  so_keys h = and_so (list_all (maps.contains_key b) (maps.keys a)) (list_all (maps.contains_key a) (maps.keys b))
-      (all_from o same (maps.contains_key b) (maps.keys a) (λ q k. sym (h q) ∙ maps.contains_key-keys a q ∙ k))
-      (all_from o same (maps.contains_key a) (maps.keys b) (λ q k. h q ∙ maps.contains_key-keys b q ∙ k))
+use Rattle.t1_subset.proofs.Searching.{not_false, false_of, or_swap, passes_none, found_none, none_found, contains-members, smallest_none, in_both, both_back}
+use Rattle.t1_subset.proofs.Shares.{is_same, swaps, bytes_decide, Shares, shared_so, no_part_differs, differing_back, shared_from, shared_to}
 
 -- ---- tests
 
@@ -127,83 +32,6 @@ pub so_agrees : (x y : Option (List ℕ)) → Agree x y → agrees x y ≡ true
 so_agrees None y h = refl
 so_agrees (Some v) None h = refl
 so_agrees (Some v) (Some w) h = ap (λ u. same_bytes v u) (sym h) ∙ itself nat_list_cmp_total name_same v
-
--- a test that decides equality is the same both ways
-pub test_back : {X : Type 0} (t : X → X → Bool) → ((x y : X) → t x y ≡ true → x ≡ y) → ((x : X) → t x x ≡ true) → (x y : X) → t x y ≡ t y x
-test_back t so self x y =
-    elim (is_or_not (t x y)) [
-      | inl a ↦ a ∙ sym (ap (λ z. t z x) (sym (so x y a)) ∙ self x)
-      | inr b ↦ b ∙ sym (not_so (t y x) (λ k. true≢false (sym (ap (λ z. t x z) (so y x k) ∙ self x) ∙ b)))
-    ]
-
--- ---- each test decides
-
-module _ {X : Type 0} (t : X → X → Bool) where
-  pub record Decides : Type 0 where
-    pub so : (x y : X) → t x y ≡ true → x ≡ y
-    pub self : (x : X) → t x x ≡ true
-
-  pub is_same : Decides → (x y : X) → x ≡ y → t x y ≡ true
-  is_same d x y e = ap (t x) (sym e) ∙ d.self x
-
-  pub swaps : Decides → (x y : X) → t x y ≡ t y x
-  swaps d = test_back t d.so d.self
-
-pub bytes_decide : Decides same_bytes
-bytes_decide = record { so = tied nat_list_cmp_total name_same; self = itself nat_list_cmp_total name_same }
-
-pub numbers_decide : Decides same_number
-numbers_decide = record { so = tied nat_cmp_total nat_cmp-IsAntisymmetric; self = itself nat_cmp_total nat_cmp-IsAntisymmetric }
-
-bool_so : (a b : Bool) → same_bool a b ≡ true → a ≡ b
-bool_so true b h = sym h
-bool_so false true h = h
-bool_so false false h = refl
-
-bool_self : (a : Bool) → same_bool a a ≡ true
-bool_self true = refl
-bool_self false = refl
-
-pub bools_decide : Decides same_bool
-bools_decide = record { so = bool_so; self = bool_self }
-
--- the words of Subrs are known by the test where both fonts have them, or neither
-subrs_so : (s t : Option SubrsShell) → is_some s ≡ is_some t → declared_count s ≡ declared_count t → same_words s t ≡ true → s ≡ t
-subrs_so None None p d w = refl
-subrs_so None (Some t) p d w = absurd (true≢false (sym p))
-subrs_so (Some s) None p d w = absurd (true≢false p)
-subrs_so (Some s) (Some t) p d w =
-    let rd = bytes_decide.so s.rd t.rd (first_so (same_bytes s.rd t.rd) _ w) in
-    let more = second_so (same_bytes s.rd t.rd) _ w in
-    let put = bytes_decide.so s.put t.put (first_so (same_bytes s.put t.put) _ more) in
-    let closing = bytes_decide.so s.closing t.closing (second_so (same_bytes s.put t.put) _ more) in
-    λ i. Some (record { declared = d i; rd = rd i; put = put i; closing = closing i })
-
-words_self : (s : Option SubrsShell) → same_words s s ≡ true
-words_self s = and_so (same_bytes (of_subrs (λ w. w.rd) s) (of_subrs (λ w. w.rd) s)) _ (bytes_decide.self (of_subrs (λ w. w.rd) s))
-    (and_so (same_bytes (of_subrs (λ w. w.put) s) (of_subrs (λ w. w.put) s)) _ (bytes_decide.self (of_subrs (λ w. w.put) s)) (bytes_decide.self (of_subrs (λ w. w.closing) s)))
-
-words_swap : (s t : Option SubrsShell) → same_words s t ≡ same_words t s
-words_swap s t = λ i. swaps same_bytes bytes_decide (of_subrs (λ w. w.rd) s) (of_subrs (λ w. w.rd) t) i
-    && (swaps same_bytes bytes_decide (of_subrs (λ w. w.put) s) (of_subrs (λ w. w.put) t) i && swaps same_bytes bytes_decide (of_subrs (λ w. w.closing) s) (of_subrs (λ w. w.closing) t) i)
-
-kind_so : (d e : Encoding) → same_kind d e ≡ true → SameKind d e
-kind_so (Word v) (Word w) h = bytes_decide.so v w h
-kind_so (Word v) (Codes t) h = true≢false (sym h)
-kind_so (Codes s) (Word w) h = true≢false (sym h)
-kind_so (Codes s) (Codes t) h = tt
-
-so_kind : (d e : Encoding) → SameKind d e → same_kind d e ≡ true
-so_kind (Word v) (Word w) h = is_same same_bytes bytes_decide v w h
-so_kind (Word v) (Codes t) h = absurd h
-so_kind (Codes s) (Word w) h = absurd h
-so_kind (Codes s) (Codes t) h = refl
-
-pub kind_swap : (d e : Encoding) → same_kind d e ≡ same_kind e d
-kind_swap (Word v) (Word w) = swaps same_bytes bytes_decide v w
-kind_swap (Word v) (Codes t) = refl
-kind_swap (Codes s) (Word w) = refl
-kind_swap (Codes s) (Codes t) = refl
 
 pub agrees_swap : (x y : Option (List ℕ)) → agrees x y ≡ agrees y x
 agrees_swap None None = refl
@@ -222,14 +50,6 @@ codes_swap (Word v) (Codes t) = refl
 codes_swap (Codes s) (Word w) = refl
 codes_swap (Codes s) (Codes t) = both_back nat_cmp_total nat_cmp-IsAntisymmetric s t
 
--- ---- what is shared
-
--- the shells are equal, the same Subrs are present, and the Encodings are the same word or both tables
-pub record Shares (f g : FontValue) : Type 0 where
-  pub shells : f.shell ≡ g.shell
-  pub present : (i : ℕ) → maps.contains_key f.subrs i ≡ maps.contains_key g.subrs i
-  pub kinds : SameKind f.encoding g.encoding
-
 -- ---- components that are lacking
 
 module _ {O : Type 0} (m : Interpreter O) where
@@ -246,33 +66,9 @@ module _ {O : Type 0} (m : Interpreter O) where
   pub sought : (f : FontValue) (p n : List ℕ) → calls_for m f n p ≡ true → is_sought m f p ≡ true
   sought f p n h = called_sought f p n (maps.get f.glyphs n) refl h
 
-  called_absent : (f : FontValue) (p n : List ℕ) (x : Option (List ℕ)) → maps.get f.glyphs n ≡ x → is_sought m f p ≡ false → called_at m f p x ≡ false
-  called_absent f p n x e h = not_so (called_at m f p x) (λ k. clash (is_sought m f p) (called_sought f p n x e k) h)
-
   -- ---- from no conflict to the join
 
   module _ (f g : FontValue) where
-    same_shells : AllByRecursion (λ part. not (same_part f g part) ≡ false) (Head ∷ EncodingPart ∷ ClearTail ∷ Private ∷ SubrsTable ∷ SubrsWords ∷ Middle ∷ GlyphsWords ∷ Tail ∷ []) → f.shell ≡ g.shell
-    same_shells h =
-        let head = bytes_decide.so f.shell.head g.shell.head (not_false _ h.0) in
-        let clear_tail = bytes_decide.so f.shell.clear_tail g.shell.clear_tail (not_false _ h.1.1.0) in
-        let privates = not_false _ h.1.1.1.0 in
-        let private = bytes_decide.so f.shell.private g.shell.private (first_so (same_bytes f.shell.private g.shell.private) _ privates) in
-        let len_iv = numbers_decide.so f.shell.len_iv g.shell.len_iv (second_so (same_bytes f.shell.private g.shell.private) _ privates) in
-        let table = not_false _ h.1.1.1.1.0 in
-        let there = bools_decide.so (is_some f.shell.subrs) (is_some g.shell.subrs) (first_so (same_bool (is_some f.shell.subrs) (is_some g.shell.subrs)) _ table) in
-        let count = numbers_decide.so (declared_count f.shell.subrs) (declared_count g.shell.subrs) (first_so (same_number (declared_count f.shell.subrs) (declared_count g.shell.subrs)) _ (second_so (same_bool (is_some f.shell.subrs) (is_some g.shell.subrs)) _ table)) in
-        let subrs = subrs_so f.shell.subrs g.shell.subrs there count (not_false _ h.1.1.1.1.1.0) in
-        let middle = bytes_decide.so f.shell.middle g.shell.middle (not_false _ h.1.1.1.1.1.1.0) in
-        let words = not_false _ h.1.1.1.1.1.1.1.0 in
-        let rd = bytes_decide.so f.shell.glyphs_rd g.shell.glyphs_rd (first_so (same_bytes f.shell.glyphs_rd g.shell.glyphs_rd) _ words) in
-        let def = bytes_decide.so f.shell.glyphs_def g.shell.glyphs_def (second_so (same_bytes f.shell.glyphs_rd g.shell.glyphs_rd) _ words) in
-        let tail = bytes_decide.so f.shell.tail g.shell.tail (not_false _ h.1.1.1.1.1.1.1.1.0) in
-        λ i. record { head = head i; clear_tail = clear_tail i; private = private i; middle = middle i; tail = tail i; len_iv = len_iv i; subrs = subrs i; glyphs_rd = rd i; glyphs_def = def i }
-
-    table_keys : same_part f g SubrsTable ≡ true → same_keys f.subrs g.subrs ≡ true
-    table_keys h = second_so (same_number (declared_count f.shell.subrs) (declared_count g.shell.subrs)) _ (second_so (same_bool (is_some f.shell.subrs) (is_some g.shell.subrs)) _ h)
-
     -- a key that neither has, or that only one has, does not clash
     out_of_both : {K : Type 0} {R : K → K → Ordering} (o : IsTotalOrder R) (same : IsAntisymmetric R) (a b : maps.FinMap R (List ℕ)) (q : K) → maps.contains_key (keys_of_both a b) q ≡ false → agrees (maps.get a q) (maps.get b q) ≡ true
     out_of_both o same a b q h = agrees_none (maps.get a q) (maps.get b q) (not_so (maps.contains_key b q) (λ k. clash (maps.contains_key (keys_of_both a b) q) (in_both o same a b q ∙ or_right (maps.contains_key a q) (maps.contains_key b q) k) h))
@@ -345,13 +141,7 @@ module _ {O : Type 0} (m : Interpreter O) where
 
   module _ (f g : FontValue) where
     pub shares : shell_conflict f g ≡ None → Shares f g
-    shares h =
-        let parts = none_passes (λ part. not (same_part f g part)) (Head ∷ EncodingPart ∷ ClearTail ∷ Private ∷ SubrsTable ∷ SubrsWords ∷ Middle ∷ GlyphsWords ∷ Tail ∷ []) h in
-        record {
-          shells = same_shells f g parts;
-          present = keys_so nat_cmp_total nat_cmp-IsAntisymmetric f.subrs g.subrs (table_keys f g (not_false (same_part f g SubrsTable) parts.1.1.1.1.0));
-          kinds = kind_so f.encoding g.encoding (not_false (same_part f g EncodingPart) parts.1.0);
-        }
+    shares h = shared_to f g (shared_so (shared_of f) (shared_of g) h)
 
     pub compatible : states_conflict m f g ≡ None → Compatible m f g
     compatible h =
@@ -372,34 +162,12 @@ module _ {O : Type 0} (m : Interpreter O) where
 
 -- ---- from the join to no conflict
 
-and_swap : (a b : Bool) → (a && b) ≡ (b && a)
-and_swap true true = refl
-and_swap true false = refl
-and_swap false true = refl
-and_swap false false = refl
-
-module _ (f g : FontValue) (c : Shares f g) where
-  shell_so : {X : Type 0} (t : X → X → Bool) → Decides t → (part : Shell → X) → t (part f.shell) (part g.shell) ≡ true
-  shell_so t d part = is_same t d (part f.shell) (part g.shell) (ap part c.shells)
-
-  part_so : (part : ShellPart) → not (same_part f g part) ≡ false
-  part_so Head = false_of _ (shell_so same_bytes bytes_decide (λ s. s.head))
-  part_so EncodingPart = false_of _ (so_kind f.encoding g.encoding c.kinds)
-  part_so ClearTail = false_of _ (shell_so same_bytes bytes_decide (λ s. s.clear_tail))
-  part_so Private = false_of _ (and_so (same_bytes f.shell.private g.shell.private) (same_number f.shell.len_iv g.shell.len_iv) (shell_so same_bytes bytes_decide (λ s. s.private)) (shell_so same_number numbers_decide (λ s. s.len_iv)))
-  part_so SubrsTable = false_of _ (and_so (same_bool (is_some f.shell.subrs) (is_some g.shell.subrs)) _ (shell_so same_bool bools_decide (λ s. is_some s.subrs))
-      (and_so (same_number (declared_count f.shell.subrs) (declared_count g.shell.subrs)) _ (shell_so same_number numbers_decide (λ s. declared_count s.subrs)) (so_keys nat_cmp_total nat_cmp-IsAntisymmetric f.subrs g.subrs c.present)))
-  part_so SubrsWords = false_of _ (ap (λ (s : Shell). same_words f.shell.subrs s.subrs) (sym c.shells) ∙ words_self f.shell.subrs)
-  part_so Middle = false_of _ (shell_so same_bytes bytes_decide (λ s. s.middle))
-  part_so GlyphsWords = false_of _ (and_so (same_bytes f.shell.glyphs_rd g.shell.glyphs_rd) _ (shell_so same_bytes bytes_decide (λ s. s.glyphs_rd)) (shell_so same_bytes bytes_decide (λ s. s.glyphs_def)))
-  part_so Tail = false_of _ (shell_so same_bytes bytes_decide (λ s. s.tail))
-
-  pub no_shell_conflict : shell_conflict f g ≡ None
-  no_shell_conflict = passes_none (λ part. not (same_part f g part)) (Head ∷ EncodingPart ∷ ClearTail ∷ Private ∷ SubrsTable ∷ SubrsWords ∷ Middle ∷ GlyphsWords ∷ Tail ∷ []) part_so
+pub no_shell_conflict : (f g : FontValue) → Shares f g → shell_conflict f g ≡ None
+no_shell_conflict f g c = no_part_differs (shared_of f) (shared_of g) (shared_from f g c)
 
 module _ {O : Type 0} (m : Interpreter O) (f g : FontValue) (c : Compatible m f g) where
-  pub shared_so : Shares f g
-  shared_so = record { shells = c.shells; present = c.present; kinds = c.kinds }
+  pub shares_all : Shares f g
+  shares_all = record { shells = c.shells; present = c.present; kinds = c.kinds }
 
   glyph_at : (n : List ℕ) (x y : Option (List ℕ)) → Agree (state_of_glyph m f n x) (state_of_glyph m g n y) → agrees x y ≡ true
   glyph_at n None y h = refl
@@ -441,7 +209,7 @@ module _ {O : Type 0} (m : Interpreter O) (f g : FontValue) (c : Compatible m f 
 
   pub no_states_conflict : states_conflict m f g ≡ None
   no_states_conflict =
-      none_found ShellDiffers (shell_conflict f g) _ (no_shell_conflict f g (shared_so m f g c))
+      none_found ShellDiffers (shell_conflict f g) _ (no_shell_conflict f g (shares_all m f g c))
       (none_found CodeDiffers (code_conflict f g) _ (passes_none (code_clashes f g) (members (codes_of_both f.encoding g.encoding)) (λ k. false_of _ (so_agrees (code_state f.encoding k) (code_state g.encoding k) (c.codes k))))
       (none_found GlyphDiffers (glyph_conflict f g) _ (passes_none (glyph_clashes f g) (members (glyph_names f g)) (glyph_so m f g c))
       (none_found (λ p. LacksComponent (unwrap_or (smallest (wanted_by m f g p) (glyph_names f g)) []) p) (component_conflict m f g) _ (passes_none (component_clashes m f g) (members (glyph_names f g)) no_component)
@@ -471,19 +239,8 @@ no_conflict m f g = (
 -- ---- both orders
 
 module _ {O : Type 0} (m : Interpreter O) (f g : FontValue) where
-  part_swap : (part : ShellPart) → same_part f g part ≡ same_part g f part
-  part_swap Head = swaps same_bytes bytes_decide f.shell.head g.shell.head
-  part_swap EncodingPart = kind_swap f.encoding g.encoding
-  part_swap ClearTail = swaps same_bytes bytes_decide f.shell.clear_tail g.shell.clear_tail
-  part_swap Private = λ i. swaps same_bytes bytes_decide f.shell.private g.shell.private i && swaps same_number numbers_decide f.shell.len_iv g.shell.len_iv i
-  part_swap SubrsTable = λ i. swaps same_bool bools_decide (is_some f.shell.subrs) (is_some g.shell.subrs) i && (swaps same_number numbers_decide (declared_count f.shell.subrs) (declared_count g.shell.subrs) i && and_swap (list_all (maps.contains_key g.subrs) (maps.keys f.subrs)) (list_all (maps.contains_key f.subrs) (maps.keys g.subrs)) i)
-  part_swap SubrsWords = words_swap f.shell.subrs g.shell.subrs
-  part_swap Middle = swaps same_bytes bytes_decide f.shell.middle g.shell.middle
-  part_swap GlyphsWords = λ i. swaps same_bytes bytes_decide f.shell.glyphs_rd g.shell.glyphs_rd i && swaps same_bytes bytes_decide f.shell.glyphs_def g.shell.glyphs_def i
-  part_swap Tail = swaps same_bytes bytes_decide f.shell.tail g.shell.tail
-
   shell_back : shell_conflict f g ≡ shell_conflict g f
-  shell_back = λ i. first_where (λ part. not (part_swap part i)) (Head ∷ EncodingPart ∷ ClearTail ∷ Private ∷ SubrsTable ∷ SubrsWords ∷ Middle ∷ GlyphsWords ∷ Tail ∷ [])
+  shell_back = differing_back (shared_of f) (shared_of g)
 
   code_back : code_conflict f g ≡ code_conflict g f
   code_back = λ i. smallest (λ c. not (agrees_swap (code_state f.encoding c) (code_state g.encoding c) i)) (codes_swap f.encoding g.encoding i)

@@ -7,7 +7,8 @@ use Rattle.t1_font.proofs.Kept.{restrict_is_font, join_is_font}
 use Rattle.t1_subset.specs.Interpreter.{Interpreter, Names}
 use Rattle.t1_subset.specs.Keep.{keep, kept, subset}
 use Rattle.t1_subset.specs.States.{IsWithin, Join, joined_font}
-use Rattle.t1_subset.specs.Trees.{Tree, Leaf, Both, map_tree, EachLeaf, leaves, union_all, Merges}
+use Rattle.t1_join.specs.Groupings.{Grouping, one, two, map_grouping, EachLeaf, leaves}
+use Rattle.t1_subset.specs.Groupings.{union_all, Merges}
 use Rattle.t1_subset.specs.Laws.{IsOf}
 use Rattle.t1_subset.proofs.Kept.{keep_closed}
 use Rattle.t1_subset.proofs.JoinOfSubsets.{join_is_subset, subsets_join}
@@ -18,9 +19,9 @@ use Rattle.t1_subset.proofs.Orders.{any_order, one_result, join_back}
 pub font_within : (f : FontValue) → IsFont f → IsWithin f
 font_within f h = record { weight = h.light; glyphs = h.glyphs.few }
 
-pub fonts_within : (t : Tree FontValue) → EachLeaf IsFont t → EachLeaf IsWithin t
-fonts_within (Leaf f) h = font_within f h
-fonts_within (Both s t) h = (fonts_within s h.0, fonts_within t h.1)
+pub fonts_within : (t : Grouping FontValue) → EachLeaf IsFont t → EachLeaf IsWithin t
+fonts_within (one f) h = font_within f h
+fonts_within (two s t) h = (fonts_within s h.0, fonts_within t h.1)
 
 abbrev IsLight : FontValue → Type 0
 IsLight f = weight f ≤ weight_limit
@@ -43,14 +44,14 @@ module _ {O : Type 0} (m : Interpreter O) where
       let back = join_back m (subset m f a) (subset m f b) join in
       (join, same, back.0, sym back.1 ∙ same)
 
-  pub many_subsets : (f : FontValue) → IsFont f → (all : List Names) (t : Tree Names) → IsPermutation all (leaves t) → EachLeaf (IsOf f) t → Merges m (map_tree (subset m f) t) (subset m f (union_all all))
-  many_subsets f h all t p i = subst (λ (a : Names). Merges m (map_tree (subset m f) t) (subset m f a)) (all_alike all t p) (tree_merges m f h t i)
+  pub many_subsets : (f : FontValue) → IsFont f → (all : List Names) (t : Grouping Names) → IsPermutation all (leaves t) → EachLeaf (IsOf f) t → Merges m (map_grouping (subset m f) t) (subset m f (union_all all))
+  many_subsets f h all t p i = subst (λ (a : Names). Merges m (map_grouping (subset m f) t) (subset m f a)) (all_alike all t p) (tree_merges m f h t i)
 
-  pub merges_are_fonts : (t : Tree FontValue) (j : FontValue) → Merges m t j → EachLeaf IsFont t → IsFont j
-  merges_are_fonts (Leaf f) j k h = subst IsFont k h
-  merges_are_fonts (Both s t) j k h = subst IsFont k.5 (joined_is_font k.0 k.1 (merges_are_fonts s k.0 k.2 h.0) (merges_are_fonts t k.1 k.3 h.1) k.4)
+  pub merges_are_fonts : (t : Grouping FontValue) (j : FontValue) → Merges m t j → EachLeaf IsFont t → IsFont j
+  merges_are_fonts (one f) j k h = subst IsFont k h
+  merges_are_fonts (two s t) j k h = subst IsFont k.4.1 (joined_is_font k.0 k.1 (merges_are_fonts s k.0 k.2 h.0) (merges_are_fonts t k.1 k.3 h.1) k.4.0)
 
-  pub any_order_of_fonts : (s t : Tree FontValue) → IsPermutation (leaves s) (leaves t) → EachLeaf IsFont s → (j : FontValue) → Merges m s j → IsFont j × Merges m t j × ((k : FontValue) → Merges m t k → k ≡ j)
+  pub any_order_of_fonts : (s t : Grouping FontValue) → IsPermutation (leaves s) (leaves t) → EachLeaf IsFont s → (j : FontValue) → Merges m s j → IsFont j × Merges m t j × ((k : FontValue) → Merges m t k → k ≡ j)
   any_order_of_fonts s t p h j k =
       let there = any_order m s t p (fonts_within s h) j k in
       (merges_are_fonts s j k h, there, λ q w. one_result m t q j w there)

@@ -14,7 +14,8 @@ use Rattle.t1_subset.specs.Keep.{subset}
 use Rattle.t1_subset.specs.Profile.{profile}
 use Rattle.t1_subset.specs.States.{joined_font}
 use Rattle.t1_subset.specs.Laws.{IsOf, DrawsAlike}
-use Rattle.t1_subset.specs.Trees.{EachLeaf, leaves, union_all}
+use Rattle.t1_join.specs.Groupings.{EachLeaf, leaves}
+use Rattle.t1_subset.specs.Groupings.{union_all}
 use Rattle.t1_subset.specs.Headline.{Making, Subset, Merge, Again, sets_of, FormsFit, Makes, ComesToSubset}
 use Rattle.t1_subset.proofs.Alike.{subset_alike}
 use Rattle.t1_subset.proofs.Fonts.{subset_is_font, two_subsets}
@@ -38,7 +39,7 @@ module _ (f : FontValue) (h : IsFont f) where
   makes (Subset a form) i k = subset_again a form i k
   makes (Merge s t) i k =
       let both = two_subsets profile f h (all_of (sets_of s)) (all_of (sets_of t)) (all_is_of profile f h (sets_of s) i.0) (all_is_of profile f h (sets_of t) i.1) in
-      (subset profile f (all_of (sets_of s)), subset profile f (all_of (sets_of t)), makes s i.0 k.0, makes t i.1 k.1, both.0, both.1)
+      (subset profile f (all_of (sets_of s)), subset profile f (all_of (sets_of t)), makes s i.0 k.0, makes t i.1 k.1, (both.0, both.1))
   makes (Again form s) i k = (subset profile f (all_of (sets_of s)), makes s i k.1, subset_again (all_of (sets_of s)) form (all_is_of profile f h (sets_of s) i) k.0)
 
   makes_one : (m : Making) → EachLeaf (IsOf f) (sets_of m) → FormsFit f m → (j : FontValue) → Makes f m j → j ≡ subset profile f (all_of (sets_of m))
@@ -46,7 +47,7 @@ module _ (f : FontValue) (h : IsFont f) where
   makes_one (Merge s t) i k j d =
       let left = makes_one s i.0 k.0 d.0 d.2 in
       let right = makes_one t i.1 k.1 d.1 d.3 in
-      sym d.5 ∙ (λ x. joined_font profile (left x) (right x)) ∙ (two_subsets profile f h (all_of (sets_of s)) (all_of (sets_of t)) (all_is_of profile f h (sets_of s) i.0) (all_is_of profile f h (sets_of t) i.1)).1
+      sym d.4.1 ∙ (λ x. joined_font profile (left x) (right x)) ∙ (two_subsets profile f h (all_of (sets_of s)) (all_of (sets_of t)) (all_is_of profile f h (sets_of s) i.0) (all_is_of profile f h (sets_of t) i.1)).1
   makes_one (Again form s) i k j d =
       let on_the_way = makes_one s i k.1 d.0 d.1 in
       one_read j (subset profile f (all_of (sets_of s))) (sym d.2 ∙ ap (λ (p : FontValue). read_font (canon p form)) on_the_way ∙ subset_again (all_of (sets_of s)) form (all_is_of profile f h (sets_of s) i) k.0)

@@ -77,10 +77,6 @@ font_back m f g c = same_font (joined_font m f g) (joined_font m g f) c.shells (
 
 -- ---- the states of one font
 
-not_none : {X : Type 0} (b : Bool) (e : X) (v : X) → cond b None (Some e) ≡ Some v → e ≡ v
-not_none true e v h = Some_None (sym h)
-not_none false e v h = Some_same h
-
 -- an entry is its state, and a stub where that is the bottom
 pub entry_of : (b : Bool) (e : List ℕ) → (b ≡ true → e ≡ stub) → e ≡ unwrap_or (cond b None (Some e)) stub
 entry_of true e h = h refl
@@ -216,11 +212,6 @@ code_joined (Word v) (Word w) h c = refl
 code_joined (Word v) (Codes t) h c = absurd h
 code_joined (Codes s) (Word w) h c = absurd h
 code_joined (Codes s) (Codes t) h c = get-merged nat_cmp_total nat_cmp-IsAntisymmetric s t c
-
-pub kind_joined : (d e : Encoding) → SameKind d e → SameKind d (join_encodings d e)
-kind_joined (Word v) e h = refl
-kind_joined (Codes s) (Word w) h = tt
-kind_joined (Codes s) (Codes t) h = tt
 
 pub is_some_map : {X Y : Type 0} (y : Y) (x : Option X) → is_some (option_map (λ v. y) x) ≡ is_some x
 is_some_map y None = refl

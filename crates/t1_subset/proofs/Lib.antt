@@ -6,9 +6,11 @@ pub mod CutFonts
 pub mod JoinOfSubsets
 pub mod Trees
 pub mod JoinedStates
-pub mod Order
+pub mod Known
 pub mod Orders
 pub mod Drawings
+pub mod Searching
+pub mod Shares
 pub mod Conflicts
 pub mod JoinedEntries
 pub mod Smallest
@@ -19,7 +21,7 @@ pub mod Fonts
 mod closing
 pub mod state_tables
 pub mod ManyMerges
-mod ListMergers
+pub mod ListMergers
 pub mod Headline
 pub mod rejoining
 pub mod rows

@@ -14,13 +14,15 @@ use Rattle.t1_subset.specs.Laws.{DrawsAlike}
 use Rattle.t1_subset.specs.States.{IsWithin, Join, joined_font}
 use Rattle.t1_subset.specs.Conflicts.{conflict}
 use Rattle.t1_subset.specs.Refusals.{Tells}
-use Rattle.t1_subset.specs.Trees.{Tree, Leaf, Both, EachLeaf, leaves, left_tree, Merges, folded}
+use Rattle.t1_join.specs.Groupings.{Grouping, one, two, EachLeaf, leaves, from_left}
+use Rattle.t1_subset.specs.Groupings.{Merges, folded}
 use Rattle.t1_subset.specs.Merger.{IsMerger, MergesItself, DrawsAll, StopsAt, ComesTo, IsRefused, AcceptsAllJoin, MergesToNone, MergesInAnyOrder}
 use Rattle.t1_subset.proofs.Alike.{left_alike, right_alike}
 use Rattle.t1_subset.proofs.Conflicts.{no_conflict, conflict_back}
 use Rattle.t1_subset.proofs.Fonts.{font_within, fonts_within, any_order_of_fonts}
-use Rattle.t1_subset.proofs.ManyMerges.{tells_none, left_leaves}
-use Rattle.t1_subset.proofs.Orders.{by_append, each_leaf, same_leaves, any_order, one_result, join_self, join_back, accepted_from_pairs, pairs_from_accepted, folded_is, within}
+use Rattle.t1_subset.proofs.ManyMerges.{tells_none}
+use Rattle.t1_join.proofs.OrderLemmas.{all_of_both, each_leaf, leaves_from_left, same_leaves}
+use Rattle.t1_subset.proofs.Orders.{any_order, one_result, join_self, join_back, accepted_from_pairs, pairs_from_accepted, folded_is, within}
 
 -- ---- two fonts
 
@@ -57,35 +59,35 @@ all_on : (p j : FontValue) → Draws j p → (fs : List FontValue) → AllByRecu
 all_on p j b [] h = tt
 all_on p j b (f ∷ fs) h = (draws_on f p j h.0 b, all_on p j b fs h.1)
 
-all_draw : (t : Tree FontValue) (j : FontValue) → Merges profile t j → DrawsAll (leaves t) j
-all_draw (Leaf f) j m = (subst (λ (j : FontValue). Draws j f) m (draws_self f), tt)
-all_draw (Both s t) j m =
-    let l : Draws j m.0 = subst (λ (j : FontValue). Draws j m.0) m.5 (left_alike m.0 m.1 m.4.states) in
-    let r : Draws j m.1 = subst (λ (j : FontValue). Draws j m.1) m.5 (right_alike m.0 m.1 m.4.states) in
-    by_append (Draws j) (leaves s) (leaves t) (all_on m.0 j l (leaves s) (all_draw s m.0 m.2)) (all_on m.1 j r (leaves t) (all_draw t m.1 m.3))
+all_draw : (t : Grouping FontValue) (j : FontValue) → Merges profile t j → DrawsAll (leaves t) j
+all_draw (one f) j m = (subst (λ (j : FontValue). Draws j f) m (draws_self f), tt)
+all_draw (two s t) j m =
+    let l : Draws j m.0 = subst (λ (j : FontValue). Draws j m.0) m.4.1 (left_alike m.0 m.1 m.4.0.states) in
+    let r : Draws j m.1 = subst (λ (j : FontValue). Draws j m.1) m.4.1 (right_alike m.0 m.1 m.4.0.states) in
+    all_of_both (Draws j) (leaves s) (leaves t) (all_on m.0 j l (leaves s) (all_draw s m.0 m.2)) (all_on m.1 j r (leaves t) (all_draw t m.1 m.3))
 
 pub draws_all : (fs : List FontValue) (r : Result FontValue Refusal) → IfOk r (λ j. ComesTo fs j) → IfOk r (λ j. DrawsAll fs j)
 draws_all fs (Err e) h = tt
 draws_all [] (Ok j) h = absurd h
-draws_all (f ∷ fs) (Ok j) h = subst (λ (gs : List FontValue). DrawsAll gs j) (left_leaves (Leaf f) fs) (all_draw (left_tree (Leaf f) fs) j h)
+draws_all (f ∷ fs) (Ok j) h = subst (λ (gs : List FontValue). DrawsAll gs j) (leaves_from_left (one f) fs) (all_draw (from_left (one f) fs) j h)
 
 -- ---- from left to right
 
-left_append : {X : Type 0} (t : Tree X) (xs ys : List X) → left_tree t (xs ++ ys) ≡ left_tree (left_tree t xs) ys
+left_append : {X : Type 0} (t : Grouping X) (xs ys : List X) → from_left t (xs ++ ys) ≡ from_left (from_left t xs) ys
 left_append t [] ys = refl
-left_append t (x ∷ xs) ys = left_append (Both t (Leaf x)) xs ys
+left_append t (x ∷ xs) ys = left_append (two t (one x)) xs ys
 
-inner : (t : Tree FontValue) (xs : List FontValue) (j : FontValue) → Merges profile (left_tree t xs) j → (p : FontValue) × Merges profile t p
+inner : (t : Grouping FontValue) (xs : List FontValue) (j : FontValue) → Merges profile (from_left t xs) j → (p : FontValue) × Merges profile t p
 inner t [] j m = (j, m)
-inner t (x ∷ xs) j m = let r = inner (Both t (Leaf x)) xs j m in (r.1.0, r.1.2)
+inner t (x ∷ xs) j m = let r = inner (two t (one x)) xs j m in (r.1.0, r.1.2)
 
 -- fonts that merge from left to right stop nowhere
-never_stops : (f : FontValue) (fs : List FontValue) (j : FontValue) → Merges profile (left_tree (Leaf f) fs) j → (e : Refusal) → StopsAt f fs e → e ≡ refusal.Memory
+pub never_stops : (f : FontValue) (fs : List FontValue) (j : FontValue) → Merges profile (from_left (one f) fs) j → (e : Refusal) → StopsAt f fs e → e ≡ refusal.Memory
 never_stops f fs j m e s =
-    let front = left_tree (Leaf f) s.before in
-    let cut : left_tree (Leaf f) fs ≡ left_tree (Both front (Leaf s.font)) s.after = ap (left_tree (Leaf f)) s.list ∙ left_append (Leaf f) s.before (s.font ∷ s.after) in
-    let r = (inner (Both front (Leaf s.font)) s.after j (subst (λ (t : Tree FontValue). Merges profile t j) cut m)).1 in
-    let join : Join profile s.joined s.font = subst (λ (g : FontValue). Join profile s.joined g) (sym r.3) (subst (λ (p : FontValue). Join profile p r.1) (one_result profile front r.0 s.joined r.2 s.merges) r.4) in
+    let front = from_left (one f) s.before in
+    let cut : from_left (one f) fs ≡ from_left (two front (one s.font)) s.after = ap (from_left (one f)) s.list ∙ left_append (one f) s.before (s.font ∷ s.after) in
+    let r = (inner (two front (one s.font)) s.after j (subst (λ (t : Grouping FontValue). Merges profile t j) cut m)).1 in
+    let join : Join profile s.joined s.font = subst (λ (g : FontValue). Join profile s.joined g) (sym r.3) (subst (λ (p : FontValue). Join profile p r.1) (one_result profile front r.0 s.joined r.2 s.merges) r.4.0) in
     tells_none e (conflict profile s.joined s.font) ((no_conflict profile s.joined s.font).1 join) s.tells
 
 -- a refusal is want of memory where A holds, so it is that, or A doesn't hold
@@ -99,17 +101,17 @@ or_memory refusal.Limit h = inr (λ a. let e = h a in cc)
 or_memory refusal.Memory h = inl refl
 or_memory refusal.Empty h = inr (λ a. let e = h a in cc)
 
-has_leaves : {X : Type 0} (t : Tree X) → 0 < length (leaves t)
-has_leaves (Leaf x) = omega arith
-has_leaves (Both s t) = let a = has_leaves s in let b = length-append (leaves s) (leaves t) in omega (arith, a, b)
+has_leaves : {X : Type 0} (t : Grouping X) → 0 < length (leaves t)
+has_leaves (one x) = omega arith
+has_leaves (two s t) = let a = has_leaves s in let b = length-append (leaves s) (leaves t) in omega (arith, a, b)
 
-no_tree : {X : Type 0} (t : Tree X) → IsPermutation [] (leaves t) → ⊥
+no_tree : {X : Type 0} (t : Grouping X) → IsPermutation [] (leaves t) → ⊥
 no_tree t p = let a = has_leaves t in let b = length_permutation [] (leaves t) p in omega (arith, a, b)
 
-pub each_font : (f : FontValue) (fs : List FontValue) → AllByRecursion IsFont (f ∷ fs) → EachLeaf IsFont (left_tree (Leaf f) fs)
-each_font f fs w = each_leaf IsFont (left_tree (Leaf f) fs) (subst (AllByRecursion IsFont) (sym (left_leaves (Leaf f) fs)) w)
+pub each_font : (f : FontValue) (fs : List FontValue) → AllByRecursion IsFont (f ∷ fs) → EachLeaf IsFont (from_left (one f) fs)
+each_font f fs w = each_leaf IsFont (from_left (one f) fs) (subst (AllByRecursion IsFont) (sym (leaves_from_left (one f) fs)) w)
 
-refusal_is : (f : FontValue) (fs : List FontValue) (e : Refusal) (j : FontValue) → IsRefused (f ∷ fs) e → Merges profile (left_tree (Leaf f) fs) j → e ≡ refusal.Memory
+refusal_is : (f : FontValue) (fs : List FontValue) (e : Refusal) (j : FontValue) → IsRefused (f ∷ fs) e → Merges profile (from_left (one f) fs) j → e ≡ refusal.Memory
 refusal_is f fs e j h m = elim h [ inl k ↦ k | inr s ↦ never_stops f fs j m e s ]
 
 pub accepts : (fs : List FontValue) → AllByRecursion IsFont fs → (r : Result FontValue Refusal) → IfOk r (λ j. ComesTo fs j) → IfErr r (λ e. IsRefused fs e) → AcceptsAllJoin fs r
@@ -117,24 +119,24 @@ accepts [] w (Ok j) ok err = ok
 accepts [] w (Err e) ok err = inr (λ a. a)
 accepts (f ∷ fs) w (Ok j) ok err =
     let folded-is = folded_is profile f fs j ok in
-    (pairs_from_accepted profile f fs j ok, subst IsWithin (sym folded-is) (within profile (left_tree (Leaf f) fs) j ok (fonts_within (left_tree (Leaf f) fs) (each_font f fs w))))
+    (pairs_from_accepted profile f fs j ok, subst IsWithin (sym folded-is) (within profile (from_left (one f) fs) j ok (fonts_within (from_left (one f) fs) (each_font f fs w))))
 accepts (f ∷ fs) w (Err e) ok err = or_memory e (λ a. refusal_is f fs e (folded profile f fs) err (accepted_from_pairs profile f fs a.0 a.1))
 
 pub in_any_order : (fs : List FontValue) → AllByRecursion IsFont fs → (r : Result FontValue Refusal) → IfOk r (λ j. ComesTo fs j) → IfErr r (λ e. IsRefused fs e) → MergesInAnyOrder fs r
 in_any_order [] w (Ok j) ok err t p = absurd ok
 in_any_order [] w (Err e) ok err t p = inr (λ k m. no_tree t p)
 in_any_order (f ∷ fs) w (Ok j) ok err t p =
-    let all = any_order_of_fonts profile (left_tree (Leaf f) fs) t (subst (λ (l : List FontValue). IsPermutation l (leaves t)) (sym (left_leaves (Leaf f) fs)) p) (each_font f fs w) j ok in
+    let all = any_order_of_fonts profile (from_left (one f) fs) t (subst (λ (l : List FontValue). IsPermutation l (leaves t)) (sym (leaves_from_left (one f) fs)) p) (each_font f fs w) j ok in
     (all.1, all.2)
 in_any_order (f ∷ fs) w (Err e) ok err t p =
-    let from-left : IsPermutation (leaves (left_tree (Leaf f) fs)) (leaves t) = subst (λ (l : List FontValue). IsPermutation l (leaves t)) (sym (left_leaves (Leaf f) fs)) p in
-    let to-left = IsPermutation-sym (leaves (left_tree (Leaf f) fs)) (leaves t) from-left in
-    let fonts = same_leaves IsFont (left_tree (Leaf f) fs) t from-left (each_font f fs w) in
-    elim (or_memory {A = (k : FontValue) × Merges profile t k} e (λ a. refusal_is f fs e a.0 err (any_order profile t (left_tree (Leaf f) fs) to-left (fonts_within t fonts) a.0 a.1))) [
+    let from-left : IsPermutation (leaves (from_left (one f) fs)) (leaves t) = subst (λ (l : List FontValue). IsPermutation l (leaves t)) (sym (leaves_from_left (one f) fs)) p in
+    let to-left = IsPermutation-sym (leaves (from_left (one f) fs)) (leaves t) from-left in
+    let fonts = same_leaves IsFont (from_left (one f) fs) t from-left (each_font f fs w) in
+    elim (or_memory {A = (k : FontValue) × Merges profile t k} e (λ a. refusal_is f fs e a.0 err (any_order profile t (from_left (one f) fs) to-left (fonts_within t fonts) a.0 a.1))) [
       | inl k ↦ inl k
       | inr n ↦ inr (λ k m. n (k, m))
     ]
 
-pub none_in_any_order : (fs : List FontValue) (b : Bool) → b ≡ nat_eq (length fs) 0 → b ≡ true → (t : Tree FontValue) → IsPermutation fs (leaves t) → (refusal.Empty ≡ refusal.Memory) ⊎ MergesToNone t
+pub none_in_any_order : (fs : List FontValue) (b : Bool) → b ≡ nat_eq (length fs) 0 → b ≡ true → (t : Grouping FontValue) → IsPermutation fs (leaves t) → (refusal.Empty ≡ refusal.Memory) ⊎ MergesToNone t
 none_in_any_order [] b e h t p = inr (λ k m. no_tree t p)
 none_in_any_order (f ∷ fs) b e h t p = absurd (let none = eqb-true (length (f ∷ fs)) 0 (sym e ∙ h) in omega (arith, none))

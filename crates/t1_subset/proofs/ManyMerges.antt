@@ -1,10 +1,10 @@
 -- What merges of the subsets of one font come to, and what a merge of many fonts comes to.
-use Rattle.std.proofs.Common.{◌≡◌, inl, inr, ℕ, ◌+◌, ◌<◌, List, [], ◌∷◌, ◌++◌, map, take, drop, length, get_or, append_assoc, refl, sym, ◌∙◌, ap, subst, Option, None, Result, Ok, Err, IfOk, IfErr, IsPermutation}
+use Rattle.std.proofs.Common.{◌≡◌, inl, inr, List, [], ◌∷◌, ◌++◌, map, refl, sym, ◌∙◌, ap, subst, Option, None, Result, Ok, Err, IfOk, IfErr, IsPermutation}
 use Rattle.std.specs.List.{AllByRecursion}
 use Rattle.std.specs.FinSet as sets
 use Rattle.std.specs.Cmp.Lexicographic.{nat_list_cmp_total}
-use Rattle.std.proofs.lemmas.List.{take-append-drop, take_more, append-nil}
 use Rattle.std.proofs.lemmas.List.Sorted.{IsPermutation-refl}
+use Rattle.t1_join.proofs.OrderLemmas.{leaves_from_left}
 use Rattle.t1_font.specs.FontValue.{FontValue, name_cmp}
 use Rattle.t1_font.specs.IsFont.{IsFont}
 use Rattle.t1_subset.specs.declared.conflict.Conflict.{Conflict as Refusal}
@@ -16,12 +16,12 @@ use Rattle.t1_subset.specs.Laws.{IsOf, DrawsAlike}
 use Rattle.t1_subset.specs.States.{Join, joined_font}
 use Rattle.t1_subset.specs.Conflicts.{Conflict, conflict}
 use Rattle.t1_subset.specs.Refusals.{Tells}
-use Rattle.t1_subset.specs.Trees.{Tree, Leaf, Both, EachLeaf, leaves, map_tree, left_tree, Merges, union_all}
+use Rattle.t1_join.specs.Groupings.{Grouping, one, two, EachLeaf, map_grouping, from_left}
+use Rattle.t1_subset.specs.Groupings.{Merges, union_all}
 use Rattle.t1_subset.specs.Merger.{DrawsBoth, StopsAt, ComesTo, IsRefused, MergesSubsets, MergesAllSubsets}
 use Rattle.t1_subset.proofs.Alike.{left_alike, right_alike}
 use Rattle.t1_subset.proofs.Conflicts.{no_conflict}
 use Rattle.t1_subset.proofs.Fonts.{font_within, two_subsets, many_subsets}
-use Rattle.t1_subset.proofs.closing.ClosureLists.{from_here}
 use Rattle.t1_subset.proofs.Orders.{join_self, one_result}
 use Rattle.t1_subset.proofs.Sets.{in_union, clash, name_same}
 
@@ -61,39 +61,17 @@ module _ (g h : FontValue) where
 
 -- ---- from left to right
 
-pub left_snoc : {X : Type 0} (t : Tree X) (xs : List X) (x : X) → left_tree t (xs ++ x ∷ []) ≡ Both (left_tree t xs) (Leaf x)
+pub left_snoc : {X : Type 0} (t : Grouping X) (xs : List X) (x : X) → from_left t (xs ++ x ∷ []) ≡ two (from_left t xs) (one x)
 left_snoc t [] x = refl
-left_snoc t (y ∷ ys) x = left_snoc (Both t (Leaf y)) ys x
+left_snoc t (y ∷ ys) x = left_snoc (two t (one y)) ys x
 
-pub left_leaves : {X : Type 0} (t : Tree X) (xs : List X) → leaves (left_tree t xs) ≡ leaves t ++ xs
-left_leaves t [] = sym (append-nil (leaves t))
-left_leaves t (x ∷ xs) = left_leaves (Both t (Leaf x)) xs ∙ append_assoc (leaves t) (x ∷ []) xs
-
-left_map : {X Y : Type 0} (g : X → Y) (t : Tree X) (xs : List X) → map_tree g (left_tree t xs) ≡ left_tree (map_tree g t) (map g xs)
+left_map : {X Y : Type 0} (g : X → Y) (t : Grouping X) (xs : List X) → map_grouping g (from_left t xs) ≡ from_left (map_grouping g t) (map g xs)
 left_map g t [] = refl
-left_map g t (x ∷ xs) = left_map g (Both t (Leaf x)) xs
+left_map g t (x ∷ xs) = left_map g (two t (one x)) xs
 
-left_each : {X : Type 0} (P : X → Type 0) (t : Tree X) (xs : List X) → EachLeaf P t → AllByRecursion P xs → EachLeaf P (left_tree t xs)
+left_each : {X : Type 0} (P : X → Type 0) (t : Grouping X) (xs : List X) → EachLeaf P t → AllByRecursion P xs → EachLeaf P (from_left t xs)
 left_each P t [] h k = h
-left_each P t (x ∷ xs) h k = left_each P (Both t (Leaf x)) xs (h, k.0) k.1
-
-module _ (f : FontValue) (fs : List FontValue) (i : ℕ) (x : FontValue) (l : i < length fs) (e : x ≡ get_or fs i x) (all : FontValue) (m : Merges profile (left_tree (Leaf f) (take i fs)) all) where
-  taken : take (i + 1) fs ≡ take i fs ++ x ∷ []
-  taken = take_more fs i x l ∙ ap (λ y. take i fs ++ y ∷ []) (sym e)
-
-  pub goes_on : (j : FontValue) → Join profile all x → j ≡ joined_font profile all x → Merges profile (left_tree (Leaf f) (take (i + 1) fs)) j
-  goes_on j join is = subst (λ (t : Tree FontValue). Merges profile t j) (sym (ap (left_tree (Leaf f)) taken ∙ left_snoc (Leaf f) (take i fs) x)) (all, x, m, refl, join, sym is)
-
-  pub stops : (c : Refusal) → Tells c (conflict profile all x) → StopsAt f fs c
-  stops c t = record {
-    before = take i fs;
-    font = x;
-    after = drop (i + 1) fs;
-    joined = all;
-    list = sym (take-append-drop i fs) ∙ ap (λ ys. take i fs ++ ys) (from_here fs i x l e);
-    merges = m;
-    tells = t;
-  }
+left_each P t (x ∷ xs) h k = left_each P (two t (one x)) xs (h, k.0) k.1
 
 -- ---- subsets of one font
 
@@ -124,19 +102,19 @@ module _ (f : FontValue) (w : IsFont f) where
   all_of_font a [] h n k = elim (in_union nat_list_cmp_total name_same a sets.empty n k) [ inl x ↦ h.0 n x | inr x ↦ clash (sets.contains {R = name_cmp} sets.empty n) x (sets.contains-empty name_cmp n) ]
   all_of_font a (b ∷ more) h n k = elim (in_union nat_list_cmp_total name_same a (union_all (b ∷ more)) n k) [ inl x ↦ h.0 n x | inr x ↦ all_of_font b more h.1 n x ]
 
-  pub all_merge : (a : Names) (more : List Names) → AllByRecursion (IsOf f) (a ∷ more) → Merges profile (left_tree (Leaf (subset profile f a)) (map (subset profile f) more)) (subset profile f (union_all (a ∷ more)))
-  all_merge a more h = subst (λ (t : Tree FontValue). Merges profile t (subset profile f (union_all (a ∷ more)))) (left_map (subset profile f) (Leaf a) more)
-      (many_subsets profile f w (a ∷ more) (left_tree (Leaf a) more) (subst (IsPermutation (a ∷ more)) (sym (left_leaves (Leaf a) more)) (IsPermutation-refl (a ∷ more))) (left_each (IsOf f) (Leaf a) more h.0 h.1))
+  pub all_merge : (a : Names) (more : List Names) → AllByRecursion (IsOf f) (a ∷ more) → Merges profile (from_left (one (subset profile f a)) (map (subset profile f) more)) (subset profile f (union_all (a ∷ more)))
+  all_merge a more h = subst (λ (t : Grouping FontValue). Merges profile t (subset profile f (union_all (a ∷ more)))) (left_map (subset profile f) (one a) more)
+      (many_subsets profile f w (a ∷ more) (from_left (one a) more) (subst (IsPermutation (a ∷ more)) (sym (leaves_from_left (one a) more)) (IsPermutation-refl (a ∷ more))) (left_each (IsOf f) (one a) more h.0 h.1))
 
-  one_subset : (a : Names) (more : List Names) → AllByRecursion (IsOf f) (a ∷ more) → (j : FontValue) → Merges profile (left_tree (Leaf (subset profile f a)) (map (subset profile f) more)) j → j ≡ subset profile f (union_all (a ∷ more))
-  one_subset a more h j m = one_result profile (left_tree (Leaf (subset profile f a)) (map (subset profile f) more)) j (subset profile f (union_all (a ∷ more))) m (all_merge a more h)
+  one_subset : (a : Names) (more : List Names) → AllByRecursion (IsOf f) (a ∷ more) → (j : FontValue) → Merges profile (from_left (one (subset profile f a)) (map (subset profile f) more)) j → j ≡ subset profile f (union_all (a ∷ more))
+  one_subset a more h j m = one_result profile (from_left (one (subset profile f a)) (map (subset profile f) more)) j (subset profile f (union_all (a ∷ more))) m (all_merge a more h)
 
   never_stops : (a : Names) (more : List Names) → AllByRecursion (IsOf f) (a ∷ more) → (e : Refusal) → StopsAt (subset profile f a) (map (subset profile f) more) e → e ≡ refusal.Memory
   never_stops a more h e s =
       let c = cut_at (subset profile f) more s.before s.font s.after s.list in
       let is = all_before (IsOf f) c.before c.at c.after (subst (AllByRecursion (IsOf f)) c.list h.1) in
       let first : AllByRecursion (IsOf f) (a ∷ c.before) = (h.0, is.0) in
-      let j : s.joined ≡ subset profile f (union_all (a ∷ c.before)) = one_subset a c.before first s.joined (subst (λ (t : List FontValue). Merges profile (left_tree (Leaf (subset profile f a)) t) s.joined) (sym c.images) s.merges) in
+      let j : s.joined ≡ subset profile f (union_all (a ∷ c.before)) = one_subset a c.before first s.joined (subst (λ (t : List FontValue). Merges profile (from_left (one (subset profile f a)) t) s.joined) (sym c.images) s.merges) in
       tells_none e (conflict profile s.joined s.font)
       ((λ i. conflict profile (j i) (sym c.image i)) ∙ (no_conflict profile (subset profile f (union_all (a ∷ c.before))) (subset profile f c.at)).1 (two_subsets profile f w (union_all (a ∷ c.before)) c.at (all_of_font a c.before first) is.1).0)
       s.tells

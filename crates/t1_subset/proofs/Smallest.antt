@@ -7,8 +7,8 @@ use Rattle.std.specs.FinSet.{IsAntisymmetric}
 use Rattle.std.specs.FinMap as maps
 use Rattle.std.specs.FinMap.Entries.{below_all, is_sorted}
 use Rattle.t1_font.proofs.MapLemmas.{T_true}
-use Rattle.t1_subset.specs.Conflicts.{first_where, smallest}
-use Rattle.t1_subset.proofs.Conflicts.{contains-members}
+use Rattle.t1_subset.specs.Searches.{smallest, first_where}
+use Rattle.t1_subset.proofs.Searching.{contains-members}
 use Rattle.t1_subset.proofs.Maps.{less_of}
 use Rattle.t1_subset.proofs.Sets.{or_cases, here, later, itself, tied}
 

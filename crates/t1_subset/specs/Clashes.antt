@@ -10,7 +10,8 @@ use Rattle.t1_subset.specs.declared.callers.Callers.{Callers}
 use Rattle.t1_font.specs.IsFont.{IsFont}
 use Rattle.t1_subset.specs.Profile.{profile}
 use Rattle.t1_subset.specs.StateTables.{StatesValue, states_of, behind_mark}
-use Rattle.t1_subset.specs.Conflicts.{Conflict, ShellDiffers, CodeDiffers, GlyphDiffers, LacksComponent, SubrDiffers, agrees, found, first_where, smallest, shell_conflict, code_conflict, glyph_conflict, component_conflict, subr_conflict, wanted_by, used_by, glyph_names}
+use Rattle.t1_subset.specs.Conflicts.{Conflict, ShellDiffers, CodeDiffers, GlyphDiffers, LacksComponent, SubrDiffers, agrees, shell_conflict, code_conflict, glyph_conflict, component_conflict, subr_conflict, wanted_by, used_by, glyph_names}
+use Rattle.t1_subset.specs.Searches.{found, smallest, first_where}
 use Rattle.t1_subset.specs.Callers.{user_from, seeker_from}
 
 -- the name is sought

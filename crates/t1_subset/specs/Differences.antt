@@ -9,7 +9,7 @@ use Rattle.t1_join.specs.TableMeaning.{TableMeaning}
 use Rattle.t1_subset.specs.declared.conflict.ShellPart.{ShellPart as Part}
 use Rattle.t1_subset.specs.declared.conflict.ShellPart.TheVariants as part
 use Rattle.t1_subset.specs.States.{is_stub}
-use Rattle.t1_subset.specs.Conflicts.{ShellPart, Head, EncodingPart, ClearTail, Private, SubrsTable, SubrsWords, Middle, GlyphsWords, Tail}
+use Rattle.t1_subset.specs.Shared.{ShellPart, Head, EncodingPart, ClearTail, Private, SubrsTable, SubrsWords, Middle, GlyphsWords, Tail}
 
 abbrev pub shell_part : Part → ShellPart
 shell_part part.Head = Head

@@ -11,9 +11,9 @@ use Rattle.t1_font.specs.WriteLaws.{Fits}
 use Rattle.t1_subset.specs.Interpreter.{Names}
 use Rattle.t1_subset.specs.Keep.{keep, subset}
 use Rattle.t1_subset.specs.Profile.{profile}
-use Rattle.t1_subset.specs.States.{Join, joined_font}
 use Rattle.t1_subset.specs.Laws.{IsOf, DrawsAlike}
-use Rattle.t1_subset.specs.Trees.{Tree, Leaf, Both, EachLeaf, leaves, union_all}
+use Rattle.t1_join.specs.Groupings.{Grouping, one, two, EachLeaf, leaves}
+use Rattle.t1_subset.specs.Groupings.{JoinTo, union_all}
 
 -- How a font is made of a font's subsets: the file of the subset over some names is read; two fonts are merged; a font
 -- on the way is written and read again.
@@ -23,9 +23,9 @@ pub data Making : Type 0 where
   Again : Form → Making → Making
 
 -- the sets of names, in the order and grouping of the merges
-abbrev pub sets_of : Making → Tree Names
-sets_of (Subset a form) = Leaf a
-sets_of (Merge s t) = Both (sets_of s) (sets_of t)
+abbrev pub sets_of : Making → Grouping Names
+sets_of (Subset a form) = one a
+sets_of (Merge s t) = two (sets_of s) (sets_of t)
 sets_of (Again form s) = sets_of s
 
 -- each file on the way can be told from a PFB: it is one, or the font's head doesn't begin with byte 128
@@ -37,7 +37,7 @@ FormsFit f (Again form s) = Fits form f × FormsFit f s
 -- what is made of the font f
 abbrev pub Makes : FontValue → Making → FontValue → Type 0
 Makes f (Subset a form) j = read_font (canon (subset profile f a) form) ≡ Ok j
-Makes f (Merge s t) j = (p : FontValue) × (q : FontValue) × Makes f s p × Makes f t q × Join profile p q × (joined_font profile p q ≡ j)
+Makes f (Merge s t) j = (p : FontValue) × (q : FontValue) × Makes f s p × Makes f t q × JoinTo profile p q j
 Makes f (Again form s) j = (p : FontValue) × Makes f s p × (read_font (canon p form) ≡ Ok j)
 
 -- A making succeeds and comes to the subset over some names: its bytes are that subset's, and each glyph that is kept

@@ -14,7 +14,8 @@ use Rattle.t1_subset.specs.States.{Compatible, Join, IsWithin, joined, joined_fo
 use Rattle.t1_subset.specs.StateTables.{states_of, StatesAgree, StatesJoin}
 use Rattle.t1_subset.specs.Conflicts.{conflict}
 use Rattle.t1_subset.specs.JoinedEntries.{EntriesJoin}
-use Rattle.t1_subset.specs.Trees.{Tree, EachLeaf, leaves, map_tree, union_all, Merges, Leaf, left_tree, folded, EachPair}
+use Rattle.t1_join.specs.Groupings.{Grouping, EachLeaf, leaves, map_grouping, one, from_left}
+use Rattle.t1_subset.specs.Groupings.{union_all, Merges, folded, EachPair}
 
 -- a set of names of the font
 abbrev pub IsOf : FontValue → Names → Type 0
@@ -93,8 +94,8 @@ module _ {O : Type 0} (m : Interpreter O) where
 
   -- the subsets of any list of sets merge in any order and grouping to the subset of all the sets
   abbrev pub ManySubsets : Type 0
-  ManySubsets = (f : FontValue) → IsFont f → (all : List Names) (t : Tree Names) → IsPermutation all (leaves t) → EachLeaf (IsOf f) t →
-      Merges m (map_tree (subset m f) t) (subset m f (union_all all))
+  ManySubsets = (f : FontValue) → IsFont f → (all : List Names) (t : Grouping Names) → IsPermutation all (leaves t) → EachLeaf (IsOf f) t →
+      Merges m (map_grouping (subset m f) t) (subset m f (union_all all))
 
   -- ---- fonts from anywhere
 
@@ -125,14 +126,14 @@ module _ {O : Type 0} (m : Interpreter O) where
 
   -- fonts that merge in one order and grouping merge in each other, to the same font and to no other
   abbrev pub AnyOrder : Type 0
-  AnyOrder = (s t : Tree FontValue) → IsPermutation (leaves s) (leaves t) → EachLeaf IsFont s → (j : FontValue) → Merges m s j →
+  AnyOrder = (s t : Grouping FontValue) → IsPermutation (leaves s) (leaves t) → EachLeaf IsFont s → (j : FontValue) → Merges m s j →
       IsFont j × Merges m t j × ((k : FontValue) → Merges m t k → k ≡ j)
 
   -- a list of fonts merges from left to right exactly where each two of them have states that join, and the font of all is within the limits
   abbrev pub AcceptedByPairs : Type 0
-  AcceptedByPairs = (f : FontValue) (fs : List FontValue) → EachLeaf IsFont (left_tree (Leaf f) fs) →
-      (EachPair m (f ∷ fs) → IsWithin (folded m f fs) → Merges m (left_tree (Leaf f) fs) (folded m f fs))
-      × ((j : FontValue) → Merges m (left_tree (Leaf f) fs) j → EachPair m (f ∷ fs) × (folded m f fs ≡ j) × IsWithin j)
+  AcceptedByPairs = (f : FontValue) (fs : List FontValue) → EachLeaf IsFont (from_left (one f) fs) →
+      (EachPair m (f ∷ fs) → IsWithin (folded m f fs) → Merges m (from_left (one f) fs) (folded m f fs))
+      × ((j : FontValue) → Merges m (from_left (one f) fs) j → EachPair m (f ∷ fs) × (folded m f fs ≡ j) × IsWithin j)
 
   -- fonts join exactly where their states agree
   abbrev pub JoinWhereStatesAgree : Type 0

@@ -1,13 +1,15 @@
 pub mod Interpreter
 pub mod Profile
 pub mod Keep
+pub mod Searches
+pub mod Shared
 pub mod States
 pub mod StateTables
 pub mod StateLaws
 pub mod NameStates
 pub mod JoinedEntries
 pub mod Outcomes
-pub mod Trees
+pub mod Groupings
 pub mod Conflicts
 pub mod Laws
 pub mod Differences

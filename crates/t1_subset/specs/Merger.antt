@@ -13,7 +13,8 @@ use Rattle.t1_subset.specs.States.{Join, joined_font, IsWithin}
 use Rattle.t1_subset.specs.Laws.{IsOf, DrawsAlike}
 use Rattle.t1_subset.specs.Conflicts.{conflict}
 use Rattle.t1_subset.specs.Refusals.{Tells}
-use Rattle.t1_subset.specs.Trees.{Tree, Leaf, leaves, left_tree, folded, EachPair, Merges, union_all}
+use Rattle.t1_join.specs.Groupings.{Grouping, one, leaves, from_left}
+use Rattle.t1_subset.specs.Groupings.{folded, EachPair, Merges, union_all}
 
 -- the fonts join, and this is their join; or their lowest conflict is told, or a growth was refused
 abbrev pub IsMerger : FontValue → FontValue → Result FontValue Refusal → Type 0
@@ -34,13 +35,13 @@ pub record StopsAt (f : FontValue) (fs : List FontValue) (e : Refusal) : Type 0 
   pub after : List FontValue
   pub joined : FontValue
   pub list : fs ≡ before ++ font ∷ after
-  pub merges : Merges profile (left_tree (Leaf f) before) joined
+  pub merges : Merges profile (from_left (one f) before) joined
   pub tells : Tells e (conflict profile joined font)
 
 -- the fonts, merged from left to right, come to j
 abbrev pub ComesTo : List FontValue → FontValue → Type 0
 ComesTo [] j = ⊥
-ComesTo (f ∷ fs) j = Merges profile (left_tree (Leaf f) fs) j
+ComesTo (f ∷ fs) j = Merges profile (from_left (one f) fs) j
 
 -- each glyph of each of the fonts does in j what it did
 abbrev pub DrawsAll : List FontValue → FontValue → Type 0
@@ -56,24 +57,24 @@ abbrev pub AcceptsAllJoin : List FontValue → Result FontValue Refusal → Type
 AcceptsAllJoin fs r = MatchResult r (λ j. AllJoin fs) (λ e. (e ≡ Memory) ⊎ ¬ AllJoin fs)
 
 -- this order and grouping of the fonts comes to j, and to no other font
-abbrev pub MergesTo : Tree FontValue → FontValue → Type 0
+abbrev pub MergesTo : Grouping FontValue → FontValue → Type 0
 MergesTo t j = Merges profile t j × ((k : FontValue) → Merges profile t k → k ≡ j)
 
 -- this order and grouping of the fonts comes to no font
-abbrev pub MergesToNone : Tree FontValue → Type 0
+abbrev pub MergesToNone : Grouping FontValue → Type 0
 MergesToNone t = (k : FontValue) → ¬ Merges profile t k
 
 -- each order and grouping of the fonts comes to the font that is answered, or each comes to none, or a growth was refused
 abbrev pub MergesInAnyOrder : List FontValue → Result FontValue Refusal → Type 0
-MergesInAnyOrder fs r = (t : Tree FontValue) → IsPermutation fs (leaves t) → MatchResult r (λ j. MergesTo t j) (λ e. (e ≡ Memory) ⊎ MergesToNone t)
+MergesInAnyOrder fs r = (t : Grouping FontValue) → IsPermutation fs (leaves t) → MatchResult r (λ j. MergesTo t j) (λ e. (e ≡ Memory) ⊎ MergesToNone t)
 
 -- each grouping of the fonts, in their order, comes to a font
 abbrev pub EachGroupingMerges : List FontValue → Type 0
-EachGroupingMerges fs = (t : Tree FontValue) → leaves t ≡ fs → (j : FontValue) × Merges profile t j
+EachGroupingMerges fs = (t : Grouping FontValue) → leaves t ≡ fs → (j : FontValue) × Merges profile t j
 
 -- some grouping of the fonts, in their order, comes to j
 abbrev pub SomeGroupingMerges : List FontValue → FontValue → Type 0
-SomeGroupingMerges fs j = (t : Tree FontValue) × (leaves t ≡ fs) × Merges profile t j
+SomeGroupingMerges fs j = (t : Grouping FontValue) × (leaves t ≡ fs) × Merges profile t j
 
 -- there are no fonts, or a growth was refused, or a font does not join those before it
 abbrev pub IsRefused : List FontValue → Refusal → Type 0

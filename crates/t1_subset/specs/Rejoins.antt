@@ -12,7 +12,8 @@ use Rattle.t1_subset.specs.Interpreter.{Names}
 use Rattle.t1_subset.specs.Keep.{keep, kept, subset}
 use Rattle.t1_subset.specs.Profile.{profile}
 use Rattle.t1_subset.specs.Laws.{IsOf, DrawsAlike}
-use Rattle.t1_subset.specs.Trees.{Tree, leaves, union_all, Merges}
+use Rattle.t1_join.specs.Groupings.{Grouping, leaves}
+use Rattle.t1_subset.specs.Groupings.{union_all, Merges}
 use Rattle.t1_subset.specs.Merger.{MergesTo}
 
 -- ---- fonts cut to their first Subrs
@@ -80,7 +81,7 @@ rejoined f ts = cut_to (largest ts) (without_tag (subset profile f (names_of_all
 pub record Rejoins (f : FontValue) (ts : List Truncated) : Type 0 where
   pub shared : IsFont (shared_font f ts)
   pub subsets : evened (fonts_of ts) ≡ map (subset profile (shared_font f ts)) (sets_of ts)
-  pub merges : (t : Tree FontValue) → IsPermutation (evened (fonts_of ts)) (leaves t) → MergesTo t (rejoined f ts)
+  pub merges : (t : Grouping FontValue) → IsPermutation (evened (fonts_of ts)) (leaves t) → MergesTo t (rejoined f ts)
   pub draws : (n : List ℕ) → sets.contains (keep profile f (names_of_all ts)) n ≡ true → DrawsAlike f (rejoined f ts) n
 
 -- truncated subsets of one font, one or more, rejoin
@@ -95,4 +96,4 @@ IsUntagged f = untagged_head f.shell.head ≡ f.shell.head
 
 -- fonts without tags that merge, in some order and grouping, are even already
 abbrev pub MergingFontsAreEven : Type 0
-MergingFontsAreEven = (t : Tree FontValue) (j : FontValue) → Merges profile t j → AllByRecursion IsUntagged (leaves t) → evened (leaves t) ≡ leaves t
+MergingFontsAreEven = (t : Grouping FontValue) (j : FontValue) → Merges profile t j → AllByRecursion IsUntagged (leaves t) → evened (leaves t) ≡ leaves t

@@ -4,12 +4,13 @@ use Rattle.std.specs.Cmp.Lexicographic.{nat_list_cmp_total}
 use Rattle.std.specs.FinMap as maps
 use Rattle.t1_join.specs.Meaning.{Meaning}
 use Rattle.t1_join.specs.Join.{JoinLaws, joined_state}
-use Rattle.t1_join.specs.Products.{Same, BothAgree, same_laws, both_laws, fitting_laws}
+use Rattle.t1_join.specs.Products.{Same, BothAgree, AgreesByPairs, same_laws, both_laws, fitting_laws, same_by_pairs, both_by_pairs}
 use Rattle.t1_join.specs.TableMeaning.{TableMeaning, TablesAgree, TablesJoin}
-use Rattle.t1_join.specs.TableLaws.{table_laws, get_joined}
+use Rattle.t1_join.specs.TableLaws.{table_laws, table_by_pairs, get_joined}
 use Rattle.t1_font.specs.FontValue.{total}
 use Rattle.t1_font.proofs.MapLemmas.{total-le}
-use Rattle.t1_subset.specs.StateTables.{Shared, StatesValue, name_part, subr_part, shared_weight, subr_adds, name_adds, name_counts, states_weight, StatesFit, PartsJoin, StatesAgree, StatesJoin}
+use Rattle.t1_subset.specs.StateTables.{StatesValue, name_part, subr_part, shared_weight, subr_adds, name_adds, name_counts, states_weight, StatesFit, PartsJoin, StatesAgree, StatesJoin}
+use Rattle.t1_subset.specs.Shared.{Shared}
 
 -- part by part
 abbrev pub PartsAgree : StatesValue → StatesValue → Type 0
@@ -17,6 +18,9 @@ PartsAgree = BothAgree Same (BothAgree TablesAgree (BothAgree TablesAgree Tables
 
 pub parts_laws : JoinLaws PartsAgree PartsJoin
 parts_laws = both_laws same_laws (both_laws table_laws (both_laws table_laws table_laws))
+
+pub parts_by_pairs : AgreesByPairs PartsAgree PartsJoin
+parts_by_pairs = both_by_pairs same_by_pairs (both_by_pairs table_by_pairs (both_by_pairs table_by_pairs table_by_pairs))
 
 -- a joined table has the entries of the first
 grows : (w : Meaning → Meaning → ℕ) (a b c : TableMeaning) → TablesJoin a b c → total w (maps.entries a) ≤ total w (maps.entries c)

@@ -1,24 +1,17 @@
 -- The states of a font as tables, and what these weigh.
 use Rattle.std.specs.Prelude.{◌≡◌, ◌≤◌, ℕ, ◌+◌, ◌*◌, ◌-◌, not, List, [], ◌∷◌, map, flat_map, filter, length, Option, Some, None, is_some}
 use Rattle.std.specs.declared.cmp.Ordering.{Ordering}
-use Rattle.std.specs.Coded.{Coded, coded×, coded_option, coded_ℕ}
-use Rattle.std.specs.Ordering.{nat_cmp}
+use Rattle.std.specs.Coded.{Coded, coded×}
 use Rattle.std.specs.FinMap as maps
 use Rattle.t1_join.specs.Meaning.{Meaning, of_number}
 use Rattle.t1_join.specs.Products.{SameJoin, BothJoin, FittingAgree, FittingJoin}
 use Rattle.t1_join.specs.TableMeaning.{TableMeaning, TablesJoin, table_code, joined_table}
-use Rattle.t1_font.specs.FontValue.{FontValue, Shell, Encoding, Word, Codes, Numbered, total, texts_weight, weight_limit, count_limit}
-use Rattle.t1_font.specs.FontModel.{shell_code, word_of}
-use Rattle.t1_font.specs.Lent.{bytes_code}
+use Rattle.t1_font.specs.FontValue.{FontValue, Encoding, Word, Codes, Numbered, total, texts_weight, weight_limit, count_limit}
 use Rattle.t1_font.specs.Maps.{map_values}
 use Rattle.t1_subset.specs.Interpreter.{Interpreter}
 use Rattle.t1_subset.specs.Keep.{components}
 use Rattle.t1_subset.specs.States.{subr_state}
-use Rattle.t1_subset.specs.Conflicts.{KeySet}
-
--- what has to be the same in fonts that join: the shell, the Encoding where it is a word, the indices that are present
-abbrev pub Shared : Type 0
-Shared = Shell × (Option (List ℕ) × KeySet nat_cmp)
+use Rattle.t1_subset.specs.Shared.{Shared, shared_code, shared_of}
 
 -- what is shared, and the states of codes, of names and of Subrs, each at its key where it is not the bottom
 abbrev pub StatesValue : Type 0
@@ -34,7 +27,7 @@ abbrev pub subr_part : StatesValue → TableMeaning
 subr_part s = s.1.1.1
 
 abbrev pub states_code : Coded StatesValue
-states_code = coded× (coded× shell_code (coded× (coded_option bytes_code) (maps.code coded_ℕ coded_ℕ))) (coded× table_code (coded× table_code table_code))
+states_code = coded× shared_code (coded× table_code (coded× table_code table_code))
 
 -- ---- the states of a font
 
@@ -52,9 +45,6 @@ abbrev pub behind_mark : Option Meaning → Option (List ℕ)
 behind_mark None = None
 behind_mark (Some []) = None
 behind_mark (Some (mark ∷ c)) = Some c
-
-abbrev pub shared_of : FontValue → Shared
-shared_of f = (f.shell, (word_of f.encoding, map_values (λ i c. 0) f.subrs))
 
 abbrev pub code_states : Encoding → TableMeaning
 code_states (Word w) = maps.empty
@@ -98,7 +88,7 @@ name_counts n (mark ∷ c) = 1
 
 -- the weight of a font whose states are all the bottom
 abbrev pub shared_weight : Shared → ℕ
-shared_weight s = texts_weight s.0 + maps.len s.1.1 * (129 + s.0.len_iv)
+shared_weight s = texts_weight s.0 + length s.1.1 * (129 + s.0.len_iv)
 
 -- the weight of a font of these states, and how many glyphs it has
 abbrev pub states_weight : StatesValue → ℕ

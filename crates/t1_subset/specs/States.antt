@@ -94,17 +94,3 @@ module _ {O : Type 0} (m : Interpreter O) where
     pub record Join : Type 0 where
       pub states : Compatible
       pub within : IsWithin joined_font
-
--- x is the bottom, or y
-abbrev pub Under : {V : Type 0} → Option V → Option V → Type 0
-Under None y = Unit {0}
-Under (Some v) y = y ≡ Some v
-
--- every state of f stands in j
-pub record Below {O : Type 0} (m : Interpreter O) (f j : FontValue) : Type 0 where
-  pub shells : f.shell ≡ j.shell
-  pub present : (i : ℕ) → maps.contains_key f.subrs i ≡ maps.contains_key j.subrs i
-  pub kinds : SameKind f.encoding j.encoding
-  pub subrs : (i : ℕ) → Under (subr_state m f i) (subr_state m j i)
-  pub names : (n : List ℕ) → Under (name_state m f n) (name_state m j n)
-  pub codes : (c : ℕ) → Under (code_state f.encoding c) (code_state j.encoding c)

@@ -65,8 +65,8 @@ pub(crate) fn note_seekers<'a>(
 #[derive(Drop)]
 pub(crate) struct Callers<'t, 'a> {
     pub(crate) font: &'t Font<'a>,
-    pub(crate) users: Users<'t>,
-    pub(crate) seekers: Seekers<'t>,
+    pub(crate) users: Users<'a>,
+    pub(crate) seekers: Seekers<'a>,
 }
 
 /// The smaller of two names, where they are there.
@@ -89,7 +89,7 @@ fn smaller<'a>(first: Option<&'a [u8]>, second: Option<&'a [u8]>) -> Option<&'a 
 }
 
 /// The smallest glyph that executes the index, among the callers of some fonts.
-pub(crate) fn user<'t>(callers: &[Callers<'t, '_>], index: u16) -> Option<&'t [u8]>
+pub(crate) fn user<'a>(callers: &[Callers<'_, 'a>], index: u16) -> Option<&'a [u8]>
     ensures { option_map (λ n. n.now) result ≡ user_from None callers.now index }
 {
     let mut user = None;
@@ -110,7 +110,7 @@ fn seeker_in<'a>(seekers: &Seekers<'a>, component: &[u8]) -> Option<&'a [u8]>
 }
 
 /// The smallest glyph that names the component where its font lacks it, among the callers of some fonts.
-pub(crate) fn seeker<'t>(callers: &[Callers<'t, '_>], component: &'t [u8]) -> Option<&'t [u8]>
+pub(crate) fn seeker<'a>(callers: &[Callers<'_, 'a>], component: &[u8]) -> Option<&'a [u8]>
     ensures { option_map (λ n. n.now) result ≡ seeker_from None callers.now component.now }
 {
     let mut seeker = None;

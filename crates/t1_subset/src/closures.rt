@@ -7,7 +7,7 @@ ghost use Rattle.t1_font.specs.FontValue.{name_cmp};
 ghost use Rattle.t1_subset.specs.Profile.{profile};
 ghost use Rattle.t1_subset.specs.Keep.{has, keep, kept};
 ghost use Rattle.t1_subset.specs.Laws.{IsOf};
-ghost use Rattle.t1_subset.specs.Conflicts.{first_where};
+ghost use Rattle.t1_subset.specs.Searches.{first_where};
 ghost use Rattle.t1_subset.specs.Calls.{number_set};
 ghost use Rattle.t1_subset.specs.NameSets.{names_of, lent, asked, set_by};
 ghost use Rattle.t1_subset.specs.Refusals.{Absent};

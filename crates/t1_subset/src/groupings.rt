@@ -34,10 +34,10 @@ pub(crate) fn note_fonts<'t, 'a>(
 
 /// The joined states of fonts, one or more, where they have a join. The states of each font are made as it is joined, so that
 /// those of a few alone take memory at a time.
-fn join_states_of<'t, 'a>(
+fn join_states_of<'a>(
     alloc: Global,
-    callers: &[Callers<'t, 'a>],
-) -> Result<Option<States<'t, 'a>>, AllocError>
+    callers: &[Callers<'_, 'a>],
+) -> Result<Option<States<'a>>, AllocError>
     requires some { 0 < length callers.now }
     requires noted { AreNoted callers.now }
     ensures { IfOk result (λ o.

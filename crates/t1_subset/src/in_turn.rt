@@ -21,11 +21,11 @@ use std::alloc::Global;
 use t1_join::Join;
 
 /// The joined states of two fonts. Where shells and states have no conflict, the limits are all that refuses them.
-fn join_states<'t, 'a>(
+fn join_states<'a>(
     alloc: Global,
-    left: &States<'t, 'a>,
-    right: &States<'t, 'a>,
-) -> Result<States<'t, 'a>, Conflict>
+    left: &States<'a>,
+    right: &States<'a>,
+) -> Result<States<'a>, Conflict>
     ensures ok { IfOk result (λ both. StatesJoin left.now right.now both) }
     ensures err { IfErr result (λ e. (e ≡ Conflict.Memory)
         ⊎ ((e ≡ Conflict.Limit) × ¬ StatesAgree left.now right.now)) }
@@ -40,12 +40,12 @@ fn join_states<'t, 'a>(
 }
 
 /// The joined states of two fonts, or their lowest conflict. The callers are those of both fonts.
-fn join_next<'t, 'a>(
+fn join_next<'a>(
     alloc: Global,
-    left: &States<'t, 'a>,
-    right: &States<'t, 'a>,
+    left: &States<'a>,
+    right: &States<'a>,
     callers: &[Callers<'_, '_>],
-) -> Result<States<'t, 'a>, Conflict>
+) -> Result<States<'a>, Conflict>
     ensures ok { (f g : FontValue)
         → AreStatesOf left.now right.now f g
         → IfOk result (λ both. Join profile f g
@@ -62,10 +62,10 @@ fn join_next<'t, 'a>(
 }
 
 /// The states of a font, by its callers.
-pub(crate) fn states_of_font<'t, 'a>(
+pub(crate) fn states_of_font<'a>(
     alloc: Global,
-    callers: &Callers<'t, 'a>,
-) -> Result<States<'t, 'a>, Conflict>
+    callers: &Callers<'_, 'a>,
+) -> Result<States<'a>, Conflict>
     requires { AreCallersOf callers.now callers.now.font.now }
     ensures ok { IfOk result (λ s. s ≡ states_of profile callers.now.font.now) }
     ensures err { IfErr result (λ e. e ≡ Conflict.Memory) }

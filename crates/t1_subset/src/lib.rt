@@ -27,7 +27,7 @@ mod name_sets;
 mod name_states;
 mod needed;
 mod searches;
-mod shells;
+mod shared;
 mod state_joins;
 mod state_making;
 mod state_value;

@@ -14,7 +14,7 @@ use crate::conflict::Conflict;
 use crate::groupings::{made_of, note_fonts};
 use crate::in_turn::{all_join, states_of_font};
 use crate::searches::states_conflict;
-use crate::shells::shell_conflict;
+use crate::shared::Shared;
 use crate::state_making::callers_of;
 use std::alloc::Global;
 use t1_font::{Font, PartsFault, join_parts};
@@ -41,10 +41,16 @@ pub(crate) fn both<'a>(
 }
 
 /// Refuses fonts whose shells differ, with the first part that does.
-fn one_shell(left: &Font<'_>, right: &Font<'_>) -> Result<(), Conflict>
+fn one_shell(alloc: Global, left: &Font<'_>, right: &Font<'_>) -> Result<(), Conflict>
     ensures { IfErr result (λ e. Tells e (conflict profile left.now right.now)) }
 {
-    match shell_conflict(left, right) {
+    let Ok(own) = Shared::of(alloc, left) else {
+        return Err(Conflict::Memory);
+    };
+    let Ok(other) = Shared::of(alloc, right) else {
+        return Err(Conflict::Memory);
+    };
+    match own.differing_part(&other) {
         Some(part) => Err(Conflict::Shell { part }),
         None => Ok(()),
     }
@@ -71,7 +77,7 @@ fn merge_two<'a>(alloc: Global, left: &Font<'a>, right: &Font<'a>) -> Result<Fon
         × (j ≡ joined_font profile left.now right.now)) }
     ensures err { IfErr result (λ e. Tells e (conflict profile left.now right.now)) }
 {
-    if let Err(conflict) = one_shell(left, right) {
+    if let Err(conflict) = one_shell(alloc, left, right) {
         return Err(conflict);
     }
     left.proof_is_font();

@@ -14,7 +14,7 @@ ghost use Rattle.t1_subset.specs.Refusals.{Tells};
 use crate::callers::{Callers, seeker, user};
 use crate::conflict::Conflict;
 use crate::name_states::{NameState, NameTable};
-use crate::shells::{differ, shell_conflict};
+use crate::shared::differ;
 use crate::state_value::States;
 use std::alloc::Global;
 use t1_join::Table;
@@ -161,11 +161,7 @@ fn subr_differs(alloc: Global, index: u16, user: Option<&[u8]>) -> Conflict
 }
 
 /// The lowest conflict of two fonts' shells, codes and glyphs, or want of memory.
-fn entries_conflict(
-    alloc: Global,
-    left: &States<'_, '_>,
-    right: &States<'_, '_>,
-) -> Result<(), Conflict>
+fn entries_conflict(alloc: Global, left: &States<'_>, right: &States<'_>) -> Result<(), Conflict>
     ensures ok { (f g : FontValue)
         → AreStatesOf left.now right.now f g
         → IfOk result (λ _. entries_conflict f g ≡ None) }
@@ -173,7 +169,7 @@ fn entries_conflict(
         → AreStatesOf left.now right.now f g
         → IfErr result (λ e. Tells e (entries_conflict f g)) }
 {
-    if let Some(part) = shell_conflict(left.shell, right.shell) {
+    if let Some(part) = left.shared.differing_part(&right.shared) {
         return Err(Conflict::Shell { part });
     }
     if let Some(code) = code_conflict(&left.codes, &right.codes) {
@@ -188,8 +184,8 @@ fn entries_conflict(
 /// The lowest conflict of what two fonts' glyphs name and execute, or want of memory.
 fn uses_conflict(
     alloc: Global,
-    left: &States<'_, '_>,
-    right: &States<'_, '_>,
+    left: &States<'_>,
+    right: &States<'_>,
     callers: &[Callers<'_, '_>],
 ) -> Result<(), Conflict>
     ensures ok { (f g : FontValue)
@@ -212,8 +208,8 @@ fn uses_conflict(
 /// The lowest conflict of two fonts' shells and states, or want of memory. The callers are those of both fonts.
 pub(crate) fn states_conflict(
     alloc: Global,
-    left: &States<'_, '_>,
-    right: &States<'_, '_>,
+    left: &States<'_>,
+    right: &States<'_>,
     callers: &[Callers<'_, '_>],
 ) -> Result<(), Conflict>
     ensures ok { (f g : FontValue)

@@ -5,15 +5,14 @@ ghost use Rattle.std.specs.FinMap as maps;
 ghost use Rattle.t1_join.specs.TableMeaning.{TablesAgree};
 ghost use Rattle.t1_font.specs.FontValue.{total, weight_limit, count_limit};
 ghost use Rattle.t1_font.specs.FontModel.{clamp};
-ghost use Rattle.t1_subset.specs.StateTables.{StatesFit, code_part, name_part, subr_part, new_entries, subr_adds, name_adds, name_counts, shared_of, joint_weight, joint_glyphs};
+ghost use Rattle.t1_subset.specs.StateTables.{StatesFit, code_part, name_part, subr_part, new_entries, subr_adds, name_adds, name_counts, joint_weight, joint_glyphs};
 ghost use Rattle.t1_subset.specs.NameStates.{state_meaning};
 ghost use Rattle.t1_subset.specs.StateLaws.{PartsAgree};
 
 use crate::name_states::{NameState, NameTable};
-use crate::shells::shell_conflict;
 use crate::state_value::States;
 use std::alloc::{AllocError, Global};
-use t1_font::{COUNT_LIMIT, Font, WEIGHT_LIMIT};
+use t1_font::{COUNT_LIMIT, WEIGHT_LIMIT};
 use t1_join::{Join, Kept, Key, Table};
 
 /// The bytes of a Subr beyond those of a `return`.
@@ -96,31 +95,24 @@ fn with_glyphs<'a>(before: u64, own: &NameTable<'a>, other: &NameTable<'a>) -> u
     count
 }
 
-/// Whether the fonts share what fonts have to share to join.
-fn same_shared(own: &Font<'_>, other: &Font<'_>) -> bool
-    ensures { IsTrue result ↔ (shared_of own.now ≡ shared_of other.now) }
-{
-    shell_conflict(own, other).is_none()
-}
-
-impl<'t, 'a> States<'t, 'a> {
+impl<'a> States<'a> {
     /// What a font of the joined states weighs, as far as 64 bits hold it.
-    fn joint_weight(&self, other: &States<'t, 'a>) -> u64
+    fn joint_weight(&self, other: &States<'a>) -> u64
         ensures { result ≡ clamp (joint_weight self.now other.now) }
     {
         let with_subrs = with_subrs(self.weight, &self.subrs, &other.subrs);
-        with_names(with_subrs, self.shell.len_iv(), &self.names, &other.names)
+        with_names(with_subrs, self.shared.len_iv(), &self.names, &other.names)
     }
 
     /// How many glyphs a font of the joined states has, as far as 64 bits hold it.
-    fn joint_glyphs(&self, other: &States<'t, 'a>) -> u64
+    fn joint_glyphs(&self, other: &States<'a>) -> u64
         ensures { result ≡ clamp (joint_glyphs self.now other.now) }
     {
         with_glyphs(self.glyphs, &self.names, &other.names)
     }
 
     /// Whether the joined states are within the limits.
-    fn fits_with(&self, other: &States<'t, 'a>) -> bool
+    fn fits_with(&self, other: &States<'a>) -> bool
         ensures { IsTrue result
             ↔ ((joint_weight self.now other.now ≤ weight_limit)
             × (joint_glyphs self.now other.now ≤ count_limit)) }
@@ -129,7 +121,7 @@ impl<'t, 'a> States<'t, 'a> {
     }
 
     /// Whether the states of names and of Subrs join.
-    fn names_and_subrs_agree(&self, other: &States<'t, 'a>) -> bool
+    fn names_and_subrs_agree(&self, other: &States<'a>) -> bool
         ensures { IsTrue result
             ↔ (TablesAgree (name_part self.now) (name_part other.now)
             × TablesAgree (subr_part self.now) (subr_part other.now)) }
@@ -138,7 +130,7 @@ impl<'t, 'a> States<'t, 'a> {
     }
 
     /// Whether the states of codes, of names and of Subrs join.
-    fn tables_agree(&self, other: &States<'t, 'a>) -> bool
+    fn tables_agree(&self, other: &States<'a>) -> bool
         ensures { IsTrue result
             ↔ (TablesAgree (code_part self.now) (code_part other.now)
             × (TablesAgree (name_part self.now) (name_part other.now)
@@ -148,10 +140,10 @@ impl<'t, 'a> States<'t, 'a> {
     }
 
     /// Whether all is the same that has to be, and all states join.
-    fn parts_agree(&self, other: &States<'t, 'a>) -> bool
+    fn parts_agree(&self, other: &States<'a>) -> bool
         ensures { IsTrue result ↔ PartsAgree self.now other.now }
     {
-        same_shared(self.shell, other.shell) && self.tables_agree(other)
+        self.shared.is_same(&other.shared) && self.tables_agree(other)
     }
 
     /// Says of states that they are within the limits. It does nothing when it runs: proofs call it.
@@ -162,7 +154,7 @@ impl<'t, 'a> States<'t, 'a> {
     }
 }
 
-impl<'t, 'a> Join for States<'t, 'a> {
+impl<'a> Join for States<'a> {
     ghost use Rattle.t1_subset.specs.StateTables.{StatesValue, StatesAgree, StatesJoin};
     ghost use Rattle.t1_subset.specs.StateLaws.{states_laws};
 
@@ -176,14 +168,14 @@ impl<'t, 'a> Join for States<'t, 'a> {
 
     ghost laws = { states_laws };
 
-    fn agrees(&self, other: &States<'t, 'a>) -> bool {
+    fn agrees(&self, other: &States<'a>) -> bool {
         self.fits();
         self.parts_agree(other) && self.fits_with(other)
     }
 
-    fn join(&self, alloc: Global, other: &States<'t, 'a>) -> Result<States<'t, 'a>, AllocError> {
+    fn join(&self, alloc: Global, other: &States<'a>) -> Result<States<'a>, AllocError> {
         Ok(States {
-            shell: self.shell,
+            shared: self.shared.copy(alloc)?,
             codes: self.codes.join(alloc, &other.codes)?,
             names: self.names.join(alloc, &other.names)?,
             subrs: self.subrs.join(alloc, &other.subrs)?,

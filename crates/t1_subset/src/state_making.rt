@@ -10,7 +10,7 @@ ghost use Rattle.t1_subset.specs.Callers.{AreCallersOf, same_charstring, seeker_
 use crate::callers::{Callers, Seekers, note_seekers};
 use crate::calls::run_alone;
 use crate::name_states::{NameTable, add_sought};
-use crate::shells::same_bytes;
+use crate::shared::{Shared, same_bytes};
 use crate::state_value::States;
 use crate::tables::{code_table, glyph_states, subr_table};
 use crate::users::{no_users, note_users};
@@ -63,7 +63,7 @@ pub(crate) fn callers_of<'t, 'a>(
 /// The states of a font's names, of which these are the seekers.
 fn name_table<'a>(
     alloc: Global,
-    font: &'a Font<'_>,
+    font: &Font<'a>,
     seekers: &Seekers<'a>,
 ) -> Result<NameTable<'a>, AllocError>
     requires { (p : List ℕ) → maps.get seekers.now p ≡ seeker_of font.now p }
@@ -87,17 +87,17 @@ fn glyph_count(font: &Font<'_>) -> u64
 }
 
 /// The states of a font, by its callers. No glyph is run.
-pub(crate) fn states_by<'t, 'a>(
+pub(crate) fn states_by<'a>(
     alloc: Global,
-    callers: &Callers<'t, 'a>,
-) -> Result<States<'t, 'a>, AllocError>
+    callers: &Callers<'_, 'a>,
+) -> Result<States<'a>, AllocError>
     requires { AreCallersOf callers.now callers.now.font.now }
     ensures { IfOk result (λ s. s ≡ states_of profile callers.now.font.now) }
 {
     let font = callers.font;
     font.proof_is_font();
     Ok(States {
-        shell: font,
+        shared: Shared::of(alloc, font)?,
         codes: code_table(alloc, font)?,
         names: name_table(alloc, font, &callers.seekers)?,
         subrs: subr_table(alloc, font, &callers.users)?,
@@ -107,7 +107,7 @@ pub(crate) fn states_by<'t, 'a>(
 }
 
 /// The states of a font. Each of its glyphs is run once.
-pub fn states<'t, 'a>(alloc: Global, font: &'t Font<'a>) -> Result<States<'t, 'a>, AllocError>
+pub fn states<'a>(alloc: Global, font: &Font<'a>) -> Result<States<'a>, AllocError>
     ensures { IfOk result (λ s. s ≡ states_of profile font.now) }
 {
     let callers = callers_of(alloc, font)?;

@@ -1,8 +1,8 @@
 //! The states of a font, as one value.
 
 use crate::name_states::NameTable;
+use crate::shared::Shared;
 use std::marker::Model;
-use t1_font::Font;
 use t1_join::Table;
 
 /// The states of a font: what fonts have to share to join, and the states of its codes, names and Subrs.
@@ -11,24 +11,23 @@ use t1_join::Table;
 /// names it as a component and the font lacks it; a Subr's its entry, but for a `return` that no glyph of the font executes
 /// (Adobe Type 1 Font Format 1.1, chapters 2, 6 and 8). All else is nothing, and joins with all.
 #[derive(Drop)]
-pub struct States<'t, 'a> {
-    /// A font of what is shared.
-    pub(crate) shell: &'t Font<'a>,
-    pub(crate) codes: Table<u16, &'t [u8]>,
-    pub(crate) names: NameTable<'t>,
-    pub(crate) subrs: Table<u16, &'t [u8]>,
+pub struct States<'a> {
+    pub(crate) shared: Shared<'a>,
+    pub(crate) codes: Table<u16, &'a [u8]>,
+    pub(crate) names: NameTable<'a>,
+    pub(crate) subrs: Table<u16, &'a [u8]>,
     pub(crate) weight: u64,
     pub(crate) glyphs: u64,
 }
 
-impl<'t, 'a> Model for States<'t, 'a> {
-    ghost use Rattle.t1_subset.specs.StateTables.{StatesValue, states_code, shared_of, IsSized};
+impl<'a> Model for States<'a> {
+    ghost use Rattle.t1_subset.specs.StateTables.{StatesValue, states_code, IsSized};
 
     ghost Value = { StatesValue };
 
     ghost coded = { states_code };
 
-    ghost view = { λ s. (shared_of s.shell.now, (s.codes, (s.names, s.subrs))) };
+    ghost view = { λ s. (s.shared, (s.codes, (s.names, s.subrs))) };
 
-    ghost invariant = { λ s. IsSized (shared_of s.shell.now, (s.codes, (s.names, s.subrs))) s.weight s.glyphs };
+    ghost invariant = { λ s. IsSized (s.shared, (s.codes, (s.names, s.subrs))) s.weight s.glyphs };
 }

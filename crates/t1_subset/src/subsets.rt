@@ -5,7 +5,7 @@ ghost use Rattle.std.specs.FinSet as sets;
 ghost use Rattle.t1_subset.specs.Profile.{profile};
 ghost use Rattle.t1_subset.specs.Keep.{has, keep, subset};
 ghost use Rattle.t1_subset.specs.Laws.{DrawsAlike};
-ghost use Rattle.t1_subset.specs.Conflicts.{first_where};
+ghost use Rattle.t1_subset.specs.Searches.{first_where};
 ghost use Rattle.t1_subset.specs.NameSets.{lent, asked};
 ghost use Rattle.t1_subset.specs.Refusals.{Absent};
 

@@ -16,7 +16,7 @@ use crate::users::{Users, user_in};
 use std::alloc::{AllocError, Global};
 use t1_font::{Font, STUB};
 use t1_join::{Kept, Key, Table};
-use t1_run::{Glyphs, Subroutines};
+use t1_run::Subroutines;
 
 /// How many names there may be that components have: those of StandardEncoding.
 const SOUGHT_ROOM: usize = 149;
@@ -39,7 +39,7 @@ pub(crate) fn put<K: Key + Drop, V: Kept + Drop>(
 /// The names of the codes of a table Encoding.
 pub(crate) fn code_table<'a>(
     alloc: Global,
-    font: &'a Font<'_>,
+    font: &Font<'a>,
 ) -> Result<Table<u16, &'a [u8]>, AllocError>
     ensures { IfOk result (λ table. table ≡ code_states font.now.encoding) }
 {
@@ -63,16 +63,13 @@ fn charstring_state(charstring: Option<&[u8]>) -> Option<NameState<'_>>
 }
 
 /// The charstrings of the glyphs, as the states of their names.
-pub(crate) fn glyph_states<'a>(
-    alloc: Global,
-    font: &'a Font<'_>,
-) -> Result<NameTable<'a>, AllocError>
+pub(crate) fn glyph_states<'a>(alloc: Global, font: &Font<'a>) -> Result<NameTable<'a>, AllocError>
     ensures { IfOk result (λ table. table
         ≡ map_values (λ n c. name_meaning (Some c)) font.now.glyphs) }
 {
     let mut table = Table::with_capacity(alloc, font.names().count().saturating_add(SOUGHT_ROOM))?;
     'names: for name in font.names() {
-        put(&mut table, name, charstring_state(font.glyph(name)))?;
+        put(&mut table, name, charstring_state(font.charstring(name)))?;
     }
     Ok(table)
 }
@@ -91,7 +88,7 @@ fn subr_state<'a>(entry: Option<&'a [u8]>, is_called: bool) -> Option<&'a [u8]>
 /// The states of the Subrs, of which these glyphs are the users.
 pub(crate) fn subr_table<'a>(
     alloc: Global,
-    font: &'a Font<'_>,
+    font: &Font<'a>,
     users: &Users<'_>,
 ) -> Result<Table<u16, &'a [u8]>, AllocError>
     requires { (i : ℕ)
@@ -105,7 +102,7 @@ pub(crate) fn subr_table<'a>(
         put(
             &mut table,
             index,
-            subr_state(font.get(index), user_in(users, index).is_some()),
+            subr_state(font.subr(index), user_in(users, index).is_some()),
         )?;
     }
     Ok(table)

@@ -7,7 +7,7 @@ ghost use Rattle.std.specs.FinSet as sets;
 ghost use Rattle.t1_join.specs.Meaning.{of_number};
 ghost use Rattle.t1_subset.specs.StateTables.{numbered};
 ghost use Rattle.t1_subset.specs.Profile.{set_of};
-ghost use Rattle.t1_subset.specs.Conflicts.{same_number};
+ghost use Rattle.t1_subset.specs.Shared.{same_number};
 ghost use Rattle.t1_subset.specs.Users.{user_meaning, unused, with_user, user_at};
 
 use crate::tables::put;

@@ -14,8 +14,9 @@ use Rattle.t1_subset.specs.Interpreter.{Numbers}
 use Rattle.t1_subset.specs.Keep.{charstring}
 use Rattle.t1_subset.specs.Profile.{profile, set_of}
 use Rattle.t1_subset.specs.States.{state_of_entry, subr_state}
-use Rattle.t1_subset.specs.Conflicts.{agrees, members, keys_of_both, subr_clashes, subr_conflict}
-use Rattle.t1_subset.proofs.Conflicts.{passes_none, in_both}
+use Rattle.t1_subset.specs.Conflicts.{agrees, keys_of_both, subr_clashes, subr_conflict}
+use Rattle.t1_subset.specs.Searches.{members}
+use Rattle.t1_subset.proofs.Searching.{passes_none, in_both}
 use Rattle.t1_subset.proofs.Smallest.{smallest_is}
 use Rattle.t1_subset.proofs.state_tables.FirstConflicts.{there_of, below_of, absent_beyond}
 use Rattle.t1_subset.proofs.Sets.{is_or_not, not_so, or_left}

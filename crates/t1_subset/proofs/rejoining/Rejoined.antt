@@ -17,7 +17,7 @@ use Rattle.t1_subset.specs.Keep.{keep, kept, subset, components}
 use Rattle.t1_subset.specs.Outcomes.{seen}
 use Rattle.t1_subset.specs.Profile.{profile}
 use Rattle.t1_subset.specs.Laws.{IsOf, DrawsAlike}
-use Rattle.t1_subset.specs.Trees.{Tree, Leaf, leaves, left_tree}
+use Rattle.t1_join.specs.Groupings.{Grouping, one, leaves, from_left}
 use Rattle.t1_subset.specs.Merger.{MergesTo}
 use Rattle.t1_subset.specs.Rejoins.{declares, cut_to, without_tag, Truncated, IsTruncated, fonts_of, sets_of, names_of_all, largest, shared_font, rejoined, Rejoins, TruncatedSubsetsRejoin}
 use Rattle.t1_subset.proofs.Alike.{subset_alike}
@@ -27,7 +27,8 @@ use Rattle.t1_subset.proofs.Drawings.{seen_alike}
 use Rattle.t1_subset.proofs.Fonts.{subset_is_font, any_order_of_fonts}
 use Rattle.t1_subset.proofs.Kept.{keep_closed, keep_more, kept_more, kept_union, component_here_from}
 use Rattle.t1_subset.proofs.ListMergers.{alike_trans, each_font}
-use Rattle.t1_subset.proofs.ManyMerges.{all_merge, left_leaves}
+use Rattle.t1_join.proofs.OrderLemmas.{leaves_from_left}
+use Rattle.t1_subset.proofs.ManyMerges.{all_merge}
 use Rattle.t1_subset.proofs.Pictures.{runs_by_rules, pictures_alike, pictures3_alike}
 use Rattle.t1_subset.proofs.Sets.{clash, in_union, name_same}
 use Rattle.t1_subset.proofs.rejoining.Truncated.{WordsOf, words_empty, get_nothing, get_font, largest_fits, all_fit, Fits, keeps, none_either_way, cut_subset, evened_is}
@@ -192,12 +193,12 @@ module _ (f : FontValue) (h : IsFont f) (t : Truncated) (ts : List Truncated) (w
   parts : AllByRecursion (IsOf shared) (sets_of (t ∷ ts))
   parts = names_are f (t ∷ ts) w
 
-  all_merged : (s : Tree FontValue) → IsPermutation (evened (fonts_of (t ∷ ts))) (leaves s) → MergesTo s (rejoined f (t ∷ ts))
+  all_merged : (s : Grouping FontValue) → IsPermutation (evened (fonts_of (t ∷ ts))) (leaves s) → MergesTo s (rejoined f (t ∷ ts))
   all_merged s p =
       let g = subset profile shared t.names in
       let gs = map (subset profile shared) (sets_of ts) in
-      let order = subst (λ (l : List FontValue). IsPermutation l (leaves s)) (evened_is f h (t ∷ ts) w ∙ sym (left_leaves (Leaf g) gs)) p in
-      let all = any_order_of_fonts profile (left_tree (Leaf g) gs) s order (each_font g gs (subsets_are shared shared_is (sets_of (t ∷ ts)) parts)) (subset profile shared names) (all_merge shared shared_is t.names (sets_of ts) parts) in
+      let order = subst (λ (l : List FontValue). IsPermutation l (leaves s)) (evened_is f h (t ∷ ts) w ∙ sym (leaves_from_left (one g) gs)) p in
+      let all = any_order_of_fonts profile (from_left (one g) gs) s order (each_font g gs (subsets_are shared shared_is (sets_of (t ∷ ts)) parts)) (subset profile shared names) (all_merge shared shared_is t.names (sets_of ts) parts) in
       subst (λ (j : FontValue). MergesTo s j) whole (all.1, all.2)
 
   all_drawn : (n : List ℕ) → sets.contains (keep profile f names) n ≡ true → DrawsAlike f (rejoined f (t ∷ ts)) n

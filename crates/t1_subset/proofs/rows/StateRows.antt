@@ -1,7 +1,7 @@
 -- Worked rows of the states of fonts and of conflicts: definitions over maps, computed over lists.
 use Rattle.std.proofs.Common.{◌≡◌, ℕ, Bool, true, false, cond, not, ◌&&◌, ◌||◌, T, List, [], ◌∷◌, ◌++◌, map, flat_map, refl, ◌∙◌, ap, Ordering, Option, Some, None, is_some, option_map, unwrap_or}
 use Rattle.std.specs.Prelude.{codes}
-use Rattle.std.specs.List.{list_any, list_all}
+use Rattle.std.specs.List.{list_any}
 use Rattle.std.specs.Ordering.{eq_by_cmp, nat_cmp}
 use Rattle.std.specs.Cmp.{IsTotalOrder, nat_cmp_total}
 use Rattle.std.specs.Cmp.Lexicographic.{nat_list_cmp_total}
@@ -12,6 +12,7 @@ use Rattle.std.specs.FinSet.{IsAntisymmetric, nat_cmp-IsAntisymmetric}
 use Rattle.t1_font.specs.Cut.{stub}
 use Rattle.t1_font.specs.Maps.{map_values, merged}
 use Rattle.t1_font.specs.Entries.{last_entries}
+use Rattle.t1_font.specs.FontModel.{word_of}
 use Rattle.t1_font.specs.FontValue.{FontValue, Shell, Encoding, Word, Codes, name_cmp, notdef}
 use Rattle.t1_font.proofs.MapLemmas.{get-map_values, entries-map_values}
 use Rattle.t1_font.proofs.CutEntries.{entries-merged}
@@ -22,8 +23,11 @@ use Rattle.t1_join.specs.TableLaws.{get_joined}
 use Rattle.t1_subset.specs.StateTables.{states_of, all_components, used_subrs, subr_part, name_part, name_meaning}
 use Rattle.t1_subset.proofs.state_tables.FontStates.{get-used}
 use Rattle.t1_subset.proofs.state_tables.Numbered.{get-numbered}
-use Rattle.t1_subset.specs.Conflicts.{ShellPart, Conflict, ShellDiffers, CodeDiffers, GlyphDiffers, LacksComponent, SubrDiffers, OverLimit, Head, EncodingPart, Private, SubrsTable, first_where, members, keys_of_both, found, agrees, same_keys, same_kind, codes_of_both, glyph_names, called_at, executed_at, code_clashes, wanted_by, used_by, is_within, shell_conflict, code_conflict, glyph_conflict, component_conflict, subr_conflict, states_conflict, conflict}
-use Rattle.t1_subset.proofs.Conflicts.{passes_none}
+use Rattle.t1_subset.specs.Conflicts.{Conflict, ShellDiffers, CodeDiffers, GlyphDiffers, LacksComponent, SubrDiffers, OverLimit, keys_of_both, agrees, codes_of_both, glyph_names, called_at, executed_at, code_clashes, wanted_by, used_by, is_within, shell_conflict, code_conflict, glyph_conflict, component_conflict, subr_conflict, states_conflict, conflict}
+use Rattle.t1_subset.specs.Searches.{members, found, first_where}
+use Rattle.t1_subset.specs.Interpreter.{same_bytes}
+use Rattle.t1_subset.specs.Shared.{ShellPart, Head, EncodingPart, Private, SubrsTable, same_word}
+use Rattle.t1_subset.proofs.Searching.{passes_none}
 use Rattle.t1_subset.proofs.Sets.{name_same}
 use Rattle.t1_subset.proofs.rows.KeptRows.{letters, spelled, shell_of, font_of, at_name, glyph_listed, has_listed, glyphs, subrs, small}
 
@@ -117,12 +121,12 @@ module _ (e k : Encoding) (ss ts : List (ℕ × List ℕ)) (es fs : List (List �
   names_are : members (glyph_names f g) ≡ names
   names_are = keys_are nat_list_cmp_total name_same es fs he hf
 
-  -- each index of one list is one of the other
-  abbrev has_indices : List (ℕ × List ℕ) → List (ℕ × List ℕ) → Bool
-  has_indices xs ys = list_all (λ i. is_some (find nat_cmp i xs)) (map (λ e. e.0) ys)
+  -- both lists have the same indices
+  abbrev same_listed : Bool
+  same_listed = same_bytes (map (λ e. e.0) ss) (map (λ e. e.0) ts)
 
-  present_are : same_keys f.subrs g.subrs ≡ (has_indices ts ss && has_indices ss ts)
-  present_are = λ d. list_all (λ i. is_some (maps.get-from_sorted nat_cmp ts i ht d)) (map (λ e. e.0) (maps.entries-from_sorted nat_cmp ss hs d)) && list_all (λ i. is_some (maps.get-from_sorted nat_cmp ss i hs d)) (map (λ e. e.0) (maps.entries-from_sorted nat_cmp ts ht d))
+  present_are : same_bytes (maps.keys f.subrs) (maps.keys g.subrs) ≡ same_listed
+  present_are = λ d. same_bytes (map (λ e. e.0) (maps.entries-from_sorted nat_cmp ss hs d)) (map (λ e. e.0) (maps.entries-from_sorted nat_cmp ts ht d))
 
   abbrev glyph_differs : List ℕ → Bool
   glyph_differs n = not (agrees (at_name es n) (at_name fs n))
@@ -197,12 +201,12 @@ module _ (e k : Encoding) (ss ts : List (ℕ × List ℕ)) (es fs : List (List �
       (found (λ i. SubrDiffers i (first_where (λ n. used_are i n d) (names_are d))) (subrs_differ d) None))))
 
   -- of one kind of Encoding, and with the same indices, the shells are the same
-  shells_same : same_kind e k ≡ true → (has_indices ts ss && has_indices ss ts) ≡ true → shell_conflict f g ≡ None
+  shells_same : same_word (word_of e) (word_of k) ≡ true → same_listed ≡ true → shell_conflict f g ≡ None
   shells_same kinds present = λ d. cond (not (kinds d)) (Some EncodingPart) (cond (not ((present_are ∙ present) d)) (Some SubrsTable) None)
 
 -- fonts of one word as Encoding, with the Subrs and glyphs of two lists each
 module _ (ss ts : List (ℕ × List ℕ)) (es fs : List (List ℕ × List ℕ)) (hs : T (is_sorted nat_cmp ss)) (ht : T (is_sorted nat_cmp ts)) (he : T (is_sorted name_cmp es)) (hf : T (is_sorted name_cmp fs)) where
-  in_both : (list_all (λ i. is_some (find nat_cmp i ts)) (map (λ e. e.0) ss) && list_all (λ i. is_some (find nat_cmp i ss)) (map (λ e. e.0) ts)) ≡ true → states_conflict spelled (font_of standard ss es) (font_of standard ts fs) ≡ listed standard standard ss ts es fs hs ht he hf None None
+  in_both : same_bytes (map (λ e. e.0) ss) (map (λ e. e.0) ts) ≡ true → states_conflict spelled (font_of standard ss es) (font_of standard ts fs) ≡ listed standard standard ss ts es fs hs ht he hf None None
   in_both present = conflicts_are standard standard ss ts es fs hs ht he hf None None (shells_same standard standard ss ts es fs hs ht he hf refl present)
       (passes_none (code_clashes (font_of standard ss es) (font_of standard ts fs)) (members (codes_of_both standard standard)) (λ c. refl))
 

@@ -1,7 +1,6 @@
 -- The smallest conflicts, by what the code has found.
-use Rattle.std.proofs.Common.{◌≡◌, ℕ, ◌<◌, ◌≤◌, Bool, true, false, not, cond, List, refl, sym, ◌∙◌, ap, subst, true≢false, Option, Some, None, is_some, inl, inr, arith, nat_cmp, Less, Ordering, nat_lt}
+use Rattle.std.proofs.Common.{◌≡◌, ℕ, ◌<◌, ◌≤◌, true, false, not, cond, List, refl, sym, ◌∙◌, ap, subst, true≢false, Option, Some, None, is_some, inl, inr, arith, nat_cmp, Less, Ordering, nat_lt}
 use Rattle.std.proofs.lemmas.Bool.{ltb-true, ltb-false}
-use Rattle.std.specs.Bool.{beq}
 use Rattle.std.specs.Ordering.{MatchOrdering}
 use Rattle.std.specs.Cmp.{nat_cmp_total, ranks}
 use Rattle.std.specs.FinSet.{nat_cmp-IsAntisymmetric}
@@ -10,11 +9,12 @@ use Rattle.t1_font.specs.FontValue.{FontValue, Encoding, Word, Codes, declared_c
 use Rattle.t1_font.specs.FontModel.{name_at}
 use Rattle.t1_font.specs.IsFont.{IsFont, IsEncoding}
 use Rattle.t1_font.proofs.FontReaders.{subrs_seen}
-use Rattle.t1_subset.specs.Conflicts.{agrees, members, same_keys, codes_of_both, code_clashes, code_conflict}
+use Rattle.t1_subset.specs.Conflicts.{agrees, codes_of_both, code_clashes, code_conflict}
+use Rattle.t1_subset.specs.Searches.{members}
 use Rattle.t1_subset.specs.States.{code_state}
-use Rattle.t1_subset.proofs.Conflicts.{keys_so, so_keys, passes_none, in_both}
+use Rattle.t1_subset.proofs.Searching.{passes_none, in_both}
 use Rattle.t1_subset.proofs.Smallest.{smallest_is}
-use Rattle.t1_subset.proofs.Sets.{is_or_not, not_so, or_left}
+use Rattle.t1_subset.proofs.Sets.{is_or_not, or_left}
 
 -- what does not join is there
 pub there_of : (x y : Option (List ℕ)) → not (agrees x y) ≡ true → is_some x ≡ true
@@ -28,18 +28,6 @@ absent_beyond f h q l = sym (subrs_seen f h q) ∙ (elim (is_or_not (nat_lt q (d
   | inl a ↦ absurd (let k = ltb-true q (declared_count f.shell.subrs) a in omega arith)
   | inr b ↦ ap (λ t. cond t (maps.get f.subrs q) None) b
 ])
-
-pub keys_differ : (f g : FontValue) (k : ℕ) → (maps.contains_key f.subrs k ≡ maps.contains_key g.subrs k → ⊥) → false ≡ same_keys f.subrs g.subrs
-keys_differ f g k h = sym (not_so (same_keys f.subrs g.subrs) (λ s. h (keys_so nat_cmp_total nat_cmp-IsAntisymmetric f.subrs g.subrs s k)))
-
-pub keys_alike : (f g : FontValue) → IsFont f → IsFont g → (end : ℕ) → declared_count f.shell.subrs ≤ end → declared_count g.shell.subrs ≤ end
-    → ((k : ℕ) → k < end → maps.contains_key f.subrs k ≡ maps.contains_key g.subrs k) → true ≡ same_keys f.subrs g.subrs
-keys_alike f g h k end a b below = sym (so_keys nat_cmp_total nat_cmp-IsAntisymmetric f.subrs g.subrs (λ q. elim (is_or_not (nat_lt q end)) [
-  | inl l ↦ below q (ltb-true q end l)
-  | inr l ↦
-      let far : end ≤ q = ltb-false q end l in
-      ap is_some (absent_beyond f h q (omega arith)) ∙ sym (ap is_some (absent_beyond g k q (omega arith)))
-]))
 
 -- ---- codes
 
@@ -72,10 +60,3 @@ no_code f g h below = sym (passes_none (code_clashes f g) (members (codes_of_bot
   | inl l ↦ below c (ltb-true c 256 l)
   | inr l ↦ ap (λ x. not (agrees x (code_state g.encoding c))) (no_name f.encoding h.encoding c (ltb-false c 256 l) (code_state f.encoding c) refl)
 ]))
-
--- two tests that differ are not the same
-pub unequal : (a b : Bool) → not (beq a b) ≡ true → a ≡ b → ⊥
-unequal true true h e = true≢false (sym h)
-unequal false false h e = true≢false (sym h)
-unequal true false h e = true≢false e
-unequal false true h e = true≢false (sym e)

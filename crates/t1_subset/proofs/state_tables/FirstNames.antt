@@ -7,9 +7,10 @@ use Rattle.std.specs.FinSet.{IsAntisymmetric}
 use Rattle.std.specs.FinMap as maps
 use Rattle.std.specs.FinMap.Entries.{below_all, is_sorted}
 use Rattle.t1_font.proofs.MapLemmas.{T_true}
-use Rattle.t1_subset.specs.Conflicts.{first_where, smallest, keys_of_both}
+use Rattle.t1_subset.specs.Conflicts.{keys_of_both}
+use Rattle.t1_subset.specs.Searches.{smallest, first_where}
 use Rattle.t1_subset.specs.Differences.{smaller}
-use Rattle.t1_subset.proofs.Conflicts.{in_both, passes_none}
+use Rattle.t1_subset.proofs.Searching.{in_both, passes_none}
 use Rattle.t1_subset.proofs.Smallest.{smallest_is, below_later}
 use Rattle.t1_subset.proofs.Sets.{or_cases, or_left, or_right, here, later, itself, tied, not_so}
 

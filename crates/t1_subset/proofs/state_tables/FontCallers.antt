@@ -15,7 +15,8 @@ use Rattle.t1_subset.specs.Interpreter.{same_bytes}
 use Rattle.t1_subset.specs.Keep.{has, components, charstring}
 use Rattle.t1_subset.specs.Profile.{profile}
 use Rattle.t1_subset.specs.States.{Agree, joined, is_called, is_sought, state_of_glyph, joined_font, Compatible}
-use Rattle.t1_subset.specs.Conflicts.{first_where, smallest, members, keys_of_both, executes, executed_at, calls_for, called_at, wants, wanted_by, used_by, glyph_names}
+use Rattle.t1_subset.specs.Conflicts.{keys_of_both, executes, executed_at, calls_for, called_at, wants, wanted_by, used_by, glyph_names}
+use Rattle.t1_subset.specs.Searches.{smallest, members, first_where}
 use Rattle.t1_subset.specs.Differences.{smaller}
 use Rattle.t1_subset.specs.Callers.{same_charstring, user_of, seeker_of, user_from, seeker_from, AreCallersOf}
 use Rattle.t1_subset.specs.Users.{user_at}
@@ -46,11 +47,6 @@ pub joined_first : {V : Type 0} (x : Option V) (b : Bool) (v : V) (y : Option V)
 joined_first None true v y = refl
 joined_first None false v y = refl
 joined_first (Some w) b v y = refl
-
-pub joined_either : {V : Type 0} (x : Option V) (a b : Bool) (v : V) → joined (joined x (cond a (Some v) None)) (cond b (Some v) None) ≡ joined x (cond (a || b) (Some v) None)
-joined_either None true b v = refl
-joined_either None false b v = refl
-joined_either (Some w) a b v = refl
 
 pub joined_none : {V : Type 0} (x : Option V) → joined x None ≡ x
 joined_none None = refl

@@ -1,5 +1,5 @@
 -- The states of a font as tables: what stands at each key, what they weigh, and that they join as the fonts do.
-use Rattle.std.proofs.Common.{◌≡◌, ◌↔◌, ◌≤◌, ℕ, ◌+◌, ◌*◌, ◌-◌, zero, suc, max, Bool, true, false, cond, not, ◌&&◌, ◌||◌, nat_cmp, List, [], ◌∷◌, map, filter, flat_map, length, refl, sym, ◌∙◌, ap, subst, true≢false, Option, Some, None, option_map, is_some, arith, inl, ⊎_elim}
+use Rattle.std.proofs.Common.{◌≡◌, ◌↔◌, ◌≤◌, ℕ, ◌+◌, ◌*◌, ◌-◌, zero, suc, max, Bool, true, false, cond, not, ◌&&◌, ◌||◌, List, [], ◌∷◌, map, filter, flat_map, length, refl, sym, ◌∙◌, ap, subst, true≢false, Option, Some, None, option_map, is_some, arith, inl, ⊎_elim}
 use Rattle.std.specs.List.{list_any, AllByRecursion}
 use Rattle.std.proofs.lemmas.List.{length-map}
 use Rattle.std.proofs.lemmas.List.Folds.{list_any-append}
@@ -24,17 +24,16 @@ use Rattle.t1_font.proofs.MapLemmas.{Some_same, Some_None, get-map_values, entri
 use Rattle.t1_subset.specs.Interpreter.{Interpreter, same_bytes}
 use Rattle.t1_subset.specs.Keep.{components}
 use Rattle.t1_subset.specs.States.{Agree, joined, IsWithin, is_called, is_sought, is_stub, state_of_entry, subr_state, state_of_glyph, name_state, code_state, Compatible, Join, joined_font}
-use Rattle.t1_subset.specs.StateTables.{Shared, StatesValue, numbered, name_meaning, shared_of, code_states, used_subrs, all_components, name_states, states_of, new_entries, subr_adds, name_adds, name_counts, shared_weight, states_weight, states_glyphs, StatesFit, IsSized, name_part, subr_part, joint_weight, joint_glyphs, PartsJoin, StatesAgree, StatesJoin}
+use Rattle.t1_subset.specs.StateTables.{StatesValue, numbered, name_meaning, code_states, used_subrs, all_components, name_states, states_of, new_entries, subr_adds, name_adds, name_counts, shared_weight, states_weight, states_glyphs, StatesFit, IsSized, name_part, subr_part, joint_weight, joint_glyphs, PartsJoin, StatesAgree, StatesJoin}
+use Rattle.t1_subset.specs.Shared.{Shared}
 use Rattle.t1_join.specs.Products.{BothJoin}
 use Rattle.t1_subset.specs.StateLaws.{PartsAgree, parts_laws}
-use Rattle.t1_subset.specs.Conflicts.{ShellPart, shell_conflict}
-use Rattle.t1_subset.specs.Profile.{profile}
-use Rattle.t1_subset.proofs.Conflicts.{Shares, shares, no_shell_conflict, not_false}
+use Rattle.t1_subset.proofs.Shares.{same_indices, shared_from, shared_to}
 use Rattle.t1_subset.proofs.CutFonts.{stub_is}
 use Rattle.t1_subset.proofs.Maps.{get-merged, maps_same}
 use Rattle.t1_subset.proofs.state_tables.Numbered.{at_number, get-numbered, entries-numbered, numbered-merged}
 use Rattle.t1_subset.proofs.Sets.{name_same}
-use Rattle.t1_subset.proofs.JoinedStates.{constant, is_some_map, subr_joined, name_joined, present_joined}
+use Rattle.t1_subset.proofs.JoinedStates.{subr_joined, name_joined, present_joined}
 use Rattle.t1_subset.proofs.state_tables.TableWeights.{total-merged}
 
 -- ---- states that agree
@@ -85,50 +84,6 @@ numbers_agree s t h q = (λ i. states_agree (get-numbered s q i) (get-numbered t
 agree_numbers : (s t : Numbered) → TablesAgree (numbered s) (numbered t) → (i : ℕ) → Agree (maps.get s i) (maps.get t i)
 agree_numbers s t h i = to_agree (maps.get s i) (maps.get t i) ((λ j. states_agree (sym (get-numbered s (of_number i)) j) (sym (get-numbered t (of_number i)) j)) ∙ h (of_number i))
 
--- ---- what is shared
-
-word_so : (d e : Encoding) → SameKind d e → word_of d ≡ word_of e
-word_so (Word v) (Word w) h = ap Some h
-word_so (Word v) (Codes t) h = absurd h
-word_so (Codes s) (Word w) h = absurd h
-word_so (Codes s) (Codes t) h = refl
-
-so_word : (d e : Encoding) → word_of d ≡ word_of e → SameKind d e
-so_word (Word v) (Word w) h = Some_same h
-so_word (Word v) (Codes t) h = Some_None h
-so_word (Codes s) (Word w) h = Some_None (sym h)
-so_word (Codes s) (Codes t) h = tt
-
-word_joined : (d e : Encoding) → SameKind d e → word_of (join_encodings d e) ≡ word_of d
-word_joined (Word v) e h = refl
-word_joined (Codes s) (Word w) h = refl
-word_joined (Codes s) (Codes t) h = refl
-
-abbrev indices : Numbered → maps.FinMap nat_cmp ℕ
-indices m = map_values (λ i c. 0) m
-
-same_indices : (m n : Numbered) → ((i : ℕ) → maps.contains_key m i ≡ maps.contains_key n i) → indices m ≡ indices n
-same_indices m n h = maps_same nat_cmp_total nat_cmp-IsAntisymmetric (indices m) (indices n) (λ i.
-    get-map_values nat_cmp_total nat_cmp-IsAntisymmetric (λ i c. 0) m i ∙ constant 0 (maps.get m i) (maps.get n i) (h i) ∙ sym (get-map_values nat_cmp_total nat_cmp-IsAntisymmetric (λ i c. 0) n i))
-
-in_indices : (m : Numbered) (i : ℕ) → maps.contains_key (indices m) i ≡ maps.contains_key m i
-in_indices m i = ap is_some (get-map_values nat_cmp_total nat_cmp-IsAntisymmetric (λ i c. 0) m i) ∙ is_some_map 0 (maps.get m i)
-
-pub shared_from : (f g : FontValue) → Shares f g → shared_of f ≡ shared_of g
-shared_from f g c = λ i. (c.shells i, (word_so f.encoding g.encoding c.kinds i, same_indices f.subrs g.subrs c.present i))
-
-pub shared_to : (f g : FontValue) → shared_of f ≡ shared_of g → Shares f g
-shared_to f g h = record {
-  shells = ap (λ s. s.0) h;
-  present = λ i. sym (in_indices f.subrs i) ∙ ap (λ s. maps.contains_key s.1.1 i) h ∙ in_indices g.subrs i;
-  kinds = so_word f.encoding g.encoding (ap (λ s. s.1.0) h);
-}
-
--- the shells have no conflict exactly where all is shared
-pub shared_test : {X : Type 0} (part : X → ShellPart) (f g : FontValue) (r : Option X) (b : Bool) → is_some r ≡ not b → option_map part r ≡ shell_conflict f g → (b ≡ true) ↔ (shared_of f ≡ shared_of g)
-shared_test part f g None b t e = (λ h. shared_from f g (shares profile f g (sym e)), λ h. not_false b (sym t))
-shared_test part f g (Some x) b t e = (λ h. absurd (true≢false (t ∙ ap not h)), λ h. Some_None (e ∙ no_shell_conflict f g (shared_to f g h)))
-
 -- ---- what stands at each key
 
 any_flat_map : {J : Type 0} (p : List ℕ → Bool) (f : J → List (List ℕ)) (xs : List J) → list_any p (flat_map f xs) ≡ list_any (λ x. list_any p (f x)) xs
@@ -173,6 +128,11 @@ module _ {O : Type 0} (m : Interpreter O) (f : FontValue) where
   get-names n = get_joined there sought n ∙ (λ i. joined_state (get-map_values nat_list_cmp_total name_same (λ n c. name_meaning (Some c)) f.glyphs n i) (get-sought n i)) ∙ name_at n (maps.get f.glyphs n)
 
 -- ---- compatible fonts have states that agree
+
+word_joined : (d e : Encoding) → SameKind d e → word_of (join_encodings d e) ≡ word_of d
+word_joined (Word v) e h = refl
+word_joined (Codes s) (Word w) h = refl
+word_joined (Codes s) (Codes t) h = refl
 
 codes_agree : (d e : Encoding) → SameKind d e → ((c : ℕ) → Agree (code_state d c) (code_state e c)) → TablesAgree (code_states d) (code_states e)
 codes_agree (Word v) (Word w) h a = λ q. state_itself (maps.get (maps.empty {R = meaning_cmp}) q)
@@ -287,13 +247,13 @@ module _ {O : Type 0} (m : Interpreter O) (f : FontValue) where
       at true b h = refl
       at false b h = absurd (true≢false h)
 
-  subrs_weigh : total (subr_weight f.shell.len_iv) (maps.entries f.subrs) ≡ maps.len (indices f.subrs) * (129 + f.shell.len_iv) + total subr_adds (maps.entries (numbered (used_subrs m f)))
+  subrs_weigh : total (subr_weight f.shell.len_iv) (maps.entries f.subrs) ≡ length (maps.keys f.subrs) * (129 + f.shell.len_iv) + total subr_adds (maps.entries (numbered (used_subrs m f)))
   subrs_weigh =
       total_apart f.shell.len_iv (maps.entries f.subrs)
       ∙ (λ i. count i * (129 + f.shell.len_iv) + added i)
     where
-      count : length (maps.entries f.subrs) ≡ maps.len (indices f.subrs)
-      count = sym (maps.len-entries (indices f.subrs) ∙ ap length (entries-map_values nat_cmp_total nat_cmp-IsAntisymmetric (λ i c. 0) f.subrs) ∙ length-map (maps.entries f.subrs) _)
+      count : length (maps.entries f.subrs) ≡ length (maps.keys f.subrs)
+      count = sym (length-map (maps.entries f.subrs) (λ e. e.0))
 
       added : total (λ i c. length c - 1) (maps.entries f.subrs) ≡ total subr_adds (maps.entries (numbered (used_subrs m f)))
       added = sym (ap (total subr_adds) (entries-numbered (used_subrs m f)) ∙ total_keyed (maps.entries (used_subrs m f))

@@ -10,7 +10,7 @@ use Rattle.t1_join.specs.TableMeaning.{TableMeaning}
 use Rattle.t1_font.specs.FontValue.{Numbered}
 use Rattle.t1_font.proofs.MapLemmas.{get-map_values}
 use Rattle.t1_subset.specs.States.{joined}
-use Rattle.t1_subset.specs.Conflicts.{same_number}
+use Rattle.t1_subset.specs.Shared.{same_number}
 use Rattle.t1_subset.specs.StateTables.{numbered, behind_mark}
 use Rattle.t1_subset.specs.Users.{unused, with_user, user_at}
 use Rattle.t1_subset.proofs.Sets.{tied}

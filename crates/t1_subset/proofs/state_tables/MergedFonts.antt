@@ -15,8 +15,10 @@ use Rattle.t1_subset.specs.Profile.{profile}
 use Rattle.t1_subset.specs.Differences.{shell_part, bytes_of}
 use Rattle.t1_subset.specs.Refusals.{Tells}
 use Rattle.t1_subset.specs.Clashes.{entries_conflict, uses_conflict}
-use Rattle.t1_subset.specs.Conflicts.{Conflict, ShellDiffers, CodeDiffers, GlyphDiffers, LacksComponent, SubrDiffers, OverLimit, found, shell_conflict, code_conflict, glyph_conflict, states_conflict, conflict, is_within}
-use Rattle.t1_subset.proofs.Conflicts.{compatible, within_so, found_none}
+use Rattle.t1_subset.specs.Conflicts.{Conflict, ShellDiffers, CodeDiffers, GlyphDiffers, LacksComponent, SubrDiffers, OverLimit, shell_conflict, code_conflict, glyph_conflict, states_conflict, conflict, is_within}
+use Rattle.t1_subset.specs.Searches.{found}
+use Rattle.t1_subset.proofs.Conflicts.{compatible, within_so}
+use Rattle.t1_subset.proofs.Searching.{found_none}
 use Rattle.t1_subset.proofs.Fonts.{font_within}
 use Rattle.t1_subset.proofs.JoinedEntries.{joined_are_entries}
 

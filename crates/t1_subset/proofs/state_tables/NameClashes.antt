@@ -14,11 +14,12 @@ use Rattle.t1_subset.specs.Keep.{has}
 use Rattle.t1_subset.specs.Profile.{profile}
 use Rattle.t1_subset.specs.States.{is_sought, name_state, state_of_glyph}
 use Rattle.t1_subset.specs.StateTables.{name_states, behind_mark}
-use Rattle.t1_subset.specs.Conflicts.{agrees, first_where, smallest, members, KeySet, glyph_names, glyph_clashes, glyph_conflict, component_clashes, component_conflict, wanted_by}
+use Rattle.t1_subset.specs.Conflicts.{agrees, glyph_names, glyph_clashes, glyph_conflict, component_clashes, component_conflict, wanted_by}
+use Rattle.t1_subset.specs.Searches.{smallest, members, KeySet, first_where}
 use Rattle.t1_subset.specs.Differences.{smaller}
 use Rattle.t1_subset.specs.Callers.{seeker_of}
 use Rattle.t1_subset.specs.Clashes.{is_sought_in, charstrings_differ, one_lacks, first_clash}
-use Rattle.t1_subset.proofs.Conflicts.{passes_none, in_both}
+use Rattle.t1_subset.proofs.Searching.{passes_none, in_both}
 use Rattle.t1_subset.proofs.state_tables.FirstConflicts.{there_of}
 use Rattle.t1_subset.proofs.state_tables.FirstNames.{nothing, no_lower, passing}
 use Rattle.t1_subset.proofs.state_tables.FontCallers.{any_first, sought_is, smallest_seeker}

@@ -1,11 +1,10 @@
 -- Merges of fonts are joins of their states.
-use Rattle.std.proofs.Common.{◌≡◌, ◌<◌, ◌↔◌, true≢false, List, [], ◌∷◌, ◌++◌, map, length, get_or, refl, sym, ◌∙◌, ap, subst, arith, inl, Bool, true, false, Option, Some, None, Contains, Result, Ok, Err, IfOk, IfErr, IsPermutation}
+use Rattle.std.proofs.Common.{◌≡◌, ◌<◌, ◌↔◌, true≢false, List, [], ◌∷◌, ◌++◌, map, length, get_or, refl, sym, ◌∙◌, ap, subst, arith, inl, Bool, true, false, Option, Some, None, Result, Ok, Err, IfOk, IfErr, IsPermutation}
 use Rattle.std.proofs.lemmas.List.{map-append, length-map}
 use Rattle.std.proofs.lemmas.List.Sorted.{IsPermutation-refl}
 use Rattle.std.specs.List.{AllByRecursion}
-use Rattle.t1_join.specs.Groupings.{Grouping, one, two, Uses, Gives, IsJoinOf, HaveJoin}
-use Rattle.t1_join.specs.Groupings.{leaves as values}
-use Rattle.t1_join.proofs.OrderLemmas.{only_itself, none_of_front, none_of_back, halves_apart}
+use Rattle.t1_join.specs.Groupings.{Grouping, one, two, leaves, from_left, Uses, IsJoinOf, HaveJoin}
+use Rattle.t1_join.proofs.OrderLemmas.{each_leaf, leaves_mapped, leaves_from_left, uses_its, only_itself, none_of_front, none_of_back, halves_apart}
 use Rattle.t1_join.proofs.OrderLemmas.{halves_join as joined_halves}
 use Rattle.t1_font.specs.FontValue.{FontValue}
 use Rattle.t1_font.specs.IsFont.{IsFont}
@@ -14,48 +13,19 @@ use Rattle.t1_subset.specs.declared.conflict.Conflict.{Conflict as Refusal}
 use Rattle.t1_subset.specs.declared.conflict.Conflict.TheVariants.{Memory}
 use Rattle.t1_subset.specs.Callers.{fonts_of}
 use Rattle.t1_subset.specs.Conflicts.{states_conflict, conflict}
-use Rattle.t1_subset.specs.Interpreter.{Interpreter}
 use Rattle.t1_subset.specs.Profile.{profile}
 use Rattle.t1_subset.specs.Refusals.{Tells}
 use Rattle.t1_subset.specs.States.{IsWithin, Join, joined_font}
 use Rattle.t1_subset.specs.StateLaws.{states_laws}
 use Rattle.t1_subset.specs.StateTables.{StatesValue, StatesAgree, StatesJoin, states_of}
-use Rattle.t1_subset.specs.Trees.{Tree, Leaf, Both, EachLeaf, leaves, left_tree, Merges}
 use Rattle.t1_subset.specs.Merger.{EachGroupingMerges, SomeGroupingMerges, ComesTo, IsRefused}
 use Rattle.t1_subset.proofs.Conflicts.{no_conflict, no_states_conflict}
 use Rattle.t1_subset.proofs.Fonts.{font_within}
-use Rattle.t1_subset.proofs.state_tables.FontStates.{join_exactly, states_join}
-use Rattle.t1_subset.proofs.ManyMerges.{tells_none, left_leaves}
-use Rattle.t1_subset.proofs.Orders.{each_leaf, any_order, one_result}
+use Rattle.t1_subset.proofs.ManyMerges.{tells_none}
+use Rattle.t1_subset.proofs.Orders.{grouped, merges_by_states, any_order, one_result}
 
-module _ {O : Type 0} (m : Interpreter O) where
-  -- the merges of fonts as joins of their states
-  abbrev pub grouped : Tree FontValue → Grouping StatesValue
-  grouped (Leaf f) = one (states_of m f)
-  grouped (Both s t) = two (grouped s) (grouped t)
-
-  -- where the states join the fonts merge, and to a font of the joined states
-  pub merges_by_states : (t : Tree FontValue) → EachLeaf IsWithin t → (v : StatesValue) → Gives StatesJoin (grouped t) v → (j : FontValue) × Merges m t j × (v ≡ states_of m j) × IsWithin j
-  merges_by_states (Leaf f) w v h = (f, refl, sym h, w)
-  merges_by_states (Both s t) w v h =
-      let p = merges_by_states s w.0 h.0 h.2 in
-      let q = merges_by_states t w.1 h.1 h.3 in
-      let k : StatesJoin (states_of m p.0) (states_of m q.0) v = subst (λ (y : StatesValue). StatesJoin (states_of m p.0) y v) q.2 (subst (λ (x : StatesValue). StatesJoin x h.1 v) p.2 h.4) in
-      let j = (join_exactly m p.0 q.0 p.3).0 (v, k) in
-      (joined_font m p.0 q.0, (p.0, q.0, p.1, q.1, j, refl), states_laws.one_answer _ _ _ _ k (states_join m p.0 q.0 j), j.within)
-
-  pub states_by_merges : (t : Tree FontValue) (j : FontValue) → Merges m t j → Gives StatesJoin (grouped t) (states_of m j)
-  states_by_merges (Leaf f) j h = ap (states_of m) h
-  states_by_merges (Both s t) j h = (states_of m h.0, states_of m h.1, states_by_merges s h.0 h.2, states_by_merges t h.1 h.3, subst (λ (j : FontValue). StatesJoin (states_of m h.0) (states_of m h.1) (states_of m j)) h.5 (states_join m h.0 h.1 h.4))
-
-  leaves_grouped : (t : Tree FontValue) → values (grouped t) ≡ map (states_of m) (leaves t)
-  leaves_grouped (Leaf f) = refl
-  leaves_grouped (Both s t) = (λ i. leaves_grouped s i ++ leaves_grouped t i) ∙ sym (map-append (states_of m) (leaves s) (leaves t))
-
-  pub uses_all : (t : Tree FontValue) (fs : List FontValue) → leaves t ≡ fs → Uses (grouped t) (map (states_of m) fs)
-  uses_all t fs e =
-      let same : values (grouped t) ≡ map (states_of m) fs = leaves_grouped t ∙ ap (map (states_of m)) e in
-      record { no_other = λ x h. subst (λ (l : List StatesValue). Contains l x) same h; each = λ x h. subst (λ (l : List StatesValue). Contains l x) (sym same) h }
+pub uses_all : (t : Grouping FontValue) (fs : List FontValue) → leaves t ≡ fs → Uses (grouped profile t) (map (states_of profile) fs)
+uses_all t fs e = uses_its (grouped profile t) (map (states_of profile) fs) (leaves_mapped (states_of profile) t ∙ ap (map (states_of profile)) e)
 
 pub all_within : (fs : List FontValue) → AllByRecursion IsFont fs → AllByRecursion IsWithin fs
 all_within [] h = tt
@@ -64,39 +34,39 @@ all_within (f ∷ fs) h = (font_within f h.0, all_within fs h.1)
 -- where the states of all join, each grouping merges
 pub each_grouping : (fs : List FontValue) → AllByRecursion IsFont fs → (v : StatesValue) → IsJoinOf StatesJoin (map (states_of profile) fs) (Some v) → EachGroupingMerges fs
 each_grouping fs w v h t e =
-    let r = merges_by_states profile t (each_leaf IsWithin t (subst (AllByRecursion IsWithin) (sym e) (all_within fs w))) v (h.1 (grouped profile t) (uses_all profile t fs e)) in
+    let r = merges_by_states profile t (each_leaf IsWithin t (subst (AllByRecursion IsWithin) (sym e) (all_within fs w))) v (h.1 (grouped profile t) (uses_all t fs e)) in
     (r.0, r.1)
 
 -- ---- parts of a list
 
-some_tree : (fs : List FontValue) → 0 < length fs → (t : Tree FontValue) × (leaves t ≡ fs)
+some_tree : (fs : List FontValue) → 0 < length fs → (t : Grouping FontValue) × (leaves t ≡ fs)
 some_tree [] l = absurd (omega arith)
-some_tree (f ∷ fs) l = (left_tree (Leaf f) fs, left_leaves (Leaf f) fs)
+some_tree (f ∷ fs) l = (from_left (one f) fs, leaves_from_left (one f) fs)
 
 module _ (fs front back : List FontValue) (h : EachGroupingMerges fs) (e : front ++ back ≡ fs) where
   pub of_front : 0 < length back → EachGroupingMerges front
   of_front l t is =
       let u = some_tree back l in
-      let r = h (Both t u.0) ((λ i. is i ++ u.1 i) ∙ e) in
+      let r = h (two t u.0) ((λ i. is i ++ u.1 i) ∙ e) in
       (r.1.0, r.1.2)
 
   pub of_back : 0 < length front → EachGroupingMerges back
   of_back l t is =
       let u = some_tree front l in
-      let r = h (Both u.0 t) ((λ i. u.1 i ++ is i) ∙ e) in
+      let r = h (two u.0 t) ((λ i. u.1 i ++ is i) ∙ e) in
       (r.1.1, r.1.3)
 
   module _ (a b : FontValue) (x : SomeGroupingMerges front a) (y : SomeGroupingMerges back b) where
     pub halves_join : Join profile a b
     halves_join =
-        let r = h (Both x.0 y.0) ((λ i. x.1 i ++ y.1 i) ∙ e) in
-        subst (λ (b : FontValue). Join profile a b) (one_result profile y.0 r.1.1 b r.1.3 y.2) (subst (λ (a : FontValue). Join profile a r.1.1) (one_result profile x.0 r.1.0 a r.1.2 x.2) r.1.4)
+        let r = h (two x.0 y.0) ((λ i. x.1 i ++ y.1 i) ∙ e) in
+        subst (λ (b : FontValue). Join profile a b) (one_result profile y.0 r.1.1 b r.1.3 y.2) (subst (λ (a : FontValue). Join profile a r.1.1) (one_result profile x.0 r.1.0 a r.1.2 x.2) r.1.4.0)
 
     pub halves_free : states_conflict profile a b ≡ None
     halves_free = no_states_conflict profile a b halves_join.states
 
     pub halves_merge : (j : FontValue) → j ≡ joined_font profile a b → SomeGroupingMerges fs j
-    halves_merge j is = (Both x.0 y.0, (λ i. x.1 i ++ y.1 i) ∙ e, (a, b, x.2, y.2, halves_join, sym is))
+    halves_merge j is = (two x.0 y.0, (λ i. x.1 i ++ y.1 i) ∙ e, (a, b, x.2, y.2, (halves_join, sym is)))
 
     pub halves_refuse : (c : Refusal) → Tells c (conflict profile a b) → c ≡ Memory
     halves_refuse c t = tells_none c (conflict profile a b) ((no_conflict profile a b).1 halves_join) t
@@ -115,7 +85,7 @@ lone (f ∷ []) d l = refl
 lone (f ∷ g ∷ fs) d l = absurd (omega arith)
 
 pub one_merges : (fs : List FontValue) (f d j : FontValue) → length fs ≡ 1 → f ≡ get_or fs 0 d → j ≡ f → SomeGroupingMerges fs j
-one_merges fs f d j l e is = (Leaf j, ap (λ (g : FontValue). g ∷ []) (is ∙ e) ∙ lone fs d l, refl)
+one_merges fs f d j l e is = (one j, ap (λ (g : FontValue). g ∷ []) (is ∙ e) ∙ lone fs d l, refl)
 
 pub one_ok : (fs : List FontValue) (f d : FontValue) → length fs ≡ 1 → f ≡ get_or fs 0 d → (r : Result FontValue Refusal) → IfOk r (λ j. j ≡ f) → IfOk r (λ j. SomeGroupingMerges fs j)
 one_ok fs f d l e (Ok j) h = one_merges fs f d j l e h
@@ -129,14 +99,14 @@ pair (a ∷ b ∷ c ∷ fs) f g d d2 l e k = absurd (omega (arith, l))
 
 -- a font alone merges
 pub alone : (f : FontValue) → SomeGroupingMerges (f ∷ []) f
-alone f = (Leaf f, refl, refl)
+alone f = (one f, refl, refl)
 
 -- one grouping merges as the merges from left to right do
 pub comes_to : (fs : List FontValue) → 0 < length fs → AllByRecursion IsFont fs → (j : FontValue) → SomeGroupingMerges fs j → ComesTo fs j
 comes_to [] l w j h = absurd (omega arith)
 comes_to (f ∷ fs) l w j h =
-    let same : leaves h.0 ≡ leaves (left_tree (Leaf f) fs) = h.1 ∙ sym (left_leaves (Leaf f) fs) in
-    any_order profile h.0 (left_tree (Leaf f) fs) (subst (IsPermutation (leaves h.0)) same (IsPermutation-refl (leaves h.0)))
+    let same : leaves h.0 ≡ leaves (from_left (one f) fs) = h.1 ∙ sym (leaves_from_left (one f) fs) in
+    any_order profile h.0 (from_left (one f) fs) (subst (IsPermutation (leaves h.0)) same (IsPermutation-refl (leaves h.0)))
     (each_leaf IsWithin h.0 (subst (AllByRecursion IsWithin) (sym h.1) (all_within (f ∷ fs) w))) j h.2
 
 pub comes_ok : (fs : List FontValue) → 0 < length fs → AllByRecursion IsFont fs → (r : Result FontValue Refusal) → IfOk r (λ j. SomeGroupingMerges fs j) → IfOk r (λ j. ComesTo fs j)

@@ -23,7 +23,7 @@ use Rattle.t1_subset.specs.Profile.{profile}
 use Rattle.t1_subset.specs.States.{code_state, subr_state}
 use Rattle.t1_subset.specs.Conflicts.{agrees, code_conflict, subr_conflict}
 use Rattle.t1_subset.specs.Differences.{with_state}
-use Rattle.t1_subset.proofs.Conflicts.{bytes_decide}
+use Rattle.t1_subset.proofs.Shares.{bytes_decide}
 use Rattle.t1_subset.proofs.Sets.{is_or_not, not_so, name_same, tied, itself, here, later}
 use Rattle.t1_subset.proofs.state_tables.FirstConflicts.{first_code, no_code, no_name}
 use Rattle.t1_subset.proofs.closing.ExecutedCalls.{first_subr, no_subr}

@@ -12,19 +12,23 @@ use Rattle.t1_subset.specs.Profile.{profile}
 use Rattle.t1_subset.specs.States.{Join, joined_font, IsWithin}
 use Rattle.t1_subset.specs.StateTables.{StatesValue, StatesAgree, StatesJoin, states_of}
 use Rattle.t1_subset.specs.StateLaws.{states_laws}
-use Rattle.t1_subset.specs.Conflicts.{OverLimit, found, is_within, states_conflict, conflict}
+use Rattle.t1_subset.specs.Conflicts.{OverLimit, is_within, states_conflict, conflict}
+use Rattle.t1_subset.specs.Searches.{found}
 use Rattle.t1_subset.specs.Refusals.{Tells}
 use Rattle.t1_subset.specs.Callers.{AreCallersOf, AreNoted, fonts_of}
 use Rattle.t1_subset.specs.Clashes.{AreStatesOf, AreCallers}
-use Rattle.t1_subset.specs.Trees.{Tree, Leaf, leaves, left_tree, Merges}
+use Rattle.t1_join.specs.Groupings.{Grouping, one, leaves, from_left}
+use Rattle.t1_subset.specs.Groupings.{Merges}
 use Rattle.t1_subset.specs.Merger.{ComesTo, IsRefused, EachGroupingMerges}
 use Rattle.t1_subset.proofs.Conflicts.{no_conflict}
 use Rattle.t1_subset.proofs.state_tables.FontCallers.{CallersSoFar, first_callers, both_callers, more_callers}
 use Rattle.t1_subset.proofs.state_tables.FontStates.{join_exactly, states_join}
 use Rattle.t1_subset.proofs.closing.ClosureLists.{from_here}
 use Rattle.t1_subset.proofs.Fonts.{font_within, joined_is_font}
-use Rattle.t1_subset.proofs.ManyMerges.{left_snoc, left_leaves}
-use Rattle.t1_subset.proofs.Orders.{any_order, each_leaf, by_append}
+use Rattle.t1_join.proofs.OrderLemmas.{leaves_from_left}
+use Rattle.t1_subset.proofs.ManyMerges.{left_snoc}
+use Rattle.t1_join.proofs.OrderLemmas.{each_leaf, all_of_both}
+use Rattle.t1_subset.proofs.Orders.{any_order}
 use Rattle.t1_subset.proofs.state_tables.StateTrees.{all_within}
 
 -- ---- two fonts
@@ -62,7 +66,7 @@ pub record JoinedSoFar (cs : List Callers) (s : StatesValue) : Type 0 where
 
 pub comes_last : (fs : List FontValue) (x j : FontValue) → ComesTo fs j → Join profile j x → ComesTo (fs ++ x ∷ []) (joined_font profile j x)
 comes_last [] x j h k = absurd h
-comes_last (f ∷ fs) x j h k = subst (λ (t : Tree FontValue). Merges profile t (joined_font profile j x)) (sym (left_snoc (Leaf f) fs x)) (j, x, h, refl, k, refl)
+comes_last (f ∷ fs) x j h k = subst (λ (t : Grouping FontValue). Merges profile t (joined_font profile j x)) (sym (left_snoc (one f) fs x)) (j, x, h, refl, (k, refl))
 
 stops_at : (before : List FontValue) (x : FontValue) (after fs : List FontValue) (j : FontValue) → ComesTo before j → fs ≡ before ++ x ∷ after → (e : Refusal) → Tells e (conflict profile j x) → IsRefused fs e
 stops_at [] x after fs j h is e t = absurd h
@@ -71,10 +75,10 @@ stops_at (f ∷ before) x after fs j h is e t = subst (λ (fs : List FontValue).
 pub each_merges : (fs : List FontValue) (j : FontValue) → AllByRecursion IsFont fs → ComesTo fs j → EachGroupingMerges fs
 each_merges [] j w h t e = absurd h
 each_merges (f ∷ fs) j w h t e =
-    let same : leaves (left_tree (Leaf f) fs) ≡ leaves t = left_leaves (Leaf f) fs ∙ sym e in (
+    let same : leaves (from_left (one f) fs) ≡ leaves t = leaves_from_left (one f) fs ∙ sym e in (
       j,
-      any_order profile (left_tree (Leaf f) fs) t (subst (IsPermutation (leaves (left_tree (Leaf f) fs))) same (IsPermutation-refl (leaves (left_tree (Leaf f) fs))))
-          (each_leaf IsWithin (left_tree (Leaf f) fs) (subst (AllByRecursion IsWithin) (sym (left_leaves (Leaf f) fs)) (all_within (f ∷ fs) w))) j h,
+      any_order profile (from_left (one f) fs) t (subst (IsPermutation (leaves (from_left (one f) fs))) same (IsPermutation-refl (leaves (from_left (one f) fs))))
+          (each_leaf IsWithin (from_left (one f) fs) (subst (AllByRecursion IsWithin) (sym (leaves_from_left (one f) fs)) (all_within (f ∷ fs) w))) j h,
     )
 
 -- ---- what is noted of each font
@@ -95,12 +99,9 @@ noted_parts : (xs ys : List Callers) → AreNoted (xs ++ ys) → AreNoted xs × 
 noted_parts [] ys h = (tt, h)
 noted_parts (x ∷ xs) ys h = let r = noted_parts xs ys h.1 in ((h.0, r.0), r.1)
 
--- what is noted of the fonts before a place and of those behind it
+-- what is noted of the fonts before a place
 pub noted_before : (cs : List Callers) → AreNoted cs → (i : ℕ) → AreNoted (take i cs)
 noted_before cs h i = (noted_parts (take i cs) (drop i cs) (subst AreNoted (sym (take-append-drop i cs)) h)).0
-
-pub noted_behind : (cs : List Callers) → AreNoted cs → (i : ℕ) → AreNoted (drop i cs)
-noted_behind cs h i = (noted_parts (take i cs) (drop i cs) (subst AreNoted (sym (take-append-drop i cs)) h)).1
 
 -- ---- a step of the walk
 
@@ -141,7 +142,7 @@ ends cs h i l s far = each_merges (fonts_of cs) far.font (all_fonts cs h) (subst
 -- ---- noting
 
 pub noted_more : (cs : List Callers) (c : Callers) (f : FontValue) → AreNoted cs → IsFont f → c.font.now ≡ f → AreCallersOf c f → AreNoted (cs ++ c ∷ [])
-noted_more cs c f h w e k = by_append _ cs (c ∷ []) h ((subst IsFont (sym e) w, subst (AreCallersOf c) (sym e) k), tt)
+noted_more cs c f h w e k = all_of_both _ cs (c ∷ []) h ((subst IsFont (sym e) w, subst (AreCallersOf c) (sym e) k), tt)
 
 pub fonts_more : (fs : List FontValue) (i : ℕ) (f : FontValue) → i < length fs → f ≡ get_or fs i f → (cs : List Callers) (c : Callers) → fonts_of cs ≡ take i fs → c.font.now ≡ f → fonts_of (cs ++ c ∷ []) ≡ take (i + 1) fs
 fonts_more fs i f l e cs c h k = map-append _ cs (c ∷ []) ∙ (λ j. h j ++ k j ∷ []) ∙ sym (take_more fs i f l ∙ ap (λ (x : FontValue). take i fs ++ x ∷ []) (sym e))

@@ -1,7 +1,7 @@
 use Rattle.std.proofs.Common.{◌≡◌, Some}
 use Rattle.std.specs.Option.{option_map}
 use Rattle.std.specs.FinMap as maps
-use Rattle.t1_subset.specs.Conflicts.{first_where}
+use Rattle.t1_subset.specs.Searches.{first_where}
 use Rattle.t1_subset.specs.Clashes.{charstrings_differ, first_clash}
 use Rattle.t1_subset.proofs.searches.glyph_conflict.Given as goal
 

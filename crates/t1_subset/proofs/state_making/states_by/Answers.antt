@@ -1,12 +1,11 @@
 use Rattle.t1_subset.specs.Profile.{profile}
-use Rattle.t1_subset.specs.StateTables.{shared_of}
 use Rattle.t1_subset.proofs.Fonts.{font_within}
 use Rattle.t1_subset.proofs.state_tables.FontStates.{sized}
 use Rattle.t1_subset.proofs.state_making.states_by.Goals as goal
 
 pub invariant_of-result : goal.invariant_of-result
 invariant_of-result c = sized profile c.args.callers.now.font.now (font_within c.args.callers.now.font.now c.proof_is_font.ensures) _
-    (λ i. (shared_of c.args.callers.now.font.now, (c.in_ok-code_table.ensures i, ((c.in_ok-name_table.ensures) i, c.in_ok-subr_table.ensures i)))) _ _ c.weight.ensures c.glyph_count.ensures
+    (λ i. (c.in_ok-of.ensures i, (c.in_ok-code_table.ensures i, ((c.in_ok-name_table.ensures) i, c.in_ok-subr_table.ensures i)))) _ _ c.weight.ensures c.glyph_count.ensures
 
 pub returns : goal.returns
-returns c = λ i. (shared_of c.args.callers.now.font.now, (c.in_ok-code_table.ensures i, ((c.in_ok-name_table.ensures) i, c.in_ok-subr_table.ensures i)))
+returns c = λ i. (c.in_ok-of.ensures i, (c.in_ok-code_table.ensures i, ((c.in_ok-name_table.ensures) i, c.in_ok-subr_table.ensures i)))

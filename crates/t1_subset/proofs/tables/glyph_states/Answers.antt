@@ -21,7 +21,7 @@ names-preserved c =
     let g = c.args.font.now.glyphs in
     fills_next (states g) c.names.table c.put.new.table c.in-Some.name.now c.next.new.self _
     (subst (λ (ns : List (List ℕ)). Fills (states g) c.names.table ns) (rest_more (λ (s : Bor (List ℕ)). s.now) _ _ _ _ c.in-Some.is c.next.ensures.steps) c.names.invariant)
-    c.in_ok-put.ensures (c.charstring_state.ensures ∙ (read_lent (λ c. name_meaning (Some c)) c.glyph.result ∙ ap (option_map (λ (c : List ℕ). name_meaning (Some c))) c.glyph.ensures) ∙ sym (get-map_values nat_list_cmp_total name_same (λ n c. name_meaning (Some c)) g c.in-Some.name.now))
+    c.in_ok-put.ensures (c.charstring_state.ensures ∙ (read_lent (λ c. name_meaning (Some c)) c.charstring.result ∙ ap (option_map (λ (c : List ℕ). name_meaning (Some c))) c.charstring.ensures) ∙ sym (get-map_values nat_list_cmp_total name_same (λ n c. name_meaning (Some c)) g c.in-Some.name.now))
 
 pub returns : goal.returns
 returns c = same_table c.names.table (states c.args.font.now.glyphs) (fills_all (states c.args.font.now.glyphs) c.names.table c.names.name-iterator c.names.invariant (rest_all (λ (s : Bor (List ℕ)). s.now) _ _ _ c.in-None.is c.next.ensures.steps))

@@ -1,5 +1,4 @@
 use Rattle.std.proofs.Common.{◌≡◌, refl, ◌∙◌, ap, sym, arith, ℕ, List, Bor, Option, Some, None, is_some, option_map}
-use Rattle.t1_font.proofs.FontReaders.{subrs_seen}
 use Rattle.t1_subset.specs.Profile.{profile}
 use Rattle.t1_subset.specs.States.{subr_state, state_of_entry}
 use Rattle.t1_subset.specs.StateTables.{used_subrs}
@@ -21,7 +20,7 @@ pub indices-preserved : goal.indices-preserved
 indices-preserved c =
     let f = c.args.font.now in let i = c.indices.index in
     has_next c.indices.table (subr_state profile f) i c.indices.invariant c.put.new.table _ c.in_ok-put.ensures
-    (c.subr_state.ensures ∙ entry_is f i _ _ c.is_some.result (c.get.ensures ∙ subrs_seen f c.proof_is_font.ensures i)
+    (c.subr_state.ensures ∙ entry_is f i _ _ c.is_some.result c.subr.ensures.entry
     (λ t. c.is_some.ensures ∙ some_lent c.user_in.result ∙ ap is_some (c.user_in.ensures ∙ c.requires i t) ∙ sym (called_is f i)))
 
 pub returns : goal.returns

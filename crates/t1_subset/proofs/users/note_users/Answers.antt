@@ -4,7 +4,7 @@ use Rattle.std.specs.FinMap as maps
 use Rattle.std.specs.FinSet as sets
 use Rattle.std.specs.Cmp.{nat_cmp_total}
 use Rattle.t1_join.specs.Meaning.{of_number}
-use Rattle.t1_subset.specs.Conflicts.{same_number}
+use Rattle.t1_subset.specs.Shared.{same_number}
 use Rattle.t1_subset.specs.Users.{with_user}
 use Rattle.t1_subset.proofs.closing.NumberSets.{any_with}
 use Rattle.t1_subset.proofs.users.note_users.Goals as goal

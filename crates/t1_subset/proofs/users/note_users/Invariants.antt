@@ -4,7 +4,7 @@ use Rattle.std.specs.FinSet as sets
 use Rattle.std.specs.List.{list_any}
 use Rattle.t1_join.specs.Meaning.{of_number}
 use Rattle.t1_subset.specs.Profile.{set_of}
-use Rattle.t1_subset.specs.Conflicts.{same_number}
+use Rattle.t1_subset.specs.Shared.{same_number}
 use Rattle.t1_subset.specs.Users.{with_user}
 use Rattle.t1_subset.proofs.users.note_users.Given as goal
 

@@ -1,7 +1,8 @@
 use Rattle.std.proofs.Common.{◌≡◌, drop, map, not}
-use Rattle.t1_subset.specs.Conflicts.{first_where, same_part}
+use Rattle.t1_subset.specs.Shared.{same_part}
+use Rattle.t1_subset.specs.Searches.{first_where}
 use Rattle.t1_subset.specs.Differences.{shell_part}
-use Rattle.t1_subset.proofs.shells.first_differing.Given as goal
+use Rattle.t1_subset.proofs.shared.first_differing.Given as goal
 
 abbrev pub invariant-parts : goal.invariant-parts
 invariant-parts l = first_where (λ part. not (same_part l.left l.right part)) (map shell_part (drop l.part-index l.parts)) ≡ first_where (λ part. not (same_part l.left l.right part)) (map shell_part l.parts)

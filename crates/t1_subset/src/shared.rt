@@ -1,0 +1,186 @@
+//! What fonts have to share to join, and the first part in which they differ.
+
+ghost use Rattle.std.specs.Prelude.{◌≡◌, ◌↔◌, IsTrue, IfOk, not, map};
+ghost use Rattle.std.specs.Option.{option_map};
+ghost use Rattle.std.specs.FinMap as maps;
+ghost use Rattle.t1_font.specs.FontModel.{part_of};
+ghost use Rattle.t1_subset.specs.Interpreter.{same_bytes};
+ghost use Rattle.t1_subset.specs.Conflicts.{agrees};
+ghost use Rattle.t1_subset.specs.Searches.{first_where};
+ghost use Rattle.t1_subset.specs.Shared.{shared_of, same_part, same_word, differing_part};
+ghost use Rattle.t1_subset.specs.Differences.{shell_part};
+
+use crate::conflict::ShellPart;
+use std::alloc::{AllocError, Global};
+use std::marker::Model;
+use t1_font::{Font, Part, Shell};
+
+/// What fonts have to share to join: the shell, the Encoding where it is a word, and which Subrs are present.
+#[derive(Drop)]
+pub(crate) struct Shared<'a> {
+    shell: &'a Shell,
+    word: Option<&'a [u8]>,
+    /// The indices of the Subrs that are present, upwards.
+    present: Vec<u16>,
+}
+
+impl<'a> Model for Shared<'a> {
+    ghost use Rattle.std.specs.Option.{option_map};
+    ghost use Rattle.t1_subset.specs.Shared.{Shared as SharedValue, shared_code};
+
+    ghost Value = { SharedValue };
+
+    ghost coded = { shared_code };
+
+    ghost view = { λ s. (s.shell.now, (option_map (λ w. w.now) s.word, s.present.items)) };
+}
+
+/// The parts of a shell, in the order in which they are compared.
+const PARTS: [ShellPart; 9] = [
+    ShellPart::Head,
+    ShellPart::Encoding,
+    ShellPart::ClearTail,
+    ShellPart::Private,
+    ShellPart::SubrsTable,
+    ShellPart::SubrsWords,
+    ShellPart::Middle,
+    ShellPart::GlyphsWords,
+    ShellPart::Tail,
+];
+
+/// Whether two byte strings are the same.
+pub(crate) fn same_bytes(left: &[u8], right: &[u8]) -> bool
+    ensures { result ≡ same_bytes left.now right.now }
+{
+    left == right
+}
+
+/// Whether two byte strings are there and differ.
+pub(crate) fn differ(left: Option<&[u8]>, right: Option<&[u8]>) -> bool
+    ensures { result
+        ≡ not
+        (agrees (option_map (λ b. b.now) left.entry)
+        (option_map (λ b. b.now) right.entry)) }
+{
+    match (left, right) {
+        (Some(left), Some(right)) => !same_bytes(left, right),
+        _ => false,
+    }
+}
+
+/// Whether the indices are the same.
+fn same_indices(left: &[u16], right: &[u16]) -> bool
+    ensures { result ≡ same_bytes left.now right.now }
+{
+    left == right
+}
+
+/// Whether both are the same word, or neither is there.
+fn same_word(left: Option<&[u8]>, right: Option<&[u8]>) -> bool
+    ensures { result
+        ≡ same_word (option_map (λ b. b.now) left.entry)
+        (option_map (λ b. b.now) right.entry) }
+{
+    match (left, right) {
+        (Some(left), Some(right)) => same_bytes(left, right),
+        (None, None) => true,
+        _ => false,
+    }
+}
+
+/// Whether the shells have the same kept text, or words, here.
+fn same_text(left: &Shell, right: &Shell, part: Part) -> bool
+    ensures { result ≡ same_bytes (part_of part left.now) (part_of part right.now) }
+{
+    same_bytes(left.text(part), right.text(part))
+}
+
+/// Whether a part is the same.
+fn same_part(left: &Shared<'_>, right: &Shared<'_>, part: ShellPart) -> bool
+    ensures { result ≡ same_part left.now right.now (shell_part part) }
+{
+    let own = left.shell;
+    let other = right.shell;
+    match part {
+        ShellPart::Head => same_text(own, other, Part::Head),
+        ShellPart::Encoding => same_word(left.word, right.word),
+        ShellPart::ClearTail => same_text(own, other, Part::ClearTail),
+        ShellPart::Private => {
+            same_text(own, other, Part::Private) && own.len_iv() == other.len_iv()
+        }
+        ShellPart::SubrsTable => {
+            own.has_subrs() == other.has_subrs()
+                && own.declared_count() == other.declared_count()
+                && same_indices(&left.present, &right.present)
+        }
+        ShellPart::SubrsWords => {
+            same_text(own, other, Part::SubrsRd)
+                && same_text(own, other, Part::SubrsPut)
+                && same_text(own, other, Part::SubrsDef)
+        }
+        ShellPart::Middle => same_text(own, other, Part::Middle),
+        ShellPart::GlyphsWords => {
+            same_text(own, other, Part::GlyphsRd) && same_text(own, other, Part::GlyphsDef)
+        }
+        ShellPart::Tail => same_text(own, other, Part::Tail),
+    }
+}
+
+/// The first of these parts that differs.
+fn first_differing(left: &Shared<'_>, right: &Shared<'_>, parts: &[ShellPart]) -> Option<ShellPart>
+    ensures { option_map shell_part result
+        ≡ first_where (λ part. not (same_part left.now right.now part))
+        (map shell_part parts.now) }
+{
+    'parts: for part in parts {
+        if !same_part(left, right, *part) {
+            return Some(*part);
+        }
+    }
+    None
+}
+
+impl<'a> Shared<'a> {
+    /// What the font shares with each font that it joins.
+    pub(crate) fn of(alloc: Global, font: &Font<'a>) -> Result<Shared<'a>, AllocError>
+        ensures { IfOk result (λ s. s ≡ shared_of font.now) }
+    {
+        Ok(Shared {
+            shell: font.shell(),
+            word: font.encoding_word(),
+            present: font.indices().collect(alloc)?,
+        })
+    }
+
+    /// A copy.
+    pub(crate) fn copy(&self, alloc: Global) -> Result<Shared<'a>, AllocError>
+        ensures { IfOk result (λ s. s ≡ self.now) }
+    {
+        Ok(Shared {
+            shell: self.shell,
+            word: self.word,
+            present: Vec::from_slice(alloc, &self.present)?,
+        })
+    }
+
+    /// How many lead bytes a charstring has in a file.
+    pub(crate) fn len_iv(&self) -> u8
+        ensures { result ≡ self.now.0.len_iv }
+    {
+        self.shell.len_iv()
+    }
+
+    /// The first part that differs.
+    pub(crate) fn differing_part(&self, other: &Shared<'_>) -> Option<ShellPart>
+        ensures { option_map shell_part result ≡ differing_part self.now other.now }
+    {
+        first_differing(self, other, &PARTS)
+    }
+
+    /// Whether all is the same.
+    pub(crate) fn is_same(&self, other: &Shared<'_>) -> bool
+        ensures { IsTrue result ↔ (self.now ≡ other.now) }
+    {
+        self.differing_part(other).is_none()
+    }
+}
