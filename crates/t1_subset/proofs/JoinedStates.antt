@@ -15,7 +15,8 @@ use Rattle.t1_subset.specs.Interpreter.{Interpreter, same_bytes}
 use Rattle.t1_subset.specs.Keep.{components}
 use Rattle.t1_subset.specs.States.{Agree, joined, is_called, is_sought, state_of_entry, subr_state, state_of_glyph, name_state, code_state, joined_font, Compatible, is_stub}
 use Rattle.t1_subset.proofs.Flat.{agree_back, joined_back, joined_some}
-use Rattle.t1_subset.proofs.Maps.{get-merged, maps_same, any_in, any_of}
+use Rattle.t1_subset.proofs.Maps.{get-merged, maps_same}
+use Rattle.t1_subset.proofs.Uses.{calls_it, seeks_it, caller, seeker}
 use Rattle.t1_subset.proofs.JoinOfSubsets.{same_font}
 use Rattle.t1_subset.proofs.Sets.{name_same, or_cases, or_left, or_right}
 
@@ -91,13 +92,6 @@ module _ {O : Type 0} (m : Interpreter O) (f : FontValue) where
   pub called_state : (i : ℕ) (e : List ℕ) → maps.get f.subrs i ≡ Some e → is_called m f i ≡ true → subr_state m f i ≡ Some e
   called_state i e is h = ap (state_of_entry m f i) is ∙ called_entry (is_stub e) (is_called m f i) e h
 
-  -- a glyph that the font has calls the index
-  pub calls_it : (n c : List ℕ) (i : ℕ) → maps.get f.glyphs n ≡ Some c → sets.contains (m.exec f.subrs c) i ≡ true → is_called m f i ≡ true
-  calls_it n c i is h = any_of nat_list_cmp_total name_same (λ k v. sets.contains (m.exec f.subrs v) i) f.glyphs n c is h
-
-  pub seeks_it : (n c p : List ℕ) → maps.get f.glyphs n ≡ Some c → list_any (same_bytes p) (components m f.subrs c) ≡ true → is_sought m f p ≡ true
-  seeks_it n c p is h = any_of nat_list_cmp_total name_same (λ k v. list_any (same_bytes p) (components m f.subrs v)) f.glyphs n c is h
-
 -- ---- the left side runs as before
 
 module _ {O : Type 0} (m : Interpreter O) (f g : FontValue) where
@@ -131,15 +125,15 @@ module _ {O : Type 0} (m : Interpreter O) (f g : FontValue) (c : Compatible m f 
 
   pub called_in_join : (i : ℕ) → is_called m whole i ≡ (is_called m f i || is_called m g i)
   called_in_join i = both_ways (is_called m whole i) (is_called m f i || is_called m g i)
-      (λ h. let r = any_in nat_list_cmp_total name_same (λ k v. sets.contains (m.exec whole.subrs v) i) whole.glyphs h in
+      (λ h. let r = caller m whole i h in
       elim (joined_some (maps.get f.glyphs r.0) (maps.get g.glyphs r.0) r.1 (sym (glyph_in_join m f g r.0) ∙ r.2)) [
         | inl x ↦ or_left (is_called m f i) (is_called m g i) (calls_it m f r.0 r.1 i x (ap (λ s. sets.contains s i) (sym (left_runs m f g r.0 r.1 x).1) ∙ r.3))
         | inr y ↦ or_right (is_called m f i) (is_called m g i) (calls_it m g r.0 r.1 i y (ap (λ s. sets.contains s i) (sym (right_runs r.0 r.1 y).1) ∙ r.3))
       ])
       (λ h. elim (or_cases (is_called m f i) (is_called m g i) h) [
-        | inl x ↦ let r = any_in nat_list_cmp_total name_same (λ k v. sets.contains (m.exec f.subrs v) i) f.glyphs x in
+        | inl x ↦ let r = caller m f i x in
             calls_it m whole r.0 r.1 i (left_glyph m f g r.0 r.1 r.2) (ap (λ s. sets.contains s i) (left_runs m f g r.0 r.1 r.2).1 ∙ r.3)
-        | inr y ↦ let r = any_in nat_list_cmp_total name_same (λ k v. sets.contains (m.exec g.subrs v) i) g.glyphs y in
+        | inr y ↦ let r = caller m g i y in
             calls_it m whole r.0 r.1 i (right_glyph r.0 r.1 r.2) (ap (λ s. sets.contains s i) (right_runs r.0 r.1 r.2).1 ∙ r.3)
       ])
 
@@ -151,15 +145,15 @@ module _ {O : Type 0} (m : Interpreter O) (f g : FontValue) (c : Compatible m f 
 
   pub sought_in_join : (p : List ℕ) → is_sought m whole p ≡ (is_sought m f p || is_sought m g p)
   sought_in_join p = both_ways (is_sought m whole p) (is_sought m f p || is_sought m g p)
-      (λ h. let r = any_in nat_list_cmp_total name_same (λ k v. names_it p whole.subrs v) whole.glyphs h in
+      (λ h. let r = seeker m whole p h in
       elim (joined_some (maps.get f.glyphs r.0) (maps.get g.glyphs r.0) r.1 (sym (glyph_in_join m f g r.0) ∙ r.2)) [
         | inl x ↦ or_left (is_sought m f p) (is_sought m g p) (seeks_it m f r.0 r.1 p x (sym (same_components p whole.subrs f.subrs r.1 (left_runs m f g r.0 r.1 x).0) ∙ r.3))
         | inr y ↦ or_right (is_sought m f p) (is_sought m g p) (seeks_it m g r.0 r.1 p y (sym (same_components p whole.subrs g.subrs r.1 (right_runs r.0 r.1 y).0) ∙ r.3))
       ])
       (λ h. elim (or_cases (is_sought m f p) (is_sought m g p) h) [
-        | inl x ↦ let r = any_in nat_list_cmp_total name_same (λ k v. names_it p f.subrs v) f.glyphs x in
+        | inl x ↦ let r = seeker m f p x in
             seeks_it m whole r.0 r.1 p (left_glyph m f g r.0 r.1 r.2) (same_components p whole.subrs f.subrs r.1 (left_runs m f g r.0 r.1 r.2).0 ∙ r.3)
-        | inr y ↦ let r = any_in nat_list_cmp_total name_same (λ k v. names_it p g.subrs v) g.glyphs y in
+        | inr y ↦ let r = seeker m g p y in
             seeks_it m whole r.0 r.1 p (right_glyph r.0 r.1 r.2) (same_components p whole.subrs g.subrs r.1 (right_runs r.0 r.1 r.2).0 ∙ r.3)
       ])
 

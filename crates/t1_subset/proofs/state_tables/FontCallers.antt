@@ -1,6 +1,6 @@
 -- The smallest glyphs that execute a Subr or seek a component: as the code notes them, and in a join.
 use Rattle.std.proofs.Common.{◌≡◌, ℕ, Bool, true, false, not, cond, ◌&&◌, ◌||◌, List, [], ◌∷◌, ◌++◌, map, refl, sym, ◌∙◌, ap, Option, Some, None, is_some, unwrap_or, true≢false}
-use Rattle.std.specs.List.{list_any, AllByRecursion}
+use Rattle.std.specs.List.{list_any}
 use Rattle.std.specs.Cmp.{nat_cmp_total}
 use Rattle.std.specs.Cmp.Lexicographic.{nat_list_cmp_total}
 use Rattle.std.specs.FinMap as maps
@@ -9,13 +9,13 @@ use Rattle.t1_join.specs.TableMeaning.{TableMeaning}
 use Rattle.t1_font.specs.Maps.{merged}
 use Rattle.t1_font.specs.FontValue.{FontValue, Named, name_cmp}
 use Rattle.t1_font.specs.FontModel.{names_in}
-use Rattle.t1_font.proofs.MapLemmas.{entries_all, entries-map_values}
+use Rattle.t1_font.proofs.MapLemmas.{entries-map_values}
 use Rattle.t1_subset.specs.declared.callers.Callers.{Callers}
 use Rattle.t1_subset.specs.Interpreter.{same_bytes}
 use Rattle.t1_subset.specs.Keep.{has, components, charstring}
 use Rattle.t1_subset.specs.Profile.{profile}
-use Rattle.t1_subset.specs.States.{Agree, joined, is_called, is_sought, state_of_glyph, joined_font, Compatible}
-use Rattle.t1_subset.specs.Conflicts.{keys_of_both, executes, executed_at, calls_for, called_at, wants, wanted_by, used_by, glyph_names}
+use Rattle.t1_subset.specs.States.{Agree, joined, is_called, is_sought, state_of_glyph, joined_font, Compatible, executes, executed_at, calls_for, called_at}
+use Rattle.t1_subset.specs.Conflicts.{keys_of_both, wants, wanted_by, used_by, glyph_names}
 use Rattle.t1_subset.specs.Searches.{smallest, members, first_where}
 use Rattle.t1_subset.specs.Differences.{smaller}
 use Rattle.t1_subset.specs.Callers.{same_charstring, user_of, seeker_of, user_from, seeker_from, AreCallersOf}
@@ -26,7 +26,7 @@ use Rattle.t1_subset.proofs.closing.ExecutedCalls.{calls_by, no_calls}
 use Rattle.t1_subset.proofs.closing.ProfileRuns.{no_components}
 use Rattle.t1_subset.proofs.state_tables.FirstNames.{smaller_first}
 use Rattle.t1_subset.proofs.JoinedStates.{glyph_in_join, glyph_agree, present_joined, left_runs, right_runs}
-use Rattle.t1_subset.proofs.Conflicts.{sought}
+use Rattle.t1_subset.proofs.Uses.{sought}
 use Rattle.std.specs.Cmp.{second_so}
 use Rattle.t1_subset.proofs.Sets.{name_same, not_so, clash, tied}
 
@@ -110,21 +110,13 @@ module _ (f : FontValue) where
       at None e = ap (list_any (same_bytes p)) (sym (no_components f n e))
       at (Some c) e = ap (λ x. list_any (same_bytes p) (components profile f.subrs (unwrap_or x []))) e
 
-  -- what stands of each name, by its entry
-  any_entries : (at : Option (List ℕ) → Bool) (es : List (List ℕ × List ℕ)) → AllByRecursion (λ e. maps.get f.glyphs e.0 ≡ Some e.1) es → list_any (λ e. at (Some e.1)) es ≡ list_any (λ n. at (maps.get f.glyphs n)) (map (λ e. e.0) es)
-  any_entries at [] h = refl
-  any_entries at (e ∷ es) h = λ i. at (sym h.0 i) || any_entries at es h.1 i
-
-  any_glyph : (at : Option (List ℕ) → Bool) → list_any (λ e. at (Some e.1)) (maps.entries f.glyphs) ≡ list_any (λ n. at (maps.get f.glyphs n)) (names_in f.glyphs)
-  any_glyph at = any_entries at (maps.entries f.glyphs) (entries_all nat_list_cmp_total name_same (λ n c. maps.get f.glyphs n ≡ Some c) f.glyphs (λ n c h. h))
-
   -- an index is called where it has a user
   pub called_is : (i : ℕ) → is_called profile f i ≡ is_some (user_of f i)
-  called_is i = any_glyph (executed_at profile f i) ∙ any_first (λ n. executes profile f n i) (names_in f.glyphs)
+  called_is i = any_first (λ n. executes profile f n i) (names_in f.glyphs)
 
   -- a component that the font lacks is sought where it has a seeker
   pub sought_is : (p : List ℕ) → is_some (seeker_of f p) ≡ (not (has f p) && is_sought profile f p)
-  sought_is p = sym (any_first (λ n. wants profile f n p) (names_in f.glyphs)) ∙ any_and (not (has f p)) (λ n. calls_for profile f n p) (names_in f.glyphs) ∙ ap (λ b. not (has f p) && b) (sym (any_glyph (called_at profile f p)))
+  sought_is p = sym (any_first (λ n. wants profile f n p) (names_in f.glyphs)) ∙ any_and (not (has f p)) (λ n. calls_for profile f n p) (names_in f.glyphs)
 
 -- ---- two fonts
 
