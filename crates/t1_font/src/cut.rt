@@ -65,9 +65,7 @@ fn cut_glyphs<'a>(
     'names: for name in names {
         keep_named(&mut cut, glyphs, name.as_slice())?;
     }
-    Ok(Named {
-        entries: drain(alloc, cut)?,
-    })
+    Ok(Named::made(drain(alloc, cut)?))
 }
 
 /// The codes whose names are those of glyphs.
@@ -86,7 +84,7 @@ fn cut_codes<'a>(
             cut.push((code, name))?;
         }
     }
-    Ok(Numbered { entries: cut })
+    Ok(Numbered::made(cut))
 }
 
 /// An Encoding of the names of glyphs alone; a word as it is.
@@ -120,11 +118,11 @@ pub(crate) fn cut_subrs<'a>(
     ensures { IfOk result (λ m. m
         ≡ map_values (λ i c. cond (contains nat_cmp kept.now i) c stub) subrs.now) }
 {
-    let mut cut = Vec::with_capacity(alloc, subrs.entries.len())?;
+    let mut cut = Vec::with_capacity(alloc, subrs.len())?;
     'bodies: for (index, body) in subrs.entries() {
         cut.push((index, kept_or_stub(kept.contains(&index), body)))?;
     }
-    Ok(Numbered { entries: cut })
+    Ok(Numbered::made(cut))
 }
 
 /// The parts of a font that is cut.

@@ -160,9 +160,9 @@ module _ (stubs : Numbered) (fs out left next : List FontValue) (f : FontValue) 
 
 -- ---- the parts of one
 
-pub lent_none : (es : List (ℕ × Bor (List ℕ))) → (length es == 0) ≡ has_none (map lent_number es)
-lent_none [] = refl
-lent_none (e ∷ es) = elim (cases_Bool (length (e ∷ es) == 0)) [ inl t ↦ absurd (omega (arith, eqb-true (length (e ∷ es)) 0 t)) | inr t ↦ t ]
+pub none_counted : (es : List (ℕ × List ℕ)) → (length es == 0) ≡ has_none es
+none_counted [] = refl
+none_counted (e ∷ es) = elim (cases_Bool (length (e ∷ es) == 0)) [ inl t ↦ absurd (omega (arith, eqb-true (length (e ∷ es)) 0 t)) | inr t ↦ t ]
 
 none_so : (es : List (ℕ × List ℕ)) → has_none es ≡ true → es ≡ []
 none_so [] h = refl

@@ -16,12 +16,13 @@ names-init c =
     ap (λ m. put_all_into m (entries_of c.args.glyphs.now (map (λ v. v.items) c.args.names.now))) (ap lent_names c.new-cut.ensures.empty ∙ lent_none)
     ∙ put_some nat_list_cmp_total name_same c.args.glyphs.now (map (λ v. v.items) c.args.names.now)
 
-pub invariant_of-result : goal.invariant_of-result
-invariant_of-result c = subst (λ es. Rises name_cmp (map lent_name es)) (sym c.in_ok-drain.ensures.items) (lent_rise c.names.cut.entries c.in_ok-drain.ensures.ordered)
+pub made-requires : goal.made-requires
+made-requires c = subst (λ es. Rises name_cmp (map lent_name es)) (sym c.in_ok-drain.ensures.items) (lent_rise c.names.cut.entries c.in_ok-drain.ensures.ordered)
 
 pub returns : goal.returns
 returns c =
-    ap (λ es. from_sorted {R = name_cmp} (map lent_name es)) c.in_ok-drain.ensures.items
+    c.made.ensures
+    ∙ ap (λ es. from_sorted {R = name_cmp} (map lent_name es)) c.in_ok-drain.ensures.items
     ∙ (lent_sorted c.names.cut.entries c.in_ok-drain.ensures.ordered
     ∙ (ap (λ ns. put_all_into (lent_names c.names.cut.entries) (entries_of c.args.glyphs.now (map (λ v. v.items) ns))) (sym (drop_all c.names.name-index c.args.names.now c.names-test.false))
     ∙ c.names.invariant))

@@ -1,20 +1,30 @@
-use Rattle.std.proofs.Common.{map, ◌≡◌, ◌∙◌}
+use Rattle.std.proofs.Common.{refl, sym, ◌∙◌, map, ℕ, List}
+use Rattle.std.specs.Borrow.{Bor}
+use Rattle.std.proofs.lemmas.Option.{MatchOption-at_some, MatchOption-at_none}
 use Rattle.std.specs.Cmp.Lexicographic.{nat_list_cmp_total}
-use Rattle.t1_join.specs.Passes.{merge}
+use Rattle.std.specs.FinMap.{entries}
 use Rattle.t1_font.specs.FontValue.{name_cmp}
-use Rattle.t1_font.specs.Lent.{with_bytes, lent_name}
+use Rattle.t1_font.specs.Lent.{lent_name}
 use Rattle.t1_font.proofs.canonical.FontAgain.{name_same}
-use Rattle.t1_font.proofs.LentTables.{lent_cmp, names_merged, merge_rises, merge_is}
+use Rattle.t1_font.proofs.LentTables.{lent_cmp}
+use Rattle.t1_font.proofs.TablePasses.{Ending, Turn, none_out, one_out, all_out, turn, merge_rises, merge_is}
 use Rattle.t1_font.proofs.parts.join_glyphs.Goals as goal
 
-pub invariant_of-result : goal.invariant_of-result
-invariant_of-result c =
-    let one_pass : map lent_name c.in_ok-merge_entries.field-0.items ≡ merge name_cmp (map lent_name c.first.inside.entries.items) (map lent_name c.second.inside.entries.items) =
-    names_merged c.in_ok-merge_entries.field-0.items c.first.inside.entries.items c.second.inside.entries.items (c.in_ok-merge_entries.ensures ∙ (λ i. merge lent_cmp (map with_bytes (c.deref.ensures.value i)) (map with_bytes (c.deref-2.ensures.value i)))) in
-    merge_rises nat_list_cmp_total (map lent_name c.in_ok-merge_entries.field-0.items) (map lent_name c.first.inside.entries.items) (map lent_name c.second.inside.entries.items) one_pass c.first.invariant c.second.invariant
+pub pass-init : goal.pass-init
+pass-init c = none_out name_cmp lent_name (entries c.args.first.now) (entries c.args.second.now) c.new-all.result.items c.new-all.ensures.items
+
+pub pass-preserved : goal.pass-preserved
+pass-preserved c =
+    let t : (Bor (List ℕ) × Bor (List ℕ)) × ℕ × ℕ = (c.in-Some.entry, c.in-Some.of_first, c.in-Some.of_second) in
+    let turned = MatchOption-at_some (Ending name_cmp lent_name (entries c.args.first.now) (entries c.args.second.now) c.pass.i c.pass.j) (Turn name_cmp lent_name (entries c.args.first.now) (entries c.args.second.now) c.pass.i c.pass.j) t (sym c.in-Some.ensures) (turn lent_cmp name_cmp lent_name (λ a b. refl) (entries c.args.first.now) (entries c.args.second.now) c.pass.i c.pass.j c.at.result c.at-in-pass.result c.at.ensures.entry c.at-in-pass.ensures.entry) in
+    one_out name_cmp lent_name (entries c.args.first.now) (entries c.args.second.now) c.pass.all.items c.push.new.self.items c.pass.i c.pass.j t turned c.pass.invariant c.in_ok-push.ensures.items
+
+pub made-requires : goal.made-requires
+made-requires c =
+    let ended = MatchOption-at_none (Ending name_cmp lent_name (entries c.args.first.now) (entries c.args.second.now) c.pass.i c.pass.j) (Turn name_cmp lent_name (entries c.args.first.now) (entries c.args.second.now) c.pass.i c.pass.j) (sym c.in_default.ensures) (turn lent_cmp name_cmp lent_name (λ a b. refl) (entries c.args.first.now) (entries c.args.second.now) c.pass.i c.pass.j c.at.result c.at-in-pass.result c.at.ensures.entry c.at-in-pass.ensures.entry) in
+    merge_rises nat_list_cmp_total c.args.first.now c.args.second.now (map lent_name c.pass.all.items) (all_out name_cmp lent_name (entries c.args.first.now) (entries c.args.second.now) c.pass.all.items c.pass.i c.pass.j ended c.pass.invariant)
 
 pub returns : goal.returns
 returns c =
-    let one_pass : map lent_name c.in_ok-merge_entries.field-0.items ≡ merge name_cmp (map lent_name c.first.inside.entries.items) (map lent_name c.second.inside.entries.items) =
-    names_merged c.in_ok-merge_entries.field-0.items c.first.inside.entries.items c.second.inside.entries.items (c.in_ok-merge_entries.ensures ∙ (λ i. merge lent_cmp (map with_bytes (c.deref.ensures.value i)) (map with_bytes (c.deref-2.ensures.value i)))) in
-    merge_is nat_list_cmp_total name_same (map lent_name c.in_ok-merge_entries.field-0.items) (map lent_name c.first.inside.entries.items) (map lent_name c.second.inside.entries.items) c.args.first.now c.args.second.now one_pass c.first.invariant c.second.invariant c.first.view_is c.second.view_is
+    let ended = MatchOption-at_none (Ending name_cmp lent_name (entries c.args.first.now) (entries c.args.second.now) c.pass.i c.pass.j) (Turn name_cmp lent_name (entries c.args.first.now) (entries c.args.second.now) c.pass.i c.pass.j) (sym c.in_default.ensures) (turn lent_cmp name_cmp lent_name (λ a b. refl) (entries c.args.first.now) (entries c.args.second.now) c.pass.i c.pass.j c.at.result c.at-in-pass.result c.at.ensures.entry c.at-in-pass.ensures.entry) in
+    c.made.ensures ∙ merge_is nat_list_cmp_total c.args.first.now c.args.second.now (map lent_name c.pass.all.items) (all_out name_cmp lent_name (entries c.args.first.now) (entries c.args.second.now) c.pass.all.items c.pass.i c.pass.j ended c.pass.invariant) name_same
