@@ -79,7 +79,7 @@ fn join_glyphs<'a>(
 ) -> Result<Named<'a>, AllocError>
     ensures { IfOk result (λ m. m ≡ merged first.now second.now) }
 {
-    let mut all = Vec::new(alloc);
+    let mut all = Vec::with_capacity(alloc, first.len().saturating_add(second.len()))?;
     let mut i = 0;
     let mut j = 0;
     'pass: while let Some((entry, of_first, of_second)) = lower(first.at(i), second.at(j)) {
@@ -98,7 +98,7 @@ pub(crate) fn join_codes<'a>(
 ) -> Result<Numbered<'a>, AllocError>
     ensures { IfOk result (λ m. m ≡ merged first.now second.now) }
 {
-    let mut all = Vec::new(alloc);
+    let mut all = Vec::with_capacity(alloc, first.len().saturating_add(second.len()))?;
     let mut i = 0;
     let mut j = 0;
     'pass: while let Some((entry, of_first, of_second)) = lower(first.at(i), second.at(j)) {

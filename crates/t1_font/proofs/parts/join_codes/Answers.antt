@@ -9,7 +9,7 @@ use Rattle.t1_font.proofs.TablePasses.{Ending, Turn, none_out, one_out, all_out,
 use Rattle.t1_font.proofs.parts.join_codes.Goals as goal
 
 pub pass-init : goal.pass-init
-pass-init c = none_out nat_cmp lent_number (entries c.args.first.now) (entries c.args.second.now) c.new-all.result.items c.new-all.ensures.items
+pass-init c = none_out nat_cmp lent_number (entries c.args.first.now) (entries c.args.second.now) c.in_ok-all.all.items c.in_ok-all.ensures.items
 
 pub pass-preserved : goal.pass-preserved
 pass-preserved c =
