@@ -5,10 +5,12 @@ use Rattle.std.specs.BTreeMap.{insert_entry}
 use Rattle.std.specs.List.Sorted.{IsStrictlySortedBy}
 use Rattle.std.specs.List.{slice_get, AllByRecursion}
 use Rattle.std.specs.List.Sorted.{IsSearchInRange, IsBinarySearchResult}
-use Rattle.std.specs.Map.{keys_of}
+use Rattle.std.specs.Map.{keys_of, values_of}
 use Rattle.std.specs.Slice.{IsItemAt}
-use Rattle.std.specs.Option.{option_map, option_and_then, IfSome}
+use Rattle.std.specs.Option.{option_map, option_and_then}
 use Rattle.std.specs.Result.{result_ok}
+use Rattle.std.specs.declared.cmp.Ordering.TheVariants.{Less, Equal, Greater}
+use Rattle.std.specs.Ordering.{match_ordering}
 use Rattle.std.specs.Cmp.{IsTotalOrder}
 use Rattle.std.specs.Cmp.Lexicographic.{nat_list_cmp_total}
 use Rattle.std.specs.FinSet.{IsAntisymmetric}
@@ -19,8 +21,9 @@ use Rattle.std.proofs.lemmas.Option.{slice_get_within, slice_get_cases, slice_ge
 use Rattle.t1_join.specs.TableMeaning.{Rises}
 use Rattle.t1_join.proofs.Searches.{searched}
 use Rattle.t1_join.proofs.TreeEntries.{map_insert, sorted_entries, map_sorted}
+use Rattle.t1_font.specs.declared.lent.Glyph.{Glyph}
 use Rattle.t1_font.specs.FontValue.{name_cmp}
-use Rattle.t1_font.specs.Lent.{lent_name, lent_names}
+use Rattle.t1_font.specs.Lent.{lent_glyph, keyed_glyph, AreOwn, glyph_names}
 use Rattle.t1_font.specs.Maps.{put_all_into, entry_of}
 use Rattle.t1_font.proofs.MapLemmas.{entries_all}
 use Rattle.t1_font.proofs.canonical.FontAgain.{name_same}
@@ -98,11 +101,6 @@ module _ {K X : Type 0} (q : K) where
   key_there e None h = absurd (none-some e (sym h))
   key_there e (Some b) h = cc
 
--- the same of an entry that is lent by its name
-pub name_there : (q : List ℕ) (r : Option (Bor (List ℕ) × Bor (List ℕ))) (o : Option (List ℕ)) → option_map lent_name r ≡ option_map (λ b. (q, b)) o → (option_map (λ e. e.1.now) r ≡ o) × IfSome r (λ e. e.0.now ≡ q)
-name_there q None o h = (value_there q None o h, tt)
-name_there q (Some e) o h = (value_there q (Some (lent_name e)) o h, key_there q (lent_name e) o h)
-
 -- what stands at a place of a map's entries, stands at its key
 module _ {K X : Type 0} {R : K → K → Ordering} (o : IsTotalOrder R) (same : IsAntisymmetric R) (m : FinMap R X) where
   among : (es : List (K × X)) (i : ℕ) (e : K × X) → AllByRecursion (λ x. get m x.0 ≡ Some x.1) es → slice_get es i ≡ Some e → get m e.0 ≡ Some e.1
@@ -117,28 +115,46 @@ module _ {K X : Type 0} {R : K → K → Ordering} (o : IsTotalOrder R) (same : 
 pub all_out : {K X Y : Type 0} (v : Y → K × X) (out : List Y) (left es : List (K × X)) → left ≡ [] → map v out ++ left ≡ es → map v out ≡ es
 all_out {K = K} {X = X} v out left es none h = sym (append-nil (map v out)) ∙ (ap (λ (l : List (K × X)). map v out ++ l) (sym none) ∙ h)
 
--- ---- names in a tree
+-- ---- glyphs under names in a tree
 
 -- the order of lent names
 abbrev pub lent_cmp : Bor (List ℕ) → Bor (List ℕ) → Ordering
 lent_cmp x y = name_cmp x.now y.now
 
--- an entry put into the tree
-pub lent_put : (es : List (Bor (List ℕ) × Bor (List ℕ))) (name body : Bor (List ℕ)) → lent_names (insert_entry lent_cmp es name body) ≡ insert (lent_names es) name.now body.now
-lent_put es name body = map_insert (λ k. k.now) (λ v. v.now) lent_cmp name_cmp nat_list_cmp_total name_same (λ x y. refl) es name body
+-- the entries seen by the glyphs' own names
+own_names : (es : List (Bor (List ℕ) × Glyph)) → AreOwn es → map keyed_glyph es ≡ map lent_glyph (values_of es)
+own_names [] h = refl
+own_names (e ∷ es) h = λ i. (h.0 i, (lent_glyph e.1).1) ∷ own_names es h.1 i
 
--- the tree's entries rise, and are those of its map
-pub lent_rise : (es : List (Bor (List ℕ) × Bor (List ℕ))) → IsStrictlySortedBy lent_cmp (keys_of es) → Rises name_cmp (map lent_name es)
-lent_rise es h = sorted_entries (λ k. k.now) (λ v. v.now) lent_cmp name_cmp nat_list_cmp_total name_same (λ x y. refl) es h
+-- the names stay the glyphs' own where a glyph is put under its name
+pub own_put : (es : List (Bor (List ℕ) × Glyph)) (name : Bor (List ℕ)) (g : Glyph) → name.now ≡ (lent_glyph g).0 → AreOwn es → AreOwn (insert_entry lent_cmp es name g)
+own_put [] name g own h = (own, tt)
+own_put (e ∷ es) name g own h =
+    elim (lent_cmp name e.0) as (λ r. lent_cmp name e.0 ≡ r → AreOwn (match_ordering r ((name, g) ∷ e ∷ es) ((e.0, g) ∷ es) (e ∷ insert_entry lent_cmp es name g))) [
+      | Less ↦ λ is. (own, h)
+      | Equal ↦ λ is. (sym (name_same name.now e.0.now is) ∙ own, h.1)
+      | Greater ↦ λ is. (h.0, own_put es name g own h.1)
+    ] refl
 
-pub lent_sorted : (es : List (Bor (List ℕ) × Bor (List ℕ))) → IsStrictlySortedBy lent_cmp (keys_of es) → from_sorted (map lent_name es) ≡ lent_names es
-lent_sorted es h = map_sorted (λ k. k.now) (λ v. v.now) lent_cmp name_cmp nat_list_cmp_total name_same (λ x y. refl) es h
+-- a glyph put into the tree
+glyph_put : (es : List (Bor (List ℕ) × Glyph)) (name : Bor (List ℕ)) (g : Glyph) → glyph_names (insert_entry lent_cmp es name g) ≡ insert (glyph_names es) name.now (lent_glyph g).1
+glyph_put es name g = map_insert (λ k. k.now) (λ (g : Glyph). (lent_glyph g).1) lent_cmp name_cmp nat_list_cmp_total name_same (λ x y. refl) es name g
 
--- no entries
-pub lent_none : lent_names [] ≡ empty
-lent_none = same_map nat_list_cmp_total name_same _ _ (λ q. get-from_entries nat_list_cmp_total [] q ∙ sym (get-empty name_cmp q))
+-- the tree's glyphs rise, and are those of its map
+pub glyphs_rise : (es : List (Bor (List ℕ) × Glyph)) → AreOwn es → IsStrictlySortedBy lent_cmp (keys_of es) → Rises name_cmp (map lent_glyph (values_of es))
+glyphs_rise es own h = subst (Rises name_cmp) (own_names es own) (sorted_entries (λ k. k.now) (λ (g : Glyph). (lent_glyph g).1) lent_cmp name_cmp nat_list_cmp_total name_same (λ x y. refl) es h)
 
--- an entry that is found, put
-pub found_put : (es next : List (Bor (List ℕ) × Bor (List ℕ))) (k : List ℕ) (name body : Bor (List ℕ)) (v : Option (List ℕ)) → Some body.now ≡ v → name.now ≡ k → next ≡ insert_entry lent_cmp es name body → lent_names next ≡ put_all_into (lent_names es) (entry_of k v)
-found_put es next k name body v found is put =
-    ap lent_names put ∙ (lent_put es name body ∙ (ap (λ x. insert (lent_names es) x body.now) is ∙ ap (λ o. put_all_into (lent_names es) (entry_of k o)) found))
+pub glyphs_sorted : (es : List (Bor (List ℕ) × Glyph)) → AreOwn es → IsStrictlySortedBy lent_cmp (keys_of es) → from_sorted (map lent_glyph (values_of es)) ≡ glyph_names es
+glyphs_sorted es own h =
+    ap (from_sorted {R = name_cmp}) (sym (own_names es own))
+    ∙ map_sorted (λ k. k.now) (λ (g : Glyph). (lent_glyph g).1) lent_cmp name_cmp nat_list_cmp_total name_same (λ x y. refl) es h
+
+-- no glyphs
+pub no_glyphs : glyph_names [] ≡ empty
+no_glyphs = same_map nat_list_cmp_total name_same _ _ (λ q. get-from_entries nat_list_cmp_total [] q ∙ sym (get-empty name_cmp q))
+
+-- a glyph that is found, put
+pub found_put : (es next : List (Bor (List ℕ) × Glyph)) (k : List ℕ) (name : Bor (List ℕ)) (g : Glyph) (v : Option (List ℕ)) → Some (lent_glyph g) ≡ option_map (λ b. (k, b)) v → name.now ≡ (lent_glyph g).0 → next ≡ insert_entry lent_cmp es name g → glyph_names next ≡ put_all_into (glyph_names es) (entry_of k v)
+found_put es next k name g v found own put =
+    let key : name.now ≡ k = own ∙ key_there k (lent_glyph g) v found in
+    ap glyph_names put ∙ (glyph_put es name g ∙ (ap (λ x. insert (glyph_names es) x (lent_glyph g).1) key ∙ ap (λ o. put_all_into (glyph_names es) (entry_of k o)) (value_there k (Some (lent_glyph g)) v found)))

@@ -74,6 +74,13 @@ module _ {K V M X : Type 0} (R : K → K → Ordering) (S : M → M → Ordering
         | Greater ↦ λ is. is ∙ ap (λ (l : List (M × X)). v f ∷ merge S l (drop (j + 1) fs)) (sym es_on ∙ stays i es)
       ] both
 
+-- what holds of both next entries, holds of the lower
+pub lower_has : {K V : Type 0} (R : K → K → Ordering) (P : K × V → Type 0) (here there : Option (K × V)) → IfSome here P → IfSome there P → IfSome (lower R here there) (λ t. P t.0)
+lower_has R P None None p q = tt
+lower_has R P (Some e) None p q = p
+lower_has R P None (Some f) p q = q
+lower_has {K = K} {V = V} R P (Some e) (Some f) p q = elim (R e.0 f.0) as (λ r. IfSome {T = (K × V) × ℕ × ℕ} (by_order r (Some (e, 1, 0)) (Some (e, 1, 1)) (Some (f, 0, 1))) (λ t. P t.0)) [ Less ↦ p | Equal ↦ p | Greater ↦ q ]
+
 -- what a pass over the entries of two maps makes rises, and has the entries of both
 module _ {K X : Type 0} {R : K → K → Ordering} (o : IsTotalOrder R) (m n : FinMap R X) (all : List (K × X)) (h : all ≡ merge R (entries m) (entries n)) where
   pub merge_rises : Rises R all

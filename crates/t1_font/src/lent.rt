@@ -13,7 +13,7 @@ ghost use Rattle.t1_join.specs.TableMeaning.{Rises};
 ghost use Rattle.t1_font.specs.FontValue.{name_cmp, total, subr_weight, glyph_weight};
 ghost use Rattle.t1_font.specs.FontModel.{clamp};
 ghost use Rattle.t1_font.specs.Filling.{has_none};
-ghost use Rattle.t1_font.specs.Lent.{lent_number, lent_name};
+ghost use Rattle.t1_font.specs.Lent.{lent_number, lent_glyph};
 ghost use Rattle.t1_font.specs.Ranges.{numbered_at, named_at};
 
 use crate::ranges::Range;
@@ -213,16 +213,41 @@ impl<'t, 'a> Iterator for NumberedEntries<'t, 'a> {
     }
 }
 
-/// Where the entries of a table by name stand.
+/// A glyph where it stands in a source: the source's buffer, and the places of its name and its charstring there.
+///
+/// It refers to the vector and not to its bytes, so that a table of glyphs has two words for each.
+#[derive(Clone, Copy)]
+pub(crate) struct Glyph<'a> {
+    buffer: &'a Vec<u8>,
+    places: &'a (Range, Range),
+}
+
+impl<'a> Glyph<'a> {
+    /// Its name.
+    pub(crate) fn name(self) -> &'a [u8]
+        ensures { result.now ≡ (lent_glyph self.entry).0 }
+    {
+        self.places.0.of(self.buffer.as_slice())
+    }
+
+    /// Its charstring.
+    pub(crate) fn body(self) -> &'a [u8]
+        ensures { result.now ≡ (lent_glyph self.entry).1 }
+    {
+        self.places.1.of(self.buffer.as_slice())
+    }
+}
+
+/// Where the glyphs of a table by name are told.
 #[derive(Drop)]
 pub(crate) enum NamedForm<'a> {
     /// In a source: its buffer, and where each name and its charstring stand there.
     Stored {
-        buffer: &'a [u8],
+        buffer: &'a Vec<u8>,
         places: &'a [(Range, Range)],
     },
     /// In a table of their own.
-    Made(Vec<(&'a [u8], &'a [u8])>),
+    Made(Vec<Glyph<'a>>),
 }
 
 /// Charstrings by name, upwards by the bytes of their names.
@@ -249,61 +274,69 @@ impl<'a> Model for Named<'a> {
 
 impl<'a> Named<'a> {
     /// The table of a source, as it stands there.
-    pub(crate) fn stored(buffer: &'a [u8], places: &'a [(Range, Range)]) -> Self
-        requires { Rises name_cmp (map (named_at buffer.now) places.now) }
-        ensures { result ≡ fin.from_sorted (map (named_at buffer.now) places.now) }
+    pub(crate) fn stored(buffer: &'a Vec<u8>, places: &'a [(Range, Range)]) -> Self
+        requires { Rises name_cmp (map (named_at buffer.now.items) places.now) }
+        ensures { result ≡ fin.from_sorted (map (named_at buffer.now.items) places.now) }
     {
         Named {
             form: NamedForm::Stored { buffer, places },
         }
     }
 
-    /// The table of these entries.
-    pub(crate) fn made(entries: Vec<(&'a [u8], &'a [u8])>) -> Self
-        requires { Rises name_cmp (map lent_name entries.items) }
-        ensures { result ≡ fin.from_sorted (map lent_name entries.entry.items) }
+    /// The table of these glyphs.
+    pub(crate) fn made(glyphs: Vec<Glyph<'a>>) -> Self
+        requires { Rises name_cmp (map lent_glyph glyphs.items) }
+        ensures { result ≡ fin.from_sorted (map lent_glyph glyphs.entry.items) }
     {
         Named {
-            form: NamedForm::Made(entries),
+            form: NamedForm::Made(glyphs),
         }
     }
 
-    /// The entry at a place, counted upwards by name from 0.
-    pub(crate) fn at(&self, place: usize) -> Option<(&'a [u8], &'a [u8])>
-        ensures entry { option_map lent_name result ≡ slice_get (fin.entries self.now) place }
+    /// How many glyphs there are.
+    pub fn len(&self) -> usize
+        ensures { result ≡ fin.len self.now }
+    {
+        match &self.form {
+            NamedForm::Stored { places, .. } => places.len(),
+            NamedForm::Made(glyphs) => glyphs.len(),
+        }
+    }
+
+    /// The glyph at a place, counted upwards by name from 0.
+    pub(crate) fn at(&self, place: usize) -> Option<Glyph<'a>>
+        ensures entry { option_map lent_glyph result ≡ slice_get (fin.entries self.now) place }
         ensures short { IfSome result (λ _. place < 18446744073709551615) }
     {
         match &self.form {
             NamedForm::Stored { buffer, places } => {
-                let (name, body) = places.get(place)?;
-                Some((name.of(buffer), body.of(buffer)))
+                let places = places.get(place)?;
+                Some(Glyph { buffer, places })
             }
-            NamedForm::Made(entries) => {
-                let (name, body) = entries.get(place)?;
-                Some((*name, *body))
+            NamedForm::Made(glyphs) => {
+                let glyph = glyphs.get(place)?;
+                Some(*glyph)
             }
         }
     }
 
-    /// The place of the name, where it has an entry.
+    /// The place of the name, where it has a glyph.
     fn place_of(&self, name: &[u8]) -> Option<usize>
         ensures { option_and_then (slice_get (fin.entries self.now)) result
             ≡ option_map (λ b. (name.now, b)) (fin.get self.now name.now) }
     {
         match &self.form {
-            NamedForm::Stored { buffer, places } => {
-                places
-                    .binary_search_by(|entry| entry.0.of(buffer).cmp(name))
-                    .ok()
-            }
-            NamedForm::Made(entries) => { entries.binary_search_by(|entry| entry.0.cmp(name)).ok() }
+            NamedForm::Stored { buffer, places } => places
+                .binary_search_by(|entry| entry.0.of(buffer).cmp(name))
+                .ok(),
+            NamedForm::Made(glyphs) => glyphs.binary_search_by(|glyph| glyph.name().cmp(name)).ok(),
         }
     }
 
-    /// The entry of the name.
-    pub fn entry(&self, name: &[u8]) -> Option<(&'a [u8], &'a [u8])>
-        ensures value { option_map (λ e. e.1.now) result ≡ fin.get self.now name.now }
-        ensures name { IfSome result (λ e. e.0.now ≡ name.now) }
+    /// The glyph of the name.
+    pub(crate) fn glyph(&self, name: &[u8]) -> Option<Glyph<'a>>
+        ensures { option_map lent_glyph result
+            ≡ option_map (λ b. (name.now, b)) (fin.get self.now name.now) }
     {
         self.at(self.place_of(name)?)
     }
@@ -312,18 +345,8 @@ impl<'a> Named<'a> {
     pub fn get(&self, name: &[u8]) -> Option<&'a [u8]>
         ensures { option_map (λ b. b.now) result ≡ fin.get self.now name.now }
     {
-        let (_, body) = self.entry(name)?;
-        Some(body)
-    }
-
-    /// How many entries there are.
-    pub fn len(&self) -> usize
-        ensures { result ≡ fin.len self.now }
-    {
-        match &self.form {
-            NamedForm::Stored { places, .. } => places.len(),
-            NamedForm::Made(entries) => entries.len(),
-        }
+        let glyph = self.glyph(name)?;
+        Some(glyph.body())
     }
 
     /// The entries, upwards by the bytes of their names.
@@ -377,8 +400,8 @@ impl<'t, 'a> Iterator for NamedEntries<'t, 'a> {
     ghost remaining = { λ s. at_most (length s) };
 
     fn next(&mut self) -> Option<(&'a [u8], &'a [u8])> {
-        let entry = self.table.at(self.place)?;
+        let glyph = self.table.at(self.place)?;
         self.place += 1;
-        Some(entry)
+        Some((glyph.name(), glyph.body()))
     }
 }

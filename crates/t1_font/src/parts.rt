@@ -1,16 +1,17 @@
 //! A font of the entries of two.
 
-ghost use Rattle.std.specs.Prelude.{◌≡◌, IfOk, MatchResult};
+ghost use Rattle.std.specs.Prelude.{◌≡◌, IfOk, IfSome, MatchResult};
 ghost use Rattle.std.specs.Option.{option_map};
 ghost use Rattle.std.specs.FinMap as fin;
 ghost use Rattle.t1_font.specs.FontModel.{encoding_of};
 ghost use Rattle.t1_font.specs.Maps.{map_values, merged};
 ghost use Rattle.t1_font.specs.Joins.{lower, joined_subr, join_encodings, join_parts, Refuses};
+ghost use Rattle.t1_font.specs.Lent.{lent_glyph, keyed_glyph, IsOwn};
 ghost use Rattle.t1_font.specs.WriteLaws.{SameKind};
 
 use crate::cut::STUB;
 use crate::font::{Font, FontParts, LentEncoding};
-use crate::lent::{Named, Numbered};
+use crate::lent::{Glyph, Named, Numbered};
 use crate::limits::{COUNT_LIMIT, WEIGHT_LIMIT};
 use std::alloc::{AllocError, Global};
 use std::cmp::Ordering;
@@ -71,6 +72,15 @@ fn lower<K: Ord + Copy, V: Copy>(here: Option<(K, V)>, there: Option<(K, V)>) ->
     }
 }
 
+/// A glyph beside its name.
+fn with_name<'a>(glyph: Option<Glyph<'a>>) -> Option<(&'a [u8], Glyph<'a>)>
+    ensures entry { option_map keyed_glyph result ≡ option_map lent_glyph glyph.entry }
+    ensures own { IfSome result IsOwn }
+{
+    let glyph = glyph?;
+    Some((glyph.name(), glyph))
+}
+
 /// The glyphs of both, in one pass by two places: the first's where both have a name.
 fn join_glyphs<'a>(
     alloc: Global,
@@ -82,8 +92,11 @@ fn join_glyphs<'a>(
     let mut all = Vec::with_capacity(alloc, first.len().saturating_add(second.len()))?;
     let mut i = 0;
     let mut j = 0;
-    'pass: while let Some((entry, of_first, of_second)) = lower(first.at(i), second.at(j)) {
-        all.push(entry)?;
+    'pass: while let Some(((_, glyph), of_first, of_second)) = lower(
+        with_name(first.at(i)),
+        with_name(second.at(j)),
+    ) {
+        all.push(glyph)?;
         i += of_first;
         j += of_second;
     }
