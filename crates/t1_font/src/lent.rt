@@ -1,8 +1,8 @@
 //! Byte strings by number and by name, borrowed, in the order of their keys.
 //!
 //! Those of a source stand in its buffer, and its own table tells where: such a table is lent and not copied. Only what a
-//! cut or a join makes has entries of its own. [`Numbered::at`] and [`Named::at`] alone tell the two apart, beside the
-//! searches, which go by the keys.
+//! cut or a join makes has entries of its own. Which of the two a table is, is asked where an entry is made (`at`), and
+//! where a key is looked for: all else goes by places.
 
 ghost use Rattle.std.specs.Prelude.{◌≡◌, ◌+◌, ◌<◌, max, map, IfSome};
 ghost use Rattle.std.specs.List.{slice_get};
@@ -33,15 +33,15 @@ pub(crate) fn glyph_weight(len_iv: u8, len: usize) -> u64
     (256 + len_iv as u64).saturating_add(len as u64)
 }
 
-/// Where the entries of a table by number stand.
+/// Where a table by number has its entries.
 #[derive(Drop)]
 pub(crate) enum NumberedForm<'a> {
-    /// In a source: its buffer, and where each stands there.
+    /// In a source: its buffer, and the place of each there.
     Stored {
         buffer: &'a [u8],
         places: &'a [(u16, Range)],
     },
-    /// In a table of their own.
+    /// In a list of its own.
     Made(Vec<(u16, &'a [u8])>),
 }
 
@@ -52,7 +52,6 @@ pub struct Numbered<'a> {
 }
 
 impl<'a> Model for Numbered<'a> {
-    ghost use Rattle.std.specs.Prelude.{map};
     ghost use Rattle.std.specs.Ordering.{nat_cmp};
     ghost use Rattle.std.specs.FinMap.{from_sorted};
     ghost use Rattle.t1_join.specs.TableMeaning.{Rises};
@@ -99,7 +98,7 @@ impl<'a> Numbered<'a> {
         }
     }
 
-    /// The entry at a place, counted upwards by number from 0.
+    /// The entry at a place, counted upwards by number from 0. There is a place behind each.
     pub(crate) fn at(&self, place: usize) -> Option<(u16, &'a [u8])>
         ensures entry { option_map lent_number result ≡ slice_get (fin.entries self.now) place }
         ensures short { IfSome result (λ _. place < 18446744073709551615) }
@@ -238,15 +237,15 @@ impl<'a> Glyph<'a> {
     }
 }
 
-/// Where the glyphs of a table by name are told.
+/// Where a table by name has its glyphs.
 #[derive(Drop)]
 pub(crate) enum NamedForm<'a> {
-    /// In a source: its buffer, and where each name and its charstring stand there.
+    /// In a source: its buffer, and the places of each there.
     Stored {
         buffer: &'a Vec<u8>,
         places: &'a [(Range, Range)],
     },
-    /// In a table of their own.
+    /// In a list of its own.
     Made(Vec<Glyph<'a>>),
 }
 
@@ -257,7 +256,6 @@ pub struct Named<'a> {
 }
 
 impl<'a> Model for Named<'a> {
-    ghost use Rattle.std.specs.Prelude.{map};
     ghost use Rattle.std.specs.FinMap.{from_sorted};
     ghost use Rattle.t1_join.specs.TableMeaning.{Rises};
     ghost use Rattle.t1_font.specs.FontValue.{Named as NamedValue, name_cmp};
@@ -303,7 +301,7 @@ impl<'a> Named<'a> {
         }
     }
 
-    /// The glyph at a place, counted upwards by name from 0.
+    /// The glyph at a place, counted upwards by name from 0. There is a place behind each.
     pub(crate) fn at(&self, place: usize) -> Option<Glyph<'a>>
         ensures entry { option_map lent_glyph result ≡ slice_get (fin.entries self.now) place }
         ensures short { IfSome result (λ _. place < 18446744073709551615) }

@@ -76,7 +76,8 @@ impl Model for Source {
 
 impl Source {
     /// The font, which borrows its names, charstrings and texts. The source lives as long as the font, and as every
-    /// font that is cut or merged from it.
+    /// font that is cut or merged from it. What takes room is the names of codes alone: tables of Subrs and glyphs are
+    /// lent as they stand in the source.
     ///
     /// # Errors
     ///
@@ -150,7 +151,7 @@ impl SourceParts {
         glyphs_weight(with_subrs, len_iv, self.glyphs.as_slice())
     }
 
-    /// The parts, lent: what takes room is the names of codes alone.
+    /// The parts, lent.
     pub(crate) fn lent(&self, alloc: Global) -> Result<FontParts<'_>, AllocError>
         ensures { IfOk result (λ f. f ≡ self.now) }
     {
