@@ -1,4 +1,4 @@
-use Rattle.std.proofs.Common.{refl, sym, subst, ◌∙◌, ◌≡◌, ◌+◌, ◌∷◌, drop, map, ℕ, List}
+use Rattle.std.proofs.Common.{refl, sym, subst, ◌∙◌, ◌+◌, ◌∷◌, drop, map, ℕ, List}
 use Rattle.std.specs.Borrow.{Bor}
 use Rattle.std.specs.Prelude.{IfSome}
 use Rattle.std.specs.Cmp.Lexicographic.{nat_list_cmp_total}

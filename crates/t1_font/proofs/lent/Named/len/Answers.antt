@@ -1,4 +1,4 @@
-use Rattle.std.proofs.Common.{ap, sym, ◌∙◌, map}
+use Rattle.std.proofs.Common.{ap, ◌∙◌}
 use Rattle.t1_font.specs.Lent.{named_entries, lent_glyph}
 use Rattle.t1_font.specs.Ranges.{named_at}
 use Rattle.t1_font.proofs.LentTables.{count_is}

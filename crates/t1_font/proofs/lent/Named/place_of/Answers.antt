@@ -1,4 +1,4 @@
-use Rattle.std.proofs.Common.{rules, ap, sym, ◌∙◌, map, List, ℕ}
+use Rattle.std.proofs.Common.{rules, ap, sym, ◌∙◌, map}
 use Rattle.std.specs.FinMap.{entries}
 use Rattle.std.specs.List.{slice_get}
 use Rattle.std.specs.Option.{option_and_then}

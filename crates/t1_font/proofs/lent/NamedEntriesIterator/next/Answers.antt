@@ -1,6 +1,6 @@
-use Rattle.std.proofs.Common.{rules, ap, sym, ◌∙◌, ◌≡◌, List, ℕ, [], ◌∷◌, drop, ◌+◌}
+use Rattle.std.proofs.Common.{rules, sym, ◌∙◌, ◌≡◌, [], ◌∷◌, drop, ◌+◌}
 use Rattle.std.specs.FinMap.{entries}
-use Rattle.t1_font.specs.Lent.{lent_name, lent_glyph}
+use Rattle.t1_font.specs.Lent.{lent_glyph}
 use Rattle.t1_font.proofs.LentTables.{from_place, past_all}
 use Rattle.t1_font.proofs.lent.NamedEntriesIterator.next.Goals as goal
 

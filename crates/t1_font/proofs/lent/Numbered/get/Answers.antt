@@ -1,6 +1,5 @@
-use Rattle.std.proofs.Common.{ap, sym, ◌∙◌}
+use Rattle.std.proofs.Common.{◌∙◌}
 use Rattle.std.specs.FinMap.{get}
-use Rattle.t1_font.specs.Lent.{lent_number}
 use Rattle.t1_font.proofs.LentTables.{value_there}
 use Rattle.t1_font.proofs.lent.Numbered.get.Goals as goal
 

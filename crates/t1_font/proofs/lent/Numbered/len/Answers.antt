@@ -1,4 +1,4 @@
-use Rattle.std.proofs.Common.{ap, sym, ◌∙◌, map}
+use Rattle.std.proofs.Common.{ap, ◌∙◌}
 use Rattle.t1_font.specs.Lent.{numbered_entries, lent_number}
 use Rattle.t1_font.specs.Ranges.{numbered_at}
 use Rattle.t1_font.proofs.LentTables.{count_is}
