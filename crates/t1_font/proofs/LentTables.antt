@@ -1,69 +1,160 @@
--- Tables of lent entries: what is out of a loop, what a tree held, and what one pass over two tables makes.
-use Rattle.std.proofs.Common.{◌≡◌, ℕ, Ordering, List, [], ◌∷◌, ◌++◌, map, Option, Some, refl, sym, ap, subst, ◌∙◌}
+-- Tables of lent entries: what stands at a place, what is out of a loop, and what a tree held.
+use Rattle.std.proofs.Common.{◌≡◌, ℕ, zero, suc, ◌+◌, arith, Ordering, List, [], ◌∷◌, ◌++◌, map, length, drop, Option, Some, None, Result, Ok, Err, inl, inr, refl, sym, ap, subst, ◌∙◌}
 use Rattle.std.specs.Borrow.{Bor}
 use Rattle.std.specs.BTreeMap.{insert_entry}
 use Rattle.std.specs.List.Sorted.{IsStrictlySortedBy}
-use Rattle.std.specs.Map.{keys_of}
+use Rattle.std.specs.List.{slice_get, AllByRecursion}
+use Rattle.std.specs.List.Sorted.{IsSearchInRange, IsBinarySearchResult}
+use Rattle.std.specs.Map.{keys_of, values_of}
+use Rattle.std.specs.Slice.{IsItemAt}
+use Rattle.std.specs.Option.{option_map, option_and_then}
+use Rattle.std.specs.Result.{result_ok}
+use Rattle.std.specs.declared.cmp.Ordering.TheVariants.{Less, Equal, Greater}
+use Rattle.std.specs.Ordering.{match_ordering}
 use Rattle.std.specs.Cmp.{IsTotalOrder}
 use Rattle.std.specs.Cmp.Lexicographic.{nat_list_cmp_total}
 use Rattle.std.specs.FinSet.{IsAntisymmetric}
-use Rattle.std.specs.FinMap.{FinMap, get-from_entries, get-empty, insert, empty, from_sorted, same_map}
-use Rattle.std.proofs.lemmas.List.{append-nil}
-use Rattle.t1_join.specs.Passes.{merge}
+use Rattle.std.specs.FinMap.{FinMap, get, len, entries, get-from_entries, get-empty, insert, empty, from_sorted, same_map, entries-from_sorted, len-entries}
+use Rattle.std.proofs.Math.Seq.{drop-cons}
+use Rattle.std.proofs.lemmas.List.{append-nil, drop_all, length-map}
+use Rattle.std.proofs.lemmas.Option.{slice_get_within, slice_get_cases, slice_get_past, slice_get-get_or, slice_get-map, get_or_from_slice_get, none-some, same_Some}
 use Rattle.t1_join.specs.TableMeaning.{Rises}
+use Rattle.t1_join.proofs.Searches.{searched}
 use Rattle.t1_join.proofs.TreeEntries.{map_insert, sorted_entries, map_sorted}
-use Rattle.t1_join.proofs.Merges.{rises_merge, merged_from_sorted, keyed, merge_keys}
+use Rattle.t1_font.specs.declared.lent.Glyph.{Glyph}
 use Rattle.t1_font.specs.FontValue.{name_cmp}
-use Rattle.t1_font.specs.Lent.{with_bytes, lent_name, lent_names}
-use Rattle.t1_font.specs.Maps.{put_all_into, entry_of, merged}
+use Rattle.t1_font.specs.Lent.{lent_glyph, keyed_glyph, AreOwn, glyph_names}
+use Rattle.t1_font.specs.Maps.{put_all_into, entry_of}
+use Rattle.t1_font.proofs.MapLemmas.{entries_all}
 use Rattle.t1_font.proofs.canonical.FontAgain.{name_same}
+
+-- ---- entries by place
+
+-- an entry is the first from its place on, and nothing stands where there is none
+module _ {X : Type 0} (es : List X) (i : ℕ) where
+  pub from_place : (x : X) → slice_get es i ≡ Some x → drop i es ≡ x ∷ drop (i + 1) es
+  from_place x h =
+      let next : suc i ≡ i + 1 = omega arith in
+      drop-cons es i x (slice_get_within es i x h) ∙ (λ k. get_or_from_slice_get es i x x h k ∷ drop (next k) es)
+
+  pub past_all : slice_get es i ≡ None → drop i es ≡ []
+  past_all h = elim (slice_get_cases es i).1 [
+    | inl w ↦ absurd (none-some w.0 (sym h ∙ w.2))
+    | inr w ↦ drop_all i es w.0
+  ]
+
+-- what a slice lends at a place
+module _ {Y : Type 0} (ys : List Y) (i : ℕ) where
+  lent_there : (x : Bor Y) → IsItemAt ys i (Some x) → slice_get ys i ≡ Some x.now
+  lent_there x h = slice_get-get_or ys i x.now h.3.0 ∙ ap (λ y. Some y) (sym (h.3.1 x.now))
+
+  lent_nowhere : IsItemAt ys i None → slice_get ys i ≡ None
+  lent_nowhere h = slice_get_past ys i h.3
+
+-- a table, whose entries es are what is seen of ys
+module _ {K X Y : Type 0} {R : K → K → Ordering} (v : Y → K × X) (ys : List Y) (es : List (K × X)) (m : FinMap R X) (form : es ≡ map v ys) (h : Rises R es) (is : from_sorted es ≡ m) where
+  seen : map v ys ≡ entries m
+  seen = sym form ∙ (sym (entries-from_sorted R es h) ∙ ap entries is)
+
+  pub count_is : length ys ≡ len m
+  count_is = sym (length-map ys v) ∙ (ap length seen ∙ sym (len-entries m))
+
+  got : (i : ℕ) (o : Option Y) → slice_get ys i ≡ o → option_map v o ≡ slice_get (entries m) i
+  got i o e = ap (option_map v) (sym e) ∙ (sym (slice_get-map v ys i) ∙ ap (λ (l : List (K × X)). slice_get l i) seen)
+
+  -- the entry at a place, and none past them all
+  pub stands : (i : ℕ) (x : Bor Y) (e : K × X) → IsItemAt ys i (Some x) → e ≡ v x.now → Some e ≡ slice_get (entries m) i
+  stands i x e there same = ap (λ y. Some y) same ∙ got i (Some x.now) (lent_there ys i x there)
+
+  pub stands_not : (i : ℕ) → IsItemAt ys i None → None ≡ slice_get (entries m) i
+  stands_not i nowhere = got i None (lent_nowhere ys i nowhere)
+
+  -- what a search by halves finds is the place of the key, where the map has it
+  module _ (o : IsTotalOrder R) (same : IsAntisymmetric R) (q : K) where
+    rise : Rises R (map v ys)
+    rise = subst (Rises R) form h
+
+    finds : get m q ≡ get (from_sorted {R = R} (map v ys)) q
+    finds = ap (λ n. get n q) (sym is ∙ ap (from_sorted {R = R}) form)
+
+    pub found_place : (r : Result ℕ ℕ) → IsSearchInRange r (length ys) → IsBinarySearchResult (λ y. R (v y).0 q) ys r → option_and_then (slice_get (entries m)) (result_ok r) ≡ option_map (λ b. (q, b)) (get m q)
+    found_place (Ok i) range at = elim (slice_get_cases ys i).1 [
+      | inl w ↦
+          let x = w.0 in
+          let key : (v x).0 ≡ q = ap (λ y. (v y).0) (sym w.3) ∙ same _ _ (at x) in
+          let value : get m q ≡ Some (v x).1 = finds ∙ (searched o v q ys (Ok i) rise range at x ∙ ap (λ y. Some (v y).1) w.3) in
+          sym (got i (Some x) w.2) ∙ (ap (λ k. Some (k, (v x).1)) key ∙ sym (ap (option_map (λ b. (q, b))) value))
+      | inr w ↦ absurd (omega (arith, range, w.0))
+    ]
+    found_place (Err i) range at = sym (ap (option_map (λ b. (q, b))) (finds ∙ searched o v q ys (Err i) rise range at))
+
+-- an entry that is the key with what a map has there
+module _ {K X : Type 0} (q : K) where
+  again : (o : Option X) → option_map (λ (e : K × X). e.1) (option_map (λ b. (q, b)) o) ≡ o
+  again None = refl
+  again (Some b) = refl
+
+  pub value_there : (r : Option (K × X)) (o : Option X) → r ≡ option_map (λ b. (q, b)) o → option_map (λ e. e.1) r ≡ o
+  value_there r o h = ap (option_map (λ (e : K × X). e.1)) h ∙ again o
+
+  pub key_there : (e : K × X) (o : Option X) → Some e ≡ option_map (λ b. (q, b)) o → e.0 ≡ q
+  key_there e None h = absurd (none-some e (sym h))
+  key_there e (Some b) h = cc
+
+-- what stands at a place of a map's entries, stands at its key
+module _ {K X : Type 0} {R : K → K → Ordering} (o : IsTotalOrder R) (same : IsAntisymmetric R) (m : FinMap R X) where
+  among : (es : List (K × X)) (i : ℕ) (e : K × X) → AllByRecursion (λ x. get m x.0 ≡ Some x.1) es → slice_get es i ≡ Some e → get m e.0 ≡ Some e.1
+  among [] i e all h = absurd (none-some e h)
+  among (x ∷ es) zero e all h = subst (λ (y : K × X). get m y.0 ≡ Some y.1) (same_Some x e h) all.0
+  among (x ∷ es) (suc i) e all h = among es i e all.1 h
+
+  pub value_at : (i : ℕ) (e : K × X) → slice_get (entries m) i ≡ Some e → get m e.0 ≡ Some e.1
+  value_at i e h = among (entries m) i e (entries_all o same (λ k v. get m k ≡ Some v) m (λ k v is. is)) h
 
 -- entries that are out, and nothing is left
 pub all_out : {K X Y : Type 0} (v : Y → K × X) (out : List Y) (left es : List (K × X)) → left ≡ [] → map v out ++ left ≡ es → map v out ≡ es
 all_out {K = K} {X = X} v out left es none h = sym (append-nil (map v out)) ∙ (ap (λ (l : List (K × X)). map v out ++ l) (sym none) ∙ h)
 
--- ---- names in a tree
+-- ---- glyphs under names in a tree
 
 -- the order of lent names
 abbrev pub lent_cmp : Bor (List ℕ) → Bor (List ℕ) → Ordering
 lent_cmp x y = name_cmp x.now y.now
 
--- an entry put into the tree
-pub lent_put : (es : List (Bor (List ℕ) × Bor (List ℕ))) (name body : Bor (List ℕ)) → lent_names (insert_entry lent_cmp es name body) ≡ insert (lent_names es) name.now body.now
-lent_put es name body = map_insert (λ k. k.now) (λ v. v.now) lent_cmp name_cmp nat_list_cmp_total name_same (λ x y. refl) es name body
+-- the entries seen by the glyphs' own names
+own_names : (es : List (Bor (List ℕ) × Glyph)) → AreOwn es → map keyed_glyph es ≡ map lent_glyph (values_of es)
+own_names [] h = refl
+own_names (e ∷ es) h = λ i. (h.0 i, (lent_glyph e.1).1) ∷ own_names es h.1 i
 
--- the tree's entries rise, and are those of its map
-pub lent_rise : (es : List (Bor (List ℕ) × Bor (List ℕ))) → IsStrictlySortedBy lent_cmp (keys_of es) → Rises name_cmp (map lent_name es)
-lent_rise es h = sorted_entries (λ k. k.now) (λ v. v.now) lent_cmp name_cmp nat_list_cmp_total name_same (λ x y. refl) es h
+-- the names stay the glyphs' own where a glyph is put under its name
+pub own_put : (es : List (Bor (List ℕ) × Glyph)) (name : Bor (List ℕ)) (g : Glyph) → name.now ≡ (lent_glyph g).0 → AreOwn es → AreOwn (insert_entry lent_cmp es name g)
+own_put [] name g own h = (own, tt)
+own_put (e ∷ es) name g own h =
+    elim (lent_cmp name e.0) as (λ r. lent_cmp name e.0 ≡ r → AreOwn (match_ordering r ((name, g) ∷ e ∷ es) ((e.0, g) ∷ es) (e ∷ insert_entry lent_cmp es name g))) [
+      | Less ↦ λ is. (own, h)
+      | Equal ↦ λ is. (sym (name_same name.now e.0.now is) ∙ own, h.1)
+      | Greater ↦ λ is. (h.0, own_put es name g own h.1)
+    ] refl
 
-pub lent_sorted : (es : List (Bor (List ℕ) × Bor (List ℕ))) → IsStrictlySortedBy lent_cmp (keys_of es) → from_sorted (map lent_name es) ≡ lent_names es
-lent_sorted es h = map_sorted (λ k. k.now) (λ v. v.now) lent_cmp name_cmp nat_list_cmp_total name_same (λ x y. refl) es h
+-- a glyph put into the tree
+glyph_put : (es : List (Bor (List ℕ) × Glyph)) (name : Bor (List ℕ)) (g : Glyph) → glyph_names (insert_entry lent_cmp es name g) ≡ insert (glyph_names es) name.now (lent_glyph g).1
+glyph_put es name g = map_insert (λ k. k.now) (λ (g : Glyph). (lent_glyph g).1) lent_cmp name_cmp nat_list_cmp_total name_same (λ x y. refl) es name g
 
--- no entries
-pub lent_none : lent_names [] ≡ empty
-lent_none = same_map nat_list_cmp_total name_same _ _ (λ q. get-from_entries nat_list_cmp_total [] q ∙ sym (get-empty name_cmp q))
+-- the tree's glyphs rise, and are those of its map
+pub glyphs_rise : (es : List (Bor (List ℕ) × Glyph)) → AreOwn es → IsStrictlySortedBy lent_cmp (keys_of es) → Rises name_cmp (map lent_glyph (values_of es))
+glyphs_rise es own h = subst (Rises name_cmp) (own_names es own) (sorted_entries (λ k. k.now) (λ (g : Glyph). (lent_glyph g).1) lent_cmp name_cmp nat_list_cmp_total name_same (λ x y. refl) es h)
 
--- an entry that is found, put
-pub found_put : (es next : List (Bor (List ℕ) × Bor (List ℕ))) (k : List ℕ) (name body : Bor (List ℕ)) (v : Option (List ℕ)) → Some body.now ≡ v → name.now ≡ k → next ≡ insert_entry lent_cmp es name body → lent_names next ≡ put_all_into (lent_names es) (entry_of k v)
-found_put es next k name body v found is put =
-    ap lent_names put ∙ (lent_put es name body ∙ (ap (λ x. insert (lent_names es) x body.now) is ∙ ap (λ o. put_all_into (lent_names es) (entry_of k o)) found))
+pub glyphs_sorted : (es : List (Bor (List ℕ) × Glyph)) → AreOwn es → IsStrictlySortedBy lent_cmp (keys_of es) → from_sorted (map lent_glyph (values_of es)) ≡ glyph_names es
+glyphs_sorted es own h =
+    ap (from_sorted {R = name_cmp}) (sym (own_names es own))
+    ∙ map_sorted (λ k. k.now) (λ (g : Glyph). (lent_glyph g).1) lent_cmp name_cmp nat_list_cmp_total name_same (λ x y. refl) es h
 
--- ---- one pass over two tables
+-- no glyphs
+pub no_glyphs : glyph_names [] ≡ empty
+no_glyphs = same_map nat_list_cmp_total name_same _ _ (λ q. get-from_entries nat_list_cmp_total [] q ∙ sym (get-empty name_cmp q))
 
-name_keyed : (es : List (Bor (List ℕ) × Bor (List ℕ))) → map lent_name es ≡ map (keyed (λ k. k.now) lent_cmp name_cmp (λ x y. refl)) (map with_bytes es)
-name_keyed [] = refl
-name_keyed (e ∷ es) = ap (λ (a : List (List ℕ × List ℕ)). (e.0.now, e.1.now) ∷ a) (name_keyed es)
-
--- a pass by the names as they are lent is one by their bytes
-pub names_merged : (all es fs : List (Bor (List ℕ) × Bor (List ℕ))) → map with_bytes all ≡ merge lent_cmp (map with_bytes es) (map with_bytes fs) → map lent_name all ≡ merge name_cmp (map lent_name es) (map lent_name fs)
-names_merged all es fs h =
-    name_keyed all
-    ∙ (ap (map (keyed (λ k. k.now) lent_cmp name_cmp (λ x y. refl))) h
-    ∙ (sym (merge_keys (λ k. k.now) lent_cmp name_cmp (λ x y. refl) (map with_bytes es) (map with_bytes fs)) ∙ (λ i. merge name_cmp (sym (name_keyed es) i) (sym (name_keyed fs) i))))
-
--- what a pass makes rises, and has the entries of both maps
-pub merge_rises : {K : Type 0} {R : K → K → Ordering} → IsTotalOrder R → (all es fs : List (K × List ℕ)) → all ≡ merge R es fs → Rises R es → Rises R fs → Rises R all
-merge_rises {R = R} o all es fs h p q = subst (Rises R) (sym h) (rises_merge o es fs p q)
-
-pub merge_is : {K : Type 0} {R : K → K → Ordering} → IsTotalOrder R → IsAntisymmetric R → (all es fs : List (K × List ℕ)) (m n : FinMap R (List ℕ)) → all ≡ merge R es fs → Rises R es → Rises R fs → from_sorted es ≡ m → from_sorted fs ≡ n → from_sorted all ≡ merged m n
-merge_is {R = R} o same all es fs m n h p q is are = ap (from_sorted {R = R}) h ∙ (merged_from_sorted o same es fs p q ∙ (λ i. merged (is i) (are i)))
+-- a glyph that is found, put
+pub found_put : (es next : List (Bor (List ℕ) × Glyph)) (k : List ℕ) (name : Bor (List ℕ)) (g : Glyph) (v : Option (List ℕ)) → Some (lent_glyph g) ≡ option_map (λ b. (k, b)) v → name.now ≡ (lent_glyph g).0 → next ≡ insert_entry lent_cmp es name g → glyph_names next ≡ put_all_into (glyph_names es) (entry_of k v)
+found_put es next k name g v found own put =
+    let key : name.now ≡ k = own ∙ key_there k (lent_glyph g) v found in
+    ap glyph_names put ∙ (glyph_put es name g ∙ (ap (λ x. insert (glyph_names es) x (lent_glyph g).1) key ∙ ap (λ o. put_all_into (glyph_names es) (entry_of k o)) (value_there k (Some (lent_glyph g)) v found)))

@@ -31,4 +31,5 @@ pub mod rows
 pub mod CutEntries
 pub mod CutLoops
 pub mod LentTables
+pub mod TablePasses
 pub mod even_fonts

@@ -1,12 +1,21 @@
 -- A font of the entries of two, and why these are not one font.
-use Rattle.std.specs.Prelude.{◌<◌, ◌⊎◌, ℕ, cond, List, Option, unwrap_or}
+use Rattle.std.specs.Prelude.{◌<◌, ◌⊎◌, ℕ, cond, List, Option, Some, None, unwrap_or}
+use Rattle.std.specs.declared.cmp.Ordering.{Ordering}
 use Rattle.std.specs.Str.{bytes_eq}
 use Rattle.std.specs.FinMap.{get, len}
+use Rattle.std.specs.FinMap.Entries.{by_order}
 use Rattle.t1_font.specs.declared.parts.PartsFault.{PartsFault}
 use Rattle.t1_font.specs.declared.parts.PartsFault.TheVariants.{Limit, Memory}
 use Rattle.t1_font.specs.FontValue.{FontValue, Encoding, Word, Codes, count_limit, weight_limit, weight}
 use Rattle.t1_font.specs.Cut.{stub}
 use Rattle.t1_font.specs.Maps.{map_values, merged}
+
+-- of the next entries of two lists the lower, or the first's where they tie; and by how many places each list goes on then
+abbrev pub lower : {K X : Type 0} → (K → K → Ordering) → Option (K × X) → Option (K × X) → Option ((K × X) × ℕ × ℕ)
+lower R None None = None
+lower R (Some e) None = Some (e, 1, 0)
+lower R None (Some f) = Some (f, 0, 1)
+lower R (Some e) (Some f) = by_order (R e.0 f.0) (Some (e, 1, 0)) (Some (e, 1, 1)) (Some (f, 0, 1))
 
 -- the codes of both tables; of two words the first, which is to be the second too
 abbrev pub join_encodings : Encoding → Encoding → Encoding

@@ -1,9 +1,16 @@
 -- What borrowed entries stand for, and the codes of finite maps to byte lists.
-use Rattle.std.specs.Prelude.{ℕ, List, map}
+use Rattle.std.specs.Prelude.{◌≡◌, ℕ, List, map}
 use Rattle.std.specs.Borrow.{Bor}
 use Rattle.std.specs.Coded.{Coded, coded_list, coded_ℕ}
 use Rattle.std.specs.FinMap.{code, from_entries}
+use Rattle.std.specs.List.{AllByRecursion}
+use Rattle.t1_font.specs.declared.lent.NumberedForm.{NumberedForm}
+use Rattle.t1_font.specs.declared.lent.NumberedForm.TheVariants as numbers
+use Rattle.t1_font.specs.declared.lent.Glyph.{Glyph}
+use Rattle.t1_font.specs.declared.lent.NamedForm.{NamedForm}
+use Rattle.t1_font.specs.declared.lent.NamedForm.TheVariants as names
 use Rattle.t1_font.specs.FontValue.{Numbered, Named}
+use Rattle.t1_font.specs.Ranges.{numbered_at, named_at}
 
 abbrev pub bytes_code : Coded (List ℕ)
 bytes_code = coded_list coded_ℕ
@@ -14,10 +21,6 @@ numbered_code = code coded_ℕ bytes_code
 abbrev pub named_code : Coded Named
 named_code = code bytes_code bytes_code
 
--- an entry, its bytes where they are lent
-abbrev pub with_bytes : {K : Type 0} → K × Bor (List ℕ) → K × List ℕ
-with_bytes e = (e.0, e.1.now)
-
 -- an entry by number
 abbrev pub lent_number : ℕ × Bor (List ℕ) → ℕ × List ℕ
 lent_number e = (e.0, e.1.now)
@@ -26,6 +29,33 @@ lent_number e = (e.0, e.1.now)
 abbrev pub lent_name : Bor (List ℕ) × Bor (List ℕ) → List ℕ × List ℕ
 lent_name e = (e.0.now, e.1.now)
 
--- the map of entries by name, in any order: at a repeated name the first stands
-abbrev pub lent_names : List (Bor (List ℕ) × Bor (List ℕ)) → Named
-lent_names es = from_entries (map lent_name es)
+-- a glyph by its name
+abbrev pub lent_glyph : Glyph → List ℕ × List ℕ
+lent_glyph g = named_at g.buffer.now.items g.places.now
+
+-- the entries of a table by number, and of one by name, wherever they stand
+abbrev pub numbered_entries : NumberedForm → List (ℕ × List ℕ)
+numbered_entries (numbers.Stored buffer places) = map (numbered_at buffer.now) places.now
+numbered_entries (numbers.Made entries) = map lent_number entries.items
+
+abbrev pub named_entries : NamedForm → List (List ℕ × List ℕ)
+named_entries (names.Stored buffer places) = map (named_at buffer.now.items) places.now
+named_entries (names.Made glyphs) = map lent_glyph glyphs.items
+
+-- ---- glyphs under names in a tree
+
+-- the name, with the glyph's charstring
+abbrev pub keyed_glyph : Bor (List ℕ) × Glyph → List ℕ × List ℕ
+keyed_glyph e = (e.0.now, (lent_glyph e.1).1)
+
+-- the name is the glyph's own
+abbrev pub IsOwn : Bor (List ℕ) × Glyph → Type 0
+IsOwn e = e.0.now ≡ (lent_glyph e.1).0
+
+-- each name is
+abbrev pub AreOwn : List (Bor (List ℕ) × Glyph) → Type 0
+AreOwn es = AllByRecursion IsOwn es
+
+-- the map of them, in any order: at a repeated name the first stands
+abbrev pub glyph_names : List (Bor (List ℕ) × Glyph) → Named
+glyph_names es = from_entries (map keyed_glyph es)

@@ -4,50 +4,48 @@ ghost use Rattle.std.specs.Prelude.{◌≡◌, ℕ, List, [], true, cond, unwrap
 ghost use Rattle.std.specs.Ordering.{nat_cmp};
 ghost use Rattle.std.specs.BTreeSet.{contains};
 ghost use Rattle.std.specs.List.Sorted.{IsStrictlySortedBy};
-ghost use Rattle.std.specs.Map.{keys_of};
+ghost use Rattle.std.specs.Map.{keys_of, values_of};
 ghost use Rattle.std.specs.FinMap as fin;
 ghost use Rattle.std.specs.FinSet as sets;
 ghost use Rattle.t1_font.specs.FontValue.{notdef};
 ghost use Rattle.t1_font.specs.FontModel.{encoding_of};
-ghost use Rattle.t1_font.specs.Lent.{lent_names};
+ghost use Rattle.t1_font.specs.Lent.{glyph_names, AreOwn};
 ghost use Rattle.t1_font.specs.Cut.{stub, set_of_names, restrict_encoding, restrict};
 ghost use Rattle.t1_font.specs.Maps.{put_all_into, entry_of, map_values};
 
 use crate::font::{Font, FontParts, LentEncoding};
-use crate::lent::{Named, Numbered};
+use crate::lent::{Glyph, Named, Numbered};
 use std::alloc::{AllocError, Global};
 use std::collections::{BTreeMap, BTreeSet};
 
 /// The charstring `return`, which takes the place of a Subr that is cut (Adobe Type 1 Font Format 1.1, chapter 8).
 pub const STUB: &[u8] = &[11];
 
-/// The entries of a map that is used up, in the order of their keys.
-fn drain<K: Ord + Drop, V: Drop>(
-    alloc: Global,
-    map: BTreeMap<K, V>,
-) -> Result<Vec<(K, V)>, AllocError>
-    ensures items { IfOk result (λ v. v.items ≡ map.entries) }
+/// The values of a map that is used up, in the order of their keys.
+fn drain<K: Ord + Drop, V: Drop>(alloc: Global, map: BTreeMap<K, V>) -> Result<Vec<V>, AllocError>
+    ensures items { IfOk result (λ v. v.items ≡ values_of map.entries) }
     ensures ordered { IfOk result (λ _. IsStrictlySortedBy K.cmp (keys_of map.entries)) }
 {
-    let mut entries = Vec::with_capacity(alloc, map.len())?;
-    'entries: for entry in map {
-        entries.push(entry)?;
+    let mut values = Vec::with_capacity(alloc, map.len())?;
+    'entries: for (_, value) in map {
+        values.push(value)?;
     }
-    Ok(entries)
+    Ok(values)
 }
 
 /// Keeps the glyph of a name, where there is one.
 fn keep_named<'a>(
-    cut: &mut BTreeMap<&'a [u8], &'a [u8]>,
+    cut: &mut BTreeMap<&'a [u8], Glyph<'a>>,
     glyphs: &Named<'a>,
     name: &[u8],
 ) -> Result<(), AllocError>
-    ensures { OnOk result (lent_names cut.new.entries
-        ≡ put_all_into (lent_names cut.old.entries)
+    ensures kept { OnOk result (glyph_names cut.new.entries
+        ≡ put_all_into (glyph_names cut.old.entries)
         (entry_of name.now (fin.get glyphs.now name.now))) }
+    ensures own { OnOk result (AreOwn cut.old.entries → AreOwn cut.new.entries) }
 {
-    if let Some((name, body)) = glyphs.entry(name) {
-        cut.insert(name, body)?;
+    if let Some(glyph) = glyphs.glyph(name) {
+        cut.insert(glyph.name(), glyph)?;
     }
     Ok(())
 }
@@ -65,9 +63,7 @@ fn cut_glyphs<'a>(
     'names: for name in names {
         keep_named(&mut cut, glyphs, name.as_slice())?;
     }
-    Ok(Named {
-        entries: drain(alloc, cut)?,
-    })
+    Ok(Named::made(drain(alloc, cut)?))
 }
 
 /// The codes whose names are those of glyphs.
@@ -86,7 +82,7 @@ fn cut_codes<'a>(
             cut.push((code, name))?;
         }
     }
-    Ok(Numbered { entries: cut })
+    Ok(Numbered::made(cut))
 }
 
 /// An Encoding of the names of glyphs alone; a word as it is.
@@ -120,11 +116,11 @@ pub(crate) fn cut_subrs<'a>(
     ensures { IfOk result (λ m. m
         ≡ map_values (λ i c. cond (contains nat_cmp kept.now i) c stub) subrs.now) }
 {
-    let mut cut = Vec::with_capacity(alloc, subrs.entries.len())?;
+    let mut cut = Vec::with_capacity(alloc, subrs.len())?;
     'bodies: for (index, body) in subrs.entries() {
         cut.push((index, kept_or_stub(kept.contains(&index), body)))?;
     }
-    Ok(Numbered { entries: cut })
+    Ok(Numbered::made(cut))
 }
 
 /// The parts of a font that is cut.

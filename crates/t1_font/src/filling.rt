@@ -19,9 +19,7 @@ use std::collections::BTreeSet;
 fn stubs_of_all<'a>(alloc: Global, fonts: &[Font<'a>]) -> Result<Numbered<'a>, AllocError>
     ensures { IfOk result (λ m. m ≡ stubs_at (indices_of_all fonts.now)) }
 {
-    let mut all = Numbered {
-        entries: Vec::new(alloc),
-    };
+    let mut all = Numbered::made(Vec::new(alloc));
     'fonts: for font in fonts {
         if !font.parts.subrs.is_empty() {
             all = join_codes(alloc, &all, &font.parts.subrs)?;
@@ -40,13 +38,13 @@ fn with_stubs<'a>(
     ensures { IfOk result (λ m. m
         ≡ merged subrs.now (fin.retain_keys stubs.now (λ i. nat_lt i declared))) }
 {
-    let mut below = Vec::with_capacity(alloc, stubs.entries.len())?;
+    let mut below = Vec::with_capacity(alloc, stubs.len())?;
     'stubs: for (index, body) in stubs.entries() {
         if index < declared {
             below.push((index, body))?;
         }
     }
-    let below = Numbered { entries: below };
+    let below = Numbered::made(below);
     join_codes(alloc, subrs, &below)
 }
 

@@ -222,11 +222,14 @@ pub struct Names<'t, 'a> {
 }
 
 impl<'t, 'a> Model for Names<'t, 'a> {
-    ghost use Rattle.std.specs.Prelude.{List, ℕ, map};
+    ghost use Rattle.std.specs.Prelude.{List, ℕ, ◌≤◌, map, length};
+    ghost use Rattle.t1_font.specs.FontValue.{count_limit};
 
     ghost Value = { List (List ℕ) };
 
     ghost view = { λ s. map (λ e. e.0) s.inner };
+
+    ghost invariant = { λ s. length s.inner ≤ count_limit };
 }
 
 impl<'t, 'a> Iterator for Names<'t, 'a> {

@@ -1,14 +1,23 @@
 //! Byte strings by number and by name, borrowed, in the order of their keys.
+//!
+//! Those of a source stand in its buffer, and its own table tells where: such a table is lent and not copied. Only what a
+//! cut or a join makes has entries of its own. Which of the two a table is, is asked where an entry is made (`at`), and
+//! where a key is looked for: all else goes by places.
 
-ghost use Rattle.std.specs.Prelude.{◌≡◌, ◌+◌, max, IfSome};
-ghost use Rattle.std.specs.Option.{option_map};
+ghost use Rattle.std.specs.Prelude.{◌≡◌, ◌+◌, ◌<◌, max, map, IfSome};
+ghost use Rattle.std.specs.List.{slice_get};
+ghost use Rattle.std.specs.Option.{option_map, option_and_then};
+ghost use Rattle.std.specs.Ordering.{nat_cmp};
 ghost use Rattle.std.specs.FinMap as fin;
-ghost use Rattle.t1_font.specs.FontValue.{total, subr_weight, glyph_weight};
+ghost use Rattle.t1_join.specs.TableMeaning.{Rises};
+ghost use Rattle.t1_font.specs.FontValue.{name_cmp, total, subr_weight, glyph_weight};
 ghost use Rattle.t1_font.specs.FontModel.{clamp};
 ghost use Rattle.t1_font.specs.Filling.{has_none};
+ghost use Rattle.t1_font.specs.Lent.{lent_number, lent_glyph};
+ghost use Rattle.t1_font.specs.Ranges.{numbered_at, named_at};
 
+use crate::ranges::Range;
 use std::marker::Model;
-use std::slice;
 
 /// The weight of a Subr of so many bytes, as far as 64 bits hold it: one of none weighs as much as one of one byte.
 pub(crate) fn subr_weight(len_iv: u8, len: usize) -> u64
@@ -24,55 +33,126 @@ pub(crate) fn glyph_weight(len_iv: u8, len: usize) -> u64
     (256 + len_iv as u64).saturating_add(len as u64)
 }
 
+/// Where a table by number has its entries.
+#[derive(Drop)]
+pub(crate) enum NumberedForm<'a> {
+    /// In a source: its buffer, and the place of each there.
+    Stored {
+        buffer: &'a [u8],
+        places: &'a [(u16, Range)],
+    },
+    /// In a list of its own.
+    Made(Vec<(u16, &'a [u8])>),
+}
+
 /// Charstrings by index, or names by code, upwards by number.
 #[derive(Drop)]
 pub struct Numbered<'a> {
-    pub(crate) entries: Vec<(u16, &'a [u8])>,
+    form: NumberedForm<'a>,
 }
 
 impl<'a> Model for Numbered<'a> {
-    ghost use Rattle.std.specs.Prelude.{map};
     ghost use Rattle.std.specs.Ordering.{nat_cmp};
     ghost use Rattle.std.specs.FinMap.{from_sorted};
     ghost use Rattle.t1_join.specs.TableMeaning.{Rises};
     ghost use Rattle.t1_font.specs.FontValue.{Numbered as NumberedValue};
-    ghost use Rattle.t1_font.specs.Lent.{numbered_code, lent_number};
+    ghost use Rattle.t1_font.specs.Lent.{numbered_code, numbered_entries};
 
     ghost Value = { NumberedValue };
 
     ghost coded = { numbered_code };
 
-    ghost view = { λ m. from_sorted (map lent_number m.entries.items) };
+    ghost view = { λ m. from_sorted (numbered_entries m.form) };
 
-    ghost invariant = { λ m. Rises nat_cmp (map lent_number m.entries.items) };
+    ghost invariant = { λ m. Rises nat_cmp (numbered_entries m.form) };
 }
 
 impl<'a> Numbered<'a> {
+    /// The table of a source, as it stands there.
+    pub(crate) fn stored(buffer: &'a [u8], places: &'a [(u16, Range)]) -> Self
+        requires { Rises nat_cmp (map (numbered_at buffer.now) places.now) }
+        ensures { result ≡ fin.from_sorted (map (numbered_at buffer.now) places.now) }
+    {
+        Numbered {
+            form: NumberedForm::Stored { buffer, places },
+        }
+    }
+
+    /// The table of these entries.
+    pub(crate) fn made(entries: Vec<(u16, &'a [u8])>) -> Self
+        requires { Rises nat_cmp (map lent_number entries.items) }
+        ensures { result ≡ fin.from_sorted (map lent_number entries.entry.items) }
+    {
+        Numbered {
+            form: NumberedForm::Made(entries),
+        }
+    }
+
+    /// How many entries there are.
+    pub fn len(&self) -> usize
+        ensures { result ≡ fin.len self.now }
+    {
+        match &self.form {
+            NumberedForm::Stored { places, .. } => places.len(),
+            NumberedForm::Made(entries) => entries.len(),
+        }
+    }
+
+    /// The entry at a place, counted upwards by number from 0. There is a place behind each.
+    pub(crate) fn at(&self, place: usize) -> Option<(u16, &'a [u8])>
+        ensures entry { option_map lent_number result ≡ slice_get (fin.entries self.now) place }
+        ensures short { IfSome result (λ _. place < 18446744073709551615) }
+    {
+        match &self.form {
+            NumberedForm::Stored { buffer, places } => {
+                let (number, body) = places.get(place)?;
+                Some((*number, body.of(buffer)))
+            }
+            NumberedForm::Made(entries) => {
+                let (number, body) = entries.get(place)?;
+                Some((*number, *body))
+            }
+        }
+    }
+
+    /// The place of the number, where it has an entry.
+    fn place_of(&self, number: u16) -> Option<usize>
+        ensures { option_and_then (slice_get (fin.entries self.now)) result
+            ≡ option_map (λ b. (number, b)) (fin.get self.now number) }
+    {
+        match &self.form {
+            NumberedForm::Stored { places, .. } => {
+                places.binary_search_by_key(&number, |entry| entry.0).ok()
+            }
+            NumberedForm::Made(entries) => {
+                entries.binary_search_by_key(&number, |entry| entry.0).ok()
+            }
+        }
+    }
+
     /// What stands at the number.
     pub fn get(&self, number: u16) -> Option<&'a [u8]>
         ensures { option_map (λ b. b.now) result ≡ fin.get self.now number }
     {
-        match self.entries.binary_search_by_key(&number, |entry| entry.0) {
-            Ok(at) => Some(self.entries[at].1),
-            Err(_) => None,
-        }
+        let (_, body) = self.at(self.place_of(number)?)?;
+        Some(body)
     }
 
     /// Whether there is no entry.
     pub fn is_empty(&self) -> bool
         ensures { result ≡ has_none (fin.entries self.now) }
     {
-        self.entries.is_empty()
+        self.len() == 0
     }
 
     /// What stands at the number, which is looked for at this place first.
     pub fn get_near(&self, place: usize, number: u16) -> Option<&'a [u8]>
         ensures { option_map (λ b. b.now) result ≡ fin.get self.now number }
     {
-        if place < self.entries.len() && self.entries[place].0 == number {
-            return Some(self.entries[place].1);
+        match self.at(place) {
+            Some((there, body)) if there == number => Some(body),
+            _ => self.get(number),
         }
-        self.get(number)
     }
 
     /// The entries, upwards by number.
@@ -80,7 +160,8 @@ impl<'a> Numbered<'a> {
         ensures { result ≡ fin.entries self.now }
     {
         NumberedEntries {
-            inner: self.entries.iter(),
+            table: self,
+            place: 0,
         }
     }
 
@@ -99,17 +180,17 @@ impl<'a> Numbered<'a> {
 /// The entries of a table, upwards by number.
 #[derive(Drop)]
 pub struct NumberedEntries<'t, 'a> {
-    inner: slice::Iter<'t, (u16, &'a [u8])>,
+    table: &'t Numbered<'a>,
+    place: usize,
 }
 
 impl<'t, 'a> Model for NumberedEntries<'t, 'a> {
-    ghost use Rattle.std.specs.Prelude.{List, ℕ, map};
-    ghost use Rattle.std.specs.Slice.Iter.{iter_rest};
-    ghost use Rattle.t1_font.specs.Lent.{lent_number};
+    ghost use Rattle.std.specs.Prelude.{List, ℕ, drop};
+    ghost use Rattle.std.specs.FinMap as fin;
 
     ghost Value = { List (ℕ × List ℕ) };
 
-    ghost view = { λ s. map lent_number (iter_rest s.inner) };
+    ghost view = { λ s. drop s.place (fin.entries s.table.now) };
 }
 
 impl<'t, 'a> Iterator for NumberedEntries<'t, 'a> {
@@ -125,58 +206,145 @@ impl<'t, 'a> Iterator for NumberedEntries<'t, 'a> {
     ghost remaining = { λ s. at_most (length s) };
 
     fn next(&mut self) -> Option<(u16, &'a [u8])> {
-        let entry = self.inner.next()?;
-        Some(*entry)
+        let entry = self.table.at(self.place)?;
+        self.place += 1;
+        Some(entry)
     }
+}
+
+/// A glyph where it stands in a source: the source's buffer, and the places of its name and its charstring there.
+///
+/// It refers to the vector and not to its bytes, so that a table of glyphs has two words for each.
+#[derive(Clone, Copy)]
+pub(crate) struct Glyph<'a> {
+    buffer: &'a Vec<u8>,
+    places: &'a (Range, Range),
+}
+
+impl<'a> Glyph<'a> {
+    /// Its name.
+    pub(crate) fn name(self) -> &'a [u8]
+        ensures { result.now ≡ (lent_glyph self.entry).0 }
+    {
+        self.places.0.of(self.buffer.as_slice())
+    }
+
+    /// Its charstring.
+    pub(crate) fn body(self) -> &'a [u8]
+        ensures { result.now ≡ (lent_glyph self.entry).1 }
+    {
+        self.places.1.of(self.buffer.as_slice())
+    }
+}
+
+/// Where a table by name has its glyphs.
+#[derive(Drop)]
+pub(crate) enum NamedForm<'a> {
+    /// In a source: its buffer, and the places of each there.
+    Stored {
+        buffer: &'a Vec<u8>,
+        places: &'a [(Range, Range)],
+    },
+    /// In a list of its own.
+    Made(Vec<Glyph<'a>>),
 }
 
 /// Charstrings by name, upwards by the bytes of their names.
 #[derive(Drop)]
 pub struct Named<'a> {
-    pub(crate) entries: Vec<(&'a [u8], &'a [u8])>,
+    form: NamedForm<'a>,
 }
 
 impl<'a> Model for Named<'a> {
-    ghost use Rattle.std.specs.Prelude.{map};
     ghost use Rattle.std.specs.FinMap.{from_sorted};
     ghost use Rattle.t1_join.specs.TableMeaning.{Rises};
     ghost use Rattle.t1_font.specs.FontValue.{Named as NamedValue, name_cmp};
-    ghost use Rattle.t1_font.specs.Lent.{named_code, lent_name};
+    ghost use Rattle.t1_font.specs.Lent.{named_code, named_entries};
 
     ghost Value = { NamedValue };
 
     ghost coded = { named_code };
 
-    ghost view = { λ m. from_sorted (map lent_name m.entries.items) };
+    ghost view = { λ m. from_sorted (named_entries m.form) };
 
-    ghost invariant = { λ m. Rises name_cmp (map lent_name m.entries.items) };
+    ghost invariant = { λ m. Rises name_cmp (named_entries m.form) };
 }
 
 impl<'a> Named<'a> {
-    /// The entry of the name.
-    pub fn entry(&self, name: &[u8]) -> Option<(&'a [u8], &'a [u8])>
-        ensures value { option_map (λ e. e.1.now) result ≡ fin.get self.now name.now }
-        ensures name { IfSome result (λ e. e.0.now ≡ name.now) }
+    /// The table of a source, as it stands there.
+    pub(crate) fn stored(buffer: &'a Vec<u8>, places: &'a [(Range, Range)]) -> Self
+        requires { Rises name_cmp (map (named_at buffer.now.items) places.now) }
+        ensures { result ≡ fin.from_sorted (map (named_at buffer.now.items) places.now) }
     {
-        match self.entries.binary_search_by_key(&name, |entry| entry.0) {
-            Ok(at) => Some(self.entries[at]),
-            Err(_) => None,
+        Named {
+            form: NamedForm::Stored { buffer, places },
         }
+    }
+
+    /// The table of these glyphs.
+    pub(crate) fn made(glyphs: Vec<Glyph<'a>>) -> Self
+        requires { Rises name_cmp (map lent_glyph glyphs.items) }
+        ensures { result ≡ fin.from_sorted (map lent_glyph glyphs.entry.items) }
+    {
+        Named {
+            form: NamedForm::Made(glyphs),
+        }
+    }
+
+    /// How many glyphs there are.
+    pub fn len(&self) -> usize
+        ensures { result ≡ fin.len self.now }
+    {
+        match &self.form {
+            NamedForm::Stored { places, .. } => places.len(),
+            NamedForm::Made(glyphs) => glyphs.len(),
+        }
+    }
+
+    /// The glyph at a place, counted upwards by name from 0. There is a place behind each.
+    pub(crate) fn at(&self, place: usize) -> Option<Glyph<'a>>
+        ensures entry { option_map lent_glyph result ≡ slice_get (fin.entries self.now) place }
+        ensures short { IfSome result (λ _. place < 18446744073709551615) }
+    {
+        match &self.form {
+            NamedForm::Stored { buffer, places } => {
+                let places = places.get(place)?;
+                Some(Glyph { buffer, places })
+            }
+            NamedForm::Made(glyphs) => {
+                let glyph = glyphs.get(place)?;
+                Some(*glyph)
+            }
+        }
+    }
+
+    /// The place of the name, where it has a glyph.
+    fn place_of(&self, name: &[u8]) -> Option<usize>
+        ensures { option_and_then (slice_get (fin.entries self.now)) result
+            ≡ option_map (λ b. (name.now, b)) (fin.get self.now name.now) }
+    {
+        match &self.form {
+            NamedForm::Stored { buffer, places } => places
+                .binary_search_by(|entry| entry.0.of(buffer).cmp(name))
+                .ok(),
+            NamedForm::Made(glyphs) => glyphs.binary_search_by(|glyph| glyph.name().cmp(name)).ok(),
+        }
+    }
+
+    /// The glyph of the name.
+    pub(crate) fn glyph(&self, name: &[u8]) -> Option<Glyph<'a>>
+        ensures { option_map lent_glyph result
+            ≡ option_map (λ b. (name.now, b)) (fin.get self.now name.now) }
+    {
+        self.at(self.place_of(name)?)
     }
 
     /// What stands at the name.
     pub fn get(&self, name: &[u8]) -> Option<&'a [u8]>
         ensures { option_map (λ b. b.now) result ≡ fin.get self.now name.now }
     {
-        let (_, body) = self.entry(name)?;
-        Some(body)
-    }
-
-    /// How many entries there are.
-    pub fn len(&self) -> usize
-        ensures { result ≡ fin.len self.now }
-    {
-        self.entries.len()
+        let glyph = self.glyph(name)?;
+        Some(glyph.body())
     }
 
     /// The entries, upwards by the bytes of their names.
@@ -184,7 +352,8 @@ impl<'a> Named<'a> {
         ensures { result ≡ fin.entries self.now }
     {
         NamedEntries {
-            inner: self.entries.iter(),
+            table: self,
+            place: 0,
         }
     }
 
@@ -203,17 +372,17 @@ impl<'a> Named<'a> {
 /// The entries of a table, upwards by the bytes of their names.
 #[derive(Drop)]
 pub struct NamedEntries<'t, 'a> {
-    inner: slice::Iter<'t, (&'a [u8], &'a [u8])>,
+    table: &'t Named<'a>,
+    place: usize,
 }
 
 impl<'t, 'a> Model for NamedEntries<'t, 'a> {
-    ghost use Rattle.std.specs.Prelude.{List, ℕ, map};
-    ghost use Rattle.std.specs.Slice.Iter.{iter_rest};
-    ghost use Rattle.t1_font.specs.Lent.{lent_name};
+    ghost use Rattle.std.specs.Prelude.{List, ℕ, drop};
+    ghost use Rattle.std.specs.FinMap as fin;
 
     ghost Value = { List (List ℕ × List ℕ) };
 
-    ghost view = { λ s. map lent_name (iter_rest s.inner) };
+    ghost view = { λ s. drop s.place (fin.entries s.table.now) };
 }
 
 impl<'t, 'a> Iterator for NamedEntries<'t, 'a> {
@@ -229,7 +398,8 @@ impl<'t, 'a> Iterator for NamedEntries<'t, 'a> {
     ghost remaining = { λ s. at_most (length s) };
 
     fn next(&mut self) -> Option<(&'a [u8], &'a [u8])> {
-        let entry = self.inner.next()?;
-        Some(*entry)
+        let glyph = self.table.at(self.place)?;
+        self.place += 1;
+        Some((glyph.name(), glyph.body()))
     }
 }

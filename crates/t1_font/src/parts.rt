@@ -1,19 +1,17 @@
 //! A font of the entries of two.
 
-ghost use Rattle.std.specs.Prelude.{◌≡◌, ◌++◌, map, IfOk, OnOk, MatchResult};
+ghost use Rattle.std.specs.Prelude.{◌≡◌, IfOk, IfSome, MatchResult};
 ghost use Rattle.std.specs.Option.{option_map};
 ghost use Rattle.std.specs.FinMap as fin;
 ghost use Rattle.t1_font.specs.FontModel.{encoding_of};
 ghost use Rattle.t1_font.specs.Maps.{map_values, merged};
-ghost use Rattle.t1_font.specs.Joins.{joined_subr, join_encodings, join_parts};
+ghost use Rattle.t1_font.specs.Joins.{lower, joined_subr, join_encodings, join_parts, Refuses};
+ghost use Rattle.t1_font.specs.Lent.{lent_glyph, keyed_glyph, IsOwn};
 ghost use Rattle.t1_font.specs.WriteLaws.{SameKind};
-ghost use Rattle.t1_font.specs.Joins.{Refuses};
-ghost use Rattle.t1_font.specs.Lent.{with_bytes};
-ghost use Rattle.t1_join.specs.Passes.{merge};
 
 use crate::cut::STUB;
 use crate::font::{Font, FontParts, LentEncoding};
-use crate::lent::{Named, Numbered};
+use crate::lent::{Glyph, Named, Numbered};
 use crate::limits::{COUNT_LIMIT, WEIGHT_LIMIT};
 use std::alloc::{AllocError, Global};
 use std::cmp::Ordering;
@@ -55,57 +53,35 @@ impl From<AllocError> for PartsFault {
     }
 }
 
-/// Puts the rest of a table's entries at the end.
-fn add_rest<'a, K: Ord + Copy>(
-    all: &mut Vec<(K, &'a [u8])>,
-    rest: &[(K, &'a [u8])],
-) -> Result<(), AllocError>
-    ensures { OnOk result (map with_bytes all.new.items
-        ≡ map with_bytes all.old.items ++ map with_bytes rest.now) }
+/// An entry that comes next of two tables, and by how many places each goes on then.
+type Next<K, V> = ((K, V), usize, usize);
+
+/// The lower of the next entries of two tables, and the first's where both have its key: then the second's goes, too.
+fn lower<K: Ord + Copy, V: Copy>(here: Option<(K, V)>, there: Option<(K, V)>) -> Option<Next<K, V>>
+    ensures { result ≡ lower K.cmp here there }
 {
-    'rest: for (key, body) in rest {
-        all.push((*key, *body))?;
+    match (here, there) {
+        (None, None) => None,
+        (Some(here), None) => Some((here, 1, 0)),
+        (None, Some(there)) => Some((there, 0, 1)),
+        (Some(here), Some(there)) => match here.0.cmp(&there.0) {
+            Ordering::Less => Some((here, 1, 0)),
+            Ordering::Equal => Some((here, 1, 1)),
+            Ordering::Greater => Some((there, 0, 1)),
+        },
     }
-    Ok(())
 }
 
-/// The entries of both, upwards by key, in one pass by two positions: the first's where both have a key.
-fn merge_entries<'a, K: Ord + Copy>(
-    alloc: Global,
-    first: &[(K, &'a [u8])],
-    second: &[(K, &'a [u8])],
-) -> Result<Vec<(K, &'a [u8])>, AllocError>
-    ensures { IfOk result (λ all. map with_bytes all.items
-        ≡ merge K.cmp (map with_bytes first.now) (map with_bytes second.now)) }
+/// A glyph beside its name.
+fn with_name<'a>(glyph: Option<Glyph<'a>>) -> Option<(&'a [u8], Glyph<'a>)>
+    ensures entry { option_map keyed_glyph result ≡ option_map lent_glyph glyph.entry }
+    ensures own { IfSome result IsOwn }
 {
-    let mut all = Vec::new(alloc);
-    let mut i = 0;
-    let mut j = 0;
-    'pass: while i < first.len() && j < second.len() {
-        let here = &first[i];
-        let there = &second[j];
-        match here.0.cmp(&there.0) {
-            Ordering::Less => {
-                all.push((here.0, here.1))?;
-                i += 1;
-            }
-            Ordering::Equal => {
-                all.push((here.0, here.1))?;
-                i += 1;
-                j += 1;
-            }
-            Ordering::Greater => {
-                all.push((there.0, there.1))?;
-                j += 1;
-            }
-        }
-    }
-    add_rest(&mut all, &first[i..])?;
-    add_rest(&mut all, &second[j..])?;
-    Ok(all)
+    let glyph = glyph?;
+    Some((glyph.name(), glyph))
 }
 
-/// The glyphs of both, the first's where both have a name.
+/// The glyphs of both, in one pass by two places: the first's where both have a name.
 fn join_glyphs<'a>(
     alloc: Global,
     first: &Named<'a>,
@@ -113,12 +89,21 @@ fn join_glyphs<'a>(
 ) -> Result<Named<'a>, AllocError>
     ensures { IfOk result (λ m. m ≡ merged first.now second.now) }
 {
-    Ok(Named {
-        entries: merge_entries(alloc, &first.entries, &second.entries)?,
-    })
+    let mut all = Vec::with_capacity(alloc, first.len().saturating_add(second.len()))?;
+    let mut i = 0;
+    let mut j = 0;
+    'pass: while let Some(((_, glyph), of_first, of_second)) = lower(
+        with_name(first.at(i)),
+        with_name(second.at(j)),
+    ) {
+        all.push(glyph)?;
+        i += of_first;
+        j += of_second;
+    }
+    Ok(Named::made(all))
 }
 
-/// The codes of both, with the first's name where both have a code.
+/// The codes of both, in one pass by two places, with the first's name where both have a code.
 pub(crate) fn join_codes<'a>(
     alloc: Global,
     first: &Numbered<'a>,
@@ -126,9 +111,15 @@ pub(crate) fn join_codes<'a>(
 ) -> Result<Numbered<'a>, AllocError>
     ensures { IfOk result (λ m. m ≡ merged first.now second.now) }
 {
-    Ok(Numbered {
-        entries: merge_entries(alloc, &first.entries, &second.entries)?,
-    })
+    let mut all = Vec::with_capacity(alloc, first.len().saturating_add(second.len()))?;
+    let mut i = 0;
+    let mut j = 0;
+    'pass: while let Some((entry, of_first, of_second)) = lower(first.at(i), second.at(j)) {
+        all.push(entry)?;
+        i += of_first;
+        j += of_second;
+    }
+    Ok(Numbered::made(all))
 }
 
 /// The Encoding of both: a word as it is in the first.
@@ -170,12 +161,12 @@ fn join_subrs<'a>(
     ensures { IfOk result (λ m. m
         ≡ map_values (λ i c. joined_subr c (fin.get second.now i)) first.now) }
 {
-    let mut joined = Vec::with_capacity(alloc, first.entries.len())?;
+    let mut joined = Vec::with_capacity(alloc, first.len())?;
     'bodies: for (index, body) in first.entries() {
         let other = second.get_near(joined.len(), index);
         joined.push((index, joined_subr(body, other)))?;
     }
-    Ok(Numbered { entries: joined })
+    Ok(Numbered::made(joined))
 }
 
 /// The entries of both, whatever they weigh.

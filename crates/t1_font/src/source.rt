@@ -6,9 +6,9 @@ ghost use Rattle.std.specs.FinMap.{from_sorted, entries, len};
 ghost use Rattle.t1_join.specs.TableMeaning.{Rises};
 ghost use Rattle.t1_font.specs.Entries.{has_name};
 ghost use Rattle.t1_font.specs.FontModel.{clamp, encoding_of};
-ghost use Rattle.t1_font.specs.FontValue.{name_cmp, total, weight};
+ghost use Rattle.t1_font.specs.FontValue.{total, weight};
 ghost use Rattle.t1_font.specs.Gathering.{gathered_codes};
-ghost use Rattle.t1_font.specs.Ranges.{numbered_at, named_at, subr_at_weight, glyph_at_weight};
+ghost use Rattle.t1_font.specs.Ranges.{subr_at_weight, glyph_at_weight};
 ghost use Rattle.t1_font.specs.Sources.{kept_name};
 
 use crate::font::{Font, FontParts, LentEncoding};
@@ -76,7 +76,8 @@ impl Model for Source {
 
 impl Source {
     /// The font, which borrows its names, charstrings and texts. The source lives as long as the font, and as every
-    /// font that is cut or merged from it.
+    /// font that is cut or merged from it. What takes room is the names of codes alone: tables of Subrs and glyphs are
+    /// lent as they stand in the source.
     ///
     /// # Errors
     ///
@@ -98,39 +99,7 @@ fn lent_codes(alloc: Global, codes: &[(u16, Vec<u8>)]) -> Result<Numbered<'_>, A
     'codes: for (code, name) in codes {
         lent.push((*code, name.as_slice()))?;
     }
-    Ok(Numbered { entries: lent })
-}
-
-/// The entries by number, each lent from the buffer.
-fn numbered<'a>(
-    alloc: Global,
-    entries: &[(u16, Range)],
-    buffer: &'a [u8],
-) -> Result<Numbered<'a>, AllocError>
-    requires rises { Rises nat_cmp (map (numbered_at buffer.now) entries.now) }
-    ensures { IfOk result (λ m. m ≡ from_sorted (map (numbered_at buffer.now) entries.now)) }
-{
-    let mut lent = Vec::with_capacity(alloc, entries.len())?;
-    'entries: for (number, place) in entries {
-        lent.push((*number, place.of(buffer)))?;
-    }
-    Ok(Numbered { entries: lent })
-}
-
-/// The entries by name, each lent from the buffer.
-fn named<'a>(
-    alloc: Global,
-    entries: &[(Range, Range)],
-    buffer: &'a [u8],
-) -> Result<Named<'a>, AllocError>
-    requires rises { Rises name_cmp (map (named_at buffer.now) entries.now) }
-    ensures { IfOk result (λ m. m ≡ from_sorted (map (named_at buffer.now) entries.now)) }
-{
-    let mut lent = Vec::with_capacity(alloc, entries.len())?;
-    'entries: for (name, place) in entries {
-        lent.push((name.of(buffer), place.of(buffer)))?;
-    }
-    Ok(Named { entries: lent })
+    Ok(Numbered::made(lent))
 }
 
 /// `before` and the weight of Subrs in these ranges, in a font with this lenIV, as far as 64 bits hold it.
@@ -189,8 +158,8 @@ impl SourceParts {
         Ok(FontParts {
             shell: &self.shell,
             encoding: self.encoding(alloc)?,
-            subrs: numbered(alloc, &self.subrs, &self.buffer)?,
-            glyphs: named(alloc, &self.glyphs, &self.buffer)?,
+            subrs: Numbered::stored(&self.buffer, &self.subrs),
+            glyphs: Named::stored(&self.buffer, &self.glyphs),
         })
     }
 }

@@ -7,14 +7,14 @@ use Rattle.std.specs.FinSet.{IsAntisymmetric, nat_cmp-IsAntisymmetric}
 use Rattle.std.specs.FinMap as maps
 use Rattle.t1_font.specs.FontValue.{FontValue, Encoding, Word, Codes, weight, weight_limit, count_limit}
 use Rattle.t1_font.proofs.MapLemmas.{Some_same, Some_None}
-use Rattle.t1_subset.specs.Conflicts.{Conflict, ShellDiffers, CodeDiffers, GlyphDiffers, LacksComponent, SubrDiffers, OverLimit, keys_of_both, agrees, codes_of_both, executes, calls_for, called_at, wants, code_clashes, glyph_clashes, glyph_names, wanted_by, component_clashes, subr_clashes, used_by, is_within, shell_conflict, code_conflict, glyph_conflict, component_conflict, subr_conflict, states_conflict, conflict}
+use Rattle.t1_subset.specs.Conflicts.{Conflict, ShellDiffers, CodeDiffers, GlyphDiffers, LacksComponent, SubrDiffers, OverLimit, keys_of_both, agrees, codes_of_both, wants, code_clashes, glyph_clashes, glyph_names, wanted_by, component_clashes, subr_clashes, used_by, is_within, shell_conflict, code_conflict, glyph_conflict, component_conflict, subr_conflict, states_conflict, conflict}
 use Rattle.t1_subset.specs.Searches.{members, smallest, found}
 use Rattle.t1_subset.specs.Shared.{shared_of}
 use Rattle.t1_subset.specs.Interpreter.{Interpreter, same_bytes}
-use Rattle.t1_subset.specs.Keep.{has, components}
-use Rattle.t1_subset.specs.States.{IsWithin, Agree, code_state, is_sought, subr_state, state_of_glyph, state_of_entry, joined_font, Compatible, Join}
+use Rattle.t1_subset.specs.Keep.{has}
+use Rattle.t1_subset.specs.States.{IsWithin, Agree, code_state, is_sought, subr_state, state_of_glyph, state_of_entry, joined_font, Compatible, Join, executes, calls_for, called_at}
 use Rattle.t1_subset.proofs.Flat.{agree_back}
-use Rattle.t1_subset.proofs.Maps.{any_in, any_of}
+use Rattle.t1_subset.proofs.Uses.{sought, seeker}
 use Rattle.t1_subset.proofs.Sets.{name_same, and_so, or_left, or_right, or_cases, is_or_not, clash, not_so, tied, itself, any_one, any_at}
 use Rattle.t1_subset.proofs.JoinedStates.{font_back, compatible_back}
 use Rattle.std.proofs.lemmas.Bool.{leb-true, le-leb}
@@ -56,15 +56,8 @@ module _ {O : Type 0} (m : Interpreter O) where
   -- some glyph calls for the component exactly where the component is sought
   pub wanting : (f g : FontValue) (p : List ℕ) → is_sought m f p ≡ true → (n : List ℕ) × (maps.contains_key (glyph_names f g) n ≡ true) × (calls_for m f n p ≡ true)
   wanting f g p h =
-      let r = any_in nat_list_cmp_total name_same (λ n c. list_any (same_bytes p) (components m f.subrs c)) f.glyphs h in
+      let r = seeker m f p h in
       (r.0, in_both nat_list_cmp_total name_same f.glyphs g.glyphs r.0 ∙ ap (λ b. b || has g r.0) (ap is_some r.2), ap (called_at m f p) r.2 ∙ r.3)
-
-  called_sought : (f : FontValue) (p n : List ℕ) (x : Option (List ℕ)) → maps.get f.glyphs n ≡ x → called_at m f p x ≡ true → is_sought m f p ≡ true
-  called_sought f p n None e h = absurd (true≢false (sym h))
-  called_sought f p n (Some c) e h = any_of nat_list_cmp_total name_same (λ n c. list_any (same_bytes p) (components m f.subrs c)) f.glyphs n c e h
-
-  pub sought : (f : FontValue) (p n : List ℕ) → calls_for m f n p ≡ true → is_sought m f p ≡ true
-  sought f p n h = called_sought f p n (maps.get f.glyphs n) refl h
 
   -- ---- from no conflict to the join
 

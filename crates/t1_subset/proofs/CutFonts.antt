@@ -15,7 +15,7 @@ use Rattle.t1_subset.specs.Interpreter.{Interpreter, Names, same_bytes}
 use Rattle.t1_subset.specs.Keep.{keep, kept, components, has, subset}
 use Rattle.t1_subset.specs.States.{Agree, joined, is_called, is_sought, entry_state, state_of_entry, subr_state, is_stub}
 use Rattle.t1_subset.proofs.Kept.{InFont, keep_closed, kept_call, component_here_from}
-use Rattle.t1_subset.proofs.Maps.{any_in}
+use Rattle.t1_subset.proofs.Uses.{caller, seeker}
 use Rattle.t1_subset.proofs.Sets.{clash, is_or_not, not_so, name_same}
 
 -- ---- what a name of a stub says
@@ -61,14 +61,14 @@ module _ {O : Type 0} (m : Interpreter O) (f : FontValue) (base : has f notdef �
 
   pub not_called : (i : ℕ) → sets.contains (kept m f a) i ≡ false → is_called m (subset m f a) i ≡ false
   not_called i out = not_so (is_called m (subset m f a) i) (λ h.
-      let r = any_in nat_list_cmp_total name_same (λ k v. sets.contains (m.exec (subset m f a).subrs v) i) (subset m f a).glyphs h in
+      let r = caller m (subset m f a) i h in
       let g = kept_glyph r.0 r.1 r.2 in
       clash (sets.contains (kept m f a) i)
       (kept_call m f a i r.0 g.0 (ap (λ x. sets.contains (m.exec f.subrs (unwrap_or x [])) i) g.1 ∙ ap (λ s. sets.contains s i) (sym (runs_alike r.0 r.1 g.0 g.1).1) ∙ r.3)) out)
 
   pub not_sought : (n : List ℕ) → has f n ≡ true → sets.contains (keep m f a) n ≡ false → is_sought m (subset m f a) n ≡ false
   not_sought n is out = not_so (is_sought m (subset m f a) n) (λ h.
-      let r = any_in nat_list_cmp_total name_same (λ k v. list_any (same_bytes n) (components m (subset m f a).subrs v)) (subset m f a).glyphs h in
+      let r = seeker m (subset m f a) n h in
       let g = kept_glyph r.0 r.1 r.2 in
       clash (sets.contains (keep m f a) n)
       ((keep_closed m f a base inside).components r.0 n g.0 (component_here_from m f r.0 n

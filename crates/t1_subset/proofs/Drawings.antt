@@ -12,7 +12,8 @@ use Rattle.t1_subset.specs.Outcomes.{component_outcome, seen, drawing}
 use Rattle.t1_subset.specs.States.{Agree, joined, is_sought, name_state, state_of_glyph, joined_font, Compatible}
 use Rattle.t1_subset.proofs.Kept.{InFont, keep_closed, component_here_from}
 use Rattle.t1_subset.proofs.Sets.{name_same, itself, here, later}
-use Rattle.t1_subset.proofs.JoinedStates.{left_glyph, left_runs, glyph_in_join, seeks_it}
+use Rattle.t1_subset.proofs.Uses.{seeks_it}
+use Rattle.t1_subset.proofs.JoinedStates.{left_glyph, left_runs, glyph_in_join}
 use Rattle.t1_subset.proofs.CutFonts.{get-glyph, runs_alike}
 
 -- functions that are alike on a list map it alike

@@ -1,7 +1,7 @@
 -- The states of a join are the joined states, and each side runs in it as before.
-use Rattle.std.proofs.Common.{◌≡◌, ℕ, Bool, true, false, cond, not, ◌&&◌, ◌||◌, List, refl, sym, ◌∙◌, ap, true≢false, inl, inr, Option, Some, None, is_some, unwrap_or, option_map, nat_cmp}
+use Rattle.std.proofs.Common.{◌≡◌, ℕ, Bool, true, false, cond, not, ◌&&◌, ◌||◌, List, refl, sym, ◌∙◌, ap, true≢false, Option, Some, None, is_some, unwrap_or, option_map}
 use Rattle.std.specs.List.{list_any}
-use Rattle.std.specs.Cmp.{both_ways, nat_cmp_total}
+use Rattle.std.specs.Cmp.{nat_cmp_total}
 use Rattle.std.specs.Cmp.Lexicographic.{nat_list_cmp_total}
 use Rattle.std.specs.FinSet as sets
 use Rattle.std.specs.FinSet.{nat_cmp-IsAntisymmetric}
@@ -13,11 +13,12 @@ use Rattle.t1_font.specs.WriteLaws.{SameKind}
 use Rattle.t1_font.proofs.MapLemmas.{get-map_values, Some_same, Some_None}
 use Rattle.t1_subset.specs.Interpreter.{Interpreter, same_bytes}
 use Rattle.t1_subset.specs.Keep.{components}
-use Rattle.t1_subset.specs.States.{Agree, joined, is_called, is_sought, state_of_entry, subr_state, state_of_glyph, name_state, code_state, joined_font, Compatible, is_stub}
-use Rattle.t1_subset.proofs.Flat.{agree_back, joined_back, joined_some}
-use Rattle.t1_subset.proofs.Maps.{get-merged, maps_same, any_in, any_of}
+use Rattle.t1_subset.specs.States.{executed_at, executes, called_at, calls_for, Agree, joined, is_called, is_sought, state_of_entry, subr_state, state_of_glyph, name_state, code_state, joined_font, Compatible, is_stub}
+use Rattle.t1_subset.proofs.Flat.{agree_back, joined_back}
+use Rattle.t1_subset.proofs.Maps.{get-merged, maps_same}
+use Rattle.t1_subset.proofs.Uses.{some_joined, executing_there, naming_there, calls_it}
 use Rattle.t1_subset.proofs.JoinOfSubsets.{same_font}
-use Rattle.t1_subset.proofs.Sets.{name_same, or_cases, or_left, or_right}
+use Rattle.t1_subset.proofs.Sets.{name_same}
 
 -- ---- both orders
 
@@ -91,13 +92,6 @@ module _ {O : Type 0} (m : Interpreter O) (f : FontValue) where
   pub called_state : (i : ℕ) (e : List ℕ) → maps.get f.subrs i ≡ Some e → is_called m f i ≡ true → subr_state m f i ≡ Some e
   called_state i e is h = ap (state_of_entry m f i) is ∙ called_entry (is_stub e) (is_called m f i) e h
 
-  -- a glyph that the font has calls the index
-  pub calls_it : (n c : List ℕ) (i : ℕ) → maps.get f.glyphs n ≡ Some c → sets.contains (m.exec f.subrs c) i ≡ true → is_called m f i ≡ true
-  calls_it n c i is h = any_of nat_list_cmp_total name_same (λ k v. sets.contains (m.exec f.subrs v) i) f.glyphs n c is h
-
-  pub seeks_it : (n c p : List ℕ) → maps.get f.glyphs n ≡ Some c → list_any (same_bytes p) (components m f.subrs c) ≡ true → is_sought m f p ≡ true
-  seeks_it n c p is h = any_of nat_list_cmp_total name_same (λ k v. list_any (same_bytes p) (components m f.subrs v)) f.glyphs n c is h
-
 -- ---- the left side runs as before
 
 module _ {O : Type 0} (m : Interpreter O) (f g : FontValue) where
@@ -116,12 +110,17 @@ module _ {O : Type 0} (m : Interpreter O) (f g : FontValue) where
       → (m.direct (joined_font m f g).subrs c ≡ m.direct f.subrs c) × (m.exec (joined_font m f g).subrs c ≡ m.exec f.subrs c)
   left_runs n c is = m.local f.subrs (joined_font m f g).subrs c (left_subrs n c is)
 
+or_none : (a : Bool) → a ≡ (a || false)
+or_none true = refl
+or_none false = refl
+
+or_self : (a b c : Bool) → a ≡ b → a ≡ c → a ≡ (b || c)
+or_self true b c h k = ap (λ b. b || c) h
+or_self false b c h k = k ∙ ap (λ b. b || c) h
+
 module _ {O : Type 0} (m : Interpreter O) (f g : FontValue) (c : Compatible m f g) where
   abbrev pub whole : FontValue
   whole = joined_font m f g
-
-  pub right_glyph : (n v : List ℕ) → maps.get g.glyphs n ≡ Some v → maps.get whole.glyphs n ≡ Some v
-  right_glyph n v h = ap (λ (j : FontValue). maps.get j.glyphs n) (font_back m f g c) ∙ left_glyph m g f n v h
 
   pub right_runs : (n v : List ℕ) → maps.get g.glyphs n ≡ Some v → (m.direct whole.subrs v ≡ m.direct g.subrs v) × (m.exec whole.subrs v ≡ m.exec g.subrs v)
   right_runs n v h = let r = left_runs m g f n v h in
@@ -129,39 +128,33 @@ module _ {O : Type 0} (m : Interpreter O) (f g : FontValue) (c : Compatible m f 
 
   -- ---- what the join calls and seeks
 
+  -- what holds of a glyph's charstring in the join holds of it in a font that has it
+  at_join : (p : FontValue → List ℕ → Bool) → ((n v : List ℕ) → maps.get f.glyphs n ≡ Some v → p whole v ≡ p f v) → ((n v : List ℕ) → maps.get g.glyphs n ≡ Some v → p whole v ≡ p g v)
+      → (at : FontValue → Option (List ℕ) → Bool) → ((h : FontValue) → at h None ≡ false) → ((h : FontValue) (v : List ℕ) → at h (Some v) ≡ p h v)
+      → (n : List ℕ) (x y : Option (List ℕ)) → maps.get f.glyphs n ≡ x → maps.get g.glyphs n ≡ y → Agree x y → at whole (joined x y) ≡ (at f x || at g y)
+  at_join p left right at none some n None None hx hy a = none whole ∙ (λ i. sym (none f) i || sym (none g) i)
+  at_join p left right at none some n None (Some d) hx hy a = some whole d ∙ right n d hy ∙ sym (some g d) ∙ ap (λ b. b || at g (Some d)) (sym (none f))
+  at_join p left right at none some n (Some v) None hx hy a = some whole v ∙ left n v hx ∙ sym (some f v) ∙ or_none (at f (Some v)) ∙ ap (λ b. at f (Some v) || b) (sym (none g))
+  at_join p left right at none some n (Some v) (Some d) hx hy a =
+      or_self (at whole (Some v)) (at f (Some v)) (at g (Some d)) (some whole v ∙ left n v hx ∙ sym (some f v)) (ap (λ u. at whole (Some u)) a ∙ some whole d ∙ right n d hy ∙ sym (some g d))
+
+  pub executes_join : (i : ℕ) (n : List ℕ) → executes m whole n i ≡ (executes m f n i || executes m g n i)
+  executes_join i n = ap (executed_at m whole i) (glyph_in_join m f g n)
+      ∙ at_join (λ h v. sets.contains (m.exec h.subrs v) i)
+      (λ n v is. ap (λ s. sets.contains s i) (left_runs m f g n v is).1) (λ n v is. ap (λ s. sets.contains s i) (right_runs n v is).1)
+      (λ h x. executed_at m h i x) (λ h. refl) (λ h v. refl) n (maps.get f.glyphs n) (maps.get g.glyphs n) refl refl (glyph_agree m f g c n)
+
+  pub calls_join : (p n : List ℕ) → calls_for m whole n p ≡ (calls_for m f n p || calls_for m g n p)
+  calls_join p n = ap (called_at m whole p) (glyph_in_join m f g n)
+      ∙ at_join (λ h v. list_any (same_bytes p) (components m h.subrs v))
+      (λ n v is. ap (λ d. list_any (same_bytes p) (m.names d)) (left_runs m f g n v is).0) (λ n v is. ap (λ d. list_any (same_bytes p) (m.names d)) (right_runs n v is).0)
+      (λ h x. called_at m h p x) (λ h. refl) (λ h v. refl) n (maps.get f.glyphs n) (maps.get g.glyphs n) refl refl (glyph_agree m f g c n)
+
   pub called_in_join : (i : ℕ) → is_called m whole i ≡ (is_called m f i || is_called m g i)
-  called_in_join i = both_ways (is_called m whole i) (is_called m f i || is_called m g i)
-      (λ h. let r = any_in nat_list_cmp_total name_same (λ k v. sets.contains (m.exec whole.subrs v) i) whole.glyphs h in
-      elim (joined_some (maps.get f.glyphs r.0) (maps.get g.glyphs r.0) r.1 (sym (glyph_in_join m f g r.0) ∙ r.2)) [
-        | inl x ↦ or_left (is_called m f i) (is_called m g i) (calls_it m f r.0 r.1 i x (ap (λ s. sets.contains s i) (sym (left_runs m f g r.0 r.1 x).1) ∙ r.3))
-        | inr y ↦ or_right (is_called m f i) (is_called m g i) (calls_it m g r.0 r.1 i y (ap (λ s. sets.contains s i) (sym (right_runs r.0 r.1 y).1) ∙ r.3))
-      ])
-      (λ h. elim (or_cases (is_called m f i) (is_called m g i) h) [
-        | inl x ↦ let r = any_in nat_list_cmp_total name_same (λ k v. sets.contains (m.exec f.subrs v) i) f.glyphs x in
-            calls_it m whole r.0 r.1 i (left_glyph m f g r.0 r.1 r.2) (ap (λ s. sets.contains s i) (left_runs m f g r.0 r.1 r.2).1 ∙ r.3)
-        | inr y ↦ let r = any_in nat_list_cmp_total name_same (λ k v. sets.contains (m.exec g.subrs v) i) g.glyphs y in
-            calls_it m whole r.0 r.1 i (right_glyph r.0 r.1 r.2) (ap (λ s. sets.contains s i) (right_runs r.0 r.1 r.2).1 ∙ r.3)
-      ])
-
-  abbrev names_it : List ℕ → maps.FinMap nat_cmp (List ℕ) → List ℕ → Bool
-  names_it p s v = list_any (same_bytes p) (components m s v)
-
-  same_components : (p : List ℕ) (s t : maps.FinMap nat_cmp (List ℕ)) (v : List ℕ) → m.direct s v ≡ m.direct t v → names_it p s v ≡ names_it p t v
-  same_components p s t v h = ap (λ d. list_any (same_bytes p) (m.names d)) h
+  called_in_join i = some_joined (λ h n. executes m h n i) (λ h n. executing_there m h i (maps.get h.glyphs n)) f g whole (executes_join i)
 
   pub sought_in_join : (p : List ℕ) → is_sought m whole p ≡ (is_sought m f p || is_sought m g p)
-  sought_in_join p = both_ways (is_sought m whole p) (is_sought m f p || is_sought m g p)
-      (λ h. let r = any_in nat_list_cmp_total name_same (λ k v. names_it p whole.subrs v) whole.glyphs h in
-      elim (joined_some (maps.get f.glyphs r.0) (maps.get g.glyphs r.0) r.1 (sym (glyph_in_join m f g r.0) ∙ r.2)) [
-        | inl x ↦ or_left (is_sought m f p) (is_sought m g p) (seeks_it m f r.0 r.1 p x (sym (same_components p whole.subrs f.subrs r.1 (left_runs m f g r.0 r.1 x).0) ∙ r.3))
-        | inr y ↦ or_right (is_sought m f p) (is_sought m g p) (seeks_it m g r.0 r.1 p y (sym (same_components p whole.subrs g.subrs r.1 (right_runs r.0 r.1 y).0) ∙ r.3))
-      ])
-      (λ h. elim (or_cases (is_sought m f p) (is_sought m g p) h) [
-        | inl x ↦ let r = any_in nat_list_cmp_total name_same (λ k v. names_it p f.subrs v) f.glyphs x in
-            seeks_it m whole r.0 r.1 p (left_glyph m f g r.0 r.1 r.2) (same_components p whole.subrs f.subrs r.1 (left_runs m f g r.0 r.1 r.2).0 ∙ r.3)
-        | inr y ↦ let r = any_in nat_list_cmp_total name_same (λ k v. names_it p g.subrs v) g.glyphs y in
-            seeks_it m whole r.0 r.1 p (right_glyph r.0 r.1 r.2) (same_components p whole.subrs g.subrs r.1 (right_runs r.0 r.1 r.2).0 ∙ r.3)
-      ])
+  sought_in_join p = some_joined (λ h n. calls_for m h n p) (λ h n. naming_there m h p (maps.get h.glyphs n)) f g whole (calls_join p)
 
   -- ---- the states of the join
 

@@ -2,6 +2,7 @@ pub mod Sets
 pub mod Kept
 pub mod Maps
 pub mod Flat
+pub mod Uses
 pub mod CutFonts
 pub mod JoinOfSubsets
 pub mod Trees

@@ -8,7 +8,8 @@ use Rattle.t1_font.specs.IsFont.{IsFont}
 use Rattle.t1_subset.specs.declared.callers.Callers.{Callers}
 use Rattle.t1_subset.specs.Interpreter.{same_bytes}
 use Rattle.t1_subset.specs.Profile.{profile}
-use Rattle.t1_subset.specs.Conflicts.{executes, wants}
+use Rattle.t1_subset.specs.Conflicts.{wants}
+use Rattle.t1_subset.specs.States.{executes}
 use Rattle.t1_subset.specs.Searches.{first_where}
 use Rattle.t1_subset.specs.Differences.{smaller}
 use Rattle.t1_subset.specs.Users.{user_at}

@@ -1,18 +1,17 @@
 -- Why two fonts do not join: the lowest conflict.
-use Rattle.std.specs.Prelude.{ℕ, Bool, true, false, cond, not, ◌&&◌, ◌||◌, List, [], Option, Some, None, nat_le}
+use Rattle.std.specs.Prelude.{ℕ, Bool, true, cond, not, ◌&&◌, ◌||◌, List, [], Option, Some, None, nat_le}
 use Rattle.std.specs.declared.cmp.Ordering.{Ordering}
 use Rattle.std.specs.Ordering.{nat_cmp}
 use Rattle.std.specs.List.{list_any}
 use Rattle.std.specs.Option.{unwrap_or}
 use Rattle.std.specs.FinMap as maps
-use Rattle.std.specs.FinSet as sets
 use Rattle.t1_font.specs.FontValue.{FontValue, Encoding, Word, Codes, name_cmp, count_limit, weight_limit, weight}
 use Rattle.t1_font.specs.Maps.{map_values, merged}
 use Rattle.t1_subset.specs.Interpreter.{Interpreter, same_bytes}
-use Rattle.t1_subset.specs.Keep.{has, components}
+use Rattle.t1_subset.specs.Keep.{has}
 use Rattle.t1_subset.specs.Shared.{ShellPart, shared_of, differing_part}
 use Rattle.t1_subset.specs.Searches.{KeySet, members, smallest, found}
-use Rattle.t1_subset.specs.States.{code_state, subr_state, joined_font}
+use Rattle.t1_subset.specs.States.{executes, calls_for, code_state, subr_state, joined_font}
 
 -- why two fonts do not join, by the numbers of the table of conflicts; the glyph of a component is the smallest that names it in the font that lacks it, and that of a Subr the smallest that executes it
 pub data Conflict : Type 0 where
@@ -69,25 +68,9 @@ module _ (f g : FontValue) where
   glyph_conflict = smallest glyph_clashes glyph_names
 
 module _ {O : Type 0} (m : Interpreter O) where
-  abbrev pub executed_at : FontValue → ℕ → Option (List ℕ) → Bool
-  executed_at f i None = false
-  executed_at f i (Some c) = sets.contains (m.exec f.subrs c) i
-
-  -- the glyph of this name executes the index
-  abbrev pub executes : FontValue → List ℕ → ℕ → Bool
-  executes f n i = executed_at f i (maps.get f.glyphs n)
-
-  abbrev pub called_at : FontValue → List ℕ → Option (List ℕ) → Bool
-  called_at f p None = false
-  called_at f p (Some c) = list_any (same_bytes p) (components m f.subrs c)
-
-  -- the glyph of this name names the component
-  abbrev pub calls_for : FontValue → List ℕ → List ℕ → Bool
-  calls_for f n p = called_at f p (maps.get f.glyphs n)
-
   -- the font lacks a component that its glyph of this name calls for
   abbrev pub wants : FontValue → List ℕ → List ℕ → Bool
-  wants f n p = not (has f p) && calls_for f n p
+  wants f n p = not (has f p) && calls_for m f n p
 
   module _ (f g : FontValue) where
     -- a glyph of either font calls for a component that its font lacks
@@ -104,7 +87,7 @@ module _ {O : Type 0} (m : Interpreter O) where
 
     -- a glyph of either font executes the index there
     abbrev pub used_by : ℕ → List ℕ → Bool
-    used_by i n = executes f n i || executes g n i
+    used_by i n = executes m f n i || executes m g n i
 
     abbrev pub is_within : Bool
     is_within = nat_le (weight (joined_font m f g)) weight_limit && nat_le (maps.len (joined_font m f g).glyphs) count_limit

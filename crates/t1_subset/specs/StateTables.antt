@@ -6,11 +6,12 @@ use Rattle.std.specs.FinMap as maps
 use Rattle.t1_join.specs.Meaning.{Meaning, of_number}
 use Rattle.t1_join.specs.Products.{SameJoin, BothJoin, FittingAgree, FittingJoin}
 use Rattle.t1_join.specs.TableMeaning.{TableMeaning, TablesJoin, table_code, joined_table}
+use Rattle.t1_font.specs.FontModel.{names_in}
 use Rattle.t1_font.specs.FontValue.{FontValue, Encoding, Word, Codes, Numbered, total, texts_weight, weight_limit, count_limit}
 use Rattle.t1_font.specs.Maps.{map_values}
 use Rattle.t1_subset.specs.Interpreter.{Interpreter}
 use Rattle.t1_subset.specs.Keep.{components}
-use Rattle.t1_subset.specs.States.{subr_state}
+use Rattle.t1_subset.specs.States.{named_at, subr_state}
 use Rattle.t1_subset.specs.Shared.{Shared, shared_code, shared_of}
 
 -- what is shared, and the states of codes, of names and of Subrs, each at its key where it is not the bottom
@@ -57,7 +58,7 @@ module _ {O : Type 0} (m : Interpreter O) (f : FontValue) where
 
   -- all components that the glyphs name
   abbrev pub all_components : List (List ℕ)
-  all_components = flat_map (λ g. components m f.subrs g.1) (maps.entries f.glyphs)
+  all_components = flat_map (λ n. named_at m f (maps.get f.glyphs n)) (names_in f.glyphs)
 
   -- the names that are there, and those that are sought
   abbrev pub name_states : TableMeaning

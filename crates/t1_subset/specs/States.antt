@@ -1,11 +1,12 @@
 -- The states of a font, and the join of two fonts.
-use Rattle.std.specs.Prelude.{◌≡◌, ℕ, ◌≤◌, Bool, cond, not, ◌&&◌, List, Option, Some, None}
+use Rattle.std.specs.Prelude.{◌≡◌, ℕ, ◌≤◌, Bool, false, cond, not, ◌&&◌, List, [], Option, Some, None}
 use Rattle.std.specs.List.{list_any}
 use Rattle.std.specs.Str.{bytes_eq}
 use Rattle.std.specs.Option.{unwrap_or}
 use Rattle.std.specs.FinMap as maps
 use Rattle.std.specs.FinSet as sets
 use Rattle.t1_font.specs.FontValue.{FontValue, Encoding, Word, Codes, count_limit, weight_limit, weight}
+use Rattle.t1_font.specs.FontModel.{names_in}
 use Rattle.t1_font.specs.Maps.{map_values, merged}
 use Rattle.t1_font.specs.Cut.{stub}
 use Rattle.t1_font.specs.Joins.{join_encodings}
@@ -42,13 +43,34 @@ pub record IsWithin (f : FontValue) : Type 0 where
 
 module _ {O : Type 0} (m : Interpreter O) where
   module _ (f : FontValue) where
+    -- the charstring of a glyph, where it is there, executes the index
+    abbrev pub executed_at : ℕ → Option (List ℕ) → Bool
+    executed_at i None = false
+    executed_at i (Some c) = sets.contains (m.exec f.subrs c) i
+
+    -- the glyph of this name executes the index
+    abbrev pub executes : List ℕ → ℕ → Bool
+    executes n i = executed_at i (maps.get f.glyphs n)
+
+    -- the components that the charstring of a glyph names, none where it is not there
+    abbrev pub named_at : Option (List ℕ) → List (List ℕ)
+    named_at None = []
+    named_at (Some c) = components m f.subrs c
+
+    abbrev pub called_at : List ℕ → Option (List ℕ) → Bool
+    called_at p x = list_any (same_bytes p) (named_at x)
+
+    -- the glyph of this name names the component
+    abbrev pub calls_for : List ℕ → List ℕ → Bool
+    calls_for n p = called_at p (maps.get f.glyphs n)
+
     -- some glyph executes the index
     abbrev pub is_called : ℕ → Bool
-    is_called i = list_any (λ g. sets.contains (m.exec f.subrs g.1) i) (maps.entries f.glyphs)
+    is_called i = list_any (λ n. executes n i) (names_in f.glyphs)
 
     -- some glyph names the component
     abbrev pub is_sought : List ℕ → Bool
-    is_sought n = list_any (λ g. list_any (same_bytes n) (components m f.subrs g.1)) (maps.entries f.glyphs)
+    is_sought p = list_any (λ n. calls_for n p) (names_in f.glyphs)
 
     -- an entry, or the bottom where it is a stub that no glyph executes
     abbrev pub entry_state : ℕ → List ℕ → Option (List ℕ)

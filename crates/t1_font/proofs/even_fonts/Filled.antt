@@ -1,8 +1,6 @@
 -- Fonts that are filled one by one, by one table of stubs.
 use Rattle.std.proofs.Common.{◌≡◌, ℕ, ◌+◌, ◌≤◌, ◌<◌, Bool, true, false, cond, ◌||◌, List, [], ◌∷◌, ◌++◌, map, length, drop, get_or, Option, Some, None, is_some, inl, inr, refl, sym, ap, subst, ◌∙◌, arith, true≢false}
 use Rattle.std.specs.Prelude.{nat_lt, max, ◌==◌}
-use Rattle.std.specs.Borrow.{Bor}
-use Rattle.t1_font.specs.Lent.{lent_number}
 use Rattle.std.specs.List.{list_any}
 use Rattle.std.specs.Ordering.{nat_cmp, eq_by_cmp}
 use Rattle.std.specs.Option.{option_map}
@@ -172,9 +170,9 @@ module _ (stubs : Numbered) (fs out left next : List FontValue) (f : FontValue) 
 
 -- ---- the parts of one
 
-pub lent_none : (es : List (ℕ × Bor (List ℕ))) → (length es == 0) ≡ has_none (map lent_number es)
-lent_none [] = refl
-lent_none (e ∷ es) = elim (cases_Bool (length (e ∷ es) == 0)) [ inl t ↦ absurd (omega (arith, eqb-true (length (e ∷ es)) 0 t)) | inr t ↦ t ]
+pub none_counted : (es : List (ℕ × List ℕ)) → (length es == 0) ≡ has_none es
+none_counted [] = refl
+none_counted (e ∷ es) = elim (cases_Bool (length (e ∷ es) == 0)) [ inl t ↦ absurd (omega (arith, eqb-true (length (e ∷ es)) 0 t)) | inr t ↦ t ]
 
 none_so : (es : List (ℕ × List ℕ)) → has_none es ≡ true → es ≡ []
 none_so [] h = refl

@@ -12,32 +12,42 @@ use Rattle.std.specs.FinSet.{IsAntisymmetric, nat_cmp-IsAntisymmetric}
 use Rattle.t1_font.specs.Cut.{stub}
 use Rattle.t1_font.specs.Maps.{map_values, merged}
 use Rattle.t1_font.specs.Entries.{last_entries}
-use Rattle.t1_font.specs.FontModel.{word_of}
+use Rattle.t1_font.specs.FontModel.{names_in, word_of}
 use Rattle.t1_font.specs.FontValue.{FontValue, Shell, Encoding, Word, Codes, name_cmp, notdef}
 use Rattle.t1_font.proofs.MapLemmas.{get-map_values, entries-map_values}
 use Rattle.t1_font.proofs.CutEntries.{entries-merged}
-use Rattle.t1_subset.specs.States.{is_stub, is_called, subr_state, state_of_entry}
+use Rattle.t1_subset.specs.States.{named_at, is_stub, is_called, subr_state, state_of_entry, called_at, executed_at}
 use Rattle.t1_join.specs.Join.{joined_state}
 use Rattle.t1_join.specs.Meaning.{of_number}
 use Rattle.t1_join.specs.TableLaws.{get_joined}
 use Rattle.t1_subset.specs.StateTables.{states_of, all_components, used_subrs, subr_part, name_part, name_meaning}
 use Rattle.t1_subset.proofs.state_tables.FontStates.{get-used}
 use Rattle.t1_subset.proofs.state_tables.Numbered.{get-numbered}
-use Rattle.t1_subset.specs.Conflicts.{Conflict, ShellDiffers, CodeDiffers, GlyphDiffers, LacksComponent, SubrDiffers, OverLimit, keys_of_both, agrees, codes_of_both, glyph_names, called_at, executed_at, code_clashes, wanted_by, used_by, is_within, shell_conflict, code_conflict, glyph_conflict, component_conflict, subr_conflict, states_conflict, conflict}
+use Rattle.t1_subset.specs.Conflicts.{Conflict, ShellDiffers, CodeDiffers, GlyphDiffers, LacksComponent, SubrDiffers, OverLimit, keys_of_both, agrees, codes_of_both, glyph_names, code_clashes, wanted_by, used_by, is_within, shell_conflict, code_conflict, glyph_conflict, component_conflict, subr_conflict, states_conflict, conflict}
 use Rattle.t1_subset.specs.Searches.{members, found, first_where}
 use Rattle.t1_subset.specs.Interpreter.{same_bytes}
 use Rattle.t1_subset.specs.Shared.{ShellPart, Head, EncodingPart, Private, SubrsTable, same_word}
 use Rattle.t1_subset.proofs.Searching.{passes_none}
 use Rattle.t1_subset.proofs.Sets.{name_same}
-use Rattle.t1_subset.proofs.rows.KeptRows.{letters, spelled, shell_of, font_of, at_name, glyph_listed, has_listed, glyphs, subrs, small}
+use Rattle.t1_subset.proofs.rows.KeptRows.{spelled, shell_of, font_of, at_name, glyph_listed, has_listed, glyphs, subrs, small}
+
+-- a charstring that is there executes the index
+abbrev runs_at : ℕ → Option (List ℕ) → Bool
+runs_at i None = false
+runs_at i (Some c) = list_any (eq_by_cmp nat_cmp i) c
+
+runs_is : (j : FontValue) (i : ℕ) (x : Option (List ℕ)) → executed_at spelled j i x ≡ runs_at i x
+runs_is j i None = refl
+runs_is j i (Some c) = sets.contains-from_list nat_cmp_total c i
 
 module _ (e : Encoding) (ss : List (ℕ × List ℕ)) (es : List (List ℕ × List ℕ)) (hs : T (is_sorted nat_cmp ss)) (h : T (is_sorted name_cmp es)) where
   -- some charstring of the list has the byte
   abbrev called_listed : ℕ → Bool
-  called_listed i = list_any (λ g. list_any (eq_by_cmp nat_cmp i) g.1) es
+  called_listed i = list_any (λ n. runs_at i (at_name es n)) (map (λ e. e.0) es)
 
   called_is : (i : ℕ) → is_called spelled (font_of e ss es) i ≡ called_listed i
-  called_is i = λ d. list_any (λ g. sets.contains-from_list nat_cmp_total g.1 i d) (maps.entries-from_sorted name_cmp es h d)
+  called_is i = (λ d. list_any (λ n. runs_is (font_of e ss es) i (maps.get (font_of e ss es).glyphs n) d) (names_in (font_of e ss es).glyphs))
+      ∙ (λ d. list_any (λ n. runs_at i (glyph_listed e ss es h n d)) (map (λ e. e.0) (maps.entries-from_sorted name_cmp es h d)))
 
   -- the state of an index of the list
   abbrev state_listed : ℕ → Option (List ℕ) → Option (List ℕ)
@@ -54,10 +64,10 @@ module _ (e : Encoding) (ss : List (ℕ × List ℕ)) (es : List (List ℕ × Li
       ∙ ap (state_of_entry spelled (font_of e ss es) i) (maps.get-from_sorted nat_cmp ss i hs) ∙ state_at i (find nat_cmp i ss)
 
   abbrev components_listed : List (List ℕ)
-  components_listed = flat_map (λ g. letters g.1) es
+  components_listed = flat_map (λ n. named_at spelled (font_of e ss es) (at_name es n)) (map (λ e. e.0) es)
 
   components_are : all_components spelled (font_of e ss es) ≡ components_listed
-  components_are = ap (flat_map (λ g. letters g.1)) (maps.entries-from_sorted name_cmp es h)
+  components_are = λ d. flat_map (λ n. named_at spelled (font_of e ss es) (glyph_listed e ss es h n d)) (map (λ e. e.0) (maps.entries-from_sorted name_cmp es h d))
 
   -- the state of a name
   name_listed : (n : List ℕ) → maps.get (name_part (states_of spelled (font_of e ss es))) n
@@ -167,15 +177,6 @@ module _ (e k : Encoding) (ss ts : List (ℕ × List ℕ)) (es fs : List (List �
 
   subrs_differ : subr_conflict spelled f g ≡ first_where subr_differs (keys_listed nat_cmp ss ts)
   subrs_differ = λ d. first_where (λ i. not (agrees (state_is i d) (other_state_is i d))) (keys_are nat_cmp_total nat_cmp-IsAntisymmetric ss ts hs ht d)
-
-  -- a charstring that is there executes the index
-  abbrev runs_at : ℕ → Option (List ℕ) → Bool
-  runs_at i None = false
-  runs_at i (Some c) = list_any (eq_by_cmp nat_cmp i) c
-
-  runs_is : (j : FontValue) (i : ℕ) (x : Option (List ℕ)) → executed_at spelled j i x ≡ runs_at i x
-  runs_is j i None = refl
-  runs_is j i (Some c) = sets.contains-from_list nat_cmp_total c i
 
   abbrev used_listed : ℕ → List ℕ → Bool
   used_listed i n = runs_at i (at_name es n) || runs_at i (at_name fs n)

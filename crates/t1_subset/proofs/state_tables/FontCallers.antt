@@ -1,6 +1,6 @@
 -- The smallest glyphs that execute a Subr or seek a component: as the code notes them, and in a join.
 use Rattle.std.proofs.Common.{◌≡◌, ℕ, Bool, true, false, not, cond, ◌&&◌, ◌||◌, List, [], ◌∷◌, ◌++◌, map, refl, sym, ◌∙◌, ap, Option, Some, None, is_some, unwrap_or, true≢false}
-use Rattle.std.specs.List.{list_any, AllByRecursion}
+use Rattle.std.specs.List.{list_any}
 use Rattle.std.specs.Cmp.{nat_cmp_total}
 use Rattle.std.specs.Cmp.Lexicographic.{nat_list_cmp_total}
 use Rattle.std.specs.FinMap as maps
@@ -9,13 +9,13 @@ use Rattle.t1_join.specs.TableMeaning.{TableMeaning}
 use Rattle.t1_font.specs.Maps.{merged}
 use Rattle.t1_font.specs.FontValue.{FontValue, Named, name_cmp}
 use Rattle.t1_font.specs.FontModel.{names_in}
-use Rattle.t1_font.proofs.MapLemmas.{entries_all, entries-map_values}
+use Rattle.t1_font.proofs.MapLemmas.{entries-map_values}
 use Rattle.t1_subset.specs.declared.callers.Callers.{Callers}
 use Rattle.t1_subset.specs.Interpreter.{same_bytes}
 use Rattle.t1_subset.specs.Keep.{has, components, charstring}
 use Rattle.t1_subset.specs.Profile.{profile}
-use Rattle.t1_subset.specs.States.{Agree, joined, is_called, is_sought, state_of_glyph, joined_font, Compatible}
-use Rattle.t1_subset.specs.Conflicts.{keys_of_both, executes, executed_at, calls_for, called_at, wants, wanted_by, used_by, glyph_names}
+use Rattle.t1_subset.specs.States.{Agree, joined, is_called, is_sought, state_of_glyph, joined_font, Compatible, executes, executed_at, calls_for, called_at}
+use Rattle.t1_subset.specs.Conflicts.{keys_of_both, wants, wanted_by, used_by, glyph_names}
 use Rattle.t1_subset.specs.Searches.{smallest, members, first_where}
 use Rattle.t1_subset.specs.Differences.{smaller}
 use Rattle.t1_subset.specs.Callers.{same_charstring, user_of, seeker_of, user_from, seeker_from, AreCallersOf}
@@ -25,8 +25,8 @@ use Rattle.t1_subset.proofs.Flat.{agree_back}
 use Rattle.t1_subset.proofs.closing.ExecutedCalls.{calls_by, no_calls}
 use Rattle.t1_subset.proofs.closing.ProfileRuns.{no_components}
 use Rattle.t1_subset.proofs.state_tables.FirstNames.{smaller_first}
-use Rattle.t1_subset.proofs.JoinedStates.{glyph_in_join, glyph_agree, present_joined, left_runs, right_runs}
-use Rattle.t1_subset.proofs.Conflicts.{sought}
+use Rattle.t1_subset.proofs.JoinedStates.{glyph_in_join, present_joined, executes_join, calls_join}
+use Rattle.t1_subset.proofs.Uses.{executing_there, naming_there, sought}
 use Rattle.std.specs.Cmp.{second_so}
 use Rattle.t1_subset.proofs.Sets.{name_same, not_so, clash, tied}
 
@@ -110,40 +110,24 @@ module _ (f : FontValue) where
       at None e = ap (list_any (same_bytes p)) (sym (no_components f n e))
       at (Some c) e = ap (λ x. list_any (same_bytes p) (components profile f.subrs (unwrap_or x []))) e
 
-  -- what stands of each name, by its entry
-  any_entries : (at : Option (List ℕ) → Bool) (es : List (List ℕ × List ℕ)) → AllByRecursion (λ e. maps.get f.glyphs e.0 ≡ Some e.1) es → list_any (λ e. at (Some e.1)) es ≡ list_any (λ n. at (maps.get f.glyphs n)) (map (λ e. e.0) es)
-  any_entries at [] h = refl
-  any_entries at (e ∷ es) h = λ i. at (sym h.0 i) || any_entries at es h.1 i
-
-  any_glyph : (at : Option (List ℕ) → Bool) → list_any (λ e. at (Some e.1)) (maps.entries f.glyphs) ≡ list_any (λ n. at (maps.get f.glyphs n)) (names_in f.glyphs)
-  any_glyph at = any_entries at (maps.entries f.glyphs) (entries_all nat_list_cmp_total name_same (λ n c. maps.get f.glyphs n ≡ Some c) f.glyphs (λ n c h. h))
-
   -- an index is called where it has a user
   pub called_is : (i : ℕ) → is_called profile f i ≡ is_some (user_of f i)
-  called_is i = any_glyph (executed_at profile f i) ∙ any_first (λ n. executes profile f n i) (names_in f.glyphs)
+  called_is i = any_first (λ n. executes profile f n i) (names_in f.glyphs)
 
   -- a component that the font lacks is sought where it has a seeker
   pub sought_is : (p : List ℕ) → is_some (seeker_of f p) ≡ (not (has f p) && is_sought profile f p)
-  sought_is p = sym (any_first (λ n. wants profile f n p) (names_in f.glyphs)) ∙ any_and (not (has f p)) (λ n. calls_for profile f n p) (names_in f.glyphs) ∙ ap (λ b. not (has f p) && b) (sym (any_glyph (called_at profile f p)))
+  sought_is p = sym (any_first (λ n. wants profile f n p) (names_in f.glyphs)) ∙ any_and (not (has f p)) (λ n. calls_for profile f n p) (names_in f.glyphs)
 
 -- ---- two fonts
-
-caller_there : (f : FontValue) (p : List ℕ) (x : Option (List ℕ)) → called_at profile f p x ≡ true → is_some x ≡ true
-caller_there f p None h = h
-caller_there f p (Some c) h = refl
-
-executing_there : (f : FontValue) (i : ℕ) (x : Option (List ℕ)) → executed_at profile f i x ≡ true → is_some x ≡ true
-executing_there f i None h = h
-executing_there f i (Some c) h = refl
 
 module _ (f g : FontValue) where
   pub smallest_user : (i : ℕ) → smaller name_cmp (user_of f i) (user_of g i) ≡ smallest (used_by profile f g i) (glyph_names f g)
   smallest_user i = smaller_first nat_list_cmp_total name_same f.glyphs g.glyphs (λ n. executes profile f n i) (λ n. executes profile g n i)
-      (λ n h. executing_there f i (maps.get f.glyphs n) h) (λ n h. executing_there g i (maps.get g.glyphs n) h) _ _ refl refl
+      (λ n h. executing_there profile f i (maps.get f.glyphs n) h) (λ n h. executing_there profile g i (maps.get g.glyphs n) h) _ _ refl refl
 
   pub smallest_seeker : (p : List ℕ) → smaller name_cmp (seeker_of f p) (seeker_of g p) ≡ smallest (wanted_by profile f g p) (glyph_names f g)
   smallest_seeker p = smaller_first nat_list_cmp_total name_same f.glyphs g.glyphs (λ n. wants profile f n p) (λ n. wants profile g n p)
-      (λ n h. caller_there f p (maps.get f.glyphs n) (second_so (not (has f p)) (calls_for profile f n p) h)) (λ n h. caller_there g p (maps.get g.glyphs n) (second_so (not (has g p)) (calls_for profile g n p) h)) _ _ refl refl
+      (λ n h. naming_there profile f p (maps.get f.glyphs n) (second_so (not (has f p)) (calls_for profile f n p) h)) (λ n h. naming_there profile g p (maps.get g.glyphs n) (second_so (not (has g p)) (calls_for profile g n p) h)) _ _ refl refl
 
 keys_valued : (es : List (List ℕ × List ℕ)) → map (λ (e : List ℕ × List ℕ). e.0) es ≡ map (λ (e : List ℕ × ℕ). e.0) (map (λ (e : List ℕ × List ℕ). (e.0, 0)) es)
 keys_valued [] = refl
@@ -154,39 +138,9 @@ names_of_both a b = keys_valued (maps.entries (merged a b)) ∙ ap (map (λ e. e
 
 -- ---- the glyphs of a join
 
-or_none : (a : Bool) → a ≡ (a || false)
-or_none true = refl
-or_none false = refl
-
-or_self : (a b c : Bool) → a ≡ b → a ≡ c → a ≡ (b || c)
-or_self true b c h k = ap (λ b. b || c) h
-or_self false b c h k = k ∙ ap (λ b. b || c) h
-
 module _ (f g : FontValue) (c : Compatible profile f g) where
   abbrev both : FontValue
   both = joined_font profile f g
-
-  -- what holds of a glyph's charstring in the join holds of it in a font that has it
-  at_join : (p : FontValue → List ℕ → Bool) → ((n v : List ℕ) → maps.get f.glyphs n ≡ Some v → p both v ≡ p f v) → ((n v : List ℕ) → maps.get g.glyphs n ≡ Some v → p both v ≡ p g v)
-      → (at : FontValue → Option (List ℕ) → Bool) → ((h : FontValue) → at h None ≡ false) → ((h : FontValue) (v : List ℕ) → at h (Some v) ≡ p h v)
-      → (n : List ℕ) (x y : Option (List ℕ)) → maps.get f.glyphs n ≡ x → maps.get g.glyphs n ≡ y → Agree x y → at both (joined x y) ≡ (at f x || at g y)
-  at_join p left right at none some n None None hx hy a = none both ∙ (λ i. sym (none f) i || sym (none g) i)
-  at_join p left right at none some n None (Some d) hx hy a = some both d ∙ right n d hy ∙ sym (some g d) ∙ ap (λ b. b || at g (Some d)) (sym (none f))
-  at_join p left right at none some n (Some v) None hx hy a = some both v ∙ left n v hx ∙ sym (some f v) ∙ or_none (at f (Some v)) ∙ ap (λ b. at f (Some v) || b) (sym (none g))
-  at_join p left right at none some n (Some v) (Some d) hx hy a =
-      or_self (at both (Some v)) (at f (Some v)) (at g (Some d)) (some both v ∙ left n v hx ∙ sym (some f v)) (ap (λ u. at both (Some u)) a ∙ some both d ∙ right n d hy ∙ sym (some g d))
-
-  executes_join : (i : ℕ) (n : List ℕ) → executes profile both n i ≡ used_by profile f g i n
-  executes_join i n = ap (executed_at profile both i) (glyph_in_join profile f g n)
-      ∙ at_join (λ h v. sets.contains (profile.exec h.subrs v) i)
-      (λ n v is. ap (λ s. sets.contains s i) (left_runs profile f g n v is).1) (λ n v is. ap (λ s. sets.contains s i) (right_runs profile f g c n v is).1)
-      (λ h x. executed_at profile h i x) (λ h. refl) (λ h v. refl) n (maps.get f.glyphs n) (maps.get g.glyphs n) refl refl (glyph_agree profile f g c n)
-
-  calls_join : (p n : List ℕ) → calls_for profile both n p ≡ (calls_for profile f n p || calls_for profile g n p)
-  calls_join p n = ap (called_at profile both p) (glyph_in_join profile f g n)
-      ∙ at_join (λ h v. list_any (same_bytes p) (components profile h.subrs v))
-      (λ n v is. ap (λ d. list_any (same_bytes p) (profile.names d)) (left_runs profile f g n v is).0) (λ n v is. ap (λ d. list_any (same_bytes p) (profile.names d)) (right_runs profile f g c n v is).0)
-      (λ h x. called_at profile h p x) (λ h. refl) (λ h v. refl) n (maps.get f.glyphs n) (maps.get g.glyphs n) refl refl (glyph_agree profile f g c n)
 
   -- a component that one font has, the other doesn't seek
   unsought : (b : Bool) (v : List ℕ) → Agree {V = Option (List ℕ)} (cond b (Some None) None) (Some (Some v)) → b ≡ false
@@ -201,7 +155,7 @@ module _ (f g : FontValue) (c : Compatible profile f g) where
 
   wants_at : (p n : List ℕ) (x y : Option (List ℕ)) → Agree (state_of_glyph profile f p x) (state_of_glyph profile g p y)
       → (not (is_some (joined x y)) && calls_for profile both n p) ≡ ((not (is_some x) && calls_for profile f n p) || (not (is_some y) && calls_for profile g n p))
-  wants_at p n None None a = calls_join p n
+  wants_at p n None None a = calls_join profile f g c p n
   wants_at p n None (Some d) a = sym (ap (λ b. b || false) (sought_by f p n (unsought (is_sought profile f p) d a)))
   wants_at p n (Some v) None a = sym (sought_by g p n (unsought (is_sought profile g p) v (agree_back (Some (Some v)) (state_of_glyph profile g p None) a)))
   wants_at p n (Some v) (Some d) a = refl
@@ -210,7 +164,7 @@ module _ (f g : FontValue) (c : Compatible profile f g) where
   wants_join p n = ap (λ x. not (is_some x) && calls_for profile both n p) (glyph_in_join profile f g p) ∙ wants_at p n (maps.get f.glyphs p) (maps.get g.glyphs p) (c.names p)
 
   pub user_join : (i : ℕ) → user_of both i ≡ smaller name_cmp (user_of f i) (user_of g i)
-  user_join i = (λ k. first_where (λ n. executes_join i n k) (names_in both.glyphs)) ∙ ap (first_where (used_by profile f g i)) (names_of_both f.glyphs g.glyphs) ∙ sym (smallest_user f g i)
+  user_join i = (λ k. first_where (λ n. executes_join profile f g c i n k) (names_in both.glyphs)) ∙ ap (first_where (used_by profile f g i)) (names_of_both f.glyphs g.glyphs) ∙ sym (smallest_user f g i)
 
   pub seeker_join : (p : List ℕ) → seeker_of both p ≡ smaller name_cmp (seeker_of f p) (seeker_of g p)
   seeker_join p = (λ k. first_where (λ n. wants_join p n k) (names_in both.glyphs)) ∙ ap (first_where (wanted_by profile f g p)) (names_of_both f.glyphs g.glyphs) ∙ sym (smallest_seeker f g p)

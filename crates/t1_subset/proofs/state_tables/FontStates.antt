@@ -16,14 +16,13 @@ use Rattle.t1_join.specs.TableMeaning.{TableMeaning, TablesAgree, TablesJoin, jo
 use Rattle.t1_join.specs.TableLaws.{get_joined, same_table}
 use Rattle.t1_font.specs.Maps.{map_values}
 use Rattle.t1_font.specs.Joins.{join_encodings}
-use Rattle.t1_font.specs.FontModel.{word_of, clamp}
+use Rattle.t1_font.specs.FontModel.{names_in, word_of, clamp}
 use Rattle.t1_font.specs.FontValue.{FontValue, Encoding, Word, Codes, Numbered, name_cmp, total, subr_weight, weight, weight_limit, count_limit}
 use Rattle.t1_font.specs.WriteLaws.{SameKind}
 use Rattle.t1_font.proofs.CutEntries.{entries-retain}
 use Rattle.t1_font.proofs.MapLemmas.{Some_same, Some_None, get-map_values, entries-map_values, entries_all, get-retain, length_total}
 use Rattle.t1_subset.specs.Interpreter.{Interpreter, same_bytes}
-use Rattle.t1_subset.specs.Keep.{components}
-use Rattle.t1_subset.specs.States.{Agree, joined, IsWithin, is_called, is_sought, is_stub, state_of_entry, subr_state, state_of_glyph, name_state, code_state, Compatible, Join, joined_font}
+use Rattle.t1_subset.specs.States.{named_at, Agree, joined, IsWithin, is_called, is_sought, is_stub, state_of_entry, subr_state, state_of_glyph, name_state, code_state, Compatible, Join, joined_font}
 use Rattle.t1_subset.specs.StateTables.{StatesValue, numbered, name_meaning, code_states, used_subrs, all_components, name_states, states_of, new_entries, subr_adds, name_adds, name_counts, shared_weight, states_weight, states_glyphs, StatesFit, IsSized, name_part, subr_part, joint_weight, joint_glyphs, PartsJoin, StatesAgree, StatesJoin}
 use Rattle.t1_subset.specs.Shared.{Shared}
 use Rattle.t1_join.specs.Products.{BothJoin}
@@ -114,7 +113,7 @@ module _ {O : Type 0} (m : Interpreter O) (f : FontValue) where
 
   get-sought : (n : List ℕ) → maps.get sought n ≡ cond (is_sought m f n) (Some []) None
   get-sought n = maps.get-from_entries nat_list_cmp_total (map (λ p. (p, name_meaning None)) (all_components m f)) n ∙ find_sought n (all_components m f)
-      ∙ ap (λ b. cond b (Some []) None) (any_flat_map (same_bytes n) (λ g. components m f.subrs g.1) (maps.entries f.glyphs))
+      ∙ ap (λ b. cond b (Some []) None) (any_flat_map (same_bytes n) (λ n. named_at m f (maps.get f.glyphs n)) (names_in f.glyphs))
 
   lone : (b : Bool) → cond b (Some []) None ≡ meant (cond b (Some None) None)
   lone true = refl

@@ -4,24 +4,28 @@ use Rattle.std.specs.FinMap.{from_sorted}
 use Rattle.std.proofs.lemmas.List.{drop_all}
 use Rattle.t1_join.specs.TableMeaning.{Rises}
 use Rattle.t1_font.specs.FontValue.{name_cmp}
-use Rattle.t1_font.specs.Lent.{lent_name, lent_names}
+use Rattle.t1_font.specs.Lent.{lent_glyph, AreOwn, glyph_names}
 use Rattle.t1_font.specs.Maps.{put_all_into}
 use Rattle.t1_font.proofs.CutLoops.{entries_of, put_some}
-use Rattle.t1_font.proofs.LentTables.{lent_none, lent_rise, lent_sorted}
+use Rattle.t1_font.proofs.LentTables.{no_glyphs, glyphs_rise, glyphs_sorted}
 use Rattle.t1_font.proofs.canonical.FontAgain.{name_same}
 use Rattle.t1_font.proofs.cut.cut_glyphs.Goals as goal
 
 pub names-init : goal.names-init
-names-init c =
-    ap (λ m. put_all_into m (entries_of c.args.glyphs.now (map (λ v. v.items) c.args.names.now))) (ap lent_names c.new-cut.ensures.empty ∙ lent_none)
-    ∙ put_some nat_list_cmp_total name_same c.args.glyphs.now (map (λ v. v.items) c.args.names.now)
+names-init c = record {
+  own = subst AreOwn (sym c.new-cut.ensures.empty) tt;
+  left =
+      ap (λ m. put_all_into m (entries_of c.args.glyphs.now (map (λ v. v.items) c.args.names.now))) (ap glyph_names c.new-cut.ensures.empty ∙ no_glyphs)
+      ∙ put_some nat_list_cmp_total name_same c.args.glyphs.now (map (λ v. v.items) c.args.names.now);
+}
 
-pub invariant_of-result : goal.invariant_of-result
-invariant_of-result c = subst (λ es. Rises name_cmp (map lent_name es)) (sym c.in_ok-drain.ensures.items) (lent_rise c.names.cut.entries c.in_ok-drain.ensures.ordered)
+pub made-requires : goal.made-requires
+made-requires c = subst (λ gs. Rises name_cmp (map lent_glyph gs)) (sym c.in_ok-drain.ensures.items) (glyphs_rise c.names.cut.entries c.names.invariant.own c.in_ok-drain.ensures.ordered)
 
 pub returns : goal.returns
 returns c =
-    ap (λ es. from_sorted {R = name_cmp} (map lent_name es)) c.in_ok-drain.ensures.items
-    ∙ (lent_sorted c.names.cut.entries c.in_ok-drain.ensures.ordered
-    ∙ (ap (λ ns. put_all_into (lent_names c.names.cut.entries) (entries_of c.args.glyphs.now (map (λ v. v.items) ns))) (sym (drop_all c.names.name-index c.args.names.now c.names-test.false))
-    ∙ c.names.invariant))
+    c.made.ensures
+    ∙ ap (λ gs. from_sorted {R = name_cmp} (map lent_glyph gs)) c.in_ok-drain.ensures.items
+    ∙ (glyphs_sorted c.names.cut.entries c.names.invariant.own c.in_ok-drain.ensures.ordered
+    ∙ (ap (λ ns. put_all_into (glyph_names c.names.cut.entries) (entries_of c.args.glyphs.now (map (λ v. v.items) ns))) (sym (drop_all c.names.name-index c.args.names.now c.names-test.false))
+    ∙ c.names.invariant.left))

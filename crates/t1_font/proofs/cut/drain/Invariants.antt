@@ -1,5 +1,6 @@
 use Rattle.std.proofs.Common.{◌≡◌, ◌++◌}
+use Rattle.std.specs.Map.{values_of}
 use Rattle.t1_font.proofs.cut.drain.Given as goal
 
 abbrev pub invariant-entries : goal.invariant-entries
-invariant-entries g l = l.entries.items ++ l.entry-iterator ≡ l.fn.map.entries
+invariant-entries g l = l.values.items ++ values_of l.value-iterator ≡ values_of l.fn.map.entries

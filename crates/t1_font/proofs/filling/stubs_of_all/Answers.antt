@@ -14,7 +14,7 @@ use Rattle.t1_font.proofs.filling.stubs_of_all.Goals as goal
 use Rattle.t1_font.proofs.filling.stubs_of_all.Goals.{then-not-is_empty+in_ok-all, else-not-is_empty}
 
 pub fonts-init : goal.fonts-init
-fonts-init c = none_so_far _ c.args.fonts.now (ap (λ es. from_sorted {R = nat_cmp} (map lent_number es)) c.new.ensures.items ∙ no_entries nat_cmp)
+fonts-init c = none_so_far _ c.args.fonts.now (c.made-all.ensures ∙ ap (λ es. from_sorted {R = nat_cmp} (map lent_number es)) c.new.ensures.items ∙ no_entries nat_cmp)
 
 pub fonts-preserved : goal.fonts-preserved
 fonts-preserved c =

@@ -16,14 +16,14 @@ stubs-init c =
     (λ k. map lent_number (c.in_ok-below.ensures.items k) ++ filter (λ e. nat_lt e.0 c.args.declared) ((c.into_iter-index-iterator.ensures.into_iter_gives ∙ c.entries-index-items.ensures) k))
     ∙ sym (entries-retain nat_cmp_total nat_cmp-IsAntisymmetric c.args.stubs.now (λ i. nat_lt i c.args.declared))
 
-pub invariant_of-below : goal.invariant_of-below
-invariant_of-below c =
+pub made-below-requires : goal.made-below-requires
+made-below-requires c =
     rises_of _ (retain_keys c.args.stubs.now (λ i. nat_lt i c.args.declared))
     (all_out lent_number c.stubs.below.items _ _ (ap (filter (λ e. nat_lt e.0 c.args.declared)) (rest_all lent_number _ _ _ c.in-None.is c.next.ensures.steps)) c.stubs.invariant)
 
 pub returns : goal.returns
 returns c =
     subst (λ (n : Numbered). IfOk c.join_codes.result (λ m. m ≡ merged c.args.subrs.now n))
-    (map_of _ (retain_keys c.args.stubs.now (λ i. nat_lt i c.args.declared))
+    (c.made-below.ensures ∙ map_of _ (retain_keys c.args.stubs.now (λ i. nat_lt i c.args.declared))
     (all_out lent_number c.stubs.below.items _ _ (ap (filter (λ e. nat_lt e.0 c.args.declared)) (rest_all lent_number _ _ _ c.in-None.is c.next.ensures.steps)) c.stubs.invariant))
     c.join_codes.ensures

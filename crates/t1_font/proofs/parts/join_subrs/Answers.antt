@@ -16,12 +16,12 @@ bodies-init c =
     (λ k. map lent_number (c.in_ok-joined.ensures.items k) ++ map (λ e. (e.0, f e.0 e.1)) ((c.into_iter-index-iterator.ensures.into_iter_gives ∙ c.entries-index-items.ensures) k))
     ∙ sym (entries-map_values nat_cmp_total nat_cmp-IsAntisymmetric f c.args.first.now)
 
-pub invariant_of-result : goal.invariant_of-result
-invariant_of-result c =
+pub made-requires : goal.made-requires
+made-requires c =
     let f : ℕ → List ℕ → List ℕ = λ i b. joined_subr b (get c.args.second.now i) in
     rises_of _ (map_values f c.args.first.now) (all_out lent_number c.bodies.joined.items _ _ (ap (map (λ e. (e.0, f e.0 e.1))) (rest_all lent_number _ _ _ c.in-None.is c.next.ensures.steps)) c.bodies.invariant)
 
 pub returns : goal.returns
 returns c =
     let f : ℕ → List ℕ → List ℕ = λ i b. joined_subr b (get c.args.second.now i) in
-    map_of _ (map_values f c.args.first.now) (all_out lent_number c.bodies.joined.items _ _ (ap (map (λ e. (e.0, f e.0 e.1))) (rest_all lent_number _ _ _ c.in-None.is c.next.ensures.steps)) c.bodies.invariant)
+    c.made.ensures ∙ map_of _ (map_values f c.args.first.now) (all_out lent_number c.bodies.joined.items _ _ (ap (map (λ e. (e.0, f e.0 e.1))) (rest_all lent_number _ _ _ c.in-None.is c.next.ensures.steps)) c.bodies.invariant)

@@ -7,8 +7,8 @@ use Rattle.t1_join.specs.Meaning.{of_number}
 use Rattle.t1_subset.specs.Interpreter.{same_bytes}
 use Rattle.t1_subset.specs.Keep.{has}
 use Rattle.t1_subset.specs.Profile.{profile}
-use Rattle.t1_subset.specs.States.{joined}
-use Rattle.t1_subset.specs.Conflicts.{executes, executed_at, called_at, wants}
+use Rattle.t1_subset.specs.States.{joined, executes, executed_at, called_at}
+use Rattle.t1_subset.specs.Conflicts.{wants}
 use Rattle.t1_subset.specs.StateTables.{behind_mark}
 use Rattle.t1_subset.specs.Users.{with_user, user_at}
 use Rattle.t1_subset.proofs.state_tables.FontCallers.{executes_so, calls_so, noted_first, noted_next, noted_last, known_already, known_then, again_same, nothing_noted}

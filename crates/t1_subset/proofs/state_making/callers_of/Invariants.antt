@@ -3,8 +3,8 @@ use Rattle.std.specs.Option.{option_map}
 use Rattle.std.specs.FinMap as maps
 use Rattle.t1_join.specs.Meaning.{of_number}
 use Rattle.t1_subset.specs.Profile.{profile}
-use Rattle.t1_subset.specs.States.{joined}
-use Rattle.t1_subset.specs.Conflicts.{executes, wants}
+use Rattle.t1_subset.specs.States.{joined, executes}
+use Rattle.t1_subset.specs.Conflicts.{wants}
 use Rattle.t1_subset.specs.Searches.{first_where}
 use Rattle.t1_subset.specs.Callers.{user_of, seeker_of}
 use Rattle.t1_subset.specs.Users.{user_at}

@@ -1,15 +1,11 @@
-use Rattle.std.proofs.Common.{ap, sym, ◌∙◌, map, length}
-use Rattle.std.proofs.lemmas.List.{length-map}
-use Rattle.std.specs.FinMap as fin
-use Rattle.t1_font.specs.FontValue.{name_cmp}
-use Rattle.t1_font.specs.Lent.{lent_name}
+use Rattle.std.proofs.Common.{ap, ◌∙◌}
+use Rattle.t1_font.specs.Lent.{named_entries, lent_glyph}
+use Rattle.t1_font.specs.Ranges.{named_at}
+use Rattle.t1_font.proofs.LentTables.{count_is}
 use Rattle.t1_font.proofs.lent.Named.len.Goals as goal
 
-pub returns : goal.returns
-returns c =
-    c.len.ensures
-    ∙ c.self.inside.entries.ok.0
-    ∙ sym (length-map c.self.inside.entries.items lent_name)
-    ∙ ap length (sym (fin.entries-from_sorted name_cmp (map lent_name c.self.inside.entries.items) c.self.invariant))
-    ∙ sym (fin.len-entries (fin.from_sorted {R = name_cmp} (map lent_name c.self.inside.entries.items)))
-    ∙ ap fin.len c.self.view_is
+pub returns-in-Stored : goal.returns-in-Stored
+returns-in-Stored c = count_is (named_at c.in-Stored.buffer.now.items) c.in-Stored.places.now (named_entries c.self.inside.form) c.args.self.now (ap named_entries c.in-Stored.is) c.self.invariant c.self.view_is
+
+pub returns-in-Made : goal.returns-in-Made
+returns-in-Made c = c.len.ensures ∙ (c.in-Made.glyphs.ok.0 ∙ count_is lent_glyph c.in-Made.glyphs.items (named_entries c.self.inside.form) c.args.self.now (ap named_entries c.in-Made.is) c.self.invariant c.self.view_is)

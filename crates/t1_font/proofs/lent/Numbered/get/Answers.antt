@@ -1,21 +1,13 @@
-use Rattle.std.proofs.Common.{rules, ap, sym, ◌∙◌, Some, Ok, Err, ℕ, List}
-use Rattle.std.specs.Borrow.{Bor}
+use Rattle.std.proofs.Common.{◌∙◌}
 use Rattle.std.specs.FinMap.{get}
-use Rattle.std.proofs.lemmas.List.Sorted.{answers_always}
-use Rattle.std.proofs.lemmas.Cmp.{nat_cmp_total}
-use Rattle.t1_join.proofs.Searches.{searched}
-use Rattle.t1_font.specs.FontValue.{Numbered}
-use Rattle.t1_font.specs.Lent.{lent_number}
+use Rattle.t1_font.proofs.LentTables.{value_there}
 use Rattle.t1_font.proofs.lent.Numbered.get.Goals as goal
 
-pub returns-in-Ok : goal.returns-in-Ok
-returns-in-Ok c =
-    let position = c.in-Ok.ensures.position (λ e. e.0) (answers_always _ _ _ (λ f a r g called. search rules)) in
-    let answer = searched nat_cmp_total lent_number c.args.number c.deref.result.now (Ok c.in-Ok.at) (rw c.deref.ensures.value c.self.invariant) c.in-Ok.ensures.bound position c.index.result.now in
-    ap (λ (e : ℕ × Bor (List ℕ)). Some e.1.now) c.index.ensures ∙ sym (rw c.deref.ensures.value at answer) ∙ ap (λ (m : Numbered). get m c.args.number) c.self.view_is
+pub returns-in_err-place_of : goal.returns-in_err-place_of
+returns-in_err-place_of c = rw c.from_residual.ensures (value_there c.args.number _ (get c.args.self.now c.args.number) c.in_err-place_of.ensures)
 
-pub returns-in-Err : goal.returns-in-Err
-returns-in-Err c =
-    let position = c.in-Err.ensures.position (λ e. e.0) (answers_always _ _ _ (λ f a r g called. search rules)) in
-    let answer = searched nat_cmp_total lent_number c.args.number c.deref.result.now (Err c.in-Err.field-0) (rw c.deref.ensures.value c.self.invariant) c.in-Err.ensures.bound position in
-    sym (rw c.deref.ensures.value at answer) ∙ ap (λ (m : Numbered). get m c.args.number) c.self.view_is
+pub returns-in_err-body : goal.returns-in_err-body
+returns-in_err-body c = rw c.from_residual-in_err-body.ensures (value_there c.args.number _ (get c.args.self.now c.args.number) (c.in_err-body.ensures.entry ∙ c.in_ok-place_of.ensures))
+
+pub returns : goal.returns
+returns c = value_there c.args.number _ (get c.args.self.now c.args.number) (c.in_ok-body.ensures.entry ∙ c.in_ok-place_of.ensures)

@@ -1,0 +1,89 @@
+-- One pass by two places over two tables whose keys rise.
+use Rattle.std.proofs.Common.{◌≡◌, ℕ, ◌+◌, ◌-◌, arith, Ordering, List, [], ◌∷◌, ◌++◌, map, length, drop, Option, Some, None, refl, sym, ap, subst, ◌∙◌}
+use Rattle.std.specs.Prelude.{IfSome, MatchOption}
+use Rattle.std.specs.declared.cmp.Ordering.TheVariants.{Less, Equal, Greater}
+use Rattle.std.specs.List.{slice_get}
+use Rattle.std.specs.Option.{option_map}
+use Rattle.std.specs.Cmp.{IsTotalOrder}
+use Rattle.std.specs.FinMap.{FinMap, IsAntisymmetric, entries, entries_sorted, from_sorted}
+use Rattle.std.specs.FinMap.Entries.{by_order}
+use Rattle.std.proofs.lemmas.List.{append_assoc, append-nil, map-append}
+use Rattle.t1_join.specs.Passes.{merge}
+use Rattle.t1_join.specs.TableMeaning.{Rises}
+use Rattle.t1_join.proofs.Merges.{rises_merge, merged_from_sorted}
+use Rattle.t1_join.proofs.Sorted.{map_of}
+use Rattle.t1_font.specs.Joins.{lower}
+use Rattle.t1_font.specs.Maps.{merged}
+use Rattle.t1_font.proofs.LentTables.{from_place, past_all}
+
+-- how much is left of two lists
+abbrev pub left : {A : Type 0} → List A → List A → ℕ → ℕ → ℕ
+left es fs i j = (length es - i) + (length fs - j)
+
+module _ {Y M X : Type 0} (S : M → M → Ordering) (v : Y → M × X) (es fs : List (M × X)) where
+  -- what is out, before the merge of what is left of both
+  abbrev pub Passing : List Y → ℕ → ℕ → Type 0
+  Passing out i j = map v out ++ merge S (drop i es) (drop j fs) ≡ merge S es fs
+
+  pub none_out : (out : List Y) → out ≡ [] → Passing out 0 0
+  none_out out h = ap (λ (a : List Y). map v a ++ merge S es fs) h
+
+  -- nothing is left
+  abbrev pub Ending : ℕ → ℕ → Type 0
+  Ending i j = merge S (drop i es) (drop j fs) ≡ []
+
+  -- one entry comes out, and each table goes on by some places
+  abbrev pub Turn : ℕ → ℕ → Y × ℕ × ℕ → Type 0
+  Turn i j t = merge S (drop i es) (drop j fs) ≡ v t.0 ∷ merge S (drop (i + t.1) es) (drop (j + t.2) fs)
+
+  -- the pass goes on
+  pub one_out : (out more : List Y) (i j : ℕ) (t : Y × ℕ × ℕ) → Turn i j t → Passing out i j → more ≡ out ++ t.0 ∷ [] → Passing more (i + t.1) (j + t.2)
+  one_out out more i j t h so_far put =
+      let rest = merge S (drop (i + t.1) es) (drop (j + t.2) fs) in
+      ap (λ (a : List Y). map v a ++ rest) put
+      ∙ (ap (λ (a : List (M × X)). a ++ rest) (map-append v out (t.0 ∷ []))
+      ∙ (append_assoc (map v out) (v t.0 ∷ []) rest
+      ∙ (ap (λ (a : List (M × X)). map v out ++ a) (sym h) ∙ so_far)))
+
+  -- and all is out
+  pub all_out : (out : List Y) (i j : ℕ) → Ending i j → Passing out i j → map v out ≡ merge S es fs
+  all_out out i j none so_far = sym (append-nil (map v out)) ∙ (ap (λ (a : List (M × X)). map v out ++ a) (sym none) ∙ so_far)
+
+module _ {K V M X : Type 0} (R : K → K → Ordering) (S : M → M → Ordering) (v : K × V → M × X) (by : (a b : K × V) → R a.0 b.0 ≡ S (v a).0 (v b).0) (es fs : List (M × X)) (i j : ℕ) where
+  stays : (n : ℕ) (xs : List (M × X)) → drop n xs ≡ drop (n + 0) xs
+  stays n xs = let same : n ≡ n + 0 = omega arith in ap (λ k. drop k xs) same
+
+  pub turn : (here there : Option (K × V)) → option_map v here ≡ slice_get es i → option_map v there ≡ slice_get fs j
+      → MatchOption (lower R here there) (Ending S v es fs i j) (Turn S v es fs i j)
+  turn None None a b = λ k. merge S (past_all es i (sym a) k) (past_all fs j (sym b) k)
+  turn (Some e) None a b =
+      (λ k. merge S (from_place es i (v e) (sym a) k) (past_all fs j (sym b) k)) ∙ ap (λ (r : List (M × X)). v e ∷ merge S (drop (i + 1) es) r) (sym (past_all fs j (sym b)) ∙ stays j fs)
+  turn None (Some f) a b =
+      (λ k. merge S (past_all es i (sym a) k) (from_place fs j (v f) (sym b) k)) ∙ ap (λ (l : List (M × X)). v f ∷ merge S l (drop (j + 1) fs)) (sym (past_all es i (sym a)) ∙ stays i es)
+  turn (Some e) (Some f) a b =
+      let es_on = from_place es i (v e) (sym a) in
+      let fs_on = from_place fs j (v f) (sym b) in
+      let one = v e ∷ merge S (drop (i + 1) es) (v f ∷ drop (j + 1) fs) in
+      let two = v e ∷ merge S (drop (i + 1) es) (drop (j + 1) fs) in
+      let three = v f ∷ merge S (v e ∷ drop (i + 1) es) (drop (j + 1) fs) in
+      let both : merge S (drop i es) (drop j fs) ≡ by_order (R e.0 f.0) one two three = (λ k. merge S (es_on k) (fs_on k)) ∙ ap (λ r. by_order r one two three) (sym (by e f)) in
+      elim (R e.0 f.0) as (λ r. merge S (drop i es) (drop j fs) ≡ by_order r one two three → MatchOption (by_order r (Some (e, 1, 0)) (Some (e, 1, 1)) (Some (f, 0, 1))) (Ending S v es fs i j) (Turn S v es fs i j)) [
+        | Less ↦ λ is. is ∙ ap (λ (r : List (M × X)). v e ∷ merge S (drop (i + 1) es) r) (sym fs_on ∙ stays j fs)
+        | Equal ↦ λ is. is
+        | Greater ↦ λ is. is ∙ ap (λ (l : List (M × X)). v f ∷ merge S l (drop (j + 1) fs)) (sym es_on ∙ stays i es)
+      ] both
+
+-- what holds of both next entries, holds of the lower
+pub lower_has : {K V : Type 0} (R : K → K → Ordering) (P : K × V → Type 0) (here there : Option (K × V)) → IfSome here P → IfSome there P → IfSome (lower R here there) (λ t. P t.0)
+lower_has R P None None p q = tt
+lower_has R P (Some e) None p q = p
+lower_has R P None (Some f) p q = q
+lower_has {K = K} {V = V} R P (Some e) (Some f) p q = elim (R e.0 f.0) as (λ r. IfSome {T = (K × V) × ℕ × ℕ} (by_order r (Some (e, 1, 0)) (Some (e, 1, 1)) (Some (f, 0, 1))) (λ t. P t.0)) [ Less ↦ p | Equal ↦ p | Greater ↦ q ]
+
+-- what a pass over the entries of two maps makes rises, and has the entries of both
+module _ {K X : Type 0} {R : K → K → Ordering} (o : IsTotalOrder R) (m n : FinMap R X) (all : List (K × X)) (h : all ≡ merge R (entries m) (entries n)) where
+  pub merge_rises : Rises R all
+  merge_rises = subst (Rises R) (sym h) (rises_merge o (entries m) (entries n) (entries_sorted m) (entries_sorted n))
+
+  pub merge_is : IsAntisymmetric R → from_sorted all ≡ merged m n
+  merge_is same = ap (from_sorted {R = R}) h ∙ (merged_from_sorted o same (entries m) (entries n) (entries_sorted m) (entries_sorted n) ∙ (λ i. merged (map_of (entries m) m refl i) (map_of (entries n) n refl i)))
