@@ -1,5 +1,5 @@
 -- What a binary search by key finds among entries whose keys rise: what the finite map of them has at the key.
-use Rattle.std.proofs.Common.{◌≡◌, refl, sym, ap, ◌∙◌, ℕ, zero, suc, ◌<◌, ◌≤◌, arith, false, cond, ◌⊎◌, T, List, [], ◌∷◌, map, length, get_or, Some, None, Result, Ok, Err, inl, inr}
+use Rattle.std.proofs.Common.{◌≡◌, refl, sym, ap, ◌∙◌, ℕ, zero, suc, ◌-◌, ◌<◌, ◌≤◌, arith, false, cond, ◌⊎◌, T, List, [], ◌∷◌, map, length, get_or, Some, None, Result, Ok, Err, inl, inr}
 use Rattle.std.specs.declared.cmp.Ordering.{Ordering}
 use Rattle.std.specs.declared.cmp.Ordering.TheVariants.{Less, Equal, Greater}
 use Rattle.std.specs.Ordering.{ordering_index, ordering_reverse, is_eq}
@@ -15,6 +15,19 @@ not_eq : (r : Ordering) → (r ≡ Equal → ⊥) → is_eq r ≡ false
 not_eq Less h = refl
 not_eq Equal h = absurd (h refl)
 not_eq Greater h = refl
+
+-- an answer no higher than one that is Less is Less
+no_less : (r s : Ordering) → ordering_index r ≤ ordering_index s → s ≡ Less → r ≡ Less
+no_less Less s l h = refl
+no_less Equal s l h = let is : ordering_index s ≡ 0 = ap ordering_index h in absurd (omega (arith, l, is))
+no_less Greater s l h = let is : ordering_index s ≡ 0 = ap ordering_index h in absurd (omega (arith, l, is))
+
+-- where the last element is below, all are, and a search ends behind them
+pub behind_all : {Y : Type 0} (cmp : Y → Ordering) (ys : List Y) (end : ℕ) → end ≡ length ys → 0 < end → ((d : Y) → cmp (get_or ys (end - 1) d) ≡ Less) → IsBinarySearchResult cmp ys (Err end)
+behind_all cmp ys end e some last rising = (
+  λ k d low inside. no_less (cmp (get_or ys k d)) (cmp (get_or ys (end - 1) d)) (rising k (end - 1) d (omega arith) (omega arith)) (last d),
+  λ k d high inside. absurd (omega arith),
+)
 
 module _ {K X Y : Type 0} {R : K → K → Ordering} (o : IsTotalOrder R) (v : Y → K × X) where
   -- a key that is below all is below each

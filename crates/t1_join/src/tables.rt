@@ -1,7 +1,7 @@
 //! Tables: finite maps, joined key by key.
-ghost use Rattle.std.specs.Prelude.{◌≡◌, ◌∷◌, ◌++◌, [], true, OnOk, OnErr, IfOk, IfSome, MatchOption};
+ghost use Rattle.std.specs.Prelude.{◌≡◌, ◌∷◌, ◌++◌, [], length, true, OnOk, OnErr, IfOk, IfSome, MatchOption};
 ghost use Rattle.std.specs.Option.{option_map, option_copied};
-ghost use Rattle.std.specs.List.Sorted.{IsStrictlySortedBy};
+ghost use Rattle.std.specs.List.Sorted.{IsStrictlySortedBy, IsBinarySearchResult, IsSearchInRange};
 ghost use Rattle.std.specs.Map.{keys_of};
 ghost use Rattle.std.specs.FinMap as fin;
 ghost use Rattle.t1_join.specs.Meaning.{meaning_cmp, same_meaning};
@@ -86,7 +86,7 @@ impl<K: Key + Drop, V: Kept + Drop> Table<K, V> {
             ≡ fin.insert self.old (K.meaning key) (V.meaning value)) }
         ensures err { OnErr result (self.new ≡ self.old) }
     {
-        match self.entries.binary_search_by(|entry| entry.0.cmp(&key)) {
+        match place_of(self.entries.as_slice(), &key) {
             Ok(at) => self.entries[at].1 = value,
             Err(at) => self.entries.insert(at, (key, value))?,
         }
@@ -155,6 +155,19 @@ impl<K: Key + Drop, V: Kept + Drop> Table<K, V> {
     {
         first_conflict(&self.entries, &other.entries)
     }
+}
+
+/// What a binary search for the key answers. A key above all entries, as each is of a table that is built upwards, is not
+/// searched for.
+fn place_of<K: Key, V>(entries: &[(K, V)], key: &K) -> Result<usize, usize>
+    ensures search { IsBinarySearchResult (λ e. K.cmp e.0 key.now) entries.now result }
+    ensures bound { IsSearchInRange result (length entries.now) }
+{
+    let end = entries.len();
+    if end > 0 && entries[end - 1].0.cmp(key).is_lt() {
+        return Err(end);
+    }
+    entries.binary_search_by(|entry| entry.0.cmp(key))
 }
 
 /// Whether each key is above the one before it.

@@ -10,11 +10,10 @@ ghost use Rattle.t1_subset.specs.Profile.{set_of};
 ghost use Rattle.t1_subset.specs.Shared.{same_number};
 ghost use Rattle.t1_subset.specs.Users.{user_meaning, unused, with_user, user_at};
 
-use crate::tables::put;
 use std::alloc::{AllocError, Global};
 use t1_font::Font;
 use t1_join::{Kept, Table};
-use t1_run::{Called, Subroutines};
+use t1_run::Called;
 
 /// The smallest glyph that executes a Subr, if one does.
 #[derive(Clone, Copy)]
@@ -47,20 +46,11 @@ impl<'a> Kept for User<'a> {
 /// font that declares many and has few takes no more room than its file.
 pub(crate) type Users<'a> = Table<u16, User<'a>>;
 
-/// Nobody, where there is a Subr.
-fn nobody<'a>(is_there: bool) -> Option<User<'a>>
-    ensures { option_map user_meaning result ≡ cond is_there (Some []) None }
-{
-    if is_there { Some(User::Nobody) } else { None }
-}
-
 /// How many Subrs the font has.
 fn subr_count(font: &Font<'_>) -> usize {
     let mut count: usize = 0;
-    'indices: for index in 0..font.count() {
-        if font.present(index) {
-            count = count.saturating_add(1);
-        }
+    'indices: for _index in font.indices() {
+        count = count.saturating_add(1);
     }
     count
 }
@@ -69,10 +59,9 @@ fn subr_count(font: &Font<'_>) -> usize {
 pub(crate) fn no_users<'a>(alloc: Global, font: &Font<'_>) -> Result<Users<'a>, AllocError>
     ensures { IfOk result (λ users. users ≡ numbered (unused font.now.subrs)) }
 {
-    font.proof_is_font();
     let mut users = Table::with_capacity(alloc, subr_count(font))?;
-    'indices: for index in 0..font.count() {
-        put(&mut users, index, nobody(font.present(index)))?;
+    'indices: for index in font.indices() {
+        users.insert(index, User::Nobody)?;
     }
     Ok(users)
 }

@@ -1,20 +1,23 @@
 -- The users of a font's Subrs, as the code notes them.
-use Rattle.std.proofs.Common.{◌≡◌, ℕ, Bool, true, false, cond, List, [], ◌∷◌, refl, sym, ◌∙◌, ap, true≢false, Option, Some, None, is_some, option_map}
+use Rattle.std.proofs.Common.{◌≡◌, ℕ, Bool, true, false, cond, List, [], ◌∷◌, map, refl, sym, ◌∙◌, ap, true≢false, Option, Some, None, is_some, option_map}
 use Rattle.std.specs.Cmp.Lexicographic.{nat_list_cmp_total}
 use Rattle.std.specs.Cmp.{nat_cmp_total}
 use Rattle.std.specs.FinMap as maps
 use Rattle.std.specs.FinSet.{nat_cmp-IsAntisymmetric}
-use Rattle.t1_join.specs.Meaning.{of_number}
+use Rattle.t1_join.specs.Meaning.{Meaning, of_number}
 use Rattle.t1_join.specs.Join.{State}
 use Rattle.t1_join.specs.TableMeaning.{TableMeaning}
+use Rattle.t1_font.specs.FontModel.{names_in}
 use Rattle.t1_font.specs.FontValue.{Numbered}
-use Rattle.t1_font.proofs.MapLemmas.{get-map_values}
+use Rattle.t1_font.proofs.MapLemmas.{get-map_values, entries-map_values}
+use Rattle.t1_subset.specs.Interpreter.{same_bytes}
 use Rattle.t1_subset.specs.States.{joined}
 use Rattle.t1_subset.specs.Shared.{same_number}
 use Rattle.t1_subset.specs.StateTables.{numbered, behind_mark}
 use Rattle.t1_subset.specs.Users.{unused, with_user, user_at}
-use Rattle.t1_subset.proofs.Sets.{tied}
-use Rattle.t1_subset.proofs.state_tables.Numbered.{get-numbered, by_number}
+use Rattle.t1_subset.proofs.Sets.{name_same, tied, itself, here}
+use Rattle.t1_subset.proofs.state_tables.Numbered.{entries-numbered, get-numbered, by_number}
+use Rattle.t1_subset.proofs.state_tables.TableStates.{Fills}
 
 -- ---- one user more
 
@@ -54,12 +57,26 @@ module _ (t : TableMeaning) (i : ℕ) (n : List ℕ) (q : ℕ) where
 
 -- ---- no users
 
-pub nobody_at : (m : Numbered) (i : ℕ) → cond (maps.contains_key m i) (Some []) None ≡ maps.get (unused m) i
-nobody_at m i = at (maps.get m i) ∙ sym (get-map_values nat_cmp_total nat_cmp-IsAntisymmetric (λ i c. []) m i)
+keys_numbered : (es : List (ℕ × List ℕ)) → map (λ (e : List ℕ × List ℕ). e.0) (map (λ (e : ℕ × List ℕ). (of_number e.0, e.1)) es) ≡ map of_number (map (λ (e : ℕ × List ℕ). e.0) es)
+keys_numbered [] = refl
+keys_numbered (e ∷ es) = ap (λ ks. of_number e.0 ∷ ks) (keys_numbered es)
+
+keys_unused : (es : List (ℕ × List ℕ)) → map (λ (e : ℕ × List ℕ). e.0) (map (λ (e : ℕ × List ℕ). (e.0, [])) es) ≡ map (λ (e : ℕ × List ℕ). e.0) es
+keys_unused [] = refl
+keys_unused (e ∷ es) = ap (λ ks. e.0 ∷ ks) (keys_unused es)
+
+-- the keys are the indices of the Subrs
+pub unused_keys : (m : Numbered) → names_in (numbered (unused m)) ≡ map of_number (maps.keys m)
+unused_keys m = ap (map (λ e. e.0)) (entries-numbered (unused m)) ∙ keys_numbered (maps.entries (unused m))
+    ∙ ap (λ (es : List (ℕ × List ℕ)). map of_number (map (λ e. e.0) es)) (entries-map_values nat_cmp_total nat_cmp-IsAntisymmetric (λ i c. []) m) ∙ ap (map of_number) (keys_unused (maps.entries m))
+
+-- nobody stands at each index that is there
+pub nobody_at : (m : Numbered) (t : TableMeaning) (i : ℕ) {left : List Meaning} → Fills (numbered (unused m)) t (of_number i ∷ left) → maps.get (numbered (unused m)) (of_number i) ≡ Some []
+nobody_at m t i {left} h = at (maps.get m i) (maps.get (numbered (unused m)) (of_number i)) (get-numbered (unused m) (of_number i) ∙ get-map_values nat_cmp_total nat_cmp-IsAntisymmetric (λ i c. []) m i) (h.there (of_number i) (here (same_bytes (of_number i)) (of_number i) left (itself nat_list_cmp_total name_same (of_number i))))
   where
-    at : (x : Option (List ℕ)) → ◌≡◌ {A = Option (List ℕ)} (cond (is_some x) (Some []) None) (option_map (λ c. []) x)
-    at None = refl
-    at (Some c) = refl
+    at : (x y : Option (List ℕ)) → y ≡ option_map (λ c. []) x → is_some y ≡ true → y ≡ Some []
+    at None y e h = absurd (true≢false (sym h ∙ ap is_some e))
+    at (Some c) y e h = e
 
 module _ (m : Numbered) (t : TableMeaning) (is : t ≡ numbered (unused m)) (i : ℕ) where
   unused_at : maps.get t (of_number i) ≡ option_map (λ c. []) (maps.get m i)

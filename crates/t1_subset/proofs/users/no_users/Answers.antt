@@ -1,24 +1,25 @@
-use Rattle.std.proofs.Common.{◌∙◌, ap, arith, refl, [], cond, Some, None, option_map}
-use Rattle.std.specs.FinMap as maps
-use Rattle.std.specs.Cmp.{nat_cmp_total}
-use Rattle.std.specs.FinSet.{nat_cmp-IsAntisymmetric}
-use Rattle.t1_font.proofs.MapLemmas.{get-map_values}
+use Rattle.std.proofs.Common.{ℕ, List, map, ap, sym, subst, ◌∙◌}
+use Rattle.std.proofs.lemmas.Map.Iter.{rest_more, rest_all}
+use Rattle.t1_join.specs.Meaning.{of_number}
+use Rattle.t1_join.specs.TableLaws.{same_table}
+use Rattle.t1_subset.specs.StateTables.{numbered}
 use Rattle.t1_subset.specs.Users.{unused}
-use Rattle.t1_subset.proofs.state_tables.FirstConflicts.{absent_beyond}
-use Rattle.t1_subset.proofs.state_tables.FontUsers.{nobody_at}
-use Rattle.t1_subset.proofs.state_tables.ByNumber.{has_none, has_next, has_all}
+use Rattle.t1_subset.proofs.state_tables.FontUsers.{unused_keys, nobody_at}
+use Rattle.t1_subset.proofs.state_tables.TableStates.{Fills, fills_none, fills_more, fills_all}
 use Rattle.t1_subset.proofs.users.no_users.Goals as goal
 
 pub indices-init : goal.indices-init
-indices-init c = has_none _ (maps.get (unused c.args.font.now.subrs)) c.in_ok-users.ensures
+indices-init c =
+    let m = c.args.font.now.subrs in
+    fills_none (numbered (unused m)) _ _ c.in_ok-users.ensures (ap (map of_number) (c.into_iter-index-iterator.ensures.into_iter_gives ∙ c.indices-index-items.ensures) ∙ sym (unused_keys m))
 
 pub indices-preserved : goal.indices-preserved
 indices-preserved c =
-    let m = c.args.font.now.subrs in let i = c.indices.index in
-    has_next c.indices.users (maps.get (unused m)) i c.indices.invariant c.put.new.table _ c.in_ok-put.ensures (c.nobody.ensures ∙ ap (λ b. cond b (Some []) None) c.present.ensures ∙ nobody_at m i)
+    let m = c.args.font.now.subrs in
+    let left = subst (λ (is : List ℕ). Fills (numbered (unused m)) c.indices.users (map of_number is)) (rest_more (λ (i : ℕ). i) _ _ _ _ c.in-Some.is c.next.ensures.steps) c.indices.invariant in
+    fills_more (numbered (unused m)) c.indices.users c.insert.new.self (of_number c.in-Some.index) _ _ left (nobody_at m _ _ left) c.in_ok-insert.ensures.ok
 
 pub returns : goal.returns
 returns c =
-    let f = c.args.font.now in
-    has_all c.indices.users (maps.get (unused f.subrs)) c.indices.index c.indices.invariant
-    (λ i l. get-map_values nat_cmp_total nat_cmp-IsAntisymmetric (λ i c. []) f.subrs i ∙ ap (option_map (λ c. [])) (absent_beyond f c.proof_is_font.ensures i (let t = c.indices-test.false in omega (arith, c.count-index-end.ensures)))) (unused f.subrs) (λ i. refl)
+    let m = c.args.font.now.subrs in
+    same_table c.indices.users (numbered (unused m)) (fills_all (numbered (unused m)) c.indices.users _ c.indices.invariant (ap (map of_number) (rest_all (λ (i : ℕ). i) _ _ _ c.in-None.is c.next.ensures.steps)))
