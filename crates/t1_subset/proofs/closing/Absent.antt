@@ -1,4 +1,4 @@
--- Where no name is absent, each is the font's.
+-- If no name is absent, each is a name of the font.
 use Rattle.std.proofs.Common.{◌≡◌, ℕ, not, List, None}
 use Rattle.std.specs.Cmp.Lexicographic.{nat_list_cmp_total}
 use Rattle.std.specs.FinSet as sets

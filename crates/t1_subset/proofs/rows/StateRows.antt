@@ -82,14 +82,14 @@ module _ (e : Encoding) (ss : List (ℕ × List ℕ)) (es : List (List ℕ × Li
 abbrev standard : Encoding
 standard = Word (codes "StandardEncoding")
 
--- `return` that no glyph executes
+-- a `return` that no glyph executes is the bottom
 state_0 : maps.get (subr_part (states_of spelled small)) (of_number 0) ≡ None
 state_0 = subr_listed standard subrs glyphs tt tt 0 ∙ refl
 
 state_5 : maps.get (subr_part (states_of spelled small)) (of_number 5) ≡ Some (12 ∷ [])
 state_5 = subr_listed standard subrs glyphs tt tt 5 ∙ refl
 
--- `return` that B executes
+-- a `return` that B executes is a state
 state_7 : maps.get (subr_part (states_of spelled small)) (of_number 7) ≡ Some stub
 state_7 = subr_listed standard subrs glyphs tt tt 7 ∙ refl
 
@@ -99,7 +99,7 @@ state_6 = subr_listed standard subrs glyphs tt tt 6 ∙ refl
 state_A : maps.get (name_part (states_of spelled small)) (codes "A") ≡ Some (name_meaning (Some (5 ∷ [])))
 state_A = name_listed standard subrs glyphs tt tt (codes "A") ∙ refl
 
--- sought by V
+-- Z is sought by V
 state_Z : maps.get (name_part (states_of spelled small)) (codes "Z") ≡ Some (name_meaning None)
 state_Z = name_listed standard subrs glyphs tt tt (codes "Z") ∙ refl
 
@@ -236,7 +236,7 @@ index_lacks = conflicts_are standard standard ((0, stub) ∷ []) [] ((notdef, []
     (passes_none (code_clashes (font_of standard ((0, stub) ∷ []) ((notdef, []) ∷ [])) (font_of standard [] ((notdef, []) ∷ []))) (members (codes_of_both standard standard)) (λ c. refl))
     ∙ refl
 
--- V without its component A, as a cut of another font might have it
+-- V without its component A, as a cut of another font may have it
 abbrev V_alone : List (List ℕ × List ℕ)
 V_alone = (notdef, []) ∷ (codes "V", codes "AZ") ∷ []
 
@@ -252,7 +252,7 @@ B_differs = lowest (font_of standard subrs A_and_B) (font_of standard subrs othe
 V_lacks_A : conflict spelled (font_of standard subrs V_alone) (font_of standard subrs A_and_B) ≡ Some (LacksComponent (codes "V") (codes "A"))
 V_lacks_A = lowest (font_of standard subrs V_alone) (font_of standard subrs A_and_B) (LacksComponent (codes "V") (codes "A")) (in_both subrs subrs V_alone A_and_B tt tt tt tt refl ∙ refl)
 
--- 5 is another charstring, that A executes; 0 is told by no glyph
+-- another charstring at index 5, which A executes
 abbrev other_5 : List (ℕ × List ℕ)
 other_5 = (0, stub) ∷ (5, 13 ∷ []) ∷ (7, stub) ∷ (8, stub) ∷ []
 
@@ -268,7 +268,7 @@ other_at_0 = (0, 13 ∷ []) ∷ (5, 12 ∷ []) ∷ (7, stub) ∷ (8, stub) ∷ [
 no_user_of_0 : conflict spelled (font_of standard two_at_0 glyphs) (font_of standard other_at_0 A_and_B) ≡ Some (SubrDiffers 0 None)
 no_user_of_0 = lowest (font_of standard two_at_0 glyphs) (font_of standard other_at_0 A_and_B) (SubrDiffers 0 None) (in_both two_at_0 other_at_0 glyphs A_and_B tt tt tt tt refl ∙ refl)
 
--- a stub that no glyph of its font executes gives way, 7 here and 5 there
+-- a stub that no glyph of its font executes gives way: 7 in one font and 5 in the other
 abbrev cut_to_A : List (ℕ × List ℕ)
 cut_to_A = (0, stub) ∷ (5, 12 ∷ []) ∷ (7, stub) ∷ []
 
@@ -284,7 +284,7 @@ B_alone = (notdef, []) ∷ (codes "B", 7 ∷ []) ∷ []
 cuts_agree : states_conflict spelled (font_of standard cut_to_A A_alone) (font_of standard cut_to_B B_alone) ≡ None
 cuts_agree = in_both cut_to_A cut_to_B A_alone B_alone tt tt tt tt refl ∙ refl
 
--- but not one that is executed
+-- a stub that is executed doesn't give way
 stub_is_used : conflict spelled (font_of standard cut_to_A A_and_B) (font_of standard cut_to_B B_alone) ≡ Some (SubrDiffers 7 (Some (codes "B")))
 stub_is_used = lowest (font_of standard cut_to_A A_and_B) (font_of standard cut_to_B B_alone) (SubrDiffers 7 (Some (codes "B"))) (in_both cut_to_A cut_to_B A_and_B B_alone tt tt tt tt refl ∙ refl)
 
