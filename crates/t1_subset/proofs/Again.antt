@@ -153,10 +153,12 @@ module _ {O : Type 0} (m : Interpreter O) (f : FontValue) (base : has f notdef �
           | inr y ↦ kept_call m sub b i y.0 (ap (λ s. sets.contains s y.0) keep_again ∙ y.1) (ap (λ s. sets.contains s i) (calls_same y.0 (keep_less y.0 y.1)) ∙ y.2)
         ])
 
+    -- a subset of a subset is the font's own subset
     pub subset_again : subset m sub b ≡ subset m f b
     subset_again =
         (λ i. restrict (sets.contains (keep_again i)) (sets.contains (kept_again i)) sub)
         ∙ restrict_twice (sets.contains (keep m f b)) (sets.contains (keep m f a)) (sets.contains (kept m f b)) (sets.contains (kept m f a)) f keep_less (kept_more m f b a keep_less)
 
+  -- the subset of a subset over the same names is the subset itself
   pub subset_itself : subset m sub a ≡ subset m f a
   subset_itself = subset_again a (λ n h. keep_in n ((keep_closed m f a base inside).asked n h))

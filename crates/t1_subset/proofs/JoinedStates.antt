@@ -70,9 +70,11 @@ module _ {O : Type 0} (m : Interpreter O) (f g : FontValue) where
   abbrev pub entry : ℕ → List ℕ
   entry i = unwrap_or (joined (subr_state m f i) (subr_state m g i)) stub
 
+  -- the join has its entry at each index of the first font
   pub subr_in_join : (i : ℕ) → maps.get (joined_font m f g).subrs i ≡ option_map (λ v. entry i) (maps.get f.subrs i)
   subr_in_join i = get-map_values nat_cmp_total nat_cmp-IsAntisymmetric (λ i v. entry i) f.subrs i
 
+  -- the join has the charstring of either font at each name
   pub glyph_in_join : (n : List ℕ) → maps.get (joined_font m f g).glyphs n ≡ joined (maps.get f.glyphs n) (maps.get g.glyphs n)
   glyph_in_join n = get-merged nat_list_cmp_total name_same f.glyphs g.glyphs n
 
@@ -226,6 +228,7 @@ code_joined (Word v) (Codes t) h c = absurd h
 code_joined (Codes s) (Word w) h c = absurd h
 code_joined (Codes s) (Codes t) h c = get-merged nat_cmp_total nat_cmp-IsAntisymmetric s t c
 
+-- another value leaves an option present
 pub is_some_map : {X Y : Type 0} (y : Y) (x : Option X) → is_some (option_map (λ v. y) x) ≡ is_some x
 is_some_map y None = refl
 is_some_map y (Some v) = refl

@@ -7,6 +7,7 @@ use Rattle.t1_font.specs.Maps.{merged}
 use Rattle.t1_font.proofs.MapLemmas as cuts
 use Rattle.t1_subset.specs.States.{joined}
 
+-- what passes the test of less is less
 pub less_of : (r : Ordering) → is_lt r ≡ true → r ≡ Less
 less_of Less h = refl
 less_of Equal h = absurd (true≢false (sym h))

@@ -14,10 +14,12 @@ use Rattle.t1_subset.specs.States.{joined}
 use Rattle.t1_subset.proofs.Maps.{get-merged, maps_same}
 use Rattle.t1_subset.proofs.Sets.{or_cases, tied}
 
+-- a test whose negation fails passes
 pub not_false : (b : Bool) → not b ≡ false → b ≡ true
 not_false true h = refl
 not_false false h = absurd (true≢false h)
 
+-- the negation of a test that passes fails
 pub false_of : (b : Bool) → b ≡ true → not b ≡ false
 false_of true h = refl
 false_of false h = absurd (true≢false (sym h))

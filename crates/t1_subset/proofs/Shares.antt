@@ -30,6 +30,7 @@ test_back t so self x y =
 -- ---- each test decides
 
 module _ {X : Type 0} (t : X → X → Bool) where
+  -- a test passes exactly if both values are equal
   pub record Decides : Type 0 where
     pub so : (x y : X) → t x y ≡ true → x ≡ y
     pub self : (x : X) → t x x ≡ true

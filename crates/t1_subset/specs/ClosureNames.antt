@@ -13,5 +13,6 @@ abbrev pub push_all : List (List ℕ) → List (List ℕ) → List (List ℕ)
 push_all ns [] = ns
 push_all ns (p ∷ ps) = push_all (push_new ns p) ps
 
+-- how a list of names is coded
 abbrev pub closure_code : Coded (List (List ℕ))
 closure_code = coded_list (coded_list coded_ℕ)

@@ -23,6 +23,7 @@ shell_part part.Middle = Middle
 shell_part part.GlyphsWords = GlyphsWords
 shell_part part.Tail = Tail
 
+-- the bytes of a vector
 abbrev pub bytes_of : Vec ℕ → List ℕ
 bytes_of v = v.items
 

@@ -18,6 +18,7 @@ lent ns = map (λ n. n.now) ns
 abbrev pub asked : List (Bor (List ℕ)) → Names
 asked ns = sets.from_list (lent ns)
 
+-- how a set of names is coded
 abbrev pub names_code : Coded Names
 names_code = sets.code (coded_list coded_ℕ)
 

@@ -19,6 +19,7 @@ use Rattle.t1_subset.specs.Interpreter.{Interpreter, Numbers}
 pub in_set_of : (indices : List ℕ) (i : ℕ) → Contains indices i → sets.contains (sets.from_list {R = nat_cmp} indices) i ≡ true
 in_set_of indices i h = sets.contains-from_list nat_cmp_total indices i ∙ list_any-from_Contains (eq_by_cmp_equiv nat_cmp_total) i indices h
 
+-- the set of a list of indices
 abbrev pub set_of : List ℕ → Numbers
 set_of indices = sets.from_list indices
 
@@ -26,6 +27,7 @@ set_of indices = sets.from_list indices
 abbrev pub Endings : Type 0
 Endings = Ending × Ending
 
+-- what a charstring comes to over these Subrs, by both answers to hint replacement
 abbrev pub endings : Numbered → List ℕ → Endings
 endings s c = (direct (maps.get s) c, direct3 (maps.get s) c)
 

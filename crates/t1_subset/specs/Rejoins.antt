@@ -58,10 +58,11 @@ pub record IsTruncated (f : FontValue) (t : Truncated) : Type 0 where
 abbrev pub fonts_of : List Truncated → List FontValue
 fonts_of ts = map (λ t. t.font) ts
 
+-- the sets of names of a list of truncated subsets
 abbrev pub sets_of : List Truncated → List Names
 sets_of ts = map (λ t. t.names) ts
 
--- all their names together
+-- all names of a list of truncated subsets
 abbrev pub names_of_all : List Truncated → Names
 names_of_all ts = union_all (sets_of ts)
 

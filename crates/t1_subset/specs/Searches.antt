@@ -12,6 +12,7 @@ first_where p (x ∷ xs) = cond (p x) (Some x) (first_where p xs)
 abbrev pub KeySet : {K : Type 0} → (K → K → Ordering) → Type 0
 KeySet R = maps.FinMap R ℕ
 
+-- the keys of a set, upwards
 abbrev pub members : {K : Type 0} {R : K → K → Ordering} → maps.FinMap R ℕ → List K
 members s = map (λ e. e.0) (maps.entries s)
 

@@ -13,6 +13,7 @@ use Rattle.t1_subset.specs.Searches.{first_where}
 abbrev pub Shared : Type 0
 Shared = Shell × (Option (List ℕ) × List ℕ)
 
+-- how the shared value is coded
 abbrev pub shared_code : Coded Shared
 shared_code = coded× shell_code (coded× (coded_option bytes_code) bytes_code)
 
@@ -32,14 +33,17 @@ pub data ShellPart : Type 0 where
   GlyphsWords : ShellPart
   Tail : ShellPart
 
+-- all parts of a shell, in their order
 abbrev pub all_parts : List ShellPart
 all_parts = Head ∷ EncodingPart ∷ ClearTail ∷ Private ∷ SubrsTable ∷ SubrsWords ∷ Middle ∷ GlyphsWords ∷ Tail ∷ []
 
 -- ---- tests
 
+-- two numbers are the same
 abbrev pub same_number : ℕ → ℕ → Bool
 same_number = eq_by_cmp nat_cmp
 
+-- two truth values are the same
 abbrev pub same_bool : Bool → Bool → Bool
 same_bool a b = cond a b (not b)
 

@@ -16,9 +16,11 @@ use Rattle.t1_subset.specs.Shared.{Shared}
 abbrev pub PartsAgree : StatesValue → StatesValue → Type 0
 PartsAgree = BothAgree Same (BothAgree TablesAgree (BothAgree TablesAgree TablesAgree))
 
+-- joins part by part keep the laws of joins
 pub parts_laws : JoinLaws PartsAgree PartsJoin
 parts_laws = both_laws same_laws (both_laws table_laws (both_laws table_laws table_laws))
 
+-- what agrees with two values part by part agrees with their join
 pub parts_by_pairs : AgreesByPairs PartsAgree PartsJoin
 parts_by_pairs = both_by_pairs same_by_pairs (both_by_pairs table_by_pairs (both_by_pairs table_by_pairs table_by_pairs))
 
@@ -35,5 +37,6 @@ lighter x y z h = subst (λ (s : Shared). states_weight x ≤ shared_weight s + 
 pub falls : (x y z : StatesValue) → PartsJoin x y z → StatesFit z → StatesFit x
 falls x y z h w = record { weight = le_trans (lighter x y z h) w.weight; glyphs = le_trans (grows name_counts (name_part x) (name_part y) (name_part z) h.1.1.0) w.glyphs }
 
+-- joins of states keep the laws of joins
 pub states_laws : JoinLaws StatesAgree StatesJoin
 states_laws = fitting_laws parts_laws StatesFit falls

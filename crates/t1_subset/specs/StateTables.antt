@@ -18,15 +18,19 @@ use Rattle.t1_subset.specs.Shared.{Shared, shared_code, shared_of}
 abbrev pub StatesValue : Type 0
 StatesValue = Shared × (TableMeaning × (TableMeaning × TableMeaning))
 
+-- the states of the codes
 abbrev pub code_part : StatesValue → TableMeaning
 code_part s = s.1.0
 
+-- the states of the names
 abbrev pub name_part : StatesValue → TableMeaning
 name_part s = s.1.1.0
 
+-- the states of the Subrs
 abbrev pub subr_part : StatesValue → TableMeaning
 subr_part s = s.1.1.1
 
+-- how the states of a font are coded
 abbrev pub states_code : Coded StatesValue
 states_code = coded× shared_code (coded× table_code (coded× table_code table_code))
 
@@ -116,6 +120,7 @@ PartsJoin = BothJoin SameJoin (BothJoin TablesJoin (BothJoin TablesJoin TablesJo
 abbrev pub StatesAgree : StatesValue → StatesValue → Type 0
 StatesAgree = FittingAgree PartsJoin StatesFit
 
+-- states join to a value part by part, and the value is within the limits, or both states are the value
 abbrev pub StatesJoin : StatesValue → StatesValue → StatesValue → Type 0
 StatesJoin = FittingJoin PartsJoin StatesFit
 

@@ -77,6 +77,7 @@ module _ {O : Type 0} (m : Interpreter O) where
     abbrev pub entry_state : ℕ → List ℕ → Option (List ℕ)
     entry_state i c = cond (is_stub c && not (is_called i)) None (Some c)
 
+    -- the state of an index with this entry
     abbrev pub state_of_entry : ℕ → Option (List ℕ) → Option (List ℕ)
     state_of_entry i None = None
     state_of_entry i (Some c) = entry_state i c

@@ -10,6 +10,7 @@ use Rattle.t1_subset.specs.declared.users.User.{User}
 use Rattle.t1_subset.specs.declared.users.User.TheVariants.{Nobody, Glyph}
 use Rattle.t1_subset.specs.StateTables.{name_meaning, behind_mark}
 
+-- the meaning of a user: nothing for nobody, else a mark and the name of the glyph
 abbrev pub user_meaning : User → Meaning
 user_meaning Nobody = name_meaning None
 user_meaning (Glyph n) = name_meaning (Some n.now)

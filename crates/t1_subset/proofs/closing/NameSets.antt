@@ -18,6 +18,7 @@ or_same false false c e = refl
 or_same true false c e = cc
 or_same false true c e = cc
 
+-- a condition added later may be added first
 pub or_later : (a b c : Bool) → (a || (b || c)) ≡ (b || (a || c))
 or_later true true c = refl
 or_later true false c = refl

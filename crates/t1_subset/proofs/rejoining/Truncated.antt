@@ -182,6 +182,7 @@ no_entries : (s : Shell) (o : Option SubrsShell) (m : Numbered) → SubrsFit s o
 no_entries s None m h e = h.0
 no_entries s (Some t) m h e = no_words (maps.entries m) t h.words e.0
 
+-- a map without entries has nothing at any key
 pub get_nothing : (m : Numbered) → maps.entries m ≡ [] → (q : ℕ) → maps.get m q ≡ None
 get_nothing m e q = maps.get-entries m q ∙ ap (maps.find nat_cmp q) e
 

@@ -70,6 +70,7 @@ all_sets p (n ∷ ns) =
 
 -- ---- small fonts, and an interpreter to whom each byte of a charstring is an index that is executed, and a component of this one letter
 
+-- the bytes of a charstring, each as a name of one letter
 abbrev pub letters : List ℕ → List (List ℕ)
 letters c = map (λ b. b ∷ []) c
 
@@ -77,9 +78,11 @@ letters c = map (λ b. b ∷ []) c
 abbrev pub spelled : Interpreter (List ℕ)
 spelled = record { direct = λ s c. c; exec = λ s c. sets.from_list c; names = letters; local = λ s t c h. (refl, refl) }
 
+-- a shell with this head and lenIV and nothing else
 abbrev pub shell_of : List ℕ → ℕ → Shell
 shell_of head len_iv = record { head = head; clear_tail = []; private = []; middle = []; tail = []; len_iv = len_iv; subrs = None; glyphs_rd = []; glyphs_def = [] }
 
+-- the font of this Encoding, these Subrs and these glyphs
 abbrev pub font_of : Encoding → List (ℕ × List ℕ) → List (List ℕ × List ℕ) → FontValue
 font_of e ss es = record { shell = shell_of [] 4; encoding = e; subrs = maps.from_sorted ss; glyphs = maps.from_sorted es }
 
@@ -88,9 +91,11 @@ abbrev pub at_name : List (List ℕ × List ℕ) → List ℕ → Option (List �
 at_name es n = find name_cmp n es
 
 module _ (e : Encoding) (ss : List (ℕ × List ℕ)) (es : List (List ℕ × List ℕ)) (h : T (is_sorted name_cmp es)) where
+  -- a font of a list has the charstrings of the list
   pub glyph_listed : (n : List ℕ) → maps.get (font_of e ss es).glyphs n ≡ at_name es n
   glyph_listed n = maps.get-from_sorted name_cmp es n h
 
+  -- a font of a list has the names of the list
   pub has_listed : (n : List ℕ) → has (font_of e ss es) n ≡ is_some (at_name es n)
   has_listed n = ap is_some (glyph_listed n)
 

@@ -99,10 +99,12 @@ lone (f ∷ g ∷ fs) d l = absurd (omega arith)
 pub one_merges : (fs : List FontValue) (f d j : FontValue) → length fs ≡ 1 → f ≡ get_or fs 0 d → j ≡ f → SomeGroupingMerges fs j
 one_merges fs f d j l e is = (one j, ap (λ (g : FontValue). g ∷ []) (is ∙ e) ∙ lone fs d l, refl)
 
+-- an answer for a list of one font is what some grouping merges to
 pub one_ok : (fs : List FontValue) (f d : FontValue) → length fs ≡ 1 → f ≡ get_or fs 0 d → (r : Result FontValue Refusal) → IfOk r (λ j. j ≡ f) → IfOk r (λ j. SomeGroupingMerges fs j)
 one_ok fs f d l e (Ok j) h = one_merges fs f d j l e h
 one_ok fs f d l e (Err c) h = tt
 
+-- a list of two fonts has its first and its second
 pub pair : (fs : List FontValue) (f g d d2 : FontValue) → length fs ≡ 2 → f ≡ get_or fs 0 d → g ≡ get_or fs 1 d2 → f ∷ g ∷ [] ≡ fs
 pair [] f g d d2 l e k = absurd (omega (arith, l))
 pair (a ∷ []) f g d d2 l e k = absurd (omega (arith, l))
@@ -121,6 +123,7 @@ comes_to (f ∷ fs) l w j h =
     any_order profile h.0 (from_left (one f) fs) (subst (IsPermutation (leaves h.0)) same (IsPermutation-refl (leaves h.0)))
     (each_leaf IsWithin h.0 (subst (AllByRecursion IsWithin) (sym h.1) (all_within (f ∷ fs) w))) j h.2
 
+-- an answer that some grouping merges to is what the fonts come to from left to right
 pub comes_ok : (fs : List FontValue) → 0 < length fs → AllByRecursion IsFont fs → (r : Result FontValue Refusal) → IfOk r (λ j. SomeGroupingMerges fs j) → IfOk r (λ j. ComesTo fs j)
 comes_ok fs l w (Ok j) h = comes_to fs l w j h
 comes_ok fs l w (Err c) h = tt
@@ -130,6 +133,7 @@ pub refused_memory : (fs : List FontValue) → 0 < length fs → (e : Refusal) �
 refused_memory [] l e h = absurd (omega arith)
 refused_memory (f ∷ fs) l e h = inl h
 
+-- a refusal for want of memory alone is a refusal of one or more fonts
 pub refused_err : (fs : List FontValue) → 0 < length fs → (r : Result FontValue Refusal) → IfErr r (λ e. e ≡ Memory) → IfErr r (λ e. IsRefused fs e)
 refused_err fs l (Ok j) h = tt
 refused_err fs l (Err c) h = refused_memory fs l c h

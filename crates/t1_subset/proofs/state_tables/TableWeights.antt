@@ -85,6 +85,7 @@ module _ {K X : Type 0} {R : K → K → Ordering} (o : IsTotalOrder R) (w : K �
 pub total-new : {K X : Type 0} {R : K → K → Ordering} (w : K → X → ℕ) (m : maps.FinMap R X) (e : K × X) (es : List (K × X)) → total w (new_entries m (e ∷ es)) ≡ cond (maps.contains_key m e.0) 0 (w e.0 e.1) + total w (new_entries m es)
 total-new w m e es = elim (maps.contains_key m e.0) as (λ b. total w (cond (not b) (e ∷ new_entries m es) (new_entries m es)) ≡ cond b 0 (w e.0 e.1) + total w (new_entries m es)) [ true ↦ omega arith | false ↦ omega arith ]
 
+-- a copy of what is borrowed is there if it is
 pub some_copied : {V : Type 0} {X : Type 0} (f : V → X) (r : Option (Bor V)) → is_some r ≡ is_some (option_map f (option_copied r))
 some_copied f None = refl
 some_copied f (Some v) = refl

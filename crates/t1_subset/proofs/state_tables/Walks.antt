@@ -87,6 +87,7 @@ each_merges (f ∷ fs) j w h t e =
 
 -- ---- what is noted of each font
 
+-- the fonts of callers that are noted are fonts
 pub all_fonts : (cs : List Callers) → AreNoted cs → AllByRecursion IsFont (fonts_of cs)
 all_fonts [] h = tt
 all_fonts (c ∷ cs) h = (h.0.0, all_fonts cs h.1)
@@ -157,15 +158,19 @@ ends cs h i l s far = each_merges (fonts_of cs) far.font (all_fonts cs h) (subst
 pub noted_more : (cs : List Callers) (c : Callers) (f : FontValue) → AreNoted cs → IsFont f → c.font.now ≡ f → AreCallersOf c f → AreNoted (cs ++ c ∷ [])
 noted_more cs c f h w e k = all_of_both _ cs (c ∷ []) h ((subst IsFont (sym e) w, subst (AreCallersOf c) (sym e) k), tt)
 
+-- the callers of one more font are of one more font of the list
 pub fonts_more : (fs : List FontValue) (i : ℕ) (f : FontValue) → i < length fs → f ≡ get_or fs i f → (cs : List Callers) (c : Callers) → fonts_of cs ≡ take i fs → c.font.now ≡ f → fonts_of (cs ++ c ∷ []) ≡ take (i + 1) fs
 fonts_more fs i f l e cs c h k = map-append _ cs (c ∷ []) ∙ (λ j. h j ++ k j ∷ []) ∙ sym (take_more fs i f l ∙ ap (λ (x : FontValue). take i fs ++ x ∷ []) (sym e))
 
+-- if there are fonts, there are callers
 pub some_noted : (fs : List FontValue) (cs : List Callers) → fonts_of cs ≡ fs → 0 < length fs → 0 < length cs
 some_noted fs cs h l = let n = ap length h in let m = length-map cs (λ (c : Callers). c.font.now) in omega (arith, n, m, l)
 
+-- if there are callers, there are fonts
 pub some_fonts : (cs : List Callers) → 0 < length cs → 0 < length (fonts_of cs)
 some_fonts cs l = let m = length-map cs (λ (c : Callers). c.font.now) in omega (arith, m, l)
 
+-- if the callers of all fonts are noted, all are fonts
 pub font_list : (fs : List FontValue) (cs : List Callers) → fonts_of cs ≡ fs → AreNoted cs → AllByRecursion IsFont fs
 font_list fs cs e h = subst (AllByRecursion IsFont) e (all_fonts cs h)
 
