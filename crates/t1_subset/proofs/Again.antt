@@ -31,7 +31,7 @@ cut_twice true true x h = refl
 cut_twice true false x h = clash true refl (sym (h refl))
 cut_twice false l x h = refl
 
--- a stub in place of an entry stays where the narrower test puts one
+-- stubs put in place of entries by both tests are those of the narrower test
 stub_twice : (k l : Bool) (x : Option (List ℕ)) → (k ≡ true → l ≡ true) → option_map (λ c. cond k c stub) (option_map (λ c. cond l c stub) x) ≡ option_map (λ c. cond k c stub) x
 stub_twice k l None h = refl
 stub_twice true true (Some c) h = refl

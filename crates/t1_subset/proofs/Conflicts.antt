@@ -67,7 +67,7 @@ module _ {O : Type 0} (m : Interpreter O) where
   -- ---- from no conflict to the join
 
   module _ (f g : FontValue) where
-    -- a key that neither has, or that only one has, does not clash
+    -- a key that neither map has is not in conflict
     out_of_both : {K : Type 0} {R : K → K → Ordering} (o : IsTotalOrder R) (same : IsAntisymmetric R) (a b : maps.FinMap R (List ℕ)) (q : K) → maps.contains_key (keys_of_both a b) q ≡ false → agrees (maps.get a q) (maps.get b q) ≡ true
     out_of_both o same a b q h = agrees_none (maps.get a q) (maps.get b q) (not_so (maps.contains_key b q) (λ k. clash (maps.contains_key (keys_of_both a b) q) (in_both o same a b q ∙ or_right (maps.contains_key a q) (maps.contains_key b q) k) h))
 
@@ -87,7 +87,7 @@ module _ {O : Type 0} (m : Interpreter O) where
       | inr k ↦ out_of_both nat_list_cmp_total name_same f.glyphs g.glyphs n k
     ]
 
-    -- where there is no entry, the state is the bottom
+    -- if there is no entry, the state is the bottom
     no_state : (i : ℕ) (x : Option (List ℕ)) → is_some x ≡ false → is_some (state_of_entry m g i x) ≡ false
     no_state i None h = refl
     no_state i (Some c) h = absurd (true≢false h)
@@ -244,7 +244,7 @@ within_so m f g h = record {
 so_within : {O : Type 0} (m : Interpreter O) (f g : FontValue) → IsWithin (joined_font m f g) → is_within m f g ≡ true
 so_within m f g w = and_so (nat_le (weight (joined_font m f g)) weight_limit) (nat_le (maps.len (joined_font m f g).glyphs) count_limit) (le-leb _ _ w.weight) (le-leb _ _ w.glyphs)
 
--- where no conflict is over the limits, the test has passed
+-- if no conflict over the limits is told, the test of the limits has passed
 over_none : (b : Bool) → ◌≡◌ {A = Option Conflict} (cond b None (Some OverLimit)) None → b ≡ true
 over_none true h = refl
 over_none false h = Some_None h

@@ -18,7 +18,7 @@ use Rattle.t1_subset.proofs.Kept.{InFont, keep_closed, kept_call, component_here
 use Rattle.t1_subset.proofs.Uses.{caller, seeker}
 use Rattle.t1_subset.proofs.Sets.{clash, is_or_not, not_so, name_same}
 
--- ---- what a name of a stub says
+-- ---- stubs and entries
 
 -- what passes the test of stubs is the stub
 pub stub_is : (c : List ℕ) → is_stub c ≡ true → c ≡ stub

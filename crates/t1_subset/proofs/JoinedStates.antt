@@ -1,4 +1,4 @@
--- The states of a join are the joined states, and each side runs in it as before.
+-- The states of a join are the joined states, and the glyphs of each font run in it as before.
 use Rattle.std.proofs.Common.{◌≡◌, ℕ, Bool, true, false, cond, not, ◌&&◌, ◌||◌, List, refl, sym, ◌∙◌, ap, true≢false, Option, Some, None, is_some, unwrap_or, option_map}
 use Rattle.std.specs.List.{list_any}
 use Rattle.std.specs.Cmp.{nat_cmp_total}

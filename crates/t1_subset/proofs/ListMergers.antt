@@ -80,7 +80,7 @@ draws_all (f ∷ fs) (Ok j) h = subst (λ (gs : List FontValue). DrawsAll gs j) 
 
 -- ---- from left to right
 
--- merges from left to right go on from where they came to
+-- a list of fonts merged from left to right may be merged in two parts
 left_append : {X : Type 0} (t : Grouping X) (xs ys : List X) → from_left t (xs ++ ys) ≡ from_left (from_left t xs) ys
 left_append t [] ys = refl
 left_append t (x ∷ xs) ys = left_append (two t (one x)) xs ys

@@ -1,4 +1,4 @@
--- What merges of the subsets of one font come to, and what a merge of many fonts comes to.
+-- What merges of subsets of one font come to, and what a merge of many fonts comes to.
 use Rattle.std.proofs.Common.{◌≡◌, inl, inr, List, [], ◌∷◌, ◌++◌, map, refl, sym, ◌∙◌, ap, subst, Option, None, Result, Ok, Err, IfOk, IfErr, IsPermutation}
 use Rattle.std.specs.List.{AllByRecursion}
 use Rattle.std.specs.FinSet as sets
@@ -91,7 +91,7 @@ record CutAt {X Y : Type 0} (g : X → Y) (xs : List X) (ys : List Y) (z : Y) : 
   images : map g before ≡ ys
   image : g at ≡ z
 
--- a list is cut where its images are
+-- a list is cut at the element at which its images are cut
 cut_at : {X Y : Type 0} (g : X → Y) (xs : List X) (ys : List Y) (z : Y) (zs : List Y) → map g xs ≡ ys ++ z ∷ zs → CutAt g xs ys z
 cut_at g [] [] z zs e = cc
 cut_at g [] (y ∷ ys) z zs e = cc

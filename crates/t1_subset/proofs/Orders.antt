@@ -1,4 +1,4 @@
--- Fonts from anywhere join alike in every order and grouping, since their states do.
+-- Fonts from anywhere join to the same in every order and grouping, since their states do.
 use Rattle.std.proofs.Common.{◌≡◌, List, [], ◌∷◌, refl, sym, ◌∙◌, ap, subst, IsPermutation}
 use Rattle.std.specs.List.{AllByRecursion}
 use Rattle.t1_join.specs.Groupings.{Grouping, one, two, leaves, map_grouping, EachLeaf, from_left, Gives}
@@ -71,7 +71,7 @@ module _ {O : Type 0} (m : Interpreter O) where
       let e = font_back m f g j.states in
       (record { states = compatible_back m f g j.states; within = subst IsWithin e j.within }, e)
 
-  -- ---- what the states of fonts are in what they merge to
+  -- ---- fonts whose states are among those of another
 
   -- the states of f are among those of j
   abbrev pub Below : FontValue → FontValue → Type 0

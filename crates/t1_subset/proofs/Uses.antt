@@ -1,4 +1,4 @@
--- Some glyph of a font executes an index, or names a component.
+-- When some glyph of a font executes an index or names a component.
 use Rattle.std.proofs.Common.{◌≡◌, ℕ, Bool, true, ◌||◌, inl, inr, List, refl, sym, ◌∙◌, ap, true≢false, Option, Some, None, is_some}
 use Rattle.std.specs.List.{list_any}
 use Rattle.std.specs.Cmp.{both_ways}

@@ -28,7 +28,7 @@ charstrings_differ x y = not (agrees (behind_mark x) (behind_mark y))
 abbrev pub one_lacks : State → State → Bool
 one_lacks x y = (is_sought_in x && is_some (behind_mark y)) || (is_sought_in y && is_some (behind_mark x))
 
--- the smallest name whose states clash
+-- the smallest name whose states are in conflict by this test
 abbrev pub first_clash : (State → State → Bool) → TableMeaning → TableMeaning → Option Meaning
 first_clash clash s t = option_map (λ e. e.0) (first_where (λ e. clash (Some e.1) (maps.get t e.0)) (maps.entries s))
 

@@ -59,13 +59,15 @@ module _ (f g : FontValue) where
   abbrev pub glyph_names : KeySet name_cmp
   glyph_names = keys_of_both f.glyphs g.glyphs
 
-  -- the smallest conflict of each kind
+  -- the first part of the shells that differs
   abbrev pub shell_conflict : Option ShellPart
   shell_conflict = differing_part (shared_of f) (shared_of g)
 
+  -- the smallest code in conflict
   abbrev pub code_conflict : Option ℕ
   code_conflict = smallest code_clashes (codes_of_both f.encoding g.encoding)
 
+  -- the smallest name in conflict
   abbrev pub glyph_conflict : Option (List ℕ)
   glyph_conflict = smallest glyph_clashes glyph_names
 

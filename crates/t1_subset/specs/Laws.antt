@@ -86,7 +86,7 @@ module _ {O : Type 0} (m : Interpreter O) where
   abbrev pub SubsetsDraw : Type 0
   SubsetsDraw = (f : FontValue) → IsFont f → (a : Names) → IsOf f a → (n : List ℕ) → sets.contains (keep m f a) n ≡ true → DrawsAlike f (subset m f a) n
 
-  -- two subsets of a font join, and in either order their join is the subset of both sets
+  -- two subsets of a font join, and in either order their join is the subset over both sets
   abbrev pub TwoSubsets : Type 0
   TwoSubsets = (f : FontValue) → IsFont f → (a b : Names) → IsOf f a → IsOf f b →
       Join m (subset m f a) (subset m f b) × (joined_font m (subset m f a) (subset m f b) ≡ subset m f (sets.union a b))

@@ -86,7 +86,7 @@ pub record Rejoins (f : FontValue) (ts : List Truncated) : Type 0 where
   pub merges : (t : Grouping FontValue) → IsPermutation (evened (fonts_of ts)) (leaves t) → MergesTo t (rejoined f ts)
   pub draws : (n : List ℕ) → sets.contains (keep profile f (names_of_all ts)) n ≡ true → DrawsAlike f (rejoined f ts) n
 
--- truncated subsets of one font, one or more, rejoin
+-- one or more truncated subsets of one font rejoin
 abbrev pub TruncatedSubsetsRejoin : Type 0
 TruncatedSubsetsRejoin = (f : FontValue) → IsFont f → (t : Truncated) (ts : List Truncated) → AllByRecursion (IsTruncated f) (t ∷ ts) → Rejoins f (t ∷ ts)
 
@@ -96,6 +96,6 @@ TruncatedSubsetsRejoin = (f : FontValue) → IsFont f → (t : Truncated) (ts : 
 abbrev pub IsUntagged : FontValue → Type 0
 IsUntagged f = untagged_head f.shell.head ≡ f.shell.head
 
--- fonts without tags that merge, in some order and grouping, are even already
+-- fonts without tags that merge in some order and grouping are even already
 abbrev pub MergingFontsAreEven : Type 0
 MergingFontsAreEven = (t : Grouping FontValue) (j : FontValue) → Merges profile t j → AllByRecursion IsUntagged (leaves t) → evened (leaves t) ≡ leaves t

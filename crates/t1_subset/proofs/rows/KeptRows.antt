@@ -68,7 +68,7 @@ all_sets p (n ∷ ns) =
     ∙ ap (λ b. list_all (λ l. p (sets.from_list l)) (lists_of ns) && b) (sym (all_map (λ l. p (sets.from_list l)) (λ l. n ∷ l) (lists_of ns)))
     ∙ sym (all_append (λ l. p (sets.from_list l)) (lists_of ns) (map (λ l. n ∷ l) (lists_of ns)))
 
--- ---- small fonts, and an interpreter to whom each byte of a charstring is an index that is executed, and a component of this one letter
+-- ---- small fonts, and an interpreter of charstrings whose bytes are indices and components
 
 -- the bytes of a charstring, each as a name of one letter
 abbrev pub letters : List ℕ → List (List ℕ)

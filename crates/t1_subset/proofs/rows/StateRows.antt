@@ -108,7 +108,7 @@ state_Q = name_listed standard subrs glyphs tt tt (codes "Q") ∙ refl
 
 -- ---- conflicts of two fonts of one shell
 
--- the keys of both maps, over lists
+-- the keys of either map, over lists
 abbrev keys_listed : {K : Type 0} → (K → K → Ordering) → List (K × List ℕ) → List (K × List ℕ) → List K
 keys_listed {K = K} R es fs = map (λ (e : K × ℕ). e.0) (map (λ (e : K × List ℕ). (e.0, 0)) (last_entries R (fs ++ es)))
 
@@ -157,7 +157,7 @@ module _ (e k : Encoding) (ss ts : List (ℕ × List ℕ)) (es fs : List (List �
   lacking_are : component_conflict spelled f g ≡ first_where lacking_listed names
   lacking_are = λ d. first_where (λ p. (has_listed e ss es he p d || has_listed k ts fs hf p d) && list_any (λ n. wanted_are p n d) (names_are d)) (names_are d)
 
-  -- an entry, or the bottom where it is a stub that is not called
+  -- an entry, or the bottom if it is a stub that is not called
   abbrev state_by : Bool → Option (List ℕ) → Option (List ℕ)
   state_by called None = None
   state_by called (Some c) = cond (is_stub c && not called) None (Some c)
@@ -201,11 +201,11 @@ module _ (e k : Encoding) (ss ts : List (ℕ × List ℕ)) (es fs : List (List �
       (found (λ p. LacksComponent (unwrap_or (first_where (λ n. wanted_are p n d) (names_are d)) []) p) (lacking_are d)
       (found (λ i. SubrDiffers i (first_where (λ n. used_are i n d) (names_are d))) (subrs_differ d) None))))
 
-  -- of one kind of Encoding, and with the same indices, the shells are the same
+  -- fonts with Encodings of one kind and with the same indices have no conflict of shells
   shells_same : same_word (word_of e) (word_of k) ≡ true → same_listed ≡ true → shell_conflict f g ≡ None
   shells_same kinds present = λ d. cond (not (kinds d)) (Some EncodingPart) (cond (not ((present_are ∙ present) d)) (Some SubrsTable) None)
 
--- fonts of one word as Encoding, with the Subrs and glyphs of two lists each
+-- two fonts with the same word as Encoding, each with its lists of Subrs and glyphs
 module _ (ss ts : List (ℕ × List ℕ)) (es fs : List (List ℕ × List ℕ)) (hs : T (is_sorted nat_cmp ss)) (ht : T (is_sorted nat_cmp ts)) (he : T (is_sorted name_cmp es)) (hf : T (is_sorted name_cmp fs)) where
   in_both : same_bytes (map (λ e. e.0) ss) (map (λ e. e.0) ts) ≡ true → states_conflict spelled (font_of standard ss es) (font_of standard ts fs) ≡ listed standard standard ss ts es fs hs ht he hf None None
   in_both present = conflicts_are standard standard ss ts es fs hs ht he hf None None (shells_same standard standard ss ts es fs hs ht he hf refl present)
@@ -213,7 +213,7 @@ module _ (ss ts : List (ℕ × List ℕ)) (es fs : List (List ℕ × List ℕ)) 
 
 -- ---- rows of conflicts
 
--- what a shell tells before any table is looked at
+-- a font with another shell, whose conflict is told before any table is looked at
 abbrev with_shell : Shell → FontValue
 with_shell s = record { shell = s; encoding = small.encoding; subrs = small.subrs; glyphs = small.glyphs }
 
@@ -226,7 +226,7 @@ kind_differs = refl
 lead_bytes_differ : conflict spelled small (with_shell (shell_of [] 0)) ≡ Some (ShellDiffers Private)
 lead_bytes_differ = refl
 
--- a lowest conflict of states is the lowest of the fonts
+-- the lowest conflict of states, if there is one, is the lowest of the fonts
 lowest : (f g : FontValue) (c : Conflict) → states_conflict spelled f g ≡ Some c → conflict spelled f g ≡ Some c
 lowest f g c s = ap (λ x. found (λ c. c) x (cond (is_within spelled f g) None (Some OverLimit))) s
 

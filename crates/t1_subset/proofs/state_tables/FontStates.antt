@@ -319,7 +319,7 @@ module _ {O : Type 0} (m : Interpreter O) (f : FontValue) where
 pub sized : {O : Type 0} (m : Interpreter O) (f : FontValue) → IsWithin f → (s : StatesValue) → s ≡ states_of m f → (w n : ℕ) → w ≡ weight f → n ≡ maps.len f.glyphs → IsSized s w n
 sized m f h s is w n ew en = subst (λ (s : StatesValue). IsSized s w n) (sym is) (record { fits = fits m f h; weighs = ew ∙ sym (weight_is m f); counts = en ∙ sym (glyphs_are m f) })
 
--- ---- fonts join exactly where their states agree
+-- ---- fonts join exactly if their states agree
 
 module _ {O : Type 0} (m : Interpreter O) (f g : FontValue) where
   -- the states of fonts that join have the states of the join for theirs

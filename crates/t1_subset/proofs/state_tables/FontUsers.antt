@@ -16,7 +16,7 @@ use Rattle.t1_subset.specs.Users.{unused, with_user, user_at}
 use Rattle.t1_subset.proofs.Sets.{tied}
 use Rattle.t1_subset.proofs.state_tables.Numbered.{get-numbered, by_number}
 
--- ---- one user more
+-- ---- one more user
 
 -- noting nobody changes nothing
 with_none : (s : State) → with_user s None ≡ s
@@ -40,7 +40,7 @@ behind_with (Some (mark ∷ m)) u h = refl
 
 -- ---- noting a user of an index
 
--- putting a user where nobody is noted is noting it
+-- putting a user at an index at which nobody is noted notes it
 noted : (s : State) (n : List ℕ) (b : Bool) → (b ≡ true → s ≡ Some []) → cond b (Some (0 ∷ n)) s ≡ with_user s (cond b (Some n) None)
 noted s n true h = sym (ap (λ s. with_user s (Some n)) (h refl))
 noted s n false h = sym (with_none s)
@@ -49,7 +49,7 @@ module _ (t : TableMeaning) (i : ℕ) (n : List ℕ) (q : ℕ) where
   same : same_number q i ≡ true → maps.get t (of_number q) ≡ maps.get t (of_number i)
   same h = ap (λ k. maps.get t (of_number k)) (tied nat_cmp_total nat_cmp-IsAntisymmetric q i h)
 
-  -- putting a user at an index where nobody is noted notes it there and nowhere else
+  -- putting a user at an index at which nobody is noted notes it there and nowhere else
   pub put_user : (u : TableMeaning) → maps.get t (of_number i) ≡ Some [] → u ≡ maps.insert t (of_number i) (0 ∷ n) → maps.get u (of_number q) ≡ with_user (maps.get t (of_number q)) (cond (same_number q i) (Some n) None)
   put_user u nobody is =
       ap (λ (u : TableMeaning). maps.get u (of_number q)) is ∙ maps.get-insert nat_list_cmp_total t (of_number i) (0 ∷ n) (of_number q)

@@ -56,7 +56,7 @@ less_of k c l = elim (nat_cmp k c) as (λ o. MatchOrdering o (k < c) (k ≡ c) (
 
 -- ---- tables by number
 
--- the table shows the states of the numbers
+-- the table has the state of each number
 abbrev pub Shows : TableMeaning → (ℕ → Option (List ℕ)) → Type 0
 Shows t x = (i : ℕ) → maps.get t (of_number i) ≡ x i
 
