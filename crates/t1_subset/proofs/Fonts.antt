@@ -39,7 +39,7 @@ module _ {O : Type 0} (m : Interpreter O) where
       let e = joined_are_entries m f g j.states in
       subst IsFont (sym e) (join_is_font f g h k j.states.shells j.states.kinds j.within.glyphs (subst (λ (j : FontValue). IsLight j) e j.within.weight))
 
-  -- two subsets of a font join in either order, to the subset of both sets of names
+  -- two subsets of a font join in either order, to the subset over both sets of names
   pub two_subsets : (f : FontValue) → IsFont f → (a b : Names) → IsOf f a → IsOf f b →
       Join m (subset m f a) (subset m f b) × (joined_font m (subset m f a) (subset m f b) ≡ subset m f (sets.union a b))
       × Join m (subset m f b) (subset m f a) × (joined_font m (subset m f b) (subset m f a) ≡ subset m f (sets.union a b))
@@ -49,7 +49,7 @@ module _ {O : Type 0} (m : Interpreter O) where
       let back = join_back m (subset m f a) (subset m f b) join in
       (join, same, back.0, sym back.1 ∙ same)
 
-  -- subsets of a font merge in any order and grouping to the subset of all the sets of names
+  -- subsets of a font merge in any order and grouping to the subset over all the sets of names
   pub many_subsets : (f : FontValue) → IsFont f → (all : List Names) (t : Grouping Names) → IsPermutation all (leaves t) → EachLeaf (IsOf f) t → Merges m (map_grouping (subset m f) t) (subset m f (union_all all))
   many_subsets f h all t p i = subst (λ (a : Names). Merges m (map_grouping (subset m f) t) (subset m f a)) (all_alike all t p) (tree_merges m f h t i)
 

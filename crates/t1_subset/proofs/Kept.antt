@@ -42,7 +42,7 @@ module _ {O : Type 0} (m : Interpreter O) (f : FontValue) where
   pub key_of_has : (n : List ℕ) → has f n ≡ true → list_any (eq_by_cmp name_cmp n) (maps.keys f.glyphs) ≡ true
   key_of_has n h = sym (maps.contains_key-keys f.glyphs n) ∙ h
 
-  -- a component that the font has is named by the glyph, and there
+  -- a component that is here is named by the glyph, and the font has it
   pub component_here : (n p : List ℕ) → sets.contains (components_here m f n) p ≡ true → (list_any (eq_by_cmp name_cmp p) (components m f.subrs (charstring f n)) ≡ true) × (has f p ≡ true)
   component_here n p h = any_filter nat_list_cmp_total name_same (has f) p (components m f.subrs (charstring f n)) (in_list nat_list_cmp_total name_same (filter (has f) (components m f.subrs (charstring f n))) p h)
 

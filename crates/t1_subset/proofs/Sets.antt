@@ -187,7 +187,7 @@ name_same = slice_cmp-IsAntisymmetric nat_cmp-IsAntisymmetric
 
 -- ---- all sets of some names
 
--- the set has no names but these
+-- each name of the set is in the list
 abbrev pub Within : Names → List (List ℕ) → Type 0
 Within s ns = (q : List ℕ) → sets.contains s q ≡ true → list_any (eq_by_cmp name_cmp q) ns ≡ true
 

@@ -75,11 +75,11 @@ largest (t ∷ ts) = max t.count (largest ts)
 abbrev pub shared_font : FontValue → List Truncated → FontValue
 shared_font f ts = cut_to (largest ts) (without_tag f)
 
--- the subset of all the names, without its tag and cut to the largest of the counts
+-- the subset over all the names, without its tag and cut to the largest of the counts
 abbrev pub rejoined : FontValue → List Truncated → FontValue
 rejoined f ts = cut_to (largest ts) (without_tag (subset profile f (names_of_all ts)))
 
--- Made even, truncated subsets are subsets of one font; in every order and grouping they merge to the subset of all the names, cut to the largest of the counts and without its tag, and to nothing else; each kept glyph draws in it as in the font.
+-- Made even, truncated subsets are subsets of one font; in every order and grouping they merge to the subset over all the names, cut to the largest of the counts and without its tag, and to nothing else; each kept glyph draws in it as in the font.
 pub record Rejoins (f : FontValue) (ts : List Truncated) : Type 0 where
   pub shared : IsFont (shared_font f ts)
   pub subsets : evened (fonts_of ts) ≡ map (subset profile (shared_font f ts)) (sets_of ts)

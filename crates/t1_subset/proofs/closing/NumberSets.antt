@@ -73,7 +73,7 @@ of_executed set subrs c =
 pub union_none : (s : Numbers) → sets.union s (of []) ≡ s
 union_none s = same _ _ (λ q. sets.contains-union nat_cmp_total s (of []) q ∙ ap (λ b. sets.contains s q || b) (in_of [] q) ∙ or_none (sets.contains s q))
 
--- the empty set with another is the other
+-- the union of the empty set and another is the other
 pub none_union : (s : Numbers) → sets.union (of []) s ≡ s
 none_union s = same _ _ (λ q. sets.contains-union nat_cmp_total (of []) s q ∙ ap (λ b. b || sets.contains s q) (in_of [] q))
 

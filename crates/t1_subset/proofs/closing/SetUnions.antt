@@ -48,6 +48,6 @@ module _ {K : Type 0} {R : K → K → Ordering} (o : IsTotalOrder R) (alike : I
   pub union_none : (s : FinSet R) → sets.union s (of []) ≡ s
   union_none s = same _ _ (λ q. sets.contains-union o s (of []) q ∙ ap (λ b. sets.contains s q || b) (sets.contains-from_list o [] q) ∙ or_none (sets.contains s q))
 
-  -- the empty set with that of a list is that of the list
+  -- the union of the empty set and the set of a list is the set of the list
   pub union_of_none : (ks : List K) → sets.union sets.empty (of ks) ≡ of ks
   union_of_none ks = same _ _ (λ q. sets.contains-union o sets.empty (of ks) q ∙ ap (λ b. b || sets.contains (of ks) q) (sets.contains-empty R q))

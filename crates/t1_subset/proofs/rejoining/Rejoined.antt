@@ -1,4 +1,4 @@
--- Truncated subsets that are made even merge to the subset of all their names, cut to the largest count and without its tag.
+-- Truncated subsets that are made even merge to the subset over all their names, cut to the largest count and without its tag.
 use Rattle.std.proofs.Common.{◌≡◌, ◌≤◌, ℕ, nat_lt, nat_cmp, Bool, true, false, cond, List, [], ◌∷◌, map, refl, sym, ◌∙◌, ap, subst, Option, Some, None, option_map, is_some, unwrap_or, inl, inr, arith, IsPermutation}
 use Rattle.std.proofs.lemmas.Bool.{ltb-true, lt-ltb}
 use Rattle.std.specs.List.{list_any, AllByRecursion}

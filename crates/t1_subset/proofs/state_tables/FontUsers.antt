@@ -57,7 +57,7 @@ module _ (t : TableMeaning) (i : ℕ) (n : List ℕ) (q : ℕ) where
 
 -- ---- no users
 
--- nobody is noted for each Subr that is there, at first
+-- at first, nobody is noted for each Subr that is there
 pub nobody_at : (m : Numbered) (i : ℕ) → cond (maps.contains_key m i) (Some []) None ≡ maps.get (unused m) i
 nobody_at m i = at (maps.get m i) ∙ sym (get-map_values nat_cmp_total nat_cmp-IsAntisymmetric (λ i c. []) m i)
   where

@@ -137,7 +137,7 @@ module _ (f g : FontValue) (s t : TableMeaning) (es : s ≡ name_states profile 
   wanted_so : (p : List ℕ) → list_any (wanted_by profile f g p) (members (glyph_names f g)) ≡ (is_some (seeker_of f p) || is_some (seeker_of g p))
   wanted_so p = any_first (wanted_by profile f g p) (members (glyph_names f g)) ∙ ap is_some (sym (smallest_seeker f g p)) ∙ smaller_there (seeker_of f p) (seeker_of g p)
 
-  -- one font lacks a name that the other has if the component is in conflict
+  -- one font seeks a name that the other has exactly if the component is in conflict
   lacking_so : (p : List ℕ) → one_lacks (maps.get s p) (maps.get t p) ≡ component_clashes profile f g p
   lacking_so p =
       (λ i. ((own_seeks p ∙ seeks_not f p) i && is_some (other_charstring p i)) || ((other_seeks p ∙ seeks_not g p) i && is_some (own_charstring p i)))

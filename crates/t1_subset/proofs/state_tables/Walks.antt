@@ -92,7 +92,7 @@ pub all_fonts : (cs : List Callers) → AreNoted cs → AllByRecursion IsFont (f
 all_fonts [] h = tt
 all_fonts (c ∷ cs) h = (h.0.0, all_fonts cs h.1)
 
--- each of the callers is of a font
+-- the callers at each place are those of a font
 pub noted_at : (cs : List Callers) → AreNoted cs → (i : ℕ) → i < length cs → (c : Callers) → c ≡ get_or cs i c → IsFont c.font.now × AreCallersOf c c.font.now
 noted_at cs h i l c e = subst (λ (d : Callers). IsFont d.font.now × AreCallersOf d d.font.now) (sym e) (at cs h i l)
   where
