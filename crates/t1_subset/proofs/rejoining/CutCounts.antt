@@ -24,7 +24,7 @@ abbrev pub KeepsBelow : {O : Type 0} → Interpreter O → FontValue → ℕ →
 KeepsBelow m f count a = (i : ℕ) → sets.contains (kept m f a) i ≡ true → maps.contains_key f.subrs i ≡ true → i < count
 
 module _ {O : Type 0} (m : Interpreter O) (f : FontValue) (base : has f notdef ≡ true) (count : ℕ) (a : Names) (inside : InFont m f a) (low : KeepsBelow m f count a) where
-  -- the font cut to its first Subrs
+  -- the font without its tag, cut to its first Subrs
   abbrev first : FontValue
   first = cut_to count (without_tag f)
 

@@ -140,7 +140,7 @@ module _ (f : FontValue) (h : IsFont f) (most : ℕ) where
 
   -- a kept glyph draws in the cut font as it does in the font
   module _ (a : Names) (inside : IsOf f a) (low : KeepsBelow profile f most a) where
-    -- the font cut to its first Subrs
+    -- the font without its tag, cut to its first Subrs
     abbrev start : FontValue
     start = cut_to most (without_tag f)
 
