@@ -21,7 +21,7 @@ use std::collections::{BTreeMap, BTreeSet};
 /// The charstring `return`, which takes the place of a Subr that is cut (Adobe Type 1 Font Format 1.1, chapter 8).
 pub const STUB: &[u8] = &[11];
 
-/// The values of a map that is used up, in the order of their keys.
+/// The values of a map in the order of their keys. The map is used up.
 fn drain<K: Ord + Drop, V: Drop>(alloc: Global, map: BTreeMap<K, V>) -> Result<Vec<V>, AllocError>
     ensures items { IfOk result (λ v. v.items ≡ values_of map.entries) }
     ensures ordered { IfOk result (λ _. IsStrictlySortedBy K.cmp (keys_of map.entries)) }
@@ -33,7 +33,7 @@ fn drain<K: Ord + Drop, V: Drop>(alloc: Global, map: BTreeMap<K, V>) -> Result<V
     Ok(values)
 }
 
-/// Keeps the glyph of a name, where there is one.
+/// Keeps the glyph of a name, if there is one.
 fn keep_named<'a>(
     cut: &mut BTreeMap<&'a [u8], Glyph<'a>>,
     glyphs: &Named<'a>,
@@ -85,7 +85,7 @@ fn cut_codes<'a>(
     Ok(Numbered::made(cut))
 }
 
-/// An Encoding of the names of glyphs alone; a word as it is.
+/// An Encoding with only the names of these glyphs; a word stays as it is.
 fn cut_encoding<'a>(
     alloc: Global,
     encoding: &LentEncoding<'a>,
@@ -107,7 +107,7 @@ fn kept_or_stub<'a>(is_kept: bool, body: &'a [u8]) -> &'a [u8]
     if is_kept { body } else { STUB }
 }
 
-/// The Subrs, all but those of the set replaced by `return`.
+/// The Subrs, with `return` in place of all that are not in the set.
 pub(crate) fn cut_subrs<'a>(
     alloc: Global,
     subrs: &Numbered<'a>,
@@ -146,11 +146,11 @@ fn cut_parts<'a>(
     })
 }
 
-/// The font with its glyphs cut to the names, a table Encoding cut to them, and each present Subr
-/// outside the set replaced by the charstring `return`, so that its index stays present (Adobe Type 1
-/// Font Format 1.1, chapters 2 and 8).
+/// The font cut to glyphs and Subrs: its glyphs, and its Encoding if that is a table, are cut to the names, and each
+/// present Subr outside the set is replaced by the charstring `return`, so its index stays present (Adobe Type 1 Font
+/// Format 1.1, chapters 2 and 8).
 ///
-/// The names are names of the font's glyphs, in any order, and `.notdef` is among them.
+/// The names are names of the font's glyphs in any order, and `.notdef` is one of them.
 ///
 /// # Errors
 ///

@@ -15,7 +15,7 @@ use crate::parts::{PartsFault, join_codes};
 use std::alloc::{AllocError, Global};
 use std::collections::BTreeSet;
 
-/// A stub at each index at which one of the fonts has a Subr.
+/// A stub at each index at which some font has a Subr.
 fn stubs_of_all<'a>(alloc: Global, fonts: &[Font<'a>]) -> Result<Numbered<'a>, AllocError>
     ensures { IfOk result (λ m. m ≡ stubs_at (indices_of_all fonts.now)) }
 {
@@ -28,7 +28,7 @@ fn stubs_of_all<'a>(alloc: Global, fonts: &[Font<'a>]) -> Result<Numbered<'a>, A
     cut_subrs(alloc, &all, &BTreeSet::new(alloc))
 }
 
-/// The Subrs, and the stubs below a count at the indices that have none.
+/// The Subrs, and the stubs below a count at the indices that have no Subr.
 fn with_stubs<'a>(
     alloc: Global,
     subrs: &Numbered<'a>,
@@ -48,7 +48,8 @@ fn with_stubs<'a>(
     join_codes(alloc, subrs, &below)
 }
 
-/// A font with those of the stubs that it declares and lacks; one without Subrs has no words to write them with.
+/// The font with the stubs at the indices that it declares and lacks. A font without Subrs gets none, since it has no
+/// words to write them with.
 fn fill<'a>(alloc: Global, font: Font<'a>, stubs: &Numbered<'a>) -> Result<Font<'a>, PartsFault>
     requires { AreStubs stubs.now }
     ensures filled { MatchResult result (λ f. f
@@ -80,7 +81,7 @@ fn fill<'a>(alloc: Global, font: Font<'a>, stubs: &Numbered<'a>) -> Result<Font<
     Ok(Font { parts })
 }
 
-/// One more font.
+/// Adds one more font.
 fn keep<'a>(fonts: &mut Vec<Font<'a>>, font: Font<'a>) -> Result<(), AllocError>
     ensures { OnOk result (fonts.new.items ≡ fonts.old.items ++ font.entry ∷ []) }
 {
@@ -90,12 +91,12 @@ fn keep<'a>(fonts: &mut Vec<Font<'a>>, font: Font<'a>) -> Result<(), AllocError>
     }
 }
 
-/// The fonts, each with [`STUB`](crate::STUB) at the indices of Subrs that it declares and lacks, and that another font of
-/// them has. A font without Subrs gets none, since it has no words to write them with.
+/// The fonts, each with [`STUB`](crate::STUB) at the indices of Subrs that it declares and lacks and that another of the
+/// fonts has. A font without Subrs gets none, since it has no words to write them with.
 ///
 /// # Errors
 ///
-/// `Limit` where one of the fonts weighs more then than a font may; `Memory` where a growth was refused.
+/// `Limit` if one of the fonts then weighs more than a font may, `Memory` if a growth was refused.
 pub fn fill_all<'a>(alloc: Global, fonts: Vec<Font<'a>>) -> Result<Vec<Font<'a>>, PartsFault>
     ensures { MatchResult result (λ all. Fills fonts.entry.items all.items)
         (FillRefuses fonts.entry.items) }
@@ -103,7 +104,7 @@ pub fn fill_all<'a>(alloc: Global, fonts: Vec<Font<'a>>) -> Result<Vec<Font<'a>>
     let stubs = stubs_of_all(alloc, fonts.as_slice())?;
     let mut all = Vec::with_capacity(alloc, fonts.len())?;
     'fonts: for font in fonts {
-        // Spelled out: with `?` each font that is left would be let go field by field, and each step proved.
+        // Spelled out, since with `?` each font that is left would be let go field by field, and each step proved.
         let font = match fill(alloc, font, &stubs) {
             Ok(font) => font,
             Err(fault) => return Err(fault),

@@ -19,7 +19,7 @@ pub(crate) enum LentEncoding<'a> {
     Codes(Numbered<'a>),
 }
 
-/// The parts of a font, which together need not be one.
+/// The parts of a font, which together need not make one.
 #[derive(Drop)]
 pub(crate) struct FontParts<'a> {
     pub(crate) shell: &'a Shell,
@@ -70,7 +70,7 @@ pub enum Part {
     Head,
     /// The clear text after the Encoding, through `eexec`.
     ClearTail,
-    /// The private text before Subrs, or before CharStrings where no Subrs are.
+    /// The private text before Subrs, or before CharStrings if there are no Subrs.
     Private,
     /// The private text between Subrs and CharStrings.
     Middle,
@@ -89,7 +89,7 @@ pub enum Part {
 }
 
 impl<'a> Font<'a> {
-    /// Says of a font what each font is: a value whose canonical file is read as the value itself.
+    /// States what each font is: a value whose canonical file is read as the value itself.
     ///
     /// It does nothing when it runs: proofs about fonts call it.
     pub fn proof_is_font(&self)
@@ -116,7 +116,7 @@ impl<'a> Font<'a> {
         }
     }
 
-    /// The word that is the whole Encoding, such as `StandardEncoding`; `None` for a table.
+    /// The word that is the whole Encoding, such as `StandardEncoding`, or `None` if the Encoding is a table.
     pub fn encoding_word(&self) -> Option<&'a [u8]>
         ensures { option_map (λ w. w.now) result ≡ word_of self.now.encoding }
     {
@@ -126,7 +126,7 @@ impl<'a> Font<'a> {
         }
     }
 
-    /// The name of a code, where the Encoding is a table that has the code; `.notdef` is no name.
+    /// The name of a code, if the Encoding is a table that has the code; `.notdef` counts as no name.
     pub fn encoding_at(&self, code: u8) -> Option<&'a [u8]>
         ensures { option_map (λ n. n.now) result ≡ name_at self.now.encoding code }
     {
@@ -164,8 +164,8 @@ impl<'a> Font<'a> {
         self.shell().len_iv()
     }
 
-    /// The weight by which a font is limited: the bytes of the five kept texts, and for each
-    /// charstring its bytes, its lead bytes and a fixed number.
+    /// The weight by which a font is limited: the bytes of the five kept texts, and for each charstring its bytes, its
+    /// lead bytes and a fixed number.
     pub fn weight(&self) -> u32
         ensures { result ≡ weight self.now }
     {
@@ -179,7 +179,7 @@ impl<'a> Font<'a> {
         self.subr(index).is_some()
     }
 
-    /// The plain charstring of a Subr, where it has an entry. It is lent for as long as the font's source lives.
+    /// The plain charstring of a Subr, if it has an entry. It is lent for as long as the font's source lives.
     pub fn subr(&self, index: u16) -> Option<&'a [u8]>
         ensures entry { option_map (λ b. b.now) result ≡ fin.get self.now.subrs index }
         ensures shown { option_map (λ b. b.now) result ≡ subr_at self.now index }
@@ -187,8 +187,8 @@ impl<'a> Font<'a> {
         self.parts.subr(index)
     }
 
-    /// The plain charstring of a glyph, where the font has it. The name is without its `/`. It is lent for as long as the
-    /// font's source lives.
+    /// The plain charstring of a glyph, if the font has the glyph. The name is given without its `/`. The charstring is
+    /// lent for as long as the font's source lives.
     pub fn charstring(&self, name: &[u8]) -> Option<&'a [u8]>
         ensures { option_map (λ b. b.now) result ≡ fin.get self.now.glyphs name.now }
     {
@@ -197,7 +197,7 @@ impl<'a> Font<'a> {
 }
 
 impl<'a> FontParts<'a> {
-    /// The plain charstring of a Subr. Where all below it are present, it stands at the place of its index.
+    /// The plain charstring of a Subr. If all Subrs below it are present, its place is its index.
     fn subr(&self, index: u16) -> Option<&'a [u8]>
         ensures { option_map (λ b. b.now) result ≡ fin.get self.now.subrs index }
     {

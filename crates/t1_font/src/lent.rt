@@ -1,8 +1,8 @@
-//! Byte strings by number and by name, borrowed, in the order of their keys.
+//! Tables of borrowed byte strings, by number and by name, in the order of their keys.
 //!
-//! Those of a source stand in its buffer, and its own table tells where: such a table is lent and not copied. Only what a
-//! cut or a join makes has entries of its own. Which of the two a table is, is asked where an entry is made (`at`), and
-//! where a key is looked for: all else goes by places.
+//! The byte strings of a source stand in its buffer, and the source's own table says where, so that table is lent and not
+//! copied. A table that a cut or a join makes has entries of its own. Only `len`, `at` and `place_of` ask which of the two
+//! a table is; all other functions go by places.
 
 ghost use Rattle.std.specs.Prelude.{◌≡◌, ◌+◌, ◌<◌, max, map, IfSome};
 ghost use Rattle.std.specs.List.{slice_get};
@@ -19,14 +19,15 @@ ghost use Rattle.t1_font.specs.Ranges.{numbered_at, named_at};
 use crate::ranges::Range;
 use std::marker::Model;
 
-/// The weight of a Subr of so many bytes, as far as 64 bits hold it: one of none weighs as much as one of one byte.
+/// The weight of a Subr of this many bytes, as far as 64 bits hold it. A Subr of no bytes weighs as much as one of one
+/// byte.
 pub(crate) fn subr_weight(len_iv: u8, len: usize) -> u64
     ensures { result ≡ clamp (128 + len_iv + max 1 len) }
 {
     (128 + len_iv as u64).saturating_add(len.max(1) as u64)
 }
 
-/// The weight of a glyph of so many bytes, as far as 64 bits hold it.
+/// The weight of a glyph of this many bytes, as far as 64 bits hold it.
 pub(crate) fn glyph_weight(len_iv: u8, len: usize) -> u64
     ensures { result ≡ clamp (256 + len_iv + len) }
 {
@@ -88,7 +89,7 @@ impl<'a> Numbered<'a> {
         }
     }
 
-    /// How many entries there are.
+    /// How many entries the table has.
     pub fn len(&self) -> usize
         ensures { result ≡ fin.len self.now }
     {
@@ -98,7 +99,7 @@ impl<'a> Numbered<'a> {
         }
     }
 
-    /// The entry at a place, counted upwards by number from 0. There is a place behind each.
+    /// The entry at a place; places are counted upwards by number, from 0. The place after an entry fits in a `usize`.
     pub(crate) fn at(&self, place: usize) -> Option<(u16, &'a [u8])>
         ensures entry { option_map lent_number result ≡ slice_get (fin.entries self.now) place }
         ensures short { IfSome result (λ _. place < 18446744073709551615) }
@@ -115,7 +116,7 @@ impl<'a> Numbered<'a> {
         }
     }
 
-    /// The place of the number, where it has an entry.
+    /// The place of a number, if it has an entry.
     fn place_of(&self, number: u16) -> Option<usize>
         ensures { option_and_then (slice_get (fin.entries self.now)) result
             ≡ option_map (λ b. (number, b)) (fin.get self.now number) }
@@ -130,7 +131,7 @@ impl<'a> Numbered<'a> {
         }
     }
 
-    /// What stands at the number.
+    /// The byte string at a number.
     pub fn get(&self, number: u16) -> Option<&'a [u8]>
         ensures { option_map (λ b. b.now) result ≡ fin.get self.now number }
     {
@@ -138,14 +139,14 @@ impl<'a> Numbered<'a> {
         Some(body)
     }
 
-    /// Whether there is no entry.
+    /// Whether the table has no entries.
     pub fn is_empty(&self) -> bool
         ensures { result ≡ has_none (fin.entries self.now) }
     {
         self.len() == 0
     }
 
-    /// What stands at the number, which is looked for at this place first.
+    /// The byte string at a number, which is looked for at this place first.
     pub fn get_near(&self, place: usize, number: u16) -> Option<&'a [u8]>
         ensures { option_map (λ b. b.now) result ≡ fin.get self.now number }
     {
@@ -165,7 +166,7 @@ impl<'a> Numbered<'a> {
         }
     }
 
-    /// `before` and the weight of the entries as Subrs of a font with this lenIV, as far as 64 bits hold it.
+    /// `before` plus the weight of the entries as Subrs of a font with this lenIV, as far as 64 bits hold it.
     pub fn weight(&self, before: u64, len_iv: u8) -> u64
         ensures { result ≡ clamp (before + total (subr_weight len_iv) (fin.entries self.now)) }
     {
@@ -214,7 +215,7 @@ impl<'t, 'a> Iterator for NumberedEntries<'t, 'a> {
 
 /// A glyph where it stands in a source: the source's buffer, and the places of its name and its charstring there.
 ///
-/// It refers to the vector and not to its bytes, so that a table of glyphs has two words for each.
+/// It refers to the vector and not to its bytes, so a table of glyphs takes two words for each.
 #[derive(Clone, Copy)]
 pub(crate) struct Glyph<'a> {
     buffer: &'a Vec<u8>,
@@ -291,7 +292,7 @@ impl<'a> Named<'a> {
         }
     }
 
-    /// How many glyphs there are.
+    /// How many glyphs the table has.
     pub fn len(&self) -> usize
         ensures { result ≡ fin.len self.now }
     {
@@ -301,7 +302,7 @@ impl<'a> Named<'a> {
         }
     }
 
-    /// The glyph at a place, counted upwards by name from 0. There is a place behind each.
+    /// The glyph at a place; places are counted upwards by name, from 0. The place after a glyph fits in a `usize`.
     pub(crate) fn at(&self, place: usize) -> Option<Glyph<'a>>
         ensures entry { option_map lent_glyph result ≡ slice_get (fin.entries self.now) place }
         ensures short { IfSome result (λ _. place < 18446744073709551615) }
@@ -318,7 +319,7 @@ impl<'a> Named<'a> {
         }
     }
 
-    /// The place of the name, where it has a glyph.
+    /// The place of a name, if it has a glyph.
     fn place_of(&self, name: &[u8]) -> Option<usize>
         ensures { option_and_then (slice_get (fin.entries self.now)) result
             ≡ option_map (λ b. (name.now, b)) (fin.get self.now name.now) }
@@ -331,7 +332,7 @@ impl<'a> Named<'a> {
         }
     }
 
-    /// The glyph of the name.
+    /// The glyph of a name.
     pub(crate) fn glyph(&self, name: &[u8]) -> Option<Glyph<'a>>
         ensures { option_map lent_glyph result
             ≡ option_map (λ b. (name.now, b)) (fin.get self.now name.now) }
@@ -339,7 +340,7 @@ impl<'a> Named<'a> {
         self.at(self.place_of(name)?)
     }
 
-    /// What stands at the name.
+    /// The charstring of a name.
     pub fn get(&self, name: &[u8]) -> Option<&'a [u8]>
         ensures { option_map (λ b. b.now) result ≡ fin.get self.now name.now }
     {
@@ -357,7 +358,7 @@ impl<'a> Named<'a> {
         }
     }
 
-    /// `before` and the weight of the entries as glyphs of a font with this lenIV, as far as 64 bits hold it.
+    /// `before` plus the weight of the entries as glyphs of a font with this lenIV, as far as 64 bits hold it.
     pub fn weight(&self, before: u64, len_iv: u8) -> u64
         ensures { result ≡ clamp (before + total (glyph_weight len_iv) (fin.entries self.now)) }
     {

@@ -1,4 +1,4 @@
-//! A font of the entries of two.
+//! A font with the entries of two.
 
 ghost use Rattle.std.specs.Prelude.{◌≡◌, IfOk, IfSome, MatchResult};
 ghost use Rattle.std.specs.Option.{option_map};
@@ -17,10 +17,10 @@ use std::alloc::{AllocError, Global};
 use std::cmp::Ordering;
 use std::fmt;
 
-/// Why the entries of two fonts are not one font.
+/// Why the entries of two fonts don't make one font.
 #[derive(Clone, Copy, Debug, PartialEq, Eq)]
 pub enum PartsFault {
-    /// The font of both would have too many glyphs, or weigh too much.
+    /// The font of both would have too many glyphs or weigh too much.
     Limit,
     /// A growth was refused.
     Memory,
@@ -53,10 +53,10 @@ impl From<AllocError> for PartsFault {
     }
 }
 
-/// An entry that comes next of two tables, and by how many places each goes on then.
+/// The entry of two tables that comes next, and by how many places each table then goes on.
 type Next<K, V> = ((K, V), usize, usize);
 
-/// The lower of the next entries of two tables, and the first's where both have its key: then the second's goes, too.
+/// The lower of the next entries of two tables. If both have the same key, it is the first's, and both tables go on.
 fn lower<K: Ord + Copy, V: Copy>(here: Option<(K, V)>, there: Option<(K, V)>) -> Option<Next<K, V>>
     ensures { result ≡ lower K.cmp here there }
 {
@@ -72,7 +72,7 @@ fn lower<K: Ord + Copy, V: Copy>(here: Option<(K, V)>, there: Option<(K, V)>) ->
     }
 }
 
-/// A glyph beside its name.
+/// A glyph with its name.
 fn with_name<'a>(glyph: Option<Glyph<'a>>) -> Option<(&'a [u8], Glyph<'a>)>
     ensures entry { option_map keyed_glyph result ≡ option_map lent_glyph glyph.entry }
     ensures own { IfSome result IsOwn }
@@ -81,7 +81,7 @@ fn with_name<'a>(glyph: Option<Glyph<'a>>) -> Option<(&'a [u8], Glyph<'a>)>
     Some((glyph.name(), glyph))
 }
 
-/// The glyphs of both, in one pass by two places: the first's where both have a name.
+/// The glyphs of both fonts, in one pass over both tables. If both have a name, the first's glyph stands.
 fn join_glyphs<'a>(
     alloc: Global,
     first: &Named<'a>,
@@ -103,7 +103,7 @@ fn join_glyphs<'a>(
     Ok(Named::made(all))
 }
 
-/// The codes of both, in one pass by two places, with the first's name where both have a code.
+/// The codes of both fonts, in one pass over both tables. If both have a code, the first's name stands.
 pub(crate) fn join_codes<'a>(
     alloc: Global,
     first: &Numbered<'a>,
@@ -122,7 +122,7 @@ pub(crate) fn join_codes<'a>(
     Ok(Numbered::made(all))
 }
 
-/// The Encoding of both: a word as it is in the first.
+/// The Encoding of both fonts. A word stays as it is in the first.
 fn join_encoding<'a>(
     alloc: Global,
     first: &LentEncoding<'a>,
@@ -142,7 +142,7 @@ fn join_encoding<'a>(
     }
 }
 
-/// The first's Subr, or where that is a stub the second's.
+/// The first's Subr, or the second's if the first's is a stub.
 fn joined_subr<'a>(first: &'a [u8], second: Option<&'a [u8]>) -> &'a [u8]
     ensures { result.now ≡ joined_subr first.now (option_map (λ b. b.now) second.entry) }
 {
@@ -152,7 +152,7 @@ fn joined_subr<'a>(first: &'a [u8], second: Option<&'a [u8]>) -> &'a [u8]
     }
 }
 
-/// The Subrs of the first, its stubs giving way to the second's Subrs.
+/// The Subrs of the first font. Its stubs give way to the second's Subrs.
 fn join_subrs<'a>(
     alloc: Global,
     first: &Numbered<'a>,
@@ -186,16 +186,15 @@ fn joined_parts<'a>(
     })
 }
 
-/// The font of the entries of both fonts, a Subr that is `return` giving way to the other font's
-/// entry (Adobe Type 1 Font Format 1.1, chapters 2 and 8). Where both have another entry at a key,
-/// the first's stands. The first font decides which Subrs are present: an entry of the second alone is left out.
+/// The font with the entries of both fonts. A Subr that is `return` gives way to the other font's entry (Adobe Type 1
+/// Font Format 1.1, chapters 2 and 8). If both have different entries at a key, the first's stands. The first font
+/// decides which Subrs are present: a Subr that only the second has is left out.
 ///
-/// Both fonts have one shell, and one word or two tables as their Encodings.
+/// Both fonts have the same shell, and their Encodings are the same word or both tables.
 ///
 /// # Errors
 ///
-/// `Limit` where the font of both has more glyphs or weighs more than a font may; `Memory` where a
-/// growth was refused.
+/// `Limit` if the font of both has more glyphs or weighs more than a font may, `Memory` if a growth was refused.
 pub fn join_parts<'a>(
     alloc: Global,
     first: &Font<'a>,

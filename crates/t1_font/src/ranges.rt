@@ -4,7 +4,8 @@ ghost use Rattle.std.specs.Prelude.{◌≡◌, ◌≤◌, ◌-◌};
 ghost use Rattle.t1_bytes.specs.Limits.{file_limit};
 ghost use Rattle.t1_font.specs.Ranges.{bytes_at};
 
-/// A part of a buffer, from `start` up to `end`. No buffer is longer than a file may be, so 32 bits hold each place.
+/// A part of a buffer, from `start` up to but not including `end`. No buffer is longer than a file may be, so 32 bits
+/// hold each place.
 #[derive(Clone, Copy, Debug)]
 pub(crate) struct Range {
     pub(crate) start: u32,
@@ -12,7 +13,7 @@ pub(crate) struct Range {
 }
 
 impl Range {
-    /// The part from `start` up to `end`.
+    /// The part from `start` up to but not including `end`.
     pub(crate) fn new(start: usize, end: usize) -> Range
         requires ordered { start ≤ end }
         requires short { end ≤ file_limit }
@@ -25,14 +26,14 @@ impl Range {
         }
     }
 
-    /// How many bytes it has.
+    /// How many bytes the part has.
     pub(crate) fn len(self) -> usize
         ensures { result ≡ self.end - self.start }
     {
         self.end.saturating_sub(self.start) as usize
     }
 
-    /// These bytes of a buffer, as far as it has them.
+    /// The bytes of a buffer in this part, as far as the buffer has them.
     pub(crate) fn of(self, buffer: &[u8]) -> &[u8]
         ensures { result.now ≡ bytes_at buffer.now self }
     {

@@ -27,8 +27,8 @@ pub(crate) enum KeptEncoding {
     Codes(Vec<(u16, Vec<u8>)>),
 }
 
-/// The parts of a font that owns them, which together need not be one. Names of glyphs and charstrings are ranges of the
-/// buffer.
+/// The parts of a font that owns them, which together need not make one. Names of glyphs and charstrings are ranges of
+/// the buffer.
 #[derive(Drop)]
 pub(crate) struct SourceParts {
     pub(crate) shell: Shell,
@@ -54,7 +54,7 @@ impl Model for SourceParts {
 
 /// What [`read`](crate::read) reads: a font program that owns its bytes. [`Source::font`] lends the font.
 ///
-/// It has one buffer of all names of glyphs and plain charstrings, and tables of where each stands there.
+/// It has one buffer with all names of glyphs and all plain charstrings, and tables that say where each stands there.
 #[derive(Drop)]
 pub struct Source {
     pub(crate) parts: SourceParts,
@@ -75,8 +75,8 @@ impl Model for Source {
 }
 
 impl Source {
-    /// The font, which borrows its names, charstrings and texts. The source lives as long as the font, and as every
-    /// font that is cut or merged from it. What takes room is the names of codes alone: tables of Subrs and glyphs are
+    /// The font, which borrows its names, charstrings and texts. The source has to live as long as the font, and as long
+    /// as every font that is cut or merged from it. Only the names of codes take room: the tables of Subrs and glyphs are
     /// lent as they stand in the source.
     ///
     /// # Errors
@@ -90,7 +90,7 @@ impl Source {
     }
 }
 
-/// The names of codes, lent.
+/// The names of codes, borrowed.
 fn lent_codes(alloc: Global, codes: &[(u16, Vec<u8>)]) -> Result<Numbered<'_>, AllocError>
     requires rises { Rises nat_cmp (map kept_name codes.now) }
     ensures { IfOk result (λ m. m ≡ from_sorted (map kept_name codes.now)) }
@@ -102,7 +102,7 @@ fn lent_codes(alloc: Global, codes: &[(u16, Vec<u8>)]) -> Result<Numbered<'_>, A
     Ok(Numbered::made(lent))
 }
 
-/// `before` and the weight of Subrs in these ranges, in a font with this lenIV, as far as 64 bits hold it.
+/// `before` plus the weight of Subrs in these ranges, in a font with this lenIV, as far as 64 bits hold it.
 fn subrs_weight(before: u64, len_iv: u8, subrs: &[(u16, Range)]) -> u64
     ensures { result ≡ clamp (before + total (subr_at_weight len_iv) subrs.now) }
 {
@@ -113,7 +113,7 @@ fn subrs_weight(before: u64, len_iv: u8, subrs: &[(u16, Range)]) -> u64
     weight
 }
 
-/// `before` and the weight of glyphs in these ranges, in a font with this lenIV, as far as 64 bits hold it.
+/// `before` plus the weight of glyphs in these ranges, in a font with this lenIV, as far as 64 bits hold it.
 fn glyphs_weight(before: u64, len_iv: u8, glyphs: &[(Range, Range)]) -> u64
     ensures { result ≡ clamp (before + total (glyph_at_weight len_iv) glyphs.now) }
 {
@@ -125,7 +125,7 @@ fn glyphs_weight(before: u64, len_iv: u8, glyphs: &[(Range, Range)]) -> u64
 }
 
 impl SourceParts {
-    /// The Encoding, lent.
+    /// The Encoding, borrowed.
     fn encoding(&self, alloc: Global) -> Result<LentEncoding<'_>, AllocError>
         ensures { IfOk result (λ e. encoding_of e ≡ self.now.encoding) }
     {
@@ -142,7 +142,7 @@ impl SourceParts {
         self.glyphs.len()
     }
 
-    /// The weight, as far as 64 bits hold it.
+    /// The weight of the font, as far as 64 bits hold it.
     pub(crate) fn weight(&self) -> u64
         ensures { result ≡ clamp (weight self.now) }
     {
@@ -151,7 +151,7 @@ impl SourceParts {
         glyphs_weight(with_subrs, len_iv, self.glyphs.as_slice())
     }
 
-    /// The parts, lent.
+    /// The parts, borrowed.
     pub(crate) fn lent(&self, alloc: Global) -> Result<FontParts<'_>, AllocError>
         ensures { IfOk result (λ f. f ≡ self.now) }
     {
@@ -164,7 +164,7 @@ impl SourceParts {
     }
 }
 
-/// The last name of each code, in its own vector; `.notdef` is no name.
+/// The last name of each code, in a vector of its own; `.notdef` counts as no name.
 pub(crate) fn keep_codes(
     alloc: Global,
     codes: Vec<(u16, &[u8])>,

@@ -22,15 +22,15 @@ use t1_bytes::{
     CHARSTRING_KEY, EEXEC_KEY, EEXEC_LEAD, Form, encrypt, segments, spread_hex_lines, trailer,
 };
 
-/// How many bytes of a private text the weight of its font leaves out at most: the markers, the
-/// phrase that closes Subrs, lead bytes and ends of lines.
+/// How many bytes of a private text the weight of its font leaves out at most: the markers, the phrase that closes
+/// Subrs, lead bytes and ends of lines.
 const MARKERS: usize = 256;
 
 /// What stands between `/Encoding` and the names of a table.
 const TABLE_START: &[u8; 49] = b"256 array
 0 1 255 {1 index exch /.notdef put} for";
 
-/// Writes a number in decimal digits at the end.
+/// Adds a number in decimal digits.
 fn put_number(out: &mut Vec<u8>, number: usize) -> Result<(), AllocError>
     ensures { OnOk result (out.new.items ≡ out.old.items ++ decimal number) }
 {
@@ -38,7 +38,7 @@ fn put_number(out: &mut Vec<u8>, number: usize) -> Result<(), AllocError>
     out.extend_from_slice(digits.format(number).as_bytes())
 }
 
-/// Writes a charstring at the end as it stands in a file: behind lenIV zeros, encrypted.
+/// Adds a charstring as it stands in a file: encrypted, after lenIV zero bytes.
 fn put_sealed(out: &mut Vec<u8>, plain: &[u8], len_iv: u8) -> Result<(), AllocError>
     ensures { OnOk result (out.new.items ≡ out.old.items ++ sealed_body len_iv plain.now) }
 {
@@ -120,7 +120,7 @@ fn put_subrs(
     Ok(())
 }
 
-/// Writes the table of Subrs where there is one.
+/// Writes the table of Subrs, if there is one.
 fn put_table(out: &mut Vec<u8>, shell: &Shell, subrs: &Numbered<'_>) -> Result<(), AllocError>
     ensures { OnOk result (out.new.items
         ≡ out.old.items
@@ -239,7 +239,7 @@ fn put_private(out: &mut Vec<u8>, parts: &FontParts<'_>) -> Result<(), AllocErro
     Ok(())
 }
 
-/// Writes the cipher of the canonical private text, its lead bytes zero.
+/// Writes the cipher of the canonical private text, with zeros as its lead bytes.
 fn put_cipher(out: &mut Vec<u8>, parts: &FontParts<'_>) -> Result<(), AllocError>
     ensures { OnOk result (out.new.items
         ≡ out.old.items ++ private_cipher (canon_private parts.now)) }
@@ -259,7 +259,7 @@ fn room_of(parts: &FontParts<'_>) -> usize {
         .saturating_add(MARKERS)
 }
 
-/// The canonical clear text and the cipher behind it, and where that begins.
+/// The canonical clear text with the cipher after it, and where the cipher begins.
 fn sealed_texts(alloc: Global, parts: &FontParts<'_>) -> Result<(Vec<u8>, usize), AllocError>
     ensures { IfOk result (λ x. (take x.1 x.0.items ≡ canon_clear parts.now)
         × (drop x.1 x.0.items ≡ private_cipher (canon_private parts.now))) }
@@ -271,7 +271,8 @@ fn sealed_texts(alloc: Global, parts: &FontParts<'_>) -> Result<(Vec<u8>, usize)
     Ok((out, start))
 }
 
-/// The PFA file of a font's parts. The lines of digits are made where the cipher stands, so that it has no room of its own.
+/// The PFA file of a font's parts. The lines of digits are made where the cipher stands, so the cipher takes no room of
+/// its own.
 fn pfa(alloc: Global, parts: &FontParts<'_>) -> Result<Vec<u8>, AllocError>
     ensures { IfOk result (λ v. v.items ≡ canon parts.now Pfa) }
 {
@@ -308,13 +309,13 @@ fn canonical(alloc: Global, parts: &FontParts<'_>, form: Form) -> Result<Vec<u8>
     }
 }
 
-/// The canonical file of a font (Adobe Type 1 Font Format 1.1, chapter 2; Technical Note 5040): a
-/// function of the font value alone, which is read as the font again. A PFA whose head begins with
-/// byte 128 would be taken for PFB; a PFB is always read again.
+/// The canonical file of a font (Adobe Type 1 Font Format 1.1, chapter 2; Technical Note 5040). It depends on the font
+/// value alone and is read as the same font. The exception is a PFA whose head begins with byte 128, which would be
+/// taken for a PFB; a PFB is always read again.
 ///
 /// # Errors
 ///
-/// Want of memory alone.
+/// Only want of memory.
 pub fn write(alloc: Global, font: &Font<'_>, form: Form) -> Result<Vec<u8>, AllocError>
     ensures canon { IfOk result (λ v. v.items ≡ canon font.now form) }
     ensures again { IfOk result (λ v. Fits form font.now → read_font v.items ≡ Ok font.now) }

@@ -1,4 +1,4 @@
--- A glyph does in a subset and in a join what it did.
+-- A glyph draws in a subset and in a join as it did before.
 use Rattle.std.proofs.Common.{◌≡◌, ℕ, true, cond, List, refl, sym, ◌∙◌, ap, subst, None}
 use Rattle.std.specs.FinMap as maps
 use Rattle.std.specs.FinSet as sets
@@ -17,6 +17,7 @@ use Rattle.t1_subset.proofs.JoinedStates.{left_glyph, left_subrs, font_back, com
 use Rattle.t1_subset.proofs.Drawings.{subset_draws, join_draws}
 use Rattle.t1_subset.proofs.Pictures.{runs_by_rules, pictures_alike, pictures3_alike}
 
+-- a kept glyph draws in a subset as in the font
 pub subset_alike : (f : FontValue) → IsFont f → (a : Names) → IsOf f a → (n : List ℕ) → sets.contains (keep profile f a) n ≡ true → DrawsAlike f (subset profile f a) n
 subset_alike f h a inside n k = record {
   charstring = get-glyph profile f h.glyphs.notdef a inside n ∙ ap (λ b. cond b (maps.get f.glyphs n) None) k;
@@ -27,6 +28,7 @@ subset_alike f h a inside n k = record {
   draws3 = pictures3_alike (subset profile f a) f n (subset_draws profile f h.glyphs.notdef a inside n k (maps.get f.glyphs n) refl);
 }
 
+-- a glyph of the first font draws in the join as it did
 pub left_alike : (f g : FontValue) → Compatible profile f g → (n : List ℕ) → has f n ≡ true → DrawsAlike f (joined_font profile f g) n
 left_alike f g c n h =
     let v = has_some (maps.get f.glyphs n) h in
@@ -39,10 +41,11 @@ left_alike f g c n h =
       draws3 = pictures3_alike (joined_font profile f g) f n (join_draws profile f g c n v.0 v.1);
     }
 
+-- so does a glyph of the second font
 pub right_alike : (f g : FontValue) → Compatible profile f g → (n : List ℕ) → has g n ≡ true → DrawsAlike g (joined_font profile f g) n
 right_alike f g c n h = subst (λ (j : FontValue). DrawsAlike g j n) (sym (font_back profile f g c)) (left_alike g f (compatible_back profile f g c) n h)
 
--- what both fonts show to an interpreter is their maps
+-- fonts show their maps to an interpreter, so calls answer alike of glyphs that draw alike
 pub answers_alike : (f j : FontValue) → IsFont f → IsFont j → (n : List ℕ) → DrawsAlike f j n → AnswersAlike f j n
 answers_alike f j hf hj n d = record {
   charstring = d.charstring;

@@ -21,20 +21,21 @@ use Rattle.t1_subset.proofs.Alike.{subset_alike}
 use Rattle.t1_subset.proofs.Fonts.{subset_is_font, two_subsets}
 use Rattle.t1_subset.proofs.Trees.{all_of, all_is_of, all_alike}
 
--- what is read is one font
+-- a file is read as one font only
 one_read : (x y : FontValue) → ◌≡◌ {A = Result FontValue ReadFault} (Ok x) (Ok y) → x ≡ y
 one_read x y e = cc
 
 module _ (f : FontValue) (h : IsFont f) where
-  -- a subset begins as its font does
+  -- a subset has the head of its font, so it fits the same forms
   subset_fits : (form : Form) (a : Names) → Fits form f → Fits form (subset profile f a)
   subset_fits Pfa a k = k
   subset_fits Pfb a k = k
 
-  -- the file of a subset is read as the subset
+  -- the file of a subset is read as that subset
   pub subset_again : (a : Names) (form : Form) → IsOf f a → Fits form f → read_font (canon (subset profile f a) form) ≡ Ok (subset profile f a)
   subset_again a form i k = round_trip (subset profile f a) form (subset_is_font profile f h a i) (subset_fits form a k)
 
+  -- each making succeeds and comes to the subset over all its sets of names
   makes : (m : Making) → EachLeaf (IsOf f) (sets_of m) → FormsFit f m → Makes f m (subset profile f (all_of (sets_of m)))
   makes (Subset a form) i k = subset_again a form i k
   makes (Merge s t) i k =
@@ -42,6 +43,7 @@ module _ (f : FontValue) (h : IsFont f) where
       (subset profile f (all_of (sets_of s)), subset profile f (all_of (sets_of t)), makes s i.0 k.0, makes t i.1 k.1, (both.0, both.1))
   makes (Again form s) i k = (subset profile f (all_of (sets_of s)), makes s i k.1, subset_again (all_of (sets_of s)) form (all_is_of profile f h (sets_of s) i) k.0)
 
+  -- a making comes to no other font
   makes_one : (m : Making) → EachLeaf (IsOf f) (sets_of m) → FormsFit f m → (j : FontValue) → Makes f m j → j ≡ subset profile f (all_of (sets_of m))
   makes_one (Subset a form) i k j d = one_read j (subset profile f a) (sym d ∙ subset_again a form i k)
   makes_one (Merge s t) i k j d =
@@ -52,6 +54,7 @@ module _ (f : FontValue) (h : IsFont f) where
       let on_the_way = makes_one s i k.1 d.0 d.1 in
       one_read j (subset profile f (all_of (sets_of s))) (sym d.2 ∙ ap (λ (p : FontValue). read_font (canon p form)) on_the_way ∙ subset_again (all_of (sets_of s)) form (all_is_of profile f h (sets_of s) i) k.0)
 
+  -- a making from sets in any order comes to the subset over all of them
   pub comes_to_subset : (all : List Names) (m : Making) → IsPermutation all (leaves (sets_of m)) → EachLeaf (IsOf f) (sets_of m) → FormsFit f m → ComesToSubset f m (union_all all)
   comes_to_subset all m p i k =
       let same = all_alike all (sets_of m) p in

@@ -1,4 +1,4 @@
--- Where the states of two fonts join, the joined font has the entries of both.
+-- If the states of two fonts join, the joined font has the entries of both.
 use Rattle.std.proofs.Common.{◌≡◌, ℕ, Bool, true, false, cond, not, ◌&&◌, List, refl, sym, ◌∙◌, ap, true≢false, Option, Some, None, is_some, unwrap_or, option_map}
 use Rattle.std.specs.Cmp.{nat_cmp_total}
 use Rattle.std.specs.FinSet.{nat_cmp-IsAntisymmetric}
@@ -15,7 +15,7 @@ use Rattle.t1_subset.proofs.JoinOfSubsets.{same_font}
 use Rattle.t1_subset.proofs.JoinedStates.{glyph_agree, subr_in_join}
 use Rattle.t1_subset.proofs.CutFonts.{stub_is}
 
--- s and t: the entry is a stub; u and v: it is called
+-- s and t say whether each entry is a stub, u and v whether it is called
 joined_over : (e d : List ℕ) (s t u v : Bool) → (s ≡ true → e ≡ stub) → (t ≡ true → d ≡ stub) → Agree (cond (s && not u) None (Some e)) (cond (t && not v) None (Some d))
     → unwrap_or (joined (cond (s && not u) None (Some e)) (cond (t && not v) None (Some d))) stub ≡ cond s d e
 joined_over e d false t u v p q h = refl
@@ -26,6 +26,7 @@ joined_over e d true true true false p q h = p refl ∙ sym (q refl)
 joined_over e d true true false true p q h = refl
 joined_over e d true true false false p q h = sym (q refl)
 
+-- if the states of two entries agree, the entries agree unless one is a stub
 meet : (e d : List ℕ) (s t u v : Bool) → Agree (cond (s && not u) None (Some e)) (cond (t && not v) None (Some d)) → Agree (cond s None (Some e)) (cond t None (Some d))
 meet e d true t u v h = tt
 meet e d false true u v h = tt
@@ -47,12 +48,14 @@ module _ {O : Type 0} (m : Interpreter O) (f g : FontValue) (c : Compatible m f 
       with_none false e = tt
   meet_at i (Some e) (Some d) h = meet e d (is_stub e) (is_stub d) (is_called m f i) (is_called m g i) h
 
+  -- the joined font is the font of the entries of both
   pub joined_are_entries : joined_font m f g ≡ join_parts f g
   joined_are_entries = same_font (joined_font m f g) (join_parts f g) refl refl
       (maps_same nat_cmp_total nat_cmp-IsAntisymmetric _ _ (λ i. subr_in_join m f g i ∙ over_at i (maps.get f.subrs i) (maps.get g.subrs i) (c.present i) (c.subrs i)
       ∙ sym (get-map_values nat_cmp_total nat_cmp-IsAntisymmetric (λ i v. joined_subr v (maps.get g.subrs i)) f.subrs i)))
       refl
 
+  -- the entries of both make a join
   pub entries_join : EntriesJoin f g
   entries_join = record {
     shells = c.shells;

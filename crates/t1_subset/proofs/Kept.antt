@@ -1,4 +1,4 @@
--- What `keep` and `kept` are: least, closed, and the union of those of two sets.
+-- What is kept is closed and least, and two sets of names keep together what each of them keeps.
 use Rattle.std.proofs.Common.{◌≡◌, ℕ, true, not, ◌&&◌, ◌||◌, List, [], ◌∷◌, ◌++◌, sym, ◌∙◌, ap, ◌⊎◌, inl, inr, filter, nat_cmp, flat_map}
 use Rattle.std.specs.List.{list_any, list_all}
 use Rattle.std.specs.Ordering.{eq_by_cmp}
@@ -15,6 +15,7 @@ use Rattle.t1_subset.proofs.Sets.{and_so, not_or_so, not_or_from, any_at, any_on
 module _ {O : Type 0} (m : Interpreter O) (f : FontValue) where
   -- ---- the test and the relation
 
+  -- a set that passes the test is closed
   pub closed_from_test : (a s : Names) → is_closed m f a s ≡ true → Closed m f a s
   closed_from_test a s h =
       let two = second_so (sets.contains s notdef) (sets.is_subset a s && list_all (λ n. sets.is_subset (components_here m f n) s) (sets.items s)) h in
@@ -25,6 +26,7 @@ module _ {O : Type 0} (m : Interpreter O) (f : FontValue) where
             (all_at nat_list_cmp_total name_same (λ n. sets.is_subset (components_here m f n) s) n (sets.items s) (second_so (sets.is_subset a s) (list_all (λ n. sets.is_subset (components_here m f n) s) (sets.items s)) two) (in_items nat_list_cmp_total name_same s n is)) p component;
       }
 
+  -- a closed set passes the test
   pub closed_test : (a s : Names) → Closed m f a s → is_closed m f a s ≡ true
   closed_test a s c = and_so (sets.contains s notdef) (sets.is_subset a s && list_all (λ n. sets.is_subset (components_here m f n) s) (sets.items s)) c.notdef
       (and_so (sets.is_subset a s) (list_all (λ n. sets.is_subset (components_here m f n) s) (sets.items s)) (sets.contains-is_subset nat_list_cmp_total a s c.asked)
@@ -32,40 +34,49 @@ module _ {O : Type 0} (m : Interpreter O) (f : FontValue) where
 
   -- ---- members
 
+  -- a font has the glyphs that its map lists
   pub has_key : (n : List ℕ) → list_any (eq_by_cmp name_cmp n) (maps.keys f.glyphs) ≡ true → has f n ≡ true
   has_key n h = maps.contains_key-keys f.glyphs n ∙ h
 
+  -- the map of a font lists the glyphs that it has
   pub key_of_has : (n : List ℕ) → has f n ≡ true → list_any (eq_by_cmp name_cmp n) (maps.keys f.glyphs) ≡ true
   key_of_has n h = sym (maps.contains_key-keys f.glyphs n) ∙ h
 
+  -- a component that is here is named by the glyph, and the font has it
   pub component_here : (n p : List ℕ) → sets.contains (components_here m f n) p ≡ true → (list_any (eq_by_cmp name_cmp p) (components m f.subrs (charstring f n)) ≡ true) × (has f p ≡ true)
   component_here n p h = any_filter nat_list_cmp_total name_same (has f) p (components m f.subrs (charstring f n)) (in_list nat_list_cmp_total name_same (filter (has f) (components m f.subrs (charstring f n))) p h)
 
+  -- what a glyph names and the font has is a component that is here
   pub component_here_from : (n p : List ℕ) → list_any (eq_by_cmp name_cmp p) (components m f.subrs (charstring f n)) ≡ true → has f p ≡ true → sets.contains (components_here m f n) p ≡ true
   component_here_from n p h is = from_in_list nat_list_cmp_total name_same (filter (has f) (components m f.subrs (charstring f n))) p (any_filter_from nat_list_cmp_total name_same (has f) p (components m f.subrs (charstring f n)) h is)
 
   -- ---- keep
 
+  -- a name that is kept is the font's, and needed
   keep_two : (a : Names) (n : List ℕ) → sets.contains (keep m f a) n ≡ true → (list_any (eq_by_cmp name_cmp n) (maps.keys f.glyphs) ≡ true) × (is_needed m f a n ≡ true)
   keep_two a n h = any_filter nat_list_cmp_total name_same (is_needed m f a) n (maps.keys f.glyphs) (in_list nat_list_cmp_total name_same (filter (is_needed m f a) (maps.keys f.glyphs)) n h)
 
+  -- a name that is kept is the font's
   pub keep_has : (a : Names) (n : List ℕ) → sets.contains (keep m f a) n ≡ true → has f n ≡ true
   keep_has a n h = has_key n (keep_two a n h).0
 
-  -- a set of the font's names
+  -- the names of a set are the font's
   abbrev pub InFont : Names → Type 0
   InFont s = (n : List ℕ) → sets.contains s n ≡ true → has f n ≡ true
 
+  -- what is kept is in each closed set of the font's names
   pub keep_least : (a s : Names) → InFont s → Closed m f a s → (n : List ℕ) → sets.contains (keep m f a) n ≡ true → sets.contains s n ≡ true
   keep_least a s inside c n h = not_or_so (is_closed m f a s) (sets.contains s n)
       (each_set (maps.keys f.glyphs) (λ s. not (is_closed m f a s) || sets.contains s n) (keep_two a n h).1 s (λ q is. key_of_has q (inside q is)))
       (closed_test a s c)
 
+  -- a name of the font that is in each closed set is kept
   pub keep_from : (a : Names) (n : List ℕ) → has f n ≡ true → ((s : Names) → InFont s → Closed m f a s → sets.contains s n ≡ true) → sets.contains (keep m f a) n ≡ true
   keep_from a n is each = from_in_list nat_list_cmp_total name_same (filter (is_needed m f a) (maps.keys f.glyphs)) n
       (any_filter_from nat_list_cmp_total name_same (is_needed m f a) n (maps.keys f.glyphs) (key_of_has n is)
       (all_sets (maps.keys f.glyphs) (λ s. not (is_closed m f a s) || sets.contains s n) (λ s w. not_or_from (is_closed m f a s) (sets.contains s n) (λ c. each s (λ q h. has_key q (w q h)) (closed_from_test a s c)))))
 
+  -- what is kept is closed
   pub keep_closed : (a : Names) → has f notdef ≡ true → InFont a → Closed m f a (keep m f a)
   keep_closed a base inside = record {
     asked = λ n h. keep_from a n (inside n h) (λ s i c. c.asked n h);
@@ -75,9 +86,11 @@ module _ {O : Type 0} (m : Interpreter O) (f : FontValue) where
 
   -- ---- distribution
 
+  -- a larger set of names keeps no fewer glyphs
   pub keep_more : (a b : Names) → ((n : List ℕ) → sets.contains a n ≡ true → sets.contains b n ≡ true) → (n : List ℕ) → sets.contains (keep m f a) n ≡ true → sets.contains (keep m f b) n ≡ true
   keep_more a b sub n h = keep_from b n (keep_has a n h) (λ s i c. keep_least a s i (record { asked = λ q is. c.asked q (sub q is); notdef = c.notdef; components = c.components }) n h)
 
+  -- two sets of names keep together the glyphs that each of them keeps
   pub keep_union : (a b : Names) → has f notdef ≡ true → InFont a → InFont b → keep m f (sets.union a b) ≡ sets.union (keep m f a) (keep m f b)
   keep_union a b base ia ib =
       let ca = keep_closed a base ia in
@@ -99,15 +112,18 @@ module _ {O : Type 0} (m : Interpreter O) (f : FontValue) where
 
   -- ---- kept
 
+  -- the indices that are always kept
   abbrev pub low : List ℕ
   low = 0 ∷ 1 ∷ 2 ∷ 3 ∷ []
 
+  -- the Subrs that a glyph executes
   abbrev pub calls : List ℕ → Numbers
   calls n = m.exec f.subrs (charstring f n)
 
   abbrev called_by : Names → List ℕ
   called_by s = flat_map (λ n. sets.items (calls n)) (sets.items s)
 
+  -- a Subr that is kept is one of the first four, or a kept glyph executes it
   pub kept_cases : (a : Names) (i : ℕ) → sets.contains (kept m f a) i ≡ true → (list_any (eq_by_cmp nat_cmp i) low ≡ true) ⊎ ((n : List ℕ) × (sets.contains (keep m f a) n ≡ true) × (sets.contains (calls n) i ≡ true))
   kept_cases a i h = elim (any_append (eq_by_cmp nat_cmp i) low (called_by (keep m f a)) (in_list nat_cmp_total nat_cmp-IsAntisymmetric (low ++ called_by (keep m f a)) i h)) [
     | inl x ↦ inl x
@@ -116,13 +132,16 @@ module _ {O : Type 0} (m : Interpreter O) (f : FontValue) where
         inr (r.0, from_in_items nat_list_cmp_total name_same (keep m f a) r.0 r.1, from_in_items nat_cmp_total nat_cmp-IsAntisymmetric (calls r.0) i r.2)
   ]
 
+  -- the first four Subrs are kept
   pub kept_low : (a : Names) (i : ℕ) → list_any (eq_by_cmp nat_cmp i) low ≡ true → sets.contains (kept m f a) i ≡ true
   kept_low a i h = from_in_list nat_cmp_total nat_cmp-IsAntisymmetric (low ++ called_by (keep m f a)) i (any_append_left (eq_by_cmp nat_cmp i) low (called_by (keep m f a)) h)
 
+  -- what a kept glyph executes is kept
   pub kept_call : (a : Names) (i : ℕ) (n : List ℕ) → sets.contains (keep m f a) n ≡ true → sets.contains (calls n) i ≡ true → sets.contains (kept m f a) i ≡ true
   kept_call a i n is h = from_in_list nat_cmp_total nat_cmp-IsAntisymmetric (low ++ called_by (keep m f a)) i (any_append_right (eq_by_cmp nat_cmp i) low (called_by (keep m f a))
       (any_flat_from nat_cmp_total nat_cmp-IsAntisymmetric (λ n. sets.items (calls n)) i (sets.items (keep m f a)) (any_at nat_list_cmp_total name_same (λ n. list_any (eq_by_cmp nat_cmp i) (sets.items (calls n))) n (sets.items (keep m f a)) (in_items nat_list_cmp_total name_same (keep m f a) n is) (in_items nat_cmp_total nat_cmp-IsAntisymmetric (calls n) i h))))
 
+  -- two sets of names keep together the Subrs that each of them keeps
   pub kept_union : (a b : Names) → has f notdef ≡ true → InFont a → InFont b → kept m f (sets.union a b) ≡ sets.union (kept m f a) (kept m f b)
   kept_union a b base ia ib =
       let e = keep_union a b base ia ib in
@@ -141,5 +160,6 @@ module _ {O : Type 0} (m : Interpreter O) (f : FontValue) where
         | inr x ↦ elim (kept_cases b i x) [ inl y ↦ kept_low (sets.union a b) i y | inr y ↦ kept_call (sets.union a b) i y.0 (keep_more b (sets.union a b) (in_union_right nat_list_cmp_total name_same a b) y.0 y.1) y.2 ]
       ])
 
+  -- a set that keeps more glyphs keeps no fewer Subrs
   pub kept_more : (a b : Names) → ((n : List ℕ) → sets.contains (keep m f a) n ≡ true → sets.contains (keep m f b) n ≡ true) → (i : ℕ) → sets.contains (kept m f a) i ≡ true → sets.contains (kept m f b) i ≡ true
   kept_more a b more i h = elim (kept_cases a i h) [ inl x ↦ kept_low b i x | inr y ↦ kept_call b i y.0 (more y.0 y.1) y.2 ]

@@ -1,4 +1,4 @@
--- A font is known by its states.
+-- A font is determined by its states.
 use Rattle.std.proofs.Common.{◌≡◌, ℕ, true, false, cond, not, ◌&&◌, List, refl, sym, ◌∙◌, ap, Option, Some, None, unwrap_or, option_map}
 use Rattle.std.specs.Cmp.{nat_cmp_total, first_so}
 use Rattle.std.specs.Cmp.Lexicographic.{nat_list_cmp_total}
@@ -22,9 +22,11 @@ use Rattle.t1_subset.proofs.state_tables.FontStates.{meant, get-names, get-used}
 use Rattle.t1_subset.proofs.Shares.{shared_to}
 use Rattle.t1_subset.proofs.state_tables.Numbered.{get-numbered}
 
+-- maps by number with one table are the same
 same_numbered : (s t : Numbered) → numbered s ≡ numbered t → (i : ℕ) → maps.get s i ≡ maps.get t i
 same_numbered s t e i = sym (get-numbered s (of_number i)) ∙ ap (λ (t : TableMeaning). maps.get t (of_number i)) e ∙ get-numbered t (of_number i)
 
+-- an Encoding is known by its word and its states
 encoding_known : (d e : Encoding) → word_of d ≡ word_of e → code_states d ≡ code_states e → d ≡ e
 encoding_known (Word v) (Word w) h k = ap Word (Some_same h)
 encoding_known (Word v) (Codes t) h k = Some_None h
@@ -32,7 +34,7 @@ encoding_known (Codes s) (Word w) h k = Some_None (sym h)
 encoding_known (Codes s) (Codes t) h k = ap Codes (maps_same nat_cmp_total nat_cmp-IsAntisymmetric s t (same_numbered s t k))
 
 module _ {O : Type 0} (m : Interpreter O) where
-  -- an entry is its state, or a stub
+  -- an entry is its state, or a stub if the state is the bottom
   subr_known : (f : FontValue) (i : ℕ) (x : Option (List ℕ)) → maps.get f.subrs i ≡ x → x ≡ option_map (λ v. unwrap_or (subr_state m f i) stub) x
   subr_known f i None h = refl
   subr_known f i (Some e) h = ap Some (entry_of (is_stub e && not (is_called m f i)) e (λ b. stub_is e (first_so (is_stub e) (not (is_called m f i)) b))
@@ -50,6 +52,7 @@ module _ {O : Type 0} (m : Interpreter O) where
     same_subr : (i : ℕ) → subr_state m f i ≡ subr_state m g i
     same_subr i = sym (get-used m f i) ∙ same_numbered (used_subrs m f) (used_subrs m g) (ap subr_part e) i ∙ get-used m g i
 
+    -- fonts with the same states are the same
     pub font_known : f ≡ g
     font_known =
         let shared = shared_to f g (ap (λ (s : StatesValue). s.0) e) in

@@ -1,4 +1,4 @@
--- Runs and drawings by this project's rules, where the interpreter of the laws comes to the same.
+-- Runs and drawings by this project's rules are the same if the interpreter of the laws comes to the same.
 use Rattle.std.proofs.Common.{◌≡◌, ℕ, true, List, [], ◌∷◌, ◌++◌, map, refl, sym, ◌∙◌, ap, Option, Some, None, option_map}
 use Rattle.std.specs.FinMap as maps
 use Rattle.std.specs.FinSet as sets
@@ -11,7 +11,7 @@ use Rattle.t1_font.specs.FontValue.{FontValue, Numbered}
 use Rattle.t1_subset.specs.Profile.{profile, Endings, in_set_of}
 use Rattle.t1_subset.specs.Outcomes.{component_outcome, seen, drawing}
 
--- Subrs that agree at what a charstring executes run it alike
+-- a charstring runs the same over two tables of Subrs that agree at what it executes
 pub runs_by_rules : (s t : Numbered) (c : List ℕ) → ((i : ℕ) → sets.contains (profile.exec s c) i ≡ true → maps.get t i ≡ maps.get s i)
     → (direct (maps.get t) c ≡ direct (maps.get s) c) × (direct3 (maps.get t) c ≡ direct3 (maps.get s) c) × (exec (maps.get t) c ≡ exec (maps.get s) c)
 unfolding profile
@@ -19,19 +19,20 @@ runs_by_rules s t c h = local (maps.get s) (maps.get t) c (λ i k. sym (h i (in_
 
 -- ---- what is seen of a glyph, where hints are replaced and where they are kept
 
--- as many of a list as another has
+-- the first elements of a list, as many as another list has
 abbrev front : {X Y : Type 0} → List X → List Y → List Y
 front [] ys = []
 front (x ∷ xs) [] = []
 front (x ∷ xs) (y ∷ ys) = y ∷ front xs ys
 
--- the others
+-- the elements after those
 abbrev back : {X Y : Type 0} → List X → List Y → List Y
 back [] ys = ys
 back (x ∷ xs) [] = []
 back (x ∷ xs) (y ∷ ys) = back xs ys
 
 module _ {X Y Z : Type 0} (h : X → Y) (k : Y → Z) (g : X → Z) (e : (x : X) → k (h x) ≡ g x) where
+  -- a map after a map is their composition
   map_of : (ys : List X) → map k (map h ys) ≡ map g ys
   map_of [] = refl
   map_of (y ∷ ys) = λ i. e y i ∷ map_of ys i
@@ -44,16 +45,20 @@ module _ {X Y Z : Type 0} (h : X → Y) (k : Y → Z) (g : X → Z) (e : (x : X)
   back_of [] ys = map_of ys
   back_of (x ∷ xs) ys = back_of xs ys
 
+-- what a charstring comes to where hints are replaced
 abbrev replaced_ending : Endings → Ending
 replaced_ending ends = ends.0
 
+-- what a charstring comes to where hints are kept
 abbrev kept_ending : Endings → Ending
 kept_ending ends = ends.1
 
+-- the drawing of what is seen of a glyph, where hints are replaced
 abbrev replaced_seen : Option (Endings × List (Option Endings)) → Picture
 replaced_seen None = Undrawn NoGlyph
 replaced_seen (Some s) = picture s.0.0 (map (option_map replaced_ending) (front (parts_of s.0.0) s.1))
 
+-- the drawing of what is seen of a glyph, where hints are kept
 abbrev kept_seen : Option (Endings × List (Option Endings)) → Picture
 kept_seen None = Undrawn NoGlyph
 kept_seen (Some s) = picture s.0.1 (map (option_map kept_ending) (back (parts_of s.0.0) s.1))
@@ -90,15 +95,17 @@ module _ (f : FontValue) where
     unfolding profile
     kept_by = ap (picture second) (back_of (component_outcome profile f) (option_map kept_ending) kept_of (λ p. kept_outcome (maps.get f.glyphs p)) (parts_of first) (parts_of second))
 
+  -- the drawing of a glyph is that of what is seen of it, where hints are replaced
   replaced_at : (n : List ℕ) (x : Option (List ℕ)) → maps.get f.glyphs n ≡ x → draw (maps.get f.subrs) (maps.get f.glyphs) n ≡ replaced_seen (option_map (seen profile f) x)
   replaced_at n None e = let at = picture_at _ (maps.get f.subrs) (maps.get f.glyphs) in ap (λ x. at (option_map (direct (maps.get f.subrs)) x)) e
   replaced_at n (Some c) e = let at = picture_at _ (maps.get f.subrs) (maps.get f.glyphs) in ap (λ x. at (option_map (direct (maps.get f.subrs)) x)) e ∙ sym (replaced_by c)
 
+  -- the drawing of a glyph is that of what is seen of it, where hints are kept
   kept_at : (n : List ℕ) (x : Option (List ℕ)) → maps.get f.glyphs n ≡ x → draw3 (maps.get f.subrs) (maps.get f.glyphs) n ≡ kept_seen (option_map (seen profile f) x)
   kept_at n None e = let at = picture_at _ (maps.get f.subrs) (maps.get f.glyphs) in ap (λ x. at (option_map (direct3 (maps.get f.subrs)) x)) e
   kept_at n (Some c) e = let at = picture_at _ (maps.get f.subrs) (maps.get f.glyphs) in ap (λ x. at (option_map (direct3 (maps.get f.subrs)) x)) e ∙ sym (kept_by c)
 
--- glyphs of which the same is seen draw alike, by both answers
+-- glyphs of which the same is seen draw alike, by both answers to hint replacement
 module _ (f g : FontValue) (n : List ℕ) (h : drawing profile f n ≡ drawing profile g n) where
   pub pictures_alike : draw (maps.get f.subrs) (maps.get f.glyphs) n ≡ draw (maps.get g.subrs) (maps.get g.glyphs) n
   pictures_alike = replaced_at f n (maps.get f.glyphs n) refl ∙ ap replaced_seen h ∙ sym (replaced_at g n (maps.get g.glyphs n) refl)

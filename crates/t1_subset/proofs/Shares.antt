@@ -1,4 +1,4 @@
--- Fonts share what they have to exactly where no part differs, and the first part that does is the same in both orders.
+-- Fonts share what they have to exactly if no part differs, and the first part that differs is the same in both orders.
 use Rattle.std.proofs.Common.{◌≡◌, ◌↔◌, option_map, ℕ, Bool, true, false, not, ◌&&◌, List, [], ◌∷◌, map, refl, sym, ◌∙◌, ap, true≢false, inl, inr, Option, Some, None, is_some, nat_cmp}
 use Rattle.std.specs.List.{list_any, AllByRecursion}
 use Rattle.std.specs.Ordering.{eq_by_cmp}
@@ -19,7 +19,7 @@ use Rattle.t1_subset.proofs.Maps.{maps_same}
 use Rattle.t1_subset.proofs.Searching.{not_false, false_of, none_passes, passes_none}
 use Rattle.t1_subset.proofs.Sets.{name_same, and_so, is_or_not, not_so, tied, itself}
 
--- a test that decides equality is the same both ways
+-- a test that decides equality is the same in both orders
 pub test_back : {X : Type 0} (t : X → X → Bool) → ((x y : X) → t x y ≡ true → x ≡ y) → ((x : X) → t x x ≡ true) → (x y : X) → t x y ≡ t y x
 test_back t so self x y =
     elim (is_or_not (t x y)) [
@@ -30,13 +30,16 @@ test_back t so self x y =
 -- ---- each test decides
 
 module _ {X : Type 0} (t : X → X → Bool) where
+  -- a test passes exactly if both values are equal
   pub record Decides : Type 0 where
     pub so : (x y : X) → t x y ≡ true → x ≡ y
     pub self : (x : X) → t x x ≡ true
 
+  -- what is equal passes the test
   pub is_same : Decides → (x y : X) → x ≡ y → t x y ≡ true
   is_same d x y e = ap (t x) (sym e) ∙ d.self x
 
+  -- the test is the same in both orders
   pub swaps : Decides → (x y : X) → t x y ≡ t y x
   swaps d = test_back t d.so d.self
 
@@ -58,7 +61,7 @@ bool_self false = refl
 pub bools_decide : Decides same_bool
 bools_decide = record { so = bool_so; self = bool_self }
 
--- the words of Subrs are known by the test where both fonts have them, or neither
+-- tables of Subrs are the same if both are there or neither, they declare as many, and their words are the same
 subrs_so : (s t : Option SubrsShell) → is_some s ≡ is_some t → declared_count s ≡ declared_count t → same_words s t ≡ true → s ≡ t
 subrs_so None None p d w = refl
 subrs_so None (Some t) p d w = absurd (true≢false (sym p))
@@ -115,6 +118,7 @@ module _ (s t : Shared) where
   indices_so : same_part s t SubrsTable ≡ true → s.1.1 ≡ t.1.1
   indices_so h = bytes_decide.so s.1.1 t.1.1 (second_so (same_number (declared_count s.0.subrs) (declared_count t.0.subrs)) _ (second_so (same_bool (is_some s.0.subrs) (is_some t.0.subrs)) _ h))
 
+  -- what fonts share is the same if no part differs
   pub shared_so : differing_part s t ≡ None → s ≡ t
   shared_so h =
       let parts = none_passes (λ part. not (same_part s t part)) all_parts h in
@@ -135,6 +139,7 @@ part_self s Middle = false_of _ (bytes_decide.self s.0.middle)
 part_self s GlyphsWords = false_of _ (and_so (same_bytes s.0.glyphs_rd s.0.glyphs_rd) _ (bytes_decide.self s.0.glyphs_rd) (bytes_decide.self s.0.glyphs_def))
 part_self s Tail = false_of _ (bytes_decide.self s.0.tail)
 
+-- no part of what is the same differs
 pub no_part_differs : (s t : Shared) → s ≡ t → differing_part s t ≡ None
 no_part_differs s t e = ap (differing_part s) (sym e) ∙ passes_none (λ part. not (same_part s s part)) all_parts (part_self s)
 
@@ -152,6 +157,7 @@ module _ (s t : Shared) where
   part_swap GlyphsWords = λ i. swaps same_bytes bytes_decide s.0.glyphs_rd t.0.glyphs_rd i && swaps same_bytes bytes_decide s.0.glyphs_def t.0.glyphs_def i
   part_swap Tail = swaps same_bytes bytes_decide s.0.tail t.0.tail
 
+  -- the first part that differs is the same in both orders
   pub differing_back : differing_part s t ≡ differing_part t s
   differing_back = λ i. first_where (λ part. not (part_swap part i)) all_parts
 
@@ -163,12 +169,14 @@ pub record Shares (f g : FontValue) : Type 0 where
   pub present : (i : ℕ) → maps.contains_key f.subrs i ≡ maps.contains_key g.subrs i
   pub kinds : SameKind f.encoding g.encoding
 
+-- Encodings of one kind have the same word, or none
 kind_words : (d e : Encoding) → SameKind d e → word_of d ≡ word_of e
 kind_words (Word v) (Word w) h = ap Some h
 kind_words (Word v) (Codes t) h = absurd h
 kind_words (Codes s) (Word w) h = absurd h
 kind_words (Codes s) (Codes t) h = refl
 
+-- Encodings with the same word, or none, are of one kind
 words_kind : (d e : Encoding) → word_of d ≡ word_of e → SameKind d e
 words_kind (Word v) (Word w) h = Some_same h
 words_kind (Word v) (Codes t) h = Some_None h
@@ -182,15 +190,18 @@ keys_valued (e ∷ es) = ap (λ (ns : List ℕ). e.0 ∷ ns) (keys_valued es)
 keys_of : (m : Numbered) → maps.keys m ≡ maps.keys {X = ℕ} (map_values (λ i c. 0) m)
 keys_of m = keys_valued (maps.entries m) ∙ ap (map (λ e. e.0)) (sym (entries-map_values nat_cmp_total nat_cmp-IsAntisymmetric (λ i c. 0) m))
 
+-- maps that are present at the same indices have the same keys
 pub same_indices : (m n : Numbered) → ((i : ℕ) → maps.contains_key m i ≡ maps.contains_key n i) → maps.keys m ≡ maps.keys n
 same_indices m n h = keys_of m
     ∙ ap (λ (s : maps.FinMap nat_cmp ℕ). maps.keys s) (maps_same nat_cmp_total nat_cmp-IsAntisymmetric _ _ (λ i.
     get-map_values nat_cmp_total nat_cmp-IsAntisymmetric (λ i c. 0) m i ∙ constant 0 (maps.get m i) (maps.get n i) (h i) ∙ sym (get-map_values nat_cmp_total nat_cmp-IsAntisymmetric (λ i c. 0) n i)))
     ∙ sym (keys_of n)
 
+-- fonts that share what they have to have the same shared value
 pub shared_from : (f g : FontValue) → Shares f g → shared_of f ≡ shared_of g
 shared_from f g c = λ i. (c.shells i, (kind_words f.encoding g.encoding c.kinds i, same_indices f.subrs g.subrs c.present i))
 
+-- fonts with the same shared value share what they have to
 pub shared_to : (f g : FontValue) → shared_of f ≡ shared_of g → Shares f g
 shared_to f g h = record {
   shells = ap (λ s. s.0) h;
@@ -198,7 +209,7 @@ shared_to f g h = record {
   kinds = words_kind f.encoding g.encoding (ap (λ s. s.1.0) h);
 }
 
--- no part differs exactly where all is the same
+-- no part differs exactly if all is the same
 pub parts_test : {X : Type 0} (part : X → ShellPart) (s t : Shared) (r : Option X) (b : Bool) → is_some r ≡ not b → option_map part r ≡ differing_part s t → (b ≡ true) ↔ (s ≡ t)
 parts_test part s t None b n e = (λ h. shared_so s t (sym e), λ h. not_false b (sym n))
 parts_test part s t (Some x) b n e = (λ h. absurd (true≢false (n ∙ ap not h)), λ h. Some_None (e ∙ no_part_differs s t h))

@@ -1,4 +1,4 @@
--- The smallest of a set that passes, known by what it is.
+-- The smallest key of a set that passes a test, known by what it is.
 use Rattle.std.proofs.Common.{◌≡◌, ℕ, Bool, true, false, cond, List, [], ◌∷◌, map, sym, ◌∙◌, ap, true≢false, inl, inr, Ordering, Less, Some, is_lt}
 use Rattle.std.specs.List.{list_any}
 use Rattle.std.specs.Ordering.{eq_by_cmp}
@@ -13,7 +13,7 @@ use Rattle.t1_subset.proofs.Maps.{less_of}
 use Rattle.t1_subset.proofs.Sets.{or_cases, here, later, itself, tied}
 
 module _ {K : Type 0} {R : K → K → Ordering} (o : IsTotalOrder R) (same : IsAntisymmetric R) (p : K → Bool) where
-  -- a key is below those that come later
+  -- a key is below the keys that come later
   pub below_later : {X : Type 0} (k q : K) (es : List (K × X)) → below_all R k es ≡ true → list_any (eq_by_cmp R q) (map (λ e. e.0) es) ≡ true → R k q ≡ Less
   below_later k q [] b h = absurd (true≢false (sym h))
   below_later k q (e ∷ es) b h = elim (or_cases (eq_by_cmp R q e.0) (list_any (eq_by_cmp R q) (map (λ e. e.0) es)) h) [
@@ -21,6 +21,7 @@ module _ {K : Type 0} {R : K → K → Ordering} (o : IsTotalOrder R) (same : Is
     | inr c ↦ below_later k q es (second_so (is_lt (R k e.0)) (below_all R k es) b) c
   ]
 
+  -- the first key that passes is one that passes, below which none does
   first_is : {X : Type 0} (k : K) (es : List (K × X)) → is_sorted R es ≡ true → list_any (eq_by_cmp R k) (map (λ e. e.0) es) ≡ true → p k ≡ true
       → ((q : K) → list_any (eq_by_cmp R q) (map (λ e. e.0) es) ≡ true → R q k ≡ Less → p q ≡ false) → first_where p (map (λ e. e.0) es) ≡ Some k
   first_is k [] s h is least = absurd (true≢false (sym h))
@@ -31,7 +32,7 @@ module _ {K : Type 0} {R : K → K → Ordering} (o : IsTotalOrder R) (same : Is
         ∙ first_is k es (second_so (below_all R e.0 es) (is_sorted R es) s) c is (λ q w l. least q (later (eq_by_cmp R q) e.0 (map (λ e. e.0) es) w) l)
   ]
 
-  -- a member that passes, below which none does
+  -- a member that passes, below which none does, is the smallest
   pub smallest_is : (s : maps.FinMap R ℕ) (k : K) → maps.contains_key s k ≡ true → p k ≡ true → ((q : K) → maps.contains_key s q ≡ true → R q k ≡ Less → p q ≡ false) → smallest p s ≡ Some k
   smallest_is s k h is least = first_is k (maps.entries s) (T_true (is_sorted R (maps.entries s)) (maps.entries_sorted s)) (sym (contains-members o same s k) ∙ h) is
       (λ q w l. least q (contains-members o same s q ∙ w) l)

@@ -1,4 +1,4 @@
--- Some glyph of a font executes an index, or names a component.
+-- When some glyph of a font executes an index or names a component.
 use Rattle.std.proofs.Common.{◌≡◌, ℕ, Bool, true, ◌||◌, inl, inr, List, refl, sym, ◌∙◌, ap, true≢false, Option, Some, None, is_some}
 use Rattle.std.specs.List.{list_any}
 use Rattle.std.specs.Cmp.{both_ways}
@@ -12,11 +12,13 @@ use Rattle.t1_subset.specs.Keep.{has, components}
 use Rattle.t1_subset.specs.States.{executed_at, executes, called_at, calls_for, is_called, is_sought}
 use Rattle.t1_subset.proofs.Sets.{name_same, any_one, any_at, or_cases, or_left, or_right}
 
--- what holds of a name in j where it holds of it in f or in g holds of some glyph of j where it does of one of f or of g
+-- what holds of a name in j if it holds in f or in g holds of some glyph of j if it does of some glyph of f or of g
 module _ (p : FontValue → List ℕ → Bool) (there : (h : FontValue) (n : List ℕ) → p h n ≡ true → has h n ≡ true) where
+  -- what holds of a glyph holds of some glyph
   some : (h : FontValue) (n : List ℕ) → p h n ≡ true → list_any (p h) (names_in h.glyphs) ≡ true
   some h n t = any_at nat_list_cmp_total name_same (p h) n (names_in h.glyphs) (sym (maps.contains_key-keys h.glyphs n) ∙ there h n t) t
 
+  -- what holds of some glyph holds of one that can be named
   one : (h : FontValue) → list_any (p h) (names_in h.glyphs) ≡ true → (n : List ℕ) × (p h n ≡ true)
   one h t = let w = any_one nat_list_cmp_total name_same (p h) (names_in h.glyphs) t in (w.0, w.2)
 
@@ -29,11 +31,12 @@ module _ (p : FontValue → List ℕ → Bool) (there : (h : FontValue) (n : Lis
       ])
 
 module _ {O : Type 0} (m : Interpreter O) (f : FontValue) where
-  -- who executes an index is there, and so is who names a component
+  -- a charstring that executes an index is there
   pub executing_there : (i : ℕ) (x : Option (List ℕ)) → executed_at m f i x ≡ true → is_some x ≡ true
   executing_there i None h = h
   executing_there i (Some c) h = refl
 
+  -- a charstring that names a component is there
   pub naming_there : (p : List ℕ) (x : Option (List ℕ)) → called_at m f p x ≡ true → is_some x ≡ true
   naming_there p None h = h
   naming_there p (Some c) h = refl
@@ -43,6 +46,7 @@ module _ {O : Type 0} (m : Interpreter O) (f : FontValue) where
   executing n i None e h = absurd (true≢false (sym h))
   executing n i (Some c) e h = (c, e, h)
 
+  -- a glyph that names the component has a charstring that does
   naming : (n p : List ℕ) (x : Option (List ℕ)) → maps.get f.glyphs n ≡ x → called_at m f p x ≡ true → (c : List ℕ) × (maps.get f.glyphs n ≡ Some c) × (list_any (same_bytes p) (components m f.subrs c) ≡ true)
   naming n p None e h = absurd (true≢false (sym h))
   naming n p (Some c) e h = (c, e, h)
@@ -50,23 +54,26 @@ module _ {O : Type 0} (m : Interpreter O) (f : FontValue) where
   some_glyph : (p : List ℕ → Bool) (n c : List ℕ) → maps.get f.glyphs n ≡ Some c → p n ≡ true → list_any p (names_in f.glyphs) ≡ true
   some_glyph p n c is h = any_at nat_list_cmp_total name_same p n (names_in f.glyphs) (sym (maps.contains_key-keys f.glyphs n) ∙ ap is_some is) h
 
+  -- an index that a charstring of the font executes is called
   pub calls_it : (n c : List ℕ) (i : ℕ) → maps.get f.glyphs n ≡ Some c → sets.contains (m.exec f.subrs c) i ≡ true → is_called m f i ≡ true
   calls_it n c i is h = some_glyph (λ n. executes m f n i) n c is (ap (executed_at m f i) is ∙ h)
 
+  -- a component that a charstring of the font names is sought
   pub seeks_it : (n c p : List ℕ) → maps.get f.glyphs n ≡ Some c → list_any (same_bytes p) (components m f.subrs c) ≡ true → is_sought m f p ≡ true
   seeks_it n c p is h = some_glyph (λ n. calls_for m f n p) n c is (ap (called_at m f p) is ∙ h)
 
+  -- a component that a glyph calls for is sought
   pub sought : (p n : List ℕ) → calls_for m f n p ≡ true → is_sought m f p ≡ true
   sought p n h = let r = naming n p (maps.get f.glyphs n) refl h in seeks_it n r.0 p r.1 r.2
 
-  -- a glyph and its charstring that executes the index
+  -- an index that is called has a glyph whose charstring executes it
   pub caller : (i : ℕ) → is_called m f i ≡ true → (n : List ℕ) × (c : List ℕ) × (maps.get f.glyphs n ≡ Some c) × (sets.contains (m.exec f.subrs c) i ≡ true)
   caller i h =
       let w = any_one nat_list_cmp_total name_same (λ n. executes m f n i) (names_in f.glyphs) h in
       let r = executing w.0 i (maps.get f.glyphs w.0) refl w.2 in
       (w.0, r.0, r.1, r.2)
 
-  -- a glyph and its charstring that names the component
+  -- a component that is sought has a glyph whose charstring names it
   pub seeker : (p : List ℕ) → is_sought m f p ≡ true → (n : List ℕ) × (c : List ℕ) × (maps.get f.glyphs n ≡ Some c) × (list_any (same_bytes p) (components m f.subrs c) ≡ true)
   seeker p h =
       let w = any_one nat_list_cmp_total name_same (λ n. calls_for m f n p) (names_in f.glyphs) h in

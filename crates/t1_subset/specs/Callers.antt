@@ -1,4 +1,4 @@
--- Who executes which Subr of a font, and who names which component that the font lacks.
+-- Which glyph executes each Subr of a font, and which names each component that the font lacks.
 use Rattle.std.specs.Prelude.{◌≡◌, ℕ, Bool, true, false, List, [], ◌∷◌, Option, Some, None, map}
 use Rattle.std.specs.List.{AllByRecursion}
 use Rattle.std.specs.FinMap as maps
@@ -18,11 +18,11 @@ use Rattle.t1_subset.specs.Users.{user_at}
 abbrev pub user_of : FontValue → ℕ → Option (List ℕ)
 user_of f i = first_where (λ n. executes profile f n i) (names_in f.glyphs)
 
--- the smallest glyph of the font that names a component which the font lacks
+-- the smallest glyph of the font that names this component, if the font lacks it
 abbrev pub seeker_of : FontValue → List ℕ → Option (List ℕ)
 seeker_of f p = first_where (λ n. wants profile f n p) (names_in f.glyphs)
 
--- both are there, and have the same bytes
+-- both are there and have the same bytes
 abbrev pub same_charstring : Option (List ℕ) → Option (List ℕ) → Bool
 same_charstring None y = false
 same_charstring (Some c) None = false
@@ -30,25 +30,25 @@ same_charstring (Some c) (Some d) = same_bytes c d
 
 -- ---- in code
 
--- the callers of the font, of each Subr that it has and of each component
+-- these are the callers in the font of each Subr that it has and of each component
 pub record AreCallersOf (c : Callers) (f : FontValue) : Type 0 where
   pub users : (i : ℕ) → maps.contains_key f.subrs i ≡ true → user_at c.users i ≡ user_of f i
   pub seekers : (p : List ℕ) → maps.get c.seekers p ≡ seeker_of f p
 
--- the fonts of which these are the callers
+-- the fonts that a list of callers belongs to
 abbrev pub fonts_of : List Callers → List FontValue
 fonts_of cs = map (λ c. c.font.now) cs
 
--- each is of a font, whose callers these are
+-- each entry of the list is a font with its own callers
 abbrev pub AreNoted : List Callers → Type 0
 AreNoted cs = AllByRecursion (λ c. IsFont c.font.now × AreCallersOf c c.font.now) cs
 
--- the smaller of a name and the smallest user of an index among callers
+-- the smallest of a name and the users of an index in a list of callers
 abbrev pub user_from : Option (List ℕ) → List Callers → ℕ → Option (List ℕ)
 user_from best [] i = best
 user_from best (c ∷ cs) i = user_from (smaller name_cmp best (user_at c.users i)) cs i
 
--- the smaller of a name and the smallest seeker of a component among callers
+-- the smallest of a name and the seekers of a component in a list of callers
 abbrev pub seeker_from : Option (List ℕ) → List Callers → List ℕ → Option (List ℕ)
 seeker_from best [] p = best
 seeker_from best (c ∷ cs) p = seeker_from (smaller name_cmp best (maps.get c.seekers p)) cs p

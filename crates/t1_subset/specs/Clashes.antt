@@ -1,4 +1,4 @@
--- How the states of a name differ in two fonts, and the conflicts that are found with and without who uses them.
+-- How the states of a name differ in two fonts, and the lowest conflict of entries and of uses.
 use Rattle.std.specs.Prelude.{◌≡◌, ℕ, Bool, true, false, not, ◌&&◌, ◌||◌, List, [], ◌∷◌, Option, Some, None, is_some}
 use Rattle.std.specs.Option.{option_map, unwrap_or}
 use Rattle.std.specs.FinMap as maps
@@ -20,24 +20,24 @@ is_sought_in None = false
 is_sought_in (Some []) = true
 is_sought_in (Some (mark ∷ c)) = false
 
--- two charstrings differ
+-- both states are charstrings, and they differ
 abbrev pub charstrings_differ : State → State → Bool
 charstrings_differ x y = not (agrees (behind_mark x) (behind_mark y))
 
--- one is sought, and the other a charstring
+-- one name is sought, and the other has a charstring
 abbrev pub one_lacks : State → State → Bool
 one_lacks x y = (is_sought_in x && is_some (behind_mark y)) || (is_sought_in y && is_some (behind_mark x))
 
--- the smallest name whose states clash
+-- the smallest name whose states are in conflict by this test
 abbrev pub first_clash : (State → State → Bool) → TableMeaning → TableMeaning → Option Meaning
 first_clash clash s t = option_map (λ e. e.0) (first_where (λ e. clash (Some e.1) (maps.get t e.0)) (maps.entries s))
 
--- among the callers are those of both fonts, and no smaller ones
+-- the smallest callers in the list are the smallest of both fonts
 pub record AreCallers (cs : List Callers) (f g : FontValue) : Type 0 where
   pub users : (i : ℕ) → maps.contains_key f.subrs i ≡ true → maps.contains_key g.subrs i ≡ true → user_from None cs i ≡ smallest (used_by profile f g i) (glyph_names f g)
   pub seekers : (p : List ℕ) → seeker_from None cs p ≡ smallest (wanted_by profile f g p) (glyph_names f g)
 
--- the states of two fonts
+-- s and t are the states of two fonts
 pub record AreStatesOf (s t : StatesValue) (f g : FontValue) : Type 0 where
   pub own_font : IsFont f
   pub other_font : IsFont g

@@ -4,14 +4,15 @@ use Rattle.std.specs.Coded.{Coded, coded_list, coded_ℕ}
 use Rattle.std.specs.List.{list_any}
 use Rattle.t1_subset.specs.Interpreter.{same_bytes}
 
--- the name at the end, unless it is there
+-- the list with the name added at its end, unless it is there already
 abbrev pub push_new : List (List ℕ) → List ℕ → List (List ℕ)
 push_new ns n = cond (list_any (same_bytes n) ns) ns (ns ++ n ∷ [])
 
--- each of these names in turn at the end, unless it is there
+-- the list with each of these names added in turn, unless it is there already
 abbrev pub push_all : List (List ℕ) → List (List ℕ) → List (List ℕ)
 push_all ns [] = ns
 push_all ns (p ∷ ps) = push_all (push_new ns p) ps
 
+-- how a list of names is coded
 abbrev pub closure_code : Coded (List (List ℕ))
 closure_code = coded_list (coded_list coded_ℕ)

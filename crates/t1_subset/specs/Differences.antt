@@ -1,4 +1,4 @@
--- How the code sees what differs in two fonts.
+-- What the code's values mean when it compares two fonts.
 use Rattle.std.specs.Prelude.{ℕ, Bool, not, ◌&&◌, cond, List, Option, Some, None}
 use Rattle.std.specs.Global.{Vec}
 use Rattle.std.specs.FinMap as maps
@@ -11,6 +11,7 @@ use Rattle.t1_subset.specs.declared.conflict.ShellPart.TheVariants as part
 use Rattle.t1_subset.specs.States.{is_stub}
 use Rattle.t1_subset.specs.Shared.{ShellPart, Head, EncodingPart, ClearTail, Private, SubrsTable, SubrsWords, Middle, GlyphsWords, Tail}
 
+-- the part of the shell that a variant in code stands for
 abbrev pub shell_part : Part → ShellPart
 shell_part part.Head = Head
 shell_part part.Encoding = EncodingPart
@@ -22,20 +23,21 @@ shell_part part.Middle = Middle
 shell_part part.GlyphsWords = GlyphsWords
 shell_part part.Tail = Tail
 
+-- the bytes of a vector
 abbrev pub bytes_of : Vec ℕ → List ℕ
 bytes_of v = v.items
 
--- the table with a state at the key, where there is one
+-- the table with this state at the key, or unchanged if there is none
 abbrev pub with_state : TableMeaning → Meaning → Option Meaning → TableMeaning
 with_state t k None = t
 with_state t k (Some v) = maps.insert t k v
 
--- an entry, but for a stub that is not executed
+-- an entry, or nothing if it is a stub that is not executed
 abbrev pub entry_state : Option (List ℕ) → Bool → Option (List ℕ)
 entry_state None is_called = None
 entry_state (Some c) is_called = cond (is_stub c && not is_called) None (Some c)
 
--- the smaller of two, where they are there
+-- the smaller of two keys, or the one that is there
 abbrev pub smaller : {K : Type 0} → (K → K → Ordering) → Option K → Option K → Option K
 smaller R None y = y
 smaller R (Some m) None = Some m

@@ -8,7 +8,7 @@ use Rattle.t1_font.specs.FontValue.{FontValue}
 use Rattle.t1_font.specs.FontModel.{subr_at}
 use Rattle.t1_font.specs.Evening.{even, filled, evened}
 
--- A glyph of f is the same in j, and what ends in f without a fault, and what is drawn in f, does so alike in j, by either answer to hint replacement by itself; `subrs` says what each font shows of its Subrs.
+-- A glyph of f has the same charstring in j, and what runs in f without a fault or is drawn in f runs and draws the same in j, by each answer to hint replacement by itself; `subrs` says which Subrs a font shows.
 pub record StaysDrawn (subrs : FontValue → Subrs) (f j : FontValue) (n : List ℕ) : Type 0 where
   pub charstring : maps.get j.glyphs n ≡ maps.get f.glyphs n
   pub answer : (c : List ℕ) → maps.get f.glyphs n ≡ Some c → NoFault (direct (subrs f) c) → direct (subrs j) c ≡ direct (subrs f) c
@@ -21,18 +21,18 @@ pub record StaysDrawn (subrs : FontValue → Subrs) (f j : FontValue) (n : List 
 abbrev pub subrs_of : FontValue → Subrs
 subrs_of f = maps.get f.subrs
 
--- each glyph of f stays drawn in j, over the maps of both and as calls see them
+-- each glyph of f stays drawn in j, both over the maps of the fonts and as calls see them
 abbrev pub AllStayDrawn : FontValue → FontValue → Type 0
 AllStayDrawn f j = (n : List ℕ) → StaysDrawn subrs_of f j n × StaysDrawn subr_at f j n
 
--- P of each element of a list and the one at its place in another of the same length
+-- P holds of each element of a list and the element at the same place in another list of the same length
 abbrev pub EachBeside : {X Y : Type 0} → (X → Y → Type 0) → List X → List Y → Type 0
 EachBeside P [] [] = Unit {0}
 EachBeside P (x ∷ xs) (y ∷ ys) = P x y × EachBeside P xs ys
 EachBeside P [] (y ∷ ys) = ⊥
 EachBeside P (x ∷ xs) [] = ⊥
 
--- glyphs stay drawn where a font loses its tag, declares more Subrs and gets stubs where it lacks some, and in the fonts of a list that are made even
+-- glyphs stay drawn when a font loses its tag, declares more Subrs and gets stubs for some that it lacks, and when the fonts of a list are made even
 pub record EvenedDraw : Type 0 where
   pub one : (indices : List ℕ) (count : ℕ) (f : FontValue) → AllStayDrawn f (filled indices (even count f))
   pub all : (fs : List FontValue) → EachBeside AllStayDrawn fs (evened fs)

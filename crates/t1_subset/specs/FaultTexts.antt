@@ -22,7 +22,7 @@ part_text part.Middle = codes "middle"
 part_text part.GlyphsWords = codes "CharStrings words"
 part_text part.Tail = codes "tail"
 
--- who uses a Subr, where it is known
+-- what is printed of the glyph that uses a Subr, if there is one
 abbrev pub user_text : Option (Vec ℕ) → List ℕ
 user_text None = []
 user_text (Some name) = codes ", used by " ++ shown name.items
@@ -38,7 +38,7 @@ conflict_text conflict.Limit = codes "over a limit"
 conflict_text conflict.Memory = codes "out of memory"
 conflict_text conflict.Empty = codes "nothing to merge"
 
--- what is printed of a set of names that isn't cut
+-- what is printed when a closure or a subset is refused
 abbrev pub subset_text : SubsetFault → List ℕ
 subset_text (fault.NoSuchGlyph name) = codes "no glyph " ++ shown name.items
 subset_text fault.Memory = codes "out of memory"

@@ -7,7 +7,7 @@ use Rattle.t1_font.specs.FontValue.{FontValue}
 use Rattle.t1_subset.specs.Interpreter.{Interpreter, Names}
 use Rattle.t1_subset.specs.States.{Join, Compatible, joined_font}
 
--- all sets of a list together
+-- the union of all sets of a list
 abbrev pub union_all : List Names → Names
 union_all [] = sets.empty
 union_all (a ∷ rest) = sets.union a (union_all rest)
@@ -17,16 +17,16 @@ module _ {O : Type 0} (m : Interpreter O) where
   abbrev pub JoinTo : FontValue → FontValue → FontValue → Type 0
   JoinTo f g j = Join m f g × (joined_font m f g ≡ j)
 
-  -- the merges of a grouping come to j
+  -- the merges of the fonts in this grouping come to j
   abbrev pub Merges : Grouping FontValue → FontValue → Type 0
   Merges = Gives JoinTo
 
-  -- what the merges of fonts from left to right come to, where they are accepted
+  -- what the merges of fonts from left to right come to if they are accepted
   abbrev pub folded : FontValue → List FontValue → FontValue
   folded f [] = f
   folded f (g ∷ gs) = folded (joined_font m f g) gs
 
-  -- each two fonts of a list have states that join
+  -- the states of each two fonts of a list join
   abbrev pub EachPair : List FontValue → Type 0
   EachPair [] = Unit {0}
   EachPair (f ∷ fs) = AllByRecursion (Compatible m f) fs × EachPair fs

@@ -13,7 +13,7 @@ Names = sets.FinSet name_cmp
 abbrev pub Numbers : Type 0
 Numbers = sets.FinSet nat_cmp
 
--- the bytes are the same
+-- two byte strings are the same
 abbrev pub same_bytes : List ℕ → List ℕ → Bool
 same_bytes a b = is_eq (name_cmp a b)
 

@@ -5,12 +5,12 @@ use Rattle.t1_font.specs.FontValue.{FontValue}
 use Rattle.t1_font.specs.WriteLaws.{SameKind}
 use Rattle.t1_subset.specs.States.{Agree, code_state, is_stub}
 
--- an entry that is no stub
+-- an entry, or nothing if it is a stub
 abbrev pub past_stub : Option (List ℕ) → Option (List ℕ)
 past_stub None = None
 past_stub (Some c) = cond (is_stub c) None (Some c)
 
--- what two fonts must be like for the entries of both to be a join: shells are equal, the Encodings are the same word or both tables, and no other entries differ
+-- the entries of two fonts make a join: the shells are equal, the same Subrs are present, the Encodings are the same word or both tables, and entries that both have are the same, except for a Subr that is a stub in one font
 pub record EntriesJoin (f g : FontValue) : Type 0 where
   pub shells : f.shell ≡ g.shell
   pub present : (i : ℕ) → maps.contains_key f.subrs i ≡ maps.contains_key g.subrs i

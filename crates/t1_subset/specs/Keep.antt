@@ -14,7 +14,7 @@ sets_of [] = sets.empty ∷ []
 sets_of (n ∷ ns) = sets_of ns ++ map (λ s. sets.insert s n) (sets_of ns)
 
 module _ (f : FontValue) where
-  -- the charstring of a name, empty where the font lacks it
+  -- the charstring of a name, empty if the font lacks it
   abbrev pub charstring : List ℕ → List ℕ
   charstring n = unwrap_or (maps.get f.glyphs n) []
 
@@ -27,7 +27,7 @@ abbrev pub components : {O : Type 0} → Interpreter O → Numbered → List ℕ
 components m s c = m.names (m.direct s c)
 
 module _ {O : Type 0} (m : Interpreter O) (f : FontValue) where
-  -- those components of a glyph that the font has
+  -- the components of a glyph that the font has
   abbrev pub components_here : List ℕ → Names
   components_here n = sets.from_list (filter (has f) (components m f.subrs (charstring f n)))
 
@@ -43,15 +43,15 @@ module _ {O : Type 0} (m : Interpreter O) (f : FontValue) where
   abbrev pub keep : Names → Names
   keep asked = sets.from_list (filter (is_needed asked) (maps.keys f.glyphs))
 
-  -- 0 to 3, and what the glyphs of these names execute
+  -- the indices 0 to 3, and those that the glyphs of these names execute
   abbrev pub called_by : Names → Numbers
   called_by names = sets.from_list (0 ∷ 1 ∷ 2 ∷ 3 ∷ flat_map (λ n. sets.items (m.exec f.subrs (charstring f n))) (sets.items names))
 
-  -- 0 to 3, and what the kept glyphs execute
+  -- the indices 0 to 3, and those that the kept glyphs execute
   abbrev pub kept : Names → Numbers
   kept asked = called_by (keep asked)
 
-  -- the font cut to the names that are kept, with stubs for all but the Subrs that are kept
+  -- the font cut to the names that are kept, with a stub in place of each Subr that is not kept
   abbrev pub subset : Names → FontValue
   subset asked = restrict (sets.contains (keep asked)) (sets.contains (kept asked)) f
 

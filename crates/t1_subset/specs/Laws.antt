@@ -17,15 +17,15 @@ use Rattle.t1_subset.specs.JoinedEntries.{EntriesJoin}
 use Rattle.t1_join.specs.Groupings.{Grouping, EachLeaf, leaves, map_grouping, one, from_left}
 use Rattle.t1_subset.specs.Groupings.{union_all, Merges, folded, EachPair}
 
--- a set of names of the font
+-- a set of names that the font has
 abbrev pub IsOf : FontValue → Names → Type 0
 IsOf f a = (n : List ℕ) → sets.contains a n ≡ true → has f n ≡ true
 
--- each name of a is one of b
+-- each name of a is a name of b
 abbrev pub Inside : Names → Names → Type 0
 Inside a b = (n : List ℕ) → sets.contains a n ≡ true → sets.contains b n ≡ true
 
--- what a glyph of f does in j, it does as in f, where hints are replaced and where they are kept: its charstring, its runs and the Subrs that they execute, its drawings
+-- a glyph of f is the same in j, where hints are replaced and where they are kept: its charstring, its runs and the Subrs that they execute, and its drawings
 pub record DrawsAlike (f j : FontValue) (n : List ℕ) : Type 0 where
   pub charstring : maps.get j.glyphs n ≡ maps.get f.glyphs n
   pub answer : (c : List ℕ) → maps.get f.glyphs n ≡ Some c → direct (maps.get j.subrs) c ≡ direct (maps.get f.subrs) c
@@ -34,7 +34,7 @@ pub record DrawsAlike (f j : FontValue) (n : List ℕ) : Type 0 where
   pub draws : draw (maps.get j.subrs) (maps.get j.glyphs) n ≡ draw (maps.get f.subrs) (maps.get f.glyphs) n
   pub draws3 : draw3 (maps.get j.subrs) (maps.get j.glyphs) n ≡ draw3 (maps.get f.subrs) (maps.get f.glyphs) n
 
--- what calls answer of a glyph of f, they answer of it in j: what its charstring does by itself and what it draws, where hints are replaced and where they are kept, and what it executes, over what each font shows to an interpreter
+-- calls answer the same of a glyph in j as in f: what its charstring does by itself and what it draws, where hints are replaced and where they are kept, and what it executes, over what each font shows to an interpreter
 pub record AnswersAlike (f j : FontValue) (n : List ℕ) : Type 0 where
   pub charstring : maps.get j.glyphs n ≡ maps.get f.glyphs n
   pub answer : (c : List ℕ) → maps.get f.glyphs n ≡ Some c → direct (subr_at j) c ≡ direct (subr_at f) c
@@ -43,56 +43,56 @@ pub record AnswersAlike (f j : FontValue) (n : List ℕ) : Type 0 where
   pub draws : draw (subr_at j) (maps.get j.glyphs) n ≡ draw (subr_at f) (maps.get f.glyphs) n
   pub draws3 : draw3 (subr_at j) (maps.get j.glyphs) n ≡ draw3 (subr_at f) (maps.get f.glyphs) n
 
--- of two fonts what is drawn alike is answered alike by calls
+-- of a glyph that draws alike in two fonts, calls answer alike
 abbrev pub CallsDrawAlike : Type 0
 CallsDrawAlike = (f j : FontValue) → IsFont f → IsFont j → (n : List ℕ) → DrawsAlike f j n → AnswersAlike f j n
 
 module _ {O : Type 0} (m : Interpreter O) where
   -- ---- what is kept
 
-  -- what is kept is closed, and within each closed set of the font's names
+  -- what is kept is closed, and lies within each closed set of the font's names
   abbrev pub KeepIsLeast : Type 0
   KeepIsLeast = (f : FontValue) → IsFont f → (a : Names) → IsOf f a →
       IsOf f (keep m f a) × Closed m f a (keep m f a) × ((s : Names) → IsOf f s → Closed m f a s → Inside (keep m f a) s)
 
-  -- of more names no less is kept
+  -- a larger set of names keeps no less
   abbrev pub KeepIsMonotone : Type 0
   KeepIsMonotone = (f : FontValue) (a b : Names) → Inside a b →
       Inside (keep m f a) (keep m f b) × ((i : ℕ) → sets.contains (kept m f a) i ≡ true → sets.contains (kept m f b) i ≡ true)
 
-  -- what two sets keep together is what each keeps
+  -- two sets of names keep together what each of them keeps
   abbrev pub Distribution : Type 0
   Distribution = (f : FontValue) → IsFont f → (a b : Names) → IsOf f a → IsOf f b →
       (keep m f (sets.union a b) ≡ sets.union (keep m f a) (keep m f b)) × (kept m f (sets.union a b) ≡ sets.union (kept m f a) (kept m f b))
 
   -- ---- subsets
 
-  -- a subset is a font, and weighs no more
+  -- a subset of a font is a font and weighs no more
   abbrev pub SubsetIsFont : Type 0
   SubsetIsFont = (f : FontValue) → IsFont f → (a : Names) → IsOf f a → IsFont (subset m f a) × (weight (subset m f a) ≤ weight f)
 
-  -- a subset of a subset is that of the font; over the same names it is the subset itself
+  -- a subset of a subset is the font's own subset; over the same names it is the subset itself
   abbrev pub SubsetOfSubset : Type 0
   SubsetOfSubset = (f : FontValue) → IsFont f → (a : Names) → IsOf f a →
       ((b : Names) → IsOf (subset m f a) b → subset m (subset m f a) b ≡ subset m f b) × (subset m (subset m f a) a ≡ subset m f a)
 
-  -- what isn't kept is the bottom; a name that is lacking and sought is lacking in the font
+  -- the state of a Subr that is not kept is the bottom, and a name that the subset seeks and lacks is lacking in the font
   abbrev pub Bottom : Type 0
   Bottom = (f : FontValue) → IsFont f → (a : Names) → IsOf f a →
       ((i : ℕ) → sets.contains (kept m f a) i ≡ false → subr_state m (subset m f a) i ≡ None)
       × ((n : List ℕ) → has (subset m f a) n ≡ false → is_sought m (subset m f a) n ≡ true → has f n ≡ false)
 
-  -- a kept glyph runs and draws in a subset as in the font
+  -- a kept glyph runs and draws in a subset as it does in the font
   abbrev pub SubsetsDraw : Type 0
   SubsetsDraw = (f : FontValue) → IsFont f → (a : Names) → IsOf f a → (n : List ℕ) → sets.contains (keep m f a) n ≡ true → DrawsAlike f (subset m f a) n
 
-  -- two subsets of a font join, and in either order their join is the subset of both sets
+  -- two subsets of a font join, and in either order their join is the subset over both sets
   abbrev pub TwoSubsets : Type 0
   TwoSubsets = (f : FontValue) → IsFont f → (a b : Names) → IsOf f a → IsOf f b →
       Join m (subset m f a) (subset m f b) × (joined_font m (subset m f a) (subset m f b) ≡ subset m f (sets.union a b))
       × Join m (subset m f b) (subset m f a) × (joined_font m (subset m f b) (subset m f a) ≡ subset m f (sets.union a b))
 
-  -- the subsets of any list of sets merge in any order and grouping to the subset of all the sets
+  -- the subsets over any list of sets merge in any order and grouping to the subset over all the sets
   abbrev pub ManySubsets : Type 0
   ManySubsets = (f : FontValue) → IsFont f → (all : List Names) (t : Grouping Names) → IsPermutation all (leaves t) → EachLeaf (IsOf f) t →
       Merges m (map_grouping (subset m f) t) (subset m f (union_all all))
@@ -103,7 +103,7 @@ module _ {O : Type 0} (m : Interpreter O) where
   abbrev pub JoinIsFont : Type 0
   JoinIsFont = (f g : FontValue) → IsFont f → IsFont g → Join m f g → IsFont (joined_font m f g)
 
-  -- fonts join in both orders, to one font
+  -- fonts join in both orders, to the same font
   abbrev pub JoinIsSymmetric : Type 0
   JoinIsSymmetric = (f g : FontValue) → Join m f g → Join m g f × (joined_font m f g ≡ joined_font m g f)
 
@@ -124,29 +124,29 @@ module _ {O : Type 0} (m : Interpreter O) where
   JoinsDraw = (f g : FontValue) → Join m f g →
       ((n : List ℕ) → has f n ≡ true → DrawsAlike f (joined_font m f g) n) × ((n : List ℕ) → has g n ≡ true → DrawsAlike g (joined_font m f g) n)
 
-  -- fonts that merge in one order and grouping merge in each other, to the same font and to no other
+  -- fonts that merge in one order and grouping merge in every other, to the same font and to no other
   abbrev pub AnyOrder : Type 0
   AnyOrder = (s t : Grouping FontValue) → IsPermutation (leaves s) (leaves t) → EachLeaf IsFont s → (j : FontValue) → Merges m s j →
       IsFont j × Merges m t j × ((k : FontValue) → Merges m t k → k ≡ j)
 
-  -- a list of fonts merges from left to right exactly where each two of them have states that join, and the font of all is within the limits
+  -- a list of fonts merges from left to right exactly if the states of each two of them join and the font of all is within the limits
   abbrev pub AcceptedByPairs : Type 0
   AcceptedByPairs = (f : FontValue) (fs : List FontValue) → EachLeaf IsFont (from_left (one f) fs) →
       (EachPair m (f ∷ fs) → IsWithin (folded m f fs) → Merges m (from_left (one f) fs) (folded m f fs))
       × ((j : FontValue) → Merges m (from_left (one f) fs) j → EachPair m (f ∷ fs) × (folded m f fs ≡ j) × IsWithin j)
 
-  -- fonts join exactly where their states agree
+  -- fonts join exactly if their states agree
   abbrev pub JoinWhereStatesAgree : Type 0
   JoinWhereStatesAgree = (f g : FontValue) → IsFont f → StatesAgree (states_of m f) (states_of m g) ↔ Join m f g
 
-  -- two fonts have no conflict exactly where they join
+  -- two fonts have no conflict exactly if they join
   abbrev pub NoConflictIsJoin : Type 0
   NoConflictIsJoin = (f g : FontValue) → (conflict m f g ≡ None) ↔ Join m f g
 
-  -- two fonts have one lowest conflict, in both orders
+  -- two fonts have the same lowest conflict in both orders
   abbrev pub ConflictIsSymmetric : Type 0
   ConflictIsSymmetric = (f g : FontValue) → conflict m f g ≡ conflict m g f
 
-  -- where the states of two fonts join, their join has the entries of both
+  -- if the states of two fonts join, their join has the entries of both
   abbrev pub JoinHasEntries : Type 0
   JoinHasEntries = (f g : FontValue) → Compatible m f g → EntriesJoin f g × (joined_font m f g ≡ join_parts f g)

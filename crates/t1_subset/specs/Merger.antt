@@ -16,7 +16,7 @@ use Rattle.t1_subset.specs.Refusals.{Tells}
 use Rattle.t1_join.specs.Groupings.{Grouping, one, leaves, from_left}
 use Rattle.t1_subset.specs.Groupings.{folded, EachPair, Merges, union_all}
 
--- the fonts join, and this is their join; or their lowest conflict is told, or a growth was refused
+-- the fonts join and this is their join, or their lowest conflict is told, or a growth was refused
 abbrev pub IsMerger : FontValue → FontValue → Result FontValue Refusal → Type 0
 IsMerger f g r = MatchResult r (λ j. Join profile f g × (j ≡ joined_font profile f g)) (λ e. Tells e (conflict profile f g))
 
@@ -24,11 +24,11 @@ IsMerger f g r = MatchResult r (λ j. Join profile f g × (j ≡ joined_font pro
 abbrev pub MergesItself : FontValue → FontValue → Result FontValue Refusal → Type 0
 MergesItself f g r = f ≡ g → MatchResult r (λ j. j ≡ f) (λ e. e ≡ Memory)
 
--- each glyph of either font does in j what it did
+-- each glyph of either font runs and draws in j as it did
 abbrev pub DrawsBoth : FontValue → FontValue → FontValue → Type 0
 DrawsBoth f g j = ((n : List ℕ) → has f n ≡ true → DrawsAlike f j n) × ((n : List ℕ) → has g n ≡ true → DrawsAlike g j n)
 
--- The fonts before one come to a font that it does not join, and the refusal tells their lowest conflict.
+-- The fonts before one of the list merge to a font that does not join it, and the refusal tells the lowest conflict of the two.
 pub record StopsAt (f : FontValue) (fs : List FontValue) (e : Refusal) : Type 0 where
   pub before : List FontValue
   pub font : FontValue
@@ -43,16 +43,16 @@ abbrev pub ComesTo : List FontValue → FontValue → Type 0
 ComesTo [] j = ⊥
 ComesTo (f ∷ fs) j = Merges profile (from_left (one f) fs) j
 
--- each glyph of each of the fonts does in j what it did
+-- each glyph of each of the fonts runs and draws in j as it did
 abbrev pub DrawsAll : List FontValue → FontValue → Type 0
 DrawsAll fs j = AllByRecursion (λ f. (n : List ℕ) → has f n ≡ true → DrawsAlike f j n) fs
 
--- there are fonts, each two of them have states that join, and the font of all is within the limits
+-- there are fonts, the states of each two of them join, and the font of all is within the limits
 abbrev pub AllJoin : List FontValue → Type 0
 AllJoin [] = ⊥
 AllJoin (f ∷ fs) = EachPair profile (f ∷ fs) × IsWithin (folded profile f fs)
 
--- the fonts are accepted exactly where all of them join, but for a growth that was refused
+-- the fonts are accepted exactly if all of them join, unless a growth was refused
 abbrev pub AcceptsAllJoin : List FontValue → Result FontValue Refusal → Type 0
 AcceptsAllJoin fs r = MatchResult r (λ j. AllJoin fs) (λ e. (e ≡ Memory) ⊎ ¬ AllJoin fs)
 
@@ -81,12 +81,12 @@ abbrev pub IsRefused : List FontValue → Refusal → Type 0
 IsRefused [] e = e ≡ Empty
 IsRefused (f ∷ fs) e = (e ≡ Memory) ⊎ StopsAt f fs e
 
--- Two subsets of one font come to the subset of both sets of names, or a growth was refused.
+-- Two subsets of one font come to the subset over both sets of names, or a growth was refused.
 abbrev pub MergesSubsets : FontValue → FontValue → Result FontValue Refusal → Type 0
 MergesSubsets g h r = (f : FontValue) → IsFont f → (a b : Names) → IsOf f a → IsOf f b → g ≡ subset profile f a → h ≡ subset profile f b
     → MatchResult r (λ j. j ≡ subset profile f (sets.union a b)) (λ e. e ≡ Memory)
 
--- Any subsets of one font, one or more, come to the subset of all the sets of names, or a growth was refused.
+-- One or more subsets of one font come to the subset over all the sets of names, or a growth was refused.
 abbrev pub MergesAllSubsets : List FontValue → Result FontValue Refusal → Type 0
 MergesAllSubsets fs r = (f : FontValue) → IsFont f → (a : Names) (more : List Names) → AllByRecursion (IsOf f) (a ∷ more) → fs ≡ map (subset profile f) (a ∷ more)
     → MatchResult r (λ j. j ≡ subset profile f (union_all (a ∷ more))) (λ e. e ≡ Memory)

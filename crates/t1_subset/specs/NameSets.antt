@@ -10,17 +10,18 @@ use Rattle.t1_subset.specs.Interpreter.{Names}
 abbrev pub names_of : List (Vec ℕ) → List (List ℕ)
 names_of vs = map (λ v. v.items) vs
 
--- the names of a list that is lent
+-- the names of a list of borrowed names
 abbrev pub lent : List (Bor (List ℕ)) → List (List ℕ)
 lent ns = map (λ n. n.now) ns
 
--- the set of the names that are asked for
+-- the set of names that are asked for
 abbrev pub asked : List (Bor (List ℕ)) → Names
 asked ns = sets.from_list (lent ns)
 
+-- how a set of names is coded
 abbrev pub names_code : Coded Names
 names_code = sets.code (coded_list coded_ℕ)
 
--- the set of names in the order of their bytes
+-- the set of the names of a list
 abbrev pub set_by : List (Vec ℕ) → Names
 set_by vs = sets.from_list (names_of vs)

@@ -15,10 +15,11 @@ use Rattle.t1_run.proofs.Locality.{local}
 use Rattle.t1_font.specs.FontValue.{Numbered}
 use Rattle.t1_subset.specs.Interpreter.{Interpreter, Numbers}
 
--- an index that the list has is in the set of the list
+-- an index in a list is in the set of the list
 pub in_set_of : (indices : List ℕ) (i : ℕ) → Contains indices i → sets.contains (sets.from_list {R = nat_cmp} indices) i ≡ true
 in_set_of indices i h = sets.contains-from_list nat_cmp_total indices i ∙ list_any-from_Contains (eq_by_cmp_equiv nat_cmp_total) i indices h
 
+-- the set of a list of indices
 abbrev pub set_of : List ℕ → Numbers
 set_of indices = sets.from_list indices
 
@@ -26,13 +27,15 @@ set_of indices = sets.from_list indices
 abbrev pub Endings : Type 0
 Endings = Ending × Ending
 
+-- what a charstring comes to over these Subrs, by both answers to hint replacement
 abbrev pub endings : Numbered → List ℕ → Endings
 endings s c = (direct (maps.get s) c, direct3 (maps.get s) c)
 
--- the components that both name
+-- the components that either ending names
 abbrev pub names_of_both : Endings → List (List ℕ)
 names_of_both ends = parts_of ends.0 ++ parts_of ends.1
 
+-- a charstring comes to the same over two tables of Subrs that agree at what it executes
 pub profile_local : (s t : Numbered) (c : List ℕ) → ((i : ℕ) → sets.contains (set_of (exec (maps.get s) c)) i ≡ true → maps.get t i ≡ maps.get s i)
     → (endings t c ≡ endings s c) × (set_of (exec (maps.get t) c) ≡ set_of (exec (maps.get s) c))
 profile_local s t c h =

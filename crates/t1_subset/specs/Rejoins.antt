@@ -18,18 +18,18 @@ use Rattle.t1_subset.specs.Merger.{MergesTo}
 
 -- ---- fonts cut to their first Subrs
 
--- a table that declares so many Subrs
+-- a table of Subrs that declares this many
 abbrev pub declares : ℕ → SubrsShell → SubrsShell
 declares n s = record s { declared = n }
 
--- a font cut to its first n Subrs: its table, where there is one, declares n, and has those below n
+-- a font cut to its first n Subrs: its table, if it has one, declares n Subrs and has those below n
 abbrev pub cut_to : ℕ → FontValue → FontValue
 cut_to n f = record f {
   shell = record f.shell { subrs = option_map (declares n) f.shell.subrs };
   subrs = maps.retain_keys f.subrs (λ i. nat_lt i n);
 }
 
--- a font of another head
+-- a font with another head
 abbrev pub with_head : List ℕ → FontValue → FontValue
 with_head head f = record f { shell = record f.shell { head = head } }
 
@@ -39,13 +39,13 @@ without_tag f = with_head (untagged_head f.shell.head) f
 
 -- ---- truncated subsets
 
--- a font that was cut to these names and to so many Subrs
+-- a font that was cut to these names and to this many Subrs
 pub record Truncated : Type 0 where
   pub font : FontValue
   pub names : Names
   pub count : ℕ
 
--- It is the subset of f over names of f, cut to its first Subrs: those that it keeps and f has are among them, and f declares no fewer. Its head is f's with any tag.
+-- It is the subset of f over names of f, cut to its first Subrs: they include those that it keeps and f has, and f declares no fewer. Its head is that of f with any tag.
 pub record IsTruncated (f : FontValue) (t : Truncated) : Type 0 where
   pub font : IsFont t.font
   pub names : IsOf f t.names
@@ -54,13 +54,15 @@ pub record IsTruncated (f : FontValue) (t : Truncated) : Type 0 where
   pub kept : (i : ℕ) → sets.contains (kept profile f t.names) i ≡ true → maps.contains_key f.subrs i ≡ true → i < t.count
   pub count : t.count ≤ declared_count f.shell.subrs
 
--- the fonts, and all the names together
+-- the fonts of a list of truncated subsets
 abbrev pub fonts_of : List Truncated → List FontValue
 fonts_of ts = map (λ t. t.font) ts
 
+-- the sets of names of a list of truncated subsets
 abbrev pub sets_of : List Truncated → List Names
 sets_of ts = map (λ t. t.names) ts
 
+-- all names of a list of truncated subsets
 abbrev pub names_of_all : List Truncated → Names
 names_of_all ts = union_all (sets_of ts)
 
@@ -73,18 +75,18 @@ largest (t ∷ ts) = max t.count (largest ts)
 abbrev pub shared_font : FontValue → List Truncated → FontValue
 shared_font f ts = cut_to (largest ts) (without_tag f)
 
--- the subset of all the names, without its tag and cut to the largest of the counts
+-- the subset over all the names, without its tag and cut to the largest of the counts
 abbrev pub rejoined : FontValue → List Truncated → FontValue
 rejoined f ts = cut_to (largest ts) (without_tag (subset profile f (names_of_all ts)))
 
--- Made even, truncated subsets are subsets of one font; in every order and grouping they merge to the subset of all the names, cut to the largest of the counts and without its tag, and to nothing else; each kept glyph draws in it as in the font.
+-- Made even, truncated subsets are subsets of one font; in every order and grouping they merge to the subset over all the names, cut to the largest of the counts and without its tag, and to nothing else; each kept glyph draws in it as in the font.
 pub record Rejoins (f : FontValue) (ts : List Truncated) : Type 0 where
   pub shared : IsFont (shared_font f ts)
   pub subsets : evened (fonts_of ts) ≡ map (subset profile (shared_font f ts)) (sets_of ts)
   pub merges : (t : Grouping FontValue) → IsPermutation (evened (fonts_of ts)) (leaves t) → MergesTo t (rejoined f ts)
   pub draws : (n : List ℕ) → sets.contains (keep profile f (names_of_all ts)) n ≡ true → DrawsAlike f (rejoined f ts) n
 
--- truncated subsets of one font, one or more, rejoin
+-- one or more truncated subsets of one font rejoin
 abbrev pub TruncatedSubsetsRejoin : Type 0
 TruncatedSubsetsRejoin = (f : FontValue) → IsFont f → (t : Truncated) (ts : List Truncated) → AllByRecursion (IsTruncated f) (t ∷ ts) → Rejoins f (t ∷ ts)
 
@@ -94,6 +96,6 @@ TruncatedSubsetsRejoin = (f : FontValue) → IsFont f → (t : Truncated) (ts : 
 abbrev pub IsUntagged : FontValue → Type 0
 IsUntagged f = untagged_head f.shell.head ≡ f.shell.head
 
--- fonts without tags that merge, in some order and grouping, are even already
+-- fonts without tags that merge in some order and grouping are even already
 abbrev pub MergingFontsAreEven : Type 0
 MergingFontsAreEven = (t : Grouping FontValue) (j : FontValue) → Merges profile t j → AllByRecursion IsUntagged (leaves t) → evened (leaves t) ≡ leaves t

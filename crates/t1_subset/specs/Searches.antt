@@ -3,23 +3,24 @@ use Rattle.std.specs.Prelude.{ℕ, Bool, cond, List, [], ◌∷◌, map, Option,
 use Rattle.std.specs.declared.cmp.Ordering.{Ordering}
 use Rattle.std.specs.FinMap as maps
 
--- the first that passes
+-- the first element of a list that passes a test
 abbrev pub first_where : {X : Type 0} → (X → Bool) → List X → Option X
 first_where p [] = None
 first_where p (x ∷ xs) = cond (p x) (Some x) (first_where p xs)
 
--- a set of keys, as a map, whose entries come upwards by key
+-- a set of keys, as a map, so that they are listed upwards
 abbrev pub KeySet : {K : Type 0} → (K → K → Ordering) → Type 0
 KeySet R = maps.FinMap R ℕ
 
+-- the keys of a set, upwards
 abbrev pub members : {K : Type 0} {R : K → K → Ordering} → maps.FinMap R ℕ → List K
 members s = map (λ e. e.0) (maps.entries s)
 
--- the smallest of a set that passes
+-- the smallest key of a set that passes a test
 abbrev pub smallest : {K : Type 0} {R : K → K → Ordering} → (K → Bool) → maps.FinMap R ℕ → Option K
 smallest p s = first_where p (members s)
 
--- what f gives of a value, or what comes else
+-- f of the value if there is one, else the alternative
 abbrev pub found : {X Y : Type 0} → (X → Y) → Option X → Option Y → Option Y
 found f (Some x) e = Some (f x)
 found f None e = e

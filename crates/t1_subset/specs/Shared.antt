@@ -9,10 +9,11 @@ use Rattle.t1_font.specs.Lent.{bytes_code}
 use Rattle.t1_subset.specs.Interpreter.{same_bytes}
 use Rattle.t1_subset.specs.Searches.{first_where}
 
--- a shell, the Encoding where it is a word, and the indices of the Subrs that are present, upwards
+-- a shell, the Encoding if it is a word, and the indices of the Subrs that are present, upwards
 abbrev pub Shared : Type 0
 Shared = Shell × (Option (List ℕ) × List ℕ)
 
+-- how the shared value is coded
 abbrev pub shared_code : Coded Shared
 shared_code = coded× shell_code (coded× (coded_option bytes_code) bytes_code)
 
@@ -32,30 +33,33 @@ pub data ShellPart : Type 0 where
   GlyphsWords : ShellPart
   Tail : ShellPart
 
+-- all parts of a shell, in their order
 abbrev pub all_parts : List ShellPart
 all_parts = Head ∷ EncodingPart ∷ ClearTail ∷ Private ∷ SubrsTable ∷ SubrsWords ∷ Middle ∷ GlyphsWords ∷ Tail ∷ []
 
 -- ---- tests
 
+-- two numbers are the same
 abbrev pub same_number : ℕ → ℕ → Bool
 same_number = eq_by_cmp nat_cmp
 
+-- two truth values are the same
 abbrev pub same_bool : Bool → Bool → Bool
 same_bool a b = cond a b (not b)
 
--- the same word, or none in either
+-- both are the same word, or neither is a word
 abbrev pub same_word : Option (List ℕ) → Option (List ℕ) → Bool
 same_word None None = true
 same_word None (Some w) = false
 same_word (Some v) None = false
 same_word (Some v) (Some w) = same_bytes v w
 
--- the words of two tables of Subrs are the same, nothing where there is no table
+-- the words of two tables of Subrs are the same; without a table they are empty
 abbrev pub same_words : Option SubrsShell → Option SubrsShell → Bool
 same_words s t = same_bytes (of_subrs (λ w. w.rd) s) (of_subrs (λ w. w.rd) t) && (same_bytes (of_subrs (λ w. w.put) s) (of_subrs (λ w. w.put) t) && same_bytes (of_subrs (λ w. w.closing) s) (of_subrs (λ w. w.closing) t))
 
 module _ (s t : Shared) where
-  -- whether a part is the same; that of the Encoding is a word or a table, and of the table of Subrs the indices that are present are a part
+  -- a part is the same in both; that of the Encoding is its word or that it is a table, and that of the table of Subrs includes which indices are present
   abbrev pub same_part : ShellPart → Bool
   same_part Head = same_bytes s.0.head t.0.head
   same_part EncodingPart = same_word s.1.0 t.1.0

@@ -16,18 +16,18 @@ use Rattle.t1_subset.specs.Keep.{components}
 
 -- ---- flat states: None is the bottom
 
--- two states join where they are equal or one is the bottom
+-- two states join if they are equal or one is the bottom
 abbrev pub Agree : {V : Type 0} → Option V → Option V → Type 0
 Agree None y = Unit {0}
 Agree (Some v) None = Unit {0}
 Agree (Some v) (Some w) = v ≡ w
 
--- the one that is not the bottom
+-- the state of the two that is not the bottom
 abbrev pub joined : {V : Type 0} → Option V → Option V → Option V
 joined None y = y
 joined (Some v) y = Some v
 
--- the name of a code of a table
+-- the name of a code, if the Encoding is a table
 abbrev pub code_state : Encoding → ℕ → Option (List ℕ)
 code_state (Word w) c = None
 code_state (Codes t) c = maps.get t c
@@ -43,7 +43,7 @@ pub record IsWithin (f : FontValue) : Type 0 where
 
 module _ {O : Type 0} (m : Interpreter O) where
   module _ (f : FontValue) where
-    -- the charstring of a glyph, where it is there, executes the index
+    -- the charstring of a glyph is there and executes the index
     abbrev pub executed_at : ℕ → Option (List ℕ) → Bool
     executed_at i None = false
     executed_at i (Some c) = sets.contains (m.exec f.subrs c) i
@@ -52,11 +52,12 @@ module _ {O : Type 0} (m : Interpreter O) where
     abbrev pub executes : List ℕ → ℕ → Bool
     executes n i = executed_at i (maps.get f.glyphs n)
 
-    -- the components that the charstring of a glyph names, none where it is not there
+    -- the components that the charstring of a glyph names, none if it is not there
     abbrev pub named_at : Option (List ℕ) → List (List ℕ)
     named_at None = []
     named_at (Some c) = components m f.subrs c
 
+    -- the charstring of a glyph is there and names the component
     abbrev pub called_at : List ℕ → Option (List ℕ) → Bool
     called_at p x = list_any (same_bytes p) (named_at x)
 
@@ -72,10 +73,11 @@ module _ {O : Type 0} (m : Interpreter O) where
     abbrev pub is_sought : List ℕ → Bool
     is_sought p = list_any (λ n. calls_for n p) (names_in f.glyphs)
 
-    -- an entry, or the bottom where it is a stub that no glyph executes
+    -- an entry, or the bottom if it is a stub that no glyph executes
     abbrev pub entry_state : ℕ → List ℕ → Option (List ℕ)
     entry_state i c = cond (is_stub c && not (is_called i)) None (Some c)
 
+    -- the state of an index with this entry
     abbrev pub state_of_entry : ℕ → Option (List ℕ) → Option (List ℕ)
     state_of_entry i None = None
     state_of_entry i (Some c) = entry_state i c
@@ -84,7 +86,7 @@ module _ {O : Type 0} (m : Interpreter O) where
     abbrev pub subr_state : ℕ → Option (List ℕ)
     subr_state i = state_of_entry i (maps.get f.subrs i)
 
-    -- a charstring; or sought (Some None), or the bottom
+    -- the state of a name with this glyph: its charstring, or sought (Some None), or the bottom
     abbrev pub state_of_glyph : List ℕ → Option (List ℕ) → Option (Option (List ℕ))
     state_of_glyph n None = cond (is_sought n) (Some None) None
     state_of_glyph n (Some c) = Some (Some c)
@@ -103,7 +105,7 @@ module _ {O : Type 0} (m : Interpreter O) where
       glyphs = merged f.glyphs g.glyphs;
     }
 
-    -- the shells are equal, and all states join
+    -- the shells are equal, the same Subrs are present, the Encodings are the same word or both tables, and all states join
     pub record Compatible : Type 0 where
       pub shells : f.shell ≡ g.shell
       pub present : (i : ℕ) → maps.contains_key f.subrs i ≡ maps.contains_key g.subrs i
@@ -112,7 +114,7 @@ module _ {O : Type 0} (m : Interpreter O) where
       pub names : (n : List ℕ) → Agree (name_state f n) (name_state g n)
       pub codes : (c : ℕ) → Agree (code_state f.encoding c) (code_state g.encoding c)
 
-    -- the fonts join
+    -- the fonts join: their states do, and the joined font is within the limits
     pub record Join : Type 0 where
       pub states : Compatible
       pub within : IsWithin joined_font

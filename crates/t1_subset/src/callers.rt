@@ -1,4 +1,4 @@
-//! Who executes which Subr of a font, and who names which component that the font lacks: of each the smallest glyph.
+//! The smallest glyph that executes each Subr of a font, and the smallest that names each component that the font lacks.
 
 ghost use Rattle.std.specs.Prelude.{◌≡◌, ◌&&◌, ℕ, List, [], not, IfOk, OnOk, None, Some, cond, map};
 ghost use Rattle.std.specs.Option.{option_map};
@@ -17,7 +17,7 @@ use std::alloc::{AllocError, Global};
 use t1_font::Font;
 use t1_join::Table;
 
-/// The smallest glyph that names each component which a font lacks.
+/// The smallest glyph that names each component that a font lacks.
 pub(crate) type Seekers<'a> = Table<&'a [u8], &'a [u8]>;
 
 /// Notes a glyph that names the component, unless there is a smaller one or the font has the component.
@@ -42,7 +42,7 @@ fn note_seeker<'a>(
     }
 }
 
-/// Notes a glyph that names these components, of those that the font lacks.
+/// Notes a glyph that names these components, for each of them that the font lacks.
 pub(crate) fn note_seekers<'a>(
     font: &Font<'_>,
     seekers: &mut Seekers<'a>,
@@ -61,7 +61,7 @@ pub(crate) fn note_seekers<'a>(
     Ok(())
 }
 
-/// A font, who executes its Subrs, and who names the components that it lacks.
+/// A font, the glyphs that execute its Subrs, and the glyphs that name the components that it lacks.
 #[derive(Drop)]
 pub(crate) struct Callers<'t, 'a> {
     pub(crate) font: &'t Font<'a>,
@@ -69,7 +69,7 @@ pub(crate) struct Callers<'t, 'a> {
     pub(crate) seekers: Seekers<'a>,
 }
 
-/// The smaller of two names, where they are there.
+/// The smaller of two names, or the one that is there.
 fn smaller<'a>(first: Option<&'a [u8]>, second: Option<&'a [u8]>) -> Option<&'a [u8]>
     ensures { option_map (λ n. n.now) result
         ≡ smaller name_cmp (option_map (λ n. n.now) first.entry)
@@ -109,7 +109,7 @@ fn seeker_in<'a>(seekers: &Seekers<'a>, component: &[u8]) -> Option<&'a [u8]>
     }
 }
 
-/// The smallest glyph that names the component where its font lacks it, among the callers of some fonts.
+/// The smallest glyph that names the component and whose font lacks it, among the callers of some fonts.
 pub(crate) fn seeker<'a>(callers: &[Callers<'_, 'a>], component: &[u8]) -> Option<&'a [u8]>
     ensures { option_map (λ n. n.now) result ≡ seeker_from None callers.now component.now }
 {

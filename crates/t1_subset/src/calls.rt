@@ -9,7 +9,7 @@ use std::alloc::{AllocError, Global};
 use t1_font::Font;
 use t1_run::{Called, Glyphs, parts_and_executed};
 
-/// The components that the runs of a glyph name; the Subrs that they execute are added to `calls`.
+/// The components that the runs of a glyph name. The Subrs that the runs execute are added to `calls`.
 pub(crate) fn run_of(
     alloc: Global,
     font: &Font<'_>,
@@ -32,7 +32,7 @@ pub(crate) fn run_of(
     }
 }
 
-/// The same, where only the Subrs that they execute are left in `calls`.
+/// The components that the runs of a glyph name. Only the Subrs that these runs execute are in `calls` afterwards.
 pub(crate) fn run_alone(
     alloc: Global,
     font: &Font<'_>,

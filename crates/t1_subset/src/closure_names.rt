@@ -12,8 +12,8 @@ use std::marker::Model;
 use t1_font::Font;
 use t1_run::Glyphs;
 
-/// Names without repeats, in the order in which they were met. They are borrowed: those that are asked for from the
-/// caller, and components from the table of StandardEncoding.
+/// Names without repeats, in the order in which they were met. They are borrowed: the names that are asked for from the
+/// caller, and the names of components from the table of StandardEncoding.
 #[derive(Drop)]
 pub(crate) struct ClosureNames<'a> {
     names: IndexSet<&'a [u8]>,
@@ -32,7 +32,7 @@ impl<'a> Model for ClosureNames<'a> {
 }
 
 impl<'a> ClosureNames<'a> {
-    /// No name.
+    /// A list of no names.
     pub(crate) fn new(alloc: Global) -> ClosureNames<'a>
         ensures { result ≡ [] }
     {
@@ -58,7 +58,7 @@ impl<'a> ClosureNames<'a> {
         self.names.as_slice()
     }
 
-    /// Adds a name, unless it is there.
+    /// Adds a name, unless it is there already.
     pub(crate) fn add(&mut self, name: &'a [u8]) -> Result<(), AllocError>
         ensures { OnOk result (self.new ≡ push_new self.old name.now) }
     {
@@ -66,7 +66,7 @@ impl<'a> ClosureNames<'a> {
         Ok(())
     }
 
-    /// Adds each of some names.
+    /// Adds each of these names, unless it is there already.
     pub(crate) fn add_all(&mut self, names: &[&'a [u8]]) -> Result<(), AllocError>
         ensures { OnOk result (self.new ≡ push_all self.old (lent names.now)) }
     {
@@ -84,7 +84,7 @@ pub(crate) fn has_glyph(font: &Font<'_>, name: &[u8]) -> bool
     font.glyph(name).is_some()
 }
 
-/// Adds those components that the font has.
+/// Adds the components that the font has.
 pub(crate) fn add_components(
     font: &Font<'_>,
     closure: &mut ClosureNames<'_>,

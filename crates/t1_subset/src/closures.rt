@@ -32,7 +32,7 @@ fn first_absent<'a>(font: &Font<'_>, names: &'a [&'a [u8]]) -> Option<&'a [u8]>
     None
 }
 
-/// Copies of names, upwards by their bytes and without repeats.
+/// Copies of these names, upwards by their bytes and without repeats.
 fn upwards(alloc: Global, names: &[&[u8]]) -> Result<Vec<Vec<u8>>, AllocError>
     ensures names { IfOk result (λ vs. set_by vs.items ≡ asked names.now) }
     ensures upwards { IfOk result (λ vs. IsStrictlySortedBy name_cmp (names_of vs.items)) }
@@ -44,7 +44,7 @@ fn upwards(alloc: Global, names: &[&[u8]]) -> Result<Vec<Vec<u8>>, AllocError>
     copies.into_names(alloc)
 }
 
-/// What these names of the font need of it.
+/// What these names need of the font, which has them all.
 fn closure_of(alloc: Global, font: &Font<'_>, names: &[&[u8]]) -> Result<Closure, AllocError>
     requires { IsOf font.now (asked names.now) }
     ensures names { IfOk result (λ c. set_by c.names.items
@@ -58,13 +58,13 @@ fn closure_of(alloc: Global, font: &Font<'_>, names: &[&[u8]]) -> Result<Closure
     Ok(Closure { names, subrs })
 }
 
-/// What a set of names needs of a font: the glyphs of these names and `.notdef`, with each accented glyph
-/// those of its components that the font has, by StandardEncoding (Adobe Type 1 Font Format 1.1, chapter 6);
-/// and the Subrs 0 to 3 with all that these glyphs execute, where hints are replaced or where they are
-/// kept. A name may be asked for more than once.
+/// What a set of names needs of a font: the glyphs of these names, `.notdef`, and the components of accented glyphs
+/// that the font has, by StandardEncoding (Adobe Type 1 Font Format 1.1, chapter 6); and the Subrs 0 to 3 with all
+/// Subrs that these glyphs execute, where hints are replaced or where they are kept. A name may be asked for more than
+/// once.
 ///
-/// It fails with [`SubsetFault::NoSuchGlyph`] where the font lacks a name that is asked for, the first
-/// such, and else for want of memory alone.
+/// It fails with [`SubsetFault::NoSuchGlyph`] for the first name asked for that the font lacks, and otherwise only for
+/// want of memory.
 pub fn closure(alloc: Global, font: &Font<'_>, names: &[&[u8]]) -> Result<Closure, SubsetFault>
     ensures names { IfOk result (λ c. set_by c.names.items
         ≡ keep profile font.now (asked names.now)) }

@@ -29,20 +29,20 @@ pub enum ShellPart {
     Tail,
 }
 
-/// Why two fonts do not join. The lowest conflict is told, in the order of the variants up to `Limit`, and of
-/// a kind that with the smallest part, code, name or index; names compare by their bytes.
+/// Why two fonts do not join. The lowest conflict is told, in the order of the variants up to `Limit`; among conflicts
+/// of one kind it is the one with the smallest part, code, name or index. Names compare by their bytes.
 #[derive(PartialEq, Eq, Debug, Drop)]
 pub enum Conflict {
-    /// This part of the shells differs, the first such.
+    /// The shells differ, and this is the first part that does.
     Shell { part: ShellPart },
     /// Both Encodings are tables that have the code, with different names.
     Code { code: u8 },
     /// Both fonts have the name, with different charstrings.
     Glyph { name: Vec<u8> },
-    /// One font lacks the part, a component that this glyph of its own names, the smallest such; the other font has it.
+    /// One font lacks the component `part`, which the other font has, and `glyph` is its smallest glyph that names it.
     Part { glyph: Vec<u8>, part: Vec<u8> },
-    /// The entries of the Subr differ, and neither is a `return` that no glyph of its font executes. The glyph
-    /// is the smallest of either font that executes the index there, where one does.
+    /// The entries of the Subr differ, and neither is a `return` that no glyph of its font executes. `glyph` is the
+    /// smallest glyph of either font that executes the Subr there, if there is one.
     Subr { index: u16, glyph: Option<Vec<u8>> },
     /// The joined font would weigh too much or have too many glyphs.
     Limit,

@@ -1,4 +1,4 @@
-//! Why a font is not cut.
+//! Why there is no closure or subset of a set of names.
 
 ghost use Rattle.std.specs.Prelude.{Some};
 ghost use Rattle.t1_subset.specs.FaultTexts.{subset_text};
@@ -9,7 +9,7 @@ use t1_join::Shown;
 /// Why there is no closure or subset of a set of names.
 #[derive(PartialEq, Eq, Debug, Drop)]
 pub enum SubsetFault {
-    /// The font lacks this name, the first such of those asked for.
+    /// The font lacks this name, the first of those asked for that it lacks.
     NoSuchGlyph { name: Vec<u8> },
     /// A growth was refused.
     Memory,

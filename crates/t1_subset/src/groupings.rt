@@ -1,4 +1,4 @@
-//! The join of many fonts at once: their states are joined first, and then the font is made in a balanced grouping.
+//! The join of many fonts at once: first their states are joined, and then the font is made, both in halves.
 
 ghost use Rattle.std.specs.Prelude.{◌≡◌, ◌<◌, IfOk, IfErr, length, map};
 ghost use Rattle.t1_join.specs.Groupings.{IsJoinOf, HaveJoin};
@@ -32,8 +32,8 @@ pub(crate) fn note_fonts<'t, 'a>(
     Ok(callers)
 }
 
-/// The joined states of fonts, one or more, where they have a join. The states of each font are made as it is joined, so that
-/// those of a few alone take memory at a time.
+/// The joined states of one or more fonts, if they have a join. The states of each font are made only when it is joined,
+/// so only a few of them take memory at a time.
 fn join_states_of<'a>(
     alloc: Global,
     callers: &[Callers<'_, 'a>],
@@ -61,7 +61,7 @@ fn join_states_of<'a>(
     Ok(Some(front.join(alloc, &back)?))
 }
 
-/// Whether the states of fonts, one or more, have a join, which is not made.
+/// Whether the states of one or more fonts have a join. The join itself is not made.
 pub(crate) fn states_have_join(
     alloc: Global,
     callers: &[Callers<'_, '_>],
@@ -95,7 +95,7 @@ pub(crate) fn copy_font<'a>(alloc: Global, font: &Font<'a>) -> Result<Font<'a>, 
     both(alloc, font, font)
 }
 
-/// The font that fonts make together which are known to merge, in a balanced grouping.
+/// The font that these fonts make together, merged in halves. They are known to merge.
 pub(crate) fn made_of<'a>(alloc: Global, fonts: &[Font<'a>]) -> Result<Font<'a>, Conflict>
     requires some { 0 < length fonts.now }
     requires merges { EachGroupingMerges fonts.now }

@@ -1,4 +1,4 @@
-//! Why fonts don't merge: their states are joined from left to right, up to the first conflict.
+//! Why fonts don't merge: their states are joined from left to right up to the first conflict.
 
 ghost use Rattle.std.specs.Prelude.{◌≡◌, ◌<◌, ◌⊎◌, IfOk, IfErr, length};
 ghost use Rattle.t1_font.specs.FontValue.{FontValue};
@@ -20,7 +20,7 @@ use crate::state_value::States;
 use std::alloc::Global;
 use t1_join::Join;
 
-/// The joined states of two fonts. Where shells and states have no conflict, the limits are all that refuses them.
+/// The joined states of two fonts. If shells and states have no conflict, only the limits can refuse them.
 fn join_states<'a>(
     alloc: Global,
     left: &States<'a>,
@@ -94,7 +94,7 @@ fn join_in_turn(alloc: Global, callers: &[Callers<'_, '_>]) -> Result<(), Confli
     Ok(())
 }
 
-/// Whether fonts merge, one or more, by the callers of each; else the first conflict from left to right.
+/// Whether one or more fonts merge, by the callers of each, or the first conflict from left to right.
 pub(crate) fn all_join(alloc: Global, callers: &[Callers<'_, '_>]) -> Result<(), Conflict>
     requires some { 0 < length callers.now }
     requires noted { AreNoted callers.now }

@@ -1,4 +1,4 @@
-//! Laws of subsets and mergers, over the definitions alone.
+//! Laws of subsets and mergers. They speak of the definitions alone and depend on no code.
 
 ghost use Rattle.t1_subset.specs.Laws.{KeepIsLeast, KeepIsMonotone, Distribution, SubsetIsFont, SubsetOfSubset, Bottom, SubsetsDraw, TwoSubsets, ManySubsets, JoinIsFont, JoinIsSymmetric, JoinIsIdempotent, StatesOfJoin, JoinsDraw, AnyOrder, AcceptedByPairs, JoinWhereStatesAgree, NoConflictIsJoin, ConflictIsSymmetric, JoinHasEntries, CallsDrawAlike};
 ghost use Rattle.t1_subset.specs.Profile.{profile};
@@ -6,20 +6,20 @@ ghost use Rattle.t1_subset.specs.Headline.{Headline};
 ghost use Rattle.t1_subset.specs.Evened.{EvenedDraw};
 ghost use Rattle.t1_subset.specs.Rejoins.{TruncatedSubsetsRejoin, MergingFontsAreEven};
 
-/// For every input that spells a font F and all sets A and B of its glyph names, reading the written subsets of A
-/// and B and merging them, in either order, writes the bytes of the subset of A together with B; over any list of
-/// such subsets every order and grouping writes the same bytes, each font on the way written and read again or
-/// not; and each kept glyph draws with F's width, hints and outline.
+/// For every input that spells a font F and all sets A and B of its glyph names, reading the written subsets over A
+/// and B and merging them, in either order, writes the bytes of the subset over A together with B. Over any list of
+/// such subsets every order and grouping writes the same bytes, whether or not the fonts on the way are written and
+/// read again. Each kept glyph draws with the width, the hints and the outline that it has in F.
 pub fn headline()
     ensures { Headline }
 {}
 
-/// What a set of names keeps is closed, and within each closed set of the font's names that has them.
+/// What a set of names keeps is closed, and lies within each closed set of the font's names that has these names.
 pub fn keep_is_least()
     ensures { KeepIsLeast profile }
 {}
 
-/// Of more names no less is kept.
+/// A larger set of names keeps no less.
 pub fn keep_is_monotone()
     ensures { KeepIsMonotone profile }
 {}
@@ -29,33 +29,33 @@ pub fn distribution()
     ensures { Distribution profile }
 {}
 
-/// A subset of a font is a font, and weighs no more.
+/// A subset of a font is a font and weighs no more.
 pub fn subset_is_font()
     ensures { SubsetIsFont profile }
 {}
 
-/// A subset of a subset is that of the font; over the same names it is the subset itself.
+/// A subset of a subset is the font's own subset; over the same names it is the subset itself.
 pub fn subset_of_subset()
     ensures { SubsetOfSubset profile }
 {}
 
-/// What a subset doesn't keep is the bottom in it; a component that it seeks and lacks is lacking in the font.
+/// The state of a Subr that a subset doesn't keep is the bottom, and a component that the subset seeks and lacks is
+/// lacking in the font.
 pub fn bottom()
     ensures { Bottom profile }
 {}
 
-/// A kept glyph runs and draws in a subset as in the font.
+/// A kept glyph runs and draws in a subset as it does in the font.
 pub fn subsets_draw()
     ensures { SubsetsDraw profile }
 {}
 
-/// Two subsets of a font join in either order, to the subset of both sets of names.
+/// Two subsets of a font join in either order, to the subset over both sets of names.
 pub fn two_subsets()
     ensures { TwoSubsets profile }
 {}
 
-/// Subsets of a font, over any list of sets of names, merge in any order and grouping to the subset of all
-/// the sets.
+/// Subsets of a font over any list of sets of names merge in any order and grouping to the subset over all the sets.
 pub fn many_subsets()
     ensures { ManySubsets profile }
 {}
@@ -65,7 +65,7 @@ pub fn join_is_font()
     ensures { JoinIsFont profile }
 {}
 
-/// Fonts join in both orders, to one font.
+/// Fonts join in both orders, to the same font.
 pub fn join_is_symmetric()
     ensures { JoinIsSymmetric profile }
 {}
@@ -85,23 +85,23 @@ pub fn joins_draw()
     ensures { JoinsDraw profile }
 {}
 
-/// Fonts that merge in one order and grouping merge in each other, to the same font.
+/// Fonts that merge in one order and grouping merge in every other, to the same font and to no other.
 pub fn any_order()
     ensures { AnyOrder profile }
 {}
 
-/// A list of fonts merges exactly where the states of each two of them join, and the font of all is within
-/// the limits.
+/// A list of fonts merges from left to right exactly if the states of each two of them join and the font of all is
+/// within the limits.
 pub fn accepted_by_pairs()
     ensures { AcceptedByPairs profile }
 {}
 
-/// Fonts join exactly where their states agree.
+/// Fonts join exactly if their states agree.
 pub fn join_where_states_agree()
     ensures { JoinWhereStatesAgree profile }
 {}
 
-/// Two fonts have no conflict exactly where they join.
+/// Two fonts have no conflict exactly if they join.
 pub fn no_conflict_is_join()
     ensures { NoConflictIsJoin profile }
 {}
@@ -111,34 +111,35 @@ pub fn conflict_is_symmetric()
     ensures { ConflictIsSymmetric profile }
 {}
 
-/// Where the states of two fonts join, their join has the entries of both.
+/// If the states of two fonts join, their join has the entries of both.
 pub fn join_has_entries()
     ensures { JoinHasEntries profile }
 {}
 
-/// A glyph that does in one font what it does in another does so for every call: `direct`, `direct3`, `executed`, `draw` and
-/// `draw3` of `t1_run` answer of the one font what they answer of the other. So the drawings of subsets and mergers, which
-/// the clauses of [`subset`](crate::subset) and [`merge`](crate::merge) tell over the maps of fonts, are those of the calls.
+/// If a glyph runs and draws alike in two fonts, calls answer alike: `direct`, `direct3`, `executed`, `draw` and `draw3`
+/// of `t1_run` answer the same for both fonts. So the drawings of subsets and mergers, which the clauses of
+/// [`subset`](crate::subset) and [`merge`](crate::merge) state over the maps of fonts, are the drawings that calls answer.
 pub fn calls_draw_alike()
     ensures { CallsDrawAlike }
 {}
 
-/// A glyph that is drawn in a font is drawn the same in the font that this is when it was made even: without its tag, with
-/// more Subrs declared and with stubs where it lacks some. What its charstring answers without a fault, it answers there;
-/// each where hints are replaced and where they are kept, by itself, over the maps of both fonts and as calls see them.
+/// A glyph that is drawn in a font is drawn the same after the font is made even: without its tag, with more Subrs
+/// declared and with stubs for some that it lacks. What its charstring answers without a fault, it answers there, too.
+/// This holds where hints are replaced and where they are kept, each by itself, over the maps of both fonts and as calls
+/// see them.
 pub fn evened_draw()
     ensures { EvenedDraw }
 {}
 
-/// Subsets of one font that other programs cut, each with any tag and with the font's first Subrs alone, as long as those
-/// that it keeps are among them: made even, they merge in every order and grouping to the subset of all the names, cut to the
-/// largest of the counts and without the font's tag, and to nothing else, so to the same bytes. Each glyph that is kept
-/// draws in it as in the font.
+/// Subsets of one font that other programs cut merge once they are made even. Each may have any tag, and only the font's
+/// first Subrs, as long as those that it keeps are among them. In every order and grouping they merge to the subset over
+/// all the names, cut to the largest of the counts and without the font's tag, and to nothing else, so to the same bytes.
+/// Each glyph that is kept draws in it as in the font.
 pub fn truncated_subsets_rejoin()
     ensures { TruncatedSubsetsRejoin }
 {}
 
-/// Fonts without tags that merge, in some order and grouping, are even already: making them even changes none of them, so
+/// Fonts without tags that merge in some order and grouping are even already: making them even changes none of them, so
 /// they rejoin to what they merge to.
 pub fn merging_fonts_are_even()
     ensures { MergingFontsAreEven }

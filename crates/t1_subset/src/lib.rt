@@ -1,8 +1,9 @@
 //! Subsets and mergers of Type 1 fonts.
 //!
-//! [`subset`] cuts a font to the glyphs of some names and to what these need, and [`merge`] and [`merge_all`] make one font
-//! of several: of subsets of one font the subset of all their names. [`states`] answers what fonts are compared by. A font
-//! that is made so borrows from the sources of those that it came from.
+//! [`subset`] cuts a font to the glyphs of some names and to what these glyphs need: the components of accented glyphs,
+//! and the Subrs that are executed; [`closure`] answers what that is. [`merge`] and [`merge_all`] make one font of
+//! several; subsets of one font merge to the subset over all their names. [`states`] answers what fonts are compared by.
+//! A font that is made here borrows from the sources of the fonts that it was made from.
 //!
 //! ```text
 //! let some = subset(alloc, &font, &[b"A", b"Aacute"])?;

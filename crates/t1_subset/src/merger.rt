@@ -19,7 +19,7 @@ use crate::state_making::callers_of;
 use std::alloc::Global;
 use t1_font::{Font, PartsFault, join_parts};
 
-/// The font of the entries of two fonts whose states join, if it is within the limits.
+/// The font with the entries of two fonts whose states join, if it is within the limits.
 pub(crate) fn both<'a>(
     alloc: Global,
     left: &Font<'a>,
@@ -56,7 +56,7 @@ fn one_shell(alloc: Global, left: &Font<'_>, right: &Font<'_>) -> Result<(), Con
     }
 }
 
-/// The lowest conflict of two fonts' shells and states, by their callers, or want of memory.
+/// The lowest conflict of the shells and states of two fonts, by their callers, or want of memory.
 fn conflict_by(alloc: Global, own: Callers<'_, '_>, other: Callers<'_, '_>) -> Result<(), Conflict>
     requires fonts { IsFont own.font.now × IsFont other.font.now }
     requires own { AreCallersOf own own.font.now }
@@ -71,7 +71,7 @@ fn conflict_by(alloc: Global, own: Callers<'_, '_>, other: Callers<'_, '_>) -> R
     states_conflict(alloc, &own_states, &other_states, &[own, other])
 }
 
-/// The join of two fonts, or their lowest conflict. Where their shells differ, no glyph is run.
+/// The join of two fonts, or their lowest conflict. If their shells differ, no glyph is run.
 fn merge_two<'a>(alloc: Global, left: &Font<'a>, right: &Font<'a>) -> Result<Font<'a>, Conflict>
     ensures ok { IfOk result (λ j. Join profile left.now right.now
         × (j ≡ joined_font profile left.now right.now)) }
@@ -94,7 +94,7 @@ fn merge_two<'a>(alloc: Global, left: &Font<'a>, right: &Font<'a>) -> Result<Fon
     both(alloc, left, right)
 }
 
-/// The join of fonts, one or more, by the callers of each, which are let go before it is made.
+/// The join of one or more fonts, by the callers of each, which are let go before the join is made.
 fn merge_noted<'a>(
     alloc: Global,
     fonts: &[Font<'a>],
@@ -113,16 +113,16 @@ fn merge_noted<'a>(
     made_of(alloc, fonts)
 }
 
-/// The font that two fonts make together: the shell of both, the codes and glyphs of either, and for each Subr
-/// the entry of either, where one that is `return` and that no glyph of its font executes gives way to the other
-/// (Adobe Type 1 Font Format 1.1, chapters 2 and 8). It is answered exactly where the fonts join: where their
-/// shells are the same, what both have is the same, no font lacks a component that it needs and the other has, and
-/// the font of both is within the limits.
+/// The font that two fonts make together: the shell of both, the codes and glyphs of either, and for each Subr the
+/// entry of either, but an entry that is `return` and that no glyph of its font executes gives way to the other's
+/// (Adobe Type 1 Font Format 1.1, chapters 2 and 8). It is answered exactly if the fonts join: their shells are the
+/// same, what both have is the same, neither lacks a component that it needs and the other has, and the font of both is
+/// within the limits.
 ///
-/// Else the lowest [`Conflict`] is answered, the same in both orders of the fonts; want of memory may be
-/// answered in place of either. A font merged with itself is itself.
+/// Otherwise the lowest [`Conflict`] is answered, the same in both orders of the fonts. Want of memory may be answered
+/// in place of either. A font merged with itself is itself.
 ///
-/// Two subsets of one font always join, and their join is the subset of both sets of names.
+/// Two subsets of one font always join, and their join is the subset over both sets of names.
 pub fn merge<'a>(alloc: Global, left: &Font<'a>, right: &Font<'a>) -> Result<Font<'a>, Conflict>
     ensures ok { IfOk result (λ j. Join profile left.now right.now
         × (j ≡ joined_font profile left.now right.now)) }
@@ -136,13 +136,13 @@ pub fn merge<'a>(alloc: Global, left: &Font<'a>, right: &Font<'a>) -> Result<Fon
     merge_two(alloc, left, right)
 }
 
-/// The font that fonts make together, merged from left to right; any other order and grouping of the merges
-/// comes to the same font, or is refused too. Fonts are accepted exactly where there is one or more, the states of each two
-/// of them join, and the font of all is within the limits. They are refused with [`Conflict::Empty`] where there are no fonts,
-/// and else with the conflict of the first font that doesn't join those before it. Each glyph of each of the fonts draws in
-/// the result as it did.
+/// The font that a list of fonts makes together, merged from left to right. Any other order and grouping of the merges
+/// comes to the same font, or is refused, too. Fonts are accepted exactly if there is at least one, the states of each
+/// two of them join, and the font of all is within the limits. They are refused with [`Conflict::Empty`] if there are
+/// none, and otherwise with the conflict of the first font that doesn't join those before it. Each glyph of each font
+/// draws in the result as it did before.
 ///
-/// Subsets of one font always join, and their join is the subset of all their sets of names.
+/// Subsets of one font always join, and their join is the subset over all their names.
 pub fn merge_all<'a>(alloc: Global, fonts: &[Font<'a>]) -> Result<Font<'a>, Conflict>
     ensures ok { IfOk result (λ j. ComesTo fonts.now j) }
     ensures err { IfErr result (λ e. IsRefused fonts.now e) }

@@ -8,7 +8,7 @@ use crate::callers::Seekers;
 use std::alloc::{AllocError, Global};
 use t1_join::{Kept, Table};
 
-/// What a font says of a name.
+/// The state of a name in a font.
 #[derive(Clone, Copy)]
 pub(crate) enum NameState<'a> {
     /// A glyph names it as a component, and the font lacks it.

@@ -14,17 +14,16 @@ use std::alloc::{AllocError, Global};
 use std::collections::BTreeSet;
 use t1_font::Font;
 
-/// What a set of glyph names needs of a font: the glyphs that are kept, and the Subrs that are kept as
-/// they are.
+/// What a set of glyph names needs of a font: the glyphs that are kept, and the Subrs that are kept as they are.
 #[derive(Drop)]
 pub struct Closure {
     /// The names of the glyphs, upwards by their bytes.
     pub names: Vec<Vec<u8>>,
-    /// The indices of the Subrs, 0 to 3 among them, whether the font has them or not.
+    /// The indices of the Subrs, including 0 to 3, whether or not the font has these.
     pub subrs: BTreeSet<u16>,
 }
 
-/// The names that a set of the font's names keeps, as they are met, and the Subrs that are kept with them.
+/// The names that a set of the font's names keeps, in the order in which they are met, and the Subrs that are kept.
 ///
 /// Each glyph that is kept is run once.
 pub(crate) fn needed<'a>(

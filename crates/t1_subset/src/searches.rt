@@ -1,4 +1,4 @@
-//! The lowest conflict of two fonts, by their states and by who uses them: one search for each kind.
+//! The lowest conflict of two fonts, by their states and their callers: one search for each kind.
 
 ghost use Rattle.std.specs.Prelude.{◌≡◌, ◌<◌, IfOk, IfErr, Some, None, SomeIff, []};
 ghost use Rattle.std.specs.Option.{option_map, unwrap_or};
@@ -19,7 +19,7 @@ use crate::state_value::States;
 use std::alloc::Global;
 use t1_join::Table;
 
-/// The charstring of a name, where its state is one.
+/// The charstring of a name, if its state is one.
 fn charstring<'a>(state: Option<&NameState<'a>>) -> Option<&'a [u8]>
     ensures { option_map (λ c. c.now) result
         ≡ behind_mark (option_map (λ s. state_meaning s.now) state.entry) }
@@ -49,7 +49,7 @@ fn charstrings_differ(own: Option<&NameState<'_>>, other: Option<&NameState<'_>>
     differ(charstring(own), charstring(other))
 }
 
-/// Whether one font seeks a name of which the other has a glyph.
+/// Whether one font seeks a name for which the other has a glyph.
 fn one_lacks(own: Option<&NameState<'_>>, other: Option<&NameState<'_>>) -> bool
     ensures { result
         ≡ one_lacks (option_map (λ s. state_meaning s.now) own.entry)
@@ -58,7 +58,7 @@ fn one_lacks(own: Option<&NameState<'_>>, other: Option<&NameState<'_>>) -> bool
     is_sought(own) && charstring(other).is_some() || is_sought(other) && charstring(own).is_some()
 }
 
-/// The code as a byte, where it is one.
+/// The code as a byte, if it is one.
 fn byte_of(code: u16) -> Option<u8>
     ensures { SomeIff result (code < 256) code }
 {
@@ -68,7 +68,7 @@ fn byte_of(code: u16) -> Option<u8>
     }
 }
 
-/// The smallest code that both have, with different names.
+/// The smallest code that both fonts have, with different names.
 fn code_conflict(own: &Table<u16, &[u8]>, other: &Table<u16, &[u8]>) -> Option<u8>
     ensures { (f g : FontValue)
         → IsFont f
@@ -82,7 +82,7 @@ fn code_conflict(own: &Table<u16, &[u8]>, other: &Table<u16, &[u8]>) -> Option<u
     }
 }
 
-/// The smallest name that both have, with different charstrings.
+/// The smallest name that both fonts have, with different charstrings.
 fn glyph_conflict<'a>(own: &NameTable<'a>, other: &NameTable<'a>) -> Option<&'a [u8]>
     ensures { option_map (λ n. n.now) result ≡ first_clash charstrings_differ own.now other.now }
 {
@@ -94,7 +94,7 @@ fn glyph_conflict<'a>(own: &NameTable<'a>, other: &NameTable<'a>) -> Option<&'a 
     None
 }
 
-/// The smallest name that one seeks, and of which the other has a glyph.
+/// The smallest name that one font seeks and for which the other has a glyph.
 fn component_conflict<'a>(own: &NameTable<'a>, other: &NameTable<'a>) -> Option<&'a [u8]>
     ensures { option_map (λ n. n.now) result ≡ first_clash one_lacks own.now other.now }
 {
@@ -120,7 +120,7 @@ fn subr_conflict(own: &Table<u16, &[u8]>, other: &Table<u16, &[u8]>) -> Option<u
     }
 }
 
-/// Tells a glyph that differs, or want of memory.
+/// The conflict of a glyph that differs, or want of memory.
 fn glyph_differs(alloc: Global, name: &[u8]) -> Conflict
     ensures { Tells result (Some (GlyphDiffers name.now)) }
 {
@@ -130,7 +130,7 @@ fn glyph_differs(alloc: Global, name: &[u8]) -> Conflict
     }
 }
 
-/// Tells a part that is lacking and the glyph that names it, or want of memory.
+/// The conflict of a component that is lacking and the glyph that names it, or want of memory.
 fn lacks_component(alloc: Global, glyph: Option<&[u8]>, part: &[u8]) -> Conflict
     ensures { Tells result
         (Some (LacksComponent (unwrap_or (option_map (λ n. n.now) glyph.entry) []) part.now)) }
@@ -144,7 +144,7 @@ fn lacks_component(alloc: Global, glyph: Option<&[u8]>, part: &[u8]) -> Conflict
     }
 }
 
-/// Tells a Subr that differs and the glyph that executes it, or want of memory.
+/// The conflict of a Subr that differs and the glyph that executes it, or want of memory.
 fn subr_differs(alloc: Global, index: u16, user: Option<&[u8]>) -> Conflict
     ensures { Tells result (Some (SubrDiffers index (option_map (λ n. n.now) user.entry))) }
 {
@@ -160,7 +160,7 @@ fn subr_differs(alloc: Global, index: u16, user: Option<&[u8]>) -> Conflict
     }
 }
 
-/// The lowest conflict of two fonts' shells, codes and glyphs, or want of memory.
+/// The lowest conflict of the shells, codes and glyphs of two fonts, or want of memory.
 fn entries_conflict(alloc: Global, left: &States<'_>, right: &States<'_>) -> Result<(), Conflict>
     ensures ok { (f g : FontValue)
         → AreStatesOf left.now right.now f g
@@ -181,7 +181,7 @@ fn entries_conflict(alloc: Global, left: &States<'_>, right: &States<'_>) -> Res
     }
 }
 
-/// The lowest conflict of what two fonts' glyphs name and execute, or want of memory.
+/// The lowest conflict of what the glyphs of two fonts name and execute, or want of memory.
 fn uses_conflict(
     alloc: Global,
     left: &States<'_>,
@@ -205,7 +205,7 @@ fn uses_conflict(
     }
 }
 
-/// The lowest conflict of two fonts' shells and states, or want of memory. The callers are those of both fonts.
+/// The lowest conflict of the shells and states of two fonts, or want of memory. The callers are those of both fonts.
 pub(crate) fn states_conflict(
     alloc: Global,
     left: &States<'_>,

@@ -15,7 +15,7 @@ use std::alloc::{AllocError, Global};
 use std::marker::Model;
 use t1_font::{Font, Part, Shell};
 
-/// What fonts have to share to join: the shell, the Encoding where it is a word, and which Subrs are present.
+/// What fonts have to share to join: the shell, the Encoding if it is a word, and which Subrs are present.
 #[derive(Drop)]
 pub(crate) struct Shared<'a> {
     shell: &'a Shell,
@@ -75,7 +75,7 @@ fn same_indices(left: &[u16], right: &[u16]) -> bool
     left == right
 }
 
-/// Whether both are the same word, or neither is there.
+/// Whether both are the same word, or neither is a word.
 fn same_word(left: Option<&[u8]>, right: Option<&[u8]>) -> bool
     ensures { result
         ≡ same_word (option_map (λ b. b.now) left.entry)
@@ -88,14 +88,14 @@ fn same_word(left: Option<&[u8]>, right: Option<&[u8]>) -> bool
     }
 }
 
-/// Whether the shells have the same kept text, or words, here.
+/// Whether this kept text or word is the same in both shells.
 fn same_text(left: &Shell, right: &Shell, part: Part) -> bool
     ensures { result ≡ same_bytes (part_of part left.now) (part_of part right.now) }
 {
     same_bytes(left.text(part), right.text(part))
 }
 
-/// Whether a part is the same.
+/// Whether a part is the same in both.
 fn same_part(left: &Shared<'_>, right: &Shared<'_>, part: ShellPart) -> bool
     ensures { result ≡ same_part left.now right.now (shell_part part) }
 {
@@ -152,7 +152,7 @@ impl<'a> Shared<'a> {
         })
     }
 
-    /// A copy.
+    /// A copy of the value.
     pub(crate) fn copy(&self, alloc: Global) -> Result<Shared<'a>, AllocError>
         ensures { IfOk result (λ s. s ≡ self.now) }
     {
@@ -177,7 +177,7 @@ impl<'a> Shared<'a> {
         first_differing(self, other, &PARTS)
     }
 
-    /// Whether all is the same.
+    /// Whether the fonts share all that they have to.
     pub(crate) fn is_same(&self, other: &Shared<'_>) -> bool
         ensures { IsTrue result ↔ (self.now ≡ other.now) }
     {

@@ -15,7 +15,7 @@ use std::alloc::{AllocError, Global};
 use t1_font::{COUNT_LIMIT, WEIGHT_LIMIT};
 use t1_join::{Join, Kept, Key, Table};
 
-/// The bytes of a Subr beyond those of a `return`.
+/// How many bytes a Subr has more than a `return`.
 fn subr_adds(body: &[u8]) -> u64
     ensures { result ≡ subr_adds [] body.now }
 {
@@ -32,7 +32,7 @@ fn name_adds(len_iv: u8, state: &NameState<'_>) -> u64
     }
 }
 
-/// How many glyphs the state of a name is.
+/// How many glyphs the state of a name adds to a font.
 fn name_counts(state: &NameState<'_>) -> u64
     ensures { result ≡ name_counts [] (state_meaning state.now) }
 {
@@ -49,14 +49,15 @@ fn has<K: Key + Drop, V: Kept + Drop>(table: &Table<K, V>, key: &K) -> bool
     table.get(key).is_some()
 }
 
-/// What an entry adds, unless it is there.
+/// What an entry adds, or nothing if it is there already.
 fn unless_there(is_there: bool, adds: u64) -> u64
     ensures { result ≡ cond is_there 0 adds }
 {
     if is_there { 0 } else { adds }
 }
 
-/// `before` and what the Subrs of the other table that the first lacks weigh beyond a `return`, as far as 64 bits hold it.
+/// `before` plus what each Subr of the other table that the first lacks weighs more than a `return`, as far as 64 bits
+/// hold it.
 fn with_subrs(before: u64, own: &Table<u16, &[u8]>, other: &Table<u16, &[u8]>) -> u64
     ensures { result
         ≡ clamp (before
@@ -69,7 +70,7 @@ fn with_subrs(before: u64, own: &Table<u16, &[u8]>, other: &Table<u16, &[u8]>) -
     weight
 }
 
-/// `before` and what the names of the other table that the first lacks add to the weight, as far as 64 bits hold it.
+/// `before` plus what the names of the other table that the first lacks add to the weight, as far as 64 bits hold it.
 fn with_names<'a>(before: u64, len_iv: u8, own: &NameTable<'a>, other: &NameTable<'a>) -> u64
     ensures { result
         ≡ clamp (before
@@ -82,7 +83,7 @@ fn with_names<'a>(before: u64, len_iv: u8, own: &NameTable<'a>, other: &NameTabl
     weight
 }
 
-/// `before` and how many glyphs the names of the other table are that the first lacks, as far as 64 bits hold it.
+/// `before` plus how many glyphs the names of the other table that the first lacks add, as far as 64 bits hold it.
 fn with_glyphs<'a>(before: u64, own: &NameTable<'a>, other: &NameTable<'a>) -> u64
     ensures { result
         ≡ clamp (before
@@ -139,14 +140,14 @@ impl<'a> States<'a> {
         self.codes.agrees(&other.codes) && self.names_and_subrs_agree(other)
     }
 
-    /// Whether all is the same that has to be, and all states join.
+    /// Whether the fonts share what they have to, and all states join.
     fn parts_agree(&self, other: &States<'a>) -> bool
         ensures { IsTrue result ↔ PartsAgree self.now other.now }
     {
         self.shared.is_same(&other.shared) && self.tables_agree(other)
     }
 
-    /// Says of states that they are within the limits. It does nothing when it runs: proofs call it.
+    /// States that these states are within the limits. It does nothing when it runs: proofs call it.
     fn fits(&self)
         ensures { StatesFit self.now }
     {

@@ -18,7 +18,7 @@ use std::alloc::{AllocError, Global};
 use t1_font::Font;
 use t1_run::Called;
 
-/// Whether a glyph has the charstring of the one before it, so that it executes and names the same.
+/// Whether a glyph has the same charstring as the one before it, and so executes and names the same.
 fn is_again(last: Option<&[u8]>, charstring: Option<&[u8]>) -> bool
     ensures { result
         ≡ same_charstring (option_map (λ b. b.now) last.entry)
@@ -30,8 +30,8 @@ fn is_again(last: Option<&[u8]>, charstring: Option<&[u8]>) -> bool
     }
 }
 
-/// Who executes which Subr of the font, and who names which component that it lacks. Each glyph is run once, and not
-/// where the one before it has the same charstring.
+/// The smallest glyph that executes each Subr of the font, and the smallest that names each component that it lacks.
+/// Each glyph is run once, or not at all if the one before it has the same charstring.
 pub(crate) fn callers_of<'t, 'a>(
     alloc: Global,
     font: &'t Font<'a>,
@@ -60,7 +60,7 @@ pub(crate) fn callers_of<'t, 'a>(
     })
 }
 
-/// The states of a font's names, of which these are the seekers.
+/// The states of the names of a font with these seekers.
 fn name_table<'a>(
     alloc: Global,
     font: &Font<'a>,
@@ -106,7 +106,7 @@ pub(crate) fn states_by<'a>(
     })
 }
 
-/// The states of a font. Each of its glyphs is run once.
+/// The states of a font. Each glyph of the font is run once.
 pub fn states<'a>(alloc: Global, font: &Font<'a>) -> Result<States<'a>, AllocError>
     ensures { IfOk result (λ s. s ≡ states_of profile font.now) }
 {

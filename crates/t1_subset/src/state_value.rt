@@ -7,9 +7,10 @@ use t1_join::Table;
 
 /// The states of a font: what fonts have to share to join, and the states of its codes, names and Subrs.
 ///
-/// A code's state is its name, where the Encoding is a table; a name's its charstring, or that a glyph of the font
-/// names it as a component and the font lacks it; a Subr's its entry, but for a `return` that no glyph of the font executes
-/// (Adobe Type 1 Font Format 1.1, chapters 2, 6 and 8). All else is nothing, and joins with all.
+/// The state of a code is its name, if the Encoding is a table. The state of a name is its charstring, or that a glyph of
+/// the font names it as a component and the font lacks it. The state of a Subr is its entry, unless that is a `return`
+/// that no glyph of the font executes (Adobe Type 1 Font Format 1.1, chapters 2, 6 and 8). Any other state is nothing,
+/// which joins with every state.
 #[derive(Drop)]
 pub struct States<'a> {
     pub(crate) shared: Shared<'a>,

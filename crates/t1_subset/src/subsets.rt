@@ -14,13 +14,14 @@ use crate::fault::SubsetFault;
 use std::alloc::Global;
 use t1_font::{Font, restrict};
 
-/// The font cut to what a set of names needs of it, its closure: its glyphs and a table Encoding cut to the
-/// names that are kept, and each present Subr that isn't kept replaced by the charstring `return`, so that
-/// its index stays present (Adobe Type 1 Font Format 1.1, chapters 2 and 8). All else is as it is. Each
-/// glyph that is kept draws as in the font, or faults as in it. The subset borrows from where the font borrows.
+/// The font cut to the closure of a set of names, which is what the names need of it. Its glyphs, and its Encoding if
+/// that is a table, are cut to the names that are kept. Each present Subr that isn't kept is replaced by the charstring
+/// `return`, so its index stays present (Adobe Type 1 Font Format 1.1, chapters 2 and 8). Everything else stays as it
+/// is. Each glyph that is kept draws as it does in the font, or faults as it does there. The subset borrows from where
+/// the font borrows.
 ///
-/// It fails with [`SubsetFault::NoSuchGlyph`] where the font lacks a name that is asked for, the first
-/// such, and else for want of memory alone.
+/// It fails with [`SubsetFault::NoSuchGlyph`] for the first name asked for that the font lacks, and otherwise only for
+/// want of memory.
 pub fn subset<'a>(alloc: Global, font: &Font<'a>, names: &[&[u8]]) -> Result<Font<'a>, SubsetFault>
     ensures ok { IfOk result (λ s. s ≡ subset profile font.now (asked names.now)) }
     ensures draws { IfOk result (λ s. (n : List ℕ)

@@ -18,10 +18,10 @@ use t1_font::{Font, STUB};
 use t1_join::{Kept, Key, Table};
 use t1_run::Subroutines;
 
-/// How many names there may be that components have: those of StandardEncoding.
+/// How many names components can have: those of StandardEncoding.
 const SOUGHT_ROOM: usize = 149;
 
-/// Puts a state at a key, where there is one.
+/// Puts a state at a key, if there is one.
 pub(crate) fn put<K: Key + Drop, V: Kept + Drop>(
     table: &mut Table<K, V>,
     key: K,
@@ -51,7 +51,7 @@ pub(crate) fn code_table<'a>(
     Ok(table)
 }
 
-/// The state of a name that has this charstring.
+/// The state of a name with this charstring, if it has one.
 fn charstring_state(charstring: Option<&[u8]>) -> Option<NameState<'_>>
     ensures { option_map state_meaning result
         ≡ option_map (λ c. name_meaning (Some c.now)) charstring.entry }
@@ -74,7 +74,7 @@ pub(crate) fn glyph_states<'a>(alloc: Global, font: &Font<'a>) -> Result<NameTab
     Ok(table)
 }
 
-/// The state of a Subr: its entry, but for a `return` that is not executed.
+/// The state of a Subr: its entry, unless that is a `return` that is not executed.
 fn subr_state<'a>(entry: Option<&'a [u8]>, is_called: bool) -> Option<&'a [u8]>
     ensures { option_map (λ b. b.now) result
         ≡ entry_state (option_map (λ b. b.now) entry.entry) is_called }
@@ -85,7 +85,7 @@ fn subr_state<'a>(entry: Option<&'a [u8]>, is_called: bool) -> Option<&'a [u8]>
     }
 }
 
-/// The states of the Subrs, of which these glyphs are the users.
+/// The states of the Subrs, by the glyphs that use them.
 pub(crate) fn subr_table<'a>(
     alloc: Global,
     font: &Font<'a>,

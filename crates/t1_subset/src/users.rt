@@ -18,9 +18,9 @@ use t1_run::Called;
 /// The smallest glyph that executes a Subr, if one does.
 #[derive(Clone, Copy)]
 pub(crate) enum User<'a> {
-    /// No glyph of the font does.
+    /// No glyph of the font executes it.
     Nobody,
-    /// The glyph of this name.
+    /// The glyph of this name does.
     Glyph(&'a [u8]),
 }
 
@@ -42,8 +42,8 @@ impl<'a> Kept for User<'a> {
     }
 }
 
-/// The smallest glyph that executes each Subr of a font, by index. It has the Subrs that are there and no others, so that a
-/// font that declares many and has few takes no more room than its file.
+/// The smallest glyph that executes each Subr of a font, by index. It has entries for the Subrs that are present and for
+/// no others, so a font that declares many and has few takes no more room than its file.
 pub(crate) type Users<'a> = Table<u16, User<'a>>;
 
 /// How many Subrs the font has.
@@ -55,7 +55,7 @@ fn subr_count(font: &Font<'_>) -> usize {
     count
 }
 
-/// Nobody, for each Subr of the font.
+/// `Nobody` for each Subr of the font.
 pub(crate) fn no_users<'a>(alloc: Global, font: &Font<'_>) -> Result<Users<'a>, AllocError>
     ensures { IfOk result (λ users. users ≡ numbered (unused font.now.subrs)) }
 {
@@ -66,7 +66,7 @@ pub(crate) fn no_users<'a>(alloc: Global, font: &Font<'_>) -> Result<Users<'a>, 
     Ok(users)
 }
 
-/// Notes a glyph that executes the index, unless there is a smaller one; glyphs come upwards by name.
+/// Notes a glyph that executes the index, unless there is a smaller one. Glyphs come upwards by name.
 fn note_user<'a>(users: &mut Users<'a>, index: u16, glyph: &'a [u8]) -> Result<(), AllocError>
     ensures { (q : ℕ)
         → OnOk result (maps.get users.new (of_number q)

@@ -1,4 +1,4 @@
--- Where no name is absent, each is the font's.
+-- If no name is absent, each is a name of the font.
 use Rattle.std.proofs.Common.{◌≡◌, ℕ, not, List, None}
 use Rattle.std.specs.Cmp.Lexicographic.{nat_list_cmp_total}
 use Rattle.std.specs.FinSet as sets
@@ -9,5 +9,6 @@ use Rattle.t1_subset.specs.Searches.{first_where}
 use Rattle.t1_subset.proofs.Sets.{name_same, in_list}
 use Rattle.t1_subset.proofs.Searching.{none_at_all, not_false}
 
+-- if a search for an absent name finds none, the names are the font's
 pub none_absent : (f : FontValue) (ns : List (List ℕ)) → first_where (λ n. not (has f n)) ns ≡ None → IsOf f (sets.from_list ns)
 none_absent f ns h n k = not_false (has f n) (none_at_all nat_list_cmp_total name_same (λ n. not (has f n)) ns n h (in_list nat_list_cmp_total name_same ns n k))

@@ -1,4 +1,4 @@
--- Names that are closed, and within each closed set, are what is kept.
+-- Names that are closed and lie within each closed set are what is kept.
 use Rattle.std.proofs.Common.{◌≡◌, ℕ, ◌+◌, ◌<◌, ◌≤◌, true, List, [], ◌∷◌, refl, sym, ◌∙◌, ap, subst, inl, inr, length, take, take_all, get_or, filter, cond, arith, is_some, Some, true≢false}
 use Rattle.std.specs.List.{list_any, IsDistinct}
 use Rattle.std.specs.Map.{lookup}
@@ -18,7 +18,7 @@ use Rattle.t1_subset.proofs.Sets.{name_same, tied, itself, any_filter, here_or, 
 use Rattle.t1_subset.proofs.Kept.{keep_least, keep_from}
 use Rattle.t1_subset.proofs.closing.ClosureLists.{is_in, all_more, all_there, all_from, all_distinct, all_length, all_front}
 
--- the names of a closure so far, of which the first i have their components in it
+-- the names of a closure so far: the components of the first i of them are among them
 pub record ClosureSoFar {O : Type 0} (m : Interpreter O) (f : FontValue) (a : Names) (ns : List (List ℕ)) (i : ℕ) : Type 0 where
   pub distinct : IsDistinct same_bytes ns
   pub inside : (q : List ℕ) → list_any (same_bytes q) ns ≡ true → has f q ≡ true
@@ -39,9 +39,11 @@ unfolding IsDistinct
 alone n = (tt, tt)
 
 module _ {O : Type 0} (m : Interpreter O) (f : FontValue) (a : Names) where
+  -- the components of a name's glyph that the font has
   abbrev found : List ℕ → List (List ℕ)
   found n = filter (has f) (components m f.subrs (charstring f n))
 
+  -- a step adds the components of the next name
   pub closure_step : (ns : List (List ℕ)) (i : ℕ) (n : List ℕ) → ClosureSoFar m f a ns i → i < length ns → get_or ns i n ≡ n → ClosureSoFar m f a (push_all ns (found n)) (i + 1)
   closure_step ns i n k h e =
       let is : is_in n ns = ap (λ t. list_any (same_bytes n) t) (sym (take_all (length ns) ns (omega arith))) ∙ one_in n ns i h e in
@@ -59,6 +61,7 @@ module _ {O : Type 0} (m : Interpreter O) (f : FontValue) (a : Names) where
         reached = omega (arith, all_length (found n) ns);
       }
 
+  -- the closure begins with `.notdef` and the names that are asked for
   pub closure_start : (names : List (List ℕ)) → has f notdef ≡ true → IsOf f (sets.from_list names) → sets.from_list names ≡ a → ClosureSoFar m f a (push_all (push_new [] notdef) names) 0
   closure_start names base inside e =
       let one : is_in notdef (notdef ∷ []) = here (same_bytes notdef) notdef [] (itself nat_list_cmp_total name_same notdef) in
@@ -75,6 +78,7 @@ module _ {O : Type 0} (m : Interpreter O) (f : FontValue) (a : Names) where
         reached = omega arith;
       }
 
+  -- at the end of the list the names of the closure are what is kept
   pub closure_end : (ns : List (List ℕ)) (i : ℕ) → ClosureSoFar m f a ns i → length ns ≤ i → sets.from_list ns ≡ keep m f a
   closure_end ns i k h =
       let s = sets.from_list ns in
@@ -88,10 +92,12 @@ module _ {O : Type 0} (m : Interpreter O) (f : FontValue) (a : Names) where
       (λ q w. keep_from m f a q (inside q w) (λ t o c. k.least t o c q (in_list nat_list_cmp_total name_same ns q w)))
       (λ q w. keep_least m f a s inside closed q w)
 
+  -- two ways to find a name in a table are the same
   find_lookup : (q : List ℕ) (es : List (List ℕ × List ℕ)) → find name_cmp q es ≡ lookup (same_bytes q) es
   find_lookup q [] = refl
   find_lookup q (e ∷ es) = ap (cond (same_bytes q e.0) (Some e.1)) (find_lookup q es)
 
+  -- a closure has no more names than the font has glyphs
   pub closure_few : (ns : List (List ℕ)) (i : ℕ) → ClosureSoFar m f a ns i → length ns ≤ maps.len f.glyphs
   closure_few ns i k = subst (λ (n : ℕ). length ns ≤ n) (sym (maps.len-entries f.glyphs)) (length-le_from_keys (eq_by_cmp_equiv nat_list_cmp_total) ns (maps.entries f.glyphs) k.distinct
       (λ q h. ap is_some (sym (find_lookup q (maps.entries f.glyphs)) ∙ sym (maps.get-entries f.glyphs q)) ∙ k.inside q h))

@@ -15,15 +15,16 @@ use Rattle.t1_subset.proofs.Sets.{any_flat, any_flat_from}
 use Rattle.t1_subset.proofs.closing.NumberSets.{of_members}
 use Rattle.t1_subset.proofs.closing.ExecutedCalls.{calls_by, calls_of}
 
+-- the indices that are always kept
 abbrev low : List ℕ
 low = 0 ∷ 1 ∷ 2 ∷ 3 ∷ []
 
--- 0 to 3, and what these glyphs execute
+-- the indices 0 to 3, and those that the glyphs of these names execute
 abbrev pub calls_to : FontValue → List (List ℕ) → Numbers
 calls_to f ns = sets.from_list (low ++ calls_of f ns)
 
 module _ (f : FontValue) where
-  -- a glyph of this name executes the index
+  -- the glyph of this name executes the index
   abbrev runs : ℕ → List ℕ → Bool
   runs q n = list_any (eq_by_cmp nat_cmp q) (sets.items (calls_by f n))
 
@@ -33,7 +34,7 @@ module _ (f : FontValue) where
       ∙ ap (λ b. list_any (eq_by_cmp nat_cmp q) low || b)
       (both_ways _ _ (any_flat nat_cmp_total nat_cmp-IsAntisymmetric (λ n. sets.items (calls_by f n)) q ns) (any_flat_from nat_cmp_total nat_cmp-IsAntisymmetric (λ n. sets.items (calls_by f n)) q ns)))
 
-  -- with the calls of the next name
+  -- the calls of one more name are added
   pub calls_step : (ns : List (List ℕ)) (i : ℕ) (n : List ℕ) (s new : Numbers) → i < length ns → get_or ns i n ≡ n → s ≡ calls_to f (take i ns) → new ≡ sets.union s (calls_by f n) → new ≡ calls_to f (take (i + 1) ns)
   calls_step ns i n s new h e is more = sets.same_set nat_cmp_total nat_cmp-IsAntisymmetric new (calls_to f (take (i + 1) ns)) (λ q.
       ap (λ (t : Numbers). sets.contains t q) more
@@ -43,6 +44,6 @@ module _ (f : FontValue) where
       ∙ (ap (λ b. list_any (eq_by_cmp nat_cmp q) low || b) (sym (list_any_more (runs q) ns i n h))
       ∙ sym (in_calls (take (i + 1) ns) q))))))
 
-  -- at the end it is what the set of all names executes
+  -- at the end of the list these are the Subrs that the set of all names executes
   pub calls_end : (ns : List (List ℕ)) (i : ℕ) (s : Numbers) (k : Names) → length ns ≤ i → s ≡ calls_to f (take i ns) → sets.from_list ns ≡ k → s ≡ called_by profile f k
   calls_end ns i s k h is e = is ∙ (ap (calls_to f) (take_all i ns h) ∙ (of_members (λ n. sets.items (calls_by f n)) low ns ∙ ap (called_by profile f) e))

@@ -1,4 +1,4 @@
--- Names that are lent, as names of a closure.
+-- Borrowed names, as the names of a closure.
 use Rattle.std.proofs.Common.{◌≡◌, ℕ, ◌<◌, ◌≤◌, Bool, true, false, ◌||◌, List, [], ◌∷◌, ◌++◌, Some, None, refl, ap, ◌∙◌, cond, length, get_or, slice_get, arith, zero, suc}
 use Rattle.std.specs.Prelude.{nat_eq}
 use Rattle.std.specs.Borrow.{Bor}
@@ -10,7 +10,7 @@ use Rattle.t1_subset.specs.Interpreter.{same_bytes}
 use Rattle.t1_subset.specs.ClosureNames.{push_new}
 use Rattle.t1_subset.specs.NameSets.{lent}
 
--- equal bytes, wherever they lie
+-- two borrowed names have the same bytes
 abbrev pub same_lent : Bor (List ℕ) → Bor (List ℕ) → Bool
 same_lent a b = pointwise nat_eq a.now b.now
 
@@ -22,17 +22,17 @@ chosen : (b : Bool) (ks : List (Bor (List ℕ))) (k : Bor (List ℕ)) → lent (
 chosen true ks k = refl
 chosen false ks k = map-append (λ (n : Bor (List ℕ)). n.now) ks (k ∷ [])
 
--- a key that is inserted is a name at the end, unless it is there
+-- inserting a key adds the name at the end, unless it is there already
 pub lent_insert : (ks : List (Bor (List ℕ))) (k : Bor (List ℕ)) → lent (insert_key same_lent ks k) ≡ push_new (lent ks) k.now
 lent_insert ks k = chosen (list_any (same_lent k) ks) ks k ∙ ap (λ b. cond b (lent ks) (lent ks ++ k.now ∷ [])) (any_lent k.now ks)
 
--- what stands at a place
+-- a name that is answered for a place is the one at that place
 pub got : (ns : List (List ℕ)) (i : ℕ) (n : List ℕ) → Some n ≡ slice_get ns i → (i < length ns) × (get_or ns i n ≡ n)
 got [] i n e = cc
 got (q ∷ ns) zero n e = (omega arith, cc)
 got (q ∷ ns) (suc i) n e = let r = got ns i n e in let l = r.0 in (omega (arith, l), r.1)
 
--- no name stands at a place past the end
+-- if no name is answered for a place, it is past the end
 pub past : (ns : List (List ℕ)) (i : ℕ) → None ≡ slice_get ns i → length ns ≤ i
 past [] i e = omega arith
 past (q ∷ ns) zero e = cc

@@ -23,15 +23,19 @@ or_swapped true true c = refl
 or_swapped true false c = refl
 or_swapped false b c = refl
 
+-- the set of a list of indices
 abbrev of : List ℕ → Numbers
 of ks = sets.from_list ks
 
+-- the set of a list has what the list has
 in_of : (ks : List ℕ) (q : ℕ) → sets.contains (of ks) q ≡ list_any (eq_by_cmp nat_cmp q) ks
 in_of ks q = sets.contains-from_list nat_cmp_total ks q
 
+-- sets with the same members are the same
 same : (s t : Numbers) → ((q : ℕ) → sets.contains s q ≡ sets.contains t q) → s ≡ t
 same s t h = sets.same_set nat_cmp_total nat_cmp-IsAntisymmetric s t h
 
+-- a list with one more index has that index and those that it had
 any_key : (q k : ℕ) (ks : List ℕ) → list_any (eq_by_cmp nat_cmp q) (insert_key nat_cmp ks k) ≡ (eq_by_cmp nat_cmp q k || list_any (eq_by_cmp nat_cmp q) ks)
 any_key q k [] = refl
 any_key q k (x ∷ xs) = elim (nat_cmp k x)
@@ -41,7 +45,7 @@ any_key q k (x ∷ xs) = elim (nat_cmp k x)
       | Greater ↦ λ h. ap (λ b. eq_by_cmp nat_cmp q x || b) (any_key q k xs) ∙ or_later (eq_by_cmp nat_cmp q x) (eq_by_cmp nat_cmp q k) (list_any (eq_by_cmp nat_cmp q) xs)
     ] refl
 
--- indices that come to a set
+-- a set to which indices are added has these and those that it had
 pub any_with : (q : ℕ) (set is : List ℕ) → list_any (eq_by_cmp nat_cmp q) (with_indices set is) ≡ (list_any (eq_by_cmp nat_cmp q) set || list_any (eq_by_cmp nat_cmp q) is)
 any_with q set [] = sym (or_none (list_any (eq_by_cmp nat_cmp q) set))
 any_with q set (i ∷ is) =
@@ -49,7 +53,7 @@ any_with q set (i ∷ is) =
     ∙ ap (λ b. b || list_any (eq_by_cmp nat_cmp q) is) (any_key q i set)
     ∙ or_swapped (eq_by_cmp nat_cmp q i) (list_any (eq_by_cmp nat_cmp q) set) (list_any (eq_by_cmp nat_cmp q) is)
 
--- what a charstring executes comes to a set
+-- adding what a charstring executes is a union
 pub of_executed : (set : List ℕ) (subrs : Subrs) (c : List ℕ) → of (with_executed set subrs c) ≡ sets.union (of set) (of (exec subrs c))
 of_executed set subrs c =
     let any : ℕ → List ℕ → Bool = λ q. list_any (eq_by_cmp nat_cmp q) in
@@ -65,13 +69,15 @@ of_executed set subrs c =
     ∙ ap (λ b. b || sets.contains (of (exec subrs c)) q) (sym (in_of set q))
     ∙ sym (sets.contains-union nat_cmp_total (of set) (of (exec subrs c)) q))
 
+-- nothing is added by the empty list
 pub union_none : (s : Numbers) → sets.union s (of []) ≡ s
 union_none s = same _ _ (λ q. sets.contains-union nat_cmp_total s (of []) q ∙ ap (λ b. sets.contains s q || b) (in_of [] q) ∙ or_none (sets.contains s q))
 
+-- the union of the empty set and another is the other
 pub none_union : (s : Numbers) → sets.union (of []) s ≡ s
 none_union s = same _ _ (λ q. sets.contains-union nat_cmp_total (of []) s q ∙ ap (λ b. b || sets.contains s q) (in_of [] q))
 
--- what comes of the names of a list comes of the members of their set
+-- what the names of a list give is what the members of their set give
 module _ (g : List ℕ → List ℕ) (low : List ℕ) (all : List (List ℕ)) where
   abbrev by : ℕ → List ℕ → Bool
   by q n = list_any (eq_by_cmp nat_cmp q) (g n)

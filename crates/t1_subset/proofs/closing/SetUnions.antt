@@ -1,4 +1,4 @@
--- Unions of sets, as members come to them one after another.
+-- Unions of sets to which members are added one after another.
 use Rattle.std.proofs.Common.{◌≡◌, Bool, true, false, ◌||◌, List, [], ◌∷◌, ◌++◌, refl, sym, ◌∙◌, ap, Ordering}
 use Rattle.std.proofs.Math.Bool.{or_assoc}
 use Rattle.std.proofs.lemmas.List.Folds.{list_any-append}
@@ -18,13 +18,15 @@ or_swapped true false c = refl
 or_swapped false b c = refl
 
 module _ {K : Type 0} {R : K → K → Ordering} (o : IsTotalOrder R) (alike : IsAntisymmetric R) where
+  -- the set of a list
   abbrev of : List K → FinSet R
   of ks = sets.from_list ks
 
+  -- sets with the same members are the same
   same : (s t : FinSet R) → ((q : K) → sets.contains s q ≡ sets.contains t q) → s ≡ t
   same s t h = sets.same_set o alike s t h
 
-  -- a member that comes to the set comes from what is left
+  -- a union stays the same as the next member of what is left is inserted
   pub insert_union : (s : FinSet R) (k : K) (left : List K) → sets.union (sets.insert s k) (of left) ≡ sets.union s (of (k ∷ left))
   insert_union s k left = same _ _ (λ q.
       sets.contains-union o (sets.insert s k) (of left) q
@@ -33,7 +35,7 @@ module _ {K : Type 0} {R : K → K → Ordering} (o : IsTotalOrder R) (alike : I
       ∙ ap (λ b. sets.contains s q || b) (sym (sets.contains-from_list o (k ∷ left) q))
       ∙ sym (sets.contains-union o s (of (k ∷ left)) q))
 
-  -- a list that comes to the set comes from what is left
+  -- a union stays the same as a list in front of what is left is added
   pub list_union : (s new : FinSet R) (ks left : List K) → new ≡ sets.union s (of ks) → sets.union new (of left) ≡ sets.union s (of (ks ++ left))
   list_union s new ks left e = same _ _ (λ q.
       sets.contains-union o new (of left) q
@@ -42,8 +44,10 @@ module _ {K : Type 0} {R : K → K → Ordering} (o : IsTotalOrder R) (alike : I
       ∙ ap (λ b. sets.contains s q || b) ((λ i. sets.contains-from_list o ks q i || list_any (eq_by_cmp R q) left) ∙ sym (list_any-append (eq_by_cmp R q) ks left) ∙ sym (sets.contains-from_list o (ks ++ left) q))
       ∙ sym (sets.contains-union o s (of (ks ++ left)) q))
 
+  -- nothing is added by the empty list
   pub union_none : (s : FinSet R) → sets.union s (of []) ≡ s
   union_none s = same _ _ (λ q. sets.contains-union o s (of []) q ∙ ap (λ b. sets.contains s q || b) (sets.contains-from_list o [] q) ∙ or_none (sets.contains s q))
 
+  -- the union of the empty set and the set of a list is the set of the list
   pub union_of_none : (ks : List K) → sets.union sets.empty (of ks) ≡ of ks
   union_of_none ks = same _ _ (λ q. sets.contains-union o sets.empty (of ks) q ∙ ap (λ b. b || sets.contains (of ks) q) (sets.contains-empty R q))

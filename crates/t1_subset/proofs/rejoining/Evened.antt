@@ -15,7 +15,7 @@ use Rattle.t1_subset.specs.States.{joined}
 use Rattle.t1_subset.proofs.CutFonts.{cond_some}
 use Rattle.t1_subset.proofs.Maps.{get-merged}
 
--- with the same glyphs and more Subrs each glyph stays drawn
+-- if a font has the same glyphs and more Subrs, each glyph stays drawn
 stays_drawn : (subrs : FontValue → Subrs) (f j : FontValue) → Extends (subrs f) (subrs j) → j.glyphs ≡ f.glyphs → (n : List ℕ) → StaysDrawn subrs f j n
 stays_drawn subrs f j more same n =
     let glyphs : Extends (maps.get f.glyphs) (maps.get j.glyphs) = λ k c is. ap (λ (m : _). maps.get m k) same ∙ is in
@@ -28,31 +28,36 @@ stays_drawn subrs f j more same n =
       draws3 = λ h. draws_with_more.draws3 (subrs f) (subrs j) (maps.get f.glyphs) (maps.get j.glyphs) n more glyphs h;
     }
 
--- stubs take no other's place
+-- stubs take the place of no entry
 stubs_added : (indices : List ℕ) (m : Numbered) (es : List (ℕ × List ℕ)) → Extends (maps.get m) (maps.get (with_stubs indices m es))
 stubs_added indices m [] i c is = is
 stubs_added indices m (e ∷ es) i c is = get-merged nat_cmp_total nat_cmp-IsAntisymmetric m (stubs_at indices) i ∙ ap (λ x. joined x (maps.get (stubs_at indices) i)) is
 
--- no fewer are declared
+-- a raised count declares no fewer Subrs
 no_fewer : (i count : ℕ) (s : Option SubrsShell) → i < declared_count s → i < declared_count (option_map (raised count) s)
 no_fewer i count None h = h
 no_fewer i count (Some t) h = omega (arith, h)
 
 module _ (indices : List ℕ) (count : ℕ) (f : FontValue) where
+  -- the font that is made even
   abbrev made : FontValue
   made = filled indices (even count f)
 
+  -- the font that is made even has all the Subrs that the font had
   subrs_added : Extends (maps.get f.subrs) (maps.get made.subrs)
   subrs_added = stubs_added _ f.subrs (maps.entries f.subrs)
 
+  -- the font that is made even shows all the Subrs that the font showed
   seen_added : Extends (subr_at f) (subr_at made)
   seen_added i c is =
       let both = cond_some (nat_lt i (declared_count f.shell.subrs)) (maps.get f.subrs i) c is in
       ap (λ b. cond b (maps.get made.subrs i) None) (lt-ltb i (declared_count made.shell.subrs) (no_fewer i count f.shell.subrs (ltb-true i (declared_count f.shell.subrs) both.0))) ∙ subrs_added i c both.1
 
+  -- each glyph stays drawn in the font that is made even
   pub all_stay_drawn : AllStayDrawn f made
   all_stay_drawn n = (stays_drawn subrs_of f made subrs_added refl n, stays_drawn subr_at f made seen_added refl n)
 
+-- each glyph of fonts stays drawn in the fonts that are made even
 beside : (indices : List ℕ) (count : ℕ) (fs : List FontValue) → EachBeside AllStayDrawn fs (map (filled indices) (map (even count) fs))
 beside indices count [] = tt
 beside indices count (f ∷ fs) = (all_stay_drawn indices count f, beside indices count fs)

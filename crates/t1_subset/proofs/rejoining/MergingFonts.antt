@@ -11,6 +11,7 @@ use Rattle.t1_subset.specs.Rejoins.{IsUntagged, MergingFontsAreEven}
 use Rattle.t1_subset.proofs.Orders.{Below, above}
 use Rattle.t1_subset.proofs.Shares.{shared_to}
 
+-- fonts without tags whose states are among those of one font are even with it
 each_even : (j : FontValue) (fs : List FontValue) → AllByRecursion (Below profile j) fs → AllByRecursion IsUntagged fs → AllByRecursion (IsEvenWith j) fs
 each_even j [] b u = tt
 each_even j (f ∷ fs) b u =

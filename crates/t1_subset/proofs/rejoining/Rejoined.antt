@@ -1,4 +1,4 @@
--- Truncated subsets that are made even merge to the subset of all their names, cut to the largest count and without its tag.
+-- Truncated subsets that are made even merge to the subset over all their names, cut to the largest count and without its tag.
 use Rattle.std.proofs.Common.{◌≡◌, ◌≤◌, ℕ, nat_lt, nat_cmp, Bool, true, false, cond, List, [], ◌∷◌, map, refl, sym, ◌∙◌, ap, subst, Option, Some, None, option_map, is_some, unwrap_or, inl, inr, arith, IsPermutation}
 use Rattle.std.proofs.lemmas.Bool.{ltb-true, lt-ltb}
 use Rattle.std.specs.List.{list_any, AllByRecursion}
@@ -35,6 +35,7 @@ use Rattle.t1_subset.proofs.rejoining.Truncated.{WordsOf, words_empty, get_nothi
 
 -- ---- tables without entries
 
+-- a map that has nothing at any key has no entries
 entries_none : (m : Numbered) → ((q : ℕ) → maps.get m q ≡ None) → maps.entries m ≡ []
 entries_none m h = by_entries (maps.entries m) refl
   where
@@ -42,7 +43,7 @@ entries_none m h = by_entries (maps.entries m) refl
     by_entries [] e = refl
     by_entries (x ∷ es) e = Some_None (sym (maps.get-entries m x.0 ∙ (ap (maps.find nat_cmp x.0) e ∙ find_first nat_cmp_total nat_cmp-IsAntisymmetric x es)) ∙ h x.0)
 
--- entries have words
+-- a table with entries has words to write them
 some_words : (k : ℕ) (v : List ℕ) (es : List (ℕ × List ℕ)) (s : SubrsShell) → maps.find nat_cmp k es ≡ Some v → SubrWords es s → IsWord 32 s.rd × IsPhrase true s.put
 some_words k v [] s e h = Some_None (sym e)
 some_words k v (x ∷ es) s e h = h
@@ -50,16 +51,18 @@ some_words k v (x ∷ es) s e h = h
 -- ---- the shared font is a font
 
 module _ (f : FontValue) (h : IsFont f) (most : ℕ) (fits : most ≤ declared_count f.shell.subrs) (t : Truncated) (w : IsTruncated f t) (le : t.count ≤ most) where
+  -- the font without its tag, cut to the largest count
   abbrev first : FontValue
   first = cut_to most (without_tag f)
 
   get_first : (q : ℕ) → maps.get first.subrs q ≡ cond (nat_lt q most) (maps.get f.subrs q) None
   get_first q = get-retain nat_cmp_total nat_cmp-IsAntisymmetric f.subrs (λ i. nat_lt i most) q
 
+  -- an entry of the cut font is one of the font, below the count
   had : (q : ℕ) (c : List ℕ) → maps.get first.subrs q ≡ Some c → (nat_lt q most ≡ true) × (maps.get f.subrs q ≡ Some c)
   had q c e = cond_some (nat_lt q most) (maps.get f.subrs q) c (sym (get_first q) ∙ e)
 
-  -- where the shared font has no entries, the subset has none
+  -- an entry is lacking in the subset if it is lacking in the shared font
   none_there : (k : List ℕ → List ℕ) (b d : Bool) (x : Option (List ℕ)) → (b ≡ true → d ≡ true) → cond d x None ≡ None → cond b (option_map k x) None ≡ None
   none_there k b d None low e = elim b as (λ b. ◌≡◌ {A = Option (List ℕ)} (cond b None None) None) [ true ↦ refl | false ↦ refl ]
   none_there k false d (Some c) low e = refl
@@ -68,16 +71,19 @@ module _ (f : FontValue) (h : IsFont f) (most : ℕ) (fits : most ≤ declared_c
   below_most : (q : ℕ) → nat_lt q t.count ≡ true → nat_lt q most ≡ true
   below_most q b = lt-ltb q most (omega (arith, ltb-true q t.count b, le))
 
+  -- if the shared font has no entries, the subset has none
   no_entries_there : maps.entries first.subrs ≡ [] → maps.entries t.font.subrs ≡ []
   no_entries_there e = entries_none t.font.subrs (λ q.
       get_font f t w q ∙ none_there (keeps f t.names q) (nat_lt q t.count) (nat_lt q most) (maps.get f.subrs q) (below_most q) (sym (get_first q) ∙ get_nothing first.subrs e q))
 
+  -- the words of a table fit the entries of the cut font
   words_first : (s : SubrsShell) → (maps.entries first.subrs ≡ [] → WordsOf [] (Some s)) → SubrsFit f.shell (Some s) f.subrs → (es : List (ℕ × List ℕ)) → maps.entries first.subrs ≡ es → SubrWords es (declares most s)
   words_first s empty fit [] is = empty is
   words_first s empty fit (x ∷ es) is =
       let there : maps.get first.subrs x.0 ≡ Some x.1 = maps.get-entries first.subrs x.0 ∙ (ap (maps.find nat_cmp x.0) is ∙ find_first nat_cmp_total nat_cmp-IsAntisymmetric x es) in
       some_words x.0 x.1 (maps.entries f.subrs) s (sym (maps.get-entries f.subrs x.0) ∙ (had x.0 x.1 there).1) fit.words
 
+  -- the table of Subrs fits in the cut font
   subrs_fit : (o : Option SubrsShell) → SubrsFit f.shell o f.subrs → most ≤ declared_count o → (maps.entries first.subrs ≡ [] → WordsOf [] o) → SubrsFit first.shell (option_map (declares most) o) first.subrs
   subrs_fit None fit few empty =
       (entries_none first.subrs (λ q. get_first q ∙ (ap (λ x. cond (nat_lt q most) x None) (get_nothing f.subrs fit.0 q) ∙ none_either_way (nat_lt q most))), fit.1)
@@ -89,9 +95,11 @@ module _ (f : FontValue) (h : IsFont f) (most : ℕ) (fits : most ≤ declared_c
     closing = fit.closing;
   }
 
+  -- the Subrs of the cut font weigh no more
   fewer : total (subr_weight f.shell.len_iv) (maps.entries first.subrs) ≤ total (subr_weight f.shell.len_iv) (maps.entries f.subrs)
   fewer = total-le nat_cmp_total nat_cmp-IsAntisymmetric (subr_weight f.shell.len_iv) (subr_weight f.shell.len_iv) first.subrs f.subrs (λ q c e. (c, (had q c e).1, omega arith))
 
+  -- the cut font is a font
   pub first_is_font : IsFont first
   first_is_font =
       let k = even_is_font 0 f (omega arith) h in
@@ -113,10 +121,11 @@ no_name : {P : Type 0} (n : List ℕ) → sets.contains {R = name_cmp} sets.empt
 no_name n e = clash (sets.contains {R = name_cmp} sets.empty n) e (sets.contains-empty name_cmp n)
 
 module _ (f : FontValue) (h : IsFont f) (most : ℕ) where
+  -- a set of no names keeps no Subr at the count or above it
   empty_low : (a : Names) → KeepsBelow profile f most a → KeepsBelow profile f most sets.empty
   empty_low a low i k p = low i (kept_more profile f sets.empty a (keep_more profile f sets.empty a (λ n e. no_name n e)) i k) p
 
-  -- all the names are the font's, and keep no Subr at the count or above
+  -- all the names are the font's, and they keep no Subr at the count or above it
   all_low : (ts : List Truncated) → KeepsBelow profile f most sets.empty → AllByRecursion (Fits f most) ts → KeepsBelow profile f most (names_of_all ts) × IsOf f (names_of_all ts)
   all_low [] e w = (e, λ n k. no_name n k)
   all_low (t ∷ ts) e w =
@@ -129,8 +138,9 @@ module _ (f : FontValue) (h : IsFont f) (most : ℕ) where
         λ n k. elim (in_union nat_list_cmp_total name_same t.names (names_of_all ts) n k) [ inl x ↦ w.0.0.names n x | inr y ↦ rest.1 n y ],
       )
 
-  -- a kept glyph draws in the cut font as in the font
+  -- a kept glyph draws in the cut font as it does in the font
   module _ (a : Names) (inside : IsOf f a) (low : KeepsBelow profile f most a) where
+    -- the font without its tag, cut to its first Subrs
     abbrev start : FontValue
     start = cut_to most (without_tag f)
 
@@ -140,6 +150,7 @@ module _ (f : FontValue) (h : IsFont f) (most : ℕ) where
     direct_there : (n c : List ℕ) → sets.contains (keep profile f a) n ≡ true → maps.get f.glyphs n ≡ Some c → profile.direct start.subrs c ≡ profile.direct f.subrs c
     direct_there n c k is = (profile.local f.subrs start.subrs c (same_there n c k is)).0
 
+    -- a component of a kept glyph comes to the same in the cut font
     component_there : (n c p : List ℕ) → sets.contains (keep profile f a) n ≡ true → maps.get f.glyphs n ≡ Some c → list_any (same_bytes p) (components profile f.subrs c) ≡ true
         → (x : Option (List ℕ)) → maps.get f.glyphs p ≡ x → option_map (profile.direct start.subrs) x ≡ option_map (profile.direct f.subrs) x
     component_there n c p k is e None hx = refl
@@ -151,6 +162,7 @@ module _ (f : FontValue) (h : IsFont f) (most : ℕ) where
     drawn_there n k None is = refl
     drawn_there n k (Some c) is = ap Some (seen_alike profile f start c (direct_there n c k is) (λ p e. component_there n c p k is e (maps.get f.glyphs p) refl))
 
+    -- a kept glyph draws alike in the cut font
     pub start_alike : (n : List ℕ) → sets.contains (keep profile f a) n ≡ true → DrawsAlike f start n
     start_alike n k = record {
       charstring = refl;
@@ -163,10 +175,12 @@ module _ (f : FontValue) (h : IsFont f) (most : ℕ) where
 
 -- ---- merges
 
+-- the names of truncated subsets are names of the font
 names_are : (f : FontValue) (ts : List Truncated) → AllByRecursion (IsTruncated f) ts → AllByRecursion (IsOf f) (sets_of ts)
 names_are f [] w = tt
 names_are f (t ∷ ts) w = (w.0.names, names_are f ts w.1)
 
+-- the subsets over these sets are fonts
 subsets_are : (f : FontValue) → IsFont f → (sets : List Names) → AllByRecursion (IsOf f) sets → AllByRecursion IsFont (map (subset profile f) sets)
 subsets_are f h [] w = tt
 subsets_are f h (a ∷ more) w = (subset_is_font profile f h a w.0, subsets_are f h more w.1)
@@ -181,18 +195,22 @@ module _ (f : FontValue) (h : IsFont f) (t : Truncated) (ts : List Truncated) (w
   abbrev names : Names
   names = names_of_all (t ∷ ts)
 
+  -- the shared font is a font
   shared_is : IsFont shared
   shared_is = first_is_font f h most (largest_fits f (t ∷ ts) w) t w.0 (omega arith)
 
   low : KeepsBelow profile f most names × IsOf f names
   low = all_low f h most (t ∷ ts) (empty_low f h most t.names (λ i k p. omega (arith, w.0.kept i k p))) (all_fit f most (t ∷ ts) (omega arith) w)
 
+  -- the subset of the shared font over all the names is the rejoined font
   whole : subset profile shared names ≡ rejoined f (t ∷ ts)
   whole = cut_subset f h most names low.1 low.0
 
+  -- all the sets are sets of names of the shared font
   parts : AllByRecursion (IsOf shared) (sets_of (t ∷ ts))
   parts = names_are f (t ∷ ts) w
 
+  -- truncated subsets that are made even merge in every order and grouping to the rejoined font
   all_merged : (s : Grouping FontValue) → IsPermutation (evened (fonts_of (t ∷ ts))) (leaves s) → MergesTo s (rejoined f (t ∷ ts))
   all_merged s p =
       let g = subset profile shared t.names in
@@ -201,6 +219,7 @@ module _ (f : FontValue) (h : IsFont f) (t : Truncated) (ts : List Truncated) (w
       let all = any_order_of_fonts profile (from_left (one g) gs) s order (each_font g gs (subsets_are shared shared_is (sets_of (t ∷ ts)) parts)) (subset profile shared names) (all_merge shared shared_is t.names (sets_of ts) parts) in
       subst (λ (j : FontValue). MergesTo s j) whole (all.1, all.2)
 
+  -- each kept glyph draws in the rejoined font as in the font
   all_drawn : (n : List ℕ) → sets.contains (keep profile f names) n ≡ true → DrawsAlike f (rejoined f (t ∷ ts)) n
   all_drawn n k = alike_trans f shared (rejoined f (t ∷ ts)) n (start_alike f h most names low.1 low.0 n k)
       (subst (λ (j : FontValue). DrawsAlike shared j n) whole (subset_alike shared shared_is names low.1 n (ap (λ (s : Names). sets.contains s n) (keep_same profile f h.glyphs.notdef most names low.1 low.0) ∙ k)))

@@ -18,14 +18,15 @@ use Rattle.t1_subset.proofs.Sets.{name_same, all_append, all_map, all_at, all_fr
 -- ---- sets of lists
 
 module _ {K : Type 0} {R : K → K → Ordering} (o : IsTotalOrder R) (same : IsAntisymmetric R) where
-  -- a key of the list
+  -- the key is in the list
   abbrev pub among : List K → K → Bool
   among l q = list_any (eq_by_cmp R q) l
 
-  -- a key of the set of a list is an item, and the other way round
+  -- a key of a list is an item of the set of the list
   as_item : (l : List K) (q : K) → among l q ≡ true → among (sets.items (sets.from_list {R = R} l)) q ≡ true
   as_item l q k = in_items o same (sets.from_list l) q (from_in_list o same l q k)
 
+  -- an item of the set of a list is a key of the list
   of_item : (l : List K) (q : K) → among (sets.items (sets.from_list {R = R} l)) q ≡ true → among l q ≡ true
   of_item l q k = in_list o same l q (from_in_items o same (sets.from_list l) q k)
 
@@ -45,10 +46,11 @@ module _ {K : Type 0} {R : K → K → Ordering} (o : IsTotalOrder R) (same : Is
       (λ w. all_from o same (sets.contains t) l (λ q k. sets.is_subset-contains o (sets.from_list l) t w q (from_in_list o same l q k)))
       (λ w. sets.contains-is_subset o (sets.from_list l) t (λ q k. all_at o same (sets.contains t) q l w (in_list o same l q k)))
 
+  -- the set of one list is within that of another if each of its keys is in the other
   subset_of_lists : (l k : List K) → sets.is_subset (sets.from_list {R = R} l) (sets.from_list k) ≡ list_all (among k) l
   subset_of_lists l k = subset_listed l (sets.from_list k) ∙ (λ i. list_all (λ q. sets.contains-from_list o k q i) l)
 
--- the name is one of the list
+-- the name is in the list
 abbrev named : List (List ℕ) → List ℕ → Bool
 named l n = list_any (eq_by_cmp name_cmp n) l
 
@@ -66,17 +68,21 @@ all_sets p (n ∷ ns) =
     ∙ ap (λ b. list_all (λ l. p (sets.from_list l)) (lists_of ns) && b) (sym (all_map (λ l. p (sets.from_list l)) (λ l. n ∷ l) (lists_of ns)))
     ∙ sym (all_append (λ l. p (sets.from_list l)) (lists_of ns) (map (λ l. n ∷ l) (lists_of ns)))
 
--- ---- small fonts, and an interpreter to whom each byte of a charstring is an index that is executed, and a component of this one letter
+-- ---- small fonts, and an interpreter of charstrings whose bytes are indices and components
 
+-- the bytes of a charstring, each as a name of one letter
 abbrev pub letters : List ℕ → List (List ℕ)
 letters c = map (λ b. b ∷ []) c
 
+-- each byte of a charstring is an index that it executes and a component with this one letter for its name
 abbrev pub spelled : Interpreter (List ℕ)
 spelled = record { direct = λ s c. c; exec = λ s c. sets.from_list c; names = letters; local = λ s t c h. (refl, refl) }
 
+-- a shell with this head and lenIV and nothing else
 abbrev pub shell_of : List ℕ → ℕ → Shell
 shell_of head len_iv = record { head = head; clear_tail = []; private = []; middle = []; tail = []; len_iv = len_iv; subrs = None; glyphs_rd = []; glyphs_def = [] }
 
+-- the font of this Encoding, these Subrs and these glyphs
 abbrev pub font_of : Encoding → List (ℕ × List ℕ) → List (List ℕ × List ℕ) → FontValue
 font_of e ss es = record { shell = shell_of [] 4; encoding = e; subrs = maps.from_sorted ss; glyphs = maps.from_sorted es }
 
@@ -85,9 +91,11 @@ abbrev pub at_name : List (List ℕ × List ℕ) → List ℕ → Option (List �
 at_name es n = find name_cmp n es
 
 module _ (e : Encoding) (ss : List (ℕ × List ℕ)) (es : List (List ℕ × List ℕ)) (h : T (is_sorted name_cmp es)) where
+  -- a font of a list has the charstrings of the list
   pub glyph_listed : (n : List ℕ) → maps.get (font_of e ss es).glyphs n ≡ at_name es n
   glyph_listed n = maps.get-from_sorted name_cmp es n h
 
+  -- a font of a list has the names of the list
   pub has_listed : (n : List ℕ) → has (font_of e ss es) n ≡ is_some (at_name es n)
   has_listed n = ap is_some (glyph_listed n)
 
@@ -97,7 +105,7 @@ module _ (e : Encoding) (ss : List (ℕ × List ℕ)) (es : List (List ℕ × Li
   names_listed : maps.keys (font_of e ss es).glyphs ≡ map (λ e. e.0) es
   names_listed = ap (map (λ e. e.0)) (maps.entries-from_sorted name_cmp es h)
 
-  -- the components of a glyph that the list has
+  -- those components of a glyph that are names of the list
   abbrev components_listed : List ℕ → List (List ℕ)
   components_listed n = filter (λ p. is_some (at_name es p)) (letters (unwrap_or (at_name es n) []))
 
@@ -158,19 +166,19 @@ keeps a = keep_listed (Word (codes "StandardEncoding")) subrs glyphs tt a
 calls : (l : List (List ℕ)) → called_by spelled small (sets.from_list l) ≡ sets.from_list (calls_listed (Word (codes "StandardEncoding")) subrs glyphs tt l)
 calls l = called_listed (Word (codes "StandardEncoding")) subrs glyphs tt l
 
--- no name asked for
+-- no name is asked for
 keep_none : keep spelled small (sets.from_list []) ≡ sets.from_list (notdef ∷ [])
 keep_none = keeps [] ∙ refl
 
--- a component of a glyph that is asked for
+-- a component of a glyph that is asked for is kept
 keep_V : keep spelled small (sets.from_list (codes "V" ∷ [])) ≡ sets.from_list (notdef ∷ codes "A" ∷ codes "V" ∷ [])
 keep_V = keeps (codes "V" ∷ []) ∙ refl
 
--- a component, but not what it is a component of
+-- a component is kept without the glyph that it is a component of
 keep_A_and_B : keep spelled small (sets.from_list (codes "B" ∷ codes "A" ∷ [])) ≡ sets.from_list (notdef ∷ codes "A" ∷ codes "B" ∷ [])
 keep_A_and_B = keeps (codes "B" ∷ codes "A" ∷ []) ∙ refl
 
--- a name that the font lacks is not kept
+-- a name that the font lacks is not kept, and all others are, since no closed set has that name
 keep_Q : keep spelled small (sets.from_list (codes "Q" ∷ [])) ≡ sets.from_list (notdef ∷ codes "A" ∷ codes "B" ∷ codes "V" ∷ [])
 keep_Q = keeps (codes "Q" ∷ []) ∙ refl
 

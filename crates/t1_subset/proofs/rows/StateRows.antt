@@ -82,14 +82,14 @@ module _ (e : Encoding) (ss : List (ℕ × List ℕ)) (es : List (List ℕ × Li
 abbrev standard : Encoding
 standard = Word (codes "StandardEncoding")
 
--- `return` that no glyph executes
+-- a `return` that no glyph executes is the bottom
 state_0 : maps.get (subr_part (states_of spelled small)) (of_number 0) ≡ None
 state_0 = subr_listed standard subrs glyphs tt tt 0 ∙ refl
 
 state_5 : maps.get (subr_part (states_of spelled small)) (of_number 5) ≡ Some (12 ∷ [])
 state_5 = subr_listed standard subrs glyphs tt tt 5 ∙ refl
 
--- `return` that B executes
+-- a `return` that B executes is a state
 state_7 : maps.get (subr_part (states_of spelled small)) (of_number 7) ≡ Some stub
 state_7 = subr_listed standard subrs glyphs tt tt 7 ∙ refl
 
@@ -99,7 +99,7 @@ state_6 = subr_listed standard subrs glyphs tt tt 6 ∙ refl
 state_A : maps.get (name_part (states_of spelled small)) (codes "A") ≡ Some (name_meaning (Some (5 ∷ [])))
 state_A = name_listed standard subrs glyphs tt tt (codes "A") ∙ refl
 
--- sought by V
+-- Z is sought by V
 state_Z : maps.get (name_part (states_of spelled small)) (codes "Z") ≡ Some (name_meaning None)
 state_Z = name_listed standard subrs glyphs tt tt (codes "Z") ∙ refl
 
@@ -108,7 +108,7 @@ state_Q = name_listed standard subrs glyphs tt tt (codes "Q") ∙ refl
 
 -- ---- conflicts of two fonts of one shell
 
--- the keys of both maps, over lists
+-- the keys of either map, over lists
 abbrev keys_listed : {K : Type 0} → (K → K → Ordering) → List (K × List ℕ) → List (K × List ℕ) → List K
 keys_listed {K = K} R es fs = map (λ (e : K × ℕ). e.0) (map (λ (e : K × List ℕ). (e.0, 0)) (last_entries R (fs ++ es)))
 
@@ -157,7 +157,7 @@ module _ (e k : Encoding) (ss ts : List (ℕ × List ℕ)) (es fs : List (List �
   lacking_are : component_conflict spelled f g ≡ first_where lacking_listed names
   lacking_are = λ d. first_where (λ p. (has_listed e ss es he p d || has_listed k ts fs hf p d) && list_any (λ n. wanted_are p n d) (names_are d)) (names_are d)
 
-  -- an entry, or the bottom where it is a stub that is not called
+  -- an entry, or the bottom if it is a stub that is not called
   abbrev state_by : Bool → Option (List ℕ) → Option (List ℕ)
   state_by called None = None
   state_by called (Some c) = cond (is_stub c && not called) None (Some c)
@@ -201,11 +201,11 @@ module _ (e k : Encoding) (ss ts : List (ℕ × List ℕ)) (es fs : List (List �
       (found (λ p. LacksComponent (unwrap_or (first_where (λ n. wanted_are p n d) (names_are d)) []) p) (lacking_are d)
       (found (λ i. SubrDiffers i (first_where (λ n. used_are i n d) (names_are d))) (subrs_differ d) None))))
 
-  -- of one kind of Encoding, and with the same indices, the shells are the same
+  -- fonts with Encodings of one kind and with the same indices have no conflict of shells
   shells_same : same_word (word_of e) (word_of k) ≡ true → same_listed ≡ true → shell_conflict f g ≡ None
   shells_same kinds present = λ d. cond (not (kinds d)) (Some EncodingPart) (cond (not ((present_are ∙ present) d)) (Some SubrsTable) None)
 
--- fonts of one word as Encoding, with the Subrs and glyphs of two lists each
+-- two fonts with the same word as Encoding, each with its lists of Subrs and glyphs
 module _ (ss ts : List (ℕ × List ℕ)) (es fs : List (List ℕ × List ℕ)) (hs : T (is_sorted nat_cmp ss)) (ht : T (is_sorted nat_cmp ts)) (he : T (is_sorted name_cmp es)) (hf : T (is_sorted name_cmp fs)) where
   in_both : same_bytes (map (λ e. e.0) ss) (map (λ e. e.0) ts) ≡ true → states_conflict spelled (font_of standard ss es) (font_of standard ts fs) ≡ listed standard standard ss ts es fs hs ht he hf None None
   in_both present = conflicts_are standard standard ss ts es fs hs ht he hf None None (shells_same standard standard ss ts es fs hs ht he hf refl present)
@@ -213,7 +213,7 @@ module _ (ss ts : List (ℕ × List ℕ)) (es fs : List (List ℕ × List ℕ)) 
 
 -- ---- rows of conflicts
 
--- what a shell tells before any table is looked at
+-- a font with another shell, whose conflict is told before any table is looked at
 abbrev with_shell : Shell → FontValue
 with_shell s = record { shell = s; encoding = small.encoding; subrs = small.subrs; glyphs = small.glyphs }
 
@@ -226,7 +226,7 @@ kind_differs = refl
 lead_bytes_differ : conflict spelled small (with_shell (shell_of [] 0)) ≡ Some (ShellDiffers Private)
 lead_bytes_differ = refl
 
--- a lowest conflict of states is the lowest of the fonts
+-- the lowest conflict of states, if there is one, is the lowest of the fonts
 lowest : (f g : FontValue) (c : Conflict) → states_conflict spelled f g ≡ Some c → conflict spelled f g ≡ Some c
 lowest f g c s = ap (λ x. found (λ c. c) x (cond (is_within spelled f g) None (Some OverLimit))) s
 
@@ -236,7 +236,7 @@ index_lacks = conflicts_are standard standard ((0, stub) ∷ []) [] ((notdef, []
     (passes_none (code_clashes (font_of standard ((0, stub) ∷ []) ((notdef, []) ∷ [])) (font_of standard [] ((notdef, []) ∷ []))) (members (codes_of_both standard standard)) (λ c. refl))
     ∙ refl
 
--- V without its component A, as a cut of another font might have it
+-- V without its component A, as a cut of another font may have it
 abbrev V_alone : List (List ℕ × List ℕ)
 V_alone = (notdef, []) ∷ (codes "V", codes "AZ") ∷ []
 
@@ -252,7 +252,7 @@ B_differs = lowest (font_of standard subrs A_and_B) (font_of standard subrs othe
 V_lacks_A : conflict spelled (font_of standard subrs V_alone) (font_of standard subrs A_and_B) ≡ Some (LacksComponent (codes "V") (codes "A"))
 V_lacks_A = lowest (font_of standard subrs V_alone) (font_of standard subrs A_and_B) (LacksComponent (codes "V") (codes "A")) (in_both subrs subrs V_alone A_and_B tt tt tt tt refl ∙ refl)
 
--- 5 is another charstring, that A executes; 0 is told by no glyph
+-- another charstring at index 5, which A executes
 abbrev other_5 : List (ℕ × List ℕ)
 other_5 = (0, stub) ∷ (5, 13 ∷ []) ∷ (7, stub) ∷ (8, stub) ∷ []
 
@@ -268,7 +268,7 @@ other_at_0 = (0, 13 ∷ []) ∷ (5, 12 ∷ []) ∷ (7, stub) ∷ (8, stub) ∷ [
 no_user_of_0 : conflict spelled (font_of standard two_at_0 glyphs) (font_of standard other_at_0 A_and_B) ≡ Some (SubrDiffers 0 None)
 no_user_of_0 = lowest (font_of standard two_at_0 glyphs) (font_of standard other_at_0 A_and_B) (SubrDiffers 0 None) (in_both two_at_0 other_at_0 glyphs A_and_B tt tt tt tt refl ∙ refl)
 
--- a stub that no glyph of its font executes gives way, 7 here and 5 there
+-- a stub that no glyph of its font executes gives way: 7 in one font and 5 in the other
 abbrev cut_to_A : List (ℕ × List ℕ)
 cut_to_A = (0, stub) ∷ (5, 12 ∷ []) ∷ (7, stub) ∷ []
 
@@ -284,7 +284,7 @@ B_alone = (notdef, []) ∷ (codes "B", 7 ∷ []) ∷ []
 cuts_agree : states_conflict spelled (font_of standard cut_to_A A_alone) (font_of standard cut_to_B B_alone) ≡ None
 cuts_agree = in_both cut_to_A cut_to_B A_alone B_alone tt tt tt tt refl ∙ refl
 
--- but not one that is executed
+-- a stub that is executed doesn't give way
 stub_is_used : conflict spelled (font_of standard cut_to_A A_and_B) (font_of standard cut_to_B B_alone) ≡ Some (SubrDiffers 7 (Some (codes "B")))
 stub_is_used = lowest (font_of standard cut_to_A A_and_B) (font_of standard cut_to_B B_alone) (SubrDiffers 7 (Some (codes "B"))) (in_both cut_to_A cut_to_B A_and_B B_alone tt tt tt tt refl ∙ refl)
 

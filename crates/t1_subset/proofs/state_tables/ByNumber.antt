@@ -16,7 +16,7 @@ use Rattle.t1_subset.proofs.Maps.{maps_same}
 use Rattle.t1_subset.proofs.state_tables.Numbered.{numbered-empty, numbered-insert}
 use Rattle.t1_subset.proofs.Sets.{is_or_not, not_so, tied, itself}
 
--- the table has what x gives of the numbers below n, and no more
+-- the table has what x gives for the numbers below n, and nothing else
 pub record HasBelow (t : TableMeaning) (x : ℕ → Option (List ℕ)) (n : ℕ) : Type 0 where
   pub map : Numbered
   pub table : t ≡ numbered map
@@ -46,9 +46,11 @@ past_next i n d = both_ways (nat_lt i n) (nat_lt i (n + 1))
     ])
 
 module _ (t : TableMeaning) (x : ℕ → Option (List ℕ)) where
+  -- an empty table has what x gives below 0
   pub has_none : t ≡ maps.empty → HasBelow t x 0
   has_none e = record { map = maps.empty; table = e ∙ numbered-empty; shown = λ i. maps.get-empty nat_cmp i ∙ sym (ap (λ b. cond b (x i) None) (none_is_below i)) }
 
+  -- if x gives nothing from n on, the table has all of it
   pub has_all : (n : ℕ) → HasBelow t x n → ((i : ℕ) → n ≤ i → x i ≡ None) → (m : Numbered) → ((i : ℕ) → maps.get m i ≡ x i) → t ≡ numbered m
   has_all n h far m is = h.table ∙ ap numbered (maps_same nat_cmp_total nat_cmp-IsAntisymmetric h.map m (λ i. h.shown i ∙ (elim (is_or_not (nat_lt i n)) [
     | inl a ↦ ap (λ b. cond b (x i) None) a
@@ -56,6 +58,7 @@ module _ (t : TableMeaning) (x : ℕ → Option (List ℕ)) where
   ]) ∙ sym (is i)))
 
 module _ (t : TableMeaning) (x : ℕ → Option (List ℕ)) (n : ℕ) (h : HasBelow t x n) where
+  -- a table with the value of n has what x gives below n + 1
   with_one : (v : List ℕ) → x n ≡ Some v → (i : ℕ) → maps.get (maps.insert h.map n v) i ≡ cond (nat_lt i (n + 1)) (x i) None
   with_one v e i = maps.get-insert nat_cmp_total h.map n v i ∙ (elim (is_or_not (eq_by_cmp nat_cmp i n)) [
     | inl a ↦
@@ -68,6 +71,7 @@ module _ (t : TableMeaning) (x : ℕ → Option (List ℕ)) (n : ℕ) (h : HasBe
   none_either true y e = refl
   none_either false y e = e
 
+  -- if x gives nothing at n, the table has what x gives below n + 1
   with_nothing : x n ≡ None → (i : ℕ) → maps.get h.map i ≡ cond (nat_lt i (n + 1)) (x i) None
   with_nothing e i = h.shown i ∙ (elim (is_or_not (eq_by_cmp nat_cmp i n)) [
     | inl a ↦
@@ -76,16 +80,19 @@ module _ (t : TableMeaning) (x : ℕ → Option (List ℕ)) (n : ℕ) (h : HasBe
     | inr a ↦ ap (λ b. cond b (x i) None) (past_next i n a)
   ])
 
+  -- a table that is filled below n is filled below n + 1 once the value of n is put
   pub has_next : (u : TableMeaning) (s : Option (List ℕ)) → u ≡ with_state t (of_number n) s → s ≡ x n → HasBelow u x (n + 1)
   has_next u None is e = record { map = h.map; table = is ∙ h.table; shown = with_nothing (sym e) }
   has_next u (Some v) is e = record { map = maps.insert h.map n v; table = is ∙ ap (λ (t : TableMeaning). maps.insert t (of_number n) v) h.table ∙ numbered-insert h.map n v; shown = with_one v (sym e) }
 
 -- ---- codes and Subrs
 
+-- a table that is filled with all names of codes has the states of the codes
 pub codes_filled : (e : Encoding) (t : TableMeaning) (n : ℕ) → HasBelow t (code_state e) n → ((i : ℕ) → n ≤ i → code_state e i ≡ None) → t ≡ code_states e
 codes_filled (Word w) t n h far = has_all t (code_state (Word w)) n h far maps.empty (maps.get-empty nat_cmp) ∙ sym numbered-empty
 codes_filled (Codes s) t n h far = has_all t (code_state (Codes s)) n h far s (λ i. refl)
 
+-- an entry, with whether it is called, gives its state
 pub entry_is : (f : FontValue) (i : ℕ) (x y : Option (List ℕ)) (b : Bool) → x ≡ y → (is_some y ≡ true → b ≡ is_called profile f i) → entry_state x b ≡ state_of_entry profile f i y
 entry_is f i x y b e h = ap (λ x. entry_state x b) e ∙ at y h
   where

@@ -1,4 +1,4 @@
--- The first of the keys of a map that passes, and the smallest of two maps' keys.
+-- The first key of a map that passes a test, and the smallest key of two maps.
 use Rattle.std.proofs.Common.{◌≡◌, Bool, true, false, cond, ◌||◌, List, [], ◌∷◌, map, refl, sym, ◌∙◌, ap, subst, true≢false, inl, inr, Option, Some, None, Ordering, Less, Equal, Greater, is_lt}
 use Rattle.std.specs.List.{list_any}
 use Rattle.std.specs.Ordering.{eq_by_cmp, ordering_reverse}
@@ -18,15 +18,16 @@ no_less : (o : Ordering) → ordering_reverse Less ≡ o → o ≡ Less → ⊥
 no_less o h e = cc
 
 module _ {K : Type 0} {R : K → K → Ordering} (o : IsTotalOrder R) (same : IsAntisymmetric R) where
-  -- not both below and above
+  -- no key is both below and above another
   pub one_way : (x y : K) → R x y ≡ Less → R y x ≡ Less → ⊥
   one_way x y h k = no_less (R y x) (ap ordering_reverse (sym h) ∙ sym (o.antisymm y x)) k
 
+  -- no key is below itself
   pub not_itself : (x : K) → R x x ≡ Less → ⊥
   not_itself x h = one_way x x h h
 
   module _ (p : K → Bool) where
-    -- what the first of the keys that passes is
+    -- k is the first key that passes: it is there and passes, and no lower key does
     pub record IsFirst {X : Type 0} (es : List (K × X)) (k : K) : Type 0 where
       pub there : list_any (eq_by_cmp R k) (map (λ e. e.0) es) ≡ true
       pub passes : p k ≡ true
@@ -35,6 +36,7 @@ module _ {K : Type 0} {R : K → K → Ordering} (o : IsTotalOrder R) (same : Is
     same_Some : (x y : K) → ◌≡◌ {A = Option K} (Some x) (Some y) → x ≡ y
     same_Some x y e = cc
 
+    -- the key that a search finds among sorted entries is the first that passes
     pub first_so_far : {X : Type 0} (es : List (K × X)) (k : K) → is_sorted R es ≡ true → first_where p (map (λ e. e.0) es) ≡ Some k → IsFirst es k
     first_so_far [] k s h = cc
     first_so_far (e ∷ es) k s h =
@@ -61,9 +63,11 @@ module _ {K : Type 0} {R : K → K → Ordering} (o : IsTotalOrder R) (same : Is
               }
         ] refl h
 
+    -- the entries of a map are sorted
     pub sorted_map : {X : Type 0} (m : maps.FinMap R X) → is_sorted R (maps.entries m) ≡ true
     sorted_map m = T_true (is_sorted R (maps.entries m)) (maps.entries_sorted m)
 
+    -- if a search finds nothing, no key passes
     pub none_first : {X : Type 0} (es : List (K × X)) → first_where p (map (λ e. e.0) es) ≡ None → (q : K) → list_any (eq_by_cmp R q) (map (λ e. e.0) es) ≡ true → p q ≡ false
     none_first [] h q w = absurd (true≢false (sym w))
     none_first (e ∷ es) h q w =
@@ -76,14 +80,15 @@ module _ {K : Type 0} {R : K → K → Ordering} (o : IsTotalOrder R) (same : Is
       key_in : (q : K) → p q ≡ true → list_any (eq_by_cmp R q) (maps.keys m) ≡ true
       key_in q h = sym (maps.contains_key-keys m q) ∙ only q h
 
-      -- where none of the keys passes, nothing does
+      -- if a search of the keys finds nothing, nothing passes
       pub nothing : first_where p (maps.keys m) ≡ None → (q : K) → p q ≡ false
       nothing h q = not_so (p q) (λ is. true≢false (sym is ∙ none_first (maps.entries m) h q (key_in q is)))
 
-      -- the first of the keys that passes is the least that does
+      -- nothing below the key that a search finds passes
       pub no_lower : (k : K) → first_where p (maps.keys m) ≡ Some k → (q : K) → R q k ≡ Less → p q ≡ false
       no_lower k h q l = not_so (p q) (λ is. true≢false (sym is ∙ (first_so_far (maps.entries m) k (sorted_map m) h).least q (key_in q is) l))
 
+      -- the key that a search finds passes
       pub passing : (k : K) → first_where p (maps.keys m) ≡ Some k → p k ≡ true
       passing k h = (first_so_far (maps.entries m) k (sorted_map m) h).passes
 
@@ -97,7 +102,7 @@ or_neither true b h k = h
 or_neither false b h k = k
 
 module _ {K : Type 0} {R : K → K → Ordering} (o : IsTotalOrder R) (same : IsAntisymmetric R) where
-  -- what is below m is below n, where n is not below m
+  -- what is below m is below n, if n is not below m
   below_both : (r m n : K) (x : Ordering) → R n m ≡ x → is_lt x ≡ false → R r m ≡ Less → R r n ≡ Less
   below_both r m n Less e h l = absurd (true≢false h)
   below_both r m n Equal e h l = ap (R r) (same n m e) ∙ l
@@ -110,10 +115,11 @@ module _ {K : Type 0} {R : K → K → Ordering} (o : IsTotalOrder R) (same : Is
     there : (k : K) → either k ≡ true → maps.contains_key (keys_of_both a b) k ≡ true
     there k h = in_both o same a b k ∙ (elim (or_cases (p k) (q k) h) [ inl x ↦ or_left (maps.contains_key a k) (maps.contains_key b k) (in_a k x) | inr y ↦ or_right (maps.contains_key a k) (maps.contains_key b k) (in_b k y) ])
 
+    -- a key of either map below which none passes is the smallest of both
     is_least : (k : K) → either k ≡ true → ((r : K) → R r k ≡ Less → p r ≡ false) → ((r : K) → R r k ≡ Less → q r ≡ false) → Some k ≡ smallest either (keys_of_both a b)
     is_least k h no_p no_q = sym (smallest_is o same either (keys_of_both a b) k (there k h) h (λ r w l. or_neither (p r) (q r) (no_p r l) (no_q r l)))
 
-    -- the smaller of the firsts of two maps is the smallest of both
+    -- the smaller of the first keys of two maps is the smallest of both
     pub smaller_first : (x y : Option K) → first_where p (maps.keys a) ≡ x → first_where q (maps.keys b) ≡ y → smaller R x y ≡ smallest either (keys_of_both a b)
     smaller_first None None h k = sym (passes_none either _ (λ r. or_neither (p r) (q r) (nothing o same p a in_a h r) (nothing o same q b in_b k r)))
     smaller_first None (Some n) h k = is_least n (or_right (p n) (q n) (passing o same q b in_b n k)) (λ r l. nothing o same p a in_a h r) (λ r l. no_lower o same q b in_b n k r l)

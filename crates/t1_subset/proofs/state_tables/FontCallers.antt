@@ -1,4 +1,4 @@
--- The smallest glyphs that execute a Subr or seek a component: as the code notes them, and in a join.
+-- The smallest glyphs that execute a Subr or seek a component, as the code notes them, and in a join.
 use Rattle.std.proofs.Common.{◌≡◌, ℕ, Bool, true, false, not, cond, ◌&&◌, ◌||◌, List, [], ◌∷◌, ◌++◌, map, refl, sym, ◌∙◌, ap, Option, Some, None, is_some, unwrap_or, true≢false}
 use Rattle.std.specs.List.{list_any}
 use Rattle.std.specs.Cmp.{nat_cmp_total}
@@ -33,6 +33,7 @@ use Rattle.t1_subset.proofs.Sets.{name_same, not_so, clash, tied}
 -- ---- the first of some names
 
 module _ {K : Type 0} where
+  -- some element passes if a search finds one
   pub any_first : (p : K → Bool) (ks : List K) → list_any p ks ≡ is_some (first_where p ks)
   any_first p [] = refl
   any_first p (k ∷ ks) = elim (p k) as (λ b. (b || list_any p ks) ≡ is_some (cond b (Some k) (first_where p ks))) [ true ↦ refl | false ↦ any_first p ks ]
@@ -42,12 +43,13 @@ module _ {K : Type 0} where
   any_and false p [] = refl
   any_and false p (k ∷ ks) = any_and false p ks
 
--- what stands there, else the name where it passes, else what comes
+-- the first of three values may be noted in two steps
 pub joined_first : {V : Type 0} (x : Option V) (b : Bool) (v : V) (y : Option V) → joined (joined x (cond b (Some v) None)) y ≡ joined x (cond b (Some v) y)
 joined_first None true v y = refl
 joined_first None false v y = refl
 joined_first (Some w) b v y = refl
 
+-- a value joined with nothing stays
 pub joined_none : {V : Type 0} (x : Option V) → joined x None ≡ x
 joined_none None = refl
 joined_none (Some v) = refl
@@ -55,38 +57,41 @@ joined_none (Some v) = refl
 -- ---- noting the names of a list, one by one
 
 module _ (p : List ℕ → Bool) where
+  -- before any name is noted, the first of all that passes is still to be found
   pub noted_first : (x : Option (List ℕ)) (names all : List (List ℕ)) → x ≡ None → names ≡ all → joined x (first_where p names) ≡ first_where p all
   noted_first x names all none e = λ i. joined (none i) (first_where p (e i))
 
+  -- noting the next name leaves what is found in the end as it was
   pub noted_next : (x y goal : Option (List ℕ)) (n : List ℕ) (names left : List (List ℕ)) → y ≡ joined x (cond (p n) (Some n) None) → names ≡ n ∷ left → joined x (first_where p names) ≡ goal → joined y (first_where p left) ≡ goal
   noted_next x y goal n names left is more h = ap (λ y. joined y (first_where p left)) is ∙ joined_first x (p n) n (first_where p left) ∙ ap (λ ns. joined x (first_where p ns)) (sym more) ∙ h
 
+  -- when no name is left, what is noted is what is found
   pub noted_last : (x goal : Option (List ℕ)) (names : List (List ℕ)) → names ≡ [] → joined x (first_where p names) ≡ goal → x ≡ goal
   noted_last x goal names none h = sym (joined_none x) ∙ ap (λ ns. joined x (first_where p ns)) (sym none) ∙ h
 
--- where the name passes something is noted already, so that noting it changes nothing
+-- if a name is already noted whenever this one passes, noting this one changes nothing
 pub known_already : (x : Option (List ℕ)) (b : Bool) (n : List ℕ) → (b ≡ true → is_some x ≡ true) → x ≡ joined x (cond b (Some n) None)
 known_already (Some m) b n h = refl
 known_already None true n h = absurd (true≢false (sym (h refl)))
 known_already None false n h = refl
 
--- where the name passes something is noted after it
+-- after a name that passes, some name is noted
 pub known_then : (x y : Option (List ℕ)) (b : Bool) (n : List ℕ) → y ≡ joined x (cond b (Some n) None) → b ≡ true → is_some y ≡ true
 known_then (Some m) y b n e h = ap is_some e
 known_then None y b n e h = ap is_some (e ∙ ap (λ b. joined None (cond b (Some n) None)) h)
 
--- what has the same bytes is the same
+-- charstrings with the same bytes are the same
 pub again_same : (x y : Option (List ℕ)) → same_charstring x y ≡ true → x ≡ y
 again_same None y h = absurd (true≢false (sym h))
 again_same (Some c) None h = absurd (true≢false (sym h))
 again_same (Some c) (Some d) h = ap Some (tied nat_list_cmp_total name_same c d h)
 
--- a charstring is noted: the indices that it executes have users, and the components that it names, and that the font lacks, have seekers
+-- a charstring is noted: the indices that it executes have users, and the components that it names and the font lacks have seekers
 pub record IsNoted (f : FontValue) (users : TableMeaning) (seekers : List ℕ → Option (List ℕ)) (c : Option (List ℕ)) : Type 0 where
   pub executed : (q : ℕ) → maps.contains_key f.subrs q ≡ true → executed_at profile f q c ≡ true → is_some (user_at users q) ≡ true
   pub named : (p : List ℕ) → (not (has f p) && called_at profile f p c) ≡ true → is_some (seekers p) ≡ true
 
--- no charstring is noted from the beginning
+-- the absence of a charstring is noted from the beginning
 pub nothing_noted : (f : FontValue) (users : TableMeaning) (seekers : List ℕ → Option (List ℕ)) → IsNoted f users seekers None
 nothing_noted f users seekers = record {
   executed = λ q l h. absurd (true≢false (sym h));
@@ -96,6 +101,7 @@ nothing_noted f users seekers = record {
 -- ---- the glyphs of one font
 
 module _ (f : FontValue) where
+  -- what a glyph's run executes is what the glyph executes
   pub executes_so : (n : List ℕ) (i : ℕ) → sets.contains (calls_by f n) i ≡ executes profile f n i
   executes_so n i = at (maps.get f.glyphs n) refl
     where
@@ -103,6 +109,7 @@ module _ (f : FontValue) where
       at None e = ap (λ s. sets.contains s i) (sym (no_calls f n e)) ∙ sets.contains-from_list nat_cmp_total [] i
       at (Some c) e = ap (λ x. sets.contains (profile.exec f.subrs (unwrap_or x [])) i) e
 
+  -- what a glyph's run names is what the glyph calls for
   pub calls_so : (n p : List ℕ) → list_any (same_bytes p) (components profile f.subrs (charstring f n)) ≡ calls_for profile f n p
   calls_so n p = at (maps.get f.glyphs n) refl
     where
@@ -110,21 +117,23 @@ module _ (f : FontValue) where
       at None e = ap (list_any (same_bytes p)) (sym (no_components f n e))
       at (Some c) e = ap (λ x. list_any (same_bytes p) (components profile f.subrs (unwrap_or x []))) e
 
-  -- an index is called where it has a user
+  -- an index is called if it has a user
   pub called_is : (i : ℕ) → is_called profile f i ≡ is_some (user_of f i)
   called_is i = any_first (λ n. executes profile f n i) (names_in f.glyphs)
 
-  -- a component that the font lacks is sought where it has a seeker
+  -- a component has a seeker if the font lacks and seeks it
   pub sought_is : (p : List ℕ) → is_some (seeker_of f p) ≡ (not (has f p) && is_sought profile f p)
   sought_is p = sym (any_first (λ n. wants profile f n p) (names_in f.glyphs)) ∙ any_and (not (has f p)) (λ n. calls_for profile f n p) (names_in f.glyphs)
 
 -- ---- two fonts
 
 module _ (f g : FontValue) where
+  -- the smaller of the users in two fonts is the smallest glyph of both that executes the index
   pub smallest_user : (i : ℕ) → smaller name_cmp (user_of f i) (user_of g i) ≡ smallest (used_by profile f g i) (glyph_names f g)
   smallest_user i = smaller_first nat_list_cmp_total name_same f.glyphs g.glyphs (λ n. executes profile f n i) (λ n. executes profile g n i)
       (λ n h. executing_there profile f i (maps.get f.glyphs n) h) (λ n h. executing_there profile g i (maps.get g.glyphs n) h) _ _ refl refl
 
+  -- the smaller of the seekers in two fonts is the smallest glyph of both that wants the component
   pub smallest_seeker : (p : List ℕ) → smaller name_cmp (seeker_of f p) (seeker_of g p) ≡ smallest (wanted_by profile f g p) (glyph_names f g)
   smallest_seeker p = smaller_first nat_list_cmp_total name_same f.glyphs g.glyphs (λ n. wants profile f n p) (λ n. wants profile g n p)
       (λ n h. naming_there profile f p (maps.get f.glyphs n) (second_so (not (has f p)) (calls_for profile f n p) h)) (λ n h. naming_there profile g p (maps.get g.glyphs n) (second_so (not (has g p)) (calls_for profile g n p) h)) _ _ refl refl
@@ -133,6 +142,7 @@ keys_valued : (es : List (List ℕ × List ℕ)) → map (λ (e : List ℕ × Li
 keys_valued [] = refl
 keys_valued (e ∷ es) = ap (λ (ns : List (List ℕ)). e.0 ∷ ns) (keys_valued es)
 
+-- the names of merged maps are the keys of both
 names_of_both : (a b : Named) → names_in (merged a b) ≡ members (keys_of_both a b)
 names_of_both a b = keys_valued (maps.entries (merged a b)) ∙ ap (map (λ e. e.0)) (sym (entries-map_values nat_list_cmp_total name_same (λ k v. 0) (merged a b)))
 
@@ -142,7 +152,7 @@ module _ (f g : FontValue) (c : Compatible profile f g) where
   abbrev both : FontValue
   both = joined_font profile f g
 
-  -- a component that one font has, the other doesn't seek
+  -- a component that one of two fonts has is not sought by the other
   unsought : (b : Bool) (v : List ℕ) → Agree {V = Option (List ℕ)} (cond b (Some None) None) (Some (Some v)) → b ≡ false
   unsought true v h = absurd (none_some h)
     where
@@ -160,30 +170,36 @@ module _ (f g : FontValue) (c : Compatible profile f g) where
   wants_at p n (Some v) None a = sym (sought_by g p n (unsought (is_sought profile g p) v (agree_back (Some (Some v)) (state_of_glyph profile g p None) a)))
   wants_at p n (Some v) (Some d) a = refl
 
+  -- a glyph of the join wants a component if it does so in one of the fonts
   wants_join : (p n : List ℕ) → wants profile both n p ≡ wanted_by profile f g p n
   wants_join p n = ap (λ x. not (is_some x) && calls_for profile both n p) (glyph_in_join profile f g p) ∙ wants_at p n (maps.get f.glyphs p) (maps.get g.glyphs p) (c.names p)
 
+  -- the user of an index in the join is the smaller of those in the fonts
   pub user_join : (i : ℕ) → user_of both i ≡ smaller name_cmp (user_of f i) (user_of g i)
   user_join i = (λ k. first_where (λ n. executes_join profile f g c i n k) (names_in both.glyphs)) ∙ ap (first_where (used_by profile f g i)) (names_of_both f.glyphs g.glyphs) ∙ sym (smallest_user f g i)
 
+  -- the seeker of a component in the join is the smaller of those in the fonts
   pub seeker_join : (p : List ℕ) → seeker_of both p ≡ smaller name_cmp (seeker_of f p) (seeker_of g p)
   seeker_join p = (λ k. first_where (λ n. wants_join p n k) (names_in both.glyphs)) ∙ ap (first_where (wanted_by profile f g p)) (names_of_both f.glyphs g.glyphs) ∙ sym (smallest_seeker f g p)
 
 -- ---- the callers of some fonts
 
--- the callers of fonts are together those of the font that they come to
+-- the callers of some fonts are together those of the font that the fonts come to
 pub record CallersSoFar (cs : List Callers) (f : FontValue) : Type 0 where
   pub users : (i : ℕ) → maps.contains_key f.subrs i ≡ true → user_from None cs i ≡ user_of f i
   pub seekers : (p : List ℕ) → seeker_from None cs p ≡ seeker_of f p
 
+-- the user among callers with one more font is the smaller of two
 user_last : (best : Option (List ℕ)) (cs : List Callers) (c : Callers) (i : ℕ) → user_from best (cs ++ c ∷ []) i ≡ smaller name_cmp (user_from best cs i) (user_at c.users i)
 user_last best [] c i = refl
 user_last best (d ∷ cs) c i = user_last (smaller name_cmp best (user_at d.users i)) cs c i
 
+-- the seeker among callers with one more font is the smaller of two
 seeker_last : (best : Option (List ℕ)) (cs : List Callers) (c : Callers) (p : List ℕ) → seeker_from best (cs ++ c ∷ []) p ≡ smaller name_cmp (seeker_from best cs p) (maps.get c.seekers p)
 seeker_last best [] c p = refl
 seeker_last best (d ∷ cs) c p = seeker_last (smaller name_cmp best (maps.get d.seekers p)) cs c p
 
+-- the callers of one font are those of the font that it comes to
 pub first_callers : (c : Callers) (f : FontValue) → AreCallersOf c f → CallersSoFar (c ∷ []) f
 first_callers c f h = record { users = h.users; seekers = h.seekers }
 
@@ -194,9 +210,11 @@ module _ (f g : FontValue) (cs : List Callers) (d : Callers) (h : CallersSoFar c
   seeker_more : (p : List ℕ) → seeker_from None (cs ++ d ∷ []) p ≡ smaller name_cmp (seeker_of f p) (seeker_of g p)
   seeker_more p = seeker_last None cs d p ∙ (λ t. smaller name_cmp (h.seekers p t) (k.seekers p t))
 
+  -- the callers so far and those of the next font are the callers of both
   pub both_callers : AreCallers (cs ++ d ∷ []) f g
   both_callers = record { users = λ i l m. user_more i l m ∙ smallest_user f g i; seekers = λ p. seeker_more p ∙ smallest_seeker f g p }
 
+  -- the callers so far and those of the next font are together those of the join
   pub more_callers : Compatible profile f g → CallersSoFar (cs ++ d ∷ []) (joined_font profile f g)
   more_callers c = record {
     users = λ i l. let there = sym (present_joined profile f g i) ∙ l in user_more i there (sym (c.present i) ∙ there) ∙ sym (user_join f g c i);

@@ -37,11 +37,13 @@ use Rattle.t1_subset.proofs.state_tables.TableWeights.{total-merged}
 
 -- ---- states that agree
 
+-- states that agree in tables agree
 pub to_agree : (x y : State) → PlacesAgree x y → Agree x y
 to_agree None y h = tt
 to_agree (Some v) None h = tt
 to_agree (Some v) (Some w) h = same_meaning-true v w h
 
+-- states that agree do so in tables
 pub from_agree : (x y : State) → Agree x y → PlacesAgree x y
 from_agree None y h = refl
 from_agree (Some v) None h = refl
@@ -53,25 +55,30 @@ same_name None (Some d) e = cc
 same_name (Some c) None e = cc
 same_name (Some c) (Some d) e = cc
 
+-- what the state of a name means in a table
 abbrev pub meant : Option (Option (List ℕ)) → State
 meant x = option_map name_meaning x
 
+-- names whose meanings agree have states that agree
 names_to : (x y : Option (Option (List ℕ))) → PlacesAgree (meant x) (meant y) → Agree x y
 names_to None y h = tt
 names_to (Some a) None h = tt
 names_to (Some a) (Some b) h = same_name a b (same_meaning-true (name_meaning a) (name_meaning b) h)
 
+-- names whose states agree have meanings that agree
 names_from : (x y : Option (Option (List ℕ))) → Agree x y → PlacesAgree (meant x) (meant y)
 names_from None y h = refl
 names_from (Some a) None h = refl
 names_from (Some a) (Some b) h = subst (λ (c : Option (List ℕ)). same_meaning (name_meaning a) (name_meaning c) ≡ true) h (same_meaning-self (name_meaning a))
 
+-- the meaning of a join of names is the join of their meanings
 names_joined : (x y : Option (Option (List ℕ))) → meant (joined x y) ≡ joined_state (meant x) (meant y)
 names_joined None y = refl
 names_joined (Some a) y = refl
 
 -- ---- tables by number
 
+-- maps that agree at each number are tables that agree
 numbers_agree : (s t : Numbered) → ((i : ℕ) → Agree (maps.get s i) (maps.get t i)) → TablesAgree (numbered s) (numbered t)
 numbers_agree s t h q = (λ i. states_agree (get-numbered s q i) (get-numbered t q i)) ∙ at q
   where
@@ -80,6 +87,7 @@ numbers_agree s t h q = (λ i. states_agree (get-numbered s q i) (get-numbered t
     at (n ∷ []) = from_agree (maps.get s n) (maps.get t n) (h n)
     at (a ∷ b ∷ rest) = refl
 
+-- tables by number that agree are maps that agree at each number
 agree_numbers : (s t : Numbered) → TablesAgree (numbered s) (numbered t) → (i : ℕ) → Agree (maps.get s i) (maps.get t i)
 agree_numbers s t h i = to_agree (maps.get s i) (maps.get t i) ((λ j. states_agree (sym (get-numbered s (of_number i)) j) (sym (get-numbered t (of_number i)) j)) ∙ h (of_number i))
 
@@ -89,6 +97,7 @@ any_flat_map : {J : Type 0} (p : List ℕ → Bool) (f : J → List (List ℕ)) 
 any_flat_map p f [] = refl
 any_flat_map p f (x ∷ xs) = list_any-append p (f x) (flat_map f xs) ∙ ap (λ b. list_any p (f x) || b) (any_flat_map p f xs)
 
+-- in the table of sought names a name is found if it is one of them
 find_sought : (n : List ℕ) (ps : List (List ℕ)) → find name_cmp n (map (λ p. (p, name_meaning None)) ps) ≡ cond (list_any (same_bytes n) ps) (Some []) None
 find_sought n [] = refl
 find_sought n (p ∷ ps) = elim (same_bytes n p) as (λ b. cond b (Some []) (find name_cmp n (map (λ p. (p, name_meaning None)) ps)) ≡ cond (b || list_any (same_bytes n) ps) (Some []) None) [ true ↦ refl | false ↦ find_sought n ps ]
@@ -102,12 +111,15 @@ module _ {O : Type 0} (m : Interpreter O) (f : FontValue) where
   used_at i None = refl
   used_at i (Some c) = cut_at (is_stub c && not (is_called m f i)) c
 
+  -- the table of Subrs has the state of each index
   pub get-used : (i : ℕ) → maps.get (used_subrs m f) i ≡ subr_state m f i
   get-used i = get-retain nat_cmp_total nat_cmp-IsAntisymmetric f.subrs (λ i. is_some (subr_state m f i)) i ∙ used_at i (maps.get f.subrs i)
 
+  -- the names that have glyphs
   abbrev there : TableMeaning
   there = map_values (λ n c. name_meaning (Some c)) f.glyphs
 
+  -- the names that are sought
   abbrev sought : TableMeaning
   sought = maps.from_entries (map (λ p. (p, name_meaning None)) (all_components m f))
 
@@ -123,22 +135,26 @@ module _ {O : Type 0} (m : Interpreter O) (f : FontValue) where
   name_at n None = lone (is_sought m f n)
   name_at n (Some c) = refl
 
+  -- the table of names has the state of each name
   pub get-names : (n : List ℕ) → maps.get (name_states m f) n ≡ meant (name_state m f n)
   get-names n = get_joined there sought n ∙ (λ i. joined_state (get-map_values nat_list_cmp_total name_same (λ n c. name_meaning (Some c)) f.glyphs n i) (get-sought n i)) ∙ name_at n (maps.get f.glyphs n)
 
 -- ---- compatible fonts have states that agree
 
+-- the join of two Encodings has the word of the first
 word_joined : (d e : Encoding) → SameKind d e → word_of (join_encodings d e) ≡ word_of d
 word_joined (Word v) e h = refl
 word_joined (Codes s) (Word w) h = refl
 word_joined (Codes s) (Codes t) h = refl
 
+-- if the names of each code agree, the tables of codes agree
 codes_agree : (d e : Encoding) → SameKind d e → ((c : ℕ) → Agree (code_state d c) (code_state e c)) → TablesAgree (code_states d) (code_states e)
 codes_agree (Word v) (Word w) h a = λ q. state_itself (maps.get (maps.empty {R = meaning_cmp}) q)
 codes_agree (Word v) (Codes t) h a = absurd h
 codes_agree (Codes s) (Word w) h a = absurd h
 codes_agree (Codes s) (Codes t) h a = numbers_agree s t a
 
+-- if the tables of codes agree, the names of each code agree
 agree_codes : (d e : Encoding) → TablesAgree (code_states d) (code_states e) → (c : ℕ) → Agree (code_state d c) (code_state e c)
 agree_codes (Word v) e h c = tt
 agree_codes (Codes s) (Word w) h c = none_right (maps.get s c)
@@ -148,6 +164,7 @@ agree_codes (Codes s) (Word w) h c = none_right (maps.get s c)
     none_right (Some v) = tt
 agree_codes (Codes s) (Codes t) h c = agree_numbers s t h c
 
+-- the codes of the join of two Encodings are the join of their tables
 codes_joined : (d e : Encoding) → SameKind d e → code_states (join_encodings d e) ≡ joined_table (code_states d) (code_states e)
 codes_joined (Word v) (Word w) h = same_table maps.empty (joined_table maps.empty maps.empty) (λ q. nothing q ∙ sym (get_joined maps.empty maps.empty q))
   where
@@ -158,6 +175,7 @@ codes_joined (Codes s) (Word w) h = absurd h
 codes_joined (Codes s) (Codes t) h = sym (numbered-merged s t)
 
 module _ {O : Type 0} (m : Interpreter O) (f g : FontValue) where
+  -- the states of compatible fonts agree part by part
   pub compatible_agree : Compatible m f g → PartsAgree (states_of m f) (states_of m g)
   compatible_agree c = (
     shared_from f g (record { shells = c.shells; present = c.present; kinds = c.kinds }),
@@ -170,6 +188,7 @@ module _ {O : Type 0} (m : Interpreter O) (f g : FontValue) where
     ),
   )
 
+  -- fonts whose states agree part by part are compatible
   pub agree_compatible : PartsAgree (states_of m f) (states_of m g) → Compatible m f g
   agree_compatible h = record {
     shells = (shared_to f g h.0).shells;
@@ -207,10 +226,12 @@ module _ {O : Type 0} (m : Interpreter O) (f g : FontValue) where
 
 -- ---- weights
 
+-- the weight of a table by number is that of its map
 total_keyed : (es : List (ℕ × List ℕ)) → total subr_adds (map (λ e. (of_number e.0, e.1)) es) ≡ total (λ i c. length c - 1) es
 total_keyed [] = refl
 total_keyed (e ∷ es) = ap (λ n. length e.1 - 1 + n) (total_keyed es)
 
+-- leaving out entries that weigh nothing changes no sum
 total_kept : {K : Type 0} (w : K → List ℕ → ℕ) (p : K → Bool) (es : List (K × List ℕ)) → AllByRecursion (λ e. p e.0 ≡ false → w e.0 e.1 ≡ 0) es → total w (filter (λ e. p e.0) es) ≡ total w es
 total_kept w p [] h = refl
 total_kept w p (e ∷ es) h =
@@ -223,14 +244,17 @@ at_least_one : (n : ℕ) → max 1 n ≡ 1 + (n - 1)
 at_least_one zero = refl
 at_least_one (suc n) = omega arith
 
+-- Subrs weigh what as many stubs weigh and what each has beyond a stub
 total_apart : (iv : ℕ) (es : List (ℕ × List ℕ)) → total (subr_weight iv) es ≡ length es * (129 + iv) + total (λ i c. length c - 1) es
 total_apart iv [] = omega arith
 total_apart iv (e ∷ es) = let rest = total_apart iv es in let one = at_least_one (length e.1) in omega (arith, rest, one)
 
+-- the sum over glyphs as states of names is the sum over glyphs
 total_valued : (w : Meaning → Meaning → ℕ) (es : List (List ℕ × List ℕ)) → total w (map (λ e. (e.0, name_meaning (Some e.1))) es) ≡ total (λ n c. w n (name_meaning (Some c))) es
 total_valued w [] = refl
 total_valued w (e ∷ es) = ap (λ n. w e.0 (name_meaning (Some e.1)) + n) (total_valued w es)
 
+-- entries that weigh nothing sum to nothing
 total_none : (w : Meaning → Meaning → ℕ) (p : Meaning × Meaning → Bool) (es : List (Meaning × Meaning)) → AllByRecursion (λ e. w e.0 e.1 ≡ 0) es → total w (filter p es) ≡ 0
 total_none w p [] h = refl
 total_none w p (e ∷ es) h = elim (p e) as (λ b. total w (cond b (e ∷ filter p es) (filter p es)) ≡ 0) [
@@ -239,6 +263,7 @@ total_none w p (e ∷ es) h = elim (p e) as (λ b. total w (cond b (e ∷ filter
 ]
 
 module _ {O : Type 0} (m : Interpreter O) (f : FontValue) where
+  -- an entry whose state is the bottom weighs no more than a stub
   stub_adds_nothing : (i : ℕ) (c : List ℕ) → maps.get f.subrs i ≡ Some c → is_some (subr_state m f i) ≡ false → length c - 1 ≡ 0
   stub_adds_nothing i c is h = ap (λ (d : List ℕ). length d - 1) (stub_is c (at (is_stub c) (not (is_called m f i)) (sym (ap (λ x. is_some (state_of_entry m f i x)) is) ∙ h)))
     where
@@ -246,6 +271,7 @@ module _ {O : Type 0} (m : Interpreter O) (f : FontValue) where
       at true b h = refl
       at false b h = absurd (true≢false h)
 
+  -- the Subrs of a font weigh as many stubs and what their states add
   subrs_weigh : total (subr_weight f.shell.len_iv) (maps.entries f.subrs) ≡ length (maps.keys f.subrs) * (129 + f.shell.len_iv) + total subr_adds (maps.entries (numbered (used_subrs m f)))
   subrs_weigh =
       total_apart f.shell.len_iv (maps.entries f.subrs)
@@ -264,6 +290,7 @@ module _ {O : Type 0} (m : Interpreter O) (f : FontValue) where
   no_value true v h = Some_same h
   no_value false v h = Some_None (sym h)
 
+  -- sought names add nothing to a sum over names
   names_total : (w : Meaning → Meaning → ℕ) → ((n : Meaning) → w n [] ≡ 0) → total w (maps.entries (name_states m f)) ≡ total (λ n c. w n (name_meaning (Some c))) (maps.entries f.glyphs)
   names_total w h =
       let new : total w (new_entries (there m f) (maps.entries (sought m f))) ≡ 0 = total_none w (λ e. not (maps.contains_key (there m f) e.0)) (maps.entries (sought m f))
@@ -272,27 +299,34 @@ module _ {O : Type 0} (m : Interpreter O) (f : FontValue) where
       let all = total-merged nat_list_cmp_total w name_same (there m f) (sought m f) in
       omega (arith, all, new, own)
 
+  -- the weight of a font's states is the weight of the font
   pub weight_is : states_weight (states_of m f) ≡ weight f
   weight_is = let subrs = subrs_weigh in let glyphs = names_total (name_adds f.shell.len_iv) (λ n. refl) in omega (arith, subrs, glyphs)
 
+  -- a font's states count the glyphs of the font
   pub glyphs_are : states_glyphs (states_of m f) ≡ maps.len f.glyphs
   glyphs_are = names_total name_counts (λ n. refl) ∙ length_total (maps.entries f.glyphs) ∙ sym (maps.len-entries f.glyphs)
 
+  -- the states of a font within the limits are within them
   pub fits : IsWithin f → StatesFit (states_of m f)
   fits w = record { weight = subst (λ n. n ≤ weight_limit) (sym weight_is) w.weight; glyphs = subst (λ n. n ≤ count_limit) (sym glyphs_are) w.glyphs }
 
+  -- a font whose states are within the limits is within them
   pub within : StatesFit (states_of m f) → IsWithin f
   within w = record { weight = subst (λ n. n ≤ weight_limit) weight_is w.weight; glyphs = subst (λ n. n ≤ count_limit) glyphs_are w.glyphs }
 
+-- the states of a font within the limits have the weight and the count of the font
 pub sized : {O : Type 0} (m : Interpreter O) (f : FontValue) → IsWithin f → (s : StatesValue) → s ≡ states_of m f → (w n : ℕ) → w ≡ weight f → n ≡ maps.len f.glyphs → IsSized s w n
 sized m f h s is w n ew en = subst (λ (s : StatesValue). IsSized s w n) (sym is) (record { fits = fits m f h; weighs = ew ∙ sym (weight_is m f); counts = en ∙ sym (glyphs_are m f) })
 
--- ---- fonts join exactly where their states agree
+-- ---- fonts join exactly if their states agree
 
 module _ {O : Type 0} (m : Interpreter O) (f g : FontValue) where
+  -- the states of fonts that join have the states of the join for theirs
   pub states_join : Join m f g → StatesJoin (states_of m f) (states_of m g) (states_of m (joined_font m f g))
   states_join j = (parts_join m f g j.states, inl (fits m (joined_font m f g) j.within))
 
+  -- fonts within the limits join exactly if their states agree
   pub join_exactly : IsWithin f → StatesAgree (states_of m f) (states_of m g) ↔ Join m f g
   join_exactly w = (to, λ j. (states_of m (joined_font m f g), states_join j))
     where
@@ -304,9 +338,11 @@ module _ {O : Type 0} (m : Interpreter O) (f g : FontValue) where
 
 -- ---- what a joined value weighs
 
+-- a joined table weighs the first and the new entries of the second
 joint_grows : (w : Meaning → Meaning → ℕ) (a b c : TableMeaning) → TablesJoin a b c → total w (maps.entries c) ≡ total w (maps.entries a) + total w (new_entries a (maps.entries b))
 joint_grows w a b c h = ap (λ (t : TableMeaning). total w (maps.entries t)) h.1 ∙ total-merged nat_list_cmp_total w name_same a b
 
+-- a join weighs what is computed from its two sides
 pub joint_weighs : (x y z : StatesValue) → PartsJoin x y z → states_weight z ≡ joint_weight x y
 joint_weighs x y z h =
     let at : states_weight z ≡ shared_weight x.0 + total subr_adds (maps.entries (subr_part z)) + total (name_adds x.0.0.len_iv) (maps.entries (name_part z)) =
@@ -315,27 +351,31 @@ joint_weighs x y z h =
     let names = joint_grows (name_adds x.0.0.len_iv) (name_part x) (name_part y) (name_part z) h.1.1.0 in
     omega (arith, at, subrs, names)
 
+-- a join has as many glyphs as are computed from its two sides
 pub joint_counts : (x y z : StatesValue) → PartsJoin x y z → states_glyphs z ≡ joint_glyphs x y
 joint_counts x y z h = joint_grows name_counts (name_part x) (name_part y) (name_part z) h.1.1.0
 
 module _ (x y : StatesValue) where
+  -- the weight and the count that are computed from both sides are within the limits
   abbrev pub JointFits : Type 0
   JointFits = (joint_weight x y ≤ weight_limit) × (joint_glyphs x y ≤ count_limit)
 
+  -- if a join is within the limits, so are the weight and the count computed from its sides
   pub joint_fits : (z : StatesValue) → PartsJoin x y z → StatesFit z → JointFits
   joint_fits z h w = (subst (λ n. n ≤ weight_limit) (joint_weighs x y z h) w.weight, subst (λ n. n ≤ count_limit) (joint_counts x y z h) w.glyphs)
 
+  -- if the weight and the count computed from both sides are within the limits, so is the join
   pub fits_joint : (z : StatesValue) → PartsJoin x y z → JointFits → StatesFit z
   fits_joint z h w = record { weight = subst (λ n. n ≤ weight_limit) (sym (joint_weighs x y z h)) w.0; glyphs = subst (λ n. n ≤ count_limit) (sym (joint_counts x y z h)) w.1 }
 
-  -- within the limits states agree exactly where their parts do and the join fits
+  -- states within the limits agree exactly if their parts do and the join is within the limits
   pub agree_by_parts : StatesFit x → StatesAgree x y ↔ (PartsAgree x y × JointFits)
   agree_by_parts w = (
     λ h. (parts_laws.only_where x y h.0 h.1.0, joint_fits h.0 h.1.0 (⊎_elim (λ a. a) (λ b. subst StatesFit b.0 w) h.1.1)),
     λ h. let z = parts_laws.some_answer x y h.0 in (z.0, (z.1, inl (fits_joint z.0 z.1 h.1))),
   )
 
-  -- what is joined knows its size
+  -- a join has the weight and the count computed from its sides, as far as 64 bits hold them
   pub sized_join : StatesFit x → StatesAgree x y → (z : StatesValue) → PartsJoin x y z → (w n : ℕ) → w ≡ clamp (joint_weight x y) → n ≡ clamp (joint_glyphs x y) → IsSized z w n
   sized_join h a z j w n ew en =
       let fits = ((agree_by_parts h).0 a).1 in
@@ -350,9 +390,11 @@ module _ (x y : StatesValue) where
 -- ---- values in memory, and what is seen of them
 
 module _ (v w x y : StatesValue) (e : v ≡ x) (k : w ≡ y) where
+  -- tables of values in memory agree exactly if the tables that they stand for do
   pub seen_agree : (part : StatesValue → TableMeaning) (b : Bool) → (b ≡ true) ↔ TablesAgree (part v) (part w) → (b ≡ true) ↔ TablesAgree (part x) (part y)
   seen_agree part b h = subst (λ (y : StatesValue). (b ≡ true) ↔ TablesAgree (part x) (part y)) k (subst (λ (x : StatesValue). (b ≡ true) ↔ TablesAgree (part x) (part w)) e h)
 
+  -- a join of values in memory has the weight and the count computed from its sides
   pub seen_join : StatesFit v → StatesAgree x y → (z : StatesValue) → z.0 ≡ v.0 → BothJoin TablesJoin (BothJoin TablesJoin TablesJoin) v.1 w.1 z.1 → (n c : ℕ) → n ≡ clamp (joint_weight x y) → c ≡ clamp (joint_glyphs x y) → IsSized z n c
   seen_join h a z s j n c en ec =
       let same : v.0 ≡ w.0 = ap (λ t. t.0) e ∙ parts_shared ∙ sym (ap (λ t. t.0) k) in
@@ -363,8 +405,10 @@ module _ (v w x y : StatesValue) (e : v ≡ x) (k : w ≡ y) where
 
 -- ---- tests of two things
 
+-- two tests in turn decide both things, if the first passes
 pub both_pass : {A B : Type 0} (b c : Bool) → (b ≡ true) ↔ A → (c ≡ true) ↔ B → b ≡ true → (c ≡ true) ↔ (A × B)
 both_pass b c h k t = (λ s. (h.0 t, k.0 s), λ m. k.1 m.1)
 
+-- if the first test fails, not both things hold
 pub first_fails : {A B : Type 0} (b : Bool) → (b ≡ true) ↔ A → b ≡ false → (b ≡ true) ↔ (A × B)
 first_fails b h f = (λ t. absurd (true≢false (sym t ∙ f)), λ m. h.1 m.0)

@@ -19,20 +19,22 @@ use Rattle.t1_subset.proofs.Sets.{name_same, tied, itself, here}
 use Rattle.t1_subset.proofs.state_tables.Numbered.{entries-numbered, get-numbered, by_number}
 use Rattle.t1_subset.proofs.state_tables.TableStates.{Fills}
 
--- ---- one user more
+-- ---- one more user
 
+-- noting nobody changes nothing
 with_none : (s : State) → with_user s None ≡ s
 with_none None = refl
 with_none (Some []) = refl
 with_none (Some (mark ∷ n)) = refl
 
+-- noting a user neither adds nor removes a Subr
 pub still_there : (s : State) (u : Option (List ℕ)) → is_some (with_user s u) ≡ is_some s
 still_there None u = refl
 still_there (Some []) None = refl
 still_there (Some []) (Some n) = refl
 still_there (Some (mark ∷ m)) u = refl
 
--- of a Subr that is there
+-- the user of a Subr that is there is the one noted first
 pub behind_with : (s : State) (u : Option (List ℕ)) → is_some s ≡ true → behind_mark (with_user s u) ≡ joined (behind_mark s) u
 behind_with None u h = absurd (true≢false (sym h))
 behind_with (Some []) None h = refl
@@ -41,6 +43,7 @@ behind_with (Some (mark ∷ m)) u h = refl
 
 -- ---- noting a user of an index
 
+-- putting a user at an index at which nobody is noted notes it
 noted : (s : State) (n : List ℕ) (b : Bool) → (b ≡ true → s ≡ Some []) → cond b (Some (0 ∷ n)) s ≡ with_user s (cond b (Some n) None)
 noted s n true h = sym (ap (λ s. with_user s (Some n)) (h refl))
 noted s n false h = sym (with_none s)
@@ -49,7 +52,7 @@ module _ (t : TableMeaning) (i : ℕ) (n : List ℕ) (q : ℕ) where
   same : same_number q i ≡ true → maps.get t (of_number q) ≡ maps.get t (of_number i)
   same h = ap (λ k. maps.get t (of_number k)) (tied nat_cmp_total nat_cmp-IsAntisymmetric q i h)
 
-  -- where nobody is noted
+  -- putting a user at an index at which nobody is noted notes it there and nowhere else
   pub put_user : (u : TableMeaning) → maps.get t (of_number i) ≡ Some [] → u ≡ maps.insert t (of_number i) (0 ∷ n) → maps.get u (of_number q) ≡ with_user (maps.get t (of_number q)) (cond (same_number q i) (Some n) None)
   put_user u nobody is =
       ap (λ (u : TableMeaning). maps.get u (of_number q)) is ∙ maps.get-insert nat_list_cmp_total t (of_number i) (0 ∷ n) (of_number q)
@@ -82,6 +85,7 @@ module _ (m : Numbered) (t : TableMeaning) (is : t ≡ numbered (unused m)) (i :
   unused_at : maps.get t (of_number i) ≡ option_map (λ c. []) (maps.get m i)
   unused_at = ap (λ (t : TableMeaning). maps.get t (of_number i)) is ∙ get-numbered (unused m) (of_number i) ∙ get-map_values nat_cmp_total nat_cmp-IsAntisymmetric (λ i c. []) m i
 
+  -- a table without users has none at any index
   pub no_user : user_at t i ≡ None
   no_user = ap behind_mark unused_at ∙ at (maps.get m i)
     where
@@ -89,6 +93,7 @@ module _ (m : Numbered) (t : TableMeaning) (is : t ≡ numbered (unused m)) (i :
       at None = refl
       at (Some c) = refl
 
+  -- a table without users has an entry for each Subr
   pub has_entry : maps.contains_key t (of_number i) ≡ maps.contains_key m i
   has_entry = at (maps.get m i) (maps.get t (of_number i)) unused_at
     where

@@ -23,18 +23,23 @@ use Rattle.t1_subset.proofs.Fonts.{font_within}
 use Rattle.t1_subset.proofs.JoinedEntries.{joined_are_entries}
 
 module _ {O : Type 0} (m : Interpreter O) (f g : FontValue) (h : states_conflict m f g ≡ None) where
+  -- fonts without a conflict of states have the same shell
   pub same_shells : f.shell ≡ g.shell
   same_shells = (compatible m f g h).shells
 
+  -- fonts without a conflict of states have Encodings of one kind
   pub same_kinds : SameKind f.encoding g.encoding
   same_kinds = (compatible m f g h).kinds
 
+  -- the joined font is the font of the entries of both
   entries : joined_font m f g ≡ join_parts f g
   entries = joined_are_entries m f g (compatible m f g h)
 
+  -- if the font of the entries of both is a font, it is their join
   pub joins : (j : FontValue) → j ≡ join_parts f g → IsFont j → Join m f g × (j ≡ joined_font m f g)
   joins j e is = (record { states = compatible m f g h; within = subst IsWithin (e ∙ sym entries) (font_within j is) }, e ∙ sym entries)
 
+  -- a refusal for the limits says that the font of both is over them
   too_much : Refuses f g Limit → IsWithin (join_parts f g) → ⊥
   too_much (inl more) w = let few = w.glyphs in omega arith
   too_much (inr more) w = let light = w.weight in omega arith
@@ -43,6 +48,7 @@ module _ {O : Type 0} (m : Interpreter O) (f g : FontValue) (h : states_conflict
   over true e k = absurd (k refl)
   over false e k = refl
 
+  -- a refusal for the limits tells the lowest conflict
   pub over_limit : Refuses f g Limit → conflict m f g ≡ Some OverLimit
   over_limit more =
       ap (λ x. found (λ c. c) x (cond (is_within m f g) None (Some OverLimit))) h
@@ -50,7 +56,7 @@ module _ {O : Type 0} (m : Interpreter O) (f g : FontValue) (h : states_conflict
 
 -- ---- conflicts in their order
 
--- a refusal that tells one conflict tells another that comes to the same
+-- a refusal that tells one conflict tells another that is the same wherever there is one
 tells_on : (e : Refusal) (c d : Option Conflict) → ((x : Conflict) → c ≡ Some x → d ≡ Some x) → Tells e c → Tells e d
 tells_on (refusal.Shell p) c d h t = h (ShellDiffers (shell_part p)) t
 tells_on (refusal.Code n) c d h t = h (CodeDiffers n) t
@@ -69,10 +75,11 @@ never : {Y : Type 0} (d : Option Y) (y : Y) → None ≡ Some y → d ≡ Some y
 never d y h = cc
 
 module _ (f g : FontValue) where
-  -- what comes after codes and glyphs
+  -- the lowest conflict of entries is the lowest of states
   in_states : (x : Conflict) → entries_conflict f g ≡ Some x → states_conflict profile f g ≡ Some x
   in_states x h = found_on ShellDiffers (shell_conflict f g) _ _ x (found_on CodeDiffers (code_conflict f g) _ _ x (found_on GlyphDiffers (glyph_conflict f g) None (uses_conflict f g) x (never (uses_conflict f g) x))) h
 
+  -- without a conflict of entries, the lowest conflict of states is that of uses
   pub last : entries_conflict f g ≡ None → states_conflict profile f g ≡ uses_conflict f g
   last h =
       let s = found_none ShellDiffers (shell_conflict f g) _ h in
@@ -80,19 +87,24 @@ module _ (f g : FontValue) where
       let n = found_none GlyphDiffers (glyph_conflict f g) _ c.1 in
       λ i. found ShellDiffers (s.0 i) (found CodeDiffers (c.0 i) (found GlyphDiffers (n.0 i) (uses_conflict f g)))
 
+  -- a refusal that tells the lowest conflict of entries tells that of states
   pub tells_entries : (e : Refusal) → Tells e (entries_conflict f g) → Tells e (states_conflict profile f g)
   tells_entries e t = tells_on e (entries_conflict f g) (states_conflict profile f g) in_states t
 
+  -- without a conflict of entries, a refusal that tells the lowest conflict of uses tells that of states
   pub tells_uses : (e : Refusal) → entries_conflict f g ≡ None → Tells e (uses_conflict f g) → Tells e (states_conflict profile f g)
   tells_uses e n t = subst (Tells e) (sym (last n)) t
 
+  -- a refusal that tells the lowest conflict of states tells that of the fonts
   pub tells_states : (e : Refusal) → Tells e (states_conflict profile f g) → Tells e (conflict profile f g)
   tells_states e t = tells_on e (states_conflict profile f g) (conflict profile f g) (λ x h. ap (λ o. found (λ c. c) o (cond (is_within profile f g) None (Some OverLimit))) h) t
 
+  -- if there is no conflict of entries, and an answer says that there is none of uses, it says so of states
   pub then_ok : {X : Type 0} (r : Result X Refusal) → entries_conflict f g ≡ None → IfOk r (λ x. uses_conflict f g ≡ None) → IfOk r (λ x. states_conflict profile f g ≡ None)
   then_ok (Ok x) n h = last n ∙ h
   then_ok (Err e) n h = tt
 
+  -- if there is no conflict of entries, a refusal that tells one of uses tells one of states
   pub then_err : {X : Type 0} (r : Result X Refusal) → entries_conflict f g ≡ None → IfErr r (λ e. Tells e (uses_conflict f g)) → IfErr r (λ e. Tells e (states_conflict profile f g))
   then_err (Ok x) n h = tt
   then_err (Err e) n h = tells_uses e n h

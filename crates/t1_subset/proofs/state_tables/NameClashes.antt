@@ -29,7 +29,7 @@ use Rattle.t1_subset.proofs.Smallest.{smallest_is}
 
 -- ---- searches
 
--- the first of a map's keys that passes is the smallest of a set's, where what passes is in both
+-- the first key of a map that passes is the smallest of a set, if what passes is in both
 module _ {K X : Type 0} {R : K → K → Ordering} (o : IsTotalOrder R) (same : IsAntisymmetric R) (p : K → Bool) (a : maps.FinMap R X) (b : maps.FinMap R ℕ) (in_a : (k : K) → p k ≡ true → maps.contains_key a k ≡ true) (in_b : (k : K) → p k ≡ true → maps.contains_key b k ≡ true) where
   same_at : (x : Option K) → first_where p (maps.keys a) ≡ x → x ≡ smallest p b
   same_at None h = sym (passes_none p (members b) (nothing o same p a in_a h))
@@ -38,6 +38,7 @@ module _ {K X : Type 0} {R : K → K → Ordering} (o : IsTotalOrder R) (same : 
   pub same_search : first_where p (maps.keys a) ≡ smallest p b
   same_search = same_at (first_where p (maps.keys a)) refl
 
+-- the key of the first entry that passes is the first key that passes
 first_keys : (P : Meaning × Meaning → Bool) (p : Meaning → Bool) (es : List (Meaning × Meaning)) → AllByRecursion (λ e. P e ≡ p e.0) es → option_map (λ e. e.0) (first_where P es) ≡ first_where p (map (λ e. e.0) es)
 first_keys P p [] h = refl
 first_keys P p (e ∷ es) h =
@@ -45,6 +46,7 @@ first_keys P p (e ∷ es) h =
     ∙ (elim (p e.0) as (λ b. option_map (λ e. e.0) (cond b (Some e) (first_where P es)) ≡ cond b (Some e.0) (first_where p (map (λ e. e.0) es))) [ true ↦ refl | false ↦ first_keys P p es h.1 ])
 
 module _ (clashes : State → State → Bool) (s t : TableMeaning) (p : Meaning → Bool) (at : (n : Meaning) → clashes (maps.get s n) (maps.get t n) ≡ p n) where
+  -- the first clash in a table is the smallest name of a set whose states clash
   pub first_clash_is : (b : KeySet name_cmp) → ((n : Meaning) → p n ≡ true → maps.contains_key s n ≡ true) → ((n : Meaning) → p n ≡ true → maps.contains_key b n ≡ true) → first_clash clashes s t ≡ smallest p b
   first_clash_is b in_s in_b =
       first_keys (λ e. clashes (Some e.1) (maps.get t e.0)) p (maps.entries s) (entries_all nat_list_cmp_total name_same (λ n v. clashes (Some v) (maps.get t n) ≡ p n) s (λ n v is. ap (λ x. clashes x (maps.get t n)) (sym is) ∙ at n))
@@ -56,6 +58,7 @@ charstring_at : (f : FontValue) (n : List ℕ) (x : Option (List ℕ)) → behin
 charstring_at f n (Some c) = refl
 charstring_at f n None = elim (is_sought profile f n) as (λ b. behind_mark (meant (cond b (Some None) None)) ≡ None) [ true ↦ refl | false ↦ refl ]
 
+-- a name is sought in the table if the font lacks and seeks it
 sought_at : (f : FontValue) (n : List ℕ) (x : Option (List ℕ)) → is_sought_in (meant (state_of_glyph profile f n x)) ≡ (not (is_some x) && is_sought profile f n)
 sought_at f n (Some c) = refl
 sought_at f n None = elim (is_sought profile f n) as (λ b. is_sought_in (meant (cond b (Some None) None)) ≡ b) [ true ↦ refl | false ↦ refl ]
@@ -89,6 +92,7 @@ module _ (f g : FontValue) (s t : TableMeaning) (es : s ≡ name_states profile 
 
   -- ---- glyphs
 
+  -- the smallest name with two charstrings that differ is the conflict of glyphs
   pub glyph_found : first_clash charstrings_differ s t ≡ glyph_conflict f g
   glyph_found = first_clash_is charstrings_differ s t (glyph_clashes f g) (λ n i. not (agrees (own_charstring n i) (other_charstring n i))) (glyph_names f g)
       (λ n h. there_so (maps.get s n) (ap is_some (own_charstring n) ∙ there_of (maps.get f.glyphs n) (maps.get g.glyphs n) h))
@@ -96,6 +100,7 @@ module _ (f g : FontValue) (s t : TableMeaning) (es : s ≡ name_states profile 
 
   -- ---- components
 
+  -- the smaller of two names is there if one of them is
   smaller_there : (x y : Option (List ℕ)) → is_some (smaller name_cmp x y) ≡ (is_some x || is_some y)
   smaller_there None y = refl
   smaller_there (Some m) None = refl
@@ -105,7 +110,7 @@ module _ (f g : FontValue) (s t : TableMeaning) (es : s ≡ name_states profile 
       some_either true = refl
       some_either false = refl
 
-  -- a font that has a component doesn't seek it
+  -- a component with a seeker is lacking in its font
   seeks_not : (h : FontValue) (p : List ℕ) → is_some (seeker_of h p) ≡ (not (has h p) && is_some (seeker_of h p))
   seeks_not h p = sought_is h p ∙ twice (not (has h p)) (is_sought profile h p) ∙ ap (λ b. not (has h p) && b) (sym (sought_is h p))
     where
@@ -128,9 +133,11 @@ module _ (f g : FontValue) (s t : TableMeaning) (es : s ≡ name_states profile 
   lacks_so false false false true = refl
   lacks_so false false false false = refl
 
+  -- some glyph wants a component if the component has a seeker in one of the fonts
   wanted_so : (p : List ℕ) → list_any (wanted_by profile f g p) (members (glyph_names f g)) ≡ (is_some (seeker_of f p) || is_some (seeker_of g p))
   wanted_so p = any_first (wanted_by profile f g p) (members (glyph_names f g)) ∙ ap is_some (sym (smallest_seeker f g p)) ∙ smaller_there (seeker_of f p) (seeker_of g p)
 
+  -- one font seeks a name that the other has exactly if the component is in conflict
   lacking_so : (p : List ℕ) → one_lacks (maps.get s p) (maps.get t p) ≡ component_clashes profile f g p
   lacking_so p =
       (λ i. ((own_seeks p ∙ seeks_not f p) i && is_some (other_charstring p i)) || ((other_seeks p ∙ seeks_not g p) i && is_some (own_charstring p i)))
@@ -144,6 +151,7 @@ module _ (f g : FontValue) (s t : TableMeaning) (es : s ≡ name_states profile 
   lacking_there None (Some (mark ∷ c)) h = h
   lacking_there (Some v) y h = refl
 
+  -- the smallest name that one seeks and the other has is the conflict of components
   pub component_found : first_clash one_lacks s t ≡ component_conflict profile f g
   component_found = first_clash_is one_lacks s t (component_clashes profile f g) lacking_so (glyph_names f g)
       (λ n h. lacking_there (maps.get s n) (maps.get t n) (lacking_so n ∙ h))

@@ -17,18 +17,21 @@ use Rattle.t1_subset.specs.StateTables.{numbered}
 use Rattle.t1_subset.proofs.Maps.{get-merged}
 use Rattle.t1_subset.specs.States.{joined}
 
+-- entries with their numbers as keys of a table
 abbrev keyed : List (ℕ × List ℕ) → List (Meaning × Meaning)
 keyed es = map (λ e. (of_number e.0, e.1)) es
 
--- what stands at a number, and nothing at what is none
+-- the value at a key that stands for a number, and nothing at any other key
 abbrev pub at_number : (ℕ → Option (List ℕ)) → Meaning → Option Meaning
 at_number x [] = None
 at_number x (n ∷ []) = x n
 at_number x (a ∷ b ∷ rest) = None
 
+-- a longer key stands for no number
 no_number : (a b k : ℕ) (rest : List ℕ) → eq_by_cmp meaning_cmp (a ∷ b ∷ rest) (of_number k) ≡ false
 no_number a b k rest = elim (nat_cmp a k) as (λ o. is_eq (ordering_then o Greater) ≡ false) [ Less ↦ refl | Equal ↦ refl | Greater ↦ refl ]
 
+-- keys are the same if their numbers are
 pub by_number : (i n : ℕ) → eq_by_cmp meaning_cmp (of_number i) (of_number n) ≡ eq_by_cmp nat_cmp i n
 by_number i n = ap is_eq (sym (by_number_law i n))
 
@@ -52,6 +55,7 @@ module _ (m : Numbered) where
   rises : T (is_sorted meaning_cmp (keyed (maps.entries m)))
   rises = subst T (sym (sorted_keyed (maps.entries m))) (maps.entries_sorted m)
 
+  -- the entries of a table by number are those of its map
   pub entries-numbered : maps.entries (numbered m) ≡ keyed (maps.entries m)
   entries-numbered = maps.entries-from_sorted meaning_cmp (keyed (maps.entries m)) rises
 
@@ -60,10 +64,11 @@ module _ (m : Numbered) where
   at_same x y h (n ∷ []) = h n
   at_same x y h (a ∷ b ∷ rest) = refl
 
+  -- a table by number has the values of its map
   pub get-numbered : (q : Meaning) → maps.get (numbered m) q ≡ at_number (maps.get m) q
   get-numbered q = maps.get-entries (numbered m) q ∙ ap (find meaning_cmp q) entries-numbered ∙ find_keyed (maps.entries m) q ∙ at_same _ _ (λ n. sym (maps.get-entries m n)) q
 
--- a table by number has what its map has
+-- a table with the values of a map is the map as a table
 pub numbered_is : (t : TableMeaning) (m : Numbered) → ((q : Meaning) → maps.get t q ≡ at_number (maps.get m) q) → t ≡ numbered m
 numbered_is t m h = same_table t (numbered m) (λ q. h q ∙ sym (get-numbered m q))
 

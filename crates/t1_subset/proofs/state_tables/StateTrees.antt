@@ -24,14 +24,16 @@ use Rattle.t1_subset.proofs.Fonts.{font_within}
 use Rattle.t1_subset.proofs.ManyMerges.{tells_none}
 use Rattle.t1_subset.proofs.Orders.{grouped, merges_by_states, any_order, one_result}
 
+-- a grouping of fonts groups the states of all of them
 pub uses_all : (t : Grouping FontValue) (fs : List FontValue) → leaves t ≡ fs → Uses (grouped profile t) (map (states_of profile) fs)
 uses_all t fs e = uses_its (grouped profile t) (map (states_of profile) fs) (leaves_mapped (states_of profile) t ∙ ap (map (states_of profile)) e)
 
+-- fonts are within the limits
 pub all_within : (fs : List FontValue) → AllByRecursion IsFont fs → AllByRecursion IsWithin fs
 all_within [] h = tt
 all_within (f ∷ fs) h = (font_within f h.0, all_within fs h.1)
 
--- where the states of all join, each grouping merges
+-- if the states of all fonts join, each grouping of the fonts merges
 pub each_grouping : (fs : List FontValue) → AllByRecursion IsFont fs → (v : StatesValue) → IsJoinOf StatesJoin (map (states_of profile) fs) (Some v) → EachGroupingMerges fs
 each_grouping fs w v h t e =
     let r = merges_by_states profile t (each_leaf IsWithin t (subst (AllByRecursion IsWithin) (sym e) (all_within fs w))) v (h.1 (grouped profile t) (uses_all t fs e)) in
@@ -39,17 +41,20 @@ each_grouping fs w v h t e =
 
 -- ---- parts of a list
 
+-- one or more fonts have a grouping
 some_tree : (fs : List FontValue) → 0 < length fs → (t : Grouping FontValue) × (leaves t ≡ fs)
 some_tree [] l = absurd (omega arith)
 some_tree (f ∷ fs) l = (from_left (one f) fs, leaves_from_left (one f) fs)
 
 module _ (fs front back : List FontValue) (h : EachGroupingMerges fs) (e : front ++ back ≡ fs) where
+  -- each grouping of the first half merges
   pub of_front : 0 < length back → EachGroupingMerges front
   of_front l t is =
       let u = some_tree back l in
       let r = h (two t u.0) ((λ i. is i ++ u.1 i) ∙ e) in
       (r.1.0, r.1.2)
 
+  -- each grouping of the second half merges
   pub of_back : 0 < length front → EachGroupingMerges back
   of_back l t is =
       let u = some_tree front l in
@@ -57,24 +62,30 @@ module _ (fs front back : List FontValue) (h : EachGroupingMerges fs) (e : front
       (r.1.1, r.1.3)
 
   module _ (a b : FontValue) (x : SomeGroupingMerges front a) (y : SomeGroupingMerges back b) where
+    -- what both halves merge to joins
     pub halves_join : Join profile a b
     halves_join =
         let r = h (two x.0 y.0) ((λ i. x.1 i ++ y.1 i) ∙ e) in
         subst (λ (b : FontValue). Join profile a b) (one_result profile y.0 r.1.1 b r.1.3 y.2) (subst (λ (a : FontValue). Join profile a r.1.1) (one_result profile x.0 r.1.0 a r.1.2 x.2) r.1.4.0)
 
+    -- what both halves merge to has no conflict of states
     pub halves_free : states_conflict profile a b ≡ None
     halves_free = no_states_conflict profile a b halves_join.states
 
+    -- the join of both halves is what some grouping of all merges to
     pub halves_merge : (j : FontValue) → j ≡ joined_font profile a b → SomeGroupingMerges fs j
     halves_merge j is = (two x.0 y.0, (λ i. x.1 i ++ y.1 i) ∙ e, (a, b, x.2, y.2, (halves_join, sym is)))
 
+    -- halves that join are refused for want of memory alone
     pub halves_refuse : (c : Refusal) → Tells c (conflict profile a b) → c ≡ Memory
     halves_refuse c t = tells_none c (conflict profile a b) ((no_conflict profile a b).1 halves_join) t
 
+    -- an answer that is the join of both halves is what some grouping merges to
     pub merged_ok : (r : Result FontValue Refusal) → IfOk r (λ j. Join profile a b × (j ≡ joined_font profile a b)) → IfOk r (λ j. SomeGroupingMerges fs j)
     merged_ok (Ok j) h = halves_merge j h.1
     merged_ok (Err c) h = tt
 
+    -- a refusal of both halves is want of memory
     pub merged_err : (r : Result FontValue Refusal) → IfErr r (λ c. Tells c (conflict profile a b)) → IfErr r (λ c. c ≡ Memory)
     merged_err (Ok j) h = tt
     merged_err (Err c) h = halves_refuse c h
@@ -84,24 +95,27 @@ lone [] d l = absurd (omega arith)
 lone (f ∷ []) d l = refl
 lone (f ∷ g ∷ fs) d l = absurd (omega arith)
 
+-- a list of one font merges to it
 pub one_merges : (fs : List FontValue) (f d j : FontValue) → length fs ≡ 1 → f ≡ get_or fs 0 d → j ≡ f → SomeGroupingMerges fs j
 one_merges fs f d j l e is = (one j, ap (λ (g : FontValue). g ∷ []) (is ∙ e) ∙ lone fs d l, refl)
 
+-- an answer for a list of one font is what some grouping merges to
 pub one_ok : (fs : List FontValue) (f d : FontValue) → length fs ≡ 1 → f ≡ get_or fs 0 d → (r : Result FontValue Refusal) → IfOk r (λ j. j ≡ f) → IfOk r (λ j. SomeGroupingMerges fs j)
 one_ok fs f d l e (Ok j) h = one_merges fs f d j l e h
 one_ok fs f d l e (Err c) h = tt
 
+-- a list of two fonts has its first and its second
 pub pair : (fs : List FontValue) (f g d d2 : FontValue) → length fs ≡ 2 → f ≡ get_or fs 0 d → g ≡ get_or fs 1 d2 → f ∷ g ∷ [] ≡ fs
 pair [] f g d d2 l e k = absurd (omega (arith, l))
 pair (a ∷ []) f g d d2 l e k = absurd (omega (arith, l))
 pair (a ∷ b ∷ []) f g d d2 l e k = λ i. e i ∷ k i ∷ []
 pair (a ∷ b ∷ c ∷ fs) f g d d2 l e k = absurd (omega (arith, l))
 
--- a font alone merges
+-- a single font merges to itself
 pub alone : (f : FontValue) → SomeGroupingMerges (f ∷ []) f
 alone f = (one f, refl, refl)
 
--- one grouping merges as the merges from left to right do
+-- fonts of which some grouping merges come to the same from left to right
 pub comes_to : (fs : List FontValue) → 0 < length fs → AllByRecursion IsFont fs → (j : FontValue) → SomeGroupingMerges fs j → ComesTo fs j
 comes_to [] l w j h = absurd (omega arith)
 comes_to (f ∷ fs) l w j h =
@@ -109,31 +123,35 @@ comes_to (f ∷ fs) l w j h =
     any_order profile h.0 (from_left (one f) fs) (subst (IsPermutation (leaves h.0)) same (IsPermutation-refl (leaves h.0)))
     (each_leaf IsWithin h.0 (subst (AllByRecursion IsWithin) (sym h.1) (all_within (f ∷ fs) w))) j h.2
 
+-- an answer that some grouping merges to is what the fonts come to from left to right
 pub comes_ok : (fs : List FontValue) → 0 < length fs → AllByRecursion IsFont fs → (r : Result FontValue Refusal) → IfOk r (λ j. SomeGroupingMerges fs j) → IfOk r (λ j. ComesTo fs j)
 comes_ok fs l w (Ok j) h = comes_to fs l w j h
 comes_ok fs l w (Err c) h = tt
 
--- want of memory may be answered of any fonts, one or more
+-- want of memory may be answered for any fonts, one or more
 pub refused_memory : (fs : List FontValue) → 0 < length fs → (e : Refusal) → e ≡ Memory → IsRefused fs e
 refused_memory [] l e h = absurd (omega arith)
 refused_memory (f ∷ fs) l e h = inl h
 
+-- a refusal for want of memory alone is a refusal of one or more fonts
 pub refused_err : (fs : List FontValue) → 0 < length fs → (r : Result FontValue Refusal) → IfErr r (λ e. e ≡ Memory) → IfErr r (λ e. IsRefused fs e)
 refused_err fs l (Ok j) h = tt
 refused_err fs l (Err c) h = refused_memory fs l c h
 
 -- ---- the states of each font
 
--- where the states of fonts have a join each grouping of the fonts merges
+-- if the states of fonts have a join, each grouping of the fonts merges
 pub have_groupings : (fs : List FontValue) → AllByRecursion IsFont fs → (b : Bool) → b ≡ true → HaveJoin StatesJoin (map (states_of profile) fs) b → EachGroupingMerges fs
 have_groupings fs w true t h = each_grouping fs w h.0 h.1
 have_groupings fs w false t h = cc
 
 -- ---- the join of the states of a list by that of its halves
 
+-- the states of the fonts of some callers
 abbrev states : List Callers → List StatesValue
 states cs = map (states_of profile) (fonts_of cs)
 
+-- the join of the states of one font is its states
 pub lone_state : (cs : List Callers) (c d : Callers) → length cs ≡ 1 → c ≡ get_or cs 0 d → (s : StatesValue) → s ≡ states_of profile c.font.now → IsJoinOf StatesJoin (states cs) (Some s)
 lone_state cs c d l e s is = only_itself states_laws (states_of profile c.font.now) s (states cs) (ap states (sym (lone cs d l) ∙ ap (λ (b : Callers). b ∷ []) (sym e)))
     (subst (StatesJoin (states_of profile c.font.now) (states_of profile c.font.now)) (sym is) (states_laws.idempotent (states_of profile c.font.now)))
@@ -145,23 +163,29 @@ module _ (cs front back : List Callers) (e : front ++ back ≡ cs) (p : 0 < leng
   counted : (ds : List Callers) → 0 < length ds → 0 < length (states ds)
   counted ds l = let n = length-map (fonts_of ds) (states_of profile) in let m = length-map ds (λ (c : Callers). c.font.now) in omega (arith, n, m, l)
 
+  -- if the states of the first half have no join, all have none
   pub front_apart : (o : Option StatesValue) → o ≡ None → IsJoinOf StatesJoin (states front) o → IsJoinOf StatesJoin (states cs) None
   front_apart o is h = none_of_front states_laws (states front) (states back) (states cs) whole (counted front p) (counted back q) (subst (IsJoinOf StatesJoin (states front)) is h)
 
+  -- if the states of the second half have no join, all have none
   pub back_apart : (o : Option StatesValue) → o ≡ None → IsJoinOf StatesJoin (states back) o → IsJoinOf StatesJoin (states cs) None
   back_apart o is h = none_of_back states_laws (states front) (states back) (states cs) whole (counted front p) (counted back q) (subst (IsJoinOf StatesJoin (states back)) is h)
 
   module _ (o n : Option StatesValue) (a b : StatesValue) (is_a : o ≡ Some a) (is_b : n ≡ Some b) (h : IsJoinOf StatesJoin (states front) o) (k : IsJoinOf StatesJoin (states back) n) where
+    -- if the joins of both halves don't agree, all states have no join
     pub both_apart : ¬ StatesAgree a b → IsJoinOf StatesJoin (states cs) None
     both_apart apart = halves_apart states_laws (states front) (states back) (states cs) whole (counted front p) (counted back q) a b (subst (IsJoinOf StatesJoin (states front)) is_a h) (subst (IsJoinOf StatesJoin (states back)) is_b k) apart
 
+    -- the join of the joins of both halves is that of all
     pub both_joined : (z : StatesValue) → StatesJoin a b z → IsJoinOf StatesJoin (states cs) (Some z)
     both_joined z j = joined_halves states_laws (states front) (states back) (states cs) whole (counted front p) (counted back q) a b (subst (IsJoinOf StatesJoin (states front)) is_a h) (subst (IsJoinOf StatesJoin (states back)) is_b k) z j
 
+    -- all states have a join exactly if the joins of both halves agree
     pub both_answered : (r : Bool) → (r ≡ true) ↔ StatesAgree a b → HaveJoin StatesJoin (states cs) r
     both_answered true j = let z = states_laws.some_answer a b (j.0 refl) in (z.0, both_joined z.0 z.1)
     both_answered false j = both_apart (λ h. absurd (true≢false (sym (j.1 h))))
 
+-- the states of one font have a join
 pub lone_answered : (cs : List Callers) → length cs ≡ 1 → HaveJoin StatesJoin (states cs) true
 lone_answered [] l = absurd (omega (arith, l))
 lone_answered (c ∷ []) l = (states_of profile c.font.now, lone_state (c ∷ []) c c refl refl (states_of profile c.font.now) refl)

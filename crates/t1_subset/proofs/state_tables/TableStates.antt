@@ -35,6 +35,7 @@ meanings_as_bytes v w = both_ways (same_meaning v w) (same_bytes v w)
     (λ h. subst (λ (u : List ℕ). same_bytes v u ≡ true) (same_meaning-true v w h) (bytes_decide.self v))
     (λ h. subst (λ (u : List ℕ). same_meaning v u ≡ true) (bytes_decide.so v w h) (same_meaning-self v))
 
+-- two ways to test whether states agree are the same
 agree_alike : (x y : Option Meaning) → states_agree x y ≡ agrees x y
 agree_alike None y = refl
 agree_alike (Some v) None = refl
@@ -55,30 +56,35 @@ less_of k c l = elim (nat_cmp k c) as (λ o. MatchOrdering o (k < c) (k ≡ c) (
 
 -- ---- tables by number
 
--- the table shows the states of the numbers
+-- the table has the state of each number
 abbrev pub Shows : TableMeaning → (ℕ → Option (List ℕ)) → Type 0
 Shows t x = (i : ℕ) → maps.get t (of_number i) ≡ x i
 
+-- the table of codes shows the name of each code
 pub shows_codes : (e : Encoding) (t : TableMeaning) → t ≡ code_states e → Shows t (code_state e)
 shows_codes (Word w) t is i = ap (λ (t : TableMeaning). maps.get t (of_number i)) is ∙ maps.get-empty meaning_cmp (of_number i)
 shows_codes (Codes s) t is i = ap (λ (t : TableMeaning). maps.get t (of_number i)) is ∙ get-numbered s (of_number i)
 
+-- the table of Subrs shows the state of each index
 pub shows_subrs : (f : FontValue) (t : TableMeaning) → t ≡ numbered (used_subrs profile f) → Shows t (subr_state profile f)
 shows_subrs f t is i = ap (λ (t : TableMeaning). maps.get t (of_number i)) is ∙ get-numbered (used_subrs profile f) (of_number i) ∙ get-used profile f i
 
 module _ (m n : TableMeaning) (x y : ℕ → Option (List ℕ)) (sx : Shows m x) (sy : Shows n y) where
+  -- if two tables agree, no states are in conflict
   pub none_clashes : TablesAgree m n → (i : ℕ) → not (agrees (x i) (y i)) ≡ false
   none_clashes h i = no_clash _ _ (x i) (y i) (sx i) (sy i) (h (of_number i))
 
+  -- the states at the first conflict of two tables are in conflict
   pub it_clashes : (k : ℕ) → IsFirstConflict m n (of_number k) → not (agrees (x k) (y k)) ≡ true
   it_clashes k h = clash _ _ (x k) (y k) (sx k) (sy k) h.differs
 
+  -- no states below the first conflict are in conflict
   pub none_below : (k : ℕ) → IsFirstConflict m n (of_number k) → (i : ℕ) → nat_cmp i k ≡ Less → not (agrees (x i) (y i)) ≡ false
   none_below k h i l = no_clash _ _ (x i) (y i) (sx i) (sy i) (h.first (of_number i) (sym (by_number_law i k) ∙ l))
 
 -- ---- the table of glyphs
 
--- what a lent value gives
+-- a function of a borrowed value is one of what it stands for
 pub read_lent : {X : Type 0} (f : List ℕ → X) (x : Option (Bor (List ℕ))) → option_map (λ c. f c.now) x ≡ option_map f (option_map (λ c. c.now) x)
 read_lent f None = refl
 read_lent f (Some c) = refl
@@ -87,11 +93,11 @@ keys_valued : (f : List ℕ → List ℕ → List ℕ) (es : List (List ℕ × L
 keys_valued f [] = refl
 keys_valued f (e ∷ es) = ap (λ (ns : List (List ℕ)). e.0 ∷ ns) (keys_valued f es)
 
--- other values make no difference to the keys
+-- a map with other values has the same names
 pub keys-valued : (f : List ℕ → List ℕ → List ℕ) (m : Named) → names_in (map_values f m) ≡ names_in m
 keys-valued f m = ap (map (λ e. e.0)) (entries-map_values nat_list_cmp_total name_same f m) ∙ keys_valued f (maps.entries m)
 
--- the table has the glyphs but for those of these names, which are the font's
+-- the table has the glyphs of all names except those that are left, which the font has
 pub record Fills (g : Named) (t : TableMeaning) (left : List (List ℕ)) : Type 0 where
   pub shown : (q : List ℕ) → list_any (same_bytes q) left ≡ false → maps.get t q ≡ maps.get g q
   pub there : (q : List ℕ) → list_any (same_bytes q) left ≡ true → maps.contains_key g q ≡ true
@@ -101,12 +107,14 @@ not_there None h = refl
 not_there (Some v) h = absurd (true≢false h)
 
 module _ (g : Named) where
+  -- before any glyph is put, all names are left
   pub fills_none : (t : TableMeaning) (left : List (List ℕ)) → t ≡ maps.empty → left ≡ names_in g → Fills g t left
   fills_none t left e is = record {
     shown = λ q h. ap (λ (t : TableMeaning). maps.get t q) e ∙ maps.get-empty meaning_cmp q ∙ not_there (maps.get g q) (maps.contains_key-keys g q ∙ ap (list_any (same_bytes q)) (sym is) ∙ h);
     there = λ q h. maps.contains_key-keys g q ∙ ap (list_any (same_bytes q)) (sym is) ∙ h;
   }
 
+  -- putting the glyph of the next name takes it from those left
   pub fills_more : (t u : TableMeaning) (n c : List ℕ) (left : List (List ℕ)) → Fills g t (n ∷ left) → maps.get g n ≡ Some c → u ≡ maps.insert t n c → Fills g u left
   fills_more t u n c left h e is = record {
     shown = λ q w. ap (λ (t : TableMeaning). maps.get t q) is ∙ maps.get-insert nat_list_cmp_total t n c q
@@ -117,27 +125,32 @@ module _ (g : Named) where
     there = λ q w. h.there q (later (same_bytes q) n left w);
   }
 
+  -- putting the state of the next name takes it from those left
   pub fills_next : (t u : TableMeaning) (n : List ℕ) (left : List (List ℕ)) (s : Option (List ℕ)) → Fills g t (n ∷ left) → u ≡ with_state t n s → s ≡ maps.get g n → Fills g u left
   fills_next t u n left None h is e = absurd (true≢false (sym (h.there n (here (same_bytes n) n left (itself nat_list_cmp_total name_same n))) ∙ ap is_some (sym e)))
   fills_next t u n left (Some c) h is e = fills_more t u n c left h (sym e) is
 
+  -- when no name is left, the table has all glyphs
   pub fills_all : (t : TableMeaning) (left : List (List ℕ)) → Fills g t left → left ≡ [] → (q : List ℕ) → maps.get t q ≡ maps.get g q
   fills_all t left h e q = h.shown q (ap (list_any (same_bytes q)) e)
 
 -- ---- the smallest code
 
+-- a code from 256 on has no name
 pub beyond : (f : FontValue) → IsFont f → (c : ℕ) → 256 ≤ c → code_state f.encoding c ≡ None
 beyond f h c l = no_name f.encoding h.encoding c l (code_state f.encoding c) refl
 
 module _ (f g : FontValue) (h : IsFont f) (s t : TableMeaning) (sf : Shows s (code_state f.encoding)) (sg : Shows t (code_state g.encoding)) where
+  -- if the tables of codes agree, no code is in conflict
   pub no_code_differs : TablesAgree s t → None ≡ code_conflict f g
   no_code_differs a = no_code f g h (λ k l. none_clashes s t (code_state f.encoding) (code_state g.encoding) sf sg a k)
 
+  -- the first conflict of the tables of codes is the smallest code in conflict
   pub code_at : (c : ℕ) → IsFirstConflict s t (of_number c) → Some c ≡ code_conflict f g
   code_at c a = first_code f g c (it_clashes s t (code_state f.encoding) (code_state g.encoding) sf sg c a)
       (λ k l. none_below s t (code_state f.encoding) (code_state g.encoding) sf sg c a k (less_of k c l))
 
-  -- a code that differs is one of 256
+  -- a code in conflict is below 256
   pub code_below : (c : ℕ) → IsFirstConflict s t (of_number c) → c < 256
   code_below c a = elim (is_or_not (nat_lt c 256)) [
     | inl l ↦ ltb-true c 256 l
@@ -147,9 +160,11 @@ module _ (f g : FontValue) (h : IsFont f) (s t : TableMeaning) (sf : Shows s (co
 -- ---- the smallest Subr
 
 module _ (f g : FontValue) (h : IsFont f) (s t : TableMeaning) (sf : Shows s (subr_state profile f)) (sg : Shows t (subr_state profile g)) where
+  -- if the tables of Subrs agree, no index is in conflict
   pub no_subr_clashes : TablesAgree s t → None ≡ subr_conflict profile f g
   no_subr_clashes a = no_subr f g h (declared_count f.shell.subrs) (omega arith) (λ k l. none_clashes s t (subr_state profile f) (subr_state profile g) sf sg a k)
 
+  -- the first conflict of the tables of Subrs is the smallest index in conflict
   pub subr_at_conflict : (i : ℕ) → IsFirstConflict s t (of_number i) → Some i ≡ subr_conflict profile f g
   subr_at_conflict i a = first_subr f g i (it_clashes s t (subr_state profile f) (subr_state profile g) sf sg i a)
       (λ k l. none_below s t (subr_state profile f) (subr_state profile g) sf sg i a k (less_of k i l))

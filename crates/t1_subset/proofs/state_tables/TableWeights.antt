@@ -18,10 +18,11 @@ use Rattle.t1_font.specs.FontValue.{total}
 use Rattle.t1_subset.specs.StateTables.{new_entries}
 
 module _ {K X : Type 0} {R : K → K → Ordering} (o : IsTotalOrder R) (w : K → X → ℕ) where
-  -- the entries of fs whose keys es lacks
+  -- the entries of fs whose keys are not in es
   abbrev left_over : List (K × X) → List (K × X) → List (K × X)
   left_over es fs = filter (λ f. not (is_some (find R f.0 es))) fs
 
+  -- all entries are left over beside no entries
   all_left : (fs : List (K × X)) → total w fs ≡ total w (left_over [] fs)
   all_left [] = refl
   all_left (f ∷ fs) = ap (λ n. w f.0 f.1 + n) (all_left fs)
@@ -32,12 +33,13 @@ module _ {K X : Type 0} {R : K → K → Ordering} (o : IsTotalOrder R) (w : K �
   not_tied : (e : K × X) (q : K) (es : List (K × X)) → R e.0 q ≡ Less → find R q (e ∷ es) ≡ find R q es
   not_tied e q es h = ap (λ r. cond (is_eq r) (Some e.1) (find R q es)) (o.antisymm q e.0 ∙ ap ordering_reverse h)
 
-  -- a key below all of them makes no difference
+  -- an entry whose key is below all of fs leaves the same entries over
   same_left : (e : K × X) (es fs : List (K × X)) → T (below_all R e.0 fs) → left_over (e ∷ es) fs ≡ left_over es fs
   same_left e es [] h = refl
   same_left e es (f ∷ fs) h =
       λ i. cond (not (is_some (not_tied e f.0 es (lt_is _ (both_true _ _ h).0) i))) (f ∷ same_left e es fs (both_true _ _ h).1 i) (same_left e es fs (both_true _ _ h).1 i)
 
+  -- merged entries sum to the first and what is left over of the second
   sum_weave : (e : K × X) (es fs : List (K × X)) → T (below_all R e.0 es) → ((gs : List (K × X)) → Rises R gs → total w (merge R es gs) ≡ total w es + total w (left_over es gs)) → Rises R fs
       → total w (weave R e (merge R es) fs) ≡ total w (e ∷ es) + total w (left_over (e ∷ es) fs)
   sum_weave e es [] b k h = let rest = k [] tt in omega arith
@@ -67,7 +69,7 @@ module _ {K X : Type 0} {R : K → K → Ordering} (o : IsTotalOrder R) (w : K �
   sum_merge [] fs g h = omega (arith, all_left fs)
   sum_merge (e ∷ es) fs g h = sum_weave e es fs (both_true _ _ g).0 (λ gs k. sum_merge es gs (both_true _ _ g).1 k) h
 
-  -- the entries of a joined table are those of the first, and those of the second at other keys
+  -- a joined table sums to the entries of the first and those of the second at other keys
   pub total-merged : IsAntisymmetric R → (m n : maps.FinMap R X) → total w (maps.entries (merged m n)) ≡ total w (maps.entries m) + total w (new_entries m (maps.entries n))
   total-merged same m n =
       let es = maps.entries m in
@@ -83,19 +85,22 @@ module _ {K X : Type 0} {R : K → K → Ordering} (o : IsTotalOrder R) (w : K �
 pub total-new : {K X : Type 0} {R : K → K → Ordering} (w : K → X → ℕ) (m : maps.FinMap R X) (e : K × X) (es : List (K × X)) → total w (new_entries m (e ∷ es)) ≡ cond (maps.contains_key m e.0) 0 (w e.0 e.1) + total w (new_entries m es)
 total-new w m e es = elim (maps.contains_key m e.0) as (λ b. total w (cond (not b) (e ∷ new_entries m es) (new_entries m es)) ≡ cond b 0 (w e.0 e.1) + total w (new_entries m es)) [ true ↦ omega arith | false ↦ omega arith ]
 
+-- a copy of what is borrowed is there if it is
 pub some_copied : {V : Type 0} {X : Type 0} (f : V → X) (r : Option (Bor V)) → is_some r ≡ is_some (option_map f (option_copied r))
 some_copied f None = refl
 some_copied f (Some v) = refl
 
--- so far, and with what is left
+-- the sum so far, with what is left to add, comes to the whole, as far as 64 bits hold it
 pub record Adding {K X : Type 0} {R : K → K → Ordering} (w : K → X → ℕ) (m : maps.FinMap R X) (es : List (K × X)) (before sum : ℕ) (left : List (K × X)) : Type 0 where
   pub small : sum ≤ 18446744073709551615
   pub all : clamp (sum + total w (new_entries m left)) ≡ clamp (before + total w (new_entries m es))
 
 module _ {K X : Type 0} {R : K → K → Ordering} (w : K → X → ℕ) (m : maps.FinMap R X) (es : List (K × X)) (before : ℕ) where
+  -- before any entry is added, all are left
   pub adds_none : (left : List (K × X)) → before ≤ 18446744073709551615 → left ≡ es → Adding w m es before before left
   adds_none left h e = record { small = h; all = ap (λ (fs : List (K × X)). clamp (before + total w (new_entries m fs))) e }
 
+  -- adding what the next entry weighs keeps the whole as it was
   pub adds_next : (sum n new : ℕ) (e : K × X) (left rest : List (K × X)) → Adding w m es before sum left → left ≡ e ∷ rest → n ≡ cond (maps.contains_key m e.0) 0 (w e.0 e.1) → new ≡ min (sum + n) 18446744073709551615 → Adding w m es before new rest
   adds_next sum n new e left rest a is en ew = record {
     small = clamp_fits (sum + n) new ew;
@@ -105,5 +110,6 @@ module _ {K X : Type 0} {R : K → K → Ordering} (w : K → X → ℕ) (m : ma
         ∙ a.all;
   }
 
+  -- when nothing is left, the sum is the whole
   pub adds_all : (sum : ℕ) (left : List (K × X)) → Adding w m es before sum left → left ≡ [] → sum ≡ clamp (before + total w (new_entries m es))
   adds_all sum left a e = clamp_all sum _ a.small (sym a.all ∙ ap (λ (fs : List (K × X)). clamp (sum + total w (new_entries m fs))) e)

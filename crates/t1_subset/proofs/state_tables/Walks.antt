@@ -1,4 +1,4 @@
--- Fonts from left to right, by their states and callers.
+-- Merging fonts from left to right, by their states and callers.
 use Rattle.std.proofs.Common.{◌≡◌, ◌<◌, ◌≤◌, ◌+◌, ℕ, zero, suc, inl, inr, ◌⊎◌, Bool, true, false, cond, List, [], ◌∷◌, ◌++◌, length, take, take_all, drop, get_or, refl, sym, ◌∙◌, ap, subst, arith, Some, None, Result, Ok, Err, IfOk, IfErr, IsPermutation}
 use Rattle.std.proofs.lemmas.List.{length-map, map-append, take_more, take-append-drop}
 use Rattle.std.proofs.lemmas.List.Sorted.{IsPermutation-refl}
@@ -33,13 +33,14 @@ use Rattle.t1_subset.proofs.state_tables.StateTrees.{all_within}
 
 -- ---- two fonts
 
--- what a joined value of the states is
+-- if the states of two fonts join, the fonts do, and to a font of the joined states
 pub joins_to : (s t z : StatesValue) (f g : FontValue) → AreStatesOf s t f g → StatesJoin s t z → Join profile f g × (z ≡ states_of profile (joined_font profile f g))
 joins_to s t z f g h j =
     let k : StatesJoin (states_of profile f) (states_of profile g) z = subst (λ (t : StatesValue). StatesJoin (states_of profile f) t z) h.other (subst (λ (s : StatesValue). StatesJoin s t z) h.own j) in
     let join = (join_exactly profile f g (font_within f h.own_font)).0 (z, k) in
     (join, states_laws.one_answer _ _ _ _ k (states_join profile f g join))
 
+-- fonts that don't join and have no conflict of states are over the limits
 over : (f g : FontValue) → (Join profile f g → ⊥) → states_conflict profile f g ≡ None → conflict profile f g ≡ Some OverLimit
 over f g apart free = found_last (is_within profile f g) refl
   where
@@ -47,7 +48,7 @@ over f g apart free = found_last (is_within profile f g) refl
     found_last true e = absurd (apart ((no_conflict profile f g).0 (λ i. found (λ c. c) (free i) (cond (e i) None (Some OverLimit)))))
     found_last false e = λ i. found (λ c. c) (free i) (cond (e i) None (Some OverLimit))
 
--- where nothing but the limits can refuse them, they tell the limits
+-- if states without a conflict are refused, the limits are told, or memory is wanting
 pub tells_limit : (s t : StatesValue) (f g : FontValue) → AreStatesOf s t f g → states_conflict profile f g ≡ None → (e : Refusal) → (e ≡ refusal.Memory) ⊎ ((e ≡ refusal.Limit) × ¬ StatesAgree s t) → Tells e (conflict profile f g)
 tells_limit s t f g h free e (inl m) = subst (λ (e : Refusal). Tells e (conflict profile f g)) (sym m) tt
 tells_limit s t f g h free e (inr l) =
@@ -56,7 +57,7 @@ tells_limit s t f g h free e (inr l) =
 
 -- ---- from left to right
 
--- the fonts so far come to a font, of which these are the states; their callers are its callers
+-- the fonts so far come to a font with these states, and their callers are its callers
 pub record JoinedSoFar (cs : List Callers) (s : StatesValue) : Type 0 where
   pub font : FontValue
   pub comes : ComesTo (fonts_of cs) font
@@ -64,14 +65,17 @@ pub record JoinedSoFar (cs : List Callers) (s : StatesValue) : Type 0 where
   pub states : s ≡ states_of profile font
   pub callers : CallersSoFar cs font
 
+-- fonts with one more that joins come to the join
 pub comes_last : (fs : List FontValue) (x j : FontValue) → ComesTo fs j → Join profile j x → ComesTo (fs ++ x ∷ []) (joined_font profile j x)
 comes_last [] x j h k = absurd h
 comes_last (f ∷ fs) x j h k = subst (λ (t : Grouping FontValue). Merges profile t (joined_font profile j x)) (sym (left_snoc (one f) fs x)) (j, x, h, refl, (k, refl))
 
+-- fonts are refused for the conflict with the first that does not join
 stops_at : (before : List FontValue) (x : FontValue) (after fs : List FontValue) (j : FontValue) → ComesTo before j → fs ≡ before ++ x ∷ after → (e : Refusal) → Tells e (conflict profile j x) → IsRefused fs e
 stops_at [] x after fs j h is e t = absurd h
 stops_at (f ∷ before) x after fs j h is e t = subst (λ (fs : List FontValue). IsRefused fs e) (sym is) (inr (record { before = before; font = x; after = after; joined = j; list = refl; merges = h; tells = t }))
 
+-- if fonts come to a font, each grouping of them merges
 pub each_merges : (fs : List FontValue) (j : FontValue) → AllByRecursion IsFont fs → ComesTo fs j → EachGroupingMerges fs
 each_merges [] j w h t e = absurd h
 each_merges (f ∷ fs) j w h t e =
@@ -83,10 +87,12 @@ each_merges (f ∷ fs) j w h t e =
 
 -- ---- what is noted of each font
 
+-- the fonts of callers that are noted are fonts
 pub all_fonts : (cs : List Callers) → AreNoted cs → AllByRecursion IsFont (fonts_of cs)
 all_fonts [] h = tt
 all_fonts (c ∷ cs) h = (h.0.0, all_fonts cs h.1)
 
+-- the callers at each place are those of a font
 pub noted_at : (cs : List Callers) → AreNoted cs → (i : ℕ) → i < length cs → (c : Callers) → c ≡ get_or cs i c → IsFont c.font.now × AreCallersOf c c.font.now
 noted_at cs h i l c e = subst (λ (d : Callers). IsFont d.font.now × AreCallersOf d d.font.now) (sym e) (at cs h i l)
   where
@@ -95,16 +101,18 @@ noted_at cs h i l c e = subst (λ (d : Callers). IsFont d.font.now × AreCallers
     at (d ∷ cs) h zero l = h.0
     at (d ∷ cs) h (suc i) l = at cs h.1 i (omega (arith, l))
 
+-- the callers of two lists of fonts are noted apart
 noted_parts : (xs ys : List Callers) → AreNoted (xs ++ ys) → AreNoted xs × AreNoted ys
 noted_parts [] ys h = (tt, h)
 noted_parts (x ∷ xs) ys h = let r = noted_parts xs ys h.1 in ((h.0, r.0), r.1)
 
--- what is noted of the fonts before a place
+-- the callers of the fonts before a place are noted
 pub noted_before : (cs : List Callers) → AreNoted cs → (i : ℕ) → AreNoted (take i cs)
 noted_before cs h i = (noted_parts (take i cs) (drop i cs) (subst AreNoted (sym (take-append-drop i cs)) h)).0
 
 -- ---- a step of the walk
 
+-- the first font comes to itself
 pub starts : (cs : List Callers) → AreNoted cs → (c : Callers) → c ≡ get_or cs 0 c → 0 < length cs → (s : StatesValue) → s ≡ states_of profile c.font.now → JoinedSoFar (take 1 cs) s
 starts cs h c e l s k =
     let noted = noted_at cs h 0 l c e in
@@ -115,12 +123,15 @@ module _ (cs : List Callers) (h : AreNoted cs) (i : ℕ) (l : i < length cs) (c 
   next : take (i + 1) cs ≡ take i cs ++ c ∷ []
   next = take_more cs i c l ∙ ap (λ (d : Callers). take i cs ++ d ∷ []) (sym e)
 
+  -- the states of the font so far and of the next one
   pub next_states : AreStatesOf s t far.font c.font.now
   next_states = record { own_font = far.is_font; other_font = (noted_at cs h i l c e).0; own = far.states; other = k }
 
+  -- the callers up to the next font are those of both
   pub next_callers : (ds : List Callers) → ds ≡ take (i + 1) cs → AreCallers ds far.font c.font.now
   next_callers ds is = subst (λ (ds : List Callers). AreCallers ds far.font c.font.now) (sym (is ∙ next)) (both_callers far.font c.font.now (take i cs) c far.callers (noted_at cs h i l c e).1)
 
+  -- if the next font joins, the fonts come to the join
   pub goes_on : (z : StatesValue) → Join profile far.font c.font.now × (z ≡ states_of profile (joined_font profile far.font c.font.now)) → JoinedSoFar (take (i + 1) cs) z
   goes_on z j =
       let both = joined_font profile far.font c.font.now in
@@ -132,36 +143,45 @@ module _ (cs : List Callers) (h : AreNoted cs) (i : ℕ) (l : i < length cs) (c 
         callers = more_callers far.font c.font.now (take i cs) c far.callers (noted_at cs h i l c e).1 j.0.states;
       })
 
+  -- if the next font doesn't join, the fonts are refused
   pub stops : (r : Refusal) → Tells r (conflict profile far.font c.font.now) → IsRefused (fonts_of cs) r
   stops r told = stops_at (fonts_of (take i cs)) c.font.now (fonts_of (drop (i + 1) cs)) (fonts_of cs) far.font far.comes
       (ap fonts_of (sym (take-append-drop i cs) ∙ ap (λ (ds : List Callers). take i cs ++ ds) (from_here cs i c l e)) ∙ map-append _ (take i cs) (c ∷ drop (i + 1) cs)) r told
 
+-- if no font is left, each grouping of the fonts merges
 pub ends : (cs : List Callers) → AreNoted cs → (i : ℕ) → length cs ≤ i → (s : StatesValue) → JoinedSoFar (take i cs) s → EachGroupingMerges (fonts_of cs)
 ends cs h i l s far = each_merges (fonts_of cs) far.font (all_fonts cs h) (subst (λ (ds : List Callers). ComesTo (fonts_of ds) far.font) (take_all i cs l) far.comes)
 
 -- ---- noting
 
+-- the callers of one more font are noted
 pub noted_more : (cs : List Callers) (c : Callers) (f : FontValue) → AreNoted cs → IsFont f → c.font.now ≡ f → AreCallersOf c f → AreNoted (cs ++ c ∷ [])
 noted_more cs c f h w e k = all_of_both _ cs (c ∷ []) h ((subst IsFont (sym e) w, subst (AreCallersOf c) (sym e) k), tt)
 
+-- the callers of one more font are of one more font of the list
 pub fonts_more : (fs : List FontValue) (i : ℕ) (f : FontValue) → i < length fs → f ≡ get_or fs i f → (cs : List Callers) (c : Callers) → fonts_of cs ≡ take i fs → c.font.now ≡ f → fonts_of (cs ++ c ∷ []) ≡ take (i + 1) fs
 fonts_more fs i f l e cs c h k = map-append _ cs (c ∷ []) ∙ (λ j. h j ++ k j ∷ []) ∙ sym (take_more fs i f l ∙ ap (λ (x : FontValue). take i fs ++ x ∷ []) (sym e))
 
+-- if there are fonts, there are callers
 pub some_noted : (fs : List FontValue) (cs : List Callers) → fonts_of cs ≡ fs → 0 < length fs → 0 < length cs
 some_noted fs cs h l = let n = ap length h in let m = length-map cs (λ (c : Callers). c.font.now) in omega (arith, n, m, l)
 
+-- if there are callers, there are fonts
 pub some_fonts : (cs : List Callers) → 0 < length cs → 0 < length (fonts_of cs)
 some_fonts cs l = let m = length-map cs (λ (c : Callers). c.font.now) in omega (arith, m, l)
 
+-- if the callers of all fonts are noted, all are fonts
 pub font_list : (fs : List FontValue) (cs : List Callers) → fonts_of cs ≡ fs → AreNoted cs → AllByRecursion IsFont fs
 font_list fs cs e h = subst (AllByRecursion IsFont) e (all_fonts cs h)
 
 -- ---- results
 
+-- a joined value of states is that of the join of the fonts
 pub joined_ok : (s t : StatesValue) (f g : FontValue) → AreStatesOf s t f g → (r : Result StatesValue Refusal) → IfOk r (λ z. StatesJoin s t z) → IfOk r (λ z. Join profile f g × (z ≡ states_of profile (joined_font profile f g)))
 joined_ok s t f g h (Ok z) k = joins_to s t z f g h k
 joined_ok s t f g h (Err e) k = tt
 
+-- if there is no conflict of states, a refusal tells the limits or want of memory
 pub joined_err : (s t : StatesValue) (f g : FontValue) → AreStatesOf s t f g → states_conflict profile f g ≡ None → (r : Result StatesValue Refusal) → IfErr r (λ e. (e ≡ refusal.Memory) ⊎ ((e ≡ refusal.Limit) × ¬ StatesAgree s t)) → IfErr r (λ e. Tells e (conflict profile f g))
 joined_err s t f g h free (Ok z) k = tt
 joined_err s t f g h free (Err e) k = tells_limit s t f g h free e k

@@ -6,7 +6,7 @@ use std::alloc::{AllocError, Global};
 use std::test::Fail;
 use t1_font::{Font, Source, read};
 
-/// The names of a closure, each with a blank, and the digits of its Subrs.
+/// The names of a closure, each with a blank after it, and the digits of its Subrs.
 fn text_of(alloc: Global, closure: &Closure) -> Result<Vec<u8>, AllocError> {
     let mut text = Vec::new(alloc);
     for name in &closure.names {
@@ -21,7 +21,7 @@ fn text_of(alloc: Global, closure: &Closure) -> Result<Vec<u8>, AllocError> {
     Ok(text)
 }
 
-/// What names of a font keep, as a text; the name that it lacks.
+/// What names keep of a font, as a text, or the name that the font lacks.
 fn font_keeps(alloc: Global, font: &Font<'_>, names: &[&[u8]]) -> Result<Vec<u8>, AllocError> {
     match closure(alloc, font, names) {
         Ok(closure) => {
@@ -34,7 +34,7 @@ fn font_keeps(alloc: Global, font: &Font<'_>, names: &[&[u8]]) -> Result<Vec<u8>
     }
 }
 
-/// The same of a source's font.
+/// What names keep of a source's font, as a text, or the name that the font lacks.
 fn source_keeps(alloc: Global, source: &Source, names: &[&[u8]]) -> Result<Vec<u8>, AllocError> {
     let font = source.font(alloc)?;
     let kept = font_keeps(alloc, &font, names);
@@ -42,7 +42,7 @@ fn source_keeps(alloc: Global, source: &Source, names: &[&[u8]]) -> Result<Vec<u
     kept
 }
 
-/// The same of a file's font.
+/// What names keep of a file's font, as a text, or the name that the font lacks.
 pub fn kept(alloc: Global, file: &[u8], names: &[&[u8]]) -> Result<Vec<u8>, AllocError> {
     match read(alloc, file) {
         Ok(source) => {
@@ -65,7 +65,7 @@ const KEPT: &[(&[&[u8]], &[u8])] = &[
     (&[b"N"], b".notdef A B N acute 012356"),
 ];
 
-/// Whether names of a file's font keep this, or it is the name that the font lacks.
+/// Whether this is what names keep of a file's font, or the name that the font lacks.
 pub fn keeps(alloc: Global, file: &[u8], names: &[&[u8]], want: &[u8]) -> bool {
     match kept(alloc, file, names) {
         Ok(text) => text.as_slice() == want,
@@ -73,7 +73,7 @@ pub fn keeps(alloc: Global, file: &[u8], names: &[&[u8]], want: &[u8]) -> bool {
     }
 }
 
-/// Whether names of the subset over these names keep this.
+/// Whether this is what the names keep of the subset over them.
 fn cut_keeps(alloc: Global, file: &[u8], names: &[&[u8]], want: &[u8]) -> bool {
     let cut = cut(alloc, file, names);
     keeps(alloc, cut.as_slice(), names, want)
@@ -90,7 +90,7 @@ fn what_names_keep(rt: HostRuntime) -> Result<(), Fail> {
     Ok(())
 }
 
-/// Names of which the font lacks some, and the first that it lacks.
+/// Lists of names that the font lacks in part, and the first that it lacks.
 const ABSENT: &[(&[&[u8]], &[u8])] = &[
     (&[b"Zed"], b"Zed"),
     (&[b"X", b"Zee", b"Zed"], b"Zee"),
@@ -110,7 +110,7 @@ fn lacks(alloc: Global, font: &Font<'_>, names: &[&[u8]], want: &[u8]) -> bool {
     }
 }
 
-/// The same of a source's font.
+/// Whether a subset of a source's font is refused for this name.
 fn source_lacks(alloc: Global, source: &Source, names: &[&[u8]], want: &[u8]) -> bool {
     match source.font(alloc) {
         Ok(font) => {
@@ -122,7 +122,7 @@ fn source_lacks(alloc: Global, source: &Source, names: &[&[u8]], want: &[u8]) ->
     }
 }
 
-/// The same of a file's font.
+/// Whether a subset of a file's font is refused for this name.
 fn file_lacks(alloc: Global, file: &[u8], names: &[&[u8]], want: &[u8]) -> bool {
     match read(alloc, file) {
         Ok(source) => {

@@ -8,7 +8,7 @@ use t1_font::{Font, Form, Source, read, write};
 /// An index or a name as its entry spells it, and its plain charstring.
 pub type Entry = (&'static [u8], &'static [u8]);
 
-/// What a font has beside its tables' entries, as a file spells it.
+/// What a font has beside the entries of its tables, as a file spells it.
 #[derive(Clone, Copy)]
 pub struct Shell {
     pub head: &'static [u8],
@@ -37,8 +37,8 @@ pub const SHELL: Shell = Shell {
     tail: b"\nend\nmark currentfile closefile",
 };
 
-/// Subrs: flex and hint replacement as usual, one that another one calls, two that draw a line, one hint, one of no
-/// bytes, and one that calls itself.
+/// Subrs: the usual ones for flex and hint replacement, one that another Subr calls, two that draw a line, one with a
+/// hint, one of no bytes, and one that calls itself.
 pub const SUBRS: &[Entry] = &[
     (b"0", b"\x8e\x8b\x0c\x10\x0c\x11\x0c\x11\x0c\x21\x0b"),
     (b"1", b"\x8b\x8c\x0c\x10\x0b"),
@@ -80,7 +80,7 @@ pub const GLYPHS: &[Entry] = &[
     (b"acute", b"\xbd\xf7\xc0\x0d\x8b\x16\x90\x0a\x09\x0e"),
 ];
 
-/// The bytes with this many lead bytes that are zero, encrypted.
+/// The bytes after this many lead bytes that are zero, encrypted.
 fn sealed(alloc: Global, plain: &[u8], key: u16, lead: u8) -> Result<Vec<u8>, AllocError> {
     match seal(alloc, plain, key, lead) {
         Ok(cipher) => Ok(cipher),
@@ -88,7 +88,7 @@ fn sealed(alloc: Global, plain: &[u8], key: u16, lead: u8) -> Result<Vec<u8>, Al
     }
 }
 
-/// Adds these parts, one after the other.
+/// Adds these parts one after the other.
 fn push_all(out: &mut Vec<u8>, parts: &[&[u8]]) -> Result<(), AllocError> {
     for part in parts {
         out.extend_from_slice(part)?;
@@ -110,7 +110,7 @@ pub fn put_entry(
     push_all(out, &[cipher.as_slice(), b" ", phrase, b"\n"])
 }
 
-/// The text of a table of Subrs; nothing for a shell without Subrs.
+/// The text of a table of Subrs, or nothing for a shell without Subrs.
 fn subrs_text(alloc: Global, shell: &Shell, subrs: &[Entry]) -> Result<Vec<u8>, AllocError> {
     let mut text = Vec::from_slice(alloc, shell.subrs)?;
     if shell.subrs.is_empty() {
@@ -188,12 +188,12 @@ pub fn whole(alloc: Global) -> Result<Vec<u8>, AllocError> {
     font(alloc, &SHELL, SUBRS, GLYPHS)
 }
 
-/// The file of these with another shell.
+/// The file of the Subrs and the glyphs above with another shell.
 pub fn with_shell(alloc: Global, shell: &Shell) -> Result<Vec<u8>, AllocError> {
     font(alloc, shell, SUBRS, GLYPHS)
 }
 
-/// Entries of which the one at this place is another.
+/// The entries with another entry at this place.
 pub fn replaced(
     alloc: Global,
     entries: &[Entry],
@@ -219,7 +219,7 @@ pub fn with_glyph(alloc: Global, place: usize, glyph: Entry) -> Result<Vec<u8>, 
     font(alloc, &SHELL, SUBRS, glyphs.as_slice())
 }
 
-/// The texts, lent.
+/// The texts, borrowed.
 pub fn lent<'a>(alloc: Global, texts: &'a [Vec<u8>]) -> Result<Vec<&'a [u8]>, AllocError> {
     let mut lent = Vec::new(alloc);
     for text in texts {
@@ -236,7 +236,7 @@ pub fn written(alloc: Global, font: &Font<'_>) -> Vec<u8> {
     write(alloc, font, Form::Pfb).unwrap_or(Vec::new(alloc))
 }
 
-/// The same of its subset; nothing where there is none.
+/// The canonical PFB of a font's subset, or nothing if there is none.
 fn cut_of(alloc: Global, font: &Font<'_>, names: &[&[u8]]) -> Vec<u8> {
     match subset(alloc, font, names) {
         Ok(cut) => {
@@ -248,7 +248,7 @@ fn cut_of(alloc: Global, font: &Font<'_>, names: &[&[u8]]) -> Vec<u8> {
     }
 }
 
-/// The same of the subset of a source's font.
+/// The canonical PFB of the subset of a source's font.
 fn lent_cut(alloc: Global, source: &Source, names: &[&[u8]]) -> Vec<u8> {
     match source.font(alloc) {
         Ok(font) => {
@@ -260,7 +260,7 @@ fn lent_cut(alloc: Global, source: &Source, names: &[&[u8]]) -> Vec<u8> {
     }
 }
 
-/// The same of the subset of a file's font.
+/// The canonical PFB of the subset of a file's font.
 pub fn cut(alloc: Global, file: &[u8], names: &[&[u8]]) -> Vec<u8> {
     match read(alloc, file) {
         Ok(source) => {

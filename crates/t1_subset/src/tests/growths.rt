@@ -7,7 +7,7 @@ use std::alloc::{AllocError, Global};
 use std::test::Fail;
 use t1_font::{Font, Form, Source, read, write};
 
-/// The canonical PFB of what a call answers, and nothing of another refusal.
+/// The canonical PFB of what a call answers, or nothing for another refusal.
 fn file_of(alloc: Global, font: Option<Font<'_>>) -> Result<Vec<u8>, AllocError> {
     match font {
         Some(font) => {
@@ -40,7 +40,7 @@ fn is_written(alloc: Global, font: &Font<'_>, want: &[u8]) -> Result<bool, Alloc
     Ok(file.as_slice() == want)
 }
 
-/// Whether a merger answers the font of this file.
+/// Whether the font of a merger is the font of this file.
 fn is_file(
     alloc: Global,
     answer: Result<Font<'_>, Conflict>,
@@ -67,7 +67,7 @@ fn fonts_merge(alloc: Global, fonts: &[Font<'_>; 2], want: &[u8]) -> Result<bool
     Ok(two && is_file(alloc, merge_all(alloc, fonts), want)?)
 }
 
-/// The same of a font and the subset over Aacute.
+/// Whether a font and the subset of another over Aacute merge, by both calls, to the font of this file.
 fn merges_with_aacute<'a>(
     alloc: Global,
     one: Font<'a>,
@@ -87,7 +87,7 @@ fn merges_with_aacute<'a>(
     }
 }
 
-/// How many Subrs names keep.
+/// How many Subrs names keep of a font.
 fn kept(alloc: Global, font: &Font<'_>, names: &[&[u8]]) -> Result<usize, AllocError> {
     match closure(alloc, font, names) {
         Ok(closure) => {

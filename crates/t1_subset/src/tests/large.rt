@@ -18,7 +18,7 @@ fn numbered(alloc: Global, number: u32) -> Result<Vec<u8>, AllocError> {
     Ok(name)
 }
 
-/// The file of `.notdef` and of glyphs with numbered names, all with these bytes.
+/// The file of `.notdef` and of glyphs with numbered names, each with these bytes.
 fn many(alloc: Global, numbers: Range<u32>, plain: &[u8]) -> Result<Vec<u8>, AllocError> {
     let mut text = glyphs_text(alloc, &SHELL, &[(b".notdef", b"\x0e")])?;
     for number in numbers {
@@ -41,7 +41,7 @@ fn names(alloc: Global, numbers: Range<u32>) -> Result<Vec<Vec<u8>>, AllocError>
     Ok(names)
 }
 
-/// The subset of a file's font over glyphs of these names, where its closure keeps this many.
+/// The subset of a file's font over these names, if their closure keeps this many glyphs.
 fn cut_of(alloc: Global, file: &[u8], names: &[&[u8]], count: usize) -> Vec<u8> {
     let cut = cut(alloc, file, names);
     if count_kept(alloc, file, names) == count && glyph_count(alloc, cut.as_slice()) == count {
@@ -51,7 +51,7 @@ fn cut_of(alloc: Global, file: &[u8], names: &[&[u8]], count: usize) -> Vec<u8> 
     }
 }
 
-/// The same over these names.
+/// The subset of a file's font over these names, if it has these and `.notdef`.
 fn cut_by_names(alloc: Global, file: &[u8], names: &[Vec<u8>]) -> Vec<u8> {
     match lent(alloc, names) {
         Ok(lent) => cut_of(alloc, file, lent.as_slice(), names.len().saturating_add(1)),
@@ -59,7 +59,7 @@ fn cut_by_names(alloc: Global, file: &[u8], names: &[Vec<u8>]) -> Vec<u8> {
     }
 }
 
-/// The subset of a file's font over the glyphs of these numbers, where it has these and `.notdef`.
+/// The subset of a file's font over the glyphs of these numbers, if it has these and `.notdef`.
 fn numbered_cut(alloc: Global, file: &[u8], numbers: Range<u32>) -> Vec<u8> {
     match names(alloc, numbers) {
         Ok(names) => cut_by_names(alloc, file, names.as_slice()),
@@ -67,7 +67,7 @@ fn numbered_cut(alloc: Global, file: &[u8], numbers: Range<u32>) -> Vec<u8> {
     }
 }
 
-/// How many glyphs names of a file's font keep.
+/// How many glyphs names keep of a file's font.
 fn count_kept(alloc: Global, file: &[u8], names: &[&[u8]]) -> usize {
     match kept(alloc, file, names) {
         Ok(text) => text.iter().filter(|byte| **byte == b' ').count(),
@@ -121,7 +121,7 @@ fn thousands_of_glyphs(rt: HostRuntime) -> Result<(), Fail> {
     Ok(())
 }
 
-/// Whether two fonts are too heavy together, in both orders, and the first is not with itself.
+/// Whether two fonts are too heavy together, in both orders, but the first is not with itself.
 fn too_heavy(alloc: Global, one: &[u8], other: &[u8]) -> bool {
     let is_over = matches!(conflict(alloc, one, other), Some(Conflict::Limit));
     is_over && !merged(alloc, one, one).is_empty()

@@ -9,7 +9,7 @@ use std::alloc::{AllocError, Global};
 use std::test::Fail;
 use t1_font::{Font, Form, Source, read, write};
 
-/// The canonical PFB of what two fonts come to; why they don't merge.
+/// The canonical PFB of what two fonts come to, or why they don't merge.
 fn merger<'a>(alloc: Global, left: &Font<'a>, right: &Font<'a>) -> Result<Vec<u8>, Conflict> {
     match merge(alloc, left, right) {
         Ok(both) => {
@@ -21,7 +21,7 @@ fn merger<'a>(alloc: Global, left: &Font<'a>, right: &Font<'a>) -> Result<Vec<u8
     }
 }
 
-/// The same of a font and that of a source.
+/// The canonical PFB of what a font and that of a source come to, or why they don't merge.
 fn merger_with<'a>(alloc: Global, left: &Font<'a>, right: &'a Source) -> Result<Vec<u8>, Conflict> {
     match right.font(alloc) {
         Ok(right) => {
@@ -33,7 +33,7 @@ fn merger_with<'a>(alloc: Global, left: &Font<'a>, right: &'a Source) -> Result<
     }
 }
 
-/// The same of the fonts of two sources.
+/// The canonical PFB of what the fonts of two sources come to, or why they don't merge.
 fn lent_two<'a>(alloc: Global, left: &'a Source, right: &'a Source) -> Result<Vec<u8>, Conflict> {
     match left.font(alloc) {
         Ok(left) => {
@@ -45,7 +45,7 @@ fn lent_two<'a>(alloc: Global, left: &'a Source, right: &'a Source) -> Result<Ve
     }
 }
 
-/// The same of the fonts of a source and of a file.
+/// The canonical PFB of what the fonts of a source and of a file come to, or why they don't merge.
 fn answer_with(alloc: Global, left: &Source, right: &[u8]) -> Result<Vec<u8>, Conflict> {
     match read(alloc, right) {
         Ok(right) => {
@@ -57,7 +57,7 @@ fn answer_with(alloc: Global, left: &Source, right: &[u8]) -> Result<Vec<u8>, Co
     }
 }
 
-/// The same of the fonts of two files.
+/// The canonical PFB of what the fonts of two files come to, or why they don't merge.
 fn answer(alloc: Global, left: &[u8], right: &[u8]) -> Result<Vec<u8>, Conflict> {
     match read(alloc, left) {
         Ok(left) => {
@@ -69,12 +69,12 @@ fn answer(alloc: Global, left: &[u8], right: &[u8]) -> Result<Vec<u8>, Conflict>
     }
 }
 
-/// The canonical PFB of what the fonts of two files come to; nothing where they don't merge.
+/// The canonical PFB of what the fonts of two files come to, or nothing if they don't merge.
 pub fn merged(alloc: Global, left: &[u8], right: &[u8]) -> Vec<u8> {
     answer(alloc, left, right).unwrap_or(Vec::new(alloc))
 }
 
-/// Why the fonts of two files don't merge, where both orders say the same.
+/// Why the fonts of two files don't merge, if both orders say the same.
 pub fn conflict(alloc: Global, left: &[u8], right: &[u8]) -> Option<Conflict> {
     let one = answer(alloc, left, right).err();
     let other = answer(alloc, right, left).err();
@@ -87,7 +87,7 @@ pub fn conflict(alloc: Global, left: &[u8], right: &[u8]) -> Option<Conflict> {
     None
 }
 
-/// Shells that differ from the one above, and the part that is told; of two parts that differ it is the first.
+/// Shells that differ from the one above, and the part that is told: the first if two parts differ.
 const CHANGED: &[(Shell, ShellPart)] = &[
     (
         Shell {
@@ -220,7 +220,7 @@ fn an_index_that_one_font_lacks(rt: HostRuntime) -> Result<(), Fail> {
     Ok(())
 }
 
-/// The file of the font above with this for its Encoding.
+/// The file of the font above with this as its Encoding.
 fn encoded(alloc: Global, encoding: &'static [u8]) -> Result<Vec<u8>, AllocError> {
     with_shell(alloc, &Shell { encoding, ..SHELL })
 }
@@ -258,7 +258,7 @@ fn glyph_differs(alloc: Global, left: &[u8], right: &[u8], want: &[u8]) -> bool 
     }
 }
 
-/// Whether two fonts differ in the Subr of this index, which this glyph executes, or none.
+/// Whether two fonts differ in the Subr of this index, which this glyph or no glyph executes.
 pub fn subr_differs(
     alloc: Global,
     left: &[u8],
@@ -347,13 +347,13 @@ fn fonts<'a>(alloc: Global, sources: &'a [Source]) -> Result<Vec<Font<'a>>, Allo
     Ok(fonts)
 }
 
-/// What fonts come to, merged from left to right, as a canonical PFB; why they come to nothing.
+/// The canonical PFB of what fonts come to, merged from left to right, or why they don't merge.
 fn written_merger(alloc: Global, fonts: &[Font<'_>]) -> Result<Vec<u8>, Conflict> {
     let merged = merge_all(alloc, fonts)?;
     write(alloc, &merged, Form::Pfb).map_err(|_| Conflict::Memory)
 }
 
-/// The same of the fonts of sources.
+/// The canonical PFB of what the fonts of sources come to, merged from left to right, or why they don't merge.
 fn lent_merger(alloc: Global, sources: &[Source]) -> Result<Vec<u8>, Conflict> {
     match fonts(alloc, sources) {
         Ok(fonts) => written_merger(alloc, fonts.as_slice()),
@@ -361,7 +361,7 @@ fn lent_merger(alloc: Global, sources: &[Source]) -> Result<Vec<u8>, Conflict> {
     }
 }
 
-/// The same of the fonts of files.
+/// The canonical PFB of what the fonts of files come to, merged from left to right, or why they don't merge.
 pub fn all_merged(alloc: Global, files: &[&[u8]]) -> Result<Vec<u8>, Conflict> {
     match sources(alloc, files) {
         Ok(sources) => lent_merger(alloc, sources.as_slice()),
@@ -389,7 +389,7 @@ const LISTS: &[(&[&[&[u8]]], &[&[u8]])] = &[
     (&[&[b"A"], &[b"Aacute"], &[b"A"]], &[b"Aacute"]),
 ];
 
-/// What files come to, merged from left to right; nothing where they don't merge.
+/// What files come to, merged from left to right, or nothing if they don't merge.
 fn list_merged(alloc: Global, files: &[Vec<u8>]) -> Vec<u8> {
     match lent(alloc, files) {
         Ok(files) => all_merged(alloc, files.as_slice()).unwrap_or(Vec::new(alloc)),
@@ -397,7 +397,7 @@ fn list_merged(alloc: Global, files: &[Vec<u8>]) -> Vec<u8> {
     }
 }
 
-/// Whether the subsets of a file's font over each of these sets of names come to that over all of them.
+/// Whether the subsets of a file's font over each of these sets of names come to the subset over all of them.
 fn cuts_merge(alloc: Global, file: &[u8], sets: &[&[&[u8]]], all: &[&[u8]]) -> bool {
     let want = cut(alloc, file, all);
     match cuts(alloc, file, sets) {

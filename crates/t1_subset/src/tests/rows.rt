@@ -32,7 +32,7 @@ fn lent_canonical(alloc: Global, source: &Source) -> Vec<u8> {
     }
 }
 
-/// The same of a file's font.
+/// The canonical PFB of a file's font.
 fn canonical(alloc: Global, file: &[u8]) -> Vec<u8> {
     match read(alloc, file) {
         Ok(source) => {
@@ -62,7 +62,8 @@ fn comes_to(alloc: Global, left: &[u8], right: &[u8], names: &[&[u8]], want: &[u
         && cut(alloc, one.as_slice(), names).as_slice() == want
 }
 
-/// Whether the subset of a font over A and a subset over this name come to a font of which that is the subset again.
+/// Whether the subset of a font over A and another subset over this name merge to a font whose subset over the name is
+/// that other one again.
 fn keeps(alloc: Global, file: &[u8], other: &[u8], name: &[u8]) -> bool {
     let a = cut(alloc, file, &[b"A"]);
     comes_to(alloc, a.as_slice(), other, &[name], other)
@@ -115,7 +116,8 @@ fn first_accepted_with(alloc: Global, file: &[u8], used: &[u8]) -> Option<[usize
     first_accepted(alloc, &[a.as_slice(), used, y.as_slice()])
 }
 
-/// Whether the merger of the subset over A with the other one is refused beside that over Y, since X executes Subr 5.
+/// Whether the merger of the subset over A with the other font is refused beside the subset over Y, since X executes
+/// Subr 5.
 fn merger_differs(alloc: Global, file: &[u8], used: &[u8]) -> bool {
     let a = cut(alloc, file, &[b"A"]);
     let both = merged(alloc, a.as_slice(), used);
@@ -150,7 +152,7 @@ fn lacks_part(alloc: Global, font: &Font<'_>, name: &[u8]) -> bool {
     }
 }
 
-/// The same of a glyph of a source's font.
+/// Whether the glyph of a source's font lacks a part.
 fn lent_lacks_part(alloc: Global, source: &Source, name: &[u8]) -> bool {
     match source.font(alloc) {
         Ok(font) => {
@@ -162,7 +164,7 @@ fn lent_lacks_part(alloc: Global, source: &Source, name: &[u8]) -> bool {
     }
 }
 
-/// The same of a glyph of a file's font.
+/// Whether the glyph of a file's font lacks a part.
 fn file_lacks_part(alloc: Global, file: &[u8], name: &[u8]) -> bool {
     match read(alloc, file) {
         Ok(source) => {
@@ -180,7 +182,7 @@ fn lacks_acute(alloc: Global, accented: &[u8], file: &[u8]) -> bool {
     lacks_component(alloc, accented, acute.as_slice(), b"Aacute", b"acute")
 }
 
-/// Whether the merger of a file with the subset of a font over A is, too, and its Aacute lacks a part.
+/// Whether the merger of a file with the subset of a font over A is refused, too, and its Aacute lacks a part.
 fn merger_lacks_acute(alloc: Global, accented: &[u8], file: &[u8]) -> bool {
     let a = cut(alloc, file, &[b"A"]);
     let both = merged(alloc, accented, a.as_slice());
