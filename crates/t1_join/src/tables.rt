@@ -1,6 +1,7 @@
 //! Tables: finite maps, joined key by key.
-ghost use Rattle.std.specs.Prelude.{◌≡◌, ◌∷◌, ◌++◌, [], length, true, OnOk, OnErr, IfOk, IfSome, MatchOption};
+ghost use Rattle.std.specs.Prelude.{◌≡◌, ◌≤◌, ◌∷◌, ◌++◌, [], length, true, OnOk, OnErr, IfOk, IfSome, MatchOption};
 ghost use Rattle.std.specs.Option.{option_map, option_copied};
+ghost use Rattle.std.specs.List.{insert};
 ghost use Rattle.std.specs.List.Sorted.{IsStrictlySortedBy, IsBinarySearchResult, IsSearchInRange};
 ghost use Rattle.std.specs.Map.{keys_of};
 ghost use Rattle.std.specs.FinMap as fin;
@@ -88,7 +89,7 @@ impl<K: Key + Drop, V: Kept + Drop> Table<K, V> {
     {
         match place_of(self.entries.as_slice(), &key) {
             Ok(at) => self.entries[at].1 = value,
-            Err(at) => self.entries.insert(at, (key, value))?,
+            Err(at) => put_there(&mut self.entries, at, (key, value))?,
         }
         Ok(())
     }
@@ -168,6 +169,24 @@ fn place_of<K: Key, V>(entries: &[(K, V)], key: &K) -> Result<usize, usize>
         return Err(end);
     }
     entries.binary_search_by(|entry| entry.0.cmp(key))
+}
+
+/// Puts an entry at this place. At the end, it is added without a move.
+fn put_there<K: Drop, V: Drop>(
+    entries: &mut Vec<(K, V)>,
+    at: usize,
+    entry: (K, V),
+) -> Result<(), AllocError>
+    requires { at ≤ length entries.old.items }
+    ensures ok { OnOk result (entries.new.items ≡ insert entries.old.items at entry) }
+    ensures err { OnErr result (entries.new.items ≡ entries.old.items) }
+{
+    if at == entries.len() {
+        entries.push(entry)?;
+    } else {
+        entries.insert(at, entry)?;
+    }
+    Ok(())
 }
 
 /// Whether each key is above the one before it.
