@@ -125,18 +125,20 @@ fn codes(font: &Font<'_>) -> (bool, bool, bool) {
     )
 }
 
-/// What a font says of its Subrs: whether there is a table, how many are declared, and whether 0 and 2 are present.
-fn subrs(font: &Font<'_>) -> (bool, u16, bool, bool) {
+/// What a font says of its Subrs: whether there is a table, how many are declared, whether 0 and 2 are present, and the
+/// lowest index that is present.
+fn subrs(font: &Font<'_>) -> (bool, u16, bool, bool, Option<u16>) {
     (
         font.has_subrs(),
         font.count(),
         font.present(0),
         font.present(2),
+        font.indices().next(),
     )
 }
 
 /// What a font says of its codes and of its Subrs, and its lenIV.
-type Said = ((bool, bool, bool), (bool, u16, bool, bool), u8);
+type Said = ((bool, bool, bool), (bool, u16, bool, bool, Option<u16>), u8);
 
 /// What the font of a source says.
 fn said_of(alloc: Global, source: &Source) -> Result<Said, AllocError> {
@@ -160,7 +162,7 @@ fn last_entries_and_first_words(rt: HostRuntime) -> Result<(), Fail> {
         b"/lenIV 0 def /lenIV 9 def /Subrs 3 array dup 2 1 a \x01 b dup 2 1 c \x0b d ND\nx /CharStrings 9 dict dup begin /.notdef 1 e \x01 f /.notdef 1 g \x02 end\nend closefileclosefile/Subrs 0 array ";
     assert_eq!(rt;
         said(rt.alloc(), clear, private),
-        Some(((true, true, true), (true, 3, false, true), 0)),
+        Some(((true, true, true), (true, 3, false, true, Some(2)), 0)),
         "a later .notdef takes a code away, the first lenIV counts, a gap stays"
     );
     let file = file(rt.alloc(), clear, private)?;
