@@ -107,6 +107,13 @@ impl<'a> Font<'a> {
         }
     }
 
+    /// The glyphs, by name.
+    pub fn glyphs(&self) -> &Named<'a>
+        ensures { result.now ≡ self.now.glyphs }
+    {
+        &self.parts.glyphs
+    }
+
     /// The indices of the Subrs that have an entry, upwards.
     pub fn indices(&self) -> Indices<'_, 'a>
         ensures { result ≡ fin.keys self.now.subrs }
@@ -256,11 +263,14 @@ pub struct Indices<'t, 'a> {
 }
 
 impl<'t, 'a> Model for Indices<'t, 'a> {
-    ghost use Rattle.std.specs.Prelude.{List, ℕ, map};
+    ghost use Rattle.std.specs.Prelude.{List, ℕ, ◌≤◌, map, length};
+    ghost use Rattle.t1_font.specs.FontValue.{weight_limit};
 
     ghost Value = { List ℕ };
 
     ghost view = { λ s. map (λ e. e.0) s.inner };
+
+    ghost invariant = { λ s. length s.inner ≤ weight_limit };
 }
 
 impl<'t, 'a> Iterator for Indices<'t, 'a> {

@@ -4,7 +4,7 @@
 //! copied. A table that a cut or a join makes has entries of its own. Only `len`, `at` and `place_of` ask which of the two
 //! a table is; all other functions go by places.
 
-ghost use Rattle.std.specs.Prelude.{◌≡◌, ◌+◌, ◌<◌, max, map, IfSome};
+ghost use Rattle.std.specs.Prelude.{◌≡◌, ◌+◌, ◌<◌, max, map, IfOk, IfSome};
 ghost use Rattle.std.specs.List.{slice_get};
 ghost use Rattle.std.specs.Option.{option_map, option_and_then};
 ghost use Rattle.std.specs.Ordering.{nat_cmp};
@@ -17,6 +17,7 @@ ghost use Rattle.t1_font.specs.Lent.{lent_number, lent_glyph};
 ghost use Rattle.t1_font.specs.Ranges.{numbered_at, named_at};
 
 use crate::ranges::Range;
+use std::alloc::{AllocError, Global};
 use std::marker::Model;
 
 /// The weight of a Subr of this many bytes, as far as 64 bits hold it. A Subr of no bytes weighs as much as one of one
@@ -289,6 +290,16 @@ impl<'a> Named<'a> {
     {
         Named {
             form: NamedForm::Made(glyphs),
+        }
+    }
+
+    /// The same glyphs. A table of a source is lent once more, and takes no room; any other is copied.
+    pub fn copy(&self, alloc: Global) -> Result<Self, AllocError>
+        ensures { IfOk result (λ m. m ≡ self.now) }
+    {
+        match &self.form {
+            NamedForm::Stored { buffer, places } => Ok(Named::stored(buffer, places)),
+            NamedForm::Made(glyphs) => Ok(Named::made(Vec::from_slice(alloc, glyphs)?)),
         }
     }
 

@@ -81,8 +81,8 @@ fn with_name<'a>(glyph: Option<Glyph<'a>>) -> Option<(&'a [u8], Glyph<'a>)>
     Some((glyph.name(), glyph))
 }
 
-/// The glyphs of both fonts, in one pass over both tables. If both have a name, the first's glyph stands.
-fn join_glyphs<'a>(
+/// The glyphs of both tables, in one pass over both. If both have a name, the first's glyph stands.
+pub fn join_glyphs<'a>(
     alloc: Global,
     first: &Named<'a>,
     second: &Named<'a>,

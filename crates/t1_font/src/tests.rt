@@ -11,6 +11,7 @@ mod growths;
 mod long;
 mod prefixes;
 mod rows;
+mod tables;
 
 use crate::{Form, ReadFault, Source, read, write};
 use std::alloc::{AllocError, Global};

@@ -1,5 +1,5 @@
 -- What a merged map has at a key, and when two maps are the same.
-use Rattle.std.proofs.Common.{◌≡◌, true, false, refl, sym, ◌∙◌, true≢false, Option, Some, None, Ordering, Less, Equal, Greater, is_lt}
+use Rattle.std.proofs.Common.{◌≡◌, true, refl, sym, ◌∙◌, true≢false, Option, Some, None, Ordering, Less, Equal, Greater, is_lt}
 use Rattle.std.specs.Cmp.{IsTotalOrder}
 use Rattle.std.specs.FinMap.{FinMap, get, same_map}
 use Rattle.std.specs.FinSet.{IsAntisymmetric}

@@ -1,13 +1,13 @@
 pub mod ByNumber
 pub mod FirstConflicts
-pub mod FirstNames
 pub mod FontCallers
 pub mod FontStates
 pub mod FontUsers
+pub mod LowestKeys
 pub mod MergedFonts
 pub mod NameClashes
+pub mod NameTables
 pub mod Numbered
-pub mod SoughtNames
 pub mod StateClashes
 pub mod StateTrees
 pub mod TableStates

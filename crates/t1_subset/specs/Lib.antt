@@ -6,7 +6,6 @@ pub mod Shared
 pub mod States
 pub mod StateTables
 pub mod StateLaws
-pub mod NameStates
 pub mod JoinedEntries
 pub mod Outcomes
 pub mod Groupings

@@ -1,6 +1,7 @@
 -- Searches: the first of a list that passes a test, and the smallest of a set of keys.
-use Rattle.std.specs.Prelude.{ℕ, Bool, cond, List, [], ◌∷◌, map, Option, Some, None}
+use Rattle.std.specs.Prelude.{◌≡◌, ℕ, Bool, true, false, cond, List, [], ◌∷◌, map, Option, Some, None}
 use Rattle.std.specs.declared.cmp.Ordering.{Ordering}
+use Rattle.std.specs.declared.cmp.Ordering.TheVariants.{Less}
 use Rattle.std.specs.FinMap as maps
 
 -- the first element of a list that passes a test
@@ -24,3 +25,13 @@ smallest p s = first_where p (members s)
 abbrev pub found : {X Y : Type 0} → (X → Y) → Option X → Option Y → Option Y
 found f (Some x) e = Some (f x)
 found f None e = e
+
+-- the key passes a test, and no lower key does
+pub record Passes {K : Type 0} (R : K → K → Ordering) (p : K → Bool) (k : K) : Type 0 where
+  pub it : p k ≡ true
+  pub none_lower : (q : K) → R q k ≡ Less → p q ≡ false
+
+-- the lowest of all keys that pass a test, or nothing if none does
+abbrev pub IsLowest : {K : Type 0} → (K → K → Ordering) → (K → Bool) → Option K → Type 0
+IsLowest R p None = (q : _) → p q ≡ false
+IsLowest R p (Some k) = Passes R p k

@@ -2,15 +2,15 @@
 use Rattle.std.specs.Prelude.{◌≡◌, ◌≤◌, ℕ, ◌+◌, ◌*◌, ◌-◌, not, List, [], ◌∷◌, map, flat_map, filter, length, Option, Some, None, is_some}
 use Rattle.std.specs.declared.cmp.Ordering.{Ordering}
 use Rattle.std.specs.Coded.{Coded, coded×}
+use Rattle.std.specs.Option.{option_map}
 use Rattle.std.specs.FinMap as maps
 use Rattle.t1_join.specs.Meaning.{Meaning, of_number}
 use Rattle.t1_join.specs.Products.{SameJoin, BothJoin, FittingAgree, FittingJoin}
 use Rattle.t1_join.specs.TableMeaning.{TableMeaning, TablesJoin, table_code, joined_table}
 use Rattle.t1_font.specs.FontModel.{names_in}
-use Rattle.t1_font.specs.FontValue.{FontValue, Encoding, Word, Codes, Numbered, total, texts_weight, weight_limit, count_limit}
+use Rattle.t1_font.specs.FontValue.{FontValue, Encoding, Word, Codes, Numbered, Named, total, texts_weight, weight_limit, count_limit}
 use Rattle.t1_font.specs.Maps.{map_values}
 use Rattle.t1_subset.specs.Interpreter.{Interpreter}
-use Rattle.t1_subset.specs.Keep.{components}
 use Rattle.t1_subset.specs.States.{named_at, subr_state}
 use Rattle.t1_subset.specs.Shared.{Shared, shared_code, shared_of}
 
@@ -45,11 +45,27 @@ abbrev pub name_meaning : Option (List ℕ) → Meaning
 name_meaning None = []
 name_meaning (Some c) = 0 ∷ c
 
+-- each state of a name is nothing, or that it is sought, or a charstring
+abbrev pub AreNameStates : TableMeaning → Type 0
+AreNameStates t = (n : Meaning) → (x : Option (Option (List ℕ))) × (maps.get t n ≡ option_map name_meaning x)
+
 -- what stands behind the mark of a name's state
 abbrev pub behind_mark : Option Meaning → Option (List ℕ)
 behind_mark None = None
 behind_mark (Some []) = None
 behind_mark (Some (mark ∷ c)) = Some c
+
+-- the names that have glyphs, as a table
+abbrev pub glyph_table : Named → TableMeaning
+glyph_table g = map_values (λ n c. name_meaning (Some c)) g
+
+-- the table of glyphs and of sought names: a name that has a glyph counts as one of these
+abbrev pub names_table : Named → TableMeaning → TableMeaning
+names_table g s = joined_table (glyph_table g) s
+
+-- each name of the table is sought
+abbrev pub AreSought : TableMeaning → Type 0
+AreSought s = (n v : Meaning) → maps.get s n ≡ Some v → v ≡ []
 
 -- the names of the codes of a table Encoding
 abbrev pub code_states : Encoding → TableMeaning
@@ -67,7 +83,7 @@ module _ {O : Type 0} (m : Interpreter O) (f : FontValue) where
 
   -- the names that are there, and those that are sought
   abbrev pub name_states : TableMeaning
-  name_states = joined_table (map_values (λ n c. name_meaning (Some c)) f.glyphs) (maps.from_entries (map (λ p. (p, name_meaning None)) all_components))
+  name_states = names_table f.glyphs (maps.from_entries (map (λ p. (p, name_meaning None)) all_components))
 
   -- the states of a font
   abbrev pub states_of : StatesValue
@@ -92,6 +108,10 @@ name_adds len_iv n (mark ∷ c) = 256 + len_iv + length c
 abbrev pub name_counts : Meaning → Meaning → ℕ
 name_counts n [] = 0
 name_counts n (mark ∷ c) = 1
+
+-- each glyph counts as one
+abbrev pub one_each : Meaning → Meaning → ℕ
+one_each n c = 1
 
 -- the weight of a font whose states are all the bottom
 abbrev pub shared_weight : Shared → ℕ

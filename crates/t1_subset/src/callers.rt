@@ -70,7 +70,7 @@ pub(crate) struct Callers<'t, 'a> {
 }
 
 /// The smaller of two names, or the one that is there.
-fn smaller<'a>(first: Option<&'a [u8]>, second: Option<&'a [u8]>) -> Option<&'a [u8]>
+pub(crate) fn smaller<'a>(first: Option<&'a [u8]>, second: Option<&'a [u8]>) -> Option<&'a [u8]>
     ensures { option_map (λ n. n.now) result
         ≡ smaller name_cmp (option_map (λ n. n.now) first.entry)
         (option_map (λ n. n.now) second.entry) }

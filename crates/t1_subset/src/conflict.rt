@@ -3,6 +3,7 @@
 ghost use Rattle.std.specs.Prelude.{◌≡◌, Some};
 ghost use Rattle.t1_subset.specs.FaultTexts.{part_text, conflict_text};
 
+use std::alloc::AllocError;
 use std::fmt;
 use t1_join::Shown;
 
@@ -101,3 +102,14 @@ impl fmt::Display for Conflict {
 }
 
 impl std::error::Error for Conflict {}
+
+impl From<AllocError> for Conflict {
+    ghost use Rattle.std.specs.Prelude.{◌≡◌};
+    ghost use Rattle.t1_subset.specs.declared.conflict.Conflict.TheVariants.{Memory};
+
+    ghost from_gives = { λ _ e. e ≡ Memory };
+
+    fn from(_fault: AllocError) -> Conflict {
+        Conflict::Memory
+    }
+}

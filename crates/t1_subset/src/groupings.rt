@@ -1,9 +1,8 @@
-//! The join of many fonts at once: first their states are joined, and then the font is made, both in halves.
+//! Many fonts at once: what is noted of each, and the font that they make, in halves.
 
 ghost use Rattle.std.specs.Prelude.{◌≡◌, ◌<◌, IfOk, IfErr, length, map};
-ghost use Rattle.t1_join.specs.Groupings.{IsJoinOf, HaveJoin};
 ghost use Rattle.t1_subset.specs.Profile.{profile};
-ghost use Rattle.t1_subset.specs.StateTables.{StatesJoin, states_of};
+ghost use Rattle.t1_subset.specs.StateTables.{states_of};
 ghost use Rattle.t1_subset.specs.Callers.{AreNoted, fonts_of};
 ghost use Rattle.t1_subset.specs.Merger.{EachGroupingMerges, SomeGroupingMerges};
 
@@ -14,7 +13,6 @@ use crate::state_making::{callers_of, states_by};
 use crate::state_value::States;
 use std::alloc::{AllocError, Global};
 use t1_font::Font;
-use t1_join::Join;
 
 /// The callers of each of the fonts.
 pub(crate) fn note_fonts<'t, 'a>(
@@ -32,58 +30,20 @@ pub(crate) fn note_fonts<'t, 'a>(
     Ok(callers)
 }
 
-/// The joined states of one or more fonts, if they have a join. The states of each font are made only when it is joined,
-/// so only a few of them take memory at a time.
-fn join_states_of<'a>(
+/// The states of each of the fonts, by its callers.
+pub(crate) fn states_of_all<'a>(
     alloc: Global,
     callers: &[Callers<'_, 'a>],
-) -> Result<Option<States<'a>>, AllocError>
-    requires some { 0 < length callers.now }
-    requires noted { AreNoted callers.now }
-    ensures { IfOk result (λ o.
-        IsJoinOf StatesJoin (map (states_of profile) (fonts_of callers.now)) o) }
+) -> Result<Vec<States<'a>>, AllocError>
+    requires { AreNoted callers.now }
+    ensures { IfOk result (λ states. states.items
+        ≡ map (states_of profile) (fonts_of callers.now)) }
 {
-    if callers.len() == 1 {
-        return Ok(Some(states_by(alloc, &callers[0])?));
+    let mut states = Vec::with_capacity(alloc, callers.len())?;
+    'callers: for place in 0..callers.len() {
+        states.push(states_by(alloc, &callers[place])?)?;
     }
-    let (front, back) = callers.split_at(callers.len() / 2);
-    let front = match join_states_of(alloc, front)? {
-        Some(front) => front,
-        None => return Ok(None),
-    };
-    let back = match join_states_of(alloc, back)? {
-        Some(back) => back,
-        None => return Ok(None),
-    };
-    if !front.agrees(&back) {
-        return Ok(None);
-    }
-    Ok(Some(front.join(alloc, &back)?))
-}
-
-/// Whether the states of one or more fonts have a join. The join itself is not made.
-pub(crate) fn states_have_join(
-    alloc: Global,
-    callers: &[Callers<'_, '_>],
-) -> Result<bool, AllocError>
-    requires some { 0 < length callers.now }
-    requires noted { AreNoted callers.now }
-    ensures { IfOk result
-        (HaveJoin StatesJoin (map (states_of profile) (fonts_of callers.now))) }
-{
-    if callers.len() == 1 {
-        return Ok(true);
-    }
-    let (front, back) = callers.split_at(callers.len() / 2);
-    let front = match join_states_of(alloc, front)? {
-        Some(front) => front,
-        None => return Ok(false),
-    };
-    let back = match join_states_of(alloc, back)? {
-        Some(back) => back,
-        None => return Ok(false),
-    };
-    Ok(front.agrees(&back))
+    Ok(states)
 }
 
 /// A copy of a font, which is its join with itself.

@@ -1,6 +1,6 @@
 //! Why fonts don't merge: their states are joined from left to right up to the first conflict.
 
-ghost use Rattle.std.specs.Prelude.{◌≡◌, ◌<◌, ◌⊎◌, IfOk, IfErr, length};
+ghost use Rattle.std.specs.Prelude.{◌≡◌, ◌<◌, ◌⊎◌, IfOk, IfErr, length, map};
 ghost use Rattle.t1_font.specs.FontValue.{FontValue};
 ghost use Rattle.t1_subset.specs.Profile.{profile};
 ghost use Rattle.t1_subset.specs.StateTables.{StatesAgree, StatesJoin, states_of};
@@ -8,17 +8,15 @@ ghost use Rattle.t1_subset.specs.States.{Join, joined_font};
 ghost use Rattle.t1_subset.specs.Conflicts.{conflict};
 ghost use Rattle.t1_subset.specs.Clashes.{AreStatesOf, AreCallers};
 ghost use Rattle.t1_subset.specs.Refusals.{Tells};
-ghost use Rattle.t1_subset.specs.Callers.{AreCallersOf, AreNoted, fonts_of};
+ghost use Rattle.t1_subset.specs.Callers.{AreNoted, fonts_of};
 ghost use Rattle.t1_subset.specs.Merger.{EachGroupingMerges, IsRefused};
 
 use crate::callers::Callers;
 use crate::conflict::Conflict;
-use crate::groupings::states_have_join;
-use crate::searches::states_conflict;
-use crate::state_making::states_by;
+use crate::searches::{one_shell, tables_conflict};
 use crate::state_value::States;
 use std::alloc::Global;
-use t1_join::Join;
+use t1_join::{Join, join_all};
 
 /// The joined states of two fonts. If shells and states have no conflict, only the limits can refuse them.
 fn join_states<'a>(
@@ -33,10 +31,7 @@ fn join_states<'a>(
     if !left.agrees(right) {
         return Err(Conflict::Limit);
     }
-    match left.join(alloc, right) {
-        Ok(both) => Ok(both),
-        Err(_) => Err(Conflict::Memory),
-    }
+    Ok(left.join(alloc, right)?)
 }
 
 /// The joined states of two fonts, or their lowest conflict. The callers are those of both fonts.
@@ -55,38 +50,31 @@ fn join_next<'a>(
         → AreCallers callers.now f g
         → IfErr result (λ e. Tells e (conflict profile f g)) }
 {
-    if let Err(conflict) = states_conflict(alloc, left, right, callers) {
+    if let Err(conflict) = one_shell(&left.shared, &right.shared) {
+        return Err(conflict);
+    }
+    if let Err(conflict) = tables_conflict(alloc, left, right, callers) {
         return Err(conflict);
     }
     join_states(alloc, left, right)
 }
 
-/// The states of a font, by its callers.
-pub(crate) fn states_of_font<'a>(
-    alloc: Global,
-    callers: &Callers<'_, 'a>,
-) -> Result<States<'a>, Conflict>
-    requires { AreCallersOf callers.now callers.now.font.now }
-    ensures ok { IfOk result (λ s. s ≡ states_of profile callers.now.font.now) }
-    ensures err { IfErr result (λ e. e ≡ Conflict.Memory) }
-{
-    match states_by(alloc, callers) {
-        Ok(states) => Ok(states),
-        Err(_) => Err(Conflict::Memory),
-    }
-}
-
 /// The first conflict of fonts from left to right, if there is one.
-fn join_in_turn(alloc: Global, callers: &[Callers<'_, '_>]) -> Result<(), Conflict>
+fn join_in_turn(
+    alloc: Global,
+    callers: &[Callers<'_, '_>],
+    states: &[States<'_>],
+) -> Result<(), Conflict>
     requires some { 0 < length callers.now }
     requires noted { AreNoted callers.now }
+    requires states { states.now ≡ map (states_of profile) (fonts_of callers.now) }
     ensures ok { IfOk result (λ _. EachGroupingMerges (fonts_of callers.now)) }
     ensures err { IfErr result (λ e. IsRefused (fonts_of callers.now) e) }
 {
-    let mut all = states_of_font(alloc, &callers[0])?;
+    let first = &states[0];
+    let mut all = first.join(alloc, first)?;
     'rest: for place in 1..callers.len() {
-        let next = states_of_font(alloc, &callers[place])?;
-        match join_next(alloc, &all, &next, &callers[..place + 1]) {
+        match join_next(alloc, &all, &states[place], &callers[..place + 1]) {
             Ok(more) => all = more,
             Err(conflict) => return Err(conflict),
         }
@@ -94,16 +82,21 @@ fn join_in_turn(alloc: Global, callers: &[Callers<'_, '_>]) -> Result<(), Confli
     Ok(())
 }
 
-/// Whether one or more fonts merge, by the callers of each, or the first conflict from left to right.
-pub(crate) fn all_join(alloc: Global, callers: &[Callers<'_, '_>]) -> Result<(), Conflict>
+/// Whether one or more fonts merge, by the callers of each and its states, or the first conflict from left to right.
+pub(crate) fn all_join(
+    alloc: Global,
+    callers: &[Callers<'_, '_>],
+    states: &[States<'_>],
+) -> Result<(), Conflict>
     requires some { 0 < length callers.now }
     requires noted { AreNoted callers.now }
+    requires states { states.now ≡ map (states_of profile) (fonts_of callers.now) }
     ensures ok { IfOk result (λ _. EachGroupingMerges (fonts_of callers.now)) }
     ensures err { IfErr result (λ e. IsRefused (fonts_of callers.now) e) }
 {
-    match states_have_join(alloc, callers) {
-        Err(_) => Err(Conflict::Memory),
-        Ok(true) => Ok(()),
-        Ok(false) => join_in_turn(alloc, callers),
+    let joined = join_all(alloc, states)?;
+    if joined.is_some() {
+        return Ok(());
     }
+    join_in_turn(alloc, callers, states)
 }

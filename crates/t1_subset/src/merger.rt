@@ -4,19 +4,21 @@ ghost use Rattle.std.specs.Prelude.{◌≡◌, ◌<◌, length, IfOk, IfErr, Non
 ghost use Rattle.t1_subset.specs.Profile.{profile};
 ghost use Rattle.t1_subset.specs.States.{Join, joined_font};
 ghost use Rattle.t1_subset.specs.Conflicts.{conflict, states_conflict};
-ghost use Rattle.t1_font.specs.IsFont.{IsFont};
 ghost use Rattle.t1_subset.specs.Refusals.{Tells};
 ghost use Rattle.t1_subset.specs.Callers.{AreCallersOf, AreNoted, fonts_of};
+ghost use Rattle.t1_subset.specs.StateTables.{states_of};
+ghost use Rattle.t1_subset.specs.Shared.{shared_of};
 ghost use Rattle.t1_subset.specs.Merger.{IsMerger, MergesItself, DrawsBoth, DrawsAll, ComesTo, IsRefused, AcceptsAllJoin, MergesInAnyOrder, MergesSubsets, MergesAllSubsets};
 
 use crate::callers::Callers;
 use crate::conflict::Conflict;
-use crate::groupings::{made_of, note_fonts};
-use crate::in_turn::{all_join, states_of_font};
-use crate::searches::states_conflict;
+use crate::groupings::{made_of, note_fonts, states_of_all};
+use crate::in_turn::all_join;
+use crate::searches::{one_shell, tables_conflict};
 use crate::shared::Shared;
-use crate::state_making::callers_of;
-use std::alloc::Global;
+use crate::state_making::{callers_of, states_from};
+use crate::state_value::States;
+use std::alloc::{AllocError, Global};
 use t1_font::{Font, PartsFault, join_parts};
 
 /// The font with the entries of two fonts whose states join, if it is within the limits.
@@ -40,61 +42,54 @@ pub(crate) fn both<'a>(
     }
 }
 
-/// Refuses fonts whose shells differ, with the first part that does.
-fn one_shell(alloc: Global, left: &Font<'_>, right: &Font<'_>) -> Result<(), Conflict>
-    ensures { IfErr result (λ e. Tells e (conflict profile left.now right.now)) }
+/// The states of a font, by what it shares, and its callers. Each glyph of the font is run once.
+fn note_font<'t, 'a>(
+    alloc: Global,
+    font: &'t Font<'a>,
+    shared: Shared<'a>,
+) -> Result<(Callers<'t, 'a>, States<'a>), AllocError>
+    requires { shared ≡ shared_of font.now }
+    ensures font { IfOk result (λ n. n.0.font.now ≡ font.now) }
+    ensures callers { IfOk result (λ n. AreCallersOf n.0 font.now) }
+    ensures states { IfOk result (λ n. n.1 ≡ states_of profile font.now) }
 {
-    let Ok(own) = Shared::of(alloc, left) else {
-        return Err(Conflict::Memory);
-    };
-    let Ok(other) = Shared::of(alloc, right) else {
-        return Err(Conflict::Memory);
-    };
-    match own.differing_part(&other) {
-        Some(part) => Err(Conflict::Shell { part }),
-        None => Ok(()),
+    let callers = callers_of(alloc, font)?;
+    let states = states_from(alloc, &callers, shared)?;
+    Ok((callers, states))
+}
+
+/// The lowest conflict of two fonts, except that the limits are not looked at, or want of memory. If what the fonts have
+/// to share differs, no glyph is run.
+fn conflict_of(alloc: Global, left: &Font<'_>, right: &Font<'_>) -> Result<(), Conflict>
+    ensures ok { IfOk result (λ _. states_conflict profile left.now right.now ≡ None) }
+    ensures err { IfErr result (λ e. Tells e (states_conflict profile left.now right.now)) }
+{
+    left.proof_is_font();
+    right.proof_is_font();
+    let own = Shared::of(alloc, left)?;
+    let other = Shared::of(alloc, right)?;
+    if let Err(conflict) = one_shell(&own, &other) {
+        return Err(conflict);
     }
+    let (own, own_states) = note_font(alloc, left, own)?;
+    let (other, other_states) = note_font(alloc, right, other)?;
+    tables_conflict(alloc, &own_states, &other_states, &[own, other])
 }
 
-/// The lowest conflict of the shells and states of two fonts, by their callers, or want of memory.
-fn conflict_by(alloc: Global, own: Callers<'_, '_>, other: Callers<'_, '_>) -> Result<(), Conflict>
-    requires fonts { IsFont own.font.now × IsFont other.font.now }
-    requires own { AreCallersOf own own.font.now }
-    requires other { AreCallersOf other other.font.now }
-    ensures ok { IfOk result (λ _.
-        states_conflict profile own.entry.font.now other.entry.font.now ≡ None) }
-    ensures err { IfErr result (λ e.
-        Tells e (states_conflict profile own.entry.font.now other.entry.font.now)) }
-{
-    let own_states = states_of_font(alloc, &own)?;
-    let other_states = states_of_font(alloc, &other)?;
-    states_conflict(alloc, &own_states, &other_states, &[own, other])
-}
-
-/// The join of two fonts, or their lowest conflict. If their shells differ, no glyph is run.
+/// The join of two fonts, or their lowest conflict.
 fn merge_two<'a>(alloc: Global, left: &Font<'a>, right: &Font<'a>) -> Result<Font<'a>, Conflict>
     ensures ok { IfOk result (λ j. Join profile left.now right.now
         × (j ≡ joined_font profile left.now right.now)) }
     ensures err { IfErr result (λ e. Tells e (conflict profile left.now right.now)) }
 {
-    if let Err(conflict) = one_shell(alloc, left, right) {
-        return Err(conflict);
-    }
-    left.proof_is_font();
-    right.proof_is_font();
-    let Ok(own) = callers_of(alloc, left) else {
-        return Err(Conflict::Memory);
-    };
-    let Ok(other) = callers_of(alloc, right) else {
-        return Err(Conflict::Memory);
-    };
-    if let Err(conflict) = conflict_by(alloc, own, other) {
+    if let Err(conflict) = conflict_of(alloc, left, right) {
         return Err(conflict);
     }
     both(alloc, left, right)
 }
 
-/// The join of one or more fonts, by the callers of each, which are let go before the join is made.
+/// The join of one or more fonts, by the callers of each. They and the states are let go before the join is
+/// made.
 fn merge_noted<'a>(
     alloc: Global,
     fonts: &[Font<'a>],
@@ -106,9 +101,12 @@ fn merge_noted<'a>(
     ensures ok { IfOk result (λ j. ComesTo fonts.now j) }
     ensures err { IfErr result (λ e. IsRefused fonts.now e) }
 {
-    if let Err(conflict) = all_join(alloc, callers.as_slice()) {
+    let noted = callers.as_slice();
+    let states = states_of_all(alloc, noted)?;
+    if let Err(conflict) = all_join(alloc, noted, states.as_slice()) {
         return Err(conflict);
     }
+    drop(states);
     drop(callers);
     made_of(alloc, fonts)
 }
@@ -154,8 +152,6 @@ pub fn merge_all<'a>(alloc: Global, fonts: &[Font<'a>]) -> Result<Font<'a>, Conf
     if fonts.is_empty() {
         return Err(Conflict::Empty);
     }
-    match note_fonts(alloc, fonts) {
-        Ok(callers) => merge_noted(alloc, fonts, callers),
-        Err(_) => Err(Conflict::Memory),
-    }
+    let callers = note_fonts(alloc, fonts)?;
+    merge_noted(alloc, fonts, callers)
 }

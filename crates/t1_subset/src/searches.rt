@@ -5,58 +5,18 @@ ghost use Rattle.std.specs.Option.{option_map, unwrap_or};
 ghost use Rattle.t1_font.specs.FontValue.{FontValue};
 ghost use Rattle.t1_font.specs.IsFont.{IsFont};
 ghost use Rattle.t1_subset.specs.Profile.{profile};
-ghost use Rattle.t1_subset.specs.StateTables.{numbered, code_states, used_subrs, behind_mark};
-ghost use Rattle.t1_subset.specs.NameStates.{state_meaning};
-ghost use Rattle.t1_subset.specs.Conflicts.{GlyphDiffers, LacksComponent, SubrDiffers, code_conflict, subr_conflict, states_conflict};
-ghost use Rattle.t1_subset.specs.Clashes.{is_sought_in, charstrings_differ, one_lacks, first_clash, AreStatesOf, AreCallers, entries_conflict, uses_conflict};
+ghost use Rattle.t1_subset.specs.StateTables.{numbered, code_states, used_subrs};
+ghost use Rattle.t1_subset.specs.Conflicts.{ShellDiffers, GlyphDiffers, LacksComponent, SubrDiffers, shell_conflict, code_conflict, subr_conflict, states_conflict};
+ghost use Rattle.t1_subset.specs.Clashes.{AreStatesOf, AreCallers, entries_conflict, uses_conflict};
 ghost use Rattle.t1_subset.specs.Refusals.{Tells};
+ghost use Rattle.t1_subset.specs.Shared.{differing_part};
 
 use crate::callers::{Callers, seeker, user};
 use crate::conflict::Conflict;
-use crate::name_states::{NameState, NameTable};
-use crate::shared::differ;
+use crate::shared::Shared;
 use crate::state_value::States;
 use std::alloc::Global;
 use t1_join::Table;
-
-/// The charstring of a name, if its state is one.
-fn charstring<'a>(state: Option<&NameState<'a>>) -> Option<&'a [u8]>
-    ensures { option_map (λ c. c.now) result
-        ≡ behind_mark (option_map (λ s. state_meaning s.now) state.entry) }
-{
-    match state {
-        Some(NameState::Charstring(charstring)) => Some(*charstring),
-        _ => None,
-    }
-}
-
-/// Whether a name is sought.
-fn is_sought(state: Option<&NameState<'_>>) -> bool
-    ensures { result ≡ is_sought_in (option_map (λ s. state_meaning s.now) state.entry) }
-{
-    match state {
-        Some(NameState::Sought) => true,
-        _ => false,
-    }
-}
-
-/// Whether the states of a name are charstrings that differ.
-fn charstrings_differ(own: Option<&NameState<'_>>, other: Option<&NameState<'_>>) -> bool
-    ensures { result
-        ≡ charstrings_differ (option_map (λ s. state_meaning s.now) own.entry)
-        (option_map (λ s. state_meaning s.now) other.entry) }
-{
-    differ(charstring(own), charstring(other))
-}
-
-/// Whether one font seeks a name for which the other has a glyph.
-fn one_lacks(own: Option<&NameState<'_>>, other: Option<&NameState<'_>>) -> bool
-    ensures { result
-        ≡ one_lacks (option_map (λ s. state_meaning s.now) own.entry)
-        (option_map (λ s. state_meaning s.now) other.entry) }
-{
-    is_sought(own) && charstring(other).is_some() || is_sought(other) && charstring(own).is_some()
-}
 
 /// The code as a byte, if it is one.
 fn byte_of(code: u16) -> Option<u8>
@@ -80,30 +40,6 @@ fn code_conflict(own: &Table<u16, &[u8]>, other: &Table<u16, &[u8]>) -> Option<u
         Some(code) => byte_of(*code),
         None => None,
     }
-}
-
-/// The smallest name that both fonts have, with different charstrings.
-fn glyph_conflict<'a>(own: &NameTable<'a>, other: &NameTable<'a>) -> Option<&'a [u8]>
-    ensures { option_map (λ n. n.now) result ≡ first_clash charstrings_differ own.now other.now }
-{
-    'names: for (name, state) in own.entries() {
-        if charstrings_differ(Some(state), other.get(name)) {
-            return Some(*name);
-        }
-    }
-    None
-}
-
-/// The smallest name that one font seeks and for which the other has a glyph.
-fn component_conflict<'a>(own: &NameTable<'a>, other: &NameTable<'a>) -> Option<&'a [u8]>
-    ensures { option_map (λ n. n.now) result ≡ first_clash one_lacks own.now other.now }
-{
-    'names: for (name, state) in own.entries() {
-        if one_lacks(Some(state), other.get(name)) {
-            return Some(*name);
-        }
-    }
-    None
 }
 
 /// The smallest index at which the states differ.
@@ -160,22 +96,33 @@ fn subr_differs(alloc: Global, index: u16, user: Option<&[u8]>) -> Conflict
     }
 }
 
-/// The lowest conflict of the shells, codes and glyphs of two fonts, or want of memory.
+/// Refuses fonts that don't share what they have to, with the first part that differs.
+pub(crate) fn one_shell(left: &Shared<'_>, right: &Shared<'_>) -> Result<(), Conflict>
+    ensures ok { IfOk result (λ _. differing_part left.now right.now ≡ None) }
+    ensures err { IfErr result
+        (λ e. Tells e (option_map ShellDiffers (differing_part left.now right.now))) }
+{
+    match left.differing_part(right) {
+        Some(part) => Err(Conflict::Shell { part }),
+        None => Ok(()),
+    }
+}
+
+/// The lowest conflict of the codes and glyphs of two fonts of one shell, or want of memory.
 fn entries_conflict(alloc: Global, left: &States<'_>, right: &States<'_>) -> Result<(), Conflict>
     ensures ok { (f g : FontValue)
         → AreStatesOf left.now right.now f g
+        → shell_conflict f g ≡ None
         → IfOk result (λ _. entries_conflict f g ≡ None) }
     ensures err { (f g : FontValue)
         → AreStatesOf left.now right.now f g
+        → shell_conflict f g ≡ None
         → IfErr result (λ e. Tells e (entries_conflict f g)) }
 {
-    if let Some(part) = left.shared.differing_part(&right.shared) {
-        return Err(Conflict::Shell { part });
-    }
     if let Some(code) = code_conflict(&left.codes, &right.codes) {
         return Err(Conflict::Code { code });
     }
-    match glyph_conflict(&left.names, &right.names) {
+    match left.names.glyph_conflict(&right.names) {
         Some(name) => Err(glyph_differs(alloc, name)),
         None => Ok(()),
     }
@@ -196,7 +143,7 @@ fn uses_conflict(
         → AreCallers callers.now f g
         → IfErr result (λ e. Tells e (uses_conflict f g)) }
 {
-    if let Some(part) = component_conflict(&left.names, &right.names) {
+    if let Some(part) = left.names.component_conflict(&right.names) {
         return Err(lacks_component(alloc, seeker(callers, part), part));
     }
     match subr_conflict(&left.subrs, &right.subrs) {
@@ -205,8 +152,8 @@ fn uses_conflict(
     }
 }
 
-/// The lowest conflict of the shells and states of two fonts, or want of memory. The callers are those of both fonts.
-pub(crate) fn states_conflict(
+/// The lowest conflict of the states of two fonts of one shell, or want of memory. The callers are those of both fonts.
+pub(crate) fn tables_conflict(
     alloc: Global,
     left: &States<'_>,
     right: &States<'_>,
@@ -214,10 +161,12 @@ pub(crate) fn states_conflict(
 ) -> Result<(), Conflict>
     ensures ok { (f g : FontValue)
         → AreStatesOf left.now right.now f g
+        → shell_conflict f g ≡ None
         → IfOk result (λ _. states_conflict profile f g ≡ None) }
     ensures err { (f g : FontValue)
         → AreStatesOf left.now right.now f g
         → AreCallers callers.now f g
+        → shell_conflict f g ≡ None
         → IfErr result (λ e. Tells e (states_conflict profile f g)) }
 {
     if let Err(conflict) = entries_conflict(alloc, left, right) {

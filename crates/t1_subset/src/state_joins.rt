@@ -5,11 +5,9 @@ ghost use Rattle.std.specs.FinMap as maps;
 ghost use Rattle.t1_join.specs.TableMeaning.{TablesAgree};
 ghost use Rattle.t1_font.specs.FontValue.{total, weight_limit, count_limit};
 ghost use Rattle.t1_font.specs.FontModel.{clamp};
-ghost use Rattle.t1_subset.specs.StateTables.{StatesFit, code_part, name_part, subr_part, new_entries, subr_adds, name_adds, name_counts, joint_weight, joint_glyphs};
-ghost use Rattle.t1_subset.specs.NameStates.{state_meaning};
+ghost use Rattle.t1_subset.specs.StateTables.{StatesFit, code_part, name_part, subr_part, new_entries, subr_adds, joint_weight, joint_glyphs};
 ghost use Rattle.t1_subset.specs.StateLaws.{PartsAgree};
 
-use crate::name_states::{NameState, NameTable};
 use crate::state_value::States;
 use std::alloc::{AllocError, Global};
 use t1_font::{COUNT_LIMIT, WEIGHT_LIMIT};
@@ -22,26 +20,6 @@ fn subr_adds(body: &[u8]) -> u64
     (body.len() as u64).saturating_sub(1)
 }
 
-/// What the state of a name adds to the weight of a font with this lenIV.
-fn name_adds(len_iv: u8, state: &NameState<'_>) -> u64
-    ensures { result ≡ name_adds len_iv [] (state_meaning state.now) }
-{
-    match state {
-        NameState::Sought => 0,
-        NameState::Charstring(body) => 256 + len_iv as u64 + body.len() as u64,
-    }
-}
-
-/// How many glyphs the state of a name adds to a font.
-fn name_counts(state: &NameState<'_>) -> u64
-    ensures { result ≡ name_counts [] (state_meaning state.now) }
-{
-    match state {
-        NameState::Sought => 0,
-        NameState::Charstring(_) => 1,
-    }
-}
-
 /// Whether the table has the key.
 fn has<K: Key + Drop, V: Kept + Drop>(table: &Table<K, V>, key: &K) -> bool
     ensures { result ≡ maps.contains_key table.now (K.meaning key.now) }
@@ -50,7 +28,7 @@ fn has<K: Key + Drop, V: Kept + Drop>(table: &Table<K, V>, key: &K) -> bool
 }
 
 /// What an entry adds, or nothing if it is there already.
-fn unless_there(is_there: bool, adds: u64) -> u64
+pub(crate) fn unless_there(is_there: bool, adds: u64) -> u64
     ensures { result ≡ cond is_there 0 adds }
 {
     if is_there { 0 } else { adds }
@@ -70,46 +48,21 @@ fn with_subrs(before: u64, own: &Table<u16, &[u8]>, other: &Table<u16, &[u8]>) -
     weight
 }
 
-/// `before` plus what the names of the other table that the first lacks add to the weight, as far as 64 bits hold it.
-fn with_names<'a>(before: u64, len_iv: u8, own: &NameTable<'a>, other: &NameTable<'a>) -> u64
-    ensures { result
-        ≡ clamp (before
-        + total (name_adds len_iv) (new_entries own.now (maps.entries other.now))) }
-{
-    let mut weight = before;
-    'entries: for (name, state) in other.entries() {
-        weight = weight.saturating_add(unless_there(has(&*own, name), name_adds(len_iv, state)));
-    }
-    weight
-}
-
-/// `before` plus how many glyphs the names of the other table that the first lacks add, as far as 64 bits hold it.
-fn with_glyphs<'a>(before: u64, own: &NameTable<'a>, other: &NameTable<'a>) -> u64
-    ensures { result
-        ≡ clamp (before
-        + total name_counts (new_entries own.now (maps.entries other.now))) }
-{
-    let mut count = before;
-    'entries: for (name, state) in other.entries() {
-        count = count.saturating_add(unless_there(has(&*own, name), name_counts(state)));
-    }
-    count
-}
-
 impl<'a> States<'a> {
     /// What a font of the joined states weighs, as far as 64 bits hold it.
     fn joint_weight(&self, other: &States<'a>) -> u64
         ensures { result ≡ clamp (joint_weight self.now other.now) }
     {
         let with_subrs = with_subrs(self.weight, &self.subrs, &other.subrs);
-        with_names(with_subrs, self.shared.len_iv(), &self.names, &other.names)
+        self.names
+            .weight_with(&other.names, with_subrs, self.shared.len_iv())
     }
 
     /// How many glyphs a font of the joined states has, as far as 64 bits hold it.
     fn joint_glyphs(&self, other: &States<'a>) -> u64
         ensures { result ≡ clamp (joint_glyphs self.now other.now) }
     {
-        with_glyphs(self.glyphs, &self.names, &other.names)
+        self.names.count_with(&other.names, self.glyphs)
     }
 
     /// Whether the joined states are within the limits.

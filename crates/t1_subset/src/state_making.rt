@@ -1,18 +1,18 @@
 //! The making of states: one run of each glyph.
 
-ghost use Rattle.std.specs.Prelude.{◌≡◌, ℕ, List, IfOk};
+ghost use Rattle.std.specs.Prelude.{◌≡◌, IfOk};
 ghost use Rattle.std.specs.Option.{option_map};
-ghost use Rattle.std.specs.FinMap as maps;
 ghost use Rattle.t1_subset.specs.Profile.{profile};
-ghost use Rattle.t1_subset.specs.StateTables.{name_states, states_of};
-ghost use Rattle.t1_subset.specs.Callers.{AreCallersOf, same_charstring, seeker_of};
+ghost use Rattle.t1_subset.specs.StateTables.{states_of};
+ghost use Rattle.t1_subset.specs.Shared.{shared_of};
+ghost use Rattle.t1_subset.specs.Callers.{AreCallersOf, same_charstring};
 
 use crate::callers::{Callers, Seekers, note_seekers};
 use crate::calls::run_alone;
-use crate::name_states::{NameTable, add_sought};
+use crate::name_states::NameTable;
 use crate::shared::{Shared, same_bytes};
 use crate::state_value::States;
-use crate::tables::{code_table, glyph_states, subr_table};
+use crate::tables::{code_table, subr_table};
 use crate::users::{no_users, note_users};
 use std::alloc::{AllocError, Global};
 use t1_font::Font;
@@ -60,33 +60,29 @@ pub(crate) fn callers_of<'t, 'a>(
     })
 }
 
-/// The states of the names of a font with these seekers.
-fn name_table<'a>(
+/// The states of a font, by its callers and what it shares. No glyph is run.
+pub(crate) fn states_from<'a>(
     alloc: Global,
-    font: &Font<'a>,
-    seekers: &Seekers<'a>,
-) -> Result<NameTable<'a>, AllocError>
-    requires { (p : List ℕ) → maps.get seekers.now p ≡ seeker_of font.now p }
-    ensures { IfOk result (λ names. names ≡ name_states profile font.now) }
+    callers: &Callers<'_, 'a>,
+    shared: Shared<'a>,
+) -> Result<States<'a>, AllocError>
+    requires callers { AreCallersOf callers.now callers.now.font.now }
+    requires shared { shared ≡ shared_of callers.now.font.now }
+    ensures { IfOk result (λ s. s ≡ states_of profile callers.now.font.now) }
 {
-    let mut names = glyph_states(alloc, font)?;
-    add_sought(&mut names, seekers)?;
-    Ok(names)
-}
-
-/// How many glyphs the font has.
-fn glyph_count(font: &Font<'_>) -> u64
-    ensures { result ≡ maps.len font.now.glyphs }
-{
+    let font = callers.font;
     font.proof_is_font();
-    let mut count = 0;
-    'names: for _name in font.names() {
-        count += 1;
-    }
-    count
+    Ok(States {
+        shared,
+        codes: code_table(alloc, font)?,
+        names: NameTable::of(alloc, font, &callers.seekers)?,
+        subrs: subr_table(alloc, font, &callers.users)?,
+        weight: font.weight() as u64,
+        glyphs: font.glyphs().len() as u64,
+    })
 }
 
-/// The states of a font, by its callers. No glyph is run.
+/// The states of a font, by its callers.
 pub(crate) fn states_by<'a>(
     alloc: Global,
     callers: &Callers<'_, 'a>,
@@ -94,16 +90,7 @@ pub(crate) fn states_by<'a>(
     requires { AreCallersOf callers.now callers.now.font.now }
     ensures { IfOk result (λ s. s ≡ states_of profile callers.now.font.now) }
 {
-    let font = callers.font;
-    font.proof_is_font();
-    Ok(States {
-        shared: Shared::of(alloc, font)?,
-        codes: code_table(alloc, font)?,
-        names: name_table(alloc, font, &callers.seekers)?,
-        subrs: subr_table(alloc, font, &callers.users)?,
-        weight: font.weight() as u64,
-        glyphs: glyph_count(font),
-    })
+    states_from(alloc, callers, Shared::of(alloc, callers.font)?)
 }
 
 /// The states of a font. Each glyph of the font is run once.

@@ -1,25 +1,19 @@
-//! The states of a font's codes, glyphs and Subrs, as tables that join key by key.
+//! The states of a font's codes and Subrs, as tables that join key by key.
 
-ghost use Rattle.std.specs.Prelude.{◌≡◌, ℕ, true, Some, IfOk, OnOk};
+ghost use Rattle.std.specs.Prelude.{◌≡◌, ℕ, true, IfOk, OnOk};
 ghost use Rattle.std.specs.Option.{option_map};
 ghost use Rattle.std.specs.FinMap as maps;
-ghost use Rattle.t1_font.specs.Maps.{map_values};
 ghost use Rattle.t1_subset.specs.Profile.{profile};
-ghost use Rattle.t1_subset.specs.StateTables.{numbered, name_meaning, code_states, used_subrs};
-ghost use Rattle.t1_subset.specs.NameStates.{state_meaning};
+ghost use Rattle.t1_subset.specs.StateTables.{numbered, code_states, used_subrs};
 ghost use Rattle.t1_subset.specs.Differences.{with_state, entry_state};
 ghost use Rattle.t1_subset.specs.Users.{user_at};
 ghost use Rattle.t1_subset.specs.Callers.{user_of};
 
-use crate::name_states::{NameState, NameTable};
 use crate::users::{Users, user_in};
 use std::alloc::{AllocError, Global};
 use t1_font::{Font, STUB};
 use t1_join::{Kept, Key, Table};
 use t1_run::Subroutines;
-
-/// How many names components can have: those of StandardEncoding.
-const SOUGHT_ROOM: usize = 149;
 
 /// Puts a state at a key, if there is one.
 pub(crate) fn put<K: Key + Drop, V: Kept + Drop>(
@@ -47,29 +41,6 @@ pub(crate) fn code_table<'a>(
     let mut table = Table::new(alloc);
     'codes: for code in 0..256u16 {
         put(&mut table, code, font.encoding_at(code as u8))?;
-    }
-    Ok(table)
-}
-
-/// The state of a name with this charstring, if it has one.
-fn charstring_state(charstring: Option<&[u8]>) -> Option<NameState<'_>>
-    ensures { option_map state_meaning result
-        ≡ option_map (λ c. name_meaning (Some c.now)) charstring.entry }
-{
-    match charstring {
-        Some(charstring) => Some(NameState::Charstring(charstring)),
-        None => None,
-    }
-}
-
-/// The charstrings of the glyphs, as the states of their names.
-pub(crate) fn glyph_states<'a>(alloc: Global, font: &Font<'a>) -> Result<NameTable<'a>, AllocError>
-    ensures { IfOk result (λ table. table
-        ≡ map_values (λ n c. name_meaning (Some c)) font.now.glyphs) }
-{
-    let mut table = Table::with_capacity(alloc, font.names().count().saturating_add(SOUGHT_ROOM))?;
-    'names: for name in font.names() {
-        put(&mut table, name, charstring_state(font.charstring(name)))?;
     }
     Ok(table)
 }

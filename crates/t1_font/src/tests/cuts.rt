@@ -233,11 +233,11 @@ fn cuts_of_tiny(rt: HostRuntime) -> Result<(), Fail> {
 }
 
 /// Names and Subrs that Tiny is cut to.
-type Cut = (&'static [&'static [u8]], &'static [u16]);
+pub type Cut = (&'static [&'static [u8]], &'static [u16]);
 
-const X: Cut = (&[b"X"], &[0, 1, 2, 3, 5]);
+pub const X: Cut = (&[b"X"], &[0, 1, 2, 3, 5]);
 
-const Y: Cut = (&[b"Y"], &[0, 1, 2, 3, 5, 6]);
+pub const Y: Cut = (&[b"Y"], &[0, 1, 2, 3, 5, 6]);
 
 const X_AND_Y: Cut = (&[b"X", b"Y"], &[0, 1, 2, 3, 5, 6]);
 
@@ -297,7 +297,7 @@ fn cut_font<'a>(
 }
 
 /// The same of the font of a source, which is lent for no longer than it is cut.
-fn lent_cut_font<'a>(alloc: Global, source: &'a Source, cut: Cut) -> Result<Font<'a>, AllocError> {
+pub fn lent_cut_font<'a>(alloc: Global, source: &'a Source, cut: Cut) -> Result<Font<'a>, AllocError> {
     let font = source.font(alloc)?;
     cut_font(alloc, &font, cut.0, cut.1)
 }
@@ -441,7 +441,7 @@ fn coded(alloc: Global) -> Result<Vec<u8>, AllocError> {
 
 /// A font of 256 codes, 2,000 Subrs of two bytes, and 4,001 glyphs of one byte: `.notdef`, and those of the names `0` to
 /// `3999`.
-fn large(alloc: Global) -> Result<Vec<u8>, AllocError> {
+pub fn large(alloc: Global) -> Result<Vec<u8>, AllocError> {
     let clear = coded(alloc)?;
     let mut private = Vec::from_slice(alloc, b"/lenIV 0 def /Subrs 2000 array\n")?;
     add_lines(alloc, &mut private, 0..2000, b"dup ", b" 2 RD ab NP\n")?;

@@ -24,7 +24,7 @@ use Rattle.t1_subset.specs.Clashes.{AreCallers}
 use Rattle.t1_subset.proofs.Flat.{agree_back}
 use Rattle.t1_subset.proofs.closing.ExecutedCalls.{calls_by, no_calls}
 use Rattle.t1_subset.proofs.closing.ProfileRuns.{no_components}
-use Rattle.t1_subset.proofs.state_tables.FirstNames.{smaller_first}
+use Rattle.t1_subset.proofs.state_tables.LowestKeys.{smaller_first}
 use Rattle.t1_subset.proofs.JoinedStates.{glyph_in_join, present_joined, executes_join, calls_join}
 use Rattle.t1_subset.proofs.Uses.{executing_there, naming_there, sought}
 use Rattle.std.specs.Cmp.{second_so}
@@ -130,13 +130,13 @@ module _ (f : FontValue) where
 module _ (f g : FontValue) where
   -- the smaller of the users in two fonts is the smallest glyph of both that executes the index
   pub smallest_user : (i : ℕ) → smaller name_cmp (user_of f i) (user_of g i) ≡ smallest (used_by profile f g i) (glyph_names f g)
-  smallest_user i = smaller_first nat_list_cmp_total name_same f.glyphs g.glyphs (λ n. executes profile f n i) (λ n. executes profile g n i)
-      (λ n h. executing_there profile f i (maps.get f.glyphs n) h) (λ n h. executing_there profile g i (maps.get g.glyphs n) h) _ _ refl refl
+  smallest_user i = smaller_first nat_list_cmp_total name_same (λ n. executes profile f n i) (λ n. executes profile g n i) f.glyphs g.glyphs
+      (λ n h. executing_there profile f i (maps.get f.glyphs n) h) (λ n h. executing_there profile g i (maps.get g.glyphs n) h)
 
   -- the smaller of the seekers in two fonts is the smallest glyph of both that wants the component
   pub smallest_seeker : (p : List ℕ) → smaller name_cmp (seeker_of f p) (seeker_of g p) ≡ smallest (wanted_by profile f g p) (glyph_names f g)
-  smallest_seeker p = smaller_first nat_list_cmp_total name_same f.glyphs g.glyphs (λ n. wants profile f n p) (λ n. wants profile g n p)
-      (λ n h. naming_there profile f p (maps.get f.glyphs n) (second_so (not (has f p)) (calls_for profile f n p) h)) (λ n h. naming_there profile g p (maps.get g.glyphs n) (second_so (not (has g p)) (calls_for profile g n p) h)) _ _ refl refl
+  smallest_seeker p = smaller_first nat_list_cmp_total name_same (λ n. wants profile f n p) (λ n. wants profile g n p) f.glyphs g.glyphs
+      (λ n h. naming_there profile f p (maps.get f.glyphs n) (second_so (not (has f p)) (calls_for profile f n p) h)) (λ n h. naming_there profile g p (maps.get g.glyphs n) (second_so (not (has g p)) (calls_for profile g n p) h))
 
 keys_valued : (es : List (List ℕ × List ℕ)) → map (λ (e : List ℕ × List ℕ). e.0) es ≡ map (λ (e : List ℕ × ℕ). e.0) (map (λ (e : List ℕ × List ℕ). (e.0, 0)) es)
 keys_valued [] = refl

@@ -14,16 +14,15 @@ use Rattle.t1_join.specs.Join.{StatesAgree as PlacesAgree}
 use Rattle.t1_join.specs.StateLaws.{same_meaning-true, same_meaning-self, state_itself}
 use Rattle.t1_join.specs.TableMeaning.{TableMeaning, TablesAgree, TablesJoin, joined_table}
 use Rattle.t1_join.specs.TableLaws.{get_joined, same_table}
-use Rattle.t1_font.specs.Maps.{map_values}
 use Rattle.t1_font.specs.Joins.{join_encodings}
 use Rattle.t1_font.specs.FontModel.{names_in, word_of, clamp}
 use Rattle.t1_font.specs.FontValue.{FontValue, Encoding, Word, Codes, Numbered, name_cmp, total, subr_weight, weight, weight_limit, count_limit}
 use Rattle.t1_font.specs.WriteLaws.{SameKind}
 use Rattle.t1_font.proofs.CutEntries.{entries-retain}
-use Rattle.t1_font.proofs.MapLemmas.{Some_same, Some_None, get-map_values, entries-map_values, entries_all, get-retain, length_total}
+use Rattle.t1_font.proofs.MapLemmas.{Some_same, Some_None, entries_all, get-retain, length_total}
 use Rattle.t1_subset.specs.Interpreter.{Interpreter, same_bytes}
 use Rattle.t1_subset.specs.States.{named_at, Agree, joined, IsWithin, is_called, is_sought, is_stub, state_of_entry, subr_state, state_of_glyph, name_state, code_state, Compatible, Join, joined_font}
-use Rattle.t1_subset.specs.StateTables.{StatesValue, numbered, name_meaning, code_states, used_subrs, all_components, name_states, states_of, new_entries, subr_adds, name_adds, name_counts, shared_weight, states_weight, states_glyphs, StatesFit, IsSized, name_part, subr_part, joint_weight, joint_glyphs, PartsJoin, StatesAgree, StatesJoin}
+use Rattle.t1_subset.specs.StateTables.{StatesValue, numbered, name_meaning, AreSought, code_states, used_subrs, all_components, name_states, states_of, new_entries, subr_adds, name_adds, name_counts, shared_weight, states_weight, states_glyphs, StatesFit, IsSized, name_part, subr_part, joint_weight, joint_glyphs, PartsJoin, StatesAgree, StatesJoin}
 use Rattle.t1_subset.specs.Shared.{Shared}
 use Rattle.t1_join.specs.Products.{BothJoin}
 use Rattle.t1_subset.specs.StateLaws.{PartsAgree, parts_laws}
@@ -33,6 +32,7 @@ use Rattle.t1_subset.proofs.Maps.{get-merged, maps_same}
 use Rattle.t1_subset.proofs.state_tables.Numbered.{at_number, get-numbered, entries-numbered, numbered-merged}
 use Rattle.t1_subset.proofs.Sets.{name_same}
 use Rattle.t1_subset.proofs.JoinedStates.{subr_joined, name_joined, present_joined}
+use Rattle.t1_subset.proofs.state_tables.NameTables.{get-name, names_total}
 use Rattle.t1_subset.proofs.state_tables.TableWeights.{total-merged}
 
 -- ---- states that agree
@@ -115,10 +115,6 @@ module _ {O : Type 0} (m : Interpreter O) (f : FontValue) where
   pub get-used : (i : ℕ) → maps.get (used_subrs m f) i ≡ subr_state m f i
   get-used i = get-retain nat_cmp_total nat_cmp-IsAntisymmetric f.subrs (λ i. is_some (subr_state m f i)) i ∙ used_at i (maps.get f.subrs i)
 
-  -- the names that have glyphs
-  abbrev there : TableMeaning
-  there = map_values (λ n c. name_meaning (Some c)) f.glyphs
-
   -- the names that are sought
   abbrev sought : TableMeaning
   sought = maps.from_entries (map (λ p. (p, name_meaning None)) (all_components m f))
@@ -131,13 +127,20 @@ module _ {O : Type 0} (m : Interpreter O) (f : FontValue) where
   lone true = refl
   lone false = refl
 
+  are_sought : AreSought sought
+  are_sought n v is = at (is_sought m f n) (sym (get-sought n) ∙ is)
+    where
+      at : (b : Bool) → cond b (Some []) None ≡ Some v → v ≡ []
+      at true h = sym (Some_same h)
+      at false h = Some_None (sym h)
+
   name_at : (n : List ℕ) (x : Option (List ℕ)) → joined_state (option_map (λ c. name_meaning (Some c)) x) (cond (is_sought m f n) (Some []) None) ≡ meant (state_of_glyph m f n x)
   name_at n None = lone (is_sought m f n)
   name_at n (Some c) = refl
 
   -- the table of names has the state of each name
   pub get-names : (n : List ℕ) → maps.get (name_states m f) n ≡ meant (name_state m f n)
-  get-names n = get_joined there sought n ∙ (λ i. joined_state (get-map_values nat_list_cmp_total name_same (λ n c. name_meaning (Some c)) f.glyphs n i) (get-sought n i)) ∙ name_at n (maps.get f.glyphs n)
+  get-names n = get-name f.glyphs sought n ∙ ap (joined_state (option_map (λ c. name_meaning (Some c)) (maps.get f.glyphs n))) (get-sought n) ∙ name_at n (maps.get f.glyphs n)
 
 -- ---- compatible fonts have states that agree
 
@@ -249,19 +252,6 @@ total_apart : (iv : ℕ) (es : List (ℕ × List ℕ)) → total (subr_weight iv
 total_apart iv [] = omega arith
 total_apart iv (e ∷ es) = let rest = total_apart iv es in let one = at_least_one (length e.1) in omega (arith, rest, one)
 
--- the sum over glyphs as states of names is the sum over glyphs
-total_valued : (w : Meaning → Meaning → ℕ) (es : List (List ℕ × List ℕ)) → total w (map (λ e. (e.0, name_meaning (Some e.1))) es) ≡ total (λ n c. w n (name_meaning (Some c))) es
-total_valued w [] = refl
-total_valued w (e ∷ es) = ap (λ n. w e.0 (name_meaning (Some e.1)) + n) (total_valued w es)
-
--- entries that weigh nothing sum to nothing
-total_none : (w : Meaning → Meaning → ℕ) (p : Meaning × Meaning → Bool) (es : List (Meaning × Meaning)) → AllByRecursion (λ e. w e.0 e.1 ≡ 0) es → total w (filter p es) ≡ 0
-total_none w p [] h = refl
-total_none w p (e ∷ es) h = elim (p e) as (λ b. total w (cond b (e ∷ filter p es) (filter p es)) ≡ 0) [
-  | true ↦ let none = h.0 in let rest = total_none w p es h.1 in omega (arith, none, rest)
-  | false ↦ total_none w p es h.1
-]
-
 module _ {O : Type 0} (m : Interpreter O) (f : FontValue) where
   -- an entry whose state is the bottom weighs no more than a stub
   stub_adds_nothing : (i : ℕ) (c : List ℕ) → maps.get f.subrs i ≡ Some c → is_some (subr_state m f i) ≡ false → length c - 1 ≡ 0
@@ -286,26 +276,17 @@ module _ {O : Type 0} (m : Interpreter O) (f : FontValue) where
           ∙ total_kept (λ i c. length c - 1) (λ i. is_some (subr_state m f i)) (maps.entries f.subrs)
           (entries_all nat_cmp_total nat_cmp-IsAntisymmetric (λ i c. is_some (subr_state m f i) ≡ false → length c - 1 ≡ 0) f.subrs stub_adds_nothing))
 
-  no_value : (b : Bool) (v : Meaning) → cond b (Some []) None ≡ Some v → [] ≡ v
-  no_value true v h = Some_same h
-  no_value false v h = Some_None (sym h)
-
   -- sought names add nothing to a sum over names
-  names_total : (w : Meaning → Meaning → ℕ) → ((n : Meaning) → w n [] ≡ 0) → total w (maps.entries (name_states m f)) ≡ total (λ n c. w n (name_meaning (Some c))) (maps.entries f.glyphs)
-  names_total w h =
-      let new : total w (new_entries (there m f) (maps.entries (sought m f))) ≡ 0 = total_none w (λ e. not (maps.contains_key (there m f) e.0)) (maps.entries (sought m f))
-      (entries_all nat_list_cmp_total name_same (λ n v. w n v ≡ 0) (sought m f) (λ n v is. ap (w n) (sym (no_value (is_sought m f n) v (sym (get-sought m f n) ∙ is))) ∙ h n)) in
-      let own : total w (maps.entries (there m f)) ≡ total (λ n c. w n (name_meaning (Some c))) (maps.entries f.glyphs) = ap (total w) (entries-map_values nat_list_cmp_total name_same (λ n c. name_meaning (Some c)) f.glyphs) ∙ total_valued w (maps.entries f.glyphs) in
-      let all = total-merged nat_list_cmp_total w name_same (there m f) (sought m f) in
-      omega (arith, all, new, own)
+  in_all : (w : Meaning → Meaning → ℕ) → ((n : Meaning) → w n [] ≡ 0) → total w (maps.entries (name_states m f)) ≡ total (λ n c. w n (name_meaning (Some c))) (maps.entries f.glyphs)
+  in_all w h = names_total f.glyphs (sought m f) (are_sought m f) w h
 
   -- the weight of a font's states is the weight of the font
   pub weight_is : states_weight (states_of m f) ≡ weight f
-  weight_is = let subrs = subrs_weigh in let glyphs = names_total (name_adds f.shell.len_iv) (λ n. refl) in omega (arith, subrs, glyphs)
+  weight_is = let subrs = subrs_weigh in let glyphs = in_all (name_adds f.shell.len_iv) (λ n. refl) in omega (arith, subrs, glyphs)
 
   -- a font's states count the glyphs of the font
   pub glyphs_are : states_glyphs (states_of m f) ≡ maps.len f.glyphs
-  glyphs_are = names_total name_counts (λ n. refl) ∙ length_total (maps.entries f.glyphs) ∙ sym (maps.len-entries f.glyphs)
+  glyphs_are = in_all name_counts (λ n. refl) ∙ length_total (maps.entries f.glyphs) ∙ sym (maps.len-entries f.glyphs)
 
   -- the states of a font within the limits are within them
   pub fits : IsWithin f → StatesFit (states_of m f)

@@ -16,6 +16,7 @@ use Rattle.t1_subset.specs.Differences.{shell_part, bytes_of}
 use Rattle.t1_subset.specs.Refusals.{Tells}
 use Rattle.t1_subset.specs.Clashes.{entries_conflict, uses_conflict}
 use Rattle.t1_subset.specs.Conflicts.{Conflict, ShellDiffers, CodeDiffers, GlyphDiffers, LacksComponent, SubrDiffers, OverLimit, shell_conflict, code_conflict, glyph_conflict, states_conflict, conflict, is_within}
+use Rattle.t1_subset.specs.Shared.{ShellPart}
 use Rattle.t1_subset.specs.Searches.{found}
 use Rattle.t1_subset.proofs.Conflicts.{compatible, within_so}
 use Rattle.t1_subset.proofs.Searching.{found_none}
@@ -75,6 +76,15 @@ never : {Y : Type 0} (d : Option Y) (y : Y) → None ≡ Some y → d ≡ Some y
 never d y h = cc
 
 module _ (f g : FontValue) where
+  -- a part that differs is the lowest conflict of the fonts
+  shell_first : (x : Option ShellPart) (c : Conflict) (rest : Option Conflict) → option_map ShellDiffers x ≡ Some c → found ShellDiffers x rest ≡ Some c
+  shell_first None c rest h = cc
+  shell_first (Some p) c rest h = h
+
+  -- a refusal that tells a part that differs tells the lowest conflict of states
+  pub tells_shell : (x : Option ShellPart) → x ≡ shell_conflict f g → (e : Refusal) → Tells e (option_map ShellDiffers x) → Tells e (states_conflict profile f g)
+  tells_shell x is e t = tells_on e (option_map ShellDiffers x) (states_conflict profile f g) (λ c h. shell_first (shell_conflict f g) c _ (ap (option_map ShellDiffers) (sym is) ∙ h)) t
+
   -- the lowest conflict of entries is the lowest of states
   in_states : (x : Conflict) → entries_conflict f g ≡ Some x → states_conflict profile f g ≡ Some x
   in_states x h = found_on ShellDiffers (shell_conflict f g) _ _ x (found_on CodeDiffers (code_conflict f g) _ _ x (found_on GlyphDiffers (glyph_conflict f g) None (uses_conflict f g) x (never (uses_conflict f g) x))) h

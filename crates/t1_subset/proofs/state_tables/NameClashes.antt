@@ -1,56 +1,30 @@
--- The smallest names in conflict, as the code finds them in tables of states.
-use Rattle.std.proofs.Common.{◌≡◌, ℕ, Bool, true, false, not, cond, ◌&&◌, ◌||◌, List, [], ◌∷◌, map, refl, sym, ◌∙◌, ap, Ordering, Option, Some, None, is_some, option_map, is_lt}
-use Rattle.std.specs.List.{list_any, AllByRecursion}
-use Rattle.std.specs.Cmp.{IsTotalOrder, first_so}
+-- The states of a font's names as the code makes them, and the smallest names in conflict as it finds them.
+use Rattle.std.proofs.Common.{◌≡◌, ℕ, Bool, true, false, not, cond, ◌&&◌, ◌||◌, List, [], refl, sym, ◌∙◌, ap, subst, Option, Some, None, is_some, option_map, is_lt}
+use Rattle.std.specs.List.{list_any}
+use Rattle.std.specs.Cmp.{first_so}
 use Rattle.std.specs.Cmp.Lexicographic.{nat_list_cmp_total}
-use Rattle.std.specs.FinSet.{IsAntisymmetric}
 use Rattle.std.specs.FinMap as maps
 use Rattle.t1_join.specs.Meaning.{Meaning}
-use Rattle.t1_join.specs.Join.{State}
+use Rattle.t1_join.specs.Join.{joined_state}
 use Rattle.t1_join.specs.TableMeaning.{TableMeaning}
+use Rattle.t1_join.specs.TableLaws.{same_table}
 use Rattle.t1_font.specs.FontValue.{FontValue, name_cmp}
-use Rattle.t1_font.proofs.MapLemmas.{entries_all}
 use Rattle.t1_subset.specs.Keep.{has}
 use Rattle.t1_subset.specs.Profile.{profile}
 use Rattle.t1_subset.specs.States.{is_sought, name_state, state_of_glyph}
-use Rattle.t1_subset.specs.StateTables.{name_states, behind_mark}
+use Rattle.t1_subset.specs.StateTables.{name_states, behind_mark, names_table, name_meaning}
 use Rattle.t1_subset.specs.Conflicts.{agrees, glyph_names, glyph_clashes, glyph_conflict, component_clashes, component_conflict, wanted_by}
-use Rattle.t1_subset.specs.Searches.{smallest, members, KeySet, first_where}
+use Rattle.t1_subset.specs.Searches.{members, IsLowest}
 use Rattle.t1_subset.specs.Differences.{smaller}
 use Rattle.t1_subset.specs.Callers.{seeker_of}
-use Rattle.t1_subset.specs.Clashes.{is_sought_in, charstrings_differ, one_lacks, first_clash}
-use Rattle.t1_subset.proofs.Searching.{passes_none, in_both}
+use Rattle.t1_subset.specs.Clashes.{is_sought_in, charstrings_differ, one_lacks}
+use Rattle.t1_subset.proofs.Searching.{in_both}
 use Rattle.t1_subset.proofs.state_tables.FirstConflicts.{there_of}
-use Rattle.t1_subset.proofs.state_tables.FirstNames.{nothing, no_lower, passing}
+use Rattle.t1_subset.proofs.state_tables.LowestKeys.{lowest_is}
 use Rattle.t1_subset.proofs.state_tables.FontCallers.{any_first, sought_is, smallest_seeker}
 use Rattle.t1_subset.proofs.state_tables.FontStates.{meant, get-names}
+use Rattle.t1_subset.proofs.state_tables.NameTables.{get-name}
 use Rattle.t1_subset.proofs.Sets.{name_same, or_left}
-use Rattle.t1_subset.proofs.Smallest.{smallest_is}
-
--- ---- searches
-
--- the first key of a map that passes is the smallest of a set, if what passes is in both
-module _ {K X : Type 0} {R : K → K → Ordering} (o : IsTotalOrder R) (same : IsAntisymmetric R) (p : K → Bool) (a : maps.FinMap R X) (b : maps.FinMap R ℕ) (in_a : (k : K) → p k ≡ true → maps.contains_key a k ≡ true) (in_b : (k : K) → p k ≡ true → maps.contains_key b k ≡ true) where
-  same_at : (x : Option K) → first_where p (maps.keys a) ≡ x → x ≡ smallest p b
-  same_at None h = sym (passes_none p (members b) (nothing o same p a in_a h))
-  same_at (Some k) h = let is = passing o same p a in_a k h in sym (smallest_is o same p b k (in_b k is) is (λ q w l. no_lower o same p a in_a k h q l))
-
-  pub same_search : first_where p (maps.keys a) ≡ smallest p b
-  same_search = same_at (first_where p (maps.keys a)) refl
-
--- the key of the first entry that passes is the first key that passes
-first_keys : (P : Meaning × Meaning → Bool) (p : Meaning → Bool) (es : List (Meaning × Meaning)) → AllByRecursion (λ e. P e ≡ p e.0) es → option_map (λ e. e.0) (first_where P es) ≡ first_where p (map (λ e. e.0) es)
-first_keys P p [] h = refl
-first_keys P p (e ∷ es) h =
-    ap (λ b. option_map (λ e. e.0) (cond b (Some e) (first_where P es))) h.0
-    ∙ (elim (p e.0) as (λ b. option_map (λ e. e.0) (cond b (Some e) (first_where P es)) ≡ cond b (Some e.0) (first_where p (map (λ e. e.0) es))) [ true ↦ refl | false ↦ first_keys P p es h.1 ])
-
-module _ (clashes : State → State → Bool) (s t : TableMeaning) (p : Meaning → Bool) (at : (n : Meaning) → clashes (maps.get s n) (maps.get t n) ≡ p n) where
-  -- the first clash in a table is the smallest name of a set whose states clash
-  pub first_clash_is : (b : KeySet name_cmp) → ((n : Meaning) → p n ≡ true → maps.contains_key s n ≡ true) → ((n : Meaning) → p n ≡ true → maps.contains_key b n ≡ true) → first_clash clashes s t ≡ smallest p b
-  first_clash_is b in_s in_b =
-      first_keys (λ e. clashes (Some e.1) (maps.get t e.0)) p (maps.entries s) (entries_all nat_list_cmp_total name_same (λ n v. clashes (Some v) (maps.get t n) ≡ p n) s (λ n v is. ap (λ x. clashes x (maps.get t n)) (sym is) ∙ at n))
-      ∙ same_search nat_list_cmp_total name_same p s b in_s in_b
 
 -- ---- the state of a name
 
@@ -82,21 +56,13 @@ module _ (f g : FontValue) (s t : TableMeaning) (es : s ≡ name_states profile 
   other_seeks : (n : List ℕ) → is_sought_in (maps.get t n) ≡ is_some (seeker_of g n)
   other_seeks n = ap is_sought_in (other n) ∙ sought_at g n (maps.get g.glyphs n) ∙ sym (sought_is g n)
 
-  there_so : (x : State) → is_some (behind_mark x) ≡ true → is_some x ≡ true
-  there_so None h = h
-  there_so (Some v) h = refl
-
-  sought_there : (x : State) → is_sought_in x ≡ true → is_some x ≡ true
-  sought_there None h = h
-  sought_there (Some v) h = refl
-
   -- ---- glyphs
 
-  -- the smallest name with two charstrings that differ is the conflict of glyphs
-  pub glyph_found : first_clash charstrings_differ s t ≡ glyph_conflict f g
-  glyph_found = first_clash_is charstrings_differ s t (glyph_clashes f g) (λ n i. not (agrees (own_charstring n i) (other_charstring n i))) (glyph_names f g)
-      (λ n h. there_so (maps.get s n) (ap is_some (own_charstring n) ∙ there_of (maps.get f.glyphs n) (maps.get g.glyphs n) h))
+  -- the lowest name with two charstrings that differ is the conflict of glyphs
+  pub glyph_found : (x : Option (List ℕ)) → IsLowest name_cmp (λ n. charstrings_differ (maps.get s n) (maps.get t n)) x → x ≡ glyph_conflict f g
+  glyph_found x h = lowest_is nat_list_cmp_total name_same (glyph_clashes f g) (glyph_names f g)
       (λ n h. in_both nat_list_cmp_total name_same f.glyphs g.glyphs n ∙ or_left (has f n) (has g n) (there_of (maps.get f.glyphs n) (maps.get g.glyphs n) h))
+      x (subst (λ p. IsLowest name_cmp p x) (λ i n. not (agrees (own_charstring n i) (other_charstring n i))) h)
 
   -- ---- components
 
@@ -145,14 +111,26 @@ module _ (f g : FontValue) (s t : TableMeaning) (es : s ≡ name_states profile 
       ∙ (λ i. (has f p || has g p) && (sym (seeks_not f p) i || sym (seeks_not g p) i))
       ∙ ap (λ b. (has f p || has g p) && b) (sym (wanted_so p))
 
-  lacking_there : (x y : State) → one_lacks x y ≡ true → is_some x ≡ true
-  lacking_there None None h = h
-  lacking_there None (Some []) h = h
-  lacking_there None (Some (mark ∷ c)) h = h
-  lacking_there (Some v) y h = refl
-
-  -- the smallest name that one seeks and the other has is the conflict of components
-  pub component_found : first_clash one_lacks s t ≡ component_conflict profile f g
-  component_found = first_clash_is one_lacks s t (component_clashes profile f g) lacking_so (glyph_names f g)
-      (λ n h. lacking_there (maps.get s n) (maps.get t n) (lacking_so n ∙ h))
+  -- the lowest name that one seeks and the other has is the conflict of components
+  pub component_found : (x : Option (List ℕ)) → IsLowest name_cmp (λ n. one_lacks (maps.get s n) (maps.get t n)) x → x ≡ component_conflict profile f g
+  component_found x h = lowest_is nat_list_cmp_total name_same (component_clashes profile f g) (glyph_names f g)
       (λ n h. in_both nat_list_cmp_total name_same f.glyphs g.glyphs n ∙ first_so (has f n || has g n) (list_any (wanted_by profile f g n) (members (glyph_names f g))) h)
+      x (subst (λ p. IsLowest name_cmp p x) (λ i n. lacking_so n i) h)
+
+-- ---- the table of a font's names
+
+module _ (f : FontValue) where
+  lone : (b : Bool) → cond b (Some []) None ≡ meant (cond b (Some None) None)
+  lone true = refl
+  lone false = refl
+
+  name_by : (q : List ℕ) (x : Option (List ℕ)) → joined_state (option_map (λ c. name_meaning (Some c)) x) (cond (not (is_some x) && is_sought profile f q) (Some []) None) ≡ meant (state_of_glyph profile f q x)
+  name_by q None = lone (is_sought profile f q)
+  name_by q (Some c) = refl
+
+  -- the table of the glyphs and of what they seek has the states of the names
+  pub names_made : (s seekers : TableMeaning) → ((q : Meaning) → maps.get s q ≡ cond (maps.contains_key seekers q) (Some []) None) → ((p : List ℕ) → maps.get seekers p ≡ seeker_of f p) → names_table f.glyphs s ≡ name_states profile f
+  names_made s seekers h are = same_table (names_table f.glyphs s) (name_states profile f) (λ q.
+      get-name f.glyphs s q
+      ∙ ap (joined_state (option_map (λ c. name_meaning (Some c)) (maps.get f.glyphs q))) (h q ∙ ap (λ b. cond b (Some []) None) (ap is_some (are q) ∙ sought_is f q))
+      ∙ name_by q (maps.get f.glyphs q) ∙ sym (get-names profile f q))

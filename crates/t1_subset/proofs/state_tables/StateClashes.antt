@@ -5,7 +5,7 @@ use Rattle.t1_join.specs.TableMeaning.{TableMeaning}
 use Rattle.t1_font.specs.FontValue.{FontValue}
 use Rattle.t1_subset.specs.Profile.{profile}
 use Rattle.t1_subset.specs.StateTables.{StatesValue, code_states, name_states, used_subrs, numbered, states_of}
-use Rattle.t1_subset.specs.Shared.{Shared, shared_of, differing_part, ShellPart}
+use Rattle.t1_subset.specs.Shared.{Shared, shared_of, differing_part}
 use Rattle.t1_subset.specs.Conflicts.{ShellDiffers, CodeDiffers, GlyphDiffers, LacksComponent, SubrDiffers, keys_of_both, shell_conflict, code_conflict, glyph_conflict, component_conflict, subr_conflict, subr_clashes, wanted_by, used_by, glyph_names}
 use Rattle.t1_subset.specs.Searches.{found, smallest, members, first_where}
 use Rattle.t1_subset.specs.Clashes.{entries_conflict, uses_conflict}
@@ -37,10 +37,6 @@ parts_seen s t f g a b = λ i. differing_part (a i) (b i)
 -- ---- conflicts in their order
 
 module _ (f g : FontValue) where
-  -- a conflict of shells is the lowest of entries
-  pub entries_shell : (p : ShellPart) → Some p ≡ shell_conflict f g → Some (ShellDiffers p) ≡ entries_conflict f g
-  entries_shell p h = λ i. found ShellDiffers (h i) (found CodeDiffers (code_conflict f g) (found GlyphDiffers (glyph_conflict f g) None))
-
   -- a conflict of codes is the lowest of entries, if the shells have none
   pub entries_code : (c : ℕ) → None ≡ shell_conflict f g → Some c ≡ code_conflict f g → Some (CodeDiffers c) ≡ entries_conflict f g
   entries_code c s h = λ i. found ShellDiffers (s i) (found CodeDiffers (h i) (found GlyphDiffers (glyph_conflict f g) None))

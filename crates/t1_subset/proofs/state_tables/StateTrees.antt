@@ -1,23 +1,18 @@
 -- Merges of fonts are joins of their states.
-use Rattle.std.proofs.Common.{◌≡◌, ◌<◌, ◌↔◌, true≢false, List, [], ◌∷◌, ◌++◌, map, length, get_or, refl, sym, ◌∙◌, ap, subst, arith, inl, Bool, true, false, Option, Some, None, Result, Ok, Err, IfOk, IfErr, IsPermutation}
-use Rattle.std.proofs.lemmas.List.{map-append, length-map}
+use Rattle.std.proofs.Common.{◌≡◌, ◌<◌, true≢false, List, [], ◌∷◌, ◌++◌, map, length, get_or, refl, sym, ◌∙◌, ap, subst, arith, inl, true, Option, Some, None, option_map, is_some, Result, Ok, Err, IfOk, IfErr, IsPermutation}
 use Rattle.std.proofs.lemmas.List.Sorted.{IsPermutation-refl}
 use Rattle.std.specs.List.{AllByRecursion}
-use Rattle.t1_join.specs.Groupings.{Grouping, one, two, leaves, from_left, Uses, IsJoinOf, HaveJoin}
-use Rattle.t1_join.proofs.OrderLemmas.{each_leaf, leaves_mapped, leaves_from_left, uses_its, only_itself, none_of_front, none_of_back, halves_apart}
-use Rattle.t1_join.proofs.OrderLemmas.{halves_join as joined_halves}
+use Rattle.t1_join.specs.Groupings.{Grouping, one, two, leaves, from_left, Uses, IsJoinOf}
+use Rattle.t1_join.proofs.OrderLemmas.{each_leaf, leaves_mapped, leaves_from_left, uses_its}
 use Rattle.t1_font.specs.FontValue.{FontValue}
 use Rattle.t1_font.specs.IsFont.{IsFont}
-use Rattle.t1_subset.specs.declared.callers.Callers.{Callers}
 use Rattle.t1_subset.specs.declared.conflict.Conflict.{Conflict as Refusal}
 use Rattle.t1_subset.specs.declared.conflict.Conflict.TheVariants.{Memory}
-use Rattle.t1_subset.specs.Callers.{fonts_of}
 use Rattle.t1_subset.specs.Conflicts.{states_conflict, conflict}
 use Rattle.t1_subset.specs.Profile.{profile}
 use Rattle.t1_subset.specs.Refusals.{Tells}
 use Rattle.t1_subset.specs.States.{IsWithin, Join, joined_font}
-use Rattle.t1_subset.specs.StateLaws.{states_laws}
-use Rattle.t1_subset.specs.StateTables.{StatesValue, StatesAgree, StatesJoin, states_of}
+use Rattle.t1_subset.specs.StateTables.{StatesValue, StatesJoin, states_of}
 use Rattle.t1_subset.specs.Merger.{EachGroupingMerges, SomeGroupingMerges, ComesTo, IsRefused}
 use Rattle.t1_subset.proofs.Conflicts.{no_conflict, no_states_conflict}
 use Rattle.t1_subset.proofs.Fonts.{font_within}
@@ -38,6 +33,15 @@ pub each_grouping : (fs : List FontValue) → AllByRecursion IsFont fs → (v : 
 each_grouping fs w v h t e =
     let r = merges_by_states profile t (each_leaf IsWithin t (subst (AllByRecursion IsWithin) (sym e) (all_within fs w))) v (h.1 (grouped profile t) (uses_all t fs e)) in
     (r.0, r.1)
+
+all_same : (ss : List StatesValue) → map (λ s. s) ss ≡ ss
+all_same [] = refl
+all_same (s ∷ ss) = ap (λ ss. s ∷ ss) (all_same ss)
+
+-- the same, where the code answers a join
+pub joined_groupings : (fs : List FontValue) → AllByRecursion IsFont fs → (ss : List StatesValue) → ss ≡ map (states_of profile) fs → (o : Option StatesValue) → is_some o ≡ true → IsJoinOf StatesJoin (map (λ s. s) ss) (option_map (λ s. s) o) → EachGroupingMerges fs
+joined_groupings fs w ss is None t h = absurd (true≢false (sym t))
+joined_groupings fs w ss is (Some v) t h = each_grouping fs w v (subst (λ (ss : List StatesValue). IsJoinOf StatesJoin ss (Some v)) (all_same ss ∙ is) h)
 
 -- ---- parts of a list
 
@@ -137,56 +141,3 @@ refused_memory (f ∷ fs) l e h = inl h
 pub refused_err : (fs : List FontValue) → 0 < length fs → (r : Result FontValue Refusal) → IfErr r (λ e. e ≡ Memory) → IfErr r (λ e. IsRefused fs e)
 refused_err fs l (Ok j) h = tt
 refused_err fs l (Err c) h = refused_memory fs l c h
-
--- ---- the states of each font
-
--- if the states of fonts have a join, each grouping of the fonts merges
-pub have_groupings : (fs : List FontValue) → AllByRecursion IsFont fs → (b : Bool) → b ≡ true → HaveJoin StatesJoin (map (states_of profile) fs) b → EachGroupingMerges fs
-have_groupings fs w true t h = each_grouping fs w h.0 h.1
-have_groupings fs w false t h = cc
-
--- ---- the join of the states of a list by that of its halves
-
--- the states of the fonts of some callers
-abbrev states : List Callers → List StatesValue
-states cs = map (states_of profile) (fonts_of cs)
-
--- the join of the states of one font is its states
-pub lone_state : (cs : List Callers) (c d : Callers) → length cs ≡ 1 → c ≡ get_or cs 0 d → (s : StatesValue) → s ≡ states_of profile c.font.now → IsJoinOf StatesJoin (states cs) (Some s)
-lone_state cs c d l e s is = only_itself states_laws (states_of profile c.font.now) s (states cs) (ap states (sym (lone cs d l) ∙ ap (λ (b : Callers). b ∷ []) (sym e)))
-    (subst (StatesJoin (states_of profile c.font.now) (states_of profile c.font.now)) (sym is) (states_laws.idempotent (states_of profile c.font.now)))
-
-module _ (cs front back : List Callers) (e : front ++ back ≡ cs) (p : 0 < length front) (q : 0 < length back) where
-  whole : states front ++ states back ≡ states cs
-  whole = sym (map-append (states_of profile) (fonts_of front) (fonts_of back)) ∙ ap (map (states_of profile)) (sym (map-append (λ (c : Callers). c.font.now) front back)) ∙ ap states e
-
-  counted : (ds : List Callers) → 0 < length ds → 0 < length (states ds)
-  counted ds l = let n = length-map (fonts_of ds) (states_of profile) in let m = length-map ds (λ (c : Callers). c.font.now) in omega (arith, n, m, l)
-
-  -- if the states of the first half have no join, all have none
-  pub front_apart : (o : Option StatesValue) → o ≡ None → IsJoinOf StatesJoin (states front) o → IsJoinOf StatesJoin (states cs) None
-  front_apart o is h = none_of_front states_laws (states front) (states back) (states cs) whole (counted front p) (counted back q) (subst (IsJoinOf StatesJoin (states front)) is h)
-
-  -- if the states of the second half have no join, all have none
-  pub back_apart : (o : Option StatesValue) → o ≡ None → IsJoinOf StatesJoin (states back) o → IsJoinOf StatesJoin (states cs) None
-  back_apart o is h = none_of_back states_laws (states front) (states back) (states cs) whole (counted front p) (counted back q) (subst (IsJoinOf StatesJoin (states back)) is h)
-
-  module _ (o n : Option StatesValue) (a b : StatesValue) (is_a : o ≡ Some a) (is_b : n ≡ Some b) (h : IsJoinOf StatesJoin (states front) o) (k : IsJoinOf StatesJoin (states back) n) where
-    -- if the joins of both halves don't agree, all states have no join
-    pub both_apart : ¬ StatesAgree a b → IsJoinOf StatesJoin (states cs) None
-    both_apart apart = halves_apart states_laws (states front) (states back) (states cs) whole (counted front p) (counted back q) a b (subst (IsJoinOf StatesJoin (states front)) is_a h) (subst (IsJoinOf StatesJoin (states back)) is_b k) apart
-
-    -- the join of the joins of both halves is that of all
-    pub both_joined : (z : StatesValue) → StatesJoin a b z → IsJoinOf StatesJoin (states cs) (Some z)
-    both_joined z j = joined_halves states_laws (states front) (states back) (states cs) whole (counted front p) (counted back q) a b (subst (IsJoinOf StatesJoin (states front)) is_a h) (subst (IsJoinOf StatesJoin (states back)) is_b k) z j
-
-    -- all states have a join exactly if the joins of both halves agree
-    pub both_answered : (r : Bool) → (r ≡ true) ↔ StatesAgree a b → HaveJoin StatesJoin (states cs) r
-    both_answered true j = let z = states_laws.some_answer a b (j.0 refl) in (z.0, both_joined z.0 z.1)
-    both_answered false j = both_apart (λ h. absurd (true≢false (sym (j.1 h))))
-
--- the states of one font have a join
-pub lone_answered : (cs : List Callers) → length cs ≡ 1 → HaveJoin StatesJoin (states cs) true
-lone_answered [] l = absurd (omega (arith, l))
-lone_answered (c ∷ []) l = (states_of profile c.font.now, lone_state (c ∷ []) c c refl refl (states_of profile c.font.now) refl)
-lone_answered (c ∷ d ∷ cs) l = absurd (omega (arith, l))

@@ -1,39 +1,30 @@
 -- Tables of states, as the code fills and compares them.
-use Rattle.std.proofs.Common.{◌≡◌, ℕ, ◌<◌, ◌≤◌, true, false, not, cond, ◌||◌, List, [], ◌∷◌, Bor, map, option_map, refl, sym, ◌∙◌, ap, subst, true≢false, Option, Some, None, is_some, nat_cmp, nat_lt, arith, inl, inr, Less, Equal, Greater}
+use Rattle.std.proofs.Common.{◌≡◌, ℕ, ◌<◌, ◌≤◌, true, false, not, cond, ◌||◌, List, [], ◌∷◌, refl, sym, ◌∙◌, ap, true≢false, Option, Some, None, is_some, nat_cmp, nat_lt, arith, inl, inr, Less, Equal, Greater}
 use Rattle.std.proofs.lemmas.Bool.{ltb-true, ltb-false}
 use Rattle.std.specs.List.{list_any}
 use Rattle.std.specs.Ordering.{MatchOrdering}
-use Rattle.std.specs.Cmp.{both_ways, ranks}
+use Rattle.std.specs.Cmp.{ranks}
 use Rattle.std.specs.Cmp.Lexicographic.{nat_list_cmp_total}
 use Rattle.std.specs.FinMap as maps
-use Rattle.t1_join.specs.Meaning.{Meaning, meaning_cmp, same_meaning, of_number, by_number_law}
+use Rattle.t1_join.specs.Meaning.{Meaning, meaning_cmp, of_number, by_number_law}
 use Rattle.t1_join.specs.Join.{StatesAgree, states_agree}
-use Rattle.t1_join.specs.StateLaws.{same_meaning-true, same_meaning-self}
 use Rattle.t1_join.specs.TableMeaning.{TableMeaning, TablesAgree, IsFirstConflict}
-use Rattle.t1_font.specs.Maps.{map_values}
 use Rattle.t1_font.specs.FontValue.{FontValue, Encoding, Word, Codes, Named, declared_count}
-use Rattle.t1_font.proofs.MapLemmas.{entries-map_values}
 use Rattle.t1_subset.specs.StateTables.{numbered, code_states, used_subrs}
 use Rattle.t1_subset.proofs.state_tables.Numbered.{get-numbered}
 use Rattle.t1_subset.proofs.state_tables.FontStates.{get-used}
+use Rattle.t1_subset.proofs.state_tables.NameTables.{meanings_as_bytes}
 use Rattle.t1_font.specs.FontModel.{names_in}
 use Rattle.t1_font.specs.IsFont.{IsFont}
 use Rattle.t1_subset.specs.Interpreter.{same_bytes}
 use Rattle.t1_subset.specs.Profile.{profile}
 use Rattle.t1_subset.specs.States.{code_state, subr_state}
 use Rattle.t1_subset.specs.Conflicts.{agrees, code_conflict, subr_conflict}
-use Rattle.t1_subset.specs.Differences.{with_state}
-use Rattle.t1_subset.proofs.Shares.{bytes_decide}
-use Rattle.t1_subset.proofs.Sets.{is_or_not, not_so, name_same, tied, itself, here, later}
+use Rattle.t1_subset.proofs.Sets.{is_or_not, not_so, name_same, tied, later}
 use Rattle.t1_subset.proofs.state_tables.FirstConflicts.{first_code, no_code, no_name}
 use Rattle.t1_subset.proofs.closing.ExecutedCalls.{first_subr, no_subr}
 
 -- ---- states that agree
-
-meanings_as_bytes : (v w : Meaning) → same_meaning v w ≡ same_bytes v w
-meanings_as_bytes v w = both_ways (same_meaning v w) (same_bytes v w)
-    (λ h. subst (λ (u : List ℕ). same_bytes v u ≡ true) (same_meaning-true v w h) (bytes_decide.self v))
-    (λ h. subst (λ (u : List ℕ). same_meaning v u ≡ true) (bytes_decide.so v w h) (same_meaning-self v))
 
 -- two ways to test whether states agree are the same
 agree_alike : (x y : Option Meaning) → states_agree x y ≡ agrees x y
@@ -82,20 +73,7 @@ module _ (m n : TableMeaning) (x y : ℕ → Option (List ℕ)) (sx : Shows m x)
   pub none_below : (k : ℕ) → IsFirstConflict m n (of_number k) → (i : ℕ) → nat_cmp i k ≡ Less → not (agrees (x i) (y i)) ≡ false
   none_below k h i l = no_clash _ _ (x i) (y i) (sx i) (sy i) (h.first (of_number i) (sym (by_number_law i k) ∙ l))
 
--- ---- the table of glyphs
-
--- a function of a borrowed value is one of what it stands for
-pub read_lent : {X : Type 0} (f : List ℕ → X) (x : Option (Bor (List ℕ))) → option_map (λ c. f c.now) x ≡ option_map f (option_map (λ c. c.now) x)
-read_lent f None = refl
-read_lent f (Some c) = refl
-
-keys_valued : (f : List ℕ → List ℕ → List ℕ) (es : List (List ℕ × List ℕ)) → map (λ (e : List ℕ × List ℕ). e.0) (map (λ (e : List ℕ × List ℕ). (e.0, f e.0 e.1)) es) ≡ map (λ (e : List ℕ × List ℕ). e.0) es
-keys_valued f [] = refl
-keys_valued f (e ∷ es) = ap (λ (ns : List (List ℕ)). e.0 ∷ ns) (keys_valued f es)
-
--- a map with other values has the same names
-pub keys-valued : (f : List ℕ → List ℕ → List ℕ) (m : Named) → names_in (map_values f m) ≡ names_in m
-keys-valued f m = ap (map (λ e. e.0)) (entries-map_values nat_list_cmp_total name_same f m) ∙ keys_valued f (maps.entries m)
+-- ---- tables that are filled
 
 -- the table has the glyphs of all names except those that are left, which the font has
 pub record Fills (g : Named) (t : TableMeaning) (left : List (List ℕ)) : Type 0 where
@@ -124,11 +102,6 @@ module _ (g : Named) where
         ]);
     there = λ q w. h.there q (later (same_bytes q) n left w);
   }
-
-  -- putting the state of the next name takes it from those left
-  pub fills_next : (t u : TableMeaning) (n : List ℕ) (left : List (List ℕ)) (s : Option (List ℕ)) → Fills g t (n ∷ left) → u ≡ with_state t n s → s ≡ maps.get g n → Fills g u left
-  fills_next t u n left None h is e = absurd (true≢false (sym (h.there n (here (same_bytes n) n left (itself nat_list_cmp_total name_same n))) ∙ ap is_some (sym e)))
-  fills_next t u n left (Some c) h is e = fills_more t u n c left h (sym e) is
 
   -- when no name is left, the table has all glyphs
   pub fills_all : (t : TableMeaning) (left : List (List ℕ)) → Fills g t left → left ≡ [] → (q : List ℕ) → maps.get t q ≡ maps.get g q

@@ -1,5 +1,5 @@
 -- Merging fonts from left to right, by their states and callers.
-use Rattle.std.proofs.Common.{◌≡◌, ◌<◌, ◌≤◌, ◌+◌, ℕ, zero, suc, inl, inr, ◌⊎◌, Bool, true, false, cond, List, [], ◌∷◌, ◌++◌, length, take, take_all, drop, get_or, refl, sym, ◌∙◌, ap, subst, arith, Some, None, Result, Ok, Err, IfOk, IfErr, IsPermutation}
+use Rattle.std.proofs.Common.{◌≡◌, ◌<◌, ◌≤◌, ◌+◌, ℕ, zero, suc, inl, inr, ◌⊎◌, Bool, true, false, cond, List, [], ◌∷◌, ◌++◌, map, length, take, take_all, drop, get_or, refl, sym, ◌∙◌, ap, subst, arith, Some, None, Result, Ok, Err, IfOk, IfErr, IsPermutation}
 use Rattle.std.proofs.lemmas.List.{length-map, map-append, take_more, take-append-drop}
 use Rattle.std.proofs.lemmas.List.Sorted.{IsPermutation-refl}
 use Rattle.std.specs.List.{AllByRecursion}
@@ -112,12 +112,35 @@ noted_before cs h i = (noted_parts (take i cs) (drop i cs) (subst AreNoted (sym 
 
 -- ---- a step of the walk
 
--- the first font comes to itself
-pub starts : (cs : List Callers) → AreNoted cs → (c : Callers) → c ≡ get_or cs 0 c → 0 < length cs → (s : StatesValue) → s ≡ states_of profile c.font.now → JoinedSoFar (take 1 cs) s
-starts cs h c e l s k =
-    let noted = noted_at cs h 0 l c e in
-    subst (λ (ds : List Callers). JoinedSoFar ds s) (sym (take_more cs 0 c l ∙ ap (λ (d : Callers). d ∷ []) (sym e)))
-    (record { font = c.font.now; comes = refl; is_font = noted.0; states = k; callers = first_callers c c.font.now noted.1 })
+-- the states of the font at each place
+pub states_at : (cs : List Callers) (ss : List StatesValue) → ss ≡ map (states_of profile) (fonts_of cs) → (i : ℕ) (c : Callers) (s : StatesValue) → i < length cs → c ≡ get_or cs i c → s ≡ get_or ss i s → s ≡ states_of profile c.font.now
+states_at cs ss is i c s l e k = k ∙ ap (λ ss. get_or ss i s) is ∙ at cs i l ∙ ap (λ (d : Callers). states_of profile d.font.now) (sym e)
+  where
+    at : (cs : List Callers) (i : ℕ) → i < length cs → get_or (map (states_of profile) (fonts_of cs)) i s ≡ states_of profile (get_or cs i c).font.now
+    at [] i l = absurd (omega (arith, l))
+    at (d ∷ cs) zero l = refl
+    at (d ∷ cs) (suc i) l = at cs i (omega (arith, l))
+
+-- there are states for each font
+pub as_many : (cs : List Callers) (ss : List StatesValue) → ss ≡ map (states_of profile) (fonts_of cs) → length ss ≡ length cs
+as_many cs ss is = ap length is ∙ length-map (fonts_of cs) (states_of profile) ∙ length-map cs (λ (c : Callers). c.font.now)
+
+-- the element at a place of a list
+pub nth : {X : Type 0} (xs : List X) (i : ℕ) → i < length xs → (x : X) × ((d : X) → x ≡ get_or xs i d)
+nth [] i l = absurd (omega (arith, l))
+nth (x ∷ xs) zero l = (x, λ d. refl)
+nth (x ∷ xs) (suc i) l = nth xs i (omega (arith, l))
+
+-- the first font comes to itself, and its states joined with themselves are its states
+pub starts : (cs : List Callers) → AreNoted cs → 0 < length cs → (ss : List StatesValue) → ss ≡ map (states_of profile) (fonts_of cs) → (t s : StatesValue) → t ≡ get_or ss 0 t → StatesJoin t t s → JoinedSoFar (take 1 cs) s
+starts [] h l ss is t s e j = absurd (omega (arith, l))
+starts (c ∷ cs) h l ss is t s e j = record {
+  font = c.font.now;
+  comes = refl;
+  is_font = h.0.0;
+  states = states_laws.one_answer t t s t j (states_laws.idempotent t) ∙ states_at (c ∷ cs) ss is 0 c t l refl e;
+  callers = first_callers c c.font.now h.0.1;
+}
 
 module _ (cs : List Callers) (h : AreNoted cs) (i : ℕ) (l : i < length cs) (c : Callers) (e : c ≡ get_or cs i c) (s t : StatesValue) (k : t ≡ states_of profile c.font.now) (far : JoinedSoFar (take i cs) s) where
   next : take (i + 1) cs ≡ take i cs ++ c ∷ []
@@ -161,6 +184,13 @@ noted_more cs c f h w e k = all_of_both _ cs (c ∷ []) h ((subst IsFont (sym e)
 -- the callers of one more font are of one more font of the list
 pub fonts_more : (fs : List FontValue) (i : ℕ) (f : FontValue) → i < length fs → f ≡ get_or fs i f → (cs : List Callers) (c : Callers) → fonts_of cs ≡ take i fs → c.font.now ≡ f → fonts_of (cs ++ c ∷ []) ≡ take (i + 1) fs
 fonts_more fs i f l e cs c h k = map-append _ cs (c ∷ []) ∙ (λ j. h j ++ k j ∷ []) ∙ sym (take_more fs i f l ∙ ap (λ (x : FontValue). take i fs ++ x ∷ []) (sym e))
+
+-- the states of one more font are those of one more of the callers
+pub states_more : (cs : List Callers) (i : ℕ) (c : Callers) → i < length cs → c ≡ get_or cs i c → (ss : List StatesValue) (s : StatesValue) → ss ≡ map (states_of profile) (fonts_of (take i cs)) → s ≡ states_of profile c.font.now → ss ++ s ∷ [] ≡ map (states_of profile) (fonts_of (take (i + 1) cs))
+states_more cs i c l e ss s h k =
+    (λ j. h j ++ k j ∷ []) ∙ sym (map-append (states_of profile) (fonts_of (take i cs)) (c.font.now ∷ []))
+    ∙ ap (map (states_of profile)) (sym (map-append _ (take i cs) (c ∷ [])))
+    ∙ ap (λ (ds : List Callers). map (states_of profile) (fonts_of ds)) (sym (take_more cs i c l ∙ ap (λ (d : Callers). take i cs ++ d ∷ []) (sym e)))
 
 -- if there are fonts, there are callers
 pub some_noted : (fs : List FontValue) (cs : List Callers) → fonts_of cs ≡ fs → 0 < length fs → 0 < length cs

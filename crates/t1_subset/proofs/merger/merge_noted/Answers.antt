@@ -7,13 +7,13 @@ use Rattle.t1_subset.proofs.state_tables.Walks.{some_noted, font_list}
 use Rattle.t1_subset.proofs.merger.merge_noted.Goals as goal
 
 pub all_join-requires-clause-some : goal.all_join-requires-clause-some
-all_join-requires-clause-some c = rw c.as_slice.ensures.value (some_noted c.args.fonts.now c.args.callers.items c.requires.fonts c.requires.some)
+all_join-requires-clause-some c = rw c.as_slice-noted.ensures.value (some_noted c.args.fonts.now c.args.callers.items c.requires.fonts c.requires.some)
 
 pub returns-in-Err-clause-err : goal.returns-in-Err-clause-err
-returns-in-Err-clause-err c = subst (λ (fs : List FontValue). IsRefused fs c.in-Err.conflict) (ap fonts_of c.as_slice.ensures.value ∙ c.requires.fonts) c.in-Err.ensures.err
+returns-in-Err-clause-err c = subst (λ (fs : List FontValue). IsRefused fs c.in-Err.conflict) (ap fonts_of c.as_slice-noted.ensures.value ∙ c.requires.fonts) c.in-Err.ensures.err
 
 pub made_of-requires-clause-merges : goal.made_of-requires-clause-merges
-made_of-requires-clause-merges c = subst EachGroupingMerges (ap fonts_of c.as_slice.ensures.value ∙ c.requires.fonts) c.in_default.ensures.ok
+made_of-requires-clause-merges c = subst EachGroupingMerges (ap fonts_of c.as_slice-noted.ensures.value ∙ c.requires.fonts) c.in_default.ensures.ok
 
 pub returns-clause-ok : goal.returns-clause-ok
 returns-clause-ok c = comes_ok c.args.fonts.now c.requires.some (font_list c.args.fonts.now c.args.callers.items c.requires.fonts c.requires.noted) c.made_of.result c.made_of.ensures.ok

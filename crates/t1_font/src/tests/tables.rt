@@ -1,0 +1,94 @@
+//! Tables of glyphs, those of a source and those that were made, with ample memory.
+
+use super::cuts::{Cut, X, Y, large, lent_cut_font};
+use crate::{Font, Named, Source, join_glyphs, read};
+use std::alloc::{AllocError, Global};
+use std::test::Fail;
+use t1_tiny::PFA;
+
+/// The names of a table, each with a blank.
+fn names(alloc: Global, glyphs: &Named<'_>) -> Result<Vec<u8>, AllocError> {
+    let mut text = Vec::new(alloc);
+    for (name, _) in glyphs.entries() {
+        text.extend_from_slice(name)?;
+        text.push(b' ')?;
+    }
+    Ok(text)
+}
+
+/// Whether the table has each glyph of the font, with its charstring.
+fn has_all(glyphs: &Named<'_>, font: &Font<'_>) -> bool {
+    for name in font.names() {
+        if glyphs.get(name) != font.charstring(name) {
+            return false;
+        }
+    }
+    true
+}
+
+/// Whether the copy of a font's table has these names and its charstrings.
+fn copy_has(alloc: Global, font: &Font<'_>, want: &[u8]) -> Result<bool, AllocError> {
+    let copy = font.glyphs().copy(alloc)?;
+    let names = names(alloc, &copy)?;
+    Ok(names.as_slice() == want && has_all(&copy, font))
+}
+
+/// Whether the joined tables of two fonts have these names and the charstrings of both.
+fn join_has<'a>(
+    alloc: Global,
+    first: &Font<'a>,
+    second: &Font<'a>,
+    want: &[u8],
+) -> Result<bool, AllocError> {
+    let both = join_glyphs(alloc, first.glyphs(), second.glyphs())?;
+    let names = names(alloc, &both)?;
+    Ok(names.as_slice() == want && has_all(&both, first) && has_all(&both, second))
+}
+
+/// The names of Tiny.
+const ALL_NAMES: &[u8] = b".notdef A Aacute B F H L N X Y acute ";
+
+/// Whether a table that is lent, one that was made, and what they join to have their names.
+fn are_right(alloc: Global, source: &Source) -> Result<bool, AllocError> {
+    let font = source.font(alloc)?;
+    let x = lent_cut_font(alloc, source, X)?;
+    let y = lent_cut_font(alloc, source, Y)?;
+    Ok(copy_has(alloc, &font, ALL_NAMES)?
+        && copy_has(alloc, &x, b".notdef X ")?
+        && join_has(alloc, &x, &y, b".notdef X Y ")?
+        && join_has(alloc, &y, &x, b".notdef X Y ")?
+        && join_has(alloc, &font, &x, ALL_NAMES)?
+        && join_has(alloc, &y, &font, ALL_NAMES)?)
+}
+
+#[test]
+fn tables_of_tiny(rt: HostRuntime) -> Result<(), Fail> {
+    match read(rt.alloc(), PFA) {
+        Ok(source) => assert!(rt; are_right(rt.alloc(), &source)?),
+        Err(_) => assert!(rt; false, "not read"),
+    }
+    Ok(())
+}
+
+/// A few of the names of a large font.
+const FEW: Cut = (&[b"0", b"7", b"77", b"777", b"3999"], &[0, 1, 2, 3]);
+
+/// How many glyphs there are in the copies of a large font's table and of a part's, and in what they join to.
+fn counts(alloc: Global, source: &Source) -> Result<(usize, usize, usize, usize), AllocError> {
+    let font = source.font(alloc)?;
+    let part = lent_cut_font(alloc, source, FEW)?;
+    let lent = font.glyphs().copy(alloc)?;
+    let made = part.glyphs().copy(alloc)?;
+    let both = join_glyphs(alloc, &made, &lent)?;
+    Ok((lent.len(), made.len(), both.len(), font.indices().count()))
+}
+
+#[test]
+fn tables_of_thousands(rt: HostRuntime) -> Result<(), Fail> {
+    let file = large(rt.alloc())?;
+    match read(rt.alloc(), file.as_slice()) {
+        Ok(source) => assert_eq!(rt; counts(rt.alloc(), &source)?, (4_001, 6, 4_001, 2_000)),
+        Err(_) => assert!(rt; false, "not read"),
+    }
+    Ok(())
+}

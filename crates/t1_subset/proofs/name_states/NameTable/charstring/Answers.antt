@@ -1,0 +1,6 @@
+use Rattle.std.proofs.Common.{sym, ◌∙◌}
+use Rattle.t1_subset.proofs.state_tables.NameTables.{charstring_in}
+use Rattle.t1_subset.proofs.name_states.NameTable.charstring.Goals as goal
+
+pub returns : goal.returns
+returns c = c.get.ensures ∙ sym (charstring_in c.self.inside.glyphs c.self.inside.sought c.self.invariant _ c.self.view_is c.args.name.now)

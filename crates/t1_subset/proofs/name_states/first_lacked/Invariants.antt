@@ -1,0 +1,9 @@
+use Rattle.std.proofs.Common.{◌≡◌}
+use Rattle.std.specs.Option.{option_map}
+use Rattle.std.specs.FinMap as maps
+use Rattle.t1_subset.specs.Searches.{first_where}
+use Rattle.t1_subset.specs.Clashes.{lacks_in}
+use Rattle.t1_subset.proofs.name_states.first_lacked.Given as goal
+
+abbrev pub invariant-names : goal.invariant-names
+invariant-names l = option_map (λ e. e.0) (first_where (lacks_in l.own l.other) l.name-iterator) ≡ option_map (λ e. e.0) (first_where (lacks_in l.own l.other) (maps.entries l.names))

@@ -1,0 +1,17 @@
+use Rattle.std.proofs.Common.{◌∙◌, cond, arith}
+use Rattle.std.specs.FinMap as maps
+use Rattle.std.proofs.lemmas.Map.Iter.{rest_more, rest_all}
+use Rattle.t1_font.specs.Lent.{lent_name}
+use Rattle.t1_subset.specs.StateTables.{one_each}
+use Rattle.t1_subset.proofs.state_tables.TableWeights.{adds_none, adds_next, adds_all}
+use Rattle.t1_subset.proofs.name_states.with_counts.Goals as goal
+
+pub glyphs-init : goal.glyphs-init
+glyphs-init c = adds_none one_each c.args.own.now (maps.entries c.args.glyphs.now) c.args.before _ (omega (arith, c.ranges.before.fits)) (c.into_iter-name-iterator.ensures.into_iter_gives ∙ c.entries-name-items.ensures)
+
+pub glyphs-preserved : goal.glyphs-preserved
+glyphs-preserved c = adds_next one_each c.args.own.now (maps.entries c.args.glyphs.now) c.args.before c.glyphs.count c.unless_there.result _ _ _ _ c.glyphs.invariant (rest_more lent_name _ _ _ _ c.in-Some.is c.next.ensures.steps)
+    (c.unless_there.ensures ∙ (λ i. cond (c.has.ensures i) 0 1)) c.saturating_add-count.ensures
+
+pub returns : goal.returns
+returns c = adds_all one_each c.args.own.now (maps.entries c.args.glyphs.now) c.args.before c.glyphs.count _ c.glyphs.invariant (rest_all lent_name _ _ _ c.in-None.is c.next.ensures.steps)

@@ -1,7 +1,0 @@
-use Rattle.std.specs.FinMap as maps
-use Rattle.t1_subset.specs.StateTables.{name_adds}
-use Rattle.t1_subset.proofs.state_tables.TableWeights.{Adding}
-use Rattle.t1_subset.proofs.state_joins.with_names.Given as goal
-
-abbrev pub invariant-entries : goal.invariant-entries
-invariant-entries l = Adding (name_adds l.len_iv) l.own (maps.entries l.other) l.before l.weight l.name-iterator

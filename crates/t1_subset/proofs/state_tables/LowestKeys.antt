@@ -1,0 +1,140 @@
+-- The lowest key that passes a test, as a search of a map finds it, and the lower of two.
+use Rattle.std.proofs.Common.{◌≡◌, ℕ, Bool, true, false, cond, ◌||◌, List, [], ◌∷◌, map, option_map, refl, sym, ◌∙◌, ap, subst, true≢false, inl, inr, Option, Some, None, Ordering, Less, Equal, Greater, is_lt}
+use Rattle.std.specs.List.{list_any, AllByRecursion}
+use Rattle.std.specs.Ordering.{eq_by_cmp, ordering_reverse}
+use Rattle.std.specs.Cmp.{IsTotalOrder, first_so, second_so}
+use Rattle.std.specs.FinSet.{IsAntisymmetric}
+use Rattle.std.specs.FinMap as maps
+use Rattle.std.specs.FinMap.Entries.{below_all, is_sorted}
+use Rattle.t1_font.proofs.MapLemmas.{T_true}
+use Rattle.t1_subset.specs.Conflicts.{keys_of_both}
+use Rattle.t1_subset.specs.Searches.{smallest, members, first_where, IsLowest}
+use Rattle.t1_subset.specs.Differences.{smaller}
+use Rattle.t1_subset.proofs.Searching.{in_both, passes_none}
+use Rattle.t1_subset.proofs.Smallest.{smallest_is, below_later}
+use Rattle.t1_subset.proofs.Sets.{or_cases, or_left, or_right, here, later, itself, tied, not_so}
+
+no_less : (o : Ordering) → ordering_reverse Less ≡ o → o ≡ Less → ⊥
+no_less o h e = cc
+
+module _ {K : Type 0} {R : K → K → Ordering} (o : IsTotalOrder R) (same : IsAntisymmetric R) where
+  -- no key is both below and above another
+  pub one_way : (x y : K) → R x y ≡ Less → R y x ≡ Less → ⊥
+  one_way x y h k = no_less (R y x) (ap ordering_reverse (sym h) ∙ sym (o.antisymm y x)) k
+
+  -- no key is below itself
+  pub not_itself : (x : K) → R x x ≡ Less → ⊥
+  not_itself x h = one_way x x h h
+
+  module _ (p : K → Bool) where
+    -- k is the first key that passes: it is there and passes, and no lower key does
+    record IsFirst {X : Type 0} (es : List (K × X)) (k : K) : Type 0 where
+      pub there : list_any (eq_by_cmp R k) (map (λ e. e.0) es) ≡ true
+      pub passes : p k ≡ true
+      pub least : (q : K) → list_any (eq_by_cmp R q) (map (λ e. e.0) es) ≡ true → R q k ≡ Less → p q ≡ false
+
+    same_Some : (x y : K) → ◌≡◌ {A = Option K} (Some x) (Some y) → x ≡ y
+    same_Some x y e = cc
+
+    -- the key that a search finds among sorted entries is the first that passes
+    first_so_far : {X : Type 0} (es : List (K × X)) (k : K) → is_sorted R es ≡ true → first_where p (map (λ e. e.0) es) ≡ Some k → IsFirst es k
+    first_so_far [] k s h = cc
+    first_so_far (e ∷ es) k s h =
+        elim (p e.0) as (λ b. p e.0 ≡ b → cond b (Some e.0) (first_where p (map (λ e. e.0) es)) ≡ Some k → IsFirst (e ∷ es) k) [
+          | true ↦ λ is h.
+              let e_k : e.0 ≡ k = same_Some e.0 k h in
+              subst (λ (k : K). IsFirst (e ∷ es) k) e_k (record {
+                there = here (eq_by_cmp R e.0) e.0 (map (λ e. e.0) es) (itself o same e.0);
+                passes = is;
+                least = λ q w l. elim (or_cases (eq_by_cmp R q e.0) (list_any (eq_by_cmp R q) (map (λ e. e.0) es)) w) [
+                  | inl a ↦ absurd (not_itself e.0 (ap (λ q. R q e.0) (sym (tied o same q e.0 a)) ∙ l))
+                  | inr c ↦ absurd (one_way e.0 q (below_later o same p e.0 q es (first_so (below_all R e.0 es) (is_sorted R es) s) c) l)
+                ];
+              })
+          | false ↦ λ is h.
+              let rest = first_so_far es k (second_so (below_all R e.0 es) (is_sorted R es) s) h in
+              record {
+                there = later (eq_by_cmp R k) e.0 (map (λ e. e.0) es) rest.there;
+                passes = rest.passes;
+                least = λ q w l. elim (or_cases (eq_by_cmp R q e.0) (list_any (eq_by_cmp R q) (map (λ e. e.0) es)) w) [
+                  | inl a ↦ ap p (tied o same q e.0 a) ∙ is
+                  | inr c ↦ rest.least q c l
+                ];
+              }
+        ] refl h
+
+    -- the entries of a map are sorted
+    sorted_map : {X : Type 0} (m : maps.FinMap R X) → is_sorted R (maps.entries m) ≡ true
+    sorted_map m = T_true (is_sorted R (maps.entries m)) (maps.entries_sorted m)
+
+    -- if a search finds nothing, no key passes
+    none_first : {X : Type 0} (es : List (K × X)) → first_where p (map (λ e. e.0) es) ≡ None → (q : K) → list_any (eq_by_cmp R q) (map (λ e. e.0) es) ≡ true → p q ≡ false
+    none_first [] h q w = absurd (true≢false (sym w))
+    none_first (e ∷ es) h q w =
+        elim (p e.0) as (λ b. p e.0 ≡ b → cond b (Some e.0) (first_where p (map (λ e. e.0) es)) ≡ None → p q ≡ false) [
+          | true ↦ λ is h. cc
+          | false ↦ λ is h. elim (or_cases (eq_by_cmp R q e.0) (list_any (eq_by_cmp R q) (map (λ e. e.0) es)) w) [ inl a ↦ ap p (tied o same q e.0 a) ∙ is | inr c ↦ none_first es h q c ]
+        ] refl h
+
+    -- the key of the first entry that passes is the first key that passes
+    first_keys : {X : Type 0} (P : K × X → Bool) (es : List (K × X)) → AllByRecursion (λ e. P e ≡ p e.0) es → option_map (λ e. e.0) (first_where P es) ≡ first_where p (map (λ e. e.0) es)
+    first_keys P [] h = refl
+    first_keys P (e ∷ es) h =
+        ap (λ b. option_map (λ e. e.0) (cond b (Some e) (first_where P es))) h.0
+        ∙ (elim (p e.0) as (λ b. option_map (λ e. e.0) (cond b (Some e) (first_where P es)) ≡ cond b (Some e.0) (first_where p (map (λ e. e.0) es))) [ true ↦ refl | false ↦ first_keys P es h.1 ])
+
+    -- if all that pass are keys of a map, the first of its keys that passes is the lowest
+    module _ {X : Type 0} (m : maps.FinMap R X) (only : (q : K) → p q ≡ true → maps.contains_key m q ≡ true) where
+      key_in : (q : K) → p q ≡ true → list_any (eq_by_cmp R q) (maps.keys m) ≡ true
+      key_in q h = sym (maps.contains_key-keys m q) ∙ only q h
+
+      pub lowest_key : (x : Option K) → first_where p (maps.keys m) ≡ x → IsLowest R p x
+      lowest_key None h = λ q. not_so (p q) (λ is. true≢false (sym is ∙ none_first (maps.entries m) h q (key_in q is)))
+      lowest_key (Some k) h =
+          let first = first_so_far (maps.entries m) k (sorted_map m) h in
+          record { it = first.passes; none_lower = λ q l. not_so (p q) (λ is. true≢false (sym is ∙ first.least q (key_in q is) l)) }
+
+      -- the same, of the first of its entries
+      pub lowest_entry : (P : K × X → Bool) → AllByRecursion (λ e. P e ≡ p e.0) (maps.entries m) → IsLowest R p (option_map (λ e. e.0) (first_where P (maps.entries m)))
+      lowest_entry P h = subst (IsLowest R p) (sym (first_keys P (maps.entries m) h)) (lowest_key (first_where p (maps.keys m)) refl)
+
+    -- the lowest key that passes is the smallest of a set that has all that pass
+    pub lowest_is : (s : maps.FinMap R ℕ) → ((k : K) → p k ≡ true → maps.contains_key s k ≡ true) → (x : Option K) → IsLowest R p x → x ≡ smallest p s
+    lowest_is s only None h = sym (passes_none p (members s) h)
+    lowest_is s only (Some k) h = sym (smallest_is o same p s k (only k h.it) h.it (λ q w l. h.none_lower q l))
+
+less_is : (o : Ordering) → is_lt o ≡ true → o ≡ Less
+less_is Less h = refl
+less_is Equal h = absurd (true≢false (sym h))
+less_is Greater h = absurd (true≢false (sym h))
+
+or_neither : (a b : Bool) → a ≡ false → b ≡ false → (a || b) ≡ false
+or_neither true b h k = h
+or_neither false b h k = k
+
+module _ {K : Type 0} {R : K → K → Ordering} (o : IsTotalOrder R) (same : IsAntisymmetric R) where
+  -- what is below m is below n, if n is not below m
+  below_both : (r m n : K) (x : Ordering) → R n m ≡ x → is_lt x ≡ false → R r m ≡ Less → R r n ≡ Less
+  below_both r m n Less e h l = absurd (true≢false h)
+  below_both r m n Equal e h l = ap (R r) (same n m e) ∙ l
+  below_both r m n Greater e h l = o.trans r m n l (o.antisymm m n ∙ ap ordering_reverse e)
+
+  module _ (p q : K → Bool) where
+    -- the lower of the lowest keys of two tests is the lowest that passes either
+    pub lower_of : (x y : Option K) → IsLowest R p x → IsLowest R q y → IsLowest R (λ k. p k || q k) (smaller R x y)
+    lower_of None None h k = λ r. or_neither (p r) (q r) (h r) (k r)
+    lower_of None (Some n) h k = record { it = or_right (p n) (q n) k.it; none_lower = λ r l. or_neither (p r) (q r) (h r) (k.none_lower r l) }
+    lower_of (Some m) None h k = record { it = or_left (p m) (q m) h.it; none_lower = λ r l. or_neither (p r) (q r) (h.none_lower r l) (k r) }
+    lower_of (Some m) (Some n) h k =
+        elim (is_lt (R n m)) as (λ t. is_lt (R n m) ≡ t → IsLowest R (λ k. p k || q k) (cond t (Some n) (Some m))) [
+          | true ↦ λ is. record { it = or_right (p n) (q n) k.it; none_lower = λ r l. or_neither (p r) (q r) (h.none_lower r (o.trans r n m l (less_is (R n m) is))) (k.none_lower r l) }
+          | false ↦ λ is. record { it = or_left (p m) (q m) h.it; none_lower = λ r l. or_neither (p r) (q r) (h.none_lower r l) (k.none_lower r (below_both r m n (R n m) refl is l)) }
+        ] refl
+
+    -- the smaller of the first keys of two maps is the smallest of both
+    pub smaller_first : {X : Type 0} (a b : maps.FinMap R X) → ((k : K) → p k ≡ true → maps.contains_key a k ≡ true) → ((k : K) → q k ≡ true → maps.contains_key b k ≡ true)
+        → smaller R (first_where p (maps.keys a)) (first_where q (maps.keys b)) ≡ smallest (λ k. p k || q k) (keys_of_both a b)
+    smaller_first a b in_a in_b =
+        lowest_is o same (λ k. p k || q k) (keys_of_both a b) (λ k h. in_both o same a b k ∙ (elim (or_cases (p k) (q k) h) [ inl x ↦ or_left (maps.contains_key a k) (maps.contains_key b k) (in_a k x) | inr y ↦ or_right (maps.contains_key a k) (maps.contains_key b k) (in_b k y) ]))
+        (smaller R (first_where p (maps.keys a)) (first_where q (maps.keys b)))
+        (lower_of (first_where p (maps.keys a)) (first_where q (maps.keys b)) (lowest_key o same p a in_a (first_where p (maps.keys a)) refl) (lowest_key o same q b in_b (first_where q (maps.keys b)) refl))
