@@ -16,8 +16,3 @@ module _ {V : Type 0} where
   joined_back None (Some w) h = refl
   joined_back (Some v) None h = refl
   joined_back (Some v) (Some w) h = ap Some h
-
-  -- a joined state is one of the two
-  pub joined_some : (x y : Option V) (v : V) → joined x y ≡ Some v → (x ≡ Some v) ⊎ (y ≡ Some v)
-  joined_some None y v h = inr h
-  joined_some (Some w) y v h = inl h

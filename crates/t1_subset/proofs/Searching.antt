@@ -40,6 +40,18 @@ module _ {X : Type 0} (p : X → Bool) where
         | false ↦ λ e h. (e, none_passes xs h)
       ] refl h
 
+  same_Some : (x y : X) → ◌≡◌ {A = Option X} (Some x) (Some y) → x ≡ y
+  same_Some x y e = cc
+
+  -- what a search finds passes
+  pub first_passes : (xs : List X) (x : X) → first_where p xs ≡ Some x → p x ≡ true
+  first_passes [] x h = cc
+  first_passes (y ∷ xs) x h =
+      elim (p y) as (λ b. p y ≡ b → cond b (Some y) (first_where p xs) ≡ Some x → p x ≡ true) [
+        | true ↦ λ is h. ap p (sym (same_Some y x h)) ∙ is
+        | false ↦ λ is h. first_passes xs x h
+      ] refl h
+
   -- if no element passes, a search finds nothing
   pub passes_none : (xs : List X) → ((x : X) → p x ≡ false) → first_where p xs ≡ None
   passes_none [] h = refl

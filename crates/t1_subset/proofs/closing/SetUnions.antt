@@ -35,15 +35,6 @@ module _ {K : Type 0} {R : K → K → Ordering} (o : IsTotalOrder R) (alike : I
       ∙ ap (λ b. sets.contains s q || b) (sym (sets.contains-from_list o (k ∷ left) q))
       ∙ sym (sets.contains-union o s (of (k ∷ left)) q))
 
-  -- a union stays the same as a list in front of what is left is added
-  pub list_union : (s new : FinSet R) (ks left : List K) → new ≡ sets.union s (of ks) → sets.union new (of left) ≡ sets.union s (of (ks ++ left))
-  list_union s new ks left e = same _ _ (λ q.
-      sets.contains-union o new (of left) q
-      ∙ (λ i. (ap (λ (t : FinSet R). sets.contains t q) e ∙ sets.contains-union o s (of ks) q) i || sets.contains-from_list o left q i)
-      ∙ or_assoc (sets.contains s q) (sets.contains (of ks) q) (list_any (eq_by_cmp R q) left)
-      ∙ ap (λ b. sets.contains s q || b) ((λ i. sets.contains-from_list o ks q i || list_any (eq_by_cmp R q) left) ∙ sym (list_any-append (eq_by_cmp R q) ks left) ∙ sym (sets.contains-from_list o (ks ++ left) q))
-      ∙ sym (sets.contains-union o s (of (ks ++ left)) q))
-
   -- nothing is added by the empty list
   pub union_none : (s : FinSet R) → sets.union s (of []) ≡ s
   union_none s = same _ _ (λ q. sets.contains-union o s (of []) q ∙ ap (λ b. sets.contains s q || b) (sets.contains-from_list o [] q) ∙ or_none (sets.contains s q))

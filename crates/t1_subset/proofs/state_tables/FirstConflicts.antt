@@ -1,4 +1,4 @@
--- The smallest conflicts, by what the code has found.
+-- Where Subrs and codes in conflict stand.
 use Rattle.std.proofs.Common.{◌≡◌, ℕ, ◌<◌, ◌≤◌, true, false, not, cond, List, refl, sym, ◌∙◌, ap, subst, true≢false, Option, Some, None, is_some, inl, inr, arith, nat_cmp, Less, Ordering, nat_lt}
 use Rattle.std.proofs.lemmas.Bool.{ltb-true, ltb-false}
 use Rattle.std.specs.Ordering.{MatchOrdering}
@@ -32,17 +32,13 @@ absent_beyond f h q l = sym (subrs_seen f h q) ∙ (elim (is_or_not (nat_lt q (d
 
 -- ---- codes
 
--- a number that compares as less is less
-pub below_of : (q k : ℕ) → nat_cmp q k ≡ Less → q < k
-below_of q k h = subst (λ (o : Ordering). MatchOrdering o (q < k) (q ≡ k) (k < q)) h (ranks q k)
-
 -- the name of a code is its state
 pub named_so : (e : Encoding) (c : ℕ) → name_at e c ≡ code_state e c
 named_so (Word w) c = refl
 named_so (Codes t) c = refl
 
 -- a code in conflict is one of the codes of both tables
-code_there : (d e : Encoding) (c : ℕ) → not (agrees (code_state d c) (code_state e c)) ≡ true → maps.contains_key (codes_of_both d e) c ≡ true
+pub code_there : (d e : Encoding) (c : ℕ) → not (agrees (code_state d c) (code_state e c)) ≡ true → maps.contains_key (codes_of_both d e) c ≡ true
 code_there (Word v) e c h = absurd (true≢false (sym h))
 code_there (Codes s) (Word w) c h = absurd (no_clash (maps.get s c) h)
   where
@@ -51,19 +47,11 @@ code_there (Codes s) (Word w) c h = absurd (no_clash (maps.get s c) h)
     no_clash (Some v) h = true≢false (sym h)
 code_there (Codes s) (Codes t) c h = in_both nat_cmp_total nat_cmp-IsAntisymmetric s t c ∙ or_left (maps.contains_key s c) (maps.contains_key t c) (there_of (maps.get s c) (maps.get t c) h)
 
--- a code in conflict below which none is in conflict is the smallest
-pub first_code : (f g : FontValue) (c : ℕ) → code_clashes f g c ≡ true → ((k : ℕ) → k < c → code_clashes f g k ≡ false) → Some c ≡ code_conflict f g
-first_code f g c h below = sym (smallest_is nat_cmp_total nat_cmp-IsAntisymmetric (code_clashes f g) (codes_of_both f.encoding g.encoding) c (code_there f.encoding g.encoding c h) h (λ q w l. below q (below_of q c l)))
-
 -- a code from 256 on has no name
-pub no_name : (e : Encoding) → IsEncoding e → (c : ℕ) → 256 ≤ c → (x : Option (List ℕ)) → code_state e c ≡ x → x ≡ None
-no_name e h c l None is = refl
-no_name (Word w) h c l (Some n) is = sym is
-no_name (Codes t) h c l (Some n) is = absurd (let k = (h c n is).code in omega arith)
-
--- if no code below 256 is in conflict, none is
-pub no_code : (f g : FontValue) → IsFont f → ((k : ℕ) → k < 256 → code_clashes f g k ≡ false) → None ≡ code_conflict f g
-no_code f g h below = sym (passes_none (code_clashes f g) (members (codes_of_both f.encoding g.encoding)) (λ c. elim (is_or_not (nat_lt c 256)) [
-  | inl l ↦ below c (ltb-true c 256 l)
-  | inr l ↦ ap (λ x. not (agrees x (code_state g.encoding c))) (no_name f.encoding h.encoding c (ltb-false c 256 l) (code_state f.encoding c) refl)
-]))
+pub no_name : (e : Encoding) → IsEncoding e → (c : ℕ) → 256 ≤ c → code_state e c ≡ None
+no_name (Word w) h c l = refl
+no_name (Codes t) h c l = at (maps.get t c) refl
+  where
+    at : (x : Option (List ℕ)) → maps.get t c ≡ x → x ≡ None
+    at None is = refl
+    at (Some n) is = absurd (let k = (h c n is).code in omega arith)

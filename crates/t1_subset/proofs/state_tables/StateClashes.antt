@@ -9,6 +9,7 @@ use Rattle.t1_subset.specs.Shared.{Shared, shared_of, differing_part}
 use Rattle.t1_subset.specs.Conflicts.{ShellDiffers, CodeDiffers, GlyphDiffers, LacksComponent, SubrDiffers, keys_of_both, shell_conflict, code_conflict, glyph_conflict, component_conflict, subr_conflict, subr_clashes, wanted_by, used_by, glyph_names}
 use Rattle.t1_subset.specs.Searches.{found, smallest, members, first_where}
 use Rattle.t1_subset.specs.Clashes.{entries_conflict, uses_conflict}
+use Rattle.t1_subset.proofs.Searching.{first_passes}
 use Rattle.t1_subset.proofs.closing.ExecutedCalls.{clash_in_both}
 
 -- ---- what is seen of states
@@ -58,15 +59,4 @@ module _ (f g : FontValue) where
 -- both fonts have an entry at an index whose states are in conflict
 module _ (f g : FontValue) where
   pub subr_clashing : (i : ℕ) → Some i ≡ subr_conflict profile f g → (maps.contains_key f.subrs i ≡ true) × (maps.contains_key g.subrs i ≡ true)
-  subr_clashing i is = clash_in_both f g i (passing_first (subr_clashes profile f g) (members (keys_of_both f.subrs g.subrs)) i (sym is))
-    where
-      same_Some : (x y : ℕ) → ◌≡◌ {A = Option ℕ} (Some x) (Some y) → x ≡ y
-      same_Some x y e = cc
-
-      passing_first : (p : ℕ → Bool) (ks : List ℕ) (i : ℕ) → first_where p ks ≡ Some i → p i ≡ true
-      passing_first p [] i h = cc
-      passing_first p (k ∷ ks) i h =
-          elim (p k) as (λ b. p k ≡ b → cond b (Some k) (first_where p ks) ≡ Some i → p i ≡ true) [
-            | true ↦ λ is h. ap p (sym (same_Some k i h)) ∙ is
-            | false ↦ λ is h. passing_first p ks i h
-          ] refl h
+  subr_clashing i is = clash_in_both f g i (first_passes (subr_clashes profile f g) (members (keys_of_both f.subrs g.subrs)) i (sym is))

@@ -1,10 +1,12 @@
 -- Tables of states, as the code fills and compares them.
-use Rattle.std.proofs.Common.{◌≡◌, ℕ, ◌<◌, ◌≤◌, true, false, not, cond, ◌||◌, List, [], ◌∷◌, refl, sym, ◌∙◌, ap, true≢false, Option, Some, None, is_some, nat_cmp, nat_lt, arith, inl, inr, Less, Equal, Greater}
+use Rattle.std.proofs.Common.{◌≡◌, MatchOption, ℕ, ◌<◌, ◌≤◌, true, false, not, cond, ◌||◌, List, [], ◌∷◌, refl, sym, ◌∙◌, ap, true≢false, Option, Some, None, is_some, nat_cmp, nat_lt, arith, inl, inr, Less, Equal, Greater}
 use Rattle.std.proofs.lemmas.Bool.{ltb-true, ltb-false}
 use Rattle.std.specs.List.{list_any}
 use Rattle.std.specs.Ordering.{MatchOrdering}
 use Rattle.std.specs.Cmp.{ranks}
 use Rattle.std.specs.Cmp.Lexicographic.{nat_list_cmp_total}
+use Rattle.std.specs.Cmp.{nat_cmp_total}
+use Rattle.std.specs.FinSet.{nat_cmp-IsAntisymmetric}
 use Rattle.std.specs.FinMap as maps
 use Rattle.t1_join.specs.Meaning.{Meaning, meaning_cmp, of_number, by_number_law}
 use Rattle.t1_join.specs.Join.{StatesAgree, states_agree}
@@ -19,10 +21,13 @@ use Rattle.t1_font.specs.IsFont.{IsFont}
 use Rattle.t1_subset.specs.Interpreter.{same_bytes}
 use Rattle.t1_subset.specs.Profile.{profile}
 use Rattle.t1_subset.specs.States.{code_state, subr_state}
-use Rattle.t1_subset.specs.Conflicts.{agrees, code_conflict, subr_conflict}
-use Rattle.t1_subset.proofs.Sets.{is_or_not, not_so, name_same, tied, later}
-use Rattle.t1_subset.proofs.state_tables.FirstConflicts.{first_code, no_code, no_name}
-use Rattle.t1_subset.proofs.closing.ExecutedCalls.{first_subr, no_subr}
+use Rattle.t1_subset.specs.Conflicts.{agrees, keys_of_both, codes_of_both, code_clashes, code_conflict, subr_clashes, subr_conflict}
+use Rattle.t1_subset.specs.Searches.{members, IsLowest}
+use Rattle.t1_subset.proofs.Sets.{is_or_not, not_so, or_left, name_same, tied, later}
+use Rattle.t1_subset.proofs.state_tables.FirstConflicts.{code_there, no_name}
+use Rattle.t1_subset.proofs.state_tables.LowestKeys.{lowest_is}
+use Rattle.t1_subset.proofs.Searching.{first_passes, in_both}
+use Rattle.t1_subset.proofs.closing.ExecutedCalls.{clash_there}
 
 -- ---- states that agree
 
@@ -37,13 +42,6 @@ no_clash x y a b e f h = ap not ((λ i. agrees (sym e i) (sym f i)) ∙ sym (agr
 
 clash : (x y a b : Option Meaning) → x ≡ a → y ≡ b → (StatesAgree x y → ⊥) → not (agrees a b) ≡ true
 clash x y a b e f h = ap not ((λ i. agrees (sym e i) (sym f i)) ∙ sym (agree_alike x y) ∙ not_so (states_agree x y) h)
-
-less_of : (k c : ℕ) → k < c → nat_cmp k c ≡ Less
-less_of k c l = elim (nat_cmp k c) as (λ o. MatchOrdering o (k < c) (k ≡ c) (c < k) → o ≡ Less) [
-  | Less ↦ λ h. refl
-  | Equal ↦ λ h. absurd (omega arith)
-  | Greater ↦ λ h. absurd (omega arith)
-] (ranks k c)
 
 -- ---- tables by number
 
@@ -61,17 +59,13 @@ pub shows_subrs : (f : FontValue) (t : TableMeaning) → t ≡ numbered (used_su
 shows_subrs f t is i = ap (λ (t : TableMeaning). maps.get t (of_number i)) is ∙ get-numbered (used_subrs profile f) (of_number i) ∙ get-used profile f i
 
 module _ (m n : TableMeaning) (x y : ℕ → Option (List ℕ)) (sx : Shows m x) (sy : Shows n y) where
-  -- if two tables agree, no states are in conflict
-  pub none_clashes : TablesAgree m n → (i : ℕ) → not (agrees (x i) (y i)) ≡ false
-  none_clashes h i = no_clash _ _ (x i) (y i) (sx i) (sy i) (h (of_number i))
-
-  -- the states at the first conflict of two tables are in conflict
-  pub it_clashes : (k : ℕ) → IsFirstConflict m n (of_number k) → not (agrees (x k) (y k)) ≡ true
-  it_clashes k h = clash _ _ (x k) (y k) (sx k) (sy k) h.differs
-
-  -- no states below the first conflict are in conflict
-  pub none_below : (k : ℕ) → IsFirstConflict m n (of_number k) → (i : ℕ) → nat_cmp i k ≡ Less → not (agrees (x i) (y i)) ≡ false
-  none_below k h i l = no_clash _ _ (x i) (y i) (sx i) (sy i) (h.first (of_number i) (sym (by_number_law i k) ∙ l))
+  -- what a search of two tables for a conflict answers is the lowest number whose states are in conflict
+  pub lowest_clash : (r : Option ℕ) → MatchOption r (TablesAgree m n) (λ k. IsFirstConflict m n (of_number k)) → IsLowest nat_cmp (λ i. not (agrees (x i) (y i))) r
+  lowest_clash None h = λ i. no_clash _ _ (x i) (y i) (sx i) (sy i) (h (of_number i))
+  lowest_clash (Some k) h = record {
+    it = clash _ _ (x k) (y k) (sx k) (sy k) h.differs;
+    none_lower = λ i l. no_clash _ _ (x i) (y i) (sx i) (sy i) (h.first (of_number i) (sym (by_number_law i k) ∙ l));
+  }
 
 -- ---- tables that are filled
 
@@ -107,37 +101,26 @@ module _ (g : Named) where
   pub fills_all : (t : TableMeaning) (left : List (List ℕ)) → Fills g t left → left ≡ [] → (q : List ℕ) → maps.get t q ≡ maps.get g q
   fills_all t left h e q = h.shown q (ap (list_any (same_bytes q)) e)
 
--- ---- the smallest code
+-- ---- the smallest code and the smallest Subr
 
--- a code from 256 on has no name
-pub beyond : (f : FontValue) → IsFont f → (c : ℕ) → 256 ≤ c → code_state f.encoding c ≡ None
-beyond f h c l = no_name f.encoding h.encoding c l (code_state f.encoding c) refl
+module _ (f g : FontValue) (s t : TableMeaning) (r : Option ℕ) (h : MatchOption r (TablesAgree s t) (λ k. IsFirstConflict s t (of_number k))) where
+  -- what a search of two tables of codes answers is the conflict of codes
+  pub code_found : s ≡ code_states f.encoding → t ≡ code_states g.encoding → r ≡ code_conflict f g
+  code_found sf sg = lowest_is nat_cmp_total nat_cmp-IsAntisymmetric (code_clashes f g) (codes_of_both f.encoding g.encoding) (code_there f.encoding g.encoding) r
+      (lowest_clash s t (code_state f.encoding) (code_state g.encoding) (shows_codes f.encoding s sf) (shows_codes g.encoding t sg) r h)
 
-module _ (f g : FontValue) (h : IsFont f) (s t : TableMeaning) (sf : Shows s (code_state f.encoding)) (sg : Shows t (code_state g.encoding)) where
-  -- if the tables of codes agree, no code is in conflict
-  pub no_code_differs : TablesAgree s t → None ≡ code_conflict f g
-  no_code_differs a = no_code f g h (λ k l. none_clashes s t (code_state f.encoding) (code_state g.encoding) sf sg a k)
+  -- what a search of two tables of Subrs answers is the conflict of Subrs
+  pub subr_found : s ≡ numbered (used_subrs profile f) → t ≡ numbered (used_subrs profile g) → r ≡ subr_conflict profile f g
+  subr_found sf sg = lowest_is nat_cmp_total nat_cmp-IsAntisymmetric (subr_clashes profile f g) (keys_of_both f.subrs g.subrs)
+      (λ i c. in_both nat_cmp_total nat_cmp-IsAntisymmetric f.subrs g.subrs i ∙ or_left (maps.contains_key f.subrs i) (maps.contains_key g.subrs i) (clash_there f g i c)) r
+      (lowest_clash s t (subr_state profile f) (subr_state profile g) (shows_subrs f s sf) (shows_subrs g t sg) r h)
 
-  -- the first conflict of the tables of codes is the smallest code in conflict
-  pub code_at : (c : ℕ) → IsFirstConflict s t (of_number c) → Some c ≡ code_conflict f g
-  code_at c a = first_code f g c (it_clashes s t (code_state f.encoding) (code_state g.encoding) sf sg c a)
-      (λ k l. none_below s t (code_state f.encoding) (code_state g.encoding) sf sg c a k (less_of k c l))
-
-  -- a code in conflict is below 256
-  pub code_below : (c : ℕ) → IsFirstConflict s t (of_number c) → c < 256
-  code_below c a = elim (is_or_not (nat_lt c 256)) [
-    | inl l ↦ ltb-true c 256 l
-    | inr l ↦ absurd (true≢false (sym (it_clashes s t (code_state f.encoding) (code_state g.encoding) sf sg c a) ∙ ap (λ x. not (agrees x (code_state g.encoding c))) (beyond f h c (ltb-false c 256 l))))
-  ]
-
--- ---- the smallest Subr
-
-module _ (f g : FontValue) (h : IsFont f) (s t : TableMeaning) (sf : Shows s (subr_state profile f)) (sg : Shows t (subr_state profile g)) where
-  -- if the tables of Subrs agree, no index is in conflict
-  pub no_subr_clashes : TablesAgree s t → None ≡ subr_conflict profile f g
-  no_subr_clashes a = no_subr f g h (declared_count f.shell.subrs) (omega arith) (λ k l. none_clashes s t (subr_state profile f) (subr_state profile g) sf sg a k)
-
-  -- the first conflict of the tables of Subrs is the smallest index in conflict
-  pub subr_at_conflict : (i : ℕ) → IsFirstConflict s t (of_number i) → Some i ≡ subr_conflict profile f g
-  subr_at_conflict i a = first_subr f g i (it_clashes s t (subr_state profile f) (subr_state profile g) sf sg i a)
-      (λ k l. none_below s t (subr_state profile f) (subr_state profile g) sf sg i a k (less_of k i l))
+-- a code in conflict is below 256
+pub code_below : (f g : FontValue) → IsFont f → (c : ℕ) → Some c ≡ code_conflict f g → c < 256
+code_below f g h c e = elim (is_or_not (nat_lt c 256)) [
+  | inl l ↦ ltb-true c 256 l
+  | inr l ↦ absurd (true≢false (sym (clashing c e) ∙ ap (λ x. not (agrees x (code_state g.encoding c))) (no_name f.encoding h.encoding c (ltb-false c 256 l))))
+]
+  where
+    clashing : (c : ℕ) → Some c ≡ code_conflict f g → code_clashes f g c ≡ true
+    clashing c e = first_passes (code_clashes f g) (members (codes_of_both f.encoding g.encoding)) c (sym e)

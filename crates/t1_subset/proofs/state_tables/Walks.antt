@@ -101,15 +101,6 @@ noted_at cs h i l c e = subst (λ (d : Callers). IsFont d.font.now × AreCallers
     at (d ∷ cs) h zero l = h.0
     at (d ∷ cs) h (suc i) l = at cs h.1 i (omega (arith, l))
 
--- the callers of two lists of fonts are noted apart
-noted_parts : (xs ys : List Callers) → AreNoted (xs ++ ys) → AreNoted xs × AreNoted ys
-noted_parts [] ys h = (tt, h)
-noted_parts (x ∷ xs) ys h = let r = noted_parts xs ys h.1 in ((h.0, r.0), r.1)
-
--- the callers of the fonts before a place are noted
-pub noted_before : (cs : List Callers) → AreNoted cs → (i : ℕ) → AreNoted (take i cs)
-noted_before cs h i = (noted_parts (take i cs) (drop i cs) (subst AreNoted (sym (take-append-drop i cs)) h)).0
-
 -- ---- a step of the walk
 
 -- the states of the font at each place
@@ -120,10 +111,6 @@ states_at cs ss is i c s l e k = k ∙ ap (λ ss. get_or ss i s) is ∙ at cs i 
     at [] i l = absurd (omega (arith, l))
     at (d ∷ cs) zero l = refl
     at (d ∷ cs) (suc i) l = at cs i (omega (arith, l))
-
--- there are states for each font
-pub as_many : (cs : List Callers) (ss : List StatesValue) → ss ≡ map (states_of profile) (fonts_of cs) → length ss ≡ length cs
-as_many cs ss is = ap length is ∙ length-map (fonts_of cs) (states_of profile) ∙ length-map cs (λ (c : Callers). c.font.now)
 
 -- the element at a place of a list
 pub nth : {X : Type 0} (xs : List X) (i : ℕ) → i < length xs → (x : X) × ((d : X) → x ≡ get_or xs i d)
@@ -195,10 +182,6 @@ states_more cs i c l e ss s h k =
 -- if there are fonts, there are callers
 pub some_noted : (fs : List FontValue) (cs : List Callers) → fonts_of cs ≡ fs → 0 < length fs → 0 < length cs
 some_noted fs cs h l = let n = ap length h in let m = length-map cs (λ (c : Callers). c.font.now) in omega (arith, n, m, l)
-
--- if there are callers, there are fonts
-pub some_fonts : (cs : List Callers) → 0 < length cs → 0 < length (fonts_of cs)
-some_fonts cs l = let m = length-map cs (λ (c : Callers). c.font.now) in omega (arith, m, l)
 
 -- if the callers of all fonts are noted, all are fonts
 pub font_list : (fs : List FontValue) (cs : List Callers) → fonts_of cs ≡ fs → AreNoted cs → AllByRecursion IsFont fs

@@ -1,7 +1,6 @@
 use Rattle.std.proofs.Common.{◌∙◌, arith}
 use Rattle.t1_subset.specs.States.{code_state}
-use Rattle.t1_subset.proofs.state_tables.FirstConflicts.{named_so}
-use Rattle.t1_subset.proofs.state_tables.TableStates.{beyond}
+use Rattle.t1_subset.proofs.state_tables.FirstConflicts.{named_so, no_name}
 use Rattle.t1_subset.proofs.state_tables.ByNumber.{has_none, has_next, codes_filled}
 use Rattle.t1_subset.proofs.tables.code_table.Goals as goal
 
@@ -13,4 +12,4 @@ codes-preserved c = has_next c.codes.table (code_state c.args.font.now.encoding)
     (c.encoding_at.ensures ∙ named_so c.args.font.now.encoding c.codes.code)
 
 pub returns : goal.returns
-returns c = codes_filled c.args.font.now.encoding c.codes.table c.codes.code c.codes.invariant (λ i l. beyond c.args.font.now c.proof_is_font.ensures i (let t = c.codes-test.false in omega arith))
+returns c = codes_filled c.args.font.now.encoding c.codes.table c.codes.code c.codes.invariant (λ i l. no_name c.args.font.now.encoding c.proof_is_font.ensures.encoding i (let t = c.codes-test.false in omega arith))
