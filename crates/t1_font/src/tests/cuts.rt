@@ -297,7 +297,11 @@ fn cut_font<'a>(
 }
 
 /// The same of the font of a source, which is lent for no longer than it is cut.
-pub fn lent_cut_font<'a>(alloc: Global, source: &'a Source, cut: Cut) -> Result<Font<'a>, AllocError> {
+pub fn lent_cut_font<'a>(
+    alloc: Global,
+    source: &'a Source,
+    cut: Cut,
+) -> Result<Font<'a>, AllocError> {
     let font = source.font(alloc)?;
     cut_font(alloc, &font, cut.0, cut.1)
 }

@@ -53,20 +53,27 @@ fn are_right(alloc: Global, source: &Source) -> Result<bool, AllocError> {
     let font = source.font(alloc)?;
     let x = lent_cut_font(alloc, source, X)?;
     let y = lent_cut_font(alloc, source, Y)?;
-    Ok(copy_has(alloc, &font, ALL_NAMES)?
-        && copy_has(alloc, &x, b".notdef X ")?
-        && join_has(alloc, &x, &y, b".notdef X Y ")?
-        && join_has(alloc, &y, &x, b".notdef X Y ")?
-        && join_has(alloc, &font, &x, ALL_NAMES)?
-        && join_has(alloc, &y, &font, ALL_NAMES)?)
+    Ok(
+        copy_has(alloc, &font, ALL_NAMES)?
+            && copy_has(alloc, &x, b".notdef X ")?
+            && join_has(alloc, &x, &y, b".notdef X Y ")?
+            && join_has(alloc, &y, &x, b".notdef X Y ")?
+            && join_has(alloc, &font, &x, ALL_NAMES)?
+            && join_has(alloc, &y, &font, ALL_NAMES)?,
+    )
+}
+
+/// The same of Tiny.
+pub fn tiny_is_right(alloc: Global) -> Result<bool, AllocError> {
+    match read(alloc, PFA) {
+        Ok(source) => are_right(alloc, &source),
+        Err(_) => Err(AllocError),
+    }
 }
 
 #[test]
 fn tables_of_tiny(rt: HostRuntime) -> Result<(), Fail> {
-    match read(rt.alloc(), PFA) {
-        Ok(source) => assert!(rt; are_right(rt.alloc(), &source)?),
-        Err(_) => assert!(rt; false, "not read"),
-    }
+    assert!(rt; tiny_is_right(rt.alloc())?);
     Ok(())
 }
 
