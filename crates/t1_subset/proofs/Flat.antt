@@ -1,5 +1,5 @@
 -- The join of flat states.
-use Rattle.std.proofs.Common.{◌≡◌, refl, sym, ap, ◌⊎◌, inl, inr, Option, Some, None}
+use Rattle.std.proofs.Common.{◌≡◌, refl, sym, ap, Option, Some, None}
 use Rattle.t1_subset.specs.States.{Agree, joined}
 
 module _ {V : Type 0} where

@@ -94,7 +94,8 @@ fn first_lacked<'a>(
     other: &NameTable<'_>,
 ) -> Option<&'a [u8]>
     ensures { option_map (λ n. n.now) result
-        ≡ option_map (λ e. e.0) (first_where (lacks_in own.now other.now) (maps.entries names.now)) }
+        ≡ option_map (λ e. e.0)
+        (first_where (lacks_in own.now other.now) (maps.entries names.now)) }
 {
     'names: for (name, _) in names.entries() {
         if own.seeks(name) && other.has_glyph(name) {

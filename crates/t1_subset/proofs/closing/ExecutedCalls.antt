@@ -1,12 +1,9 @@
 -- What glyphs execute, in code.
-use Rattle.std.proofs.Common.{◌≡◌, ℕ, ◌<◌, ◌≤◌, true, false, not, List, [], flat_map, refl, sym, ap, ◌∙◌, true≢false, Option, Some, None, is_some, unwrap_or, nat_lt, arith, inl, inr}
-use Rattle.std.proofs.lemmas.Bool.{ltb-true, ltb-false}
-use Rattle.std.specs.Cmp.{nat_cmp_total}
+use Rattle.std.proofs.Common.{◌≡◌, ℕ, true, not, List, [], flat_map, refl, sym, ap, ◌∙◌, true≢false, Option, Some, None, is_some, unwrap_or}
 use Rattle.std.specs.FinMap as maps
 use Rattle.std.specs.FinSet as sets
-use Rattle.std.specs.FinSet.{nat_cmp-IsAntisymmetric}
 use Rattle.t1_run.specs.Run.{exec}
-use Rattle.t1_font.specs.FontValue.{FontValue, declared_count}
+use Rattle.t1_font.specs.FontValue.{FontValue}
 use Rattle.t1_font.specs.FontModel.{subr_at}
 use Rattle.t1_font.specs.IsFont.{IsFont}
 use Rattle.t1_font.proofs.FontReaders.{all_seen}
@@ -14,12 +11,8 @@ use Rattle.t1_subset.specs.Interpreter.{Numbers}
 use Rattle.t1_subset.specs.Keep.{charstring}
 use Rattle.t1_subset.specs.Profile.{profile, set_of}
 use Rattle.t1_subset.specs.States.{state_of_entry, subr_state}
-use Rattle.t1_subset.specs.Conflicts.{agrees, keys_of_both, subr_clashes, subr_conflict}
-use Rattle.t1_subset.specs.Searches.{members}
-use Rattle.t1_subset.proofs.Searching.{passes_none, in_both}
-use Rattle.t1_subset.proofs.Smallest.{smallest_is}
+use Rattle.t1_subset.specs.Conflicts.{agrees, subr_clashes}
 use Rattle.t1_subset.proofs.state_tables.FirstConflicts.{there_of}
-use Rattle.t1_subset.proofs.Sets.{is_or_not, not_so, or_left}
 
 -- the indices that the glyph of a name executes
 abbrev pub calls_by : FontValue → List ℕ → Numbers

@@ -1,19 +1,16 @@
 -- Where Subrs and codes in conflict stand.
-use Rattle.std.proofs.Common.{◌≡◌, ℕ, ◌<◌, ◌≤◌, true, false, not, cond, List, refl, sym, ◌∙◌, ap, subst, true≢false, Option, Some, None, is_some, inl, inr, arith, nat_cmp, Less, Ordering, nat_lt}
-use Rattle.std.proofs.lemmas.Bool.{ltb-true, ltb-false}
-use Rattle.std.specs.Ordering.{MatchOrdering}
-use Rattle.std.specs.Cmp.{nat_cmp_total, ranks}
+use Rattle.std.proofs.Common.{◌≡◌, ℕ, ◌≤◌, true, not, cond, List, refl, sym, ◌∙◌, ap, true≢false, Option, Some, None, is_some, inl, inr, arith, nat_lt}
+use Rattle.std.proofs.lemmas.Bool.{ltb-true}
+use Rattle.std.specs.Cmp.{nat_cmp_total}
 use Rattle.std.specs.FinSet.{nat_cmp-IsAntisymmetric}
 use Rattle.std.specs.FinMap as maps
 use Rattle.t1_font.specs.FontValue.{FontValue, Encoding, Word, Codes, declared_count}
 use Rattle.t1_font.specs.FontModel.{name_at}
 use Rattle.t1_font.specs.IsFont.{IsFont, IsEncoding}
 use Rattle.t1_font.proofs.FontReaders.{subrs_seen}
-use Rattle.t1_subset.specs.Conflicts.{agrees, codes_of_both, code_clashes, code_conflict}
-use Rattle.t1_subset.specs.Searches.{members}
+use Rattle.t1_subset.specs.Conflicts.{agrees, codes_of_both}
 use Rattle.t1_subset.specs.States.{code_state}
-use Rattle.t1_subset.proofs.Searching.{passes_none, in_both}
-use Rattle.t1_subset.proofs.Smallest.{smallest_is}
+use Rattle.t1_subset.proofs.Searching.{in_both}
 use Rattle.t1_subset.proofs.Sets.{is_or_not, or_left}
 
 -- a state that does not join is not the bottom

@@ -1,9 +1,7 @@
 -- Tables of states, as the code fills and compares them.
-use Rattle.std.proofs.Common.{◌≡◌, MatchOption, ℕ, ◌<◌, ◌≤◌, true, false, not, cond, ◌||◌, List, [], ◌∷◌, refl, sym, ◌∙◌, ap, true≢false, Option, Some, None, is_some, nat_cmp, nat_lt, arith, inl, inr, Less, Equal, Greater}
+use Rattle.std.proofs.Common.{◌≡◌, MatchOption, ℕ, ◌<◌, true, false, not, cond, ◌||◌, List, [], ◌∷◌, refl, sym, ◌∙◌, ap, true≢false, Option, Some, None, is_some, nat_cmp, nat_lt, inl, inr}
 use Rattle.std.proofs.lemmas.Bool.{ltb-true, ltb-false}
 use Rattle.std.specs.List.{list_any}
-use Rattle.std.specs.Ordering.{MatchOrdering}
-use Rattle.std.specs.Cmp.{ranks}
 use Rattle.std.specs.Cmp.Lexicographic.{nat_list_cmp_total}
 use Rattle.std.specs.Cmp.{nat_cmp_total}
 use Rattle.std.specs.FinSet.{nat_cmp-IsAntisymmetric}
@@ -11,7 +9,7 @@ use Rattle.std.specs.FinMap as maps
 use Rattle.t1_join.specs.Meaning.{Meaning, meaning_cmp, of_number, by_number_law}
 use Rattle.t1_join.specs.Join.{StatesAgree, states_agree}
 use Rattle.t1_join.specs.TableMeaning.{TableMeaning, TablesAgree, IsFirstConflict}
-use Rattle.t1_font.specs.FontValue.{FontValue, Encoding, Word, Codes, Named, declared_count}
+use Rattle.t1_font.specs.FontValue.{FontValue, Encoding, Word, Codes, Named}
 use Rattle.t1_subset.specs.StateTables.{numbered, code_states, used_subrs}
 use Rattle.t1_subset.proofs.state_tables.Numbered.{get-numbered}
 use Rattle.t1_subset.proofs.state_tables.FontStates.{get-used}
