@@ -48,18 +48,56 @@ fn join_has<'a>(
 /// The names of Tiny.
 const ALL_NAMES: &[u8] = b".notdef A Aacute B F H L N X Y acute ";
 
-/// Whether a table that is lent, one that was made, and what they join to have their names.
-fn are_right(alloc: Global, source: &Source) -> Result<bool, AllocError> {
+/// Whether the table of a source is copied.
+fn lent_copies(alloc: Global, source: &Source) -> Result<bool, AllocError> {
     let font = source.font(alloc)?;
+    copy_has(alloc, &font, ALL_NAMES)
+}
+
+/// Whether a table that a cut made is copied.
+fn made_copies(alloc: Global, source: &Source) -> Result<bool, AllocError> {
     let x = lent_cut_font(alloc, source, X)?;
-    let y = lent_cut_font(alloc, source, Y)?;
+    copy_has(alloc, &x, b".notdef X ")
+}
+
+/// Whether a font's table and that of a cut join to these names.
+fn joins_with<'a>(
+    alloc: Global,
+    first: &Font<'a>,
+    source: &'a Source,
+    cut: Cut,
+    want: &[u8],
+) -> Result<bool, AllocError> {
+    let second = lent_cut_font(alloc, source, cut)?;
+    join_has(alloc, first, &second, want)
+}
+
+/// The same of the table of a source and of a cut.
+fn lent_joins(alloc: Global, source: &Source, cut: Cut, want: &[u8]) -> Result<bool, AllocError> {
+    let font = source.font(alloc)?;
+    joins_with(alloc, &font, source, cut, want)
+}
+
+/// The same of two cuts.
+fn made_joins(
+    alloc: Global,
+    source: &Source,
+    first: Cut,
+    second: Cut,
+    want: &[u8],
+) -> Result<bool, AllocError> {
+    let first = lent_cut_font(alloc, source, first)?;
+    joins_with(alloc, &first, source, second, want)
+}
+
+/// Whether all tables that are copied and joined have their names.
+fn are_right(alloc: Global, source: &Source) -> Result<bool, AllocError> {
     Ok(
-        copy_has(alloc, &font, ALL_NAMES)?
-            && copy_has(alloc, &x, b".notdef X ")?
-            && join_has(alloc, &x, &y, b".notdef X Y ")?
-            && join_has(alloc, &y, &x, b".notdef X Y ")?
-            && join_has(alloc, &font, &x, ALL_NAMES)?
-            && join_has(alloc, &y, &font, ALL_NAMES)?,
+        lent_copies(alloc, source)?
+            && made_copies(alloc, source)?
+            && made_joins(alloc, source, X, Y, b".notdef X Y ")?
+            && made_joins(alloc, source, Y, X, b".notdef X Y ")?
+            && lent_joins(alloc, source, X, ALL_NAMES)?,
     )
 }
 
@@ -80,14 +118,33 @@ fn tables_of_tiny(rt: HostRuntime) -> Result<(), Fail> {
 /// A few of the names of a large font.
 const FEW: Cut = (&[b"0", b"7", b"77", b"777", b"3999"], &[0, 1, 2, 3]);
 
-/// How many glyphs there are in the copies of a large font's table and of a part's, and in what they join to.
+/// How many glyphs the copy of a font's table has.
+fn copied(alloc: Global, font: &Font<'_>) -> Result<usize, AllocError> {
+    let copy = font.glyphs().copy(alloc)?;
+    Ok(copy.len())
+}
+
+/// How many glyphs the tables of two fonts have together.
+fn joined<'a>(alloc: Global, first: &Font<'a>, second: &Font<'a>) -> Result<usize, AllocError> {
+    let both = join_glyphs(alloc, first.glyphs(), second.glyphs())?;
+    Ok(both.len())
+}
+
+/// The same of a part alone, and of the part and a font.
+fn counts_of_part<'a>(
+    alloc: Global,
+    font: &Font<'a>,
+    source: &'a Source,
+) -> Result<(usize, usize), AllocError> {
+    let part = lent_cut_font(alloc, source, FEW)?;
+    Ok((copied(alloc, &part)?, joined(alloc, &part, font)?))
+}
+
+/// The same of a font, of its part and of both; and how many Subrs the font has.
 fn counts(alloc: Global, source: &Source) -> Result<(usize, usize, usize, usize), AllocError> {
     let font = source.font(alloc)?;
-    let part = lent_cut_font(alloc, source, FEW)?;
-    let lent = font.glyphs().copy(alloc)?;
-    let made = part.glyphs().copy(alloc)?;
-    let both = join_glyphs(alloc, &made, &lent)?;
-    Ok((lent.len(), made.len(), both.len(), font.indices().count()))
+    let (part, both) = counts_of_part(alloc, &font, source)?;
+    Ok((copied(alloc, &font)?, part, both, font.indices().count()))
 }
 
 #[test]
