@@ -88,8 +88,7 @@ fn merge_two<'a>(alloc: Global, left: &Font<'a>, right: &Font<'a>) -> Result<Fon
     both(alloc, left, right)
 }
 
-/// The join of one or more fonts, by the callers of each. They and the states are let go before the join is
-/// made.
+/// The join of one or more fonts, by the callers of each. They and the states are let go before the join is made.
 fn merge_noted<'a>(
     alloc: Global,
     fonts: &[Font<'a>],
