@@ -1,6 +1,8 @@
 pub mod WordLemmas
 pub mod MarkerLemmas
 pub mod Lasts
+pub mod Firsts
+pub mod Joining
 pub mod EntryLemmas
 pub mod MapLaws
 pub mod Buffers

@@ -1,5 +1,5 @@
 -- A font of the entries of two, and why these are not one font.
-use Rattle.std.specs.Prelude.{◌<◌, ◌⊎◌, ℕ, cond, List, Option, Some, None, unwrap_or}
+use Rattle.std.specs.Prelude.{◌<◌, ◌⊎◌, ℕ, cond, List, [], ◌∷◌, Option, Some, None, unwrap_or}
 use Rattle.std.specs.declared.cmp.Ordering.{Ordering}
 use Rattle.std.specs.Str.{bytes_eq}
 use Rattle.std.specs.FinMap.{get, len}
@@ -36,7 +36,16 @@ join_parts f g = record {
   glyphs = merged f.glyphs g.glyphs;
 }
 
--- the font of both has too many glyphs, or weighs too much; or a growth was refused
-abbrev pub Refuses : FontValue → FontValue → PartsFault → Type 0
-Refuses f g Limit = (count_limit < len (join_parts f g).glyphs) ⊎ (weight_limit < weight (join_parts f g))
-Refuses f g Memory = Unit {0}
+-- the entries of all fonts: to those of the first the others', one font after another
+abbrev pub join_all_parts : FontValue → List FontValue → FontValue
+join_all_parts f [] = f
+join_all_parts f (g ∷ gs) = join_all_parts (join_parts f g) gs
+
+-- there are too many glyphs, or they weigh too much with the rest
+abbrev pub IsOverLimits : FontValue → Type 0
+IsOverLimits f = (count_limit < len f.glyphs) ⊎ (weight_limit < weight f)
+
+-- so these entries are no font; or a growth was refused
+abbrev pub Refuses : FontValue → PartsFault → Type 0
+Refuses f Limit = IsOverLimits f
+Refuses f Memory = Unit {0}

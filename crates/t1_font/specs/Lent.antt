@@ -42,6 +42,10 @@ abbrev pub named_entries : NamedForm → List (List ℕ × List ℕ)
 named_entries (names.Stored buffer places) = map (named_at buffer.now.items) places.now
 named_entries (names.Made glyphs) = map lent_glyph glyphs.items
 
+-- the table of glyphs in any order: of those with one name the first stands
+abbrev pub glyphs_by_name : List Glyph → Named
+glyphs_by_name gs = from_entries (map lent_glyph gs)
+
 -- ---- glyphs under names in a tree
 
 -- the name, with the glyph's charstring

@@ -1,13 +1,15 @@
 //! The font value.
 
-ghost use Rattle.std.specs.Prelude.{◌≡◌, is_some};
+ghost use Rattle.std.specs.Prelude.{◌≡◌, ◌≤◌, true, false, is_some};
 ghost use Rattle.std.specs.Option.{option_map};
 ghost use Rattle.std.specs.FinMap as fin;
-ghost use Rattle.t1_font.specs.FontValue.{weight};
+ghost use Rattle.t1_font.specs.FontValue.{weight, count_limit, weight_limit};
 ghost use Rattle.t1_font.specs.FontModel.{clamp, part_of, word_of, name_at, names_in, subr_at};
 ghost use Rattle.t1_font.specs.IsFont.{IsFont};
+ghost use Rattle.t1_font.specs.Joins.{IsOverLimits};
 
 use crate::lent::{Named, NamedEntries, Numbered, NumberedEntries};
+use crate::limits::{COUNT_LIMIT, WEIGHT_LIMIT};
 use crate::shell::Shell;
 use std::marker::Model;
 use t1_run::{Glyphs, Subroutines};
@@ -219,6 +221,15 @@ impl<'a> FontParts<'a> {
         let len_iv = self.shell.len_iv();
         let with_subrs = self.subrs.weight(texts, len_iv);
         self.glyphs.weight(with_subrs, len_iv)
+    }
+
+    /// Whether there are too many glyphs for a font, or they weigh too much with the rest.
+    pub(crate) fn is_over_limits(&self) -> bool
+        ensures over { result ≡ true → IsOverLimits self.now }
+        ensures few { result ≡ false → fin.len self.now.glyphs ≤ count_limit }
+        ensures light { result ≡ false → weight self.now ≤ weight_limit }
+    {
+        self.glyphs.len() > COUNT_LIMIT || self.weight() > WEIGHT_LIMIT
     }
 }
 

@@ -90,6 +90,16 @@ impl<'a> Numbered<'a> {
         }
     }
 
+    /// The same entries. A table of a source is lent once more, and takes no room; any other is copied.
+    pub(crate) fn copy(&self, alloc: Global) -> Result<Self, AllocError>
+        ensures { IfOk result (λ m. m ≡ self.now) }
+    {
+        match &self.form {
+            NumberedForm::Stored { buffer, places } => Ok(Numbered::stored(buffer, places)),
+            NumberedForm::Made(entries) => Ok(Numbered::made(Vec::from_slice(alloc, entries)?)),
+        }
+    }
+
     /// How many entries the table has.
     pub fn len(&self) -> usize
         ensures { result ≡ fin.len self.now }

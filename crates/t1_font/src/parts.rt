@@ -12,7 +12,6 @@ ghost use Rattle.t1_font.specs.WriteLaws.{SameKind};
 use crate::cut::STUB;
 use crate::font::{Font, FontParts, LentEncoding};
 use crate::lent::{Glyph, Named, Numbered};
-use crate::limits::{COUNT_LIMIT, WEIGHT_LIMIT};
 use std::alloc::{AllocError, Global};
 use std::cmp::Ordering;
 use std::fmt;
@@ -123,7 +122,7 @@ pub(crate) fn join_codes<'a>(
 }
 
 /// The Encoding of both fonts. A word stays as it is in the first.
-fn join_encoding<'a>(
+pub(crate) fn join_encoding<'a>(
     alloc: Global,
     first: &LentEncoding<'a>,
     second: &LentEncoding<'a>,
@@ -153,7 +152,7 @@ fn joined_subr<'a>(first: &'a [u8], second: Option<&'a [u8]>) -> &'a [u8]
 }
 
 /// The Subrs of the first font. Its stubs give way to the second's Subrs.
-fn join_subrs<'a>(
+pub(crate) fn join_subrs<'a>(
     alloc: Global,
     first: &Numbered<'a>,
     second: &Numbered<'a>,
@@ -203,12 +202,12 @@ pub fn join_parts<'a>(
     requires shells { first.now.shell ≡ second.now.shell }
     requires encodings { SameKind first.now.encoding second.now.encoding }
     ensures { MatchResult result (λ f. f
-        ≡ join_parts first.now second.now) (Refuses first.now second.now) }
+        ≡ join_parts first.now second.now) (Refuses (join_parts first.now second.now)) }
 {
     first.proof_is_font();
     second.proof_is_font();
     let parts = joined_parts(alloc, &first.parts, &second.parts)?;
-    if parts.glyphs.len() > COUNT_LIMIT || parts.weight() > WEIGHT_LIMIT {
+    if parts.is_over_limits() {
         return Err(PartsFault::Limit);
     }
     Ok(Font { parts })

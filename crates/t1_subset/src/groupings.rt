@@ -1,18 +1,17 @@
-//! Many fonts at once: what is noted of each, and the font that they make, in halves.
+//! Many fonts at once: what is noted of each, and the font that they make.
 
 ghost use Rattle.std.specs.Prelude.{◌≡◌, ◌<◌, IfOk, IfErr, length, map};
 ghost use Rattle.t1_subset.specs.Profile.{profile};
 ghost use Rattle.t1_subset.specs.StateTables.{states_of};
 ghost use Rattle.t1_subset.specs.Callers.{AreNoted, fonts_of};
-ghost use Rattle.t1_subset.specs.Merger.{EachGroupingMerges, SomeGroupingMerges};
+ghost use Rattle.t1_subset.specs.Merger.{EachGroupingMerges, ComesTo};
 
 use crate::callers::Callers;
 use crate::conflict::Conflict;
-use crate::merger::both;
 use crate::state_making::{callers_of, states_by};
 use crate::state_value::States;
 use std::alloc::{AllocError, Global};
-use t1_font::Font;
+use t1_font::{Font, join_all_parts};
 
 /// The callers of each of the fonts.
 pub(crate) fn note_fonts<'t, 'a>(
@@ -46,30 +45,14 @@ pub(crate) fn states_of_all<'a>(
     Ok(states)
 }
 
-/// A copy of a font, which is its join with itself.
-pub(crate) fn copy_font<'a>(alloc: Global, font: &Font<'a>) -> Result<Font<'a>, Conflict>
-    ensures ok { IfOk result (λ j. j ≡ font.now) }
-    ensures err { IfErr result (λ e. e ≡ Conflict.Memory) }
-{
-    font.proof_is_font();
-    both(alloc, font, font)
-}
-
-/// The font that these fonts make together, merged in halves. They are known to merge.
+/// The font that these fonts make together. They are known to merge.
 pub(crate) fn made_of<'a>(alloc: Global, fonts: &[Font<'a>]) -> Result<Font<'a>, Conflict>
     requires some { 0 < length fonts.now }
     requires merges { EachGroupingMerges fonts.now }
-    ensures ok { IfOk result (λ j. SomeGroupingMerges fonts.now j) }
+    ensures ok { IfOk result (λ j. ComesTo fonts.now j) }
     ensures err { IfErr result (λ e. e ≡ Conflict.Memory) }
 {
-    if fonts.len() == 1 {
-        return copy_font(alloc, &fonts[0]);
-    }
-    if fonts.len() == 2 {
-        return both(alloc, &fonts[0], &fonts[1]);
-    }
-    let (front, back) = fonts.split_at(fonts.len() / 2);
-    let front = made_of(alloc, front)?;
-    let back = made_of(alloc, back)?;
-    both(alloc, &front, &back)
+    let (first, rest) = (&fonts[0], &fonts[1..]);
+    first.proof_is_font();
+    Ok(join_all_parts(alloc, first, rest)?)
 }

@@ -19,10 +19,10 @@ use crate::shared::Shared;
 use crate::state_making::{callers_of, states_from};
 use crate::state_value::States;
 use std::alloc::{AllocError, Global};
-use t1_font::{Font, PartsFault, join_parts};
+use t1_font::{Font, join_parts};
 
 /// The font with the entries of two fonts whose states join, if it is within the limits.
-pub(crate) fn both<'a>(
+fn both<'a>(
     alloc: Global,
     left: &Font<'a>,
     right: &Font<'a>,
@@ -32,14 +32,9 @@ pub(crate) fn both<'a>(
         × (j ≡ joined_font profile left.now right.now)) }
     ensures err { IfErr result (λ e. Tells e (conflict profile left.now right.now)) }
 {
-    match join_parts(alloc, left, right) {
-        Ok(font) => {
-            font.proof_is_font();
-            Ok(font)
-        }
-        Err(PartsFault::Limit) => Err(Conflict::Limit),
-        Err(PartsFault::Memory) => Err(Conflict::Memory),
-    }
+    let font = join_parts(alloc, left, right)?;
+    font.proof_is_font();
+    Ok(font)
 }
 
 /// The states of a font, by what it shares, and its callers. Each glyph of the font is run once.

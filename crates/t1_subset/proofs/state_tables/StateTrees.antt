@@ -43,94 +43,59 @@ pub joined_groupings : (fs : List FontValue) → AllByRecursion IsFont fs → (s
 joined_groupings fs w ss is None t h = absurd (true≢false (sym t))
 joined_groupings fs w ss is (Some v) t h = each_grouping fs w v (subst (λ (ss : List StatesValue). IsJoinOf StatesJoin ss (Some v)) (all_same ss ∙ is) h)
 
--- ---- parts of a list
+-- ---- from left to right
 
--- one or more fonts have a grouping
-some_tree : (fs : List FontValue) → 0 < length fs → (t : Grouping FontValue) × (leaves t ≡ fs)
-some_tree [] l = absurd (omega arith)
-some_tree (f ∷ fs) l = (from_left (one f) fs, leaves_from_left (one f) fs)
+-- where fonts are merged to j from left to right, after those before, which come to k: j is the font of all their entries
+record AreParts (k : FontValue) (gs : List FontValue) (j : FontValue) : Type 0 where
+  pub is : j ≡ join_all_parts k gs
+  pub shells : AllByRecursion (λ g. k.shell ≡ g.shell) gs
+  pub kinds : AllByRecursion (λ g. SameKind k.encoding g.encoding) gs
+  pub within : IsWithin k → IsWithin j
 
-module _ (fs front back : List FontValue) (h : EachGroupingMerges fs) (e : front ++ back ≡ fs) where
-  -- each grouping of the first half merges
-  pub of_front : 0 < length back → EachGroupingMerges front
-  of_front l t is =
-      let u = some_tree back l in
-      let r = h (two t u.0) ((λ i. is i ++ u.1 i) ∙ e) in
-      (r.1.0, r.1.2)
+kind_before : (d e x : Encoding) → SameKind d e → SameKind (join_encodings d e) x → SameKind d x
+kind_before (Word v) e x k h = h
+kind_before (Codes m) (Word w) x k h = h
+kind_before (Codes m) (Codes n) (Word w) k h = h
+kind_before (Codes m) (Codes n) (Codes p) k h = tt
 
-  -- each grouping of the second half merges
-  pub of_back : 0 < length front → EachGroupingMerges back
-  of_back l t is =
-      let u = some_tree front l in
-      let r = h (two u.0 t) ((λ i. u.1 i ++ is i) ∙ e) in
-      (r.1.1, r.1.3)
+kinds_before : (d e : Encoding) (gs : List FontValue) → SameKind d e → AllByRecursion (λ g. SameKind (join_encodings d e) g.encoding) gs → AllByRecursion (λ g. SameKind d g.encoding) gs
+kinds_before d e [] k h = tt
+kinds_before d e (g ∷ gs) k h = (kind_before d e g.encoding k h.0, kinds_before d e gs k h.1)
 
-  module _ (a b : FontValue) (x : SomeGroupingMerges front a) (y : SomeGroupingMerges back b) where
-    -- what both halves merge to joins
-    pub halves_join : Join profile a b
-    halves_join =
-        let r = h (two x.0 y.0) ((λ i. x.1 i ++ y.1 i) ∙ e) in
-        subst (λ (b : FontValue). Join profile a b) (one_result profile y.0 r.1.1 b r.1.3 y.2) (subst (λ (a : FontValue). Join profile a r.1.1) (one_result profile x.0 r.1.0 a r.1.2 x.2) r.1.4.0)
+left_parts : (t : Grouping FontValue) (gs : List FontValue) (j : FontValue) → Merges profile (from_left t gs) j → (k : FontValue) × Merges profile t k × AreParts k gs j
+left_parts t [] j h = (j, h, record { is = refl; shells = tt; kinds = tt; within = λ w. w })
+left_parts t (g ∷ gs) j h =
+    let r = left_parts (two t (one g)) gs j h in
+    let k = r.1.0 in
+    let both : Join profile k g = subst (Join profile k) (sym r.1.3) r.1.4.0 in
+    let c = both.states in
+    let is : r.0 ≡ join_parts k g = sym r.1.4.1 ∙ (ap (joined_font profile k) (sym r.1.3) ∙ joined_are_entries profile k g c) in
+    let rest = subst (λ (m : FontValue). AreParts m gs j) is r.2 in
+    (k, r.1.2, record {
+      is = rest.is;
+      shells = (c.shells, rest.shells);
+      kinds = (c.kinds, kinds_before k.encoding g.encoding gs c.kinds rest.kinds);
+      within = λ w. rest.within (subst IsWithin (joined_are_entries profile k g c) both.within);
+    })
 
-    -- what both halves merge to has no conflict of states
-    pub halves_free : states_conflict profile a b ≡ None
-    halves_free = no_states_conflict profile a b halves_join.states
+module _ (f : FontValue) (gs : List FontValue) (h : EachGroupingMerges (f ∷ gs)) where
+  merged : (j : FontValue) × Merges profile (from_left (one f) gs) j
+  merged = h (from_left (one f) gs) (leaves_from_left (one f) gs)
 
-    -- the join of both halves is what some grouping of all merges to
-    pub halves_merge : (j : FontValue) → j ≡ joined_font profile a b → SomeGroupingMerges fs j
-    halves_merge j is = (two x.0 y.0, (λ i. x.1 i ++ y.1 i) ∙ e, (a, b, x.2, y.2, (halves_join, sym is)))
+  -- fonts of which each grouping merges have entries that join
+  pub parts_join : AreParts f gs merged.0
+  parts_join = let r = left_parts (one f) gs merged.0 merged.1 in subst (λ (k : FontValue). AreParts k gs merged.0) (sym r.1) r.2
 
-    -- halves that join are refused for want of memory alone
-    pub halves_refuse : (c : Refusal) → Tells c (conflict profile a b) → c ≡ Memory
-    halves_refuse c t = tells_none c (conflict profile a b) ((no_conflict profile a b).1 halves_join) t
+  -- the font of all their entries is what they come to
+  pub parts_come_to : (j : FontValue) → j ≡ join_all_parts f gs → ComesTo (f ∷ gs) j
+  parts_come_to j e = subst (ComesTo (f ∷ gs)) (parts_join.is ∙ sym e) merged.1
 
-    -- an answer that is the join of both halves is what some grouping merges to
-    pub merged_ok : (r : Result FontValue Refusal) → IfOk r (λ j. Join profile a b × (j ≡ joined_font profile a b)) → IfOk r (λ j. SomeGroupingMerges fs j)
-    merged_ok (Ok j) h = halves_merge j h.1
-    merged_ok (Err c) h = tt
-
-    -- a refusal of both halves is want of memory
-    pub merged_err : (r : Result FontValue Refusal) → IfErr r (λ c. Tells c (conflict profile a b)) → IfErr r (λ c. c ≡ Memory)
-    merged_err (Ok j) h = tt
-    merged_err (Err c) h = halves_refuse c h
-
-lone : {X : Type 0} (fs : List X) (d : X) → length fs ≡ 1 → get_or fs 0 d ∷ [] ≡ fs
-lone [] d l = absurd (omega arith)
-lone (f ∷ []) d l = refl
-lone (f ∷ g ∷ fs) d l = absurd (omega arith)
-
--- a list of one font merges to it
-pub one_merges : (fs : List FontValue) (f d j : FontValue) → length fs ≡ 1 → f ≡ get_or fs 0 d → j ≡ f → SomeGroupingMerges fs j
-one_merges fs f d j l e is = (one j, ap (λ (g : FontValue). g ∷ []) (is ∙ e) ∙ lone fs d l, refl)
-
--- an answer for a list of one font is what some grouping merges to
-pub one_ok : (fs : List FontValue) (f d : FontValue) → length fs ≡ 1 → f ≡ get_or fs 0 d → (r : Result FontValue Refusal) → IfOk r (λ j. j ≡ f) → IfOk r (λ j. SomeGroupingMerges fs j)
-one_ok fs f d l e (Ok j) h = one_merges fs f d j l e h
-one_ok fs f d l e (Err c) h = tt
-
--- a list of two fonts has its first and its second
-pub pair : (fs : List FontValue) (f g d d2 : FontValue) → length fs ≡ 2 → f ≡ get_or fs 0 d → g ≡ get_or fs 1 d2 → f ∷ g ∷ [] ≡ fs
-pair [] f g d d2 l e k = absurd (omega (arith, l))
-pair (a ∷ []) f g d d2 l e k = absurd (omega (arith, l))
-pair (a ∷ b ∷ []) f g d d2 l e k = λ i. e i ∷ k i ∷ []
-pair (a ∷ b ∷ c ∷ fs) f g d d2 l e k = absurd (omega (arith, l))
-
--- a single font merges to itself
-pub alone : (f : FontValue) → SomeGroupingMerges (f ∷ []) f
-alone f = (one f, refl, refl)
-
--- fonts of which some grouping merges come to the same from left to right
-pub comes_to : (fs : List FontValue) → 0 < length fs → AllByRecursion IsFont fs → (j : FontValue) → SomeGroupingMerges fs j → ComesTo fs j
-comes_to [] l w j h = absurd (omega arith)
-comes_to (f ∷ fs) l w j h =
-    let same : leaves h.0 ≡ leaves (from_left (one f) fs) = h.1 ∙ sym (leaves_from_left (one f) fs) in
-    any_order profile h.0 (from_left (one f) fs) (subst (IsPermutation (leaves h.0)) same (IsPermutation-refl (leaves h.0)))
-    (each_leaf IsWithin h.0 (subst (AllByRecursion IsWithin) (sym h.1) (all_within (f ∷ fs) w))) j h.2
-
--- an answer that some grouping merges to is what the fonts come to from left to right
-pub comes_ok : (fs : List FontValue) → 0 < length fs → AllByRecursion IsFont fs → (r : Result FontValue Refusal) → IfOk r (λ j. SomeGroupingMerges fs j) → IfOk r (λ j. ComesTo fs j)
-comes_ok fs l w (Ok j) h = comes_to fs l w j h
-comes_ok fs l w (Err c) h = tt
+  -- and it is within the limits
+  pub parts_within : IsFont f → IsOverLimits (join_all_parts f gs) → ⊥
+  parts_within w over = elim over [
+    | inl more ↦ let few = (subst IsWithin parts_join.is (parts_join.within (font_within f w))).glyphs in omega arith
+    | inr more ↦ let light = (subst IsWithin parts_join.is (parts_join.within (font_within f w))).weight in omega arith
+  ]
 
 -- want of memory may be answered for any fonts, one or more
 pub refused_memory : (fs : List FontValue) → 0 < length fs → (e : Refusal) → e ≡ Memory → IsRefused fs e

@@ -1,10 +1,9 @@
-use Rattle.std.proofs.Common.{◌≡◌, ◌≤◌, ℕ, subst, sym, ◌∙◌}
+use Rattle.std.proofs.Common.{◌≡◌, ◌≤◌, subst, sym, ◌∙◌}
 use Rattle.std.specs.FinMap.{len}
 use Rattle.t1_font.specs.FontValue.{FontValue, weight, count_limit, weight_limit}
 use Rattle.t1_font.specs.Joins.{join_parts}
 use Rattle.t1_font.specs.IsFont.{IsFont}
 use Rattle.t1_font.proofs.Kept.{join_is_font}
-use Rattle.t1_font.proofs.Weights.{clamp_light}
 use Rattle.t1_font.proofs.parts.join_parts.Goals as goal
 
 pub invariant_of-result : goal.invariant_of-result
@@ -12,6 +11,7 @@ invariant_of-result c =
     let f = c.args.first.now in
     let g = c.args.second.now in
     let is : c.in_ok-parts.parts ≡ join_parts f g = c.in_ok-parts.ensures ∙ (λ i. join_parts (c.first.view_is i) (c.second.view_is i)) in
-    let few : len c.in_ok-parts.parts.glyphs ≤ count_limit = subst (λ (p : FontValue). len p.glyphs ≤ count_limit) c.parts.view_is (subst (λ (n : ℕ). n ≤ count_limit) c.len.ensures c.if-len-gt-COUNT_LIMIT.false) in
-    let light : weight c.in_ok-parts.parts ≤ weight_limit = clamp_light c.weight.result (weight c.in_ok-parts.parts) c.weight.ensures c.if-weight-gt-WEIGHT_LIMIT.false in
-    subst IsFont (sym is) (join_is_font f g c.proof_is_font.ensures c.proof_is_font-2.ensures c.requires.shells c.requires.encodings (subst (λ (p : FontValue). len p.glyphs ≤ count_limit) is few) (subst (λ (p : FontValue). weight p ≤ weight_limit) is light))
+    subst IsFont (sym is)
+    (join_is_font f g c.proof_is_font.ensures c.proof_is_font-2.ensures c.requires.shells c.requires.encodings
+    (subst (λ (p : FontValue). len p.glyphs ≤ count_limit) is (c.is_over_limits.ensures.few c.if-is_over_limits.false))
+    (subst (λ (p : FontValue). weight p ≤ weight_limit) is (c.is_over_limits.ensures.light c.if-is_over_limits.false)))
