@@ -21,8 +21,8 @@ use Rattle.t1_subset.specs.Groupings.{Merges, union_all}
 use Rattle.t1_subset.specs.Merger.{DrawsBoth, StopsAt, ComesTo, IsRefused, MergesSubsets, MergesAllSubsets}
 use Rattle.t1_subset.proofs.Alike.{left_alike, right_alike}
 use Rattle.t1_subset.proofs.Conflicts.{no_conflict}
-use Rattle.t1_subset.proofs.Fonts.{font_within, two_subsets, many_subsets}
-use Rattle.t1_subset.proofs.Orders.{join_self, one_result}
+use Rattle.t1_subset.proofs.Fonts.{two_subsets, many_subsets}
+use Rattle.t1_subset.proofs.Orders.{one_result}
 use Rattle.t1_subset.proofs.Sets.{in_union, clash, name_same}
 
 -- if there is no conflict, a refusal tells want of memory
@@ -37,16 +37,6 @@ tells_none refusal.Memory c k h = refl
 tells_none refusal.Empty c k h = absurd h
 
 -- ---- two fonts
-
--- the merger of a font with itself is the font
-pub self_ok : (f : FontValue) → IsFont f → (r : Result FontValue Refusal) → IfOk r (λ j. Join profile f f × (j ≡ joined_font profile f f)) → IfOk r (λ j. j ≡ f)
-self_ok f w (Ok j) h = h.1 ∙ (join_self profile f (font_within f w)).1
-self_ok f w (Err e) h = tt
-
--- it is refused for want of memory alone
-pub self_err : (f : FontValue) → IsFont f → (r : Result FontValue Refusal) → IfErr r (λ e. Tells e (conflict profile f f)) → IfErr r (λ e. e ≡ refusal.Memory)
-self_err f w (Ok j) h = tt
-self_err f w (Err e) h = tells_none e (conflict profile f f) ((no_conflict profile f f).1 (join_self profile f (font_within f w)).0) h
 
 module _ (g h : FontValue) where
   -- the merger of two subsets of a font is the subset over both sets of names

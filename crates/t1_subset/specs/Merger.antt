@@ -72,10 +72,6 @@ MergesInAnyOrder fs r = (t : Grouping FontValue) → IsPermutation fs (leaves t)
 abbrev pub EachGroupingMerges : List FontValue → Type 0
 EachGroupingMerges fs = (t : Grouping FontValue) → leaves t ≡ fs → (j : FontValue) × Merges profile t j
 
--- some grouping of the fonts, in their order, comes to j
-abbrev pub SomeGroupingMerges : List FontValue → FontValue → Type 0
-SomeGroupingMerges fs j = (t : Grouping FontValue) × (leaves t ≡ fs) × Merges profile t j
-
 -- there are no fonts, or a growth was refused, or a font does not join those before it
 abbrev pub IsRefused : List FontValue → Refusal → Type 0
 IsRefused [] e = e ≡ Empty

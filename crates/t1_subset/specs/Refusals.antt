@@ -1,6 +1,8 @@
 -- What the refusals say.
 use Rattle.std.specs.Prelude.{◌≡◌, ℕ, List, Option, Some}
 use Rattle.std.specs.Option.{option_map}
+use Rattle.t1_font.specs.declared.parts.PartsFault.{PartsFault}
+use Rattle.t1_font.specs.declared.parts.PartsFault.TheVariants as parts
 use Rattle.t1_subset.specs.declared.fault.SubsetFault.{SubsetFault}
 use Rattle.t1_subset.specs.declared.fault.SubsetFault.TheVariants.{NoSuchGlyph, Memory}
 use Rattle.t1_subset.specs.declared.conflict.Conflict.{Conflict as Refusal}
@@ -23,3 +25,8 @@ Tells (refusal.Subr i g) c = c ≡ Some (SubrDiffers i (option_map bytes_of g))
 Tells refusal.Limit c = c ≡ Some OverLimit
 Tells refusal.Memory c = Unit {0}
 Tells refusal.Empty c = ⊥
+
+-- the refusal of two fonts' entries, or of many
+abbrev pub of_parts : PartsFault → Refusal
+of_parts parts.Limit = refusal.Limit
+of_parts parts.Memory = refusal.Memory

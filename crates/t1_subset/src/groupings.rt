@@ -52,7 +52,9 @@ pub(crate) fn made_of<'a>(alloc: Global, fonts: &[Font<'a>]) -> Result<Font<'a>,
     ensures ok { IfOk result (λ j. ComesTo fonts.now j) }
     ensures err { IfErr result (λ e. e ≡ Conflict.Memory) }
 {
-    let (first, rest) = (&fonts[0], &fonts[1..]);
+    let Some((first, rest)) = fonts.split_first() else {
+        return Err(Conflict::Empty);
+    };
     first.proof_is_font();
     Ok(join_all_parts(alloc, first, rest)?)
 }

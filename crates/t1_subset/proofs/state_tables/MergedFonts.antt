@@ -2,10 +2,10 @@
 use Rattle.std.proofs.Common.{◌≡◌, inl, inr, Bool, true, false, cond, refl, sym, ◌∙◌, ap, subst, arith, Option, Some, None, Result, Ok, Err, IfOk, IfErr}
 use Rattle.t1_font.specs.FontValue.{FontValue}
 use Rattle.t1_font.specs.IsFont.{IsFont}
-use Rattle.t1_font.specs.Joins.{join_parts}
-use Rattle.t1_font.specs.Joins.{Refuses}
+use Rattle.t1_font.specs.Joins.{join_parts, IsOverLimits, Refuses}
 use Rattle.t1_font.specs.WriteLaws.{SameKind}
-use Rattle.t1_font.specs.declared.parts.PartsFault.TheVariants.{Limit}
+use Rattle.t1_font.specs.declared.parts.PartsFault.{PartsFault}
+use Rattle.t1_font.specs.declared.parts.PartsFault.TheVariants as parts
 use Rattle.t1_subset.specs.Interpreter.{Interpreter}
 use Rattle.t1_subset.specs.States.{IsWithin, Join, joined_font}
 use Rattle.std.specs.Option.{option_map}
@@ -13,7 +13,7 @@ use Rattle.t1_subset.specs.declared.conflict.Conflict.{Conflict as Refusal}
 use Rattle.t1_subset.specs.declared.conflict.Conflict.TheVariants as refusal
 use Rattle.t1_subset.specs.Profile.{profile}
 use Rattle.t1_subset.specs.Differences.{shell_part, bytes_of}
-use Rattle.t1_subset.specs.Refusals.{Tells}
+use Rattle.t1_subset.specs.Refusals.{Tells, of_parts}
 use Rattle.t1_subset.specs.Clashes.{entries_conflict, uses_conflict}
 use Rattle.t1_subset.specs.Conflicts.{Conflict, ShellDiffers, CodeDiffers, GlyphDiffers, LacksComponent, SubrDiffers, OverLimit, shell_conflict, code_conflict, glyph_conflict, states_conflict, conflict, is_within}
 use Rattle.t1_subset.specs.Shared.{ShellPart}
@@ -40,8 +40,7 @@ module _ {O : Type 0} (m : Interpreter O) (f g : FontValue) (h : states_conflict
   pub joins : (j : FontValue) → j ≡ join_parts f g → IsFont j → Join m f g × (j ≡ joined_font m f g)
   joins j e is = (record { states = compatible m f g h; within = subst IsWithin (e ∙ sym entries) (font_within j is) }, e ∙ sym entries)
 
-  -- a refusal for the limits says that the font of both is over them
-  too_much : Refuses f g Limit → IsWithin (join_parts f g) → ⊥
+  too_much : IsOverLimits (join_parts f g) → IsWithin (join_parts f g) → ⊥
   too_much (inl more) w = let few = w.glyphs in omega arith
   too_much (inr more) w = let light = w.weight in omega arith
 
@@ -49,11 +48,12 @@ module _ {O : Type 0} (m : Interpreter O) (f g : FontValue) (h : states_conflict
   over true e k = absurd (k refl)
   over false e k = refl
 
-  -- a refusal for the limits tells the lowest conflict
-  pub over_limit : Refuses f g Limit → conflict m f g ≡ Some OverLimit
-  over_limit more =
+  -- a refusal of the entries of both tells the lowest conflict
+  pub tells_parts : (e : PartsFault) → Refuses (join_parts f g) e → Tells (of_parts e) (conflict m f g)
+  tells_parts parts.Limit more =
       ap (λ x. found (λ c. c) x (cond (is_within m f g) None (Some OverLimit))) h
       ∙ over (is_within m f g) refl (λ b. too_much more (subst IsWithin entries (within_so m f g b)))
+  tells_parts parts.Memory more = tt
 
 -- ---- conflicts in their order
 

@@ -1,23 +1,25 @@
 -- Merges of fonts are joins of their states.
-use Rattle.std.proofs.Common.{◌≡◌, ◌<◌, true≢false, List, [], ◌∷◌, ◌++◌, map, length, get_or, refl, sym, ◌∙◌, ap, subst, arith, inl, true, Option, Some, None, option_map, is_some, Result, Ok, Err, IfOk, IfErr, IsPermutation}
-use Rattle.std.proofs.lemmas.List.Sorted.{IsPermutation-refl}
+use Rattle.std.proofs.Common.{◌≡◌, ◌<◌, true≢false, List, [], ◌∷◌, map, length, refl, sym, ◌∙◌, ap, subst, arith, inl, inr, true, Option, Some, None, option_map, is_some, Result, Ok, Err, IfErr}
 use Rattle.std.specs.List.{AllByRecursion}
 use Rattle.t1_join.specs.Groupings.{Grouping, one, two, leaves, from_left, Uses, IsJoinOf}
 use Rattle.t1_join.proofs.OrderLemmas.{each_leaf, leaves_mapped, leaves_from_left, uses_its}
-use Rattle.t1_font.specs.FontValue.{FontValue}
+use Rattle.t1_font.specs.declared.parts.PartsFault.{PartsFault}
+use Rattle.t1_font.specs.declared.parts.PartsFault.TheVariants as parts
+use Rattle.t1_subset.specs.Refusals.{of_parts}
+use Rattle.t1_font.specs.FontValue.{FontValue, Encoding, Word, Codes}
 use Rattle.t1_font.specs.IsFont.{IsFont}
+use Rattle.t1_font.specs.Joins.{join_encodings, join_parts, join_all_parts, Refuses}
+use Rattle.t1_font.specs.WriteLaws.{SameKind}
 use Rattle.t1_subset.specs.declared.conflict.Conflict.{Conflict as Refusal}
 use Rattle.t1_subset.specs.declared.conflict.Conflict.TheVariants.{Memory}
-use Rattle.t1_subset.specs.Conflicts.{states_conflict, conflict}
 use Rattle.t1_subset.specs.Profile.{profile}
-use Rattle.t1_subset.specs.Refusals.{Tells}
 use Rattle.t1_subset.specs.States.{IsWithin, Join, joined_font}
+use Rattle.t1_subset.specs.Groupings.{Merges}
 use Rattle.t1_subset.specs.StateTables.{StatesValue, StatesJoin, states_of}
-use Rattle.t1_subset.specs.Merger.{EachGroupingMerges, SomeGroupingMerges, ComesTo, IsRefused}
-use Rattle.t1_subset.proofs.Conflicts.{no_conflict, no_states_conflict}
+use Rattle.t1_subset.specs.Merger.{EachGroupingMerges, ComesTo, IsRefused}
 use Rattle.t1_subset.proofs.Fonts.{font_within}
-use Rattle.t1_subset.proofs.ManyMerges.{tells_none}
-use Rattle.t1_subset.proofs.Orders.{grouped, merges_by_states, any_order, one_result}
+use Rattle.t1_subset.proofs.JoinedEntries.{joined_are_entries}
+use Rattle.t1_subset.proofs.Orders.{grouped, merges_by_states}
 
 -- a grouping of fonts groups the states of all of them
 pub uses_all : (t : Grouping FontValue) (fs : List FontValue) → leaves t ≡ fs → Uses (grouped profile t) (map (states_of profile) fs)
@@ -46,7 +48,7 @@ joined_groupings fs w ss is (Some v) t h = each_grouping fs w v (subst (λ (ss :
 -- ---- from left to right
 
 -- where fonts are merged to j from left to right, after those before, which come to k: j is the font of all their entries
-record AreParts (k : FontValue) (gs : List FontValue) (j : FontValue) : Type 0 where
+pub record AreParts (k : FontValue) (gs : List FontValue) (j : FontValue) : Type 0 where
   pub is : j ≡ join_all_parts k gs
   pub shells : AllByRecursion (λ g. k.shell ≡ g.shell) gs
   pub kinds : AllByRecursion (λ g. SameKind k.encoding g.encoding) gs
@@ -79,7 +81,7 @@ left_parts t (g ∷ gs) j h =
     })
 
 module _ (f : FontValue) (gs : List FontValue) (h : EachGroupingMerges (f ∷ gs)) where
-  merged : (j : FontValue) × Merges profile (from_left (one f) gs) j
+  pub merged : (j : FontValue) × Merges profile (from_left (one f) gs) j
   merged = h (from_left (one f) gs) (leaves_from_left (one f) gs)
 
   -- fonts of which each grouping merges have entries that join
@@ -90,12 +92,11 @@ module _ (f : FontValue) (gs : List FontValue) (h : EachGroupingMerges (f ∷ gs
   pub parts_come_to : (j : FontValue) → j ≡ join_all_parts f gs → ComesTo (f ∷ gs) j
   parts_come_to j e = subst (ComesTo (f ∷ gs)) (parts_join.is ∙ sym e) merged.1
 
-  -- and it is within the limits
-  pub parts_within : IsFont f → IsOverLimits (join_all_parts f gs) → ⊥
-  parts_within w over = elim over [
-    | inl more ↦ let few = (subst IsWithin parts_join.is (parts_join.within (font_within f w))).glyphs in omega arith
-    | inr more ↦ let light = (subst IsWithin parts_join.is (parts_join.within (font_within f w))).weight in omega arith
-  ]
+  -- and it is within the limits, so it is refused for want of memory alone
+  pub parts_refused : IsFont f → (e : PartsFault) → Refuses (join_all_parts f gs) e → of_parts e ≡ Memory
+  parts_refused w parts.Limit (inl more) = let few = (subst IsWithin parts_join.is (parts_join.within (font_within f w))).glyphs in absurd (omega arith)
+  parts_refused w parts.Limit (inr more) = let light = (subst IsWithin parts_join.is (parts_join.within (font_within f w))).weight in absurd (omega arith)
+  parts_refused w parts.Memory h = refl
 
 -- want of memory may be answered for any fonts, one or more
 pub refused_memory : (fs : List FontValue) → 0 < length fs → (e : Refusal) → e ≡ Memory → IsRefused fs e

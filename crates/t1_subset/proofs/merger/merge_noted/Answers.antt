@@ -2,8 +2,8 @@ use Rattle.std.proofs.Common.{ap, ◌∙◌, subst, List}
 use Rattle.t1_font.specs.FontValue.{FontValue}
 use Rattle.t1_subset.specs.Callers.{fonts_of}
 use Rattle.t1_subset.specs.Merger.{EachGroupingMerges, IsRefused}
-use Rattle.t1_subset.proofs.state_tables.StateTrees.{comes_ok, refused_err}
-use Rattle.t1_subset.proofs.state_tables.Walks.{some_noted, font_list}
+use Rattle.t1_subset.proofs.state_tables.StateTrees.{refused_err}
+use Rattle.t1_subset.proofs.state_tables.Walks.{some_noted}
 use Rattle.t1_subset.proofs.merger.merge_noted.Goals as goal
 
 pub all_join-requires-clause-some : goal.all_join-requires-clause-some
@@ -14,9 +14,6 @@ returns-in-Err-clause-err c = subst (λ (fs : List FontValue). IsRefused fs c.in
 
 pub made_of-requires-clause-merges : goal.made_of-requires-clause-merges
 made_of-requires-clause-merges c = subst EachGroupingMerges (ap fonts_of c.as_slice-noted.ensures.value ∙ c.requires.fonts) c.in_default.ensures.ok
-
-pub returns-clause-ok : goal.returns-clause-ok
-returns-clause-ok c = comes_ok c.args.fonts.now c.requires.some (font_list c.args.fonts.now c.args.callers.items c.requires.fonts c.requires.noted) c.made_of.result c.made_of.ensures.ok
 
 pub returns-clause-err : goal.returns-clause-err
 returns-clause-err c = refused_err c.args.fonts.now c.requires.some c.made_of.result c.made_of.ensures.err

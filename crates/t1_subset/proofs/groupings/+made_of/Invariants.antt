@@ -1,5 +1,0 @@
-use Rattle.std.proofs.Common.{length}
-use Rattle.t1_subset.proofs.groupings.+made_of.Given as goal
-
-abbrev pub decreases-made_of : goal.decreases-made_of
-decreases-made_of l = length l.fonts.now
