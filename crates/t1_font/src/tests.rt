@@ -9,6 +9,7 @@ mod evening;
 mod faults;
 mod growths;
 mod long;
+mod many;
 mod prefixes;
 mod rows;
 mod tables;

@@ -22,11 +22,7 @@ use std::alloc::{AllocError, Global};
 use t1_font::{Font, join_parts};
 
 /// The font with the entries of two fonts whose states join, if it is within the limits.
-fn both<'a>(
-    alloc: Global,
-    left: &Font<'a>,
-    right: &Font<'a>,
-) -> Result<Font<'a>, Conflict>
+fn both<'a>(alloc: Global, left: &Font<'a>, right: &Font<'a>) -> Result<Font<'a>, Conflict>
     requires { states_conflict profile left.now right.now ≡ None }
     ensures ok { IfOk result (λ j. Join profile left.now right.now
         × (j ≡ joined_font profile left.now right.now)) }

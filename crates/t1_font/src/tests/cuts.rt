@@ -7,7 +7,9 @@ ghost use Rattle.t1_bytes.specs.declared.form.Form.TheVariants.{Pfb};
 ghost use Rattle.t1_font.specs.FontValue.{notdef};
 ghost use Rattle.t1_font.specs.Cut.{set_of_names, restrict};
 ghost use Rattle.t1_font.specs.Canon.{canon};
+ghost use Rattle.std.specs.List.{AllByRecursion};
 ghost use Rattle.t1_font.specs.IsFont.{IsFont};
+ghost use Rattle.t1_font.specs.WriteLaws.{SameKind};
 
 use super::rows::with;
 use super::{file, lent_file};
@@ -63,12 +65,35 @@ fn cut(
     write(alloc, &cut, Form::Pfb)
 }
 
-/// The canonical PFB of the font of the entries of both. Cut to `.notdef` alone both have to be one font, so that
-/// nothing but the entries of their tables tells them apart.
-fn both<'a>(alloc: Global, first: &Font<'a>, second: &Font<'a>) -> Result<Vec<u8>, PartsFault> {
+/// Whether two fonts, cut to `.notdef` alone, are one font, so that nothing but the entries of their tables tells them
+/// apart.
+fn is_one_shell(alloc: Global, first: &Font<'_>, second: &Font<'_>) -> Result<bool, AllocError>
+    ensures shells { IfOk result (λ b. b ≡ true → first.now.shell ≡ second.now.shell) }
+    ensures kinds { IfOk result (λ b. b ≡ true → SameKind first.now.encoding second.now.encoding) }
+{
     let one = cut(alloc, first, &[], &[])?;
     let other = cut(alloc, second, &[], &[])?;
-    if one.as_slice() != other.as_slice() {
+    Ok(one.as_slice() == other.as_slice())
+}
+
+/// The same of a font and each of the others.
+pub fn are_one_shell(alloc: Global, first: &Font<'_>, rest: &[Font<'_>]) -> Result<bool, AllocError>
+    ensures shells { IfOk result (λ b. b ≡ true
+        → AllByRecursion (λ g. first.now.shell ≡ g.shell) rest.now) }
+    ensures kinds { IfOk result (λ b. b ≡ true
+        → AllByRecursion (λ g. SameKind first.now.encoding g.encoding) rest.now) }
+{
+    'rest: for font in rest {
+        if !is_one_shell(alloc, first, font)? {
+            return Ok(false);
+        }
+    }
+    Ok(true)
+}
+
+/// The canonical PFB of the font of the entries of both.
+fn both<'a>(alloc: Global, first: &Font<'a>, second: &Font<'a>) -> Result<Vec<u8>, PartsFault> {
+    if !is_one_shell(alloc, first, second)? {
         return Err(PartsFault::Memory);
     }
     let joined = join_parts(alloc, first, second)?;
@@ -239,7 +264,7 @@ pub const X: Cut = (&[b"X"], &[0, 1, 2, 3, 5]);
 
 pub const Y: Cut = (&[b"Y"], &[0, 1, 2, 3, 5, 6]);
 
-const X_AND_Y: Cut = (&[b"X", b"Y"], &[0, 1, 2, 3, 5, 6]);
+pub const X_AND_Y: Cut = (&[b"X", b"Y"], &[0, 1, 2, 3, 5, 6]);
 
 const ALL: Cut = (
     &[

@@ -72,13 +72,16 @@ left_parts t (g ∷ gs) j h =
     let both : Join profile k g = subst (Join profile k) (sym r.1.3) r.1.4.0 in
     let c = both.states in
     let is : r.0 ≡ join_parts k g = sym r.1.4.1 ∙ (ap (joined_font profile k) (sym r.1.3) ∙ joined_are_entries profile k g c) in
-    let rest = subst (λ (m : FontValue). AreParts m gs j) is r.2 in
-    (k, r.1.2, record {
-      is = rest.is;
-      shells = (c.shells, rest.shells);
-      kinds = (c.kinds, kinds_before k.encoding g.encoding gs c.kinds rest.kinds);
-      within = λ w. rest.within (subst IsWithin (joined_are_entries profile k g c) both.within);
-    })
+    let rest = subst (λ (m : FontValue). AreParts m gs j) is r.2 in (
+      k,
+      r.1.2,
+      record {
+        is = rest.is;
+        shells = (c.shells, rest.shells);
+        kinds = (c.kinds, kinds_before k.encoding g.encoding gs c.kinds rest.kinds);
+        within = λ w. rest.within (subst IsWithin (joined_are_entries profile k g c) both.within);
+      },
+    )
 
 module _ (f : FontValue) (gs : List FontValue) (h : EachGroupingMerges (f ∷ gs)) where
   pub merged : (j : FontValue) × Merges profile (from_left (one f) gs) j

@@ -22,8 +22,7 @@ pub rest-preserved : goal.rest-preserved
 rest-preserved c =
     let f = c.args.first.now in
     let is = ap (λ (s : Inside). s.parts) c.font-inside.view_is ∙ c.font.view_is in
-    let next = joined_next f c.args.rest.now c.rest.font-index c.font-item.result c.rest-test.true c.font-item.is in
-    (
+    let next = joined_next f c.args.rest.now c.rest.font-index c.font-item.result c.rest-test.true c.font-item.is in (
       c.in_ok-encoding-2.ensures ∙ ((λ i. join_encodings (c.rest.invariant.0 i) (is i).encoding) ∙ sym (ap (λ (g : FontValue). g.encoding) next)),
       (
         c.in_ok-subrs-2.ensures ∙ ((λ i. map_values (λ at body. joined_subr body (get (is i).subrs at)) (c.rest.invariant.1.0 i)) ∙ sym (ap (λ (g : FontValue). g.subrs) next)),

@@ -5,11 +5,7 @@ use Rattle.t1_font.specs.FontValue.{FontValue, Encoding, Word, Codes}
 use Rattle.t1_font.specs.Cut.{restrict_encoding, restrict}
 use Rattle.t1_font.specs.WriteLaws.{SameKind}
 use Rattle.t1_font.proofs.canonical.RoundTrip.{one_canon}
-use Rattle.t1_font.proofs.tests.cuts.both.Goals as goal
-
-is_true : (b : Bool) → not b ≡ false → true ≡ b
-is_true true h = refl
-is_true false h = h
+use Rattle.t1_font.proofs.tests.cuts.is_one_shell.Goals as goal
 
 -- Encodings whose cuts are one are the same word or two tables
 same_kinds : (d e : Encoding) (p q : List ℕ → Bool) → restrict_encoding p d ≡ restrict_encoding q e → SameKind d e
@@ -19,15 +15,15 @@ same_kinds (Codes m) (Word w) p q h = cc
 same_kinds (Codes m) (Codes n) p q h = tt
 
 -- cuts that have one file are one font
-one_cut : (c : goal.Else-ne) → restrict c.in_ok-one.ensures.0 c.in_ok-one.ensures.1.0 c.args.first.now ≡ restrict c.in_ok-other.ensures.0 c.in_ok-other.ensures.1.0 c.args.second.now
-one_cut c =
+one_cut : (c : goal.After-drop-one-2) → c.eq.result ≡ true → restrict c.in_ok-one.ensures.0 c.in_ok-one.ensures.1.0 c.args.first.now ≡ restrict c.in_ok-other.ensures.0 c.in_ok-other.ensures.1.0 c.args.second.now
+one_cut c is =
     let one = c.in_ok-one.ensures in
     let other = c.in_ok-other.ensures in
-    let files : c.in_ok-one.one.items ≡ c.in_ok-other.other.items = sym c.as_slice.ensures.value ∙ (same_text c.as_slice.result.now c.as_slice-2.result.now (is_true _ (sym c.ne.ensures ∙ c.if-ne.false)) ∙ c.as_slice-2.ensures.value) in
+    let files : c.in_ok-one.one.items ≡ c.in_ok-other.other.items = sym c.as_slice.ensures.value ∙ (same_text c.as_slice.result.now c.as_slice-2.result.now (sym is ∙ c.eq.ensures) ∙ c.as_slice-2.ensures.value) in
     one_canon (restrict one.0 one.1.0 c.args.first.now) (restrict other.0 other.1.0 c.args.second.now) Pfb one.1.1.0 other.1.1.0 tt tt (sym one.1.1.1 ∙ (files ∙ other.1.1.1))
 
-pub join_parts-requires-clause-shells : goal.join_parts-requires-clause-shells
-join_parts-requires-clause-shells c = ap (λ (f : FontValue). f.shell) (one_cut c)
+pub returns-clause-shells : goal.returns-clause-shells
+returns-clause-shells c = λ is. ap (λ (f : FontValue). f.shell) (one_cut c is)
 
-pub join_parts-requires-clause-encodings : goal.join_parts-requires-clause-encodings
-join_parts-requires-clause-encodings c = same_kinds c.args.first.now.encoding c.args.second.now.encoding c.in_ok-one.ensures.0 c.in_ok-other.ensures.0 (ap (λ (f : FontValue). f.encoding) (one_cut c))
+pub returns-clause-kinds : goal.returns-clause-kinds
+returns-clause-kinds c = λ is. same_kinds c.args.first.now.encoding c.args.second.now.encoding c.in_ok-one.ensures.0 c.in_ok-other.ensures.0 (ap (λ (f : FontValue). f.encoding) (one_cut c is))
