@@ -16,17 +16,17 @@ use Rattle.t1_run.specs.declared.answer.Hints.TheVariants.{Kept}
 use Rattle.t1_run.specs.State.{State, Ending, Failed, start}
 use Rattle.t1_run.specs.Rules.{Step, Goes, Ends}
 use Rattle.t1_run.specs.Run.{Subrs, Outcome, ends, taken, index_of, entry, then_run, spend, level_limit, call, with_indices, run_glyph, at_top}
-use Rattle.t1_run.specs.Machine.{state_of, step_of, Does, is_one, ending_of, AreKept, Runs}
+use Rattle.t1_run.specs.Machine.{state_of, step_of, Does, is_one, ending_of, Runs}
 use Rattle.t1_run.specs.Frames.{frame_left}
 use Rattle.t1_run.specs.Limits.{IsWithinLimits, EndsWithinLimits, Keeps}
 use Rattle.t1_run.proofs.Limits.{start_within}
 use Rattle.t1_run.proofs.Turns.{Turns, Turn, Ended, begins, turn, runs_out, length_push, on_goes, on_back, on_last, on_end, on_fault, on_call}
 use Rattle.t1_run.proofs.Mirrors.{Mirror, MirrorTurn, mirror_begins, mirror_turn, mirror_out, mirror_goes, mirror_back, mirror_last, mirror_end, mirror_fault, mirror_call}
 
--- Between two turns: what is left of the frames, from the state of the machine after the marks so far, which are kept where marks are.
-pub record Between (subrs : Subrs) (hints : Hints) (c old : List ℕ) (keeps one : Bool) (kept : List Mark) (frames : List Frame) (m : Machine) (now : List ℕ) : Type 0 where
+-- Between two turns: what is left of the frames, from the state of the machine after the marks so far, which were drawn.
+pub record Between (subrs : Subrs) (hints : Hints) (c old : List ℕ) (one : Bool) (Drawn : List Mark → Type 0) (frames : List Frame) (m : Machine) (now : List ℕ) : Type 0 where
   pub marks : List Mark
-  pub all_kept : AreKept keeps kept marks
+  pub drawn : Drawn marks
   pub turns : Turns (run_glyph subrs hints c) old subrs hints frames (state_of m marks) now
   pub mirror : Mirror (run_glyph subrs hints c) (run_glyph subrs Kept c) subrs hints Kept one frames (state_of m marks)
 
@@ -47,10 +47,10 @@ fewer on zero after going spent e = absurd (subst IsGoing (spent refl) going)
 fewer on (suc n) after going spent e = omega (arith, e)
 
 -- before the first turn
-pub at_start : (subrs : Subrs) (hints : Hints) (c old : List ℕ) (keeps : Bool) (kept : List Mark) (frames : List Frame) (top : Frame) (m : Machine) → frames ≡ [] ++ top ∷ [] → state_of m [] ≡ start → frame_left top ≡ tokens c → kept ≡ [] → Between subrs hints c old keeps true kept frames m old
-at_start subrs hints c old keeps kept frames top m first new all none = record {
+pub at_start : (subrs : Subrs) (hints : Hints) (c old : List ℕ) (Drawn : List Mark → Type 0) (frames : List Frame) (top : Frame) (m : Machine) → frames ≡ [] ++ top ∷ [] → state_of m [] ≡ start → frame_left top ≡ tokens c → Drawn [] → Between subrs hints c old true Drawn frames m old
+at_start subrs hints c old Drawn frames top m first new all none = record {
   marks = [];
-  all_kept = λ _. none;
+  drawn = none;
   turns = subst (λ s. Turns (run_glyph subrs hints c) old subrs hints frames s old) (sym new) (begins subrs hints c start old frames top first all start_within);
   mirror = subst (λ s. Mirror (run_glyph subrs hints c) (run_glyph subrs Kept c) subrs hints Kept true frames s) (sym new) (mirror_begins subrs hints Kept c start frames top first all);
 }
@@ -74,13 +74,13 @@ ends_within (halt.Failed fault) marks n k = k
 
 -- ---- turns
 
-module _ {subrs : Subrs} {hints : Hints} {c old : List ℕ} {keeps one : Bool} {kept : List Mark} {frames : List Frame} {m : Machine} {now : List ℕ} (inv : Between subrs hints c old keeps one kept frames m now) (rest : List Frame) (top : Frame) (are : frames ≡ rest ++ top ∷ []) where
+module _ {subrs : Subrs} {hints : Hints} {c old : List ℕ} {one : Bool} {Drawn : List Mark → Type 0} {frames : List Frame} {m : Machine} {now : List ℕ} (inv : Between subrs hints c old one Drawn frames m now) (rest : List Frame) (top : Frame) (are : frames ≡ rest ++ top ∷ []) where
   abbrev Ran : Halt → List ℕ → Type 0
-  Ran h now = Runs (run_glyph subrs hints c) h keeps kept old now
+  Ran h now = Runs (run_glyph subrs hints c) h Drawn old now
 
   -- the charstring ended so after the marks so far
   ran : (h : Halt) (end : Ending) (now : List ℕ) → ending_of h inv.marks ≡ at_top end → EndsWithinLimits (ending_of h inv.marks) → Ended (run_glyph subrs hints c) end old now → Ran h now
-  ran h end now is within e = record { marks = inv.marks; all_kept = inv.all_kept; ends_so = is ∙ ap at_top e.ends_so; within = within; called = e.called }
+  ran h end now is within e = record { marks = inv.marks; drawn = inv.drawn; ends_so = is ∙ ap at_top e.ends_so; within = within; called = e.called }
 
   -- no token is left on top
   pub out : frame_left top ≡ [] → Ran (halt.Failed Unended) now
@@ -102,10 +102,10 @@ module _ {subrs : Subrs} {hints : Hints} {c old : List ℕ} {keeps one : Bool} {
     kept_limits step is = subst (λ step. Keeps (m.allowed - 1) step) is (spent.within inv.marks inv.turns.within)
 
     -- it goes on, after these marks
-    pub goes : (one' : Bool) (kept' marks : List Mark) (frames' : List Frame) → step_of on (state_of m' inv.marks) ≡ Goes (state_of m' marks) → AreKept keeps kept' marks → (one' ≡ true → (one ≡ true) × (is_one on ≡ true)) → frames' ≡ rest ++ top' ∷ [] → Between subrs hints c old keeps one' kept' frames' m' now
-    goes one' kept' marks frames' is all stays pushed = record {
+    pub goes : (one' : Bool) (Drawn' : List Mark → Type 0) (marks : List Mark) (frames' : List Frame) → step_of on (state_of m' inv.marks) ≡ Goes (state_of m' marks) → Drawn' marks → (one' ≡ true → (one ≡ true) × (is_one on ≡ true)) → frames' ≡ rest ++ top' ∷ [] → Between subrs hints c old one' Drawn' frames' m' now
+    goes one' Drawn' marks frames' is drawn stays pushed = record {
       marks = marks;
-      all_kept = all;
+      drawn = drawn;
       turns = on_goes in_turn frames' (state_of m' marks) pushed (sym is ∙ spent.step inv.marks) (kept_limits (Goes (state_of m' marks)) is).0;
       mirror = mirror_goes in_mirror one' frames' (state_of m' marks) pushed (sym is ∙ spent.step inv.marks) (λ h. let same = stays h in (same.0, sym is ∙ spent.one same.1 inv.marks));
     }
@@ -129,10 +129,10 @@ module _ {subrs : Subrs} {hints : Hints} {c old : List ℕ} {keeps one : Bool} {
 
     module _ (spent : Spent hints t m m' flow.Back) where
       -- it goes back to its caller
-      pub back : (frames' : List Frame) → frames' ≡ rest → Between subrs hints c old keeps one kept frames' m' now
+      pub back : (frames' : List Frame) → frames' ≡ rest → Between subrs hints c old one Drawn frames' m' now
       back frames' popped = record {
         marks = inv.marks;
-        all_kept = inv.all_kept;
+        drawn = inv.drawn;
         turns = on_back turn_now frames' (state_of m' inv.marks) popped (spent.step inv.marks) (spent.within inv.marks inv.turns.within).0;
         mirror = mirror_back mirror_now one frames' (state_of m' inv.marks) popped (spent.step inv.marks) (λ h. (h, spent.one refl inv.marks));
       }
@@ -162,12 +162,12 @@ module _ {subrs : Subrs} {hints : Hints} {c old : List ℕ} {keeps one : Bool} {
           mirror_fault mirror_now one (state_of m' inv.marks) i index (rest ++ top' ∷ []) levels (spent.step inv.marks) (λ h. (h, spent.one refl inv.marks)) is refl room fault (λ h. failed h (state_of m' inv.marks))
 
       -- the Subr is on top
-      pub calls : (mid c' : List ℕ) (g : Frame) (callers frames' : List Frame) → mid ≡ with_indices now (taken index) → (0 < levels) × (entry subrs index ≡ Some c') → frame_left g ≡ tokens c' → callers ≡ rest ++ top' ∷ [] → frames' ≡ callers ++ g ∷ [] → Between subrs hints c old keeps one kept frames' m' mid
+      pub calls : (mid c' : List ℕ) (g : Frame) (callers frames' : List Frame) → mid ≡ with_indices now (taken index) → (0 < levels) × (entry subrs index ≡ Some c') → frame_left g ≡ tokens c' → callers ≡ rest ++ top' ∷ [] → frames' ≡ callers ++ g ∷ [] → Between subrs hints c old one Drawn frames' m' mid
       calls mid c' g callers frames' took enters all pushed entered =
           let frames_are : frames' ≡ (rest ++ top' ∷ []) ++ g ∷ [] = entered ∙ ap (λ (fs : List Frame). fs ++ g ∷ []) pushed in
           record {
             marks = inv.marks;
-            all_kept = inv.all_kept;
+            drawn = inv.drawn;
             turns = on_call turn_now (state_of m' inv.marks) i index (rest ++ top' ∷ []) frames' levels mid c' g (spent.step inv.marks) is refl room took frames_are enters all (spent.within inv.marks inv.turns.within).0;
             mirror = mirror_call mirror_now one (state_of m' inv.marks) i index (rest ++ top' ∷ []) frames' levels c' g (spent.step inv.marks) (λ h. (h, spent.one refl inv.marks)) is refl room frames_are enters all;
           }

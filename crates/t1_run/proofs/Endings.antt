@@ -7,12 +7,14 @@ use Rattle.t1_run.specs.State.{Ending}
 use Rattle.t1_run.specs.Run.{Outcome, at_top}
 use Rattle.t1_run.specs.Machine.{ending_of, Runs}
 use Rattle.t1_run.specs.Limits.{EndsWithinLimits}
+use Rattle.t1_run.specs.Pens.{drawn_on, Draws, with_mark}
 use Rattle.t1_run.specs.Drawings.{parts_of}
+use Rattle.t1_run.proofs.Pages.{kept_marks}
 
 -- where marks were kept, it answers with these
-module _ (outcome : Outcome) (h : Halt) (kept : List Mark) (old new : List ℕ) (runs : Runs outcome h true kept old new) (value : Ending) (is : value ≡ ending_of h kept) where
+module _ (outcome : Outcome) (h : Halt) (before kept : List Mark) (none : before ≡ []) (old new : List ℕ) (runs : Runs outcome h (Draws with_mark before kept) old new) (value : Ending) (is : value ≡ ending_of h kept) where
   with_all : value ≡ ending_of h runs.marks
-  with_all = is ∙ ap (ending_of h) (runs.all_kept refl)
+  with_all = is ∙ ap (ending_of h) (runs.drawn ∙ ap (λ page. drawn_on with_mark page runs.marks) none ∙ kept_marks [] runs.marks)
 
   -- its answer is that of the run
   pub answered : value ≡ at_top outcome.ending
@@ -28,6 +30,6 @@ same_parts (halt.Plain metrics) marks = refl
 same_parts (halt.Seac accent) marks = refl
 same_parts (halt.Failed fault) marks = refl
 
--- it names the parts of the run's answer, whatever marks were kept
-pub named : (outcome : Outcome) (h : Halt) (keeps : Bool) (kept : List Mark) (old new : List ℕ) → Runs outcome h keeps kept old new → parts_of (ending_of h []) ≡ parts_of (at_top outcome.ending)
-named outcome h keeps kept old new runs = same_parts h runs.marks ∙ ap parts_of runs.ends_so
+-- it names the parts of the run's answer, whatever was drawn
+pub named : (outcome : Outcome) (h : Halt) (Drawn : List Mark → Type 0) (old new : List ℕ) → Runs outcome h Drawn old new → parts_of (ending_of h []) ≡ parts_of (at_top outcome.ending)
+named outcome h Drawn old new runs = same_parts h runs.marks ∙ ap parts_of runs.ends_so

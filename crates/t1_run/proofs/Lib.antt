@@ -5,6 +5,7 @@ pub mod DrawingLocality
 pub mod Grown
 mod Resumed
 mod Turns
+mod Pages
 mod Between
 mod Endings
 mod StandardNames

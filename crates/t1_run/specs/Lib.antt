@@ -3,6 +3,7 @@ pub mod Rules
 pub mod Run
 pub mod Called
 pub mod Frames
+pub mod Pens
 pub mod Machine
 pub mod Laws
 pub mod Growth

@@ -4,13 +4,15 @@ ghost use Rattle.std.specs.Prelude.{◌≡◌, ◌≤◌, IfOk, OnOk, MatchResul
 ghost use Rattle.std.specs.Option.{option_copied};
 ghost use Rattle.t1_run.specs.Limits.{EndsWithinLimits};
 ghost use Rattle.t1_run.specs.Run.{run_glyph, direct_by, direct, direct3, exec, calls_of, with_indices, index_of, taken, entry, call};
-ghost use Rattle.t1_run.specs.Machine.{ending_of, value_of, AreKept, Runs, IsEntered};
+ghost use Rattle.t1_run.specs.Machine.{ending_of, value_of, Runs, IsEntered};
 ghost use Rattle.t1_run.specs.BothAnswers.{kept_value};
+ghost use Rattle.t1_run.specs.Pens.{Draws};
 
 use crate::answer::{Accent, Curve, Direct, Fault, Hints, Mark, Metrics};
 use crate::called::Called;
 use crate::frames::Frame;
 use crate::machine::{Flow, Machine};
+use crate::pens::Pen;
 use crate::subroutines::Subroutines;
 use arrayvec::ArrayVec;
 use std::alloc::{AllocError, Global};
@@ -67,55 +69,33 @@ fn take(called: &mut Called, index: Option<u16>) -> Result<(), AllocError>
     Ok(())
 }
 
-/// Adds a mark, if marks are kept.
-fn keep(keeps: bool, kept: &mut Vec<Mark>, mark: Mark) -> Result<(), AllocError>
-    ensures { OnOk result ((marks : List Mark)
-        → AreKept keeps kept.old.items marks
-        → AreKept keeps kept.new.items (marks ++ mark ∷ [])) }
-{
-    if keeps {
-        kept.push(mark)?;
-    }
-    Ok(())
-}
-
-/// Adds the marks of a flex, if marks are kept.
-fn keep_flex(
-    keeps: bool,
-    kept: &mut Vec<Mark>,
+/// Draws a flex.
+fn draw_flex<P: Pen>(
+    pen: &mut P,
     height: i64,
     before: Curve,
     after: Curve,
 ) -> Result<(), AllocError>
-    ensures { OnOk result ((marks : List Mark)
-        → AreKept keeps kept.old.items marks
-        → AreKept keeps kept.new.items (marks
-        ++ (Mark.Flex height ∷ Mark.Curve before ∷ Mark.Curve after ∷ []))) }
+    ensures { OnOk result (Draws P.marked (P.page pen.old) (P.page pen.new)
+        (Mark.Flex height ∷ Mark.Curve before ∷ Mark.Curve after ∷ [])) }
 {
-    if keeps {
-        kept.push(Mark::Flex(height))?;
-        kept.push(Mark::Curve(before))?;
-        kept.push(Mark::Curve(after))?;
-    }
-    Ok(())
+    pen.mark(Mark::Flex(height))?;
+    pen.mark(Mark::Curve(before))?;
+    pen.mark(Mark::Curve(after))
 }
 
 /// Runs a charstring until a token ends the run; each turn executes the next token of the Subr that was called last, or of
-/// the glyph. It also answers whether the run is the same where hints are kept. Marks are kept if they are asked for.
-pub(crate) fn run<'s, S: Subroutines>(
+/// the glyph. It also answers whether the run is the same where hints are kept. The pen draws the marks.
+pub(crate) fn run<'s, S: Subroutines, P: Pen>(
     subrs: &'s S,
     hints: Hints,
     charstring: &'s [u8],
-    keeps: bool,
-    kept: &mut Vec<Mark>,
+    pen: &mut P,
     called: &mut Called,
 ) -> Result<(Halt, bool), AllocError>
-    requires { kept.old.items ≡ [] }
     ensures runs { IfOk result
-        (λ r. Runs
-        (run_glyph
-        (S.subrs subrs.now) hints charstring.now) r.0 keeps kept.new.items called.old
-        called.new) }
+        (λ r. Runs (run_glyph (S.subrs subrs.now) hints charstring.now) r.0
+        (Draws P.marked (P.page pen.old) (P.page pen.new)) called.old called.new) }
     ensures one { IfOk result (λ r. r.1 ≡ true
         → run_glyph (S.subrs subrs.now) Hints.Kept charstring.now
         ≡ run_glyph (S.subrs subrs.now) hints charstring.now) }
@@ -131,13 +111,13 @@ pub(crate) fn run<'s, S: Subroutines>(
         match machine.spend(hints, token) {
             Flow::Go => {}
             Flow::Mark(mark) => {
-                keep(keeps, kept, mark)?;
+                pen.mark(mark)?;
             }
             Flow::Flex(height, before, after) => {
-                keep_flex(keeps, kept, height, before, after)?;
+                draw_flex(pen, height, before, after)?;
             }
             Flow::Split => {
-                keep(keeps, kept, Mark::Replace)?;
+                pen.mark(Mark::Replace)?;
                 is_one = false;
             }
             Flow::Back => match callers.pop() {
@@ -204,7 +184,7 @@ fn run_glyph<S: Subroutines>(
         ≡ run_glyph (S.subrs subrs.now) hints charstring.now) }
 {
     let mut marks = Vec::new(alloc);
-    let (halt, is_one) = run(subrs, hints, charstring, true, &mut marks, called)?;
+    let (halt, is_one) = run(subrs, hints, charstring, &mut marks, called)?;
     Ok((answer_of(halt, marks), is_one))
 }
 

@@ -8,6 +8,7 @@ ghost use Rattle.t1_run.specs.Drawings.{parts, parts_by, parts_of};
 use crate::answer::Hints;
 use crate::called::Called;
 use crate::parts::parts_of_halt;
+use crate::pens::Blank;
 use crate::run::{Halt, run};
 use crate::subroutines::Subroutines;
 use std::alloc::{AllocError, Global};
@@ -16,7 +17,6 @@ use std::collections::BTreeSet;
 /// How a charstring ends, whether it ends and calls the same where hints are kept, and which Subrs it called, added to
 /// `called`.
 fn halt_of<S: Subroutines>(
-    alloc: Global,
     subrs: &S,
     hints: Hints,
     charstring: &[u8],
@@ -30,14 +30,12 @@ fn halt_of<S: Subroutines>(
         → run_glyph (S.subrs subrs.now) Hints.Kept charstring.now
         ≡ run_glyph (S.subrs subrs.now) hints charstring.now) }
 {
-    let mut none = Vec::new(alloc);
-    run(subrs, hints, charstring, false, &mut none, called)
+    run(subrs, hints, charstring, &mut Blank, called)
 }
 
 /// How a charstring ends where hints are replaced and where they are kept, and which Subrs it executes, added to `called`.
 /// It is run once if both answers after OtherSubr 3 are the same.
 fn both_halts<S: Subroutines>(
-    alloc: Global,
     subrs: &S,
     charstring: &[u8],
     called: &mut Called,
@@ -49,11 +47,11 @@ fn both_halts<S: Subroutines>(
     ensures executed { OnOk result (called.new
         ≡ with_executed called.old (S.subrs subrs.now) charstring.now) }
 {
-    let (replaced, is_one) = halt_of(alloc, subrs, Hints::Replaced, charstring, called)?;
+    let (replaced, is_one) = halt_of(subrs, Hints::Replaced, charstring, called)?;
     if is_one {
         return Ok((replaced, replaced));
     }
-    let (kept, _) = halt_of(alloc, subrs, Hints::Kept, charstring, called)?;
+    let (kept, _) = halt_of(subrs, Hints::Kept, charstring, called)?;
     Ok((replaced, kept))
 }
 
@@ -71,7 +69,7 @@ pub fn parts_and_executed<S: Subroutines>(
     ensures executed { OnOk result (called.new
         ≡ with_executed called.old (S.subrs subrs.now) charstring.now) }
 {
-    let (replaced, kept) = both_halts(alloc, subrs, charstring, called)?;
+    let (replaced, kept) = both_halts(subrs, charstring, called)?;
     let mut names = parts_of_halt(alloc, replaced)?;
     let more = parts_of_halt(alloc, kept)?;
     names.extend_from_slice(more.as_slice())?;
@@ -89,6 +87,6 @@ pub fn executed<S: Subroutines>(
     ensures indices { IfOk result (λ set. set.keys ≡ exec (S.subrs subrs.now) charstring.now) }
 {
     let mut called = Called::new(alloc);
-    both_halts(alloc, subrs, charstring, &mut called)?;
+    both_halts(subrs, charstring, &mut called)?;
     called.to_set(alloc)
 }

@@ -1,15 +1,18 @@
 use Rattle.std.proofs.Common.{rules, refl, sym, ap, List, [], ◌∷◌, ◌++◌}
 use Rattle.t1_run.specs.declared.frames.Frame.{Frame}
 use Rattle.t1_run.specs.declared.run.Halt.TheVariants as halt
+use Rattle.t1_run.specs.declared.answer.Mark.{Mark}
 use Rattle.t1_run.specs.declared.answer.Mark.TheVariants as mark
 use Rattle.t1_run.specs.declared.machine.Flow.TheVariants as flow
+use Rattle.t1_run.specs.Pens.{Draws}
+use Rattle.t1_run.proofs.Pages.{draws_more}
 use Rattle.t1_run.proofs.Between.{at_start, fewer, out, out_one, goes, ends_so, ends_one, back, last, last_one, fails_so, fails_one, calls}
 use Rattle.t1_run.proofs.run.run.Goals as goal
 
 pub turns-init : goal.turns-init
 turns-init g c =
-    at_start (g.S.Subroutines.subrs c.args.subrs.now) c.args.hints c.args.charstring.now c.args.called.now c.args.keeps c.args.kept.now.items _ c.new-top.result c.new-machine.result
-    (ap (λ (fs : List Frame). fs ++ c.new-top.result ∷ []) c.new-callers.ensures) c.new-machine.ensures c.new-top.ensures c.requires
+    at_start (g.S.Subroutines.subrs c.args.subrs.now) c.args.hints c.args.charstring.now c.args.called.now (Draws g.P.Pen.marked (g.P.Pen.page c.args.pen.now) (g.P.Pen.page c.args.pen.now)) _ c.new-top.result c.new-machine.result
+    (ap (λ (fs : List Frame). fs ++ c.new-top.result ∷ []) c.new-callers.ensures) c.new-machine.ensures c.new-top.ensures refl
 
 pub returns-in_default-clause-runs : goal.returns-in_default-clause-runs
 returns-in_default-clause-runs g c = out c.turns.invariant c.turns.callers.items c.turns.top refl c.in_default.ensures.0
@@ -21,21 +24,24 @@ pub turns-preserved-in-Go : goal.turns-preserved-in-Go
 turns-preserved-in-Go g c =
     let e = c.in-Go.ensures in
     goes c.turns.invariant c.turns.callers.items c.turns.top refl c.next.new.self c.in-Some.token c.spend.new.self flow.Go c.in-Some.ensures (record { step = e.step; one = e.one; within = e.within })
-    c.turns.is_one c.turns.kept.items c.turns.invariant.marks _ refl c.turns.invariant.all_kept (λ h. (h, refl)) refl
+    c.turns.is_one _ c.turns.invariant.marks _ refl c.turns.invariant.drawn (λ h. (h, refl)) refl
 
 pub turns-preserved-in-Continue-1 : goal.turns-preserved-in-Continue-1
 turns-preserved-in-Continue-1 g c =
     let e = c.in-Mark.ensures in
     let marks = c.turns.invariant.marks in
     goes c.turns.invariant c.turns.callers.items c.turns.top refl c.next.new.self c.in-Some.token c.spend.new.self (flow.Mark c.in-Mark.mark) c.in-Some.ensures (record { step = e.step; one = e.one; within = e.within })
-    c.turns.is_one c.keep.new.kept.items (marks ++ c.in-Mark.mark ∷ []) _ refl (c.in_ok-keep-in-Mark.ensures marks c.turns.invariant.all_kept) (λ h. (h, refl)) refl
+    c.turns.is_one _ (marks ++ c.in-Mark.mark ∷ []) _ refl
+    (draws_more g.P.Pen.marked _ _ _ marks (c.in-Mark.mark ∷ []) c.turns.invariant.drawn c.in_ok-mark-in-Mark.ensures) (λ h. (h, refl)) refl
 
 pub turns-preserved-in-Continue-branch-2 : goal.turns-preserved-in-Continue-branch-2
 turns-preserved-in-Continue-branch-2 g c =
     let e = c.in-Flex.ensures in
     let marks = c.turns.invariant.marks in
+    let flex : List Mark = mark.Flex c.in-Flex.height ∷ mark.Curve c.in-Flex.before ∷ mark.Curve c.in-Flex.after ∷ [] in
+    let drew : Draws g.P.Pen.marked (g.P.Pen.page c.turns.pen) (g.P.Pen.page c.draw_flex.new.pen) flex = let d = c.in_ok-draw_flex-in-Flex.ensures in search rules in
     goes c.turns.invariant c.turns.callers.items c.turns.top refl c.next.new.self c.in-Some.token c.spend.new.self (flow.Flex c.in-Flex.height c.in-Flex.before c.in-Flex.after) c.in-Some.ensures (record { step = e.step; one = e.one; within = e.within })
-    c.turns.is_one c.keep_flex.new.kept.items (marks ++ mark.Flex c.in-Flex.height ∷ mark.Curve c.in-Flex.before ∷ mark.Curve c.in-Flex.after ∷ []) _ refl (λ k. let all = c.in_ok-keep_flex-in-Flex.ensures marks c.turns.invariant.all_kept k in search rules) (λ h. (h, refl)) refl
+    c.turns.is_one _ (marks ++ flex) _ refl (draws_more g.P.Pen.marked _ _ _ marks flex c.turns.invariant.drawn drew) (λ h. (h, refl)) refl
 
 pub turns-smaller-in-Continue-branch-2 : goal.turns-smaller-in-Continue-branch-2
 turns-smaller-in-Continue-branch-2 g c =
@@ -54,7 +60,8 @@ turns-preserved-in-Split g c =
     let e = c.in-Split.ensures in
     let marks = c.turns.invariant.marks in
     goes c.turns.invariant c.turns.callers.items c.turns.top refl c.next.new.self c.in-Some.token c.spend.new.self flow.Split c.in-Some.ensures (record { step = e.step; one = e.one; within = e.within })
-    _ c.keep-in-Split.new.kept.items (marks ++ mark.Replace ∷ []) _ refl (c.in_ok-keep-in-Split.ensures marks c.turns.invariant.all_kept) (λ h. search rules) refl
+    _ _ (marks ++ mark.Replace ∷ []) _ refl
+    (draws_more g.P.Pen.marked _ _ _ marks (mark.Replace ∷ []) c.turns.invariant.drawn c.in_ok-mark-in-Split.ensures) (λ h. search rules) refl
 
 pub turns-preserved-in-Some-pop : goal.turns-preserved-in-Some-pop
 turns-preserved-in-Some-pop g c =

@@ -1,4 +1,5 @@
 use Rattle.std.proofs.Common.{◌∷◌, ◌++◌, []}
+use Rattle.t1_run.specs.Pens.{Draws}
 use Rattle.t1_run.proofs.Between.{Between}
 use Rattle.t1_run.proofs.run.run.Given as goal
 
@@ -7,4 +8,4 @@ decreases-turns g l = l.machine.allowed
 
 abbrev pub invariant-turns : goal.invariant-turns
 invariant-turns g l =
-    Between (g.S.Subroutines.subrs l.subrs) l.hints l.charstring l.initial.called l.keeps l.is_one l.kept.items (l.callers.items ++ l.top ∷ []) l.machine l.called
+    Between (g.S.Subroutines.subrs l.subrs) l.hints l.charstring l.initial.called l.is_one (Draws g.P.Pen.marked (g.P.Pen.page l.initial.pen) (g.P.Pen.page l.pen)) (l.callers.items ++ l.top ∷ []) l.machine l.called
