@@ -1,5 +1,5 @@
 -- What is asked of how a charstring ended: its answer, and the parts that it names.
-use Rattle.std.proofs.Common.{◌≡◌, refl, sym, ap, subst, ◌∙◌, ℕ, Bool, true, List, []}
+use Rattle.std.proofs.Common.{◌≡◌, refl, sym, ap, subst, ◌∙◌, ℕ, List, []}
 use Rattle.t1_run.specs.declared.run.Halt.{Halt}
 use Rattle.t1_run.specs.declared.run.Halt.TheVariants as halt
 use Rattle.t1_run.specs.declared.answer.Mark.{Mark}

@@ -12,5 +12,7 @@ pub mod Tables
 pub mod Standard
 pub mod Drawings
 pub mod Pictures
+pub mod Composed
+pub mod Layouts
 pub mod BothAnswers
 pub mod FaultNames

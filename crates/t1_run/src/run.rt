@@ -189,7 +189,7 @@ fn run_glyph<S: Subroutines>(
 }
 
 /// What a charstring answers by itself, by what the pop after OtherSubr 3 gives.
-pub(crate) fn direct_by<S: Subroutines>(
+fn direct_by<S: Subroutines>(
     alloc: Global,
     subrs: &S,
     hints: Hints,

@@ -4,6 +4,7 @@
 use crate::tests::budget::count_of_marks;
 use crate::tests::executes::are;
 use crate::tests::fonts::GlyphFont;
+use crate::tests::layouts::{Letters, trace_glyph};
 use crate::{
     Called, Drawing, both_answers, direct, direct_and_executed, direct3, draw, draw3, executed,
     parts_and_executed, parts_of, standard_name,
@@ -61,6 +62,15 @@ fn draws_right(alloc: Global, font: &GlyphFont<'_>) -> Result<bool, AllocError> 
     Ok(count_of_parts(&drawing) == 2 && count_of_parts(&kept) == 2)
 }
 
+// Whether its layout is drawn by `lay_out` and `trace`, with and without a list of marks.
+fn traces_right(alloc: Global, font: &GlyphFont<'_>) -> Result<bool, AllocError> {
+    let mut letters = Letters::new(alloc);
+    let mut marks = Vec::new(alloc);
+    let by_letters = trace_glyph(alloc, font, b"Aacute", &mut letters)?;
+    let by_marks = trace_glyph(alloc, font, b"Aacute", &mut marks)?;
+    Ok(by_letters == Some(2) && by_marks == Some(2) && letters.are(b"mlzmlz") && marks.len() == 6)
+}
+
 // Whether the outcome of an accented glyph names its two parts.
 fn names_right(alloc: Global, font: &GlyphFont<'_>) -> Result<bool, AllocError> {
     let outcome = direct(alloc, font, &SEAC)?;
@@ -98,6 +108,7 @@ fn answers_right(alloc: Global) -> Result<bool, AllocError> {
             && runs_twice_right(alloc, &font)?
             && asks_right(alloc, &font)?
             && draws_right(alloc, &font)?
+            && traces_right(alloc, &font)?
             && names_right(alloc, &font)?,
     )
 }

@@ -1,0 +1,132 @@
+// Layouts, and their parts drawn by pens.
+
+use crate::tests::budget::charstring;
+use crate::tests::fonts::GlyphFont;
+use crate::{Glyphs, Layout, Mark, Pen, PlacedPart, Subroutines, lay_out, trace};
+use std::alloc::{AllocError, Global};
+use std::test::Fail;
+
+// `0 250 hsbw`.
+const WIDTH: [u8; 4] = [0x8B, 0xF7, 0x8E, 0x0D];
+
+// A pen that notes each mark as a letter.
+#[derive(Drop)]
+pub(super) struct Letters {
+    text: Vec<u8>,
+}
+
+impl Letters {
+    pub(super) fn new(alloc: Global) -> Letters {
+        Letters {
+            text: Vec::new(alloc),
+        }
+    }
+
+    pub(super) fn are(&self, want: &[u8]) -> bool {
+        self.text.as_slice() == want
+    }
+}
+
+impl Pen for Letters {
+    ghost Page = { Unit {0} };
+
+    ghost page = { λ _. tt };
+
+    ghost marked = { λ _ _. tt };
+
+    fn mark(&mut self, mark: Mark) -> Result<(), AllocError> {
+        let letter = match mark {
+            Mark::Move(_) => b'm',
+            Mark::Line(_) => b'l',
+            Mark::Curve(_) => b'c',
+            Mark::Close => b'z',
+            Mark::Flex(_) => b'f',
+            Mark::Replace => b'r',
+            _ => b'h',
+        };
+        self.text.push(letter)?;
+        Ok(())
+    }
+}
+
+// Draws each part of a layout.
+fn trace_parts<S: Subroutines, P: Pen>(
+    alloc: Global,
+    subrs: &S,
+    parts: &[PlacedPart<'_>],
+    pen: &mut P,
+) -> Result<(), AllocError> {
+    for part in parts {
+        trace(alloc, subrs, part.charstring, pen)?;
+    }
+    Ok(())
+}
+
+// Draws the glyph of a name, and answers how many parts it has, if it is drawn.
+pub(super) fn trace_glyph<F: Glyphs, P: Pen>(
+    alloc: Global,
+    font: &F,
+    name: &[u8],
+    pen: &mut P,
+) -> Result<Option<usize>, AllocError> {
+    match lay_out(alloc, font, name)? {
+        Layout::Drawn { parts, .. } => {
+            trace_parts(alloc, font, parts.as_slice(), pen)?;
+            Ok(Some(parts.len()))
+        }
+        Layout::Failed(_) => Ok(None),
+    }
+}
+
+// Whether a glyph of the small font has so many parts, with these letters.
+fn is_drawn(alloc: Global, name: &[u8], count: Option<usize>, want: &[u8]) -> Result<bool, Fail> {
+    let font = GlyphFont::new(alloc, &[], &[], None)?;
+    let mut pen = Letters::new(alloc);
+    Ok(trace_glyph(alloc, &font, name, &mut pen)? == count && pen.are(want))
+}
+
+#[test]
+fn draws_part_by_part(rt: HostRuntime) -> Result<(), Fail> {
+    const ROWS: &[(&[u8], Option<usize>, &[u8])] = &[
+        (b"X", Some(1), b"mlllz"),
+        (b"F", Some(1), b"mfccz"),
+        (b"H", Some(1), b"hrh"),
+        (b"Aacute", Some(2), b"mlzmlz"),
+        (b".notdef", Some(1), b""),
+        (b"L", None, b""),
+        (b"missing", None, b""),
+    ];
+    for &(name, count, want) in ROWS {
+        assert!(rt; is_drawn(rt.alloc(), name, count, want)?, "{name:?}");
+    }
+    Ok(())
+}
+
+// How many marks a glyph of as many as a run can make has, by a list as its pen.
+fn count_of_many(alloc: Global) -> Result<usize, Fail> {
+    let base = charstring(alloc, &WIDTH, 99_996, b"\x0e")?;
+    let font = GlyphFont::new(alloc, &[], &[(b"A", &base)], None)?;
+    let mut marks = Vec::new(alloc);
+    trace_glyph(alloc, &font, b"A", &mut marks)?;
+    Ok(marks.len())
+}
+
+#[test]
+fn draws_many_marks(rt: HostRuntime) -> Result<(), Fail> {
+    assert_eq!(rt; count_of_many(rt.alloc())?, 99_996);
+    Ok(())
+}
+
+// The marks that a charstring makes before its fault are drawn.
+fn is_drawn_before_its_fault(alloc: Global) -> Result<bool, Fail> {
+    let font = GlyphFont::new(alloc, &[], &[], None)?;
+    let mut pen = Letters::new(alloc);
+    trace(alloc, &font, b"\x8b\xf7\x8e\x0d\x8b\x16\x09\x0f", &mut pen)?;
+    Ok(pen.are(b"mz"))
+}
+
+#[test]
+fn draws_up_to_a_fault(rt: HostRuntime) -> Result<(), Fail> {
+    assert!(rt; is_drawn_before_its_fault(rt.alloc())?);
+    Ok(())
+}
