@@ -1,6 +1,9 @@
 -- The answers of engines of one input.
 use Rattle.std.proofs.Common.{◌≡◌, ℕ, List, [], ◌∷◌, ◌++◌, map, ◌∙◌, ap, refl, sym, subst, append_assoc, Option, Result, Ok, Err}
 use Rattle.std.specs.List.{flat_map}
+use Rattle.std.proofs.lemmas.List.{append-nil}
+use Rattle.t1_run.specs.declared.answer.Mark.{Mark}
+use Rattle.t1_run.specs.Pens.{drawn_on}
 use Rattle.t1_font.specs.FontValue.{FontValue}
 use Rattle.t1_cmd.specs.declared.counting.Counted.{Counted}
 use Rattle.t1_cmd.specs.declared.faults.Reason.{Reason}
@@ -11,7 +14,7 @@ use Rattle.t1_cmd.specs.Inputs.{Input}
 use Rattle.t1_cmd.specs.Answers.{Prints}
 use Rattle.t1_cmd.specs.Runs.{Stops, RunEnds, Succeeds}
 use Rattle.t1_cmd.specs.Fonts.{font_input}
-use Rattle.t1_cmd.specs.DrawingText.{ShowStops}
+use Rattle.t1_cmd.specs.DrawingText.{mark_line, with_line, ShowStops}
 use Rattle.t1_cmd.proofs.RunLemmas.{Says, stops_together, stopped, ends_succeeds}
 
 -- what is printed is not refused
@@ -61,6 +64,11 @@ pub three_pieces : (start first second third a b c : List ℕ) → start ≡ [] 
 three_pieces start first second third a b c h k l m =
     let all : third ≡ (([] ++ a) ++ b) ++ c = cc in
     all
+
+-- the lines of marks, one after another
+pub lines_of_marks : (text : List ℕ) (marks : List Mark) → drawn_on with_line text marks ≡ text ++ flat_map mark_line marks
+lines_of_marks text [] = sym (append-nil text)
+lines_of_marks text (m ∷ marks) = lines_of_marks (text ++ mark_line m) marks ∙ append_assoc text (mark_line m) (flat_map mark_line marks)
 
 -- the lines of parts are those of what the parts stand for
 pub flat_map_placed : {X Y : Type 0} (f : Y → List ℕ) (g : X → Y) (xs : List X) → flat_map (λ x. f (g x)) xs ≡ flat_map f (map g xs)

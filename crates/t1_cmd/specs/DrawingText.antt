@@ -47,6 +47,10 @@ mark_line mark.Dot = line (codes "dot") []
 mark_line mark.Replace = line (codes "replace") []
 mark_line (mark.Flex height) = line (codes "flex") (height ∷ [])
 
+-- a text, with the line of one more mark at its end
+abbrev pub with_line : List ℕ → Mark → List ℕ
+with_line text m = text ++ mark_line m
+
 -- a part: its offset, and a line for each mark
 abbrev pub part_lines : Point × List Mark → List ℕ
 part_lines part = line (codes "part") (part.0.x ∷ part.0.y ∷ []) ++ flat_map mark_line part.1

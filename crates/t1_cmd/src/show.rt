@@ -1,14 +1,15 @@
 //! The engine that shows what a glyph draws.
-ghost use Rattle.std.specs.Prelude.{◌≡◌, ◌+◌, ◌≤◌, ◌++◌, ◌∷◌, [], Ok, Err, map, OnOk, IfOk, IfErr};
-ghost use Rattle.std.specs.List.{flat_map};
-ghost use Rattle.t1_run.specs.Pictures.{picture_of, placed};
+ghost use Rattle.std.specs.Prelude.{◌≡◌, ℕ, ◌+◌, ◌≤◌, List, ◌++◌, ◌∷◌, [], Ok, map, OnOk, IfOk, IfErr};
+ghost use Rattle.std.specs.List.{All, flat_map};
+ghost use Rattle.t1_font.specs.FontModel.{subr_at};
+ghost use Rattle.t1_run.specs.Layouts.{traced, IsPlainPart};
 ghost use Rattle.t1_cmd.specs.Count.{calls_of, inner_of};
 ghost use Rattle.t1_cmd.specs.Inputs.{input_of};
 ghost use Rattle.t1_bytes.specs.Limits.{file_limit};
 ghost use Rattle.t1_cmd.specs.Runs.{RunEnds, Succeeds};
 ghost use Rattle.t1_cmd.specs.Answers.{Prints};
 ghost use Rattle.t1_cmd.specs.Fonts.{font_input};
-ghost use Rattle.t1_cmd.specs.DrawingText.{amount, number, numbers, line, mark_line, part_lines, drawn_lines, fault_line, picture_answer, show_answer, ShowStops};
+ghost use Rattle.t1_cmd.specs.DrawingText.{amount, number, numbers, line, mark_line, with_line, part_lines, drawn_lines, fault_line, show_answer, ShowStops};
 
 use crate::counting::Counted;
 use crate::faults::{Name, Reason, RunFault};
@@ -17,7 +18,7 @@ use crate::texts::push_number;
 use crate::writing::write_text;
 use std::alloc::{AllocError, Global};
 use std::io::{Read, Write};
-use t1_font::{DrawFault, Drawing, DrawnPart, Font, Mark, Point, Source, draw};
+use t1_font::{DrawFault, Font, Layout, Mark, Pen, PlacedPart, Point, Source, lay_out, trace};
 
 // How many counts of 1/65536 make a unit.
 const UNIT: u64 = 65536;
@@ -79,10 +80,10 @@ fn push_pair(
     push_line(alloc, out, word, &[first, second])
 }
 
-fn push_mark(alloc: Global, out: &mut Vec<u8>, mark: &Mark) -> Result<(), AllocError>
-    ensures { OnOk result (out.new.items ≡ out.old.items ++ mark_line mark.now) }
+fn push_mark(alloc: Global, out: &mut Vec<u8>, mark: Mark) -> Result<(), AllocError>
+    ensures { OnOk result (out.new.items ≡ out.old.items ++ mark_line mark) }
 {
-    match *mark {
+    match mark {
         Mark::Move(p) => push_pair(alloc, out, b"move", p.x, p.y),
         Mark::Line(p) => push_pair(alloc, out, b"line", p.x, p.y),
         Mark::Curve(c) => {
@@ -102,46 +103,68 @@ fn push_mark(alloc: Global, out: &mut Vec<u8>, mark: &Mark) -> Result<(), AllocE
     }
 }
 
-fn push_marks(alloc: Global, out: &mut Vec<u8>, marks: &[Mark]) -> Result<(), AllocError>
-    ensures { OnOk result (out.new.items ≡ out.old.items ++ flat_map mark_line marks.now) }
-{
-    for mark in marks {
-        push_mark(alloc, out, mark)?;
+// The lines of a drawing so far. Marks become lines as they are made, so none is kept.
+#[derive(Drop)]
+struct Lines {
+    alloc: Global,
+    text: Vec<u8>,
+}
+
+impl Pen for Lines {
+    ghost Page = { List ℕ };
+
+    ghost page = { λ lines. lines.text.items };
+
+    ghost marked = { with_line };
+
+    fn mark(&mut self, mark: Mark) -> Result<(), AllocError> {
+        push_mark(self.alloc, &mut self.text, mark)
     }
-    Ok(())
 }
 
-fn push_part(alloc: Global, out: &mut Vec<u8>, part: &DrawnPart) -> Result<(), AllocError>
-    ensures { OnOk result (out.new.items ≡ out.old.items ++ part_lines (placed part.now)) }
+fn push_part(font: &Font<'_>, lines: &mut Lines, part: &PlacedPart<'_>) -> Result<(), AllocError>
+    requires { IsPlainPart (subr_at font.now) part.now }
+    ensures { OnOk result (lines.new.text.items
+        ≡ lines.old.text.items ++ part_lines (traced (subr_at font.now) part.now)) }
 {
-    push_pair(alloc, out, b"part", part.dx, part.dy)?;
-    push_marks(alloc, out, part.marks.as_slice())?;
+    push_pair(lines.alloc, &mut lines.text, b"part", part.dx, part.dy)?;
+    trace(lines.alloc, font, part.charstring, lines)?;
     Ok(())
 }
 
-fn push_parts(alloc: Global, out: &mut Vec<u8>, parts: &[DrawnPart]) -> Result<(), AllocError>
-    ensures { OnOk result (out.new.items
-        ≡ out.old.items ++ flat_map (λ p. part_lines (placed p)) parts.now) }
+fn push_parts(
+    font: &Font<'_>,
+    lines: &mut Lines,
+    parts: &[PlacedPart<'_>],
+) -> Result<(), AllocError>
+    requires { All (IsPlainPart (subr_at font.now)) parts.now }
+    ensures { OnOk result (lines.new.text.items
+        ≡ lines.old.text.items
+        ++ flat_map (λ p. part_lines (traced (subr_at font.now) p)) parts.now) }
 {
     for part in parts {
-        push_part(alloc, out, part)?;
+        push_part(font, lines, part)?;
     }
     Ok(())
 }
 
 fn drawn(
     alloc: Global,
+    font: &Font<'_>,
     width: Point,
     bearing: Point,
-    parts: &[DrawnPart],
+    parts: &[PlacedPart<'_>],
 ) -> Result<Vec<u8>, AllocError>
-    ensures { IfOk result (λ text. text.items ≡ drawn_lines width bearing (map placed parts.now)) }
+    requires { All (IsPlainPart (subr_at font.now)) parts.now }
+    ensures { IfOk result (λ text. text.items
+        ≡ drawn_lines width bearing (map (traced (subr_at font.now)) parts.now)) }
 {
     let mut text = Vec::new(alloc);
     push_pair(alloc, &mut text, b"width", width.x, width.y)?;
     push_pair(alloc, &mut text, b"bearing", bearing.x, bearing.y)?;
-    push_parts(alloc, &mut text, parts)?;
-    Ok(text)
+    let mut lines = Lines { alloc, text };
+    push_parts(font, &mut lines, parts)?;
+    Ok(lines.text)
 }
 
 fn fault_text(alloc: Global, fault: DrawFault) -> Result<Vec<u8>, AllocError>
@@ -154,37 +177,25 @@ fn fault_text(alloc: Global, fault: DrawFault) -> Result<Vec<u8>, AllocError>
     Ok(text)
 }
 
-fn drawing_text(alloc: Global, name: &[u8], drawing: &Drawing) -> Result<Vec<u8>, RunFault>
-    ensures text { IfOk result (λ text. picture_answer name.now (picture_of drawing.now)
-        ≡ Ok text.items) }
-    ensures refused { IfErr result
-        (λ e. ShowStops (picture_answer name.now (picture_of drawing.now)) e) }
-{
-    match drawing {
-        Drawing::Drawn { width, sb, parts } => {
-            let text = drawn(alloc, *width, *sb, parts.as_slice())?;
-            Ok(text)
-        }
-        Drawing::Failed(DrawFault::NoGlyph) => {
-            let name = Name::new(alloc, name)?;
-            Err(RunFault::Refused(Reason::NoGlyph { name }))
-        }
-        Drawing::Failed(fault) => {
-            let text = fault_text(alloc, *fault)?;
-            Ok(text)
-        }
-    }
-}
-
 // The text of what the glyph of a name draws.
 fn shown_glyph(alloc: Global, font: &Font<'_>, name: &[u8]) -> Result<Vec<u8>, RunFault>
     ensures text { IfOk result (λ text. show_answer name.now font.now ≡ Ok text.items) }
     ensures refused { IfErr result (λ e. ShowStops (show_answer name.now font.now) e) }
 {
-    let drawing = draw(alloc, font, name)?;
-    let text = drawing_text(alloc, name, &drawing);
-    drop(drawing);
-    text
+    match lay_out(alloc, font, name)? {
+        Layout::Drawn { width, sb, parts } => {
+            let text = drawn(alloc, font, width, sb, parts.as_slice())?;
+            Ok(text)
+        }
+        Layout::Failed(DrawFault::NoGlyph) => {
+            let name = Name::new(alloc, name)?;
+            Err(RunFault::Refused(Reason::NoGlyph { name }))
+        }
+        Layout::Failed(fault) => {
+            let text = fault_text(alloc, fault)?;
+            Ok(text)
+        }
+    }
 }
 
 // The same for a glyph of a source's font.

@@ -54,7 +54,10 @@ pub use parts::{PartsFault, join_glyphs, join_parts};
 pub use shell::Shell;
 pub use source::Source;
 pub use t1_bytes::Form;
-pub use t1_run::{Curve, DrawFault, Drawing, DrawnPart, Fault, Mark, Point, draw};
+pub use t1_run::{
+    Curve, DrawFault, Drawing, DrawnPart, Fault, Layout, Mark, Pen, PlacedPart, Point, draw,
+    lay_out, trace,
+};
 pub use writing::write;
 
 #[cfg(test)]
