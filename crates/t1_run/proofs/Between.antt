@@ -24,14 +24,14 @@ use Rattle.t1_run.proofs.Turns.{Turns, Turn, Ended, begins, turn, runs_out, leng
 use Rattle.t1_run.proofs.Mirrors.{Mirror, MirrorTurn, mirror_begins, mirror_turn, mirror_out, mirror_goes, mirror_back, mirror_last, mirror_end, mirror_fault, mirror_call}
 
 -- Between two turns: what is left of the frames, from the state of the machine after the marks so far, which were drawn.
-pub record Between (subrs : Subrs) (hints : Hints) (c old : List ℕ) (one : Bool) (Drawn : List Mark → Type 0) (frames : List Frame) (m : Machine) (now : List ℕ) : Type 0 where
+pub record Between {P : Type 0} (subrs : Subrs) (hints : Hints) (c old : List ℕ) (one : Bool) (Drawn : List Mark → Type 0) (frames : List Frame) (m : Machine P) (now : List ℕ) : Type 0 where
   pub marks : List Mark
   pub drawn : Drawn marks
   pub turns : Turns (run_glyph subrs hints c) old subrs hints frames (state_of m marks) now
   pub mirror : Mirror (run_glyph subrs hints c) (run_glyph subrs Kept c) subrs hints Kept one frames (state_of m marks)
 
 -- The machine spent a token, and goes on so.
-pub record Spent (hints : Hints) (t : Token) (m m' : Machine) (on : Flow) : Type 0 where
+pub record Spent {P : Type 0} (hints : Hints) (t : Token) (m m' : Machine P) (on : Flow) : Type 0 where
   pub step : Does on m m' (spend hints t)
   pub one : is_one on ≡ true → Does on m m' (spend Kept t)
   pub within : (marks : List Mark) → IsWithinLimits (state_of m marks) → Keeps (m.allowed - 1) (step_of on (state_of m' marks))
@@ -47,7 +47,7 @@ fewer on zero after going spent e = absurd (subst IsGoing (spent refl) going)
 fewer on (suc n) after going spent e = omega (arith, e)
 
 -- before the first turn
-pub at_start : (subrs : Subrs) (hints : Hints) (c old : List ℕ) (Drawn : List Mark → Type 0) (frames : List Frame) (top : Frame) (m : Machine) → frames ≡ [] ++ top ∷ [] → state_of m [] ≡ start → frame_left top ≡ tokens c → Drawn [] → Between subrs hints c old true Drawn frames m old
+pub at_start : {P : Type 0} (subrs : Subrs) (hints : Hints) (c old : List ℕ) (Drawn : List Mark → Type 0) (frames : List Frame) (top : Frame) (m : Machine P) → frames ≡ [] ++ top ∷ [] → state_of m [] ≡ start → frame_left top ≡ tokens c → Drawn [] → Between subrs hints c old true Drawn frames m old
 at_start subrs hints c old Drawn frames top m first new all none = record {
   marks = [];
   drawn = none;
@@ -74,7 +74,7 @@ ends_within (halt.Failed fault) marks n k = k
 
 -- ---- turns
 
-module _ {subrs : Subrs} {hints : Hints} {c old : List ℕ} {one : Bool} {Drawn : List Mark → Type 0} {frames : List Frame} {m : Machine} {now : List ℕ} (inv : Between subrs hints c old one Drawn frames m now) (rest : List Frame) (top : Frame) (are : frames ≡ rest ++ top ∷ []) where
+module _ {P : Type 0} {subrs : Subrs} {hints : Hints} {c old : List ℕ} {one : Bool} {Drawn : List Mark → Type 0} {frames : List Frame} {m : Machine P} {now : List ℕ} (inv : Between subrs hints c old one Drawn frames m now) (rest : List Frame) (top : Frame) (are : frames ≡ rest ++ top ∷ []) where
   abbrev Ran : Halt → List ℕ → Type 0
   Ran h now = Runs (run_glyph subrs hints c) h Drawn old now
 
@@ -91,7 +91,7 @@ module _ {subrs : Subrs} {hints : Hints} {c old : List ℕ} {one : Bool} {Drawn 
   out_one none = mirror_out inv.mirror rest top are none
 
   -- the frame on top gives its next token, which the machine spends
-  module _ (top' : Frame) (t : Token) (m' : Machine) (on : Flow) (next : frame_left top ≡ t ∷ frame_left top') (spent : Spent hints t m m' on) where
+  module _ (top' : Frame) (t : Token) (m' : Machine P) (on : Flow) (next : frame_left top ≡ t ∷ frame_left top') (spent : Spent hints t m m' on) where
     abbrev in_turn : Turn (run_glyph subrs hints c) old subrs hints rest top' t (state_of m inv.marks) now
     in_turn = turn inv.turns rest top are top' t next
 
@@ -120,7 +120,7 @@ module _ {subrs : Subrs} {hints : Hints} {c old : List ℕ} {one : Bool} {Drawn 
     pub ends_one : (h : Halt) → step_of on (state_of m' inv.marks) ≡ Ends (ending_of h inv.marks) → is_one on ≡ true → one ≡ true → run_glyph subrs Kept c ≡ run_glyph subrs hints c
     ends_one h is same = mirror_end in_mirror one (ending_of h inv.marks) (stops h inv.marks) (sym is ∙ spent.step inv.marks) (λ h. (h, sym is ∙ spent.one same inv.marks))
 
-  module _ (top' : Frame) (t : Token) (m' : Machine) (next : frame_left top ≡ t ∷ frame_left top') where
+  module _ (top' : Frame) (t : Token) (m' : Machine P) (next : frame_left top ≡ t ∷ frame_left top') where
     abbrev turn_now : Turn (run_glyph subrs hints c) old subrs hints rest top' t (state_of m inv.marks) now
     turn_now = turn inv.turns rest top are top' t next
 

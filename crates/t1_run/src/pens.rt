@@ -7,7 +7,8 @@ ghost use Rattle.t1_run.specs.Pens.{with_mark};
 use crate::answer::Mark;
 use std::alloc::AllocError;
 
-/// What takes the marks of a run, one after another: a list of marks, or the text or the image that they make.
+/// What takes the marks of a run, one after another: a list of marks, or the text or the image that they make. Its page is
+/// what it has drawn so far, and `marked` says what one more mark makes of a page.
 pub trait Pen {
     ghost Page: { Type 0 };
 

@@ -100,7 +100,7 @@ pub(crate) fn run<'s, S: Subroutines, P: Pen>(
         → run_glyph (S.subrs subrs.now) Hints.Kept charstring.now
         ≡ run_glyph (S.subrs subrs.now) hints charstring.now) }
 {
-    let mut machine = Machine::new();
+    let mut machine = Machine::<P>::new();
     let mut callers: ArrayVec<Frame<'s>, LEVELS> = ArrayVec::new();
     let mut top = Frame::new(charstring);
     let mut is_one = true;
