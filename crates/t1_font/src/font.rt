@@ -116,6 +116,13 @@ impl<'a> Font<'a> {
         &self.parts.glyphs
     }
 
+    /// The Subrs, by index.
+    pub fn subrs(&self) -> &Numbered<'a>
+        ensures { result.now ≡ self.now.subrs }
+    {
+        &self.parts.subrs
+    }
+
     /// The indices of the Subrs that have an entry, upwards.
     pub fn indices(&self) -> Indices<'_, 'a>
         ensures { result ≡ fin.keys self.now.subrs }

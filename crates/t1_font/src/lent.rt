@@ -91,7 +91,7 @@ impl<'a> Numbered<'a> {
     }
 
     /// The same entries. A table of a source is lent once more, and takes no room; any other is copied.
-    pub(crate) fn copy(&self, alloc: Global) -> Result<Self, AllocError>
+    pub fn copy(&self, alloc: Global) -> Result<Self, AllocError>
         ensures { IfOk result (λ m. m ≡ self.now) }
     {
         match &self.form {

@@ -47,7 +47,7 @@ pub use fault::ReadFault;
 pub use file::{read, read_vec};
 pub use filling::fill_all;
 pub use font::{Font, Indices, Names, Part};
-pub use lent::{Named, NamedEntries};
+pub use lent::{Named, NamedEntries, Numbered, NumberedEntries};
 pub use limits::{COUNT_LIMIT, WEIGHT_LIMIT};
 pub use many::join_all_parts;
 pub use parts::{PartsFault, join_glyphs, join_parts};
