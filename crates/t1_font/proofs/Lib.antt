@@ -1,7 +1,7 @@
 pub mod WordLemmas
 pub mod MarkerLemmas
 pub mod Lasts
-pub mod Firsts
+pub mod OneOfEach
 pub mod Joining
 pub mod EntryLemmas
 pub mod MapLaws

@@ -1,8 +1,8 @@
 -- What borrowed entries stand for, and the codes of finite maps to byte lists.
-use Rattle.std.specs.Prelude.{◌≡◌, ℕ, List, map}
+use Rattle.std.specs.Prelude.{◌≡◌, ℕ, List, Some, map}
 use Rattle.std.specs.Borrow.{Bor}
 use Rattle.std.specs.Coded.{Coded, coded_list, coded_ℕ}
-use Rattle.std.specs.FinMap.{code, from_entries}
+use Rattle.std.specs.FinMap.{code, get, from_entries}
 use Rattle.std.specs.List.{AllByRecursion}
 use Rattle.t1_font.specs.declared.lent.NumberedForm.{NumberedForm}
 use Rattle.t1_font.specs.declared.lent.NumberedForm.TheVariants as numbers
@@ -45,6 +45,10 @@ named_entries (names.Made glyphs) = map lent_glyph glyphs.items
 -- the table of glyphs in any order: of those with one name the first stands
 abbrev pub glyphs_by_name : List Glyph → Named
 glyphs_by_name gs = from_entries (map lent_glyph gs)
+
+-- the glyph is one of the table
+abbrev pub HasIn : Named → Glyph → Type 0
+HasIn m g = get m (lent_glyph g).0 ≡ Some (lent_glyph g).1
 
 -- ---- glyphs under names in a tree
 

@@ -1,7 +1,7 @@
 -- Finite maps made of others.
-use Rattle.std.specs.Prelude.{List, [], ◌∷◌, ◌++◌, map, Option, Some, None}
+use Rattle.std.specs.Prelude.{◌≡◌, List, [], ◌∷◌, ◌++◌, map, Option, Some, None}
 use Rattle.std.specs.declared.cmp.Ordering.{Ordering}
-use Rattle.std.specs.FinMap.{FinMap, entries, insert, from_sorted, from_entries}
+use Rattle.std.specs.FinMap.{FinMap, get, entries, insert, from_sorted, from_entries}
 
 -- the same keys, with f of each key and its value
 abbrev pub map_values : {K X Y : Type 0} {R : K → K → Ordering} → (K → X → Y) → FinMap R X → FinMap R Y
@@ -20,3 +20,7 @@ put_all_into m (e ∷ es) = put_all_into (insert m e.0 e.1) es
 abbrev pub entry_of : {K X : Type 0} → K → Option X → List (K × X)
 entry_of k None = []
 entry_of k (Some x) = (k, x) ∷ []
+
+-- each entry of m is one of n
+abbrev pub IsPartOf : {K X : Type 0} {R : K → K → Ordering} → FinMap R X → FinMap R X → Type 0
+IsPartOf {K} {X} m n = (q : K) (x : X) → get m q ≡ Some x → get n q ≡ Some x

@@ -1,15 +1,15 @@
 //! A font with the entries of many.
 
 ghost use Rattle.std.specs.Prelude.{◌≡◌, ◌++◌, map, IfOk, OnOk, MatchResult};
-ghost use Rattle.std.specs.List.{AllByRecursion};
+ghost use Rattle.std.specs.List.{All, AllByRecursion};
 ghost use Rattle.std.specs.Ordering.{eq_by_cmp};
 ghost use Rattle.std.specs.FinMap as fin;
 ghost use Rattle.t1_join.specs.TableMeaning.{Rises};
 ghost use Rattle.t1_font.specs.FontModel.{encoding_of};
 ghost use Rattle.t1_font.specs.FontValue.{name_cmp};
 ghost use Rattle.t1_font.specs.IsFont.{IsFont};
-ghost use Rattle.t1_font.specs.Joins.{join_all_parts, Refuses};
-ghost use Rattle.t1_font.specs.Lent.{lent_glyph, glyphs_by_name};
+ghost use Rattle.t1_font.specs.Joins.{join_all_parts, HaveOneGlyph, Refuses};
+ghost use Rattle.t1_font.specs.Lent.{lent_glyph, glyphs_by_name, HasIn};
 ghost use Rattle.t1_font.specs.WriteLaws.{SameKind};
 
 use crate::font::{Font, FontParts, LentEncoding};
@@ -89,23 +89,24 @@ fn is_one_name(one: Glyph<'_>, other: Glyph<'_>) -> bool
     by_name(one, other).is_eq()
 }
 
-/// Sorts glyphs by their names. Of those with one name the first stays.
-fn keep_first(glyphs: &mut Vec<Glyph<'_>>) -> Result<(), AllocError>
-    ensures rise { OnOk result (Rises name_cmp (map lent_glyph glyphs.new.items)) }
-    ensures first { OnOk result (fin.from_sorted (map lent_glyph glyphs.new.items)
-        ≡ glyphs_by_name glyphs.old.items) }
+/// Sorts glyphs by their names, in place, and keeps one of each name. Glyphs of one name have one charstring.
+fn keep_one(glyphs: &mut Vec<Glyph<'_>>)
+    requires { All (HasIn (glyphs_by_name glyphs.old.items)) glyphs.old.items }
+    ensures rise { Rises name_cmp (map lent_glyph glyphs.new.items) }
+    ensures one { fin.from_sorted (map lent_glyph glyphs.new.items)
+        ≡ glyphs_by_name glyphs.old.items }
 {
-    glyphs.sort_by(|one, other| by_name(*one, *other))?;
+    glyphs.sort_unstable_by(|one, other| by_name(*one, *other));
     glyphs.dedup_by(|one, other| is_one_name(*one, *other));
-    Ok(())
 }
 
-/// The glyphs of all fonts, in one table that is sorted once. If several have a name, the first's glyph stands.
+/// The glyphs of all fonts, in one table that is sorted once.
 fn join_all_glyphs<'a>(
     alloc: Global,
     first: &Font<'a>,
     rest: &[Font<'a>],
 ) -> Result<Named<'a>, AllocError>
+    requires { HaveOneGlyph first.now rest.now }
     ensures { IfOk result (λ m. m ≡ (join_all_parts first.now rest.now).glyphs) }
 {
     let mut all = Vec::with_capacity(alloc, glyph_count(first, rest))?;
@@ -113,7 +114,7 @@ fn join_all_glyphs<'a>(
     'rest: for font in rest {
         push_glyphs(&mut all, &font.parts.glyphs)?;
     }
-    keep_first(&mut all)?;
+    keep_one(&mut all);
     Ok(Named::made(all))
 }
 
@@ -123,7 +124,8 @@ fn joined_parts<'a>(
     first: &Font<'a>,
     rest: &[Font<'a>],
 ) -> Result<FontParts<'a>, AllocError>
-    requires { AllByRecursion (λ g. SameKind first.now.encoding g.encoding) rest.now }
+    requires encodings { AllByRecursion (λ g. SameKind first.now.encoding g.encoding) rest.now }
+    requires glyphs { HaveOneGlyph first.now rest.now }
     ensures parts { IfOk result (λ p. p ≡ join_all_parts first.now rest.now) }
     ensures fonts { IfOk result (λ _. AllByRecursion IsFont rest.now) }
 {
@@ -140,7 +142,8 @@ fn joined_parts<'a>(
 /// for that and the third, and so on. It takes no more room than the tables of the result and of its inputs, since no
 /// font on the way is made.
 ///
-/// All fonts have the same shell, and their Encodings are the same word or all tables.
+/// All fonts have the same shell, their Encodings are the same word or all tables, and no two of them have different
+/// glyphs of one name.
 ///
 /// # Errors
 ///
@@ -152,6 +155,7 @@ pub fn join_all_parts<'a>(
 ) -> Result<Font<'a>, PartsFault>
     requires shells { AllByRecursion (λ g. first.now.shell ≡ g.shell) rest.now }
     requires encodings { AllByRecursion (λ g. SameKind first.now.encoding g.encoding) rest.now }
+    requires glyphs { HaveOneGlyph first.now rest.now }
     ensures { MatchResult result (λ f. f
         ≡ join_all_parts first.now rest.now) (Refuses (join_all_parts first.now rest.now)) }
 {

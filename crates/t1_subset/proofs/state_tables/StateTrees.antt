@@ -8,17 +8,19 @@ use Rattle.t1_font.specs.declared.parts.PartsFault.TheVariants as parts
 use Rattle.t1_subset.specs.Refusals.{of_parts}
 use Rattle.t1_font.specs.FontValue.{FontValue, Encoding, Word, Codes}
 use Rattle.t1_font.specs.IsFont.{IsFont}
-use Rattle.t1_font.specs.Joins.{join_encodings, join_parts, join_all_parts, Refuses}
+use Rattle.t1_font.specs.Joins.{join_encodings, join_parts, join_all_parts, HaveOneGlyph, Refuses}
+use Rattle.t1_font.specs.Maps.{IsPartOf}
 use Rattle.t1_font.specs.WriteLaws.{SameKind}
 use Rattle.t1_subset.specs.declared.conflict.Conflict.{Conflict as Refusal}
 use Rattle.t1_subset.specs.declared.conflict.Conflict.TheVariants.{Memory}
 use Rattle.t1_subset.specs.Profile.{profile}
-use Rattle.t1_subset.specs.States.{IsWithin, Join, joined_font}
+use Rattle.t1_subset.specs.States.{IsWithin, Compatible, Join, joined_font}
 use Rattle.t1_subset.specs.Groupings.{Merges}
 use Rattle.t1_subset.specs.StateTables.{StatesValue, StatesJoin, states_of}
 use Rattle.t1_subset.specs.Merger.{EachGroupingMerges, ComesTo, IsRefused}
 use Rattle.t1_subset.proofs.Fonts.{font_within}
 use Rattle.t1_subset.proofs.JoinedEntries.{joined_are_entries}
+use Rattle.t1_subset.proofs.JoinedStates.{font_back, left_glyph}
 use Rattle.t1_subset.proofs.Orders.{grouped, merges_by_states}
 
 -- a grouping of fonts groups the states of all of them
@@ -52,6 +54,7 @@ pub record AreParts (k : FontValue) (gs : List FontValue) (j : FontValue) : Type
   pub is : j ≡ join_all_parts k gs
   pub shells : AllByRecursion (λ g. k.shell ≡ g.shell) gs
   pub kinds : AllByRecursion (λ g. SameKind k.encoding g.encoding) gs
+  pub glyphs : AllByRecursion (λ g. IsPartOf g.glyphs j.glyphs) (k ∷ gs)
   pub within : IsWithin k → IsWithin j
 
 kind_before : (d e x : Encoding) → SameKind d e → SameKind (join_encodings d e) x → SameKind d x
@@ -64,8 +67,11 @@ kinds_before : (d e : Encoding) (gs : List FontValue) → SameKind d e → AllBy
 kinds_before d e [] k h = tt
 kinds_before d e (g ∷ gs) k h = (kind_before d e g.encoding k h.0, kinds_before d e gs k h.1)
 
+right_glyph : (f g : FontValue) → Compatible profile f g → IsPartOf g.glyphs (joined_font profile f g).glyphs
+right_glyph f g c = subst (λ (j : FontValue). IsPartOf g.glyphs j.glyphs) (sym (font_back profile f g c)) (left_glyph profile g f)
+
 left_parts : (t : Grouping FontValue) (gs : List FontValue) (j : FontValue) → Merges profile (from_left t gs) j → (k : FontValue) × Merges profile t k × AreParts k gs j
-left_parts t [] j h = (j, h, record { is = refl; shells = tt; kinds = tt; within = λ w. w })
+left_parts t [] j h = (j, h, record { is = refl; shells = tt; kinds = tt; glyphs = (λ q c e. e, tt); within = λ w. w })
 left_parts t (g ∷ gs) j h =
     let r = left_parts (two t (one g)) gs j h in
     let k = r.1.0 in
@@ -79,7 +85,8 @@ left_parts t (g ∷ gs) j h =
         is = rest.is;
         shells = (c.shells, rest.shells);
         kinds = (c.kinds, kinds_before k.encoding g.encoding gs c.kinds rest.kinds);
-        within = λ w. rest.within (subst IsWithin (joined_are_entries profile k g c) both.within);
+        glyphs = (λ q b e. rest.glyphs.0 q b (left_glyph profile k g q b e), (λ q b e. rest.glyphs.0 q b (right_glyph k g c q b e), rest.glyphs.1));
+      within = λ w. rest.within (subst IsWithin (joined_are_entries profile k g c) both.within);
       },
     )
 
@@ -90,6 +97,10 @@ module _ (f : FontValue) (gs : List FontValue) (h : EachGroupingMerges (f ∷ gs
   -- fonts of which each grouping merges have entries that join
   pub parts_join : AreParts f gs merged.0
   parts_join = let r = left_parts (one f) gs merged.0 merged.1 in subst (λ (k : FontValue). AreParts k gs merged.0) (sym r.1) r.2
+
+  -- no two of them have different glyphs of one name
+  pub one_glyph : HaveOneGlyph f gs
+  one_glyph = subst (λ (j : FontValue). AllByRecursion (λ g. IsPartOf g.glyphs j.glyphs) (f ∷ gs)) parts_join.is parts_join.glyphs
 
   -- the font of all their entries is what they come to
   pub parts_come_to : (j : FontValue) → j ≡ join_all_parts f gs → ComesTo (f ∷ gs) j

@@ -3,7 +3,7 @@ use Rattle.std.proofs.lemmas.Result.{err_from_is_err_and}
 use Rattle.std.specs.Prelude.{IfErr}
 use Rattle.t1_subset.specs.declared.conflict.Conflict.TheVariants.{Memory}
 use Rattle.t1_subset.specs.Merger.{EachGroupingMerges, ComesTo}
-use Rattle.t1_subset.proofs.state_tables.StateTrees.{parts_join, parts_come_to, parts_refused}
+use Rattle.t1_subset.proofs.state_tables.StateTrees.{parts_join, one_glyph, parts_come_to, parts_refused}
 use Rattle.t1_subset.proofs.groupings.made_of.Goals as goal
 
 pub join_all_parts-requires-clause-shells : goal.join_all_parts-requires-clause-shells
@@ -11,6 +11,9 @@ join_all_parts-requires-clause-shells c = (parts_join c.in-Some.first.now c.in-S
 
 pub join_all_parts-requires-clause-encodings : goal.join_all_parts-requires-clause-encodings
 join_all_parts-requires-clause-encodings c = (parts_join c.in-Some.first.now c.in-Some.rest.now (subst EachGroupingMerges c.in-Some.ensures.cases.0 c.requires.merges)).kinds
+
+pub join_all_parts-requires-clause-glyphs : goal.join_all_parts-requires-clause-glyphs
+join_all_parts-requires-clause-glyphs c = one_glyph c.in-Some.first.now c.in-Some.rest.now (subst EachGroupingMerges c.in-Some.ensures.cases.0 c.requires.merges)
 
 pub returns-in_err-join_all_parts-clause-err : goal.returns-in_err-join_all_parts-clause-err
 returns-in_err-join_all_parts-clause-err c =
