@@ -35,7 +35,7 @@ from_cond true o v h = h
 from_cond false o v h = Some_None (sym h)
 
 -- what a key of a map has that was cut to some keys, it had
-cut_had : {K X : Type 0} {R : K → K → Ordering} (o : IsTotalOrder R) (same : IsAntisymmetric R) (m : FinMap R X) (p : K → Bool) (q : K) (v : X) → get (retain_keys m p) q ≡ Some v → get m q ≡ Some v
+pub cut_had : {K X : Type 0} {R : K → K → Ordering} (o : IsTotalOrder R) (same : IsAntisymmetric R) (m : FinMap R X) (p : K → Bool) (q : K) (v : X) → get (retain_keys m p) q ≡ Some v → get m q ≡ Some v
 cut_had o same m p q v h = from_cond (p q) (get m q) v (sym (get-retain o same m p q) ∙ h)
 
 from_mapped : {X Y : Type 0} (f : X → Y) (o : Option X) (w : Y) → option_map f o ≡ Some w → (v : X) × (o ≡ Some v) × (w ≡ f v)

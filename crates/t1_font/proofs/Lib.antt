@@ -3,6 +3,7 @@ pub mod MarkerLemmas
 pub mod Lasts
 pub mod OneOfEach
 pub mod Joining
+pub mod PartsOfOne
 pub mod EntryLemmas
 pub mod MapLaws
 pub mod Buffers

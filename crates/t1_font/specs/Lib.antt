@@ -35,3 +35,4 @@ pub mod Evening
 pub mod Filling
 pub mod EveningLaws
 pub mod WriteLaws
+pub mod Parts

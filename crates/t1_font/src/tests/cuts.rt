@@ -7,8 +7,8 @@ ghost use Rattle.t1_bytes.specs.declared.form.Form.TheVariants.{Pfb};
 ghost use Rattle.t1_font.specs.FontValue.{notdef};
 ghost use Rattle.t1_font.specs.Cut.{set_of_names, restrict};
 ghost use Rattle.t1_font.specs.Canon.{canon};
-ghost use Rattle.std.specs.List.{AllByRecursion};
 ghost use Rattle.t1_font.specs.IsFont.{IsFont};
+ghost use Rattle.t1_font.specs.Parts.{IsPartOfFont};
 ghost use Rattle.t1_font.specs.WriteLaws.{SameKind};
 
 use super::rows::with;
@@ -74,21 +74,6 @@ fn is_one_shell(alloc: Global, first: &Font<'_>, second: &Font<'_>) -> Result<bo
     let one = cut(alloc, first, &[], &[])?;
     let other = cut(alloc, second, &[], &[])?;
     Ok(one.as_slice() == other.as_slice())
-}
-
-/// The same of a font and each of the others.
-pub fn are_one_shell(alloc: Global, first: &Font<'_>, rest: &[Font<'_>]) -> Result<bool, AllocError>
-    ensures shells { IfOk result (λ b. b ≡ true
-        → AllByRecursion (λ g. first.now.shell ≡ g.shell) rest.now) }
-    ensures kinds { IfOk result (λ b. b ≡ true
-        → AllByRecursion (λ g. SameKind first.now.encoding g.encoding) rest.now) }
-{
-    'rest: for font in rest {
-        if !is_one_shell(alloc, first, font)? {
-            return Ok(false);
-        }
-    }
-    Ok(true)
 }
 
 /// The canonical PFB of the font of the entries of both.
@@ -315,7 +300,9 @@ fn cut_font<'a>(
     font: &Font<'a>,
     names: &[&[u8]],
     subrs: &[u16],
-) -> Result<Font<'a>, AllocError> {
+) -> Result<Font<'a>, AllocError>
+    ensures { IfOk result (λ f. IsPartOfFont f font.now) }
+{
     let names = known(alloc, font, names)?;
     let subrs = set_of(alloc, subrs)?;
     restrict(alloc, font, names.as_slice(), &subrs)
@@ -326,7 +313,9 @@ pub fn lent_cut_font<'a>(
     alloc: Global,
     source: &'a Source,
     cut: Cut,
-) -> Result<Font<'a>, AllocError> {
+) -> Result<Font<'a>, AllocError>
+    ensures { IfOk result (λ f. IsPartOfFont f source.now) }
+{
     let font = source.font(alloc)?;
     cut_font(alloc, &font, cut.0, cut.1)
 }

@@ -1,6 +1,12 @@
 //! The fonts of the entries of many, with ample memory.
 
-use super::cuts::{Cut, X, X_AND_Y, Y, are_one_shell, large, lent_cut_font, tiny_cut};
+ghost use Rattle.std.specs.Prelude.{◌≡◌, IfOk};
+ghost use Rattle.std.specs.List.{AllByRecursion};
+ghost use Rattle.t1_font.specs.Joins.{HaveOneGlyph};
+ghost use Rattle.t1_font.specs.Parts.{IsPartOfFont};
+ghost use Rattle.t1_font.specs.WriteLaws.{SameKind};
+
+use super::cuts::{Cut, X, X_AND_Y, Y, large, lent_cut_font, tiny_cut};
 use super::lent_file;
 use crate::{Font, Form, PartsFault, Source, join_all_parts, read, write};
 use std::alloc::{AllocError, Global};
@@ -8,10 +14,11 @@ use std::test::Fail;
 use t1_tiny::{PFA, PFB};
 
 /// The canonical PFB of the font of the entries of all.
-fn all<'a>(alloc: Global, first: &Font<'a>, rest: &[Font<'a>]) -> Result<Vec<u8>, PartsFault> {
-    if !are_one_shell(alloc, first, rest)? {
-        return Err(PartsFault::Memory);
-    }
+fn written<'a>(alloc: Global, first: &Font<'a>, rest: &[Font<'a>]) -> Result<Vec<u8>, PartsFault>
+    requires shells { AllByRecursion (λ g. first.now.shell ≡ g.shell) rest.now }
+    requires encodings { AllByRecursion (λ g. SameKind first.now.encoding g.encoding) rest.now }
+    requires glyphs { HaveOneGlyph first.now rest.now }
+{
     let joined = join_all_parts(alloc, first, rest)?;
     Ok(write(alloc, &joined, Form::Pfb)?)
 }
@@ -21,7 +28,9 @@ fn whole_or_cut<'a>(
     alloc: Global,
     source: &'a Source,
     cut: Option<Cut>,
-) -> Result<Font<'a>, AllocError> {
+) -> Result<Font<'a>, AllocError>
+    ensures { IfOk result (λ f. IsPartOfFont f source.now) }
+{
     match cut {
         Some(cut) => lent_cut_font(alloc, source, cut),
         None => source.font(alloc),
@@ -33,9 +42,11 @@ fn each<'a>(
     alloc: Global,
     source: &'a Source,
     cuts: &[Option<Cut>],
-) -> Result<Vec<Font<'a>>, AllocError> {
+) -> Result<Vec<Font<'a>>, AllocError>
+    ensures { IfOk result (λ v. AllByRecursion (λ f. IsPartOfFont f source.now) v.items) }
+{
     let mut fonts = Vec::new(alloc);
-    for cut in cuts {
+    'cuts: for cut in cuts {
         fonts.push(whole_or_cut(alloc, source, *cut)?)?;
     }
     Ok(fonts)
@@ -50,7 +61,7 @@ fn joined(
 ) -> Result<Vec<u8>, PartsFault> {
     let first = lent_cut_font(alloc, source, first)?;
     let rest = each(alloc, source, rest)?;
-    all(alloc, &first, rest.as_slice())
+    written(alloc, &first, rest.as_slice())
 }
 
 /// The same of Tiny.

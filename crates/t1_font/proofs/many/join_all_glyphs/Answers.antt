@@ -1,12 +1,12 @@
 use Rattle.std.proofs.Common.{ap, sym, subst, ◌∙◌, ◌++◌, [], List, map, take_all}
 use Rattle.std.specs.FinMap.{entries, from_entries}
-use Rattle.std.specs.List.{All, AllByRecursion}
+use Rattle.std.specs.List.{All}
 use Rattle.t1_font.specs.declared.font.Font.TheInside.{Inside}
 use Rattle.t1_font.specs.FontValue.{FontValue, Named, name_cmp}
 use Rattle.t1_font.specs.Joins.{join_all_parts}
 use Rattle.t1_font.specs.Lent.{lent_glyph, HasIn}
 use Rattle.t1_font.specs.Maps.{merged, IsPartOf}
-use Rattle.t1_font.proofs.Joining.{entries_make, more_merged, entries_more, are_in, holds_there, joined_next, IsEntry}
+use Rattle.t1_font.proofs.Joining.{entries_make, more_merged, entries_more, are_in, holds_there, joined_next}
 use Rattle.t1_font.proofs.many.join_all_glyphs.Goals as goal
 
 pub rest-init : goal.rest-init
