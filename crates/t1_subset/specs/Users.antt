@@ -26,6 +26,12 @@ with_user (Some []) None = Some []
 with_user (Some []) (Some n) = Some (name_meaning (Some n))
 with_user (Some (mark ∷ n)) u = Some (mark ∷ n)
 
+-- the entry of a Subr among those that a glyph executes: none for nobody
+abbrev pub if_used : State → State
+if_used None = None
+if_used (Some []) = None
+if_used (Some (mark ∷ n)) = Some (mark ∷ n)
+
 -- the name of the glyph that is noted for the index
 abbrev pub user_at : TableMeaning → ℕ → Option (List ℕ)
 user_at users i = behind_mark (maps.get users (of_number i))

@@ -13,7 +13,7 @@ use crate::name_states::NameTable;
 use crate::shared::{Shared, same_bytes};
 use crate::state_value::States;
 use crate::tables::{code_table, subr_table};
-use crate::users::{no_users, note_users};
+use crate::users::{no_users, note_users, used};
 use std::alloc::{AllocError, Global};
 use t1_font::Font;
 use t1_run::Called;
@@ -55,7 +55,7 @@ pub(crate) fn callers_of<'t, 'a>(
     }
     Ok(Callers {
         font,
-        users,
+        users: used(alloc, &users)?,
         seekers,
     })
 }

@@ -68,7 +68,7 @@ pub(crate) fn subr_table<'a>(
     ensures { IfOk result (λ table. table ≡ numbered (used_subrs profile font.now)) }
 {
     font.proof_is_font();
-    let mut table = Table::with_capacity(alloc, users.entries().count())?;
+    let mut table = Table::new(alloc);
     'indices: for index in 0..font.count() {
         put(
             &mut table,

@@ -1,6 +1,6 @@
 //! The smallest glyph that executes each Subr of a font.
 
-ghost use Rattle.std.specs.Prelude.{◌≡◌, ℕ, [], IfOk, OnOk, None, Some, cond};
+ghost use Rattle.std.specs.Prelude.{◌≡◌, ℕ, List, [], IfOk, OnOk, None, Some, cond};
 ghost use Rattle.std.specs.Option.{option_map};
 ghost use Rattle.std.specs.FinMap as maps;
 ghost use Rattle.std.specs.FinSet as sets;
@@ -8,7 +8,7 @@ ghost use Rattle.t1_join.specs.Meaning.{of_number};
 ghost use Rattle.t1_subset.specs.StateTables.{numbered};
 ghost use Rattle.t1_subset.specs.Profile.{set_of};
 ghost use Rattle.t1_subset.specs.Shared.{same_number};
-ghost use Rattle.t1_subset.specs.Users.{user_meaning, unused, with_user, user_at};
+ghost use Rattle.t1_subset.specs.Users.{user_meaning, unused, with_user, if_used, user_at};
 
 use std::alloc::{AllocError, Global};
 use t1_font::Font;
@@ -42,24 +42,16 @@ impl<'a> Kept for User<'a> {
     }
 }
 
-/// The smallest glyph that executes each Subr of a font, by index. It has entries for the Subrs that are present and for
-/// no others, so a font that declares many and has few takes no more room than its file.
+/// The smallest glyph that executes each Subr of a font, by index. While glyphs are noted, it has an entry for each Subr
+/// that is present. What is kept of a font has entries for the Subrs that a glyph executes and for no others, so a font
+/// of many stubs takes little room.
 pub(crate) type Users<'a> = Table<u16, User<'a>>;
-
-/// How many Subrs the font has.
-fn subr_count(font: &Font<'_>) -> usize {
-    let mut count: usize = 0;
-    'indices: for _index in font.indices() {
-        count = count.saturating_add(1);
-    }
-    count
-}
 
 /// `Nobody` for each Subr of the font.
 pub(crate) fn no_users<'a>(alloc: Global, font: &Font<'_>) -> Result<Users<'a>, AllocError>
     ensures { IfOk result (λ users. users ≡ numbered (unused font.now.subrs)) }
 {
-    let mut users = Table::with_capacity(alloc, subr_count(font))?;
+    let mut users = Table::with_capacity(alloc, font.subrs().len())?;
     'indices: for index in font.indices() {
         users.insert(index, User::Nobody)?;
     }
@@ -94,6 +86,20 @@ pub(crate) fn note_users<'a>(
         note_user(users, *index, glyph)?;
     }
     Ok(())
+}
+
+/// The users that are glyphs. The table has no entry for a Subr that nobody executes.
+pub(crate) fn used<'a>(alloc: Global, users: &Users<'a>) -> Result<Users<'a>, AllocError>
+    ensures { IfOk result (λ used. (q : List ℕ) → maps.get used q ≡ if_used (maps.get users.now q)) }
+{
+    let mut used = Table::new(alloc);
+    'entries: for (index, user) in users.entries() {
+        match user {
+            User::Nobody => {}
+            User::Glyph(glyph) => used.insert(*index, User::Glyph(glyph))?,
+        }
+    }
+    Ok(used)
 }
 
 /// The smallest glyph that executes the index.

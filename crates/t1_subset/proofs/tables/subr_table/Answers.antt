@@ -14,7 +14,7 @@ some_lent None = refl
 some_lent (Some s) = refl
 
 pub indices-init : goal.indices-init
-indices-init c = has_none _ (subr_state profile c.args.font.now) c.in_ok-table.ensures
+indices-init c = has_none _ (subr_state profile c.args.font.now) c.new-table.ensures
 
 pub indices-preserved : goal.indices-preserved
 indices-preserved c =
