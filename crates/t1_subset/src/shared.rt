@@ -13,26 +13,27 @@ ghost use Rattle.t1_subset.specs.Differences.{shell_part};
 use crate::conflict::ShellPart;
 use std::alloc::{AllocError, Global};
 use std::marker::Model;
-use t1_font::{Font, Part, Shell};
+use t1_font::{Font, Numbered, Part, Shell};
 
 /// What fonts have to share to join: the shell, the Encoding if it is a word, and which Subrs are present.
 #[derive(Drop)]
 pub(crate) struct Shared<'a> {
     shell: &'a Shell,
     word: Option<&'a [u8]>,
-    /// The indices of the Subrs that are present, upwards.
-    present: Vec<u16>,
+    /// The Subrs. Only their indices count here, and a table of a source is lent.
+    subrs: Numbered<'a>,
 }
 
 impl<'a> Model for Shared<'a> {
     ghost use Rattle.std.specs.Option.{option_map};
+    ghost use Rattle.std.specs.FinMap.{keys};
     ghost use Rattle.t1_subset.specs.Shared.{Shared as SharedValue, shared_code};
 
     ghost Value = { SharedValue };
 
     ghost coded = { shared_code };
 
-    ghost view = { λ s. (s.shell.now, (option_map (λ w. w.now) s.word, s.present.items)) };
+    ghost view = { λ s. (s.shell.now, (option_map (λ w. w.now) s.word, keys s.subrs)) };
 }
 
 /// The parts of a shell, in the order in which they are compared.
@@ -68,11 +69,21 @@ pub(crate) fn differ(left: Option<&[u8]>, right: Option<&[u8]>) -> bool
     }
 }
 
-/// Whether the indices are the same.
-fn same_indices(left: &[u16], right: &[u16]) -> bool
-    ensures { result ≡ same_bytes left.now right.now }
+/// Whether two tables of Subrs have the same indices.
+fn same_indices(left: &Numbered<'_>, right: &Numbered<'_>) -> bool
+    ensures { result ≡ same_bytes (maps.keys left.now) (maps.keys right.now) }
 {
-    left == right
+    if left.len() != right.len() {
+        return false;
+    }
+    let mut others = right.entries();
+    'entries: for (index, _) in left.entries() {
+        match others.next() {
+            Some((other, _)) if other == index => {}
+            _ => return false,
+        }
+    }
+    others.next().is_none()
 }
 
 /// Whether both are the same word, or neither is a word.
@@ -111,7 +122,7 @@ fn same_part(left: &Shared<'_>, right: &Shared<'_>, part: ShellPart) -> bool
         ShellPart::SubrsTable => {
             own.has_subrs() == other.has_subrs()
                 && own.declared_count() == other.declared_count()
-                && same_indices(&left.present, &right.present)
+                && same_indices(&left.subrs, &right.subrs)
         }
         ShellPart::SubrsWords => {
             same_text(own, other, Part::SubrsRd)
@@ -148,7 +159,7 @@ impl<'a> Shared<'a> {
         Ok(Shared {
             shell: font.shell(),
             word: font.encoding_word(),
-            present: font.indices().collect(alloc)?,
+            subrs: font.subrs().copy(alloc)?,
         })
     }
 
@@ -159,7 +170,7 @@ impl<'a> Shared<'a> {
         Ok(Shared {
             shell: self.shell,
             word: self.word,
-            present: Vec::from_slice(alloc, &self.present)?,
+            subrs: self.subrs.copy(alloc)?,
         })
     }
 

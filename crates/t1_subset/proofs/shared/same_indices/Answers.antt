@@ -1,6 +1,17 @@
-use Rattle.std.proofs.Common.{sym, ◌∙◌}
-use Rattle.std.proofs.lemmas.Map.Text.{is_eq-slice_cmp}
+use Rattle.std.proofs.Common.{◌≡◌, ap, sym, ◌∙◌, length}
+use Rattle.std.proofs.lemmas.List.{length-map}
+use Rattle.std.specs.FinMap as maps
+use Rattle.t1_font.specs.FontValue.{Numbered}
+use Rattle.t1_subset.proofs.Sets.{not_so}
+use Rattle.t1_subset.proofs.Shares.{bytes_decide}
 use Rattle.t1_subset.proofs.shared.same_indices.Goals as goal
 
-pub returns : goal.returns
-returns c = c.eq.ensures ∙ sym (is_eq-slice_cmp c.args.left.now c.args.right.now)
+-- a table has as many entries as keys
+counted : (m : Numbered) → maps.len m ≡ length (maps.keys m)
+counted m = maps.len-entries m ∙ sym (length-map (maps.entries m) (λ e. e.0))
+
+pub returns-then-len : goal.returns-then-len
+returns-then-len c =
+    let m = c.args.left.now in
+    let n = c.args.right.now in
+    sym (not_so _ (λ h. c.if-len.true (c.len.ensures ∙ counted m ∙ ap length (bytes_decide.so (maps.keys m) (maps.keys n) h) ∙ sym (c.len-2.ensures ∙ counted n))))
