@@ -8,7 +8,7 @@ use std::rt::Files;
 use std::{fs, io};
 use t1_cmd::{
     Counted, Reason, RunFault, run_check, run_convert, run_join, run_list, run_merge, run_rejoin,
-    run_show, run_subset, status, write_fault, write_text,
+    run_show, run_subset, status, write_fault,
 };
 use t1_font::Form;
 
@@ -21,10 +21,8 @@ fn not_opened(error: io::Error) -> RunFault {
     }
 }
 
-/// Writes a result to standard output.
-fn print<O: Write + Drop>(out: O, text: &[u8]) -> Result<(), RunFault> {
-    let mut out = Counted::new(out);
-    write_text(&mut out, text)?;
+/// Flushes standard output behind a result.
+fn flush<O: Write + Drop>(mut out: Counted<O>) -> Result<(), RunFault> {
     out.flush().map_err(|_| RunFault::Write)
 }
 
@@ -37,14 +35,14 @@ fn join<R: Files, O: Write + Drop>(
 ) -> Result<(), RunFault> {
     let left = fs::open(rt, left).map_err(not_opened)?;
     let right = fs::open(rt, right).map_err(not_opened)?;
-    let mut text = Vec::new(alloc);
+    let mut out = Counted::new(out);
     run_join(
         alloc,
         &mut Counted::new(left),
         &mut Counted::new(right),
-        &mut Counted::new(&mut text),
+        &mut out,
     )?;
-    print(out, text.as_slice())
+    flush(out)
 }
 
 /// The font that the words name, opened.
@@ -60,9 +58,9 @@ fn check<R: Files, O: Write + Drop>(
     out: O,
 ) -> Result<(), RunFault> {
     let mut input = font(rt, given)?;
-    let mut text = Vec::new(alloc);
-    run_check(alloc, &mut input, &mut Counted::new(&mut text))?;
-    print(out, text.as_slice())
+    let mut out = Counted::new(out);
+    run_check(alloc, &mut input, &mut out)?;
+    flush(out)
 }
 
 fn list<R: Files, O: Write + Drop>(
@@ -72,9 +70,9 @@ fn list<R: Files, O: Write + Drop>(
     out: O,
 ) -> Result<(), RunFault> {
     let mut input = font(rt, given)?;
-    let mut text = Vec::new(alloc);
-    run_list(alloc, &mut input, &mut Counted::new(&mut text))?;
-    print(out, text.as_slice())
+    let mut out = Counted::new(out);
+    run_list(alloc, &mut input, &mut out)?;
+    flush(out)
 }
 
 fn show<R: Files, O: Write + Drop>(
@@ -85,14 +83,9 @@ fn show<R: Files, O: Write + Drop>(
 ) -> Result<(), RunFault> {
     let name = given.get_str("NAME").unwrap_or("");
     let mut input = font(rt, given)?;
-    let mut text = Vec::new(alloc);
-    run_show(
-        alloc,
-        &mut input,
-        name.as_bytes(),
-        &mut Counted::new(&mut text),
-    )?;
-    print(out, text.as_slice())
+    let mut out = Counted::new(out);
+    run_show(alloc, &mut input, name.as_bytes(), &mut out)?;
+    flush(out)
 }
 
 /// The file that the words name for the result.
