@@ -34,5 +34,6 @@ pub mod rows
 pub mod CutEntries
 pub mod CutLoops
 pub mod LentTables
+pub mod FilledTables
 pub mod TablePasses
 pub mod even_fonts

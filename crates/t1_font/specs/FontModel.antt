@@ -12,7 +12,7 @@ use Rattle.t1_font.specs.declared.font.LentEncoding.TheVariants as lent
 use Rattle.t1_font.specs.declared.font.Part.{Part}
 use Rattle.t1_font.specs.declared.font.Part.TheVariants.{Head, ClearTail, Private, Middle, Tail, SubrsRd, SubrsPut, SubrsDef, GlyphsRd, GlyphsDef}
 use Rattle.t1_font.specs.FontValue.{FontValue, Shell, SubrsShell, Encoding, Word, Codes, Numbered, Named, declared_count}
-use Rattle.t1_font.specs.Lent.{bytes_code, numbered_code, named_code}
+use Rattle.t1_font.specs.Codes.{bytes_code, numbered_code, named_code}
 
 -- ---- views
 

@@ -10,7 +10,7 @@ use Rattle.t1_font.specs.declared.gathered.Gathered.TheInside.{Inside}
 use Rattle.t1_font.specs.declared.ranges.Range.{Range}
 use Rattle.t1_font.specs.FontValue.{Numbered, Named}
 use Rattle.t1_font.specs.Entries.{has_name, map_of}
-use Rattle.t1_font.specs.Lent.{bytes_code, numbered_code, named_code}
+use Rattle.t1_font.specs.Codes.{bytes_code, numbered_code, named_code}
 use Rattle.t1_font.specs.Ranges.{bytes_at, AllInside, NamesInside, named_at}
 
 -- what is left of the private text; the last name of each code, `.notdef` among them, and the last plain charstring of

@@ -1,8 +1,7 @@
--- What borrowed entries stand for, and the codes of finite maps to byte lists.
-use Rattle.std.specs.Prelude.{◌≡◌, ℕ, List, Some, map}
+-- What borrowed entries stand for.
+use Rattle.std.specs.Prelude.{◌≡◌, ℕ, List, Some, map, unwrap_or}
 use Rattle.std.specs.Borrow.{Bor}
-use Rattle.std.specs.Coded.{Coded, coded_list, coded_ℕ}
-use Rattle.std.specs.FinMap.{code, get, from_entries}
+use Rattle.std.specs.FinMap.{get, from_entries}
 use Rattle.std.specs.List.{AllByRecursion}
 use Rattle.t1_font.specs.declared.lent.NumberedForm.{NumberedForm}
 use Rattle.t1_font.specs.declared.lent.NumberedForm.TheVariants as numbers
@@ -11,15 +10,6 @@ use Rattle.t1_font.specs.declared.lent.NamedForm.{NamedForm}
 use Rattle.t1_font.specs.declared.lent.NamedForm.TheVariants as names
 use Rattle.t1_font.specs.FontValue.{Numbered, Named}
 use Rattle.t1_font.specs.Ranges.{numbered_at, named_at}
-
-abbrev pub bytes_code : Coded (List ℕ)
-bytes_code = coded_list coded_ℕ
-
-abbrev pub numbered_code : Coded Numbered
-numbered_code = code coded_ℕ bytes_code
-
-abbrev pub named_code : Coded Named
-named_code = code bytes_code bytes_code
 
 -- an entry by number
 abbrev pub lent_number : ℕ × Bor (List ℕ) → ℕ × List ℕ
@@ -33,9 +23,14 @@ lent_name e = (e.0.now, e.1.now)
 abbrev pub lent_glyph : Glyph → List ℕ × List ℕ
 lent_glyph g = named_at g.buffer.now.items g.places.now
 
+-- an entry by number, or in its place the other table's at that number
+abbrev pub filled_at : Numbered → ℕ × Bor (List ℕ) → ℕ × List ℕ
+filled_at own e = (e.0, unwrap_or (get own e.0) e.1.now)
+
 -- the entries of a table by number, and of one by name, wherever they stand
 abbrev pub numbered_entries : NumberedForm → List (ℕ × List ℕ)
 numbered_entries (numbers.Stored buffer places) = map (numbered_at buffer.now) places.now
+numbered_entries (numbers.Filled own others) = map (filled_at own) others.now
 numbered_entries (numbers.Made entries) = map lent_number entries.items
 
 abbrev pub named_entries : NamedForm → List (List ℕ × List ℕ)

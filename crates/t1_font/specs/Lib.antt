@@ -36,3 +36,4 @@ pub mod Filling
 pub mod EveningLaws
 pub mod WriteLaws
 pub mod Parts
+pub mod Codes

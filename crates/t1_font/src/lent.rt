@@ -1,8 +1,8 @@
 //! Tables of borrowed byte strings, by number and by name, in the order of their keys.
 //!
 //! The byte strings of a source stand in its buffer, and the source's own table says where, so that table is lent and not
-//! copied. A table that a cut or a join makes has entries of its own. Only `len`, `at` and `place_of` ask which of the two
-//! a table is; all other functions go by places.
+//! copied. A table that a cut or a join makes has entries of its own, and one that is filled with stubs shares those with
+//! others. Only `len`, `at` and `place_of` ask which of these a table is; all other functions go by places.
 
 ghost use Rattle.std.specs.Prelude.{◌≡◌, ◌+◌, ◌<◌, max, map, IfOk, IfSome};
 ghost use Rattle.std.specs.List.{slice_get};
@@ -13,10 +13,11 @@ ghost use Rattle.t1_join.specs.TableMeaning.{Rises};
 ghost use Rattle.t1_font.specs.FontValue.{name_cmp, total, subr_weight, glyph_weight};
 ghost use Rattle.t1_font.specs.FontModel.{clamp};
 ghost use Rattle.t1_font.specs.Filling.{has_none};
-ghost use Rattle.t1_font.specs.Lent.{lent_number, lent_glyph};
+ghost use Rattle.t1_font.specs.Lent.{lent_number, filled_at, lent_glyph};
 ghost use Rattle.t1_font.specs.Ranges.{numbered_at, named_at};
 
 use crate::ranges::Range;
+use crate::stored::StoredSubrs;
 use std::alloc::{AllocError, Global};
 use std::marker::Model;
 
@@ -43,6 +44,11 @@ pub(crate) enum NumberedForm<'a> {
         buffer: &'a [u8],
         places: &'a [(u16, Range)],
     },
+    /// In a source, but at the indices of a list, with its entry where the source has none.
+    Filled {
+        own: StoredSubrs<'a>,
+        others: &'a [(u16, &'a [u8])],
+    },
     /// In a list of its own.
     Made(Vec<(u16, &'a [u8])>),
 }
@@ -58,7 +64,8 @@ impl<'a> Model for Numbered<'a> {
     ghost use Rattle.std.specs.FinMap.{from_sorted};
     ghost use Rattle.t1_join.specs.TableMeaning.{Rises};
     ghost use Rattle.t1_font.specs.FontValue.{Numbered as NumberedValue};
-    ghost use Rattle.t1_font.specs.Lent.{numbered_code, numbered_entries};
+    ghost use Rattle.t1_font.specs.Codes.{numbered_code};
+    ghost use Rattle.t1_font.specs.Lent.{numbered_entries};
 
     ghost Value = { NumberedValue };
 
@@ -80,6 +87,16 @@ impl<'a> Numbered<'a> {
         }
     }
 
+    /// The entries of a list, and in place of each the source's at its number, if it has one.
+    fn filled(own: StoredSubrs<'a>, others: &'a [(u16, &'a [u8])]) -> Self
+        requires { Rises nat_cmp (map lent_number others.now) }
+        ensures { result ≡ fin.from_sorted (map (filled_at own.entry) others.now) }
+    {
+        Numbered {
+            form: NumberedForm::Filled { own, others },
+        }
+    }
+
     /// The table of these entries.
     pub(crate) fn made(entries: Vec<(u16, &'a [u8])>) -> Self
         requires { Rises nat_cmp (map lent_number entries.items) }
@@ -96,6 +113,7 @@ impl<'a> Numbered<'a> {
     {
         match &self.form {
             NumberedForm::Stored { buffer, places } => Ok(Numbered::stored(buffer, places)),
+            NumberedForm::Filled { own, others } => Ok(Numbered::filled(own.again(), others)),
             NumberedForm::Made(entries) => Ok(Numbered::made(Vec::from_slice(alloc, entries)?)),
         }
     }
@@ -106,6 +124,7 @@ impl<'a> Numbered<'a> {
     {
         match &self.form {
             NumberedForm::Stored { places, .. } => places.len(),
+            NumberedForm::Filled { others, .. } => others.len(),
             NumberedForm::Made(entries) => entries.len(),
         }
     }
@@ -119,6 +138,10 @@ impl<'a> Numbered<'a> {
             NumberedForm::Stored { buffer, places } => {
                 let (number, body) = places.get(place)?;
                 Some((*number, body.of(buffer)))
+            }
+            NumberedForm::Filled { own, others } => {
+                let (number, other) = others.get(place)?;
+                Some((*number, own.get_or(*number, other)))
             }
             NumberedForm::Made(entries) => {
                 let (number, body) = entries.get(place)?;
@@ -135,6 +158,9 @@ impl<'a> Numbered<'a> {
         match &self.form {
             NumberedForm::Stored { places, .. } => {
                 places.binary_search_by_key(&number, |entry| entry.0).ok()
+            }
+            NumberedForm::Filled { others, .. } => {
+                others.binary_search_by_key(&number, |entry| entry.0).ok()
             }
             NumberedForm::Made(entries) => {
                 entries.binary_search_by_key(&number, |entry| entry.0).ok()
@@ -271,7 +297,8 @@ impl<'a> Model for Named<'a> {
     ghost use Rattle.std.specs.FinMap.{from_sorted};
     ghost use Rattle.t1_join.specs.TableMeaning.{Rises};
     ghost use Rattle.t1_font.specs.FontValue.{Named as NamedValue, name_cmp};
-    ghost use Rattle.t1_font.specs.Lent.{named_code, named_entries};
+    ghost use Rattle.t1_font.specs.Codes.{named_code};
+    ghost use Rattle.t1_font.specs.Lent.{named_entries};
 
     ghost Value = { NamedValue };
 

@@ -36,6 +36,7 @@ mod ranges;
 mod repeats;
 mod shell;
 mod source;
+mod stored;
 mod subrs;
 mod tags;
 mod words;

@@ -5,7 +5,7 @@ use Rattle.std.specs.Ordering.{nat_cmp, eq_by_cmp}
 use Rattle.std.specs.FinMap as maps
 use Rattle.t1_font.specs.FontValue.{FontValue, Shell, SubrsShell, declared_count}
 use Rattle.t1_font.specs.FontModel.{of_subrs, shell_code, word_of}
-use Rattle.t1_font.specs.Lent.{bytes_code}
+use Rattle.t1_font.specs.Codes.{bytes_code}
 use Rattle.t1_subset.specs.Interpreter.{same_bytes}
 use Rattle.t1_subset.specs.Searches.{first_where}
 

@@ -5,7 +5,7 @@ use Rattle.std.specs.Option.{option_and_then}
 use Rattle.std.specs.Cmp.{nat_cmp_total}
 use Rattle.std.specs.FinMap.{nat_cmp-IsAntisymmetric}
 use Rattle.std.proofs.lemmas.List.Sorted.{answers_always}
-use Rattle.t1_font.specs.Lent.{numbered_entries, lent_number}
+use Rattle.t1_font.specs.Lent.{numbered_entries, lent_number, filled_at}
 use Rattle.t1_font.specs.Ranges.{numbered_at}
 use Rattle.t1_font.proofs.LentTables.{found_place}
 use Rattle.t1_font.proofs.lent.Numbered.place_of.Goals as goal
@@ -15,6 +15,12 @@ returns-in-Stored c =
     let position = c.binary_search_by_key.ensures.position (λ e. e.0) (answers_always _ _ _ (λ f a r g called. search rules)) in
     ap (option_and_then (slice_get (entries c.args.self.now))) c.ok.ensures.value
     ∙ found_place (numbered_at c.in-Stored.buffer.now) c.in-Stored.places.now (numbered_entries c.self.inside.form) c.args.self.now (ap numbered_entries c.in-Stored.is) c.self.invariant c.self.view_is nat_cmp_total nat_cmp-IsAntisymmetric c.args.number c.binary_search_by_key.result c.binary_search_by_key.ensures.bound position
+
+pub returns-in-Filled : goal.returns-in-Filled
+returns-in-Filled c =
+    let position = c.binary_search_by_key-in-Filled.ensures.position (λ e. e.0) (answers_always _ _ _ (λ f a r g called. search rules)) in
+    ap (option_and_then (slice_get (entries c.args.self.now))) c.ok-in-Filled.ensures.value
+    ∙ found_place (filled_at c.in-Filled.own) c.in-Filled.others.now (numbered_entries c.self.inside.form) c.args.self.now (ap numbered_entries c.in-Filled.is) c.self.invariant c.self.view_is nat_cmp_total nat_cmp-IsAntisymmetric c.args.number c.binary_search_by_key-in-Filled.result c.binary_search_by_key-in-Filled.ensures.bound position
 
 pub returns-in-Made : goal.returns-in-Made
 returns-in-Made c =

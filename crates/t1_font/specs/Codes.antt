@@ -1,0 +1,14 @@
+-- The codes of byte lists, and of finite maps to byte lists.
+use Rattle.std.specs.Prelude.{List, ℕ}
+use Rattle.std.specs.Coded.{Coded, coded_list, coded_ℕ}
+use Rattle.std.specs.FinMap.{code}
+use Rattle.t1_font.specs.FontValue.{Numbered, Named}
+
+abbrev pub bytes_code : Coded (List ℕ)
+bytes_code = coded_list coded_ℕ
+
+abbrev pub numbered_code : Coded Numbered
+numbered_code = code coded_ℕ bytes_code
+
+abbrev pub named_code : Coded Named
+named_code = code bytes_code bytes_code

@@ -1,0 +1,86 @@
+//! The Subrs of a source, by index.
+
+ghost use Rattle.std.specs.Prelude.{◌≡◌, map, unwrap_or};
+ghost use Rattle.std.specs.List.{slice_get};
+ghost use Rattle.std.specs.Option.{option_map, option_and_then};
+ghost use Rattle.std.specs.Ordering.{nat_cmp};
+ghost use Rattle.std.specs.FinMap as fin;
+ghost use Rattle.t1_join.specs.TableMeaning.{Rises};
+ghost use Rattle.t1_font.specs.Ranges.{numbered_at};
+
+use crate::ranges::Range;
+use std::marker::Model;
+
+/// Charstrings by index as they stand in a source: its buffer, and the place of each there.
+#[derive(Drop)]
+pub(crate) struct StoredSubrs<'a> {
+    buffer: &'a [u8],
+    places: &'a [(u16, Range)],
+}
+
+impl<'a> Model for StoredSubrs<'a> {
+    ghost use Rattle.std.specs.Prelude.{map};
+    ghost use Rattle.std.specs.Ordering.{nat_cmp};
+    ghost use Rattle.std.specs.FinMap.{from_sorted};
+    ghost use Rattle.t1_join.specs.TableMeaning.{Rises};
+    ghost use Rattle.t1_font.specs.FontValue.{Numbered as NumberedValue};
+    ghost use Rattle.t1_font.specs.Codes.{numbered_code};
+    ghost use Rattle.t1_font.specs.Ranges.{numbered_at};
+
+    ghost Value = { NumberedValue };
+
+    ghost coded = { numbered_code };
+
+    ghost view = { λ s. from_sorted (map (numbered_at s.buffer.now) s.places.now) };
+
+    ghost invariant = { λ s. Rises nat_cmp (map (numbered_at s.buffer.now) s.places.now) };
+}
+
+impl<'a> StoredSubrs<'a> {
+    /// The table of a source, as it stands there.
+    pub(crate) fn new(buffer: &'a [u8], places: &'a [(u16, Range)]) -> Self
+        requires { Rises nat_cmp (map (numbered_at buffer.now) places.now) }
+        ensures { result ≡ fin.from_sorted (map (numbered_at buffer.now) places.now) }
+    {
+        StoredSubrs { buffer, places }
+    }
+
+    /// The same entries, lent once more.
+    pub(crate) fn again(&self) -> Self
+        ensures { result ≡ self.now }
+    {
+        StoredSubrs {
+            buffer: self.buffer,
+            places: self.places,
+        }
+    }
+
+    /// The place of an index, if it has an entry.
+    fn place_of(&self, index: u16) -> Option<usize>
+        ensures { option_and_then (slice_get (fin.entries self.now)) result
+            ≡ option_map (λ b. (index, b)) (fin.get self.now index) }
+    {
+        self.places
+            .binary_search_by_key(&index, |entry| entry.0)
+            .ok()
+    }
+
+    /// The charstring at an index.
+    fn get(&self, index: u16) -> Option<&'a [u8]>
+        ensures { option_map (λ b. b.now) result ≡ fin.get self.now index }
+    {
+        let place = self.place_of(index)?;
+        let (_, body) = self.places.get(place)?;
+        Some(body.of(self.buffer))
+    }
+
+    /// The same, or this if there is none.
+    pub(crate) fn get_or(&self, index: u16, other: &'a [u8]) -> &'a [u8]
+        ensures { result.now ≡ unwrap_or (fin.get self.now index) other.now }
+    {
+        match self.get(index) {
+            Some(body) => body,
+            None => other,
+        }
+    }
+}
