@@ -11,7 +11,7 @@ use crate::mergers::{fonts_of, merged_file, read_fonts};
 use crate::writing::write_text;
 use std::alloc::Global;
 use std::io::{Read, Write};
-use t1_font::{Form, PartsFault, Source, even_shells, fill_all};
+use t1_font::{Form, PartsFault, Source, even_shells, fill_all, stubs_of_all};
 use t1_subset::Conflict;
 
 // The canonical file of the font that these come to when they are made even.
@@ -21,7 +21,8 @@ fn rejoined_file(alloc: Global, sources: Vec<Source>, form: Form) -> Result<Vec<
 {
     let evened = even_shells(alloc, sources)?;
     let lent = fonts_of(alloc, evened.as_slice())?;
-    let filled = match fill_all(alloc, lent) {
+    let stubs = stubs_of_all(alloc, lent.as_slice())?;
+    let filled = match fill_all(alloc, lent, &stubs) {
         Ok(filled) => filled,
         Err(PartsFault::Limit) => return Err(RunFault::Refused(Reason::Merge(Conflict::Limit))),
         Err(PartsFault::Memory) => return Err(RunFault::Refused(Reason::Memory)),

@@ -1,5 +1,19 @@
 -- Tables that are filled from others.
-use Rattle.std.proofs.Common.{◌≡◌, ℕ, Bool, ◌&&◌, List, [], ◌∷◌, map, refl}
+use Rattle.std.proofs.Common.{◌≡◌, ℕ, ◌+◌, ◌<◌, ◌++◌, Bool, true, false, cond, ◌&&◌, List, [], ◌∷◌, map, length, take, drop, get_or, Option, Some, None, is_some, T, refl, sym, ap, subst, ◌∙◌, option_map, unwrap_or, true≢false, Result, Ok, Err, arith}
+use Rattle.std.specs.Prelude.{filter, nat_lt}
+use Rattle.std.specs.List.{AllByRecursion}
+use Rattle.std.specs.Cmp.{nat_cmp_total, Equal-is}
+use Rattle.std.specs.FinMap as fin
+use Rattle.t1_join.specs.TableMeaning.{Rises}
+use Rattle.t1_join.proofs.Searches.{searched}
+use Rattle.std.specs.List.Sorted.{IsSearchInRange, IsBinarySearchResult}
+use Rattle.std.specs.Result.{is_ok}
+use Rattle.t1_font.specs.declared.ranges.Range.{Range}
+use Rattle.t1_font.specs.Lent.{AreAmong}
+use Rattle.t1_font.specs.Maps.{merged}
+use Rattle.t1_font.specs.Ranges.{numbered_at}
+use Rattle.t1_font.proofs.MapLemmas.{get-merged, joined}
+use Rattle.std.specs.Ordering.{eq_by_cmp}
 use Rattle.std.specs.Borrow.{Bor}
 use Rattle.std.specs.Ordering.{nat_cmp, is_lt}
 use Rattle.std.specs.FinMap.{is_sorted}
@@ -16,3 +30,49 @@ module _ (own : Numbered) where
   pub same_rise : (es : List (ℕ × Bor (List ℕ))) → is_sorted nat_cmp (map (filled_at own) es) ≡ is_sorted nat_cmp (map lent_number es)
   same_rise [] = refl
   same_rise (e ∷ es) = λ i. same_below e.0 es i && same_rise es i
+
+-- ---- what is found
+
+module _ (own : Numbered) (q : ℕ) where
+  -- an entry is found as the one in whose place it stands
+  find_filled : (es : List (ℕ × Bor (List ℕ))) → fin.find nat_cmp q (map (filled_at own) es) ≡ option_map (unwrap_or (fin.get own q)) (fin.find nat_cmp q (map lent_number es))
+  find_filled [] = refl
+  find_filled (e ∷ es) = elim (eq_by_cmp nat_cmp q e.0) as (λ b. eq_by_cmp nat_cmp q e.0 ≡ b → cond b (Some (unwrap_or (fin.get own e.0) e.1.now)) (fin.find nat_cmp q (map (filled_at own) es)) ≡ option_map (unwrap_or (fin.get own q)) (cond b (Some e.1.now) (fin.find nat_cmp q (map lent_number es)))) [
+    | true ↦ λ t. ap (λ (k : ℕ). Some (unwrap_or (fin.get own k) e.1.now)) (sym (fin.nat_cmp-IsAntisymmetric q e.0 ((Equal-is (nat_cmp q e.0)).0 t)))
+    | false ↦ λ t. find_filled es
+  ] refl
+
+-- what holds of each key of a list holds of a key that is found
+holds_found : (buffer : List ℕ) (P : ℕ → Type 0) (q : ℕ) (c : List ℕ) (places : List (ℕ × Range)) → AllByRecursion (λ e. P e.0) places → fin.find nat_cmp q (map (numbered_at buffer) places) ≡ Some c → P q
+holds_found buffer P q c [] h e = cc
+holds_found buffer P q c (p ∷ places) h e = elim (eq_by_cmp nat_cmp q p.0) as (λ b. eq_by_cmp nat_cmp q p.0 ≡ b → cond b (Some (numbered_at buffer p).1) (fin.find nat_cmp q (map (numbered_at buffer) places)) ≡ Some c → P q) [
+  | true ↦ λ t is. subst P (sym (fin.nat_cmp-IsAntisymmetric q p.0 ((Equal-is (nat_cmp q p.0)).0 t))) h.0
+  | false ↦ λ t is. holds_found buffer P q c places h.1 is
+] refl e
+
+over : (x y : Option (List ℕ)) → ((c : List ℕ) → x ≡ Some c → is_some y ≡ true) → option_map (unwrap_or x) y ≡ joined x y
+over None None h = refl
+over None (Some d) h = refl
+over (Some c) None h = absurd (true≢false (sym (h c refl)))
+over (Some c) (Some d) h = refl
+
+module _ (buffer : List ℕ) (places : List (ℕ × Range)) (others : List (ℕ × Bor (List ℕ))) (own : Numbered) (is : fin.from_sorted (map (numbered_at buffer) places) ≡ own) (up : Rises nat_cmp (map (numbered_at buffer) places)) (rise : Rises nat_cmp (map lent_number others)) (among : AreAmong others places) where
+  there : (q : ℕ) (c : List ℕ) → fin.get own q ≡ Some c → fin.contains_key (fin.from_sorted {R = nat_cmp} (map lent_number others)) q ≡ true
+  there q c e = holds_found buffer (λ k. fin.contains_key (fin.from_sorted {R = nat_cmp} (map lent_number others)) k ≡ true) q c places among
+      (sym (fin.get-from_sorted nat_cmp (map (numbered_at buffer) places) q up) ∙ (ap (λ (m : Numbered). fin.get m q) is ∙ e))
+
+  -- a table that is filled from a list that has each of its numbers is both tables, merged
+  pub filled_is : fin.from_sorted {R = nat_cmp} (map (filled_at own) others) ≡ merged own (fin.from_sorted (map lent_number others))
+  filled_is = fin.same_map nat_cmp_total fin.nat_cmp-IsAntisymmetric _ _ (λ q.
+      fin.get-from_sorted nat_cmp (map (filled_at own) others) q (subst (λ (b : Bool). T b) (sym (same_rise own others)) rise)
+      ∙ (find_filled own q others
+      ∙ (ap (option_map (unwrap_or (fin.get own q))) (sym (fin.get-from_sorted nat_cmp (map lent_number others) q rise))
+      ∙ (over (fin.get own q) (fin.get (fin.from_sorted (map lent_number others)) q) (there q)
+      ∙ sym (get-merged nat_cmp_total fin.nat_cmp-IsAntisymmetric own (fin.from_sorted (map lent_number others)) q)))))
+
+-- a search finds a number exactly if the table of a list has it
+pub among_is : (q : ℕ) (es : List (ℕ × Bor (List ℕ))) (r : Result ℕ ℕ) → Rises nat_cmp (map lent_number es) → IsSearchInRange r (length es) → IsBinarySearchResult (λ e. nat_cmp e.0 q) es r
+    → is_ok r ≡ fin.contains_key (fin.from_sorted {R = nat_cmp} (map lent_number es)) q
+among_is q [] (Ok i) rise range at = absurd (omega (arith, range))
+among_is q (e ∷ es) (Ok i) rise range at = ap is_some (sym (searched nat_cmp_total lent_number q (e ∷ es) (Ok i) rise range at e))
+among_is q es (Err i) rise range at = ap is_some (sym (searched nat_cmp_total lent_number q es (Err i) rise range at))

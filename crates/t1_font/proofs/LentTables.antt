@@ -53,7 +53,7 @@ module _ {Y : Type 0} (ys : List Y) (i : ℕ) where
 
 -- a table, whose entries es are what is seen of ys
 module _ {K X Y : Type 0} {R : K → K → Ordering} (v : Y → K × X) (ys : List Y) (es : List (K × X)) (m : FinMap R X) (form : es ≡ map v ys) (h : Rises R es) (is : from_sorted es ≡ m) where
-  seen : map v ys ≡ entries m
+  pub seen : map v ys ≡ entries m
   seen = sym form ∙ (sym (entries-from_sorted R es h) ∙ ap entries is)
 
   pub count_is : length ys ≡ len m

@@ -1,7 +1,9 @@
 -- What borrowed entries stand for.
-use Rattle.std.specs.Prelude.{◌≡◌, ℕ, List, Some, map, unwrap_or}
+use Rattle.std.specs.Prelude.{◌≡◌, ℕ, List, Some, map, true, unwrap_or}
 use Rattle.std.specs.Borrow.{Bor}
-use Rattle.std.specs.FinMap.{get, from_entries}
+use Rattle.std.specs.FinMap.{get, contains_key, from_sorted, from_entries}
+use Rattle.std.specs.Ordering.{nat_cmp}
+use Rattle.t1_font.specs.declared.ranges.Range.{Range}
 use Rattle.std.specs.List.{AllByRecursion}
 use Rattle.t1_font.specs.declared.lent.NumberedForm.{NumberedForm}
 use Rattle.t1_font.specs.declared.lent.NumberedForm.TheVariants as numbers
@@ -26,6 +28,10 @@ lent_glyph g = named_at g.buffer.now.items g.places.now
 -- an entry by number, or in its place the other table's at that number
 abbrev pub filled_at : Numbered → ℕ × Bor (List ℕ) → ℕ × List ℕ
 filled_at own e = (e.0, unwrap_or (get own e.0) e.1.now)
+
+-- a list has an entry at the number of each place
+abbrev pub AreAmong : List (ℕ × Bor (List ℕ)) → List (ℕ × Range) → Type 0
+AreAmong others places = AllByRecursion (λ e. contains_key (from_sorted {R = nat_cmp} (map lent_number others)) e.0 ≡ true) places
 
 -- the entries of a table by number, and of one by name, wherever they stand
 abbrev pub numbered_entries : NumberedForm → List (ℕ × List ℕ)

@@ -4,8 +4,9 @@
 //! copied. A table that a cut or a join makes has entries of its own, and one that is filled with stubs shares those with
 //! others. Only `len`, `at` and `place_of` ask which of these a table is; all other functions go by places.
 
-ghost use Rattle.std.specs.Prelude.{◌≡◌, ◌+◌, ◌<◌, max, map, IfOk, IfSome};
+ghost use Rattle.std.specs.Prelude.{◌≡◌, ◌+◌, ◌<◌, max, map, filter, true, nat_lt, IfOk, IfSome};
 ghost use Rattle.std.specs.List.{slice_get};
+ghost use Rattle.t1_font.specs.Maps.{merged};
 ghost use Rattle.std.specs.Option.{option_map, option_and_then};
 ghost use Rattle.std.specs.Ordering.{nat_cmp};
 ghost use Rattle.std.specs.FinMap as fin;
@@ -13,7 +14,7 @@ ghost use Rattle.t1_join.specs.TableMeaning.{Rises};
 ghost use Rattle.t1_font.specs.FontValue.{name_cmp, total, subr_weight, glyph_weight};
 ghost use Rattle.t1_font.specs.FontModel.{clamp};
 ghost use Rattle.t1_font.specs.Filling.{has_none};
-ghost use Rattle.t1_font.specs.Lent.{lent_number, filled_at, lent_glyph};
+ghost use Rattle.t1_font.specs.Lent.{lent_number, filled_at, AreAmong, lent_glyph};
 ghost use Rattle.t1_font.specs.Ranges.{numbered_at, named_at};
 
 use crate::ranges::Range;
@@ -34,6 +35,44 @@ pub(crate) fn glyph_weight(len_iv: u8, len: usize) -> u64
     ensures { result ≡ clamp (256 + len_iv + len) }
 {
     (256 + len_iv as u64).saturating_add(len as u64)
+}
+
+/// Whether a list has an entry at a number.
+fn is_among(others: &[(u16, &[u8])], number: u16) -> bool
+    requires { Rises nat_cmp (map lent_number others.now) }
+    ensures { result
+        ≡ fin.contains_key (fin.from_sorted {R = nat_cmp} (map lent_number others.now)) number }
+{
+    others
+        .binary_search_by_key(&number, |entry| entry.0)
+        .is_ok()
+}
+
+/// Whether a list has an entry at the number of each place.
+fn are_among(places: &[(u16, Range)], others: &[(u16, &[u8])]) -> bool
+    requires { Rises nat_cmp (map lent_number others.now) }
+    ensures { result ≡ true → AreAmong others.now places.now }
+{
+    'places: for (number, _) in places {
+        if !is_among(others, *number) {
+            return false;
+        }
+    }
+    true
+}
+
+/// Whether all entries of a list are below a number.
+fn are_below(entries: &[(u16, &[u8])], number: u16) -> bool
+    ensures { result ≡ true
+        → filter (λ e. nat_lt e.0 number) (map lent_number entries.now)
+        ≡ map lent_number entries.now }
+{
+    'entries: for (there, _) in entries {
+        if *there >= number {
+            return false;
+        }
+    }
+    true
 }
 
 /// Where a table by number has its entries.
@@ -95,6 +134,33 @@ impl<'a> Numbered<'a> {
         Numbered {
             form: NumberedForm::Filled { own, others },
         }
+    }
+
+    /// The entries, if the table has them in a list of its own and all are below a number.
+    pub(crate) fn made_below(&self, number: u16) -> Option<&[(u16, &'a [u8])]>
+        ensures { IfSome result (λ es. map lent_number es.now
+            ≡ fin.entries (fin.retain_keys self.now (λ i. nat_lt i number))) }
+    {
+        match &self.form {
+            NumberedForm::Made(entries) if are_below(entries, number) => Some(entries.as_slice()),
+            _ => None,
+        }
+    }
+
+    /// The entries of a source, and those of a list where it has none, if the list has each of its numbers. They take no
+    /// room.
+    pub(crate) fn filled_with(&self, others: &'a [(u16, &'a [u8])]) -> Option<Self>
+        requires { Rises nat_cmp (map lent_number others.now) }
+        ensures { IfSome result (λ m. m
+            ≡ merged self.now (fin.from_sorted (map lent_number others.now))) }
+    {
+        let NumberedForm::Stored { buffer, places } = &self.form else {
+            return None;
+        };
+        if !are_among(places, others) {
+            return None;
+        }
+        Some(Numbered::filled(StoredSubrs::new(buffer, places), others))
     }
 
     /// The table of these entries.

@@ -1,7 +1,7 @@
 //! Sources made even, and fonts that are filled.
 
 use super::{GLYPHS, joined, lent_counts, source};
-use crate::{Font, Part, PartsFault, STUB, Source, WEIGHT_LIMIT, even_shells, fill_all};
+use crate::{Font, Part, PartsFault, STUB, Source, WEIGHT_LIMIT, even_shells, fill_all, stubs_of_all};
 use std::alloc::{AllocError, Global};
 use std::test::Fail;
 
@@ -71,7 +71,9 @@ fn fonts_of(alloc: Global, sources: &[Source]) -> Result<Vec<Font<'_>>, AllocErr
 
 /// The marks of the fonts of sources when they are filled.
 fn lent_marks(alloc: Global, sources: &[Source]) -> Result<Vec<u8>, PartsFault> {
-    let filled = fill_all(alloc, fonts_of(alloc, sources)?)?;
+    let fonts = fonts_of(alloc, sources)?;
+    let stubs = stubs_of_all(alloc, fonts.as_slice())?;
+    let filled = fill_all(alloc, fonts, &stubs)?;
     let mut marks = Vec::new(alloc);
     for font in filled.as_slice() {
         put_marks(&mut marks, font)?;

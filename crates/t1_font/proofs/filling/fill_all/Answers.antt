@@ -13,16 +13,16 @@ fonts-init c = none_filled (into_iter_items c.into_iter-font-iterator.result) c.
 pub fonts-preserved : goal.fonts-preserved
 fonts-preserved c =
     let fs = into_iter_items c.into_iter-font-iterator.result in
-    let at : c.in_ok-stubs.stubs ≡ stubs_at (indices_of_all fs) = c.in_ok-stubs.ensures ∙ ap (λ (gs : List FontValue). stubs_at (indices_of_all gs)) (c.as_slice.ensures.value ∙ sym c.into_iter-font-iterator.ensures.into_iter_gives.0) in
-    fills_on c.in_ok-stubs.stubs fs c.fonts.all.items (into_iter_items c.fonts.font-iterator) (into_iter_items c.next.new.self) c.in-Some.font c.fonts.invariant c.in-Some.ensures.steps.0 at
+    let at : c.args.stubs.now ≡ stubs_at (indices_of_all fs) = c.requires ∙ ap (λ (gs : List FontValue). stubs_at (indices_of_all gs)) (sym c.into_iter-font-iterator.ensures.into_iter_gives.0) in
+    fills_on c.args.stubs.now fs c.fonts.all.items (into_iter_items c.fonts.font-iterator) (into_iter_items c.next.new.self) c.in-Some.font c.fonts.invariant c.in-Some.ensures.steps.0 at
     c.keep.new.fonts.items c.in-Ok.font c.in-Ok.ensures.filled c.in-Ok.ensures.light c.in_ok-keep.ensures
 
 pub returns-in-Err : goal.returns-in-Err
 returns-in-Err c =
     let fs = into_iter_items c.into_iter-font-iterator.result in
-    let at : c.in_ok-stubs.stubs ≡ stubs_at (indices_of_all fs) = c.in_ok-stubs.ensures ∙ ap (λ (gs : List FontValue). stubs_at (indices_of_all gs)) (c.as_slice.ensures.value ∙ sym c.into_iter-font-iterator.ensures.into_iter_gives.0) in
+    let at : c.args.stubs.now ≡ stubs_at (indices_of_all fs) = c.requires ∙ ap (λ (gs : List FontValue). stubs_at (indices_of_all gs)) (sym c.into_iter-font-iterator.ensures.into_iter_gives.0) in
     subst (λ (gs : List FontValue). FillRefuses gs c.in-Err.fault) c.into_iter-font-iterator.ensures.into_iter_gives.0
-    (refused_there c.in_ok-stubs.stubs fs c.fonts.all.items (into_iter_items c.fonts.font-iterator) (into_iter_items c.next.new.self) c.in-Some.font c.fonts.invariant c.in-Some.ensures.steps.0 at c.in-Err.fault c.in-Err.ensures.filled)
+    (refused_there c.args.stubs.now fs c.fonts.all.items (into_iter_items c.fonts.font-iterator) (into_iter_items c.next.new.self) c.in-Some.font c.fonts.invariant c.in-Some.ensures.steps.0 at c.in-Err.fault c.in-Err.ensures.filled)
 
 pub returns : goal.returns
 returns c =

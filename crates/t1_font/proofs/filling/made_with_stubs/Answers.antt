@@ -9,7 +9,7 @@ use Rattle.t1_font.specs.FontValue.{Numbered}
 use Rattle.t1_font.specs.Lent.{lent_number}
 use Rattle.t1_font.proofs.CutEntries.{entries-retain}
 use Rattle.t1_font.proofs.LentTables.{all_out}
-use Rattle.t1_font.proofs.filling.with_stubs.Goals as goal
+use Rattle.t1_font.proofs.filling.made_with_stubs.Goals as goal
 
 pub stubs-init : goal.stubs-init
 stubs-init c =
