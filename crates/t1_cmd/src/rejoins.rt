@@ -1,5 +1,8 @@
 //! The engine that rejoins fonts that other programs cut.
-ghost use Rattle.std.specs.Prelude.{IfOk, IfErr, Ok};
+ghost use Rattle.std.specs.Prelude.{◌≡◌, List, IfOk, IfErr, Ok};
+ghost use Rattle.std.specs.FinMap.{keys};
+ghost use Rattle.t1_font.specs.FontValue.{FontValue};
+ghost use Rattle.t1_font.specs.Evening.{stubs_at, indices_of_all, evened_shells};
 ghost use Rattle.t1_cmd.specs.Fonts.{font_input};
 ghost use Rattle.t1_cmd.specs.Runs.{RunEnds, Succeeds};
 ghost use Rattle.t1_cmd.specs.Mergers.{inputs_of, InTurns};
@@ -9,10 +12,42 @@ use crate::counting::Counted;
 use crate::faults::{Reason, RunFault};
 use crate::mergers::{fonts_of, merged_file, read_fonts};
 use crate::writing::write_text;
-use std::alloc::Global;
+use std::alloc::{AllocError, Global};
 use std::io::{Read, Write};
-use t1_font::{Form, PartsFault, Source, even_shells, fill_all, stubs_of_all};
+use t1_font::{Form, PartsFault, Source, even_shells, fill_all, stub_indices};
 use t1_subset::Conflict;
+
+// The indices at which the fonts of sources have Subrs.
+fn indices_of(alloc: Global, sources: &[Source]) -> Result<Vec<u16>, AllocError>
+    ensures { IfOk result (λ v. v.items ≡ keys (stubs_at (indices_of_all sources.now))) }
+{
+    let fonts = fonts_of(alloc, sources)?;
+    stub_indices(alloc, fonts.as_slice())
+}
+
+// The canonical file of the font that sources of one declared count come to when they are filled at these indices.
+fn filled_file<'a>(
+    alloc: Global,
+    sources: &'a [Source],
+    indices: &'a [u16],
+    form: Form,
+) -> Result<Vec<u8>, RunFault>
+    requires { indices.now ≡ keys (stubs_at (indices_of_all sources.now)) }
+    ensures text { (fonts : List FontValue)
+        → sources.now ≡ evened_shells fonts
+        → IfOk result (λ text. RejoinsTo form fonts (Ok text.items)) }
+    ensures refused { (fonts : List FontValue)
+        → sources.now ≡ evened_shells fonts
+        → IfErr result (λ e. RejoinStops form fonts e) }
+{
+    let lent = fonts_of(alloc, sources)?;
+    let filled = match fill_all(alloc, lent, indices) {
+        Ok(filled) => filled,
+        Err(PartsFault::Limit) => return Err(RunFault::Refused(Reason::Merge(Conflict::Limit))),
+        Err(PartsFault::Memory) => return Err(RunFault::Refused(Reason::Memory)),
+    };
+    merged_file(alloc, filled, form)
+}
 
 // The canonical file of the font that these come to when they are made even.
 fn rejoined_file(alloc: Global, sources: Vec<Source>, form: Form) -> Result<Vec<u8>, RunFault>
@@ -20,14 +55,8 @@ fn rejoined_file(alloc: Global, sources: Vec<Source>, form: Form) -> Result<Vec<
     ensures refused { IfErr result (λ e. RejoinStops form sources.items e) }
 {
     let evened = even_shells(alloc, sources)?;
-    let lent = fonts_of(alloc, evened.as_slice())?;
-    let stubs = stubs_of_all(alloc, lent.as_slice())?;
-    let filled = match fill_all(alloc, lent, &stubs) {
-        Ok(filled) => filled,
-        Err(PartsFault::Limit) => return Err(RunFault::Refused(Reason::Merge(Conflict::Limit))),
-        Err(PartsFault::Memory) => return Err(RunFault::Refused(Reason::Memory)),
-    };
-    merged_file(alloc, filled, form)
+    let indices = indices_of(alloc, evened.as_slice())?;
+    filled_file(alloc, evened.as_slice(), indices.as_slice(), form)
 }
 
 /// Writes the canonical file, in one of the two forms, of the font that fonts come to when they are made even and then

@@ -1,5 +1,5 @@
 -- Tables that are filled from others.
-use Rattle.std.proofs.Common.{◌≡◌, ℕ, ◌+◌, ◌<◌, ◌++◌, Bool, true, false, cond, ◌&&◌, List, [], ◌∷◌, map, length, take, drop, get_or, Option, Some, None, is_some, T, refl, sym, ap, subst, ◌∙◌, option_map, unwrap_or, true≢false, Result, Ok, Err, arith}
+use Rattle.std.proofs.Common.{◌≡◌, ℕ, Bool, true, false, cond, ◌&&◌, List, [], ◌∷◌, map, length, Option, Some, None, is_some, T, refl, sym, ap, subst, ◌∙◌, option_map, unwrap_or, true≢false, Result, Ok, Err, arith}
 use Rattle.std.specs.Prelude.{filter, nat_lt}
 use Rattle.std.specs.List.{AllByRecursion}
 use Rattle.std.specs.Cmp.{nat_cmp_total, Equal-is}
@@ -9,36 +9,38 @@ use Rattle.t1_join.proofs.Searches.{searched}
 use Rattle.std.specs.List.Sorted.{IsSearchInRange, IsBinarySearchResult}
 use Rattle.std.specs.Result.{is_ok}
 use Rattle.t1_font.specs.declared.ranges.Range.{Range}
+use Rattle.t1_font.specs.Evening.{stubs_at, below}
+use Rattle.t1_font.proofs.CutEntries.{entries-retain}
 use Rattle.t1_font.specs.Lent.{AreAmong}
 use Rattle.t1_font.specs.Maps.{merged}
 use Rattle.t1_font.specs.Ranges.{numbered_at}
 use Rattle.t1_font.proofs.MapLemmas.{get-merged, joined}
 use Rattle.std.specs.Ordering.{eq_by_cmp}
-use Rattle.std.specs.Borrow.{Bor}
 use Rattle.std.specs.Ordering.{nat_cmp, is_lt}
 use Rattle.std.specs.FinMap.{is_sorted}
 use Rattle.std.specs.FinMap.Entries.{below_all}
+use Rattle.t1_font.specs.Cut.{stub}
 use Rattle.t1_font.specs.FontValue.{Numbered}
-use Rattle.t1_font.specs.Lent.{lent_number, filled_at}
+use Rattle.t1_font.specs.Lent.{stub_at, filled_at}
 
 module _ (own : Numbered) where
-  same_below : (k : ℕ) (es : List (ℕ × Bor (List ℕ))) → below_all nat_cmp k (map (filled_at own) es) ≡ below_all nat_cmp k (map lent_number es)
+  same_below : (k : ℕ) (es : List ℕ) → below_all nat_cmp k (map (filled_at own) es) ≡ below_all nat_cmp k (map stub_at es)
   same_below k [] = refl
-  same_below k (e ∷ es) = λ i. is_lt (nat_cmp k e.0) && same_below k es i
+  same_below k (e ∷ es) = λ i. is_lt (nat_cmp k e) && same_below k es i
 
-  -- entries rise as those in whose place they stand
-  pub same_rise : (es : List (ℕ × Bor (List ℕ))) → is_sorted nat_cmp (map (filled_at own) es) ≡ is_sorted nat_cmp (map lent_number es)
+  -- entries rise as stubs at the same indices
+  pub same_rise : (es : List ℕ) → is_sorted nat_cmp (map (filled_at own) es) ≡ is_sorted nat_cmp (map stub_at es)
   same_rise [] = refl
-  same_rise (e ∷ es) = λ i. same_below e.0 es i && same_rise es i
+  same_rise (e ∷ es) = λ i. same_below e es i && same_rise es i
 
 -- ---- what is found
 
 module _ (own : Numbered) (q : ℕ) where
-  -- an entry is found as the one in whose place it stands
-  find_filled : (es : List (ℕ × Bor (List ℕ))) → fin.find nat_cmp q (map (filled_at own) es) ≡ option_map (unwrap_or (fin.get own q)) (fin.find nat_cmp q (map lent_number es))
+  -- an entry is found as the stub there
+  find_filled : (es : List ℕ) → fin.find nat_cmp q (map (filled_at own) es) ≡ option_map (unwrap_or (fin.get own q)) (fin.find nat_cmp q (map stub_at es))
   find_filled [] = refl
-  find_filled (e ∷ es) = elim (eq_by_cmp nat_cmp q e.0) as (λ b. eq_by_cmp nat_cmp q e.0 ≡ b → cond b (Some (unwrap_or (fin.get own e.0) e.1.now)) (fin.find nat_cmp q (map (filled_at own) es)) ≡ option_map (unwrap_or (fin.get own q)) (cond b (Some e.1.now) (fin.find nat_cmp q (map lent_number es)))) [
-    | true ↦ λ t. ap (λ (k : ℕ). Some (unwrap_or (fin.get own k) e.1.now)) (sym (fin.nat_cmp-IsAntisymmetric q e.0 ((Equal-is (nat_cmp q e.0)).0 t)))
+  find_filled (e ∷ es) = elim (eq_by_cmp nat_cmp q e) as (λ b. eq_by_cmp nat_cmp q e ≡ b → cond b (Some (unwrap_or (fin.get own e) stub)) (fin.find nat_cmp q (map (filled_at own) es)) ≡ option_map (unwrap_or (fin.get own q)) (cond b (Some stub) (fin.find nat_cmp q (map stub_at es)))) [
+    | true ↦ λ t. ap (λ (k : ℕ). Some (unwrap_or (fin.get own k) stub)) (sym (fin.nat_cmp-IsAntisymmetric q e ((Equal-is (nat_cmp q e)).0 t)))
     | false ↦ λ t. find_filled es
   ] refl
 
@@ -56,23 +58,55 @@ over None (Some d) h = refl
 over (Some c) None h = absurd (true≢false (sym (h c refl)))
 over (Some c) (Some d) h = refl
 
-module _ (buffer : List ℕ) (places : List (ℕ × Range)) (others : List (ℕ × Bor (List ℕ))) (own : Numbered) (is : fin.from_sorted (map (numbered_at buffer) places) ≡ own) (up : Rises nat_cmp (map (numbered_at buffer) places)) (rise : Rises nat_cmp (map lent_number others)) (among : AreAmong others places) where
-  there : (q : ℕ) (c : List ℕ) → fin.get own q ≡ Some c → fin.contains_key (fin.from_sorted {R = nat_cmp} (map lent_number others)) q ≡ true
-  there q c e = holds_found buffer (λ k. fin.contains_key (fin.from_sorted {R = nat_cmp} (map lent_number others)) k ≡ true) q c places among
+module _ (buffer : List ℕ) (places : List (ℕ × Range)) (others : List ℕ) (own : Numbered) (is : fin.from_sorted (map (numbered_at buffer) places) ≡ own) (up : Rises nat_cmp (map (numbered_at buffer) places)) (rise : Rises nat_cmp (map stub_at others)) (among : AreAmong others places) where
+  there : (q : ℕ) (c : List ℕ) → fin.get own q ≡ Some c → fin.contains_key (fin.from_sorted {R = nat_cmp} (map stub_at others)) q ≡ true
+  there q c e = holds_found buffer (λ k. fin.contains_key (fin.from_sorted {R = nat_cmp} (map stub_at others)) k ≡ true) q c places among
       (sym (fin.get-from_sorted nat_cmp (map (numbered_at buffer) places) q up) ∙ (ap (λ (m : Numbered). fin.get m q) is ∙ e))
 
-  -- a table that is filled from a list that has each of its numbers is both tables, merged
-  pub filled_is : fin.from_sorted {R = nat_cmp} (map (filled_at own) others) ≡ merged own (fin.from_sorted (map lent_number others))
+  -- a table that is filled at the indices of a list, which has each of its own, is merged with the stubs there
+  pub filled_is : fin.from_sorted {R = nat_cmp} (map (filled_at own) others) ≡ merged own (fin.from_sorted (map stub_at others))
   filled_is = fin.same_map nat_cmp_total fin.nat_cmp-IsAntisymmetric _ _ (λ q.
       fin.get-from_sorted nat_cmp (map (filled_at own) others) q (subst (λ (b : Bool). T b) (sym (same_rise own others)) rise)
       ∙ (find_filled own q others
-      ∙ (ap (option_map (unwrap_or (fin.get own q))) (sym (fin.get-from_sorted nat_cmp (map lent_number others) q rise))
-      ∙ (over (fin.get own q) (fin.get (fin.from_sorted (map lent_number others)) q) (there q)
-      ∙ sym (get-merged nat_cmp_total fin.nat_cmp-IsAntisymmetric own (fin.from_sorted (map lent_number others)) q)))))
+      ∙ (ap (option_map (unwrap_or (fin.get own q))) (sym (fin.get-from_sorted nat_cmp (map stub_at others) q rise))
+      ∙ (over (fin.get own q) (fin.get (fin.from_sorted (map stub_at others)) q) (there q)
+      ∙ sym (get-merged nat_cmp_total fin.nat_cmp-IsAntisymmetric own (fin.from_sorted (map stub_at others)) q)))))
 
--- a search finds a number exactly if the table of a list has it
-pub among_is : (q : ℕ) (es : List (ℕ × Bor (List ℕ))) (r : Result ℕ ℕ) → Rises nat_cmp (map lent_number es) → IsSearchInRange r (length es) → IsBinarySearchResult (λ e. nat_cmp e.0 q) es r
-    → is_ok r ≡ fin.contains_key (fin.from_sorted {R = nat_cmp} (map lent_number es)) q
+-- a search finds an index exactly if a list has it
+pub among_is : (q : ℕ) (es : List ℕ) (r : Result ℕ ℕ) → Rises nat_cmp (map stub_at es) → IsSearchInRange r (length es) → IsBinarySearchResult (λ i. nat_cmp i q) es r
+    → is_ok r ≡ fin.contains_key (fin.from_sorted {R = nat_cmp} (map stub_at es)) q
 among_is q [] (Ok i) rise range at = absurd (omega (arith, range))
-among_is q (e ∷ es) (Ok i) rise range at = ap is_some (sym (searched nat_cmp_total lent_number q (e ∷ es) (Ok i) rise range at e))
-among_is q es (Err i) rise range at = ap is_some (sym (searched nat_cmp_total lent_number q es (Err i) rise range at))
+among_is q (e ∷ es) (Ok i) rise range at = ap is_some (sym (searched nat_cmp_total stub_at q (e ∷ es) (Ok i) rise range at e))
+among_is q es (Err i) rise range at = ap is_some (sym (searched nat_cmp_total stub_at q es (Err i) rise range at))
+
+-- ---- lists of indices that rise
+
+same_keys_below : (k : ℕ) (es : List (ℕ × List ℕ)) → below_all nat_cmp k (map stub_at (map (λ e. e.0) es)) ≡ below_all nat_cmp k es
+same_keys_below k [] = refl
+same_keys_below k (e ∷ es) = λ i. is_lt (nat_cmp k e.0) && same_keys_below k es i
+
+same_keys_rise : (es : List (ℕ × List ℕ)) → is_sorted nat_cmp (map stub_at (map (λ e. e.0) es)) ≡ is_sorted nat_cmp es
+same_keys_rise [] = refl
+same_keys_rise (e ∷ es) = λ i. same_keys_below e.0 es i && same_keys_rise es i
+
+-- the keys of a map rise
+pub keys_rise : (m : Numbered) → Rises nat_cmp (map stub_at (fin.keys m))
+keys_rise m = subst (λ (b : Bool). T b) (sym (same_keys_rise (fin.entries m))) (fin.entries_sorted m)
+
+module _ (indices : List ℕ) (rise : Rises nat_cmp (map stub_at indices)) where
+  -- the table of stubs at indices that rise
+  pub sorted_stubs : fin.from_sorted {R = nat_cmp} (map stub_at indices) ≡ stubs_at indices
+  sorted_stubs = fin.same_map nat_cmp_total fin.nat_cmp-IsAntisymmetric _ _ (λ q. fin.get-from_sorted nat_cmp (map stub_at indices) q rise ∙ sym (fin.get-from_entries nat_cmp_total (map stub_at indices) q))
+
+  filter_stubs : (n : ℕ) (js : List ℕ) → filter (λ (e : ℕ × List ℕ). nat_lt e.0 n) (map stub_at js) ≡ map stub_at (below n js)
+  filter_stubs n [] = refl
+  filter_stubs n (j ∷ js) = elim (nat_lt j n) as (λ b. cond b (stub_at j ∷ filter (λ (e : ℕ × List ℕ). nat_lt e.0 n) (map stub_at js)) (filter (λ (e : ℕ × List ℕ). nat_lt e.0 n) (map stub_at js)) ≡ map stub_at (cond b (j ∷ below n js) (below n js))) [
+    | true ↦ ap (λ (es : List (ℕ × List ℕ)). stub_at j ∷ es) (filter_stubs n js)
+    | false ↦ filter_stubs n js
+  ]
+
+  -- those below a count are the entries of that table below it
+  pub stubs_before : (n : ℕ) → map stub_at (below n indices) ≡ fin.entries (fin.retain_keys (stubs_at indices) (λ i. nat_lt i n))
+  stubs_before n = sym (filter_stubs n indices)
+      ∙ (ap (filter (λ (e : ℕ × List ℕ). nat_lt e.0 n)) (sym (fin.entries-from_sorted nat_cmp (map stub_at indices) rise) ∙ ap fin.entries sorted_stubs)
+      ∙ sym (entries-retain nat_cmp_total fin.nat_cmp-IsAntisymmetric (stubs_at indices) (λ i. nat_lt i n)))

@@ -6,7 +6,7 @@ use Rattle.t1_font.specs.declared.parts.PartsFault.{PartsFault}
 use Rattle.t1_font.specs.declared.parts.PartsFault.TheVariants.{Limit, Memory}
 use Rattle.t1_font.specs.FontValue.{FontValue, Numbered, declared_count, weight, weight_limit}
 use Rattle.t1_font.specs.Maps.{merged}
-use Rattle.t1_font.specs.Evening.{stubs_at, filled_all}
+use Rattle.t1_font.specs.Evening.{filled_all}
 
 -- each of these fonts is within the weight limit
 abbrev pub AreLight : List FontValue → Type 0
@@ -32,10 +32,6 @@ FillRefuses fs Memory = Unit {0}
 abbrev pub has_none : List (ℕ × List ℕ) → Bool
 has_none [] = true
 has_none (e ∷ es) = false
-
--- a stub at each of some indices
-abbrev pub AreStubs : Numbered → Type 0
-AreStubs m = (indices : List ℕ) × (m ≡ stubs_at indices)
 
 -- Subrs and these, where there are Subrs
 abbrev pub with_these : Numbered → Numbered → List (ℕ × List ℕ) → Numbered

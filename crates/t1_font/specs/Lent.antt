@@ -10,6 +10,7 @@ use Rattle.t1_font.specs.declared.lent.NumberedForm.TheVariants as numbers
 use Rattle.t1_font.specs.declared.lent.Glyph.{Glyph}
 use Rattle.t1_font.specs.declared.lent.NamedForm.{NamedForm}
 use Rattle.t1_font.specs.declared.lent.NamedForm.TheVariants as names
+use Rattle.t1_font.specs.Cut.{stub}
 use Rattle.t1_font.specs.FontValue.{Numbered, Named}
 use Rattle.t1_font.specs.Ranges.{numbered_at, named_at}
 
@@ -25,18 +26,21 @@ lent_name e = (e.0.now, e.1.now)
 abbrev pub lent_glyph : Glyph → List ℕ × List ℕ
 lent_glyph g = named_at g.buffer.now.items g.places.now
 
--- an entry by number, or in its place the other table's at that number
-abbrev pub filled_at : Numbered → ℕ × Bor (List ℕ) → ℕ × List ℕ
-filled_at own e = (e.0, unwrap_or (get own e.0) e.1.now)
+-- a stub at an index; and a table's Subr there, or a stub
+abbrev pub stub_at : ℕ → ℕ × List ℕ
+stub_at i = (i, stub)
 
--- a list has an entry at the number of each place
-abbrev pub AreAmong : List (ℕ × Bor (List ℕ)) → List (ℕ × Range) → Type 0
-AreAmong others places = AllByRecursion (λ e. contains_key (from_sorted {R = nat_cmp} (map lent_number others)) e.0 ≡ true) places
+abbrev pub filled_at : Numbered → ℕ → ℕ × List ℕ
+filled_at own i = (i, unwrap_or (get own i) stub)
+
+-- a list has the index of each place
+abbrev pub AreAmong : List ℕ → List (ℕ × Range) → Type 0
+AreAmong indices places = AllByRecursion (λ e. contains_key (from_sorted {R = nat_cmp} (map stub_at indices)) e.0 ≡ true) places
 
 -- the entries of a table by number, and of one by name, wherever they stand
 abbrev pub numbered_entries : NumberedForm → List (ℕ × List ℕ)
 numbered_entries (numbers.Stored buffer places) = map (numbered_at buffer.now) places.now
-numbered_entries (numbers.Filled own others) = map (filled_at own) others.now
+numbered_entries (numbers.Filled own indices) = map (filled_at own) indices.now
 numbered_entries (numbers.Made entries) = map lent_number entries.items
 
 abbrev pub named_entries : NamedForm → List (List ℕ × List ℕ)

@@ -1,13 +1,16 @@
 //! Fonts with one set of Subrs: a stub stands where a font lacks a Subr that another has.
 
-ghost use Rattle.std.specs.Prelude.{◌≡◌, ◌++◌, ◌∷◌, [], ◌≤◌, nat_lt, IfOk, IfSome, OnOk, MatchResult};
+ghost use Rattle.std.specs.Prelude.{◌≡◌, ◌++◌, ◌∷◌, [], ◌≤◌, map, true, nat_lt, IfOk, IfSome, OnOk, MatchResult};
+ghost use Rattle.std.specs.Ordering.{nat_cmp};
 ghost use Rattle.std.specs.FinMap as fin;
 ghost use Rattle.t1_font.specs.FontValue.{weight, weight_limit};
 ghost use Rattle.t1_font.specs.Maps.{merged};
-ghost use Rattle.t1_font.specs.Evening.{stubs_at, indices_of_all};
-ghost use Rattle.t1_font.specs.Filling.{Fills, FillRefuses, filled_by, AreStubs, FontRefused};
+ghost use Rattle.t1_font.specs.Evening.{stubs_at, below, indices_of_all};
+ghost use Rattle.t1_font.specs.Filling.{Fills, FillRefuses, filled_by, FontRefused};
+ghost use Rattle.t1_font.specs.Lent.{stub_at};
+ghost use Rattle.t1_join.specs.TableMeaning.{Rises};
 
-use crate::cut::cut_subrs;
+use crate::cut::{STUB, cut_subrs};
 use crate::font::{Font, FontParts};
 use crate::lent::Numbered;
 use crate::limits::WEIGHT_LIMIT;
@@ -15,8 +18,8 @@ use crate::parts::{PartsFault, join_codes};
 use std::alloc::{AllocError, Global};
 use std::collections::BTreeSet;
 
-/// A table of [`STUB`](crate::STUB) at each index at which some font has a Subr, for [`fill_all`].
-pub fn stubs_of_all<'a>(alloc: Global, fonts: &[Font<'a>]) -> Result<Numbered<'a>, AllocError>
+/// A stub at each index at which some font has a Subr.
+fn stubs_of_all<'a>(alloc: Global, fonts: &[Font<'a>]) -> Result<Numbered<'a>, AllocError>
     ensures { IfOk result (λ m. m ≡ stubs_at (indices_of_all fonts.now)) }
 {
     let mut all = Numbered::made(Vec::new(alloc));
@@ -28,52 +31,72 @@ pub fn stubs_of_all<'a>(alloc: Global, fonts: &[Font<'a>]) -> Result<Numbered<'a
     cut_subrs(alloc, &all, &BTreeSet::new(alloc))
 }
 
-/// The Subrs, and the stubs below a count at the indices that have no Subr, in a list of their own.
+/// Whether all indices are below a count.
+fn are_below(indices: &[u16], declared: u16) -> bool
+    ensures { result ≡ true → below declared indices.now ≡ indices.now }
+{
+    'indices: for index in indices {
+        if *index >= declared {
+            return false;
+        }
+    }
+    true
+}
+
+/// The Subrs, and stubs at the indices that are below a count and have no Subr, in a list of their own.
 fn made_with_stubs<'a>(
     alloc: Global,
     subrs: &Numbered<'a>,
-    stubs: &Numbered<'a>,
+    indices: &[u16],
     declared: u16,
 ) -> Result<Numbered<'a>, AllocError>
-    ensures { IfOk result (λ m. m
-        ≡ merged subrs.now (fin.retain_keys stubs.now (λ i. nat_lt i declared))) }
+    requires { Rises nat_cmp (map stub_at indices.now) }
+    ensures { IfOk result (λ m. m ≡ merged subrs.now
+        (fin.retain_keys (stubs_at indices.now) (λ i. nat_lt i declared))) }
 {
-    let mut below = Vec::with_capacity(alloc, stubs.len())?;
-    'stubs: for (index, body) in stubs.entries() {
-        if index < declared {
-            below.push((index, body))?;
+    let mut stubs: Vec<(u16, &'a [u8])> = Vec::with_capacity(alloc, indices.len())?;
+    'indices: for index in indices {
+        if *index < declared {
+            stubs.push((*index, STUB))?;
         }
     }
-    let below = Numbered::made(below);
-    join_codes(alloc, subrs, &below)
+    let stubs = Numbered::made(stubs);
+    join_codes(alloc, subrs, &stubs)
 }
 
-/// The Subrs and the stubs as they are lent, if the Subrs are a source's and the stubs have each of their indices.
+/// The same as they are lent, if the Subrs are a source's, all indices are below the count, and each index of a Subr is
+/// one of them.
 fn lent_with_stubs<'a>(
     subrs: &Numbered<'a>,
-    stubs: &'a Numbered<'a>,
+    indices: &'a [u16],
     declared: u16,
 ) -> Option<Numbered<'a>>
-    ensures { IfSome result (λ m. m
-        ≡ merged subrs.now (fin.retain_keys stubs.now (λ i. nat_lt i declared))) }
+    requires { Rises nat_cmp (map stub_at indices.now) }
+    ensures { IfSome result (λ m. m ≡ merged subrs.now
+        (fin.retain_keys (stubs_at indices.now) (λ i. nat_lt i declared))) }
 {
-    subrs.filled_with(stubs.made_below(declared)?)
+    if are_below(indices, declared) {
+        subrs.filled_at(indices)
+    } else {
+        None
+    }
 }
 
-/// The Subrs, and the stubs below a count at the indices that have no Subr. If the Subrs are a source's, this takes no
-/// room.
+/// The Subrs, and stubs at the indices that are below a count and have no Subr. If the Subrs are a source's, this takes
+/// no room.
 fn with_stubs<'a>(
     alloc: Global,
     subrs: &Numbered<'a>,
-    stubs: &'a Numbered<'a>,
+    indices: &'a [u16],
     declared: u16,
 ) -> Result<Numbered<'a>, AllocError>
-    ensures { IfOk result (λ m. m
-        ≡ merged subrs.now (fin.retain_keys stubs.now (λ i. nat_lt i declared))) }
+    requires { Rises nat_cmp (map stub_at indices.now) }
+    ensures { IfOk result (λ m. m ≡ merged subrs.now
+        (fin.retain_keys (stubs_at indices.now) (λ i. nat_lt i declared))) }
 {
-    match lent_with_stubs(subrs, stubs, declared) {
+    match lent_with_stubs(subrs, indices, declared) {
         Some(filled) => Ok(filled),
-        None => made_with_stubs(alloc, subrs, stubs, declared),
+        None => made_with_stubs(alloc, subrs, indices, declared),
     }
 }
 
@@ -82,11 +105,12 @@ fn with_stubs<'a>(
 fn fill<'a>(
     alloc: Global,
     font: Font<'a>,
-    stubs: &'a Numbered<'a>,
+    indices: &'a [u16],
 ) -> Result<Font<'a>, PartsFault>
-    requires { AreStubs stubs.now }
+    requires { Rises nat_cmp (map stub_at indices.now) }
     ensures filled { MatchResult result (λ f. f
-        ≡ filled_by stubs.now font.entry) (FontRefused (filled_by stubs.now font.entry)) }
+        ≡ filled_by (stubs_at indices.now) font.entry)
+        (FontRefused (filled_by (stubs_at indices.now) font.entry)) }
     ensures light { IfOk result (λ f. weight f ≤ weight_limit) }
 {
     font.proof_is_font();
@@ -94,7 +118,7 @@ fn fill<'a>(
     if parts.subrs.is_empty() {
         return Ok(Font { parts });
     }
-    let subrs = match with_stubs(alloc, &parts.subrs, stubs, parts.shell.declared_count()) {
+    let subrs = match with_stubs(alloc, &parts.subrs, indices, parts.shell.declared_count()) {
         Ok(subrs) => subrs,
         Err(_) => {
             drop(parts);
@@ -124,9 +148,23 @@ fn keep<'a>(fonts: &mut Vec<Font<'a>>, font: Font<'a>) -> Result<(), AllocError>
     }
 }
 
+/// The indices at which some font has a Subr, upwards, for [`fill_all`].
+pub fn stub_indices(alloc: Global, fonts: &[Font<'_>]) -> Result<Vec<u16>, AllocError>
+    ensures { IfOk result (λ v. v.items ≡ fin.keys (stubs_at (indices_of_all fonts.now))) }
+{
+    let stubs = stubs_of_all(alloc, fonts)?;
+    let mut indices = Vec::with_capacity(alloc, stubs.len())?;
+    'stubs: for (index, _) in stubs.entries() {
+        indices.push(index)?;
+    }
+    Ok(indices)
+}
+
 /// The fonts, each with [`STUB`](crate::STUB) at the indices of Subrs that it declares and lacks and that another of the
-/// fonts has. A font without Subrs gets none, since it has no words to write them with. The stubs are those that
-/// [`stubs_of_all`] answers for these fonts. They are lent, so a font that was read takes no room for them.
+/// fonts has. A font without Subrs gets none, since it has no words to write them with.
+///
+/// The indices are those that [`stub_indices`] answers for these fonts. They are lent, so that a font of a source takes no
+/// room for its stubs.
 ///
 /// # Errors
 ///
@@ -134,16 +172,16 @@ fn keep<'a>(fonts: &mut Vec<Font<'a>>, font: Font<'a>) -> Result<(), AllocError>
 pub fn fill_all<'a>(
     alloc: Global,
     fonts: Vec<Font<'a>>,
-    stubs: &'a Numbered<'a>,
+    indices: &'a [u16],
 ) -> Result<Vec<Font<'a>>, PartsFault>
-    requires { stubs.now ≡ stubs_at (indices_of_all fonts.items) }
+    requires { indices.now ≡ fin.keys (stubs_at (indices_of_all fonts.items)) }
     ensures { MatchResult result (λ all. Fills fonts.entry.items all.items)
         (FillRefuses fonts.entry.items) }
 {
     let mut all = Vec::with_capacity(alloc, fonts.len())?;
     'fonts: for font in fonts {
         // Spelled out, since with `?` each font that is left would be let go field by field, and each step proved.
-        let font = match fill(alloc, font, stubs) {
+        let font = match fill(alloc, font, indices) {
             Ok(font) => font,
             Err(fault) => return Err(fault),
         };

@@ -1,10 +1,10 @@
 //! Tables of borrowed byte strings, by number and by name, in the order of their keys.
 //!
 //! The byte strings of a source stand in its buffer, and the source's own table says where, so that table is lent and not
-//! copied. A table that a cut or a join makes has entries of its own, and one that is filled with stubs shares those with
-//! others. Only `len`, `at` and `place_of` ask which of these a table is; all other functions go by places.
+//! copied. A table that a cut or a join makes has entries of its own, and one that is filled with stubs has the
+//! indices of these in a list that it shares with others. Only `len`, `at` and `place_of` ask which of these a table is; all other functions go by places.
 
-ghost use Rattle.std.specs.Prelude.{◌≡◌, ◌+◌, ◌<◌, max, map, filter, true, nat_lt, IfOk, IfSome};
+ghost use Rattle.std.specs.Prelude.{◌≡◌, ◌+◌, ◌<◌, max, map, true, IfOk, IfSome};
 ghost use Rattle.std.specs.List.{slice_get};
 ghost use Rattle.t1_font.specs.Maps.{merged};
 ghost use Rattle.std.specs.Option.{option_map, option_and_then};
@@ -14,7 +14,7 @@ ghost use Rattle.t1_join.specs.TableMeaning.{Rises};
 ghost use Rattle.t1_font.specs.FontValue.{name_cmp, total, subr_weight, glyph_weight};
 ghost use Rattle.t1_font.specs.FontModel.{clamp};
 ghost use Rattle.t1_font.specs.Filling.{has_none};
-ghost use Rattle.t1_font.specs.Lent.{lent_number, filled_at, AreAmong, lent_glyph};
+ghost use Rattle.t1_font.specs.Lent.{lent_number, stub_at, filled_at, AreAmong, lent_glyph};
 ghost use Rattle.t1_font.specs.Ranges.{numbered_at, named_at};
 
 use crate::ranges::Range;
@@ -37,38 +37,22 @@ pub(crate) fn glyph_weight(len_iv: u8, len: usize) -> u64
     (256 + len_iv as u64).saturating_add(len as u64)
 }
 
-/// Whether a list has an entry at a number.
-fn is_among(others: &[(u16, &[u8])], number: u16) -> bool
-    requires { Rises nat_cmp (map lent_number others.now) }
+/// Whether a list has an index.
+fn is_among(indices: &[u16], index: u16) -> bool
+    requires { Rises nat_cmp (map stub_at indices.now) }
     ensures { result
-        ≡ fin.contains_key (fin.from_sorted {R = nat_cmp} (map lent_number others.now)) number }
+        ≡ fin.contains_key (fin.from_sorted {R = nat_cmp} (map stub_at indices.now)) index }
 {
-    others
-        .binary_search_by_key(&number, |entry| entry.0)
-        .is_ok()
+    indices.binary_search(&index).is_ok()
 }
 
-/// Whether a list has an entry at the number of each place.
-fn are_among(places: &[(u16, Range)], others: &[(u16, &[u8])]) -> bool
-    requires { Rises nat_cmp (map lent_number others.now) }
-    ensures { result ≡ true → AreAmong others.now places.now }
+/// Whether a list has the index of each place.
+fn are_among(places: &[(u16, Range)], indices: &[u16]) -> bool
+    requires { Rises nat_cmp (map stub_at indices.now) }
+    ensures { result ≡ true → AreAmong indices.now places.now }
 {
-    'places: for (number, _) in places {
-        if !is_among(others, *number) {
-            return false;
-        }
-    }
-    true
-}
-
-/// Whether all entries of a list are below a number.
-fn are_below(entries: &[(u16, &[u8])], number: u16) -> bool
-    ensures { result ≡ true
-        → filter (λ e. nat_lt e.0 number) (map lent_number entries.now)
-        ≡ map lent_number entries.now }
-{
-    'entries: for (there, _) in entries {
-        if *there >= number {
+    'places: for (index, _) in places {
+        if !is_among(indices, *index) {
             return false;
         }
     }
@@ -83,10 +67,10 @@ pub(crate) enum NumberedForm<'a> {
         buffer: &'a [u8],
         places: &'a [(u16, Range)],
     },
-    /// In a source, but at the indices of a list, with its entry where the source has none.
+    /// In a source, and stubs at the other indices of a list.
     Filled {
         own: StoredSubrs<'a>,
-        others: &'a [(u16, &'a [u8])],
+        indices: &'a [u16],
     },
     /// In a list of its own.
     Made(Vec<(u16, &'a [u8])>),
@@ -126,41 +110,30 @@ impl<'a> Numbered<'a> {
         }
     }
 
-    /// The entries of a list, and in place of each the source's at its number, if it has one.
-    fn filled(own: StoredSubrs<'a>, others: &'a [(u16, &'a [u8])]) -> Self
-        requires { Rises nat_cmp (map lent_number others.now) }
-        ensures { result ≡ fin.from_sorted (map (filled_at own.entry) others.now) }
+    /// A source's Subrs, and stubs, at the indices of a list.
+    fn filled(own: StoredSubrs<'a>, indices: &'a [u16]) -> Self
+        requires { Rises nat_cmp (map stub_at indices.now) }
+        ensures { result ≡ fin.from_sorted (map (filled_at own.entry) indices.now) }
     {
         Numbered {
-            form: NumberedForm::Filled { own, others },
+            form: NumberedForm::Filled { own, indices },
         }
     }
 
-    /// The entries, if the table has them in a list of its own and all are below a number.
-    pub(crate) fn made_below(&self, number: u16) -> Option<&[(u16, &'a [u8])]>
-        ensures { IfSome result (λ es. map lent_number es.now
-            ≡ fin.entries (fin.retain_keys self.now (λ i. nat_lt i number))) }
-    {
-        match &self.form {
-            NumberedForm::Made(entries) if are_below(entries, number) => Some(entries.as_slice()),
-            _ => None,
-        }
-    }
-
-    /// The entries of a source, and those of a list where it has none, if the list has each of its numbers. They take no
-    /// room.
-    pub(crate) fn filled_with(&self, others: &'a [(u16, &'a [u8])]) -> Option<Self>
-        requires { Rises nat_cmp (map lent_number others.now) }
+    /// The Subrs of a source, and a stub at each other index of a list, if the list has each of their indices. This takes
+    /// no room.
+    pub(crate) fn filled_at(&self, indices: &'a [u16]) -> Option<Self>
+        requires { Rises nat_cmp (map stub_at indices.now) }
         ensures { IfSome result (λ m. m
-            ≡ merged self.now (fin.from_sorted (map lent_number others.now))) }
+            ≡ merged self.now (fin.from_sorted (map stub_at indices.now))) }
     {
         let NumberedForm::Stored { buffer, places } = &self.form else {
             return None;
         };
-        if !are_among(places, others) {
+        if !are_among(places, indices) {
             return None;
         }
-        Some(Numbered::filled(StoredSubrs::new(buffer, places), others))
+        Some(Numbered::filled(StoredSubrs::new(buffer, places), indices))
     }
 
     /// The table of these entries.
@@ -179,7 +152,7 @@ impl<'a> Numbered<'a> {
     {
         match &self.form {
             NumberedForm::Stored { buffer, places } => Ok(Numbered::stored(buffer, places)),
-            NumberedForm::Filled { own, others } => Ok(Numbered::filled(own.again(), others)),
+            NumberedForm::Filled { own, indices } => Ok(Numbered::filled(own.again(), indices)),
             NumberedForm::Made(entries) => Ok(Numbered::made(Vec::from_slice(alloc, entries)?)),
         }
     }
@@ -190,7 +163,7 @@ impl<'a> Numbered<'a> {
     {
         match &self.form {
             NumberedForm::Stored { places, .. } => places.len(),
-            NumberedForm::Filled { others, .. } => others.len(),
+            NumberedForm::Filled { indices, .. } => indices.len(),
             NumberedForm::Made(entries) => entries.len(),
         }
     }
@@ -205,9 +178,9 @@ impl<'a> Numbered<'a> {
                 let (number, body) = places.get(place)?;
                 Some((*number, body.of(buffer)))
             }
-            NumberedForm::Filled { own, others } => {
-                let (number, other) = others.get(place)?;
-                Some((*number, own.get_or(*number, other)))
+            NumberedForm::Filled { own, indices } => {
+                let index = *indices.get(place)?;
+                Some((index, own.get_or_stub(index)))
             }
             NumberedForm::Made(entries) => {
                 let (number, body) = entries.get(place)?;
@@ -225,9 +198,7 @@ impl<'a> Numbered<'a> {
             NumberedForm::Stored { places, .. } => {
                 places.binary_search_by_key(&number, |entry| entry.0).ok()
             }
-            NumberedForm::Filled { others, .. } => {
-                others.binary_search_by_key(&number, |entry| entry.0).ok()
-            }
+            NumberedForm::Filled { indices, .. } => indices.binary_search(&number).ok(),
             NumberedForm::Made(entries) => {
                 entries.binary_search_by_key(&number, |entry| entry.0).ok()
             }

@@ -46,7 +46,7 @@ pub use cut::{STUB, restrict};
 pub use evening::even_shells;
 pub use fault::ReadFault;
 pub use file::{read, read_vec};
-pub use filling::{fill_all, stubs_of_all};
+pub use filling::{fill_all, stub_indices};
 pub use font::{Font, Indices, Names, Part};
 pub use lent::{Named, NamedEntries, Numbered, NumberedEntries};
 pub use limits::{COUNT_LIMIT, WEIGHT_LIMIT};

@@ -6,8 +6,10 @@ ghost use Rattle.std.specs.Option.{option_map, option_and_then};
 ghost use Rattle.std.specs.Ordering.{nat_cmp};
 ghost use Rattle.std.specs.FinMap as fin;
 ghost use Rattle.t1_join.specs.TableMeaning.{Rises};
+ghost use Rattle.t1_font.specs.Cut.{stub};
 ghost use Rattle.t1_font.specs.Ranges.{numbered_at};
 
+use crate::cut::STUB;
 use crate::ranges::Range;
 use std::marker::Model;
 
@@ -74,13 +76,13 @@ impl<'a> StoredSubrs<'a> {
         Some(body.of(self.buffer))
     }
 
-    /// The same, or this if there is none.
-    pub(crate) fn get_or(&self, index: u16, other: &'a [u8]) -> &'a [u8]
-        ensures { result.now ≡ unwrap_or (fin.get self.now index) other.now }
+    /// The same, or a stub if there is none.
+    pub(crate) fn get_or_stub(&self, index: u16) -> &'a [u8]
+        ensures { result.now ≡ unwrap_or (fin.get self.now index) stub }
     {
         match self.get(index) {
             Some(body) => body,
-            None => other,
+            None => STUB,
         }
     }
 }

@@ -18,7 +18,7 @@ use Rattle.t1_font.specs.FontValue.{FontValue, Numbered, declared_count, weight,
 use Rattle.t1_font.specs.Cut.{stub}
 use Rattle.t1_font.specs.Maps.{map_values, merged}
 use Rattle.t1_font.specs.Evening.{stubs_at, below, with_stubs, filled, filled_all, indices_of_all, largest_count}
-use Rattle.t1_font.specs.Filling.{AreLight, AnyHeavy, Fills, FillRefuses, has_none, with_these, filled_by, AreStubs, FontRefused}
+use Rattle.t1_font.specs.Filling.{AreLight, AnyHeavy, Fills, FillRefuses, has_none, with_these, filled_by, FontRefused}
 use Rattle.t1_font.specs.IsFont.{IsFont}
 use Rattle.t1_font.proofs.MapLemmas.{joined, get-merged, get-map_values}
 use Rattle.t1_font.proofs.even_fonts.Evened.{stubs_below, filled_is_font}
@@ -205,8 +205,26 @@ pub parts_filled : (stubs : Numbered) (f p : FontValue) (n : ℕ) (subrs : Numbe
 parts_filled stubs f p n subrs is some declared put =
     newly_filled stubs p subrs some (put ∙ ap (λ (k : ℕ). merged p.subrs (retain_keys stubs (λ i. nat_lt i k))) declared) ∙ ap (filled_by stubs) is
 
--- a font filled by a table of stubs is a font if it is within the weight limit
-pub filled_by_is_font : (stubs : Numbered) (f : FontValue) → AreStubs stubs → IsFont f → weight (filled_by stubs f) ≤ weight_limit → IsFont (filled_by stubs f)
-filled_by_is_font stubs f s h light =
-    let is = filled_so stubs s.0 f s.1 in
-    subst IsFont (sym is) (filled_is_font s.0 f h (subst (λ (g : FontValue). weight g ≤ weight_limit) is light))
+-- a font filled with stubs is a font if it is within the weight limit
+pub filled_by_is_font : (indices : List ℕ) (f : FontValue) → IsFont f → weight (filled_by (stubs_at indices) f) ≤ weight_limit → IsFont (filled_by (stubs_at indices) f)
+filled_by_is_font indices f h light =
+    let is = filled_so (stubs_at indices) indices f refl in
+    subst IsFont (sym is) (filled_is_font indices f h (subst (λ (g : FontValue). weight g ≤ weight_limit) is light))
+
+-- ---- indices in a list
+
+module _ (js : List ℕ) where
+  in_list : (q : ℕ) → get (stubs_at js) q ≡ cond (is_one q js) (Some stub) None
+  in_list q = get-from_entries nat_cmp_total (map (λ i. (i, stub)) js) q ∙ find_stub q js
+
+  there_or_not : (o : Option (List ℕ)) (b : Bool) → o ≡ cond b (Some stub) None → cond (is_some o) (Some stub) None ≡ o
+  there_or_not o true e = rw e refl
+  there_or_not o false e = rw e refl
+
+  -- the stubs at the indices of stubs are the same
+  pub stubs_listed : stubs_at (keys (stubs_at js)) ≡ stubs_at js
+  stubs_listed = same_map nat_cmp_total nat_cmp-IsAntisymmetric _ _ (λ q.
+      get-from_entries nat_cmp_total (map (λ i. (i, stub)) (keys (stubs_at js))) q
+      ∙ (find_stub q (keys (stubs_at js))
+      ∙ (ap (λ b. cond b (Some stub) None) (sym (contains_key-keys (stubs_at js) q))
+      ∙ there_or_not (get (stubs_at js) q) (is_one q js) (in_list q))))

@@ -1,7 +1,11 @@
 //! Sources made even, and fonts that are filled.
 
+ghost use Rattle.std.specs.Prelude.{◌≡◌, IfOk};
+ghost use Rattle.std.specs.FinMap.{keys};
+ghost use Rattle.t1_font.specs.Evening.{stubs_at, indices_of_all};
+
 use super::{GLYPHS, joined, lent_counts, source};
-use crate::{Font, Part, PartsFault, STUB, Source, WEIGHT_LIMIT, even_shells, fill_all, stubs_of_all};
+use crate::{Font, Part, PartsFault, STUB, Source, WEIGHT_LIMIT, even_shells, fill_all, stub_indices};
 use std::alloc::{AllocError, Global};
 use std::test::Fail;
 
@@ -61,24 +65,44 @@ fn put_marks(marks: &mut Vec<u8>, font: &Font<'_>) -> Result<(), AllocError> {
 }
 
 /// The fonts of sources.
-fn fonts_of(alloc: Global, sources: &[Source]) -> Result<Vec<Font<'_>>, AllocError> {
+fn fonts_of(alloc: Global, sources: &[Source]) -> Result<Vec<Font<'_>>, AllocError>
+    ensures { IfOk result (λ v. v.items ≡ sources.now) }
+{
     let mut fonts = Vec::with_capacity(alloc, sources.len())?;
-    for source in sources {
+    'sources: for source in sources {
         fonts.push(source.font(alloc)?)?;
     }
     Ok(fonts)
 }
 
-/// The marks of the fonts of sources when they are filled.
-fn lent_marks(alloc: Global, sources: &[Source]) -> Result<Vec<u8>, PartsFault> {
+/// The indices at which the fonts of sources have Subrs.
+fn indices_of(alloc: Global, sources: &[Source]) -> Result<Vec<u16>, AllocError>
+    ensures { IfOk result (λ v. v.items ≡ keys (stubs_at (indices_of_all sources.now))) }
+{
     let fonts = fonts_of(alloc, sources)?;
-    let stubs = stubs_of_all(alloc, fonts.as_slice())?;
-    let filled = fill_all(alloc, fonts, &stubs)?;
+    stub_indices(alloc, fonts.as_slice())
+}
+
+/// The marks of the fonts of sources when they are filled at these indices.
+fn filled_marks<'a>(
+    alloc: Global,
+    sources: &'a [Source],
+    indices: &'a [u16],
+) -> Result<Vec<u8>, PartsFault>
+    requires { indices.now ≡ keys (stubs_at (indices_of_all sources.now)) }
+{
+    let filled = fill_all(alloc, fonts_of(alloc, sources)?, indices)?;
     let mut marks = Vec::new(alloc);
     for font in filled.as_slice() {
         put_marks(&mut marks, font)?;
     }
     Ok(marks)
+}
+
+/// The marks of the fonts of sources when they are filled.
+fn lent_marks(alloc: Global, sources: &[Source]) -> Result<Vec<u8>, PartsFault> {
+    let indices = indices_of(alloc, sources)?;
+    filled_marks(alloc, sources, indices.as_slice())
 }
 
 /// The sources of fonts with these Subrs.

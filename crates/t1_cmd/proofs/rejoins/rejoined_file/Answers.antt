@@ -1,20 +1,8 @@
-use Rattle.std.proofs.Common.{◌≡◌, inl, ap, subst, ◌∙◌, Ok, List}
-use Rattle.std.proofs.lemmas.Result.{IfOk-weaker, IfErr-weaker}
-use Rattle.t1_font.specs.FontValue.{FontValue}
-use Rattle.t1_font.specs.Evening.{evened, evened_shells, filled_all}
-use Rattle.t1_font.specs.Filling.{AreLight}
-use Rattle.t1_cmd.specs.Mergers.{MergesTo, MergeStops}
-use Rattle.t1_cmd.proofs.RejoinLemmas.{merge_of_even}
+use Rattle.std.proofs.Common.{◌∙◌}
 use Rattle.t1_cmd.proofs.rejoins.rejoined_file.Goals as goal
 
 pub returns-clause-text : goal.returns-clause-text
-returns-clause-text c =
-    let lent : c.in_ok-lent.lent.items ≡ evened_shells c.args.sources.items = c.in_ok-lent.ensures ∙ (c.as_slice.ensures.value ∙ c.in_ok-evened.ensures) in
-    let is : c.in-Ok.filled.items ≡ evened c.args.sources.items = c.in-Ok.ensures.0 ∙ ap filled_all lent in
-    IfOk-weaker c.merged_file.result _ _ (λ t h. inl (subst AreLight is c.in-Ok.ensures.1, subst (λ (fs : List FontValue). MergesTo c.args.form fs (Ok t.items)) is h)) c.merged_file.ensures.text
+returns-clause-text c = c.filled_file.ensures.text c.args.sources.items (c.as_slice-2.ensures.value ∙ c.in_ok-evened.ensures)
 
 pub returns-clause-refused : goal.returns-clause-refused
-returns-clause-refused c =
-    let lent : c.in_ok-lent.lent.items ≡ evened_shells c.args.sources.items = c.in_ok-lent.ensures ∙ (c.as_slice.ensures.value ∙ c.in_ok-evened.ensures) in
-    let is : c.in-Ok.filled.items ≡ evened c.args.sources.items = c.in-Ok.ensures.0 ∙ ap filled_all lent in
-    IfErr-weaker c.merged_file.result _ _ (λ e h. merge_of_even c.args.form c.args.sources.items e (subst AreLight is c.in-Ok.ensures.1) (subst (λ (fs : List FontValue). MergeStops c.args.form fs e) is h)) c.merged_file.ensures.refused
+returns-clause-refused c = c.filled_file.ensures.refused c.args.sources.items (c.as_slice-2.ensures.value ∙ c.in_ok-evened.ensures)

@@ -1,29 +1,28 @@
-use Rattle.std.proofs.Common.{◌≡◌, ◌++◌, ap, sym, subst, ◌∙◌, map}
-use Rattle.std.specs.Prelude.{filter, nat_lt, IfOk}
-use Rattle.std.specs.Cmp.{nat_cmp_total}
-use Rattle.std.specs.FinMap.{retain_keys, nat_cmp-IsAntisymmetric}
-use Rattle.std.proofs.lemmas.Map.Iter.{rest_all}
+use Rattle.std.proofs.Common.{◌≡◌, ap, subst, ◌∙◌, map, List, ℕ}
+use Rattle.std.specs.Prelude.{nat_lt, IfOk}
+use Rattle.std.specs.FinMap.{retain_keys}
+use Rattle.std.proofs.lemmas.List.{drop_all}
 use Rattle.t1_join.proofs.Sorted.{rises_of, map_of}
-use Rattle.t1_font.specs.Maps.{merged}
+use Rattle.t1_font.specs.Evening.{stubs_at, below}
 use Rattle.t1_font.specs.FontValue.{Numbered}
-use Rattle.t1_font.specs.Lent.{lent_number}
-use Rattle.t1_font.proofs.CutEntries.{entries-retain}
+use Rattle.t1_font.specs.Lent.{lent_number, stub_at}
+use Rattle.t1_font.specs.Maps.{merged}
+use Rattle.t1_font.proofs.FilledTables.{stubs_before}
 use Rattle.t1_font.proofs.LentTables.{all_out}
 use Rattle.t1_font.proofs.filling.made_with_stubs.Goals as goal
 
-pub stubs-init : goal.stubs-init
-stubs-init c =
-    (λ k. map lent_number (c.in_ok-below.ensures.items k) ++ filter (λ e. nat_lt e.0 c.args.declared) ((c.into_iter-index-iterator.ensures.into_iter_gives ∙ c.entries-index-items.ensures) k))
-    ∙ sym (entries-retain nat_cmp_total nat_cmp-IsAntisymmetric c.args.stubs.now (λ i. nat_lt i c.args.declared))
-
-pub made-below-requires : goal.made-below-requires
-made-below-requires c =
-    rises_of _ (retain_keys c.args.stubs.now (λ i. nat_lt i c.args.declared))
-    (all_out lent_number c.stubs.below.items _ _ (ap (filter (λ e. nat_lt e.0 c.args.declared)) (rest_all lent_number _ _ _ c.in-None.is c.next.ensures.steps)) c.stubs.invariant)
+pub made-stubs-requires : goal.made-stubs-requires
+made-stubs-requires c =
+    let n = c.args.declared in
+    let js = c.args.indices.now in
+    rises_of _ (retain_keys (stubs_at js) (λ i. nat_lt i n))
+    (all_out lent_number c.indices.stubs.items _ _ (ap (λ (js : List ℕ). map stub_at (below n js)) (drop_all c.indices.index-index js c.indices-test.false)) c.indices.invariant ∙ stubs_before js c.requires n)
 
 pub returns : goal.returns
 returns c =
-    subst (λ (n : Numbered). IfOk c.join_codes.result (λ m. m ≡ merged c.args.subrs.now n))
-    (c.made-below.ensures ∙ map_of _ (retain_keys c.args.stubs.now (λ i. nat_lt i c.args.declared))
-    (all_out lent_number c.stubs.below.items _ _ (ap (filter (λ e. nat_lt e.0 c.args.declared)) (rest_all lent_number _ _ _ c.in-None.is c.next.ensures.steps)) c.stubs.invariant))
+    let n = c.args.declared in
+    let js = c.args.indices.now in
+    subst (λ (m : Numbered). IfOk c.join_codes.result (λ r. r ≡ merged c.args.subrs.now m))
+    (c.made-stubs.ensures ∙ map_of _ (retain_keys (stubs_at js) (λ i. nat_lt i n))
+    (all_out lent_number c.indices.stubs.items _ _ (ap (λ (js : List ℕ). map stub_at (below n js)) (drop_all c.indices.index-index js c.indices-test.false)) c.indices.invariant ∙ stubs_before js c.requires n))
     c.join_codes.ensures

@@ -18,9 +18,8 @@ returns-in-Stored c =
 
 pub returns-in-Filled : goal.returns-in-Filled
 returns-in-Filled c =
-    let position = c.binary_search_by_key-in-Filled.ensures.position (λ e. e.0) (answers_always _ _ _ (λ f a r g called. search rules)) in
     ap (option_and_then (slice_get (entries c.args.self.now))) c.ok-in-Filled.ensures.value
-    ∙ found_place (filled_at c.in-Filled.own) c.in-Filled.others.now (numbered_entries c.self.inside.form) c.args.self.now (ap numbered_entries c.in-Filled.is) c.self.invariant c.self.view_is nat_cmp_total nat_cmp-IsAntisymmetric c.args.number c.binary_search_by_key-in-Filled.result c.binary_search_by_key-in-Filled.ensures.bound position
+    ∙ found_place (filled_at c.in-Filled.own) c.in-Filled.indices.now (numbered_entries c.self.inside.form) c.args.self.now (ap numbered_entries c.in-Filled.is) c.self.invariant c.self.view_is nat_cmp_total nat_cmp-IsAntisymmetric c.args.number c.binary_search.result c.binary_search.ensures.bound c.binary_search.ensures.position
 
 pub returns-in-Made : goal.returns-in-Made
 returns-in-Made c =
