@@ -51,8 +51,7 @@ module _ (m : Named) where
   one_glyph : (f : FontValue) (gs : List FontValue) → IsPartOf f.glyphs m → AllByRecursion (λ g. IsPartOf g.glyphs m) gs → HaveOneGlyph f gs
   one_glyph f [] h k = (λ q c e. e, tt)
   one_glyph f (g ∷ gs) h k =
-      let rest = one_glyph (join_parts f g) gs (merged_has nat_list_cmp_total name_same (λ q c. get m q ≡ Some c) f.glyphs g.glyphs h k.0) k.1 in
-      (
+      let rest = one_glyph (join_parts f g) gs (merged_has nat_list_cmp_total name_same (λ q c. get m q ≡ Some c) f.glyphs g.glyphs h k.0) k.1 in (
         λ q c e. rest.0 q c (get-merged nat_list_cmp_total name_same f.glyphs g.glyphs q ∙ left_joined (get f.glyphs q) (get g.glyphs q) c e),
         (λ q c e. rest.0 q c (get-merged nat_list_cmp_total name_same f.glyphs g.glyphs q ∙ right_joined (get f.glyphs q) (get g.glyphs q) (get m q) c (h q) (k.0 q) e), rest.1),
       )

@@ -102,11 +102,7 @@ fn with_stubs<'a>(
 
 /// The font with the stubs at the indices that it declares and lacks. A font without Subrs gets none, since it has no
 /// words to write them with.
-fn fill<'a>(
-    alloc: Global,
-    font: Font<'a>,
-    indices: &'a [u16],
-) -> Result<Font<'a>, PartsFault>
+fn fill<'a>(alloc: Global, font: Font<'a>, indices: &'a [u16]) -> Result<Font<'a>, PartsFault>
     requires { Rises nat_cmp (map stub_at indices.now) }
     ensures filled { MatchResult result (λ f. f
         ≡ filled_by (stubs_at indices.now) font.entry)

@@ -5,7 +5,9 @@ ghost use Rattle.std.specs.FinMap.{keys};
 ghost use Rattle.t1_font.specs.Evening.{stubs_at, indices_of_all};
 
 use super::{GLYPHS, joined, lent_counts, source};
-use crate::{Font, Part, PartsFault, STUB, Source, WEIGHT_LIMIT, even_shells, fill_all, stub_indices};
+use crate::{
+    Font, Part, PartsFault, STUB, Source, WEIGHT_LIMIT, even_shells, fill_all, stub_indices,
+};
 use std::alloc::{AllocError, Global};
 use std::test::Fail;
 

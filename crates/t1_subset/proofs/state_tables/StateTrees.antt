@@ -86,7 +86,7 @@ left_parts t (g ∷ gs) j h =
         shells = (c.shells, rest.shells);
         kinds = (c.kinds, kinds_before k.encoding g.encoding gs c.kinds rest.kinds);
         glyphs = (λ q b e. rest.glyphs.0 q b (left_glyph profile k g q b e), (λ q b e. rest.glyphs.0 q b (right_glyph k g c q b e), rest.glyphs.1));
-      within = λ w. rest.within (subst IsWithin (joined_are_entries profile k g c) both.within);
+        within = λ w. rest.within (subst IsWithin (joined_are_entries profile k g c) both.within);
       },
     )
 

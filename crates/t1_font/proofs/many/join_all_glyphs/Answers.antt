@@ -12,8 +12,7 @@ use Rattle.t1_font.proofs.many.join_all_glyphs.Goals as goal
 pub rest-init : goal.rest-init
 rest-init c =
     let j = (join_all_parts c.args.first.now c.args.rest.now).glyphs in
-    let gathered = c.in_ok-push_glyphs.ensures ∙ (λ i. map lent_glyph (c.in_ok-all.ensures.items i) ++ entries ((ap (λ (s : Inside). s.parts) c.first-inside.view_is ∙ c.first.view_is) i).glyphs) in
-    (
+    let gathered = c.in_ok-push_glyphs.ensures ∙ (λ i. map lent_glyph (c.in_ok-all.ensures.items i) ++ entries ((ap (λ (s : Inside). s.parts) c.first-inside.view_is ∙ c.first.view_is) i).glyphs) in (
       ap (from_entries {R = name_cmp}) gathered ∙ entries_make c.args.first.now.glyphs,
       entries_more j [] (map lent_glyph c.push_glyphs.new.all.items) c.args.first.now.glyphs gathered tt c.requires.0,
     )
@@ -21,8 +20,7 @@ rest-init c =
 pub rest-preserved : goal.rest-preserved
 rest-preserved c =
     let j = (join_all_parts c.args.first.now c.args.rest.now).glyphs in
-    let gathered = c.in_ok-push_glyphs-2.ensures ∙ (λ i. map lent_glyph c.rest.all.items ++ entries ((ap (λ (s : Inside). s.parts) c.font-inside.view_is ∙ c.font.view_is) i).glyphs) in
-    (
+    let gathered = c.in_ok-push_glyphs-2.ensures ∙ (λ i. map lent_glyph c.rest.all.items ++ entries ((ap (λ (s : Inside). s.parts) c.font-inside.view_is ∙ c.font.view_is) i).glyphs) in (
       ap (from_entries {R = name_cmp}) gathered
           ∙ (more_merged (map lent_glyph c.rest.all.items) c.font-item.result.glyphs
           ∙ (ap (λ (m : Named). merged m c.font-item.result.glyphs) c.rest.invariant.0
