@@ -1,8 +1,9 @@
 //! Tables of borrowed byte strings, by number and by name, in the order of their keys.
 //!
 //! The byte strings of a source stand in its buffer, and the source's own table says where, so that table is lent and not
-//! copied. A table that a cut or a join makes has entries of its own, and one that is filled with stubs has the
-//! indices of these in a list that it shares with others. Only `len`, `at` and `place_of` ask which of these a table is; all other functions go by places.
+//! copied. A table that a cut or a join makes has entries of its own, and one that is filled with stubs has their indices
+//! in a list that it shares with others. Beside `copy` and `filled_at`, only `len`, `at` and `place_of` ask which of these
+//! a table is; all other functions go by places.
 
 ghost use Rattle.std.specs.Prelude.{◌≡◌, ◌+◌, ◌<◌, max, map, true, IfOk, IfSome};
 ghost use Rattle.std.specs.List.{slice_get};

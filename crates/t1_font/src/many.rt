@@ -139,8 +139,8 @@ fn joined_parts<'a>(
 }
 
 /// The font with the entries of one or more fonts: what [`join_parts`](crate::join_parts) answers for the first two, then
-/// for that and the third, and so on. It takes no more room than the tables of the result and of its inputs, since no
-/// font on the way is made.
+/// for that and the third, and so on. The glyphs of all are gathered in one table of 16 bytes each, and no font on the way
+/// is made.
 ///
 /// All fonts have the same shell, their Encodings are the same word or all tables, and no two of them have different
 /// glyphs of one name.
