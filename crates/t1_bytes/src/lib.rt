@@ -30,7 +30,7 @@ pub use cipher::{CHARSTRING_KEY, EEXEC_KEY, EEXEC_LEAD, decrypt, encrypt, open, 
 pub use eexec::{Cipher, find_cipher, split_eexec};
 pub use fault::BytesFault;
 pub use form::Form;
-pub use hexadecimal::{hex_lines, spread_hex_lines, trailer};
+pub use hexadecimal::{LINE, hex_lines, spread_hex_lines, trailer};
 pub use limits::FILE_LIMIT;
 pub use pfb::{flatten, flatten_in_place, segments};
 

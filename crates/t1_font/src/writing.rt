@@ -19,12 +19,16 @@ use crate::shell::{KeptSubrs, Shell};
 use itoa::Buffer;
 use std::alloc::{AllocError, Global};
 use t1_bytes::{
-    CHARSTRING_KEY, EEXEC_KEY, EEXEC_LEAD, Form, encrypt, segments, spread_hex_lines, trailer,
+    CHARSTRING_KEY, EEXEC_KEY, EEXEC_LEAD, Form, LINE, encrypt, segments, spread_hex_lines, trailer,
 };
 
-/// How many bytes of a private text the weight of its font leaves out at most: the markers, the phrase that closes
+/// How many bytes of a text stand outside the entries and the kept texts at most: the markers, the phrase that closes
 /// Subrs, lead bytes and ends of lines.
 const MARKERS: usize = 256;
+
+/// How many bytes an entry has at most beside its name, its bytes and the kept words: the end of the line, `dup`, two
+/// numbers and the blanks between them.
+const AROUND: usize = 19;
 
 /// What stands between `/Encoding` and the names of a table.
 const TABLE_START: &[u8; 49] = b"256 array
@@ -252,19 +256,78 @@ fn put_cipher(out: &mut Vec<u8>, parts: &FontParts<'_>) -> Result<(), AllocError
     Ok(())
 }
 
-/// How many bytes the texts of a font have at most, as far as it can be told.
-fn room_of(parts: &FontParts<'_>) -> usize {
+/// How many bytes the clear text has at most, as far as it can be told.
+fn clear_room(parts: &FontParts<'_>) -> usize {
     encoding_room(&parts.encoding)
-        .saturating_add(parts.weight() as usize)
-        .saturating_add(MARKERS)
+        .saturating_add(parts.shell.head.len())
+        .saturating_add(parts.shell.clear_tail.len())
 }
 
-/// The canonical clear text with the cipher after it, and where the cipher begins.
-fn sealed_texts(alloc: Global, parts: &FontParts<'_>) -> Result<(Vec<u8>, usize), AllocError>
+/// How many bytes the entries of Subrs have at most.
+fn subrs_room(shell: &Shell, subrs: &Numbered<'_>) -> usize {
+    let mut around = AROUND.saturating_add(shell.len_iv as usize);
+    if let Some(kept) = &shell.subrs {
+        around = around
+            .saturating_add(kept.rd.len())
+            .saturating_add(kept.put.len());
+    }
+    let mut room = MARKERS;
+    'subrs: for (_, plain) in subrs.entries() {
+        room = room.saturating_add(around).saturating_add(plain.len());
+    }
+    room
+}
+
+/// How many bytes the entries of glyphs have at most.
+fn glyphs_room(shell: &Shell, glyphs: &Named<'_>) -> usize {
+    let around = AROUND
+        .saturating_add(shell.len_iv as usize)
+        .saturating_add(shell.glyphs_rd.len())
+        .saturating_add(shell.glyphs_def.len());
+    let mut room = MARKERS;
+    'glyphs: for (name, plain) in glyphs.entries() {
+        room = room
+            .saturating_add(around)
+            .saturating_add(name.len())
+            .saturating_add(plain.len());
+    }
+    room
+}
+
+/// How many bytes the cipher has at most, as far as it can be told.
+fn cipher_room(parts: &FontParts<'_>) -> usize {
+    let shell = parts.shell;
+    subrs_room(shell, &parts.subrs)
+        .saturating_add(glyphs_room(shell, &parts.glyphs))
+        .saturating_add(shell.private.len())
+        .saturating_add(shell.middle.len())
+        .saturating_add(shell.tail.len())
+}
+
+/// How many bytes a cipher of this many bytes has in a file: in a PFA it stands in lines of digits, with the trailer after
+/// them.
+fn room_in(form: Form, cipher: usize) -> usize {
+    match form {
+        Form::Pfa => cipher
+            .saturating_mul(2)
+            .saturating_add(cipher.div_ceil(LINE))
+            .saturating_add(trailer().len()),
+        Form::Pfb => cipher,
+    }
+}
+
+/// The canonical clear text with the cipher after it, and where the cipher begins. There is room for what the form makes
+/// of the cipher.
+fn sealed_texts(
+    alloc: Global,
+    parts: &FontParts<'_>,
+    form: Form,
+) -> Result<(Vec<u8>, usize), AllocError>
     ensures { IfOk result (λ x. (take x.1 x.0.items ≡ canon_clear parts.now)
         × (drop x.1 x.0.items ≡ private_cipher (canon_private parts.now))) }
 {
-    let mut out = Vec::with_capacity(alloc, room_of(parts))?;
+    let room = clear_room(parts).saturating_add(room_in(form, cipher_room(parts)));
+    let mut out = Vec::with_capacity(alloc, room)?;
     put_clear(&mut out, parts)?;
     let start = out.len();
     put_cipher(&mut out, parts)?;
@@ -276,7 +339,7 @@ fn sealed_texts(alloc: Global, parts: &FontParts<'_>) -> Result<(Vec<u8>, usize)
 fn pfa(alloc: Global, parts: &FontParts<'_>) -> Result<Vec<u8>, AllocError>
     ensures { IfOk result (λ v. v.items ≡ canon parts.now Pfa) }
 {
-    let (mut out, start) = sealed_texts(alloc, parts)?;
+    let (mut out, start) = sealed_texts(alloc, parts, Form::Pfa)?;
     spread_hex_lines(&mut out, start)?;
     out.extend_from_slice(trailer())?;
     Ok(out)
@@ -288,7 +351,7 @@ fn pfb(alloc: Global, parts: &FontParts<'_>) -> Result<Vec<u8>, AllocError>
     requires cipher { length (private_cipher (canon_private parts.now)) ≤ file_limit }
     ensures { IfOk result (λ v. v.items ≡ canon parts.now Pfb) }
 {
-    let (texts, start) = sealed_texts(alloc, parts)?;
+    let (texts, start) = sealed_texts(alloc, parts, Form::Pfb)?;
     let start = start.min(texts.len());
     let (clear, cipher) = texts.as_slice().split_at(start);
     match segments(alloc, clear, cipher, trailer()) {

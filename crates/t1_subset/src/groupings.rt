@@ -8,41 +8,30 @@ ghost use Rattle.t1_subset.specs.Merger.{EachGroupingMerges, ComesTo};
 
 use crate::callers::Callers;
 use crate::conflict::Conflict;
-use crate::state_making::{callers_of, states_by};
+use crate::shared::Shared;
+use crate::state_making::note_font;
 use crate::state_value::States;
 use std::alloc::{AllocError, Global};
 use t1_font::{Font, join_all_parts};
 
-/// The callers of each of the fonts.
+/// The callers of each of the fonts, and its states.
 pub(crate) fn note_fonts<'t, 'a>(
     alloc: Global,
     fonts: &'t [Font<'a>],
-) -> Result<Vec<Callers<'t, 'a>>, AllocError>
-    ensures fonts { IfOk result (λ callers. fonts_of callers.items ≡ fonts.now) }
-    ensures noted { IfOk result (λ callers. AreNoted callers.items) }
+) -> Result<(Vec<Callers<'t, 'a>>, Vec<States<'a>>), AllocError>
+    ensures fonts { IfOk result (λ n. fonts_of n.0.items ≡ fonts.now) }
+    ensures noted { IfOk result (λ n. AreNoted n.0.items) }
+    ensures states { IfOk result (λ n. n.1.items ≡ map (states_of profile) fonts.now) }
 {
     let mut callers = Vec::with_capacity(alloc, fonts.len())?;
+    let mut states = Vec::with_capacity(alloc, fonts.len())?;
     'fonts: for font in fonts {
         font.proof_is_font();
-        callers.push(callers_of(alloc, font)?)?;
+        let (own, state) = note_font(alloc, font, Shared::of(alloc, font)?)?;
+        callers.push(own)?;
+        states.push(state)?;
     }
-    Ok(callers)
-}
-
-/// The states of each of the fonts, by its callers.
-pub(crate) fn states_of_all<'a>(
-    alloc: Global,
-    callers: &[Callers<'_, 'a>],
-) -> Result<Vec<States<'a>>, AllocError>
-    requires { AreNoted callers.now }
-    ensures { IfOk result (λ states. states.items
-        ≡ map (states_of profile) (fonts_of callers.now)) }
-{
-    let mut states = Vec::with_capacity(alloc, callers.len())?;
-    'callers: for place in 0..callers.len() {
-        states.push(states_by(alloc, &callers[place])?)?;
-    }
-    Ok(states)
+    Ok((callers, states))
 }
 
 /// The font that these fonts make together. They are known to merge.

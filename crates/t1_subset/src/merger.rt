@@ -1,24 +1,23 @@
 //! The join of two fonts, or their lowest conflict.
 
-ghost use Rattle.std.specs.Prelude.{◌≡◌, ◌<◌, length, IfOk, IfErr, None};
+ghost use Rattle.std.specs.Prelude.{◌≡◌, ◌<◌, length, map, IfOk, IfErr, None};
 ghost use Rattle.t1_subset.specs.Profile.{profile};
 ghost use Rattle.t1_subset.specs.States.{Join, joined_font};
 ghost use Rattle.t1_subset.specs.Conflicts.{conflict, states_conflict};
 ghost use Rattle.t1_subset.specs.Refusals.{Tells};
-ghost use Rattle.t1_subset.specs.Callers.{AreCallersOf, AreNoted, fonts_of};
+ghost use Rattle.t1_subset.specs.Callers.{AreNoted, fonts_of};
 ghost use Rattle.t1_subset.specs.StateTables.{states_of};
-ghost use Rattle.t1_subset.specs.Shared.{shared_of};
 ghost use Rattle.t1_subset.specs.Merger.{IsMerger, MergesItself, DrawsBoth, DrawsAll, ComesTo, IsRefused, AcceptsAllJoin, MergesInAnyOrder, MergesSubsets, MergesAllSubsets};
 
 use crate::callers::Callers;
 use crate::conflict::Conflict;
-use crate::groupings::{made_of, note_fonts, states_of_all};
+use crate::groupings::{made_of, note_fonts};
 use crate::in_turn::all_join;
 use crate::searches::{one_shell, tables_conflict};
 use crate::shared::Shared;
-use crate::state_making::{callers_of, states_from};
+use crate::state_making::note_font;
 use crate::state_value::States;
-use std::alloc::{AllocError, Global};
+use std::alloc::Global;
 use t1_font::{Font, join_parts};
 
 /// The font with the entries of two fonts whose states join, if it is within the limits.
@@ -31,22 +30,6 @@ fn both<'a>(alloc: Global, left: &Font<'a>, right: &Font<'a>) -> Result<Font<'a>
     let font = join_parts(alloc, left, right)?;
     font.proof_is_font();
     Ok(font)
-}
-
-/// The states of a font, by what it shares, and its callers. Each glyph of the font is run once.
-fn note_font<'t, 'a>(
-    alloc: Global,
-    font: &'t Font<'a>,
-    shared: Shared<'a>,
-) -> Result<(Callers<'t, 'a>, States<'a>), AllocError>
-    requires { shared ≡ shared_of font.now }
-    ensures font { IfOk result (λ n. n.0.font.now ≡ font.now) }
-    ensures callers { IfOk result (λ n. AreCallersOf n.0 font.now) }
-    ensures states { IfOk result (λ n. n.1 ≡ states_of profile font.now) }
-{
-    let callers = callers_of(alloc, font)?;
-    let states = states_from(alloc, &callers, shared)?;
-    Ok((callers, states))
 }
 
 /// The lowest conflict of two fonts, except that the limits are not looked at, or want of memory. If what the fonts have
@@ -79,21 +62,21 @@ fn merge_two<'a>(alloc: Global, left: &Font<'a>, right: &Font<'a>) -> Result<Fon
     both(alloc, left, right)
 }
 
-/// The join of one or more fonts, by the callers of each. They and the states are let go before the join is made.
+/// The join of one or more fonts, by the callers of each and its states, which are let go before the join is made.
 fn merge_noted<'a>(
     alloc: Global,
     fonts: &[Font<'a>],
     callers: Vec<Callers<'_, '_>>,
+    states: Vec<States<'_>>,
 ) -> Result<Font<'a>, Conflict>
     requires some { 0 < length fonts.now }
     requires fonts { fonts_of callers.items ≡ fonts.now }
     requires noted { AreNoted callers.items }
+    requires states { states.items ≡ map (states_of profile) fonts.now }
     ensures ok { IfOk result (λ j. ComesTo fonts.now j) }
     ensures err { IfErr result (λ e. IsRefused fonts.now e) }
 {
-    let noted = callers.as_slice();
-    let states = states_of_all(alloc, noted)?;
-    if let Err(conflict) = all_join(alloc, noted, states.as_slice()) {
+    if let Err(conflict) = all_join(alloc, callers.as_slice(), states.as_slice()) {
         return Err(conflict);
     }
     drop(states);
@@ -142,6 +125,6 @@ pub fn merge_all<'a>(alloc: Global, fonts: &[Font<'a>]) -> Result<Font<'a>, Conf
     if fonts.is_empty() {
         return Err(Conflict::Empty);
     }
-    let callers = note_fonts(alloc, fonts)?;
-    merge_noted(alloc, fonts, callers)
+    let (callers, states) = note_fonts(alloc, fonts)?;
+    merge_noted(alloc, fonts, callers, states)
 }

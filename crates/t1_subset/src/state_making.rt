@@ -32,7 +32,7 @@ fn is_again(last: Option<&[u8]>, charstring: Option<&[u8]>) -> bool
 
 /// The smallest glyph that executes each Subr of the font, and the smallest that names each component that it lacks.
 /// Each glyph is run once, or not at all if the one before it has the same charstring.
-pub(crate) fn callers_of<'t, 'a>(
+fn callers_of<'t, 'a>(
     alloc: Global,
     font: &'t Font<'a>,
 ) -> Result<Callers<'t, 'a>, AllocError>
@@ -55,13 +55,31 @@ pub(crate) fn callers_of<'t, 'a>(
     }
     Ok(Callers {
         font,
-        users: used(alloc, &users)?,
+        users,
         seekers,
     })
 }
 
+/// The same callers, with users for the Subrs that a glyph executes and for no others, so those of a font of many stubs
+/// take little room.
+fn compact<'t, 'a>(
+    alloc: Global,
+    callers: Callers<'t, 'a>,
+) -> Result<Callers<'t, 'a>, AllocError>
+    requires { AreCallersOf callers callers.font.now }
+    ensures font { IfOk result (λ c. c.font.now ≡ callers.font.now) }
+    ensures callers { IfOk result (λ c. AreCallersOf c callers.font.now) }
+{
+    let users = used(alloc, &callers.users)?;
+    Ok(Callers {
+        font: callers.font,
+        users,
+        seekers: callers.seekers,
+    })
+}
+
 /// The states of a font, by its callers and what it shares. No glyph is run.
-pub(crate) fn states_from<'a>(
+fn states_from<'a>(
     alloc: Global,
     callers: &Callers<'_, 'a>,
     shared: Shared<'a>,
@@ -82,21 +100,27 @@ pub(crate) fn states_from<'a>(
     })
 }
 
-/// The states of a font, by its callers.
-pub(crate) fn states_by<'a>(
+/// The callers of a font, and its states, by what it shares. Each glyph of the font is run once.
+pub(crate) fn note_font<'t, 'a>(
     alloc: Global,
-    callers: &Callers<'_, 'a>,
-) -> Result<States<'a>, AllocError>
-    requires { AreCallersOf callers.now callers.now.font.now }
-    ensures { IfOk result (λ s. s ≡ states_of profile callers.now.font.now) }
+    font: &'t Font<'a>,
+    shared: Shared<'a>,
+) -> Result<(Callers<'t, 'a>, States<'a>), AllocError>
+    requires { shared ≡ shared_of font.now }
+    ensures font { IfOk result (λ n. n.0.font.now ≡ font.now) }
+    ensures callers { IfOk result (λ n. AreCallersOf n.0 font.now) }
+    ensures states { IfOk result (λ n. n.1 ≡ states_of profile font.now) }
 {
-    states_from(alloc, callers, Shared::of(alloc, callers.font)?)
+    let callers = callers_of(alloc, font)?;
+    let states = states_from(alloc, &callers, shared)?;
+    Ok((compact(alloc, callers)?, states))
 }
 
 /// The states of a font. Each glyph of the font is run once.
 pub fn states<'a>(alloc: Global, font: &Font<'a>) -> Result<States<'a>, AllocError>
     ensures { IfOk result (λ s. s ≡ states_of profile font.now) }
 {
+    let shared = Shared::of(alloc, font)?;
     let callers = callers_of(alloc, font)?;
-    states_by(alloc, &callers)
+    states_from(alloc, &callers, shared)
 }

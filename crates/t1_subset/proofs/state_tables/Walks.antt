@@ -172,12 +172,9 @@ noted_more cs c f h w e k = all_of_both _ cs (c ∷ []) h ((subst IsFont (sym e)
 pub fonts_more : (fs : List FontValue) (i : ℕ) (f : FontValue) → i < length fs → f ≡ get_or fs i f → (cs : List Callers) (c : Callers) → fonts_of cs ≡ take i fs → c.font.now ≡ f → fonts_of (cs ++ c ∷ []) ≡ take (i + 1) fs
 fonts_more fs i f l e cs c h k = map-append _ cs (c ∷ []) ∙ (λ j. h j ++ k j ∷ []) ∙ sym (take_more fs i f l ∙ ap (λ (x : FontValue). take i fs ++ x ∷ []) (sym e))
 
--- the states of one more font are those of one more of the callers
-pub states_more : (cs : List Callers) (i : ℕ) (c : Callers) → i < length cs → c ≡ get_or cs i c → (ss : List StatesValue) (s : StatesValue) → ss ≡ map (states_of profile) (fonts_of (take i cs)) → s ≡ states_of profile c.font.now → ss ++ s ∷ [] ≡ map (states_of profile) (fonts_of (take (i + 1) cs))
-states_more cs i c l e ss s h k =
-    (λ j. h j ++ k j ∷ []) ∙ sym (map-append (states_of profile) (fonts_of (take i cs)) (c.font.now ∷ []))
-    ∙ ap (map (states_of profile)) (sym (map-append _ (take i cs) (c ∷ [])))
-    ∙ ap (λ (ds : List Callers). map (states_of profile) (fonts_of ds)) (sym (take_more cs i c l ∙ ap (λ (d : Callers). take i cs ++ d ∷ []) (sym e)))
+-- the states of one more font are those of one more font of the list
+pub states_more : (fs : List FontValue) (i : ℕ) (f : FontValue) → i < length fs → f ≡ get_or fs i f → (ss : List StatesValue) (s : StatesValue) → ss ≡ map (states_of profile) (take i fs) → s ≡ states_of profile f → ss ++ s ∷ [] ≡ map (states_of profile) (take (i + 1) fs)
+states_more fs i f l e ss s h k = (λ j. h j ++ k j ∷ []) ∙ sym (ap (map (states_of profile)) (take_more fs i f l ∙ ap (λ (x : FontValue). take i fs ++ x ∷ []) (sym e)) ∙ map-append (states_of profile) (take i fs) (f ∷ []))
 
 -- if there are fonts, there are callers
 pub some_noted : (fs : List FontValue) (cs : List Callers) → fonts_of cs ≡ fs → 0 < length fs → 0 < length cs

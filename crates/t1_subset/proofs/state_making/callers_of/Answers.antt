@@ -12,7 +12,7 @@ use Rattle.t1_subset.specs.Conflicts.{wants}
 use Rattle.t1_subset.specs.StateTables.{behind_mark}
 use Rattle.t1_subset.specs.Users.{with_user, user_at}
 use Rattle.t1_subset.proofs.state_tables.FontCallers.{executes_so, calls_so, noted_first, noted_next, noted_last, known_already, known_then, again_same, nothing_noted}
-use Rattle.t1_subset.proofs.state_tables.FontUsers.{has_entry, no_user, still_there, behind_with, behind_used}
+use Rattle.t1_subset.proofs.state_tables.FontUsers.{has_entry, no_user, still_there, behind_with}
 use Rattle.t1_subset.proofs.state_making.callers_of.Goals as goal
 
 pub names-init : goal.names-init
@@ -68,6 +68,6 @@ returns-clause-callers c =
     let f = c.args.font.now in
     let none = rest_all (λ (s : Bor (List ℕ)). s.now) _ _ _ c.in-None.is c.next.ensures.steps in
     record {
-      users = λ q l. ap behind_mark (c.in_ok-used.ensures (of_number q)) ∙ behind_used (maps.get c.names.users (of_number q)) ∙ noted_last (λ n. executes profile f n q) _ _ _ none (c.names.invariant.1 q l);
+      users = λ q l. noted_last (λ n. executes profile f n q) _ _ _ none (c.names.invariant.1 q l);
       seekers = λ p. noted_last (λ n. wants profile f n p) _ _ _ none (c.names.invariant.2 p);
     }
