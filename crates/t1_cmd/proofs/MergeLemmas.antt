@@ -4,8 +4,9 @@ use Rattle.t1_bytes.specs.declared.form.Form.{Form}
 use Rattle.t1_font.specs.FontValue.{FontValue}
 use Rattle.t1_subset.specs.declared.conflict.Conflict.{Conflict as Refusal}
 use Rattle.t1_subset.specs.declared.conflict.Conflict.TheVariants as refusal
-use Rattle.t1_subset.specs.Merger.{ComesTo, IsRefused}
-use Rattle.t1_subset.proofs.ListMergers.{never_stops}
+use Rattle.t1_subset.specs.Merger.{IsRefused}
+use Rattle.t1_algebra.specs.Merges.{ComesTo}
+use Rattle.t1_subset.proofs.Answered.{never_stops}
 use Rattle.t1_cmd.specs.declared.faults.Reason.{Reason}
 use Rattle.t1_cmd.specs.declared.faults.Reason.TheVariants.{TooLong, Memory, List as ListReason, Join as JoinReason, Font, NoGlyph, Merge}
 use Rattle.t1_cmd.specs.declared.faults.RunFault.{RunFault}

@@ -7,13 +7,13 @@ use Rattle.t1_font.specs.Canon.{canon}
 use Rattle.t1_font.specs.Evening.{evened}
 use Rattle.t1_font.specs.Filling.{AreLight, AnyHeavy}
 use Rattle.t1_font.specs.IsFont.{IsFont}
-use Rattle.t1_subset.specs.Merger.{ComesTo}
-use Rattle.t1_subset.specs.Profile.{profile}
-use Rattle.t1_subset.specs.Rejoins.{IsUntagged}
+use Rattle.t1_algebra.specs.Merges.{ComesTo}
+use Rattle.t1_algebra.specs.Profile.{profile}
+use Rattle.t1_algebra.specs.Rejoins.{IsUntagged}
 use Rattle.t1_join.specs.Groupings.{one, from_left}
 use Rattle.t1_join.proofs.OrderLemmas.{leaves_from_left}
-use Rattle.t1_subset.proofs.rejoining.MergingFonts.{merging_fonts_are_even}
-use Rattle.t1_subset.proofs.Orders.{one_result}
+use Rattle.t1_algebra.proofs.rejoining.MergingFonts.{merging_fonts_are_even}
+use Rattle.t1_algebra.proofs.Orders.{one_result}
 use Rattle.t1_cmd.specs.declared.faults.Reason.{Reason}
 use Rattle.t1_cmd.specs.declared.faults.Reason.TheVariants.{TooLong, Memory, List as ListReason, Join as JoinReason, Font, NoGlyph, Merge}
 use Rattle.t1_cmd.specs.declared.faults.RunFault.{RunFault}

@@ -12,15 +12,15 @@ use Rattle.t1_font.specs.ReadFont.{read_font}
 use Rattle.t1_font.specs.WriteLaws.{Fits}
 use Rattle.t1_font.proofs.canonical.LengthLemmas.{canon_short}
 use Rattle.t1_subset.specs.declared.conflict.Conflict.{Conflict as Refusal}
-use Rattle.t1_subset.specs.Interpreter.{Names}
-use Rattle.t1_subset.specs.Profile.{profile}
-use Rattle.t1_subset.specs.Keep.{subset}
-use Rattle.t1_subset.specs.Laws.{IsOf}
+use Rattle.t1_algebra.specs.Interpreter.{Names}
+use Rattle.t1_algebra.specs.Profile.{profile}
+use Rattle.t1_algebra.specs.Keep.{subset}
+use Rattle.t1_algebra.specs.Laws.{IsOf}
 use Rattle.t1_subset.specs.Merger.{IsRefused as FontsRefused}
-use Rattle.t1_subset.specs.Groupings.{union_all}
-use Rattle.t1_subset.proofs.Fonts.{subset_is_font}
-use Rattle.t1_subset.proofs.Headline.{subset_again}
-use Rattle.t1_subset.proofs.ManyMerges.{of_all_subsets}
+use Rattle.t1_algebra.specs.Groupings.{union_all}
+use Rattle.t1_algebra.proofs.Fonts.{subset_is_font}
+use Rattle.t1_algebra.proofs.Headline.{subset_again}
+use Rattle.t1_subset.proofs.Answered.{of_all_subsets}
 use Rattle.t1_cmd.specs.declared.counting.Counted.{Counted}
 use Rattle.t1_cmd.specs.declared.faults.Reason.{Reason}
 use Rattle.t1_cmd.specs.declared.faults.Reason.TheVariants.{TooLong, Memory, List as ListReason, Join as JoinReason, Font, NoGlyph, Merge}

@@ -7,7 +7,7 @@ use Rattle.t1_font.specs.IsFont.{IsFont}
 use Rattle.t1_font.specs.Evening.{evened}
 use Rattle.t1_font.specs.Filling.{AreLight, AnyHeavy}
 use Rattle.t1_subset.specs.declared.conflict.Conflict.TheVariants as conflict
-use Rattle.t1_subset.specs.Rejoins.{IsUntagged}
+use Rattle.t1_algebra.specs.Rejoins.{IsUntagged}
 use Rattle.t1_cmd.specs.declared.faults.Reason.{Reason}
 use Rattle.t1_cmd.specs.declared.faults.Reason.TheVariants.{Merge}
 use Rattle.t1_cmd.specs.declared.faults.RunFault.{RunFault}

@@ -4,9 +4,9 @@ use Rattle.std.specs.FinSet as sets
 use Rattle.t1_bytes.specs.declared.form.Form.{Form}
 use Rattle.t1_font.specs.FontValue.{FontValue}
 use Rattle.t1_font.specs.Canon.{canon}
-use Rattle.t1_subset.specs.Profile.{profile}
-use Rattle.t1_subset.specs.Keep.{has, subset}
-use Rattle.t1_subset.specs.Searches.{first_where}
+use Rattle.t1_algebra.specs.Profile.{profile}
+use Rattle.t1_algebra.specs.Keep.{has, subset}
+use Rattle.t1_algebra.specs.Searches.{first_where}
 use Rattle.t1_cmd.specs.declared.faults.Reason.{Reason}
 use Rattle.t1_cmd.specs.declared.faults.Reason.TheVariants.{NoGlyph}
 

@@ -6,11 +6,11 @@ use Rattle.t1_font.specs.FontValue.{FontValue}
 use Rattle.t1_font.specs.IsFont.{IsFont}
 use Rattle.t1_font.specs.Canon.{canon}
 use Rattle.t1_font.specs.WriteLaws.{Fits}
-use Rattle.t1_subset.specs.Interpreter.{Names}
-use Rattle.t1_subset.specs.Profile.{profile}
-use Rattle.t1_subset.specs.Keep.{subset}
-use Rattle.t1_subset.specs.Laws.{IsOf}
-use Rattle.t1_subset.specs.Groupings.{union_all}
+use Rattle.t1_algebra.specs.Interpreter.{Names}
+use Rattle.t1_algebra.specs.Profile.{profile}
+use Rattle.t1_algebra.specs.Keep.{subset}
+use Rattle.t1_algebra.specs.Laws.{IsOf}
+use Rattle.t1_algebra.specs.Groupings.{union_all}
 use Rattle.t1_cmd.specs.declared.counting.Counted.{Counted}
 use Rattle.t1_cmd.specs.declared.faults.Reason.TheVariants.{Memory}
 use Rattle.t1_cmd.specs.declared.faults.RunFault.{RunFault}

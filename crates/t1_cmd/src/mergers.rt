@@ -1,6 +1,6 @@
 //! The engine that merges fonts.
 ghost use Rattle.std.specs.Prelude.{◌≡◌, ◌++◌, ◌∷◌, [], Ok, OnOk, IfOk, IfErr};
-ghost use Rattle.t1_subset.specs.Merger.{ComesTo};
+ghost use Rattle.t1_algebra.specs.Merges.{ComesTo};
 ghost use Rattle.t1_cmd.specs.Fonts.{font_input};
 ghost use Rattle.t1_cmd.specs.Inputs.{Say};
 ghost use Rattle.t1_cmd.specs.Runs.{RunEnds, Succeeds};

@@ -19,16 +19,16 @@ use Rattle.t1_font.proofs.ReadAgain.{reads_again, one_font}
 use Rattle.t1_font.proofs.canonical.RoundTrip.{round_trip}
 use Rattle.t1_subset.specs.declared.fault.SubsetFault.{SubsetFault}
 use Rattle.t1_subset.specs.declared.fault.SubsetFault.TheVariants as subsetting
-use Rattle.t1_subset.specs.Interpreter.{Names}
-use Rattle.t1_subset.specs.Keep.{has, keep, subset}
-use Rattle.t1_subset.specs.Searches.{first_where}
-use Rattle.t1_subset.specs.Laws.{IsOf, AnswersAlike}
-use Rattle.t1_subset.specs.Profile.{profile}
+use Rattle.t1_algebra.specs.Interpreter.{Names}
+use Rattle.t1_algebra.specs.Keep.{has, keep, subset}
+use Rattle.t1_algebra.specs.Searches.{first_where}
+use Rattle.t1_algebra.specs.Laws.{IsOf, AnswersAlike}
+use Rattle.t1_algebra.specs.Profile.{profile}
 use Rattle.t1_subset.specs.Refusals.{Absent}
-use Rattle.t1_subset.proofs.Alike.{subset_alike, answers_alike}
-use Rattle.t1_subset.proofs.Fonts.{subset_is_font}
-use Rattle.t1_subset.proofs.Searching.{false_of}
-use Rattle.t1_subset.proofs.Sets.{name_same, itself, or_left, or_right, in_list, from_in_list, in_union}
+use Rattle.t1_algebra.proofs.Alike.{subset_alike, answers_alike}
+use Rattle.t1_algebra.proofs.Fonts.{subset_is_font}
+use Rattle.t1_algebra.proofs.Searching.{false_of}
+use Rattle.t1_algebra.proofs.Sets.{name_same, itself, or_left, or_right, in_list, from_in_list, in_union}
 use Rattle.t1_example.specs.declared.refusal.Refusal.{Refusal}
 use Rattle.t1_example.specs.Joining.{CanBeCut, IsMemory, union_subset}
 use Rattle.t1_subset.specs.declared.conflict.Conflict.{Conflict}

@@ -9,10 +9,10 @@ use Rattle.t1_font.specs.Spelling.{Spells}
 use Rattle.t1_font.specs.WriteLaws.{Fits}
 use Rattle.t1_subset.specs.declared.fault.SubsetFault.TheVariants as subsetting
 use Rattle.t1_subset.specs.declared.conflict.Conflict.TheVariants as merging
-use Rattle.t1_subset.specs.Interpreter.{Names}
-use Rattle.t1_subset.specs.Keep.{subset}
-use Rattle.t1_subset.specs.Laws.{IsOf}
-use Rattle.t1_subset.specs.Profile.{profile}
+use Rattle.t1_algebra.specs.Interpreter.{Names}
+use Rattle.t1_algebra.specs.Keep.{subset}
+use Rattle.t1_algebra.specs.Laws.{IsOf}
+use Rattle.t1_algebra.specs.Profile.{profile}
 use Rattle.t1_example.specs.declared.refusal.Refusal.{Refusal}
 use Rattle.t1_example.specs.declared.refusal.Refusal.TheVariants.{Read, Subset, Merge, Memory}
 

@@ -23,12 +23,12 @@ ghost use Rattle.t1_font.specs.IsFont.{IsFont};
 ghost use Rattle.t1_font.specs.ReadFont.{read_font};
 ghost use Rattle.t1_font.specs.Spelling.{Spells};
 ghost use Rattle.t1_font.specs.WriteLaws.{Fits};
-ghost use Rattle.t1_subset.specs.Interpreter.{Names};
-ghost use Rattle.t1_subset.specs.Keep.{keep, subset};
-ghost use Rattle.t1_subset.specs.Laws.{AnswersAlike, IsOf};
+ghost use Rattle.t1_algebra.specs.Interpreter.{Names};
+ghost use Rattle.t1_algebra.specs.Keep.{keep, subset};
+ghost use Rattle.t1_algebra.specs.Laws.{AnswersAlike, IsOf};
 ghost use Rattle.t1_subset.specs.NameSets.{asked};
 ghost use Rattle.t1_subset.specs.Merger.{MergesSubsets};
-ghost use Rattle.t1_subset.specs.Profile.{profile};
+ghost use Rattle.t1_algebra.specs.Profile.{profile};
 ghost use Rattle.t1_example.specs.Joining.{AreSubsets, CanBeCut, IsMemory, union_subset};
 
 pub use refusal::Refusal;

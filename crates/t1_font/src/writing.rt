@@ -258,9 +258,10 @@ fn put_cipher(out: &mut Vec<u8>, parts: &FontParts<'_>) -> Result<(), AllocError
 
 /// How many bytes the clear text has at most, as far as it can be told.
 fn clear_room(parts: &FontParts<'_>) -> usize {
+    let shell = parts.shell;
     encoding_room(&parts.encoding)
-        .saturating_add(parts.shell.head.len())
-        .saturating_add(parts.shell.clear_tail.len())
+        .saturating_add(shell.head.len())
+        .saturating_add(shell.clear_tail.len())
 }
 
 /// How many bytes the entries of Subrs have at most.

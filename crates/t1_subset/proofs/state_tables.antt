@@ -1,15 +1,11 @@
 pub mod ByNumber
 pub mod FirstConflicts
 pub mod FontCallers
-pub mod FontStates
 pub mod FontUsers
 pub mod LowestKeys
 pub mod MergedFonts
 pub mod NameClashes
-pub mod NameTables
-pub mod Numbered
 pub mod StateClashes
 pub mod StateTrees
 pub mod TableStates
-pub mod TableWeights
 pub mod Walks

@@ -6,13 +6,15 @@ use Rattle.t1_font.specs.FontValue.{FontValue, name_cmp}
 use Rattle.t1_font.specs.FontModel.{names_in}
 use Rattle.t1_font.specs.IsFont.{IsFont}
 use Rattle.t1_subset.specs.declared.callers.Callers.{Callers}
-use Rattle.t1_subset.specs.Interpreter.{same_bytes}
-use Rattle.t1_subset.specs.Profile.{profile}
-use Rattle.t1_subset.specs.Conflicts.{wants}
-use Rattle.t1_subset.specs.States.{executes}
-use Rattle.t1_subset.specs.Searches.{first_where}
+use Rattle.t1_algebra.specs.Interpreter.{same_bytes}
+use Rattle.t1_algebra.specs.Profile.{profile}
+use Rattle.t1_algebra.specs.Conflicts.{wants}
+use Rattle.t1_algebra.specs.States.{executes}
+use Rattle.t1_algebra.specs.Searches.{first_where}
 use Rattle.t1_subset.specs.Differences.{smaller}
-use Rattle.t1_subset.specs.Users.{user_at}
+use Rattle.t1_subset.specs.declared.state_making.Uses.{Uses}
+use Rattle.t1_subset.specs.Users.{noted_at}
+use Rattle.t1_join.specs.Meaning.{of_number}
 
 -- the smallest glyph of the font that executes the index
 abbrev pub user_of : FontValue → ℕ → Option (List ℕ)
@@ -30,9 +32,14 @@ same_charstring (Some c) (Some d) = same_bytes c d
 
 -- ---- in code
 
+-- what was noted are the callers in the font of each Subr that it has and of each component
+pub record AreUsesOf (u : Uses) (f : FontValue) : Type 0 where
+  pub users : (i : ℕ) → maps.contains_key f.subrs i ≡ true → noted_at u.users.items i ≡ user_of f i
+  pub seekers : (p : List ℕ) → maps.get u.seekers p ≡ seeker_of f p
+
 -- these are the callers in the font of each Subr that it has and of each component
 pub record AreCallersOf (c : Callers) (f : FontValue) : Type 0 where
-  pub users : (i : ℕ) → maps.contains_key f.subrs i ≡ true → user_at c.users i ≡ user_of f i
+  pub users : (i : ℕ) → maps.contains_key f.subrs i ≡ true → maps.get c.users (of_number i) ≡ user_of f i
   pub seekers : (p : List ℕ) → maps.get c.seekers p ≡ seeker_of f p
 
 -- the fonts that a list of callers belongs to
@@ -46,7 +53,7 @@ AreNoted cs = AllByRecursion (λ c. IsFont c.font.now × AreCallersOf c c.font.n
 -- the smallest of a name and the users of an index in a list of callers
 abbrev pub user_from : Option (List ℕ) → List Callers → ℕ → Option (List ℕ)
 user_from best [] i = best
-user_from best (c ∷ cs) i = user_from (smaller name_cmp best (user_at c.users i)) cs i
+user_from best (c ∷ cs) i = user_from (smaller name_cmp best (maps.get c.users (of_number i))) cs i
 
 -- the smallest of a name and the seekers of a component in a list of callers
 abbrev pub seeker_from : Option (List ℕ) → List Callers → List ℕ → Option (List ℕ)

@@ -2,7 +2,7 @@
 use Rattle.std.specs.Prelude.{ℕ}
 use Rattle.std.specs.BTreeSet.{BTreeSet}
 use Rattle.std.specs.FinSet as sets
-use Rattle.t1_subset.specs.Interpreter.{Numbers}
+use Rattle.t1_algebra.specs.Interpreter.{Numbers}
 
 -- a set of indices in memory
 abbrev pub number_set : BTreeSet ℕ → Numbers

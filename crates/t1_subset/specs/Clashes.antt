@@ -1,4 +1,4 @@
--- How the states of a name clash in two fonts, and the lowest conflict of entries and of uses.
+-- The callers and the states of two fonts, and their lowest conflict of entries and of uses.
 use Rattle.std.specs.Prelude.{◌≡◌, ℕ, Bool, true, false, not, ◌&&◌, ◌||◌, List, [], ◌∷◌, Option, Some, None, is_some}
 use Rattle.std.specs.Option.{unwrap_or}
 use Rattle.std.specs.FinMap as maps
@@ -8,37 +8,11 @@ use Rattle.t1_join.specs.TableMeaning.{TableMeaning}
 use Rattle.t1_font.specs.FontValue.{FontValue}
 use Rattle.t1_subset.specs.declared.callers.Callers.{Callers}
 use Rattle.t1_font.specs.IsFont.{IsFont}
-use Rattle.t1_subset.specs.Profile.{profile}
-use Rattle.t1_subset.specs.StateTables.{StatesValue, states_of, behind_mark, name_meaning}
-use Rattle.t1_subset.specs.Conflicts.{Conflict, ShellDiffers, CodeDiffers, GlyphDiffers, LacksComponent, SubrDiffers, agrees, shell_conflict, code_conflict, glyph_conflict, component_conflict, subr_conflict, wanted_by, used_by, glyph_names}
-use Rattle.t1_subset.specs.Searches.{found, smallest}
+use Rattle.t1_algebra.specs.Profile.{profile}
+use Rattle.t1_algebra.specs.StateTables.{StatesValue, states_of, behind_mark, name_meaning}
+use Rattle.t1_algebra.specs.Conflicts.{Conflict, ShellDiffers, CodeDiffers, GlyphDiffers, LacksComponent, SubrDiffers, agrees, shell_conflict, code_conflict, glyph_conflict, component_conflict, subr_conflict, wanted_by, used_by, glyph_names}
+use Rattle.t1_algebra.specs.Searches.{found, smallest}
 use Rattle.t1_subset.specs.Callers.{user_from, seeker_from}
-
--- the name is sought
-abbrev pub is_sought_in : State → Bool
-is_sought_in None = false
-is_sought_in (Some []) = true
-is_sought_in (Some (mark ∷ c)) = false
-
--- both states are charstrings, and they differ
-abbrev pub charstrings_differ : State → State → Bool
-charstrings_differ x y = not (agrees (behind_mark x) (behind_mark y))
-
--- the name is sought, and the other state is a charstring
-abbrev pub lacks : State → State → Bool
-lacks x y = is_sought_in x && is_some (behind_mark y)
-
--- the name of one of both is sought, and the other has a charstring
-abbrev pub one_lacks : State → State → Bool
-one_lacks x y = lacks x y || lacks y x
-
--- the table has another charstring for the name of a glyph
-abbrev pub differs_from : TableMeaning → List ℕ × List ℕ → Bool
-differs_from t e = charstrings_differ (Some (name_meaning (Some e.1))) (maps.get t e.0)
-
--- the one table seeks the name of an entry, and the other has a glyph for it
-abbrev pub lacks_in : TableMeaning → TableMeaning → Meaning × Meaning → Bool
-lacks_in s t e = lacks (maps.get s e.0) (maps.get t e.0)
 
 -- the smallest callers in the list are the smallest of both fonts
 pub record AreCallers (cs : List Callers) (f g : FontValue) : Type 0 where

@@ -2,7 +2,7 @@
 use Rattle.std.specs.Prelude.{ℕ, cond, List, [], ◌∷◌, ◌++◌}
 use Rattle.std.specs.Coded.{Coded, coded_list, coded_ℕ}
 use Rattle.std.specs.List.{list_any}
-use Rattle.t1_subset.specs.Interpreter.{same_bytes}
+use Rattle.t1_algebra.specs.Interpreter.{same_bytes}
 
 -- the list with the name added at its end, unless it is there already
 abbrev pub push_new : List (List ℕ) → List ℕ → List (List ℕ)

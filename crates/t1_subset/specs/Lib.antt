@@ -1,16 +1,3 @@
-pub mod Interpreter
-pub mod Profile
-pub mod Keep
-pub mod Searches
-pub mod Shared
-pub mod States
-pub mod StateTables
-pub mod StateLaws
-pub mod JoinedEntries
-pub mod Outcomes
-pub mod Groupings
-pub mod Conflicts
-pub mod Laws
 pub mod Differences
 pub mod NameSets
 pub mod ClosureNames
@@ -20,7 +7,4 @@ pub mod Callers
 pub mod Clashes
 pub mod Refusals
 pub mod Merger
-pub mod Headline
-pub mod Evened
 pub mod FaultTexts
-pub mod Rejoins

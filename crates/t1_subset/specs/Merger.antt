@@ -1,4 +1,4 @@
--- What merges come to, and what merges of the subsets of one font come to.
+-- What the calls that merge answer.
 use Rattle.std.specs.Prelude.{◌≡◌, ◌⊎◌, ℕ, true, List, [], ◌∷◌, ◌++◌, map, Result, MatchResult, IsPermutation}
 use Rattle.std.specs.FinSet as sets
 use Rattle.std.specs.List.{AllByRecursion}
@@ -6,15 +6,16 @@ use Rattle.t1_font.specs.FontValue.{FontValue}
 use Rattle.t1_font.specs.IsFont.{IsFont}
 use Rattle.t1_subset.specs.declared.conflict.Conflict.{Conflict as Refusal}
 use Rattle.t1_subset.specs.declared.conflict.Conflict.TheVariants.{Memory, Empty}
-use Rattle.t1_subset.specs.Interpreter.{Names}
-use Rattle.t1_subset.specs.Keep.{has, subset}
-use Rattle.t1_subset.specs.Profile.{profile}
-use Rattle.t1_subset.specs.States.{Join, joined_font, IsWithin}
-use Rattle.t1_subset.specs.Laws.{IsOf, DrawsAlike}
-use Rattle.t1_subset.specs.Conflicts.{conflict}
+use Rattle.t1_algebra.specs.Interpreter.{Names}
+use Rattle.t1_algebra.specs.Keep.{has, subset}
+use Rattle.t1_algebra.specs.Profile.{profile}
+use Rattle.t1_algebra.specs.States.{Join, joined_font, IsWithin}
+use Rattle.t1_algebra.specs.Laws.{IsOf, DrawsAlike}
+use Rattle.t1_algebra.specs.Conflicts.{conflict}
 use Rattle.t1_subset.specs.Refusals.{Tells}
 use Rattle.t1_join.specs.Groupings.{Grouping, one, leaves, from_left}
-use Rattle.t1_subset.specs.Groupings.{folded, EachPair, Merges, union_all}
+use Rattle.t1_algebra.specs.Groupings.{folded, EachPair, Merges, union_all}
+use Rattle.t1_algebra.specs.Merges.{ComesTo, AllJoin, MergesTo, MergesToNone}
 
 -- the fonts join and this is their join, or their lowest conflict is told, or a growth was refused
 abbrev pub IsMerger : FontValue → FontValue → Result FontValue Refusal → Type 0
@@ -23,10 +24,6 @@ IsMerger f g r = MatchResult r (λ j. Join profile f g × (j ≡ joined_font pro
 -- a font merged with itself is itself, or a growth was refused
 abbrev pub MergesItself : FontValue → FontValue → Result FontValue Refusal → Type 0
 MergesItself f g r = f ≡ g → MatchResult r (λ j. j ≡ f) (λ e. e ≡ Memory)
-
--- each glyph of either font runs and draws in j as it did
-abbrev pub DrawsBoth : FontValue → FontValue → FontValue → Type 0
-DrawsBoth f g j = ((n : List ℕ) → has f n ≡ true → DrawsAlike f j n) × ((n : List ℕ) → has g n ≡ true → DrawsAlike g j n)
 
 -- The fonts before one of the list merge to a font that does not join it, and the refusal tells the lowest conflict of the two.
 pub record StopsAt (f : FontValue) (fs : List FontValue) (e : Refusal) : Type 0 where
@@ -38,39 +35,13 @@ pub record StopsAt (f : FontValue) (fs : List FontValue) (e : Refusal) : Type 0 
   pub merges : Merges profile (from_left (one f) before) joined
   pub tells : Tells e (conflict profile joined font)
 
--- the fonts, merged from left to right, come to j
-abbrev pub ComesTo : List FontValue → FontValue → Type 0
-ComesTo [] j = ⊥
-ComesTo (f ∷ fs) j = Merges profile (from_left (one f) fs) j
-
--- each glyph of each of the fonts runs and draws in j as it did
-abbrev pub DrawsAll : List FontValue → FontValue → Type 0
-DrawsAll fs j = AllByRecursion (λ f. (n : List ℕ) → has f n ≡ true → DrawsAlike f j n) fs
-
--- there are fonts, the states of each two of them join, and the font of all is within the limits
-abbrev pub AllJoin : List FontValue → Type 0
-AllJoin [] = ⊥
-AllJoin (f ∷ fs) = EachPair profile (f ∷ fs) × IsWithin (folded profile f fs)
-
 -- the fonts are accepted exactly if all of them join, unless a growth was refused
 abbrev pub AcceptsAllJoin : List FontValue → Result FontValue Refusal → Type 0
 AcceptsAllJoin fs r = MatchResult r (λ j. AllJoin fs) (λ e. (e ≡ Memory) ⊎ ¬ AllJoin fs)
 
--- this order and grouping of the fonts comes to j, and to no other font
-abbrev pub MergesTo : Grouping FontValue → FontValue → Type 0
-MergesTo t j = Merges profile t j × ((k : FontValue) → Merges profile t k → k ≡ j)
-
--- this order and grouping of the fonts comes to no font
-abbrev pub MergesToNone : Grouping FontValue → Type 0
-MergesToNone t = (k : FontValue) → ¬ Merges profile t k
-
 -- each order and grouping of the fonts comes to the font that is answered, or each comes to none, or a growth was refused
 abbrev pub MergesInAnyOrder : List FontValue → Result FontValue Refusal → Type 0
 MergesInAnyOrder fs r = (t : Grouping FontValue) → IsPermutation fs (leaves t) → MatchResult r (λ j. MergesTo t j) (λ e. (e ≡ Memory) ⊎ MergesToNone t)
-
--- each grouping of the fonts, in their order, comes to a font
-abbrev pub EachGroupingMerges : List FontValue → Type 0
-EachGroupingMerges fs = (t : Grouping FontValue) → leaves t ≡ fs → (j : FontValue) × Merges profile t j
 
 -- there are no fonts, or a growth was refused, or a font does not join those before it
 abbrev pub IsRefused : List FontValue → Refusal → Type 0

@@ -4,7 +4,7 @@ use Rattle.std.specs.Borrow.{Bor}
 use Rattle.std.specs.Global.{Vec}
 use Rattle.std.specs.Coded.{Coded, coded_list, coded_ℕ}
 use Rattle.std.specs.FinSet as sets
-use Rattle.t1_subset.specs.Interpreter.{Names}
+use Rattle.t1_algebra.specs.Interpreter.{Names}
 
 -- the names of a list, as bytes
 abbrev pub names_of : List (Vec ℕ) → List (List ℕ)

@@ -5,9 +5,9 @@ ghost use Rattle.std.specs.Option.{option_map};
 ghost use Rattle.std.specs.FinMap as maps;
 ghost use Rattle.std.specs.List.{list_any};
 ghost use Rattle.t1_font.specs.FontValue.{name_cmp};
-ghost use Rattle.t1_subset.specs.Interpreter.{same_bytes};
-ghost use Rattle.t1_subset.specs.States.{joined};
-ghost use Rattle.t1_subset.specs.Keep.{has};
+ghost use Rattle.t1_algebra.specs.Interpreter.{same_bytes};
+ghost use Rattle.t1_algebra.specs.States.{joined};
+ghost use Rattle.t1_algebra.specs.Keep.{has};
 ghost use Rattle.t1_subset.specs.Differences.{smaller};
 ghost use Rattle.t1_subset.specs.Callers.{user_from, seeker_from};
 

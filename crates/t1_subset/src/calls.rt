@@ -2,8 +2,8 @@
 
 ghost use Rattle.std.specs.Prelude.{◌≡◌, IfOk, OnOk, ◌∷◌, [], map};
 ghost use Rattle.std.specs.FinSet as sets;
-ghost use Rattle.t1_subset.specs.Profile.{profile, set_of};
-ghost use Rattle.t1_subset.specs.Keep.{components, charstring};
+ghost use Rattle.t1_algebra.specs.Profile.{profile, set_of};
+ghost use Rattle.t1_algebra.specs.Keep.{components, charstring};
 
 use std::alloc::{AllocError, Global};
 use t1_font::Font;

@@ -2,7 +2,7 @@
 
 ghost use Rattle.std.specs.Prelude.{◌≡◌, OnOk, List, ℕ, [], map, filter, slice_get};
 ghost use Rattle.std.specs.Option.{option_map};
-ghost use Rattle.t1_subset.specs.Keep.{has};
+ghost use Rattle.t1_algebra.specs.Keep.{has};
 ghost use Rattle.t1_subset.specs.ClosureNames.{push_new, push_all};
 ghost use Rattle.t1_subset.specs.NameSets.{lent};
 

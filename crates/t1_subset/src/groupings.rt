@@ -1,10 +1,10 @@
 //! Many fonts at once: what is noted of each, and the font that they make.
 
 ghost use Rattle.std.specs.Prelude.{◌≡◌, ◌<◌, IfOk, IfErr, length, map};
-ghost use Rattle.t1_subset.specs.Profile.{profile};
-ghost use Rattle.t1_subset.specs.StateTables.{states_of};
+ghost use Rattle.t1_algebra.specs.Profile.{profile};
+ghost use Rattle.t1_algebra.specs.StateTables.{states_of};
 ghost use Rattle.t1_subset.specs.Callers.{AreNoted, fonts_of};
-ghost use Rattle.t1_subset.specs.Merger.{EachGroupingMerges, ComesTo};
+ghost use Rattle.t1_algebra.specs.Merges.{EachGroupingMerges, ComesTo};
 
 use crate::callers::Callers;
 use crate::conflict::Conflict;

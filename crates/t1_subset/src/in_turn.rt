@@ -2,14 +2,15 @@
 
 ghost use Rattle.std.specs.Prelude.{◌≡◌, ◌<◌, ◌⊎◌, IfOk, IfErr, length, map};
 ghost use Rattle.t1_font.specs.FontValue.{FontValue};
-ghost use Rattle.t1_subset.specs.Profile.{profile};
-ghost use Rattle.t1_subset.specs.StateTables.{StatesAgree, StatesJoin, states_of};
-ghost use Rattle.t1_subset.specs.States.{Join, joined_font};
-ghost use Rattle.t1_subset.specs.Conflicts.{conflict};
+ghost use Rattle.t1_algebra.specs.Profile.{profile};
+ghost use Rattle.t1_algebra.specs.StateTables.{StatesAgree, StatesJoin, states_of};
+ghost use Rattle.t1_algebra.specs.States.{Join, joined_font};
+ghost use Rattle.t1_algebra.specs.Conflicts.{conflict};
 ghost use Rattle.t1_subset.specs.Clashes.{AreStatesOf, AreCallers};
 ghost use Rattle.t1_subset.specs.Refusals.{Tells};
 ghost use Rattle.t1_subset.specs.Callers.{AreNoted, fonts_of};
-ghost use Rattle.t1_subset.specs.Merger.{EachGroupingMerges, IsRefused};
+ghost use Rattle.t1_subset.specs.Merger.{IsRefused};
+ghost use Rattle.t1_algebra.specs.Merges.{EachGroupingMerges};
 
 use crate::callers::Callers;
 use crate::conflict::Conflict;

@@ -1,10 +1,10 @@
 //! Laws of subsets and mergers. They speak of the definitions alone and depend on no code.
 
-ghost use Rattle.t1_subset.specs.Laws.{KeepIsLeast, KeepIsMonotone, Distribution, SubsetIsFont, SubsetOfSubset, Bottom, SubsetsDraw, TwoSubsets, ManySubsets, JoinIsFont, JoinIsSymmetric, JoinIsIdempotent, StatesOfJoin, JoinsDraw, AnyOrder, AcceptedByPairs, JoinWhereStatesAgree, NoConflictIsJoin, ConflictIsSymmetric, JoinHasEntries, CallsDrawAlike};
-ghost use Rattle.t1_subset.specs.Profile.{profile};
-ghost use Rattle.t1_subset.specs.Headline.{Headline};
-ghost use Rattle.t1_subset.specs.Evened.{EvenedDraw};
-ghost use Rattle.t1_subset.specs.Rejoins.{TruncatedSubsetsRejoin, MergingFontsAreEven};
+ghost use Rattle.t1_algebra.specs.Laws.{KeepIsLeast, KeepIsMonotone, Distribution, SubsetIsFont, SubsetOfSubset, Bottom, SubsetsDraw, TwoSubsets, ManySubsets, JoinIsFont, JoinIsSymmetric, JoinIsIdempotent, StatesOfJoin, JoinsDraw, AnyOrder, AcceptedByPairs, JoinWhereStatesAgree, NoConflictIsJoin, ConflictIsSymmetric, JoinHasEntries, CallsDrawAlike};
+ghost use Rattle.t1_algebra.specs.Profile.{profile};
+ghost use Rattle.t1_algebra.specs.Headline.{Headline};
+ghost use Rattle.t1_algebra.specs.Evened.{EvenedDraw};
+ghost use Rattle.t1_algebra.specs.Rejoins.{TruncatedSubsetsRejoin, MergingFontsAreEven};
 
 /// For every input that spells a font F and all sets A and B of its glyph names, reading the written subsets over A
 /// and B and merging them, in either order, writes the bytes of the subset over A together with B. Over any list of

@@ -1,13 +1,14 @@
 //! The join of two fonts, or their lowest conflict.
 
 ghost use Rattle.std.specs.Prelude.{◌≡◌, ◌<◌, length, map, IfOk, IfErr, None};
-ghost use Rattle.t1_subset.specs.Profile.{profile};
-ghost use Rattle.t1_subset.specs.States.{Join, joined_font};
-ghost use Rattle.t1_subset.specs.Conflicts.{conflict, states_conflict};
+ghost use Rattle.t1_algebra.specs.Profile.{profile};
+ghost use Rattle.t1_algebra.specs.States.{Join, joined_font};
+ghost use Rattle.t1_algebra.specs.Conflicts.{conflict, states_conflict};
 ghost use Rattle.t1_subset.specs.Refusals.{Tells};
 ghost use Rattle.t1_subset.specs.Callers.{AreNoted, fonts_of};
-ghost use Rattle.t1_subset.specs.StateTables.{states_of};
-ghost use Rattle.t1_subset.specs.Merger.{IsMerger, MergesItself, DrawsBoth, DrawsAll, ComesTo, IsRefused, AcceptsAllJoin, MergesInAnyOrder, MergesSubsets, MergesAllSubsets};
+ghost use Rattle.t1_algebra.specs.StateTables.{states_of};
+ghost use Rattle.t1_subset.specs.Merger.{IsMerger, MergesItself, IsRefused, AcceptsAllJoin, MergesInAnyOrder, MergesSubsets, MergesAllSubsets};
+ghost use Rattle.t1_algebra.specs.Merges.{DrawsBoth, DrawsAll, ComesTo};
 
 use crate::callers::Callers;
 use crate::conflict::Conflict;

@@ -17,7 +17,7 @@ pub(crate) struct NameSet {
 }
 
 impl Model for NameSet {
-    ghost use Rattle.t1_subset.specs.Interpreter.{Names};
+    ghost use Rattle.t1_algebra.specs.Interpreter.{Names};
     ghost use Rattle.t1_subset.specs.NameSets.{names_code, set_by};
 
     ghost Value = { Names };

@@ -6,11 +6,11 @@ ghost use Rattle.std.specs.FinMap as maps;
 ghost use Rattle.t1_font.specs.FontValue.{name_cmp, total, glyph_weight};
 ghost use Rattle.t1_font.specs.FontModel.{clamp};
 ghost use Rattle.t1_join.specs.Meaning.{Meaning};
-ghost use Rattle.t1_subset.specs.Profile.{profile};
-ghost use Rattle.t1_subset.specs.StateTables.{name_states, AreNameStates, behind_mark, new_entries, name_adds, name_counts, one_each};
+ghost use Rattle.t1_algebra.specs.Profile.{profile};
+ghost use Rattle.t1_algebra.specs.StateTables.{name_states, AreNameStates, behind_mark, new_entries, name_adds, name_counts, one_each};
 ghost use Rattle.t1_subset.specs.Callers.{seeker_of};
-ghost use Rattle.t1_subset.specs.Clashes.{is_sought_in, charstrings_differ, lacks, one_lacks, differs_from, lacks_in};
-ghost use Rattle.t1_subset.specs.Searches.{first_where, IsLowest};
+ghost use Rattle.t1_algebra.specs.NameStates.{is_sought_in, charstrings_differ, lacks, one_lacks, differs_from, lacks_in};
+ghost use Rattle.t1_algebra.specs.Searches.{first_where, IsLowest};
 
 use crate::callers::{Seekers, smaller};
 use crate::shared::differ;
@@ -47,7 +47,7 @@ pub(crate) struct NameTable<'a> {
 
 impl<'a> Model for NameTable<'a> {
     ghost use Rattle.t1_join.specs.TableMeaning.{TableMeaning, table_code};
-    ghost use Rattle.t1_subset.specs.StateTables.{names_table, AreSought};
+    ghost use Rattle.t1_algebra.specs.StateTables.{names_table, AreSought};
 
     ghost Value = { TableMeaning };
 

@@ -4,12 +4,12 @@ ghost use Rattle.std.specs.Prelude.{◌≡◌, ◌<◌, IfOk, IfErr, Some, None,
 ghost use Rattle.std.specs.Option.{option_map, unwrap_or};
 ghost use Rattle.t1_font.specs.FontValue.{FontValue};
 ghost use Rattle.t1_font.specs.IsFont.{IsFont};
-ghost use Rattle.t1_subset.specs.Profile.{profile};
-ghost use Rattle.t1_subset.specs.StateTables.{numbered, code_states, used_subrs};
-ghost use Rattle.t1_subset.specs.Conflicts.{ShellDiffers, GlyphDiffers, LacksComponent, SubrDiffers, shell_conflict, code_conflict, subr_conflict, states_conflict};
+ghost use Rattle.t1_algebra.specs.Profile.{profile};
+ghost use Rattle.t1_algebra.specs.StateTables.{numbered, code_states, used_subrs};
+ghost use Rattle.t1_algebra.specs.Conflicts.{ShellDiffers, GlyphDiffers, LacksComponent, SubrDiffers, shell_conflict, code_conflict, subr_conflict, states_conflict};
 ghost use Rattle.t1_subset.specs.Clashes.{AreStatesOf, AreCallers, entries_conflict, uses_conflict};
 ghost use Rattle.t1_subset.specs.Refusals.{Tells};
-ghost use Rattle.t1_subset.specs.Shared.{differing_part};
+ghost use Rattle.t1_algebra.specs.Shared.{differing_part};
 
 use crate::callers::{Callers, seeker, user};
 use crate::conflict::Conflict;

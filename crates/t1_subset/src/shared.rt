@@ -4,10 +4,10 @@ ghost use Rattle.std.specs.Prelude.{◌≡◌, ◌↔◌, IsTrue, IfOk, not, map
 ghost use Rattle.std.specs.Option.{option_map};
 ghost use Rattle.std.specs.FinMap as maps;
 ghost use Rattle.t1_font.specs.FontModel.{part_of};
-ghost use Rattle.t1_subset.specs.Interpreter.{same_bytes};
-ghost use Rattle.t1_subset.specs.Conflicts.{agrees};
-ghost use Rattle.t1_subset.specs.Searches.{first_where};
-ghost use Rattle.t1_subset.specs.Shared.{shared_of, same_part, same_word, differing_part};
+ghost use Rattle.t1_algebra.specs.Interpreter.{same_bytes};
+ghost use Rattle.t1_algebra.specs.Conflicts.{agrees};
+ghost use Rattle.t1_algebra.specs.Searches.{first_where};
+ghost use Rattle.t1_algebra.specs.Shared.{shared_of, same_part, same_word, differing_part};
 ghost use Rattle.t1_subset.specs.Differences.{shell_part};
 
 use crate::conflict::ShellPart;
@@ -27,7 +27,7 @@ pub(crate) struct Shared<'a> {
 impl<'a> Model for Shared<'a> {
     ghost use Rattle.std.specs.Option.{option_map};
     ghost use Rattle.std.specs.FinMap.{keys};
-    ghost use Rattle.t1_subset.specs.Shared.{Shared as SharedValue, shared_code};
+    ghost use Rattle.t1_algebra.specs.Shared.{Shared as SharedValue, shared_code};
 
     ghost Value = { SharedValue };
 

@@ -5,8 +5,8 @@ ghost use Rattle.std.specs.FinMap as maps;
 ghost use Rattle.t1_join.specs.TableMeaning.{TablesAgree};
 ghost use Rattle.t1_font.specs.FontValue.{total, weight_limit, count_limit};
 ghost use Rattle.t1_font.specs.FontModel.{clamp};
-ghost use Rattle.t1_subset.specs.StateTables.{StatesFit, code_part, name_part, subr_part, new_entries, subr_adds, joint_weight, joint_glyphs};
-ghost use Rattle.t1_subset.specs.StateLaws.{PartsAgree};
+ghost use Rattle.t1_algebra.specs.StateTables.{StatesFit, code_part, name_part, subr_part, new_entries, subr_adds, joint_weight, joint_glyphs};
+ghost use Rattle.t1_algebra.specs.StateLaws.{PartsAgree};
 
 use crate::state_value::States;
 use std::alloc::{AllocError, Global};
@@ -109,8 +109,8 @@ impl<'a> States<'a> {
 }
 
 impl<'a> Join for States<'a> {
-    ghost use Rattle.t1_subset.specs.StateTables.{StatesValue, StatesAgree, StatesJoin};
-    ghost use Rattle.t1_subset.specs.StateLaws.{states_laws};
+    ghost use Rattle.t1_algebra.specs.StateTables.{StatesValue, StatesAgree, StatesJoin};
+    ghost use Rattle.t1_algebra.specs.StateLaws.{states_laws};
 
     ghost Meaning = { StatesValue };
 

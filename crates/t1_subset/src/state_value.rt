@@ -22,7 +22,7 @@ pub struct States<'a> {
 }
 
 impl<'a> Model for States<'a> {
-    ghost use Rattle.t1_subset.specs.StateTables.{StatesValue, states_code, IsSized};
+    ghost use Rattle.t1_algebra.specs.StateTables.{StatesValue, states_code, IsSized};
 
     ghost Value = { StatesValue };
 

@@ -3,13 +3,13 @@
 ghost use Rattle.std.specs.Prelude.{◌≡◌, ℕ, true, IfOk, OnOk};
 ghost use Rattle.std.specs.Option.{option_map};
 ghost use Rattle.std.specs.FinMap as maps;
-ghost use Rattle.t1_subset.specs.Profile.{profile};
-ghost use Rattle.t1_subset.specs.StateTables.{numbered, code_states, used_subrs};
+ghost use Rattle.t1_algebra.specs.Profile.{profile};
+ghost use Rattle.t1_algebra.specs.StateTables.{numbered, code_states, used_subrs};
 ghost use Rattle.t1_subset.specs.Differences.{with_state, entry_state};
-ghost use Rattle.t1_subset.specs.Users.{user_at};
+ghost use Rattle.t1_subset.specs.Users.{noted_at};
 ghost use Rattle.t1_subset.specs.Callers.{user_of};
 
-use crate::users::{Users, user_in};
+use crate::users::{Noted, noted_user};
 use std::alloc::{AllocError, Global};
 use t1_font::{Font, STUB};
 use t1_join::{Kept, Key, Table};
@@ -56,15 +56,15 @@ fn subr_state<'a>(entry: Option<&'a [u8]>, is_called: bool) -> Option<&'a [u8]>
     }
 }
 
-/// The states of the Subrs, by the glyphs that use them.
+/// The states of the Subrs, by the glyphs that execute them.
 pub(crate) fn subr_table<'a>(
     alloc: Global,
     font: &Font<'a>,
-    users: &Users<'_>,
+    users: &Noted<'_>,
 ) -> Result<Table<u16, &'a [u8]>, AllocError>
     requires { (i : ℕ)
         → maps.contains_key font.now.subrs i ≡ true
-        → user_at users.now i ≡ user_of font.now i }
+        → noted_at users.now.items i ≡ user_of font.now i }
     ensures { IfOk result (λ table. table ≡ numbered (used_subrs profile font.now)) }
 {
     font.proof_is_font();
@@ -73,7 +73,7 @@ pub(crate) fn subr_table<'a>(
         put(
             &mut table,
             index,
-            subr_state(font.subr(index), user_in(users, index).is_some()),
+            subr_state(font.subr(index), noted_user(users, index).is_some()),
         )?;
     }
     Ok(table)

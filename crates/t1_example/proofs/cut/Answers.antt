@@ -2,10 +2,10 @@ use Rattle.std.proofs.Common.{◌∙◌, sym, ap, subst, Ok}
 use Rattle.std.proofs.lemmas.Result.{err_from_is_err_and}
 use Rattle.t1_font.specs.FontValue.{FontValue}
 use Rattle.t1_font.specs.WriteLaws.{Fits}
-use Rattle.t1_subset.specs.Keep.{subset}
-use Rattle.t1_subset.specs.Laws.{IsOf}
+use Rattle.t1_algebra.specs.Keep.{subset}
+use Rattle.t1_algebra.specs.Laws.{IsOf}
 use Rattle.t1_subset.specs.NameSets.{lent, asked}
-use Rattle.t1_subset.specs.Profile.{profile}
+use Rattle.t1_algebra.specs.Profile.{profile}
 use Rattle.t1_example.proofs.Callers.{none_lacking, cut_fits}
 use Rattle.t1_example.proofs.cut.Goals as goal
 

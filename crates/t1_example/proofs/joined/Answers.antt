@@ -1,7 +1,7 @@
 use Rattle.std.proofs.lemmas.Result.{err_from_is_err_and}
 use Rattle.t1_font.specs.ReadFont.{read_font}
-use Rattle.t1_subset.specs.Keep.{subset}
-use Rattle.t1_subset.specs.Profile.{profile}
+use Rattle.t1_algebra.specs.Keep.{subset}
+use Rattle.t1_algebra.specs.Profile.{profile}
 use Rattle.t1_example.proofs.Callers.{only_memory, read_back}
 use Rattle.t1_example.proofs.joined.Goals as goal
 

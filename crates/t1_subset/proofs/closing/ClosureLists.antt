@@ -5,9 +5,9 @@ use Rattle.std.proofs.lemmas.Map.Keys.{IsDistinct-push}
 use Rattle.std.proofs.lemmas.List.{take-append-le}
 use Rattle.std.specs.Cmp.{eq_by_cmp_equiv}
 use Rattle.std.specs.Cmp.Lexicographic.{nat_list_cmp_total}
-use Rattle.t1_subset.specs.Interpreter.{same_bytes}
+use Rattle.t1_algebra.specs.Interpreter.{same_bytes}
 use Rattle.t1_subset.specs.ClosureNames.{push_new, push_all}
-use Rattle.t1_subset.proofs.Sets.{name_same, tied, itself, any_append, any_append_left, any_append_right, here_or, here, later}
+use Rattle.t1_algebra.proofs.Sets.{name_same, tied, itself, any_append, any_append_left, any_append_right, here_or, here, later}
 
 -- the name is in the list
 abbrev pub is_in : List ℕ → List (List ℕ) → Type 0

@@ -2,11 +2,11 @@
 use Rattle.std.proofs.Common.{◌≡◌, ℕ, ◌<◌, ◌+◌, zero, suc, length, drop, get_or, arith, Bor, List, [], ◌∷◌, refl, sym, ◌∙◌, ap}
 use Rattle.std.specs.Cmp.Lexicographic.{nat_list_cmp_total}
 use Rattle.std.specs.FinSet as sets
-use Rattle.t1_subset.specs.Interpreter.{Names}
+use Rattle.t1_algebra.specs.Interpreter.{Names}
 use Rattle.t1_subset.specs.NameSets.{lent}
 use Rattle.t1_subset.proofs.closing.ClosureLists.{from_here}
 use Rattle.t1_subset.proofs.closing.SetUnions.{insert_union}
-use Rattle.t1_subset.proofs.Sets.{name_same}
+use Rattle.t1_algebra.proofs.Sets.{name_same}
 
 -- the set of a list of names
 abbrev of : List (List ℕ) → Names

@@ -7,11 +7,11 @@ use Rattle.t1_font.specs.FontValue.{FontValue}
 use Rattle.t1_font.specs.FontModel.{subr_at}
 use Rattle.t1_font.specs.IsFont.{IsFont}
 use Rattle.t1_font.proofs.FontReaders.{all_seen}
-use Rattle.t1_subset.specs.Interpreter.{Numbers}
-use Rattle.t1_subset.specs.Keep.{charstring}
-use Rattle.t1_subset.specs.Profile.{profile, set_of}
-use Rattle.t1_subset.specs.States.{state_of_entry, subr_state}
-use Rattle.t1_subset.specs.Conflicts.{agrees, subr_clashes}
+use Rattle.t1_algebra.specs.Interpreter.{Numbers}
+use Rattle.t1_algebra.specs.Keep.{charstring}
+use Rattle.t1_algebra.specs.Profile.{profile, set_of}
+use Rattle.t1_algebra.specs.States.{state_of_entry, subr_state}
+use Rattle.t1_algebra.specs.Conflicts.{agrees, subr_clashes}
 use Rattle.t1_subset.proofs.state_tables.FirstConflicts.{there_of}
 
 -- the indices that the glyph of a name executes

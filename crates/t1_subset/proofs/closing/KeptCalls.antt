@@ -8,10 +8,10 @@ use Rattle.std.specs.Cmp.{nat_cmp_total, both_ways}
 use Rattle.std.specs.FinSet as sets
 use Rattle.std.specs.FinSet.{nat_cmp-IsAntisymmetric}
 use Rattle.t1_font.specs.FontValue.{FontValue}
-use Rattle.t1_subset.specs.Interpreter.{Names, Numbers}
-use Rattle.t1_subset.specs.Keep.{called_by}
-use Rattle.t1_subset.specs.Profile.{profile}
-use Rattle.t1_subset.proofs.Sets.{any_flat, any_flat_from}
+use Rattle.t1_algebra.specs.Interpreter.{Names, Numbers}
+use Rattle.t1_algebra.specs.Keep.{called_by}
+use Rattle.t1_algebra.specs.Profile.{profile}
+use Rattle.t1_algebra.proofs.Sets.{any_flat, any_flat_from}
 use Rattle.t1_subset.proofs.closing.NumberSets.{of_members}
 use Rattle.t1_subset.proofs.closing.ExecutedCalls.{calls_by, calls_of}
 

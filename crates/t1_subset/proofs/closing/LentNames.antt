@@ -6,7 +6,7 @@ use Rattle.std.specs.Cmp.Lexicographic.{pointwise, texts_ties}
 use Rattle.std.specs.List.{list_any}
 use Rattle.std.proofs.lemmas.List.{map-append}
 use Rattle.indexmap.specs.IndexSet.{insert_key}
-use Rattle.t1_subset.specs.Interpreter.{same_bytes}
+use Rattle.t1_algebra.specs.Interpreter.{same_bytes}
 use Rattle.t1_subset.specs.ClosureNames.{push_new}
 use Rattle.t1_subset.specs.NameSets.{lent}
 

@@ -10,7 +10,7 @@ use Rattle.std.specs.BTreeSet.{insert_key}
 use Rattle.std.specs.FinSet as sets
 use Rattle.t1_font.specs.FontValue.{name_cmp}
 use Rattle.t1_subset.specs.NameSets.{names_of, set_by}
-use Rattle.t1_subset.proofs.Sets.{name_same}
+use Rattle.t1_algebra.proofs.Sets.{name_same}
 
 pub or_same : (a b c : Bool) → a ≡ b → (a || c) ≡ (b || (a || c))
 or_same true true c e = refl

@@ -10,9 +10,9 @@ use Rattle.std.specs.FinSet as sets
 use Rattle.std.specs.FinSet.{nat_cmp-IsAntisymmetric}
 use Rattle.t1_run.specs.Run.{Subrs, calls, calls3, with_indices, with_executed, exec}
 use Rattle.t1_font.specs.FontValue.{name_cmp}
-use Rattle.t1_subset.specs.Interpreter.{Numbers}
+use Rattle.t1_algebra.specs.Interpreter.{Numbers}
 use Rattle.t1_subset.proofs.closing.NameSets.{or_same, or_later}
-use Rattle.t1_subset.proofs.Sets.{name_same, any_at, any_one, any_flat, any_flat_from, in_list, from_in_list, in_items, from_in_items, same_members, any_append, any_append_left, any_append_right}
+use Rattle.t1_algebra.proofs.Sets.{name_same, any_at, any_one, any_flat, any_flat_from, in_list, from_in_list, in_items, from_in_items, same_members, any_append, any_append_left, any_append_right}
 
 or_none : (a : Bool) → (a || false) ≡ a
 or_none true = refl

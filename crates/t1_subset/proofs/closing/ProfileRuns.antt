@@ -6,8 +6,8 @@ use Rattle.t1_font.specs.FontValue.{FontValue}
 use Rattle.t1_font.specs.FontModel.{subr_at}
 use Rattle.t1_font.specs.IsFont.{IsFont}
 use Rattle.t1_font.proofs.FontReaders.{all_seen}
-use Rattle.t1_subset.specs.Keep.{components, charstring}
-use Rattle.t1_subset.specs.Profile.{profile, names_of_both}
+use Rattle.t1_algebra.specs.Keep.{components, charstring}
+use Rattle.t1_algebra.specs.Profile.{profile, names_of_both}
 
 -- the components of a charstring, by the Subrs that a font shows
 abbrev pub names_by : Subrs → List ℕ → List (List ℕ)

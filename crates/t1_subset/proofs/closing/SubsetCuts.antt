@@ -7,13 +7,13 @@ use Rattle.std.specs.Global.{Vec}
 use Rattle.t1_font.specs.FontValue.{FontValue, notdef}
 use Rattle.t1_font.specs.IsFont.{IsFont}
 use Rattle.t1_font.specs.Cut.{set_of_names, restrict}
-use Rattle.t1_subset.specs.Interpreter.{Interpreter, Names, Numbers}
-use Rattle.t1_subset.specs.Keep.{keep, kept, subset}
-use Rattle.t1_subset.specs.Laws.{IsOf, DrawsAlike}
-use Rattle.t1_subset.specs.Profile.{profile}
+use Rattle.t1_algebra.specs.Interpreter.{Interpreter, Names, Numbers}
+use Rattle.t1_algebra.specs.Keep.{keep, kept, subset}
+use Rattle.t1_algebra.specs.Laws.{IsOf, DrawsAlike}
+use Rattle.t1_algebra.specs.Profile.{profile}
 use Rattle.t1_subset.specs.Calls.{number_set}
-use Rattle.t1_subset.proofs.Kept.{keep_has, keep_closed}
-use Rattle.t1_subset.proofs.Alike.{subset_alike}
+use Rattle.t1_algebra.proofs.Kept.{keep_has, keep_closed}
+use Rattle.t1_algebra.proofs.Alike.{subset_alike}
 
 module _ {O : Type 0} (m : Interpreter O) (f : FontValue) (w : IsFont f) (a : Names) (is : IsOf f a) (vs : List (Vec ℕ)) (e : set_of_names vs ≡ keep m f a) where
   -- the names of a closure include `.notdef`

@@ -8,13 +8,13 @@ use Rattle.std.specs.FinSet.{nat_cmp-IsAntisymmetric}
 use Rattle.t1_join.specs.Meaning.{of_number}
 use Rattle.t1_join.specs.TableMeaning.{TableMeaning}
 use Rattle.t1_font.specs.FontValue.{FontValue, Encoding, Word, Codes, Numbered}
-use Rattle.t1_subset.specs.Profile.{profile}
-use Rattle.t1_subset.specs.States.{code_state, is_called, state_of_entry}
-use Rattle.t1_subset.specs.StateTables.{numbered, code_states}
+use Rattle.t1_algebra.specs.Profile.{profile}
+use Rattle.t1_algebra.specs.States.{code_state, is_called, state_of_entry}
+use Rattle.t1_algebra.specs.StateTables.{numbered, code_states}
 use Rattle.t1_subset.specs.Differences.{with_state, entry_state}
-use Rattle.t1_subset.proofs.Maps.{maps_same}
-use Rattle.t1_subset.proofs.state_tables.Numbered.{numbered-empty, numbered-insert}
-use Rattle.t1_subset.proofs.Sets.{is_or_not, not_so, tied, itself}
+use Rattle.t1_algebra.proofs.Maps.{maps_same}
+use Rattle.t1_algebra.proofs.Numbered.{get-numbered, numbered-empty, numbered-insert}
+use Rattle.t1_algebra.proofs.Sets.{is_or_not, not_so, tied, itself}
 
 -- the table has what x gives for the numbers below n, and nothing else
 pub record HasBelow (t : TableMeaning) (x : ℕ → Option (List ℕ)) (n : ℕ) : Type 0 where
@@ -58,6 +58,13 @@ module _ (t : TableMeaning) (x : ℕ → Option (List ℕ)) where
   ]) ∙ sym (is i)))
 
 module _ (t : TableMeaning) (x : ℕ → Option (List ℕ)) (n : ℕ) (h : HasBelow t x n) where
+  -- the table has what x gives for each number below n
+  pub has_at : (i : ℕ) → i < n → maps.get t (of_number i) ≡ x i
+  has_at i l = ap (λ (t : TableMeaning). maps.get t (of_number i)) h.table ∙ get-numbered h.map (of_number i) ∙ h.shown i ∙ (elim (is_or_not (nat_lt i n)) [
+    | inl a ↦ ap (λ b. cond b (x i) None) a
+    | inr a ↦ let far : n ≤ i = ltb-false i n a in absurd (omega arith)
+  ])
+
   -- a table with the value of n has what x gives below n + 1
   with_one : (v : List ℕ) → x n ≡ Some v → (i : ℕ) → maps.get (maps.insert h.map n v) i ≡ cond (nat_lt i (n + 1)) (x i) None
   with_one v e i = maps.get-insert nat_cmp_total h.map n v i ∙ (elim (is_or_not (eq_by_cmp nat_cmp i n)) [

@@ -8,10 +8,10 @@ use Rattle.t1_font.specs.FontValue.{FontValue, Encoding, Word, Codes, declared_c
 use Rattle.t1_font.specs.FontModel.{name_at}
 use Rattle.t1_font.specs.IsFont.{IsFont, IsEncoding}
 use Rattle.t1_font.proofs.FontReaders.{subrs_seen}
-use Rattle.t1_subset.specs.Conflicts.{agrees, codes_of_both}
-use Rattle.t1_subset.specs.States.{code_state}
-use Rattle.t1_subset.proofs.Searching.{in_both}
-use Rattle.t1_subset.proofs.Sets.{is_or_not, or_left}
+use Rattle.t1_algebra.specs.Conflicts.{agrees, codes_of_both}
+use Rattle.t1_algebra.specs.States.{code_state}
+use Rattle.t1_algebra.proofs.Searching.{in_both}
+use Rattle.t1_algebra.proofs.Sets.{is_or_not, or_left}
 
 -- a state that does not join is not the bottom
 pub there_of : (x y : Option (List ℕ)) → not (agrees x y) ≡ true → is_some x ≡ true

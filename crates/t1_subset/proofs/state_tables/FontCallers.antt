@@ -11,24 +11,24 @@ use Rattle.t1_font.specs.FontValue.{FontValue, Named, name_cmp}
 use Rattle.t1_font.specs.FontModel.{names_in}
 use Rattle.t1_font.proofs.MapLemmas.{entries-map_values}
 use Rattle.t1_subset.specs.declared.callers.Callers.{Callers}
-use Rattle.t1_subset.specs.Interpreter.{same_bytes}
-use Rattle.t1_subset.specs.Keep.{has, components, charstring}
-use Rattle.t1_subset.specs.Profile.{profile}
-use Rattle.t1_subset.specs.States.{Agree, joined, is_called, is_sought, state_of_glyph, joined_font, Compatible, executes, executed_at, calls_for, called_at}
-use Rattle.t1_subset.specs.Conflicts.{keys_of_both, wants, wanted_by, used_by, glyph_names}
-use Rattle.t1_subset.specs.Searches.{smallest, members, first_where}
+use Rattle.t1_algebra.specs.Interpreter.{same_bytes}
+use Rattle.t1_algebra.specs.Keep.{has, components, charstring}
+use Rattle.t1_algebra.specs.Profile.{profile}
+use Rattle.t1_algebra.specs.States.{Agree, joined, is_called, is_sought, state_of_glyph, joined_font, Compatible, executes, executed_at, calls_for, called_at}
+use Rattle.t1_algebra.specs.Conflicts.{keys_of_both, wants, wanted_by, used_by, glyph_names}
+use Rattle.t1_algebra.specs.Searches.{smallest, members, first_where}
 use Rattle.t1_subset.specs.Differences.{smaller}
 use Rattle.t1_subset.specs.Callers.{same_charstring, user_of, seeker_of, user_from, seeker_from, AreCallersOf}
-use Rattle.t1_subset.specs.Users.{user_at}
+use Rattle.t1_join.specs.Meaning.{of_number}
 use Rattle.t1_subset.specs.Clashes.{AreCallers}
-use Rattle.t1_subset.proofs.Flat.{agree_back}
+use Rattle.t1_algebra.proofs.Flat.{agree_back}
 use Rattle.t1_subset.proofs.closing.ExecutedCalls.{calls_by, no_calls}
 use Rattle.t1_subset.proofs.closing.ProfileRuns.{no_components}
 use Rattle.t1_subset.proofs.state_tables.LowestKeys.{smaller_first}
-use Rattle.t1_subset.proofs.JoinedStates.{glyph_in_join, present_joined, executes_join, calls_join}
-use Rattle.t1_subset.proofs.Uses.{executing_there, naming_there, sought}
+use Rattle.t1_algebra.proofs.JoinedStates.{glyph_in_join, present_joined, executes_join, calls_join}
+use Rattle.t1_algebra.proofs.Uses.{executing_there, naming_there, sought}
 use Rattle.std.specs.Cmp.{second_so}
-use Rattle.t1_subset.proofs.Sets.{name_same, not_so, clash, tied}
+use Rattle.t1_algebra.proofs.Sets.{name_same, not_so, clash, tied}
 
 -- ---- the first of some names
 
@@ -87,12 +87,12 @@ again_same (Some c) None h = absurd (true≢false (sym h))
 again_same (Some c) (Some d) h = ap Some (tied nat_list_cmp_total name_same c d h)
 
 -- a charstring is noted: the indices that it executes have users, and the components that it names and the font lacks have seekers
-pub record IsNoted (f : FontValue) (users : TableMeaning) (seekers : List ℕ → Option (List ℕ)) (c : Option (List ℕ)) : Type 0 where
-  pub executed : (q : ℕ) → maps.contains_key f.subrs q ≡ true → executed_at profile f q c ≡ true → is_some (user_at users q) ≡ true
+pub record IsNoted (f : FontValue) (users : ℕ → Option (List ℕ)) (seekers : List ℕ → Option (List ℕ)) (c : Option (List ℕ)) : Type 0 where
+  pub executed : (q : ℕ) → maps.contains_key f.subrs q ≡ true → executed_at profile f q c ≡ true → is_some (users q) ≡ true
   pub named : (p : List ℕ) → (not (has f p) && called_at profile f p c) ≡ true → is_some (seekers p) ≡ true
 
 -- the absence of a charstring is noted from the beginning
-pub nothing_noted : (f : FontValue) (users : TableMeaning) (seekers : List ℕ → Option (List ℕ)) → IsNoted f users seekers None
+pub nothing_noted : (f : FontValue) (users : ℕ → Option (List ℕ)) (seekers : List ℕ → Option (List ℕ)) → IsNoted f users seekers None
 nothing_noted f users seekers = record {
   executed = λ q l h. absurd (true≢false (sym h));
   named = λ p h. absurd (true≢false (sym (second_so (not (has f p)) false h)));
@@ -190,9 +190,9 @@ pub record CallersSoFar (cs : List Callers) (f : FontValue) : Type 0 where
   pub seekers : (p : List ℕ) → seeker_from None cs p ≡ seeker_of f p
 
 -- the user among callers with one more font is the smaller of two
-user_last : (best : Option (List ℕ)) (cs : List Callers) (c : Callers) (i : ℕ) → user_from best (cs ++ c ∷ []) i ≡ smaller name_cmp (user_from best cs i) (user_at c.users i)
+user_last : (best : Option (List ℕ)) (cs : List Callers) (c : Callers) (i : ℕ) → user_from best (cs ++ c ∷ []) i ≡ smaller name_cmp (user_from best cs i) (maps.get c.users (of_number i))
 user_last best [] c i = refl
-user_last best (d ∷ cs) c i = user_last (smaller name_cmp best (user_at d.users i)) cs c i
+user_last best (d ∷ cs) c i = user_last (smaller name_cmp best (maps.get d.users (of_number i))) cs c i
 
 -- the seeker among callers with one more font is the smaller of two
 seeker_last : (best : Option (List ℕ)) (cs : List Callers) (c : Callers) (p : List ℕ) → seeker_from best (cs ++ c ∷ []) p ≡ smaller name_cmp (seeker_from best cs p) (maps.get c.seekers p)

@@ -7,12 +7,12 @@ use Rattle.std.specs.FinSet.{IsAntisymmetric}
 use Rattle.std.specs.FinMap as maps
 use Rattle.std.specs.FinMap.Entries.{below_all, is_sorted}
 use Rattle.t1_font.proofs.MapLemmas.{T_true}
-use Rattle.t1_subset.specs.Conflicts.{keys_of_both}
-use Rattle.t1_subset.specs.Searches.{smallest, members, first_where, IsLowest}
+use Rattle.t1_algebra.specs.Conflicts.{keys_of_both}
+use Rattle.t1_algebra.specs.Searches.{smallest, members, first_where, IsLowest}
 use Rattle.t1_subset.specs.Differences.{smaller}
-use Rattle.t1_subset.proofs.Searching.{in_both, passes_none}
-use Rattle.t1_subset.proofs.Smallest.{smallest_is, below_later}
-use Rattle.t1_subset.proofs.Sets.{or_cases, or_left, or_right, here, later, itself, tied, not_so}
+use Rattle.t1_algebra.proofs.Searching.{in_both, passes_none}
+use Rattle.t1_algebra.proofs.Smallest.{smallest_is, below_later}
+use Rattle.t1_algebra.proofs.Sets.{or_cases, or_left, or_right, here, later, itself, tied, not_so}
 
 no_less : (o : Ordering) → ordering_reverse Less ≡ o → o ≡ Less → ⊥
 no_less o h e = cc

@@ -6,22 +6,22 @@ use Rattle.t1_font.specs.Joins.{join_parts, IsOverLimits, Refuses}
 use Rattle.t1_font.specs.WriteLaws.{SameKind}
 use Rattle.t1_font.specs.declared.parts.PartsFault.{PartsFault}
 use Rattle.t1_font.specs.declared.parts.PartsFault.TheVariants as parts
-use Rattle.t1_subset.specs.Interpreter.{Interpreter}
-use Rattle.t1_subset.specs.States.{IsWithin, Join, joined_font}
+use Rattle.t1_algebra.specs.Interpreter.{Interpreter}
+use Rattle.t1_algebra.specs.States.{IsWithin, Join, joined_font}
 use Rattle.std.specs.Option.{option_map}
 use Rattle.t1_subset.specs.declared.conflict.Conflict.{Conflict as Refusal}
 use Rattle.t1_subset.specs.declared.conflict.Conflict.TheVariants as refusal
-use Rattle.t1_subset.specs.Profile.{profile}
+use Rattle.t1_algebra.specs.Profile.{profile}
 use Rattle.t1_subset.specs.Differences.{shell_part, bytes_of}
 use Rattle.t1_subset.specs.Refusals.{Tells, of_parts}
 use Rattle.t1_subset.specs.Clashes.{entries_conflict, uses_conflict}
-use Rattle.t1_subset.specs.Conflicts.{Conflict, ShellDiffers, CodeDiffers, GlyphDiffers, LacksComponent, SubrDiffers, OverLimit, shell_conflict, code_conflict, glyph_conflict, states_conflict, conflict, is_within}
-use Rattle.t1_subset.specs.Shared.{ShellPart}
-use Rattle.t1_subset.specs.Searches.{found}
-use Rattle.t1_subset.proofs.Conflicts.{compatible, within_so}
-use Rattle.t1_subset.proofs.Searching.{found_none}
-use Rattle.t1_subset.proofs.Fonts.{font_within}
-use Rattle.t1_subset.proofs.JoinedEntries.{joined_are_entries}
+use Rattle.t1_algebra.specs.Conflicts.{Conflict, ShellDiffers, CodeDiffers, GlyphDiffers, LacksComponent, SubrDiffers, OverLimit, shell_conflict, code_conflict, glyph_conflict, states_conflict, conflict, is_within}
+use Rattle.t1_algebra.specs.Shared.{ShellPart}
+use Rattle.t1_algebra.specs.Searches.{found}
+use Rattle.t1_algebra.proofs.Conflicts.{compatible, within_so}
+use Rattle.t1_algebra.proofs.Searching.{found_none}
+use Rattle.t1_algebra.proofs.Fonts.{font_within}
+use Rattle.t1_algebra.proofs.JoinedEntries.{joined_are_entries}
 
 module _ {O : Type 0} (m : Interpreter O) (f g : FontValue) (h : states_conflict m f g ≡ None) where
   -- fonts without a conflict of states have the same shell

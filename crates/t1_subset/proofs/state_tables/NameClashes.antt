@@ -9,22 +9,22 @@ use Rattle.t1_join.specs.Join.{joined_state}
 use Rattle.t1_join.specs.TableMeaning.{TableMeaning}
 use Rattle.t1_join.specs.TableLaws.{same_table}
 use Rattle.t1_font.specs.FontValue.{FontValue, name_cmp}
-use Rattle.t1_subset.specs.Keep.{has}
-use Rattle.t1_subset.specs.Profile.{profile}
-use Rattle.t1_subset.specs.States.{is_sought, name_state, state_of_glyph}
-use Rattle.t1_subset.specs.StateTables.{name_states, behind_mark, names_table, name_meaning}
-use Rattle.t1_subset.specs.Conflicts.{agrees, glyph_names, glyph_clashes, glyph_conflict, component_clashes, component_conflict, wanted_by}
-use Rattle.t1_subset.specs.Searches.{members, IsLowest}
+use Rattle.t1_algebra.specs.Keep.{has}
+use Rattle.t1_algebra.specs.Profile.{profile}
+use Rattle.t1_algebra.specs.States.{is_sought, name_state, state_of_glyph}
+use Rattle.t1_algebra.specs.StateTables.{name_states, behind_mark, names_table, name_meaning}
+use Rattle.t1_algebra.specs.Conflicts.{agrees, glyph_names, glyph_clashes, glyph_conflict, component_clashes, component_conflict, wanted_by}
+use Rattle.t1_algebra.specs.Searches.{members, IsLowest}
 use Rattle.t1_subset.specs.Differences.{smaller}
 use Rattle.t1_subset.specs.Callers.{seeker_of}
-use Rattle.t1_subset.specs.Clashes.{is_sought_in, charstrings_differ, one_lacks}
-use Rattle.t1_subset.proofs.Searching.{in_both}
+use Rattle.t1_algebra.specs.NameStates.{is_sought_in, charstrings_differ, one_lacks}
+use Rattle.t1_algebra.proofs.Searching.{in_both}
 use Rattle.t1_subset.proofs.state_tables.FirstConflicts.{there_of}
 use Rattle.t1_subset.proofs.state_tables.LowestKeys.{lowest_is}
 use Rattle.t1_subset.proofs.state_tables.FontCallers.{any_first, sought_is, smallest_seeker}
-use Rattle.t1_subset.proofs.state_tables.FontStates.{meant, get-names}
-use Rattle.t1_subset.proofs.state_tables.NameTables.{get-name}
-use Rattle.t1_subset.proofs.Sets.{name_same, or_left}
+use Rattle.t1_algebra.proofs.FontStates.{meant, get-names}
+use Rattle.t1_algebra.proofs.NameTables.{get-name}
+use Rattle.t1_algebra.proofs.Sets.{name_same, or_left}
 
 -- ---- the state of a name
 

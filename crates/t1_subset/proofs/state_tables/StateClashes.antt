@@ -3,13 +3,13 @@ use Rattle.std.proofs.Common.{◌≡◌, ℕ, true, List, [], sym, ◌∙◌, ap
 use Rattle.std.specs.FinMap as maps
 use Rattle.t1_join.specs.TableMeaning.{TableMeaning}
 use Rattle.t1_font.specs.FontValue.{FontValue}
-use Rattle.t1_subset.specs.Profile.{profile}
-use Rattle.t1_subset.specs.StateTables.{StatesValue, code_states, name_states, used_subrs, numbered, states_of}
-use Rattle.t1_subset.specs.Shared.{Shared, shared_of, differing_part}
-use Rattle.t1_subset.specs.Conflicts.{ShellDiffers, CodeDiffers, GlyphDiffers, LacksComponent, SubrDiffers, keys_of_both, shell_conflict, code_conflict, glyph_conflict, component_conflict, subr_conflict, subr_clashes, wanted_by, used_by, glyph_names}
-use Rattle.t1_subset.specs.Searches.{found, smallest, members}
+use Rattle.t1_algebra.specs.Profile.{profile}
+use Rattle.t1_algebra.specs.StateTables.{StatesValue, code_states, name_states, used_subrs, numbered, states_of}
+use Rattle.t1_algebra.specs.Shared.{Shared, shared_of, differing_part}
+use Rattle.t1_algebra.specs.Conflicts.{ShellDiffers, CodeDiffers, GlyphDiffers, LacksComponent, SubrDiffers, keys_of_both, shell_conflict, code_conflict, glyph_conflict, component_conflict, subr_conflict, subr_clashes, wanted_by, used_by, glyph_names}
+use Rattle.t1_algebra.specs.Searches.{found, smallest, members}
 use Rattle.t1_subset.specs.Clashes.{entries_conflict, uses_conflict}
-use Rattle.t1_subset.proofs.Searching.{first_passes}
+use Rattle.t1_algebra.proofs.Searching.{first_passes}
 use Rattle.t1_subset.proofs.closing.ExecutedCalls.{clash_in_both}
 
 -- ---- what is seen of states

@@ -13,15 +13,16 @@ use Rattle.t1_font.specs.Maps.{IsPartOf}
 use Rattle.t1_font.specs.WriteLaws.{SameKind}
 use Rattle.t1_subset.specs.declared.conflict.Conflict.{Conflict as Refusal}
 use Rattle.t1_subset.specs.declared.conflict.Conflict.TheVariants.{Memory}
-use Rattle.t1_subset.specs.Profile.{profile}
-use Rattle.t1_subset.specs.States.{IsWithin, Compatible, Join, joined_font}
-use Rattle.t1_subset.specs.Groupings.{Merges}
-use Rattle.t1_subset.specs.StateTables.{StatesValue, StatesJoin, states_of}
-use Rattle.t1_subset.specs.Merger.{EachGroupingMerges, ComesTo, IsRefused}
-use Rattle.t1_subset.proofs.Fonts.{font_within}
-use Rattle.t1_subset.proofs.JoinedEntries.{joined_are_entries}
-use Rattle.t1_subset.proofs.JoinedStates.{font_back, left_glyph}
-use Rattle.t1_subset.proofs.Orders.{grouped, merges_by_states}
+use Rattle.t1_algebra.specs.Profile.{profile}
+use Rattle.t1_algebra.specs.States.{IsWithin, Compatible, Join, joined_font}
+use Rattle.t1_algebra.specs.Groupings.{Merges}
+use Rattle.t1_algebra.specs.StateTables.{StatesValue, StatesJoin, states_of}
+use Rattle.t1_subset.specs.Merger.{IsRefused}
+use Rattle.t1_algebra.specs.Merges.{EachGroupingMerges, ComesTo}
+use Rattle.t1_algebra.proofs.Fonts.{font_within}
+use Rattle.t1_algebra.proofs.JoinedEntries.{joined_are_entries}
+use Rattle.t1_algebra.proofs.JoinedStates.{font_back, left_glyph}
+use Rattle.t1_algebra.proofs.Orders.{grouped, merges_by_states}
 
 -- a grouping of fonts groups the states of all of them
 pub uses_all : (t : Grouping FontValue) (fs : List FontValue) → leaves t ≡ fs → Uses (grouped profile t) (map (states_of profile) fs)

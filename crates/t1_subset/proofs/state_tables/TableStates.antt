@@ -10,21 +10,21 @@ use Rattle.t1_join.specs.Meaning.{Meaning, meaning_cmp, of_number, by_number_law
 use Rattle.t1_join.specs.Join.{StatesAgree, states_agree}
 use Rattle.t1_join.specs.TableMeaning.{TableMeaning, TablesAgree, IsFirstConflict}
 use Rattle.t1_font.specs.FontValue.{FontValue, Encoding, Word, Codes, Named}
-use Rattle.t1_subset.specs.StateTables.{numbered, code_states, used_subrs}
-use Rattle.t1_subset.proofs.state_tables.Numbered.{get-numbered}
-use Rattle.t1_subset.proofs.state_tables.FontStates.{get-used}
-use Rattle.t1_subset.proofs.state_tables.NameTables.{meanings_as_bytes}
+use Rattle.t1_algebra.specs.StateTables.{numbered, code_states, used_subrs}
+use Rattle.t1_algebra.proofs.Numbered.{get-numbered}
+use Rattle.t1_algebra.proofs.FontStates.{get-used}
+use Rattle.t1_algebra.proofs.NameTables.{meanings_as_bytes}
 use Rattle.t1_font.specs.FontModel.{names_in}
 use Rattle.t1_font.specs.IsFont.{IsFont}
-use Rattle.t1_subset.specs.Interpreter.{same_bytes}
-use Rattle.t1_subset.specs.Profile.{profile}
-use Rattle.t1_subset.specs.States.{code_state, subr_state}
-use Rattle.t1_subset.specs.Conflicts.{agrees, keys_of_both, codes_of_both, code_clashes, code_conflict, subr_clashes, subr_conflict}
-use Rattle.t1_subset.specs.Searches.{members, IsLowest}
-use Rattle.t1_subset.proofs.Sets.{is_or_not, not_so, or_left, name_same, tied, later}
+use Rattle.t1_algebra.specs.Interpreter.{same_bytes}
+use Rattle.t1_algebra.specs.Profile.{profile}
+use Rattle.t1_algebra.specs.States.{code_state, subr_state}
+use Rattle.t1_algebra.specs.Conflicts.{agrees, keys_of_both, codes_of_both, code_clashes, code_conflict, subr_clashes, subr_conflict}
+use Rattle.t1_algebra.specs.Searches.{members, IsLowest}
+use Rattle.t1_algebra.proofs.Sets.{is_or_not, not_so, or_left, name_same, tied, later}
 use Rattle.t1_subset.proofs.state_tables.FirstConflicts.{code_there, no_name}
 use Rattle.t1_subset.proofs.state_tables.LowestKeys.{lowest_is}
-use Rattle.t1_subset.proofs.Searching.{first_passes, in_both}
+use Rattle.t1_algebra.proofs.Searching.{first_passes, in_both}
 use Rattle.t1_subset.proofs.closing.ExecutedCalls.{clash_there}
 
 -- ---- states that agree
@@ -64,40 +64,6 @@ module _ (m n : TableMeaning) (x y : ℕ → Option (List ℕ)) (sx : Shows m x)
     it = clash _ _ (x k) (y k) (sx k) (sy k) h.differs;
     none_lower = λ i l. no_clash _ _ (x i) (y i) (sx i) (sy i) (h.first (of_number i) (sym (by_number_law i k) ∙ l));
   }
-
--- ---- tables that are filled
-
--- the table has the glyphs of all names except those that are left, which the font has
-pub record Fills (g : Named) (t : TableMeaning) (left : List (List ℕ)) : Type 0 where
-  pub shown : (q : List ℕ) → list_any (same_bytes q) left ≡ false → maps.get t q ≡ maps.get g q
-  pub there : (q : List ℕ) → list_any (same_bytes q) left ≡ true → maps.contains_key g q ≡ true
-
-not_there : (x : Option (List ℕ)) → is_some x ≡ false → None ≡ x
-not_there None h = refl
-not_there (Some v) h = absurd (true≢false h)
-
-module _ (g : Named) where
-  -- before any glyph is put, all names are left
-  pub fills_none : (t : TableMeaning) (left : List (List ℕ)) → t ≡ maps.empty → left ≡ names_in g → Fills g t left
-  fills_none t left e is = record {
-    shown = λ q h. ap (λ (t : TableMeaning). maps.get t q) e ∙ maps.get-empty meaning_cmp q ∙ not_there (maps.get g q) (maps.contains_key-keys g q ∙ ap (list_any (same_bytes q)) (sym is) ∙ h);
-    there = λ q h. maps.contains_key-keys g q ∙ ap (list_any (same_bytes q)) (sym is) ∙ h;
-  }
-
-  -- putting the glyph of the next name takes it from those left
-  pub fills_more : (t u : TableMeaning) (n c : List ℕ) (left : List (List ℕ)) → Fills g t (n ∷ left) → maps.get g n ≡ Some c → u ≡ maps.insert t n c → Fills g u left
-  fills_more t u n c left h e is = record {
-    shown = λ q w. ap (λ (t : TableMeaning). maps.get t q) is ∙ maps.get-insert nat_list_cmp_total t n c q
-        ∙ (elim (is_or_not (same_bytes q n)) [
-          | inl a ↦ ap (λ b. cond b (Some c) (maps.get t q)) a ∙ sym e ∙ ap (maps.get g) (sym (tied nat_list_cmp_total name_same q n a))
-          | inr a ↦ ap (λ b. cond b (Some c) (maps.get t q)) a ∙ h.shown q ((λ i. a i || w i))
-        ]);
-    there = λ q w. h.there q (later (same_bytes q) n left w);
-  }
-
-  -- when no name is left, the table has all glyphs
-  pub fills_all : (t : TableMeaning) (left : List (List ℕ)) → Fills g t left → left ≡ [] → (q : List ℕ) → maps.get t q ≡ maps.get g q
-  fills_all t left h e q = h.shown q (ap (list_any (same_bytes q)) e)
 
 -- ---- the smallest code and the smallest Subr
 

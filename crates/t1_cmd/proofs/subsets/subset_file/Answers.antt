@@ -1,8 +1,8 @@
 use Rattle.std.proofs.Common.{◌∙◌, ap, sym, Ok, List, ℕ, Result}
 use Rattle.std.specs.FinSet as sets
 use Rattle.t1_font.specs.Canon.{canon}
-use Rattle.t1_subset.specs.Profile.{profile}
-use Rattle.t1_subset.specs.Keep.{subset}
+use Rattle.t1_algebra.specs.Profile.{profile}
+use Rattle.t1_algebra.specs.Keep.{subset}
 use Rattle.t1_subset.specs.NameSets.{lent}
 use Rattle.t1_cmd.specs.declared.faults.Reason.{Reason}
 use Rattle.t1_cmd.specs.Subsets.{unless_absent}

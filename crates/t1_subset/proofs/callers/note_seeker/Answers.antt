@@ -2,10 +2,10 @@ use Rattle.std.proofs.Common.{◌≡◌, ◌∙◌, refl, sym, ap, Bool, true, f
 use Rattle.std.proofs.lemmas.Result.{on_ok_weaker}
 use Rattle.std.specs.FinMap as maps
 use Rattle.std.specs.Cmp.Lexicographic.{nat_list_cmp_total}
-use Rattle.t1_subset.specs.Interpreter.{same_bytes}
-use Rattle.t1_subset.specs.Keep.{has}
-use Rattle.t1_subset.specs.States.{joined}
-use Rattle.t1_subset.proofs.Sets.{name_same, tied}
+use Rattle.t1_algebra.specs.Interpreter.{same_bytes}
+use Rattle.t1_algebra.specs.Keep.{has}
+use Rattle.t1_algebra.specs.States.{joined}
+use Rattle.t1_algebra.proofs.Sets.{name_same, tied}
 use Rattle.t1_subset.proofs.callers.note_seeker.Goals as goal
 
 and_parts : (a b : Bool) → a && b ≡ true → (a ≡ true) × (b ≡ true)

@@ -1,8 +1,8 @@
 use Rattle.std.proofs.Common.{ℕ, List, ap, ◌∙◌}
 use Rattle.std.specs.FinSet as sets
 use Rattle.std.proofs.lemmas.Result.{on_ok_weaker}
-use Rattle.t1_subset.specs.Interpreter.{Numbers}
-use Rattle.t1_subset.specs.Profile.{set_of}
+use Rattle.t1_algebra.specs.Interpreter.{Numbers}
+use Rattle.t1_algebra.specs.Profile.{set_of}
 use Rattle.t1_subset.proofs.closing.NumberSets.{none_union}
 use Rattle.t1_subset.proofs.closing.ExecutedCalls.{calls_by}
 use Rattle.t1_subset.proofs.calls.run_alone.Goals as goal

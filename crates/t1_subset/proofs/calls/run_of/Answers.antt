@@ -1,7 +1,7 @@
 use Rattle.std.proofs.Common.{List, ℕ, map, Bor, ◌∙◌, ap, sym}
 use Rattle.std.specs.FinSet as sets
 use Rattle.t1_font.specs.FontModel.{subr_at}
-use Rattle.t1_subset.specs.Profile.{set_of}
+use Rattle.t1_algebra.specs.Profile.{set_of}
 use Rattle.t1_subset.proofs.closing.ProfileRuns.{components_are, no_components}
 use Rattle.t1_subset.proofs.closing.ExecutedCalls.{calls_are, no_calls}
 use Rattle.t1_subset.proofs.closing.NumberSets.{of_executed, union_none}

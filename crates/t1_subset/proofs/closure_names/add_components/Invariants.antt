@@ -1,5 +1,5 @@
 use Rattle.std.proofs.Common.{◌≡◌, drop, map, filter}
-use Rattle.t1_subset.specs.Keep.{has}
+use Rattle.t1_algebra.specs.Keep.{has}
 use Rattle.t1_subset.specs.ClosureNames.{push_all}
 use Rattle.t1_subset.proofs.closure_names.add_components.Given as goal
 

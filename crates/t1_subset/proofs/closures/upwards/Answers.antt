@@ -3,10 +3,10 @@ use Rattle.std.proofs.lemmas.List.{drop_all}
 use Rattle.std.specs.FinSet as sets
 use Rattle.std.specs.Cmp.Lexicographic.{nat_list_cmp_total}
 use Rattle.t1_font.specs.FontValue.{name_cmp}
-use Rattle.t1_subset.specs.Interpreter.{Names}
+use Rattle.t1_algebra.specs.Interpreter.{Names}
 use Rattle.t1_subset.specs.NameSets.{lent, asked, set_by}
 use Rattle.t1_subset.proofs.closing.CopiedNames.{copy_step}
-use Rattle.t1_subset.proofs.Sets.{name_same}
+use Rattle.t1_algebra.proofs.Sets.{name_same}
 use Rattle.t1_subset.proofs.closing.SetUnions.{union_none, union_of_none}
 use Rattle.t1_subset.proofs.closures.upwards.Goals as goal
 

@@ -1,5 +1,5 @@
 use Rattle.std.proofs.Common.{refl, arith}
-use Rattle.t1_subset.specs.StateLaws.{states_laws}
+use Rattle.t1_algebra.specs.StateLaws.{states_laws}
 use Rattle.t1_subset.proofs.state_tables.Walks.{nth, states_at, starts, next_states, next_callers, goes_on, stops, ends}
 use Rattle.t1_subset.proofs.in_turn.join_in_turn.Goals as goal
 

@@ -1,6 +1,6 @@
-use Rattle.t1_subset.proofs.Fonts.{fonts_within}
-use Rattle.t1_subset.proofs.Orders.{accepted_from_pairs, pairs_from_accepted, folded_is, within}
-use Rattle.t1_subset.specs.Profile.{profile}
+use Rattle.t1_algebra.proofs.Fonts.{fonts_within}
+use Rattle.t1_algebra.proofs.Orders.{accepted_from_pairs, pairs_from_accepted, folded_is, within}
+use Rattle.t1_algebra.specs.Profile.{profile}
 use Rattle.t1_join.specs.Groupings.{one, from_left}
 use Rattle.t1_subset.proofs.laws.accepted_by_pairs.Goals as goal
 

@@ -1,5 +1,5 @@
-use Rattle.t1_subset.proofs.CutFonts.{bottom, sought_lacks}
-use Rattle.t1_subset.specs.Profile.{profile}
+use Rattle.t1_algebra.proofs.CutFonts.{bottom, sought_lacks}
+use Rattle.t1_algebra.specs.Profile.{profile}
 use Rattle.t1_subset.proofs.laws.bottom.Goals as goal
 
 pub returns : goal.returns

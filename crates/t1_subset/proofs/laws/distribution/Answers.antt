@@ -1,5 +1,5 @@
-use Rattle.t1_subset.proofs.Kept.{keep_union, kept_union}
-use Rattle.t1_subset.specs.Profile.{profile}
+use Rattle.t1_algebra.proofs.Kept.{keep_union, kept_union}
+use Rattle.t1_algebra.specs.Profile.{profile}
 use Rattle.t1_subset.proofs.laws.distribution.Goals as goal
 
 pub returns : goal.returns

@@ -1,5 +1,5 @@
 use Rattle.t1_font.proofs.read_fonts.ReadFontLaws.{spelled_font}
-use Rattle.t1_subset.proofs.Headline.{comes_to_subset}
+use Rattle.t1_algebra.proofs.Headline.{comes_to_subset}
 use Rattle.t1_subset.proofs.laws.headline.Goals as goal
 
 pub returns : goal.returns

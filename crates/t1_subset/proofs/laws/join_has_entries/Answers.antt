@@ -1,5 +1,5 @@
-use Rattle.t1_subset.proofs.JoinedEntries.{entries_join, joined_are_entries}
-use Rattle.t1_subset.specs.Profile.{profile}
+use Rattle.t1_algebra.proofs.JoinedEntries.{entries_join, joined_are_entries}
+use Rattle.t1_algebra.specs.Profile.{profile}
 use Rattle.t1_subset.proofs.laws.join_has_entries.Goals as goal
 
 pub returns : goal.returns

@@ -1,5 +1,5 @@
-use Rattle.t1_subset.proofs.Orders.{join_back}
-use Rattle.t1_subset.specs.Profile.{profile}
+use Rattle.t1_algebra.proofs.Orders.{join_back}
+use Rattle.t1_algebra.specs.Profile.{profile}
 use Rattle.t1_subset.proofs.laws.join_is_symmetric.Goals as goal
 
 pub returns : goal.returns

@@ -1,6 +1,6 @@
-use Rattle.t1_subset.specs.Profile.{profile}
-use Rattle.t1_subset.proofs.Fonts.{font_within}
-use Rattle.t1_subset.proofs.state_tables.FontStates.{join_exactly}
+use Rattle.t1_algebra.specs.Profile.{profile}
+use Rattle.t1_algebra.proofs.Fonts.{font_within}
+use Rattle.t1_algebra.proofs.FontStates.{join_exactly}
 use Rattle.t1_subset.proofs.laws.join_where_states_agree.Goals as goal
 
 pub returns : goal.returns

@@ -1,4 +1,4 @@
-use Rattle.t1_subset.proofs.Alike.{left_alike, right_alike}
+use Rattle.t1_algebra.proofs.Alike.{left_alike, right_alike}
 use Rattle.t1_subset.proofs.laws.joins_draw.Goals as goal
 
 pub returns : goal.returns

@@ -1,5 +1,5 @@
-use Rattle.t1_subset.proofs.Kept.{keep_more, kept_more}
-use Rattle.t1_subset.specs.Profile.{profile}
+use Rattle.t1_algebra.proofs.Kept.{keep_more, kept_more}
+use Rattle.t1_algebra.specs.Profile.{profile}
 use Rattle.t1_subset.proofs.laws.keep_is_monotone.Goals as goal
 
 pub returns : goal.returns

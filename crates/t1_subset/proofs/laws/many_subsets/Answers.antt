@@ -1,5 +1,5 @@
-use Rattle.t1_subset.proofs.Fonts.{many_subsets}
-use Rattle.t1_subset.specs.Profile.{profile}
+use Rattle.t1_algebra.proofs.Fonts.{many_subsets}
+use Rattle.t1_algebra.specs.Profile.{profile}
 use Rattle.t1_subset.proofs.laws.many_subsets.Goals as goal
 
 pub returns : goal.returns

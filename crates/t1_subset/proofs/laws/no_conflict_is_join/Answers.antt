@@ -1,5 +1,5 @@
-use Rattle.t1_subset.proofs.Conflicts.{no_conflict}
-use Rattle.t1_subset.specs.Profile.{profile}
+use Rattle.t1_algebra.proofs.Conflicts.{no_conflict}
+use Rattle.t1_algebra.specs.Profile.{profile}
 use Rattle.t1_subset.proofs.laws.no_conflict_is_join.Goals as goal
 
 pub returns : goal.returns

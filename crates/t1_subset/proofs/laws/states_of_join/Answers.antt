@@ -1,6 +1,6 @@
-use Rattle.t1_subset.proofs.JoinedStates.{subr_joined, name_joined, code_joined}
-use Rattle.t1_subset.proofs.state_tables.FontStates.{states_join}
-use Rattle.t1_subset.specs.Profile.{profile}
+use Rattle.t1_algebra.proofs.JoinedStates.{subr_joined, name_joined, code_joined}
+use Rattle.t1_algebra.proofs.FontStates.{states_join}
+use Rattle.t1_algebra.specs.Profile.{profile}
 use Rattle.t1_subset.proofs.laws.states_of_join.Goals as goal
 
 pub returns : goal.returns

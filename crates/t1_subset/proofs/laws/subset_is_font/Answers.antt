@@ -1,6 +1,6 @@
-use Rattle.t1_subset.proofs.Fonts.{subset_is_font}
-use Rattle.t1_subset.proofs.CutFonts.{subset_weight}
-use Rattle.t1_subset.specs.Profile.{profile}
+use Rattle.t1_algebra.proofs.Fonts.{subset_is_font}
+use Rattle.t1_algebra.proofs.CutFonts.{subset_weight}
+use Rattle.t1_algebra.specs.Profile.{profile}
 use Rattle.t1_subset.proofs.laws.subset_is_font.Goals as goal
 
 pub returns : goal.returns

@@ -1,5 +1,5 @@
-use Rattle.t1_subset.proofs.Again.{subset_again, subset_itself}
-use Rattle.t1_subset.specs.Profile.{profile}
+use Rattle.t1_algebra.proofs.Again.{subset_again, subset_itself}
+use Rattle.t1_algebra.specs.Profile.{profile}
 use Rattle.t1_subset.proofs.laws.subset_of_subset.Goals as goal
 
 pub returns : goal.returns

@@ -1,4 +1,4 @@
-use Rattle.t1_subset.proofs.Alike.{subset_alike}
+use Rattle.t1_algebra.proofs.Alike.{subset_alike}
 use Rattle.t1_subset.proofs.laws.subsets_draw.Goals as goal
 
 pub returns : goal.returns

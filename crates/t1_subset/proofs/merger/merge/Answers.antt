@@ -1,5 +1,5 @@
-use Rattle.t1_subset.proofs.ManyMerges.{of_subsets, draws_both}
-use Rattle.t1_subset.proofs.ListMergers.{other_order, itself}
+use Rattle.t1_subset.proofs.Answered.{of_subsets, draws_both}
+use Rattle.t1_subset.proofs.Answered.{other_order, itself}
 use Rattle.t1_subset.proofs.merger.merge.Goals as goal
 
 pub returns-clause-other_order : goal.returns-clause-other_order

@@ -1,8 +1,8 @@
 use Rattle.std.proofs.Common.{◌≡◌}
 use Rattle.std.specs.Option.{option_map}
 use Rattle.std.specs.FinMap as maps
-use Rattle.t1_subset.specs.Searches.{first_where}
-use Rattle.t1_subset.specs.Clashes.{differs_from}
+use Rattle.t1_algebra.specs.Searches.{first_where}
+use Rattle.t1_algebra.specs.NameStates.{differs_from}
 use Rattle.t1_subset.proofs.name_states.first_differing.Given as goal
 
 abbrev pub invariant-glyphs : goal.invariant-glyphs

@@ -1,8 +1,8 @@
 use Rattle.std.proofs.Common.{◌≡◌}
 use Rattle.std.specs.Option.{option_map}
 use Rattle.std.specs.FinMap as maps
-use Rattle.t1_subset.specs.Searches.{first_where}
-use Rattle.t1_subset.specs.Clashes.{lacks_in}
+use Rattle.t1_algebra.specs.Searches.{first_where}
+use Rattle.t1_algebra.specs.NameStates.{lacks_in}
 use Rattle.t1_subset.proofs.name_states.first_lacked.Given as goal
 
 abbrev pub invariant-names : goal.invariant-names

@@ -2,8 +2,8 @@ use Rattle.std.proofs.Common.{◌∙◌, cond, arith}
 use Rattle.std.specs.FinMap as maps
 use Rattle.std.proofs.lemmas.Map.Iter.{rest_more, rest_all}
 use Rattle.t1_font.specs.Lent.{lent_name}
-use Rattle.t1_subset.specs.StateTables.{one_each}
-use Rattle.t1_subset.proofs.state_tables.TableWeights.{adds_none, adds_next, adds_all}
+use Rattle.t1_algebra.specs.StateTables.{one_each}
+use Rattle.t1_algebra.proofs.TableWeights.{adds_none, adds_next, adds_all}
 use Rattle.t1_subset.proofs.name_states.with_counts.Goals as goal
 
 pub glyphs-init : goal.glyphs-init

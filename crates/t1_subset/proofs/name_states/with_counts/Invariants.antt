@@ -1,6 +1,6 @@
 use Rattle.std.specs.FinMap as maps
-use Rattle.t1_subset.specs.StateTables.{one_each}
-use Rattle.t1_subset.proofs.state_tables.TableWeights.{Adding}
+use Rattle.t1_algebra.specs.StateTables.{one_each}
+use Rattle.t1_algebra.proofs.TableWeights.{Adding}
 use Rattle.t1_subset.proofs.name_states.with_counts.Given as goal
 
 abbrev pub invariant-glyphs : goal.invariant-glyphs

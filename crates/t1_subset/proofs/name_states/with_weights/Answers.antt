@@ -3,7 +3,7 @@ use Rattle.std.specs.FinMap as maps
 use Rattle.std.proofs.lemmas.Map.Iter.{rest_more, rest_all}
 use Rattle.t1_font.specs.FontValue.{glyph_weight}
 use Rattle.t1_font.specs.Lent.{lent_name}
-use Rattle.t1_subset.proofs.state_tables.TableWeights.{adds_none, adds_next, adds_all}
+use Rattle.t1_algebra.proofs.TableWeights.{adds_none, adds_next, adds_all}
 use Rattle.t1_subset.proofs.name_states.with_weights.Goals as goal
 
 pub glyphs-init : goal.glyphs-init

@@ -1,6 +1,6 @@
 use Rattle.std.specs.FinMap as maps
 use Rattle.t1_font.specs.FontValue.{glyph_weight}
-use Rattle.t1_subset.proofs.state_tables.TableWeights.{Adding}
+use Rattle.t1_algebra.proofs.TableWeights.{Adding}
 use Rattle.t1_subset.proofs.name_states.with_weights.Given as goal
 
 abbrev pub invariant-glyphs : goal.invariant-glyphs

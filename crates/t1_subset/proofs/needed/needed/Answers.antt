@@ -1,8 +1,8 @@
 use Rattle.std.proofs.Common.{◌≡◌, ℕ, ◌+◌, take, List, [], Bor, map, filter, sym, ◌∙◌, ap, subst, refl, arith, nat_cmp}
 use Rattle.std.specs.FinSet as sets
 use Rattle.t1_font.specs.FontValue.{notdef}
-use Rattle.t1_subset.specs.Keep.{has, charstring, components, keep}
-use Rattle.t1_subset.specs.Profile.{profile, set_of}
+use Rattle.t1_algebra.specs.Keep.{has, charstring, components, keep}
+use Rattle.t1_algebra.specs.Profile.{profile, set_of}
 use Rattle.t1_subset.specs.ClosureNames.{push_new, push_all}
 use Rattle.t1_subset.specs.NameSets.{lent, asked}
 use Rattle.t1_subset.proofs.closing.ClosureSteps.{ClosureSoFar, closure_start, closure_step, closure_end, closure_few}

@@ -2,8 +2,8 @@ use Rattle.std.proofs.Common.{◌≡◌, ap, sym, ◌∙◌, length}
 use Rattle.std.proofs.lemmas.List.{length-map}
 use Rattle.std.specs.FinMap as maps
 use Rattle.t1_font.specs.FontValue.{Numbered}
-use Rattle.t1_subset.proofs.Sets.{not_so}
-use Rattle.t1_subset.proofs.Shares.{bytes_decide}
+use Rattle.t1_algebra.proofs.Sets.{not_so}
+use Rattle.t1_algebra.proofs.Shares.{bytes_decide}
 use Rattle.t1_subset.proofs.shared.same_indices.Goals as goal
 
 -- a table has as many entries as keys

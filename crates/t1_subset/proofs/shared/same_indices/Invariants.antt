@@ -1,6 +1,6 @@
 use Rattle.std.proofs.Common.{◌≡◌, map}
 use Rattle.std.specs.FinMap as maps
-use Rattle.t1_subset.specs.Interpreter.{same_bytes}
+use Rattle.t1_algebra.specs.Interpreter.{same_bytes}
 use Rattle.t1_subset.proofs.shared.same_indices.Given as goal
 
 abbrev pub invariant-entries : goal.invariant-entries

@@ -1,5 +1,5 @@
 use Rattle.std.proofs.Common.{◌∙◌, ap, is_some}
-use Rattle.t1_subset.proofs.state_tables.TableWeights.{some_copied}
+use Rattle.t1_algebra.proofs.TableWeights.{some_copied}
 use Rattle.t1_subset.proofs.state_joins.has.Goals as goal
 
 pub returns : goal.returns

@@ -3,8 +3,8 @@ use Rattle.std.specs.FinMap as maps
 use Rattle.std.proofs.lemmas.Map.Iter.{rest_more, rest_all}
 use Rattle.t1_join.specs.Meaning.{of_number}
 use Rattle.t1_join.specs.TableMeaning.{lent_meanings}
-use Rattle.t1_subset.specs.StateTables.{subr_adds}
-use Rattle.t1_subset.proofs.state_tables.TableWeights.{adds_none, adds_next, adds_all}
+use Rattle.t1_algebra.specs.StateTables.{subr_adds}
+use Rattle.t1_algebra.proofs.TableWeights.{adds_none, adds_next, adds_all}
 use Rattle.t1_subset.proofs.state_joins.with_subrs.Goals as goal
 
 pub entries-init : goal.entries-init

@@ -1,6 +1,6 @@
 use Rattle.std.specs.FinMap as maps
-use Rattle.t1_subset.specs.StateTables.{subr_adds}
-use Rattle.t1_subset.proofs.state_tables.TableWeights.{Adding}
+use Rattle.t1_algebra.specs.StateTables.{subr_adds}
+use Rattle.t1_algebra.proofs.TableWeights.{Adding}
 use Rattle.t1_subset.proofs.state_joins.with_subrs.Given as goal
 
 abbrev pub invariant-entries : goal.invariant-entries

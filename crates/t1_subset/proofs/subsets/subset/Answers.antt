@@ -1,7 +1,7 @@
 use Rattle.std.proofs.Common.{◌≡◌, ◌∙◌, ap}
 use Rattle.t1_font.specs.Cut.{set_of_names}
-use Rattle.t1_subset.specs.Keep.{subset}
-use Rattle.t1_subset.specs.Profile.{profile}
+use Rattle.t1_algebra.specs.Keep.{subset}
+use Rattle.t1_algebra.specs.Profile.{profile}
 use Rattle.t1_subset.specs.NameSets.{lent, asked}
 use Rattle.t1_subset.proofs.closing.Absent.{none_absent}
 use Rattle.t1_subset.proofs.closing.SubsetCuts.{has_notdef, of_font, cut_is, draws}

@@ -1,4 +1,4 @@
-use Rattle.t1_subset.specs.States.{code_state}
+use Rattle.t1_algebra.specs.States.{code_state}
 use Rattle.t1_subset.proofs.state_tables.ByNumber.{HasBelow}
 use Rattle.t1_subset.proofs.tables.code_table.Given as goal
 

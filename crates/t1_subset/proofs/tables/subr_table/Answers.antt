@@ -1,10 +1,10 @@
 use Rattle.std.proofs.Common.{◌≡◌, refl, ◌∙◌, ap, sym, arith, ℕ, List, Bor, Option, Some, None, is_some, option_map}
-use Rattle.t1_subset.specs.Profile.{profile}
-use Rattle.t1_subset.specs.States.{subr_state, state_of_entry}
-use Rattle.t1_subset.specs.StateTables.{used_subrs}
+use Rattle.t1_algebra.specs.Profile.{profile}
+use Rattle.t1_algebra.specs.States.{subr_state, state_of_entry}
+use Rattle.t1_algebra.specs.StateTables.{used_subrs}
 use Rattle.t1_subset.proofs.state_tables.FontCallers.{called_is}
 use Rattle.t1_subset.proofs.state_tables.FirstConflicts.{absent_beyond}
-use Rattle.t1_subset.proofs.state_tables.FontStates.{get-used}
+use Rattle.t1_algebra.proofs.FontStates.{get-used}
 use Rattle.t1_subset.proofs.state_tables.ByNumber.{has_none, has_next, has_all, entry_is}
 use Rattle.t1_subset.proofs.tables.subr_table.Goals as goal
 
@@ -21,7 +21,7 @@ indices-preserved c =
     let f = c.args.font.now in let i = c.indices.index in
     has_next c.indices.table (subr_state profile f) i c.indices.invariant c.put.new.table _ c.in_ok-put.ensures
     (c.subr_state.ensures ∙ entry_is f i _ _ c.is_some.result c.subr.ensures.entry
-    (λ t. c.is_some.ensures ∙ some_lent c.user_in.result ∙ ap is_some (c.user_in.ensures ∙ c.requires i t) ∙ sym (called_is f i)))
+    (λ t. c.is_some.ensures ∙ some_lent c.noted_user.result ∙ ap is_some (c.noted_user.ensures ∙ c.requires i t) ∙ sym (called_is f i)))
 
 pub returns : goal.returns
 returns c =

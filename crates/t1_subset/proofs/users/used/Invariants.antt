@@ -1,5 +1,6 @@
-use Rattle.t1_subset.proofs.state_tables.FontUsers.{HasUsed}
+use Rattle.t1_subset.specs.Users.{noted_at}
+use Rattle.t1_subset.proofs.state_tables.ByNumber.{HasBelow}
 use Rattle.t1_subset.proofs.users.used.Given as goal
 
-abbrev pub invariant-entries : goal.invariant-entries
-invariant-entries l = HasUsed l.users l.used l.index-iterator
+abbrev pub invariant-indices : goal.invariant-indices
+invariant-indices l = HasBelow l.used (noted_at l.users.items) l.index

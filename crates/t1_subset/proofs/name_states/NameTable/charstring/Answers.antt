@@ -1,5 +1,5 @@
 use Rattle.std.proofs.Common.{sym, ◌∙◌}
-use Rattle.t1_subset.proofs.state_tables.NameTables.{charstring_in}
+use Rattle.t1_algebra.proofs.NameTables.{charstring_in}
 use Rattle.t1_subset.proofs.name_states.NameTable.charstring.Goals as goal
 
 pub returns : goal.returns

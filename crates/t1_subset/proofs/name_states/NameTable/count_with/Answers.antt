@@ -3,8 +3,8 @@ use Rattle.std.specs.FinMap as maps
 use Rattle.t1_join.specs.TableMeaning.{TableMeaning}
 use Rattle.t1_font.specs.FontModel.{clamp}
 use Rattle.t1_font.specs.FontValue.{total}
-use Rattle.t1_subset.specs.StateTables.{name_counts, new_entries}
-use Rattle.t1_subset.proofs.state_tables.NameTables.{new_names_total}
+use Rattle.t1_algebra.specs.StateTables.{name_counts, new_entries}
+use Rattle.t1_algebra.proofs.NameTables.{new_names_total}
 use Rattle.t1_subset.proofs.name_states.NameTable.count_with.Goals as goal
 
 pub returns : goal.returns

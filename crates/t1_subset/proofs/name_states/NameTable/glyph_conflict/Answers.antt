@@ -2,13 +2,13 @@ use Rattle.std.proofs.Common.{sym, ◌∙◌, ap, subst, is_some}
 use Rattle.std.specs.Cmp.Lexicographic.{nat_list_cmp_total}
 use Rattle.std.specs.FinMap as maps
 use Rattle.t1_font.specs.FontValue.{name_cmp}
-use Rattle.t1_subset.specs.Searches.{IsLowest}
-use Rattle.t1_subset.specs.StateTables.{behind_mark}
-use Rattle.t1_subset.specs.Clashes.{charstrings_differ, differs_from}
-use Rattle.t1_subset.proofs.Sets.{name_same}
+use Rattle.t1_algebra.specs.Searches.{IsLowest}
+use Rattle.t1_algebra.specs.StateTables.{behind_mark}
+use Rattle.t1_algebra.specs.NameStates.{charstrings_differ, differs_from}
+use Rattle.t1_algebra.proofs.Sets.{name_same}
 use Rattle.t1_subset.proofs.state_tables.FirstConflicts.{there_of}
 use Rattle.t1_subset.proofs.state_tables.LowestKeys.{lowest_entry}
-use Rattle.t1_subset.proofs.state_tables.NameTables.{charstring_in, differs_at}
+use Rattle.t1_algebra.proofs.NameTables.{charstring_in, differs_at}
 use Rattle.t1_subset.proofs.name_states.NameTable.glyph_conflict.Goals as goal
 
 pub returns : goal.returns

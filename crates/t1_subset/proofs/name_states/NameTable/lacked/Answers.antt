@@ -4,11 +4,11 @@ use Rattle.std.specs.Cmp.Lexicographic.{nat_list_cmp_total}
 use Rattle.std.specs.FinMap as maps
 use Rattle.t1_font.specs.FontValue.{name_cmp}
 use Rattle.t1_font.proofs.MapLemmas.{entries_all}
-use Rattle.t1_subset.specs.Searches.{IsLowest}
-use Rattle.t1_subset.specs.Clashes.{lacks, lacks_in}
-use Rattle.t1_subset.proofs.Sets.{name_same}
+use Rattle.t1_algebra.specs.Searches.{IsLowest}
+use Rattle.t1_algebra.specs.NameStates.{lacks, lacks_in}
+use Rattle.t1_algebra.proofs.Sets.{name_same}
 use Rattle.t1_subset.proofs.state_tables.LowestKeys.{lowest_entry}
-use Rattle.t1_subset.proofs.state_tables.NameTables.{seeks_in}
+use Rattle.t1_algebra.proofs.NameTables.{seeks_in}
 use Rattle.t1_subset.proofs.name_states.NameTable.lacked.Goals as goal
 
 pub returns : goal.returns

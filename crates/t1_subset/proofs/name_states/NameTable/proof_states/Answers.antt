@@ -1,4 +1,4 @@
-use Rattle.t1_subset.proofs.state_tables.NameTables.{state_in}
+use Rattle.t1_algebra.proofs.NameTables.{state_in}
 use Rattle.t1_subset.proofs.name_states.NameTable.proof_states.Goals as goal
 
 pub returns : goal.returns

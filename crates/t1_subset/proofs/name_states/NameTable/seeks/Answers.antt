@@ -1,6 +1,6 @@
 use Rattle.std.proofs.Common.{◌∙◌, ap, is_some, []}
-use Rattle.t1_subset.proofs.state_tables.NameTables.{seeks_else}
-use Rattle.t1_subset.proofs.state_tables.TableWeights.{some_copied}
+use Rattle.t1_algebra.proofs.NameTables.{seeks_else}
+use Rattle.t1_algebra.proofs.TableWeights.{some_copied}
 use Rattle.t1_subset.proofs.name_states.NameTable.seeks.Goals as goal
 
 pub returns-then-not-has_glyph : goal.returns-then-not-has_glyph

@@ -1,4 +1,4 @@
-use Rattle.t1_subset.proofs.state_tables.NameTables.{sought_agree, names_join, are_joined}
+use Rattle.t1_algebra.proofs.NameTables.{sought_agree, names_join, are_joined}
 use Rattle.t1_subset.proofs.name_states.NameTableJoin.join.Goals as goal
 
 pub join-requires : goal.join-requires

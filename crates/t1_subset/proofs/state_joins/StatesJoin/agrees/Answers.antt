@@ -1,4 +1,4 @@
-use Rattle.t1_subset.proofs.state_tables.FontStates.{agree_by_parts}
+use Rattle.t1_algebra.proofs.FontStates.{agree_by_parts}
 use Rattle.t1_subset.proofs.state_joins.StatesJoin.agrees.Goals as goal
 
 pub returns-then-parts_agree : goal.returns-then-parts_agree

@@ -1,4 +1,4 @@
-use Rattle.t1_subset.proofs.state_tables.FontStates.{seen_join}
+use Rattle.t1_algebra.proofs.FontStates.{seen_join}
 use Rattle.t1_subset.proofs.state_joins.StatesJoin.join.Goals as goal
 
 pub invariant_of-result : goal.invariant_of-result

@@ -1,5 +1,5 @@
-use Rattle.t1_subset.specs.StateTables.{name_part, subr_part}
-use Rattle.t1_subset.proofs.state_tables.FontStates.{seen_agree, both_pass, first_fails}
+use Rattle.t1_algebra.specs.StateTables.{name_part, subr_part}
+use Rattle.t1_algebra.proofs.FontStates.{seen_agree, both_pass, first_fails}
 use Rattle.t1_subset.proofs.state_value.States.names_and_subrs_agree.Goals as goal
 
 pub returns-then-agrees : goal.returns-then-agrees

@@ -1,5 +1,5 @@
-use Rattle.t1_subset.specs.StateTables.{code_part}
-use Rattle.t1_subset.proofs.state_tables.FontStates.{seen_agree, both_pass, first_fails}
+use Rattle.t1_algebra.specs.StateTables.{code_part}
+use Rattle.t1_algebra.proofs.FontStates.{seen_agree, both_pass, first_fails}
 use Rattle.t1_subset.proofs.state_value.States.tables_agree.Goals as goal
 
 pub returns-then-agrees : goal.returns-then-agrees

@@ -1,0 +1,395 @@
+-- The states of a font as tables: what stands at each key, what they weigh, and that they join as the fonts do.
+use Rattle.std.proofs.Common.{◌≡◌, ◌↔◌, ◌≤◌, ℕ, ◌+◌, ◌*◌, ◌-◌, zero, suc, max, Bool, true, false, cond, not, ◌&&◌, ◌||◌, List, [], ◌∷◌, map, filter, flat_map, length, refl, sym, ◌∙◌, ap, subst, true≢false, Option, Some, None, option_map, is_some, arith, inl, ⊎_elim}
+use Rattle.std.specs.List.{list_any, AllByRecursion}
+use Rattle.std.proofs.lemmas.List.{length-map}
+use Rattle.std.proofs.lemmas.List.Folds.{list_any-append}
+use Rattle.std.specs.Cmp.{nat_cmp_total}
+use Rattle.std.specs.Cmp.Lexicographic.{nat_list_cmp_total}
+use Rattle.std.specs.FinMap as maps
+use Rattle.std.specs.FinMap.{find}
+use Rattle.std.specs.FinSet.{nat_cmp-IsAntisymmetric}
+use Rattle.t1_join.specs.Meaning.{Meaning, meaning_cmp, same_meaning, of_number}
+use Rattle.t1_join.specs.Join.{State, states_agree, joined_state}
+use Rattle.t1_join.specs.Join.{StatesAgree as PlacesAgree}
+use Rattle.t1_join.specs.StateLaws.{same_meaning-true, same_meaning-self, state_itself}
+use Rattle.t1_join.specs.TableMeaning.{TableMeaning, TablesAgree, TablesJoin, joined_table}
+use Rattle.t1_join.specs.TableLaws.{get_joined, same_table}
+use Rattle.t1_font.specs.Joins.{join_encodings}
+use Rattle.t1_font.specs.FontModel.{names_in, word_of, clamp}
+use Rattle.t1_font.specs.FontValue.{FontValue, Encoding, Word, Codes, Numbered, name_cmp, total, subr_weight, weight, weight_limit, count_limit}
+use Rattle.t1_font.specs.WriteLaws.{SameKind}
+use Rattle.t1_font.proofs.CutEntries.{entries-retain}
+use Rattle.t1_font.proofs.MapLemmas.{Some_same, Some_None, entries_all, get-retain, length_total}
+use Rattle.t1_algebra.specs.Interpreter.{Interpreter, same_bytes}
+use Rattle.t1_algebra.specs.States.{named_at, Agree, joined, IsWithin, is_called, is_sought, is_stub, state_of_entry, subr_state, state_of_glyph, name_state, code_state, Compatible, Join, joined_font}
+use Rattle.t1_algebra.specs.StateTables.{StatesValue, numbered, name_meaning, AreSought, code_states, used_subrs, all_components, name_states, states_of, new_entries, subr_adds, name_adds, name_counts, shared_weight, states_weight, states_glyphs, StatesFit, IsSized, name_part, subr_part, joint_weight, joint_glyphs, PartsJoin, StatesAgree, StatesJoin}
+use Rattle.t1_algebra.specs.Shared.{Shared}
+use Rattle.t1_join.specs.Products.{BothJoin}
+use Rattle.t1_algebra.specs.StateLaws.{PartsAgree, parts_laws}
+use Rattle.t1_algebra.proofs.Shares.{same_indices, shared_from, shared_to}
+use Rattle.t1_algebra.proofs.CutFonts.{stub_is}
+use Rattle.t1_algebra.proofs.Maps.{get-merged, maps_same}
+use Rattle.t1_algebra.proofs.Numbered.{at_number, get-numbered, entries-numbered, numbered-merged}
+use Rattle.t1_algebra.proofs.Sets.{name_same}
+use Rattle.t1_algebra.proofs.JoinedStates.{subr_joined, name_joined, present_joined}
+use Rattle.t1_algebra.proofs.NameTables.{get-name, names_total}
+use Rattle.t1_algebra.proofs.TableWeights.{total-merged}
+
+-- ---- states that agree
+
+-- states that agree in tables agree
+pub to_agree : (x y : State) → PlacesAgree x y → Agree x y
+to_agree None y h = tt
+to_agree (Some v) None h = tt
+to_agree (Some v) (Some w) h = same_meaning-true v w h
+
+-- states that agree do so in tables
+pub from_agree : (x y : State) → Agree x y → PlacesAgree x y
+from_agree None y h = refl
+from_agree (Some v) None h = refl
+from_agree (Some v) (Some w) h = subst (λ (u : Meaning). same_meaning v u ≡ true) h (same_meaning-self v)
+
+same_name : (a b : Option (List ℕ)) → name_meaning a ≡ name_meaning b → a ≡ b
+same_name None None e = refl
+same_name None (Some d) e = cc
+same_name (Some c) None e = cc
+same_name (Some c) (Some d) e = cc
+
+-- what the state of a name means in a table
+abbrev pub meant : Option (Option (List ℕ)) → State
+meant x = option_map name_meaning x
+
+-- names whose meanings agree have states that agree
+names_to : (x y : Option (Option (List ℕ))) → PlacesAgree (meant x) (meant y) → Agree x y
+names_to None y h = tt
+names_to (Some a) None h = tt
+names_to (Some a) (Some b) h = same_name a b (same_meaning-true (name_meaning a) (name_meaning b) h)
+
+-- names whose states agree have meanings that agree
+names_from : (x y : Option (Option (List ℕ))) → Agree x y → PlacesAgree (meant x) (meant y)
+names_from None y h = refl
+names_from (Some a) None h = refl
+names_from (Some a) (Some b) h = subst (λ (c : Option (List ℕ)). same_meaning (name_meaning a) (name_meaning c) ≡ true) h (same_meaning-self (name_meaning a))
+
+-- the meaning of a join of names is the join of their meanings
+names_joined : (x y : Option (Option (List ℕ))) → meant (joined x y) ≡ joined_state (meant x) (meant y)
+names_joined None y = refl
+names_joined (Some a) y = refl
+
+-- ---- tables by number
+
+-- maps that agree at each number are tables that agree
+numbers_agree : (s t : Numbered) → ((i : ℕ) → Agree (maps.get s i) (maps.get t i)) → TablesAgree (numbered s) (numbered t)
+numbers_agree s t h q = (λ i. states_agree (get-numbered s q i) (get-numbered t q i)) ∙ at q
+  where
+    at : (q : Meaning) → PlacesAgree (at_number (maps.get s) q) (at_number (maps.get t) q)
+    at [] = refl
+    at (n ∷ []) = from_agree (maps.get s n) (maps.get t n) (h n)
+    at (a ∷ b ∷ rest) = refl
+
+-- tables by number that agree are maps that agree at each number
+agree_numbers : (s t : Numbered) → TablesAgree (numbered s) (numbered t) → (i : ℕ) → Agree (maps.get s i) (maps.get t i)
+agree_numbers s t h i = to_agree (maps.get s i) (maps.get t i) ((λ j. states_agree (sym (get-numbered s (of_number i)) j) (sym (get-numbered t (of_number i)) j)) ∙ h (of_number i))
+
+-- ---- what stands at each key
+
+any_flat_map : {J : Type 0} (p : List ℕ → Bool) (f : J → List (List ℕ)) (xs : List J) → list_any p (flat_map f xs) ≡ list_any (λ x. list_any p (f x)) xs
+any_flat_map p f [] = refl
+any_flat_map p f (x ∷ xs) = list_any-append p (f x) (flat_map f xs) ∙ ap (λ b. list_any p (f x) || b) (any_flat_map p f xs)
+
+-- in the table of sought names a name is found if it is one of them
+find_sought : (n : List ℕ) (ps : List (List ℕ)) → find name_cmp n (map (λ p. (p, name_meaning None)) ps) ≡ cond (list_any (same_bytes n) ps) (Some []) None
+find_sought n [] = refl
+find_sought n (p ∷ ps) = elim (same_bytes n p) as (λ b. cond b (Some []) (find name_cmp n (map (λ p. (p, name_meaning None)) ps)) ≡ cond (b || list_any (same_bytes n) ps) (Some []) None) [ true ↦ refl | false ↦ find_sought n ps ]
+
+module _ {O : Type 0} (m : Interpreter O) (f : FontValue) where
+  cut_at : (b : Bool) (c : List ℕ) → cond (is_some (cond b None (Some c))) (Some c) None ≡ cond b None (Some c)
+  cut_at true c = refl
+  cut_at false c = refl
+
+  used_at : (i : ℕ) (x : Option (List ℕ)) → cond (is_some (state_of_entry m f i x)) x None ≡ state_of_entry m f i x
+  used_at i None = refl
+  used_at i (Some c) = cut_at (is_stub c && not (is_called m f i)) c
+
+  -- the table of Subrs has the state of each index
+  pub get-used : (i : ℕ) → maps.get (used_subrs m f) i ≡ subr_state m f i
+  get-used i = get-retain nat_cmp_total nat_cmp-IsAntisymmetric f.subrs (λ i. is_some (subr_state m f i)) i ∙ used_at i (maps.get f.subrs i)
+
+  -- the names that are sought
+  abbrev sought : TableMeaning
+  sought = maps.from_entries (map (λ p. (p, name_meaning None)) (all_components m f))
+
+  get-sought : (n : List ℕ) → maps.get sought n ≡ cond (is_sought m f n) (Some []) None
+  get-sought n = maps.get-from_entries nat_list_cmp_total (map (λ p. (p, name_meaning None)) (all_components m f)) n ∙ find_sought n (all_components m f)
+      ∙ ap (λ b. cond b (Some []) None) (any_flat_map (same_bytes n) (λ n. named_at m f (maps.get f.glyphs n)) (names_in f.glyphs))
+
+  lone : (b : Bool) → cond b (Some []) None ≡ meant (cond b (Some None) None)
+  lone true = refl
+  lone false = refl
+
+  are_sought : AreSought sought
+  are_sought n v is = at (is_sought m f n) (sym (get-sought n) ∙ is)
+    where
+      at : (b : Bool) → cond b (Some []) None ≡ Some v → v ≡ []
+      at true h = sym (Some_same h)
+      at false h = Some_None (sym h)
+
+  name_at : (n : List ℕ) (x : Option (List ℕ)) → joined_state (option_map (λ c. name_meaning (Some c)) x) (cond (is_sought m f n) (Some []) None) ≡ meant (state_of_glyph m f n x)
+  name_at n None = lone (is_sought m f n)
+  name_at n (Some c) = refl
+
+  -- the table of names has the state of each name
+  pub get-names : (n : List ℕ) → maps.get (name_states m f) n ≡ meant (name_state m f n)
+  get-names n = get-name f.glyphs sought n ∙ ap (joined_state (option_map (λ c. name_meaning (Some c)) (maps.get f.glyphs n))) (get-sought n) ∙ name_at n (maps.get f.glyphs n)
+
+-- ---- compatible fonts have states that agree
+
+-- the join of two Encodings has the word of the first
+word_joined : (d e : Encoding) → SameKind d e → word_of (join_encodings d e) ≡ word_of d
+word_joined (Word v) e h = refl
+word_joined (Codes s) (Word w) h = refl
+word_joined (Codes s) (Codes t) h = refl
+
+-- if the names of each code agree, the tables of codes agree
+codes_agree : (d e : Encoding) → SameKind d e → ((c : ℕ) → Agree (code_state d c) (code_state e c)) → TablesAgree (code_states d) (code_states e)
+codes_agree (Word v) (Word w) h a = λ q. state_itself (maps.get (maps.empty {R = meaning_cmp}) q)
+codes_agree (Word v) (Codes t) h a = absurd h
+codes_agree (Codes s) (Word w) h a = absurd h
+codes_agree (Codes s) (Codes t) h a = numbers_agree s t a
+
+-- if the tables of codes agree, the names of each code agree
+agree_codes : (d e : Encoding) → TablesAgree (code_states d) (code_states e) → (c : ℕ) → Agree (code_state d c) (code_state e c)
+agree_codes (Word v) e h c = tt
+agree_codes (Codes s) (Word w) h c = none_right (maps.get s c)
+  where
+    none_right : (x : Option (List ℕ)) → Agree x None
+    none_right None = tt
+    none_right (Some v) = tt
+agree_codes (Codes s) (Codes t) h c = agree_numbers s t h c
+
+-- the codes of the join of two Encodings are the join of their tables
+codes_joined : (d e : Encoding) → SameKind d e → code_states (join_encodings d e) ≡ joined_table (code_states d) (code_states e)
+codes_joined (Word v) (Word w) h = same_table maps.empty (joined_table maps.empty maps.empty) (λ q. nothing q ∙ sym (get_joined maps.empty maps.empty q))
+  where
+    nothing : (q : Meaning) → maps.get (maps.empty {R = meaning_cmp}) q ≡ joined_state (maps.get (maps.empty {R = meaning_cmp}) q) (maps.get (maps.empty {R = meaning_cmp}) q)
+    nothing q = let none = maps.get-empty meaning_cmp q in none ∙ (λ i. joined_state (sym none i) (sym none i))
+codes_joined (Word v) (Codes t) h = absurd h
+codes_joined (Codes s) (Word w) h = absurd h
+codes_joined (Codes s) (Codes t) h = sym (numbered-merged s t)
+
+module _ {O : Type 0} (m : Interpreter O) (f g : FontValue) where
+  -- the states of compatible fonts agree part by part
+  pub compatible_agree : Compatible m f g → PartsAgree (states_of m f) (states_of m g)
+  compatible_agree c = (
+    shared_from f g (record { shells = c.shells; present = c.present; kinds = c.kinds }),
+    (
+      codes_agree f.encoding g.encoding c.kinds c.codes,
+      (
+        λ n. (λ i. states_agree (get-names m f n i) (get-names m g n i)) ∙ names_from (name_state m f n) (name_state m g n) (c.names n),
+        numbers_agree (used_subrs m f) (used_subrs m g) (λ i. subst (λ (x : State). Agree x (maps.get (used_subrs m g) i)) (sym (get-used m f i)) (subst (Agree (subr_state m f i)) (sym (get-used m g i)) (c.subrs i))),
+      ),
+    ),
+  )
+
+  -- fonts whose states agree part by part are compatible
+  pub agree_compatible : PartsAgree (states_of m f) (states_of m g) → Compatible m f g
+  agree_compatible h = record {
+    shells = (shared_to f g h.0).shells;
+    present = (shared_to f g h.0).present;
+    kinds = (shared_to f g h.0).kinds;
+    subrs = λ i. subst (λ (x : State). Agree x (subr_state m g i)) (get-used m f i) (subst (Agree (maps.get (used_subrs m f) i)) (get-used m g i) (agree_numbers (used_subrs m f) (used_subrs m g) h.1.1.1 i));
+    names = λ n. names_to (name_state m f n) (name_state m g n) ((λ i. states_agree (sym (get-names m f n) i) (sym (get-names m g n) i)) ∙ h.1.1.0 n);
+    codes = agree_codes f.encoding g.encoding h.1.0;
+  }
+
+  -- the states of a join are the joined states
+  pub parts_join : Compatible m f g → PartsJoin (states_of m f) (states_of m g) (states_of m (joined_font m f g))
+  parts_join c =
+      let a = compatible_agree c in
+      let j = joined_font m f g in (
+        (a.0, λ i. (f.shell, (word_joined f.encoding g.encoding c.kinds i, same_indices j.subrs f.subrs (present_joined m f g) i))),
+        (
+          (a.1.0, codes_joined f.encoding g.encoding c.kinds),
+          (
+            (
+              a.1.1.0,
+              same_table (name_states m j) (joined_table (name_states m f) (name_states m g)) (λ n.
+                  get-names m j n ∙ ap meant (name_joined m f g c n) ∙ names_joined (name_state m f n) (name_state m g n)
+                  ∙ (λ i. joined_state (sym (get-names m f n) i) (sym (get-names m g n) i)) ∙ sym (get_joined (name_states m f) (name_states m g) n)),
+            ),
+            (
+              a.1.1.1,
+              ap numbered (maps_same nat_cmp_total nat_cmp-IsAntisymmetric (used_subrs m j) _ (λ i.
+                  get-used m j i ∙ subr_joined m f g c i ∙ (λ k. joined (sym (get-used m f i) k) (sym (get-used m g i) k)) ∙ sym (get-merged nat_cmp_total nat_cmp-IsAntisymmetric (used_subrs m f) (used_subrs m g) i)))
+                  ∙ sym (numbered-merged (used_subrs m f) (used_subrs m g)),
+            ),
+          ),
+        ),
+      )
+
+-- ---- weights
+
+-- the weight of a table by number is that of its map
+total_keyed : (es : List (ℕ × List ℕ)) → total subr_adds (map (λ e. (of_number e.0, e.1)) es) ≡ total (λ i c. length c - 1) es
+total_keyed [] = refl
+total_keyed (e ∷ es) = ap (λ n. length e.1 - 1 + n) (total_keyed es)
+
+-- leaving out entries that weigh nothing changes no sum
+total_kept : {K : Type 0} (w : K → List ℕ → ℕ) (p : K → Bool) (es : List (K × List ℕ)) → AllByRecursion (λ e. p e.0 ≡ false → w e.0 e.1 ≡ 0) es → total w (filter (λ e. p e.0) es) ≡ total w es
+total_kept w p [] h = refl
+total_kept w p (e ∷ es) h =
+    elim (p e.0) as (λ b. p e.0 ≡ b → total w (cond b (e ∷ filter (λ e. p e.0) es) (filter (λ e. p e.0) es)) ≡ w e.0 e.1 + total w es) [
+      | true ↦ λ t. ap (λ n. w e.0 e.1 + n) (total_kept w p es h.1)
+      | false ↦ λ t. let none = h.0 t in let rest = total_kept w p es h.1 in omega (arith, none, rest)
+    ] refl
+
+at_least_one : (n : ℕ) → max 1 n ≡ 1 + (n - 1)
+at_least_one zero = refl
+at_least_one (suc n) = omega arith
+
+-- Subrs weigh what as many stubs weigh and what each has beyond a stub
+total_apart : (iv : ℕ) (es : List (ℕ × List ℕ)) → total (subr_weight iv) es ≡ length es * (129 + iv) + total (λ i c. length c - 1) es
+total_apart iv [] = omega arith
+total_apart iv (e ∷ es) = let rest = total_apart iv es in let one = at_least_one (length e.1) in omega (arith, rest, one)
+
+module _ {O : Type 0} (m : Interpreter O) (f : FontValue) where
+  -- an entry whose state is the bottom weighs no more than a stub
+  stub_adds_nothing : (i : ℕ) (c : List ℕ) → maps.get f.subrs i ≡ Some c → is_some (subr_state m f i) ≡ false → length c - 1 ≡ 0
+  stub_adds_nothing i c is h = ap (λ (d : List ℕ). length d - 1) (stub_is c (at (is_stub c) (not (is_called m f i)) (sym (ap (λ x. is_some (state_of_entry m f i x)) is) ∙ h)))
+    where
+      at : (a b : Bool) → is_some (cond (a && b) None (Some c)) ≡ false → a ≡ true
+      at true b h = refl
+      at false b h = absurd (true≢false h)
+
+  -- the Subrs of a font weigh as many stubs and what their states add
+  subrs_weigh : total (subr_weight f.shell.len_iv) (maps.entries f.subrs) ≡ length (maps.keys f.subrs) * (129 + f.shell.len_iv) + total subr_adds (maps.entries (numbered (used_subrs m f)))
+  subrs_weigh =
+      total_apart f.shell.len_iv (maps.entries f.subrs)
+      ∙ (λ i. count i * (129 + f.shell.len_iv) + added i)
+    where
+      count : length (maps.entries f.subrs) ≡ length (maps.keys f.subrs)
+      count = sym (length-map (maps.entries f.subrs) (λ e. e.0))
+
+      added : total (λ i c. length c - 1) (maps.entries f.subrs) ≡ total subr_adds (maps.entries (numbered (used_subrs m f)))
+      added = sym (ap (total subr_adds) (entries-numbered (used_subrs m f)) ∙ total_keyed (maps.entries (used_subrs m f))
+          ∙ ap (total (λ i c. length c - 1)) (entries-retain nat_cmp_total nat_cmp-IsAntisymmetric f.subrs (λ i. is_some (subr_state m f i)))
+          ∙ total_kept (λ i c. length c - 1) (λ i. is_some (subr_state m f i)) (maps.entries f.subrs)
+          (entries_all nat_cmp_total nat_cmp-IsAntisymmetric (λ i c. is_some (subr_state m f i) ≡ false → length c - 1 ≡ 0) f.subrs stub_adds_nothing))
+
+  -- sought names add nothing to a sum over names
+  in_all : (w : Meaning → Meaning → ℕ) → ((n : Meaning) → w n [] ≡ 0) → total w (maps.entries (name_states m f)) ≡ total (λ n c. w n (name_meaning (Some c))) (maps.entries f.glyphs)
+  in_all w h = names_total f.glyphs (sought m f) (are_sought m f) w h
+
+  -- the weight of a font's states is the weight of the font
+  pub weight_is : states_weight (states_of m f) ≡ weight f
+  weight_is = let subrs = subrs_weigh in let glyphs = in_all (name_adds f.shell.len_iv) (λ n. refl) in omega (arith, subrs, glyphs)
+
+  -- a font's states count the glyphs of the font
+  pub glyphs_are : states_glyphs (states_of m f) ≡ maps.len f.glyphs
+  glyphs_are = in_all name_counts (λ n. refl) ∙ length_total (maps.entries f.glyphs) ∙ sym (maps.len-entries f.glyphs)
+
+  -- the states of a font within the limits are within them
+  pub fits : IsWithin f → StatesFit (states_of m f)
+  fits w = record { weight = subst (λ n. n ≤ weight_limit) (sym weight_is) w.weight; glyphs = subst (λ n. n ≤ count_limit) (sym glyphs_are) w.glyphs }
+
+  -- a font whose states are within the limits is within them
+  pub within : StatesFit (states_of m f) → IsWithin f
+  within w = record { weight = subst (λ n. n ≤ weight_limit) weight_is w.weight; glyphs = subst (λ n. n ≤ count_limit) glyphs_are w.glyphs }
+
+-- the states of a font within the limits have the weight and the count of the font
+pub sized : {O : Type 0} (m : Interpreter O) (f : FontValue) → IsWithin f → (s : StatesValue) → s ≡ states_of m f → (w n : ℕ) → w ≡ weight f → n ≡ maps.len f.glyphs → IsSized s w n
+sized m f h s is w n ew en = subst (λ (s : StatesValue). IsSized s w n) (sym is) (record { fits = fits m f h; weighs = ew ∙ sym (weight_is m f); counts = en ∙ sym (glyphs_are m f) })
+
+-- ---- fonts join exactly if their states agree
+
+module _ {O : Type 0} (m : Interpreter O) (f g : FontValue) where
+  -- the states of fonts that join have the states of the join for theirs
+  pub states_join : Join m f g → StatesJoin (states_of m f) (states_of m g) (states_of m (joined_font m f g))
+  states_join j = (parts_join m f g j.states, inl (fits m (joined_font m f g) j.within))
+
+  -- fonts within the limits join exactly if their states agree
+  pub join_exactly : IsWithin f → StatesAgree (states_of m f) (states_of m g) ↔ Join m f g
+  join_exactly w = (to, λ j. (states_of m (joined_font m f g), states_join j))
+    where
+      to : StatesAgree (states_of m f) (states_of m g) → Join m f g
+      to h =
+          let c = agree_compatible m f g (parts_laws.only_where _ _ h.0 h.1.0) in
+          let same : h.0 ≡ states_of m (joined_font m f g) = parts_laws.one_answer _ _ _ _ h.1.0 (parts_join m f g c) in
+          record { states = c; within = within m (joined_font m f g) (subst StatesFit same (⊎_elim (λ a. a) (λ b. subst StatesFit b.0 (fits m f w)) h.1.1)) }
+
+-- ---- what a joined value weighs
+
+-- a joined table weighs the first and the new entries of the second
+joint_grows : (w : Meaning → Meaning → ℕ) (a b c : TableMeaning) → TablesJoin a b c → total w (maps.entries c) ≡ total w (maps.entries a) + total w (new_entries a (maps.entries b))
+joint_grows w a b c h = ap (λ (t : TableMeaning). total w (maps.entries t)) h.1 ∙ total-merged nat_list_cmp_total w name_same a b
+
+-- a join weighs what is computed from its two sides
+pub joint_weighs : (x y z : StatesValue) → PartsJoin x y z → states_weight z ≡ joint_weight x y
+joint_weighs x y z h =
+    let at : states_weight z ≡ shared_weight x.0 + total subr_adds (maps.entries (subr_part z)) + total (name_adds x.0.0.len_iv) (maps.entries (name_part z)) =
+    ap (λ (s : Shared). shared_weight s + total subr_adds (maps.entries (subr_part z)) + total (name_adds s.0.len_iv) (maps.entries (name_part z))) h.0.1 in
+    let subrs = joint_grows subr_adds (subr_part x) (subr_part y) (subr_part z) h.1.1.1 in
+    let names = joint_grows (name_adds x.0.0.len_iv) (name_part x) (name_part y) (name_part z) h.1.1.0 in
+    omega (arith, at, subrs, names)
+
+-- a join has as many glyphs as are computed from its two sides
+pub joint_counts : (x y z : StatesValue) → PartsJoin x y z → states_glyphs z ≡ joint_glyphs x y
+joint_counts x y z h = joint_grows name_counts (name_part x) (name_part y) (name_part z) h.1.1.0
+
+module _ (x y : StatesValue) where
+  -- the weight and the count that are computed from both sides are within the limits
+  abbrev pub JointFits : Type 0
+  JointFits = (joint_weight x y ≤ weight_limit) × (joint_glyphs x y ≤ count_limit)
+
+  -- if a join is within the limits, so are the weight and the count computed from its sides
+  pub joint_fits : (z : StatesValue) → PartsJoin x y z → StatesFit z → JointFits
+  joint_fits z h w = (subst (λ n. n ≤ weight_limit) (joint_weighs x y z h) w.weight, subst (λ n. n ≤ count_limit) (joint_counts x y z h) w.glyphs)
+
+  -- if the weight and the count computed from both sides are within the limits, so is the join
+  pub fits_joint : (z : StatesValue) → PartsJoin x y z → JointFits → StatesFit z
+  fits_joint z h w = record { weight = subst (λ n. n ≤ weight_limit) (sym (joint_weighs x y z h)) w.0; glyphs = subst (λ n. n ≤ count_limit) (sym (joint_counts x y z h)) w.1 }
+
+  -- states within the limits agree exactly if their parts do and the join is within the limits
+  pub agree_by_parts : StatesFit x → StatesAgree x y ↔ (PartsAgree x y × JointFits)
+  agree_by_parts w = (
+    λ h. (parts_laws.only_where x y h.0 h.1.0, joint_fits h.0 h.1.0 (⊎_elim (λ a. a) (λ b. subst StatesFit b.0 w) h.1.1)),
+    λ h. let z = parts_laws.some_answer x y h.0 in (z.0, (z.1, inl (fits_joint z.0 z.1 h.1))),
+  )
+
+  -- a join has the weight and the count computed from its sides, as far as 64 bits hold them
+  pub sized_join : StatesFit x → StatesAgree x y → (z : StatesValue) → PartsJoin x y z → (w n : ℕ) → w ≡ clamp (joint_weight x y) → n ≡ clamp (joint_glyphs x y) → IsSized z w n
+  sized_join h a z j w n ew en =
+      let fits = ((agree_by_parts h).0 a).1 in
+      record { fits = fits_joint z j fits; weighs = not_cut w (joint_weight x y) ew fits.0 ∙ sym (joint_weighs x y z j); counts = few_cut n (joint_glyphs x y) en fits.1 ∙ sym (joint_counts x y z j) }
+    where
+      not_cut : (w n : ℕ) → w ≡ clamp n → n ≤ weight_limit → w ≡ n
+      not_cut w n e l = omega (arith, e, l)
+
+      few_cut : (w n : ℕ) → w ≡ clamp n → n ≤ count_limit → w ≡ n
+      few_cut w n e l = omega (arith, e, l)
+
+-- ---- values in memory, and what is seen of them
+
+module _ (v w x y : StatesValue) (e : v ≡ x) (k : w ≡ y) where
+  -- tables of values in memory agree exactly if the tables that they stand for do
+  pub seen_agree : (part : StatesValue → TableMeaning) (b : Bool) → (b ≡ true) ↔ TablesAgree (part v) (part w) → (b ≡ true) ↔ TablesAgree (part x) (part y)
+  seen_agree part b h = subst (λ (y : StatesValue). (b ≡ true) ↔ TablesAgree (part x) (part y)) k (subst (λ (x : StatesValue). (b ≡ true) ↔ TablesAgree (part x) (part w)) e h)
+
+  -- a join of values in memory has the weight and the count computed from its sides
+  pub seen_join : StatesFit v → StatesAgree x y → (z : StatesValue) → z.0 ≡ v.0 → BothJoin TablesJoin (BothJoin TablesJoin TablesJoin) v.1 w.1 z.1 → (n c : ℕ) → n ≡ clamp (joint_weight x y) → c ≡ clamp (joint_glyphs x y) → IsSized z n c
+  seen_join h a z s j n c en ec =
+      let same : v.0 ≡ w.0 = ap (λ t. t.0) e ∙ parts_shared ∙ sym (ap (λ t. t.0) k) in
+      sized_join x y (subst StatesFit e h) a z (subst (λ (y : StatesValue). PartsJoin x y z) k (subst (λ (x : StatesValue). PartsJoin x w z) e ((same, s), j))) n c en ec
+    where
+      parts_shared : x.0 ≡ y.0
+      parts_shared = (parts_laws.only_where x y a.0 a.1.0).0
+
+-- ---- tests of two things
+
+-- two tests in turn decide both things, if the first passes
+pub both_pass : {A B : Type 0} (b c : Bool) → (b ≡ true) ↔ A → (c ≡ true) ↔ B → b ≡ true → (c ≡ true) ↔ (A × B)
+both_pass b c h k t = (λ s. (h.0 t, k.0 s), λ m. k.1 m.1)
+
+-- if the first test fails, not both things hold
+pub first_fails : {A B : Type 0} (b : Bool) → (b ≡ true) ↔ A → b ≡ false → (b ≡ true) ↔ (A × B)
+first_fails b h f = (λ t. absurd (true≢false (sym t ∙ f)), λ m. h.1 m.0)

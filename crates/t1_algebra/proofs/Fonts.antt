@@ -1,0 +1,65 @@
+-- Subsets and joins of fonts are fonts.
+use Rattle.std.proofs.Common.{◌≡◌, ◌≤◌, List, sym, ◌∙◌, subst, IsPermutation}
+use Rattle.std.specs.FinSet as sets
+use Rattle.t1_font.specs.FontValue.{FontValue, weight_limit, weight}
+use Rattle.t1_font.specs.IsFont.{IsFont}
+use Rattle.t1_font.proofs.Kept.{restrict_is_font, join_is_font}
+use Rattle.t1_algebra.specs.Interpreter.{Interpreter, Names}
+use Rattle.t1_algebra.specs.Keep.{keep, kept, subset}
+use Rattle.t1_algebra.specs.States.{IsWithin, Join, joined_font}
+use Rattle.t1_join.specs.Groupings.{Grouping, one, two, map_grouping, EachLeaf, leaves}
+use Rattle.t1_algebra.specs.Groupings.{union_all, Merges}
+use Rattle.t1_algebra.specs.Laws.{IsOf}
+use Rattle.t1_algebra.proofs.Kept.{keep_closed}
+use Rattle.t1_algebra.proofs.JoinOfSubsets.{join_is_subset, subsets_join}
+use Rattle.t1_algebra.proofs.Trees.{all_alike, tree_merges}
+use Rattle.t1_algebra.proofs.JoinedEntries.{joined_are_entries}
+use Rattle.t1_algebra.proofs.Orders.{any_order, one_result, join_back}
+
+-- a font is within the limits
+pub font_within : (f : FontValue) → IsFont f → IsWithin f
+font_within f h = record { weight = h.light; glyphs = h.glyphs.few }
+
+pub fonts_within : (t : Grouping FontValue) → EachLeaf IsFont t → EachLeaf IsWithin t
+fonts_within (one f) h = font_within f h
+fonts_within (two s t) h = (fonts_within s h.0, fonts_within t h.1)
+
+-- the font weighs no more than a font may
+abbrev IsLight : FontValue → Type 0
+IsLight f = weight f ≤ weight_limit
+
+module _ {O : Type 0} (m : Interpreter O) where
+  -- a subset of a font is a font
+  pub subset_is_font : (f : FontValue) → IsFont f → (a : Names) → IsOf f a → IsFont (subset m f a)
+  subset_is_font f h a i = restrict_is_font (sets.contains (keep m f a)) (sets.contains (kept m f a)) f h (keep_closed m f a h.glyphs.notdef i).notdef
+
+  -- the join of two fonts is a font
+  pub joined_is_font : (f g : FontValue) → IsFont f → IsFont g → Join m f g → IsFont (joined_font m f g)
+  joined_is_font f g h k j =
+      let e = joined_are_entries m f g j.states in
+      subst IsFont (sym e) (join_is_font f g h k j.states.shells j.states.kinds j.within.glyphs (subst (λ (j : FontValue). IsLight j) e j.within.weight))
+
+  -- two subsets of a font join in either order, to the subset over both sets of names
+  pub two_subsets : (f : FontValue) → IsFont f → (a b : Names) → IsOf f a → IsOf f b →
+      Join m (subset m f a) (subset m f b) × (joined_font m (subset m f a) (subset m f b) ≡ subset m f (sets.union a b))
+      × Join m (subset m f b) (subset m f a) × (joined_font m (subset m f b) (subset m f a) ≡ subset m f (sets.union a b))
+  two_subsets f h a b i j =
+      let join = subsets_join m f h.glyphs.notdef a b i j (font_within f h) in
+      let same = join_is_subset m f h.glyphs.notdef a b i j in
+      let back = join_back m (subset m f a) (subset m f b) join in
+      (join, same, back.0, sym back.1 ∙ same)
+
+  -- subsets of a font merge in any order and grouping to the subset over all the sets of names
+  pub many_subsets : (f : FontValue) → IsFont f → (all : List Names) (t : Grouping Names) → IsPermutation all (leaves t) → EachLeaf (IsOf f) t → Merges m (map_grouping (subset m f) t) (subset m f (union_all all))
+  many_subsets f h all t p i = subst (λ (a : Names). Merges m (map_grouping (subset m f) t) (subset m f a)) (all_alike all t p) (tree_merges m f h t i)
+
+  -- what fonts merge to is a font
+  pub merges_are_fonts : (t : Grouping FontValue) (j : FontValue) → Merges m t j → EachLeaf IsFont t → IsFont j
+  merges_are_fonts (one f) j k h = subst IsFont k h
+  merges_are_fonts (two s t) j k h = subst IsFont k.4.1 (joined_is_font k.0 k.1 (merges_are_fonts s k.0 k.2 h.0) (merges_are_fonts t k.1 k.3 h.1) k.4.0)
+
+  -- fonts that merge in one order and grouping merge in every other, to the same font and to no other
+  pub any_order_of_fonts : (s t : Grouping FontValue) → IsPermutation (leaves s) (leaves t) → EachLeaf IsFont s → (j : FontValue) → Merges m s j → IsFont j × Merges m t j × ((k : FontValue) → Merges m t k → k ≡ j)
+  any_order_of_fonts s t p h j k =
+      let there = any_order m s t p (fonts_within s h) j k in
+      (merges_are_fonts s j k h, there, λ q w. one_result m t q j w there)

@@ -1,0 +1,152 @@
+-- Fonts from anywhere join to the same in every order and grouping, since their states do.
+use Rattle.std.proofs.Common.{◌≡◌, List, [], ◌∷◌, refl, sym, ◌∙◌, ap, subst, IsPermutation}
+use Rattle.std.specs.List.{AllByRecursion}
+use Rattle.t1_join.specs.Groupings.{Grouping, one, two, leaves, map_grouping, EachLeaf, from_left, Gives}
+use Rattle.t1_join.proofs.OrderLemmas.{below_trans, below_left, below_right, below_both, gives_one, same_given, moved_images, same_leaves}
+use Rattle.t1_font.specs.FontValue.{FontValue}
+use Rattle.t1_algebra.specs.Interpreter.{Interpreter}
+use Rattle.t1_algebra.specs.States.{IsWithin, joined_font, Compatible, Join}
+use Rattle.t1_algebra.specs.StateTables.{StatesValue, StatesJoin, states_of}
+use Rattle.t1_algebra.specs.StateLaws.{parts_laws, parts_by_pairs, falls, states_laws}
+use Rattle.t1_algebra.specs.Groupings.{Merges, folded, EachPair}
+use Rattle.t1_algebra.proofs.JoinedStates.{font_back, compatible_back}
+use Rattle.t1_algebra.proofs.Known.{font_known}
+use Rattle.t1_algebra.proofs.FontStates.{agree_compatible, compatible_agree, parts_join, states_join, join_exactly, fits}
+use Rattle.t1_algebra.proofs.FontStates.{within as fonts_fit}
+
+-- what follows from what holds at each leaf holds at each leaf
+each_weaker : {X : Type 0} (P Q : X → Type 0) → ((x : X) → P x → Q x) → (t : Grouping X) → EachLeaf P t → EachLeaf Q t
+each_weaker P Q w (one x) h = w x h
+each_weaker P Q w (two s t) h = (each_weaker P Q w s h.0, each_weaker P Q w t h.1)
+
+module _ {O : Type 0} (m : Interpreter O) where
+  -- the states of fonts in the grouping of the fonts
+  abbrev pub grouped : Grouping FontValue → Grouping StatesValue
+  grouped t = map_grouping (states_of m) t
+
+  -- if the states of fonts join, the fonts merge, to a font of the joined states
+  pub merges_by_states : (t : Grouping FontValue) → EachLeaf IsWithin t → (v : StatesValue) → Gives StatesJoin (grouped t) v → (j : FontValue) × Merges m t j × (v ≡ states_of m j) × IsWithin j
+  merges_by_states (one f) w v h = (f, refl, sym h, w)
+  merges_by_states (two s t) w v h =
+      let p = merges_by_states s w.0 h.0 h.2 in
+      let q = merges_by_states t w.1 h.1 h.3 in
+      let k : StatesJoin (states_of m p.0) (states_of m q.0) v = subst (λ (y : StatesValue). StatesJoin (states_of m p.0) y v) q.2 (subst (λ (x : StatesValue). StatesJoin x h.1 v) p.2 h.4) in
+      let j = (join_exactly m p.0 q.0 p.3).0 (v, k) in
+      (joined_font m p.0 q.0, (p.0, q.0, p.1, q.1, (j, refl)), states_laws.one_answer _ _ _ _ k (states_join m p.0 q.0 j), j.within)
+
+  -- if fonts merge, their states join to those of the font
+  pub states_by_merges : (t : Grouping FontValue) (j : FontValue) → Merges m t j → Gives StatesJoin (grouped t) (states_of m j)
+  states_by_merges (one f) j h = ap (states_of m) h
+  states_by_merges (two s t) j h = (states_of m h.0, states_of m h.1, states_by_merges s h.0 h.2, states_by_merges t h.1 h.3, subst (λ (j : FontValue). StatesJoin (states_of m h.0) (states_of m h.1) (states_of m j)) h.4.1 (states_join m h.0 h.1 h.4.0))
+
+  -- what fonts within the limits merge to is within them
+  pub within : (t : Grouping FontValue) (j : FontValue) → Merges m t j → EachLeaf IsWithin t → IsWithin j
+  within (one f) j h w = subst IsWithin h w
+  within (two s t) j h w = subst IsWithin h.4.1 h.4.0.within
+
+  -- fonts merge to one font at most
+  pub one_result : (t : Grouping FontValue) (j k : FontValue) → Merges m t j → Merges m t k → j ≡ k
+  one_result t j k h i = font_known m j k (gives_one states_laws (grouped t) (states_of m j) (states_of m k) (states_by_merges t j h) (states_by_merges t k i))
+
+  -- fonts that merge in one order and grouping merge in every other, to the same font
+  pub any_order : (s t : Grouping FontValue) → IsPermutation (leaves s) (leaves t) → EachLeaf IsWithin s → (j : FontValue) → Merges m s j → Merges m t j
+  any_order s t p w j h =
+      let given = same_given states_laws (grouped s) (grouped t) (states_of m j) (moved_images (states_of m) s t p) (states_by_merges s j h) in
+      let r = merges_by_states t (same_leaves IsWithin s t p w) (states_of m j) given in
+      subst (Merges m t) (sym (font_known m j r.0 r.2)) r.1
+
+  -- ---- two fonts
+
+  -- a font within the limits joins with itself, to itself
+  pub join_self : (f : FontValue) → IsWithin f → Join m f f × (joined_font m f f ≡ f)
+  join_self f w =
+      let itself = parts_laws.idempotent (states_of m f) in
+      let c = agree_compatible m f f (parts_laws.only_where _ _ _ itself) in
+      let same = font_known m (joined_font m f f) f (parts_laws.one_answer _ _ _ _ (parts_join m f f c) itself) in
+      (record { states = c; within = subst IsWithin (sym same) w }, same)
+
+  -- two fonts that join do so in the other order, to the same font
+  pub join_back : (f g : FontValue) → Join m f g → Join m g f × (joined_font m f g ≡ joined_font m g f)
+  join_back f g j =
+      let e = font_back m f g j.states in
+      (record { states = compatible_back m f g j.states; within = subst IsWithin e j.within }, e)
+
+  -- ---- fonts whose states are among those of another
+
+  -- the states of f are among those of j
+  abbrev pub Below : FontValue → FontValue → Type 0
+  Below j f = StatesJoin (states_of m f) (states_of m j) (states_of m j)
+
+  -- the states of two fonts join to those of their join
+  below_join : (f g j : FontValue) → Join m f g → joined_font m f g ≡ j → StatesJoin (states_of m f) (states_of m g) (states_of m j)
+  below_join f g j h e = subst (λ (j : FontValue). StatesJoin (states_of m f) (states_of m g) (states_of m j)) e (states_join m f g h)
+
+  -- the states of fonts are among those of the font that they merge to
+  pub above : (t : Grouping FontValue) (j : FontValue) → Merges m t j → EachLeaf (Below j) t
+  above (one f) j h = subst (λ (j : FontValue). Below j f) h (states_laws.idempotent (states_of m f))
+  above (two s t) j h =
+      let k = below_join h.0 h.1 j h.4.0 h.4.1 in (
+        each_weaker (Below h.0) (Below j) (λ f b. below_trans states_laws _ _ _ b (below_left states_laws _ _ _ k)) s (above s h.0 h.2),
+        each_weaker (Below h.1) (Below j) (λ f b. below_trans states_laws _ _ _ b (below_right states_laws _ _ _ k)) t (above t h.1 h.3),
+      )
+
+  -- fonts whose states are among those of one font are compatible
+  bounded : (j f g : FontValue) → Below j f → Below j g → Compatible m f g
+  bounded j f g a b = let r = below_both states_laws _ _ _ a b in agree_compatible m f g (parts_laws.only_where _ _ _ r.1.0)
+
+  -- ---- each pair
+
+  -- what is compatible with two fonts is compatible with their join
+  all_with_join : (f g : FontValue) (hs : List FontValue) → Compatible m f g → AllByRecursion (Compatible m f) hs → AllByRecursion (Compatible m g) hs → AllByRecursion (Compatible m (joined_font m f g)) hs
+  all_with_join f g [] c a b = tt
+  all_with_join f g (h ∷ hs) c a b = (
+    agree_compatible m (joined_font m f g) h (parts_by_pairs _ _ _ _ (parts_join m f g c) (compatible_agree m f h a.0) (compatible_agree m g h b.0)),
+    all_with_join f g hs c a.1 b.1,
+  )
+
+  -- a font is within the limits if what it is folded into is
+  first_within : (f : FontValue) (gs : List FontValue) → AllByRecursion (Compatible m f) gs → EachPair m gs → IsWithin (folded m f gs) → IsWithin f
+  first_within f [] a p w = w
+  first_within f (g ∷ gs) a p w =
+      let j = joined_font m f g in
+      fonts_fit m f (falls _ _ _ (parts_join m f g a.0) (fits m j (first_within j gs (all_with_join f g gs a.0 a.1 p.0) p.1 w)))
+
+  -- fonts of which each two are compatible merge from left to right, if the last join is within the limits
+  folds : (t : Grouping FontValue) (f : FontValue) (gs : List FontValue) → Merges m t f → AllByRecursion (Compatible m f) gs → EachPair m gs → IsWithin (folded m f gs) → Merges m (from_left t gs) (folded m f gs)
+  folds t f [] h a p w = h
+  folds t f (g ∷ gs) h a p w =
+      let j = joined_font m f g in
+      let next = all_with_join f g gs a.0 a.1 p.0 in
+      folds (two t (one g)) j gs (f, g, h, refl, (record { states = a.0; within = first_within j gs next p.1 w }, refl)) next p.1 w
+
+  -- a list of which each two fonts are compatible merges, if what it folds to is within the limits
+  pub accepted_from_pairs : (f : FontValue) (fs : List FontValue) → EachPair m (f ∷ fs) → IsWithin (folded m f fs) → Merges m (from_left (one f) fs) (folded m f fs)
+  accepted_from_pairs f fs p w = folds (one f) f fs refl p.0 p.1 w
+
+  -- the leaves of merges from left to right are those of the first and the list
+  left_leaves : {X : Type 0} (P : X → Type 0) (t : Grouping X) (xs : List X) → EachLeaf P (from_left t xs) → EachLeaf P t × AllByRecursion P xs
+  left_leaves P t [] h = (h, tt)
+  left_leaves P t (x ∷ xs) h = let r = left_leaves P (two t (one x)) xs h in (r.0.0, (r.0.1, r.1))
+
+  -- a font below j is compatible with all fonts below j
+  one_with_all : (f j : FontValue) (gs : List FontValue) → Below j f → AllByRecursion (Below j) gs → AllByRecursion (Compatible m f) gs
+  one_with_all f j [] b a = tt
+  one_with_all f j (g ∷ gs) b a = (bounded j f g b a.0, one_with_all f j gs b a.1)
+
+  -- each two fonts below j are compatible
+  pairs_below : (j : FontValue) (fs : List FontValue) → AllByRecursion (Below j) fs → EachPair m fs
+  pairs_below j [] a = tt
+  pairs_below j (f ∷ fs) a = (one_with_all f j fs a.0 a.1, pairs_below j fs a.1)
+
+  -- each two fonts of a list that merges are compatible
+  pub pairs_from_accepted : (f : FontValue) (fs : List FontValue) (j : FontValue) → Merges m (from_left (one f) fs) j → EachPair m (f ∷ fs)
+  pairs_from_accepted f fs j h = pairs_below j (f ∷ fs) (left_leaves (Below j) (one f) fs (above (from_left (one f) fs) j h))
+
+  -- what merges from left to right came to is what the fonts fold to
+  folded_from : (t : Grouping FontValue) (f : FontValue) (gs : List FontValue) (j : FontValue) → ((k : FontValue) → Merges m t k → k ≡ f) → Merges m (from_left t gs) j → folded m f gs ≡ j
+  folded_from t f [] j only h = sym (only j h)
+  folded_from t f (g ∷ gs) j only h = folded_from (two t (one g)) (joined_font m f g) gs j (λ k i. sym i.4.1 ∙ (λ e. joined_font m (only i.0 i.2 e) (sym i.3 e))) h
+
+  -- what a list merges to is what it folds to
+  pub folded_is : (f : FontValue) (fs : List FontValue) (j : FontValue) → Merges m (from_left (one f) fs) j → folded m f fs ≡ j
+  folded_is f fs j h = folded_from (one f) f fs j (λ k i. sym i) h

@@ -1,0 +1,66 @@
+-- Fonts that are made even have all the Subrs that they had, so their glyphs stay drawn.
+use Rattle.std.proofs.Common.{◌≡◌, ◌<◌, ℕ, nat_lt, List, [], ◌∷◌, map, refl, ◌∙◌, ap, Option, Some, None, option_map, cond, arith}
+use Rattle.std.proofs.lemmas.Bool.{ltb-true, lt-ltb}
+use Rattle.std.specs.Cmp.{nat_cmp_total}
+use Rattle.std.specs.FinMap as maps
+use Rattle.std.specs.FinSet.{nat_cmp-IsAntisymmetric}
+use Rattle.t1_run.specs.Run.{Subrs}
+use Rattle.t1_run.specs.Growth.{Extends}
+use Rattle.t1_run.proofs.Grown.{runs_with_more, draws_with_more}
+use Rattle.t1_font.specs.FontValue.{FontValue, SubrsShell, Numbered, declared_count}
+use Rattle.t1_font.specs.FontModel.{subr_at}
+use Rattle.t1_font.specs.Evening.{raised, even, stubs_at, with_stubs, filled, largest_count, indices_of_all, evened_shells}
+use Rattle.t1_algebra.specs.Evened.{StaysDrawn, subrs_of, AllStayDrawn, EachBeside, EvenedDraw}
+use Rattle.t1_algebra.specs.States.{joined}
+use Rattle.t1_algebra.proofs.CutFonts.{cond_some}
+use Rattle.t1_algebra.proofs.Maps.{get-merged}
+
+-- if a font has the same glyphs and more Subrs, each glyph stays drawn
+stays_drawn : (subrs : FontValue → Subrs) (f j : FontValue) → Extends (subrs f) (subrs j) → j.glyphs ≡ f.glyphs → (n : List ℕ) → StaysDrawn subrs f j n
+stays_drawn subrs f j more same n =
+    let glyphs : Extends (maps.get f.glyphs) (maps.get j.glyphs) = λ k c is. ap (λ (m : _). maps.get m k) same ∙ is in
+    record {
+      charstring = ap (λ (m : _). maps.get m n) same;
+      answer = λ c is h. runs_with_more.answers (subrs f) (subrs j) c _ more h;
+      answer3 = λ c is h. runs_with_more.answers (subrs f) (subrs j) c _ more h;
+      executes = λ c is h k. runs_with_more.executes (subrs f) (subrs j) c more h k;
+      draws = λ h. draws_with_more.draws (subrs f) (subrs j) (maps.get f.glyphs) (maps.get j.glyphs) n more glyphs h;
+      draws3 = λ h. draws_with_more.draws3 (subrs f) (subrs j) (maps.get f.glyphs) (maps.get j.glyphs) n more glyphs h;
+    }
+
+-- stubs take the place of no entry
+stubs_added : (indices : List ℕ) (m : Numbered) (es : List (ℕ × List ℕ)) → Extends (maps.get m) (maps.get (with_stubs indices m es))
+stubs_added indices m [] i c is = is
+stubs_added indices m (e ∷ es) i c is = get-merged nat_cmp_total nat_cmp-IsAntisymmetric m (stubs_at indices) i ∙ ap (λ x. joined x (maps.get (stubs_at indices) i)) is
+
+-- a raised count declares no fewer Subrs
+no_fewer : (i count : ℕ) (s : Option SubrsShell) → i < declared_count s → i < declared_count (option_map (raised count) s)
+no_fewer i count None h = h
+no_fewer i count (Some t) h = omega (arith, h)
+
+module _ (indices : List ℕ) (count : ℕ) (f : FontValue) where
+  -- the font that is made even
+  abbrev made : FontValue
+  made = filled indices (even count f)
+
+  -- the font that is made even has all the Subrs that the font had
+  subrs_added : Extends (maps.get f.subrs) (maps.get made.subrs)
+  subrs_added = stubs_added _ f.subrs (maps.entries f.subrs)
+
+  -- the font that is made even shows all the Subrs that the font showed
+  seen_added : Extends (subr_at f) (subr_at made)
+  seen_added i c is =
+      let both = cond_some (nat_lt i (declared_count f.shell.subrs)) (maps.get f.subrs i) c is in
+      ap (λ b. cond b (maps.get made.subrs i) None) (lt-ltb i (declared_count made.shell.subrs) (no_fewer i count f.shell.subrs (ltb-true i (declared_count f.shell.subrs) both.0))) ∙ subrs_added i c both.1
+
+  -- each glyph stays drawn in the font that is made even
+  pub all_stay_drawn : AllStayDrawn f made
+  all_stay_drawn n = (stays_drawn subrs_of f made subrs_added refl n, stays_drawn subr_at f made seen_added refl n)
+
+-- each glyph of fonts stays drawn in the fonts that are made even
+beside : (indices : List ℕ) (count : ℕ) (fs : List FontValue) → EachBeside AllStayDrawn fs (map (filled indices) (map (even count) fs))
+beside indices count [] = tt
+beside indices count (f ∷ fs) = (all_stay_drawn indices count f, beside indices count fs)
+
+pub evened_draw : EvenedDraw
+evened_draw = record { one = all_stay_drawn; all = λ fs. beside (indices_of_all (evened_shells fs)) (largest_count fs) fs }

@@ -1,0 +1,333 @@
+-- Truncated subsets that are made even are subsets of one font.
+use Rattle.std.proofs.Common.{◌≡◌, ◌<◌, ◌≤◌, ℕ, max, nat_lt, nat_cmp, Bool, true, false, ◌||◌, cond, List, [], ◌∷◌, map, length, refl, sym, ◌∙◌, ap, subst, Option, Some, None, option_map, is_some, inl, inr, arith}
+use Rattle.std.proofs.lemmas.Bool.{ltb-true, ltb-false, lt-ltb, le-ltb}
+use Rattle.std.specs.List.{list_any, AllByRecursion}
+use Rattle.std.specs.Ordering.{eq_by_cmp}
+use Rattle.std.specs.Cmp.{nat_cmp_total}
+use Rattle.std.specs.FinMap as maps
+use Rattle.std.specs.FinSet as sets
+use Rattle.std.specs.FinSet.{nat_cmp-IsAntisymmetric}
+use Rattle.t1_font.specs.FontValue.{FontValue, Shell, SubrsShell, Numbered, declared_count}
+use Rattle.t1_font.specs.IsFont.{IsFont, SubrsFit, SubrWords}
+use Rattle.t1_font.specs.Tags.{untagged_head}
+use Rattle.t1_font.specs.Cut.{stub, restrict_encoding}
+use Rattle.t1_font.specs.Evening.{raised, even_shell, even, stubs_at, below, with_stubs, filled, largest_count, indices_of_all, evened}
+use Rattle.t1_font.proofs.MapLemmas.{get-map_values, get-retain}
+use Rattle.t1_algebra.specs.Interpreter.{Names, Numbers}
+use Rattle.t1_algebra.specs.Keep.{keep, kept, subset}
+use Rattle.t1_algebra.specs.Profile.{profile}
+use Rattle.t1_algebra.specs.States.{joined}
+use Rattle.t1_algebra.specs.Laws.{IsOf}
+use Rattle.t1_algebra.specs.Rejoins.{declares, cut_to, without_tag, Truncated, IsTruncated, fonts_of, sets_of, largest, shared_font}
+use Rattle.t1_algebra.proofs.rejoining.CutCounts.{KeepsBelow, keep_same, kept_same}
+use Rattle.t1_algebra.proofs.Maps.{get-merged, maps_same}
+use Rattle.t1_algebra.proofs.Sets.{is_or_not, not_so, clash, any_append, any_append_left, any_append_right, any_filter, any_filter_from}
+
+-- ---- what a cut subset has
+
+-- the entry that a subset over these names has in place of one of the font
+abbrev pub keeps : FontValue → Names → ℕ → List ℕ → List ℕ
+keeps f a q c = cond (sets.contains (kept profile f a) q) c stub
+
+-- the entry at an index of the subset that is cut to a count
+abbrev pub entry_in : FontValue → Names → ℕ → ℕ → Option (List ℕ) → Option (List ℕ)
+entry_in f a n q x = cond (nat_lt q n) (option_map (keeps f a q) x) None
+
+map_cond : (k : List ℕ → List ℕ) (b : Bool) (x : Option (List ℕ)) → option_map k (cond b x None) ≡ cond b (option_map k x) None
+map_cond k true x = refl
+map_cond k false x = refl
+
+-- a subset cut to a count has that entry at each index
+pub get_cut : (f : FontValue) (n : ℕ) (a : Names) (q : ℕ) → maps.get (maps.retain_keys (subset profile f a).subrs (λ i. nat_lt i n)) q ≡ entry_in f a n q (maps.get f.subrs q)
+get_cut f n a q = get-retain nat_cmp_total nat_cmp-IsAntisymmetric (subset profile f a).subrs (λ i. nat_lt i n) q
+    ∙ ap (λ x. cond (nat_lt q n) x None) (get-map_values nat_cmp_total nat_cmp-IsAntisymmetric (keeps f a) f.subrs q)
+
+-- the subset of the cut font is the cut subset
+module _ (f : FontValue) (h : IsFont f) (n : ℕ) (a : Names) (inside : IsOf f a) (low : KeepsBelow profile f n a) where
+  -- the font without its tag, cut to its first Subrs
+  abbrev first : FontValue
+  first = cut_to n (without_tag f)
+
+  names_same : keep profile first a ≡ keep profile f a
+  names_same = keep_same profile f h.glyphs.notdef n a inside low
+
+  subrs_same : (q : ℕ) → maps.get (subset profile first a).subrs q ≡ maps.get (maps.retain_keys (subset profile f a).subrs (λ i. nat_lt i n)) q
+  subrs_same q =
+      get-map_values nat_cmp_total nat_cmp-IsAntisymmetric (keeps first a) first.subrs q
+      ∙ ap (λ (s : Numbers). option_map (λ c. cond (sets.contains s q) c stub) (maps.get first.subrs q)) (kept_same profile f h.glyphs.notdef n a inside low)
+      ∙ ap (option_map (keeps f a q)) (get-retain nat_cmp_total nat_cmp-IsAntisymmetric f.subrs (λ i. nat_lt i n) q)
+      ∙ map_cond (keeps f a q) (nat_lt q n) (maps.get f.subrs q)
+      ∙ sym (get_cut f n a q)
+
+  -- the subset of the cut font is the subset, without its tag and cut as the font is
+  pub cut_subset : subset profile first a ≡ cut_to n (without_tag (subset profile f a))
+  cut_subset =
+      let subrs = maps_same nat_cmp_total nat_cmp-IsAntisymmetric (subset profile first a).subrs (maps.retain_keys (subset profile f a).subrs (λ i. nat_lt i n)) subrs_same in
+      λ i. record { shell = first.shell; encoding = restrict_encoding (sets.contains (names_same i)) f.encoding; subrs = subrs i; glyphs = maps.retain_keys f.glyphs (sets.contains (names_same i)) }
+
+-- ---- counts
+
+-- a table cut to n declares n, if it declared no fewer
+declared_of : (n : ℕ) (s : Option SubrsShell) → n ≤ declared_count s → declared_count (option_map (declares n) s) ≡ n
+declared_of n None le = omega (arith, le)
+declared_of n (Some s) le = refl
+
+-- a table cut to n and raised to a larger count is the table cut to that count
+raised_declares : (most n : ℕ) (s : Option SubrsShell) → n ≤ most → option_map (raised most) (option_map (declares n) s) ≡ option_map (declares most) s
+raised_declares most n None le = refl
+raised_declares most n (Some s) le = let e : max most n ≡ most = omega (arith, le) in ap (λ (d : ℕ). Some (declares d s)) e
+
+module _ (f : FontValue) where
+  -- a truncated subset declares its count
+  pub count_is : (t : Truncated) → IsTruncated f t → declared_count t.font.shell.subrs ≡ t.count
+  count_is t w = ap (λ (g : FontValue). declared_count g.shell.subrs) w.others ∙ declared_of t.count f.shell.subrs w.count
+
+  -- the largest count that is declared is the largest of the counts
+  pub largest_is : (ts : List Truncated) → AllByRecursion (IsTruncated f) ts → largest_count (fonts_of ts) ≡ largest ts
+  largest_is [] w = refl
+  largest_is (t ∷ ts) w = λ i. max (count_is t w.0 i) (largest_is ts w.1 i)
+
+  -- the font declares no fewer than the largest of the counts
+  pub largest_fits : (ts : List Truncated) → AllByRecursion (IsTruncated f) ts → largest ts ≤ declared_count f.shell.subrs
+  largest_fits [] w = omega arith
+  largest_fits (t ∷ ts) w = omega (arith, w.0.count, largest_fits ts w.1)
+
+  -- a truncated subset whose count is at most this
+  abbrev pub Fits : ℕ → Truncated → Type 0
+  Fits most t = IsTruncated f t × (t.count ≤ most)
+
+  -- each count is at most the largest
+  pub all_fit : (most : ℕ) (ts : List Truncated) → largest ts ≤ most → AllByRecursion (IsTruncated f) ts → AllByRecursion (Fits most) ts
+  all_fit most [] le w = tt
+  all_fit most (t ∷ ts) le w = ((w.0, omega (arith, le)), all_fit most ts (omega (arith, le)) w.1)
+
+  -- ---- the indices of all
+
+  -- what a truncated subset has at each index
+  pub get_font : (t : Truncated) → IsTruncated f t → (q : ℕ) → maps.get t.font.subrs q ≡ entry_in f t.names t.count q (maps.get f.subrs q)
+  get_font t w q = ap (λ (g : FontValue). maps.get g.subrs q) w.others ∙ get_cut f t.count t.names q
+
+  entry_from : (k : List ℕ → List ℕ) (b : Bool) (x : Option (List ℕ)) → is_some (cond b (option_map k x) None) ≡ true → is_some x ≡ true
+  entry_from k b (Some c) h = refl
+  entry_from k true None h = h
+  entry_from k false None h = h
+
+  entry_there : (k : List ℕ → List ℕ) (b : Bool) (x : Option (List ℕ)) → b ≡ true → is_some x ≡ true → is_some (cond b (option_map k x) None) ≡ true
+  entry_there k true (Some c) e h = refl
+  entry_there k true None e h = h
+  entry_there k false x e h = clash false e refl
+
+  -- the indices of the Subrs of all fonts, made even
+  abbrev all_indices : ℕ → List Truncated → List ℕ
+  all_indices most ts = indices_of_all (map (even most) (fonts_of ts))
+
+  abbrev listed : ℕ → List ℕ → Bool
+  listed q indices = list_any (eq_by_cmp nat_cmp q) indices
+
+  -- the indices of all fonts include each index of the font below the largest count
+  reached : (most : ℕ) (ts : List Truncated) → AllByRecursion (IsTruncated f) ts → (q : ℕ) → q < largest ts → maps.contains_key f.subrs q ≡ true → listed q (all_indices most ts) ≡ true
+  reached most [] w q lt is = absurd (omega (arith, lt))
+  reached most (t ∷ ts) w q lt is = elim (is_or_not (nat_lt q t.count)) [
+    | inl b ↦ any_append_left (eq_by_cmp nat_cmp q) (maps.keys t.font.subrs) (all_indices most ts)
+        (sym (maps.contains_key-keys t.font.subrs q) ∙ (ap is_some (get_font t w.0 q) ∙ entry_there (keeps f t.names q) (nat_lt q t.count) (maps.get f.subrs q) b is))
+    | inr b ↦ any_append_right (eq_by_cmp nat_cmp q) (maps.keys t.font.subrs) (all_indices most ts)
+        (reached most ts w.1 q (omega (arith, lt, ltb-false q t.count b)) is)
+  ]
+
+  -- each of the indices of all fonts is an index of the font
+  from_indices : (most : ℕ) (ts : List Truncated) → AllByRecursion (IsTruncated f) ts → (q : ℕ) → listed q (all_indices most ts) ≡ true → maps.contains_key f.subrs q ≡ true
+  from_indices most [] w q l = clash false l refl
+  from_indices most (t ∷ ts) w q l = elim (any_append (eq_by_cmp nat_cmp q) (maps.keys t.font.subrs) (all_indices most ts) l) [
+    | inl a ↦ entry_from (keeps f t.names q) (nat_lt q t.count) (maps.get f.subrs q) (ap is_some (sym (get_font t w.0 q)) ∙ (maps.contains_key-keys t.font.subrs q ∙ a))
+    | inr b ↦ from_indices most ts w.1 q b
+  ]
+
+-- ---- stubs
+
+find_stubs : (indices : List ℕ) (q : ℕ) → maps.find nat_cmp q (map (λ i. (i, stub)) indices) ≡ cond (list_any (eq_by_cmp nat_cmp q) indices) (Some stub) None
+find_stubs [] q = refl
+find_stubs (i ∷ is) q = elim (eq_by_cmp nat_cmp q i) as (λ b. cond b (Some stub) (maps.find nat_cmp q (map (λ i. (i, stub)) is)) ≡ cond (b || list_any (eq_by_cmp nat_cmp q) is) (Some stub) None) [
+  | true ↦ refl
+  | false ↦ find_stubs is q
+]
+
+-- a map of stubs has one at each of its indices, and nothing else
+get_stubs : (indices : List ℕ) (q : ℕ) → maps.get (stubs_at indices) q ≡ cond (list_any (eq_by_cmp nat_cmp q) indices) (Some stub) None
+get_stubs indices q = maps.get-from_entries nat_cmp_total (map (λ i. (i, stub)) indices) q ∙ find_stubs indices q
+
+-- ---- tables without entries
+
+-- there are words for these entries, if there is a table
+abbrev pub WordsOf : List (ℕ × List ℕ) → Option SubrsShell → Type 0
+WordsOf es None = Unit {0}
+WordsOf es (Some s) = SubrWords es s
+
+-- a table that fits has words for its entries
+pub words_of : (s : Shell) (o : Option SubrsShell) (m : Numbered) → SubrsFit s o m → WordsOf (maps.entries m) o
+words_of s None m h = tt
+words_of s (Some t) m h = h.words
+
+-- another count leaves the words as they are
+words_declared : (n : ℕ) (o : Option SubrsShell) → WordsOf [] (option_map (declares n) o) → WordsOf [] o
+words_declared n None h = tt
+words_declared n (Some s) h = h
+
+-- a table whose word for entries is empty has no entries
+no_words : (es : List (ℕ × List ℕ)) (s : SubrsShell) → SubrWords es s → s.rd ≡ [] → es ≡ []
+no_words [] s h e = refl
+no_words (x ∷ es) s h e = absurd (omega (arith, h.0.some, ap length e))
+
+-- a table that fits without words has no entries
+no_entries : (s : Shell) (o : Option SubrsShell) (m : Numbered) → SubrsFit s o m → WordsOf [] o → maps.entries m ≡ []
+no_entries s None m h e = h.0
+no_entries s (Some t) m h e = no_words (maps.entries m) t h.words e.0
+
+-- a map without entries has nothing at any key
+pub get_nothing : (m : Numbered) → maps.entries m ≡ [] → (q : ℕ) → maps.get m q ≡ None
+get_nothing m e q = maps.get-entries m q ∙ ap (maps.find nat_cmp q) e
+
+-- nothing is left of nothing, by either test
+pub none_either_way : {X : Type 0} (b : Bool) → ◌≡◌ {A = Option X} (cond b None None) None
+none_either_way true = refl
+none_either_way false = refl
+
+-- a font with entries has a table, so a cut to n declares n
+has_table : (s : Shell) (o : Option SubrsShell) (m : Numbered) → SubrsFit s o m → (q : ℕ) → maps.contains_key m q ≡ true → (n : ℕ) → n ≤ declared_count o → declared_count (option_map (declares n) o) ≡ n
+has_table s None m h q is n le = clash (maps.contains_key m q) is (ap is_some (get_nothing m h.0 q))
+has_table s (Some t) m h q is n le = refl
+
+-- a table cut to n declares n at most
+declares_below : (n : ℕ) (o : Option SubrsShell) → declared_count (option_map (declares n) o) ≤ n
+declares_below n None = omega arith
+declares_below n (Some s) = omega arith
+
+module _ (f : FontValue) (h : IsFont f) (most : ℕ) (fits : most ≤ declared_count f.shell.subrs) (t : Truncated) (w : IsTruncated f t) (le : t.count ≤ most) where
+  -- if a truncated subset has no entries, the table of the font has no words
+  pub words_empty : maps.entries t.font.subrs ≡ [] → WordsOf [] f.shell.subrs
+  words_empty e = words_declared t.count f.shell.subrs (subst (WordsOf []) (ap (λ (g : FontValue). g.shell.subrs) w.others)
+      (subst (λ (es : List (ℕ × List ℕ)). WordsOf es t.font.shell.subrs) e (words_of t.font.shell t.font.shell.subrs t.font.subrs w.font.subrs)))
+
+  -- if a truncated subset has no entries, the font has none
+  nothing : maps.entries t.font.subrs ≡ [] → (q : ℕ) → maps.get f.subrs q ≡ None
+  nothing e = get_nothing f.subrs (no_entries f.shell f.shell.subrs f.subrs h.subrs (words_empty e))
+
+  -- the shell of a truncated subset, made even, is that of the cut font
+  shell_same : even_shell most t.font.shell ≡ (cut_to most (without_tag f)).shell
+  shell_same =
+      let subrs = raised_declares most t.count f.shell.subrs le in
+      (λ i. record {
+        head = w.head i;
+        clear_tail = (w.others i).shell.clear_tail;
+        private = (w.others i).shell.private;
+        middle = (w.others i).shell.middle;
+        tail = (w.others i).shell.tail;
+        len_iv = (w.others i).shell.len_iv;
+        subrs = option_map (raised most) (w.others i).shell.subrs;
+        glyphs_rd = (w.others i).shell.glyphs_rd;
+        glyphs_def = (w.others i).shell.glyphs_def;
+      })
+      ∙ (λ i. record {
+        head = untagged_head f.shell.head;
+        clear_tail = f.shell.clear_tail;
+        private = f.shell.private;
+        middle = f.shell.middle;
+        tail = f.shell.tail;
+        len_iv = f.shell.len_iv;
+        subrs = subrs i;
+        glyphs_rd = f.shell.glyphs_rd;
+        glyphs_def = f.shell.glyphs_def;
+      })
+
+  -- how many Subrs are declared once the font is made even
+  abbrev declared : ℕ
+  declared = declared_count (even most t.font).shell.subrs
+
+  declared_is : declared ≡ declared_count (option_map (declares most) f.shell.subrs)
+  declared_is = ap (λ (s : Shell). declared_count s.subrs) shell_same
+
+  declared_low : declared ≤ most
+  declared_low = subst (λ (n : ℕ). n ≤ most) (sym declared_is) (declares_below most f.shell.subrs)
+
+  module _ (indices : List ℕ) (there : (q : ℕ) → q < most → maps.contains_key f.subrs q ≡ true → list_any (eq_by_cmp nat_cmp q) indices ≡ true) (from : (q : ℕ) → list_any (eq_by_cmp nat_cmp q) indices ≡ true → maps.contains_key f.subrs q ≡ true) where
+    -- the indices that are then declared
+    abbrev inside : List ℕ
+    inside = below declared indices
+
+    abbrev is_in : ℕ → Bool
+    is_in q = list_any (eq_by_cmp nat_cmp q) inside
+
+    in_both : (q : ℕ) → is_in q ≡ true → (list_any (eq_by_cmp nat_cmp q) indices ≡ true) × (nat_lt q declared ≡ true)
+    in_both q l = any_filter nat_cmp_total nat_cmp-IsAntisymmetric (λ i. nat_lt i declared) q indices l
+
+    -- no stub stands where the font has no entry
+    outside : (q : ℕ) → maps.get f.subrs q ≡ None → is_in q ≡ false
+    outside q e = not_so (is_in q) (λ l. clash (maps.contains_key f.subrs q) (from q (in_both q l).0) (ap is_some e))
+
+    -- no stub stands at the count or above it
+    above : (q : ℕ) → nat_lt q most ≡ false → is_in q ≡ false
+    above q e = not_so (is_in q) (λ l. clash (nat_lt q most) (lt-ltb q most (omega (arith, ltb-true q declared (in_both q l).1, declared_low))) e)
+
+    -- a stub can stand at each index of the font below the count
+    under : (q : ℕ) → q < most → maps.contains_key f.subrs q ≡ true → is_in q ≡ true
+    under q lt is = any_filter_from nat_cmp_total nat_cmp-IsAntisymmetric (λ i. nat_lt i declared) q indices (there q lt is)
+        (lt-ltb q declared (omega (arith, lt, declared_is, has_table f.shell f.shell.subrs f.subrs h.subrs q is most fits)))
+
+    abbrev with_stub : Bool → Option (List ℕ)
+    with_stub b = cond b (Some stub) None
+
+    both_none : (a b : Bool) → ◌≡◌ {A = Option (List ℕ)} (joined (cond a None None) None) (cond b None None)
+    both_none true true = refl
+    both_none true false = refl
+    both_none false true = refl
+    both_none false false = refl
+
+    -- an entry of the font at the count of the truncated subset or above it is not kept
+    not_kept : (q : ℕ) (c : List ℕ) → maps.get f.subrs q ≡ Some c → nat_lt q t.count ≡ false → sets.contains (kept profile f t.names) q ≡ false
+    not_kept q c is high = not_so (sets.contains (kept profile f t.names) q) (λ k. clash (nat_lt q t.count) (lt-ltb q t.count (w.kept q k (ap is_some is))) high)
+
+    -- the entry of a truncated subset, or else a stub, is the entry of the subset cut to the largest count
+    value_same : (q : ℕ) (x : Option (List ℕ)) → maps.get f.subrs q ≡ x → joined (entry_in f t.names t.count q x) (with_stub (is_in q)) ≡ entry_in f t.names most q x
+    value_same q None is = ap (λ b. joined (cond (nat_lt q t.count) None None) (with_stub b)) (outside q is) ∙ both_none (nat_lt q t.count) (nat_lt q most)
+    value_same q (Some c) is = elim (is_or_not (nat_lt q most)) [
+      | inr high ↦
+          let high' : nat_lt q t.count ≡ false = le-ltb q t.count (omega (arith, le, ltb-false q most high)) in
+          (λ i. joined (cond (high' i) (Some (keeps f t.names q c)) None) (with_stub (above q high i))) ∙ ap (λ b. cond b (Some (keeps f t.names q c)) None) (sym high)
+      | inl lt ↦ elim (is_or_not (nat_lt q t.count)) [
+        | inl b ↦ ap (λ b. joined (cond b (Some (keeps f t.names q c)) None) (with_stub (is_in q))) b ∙ ap (λ b. cond b (Some (keeps f t.names q c)) None) (sym lt)
+        | inr b ↦ (λ i. joined (cond (b i) (Some (keeps f t.names q c)) None) (with_stub (under q (ltb-true q most lt) (ap is_some is) i)))
+            ∙ ap (λ b. Some (cond b c stub)) (sym (not_kept q c is b)) ∙ ap (λ b. cond b (Some (keeps f t.names q c)) None) (sym lt)
+      ]
+    ]
+
+    -- the font that is made even has the entry of the subset cut to the largest count at each index
+    filled_at : (es : List (ℕ × List ℕ)) → maps.entries t.font.subrs ≡ es → (q : ℕ) → maps.get (with_stubs inside t.font.subrs es) q ≡ entry_in f t.names most q (maps.get f.subrs q)
+    filled_at [] e q = get_nothing t.font.subrs e q ∙ sym (none_either_way (nat_lt q most)) ∙ ap (entry_in f t.names most q) (sym (nothing e q))
+    filled_at (x ∷ es) e q =
+        get-merged nat_cmp_total nat_cmp-IsAntisymmetric t.font.subrs (stubs_at inside) q
+        ∙ (λ i. joined (get_font f t w q i) (get_stubs inside q i))
+        ∙ value_same q (maps.get f.subrs q) refl
+
+    -- the truncated subset, made even, is the subset without its tag, cut to the largest count
+    pub made_is : filled indices (even most t.font) ≡ cut_to most (without_tag (subset profile f t.names))
+    made_is =
+        let subrs = maps_same nat_cmp_total nat_cmp-IsAntisymmetric (filled indices (even most t.font)).subrs (maps.retain_keys (subset profile f t.names).subrs (λ i. nat_lt i most))
+        (λ q. filled_at (maps.entries t.font.subrs) refl q ∙ sym (get_cut f most t.names q)) in
+        λ i. record { shell = shell_same i; encoding = (w.others i).encoding; subrs = subrs i; glyphs = (w.others i).glyphs }
+
+    -- the truncated subset, made even, is a subset of the shared font
+    pub made_subset : filled indices (even most t.font) ≡ subset profile (cut_to most (without_tag f)) t.names
+    made_subset = made_is ∙ sym (cut_subset f h most t.names w.names (λ i k p. omega (arith, w.kept i k p, le)))
+
+-- ---- the fonts of a list
+
+module _ (f : FontValue) (h : IsFont f) (most : ℕ) (fits : most ≤ declared_count f.shell.subrs) (indices : List ℕ) (there : (q : ℕ) → q < most → maps.contains_key f.subrs q ≡ true → list_any (eq_by_cmp nat_cmp q) indices ≡ true) (from : (q : ℕ) → list_any (eq_by_cmp nat_cmp q) indices ≡ true → maps.contains_key f.subrs q ≡ true) where
+  made_subsets : (ts : List Truncated) → AllByRecursion (Fits f most) ts → map (filled indices) (map (even most) (fonts_of ts)) ≡ map (subset profile (cut_to most (without_tag f))) (sets_of ts)
+  made_subsets [] w = refl
+  made_subsets (t ∷ ts) w = λ i. made_subset f h most fits t w.0.0 w.0.1 indices there from i ∷ made_subsets ts w.1 i
+
+-- truncated subsets that are made even are subsets of the shared font
+pub evened_is : (f : FontValue) → IsFont f → (ts : List Truncated) → AllByRecursion (IsTruncated f) ts → evened (fonts_of ts) ≡ map (subset profile (shared_font f ts)) (sets_of ts)
+evened_is f h ts w =
+    let most = largest ts in
+    ap (λ (n : ℕ). map (filled (indices_of_all (map (even n) (fonts_of ts)))) (map (even n) (fonts_of ts))) (largest_is f ts w)
+    ∙ made_subsets f h most (largest_fits f ts w) (all_indices f most ts) (λ q lt is. reached f most ts w q lt is) (λ q l. from_indices f most ts w q l) ts (all_fit f most ts (omega arith) w)

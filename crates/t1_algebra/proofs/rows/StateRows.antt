@@ -1,0 +1,305 @@
+-- Worked rows of the states of fonts and of conflicts: definitions over maps, computed over lists.
+use Rattle.std.proofs.Common.{◌≡◌, ℕ, Bool, true, false, cond, not, ◌&&◌, ◌||◌, T, List, [], ◌∷◌, ◌++◌, map, flat_map, refl, ◌∙◌, ap, Ordering, Option, Some, None, is_some, option_map, unwrap_or}
+use Rattle.std.specs.Prelude.{codes}
+use Rattle.std.specs.List.{list_any}
+use Rattle.std.specs.Ordering.{eq_by_cmp, nat_cmp}
+use Rattle.std.specs.Cmp.{IsTotalOrder, nat_cmp_total}
+use Rattle.std.specs.Cmp.Lexicographic.{nat_list_cmp_total}
+use Rattle.std.specs.FinMap as maps
+use Rattle.std.specs.FinMap.{find, is_sorted}
+use Rattle.std.specs.FinSet as sets
+use Rattle.std.specs.FinSet.{IsAntisymmetric, nat_cmp-IsAntisymmetric}
+use Rattle.t1_font.specs.Cut.{stub}
+use Rattle.t1_font.specs.Maps.{map_values, merged}
+use Rattle.t1_font.specs.Entries.{last_entries}
+use Rattle.t1_font.specs.FontModel.{names_in, word_of}
+use Rattle.t1_font.specs.FontValue.{FontValue, Shell, Encoding, Word, Codes, name_cmp, notdef}
+use Rattle.t1_font.proofs.MapLemmas.{get-map_values, entries-map_values}
+use Rattle.t1_font.proofs.CutEntries.{entries-merged}
+use Rattle.t1_algebra.specs.States.{named_at, is_stub, is_called, subr_state, state_of_entry, called_at, executed_at}
+use Rattle.t1_join.specs.Join.{joined_state}
+use Rattle.t1_join.specs.Meaning.{of_number}
+use Rattle.t1_join.specs.TableLaws.{get_joined}
+use Rattle.t1_algebra.specs.StateTables.{states_of, all_components, used_subrs, subr_part, name_part, name_meaning}
+use Rattle.t1_algebra.proofs.FontStates.{get-used}
+use Rattle.t1_algebra.proofs.Numbered.{get-numbered}
+use Rattle.t1_algebra.specs.Conflicts.{Conflict, ShellDiffers, CodeDiffers, GlyphDiffers, LacksComponent, SubrDiffers, OverLimit, keys_of_both, agrees, codes_of_both, glyph_names, code_clashes, wanted_by, used_by, is_within, shell_conflict, code_conflict, glyph_conflict, component_conflict, subr_conflict, states_conflict, conflict}
+use Rattle.t1_algebra.specs.Searches.{members, found, first_where}
+use Rattle.t1_algebra.specs.Interpreter.{same_bytes}
+use Rattle.t1_algebra.specs.Shared.{ShellPart, Head, EncodingPart, Private, SubrsTable, same_word}
+use Rattle.t1_algebra.proofs.Searching.{passes_none}
+use Rattle.t1_algebra.proofs.Sets.{name_same}
+use Rattle.t1_algebra.proofs.rows.KeptRows.{spelled, shell_of, font_of, at_name, glyph_listed, has_listed, glyphs, subrs, small}
+
+-- a charstring that is there executes the index
+abbrev runs_at : ℕ → Option (List ℕ) → Bool
+runs_at i None = false
+runs_at i (Some c) = list_any (eq_by_cmp nat_cmp i) c
+
+runs_is : (j : FontValue) (i : ℕ) (x : Option (List ℕ)) → executed_at spelled j i x ≡ runs_at i x
+runs_is j i None = refl
+runs_is j i (Some c) = sets.contains-from_list nat_cmp_total c i
+
+module _ (e : Encoding) (ss : List (ℕ × List ℕ)) (es : List (List ℕ × List ℕ)) (hs : T (is_sorted nat_cmp ss)) (h : T (is_sorted name_cmp es)) where
+  -- some charstring of the list has the byte
+  abbrev called_listed : ℕ → Bool
+  called_listed i = list_any (λ n. runs_at i (at_name es n)) (map (λ e. e.0) es)
+
+  called_is : (i : ℕ) → is_called spelled (font_of e ss es) i ≡ called_listed i
+  called_is i = (λ d. list_any (λ n. runs_is (font_of e ss es) i (maps.get (font_of e ss es).glyphs n) d) (names_in (font_of e ss es).glyphs))
+      ∙ (λ d. list_any (λ n. runs_at i (glyph_listed e ss es h n d)) (map (λ e. e.0) (maps.entries-from_sorted name_cmp es h d)))
+
+  -- the state of an index of the list
+  abbrev state_listed : ℕ → Option (List ℕ) → Option (List ℕ)
+  state_listed i None = None
+  state_listed i (Some c) = cond (is_stub c && not (called_listed i)) None (Some c)
+
+  state_at : (i : ℕ) (x : Option (List ℕ)) → state_of_entry spelled (font_of e ss es) i x ≡ state_listed i x
+  state_at i None = refl
+  state_at i (Some c) = λ d. cond (is_stub c && not (called_is i d)) None (Some c)
+
+  -- the state of an index in the table of all states
+  subr_listed : (i : ℕ) → maps.get (subr_part (states_of spelled (font_of e ss es))) (of_number i) ≡ state_listed i (find nat_cmp i ss)
+  subr_listed i = get-numbered (used_subrs spelled (font_of e ss es)) (of_number i) ∙ get-used spelled (font_of e ss es) i
+      ∙ ap (state_of_entry spelled (font_of e ss es) i) (maps.get-from_sorted nat_cmp ss i hs) ∙ state_at i (find nat_cmp i ss)
+
+  abbrev components_listed : List (List ℕ)
+  components_listed = flat_map (λ n. named_at spelled (font_of e ss es) (at_name es n)) (map (λ e. e.0) es)
+
+  components_are : all_components spelled (font_of e ss es) ≡ components_listed
+  components_are = λ d. flat_map (λ n. named_at spelled (font_of e ss es) (glyph_listed e ss es h n d)) (map (λ e. e.0) (maps.entries-from_sorted name_cmp es h d))
+
+  -- the state of a name
+  name_listed : (n : List ℕ) → maps.get (name_part (states_of spelled (font_of e ss es))) n
+      ≡ joined_state (option_map (λ c. name_meaning (Some c)) (at_name es n)) (find name_cmp n (map (λ p. (p, name_meaning None)) components_listed))
+  name_listed n =
+      get_joined (map_values (λ n c. name_meaning (Some c)) (font_of e ss es).glyphs) (maps.from_entries (map (λ p. (p, name_meaning None)) (all_components spelled (font_of e ss es)))) n
+      ∙ (λ d. joined_state (get-map_values nat_list_cmp_total name_same (λ n c. name_meaning (Some c)) (font_of e ss es).glyphs n d) (maps.get-from_entries nat_list_cmp_total (map (λ p. (p, name_meaning None)) (all_components spelled (font_of e ss es))) n d))
+      ∙ (λ d. joined_state (option_map (λ c. name_meaning (Some c)) (glyph_listed e ss es h n d)) (find name_cmp n (map (λ p. (p, name_meaning None)) (components_are d))))
+
+-- ---- rows of states
+
+abbrev standard : Encoding
+standard = Word (codes "StandardEncoding")
+
+-- a `return` that no glyph executes is the bottom
+state_0 : maps.get (subr_part (states_of spelled small)) (of_number 0) ≡ None
+state_0 = subr_listed standard subrs glyphs tt tt 0 ∙ refl
+
+state_5 : maps.get (subr_part (states_of spelled small)) (of_number 5) ≡ Some (12 ∷ [])
+state_5 = subr_listed standard subrs glyphs tt tt 5 ∙ refl
+
+-- a `return` that B executes is a state
+state_7 : maps.get (subr_part (states_of spelled small)) (of_number 7) ≡ Some stub
+state_7 = subr_listed standard subrs glyphs tt tt 7 ∙ refl
+
+state_6 : maps.get (subr_part (states_of spelled small)) (of_number 6) ≡ None
+state_6 = subr_listed standard subrs glyphs tt tt 6 ∙ refl
+
+state_A : maps.get (name_part (states_of spelled small)) (codes "A") ≡ Some (name_meaning (Some (5 ∷ [])))
+state_A = name_listed standard subrs glyphs tt tt (codes "A") ∙ refl
+
+-- Z is sought by V
+state_Z : maps.get (name_part (states_of spelled small)) (codes "Z") ≡ Some (name_meaning None)
+state_Z = name_listed standard subrs glyphs tt tt (codes "Z") ∙ refl
+
+state_Q : maps.get (name_part (states_of spelled small)) (codes "Q") ≡ None
+state_Q = name_listed standard subrs glyphs tt tt (codes "Q") ∙ refl
+
+-- ---- conflicts of two fonts of one shell
+
+-- the keys of either map, over lists
+abbrev keys_listed : {K : Type 0} → (K → K → Ordering) → List (K × List ℕ) → List (K × List ℕ) → List K
+keys_listed {K = K} R es fs = map (λ (e : K × ℕ). e.0) (map (λ (e : K × List ℕ). (e.0, 0)) (last_entries R (fs ++ es)))
+
+keys_are : {K : Type 0} {R : K → K → Ordering} (o : IsTotalOrder R) (same : IsAntisymmetric R) (es fs : List (K × List ℕ)) → T (is_sorted R es) → T (is_sorted R fs)
+    → members (keys_of_both {R = R} (maps.from_sorted es) (maps.from_sorted fs)) ≡ keys_listed R es fs
+keys_are {R = R} o same es fs he hf = ap (map (λ e. e.0))
+    (entries-map_values o same (λ k v. 0) (merged (maps.from_sorted es) (maps.from_sorted fs))
+    ∙ ap (map (λ e. (e.0, 0))) (entries-merged o same (maps.from_sorted es) (maps.from_sorted fs) ∙ (λ d. last_entries R (maps.entries-from_sorted R fs hf d ++ maps.entries-from_sorted R es he d))))
+
+module _ (e k : Encoding) (ss ts : List (ℕ × List ℕ)) (es fs : List (List ℕ × List ℕ)) (hs : T (is_sorted nat_cmp ss)) (ht : T (is_sorted nat_cmp ts)) (he : T (is_sorted name_cmp es)) (hf : T (is_sorted name_cmp fs)) where
+  abbrev f : FontValue
+  f = font_of e ss es
+
+  abbrev g : FontValue
+  g = font_of k ts fs
+
+  abbrev names : List (List ℕ)
+  names = keys_listed name_cmp es fs
+
+  names_are : members (glyph_names f g) ≡ names
+  names_are = keys_are nat_list_cmp_total name_same es fs he hf
+
+  -- both lists have the same indices
+  abbrev same_listed : Bool
+  same_listed = same_bytes (map (λ e. e.0) ss) (map (λ e. e.0) ts)
+
+  present_are : same_bytes (maps.keys f.subrs) (maps.keys g.subrs) ≡ same_listed
+  present_are = λ d. same_bytes (map (λ e. e.0) (maps.entries-from_sorted nat_cmp ss hs d)) (map (λ e. e.0) (maps.entries-from_sorted nat_cmp ts ht d))
+
+  abbrev glyph_differs : List ℕ → Bool
+  glyph_differs n = not (agrees (at_name es n) (at_name fs n))
+
+  glyphs_are : glyph_conflict f g ≡ first_where glyph_differs names
+  glyphs_are = λ d. first_where (λ n. not (agrees (glyph_listed e ss es he n d) (glyph_listed k ts fs hf n d))) (names_are d)
+
+  -- a glyph that is there calls for a component that its list lacks
+  abbrev wanted_listed : List ℕ → List ℕ → Bool
+  wanted_listed p n = (not (is_some (at_name es p)) && called_at spelled f p (at_name es n)) || (not (is_some (at_name fs p)) && called_at spelled g p (at_name fs n))
+
+  wanted_are : (p n : List ℕ) → wanted_by spelled f g p n ≡ wanted_listed p n
+  wanted_are p n = λ d. (not (has_listed e ss es he p d) && called_at spelled f p (glyph_listed e ss es he n d)) || (not (has_listed k ts fs hf p d) && called_at spelled g p (glyph_listed k ts fs hf n d))
+
+  abbrev lacking_listed : List ℕ → Bool
+  lacking_listed p = (is_some (at_name es p) || is_some (at_name fs p)) && list_any (wanted_listed p) names
+
+  lacking_are : component_conflict spelled f g ≡ first_where lacking_listed names
+  lacking_are = λ d. first_where (λ p. (has_listed e ss es he p d || has_listed k ts fs hf p d) && list_any (λ n. wanted_are p n d) (names_are d)) (names_are d)
+
+  -- an entry, or the bottom if it is a stub that is not called
+  abbrev state_by : Bool → Option (List ℕ) → Option (List ℕ)
+  state_by called None = None
+  state_by called (Some c) = cond (is_stub c && not called) None (Some c)
+
+  by_call : (j : FontValue) (i : ℕ) (x : Option (List ℕ)) → state_of_entry spelled j i x ≡ state_by (is_called spelled j i) x
+  by_call j i None = refl
+  by_call j i (Some c) = refl
+
+  abbrev subr_differs : ℕ → Bool
+  subr_differs i = not (agrees (state_by (called_listed e ss es hs he i) (find nat_cmp i ss)) (state_by (called_listed k ts fs ht hf i) (find nat_cmp i ts)))
+
+  state_is : (i : ℕ) → subr_state spelled f i ≡ state_by (called_listed e ss es hs he i) (find nat_cmp i ss)
+  state_is i = by_call f i (maps.get f.subrs i) ∙ (λ d. state_by (called_is e ss es hs he i d) (maps.get-from_sorted nat_cmp ss i hs d))
+
+  other_state_is : (i : ℕ) → subr_state spelled g i ≡ state_by (called_listed k ts fs ht hf i) (find nat_cmp i ts)
+  other_state_is i = by_call g i (maps.get g.subrs i) ∙ (λ d. state_by (called_is k ts fs ht hf i d) (maps.get-from_sorted nat_cmp ts i ht d))
+
+  subrs_differ : subr_conflict spelled f g ≡ first_where subr_differs (keys_listed nat_cmp ss ts)
+  subrs_differ = λ d. first_where (λ i. not (agrees (state_is i d) (other_state_is i d))) (keys_are nat_cmp_total nat_cmp-IsAntisymmetric ss ts hs ht d)
+
+  abbrev used_listed : ℕ → List ℕ → Bool
+  used_listed i n = runs_at i (at_name es n) || runs_at i (at_name fs n)
+
+  used_are : (i : ℕ) (n : List ℕ) → used_by spelled f g i n ≡ used_listed i n
+  used_are i n = (λ d. runs_is f i (maps.get f.glyphs n) d || runs_is g i (maps.get g.glyphs n) d) ∙ (λ d. runs_at i (glyph_listed e ss es he n d) || runs_at i (glyph_listed k ts fs hf n d))
+
+  -- the lowest conflict, over lists, after the shells and codes
+  abbrev listed : Option ShellPart → Option ℕ → Option Conflict
+  listed part code =
+      found ShellDiffers part
+      (found CodeDiffers code
+      (found GlyphDiffers (first_where glyph_differs names)
+      (found (λ p. LacksComponent (unwrap_or (first_where (wanted_listed p) names) []) p) (first_where lacking_listed names)
+      (found (λ i. SubrDiffers i (first_where (used_listed i) names)) (first_where subr_differs (keys_listed nat_cmp ss ts)) None))))
+
+  conflicts_are : (part : Option ShellPart) (code : Option ℕ) → shell_conflict f g ≡ part → code_conflict f g ≡ code → states_conflict spelled f g ≡ listed part code
+  conflicts_are part code s c = λ d.
+      found ShellDiffers (s d)
+      (found CodeDiffers (c d)
+      (found GlyphDiffers (glyphs_are d)
+      (found (λ p. LacksComponent (unwrap_or (first_where (λ n. wanted_are p n d) (names_are d)) []) p) (lacking_are d)
+      (found (λ i. SubrDiffers i (first_where (λ n. used_are i n d) (names_are d))) (subrs_differ d) None))))
+
+  -- fonts with Encodings of one kind and with the same indices have no conflict of shells
+  shells_same : same_word (word_of e) (word_of k) ≡ true → same_listed ≡ true → shell_conflict f g ≡ None
+  shells_same kinds present = λ d. cond (not (kinds d)) (Some EncodingPart) (cond (not ((present_are ∙ present) d)) (Some SubrsTable) None)
+
+-- two fonts with the same word as Encoding, each with its lists of Subrs and glyphs
+module _ (ss ts : List (ℕ × List ℕ)) (es fs : List (List ℕ × List ℕ)) (hs : T (is_sorted nat_cmp ss)) (ht : T (is_sorted nat_cmp ts)) (he : T (is_sorted name_cmp es)) (hf : T (is_sorted name_cmp fs)) where
+  in_both : same_bytes (map (λ e. e.0) ss) (map (λ e. e.0) ts) ≡ true → states_conflict spelled (font_of standard ss es) (font_of standard ts fs) ≡ listed standard standard ss ts es fs hs ht he hf None None
+  in_both present = conflicts_are standard standard ss ts es fs hs ht he hf None None (shells_same standard standard ss ts es fs hs ht he hf refl present)
+      (passes_none (code_clashes (font_of standard ss es) (font_of standard ts fs)) (members (codes_of_both standard standard)) (λ c. refl))
+
+-- ---- rows of conflicts
+
+-- a font with another shell, whose conflict is told before any table is looked at
+abbrev with_shell : Shell → FontValue
+with_shell s = record { shell = s; encoding = small.encoding; subrs = small.subrs; glyphs = small.glyphs }
+
+head_differs : conflict spelled small (with_shell (shell_of (37 ∷ []) 0)) ≡ Some (ShellDiffers Head)
+head_differs = refl
+
+kind_differs : conflict spelled small (font_of (Codes (maps.from_sorted [])) subrs glyphs) ≡ Some (ShellDiffers EncodingPart)
+kind_differs = refl
+
+lead_bytes_differ : conflict spelled small (with_shell (shell_of [] 0)) ≡ Some (ShellDiffers Private)
+lead_bytes_differ = refl
+
+-- the lowest conflict of states, if there is one, is the lowest of the fonts
+lowest : (f g : FontValue) (c : Conflict) → states_conflict spelled f g ≡ Some c → conflict spelled f g ≡ Some c
+lowest f g c s = ap (λ x. found (λ c. c) x (cond (is_within spelled f g) None (Some OverLimit))) s
+
+index_lacks : states_conflict spelled (font_of standard ((0, stub) ∷ []) ((notdef, []) ∷ [])) (font_of standard [] ((notdef, []) ∷ [])) ≡ Some (ShellDiffers SubrsTable)
+index_lacks = conflicts_are standard standard ((0, stub) ∷ []) [] ((notdef, []) ∷ []) ((notdef, []) ∷ []) tt tt tt tt (Some SubrsTable) None
+    (λ d. cond (not (present_are standard standard ((0, stub) ∷ []) [] ((notdef, []) ∷ []) ((notdef, []) ∷ []) tt tt tt tt d)) (Some SubrsTable) None)
+    (passes_none (code_clashes (font_of standard ((0, stub) ∷ []) ((notdef, []) ∷ [])) (font_of standard [] ((notdef, []) ∷ []))) (members (codes_of_both standard standard)) (λ c. refl))
+    ∙ refl
+
+-- V without its component A, as a cut of another font may have it
+abbrev V_alone : List (List ℕ × List ℕ)
+V_alone = (notdef, []) ∷ (codes "V", codes "AZ") ∷ []
+
+abbrev A_and_B : List (List ℕ × List ℕ)
+A_and_B = (notdef, []) ∷ (codes "A", 5 ∷ []) ∷ (codes "B", 7 ∷ []) ∷ []
+
+abbrev other_B : List (List ℕ × List ℕ)
+other_B = (notdef, []) ∷ (codes "A", 5 ∷ []) ∷ (codes "B", 8 ∷ []) ∷ []
+
+B_differs : conflict spelled (font_of standard subrs A_and_B) (font_of standard subrs other_B) ≡ Some (GlyphDiffers (codes "B"))
+B_differs = lowest (font_of standard subrs A_and_B) (font_of standard subrs other_B) (GlyphDiffers (codes "B")) (in_both subrs subrs A_and_B other_B tt tt tt tt refl ∙ refl)
+
+V_lacks_A : conflict spelled (font_of standard subrs V_alone) (font_of standard subrs A_and_B) ≡ Some (LacksComponent (codes "V") (codes "A"))
+V_lacks_A = lowest (font_of standard subrs V_alone) (font_of standard subrs A_and_B) (LacksComponent (codes "V") (codes "A")) (in_both subrs subrs V_alone A_and_B tt tt tt tt refl ∙ refl)
+
+-- another charstring at index 5, which A executes
+abbrev other_5 : List (ℕ × List ℕ)
+other_5 = (0, stub) ∷ (5, 13 ∷ []) ∷ (7, stub) ∷ (8, stub) ∷ []
+
+five_differs : conflict spelled small (font_of standard other_5 A_and_B) ≡ Some (SubrDiffers 5 (Some (codes "A")))
+five_differs = lowest small (font_of standard other_5 A_and_B) (SubrDiffers 5 (Some (codes "A"))) (in_both subrs other_5 glyphs A_and_B tt tt tt tt refl ∙ refl)
+
+abbrev two_at_0 : List (ℕ × List ℕ)
+two_at_0 = (0, 12 ∷ []) ∷ (5, 12 ∷ []) ∷ (7, stub) ∷ (8, stub) ∷ []
+
+abbrev other_at_0 : List (ℕ × List ℕ)
+other_at_0 = (0, 13 ∷ []) ∷ (5, 12 ∷ []) ∷ (7, stub) ∷ (8, stub) ∷ []
+
+no_user_of_0 : conflict spelled (font_of standard two_at_0 glyphs) (font_of standard other_at_0 A_and_B) ≡ Some (SubrDiffers 0 None)
+no_user_of_0 = lowest (font_of standard two_at_0 glyphs) (font_of standard other_at_0 A_and_B) (SubrDiffers 0 None) (in_both two_at_0 other_at_0 glyphs A_and_B tt tt tt tt refl ∙ refl)
+
+-- a stub that no glyph of its font executes gives way: 7 in one font and 5 in the other
+abbrev cut_to_A : List (ℕ × List ℕ)
+cut_to_A = (0, stub) ∷ (5, 12 ∷ []) ∷ (7, stub) ∷ []
+
+abbrev cut_to_B : List (ℕ × List ℕ)
+cut_to_B = (0, stub) ∷ (5, stub) ∷ (7, 15 ∷ []) ∷ []
+
+abbrev A_alone : List (List ℕ × List ℕ)
+A_alone = (notdef, []) ∷ (codes "A", 5 ∷ []) ∷ []
+
+abbrev B_alone : List (List ℕ × List ℕ)
+B_alone = (notdef, []) ∷ (codes "B", 7 ∷ []) ∷ []
+
+cuts_agree : states_conflict spelled (font_of standard cut_to_A A_alone) (font_of standard cut_to_B B_alone) ≡ None
+cuts_agree = in_both cut_to_A cut_to_B A_alone B_alone tt tt tt tt refl ∙ refl
+
+-- a stub that is executed doesn't give way
+stub_is_used : conflict spelled (font_of standard cut_to_A A_and_B) (font_of standard cut_to_B B_alone) ≡ Some (SubrDiffers 7 (Some (codes "B")))
+stub_is_used = lowest (font_of standard cut_to_A A_and_B) (font_of standard cut_to_B B_alone) (SubrDiffers 7 (Some (codes "B"))) (in_both cut_to_A cut_to_B A_and_B B_alone tt tt tt tt refl ∙ refl)
+
+-- two tables with different names at a code
+abbrev table : List (ℕ × List ℕ) → Encoding
+table cs = Codes (maps.from_sorted cs)
+
+abbrev codes_of_A : List (ℕ × List ℕ)
+codes_of_A = (65, codes "A") ∷ (66, codes "B") ∷ []
+
+abbrev codes_of_V : List (ℕ × List ℕ)
+codes_of_V = (64, codes "V") ∷ (66, codes "V") ∷ []
+
+code_66_differs : conflict spelled (font_of (table codes_of_A) subrs glyphs) (font_of (table codes_of_V) subrs glyphs) ≡ Some (CodeDiffers 66)
+code_66_differs = lowest (font_of (table codes_of_A) subrs glyphs) (font_of (table codes_of_V) subrs glyphs) (CodeDiffers 66)
+    (conflicts_are (table codes_of_A) (table codes_of_V) subrs subrs glyphs glyphs tt tt tt tt None (Some 66) (shells_same (table codes_of_A) (table codes_of_V) subrs subrs glyphs glyphs tt tt tt tt refl refl)
+    ((λ d. first_where (λ c. not (agrees (maps.get-from_sorted nat_cmp codes_of_A c tt d) (maps.get-from_sorted nat_cmp codes_of_V c tt d))) (keys_are nat_cmp_total nat_cmp-IsAntisymmetric codes_of_A codes_of_V tt tt d)) ∙ refl)
+    ∙ refl)

@@ -1,0 +1,101 @@
+-- Subsets that were cut to their first Subrs and tagged, and what they come to when they are made even and merged.
+use Rattle.std.specs.Prelude.{◌≡◌, ℕ, ◌≤◌, ◌<◌, max, nat_lt, true, List, [], ◌∷◌, map, IsPermutation}
+use Rattle.std.specs.List.{AllByRecursion}
+use Rattle.std.specs.Option.{option_map}
+use Rattle.std.specs.FinMap as maps
+use Rattle.std.specs.FinSet as sets
+use Rattle.t1_font.specs.FontValue.{FontValue, SubrsShell, declared_count}
+use Rattle.t1_font.specs.IsFont.{IsFont}
+use Rattle.t1_font.specs.Tags.{untagged_head}
+use Rattle.t1_font.specs.Evening.{evened}
+use Rattle.t1_algebra.specs.Interpreter.{Names}
+use Rattle.t1_algebra.specs.Keep.{keep, kept, subset}
+use Rattle.t1_algebra.specs.Profile.{profile}
+use Rattle.t1_algebra.specs.Laws.{IsOf, DrawsAlike}
+use Rattle.t1_join.specs.Groupings.{Grouping, leaves}
+use Rattle.t1_algebra.specs.Groupings.{union_all, Merges}
+use Rattle.t1_algebra.specs.Merges.{MergesTo}
+
+-- ---- fonts cut to their first Subrs
+
+-- a table of Subrs that declares this many
+abbrev pub declares : ℕ → SubrsShell → SubrsShell
+declares n s = record s { declared = n }
+
+-- a font cut to its first n Subrs: its table, if it has one, declares n Subrs and has those below n
+abbrev pub cut_to : ℕ → FontValue → FontValue
+cut_to n f = record f {
+  shell = record f.shell { subrs = option_map (declares n) f.shell.subrs };
+  subrs = maps.retain_keys f.subrs (λ i. nat_lt i n);
+}
+
+-- a font with another head
+abbrev pub with_head : List ℕ → FontValue → FontValue
+with_head head f = record f { shell = record f.shell { head = head } }
+
+-- a font without a tag
+abbrev pub without_tag : FontValue → FontValue
+without_tag f = with_head (untagged_head f.shell.head) f
+
+-- ---- truncated subsets
+
+-- a font that was cut to these names and to this many Subrs
+pub record Truncated : Type 0 where
+  pub font : FontValue
+  pub names : Names
+  pub count : ℕ
+
+-- It is the subset of f over names of f, cut to its first Subrs: they include those that it keeps and f has, and f declares no fewer. Its head is that of f with any tag.
+pub record IsTruncated (f : FontValue) (t : Truncated) : Type 0 where
+  pub font : IsFont t.font
+  pub names : IsOf f t.names
+  pub head : untagged_head t.font.shell.head ≡ untagged_head f.shell.head
+  pub others : with_head f.shell.head t.font ≡ cut_to t.count (subset profile f t.names)
+  pub kept : (i : ℕ) → sets.contains (kept profile f t.names) i ≡ true → maps.contains_key f.subrs i ≡ true → i < t.count
+  pub count : t.count ≤ declared_count f.shell.subrs
+
+-- the fonts of a list of truncated subsets
+abbrev pub fonts_of : List Truncated → List FontValue
+fonts_of ts = map (λ t. t.font) ts
+
+-- the sets of names of a list of truncated subsets
+abbrev pub sets_of : List Truncated → List Names
+sets_of ts = map (λ t. t.names) ts
+
+-- all names of a list of truncated subsets
+abbrev pub names_of_all : List Truncated → Names
+names_of_all ts = union_all (sets_of ts)
+
+-- the largest of the counts
+abbrev pub largest : List Truncated → ℕ
+largest [] = 0
+largest (t ∷ ts) = max t.count (largest ts)
+
+-- the font without its tag, cut to the largest of the counts
+abbrev pub shared_font : FontValue → List Truncated → FontValue
+shared_font f ts = cut_to (largest ts) (without_tag f)
+
+-- the subset over all the names, without its tag and cut to the largest of the counts
+abbrev pub rejoined : FontValue → List Truncated → FontValue
+rejoined f ts = cut_to (largest ts) (without_tag (subset profile f (names_of_all ts)))
+
+-- Made even, truncated subsets are subsets of one font; in every order and grouping they merge to the subset over all the names, cut to the largest of the counts and without its tag, and to nothing else; each kept glyph draws in it as in the font.
+pub record Rejoins (f : FontValue) (ts : List Truncated) : Type 0 where
+  pub shared : IsFont (shared_font f ts)
+  pub subsets : evened (fonts_of ts) ≡ map (subset profile (shared_font f ts)) (sets_of ts)
+  pub merges : (t : Grouping FontValue) → IsPermutation (evened (fonts_of ts)) (leaves t) → MergesTo t (rejoined f ts)
+  pub draws : (n : List ℕ) → sets.contains (keep profile f (names_of_all ts)) n ≡ true → DrawsAlike f (rejoined f ts) n
+
+-- one or more truncated subsets of one font rejoin
+abbrev pub TruncatedSubsetsRejoin : Type 0
+TruncatedSubsetsRejoin = (f : FontValue) → IsFont f → (t : Truncated) (ts : List Truncated) → AllByRecursion (IsTruncated f) (t ∷ ts) → Rejoins f (t ∷ ts)
+
+-- ---- fonts that merge
+
+-- a font without a tag before its name
+abbrev pub IsUntagged : FontValue → Type 0
+IsUntagged f = untagged_head f.shell.head ≡ f.shell.head
+
+-- fonts without tags that merge in some order and grouping are even already
+abbrev pub MergingFontsAreEven : Type 0
+MergingFontsAreEven = (t : Grouping FontValue) (j : FontValue) → Merges profile t j → AllByRecursion IsUntagged (leaves t) → evened (leaves t) ≡ leaves t
