@@ -1,7 +1,7 @@
 use Rattle.std.proofs.Common.{◌≡◌, inl, ap, subst, ◌∙◌, Ok, List}
 use Rattle.std.proofs.lemmas.Result.{IfOk-weaker, IfErr-weaker}
 use Rattle.t1_font.specs.FontValue.{FontValue}
-use Rattle.t1_font.specs.Evening.{evened, evened_shells, filled_all}
+use Rattle.t1_font.specs.Evening.{evened, filled_all}
 use Rattle.t1_font.specs.Filling.{AreLight}
 use Rattle.t1_cmd.specs.Mergers.{MergesTo, MergeStops}
 use Rattle.t1_cmd.proofs.RejoinLemmas.{merge_of_even}
