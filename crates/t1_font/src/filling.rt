@@ -1,6 +1,6 @@
 //! Fonts with one set of Subrs: a stub stands where a font lacks a Subr that another has.
 
-ghost use Rattle.std.specs.Prelude.{◌≡◌, ◌++◌, ◌∷◌, [], ◌≤◌, map, true, nat_lt, IfOk, IfSome, OnOk, MatchResult};
+ghost use Rattle.std.specs.Prelude.{◌≡◌, ℕ, ◌++◌, ◌∷◌, [], ◌≤◌, map, true, nat_lt, IfOk, IfSome, OnOk, MatchResult};
 ghost use Rattle.std.specs.Ordering.{nat_cmp};
 ghost use Rattle.std.specs.FinMap as fin;
 ghost use Rattle.t1_font.specs.FontValue.{weight, weight_limit};
@@ -18,13 +18,28 @@ use crate::parts::{PartsFault, join_codes};
 use std::alloc::{AllocError, Global};
 use std::collections::BTreeSet;
 
-/// A stub at each index at which some font has a Subr.
+/// Whether a table has an entry at each number at which the other has one.
+fn has_all(table: &Numbered<'_>, others: &Numbered<'_>) -> bool
+    ensures { result ≡ true
+        → (q : ℕ)
+        → fin.contains_key others.now q ≡ true
+        → fin.contains_key table.now q ≡ true }
+{
+    'others: for (number, _) in others.entries() {
+        if table.get_near(number as usize, number).is_none() {
+            return false;
+        }
+    }
+    true
+}
+
+/// A stub at each index at which some font has a Subr. A font takes no room here if all of its indices are known.
 fn stubs_of_all<'a>(alloc: Global, fonts: &[Font<'a>]) -> Result<Numbered<'a>, AllocError>
     ensures { IfOk result (λ m. m ≡ stubs_at (indices_of_all fonts.now)) }
 {
     let mut all = Numbered::made(Vec::new(alloc));
     'fonts: for font in fonts {
-        if !font.parts.subrs.is_empty() {
+        if !has_all(&all, &font.parts.subrs) {
             all = join_codes(alloc, &all, &font.parts.subrs)?;
         }
     }

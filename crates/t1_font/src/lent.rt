@@ -170,6 +170,7 @@ impl<'a> Numbered<'a> {
     }
 
     /// The entry at a place; places are counted upwards by number, from 0. The place after an entry fits in a `usize`.
+    #[inline(always)]
     pub(crate) fn at(&self, place: usize) -> Option<(u16, &'a [u8])>
         ensures entry { option_map lent_number result ≡ slice_get (fin.entries self.now) place }
         ensures short { IfSome result (λ _. place < 18446744073709551615) }

@@ -4,7 +4,7 @@ use Rattle.std.specs.Prelude.{nat_lt, max, ◌==◌}
 use Rattle.std.specs.List.{list_any}
 use Rattle.std.specs.Ordering.{nat_cmp, eq_by_cmp}
 use Rattle.std.specs.Option.{option_map}
-use Rattle.std.specs.Cmp.{nat_cmp_total}
+use Rattle.std.specs.Cmp.{nat_cmp_total, Equal-is}
 use Rattle.std.specs.BTreeSet.{contains}
 use Rattle.std.proofs.Common.{BTreeSet}
 use Rattle.std.specs.BTreeMap.{is_at}
@@ -61,6 +61,10 @@ IndicesSoFar m left all = (q : ℕ) → (contains_key m q || is_one q (indices_o
 pub none_so_far : (m : Numbered) (all : List FontValue) → m ≡ empty → IndicesSoFar m all all
 none_so_far m all e q = ap (λ (o : Option (List ℕ)). is_some o || is_one q (indices_of_all all)) (ap (λ (n : Numbered). get n q) e ∙ get-empty nat_cmp q)
 
+or_false : (b : Bool) → (b || false) ≡ b
+or_false true = refl
+or_false false = refl
+
 or_assoc : (a b c : Bool) → ((a || b) || c) ≡ (a || (b || c))
 or_assoc true b c = refl
 or_assoc false b c = refl
@@ -77,28 +81,59 @@ module _ (m : Numbered) (all fs : List FontValue) (i : ℕ) (d f : FontValue) (r
   next : drop i fs ≡ f ∷ drop (i + 1) fs
   next = drop_more fs i d room ∙ ap (λ (g : FontValue). g ∷ drop (i + 1) fs) is
 
-  -- those of one more font
-  pub one_more_font : (n : Numbered) → n ≡ merged m f.subrs → IndicesSoFar n (drop (i + 1) fs) all
-  one_more_font n put q =
-      ap (λ b. b || is_one q (indices_of_all (drop (i + 1) fs))) (ap (λ (k : Numbered). contains_key k q) put ∙ (ap is_some (get-merged nat_cmp_total nat_cmp-IsAntisymmetric m f.subrs q) ∙ some_either (get m q) (get f.subrs q)))
+  more : (q : ℕ) (b : Bool) → b ≡ (contains_key m q || contains_key f.subrs q) → (b || is_one q (indices_of_all (drop (i + 1) fs))) ≡ is_one q (indices_of_all all)
+  more q b e =
+      ap (λ b. b || is_one q (indices_of_all (drop (i + 1) fs))) e
       ∙ (or_assoc (contains_key m q) (contains_key f.subrs q) (is_one q (indices_of_all (drop (i + 1) fs)))
       ∙ (ap (λ b. contains_key m q || b) (sym (indices_next q f (drop (i + 1) fs)))
       ∙ (ap (λ (gs : List FontValue). contains_key m q || is_one q (indices_of_all gs)) (sym next) ∙ h q)))
 
-  -- a font without Subrs adds none
-  pub no_more_font : entries f.subrs ≡ [] → IndicesSoFar m (drop (i + 1) fs) all
-  no_more_font none q =
-      ap (λ b. contains_key m q || b) (ap (λ (es : List (ℕ × List ℕ)). is_one q (map (λ e. e.0) es ++ indices_of_all (drop (i + 1) fs))) (sym none))
-      ∙ (ap (λ (gs : List FontValue). contains_key m q || is_one q (indices_of_all gs)) (sym next) ∙ h q)
+  -- those of one more font
+  pub one_more_font : (n : Numbered) → n ≡ merged m f.subrs → IndicesSoFar n (drop (i + 1) fs) all
+  one_more_font n put q = more q (contains_key n q) (ap (λ (k : Numbered). contains_key k q) put ∙ (ap is_some (get-merged nat_cmp_total nat_cmp-IsAntisymmetric m f.subrs q) ∙ some_either (get m q) (get f.subrs q)))
+
+  one_of_both : (a b : Bool) → (b ≡ true → a ≡ true) → a ≡ (a || b)
+  one_of_both true b k = refl
+  one_of_both false true k = k refl
+  one_of_both false false k = refl
+
+  -- a font whose indices are all known adds none
+  pub no_more_font : ((q : ℕ) → contains_key f.subrs q ≡ true → contains_key m q ≡ true) → IndicesSoFar m (drop (i + 1) fs) all
+  no_more_font known q = more q (contains_key m q) (one_of_both (contains_key m q) (contains_key f.subrs q) (known q))
+
+-- ---- indices that are known
+
+-- each number of the second table is one of the first, or left
+abbrev pub KnownOrLeft : Numbered → Numbered → List (ℕ × List ℕ) → Type 0
+KnownOrLeft m n left = (q : ℕ) → contains_key n q ≡ true → (contains_key m q || is_one q (map (λ e. e.0) left)) ≡ true
+
+true_after : (a b : Bool) → b ≡ true → (a || b) ≡ true
+true_after true b h = refl
+true_after false b h = h
+
+-- before the first entry all are left
+pub all_left : (m n : Numbered) (left : List (ℕ × List ℕ)) → left ≡ entries n → KnownOrLeft m n left
+all_left m n left is q t = true_after (contains_key m q) (is_one q (map (λ e. e.0) left)) (ap (λ es. is_one q (map (λ e. e.0) es)) is ∙ (sym (contains_key-keys n q) ∙ t))
+
+-- a number that the first table has is left no more
+pub one_known : (m n : Numbered) (e : ℕ × List ℕ) (left : List (ℕ × List ℕ)) → contains_key m e.0 ≡ true → KnownOrLeft m n (e ∷ left) → KnownOrLeft m n left
+one_known m n e left t h q k = at (eq_by_cmp nat_cmp q e.0) refl (h q k)
+  where
+    at : (b : Bool) → eq_by_cmp nat_cmp q e.0 ≡ b → (contains_key m q || (b || is_one q (map (λ e. e.0) left))) ≡ true → (contains_key m q || is_one q (map (λ e. e.0) left)) ≡ true
+    at false is w = w
+    at true is w = ap (λ b. b || is_one q (map (λ e. e.0) left)) (ap (contains_key m) (same_key is) ∙ t)
+      where
+        same_key : eq_by_cmp nat_cmp q e.0 ≡ true → q ≡ e.0
+        same_key s = nat_cmp-IsAntisymmetric q e.0 ((Equal-is (nat_cmp q e.0)).0 s)
+
+-- when none is left, the first table has all
+pub all_known : (m n : Numbered) (left : List (ℕ × List ℕ)) → left ≡ [] → KnownOrLeft m n left → (q : ℕ) → contains_key n q ≡ true → contains_key m q ≡ true
+all_known m n left none h q t = sym (or_false (contains_key m q)) ∙ (ap (λ es. contains_key m q || is_one q (map (λ (e : ℕ × List ℕ). e.0) es)) (sym none) ∙ h q t)
 
 -- the stubs at some indices have a stub at each of them, and nothing else
 pub find_stub : (q : ℕ) (indices : List ℕ) → find nat_cmp q (map (λ i. (i, stub)) indices) ≡ cond (is_one q indices) (Some stub) None
 find_stub q [] = refl
 find_stub q (j ∷ js) = elim (eq_by_cmp nat_cmp q j) as (λ b. cond b (Some stub) (find nat_cmp q (map (λ i. (i, stub)) js)) ≡ cond (b || is_one q js) (Some stub) None) [ true ↦ refl | false ↦ find_stub q js ]
-
-or_false : (b : Bool) → (b || false) ≡ b
-or_false true = refl
-or_false false = refl
 
 stub_of : (o : Option (List ℕ)) → option_map (λ c. stub) o ≡ cond (is_some o) (Some stub) None
 stub_of None = refl
@@ -173,14 +208,6 @@ module _ (stubs : Numbered) (fs out left next : List FontValue) (f : FontValue) 
 pub none_counted : (es : List (ℕ × List ℕ)) → (length es == 0) ≡ has_none es
 none_counted [] = refl
 none_counted (e ∷ es) = elim (cases_Bool (length (e ∷ es) == 0)) [ inl t ↦ absurd (omega (arith, eqb-true (length (e ∷ es)) 0 t)) | inr t ↦ t ]
-
-none_so : (es : List (ℕ × List ℕ)) → has_none es ≡ true → es ≡ []
-none_so [] h = refl
-none_so (e ∷ es) h = absurd (true≢false (sym h))
-
--- a map whose entries are none has none
-pub no_entries_there : (m : Numbered) → has_none (entries m) ≡ true → entries m ≡ []
-no_entries_there m h = none_so (entries m) h
 
 -- a font without Subrs stays
 pub unfilled : (stubs : Numbered) (f : FontValue) → has_none (entries f.subrs) ≡ true → f ≡ filled_by stubs f

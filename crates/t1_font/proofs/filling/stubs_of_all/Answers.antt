@@ -1,17 +1,16 @@
-use Rattle.std.proofs.Common.{◌≡◌, ◌+◌, ap, sym, subst, ◌∙◌, map, drop, List}
+use Rattle.std.proofs.Common.{◌≡◌, ◌+◌, ap, sym, subst, ◌∙◌, map, drop, List, ℕ, true}
 use Rattle.std.proofs.lemmas.Result.{IfOk-weaker}
 use Rattle.std.specs.Ordering.{nat_cmp}
-use Rattle.std.specs.FinMap.{entries, from_sorted}
+use Rattle.std.specs.FinMap.{contains_key, from_sorted}
 use Rattle.std.proofs.lemmas.List.{drop_all}
 use Rattle.t1_join.proofs.Sorted.{no_entries}
 use Rattle.t1_font.specs.declared.font.Font.TheInside.{Inside}
 use Rattle.t1_font.specs.FontValue.{FontValue, Numbered}
 use Rattle.t1_font.specs.Lent.{lent_number}
 use Rattle.t1_font.specs.Maps.{merged}
-use Rattle.t1_font.specs.Filling.{has_none}
-use Rattle.t1_font.proofs.even_fonts.Filled.{IndicesSoFar, none_so_far, one_more_font, no_more_font, no_entries_there, stubs_of, all_stubs}
+use Rattle.t1_font.proofs.even_fonts.Filled.{IndicesSoFar, none_so_far, one_more_font, no_more_font, stubs_of, all_stubs}
 use Rattle.t1_font.proofs.filling.stubs_of_all.Goals as goal
-use Rattle.t1_font.proofs.filling.stubs_of_all.Goals.{then-not-is_empty+in_ok-all, else-not-is_empty}
+use Rattle.t1_font.proofs.filling.stubs_of_all.Goals.{then-not-has_all+in_ok-all, else-not-has_all}
 
 pub fonts-init : goal.fonts-init
 fonts-init c = none_so_far _ c.args.fonts.now (c.made-all.ensures ∙ ap (λ es. from_sorted {R = nat_cmp} (map lent_number es)) c.new.ensures.items ∙ no_entries nat_cmp)
@@ -22,11 +21,12 @@ fonts-preserved c =
     let i = c.fonts.font-index in
     let f = c.font-item.result in
     let subrs : c.font-inside.inside.0.0.subrs ≡ f.subrs = ap (λ (s : Inside). s.parts.subrs) c.font-inside.view_is ∙ ap (λ (f : FontValue). f.subrs) c.font.view_is in
-    elim c.if-not-is_empty.branch [
-      | then-not-is_empty+in_ok-all w ↦ subst (λ (m : Numbered). IndicesSoFar m (drop (i + 1) fs) fs) (sym w.all-is)
+    elim c.if-not-has_all.branch [
+      | then-not-has_all+in_ok-all w ↦ subst (λ (m : Numbered). IndicesSoFar m (drop (i + 1) fs) fs) (sym w.all-is)
           (one_more_font c.fonts.all fs fs i f f c.fonts-test.true (sym c.font-item.is) c.fonts.invariant w.in_ok-all.all (w.in_ok-all.ensures ∙ ap (merged c.fonts.all) subrs))
-      | else-not-is_empty w ↦ subst (λ (m : Numbered). IndicesSoFar m (drop (i + 1) fs) fs) (sym w.all-is)
-          (no_more_font c.fonts.all fs fs i f f c.fonts-test.true (sym c.font-item.is) c.fonts.invariant (no_entries_there f.subrs (ap (λ (m : Numbered). has_none (entries m)) (sym subrs) ∙ (sym c.is_empty.ensures ∙ w.if-not-is_empty.false))))
+      | else-not-has_all w ↦ subst (λ (m : Numbered). IndicesSoFar m (drop (i + 1) fs) fs) (sym w.all-is)
+          (no_more_font c.fonts.all fs fs i f f c.fonts-test.true (sym c.font-item.is) c.fonts.invariant
+          (subst (λ (n : Numbered). (q : ℕ) → contains_key n q ≡ true → contains_key c.fonts.all q ≡ true) subrs (c.has_all.ensures w.if-not-has_all.false)))
     ]
 
 pub returns : goal.returns
