@@ -191,7 +191,8 @@ impl<'a> Numbered<'a> {
         }
     }
 
-    /// The place of a number, if it has an entry.
+    /// The place of a number, if it has an entry. It is kept out of line, since most look-ups need no search.
+    #[inline(never)]
     fn place_of(&self, number: u16) -> Option<usize>
         ensures { option_and_then (slice_get (fin.entries self.now)) result
             ≡ option_map (λ b. (number, b)) (fin.get self.now number) }
@@ -282,6 +283,7 @@ impl<'t, 'a> Iterator for NumberedEntries<'t, 'a> {
 
     ghost remaining = { λ s. at_most (length s) };
 
+    #[inline(always)]
     fn next(&mut self) -> Option<(u16, &'a [u8])> {
         let entry = self.table.at(self.place)?;
         self.place += 1;

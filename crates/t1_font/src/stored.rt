@@ -76,7 +76,8 @@ impl<'a> StoredSubrs<'a> {
         Some(body.of(self.buffer))
     }
 
-    /// The same, or a stub if there is none.
+    /// The same, or a stub if there is none. It is kept out of line, so that the search costs tables of other forms nothing.
+    #[inline(never)]
     pub(crate) fn get_or_stub(&self, index: u16) -> &'a [u8]
         ensures { result.now ≡ unwrap_or (fin.get self.now index) stub }
     {
