@@ -31,14 +31,7 @@ use Rattle.t1_algebra.proofs.ManyMerges.{left_append, inner, no_tree, each_font,
 
 -- if there is no conflict, a refusal tells want of memory
 pub tells_none : (e : Refusal) (c : Option Conflict) → c ≡ None → Tells e c → e ≡ refusal.Memory
-tells_none (refusal.Shell p) c k h = cc
-tells_none (refusal.Code n) c k h = cc
-tells_none (refusal.Glyph n) c k h = cc
-tells_none (refusal.Part g p) c k h = cc
-tells_none (refusal.Subr i g) c k h = cc
-tells_none refusal.Limit c k h = cc
-tells_none refusal.Memory c k h = refl
-tells_none refusal.Empty c k h = absurd h
+tells_none e c k h = grind arith
 
 -- ---- two fonts
 
@@ -104,14 +97,8 @@ never_stops f fs j m e s =
 
 -- if A makes a refusal want of memory, it is want of memory or A does not hold
 or_memory : {A : Type 0} (e : Refusal) → (A → e ≡ refusal.Memory) → (e ≡ refusal.Memory) ⊎ ¬ A
-or_memory (refusal.Shell p) h = inr (λ a. let e = h a in cc)
-or_memory (refusal.Code n) h = inr (λ a. let e = h a in cc)
-or_memory (refusal.Glyph n) h = inr (λ a. let e = h a in cc)
-or_memory (refusal.Part g p) h = inr (λ a. let e = h a in cc)
-or_memory (refusal.Subr i g) h = inr (λ a. let e = h a in cc)
-or_memory refusal.Limit h = inr (λ a. let e = h a in cc)
 or_memory refusal.Memory h = inl refl
-or_memory refusal.Empty h = inr (λ a. let e = h a in cc)
+or_memory e h = inr (λ a. let k = h a in cc)
 
 -- fonts that merge are refused for want of memory alone
 refusal_is : (f : FontValue) (fs : List FontValue) (e : Refusal) (j : FontValue) → IsRefused (f ∷ fs) e → Merges profile (from_left (one f) fs) j → e ≡ refusal.Memory

@@ -1,6 +1,7 @@
 -- Merging fonts from left to right, by their states and callers.
 use Rattle.std.proofs.Common.{◌≡◌, ◌<◌, ◌≤◌, ◌+◌, ℕ, zero, suc, inl, inr, ◌⊎◌, Bool, true, false, cond, List, [], ◌∷◌, ◌++◌, map, length, take, take_all, drop, get_or, refl, sym, ◌∙◌, ap, subst, arith, Some, None, Result, Ok, Err, IfOk, IfErr, IsPermutation}
 use Rattle.std.proofs.lemmas.List.{length-map, map-append, take_more, take-append-drop}
+use Rattle.std.proofs.lemmas.Grind.{common_steps}
 use Rattle.std.proofs.lemmas.List.Sorted.{IsPermutation-refl}
 use Rattle.std.specs.List.{AllByRecursion}
 use Rattle.t1_font.specs.FontValue.{FontValue}
@@ -24,7 +25,6 @@ use Rattle.t1_algebra.specs.Merges.{ComesTo, EachGroupingMerges}
 use Rattle.t1_algebra.proofs.Conflicts.{no_conflict}
 use Rattle.t1_subset.proofs.state_tables.FontCallers.{CallersSoFar, first_callers, both_callers, more_callers}
 use Rattle.t1_algebra.proofs.FontStates.{join_exactly, states_join}
-use Rattle.t1_subset.proofs.closing.ClosureLists.{from_here}
 use Rattle.t1_algebra.proofs.Fonts.{font_within, joined_is_font}
 use Rattle.t1_join.proofs.OrderLemmas.{leaves_from_left}
 use Rattle.t1_algebra.proofs.ManyMerges.{left_snoc}
@@ -156,8 +156,10 @@ module _ (cs : List Callers) (h : AreNoted cs) (i : ℕ) (l : i < length cs) (c 
 
   -- if the next font doesn't join, the fonts are refused
   pub stops : (r : Refusal) → Tells r (conflict profile far.font c.font.now) → IsRefused (fonts_of cs) r
-  stops r told = stops_at (fonts_of (take i cs)) c.font.now (fonts_of (drop (i + 1) cs)) (fonts_of cs) far.font far.comes
-      (ap fonts_of (sym (take-append-drop i cs) ∙ ap (λ (ds : List Callers). take i cs ++ ds) (from_here cs i c l e)) ∙ map-append _ (take i cs) (c ∷ drop (i + 1) cs)) r told
+  stops r told =
+      let here : drop i cs ≡ c ∷ drop (i + 1) cs = grind (arith, common_steps) in
+      stops_at (fonts_of (take i cs)) c.font.now (fonts_of (drop (i + 1) cs)) (fonts_of cs) far.font far.comes
+      (ap fonts_of (sym (take-append-drop i cs) ∙ ap (λ (ds : List Callers). take i cs ++ ds) here) ∙ map-append _ (take i cs) (c ∷ drop (i + 1) cs)) r told
 
 -- if no font is left, each grouping of the fonts merges
 pub ends : (cs : List Callers) → AreNoted cs → (i : ℕ) → length cs ≤ i → (s : StatesValue) → JoinedSoFar (take i cs) s → EachGroupingMerges (fonts_of cs)

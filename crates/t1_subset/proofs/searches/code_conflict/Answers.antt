@@ -1,5 +1,5 @@
 use Rattle.std.proofs.Common.{◌≡◌, ◌<◌, ℕ, ◌∙◌, ap, Option, Some, None, SomeIff}
-use Rattle.t1_subset.proofs.state_tables.TableStates.{code_found, code_below}
+use Rattle.t1_subset.proofs.state_tables.Conflicts.{code_found, code_below}
 use Rattle.t1_subset.proofs.searches.code_conflict.Goals as goal
 
 is_held : (r : Option ℕ) (c : ℕ) → SomeIff r (c < 256) c → c < 256 → r ≡ Some c

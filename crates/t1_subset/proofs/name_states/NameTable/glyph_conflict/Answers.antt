@@ -6,7 +6,7 @@ use Rattle.t1_algebra.specs.Searches.{IsLowest}
 use Rattle.t1_algebra.specs.StateTables.{behind_mark}
 use Rattle.t1_algebra.specs.NameStates.{charstrings_differ, differs_from}
 use Rattle.t1_algebra.proofs.Sets.{name_same}
-use Rattle.t1_subset.proofs.state_tables.FirstConflicts.{there_of}
+use Rattle.t1_subset.proofs.state_tables.Conflicts.{there_of}
 use Rattle.t1_subset.proofs.state_tables.LowestKeys.{lowest_entry}
 use Rattle.t1_algebra.proofs.NameTables.{charstring_in, differs_at}
 use Rattle.t1_subset.proofs.name_states.NameTable.glyph_conflict.Goals as goal
