@@ -232,24 +232,13 @@ module _ (f g : FontValue) (s t : TableMeaning) (es : s ≡ name_states profile 
 
   -- ---- components
 
-  -- the smaller of two names is there if one of them is
-  smaller_there : (x y : Option (List ℕ)) → is_some (smaller name_cmp x y) ≡ (is_some x || is_some y)
-  smaller_there x y = grind arith
-
-  -- a component with a seeker is lacking in its font
-  seeks_not : (h : FontValue) (p : List ℕ) → is_some (seeker_of h p) ≡ (not (has h p) && is_some (seeker_of h p))
-  seeks_not h p = let is = sought_is h p in grind arith
-
-  lacks_so : (a b k l : Bool) → ((a || b) && ((not a && k) || (not b && l))) ≡ (((not a && k) && b) || ((not b && l) && a))
-  lacks_so a b k l = grind arith
-
   -- some glyph wants a component if the component has a seeker in one of the fonts
   wanted_so : (p : List ℕ) → list_any (wanted_by profile f g p) (members (glyph_names f g)) ≡ (is_some (seeker_of f p) || is_some (seeker_of g p))
-  wanted_so p = any_first (wanted_by profile f g p) (members (glyph_names f g)) ∙ ap is_some (sym (smallest_seeker f g p)) ∙ smaller_there (seeker_of f p) (seeker_of g p)
+  wanted_so p = any_first (wanted_by profile f g p) (members (glyph_names f g)) ∙ ap is_some (sym (smallest_seeker f g p)) ∙ grind arith
 
   -- one font seeks a name that the other has exactly if the component is in conflict
   lacking_so : (p : List ℕ) → one_lacks (maps.get s p) (maps.get t p) ≡ component_clashes profile f g p
-  lacking_so p = grind (arith, seeking_shown f s es p, seeking_shown g t et p, charstring_shown f s es p, charstring_shown g t et p, wanted_so p, seeks_not f p, seeks_not g p)
+  lacking_so p = grind (arith, seeking_shown f s es p, seeking_shown g t et p, charstring_shown f s es p, charstring_shown g t et p, wanted_so p, sought_is f p, sought_is g p)
 
   -- the lowest name that one seeks and the other has is the conflict of components
   pub component_found : (x : Option (List ℕ)) → IsLowest name_cmp (λ n. one_lacks (maps.get s n) (maps.get t n)) x → x ≡ component_conflict profile f g
@@ -290,18 +279,15 @@ module _ {O : Type 0} (m : Interpreter O) (f g : FontValue) (h : states_conflict
   joins j e is = (record { states = compatible m f g h; within = subst IsWithin (e ∙ sym entries) (font_within j is) }, e ∙ sym entries)
 
   too_much : IsOverLimits (join_parts f g) → IsWithin (join_parts f g) → ⊥
-  too_much (inl more) w = let few = w.glyphs in omega arith
-  too_much (inr more) w = let light = w.weight in omega arith
+  too_much more w = let few = w.glyphs in let light = w.weight in grind (arith, few, light)
 
-  over : (b : Bool) → is_within m f g ≡ b → (b ≡ true → ⊥) → ◌≡◌ {A = Option Conflict} (cond b None (Some OverLimit)) (Some OverLimit)
-  over true e k = absurd (k refl)
-  over false e k = refl
+  -- fonts without a conflict of states that are not within the limits are over them
+  pub over : (is_within m f g ≡ true → ⊥) → conflict m f g ≡ Some OverLimit
+  over k = grind (arith, h, k)
 
   -- a refusal of the entries of both tells the lowest conflict
   pub tells_parts : (e : PartsFault) → Refuses (join_parts f g) e → Tells (of_parts e) (conflict m f g)
-  tells_parts parts.Limit more =
-      ap (λ x. found (λ c. c) x (cond (is_within m f g) None (Some OverLimit))) h
-      ∙ over (is_within m f g) refl (λ b. too_much more (subst IsWithin entries (within_so m f g b)))
+  tells_parts parts.Limit more = over (λ b. too_much more (subst IsWithin entries (within_so m f g b)))
   tells_parts parts.Memory more = tt
 
 -- ---- conflicts in their order
@@ -338,20 +324,14 @@ module _ (f g : FontValue) where
   pub tells_entries : (e : Refusal) → Tells e (entries_conflict f g) → Tells e (states_conflict profile f g)
   tells_entries e t = tells_on e (entries_conflict f g) (states_conflict profile f g) in_states t
 
-  -- without a conflict of entries, a refusal that tells the lowest conflict of uses tells that of states
-  pub tells_uses : (e : Refusal) → entries_conflict f g ≡ None → Tells e (uses_conflict f g) → Tells e (states_conflict profile f g)
-  tells_uses e n t = subst (Tells e) (sym (last n)) t
-
   -- a refusal that tells the lowest conflict of states tells that of the fonts
   pub tells_states : (e : Refusal) → Tells e (states_conflict profile f g) → Tells e (conflict profile f g)
   tells_states e t = tells_on e (states_conflict profile f g) (conflict profile f g) (λ x h. ap (λ o. found (λ c. c) o (cond (is_within profile f g) None (Some OverLimit))) h) t
 
   -- if there is no conflict of entries, and an answer says that there is none of uses, it says so of states
   pub then_ok : {X : Type 0} (r : Result X Refusal) → entries_conflict f g ≡ None → IfOk r (λ x. uses_conflict f g ≡ None) → IfOk r (λ x. states_conflict profile f g ≡ None)
-  then_ok (Ok x) n h = last n ∙ h
-  then_ok (Err e) n h = tt
+  then_ok r n h = subst (λ c. IfOk r (λ x. c ≡ None)) (sym (last n)) h
 
   -- if there is no conflict of entries, a refusal that tells one of uses tells one of states
   pub then_err : {X : Type 0} (r : Result X Refusal) → entries_conflict f g ≡ None → IfErr r (λ e. Tells e (uses_conflict f g)) → IfErr r (λ e. Tells e (states_conflict profile f g))
-  then_err (Ok x) n h = tt
-  then_err (Err e) n h = tells_uses e n h
+  then_err r n h = subst (λ c. IfErr r (λ e. Tells e c)) (sym (last n)) h

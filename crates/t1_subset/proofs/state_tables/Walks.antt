@@ -23,6 +23,7 @@ use Rattle.t1_algebra.specs.Groupings.{Merges}
 use Rattle.t1_subset.specs.Merger.{IsRefused}
 use Rattle.t1_algebra.specs.Merges.{ComesTo, EachGroupingMerges}
 use Rattle.t1_algebra.proofs.Conflicts.{no_conflict}
+use Rattle.t1_subset.proofs.state_tables.Conflicts.{over}
 use Rattle.t1_subset.proofs.state_tables.FontCallers.{CallersSoFar, first_callers, both_callers, more_callers}
 use Rattle.t1_algebra.proofs.FontStates.{join_exactly, states_join}
 use Rattle.t1_algebra.proofs.Fonts.{font_within, joined_is_font}
@@ -41,20 +42,12 @@ joins_to s t z f g h j =
     let join = (join_exactly profile f g (font_within f h.own_font)).0 (z, k) in
     (join, states_laws.one_answer _ _ _ _ k (states_join profile f g join))
 
--- fonts that don't join and have no conflict of states are over the limits
-over : (f g : FontValue) → (Join profile f g → ⊥) → states_conflict profile f g ≡ None → conflict profile f g ≡ Some OverLimit
-over f g apart free = found_last (is_within profile f g) refl
-  where
-    found_last : (b : Bool) → is_within profile f g ≡ b → conflict profile f g ≡ Some OverLimit
-    found_last true e = absurd (apart ((no_conflict profile f g).0 (λ i. found (λ c. c) (free i) (cond (e i) None (Some OverLimit)))))
-    found_last false e = λ i. found (λ c. c) (free i) (cond (e i) None (Some OverLimit))
-
 -- if states without a conflict are refused, the limits are told, or memory is wanting
 pub tells_limit : (s t : StatesValue) (f g : FontValue) → AreStatesOf s t f g → states_conflict profile f g ≡ None → (e : Refusal) → (e ≡ refusal.Memory) ⊎ ((e ≡ refusal.Limit) × ¬ StatesAgree s t) → Tells e (conflict profile f g)
 tells_limit s t f g h free e (inl m) = subst (λ (e : Refusal). Tells e (conflict profile f g)) (sym m) tt
 tells_limit s t f g h free e (inr l) =
     let apart : Join profile f g → ⊥ = λ j. l.1 (subst (λ (s : StatesValue). StatesAgree s t) (sym h.own) (subst (λ (t : StatesValue). StatesAgree (states_of profile f) t) (sym h.other) ((join_exactly profile f g (font_within f h.own_font)).1 j))) in
-    subst (λ (e : Refusal). Tells e (conflict profile f g)) (sym l.0) (over f g apart free)
+    subst (λ (e : Refusal). Tells e (conflict profile f g)) (sym l.0) (over profile f g free (λ within. apart ((no_conflict profile f g).0 (λ i. found (λ c. c) (free i) (cond (within i) None (Some OverLimit))))))
 
 -- ---- from left to right
 
