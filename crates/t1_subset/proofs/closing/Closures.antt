@@ -1,5 +1,5 @@
 -- The names of a closure: a list to which names are added at the end, until it is closed; and the cut of a font to it.
-use Rattle.std.proofs.Common.{◌≡◌, ℕ, ◌+◌, ◌<◌, ◌≤◌, Bool, true, false, List, [], ◌∷◌, ◌++◌, refl, sym, ◌∙◌, ap, ◌⊎◌, inl, inr, length, take, cond, arith, length-append, true≢false, suc, drop, get_or, drop-cons, add-one, ◌||◌, Some, None, slice_get, zero, not, subst, take_all, filter, is_some, nat_cmp, append_assoc}
+use Rattle.std.proofs.Common.{◌≡◌, ℕ, ◌+◌, ◌<◌, ◌≤◌, Bool, true, false, List, [], ◌∷◌, ◌++◌, refl, sym, ◌∙◌, ap, ◌⊎◌, inl, inr, length, take, cond, arith, length-append, true≢false, get_or, ◌||◌, Some, None, slice_get, not, subst, take_all, filter, is_some, nat_cmp, append_assoc}
 use Rattle.std.specs.List.{list_any, IsDistinct}
 use Rattle.std.proofs.lemmas.Map.Keys.{IsDistinct-push}
 use Rattle.std.proofs.lemmas.List.{take-append-le, map-append, append-nil}

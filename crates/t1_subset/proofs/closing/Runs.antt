@@ -1,5 +1,5 @@
 -- What the runs of charstrings in code name and execute is what they do by the interpreter of the laws.
-use Rattle.std.proofs.Common.{◌≡◌, ℕ, List, [], sym, ap, ◌∙◌, Some, None, unwrap_or, true, not, flat_map, refl, true≢false, Option, is_some}
+use Rattle.std.proofs.Common.{◌≡◌, ℕ, List, [], sym, ap, ◌∙◌, Some, None, unwrap_or, flat_map}
 use Rattle.std.specs.FinMap as maps
 use Rattle.t1_run.specs.Run.{Subrs, direct, direct3, exec}
 use Rattle.t1_font.specs.FontValue.{FontValue}
@@ -10,8 +10,6 @@ use Rattle.t1_algebra.specs.Keep.{components, charstring}
 use Rattle.t1_algebra.specs.Profile.{profile, names_of_both, set_of}
 use Rattle.std.specs.FinSet as sets
 use Rattle.t1_algebra.specs.Interpreter.{Numbers}
-use Rattle.t1_algebra.specs.States.{state_of_entry, subr_state}
-use Rattle.t1_algebra.specs.Conflicts.{agrees, subr_clashes}
 
 -- ---- components
 

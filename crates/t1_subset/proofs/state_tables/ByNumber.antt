@@ -1,9 +1,7 @@
 -- Tables that are filled by number, from 0 on.
 use Rattle.std.proofs.lemmas.Bool.Decides.{nat_tests}
-use Rattle.std.proofs.Common.{◌≡◌, ℕ, ◌<◌, ◌≤◌, ◌+◌, Bool, true, false, cond, List, refl, sym, ◌∙◌, ap, subst, true≢false, Option, Some, None, is_some, nat_cmp, nat_lt, arith, inl, inr}
-use Rattle.std.proofs.lemmas.Bool.{ltb-true, ltb-false}
-use Rattle.std.specs.Ordering.{eq_by_cmp}
-use Rattle.std.specs.Cmp.{nat_cmp_total, both_ways}
+use Rattle.std.proofs.Common.{◌≡◌, ℕ, ◌<◌, ◌≤◌, ◌+◌, Bool, true, cond, List, refl, sym, ◌∙◌, ap, Option, Some, None, is_some, nat_cmp, nat_lt, arith}
+use Rattle.std.specs.Cmp.{nat_cmp_total}
 use Rattle.std.specs.FinMap as maps
 use Rattle.std.specs.FinSet.{nat_cmp-IsAntisymmetric}
 use Rattle.t1_join.specs.Meaning.{of_number}
@@ -15,7 +13,6 @@ use Rattle.t1_algebra.specs.StateTables.{numbered, code_states}
 use Rattle.t1_subset.specs.Differences.{with_state, entry_state}
 use Rattle.t1_algebra.proofs.Maps.{maps_same}
 use Rattle.t1_algebra.proofs.Numbered.{get-numbered, numbered-empty, numbered-insert}
-use Rattle.t1_algebra.proofs.Sets.{is_or_not, not_so, tied, itself}
 
 -- the table has what x gives for the numbers below n, and nothing else
 pub record HasBelow (t : TableMeaning) (x : ℕ → Option (List ℕ)) (n : ℕ) : Type 0 where

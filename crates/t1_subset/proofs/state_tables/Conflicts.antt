@@ -1,21 +1,19 @@
 -- The lowest conflict of two fonts, as the code finds it in their states.
-use Rattle.std.proofs.Common.{◌≡◌, ℕ, ◌≤◌, true, not, cond, List, refl, sym, ◌∙◌, ap, true≢false, Option, Some, None, is_some, inl, inr, arith, nat_lt, [], flat_map, unwrap_or, MatchOption, ◌<◌, false, ◌||◌, ◌∷◌, nat_cmp, Bool, ◌&&◌, subst, option_map, is_lt, Result, Ok, Err, IfOk, IfErr}
+use Rattle.std.proofs.Common.{◌≡◌, ℕ, ◌≤◌, true, not, cond, List, refl, sym, ◌∙◌, ap, true≢false, Option, Some, None, is_some, inl, inr, arith, nat_lt, [], unwrap_or, MatchOption, ◌<◌, false, ◌||◌, nat_cmp, ◌&&◌, subst, option_map, Result, IfOk, IfErr}
 use Rattle.std.proofs.lemmas.Bool.{ltb-true, ltb-false}
 use Rattle.std.specs.Cmp.{nat_cmp_total, first_so}
 use Rattle.std.specs.FinSet.{nat_cmp-IsAntisymmetric}
 use Rattle.std.specs.FinMap as maps
-use Rattle.t1_font.specs.FontValue.{FontValue, Encoding, Word, Codes, declared_count, Named, name_cmp}
-use Rattle.t1_font.specs.FontModel.{name_at, subr_at, names_in}
+use Rattle.t1_font.specs.FontValue.{FontValue, Encoding, Word, Codes, name_cmp}
+use Rattle.t1_font.specs.FontModel.{name_at}
 use Rattle.t1_font.specs.IsFont.{IsFont, IsEncoding}
 use Rattle.t1_algebra.specs.Conflicts.{agrees, codes_of_both, subr_clashes, ShellDiffers, CodeDiffers, GlyphDiffers, LacksComponent, SubrDiffers, keys_of_both, shell_conflict, code_conflict, glyph_conflict, component_conflict, subr_conflict, wanted_by, used_by, glyph_names, code_clashes, glyph_clashes, component_clashes, Conflict, OverLimit, states_conflict, conflict, is_within}
 use Rattle.t1_algebra.specs.States.{code_state, state_of_entry, subr_state, is_sought, name_state, state_of_glyph, IsWithin, Join, joined_font}
 use Rattle.t1_algebra.proofs.Searching.{in_both, first_passes, found_none}
-use Rattle.t1_algebra.proofs.Sets.{is_or_not, or_left, not_so, name_same, tied, later}
-use Rattle.std.specs.FinSet as sets
-use Rattle.t1_run.specs.Run.{exec}
-use Rattle.t1_algebra.specs.Interpreter.{Numbers, same_bytes, Interpreter}
-use Rattle.t1_algebra.specs.Keep.{charstring, has}
-use Rattle.t1_algebra.specs.Profile.{profile, set_of}
+use Rattle.t1_algebra.proofs.Sets.{is_or_not, or_left, not_so, name_same}
+use Rattle.t1_algebra.specs.Interpreter.{Interpreter}
+use Rattle.t1_algebra.specs.Keep.{has}
+use Rattle.t1_algebra.specs.Profile.{profile}
 use Rattle.t1_join.specs.TableMeaning.{TableMeaning, TablesAgree, IsFirstConflict}
 use Rattle.t1_algebra.specs.StateTables.{StatesValue, code_states, name_states, used_subrs, numbered, states_of, behind_mark, names_table, name_meaning}
 use Rattle.t1_algebra.specs.Shared.{Shared, shared_of, differing_part, ShellPart}
@@ -30,7 +28,6 @@ use Rattle.t1_algebra.proofs.FontStates.{get-used, meant, get-names}
 use Rattle.t1_algebra.proofs.NameTables.{meanings_as_bytes, get-name}
 use Rattle.t1_subset.proofs.state_tables.LowestKeys.{lowest_is}
 use Rattle.t1_join.specs.TableLaws.{same_table}
-use Rattle.t1_subset.specs.Differences.{smaller, shell_part, bytes_of}
 use Rattle.t1_subset.specs.Callers.{seeker_of}
 use Rattle.t1_algebra.specs.NameStates.{is_sought_in, charstrings_differ, one_lacks}
 use Rattle.t1_subset.proofs.state_tables.FontCallers.{any_first, sought_is, smallest_seeker}
@@ -40,7 +37,6 @@ use Rattle.t1_font.specs.declared.parts.PartsFault.{PartsFault}
 use Rattle.t1_font.specs.declared.parts.PartsFault.TheVariants as parts
 use Rattle.std.specs.Option.{option_map}
 use Rattle.t1_subset.specs.declared.conflict.Conflict.{Conflict as Refusal}
-use Rattle.t1_subset.specs.declared.conflict.Conflict.TheVariants as refusal
 use Rattle.t1_subset.specs.Refusals.{Tells, of_parts}
 use Rattle.t1_algebra.proofs.Conflicts.{compatible, within_so}
 use Rattle.t1_algebra.proofs.Fonts.{font_within}

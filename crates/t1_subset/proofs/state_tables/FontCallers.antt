@@ -1,11 +1,10 @@
 -- The smallest glyphs that execute a Subr or seek a component, as the code notes them, and in a join.
-use Rattle.std.proofs.Common.{arith, ◌≡◌, ℕ, Bool, true, false, not, cond, ◌&&◌, ◌||◌, List, [], ◌∷◌, ◌++◌, map, refl, sym, ◌∙◌, ap, Option, Some, None, is_some, unwrap_or, true≢false}
+use Rattle.std.proofs.Common.{arith, ◌≡◌, ℕ, Bool, true, false, not, cond, ◌&&◌, ◌||◌, List, [], ◌∷◌, ◌++◌, map, refl, sym, ◌∙◌, ap, Option, Some, None, is_some, true≢false}
 use Rattle.std.specs.List.{list_any}
 use Rattle.std.specs.Cmp.{nat_cmp_total}
 use Rattle.std.specs.Cmp.Lexicographic.{nat_list_cmp_total}
 use Rattle.std.specs.FinMap as maps
 use Rattle.std.specs.FinSet as sets
-use Rattle.t1_join.specs.TableMeaning.{TableMeaning}
 use Rattle.t1_font.specs.Maps.{merged}
 use Rattle.t1_font.specs.FontValue.{FontValue, Named, name_cmp}
 use Rattle.t1_font.specs.FontModel.{names_in}
@@ -86,19 +85,11 @@ nothing_noted f users seekers = record {
 module _ (f : FontValue) where
   -- what a glyph's run executes is what the glyph executes
   pub executes_so : (n : List ℕ) (i : ℕ) → sets.contains (calls_by f n) i ≡ executes profile f n i
-  executes_so n i = at (maps.get f.glyphs n) refl
-    where
-      at : (x : Option (List ℕ)) → maps.get f.glyphs n ≡ x → sets.contains (calls_by f n) i ≡ executed_at profile f i x
-      at None e = ap (λ s. sets.contains s i) (sym (no_calls f n e)) ∙ sets.contains-from_list nat_cmp_total [] i
-      at (Some c) e = ap (λ x. sets.contains (profile.exec f.subrs (unwrap_or x [])) i) e
+  executes_so n i = let none = no_calls f n in let nothing = sets.contains-from_list nat_cmp_total [] i in grind (arith, none, nothing)
 
   -- what a glyph's run names is what the glyph calls for
   pub calls_so : (n p : List ℕ) → list_any (same_bytes p) (components profile f.subrs (charstring f n)) ≡ calls_for profile f n p
-  calls_so n p = at (maps.get f.glyphs n) refl
-    where
-      at : (x : Option (List ℕ)) → maps.get f.glyphs n ≡ x → list_any (same_bytes p) (components profile f.subrs (charstring f n)) ≡ called_at profile f p x
-      at None e = ap (list_any (same_bytes p)) (sym (no_components f n e))
-      at (Some c) e = ap (λ x. list_any (same_bytes p) (components profile f.subrs (unwrap_or x []))) e
+  calls_so n p = let none = no_components f n in grind (arith, none)
 
   -- an index is called if it has a user
   pub called_is : (i : ℕ) → is_called profile f i ≡ is_some (user_of f i)
@@ -137,11 +128,7 @@ module _ (f g : FontValue) (c : Compatible profile f g) where
 
   -- a component that one of two fonts has is not sought by the other
   unsought : (b : Bool) (v : List ℕ) → Agree {V = Option (List ℕ)} (cond b (Some None) None) (Some (Some v)) → b ≡ false
-  unsought true v h = absurd (none_some h)
-    where
-      none_some : ◌≡◌ {A = Option (List ℕ)} None (Some v) → ⊥
-      none_some e = cc
-  unsought false v h = refl
+  unsought b v h = grind arith
 
   sought_by : (h : FontValue) (p n : List ℕ) → is_sought profile h p ≡ false → calls_for profile h n p ≡ false
   sought_by h p n s = not_so (calls_for profile h n p) (λ k. clash (is_sought profile h p) (sought profile h p n k) s)

@@ -1,18 +1,11 @@
 -- The users of a font's Subrs, as the code notes them.
 use Rattle.std.proofs.lemmas.Bool.Decides.{nat_tests}
-use Rattle.std.proofs.Common.{◌≡◌, ◌<◌, ℕ, Bool, true, false, cond, ◌||◌, List, refl, sym, ◌∙◌, ap, true≢false, Option, Some, None, is_some, nat_lt, inl, inr, ◌≤◌, not, arith}
-use Rattle.std.proofs.lemmas.Bool.{ltb-true, ltb-false}
+use Rattle.std.proofs.Common.{◌≡◌, ◌<◌, ℕ, Bool, true, cond, ◌||◌, List, Option, Some, None, ◌≤◌, arith}
 use Rattle.std.specs.FinMap as maps
-use Rattle.t1_font.specs.FontValue.{FontValue, declared_count, Encoding, Word, Codes}
-use Rattle.t1_font.specs.IsFont.{IsFont, IsEncoding}
-use Rattle.t1_algebra.specs.States.{joined, code_state}
-use Rattle.t1_algebra.proofs.Sets.{is_or_not, or_left}
-use Rattle.std.specs.Cmp.{nat_cmp_total}
-use Rattle.std.specs.FinSet.{nat_cmp-IsAntisymmetric}
-use Rattle.t1_font.specs.FontModel.{name_at}
+use Rattle.t1_font.specs.FontValue.{FontValue, declared_count}
+use Rattle.t1_font.specs.IsFont.{IsFont}
+use Rattle.t1_algebra.specs.States.{joined}
 use Rattle.t1_font.proofs.FontReaders.{subrs_seen}
-use Rattle.t1_algebra.specs.Conflicts.{agrees, codes_of_both}
-use Rattle.t1_algebra.proofs.Searching.{in_both}
 
 -- a font has no Subr at its declared count or above it
 pub absent_beyond : (f : FontValue) → IsFont f → (q : ℕ) → declared_count f.shell.subrs ≤ q → maps.get f.subrs q ≡ None

@@ -1,5 +1,5 @@
 -- The lowest key that passes a test, as a search of a map finds it, and the lower of two.
-use Rattle.std.proofs.Common.{arith, ◌≡◌, ℕ, Bool, true, false, cond, ◌||◌, List, [], ◌∷◌, map, option_map, refl, sym, ◌∙◌, ap, subst, true≢false, inl, inr, Option, Some, None, Ordering, Less, Equal, Greater, is_lt}
+use Rattle.std.proofs.Common.{arith, ◌≡◌, ℕ, Bool, true, false, cond, ◌||◌, List, [], ◌∷◌, map, option_map, refl, sym, ◌∙◌, ap, true≢false, inl, inr, Option, Some, None, Ordering, Less, Equal, Greater, is_lt}
 use Rattle.std.specs.List.{list_any, AllByRecursion}
 use Rattle.std.specs.Ordering.{eq_by_cmp, ordering_reverse}
 use Rattle.std.specs.Cmp.{IsTotalOrder, first_so, second_so}
@@ -13,7 +13,7 @@ use Rattle.t1_subset.specs.Differences.{smaller}
 use Rattle.t1_algebra.proofs.Searching.{in_both, passes_none, none_at_all, first_passes}
 use Rattle.t1_algebra.proofs.Maps.{less_of}
 use Rattle.t1_algebra.proofs.Smallest.{smallest_is, below_later}
-use Rattle.t1_algebra.proofs.Sets.{or_cases, or_left, or_right, here, later, itself, tied, not_so}
+use Rattle.t1_algebra.proofs.Sets.{or_cases, or_left, or_right, tied, not_so}
 
 module _ {K : Type 0} {R : K → K → Ordering} (o : IsTotalOrder R) (same : IsAntisymmetric R) where
   -- no key is both below and above another
@@ -54,8 +54,8 @@ module _ {K : Type 0} {R : K → K → Ordering} (o : IsTotalOrder R) (same : Is
       }
 
       -- the same, of the first of its entries
-      pub lowest_entry : (P : K × X → Bool) → AllByRecursion (λ e. P e ≡ p e.0) (maps.entries m) → IsLowest R p (option_map (λ e. e.0) (first_where P (maps.entries m)))
-      lowest_entry P h = subst (IsLowest R p) (sym (first_keys P (maps.entries m) h)) (lowest_key (first_where p (maps.keys m)) refl)
+      pub lowest_entry : (P : K × X → Bool) → AllByRecursion (λ e. P e ≡ p e.0) (maps.entries m) → (x : Option K) → x ≡ option_map (λ e. e.0) (first_where P (maps.entries m)) → IsLowest R p x
+      lowest_entry P h x is = lowest_key x (sym (is ∙ first_keys P (maps.entries m) h))
 
     -- the lowest key that passes is the smallest of a set that has all that pass
     pub lowest_is : (s : maps.FinMap R ℕ) → ((k : K) → p k ≡ true → maps.contains_key s k ≡ true) → (x : Option K) → IsLowest R p x → x ≡ smallest p s

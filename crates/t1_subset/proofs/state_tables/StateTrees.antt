@@ -7,7 +7,7 @@ use Rattle.t1_join.proofs.OrderLemmas.{each_leaf, leaves_mapped, leaves_from_lef
 use Rattle.t1_font.specs.declared.parts.PartsFault.{PartsFault}
 use Rattle.t1_font.specs.declared.parts.PartsFault.TheVariants as parts
 use Rattle.t1_subset.specs.Refusals.{of_parts}
-use Rattle.t1_font.specs.FontValue.{FontValue, Encoding, Word, Codes}
+use Rattle.t1_font.specs.FontValue.{FontValue, Encoding}
 use Rattle.t1_font.specs.IsFont.{IsFont}
 use Rattle.t1_font.specs.Joins.{join_encodings, join_parts, join_all_parts, HaveOneGlyph, Refuses}
 use Rattle.t1_font.specs.Maps.{IsPartOf}

@@ -1,6 +1,6 @@
 -- Merging fonts from left to right, by their states and callers.
-use Rattle.std.proofs.Common.{◌≡◌, ◌<◌, ◌≤◌, ◌+◌, ℕ, zero, suc, inl, inr, ◌⊎◌, Bool, true, false, cond, List, [], ◌∷◌, ◌++◌, map, length, take, take_all, drop, get_or, refl, sym, ◌∙◌, ap, subst, arith, Some, None, Result, Ok, Err, IfOk, IfErr, IsPermutation}
-use Rattle.std.proofs.lemmas.List.{length-map, map-append, take_more, take-append-drop}
+use Rattle.std.proofs.Common.{◌≡◌, ◌<◌, ◌≤◌, ◌+◌, ℕ, zero, suc, inl, inr, ◌⊎◌, cond, List, [], ◌∷◌, ◌++◌, map, length, take, take_all, drop, get_or, refl, sym, ◌∙◌, ap, subst, arith, Some, None, Result, Ok, Err, IfOk, IfErr, IsPermutation}
+use Rattle.std.proofs.lemmas.List.{get_or-map, length-map, map-append, take_more, take-append-drop}
 use Rattle.std.proofs.lemmas.Grind.{common_steps}
 use Rattle.std.proofs.lemmas.List.Sorted.{IsPermutation-refl}
 use Rattle.std.specs.List.{AllByRecursion}
@@ -13,7 +13,7 @@ use Rattle.t1_algebra.specs.Profile.{profile}
 use Rattle.t1_algebra.specs.States.{Join, joined_font, IsWithin}
 use Rattle.t1_algebra.specs.StateTables.{StatesValue, StatesAgree, StatesJoin, states_of}
 use Rattle.t1_algebra.specs.StateLaws.{states_laws}
-use Rattle.t1_algebra.specs.Conflicts.{OverLimit, is_within, states_conflict, conflict}
+use Rattle.t1_algebra.specs.Conflicts.{OverLimit, states_conflict, conflict}
 use Rattle.t1_algebra.specs.Searches.{found}
 use Rattle.t1_subset.specs.Refusals.{Tells}
 use Rattle.t1_subset.specs.Callers.{AreCallersOf, AreNoted, fonts_of}
@@ -99,18 +99,17 @@ noted_at cs h i l c e = subst (λ (d : Callers). IsFont d.font.now × AreCallers
 
 -- the states of the font at each place
 pub states_at : (cs : List Callers) (ss : List StatesValue) → ss ≡ map (states_of profile) (fonts_of cs) → (i : ℕ) (c : Callers) (s : StatesValue) → i < length cs → c ≡ get_or cs i c → s ≡ get_or ss i s → s ≡ states_of profile c.font.now
-states_at cs ss is i c s l e k = k ∙ ap (λ ss. get_or ss i s) is ∙ at cs i l ∙ ap (λ (d : Callers). states_of profile d.font.now) (sym e)
-  where
-    at : (cs : List Callers) (i : ℕ) → i < length cs → get_or (map (states_of profile) (fonts_of cs)) i s ≡ states_of profile (get_or cs i c).font.now
-    at [] i l = absurd (omega (arith, l))
-    at (d ∷ cs) zero l = refl
-    at (d ∷ cs) (suc i) l = at cs i (omega (arith, l))
+states_at cs ss is i c s l e k =
+    let fonts = length-map cs (λ (c : Callers). c.font.now) in
+    k
+    ∙ ap (λ ss. get_or ss i s) is
+    ∙ get_or-map (states_of profile) (fonts_of cs) i c.font.now s (omega (arith, fonts, l))
+    ∙ ap (states_of profile) (get_or-map (λ (d : Callers). d.font.now) cs i c c.font.now l ∙ ap (λ (d : Callers). d.font.now) (sym e))
 
 -- the element at a place of a list
 pub nth : {X : Type 0} (xs : List X) (i : ℕ) → i < length xs → (x : X) × ((d : X) → x ≡ get_or xs i d)
 nth [] i l = absurd (omega (arith, l))
-nth (x ∷ xs) zero l = (x, λ d. refl)
-nth (x ∷ xs) (suc i) l = nth xs i (omega (arith, l))
+nth (x ∷ xs) i l = (get_or (x ∷ xs) i x, λ d. grind (arith, common_steps))
 
 -- the first font comes to itself, and its states joined with themselves are its states
 pub starts : (cs : List Callers) → AreNoted cs → 0 < length cs → (ss : List StatesValue) → ss ≡ map (states_of profile) (fonts_of cs) → (t s : StatesValue) → t ≡ get_or ss 0 t → StatesJoin t t s → JoinedSoFar (take 1 cs) s

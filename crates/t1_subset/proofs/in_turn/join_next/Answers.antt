@@ -1,5 +1,5 @@
 use Rattle.std.proofs.Common.{sym, ◌∙◌}
-use Rattle.t1_subset.proofs.state_tables.Conflicts.{tells_shell, tells_states, parts_seen, shared_seen}
+use Rattle.t1_subset.proofs.state_tables.Conflicts.{parts_seen, shared_seen}
 use Rattle.t1_subset.proofs.state_tables.Walks.{joined_ok, joined_err}
 use Rattle.t1_subset.proofs.in_turn.join_next.Goals as goal
 

@@ -1,5 +1,4 @@
-use Rattle.t1_subset.proofs.Answered.{of_subsets, draws_both}
-use Rattle.t1_subset.proofs.Answered.{other_order, itself}
+use Rattle.t1_subset.proofs.Answered.{of_subsets}
 use Rattle.t1_subset.proofs.merger.merge.Goals as goal
 
 pub returns-clause-subsets : goal.returns-clause-subsets

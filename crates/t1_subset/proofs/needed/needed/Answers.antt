@@ -1,12 +1,12 @@
 use Rattle.std.proofs.Common.{◌≡◌, ℕ, ◌+◌, take, List, [], Bor, map, filter, sym, ◌∙◌, ap, subst, refl, arith, nat_cmp}
 use Rattle.std.specs.FinSet as sets
 use Rattle.t1_font.specs.FontValue.{notdef}
-use Rattle.t1_algebra.specs.Keep.{has, charstring, components, keep}
+use Rattle.t1_algebra.specs.Keep.{has, charstring, components}
 use Rattle.t1_algebra.specs.Profile.{profile, set_of}
 use Rattle.t1_subset.specs.ClosureNames.{push_new, push_all}
 use Rattle.t1_subset.specs.NameSets.{lent, asked}
-use Rattle.t1_subset.proofs.closing.Closures.{ClosureSoFar, closure_start, closure_step, closure_end, closure_few, all_front, got, past}
-use Rattle.t1_subset.proofs.closing.NumberSets.{calls_to, calls_step, calls_end}
+use Rattle.t1_subset.proofs.closing.Closures.{ClosureSoFar, closure_start, closure_step, closure_few, all_front, got}
+use Rattle.t1_subset.proofs.closing.NumberSets.{calls_to, calls_step}
 use Rattle.t1_subset.proofs.needed.needed.Goals as goal
 
 pub closure-init : goal.closure-init

@@ -1,6 +1,6 @@
 use Rattle.std.proofs.Common.{sym, subst, Some, None}
 use Rattle.t1_subset.specs.Refusals.{Tells}
-use Rattle.t1_subset.proofs.state_tables.Conflicts.{codes_seen, names_seen, entries_code, entries_glyph, glyph_found}
+use Rattle.t1_subset.proofs.state_tables.Conflicts.{codes_seen, names_seen, entries_glyph, glyph_found}
 use Rattle.t1_subset.proofs.searches.entries_conflict.Goals as goal
 
 pub returns-in-Some-glyph_conflict-clause-err : goal.returns-in-Some-glyph_conflict-clause-err

@@ -1,4 +1,4 @@
-use Rattle.std.proofs.Common.{◌≡◌, refl, ◌∙◌, ap, sym, arith, ℕ, List, Bor, Option, Some, None, is_some, option_map}
+use Rattle.std.proofs.Common.{◌≡◌, ◌∙◌, ap, sym, arith, ℕ, List, Bor, Option, is_some, option_map}
 use Rattle.t1_algebra.specs.Profile.{profile}
 use Rattle.t1_algebra.specs.States.{subr_state, state_of_entry}
 use Rattle.t1_algebra.specs.StateTables.{used_subrs}
@@ -10,8 +10,7 @@ use Rattle.t1_subset.proofs.tables.subr_table.Goals as goal
 
 -- what is lent is there where it is
 some_lent : (o : Option (Bor (List ℕ))) → is_some o ≡ is_some (option_map (λ (s : Bor (List ℕ)). s.now) o)
-some_lent None = refl
-some_lent (Some s) = refl
+some_lent o = grind arith
 
 pub indices-init : goal.indices-init
 indices-init c = has_none _ (subr_state profile c.args.font.now) c.new-table.ensures

@@ -2,7 +2,6 @@ use Rattle.std.proofs.Common.{◌∙◌, ap}
 use Rattle.t1_font.specs.FontValue.{Named}
 use Rattle.t1_algebra.specs.StateTables.{names_table}
 use Rattle.t1_subset.proofs.state_tables.Conflicts.{names_made}
-use Rattle.t1_algebra.proofs.NameTables.{only_sought}
 use Rattle.t1_subset.proofs.name_states.NameTable.of.Goals as goal
 
 pub returns : goal.returns
