@@ -1,44 +1,33 @@
 -- What the calls that merge answer.
-use Rattle.std.proofs.Common.{◌≡◌, inl, inr, List, [], ◌∷◌, ◌++◌, map, refl, sym, ◌∙◌, ap, subst, Option, None, Result, Ok, Err, IfOk, IfErr, IsPermutation, ◌<◌, ℕ, nat_eq, Bool, true, ◌⊎◌, length, arith, is_some}
+use Rattle.std.proofs.Common.{◌≡◌, inl, inr, List, [], ◌∷◌, map, refl, sym, ◌∙◌, ap, subst, Option, None, Result, Ok, Err, IfOk, IfErr, IsPermutation, nat_eq, Bool, true, ◌⊎◌, length, arith}
 use Rattle.std.specs.List.{AllByRecursion}
-use Rattle.std.specs.FinSet as sets
-use Rattle.std.specs.Cmp.Lexicographic.{nat_list_cmp_total}
-use Rattle.std.proofs.lemmas.List.Sorted.{IsPermutation-refl, IsPermutation-sym, length_permutation}
-use Rattle.t1_join.proofs.OrderLemmas.{leaves_from_left, all_of_both, each_leaf, same_leaves}
-use Rattle.t1_font.specs.FontValue.{FontValue, name_cmp}
+use Rattle.std.proofs.lemmas.List.Sorted.{IsPermutation-sym}
+use Rattle.t1_join.proofs.OrderLemmas.{leaves_from_left, same_leaves}
+use Rattle.t1_font.specs.FontValue.{FontValue}
 use Rattle.t1_font.specs.IsFont.{IsFont}
 use Rattle.t1_subset.specs.declared.conflict.Conflict.{Conflict as Refusal}
 use Rattle.t1_subset.specs.declared.conflict.Conflict.TheVariants as refusal
 use Rattle.t1_algebra.specs.Interpreter.{Names}
-use Rattle.t1_algebra.specs.Keep.{subset, has}
+use Rattle.t1_algebra.specs.Keep.{subset}
 use Rattle.t1_algebra.specs.Profile.{profile}
 use Rattle.t1_algebra.specs.Laws.{IsOf, DrawsAlike}
 use Rattle.t1_algebra.specs.States.{Join, joined_font, IsWithin}
 use Rattle.t1_algebra.specs.Conflicts.{Conflict, conflict}
 use Rattle.t1_subset.specs.Refusals.{Tells}
-use Rattle.t1_join.specs.Groupings.{Grouping, one, two, EachLeaf, map_grouping, from_left, leaves}
+use Rattle.t1_join.specs.Groupings.{Grouping, one, two, from_left, leaves}
 use Rattle.t1_algebra.specs.Groupings.{Merges, union_all, folded}
 use Rattle.t1_subset.specs.Merger.{StopsAt, IsRefused, MergesSubsets, MergesAllSubsets, IsMerger, MergesItself, AcceptsAllJoin, MergesInAnyOrder}
 use Rattle.t1_algebra.specs.Merges.{DrawsBoth, ComesTo, DrawsAll, MergesToNone}
 use Rattle.t1_algebra.proofs.Alike.{left_alike, right_alike}
 use Rattle.t1_algebra.proofs.Conflicts.{no_conflict, conflict_back}
-use Rattle.t1_algebra.proofs.Fonts.{two_subsets, many_subsets, font_within, fonts_within, any_order_of_fonts}
+use Rattle.t1_algebra.proofs.Fonts.{two_subsets, font_within, fonts_within, any_order_of_fonts}
 use Rattle.t1_algebra.proofs.Orders.{one_result, any_order, join_self, join_back, accepted_from_pairs, pairs_from_accepted, folded_is, within}
-use Rattle.t1_algebra.proofs.Sets.{in_union, clash, name_same}
 use Rattle.std.proofs.lemmas.Bool.{eqb-true}
-use Rattle.std.proofs.lemmas.List.{length-append}
-use Rattle.t1_algebra.proofs.ManyMerges.{left_append, inner, no_tree, each_font, CutAt, cut_at, all_before, all_of_font, one_subset, all_draw}
+use Rattle.t1_algebra.proofs.ManyMerges.{left_append, inner, no_tree, each_font, cut_at, all_before, all_of_font, one_subset, all_draw}
 
 -- if there is no conflict, a refusal tells want of memory
 pub tells_none : (e : Refusal) (c : Option Conflict) → c ≡ None → Tells e c → e ≡ refusal.Memory
-tells_none (refusal.Shell p) c k h = cc
-tells_none (refusal.Code n) c k h = cc
-tells_none (refusal.Glyph n) c k h = cc
-tells_none (refusal.Part g p) c k h = cc
-tells_none (refusal.Subr i g) c k h = cc
-tells_none refusal.Limit c k h = cc
-tells_none refusal.Memory c k h = refl
-tells_none refusal.Empty c k h = absurd h
+tells_none e c k h = grind arith
 
 -- ---- two fonts
 
@@ -104,14 +93,8 @@ never_stops f fs j m e s =
 
 -- if A makes a refusal want of memory, it is want of memory or A does not hold
 or_memory : {A : Type 0} (e : Refusal) → (A → e ≡ refusal.Memory) → (e ≡ refusal.Memory) ⊎ ¬ A
-or_memory (refusal.Shell p) h = inr (λ a. let e = h a in cc)
-or_memory (refusal.Code n) h = inr (λ a. let e = h a in cc)
-or_memory (refusal.Glyph n) h = inr (λ a. let e = h a in cc)
-or_memory (refusal.Part g p) h = inr (λ a. let e = h a in cc)
-or_memory (refusal.Subr i g) h = inr (λ a. let e = h a in cc)
-or_memory refusal.Limit h = inr (λ a. let e = h a in cc)
 or_memory refusal.Memory h = inl refl
-or_memory refusal.Empty h = inr (λ a. let e = h a in cc)
+or_memory e h = inr (λ a. let k = h a in cc)
 
 -- fonts that merge are refused for want of memory alone
 refusal_is : (f : FontValue) (fs : List FontValue) (e : Refusal) (j : FontValue) → IsRefused (f ∷ fs) e → Merges profile (from_left (one f) fs) j → e ≡ refusal.Memory

@@ -1,12 +1,4 @@
-pub mod Absent
-pub mod ClosureLists
-pub mod ClosureSteps
-pub mod CopiedNames
-pub mod ExecutedCalls
-pub mod KeptCalls
-pub mod LentNames
+pub mod Closures
 pub mod NameSets
 pub mod NumberSets
-pub mod ProfileRuns
-pub mod SetUnions
-pub mod SubsetCuts
+pub mod Runs

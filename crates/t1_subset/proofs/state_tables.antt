@@ -1,11 +1,7 @@
 pub mod ByNumber
-pub mod FirstConflicts
+pub mod Conflicts
 pub mod FontCallers
 pub mod FontUsers
 pub mod LowestKeys
-pub mod MergedFonts
-pub mod NameClashes
-pub mod StateClashes
 pub mod StateTrees
-pub mod TableStates
 pub mod Walks

@@ -10,6 +10,7 @@ use t1_font::Font;
 use t1_run::{Called, Glyphs, parts_and_executed};
 
 /// The components that the runs of a glyph name. The Subrs that the runs execute are added to `calls`.
+#[tactic(auto, using(crate::proofs::closing::Runs::components_are, crate::proofs::closing::Runs::no_components, crate::proofs::closing::Runs::no_calls, crate::proofs::closing::NumberSets::union_none))]
 pub(crate) fn run_of(
     alloc: Global,
     font: &Font<'_>,
@@ -33,6 +34,7 @@ pub(crate) fn run_of(
 }
 
 /// The components that the runs of a glyph name. Only the Subrs that these runs execute are in `calls` afterwards.
+#[tactic(auto, using(std::proofs::lemmas::Result::on_ok_weaker, crate::proofs::closing::NumberSets::none_union, crate::proofs::closing::Runs::calls_by))]
 pub(crate) fn run_alone(
     alloc: Global,
     font: &Font<'_>,

@@ -36,6 +36,7 @@ fn join_states<'a>(
 }
 
 /// The joined states of two fonts, or their lowest conflict. The callers are those of both fonts.
+#[tactic(auto, using(crate::proofs::state_tables::Conflicts::tells_shell, crate::proofs::state_tables::Conflicts::tells_states, crate::proofs::state_tables::Conflicts::parts_seen, crate::proofs::state_tables::Conflicts::shared_seen))]
 fn join_next<'a>(
     alloc: Global,
     left: &States<'a>,

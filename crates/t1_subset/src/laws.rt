@@ -20,11 +20,13 @@ pub fn keep_is_least()
 {}
 
 /// A larger set of names keeps no less.
+#[tactic(auto, using(t1_algebra::proofs::Kept::keep_more, t1_algebra::proofs::Kept::kept_more))]
 pub fn keep_is_monotone()
     ensures { KeepIsMonotone profile }
 {}
 
 /// Two sets of names keep together what each of them keeps.
+#[tactic(auto, using(t1_algebra::proofs::Kept::keep_union, t1_algebra::proofs::Kept::kept_union))]
 pub fn distribution()
     ensures { Distribution profile }
 {}
@@ -35,6 +37,7 @@ pub fn subset_is_font()
 {}
 
 /// A subset of a subset is the font's own subset; over the same names it is the subset itself.
+#[tactic(auto, using(t1_algebra::proofs::Again::subset_again, t1_algebra::proofs::Again::subset_itself))]
 pub fn subset_of_subset()
     ensures { SubsetOfSubset profile }
 {}
@@ -56,6 +59,7 @@ pub fn two_subsets()
 {}
 
 /// Subsets of a font over any list of sets of names merge in any order and grouping to the subset over all the sets.
+#[tactic(auto, using(t1_algebra::proofs::Fonts::many_subsets))]
 pub fn many_subsets()
     ensures { ManySubsets profile }
 {}
@@ -92,6 +96,7 @@ pub fn any_order()
 
 /// A list of fonts merges from left to right exactly if the states of each two of them join and the font of all is
 /// within the limits.
+#[tactic(auto, using(t1_algebra::proofs::Orders::accepted_from_pairs, t1_algebra::proofs::Orders::pairs_from_accepted, t1_algebra::proofs::Orders::folded_is, t1_algebra::proofs::Orders::within, t1_algebra::proofs::Fonts::fonts_within))]
 pub fn accepted_by_pairs()
     ensures { AcceptedByPairs profile }
 {}
@@ -102,16 +107,19 @@ pub fn join_where_states_agree()
 {}
 
 /// Two fonts have no conflict exactly if they join.
+#[tactic(auto, using(t1_algebra::proofs::Conflicts::no_conflict))]
 pub fn no_conflict_is_join()
     ensures { NoConflictIsJoin profile }
 {}
 
 /// Two fonts have the same lowest conflict in both orders.
+#[tactic(auto, using(t1_algebra::proofs::Conflicts::conflict_back))]
 pub fn conflict_is_symmetric()
     ensures { ConflictIsSymmetric profile }
 {}
 
 /// If the states of two fonts join, their join has the entries of both.
+#[tactic(auto, using(t1_algebra::proofs::JoinedEntries::entries_join, t1_algebra::proofs::JoinedEntries::joined_are_entries))]
 pub fn join_has_entries()
     ensures { JoinHasEntries profile }
 {}
@@ -119,6 +127,7 @@ pub fn join_has_entries()
 /// If a glyph runs and draws alike in two fonts, calls answer alike: `direct`, `direct3`, `executed`, `draw` and `draw3`
 /// of `t1_run` answer the same for both fonts. So the drawings of subsets and mergers, which the clauses of
 /// [`subset`](crate::subset) and [`merge`](crate::merge) state over the maps of fonts, are the drawings that calls answer.
+#[tactic(auto, using(t1_algebra::proofs::Alike::answers_alike))]
 pub fn calls_draw_alike()
     ensures { CallsDrawAlike }
 {}
@@ -127,6 +136,7 @@ pub fn calls_draw_alike()
 /// declared and with stubs for some that it lacks. What its charstring answers without a fault, it answers there, too.
 /// This holds where hints are replaced and where they are kept, each by itself, over the maps of both fonts and as calls
 /// see them.
+#[tactic(auto, using(t1_algebra::proofs::rejoining::Evened::evened_draw))]
 pub fn evened_draw()
     ensures { EvenedDraw }
 {}
@@ -141,6 +151,7 @@ pub fn truncated_subsets_rejoin()
 
 /// Fonts without tags that merge in some order and grouping are even already: making them even changes none of them, so
 /// they rejoin to what they merge to.
+#[tactic(auto, using(t1_algebra::proofs::rejoining::MergingFonts::merging_fonts_are_even))]
 pub fn merging_fonts_are_even()
     ensures { MergingFontsAreEven }
 {}

@@ -22,6 +22,7 @@ use std::alloc::Global;
 use t1_font::{Font, join_parts};
 
 /// The font with the entries of two fonts whose states join, if it is within the limits.
+#[tactic(auto, using(std::proofs::lemmas::Result::err_from_is_err_and, crate::proofs::state_tables::Conflicts::same_shells, crate::proofs::state_tables::Conflicts::same_kinds, crate::proofs::state_tables::Conflicts::tells_parts))]
 fn both<'a>(alloc: Global, left: &Font<'a>, right: &Font<'a>) -> Result<Font<'a>, Conflict>
     requires { states_conflict profile left.now right.now ≡ None }
     ensures ok { IfOk result (λ j. Join profile left.now right.now
@@ -35,6 +36,7 @@ fn both<'a>(alloc: Global, left: &Font<'a>, right: &Font<'a>) -> Result<Font<'a>
 
 /// The lowest conflict of two fonts, except that the limits are not looked at, or want of memory. If what the fonts have
 /// to share differs, no glyph is run.
+#[tactic(auto, using(crate::proofs::state_tables::Conflicts::tells_shell, crate::proofs::state_tables::Conflicts::parts_seen))]
 fn conflict_of(alloc: Global, left: &Font<'_>, right: &Font<'_>) -> Result<(), Conflict>
     ensures ok { IfOk result (λ _. states_conflict profile left.now right.now ≡ None) }
     ensures err { IfErr result (λ e. Tells e (states_conflict profile left.now right.now)) }
@@ -95,6 +97,7 @@ fn merge_noted<'a>(
 /// in place of either. A font merged with itself is itself.
 ///
 /// Two subsets of one font always join, and their join is the subset over both sets of names.
+#[tactic(auto, using(crate::proofs::Answered::draws_both, crate::proofs::Answered::other_order, crate::proofs::Answered::itself))]
 pub fn merge<'a>(alloc: Global, left: &Font<'a>, right: &Font<'a>) -> Result<Font<'a>, Conflict>
     ensures ok { IfOk result (λ j. Join profile left.now right.now
         × (j ≡ joined_font profile left.now right.now)) }
@@ -115,6 +118,7 @@ pub fn merge<'a>(alloc: Global, left: &Font<'a>, right: &Font<'a>) -> Result<Fon
 /// draws in the result as it did before.
 ///
 /// Subsets of one font always join, and their join is the subset over all their names.
+#[tactic(auto, using(crate::proofs::Answered::of_all_subsets, crate::proofs::Answered::accepts, crate::proofs::Answered::draws_all, crate::proofs::state_tables::Walks::font_list))]
 pub fn merge_all<'a>(alloc: Global, fonts: &[Font<'a>]) -> Result<Font<'a>, Conflict>
     ensures ok { IfOk result (λ j. ComesTo fonts.now j) }
     ensures err { IfErr result (λ e. IsRefused fonts.now e) }

@@ -26,6 +26,7 @@ pub struct Closure {
 /// The names that a set of the font's names keeps, in the order in which they are met, and the Subrs that are kept.
 ///
 /// Each glyph that is kept is run once.
+#[tactic(auto, using(crate::proofs::closing::Closures::closure_end, crate::proofs::closing::NumberSets::calls_end, crate::proofs::closing::Closures::past))]
 pub(crate) fn needed<'a>(
     alloc: Global,
     font: &Font<'_>,

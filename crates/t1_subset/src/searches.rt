@@ -109,6 +109,7 @@ pub(crate) fn one_shell(left: &Shared<'_>, right: &Shared<'_>) -> Result<(), Con
 }
 
 /// The lowest conflict of the codes and glyphs of two fonts of one shell, or want of memory.
+#[tactic(auto, using(crate::proofs::state_tables::Conflicts::codes_seen, crate::proofs::state_tables::Conflicts::entries_code))]
 fn entries_conflict(alloc: Global, left: &States<'_>, right: &States<'_>) -> Result<(), Conflict>
     ensures ok { (f g : FontValue)
         → AreStatesOf left.now right.now f g
@@ -153,6 +154,7 @@ fn uses_conflict(
 }
 
 /// The lowest conflict of the states of two fonts of one shell, or want of memory. The callers are those of both fonts.
+#[tactic(auto, using(crate::proofs::state_tables::Conflicts::tells_entries, crate::proofs::state_tables::Conflicts::then_ok, crate::proofs::state_tables::Conflicts::then_err))]
 pub(crate) fn tables_conflict(
     alloc: Global,
     left: &States<'_>,

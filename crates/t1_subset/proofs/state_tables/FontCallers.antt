@@ -1,11 +1,10 @@
 -- The smallest glyphs that execute a Subr or seek a component, as the code notes them, and in a join.
-use Rattle.std.proofs.Common.{◌≡◌, ℕ, Bool, true, false, not, cond, ◌&&◌, ◌||◌, List, [], ◌∷◌, ◌++◌, map, refl, sym, ◌∙◌, ap, Option, Some, None, is_some, unwrap_or, true≢false}
+use Rattle.std.proofs.Common.{arith, ◌≡◌, ℕ, Bool, true, false, not, cond, ◌&&◌, ◌||◌, List, [], ◌∷◌, ◌++◌, map, refl, sym, ◌∙◌, ap, Option, Some, None, is_some, true≢false}
 use Rattle.std.specs.List.{list_any}
 use Rattle.std.specs.Cmp.{nat_cmp_total}
 use Rattle.std.specs.Cmp.Lexicographic.{nat_list_cmp_total}
 use Rattle.std.specs.FinMap as maps
 use Rattle.std.specs.FinSet as sets
-use Rattle.t1_join.specs.TableMeaning.{TableMeaning}
 use Rattle.t1_font.specs.Maps.{merged}
 use Rattle.t1_font.specs.FontValue.{FontValue, Named, name_cmp}
 use Rattle.t1_font.specs.FontModel.{names_in}
@@ -22,8 +21,7 @@ use Rattle.t1_subset.specs.Callers.{same_charstring, user_of, seeker_of, user_fr
 use Rattle.t1_join.specs.Meaning.{of_number}
 use Rattle.t1_subset.specs.Clashes.{AreCallers}
 use Rattle.t1_algebra.proofs.Flat.{agree_back}
-use Rattle.t1_subset.proofs.closing.ExecutedCalls.{calls_by, no_calls}
-use Rattle.t1_subset.proofs.closing.ProfileRuns.{no_components}
+use Rattle.t1_subset.proofs.closing.Runs.{calls_by, no_calls, no_components}
 use Rattle.t1_subset.proofs.state_tables.LowestKeys.{smaller_first}
 use Rattle.t1_algebra.proofs.JoinedStates.{glyph_in_join, present_joined, executes_join, calls_join}
 use Rattle.t1_algebra.proofs.Uses.{executing_there, naming_there, sought}
@@ -43,17 +41,6 @@ module _ {K : Type 0} where
   any_and false p [] = refl
   any_and false p (k ∷ ks) = any_and false p ks
 
--- the first of three values may be noted in two steps
-pub joined_first : {V : Type 0} (x : Option V) (b : Bool) (v : V) (y : Option V) → joined (joined x (cond b (Some v) None)) y ≡ joined x (cond b (Some v) y)
-joined_first None true v y = refl
-joined_first None false v y = refl
-joined_first (Some w) b v y = refl
-
--- a value joined with nothing stays
-pub joined_none : {V : Type 0} (x : Option V) → joined x None ≡ x
-joined_none None = refl
-joined_none (Some v) = refl
-
 -- ---- noting the names of a list, one by one
 
 module _ (p : List ℕ → Bool) where
@@ -63,28 +50,23 @@ module _ (p : List ℕ → Bool) where
 
   -- noting the next name leaves what is found in the end as it was
   pub noted_next : (x y goal : Option (List ℕ)) (n : List ℕ) (names left : List (List ℕ)) → y ≡ joined x (cond (p n) (Some n) None) → names ≡ n ∷ left → joined x (first_where p names) ≡ goal → joined y (first_where p left) ≡ goal
-  noted_next x y goal n names left is more h = ap (λ y. joined y (first_where p left)) is ∙ joined_first x (p n) n (first_where p left) ∙ ap (λ ns. joined x (first_where p ns)) (sym more) ∙ h
+  noted_next x y goal n names left is more h = grind arith
 
   -- when no name is left, what is noted is what is found
   pub noted_last : (x goal : Option (List ℕ)) (names : List (List ℕ)) → names ≡ [] → joined x (first_where p names) ≡ goal → x ≡ goal
-  noted_last x goal names none h = sym (joined_none x) ∙ ap (λ ns. joined x (first_where p ns)) (sym none) ∙ h
+  noted_last x goal names none h = grind arith
 
 -- if a name is already noted whenever this one passes, noting this one changes nothing
 pub known_already : (x : Option (List ℕ)) (b : Bool) (n : List ℕ) → (b ≡ true → is_some x ≡ true) → x ≡ joined x (cond b (Some n) None)
-known_already (Some m) b n h = refl
-known_already None true n h = absurd (true≢false (sym (h refl)))
-known_already None false n h = refl
+known_already x b n h = grind arith
 
 -- after a name that passes, some name is noted
 pub known_then : (x y : Option (List ℕ)) (b : Bool) (n : List ℕ) → y ≡ joined x (cond b (Some n) None) → b ≡ true → is_some y ≡ true
-known_then (Some m) y b n e h = ap is_some e
-known_then None y b n e h = ap is_some (e ∙ ap (λ b. joined None (cond b (Some n) None)) h)
+known_then x y b n e h = grind arith
 
 -- charstrings with the same bytes are the same
 pub again_same : (x y : Option (List ℕ)) → same_charstring x y ≡ true → x ≡ y
-again_same None y h = absurd (true≢false (sym h))
-again_same (Some c) None h = absurd (true≢false (sym h))
-again_same (Some c) (Some d) h = ap Some (tied nat_list_cmp_total name_same c d h)
+again_same x y h = grind (arith, tied nat_list_cmp_total name_same)
 
 -- a charstring is noted: the indices that it executes have users, and the components that it names and the font lacks have seekers
 pub record IsNoted (f : FontValue) (users : ℕ → Option (List ℕ)) (seekers : List ℕ → Option (List ℕ)) (c : Option (List ℕ)) : Type 0 where
@@ -103,19 +85,11 @@ nothing_noted f users seekers = record {
 module _ (f : FontValue) where
   -- what a glyph's run executes is what the glyph executes
   pub executes_so : (n : List ℕ) (i : ℕ) → sets.contains (calls_by f n) i ≡ executes profile f n i
-  executes_so n i = at (maps.get f.glyphs n) refl
-    where
-      at : (x : Option (List ℕ)) → maps.get f.glyphs n ≡ x → sets.contains (calls_by f n) i ≡ executed_at profile f i x
-      at None e = ap (λ s. sets.contains s i) (sym (no_calls f n e)) ∙ sets.contains-from_list nat_cmp_total [] i
-      at (Some c) e = ap (λ x. sets.contains (profile.exec f.subrs (unwrap_or x [])) i) e
+  executes_so n i = let none = no_calls f n in let nothing = sets.contains-from_list nat_cmp_total [] i in grind (arith, none, nothing)
 
   -- what a glyph's run names is what the glyph calls for
   pub calls_so : (n p : List ℕ) → list_any (same_bytes p) (components profile f.subrs (charstring f n)) ≡ calls_for profile f n p
-  calls_so n p = at (maps.get f.glyphs n) refl
-    where
-      at : (x : Option (List ℕ)) → maps.get f.glyphs n ≡ x → list_any (same_bytes p) (components profile f.subrs (charstring f n)) ≡ called_at profile f p x
-      at None e = ap (list_any (same_bytes p)) (sym (no_components f n e))
-      at (Some c) e = ap (λ x. list_any (same_bytes p) (components profile f.subrs (unwrap_or x []))) e
+  calls_so n p = let none = no_components f n in grind (arith, none)
 
   -- an index is called if it has a user
   pub called_is : (i : ℕ) → is_called profile f i ≡ is_some (user_of f i)
@@ -154,11 +128,7 @@ module _ (f g : FontValue) (c : Compatible profile f g) where
 
   -- a component that one of two fonts has is not sought by the other
   unsought : (b : Bool) (v : List ℕ) → Agree {V = Option (List ℕ)} (cond b (Some None) None) (Some (Some v)) → b ≡ false
-  unsought true v h = absurd (none_some h)
-    where
-      none_some : ◌≡◌ {A = Option (List ℕ)} None (Some v) → ⊥
-      none_some e = cc
-  unsought false v h = refl
+  unsought b v h = grind arith
 
   sought_by : (h : FontValue) (p n : List ℕ) → is_sought profile h p ≡ false → calls_for profile h n p ≡ false
   sought_by h p n s = not_so (calls_for profile h n p) (λ k. clash (is_sought profile h p) (sought profile h p n k) s)

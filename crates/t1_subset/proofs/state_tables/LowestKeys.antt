@@ -1,5 +1,5 @@
 -- The lowest key that passes a test, as a search of a map finds it, and the lower of two.
-use Rattle.std.proofs.Common.{◌≡◌, ℕ, Bool, true, false, cond, ◌||◌, List, [], ◌∷◌, map, option_map, refl, sym, ◌∙◌, ap, subst, true≢false, inl, inr, Option, Some, None, Ordering, Less, Equal, Greater, is_lt}
+use Rattle.std.proofs.Common.{arith, ◌≡◌, ℕ, Bool, true, false, cond, ◌||◌, List, [], ◌∷◌, map, option_map, refl, sym, ◌∙◌, ap, true≢false, inl, inr, Option, Some, None, Ordering, Less, Equal, Greater, is_lt}
 use Rattle.std.specs.List.{list_any, AllByRecursion}
 use Rattle.std.specs.Ordering.{eq_by_cmp, ordering_reverse}
 use Rattle.std.specs.Cmp.{IsTotalOrder, first_so, second_so}
@@ -10,78 +10,36 @@ use Rattle.t1_font.proofs.MapLemmas.{T_true}
 use Rattle.t1_algebra.specs.Conflicts.{keys_of_both}
 use Rattle.t1_algebra.specs.Searches.{smallest, members, first_where, IsLowest}
 use Rattle.t1_subset.specs.Differences.{smaller}
-use Rattle.t1_algebra.proofs.Searching.{in_both, passes_none}
+use Rattle.t1_algebra.proofs.Searching.{in_both, passes_none, none_at_all, first_passes}
+use Rattle.t1_algebra.proofs.Maps.{less_of}
 use Rattle.t1_algebra.proofs.Smallest.{smallest_is, below_later}
-use Rattle.t1_algebra.proofs.Sets.{or_cases, or_left, or_right, here, later, itself, tied, not_so}
-
-no_less : (o : Ordering) → ordering_reverse Less ≡ o → o ≡ Less → ⊥
-no_less o h e = cc
+use Rattle.t1_algebra.proofs.Sets.{or_cases, or_left, or_right, tied, not_so}
 
 module _ {K : Type 0} {R : K → K → Ordering} (o : IsTotalOrder R) (same : IsAntisymmetric R) where
   -- no key is both below and above another
   pub one_way : (x y : K) → R x y ≡ Less → R y x ≡ Less → ⊥
-  one_way x y h k = no_less (R y x) (ap ordering_reverse (sym h) ∙ sym (o.antisymm y x)) k
-
-  -- no key is below itself
-  pub not_itself : (x : K) → R x x ≡ Less → ⊥
-  not_itself x h = one_way x x h h
+  one_way x y h k = let back = o.antisymm y x in grind (arith, back)
 
   module _ (p : K → Bool) where
-    -- k is the first key that passes: it is there and passes, and no lower key does
-    record IsFirst {X : Type 0} (es : List (K × X)) (k : K) : Type 0 where
-      pub there : list_any (eq_by_cmp R k) (map (λ e. e.0) es) ≡ true
-      pub passes : p k ≡ true
-      pub least : (q : K) → list_any (eq_by_cmp R q) (map (λ e. e.0) es) ≡ true → R q k ≡ Less → p q ≡ false
-
-    same_Some : (x y : K) → ◌≡◌ {A = Option K} (Some x) (Some y) → x ≡ y
-    same_Some x y e = cc
-
-    -- the key that a search finds among sorted entries is the first that passes
-    first_so_far : {X : Type 0} (es : List (K × X)) (k : K) → is_sorted R es ≡ true → first_where p (map (λ e. e.0) es) ≡ Some k → IsFirst es k
-    first_so_far [] k s h = cc
-    first_so_far (e ∷ es) k s h =
-        elim (p e.0) as (λ b. p e.0 ≡ b → cond b (Some e.0) (first_where p (map (λ e. e.0) es)) ≡ Some k → IsFirst (e ∷ es) k) [
+    -- among sorted entries, a key below the first that passes does not pass
+    first_least : {X : Type 0} (es : List (K × X)) (k q : K) → is_sorted R es ≡ true → first_where p (map (λ e. e.0) es) ≡ Some k → list_any (eq_by_cmp R q) (map (λ e. e.0) es) ≡ true → R q k ≡ Less → p q ≡ false
+    first_least [] k q s h w l = cc
+    first_least (e ∷ es) k q s h w l =
+        let in_rest = or_cases (eq_by_cmp R q e.0) (list_any (eq_by_cmp R q) (map (λ e. e.0) es)) w in
+        elim (p e.0) as (λ b. p e.0 ≡ b → cond b (Some e.0) (first_where p (map (λ e. e.0) es)) ≡ Some k → p q ≡ false) [
           | true ↦ λ is h.
-              let e_k : e.0 ≡ k = same_Some e.0 k h in
-              subst (λ (k : K). IsFirst (e ∷ es) k) e_k (record {
-                there = here (eq_by_cmp R e.0) e.0 (map (λ e. e.0) es) (itself o same e.0);
-                passes = is;
-                least = λ q w l. elim (or_cases (eq_by_cmp R q e.0) (list_any (eq_by_cmp R q) (map (λ e. e.0) es)) w) [
-                  | inl a ↦ absurd (not_itself e.0 (ap (λ q. R q e.0) (sym (tied o same q e.0 a)) ∙ l))
-                  | inr c ↦ absurd (one_way e.0 q (below_later o same p e.0 q es (first_so (below_all R e.0 es) (is_sorted R es) s) c) l)
-                ];
-              })
-          | false ↦ λ is h.
-              let rest = first_so_far es k (second_so (below_all R e.0 es) (is_sorted R es) s) h in
-              record {
-                there = later (eq_by_cmp R k) e.0 (map (λ e. e.0) es) rest.there;
-                passes = rest.passes;
-                least = λ q w l. elim (or_cases (eq_by_cmp R q e.0) (list_any (eq_by_cmp R q) (map (λ e. e.0) es)) w) [
-                  | inl a ↦ ap p (tied o same q e.0 a) ∙ is
-                  | inr c ↦ rest.least q c l
-                ];
-              }
-        ] refl h
-
-    -- the entries of a map are sorted
-    sorted_map : {X : Type 0} (m : maps.FinMap R X) → is_sorted R (maps.entries m) ≡ true
-    sorted_map m = T_true (is_sorted R (maps.entries m)) (maps.entries_sorted m)
-
-    -- if a search finds nothing, no key passes
-    none_first : {X : Type 0} (es : List (K × X)) → first_where p (map (λ e. e.0) es) ≡ None → (q : K) → list_any (eq_by_cmp R q) (map (λ e. e.0) es) ≡ true → p q ≡ false
-    none_first [] h q w = absurd (true≢false (sym w))
-    none_first (e ∷ es) h q w =
-        elim (p e.0) as (λ b. p e.0 ≡ b → cond b (Some e.0) (first_where p (map (λ e. e.0) es)) ≡ None → p q ≡ false) [
-          | true ↦ λ is h. cc
-          | false ↦ λ is h. elim (or_cases (eq_by_cmp R q e.0) (list_any (eq_by_cmp R q) (map (λ e. e.0) es)) w) [ inl a ↦ ap p (tied o same q e.0 a) ∙ is | inr c ↦ none_first es h q c ]
+              let e_k : e.0 ≡ k = cc in
+              elim in_rest [
+                | inl a ↦ absurd (one_way k k (ap (λ x. R x k) (sym e_k ∙ sym (tied o same q e.0 a)) ∙ l) (ap (λ x. R x k) (sym e_k ∙ sym (tied o same q e.0 a)) ∙ l))
+                | inr c ↦ absurd (one_way k q (ap (λ x. R x q) (sym e_k) ∙ below_later o same p e.0 q es (first_so (below_all R e.0 es) (is_sorted R es) s) c) l)
+              ]
+          | false ↦ λ is h. elim in_rest [ inl a ↦ ap p (tied o same q e.0 a) ∙ is | inr c ↦ first_least es k q (second_so (below_all R e.0 es) (is_sorted R es) s) h c l ]
         ] refl h
 
     -- the key of the first entry that passes is the first key that passes
     first_keys : {X : Type 0} (P : K × X → Bool) (es : List (K × X)) → AllByRecursion (λ e. P e ≡ p e.0) es → option_map (λ e. e.0) (first_where P es) ≡ first_where p (map (λ e. e.0) es)
     first_keys P [] h = refl
-    first_keys P (e ∷ es) h =
-        ap (λ b. option_map (λ e. e.0) (cond b (Some e) (first_where P es))) h.0
-        ∙ (elim (p e.0) as (λ b. option_map (λ e. e.0) (cond b (Some e) (first_where P es)) ≡ cond b (Some e.0) (first_where p (map (λ e. e.0) es))) [ true ↦ refl | false ↦ first_keys P es h.1 ])
+    first_keys P (e ∷ es) h = let here = h.0 in let rest = first_keys P es h.1 in grind (arith, here, rest)
 
     -- if all that pass are keys of a map, the first of its keys that passes is the lowest
     module _ {X : Type 0} (m : maps.FinMap R X) (only : (q : K) → p q ≡ true → maps.contains_key m q ≡ true) where
@@ -89,28 +47,20 @@ module _ {K : Type 0} {R : K → K → Ordering} (o : IsTotalOrder R) (same : Is
       key_in q h = sym (maps.contains_key-keys m q) ∙ only q h
 
       pub lowest_key : (x : Option K) → first_where p (maps.keys m) ≡ x → IsLowest R p x
-      lowest_key None h = λ q. not_so (p q) (λ is. true≢false (sym is ∙ none_first (maps.entries m) h q (key_in q is)))
-      lowest_key (Some k) h =
-          let first = first_so_far (maps.entries m) k (sorted_map m) h in
-          record { it = first.passes; none_lower = λ q l. not_so (p q) (λ is. true≢false (sym is ∙ first.least q (key_in q is) l)) }
+      lowest_key None h = λ q. not_so (p q) (λ is. true≢false (sym is ∙ none_at_all o same p (maps.keys m) q h (key_in q is)))
+      lowest_key (Some k) h = record {
+        it = first_passes p (maps.keys m) k h;
+        none_lower = λ q l. not_so (p q) (λ is. true≢false (sym is ∙ first_least (maps.entries m) k q (T_true (is_sorted R (maps.entries m)) (maps.entries_sorted m)) h (key_in q is) l));
+      }
 
       -- the same, of the first of its entries
-      pub lowest_entry : (P : K × X → Bool) → AllByRecursion (λ e. P e ≡ p e.0) (maps.entries m) → IsLowest R p (option_map (λ e. e.0) (first_where P (maps.entries m)))
-      lowest_entry P h = subst (IsLowest R p) (sym (first_keys P (maps.entries m) h)) (lowest_key (first_where p (maps.keys m)) refl)
+      pub lowest_entry : (P : K × X → Bool) → AllByRecursion (λ e. P e ≡ p e.0) (maps.entries m) → (x : Option K) → x ≡ option_map (λ e. e.0) (first_where P (maps.entries m)) → IsLowest R p x
+      lowest_entry P h x is = lowest_key x (sym (is ∙ first_keys P (maps.entries m) h))
 
     -- the lowest key that passes is the smallest of a set that has all that pass
     pub lowest_is : (s : maps.FinMap R ℕ) → ((k : K) → p k ≡ true → maps.contains_key s k ≡ true) → (x : Option K) → IsLowest R p x → x ≡ smallest p s
     lowest_is s only None h = sym (passes_none p (members s) h)
     lowest_is s only (Some k) h = sym (smallest_is o same p s k (only k h.it) h.it (λ q w l. h.none_lower q l))
-
-less_is : (o : Ordering) → is_lt o ≡ true → o ≡ Less
-less_is Less h = refl
-less_is Equal h = absurd (true≢false (sym h))
-less_is Greater h = absurd (true≢false (sym h))
-
-or_neither : (a b : Bool) → a ≡ false → b ≡ false → (a || b) ≡ false
-or_neither true b h k = h
-or_neither false b h k = k
 
 module _ {K : Type 0} {R : K → K → Ordering} (o : IsTotalOrder R) (same : IsAntisymmetric R) where
   -- what is below m is below n, if n is not below m
@@ -122,13 +72,13 @@ module _ {K : Type 0} {R : K → K → Ordering} (o : IsTotalOrder R) (same : Is
   module _ (p q : K → Bool) where
     -- the lower of the lowest keys of two tests is the lowest that passes either
     pub lower_of : (x y : Option K) → IsLowest R p x → IsLowest R q y → IsLowest R (λ k. p k || q k) (smaller R x y)
-    lower_of None None h k = λ r. or_neither (p r) (q r) (h r) (k r)
-    lower_of None (Some n) h k = record { it = or_right (p n) (q n) k.it; none_lower = λ r l. or_neither (p r) (q r) (h r) (k.none_lower r l) }
-    lower_of (Some m) None h k = record { it = or_left (p m) (q m) h.it; none_lower = λ r l. or_neither (p r) (q r) (h.none_lower r l) (k r) }
+    lower_of None None h k = λ r. grind (arith, h r, k r)
+    lower_of None (Some n) h k = record { it = or_right (p n) (q n) k.it; none_lower = λ r l. grind (arith, h r, k.none_lower r l) }
+    lower_of (Some m) None h k = record { it = or_left (p m) (q m) h.it; none_lower = λ r l. grind (arith, h.none_lower r l, k r) }
     lower_of (Some m) (Some n) h k =
         elim (is_lt (R n m)) as (λ t. is_lt (R n m) ≡ t → IsLowest R (λ k. p k || q k) (cond t (Some n) (Some m))) [
-          | true ↦ λ is. record { it = or_right (p n) (q n) k.it; none_lower = λ r l. or_neither (p r) (q r) (h.none_lower r (o.trans r n m l (less_is (R n m) is))) (k.none_lower r l) }
-          | false ↦ λ is. record { it = or_left (p m) (q m) h.it; none_lower = λ r l. or_neither (p r) (q r) (h.none_lower r l) (k.none_lower r (below_both r m n (R n m) refl is l)) }
+          | true ↦ λ is. record { it = or_right (p n) (q n) k.it; none_lower = λ r l. grind (arith, h.none_lower r (o.trans r n m l (less_of (R n m) is)), k.none_lower r l) }
+          | false ↦ λ is. record { it = or_left (p m) (q m) h.it; none_lower = λ r l. grind (arith, h.none_lower r l, k.none_lower r (below_both r m n (R n m) refl is l)) }
         ] refl
 
     -- the smaller of the first keys of two maps is the smallest of both

@@ -1,12 +1,13 @@
 -- Merges of fonts are joins of their states.
 use Rattle.std.proofs.Common.{◌≡◌, ◌<◌, true≢false, List, [], ◌∷◌, map, length, refl, sym, ◌∙◌, ap, subst, arith, inl, inr, true, Option, Some, None, option_map, is_some, Result, Ok, Err, IfErr}
+use Rattle.std.proofs.lemmas.List.{map-id}
 use Rattle.std.specs.List.{AllByRecursion}
 use Rattle.t1_join.specs.Groupings.{Grouping, one, two, leaves, from_left, Uses, IsJoinOf}
 use Rattle.t1_join.proofs.OrderLemmas.{each_leaf, leaves_mapped, leaves_from_left, uses_its}
 use Rattle.t1_font.specs.declared.parts.PartsFault.{PartsFault}
 use Rattle.t1_font.specs.declared.parts.PartsFault.TheVariants as parts
 use Rattle.t1_subset.specs.Refusals.{of_parts}
-use Rattle.t1_font.specs.FontValue.{FontValue, Encoding, Word, Codes}
+use Rattle.t1_font.specs.FontValue.{FontValue, Encoding}
 use Rattle.t1_font.specs.IsFont.{IsFont}
 use Rattle.t1_font.specs.Joins.{join_encodings, join_parts, join_all_parts, HaveOneGlyph, Refuses}
 use Rattle.t1_font.specs.Maps.{IsPartOf}
@@ -39,14 +40,10 @@ each_grouping fs w v h t e =
     let r = merges_by_states profile t (each_leaf IsWithin t (subst (AllByRecursion IsWithin) (sym e) (all_within fs w))) v (h.1 (grouped profile t) (uses_all t fs e)) in
     (r.0, r.1)
 
-all_same : (ss : List StatesValue) → map (λ s. s) ss ≡ ss
-all_same [] = refl
-all_same (s ∷ ss) = ap (λ ss. s ∷ ss) (all_same ss)
-
 -- the same, where the code answers a join
 pub joined_groupings : (fs : List FontValue) → AllByRecursion IsFont fs → (ss : List StatesValue) → ss ≡ map (states_of profile) fs → (o : Option StatesValue) → is_some o ≡ true → IsJoinOf StatesJoin (map (λ s. s) ss) (option_map (λ s. s) o) → EachGroupingMerges fs
 joined_groupings fs w ss is None t h = absurd (true≢false (sym t))
-joined_groupings fs w ss is (Some v) t h = each_grouping fs w v (subst (λ (ss : List StatesValue). IsJoinOf StatesJoin ss (Some v)) (all_same ss ∙ is) h)
+joined_groupings fs w ss is (Some v) t h = each_grouping fs w v (subst (λ (ss : List StatesValue). IsJoinOf StatesJoin ss (Some v)) (map-id ss ∙ is) h)
 
 -- ---- from left to right
 
@@ -59,10 +56,7 @@ pub record AreParts (k : FontValue) (gs : List FontValue) (j : FontValue) : Type
   pub within : IsWithin k → IsWithin j
 
 kind_before : (d e x : Encoding) → SameKind d e → SameKind (join_encodings d e) x → SameKind d x
-kind_before (Word v) e x k h = h
-kind_before (Codes m) (Word w) x k h = h
-kind_before (Codes m) (Codes n) (Word w) k h = h
-kind_before (Codes m) (Codes n) (Codes p) k h = tt
+kind_before d e x k h = grind arith
 
 kinds_before : (d e : Encoding) (gs : List FontValue) → SameKind d e → AllByRecursion (λ g. SameKind (join_encodings d e) g.encoding) gs → AllByRecursion (λ g. SameKind d g.encoding) gs
 kinds_before d e [] k h = tt

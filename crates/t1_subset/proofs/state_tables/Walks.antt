@@ -1,6 +1,7 @@
 -- Merging fonts from left to right, by their states and callers.
-use Rattle.std.proofs.Common.{◌≡◌, ◌<◌, ◌≤◌, ◌+◌, ℕ, zero, suc, inl, inr, ◌⊎◌, Bool, true, false, cond, List, [], ◌∷◌, ◌++◌, map, length, take, take_all, drop, get_or, refl, sym, ◌∙◌, ap, subst, arith, Some, None, Result, Ok, Err, IfOk, IfErr, IsPermutation}
-use Rattle.std.proofs.lemmas.List.{length-map, map-append, take_more, take-append-drop}
+use Rattle.std.proofs.Common.{◌≡◌, ◌<◌, ◌≤◌, ◌+◌, ℕ, zero, suc, inl, inr, ◌⊎◌, cond, List, [], ◌∷◌, ◌++◌, map, length, take, take_all, drop, get_or, refl, sym, ◌∙◌, ap, subst, arith, Some, None, Result, Ok, Err, IfOk, IfErr, IsPermutation}
+use Rattle.std.proofs.lemmas.List.{get_or-map, length-map, map-append, take_more, take-append-drop}
+use Rattle.std.proofs.lemmas.Grind.{common_steps}
 use Rattle.std.proofs.lemmas.List.Sorted.{IsPermutation-refl}
 use Rattle.std.specs.List.{AllByRecursion}
 use Rattle.t1_font.specs.FontValue.{FontValue}
@@ -12,7 +13,7 @@ use Rattle.t1_algebra.specs.Profile.{profile}
 use Rattle.t1_algebra.specs.States.{Join, joined_font, IsWithin}
 use Rattle.t1_algebra.specs.StateTables.{StatesValue, StatesAgree, StatesJoin, states_of}
 use Rattle.t1_algebra.specs.StateLaws.{states_laws}
-use Rattle.t1_algebra.specs.Conflicts.{OverLimit, is_within, states_conflict, conflict}
+use Rattle.t1_algebra.specs.Conflicts.{OverLimit, states_conflict, conflict}
 use Rattle.t1_algebra.specs.Searches.{found}
 use Rattle.t1_subset.specs.Refusals.{Tells}
 use Rattle.t1_subset.specs.Callers.{AreCallersOf, AreNoted, fonts_of}
@@ -22,9 +23,9 @@ use Rattle.t1_algebra.specs.Groupings.{Merges}
 use Rattle.t1_subset.specs.Merger.{IsRefused}
 use Rattle.t1_algebra.specs.Merges.{ComesTo, EachGroupingMerges}
 use Rattle.t1_algebra.proofs.Conflicts.{no_conflict}
+use Rattle.t1_subset.proofs.state_tables.Conflicts.{over}
 use Rattle.t1_subset.proofs.state_tables.FontCallers.{CallersSoFar, first_callers, both_callers, more_callers}
 use Rattle.t1_algebra.proofs.FontStates.{join_exactly, states_join}
-use Rattle.t1_subset.proofs.closing.ClosureLists.{from_here}
 use Rattle.t1_algebra.proofs.Fonts.{font_within, joined_is_font}
 use Rattle.t1_join.proofs.OrderLemmas.{leaves_from_left}
 use Rattle.t1_algebra.proofs.ManyMerges.{left_snoc}
@@ -41,20 +42,12 @@ joins_to s t z f g h j =
     let join = (join_exactly profile f g (font_within f h.own_font)).0 (z, k) in
     (join, states_laws.one_answer _ _ _ _ k (states_join profile f g join))
 
--- fonts that don't join and have no conflict of states are over the limits
-over : (f g : FontValue) → (Join profile f g → ⊥) → states_conflict profile f g ≡ None → conflict profile f g ≡ Some OverLimit
-over f g apart free = found_last (is_within profile f g) refl
-  where
-    found_last : (b : Bool) → is_within profile f g ≡ b → conflict profile f g ≡ Some OverLimit
-    found_last true e = absurd (apart ((no_conflict profile f g).0 (λ i. found (λ c. c) (free i) (cond (e i) None (Some OverLimit)))))
-    found_last false e = λ i. found (λ c. c) (free i) (cond (e i) None (Some OverLimit))
-
 -- if states without a conflict are refused, the limits are told, or memory is wanting
 pub tells_limit : (s t : StatesValue) (f g : FontValue) → AreStatesOf s t f g → states_conflict profile f g ≡ None → (e : Refusal) → (e ≡ refusal.Memory) ⊎ ((e ≡ refusal.Limit) × ¬ StatesAgree s t) → Tells e (conflict profile f g)
 tells_limit s t f g h free e (inl m) = subst (λ (e : Refusal). Tells e (conflict profile f g)) (sym m) tt
 tells_limit s t f g h free e (inr l) =
     let apart : Join profile f g → ⊥ = λ j. l.1 (subst (λ (s : StatesValue). StatesAgree s t) (sym h.own) (subst (λ (t : StatesValue). StatesAgree (states_of profile f) t) (sym h.other) ((join_exactly profile f g (font_within f h.own_font)).1 j))) in
-    subst (λ (e : Refusal). Tells e (conflict profile f g)) (sym l.0) (over f g apart free)
+    subst (λ (e : Refusal). Tells e (conflict profile f g)) (sym l.0) (over profile f g free (λ within. apart ((no_conflict profile f g).0 (λ i. found (λ c. c) (free i) (cond (within i) None (Some OverLimit))))))
 
 -- ---- from left to right
 
@@ -106,18 +99,17 @@ noted_at cs h i l c e = subst (λ (d : Callers). IsFont d.font.now × AreCallers
 
 -- the states of the font at each place
 pub states_at : (cs : List Callers) (ss : List StatesValue) → ss ≡ map (states_of profile) (fonts_of cs) → (i : ℕ) (c : Callers) (s : StatesValue) → i < length cs → c ≡ get_or cs i c → s ≡ get_or ss i s → s ≡ states_of profile c.font.now
-states_at cs ss is i c s l e k = k ∙ ap (λ ss. get_or ss i s) is ∙ at cs i l ∙ ap (λ (d : Callers). states_of profile d.font.now) (sym e)
-  where
-    at : (cs : List Callers) (i : ℕ) → i < length cs → get_or (map (states_of profile) (fonts_of cs)) i s ≡ states_of profile (get_or cs i c).font.now
-    at [] i l = absurd (omega (arith, l))
-    at (d ∷ cs) zero l = refl
-    at (d ∷ cs) (suc i) l = at cs i (omega (arith, l))
+states_at cs ss is i c s l e k =
+    let fonts = length-map cs (λ (c : Callers). c.font.now) in
+    k
+    ∙ ap (λ ss. get_or ss i s) is
+    ∙ get_or-map (states_of profile) (fonts_of cs) i c.font.now s (omega (arith, fonts, l))
+    ∙ ap (states_of profile) (get_or-map (λ (d : Callers). d.font.now) cs i c c.font.now l ∙ ap (λ (d : Callers). d.font.now) (sym e))
 
 -- the element at a place of a list
 pub nth : {X : Type 0} (xs : List X) (i : ℕ) → i < length xs → (x : X) × ((d : X) → x ≡ get_or xs i d)
 nth [] i l = absurd (omega (arith, l))
-nth (x ∷ xs) zero l = (x, λ d. refl)
-nth (x ∷ xs) (suc i) l = nth xs i (omega (arith, l))
+nth (x ∷ xs) i l = (get_or (x ∷ xs) i x, λ d. grind (arith, common_steps))
 
 -- the first font comes to itself, and its states joined with themselves are its states
 pub starts : (cs : List Callers) → AreNoted cs → 0 < length cs → (ss : List StatesValue) → ss ≡ map (states_of profile) (fonts_of cs) → (t s : StatesValue) → t ≡ get_or ss 0 t → StatesJoin t t s → JoinedSoFar (take 1 cs) s
@@ -156,8 +148,10 @@ module _ (cs : List Callers) (h : AreNoted cs) (i : ℕ) (l : i < length cs) (c 
 
   -- if the next font doesn't join, the fonts are refused
   pub stops : (r : Refusal) → Tells r (conflict profile far.font c.font.now) → IsRefused (fonts_of cs) r
-  stops r told = stops_at (fonts_of (take i cs)) c.font.now (fonts_of (drop (i + 1) cs)) (fonts_of cs) far.font far.comes
-      (ap fonts_of (sym (take-append-drop i cs) ∙ ap (λ (ds : List Callers). take i cs ++ ds) (from_here cs i c l e)) ∙ map-append _ (take i cs) (c ∷ drop (i + 1) cs)) r told
+  stops r told =
+      let here : drop i cs ≡ c ∷ drop (i + 1) cs = grind (arith, common_steps) in
+      stops_at (fonts_of (take i cs)) c.font.now (fonts_of (drop (i + 1) cs)) (fonts_of cs) far.font far.comes
+      (ap fonts_of (sym (take-append-drop i cs) ∙ ap (λ (ds : List Callers). take i cs ++ ds) here) ∙ map-append _ (take i cs) (c ∷ drop (i + 1) cs)) r told
 
 -- if no font is left, each grouping of the fonts merges
 pub ends : (cs : List Callers) → AreNoted cs → (i : ℕ) → length cs ≤ i → (s : StatesValue) → JoinedSoFar (take i cs) s → EachGroupingMerges (fonts_of cs)

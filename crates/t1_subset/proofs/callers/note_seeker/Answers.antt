@@ -1,4 +1,4 @@
-use Rattle.std.proofs.Common.{◌≡◌, ◌∙◌, refl, sym, ap, Bool, true, false, not, ◌&&◌, cond, true≢false, List, ℕ, Option, Some, None, is_some}
+use Rattle.std.proofs.Common.{arith, ◌≡◌, ◌∙◌, sym, ap, Bool, true, false, not, ◌&&◌, cond, List, ℕ, Option, Some, None, is_some}
 use Rattle.std.proofs.lemmas.Result.{on_ok_weaker}
 use Rattle.std.specs.FinMap as maps
 use Rattle.std.specs.Cmp.Lexicographic.{nat_list_cmp_total}
@@ -9,27 +9,20 @@ use Rattle.t1_algebra.proofs.Sets.{name_same, tied}
 use Rattle.t1_subset.proofs.callers.note_seeker.Goals as goal
 
 and_parts : (a b : Bool) → a && b ≡ true → (a ≡ true) × (b ≡ true)
-and_parts true b h = (refl, h)
-and_parts false b h = absurd (true≢false (sym h))
+and_parts a b h = grind arith
 
 -- nothing is noted where something is there already
 unnoted : (x : Option (List ℕ)) (g : List ℕ) (b : Bool) → (b ≡ true → is_some x ≡ true) → x ≡ joined x (cond b (Some g) None)
-unnoted (Some v) g b h = refl
-unnoted None g false h = refl
-unnoted None g true h = absurd (true≢false (sym (h refl)))
+unnoted x g b h = grind arith
 
 noted : (x y : Option (List ℕ)) (g : List ℕ) (h s : Bool) → y ≡ cond s (Some g) x → (s ≡ true → (x ≡ None) × (h ≡ false)) → y ≡ joined x (cond (not h && s) (Some g) None)
-noted x y g h true e k = let at = k refl in e ∙ sym (λ i. joined (at.0 i) (cond (not (at.1 i) && true) (Some g) None))
-noted None y g true false e k = e
-noted None y g false false e k = e
-noted (Some v) y g h false e k = e
+noted x y g h s e k = grind arith
 
 same_name : (q p : List ℕ) → same_bytes q p ≡ true → q ≡ p
 same_name q p s = tied nat_list_cmp_total name_same q p s
 
 not_true : (b : Bool) → b ≡ true → not b ≡ true → ⊥
-not_true true h k = absurd (true≢false (sym k))
-not_true false h k = absurd (true≢false (sym h))
+not_true b h k = grind arith
 
 pub returns-then-has_glyph : goal.returns-then-has_glyph
 returns-then-has_glyph c = λ q. unnoted (maps.get c.args.seekers.now q) c.args.glyph.now _ (λ b.

@@ -1,25 +1,13 @@
-use Rattle.std.proofs.Common.{List, ℕ, map, Bor, ◌∙◌, ap, sym}
+use Rattle.std.proofs.Common.{◌∙◌, ap, sym}
 use Rattle.std.specs.FinSet as sets
 use Rattle.t1_font.specs.FontModel.{subr_at}
 use Rattle.t1_algebra.specs.Profile.{set_of}
-use Rattle.t1_subset.proofs.closing.ProfileRuns.{components_are, no_components}
-use Rattle.t1_subset.proofs.closing.ExecutedCalls.{calls_are, no_calls}
-use Rattle.t1_subset.proofs.closing.NumberSets.{of_executed, union_none}
+use Rattle.t1_subset.proofs.closing.Runs.{calls_are}
+use Rattle.t1_subset.proofs.closing.NumberSets.{of_executed}
 use Rattle.t1_subset.proofs.calls.run_of.Goals as goal
-
-pub returns-in_ok-names-in-Some-clause-components : goal.returns-in_ok-names-in-Some-clause-components
-returns-in_ok-names-in-Some-clause-components c =
-    c.in_ok-names-in-Some.ensures.names ∙ components_are c.args.font.now c.proof_is_font.ensures c.args.name.now c.in-Some.charstring.now (sym c.in-Some.ensures)
 
 pub returns-in_ok-names-in-Some-clause-calls : goal.returns-in_ok-names-in-Some-clause-calls
 returns-in_ok-names-in-Some-clause-calls c =
     ap set_of c.in_ok-names-in-Some.ensures.executed
     ∙ of_executed c.args.calls.now (subr_at c.args.font.now) c.in-Some.charstring.now
     ∙ ap (sets.union (set_of c.args.calls.now)) (calls_are c.args.font.now c.proof_is_font.ensures c.args.name.now c.in-Some.charstring.now (sym c.in-Some.ensures))
-
-pub returns-in-None-clause-components : goal.returns-in-None-clause-components
-returns-in-None-clause-components c = ap (map (λ (s : Bor (List ℕ)). s.now)) c.new.ensures.items ∙ no_components c.args.font.now c.args.name.now (sym c.in-None.ensures)
-
-pub returns-in-None-clause-calls : goal.returns-in-None-clause-calls
-returns-in-None-clause-calls c =
-    sym (union_none (set_of c.args.calls.now)) ∙ ap (sets.union (set_of c.args.calls.now)) (no_calls c.args.font.now c.args.name.now (sym c.in-None.ensures))

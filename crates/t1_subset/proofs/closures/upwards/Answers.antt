@@ -5,18 +5,12 @@ use Rattle.std.specs.Cmp.Lexicographic.{nat_list_cmp_total}
 use Rattle.t1_font.specs.FontValue.{name_cmp}
 use Rattle.t1_algebra.specs.Interpreter.{Names}
 use Rattle.t1_subset.specs.NameSets.{lent, asked, set_by}
-use Rattle.t1_subset.proofs.closing.CopiedNames.{copy_step}
+use Rattle.t1_subset.proofs.closing.NameSets.{union_none, union_of_none}
 use Rattle.t1_algebra.proofs.Sets.{name_same}
-use Rattle.t1_subset.proofs.closing.SetUnions.{union_none, union_of_none}
 use Rattle.t1_subset.proofs.closures.upwards.Goals as goal
 
 pub names-init : goal.names-init
 names-init c = ap (λ (s : Names). sets.union s (asked c.args.names.now)) c.new-copies.ensures ∙ union_of_none nat_list_cmp_total name_same (lent c.args.names.now)
-
-pub names-preserved : goal.names-preserved
-names-preserved c =
-    copy_step c.names.copies c.insert.new.self c.args.names.now c.names.name-index c.in_ok-from_slice.field-0.items _ c.names-test.true c.in_ok-from_slice.ensures.items c.in_ok-insert.ensures.ok
-    ∙ c.names.invariant
 
 pub returns-clause-names : goal.returns-clause-names
 returns-clause-names c =

@@ -1,15 +1,7 @@
 use Rattle.std.proofs.Common.{sym, ◌∙◌}
-use Rattle.t1_subset.proofs.state_tables.MergedFonts.{tells_shell, tells_states}
-use Rattle.t1_subset.proofs.state_tables.StateClashes.{parts_seen, shared_seen}
+use Rattle.t1_subset.proofs.state_tables.Conflicts.{parts_seen, shared_seen}
 use Rattle.t1_subset.proofs.state_tables.Walks.{joined_ok, joined_err}
 use Rattle.t1_subset.proofs.in_turn.join_next.Goals as goal
-
-pub returns-in-Err-clause-err : goal.returns-in-Err-clause-err
-returns-in-Err-clause-err c f g h k = tells_states f g c.in-Err.conflict (tells_shell f g _ (parts_seen c.left.inside.shared c.right.inside.shared f g (shared_seen c.left.inside.shared f _ _ _ _ c.left.view_is h.own) (shared_seen c.right.inside.shared g _ _ _ _ c.right.view_is h.other)) c.in-Err.conflict c.in-Err.ensures.err)
-
-pub returns-in-Err-tables_conflict-clause-err : goal.returns-in-Err-tables_conflict-clause-err
-returns-in-Err-tables_conflict-clause-err c f g h k = tells_states f g c.in-Err-tables_conflict.conflict (c.in-Err-tables_conflict.ensures.err f g h k
-    (sym (parts_seen c.left.inside.shared c.right.inside.shared f g (shared_seen c.left.inside.shared f _ _ _ _ c.left.view_is h.own) (shared_seen c.right.inside.shared g _ _ _ _ c.right.view_is h.other)) ∙ c.in_default.ensures.ok))
 
 pub returns-clause-ok : goal.returns-clause-ok
 returns-clause-ok c f g h = joined_ok _ _ f g h c.join_states.result c.join_states.ensures.ok

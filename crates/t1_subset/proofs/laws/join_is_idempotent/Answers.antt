@@ -1,7 +1,6 @@
 use Rattle.t1_algebra.proofs.Fonts.{font_within}
 use Rattle.t1_algebra.proofs.Orders.{join_self}
-use Rattle.t1_algebra.specs.Profile.{profile}
 use Rattle.t1_subset.proofs.laws.join_is_idempotent.Goals as goal
 
 pub returns : goal.returns
-returns c f h = join_self profile f (font_within f h)
+returns c f h = join_self _ f (font_within f h)

@@ -1,13 +1,7 @@
 use Rattle.std.proofs.Common.{[], ◌∷◌, sym, ◌∙◌}
 use Rattle.t1_subset.proofs.state_tables.FontCallers.{first_callers, both_callers}
-use Rattle.t1_subset.proofs.state_tables.MergedFonts.{tells_shell}
-use Rattle.t1_subset.proofs.state_tables.StateClashes.{parts_seen}
+use Rattle.t1_subset.proofs.state_tables.Conflicts.{parts_seen}
 use Rattle.t1_subset.proofs.merger.conflict_of.Goals as goal
-
-pub returns-in-Err-clause-err : goal.returns-in-Err-clause-err
-returns-in-Err-clause-err c =
-    let f = c.args.left.now in let g = c.args.right.now in
-    tells_shell f g _ (parts_seen _ _ f g c.in_ok-own.ensures c.in_ok-other.ensures) c.in-Err.conflict c.in-Err.ensures.err
 
 pub returns-clause-ok : goal.returns-clause-ok
 returns-clause-ok c =

@@ -1,14 +1,12 @@
 use Rattle.std.proofs.Common.{◌≡◌, ℕ, ◌+◌, take, List, [], Bor, map, filter, sym, ◌∙◌, ap, subst, refl, arith, nat_cmp}
 use Rattle.std.specs.FinSet as sets
 use Rattle.t1_font.specs.FontValue.{notdef}
-use Rattle.t1_algebra.specs.Keep.{has, charstring, components, keep}
+use Rattle.t1_algebra.specs.Keep.{has, charstring, components}
 use Rattle.t1_algebra.specs.Profile.{profile, set_of}
 use Rattle.t1_subset.specs.ClosureNames.{push_new, push_all}
 use Rattle.t1_subset.specs.NameSets.{lent, asked}
-use Rattle.t1_subset.proofs.closing.ClosureSteps.{ClosureSoFar, closure_start, closure_step, closure_end, closure_few}
-use Rattle.t1_subset.proofs.closing.KeptCalls.{calls_to, calls_step, calls_end}
-use Rattle.t1_subset.proofs.closing.ClosureLists.{all_front}
-use Rattle.t1_subset.proofs.closing.LentNames.{got, past}
+use Rattle.t1_subset.proofs.closing.Closures.{ClosureSoFar, closure_start, closure_step, closure_few, all_front, got}
+use Rattle.t1_subset.proofs.closing.NumberSets.{calls_to, calls_step}
 use Rattle.t1_subset.proofs.needed.needed.Goals as goal
 
 pub closure-init : goal.closure-init
@@ -47,13 +45,3 @@ closure-preserved c =
       calls_step f ns c.closure.place n (set_of c.closure.calls) (set_of c.run_of.new.calls) at.0 at.1 c.closure.invariant.1 c.in_ok-components.ensures.calls
           ∙ ap (calls_to f) (sym (ap (take (c.closure.place + 1)) more ∙ all_front (c.closure.place + 1) found ns (omega (arith, l)))),
     )
-
-pub returns-clause-names : goal.returns-clause-names
-returns-clause-names c = closure_end profile c.args.font.now (asked c.args.names.now) c.closure.closure c.closure.place c.closure.invariant.0 (past c.closure.closure c.closure.place c.in_default.ensures)
-
-pub returns-clause-subrs : goal.returns-clause-subrs
-returns-clause-subrs c =
-    let end = past c.closure.closure c.closure.place c.in_default.ensures in
-    ap set_of c.in_ok-subrs.ensures
-    ∙ calls_end c.args.font.now c.closure.closure c.closure.place (set_of c.closure.calls) (keep profile c.args.font.now (asked c.args.names.now)) end c.closure.invariant.1
-    (closure_end profile c.args.font.now (asked c.args.names.now) c.closure.closure c.closure.place c.closure.invariant.0 end)

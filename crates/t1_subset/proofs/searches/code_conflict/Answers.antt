@@ -1,10 +1,9 @@
-use Rattle.std.proofs.Common.{◌≡◌, ◌<◌, ℕ, ◌∙◌, ap, Option, Some, None, SomeIff}
-use Rattle.t1_subset.proofs.state_tables.TableStates.{code_found, code_below}
+use Rattle.std.proofs.Common.{arith, ◌≡◌, ◌<◌, ℕ, ◌∙◌, Option, Some, None, SomeIff}
+use Rattle.t1_subset.proofs.state_tables.Conflicts.{code_found, code_below}
 use Rattle.t1_subset.proofs.searches.code_conflict.Goals as goal
 
 is_held : (r : Option ℕ) (c : ℕ) → SomeIff r (c < 256) c → c < 256 → r ≡ Some c
-is_held None c h l = absurd (h l)
-is_held (Some x) c h l = ap Some h.1
+is_held r c h l = grind arith
 
 pub returns-in-Some : goal.returns-in-Some
 returns-in-Some c f g h own other =

@@ -1,5 +1,5 @@
 use Rattle.std.proofs.Common.{Some, None}
-use Rattle.t1_subset.proofs.state_tables.TableStates.{subr_found}
+use Rattle.t1_subset.proofs.state_tables.Conflicts.{subr_found}
 use Rattle.t1_subset.proofs.searches.subr_conflict.Goals as goal
 
 pub returns-in-Some : goal.returns-in-Some

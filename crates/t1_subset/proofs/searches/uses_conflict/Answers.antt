@@ -1,8 +1,7 @@
 use Rattle.std.proofs.Common.{[], sym, ◌∙◌, ap, subst, Some, None, unwrap_or}
 use Rattle.t1_algebra.specs.Conflicts.{LacksComponent, SubrDiffers}
 use Rattle.t1_subset.specs.Refusals.{Tells}
-use Rattle.t1_subset.proofs.state_tables.StateClashes.{names_seen, subrs_seen, uses_part, uses_subr, subr_clashing}
-use Rattle.t1_subset.proofs.state_tables.NameClashes.{component_found}
+use Rattle.t1_subset.proofs.state_tables.Conflicts.{names_seen, subrs_seen, uses_part, uses_subr, subr_clashing, component_found}
 use Rattle.t1_subset.proofs.searches.uses_conflict.Goals as goal
 
 pub returns-in-Some-clause-err : goal.returns-in-Some-clause-err

@@ -3,8 +3,7 @@ use Rattle.t1_font.specs.Cut.{set_of_names}
 use Rattle.t1_algebra.specs.Keep.{subset}
 use Rattle.t1_algebra.specs.Profile.{profile}
 use Rattle.t1_subset.specs.NameSets.{lent, asked}
-use Rattle.t1_subset.proofs.closing.Absent.{none_absent}
-use Rattle.t1_subset.proofs.closing.SubsetCuts.{has_notdef, of_font, cut_is, draws}
+use Rattle.t1_subset.proofs.closing.Closures.{none_absent, has_notdef, of_font, cut_is, draws}
 use Rattle.t1_subset.proofs.subsets.subset.Goals as goal
 
 pub restrict-requires-clause-known : goal.restrict-requires-clause-known

@@ -1,17 +1,16 @@
-use Rattle.std.proofs.Common.{◌≡◌, refl, ◌∙◌, ap, sym, arith, ℕ, List, Bor, Option, Some, None, is_some, option_map}
+use Rattle.std.proofs.Common.{◌≡◌, ◌∙◌, ap, sym, arith, ℕ, List, Bor, Option, is_some, option_map}
 use Rattle.t1_algebra.specs.Profile.{profile}
 use Rattle.t1_algebra.specs.States.{subr_state, state_of_entry}
 use Rattle.t1_algebra.specs.StateTables.{used_subrs}
 use Rattle.t1_subset.proofs.state_tables.FontCallers.{called_is}
-use Rattle.t1_subset.proofs.state_tables.FirstConflicts.{absent_beyond}
+use Rattle.t1_subset.proofs.state_tables.FontUsers.{absent_beyond}
 use Rattle.t1_algebra.proofs.FontStates.{get-used}
 use Rattle.t1_subset.proofs.state_tables.ByNumber.{has_none, has_next, has_all, entry_is}
 use Rattle.t1_subset.proofs.tables.subr_table.Goals as goal
 
 -- what is lent is there where it is
 some_lent : (o : Option (Bor (List ℕ))) → is_some o ≡ is_some (option_map (λ (s : Bor (List ℕ)). s.now) o)
-some_lent None = refl
-some_lent (Some s) = refl
+some_lent o = grind arith
 
 pub indices-init : goal.indices-init
 indices-init c = has_none _ (subr_state profile c.args.font.now) c.new-table.ensures
