@@ -12,11 +12,12 @@ use Rattle.t1_font.specs.Cut.{restrict, restrict_encoding, stub}
 use Rattle.t1_font.proofs.MapLemmas.{get-map_values, get-retain}
 use Rattle.t1_algebra.specs.Interpreter.{Interpreter, Names}
 use Rattle.t1_algebra.specs.Keep.{has, charstring, components, components_here, keep, kept, subset}
-use Rattle.t1_algebra.proofs.Sets.{clash, is_or_not, name_same, same_members}
+use Rattle.t1_algebra.proofs.Sets.{clash, name_same, same_members}
 use Rattle.t1_algebra.proofs.Maps.{maps_same}
 use Rattle.t1_algebra.proofs.Kept.{InFont, keep_has, keep_least, keep_closed, component_here, component_here_from, kept_cases, kept_low, kept_call, kept_more, calls}
 use Rattle.t1_algebra.proofs.JoinOfSubsets.{same_font}
 use Rattle.t1_algebra.proofs.CutFonts.{get-glyph, has_some, runs_alike}
+use Rattle.std.proofs.lemmas.Bool.{cases_Bool}
 
 -- ---- a cut of a cut
 
@@ -41,7 +42,7 @@ stub_twice false l (Some c) h = refl
 module _ (p q : List ℕ → Bool) (more : (n : List ℕ) → p n ≡ true → q n ≡ true) where
   code_at : (n : List ℕ) (b : Bool) → q n ≡ b → cond (p (unwrap_or (cond b (Some n) None) [])) (cond b (Some n) None) None ≡ cond (p n) (Some n) None
   code_at n true h = refl
-  code_at n false h = nothing (p []) ∙ sym (elim (is_or_not (p n)) [ inl k ↦ clash (q n) (more n k) h | inr k ↦ ap (λ b. cond b (Some n) None) k ])
+  code_at n false h = nothing (p []) ∙ sym (elim (cases_Bool (p n)) [ inl k ↦ clash (q n) (more n k) h | inr k ↦ ap (λ b. cond b (Some n) None) k ])
 
   -- a code whose name is cut twice is cut by the narrower test
   code_twice : (x : Option (List ℕ)) → cond (p (unwrap_or (cond (q (unwrap_or x [])) x None) [])) (cond (q (unwrap_or x [])) x None) None ≡ cond (p (unwrap_or x [])) x None

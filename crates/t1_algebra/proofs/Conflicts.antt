@@ -15,10 +15,10 @@ use Rattle.t1_algebra.specs.Keep.{has}
 use Rattle.t1_algebra.specs.States.{IsWithin, Agree, code_state, is_sought, subr_state, state_of_glyph, state_of_entry, joined_font, Compatible, Join, executes, calls_for, called_at}
 use Rattle.t1_algebra.proofs.Flat.{agree_back}
 use Rattle.t1_algebra.proofs.Uses.{sought, seeker}
-use Rattle.t1_algebra.proofs.Sets.{name_same, and_so, or_left, or_right, or_cases, is_or_not, clash, not_so, tied, itself, any_one, any_at}
+use Rattle.t1_algebra.proofs.Sets.{name_same, clash, tied, itself, any_one, any_at}
 use Rattle.t1_algebra.proofs.JoinedStates.{font_back, compatible_back}
-use Rattle.std.proofs.lemmas.Bool.{leb-true, le-leb}
-use Rattle.t1_algebra.proofs.Searching.{not_false, false_of, or_swap, passes_none, found_none, none_found, contains-members, smallest_none, in_both, both_back}
+use Rattle.std.proofs.lemmas.Bool.{leb-true, le-leb, and_from, or_left, or_right, or_cases, cases_Bool, false_from_ne_true, not-false, not_from_true}
+use Rattle.t1_algebra.proofs.Searching.{or_swap, passes_none, found_none, none_found, contains-members, smallest_none, in_both, both_back}
 use Rattle.t1_algebra.proofs.Shares.{is_same, swaps, bytes_decide, Shares, shared_so, no_part_differs, differing_back, shared_from, shared_to}
 
 -- ---- tests
@@ -69,21 +69,21 @@ module _ {O : Type 0} (m : Interpreter O) where
   module _ (f g : FontValue) where
     -- a key that neither map has is not in conflict
     out_of_both : {K : Type 0} {R : K → K → Ordering} (o : IsTotalOrder R) (same : IsAntisymmetric R) (a b : maps.FinMap R (List ℕ)) (q : K) → maps.contains_key (keys_of_both a b) q ≡ false → agrees (maps.get a q) (maps.get b q) ≡ true
-    out_of_both o same a b q h = agrees_none (maps.get a q) (maps.get b q) (not_so (maps.contains_key b q) (λ k. clash (maps.contains_key (keys_of_both a b) q) (in_both o same a b q ∙ or_right (maps.contains_key a q) (maps.contains_key b q) k) h))
+    out_of_both o same a b q h = agrees_none (maps.get a q) (maps.get b q) (false_from_ne_true (maps.contains_key b q) (λ k. clash (maps.contains_key (keys_of_both a b) q) (in_both o same a b q ∙ or_right (maps.contains_key a q) (maps.contains_key b q) k) h))
 
     -- without a conflict of codes, the names of each code agree
     codes_agree_at : (d e : Encoding) → smallest (λ c. not (agrees (code_state d c) (code_state e c))) (codes_of_both d e) ≡ None → (c : ℕ) → agrees (code_state d c) (code_state e c) ≡ true
     codes_agree_at (Word v) e h c = refl
     codes_agree_at (Codes s) (Word w) h c = agrees_none (maps.get s c) None refl
-    codes_agree_at (Codes s) (Codes t) h c = elim (is_or_not (maps.contains_key (keys_of_both s t) c)) [
-      | inl k ↦ not_false (agrees (maps.get s c) (maps.get t c)) (smallest_none nat_cmp_total nat_cmp-IsAntisymmetric (λ c. not (agrees (maps.get s c) (maps.get t c))) (keys_of_both s t) c h k)
+    codes_agree_at (Codes s) (Codes t) h c = elim (cases_Bool (maps.contains_key (keys_of_both s t) c)) [
+      | inl k ↦ not-false (agrees (maps.get s c) (maps.get t c)) (smallest_none nat_cmp_total nat_cmp-IsAntisymmetric (λ c. not (agrees (maps.get s c) (maps.get t c))) (keys_of_both s t) c h k)
       | inr k ↦ out_of_both nat_cmp_total nat_cmp-IsAntisymmetric s t c k
     ]
 
     -- without a conflict of glyphs, the charstrings of each name agree
     glyphs_agree_at : glyph_conflict f g ≡ None → (n : List ℕ) → agrees (maps.get f.glyphs n) (maps.get g.glyphs n) ≡ true
-    glyphs_agree_at h n = elim (is_or_not (maps.contains_key (glyph_names f g) n)) [
-      | inl k ↦ not_false (agrees (maps.get f.glyphs n) (maps.get g.glyphs n)) (smallest_none nat_list_cmp_total name_same (glyph_clashes f g) (glyph_names f g) n h k)
+    glyphs_agree_at h n = elim (cases_Bool (maps.contains_key (glyph_names f g) n)) [
+      | inl k ↦ not-false (agrees (maps.get f.glyphs n) (maps.get g.glyphs n)) (smallest_none nat_list_cmp_total name_same (glyph_clashes f g) (glyph_names f g) n h k)
       | inr k ↦ out_of_both nat_list_cmp_total name_same f.glyphs g.glyphs n k
     ]
 
@@ -94,18 +94,18 @@ module _ {O : Type 0} (m : Interpreter O) where
 
     -- without a conflict of Subrs, the states of each index agree
     subrs_agree_at : subr_conflict m f g ≡ None → (i : ℕ) → agrees (subr_state m f i) (subr_state m g i) ≡ true
-    subrs_agree_at h i = elim (is_or_not (maps.contains_key (keys_of_both f.subrs g.subrs) i)) [
-      | inl k ↦ not_false (agrees (subr_state m f i) (subr_state m g i)) (smallest_none nat_cmp_total nat_cmp-IsAntisymmetric (subr_clashes m f g) (keys_of_both f.subrs g.subrs) i h k)
-      | inr k ↦ agrees_none (subr_state m f i) (subr_state m g i) (no_state i (maps.get g.subrs i) (not_so (maps.contains_key g.subrs i) (λ w. clash (maps.contains_key (keys_of_both f.subrs g.subrs) i) (in_both nat_cmp_total nat_cmp-IsAntisymmetric f.subrs g.subrs i ∙ or_right (maps.contains_key f.subrs i) (maps.contains_key g.subrs i) w) k)))
+    subrs_agree_at h i = elim (cases_Bool (maps.contains_key (keys_of_both f.subrs g.subrs) i)) [
+      | inl k ↦ not-false (agrees (subr_state m f i) (subr_state m g i)) (smallest_none nat_cmp_total nat_cmp-IsAntisymmetric (subr_clashes m f g) (keys_of_both f.subrs g.subrs) i h k)
+      | inr k ↦ agrees_none (subr_state m f i) (subr_state m g i) (no_state i (maps.get g.subrs i) (false_from_ne_true (maps.contains_key g.subrs i) (λ w. clash (maps.contains_key (keys_of_both f.subrs g.subrs) i) (in_both nat_cmp_total nat_cmp-IsAntisymmetric f.subrs g.subrs i ∙ or_right (maps.contains_key f.subrs i) (maps.contains_key g.subrs i) w) k)))
     ]
 
     -- a component that f lacks and seeks and that g has is in conflict
     lacks_clashes : (p : List ℕ) → has f p ≡ false → is_sought m f p ≡ true → has g p ≡ true → component_clashes m f g p ≡ true
     lacks_clashes p l s h =
         let w = wanting f g p s in
-        and_so (has f p || has g p) (list_any (wanted_by m f g p) (members (glyph_names f g))) (or_right (has f p) (has g p) h)
+        and_from (has f p || has g p) (list_any (wanted_by m f g p) (members (glyph_names f g))) (or_right (has f p) (has g p) h)
         (any_at nat_list_cmp_total name_same (wanted_by m f g p) w.0 (members (glyph_names f g)) (sym (contains-members nat_list_cmp_total name_same (glyph_names f g) w.0) ∙ w.1)
-        (or_left (wants m f w.0 p) (wants m g w.0 p) (and_so (not (has f p)) (calls_for m f w.0 p) (ap not l) w.2)))
+        (or_left (wants m f w.0 p) (wants m g w.0 p) (and_from (not (has f p)) (calls_for m f w.0 p) (ap not l) w.2)))
 
     -- the names of both are the same in either order
     names_back : glyph_names f g ≡ glyph_names g f
@@ -138,7 +138,7 @@ module _ {O : Type 0} (m : Interpreter O) where
 
     -- without a conflict of components, a name that only g has agrees
     lacking_agrees : component_conflict m f g ≡ None → (n d : List ℕ) → maps.get f.glyphs n ≡ None → maps.get g.glyphs n ≡ Some d → Agree (state_of_glyph m f n None) (state_of_glyph m g n (Some d))
-    lacking_agrees h n d l k = lone_agrees (is_sought m f n) d (not_so (is_sought m f n) (λ s. clash (component_clashes m f g n) (lacks_clashes f g n (ap is_some l) s (ap is_some k)) (no_component_clash h n (ap is_some k))))
+    lacking_agrees h n d l k = lone_agrees (is_sought m f n) d (false_from_ne_true (is_sought m f n) (λ s. clash (component_clashes m f g n) (lacks_clashes f g n (ap is_some l) s (ap is_some k)) (no_component_clash h n (ap is_some k))))
 
   -- without conflicts of glyphs and components, the states of a name agree
   names_at : (f g : FontValue) → component_conflict m f g ≡ None → (n : List ℕ) (x y : Option (List ℕ)) → maps.get f.glyphs n ≡ x → maps.get g.glyphs n ≡ y → agrees x y ≡ true → Agree (state_of_glyph m f n x) (state_of_glyph m g n y)
@@ -189,7 +189,7 @@ module _ {O : Type 0} (m : Interpreter O) (f g : FontValue) (c : Compatible m f 
 
   -- compatible fonts have no conflict of glyphs
   glyph_so : (n : List ℕ) → glyph_clashes f g n ≡ false
-  glyph_so n = false_of _ (glyph_at n (maps.get f.glyphs n) (maps.get g.glyphs n) (c.names n))
+  glyph_so n = not_from_true _ (glyph_at n (maps.get f.glyphs n) (maps.get g.glyphs n) (c.names n))
 
 -- a component that one of two compatible fonts lacks and seeks is lacking in the other
 module _ {O : Type 0} (m : Interpreter O) (f g : FontValue) where
@@ -220,7 +220,7 @@ module _ {O : Type 0} (m : Interpreter O) (f g : FontValue) (c : Compatible m f 
 
   -- compatible fonts have no conflict of components
   no_component : (p : List ℕ) → component_clashes m f g p ≡ false
-  no_component p = not_so (component_clashes m f g p) (λ h.
+  no_component p = false_from_ne_true (component_clashes m f g p) (λ h.
       let w = any_one nat_list_cmp_total name_same (wanted_by m f g p) (members (glyph_names f g)) (second_so (has f p || has g p) (list_any (wanted_by m f g p) (members (glyph_names f g))) h) in
       clash (has f p || has g p) (first_so (has f p || has g p) (list_any (wanted_by m f g p) (members (glyph_names f g))) h) (wanted_gone p w.0 w.2))
 
@@ -228,10 +228,10 @@ module _ {O : Type 0} (m : Interpreter O) (f g : FontValue) (c : Compatible m f 
   pub no_states_conflict : states_conflict m f g ≡ None
   no_states_conflict =
       none_found ShellDiffers (shell_conflict f g) _ (no_shell_conflict f g (shares_all m f g c))
-      (none_found CodeDiffers (code_conflict f g) _ (passes_none (code_clashes f g) (members (codes_of_both f.encoding g.encoding)) (λ k. false_of _ (so_agrees (code_state f.encoding k) (code_state g.encoding k) (c.codes k))))
+      (none_found CodeDiffers (code_conflict f g) _ (passes_none (code_clashes f g) (members (codes_of_both f.encoding g.encoding)) (λ k. not_from_true _ (so_agrees (code_state f.encoding k) (code_state g.encoding k) (c.codes k))))
       (none_found GlyphDiffers (glyph_conflict f g) _ (passes_none (glyph_clashes f g) (members (glyph_names f g)) (glyph_so m f g c))
       (none_found (λ p. LacksComponent (unwrap_or (smallest (wanted_by m f g p) (glyph_names f g)) []) p) (component_conflict m f g) _ (passes_none (component_clashes m f g) (members (glyph_names f g)) no_component)
-      (none_found (λ i. SubrDiffers i (smallest (used_by m f g i) (glyph_names f g))) (subr_conflict m f g) None (passes_none (subr_clashes m f g) (members (keys_of_both f.subrs g.subrs)) (λ i. false_of _ (so_agrees (subr_state m f i) (subr_state m g i) (c.subrs i)))) refl))))
+      (none_found (λ i. SubrDiffers i (smallest (used_by m f g i) (glyph_names f g))) (subr_conflict m f g) None (passes_none (subr_clashes m f g) (members (keys_of_both f.subrs g.subrs)) (λ i. not_from_true _ (so_agrees (subr_state m f i) (subr_state m g i) (c.subrs i)))) refl))))
 
 -- the test of the limits says that the joined font is within them
 pub within_so : {O : Type 0} (m : Interpreter O) (f g : FontValue) → is_within m f g ≡ true → IsWithin (joined_font m f g)
@@ -242,7 +242,7 @@ within_so m f g h = record {
 
 -- a joined font within the limits passes their test
 so_within : {O : Type 0} (m : Interpreter O) (f g : FontValue) → IsWithin (joined_font m f g) → is_within m f g ≡ true
-so_within m f g w = and_so (nat_le (weight (joined_font m f g)) weight_limit) (nat_le (maps.len (joined_font m f g).glyphs) count_limit) (le-leb _ _ w.weight) (le-leb _ _ w.glyphs)
+so_within m f g w = and_from (nat_le (weight (joined_font m f g)) weight_limit) (nat_le (maps.len (joined_font m f g).glyphs) count_limit) (le-leb _ _ w.weight) (le-leb _ _ w.glyphs)
 
 -- if no conflict over the limits is told, the test of the limits has passed
 over_none : (b : Bool) → ◌≡◌ {A = Option Conflict} (cond b None (Some OverLimit)) None → b ≡ true

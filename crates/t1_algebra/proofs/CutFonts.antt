@@ -16,7 +16,8 @@ use Rattle.t1_algebra.specs.Keep.{keep, kept, components, has, subset}
 use Rattle.t1_algebra.specs.States.{Agree, joined, is_called, is_sought, entry_state, state_of_entry, subr_state, is_stub}
 use Rattle.t1_algebra.proofs.Kept.{InFont, keep_closed, kept_call, component_here_from}
 use Rattle.t1_algebra.proofs.Uses.{caller, seeker}
-use Rattle.t1_algebra.proofs.Sets.{clash, is_or_not, not_so, name_same}
+use Rattle.t1_algebra.proofs.Sets.{clash, name_same}
+use Rattle.std.proofs.lemmas.Bool.{cases_Bool, false_from_ne_true}
 
 -- ---- stubs and entries
 
@@ -68,7 +69,7 @@ module _ {O : Type 0} (m : Interpreter O) (f : FontValue) (base : has f notdef �
 
   -- no glyph of a subset executes a Subr that is not kept
   pub not_called : (i : ℕ) → sets.contains (kept m f a) i ≡ false → is_called m (subset m f a) i ≡ false
-  not_called i out = not_so (is_called m (subset m f a) i) (λ h.
+  not_called i out = false_from_ne_true (is_called m (subset m f a) i) (λ h.
       let r = caller m (subset m f a) i h in
       let g = kept_glyph r.0 r.1 r.2 in
       clash (sets.contains (kept m f a) i)
@@ -76,7 +77,7 @@ module _ {O : Type 0} (m : Interpreter O) (f : FontValue) (base : has f notdef �
 
   -- no glyph of a subset seeks a name of the font that is not kept
   pub not_sought : (n : List ℕ) → has f n ≡ true → sets.contains (keep m f a) n ≡ false → is_sought m (subset m f a) n ≡ false
-  not_sought n is out = not_so (is_sought m (subset m f a) n) (λ h.
+  not_sought n is out = false_from_ne_true (is_sought m (subset m f a) n) (λ h.
       let r = seeker m (subset m f a) n h in
       let g = kept_glyph r.0 r.1 r.2 in
       clash (sets.contains (keep m f a) n)
@@ -104,8 +105,8 @@ module _ {O : Type 0} (m : Interpreter O) (f : FontValue) (base : has f notdef �
 
   -- a name that a subset seeks and lacks is lacking in the font
   pub sought_lacks : (n : List ℕ) → has (subset m f a) n ≡ false → is_sought m (subset m f a) n ≡ true → has f n ≡ false
-  sought_lacks n lacks s = not_so (has f n) (λ is.
-      let out : sets.contains (keep m f a) n ≡ false = not_so (sets.contains (keep m f a) n) (λ k. clash (has f n) is (sym (ap is_some (get-glyph n ∙ ap (λ b. cond b (maps.get f.glyphs n) None) k)) ∙ lacks)) in
+  sought_lacks n lacks s = false_from_ne_true (has f n) (λ is.
+      let out : sets.contains (keep m f a) n ≡ false = false_from_ne_true (sets.contains (keep m f a) n) (λ k. clash (has f n) is (sym (ap is_some (get-glyph n ∙ ap (λ b. cond b (maps.get f.glyphs n) None) k)) ∙ lacks)) in
       clash (is_sought m (subset m f a) n) s (not_sought n is out))
 
 -- x is the state of an entry c: either c itself, which is kept, or the bottom, and then c is a stub if it is kept
@@ -115,7 +116,7 @@ IsStateOf x k c = ((x ≡ Some c) × (k ≡ true)) ⊎ ((x ≡ None) × (k ≡ t
 module _ {O : Type 0} (m : Interpreter O) (f : FontValue) (base : has f notdef ≡ true) (a : Names) (inside : InFont m f a) where
   -- the state of an entry in a subset
   pub subr_state_of : (i : ℕ) (c : List ℕ) → maps.get f.subrs i ≡ Some c → IsStateOf (subr_state m (subset m f a) i) (sets.contains (kept m f a) i) c
-  subr_state_of i c is = elim (is_or_not (sets.contains (kept m f a) i)) [
+  subr_state_of i c is = elim (cases_Bool (sets.contains (kept m f a) i)) [
     | inr out ↦ inr (bottom m f base a inside i out, λ k. clash (sets.contains (kept m f a) i) k out)
     | inl k ↦
         let e : subr_state m (subset m f a) i ≡ entry_state m (subset m f a) i c =

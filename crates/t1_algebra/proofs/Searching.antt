@@ -1,5 +1,5 @@
 -- Searches: what they find, and when they find nothing.
-use Rattle.std.proofs.Common.{◌≡◌, ℕ, Bool, true, false, cond, not, ◌||◌, List, [], ◌∷◌, map, option_map, refl, sym, ◌∙◌, ap, true≢false, inl, inr, Ordering, Option, Some, None, is_some}
+use Rattle.std.proofs.Common.{◌≡◌, ℕ, Bool, true, false, cond, not, ◌||◌, List, [], ◌∷◌, map, option_map, refl, sym, ◌∙◌, ap, true≢false, inl, inr, Ordering, Option, Some, None, is_some, rules}
 use Rattle.std.specs.List.{list_any, AllByRecursion}
 use Rattle.std.specs.Ordering.{eq_by_cmp}
 use Rattle.std.specs.Cmp.{IsTotalOrder}
@@ -12,23 +12,11 @@ use Rattle.t1_algebra.specs.Searches.{first_where, members, smallest, found}
 use Rattle.t1_algebra.specs.Conflicts.{keys_of_both}
 use Rattle.t1_algebra.specs.States.{joined}
 use Rattle.t1_algebra.proofs.Maps.{get-merged, maps_same}
-use Rattle.t1_algebra.proofs.Sets.{or_cases, tied}
-
--- a test whose negation fails passes
-pub not_false : (b : Bool) → not b ≡ false → b ≡ true
-not_false true h = refl
-not_false false h = absurd (true≢false h)
-
--- the negation of a test that passes fails
-pub false_of : (b : Bool) → b ≡ true → not b ≡ false
-false_of true h = refl
-false_of false h = absurd (true≢false (sym h))
+use Rattle.t1_algebra.proofs.Sets.{tied}
+use Rattle.std.proofs.lemmas.Bool.{or_cases}
 
 pub or_swap : (a b : Bool) → (a || b) ≡ (b || a)
-or_swap true true = refl
-or_swap true false = refl
-or_swap false true = refl
-or_swap false false = refl
+or_swap a b = search rules
 
 module _ {X : Type 0} (p : X → Bool) where
   -- if a search finds nothing, no element passes

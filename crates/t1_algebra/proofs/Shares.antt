@@ -16,15 +16,16 @@ use Rattle.t1_algebra.specs.Searches.{first_where}
 use Rattle.t1_algebra.specs.Shared.{Shared, shared_of, ShellPart, Head, EncodingPart, ClearTail, Private, SubrsTable, SubrsWords, Middle, GlyphsWords, Tail, all_parts, same_number, same_bool, same_word, same_words, same_part, differing_part}
 use Rattle.t1_algebra.proofs.JoinedStates.{constant}
 use Rattle.t1_algebra.proofs.Maps.{maps_same}
-use Rattle.t1_algebra.proofs.Searching.{not_false, false_of, none_passes, passes_none}
-use Rattle.t1_algebra.proofs.Sets.{name_same, and_so, is_or_not, not_so, tied, itself}
+use Rattle.t1_algebra.proofs.Searching.{none_passes, passes_none}
+use Rattle.t1_algebra.proofs.Sets.{name_same, tied, itself}
+use Rattle.std.proofs.lemmas.Bool.{and_from, cases_Bool, false_from_ne_true, not-false, not_from_true}
 
 -- a test that decides equality is the same in both orders
 pub test_back : {X : Type 0} (t : X → X → Bool) → ((x y : X) → t x y ≡ true → x ≡ y) → ((x : X) → t x x ≡ true) → (x y : X) → t x y ≡ t y x
 test_back t so self x y =
-    elim (is_or_not (t x y)) [
+    elim (cases_Bool (t x y)) [
       | inl a ↦ a ∙ sym (ap (λ z. t z x) (sym (so x y a)) ∙ self x)
-      | inr b ↦ b ∙ sym (not_so (t y x) (λ k. true≢false (sym (ap (λ z. t x z) (so y x k) ∙ self x) ∙ b)))
+      | inr b ↦ b ∙ sym (false_from_ne_true (t y x) (λ k. true≢false (sym (ap (λ z. t x z) (so y x k) ∙ self x) ∙ b)))
     ]
 
 -- ---- each test decides
@@ -74,8 +75,8 @@ subrs_so (Some s) (Some t) p d w =
     λ i. Some (record { declared = d i; rd = rd i; put = put i; closing = closing i })
 
 words_self : (s : Option SubrsShell) → same_words s s ≡ true
-words_self s = and_so (same_bytes (of_subrs (λ w. w.rd) s) (of_subrs (λ w. w.rd) s)) _ (bytes_decide.self (of_subrs (λ w. w.rd) s))
-    (and_so (same_bytes (of_subrs (λ w. w.put) s) (of_subrs (λ w. w.put) s)) _ (bytes_decide.self (of_subrs (λ w. w.put) s)) (bytes_decide.self (of_subrs (λ w. w.closing) s)))
+words_self s = and_from (same_bytes (of_subrs (λ w. w.rd) s) (of_subrs (λ w. w.rd) s)) _ (bytes_decide.self (of_subrs (λ w. w.rd) s))
+    (and_from (same_bytes (of_subrs (λ w. w.put) s) (of_subrs (λ w. w.put) s)) _ (bytes_decide.self (of_subrs (λ w. w.put) s)) (bytes_decide.self (of_subrs (λ w. w.closing) s)))
 
 words_swap : (s t : Option SubrsShell) → same_words s t ≡ same_words t s
 words_swap s t = λ i. swaps same_bytes bytes_decide (of_subrs (λ w. w.rd) s) (of_subrs (λ w. w.rd) t) i
@@ -99,20 +100,20 @@ words_decide = record { so = word_so; self = word_self }
 module _ (s t : Shared) where
   same_shells : AllByRecursion (λ part. not (same_part s t part) ≡ false) all_parts → s.0 ≡ t.0
   same_shells h =
-      let head = bytes_decide.so s.0.head t.0.head (not_false _ h.0) in
-      let clear_tail = bytes_decide.so s.0.clear_tail t.0.clear_tail (not_false _ h.1.1.0) in
-      let privates = not_false _ h.1.1.1.0 in
+      let head = bytes_decide.so s.0.head t.0.head (not-false _ h.0) in
+      let clear_tail = bytes_decide.so s.0.clear_tail t.0.clear_tail (not-false _ h.1.1.0) in
+      let privates = not-false _ h.1.1.1.0 in
       let private = bytes_decide.so s.0.private t.0.private (first_so (same_bytes s.0.private t.0.private) _ privates) in
       let len_iv = numbers_decide.so s.0.len_iv t.0.len_iv (second_so (same_bytes s.0.private t.0.private) _ privates) in
-      let table = not_false _ h.1.1.1.1.0 in
+      let table = not-false _ h.1.1.1.1.0 in
       let there = bools_decide.so (is_some s.0.subrs) (is_some t.0.subrs) (first_so (same_bool (is_some s.0.subrs) (is_some t.0.subrs)) _ table) in
       let count = numbers_decide.so (declared_count s.0.subrs) (declared_count t.0.subrs) (first_so (same_number (declared_count s.0.subrs) (declared_count t.0.subrs)) _ (second_so (same_bool (is_some s.0.subrs) (is_some t.0.subrs)) _ table)) in
-      let subrs = subrs_so s.0.subrs t.0.subrs there count (not_false _ h.1.1.1.1.1.0) in
-      let middle = bytes_decide.so s.0.middle t.0.middle (not_false _ h.1.1.1.1.1.1.0) in
-      let words = not_false _ h.1.1.1.1.1.1.1.0 in
+      let subrs = subrs_so s.0.subrs t.0.subrs there count (not-false _ h.1.1.1.1.1.0) in
+      let middle = bytes_decide.so s.0.middle t.0.middle (not-false _ h.1.1.1.1.1.1.0) in
+      let words = not-false _ h.1.1.1.1.1.1.1.0 in
       let rd = bytes_decide.so s.0.glyphs_rd t.0.glyphs_rd (first_so (same_bytes s.0.glyphs_rd t.0.glyphs_rd) _ words) in
       let def = bytes_decide.so s.0.glyphs_def t.0.glyphs_def (second_so (same_bytes s.0.glyphs_rd t.0.glyphs_rd) _ words) in
-      let tail = bytes_decide.so s.0.tail t.0.tail (not_false _ h.1.1.1.1.1.1.1.1.0) in
+      let tail = bytes_decide.so s.0.tail t.0.tail (not-false _ h.1.1.1.1.1.1.1.1.0) in
       λ i. record { head = head i; clear_tail = clear_tail i; private = private i; middle = middle i; tail = tail i; len_iv = len_iv i; subrs = subrs i; glyphs_rd = rd i; glyphs_def = def i }
 
   indices_so : same_part s t SubrsTable ≡ true → s.1.1 ≡ t.1.1
@@ -123,21 +124,21 @@ module _ (s t : Shared) where
   shared_so h =
       let parts = none_passes (λ part. not (same_part s t part)) all_parts h in
       let shells = same_shells parts in
-      let word = words_decide.so s.1.0 t.1.0 (not_false (same_part s t EncodingPart) parts.1.0) in
-      let indices = indices_so (not_false (same_part s t SubrsTable) parts.1.1.1.1.0) in
+      let word = words_decide.so s.1.0 t.1.0 (not-false (same_part s t EncodingPart) parts.1.0) in
+      let indices = indices_so (not-false (same_part s t SubrsTable) parts.1.1.1.1.0) in
       λ i. (shells i, (word i, indices i))
 
 part_self : (s : Shared) (part : ShellPart) → not (same_part s s part) ≡ false
-part_self s Head = false_of _ (bytes_decide.self s.0.head)
-part_self s EncodingPart = false_of _ (words_decide.self s.1.0)
-part_self s ClearTail = false_of _ (bytes_decide.self s.0.clear_tail)
-part_self s Private = false_of _ (and_so (same_bytes s.0.private s.0.private) _ (bytes_decide.self s.0.private) (numbers_decide.self s.0.len_iv))
-part_self s SubrsTable = false_of _ (and_so (same_bool (is_some s.0.subrs) (is_some s.0.subrs)) _ (bools_decide.self (is_some s.0.subrs))
-    (and_so (same_number (declared_count s.0.subrs) (declared_count s.0.subrs)) _ (numbers_decide.self (declared_count s.0.subrs)) (bytes_decide.self s.1.1)))
-part_self s SubrsWords = false_of _ (words_self s.0.subrs)
-part_self s Middle = false_of _ (bytes_decide.self s.0.middle)
-part_self s GlyphsWords = false_of _ (and_so (same_bytes s.0.glyphs_rd s.0.glyphs_rd) _ (bytes_decide.self s.0.glyphs_rd) (bytes_decide.self s.0.glyphs_def))
-part_self s Tail = false_of _ (bytes_decide.self s.0.tail)
+part_self s Head = not_from_true _ (bytes_decide.self s.0.head)
+part_self s EncodingPart = not_from_true _ (words_decide.self s.1.0)
+part_self s ClearTail = not_from_true _ (bytes_decide.self s.0.clear_tail)
+part_self s Private = not_from_true _ (and_from (same_bytes s.0.private s.0.private) _ (bytes_decide.self s.0.private) (numbers_decide.self s.0.len_iv))
+part_self s SubrsTable = not_from_true _ (and_from (same_bool (is_some s.0.subrs) (is_some s.0.subrs)) _ (bools_decide.self (is_some s.0.subrs))
+    (and_from (same_number (declared_count s.0.subrs) (declared_count s.0.subrs)) _ (numbers_decide.self (declared_count s.0.subrs)) (bytes_decide.self s.1.1)))
+part_self s SubrsWords = not_from_true _ (words_self s.0.subrs)
+part_self s Middle = not_from_true _ (bytes_decide.self s.0.middle)
+part_self s GlyphsWords = not_from_true _ (and_from (same_bytes s.0.glyphs_rd s.0.glyphs_rd) _ (bytes_decide.self s.0.glyphs_rd) (bytes_decide.self s.0.glyphs_def))
+part_self s Tail = not_from_true _ (bytes_decide.self s.0.tail)
 
 -- no part of what is the same differs
 pub no_part_differs : (s t : Shared) → s ≡ t → differing_part s t ≡ None
@@ -211,5 +212,5 @@ shared_to f g h = record {
 
 -- no part differs exactly if all is the same
 pub parts_test : {X : Type 0} (part : X → ShellPart) (s t : Shared) (r : Option X) (b : Bool) → is_some r ≡ not b → option_map part r ≡ differing_part s t → (b ≡ true) ↔ (s ≡ t)
-parts_test part s t None b n e = (λ h. shared_so s t (sym e), λ h. not_false b (sym n))
+parts_test part s t None b n e = (λ h. shared_so s t (sym e), λ h. not-false b (sym n))
 parts_test part s t (Some x) b n e = (λ h. absurd (true≢false (n ∙ ap not h)), λ h. Some_None (e ∙ no_part_differs s t h))

@@ -10,7 +10,8 @@ use Rattle.t1_font.proofs.MapLemmas.{T_true}
 use Rattle.t1_algebra.specs.Searches.{smallest, first_where}
 use Rattle.t1_algebra.proofs.Searching.{contains-members}
 use Rattle.t1_algebra.proofs.Maps.{less_of}
-use Rattle.t1_algebra.proofs.Sets.{or_cases, here, later, itself, tied}
+use Rattle.t1_algebra.proofs.Sets.{here, later, itself, tied}
+use Rattle.std.proofs.lemmas.Bool.{or_cases}
 
 module _ {K : Type 0} {R : K → K → Ordering} (o : IsTotalOrder R) (same : IsAntisymmetric R) (p : K → Bool) where
   -- a key is below the keys that come later

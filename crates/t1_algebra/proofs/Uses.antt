@@ -10,7 +10,8 @@ use Rattle.t1_font.specs.FontValue.{FontValue}
 use Rattle.t1_algebra.specs.Interpreter.{Interpreter, same_bytes}
 use Rattle.t1_algebra.specs.Keep.{has, components}
 use Rattle.t1_algebra.specs.States.{executed_at, executes, called_at, calls_for, is_called, is_sought}
-use Rattle.t1_algebra.proofs.Sets.{name_same, any_one, any_at, or_cases, or_left, or_right}
+use Rattle.t1_algebra.proofs.Sets.{name_same, any_one, any_at}
+use Rattle.std.proofs.lemmas.Bool.{or_cases, or_left, or_right}
 
 -- what holds of a name in j if it holds in f or in g holds of some glyph of j if it does of some glyph of f or of g
 module _ (p : FontValue → List ℕ → Bool) (there : (h : FontValue) (n : List ℕ) → p h n ≡ true → has h n ≡ true) where

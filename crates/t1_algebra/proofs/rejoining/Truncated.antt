@@ -1,6 +1,6 @@
 -- Truncated subsets that are made even are subsets of one font.
 use Rattle.std.proofs.Common.{◌≡◌, ◌<◌, ◌≤◌, ℕ, max, nat_lt, nat_cmp, Bool, true, false, ◌||◌, cond, List, [], ◌∷◌, map, length, refl, sym, ◌∙◌, ap, subst, Option, Some, None, option_map, is_some, inl, inr, arith}
-use Rattle.std.proofs.lemmas.Bool.{ltb-true, ltb-false, lt-ltb, le-ltb}
+use Rattle.std.proofs.lemmas.Bool.{ltb-true, ltb-false, lt-ltb, le-ltb, cases_Bool, false_from_ne_true}
 use Rattle.std.specs.List.{list_any, AllByRecursion}
 use Rattle.std.specs.Ordering.{eq_by_cmp}
 use Rattle.std.specs.Cmp.{nat_cmp_total}
@@ -21,7 +21,7 @@ use Rattle.t1_algebra.specs.Laws.{IsOf}
 use Rattle.t1_algebra.specs.Rejoins.{declares, cut_to, without_tag, Truncated, IsTruncated, fonts_of, sets_of, largest, shared_font}
 use Rattle.t1_algebra.proofs.rejoining.CutCounts.{KeepsBelow, keep_same, kept_same}
 use Rattle.t1_algebra.proofs.Maps.{get-merged, maps_same}
-use Rattle.t1_algebra.proofs.Sets.{is_or_not, not_so, clash, any_append, any_append_left, any_append_right, any_filter, any_filter_from}
+use Rattle.t1_algebra.proofs.Sets.{clash, any_append, any_append_left, any_append_right, any_filter, any_filter_from}
 
 -- ---- what a cut subset has
 
@@ -127,7 +127,7 @@ module _ (f : FontValue) where
   -- the indices of all fonts include each index of the font below the largest count
   reached : (most : ℕ) (ts : List Truncated) → AllByRecursion (IsTruncated f) ts → (q : ℕ) → q < largest ts → maps.contains_key f.subrs q ≡ true → listed q (all_indices most ts) ≡ true
   reached most [] w q lt is = absurd (omega (arith, lt))
-  reached most (t ∷ ts) w q lt is = elim (is_or_not (nat_lt q t.count)) [
+  reached most (t ∷ ts) w q lt is = elim (cases_Bool (nat_lt q t.count)) [
     | inl b ↦ any_append_left (eq_by_cmp nat_cmp q) (maps.keys t.font.subrs) (all_indices most ts)
         (sym (maps.contains_key-keys t.font.subrs q) ∙ (ap is_some (get_font t w.0 q) ∙ entry_there (keeps f t.names q) (nat_lt q t.count) (maps.get f.subrs q) b is))
     | inr b ↦ any_append_right (eq_by_cmp nat_cmp q) (maps.keys t.font.subrs) (all_indices most ts)
@@ -261,11 +261,11 @@ module _ (f : FontValue) (h : IsFont f) (most : ℕ) (fits : most ≤ declared_c
 
     -- no stub stands where the font has no entry
     outside : (q : ℕ) → maps.get f.subrs q ≡ None → is_in q ≡ false
-    outside q e = not_so (is_in q) (λ l. clash (maps.contains_key f.subrs q) (from q (in_both q l).0) (ap is_some e))
+    outside q e = false_from_ne_true (is_in q) (λ l. clash (maps.contains_key f.subrs q) (from q (in_both q l).0) (ap is_some e))
 
     -- no stub stands at the count or above it
     above : (q : ℕ) → nat_lt q most ≡ false → is_in q ≡ false
-    above q e = not_so (is_in q) (λ l. clash (nat_lt q most) (lt-ltb q most (omega (arith, ltb-true q declared (in_both q l).1, declared_low))) e)
+    above q e = false_from_ne_true (is_in q) (λ l. clash (nat_lt q most) (lt-ltb q most (omega (arith, ltb-true q declared (in_both q l).1, declared_low))) e)
 
     -- a stub can stand at each index of the font below the count
     under : (q : ℕ) → q < most → maps.contains_key f.subrs q ≡ true → is_in q ≡ true
@@ -283,16 +283,16 @@ module _ (f : FontValue) (h : IsFont f) (most : ℕ) (fits : most ≤ declared_c
 
     -- an entry of the font at the count of the truncated subset or above it is not kept
     not_kept : (q : ℕ) (c : List ℕ) → maps.get f.subrs q ≡ Some c → nat_lt q t.count ≡ false → sets.contains (kept profile f t.names) q ≡ false
-    not_kept q c is high = not_so (sets.contains (kept profile f t.names) q) (λ k. clash (nat_lt q t.count) (lt-ltb q t.count (w.kept q k (ap is_some is))) high)
+    not_kept q c is high = false_from_ne_true (sets.contains (kept profile f t.names) q) (λ k. clash (nat_lt q t.count) (lt-ltb q t.count (w.kept q k (ap is_some is))) high)
 
     -- the entry of a truncated subset, or else a stub, is the entry of the subset cut to the largest count
     value_same : (q : ℕ) (x : Option (List ℕ)) → maps.get f.subrs q ≡ x → joined (entry_in f t.names t.count q x) (with_stub (is_in q)) ≡ entry_in f t.names most q x
     value_same q None is = ap (λ b. joined (cond (nat_lt q t.count) None None) (with_stub b)) (outside q is) ∙ both_none (nat_lt q t.count) (nat_lt q most)
-    value_same q (Some c) is = elim (is_or_not (nat_lt q most)) [
+    value_same q (Some c) is = elim (cases_Bool (nat_lt q most)) [
       | inr high ↦
           let high' : nat_lt q t.count ≡ false = le-ltb q t.count (omega (arith, le, ltb-false q most high)) in
           (λ i. joined (cond (high' i) (Some (keeps f t.names q c)) None) (with_stub (above q high i))) ∙ ap (λ b. cond b (Some (keeps f t.names q c)) None) (sym high)
-      | inl lt ↦ elim (is_or_not (nat_lt q t.count)) [
+      | inl lt ↦ elim (cases_Bool (nat_lt q t.count)) [
         | inl b ↦ ap (λ b. joined (cond b (Some (keeps f t.names q c)) None) (with_stub (is_in q))) b ∙ ap (λ b. cond b (Some (keeps f t.names q c)) None) (sym lt)
         | inr b ↦ (λ i. joined (cond (b i) (Some (keeps f t.names q c)) None) (with_stub (under q (ltb-true q most lt) (ap is_some is) i)))
             ∙ ap (λ b. Some (cond b c stub)) (sym (not_kept q c is b)) ∙ ap (λ b. cond b (Some (keeps f t.names q c)) None) (sym lt)

@@ -13,7 +13,8 @@ use Rattle.t1_font.specs.Cut.{stub}
 use Rattle.t1_font.specs.FontValue.{FontValue, Shell, Encoding, Word, name_cmp, notdef}
 use Rattle.t1_algebra.specs.Interpreter.{Interpreter, Names}
 use Rattle.t1_algebra.specs.Keep.{sets_of, charstring, has, components_here, is_closed, is_needed, keep, called_by, kept}
-use Rattle.t1_algebra.proofs.Sets.{name_same, all_append, all_map, all_at, all_from, any_one, any_at, any_flat, any_flat_from, in_list, from_in_list, in_items, from_in_items}
+use Rattle.t1_algebra.proofs.Sets.{name_same, all_at, all_from, any_one, any_at, any_flat, any_flat_from, in_list, from_in_list, in_items, from_in_items}
+use Rattle.std.proofs.lemmas.List.Folds.{list_all-append, list_all-map}
 
 -- ---- sets of lists
 
@@ -62,11 +63,11 @@ lists_of (n ∷ ns) = lists_of ns ++ map (λ l. n ∷ l) (lists_of ns)
 all_sets : (p : Names → Bool) (ns : List (List ℕ)) → list_all p (sets_of ns) ≡ list_all (λ l. p (sets.from_list l)) (lists_of ns)
 all_sets p [] = refl
 all_sets p (n ∷ ns) =
-    all_append p (sets_of ns) (map (λ s. sets.insert s n) (sets_of ns))
-    ∙ ap (λ b. list_all p (sets_of ns) && b) (all_map p (λ s. sets.insert s n) (sets_of ns))
+    list_all-append p (sets_of ns) (map (λ s. sets.insert s n) (sets_of ns))
+    ∙ ap (λ b. list_all p (sets_of ns) && b) (list_all-map p (λ s. sets.insert s n) (sets_of ns))
     ∙ (λ i. all_sets p ns i && all_sets (λ s. p (sets.insert s n)) ns i)
-    ∙ ap (λ b. list_all (λ l. p (sets.from_list l)) (lists_of ns) && b) (sym (all_map (λ l. p (sets.from_list l)) (λ l. n ∷ l) (lists_of ns)))
-    ∙ sym (all_append (λ l. p (sets.from_list l)) (lists_of ns) (map (λ l. n ∷ l) (lists_of ns)))
+    ∙ ap (λ b. list_all (λ l. p (sets.from_list l)) (lists_of ns) && b) (sym (list_all-map (λ l. p (sets.from_list l)) (λ l. n ∷ l) (lists_of ns)))
+    ∙ sym (list_all-append (λ l. p (sets.from_list l)) (lists_of ns) (map (λ l. n ∷ l) (lists_of ns)))
 
 -- ---- small fonts, and an interpreter of charstrings whose bytes are indices and components
 

@@ -7,8 +7,9 @@ use Rattle.t1_algebra.specs.Keep.{has}
 use Rattle.t1_algebra.specs.Laws.{IsOf}
 use Rattle.t1_algebra.specs.Searches.{first_where}
 use Rattle.t1_algebra.proofs.Sets.{name_same, in_list}
-use Rattle.t1_algebra.proofs.Searching.{none_at_all, not_false}
+use Rattle.t1_algebra.proofs.Searching.{none_at_all}
+use Rattle.std.proofs.lemmas.Bool.{not-false}
 
 -- if a search for an absent name finds none, the names are the font's
 pub none_absent : (f : FontValue) (ns : List (List ℕ)) → first_where (λ n. not (has f n)) ns ≡ None → IsOf f (sets.from_list ns)
-none_absent f ns h n k = not_false (has f n) (none_at_all nat_list_cmp_total name_same (λ n. not (has f n)) ns n h (in_list nat_list_cmp_total name_same ns n k))
+none_absent f ns h n k = not-false (has f n) (none_at_all nat_list_cmp_total name_same (λ n. not (has f n)) ns n h (in_list nat_list_cmp_total name_same ns n k))

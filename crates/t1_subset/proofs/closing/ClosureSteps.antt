@@ -14,9 +14,10 @@ use Rattle.t1_algebra.specs.Interpreter.{Interpreter, Names, same_bytes}
 use Rattle.t1_algebra.specs.Keep.{Closed, has, keep, components, components_here, charstring}
 use Rattle.t1_algebra.specs.Laws.{IsOf}
 use Rattle.t1_subset.specs.ClosureNames.{push_new, push_all}
-use Rattle.t1_algebra.proofs.Sets.{name_same, tied, itself, any_filter, here_or, here, or_cases, in_list, from_in_list, same_members}
+use Rattle.t1_algebra.proofs.Sets.{name_same, tied, itself, any_filter, here_or, here, in_list, from_in_list, same_members}
 use Rattle.t1_algebra.proofs.Kept.{keep_least, keep_from}
 use Rattle.t1_subset.proofs.closing.ClosureLists.{is_in, all_more, all_there, all_from, all_distinct, all_length, all_front}
+use Rattle.std.proofs.lemmas.Bool.{or_cases}
 
 -- the names of a closure so far: the components of the first i of them are among them
 pub record ClosureSoFar {O : Type 0} (m : Interpreter O) (f : FontValue) (a : Names) (ns : List (List ℕ)) (i : ℕ) : Type 0 where

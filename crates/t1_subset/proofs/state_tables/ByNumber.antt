@@ -1,6 +1,6 @@
 -- Tables that are filled by number, from 0 on.
 use Rattle.std.proofs.Common.{◌≡◌, ℕ, ◌<◌, ◌≤◌, ◌+◌, Bool, true, false, cond, List, refl, sym, ◌∙◌, ap, subst, true≢false, Option, Some, None, is_some, nat_cmp, nat_lt, arith, inl, inr}
-use Rattle.std.proofs.lemmas.Bool.{ltb-true, ltb-false}
+use Rattle.std.proofs.lemmas.Bool.{ltb-true, ltb-false, cases_Bool, false_from_ne_true}
 use Rattle.std.specs.Ordering.{eq_by_cmp}
 use Rattle.std.specs.Cmp.{nat_cmp_total, both_ways}
 use Rattle.std.specs.FinMap as maps
@@ -14,7 +14,7 @@ use Rattle.t1_algebra.specs.StateTables.{numbered, code_states}
 use Rattle.t1_subset.specs.Differences.{with_state, entry_state}
 use Rattle.t1_algebra.proofs.Maps.{maps_same}
 use Rattle.t1_algebra.proofs.Numbered.{get-numbered, numbered-empty, numbered-insert}
-use Rattle.t1_algebra.proofs.Sets.{is_or_not, not_so, tied, itself}
+use Rattle.t1_algebra.proofs.Sets.{tied, itself}
 
 -- the table has what x gives for the numbers below n, and nothing else
 pub record HasBelow (t : TableMeaning) (x : ℕ → Option (List ℕ)) (n : ℕ) : Type 0 where
@@ -23,21 +23,21 @@ pub record HasBelow (t : TableMeaning) (x : ℕ → Option (List ℕ)) (n : ℕ)
   pub shown : (i : ℕ) → maps.get map i ≡ cond (nat_lt i n) (x i) None
 
 none_is_below : (i : ℕ) → nat_lt i 0 ≡ false
-none_is_below i = not_so (nat_lt i 0) (λ a. let l : i < 0 = ltb-true i 0 a in omega arith)
+none_is_below i = false_from_ne_true (nat_lt i 0) (λ a. let l : i < 0 = ltb-true i 0 a in omega arith)
 
 at_next : (i n : ℕ) → i ≡ n → nat_lt i (n + 1) ≡ true
-at_next i n e = elim (is_or_not (nat_lt i (n + 1))) [
+at_next i n e = elim (cases_Bool (nat_lt i (n + 1))) [
   | inl a ↦ a
   | inr a ↦ let far : n + 1 ≤ i = ltb-false i (n + 1) a in absurd (omega arith)
 ]
 
 past_next : (i n : ℕ) → eq_by_cmp nat_cmp i n ≡ false → nat_lt i n ≡ nat_lt i (n + 1)
 past_next i n d = both_ways (nat_lt i n) (nat_lt i (n + 1))
-    (λ a. elim (is_or_not (nat_lt i (n + 1))) [
+    (λ a. elim (cases_Bool (nat_lt i (n + 1))) [
       | inl b ↦ b
       | inr b ↦ let near : i < n = ltb-true i n a in let far : n + 1 ≤ i = ltb-false i (n + 1) b in absurd (omega arith)
     ])
-    (λ a. elim (is_or_not (nat_lt i n)) [
+    (λ a. elim (cases_Bool (nat_lt i n)) [
       | inl b ↦ b
       | inr b ↦
           let near : i < n + 1 = ltb-true i (n + 1) a in let far : n ≤ i = ltb-false i n b in
@@ -52,7 +52,7 @@ module _ (t : TableMeaning) (x : ℕ → Option (List ℕ)) where
 
   -- if x gives nothing from n on, the table has all of it
   pub has_all : (n : ℕ) → HasBelow t x n → ((i : ℕ) → n ≤ i → x i ≡ None) → (m : Numbered) → ((i : ℕ) → maps.get m i ≡ x i) → t ≡ numbered m
-  has_all n h far m is = h.table ∙ ap numbered (maps_same nat_cmp_total nat_cmp-IsAntisymmetric h.map m (λ i. h.shown i ∙ (elim (is_or_not (nat_lt i n)) [
+  has_all n h far m is = h.table ∙ ap numbered (maps_same nat_cmp_total nat_cmp-IsAntisymmetric h.map m (λ i. h.shown i ∙ (elim (cases_Bool (nat_lt i n)) [
     | inl a ↦ ap (λ b. cond b (x i) None) a
     | inr a ↦ ap (λ b. cond b (x i) None) a ∙ sym (far i (ltb-false i n a))
   ]) ∙ sym (is i)))
@@ -60,14 +60,14 @@ module _ (t : TableMeaning) (x : ℕ → Option (List ℕ)) where
 module _ (t : TableMeaning) (x : ℕ → Option (List ℕ)) (n : ℕ) (h : HasBelow t x n) where
   -- the table has what x gives for each number below n
   pub has_at : (i : ℕ) → i < n → maps.get t (of_number i) ≡ x i
-  has_at i l = ap (λ (t : TableMeaning). maps.get t (of_number i)) h.table ∙ get-numbered h.map (of_number i) ∙ h.shown i ∙ (elim (is_or_not (nat_lt i n)) [
+  has_at i l = ap (λ (t : TableMeaning). maps.get t (of_number i)) h.table ∙ get-numbered h.map (of_number i) ∙ h.shown i ∙ (elim (cases_Bool (nat_lt i n)) [
     | inl a ↦ ap (λ b. cond b (x i) None) a
     | inr a ↦ let far : n ≤ i = ltb-false i n a in absurd (omega arith)
   ])
 
   -- a table with the value of n has what x gives below n + 1
   with_one : (v : List ℕ) → x n ≡ Some v → (i : ℕ) → maps.get (maps.insert h.map n v) i ≡ cond (nat_lt i (n + 1)) (x i) None
-  with_one v e i = maps.get-insert nat_cmp_total h.map n v i ∙ (elim (is_or_not (eq_by_cmp nat_cmp i n)) [
+  with_one v e i = maps.get-insert nat_cmp_total h.map n v i ∙ (elim (cases_Bool (eq_by_cmp nat_cmp i n)) [
     | inl a ↦
         let same : i ≡ n = tied nat_cmp_total nat_cmp-IsAntisymmetric i n a in
         ap (λ b. cond b (Some v) (maps.get h.map i)) a ∙ sym e ∙ ap x (sym same) ∙ sym (ap (λ b. cond b (x i) None) (at_next i n same))
@@ -80,7 +80,7 @@ module _ (t : TableMeaning) (x : ℕ → Option (List ℕ)) (n : ℕ) (h : HasBe
 
   -- if x gives nothing at n, the table has what x gives below n + 1
   with_nothing : x n ≡ None → (i : ℕ) → maps.get h.map i ≡ cond (nat_lt i (n + 1)) (x i) None
-  with_nothing e i = h.shown i ∙ (elim (is_or_not (eq_by_cmp nat_cmp i n)) [
+  with_nothing e i = h.shown i ∙ (elim (cases_Bool (eq_by_cmp nat_cmp i n)) [
     | inl a ↦
         let none : x i ≡ None = ap x (tied nat_cmp_total nat_cmp-IsAntisymmetric i n a) ∙ e in
         sym (none_either (nat_lt i n) (x i) none) ∙ none_either (nat_lt i (n + 1)) (x i) none

@@ -1,6 +1,6 @@
 -- Where Subrs and codes in conflict stand.
 use Rattle.std.proofs.Common.{◌≡◌, ℕ, ◌≤◌, true, not, cond, List, refl, sym, ◌∙◌, ap, true≢false, Option, Some, None, is_some, inl, inr, arith, nat_lt}
-use Rattle.std.proofs.lemmas.Bool.{ltb-true}
+use Rattle.std.proofs.lemmas.Bool.{ltb-true, cases_Bool, or_left}
 use Rattle.std.specs.Cmp.{nat_cmp_total}
 use Rattle.std.specs.FinSet.{nat_cmp-IsAntisymmetric}
 use Rattle.std.specs.FinMap as maps
@@ -11,7 +11,6 @@ use Rattle.t1_font.proofs.FontReaders.{subrs_seen}
 use Rattle.t1_algebra.specs.Conflicts.{agrees, codes_of_both}
 use Rattle.t1_algebra.specs.States.{code_state}
 use Rattle.t1_algebra.proofs.Searching.{in_both}
-use Rattle.t1_algebra.proofs.Sets.{is_or_not, or_left}
 
 -- a state that does not join is not the bottom
 pub there_of : (x y : Option (List ℕ)) → not (agrees x y) ≡ true → is_some x ≡ true
@@ -22,7 +21,7 @@ there_of (Some v) y h = refl
 
 -- a font has no Subr at its declared count or above it
 pub absent_beyond : (f : FontValue) → IsFont f → (q : ℕ) → declared_count f.shell.subrs ≤ q → maps.get f.subrs q ≡ None
-absent_beyond f h q l = sym (subrs_seen f h q) ∙ (elim (is_or_not (nat_lt q (declared_count f.shell.subrs))) [
+absent_beyond f h q l = sym (subrs_seen f h q) ∙ (elim (cases_Bool (nat_lt q (declared_count f.shell.subrs))) [
   | inl a ↦ absurd (let k = ltb-true q (declared_count f.shell.subrs) a in omega arith)
   | inr b ↦ ap (λ t. cond t (maps.get f.subrs q) None) b
 ])

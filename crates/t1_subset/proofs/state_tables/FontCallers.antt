@@ -28,7 +28,8 @@ use Rattle.t1_subset.proofs.state_tables.LowestKeys.{smaller_first}
 use Rattle.t1_algebra.proofs.JoinedStates.{glyph_in_join, present_joined, executes_join, calls_join}
 use Rattle.t1_algebra.proofs.Uses.{executing_there, naming_there, sought}
 use Rattle.std.specs.Cmp.{second_so}
-use Rattle.t1_algebra.proofs.Sets.{name_same, not_so, clash, tied}
+use Rattle.t1_algebra.proofs.Sets.{name_same, clash, tied}
+use Rattle.std.proofs.lemmas.Bool.{false_from_ne_true}
 
 -- ---- the first of some names
 
@@ -161,7 +162,7 @@ module _ (f g : FontValue) (c : Compatible profile f g) where
   unsought false v h = refl
 
   sought_by : (h : FontValue) (p n : List ℕ) → is_sought profile h p ≡ false → calls_for profile h n p ≡ false
-  sought_by h p n s = not_so (calls_for profile h n p) (λ k. clash (is_sought profile h p) (sought profile h p n k) s)
+  sought_by h p n s = false_from_ne_true (calls_for profile h n p) (λ k. clash (is_sought profile h p) (sought profile h p n k) s)
 
   wants_at : (p n : List ℕ) (x y : Option (List ℕ)) → Agree (state_of_glyph profile f p x) (state_of_glyph profile g p y)
       → (not (is_some (joined x y)) && calls_for profile both n p) ≡ ((not (is_some x) && calls_for profile f n p) || (not (is_some y) && calls_for profile g n p))

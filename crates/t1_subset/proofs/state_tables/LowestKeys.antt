@@ -12,7 +12,8 @@ use Rattle.t1_algebra.specs.Searches.{smallest, members, first_where, IsLowest}
 use Rattle.t1_subset.specs.Differences.{smaller}
 use Rattle.t1_algebra.proofs.Searching.{in_both, passes_none}
 use Rattle.t1_algebra.proofs.Smallest.{smallest_is, below_later}
-use Rattle.t1_algebra.proofs.Sets.{or_cases, or_left, or_right, here, later, itself, tied, not_so}
+use Rattle.t1_algebra.proofs.Sets.{here, later, itself, tied}
+use Rattle.std.proofs.lemmas.Bool.{or_cases, or_left, or_right, false_from_ne_true}
 
 no_less : (o : Ordering) → ordering_reverse Less ≡ o → o ≡ Less → ⊥
 no_less o h e = cc
@@ -89,10 +90,10 @@ module _ {K : Type 0} {R : K → K → Ordering} (o : IsTotalOrder R) (same : Is
       key_in q h = sym (maps.contains_key-keys m q) ∙ only q h
 
       pub lowest_key : (x : Option K) → first_where p (maps.keys m) ≡ x → IsLowest R p x
-      lowest_key None h = λ q. not_so (p q) (λ is. true≢false (sym is ∙ none_first (maps.entries m) h q (key_in q is)))
+      lowest_key None h = λ q. false_from_ne_true (p q) (λ is. true≢false (sym is ∙ none_first (maps.entries m) h q (key_in q is)))
       lowest_key (Some k) h =
           let first = first_so_far (maps.entries m) k (sorted_map m) h in
-          record { it = first.passes; none_lower = λ q l. not_so (p q) (λ is. true≢false (sym is ∙ first.least q (key_in q is) l)) }
+          record { it = first.passes; none_lower = λ q l. false_from_ne_true (p q) (λ is. true≢false (sym is ∙ first.least q (key_in q is) l)) }
 
       -- the same, of the first of its entries
       pub lowest_entry : (P : K × X → Bool) → AllByRecursion (λ e. P e ≡ p e.0) (maps.entries m) → IsLowest R p (option_map (λ e. e.0) (first_where P (maps.entries m)))

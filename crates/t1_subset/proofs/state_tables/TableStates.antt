@@ -1,6 +1,6 @@
 -- Tables of states, as the code fills and compares them.
 use Rattle.std.proofs.Common.{◌≡◌, MatchOption, ℕ, ◌<◌, true, false, not, cond, ◌||◌, List, [], ◌∷◌, refl, sym, ◌∙◌, ap, true≢false, Option, Some, None, is_some, nat_cmp, nat_lt, inl, inr}
-use Rattle.std.proofs.lemmas.Bool.{ltb-true, ltb-false}
+use Rattle.std.proofs.lemmas.Bool.{ltb-true, ltb-false, cases_Bool, false_from_ne_true, or_left}
 use Rattle.std.specs.List.{list_any}
 use Rattle.std.specs.Cmp.Lexicographic.{nat_list_cmp_total}
 use Rattle.std.specs.Cmp.{nat_cmp_total}
@@ -21,7 +21,7 @@ use Rattle.t1_algebra.specs.Profile.{profile}
 use Rattle.t1_algebra.specs.States.{code_state, subr_state}
 use Rattle.t1_algebra.specs.Conflicts.{agrees, keys_of_both, codes_of_both, code_clashes, code_conflict, subr_clashes, subr_conflict}
 use Rattle.t1_algebra.specs.Searches.{members, IsLowest}
-use Rattle.t1_algebra.proofs.Sets.{is_or_not, not_so, or_left, name_same, tied, later}
+use Rattle.t1_algebra.proofs.Sets.{name_same, tied, later}
 use Rattle.t1_subset.proofs.state_tables.FirstConflicts.{code_there, no_name}
 use Rattle.t1_subset.proofs.state_tables.LowestKeys.{lowest_is}
 use Rattle.t1_algebra.proofs.Searching.{first_passes, in_both}
@@ -39,7 +39,7 @@ no_clash : (x y a b : Option Meaning) → x ≡ a → y ≡ b → StatesAgree x 
 no_clash x y a b e f h = ap not ((λ i. agrees (sym e i) (sym f i)) ∙ sym (agree_alike x y) ∙ h)
 
 clash : (x y a b : Option Meaning) → x ≡ a → y ≡ b → (StatesAgree x y → ⊥) → not (agrees a b) ≡ true
-clash x y a b e f h = ap not ((λ i. agrees (sym e i) (sym f i)) ∙ sym (agree_alike x y) ∙ not_so (states_agree x y) h)
+clash x y a b e f h = ap not ((λ i. agrees (sym e i) (sym f i)) ∙ sym (agree_alike x y) ∙ false_from_ne_true (states_agree x y) h)
 
 -- ---- tables by number
 
@@ -81,7 +81,7 @@ module _ (f g : FontValue) (s t : TableMeaning) (r : Option ℕ) (h : MatchOptio
 
 -- a code in conflict is below 256
 pub code_below : (f g : FontValue) → IsFont f → (c : ℕ) → Some c ≡ code_conflict f g → c < 256
-code_below f g h c e = elim (is_or_not (nat_lt c 256)) [
+code_below f g h c e = elim (cases_Bool (nat_lt c 256)) [
   | inl l ↦ ltb-true c 256 l
   | inr l ↦ absurd (true≢false (sym (clashing c e) ∙ ap (λ x. not (agrees x (code_state g.encoding c))) (no_name f.encoding h.encoding c (ltb-false c 256 l))))
 ]
