@@ -13,11 +13,11 @@ use Rattle.t1_font.proofs.MapLemmas.{get-map_values, get-retain}
 use Rattle.t1_algebra.specs.Interpreter.{Interpreter, Names}
 use Rattle.t1_algebra.specs.Keep.{has, charstring, components, components_here, keep, kept, subset}
 use Rattle.t1_algebra.proofs.Sets.{clash, name_same, same_members}
-use Rattle.t1_algebra.proofs.Maps.{maps_same}
 use Rattle.t1_algebra.proofs.Kept.{InFont, keep_has, keep_least, keep_closed, component_here, component_here_from, kept_cases, kept_low, kept_call, kept_more, calls}
 use Rattle.t1_algebra.proofs.JoinOfSubsets.{same_font}
-use Rattle.t1_algebra.proofs.CutFonts.{get-glyph, has_some, runs_alike}
+use Rattle.t1_algebra.proofs.CutFonts.{get-glyph, runs_alike}
 use Rattle.std.proofs.lemmas.Bool.{cases_Bool}
+use Rattle.t1_algebra.proofs.Uses.{has_some}
 
 -- ---- a cut of a cut
 
@@ -54,7 +54,7 @@ module _ (p q : List ℕ → Bool) (more : (n : List ℕ) → p n ≡ true → q
   encoding_twice (Codes t) =
       let once = λ (c : ℕ). q (unwrap_or (maps.get t c) []) in
       let was = λ (c : ℕ). get-retain nat_cmp_total nat_cmp-IsAntisymmetric t once c in
-      ap Codes (maps_same nat_cmp_total nat_cmp-IsAntisymmetric _ _ (λ c.
+      ap Codes (maps.same_map nat_cmp_total nat_cmp-IsAntisymmetric _ _ (λ c.
       get-retain nat_cmp_total nat_cmp-IsAntisymmetric (maps.retain_keys t once) (λ c. p (unwrap_or (maps.get (maps.retain_keys t once) c) [])) c
       ∙ (λ i. cond (p (unwrap_or (was c i) [])) (was c i) None)
       ∙ code_twice (maps.get t c)
@@ -64,12 +64,12 @@ module _ (p q : List ℕ → Bool) (more : (n : List ℕ) → p n ≡ true → q
 pub restrict_twice : (p q : List ℕ → Bool) (r s : ℕ → Bool) (f : FontValue) → ((n : List ℕ) → p n ≡ true → q n ≡ true) → ((i : ℕ) → r i ≡ true → s i ≡ true)
     → restrict p r (restrict q s f) ≡ restrict p r f
 restrict_twice p q r s f more most = same_font _ _ refl (encoding_twice p q more f.encoding)
-    (maps_same nat_cmp_total nat_cmp-IsAntisymmetric _ _ (λ i.
+    (maps.same_map nat_cmp_total nat_cmp-IsAntisymmetric _ _ (λ i.
     get-map_values nat_cmp_total nat_cmp-IsAntisymmetric (λ i c. cond (r i) c stub) (restrict q s f).subrs i
     ∙ ap (option_map (λ c. cond (r i) c stub)) (get-map_values nat_cmp_total nat_cmp-IsAntisymmetric (λ i c. cond (s i) c stub) f.subrs i)
     ∙ stub_twice (r i) (s i) (maps.get f.subrs i) (most i)
     ∙ sym (get-map_values nat_cmp_total nat_cmp-IsAntisymmetric (λ i c. cond (r i) c stub) f.subrs i)))
-    (maps_same nat_list_cmp_total name_same _ _ (λ n.
+    (maps.same_map nat_list_cmp_total name_same _ _ (λ n.
     get-retain nat_list_cmp_total name_same (restrict q s f).glyphs p n
     ∙ ap (λ x. cond (p n) x None) (get-retain nat_list_cmp_total name_same f.glyphs q n)
     ∙ cut_twice (p n) (q n) (maps.get f.glyphs n) (more n)

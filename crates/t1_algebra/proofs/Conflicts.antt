@@ -13,13 +13,13 @@ use Rattle.t1_algebra.specs.Shared.{shared_of}
 use Rattle.t1_algebra.specs.Interpreter.{Interpreter, same_bytes}
 use Rattle.t1_algebra.specs.Keep.{has}
 use Rattle.t1_algebra.specs.States.{IsWithin, Agree, code_state, is_sought, subr_state, state_of_glyph, state_of_entry, joined_font, Compatible, Join, executes, calls_for, called_at}
-use Rattle.t1_algebra.proofs.Flat.{agree_back}
 use Rattle.t1_algebra.proofs.Uses.{sought, seeker}
 use Rattle.t1_algebra.proofs.Sets.{name_same, clash, tied, itself, any_one, any_at}
 use Rattle.t1_algebra.proofs.JoinedStates.{font_back, compatible_back}
 use Rattle.std.proofs.lemmas.Bool.{leb-true, le-leb, and_from, or_left, or_right, or_cases, cases_Bool, false_from_ne_true, not-false, not_from_true}
-use Rattle.t1_algebra.proofs.Searching.{or_swap, passes_none, found_none, none_found, contains-members, smallest_none, in_both, both_back}
+use Rattle.t1_algebra.proofs.Searching.{or_swap, passes_none, found_none, none_found, smallest_none}
 use Rattle.t1_algebra.proofs.Shares.{is_same, swaps, bytes_decide, Shares, shared_so, no_part_differs, differing_back, shared_from, shared_to}
+use Rattle.t1_algebra.proofs.Maps.{agree_back, in_both, both_back}
 
 -- ---- tests
 
@@ -104,7 +104,7 @@ module _ {O : Type 0} (m : Interpreter O) where
     lacks_clashes p l s h =
         let w = wanting f g p s in
         and_from (has f p || has g p) (list_any (wanted_by m f g p) (members (glyph_names f g))) (or_right (has f p) (has g p) h)
-        (any_at nat_list_cmp_total name_same (wanted_by m f g p) w.0 (members (glyph_names f g)) (sym (contains-members nat_list_cmp_total name_same (glyph_names f g) w.0) ∙ w.1)
+        (any_at nat_list_cmp_total name_same (wanted_by m f g p) w.0 (members (glyph_names f g)) (sym (maps.contains_key-keys (glyph_names f g) w.0) ∙ w.1)
         (or_left (wants m f w.0 p) (wants m g w.0 p) (and_from (not (has f p)) (calls_for m f w.0 p) (ap not l) w.2)))
 
     -- the names of both are the same in either order

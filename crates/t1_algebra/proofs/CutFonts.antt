@@ -25,11 +25,6 @@ use Rattle.std.proofs.lemmas.Bool.{cases_Bool, false_from_ne_true}
 pub stub_is : (c : List ℕ) → is_stub c ≡ true → c ≡ stub
 stub_is c h = (bytes_eq-Decides c stub).0 h
 
--- what is there is some value
-pub has_some : {X : Type 0} (x : Option X) → is_some x ≡ true → (c : X) × (x ≡ Some c)
-has_some None h = absurd (true≢false (sym h))
-has_some (Some c) h = (c, refl)
-
 -- what passes a test and has a value had the value before
 pub cond_some : {X : Type 0} (b : Bool) (x : Option X) (c : X) → cond b x None ≡ Some c → (b ≡ true) × (x ≡ Some c)
 cond_some true x c h = (refl, h)

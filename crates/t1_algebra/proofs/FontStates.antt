@@ -28,7 +28,7 @@ use Rattle.t1_join.specs.Products.{BothJoin}
 use Rattle.t1_algebra.specs.StateLaws.{PartsAgree, parts_laws}
 use Rattle.t1_algebra.proofs.Shares.{same_indices, shared_from, shared_to}
 use Rattle.t1_algebra.proofs.CutFonts.{stub_is}
-use Rattle.t1_algebra.proofs.Maps.{get-merged, maps_same}
+use Rattle.t1_algebra.proofs.Maps.{get-merged}
 use Rattle.t1_algebra.proofs.Numbered.{at_number, get-numbered, entries-numbered, numbered-merged}
 use Rattle.t1_algebra.proofs.Sets.{name_same}
 use Rattle.t1_algebra.proofs.JoinedStates.{subr_joined, name_joined, present_joined}
@@ -219,7 +219,7 @@ module _ {O : Type 0} (m : Interpreter O) (f g : FontValue) where
             ),
             (
               a.1.1.1,
-              ap numbered (maps_same nat_cmp_total nat_cmp-IsAntisymmetric (used_subrs m j) _ (λ i.
+              ap numbered (maps.same_map nat_cmp_total nat_cmp-IsAntisymmetric (used_subrs m j) _ (λ i.
                   get-used m j i ∙ subr_joined m f g c i ∙ (λ k. joined (sym (get-used m f i) k) (sym (get-used m g i) k)) ∙ sym (get-merged nat_cmp_total nat_cmp-IsAntisymmetric (used_subrs m f) (used_subrs m g) i)))
                   ∙ sym (numbered-merged (used_subrs m f) (used_subrs m g)),
             ),

@@ -15,7 +15,7 @@ use Rattle.t1_algebra.specs.Interpreter.{Interpreter, Names, Numbers}
 use Rattle.t1_algebra.specs.Keep.{keep, kept, has, subset}
 use Rattle.t1_algebra.specs.States.{IsWithin, Agree, joined, is_sought, subr_state, state_of_glyph, name_state, code_state, joined_font, Compatible, Join}
 use Rattle.t1_algebra.proofs.Kept.{InFont, keep_union, kept_union}
-use Rattle.t1_algebra.proofs.Maps.{get-merged, maps_same}
+use Rattle.t1_algebra.proofs.Maps.{get-merged}
 use Rattle.t1_algebra.proofs.Sets.{name_same}
 use Rattle.t1_algebra.proofs.CutFonts.{get-subr, get-glyph, not_sought, no_subr, subr_state_of, agree_of, value_of, subset_weight, subset_glyphs}
 
@@ -68,7 +68,7 @@ encodings_join : (k l : Names) (e : Encoding) → join_encodings (restrict_encod
 encodings_join k l (Word w) = refl
 encodings_join k l (Codes t) =
     let by = λ (s : Names) (c : ℕ). sets.contains s (unwrap_or (maps.get t c) []) in
-    ap Codes (maps_same nat_cmp_total nat_cmp-IsAntisymmetric _ _ (λ c.
+    ap Codes (maps.same_map nat_cmp_total nat_cmp-IsAntisymmetric _ _ (λ c.
     get-merged nat_cmp_total nat_cmp-IsAntisymmetric (maps.retain_keys t (by k)) (maps.retain_keys t (by l)) c
     ∙ (λ i. joined (get-retain nat_cmp_total nat_cmp-IsAntisymmetric t (by k) c i) (get-retain nat_cmp_total nat_cmp-IsAntisymmetric t (by l) c i))
     ∙ joined_cond (by k c) (by l c) (maps.get t c)
@@ -111,7 +111,7 @@ module _ {O : Type 0} (m : Interpreter O) (f : FontValue) (base : has f notdef �
 
   -- two subsets have together the glyphs that either keeps
   glyphs_join : merged (subset m f a).glyphs (subset m f b).glyphs ≡ maps.retain_keys f.glyphs (sets.contains (sets.union (keep m f a) (keep m f b)))
-  glyphs_join = maps_same nat_list_cmp_total name_same _ _ (λ n.
+  glyphs_join = maps.same_map nat_list_cmp_total name_same _ _ (λ n.
       get-merged nat_list_cmp_total name_same (subset m f a).glyphs (subset m f b).glyphs n
       ∙ (λ i. joined (get-glyph m f base a ia n i) (get-glyph m f base b ib n i))
       ∙ joined_cond (sets.contains (keep m f a) n) (sets.contains (keep m f b) n) (maps.get f.glyphs n)
@@ -133,7 +133,7 @@ module _ {O : Type 0} (m : Interpreter O) (f : FontValue) (base : has f notdef �
 
   -- two subsets have together the entries of the Subrs that either keeps
   subrs_join : map_values (λ i c. value i) (subset m f a).subrs ≡ map_values (λ i c. cond (sets.contains both i) c stub) f.subrs
-  subrs_join = maps_same nat_cmp_total nat_cmp-IsAntisymmetric _ _ (λ i.
+  subrs_join = maps.same_map nat_cmp_total nat_cmp-IsAntisymmetric _ _ (λ i.
       get-map_values nat_cmp_total nat_cmp-IsAntisymmetric (λ i c. value i) (subset m f a).subrs i
       ∙ ap (option_map (λ c. value i)) (get-subr m f base a ia i)
       ∙ subr_join i (maps.get f.subrs i) refl

@@ -10,7 +10,6 @@ use Rattle.t1_font.proofs.MapLemmas.{get-map_values}
 use Rattle.t1_algebra.specs.Interpreter.{Interpreter}
 use Rattle.t1_algebra.specs.JoinedEntries.{past_stub, EntriesJoin}
 use Rattle.t1_algebra.specs.States.{Agree, joined, is_called, state_of_entry, joined_font, Compatible, is_stub}
-use Rattle.t1_algebra.proofs.Maps.{maps_same}
 use Rattle.t1_algebra.proofs.JoinOfSubsets.{same_font}
 use Rattle.t1_algebra.proofs.JoinedStates.{glyph_agree, subr_in_join}
 use Rattle.t1_algebra.proofs.CutFonts.{stub_is}
@@ -51,7 +50,7 @@ module _ {O : Type 0} (m : Interpreter O) (f g : FontValue) (c : Compatible m f 
   -- the joined font is the font of the entries of both
   pub joined_are_entries : joined_font m f g ≡ join_parts f g
   joined_are_entries = same_font (joined_font m f g) (join_parts f g) refl refl
-      (maps_same nat_cmp_total nat_cmp-IsAntisymmetric _ _ (λ i. subr_in_join m f g i ∙ over_at i (maps.get f.subrs i) (maps.get g.subrs i) (c.present i) (c.subrs i)
+      (maps.same_map nat_cmp_total nat_cmp-IsAntisymmetric _ _ (λ i. subr_in_join m f g i ∙ over_at i (maps.get f.subrs i) (maps.get g.subrs i) (c.present i) (c.subrs i)
       ∙ sym (get-map_values nat_cmp_total nat_cmp-IsAntisymmetric (λ i v. joined_subr v (maps.get g.subrs i)) f.subrs i)))
       refl
 

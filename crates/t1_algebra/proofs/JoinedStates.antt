@@ -14,8 +14,7 @@ use Rattle.t1_font.proofs.MapLemmas.{get-map_values, Some_same, Some_None}
 use Rattle.t1_algebra.specs.Interpreter.{Interpreter, same_bytes}
 use Rattle.t1_algebra.specs.Keep.{components}
 use Rattle.t1_algebra.specs.States.{executed_at, executes, called_at, calls_for, Agree, joined, is_called, is_sought, state_of_entry, subr_state, state_of_glyph, name_state, code_state, joined_font, Compatible, is_stub}
-use Rattle.t1_algebra.proofs.Flat.{agree_back, joined_back}
-use Rattle.t1_algebra.proofs.Maps.{get-merged, maps_same}
+use Rattle.t1_algebra.proofs.Maps.{get-merged, agree_back, joined_back}
 use Rattle.t1_algebra.proofs.Uses.{some_joined, executing_there, naming_there, calls_it}
 use Rattle.t1_algebra.proofs.JoinOfSubsets.{same_font}
 use Rattle.t1_algebra.proofs.Sets.{name_same}
@@ -45,7 +44,7 @@ encodings_back : (d e : Encoding) → SameKind d e → ((c : ℕ) → Agree (cod
 encodings_back (Word v) (Word w) h a = ap Word h
 encodings_back (Word v) (Codes t) h a = absurd h
 encodings_back (Codes s) (Word w) h a = absurd h
-encodings_back (Codes s) (Codes t) h a = ap Codes (maps_same nat_cmp_total nat_cmp-IsAntisymmetric _ _ (λ c.
+encodings_back (Codes s) (Codes t) h a = ap Codes (maps.same_map nat_cmp_total nat_cmp-IsAntisymmetric _ _ (λ c.
     get-merged nat_cmp_total nat_cmp-IsAntisymmetric s t c ∙ joined_back (maps.get s c) (maps.get t c) (a c) ∙ sym (get-merged nat_cmp_total nat_cmp-IsAntisymmetric t s c)))
 
 -- if the states of a name agree, its charstrings do
@@ -81,9 +80,9 @@ module _ {O : Type 0} (m : Interpreter O) (f g : FontValue) where
 -- compatible fonts join to the same font in both orders
 pub font_back : {O : Type 0} (m : Interpreter O) (f g : FontValue) → Compatible m f g → joined_font m f g ≡ joined_font m g f
 font_back m f g c = same_font (joined_font m f g) (joined_font m g f) c.shells (encodings_back f.encoding g.encoding c.kinds c.codes)
-    (maps_same nat_cmp_total nat_cmp-IsAntisymmetric _ _ (λ i. subr_in_join m f g i ∙ constant (entry m f g i) (maps.get f.subrs i) (maps.get g.subrs i) (c.present i)
+    (maps.same_map nat_cmp_total nat_cmp-IsAntisymmetric _ _ (λ i. subr_in_join m f g i ∙ constant (entry m f g i) (maps.get f.subrs i) (maps.get g.subrs i) (c.present i)
     ∙ ap (λ x. option_map (λ v. unwrap_or x stub) (maps.get g.subrs i)) (joined_back (subr_state m f i) (subr_state m g i) (c.subrs i)) ∙ sym (subr_in_join m g f i)))
-    (maps_same nat_list_cmp_total name_same _ _ (λ n. glyph_in_join m f g n ∙ joined_back (maps.get f.glyphs n) (maps.get g.glyphs n) (glyph_agree m f g c n) ∙ sym (glyph_in_join m g f n)))
+    (maps.same_map nat_list_cmp_total name_same _ _ (λ n. glyph_in_join m f g n ∙ joined_back (maps.get f.glyphs n) (maps.get g.glyphs n) (glyph_agree m f g c n) ∙ sym (glyph_in_join m g f n)))
 
 -- ---- the states of one font
 

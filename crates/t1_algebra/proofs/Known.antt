@@ -16,7 +16,6 @@ use Rattle.t1_algebra.specs.StateTables.{StatesValue, numbered, behind_mark, cod
 use Rattle.t1_algebra.proofs.CutFonts.{stub_is}
 use Rattle.t1_algebra.proofs.JoinedStates.{constant, entry_of}
 use Rattle.t1_algebra.proofs.JoinOfSubsets.{same_font}
-use Rattle.t1_algebra.proofs.Maps.{maps_same}
 use Rattle.t1_algebra.proofs.Sets.{name_same}
 use Rattle.t1_algebra.proofs.FontStates.{meant, get-names, get-used}
 use Rattle.t1_algebra.proofs.Shares.{shared_to}
@@ -31,7 +30,7 @@ encoding_known : (d e : Encoding) → word_of d ≡ word_of e → code_states d 
 encoding_known (Word v) (Word w) h k = ap Word (Some_same h)
 encoding_known (Word v) (Codes t) h k = Some_None h
 encoding_known (Codes s) (Word w) h k = Some_None (sym h)
-encoding_known (Codes s) (Codes t) h k = ap Codes (maps_same nat_cmp_total nat_cmp-IsAntisymmetric s t (same_numbered s t k))
+encoding_known (Codes s) (Codes t) h k = ap Codes (maps.same_map nat_cmp_total nat_cmp-IsAntisymmetric s t (same_numbered s t k))
 
 module _ {O : Type 0} (m : Interpreter O) where
   -- an entry is its state, or a stub if the state is the bottom
@@ -57,9 +56,9 @@ module _ {O : Type 0} (m : Interpreter O) where
     font_known =
         let shared = shared_to f g (ap (λ (s : StatesValue). s.0) e) in
         same_font f g shared.shells (encoding_known f.encoding g.encoding (ap (λ (s : StatesValue). s.0.1.0) e) (ap code_part e))
-        (maps_same nat_cmp_total nat_cmp-IsAntisymmetric f.subrs g.subrs (λ i.
+        (maps.same_map nat_cmp_total nat_cmp-IsAntisymmetric f.subrs g.subrs (λ i.
         subr_known f i (maps.get f.subrs i) refl
         ∙ ap (λ s. option_map (λ v. unwrap_or s stub) (maps.get f.subrs i)) (same_subr i)
         ∙ constant (unwrap_or (subr_state m g i) stub) (maps.get f.subrs i) (maps.get g.subrs i) (shared.present i)
         ∙ sym (subr_known g i (maps.get g.subrs i) refl)))
-        (maps_same nat_list_cmp_total name_same f.glyphs g.glyphs (λ n. sym (glyph_known f n) ∙ ap (λ (t : TableMeaning). behind_mark (maps.get t n)) (ap name_part e) ∙ glyph_known g n))
+        (maps.same_map nat_list_cmp_total name_same f.glyphs g.glyphs (λ n. sym (glyph_known f n) ∙ ap (λ (t : TableMeaning). behind_mark (maps.get t n)) (ap name_part e) ∙ glyph_known g n))

@@ -1,7 +1,6 @@
 pub mod Sets
 pub mod Kept
 pub mod Maps
-pub mod Flat
 pub mod Uses
 pub mod CutFonts
 pub mod JoinOfSubsets
@@ -14,7 +13,6 @@ pub mod Searching
 pub mod Shares
 pub mod Conflicts
 pub mod JoinedEntries
-pub mod Smallest
 pub mod Pictures
 pub mod Alike
 pub mod Again

@@ -15,7 +15,6 @@ use Rattle.t1_algebra.specs.Interpreter.{same_bytes}
 use Rattle.t1_algebra.specs.Searches.{first_where}
 use Rattle.t1_algebra.specs.Shared.{Shared, shared_of, ShellPart, Head, EncodingPart, ClearTail, Private, SubrsTable, SubrsWords, Middle, GlyphsWords, Tail, all_parts, same_number, same_bool, same_word, same_words, same_part, differing_part}
 use Rattle.t1_algebra.proofs.JoinedStates.{constant}
-use Rattle.t1_algebra.proofs.Maps.{maps_same}
 use Rattle.t1_algebra.proofs.Searching.{none_passes, passes_none}
 use Rattle.t1_algebra.proofs.Sets.{name_same, tied, itself}
 use Rattle.std.proofs.lemmas.Bool.{and_from, cases_Bool, false_from_ne_true, not-false, not_from_true}
@@ -194,7 +193,7 @@ keys_of m = keys_valued (maps.entries m) ∙ ap (map (λ e. e.0)) (sym (entries-
 -- maps that are present at the same indices have the same keys
 pub same_indices : (m n : Numbered) → ((i : ℕ) → maps.contains_key m i ≡ maps.contains_key n i) → maps.keys m ≡ maps.keys n
 same_indices m n h = keys_of m
-    ∙ ap (λ (s : maps.FinMap nat_cmp ℕ). maps.keys s) (maps_same nat_cmp_total nat_cmp-IsAntisymmetric _ _ (λ i.
+    ∙ ap (λ (s : maps.FinMap nat_cmp ℕ). maps.keys s) (maps.same_map nat_cmp_total nat_cmp-IsAntisymmetric _ _ (λ i.
     get-map_values nat_cmp_total nat_cmp-IsAntisymmetric (λ i c. 0) m i ∙ constant 0 (maps.get m i) (maps.get n i) (h i) ∙ sym (get-map_values nat_cmp_total nat_cmp-IsAntisymmetric (λ i c. 0) n i)))
     ∙ sym (keys_of n)
 

@@ -20,7 +20,7 @@ use Rattle.t1_algebra.specs.States.{joined}
 use Rattle.t1_algebra.specs.Laws.{IsOf}
 use Rattle.t1_algebra.specs.Rejoins.{declares, cut_to, without_tag, Truncated, IsTruncated, fonts_of, sets_of, largest, shared_font}
 use Rattle.t1_algebra.proofs.rejoining.CutCounts.{KeepsBelow, keep_same, kept_same}
-use Rattle.t1_algebra.proofs.Maps.{get-merged, maps_same}
+use Rattle.t1_algebra.proofs.Maps.{get-merged}
 use Rattle.t1_algebra.proofs.Sets.{clash, any_append, any_append_left, any_append_right, any_filter, any_filter_from}
 
 -- ---- what a cut subset has
@@ -62,7 +62,7 @@ module _ (f : FontValue) (h : IsFont f) (n : ℕ) (a : Names) (inside : IsOf f a
   -- the subset of the cut font is the subset, without its tag and cut as the font is
   pub cut_subset : subset profile first a ≡ cut_to n (without_tag (subset profile f a))
   cut_subset =
-      let subrs = maps_same nat_cmp_total nat_cmp-IsAntisymmetric (subset profile first a).subrs (maps.retain_keys (subset profile f a).subrs (λ i. nat_lt i n)) subrs_same in
+      let subrs = maps.same_map nat_cmp_total nat_cmp-IsAntisymmetric (subset profile first a).subrs (maps.retain_keys (subset profile f a).subrs (λ i. nat_lt i n)) subrs_same in
       λ i. record { shell = first.shell; encoding = restrict_encoding (sets.contains (names_same i)) f.encoding; subrs = subrs i; glyphs = maps.retain_keys f.glyphs (sets.contains (names_same i)) }
 
 -- ---- counts
@@ -310,7 +310,7 @@ module _ (f : FontValue) (h : IsFont f) (most : ℕ) (fits : most ≤ declared_c
     -- the truncated subset, made even, is the subset without its tag, cut to the largest count
     pub made_is : filled indices (even most t.font) ≡ cut_to most (without_tag (subset profile f t.names))
     made_is =
-        let subrs = maps_same nat_cmp_total nat_cmp-IsAntisymmetric (filled indices (even most t.font)).subrs (maps.retain_keys (subset profile f t.names).subrs (λ i. nat_lt i most))
+        let subrs = maps.same_map nat_cmp_total nat_cmp-IsAntisymmetric (filled indices (even most t.font)).subrs (maps.retain_keys (subset profile f t.names).subrs (λ i. nat_lt i most))
         (λ q. filled_at (maps.entries t.font.subrs) refl q ∙ sym (get_cut f most t.names q)) in
         λ i. record { shell = shell_same i; encoding = (w.others i).encoding; subrs = subrs i; glyphs = (w.others i).glyphs }
 

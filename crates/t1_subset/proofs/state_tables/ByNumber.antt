@@ -12,7 +12,6 @@ use Rattle.t1_algebra.specs.Profile.{profile}
 use Rattle.t1_algebra.specs.States.{code_state, is_called, state_of_entry}
 use Rattle.t1_algebra.specs.StateTables.{numbered, code_states}
 use Rattle.t1_subset.specs.Differences.{with_state, entry_state}
-use Rattle.t1_algebra.proofs.Maps.{maps_same}
 use Rattle.t1_algebra.proofs.Numbered.{get-numbered, numbered-empty, numbered-insert}
 use Rattle.t1_algebra.proofs.Sets.{tied, itself}
 
@@ -52,7 +51,7 @@ module _ (t : TableMeaning) (x : ℕ → Option (List ℕ)) where
 
   -- if x gives nothing from n on, the table has all of it
   pub has_all : (n : ℕ) → HasBelow t x n → ((i : ℕ) → n ≤ i → x i ≡ None) → (m : Numbered) → ((i : ℕ) → maps.get m i ≡ x i) → t ≡ numbered m
-  has_all n h far m is = h.table ∙ ap numbered (maps_same nat_cmp_total nat_cmp-IsAntisymmetric h.map m (λ i. h.shown i ∙ (elim (cases_Bool (nat_lt i n)) [
+  has_all n h far m is = h.table ∙ ap numbered (maps.same_map nat_cmp_total nat_cmp-IsAntisymmetric h.map m (λ i. h.shown i ∙ (elim (cases_Bool (nat_lt i n)) [
     | inl a ↦ ap (λ b. cond b (x i) None) a
     | inr a ↦ ap (λ b. cond b (x i) None) a ∙ sym (far i (ltb-false i n a))
   ]) ∙ sym (is i)))

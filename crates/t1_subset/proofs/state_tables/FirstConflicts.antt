@@ -10,7 +10,7 @@ use Rattle.t1_font.specs.IsFont.{IsFont, IsEncoding}
 use Rattle.t1_font.proofs.FontReaders.{subrs_seen}
 use Rattle.t1_algebra.specs.Conflicts.{agrees, codes_of_both}
 use Rattle.t1_algebra.specs.States.{code_state}
-use Rattle.t1_algebra.proofs.Searching.{in_both}
+use Rattle.t1_algebra.proofs.Maps.{in_both}
 
 -- a state that does not join is not the bottom
 pub there_of : (x y : Option (List ℕ)) → not (agrees x y) ≡ true → is_some x ≡ true

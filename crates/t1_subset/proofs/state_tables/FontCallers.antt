@@ -21,7 +21,6 @@ use Rattle.t1_subset.specs.Differences.{smaller}
 use Rattle.t1_subset.specs.Callers.{same_charstring, user_of, seeker_of, user_from, seeker_from, AreCallersOf}
 use Rattle.t1_join.specs.Meaning.{of_number}
 use Rattle.t1_subset.specs.Clashes.{AreCallers}
-use Rattle.t1_algebra.proofs.Flat.{agree_back}
 use Rattle.t1_subset.proofs.closing.ExecutedCalls.{calls_by, no_calls}
 use Rattle.t1_subset.proofs.closing.ProfileRuns.{no_components}
 use Rattle.t1_subset.proofs.state_tables.LowestKeys.{smaller_first}
@@ -30,6 +29,7 @@ use Rattle.t1_algebra.proofs.Uses.{executing_there, naming_there, sought}
 use Rattle.std.specs.Cmp.{second_so}
 use Rattle.t1_algebra.proofs.Sets.{name_same, clash, tied}
 use Rattle.std.proofs.lemmas.Bool.{false_from_ne_true}
+use Rattle.t1_algebra.proofs.Maps.{agree_back}
 
 -- ---- the first of some names
 

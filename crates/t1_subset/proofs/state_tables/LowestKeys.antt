@@ -10,10 +10,10 @@ use Rattle.t1_font.proofs.MapLemmas.{T_true}
 use Rattle.t1_algebra.specs.Conflicts.{keys_of_both}
 use Rattle.t1_algebra.specs.Searches.{smallest, members, first_where, IsLowest}
 use Rattle.t1_subset.specs.Differences.{smaller}
-use Rattle.t1_algebra.proofs.Searching.{in_both, passes_none}
-use Rattle.t1_algebra.proofs.Smallest.{smallest_is, below_later}
+use Rattle.t1_algebra.proofs.Searching.{passes_none, smallest_is, below_later}
 use Rattle.t1_algebra.proofs.Sets.{here, later, itself, tied}
 use Rattle.std.proofs.lemmas.Bool.{or_cases, or_left, or_right, false_from_ne_true}
+use Rattle.t1_algebra.proofs.Maps.{in_both}
 
 no_less : (o : Ordering) → ordering_reverse Less ≡ o → o ≡ Less → ⊥
 no_less o h e = cc

@@ -18,7 +18,6 @@ use Rattle.t1_algebra.specs.Searches.{members, IsLowest}
 use Rattle.t1_subset.specs.Differences.{smaller}
 use Rattle.t1_subset.specs.Callers.{seeker_of}
 use Rattle.t1_algebra.specs.NameStates.{is_sought_in, charstrings_differ, one_lacks}
-use Rattle.t1_algebra.proofs.Searching.{in_both}
 use Rattle.t1_subset.proofs.state_tables.FirstConflicts.{there_of}
 use Rattle.t1_subset.proofs.state_tables.LowestKeys.{lowest_is}
 use Rattle.t1_subset.proofs.state_tables.FontCallers.{any_first, sought_is, smallest_seeker}
@@ -26,6 +25,7 @@ use Rattle.t1_algebra.proofs.FontStates.{meant, get-names}
 use Rattle.t1_algebra.proofs.NameTables.{get-name}
 use Rattle.t1_algebra.proofs.Sets.{name_same}
 use Rattle.std.proofs.lemmas.Bool.{or_left}
+use Rattle.t1_algebra.proofs.Maps.{in_both}
 
 -- ---- the state of a name
 

@@ -24,8 +24,9 @@ use Rattle.t1_algebra.specs.Searches.{members, IsLowest}
 use Rattle.t1_algebra.proofs.Sets.{name_same, tied, later}
 use Rattle.t1_subset.proofs.state_tables.FirstConflicts.{code_there, no_name}
 use Rattle.t1_subset.proofs.state_tables.LowestKeys.{lowest_is}
-use Rattle.t1_algebra.proofs.Searching.{first_passes, in_both}
+use Rattle.t1_algebra.proofs.Searching.{first_passes}
 use Rattle.t1_subset.proofs.closing.ExecutedCalls.{clash_there}
+use Rattle.t1_algebra.proofs.Maps.{in_both}
 
 -- ---- states that agree
 
