@@ -14,10 +14,9 @@ use Rattle.t1_algebra.specs.Interpreter.{Interpreter, Names}
 use Rattle.t1_algebra.specs.Keep.{has, charstring, components, components_here, keep, kept, subset}
 use Rattle.t1_algebra.proofs.Sets.{clash, name_same, same_members}
 use Rattle.t1_algebra.proofs.Kept.{InFont, keep_has, keep_least, keep_closed, component_here, component_here_from, kept_cases, kept_low, kept_call, kept_more, calls}
-use Rattle.t1_algebra.proofs.JoinOfSubsets.{same_font}
-use Rattle.t1_algebra.proofs.CutFonts.{get-glyph, runs_alike}
 use Rattle.std.proofs.lemmas.Bool.{cases_Bool}
 use Rattle.t1_algebra.proofs.Uses.{has_some}
+use Rattle.t1_algebra.proofs.Subsets.{get-glyph, runs_alike, same_font}
 
 -- ---- a cut of a cut
 

@@ -12,11 +12,11 @@ use Rattle.t1_algebra.specs.Keep.{has, keep, subset}
 use Rattle.t1_algebra.specs.States.{joined_font, Compatible}
 use Rattle.t1_algebra.specs.Profile.{profile}
 use Rattle.t1_algebra.specs.Laws.{IsOf, DrawsAlike, AnswersAlike}
-use Rattle.t1_algebra.proofs.CutFonts.{get-glyph, subrs_alike}
 use Rattle.t1_algebra.proofs.JoinedStates.{left_glyph, left_subrs, font_back, compatible_back}
 use Rattle.t1_algebra.proofs.Drawings.{subset_draws, join_draws}
 use Rattle.t1_algebra.proofs.Pictures.{runs_by_rules, pictures_alike, pictures3_alike}
 use Rattle.t1_algebra.proofs.Uses.{has_some}
+use Rattle.t1_algebra.proofs.Subsets.{get-glyph, subrs_alike}
 
 -- a kept glyph draws in a subset as in the font
 pub subset_alike : (f : FontValue) → IsFont f → (a : Names) → IsOf f a → (n : List ℕ) → sets.contains (keep profile f a) n ≡ true → DrawsAlike f (subset profile f a) n

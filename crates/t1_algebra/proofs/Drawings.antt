@@ -14,7 +14,7 @@ use Rattle.t1_algebra.proofs.Kept.{InFont, keep_closed, component_here_from}
 use Rattle.t1_algebra.proofs.Sets.{name_same, itself, here, later}
 use Rattle.t1_algebra.proofs.Uses.{seeks_it}
 use Rattle.t1_algebra.proofs.JoinedStates.{left_glyph, left_runs, glyph_in_join}
-use Rattle.t1_algebra.proofs.CutFonts.{get-glyph, runs_alike}
+use Rattle.t1_algebra.proofs.Subsets.{get-glyph, runs_alike}
 
 -- functions that agree on a list map it to the same
 map_alike : {X : Type 0} (f g : List ℕ → X) (ps : List (List ℕ)) → ((p : List ℕ) → list_any (same_bytes p) ps ≡ true → f p ≡ g p) → map f ps ≡ map g ps

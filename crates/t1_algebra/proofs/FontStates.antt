@@ -27,13 +27,13 @@ use Rattle.t1_algebra.specs.Shared.{Shared}
 use Rattle.t1_join.specs.Products.{BothJoin}
 use Rattle.t1_algebra.specs.StateLaws.{PartsAgree, parts_laws}
 use Rattle.t1_algebra.proofs.Shares.{same_indices, shared_from, shared_to}
-use Rattle.t1_algebra.proofs.CutFonts.{stub_is}
 use Rattle.t1_algebra.proofs.Maps.{get-merged}
 use Rattle.t1_algebra.proofs.Numbered.{at_number, get-numbered, entries-numbered, numbered-merged}
 use Rattle.t1_algebra.proofs.Sets.{name_same}
 use Rattle.t1_algebra.proofs.JoinedStates.{subr_joined, name_joined, present_joined}
 use Rattle.t1_algebra.proofs.NameTables.{get-name, names_total}
 use Rattle.t1_algebra.proofs.TableWeights.{total-merged}
+use Rattle.t1_algebra.proofs.Subsets.{stub_is}
 
 -- ---- states that agree
 

@@ -10,9 +10,8 @@ use Rattle.t1_font.proofs.MapLemmas.{get-map_values}
 use Rattle.t1_algebra.specs.Interpreter.{Interpreter}
 use Rattle.t1_algebra.specs.JoinedEntries.{past_stub, EntriesJoin}
 use Rattle.t1_algebra.specs.States.{Agree, joined, is_called, state_of_entry, joined_font, Compatible, is_stub}
-use Rattle.t1_algebra.proofs.JoinOfSubsets.{same_font}
 use Rattle.t1_algebra.proofs.JoinedStates.{glyph_agree, subr_in_join}
-use Rattle.t1_algebra.proofs.CutFonts.{stub_is}
+use Rattle.t1_algebra.proofs.Subsets.{stub_is, same_font}
 
 -- s and t say whether each entry is a stub, u and v whether it is called
 joined_over : (e d : List ℕ) (s t u v : Bool) → (s ≡ true → e ≡ stub) → (t ≡ true → d ≡ stub) → Agree (cond (s && not u) None (Some e)) (cond (t && not v) None (Some d))

@@ -16,8 +16,8 @@ use Rattle.t1_algebra.specs.Keep.{components}
 use Rattle.t1_algebra.specs.States.{executed_at, executes, called_at, calls_for, Agree, joined, is_called, is_sought, state_of_entry, subr_state, state_of_glyph, name_state, code_state, joined_font, Compatible, is_stub}
 use Rattle.t1_algebra.proofs.Maps.{get-merged, agree_back, joined_back}
 use Rattle.t1_algebra.proofs.Uses.{some_joined, executing_there, naming_there, calls_it}
-use Rattle.t1_algebra.proofs.JoinOfSubsets.{same_font}
 use Rattle.t1_algebra.proofs.Sets.{name_same}
+use Rattle.t1_algebra.proofs.Subsets.{same_font}
 
 -- ---- both orders
 

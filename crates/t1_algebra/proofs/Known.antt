@@ -13,13 +13,12 @@ use Rattle.t1_font.proofs.MapLemmas.{Some_same, Some_None}
 use Rattle.t1_algebra.specs.Interpreter.{Interpreter}
 use Rattle.t1_algebra.specs.States.{is_called, is_sought, is_stub, state_of_entry, subr_state, state_of_glyph}
 use Rattle.t1_algebra.specs.StateTables.{StatesValue, numbered, behind_mark, code_states, used_subrs, name_part, code_part, subr_part, states_of}
-use Rattle.t1_algebra.proofs.CutFonts.{stub_is}
 use Rattle.t1_algebra.proofs.JoinedStates.{constant, entry_of}
-use Rattle.t1_algebra.proofs.JoinOfSubsets.{same_font}
 use Rattle.t1_algebra.proofs.Sets.{name_same}
 use Rattle.t1_algebra.proofs.FontStates.{meant, get-names, get-used}
 use Rattle.t1_algebra.proofs.Shares.{shared_to}
 use Rattle.t1_algebra.proofs.Numbered.{get-numbered}
+use Rattle.t1_algebra.proofs.Subsets.{stub_is, same_font}
 
 -- maps by number with one table are the same
 same_numbered : (s t : Numbered) → numbered s ≡ numbered t → (i : ℕ) → maps.get s i ≡ maps.get t i

@@ -2,8 +2,7 @@ pub mod Sets
 pub mod Kept
 pub mod Maps
 pub mod Uses
-pub mod CutFonts
-pub mod JoinOfSubsets
+pub mod Subsets
 pub mod Trees
 pub mod JoinedStates
 pub mod Known

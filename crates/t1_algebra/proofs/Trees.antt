@@ -12,8 +12,8 @@ use Rattle.t1_algebra.specs.Keep.{subset}
 use Rattle.t1_algebra.specs.Laws.{IsOf}
 use Rattle.t1_join.specs.Groupings.{Grouping, one, two, map_grouping, EachLeaf, leaves}
 use Rattle.t1_algebra.specs.Groupings.{union_all, Merges}
-use Rattle.t1_algebra.proofs.JoinOfSubsets.{join_is_subset, subsets_join}
 use Rattle.t1_algebra.proofs.Sets.{name_same, in_union}
+use Rattle.t1_algebra.proofs.Subsets.{join_is_subset, subsets_join}
 
 -- the union of the sets at the leaves, in their grouping
 abbrev pub all_of : Grouping Names → Names

@@ -12,8 +12,8 @@ use Rattle.t1_font.specs.FontModel.{subr_at}
 use Rattle.t1_font.specs.Evening.{raised, even, stubs_at, with_stubs, filled, largest_count, indices_of_all, evened_shells}
 use Rattle.t1_algebra.specs.Evened.{StaysDrawn, subrs_of, AllStayDrawn, EachBeside, EvenedDraw}
 use Rattle.t1_algebra.specs.States.{joined}
-use Rattle.t1_algebra.proofs.CutFonts.{cond_some}
 use Rattle.t1_algebra.proofs.Maps.{get-merged}
+use Rattle.t1_algebra.proofs.Subsets.{cond_some}
 
 -- if a font has the same glyphs and more Subrs, each glyph stays drawn
 stays_drawn : (subrs : FontValue → Subrs) (f j : FontValue) → Extends (subrs f) (subrs j) → j.glyphs ≡ f.glyphs → (n : List ℕ) → StaysDrawn subrs f j n

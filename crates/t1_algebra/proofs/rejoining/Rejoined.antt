@@ -22,7 +22,6 @@ use Rattle.t1_algebra.specs.Merges.{MergesTo}
 use Rattle.t1_algebra.specs.Rejoins.{declares, cut_to, without_tag, Truncated, IsTruncated, fonts_of, sets_of, names_of_all, largest, shared_font, rejoined, Rejoins, TruncatedSubsetsRejoin}
 use Rattle.t1_algebra.proofs.Alike.{subset_alike}
 use Rattle.t1_algebra.proofs.rejoining.CutCounts.{KeepsBelow, keep_same, subrs_below}
-use Rattle.t1_algebra.proofs.CutFonts.{cond_some}
 use Rattle.t1_algebra.proofs.Drawings.{seen_alike}
 use Rattle.t1_algebra.proofs.Fonts.{subset_is_font, any_order_of_fonts}
 use Rattle.t1_algebra.proofs.Kept.{keep_closed, keep_more, kept_more, kept_union, component_here_from}
@@ -32,6 +31,7 @@ use Rattle.t1_algebra.proofs.ManyMerges.{all_merge}
 use Rattle.t1_algebra.proofs.Pictures.{runs_by_rules, pictures_alike, pictures3_alike}
 use Rattle.t1_algebra.proofs.Sets.{clash, in_union, name_same}
 use Rattle.t1_algebra.proofs.rejoining.Truncated.{WordsOf, words_empty, get_nothing, get_font, largest_fits, all_fit, Fits, keeps, none_either_way, cut_subset, evened_is}
+use Rattle.t1_algebra.proofs.Subsets.{cond_some}
 
 -- ---- tables without entries
 

@@ -1,0 +1,209 @@
+-- The states of a subset of a font, and the join of two subsets: the subset over both sets of names.
+use Rattle.std.proofs.Common.{◌≡◌, ℕ, ◌≤◌, Bool, true, false, cond, not, ◌&&◌, ◌||◌, List, [], refl, sym, ◌∙◌, ap, subst, true≢false, ◌⊎◌, inl, inr, Option, Some, None, option_map, unwrap_or, is_some, arith, le_trans}
+use Rattle.std.specs.List.{list_any}
+use Rattle.std.specs.Cmp.{first_so, nat_cmp_total}
+use Rattle.std.specs.Cmp.Lexicographic.{nat_list_cmp_total}
+use Rattle.std.specs.FinSet.{nat_cmp-IsAntisymmetric}
+use Rattle.std.proofs.lemmas.Slice.Eq.{bytes_eq-Decides}
+use Rattle.t1_font.specs.Cut.{stub, restrict, restrict_encoding}
+use Rattle.t1_font.specs.FontValue.{total, FontValue, notdef, weight, Encoding, Word, Codes}
+use Rattle.t1_font.proofs.Kept.{restrict_light}
+use Rattle.t1_font.proofs.MapLemmas.{get-map_values, get-retain, Some_None, total-le, length_total}
+use Rattle.t1_algebra.specs.Interpreter.{Interpreter, Names, same_bytes, Numbers}
+use Rattle.t1_algebra.specs.Keep.{keep, kept, components, has, subset}
+use Rattle.t1_algebra.specs.States.{Agree, joined, is_called, is_sought, entry_state, state_of_entry, subr_state, is_stub, IsWithin, state_of_glyph, name_state, code_state, joined_font, Compatible, Join}
+use Rattle.t1_algebra.proofs.Kept.{InFont, keep_closed, kept_call, component_here_from, keep_union, kept_union}
+use Rattle.t1_algebra.proofs.Uses.{caller, seeker}
+use Rattle.t1_algebra.proofs.Sets.{clash, name_same, cases_Option}
+use Rattle.std.proofs.lemmas.Bool.{cases_Bool, false_from_ne_true}
+use Rattle.t1_font.specs.Maps.{map_values, merged}
+use Rattle.t1_font.specs.Joins.{join_encodings}
+use Rattle.t1_font.specs.WriteLaws.{SameKind}
+use Rattle.t1_algebra.proofs.Maps.{get-merged}
+use Rattle.std.specs.FinSet as sets
+use Rattle.std.specs.FinMap as maps
+
+-- ---- stubs and entries
+
+-- what passes the test of stubs is the stub
+pub stub_is : (c : List ℕ) → is_stub c ≡ true → c ≡ stub
+stub_is c h = (bytes_eq-Decides c stub).0 h
+
+-- what passes a test and has a value had the value before
+pub cond_some : {X : Type 0} (b : Bool) (x : Option X) (c : X) → cond b x None ≡ Some c → (b ≡ true) × (x ≡ Some c)
+cond_some b x c h = grind (arith, cases_Bool b)
+
+-- fonts with equal parts are equal
+pub same_font : (f g : FontValue) → f.shell ≡ g.shell → f.encoding ≡ g.encoding → f.subrs ≡ g.subrs → f.glyphs ≡ g.glyphs → f ≡ g
+same_font f g a b c d = λ i. record { shell = a i; encoding = b i; subrs = c i; glyphs = d i }
+
+module _ {O : Type 0} (m : Interpreter O) (f : FontValue) (base : has f notdef ≡ true) (a : Names) (inside : InFont m f a) where
+  -- an index of a subset has its entry if that is kept, else a stub
+  pub get-subr : (i : ℕ) → maps.get (subset m f a).subrs i ≡ option_map (λ c. cond (sets.contains (kept m f a) i) c stub) (maps.get f.subrs i)
+  get-subr i = get-map_values nat_cmp_total nat_cmp-IsAntisymmetric (λ i c. cond (sets.contains (kept m f a) i) c stub) f.subrs i
+
+  -- a name of a subset has its charstring if it is kept
+  pub get-glyph : (n : List ℕ) → maps.get (subset m f a).glyphs n ≡ cond (sets.contains (keep m f a) n) (maps.get f.glyphs n) None
+  get-glyph n = get-retain nat_list_cmp_total name_same f.glyphs (sets.contains (keep m f a)) n
+
+  -- a glyph of a subset is a kept glyph of the font
+  pub kept_glyph : (n c : List ℕ) → maps.get (subset m f a).glyphs n ≡ Some c → (sets.contains (keep m f a) n ≡ true) × (maps.get f.glyphs n ≡ Some c)
+  kept_glyph n c h = cond_some (sets.contains (keep m f a) n) (maps.get f.glyphs n) c (sym (get-glyph n) ∙ h)
+
+  -- the Subrs that a kept glyph executes are as in the font
+  pub subrs_alike : (n c : List ℕ) → sets.contains (keep m f a) n ≡ true → maps.get f.glyphs n ≡ Some c → (i : ℕ) → sets.contains (m.exec f.subrs c) i ≡ true
+      → maps.get (subset m f a).subrs i ≡ maps.get f.subrs i
+  subrs_alike n c k is i h =
+      let stays = kept_call m f a i n k (ap (λ x. sets.contains (m.exec f.subrs (unwrap_or x [])) i) is ∙ h) in
+      grind (arith, get-subr i, stays, cases_Option (maps.get f.subrs i))
+
+  -- a kept glyph runs as it does in the font
+  pub runs_alike : (n c : List ℕ) → sets.contains (keep m f a) n ≡ true → maps.get f.glyphs n ≡ Some c
+      → (m.direct (subset m f a).subrs c ≡ m.direct f.subrs c) × (m.exec (subset m f a).subrs c ≡ m.exec f.subrs c)
+  runs_alike n c k is = m.local f.subrs (subset m f a).subrs c (subrs_alike n c k is)
+
+  -- ---- the bottom
+
+  -- no glyph of a subset executes a Subr that is not kept
+  pub not_called : (i : ℕ) → sets.contains (kept m f a) i ≡ false → is_called m (subset m f a) i ≡ false
+  not_called i out = false_from_ne_true (is_called m (subset m f a) i) (λ h.
+      let r = caller m (subset m f a) i h in
+      let g = kept_glyph r.0 r.1 r.2 in
+      clash (sets.contains (kept m f a) i)
+      (kept_call m f a i r.0 g.0 (ap (λ x. sets.contains (m.exec f.subrs (unwrap_or x [])) i) g.1 ∙ ap (λ s. sets.contains s i) (sym (runs_alike r.0 r.1 g.0 g.1).1) ∙ r.3)) out)
+
+  -- no glyph of a subset seeks a name of the font that is not kept
+  pub not_sought : (n : List ℕ) → has f n ≡ true → sets.contains (keep m f a) n ≡ false → is_sought m (subset m f a) n ≡ false
+  not_sought n is out = false_from_ne_true (is_sought m (subset m f a) n) (λ h.
+      let r = seeker m (subset m f a) n h in
+      let g = kept_glyph r.0 r.1 r.2 in
+      clash (sets.contains (keep m f a) n)
+      ((keep_closed m f a base inside).components r.0 n g.0 (component_here_from m f r.0 n
+      (ap (λ x. list_any (same_bytes n) (components m f.subrs (unwrap_or x []))) g.1 ∙ ap (λ d. list_any (same_bytes n) (m.names d)) (sym (runs_alike r.0 r.1 g.0 g.1).0) ∙ r.3) is)) out)
+
+  -- the state of a Subr that is not kept is the bottom
+  pub bottom : (i : ℕ) → sets.contains (kept m f a) i ≡ false → subr_state m (subset m f a) i ≡ None
+  bottom i out = grind (arith, get-subr i, not_called i out, cases_Option (maps.get f.subrs i))
+
+  -- a name that a subset seeks and lacks is lacking in the font
+  pub sought_lacks : (n : List ℕ) → has (subset m f a) n ≡ false → is_sought m (subset m f a) n ≡ true → has f n ≡ false
+  sought_lacks n lacks s = grind (arith, get-glyph n, not_sought n, cases_Bool (has f n), cases_Bool (sets.contains (keep m f a) n))
+
+  -- the state of an entry in a subset
+  pub subr_state_of : (i : ℕ) (c : List ℕ) → maps.get f.subrs i ≡ Some c → subr_state m (subset m f a) i ≡ cond (sets.contains (kept m f a) i && not (is_stub c && not (is_called m (subset m f a) i))) (Some c) None
+  subr_state_of i c is = grind (arith, get-subr i, is, not_called i, cases_Bool (sets.contains (kept m f a) i), cases_Bool (is_stub c), cases_Bool (is_called m (subset m f a) i))
+
+-- ---- limits
+
+module _ {O : Type 0} (m : Interpreter O) (f : FontValue) (a : Names) where
+  glyphs_weigh : (g : List ℕ → List ℕ → ℕ) → total g (maps.entries (subset m f a).glyphs) ≤ total g (maps.entries f.glyphs)
+  glyphs_weigh g = total-le nat_list_cmp_total name_same g g (subset m f a).glyphs f.glyphs (λ n v h.
+      let r = cond_some (sets.contains (keep m f a) n) (maps.get f.glyphs n) v (sym (get-retain nat_list_cmp_total name_same f.glyphs (sets.contains (keep m f a)) n) ∙ h) in
+      (v, r.1, omega arith))
+
+  -- a subset weighs no more than the font
+  pub subset_weight : weight (subset m f a) ≤ weight f
+  subset_weight = restrict_light (sets.contains (keep m f a)) (sets.contains (kept m f a)) f
+
+  -- a subset has no more glyphs than the font
+  pub subset_glyphs : maps.len (subset m f a).glyphs ≤ maps.len f.glyphs
+  subset_glyphs = rw (maps.len-entries, maps.len-entries, ← length_total, ← length_total) (glyphs_weigh (λ k x. 1))
+
+-- ---- two cuts
+
+-- two cuts of one value join to what either test keeps
+pub joined_cond : {X : Type 0} (k l : Bool) (x : Option X) → joined (cond k x None) (cond l x None) ≡ cond (k || l) x None
+joined_cond k l x = grind (arith, cases_Bool k, cases_Bool l, cases_Option x)
+
+-- two cuts of an Encoding agree at each code
+encodings_agree : (k l : Names) (e : Encoding) (c : ℕ) → Agree (code_state (restrict_encoding (sets.contains k) e) c) (code_state (restrict_encoding (sets.contains l) e) c)
+encodings_agree k l (Word w) c = tt
+encodings_agree k l (Codes t) c =
+    let cut = λ (s : Names). get-retain nat_cmp_total nat_cmp-IsAntisymmetric t (λ c. sets.contains s (unwrap_or (maps.get t c) [])) c in
+    grind (arith, cut k, cut l, cases_Option (maps.get t c), cases_Bool (sets.contains k (unwrap_or (maps.get t c) [])), cases_Bool (sets.contains l (unwrap_or (maps.get t c) [])))
+
+-- two cuts of an Encoding are the same word or both tables
+encodings_kind : (k l : Names) (e : Encoding) → SameKind (restrict_encoding (sets.contains k) e) (restrict_encoding (sets.contains l) e)
+encodings_kind k l (Word w) = refl
+encodings_kind k l (Codes t) = tt
+
+-- two cuts of an Encoding join to its cut to the names of both
+encodings_join : (k l : Names) (e : Encoding) → join_encodings (restrict_encoding (sets.contains k) e) (restrict_encoding (sets.contains l) e) ≡ restrict_encoding (sets.contains (sets.union k l)) e
+encodings_join k l (Word w) = refl
+encodings_join k l (Codes t) =
+    let by = λ (s : Names) (c : ℕ). sets.contains s (unwrap_or (maps.get t c) []) in
+    ap Codes (maps.same_map nat_cmp_total nat_cmp-IsAntisymmetric _ _ (λ c.
+    get-merged nat_cmp_total nat_cmp-IsAntisymmetric (maps.retain_keys t (by k)) (maps.retain_keys t (by l)) c
+    ∙ (λ i. joined (get-retain nat_cmp_total nat_cmp-IsAntisymmetric t (by k) c i) (get-retain nat_cmp_total nat_cmp-IsAntisymmetric t (by l) c i))
+    ∙ joined_cond (by k c) (by l c) (maps.get t c)
+    ∙ ap (λ b. cond b (maps.get t c) None) (sym (sets.contains-union nat_list_cmp_total k l (unwrap_or (maps.get t c) [])))
+    ∙ sym (get-retain nat_cmp_total nat_cmp-IsAntisymmetric t (by (sets.union k l)) c)))
+
+module _ {O : Type 0} (m : Interpreter O) (f : FontValue) (base : has f notdef ≡ true) (a b : Names) (ia : InFont m f a) (ib : InFont m f b) where
+  -- the states of each index agree in two subsets
+  subrs_agree : (i : ℕ) (x : Option (List ℕ)) → maps.get f.subrs i ≡ x → Agree (subr_state m (subset m f a) i) (subr_state m (subset m f b) i)
+  subrs_agree i None h = grind (arith, h, get-subr m f base a ia i, get-subr m f base b ib i)
+  subrs_agree i (Some c) h = grind (arith, subr_state_of m f base a ia i c h, subr_state_of m f base b ib i c h, cases_Bool (sets.contains (kept m f a) i && not (is_stub c && not (is_called m (subset m f a) i))), cases_Bool (sets.contains (kept m f b) i && not (is_stub c && not (is_called m (subset m f b) i))))
+
+  -- the states of each name agree in two subsets
+  names_agree : (n : List ℕ) → Agree (name_state m (subset m f a) n) (name_state m (subset m f b) n)
+  names_agree n = grind (arith, get-glyph m f base a ia n, get-glyph m f base b ib n, not_sought m f base a ia n, not_sought m f base b ib n, cases_Option (maps.get f.glyphs n), cases_Bool (sets.contains (keep m f a) n), cases_Bool (sets.contains (keep m f b) n), cases_Bool (is_sought m (subset m f a) n), cases_Bool (is_sought m (subset m f b) n))
+
+  -- ---- the joined font
+
+  -- two subsets have together the glyphs that either keeps
+  glyphs_join : merged (subset m f a).glyphs (subset m f b).glyphs ≡ maps.retain_keys f.glyphs (sets.contains (sets.union (keep m f a) (keep m f b)))
+  glyphs_join = maps.same_map nat_list_cmp_total name_same _ _ (λ n.
+      get-merged nat_list_cmp_total name_same (subset m f a).glyphs (subset m f b).glyphs n
+      ∙ (λ i. joined (get-glyph m f base a ia n i) (get-glyph m f base b ib n i))
+      ∙ joined_cond (sets.contains (keep m f a) n) (sets.contains (keep m f b) n) (maps.get f.glyphs n)
+      ∙ ap (λ k. cond k (maps.get f.glyphs n) None) (sym (sets.contains-union nat_list_cmp_total (keep m f a) (keep m f b) n))
+      ∙ sym (get-retain nat_list_cmp_total name_same f.glyphs (sets.contains (sets.union (keep m f a) (keep m f b))) n))
+
+  -- the joined state of an index, with a stub for the bottom
+  abbrev value : ℕ → List ℕ
+  value i = unwrap_or (joined (subr_state m (subset m f a) i) (subr_state m (subset m f b) i)) stub
+
+  -- the Subrs that either subset keeps
+  abbrev both : Numbers
+  both = sets.union (kept m f a) (kept m f b)
+
+  subr_join : (i : ℕ) (x : Option (List ℕ)) → maps.get f.subrs i ≡ x → option_map (λ c. value i) (option_map (λ c. cond (sets.contains (kept m f a) i) c stub) x) ≡ option_map (λ c. cond (sets.contains both i) c stub) x
+  subr_join i None h = refl
+  subr_join i (Some c) h = grind (arith, subr_state_of m f base a ia i c h, subr_state_of m f base b ib i c h, stub_is c, sets.contains-union nat_cmp_total (kept m f a) (kept m f b) i, cases_Bool (sets.contains (kept m f a) i), cases_Bool (sets.contains (kept m f b) i), cases_Bool (is_stub c), cases_Bool (is_called m (subset m f a) i), cases_Bool (is_called m (subset m f b) i))
+
+  -- two subsets have together the entries of the Subrs that either keeps
+  subrs_join : map_values (λ i c. value i) (subset m f a).subrs ≡ map_values (λ i c. cond (sets.contains both i) c stub) f.subrs
+  subrs_join = maps.same_map nat_cmp_total nat_cmp-IsAntisymmetric _ _ (λ i.
+      get-map_values nat_cmp_total nat_cmp-IsAntisymmetric (λ i c. value i) (subset m f a).subrs i
+      ∙ ap (option_map (λ c. value i)) (get-subr m f base a ia i)
+      ∙ subr_join i (maps.get f.subrs i) refl
+      ∙ sym (get-map_values nat_cmp_total nat_cmp-IsAntisymmetric (λ i c. cond (sets.contains both i) c stub) f.subrs i))
+
+  -- the joined font of two subsets is the subset over both sets of names
+  pub join_is_subset : joined_font m (subset m f a) (subset m f b) ≡ subset m f (sets.union a b)
+  join_is_subset =
+      same_font (joined_font m (subset m f a) (subset m f b)) (restrict (sets.contains (sets.union (keep m f a) (keep m f b))) (sets.contains both) f) refl (encodings_join (keep m f a) (keep m f b) f.encoding) subrs_join glyphs_join
+      ∙ (λ i. restrict (sets.contains (sym (keep_union m f a b base ia ib) i)) (sets.contains (sym (kept_union m f a b base ia ib) i)) f)
+
+  -- a subset has entries at the indices at which the font has them
+  pub presence : (a : Names) (ia : InFont m f a) (i : ℕ) → maps.contains_key (subset m f a).subrs i ≡ maps.contains_key f.subrs i
+  presence a ia i = grind (arith, get-subr m f base a ia i, cases_Option (maps.get f.subrs i))
+
+  -- two subsets of a font are compatible
+  pub subsets_compatible : Compatible m (subset m f a) (subset m f b)
+  subsets_compatible = record {
+    shells = refl;
+    present = λ i. presence a ia i ∙ sym (presence b ib i);
+    kinds = encodings_kind (keep m f a) (keep m f b) f.encoding;
+    subrs = λ i. subrs_agree i (maps.get f.subrs i) refl;
+    names = names_agree;
+    codes = encodings_agree (keep m f a) (keep m f b) f.encoding;
+  }
+
+  -- two subsets of a font that is within the limits join
+  pub subsets_join : IsWithin f → Join m (subset m f a) (subset m f b)
+  subsets_join w = record {
+    states = subsets_compatible;
+    within = subst IsWithin (sym join_is_subset) (record { weight = le_trans (subset_weight m f (sets.union a b)) w.weight; glyphs = le_trans (subset_glyphs m f (sets.union a b)) w.glyphs });
+  }
