@@ -12,9 +12,9 @@ use Rattle.t1_algebra.specs.Groupings.{union_all, Merges}
 use Rattle.t1_algebra.specs.Laws.{IsOf}
 use Rattle.t1_algebra.proofs.Kept.{keep_closed}
 use Rattle.t1_algebra.proofs.Trees.{all_alike, tree_merges}
-use Rattle.t1_algebra.proofs.JoinedEntries.{joined_are_entries}
 use Rattle.t1_algebra.proofs.Orders.{any_order, one_result, join_back}
 use Rattle.t1_algebra.proofs.Subsets.{join_is_subset, subsets_join}
+use Rattle.t1_algebra.proofs.JoinedStates.{joined_are_entries}
 
 -- a font is within the limits
 pub font_within : (f : FontValue) → IsFont f → IsWithin f

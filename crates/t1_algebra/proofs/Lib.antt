@@ -5,13 +5,11 @@ pub mod Uses
 pub mod Subsets
 pub mod Trees
 pub mod JoinedStates
-pub mod Known
 pub mod Orders
 pub mod Drawings
 pub mod Searching
 pub mod Shares
 pub mod Conflicts
-pub mod JoinedEntries
 pub mod Pictures
 pub mod Alike
 pub mod Again

@@ -1,5 +1,5 @@
 -- The join of flat states, and what a merged map has at a key.
-use Rattle.std.proofs.Common.{◌≡◌, ℕ, ◌||◌, refl, sym, ap, arith, Option, Some, None, option_map, is_some, Ordering}
+use Rattle.std.proofs.Common.{◌≡◌, ℕ, ◌||◌, refl, sym, ap, arith, Option, Some, None, option_map, is_some, Ordering, cond, List, [], ◌∷◌, map, ◌∙◌}
 use Rattle.std.specs.Cmp.{IsTotalOrder}
 use Rattle.std.specs.FinMap as maps
 use Rattle.std.specs.FinSet.{IsAntisymmetric}
@@ -8,6 +8,9 @@ use Rattle.t1_font.proofs.MapLemmas as cuts
 use Rattle.t1_algebra.specs.Conflicts.{keys_of_both}
 use Rattle.t1_algebra.specs.States.{Agree, joined}
 use Rattle.t1_algebra.proofs.Sets.{cases_Option}
+use Rattle.std.specs.List.{list_any}
+use Rattle.std.specs.Ordering.{eq_by_cmp}
+use Rattle.std.proofs.lemmas.Bool.{cases_Bool}
 
 module _ {V : Type 0} (x y : Option V) where
   -- states agree in both orders
@@ -33,3 +36,11 @@ module _ {K : Type 0} {R : K → K → Ordering} (o : IsTotalOrder R) (same : Is
   -- the keys of both maps are the same in either order
   pub both_back : (a b : maps.FinMap R X) → keys_of_both a b ≡ keys_of_both b a
   both_back a b = maps.same_map o same (keys_of_both a b) (keys_of_both b a) (λ q. grind (arith, get-both a b q, get-both b a q, cases_Option (maps.get a q), cases_Option (maps.get b q)))
+
+-- a map of keys that all have one value has it at each of these keys, and nothing else
+pub get-valued : {K X : Type 0} {R : K → K → Ordering} (o : IsTotalOrder R) (v : X) (ks : List K) (q : K) → maps.get {R = R} (maps.from_entries (map (λ k. (k, v)) ks)) q ≡ cond (list_any (eq_by_cmp R q) ks) (Some v) None
+get-valued {R = R} o v ks q = maps.get-from_entries o (map (λ k. (k, v)) ks) q ∙ find_valued ks
+  where
+    find_valued : (ks : List _) → maps.find R q (map (λ k. (k, v)) ks) ≡ cond (list_any (eq_by_cmp R q) ks) (Some v) None
+    find_valued [] = refl
+    find_valued (k ∷ ks) = grind (arith, find_valued ks, cases_Bool (eq_by_cmp R q k))

@@ -35,6 +35,11 @@ module _ {K : Type 0} (p : K → Bool) (xs ys : List K) where
   pub any_append_right : list_any p ys ≡ true → list_any p (xs ++ ys) ≡ true
   any_append_right h = list_any-append p xs ys ∙ or_right _ _ h
 
+-- an element of a flat map passes if one of some part does
+pub any_flat_map : {J K : Type 0} (p : K → Bool) (f : J → List K) (xs : List J) → list_any p (flat_map f xs) ≡ list_any (λ x. list_any p (f x)) xs
+any_flat_map p f [] = refl
+any_flat_map p f (x ∷ xs) = list_any-append p (f x) (flat_map f xs) ∙ ap (λ b. list_any p (f x) || b) (any_flat_map p f xs)
+
 -- whether some element of a list passes, by its first element
 module _ {K : Type 0} (p : K → Bool) (k : K) (ks : List K) where
   pub here : p k ≡ true → list_any p (k ∷ ks) ≡ true
@@ -119,13 +124,11 @@ module _ {K : Type 0} {R : K → K → Ordering} (o : IsTotalOrder R) (same : Is
 
   -- a member of a flat map is a member at some element
   pub any_flat : {J : Type 0} (f : J → List K) (q : K) (xs : List J) → list_any (eq_by_cmp R q) (flat_map f xs) ≡ true → list_any (λ x. list_any (eq_by_cmp R q) (f x)) xs ≡ true
-  any_flat f q [] h = h
-  any_flat f q (x ∷ xs) h = elim (any_append _ (f x) _ h) [ inl a ↦ or_left _ _ a | inr b ↦ or_right _ _ (any_flat f q xs b) ]
+  any_flat f q xs h = sym (any_flat_map (eq_by_cmp R q) f xs) ∙ h
 
   -- a member at some element is a member of the flat map
   pub any_flat_from : {J : Type 0} (f : J → List K) (q : K) (xs : List J) → list_any (λ x. list_any (eq_by_cmp R q) (f x)) xs ≡ true → list_any (eq_by_cmp R q) (flat_map f xs) ≡ true
-  any_flat_from f q [] h = h
-  any_flat_from f q (x ∷ xs) h = elim (or_cases _ _ h) [ inl a ↦ any_append_left _ (f x) _ a | inr b ↦ any_append_right _ (f x) _ (any_flat_from f q xs b) ]
+  any_flat_from f q xs h = any_flat_map (eq_by_cmp R q) f xs ∙ h
 
 -- ---- names and numbers
 

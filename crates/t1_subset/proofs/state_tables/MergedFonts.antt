@@ -21,7 +21,7 @@ use Rattle.t1_algebra.specs.Searches.{found}
 use Rattle.t1_algebra.proofs.Conflicts.{compatible, within_so}
 use Rattle.t1_algebra.proofs.Searching.{found_none}
 use Rattle.t1_algebra.proofs.Fonts.{font_within}
-use Rattle.t1_algebra.proofs.JoinedEntries.{joined_are_entries}
+use Rattle.t1_algebra.proofs.JoinedStates.{joined_are_entries}
 
 module _ {O : Type 0} (m : Interpreter O) (f g : FontValue) (h : states_conflict m f g ≡ None) where
   -- fonts without a conflict of states have the same shell
