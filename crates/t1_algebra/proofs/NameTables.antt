@@ -19,9 +19,10 @@ use Rattle.t1_algebra.specs.States.{joined}
 use Rattle.t1_algebra.specs.StateTables.{name_meaning, AreNameStates, behind_mark, glyph_table, names_table, AreSought, new_entries}
 use Rattle.t1_algebra.specs.NameStates.{is_sought_in, charstrings_differ, one_lacks, differs_from}
 use Rattle.t1_algebra.proofs.Maps.{get-merged}
-use Rattle.t1_algebra.proofs.Sets.{name_same}
+use Rattle.t1_algebra.proofs.Sets.{name_same, cases_Option}
 use Rattle.t1_algebra.proofs.Shares.{bytes_decide}
 use Rattle.t1_algebra.proofs.TableWeights.{total-merged, total-new}
+use Rattle.std.proofs.lemmas.Bool.{cases_Bool, not-true}
 
 -- what the charstring of a glyph means in a table
 abbrev marked : Option (List ℕ) → State
@@ -37,26 +38,6 @@ IsSought y = (v : Meaning) → y ≡ Some v → v ≡ []
 pub get-name : (g : Named) (s : TableMeaning) (n : Meaning) → maps.get (names_table g s) n ≡ joined_state (marked (maps.get g n)) (maps.get s n)
 get-name g s n = get_joined (glyph_table g) s n ∙ ap (λ x. joined_state x (maps.get s n)) (get-map_values nat_list_cmp_total name_same (λ n c. name_meaning (Some c)) g n)
 
-no_charstring : (y : State) → IsSought y → behind_mark y ≡ None
-no_charstring None h = refl
-no_charstring (Some v) h = ap (λ v. behind_mark (Some v)) (h v refl)
-
-is_sought_there : (y : State) → IsSought y → is_sought_in y ≡ is_some y
-is_sought_there None h = refl
-is_sought_there (Some v) h = ap (λ v. is_sought_in (Some v)) (h v refl)
-
-charstring_of : (x : Option (List ℕ)) (y : State) → IsSought y → behind_mark (joined_state (marked x) y) ≡ x
-charstring_of None y h = no_charstring y h
-charstring_of (Some c) y h = refl
-
-seeks_of : (x : Option (List ℕ)) (y : State) → IsSought y → is_sought_in (joined_state (marked x) y) ≡ (not (is_some x) && is_some y)
-seeks_of None y h = is_sought_there y h
-seeks_of (Some c) y h = refl
-
-has_of : (x : Option (List ℕ)) (y : State) → is_some (joined_state (marked x) y) ≡ (is_some x || is_some y)
-has_of None y = refl
-has_of (Some c) y = refl
-
 state_of : (x : Option (List ℕ)) (y : State) → IsSought y → (z : Option (Option (List ℕ))) × (joined_state (marked x) y ≡ option_map name_meaning z)
 state_of (Some c) y h = (Some (Some c), refl)
 state_of None None h = (None, refl)
@@ -68,23 +49,23 @@ module _ (g : Named) (s : TableMeaning) (are : AreSought s) (t : TableMeaning) (
 
   -- the charstring of a name is its glyph's
   pub charstring_in : behind_mark (maps.get t n) ≡ maps.get g n
-  charstring_in = ap behind_mark at ∙ charstring_of (maps.get g n) (maps.get s n) (are n)
+  charstring_in = grind (arith, at, are n, cases_Option (maps.get g n), cases_Option (maps.get s n))
 
   -- a name is sought if it has no glyph and is one of the sought names
   pub seeks_in : is_sought_in (maps.get t n) ≡ (not (maps.contains_key g n) && maps.contains_key s n)
-  seeks_in = ap is_sought_in at ∙ seeks_of (maps.get g n) (maps.get s n) (are n)
+  seeks_in = grind (arith, at, are n, cases_Option (maps.get g n), cases_Option (maps.get s n))
 
   -- a name has a state if it has a glyph or is one of the sought names
   pub has_in : maps.contains_key t n ≡ (maps.contains_key g n || maps.contains_key s n)
-  has_in = ap is_some at ∙ has_of (maps.get g n) (maps.get s n)
+  has_in = grind (arith, at, cases_Option (maps.get g n))
 
   -- if a name has no glyph, it has a state if it is one of the sought names
   pub has_else : (b y : Bool) → b ≡ is_some (behind_mark (maps.get t n)) → b ≡ false → y ≡ maps.contains_key s n → y ≡ maps.contains_key t n
-  has_else b y e none k = k ∙ sym (has_in ∙ ap (λ b. b || maps.contains_key s n) (ap is_some (sym charstring_in) ∙ sym e ∙ none))
+  has_else b y e none k = grind (arith, charstring_in, has_in)
 
   -- and is sought if it is one of these
   pub seeks_else : (b y : Bool) → b ≡ is_some (behind_mark (maps.get t n)) → b ≡ false → y ≡ maps.contains_key s n → y ≡ is_sought_in (maps.get t n)
-  seeks_else b y e none k = k ∙ sym (seeks_in ∙ ap (λ b. not b && maps.contains_key s n) (ap is_some (sym charstring_in) ∙ sym e ∙ none))
+  seeks_else b y e none k = grind (arith, charstring_in, seeks_in)
 
   -- the state of a name is a charstring, or sought, or nothing
   pub state_in : (z : Option (Option (List ℕ))) × (maps.get t n ≡ option_map name_meaning z)
@@ -103,36 +84,15 @@ meanings_as_bytes v w = both_ways (same_meaning v w) (same_bytes v w)
     (λ h. subst (λ (u : List ℕ). same_bytes v u ≡ true) (same_meaning-true v w h) (bytes_decide.self v))
     (λ h. subst (λ (u : List ℕ). same_meaning v u ≡ true) (bytes_decide.so v w h) (same_meaning-self v))
 
-neither : (b : Bool) → b ≡ (not (not b) && true)
-neither true = refl
-neither false = refl
-
--- the states of a name agree exactly if they are no two charstrings that differ, and none is sought that the other has
-agree_by : (x y : Option (Option (List ℕ))) → states_agree (option_map name_meaning x) (option_map name_meaning y) ≡ (not (charstrings_differ (option_map name_meaning x) (option_map name_meaning y)) && not (one_lacks (option_map name_meaning x) (option_map name_meaning y)))
-agree_by None None = refl
-agree_by None (Some None) = refl
-agree_by None (Some (Some d)) = refl
-agree_by (Some None) None = refl
-agree_by (Some None) (Some None) = refl
-agree_by (Some None) (Some (Some d)) = refl
-agree_by (Some (Some c)) None = refl
-agree_by (Some (Some c)) (Some None) = refl
-agree_by (Some (Some c)) (Some (Some d)) = meanings_as_bytes (0 ∷ c) (0 ∷ d) ∙ neither (same_bytes c d)
-
 module _ (t u : TableMeaning) (a : AreNameStates t) (b : AreNameStates u) where
+  -- the states of a name agree exactly if they are no two charstrings that differ, and none is sought that the other has
   agree_at : (n : Meaning) → states_agree (maps.get t n) (maps.get u n) ≡ (not (charstrings_differ (maps.get t n) (maps.get u n)) && not (one_lacks (maps.get t n) (maps.get u n)))
-  agree_at n =
-      (λ i. states_agree ((a n).1 i) ((b n).1 i)) ∙ agree_by (a n).0 (b n).0
-      ∙ (λ i. not (charstrings_differ (sym (a n).1 i) (sym (b n).1 i)) && not (one_lacks (sym (a n).1 i) (sym (b n).1 i)))
-
-  so_false : (b : Bool) → not b ≡ true → b ≡ false
-  so_false true e = sym e
-  so_false false e = refl
+  agree_at n = grind (arith, (a n).1, (b n).1, cases_Option (a n).0, cases_Option (b n).0, cases_Option {X = List ℕ}, meanings_as_bytes, cases_Bool)
 
   -- tables of names agree exactly if no charstrings differ and no name is lacking
   pub names_agree : TablesAgree t u ↔ (((n : Meaning) → charstrings_differ (maps.get t n) (maps.get u n) ≡ false) × ((n : Meaning) → one_lacks (maps.get t n) (maps.get u n) ≡ false))
   names_agree = (
-    λ k. (λ n. so_false _ (first_so _ _ (sym (agree_at n) ∙ k n)), λ n. so_false _ (second_so _ _ (sym (agree_at n) ∙ k n))),
+    λ k. (λ n. not-true _ (first_so _ _ (sym (agree_at n) ∙ k n)), λ n. not-true _ (second_so _ _ (sym (agree_at n) ∙ k n))),
     λ k n. agree_at n ∙ (λ i. not (k.0 n i) && not (k.1 n i)),
   )
 
@@ -151,35 +111,16 @@ module _ (p : List ℕ → Bool) where
 module _ (g : Named) (s : TableMeaning) (are : AreSought s) (t : TableMeaning) (is : names_table g s ≡ t) (h : Named) (r : TableMeaning) (seek : AreSought r) (u : TableMeaning) (so : names_table h r ≡ u) where
   -- sought names agree with sought names
   pub sought_agree : TablesAgree s r
-  sought_agree n = both (maps.get s n) (maps.get r n) (are n) (seek n)
-    where
-      both : (x y : State) → IsSought x → IsSought y → StatesAgree x y
-      both None y a b = refl
-      both (Some v) None a b = refl
-      both (Some v) (Some w) a b = λ i. same_meaning (a v refl i) (b w refl i)
-
-  join_at : (a b : Option (List ℕ)) (x y : State) → StatesAgree (joined_state (marked a) x) (joined_state (marked b) y) → joined_state (marked (joined a b)) (joined_state x y) ≡ joined_state (joined_state (marked a) x) (joined_state (marked b) y)
-  join_at (Some c) b x y k = refl
-  join_at None b None y k = refl
-  join_at None None (Some v) y k = refl
-  join_at None (Some d) (Some v) y k = sym (ap Some (same_meaning-true v (0 ∷ d) k))
+  sought_agree n = grind (arith, are n, seek n, cases_Option (maps.get s n), cases_Option (maps.get r n), same_meaning-self)
 
   -- the table of joined glyphs and joined sought names is the joined table
   pub names_join : (j : Named) (k : TableMeaning) → j ≡ merged g h → k ≡ joined_table s r → TablesAgree t u → names_table j k ≡ joined_table t u
-  names_join j k ej ek a = same_table (names_table j k) (joined_table t u) (λ n.
-      get-name j k n
-      ∙ (λ i. joined_state (marked ((ap (λ (m : Named). maps.get m n) ej ∙ get-merged nat_list_cmp_total name_same g h n) i)) ((ap (λ (m : TableMeaning). maps.get m n) ek ∙ get_joined s r n) i))
-      ∙ join_at (maps.get g n) (maps.get h n) (maps.get s n) (maps.get r n) ((λ i. states_agree (sym (at g s are t is n) i) (sym (at h r seek u so n) i)) ∙ a n)
-      ∙ (λ i. joined_state (sym (at g s are t is n) i) (sym (at h r seek u so n) i))
-      ∙ sym (get_joined t u n))
+  names_join j k ej ek a = same_table (names_table j k) (joined_table t u) (λ n. grind (arith, get-name j k n, ej, ek, get-merged nat_list_cmp_total name_same g h n, get_joined s r n, get_joined t u n,
+      at g s are t is n, at h r seek u so n, a n, are n, same_meaning-true, cases_Option (maps.get g n), cases_Option (maps.get h n), cases_Option (maps.get s n), cases_Option (maps.get r n)))
 
   -- joined sought names are sought names
   pub are_joined : (k : TableMeaning) → k ≡ joined_table s r → AreSought k
-  are_joined k e n v has = either (maps.get s n) (maps.get r n) (are n) (seek n) (sym (ap (λ (m : TableMeaning). maps.get m n) e ∙ get_joined s r n) ∙ has)
-    where
-      either : (x y : State) → IsSought x → IsSought y → joined_state x y ≡ Some v → v ≡ []
-      either None y a b w = b v w
-      either (Some v) y a b w = a _ w
+  are_joined k e n v has = grind (arith, e, has, get_joined s r n, are n, seek n, cases_Option (maps.get s n))
 
 -- ---- weights
 
@@ -191,10 +132,7 @@ total_valued w (e ∷ es) = ap (λ n. w e.0 (name_meaning (Some e.1)) + n) (tota
 -- entries that weigh nothing sum to nothing
 total_none : (w : Meaning → Meaning → ℕ) (p : Meaning × Meaning → Bool) (es : List (Meaning × Meaning)) → AllByRecursion (λ e. w e.0 e.1 ≡ 0) es → total w (filter p es) ≡ 0
 total_none w p [] h = refl
-total_none w p (e ∷ es) h = elim (p e) as (λ b. total w (cond b (e ∷ filter p es) (filter p es)) ≡ 0) [
-  | true ↦ let none = h.0 in let rest = total_none w p es h.1 in omega (arith, none, rest)
-  | false ↦ total_none w p es h.1
-]
+total_none w p (e ∷ es) h = grind (arith, cases_Bool (p e), h.0, total_none w p es h.1)
 
 -- new entries sum to what all entries do, if those that are no new ones count nothing
 total_masked : (w : Meaning → Meaning → ℕ) (m : TableMeaning) (es : List (Meaning × Meaning)) → total w (new_entries m es) ≡ total (λ n v. cond (maps.contains_key m n) 0 (w n v)) es
@@ -214,12 +152,8 @@ module _ (g : Named) (s : TableMeaning) (are : AreSought s) where
   pub new_names_total : (w : Meaning → Meaning → ℕ) → ((n : Meaning) → w n [] ≡ 0) → (own : TableMeaning) → total w (new_entries own (maps.entries (names_table g s))) ≡ total (λ n c. w n (name_meaning (Some c))) (new_entries own (maps.entries g))
   new_names_total w none own =
       total_masked w own (maps.entries (names_table g s))
-      ∙ names_total (λ n v. cond (maps.contains_key own n) 0 (w n v)) (λ n. masked (maps.contains_key own n) (none n))
+      ∙ names_total (λ n v. cond (maps.contains_key own n) 0 (w n v)) (λ n. grind (arith, none n, cases_Bool (maps.contains_key own n)))
       ∙ sym (total_masked (λ n c. w n (name_meaning (Some c))) own (maps.entries g))
-    where
-      masked : {k : ℕ} (b : Bool) → k ≡ 0 → cond b 0 k ≡ 0
-      masked true e = refl
-      masked false e = e
 
 -- ---- sought names, as the code puts them in
 
@@ -229,15 +163,7 @@ with_sought t es q = cond (list_any (eq_by_cmp meaning_cmp q) (map (λ e. e.0) e
 
 -- putting in the next name leaves the state in the end as it was
 pub sought_next : (t u : TableMeaning) (e : Meaning × Meaning) (es : List (Meaning × Meaning)) (q : Meaning) → u ≡ maps.insert t e.0 [] → with_sought u es q ≡ with_sought t (e ∷ es) q
-sought_next t u e es q is =
-    ap (λ (t : TableMeaning). with_sought t es q) is
-    ∙ ap (cond (list_any (eq_by_cmp meaning_cmp q) (map (λ e. e.0) es)) (Some [])) (maps.get-insert nat_list_cmp_total t e.0 [] q)
-    ∙ either (eq_by_cmp meaning_cmp q e.0) (list_any (eq_by_cmp meaning_cmp q) (map (λ e. e.0) es)) (maps.get t q)
-  where
-    either : (a b : Bool) (x : State) → cond b (Some []) (cond a (Some []) x) ≡ cond (a || b) (Some []) x
-    either true true x = refl
-    either true false x = refl
-    either false b x = refl
+sought_next t u e es q is = grind (arith, is, maps.get-insert nat_list_cmp_total t e.0 [] q, cases_Bool (eq_by_cmp meaning_cmp q e.0), cases_Bool (list_any (eq_by_cmp meaning_cmp q) (map (λ e. e.0) es)))
 
 -- once the names of all seekers are put in, each of them is sought
 pub sought_all : (t s : TableMeaning) (es : List (Meaning × Meaning)) (q : Meaning) → t ≡ maps.empty → es ≡ maps.entries s → with_sought t es q ≡ cond (maps.contains_key s q) (Some []) None
@@ -245,8 +171,4 @@ sought_all t s es q none e = ap (λ es. with_sought t es q) e ∙ (λ i. cond (s
 
 -- names that are put in are sought
 pub only_sought : (s seekers : TableMeaning) → ((q : Meaning) → maps.get s q ≡ cond (maps.contains_key seekers q) (Some []) None) → AreSought s
-only_sought s seekers h n v is = at (maps.contains_key seekers n) (sym (h n) ∙ is)
-  where
-    at : (b : Bool) → cond b (Some []) None ≡ Some v → v ≡ []
-    at true e = sym (Some_same e)
-    at false e = Some_None (sym e)
+only_sought s seekers h n v is = grind (arith, h n, cases_Bool (maps.contains_key seekers n))

@@ -1,5 +1,5 @@
 -- Tables whose keys are numbers.
-use Rattle.std.proofs.Common.{◌≡◌, ℕ, false, cond, ◌&&◌, T, List, [], ◌∷◌, map, refl, sym, ◌∙◌, ap, subst, Option, Some, None, Less, Equal, Greater, nat_cmp, is_lt}
+use Rattle.std.proofs.Common.{◌≡◌, ℕ, false, cond, ◌&&◌, T, List, [], ◌∷◌, map, refl, sym, ◌∙◌, ap, subst, Option, Some, None, Less, Equal, Greater, nat_cmp, is_lt, arith}
 use Rattle.std.specs.Ordering.{eq_by_cmp, is_eq, ordering_then}
 use Rattle.std.specs.Cmp.{nat_cmp_total}
 use Rattle.std.specs.Cmp.Lexicographic.{nat_list_cmp_total}
@@ -16,6 +16,7 @@ use Rattle.t1_font.specs.FontValue.{Numbered}
 use Rattle.t1_algebra.specs.StateTables.{numbered}
 use Rattle.t1_algebra.proofs.Maps.{get-merged}
 use Rattle.t1_algebra.specs.States.{joined}
+use Rattle.t1_algebra.proofs.Sets.{cases_Option}
 
 -- entries with their numbers as keys of a table
 abbrev keyed : List (ℕ × List ℕ) → List (Meaning × Meaning)
@@ -91,11 +92,7 @@ numbered-insert m n v = numbered_is _ (maps.insert m n v) (λ q. maps.get-insert
 pub numbered-merged : (m n : Numbered) → joined_table (numbered m) (numbered n) ≡ numbered (merged m n)
 numbered-merged m n = numbered_is _ (merged m n) (λ q. get_joined (numbered m) (numbered n) q ∙ (λ i. joined_state (get-numbered m q i) (get-numbered n q i)) ∙ at q)
   where
-    same : (x y : Option (List ℕ)) → joined_state x y ≡ joined x y
-    same None y = refl
-    same (Some v) y = refl
-
     at : (q : Meaning) → joined_state (at_number (maps.get m) q) (at_number (maps.get n) q) ≡ at_number (maps.get (merged m n)) q
     at [] = refl
-    at (k ∷ []) = same (maps.get m k) (maps.get n k) ∙ sym (get-merged nat_cmp_total nat_cmp-IsAntisymmetric m n k)
+    at (k ∷ []) = grind (arith, get-merged nat_cmp_total nat_cmp-IsAntisymmetric m n k, cases_Option (maps.get m k))
     at (a ∷ b ∷ rest) = refl
