@@ -1,5 +1,5 @@
 -- Two fonts have no conflict exactly if they join, and they have the same conflict in both orders.
-use Rattle.std.proofs.Common.{◌≡◌, ◌↔◌, ℕ, Bool, true, false, cond, not, ◌&&◌, ◌||◌, List, [], refl, sym, ◌∙◌, ap, subst, true≢false, inl, inr, Ordering, Option, Some, None, is_some, unwrap_or, nat_le}
+use Rattle.std.proofs.Common.{◌≡◌, ◌↔◌, ℕ, Bool, true, false, cond, not, ◌&&◌, ◌||◌, List, [], refl, sym, ◌∙◌, ap, subst, true≢false, inl, inr, Ordering, Option, Some, None, is_some, unwrap_or, nat_le, arith}
 use Rattle.std.specs.List.{list_any}
 use Rattle.std.specs.Cmp.{IsTotalOrder, nat_cmp_total, first_so, second_so}
 use Rattle.std.specs.Cmp.Lexicographic.{nat_list_cmp_total}
@@ -12,10 +12,10 @@ use Rattle.t1_algebra.specs.Searches.{members, smallest, found}
 use Rattle.t1_algebra.specs.Shared.{shared_of}
 use Rattle.t1_algebra.specs.Interpreter.{Interpreter, same_bytes}
 use Rattle.t1_algebra.specs.Keep.{has}
-use Rattle.t1_algebra.specs.States.{IsWithin, Agree, code_state, is_sought, subr_state, state_of_glyph, state_of_entry, joined_font, Compatible, Join, executes, calls_for, called_at}
+use Rattle.t1_algebra.specs.States.{IsWithin, Agree, code_state, is_sought, subr_state, state_of_glyph, state_of_entry, joined_font, Compatible, Join, executes, calls_for, called_at, name_state}
 use Rattle.t1_algebra.proofs.Uses.{sought, seeker}
-use Rattle.t1_algebra.proofs.Sets.{name_same, clash, tied, itself, any_one, any_at}
-use Rattle.t1_algebra.proofs.JoinedStates.{font_back, compatible_back}
+use Rattle.t1_algebra.proofs.Sets.{name_same, clash, tied, itself, any_one, any_at, cases_Option}
+use Rattle.t1_algebra.proofs.JoinedStates.{font_back, compatible_back, glyph_agree}
 use Rattle.std.proofs.lemmas.Bool.{leb-true, le-leb, and_from, or_left, or_right, or_cases, cases_Bool, false_from_ne_true, not-false, not_from_true}
 use Rattle.t1_algebra.proofs.Searching.{or_swap, passes_none, found_none, none_found, smallest_none}
 use Rattle.t1_algebra.proofs.Shares.{is_same, swaps, bytes_decide, Shares, shared_so, no_part_differs, differing_back, shared_from, shared_to}
@@ -23,30 +23,18 @@ use Rattle.t1_algebra.proofs.Maps.{agree_back, in_both, both_back}
 
 -- ---- tests
 
--- states that pass the test join
-pub agrees_so : (x y : Option (List ℕ)) → agrees x y ≡ true → Agree x y
-agrees_so None y h = tt
-agrees_so (Some v) None h = tt
-agrees_so (Some v) (Some w) h = tied nat_list_cmp_total name_same v w h
+module _ (x y : Option (List ℕ)) where
+  -- states that pass the test join
+  pub agrees_so : agrees x y ≡ true → Agree x y
+  agrees_so h = grind (arith, cases_Option x, cases_Option y, bytes_decide.so)
 
--- states that join pass the test
-pub so_agrees : (x y : Option (List ℕ)) → Agree x y → agrees x y ≡ true
-so_agrees None y h = refl
-so_agrees (Some v) None h = refl
-so_agrees (Some v) (Some w) h = ap (λ u. same_bytes v u) (sym h) ∙ itself nat_list_cmp_total name_same v
+  -- states that join pass the test
+  pub so_agrees : Agree x y → agrees x y ≡ true
+  so_agrees h = grind (arith, cases_Option x, cases_Option y, bytes_decide.self)
 
--- the test is the same in both orders
-pub agrees_swap : (x y : Option (List ℕ)) → agrees x y ≡ agrees y x
-agrees_swap None None = refl
-agrees_swap None (Some w) = refl
-agrees_swap (Some v) None = refl
-agrees_swap (Some v) (Some w) = swaps same_bytes bytes_decide v w
-
--- whatever joins with nothing
-pub agrees_none : (x y : Option (List ℕ)) → is_some y ≡ false → agrees x y ≡ true
-agrees_none None y h = refl
-agrees_none (Some v) None h = refl
-agrees_none (Some v) (Some w) h = absurd (true≢false h)
+  -- the test is the same in both orders
+  pub agrees_swap : agrees x y ≡ agrees y x
+  agrees_swap = grind (arith, cases_Option x, cases_Option y, swaps same_bytes bytes_decide)
 
 -- the codes of two tables are the same in both orders
 codes_swap : (d e : Encoding) → codes_of_both d e ≡ codes_of_both e d
@@ -54,6 +42,11 @@ codes_swap (Word v) (Word w) = refl
 codes_swap (Word v) (Codes t) = refl
 codes_swap (Codes s) (Word w) = refl
 codes_swap (Codes s) (Codes t) = both_back nat_cmp_total nat_cmp-IsAntisymmetric s t
+
+-- if no key of two maps has states that clash, and keys that the second lacks have no state, all states agree
+all_agree : {K : Type 0} {R : K → K → Ordering} (o : IsTotalOrder R) (same : IsAntisymmetric R) (a b : maps.FinMap R (List ℕ)) (x y : K → Option (List ℕ)) → smallest (λ k. not (agrees (x k) (y k))) (keys_of_both a b) ≡ None
+    → (k : K) → (maps.contains_key b k ≡ false → y k ≡ None) → Agree (x k) (y k)
+all_agree o same a b x y h k absent = grind (arith, absent, in_both o same a b k, smallest_none o same (λ k. not (agrees (x k) (y k))) (keys_of_both a b) k h, agrees_so (x k) (y k), cases_Option (x k), cases_Bool (maps.contains_key b k), cases_Bool (agrees (x k) (y k)))
 
 -- ---- components that are lacking
 
@@ -67,37 +60,11 @@ module _ {O : Type 0} (m : Interpreter O) where
   -- ---- from no conflict to the join
 
   module _ (f g : FontValue) where
-    -- a key that neither map has is not in conflict
-    out_of_both : {K : Type 0} {R : K → K → Ordering} (o : IsTotalOrder R) (same : IsAntisymmetric R) (a b : maps.FinMap R (List ℕ)) (q : K) → maps.contains_key (keys_of_both a b) q ≡ false → agrees (maps.get a q) (maps.get b q) ≡ true
-    out_of_both o same a b q h = agrees_none (maps.get a q) (maps.get b q) (false_from_ne_true (maps.contains_key b q) (λ k. clash (maps.contains_key (keys_of_both a b) q) (in_both o same a b q ∙ or_right (maps.contains_key a q) (maps.contains_key b q) k) h))
-
     -- without a conflict of codes, the names of each code agree
-    codes_agree_at : (d e : Encoding) → smallest (λ c. not (agrees (code_state d c) (code_state e c))) (codes_of_both d e) ≡ None → (c : ℕ) → agrees (code_state d c) (code_state e c) ≡ true
-    codes_agree_at (Word v) e h c = refl
-    codes_agree_at (Codes s) (Word w) h c = agrees_none (maps.get s c) None refl
-    codes_agree_at (Codes s) (Codes t) h c = elim (cases_Bool (maps.contains_key (keys_of_both s t) c)) [
-      | inl k ↦ not-false (agrees (maps.get s c) (maps.get t c)) (smallest_none nat_cmp_total nat_cmp-IsAntisymmetric (λ c. not (agrees (maps.get s c) (maps.get t c))) (keys_of_both s t) c h k)
-      | inr k ↦ out_of_both nat_cmp_total nat_cmp-IsAntisymmetric s t c k
-    ]
-
-    -- without a conflict of glyphs, the charstrings of each name agree
-    glyphs_agree_at : glyph_conflict f g ≡ None → (n : List ℕ) → agrees (maps.get f.glyphs n) (maps.get g.glyphs n) ≡ true
-    glyphs_agree_at h n = elim (cases_Bool (maps.contains_key (glyph_names f g) n)) [
-      | inl k ↦ not-false (agrees (maps.get f.glyphs n) (maps.get g.glyphs n)) (smallest_none nat_list_cmp_total name_same (glyph_clashes f g) (glyph_names f g) n h k)
-      | inr k ↦ out_of_both nat_list_cmp_total name_same f.glyphs g.glyphs n k
-    ]
-
-    -- if there is no entry, the state is the bottom
-    no_state : (i : ℕ) (x : Option (List ℕ)) → is_some x ≡ false → is_some (state_of_entry m g i x) ≡ false
-    no_state i None h = refl
-    no_state i (Some c) h = absurd (true≢false h)
-
-    -- without a conflict of Subrs, the states of each index agree
-    subrs_agree_at : subr_conflict m f g ≡ None → (i : ℕ) → agrees (subr_state m f i) (subr_state m g i) ≡ true
-    subrs_agree_at h i = elim (cases_Bool (maps.contains_key (keys_of_both f.subrs g.subrs) i)) [
-      | inl k ↦ not-false (agrees (subr_state m f i) (subr_state m g i)) (smallest_none nat_cmp_total nat_cmp-IsAntisymmetric (subr_clashes m f g) (keys_of_both f.subrs g.subrs) i h k)
-      | inr k ↦ agrees_none (subr_state m f i) (subr_state m g i) (no_state i (maps.get g.subrs i) (false_from_ne_true (maps.contains_key g.subrs i) (λ w. clash (maps.contains_key (keys_of_both f.subrs g.subrs) i) (in_both nat_cmp_total nat_cmp-IsAntisymmetric f.subrs g.subrs i ∙ or_right (maps.contains_key f.subrs i) (maps.contains_key g.subrs i) w) k)))
-    ]
+    codes_agree_at : (d e : Encoding) → smallest (λ c. not (agrees (code_state d c) (code_state e c))) (codes_of_both d e) ≡ None → (c : ℕ) → Agree (code_state d c) (code_state e c)
+    codes_agree_at (Word v) e h c = tt
+    codes_agree_at (Codes s) (Word w) h c = grind (arith, cases_Option (maps.get s c))
+    codes_agree_at (Codes s) (Codes t) h c = all_agree nat_cmp_total nat_cmp-IsAntisymmetric s t (maps.get s) (maps.get t) h c (λ e. grind (arith, e, cases_Option (maps.get t c)))
 
     -- a component that f lacks and seeks and that g has is in conflict
     lacks_clashes : (p : List ℕ) → has f p ≡ false → is_sought m f p ≡ true → has g p ≡ true → component_clashes m f g p ≡ true
@@ -118,34 +85,16 @@ module _ {O : Type 0} (m : Interpreter O) where
     component_back p = λ i. or_swap (has f p) (has g p) i && list_any (wanted_back p i) (members (names_back i))
 
   module _ (f g : FontValue) where
-    -- without a conflict of components, none of those that g has is in conflict
-    no_component_clash : component_conflict m f g ≡ None → (p : List ℕ) → has g p ≡ true → component_clashes m f g p ≡ false
-    no_component_clash h p k = smallest_none nat_list_cmp_total name_same (component_clashes m f g) (glyph_names f g) p h (in_both nat_list_cmp_total name_same f.glyphs g.glyphs p ∙ or_right (has f p) (has g p) k)
+    -- without a conflict of components, f seeks none that it lacks and g has
+    seeks_none : component_conflict m f g ≡ None → (p : List ℕ) → has f p ≡ false → has g p ≡ true → is_sought m f p ≡ false
+    seeks_none h p l k = grind (arith, l, k, lacks_clashes f g p, in_both nat_list_cmp_total name_same f.glyphs g.glyphs p, smallest_none nat_list_cmp_total name_same (component_clashes m f g) (glyph_names f g) p h, cases_Bool (is_sought m f p))
 
     component_conflict_back : component_conflict m f g ≡ component_conflict m g f
     component_conflict_back = λ i. smallest (λ p. component_back f g p i) (names_back f g i)
 
-    -- a name that is not sought agrees with a charstring
-    lone_agrees : (b : Bool) (c : List ℕ) → b ≡ false → Agree {V = Option (List ℕ)} (cond b (Some None) None) (Some (Some c))
-    lone_agrees true c h = absurd (true≢false h)
-    lone_agrees false c h = tt
-
-    -- names without charstrings agree
-    both_lack : (s t : Bool) → Agree {V = Option (List ℕ)} (cond s (Some None) None) (cond t (Some None) None)
-    both_lack true true = refl
-    both_lack true false = tt
-    both_lack false t = tt
-
-    -- without a conflict of components, a name that only g has agrees
-    lacking_agrees : component_conflict m f g ≡ None → (n d : List ℕ) → maps.get f.glyphs n ≡ None → maps.get g.glyphs n ≡ Some d → Agree (state_of_glyph m f n None) (state_of_glyph m g n (Some d))
-    lacking_agrees h n d l k = lone_agrees (is_sought m f n) d (false_from_ne_true (is_sought m f n) (λ s. clash (component_clashes m f g n) (lacks_clashes f g n (ap is_some l) s (ap is_some k)) (no_component_clash h n (ap is_some k))))
-
   -- without conflicts of glyphs and components, the states of a name agree
-  names_at : (f g : FontValue) → component_conflict m f g ≡ None → (n : List ℕ) (x y : Option (List ℕ)) → maps.get f.glyphs n ≡ x → maps.get g.glyphs n ≡ y → agrees x y ≡ true → Agree (state_of_glyph m f n x) (state_of_glyph m g n y)
-  names_at f g h n None None k l a = both_lack f g (is_sought m f n) (is_sought m g n)
-  names_at f g h n None (Some d) k l a = lacking_agrees f g h n d k l
-  names_at f g h n (Some c) None k l a = agree_back (state_of_glyph m g n None) (Some (Some c)) (lacking_agrees g f (sym (component_conflict_back f g) ∙ h) n c l k)
-  names_at f g h n (Some c) (Some d) k l a = ap Some (bytes_decide.so c d a)
+  names_at : (f g : FontValue) → component_conflict m f g ≡ None → (n : List ℕ) → Agree (maps.get f.glyphs n) (maps.get g.glyphs n) → Agree (name_state m f n) (name_state m g n)
+  names_at f g h n a = grind (arith, seeks_none f g h n, seeks_none g f (sym (component_conflict_back f g) ∙ h) n, a, cases_Option (maps.get f.glyphs n), cases_Option (maps.get g.glyphs n), cases_Bool (is_sought m f n), cases_Bool (is_sought m g n))
 
   module _ (f g : FontValue) where
     -- without a conflict of shells, the fonts share what they have to
@@ -165,9 +114,9 @@ module _ {O : Type 0} (m : Interpreter O) where
           shells = same.shells;
           present = same.present;
           kinds = same.kinds;
-          subrs = λ i. agrees_so (subr_state m f i) (subr_state m g i) (subrs_agree_at f g e.0 i);
-          names = λ n. names_at f g d.0 n (maps.get f.glyphs n) (maps.get g.glyphs n) refl refl (glyphs_agree_at f g c.0 n);
-          codes = λ k. agrees_so (code_state f.encoding k) (code_state g.encoding k) (codes_agree_at f g f.encoding g.encoding b.0 k);
+          subrs = λ i. all_agree nat_cmp_total nat_cmp-IsAntisymmetric f.subrs g.subrs (subr_state m f) (subr_state m g) e.0 i (λ k. grind (arith, k, cases_Option (maps.get g.subrs i)));
+          names = λ n. names_at f g d.0 n (all_agree nat_list_cmp_total name_same f.glyphs g.glyphs (maps.get f.glyphs) (maps.get g.glyphs) c.0 n (λ k. grind (arith, k, cases_Option (maps.get g.glyphs n))));
+          codes = codes_agree_at f g f.encoding g.encoding b.0;
         }
 
 -- ---- from the join to no conflict
@@ -181,42 +130,19 @@ module _ {O : Type 0} (m : Interpreter O) (f g : FontValue) (c : Compatible m f 
   pub shares_all : Shares f g
   shares_all = record { shells = c.shells; present = c.present; kinds = c.kinds }
 
-  -- if the states of a name agree, its charstrings do
-  glyph_at : (n : List ℕ) (x y : Option (List ℕ)) → Agree (state_of_glyph m f n x) (state_of_glyph m g n y) → agrees x y ≡ true
-  glyph_at n None y h = refl
-  glyph_at n (Some v) None h = refl
-  glyph_at n (Some v) (Some w) h = is_same same_bytes bytes_decide v w (Some_same h)
-
   -- compatible fonts have no conflict of glyphs
   glyph_so : (n : List ℕ) → glyph_clashes f g n ≡ false
-  glyph_so n = not_from_true _ (glyph_at n (maps.get f.glyphs n) (maps.get g.glyphs n) (c.names n))
+  glyph_so n = not_from_true _ (so_agrees (maps.get f.glyphs n) (maps.get g.glyphs n) (glyph_agree m f g c n))
 
--- a component that one of two compatible fonts lacks and seeks is lacking in the other
 module _ {O : Type 0} (m : Interpreter O) (f g : FontValue) where
-  lacking_both : (p n : List ℕ) (x y : Option (List ℕ)) → Agree (state_of_glyph m f p x) (state_of_glyph m g p y) → is_sought m f p ≡ true → is_some x ≡ false → is_some y ≡ false
-  lacking_both p n None None h s l = refl
-  lacking_both p n (Some v) y h s l = absurd (true≢false l)
-  lacking_both p n None (Some w) h s l = Some_None (sym (subst (λ (b : Bool). Agree {V = Option (List ℕ)} (cond b (Some None) None) (Some (Some w))) s h))
-
-  not_true : (b : Bool) → not b ≡ true → b ≡ false
-  not_true true h = absurd (true≢false (sym h))
-  not_true false h = refl
-
   -- a component that f lacks and calls for is lacking in a compatible g, too
-  wants_nothing : Compatible m f g → (p n : List ℕ) → wants m f n p ≡ true → has g p ≡ false
-  wants_nothing c p n h = lacking_both p n (maps.get f.glyphs p) (maps.get g.glyphs p) (c.names p) (sought m f p n (second_so (not (has f p)) (calls_for m f n p) h)) (not_true (has f p) (first_so (not (has f p)) (calls_for m f n p) h))
-
-  or_none : (a b : Bool) → a ≡ false → b ≡ false → (a || b) ≡ false
-  or_none true b h k = absurd (true≢false h)
-  or_none false b h k = k
+  wants_nothing : Compatible m f g → (p n : List ℕ) → wants m f n p ≡ true → (has f p || has g p) ≡ false
+  wants_nothing c p n h = grind (arith, h, c.names p, sought m f p n, cases_Option (maps.get f.glyphs p), cases_Option (maps.get g.glyphs p), cases_Bool (is_sought m f p))
 
 module _ {O : Type 0} (m : Interpreter O) (f g : FontValue) (c : Compatible m f g) where
   -- neither of two compatible fonts has a component that a glyph of one of them calls for and its font lacks
   wanted_gone : (p n : List ℕ) → wanted_by m f g p n ≡ true → (has f p || has g p) ≡ false
-  wanted_gone p n h = elim (or_cases (wants m f n p) (wants m g n p) h) [
-    | inl a ↦ or_none m f g (has f p) (has g p) (not_true m f g (has f p) (first_so (not (has f p)) (calls_for m f n p) a)) (wants_nothing m f g c p n a)
-    | inr b ↦ or_none m f g (has f p) (has g p) (wants_nothing m g f (compatible_back m f g c) p n b) (not_true m f g (has g p) (first_so (not (has g p)) (calls_for m g n p) b))
-  ]
+  wanted_gone p n h = grind (arith, h, wants_nothing m f g c p n, wants_nothing m g f (compatible_back m f g c) p n, cases_Bool (wants m f n p), cases_Bool (has f p), cases_Bool (has g p))
 
   -- compatible fonts have no conflict of components
   no_component : (p : List ℕ) → component_clashes m f g p ≡ false
@@ -244,16 +170,11 @@ within_so m f g h = record {
 so_within : {O : Type 0} (m : Interpreter O) (f g : FontValue) → IsWithin (joined_font m f g) → is_within m f g ≡ true
 so_within m f g w = and_from (nat_le (weight (joined_font m f g)) weight_limit) (nat_le (maps.len (joined_font m f g).glyphs) count_limit) (le-leb _ _ w.weight) (le-leb _ _ w.glyphs)
 
--- if no conflict over the limits is told, the test of the limits has passed
-over_none : (b : Bool) → ◌≡◌ {A = Option Conflict} (cond b None (Some OverLimit)) None → b ≡ true
-over_none true h = refl
-over_none false h = Some_None h
-
 -- two fonts have no conflict exactly if they join
 pub no_conflict : {O : Type 0} (m : Interpreter O) (f g : FontValue) → (conflict m f g ≡ None) ↔ Join m f g
 no_conflict m f g = (
   λ h. let r = found_none (λ c. c) (states_conflict m f g) (cond (is_within m f g) None (Some OverLimit)) h in
-      record { states = compatible m f g r.0; within = within_so m f g (over_none (is_within m f g) r.1) },
+      record { states = compatible m f g r.0; within = within_so m f g (grind (arith, r.1, cases_Bool (is_within m f g))) },
   λ j. none_found (λ c. c) (states_conflict m f g) (cond (is_within m f g) None (Some OverLimit)) (no_states_conflict m f g j.states) (ap (λ b. cond b None (Some OverLimit)) (so_within m f g j.within)),
 )
 

@@ -1,5 +1,5 @@
 -- Fonts share what they have to exactly if no part differs, and the first part that differs is the same in both orders.
-use Rattle.std.proofs.Common.{◌≡◌, ◌↔◌, option_map, ℕ, Bool, true, false, not, ◌&&◌, List, [], ◌∷◌, map, refl, sym, ◌∙◌, ap, true≢false, inl, inr, Option, Some, None, is_some, nat_cmp}
+use Rattle.std.proofs.Common.{◌≡◌, ◌↔◌, option_map, ℕ, Bool, true, false, not, ◌&&◌, List, [], ◌∷◌, map, refl, sym, ◌∙◌, ap, true≢false, inl, inr, Option, Some, None, is_some, nat_cmp, arith}
 use Rattle.std.specs.List.{list_any, AllByRecursion}
 use Rattle.std.specs.Ordering.{eq_by_cmp}
 use Rattle.std.specs.FinMap as maps
@@ -16,16 +16,8 @@ use Rattle.t1_algebra.specs.Searches.{first_where}
 use Rattle.t1_algebra.specs.Shared.{Shared, shared_of, ShellPart, Head, EncodingPart, ClearTail, Private, SubrsTable, SubrsWords, Middle, GlyphsWords, Tail, all_parts, same_number, same_bool, same_word, same_words, same_part, differing_part}
 use Rattle.t1_algebra.proofs.JoinedStates.{constant}
 use Rattle.t1_algebra.proofs.Searching.{none_passes, passes_none}
-use Rattle.t1_algebra.proofs.Sets.{name_same, tied, itself}
+use Rattle.t1_algebra.proofs.Sets.{name_same, tied, itself, cases_Option}
 use Rattle.std.proofs.lemmas.Bool.{and_from, cases_Bool, false_from_ne_true, not-false, not_from_true}
-
--- a test that decides equality is the same in both orders
-pub test_back : {X : Type 0} (t : X → X → Bool) → ((x y : X) → t x y ≡ true → x ≡ y) → ((x : X) → t x x ≡ true) → (x y : X) → t x y ≡ t y x
-test_back t so self x y =
-    elim (cases_Bool (t x y)) [
-      | inl a ↦ a ∙ sym (ap (λ z. t z x) (sym (so x y a)) ∙ self x)
-      | inr b ↦ b ∙ sym (false_from_ne_true (t y x) (λ k. true≢false (sym (ap (λ z. t x z) (so y x k) ∙ self x) ∙ b)))
-    ]
 
 -- ---- each test decides
 
@@ -41,7 +33,7 @@ module _ {X : Type 0} (t : X → X → Bool) where
 
   -- the test is the same in both orders
   pub swaps : Decides → (x y : X) → t x y ≡ t y x
-  swaps d = test_back t d.so d.self
+  swaps d x y = grind (arith, d.so x y, d.so y x, d.self x, cases_Bool (t x y), cases_Bool (t y x))
 
 pub bytes_decide : Decides same_bytes
 bytes_decide = record { so = tied nat_list_cmp_total name_same; self = itself nat_list_cmp_total name_same }
@@ -49,17 +41,8 @@ bytes_decide = record { so = tied nat_list_cmp_total name_same; self = itself na
 pub numbers_decide : Decides same_number
 numbers_decide = record { so = tied nat_cmp_total nat_cmp-IsAntisymmetric; self = itself nat_cmp_total nat_cmp-IsAntisymmetric }
 
-bool_so : (a b : Bool) → same_bool a b ≡ true → a ≡ b
-bool_so true b h = sym h
-bool_so false true h = h
-bool_so false false h = refl
-
-bool_self : (a : Bool) → same_bool a a ≡ true
-bool_self true = refl
-bool_self false = refl
-
 pub bools_decide : Decides same_bool
-bools_decide = record { so = bool_so; self = bool_self }
+bools_decide = record { so = λ a b h. grind (arith, cases_Bool a, cases_Bool b); self = λ a. grind (arith, cases_Bool a) }
 
 -- tables of Subrs are the same if both are there or neither, they declare as many, and their words are the same
 subrs_so : (s t : Option SubrsShell) → is_some s ≡ is_some t → declared_count s ≡ declared_count t → same_words s t ≡ true → s ≡ t
@@ -73,26 +56,8 @@ subrs_so (Some s) (Some t) p d w =
     let closing = bytes_decide.so s.closing t.closing (second_so (same_bytes s.put t.put) _ more) in
     λ i. Some (record { declared = d i; rd = rd i; put = put i; closing = closing i })
 
-words_self : (s : Option SubrsShell) → same_words s s ≡ true
-words_self s = and_from (same_bytes (of_subrs (λ w. w.rd) s) (of_subrs (λ w. w.rd) s)) _ (bytes_decide.self (of_subrs (λ w. w.rd) s))
-    (and_from (same_bytes (of_subrs (λ w. w.put) s) (of_subrs (λ w. w.put) s)) _ (bytes_decide.self (of_subrs (λ w. w.put) s)) (bytes_decide.self (of_subrs (λ w. w.closing) s)))
-
-words_swap : (s t : Option SubrsShell) → same_words s t ≡ same_words t s
-words_swap s t = λ i. swaps same_bytes bytes_decide (of_subrs (λ w. w.rd) s) (of_subrs (λ w. w.rd) t) i
-    && (swaps same_bytes bytes_decide (of_subrs (λ w. w.put) s) (of_subrs (λ w. w.put) t) i && swaps same_bytes bytes_decide (of_subrs (λ w. w.closing) s) (of_subrs (λ w. w.closing) t) i)
-
-word_so : (v w : Option (List ℕ)) → same_word v w ≡ true → v ≡ w
-word_so None None h = refl
-word_so None (Some w) h = absurd (true≢false (sym h))
-word_so (Some v) None h = absurd (true≢false (sym h))
-word_so (Some v) (Some w) h = ap Some (bytes_decide.so v w h)
-
-word_self : (v : Option (List ℕ)) → same_word v v ≡ true
-word_self None = refl
-word_self (Some v) = bytes_decide.self v
-
 words_decide : Decides same_word
-words_decide = record { so = word_so; self = word_self }
+words_decide = record { so = λ v w h. grind (arith, cases_Option v, cases_Option w, bytes_decide.so); self = λ v. grind (arith, cases_Option v, bytes_decide.self) }
 
 -- ---- what is shared
 
@@ -127,39 +92,20 @@ module _ (s t : Shared) where
       let indices = indices_so (not-false (same_part s t SubrsTable) parts.1.1.1.1.0) in
       λ i. (shells i, (word i, indices i))
 
-part_self : (s : Shared) (part : ShellPart) → not (same_part s s part) ≡ false
-part_self s Head = not_from_true _ (bytes_decide.self s.0.head)
-part_self s EncodingPart = not_from_true _ (words_decide.self s.1.0)
-part_self s ClearTail = not_from_true _ (bytes_decide.self s.0.clear_tail)
-part_self s Private = not_from_true _ (and_from (same_bytes s.0.private s.0.private) _ (bytes_decide.self s.0.private) (numbers_decide.self s.0.len_iv))
-part_self s SubrsTable = not_from_true _ (and_from (same_bool (is_some s.0.subrs) (is_some s.0.subrs)) _ (bools_decide.self (is_some s.0.subrs))
-    (and_from (same_number (declared_count s.0.subrs) (declared_count s.0.subrs)) _ (numbers_decide.self (declared_count s.0.subrs)) (bytes_decide.self s.1.1)))
-part_self s SubrsWords = not_from_true _ (words_self s.0.subrs)
-part_self s Middle = not_from_true _ (bytes_decide.self s.0.middle)
-part_self s GlyphsWords = not_from_true _ (and_from (same_bytes s.0.glyphs_rd s.0.glyphs_rd) _ (bytes_decide.self s.0.glyphs_rd) (bytes_decide.self s.0.glyphs_def))
-part_self s Tail = not_from_true _ (bytes_decide.self s.0.tail)
-
 -- no part of what is the same differs
 pub no_part_differs : (s t : Shared) → s ≡ t → differing_part s t ≡ None
-no_part_differs s t e = ap (differing_part s) (sym e) ∙ passes_none (λ part. not (same_part s s part)) all_parts (part_self s)
+no_part_differs s t e = ap (differing_part s) (sym e) ∙ simp (bytes_decide.self, numbers_decide.self, bools_decide.self, words_decide.self)
 
 -- ---- both orders
 
-module _ (s t : Shared) where
-  part_swap : (part : ShellPart) → same_part s t part ≡ same_part t s part
-  part_swap Head = swaps same_bytes bytes_decide s.0.head t.0.head
-  part_swap EncodingPart = swaps same_word words_decide s.1.0 t.1.0
-  part_swap ClearTail = swaps same_bytes bytes_decide s.0.clear_tail t.0.clear_tail
-  part_swap Private = λ i. swaps same_bytes bytes_decide s.0.private t.0.private i && swaps same_number numbers_decide s.0.len_iv t.0.len_iv i
-  part_swap SubrsTable = λ i. swaps same_bool bools_decide (is_some s.0.subrs) (is_some t.0.subrs) i && (swaps same_number numbers_decide (declared_count s.0.subrs) (declared_count t.0.subrs) i && swaps same_bytes bytes_decide s.1.1 t.1.1 i)
-  part_swap SubrsWords = words_swap s.0.subrs t.0.subrs
-  part_swap Middle = swaps same_bytes bytes_decide s.0.middle t.0.middle
-  part_swap GlyphsWords = λ i. swaps same_bytes bytes_decide s.0.glyphs_rd t.0.glyphs_rd i && swaps same_bytes bytes_decide s.0.glyphs_def t.0.glyphs_def i
-  part_swap Tail = swaps same_bytes bytes_decide s.0.tail t.0.tail
-
-  -- the first part that differs is the same in both orders
-  pub differing_back : differing_part s t ≡ differing_part t s
-  differing_back = λ i. first_where (λ part. not (part_swap part i)) all_parts
+-- the first part that differs is the same in both orders
+pub differing_back : (s t : Shared) → differing_part s t ≡ differing_part t s
+differing_back s t =
+    let bytes = swaps same_bytes bytes_decide in
+    let word_of_subrs = λ (w : SubrsShell → List ℕ). bytes (of_subrs w s.0.subrs) (of_subrs w t.0.subrs) in
+    cc (bytes s.0.head t.0.head, swaps same_word words_decide s.1.0 t.1.0, bytes s.0.clear_tail t.0.clear_tail, bytes s.0.private t.0.private, swaps same_number numbers_decide s.0.len_iv t.0.len_iv,
+    swaps same_bool bools_decide (is_some s.0.subrs) (is_some t.0.subrs), swaps same_number numbers_decide (declared_count s.0.subrs) (declared_count t.0.subrs), bytes s.1.1 t.1.1, word_of_subrs (λ w. w.rd), word_of_subrs (λ w. w.put),
+    word_of_subrs (λ w. w.closing), bytes s.0.middle t.0.middle, bytes s.0.glyphs_rd t.0.glyphs_rd, bytes s.0.glyphs_def t.0.glyphs_def, bytes s.0.tail t.0.tail)
 
 -- ---- what two fonts share
 
