@@ -146,3 +146,28 @@ module _ {O : Type 0} (m : Interpreter O) (f : FontValue) where
         ]
       ])
       (λ i h. elim (in_union nat_cmp_total nat_cmp-IsAntisymmetric (kept m f a) (kept m f b) i h) [ inl x ↦ more a (in_union_left nat_list_cmp_total name_same a b) i x | inr y ↦ more b (in_union_right nat_list_cmp_total name_same a b) i y ])
+
+-- g has the glyphs that f keeps, and each of them has the same components and executes the same Subrs in g
+module _ {O : Type 0} (m : Interpreter O) (f g : FontValue) (a : Names) (base : has f notdef ≡ true) (inside : InFont m f a) (also : has g notdef ≡ true) (within : InFont m g a)
+    (there : (n : List ℕ) → sets.contains (keep m f a) n ≡ true → has g n ≡ true)
+    (parts : (n : List ℕ) → sets.contains (keep m f a) n ≡ true → components_here m g n ≡ components_here m f n)
+    (runs : (n : List ℕ) → sets.contains (keep m f a) n ≡ true → calls m g n ≡ calls m f n) where
+  no_more : (n : List ℕ) → sets.contains (keep m g a) n ≡ true → sets.contains (keep m f a) n ≡ true
+  no_more =
+      let c = keep_closed m f a base inside in
+      keep_least m g a (keep m f a) there (record { asked = c.asked; notdef = c.notdef; components = λ n p k w. c.components n p k (ap (λ (s : Names). sets.contains s p) (sym (parts n k)) ∙ w) })
+
+  no_less : (n : List ℕ) → sets.contains (keep m f a) n ≡ true → sets.contains (keep m g a) n ≡ true
+  no_less =
+      let c = keep_closed m g a also within in
+      keep_least m f a (keep m g a) (λ n k. keep_has m f a n (no_more n k)) (record { asked = c.asked; notdef = c.notdef; components = λ n p k w. c.components n p k (ap (λ (s : Names). sets.contains s p) (parts n (no_more n k)) ∙ w) })
+
+  -- g keeps the same names
+  pub keep_alike : keep m g a ≡ keep m f a
+  keep_alike = same_members nat_list_cmp_total name_same (keep m g a) (keep m f a) no_more no_less
+
+  -- g keeps the same Subrs
+  pub kept_alike : kept m g a ≡ kept m f a
+  kept_alike = same_members nat_cmp_total nat_cmp-IsAntisymmetric (kept m g a) (kept m f a)
+      (λ i h. elim (kept_cases m g a i h) [ inl x ↦ kept_low m f a i x | inr y ↦ let k = no_more y.0 y.1 in kept_call m f a i y.0 k (ap (λ s. sets.contains s i) (sym (runs y.0 k)) ∙ y.2) ])
+      (λ i h. elim (kept_cases m f a i h) [ inl x ↦ kept_low m g a i x | inr y ↦ kept_call m g a i y.0 (no_less y.0 y.1) (ap (λ s. sets.contains s i) (runs y.0 y.1) ∙ y.2) ])

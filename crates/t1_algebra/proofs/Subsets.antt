@@ -7,7 +7,7 @@ use Rattle.std.specs.FinSet.{nat_cmp-IsAntisymmetric}
 use Rattle.std.proofs.lemmas.Slice.Eq.{bytes_eq-Decides}
 use Rattle.t1_font.specs.Cut.{stub, restrict, restrict_encoding}
 use Rattle.t1_font.specs.FontValue.{total, FontValue, notdef, weight, Encoding, Word, Codes}
-use Rattle.t1_font.proofs.Kept.{restrict_light}
+use Rattle.t1_font.proofs.Kept.{restrict_light, cut_had}
 use Rattle.t1_font.proofs.MapLemmas.{get-map_values, get-retain, Some_None, total-le, length_total}
 use Rattle.t1_algebra.specs.Interpreter.{Interpreter, Names, same_bytes, Numbers}
 use Rattle.t1_algebra.specs.Keep.{keep, kept, components, has, subset}
@@ -96,18 +96,14 @@ module _ {O : Type 0} (m : Interpreter O) (f : FontValue) (base : has f notdef �
 -- ---- limits
 
 module _ {O : Type 0} (m : Interpreter O) (f : FontValue) (a : Names) where
-  glyphs_weigh : (g : List ℕ → List ℕ → ℕ) → total g (maps.entries (subset m f a).glyphs) ≤ total g (maps.entries f.glyphs)
-  glyphs_weigh g = total-le nat_list_cmp_total name_same g g (subset m f a).glyphs f.glyphs (λ n v h.
-      let r = cond_some (sets.contains (keep m f a) n) (maps.get f.glyphs n) v (sym (get-retain nat_list_cmp_total name_same f.glyphs (sets.contains (keep m f a)) n) ∙ h) in
-      (v, r.1, omega arith))
-
   -- a subset weighs no more than the font
   pub subset_weight : weight (subset m f a) ≤ weight f
   subset_weight = restrict_light (sets.contains (keep m f a)) (sets.contains (kept m f a)) f
 
   -- a subset has no more glyphs than the font
   pub subset_glyphs : maps.len (subset m f a).glyphs ≤ maps.len f.glyphs
-  subset_glyphs = rw (maps.len-entries, maps.len-entries, ← length_total, ← length_total) (glyphs_weigh (λ k x. 1))
+  subset_glyphs = rw (maps.len-entries, maps.len-entries, ← length_total, ← length_total) (total-le nat_list_cmp_total name_same (λ k x. 1) (λ k x. 1) (subset m f a).glyphs f.glyphs
+      (λ n v h. (v, cut_had nat_list_cmp_total name_same f.glyphs (sets.contains (keep m f a)) n v h, omega arith)))
 
 -- ---- two cuts
 
