@@ -10,8 +10,6 @@ pub mod Drawings
 pub mod Searching
 pub mod Shares
 pub mod Conflicts
-pub mod Pictures
-pub mod Alike
 pub mod Again
 pub mod Fonts
 pub mod ManyMerges

@@ -14,11 +14,11 @@ use Rattle.t1_algebra.specs.Laws.{IsOf, DrawsAlike}
 use Rattle.t1_join.specs.Groupings.{Grouping, one, two, EachLeaf, map_grouping, from_left, leaves}
 use Rattle.t1_algebra.specs.Groupings.{Merges, union_all}
 use Rattle.t1_algebra.specs.Merges.{DrawsAll}
-use Rattle.t1_algebra.proofs.Alike.{left_alike, right_alike}
 use Rattle.t1_algebra.proofs.Fonts.{many_subsets}
 use Rattle.t1_algebra.proofs.Orders.{one_result}
 use Rattle.t1_algebra.proofs.Sets.{in_union, clash, name_same}
 use Rattle.std.proofs.lemmas.List.{length-append}
+use Rattle.t1_algebra.proofs.Drawings.{left_alike, right_alike}
 
 -- ---- from left to right
 

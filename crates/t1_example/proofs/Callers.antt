@@ -25,7 +25,6 @@ use Rattle.t1_algebra.specs.Searches.{first_where}
 use Rattle.t1_algebra.specs.Laws.{IsOf, AnswersAlike}
 use Rattle.t1_algebra.specs.Profile.{profile}
 use Rattle.t1_subset.specs.Refusals.{Absent}
-use Rattle.t1_algebra.proofs.Alike.{subset_alike, answers_alike}
 use Rattle.t1_algebra.proofs.Fonts.{subset_is_font}
 use Rattle.t1_algebra.proofs.Sets.{name_same, itself, in_list, from_in_list, in_union}
 use Rattle.t1_example.specs.declared.refusal.Refusal.{Refusal}
@@ -33,6 +32,7 @@ use Rattle.t1_example.specs.Joining.{CanBeCut, IsMemory, union_subset}
 use Rattle.t1_subset.specs.declared.conflict.Conflict.{Conflict}
 use Rattle.t1_subset.specs.Merger.{MergesSubsets}
 use Rattle.std.proofs.lemmas.Bool.{or_left, or_right, not_from_true}
+use Rattle.t1_algebra.proofs.Drawings.{subset_alike, answers_alike}
 
 -- a subset begins as its font does
 pub cut_fits : (form : Form) (f : FontValue) (a : Names) → Fits form f → Fits form (subset profile f a)

@@ -20,7 +20,6 @@ use Rattle.t1_join.specs.Groupings.{Grouping, one, two, EachLeaf, map_grouping, 
 use Rattle.t1_algebra.specs.Groupings.{Merges, union_all, folded}
 use Rattle.t1_subset.specs.Merger.{StopsAt, IsRefused, MergesSubsets, MergesAllSubsets, IsMerger, MergesItself, AcceptsAllJoin, MergesInAnyOrder}
 use Rattle.t1_algebra.specs.Merges.{DrawsBoth, ComesTo, DrawsAll, MergesToNone}
-use Rattle.t1_algebra.proofs.Alike.{left_alike, right_alike}
 use Rattle.t1_algebra.proofs.Conflicts.{no_conflict, conflict_back}
 use Rattle.t1_algebra.proofs.Fonts.{two_subsets, many_subsets, font_within, fonts_within, any_order_of_fonts}
 use Rattle.t1_algebra.proofs.Orders.{one_result, any_order, join_self, join_back, accepted_from_pairs, pairs_from_accepted, folded_is, within}
@@ -28,6 +27,7 @@ use Rattle.t1_algebra.proofs.Sets.{in_union, clash, name_same}
 use Rattle.std.proofs.lemmas.Bool.{eqb-true}
 use Rattle.std.proofs.lemmas.List.{length-append}
 use Rattle.t1_algebra.proofs.ManyMerges.{left_append, inner, no_tree, each_font, CutAt, cut_at, all_before, all_of_font, one_subset, all_draw}
+use Rattle.t1_algebra.proofs.Drawings.{left_alike, right_alike}
 
 -- if there is no conflict, a refusal tells want of memory
 pub tells_none : (e : Refusal) (c : Option Conflict) → c ≡ None → Tells e c → e ≡ refusal.Memory

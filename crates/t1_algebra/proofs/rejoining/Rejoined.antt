@@ -13,23 +13,21 @@ use Rattle.t1_font.specs.Evening.{evened}
 use Rattle.t1_font.proofs.even_fonts.Evened.{even_is_font}
 use Rattle.t1_font.proofs.MapLemmas.{get-retain, find_first, total-le, Some_None}
 use Rattle.t1_algebra.specs.Interpreter.{Names, Numbers, same_bytes}
-use Rattle.t1_algebra.specs.Keep.{keep, kept, subset, components}
-use Rattle.t1_algebra.specs.Outcomes.{seen}
+use Rattle.t1_algebra.specs.Keep.{keep, kept, subset, components, has}
+use Rattle.t1_algebra.specs.Outcomes.{seen, component_outcome}
 use Rattle.t1_algebra.specs.Profile.{profile}
 use Rattle.t1_algebra.specs.Laws.{IsOf, DrawsAlike}
 use Rattle.t1_join.specs.Groupings.{Grouping, one, leaves, from_left}
 use Rattle.t1_algebra.specs.Merges.{MergesTo}
 use Rattle.t1_algebra.specs.Rejoins.{declares, cut_to, without_tag, Truncated, IsTruncated, fonts_of, sets_of, names_of_all, largest, shared_font, rejoined, Rejoins, TruncatedSubsetsRejoin}
-use Rattle.t1_algebra.proofs.Alike.{subset_alike}
-use Rattle.t1_algebra.proofs.rejoining.CutCounts.{KeepsBelow, keep_same, subrs_below}
-use Rattle.t1_algebra.proofs.Drawings.{seen_alike}
+use Rattle.t1_algebra.proofs.rejoining.CutCounts.{KeepsBelow, keep_same, subrs_below, runs_below}
+use Rattle.t1_algebra.proofs.Drawings.{subset_alike, alike}
 use Rattle.t1_algebra.proofs.Fonts.{subset_is_font, any_order_of_fonts}
 use Rattle.t1_algebra.proofs.Kept.{keep_closed, keep_more, kept_more, kept_union, component_here_from}
 use Rattle.t1_algebra.proofs.ManyMerges.{alike_trans, each_font}
 use Rattle.t1_join.proofs.OrderLemmas.{leaves_from_left}
 use Rattle.t1_algebra.proofs.ManyMerges.{all_merge}
-use Rattle.t1_algebra.proofs.Pictures.{runs_by_rules, pictures_alike, pictures3_alike}
-use Rattle.t1_algebra.proofs.Sets.{clash, in_union, name_same}
+use Rattle.t1_algebra.proofs.Sets.{clash, in_union, name_same, cases_Option}
 use Rattle.t1_algebra.proofs.rejoining.Truncated.{WordsOf, words_empty, get_nothing, get_font, largest_fits, all_fit, Fits, keeps, none_either_way, cut_subset, evened_is}
 use Rattle.t1_algebra.proofs.Subsets.{cond_some}
 
@@ -147,31 +145,15 @@ module _ (f : FontValue) (h : IsFont f) (most : ℕ) where
     same_there : (n c : List ℕ) → sets.contains (keep profile f a) n ≡ true → maps.get f.glyphs n ≡ Some c → (i : ℕ) → sets.contains (profile.exec f.subrs c) i ≡ true → maps.get start.subrs i ≡ maps.get f.subrs i
     same_there n c k is i e = subrs_below profile f h.glyphs.notdef most a inside low n k i (ap (λ x. sets.contains (profile.exec f.subrs (unwrap_or x [])) i) is ∙ e)
 
-    direct_there : (n c : List ℕ) → sets.contains (keep profile f a) n ≡ true → maps.get f.glyphs n ≡ Some c → profile.direct start.subrs c ≡ profile.direct f.subrs c
-    direct_there n c k is = (profile.local f.subrs start.subrs c (same_there n c k is)).0
-
     -- a component of a kept glyph comes to the same in the cut font
-    component_there : (n c p : List ℕ) → sets.contains (keep profile f a) n ≡ true → maps.get f.glyphs n ≡ Some c → list_any (same_bytes p) (components profile f.subrs c) ≡ true
-        → (x : Option (List ℕ)) → maps.get f.glyphs p ≡ x → option_map (profile.direct start.subrs) x ≡ option_map (profile.direct f.subrs) x
-    component_there n c p k is e None hx = refl
-    component_there n c p k is e (Some d) hx =
-        let part = (keep_closed profile f a h.glyphs.notdef inside).components n p k (component_here_from profile f n p (ap (λ x. list_any (same_bytes p) (components profile f.subrs (unwrap_or x []))) is ∙ e) (ap is_some hx)) in
-        ap Some (direct_there p d part hx)
-
-    drawn_there : (n : List ℕ) → sets.contains (keep profile f a) n ≡ true → (x : Option (List ℕ)) → maps.get f.glyphs n ≡ x → option_map (seen profile start) x ≡ option_map (seen profile f) x
-    drawn_there n k None is = refl
-    drawn_there n k (Some c) is = ap Some (seen_alike profile f start c (direct_there n c k is) (λ p e. component_there n c p k is e (maps.get f.glyphs p) refl))
+    component_there : (n c p : List ℕ) → sets.contains (keep profile f a) n ≡ true → maps.get f.glyphs n ≡ Some c → list_any (same_bytes p) (components profile f.subrs c) ≡ true → component_outcome profile start p ≡ component_outcome profile f p
+    component_there n c p k is e =
+        let part = λ (d : has f p ≡ true). (keep_closed profile f a h.glyphs.notdef inside).components n p k (component_here_from profile f n p (ap (λ x. list_any (same_bytes p) (components profile f.subrs (unwrap_or x []))) is ∙ e) d) in
+        grind (arith, part, runs_below profile f h.glyphs.notdef most a inside low p, cases_Option (maps.get f.glyphs p))
 
     -- a kept glyph draws alike in the cut font
     pub start_alike : (n : List ℕ) → sets.contains (keep profile f a) n ≡ true → DrawsAlike f start n
-    start_alike n k = record {
-      charstring = refl;
-      answer = λ c is. (runs_by_rules f.subrs start.subrs c (same_there n c k is)).0;
-      answer3 = λ c is. (runs_by_rules f.subrs start.subrs c (same_there n c k is)).1;
-      executes = λ c is. (runs_by_rules f.subrs start.subrs c (same_there n c k is)).2;
-      draws = pictures_alike start f n (drawn_there n k (maps.get f.glyphs n) refl);
-      draws3 = pictures3_alike start f n (drawn_there n k (maps.get f.glyphs n) refl);
-    }
+    start_alike n k = alike f start n refl (λ c is. same_there n c k is) (λ c p is w. component_there n c p k is w)
 
 -- ---- merges
 

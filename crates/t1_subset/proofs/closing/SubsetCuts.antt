@@ -13,7 +13,7 @@ use Rattle.t1_algebra.specs.Laws.{IsOf, DrawsAlike}
 use Rattle.t1_algebra.specs.Profile.{profile}
 use Rattle.t1_subset.specs.Calls.{number_set}
 use Rattle.t1_algebra.proofs.Kept.{keep_has, keep_closed}
-use Rattle.t1_algebra.proofs.Alike.{subset_alike}
+use Rattle.t1_algebra.proofs.Drawings.{subset_alike}
 
 module _ {O : Type 0} (m : Interpreter O) (f : FontValue) (w : IsFont f) (a : Names) (is : IsOf f a) (vs : List (Vec ℕ)) (e : set_of_names vs ≡ keep m f a) where
   -- the names of a closure include `.notdef`
