@@ -1,6 +1,6 @@
 -- Truncated subsets that are made even merge to the subset over all their names, cut to the largest count and without its tag.
 use Rattle.std.proofs.Common.{◌≡◌, ◌≤◌, ℕ, nat_lt, nat_cmp, Bool, true, false, cond, List, [], ◌∷◌, map, refl, sym, ◌∙◌, ap, subst, Option, Some, None, option_map, is_some, unwrap_or, inl, inr, arith, IsPermutation}
-use Rattle.std.proofs.lemmas.Bool.{ltb-true, lt-ltb}
+use Rattle.std.proofs.lemmas.Bool.{ltb-true, lt-ltb, cases_Bool}
 use Rattle.std.specs.List.{list_any, AllByRecursion}
 use Rattle.std.specs.Cmp.{nat_cmp_total}
 use Rattle.std.specs.Cmp.Lexicographic.{nat_list_cmp_total}
@@ -60,19 +60,10 @@ module _ (f : FontValue) (h : IsFont f) (most : ℕ) (fits : most ≤ declared_c
   had : (q : ℕ) (c : List ℕ) → maps.get first.subrs q ≡ Some c → (nat_lt q most ≡ true) × (maps.get f.subrs q ≡ Some c)
   had q c e = cond_some (nat_lt q most) (maps.get f.subrs q) c (sym (get_first q) ∙ e)
 
-  -- an entry is lacking in the subset if it is lacking in the shared font
-  none_there : (k : List ℕ → List ℕ) (b d : Bool) (x : Option (List ℕ)) → (b ≡ true → d ≡ true) → cond d x None ≡ None → cond b (option_map k x) None ≡ None
-  none_there k b d None low e = elim b as (λ b. ◌≡◌ {A = Option (List ℕ)} (cond b None None) None) [ true ↦ refl | false ↦ refl ]
-  none_there k false d (Some c) low e = refl
-  none_there k true d (Some c) low e = Some_None (sym (ap (λ b. cond b (Some c) None) (low refl)) ∙ e)
-
-  below_most : (q : ℕ) → nat_lt q t.count ≡ true → nat_lt q most ≡ true
-  below_most q b = lt-ltb q most (omega (arith, ltb-true q t.count b, le))
-
   -- if the shared font has no entries, the subset has none
   no_entries_there : maps.entries first.subrs ≡ [] → maps.entries t.font.subrs ≡ []
   no_entries_there e = entries_none t.font.subrs (λ q.
-      get_font f t w q ∙ none_there (keeps f t.names q) (nat_lt q t.count) (nat_lt q most) (maps.get f.subrs q) (below_most q) (sym (get_first q) ∙ get_nothing first.subrs e q))
+      grind (arith, get_font f t w q, get_first q, get_nothing first.subrs e q, le, ltb-true q t.count, lt-ltb q most, cases_Option (maps.get f.subrs q), cases_Bool (nat_lt q t.count), cases_Bool (nat_lt q most)))
 
   -- the words of a table fit the entries of the cut font
   words_first : (s : SubrsShell) → (maps.entries first.subrs ≡ [] → WordsOf [] (Some s)) → SubrsFit f.shell (Some s) f.subrs → (es : List (ℕ × List ℕ)) → maps.entries first.subrs ≡ es → SubrWords es (declares most s)
@@ -84,7 +75,7 @@ module _ (f : FontValue) (h : IsFont f) (most : ℕ) (fits : most ≤ declared_c
   -- the table of Subrs fits in the cut font
   subrs_fit : (o : Option SubrsShell) → SubrsFit f.shell o f.subrs → most ≤ declared_count o → (maps.entries first.subrs ≡ [] → WordsOf [] o) → SubrsFit first.shell (option_map (declares most) o) first.subrs
   subrs_fit None fit few empty =
-      (entries_none first.subrs (λ q. get_first q ∙ (ap (λ x. cond (nat_lt q most) x None) (get_nothing f.subrs fit.0 q) ∙ none_either_way (nat_lt q most))), fit.1)
+      (entries_none first.subrs (λ q. grind (arith, get_first q, get_nothing f.subrs fit.0 q, cases_Bool (nat_lt q most))), fit.1)
   subrs_fit (Some s) fit few empty = record {
     declared = omega (arith, few, fit.declared);
     below = λ q c e. ltb-true q most (had q c e).0;

@@ -20,8 +20,8 @@ use Rattle.t1_algebra.specs.States.{joined}
 use Rattle.t1_algebra.specs.Laws.{IsOf}
 use Rattle.t1_algebra.specs.Rejoins.{declares, cut_to, without_tag, Truncated, IsTruncated, fonts_of, sets_of, largest, shared_font}
 use Rattle.t1_algebra.proofs.rejoining.CutCounts.{KeepsBelow, keep_same, kept_same}
-use Rattle.t1_algebra.proofs.Maps.{get-merged}
-use Rattle.t1_algebra.proofs.Sets.{clash, any_append, any_append_left, any_append_right, any_filter, any_filter_from}
+use Rattle.t1_algebra.proofs.Maps.{get-merged, get-valued}
+use Rattle.t1_algebra.proofs.Sets.{clash, any_append, any_append_left, any_append_right, any_filter, any_filter_from, cases_Option}
 
 -- ---- what a cut subset has
 
@@ -32,10 +32,6 @@ keeps f a q c = cond (sets.contains (kept profile f a) q) c stub
 -- the entry at an index of the subset that is cut to a count
 abbrev pub entry_in : FontValue → Names → ℕ → ℕ → Option (List ℕ) → Option (List ℕ)
 entry_in f a n q x = cond (nat_lt q n) (option_map (keeps f a q) x) None
-
-map_cond : (k : List ℕ → List ℕ) (b : Bool) (x : Option (List ℕ)) → option_map k (cond b x None) ≡ cond b (option_map k x) None
-map_cond k true x = refl
-map_cond k false x = refl
 
 -- a subset cut to a count has that entry at each index
 pub get_cut : (f : FontValue) (n : ℕ) (a : Names) (q : ℕ) → maps.get (maps.retain_keys (subset profile f a).subrs (λ i. nat_lt i n)) q ≡ entry_in f a n q (maps.get f.subrs q)
@@ -52,12 +48,8 @@ module _ (f : FontValue) (h : IsFont f) (n : ℕ) (a : Names) (inside : IsOf f a
   names_same = keep_same profile f h.glyphs.notdef n a inside low
 
   subrs_same : (q : ℕ) → maps.get (subset profile first a).subrs q ≡ maps.get (maps.retain_keys (subset profile f a).subrs (λ i. nat_lt i n)) q
-  subrs_same q =
-      get-map_values nat_cmp_total nat_cmp-IsAntisymmetric (keeps first a) first.subrs q
-      ∙ ap (λ (s : Numbers). option_map (λ c. cond (sets.contains s q) c stub) (maps.get first.subrs q)) (kept_same profile f h.glyphs.notdef n a inside low)
-      ∙ ap (option_map (keeps f a q)) (get-retain nat_cmp_total nat_cmp-IsAntisymmetric f.subrs (λ i. nat_lt i n) q)
-      ∙ map_cond (keeps f a q) (nat_lt q n) (maps.get f.subrs q)
-      ∙ sym (get_cut f n a q)
+  subrs_same q = grind (arith, get-map_values nat_cmp_total nat_cmp-IsAntisymmetric (keeps first a) first.subrs q, get-retain nat_cmp_total nat_cmp-IsAntisymmetric f.subrs (λ i. nat_lt i n) q, get_cut f n a q,
+      kept_same profile f h.glyphs.notdef n a inside low, cases_Bool (nat_lt q n), cases_Option (maps.get f.subrs q))
 
   -- the subset of the cut font is the subset, without its tag and cut as the font is
   pub cut_subset : subset profile first a ≡ cut_to n (without_tag (subset profile f a))
@@ -75,7 +67,7 @@ declared_of n (Some s) le = refl
 -- a table cut to n and raised to a larger count is the table cut to that count
 raised_declares : (most n : ℕ) (s : Option SubrsShell) → n ≤ most → option_map (raised most) (option_map (declares n) s) ≡ option_map (declares most) s
 raised_declares most n None le = refl
-raised_declares most n (Some s) le = let e : max most n ≡ most = omega (arith, le) in ap (λ (d : ℕ). Some (declares d s)) e
+raised_declares most n (Some s) le = grind arith
 
 module _ (f : FontValue) where
   -- a truncated subset declares its count
@@ -107,16 +99,6 @@ module _ (f : FontValue) where
   pub get_font : (t : Truncated) → IsTruncated f t → (q : ℕ) → maps.get t.font.subrs q ≡ entry_in f t.names t.count q (maps.get f.subrs q)
   get_font t w q = ap (λ (g : FontValue). maps.get g.subrs q) w.others ∙ get_cut f t.count t.names q
 
-  entry_from : (k : List ℕ → List ℕ) (b : Bool) (x : Option (List ℕ)) → is_some (cond b (option_map k x) None) ≡ true → is_some x ≡ true
-  entry_from k b (Some c) h = refl
-  entry_from k true None h = h
-  entry_from k false None h = h
-
-  entry_there : (k : List ℕ → List ℕ) (b : Bool) (x : Option (List ℕ)) → b ≡ true → is_some x ≡ true → is_some (cond b (option_map k x) None) ≡ true
-  entry_there k true (Some c) e h = refl
-  entry_there k true None e h = h
-  entry_there k false x e h = clash false e refl
-
   -- the indices of the Subrs of all fonts, made even
   abbrev all_indices : ℕ → List Truncated → List ℕ
   all_indices most ts = indices_of_all (map (even most) (fonts_of ts))
@@ -129,7 +111,7 @@ module _ (f : FontValue) where
   reached most [] w q lt is = absurd (omega (arith, lt))
   reached most (t ∷ ts) w q lt is = elim (cases_Bool (nat_lt q t.count)) [
     | inl b ↦ any_append_left (eq_by_cmp nat_cmp q) (maps.keys t.font.subrs) (all_indices most ts)
-        (sym (maps.contains_key-keys t.font.subrs q) ∙ (ap is_some (get_font t w.0 q) ∙ entry_there (keeps f t.names q) (nat_lt q t.count) (maps.get f.subrs q) b is))
+        (grind (arith, b, is, maps.contains_key-keys t.font.subrs q, get_font t w.0 q, cases_Option (maps.get f.subrs q)))
     | inr b ↦ any_append_right (eq_by_cmp nat_cmp q) (maps.keys t.font.subrs) (all_indices most ts)
         (reached most ts w.1 q (omega (arith, lt, ltb-false q t.count b)) is)
   ]
@@ -138,22 +120,15 @@ module _ (f : FontValue) where
   from_indices : (most : ℕ) (ts : List Truncated) → AllByRecursion (IsTruncated f) ts → (q : ℕ) → listed q (all_indices most ts) ≡ true → maps.contains_key f.subrs q ≡ true
   from_indices most [] w q l = clash false l refl
   from_indices most (t ∷ ts) w q l = elim (any_append (eq_by_cmp nat_cmp q) (maps.keys t.font.subrs) (all_indices most ts) l) [
-    | inl a ↦ entry_from (keeps f t.names q) (nat_lt q t.count) (maps.get f.subrs q) (ap is_some (sym (get_font t w.0 q)) ∙ (maps.contains_key-keys t.font.subrs q ∙ a))
+    | inl a ↦ grind (arith, a, maps.contains_key-keys t.font.subrs q, get_font t w.0 q, cases_Option (maps.get f.subrs q), cases_Bool (nat_lt q t.count))
     | inr b ↦ from_indices most ts w.1 q b
   ]
 
 -- ---- stubs
 
-find_stubs : (indices : List ℕ) (q : ℕ) → maps.find nat_cmp q (map (λ i. (i, stub)) indices) ≡ cond (list_any (eq_by_cmp nat_cmp q) indices) (Some stub) None
-find_stubs [] q = refl
-find_stubs (i ∷ is) q = elim (eq_by_cmp nat_cmp q i) as (λ b. cond b (Some stub) (maps.find nat_cmp q (map (λ i. (i, stub)) is)) ≡ cond (b || list_any (eq_by_cmp nat_cmp q) is) (Some stub) None) [
-  | true ↦ refl
-  | false ↦ find_stubs is q
-]
-
 -- a map of stubs has one at each of its indices, and nothing else
 get_stubs : (indices : List ℕ) (q : ℕ) → maps.get (stubs_at indices) q ≡ cond (list_any (eq_by_cmp nat_cmp q) indices) (Some stub) None
-get_stubs indices q = maps.get-from_entries nat_cmp_total (map (λ i. (i, stub)) indices) q ∙ find_stubs indices q
+get_stubs indices q = get-valued nat_cmp_total stub indices q
 
 -- ---- tables without entries
 
@@ -188,8 +163,7 @@ get_nothing m e q = maps.get-entries m q ∙ ap (maps.find nat_cmp q) e
 
 -- nothing is left of nothing, by either test
 pub none_either_way : {X : Type 0} (b : Bool) → ◌≡◌ {A = Option X} (cond b None None) None
-none_either_way true = refl
-none_either_way false = refl
+none_either_way b = grind (arith, cases_Bool b)
 
 -- a font with entries has a table, so a cut to n declares n
 has_table : (s : Shell) (o : Option SubrsShell) (m : Numbered) → SubrsFit s o m → (q : ℕ) → maps.contains_key m q ≡ true → (n : ℕ) → n ≤ declared_count o → declared_count (option_map (declares n) o) ≡ n
@@ -272,32 +246,9 @@ module _ (f : FontValue) (h : IsFont f) (most : ℕ) (fits : most ≤ declared_c
     under q lt is = any_filter_from nat_cmp_total nat_cmp-IsAntisymmetric (λ i. nat_lt i declared) q indices (there q lt is)
         (lt-ltb q declared (omega (arith, lt, declared_is, has_table f.shell f.shell.subrs f.subrs h.subrs q is most fits)))
 
-    abbrev with_stub : Bool → Option (List ℕ)
-    with_stub b = cond b (Some stub) None
-
-    both_none : (a b : Bool) → ◌≡◌ {A = Option (List ℕ)} (joined (cond a None None) None) (cond b None None)
-    both_none true true = refl
-    both_none true false = refl
-    both_none false true = refl
-    both_none false false = refl
-
-    -- an entry of the font at the count of the truncated subset or above it is not kept
-    not_kept : (q : ℕ) (c : List ℕ) → maps.get f.subrs q ≡ Some c → nat_lt q t.count ≡ false → sets.contains (kept profile f t.names) q ≡ false
-    not_kept q c is high = false_from_ne_true (sets.contains (kept profile f t.names) q) (λ k. clash (nat_lt q t.count) (lt-ltb q t.count (w.kept q k (ap is_some is))) high)
-
     -- the entry of a truncated subset, or else a stub, is the entry of the subset cut to the largest count
-    value_same : (q : ℕ) (x : Option (List ℕ)) → maps.get f.subrs q ≡ x → joined (entry_in f t.names t.count q x) (with_stub (is_in q)) ≡ entry_in f t.names most q x
-    value_same q None is = ap (λ b. joined (cond (nat_lt q t.count) None None) (with_stub b)) (outside q is) ∙ both_none (nat_lt q t.count) (nat_lt q most)
-    value_same q (Some c) is = elim (cases_Bool (nat_lt q most)) [
-      | inr high ↦
-          let high' : nat_lt q t.count ≡ false = le-ltb q t.count (omega (arith, le, ltb-false q most high)) in
-          (λ i. joined (cond (high' i) (Some (keeps f t.names q c)) None) (with_stub (above q high i))) ∙ ap (λ b. cond b (Some (keeps f t.names q c)) None) (sym high)
-      | inl lt ↦ elim (cases_Bool (nat_lt q t.count)) [
-        | inl b ↦ ap (λ b. joined (cond b (Some (keeps f t.names q c)) None) (with_stub (is_in q))) b ∙ ap (λ b. cond b (Some (keeps f t.names q c)) None) (sym lt)
-        | inr b ↦ (λ i. joined (cond (b i) (Some (keeps f t.names q c)) None) (with_stub (under q (ltb-true q most lt) (ap is_some is) i)))
-            ∙ ap (λ b. Some (cond b c stub)) (sym (not_kept q c is b)) ∙ ap (λ b. cond b (Some (keeps f t.names q c)) None) (sym lt)
-      ]
-    ]
+    value_same : (q : ℕ) → joined (entry_in f t.names t.count q (maps.get f.subrs q)) (cond (is_in q) (Some stub) None) ≡ entry_in f t.names most q (maps.get f.subrs q)
+    value_same q = grind (arith, outside q, above q, under q, w.kept q, le, lt-ltb q t.count, ltb-true q t.count, lt-ltb q most, ltb-true q most, cases_Option (maps.get f.subrs q), cases_Bool (nat_lt q most), cases_Bool (nat_lt q t.count), cases_Bool (is_in q), cases_Bool (sets.contains (kept profile f t.names) q))
 
     -- the font that is made even has the entry of the subset cut to the largest count at each index
     filled_at : (es : List (ℕ × List ℕ)) → maps.entries t.font.subrs ≡ es → (q : ℕ) → maps.get (with_stubs inside t.font.subrs es) q ≡ entry_in f t.names most q (maps.get f.subrs q)
@@ -305,7 +256,7 @@ module _ (f : FontValue) (h : IsFont f) (most : ℕ) (fits : most ≤ declared_c
     filled_at (x ∷ es) e q =
         get-merged nat_cmp_total nat_cmp-IsAntisymmetric t.font.subrs (stubs_at inside) q
         ∙ (λ i. joined (get_font f t w q i) (get_stubs inside q i))
-        ∙ value_same q (maps.get f.subrs q) refl
+        ∙ value_same q
 
     -- the truncated subset, made even, is the subset without its tag, cut to the largest count
     pub made_is : filled indices (even most t.font) ≡ cut_to most (without_tag (subset profile f t.names))
