@@ -3,7 +3,6 @@ pub mod Kept
 pub mod Maps
 pub mod Uses
 pub mod Subsets
-pub mod Trees
 pub mod JoinedStates
 pub mod Orders
 pub mod Drawings

@@ -188,29 +188,8 @@ module _ (f : FontValue) (h : IsFont f) (most : ℕ) (fits : most ≤ declared_c
   -- the shell of a truncated subset, made even, is that of the cut font
   shell_same : even_shell most t.font.shell ≡ (cut_to most (without_tag f)).shell
   shell_same =
-      let subrs = raised_declares most t.count f.shell.subrs le in
-      (λ i. record {
-        head = w.head i;
-        clear_tail = (w.others i).shell.clear_tail;
-        private = (w.others i).shell.private;
-        middle = (w.others i).shell.middle;
-        tail = (w.others i).shell.tail;
-        len_iv = (w.others i).shell.len_iv;
-        subrs = option_map (raised most) (w.others i).shell.subrs;
-        glyphs_rd = (w.others i).shell.glyphs_rd;
-        glyphs_def = (w.others i).shell.glyphs_def;
-      })
-      ∙ (λ i. record {
-        head = untagged_head f.shell.head;
-        clear_tail = f.shell.clear_tail;
-        private = f.shell.private;
-        middle = f.shell.middle;
-        tail = f.shell.tail;
-        len_iv = f.shell.len_iv;
-        subrs = subrs i;
-        glyphs_rd = f.shell.glyphs_rd;
-        glyphs_def = f.shell.glyphs_def;
-      })
+      (λ i. record (w.others i).shell { head = w.head i; subrs = option_map (raised most) (w.others i).shell.subrs })
+      ∙ (λ i. record f.shell { head = untagged_head f.shell.head; subrs = raised_declares most t.count f.shell.subrs le i })
 
   -- how many Subrs are declared once the font is made even
   abbrev declared : ℕ

@@ -13,7 +13,7 @@ use Rattle.t1_font.specs.Cut.{stub}
 use Rattle.t1_font.specs.FontValue.{FontValue, Shell, Encoding, Word, name_cmp, notdef}
 use Rattle.t1_algebra.specs.Interpreter.{Interpreter, Names}
 use Rattle.t1_algebra.specs.Keep.{sets_of, charstring, has, components_here, is_closed, is_needed, keep, called_by, kept}
-use Rattle.t1_algebra.proofs.Sets.{name_same, all_at, all_from, any_one, any_at, any_flat, any_flat_from, in_list, from_in_list, in_items, from_in_items}
+use Rattle.t1_algebra.proofs.Sets.{name_same, all_at, all_from, any_one, any_at, any_flat, any_flat_from, in_list, from_in_list, in_items, from_in_items, any_flat_map}
 use Rattle.std.proofs.lemmas.List.Folds.{list_all-append, list_all-map}
 
 -- ---- sets of lists
@@ -23,24 +23,17 @@ module _ {K : Type 0} {R : K → K → Ordering} (o : IsTotalOrder R) (same : Is
   abbrev pub among : List K → K → Bool
   among l q = list_any (eq_by_cmp R q) l
 
-  -- a key of a list is an item of the set of the list
-  as_item : (l : List K) (q : K) → among l q ≡ true → among (sets.items (sets.from_list {R = R} l)) q ≡ true
-  as_item l q k = in_items o same (sets.from_list l) q (from_in_list o same l q k)
-
-  -- an item of the set of a list is a key of the list
-  of_item : (l : List K) (q : K) → among (sets.items (sets.from_list {R = R} l)) q ≡ true → among l q ≡ true
-  of_item l q k = in_list o same l q (from_in_items o same (sets.from_list l) q k)
+  -- the items of the set of a list are the keys of the list
+  same_items : (l : List K) (q : K) → among (sets.items (sets.from_list {R = R} l)) q ≡ among l q
+  same_items l q = sym (sets.contains-items (sets.from_list l) q) ∙ sets.contains-from_list o l q
 
   all_items : (p : K → Bool) (l : List K) → list_all p (sets.items (sets.from_list {R = R} l)) ≡ list_all p l
-  all_items p l = both_ways _ _ (λ w. all_from o same p l (λ q k. all_at o same p q (sets.items (sets.from_list l)) w (as_item l q k))) (λ w. all_from o same p (sets.items (sets.from_list l)) (λ q k. all_at o same p q l w (of_item l q k)))
+  all_items p l = both_ways _ _ (λ w. all_from o same p l (λ q k. all_at o same p q (sets.items (sets.from_list l)) w (same_items l q ∙ k))) (λ w. all_from o same p (sets.items (sets.from_list l)) (λ q k. all_at o same p q l w (sym (same_items l q) ∙ k)))
 
   pub any_items : (p : K → Bool) (l : List K) → list_any p (sets.items (sets.from_list {R = R} l)) ≡ list_any p l
   any_items p l = both_ways _ _
-      (λ w. let r = any_one o same p (sets.items (sets.from_list l)) w in any_at o same p r.0 l (of_item l r.0 r.1) r.2)
-      (λ w. let r = any_one o same p l w in any_at o same p r.0 (sets.items (sets.from_list l)) (as_item l r.0 r.1) r.2)
-
-  flat_items : {J : Type 0} (f : J → List K) (q : K) (xs : List J) → among (flat_map f xs) q ≡ list_any (λ x. among (f x) q) xs
-  flat_items f q xs = both_ways _ _ (any_flat o same f q xs) (any_flat_from o same f q xs)
+      (λ w. let r = any_one o same p (sets.items (sets.from_list l)) w in any_at o same p r.0 l (sym (same_items l r.0) ∙ r.1) r.2)
+      (λ w. let r = any_one o same p l w in any_at o same p r.0 (sets.items (sets.from_list l)) (same_items l r.0 ∙ r.1) r.2)
 
   subset_listed : (l : List K) (t : FinSet R) → sets.is_subset (sets.from_list l) t ≡ list_all (sets.contains t) l
   subset_listed l t = both_ways _ _
@@ -143,10 +136,10 @@ module _ (e : Encoding) (ss : List (ℕ × List ℕ)) (es : List (List ℕ × Li
       let items : List (List ℕ) = sets.items (sets.from_list {R = name_cmp} l) in
       sets.contains-from_list nat_cmp_total (0 ∷ 1 ∷ 2 ∷ 3 ∷ flat_map at items) i
       ∙ ap (λ b. eq_by_cmp nat_cmp i 0 || (eq_by_cmp nat_cmp i 1 || (eq_by_cmp nat_cmp i 2 || (eq_by_cmp nat_cmp i 3 || b))))
-      (flat_items nat_cmp_total nat_cmp-IsAntisymmetric at i items
+      (any_flat_map (eq_by_cmp nat_cmp i) at items
       ∙ (any_items nat_list_cmp_total name_same (λ n. list_any (eq_by_cmp nat_cmp i) (at n)) l
       ∙ ((λ d. list_any (λ n. (any_items nat_cmp_total nat_cmp-IsAntisymmetric (eq_by_cmp nat_cmp i) (charstring (font_of e ss es) n) ∙ ap (list_any (eq_by_cmp nat_cmp i)) (charstring_listed n)) d) l)
-      ∙ sym (flat_items nat_cmp_total nat_cmp-IsAntisymmetric (λ n. unwrap_or (at_name es n) []) i l))))
+      ∙ sym (any_flat_map (eq_by_cmp nat_cmp i) (λ n. unwrap_or (at_name es n) []) l))))
       ∙ sym (sets.contains-from_list nat_cmp_total (calls_listed l) i))
 
 -- ---- rows

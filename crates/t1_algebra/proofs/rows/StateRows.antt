@@ -1,5 +1,5 @@
 -- Worked rows of the states of fonts and of conflicts: definitions over maps, computed over lists.
-use Rattle.std.proofs.Common.{◌≡◌, ℕ, Bool, true, false, cond, not, ◌&&◌, ◌||◌, T, List, [], ◌∷◌, ◌++◌, map, flat_map, refl, ◌∙◌, ap, Ordering, Option, Some, None, is_some, option_map, unwrap_or}
+use Rattle.std.proofs.Common.{◌≡◌, ℕ, Bool, true, false, cond, not, ◌&&◌, ◌||◌, T, List, [], ◌∷◌, ◌++◌, map, flat_map, refl, ◌∙◌, ap, Ordering, Option, Some, None, is_some, option_map, unwrap_or, arith}
 use Rattle.std.specs.Prelude.{codes}
 use Rattle.std.specs.List.{list_any}
 use Rattle.std.specs.Ordering.{eq_by_cmp, nat_cmp}
@@ -28,7 +28,7 @@ use Rattle.t1_algebra.specs.Searches.{members, found, first_where}
 use Rattle.t1_algebra.specs.Interpreter.{same_bytes}
 use Rattle.t1_algebra.specs.Shared.{ShellPart, Head, EncodingPart, Private, SubrsTable, same_word}
 use Rattle.t1_algebra.proofs.Searching.{passes_none}
-use Rattle.t1_algebra.proofs.Sets.{name_same}
+use Rattle.t1_algebra.proofs.Sets.{name_same, cases_Option}
 use Rattle.t1_algebra.proofs.rows.KeptRows.{spelled, shell_of, font_of, at_name, glyph_listed, has_listed, glyphs, subrs, small}
 
 -- a charstring that is there executes the index
@@ -40,6 +40,14 @@ runs_is : (j : FontValue) (i : ℕ) (x : Option (List ℕ)) → executed_at spel
 runs_is j i None = refl
 runs_is j i (Some c) = sets.contains-from_list nat_cmp_total c i
 
+-- an entry, or the bottom if it is a stub that is not called
+abbrev state_by : Bool → Option (List ℕ) → Option (List ℕ)
+state_by called None = None
+state_by called (Some c) = cond (is_stub c && not called) None (Some c)
+
+by_call : (j : FontValue) (i : ℕ) (x : Option (List ℕ)) → state_of_entry spelled j i x ≡ state_by (is_called spelled j i) x
+by_call j i x = grind (arith, cases_Option x)
+
 module _ (e : Encoding) (ss : List (ℕ × List ℕ)) (es : List (List ℕ × List ℕ)) (hs : T (is_sorted nat_cmp ss)) (h : T (is_sorted name_cmp es)) where
   -- some charstring of the list has the byte
   abbrev called_listed : ℕ → Bool
@@ -49,19 +57,12 @@ module _ (e : Encoding) (ss : List (ℕ × List ℕ)) (es : List (List ℕ × Li
   called_is i = (λ d. list_any (λ n. runs_is (font_of e ss es) i (maps.get (font_of e ss es).glyphs n) d) (names_in (font_of e ss es).glyphs))
       ∙ (λ d. list_any (λ n. runs_at i (glyph_listed e ss es h n d)) (map (λ e. e.0) (maps.entries-from_sorted name_cmp es h d)))
 
-  -- the state of an index of the list
-  abbrev state_listed : ℕ → Option (List ℕ) → Option (List ℕ)
-  state_listed i None = None
-  state_listed i (Some c) = cond (is_stub c && not (called_listed i)) None (Some c)
-
-  state_at : (i : ℕ) (x : Option (List ℕ)) → state_of_entry spelled (font_of e ss es) i x ≡ state_listed i x
-  state_at i None = refl
-  state_at i (Some c) = λ d. cond (is_stub c && not (called_is i d)) None (Some c)
+  state_is : (i : ℕ) → subr_state spelled (font_of e ss es) i ≡ state_by (called_listed i) (find nat_cmp i ss)
+  state_is i = by_call (font_of e ss es) i (maps.get (font_of e ss es).subrs i) ∙ (λ d. state_by (called_is i d) (maps.get-from_sorted nat_cmp ss i hs d))
 
   -- the state of an index in the table of all states
-  subr_listed : (i : ℕ) → maps.get (subr_part (states_of spelled (font_of e ss es))) (of_number i) ≡ state_listed i (find nat_cmp i ss)
-  subr_listed i = get-numbered (used_subrs spelled (font_of e ss es)) (of_number i) ∙ get-used spelled (font_of e ss es) i
-      ∙ ap (state_of_entry spelled (font_of e ss es) i) (maps.get-from_sorted nat_cmp ss i hs) ∙ state_at i (find nat_cmp i ss)
+  subr_listed : (i : ℕ) → maps.get (subr_part (states_of spelled (font_of e ss es))) (of_number i) ≡ state_by (called_listed i) (find nat_cmp i ss)
+  subr_listed i = get-numbered (used_subrs spelled (font_of e ss es)) (of_number i) ∙ get-used spelled (font_of e ss es) i ∙ state_is i
 
   abbrev components_listed : List (List ℕ)
   components_listed = flat_map (λ n. named_at spelled (font_of e ss es) (at_name es n)) (map (λ e. e.0) es)
@@ -157,26 +158,11 @@ module _ (e k : Encoding) (ss ts : List (ℕ × List ℕ)) (es fs : List (List �
   lacking_are : component_conflict spelled f g ≡ first_where lacking_listed names
   lacking_are = λ d. first_where (λ p. (has_listed e ss es he p d || has_listed k ts fs hf p d) && list_any (λ n. wanted_are p n d) (names_are d)) (names_are d)
 
-  -- an entry, or the bottom if it is a stub that is not called
-  abbrev state_by : Bool → Option (List ℕ) → Option (List ℕ)
-  state_by called None = None
-  state_by called (Some c) = cond (is_stub c && not called) None (Some c)
-
-  by_call : (j : FontValue) (i : ℕ) (x : Option (List ℕ)) → state_of_entry spelled j i x ≡ state_by (is_called spelled j i) x
-  by_call j i None = refl
-  by_call j i (Some c) = refl
-
   abbrev subr_differs : ℕ → Bool
   subr_differs i = not (agrees (state_by (called_listed e ss es hs he i) (find nat_cmp i ss)) (state_by (called_listed k ts fs ht hf i) (find nat_cmp i ts)))
 
-  state_is : (i : ℕ) → subr_state spelled f i ≡ state_by (called_listed e ss es hs he i) (find nat_cmp i ss)
-  state_is i = by_call f i (maps.get f.subrs i) ∙ (λ d. state_by (called_is e ss es hs he i d) (maps.get-from_sorted nat_cmp ss i hs d))
-
-  other_state_is : (i : ℕ) → subr_state spelled g i ≡ state_by (called_listed k ts fs ht hf i) (find nat_cmp i ts)
-  other_state_is i = by_call g i (maps.get g.subrs i) ∙ (λ d. state_by (called_is k ts fs ht hf i d) (maps.get-from_sorted nat_cmp ts i ht d))
-
   subrs_differ : subr_conflict spelled f g ≡ first_where subr_differs (keys_listed nat_cmp ss ts)
-  subrs_differ = λ d. first_where (λ i. not (agrees (state_is i d) (other_state_is i d))) (keys_are nat_cmp_total nat_cmp-IsAntisymmetric ss ts hs ht d)
+  subrs_differ = λ d. first_where (λ i. not (agrees (state_is e ss es hs he i d) (state_is k ts fs ht hf i d))) (keys_are nat_cmp_total nat_cmp-IsAntisymmetric ss ts hs ht d)
 
   abbrev used_listed : ℕ → List ℕ → Bool
   used_listed i n = runs_at i (at_name es n) || runs_at i (at_name fs n)
