@@ -26,15 +26,13 @@ use Rattle.t1_join.specs.Products.{BothJoin}
 use Rattle.t1_algebra.specs.StateLaws.{PartsAgree, parts_laws}
 use Rattle.t1_algebra.proofs.Shares.{same_indices, shared_from, shared_to}
 use Rattle.t1_algebra.proofs.Maps.{get-merged, get-valued}
-use Rattle.t1_algebra.proofs.Numbered.{at_number, get-numbered, entries-numbered, numbered-merged}
 use Rattle.t1_algebra.proofs.Sets.{name_same, cases_Option, any_flat_map}
 use Rattle.t1_algebra.proofs.JoinedStates.{subr_joined, name_joined, present_joined, constant}
-use Rattle.t1_algebra.proofs.NameTables.{get-name, names_total}
-use Rattle.t1_algebra.proofs.TableWeights.{total-merged}
 use Rattle.t1_algebra.proofs.Subsets.{stub_is, same_font}
 use Rattle.t1_font.specs.Cut.{stub}
 use Rattle.std.specs.FinMap as maps
 use Rattle.std.proofs.lemmas.Bool.{cases_Bool}
+use Rattle.t1_algebra.proofs.Tables.{total-merged, at_number, get-numbered, entries-numbered, numbered-merged, get-name, names_total}
 
 -- ---- states that agree
 

@@ -14,8 +14,6 @@ pub mod Fonts
 pub mod ManyMerges
 pub mod Headline
 pub mod FontStates
-pub mod Numbered
-pub mod NameTables
-pub mod TableWeights
+pub mod Tables
 pub mod rejoining
 pub mod rows

@@ -20,7 +20,6 @@ use Rattle.t1_algebra.specs.Laws.{IsOf, DrawsAlike}
 use Rattle.t1_join.specs.Groupings.{Grouping, one, leaves, from_left}
 use Rattle.t1_algebra.specs.Merges.{MergesTo}
 use Rattle.t1_algebra.specs.Rejoins.{declares, cut_to, without_tag, Truncated, IsTruncated, fonts_of, sets_of, names_of_all, largest, shared_font, rejoined, Rejoins, TruncatedSubsetsRejoin}
-use Rattle.t1_algebra.proofs.rejoining.CutCounts.{KeepsBelow, keep_same, subrs_below, runs_below}
 use Rattle.t1_algebra.proofs.Drawings.{subset_alike, alike}
 use Rattle.t1_algebra.proofs.Fonts.{subset_is_font, any_order_of_fonts}
 use Rattle.t1_algebra.proofs.Kept.{keep_closed, keep_more, kept_more, kept_union, component_here_from}
@@ -28,7 +27,7 @@ use Rattle.t1_algebra.proofs.ManyMerges.{alike_trans, each_font}
 use Rattle.t1_join.proofs.OrderLemmas.{leaves_from_left}
 use Rattle.t1_algebra.proofs.ManyMerges.{all_merge}
 use Rattle.t1_algebra.proofs.Sets.{clash, in_union, name_same, cases_Option}
-use Rattle.t1_algebra.proofs.rejoining.Truncated.{WordsOf, words_empty, get_nothing, get_font, largest_fits, all_fit, Fits, keeps, none_either_way, cut_subset, evened_is}
+use Rattle.t1_algebra.proofs.rejoining.Truncated.{WordsOf, words_empty, get_nothing, get_font, largest_fits, all_fit, Fits, keeps, none_either_way, cut_subset, evened_is, KeepsBelow, keep_same, subrs_below, runs_below, first_of}
 use Rattle.t1_algebra.proofs.Subsets.{cond_some}
 
 -- ---- tables without entries
@@ -49,47 +48,43 @@ some_words k v (x ∷ es) s e h = h
 -- ---- the shared font is a font
 
 module _ (f : FontValue) (h : IsFont f) (most : ℕ) (fits : most ≤ declared_count f.shell.subrs) (t : Truncated) (w : IsTruncated f t) (le : t.count ≤ most) where
-  -- the font without its tag, cut to the largest count
-  abbrev first : FontValue
-  first = cut_to most (without_tag f)
-
-  get_first : (q : ℕ) → maps.get first.subrs q ≡ cond (nat_lt q most) (maps.get f.subrs q) None
+  get_first : (q : ℕ) → maps.get (first_of most f).subrs q ≡ cond (nat_lt q most) (maps.get f.subrs q) None
   get_first q = get-retain nat_cmp_total nat_cmp-IsAntisymmetric f.subrs (λ i. nat_lt i most) q
 
   -- an entry of the cut font is one of the font, below the count
-  had : (q : ℕ) (c : List ℕ) → maps.get first.subrs q ≡ Some c → (nat_lt q most ≡ true) × (maps.get f.subrs q ≡ Some c)
+  had : (q : ℕ) (c : List ℕ) → maps.get (first_of most f).subrs q ≡ Some c → (nat_lt q most ≡ true) × (maps.get f.subrs q ≡ Some c)
   had q c e = cond_some (nat_lt q most) (maps.get f.subrs q) c (sym (get_first q) ∙ e)
 
   -- if the shared font has no entries, the subset has none
-  no_entries_there : maps.entries first.subrs ≡ [] → maps.entries t.font.subrs ≡ []
+  no_entries_there : maps.entries (first_of most f).subrs ≡ [] → maps.entries t.font.subrs ≡ []
   no_entries_there e = entries_none t.font.subrs (λ q.
-      grind (arith, get_font f t w q, get_first q, get_nothing first.subrs e q, le, ltb-true q t.count, lt-ltb q most, cases_Option (maps.get f.subrs q), cases_Bool (nat_lt q t.count), cases_Bool (nat_lt q most)))
+      grind (arith, get_font f t w q, get_first q, get_nothing (first_of most f).subrs e q, le, ltb-true q t.count, lt-ltb q most, cases_Option (maps.get f.subrs q), cases_Bool (nat_lt q t.count), cases_Bool (nat_lt q most)))
 
   -- the words of a table fit the entries of the cut font
-  words_first : (s : SubrsShell) → (maps.entries first.subrs ≡ [] → WordsOf [] (Some s)) → SubrsFit f.shell (Some s) f.subrs → (es : List (ℕ × List ℕ)) → maps.entries first.subrs ≡ es → SubrWords es (declares most s)
+  words_first : (s : SubrsShell) → (maps.entries (first_of most f).subrs ≡ [] → WordsOf [] (Some s)) → SubrsFit f.shell (Some s) f.subrs → (es : List (ℕ × List ℕ)) → maps.entries (first_of most f).subrs ≡ es → SubrWords es (declares most s)
   words_first s empty fit [] is = empty is
   words_first s empty fit (x ∷ es) is =
-      let there : maps.get first.subrs x.0 ≡ Some x.1 = maps.get-entries first.subrs x.0 ∙ (ap (maps.find nat_cmp x.0) is ∙ find_first nat_cmp_total nat_cmp-IsAntisymmetric x es) in
+      let there : maps.get (first_of most f).subrs x.0 ≡ Some x.1 = maps.get-entries (first_of most f).subrs x.0 ∙ (ap (maps.find nat_cmp x.0) is ∙ find_first nat_cmp_total nat_cmp-IsAntisymmetric x es) in
       some_words x.0 x.1 (maps.entries f.subrs) s (sym (maps.get-entries f.subrs x.0) ∙ (had x.0 x.1 there).1) fit.words
 
   -- the table of Subrs fits in the cut font
-  subrs_fit : (o : Option SubrsShell) → SubrsFit f.shell o f.subrs → most ≤ declared_count o → (maps.entries first.subrs ≡ [] → WordsOf [] o) → SubrsFit first.shell (option_map (declares most) o) first.subrs
+  subrs_fit : (o : Option SubrsShell) → SubrsFit f.shell o f.subrs → most ≤ declared_count o → (maps.entries (first_of most f).subrs ≡ [] → WordsOf [] o) → SubrsFit (first_of most f).shell (option_map (declares most) o) (first_of most f).subrs
   subrs_fit None fit few empty =
-      (entries_none first.subrs (λ q. grind (arith, get_first q, get_nothing f.subrs fit.0 q, cases_Bool (nat_lt q most))), fit.1)
+      (entries_none (first_of most f).subrs (λ q. grind (arith, get_first q, get_nothing f.subrs fit.0 q, cases_Bool (nat_lt q most))), fit.1)
   subrs_fit (Some s) fit few empty = record {
     declared = omega (arith, few, fit.declared);
     below = λ q c e. ltb-true q most (had q c e).0;
     bodies = λ q c e. fit.bodies q c (had q c e).1;
-    words = words_first s empty fit (maps.entries first.subrs) refl;
+    words = words_first s empty fit (maps.entries (first_of most f).subrs) refl;
     closing = fit.closing;
   }
 
   -- the Subrs of the cut font weigh no more
-  fewer : total (subr_weight f.shell.len_iv) (maps.entries first.subrs) ≤ total (subr_weight f.shell.len_iv) (maps.entries f.subrs)
-  fewer = total-le nat_cmp_total nat_cmp-IsAntisymmetric (subr_weight f.shell.len_iv) (subr_weight f.shell.len_iv) first.subrs f.subrs (λ q c e. (c, (had q c e).1, omega arith))
+  fewer : total (subr_weight f.shell.len_iv) (maps.entries (first_of most f).subrs) ≤ total (subr_weight f.shell.len_iv) (maps.entries f.subrs)
+  fewer = total-le nat_cmp_total nat_cmp-IsAntisymmetric (subr_weight f.shell.len_iv) (subr_weight f.shell.len_iv) (first_of most f).subrs f.subrs (λ q c e. (c, (had q c e).1, omega arith))
 
   -- the cut font is a font
-  pub first_is_font : IsFont first
+  pub first_is_font : IsFont (first_of most f)
   first_is_font =
       let k = even_is_font 0 f (omega arith) h in
       let p = h.private in
@@ -129,22 +124,18 @@ module _ (f : FontValue) (h : IsFont f) (most : ℕ) where
 
   -- a kept glyph draws in the cut font as it does in the font
   module _ (a : Names) (inside : IsOf f a) (low : KeepsBelow profile f most a) where
-    -- the font without its tag, cut to its first Subrs
-    abbrev start : FontValue
-    start = cut_to most (without_tag f)
-
-    same_there : (n c : List ℕ) → sets.contains (keep profile f a) n ≡ true → maps.get f.glyphs n ≡ Some c → (i : ℕ) → sets.contains (profile.exec f.subrs c) i ≡ true → maps.get start.subrs i ≡ maps.get f.subrs i
+    same_there : (n c : List ℕ) → sets.contains (keep profile f a) n ≡ true → maps.get f.glyphs n ≡ Some c → (i : ℕ) → sets.contains (profile.exec f.subrs c) i ≡ true → maps.get (first_of most f).subrs i ≡ maps.get f.subrs i
     same_there n c k is i e = subrs_below profile f h.glyphs.notdef most a inside low n k i (ap (λ x. sets.contains (profile.exec f.subrs (unwrap_or x [])) i) is ∙ e)
 
     -- a component of a kept glyph comes to the same in the cut font
-    component_there : (n c p : List ℕ) → sets.contains (keep profile f a) n ≡ true → maps.get f.glyphs n ≡ Some c → list_any (same_bytes p) (components profile f.subrs c) ≡ true → component_outcome profile start p ≡ component_outcome profile f p
+    component_there : (n c p : List ℕ) → sets.contains (keep profile f a) n ≡ true → maps.get f.glyphs n ≡ Some c → list_any (same_bytes p) (components profile f.subrs c) ≡ true → component_outcome profile (first_of most f) p ≡ component_outcome profile f p
     component_there n c p k is e =
         let part = λ (d : has f p ≡ true). (keep_closed profile f a h.glyphs.notdef inside).components n p k (component_here_from profile f n p (ap (λ x. list_any (same_bytes p) (components profile f.subrs (unwrap_or x []))) is ∙ e) d) in
         grind (arith, part, runs_below profile f h.glyphs.notdef most a inside low p, cases_Option (maps.get f.glyphs p))
 
     -- a kept glyph draws alike in the cut font
-    pub start_alike : (n : List ℕ) → sets.contains (keep profile f a) n ≡ true → DrawsAlike f start n
-    start_alike n k = alike f start n refl (λ c is. same_there n c k is) (λ c p is w. component_there n c p k is w)
+    pub start_alike : (n : List ℕ) → sets.contains (keep profile f a) n ≡ true → DrawsAlike f (first_of most f) n
+    start_alike n k = alike f (first_of most f) n refl (λ c is. same_there n c k is) (λ c p is w. component_there n c p k is w)
 
 -- ---- merges
 

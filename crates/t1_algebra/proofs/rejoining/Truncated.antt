@@ -1,27 +1,57 @@
--- Truncated subsets that are made even are subsets of one font.
-use Rattle.std.proofs.Common.{◌≡◌, ◌<◌, ◌≤◌, ℕ, max, nat_lt, nat_cmp, Bool, true, false, ◌||◌, cond, List, [], ◌∷◌, map, length, refl, sym, ◌∙◌, ap, subst, Option, Some, None, option_map, is_some, inl, inr, arith}
-use Rattle.std.proofs.lemmas.Bool.{ltb-true, ltb-false, lt-ltb, le-ltb, cases_Bool, false_from_ne_true}
+-- Fonts cut to their first Subrs keep and draw what they did, and truncated subsets that are made even are subsets of one font.
+use Rattle.std.proofs.Common.{◌≡◌, ◌<◌, ℕ, nat_lt, true, false, cond, List, refl, sym, ◌∙◌, ap, inl, inr, Option, Some, None, is_some, filter, arith, ◌≤◌, max, nat_cmp, Bool, ◌||◌, [], ◌∷◌, map, length, subst, option_map}
+use Rattle.std.proofs.lemmas.Bool.{lt-ltb, cases_Bool, ltb-true, ltb-false, le-ltb, false_from_ne_true}
+use Rattle.std.specs.Cmp.{nat_cmp_total}
+use Rattle.std.specs.Cmp.Lexicographic.{nat_list_cmp_total}
+use Rattle.std.specs.FinSet.{nat_cmp-IsAntisymmetric}
+use Rattle.t1_font.specs.FontValue.{FontValue, notdef, Shell, SubrsShell, Numbered, declared_count}
+use Rattle.t1_font.proofs.MapLemmas.{get-retain, get-map_values}
+use Rattle.t1_algebra.specs.Interpreter.{Interpreter, Names, Numbers}
+use Rattle.t1_algebra.specs.Keep.{Closed, keep, kept, components_here, has, charstring, subset}
+use Rattle.t1_algebra.specs.Rejoins.{cut_to, without_tag, declares, Truncated, IsTruncated, fonts_of, sets_of, largest, shared_font}
+use Rattle.t1_algebra.proofs.Kept.{InFont, keep_has, keep_least, keep_closed, kept_cases, kept_low, kept_call, keep_alike, kept_alike}
+use Rattle.t1_algebra.proofs.Sets.{same_members, name_same, cases_Option, clash, any_append, any_append_left, any_append_right, any_filter, any_filter_from}
 use Rattle.std.specs.List.{list_any, AllByRecursion}
 use Rattle.std.specs.Ordering.{eq_by_cmp}
-use Rattle.std.specs.Cmp.{nat_cmp_total}
-use Rattle.std.specs.FinMap as maps
-use Rattle.std.specs.FinSet as sets
-use Rattle.std.specs.FinSet.{nat_cmp-IsAntisymmetric}
-use Rattle.t1_font.specs.FontValue.{FontValue, Shell, SubrsShell, Numbered, declared_count}
 use Rattle.t1_font.specs.IsFont.{IsFont, SubrsFit, SubrWords}
 use Rattle.t1_font.specs.Tags.{untagged_head}
 use Rattle.t1_font.specs.Cut.{stub, restrict_encoding}
 use Rattle.t1_font.specs.Evening.{raised, even_shell, even, stubs_at, below, with_stubs, filled, largest_count, indices_of_all, evened}
-use Rattle.t1_font.proofs.MapLemmas.{get-map_values, get-retain}
-use Rattle.t1_algebra.specs.Interpreter.{Names, Numbers}
-use Rattle.t1_algebra.specs.Keep.{keep, kept, subset}
 use Rattle.t1_algebra.specs.Profile.{profile}
 use Rattle.t1_algebra.specs.States.{joined}
 use Rattle.t1_algebra.specs.Laws.{IsOf}
-use Rattle.t1_algebra.specs.Rejoins.{declares, cut_to, without_tag, Truncated, IsTruncated, fonts_of, sets_of, largest, shared_font}
-use Rattle.t1_algebra.proofs.rejoining.CutCounts.{KeepsBelow, keep_same, kept_same}
 use Rattle.t1_algebra.proofs.Maps.{get-merged, get-valued}
-use Rattle.t1_algebra.proofs.Sets.{clash, any_append, any_append_left, any_append_right, any_filter, any_filter_from, cases_Option}
+use Rattle.std.specs.FinMap as maps
+use Rattle.std.specs.FinSet as sets
+
+-- the font without its tag, cut to its first Subrs
+abbrev pub first_of : ℕ → FontValue → FontValue
+first_of count f = cut_to count (without_tag f)
+
+-- the names keep no Subr of the font at the count or above it
+abbrev pub KeepsBelow : {O : Type 0} → Interpreter O → FontValue → ℕ → Names → Type 0
+KeepsBelow m f count a = (i : ℕ) → sets.contains (kept m f a) i ≡ true → maps.contains_key f.subrs i ≡ true → i < count
+
+module _ {O : Type 0} (m : Interpreter O) (f : FontValue) (base : has f notdef ≡ true) (count : ℕ) (a : Names) (inside : InFont m f a) (low : KeepsBelow m f count a) where
+  -- the Subrs that a kept glyph executes are as before
+  pub subrs_below : (n : List ℕ) → sets.contains (keep m f a) n ≡ true → (i : ℕ) → sets.contains (m.exec f.subrs (charstring f n)) i ≡ true → maps.get (first_of count f).subrs i ≡ maps.get f.subrs i
+  subrs_below n k i w = grind (arith, get-retain nat_cmp_total nat_cmp-IsAntisymmetric f.subrs (λ i. nat_lt i count) i, low i (kept_call m f a i n k w), lt-ltb i count, cases_Option (maps.get f.subrs i), cases_Bool (nat_lt i count))
+
+  -- a kept glyph runs in the cut font as before
+  pub runs_below : (n : List ℕ) → sets.contains (keep m f a) n ≡ true → (m.direct (first_of count f).subrs (charstring f n) ≡ m.direct f.subrs (charstring f n)) × (m.exec (first_of count f).subrs (charstring f n) ≡ m.exec f.subrs (charstring f n))
+  runs_below n k = m.local f.subrs (first_of count f).subrs (charstring f n) (subrs_below n k)
+
+  -- a kept glyph has the same components in the cut font
+  components_same : (n : List ℕ) → sets.contains (keep m f a) n ≡ true → components_here m (first_of count f) n ≡ components_here m f n
+  components_same n k = ap (λ d. sets.from_list (filter (has f) (m.names d))) (runs_below n k).0
+
+  -- the cut font keeps the same names
+  pub keep_same : keep m (first_of count f) a ≡ keep m f a
+  keep_same = keep_alike m f (first_of count f) a base inside base inside (keep_has m f a) components_same (λ n k. (runs_below n k).1)
+
+  -- the cut font keeps the same Subrs
+  pub kept_same : kept m (first_of count f) a ≡ kept m f a
+  kept_same = kept_alike m f (first_of count f) a base inside base inside (keep_has m f a) components_same (λ n k. (runs_below n k).1)
 
 -- ---- what a cut subset has
 
@@ -40,22 +70,18 @@ get_cut f n a q = get-retain nat_cmp_total nat_cmp-IsAntisymmetric (subset profi
 
 -- the subset of the cut font is the cut subset
 module _ (f : FontValue) (h : IsFont f) (n : ℕ) (a : Names) (inside : IsOf f a) (low : KeepsBelow profile f n a) where
-  -- the font without its tag, cut to its first Subrs
-  abbrev first : FontValue
-  first = cut_to n (without_tag f)
-
-  names_same : keep profile first a ≡ keep profile f a
+  names_same : keep profile (first_of n f) a ≡ keep profile f a
   names_same = keep_same profile f h.glyphs.notdef n a inside low
 
-  subrs_same : (q : ℕ) → maps.get (subset profile first a).subrs q ≡ maps.get (maps.retain_keys (subset profile f a).subrs (λ i. nat_lt i n)) q
-  subrs_same q = grind (arith, get-map_values nat_cmp_total nat_cmp-IsAntisymmetric (keeps first a) first.subrs q, get-retain nat_cmp_total nat_cmp-IsAntisymmetric f.subrs (λ i. nat_lt i n) q, get_cut f n a q,
+  subrs_same : (q : ℕ) → maps.get (subset profile (first_of n f) a).subrs q ≡ maps.get (maps.retain_keys (subset profile f a).subrs (λ i. nat_lt i n)) q
+  subrs_same q = grind (arith, get-map_values nat_cmp_total nat_cmp-IsAntisymmetric (keeps (first_of n f) a) (first_of n f).subrs q, get-retain nat_cmp_total nat_cmp-IsAntisymmetric f.subrs (λ i. nat_lt i n) q, get_cut f n a q,
       kept_same profile f h.glyphs.notdef n a inside low, cases_Bool (nat_lt q n), cases_Option (maps.get f.subrs q))
 
   -- the subset of the cut font is the subset, without its tag and cut as the font is
-  pub cut_subset : subset profile first a ≡ cut_to n (without_tag (subset profile f a))
+  pub cut_subset : subset profile (first_of n f) a ≡ cut_to n (without_tag (subset profile f a))
   cut_subset =
-      let subrs = maps.same_map nat_cmp_total nat_cmp-IsAntisymmetric (subset profile first a).subrs (maps.retain_keys (subset profile f a).subrs (λ i. nat_lt i n)) subrs_same in
-      λ i. record { shell = first.shell; encoding = restrict_encoding (sets.contains (names_same i)) f.encoding; subrs = subrs i; glyphs = maps.retain_keys f.glyphs (sets.contains (names_same i)) }
+      let subrs = maps.same_map nat_cmp_total nat_cmp-IsAntisymmetric (subset profile (first_of n f) a).subrs (maps.retain_keys (subset profile f a).subrs (λ i. nat_lt i n)) subrs_same in
+      λ i. record { shell = (first_of n f).shell; encoding = restrict_encoding (sets.contains (names_same i)) f.encoding; subrs = subrs i; glyphs = maps.retain_keys f.glyphs (sets.contains (names_same i)) }
 
 -- ---- counts
 
@@ -186,7 +212,7 @@ module _ (f : FontValue) (h : IsFont f) (most : ℕ) (fits : most ≤ declared_c
   nothing e = get_nothing f.subrs (no_entries f.shell f.shell.subrs f.subrs h.subrs (words_empty e))
 
   -- the shell of a truncated subset, made even, is that of the cut font
-  shell_same : even_shell most t.font.shell ≡ (cut_to most (without_tag f)).shell
+  shell_same : even_shell most t.font.shell ≡ (first_of most f).shell
   shell_same =
       (λ i. record (w.others i).shell { head = w.head i; subrs = option_map (raised most) (w.others i).shell.subrs })
       ∙ (λ i. record f.shell { head = untagged_head f.shell.head; subrs = raised_declares most t.count f.shell.subrs le i })
@@ -245,13 +271,13 @@ module _ (f : FontValue) (h : IsFont f) (most : ℕ) (fits : most ≤ declared_c
         λ i. record { shell = shell_same i; encoding = (w.others i).encoding; subrs = subrs i; glyphs = (w.others i).glyphs }
 
     -- the truncated subset, made even, is a subset of the shared font
-    pub made_subset : filled indices (even most t.font) ≡ subset profile (cut_to most (without_tag f)) t.names
+    pub made_subset : filled indices (even most t.font) ≡ subset profile (first_of most f) t.names
     made_subset = made_is ∙ sym (cut_subset f h most t.names w.names (λ i k p. omega (arith, w.kept i k p, le)))
 
 -- ---- the fonts of a list
 
 module _ (f : FontValue) (h : IsFont f) (most : ℕ) (fits : most ≤ declared_count f.shell.subrs) (indices : List ℕ) (there : (q : ℕ) → q < most → maps.contains_key f.subrs q ≡ true → list_any (eq_by_cmp nat_cmp q) indices ≡ true) (from : (q : ℕ) → list_any (eq_by_cmp nat_cmp q) indices ≡ true → maps.contains_key f.subrs q ≡ true) where
-  made_subsets : (ts : List Truncated) → AllByRecursion (Fits f most) ts → map (filled indices) (map (even most) (fonts_of ts)) ≡ map (subset profile (cut_to most (without_tag f))) (sets_of ts)
+  made_subsets : (ts : List Truncated) → AllByRecursion (Fits f most) ts → map (filled indices) (map (even most) (fonts_of ts)) ≡ map (subset profile (first_of most f)) (sets_of ts)
   made_subsets [] w = refl
   made_subsets (t ∷ ts) w = λ i. made_subset f h most fits t w.0.0 w.0.1 indices there from i ∷ made_subsets ts w.1 i
 

@@ -12,8 +12,8 @@ use Rattle.t1_algebra.specs.Profile.{profile}
 use Rattle.t1_algebra.specs.States.{code_state, is_called, state_of_entry}
 use Rattle.t1_algebra.specs.StateTables.{numbered, code_states}
 use Rattle.t1_subset.specs.Differences.{with_state, entry_state}
-use Rattle.t1_algebra.proofs.Numbered.{get-numbered, numbered-empty, numbered-insert}
 use Rattle.t1_algebra.proofs.Sets.{tied, itself}
+use Rattle.t1_algebra.proofs.Tables.{get-numbered, numbered-empty, numbered-insert}
 
 -- the table has what x gives for the numbers below n, and nothing else
 pub record HasBelow (t : TableMeaning) (x : ℕ → Option (List ℕ)) (n : ℕ) : Type 0 where

@@ -22,10 +22,10 @@ use Rattle.t1_subset.proofs.state_tables.FirstConflicts.{there_of}
 use Rattle.t1_subset.proofs.state_tables.LowestKeys.{lowest_is}
 use Rattle.t1_subset.proofs.state_tables.FontCallers.{any_first, sought_is, smallest_seeker}
 use Rattle.t1_algebra.proofs.FontStates.{meant, get-names}
-use Rattle.t1_algebra.proofs.NameTables.{get-name}
 use Rattle.t1_algebra.proofs.Sets.{name_same}
 use Rattle.std.proofs.lemmas.Bool.{or_left}
 use Rattle.t1_algebra.proofs.Maps.{in_both}
+use Rattle.t1_algebra.proofs.Tables.{get-name}
 
 -- ---- the state of a name
 

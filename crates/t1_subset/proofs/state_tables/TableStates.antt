@@ -11,9 +11,7 @@ use Rattle.t1_join.specs.Join.{StatesAgree, states_agree}
 use Rattle.t1_join.specs.TableMeaning.{TableMeaning, TablesAgree, IsFirstConflict}
 use Rattle.t1_font.specs.FontValue.{FontValue, Encoding, Word, Codes, Named}
 use Rattle.t1_algebra.specs.StateTables.{numbered, code_states, used_subrs}
-use Rattle.t1_algebra.proofs.Numbered.{get-numbered}
 use Rattle.t1_algebra.proofs.FontStates.{get-used}
-use Rattle.t1_algebra.proofs.NameTables.{meanings_as_bytes}
 use Rattle.t1_font.specs.FontModel.{names_in}
 use Rattle.t1_font.specs.IsFont.{IsFont}
 use Rattle.t1_algebra.specs.Interpreter.{same_bytes}
@@ -27,6 +25,7 @@ use Rattle.t1_subset.proofs.state_tables.LowestKeys.{lowest_is}
 use Rattle.t1_algebra.proofs.Searching.{first_passes}
 use Rattle.t1_subset.proofs.closing.ExecutedCalls.{clash_there}
 use Rattle.t1_algebra.proofs.Maps.{in_both}
+use Rattle.t1_algebra.proofs.Tables.{get-numbered, meanings_as_bytes}
 
 -- ---- states that agree
 

@@ -1,7 +1,7 @@
 use Rattle.std.proofs.Common.{rules, ◌≡◌, ◌∙◌, ap, List, ◌∷◌}
 use Rattle.t1_join.specs.Meaning.{Meaning}
-use Rattle.t1_algebra.proofs.NameTables.{with_sought, sought_next, sought_all}
 use Rattle.t1_subset.proofs.name_states.sought_names.Goals as goal
+use Rattle.t1_algebra.proofs.Tables.{with_sought, sought_next, sought_all}
 
 pub seekers-init : goal.seekers-init
 seekers-init c = λ q. sought_all c.new-sought.result c.args.seekers.now c.into_iter-component-iterator.result q c.new-sought.ensures (c.into_iter-component-iterator.ensures.into_iter_gives ∙ c.entries-component-items.ensures)

@@ -3,8 +3,8 @@ use Rattle.std.specs.FinMap as maps
 use Rattle.std.proofs.lemmas.Map.Iter.{rest_more, rest_all}
 use Rattle.t1_font.specs.Lent.{lent_name}
 use Rattle.t1_algebra.specs.StateTables.{one_each}
-use Rattle.t1_algebra.proofs.TableWeights.{adds_none, adds_next, adds_all}
 use Rattle.t1_subset.proofs.name_states.with_counts.Goals as goal
+use Rattle.t1_algebra.proofs.Tables.{adds_none, adds_next, adds_all}
 
 pub glyphs-init : goal.glyphs-init
 glyphs-init c = adds_none one_each c.args.own.now (maps.entries c.args.glyphs.now) c.args.before _ (omega (arith, c.ranges.before.fits)) (c.into_iter-name-iterator.ensures.into_iter_gives ∙ c.entries-name-items.ensures)

@@ -3,8 +3,8 @@ use Rattle.std.specs.FinMap as maps
 use Rattle.std.proofs.lemmas.Map.Iter.{rest_more, rest_all}
 use Rattle.t1_font.specs.FontValue.{glyph_weight}
 use Rattle.t1_font.specs.Lent.{lent_name}
-use Rattle.t1_algebra.proofs.TableWeights.{adds_none, adds_next, adds_all}
 use Rattle.t1_subset.proofs.name_states.with_weights.Goals as goal
+use Rattle.t1_algebra.proofs.Tables.{adds_none, adds_next, adds_all}
 
 pub glyphs-init : goal.glyphs-init
 glyphs-init c = adds_none (glyph_weight c.args.len_iv) c.args.own.now (maps.entries c.args.glyphs.now) c.args.before _ (omega (arith, c.ranges.before.fits)) (c.into_iter-name-iterator.ensures.into_iter_gives ∙ c.entries-name-items.ensures)

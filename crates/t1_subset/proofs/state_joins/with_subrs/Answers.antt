@@ -4,8 +4,8 @@ use Rattle.std.proofs.lemmas.Map.Iter.{rest_more, rest_all}
 use Rattle.t1_join.specs.Meaning.{of_number}
 use Rattle.t1_join.specs.TableMeaning.{lent_meanings}
 use Rattle.t1_algebra.specs.StateTables.{subr_adds}
-use Rattle.t1_algebra.proofs.TableWeights.{adds_none, adds_next, adds_all}
 use Rattle.t1_subset.proofs.state_joins.with_subrs.Goals as goal
+use Rattle.t1_algebra.proofs.Tables.{adds_none, adds_next, adds_all}
 
 pub entries-init : goal.entries-init
 entries-init c = adds_none subr_adds c.args.own.now (maps.entries c.args.other.now) c.args.before _ (omega (arith, c.ranges.before.fits)) (c.into_iter-index-iterator.ensures.into_iter_gives ∙ c.entries-index-items.ensures)

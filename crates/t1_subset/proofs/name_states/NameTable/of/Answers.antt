@@ -2,8 +2,8 @@ use Rattle.std.proofs.Common.{◌∙◌, ap}
 use Rattle.t1_font.specs.FontValue.{Named}
 use Rattle.t1_algebra.specs.StateTables.{names_table}
 use Rattle.t1_subset.proofs.state_tables.NameClashes.{names_made}
-use Rattle.t1_algebra.proofs.NameTables.{only_sought}
 use Rattle.t1_subset.proofs.name_states.NameTable.of.Goals as goal
+use Rattle.t1_algebra.proofs.Tables.{only_sought}
 
 pub invariant_of-result : goal.invariant_of-result
 invariant_of-result c = only_sought c.in_ok-sought_names.field-0 c.args.seekers.now c.in_ok-sought_names.ensures

@@ -4,8 +4,8 @@ use Rattle.t1_join.specs.TableMeaning.{TableMeaning}
 use Rattle.t1_font.specs.FontModel.{clamp}
 use Rattle.t1_font.specs.FontValue.{total}
 use Rattle.t1_algebra.specs.StateTables.{name_adds, new_entries}
-use Rattle.t1_algebra.proofs.NameTables.{new_names_total}
 use Rattle.t1_subset.proofs.name_states.NameTable.weight_with.Goals as goal
+use Rattle.t1_algebra.proofs.Tables.{new_names_total}
 
 pub returns : goal.returns
 returns c = c.with_weights.ensures ∙ ap (λ n. clamp (c.args.before + n))

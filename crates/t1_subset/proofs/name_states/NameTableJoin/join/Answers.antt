@@ -1,5 +1,5 @@
-use Rattle.t1_algebra.proofs.NameTables.{sought_agree, names_join, are_joined}
 use Rattle.t1_subset.proofs.name_states.NameTableJoin.join.Goals as goal
+use Rattle.t1_algebra.proofs.Tables.{sought_agree, names_join, are_joined}
 
 pub join-requires : goal.join-requires
 join-requires c = sought_agree c.self.inside.glyphs c.self.inside.sought c.self.invariant _ c.self.view_is c.other.inside.glyphs c.other.inside.sought c.other.invariant _ c.other.view_is
