@@ -1,5 +1,5 @@
 -- A subset of a subset is the font's own subset.
-use Rattle.std.proofs.Common.{◌≡◌, ℕ, Bool, true, false, cond, List, [], refl, sym, ◌∙◌, ap, inl, inr, Option, Some, None, is_some, option_map, unwrap_or, arith}
+use Rattle.std.proofs.Common.{◌≡◌, ℕ, Bool, true, cond, List, [], refl, sym, ◌∙◌, ap, None, is_some, unwrap_or, arith}
 use Rattle.std.specs.List.{list_any}
 use Rattle.std.specs.Ordering.{eq_by_cmp}
 use Rattle.std.specs.Cmp.{nat_cmp_total}
@@ -12,8 +12,8 @@ use Rattle.t1_font.specs.Cut.{restrict, restrict_encoding, stub}
 use Rattle.t1_font.proofs.MapLemmas.{get-map_values, get-retain}
 use Rattle.t1_algebra.specs.Interpreter.{Interpreter, Names}
 use Rattle.t1_algebra.specs.Keep.{has, charstring, components, components_here, keep, kept, subset}
-use Rattle.t1_algebra.proofs.Sets.{clash, name_same, same_members, cases_Option}
-use Rattle.t1_algebra.proofs.Kept.{InFont, keep_has, keep_least, keep_closed, component_here, component_here_from, kept_cases, kept_low, kept_call, kept_more, calls, keep_alike, kept_alike}
+use Rattle.t1_algebra.proofs.Sets.{name_same, same_members, cases_Option}
+use Rattle.t1_algebra.proofs.Kept.{InFont, keep_has, keep_least, keep_closed, component_here, component_here_from, kept_more, calls, keep_alike, kept_alike}
 use Rattle.std.proofs.lemmas.Bool.{cases_Bool}
 use Rattle.t1_algebra.proofs.Uses.{has_some}
 use Rattle.t1_algebra.proofs.Subsets.{get-glyph, runs_alike, same_font}
@@ -25,9 +25,17 @@ module _ (p q : List ℕ → Bool) (more : (n : List ℕ) → p n ≡ true → q
   encoding_twice (Word w) = refl
   encoding_twice (Codes t) =
       let once = λ (c : ℕ). q (unwrap_or (maps.get t c) []) in
-      ap Codes (maps.same_map nat_cmp_total nat_cmp-IsAntisymmetric _ _ (λ c. grind (arith, get-retain nat_cmp_total nat_cmp-IsAntisymmetric t once c, get-retain nat_cmp_total nat_cmp-IsAntisymmetric t (λ c. p (unwrap_or (maps.get t c) [])) c,
-      get-retain nat_cmp_total nat_cmp-IsAntisymmetric (maps.retain_keys t once) (λ c. p (unwrap_or (maps.get (maps.retain_keys t once) c) [])) c,
-      more (unwrap_or (maps.get t c) []), cases_Option (maps.get t c), cases_Bool (once c), cases_Bool (p (unwrap_or (maps.get t c) [])), cases_Bool (p []))))
+      ap Codes (maps.same_map nat_cmp_total nat_cmp-IsAntisymmetric _ _ (λ c. grind (
+        arith,
+        get-retain nat_cmp_total nat_cmp-IsAntisymmetric t once c,
+        get-retain nat_cmp_total nat_cmp-IsAntisymmetric t (λ c. p (unwrap_or (maps.get t c) [])) c,
+        get-retain nat_cmp_total nat_cmp-IsAntisymmetric (maps.retain_keys t once) (λ c. p (unwrap_or (maps.get (maps.retain_keys t once) c) [])) c,
+        more (unwrap_or (maps.get t c) []),
+        cases_Option (maps.get t c),
+        cases_Bool (once c),
+        cases_Bool (p (unwrap_or (maps.get t c) [])),
+        cases_Bool (p []),
+      )))
 
 -- a font cut to q and then to p is the font cut to p, if p is narrower than q
 pub restrict_twice : (p q : List ℕ → Bool) (r s : ℕ → Bool) (f : FontValue) → ((n : List ℕ) → p n ≡ true → q n ≡ true) → ((i : ℕ) → r i ≡ true → s i ≡ true)

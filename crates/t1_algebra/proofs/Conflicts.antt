@@ -1,25 +1,24 @@
 -- Two fonts have no conflict exactly if they join, and they have the same conflict in both orders.
-use Rattle.std.proofs.Common.{◌≡◌, ◌↔◌, ℕ, Bool, true, false, cond, not, ◌&&◌, ◌||◌, List, [], refl, sym, ◌∙◌, ap, subst, true≢false, inl, inr, Ordering, Option, Some, None, is_some, unwrap_or, nat_le, arith}
+use Rattle.std.proofs.Common.{◌≡◌, ◌↔◌, ℕ, true, false, cond, not, ◌&&◌, ◌||◌, List, [], refl, sym, ◌∙◌, ap, Ordering, Option, Some, None, is_some, unwrap_or, nat_le, arith}
 use Rattle.std.specs.List.{list_any}
 use Rattle.std.specs.Cmp.{IsTotalOrder, nat_cmp_total, first_so, second_so}
 use Rattle.std.specs.Cmp.Lexicographic.{nat_list_cmp_total}
 use Rattle.std.specs.FinSet.{IsAntisymmetric, nat_cmp-IsAntisymmetric}
 use Rattle.std.specs.FinMap as maps
 use Rattle.t1_font.specs.FontValue.{FontValue, Encoding, Word, Codes, weight, weight_limit, count_limit}
-use Rattle.t1_font.proofs.MapLemmas.{Some_same, Some_None}
 use Rattle.t1_algebra.specs.Conflicts.{Conflict, ShellDiffers, CodeDiffers, GlyphDiffers, LacksComponent, SubrDiffers, OverLimit, keys_of_both, agrees, codes_of_both, wants, code_clashes, glyph_clashes, glyph_names, wanted_by, component_clashes, subr_clashes, used_by, is_within, shell_conflict, code_conflict, glyph_conflict, component_conflict, subr_conflict, states_conflict, conflict}
 use Rattle.t1_algebra.specs.Searches.{members, smallest, found}
 use Rattle.t1_algebra.specs.Shared.{shared_of}
 use Rattle.t1_algebra.specs.Interpreter.{Interpreter, same_bytes}
 use Rattle.t1_algebra.specs.Keep.{has}
-use Rattle.t1_algebra.specs.States.{IsWithin, Agree, code_state, is_sought, subr_state, state_of_glyph, state_of_entry, joined_font, Compatible, Join, executes, calls_for, called_at, name_state}
+use Rattle.t1_algebra.specs.States.{IsWithin, Agree, code_state, is_sought, subr_state, joined_font, Compatible, Join, executes, calls_for, called_at, name_state}
 use Rattle.t1_algebra.proofs.Uses.{sought, seeker}
-use Rattle.t1_algebra.proofs.Sets.{name_same, clash, tied, itself, any_one, any_at, cases_Option}
+use Rattle.t1_algebra.proofs.Sets.{name_same, clash, any_one, any_at, cases_Option}
 use Rattle.t1_algebra.proofs.JoinedStates.{font_back, compatible_back, glyph_agree}
-use Rattle.std.proofs.lemmas.Bool.{leb-true, le-leb, and_from, or_left, or_right, or_cases, cases_Bool, false_from_ne_true, not-false, not_from_true}
+use Rattle.std.proofs.lemmas.Bool.{leb-true, le-leb, and_from, or_left, or_right, cases_Bool, false_from_ne_true, not_from_true}
 use Rattle.t1_algebra.proofs.Searching.{or_swap, passes_none, found_none, none_found, smallest_none}
-use Rattle.t1_algebra.proofs.Shares.{is_same, swaps, bytes_decide, Shares, shared_so, no_part_differs, differing_back, shared_from, shared_to}
-use Rattle.t1_algebra.proofs.Maps.{agree_back, in_both, both_back}
+use Rattle.t1_algebra.proofs.Shares.{swaps, bytes_decide, Shares, shared_so, no_part_differs, differing_back, shared_from, shared_to}
+use Rattle.t1_algebra.proofs.Maps.{in_both, both_back}
 
 -- ---- tests
 

@@ -1,22 +1,20 @@
 -- A glyph runs and draws in a subset and in a join as it did before.
-use Rattle.std.proofs.Common.{◌≡◌, ℕ, true, false, cond, List, [], ◌∷◌, map, refl, sym, ◌∙◌, ap, subst, Option, Some, None, is_some, unwrap_or, option_map, ◌++◌, arith}
+use Rattle.std.proofs.Common.{◌≡◌, ℕ, true, cond, List, [], ◌∷◌, map, refl, sym, ◌∙◌, ap, subst, Option, Some, None, unwrap_or, option_map, arith}
 use Rattle.std.specs.List.{list_any}
 use Rattle.std.specs.Cmp.Lexicographic.{nat_list_cmp_total}
 use Rattle.t1_font.specs.FontValue.{FontValue, notdef, Numbered}
-use Rattle.t1_font.proofs.MapLemmas.{Some_None}
 use Rattle.t1_algebra.specs.Interpreter.{Interpreter, Names, same_bytes}
 use Rattle.t1_algebra.specs.Keep.{keep, has, components, subset}
-use Rattle.t1_algebra.specs.Outcomes.{component_outcome, seen, drawing}
-use Rattle.t1_algebra.specs.States.{Agree, joined, is_sought, name_state, state_of_glyph, joined_font, Compatible}
+use Rattle.t1_algebra.specs.Outcomes.{component_outcome}
+use Rattle.t1_algebra.specs.States.{joined_font, Compatible}
 use Rattle.t1_algebra.proofs.Kept.{InFont, keep_closed, component_here_from}
 use Rattle.t1_algebra.proofs.Sets.{name_same, itself, here, later, cases_Option, any_append_left, any_append_right}
 use Rattle.t1_algebra.proofs.Uses.{seeks_it, has_some}
 use Rattle.t1_algebra.proofs.JoinedStates.{left_glyph, left_runs, glyph_in_join, left_subrs, font_back, compatible_back}
 use Rattle.t1_algebra.proofs.Subsets.{get-glyph, runs_alike, subrs_alike}
-use Rattle.t1_run.specs.declared.drawings.DrawFault.TheVariants.{NoGlyph}
 use Rattle.t1_run.specs.State.{Ending}
 use Rattle.t1_run.specs.Run.{direct, direct3, exec, direct_by}
-use Rattle.t1_run.specs.Drawings.{Picture, Undrawn, parts_of, picture, picture_at, draw, draw3, outcome_at, draw_by, parts_by, parts}
+use Rattle.t1_run.specs.Drawings.{parts_of, picture, picture_at, draw, draw3, outcome_at, draw_by, parts_by, parts}
 use Rattle.t1_run.proofs.Locality.{local}
 use Rattle.t1_algebra.specs.Profile.{profile, Endings, in_set_of}
 use Rattle.t1_font.specs.IsFont.{IsFont}

@@ -1,6 +1,5 @@
 -- The states and the entries of a join are those of its fonts, and the glyphs of each font run in it as before.
-use Rattle.std.proofs.Common.{◌≡◌, ℕ, Bool, true, false, cond, not, ◌&&◌, ◌||◌, List, refl, sym, ◌∙◌, ap, true≢false, Option, Some, None, is_some, unwrap_or, option_map, arith}
-use Rattle.std.specs.List.{list_any}
+use Rattle.std.proofs.Common.{◌≡◌, ℕ, true, ◌||◌, List, refl, sym, ◌∙◌, ap, Option, Some, is_some, unwrap_or, option_map, arith}
 use Rattle.std.specs.Cmp.{nat_cmp_total}
 use Rattle.std.specs.Cmp.Lexicographic.{nat_list_cmp_total}
 use Rattle.std.specs.FinSet.{nat_cmp-IsAntisymmetric}
@@ -8,15 +7,14 @@ use Rattle.t1_font.specs.Cut.{stub}
 use Rattle.t1_font.specs.Joins.{join_encodings, joined_subr, join_parts}
 use Rattle.t1_font.specs.FontValue.{FontValue, Encoding, Word, Codes}
 use Rattle.t1_font.specs.WriteLaws.{SameKind}
-use Rattle.t1_font.proofs.MapLemmas.{get-map_values, Some_same, Some_None}
-use Rattle.t1_algebra.specs.Interpreter.{Interpreter, same_bytes}
-use Rattle.t1_algebra.specs.Keep.{components}
-use Rattle.t1_algebra.specs.States.{executed_at, executes, called_at, calls_for, Agree, joined, is_called, is_sought, state_of_entry, subr_state, state_of_glyph, name_state, code_state, joined_font, Compatible, is_stub}
+use Rattle.t1_font.proofs.MapLemmas.{get-map_values}
+use Rattle.t1_algebra.specs.Interpreter.{Interpreter}
+use Rattle.t1_algebra.specs.States.{executes, calls_for, Agree, joined, is_called, is_sought, subr_state, name_state, code_state, joined_font, Compatible}
 use Rattle.t1_algebra.proofs.Maps.{get-merged, agree_back, joined_back}
 use Rattle.t1_algebra.proofs.Uses.{some_joined, executing_there, naming_there, calls_it}
 use Rattle.t1_algebra.proofs.Sets.{name_same, cases_Option}
 use Rattle.t1_algebra.proofs.Subsets.{same_font, stub_is}
-use Rattle.t1_algebra.specs.JoinedEntries.{past_stub, EntriesJoin}
+use Rattle.t1_algebra.specs.JoinedEntries.{EntriesJoin}
 use Rattle.std.specs.FinSet as sets
 use Rattle.std.specs.FinMap as maps
 use Rattle.std.proofs.lemmas.Bool.{cases_Bool}

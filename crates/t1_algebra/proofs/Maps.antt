@@ -1,5 +1,5 @@
 -- The join of flat states, and what a merged map has at a key.
-use Rattle.std.proofs.Common.{◌≡◌, ℕ, ◌||◌, refl, sym, ap, arith, Option, Some, None, option_map, is_some, Ordering, cond, List, [], ◌∷◌, map, ◌∙◌}
+use Rattle.std.proofs.Common.{◌≡◌, ℕ, ◌||◌, refl, arith, Option, Some, None, option_map, Ordering, cond, List, [], ◌∷◌, map, ◌∙◌}
 use Rattle.std.specs.Cmp.{IsTotalOrder}
 use Rattle.std.specs.FinMap as maps
 use Rattle.std.specs.FinSet.{IsAntisymmetric}

@@ -1,5 +1,5 @@
 -- Fonts share what they have to exactly if no part differs, and the first part that differs is the same in both orders.
-use Rattle.std.proofs.Common.{◌≡◌, ◌↔◌, option_map, ℕ, Bool, true, false, not, ◌&&◌, List, [], ◌∷◌, map, refl, sym, ◌∙◌, ap, true≢false, inl, inr, Option, Some, None, is_some, nat_cmp, arith}
+use Rattle.std.proofs.Common.{◌≡◌, ◌↔◌, option_map, ℕ, Bool, true, false, not, List, [], ◌∷◌, map, refl, sym, ◌∙◌, ap, true≢false, Option, Some, None, is_some, nat_cmp, arith}
 use Rattle.std.specs.List.{list_any, AllByRecursion}
 use Rattle.std.specs.Ordering.{eq_by_cmp}
 use Rattle.std.specs.FinMap as maps
@@ -12,12 +12,11 @@ use Rattle.t1_font.specs.Maps.{map_values}
 use Rattle.t1_font.specs.WriteLaws.{SameKind}
 use Rattle.t1_font.proofs.MapLemmas.{Some_same, Some_None, get-map_values, entries-map_values}
 use Rattle.t1_algebra.specs.Interpreter.{same_bytes}
-use Rattle.t1_algebra.specs.Searches.{first_where}
-use Rattle.t1_algebra.specs.Shared.{Shared, shared_of, ShellPart, Head, EncodingPart, ClearTail, Private, SubrsTable, SubrsWords, Middle, GlyphsWords, Tail, all_parts, same_number, same_bool, same_word, same_words, same_part, differing_part}
+use Rattle.t1_algebra.specs.Shared.{Shared, shared_of, ShellPart, EncodingPart, SubrsTable, all_parts, same_number, same_bool, same_word, same_words, same_part, differing_part}
 use Rattle.t1_algebra.proofs.JoinedStates.{constant}
-use Rattle.t1_algebra.proofs.Searching.{none_passes, passes_none}
+use Rattle.t1_algebra.proofs.Searching.{none_passes}
 use Rattle.t1_algebra.proofs.Sets.{name_same, tied, itself, cases_Option}
-use Rattle.std.proofs.lemmas.Bool.{and_from, cases_Bool, false_from_ne_true, not-false, not_from_true}
+use Rattle.std.proofs.lemmas.Bool.{cases_Bool, not-false}
 
 -- ---- each test decides
 
@@ -103,9 +102,23 @@ pub differing_back : (s t : Shared) → differing_part s t ≡ differing_part t 
 differing_back s t =
     let bytes = swaps same_bytes bytes_decide in
     let word_of_subrs = λ (w : SubrsShell → List ℕ). bytes (of_subrs w s.0.subrs) (of_subrs w t.0.subrs) in
-    cc (bytes s.0.head t.0.head, swaps same_word words_decide s.1.0 t.1.0, bytes s.0.clear_tail t.0.clear_tail, bytes s.0.private t.0.private, swaps same_number numbers_decide s.0.len_iv t.0.len_iv,
-    swaps same_bool bools_decide (is_some s.0.subrs) (is_some t.0.subrs), swaps same_number numbers_decide (declared_count s.0.subrs) (declared_count t.0.subrs), bytes s.1.1 t.1.1, word_of_subrs (λ w. w.rd), word_of_subrs (λ w. w.put),
-    word_of_subrs (λ w. w.closing), bytes s.0.middle t.0.middle, bytes s.0.glyphs_rd t.0.glyphs_rd, bytes s.0.glyphs_def t.0.glyphs_def, bytes s.0.tail t.0.tail)
+    cc (
+      bytes s.0.head t.0.head,
+      swaps same_word words_decide s.1.0 t.1.0,
+      bytes s.0.clear_tail t.0.clear_tail,
+      bytes s.0.private t.0.private,
+      swaps same_number numbers_decide s.0.len_iv t.0.len_iv,
+      swaps same_bool bools_decide (is_some s.0.subrs) (is_some t.0.subrs),
+      swaps same_number numbers_decide (declared_count s.0.subrs) (declared_count t.0.subrs),
+      bytes s.1.1 t.1.1,
+      word_of_subrs (λ w. w.rd),
+      word_of_subrs (λ w. w.put),
+      word_of_subrs (λ w. w.closing),
+      bytes s.0.middle t.0.middle,
+      bytes s.0.glyphs_rd t.0.glyphs_rd,
+      bytes s.0.glyphs_def t.0.glyphs_def,
+      bytes s.0.tail t.0.tail,
+    )
 
 -- ---- what two fonts share
 

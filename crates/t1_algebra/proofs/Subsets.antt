@@ -1,17 +1,17 @@
 -- The states of a subset of a font, and the join of two subsets: the subset over both sets of names.
-use Rattle.std.proofs.Common.{◌≡◌, ℕ, ◌≤◌, Bool, true, false, cond, not, ◌&&◌, ◌||◌, List, [], refl, sym, ◌∙◌, ap, subst, true≢false, ◌⊎◌, inl, inr, Option, Some, None, option_map, unwrap_or, is_some, arith, le_trans}
+use Rattle.std.proofs.Common.{◌≡◌, ℕ, ◌≤◌, Bool, true, false, cond, not, ◌&&◌, ◌||◌, List, [], refl, sym, ◌∙◌, ap, subst, Option, Some, None, option_map, unwrap_or, arith, le_trans}
 use Rattle.std.specs.List.{list_any}
-use Rattle.std.specs.Cmp.{first_so, nat_cmp_total}
+use Rattle.std.specs.Cmp.{nat_cmp_total}
 use Rattle.std.specs.Cmp.Lexicographic.{nat_list_cmp_total}
 use Rattle.std.specs.FinSet.{nat_cmp-IsAntisymmetric}
 use Rattle.std.proofs.lemmas.Slice.Eq.{bytes_eq-Decides}
 use Rattle.t1_font.specs.Cut.{stub, restrict, restrict_encoding}
-use Rattle.t1_font.specs.FontValue.{total, FontValue, notdef, weight, Encoding, Word, Codes}
+use Rattle.t1_font.specs.FontValue.{FontValue, notdef, weight, Encoding, Word, Codes}
 use Rattle.t1_font.proofs.Kept.{restrict_light, cut_had}
-use Rattle.t1_font.proofs.MapLemmas.{get-map_values, get-retain, Some_None, total-le, length_total}
+use Rattle.t1_font.proofs.MapLemmas.{get-map_values, get-retain, total-le, length_total}
 use Rattle.t1_algebra.specs.Interpreter.{Interpreter, Names, same_bytes, Numbers}
 use Rattle.t1_algebra.specs.Keep.{keep, kept, components, has, subset}
-use Rattle.t1_algebra.specs.States.{Agree, joined, is_called, is_sought, entry_state, state_of_entry, subr_state, is_stub, IsWithin, state_of_glyph, name_state, code_state, joined_font, Compatible, Join}
+use Rattle.t1_algebra.specs.States.{Agree, joined, is_called, is_sought, subr_state, is_stub, IsWithin, name_state, code_state, joined_font, Compatible, Join}
 use Rattle.t1_algebra.proofs.Kept.{InFont, keep_closed, kept_call, component_here_from, keep_union, kept_union}
 use Rattle.t1_algebra.proofs.Uses.{caller, seeker}
 use Rattle.t1_algebra.proofs.Sets.{clash, name_same, cases_Option}

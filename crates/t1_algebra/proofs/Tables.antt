@@ -17,14 +17,13 @@ use Rattle.t1_font.specs.FontValue.{total, Numbered, Named, name_cmp}
 use Rattle.t1_algebra.specs.StateTables.{new_entries, numbered, name_meaning, AreNameStates, behind_mark, glyph_table, names_table, AreSought}
 use Rattle.std.specs.Cmp.Lexicographic.{nat_list_cmp_total}
 use Rattle.t1_join.specs.Meaning.{Meaning, meaning_cmp, of_number, by_number_law, same_meaning}
-use Rattle.t1_join.specs.Join.{joined_state, State, StatesAgree, states_agree}
+use Rattle.t1_join.specs.Join.{joined_state, State, states_agree}
 use Rattle.t1_join.specs.TableLaws.{get_joined, same_table}
 use Rattle.t1_algebra.proofs.Maps.{get-merged}
-use Rattle.t1_algebra.specs.States.{joined}
 use Rattle.t1_algebra.proofs.Sets.{cases_Option, name_same}
 use Rattle.std.specs.List.{list_any, AllByRecursion}
 use Rattle.t1_join.specs.StateLaws.{same_meaning-true, same_meaning-self}
-use Rattle.t1_font.proofs.MapLemmas.{Some_same, Some_None, get-map_values, entries-map_values, entries_all}
+use Rattle.t1_font.proofs.MapLemmas.{get-map_values, entries-map_values, entries_all}
 use Rattle.t1_algebra.specs.Interpreter.{same_bytes}
 use Rattle.t1_algebra.specs.Searches.{IsLowest}
 use Rattle.t1_algebra.specs.NameStates.{is_sought_in, charstrings_differ, one_lacks, differs_from}
@@ -299,8 +298,24 @@ module _ (g : Named) (s : TableMeaning) (are : AreSought s) (t : TableMeaning) (
 
   -- the table of joined glyphs and joined sought names is the joined table
   pub names_join : (j : Named) (k : TableMeaning) → j ≡ merged g h → k ≡ joined_table s r → TablesAgree t u → names_table j k ≡ joined_table t u
-  names_join j k ej ek a = same_table (names_table j k) (joined_table t u) (λ n. grind (arith, get-name j k n, ej, ek, get-merged nat_list_cmp_total name_same g h n, get_joined s r n, get_joined t u n,
-      at g s are t is n, at h r seek u so n, a n, are n, same_meaning-true, cases_Option (maps.get g n), cases_Option (maps.get h n), cases_Option (maps.get s n), cases_Option (maps.get r n)))
+  names_join j k ej ek a = same_table (names_table j k) (joined_table t u) (λ n. grind (
+    arith,
+    get-name j k n,
+    ej,
+    ek,
+    get-merged nat_list_cmp_total name_same g h n,
+    get_joined s r n,
+    get_joined t u n,
+    at g s are t is n,
+    at h r seek u so n,
+    a n,
+    are n,
+    same_meaning-true,
+    cases_Option (maps.get g n),
+    cases_Option (maps.get h n),
+    cases_Option (maps.get s n),
+    cases_Option (maps.get r n),
+  ))
 
   -- joined sought names are sought names
   pub are_joined : (k : TableMeaning) → k ≡ joined_table s r → AreSought k

@@ -1,16 +1,15 @@
 -- Fonts cut to their first Subrs keep and draw what they did, and truncated subsets that are made even are subsets of one font.
-use Rattle.std.proofs.Common.{◌≡◌, ◌<◌, ℕ, nat_lt, true, false, cond, List, refl, sym, ◌∙◌, ap, inl, inr, Option, Some, None, is_some, filter, arith, ◌≤◌, max, nat_cmp, Bool, ◌||◌, [], ◌∷◌, map, length, subst, option_map}
-use Rattle.std.proofs.lemmas.Bool.{lt-ltb, cases_Bool, ltb-true, ltb-false, le-ltb, false_from_ne_true}
+use Rattle.std.proofs.Common.{◌≡◌, ◌<◌, ℕ, nat_lt, true, false, cond, List, refl, sym, ◌∙◌, ap, inl, inr, Option, Some, None, is_some, filter, arith, ◌≤◌, max, nat_cmp, Bool, [], ◌∷◌, map, length, subst, option_map}
+use Rattle.std.proofs.lemmas.Bool.{lt-ltb, cases_Bool, ltb-true, ltb-false, false_from_ne_true}
 use Rattle.std.specs.Cmp.{nat_cmp_total}
-use Rattle.std.specs.Cmp.Lexicographic.{nat_list_cmp_total}
 use Rattle.std.specs.FinSet.{nat_cmp-IsAntisymmetric}
 use Rattle.t1_font.specs.FontValue.{FontValue, notdef, Shell, SubrsShell, Numbered, declared_count}
 use Rattle.t1_font.proofs.MapLemmas.{get-retain, get-map_values}
-use Rattle.t1_algebra.specs.Interpreter.{Interpreter, Names, Numbers}
-use Rattle.t1_algebra.specs.Keep.{Closed, keep, kept, components_here, has, charstring, subset}
+use Rattle.t1_algebra.specs.Interpreter.{Interpreter, Names}
+use Rattle.t1_algebra.specs.Keep.{keep, kept, components_here, has, charstring, subset}
 use Rattle.t1_algebra.specs.Rejoins.{cut_to, without_tag, declares, Truncated, IsTruncated, fonts_of, sets_of, largest, shared_font}
-use Rattle.t1_algebra.proofs.Kept.{InFont, keep_has, keep_least, keep_closed, kept_cases, kept_low, kept_call, keep_alike, kept_alike}
-use Rattle.t1_algebra.proofs.Sets.{same_members, name_same, cases_Option, clash, any_append, any_append_left, any_append_right, any_filter, any_filter_from}
+use Rattle.t1_algebra.proofs.Kept.{InFont, keep_has, kept_call, keep_alike, kept_alike}
+use Rattle.t1_algebra.proofs.Sets.{cases_Option, clash, any_append, any_append_left, any_append_right, any_filter, any_filter_from}
 use Rattle.std.specs.List.{list_any, AllByRecursion}
 use Rattle.std.specs.Ordering.{eq_by_cmp}
 use Rattle.t1_font.specs.IsFont.{IsFont, SubrsFit, SubrWords}
@@ -74,8 +73,15 @@ module _ (f : FontValue) (h : IsFont f) (n : ℕ) (a : Names) (inside : IsOf f a
   names_same = keep_same profile f h.glyphs.notdef n a inside low
 
   subrs_same : (q : ℕ) → maps.get (subset profile (first_of n f) a).subrs q ≡ maps.get (maps.retain_keys (subset profile f a).subrs (λ i. nat_lt i n)) q
-  subrs_same q = grind (arith, get-map_values nat_cmp_total nat_cmp-IsAntisymmetric (keeps (first_of n f) a) (first_of n f).subrs q, get-retain nat_cmp_total nat_cmp-IsAntisymmetric f.subrs (λ i. nat_lt i n) q, get_cut f n a q,
-      kept_same profile f h.glyphs.notdef n a inside low, cases_Bool (nat_lt q n), cases_Option (maps.get f.subrs q))
+  subrs_same q = grind (
+    arith,
+    get-map_values nat_cmp_total nat_cmp-IsAntisymmetric (keeps (first_of n f) a) (first_of n f).subrs q,
+    get-retain nat_cmp_total nat_cmp-IsAntisymmetric f.subrs (λ i. nat_lt i n) q,
+    get_cut f n a q,
+    kept_same profile f h.glyphs.notdef n a inside low,
+    cases_Bool (nat_lt q n),
+    cases_Option (maps.get f.subrs q),
+  )
 
   -- the subset of the cut font is the subset, without its tag and cut as the font is
   pub cut_subset : subset profile (first_of n f) a ≡ cut_to n (without_tag (subset profile f a))

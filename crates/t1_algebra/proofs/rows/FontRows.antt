@@ -11,7 +11,7 @@ use Rattle.t1_font.specs.Cut.{stub}
 use Rattle.t1_font.specs.FontValue.{FontValue, Shell, Encoding, Word, name_cmp, notdef, Codes}
 use Rattle.t1_algebra.specs.Interpreter.{Interpreter, Names, same_bytes}
 use Rattle.t1_algebra.specs.Keep.{sets_of, charstring, has, components_here, is_closed, is_needed, keep, called_by, kept}
-use Rattle.t1_algebra.proofs.Sets.{name_same, all_at, all_from, any_one, any_at, any_flat, any_flat_from, in_list, from_in_list, in_items, from_in_items, any_flat_map, cases_Option}
+use Rattle.t1_algebra.proofs.Sets.{name_same, all_at, all_from, any_one, any_at, in_list, from_in_list, any_flat_map, cases_Option}
 use Rattle.std.proofs.lemmas.List.Folds.{list_all-append, list_all-map}
 use Rattle.t1_font.specs.Maps.{map_values, merged}
 use Rattle.t1_font.specs.Entries.{last_entries}
