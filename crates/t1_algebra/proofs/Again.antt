@@ -12,7 +12,7 @@ use Rattle.t1_font.specs.Cut.{restrict, restrict_encoding, stub}
 use Rattle.t1_font.proofs.MapLemmas.{get-map_values, get-retain}
 use Rattle.t1_algebra.specs.Interpreter.{Interpreter, Names}
 use Rattle.t1_algebra.specs.Keep.{has, charstring, components, components_here, keep, kept, subset}
-use Rattle.t1_algebra.proofs.Sets.{name_same, same_members, cases_Option}
+use Rattle.t1_algebra.proofs.Sets.{name_same, same_members, cases_Option, cases}
 use Rattle.t1_algebra.proofs.Kept.{InFont, keep_has, keep_least, keep_closed, component_here, component_here_from, kept_more, calls, keep_alike, kept_alike}
 use Rattle.std.proofs.lemmas.Bool.{cases_Bool}
 use Rattle.t1_algebra.proofs.Uses.{has_some}
@@ -25,17 +25,7 @@ module _ (p q : List ℕ → Bool) (more : (n : List ℕ) → p n ≡ true → q
   encoding_twice (Word w) = refl
   encoding_twice (Codes t) =
       let once = λ (c : ℕ). q (unwrap_or (maps.get t c) []) in
-      ap Codes (maps.same_map nat_cmp_total nat_cmp-IsAntisymmetric _ _ (λ c. grind (
-        arith,
-        get-retain nat_cmp_total nat_cmp-IsAntisymmetric t once c,
-        get-retain nat_cmp_total nat_cmp-IsAntisymmetric t (λ c. p (unwrap_or (maps.get t c) [])) c,
-        get-retain nat_cmp_total nat_cmp-IsAntisymmetric (maps.retain_keys t once) (λ c. p (unwrap_or (maps.get (maps.retain_keys t once) c) [])) c,
-        more (unwrap_or (maps.get t c) []),
-        cases_Option (maps.get t c),
-        cases_Bool (once c),
-        cases_Bool (p (unwrap_or (maps.get t c) [])),
-        cases_Bool (p []),
-      )))
+      ap Codes (maps.same_map nat_cmp_total nat_cmp-IsAntisymmetric _ _ (λ c. grind (cases, get-retain nat_cmp_total nat_cmp-IsAntisymmetric t once c, get-retain nat_cmp_total nat_cmp-IsAntisymmetric t (λ c. p (unwrap_or (maps.get t c) [])) c, get-retain nat_cmp_total nat_cmp-IsAntisymmetric (maps.retain_keys t once) (λ c. p (unwrap_or (maps.get (maps.retain_keys t once) c) [])) c, more (unwrap_or (maps.get t c) []))))
 
 -- a font cut to q and then to p is the font cut to p, if p is narrower than q
 pub restrict_twice : (p q : List ℕ → Bool) (r s : ℕ → Bool) (f : FontValue) → ((n : List ℕ) → p n ≡ true → q n ≡ true) → ((i : ℕ) → r i ≡ true → s i ≡ true)
@@ -44,8 +34,8 @@ restrict_twice p q r s f more most =
     let stubs = λ (t : ℕ → Bool) (g : FontValue) (i : ℕ). get-map_values nat_cmp_total nat_cmp-IsAntisymmetric (λ i c. cond (t i) c stub) g.subrs i in
     let glyphs = λ (t : List ℕ → Bool) (g : FontValue) (n : List ℕ). get-retain nat_list_cmp_total name_same g.glyphs t n in
     same_font _ _ refl (encoding_twice p q more f.encoding)
-    (maps.same_map nat_cmp_total nat_cmp-IsAntisymmetric _ _ (λ i. grind (arith, stubs r (restrict q s f) i, stubs s f i, stubs r f i, most i, cases_Option (maps.get f.subrs i), cases_Bool (r i), cases_Bool (s i))))
-    (maps.same_map nat_list_cmp_total name_same _ _ (λ n. grind (arith, glyphs p (restrict q s f) n, glyphs q f n, glyphs p f n, more n, cases_Bool (p n), cases_Bool (q n))))
+    (maps.same_map nat_cmp_total nat_cmp-IsAntisymmetric _ _ (λ i. grind (cases, stubs r (restrict q s f) i, stubs s f i, stubs r f i, most i)))
+    (maps.same_map nat_list_cmp_total name_same _ _ (λ n. grind (cases, glyphs p (restrict q s f) n, glyphs q f n, glyphs p f n, more n)))
 
 -- ---- what a subset keeps
 
@@ -55,7 +45,7 @@ module _ {O : Type 0} (m : Interpreter O) (f : FontValue) (base : has f notdef �
 
   -- the subset's glyphs are kept
   pub in_keep : (n : List ℕ) → has sub n ≡ true → sets.contains (keep m f a) n ≡ true
-  in_keep n h = grind (arith, h, get-glyph m f base a inside n, cases_Bool (sets.contains (keep m f a) n))
+  in_keep n h = grind (cases, h, get-glyph m f base a inside n)
 
   -- a kept glyph is the font's
   glyph_same : (n : List ℕ) → sets.contains (keep m f a) n ≡ true → maps.get sub.glyphs n ≡ maps.get f.glyphs n

@@ -13,7 +13,7 @@ use Rattle.t1_algebra.specs.Interpreter.{Interpreter, same_bytes}
 use Rattle.t1_algebra.specs.Keep.{has}
 use Rattle.t1_algebra.specs.States.{IsWithin, Agree, code_state, is_sought, subr_state, joined_font, Compatible, Join, executes, calls_for, called_at, name_state}
 use Rattle.t1_algebra.proofs.Uses.{sought, seeker}
-use Rattle.t1_algebra.proofs.Sets.{name_same, clash, any_one, any_at, cases_Option}
+use Rattle.t1_algebra.proofs.Sets.{name_same, clash, any_one, any_at, cases_Option, cases}
 use Rattle.t1_algebra.proofs.JoinedStates.{font_back, compatible_back, glyph_agree}
 use Rattle.std.proofs.lemmas.Bool.{leb-true, le-leb, and_from, or_left, or_right, cases_Bool, false_from_ne_true, not_from_true}
 use Rattle.t1_algebra.proofs.Searching.{or_swap, passes_none, found_none, none_found, smallest_none}
@@ -25,15 +25,15 @@ use Rattle.t1_algebra.proofs.Maps.{in_both, both_back}
 module _ (x y : Option (List ℕ)) where
   -- states that pass the test join
   pub agrees_so : agrees x y ≡ true → Agree x y
-  agrees_so h = grind (arith, cases_Option x, cases_Option y, bytes_decide.so)
+  agrees_so h = grind (cases, bytes_decide.so)
 
   -- states that join pass the test
   pub so_agrees : Agree x y → agrees x y ≡ true
-  so_agrees h = grind (arith, cases_Option x, cases_Option y, bytes_decide.self)
+  so_agrees h = grind (cases, bytes_decide.self)
 
   -- the test is the same in both orders
   pub agrees_swap : agrees x y ≡ agrees y x
-  agrees_swap = grind (arith, cases_Option x, cases_Option y, swaps same_bytes bytes_decide)
+  agrees_swap = grind (cases, swaps same_bytes bytes_decide)
 
 -- the codes of two tables are the same in both orders
 codes_swap : (d e : Encoding) → codes_of_both d e ≡ codes_of_both e d
@@ -45,7 +45,7 @@ codes_swap (Codes s) (Codes t) = both_back nat_cmp_total nat_cmp-IsAntisymmetric
 -- if no key of two maps has states that clash, and keys that the second lacks have no state, all states agree
 all_agree : {K : Type 0} {R : K → K → Ordering} (o : IsTotalOrder R) (same : IsAntisymmetric R) (a b : maps.FinMap R (List ℕ)) (x y : K → Option (List ℕ)) → smallest (λ k. not (agrees (x k) (y k))) (keys_of_both a b) ≡ None
     → (k : K) → (maps.contains_key b k ≡ false → y k ≡ None) → Agree (x k) (y k)
-all_agree o same a b x y h k absent = grind (arith, absent, in_both o same a b k, smallest_none o same (λ k. not (agrees (x k) (y k))) (keys_of_both a b) k h, agrees_so (x k) (y k), cases_Option (x k), cases_Bool (maps.contains_key b k), cases_Bool (agrees (x k) (y k)))
+all_agree o same a b x y h k absent = grind (cases, absent, in_both o same a b k, smallest_none o same (λ k. not (agrees (x k) (y k))) (keys_of_both a b) k h, agrees_so (x k) (y k))
 
 -- ---- components that are lacking
 
@@ -62,8 +62,8 @@ module _ {O : Type 0} (m : Interpreter O) where
     -- without a conflict of codes, the names of each code agree
     codes_agree_at : (d e : Encoding) → smallest (λ c. not (agrees (code_state d c) (code_state e c))) (codes_of_both d e) ≡ None → (c : ℕ) → Agree (code_state d c) (code_state e c)
     codes_agree_at (Word v) e h c = tt
-    codes_agree_at (Codes s) (Word w) h c = grind (arith, cases_Option (maps.get s c))
-    codes_agree_at (Codes s) (Codes t) h c = all_agree nat_cmp_total nat_cmp-IsAntisymmetric s t (maps.get s) (maps.get t) h c (λ e. grind (arith, e, cases_Option (maps.get t c)))
+    codes_agree_at (Codes s) (Word w) h c = grind cases
+    codes_agree_at (Codes s) (Codes t) h c = all_agree nat_cmp_total nat_cmp-IsAntisymmetric s t (maps.get s) (maps.get t) h c (λ e. grind (cases, e))
 
     -- a component that f lacks and seeks and that g has is in conflict
     lacks_clashes : (p : List ℕ) → has f p ≡ false → is_sought m f p ≡ true → has g p ≡ true → component_clashes m f g p ≡ true
@@ -86,14 +86,14 @@ module _ {O : Type 0} (m : Interpreter O) where
   module _ (f g : FontValue) where
     -- without a conflict of components, f seeks none that it lacks and g has
     seeks_none : component_conflict m f g ≡ None → (p : List ℕ) → has f p ≡ false → has g p ≡ true → is_sought m f p ≡ false
-    seeks_none h p l k = grind (arith, l, k, lacks_clashes f g p, in_both nat_list_cmp_total name_same f.glyphs g.glyphs p, smallest_none nat_list_cmp_total name_same (component_clashes m f g) (glyph_names f g) p h, cases_Bool (is_sought m f p))
+    seeks_none h p l k = grind (cases, l, k, lacks_clashes f g p, in_both nat_list_cmp_total name_same f.glyphs g.glyphs p, smallest_none nat_list_cmp_total name_same (component_clashes m f g) (glyph_names f g) p h)
 
     component_conflict_back : component_conflict m f g ≡ component_conflict m g f
     component_conflict_back = λ i. smallest (λ p. component_back f g p i) (names_back f g i)
 
   -- without conflicts of glyphs and components, the states of a name agree
   names_at : (f g : FontValue) → component_conflict m f g ≡ None → (n : List ℕ) → Agree (maps.get f.glyphs n) (maps.get g.glyphs n) → Agree (name_state m f n) (name_state m g n)
-  names_at f g h n a = grind (arith, seeks_none f g h n, seeks_none g f (sym (component_conflict_back f g) ∙ h) n, a, cases_Option (maps.get f.glyphs n), cases_Option (maps.get g.glyphs n), cases_Bool (is_sought m f n), cases_Bool (is_sought m g n))
+  names_at f g h n a = grind (cases, seeks_none f g h n, seeks_none g f (sym (component_conflict_back f g) ∙ h) n, a)
 
   module _ (f g : FontValue) where
     -- without a conflict of shells, the fonts share what they have to
@@ -113,8 +113,8 @@ module _ {O : Type 0} (m : Interpreter O) where
           shells = same.shells;
           present = same.present;
           kinds = same.kinds;
-          subrs = λ i. all_agree nat_cmp_total nat_cmp-IsAntisymmetric f.subrs g.subrs (subr_state m f) (subr_state m g) e.0 i (λ k. grind (arith, k, cases_Option (maps.get g.subrs i)));
-          names = λ n. names_at f g d.0 n (all_agree nat_list_cmp_total name_same f.glyphs g.glyphs (maps.get f.glyphs) (maps.get g.glyphs) c.0 n (λ k. grind (arith, k, cases_Option (maps.get g.glyphs n))));
+          subrs = λ i. all_agree nat_cmp_total nat_cmp-IsAntisymmetric f.subrs g.subrs (subr_state m f) (subr_state m g) e.0 i (λ k. grind (cases, k));
+          names = λ n. names_at f g d.0 n (all_agree nat_list_cmp_total name_same f.glyphs g.glyphs (maps.get f.glyphs) (maps.get g.glyphs) c.0 n (λ k. grind (cases, k)));
           codes = codes_agree_at f g f.encoding g.encoding b.0;
         }
 
@@ -136,12 +136,12 @@ module _ {O : Type 0} (m : Interpreter O) (f g : FontValue) (c : Compatible m f 
 module _ {O : Type 0} (m : Interpreter O) (f g : FontValue) where
   -- a component that f lacks and calls for is lacking in a compatible g, too
   wants_nothing : Compatible m f g → (p n : List ℕ) → wants m f n p ≡ true → (has f p || has g p) ≡ false
-  wants_nothing c p n h = grind (arith, h, c.names p, sought m f p n, cases_Option (maps.get f.glyphs p), cases_Option (maps.get g.glyphs p), cases_Bool (is_sought m f p))
+  wants_nothing c p n h = grind (cases, h, c.names p, sought m f p n)
 
 module _ {O : Type 0} (m : Interpreter O) (f g : FontValue) (c : Compatible m f g) where
   -- neither of two compatible fonts has a component that a glyph of one of them calls for and its font lacks
   wanted_gone : (p n : List ℕ) → wanted_by m f g p n ≡ true → (has f p || has g p) ≡ false
-  wanted_gone p n h = grind (arith, h, wants_nothing m f g c p n, wants_nothing m g f (compatible_back m f g c) p n, cases_Bool (wants m f n p), cases_Bool (has f p), cases_Bool (has g p))
+  wanted_gone p n h = grind (cases, h, wants_nothing m f g c p n, wants_nothing m g f (compatible_back m f g c) p n)
 
   -- compatible fonts have no conflict of components
   no_component : (p : List ℕ) → component_clashes m f g p ≡ false
@@ -173,7 +173,7 @@ so_within m f g w = and_from (nat_le (weight (joined_font m f g)) weight_limit) 
 pub no_conflict : {O : Type 0} (m : Interpreter O) (f g : FontValue) → (conflict m f g ≡ None) ↔ Join m f g
 no_conflict m f g = (
   λ h. let r = found_none (λ c. c) (states_conflict m f g) (cond (is_within m f g) None (Some OverLimit)) h in
-      record { states = compatible m f g r.0; within = within_so m f g (grind (arith, r.1, cases_Bool (is_within m f g))) },
+      record { states = compatible m f g r.0; within = within_so m f g (grind (cases, r.1)) },
   λ j. none_found (λ c. c) (states_conflict m f g) (cond (is_within m f g) None (Some OverLimit)) (no_states_conflict m f g j.states) (ap (λ b. cond b None (Some OverLimit)) (so_within m f g j.within)),
 )
 

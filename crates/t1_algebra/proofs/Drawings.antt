@@ -8,7 +8,7 @@ use Rattle.t1_algebra.specs.Keep.{keep, has, components, subset}
 use Rattle.t1_algebra.specs.Outcomes.{component_outcome}
 use Rattle.t1_algebra.specs.States.{joined_font, Compatible}
 use Rattle.t1_algebra.proofs.Kept.{InFont, keep_closed, component_here_from}
-use Rattle.t1_algebra.proofs.Sets.{name_same, itself, here, later, cases_Option, any_append_left, any_append_right}
+use Rattle.t1_algebra.proofs.Sets.{name_same, itself, here, later, cases_Option, any_append_left, any_append_right, cases}
 use Rattle.t1_algebra.proofs.Uses.{seeks_it, has_some}
 use Rattle.t1_algebra.proofs.JoinedStates.{left_glyph, left_runs, glyph_in_join, left_subrs, font_back, compatible_back}
 use Rattle.t1_algebra.proofs.Subsets.{get-glyph, runs_alike, subrs_alike}
@@ -48,7 +48,7 @@ module _ (f j : FontValue) (n : List ℕ) (same : maps.get j.glyphs n ≡ maps.g
   module _ (hints : _) (by : Endings → Ending) (is_by : (s : Numbered) (c : List ℕ) → by (profile.direct s c) ≡ direct_by hints (maps.get s) c)
       (named : (s : Numbered) (c p : List ℕ) → list_any (same_bytes p) (parts_by hints (maps.get s) c) ≡ true → list_any (same_bytes p) (components profile s c) ≡ true) where
     part_alike : (p : List ℕ) → component_outcome profile j p ≡ component_outcome profile f p → outcome_at hints (maps.get j.subrs) (maps.get j.glyphs) p ≡ outcome_at hints (maps.get f.subrs) (maps.get f.glyphs) p
-    part_alike p e = grind (arith, e, is_by f.subrs, is_by j.subrs, cases_Option (maps.get f.glyphs p), cases_Option (maps.get j.glyphs p))
+    part_alike p e = grind (cases, e, is_by f.subrs, is_by j.subrs)
 
     picture_alike : (x : Option (List ℕ)) → maps.get f.glyphs n ≡ x → picture_at hints (maps.get j.subrs) (maps.get j.glyphs) (option_map (direct_by hints (maps.get j.subrs)) x) ≡ picture_at hints (maps.get f.subrs) (maps.get f.glyphs) (option_map (direct_by hints (maps.get f.subrs)) x)
     picture_alike None is = refl
@@ -77,7 +77,7 @@ component_in_subset : {O : Type 0} (m : Interpreter O) (f : FontValue) (base : h
     → maps.get f.glyphs n ≡ Some c → list_any (same_bytes p) (components m f.subrs c) ≡ true → component_outcome m (subset m f a) p ≡ component_outcome m f p
 component_in_subset m f base a inside n c p k is w =
     let kept = λ (h : has f p ≡ true). (keep_closed m f a base inside).components n p k (component_here_from m f n p (ap (λ x. list_any (same_bytes p) (components m f.subrs (unwrap_or x []))) is ∙ w) h) in
-    grind (arith, get-glyph m f base a inside p, kept, runs_alike m f base a inside p, cases_Option (maps.get f.glyphs p), cases_Bool (sets.contains (keep m f a) p))
+    grind (cases, get-glyph m f base a inside p, kept, runs_alike m f base a inside p)
 
 -- a kept glyph draws in a subset as in the font
 pub subset_alike : (f : FontValue) → IsFont f → (a : Names) → IsOf f a → (n : List ℕ) → sets.contains (keep profile f a) n ≡ true → DrawsAlike f (subset profile f a) n
@@ -86,7 +86,7 @@ subset_alike f h a inside n k = alike f (subset profile f a) n (get-glyph profil
 
 -- a component of a glyph of the first font comes to the same in the join
 component_in_join : {O : Type 0} (m : Interpreter O) (f g : FontValue) → Compatible m f g → (n c p : List ℕ) → maps.get f.glyphs n ≡ Some c → list_any (same_bytes p) (components m f.subrs c) ≡ true → component_outcome m (joined_font m f g) p ≡ component_outcome m f p
-component_in_join m f g c n v p is w = grind (arith, glyph_in_join m f g p, c.names p, seeks_it m f n v p is w, left_runs m f g p, cases_Option (maps.get f.glyphs p), cases_Option (maps.get g.glyphs p))
+component_in_join m f g c n v p is w = grind (cases, glyph_in_join m f g p, c.names p, seeks_it m f n v p is w, left_runs m f g p)
 
 -- a glyph of the first font draws in the join as it did
 pub left_alike : (f g : FontValue) → Compatible profile f g → (n : List ℕ) → has f n ≡ true → DrawsAlike f (joined_font profile f g) n

@@ -24,7 +24,7 @@ use Rattle.t1_join.specs.Products.{BothJoin}
 use Rattle.t1_algebra.specs.StateLaws.{PartsAgree, parts_laws}
 use Rattle.t1_algebra.proofs.Shares.{same_indices, shared_from, shared_to}
 use Rattle.t1_algebra.proofs.Maps.{get-merged, get-valued}
-use Rattle.t1_algebra.proofs.Sets.{name_same, cases_Option, any_flat_map}
+use Rattle.t1_algebra.proofs.Sets.{name_same, cases_Option, any_flat_map, cases}
 use Rattle.t1_algebra.proofs.JoinedStates.{subr_joined, name_joined, present_joined}
 use Rattle.t1_algebra.proofs.Subsets.{stub_is, same_font}
 use Rattle.std.specs.FinMap as maps
@@ -36,11 +36,11 @@ use Rattle.t1_algebra.proofs.Tables.{total-merged, at_number, get-numbered, entr
 module _ (x y : State) where
   -- states that agree in tables agree
   pub to_agree : PlacesAgree x y → Agree x y
-  to_agree h = grind (arith, cases_Option x, cases_Option y, same_meaning-true)
+  to_agree h = grind (cases, same_meaning-true)
 
   -- states that agree do so in tables
   pub from_agree : Agree x y → PlacesAgree x y
-  from_agree h = grind (arith, cases_Option x, cases_Option y, same_meaning-self)
+  from_agree h = grind (cases, same_meaning-self)
 
 -- what the state of a name means in a table
 abbrev pub meant : Option (Option (List ℕ)) → State
@@ -53,11 +53,11 @@ module _ (x y : Option (Option (List ℕ))) where
 
   -- names whose states agree have meanings that agree
   names_from : Agree x y → PlacesAgree (meant x) (meant y)
-  names_from h = grind (arith, cases_Option x, cases_Option y, same_meaning-self)
+  names_from h = grind (cases, same_meaning-self)
 
   -- the meaning of a join of names is the join of their meanings
   names_joined : meant (joined x y) ≡ joined_state (meant x) (meant y)
-  names_joined = grind (arith, cases_Option x)
+  names_joined = grind cases
 
 -- ---- tables by number
 
@@ -79,7 +79,7 @@ agree_numbers s t h i = to_agree (maps.get s i) (maps.get t i) ((λ j. states_ag
 module _ {O : Type 0} (m : Interpreter O) (f : FontValue) where
   -- the table of Subrs has the state of each index
   pub get-used : (i : ℕ) → maps.get (used_subrs m f) i ≡ subr_state m f i
-  get-used i = grind (arith, get-retain nat_cmp_total nat_cmp-IsAntisymmetric f.subrs (λ i. is_some (subr_state m f i)) i, cases_Option (maps.get f.subrs i), cases_Bool)
+  get-used i = grind (cases, get-retain nat_cmp_total nat_cmp-IsAntisymmetric f.subrs (λ i. is_some (subr_state m f i)) i)
 
   -- the names that are sought
   abbrev sought : TableMeaning
@@ -89,11 +89,11 @@ module _ {O : Type 0} (m : Interpreter O) (f : FontValue) where
   get-sought n = get-valued nat_list_cmp_total [] (all_components m f) n ∙ ap (λ b. cond b (Some []) None) (any_flat_map (same_bytes n) (λ n. named_at m f (maps.get f.glyphs n)) (names_in f.glyphs))
 
   are_sought : AreSought sought
-  are_sought n v is = grind (arith, get-sought n, cases_Bool (is_sought m f n))
+  are_sought n v is = grind (cases, get-sought n)
 
   -- the table of names has the state of each name
   pub get-names : (n : List ℕ) → maps.get (name_states m f) n ≡ meant (name_state m f n)
-  get-names n = grind (arith, get-name f.glyphs sought n, get-sought n, cases_Option (maps.get f.glyphs n), cases_Bool (is_sought m f n))
+  get-names n = grind (cases, get-name f.glyphs sought n, get-sought n)
 
 -- ---- compatible fonts have states that agree
 
@@ -113,7 +113,7 @@ codes_agree (Codes s) (Codes t) h a = numbers_agree s t a
 -- if the tables of codes agree, the names of each code agree
 agree_codes : (d e : Encoding) → TablesAgree (code_states d) (code_states e) → (c : ℕ) → Agree (code_state d c) (code_state e c)
 agree_codes (Word v) e h c = tt
-agree_codes (Codes s) (Word w) h c = grind (arith, cases_Option (maps.get s c))
+agree_codes (Codes s) (Word w) h c = grind cases
 agree_codes (Codes s) (Codes t) h c = agree_numbers s t h c
 
 -- the codes of the join of two Encodings are the join of their tables
@@ -183,7 +183,7 @@ total_keyed (e ∷ es) = ap (λ n. length e.1 - 1 + n) (total_keyed es)
 -- leaving out entries that weigh nothing changes no sum
 total_kept : {K : Type 0} (w : K → List ℕ → ℕ) (p : K → Bool) (es : List (K × List ℕ)) → AllByRecursion (λ e. p e.0 ≡ false → w e.0 e.1 ≡ 0) es → total w (filter (λ e. p e.0) es) ≡ total w es
 total_kept w p [] h = refl
-total_kept w p (e ∷ es) h = grind (arith, cases_Bool (p e.0), total_kept w p es h.1, h.0)
+total_kept w p (e ∷ es) h = grind (cases, total_kept w p es h.1, h.0)
 
 -- Subrs weigh what as many stubs weigh and what each has beyond a stub
 total_apart : (iv : ℕ) (es : List (ℕ × List ℕ)) → total (subr_weight iv) es ≡ length es * (129 + iv) + total (λ i c. length c - 1) es
@@ -193,7 +193,7 @@ total_apart iv (e ∷ es) = omega (arith, total_apart iv es)
 module _ {O : Type 0} (m : Interpreter O) (f : FontValue) where
   -- an entry whose state is the bottom weighs no more than a stub
   stub_adds_nothing : (i : ℕ) (c : List ℕ) → maps.get f.subrs i ≡ Some c → is_some (subr_state m f i) ≡ false → length c - 1 ≡ 0
-  stub_adds_nothing i c is h = grind (arith, is, stub_is c, cases_Bool)
+  stub_adds_nothing i c is h = grind (cases, is, stub_is c)
 
   -- the Subrs of a font weigh as many stubs and what their states add
   subrs_weigh : total (subr_weight f.shell.len_iv) (maps.entries f.subrs) ≡ length (maps.keys f.subrs) * (129 + f.shell.len_iv) + total subr_adds (maps.entries (numbered (used_subrs m f)))
@@ -338,7 +338,7 @@ encoding_known (Codes s) (Codes t) h k = ap Codes (maps.same_map nat_cmp_total n
 module _ {O : Type 0} (m : Interpreter O) where
   -- a charstring is what stands behind the mark of its name's state
   pub glyph_known : (f : FontValue) (n : List ℕ) → behind_mark (maps.get (name_part (states_of m f)) n) ≡ maps.get f.glyphs n
-  glyph_known f n = grind (arith, get-names m f n, cases_Option (maps.get f.glyphs n), cases_Bool (is_sought m f n))
+  glyph_known f n = grind (cases, get-names m f n)
 
   module _ (f g : FontValue) (e : states_of m f ≡ states_of m g) where
     same_subr : (i : ℕ) → subr_state m f i ≡ subr_state m g i
@@ -349,5 +349,5 @@ module _ {O : Type 0} (m : Interpreter O) where
     font_known =
         let shared = shared_to f g (ap (λ (s : StatesValue). s.0) e) in
         same_font f g shared.shells (encoding_known f.encoding g.encoding (ap (λ (s : StatesValue). s.0.1.0) e) (ap code_part e))
-        (maps.same_map nat_cmp_total nat_cmp-IsAntisymmetric f.subrs g.subrs (λ i. grind (arith, same_subr i, shared.present i, stub_is, cases_Option (maps.get f.subrs i), cases_Option (maps.get g.subrs i), cases_Bool)))
+        (maps.same_map nat_cmp_total nat_cmp-IsAntisymmetric f.subrs g.subrs (λ i. grind (cases, same_subr i, shared.present i, stub_is)))
         (maps.same_map nat_list_cmp_total name_same f.glyphs g.glyphs (λ n. sym (glyph_known f n) ∙ ap (λ (t : TableMeaning). behind_mark (maps.get t n)) (ap name_part e) ∙ glyph_known g n))

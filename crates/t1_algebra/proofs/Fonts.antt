@@ -11,7 +11,7 @@ use Rattle.t1_algebra.specs.Keep.{subset, keep, kept}
 use Rattle.t1_algebra.specs.Laws.{IsOf}
 use Rattle.t1_join.specs.Groupings.{Grouping, one, two, map_grouping, EachLeaf, leaves}
 use Rattle.t1_algebra.specs.Groupings.{union_all, Merges}
-use Rattle.t1_algebra.proofs.Sets.{name_same, in_union}
+use Rattle.t1_algebra.proofs.Sets.{name_same, in_union, cases}
 use Rattle.t1_algebra.proofs.Subsets.{join_is_subset, subsets_join}
 use Rattle.t1_font.proofs.Kept.{restrict_is_font, join_is_font}
 use Rattle.t1_algebra.specs.States.{IsWithin, Join, joined_font}
@@ -28,7 +28,7 @@ all_of (two s t) = sets.union (all_of s) (all_of t)
 
 -- a name is in the union if it is in the set of some leaf
 in_all_of : (t : Grouping Names) (n : List ℕ) → sets.contains (all_of t) n ≡ list_any (λ s. sets.contains s n) (leaves t)
-in_all_of (one a) n = grind (arith, cases_Bool (sets.contains a n))
+in_all_of (one a) n = grind cases
 in_all_of (two s t) n = sets.contains-union nat_list_cmp_total (all_of s) (all_of t) n ∙ (λ i. in_all_of s n i || in_all_of t n i) ∙ sym (list_any-append (λ s. sets.contains s n) (leaves s) (leaves t))
 
 -- a name is in the union of a list if it is in some set of the list

@@ -12,7 +12,7 @@ use Rattle.t1_algebra.specs.Interpreter.{Interpreter}
 use Rattle.t1_algebra.specs.States.{executes, calls_for, Agree, joined, is_called, is_sought, subr_state, name_state, code_state, joined_font, Compatible}
 use Rattle.t1_algebra.proofs.Maps.{get-merged, agree_back, joined_back}
 use Rattle.t1_algebra.proofs.Uses.{some_joined, executing_there, naming_there, calls_it}
-use Rattle.t1_algebra.proofs.Sets.{name_same, cases_Option}
+use Rattle.t1_algebra.proofs.Sets.{name_same, cases_Option, cases}
 use Rattle.t1_algebra.proofs.Subsets.{same_font, stub_is}
 use Rattle.t1_algebra.specs.JoinedEntries.{EntriesJoin}
 use Rattle.std.specs.FinSet as sets
@@ -49,11 +49,11 @@ encodings_back (Codes s) (Codes t) h a = ap Codes (maps.same_map nat_cmp_total n
 
 -- the charstrings of each name agree in compatible fonts
 pub glyph_agree : {O : Type 0} (m : Interpreter O) (f g : FontValue) → Compatible m f g → (n : List ℕ) → Agree (maps.get f.glyphs n) (maps.get g.glyphs n)
-glyph_agree m f g c n = grind (arith, c.names n, cases_Option (maps.get f.glyphs n), cases_Option (maps.get g.glyphs n))
+glyph_agree m f g c n = grind (cases, c.names n)
 
 -- one value stands wherever there is a value
 pub constant : {X Y Z : Type 0} (z : Z) (x : Option X) (y : Option Y) → is_some x ≡ is_some y → option_map (λ v. z) x ≡ option_map (λ v. z) y
-constant z x y h = grind (arith, cases_Option x, cases_Option y)
+constant z x y h = grind cases
 
 module _ {O : Type 0} (m : Interpreter O) (f g : FontValue) where
   -- the entry of a Subr in the join
@@ -84,7 +84,7 @@ module _ {O : Type 0} (m : Interpreter O) (f g : FontValue) where
 
   -- the Subrs that a glyph of the first font executes are in the join as before
   pub left_subrs : (n c : List ℕ) → maps.get f.glyphs n ≡ Some c → (i : ℕ) → sets.contains (m.exec f.subrs c) i ≡ true → maps.get (joined_font m f g).subrs i ≡ maps.get f.subrs i
-  left_subrs n c is i h = grind (arith, subr_in_join m f g i, calls_it m f n c i is h, cases_Option (maps.get f.subrs i), cases_Bool)
+  left_subrs n c is i h = grind (cases, subr_in_join m f g i, calls_it m f n c i is h)
 
   -- a glyph of the first font runs in the join as before
   pub left_runs : (n c : List ℕ) → maps.get f.glyphs n ≡ Some c
@@ -105,11 +105,11 @@ module _ {O : Type 0} (m : Interpreter O) (f g : FontValue) (c : Compatible m f 
 
   -- a glyph executes an index in the join if it does so in one of the fonts
   pub executes_join : (i : ℕ) (n : List ℕ) → executes m whole n i ≡ (executes m f n i || executes m g n i)
-  executes_join i n = grind (arith, glyph_in_join m f g n, left_runs m f g n, right_runs n, glyph_agree m f g c n, cases_Option (maps.get f.glyphs n), cases_Option (maps.get g.glyphs n), cases_Bool)
+  executes_join i n = grind (cases, glyph_in_join m f g n, left_runs m f g n, right_runs n, glyph_agree m f g c n)
 
   -- a glyph names a component in the join if it does so in one of the fonts
   pub calls_join : (p n : List ℕ) → calls_for m whole n p ≡ (calls_for m f n p || calls_for m g n p)
-  calls_join p n = grind (arith, glyph_in_join m f g n, left_runs m f g n, right_runs n, glyph_agree m f g c n, cases_Option (maps.get f.glyphs n), cases_Option (maps.get g.glyphs n), cases_Bool)
+  calls_join p n = grind (cases, glyph_in_join m f g n, left_runs m f g n, right_runs n, glyph_agree m f g c n)
 
   -- some glyph of the join executes an index if some glyph of one of the fonts does
   pub called_in_join : (i : ℕ) → is_called m whole i ≡ (is_called m f i || is_called m g i)
@@ -123,11 +123,11 @@ module _ {O : Type 0} (m : Interpreter O) (f g : FontValue) (c : Compatible m f 
 
   -- the state of a Subr in the join is the join of its states
   pub subr_joined : (i : ℕ) → subr_state m whole i ≡ joined (subr_state m f i) (subr_state m g i)
-  subr_joined i = grind (arith, subr_in_join m f g i, called_in_join i, c.present i, cases_Option (maps.get f.subrs i), cases_Option (maps.get g.subrs i), cases_Bool)
+  subr_joined i = grind (cases, subr_in_join m f g i, called_in_join i, c.present i)
 
   -- the state of a name in the join is the join of its states
   pub name_joined : (n : List ℕ) → name_state m whole n ≡ joined (name_state m f n) (name_state m g n)
-  name_joined n = grind (arith, glyph_in_join m f g n, sought_in_join n, c.names n, cases_Option (maps.get f.glyphs n), cases_Option (maps.get g.glyphs n), cases_Bool (is_sought m f n), cases_Bool (is_sought m g n))
+  name_joined n = grind (cases, glyph_in_join m f g n, sought_in_join n, c.names n)
 
 -- the state of a code in the join is the join of its states
 pub code_joined : (d e : Encoding) → SameKind d e → (c : ℕ) → code_state (join_encodings d e) c ≡ joined (code_state d c) (code_state e c)
@@ -138,7 +138,7 @@ code_joined (Codes s) (Codes t) h c = get-merged nat_cmp_total nat_cmp-IsAntisym
 
 -- the join has entries at the indices of the first font
 pub present_joined : {O : Type 0} (m : Interpreter O) (f g : FontValue) (i : ℕ) → maps.contains_key (joined_font m f g).subrs i ≡ maps.contains_key f.subrs i
-present_joined m f g i = grind (arith, subr_in_join m f g i, cases_Option (maps.get f.subrs i))
+present_joined m f g i = grind (cases, subr_in_join m f g i)
 
 -- ---- the entries of a join
 
@@ -147,7 +147,7 @@ module _ {O : Type 0} (m : Interpreter O) (f g : FontValue) (c : Compatible m f 
   pub joined_are_entries : joined_font m f g ≡ join_parts f g
   joined_are_entries = same_font (joined_font m f g) (join_parts f g) refl refl
       (maps.same_map nat_cmp_total nat_cmp-IsAntisymmetric _ _ (λ i.
-      grind (arith, subr_in_join m f g i, c.present i, c.subrs i, get-map_values nat_cmp_total nat_cmp-IsAntisymmetric (λ i v. joined_subr v (maps.get g.subrs i)) f.subrs i, stub_is, cases_Option (maps.get f.subrs i), cases_Option (maps.get g.subrs i), cases_Bool)))
+      grind (cases, subr_in_join m f g i, c.present i, c.subrs i, get-map_values nat_cmp_total nat_cmp-IsAntisymmetric (λ i v. joined_subr v (maps.get g.subrs i)) f.subrs i, stub_is)))
       refl
 
   -- the entries of both make a join
@@ -156,7 +156,7 @@ module _ {O : Type 0} (m : Interpreter O) (f g : FontValue) (c : Compatible m f 
     shells = c.shells;
     present = c.present;
     kinds = c.kinds;
-    subrs = λ i. grind (arith, c.subrs i, cases_Option (maps.get f.subrs i), cases_Option (maps.get g.subrs i), cases_Bool);
+    subrs = λ i. grind (cases, c.subrs i);
     glyphs = glyph_agree m f g c;
     codes = c.codes;
   }

@@ -10,7 +10,7 @@ use Rattle.std.specs.FinMap.Entries.{below_all, is_sorted}
 use Rattle.t1_join.proofs.Sorted.{lt_is}
 use Rattle.t1_font.proofs.MapLemmas.{T_true}
 use Rattle.t1_algebra.specs.Searches.{first_where, members, smallest, found}
-use Rattle.t1_algebra.proofs.Sets.{tied, itself, cases_Option}
+use Rattle.t1_algebra.proofs.Sets.{tied, itself, cases_Option, cases}
 
 pub or_swap : (a b : Bool) → (a || b) ≡ (b || a)
 or_swap a b = search rules
@@ -19,12 +19,12 @@ module _ {X : Type 0} (p : X → Bool) where
   -- if a search finds nothing, no element passes
   pub none_passes : (xs : List X) → first_where p xs ≡ None → AllByRecursion (λ x. p x ≡ false) xs
   none_passes [] h = tt
-  none_passes (x ∷ xs) h = grind (arith, cases_Bool (p x), none_passes xs)
+  none_passes (x ∷ xs) h = grind (cases, none_passes xs)
 
   -- what a search finds passes
   pub first_passes : (xs : List X) (x : X) → first_where p xs ≡ Some x → p x ≡ true
   first_passes [] x h = cc
-  first_passes (y ∷ xs) x h = grind (arith, cases_Bool (p y), first_passes xs x)
+  first_passes (y ∷ xs) x h = grind (cases, first_passes xs x)
 
   -- if no element passes, a search finds nothing
   pub passes_none : (xs : List X) → ((x : X) → p x ≡ false) → first_where p xs ≡ None
@@ -34,7 +34,7 @@ module _ {X : Type 0} (p : X → Bool) where
 module _ {X Y : Type 0} (f : X → Y) (x : Option X) (e : Option Y) where
   -- if nothing is found of two things, neither is there
   pub found_none : found f x e ≡ None → (x ≡ None) × (e ≡ None)
-  found_none h = grind (arith, cases_Option x)
+  found_none h = grind cases
 
   -- if neither of two things is there, nothing is found
   pub none_found : x ≡ None → e ≡ None → found f x e ≡ None
@@ -44,7 +44,7 @@ module _ {K : Type 0} {R : K → K → Ordering} (o : IsTotalOrder R) (same : Is
   -- no key of a list passes of which none passes
   none_at : (q : K) (ks : List K) → AllByRecursion (λ k. p k ≡ false) ks → list_any (eq_by_cmp R q) ks ≡ true → p q ≡ false
   none_at q [] all h = absurd (true≢false (sym h))
-  none_at q (k ∷ ks) all h = grind (arith, cases_Bool (eq_by_cmp R q k), tied o same q k, none_at q ks all.1)
+  none_at q (k ∷ ks) all h = grind (cases, tied o same q k, none_at q ks all.1)
 
   -- if a search among keys finds nothing, no key passes
   pub none_at_all : (ks : List K) (q : K) → first_where p ks ≡ None → list_any (eq_by_cmp R q) ks ≡ true → p q ≡ false
@@ -68,7 +68,7 @@ module _ {K : Type 0} {R : K → K → Ordering} (o : IsTotalOrder R) (same : Is
   first_is k [] s h is least = absurd (true≢false (sym h))
   first_is k (e ∷ es) s h is least =
       let rest = λ (c : list_any (eq_by_cmp R k) (map (λ e. e.0) es) ≡ true). first_is k es (second_so (below_all R e.0 es) _ s) c is (λ q w. least q (or_right _ _ w)) in
-      grind (arith, tied o same k e.0, itself o same e.0, least e.0, below_later e.0 k es, rest, cases_Bool (eq_by_cmp R k e.0), cases_Bool (p e.0), first_so (below_all R e.0 es) (is_sorted R es) s)
+      grind (cases, tied o same k e.0, itself o same e.0, least e.0, below_later e.0 k es, rest, first_so (below_all R e.0 es) (is_sorted R es) s)
 
   -- a member that passes, below which none does, is the smallest
   pub smallest_is : (s : maps.FinMap R ℕ) (k : K) → maps.contains_key s k ≡ true → p k ≡ true → ((q : K) → maps.contains_key s q ≡ true → R q k ≡ Less → p q ≡ false) → smallest p s ≡ Some k

@@ -18,6 +18,9 @@ pub cases_Option : {X : Type 0} (x : Option X) → (x ≡ None) ⊎ ((v : X) × 
 cases_Option None = inl refl
 cases_Option (Some v) = inr (v, refl)
 
+-- arithmetic, and cases on tests and options
+pub ruleset cases = (arith, cases_Bool, cases_Option)
+
 -- nothing passes a test and fails it
 pub clash : {P : Type 0} (a : Bool) → a ≡ true → a ≡ false → P
 clash a p q = absurd (true≢false (sym p ∙ q))
@@ -86,12 +89,12 @@ module _ {K : Type 0} {R : K → K → Ordering} (o : IsTotalOrder R) (same : Is
   -- what is left of a list was in it and passes
   pub any_filter : (p : K → Bool) (q : K) (ks : List K) → list_any (eq_by_cmp R q) (filter p ks) ≡ true → (list_any (eq_by_cmp R q) ks ≡ true) × (p q ≡ true)
   any_filter p q [] h = absurd (true≢false (sym h))
-  any_filter p q (k ∷ ks) h = grind (arith, cases_Bool (p k), cases_Bool (eq_by_cmp R q k), tied q k, any_filter p q ks)
+  any_filter p q (k ∷ ks) h = grind (cases, tied q k, any_filter p q ks)
 
   -- what is in a list and passes is left
   pub any_filter_from : (p : K → Bool) (q : K) (ks : List K) → list_any (eq_by_cmp R q) ks ≡ true → p q ≡ true → list_any (eq_by_cmp R q) (filter p ks) ≡ true
   any_filter_from p q [] h is = h
-  any_filter_from p q (k ∷ ks) h is = grind (arith, cases_Bool (p k), cases_Bool (eq_by_cmp R q k), tied q k, any_filter_from p q ks)
+  any_filter_from p q (k ∷ ks) h is = grind (cases, tied q k, any_filter_from p q ks)
 
   -- ---- sets
 
@@ -144,16 +147,16 @@ Within s ns = (q : List ℕ) → sets.contains s q ≡ true → list_any (eq_by_
 
 -- a test that all sets of some of the names pass holds of any set within them
 pub each_set : (ns : List (List ℕ)) (p : Names → Bool) → list_all p (sets_of ns) ≡ true → (s : Names) → Within s ns → p s ≡ true
-each_set [] p all s w = ap p (sets.same_set nat_list_cmp_total name_same s sets.empty (λ q. grind (arith, cases_Bool (sets.contains s q), w q, sets.contains-empty name_cmp q))) ∙ first_so (p sets.empty) true all
+each_set [] p all s w = ap p (sets.same_set nat_list_cmp_total name_same s sets.empty (λ q. grind (cases, w q, sets.contains-empty name_cmp q))) ∙ first_so (p sets.empty) true all
 each_set (n ∷ ns) p all s w =
     let both = sym (list_all-append p (sets_of ns) (map (λ t. sets.insert t n) (sets_of ns))) ∙ all in
     elim (cases_Bool (sets.contains s n)) [
-      | inr out ↦ each_set ns p (first_so (list_all p (sets_of ns)) _ both) s (λ q h. grind (arith, w q h, tied nat_list_cmp_total name_same q n, cases_Bool (eq_by_cmp name_cmp q n)))
+      | inr out ↦ each_set ns p (first_so (list_all p (sets_of ns)) _ both) s (λ q h. grind (cases, w q h, tied nat_list_cmp_total name_same q n))
       | inl is ↦
           ap p (sets.same_set nat_list_cmp_total name_same s (sets.insert (sets.remove s n) n) (λ q.
-          grind (arith, sets.contains-insert nat_list_cmp_total (sets.remove s n) n q, sets.contains-remove nat_list_cmp_total s n q, tied nat_list_cmp_total name_same q n, cases_Bool (eq_by_cmp name_cmp q n))))
+          grind (cases, sets.contains-insert nat_list_cmp_total (sets.remove s n) n q, sets.contains-remove nat_list_cmp_total s n q, tied nat_list_cmp_total name_same q n)))
           ∙ each_set ns (λ t. p (sets.insert t n)) (sym (list_all-map p (λ t. sets.insert t n) (sets_of ns)) ∙ second_so (list_all p (sets_of ns)) _ both) (sets.remove s n)
-          (λ q h. grind (arith, w q, sets.contains-remove nat_list_cmp_total s n q, cases_Bool (eq_by_cmp name_cmp q n), cases_Bool (sets.contains s q)))
+          (λ q h. grind (cases, w q, sets.contains-remove nat_list_cmp_total s n q))
     ]
 
 -- a test that holds of any set within some names is passed by all sets of them
@@ -161,4 +164,4 @@ pub all_sets : (ns : List (List ℕ)) (p : Names → Bool) → ((s : Names) → 
 all_sets [] p each = and_from (p sets.empty) true (each sets.empty (λ q h. clash (sets.contains {R = name_cmp} sets.empty q) h (sets.contains-empty name_cmp q))) refl
 all_sets (n ∷ ns) p each =
     list_all-append p (sets_of ns) (map (λ t. sets.insert t n) (sets_of ns)) ∙ and_from _ _ (all_sets ns p (λ s w. each s (λ q h. or_right _ _ (w q h))))
-    (list_all-map p (λ t. sets.insert t n) (sets_of ns) ∙ all_sets ns (λ t. p (sets.insert t n)) (λ s w. each (sets.insert s n) (λ q h. grind (arith, w q, sets.contains-insert nat_list_cmp_total s n q, cases_Bool (eq_by_cmp name_cmp q n)))))
+    (list_all-map p (λ t. sets.insert t n) (sets_of ns) ∙ all_sets ns (λ t. p (sets.insert t n)) (λ s w. each (sets.insert s n) (λ q h. grind (cases, w q, sets.contains-insert nat_list_cmp_total s n q))))

@@ -15,7 +15,7 @@ use Rattle.t1_algebra.specs.Interpreter.{same_bytes}
 use Rattle.t1_algebra.specs.Shared.{Shared, shared_of, ShellPart, EncodingPart, SubrsTable, all_parts, same_number, same_bool, same_word, same_words, same_part, differing_part}
 use Rattle.t1_algebra.proofs.JoinedStates.{constant}
 use Rattle.t1_algebra.proofs.Searching.{none_passes}
-use Rattle.t1_algebra.proofs.Sets.{name_same, tied, itself, cases_Option}
+use Rattle.t1_algebra.proofs.Sets.{name_same, tied, itself, cases_Option, cases}
 use Rattle.std.proofs.lemmas.Bool.{cases_Bool, not-false}
 
 -- ---- each test decides
@@ -32,7 +32,7 @@ module _ {X : Type 0} (t : X → X → Bool) where
 
   -- the test is the same in both orders
   pub swaps : Decides → (x y : X) → t x y ≡ t y x
-  swaps d x y = grind (arith, d.so x y, d.so y x, d.self x, cases_Bool (t x y), cases_Bool (t y x))
+  swaps d x y = grind (cases, d.so x y, d.so y x, d.self x)
 
 pub bytes_decide : Decides same_bytes
 bytes_decide = record { so = tied nat_list_cmp_total name_same; self = itself nat_list_cmp_total name_same }
@@ -41,7 +41,7 @@ pub numbers_decide : Decides same_number
 numbers_decide = record { so = tied nat_cmp_total nat_cmp-IsAntisymmetric; self = itself nat_cmp_total nat_cmp-IsAntisymmetric }
 
 pub bools_decide : Decides same_bool
-bools_decide = record { so = λ a b h. grind (arith, cases_Bool a, cases_Bool b); self = λ a. grind (arith, cases_Bool a) }
+bools_decide = record { so = λ a b h. grind cases; self = λ a. grind cases }
 
 -- tables of Subrs are the same if both are there or neither, they declare as many, and their words are the same
 subrs_so : (s t : Option SubrsShell) → is_some s ≡ is_some t → declared_count s ≡ declared_count t → same_words s t ≡ true → s ≡ t
@@ -56,7 +56,7 @@ subrs_so (Some s) (Some t) p d w =
     λ i. Some (record { declared = d i; rd = rd i; put = put i; closing = closing i })
 
 words_decide : Decides same_word
-words_decide = record { so = λ v w h. grind (arith, cases_Option v, cases_Option w, bytes_decide.so); self = λ v. grind (arith, cases_Option v, bytes_decide.self) }
+words_decide = record { so = λ v w h. grind (cases, bytes_decide.so); self = λ v. grind (cases, bytes_decide.self) }
 
 -- ---- what is shared
 

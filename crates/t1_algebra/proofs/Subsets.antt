@@ -14,7 +14,7 @@ use Rattle.t1_algebra.specs.Keep.{keep, kept, components, has, subset}
 use Rattle.t1_algebra.specs.States.{Agree, joined, is_called, is_sought, subr_state, is_stub, IsWithin, name_state, code_state, joined_font, Compatible, Join}
 use Rattle.t1_algebra.proofs.Kept.{InFont, keep_closed, kept_call, component_here_from, keep_union, kept_union}
 use Rattle.t1_algebra.proofs.Uses.{caller, seeker}
-use Rattle.t1_algebra.proofs.Sets.{clash, name_same, cases_Option}
+use Rattle.t1_algebra.proofs.Sets.{clash, name_same, cases_Option, cases}
 use Rattle.std.proofs.lemmas.Bool.{cases_Bool, false_from_ne_true}
 use Rattle.t1_font.specs.Maps.{map_values, merged}
 use Rattle.t1_font.specs.Joins.{join_encodings}
@@ -31,7 +31,7 @@ stub_is c h = (bytes_eq-Decides c stub).0 h
 
 -- what passes a test and has a value had the value before
 pub cond_some : {X : Type 0} (b : Bool) (x : Option X) (c : X) → cond b x None ≡ Some c → (b ≡ true) × (x ≡ Some c)
-cond_some b x c h = grind (arith, cases_Bool b)
+cond_some b x c h = grind cases
 
 -- fonts with equal parts are equal
 pub same_font : (f g : FontValue) → f.shell ≡ g.shell → f.encoding ≡ g.encoding → f.subrs ≡ g.subrs → f.glyphs ≡ g.glyphs → f ≡ g
@@ -55,7 +55,7 @@ module _ {O : Type 0} (m : Interpreter O) (f : FontValue) (base : has f notdef �
       → maps.get (subset m f a).subrs i ≡ maps.get f.subrs i
   subrs_alike n c k is i h =
       let stays = kept_call m f a i n k (ap (λ x. sets.contains (m.exec f.subrs (unwrap_or x [])) i) is ∙ h) in
-      grind (arith, get-subr i, stays, cases_Option (maps.get f.subrs i))
+      grind (cases, get-subr i, stays)
 
   -- a kept glyph runs as it does in the font
   pub runs_alike : (n c : List ℕ) → sets.contains (keep m f a) n ≡ true → maps.get f.glyphs n ≡ Some c
@@ -83,15 +83,15 @@ module _ {O : Type 0} (m : Interpreter O) (f : FontValue) (base : has f notdef �
 
   -- the state of a Subr that is not kept is the bottom
   pub bottom : (i : ℕ) → sets.contains (kept m f a) i ≡ false → subr_state m (subset m f a) i ≡ None
-  bottom i out = grind (arith, get-subr i, not_called i out, cases_Option (maps.get f.subrs i))
+  bottom i out = grind (cases, get-subr i, not_called i out)
 
   -- a name that a subset seeks and lacks is lacking in the font
   pub sought_lacks : (n : List ℕ) → has (subset m f a) n ≡ false → is_sought m (subset m f a) n ≡ true → has f n ≡ false
-  sought_lacks n lacks s = grind (arith, get-glyph n, not_sought n, cases_Bool (has f n), cases_Bool (sets.contains (keep m f a) n))
+  sought_lacks n lacks s = grind (cases, get-glyph n, not_sought n)
 
   -- the state of an entry in a subset
   pub subr_state_of : (i : ℕ) (c : List ℕ) → maps.get f.subrs i ≡ Some c → subr_state m (subset m f a) i ≡ cond (sets.contains (kept m f a) i && not (is_stub c && not (is_called m (subset m f a) i))) (Some c) None
-  subr_state_of i c is = grind (arith, get-subr i, is, not_called i, cases_Bool (sets.contains (kept m f a) i), cases_Bool (is_stub c), cases_Bool (is_called m (subset m f a) i))
+  subr_state_of i c is = grind (cases, get-subr i, is, not_called i)
 
 -- ---- limits
 
@@ -109,14 +109,14 @@ module _ {O : Type 0} (m : Interpreter O) (f : FontValue) (a : Names) where
 
 -- two cuts of one value join to what either test keeps
 pub joined_cond : {X : Type 0} (k l : Bool) (x : Option X) → joined (cond k x None) (cond l x None) ≡ cond (k || l) x None
-joined_cond k l x = grind (arith, cases_Bool k, cases_Bool l, cases_Option x)
+joined_cond k l x = grind cases
 
 -- two cuts of an Encoding agree at each code
 encodings_agree : (k l : Names) (e : Encoding) (c : ℕ) → Agree (code_state (restrict_encoding (sets.contains k) e) c) (code_state (restrict_encoding (sets.contains l) e) c)
 encodings_agree k l (Word w) c = tt
 encodings_agree k l (Codes t) c =
     let cut = λ (s : Names). get-retain nat_cmp_total nat_cmp-IsAntisymmetric t (λ c. sets.contains s (unwrap_or (maps.get t c) [])) c in
-    grind (arith, cut k, cut l, cases_Option (maps.get t c), cases_Bool (sets.contains k (unwrap_or (maps.get t c) [])), cases_Bool (sets.contains l (unwrap_or (maps.get t c) [])))
+    grind (cases, cut k, cut l)
 
 -- two cuts of an Encoding are the same word or both tables
 encodings_kind : (k l : Names) (e : Encoding) → SameKind (restrict_encoding (sets.contains k) e) (restrict_encoding (sets.contains l) e)
@@ -139,11 +139,11 @@ module _ {O : Type 0} (m : Interpreter O) (f : FontValue) (base : has f notdef �
   -- the states of each index agree in two subsets
   subrs_agree : (i : ℕ) (x : Option (List ℕ)) → maps.get f.subrs i ≡ x → Agree (subr_state m (subset m f a) i) (subr_state m (subset m f b) i)
   subrs_agree i None h = grind (arith, h, get-subr m f base a ia i, get-subr m f base b ib i)
-  subrs_agree i (Some c) h = grind (arith, subr_state_of m f base a ia i c h, subr_state_of m f base b ib i c h, cases_Bool (sets.contains (kept m f a) i && not (is_stub c && not (is_called m (subset m f a) i))), cases_Bool (sets.contains (kept m f b) i && not (is_stub c && not (is_called m (subset m f b) i))))
+  subrs_agree i (Some c) h = grind (cases, subr_state_of m f base a ia i c h, subr_state_of m f base b ib i c h)
 
   -- the states of each name agree in two subsets
   names_agree : (n : List ℕ) → Agree (name_state m (subset m f a) n) (name_state m (subset m f b) n)
-  names_agree n = grind (arith, get-glyph m f base a ia n, get-glyph m f base b ib n, not_sought m f base a ia n, not_sought m f base b ib n, cases_Option (maps.get f.glyphs n), cases_Bool (sets.contains (keep m f a) n), cases_Bool (sets.contains (keep m f b) n), cases_Bool (is_sought m (subset m f a) n), cases_Bool (is_sought m (subset m f b) n))
+  names_agree n = grind (cases, get-glyph m f base a ia n, get-glyph m f base b ib n, not_sought m f base a ia n, not_sought m f base b ib n)
 
   -- ---- the joined font
 
@@ -166,7 +166,7 @@ module _ {O : Type 0} (m : Interpreter O) (f : FontValue) (base : has f notdef �
 
   subr_join : (i : ℕ) (x : Option (List ℕ)) → maps.get f.subrs i ≡ x → option_map (λ c. value i) (option_map (λ c. cond (sets.contains (kept m f a) i) c stub) x) ≡ option_map (λ c. cond (sets.contains both i) c stub) x
   subr_join i None h = refl
-  subr_join i (Some c) h = grind (arith, subr_state_of m f base a ia i c h, subr_state_of m f base b ib i c h, stub_is c, sets.contains-union nat_cmp_total (kept m f a) (kept m f b) i, cases_Bool (sets.contains (kept m f a) i), cases_Bool (sets.contains (kept m f b) i), cases_Bool (is_stub c), cases_Bool (is_called m (subset m f a) i), cases_Bool (is_called m (subset m f b) i))
+  subr_join i (Some c) h = grind (cases, subr_state_of m f base a ia i c h, subr_state_of m f base b ib i c h, stub_is c, sets.contains-union nat_cmp_total (kept m f a) (kept m f b) i)
 
   -- two subsets have together the entries of the Subrs that either keeps
   subrs_join : map_values (λ i c. value i) (subset m f a).subrs ≡ map_values (λ i c. cond (sets.contains both i) c stub) f.subrs
@@ -184,7 +184,7 @@ module _ {O : Type 0} (m : Interpreter O) (f : FontValue) (base : has f notdef �
 
   -- a subset has entries at the indices at which the font has them
   pub presence : (a : Names) (ia : InFont m f a) (i : ℕ) → maps.contains_key (subset m f a).subrs i ≡ maps.contains_key f.subrs i
-  presence a ia i = grind (arith, get-subr m f base a ia i, cases_Option (maps.get f.subrs i))
+  presence a ia i = grind (cases, get-subr m f base a ia i)
 
   -- two subsets of a font are compatible
   pub subsets_compatible : Compatible m (subset m f a) (subset m f b)

@@ -20,7 +20,7 @@ use Rattle.t1_join.specs.Meaning.{Meaning, meaning_cmp, of_number, by_number_law
 use Rattle.t1_join.specs.Join.{joined_state, State, states_agree}
 use Rattle.t1_join.specs.TableLaws.{get_joined, same_table}
 use Rattle.t1_algebra.proofs.Maps.{get-merged}
-use Rattle.t1_algebra.proofs.Sets.{cases_Option, name_same}
+use Rattle.t1_algebra.proofs.Sets.{cases_Option, name_same, cases}
 use Rattle.std.specs.List.{list_any, AllByRecursion}
 use Rattle.t1_join.specs.StateLaws.{same_meaning-true, same_meaning-self}
 use Rattle.t1_font.proofs.MapLemmas.{get-map_values, entries-map_values, entries_all}
@@ -204,7 +204,7 @@ numbered-merged m n = numbered_is _ (merged m n) (λ q. get_joined (numbered m) 
   where
     at : (q : Meaning) → joined_state (at_number (maps.get m) q) (at_number (maps.get n) q) ≡ at_number (maps.get (merged m n)) q
     at [] = refl
-    at (k ∷ []) = grind (arith, get-merged nat_cmp_total nat_cmp-IsAntisymmetric m n k, cases_Option (maps.get m k))
+    at (k ∷ []) = grind (cases, get-merged nat_cmp_total nat_cmp-IsAntisymmetric m n k)
     at (a ∷ b ∷ rest) = refl
 
 -- what the charstring of a glyph means in a table
@@ -232,15 +232,15 @@ module _ (g : Named) (s : TableMeaning) (are : AreSought s) (t : TableMeaning) (
 
   -- the charstring of a name is its glyph's
   pub charstring_in : behind_mark (maps.get t n) ≡ maps.get g n
-  charstring_in = grind (arith, at, are n, cases_Option (maps.get g n), cases_Option (maps.get s n))
+  charstring_in = grind (cases, at, are n)
 
   -- a name is sought if it has no glyph and is one of the sought names
   pub seeks_in : is_sought_in (maps.get t n) ≡ (not (maps.contains_key g n) && maps.contains_key s n)
-  seeks_in = grind (arith, at, are n, cases_Option (maps.get g n), cases_Option (maps.get s n))
+  seeks_in = grind (cases, at, are n)
 
   -- a name has a state if it has a glyph or is one of the sought names
   pub has_in : maps.contains_key t n ≡ (maps.contains_key g n || maps.contains_key s n)
-  has_in = grind (arith, at, cases_Option (maps.get g n))
+  has_in = grind (cases, at)
 
   -- if a name has no glyph, it has a state if it is one of the sought names
   pub has_else : (b y : Bool) → b ≡ is_some (behind_mark (maps.get t n)) → b ≡ false → y ≡ maps.contains_key s n → y ≡ maps.contains_key t n
@@ -294,32 +294,15 @@ module _ (p : List ℕ → Bool) where
 module _ (g : Named) (s : TableMeaning) (are : AreSought s) (t : TableMeaning) (is : names_table g s ≡ t) (h : Named) (r : TableMeaning) (seek : AreSought r) (u : TableMeaning) (so : names_table h r ≡ u) where
   -- sought names agree with sought names
   pub sought_agree : TablesAgree s r
-  sought_agree n = grind (arith, are n, seek n, cases_Option (maps.get s n), cases_Option (maps.get r n), same_meaning-self)
+  sought_agree n = grind (cases, are n, seek n, same_meaning-self)
 
   -- the table of joined glyphs and joined sought names is the joined table
   pub names_join : (j : Named) (k : TableMeaning) → j ≡ merged g h → k ≡ joined_table s r → TablesAgree t u → names_table j k ≡ joined_table t u
-  names_join j k ej ek a = same_table (names_table j k) (joined_table t u) (λ n. grind (
-    arith,
-    get-name j k n,
-    ej,
-    ek,
-    get-merged nat_list_cmp_total name_same g h n,
-    get_joined s r n,
-    get_joined t u n,
-    at g s are t is n,
-    at h r seek u so n,
-    a n,
-    are n,
-    same_meaning-true,
-    cases_Option (maps.get g n),
-    cases_Option (maps.get h n),
-    cases_Option (maps.get s n),
-    cases_Option (maps.get r n),
-  ))
+  names_join j k ej ek a = same_table (names_table j k) (joined_table t u) (λ n. grind (cases, get-name j k n, ej, ek, get-merged nat_list_cmp_total name_same g h n, get_joined s r n, get_joined t u n, at g s are t is n, at h r seek u so n, a n, are n, same_meaning-true))
 
   -- joined sought names are sought names
   pub are_joined : (k : TableMeaning) → k ≡ joined_table s r → AreSought k
-  are_joined k e n v has = grind (arith, e, has, get_joined s r n, are n, seek n, cases_Option (maps.get s n))
+  are_joined k e n v has = grind (cases, e, has, get_joined s r n, are n, seek n)
 
 -- ---- weights
 
@@ -331,7 +314,7 @@ total_valued w (e ∷ es) = ap (λ n. w e.0 (name_meaning (Some e.1)) + n) (tota
 -- entries that weigh nothing sum to nothing
 total_none : (w : Meaning → Meaning → ℕ) (p : Meaning × Meaning → Bool) (es : List (Meaning × Meaning)) → AllByRecursion (λ e. w e.0 e.1 ≡ 0) es → total w (filter p es) ≡ 0
 total_none w p [] h = refl
-total_none w p (e ∷ es) h = grind (arith, cases_Bool (p e), h.0, total_none w p es h.1)
+total_none w p (e ∷ es) h = grind (cases, h.0, total_none w p es h.1)
 
 -- new entries sum to what all entries do, if those that are no new ones count nothing
 total_masked : (w : Meaning → Meaning → ℕ) (m : TableMeaning) (es : List (Meaning × Meaning)) → total w (new_entries m es) ≡ total (λ n v. cond (maps.contains_key m n) 0 (w n v)) es
@@ -351,7 +334,7 @@ module _ (g : Named) (s : TableMeaning) (are : AreSought s) where
   pub new_names_total : (w : Meaning → Meaning → ℕ) → ((n : Meaning) → w n [] ≡ 0) → (own : TableMeaning) → total w (new_entries own (maps.entries (names_table g s))) ≡ total (λ n c. w n (name_meaning (Some c))) (new_entries own (maps.entries g))
   new_names_total w none own =
       total_masked w own (maps.entries (names_table g s))
-      ∙ names_total (λ n v. cond (maps.contains_key own n) 0 (w n v)) (λ n. grind (arith, none n, cases_Bool (maps.contains_key own n)))
+      ∙ names_total (λ n v. cond (maps.contains_key own n) 0 (w n v)) (λ n. grind (cases, none n))
       ∙ sym (total_masked (λ n c. w n (name_meaning (Some c))) own (maps.entries g))
 
 -- ---- sought names, as the code puts them in
@@ -362,7 +345,7 @@ with_sought t es q = cond (list_any (eq_by_cmp meaning_cmp q) (map (λ e. e.0) e
 
 -- putting in the next name leaves the state in the end as it was
 pub sought_next : (t u : TableMeaning) (e : Meaning × Meaning) (es : List (Meaning × Meaning)) (q : Meaning) → u ≡ maps.insert t e.0 [] → with_sought u es q ≡ with_sought t (e ∷ es) q
-sought_next t u e es q is = grind (arith, is, maps.get-insert nat_list_cmp_total t e.0 [] q, cases_Bool (eq_by_cmp meaning_cmp q e.0), cases_Bool (list_any (eq_by_cmp meaning_cmp q) (map (λ e. e.0) es)))
+sought_next t u e es q is = grind (cases, is, maps.get-insert nat_list_cmp_total t e.0 [] q)
 
 -- once the names of all seekers are put in, each of them is sought
 pub sought_all : (t s : TableMeaning) (es : List (Meaning × Meaning)) (q : Meaning) → t ≡ maps.empty → es ≡ maps.entries s → with_sought t es q ≡ cond (maps.contains_key s q) (Some []) None
@@ -370,4 +353,4 @@ sought_all t s es q none e = ap (λ es. with_sought t es q) e ∙ (λ i. cond (s
 
 -- names that are put in are sought
 pub only_sought : (s seekers : TableMeaning) → ((q : Meaning) → maps.get s q ≡ cond (maps.contains_key seekers q) (Some []) None) → AreSought s
-only_sought s seekers h n v is = grind (arith, h n, cases_Bool (maps.contains_key seekers n))
+only_sought s seekers h n v is = grind (cases, h n)

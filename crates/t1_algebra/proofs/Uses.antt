@@ -10,7 +10,7 @@ use Rattle.t1_font.specs.FontValue.{FontValue}
 use Rattle.t1_algebra.specs.Interpreter.{Interpreter, same_bytes}
 use Rattle.t1_algebra.specs.Keep.{has, components}
 use Rattle.t1_algebra.specs.States.{executed_at, executes, called_at, calls_for, is_called, is_sought}
-use Rattle.t1_algebra.proofs.Sets.{name_same, any_one, any_at, cases_Option}
+use Rattle.t1_algebra.proofs.Sets.{name_same, any_one, any_at, cases_Option, cases}
 use Rattle.std.proofs.lemmas.Bool.{or_cases, or_left, or_right}
 
 -- what is there is some value
@@ -39,11 +39,11 @@ module _ (p : FontValue → List ℕ → Bool) (there : (h : FontValue) (n : Lis
 module _ {O : Type 0} (m : Interpreter O) (f : FontValue) where
   -- a charstring that executes an index is there
   pub executing_there : (i : ℕ) (x : Option (List ℕ)) → executed_at m f i x ≡ true → is_some x ≡ true
-  executing_there i x h = grind (arith, cases_Option x)
+  executing_there i x h = grind cases
 
   -- a charstring that names a component is there
   pub naming_there : (p : List ℕ) (x : Option (List ℕ)) → called_at m f p x ≡ true → is_some x ≡ true
-  naming_there p x h = grind (arith, cases_Option x)
+  naming_there p x h = grind cases
 
 module _ {O : Type 0} (m : Interpreter O) (f : FontValue) where
   -- an index that a charstring of the font executes is called

@@ -26,7 +26,7 @@ use Rattle.t1_algebra.proofs.Kept.{keep_closed, keep_more, kept_more, kept_union
 use Rattle.t1_algebra.proofs.ManyMerges.{alike_trans, each_font}
 use Rattle.t1_join.proofs.OrderLemmas.{leaves_from_left}
 use Rattle.t1_algebra.proofs.ManyMerges.{all_merge}
-use Rattle.t1_algebra.proofs.Sets.{clash, in_union, name_same, cases_Option}
+use Rattle.t1_algebra.proofs.Sets.{clash, in_union, name_same, cases_Option, cases}
 use Rattle.t1_algebra.proofs.rejoining.Truncated.{WordsOf, words_empty, get_nothing, get_font, largest_fits, all_fit, Fits, cut_subset, evened_is, KeepsBelow, keep_same, subrs_below, runs_below, first_of}
 use Rattle.t1_algebra.proofs.Subsets.{cond_some}
 
@@ -58,7 +58,7 @@ module _ (f : FontValue) (h : IsFont f) (most : ℕ) (fits : most ≤ declared_c
   -- if the shared font has no entries, the subset has none
   no_entries_there : maps.entries (first_of most f).subrs ≡ [] → maps.entries t.font.subrs ≡ []
   no_entries_there e = entries_none t.font.subrs (λ q.
-      grind (arith, get_font f t w q, get_first q, get_nothing (first_of most f).subrs e q, le, ltb-true q t.count, lt-ltb q most, cases_Option (maps.get f.subrs q), cases_Bool (nat_lt q t.count), cases_Bool (nat_lt q most)))
+      grind (cases, get_font f t w q, get_first q, get_nothing (first_of most f).subrs e q, le, ltb-true q t.count, lt-ltb q most))
 
   -- the words of a table fit the entries of the cut font
   words_first : (s : SubrsShell) → (maps.entries (first_of most f).subrs ≡ [] → WordsOf [] (Some s)) → SubrsFit f.shell (Some s) f.subrs → (es : List (ℕ × List ℕ)) → maps.entries (first_of most f).subrs ≡ es → SubrWords es (declares most s)
@@ -70,7 +70,7 @@ module _ (f : FontValue) (h : IsFont f) (most : ℕ) (fits : most ≤ declared_c
   -- the table of Subrs fits in the cut font
   subrs_fit : (o : Option SubrsShell) → SubrsFit f.shell o f.subrs → most ≤ declared_count o → (maps.entries (first_of most f).subrs ≡ [] → WordsOf [] o) → SubrsFit (first_of most f).shell (option_map (declares most) o) (first_of most f).subrs
   subrs_fit None fit few empty =
-      (entries_none (first_of most f).subrs (λ q. grind (arith, get_first q, get_nothing f.subrs fit.0 q, cases_Bool (nat_lt q most))), fit.1)
+      (entries_none (first_of most f).subrs (λ q. grind (cases, get_first q, get_nothing f.subrs fit.0 q)), fit.1)
   subrs_fit (Some s) fit few empty = record {
     declared = omega (arith, few, fit.declared);
     below = λ q c e. ltb-true q most (had q c e).0;
@@ -131,7 +131,7 @@ module _ (f : FontValue) (h : IsFont f) (most : ℕ) where
     component_there : (n c p : List ℕ) → sets.contains (keep profile f a) n ≡ true → maps.get f.glyphs n ≡ Some c → list_any (same_bytes p) (components profile f.subrs c) ≡ true → component_outcome profile (first_of most f) p ≡ component_outcome profile f p
     component_there n c p k is e =
         let part = λ (d : has f p ≡ true). (keep_closed profile f a h.glyphs.notdef inside).components n p k (component_here_from profile f n p (ap (λ x. list_any (same_bytes p) (components profile f.subrs (unwrap_or x []))) is ∙ e) d) in
-        grind (arith, part, runs_below profile f h.glyphs.notdef most a inside low p, cases_Option (maps.get f.glyphs p))
+        grind (cases, part, runs_below profile f h.glyphs.notdef most a inside low p)
 
     -- a kept glyph draws alike in the cut font
     pub start_alike : (n : List ℕ) → sets.contains (keep profile f a) n ≡ true → DrawsAlike f (first_of most f) n

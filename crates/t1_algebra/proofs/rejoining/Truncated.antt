@@ -9,7 +9,7 @@ use Rattle.t1_algebra.specs.Interpreter.{Interpreter, Names}
 use Rattle.t1_algebra.specs.Keep.{keep, kept, components_here, has, charstring, subset}
 use Rattle.t1_algebra.specs.Rejoins.{cut_to, without_tag, declares, Truncated, IsTruncated, fonts_of, sets_of, largest, shared_font}
 use Rattle.t1_algebra.proofs.Kept.{InFont, keep_has, kept_call, keep_alike, kept_alike}
-use Rattle.t1_algebra.proofs.Sets.{cases_Option, clash, any_append, any_append_left, any_append_right, any_filter, any_filter_from}
+use Rattle.t1_algebra.proofs.Sets.{cases_Option, clash, any_append, any_append_left, any_append_right, any_filter, any_filter_from, cases}
 use Rattle.std.specs.List.{list_any, AllByRecursion}
 use Rattle.std.specs.Ordering.{eq_by_cmp}
 use Rattle.t1_font.specs.IsFont.{IsFont, SubrsFit, SubrWords}
@@ -34,7 +34,7 @@ KeepsBelow m f count a = (i : ℕ) → sets.contains (kept m f a) i ≡ true →
 module _ {O : Type 0} (m : Interpreter O) (f : FontValue) (base : has f notdef ≡ true) (count : ℕ) (a : Names) (inside : InFont m f a) (low : KeepsBelow m f count a) where
   -- the Subrs that a kept glyph executes are as before
   pub subrs_below : (n : List ℕ) → sets.contains (keep m f a) n ≡ true → (i : ℕ) → sets.contains (m.exec f.subrs (charstring f n)) i ≡ true → maps.get (first_of count f).subrs i ≡ maps.get f.subrs i
-  subrs_below n k i w = grind (arith, get-retain nat_cmp_total nat_cmp-IsAntisymmetric f.subrs (λ i. nat_lt i count) i, low i (kept_call m f a i n k w), lt-ltb i count, cases_Option (maps.get f.subrs i), cases_Bool (nat_lt i count))
+  subrs_below n k i w = grind (cases, get-retain nat_cmp_total nat_cmp-IsAntisymmetric f.subrs (λ i. nat_lt i count) i, low i (kept_call m f a i n k w), lt-ltb i count)
 
   -- a kept glyph runs in the cut font as before
   pub runs_below : (n : List ℕ) → sets.contains (keep m f a) n ≡ true → (m.direct (first_of count f).subrs (charstring f n) ≡ m.direct f.subrs (charstring f n)) × (m.exec (first_of count f).subrs (charstring f n) ≡ m.exec f.subrs (charstring f n))
@@ -73,15 +73,7 @@ module _ (f : FontValue) (h : IsFont f) (n : ℕ) (a : Names) (inside : IsOf f a
   names_same = keep_same profile f h.glyphs.notdef n a inside low
 
   subrs_same : (q : ℕ) → maps.get (subset profile (first_of n f) a).subrs q ≡ maps.get (maps.retain_keys (subset profile f a).subrs (λ i. nat_lt i n)) q
-  subrs_same q = grind (
-    arith,
-    get-map_values nat_cmp_total nat_cmp-IsAntisymmetric (keeps (first_of n f) a) (first_of n f).subrs q,
-    get-retain nat_cmp_total nat_cmp-IsAntisymmetric f.subrs (λ i. nat_lt i n) q,
-    get_cut f n a q,
-    kept_same profile f h.glyphs.notdef n a inside low,
-    cases_Bool (nat_lt q n),
-    cases_Option (maps.get f.subrs q),
-  )
+  subrs_same q = grind (cases, get-map_values nat_cmp_total nat_cmp-IsAntisymmetric (keeps (first_of n f) a) (first_of n f).subrs q, get-retain nat_cmp_total nat_cmp-IsAntisymmetric f.subrs (λ i. nat_lt i n) q, get_cut f n a q, kept_same profile f h.glyphs.notdef n a inside low)
 
   -- the subset of the cut font is the subset, without its tag and cut as the font is
   pub cut_subset : subset profile (first_of n f) a ≡ cut_to n (without_tag (subset profile f a))
@@ -143,7 +135,7 @@ module _ (f : FontValue) where
   reached most [] w q lt is = absurd (omega (arith, lt))
   reached most (t ∷ ts) w q lt is = elim (cases_Bool (nat_lt q t.count)) [
     | inl b ↦ any_append_left (eq_by_cmp nat_cmp q) (maps.keys t.font.subrs) (all_indices most ts)
-        (grind (arith, b, is, maps.contains_key-keys t.font.subrs q, get_font t w.0 q, cases_Option (maps.get f.subrs q)))
+        (grind (cases, b, is, maps.contains_key-keys t.font.subrs q, get_font t w.0 q))
     | inr b ↦ any_append_right (eq_by_cmp nat_cmp q) (maps.keys t.font.subrs) (all_indices most ts)
         (reached most ts w.1 q (omega (arith, lt, ltb-false q t.count b)) is)
   ]
@@ -152,7 +144,7 @@ module _ (f : FontValue) where
   from_indices : (most : ℕ) (ts : List Truncated) → AllByRecursion (IsTruncated f) ts → (q : ℕ) → listed q (all_indices most ts) ≡ true → maps.contains_key f.subrs q ≡ true
   from_indices most [] w q l = clash false l refl
   from_indices most (t ∷ ts) w q l = elim (any_append (eq_by_cmp nat_cmp q) (maps.keys t.font.subrs) (all_indices most ts) l) [
-    | inl a ↦ grind (arith, a, maps.contains_key-keys t.font.subrs q, get_font t w.0 q, cases_Option (maps.get f.subrs q), cases_Bool (nat_lt q t.count))
+    | inl a ↦ grind (cases, a, maps.contains_key-keys t.font.subrs q, get_font t w.0 q)
     | inr b ↦ from_indices most ts w.1 q b
   ]
 
@@ -195,7 +187,7 @@ get_nothing m e q = maps.get-entries m q ∙ ap (maps.find nat_cmp q) e
 
 -- nothing is left of nothing, by either test
 pub none_either_way : {X : Type 0} (b : Bool) → ◌≡◌ {A = Option X} (cond b None None) None
-none_either_way b = grind (arith, cases_Bool b)
+none_either_way b = grind cases
 
 -- a font with entries has a table, so a cut to n declares n
 has_table : (s : Shell) (o : Option SubrsShell) (m : Numbered) → SubrsFit s o m → (q : ℕ) → maps.contains_key m q ≡ true → (n : ℕ) → n ≤ declared_count o → declared_count (option_map (declares n) o) ≡ n
@@ -259,7 +251,7 @@ module _ (f : FontValue) (h : IsFont f) (most : ℕ) (fits : most ≤ declared_c
 
     -- the entry of a truncated subset, or else a stub, is the entry of the subset cut to the largest count
     value_same : (q : ℕ) → joined (entry_in f t.names t.count q (maps.get f.subrs q)) (cond (is_in q) (Some stub) None) ≡ entry_in f t.names most q (maps.get f.subrs q)
-    value_same q = grind (arith, outside q, above q, under q, w.kept q, le, lt-ltb q t.count, ltb-true q t.count, lt-ltb q most, ltb-true q most, cases_Option (maps.get f.subrs q), cases_Bool (nat_lt q most), cases_Bool (nat_lt q t.count), cases_Bool (is_in q), cases_Bool (sets.contains (kept profile f t.names) q))
+    value_same q = grind (cases, outside q, above q, under q, w.kept q, le, lt-ltb q t.count, ltb-true q t.count, lt-ltb q most, ltb-true q most)
 
     -- the font that is made even has the entry of the subset cut to the largest count at each index
     filled_at : (es : List (ℕ × List ℕ)) → maps.entries t.font.subrs ≡ es → (q : ℕ) → maps.get (with_stubs inside t.font.subrs es) q ≡ entry_in f t.names most q (maps.get f.subrs q)

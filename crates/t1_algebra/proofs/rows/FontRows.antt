@@ -11,7 +11,7 @@ use Rattle.t1_font.specs.Cut.{stub}
 use Rattle.t1_font.specs.FontValue.{FontValue, Shell, Encoding, Word, name_cmp, notdef, Codes}
 use Rattle.t1_algebra.specs.Interpreter.{Interpreter, Names, same_bytes}
 use Rattle.t1_algebra.specs.Keep.{sets_of, charstring, has, components_here, is_closed, is_needed, keep, called_by, kept}
-use Rattle.t1_algebra.proofs.Sets.{name_same, all_at, all_from, any_one, any_at, in_list, from_in_list, any_flat_map, cases_Option}
+use Rattle.t1_algebra.proofs.Sets.{name_same, all_at, all_from, any_one, any_at, in_list, from_in_list, any_flat_map, cases_Option, cases}
 use Rattle.std.proofs.lemmas.List.Folds.{list_all-append, list_all-map}
 use Rattle.t1_font.specs.Maps.{map_values, merged}
 use Rattle.t1_font.specs.Entries.{last_entries}
@@ -214,7 +214,7 @@ state_by called None = None
 state_by called (Some c) = cond (is_stub c && not called) None (Some c)
 
 by_call : (j : FontValue) (i : ℕ) (x : Option (List ℕ)) → state_of_entry spelled j i x ≡ state_by (is_called spelled j i) x
-by_call j i x = grind (arith, cases_Option x)
+by_call j i x = grind cases
 
 module _ (e : Encoding) (ss : List (ℕ × List ℕ)) (es : List (List ℕ × List ℕ)) (hs : T (is_sorted nat_cmp ss)) (h : T (is_sorted name_cmp es)) where
   -- some charstring of the list has the byte
