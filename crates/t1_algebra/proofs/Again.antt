@@ -16,16 +16,14 @@ use Rattle.t1_algebra.proofs.Sets.{name_same, same_members, cases_Option, cases}
 use Rattle.t1_algebra.proofs.Kept.{InFont, keep_has, keep_least, keep_closed, component_here, component_here_from, kept_more, calls, keep_alike, kept_alike}
 use Rattle.std.proofs.lemmas.Bool.{cases_Bool}
 use Rattle.t1_algebra.proofs.Uses.{has_some}
-use Rattle.t1_algebra.proofs.Subsets.{get-glyph, runs_alike, same_font}
+use Rattle.t1_algebra.proofs.Subsets.{get-glyph, runs_alike, same_font, same_encoding, get-code}
+use Rattle.t1_algebra.specs.States.{code_state}
 
 -- ---- a cut of a cut
 
 module _ (p q : List ℕ → Bool) (more : (n : List ℕ) → p n ≡ true → q n ≡ true) where
   encoding_twice : (e : Encoding) → restrict_encoding p (restrict_encoding q e) ≡ restrict_encoding p e
-  encoding_twice (Word w) = refl
-  encoding_twice (Codes t) =
-      let once = λ (c : ℕ). q (unwrap_or (maps.get t c) []) in
-      ap Codes (maps.same_map nat_cmp_total nat_cmp-IsAntisymmetric _ _ (λ c. grind (cases, get-retain nat_cmp_total nat_cmp-IsAntisymmetric t once c, get-retain nat_cmp_total nat_cmp-IsAntisymmetric t (λ c. p (unwrap_or (maps.get t c) [])) c, get-retain nat_cmp_total nat_cmp-IsAntisymmetric (maps.retain_keys t once) (λ c. p (unwrap_or (maps.get (maps.retain_keys t once) c) [])) c, more (unwrap_or (maps.get t c) []))))
+  encoding_twice e = same_encoding _ _ (grind cases) (λ c. grind (cases, get-code p (restrict_encoding q e) c, get-code q e c, get-code p e c, more (unwrap_or (code_state e c) [])))
 
 -- a font cut to q and then to p is the font cut to p, if p is narrower than q
 pub restrict_twice : (p q : List ℕ → Bool) (r s : ℕ → Bool) (f : FontValue) → ((n : List ℕ) → p n ≡ true → q n ≡ true) → ((i : ℕ) → r i ≡ true → s i ≡ true)
@@ -34,8 +32,8 @@ restrict_twice p q r s f more most =
     let stubs = λ (t : ℕ → Bool) (g : FontValue) (i : ℕ). get-map_values nat_cmp_total nat_cmp-IsAntisymmetric (λ i c. cond (t i) c stub) g.subrs i in
     let glyphs = λ (t : List ℕ → Bool) (g : FontValue) (n : List ℕ). get-retain nat_list_cmp_total name_same g.glyphs t n in
     same_font _ _ refl (encoding_twice p q more f.encoding)
-    (maps.same_map nat_cmp_total nat_cmp-IsAntisymmetric _ _ (λ i. grind (cases, stubs r (restrict q s f) i, stubs s f i, stubs r f i, most i)))
-    (maps.same_map nat_list_cmp_total name_same _ _ (λ n. grind (cases, glyphs p (restrict q s f) n, glyphs q f n, glyphs p f n, more n)))
+    (λ i. grind (cases, stubs r (restrict q s f) i, stubs s f i, stubs r f i, most i))
+    (λ n. grind (cases, glyphs p (restrict q s f) n, glyphs q f n, glyphs p f n, more n))
 
 -- ---- what a subset keeps
 

@@ -349,5 +349,5 @@ module _ {O : Type 0} (m : Interpreter O) where
     font_known =
         let shared = shared_to f g (ap (λ (s : StatesValue). s.0) e) in
         same_font f g shared.shells (encoding_known f.encoding g.encoding (ap (λ (s : StatesValue). s.0.1.0) e) (ap code_part e))
-        (maps.same_map nat_cmp_total nat_cmp-IsAntisymmetric f.subrs g.subrs (λ i. grind (cases, same_subr i, shared.present i, stub_is)))
-        (maps.same_map nat_list_cmp_total name_same f.glyphs g.glyphs (λ n. sym (glyph_known f n) ∙ ap (λ (t : TableMeaning). behind_mark (maps.get t n)) (ap name_part e) ∙ glyph_known g n))
+        (λ i. grind (cases, same_subr i, shared.present i, stub_is))
+        (λ n. sym (glyph_known f n) ∙ ap (λ (t : TableMeaning). behind_mark (maps.get t n)) (ap name_part e) ∙ glyph_known g n)

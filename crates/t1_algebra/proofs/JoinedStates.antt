@@ -13,7 +13,7 @@ use Rattle.t1_algebra.specs.States.{executes, calls_for, Agree, joined, is_calle
 use Rattle.t1_algebra.proofs.Maps.{get-merged, agree_back, joined_back}
 use Rattle.t1_algebra.proofs.Uses.{some_joined, executing_there, naming_there, calls_it}
 use Rattle.t1_algebra.proofs.Sets.{name_same, cases_Option, cases}
-use Rattle.t1_algebra.proofs.Subsets.{same_font, stub_is}
+use Rattle.t1_algebra.proofs.Subsets.{same_font, stub_is, same_encoding, code_joined}
 use Rattle.t1_algebra.specs.JoinedEntries.{EntriesJoin}
 use Rattle.std.specs.FinSet as sets
 use Rattle.std.specs.FinMap as maps
@@ -21,39 +21,24 @@ use Rattle.std.proofs.lemmas.Bool.{cases_Bool}
 
 -- ---- both orders
 
--- two Encodings are of one kind in both orders
-kind_back : (d e : Encoding) → SameKind d e → SameKind e d
-kind_back (Word v) (Word w) h = sym h
-kind_back (Word v) (Codes t) h = absurd h
-kind_back (Codes s) (Word w) h = absurd h
-kind_back (Codes s) (Codes t) h = tt
-
 -- two fonts are compatible in both orders
 pub compatible_back : {O : Type 0} (m : Interpreter O) (f g : FontValue) → Compatible m f g → Compatible m g f
 compatible_back m f g c = record {
   shells = sym c.shells;
   present = λ i. sym (c.present i);
-  kinds = kind_back f.encoding g.encoding c.kinds;
+  kinds = grind (cases, c.kinds);
   subrs = λ i. agree_back (subr_state m f i) (subr_state m g i) (c.subrs i);
   names = λ n. agree_back (name_state m f n) (name_state m g n) (c.names n);
   codes = λ k. agree_back (code_state f.encoding k) (code_state g.encoding k) (c.codes k);
 }
 
 -- two Encodings that agree join to the same in both orders
-encodings_back : (d e : Encoding) → SameKind d e → ((c : ℕ) → Agree (code_state d c) (code_state e c)) → join_encodings d e ≡ join_encodings e d
-encodings_back (Word v) (Word w) h a = ap Word h
-encodings_back (Word v) (Codes t) h a = absurd h
-encodings_back (Codes s) (Word w) h a = absurd h
-encodings_back (Codes s) (Codes t) h a = ap Codes (maps.same_map nat_cmp_total nat_cmp-IsAntisymmetric _ _ (λ c.
-    get-merged nat_cmp_total nat_cmp-IsAntisymmetric s t c ∙ joined_back (maps.get s c) (maps.get t c) (a c) ∙ sym (get-merged nat_cmp_total nat_cmp-IsAntisymmetric t s c)))
+encodings_back : (d e : Encoding) → SameKind d e → SameKind e d → ((c : ℕ) → Agree (code_state d c) (code_state e c)) → join_encodings d e ≡ join_encodings e d
+encodings_back d e h k a = same_encoding _ _ (grind (cases, h)) (λ c. grind (cases, code_joined d e h c, code_joined e d k c, a c))
 
 -- the charstrings of each name agree in compatible fonts
 pub glyph_agree : {O : Type 0} (m : Interpreter O) (f g : FontValue) → Compatible m f g → (n : List ℕ) → Agree (maps.get f.glyphs n) (maps.get g.glyphs n)
 glyph_agree m f g c n = grind (cases, c.names n)
-
--- one value stands wherever there is a value
-pub constant : {X Y Z : Type 0} (z : Z) (x : Option X) (y : Option Y) → is_some x ≡ is_some y → option_map (λ v. z) x ≡ option_map (λ v. z) y
-constant z x y h = grind cases
 
 module _ {O : Type 0} (m : Interpreter O) (f g : FontValue) where
   -- the entry of a Subr in the join
@@ -70,10 +55,9 @@ module _ {O : Type 0} (m : Interpreter O) (f g : FontValue) where
 
 -- compatible fonts join to the same font in both orders
 pub font_back : {O : Type 0} (m : Interpreter O) (f g : FontValue) → Compatible m f g → joined_font m f g ≡ joined_font m g f
-font_back m f g c = same_font (joined_font m f g) (joined_font m g f) c.shells (encodings_back f.encoding g.encoding c.kinds c.codes)
-    (maps.same_map nat_cmp_total nat_cmp-IsAntisymmetric _ _ (λ i. subr_in_join m f g i ∙ constant (entry m f g i) (maps.get f.subrs i) (maps.get g.subrs i) (c.present i)
-    ∙ ap (λ x. option_map (λ v. unwrap_or x stub) (maps.get g.subrs i)) (joined_back (subr_state m f i) (subr_state m g i) (c.subrs i)) ∙ sym (subr_in_join m g f i)))
-    (maps.same_map nat_list_cmp_total name_same _ _ (λ n. glyph_in_join m f g n ∙ joined_back (maps.get f.glyphs n) (maps.get g.glyphs n) (glyph_agree m f g c n) ∙ sym (glyph_in_join m g f n)))
+font_back m f g c = same_font (joined_font m f g) (joined_font m g f) c.shells (encodings_back f.encoding g.encoding c.kinds (compatible_back m f g c).kinds c.codes)
+    (λ i. grind (cases, subr_in_join m f g i, subr_in_join m g f i, c.present i, c.subrs i))
+    (λ n. glyph_in_join m f g n ∙ joined_back (maps.get f.glyphs n) (maps.get g.glyphs n) (glyph_agree m f g c n) ∙ sym (glyph_in_join m g f n))
 
 -- ---- the left side runs as before
 
@@ -129,13 +113,6 @@ module _ {O : Type 0} (m : Interpreter O) (f g : FontValue) (c : Compatible m f 
   pub name_joined : (n : List ℕ) → name_state m whole n ≡ joined (name_state m f n) (name_state m g n)
   name_joined n = grind (cases, glyph_in_join m f g n, sought_in_join n, c.names n)
 
--- the state of a code in the join is the join of its states
-pub code_joined : (d e : Encoding) → SameKind d e → (c : ℕ) → code_state (join_encodings d e) c ≡ joined (code_state d c) (code_state e c)
-code_joined (Word v) (Word w) h c = refl
-code_joined (Word v) (Codes t) h c = absurd h
-code_joined (Codes s) (Word w) h c = absurd h
-code_joined (Codes s) (Codes t) h c = get-merged nat_cmp_total nat_cmp-IsAntisymmetric s t c
-
 -- the join has entries at the indices of the first font
 pub present_joined : {O : Type 0} (m : Interpreter O) (f g : FontValue) (i : ℕ) → maps.contains_key (joined_font m f g).subrs i ≡ maps.contains_key f.subrs i
 present_joined m f g i = grind (cases, subr_in_join m f g i)
@@ -146,9 +123,8 @@ module _ {O : Type 0} (m : Interpreter O) (f g : FontValue) (c : Compatible m f 
   -- the joined font is the font of the entries of both
   pub joined_are_entries : joined_font m f g ≡ join_parts f g
   joined_are_entries = same_font (joined_font m f g) (join_parts f g) refl refl
-      (maps.same_map nat_cmp_total nat_cmp-IsAntisymmetric _ _ (λ i.
-      grind (cases, subr_in_join m f g i, c.present i, c.subrs i, get-map_values nat_cmp_total nat_cmp-IsAntisymmetric (λ i v. joined_subr v (maps.get g.subrs i)) f.subrs i, stub_is)))
-      refl
+      (λ i. grind (cases, subr_in_join m f g i, c.present i, c.subrs i, get-map_values nat_cmp_total nat_cmp-IsAntisymmetric (λ i v. joined_subr v (maps.get g.subrs i)) f.subrs i, stub_is))
+      (λ n. refl)
 
   -- the entries of both make a join
   pub entries_join : EntriesJoin f g

@@ -6,7 +6,7 @@ use Rattle.std.specs.Cmp.{IsTotalOrder, Equal-is, both_ways, first_so, second_so
 use Rattle.std.specs.Cmp.Lexicographic.{nat_list_cmp_total}
 use Rattle.std.specs.FinSet as sets
 use Rattle.std.specs.FinSet.{FinSet, IsAntisymmetric, nat_cmp-IsAntisymmetric, slice_cmp-IsAntisymmetric}
-use Rattle.t1_font.specs.FontValue.{name_cmp}
+use Rattle.t1_font.specs.FontValue.{name_cmp, Encoding, Word, Codes, Numbered}
 use Rattle.t1_algebra.specs.Interpreter.{Names}
 use Rattle.t1_algebra.specs.Keep.{sets_of}
 use Rattle.std.proofs.lemmas.Bool.{and_from, or_left, or_right, or_cases, cases_Bool}
@@ -18,8 +18,12 @@ pub cases_Option : {X : Type 0} (x : Option X) → (x ≡ None) ⊎ ((v : X) × 
 cases_Option None = inl refl
 cases_Option (Some v) = inr (v, refl)
 
--- arithmetic, and cases on tests and options
-pub ruleset cases = (arith, cases_Bool, cases_Option)
+pub cases_Encoding : (e : Encoding) → ((v : List ℕ) × (e ≡ Word v)) ⊎ ((t : Numbered) × (e ≡ Codes t))
+cases_Encoding (Word v) = inl (v, refl)
+cases_Encoding (Codes t) = inr (t, refl)
+
+-- arithmetic, and cases on tests, options and Encodings
+pub ruleset cases = (arith, cases_Bool, cases_Option, cases_Encoding)
 
 -- nothing passes a test and fails it
 pub clash : {P : Type 0} (a : Bool) → a ≡ true → a ≡ false → P

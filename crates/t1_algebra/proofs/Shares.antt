@@ -13,7 +13,6 @@ use Rattle.t1_font.specs.WriteLaws.{SameKind}
 use Rattle.t1_font.proofs.MapLemmas.{Some_same, Some_None, get-map_values, entries-map_values}
 use Rattle.t1_algebra.specs.Interpreter.{same_bytes}
 use Rattle.t1_algebra.specs.Shared.{Shared, shared_of, ShellPart, EncodingPart, SubrsTable, all_parts, same_number, same_bool, same_word, same_words, same_part, differing_part}
-use Rattle.t1_algebra.proofs.JoinedStates.{constant}
 use Rattle.t1_algebra.proofs.Searching.{none_passes}
 use Rattle.t1_algebra.proofs.Sets.{name_same, tied, itself, cases_Option, cases}
 use Rattle.std.proofs.lemmas.Bool.{cases_Bool, not-false}
@@ -128,20 +127,6 @@ pub record Shares (f g : FontValue) : Type 0 where
   pub present : (i : ℕ) → maps.contains_key f.subrs i ≡ maps.contains_key g.subrs i
   pub kinds : SameKind f.encoding g.encoding
 
--- Encodings of one kind have the same word, or none
-kind_words : (d e : Encoding) → SameKind d e → word_of d ≡ word_of e
-kind_words (Word v) (Word w) h = ap Some h
-kind_words (Word v) (Codes t) h = absurd h
-kind_words (Codes s) (Word w) h = absurd h
-kind_words (Codes s) (Codes t) h = refl
-
--- Encodings with the same word, or none, are of one kind
-words_kind : (d e : Encoding) → word_of d ≡ word_of e → SameKind d e
-words_kind (Word v) (Word w) h = Some_same h
-words_kind (Word v) (Codes t) h = Some_None h
-words_kind (Codes s) (Word w) h = Some_None (sym h)
-words_kind (Codes s) (Codes t) h = tt
-
 keys_valued : (es : List (ℕ × List ℕ)) → map (λ (e : ℕ × List ℕ). e.0) es ≡ map (λ (e : ℕ × ℕ). e.0) (map (λ (e : ℕ × List ℕ). (e.0, 0)) es)
 keys_valued [] = refl
 keys_valued (e ∷ es) = ap (λ (ns : List ℕ). e.0 ∷ ns) (keys_valued es)
@@ -153,19 +138,21 @@ keys_of m = keys_valued (maps.entries m) ∙ ap (map (λ e. e.0)) (sym (entries-
 pub same_indices : (m n : Numbered) → ((i : ℕ) → maps.contains_key m i ≡ maps.contains_key n i) → maps.keys m ≡ maps.keys n
 same_indices m n h = keys_of m
     ∙ ap (λ (s : maps.FinMap nat_cmp ℕ). maps.keys s) (maps.same_map nat_cmp_total nat_cmp-IsAntisymmetric _ _ (λ i.
-    get-map_values nat_cmp_total nat_cmp-IsAntisymmetric (λ i c. 0) m i ∙ constant 0 (maps.get m i) (maps.get n i) (h i) ∙ sym (get-map_values nat_cmp_total nat_cmp-IsAntisymmetric (λ i c. 0) n i)))
+    grind (cases, h i, get-map_values nat_cmp_total nat_cmp-IsAntisymmetric {Y = ℕ} (λ i c. 0) m i, get-map_values nat_cmp_total nat_cmp-IsAntisymmetric {Y = ℕ} (λ i c. 0) n i)))
     ∙ sym (keys_of n)
 
 -- fonts that share what they have to have the same shared value
 pub shared_from : (f g : FontValue) → Shares f g → shared_of f ≡ shared_of g
-shared_from f g c = λ i. (c.shells i, (kind_words f.encoding g.encoding c.kinds i, same_indices f.subrs g.subrs c.present i))
+shared_from f g c =
+    let words : word_of f.encoding ≡ word_of g.encoding = grind (cases, c.kinds) in
+    λ i. (c.shells i, (words i, same_indices f.subrs g.subrs c.present i))
 
 -- fonts with the same shared value share what they have to
 pub shared_to : (f g : FontValue) → shared_of f ≡ shared_of g → Shares f g
 shared_to f g h = record {
   shells = ap (λ s. s.0) h;
   present = λ i. maps.contains_key-keys f.subrs i ∙ ap (λ (s : Shared). list_any (eq_by_cmp nat_cmp i) s.1.1) h ∙ sym (maps.contains_key-keys g.subrs i);
-  kinds = words_kind f.encoding g.encoding (ap (λ s. s.1.0) h);
+  kinds = grind (cases, ap (λ (s : Shared). s.1.0) h);
 }
 
 -- no part differs exactly if all is the same

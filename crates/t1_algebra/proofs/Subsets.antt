@@ -8,7 +8,7 @@ use Rattle.std.proofs.lemmas.Slice.Eq.{bytes_eq-Decides}
 use Rattle.t1_font.specs.Cut.{stub, restrict, restrict_encoding}
 use Rattle.t1_font.specs.FontValue.{FontValue, notdef, weight, Encoding, Word, Codes}
 use Rattle.t1_font.proofs.Kept.{restrict_light, cut_had}
-use Rattle.t1_font.proofs.MapLemmas.{get-map_values, get-retain, total-le, length_total}
+use Rattle.t1_font.proofs.MapLemmas.{get-map_values, get-retain, total-le, length_total, Some_same, Some_None}
 use Rattle.t1_algebra.specs.Interpreter.{Interpreter, Names, same_bytes, Numbers}
 use Rattle.t1_algebra.specs.Keep.{keep, kept, components, has, subset}
 use Rattle.t1_algebra.specs.States.{Agree, joined, is_called, is_sought, subr_state, is_stub, IsWithin, name_state, code_state, joined_font, Compatible, Join}
@@ -22,6 +22,7 @@ use Rattle.t1_font.specs.WriteLaws.{SameKind}
 use Rattle.t1_algebra.proofs.Maps.{get-merged}
 use Rattle.std.specs.FinSet as sets
 use Rattle.std.specs.FinMap as maps
+use Rattle.t1_font.specs.FontModel.{word_of}
 
 -- ---- stubs and entries
 
@@ -33,9 +34,28 @@ stub_is c h = (bytes_eq-Decides c stub).0 h
 pub cond_some : {X : Type 0} (b : Bool) (x : Option X) (c : X) → cond b x None ≡ Some c → (b ≡ true) × (x ≡ Some c)
 cond_some b x c h = grind cases
 
--- fonts with equal parts are equal
-pub same_font : (f g : FontValue) → f.shell ≡ g.shell → f.encoding ≡ g.encoding → f.subrs ≡ g.subrs → f.glyphs ≡ g.glyphs → f ≡ g
-same_font f g a b c d = λ i. record { shell = a i; encoding = b i; subrs = c i; glyphs = d i }
+-- fonts with equal shells and Encodings and with the same Subrs and glyphs are equal
+pub same_font : (f g : FontValue) → f.shell ≡ g.shell → f.encoding ≡ g.encoding → ((i : ℕ) → maps.get f.subrs i ≡ maps.get g.subrs i) → ((n : List ℕ) → maps.get f.glyphs n ≡ maps.get g.glyphs n) → f ≡ g
+same_font f g a b c d =
+    let subrs = maps.same_map nat_cmp_total nat_cmp-IsAntisymmetric f.subrs g.subrs c in
+    let glyphs = maps.same_map nat_list_cmp_total name_same f.glyphs g.glyphs d in
+    λ i. record { shell = a i; encoding = b i; subrs = subrs i; glyphs = glyphs i }
+
+-- Encodings with the same word, or none, and the same names of codes are equal
+pub same_encoding : (d e : Encoding) → word_of d ≡ word_of e → ((c : ℕ) → code_state d c ≡ code_state e c) → d ≡ e
+same_encoding (Word v) (Word w) h k = ap Word (Some_same h)
+same_encoding (Word v) (Codes t) h k = Some_None h
+same_encoding (Codes s) (Word w) h k = Some_None (sym h)
+same_encoding (Codes s) (Codes t) h k = ap Codes (maps.same_map nat_cmp_total nat_cmp-IsAntisymmetric s t k)
+
+-- the state of a code in the join is the join of its states
+pub code_joined : (d e : Encoding) → SameKind d e → (c : ℕ) → code_state (join_encodings d e) c ≡ joined (code_state d c) (code_state e c)
+code_joined d e h c = grind (cases, h, get-merged nat_cmp_total nat_cmp-IsAntisymmetric {X = List ℕ})
+
+-- a code of a cut Encoding has its name if that is kept
+pub get-code : (p : List ℕ → Bool) (e : Encoding) (c : ℕ) → code_state (restrict_encoding p e) c ≡ cond (p (unwrap_or (code_state e c) [])) (code_state e c) None
+get-code p (Word w) c = grind cases
+get-code p (Codes t) c = get-retain nat_cmp_total nat_cmp-IsAntisymmetric t (λ c. p (unwrap_or (maps.get t c) [])) c
 
 module _ {O : Type 0} (m : Interpreter O) (f : FontValue) (base : has f notdef ≡ true) (a : Names) (inside : InFont m f a) where
   -- an index of a subset has its entry if that is kept, else a stub
@@ -107,33 +127,19 @@ module _ {O : Type 0} (m : Interpreter O) (f : FontValue) (a : Names) where
 
 -- ---- two cuts
 
--- two cuts of one value join to what either test keeps
-pub joined_cond : {X : Type 0} (k l : Bool) (x : Option X) → joined (cond k x None) (cond l x None) ≡ cond (k || l) x None
-joined_cond k l x = grind cases
+module _ (k l : Names) (e : Encoding) where
+  -- two cuts of an Encoding agree at each code
+  encodings_agree : (c : ℕ) → Agree (code_state (restrict_encoding (sets.contains k) e) c) (code_state (restrict_encoding (sets.contains l) e) c)
+  encodings_agree c = grind (cases, get-code (sets.contains k) e c, get-code (sets.contains l) e c)
 
--- two cuts of an Encoding agree at each code
-encodings_agree : (k l : Names) (e : Encoding) (c : ℕ) → Agree (code_state (restrict_encoding (sets.contains k) e) c) (code_state (restrict_encoding (sets.contains l) e) c)
-encodings_agree k l (Word w) c = tt
-encodings_agree k l (Codes t) c =
-    let cut = λ (s : Names). get-retain nat_cmp_total nat_cmp-IsAntisymmetric t (λ c. sets.contains s (unwrap_or (maps.get t c) [])) c in
-    grind (cases, cut k, cut l)
+  -- two cuts of an Encoding are the same word or both tables
+  encodings_kind : SameKind (restrict_encoding (sets.contains k) e) (restrict_encoding (sets.contains l) e)
+  encodings_kind = grind cases
 
--- two cuts of an Encoding are the same word or both tables
-encodings_kind : (k l : Names) (e : Encoding) → SameKind (restrict_encoding (sets.contains k) e) (restrict_encoding (sets.contains l) e)
-encodings_kind k l (Word w) = refl
-encodings_kind k l (Codes t) = tt
-
--- two cuts of an Encoding join to its cut to the names of both
-encodings_join : (k l : Names) (e : Encoding) → join_encodings (restrict_encoding (sets.contains k) e) (restrict_encoding (sets.contains l) e) ≡ restrict_encoding (sets.contains (sets.union k l)) e
-encodings_join k l (Word w) = refl
-encodings_join k l (Codes t) =
-    let by = λ (s : Names) (c : ℕ). sets.contains s (unwrap_or (maps.get t c) []) in
-    ap Codes (maps.same_map nat_cmp_total nat_cmp-IsAntisymmetric _ _ (λ c.
-    get-merged nat_cmp_total nat_cmp-IsAntisymmetric (maps.retain_keys t (by k)) (maps.retain_keys t (by l)) c
-    ∙ (λ i. joined (get-retain nat_cmp_total nat_cmp-IsAntisymmetric t (by k) c i) (get-retain nat_cmp_total nat_cmp-IsAntisymmetric t (by l) c i))
-    ∙ joined_cond (by k c) (by l c) (maps.get t c)
-    ∙ ap (λ b. cond b (maps.get t c) None) (sym (sets.contains-union nat_list_cmp_total k l (unwrap_or (maps.get t c) [])))
-    ∙ sym (get-retain nat_cmp_total nat_cmp-IsAntisymmetric t (by (sets.union k l)) c)))
+  -- two cuts of an Encoding join to its cut to the names of both
+  encodings_join : join_encodings (restrict_encoding (sets.contains k) e) (restrict_encoding (sets.contains l) e) ≡ restrict_encoding (sets.contains (sets.union k l)) e
+  encodings_join = same_encoding _ _ (grind cases) (λ c. grind (cases, code_joined _ _ encodings_kind c, get-code (sets.contains k) e c, get-code (sets.contains l) e c, get-code (sets.contains (sets.union k l)) e c,
+      sets.contains-union nat_list_cmp_total k l (unwrap_or (code_state e c) [])))
 
 module _ {O : Type 0} (m : Interpreter O) (f : FontValue) (base : has f notdef ≡ true) (a b : Names) (ia : InFont m f a) (ib : InFont m f b) where
   -- the states of each index agree in two subsets
@@ -147,39 +153,23 @@ module _ {O : Type 0} (m : Interpreter O) (f : FontValue) (base : has f notdef �
 
   -- ---- the joined font
 
-  -- two subsets have together the glyphs that either keeps
-  glyphs_join : merged (subset m f a).glyphs (subset m f b).glyphs ≡ maps.retain_keys f.glyphs (sets.contains (sets.union (keep m f a) (keep m f b)))
-  glyphs_join = maps.same_map nat_list_cmp_total name_same _ _ (λ n.
-      get-merged nat_list_cmp_total name_same (subset m f a).glyphs (subset m f b).glyphs n
-      ∙ (λ i. joined (get-glyph m f base a ia n i) (get-glyph m f base b ib n i))
-      ∙ joined_cond (sets.contains (keep m f a) n) (sets.contains (keep m f b) n) (maps.get f.glyphs n)
-      ∙ ap (λ k. cond k (maps.get f.glyphs n) None) (sym (sets.contains-union nat_list_cmp_total (keep m f a) (keep m f b) n))
-      ∙ sym (get-retain nat_list_cmp_total name_same f.glyphs (sets.contains (sets.union (keep m f a) (keep m f b))) n))
-
   -- the joined state of an index, with a stub for the bottom
   abbrev value : ℕ → List ℕ
   value i = unwrap_or (joined (subr_state m (subset m f a) i) (subr_state m (subset m f b) i)) stub
 
-  -- the Subrs that either subset keeps
-  abbrev both : Numbers
-  both = sets.union (kept m f a) (kept m f b)
-
-  subr_join : (i : ℕ) (x : Option (List ℕ)) → maps.get f.subrs i ≡ x → option_map (λ c. value i) (option_map (λ c. cond (sets.contains (kept m f a) i) c stub) x) ≡ option_map (λ c. cond (sets.contains both i) c stub) x
-  subr_join i None h = refl
-  subr_join i (Some c) h = grind (cases, subr_state_of m f base a ia i c h, subr_state_of m f base b ib i c h, stub_is c, sets.contains-union nat_cmp_total (kept m f a) (kept m f b) i)
-
-  -- two subsets have together the entries of the Subrs that either keeps
-  subrs_join : map_values (λ i c. value i) (subset m f a).subrs ≡ map_values (λ i c. cond (sets.contains both i) c stub) f.subrs
-  subrs_join = maps.same_map nat_cmp_total nat_cmp-IsAntisymmetric _ _ (λ i.
-      get-map_values nat_cmp_total nat_cmp-IsAntisymmetric (λ i c. value i) (subset m f a).subrs i
-      ∙ ap (option_map (λ c. value i)) (get-subr m f base a ia i)
-      ∙ subr_join i (maps.get f.subrs i) refl
-      ∙ sym (get-map_values nat_cmp_total nat_cmp-IsAntisymmetric (λ i c. cond (sets.contains both i) c stub) f.subrs i))
+  subr_join : (i : ℕ) (x : Option (List ℕ)) → maps.get f.subrs i ≡ x → maps.get (joined_font m (subset m f a) (subset m f b)).subrs i ≡ option_map (λ c. cond (sets.contains (sets.union (kept m f a) (kept m f b)) i) c stub) x
+  subr_join i None h = grind (arith, h, get-map_values nat_cmp_total nat_cmp-IsAntisymmetric (λ i c. value i) (subset m f a).subrs i, get-subr m f base a ia i)
+  subr_join i (Some c) h = grind (cases, h, get-map_values nat_cmp_total nat_cmp-IsAntisymmetric (λ i c. value i) (subset m f a).subrs i, get-subr m f base a ia i, subr_state_of m f base a ia i c h, subr_state_of m f base b ib i c h,
+      stub_is c, sets.contains-union nat_cmp_total (kept m f a) (kept m f b) i)
 
   -- the joined font of two subsets is the subset over both sets of names
   pub join_is_subset : joined_font m (subset m f a) (subset m f b) ≡ subset m f (sets.union a b)
   join_is_subset =
-      same_font (joined_font m (subset m f a) (subset m f b)) (restrict (sets.contains (sets.union (keep m f a) (keep m f b))) (sets.contains both) f) refl (encodings_join (keep m f a) (keep m f b) f.encoding) subrs_join glyphs_join
+      let whole = restrict (sets.contains (sets.union (keep m f a) (keep m f b))) (sets.contains (sets.union (kept m f a) (kept m f b))) f in
+      same_font (joined_font m (subset m f a) (subset m f b)) whole refl (encodings_join (keep m f a) (keep m f b) f.encoding)
+      (λ i. subr_join i (maps.get f.subrs i) refl ∙ sym (get-map_values nat_cmp_total nat_cmp-IsAntisymmetric (λ i c. cond (sets.contains (sets.union (kept m f a) (kept m f b)) i) c stub) f.subrs i))
+      (λ n. grind (cases, get-merged nat_list_cmp_total name_same (subset m f a).glyphs (subset m f b).glyphs n, get-glyph m f base a ia n, get-glyph m f base b ib n,
+      get-retain nat_list_cmp_total name_same f.glyphs (sets.contains (sets.union (keep m f a) (keep m f b))) n, sets.contains-union nat_list_cmp_total (keep m f a) (keep m f b) n))
       ∙ (λ i. restrict (sets.contains (sym (keep_union m f a b base ia ib) i)) (sets.contains (sym (kept_union m f a b base ia ib) i)) f)
 
   -- a subset has entries at the indices at which the font has them
