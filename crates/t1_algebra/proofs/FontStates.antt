@@ -26,21 +26,12 @@ use Rattle.t1_algebra.proofs.Shares.{same_indices, shared_from, shared_to}
 use Rattle.t1_algebra.proofs.Maps.{get-merged, get-valued}
 use Rattle.t1_algebra.proofs.Sets.{name_same, cases_Option, any_flat_map, cases}
 use Rattle.t1_algebra.proofs.JoinedStates.{subr_joined, name_joined, present_joined}
-use Rattle.t1_algebra.proofs.Subsets.{stub_is, same_font}
+use Rattle.t1_algebra.proofs.Subsets.{stub_is, same_font, same_encoding, code_joined}
 use Rattle.std.specs.FinMap as maps
 use Rattle.std.proofs.lemmas.Bool.{cases_Bool}
-use Rattle.t1_algebra.proofs.Tables.{total-merged, at_number, get-numbered, entries-numbered, numbered-merged, get-name, names_total}
+use Rattle.t1_algebra.proofs.Tables.{total-merged, at_number, get-numbered, entries-numbered, get-name, names_total, Shows, cases_key, codes_shown, shown_agree, agree_shown, shown_joined, to_agree}
 
 -- ---- states that agree
-
-module _ (x y : State) where
-  -- states that agree in tables agree
-  pub to_agree : PlacesAgree x y → Agree x y
-  to_agree h = grind (cases, same_meaning-true)
-
-  -- states that agree do so in tables
-  pub from_agree : Agree x y → PlacesAgree x y
-  from_agree h = grind (cases, same_meaning-self)
 
 -- what the state of a name means in a table
 abbrev pub meant : Option (Option (List ℕ)) → State
@@ -59,27 +50,16 @@ module _ (x y : Option (Option (List ℕ))) where
   names_joined : meant (joined x y) ≡ joined_state (meant x) (meant y)
   names_joined = grind cases
 
--- ---- tables by number
-
--- maps that agree at each number are tables that agree
-numbers_agree : (s t : Numbered) → ((i : ℕ) → Agree (maps.get s i) (maps.get t i)) → TablesAgree (numbered s) (numbered t)
-numbers_agree s t h q = (λ i. states_agree (get-numbered s q i) (get-numbered t q i)) ∙ at q
-  where
-    at : (q : Meaning) → PlacesAgree (at_number (maps.get s) q) (at_number (maps.get t) q)
-    at [] = refl
-    at (n ∷ []) = from_agree (maps.get s n) (maps.get t n) (h n)
-    at (a ∷ b ∷ rest) = refl
-
--- tables by number that agree are maps that agree at each number
-agree_numbers : (s t : Numbered) → TablesAgree (numbered s) (numbered t) → (i : ℕ) → Agree (maps.get s i) (maps.get t i)
-agree_numbers s t h i = to_agree (maps.get s i) (maps.get t i) ((λ j. states_agree (sym (get-numbered s (of_number i)) j) (sym (get-numbered t (of_number i)) j)) ∙ h (of_number i))
-
 -- ---- what stands at each key
 
 module _ {O : Type 0} (m : Interpreter O) (f : FontValue) where
   -- the table of Subrs has the state of each index
   pub get-used : (i : ℕ) → maps.get (used_subrs m f) i ≡ subr_state m f i
   get-used i = grind (cases, get-retain nat_cmp_total nat_cmp-IsAntisymmetric f.subrs (λ i. is_some (subr_state m f i)) i)
+
+  -- so has the table by number
+  pub subrs_shown : Shows (numbered (used_subrs m f)) (subr_state m f)
+  subrs_shown q = grind (arith, get-numbered (used_subrs m f) q, cases_key q, get-used)
 
   -- the names that are sought
   abbrev sought : TableMeaning
@@ -97,43 +77,14 @@ module _ {O : Type 0} (m : Interpreter O) (f : FontValue) where
 
 -- ---- compatible fonts have states that agree
 
--- the join of two Encodings has the word of the first
-word_joined : (d e : Encoding) → SameKind d e → word_of (join_encodings d e) ≡ word_of d
-word_joined (Word v) e h = refl
-word_joined (Codes s) (Word w) h = refl
-word_joined (Codes s) (Codes t) h = refl
-
--- if the names of each code agree, the tables of codes agree
-codes_agree : (d e : Encoding) → SameKind d e → ((c : ℕ) → Agree (code_state d c) (code_state e c)) → TablesAgree (code_states d) (code_states e)
-codes_agree (Word v) (Word w) h a = λ q. state_itself (maps.get (maps.empty {R = meaning_cmp}) q)
-codes_agree (Word v) (Codes t) h a = absurd h
-codes_agree (Codes s) (Word w) h a = absurd h
-codes_agree (Codes s) (Codes t) h a = numbers_agree s t a
-
--- if the tables of codes agree, the names of each code agree
-agree_codes : (d e : Encoding) → TablesAgree (code_states d) (code_states e) → (c : ℕ) → Agree (code_state d c) (code_state e c)
-agree_codes (Word v) e h c = tt
-agree_codes (Codes s) (Word w) h c = grind cases
-agree_codes (Codes s) (Codes t) h c = agree_numbers s t h c
-
--- the codes of the join of two Encodings are the join of their tables
-codes_joined : (d e : Encoding) → SameKind d e → code_states (join_encodings d e) ≡ joined_table (code_states d) (code_states e)
-codes_joined (Word v) (Word w) h = same_table maps.empty (joined_table maps.empty maps.empty) (λ q. grind (arith, get_joined maps.empty maps.empty q, maps.get-empty {X = Meaning} meaning_cmp q))
-codes_joined (Word v) (Codes t) h = absurd h
-codes_joined (Codes s) (Word w) h = absurd h
-codes_joined (Codes s) (Codes t) h = sym (numbered-merged s t)
-
 module _ {O : Type 0} (m : Interpreter O) (f g : FontValue) where
   -- the states of compatible fonts agree part by part
   pub compatible_agree : Compatible m f g → PartsAgree (states_of m f) (states_of m g)
   compatible_agree c = (
     shared_from f g (record { shells = c.shells; present = c.present; kinds = c.kinds }),
     (
-      codes_agree f.encoding g.encoding c.kinds c.codes,
-      (
-        λ n. (λ i. states_agree (get-names m f n i) (get-names m g n i)) ∙ names_from (name_state m f n) (name_state m g n) (c.names n),
-        numbers_agree (used_subrs m f) (used_subrs m g) (λ i. subst (λ (x : State). Agree x (maps.get (used_subrs m g) i)) (sym (get-used m f i)) (subst (Agree (subr_state m f i)) (sym (get-used m g i)) (c.subrs i))),
-      ),
+      shown_agree _ _ _ _ (codes_shown f.encoding) (codes_shown g.encoding) c.codes,
+      (λ n. grind (arith, get-names m f n, get-names m g n, names_from (name_state m f n) (name_state m g n) (c.names n)), shown_agree _ _ _ _ (subrs_shown m f) (subrs_shown m g) c.subrs),
     ),
   )
 
@@ -143,35 +94,22 @@ module _ {O : Type 0} (m : Interpreter O) (f g : FontValue) where
     shells = (shared_to f g h.0).shells;
     present = (shared_to f g h.0).present;
     kinds = (shared_to f g h.0).kinds;
-    subrs = λ i. subst (λ (x : State). Agree x (subr_state m g i)) (get-used m f i) (subst (Agree (maps.get (used_subrs m f) i)) (get-used m g i) (agree_numbers (used_subrs m f) (used_subrs m g) h.1.1.1 i));
-    names = λ n. names_to (name_state m f n) (name_state m g n) ((λ i. states_agree (sym (get-names m f n) i) (sym (get-names m g n) i)) ∙ h.1.1.0 n);
-    codes = agree_codes f.encoding g.encoding h.1.0;
+    subrs = agree_shown _ _ _ _ (subrs_shown m f) (subrs_shown m g) h.1.1.1;
+    names = λ n. names_to (name_state m f n) (name_state m g n) (grind (arith, get-names m f n, get-names m g n, h.1.1.0 n));
+    codes = agree_shown _ _ _ _ (codes_shown f.encoding) (codes_shown g.encoding) h.1.0;
   }
 
   -- the states of a join are the joined states
   pub parts_join : Compatible m f g → PartsJoin (states_of m f) (states_of m g) (states_of m (joined_font m f g))
   parts_join c =
       let a = compatible_agree c in
-      let j = joined_font m f g in (
-        (a.0, λ i. (f.shell, (word_joined f.encoding g.encoding c.kinds i, same_indices j.subrs f.subrs (present_joined m f g) i))),
-        (
-          (a.1.0, codes_joined f.encoding g.encoding c.kinds),
-          (
-            (
-              a.1.1.0,
-              same_table (name_states m j) (joined_table (name_states m f) (name_states m g)) (λ n.
-                  get-names m j n ∙ ap meant (name_joined m f g c n) ∙ names_joined (name_state m f n) (name_state m g n)
-                  ∙ (λ i. joined_state (sym (get-names m f n) i) (sym (get-names m g n) i)) ∙ sym (get_joined (name_states m f) (name_states m g) n)),
-            ),
-            (
-              a.1.1.1,
-              ap numbered (maps.same_map nat_cmp_total nat_cmp-IsAntisymmetric (used_subrs m j) _ (λ i.
-                  get-used m j i ∙ subr_joined m f g c i ∙ (λ k. joined (sym (get-used m f i) k) (sym (get-used m g i) k)) ∙ sym (get-merged nat_cmp_total nat_cmp-IsAntisymmetric (used_subrs m f) (used_subrs m g) i)))
-                  ∙ sym (numbered-merged (used_subrs m f) (used_subrs m g)),
-            ),
-          ),
-        ),
-      )
+      let j = joined_font m f g in
+      let word : word_of j.encoding ≡ word_of f.encoding = grind (cases, c.kinds) in
+      let codes = shown_joined _ _ _ _ (codes_shown f.encoding) (codes_shown g.encoding) _ _ (codes_shown j.encoding) (code_joined f.encoding g.encoding c.kinds) in
+      let names = same_table (name_states m j) (joined_table (name_states m f) (name_states m g)) (λ n.
+      grind (arith, get-names m j n, name_joined m f g c n, names_joined (name_state m f n) (name_state m g n), get-names m f n, get-names m g n, get_joined (name_states m f) (name_states m g) n)) in
+      let subrs = shown_joined _ _ _ _ (subrs_shown m f) (subrs_shown m g) _ _ (subrs_shown m j) (subr_joined m f g c) in
+      ((a.0, λ i. (f.shell, (word i, same_indices j.subrs f.subrs (present_joined m f g) i))), ((a.1.0, codes), ((a.1.1.0, names), (a.1.1.1, subrs))))
 
 -- ---- weights
 
@@ -324,30 +262,20 @@ first_fails b h f = (λ t. absurd (true≢false (sym t ∙ f)), λ m. h.1 m.0)
 
 -- ---- a font is determined by its states
 
--- maps by number with one table are the same
-same_numbered : (s t : Numbered) → numbered s ≡ numbered t → (i : ℕ) → maps.get s i ≡ maps.get t i
-same_numbered s t e i = sym (get-numbered s (of_number i)) ∙ ap (λ (t : TableMeaning). maps.get t (of_number i)) e ∙ get-numbered t (of_number i)
-
--- an Encoding is known by its word and its states
-encoding_known : (d e : Encoding) → word_of d ≡ word_of e → code_states d ≡ code_states e → d ≡ e
-encoding_known (Word v) (Word w) h k = ap Word (Some_same h)
-encoding_known (Word v) (Codes t) h k = Some_None h
-encoding_known (Codes s) (Word w) h k = Some_None (sym h)
-encoding_known (Codes s) (Codes t) h k = ap Codes (maps.same_map nat_cmp_total nat_cmp-IsAntisymmetric s t (same_numbered s t k))
-
 module _ {O : Type 0} (m : Interpreter O) where
   -- a charstring is what stands behind the mark of its name's state
   pub glyph_known : (f : FontValue) (n : List ℕ) → behind_mark (maps.get (name_part (states_of m f)) n) ≡ maps.get f.glyphs n
   glyph_known f n = grind (cases, get-names m f n)
 
   module _ (f g : FontValue) (e : states_of m f ≡ states_of m g) where
-    same_subr : (i : ℕ) → subr_state m f i ≡ subr_state m g i
-    same_subr i = sym (get-used m f i) ∙ same_numbered (used_subrs m f) (used_subrs m g) (ap subr_part e) i ∙ get-used m g i
+    -- tables that are the same show the same
+    same_shown : (s t : TableMeaning) (x y : ℕ → Option (List ℕ)) → Shows s x → Shows t y → s ≡ t → (i : ℕ) → x i ≡ y i
+    same_shown s t x y shows also e i = grind (arith, shows (of_number i), also (of_number i), e)
 
     -- fonts with the same states are the same
     pub font_known : f ≡ g
     font_known =
         let shared = shared_to f g (ap (λ (s : StatesValue). s.0) e) in
-        same_font f g shared.shells (encoding_known f.encoding g.encoding (ap (λ (s : StatesValue). s.0.1.0) e) (ap code_part e))
-        (λ i. grind (cases, same_subr i, shared.present i, stub_is))
+        same_font f g shared.shells (same_encoding f.encoding g.encoding (ap (λ (s : StatesValue). s.0.1.0) e) (same_shown _ _ _ _ (codes_shown f.encoding) (codes_shown g.encoding) (ap code_part e)))
+        (λ i. grind (cases, same_shown _ _ _ _ (subrs_shown m f) (subrs_shown m g) (ap subr_part e) i, shared.present i, stub_is))
         (λ n. sym (glyph_known f n) ∙ ap (λ (t : TableMeaning). behind_mark (maps.get t n)) (ap name_part e) ∙ glyph_known g n)

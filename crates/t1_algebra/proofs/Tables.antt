@@ -1,5 +1,5 @@
 -- Tables of codes, of Subrs and of names: what stands at each key, what they weigh, and how they join.
-use Rattle.std.proofs.Common.{◌≡◌, ◌≤◌, ℕ, ◌+◌, min, Bor, option_map, Bool, true, false, not, cond, T, List, [], ◌∷◌, ◌++◌, filter, refl, sym, ◌∙◌, ap, arith, Option, Some, None, is_some, Ordering, Less, Equal, Greater, ◌&&◌, map, subst, nat_cmp, is_lt, ◌↔◌, ◌||◌, true≢false}
+use Rattle.std.proofs.Common.{◌≡◌, ◌≤◌, ℕ, ◌+◌, min, Bor, option_map, Bool, true, false, not, cond, T, List, [], ◌∷◌, ◌++◌, filter, refl, sym, ◌∙◌, ap, arith, Option, Some, None, is_some, Ordering, Less, Equal, Greater, ◌&&◌, map, subst, nat_cmp, is_lt, ◌↔◌, ◌||◌, true≢false, inl, inr, ◌⊎◌}
 use Rattle.std.specs.Ordering.{ordering_reverse, is_eq, eq_by_cmp, ordering_then}
 use Rattle.std.specs.Cmp.{IsTotalOrder, nat_cmp_total, both_ways, first_so, second_so}
 use Rattle.std.specs.FinMap.{find, is_sorted}
@@ -13,11 +13,11 @@ use Rattle.std.specs.Option.{option_copied}
 use Rattle.t1_font.specs.Maps.{merged}
 use Rattle.t1_font.specs.FontModel.{clamp}
 use Rattle.t1_font.proofs.Weights.{clamp_more, clamp_all, clamp_fits}
-use Rattle.t1_font.specs.FontValue.{total, Numbered, Named, name_cmp}
-use Rattle.t1_algebra.specs.StateTables.{new_entries, numbered, name_meaning, AreNameStates, behind_mark, glyph_table, names_table, AreSought}
+use Rattle.t1_font.specs.FontValue.{total, Numbered, Named, name_cmp, Encoding, Word, Codes}
+use Rattle.t1_algebra.specs.StateTables.{new_entries, numbered, name_meaning, AreNameStates, behind_mark, glyph_table, names_table, AreSought, code_states}
 use Rattle.std.specs.Cmp.Lexicographic.{nat_list_cmp_total}
 use Rattle.t1_join.specs.Meaning.{Meaning, meaning_cmp, of_number, by_number_law, same_meaning}
-use Rattle.t1_join.specs.Join.{joined_state, State, states_agree}
+use Rattle.t1_join.specs.Join.{joined_state, State, states_agree, StatesAgree}
 use Rattle.t1_join.specs.TableLaws.{get_joined, same_table}
 use Rattle.t1_algebra.proofs.Maps.{get-merged}
 use Rattle.t1_algebra.proofs.Sets.{cases_Option, name_same, cases}
@@ -30,6 +30,7 @@ use Rattle.t1_algebra.specs.NameStates.{is_sought_in, charstrings_differ, one_la
 use Rattle.t1_algebra.proofs.Shares.{bytes_decide}
 use Rattle.std.proofs.lemmas.Bool.{cases_Bool, not-true}
 use Rattle.std.specs.FinMap as maps
+use Rattle.t1_algebra.specs.States.{Agree, code_state, joined}
 
 module _ {K X : Type 0} {R : K → K → Ordering} (o : IsTotalOrder R) (w : K → X → ℕ) where
   -- the entries of fs whose keys are not in es
@@ -128,6 +129,15 @@ module _ {K X : Type 0} {R : K → K → Ordering} (w : K → X → ℕ) (m : ma
   pub adds_all : (sum : ℕ) (left : List (K × X)) → Adding w m es before sum left → left ≡ [] → sum ≡ clamp (before + total w (new_entries m es))
   adds_all sum left a e = clamp_all sum _ a.small (sym a.all ∙ ap (λ (fs : List (K × X)). clamp (sum + total w (new_entries m fs))) e)
 
+module _ (x y : State) where
+  -- states that agree in tables agree
+  pub to_agree : StatesAgree x y → Agree x y
+  to_agree h = grind (cases, same_meaning-true)
+
+  -- states that agree do so in tables
+  pub from_agree : Agree x y → StatesAgree x y
+  from_agree h = grind (cases, same_meaning-self)
+
 -- entries with their numbers as keys of a table
 abbrev keyed : List (ℕ × List ℕ) → List (Meaning × Meaning)
 keyed es = map (λ e. (of_number e.0, e.1)) es
@@ -138,21 +148,19 @@ at_number x [] = None
 at_number x (n ∷ []) = x n
 at_number x (a ∷ b ∷ rest) = None
 
--- a longer key stands for no number
-no_number : (a b k : ℕ) (rest : List ℕ) → eq_by_cmp meaning_cmp (a ∷ b ∷ rest) (of_number k) ≡ false
-no_number a b k rest = elim (nat_cmp a k) as (λ o. is_eq (ordering_then o Greater) ≡ false) [ Less ↦ refl | Equal ↦ refl | Greater ↦ refl ]
+-- a key stands for a number or for none
+pub cases_key : (q : Meaning) → ((n : ℕ) × (q ≡ of_number n)) ⊎ (((x : ℕ → Option (List ℕ)) → at_number x q ≡ None) × ((k : ℕ) → eq_by_cmp meaning_cmp q (of_number k) ≡ false))
+cases_key [] = inr (λ x. refl, λ k. refl)
+cases_key (n ∷ []) = inl (n, refl)
+cases_key (a ∷ b ∷ rest) = inr (λ x. refl, λ k. elim (nat_cmp a k) as (λ o. is_eq (ordering_then o Greater) ≡ false) [ Less ↦ refl | Equal ↦ refl | Greater ↦ refl ])
 
 -- keys are the same if their numbers are
 pub by_number : (i n : ℕ) → eq_by_cmp meaning_cmp (of_number i) (of_number n) ≡ eq_by_cmp nat_cmp i n
 by_number i n = ap is_eq (sym (by_number_law i n))
 
 find_keyed : (es : List (ℕ × List ℕ)) (q : Meaning) → find meaning_cmp q (keyed es) ≡ at_number (λ n. find nat_cmp n es) q
-find_keyed [] [] = refl
-find_keyed [] (n ∷ []) = refl
-find_keyed [] (a ∷ b ∷ rest) = refl
-find_keyed (e ∷ es) [] = find_keyed es []
-find_keyed (e ∷ es) (n ∷ []) = λ i. cond (by_number n e.0 i) (Some e.1) (find_keyed es (n ∷ []) i)
-find_keyed (e ∷ es) (a ∷ b ∷ rest) = ap (λ t. cond t (Some e.1) (find meaning_cmp (a ∷ b ∷ rest) (keyed es))) (no_number a b e.0 rest) ∙ find_keyed es (a ∷ b ∷ rest)
+find_keyed [] q = grind (arith, cases_key q)
+find_keyed (e ∷ es) q = grind (cases, cases_key q, by_number, find_keyed es q)
 
 below_keyed : (k : ℕ) (es : List (ℕ × List ℕ)) → below_all meaning_cmp (of_number k) (keyed es) ≡ below_all nat_cmp k es
 below_keyed k [] = refl
@@ -170,42 +178,41 @@ module _ (m : Numbered) where
   pub entries-numbered : maps.entries (numbered m) ≡ keyed (maps.entries m)
   entries-numbered = maps.entries-from_sorted meaning_cmp (keyed (maps.entries m)) rises
 
-  at_same : (x y : ℕ → Option (List ℕ)) → ((n : ℕ) → x n ≡ y n) → (q : Meaning) → at_number x q ≡ at_number y q
-  at_same x y h [] = refl
-  at_same x y h (n ∷ []) = h n
-  at_same x y h (a ∷ b ∷ rest) = refl
-
   -- a table by number has the values of its map
   pub get-numbered : (q : Meaning) → maps.get (numbered m) q ≡ at_number (maps.get m) q
-  get-numbered q = maps.get-entries (numbered m) q ∙ ap (find meaning_cmp q) entries-numbered ∙ find_keyed (maps.entries m) q ∙ at_same _ _ (λ n. sym (maps.get-entries m n)) q
+  get-numbered q = grind (arith, maps.get-entries (numbered m) q, entries-numbered, find_keyed (maps.entries m) q, cases_key q, maps.get-entries m)
 
 -- a table with the values of a map is the map as a table
 pub numbered_is : (t : TableMeaning) (m : Numbered) → ((q : Meaning) → maps.get t q ≡ at_number (maps.get m) q) → t ≡ numbered m
 numbered_is t m h = same_table t (numbered m) (λ q. h q ∙ sym (get-numbered m q))
 
 pub numbered-empty : maps.empty ≡ numbered maps.empty
-numbered-empty = numbered_is maps.empty maps.empty (λ q. maps.get-empty meaning_cmp q ∙ nothing q)
-  where
-    nothing : (q : Meaning) → None ≡ at_number (maps.get (maps.empty {R = nat_cmp})) q
-    nothing [] = refl
-    nothing (n ∷ []) = sym (maps.get-empty nat_cmp n)
-    nothing (a ∷ b ∷ rest) = refl
+numbered-empty = numbered_is maps.empty maps.empty (λ q. grind (arith, maps.get-empty {X = Meaning} meaning_cmp q, maps.get-empty {X = List ℕ} nat_cmp, cases_key q))
 
 pub numbered-insert : (m : Numbered) (n : ℕ) (v : List ℕ) → maps.insert (numbered m) (of_number n) v ≡ numbered (maps.insert m n v)
-numbered-insert m n v = numbered_is _ (maps.insert m n v) (λ q. maps.get-insert nat_list_cmp_total (numbered m) (of_number n) v q ∙ ap (cond (eq_by_cmp meaning_cmp q (of_number n)) (Some v)) (get-numbered m q) ∙ at q)
-  where
-    at : (q : Meaning) → cond (eq_by_cmp meaning_cmp q (of_number n)) (Some v) (at_number (maps.get m) q) ≡ at_number (maps.get (maps.insert m n v)) q
-    at [] = refl
-    at (k ∷ []) = ap (λ t. cond t (Some v) (maps.get m k)) (by_number k n) ∙ sym (maps.get-insert nat_cmp_total m n v k)
-    at (a ∷ b ∷ rest) = ap (λ t. cond t (Some v) None) (no_number a b n rest)
+numbered-insert m n v = numbered_is _ (maps.insert m n v) (λ q. grind (cases, maps.get-insert nat_list_cmp_total (numbered m) (of_number n) v q, get-numbered m q, cases_key q, by_number, maps.get-insert nat_cmp_total m n v))
 
-pub numbered-merged : (m n : Numbered) → joined_table (numbered m) (numbered n) ≡ numbered (merged m n)
-numbered-merged m n = numbered_is _ (merged m n) (λ q. get_joined (numbered m) (numbered n) q ∙ (λ i. joined_state (get-numbered m q i) (get-numbered n q i)) ∙ at q)
-  where
-    at : (q : Meaning) → joined_state (at_number (maps.get m) q) (at_number (maps.get n) q) ≡ at_number (maps.get (merged m n)) q
-    at [] = refl
-    at (k ∷ []) = grind (cases, get-merged nat_cmp_total nat_cmp-IsAntisymmetric m n k)
-    at (a ∷ b ∷ rest) = refl
+-- a table shows these values at the keys that stand for numbers, and nothing else
+abbrev pub Shows : TableMeaning → (ℕ → Option (List ℕ)) → Type 0
+Shows t x = (q : Meaning) → maps.get t q ≡ at_number x q
+
+-- the table of an Encoding shows the name of each code
+pub codes_shown : (e : Encoding) → Shows (code_states e) (code_state e)
+codes_shown (Word w) q = grind (arith, maps.get-empty {X = Meaning} meaning_cmp q, cases_key q)
+codes_shown (Codes t) q = get-numbered t q
+
+module _ (s t : TableMeaning) (x y : ℕ → Option (List ℕ)) (shows : Shows s x) (also : Shows t y) where
+  -- tables agree if what they show does
+  pub shown_agree : ((n : ℕ) → Agree (x n) (y n)) → TablesAgree s t
+  shown_agree h q = grind (arith, shows q, also q, cases_key q, λ (n : ℕ). from_agree (x n) (y n) (h n))
+
+  -- tables that agree show what agrees
+  pub agree_shown : TablesAgree s t → (n : ℕ) → Agree (x n) (y n)
+  agree_shown h n = to_agree (x n) (y n) (grind (arith, shows (of_number n), also (of_number n), h (of_number n)))
+
+  -- a table that shows the joined values is the joined table
+  pub shown_joined : (j : TableMeaning) (z : ℕ → Option (List ℕ)) → Shows j z → ((n : ℕ) → z n ≡ joined (x n) (y n)) → j ≡ joined_table s t
+  shown_joined j z third h = same_table j (joined_table s t) (λ q. grind (cases, get_joined s t q, shows q, also q, third q, cases_key q, h))
 
 -- what the charstring of a glyph means in a table
 abbrev marked : Option (List ℕ) → State
