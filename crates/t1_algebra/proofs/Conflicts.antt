@@ -37,10 +37,7 @@ module _ (x y : Option (List ℕ)) where
 
 -- the codes of two tables are the same in both orders
 codes_swap : (d e : Encoding) → codes_of_both d e ≡ codes_of_both e d
-codes_swap (Word v) (Word w) = refl
-codes_swap (Word v) (Codes t) = refl
-codes_swap (Codes s) (Word w) = refl
-codes_swap (Codes s) (Codes t) = both_back nat_cmp_total nat_cmp-IsAntisymmetric s t
+codes_swap d e = grind (cases, both_back nat_cmp_total nat_cmp-IsAntisymmetric {X = List ℕ})
 
 -- if no key of two maps has states that clash, and keys that the second lacks have no state, all states agree
 all_agree : {K : Type 0} {R : K → K → Ordering} (o : IsTotalOrder R) (same : IsAntisymmetric R) (a b : maps.FinMap R (List ℕ)) (x y : K → Option (List ℕ)) → smallest (λ k. not (agrees (x k) (y k))) (keys_of_both a b) ≡ None
@@ -69,9 +66,8 @@ module _ {O : Type 0} (m : Interpreter O) where
     lacks_clashes : (p : List ℕ) → has f p ≡ false → is_sought m f p ≡ true → has g p ≡ true → component_clashes m f g p ≡ true
     lacks_clashes p l s h =
         let w = wanting f g p s in
-        and_from (has f p || has g p) (list_any (wanted_by m f g p) (members (glyph_names f g))) (or_right (has f p) (has g p) h)
-        (any_at nat_list_cmp_total name_same (wanted_by m f g p) w.0 (members (glyph_names f g)) (sym (maps.contains_key-keys (glyph_names f g) w.0) ∙ w.1)
-        (or_left (wants m f w.0 p) (wants m g w.0 p) (and_from (not (has f p)) (calls_for m f w.0 p) (ap not l) w.2)))
+        let any = any_at nat_list_cmp_total name_same (wanted_by m f g p) w.0 (members (glyph_names f g)) (sym (maps.contains_key-keys (glyph_names f g) w.0) ∙ w.1) in
+        grind (cases, any, w.2)
 
     -- the names of both are the same in either order
     names_back : glyph_names f g ≡ glyph_names g f
@@ -96,10 +92,6 @@ module _ {O : Type 0} (m : Interpreter O) where
   names_at f g h n a = grind (cases, seeks_none f g h n, seeks_none g f (sym (component_conflict_back f g) ∙ h) n, a)
 
   module _ (f g : FontValue) where
-    -- without a conflict of shells, the fonts share what they have to
-    pub shares : shell_conflict f g ≡ None → Shares f g
-    shares h = shared_to f g (shared_so (shared_of f) (shared_of g) h)
-
     -- without a conflict of states, the fonts are compatible
     pub compatible : states_conflict m f g ≡ None → Compatible m f g
     compatible h =
@@ -108,7 +100,7 @@ module _ {O : Type 0} (m : Interpreter O) where
         let c = found_none GlyphDiffers (glyph_conflict f g) _ b.1 in
         let d = found_none (λ p. LacksComponent (unwrap_or (smallest (wanted_by m f g p) (glyph_names f g)) []) p) (component_conflict m f g) _ c.1 in
         let e = found_none (λ i. SubrDiffers i (smallest (used_by m f g i) (glyph_names f g))) (subr_conflict m f g) None d.1 in
-        let same = shares a.0 in
+        let same = shared_to f g (shared_so (shared_of f) (shared_of g) a.0) in
         record {
           shells = same.shells;
           present = same.present;
@@ -119,19 +111,6 @@ module _ {O : Type 0} (m : Interpreter O) where
         }
 
 -- ---- from the join to no conflict
-
--- fonts that share what they have to have no conflict of shells
-pub no_shell_conflict : (f g : FontValue) → Shares f g → shell_conflict f g ≡ None
-no_shell_conflict f g c = no_part_differs (shared_of f) (shared_of g) (shared_from f g c)
-
-module _ {O : Type 0} (m : Interpreter O) (f g : FontValue) (c : Compatible m f g) where
-  -- compatible fonts share what they have to
-  pub shares_all : Shares f g
-  shares_all = record { shells = c.shells; present = c.present; kinds = c.kinds }
-
-  -- compatible fonts have no conflict of glyphs
-  glyph_so : (n : List ℕ) → glyph_clashes f g n ≡ false
-  glyph_so n = not_from_true _ (so_agrees (maps.get f.glyphs n) (maps.get g.glyphs n) (glyph_agree m f g c n))
 
 module _ {O : Type 0} (m : Interpreter O) (f g : FontValue) where
   -- a component that f lacks and calls for is lacking in a compatible g, too
@@ -152,9 +131,9 @@ module _ {O : Type 0} (m : Interpreter O) (f g : FontValue) (c : Compatible m f 
   -- compatible fonts have no conflict of states
   pub no_states_conflict : states_conflict m f g ≡ None
   no_states_conflict =
-      none_found ShellDiffers (shell_conflict f g) _ (no_shell_conflict f g (shares_all m f g c))
+      none_found ShellDiffers (shell_conflict f g) _ (no_part_differs (shared_of f) (shared_of g) (shared_from f g (record { shells = c.shells; present = c.present; kinds = c.kinds })))
       (none_found CodeDiffers (code_conflict f g) _ (passes_none (code_clashes f g) (members (codes_of_both f.encoding g.encoding)) (λ k. not_from_true _ (so_agrees (code_state f.encoding k) (code_state g.encoding k) (c.codes k))))
-      (none_found GlyphDiffers (glyph_conflict f g) _ (passes_none (glyph_clashes f g) (members (glyph_names f g)) (glyph_so m f g c))
+      (none_found GlyphDiffers (glyph_conflict f g) _ (passes_none (glyph_clashes f g) (members (glyph_names f g)) (λ n. not_from_true _ (so_agrees (maps.get f.glyphs n) (maps.get g.glyphs n) (glyph_agree m f g c n))))
       (none_found (λ p. LacksComponent (unwrap_or (smallest (wanted_by m f g p) (glyph_names f g)) []) p) (component_conflict m f g) _ (passes_none (component_clashes m f g) (members (glyph_names f g)) no_component)
       (none_found (λ i. SubrDiffers i (smallest (used_by m f g i) (glyph_names f g))) (subr_conflict m f g) None (passes_none (subr_clashes m f g) (members (keys_of_both f.subrs g.subrs)) (λ i. not_from_true _ (so_agrees (subr_state m f i) (subr_state m g i) (c.subrs i)))) refl))))
 
@@ -180,32 +159,15 @@ no_conflict m f g = (
 -- ---- both orders
 
 module _ {O : Type 0} (m : Interpreter O) (f g : FontValue) where
-  shell_back : shell_conflict f g ≡ shell_conflict g f
-  shell_back = differing_back (shared_of f) (shared_of g)
-
-  code_back : code_conflict f g ≡ code_conflict g f
-  code_back = λ i. smallest (λ c. not (agrees_swap (code_state f.encoding c) (code_state g.encoding c) i)) (codes_swap f.encoding g.encoding i)
-
-  glyph_back : glyph_conflict f g ≡ glyph_conflict g f
-  glyph_back = λ i. smallest (λ n. not (agrees_swap (maps.get f.glyphs n) (maps.get g.glyphs n) i)) (names_back m f g i)
-
-  subr_back : subr_conflict m f g ≡ subr_conflict m g f
-  subr_back = λ i. smallest (λ k. not (agrees_swap (subr_state m f k) (subr_state m g k) i)) (both_back nat_cmp_total nat_cmp-IsAntisymmetric f.subrs g.subrs i)
-
-  user_back : (k : ℕ) → smallest (used_by m f g k) (glyph_names f g) ≡ smallest (used_by m g f k) (glyph_names g f)
-  user_back k = λ i. smallest (λ n. or_swap (executes m f n k) (executes m g n k) i) (names_back m f g i)
-
-  wanter_back : (p : List ℕ) → smallest (wanted_by m f g p) (glyph_names f g) ≡ smallest (wanted_by m g f p) (glyph_names g f)
-  wanter_back p = λ i. smallest (wanted_back m f g p i) (names_back m f g i)
-
   -- the lowest conflict of states is the same in both orders
   pub states_conflict_back : states_conflict m f g ≡ states_conflict m g f
   states_conflict_back = λ i.
-      found ShellDiffers (shell_back i)
-      (found CodeDiffers (code_back i)
-      (found GlyphDiffers (glyph_back i)
-      (found (λ p. LacksComponent (unwrap_or (wanter_back p i) []) p) (component_conflict_back m f g i)
-      (found (λ k. SubrDiffers k (user_back k i)) (subr_back i) None))))
+      found ShellDiffers (differing_back (shared_of f) (shared_of g) i)
+      (found CodeDiffers (smallest (λ c. not (agrees_swap (code_state f.encoding c) (code_state g.encoding c) i)) (codes_swap f.encoding g.encoding i))
+      (found GlyphDiffers (smallest (λ n. not (agrees_swap (maps.get f.glyphs n) (maps.get g.glyphs n) i)) (names_back m f g i))
+      (found (λ p. LacksComponent (unwrap_or (smallest (wanted_back m f g p i) (names_back m f g i)) []) p) (component_conflict_back m f g i)
+      (found (λ k. SubrDiffers k (smallest (λ n. or_swap (executes m f n k) (executes m g n k) i) (names_back m f g i)))
+      (smallest (λ k. not (agrees_swap (subr_state m f k) (subr_state m g k) i)) (both_back nat_cmp_total nat_cmp-IsAntisymmetric f.subrs g.subrs i)) None))))
 
   limit_back : (x : Option Conflict) → states_conflict m f g ≡ x → found (λ c. c) x (cond (is_within m f g) None (Some OverLimit)) ≡ found (λ c. c) x (cond (is_within m g f) None (Some OverLimit))
   limit_back None h = ap (λ j. cond (nat_le (weight j) weight_limit && nat_le (maps.len j.glyphs) count_limit) None (Some OverLimit)) (font_back m f g (compatible m f g h))

@@ -29,7 +29,7 @@ use Rattle.t1_algebra.proofs.JoinedStates.{subr_joined, name_joined, present_joi
 use Rattle.t1_algebra.proofs.Subsets.{stub_is, same_font, same_encoding, code_joined}
 use Rattle.std.specs.FinMap as maps
 use Rattle.std.proofs.lemmas.Bool.{cases_Bool}
-use Rattle.t1_algebra.proofs.Tables.{total-merged, at_number, get-numbered, entries-numbered, get-name, names_total, Shows, cases_key, codes_shown, shown_agree, agree_shown, shown_joined, to_agree}
+use Rattle.t1_algebra.proofs.Tables.{total-merged, at_number, get-numbered, entries-numbered, get-name, names_total, Shows, cases_key, codes_shown, shown_agree, agree_shown, shown_joined, to_agree, total_mapped}
 
 -- ---- states that agree
 
@@ -113,11 +113,6 @@ module _ {O : Type 0} (m : Interpreter O) (f g : FontValue) where
 
 -- ---- weights
 
--- the weight of a table by number is that of its map
-total_keyed : (es : List (ℕ × List ℕ)) → total subr_adds (map (λ e. (of_number e.0, e.1)) es) ≡ total (λ i c. length c - 1) es
-total_keyed [] = refl
-total_keyed (e ∷ es) = ap (λ n. length e.1 - 1 + n) (total_keyed es)
-
 -- leaving out entries that weigh nothing changes no sum
 total_kept : {K : Type 0} (w : K → List ℕ → ℕ) (p : K → Bool) (es : List (K × List ℕ)) → AllByRecursion (λ e. p e.0 ≡ false → w e.0 e.1 ≡ 0) es → total w (filter (λ e. p e.0) es) ≡ total w es
 total_kept w p [] h = refl
@@ -136,17 +131,10 @@ module _ {O : Type 0} (m : Interpreter O) (f : FontValue) where
   -- the Subrs of a font weigh as many stubs and what their states add
   subrs_weigh : total (subr_weight f.shell.len_iv) (maps.entries f.subrs) ≡ length (maps.keys f.subrs) * (129 + f.shell.len_iv) + total subr_adds (maps.entries (numbered (used_subrs m f)))
   subrs_weigh =
-      total_apart f.shell.len_iv (maps.entries f.subrs)
-      ∙ (λ i. count i * (129 + f.shell.len_iv) + added i)
-    where
-      count : length (maps.entries f.subrs) ≡ length (maps.keys f.subrs)
-      count = sym (length-map (maps.entries f.subrs) (λ e. e.0))
-
-      added : total (λ i c. length c - 1) (maps.entries f.subrs) ≡ total subr_adds (maps.entries (numbered (used_subrs m f)))
-      added = sym (ap (total subr_adds) (entries-numbered (used_subrs m f)) ∙ total_keyed (maps.entries (used_subrs m f))
-          ∙ ap (total (λ i c. length c - 1)) (entries-retain nat_cmp_total nat_cmp-IsAntisymmetric f.subrs (λ i. is_some (subr_state m f i)))
-          ∙ total_kept (λ i c. length c - 1) (λ i. is_some (subr_state m f i)) (maps.entries f.subrs)
-          (entries_all nat_cmp_total nat_cmp-IsAntisymmetric (λ i c. is_some (subr_state m f i) ≡ false → length c - 1 ≡ 0) f.subrs stub_adds_nothing))
+      let nothing = total_kept (λ i c. length c - 1) (λ i. is_some (subr_state m f i)) (maps.entries f.subrs) (entries_all nat_cmp_total nat_cmp-IsAntisymmetric (λ i c. is_some (subr_state m f i) ≡ false → length c - 1 ≡ 0) f.subrs stub_adds_nothing) in
+      let added = ap (total subr_adds) (entries-numbered (used_subrs m f)) ∙ total_mapped of_number (λ c. c) subr_adds (maps.entries (used_subrs m f))
+          ∙ ap (total (λ i c. length c - 1)) (entries-retain nat_cmp_total nat_cmp-IsAntisymmetric f.subrs (λ i. is_some (subr_state m f i))) ∙ nothing in
+      total_apart f.shell.len_iv (maps.entries f.subrs) ∙ (λ i. sym (length-map (maps.entries f.subrs) (λ e. e.0)) i * (129 + f.shell.len_iv) + sym added i)
 
   -- sought names add nothing to a sum over names
   in_all : (w : Meaning → Meaning → ℕ) → ((n : Meaning) → w n [] ≡ 0) → total w (maps.entries (name_states m f)) ≡ total (λ n c. w n (name_meaning (Some c))) (maps.entries f.glyphs)

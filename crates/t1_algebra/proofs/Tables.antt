@@ -313,10 +313,10 @@ module _ (g : Named) (s : TableMeaning) (are : AreSought s) (t : TableMeaning) (
 
 -- ---- weights
 
--- the sum over glyphs as states of names is the sum over glyphs
-total_valued : (w : Meaning → Meaning → ℕ) (es : List (List ℕ × List ℕ)) → total w (map (λ e. (e.0, name_meaning (Some e.1))) es) ≡ total (λ n c. w n (name_meaning (Some c))) es
-total_valued w [] = refl
-total_valued w (e ∷ es) = ap (λ n. w e.0 (name_meaning (Some e.1)) + n) (total_valued w es)
+-- the sum over entries with other keys and values
+pub total_mapped : {K X : Type 0} (k : K → Meaning) (v : X → Meaning) (w : Meaning → Meaning → ℕ) (es : List (K × X)) → total w (map (λ e. (k e.0, v e.1)) es) ≡ total (λ a b. w (k a) (v b)) es
+total_mapped k v w [] = refl
+total_mapped k v w (e ∷ es) = ap (λ n. w (k e.0) (v e.1) + n) (total_mapped k v w es)
 
 -- entries that weigh nothing sum to nothing
 total_none : (w : Meaning → Meaning → ℕ) (p : Meaning × Meaning → Bool) (es : List (Meaning × Meaning)) → AllByRecursion (λ e. w e.0 e.1 ≡ 0) es → total w (filter p es) ≡ 0
@@ -333,7 +333,7 @@ module _ (g : Named) (s : TableMeaning) (are : AreSought s) where
   pub names_total : (w : Meaning → Meaning → ℕ) → ((n : Meaning) → w n [] ≡ 0) → total w (maps.entries (names_table g s)) ≡ total (λ n c. w n (name_meaning (Some c))) (maps.entries g)
   names_total w none =
       let new : total w (new_entries (glyph_table g) (maps.entries s)) ≡ 0 = total_none w (λ e. not (maps.contains_key (glyph_table g) e.0)) (maps.entries s) (entries_all nat_list_cmp_total name_same (λ n v. w n v ≡ 0) s (λ n v is. ap (w n) (are n v is) ∙ none n)) in
-      let own : total w (maps.entries (glyph_table g)) ≡ total (λ n c. w n (name_meaning (Some c))) (maps.entries g) = ap (total w) (entries-map_values nat_list_cmp_total name_same (λ n c. name_meaning (Some c)) g) ∙ total_valued w (maps.entries g) in
+      let own : total w (maps.entries (glyph_table g)) ≡ total (λ n c. w n (name_meaning (Some c))) (maps.entries g) = ap (total w) (entries-map_values nat_list_cmp_total name_same (λ n c. name_meaning (Some c)) g) ∙ total_mapped (λ n. n) (λ c. name_meaning (Some c)) w (maps.entries g) in
       let all = total-merged nat_list_cmp_total w name_same (glyph_table g) s in
       omega (arith, all, new, own)
 
