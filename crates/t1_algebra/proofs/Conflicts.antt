@@ -23,10 +23,6 @@ use Rattle.t1_algebra.proofs.Maps.{in_both, both_back}
 -- ---- tests
 
 module _ (x y : Option (List ℕ)) where
-  -- states that pass the test join
-  pub agrees_so : agrees x y ≡ true → Agree x y
-  agrees_so h = grind (cases, bytes_decide.so)
-
   -- states that join pass the test
   pub so_agrees : Agree x y → agrees x y ≡ true
   so_agrees h = grind (cases, bytes_decide.self)
@@ -42,17 +38,11 @@ codes_swap d e = grind (cases, both_back nat_cmp_total nat_cmp-IsAntisymmetric {
 -- if no key of two maps has states that clash, and keys that the second lacks have no state, all states agree
 all_agree : {K : Type 0} {R : K → K → Ordering} (o : IsTotalOrder R) (same : IsAntisymmetric R) (a b : maps.FinMap R (List ℕ)) (x y : K → Option (List ℕ)) → smallest (λ k. not (agrees (x k) (y k))) (keys_of_both a b) ≡ None
     → (k : K) → (maps.contains_key b k ≡ false → y k ≡ None) → Agree (x k) (y k)
-all_agree o same a b x y h k absent = grind (cases, absent, in_both o same a b k, smallest_none o same (λ k. not (agrees (x k) (y k))) (keys_of_both a b) k h, agrees_so (x k) (y k))
+all_agree o same a b x y h k absent = grind (cases, absent, in_both o same a b k, smallest_none o same (λ k. not (agrees (x k) (y k))) (keys_of_both a b) k h, bytes_decide.so)
 
 -- ---- components that are lacking
 
 module _ {O : Type 0} (m : Interpreter O) where
-  -- a component that f seeks is called for by a glyph of f
-  pub wanting : (f g : FontValue) (p : List ℕ) → is_sought m f p ≡ true → (n : List ℕ) × (maps.contains_key (glyph_names f g) n ≡ true) × (calls_for m f n p ≡ true)
-  wanting f g p h =
-      let r = seeker m f p h in
-      (r.0, in_both nat_list_cmp_total name_same f.glyphs g.glyphs r.0 ∙ ap (λ b. b || has g r.0) (ap is_some r.2), ap (called_at m f p) r.2 ∙ r.3)
-
   -- ---- from no conflict to the join
 
   module _ (f g : FontValue) where
@@ -65,9 +55,9 @@ module _ {O : Type 0} (m : Interpreter O) where
     -- a component that f lacks and seeks and that g has is in conflict
     lacks_clashes : (p : List ℕ) → has f p ≡ false → is_sought m f p ≡ true → has g p ≡ true → component_clashes m f g p ≡ true
     lacks_clashes p l s h =
-        let w = wanting f g p s in
-        let any = any_at nat_list_cmp_total name_same (wanted_by m f g p) w.0 (members (glyph_names f g)) (sym (maps.contains_key-keys (glyph_names f g) w.0) ∙ w.1) in
-        grind (cases, any, w.2)
+        let r = seeker m f p s in
+        let any = any_at nat_list_cmp_total name_same (wanted_by m f g p) r.0 (members (glyph_names f g)) (grind (cases, in_both nat_list_cmp_total name_same f.glyphs g.glyphs r.0, maps.contains_key-keys (glyph_names f g) r.0, r.2)) in
+        grind (cases, any, r.2, r.3)
 
     -- the names of both are the same in either order
     names_back : glyph_names f g ≡ glyph_names g f
@@ -76,20 +66,13 @@ module _ {O : Type 0} (m : Interpreter O) where
     wanted_back : (p : List ℕ) → wanted_by m f g p ≡ wanted_by m g f p
     wanted_back p = λ i n. or_swap (wants m f n p) (wants m g n p) i
 
-    component_back : (p : List ℕ) → component_clashes m f g p ≡ component_clashes m g f p
-    component_back p = λ i. or_swap (has f p) (has g p) i && list_any (wanted_back p i) (members (names_back i))
-
   module _ (f g : FontValue) where
     -- without a conflict of components, f seeks none that it lacks and g has
     seeks_none : component_conflict m f g ≡ None → (p : List ℕ) → has f p ≡ false → has g p ≡ true → is_sought m f p ≡ false
     seeks_none h p l k = grind (cases, l, k, lacks_clashes f g p, in_both nat_list_cmp_total name_same f.glyphs g.glyphs p, smallest_none nat_list_cmp_total name_same (component_clashes m f g) (glyph_names f g) p h)
 
     component_conflict_back : component_conflict m f g ≡ component_conflict m g f
-    component_conflict_back = λ i. smallest (λ p. component_back f g p i) (names_back f g i)
-
-  -- without conflicts of glyphs and components, the states of a name agree
-  names_at : (f g : FontValue) → component_conflict m f g ≡ None → (n : List ℕ) → Agree (maps.get f.glyphs n) (maps.get g.glyphs n) → Agree (name_state m f n) (name_state m g n)
-  names_at f g h n a = grind (cases, seeks_none f g h n, seeks_none g f (sym (component_conflict_back f g) ∙ h) n, a)
+    component_conflict_back = λ i. smallest (λ p. or_swap (has f p) (has g p) i && list_any (wanted_back f g p i) (members (names_back f g i))) (names_back f g i)
 
   module _ (f g : FontValue) where
     -- without a conflict of states, the fonts are compatible
@@ -106,7 +89,7 @@ module _ {O : Type 0} (m : Interpreter O) where
           present = same.present;
           kinds = same.kinds;
           subrs = λ i. all_agree nat_cmp_total nat_cmp-IsAntisymmetric f.subrs g.subrs (subr_state m f) (subr_state m g) e.0 i (λ k. grind (cases, k));
-          names = λ n. names_at f g d.0 n (all_agree nat_list_cmp_total name_same f.glyphs g.glyphs (maps.get f.glyphs) (maps.get g.glyphs) c.0 n (λ k. grind (cases, k)));
+          names = λ n. grind (cases, seeks_none f g d.0 n, seeks_none g f (sym (component_conflict_back f g) ∙ d.0) n, all_agree nat_list_cmp_total name_same f.glyphs g.glyphs (maps.get f.glyphs) (maps.get g.glyphs) c.0 n (λ k. grind (cases, k)));
           codes = codes_agree_at f g f.encoding g.encoding b.0;
         }
 

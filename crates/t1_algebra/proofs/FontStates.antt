@@ -42,14 +42,6 @@ module _ (x y : Option (Option (List ℕ))) where
   names_to : PlacesAgree (meant x) (meant y) → Agree x y
   names_to h = grind (arith, to_agree (meant x) (meant y) h, cases_Option x, cases_Option y, cases_Option {X = List ℕ})
 
-  -- names whose states agree have meanings that agree
-  names_from : Agree x y → PlacesAgree (meant x) (meant y)
-  names_from h = grind (cases, same_meaning-self)
-
-  -- the meaning of a join of names is the join of their meanings
-  names_joined : meant (joined x y) ≡ joined_state (meant x) (meant y)
-  names_joined = grind cases
-
 -- ---- what stands at each key
 
 module _ {O : Type 0} (m : Interpreter O) (f : FontValue) where
@@ -84,7 +76,7 @@ module _ {O : Type 0} (m : Interpreter O) (f g : FontValue) where
     shared_from f g (record { shells = c.shells; present = c.present; kinds = c.kinds }),
     (
       shown_agree _ _ _ _ (codes_shown f.encoding) (codes_shown g.encoding) c.codes,
-      (λ n. grind (arith, get-names m f n, get-names m g n, names_from (name_state m f n) (name_state m g n) (c.names n)), shown_agree _ _ _ _ (subrs_shown m f) (subrs_shown m g) c.subrs),
+      (λ n. grind (cases, get-names m f n, get-names m g n, c.names n, same_meaning-self), shown_agree _ _ _ _ (subrs_shown m f) (subrs_shown m g) c.subrs),
     ),
   )
 
@@ -107,7 +99,7 @@ module _ {O : Type 0} (m : Interpreter O) (f g : FontValue) where
       let word : word_of j.encoding ≡ word_of f.encoding = grind (cases, c.kinds) in
       let codes = shown_joined _ _ _ _ (codes_shown f.encoding) (codes_shown g.encoding) _ _ (codes_shown j.encoding) (code_joined f.encoding g.encoding c.kinds) in
       let names = same_table (name_states m j) (joined_table (name_states m f) (name_states m g)) (λ n.
-      grind (arith, get-names m j n, name_joined m f g c n, names_joined (name_state m f n) (name_state m g n), get-names m f n, get-names m g n, get_joined (name_states m f) (name_states m g) n)) in
+      grind (cases, get-names m j n, name_joined m f g c n, get-names m f n, get-names m g n, get_joined (name_states m f) (name_states m g) n)) in
       let subrs = shown_joined _ _ _ _ (subrs_shown m f) (subrs_shown m g) _ _ (subrs_shown m j) (subr_joined m f g c) in
       ((a.0, λ i. (f.shell, (word i, same_indices j.subrs f.subrs (present_joined m f g) i))), ((a.1.0, codes), ((a.1.1.0, names), (a.1.1.1, subrs))))
 

@@ -53,10 +53,6 @@ font_within f h = record { weight = h.light; glyphs = h.glyphs.few }
 pub fonts_within : (t : Grouping FontValue) → EachLeaf IsFont t → EachLeaf IsWithin t
 fonts_within t h = each_weaker IsFont IsWithin font_within t h
 
--- the font weighs no more than a font may
-abbrev IsLight : FontValue → Type 0
-IsLight f = weight f ≤ weight_limit
-
 module _ {O : Type 0} (m : Interpreter O) where
   -- a subset of a font is a font
   pub subset_is_font : (f : FontValue) → IsFont f → (a : Names) → IsOf f a → IsFont (subset m f a)
@@ -66,7 +62,7 @@ module _ {O : Type 0} (m : Interpreter O) where
   pub joined_is_font : (f g : FontValue) → IsFont f → IsFont g → Join m f g → IsFont (joined_font m f g)
   joined_is_font f g h k j =
       let e = joined_are_entries m f g j.states in
-      subst IsFont (sym e) (join_is_font f g h k j.states.shells j.states.kinds j.within.glyphs (subst (λ (j : FontValue). IsLight j) e j.within.weight))
+      subst IsFont (sym e) (join_is_font f g h k j.states.shells j.states.kinds j.within.glyphs (subst (λ (j : FontValue). weight j ≤ weight_limit) e j.within.weight))
 
   -- two subsets of a font join in either order, to the subset over both sets of names
   pub two_subsets : (f : FontValue) → IsFont f → (a b : Names) → IsOf f a → IsOf f b →

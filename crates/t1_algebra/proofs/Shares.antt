@@ -25,10 +25,6 @@ module _ {X : Type 0} (t : X → X → Bool) where
     pub so : (x y : X) → t x y ≡ true → x ≡ y
     pub self : (x : X) → t x x ≡ true
 
-  -- what is equal passes the test
-  pub is_same : Decides → (x y : X) → x ≡ y → t x y ≡ true
-  is_same d x y e = ap (t x) (sym e) ∙ d.self x
-
   -- the test is the same in both orders
   pub swaps : Decides → (x y : X) → t x y ≡ t y x
   swaps d x y = grind (cases, d.so x y, d.so y x, d.self x)

@@ -128,10 +128,6 @@ module _ {O : Type 0} (m : Interpreter O) (f : FontValue) (a : Names) where
 -- ---- two cuts
 
 module _ (k l : Names) (e : Encoding) where
-  -- two cuts of an Encoding agree at each code
-  encodings_agree : (c : ℕ) → Agree (code_state (restrict_encoding (sets.contains k) e) c) (code_state (restrict_encoding (sets.contains l) e) c)
-  encodings_agree c = grind (cases, get-code (sets.contains k) e c, get-code (sets.contains l) e c)
-
   -- two cuts of an Encoding are the same word or both tables
   encodings_kind : SameKind (restrict_encoding (sets.contains k) e) (restrict_encoding (sets.contains l) e)
   encodings_kind = grind cases
@@ -146,10 +142,6 @@ module _ {O : Type 0} (m : Interpreter O) (f : FontValue) (base : has f notdef �
   subrs_agree : (i : ℕ) (x : Option (List ℕ)) → maps.get f.subrs i ≡ x → Agree (subr_state m (subset m f a) i) (subr_state m (subset m f b) i)
   subrs_agree i None h = grind (arith, h, get-subr m f base a ia i, get-subr m f base b ib i)
   subrs_agree i (Some c) h = grind (cases, subr_state_of m f base a ia i c h, subr_state_of m f base b ib i c h)
-
-  -- the states of each name agree in two subsets
-  names_agree : (n : List ℕ) → Agree (name_state m (subset m f a) n) (name_state m (subset m f b) n)
-  names_agree n = grind (cases, get-glyph m f base a ia n, get-glyph m f base b ib n, not_sought m f base a ia n, not_sought m f base b ib n)
 
   -- ---- the joined font
 
@@ -183,8 +175,8 @@ module _ {O : Type 0} (m : Interpreter O) (f : FontValue) (base : has f notdef �
     present = λ i. presence a ia i ∙ sym (presence b ib i);
     kinds = encodings_kind (keep m f a) (keep m f b) f.encoding;
     subrs = λ i. subrs_agree i (maps.get f.subrs i) refl;
-    names = names_agree;
-    codes = encodings_agree (keep m f a) (keep m f b) f.encoding;
+    names = λ n. grind (cases, get-glyph m f base a ia n, get-glyph m f base b ib n, not_sought m f base a ia n, not_sought m f base b ib n);
+    codes = λ c. grind (cases, get-code (sets.contains (keep m f a)) f.encoding c, get-code (sets.contains (keep m f b)) f.encoding c);
   }
 
   -- two subsets of a font that is within the limits join

@@ -42,17 +42,12 @@ module _ {K X : Type 0} {R : K → K → Ordering} (o : IsTotalOrder R) (w : K �
   all_left [] = refl
   all_left (f ∷ fs) = ap (λ n. w f.0 f.1 + n) (all_left fs)
 
-  step : (f : K × X) (es fs : List (K × X)) (b : Bool) → not (is_some (find R f.0 es)) ≡ b → total w (left_over es (f ∷ fs)) ≡ total w (cond b (f ∷ left_over es fs) (left_over es fs))
-  step f es fs b h = ap (λ b. total w (cond b (f ∷ left_over es fs) (left_over es fs))) h
-
-  not_tied : (e : K × X) (q : K) (es : List (K × X)) → R e.0 q ≡ Less → find R q (e ∷ es) ≡ find R q es
-  not_tied e q es h = ap (λ r. cond (is_eq r) (Some e.1) (find R q es)) (o.antisymm q e.0 ∙ ap ordering_reverse h)
-
   -- an entry whose key is below all of fs leaves the same entries over
   same_left : (e : K × X) (es fs : List (K × X)) → T (below_all R e.0 fs) → left_over (e ∷ es) fs ≡ left_over es fs
   same_left e es [] h = refl
   same_left e es (f ∷ fs) h =
-      λ i. cond (not (is_some (not_tied e f.0 es (lt_is _ (both_true _ _ h).0) i))) (f ∷ same_left e es fs (both_true _ _ h).1 i) (same_left e es fs (both_true _ _ h).1 i)
+      let below = both_true (is_lt (R e.0 f.0)) (below_all R e.0 fs) h in
+      grind (cases, lt_is (R e.0 f.0) below.0, o.antisymm f.0 e.0, same_left e es fs below.1)
 
   -- merged entries sum to the first and what is left over of the second
   sum_weave : (e : K × X) (es fs : List (K × X)) → T (below_all R e.0 es) → ((gs : List (K × X)) → Rises R gs → total w (merge R es gs) ≡ total w es + total w (left_over es gs)) → Rises R fs
@@ -63,21 +58,15 @@ module _ {K X : Type 0} {R : K → K → Ordering} (o : IsTotalOrder R) (w : K �
       let fr = (both_true _ _ h).1 in
       elim (R e.0 f.0) as (λ r. R e.0 f.0 ≡ r → total w (by_order r (e ∷ merge R es (f ∷ fs)) (e ∷ merge R es fs) (f ∷ weave R e (merge R es) fs)) ≡ total w (e ∷ es) + total w (left_over (e ∷ es) (f ∷ fs))) [
         | Less ↦ λ p.
-            let rest = k (f ∷ fs) h in
-            let left = ap (total w) (same_left e es (f ∷ fs) (make_both _ _ (is_lt_from p) (Below-less o e.0 f.0 fs p fb))) in
-            omega (arith, rest, left)
+            let left = same_left e es (f ∷ fs) (make_both _ _ (is_lt_from p) (Below-less o e.0 f.0 fs p fb)) in
+            grind (arith, k (f ∷ fs) h, left)
         | Equal ↦ λ p.
-            let rest = k fs fr in
-            let tie : is_eq (R f.0 e.0) ≡ true = ap is_eq (o.antisymm f.0 e.0 ∙ ap ordering_reverse p) in
-            let gone = step f (e ∷ es) fs false (ap (λ t. not (is_some (cond t (Some e.1) (find R f.0 es)))) tie) in
-            let left = ap (total w) (same_left e es fs (below_tied o e.0 f.0 fs p fb)) in
-            omega (arith, rest, gone, left)
+            let left = same_left e es fs (below_tied o e.0 f.0 fs p fb) in
+            grind (arith, p, k fs fr, o.antisymm f.0 e.0, left)
         | Greater ↦ λ p.
             let less : R f.0 e.0 ≡ Less = o.antisymm f.0 e.0 ∙ ap ordering_reverse p in
-            let none : find R f.0 (e ∷ es) ≡ None = find_below o f.0 (e ∷ es) (make_both _ _ (is_lt_from less) (Below-less o f.0 e.0 es less b)) in
-            let new = step f (e ∷ es) fs true (ap (λ (x : Option X). not (is_some x)) none) in
-            let rest = sum_weave e es fs b k fr in
-            omega (arith, new, rest)
+            let none = find_below o f.0 (e ∷ es) (make_both _ _ (is_lt_from less) (Below-less o f.0 e.0 es less b)) in
+            grind (arith, none, sum_weave e es fs b k fr)
       ] refl
 
   sum_merge : (es fs : List (K × X)) → Rises R es → Rises R fs → total w (merge R es fs) ≡ total w es + total w (left_over es fs)
@@ -171,12 +160,9 @@ sorted_keyed [] = refl
 sorted_keyed (e ∷ es) = λ i. below_keyed e.0 es i && sorted_keyed es i
 
 module _ (m : Numbered) where
-  rises : T (is_sorted meaning_cmp (keyed (maps.entries m)))
-  rises = subst T (sym (sorted_keyed (maps.entries m))) (maps.entries_sorted m)
-
   -- the entries of a table by number are those of its map
   pub entries-numbered : maps.entries (numbered m) ≡ keyed (maps.entries m)
-  entries-numbered = maps.entries-from_sorted meaning_cmp (keyed (maps.entries m)) rises
+  entries-numbered = maps.entries-from_sorted meaning_cmp (keyed (maps.entries m)) (subst T (sym (sorted_keyed (maps.entries m))) (maps.entries_sorted m))
 
   -- a table by number has the values of its map
   pub get-numbered : (q : Meaning) → maps.get (numbered m) q ≡ at_number (maps.get m) q
@@ -245,13 +231,9 @@ module _ (g : Named) (s : TableMeaning) (are : AreSought s) (t : TableMeaning) (
   pub seeks_in : is_sought_in (maps.get t n) ≡ (not (maps.contains_key g n) && maps.contains_key s n)
   seeks_in = grind (cases, at, are n)
 
-  -- a name has a state if it has a glyph or is one of the sought names
-  pub has_in : maps.contains_key t n ≡ (maps.contains_key g n || maps.contains_key s n)
-  has_in = grind (cases, at)
-
   -- if a name has no glyph, it has a state if it is one of the sought names
   pub has_else : (b y : Bool) → b ≡ is_some (behind_mark (maps.get t n)) → b ≡ false → y ≡ maps.contains_key s n → y ≡ maps.contains_key t n
-  has_else b y e none k = grind (arith, charstring_in, has_in)
+  has_else b y e none k = grind (cases, at, are n)
 
   -- and is sought if it is one of these
   pub seeks_else : (b y : Bool) → b ≡ is_some (behind_mark (maps.get t n)) → b ≡ false → y ≡ maps.contains_key s n → y ≡ is_sought_in (maps.get t n)

@@ -148,12 +148,6 @@ module _ (f : FontValue) where
     | inr b ↦ from_indices most ts w.1 q b
   ]
 
--- ---- stubs
-
--- a map of stubs has one at each of its indices, and nothing else
-get_stubs : (indices : List ℕ) (q : ℕ) → maps.get (stubs_at indices) q ≡ cond (list_any (eq_by_cmp nat_cmp q) indices) (Some stub) None
-get_stubs indices q = get-valued nat_cmp_total stub indices q
-
 -- ---- tables without entries
 
 -- there are words for these entries, if there is a table
@@ -184,10 +178,6 @@ no_entries s (Some t) m h e = no_words (maps.entries m) t h.words e.0
 -- a map without entries has nothing at any key
 pub get_nothing : (m : Numbered) → maps.entries m ≡ [] → (q : ℕ) → maps.get m q ≡ None
 get_nothing m e q = maps.get-entries m q ∙ ap (maps.find nat_cmp q) e
-
--- nothing is left of nothing, by either test
-pub none_either_way : {X : Type 0} (b : Bool) → ◌≡◌ {A = Option X} (cond b None None) None
-none_either_way b = grind cases
 
 -- a font with entries has a table, so a cut to n declares n
 has_table : (s : Shell) (o : Option SubrsShell) (m : Numbered) → SubrsFit s o m → (q : ℕ) → maps.contains_key m q ≡ true → (n : ℕ) → n ≤ declared_count o → declared_count (option_map (declares n) o) ≡ n
@@ -255,11 +245,8 @@ module _ (f : FontValue) (h : IsFont f) (most : ℕ) (fits : most ≤ declared_c
 
     -- the font that is made even has the entry of the subset cut to the largest count at each index
     filled_at : (es : List (ℕ × List ℕ)) → maps.entries t.font.subrs ≡ es → (q : ℕ) → maps.get (with_stubs inside t.font.subrs es) q ≡ entry_in f t.names most q (maps.get f.subrs q)
-    filled_at [] e q = get_nothing t.font.subrs e q ∙ sym (none_either_way (nat_lt q most)) ∙ ap (entry_in f t.names most q) (sym (nothing e q))
-    filled_at (x ∷ es) e q =
-        get-merged nat_cmp_total nat_cmp-IsAntisymmetric t.font.subrs (stubs_at inside) q
-        ∙ (λ i. joined (get_font f t w q i) (get_stubs inside q i))
-        ∙ value_same q
+    filled_at [] e q = grind (cases, get_nothing t.font.subrs e q, nothing e q)
+    filled_at (x ∷ es) e q = grind (cases, get-merged nat_cmp_total nat_cmp-IsAntisymmetric t.font.subrs (stubs_at inside) q, get_font f t w q, get-valued nat_cmp_total stub inside q, value_same q)
 
     -- the truncated subset, made even, is the subset without its tag, cut to the largest count
     pub made_is : filled indices (even most t.font) ≡ cut_to most (without_tag (subset profile f t.names))
