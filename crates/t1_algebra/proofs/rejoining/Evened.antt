@@ -23,6 +23,7 @@ use Rattle.t1_algebra.specs.Rejoins.{IsUntagged, MergingFontsAreEven}
 use Rattle.t1_algebra.proofs.Orders.{Below, above}
 use Rattle.t1_algebra.proofs.Shares.{shared_to}
 use Rattle.std.specs.FinMap as maps
+use Rattle.t1_algebra.proofs.Sets.{cases}
 
 -- if a font has the same glyphs and more Subrs, each glyph stays drawn
 stays_drawn : (subrs : FontValue → Subrs) (f j : FontValue) → Extends (subrs f) (subrs j) → j.glyphs ≡ f.glyphs → (n : List ℕ) → StaysDrawn subrs f j n
@@ -44,8 +45,7 @@ stubs_added indices m (e ∷ es) i c is = get-merged nat_cmp_total nat_cmp-IsAnt
 
 -- a raised count declares no fewer Subrs
 no_fewer : (i count : ℕ) (s : Option SubrsShell) → i < declared_count s → i < declared_count (option_map (raised count) s)
-no_fewer i count None h = h
-no_fewer i count (Some t) h = omega (arith, h)
+no_fewer i count s h = grind cases
 
 module _ (indices : List ℕ) (count : ℕ) (f : FontValue) where
   -- the font that is made even
@@ -58,9 +58,7 @@ module _ (indices : List ℕ) (count : ℕ) (f : FontValue) where
 
   -- the font that is made even shows all the Subrs that the font showed
   seen_added : Extends (subr_at f) (subr_at made)
-  seen_added i c is =
-      let both = cond_some (nat_lt i (declared_count f.shell.subrs)) (maps.get f.subrs i) c is in
-      ap (λ b. cond b (maps.get made.subrs i) None) (lt-ltb i (declared_count made.shell.subrs) (no_fewer i count f.shell.subrs (ltb-true i (declared_count f.shell.subrs) both.0))) ∙ subrs_added i c both.1
+  seen_added i c is = grind (cases, is, subrs_added i c, no_fewer i count f.shell.subrs, ltb-true i (declared_count f.shell.subrs), lt-ltb i (declared_count made.shell.subrs))
 
   -- each glyph stays drawn in the font that is made even
   pub all_stay_drawn : AllStayDrawn f made

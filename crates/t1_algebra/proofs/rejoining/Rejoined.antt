@@ -34,11 +34,7 @@ use Rattle.t1_algebra.proofs.Subsets.{cond_some}
 
 -- a map that has nothing at any key has no entries
 entries_none : (m : Numbered) → ((q : ℕ) → maps.get m q ≡ None) → maps.entries m ≡ []
-entries_none m h = by_entries (maps.entries m) refl
-  where
-    by_entries : (es : List (ℕ × List ℕ)) → maps.entries m ≡ es → es ≡ []
-    by_entries [] e = refl
-    by_entries (x ∷ es) e = Some_None (sym (maps.get-entries m x.0 ∙ (ap (maps.find nat_cmp x.0) e ∙ find_first nat_cmp_total nat_cmp-IsAntisymmetric x es)) ∙ h x.0)
+entries_none m h = ap maps.entries (maps.same_map nat_cmp_total nat_cmp-IsAntisymmetric m (maps.from_sorted []) (λ q. h q ∙ sym (maps.get-from_sorted nat_cmp [] q tt))) ∙ maps.entries-from_sorted nat_cmp [] tt
 
 -- a table with entries has words to write them
 some_words : (k : ℕ) (v : List ℕ) (es : List (ℕ × List ℕ)) (s : SubrsShell) → maps.find nat_cmp k es ≡ Some v → SubrWords es s → IsWord 32 s.rd × IsPhrase true s.put
@@ -115,11 +111,8 @@ module _ (f : FontValue) (h : IsFont f) (most : ℕ) where
   all_low (t ∷ ts) e w =
       let rest = all_low ts e w.1 in
       let both = kept_union profile f t.names (names_of_all ts) h.glyphs.notdef w.0.0.names rest.1 in (
-        λ i k p. elim (in_union nat_cmp_total nat_cmp-IsAntisymmetric (kept profile f t.names) (kept profile f (names_of_all ts)) i (ap (λ (s : Numbers). sets.contains s i) (sym both) ∙ k)) [
-          | inl x ↦ omega (arith, w.0.0.kept i x p, w.0.1)
-          | inr y ↦ rest.0 i y p
-        ],
-        λ n k. elim (in_union nat_list_cmp_total name_same t.names (names_of_all ts) n k) [ inl x ↦ w.0.0.names n x | inr y ↦ rest.1 n y ],
+        λ i k p. grind (cases, both, sets.contains-union nat_cmp_total (kept profile f t.names) (kept profile f (names_of_all ts)) i, w.0.0.kept i, w.0.1, rest.0 i, k, p),
+        λ n k. grind (cases, sets.contains-union nat_list_cmp_total t.names (names_of_all ts) n, w.0.0.names n, rest.1 n, k),
       )
 
   -- a kept glyph draws in the cut font as it does in the font

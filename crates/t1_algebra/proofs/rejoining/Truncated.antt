@@ -22,6 +22,7 @@ use Rattle.t1_algebra.specs.Laws.{IsOf}
 use Rattle.t1_algebra.proofs.Maps.{get-merged, get-valued}
 use Rattle.std.specs.FinMap as maps
 use Rattle.std.specs.FinSet as sets
+use Rattle.std.proofs.lemmas.List.Folds.{list_any-append}
 
 -- the font without its tag, cut to its first Subrs
 abbrev pub first_of : ℕ → FontValue → FontValue
@@ -83,20 +84,14 @@ module _ (f : FontValue) (h : IsFont f) (n : ℕ) (a : Names) (inside : IsOf f a
 
 -- ---- counts
 
--- a table cut to n declares n, if it declared no fewer
-declared_of : (n : ℕ) (s : Option SubrsShell) → n ≤ declared_count s → declared_count (option_map (declares n) s) ≡ n
-declared_of n None le = omega (arith, le)
-declared_of n (Some s) le = refl
-
 -- a table cut to n and raised to a larger count is the table cut to that count
 raised_declares : (most n : ℕ) (s : Option SubrsShell) → n ≤ most → option_map (raised most) (option_map (declares n) s) ≡ option_map (declares most) s
-raised_declares most n None le = refl
-raised_declares most n (Some s) le = grind arith
+raised_declares most n s le = grind cases
 
 module _ (f : FontValue) where
   -- a truncated subset declares its count
   pub count_is : (t : Truncated) → IsTruncated f t → declared_count t.font.shell.subrs ≡ t.count
-  count_is t w = ap (λ (g : FontValue). declared_count g.shell.subrs) w.others ∙ declared_of t.count f.shell.subrs w.count
+  count_is t w = grind (cases, ap (λ (g : FontValue). declared_count g.shell.subrs) w.others, w.count)
 
   -- the largest count that is declared is the largest of the counts
   pub largest_is : (ts : List Truncated) → AllByRecursion (IsTruncated f) ts → largest_count (fonts_of ts) ≡ largest ts
@@ -133,20 +128,12 @@ module _ (f : FontValue) where
   -- the indices of all fonts include each index of the font below the largest count
   reached : (most : ℕ) (ts : List Truncated) → AllByRecursion (IsTruncated f) ts → (q : ℕ) → q < largest ts → maps.contains_key f.subrs q ≡ true → listed q (all_indices most ts) ≡ true
   reached most [] w q lt is = absurd (omega (arith, lt))
-  reached most (t ∷ ts) w q lt is = elim (cases_Bool (nat_lt q t.count)) [
-    | inl b ↦ any_append_left (eq_by_cmp nat_cmp q) (maps.keys t.font.subrs) (all_indices most ts)
-        (grind (cases, b, is, maps.contains_key-keys t.font.subrs q, get_font t w.0 q))
-    | inr b ↦ any_append_right (eq_by_cmp nat_cmp q) (maps.keys t.font.subrs) (all_indices most ts)
-        (reached most ts w.1 q (omega (arith, lt, ltb-false q t.count b)) is)
-  ]
+  reached most (t ∷ ts) w q lt is = grind (cases, lt, is, list_any-append (eq_by_cmp nat_cmp q) (maps.keys t.font.subrs) (all_indices most ts), maps.contains_key-keys t.font.subrs q, get_font t w.0 q, reached most ts w.1 q, ltb-false q t.count)
 
   -- each of the indices of all fonts is an index of the font
   from_indices : (most : ℕ) (ts : List Truncated) → AllByRecursion (IsTruncated f) ts → (q : ℕ) → listed q (all_indices most ts) ≡ true → maps.contains_key f.subrs q ≡ true
   from_indices most [] w q l = clash false l refl
-  from_indices most (t ∷ ts) w q l = elim (any_append (eq_by_cmp nat_cmp q) (maps.keys t.font.subrs) (all_indices most ts) l) [
-    | inl a ↦ grind (cases, a, maps.contains_key-keys t.font.subrs q, get_font t w.0 q)
-    | inr b ↦ from_indices most ts w.1 q b
-  ]
+  from_indices most (t ∷ ts) w q l = grind (cases, l, list_any-append (eq_by_cmp nat_cmp q) (maps.keys t.font.subrs) (all_indices most ts), maps.contains_key-keys t.font.subrs q, get_font t w.0 q, from_indices most ts w.1 q)
 
 -- ---- tables without entries
 
@@ -184,11 +171,6 @@ has_table : (s : Shell) (o : Option SubrsShell) (m : Numbered) → SubrsFit s o 
 has_table s None m h q is n le = clash (maps.contains_key m q) is (ap is_some (get_nothing m h.0 q))
 has_table s (Some t) m h q is n le = refl
 
--- a table cut to n declares n at most
-declares_below : (n : ℕ) (o : Option SubrsShell) → declared_count (option_map (declares n) o) ≤ n
-declares_below n None = omega arith
-declares_below n (Some s) = omega arith
-
 module _ (f : FontValue) (h : IsFont f) (most : ℕ) (fits : most ≤ declared_count f.shell.subrs) (t : Truncated) (w : IsTruncated f t) (le : t.count ≤ most) where
   -- if a truncated subset has no entries, the table of the font has no words
   pub words_empty : maps.entries t.font.subrs ≡ [] → WordsOf [] f.shell.subrs
@@ -213,7 +195,7 @@ module _ (f : FontValue) (h : IsFont f) (most : ℕ) (fits : most ≤ declared_c
   declared_is = ap (λ (s : Shell). declared_count s.subrs) shell_same
 
   declared_low : declared ≤ most
-  declared_low = subst (λ (n : ℕ). n ≤ most) (sym declared_is) (declares_below most f.shell.subrs)
+  declared_low = grind (cases, declared_is)
 
   module _ (indices : List ℕ) (there : (q : ℕ) → q < most → maps.contains_key f.subrs q ≡ true → list_any (eq_by_cmp nat_cmp q) indices ≡ true) (from : (q : ℕ) → list_any (eq_by_cmp nat_cmp q) indices ≡ true → maps.contains_key f.subrs q ≡ true) where
     -- the indices that are then declared
@@ -226,14 +208,6 @@ module _ (f : FontValue) (h : IsFont f) (most : ℕ) (fits : most ≤ declared_c
     in_both : (q : ℕ) → is_in q ≡ true → (list_any (eq_by_cmp nat_cmp q) indices ≡ true) × (nat_lt q declared ≡ true)
     in_both q l = any_filter nat_cmp_total nat_cmp-IsAntisymmetric (λ i. nat_lt i declared) q indices l
 
-    -- no stub stands where the font has no entry
-    outside : (q : ℕ) → maps.get f.subrs q ≡ None → is_in q ≡ false
-    outside q e = false_from_ne_true (is_in q) (λ l. clash (maps.contains_key f.subrs q) (from q (in_both q l).0) (ap is_some e))
-
-    -- no stub stands at the count or above it
-    above : (q : ℕ) → nat_lt q most ≡ false → is_in q ≡ false
-    above q e = false_from_ne_true (is_in q) (λ l. clash (nat_lt q most) (lt-ltb q most (omega (arith, ltb-true q declared (in_both q l).1, declared_low))) e)
-
     -- a stub can stand at each index of the font below the count
     under : (q : ℕ) → q < most → maps.contains_key f.subrs q ≡ true → is_in q ≡ true
     under q lt is = any_filter_from nat_cmp_total nat_cmp-IsAntisymmetric (λ i. nat_lt i declared) q indices (there q lt is)
@@ -241,7 +215,7 @@ module _ (f : FontValue) (h : IsFont f) (most : ℕ) (fits : most ≤ declared_c
 
     -- the entry of a truncated subset, or else a stub, is the entry of the subset cut to the largest count
     value_same : (q : ℕ) → joined (entry_in f t.names t.count q (maps.get f.subrs q)) (cond (is_in q) (Some stub) None) ≡ entry_in f t.names most q (maps.get f.subrs q)
-    value_same q = grind (cases, outside q, above q, under q, w.kept q, le, lt-ltb q t.count, ltb-true q t.count, lt-ltb q most, ltb-true q most)
+    value_same q = grind (cases, in_both q, from q, ltb-true q declared, declared_low, under q, w.kept q, le, lt-ltb q t.count, ltb-true q t.count, lt-ltb q most, ltb-true q most)
 
     -- the font that is made even has the entry of the subset cut to the largest count at each index
     filled_at : (es : List (ℕ × List ℕ)) → maps.entries t.font.subrs ≡ es → (q : ℕ) → maps.get (with_stubs inside t.font.subrs es) q ≡ entry_in f t.names most q (maps.get f.subrs q)
