@@ -1,5 +1,5 @@
 -- A subset of a subset is the font's own subset.
-use Rattle.std.proofs.Common.{◌≡◌, ℕ, Bool, true, cond, List, [], refl, sym, ◌∙◌, ap, None, is_some, unwrap_or, arith}
+use Rattle.std.proofs.Common.{◌≡◌, ℕ, Bool, true, cond, List, [], refl, sym, ◌∙◌, ap, None, is_some, unwrap_or}
 use Rattle.std.specs.List.{list_any}
 use Rattle.std.specs.Ordering.{eq_by_cmp}
 use Rattle.std.specs.Cmp.{nat_cmp_total}
@@ -7,14 +7,13 @@ use Rattle.std.specs.Cmp.Lexicographic.{nat_list_cmp_total}
 use Rattle.std.specs.FinMap as maps
 use Rattle.std.specs.FinSet as sets
 use Rattle.std.specs.FinSet.{nat_cmp-IsAntisymmetric}
-use Rattle.t1_font.specs.FontValue.{FontValue, Encoding, Word, Codes, name_cmp, notdef}
+use Rattle.t1_font.specs.FontValue.{FontValue, Encoding, name_cmp, notdef}
 use Rattle.t1_font.specs.Cut.{restrict, restrict_encoding, stub}
 use Rattle.t1_font.proofs.MapLemmas.{get-map_values, get-retain}
 use Rattle.t1_algebra.specs.Interpreter.{Interpreter, Names}
 use Rattle.t1_algebra.specs.Keep.{has, charstring, components, components_here, keep, kept, subset}
-use Rattle.t1_algebra.proofs.Sets.{name_same, same_members, cases_Option, cases}
+use Rattle.t1_algebra.proofs.Sets.{name_same, same_members, cases}
 use Rattle.t1_algebra.proofs.Kept.{InFont, keep_has, keep_least, keep_closed, component_here, component_here_from, kept_more, calls, keep_alike, kept_alike}
-use Rattle.std.proofs.lemmas.Bool.{cases_Bool}
 use Rattle.t1_algebra.proofs.Uses.{has_some}
 use Rattle.t1_algebra.proofs.Subsets.{get-glyph, runs_alike, same_font, same_encoding, get-code}
 use Rattle.t1_algebra.specs.States.{code_state}

@@ -1,5 +1,5 @@
 -- Two fonts have no conflict exactly if they join, and they have the same conflict in both orders.
-use Rattle.std.proofs.Common.{◌≡◌, ◌↔◌, ℕ, true, false, cond, not, ◌&&◌, ◌||◌, List, [], refl, sym, ◌∙◌, ap, Ordering, Option, Some, None, is_some, unwrap_or, nat_le, arith}
+use Rattle.std.proofs.Common.{◌≡◌, ◌↔◌, ℕ, true, false, cond, not, ◌&&◌, ◌||◌, List, [], refl, sym, ◌∙◌, ap, Ordering, Option, Some, None, unwrap_or, nat_le}
 use Rattle.std.specs.List.{list_any}
 use Rattle.std.specs.Cmp.{IsTotalOrder, nat_cmp_total, first_so, second_so}
 use Rattle.std.specs.Cmp.Lexicographic.{nat_list_cmp_total}
@@ -11,13 +11,13 @@ use Rattle.t1_algebra.specs.Searches.{members, smallest, found}
 use Rattle.t1_algebra.specs.Shared.{shared_of}
 use Rattle.t1_algebra.specs.Interpreter.{Interpreter, same_bytes}
 use Rattle.t1_algebra.specs.Keep.{has}
-use Rattle.t1_algebra.specs.States.{IsWithin, Agree, code_state, is_sought, subr_state, joined_font, Compatible, Join, executes, calls_for, called_at, name_state}
+use Rattle.t1_algebra.specs.States.{IsWithin, Agree, code_state, is_sought, subr_state, joined_font, Compatible, Join, executes}
 use Rattle.t1_algebra.proofs.Uses.{sought, seeker}
-use Rattle.t1_algebra.proofs.Sets.{name_same, clash, any_one, any_at, cases_Option, cases}
+use Rattle.t1_algebra.proofs.Sets.{name_same, clash, any_one, any_at, cases}
 use Rattle.t1_algebra.proofs.JoinedStates.{font_back, compatible_back, glyph_agree}
-use Rattle.std.proofs.lemmas.Bool.{leb-true, le-leb, and_from, or_left, or_right, cases_Bool, false_from_ne_true, not_from_true}
+use Rattle.std.proofs.lemmas.Bool.{leb-true, le-leb, and_from, false_from_ne_true, not_from_true}
 use Rattle.t1_algebra.proofs.Searching.{or_swap, passes_none, found_none, none_found, smallest_none}
-use Rattle.t1_algebra.proofs.Shares.{swaps, bytes_decide, Shares, shared_so, no_part_differs, differing_back, shared_from, shared_to}
+use Rattle.t1_algebra.proofs.Shares.{swaps, bytes_decide, shared_so, no_part_differs, differing_back, shared_from, shared_to}
 use Rattle.t1_algebra.proofs.Maps.{in_both, both_back}
 
 -- ---- tests

@@ -1,5 +1,5 @@
 -- A glyph runs and draws in a subset and in a join as it did before.
-use Rattle.std.proofs.Common.{◌≡◌, ℕ, true, cond, List, [], ◌∷◌, map, refl, sym, ◌∙◌, ap, subst, Option, Some, None, unwrap_or, option_map, arith}
+use Rattle.std.proofs.Common.{◌≡◌, ℕ, true, cond, List, [], ◌∷◌, map, refl, sym, ◌∙◌, ap, subst, Option, Some, None, unwrap_or, option_map}
 use Rattle.std.specs.List.{list_any}
 use Rattle.std.specs.Cmp.Lexicographic.{nat_list_cmp_total}
 use Rattle.t1_font.specs.FontValue.{FontValue, notdef, Numbered}
@@ -8,10 +8,10 @@ use Rattle.t1_algebra.specs.Keep.{keep, has, components, subset}
 use Rattle.t1_algebra.specs.Outcomes.{component_outcome}
 use Rattle.t1_algebra.specs.States.{joined_font, Compatible}
 use Rattle.t1_algebra.proofs.Kept.{InFont, keep_closed, component_here_from}
-use Rattle.t1_algebra.proofs.Sets.{name_same, itself, here, later, cases_Option, any_append_left, any_append_right, cases}
+use Rattle.t1_algebra.proofs.Sets.{name_same, itself, here, later, any_append_left, any_append_right, cases}
 use Rattle.t1_algebra.proofs.Uses.{seeks_it, has_some}
-use Rattle.t1_algebra.proofs.JoinedStates.{left_glyph, left_runs, glyph_in_join, left_subrs, font_back, compatible_back}
-use Rattle.t1_algebra.proofs.Subsets.{get-glyph, runs_alike, subrs_alike}
+use Rattle.t1_algebra.proofs.JoinedStates.{left_glyph, left_runs, left_subrs, font_back, compatible_back}
+use Rattle.t1_algebra.proofs.Subsets.{get-glyph, runs_alike, subrs_alike, glyph_in_join}
 use Rattle.t1_run.specs.State.{Ending}
 use Rattle.t1_run.specs.Run.{direct, direct3, exec, direct_by}
 use Rattle.t1_run.specs.Drawings.{parts_of, picture, picture_at, draw, draw3, outcome_at, draw_by, parts_by, parts}
@@ -22,7 +22,6 @@ use Rattle.t1_font.proofs.FontReaders.{all_seen}
 use Rattle.t1_algebra.specs.Laws.{IsOf, DrawsAlike, AnswersAlike}
 use Rattle.std.specs.FinSet as sets
 use Rattle.std.specs.FinMap as maps
-use Rattle.std.proofs.lemmas.Bool.{cases_Bool}
 
 -- ---- fonts in which a glyph runs alike and names components that run alike
 
@@ -50,7 +49,8 @@ module _ (f j : FontValue) (n : List ℕ) (same : maps.get j.glyphs n ≡ maps.g
     part_alike : (p : List ℕ) → component_outcome profile j p ≡ component_outcome profile f p → outcome_at hints (maps.get j.subrs) (maps.get j.glyphs) p ≡ outcome_at hints (maps.get f.subrs) (maps.get f.glyphs) p
     part_alike p e = grind (cases, e, is_by f.subrs, is_by j.subrs)
 
-    picture_alike : (x : Option (List ℕ)) → maps.get f.glyphs n ≡ x → picture_at hints (maps.get j.subrs) (maps.get j.glyphs) (option_map (direct_by hints (maps.get j.subrs)) x) ≡ picture_at hints (maps.get f.subrs) (maps.get f.glyphs) (option_map (direct_by hints (maps.get f.subrs)) x)
+    picture_alike : (x : Option (List ℕ)) → maps.get f.glyphs n ≡ x
+        → picture_at hints (maps.get j.subrs) (maps.get j.glyphs) (option_map (direct_by hints (maps.get j.subrs)) x) ≡ picture_at hints (maps.get f.subrs) (maps.get f.glyphs) (option_map (direct_by hints (maps.get f.subrs)) x)
     picture_alike None is = refl
     picture_alike (Some c) is =
         ap (λ own. picture own (map (outcome_at hints (maps.get j.subrs) (maps.get j.glyphs)) (parts_of own))) (sym (is_by j.subrs c) ∙ ap by (profile.local f.subrs j.subrs c (runs c is)).0 ∙ is_by f.subrs c)
@@ -85,7 +85,8 @@ subset_alike f h a inside n k = alike f (subset profile f a) n (get-glyph profil
     (λ c is. subrs_alike profile f h.glyphs.notdef a inside n c k is) (λ c p is w. component_in_subset profile f h.glyphs.notdef a inside n c p k is w)
 
 -- a component of a glyph of the first font comes to the same in the join
-component_in_join : {O : Type 0} (m : Interpreter O) (f g : FontValue) → Compatible m f g → (n c p : List ℕ) → maps.get f.glyphs n ≡ Some c → list_any (same_bytes p) (components m f.subrs c) ≡ true → component_outcome m (joined_font m f g) p ≡ component_outcome m f p
+component_in_join : {O : Type 0} (m : Interpreter O) (f g : FontValue) → Compatible m f g → (n c p : List ℕ) → maps.get f.glyphs n ≡ Some c → list_any (same_bytes p) (components m f.subrs c) ≡ true
+    → component_outcome m (joined_font m f g) p ≡ component_outcome m f p
 component_in_join m f g c n v p is w = grind (cases, glyph_in_join m f g p, c.names p, seeks_it m f n v p is w, left_runs m f g p)
 
 -- a glyph of the first font draws in the join as it did

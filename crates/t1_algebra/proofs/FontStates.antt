@@ -5,31 +5,28 @@ use Rattle.std.proofs.lemmas.List.{length-map}
 use Rattle.std.specs.Cmp.{nat_cmp_total}
 use Rattle.std.specs.Cmp.Lexicographic.{nat_list_cmp_total}
 use Rattle.std.specs.FinSet.{nat_cmp-IsAntisymmetric}
-use Rattle.t1_join.specs.Meaning.{Meaning, meaning_cmp, of_number}
-use Rattle.t1_join.specs.Join.{State, states_agree, joined_state, StatesAgree as PlacesAgree}
-use Rattle.t1_join.specs.StateLaws.{same_meaning-true, same_meaning-self, state_itself}
+use Rattle.t1_join.specs.Meaning.{Meaning, of_number}
+use Rattle.t1_join.specs.Join.{State, StatesAgree as PlacesAgree}
+use Rattle.t1_join.specs.StateLaws.{same_meaning-self}
 use Rattle.t1_join.specs.TableMeaning.{TableMeaning, TablesAgree, TablesJoin, joined_table}
 use Rattle.t1_join.specs.TableLaws.{get_joined, same_table}
-use Rattle.t1_font.specs.Joins.{join_encodings}
 use Rattle.t1_font.specs.FontModel.{names_in, word_of, clamp}
-use Rattle.t1_font.specs.FontValue.{FontValue, Encoding, Word, Codes, Numbered, total, subr_weight, weight, weight_limit, count_limit}
-use Rattle.t1_font.specs.WriteLaws.{SameKind}
+use Rattle.t1_font.specs.FontValue.{FontValue, total, subr_weight, weight, weight_limit, count_limit}
 use Rattle.t1_font.proofs.CutEntries.{entries-retain}
-use Rattle.t1_font.proofs.MapLemmas.{Some_same, Some_None, entries_all, get-retain, length_total}
+use Rattle.t1_font.proofs.MapLemmas.{entries_all, get-retain, length_total}
 use Rattle.t1_algebra.specs.Interpreter.{Interpreter, same_bytes}
-use Rattle.t1_algebra.specs.States.{named_at, Agree, joined, IsWithin, is_sought, subr_state, name_state, code_state, Compatible, Join, joined_font}
-use Rattle.t1_algebra.specs.StateTables.{StatesValue, numbered, name_meaning, AreSought, code_states, used_subrs, all_components, name_states, states_of, new_entries, subr_adds, name_adds, name_counts, shared_weight, states_weight, states_glyphs, StatesFit, IsSized, name_part, subr_part, joint_weight, joint_glyphs, PartsJoin, StatesAgree, StatesJoin, behind_mark, code_part}
+use Rattle.t1_algebra.specs.States.{named_at, Agree, IsWithin, is_sought, subr_state, name_state, Compatible, Join, joined_font}
+use Rattle.t1_algebra.specs.StateTables.{StatesValue, numbered, name_meaning, AreSought, used_subrs, all_components, name_states, states_of, new_entries, subr_adds, name_adds, name_counts, shared_weight, states_weight, states_glyphs, StatesFit, IsSized, name_part, subr_part, joint_weight, joint_glyphs, PartsJoin, StatesAgree, StatesJoin, behind_mark, code_part}
 use Rattle.t1_algebra.specs.Shared.{Shared}
 use Rattle.t1_join.specs.Products.{BothJoin}
 use Rattle.t1_algebra.specs.StateLaws.{PartsAgree, parts_laws}
 use Rattle.t1_algebra.proofs.Shares.{same_indices, shared_from, shared_to}
-use Rattle.t1_algebra.proofs.Maps.{get-merged, get-valued}
+use Rattle.t1_algebra.proofs.Maps.{get-valued}
 use Rattle.t1_algebra.proofs.Sets.{name_same, cases_Option, any_flat_map, cases}
 use Rattle.t1_algebra.proofs.JoinedStates.{subr_joined, name_joined, present_joined}
 use Rattle.t1_algebra.proofs.Subsets.{stub_is, same_font, same_encoding, code_joined}
 use Rattle.std.specs.FinMap as maps
-use Rattle.std.proofs.lemmas.Bool.{cases_Bool}
-use Rattle.t1_algebra.proofs.Tables.{total-merged, at_number, get-numbered, entries-numbered, get-name, names_total, Shows, cases_key, codes_shown, shown_agree, agree_shown, shown_joined, to_agree, total_mapped}
+use Rattle.t1_algebra.proofs.Tables.{total-merged, get-numbered, entries-numbered, get-name, names_total, Shows, cases_key, codes_shown, shown_agree, agree_shown, shown_joined, to_agree, total_mapped}
 
 -- ---- states that agree
 
@@ -125,7 +122,7 @@ module _ {O : Type 0} (m : Interpreter O) (f : FontValue) where
   subrs_weigh =
       let nothing = total_kept (λ i c. length c - 1) (λ i. is_some (subr_state m f i)) (maps.entries f.subrs) (entries_all nat_cmp_total nat_cmp-IsAntisymmetric (λ i c. is_some (subr_state m f i) ≡ false → length c - 1 ≡ 0) f.subrs stub_adds_nothing) in
       let added = ap (total subr_adds) (entries-numbered (used_subrs m f)) ∙ total_mapped of_number (λ c. c) subr_adds (maps.entries (used_subrs m f))
-          ∙ ap (total (λ i c. length c - 1)) (entries-retain nat_cmp_total nat_cmp-IsAntisymmetric f.subrs (λ i. is_some (subr_state m f i))) ∙ nothing in
+      ∙ ap (total (λ i c. length c - 1)) (entries-retain nat_cmp_total nat_cmp-IsAntisymmetric f.subrs (λ i. is_some (subr_state m f i))) ∙ nothing in
       total_apart f.shell.len_iv (maps.entries f.subrs) ∙ (λ i. sym (length-map (maps.entries f.subrs) (λ e. e.0)) i * (129 + f.shell.len_iv) + sym added i)
 
   -- sought names add nothing to a sum over names

@@ -1,5 +1,5 @@
 -- Subsets and joins of fonts are fonts, and subsets of one font join in any order and grouping.
-use Rattle.std.proofs.Common.{◌≡◌, ℕ, ◌||◌, List, [], ◌∷◌, refl, sym, ◌∙◌, ap, inl, inr, IsPermutation, ◌≤◌, subst, arith}
+use Rattle.std.proofs.Common.{◌≡◌, ℕ, ◌||◌, List, [], ◌∷◌, refl, sym, ◌∙◌, ap, inl, inr, IsPermutation, ◌≤◌, subst}
 use Rattle.std.specs.List.{list_any}
 use Rattle.std.specs.Cmp.Lexicographic.{nat_list_cmp_total}
 use Rattle.std.proofs.lemmas.List.Folds.{list_any-append}
@@ -19,7 +19,6 @@ use Rattle.t1_algebra.proofs.Kept.{keep_closed}
 use Rattle.t1_algebra.proofs.Orders.{any_order, one_result, join_back, each_weaker}
 use Rattle.t1_algebra.proofs.JoinedStates.{joined_are_entries}
 use Rattle.std.specs.FinSet as sets
-use Rattle.std.proofs.lemmas.Bool.{cases_Bool}
 
 -- the union of the sets at the leaves, in their grouping
 abbrev pub all_of : Grouping Names → Names

@@ -1,23 +1,20 @@
 -- The states and the entries of a join are those of its fonts, and the glyphs of each font run in it as before.
-use Rattle.std.proofs.Common.{◌≡◌, ℕ, true, ◌||◌, List, refl, sym, ◌∙◌, ap, Option, Some, is_some, unwrap_or, option_map, arith}
+use Rattle.std.proofs.Common.{◌≡◌, ℕ, true, ◌||◌, List, refl, sym, ◌∙◌, ap, Some}
 use Rattle.std.specs.Cmp.{nat_cmp_total}
-use Rattle.std.specs.Cmp.Lexicographic.{nat_list_cmp_total}
 use Rattle.std.specs.FinSet.{nat_cmp-IsAntisymmetric}
-use Rattle.t1_font.specs.Cut.{stub}
 use Rattle.t1_font.specs.Joins.{join_encodings, joined_subr, join_parts}
-use Rattle.t1_font.specs.FontValue.{FontValue, Encoding, Word, Codes}
+use Rattle.t1_font.specs.FontValue.{FontValue, Encoding}
 use Rattle.t1_font.specs.WriteLaws.{SameKind}
 use Rattle.t1_font.proofs.MapLemmas.{get-map_values}
 use Rattle.t1_algebra.specs.Interpreter.{Interpreter}
 use Rattle.t1_algebra.specs.States.{executes, calls_for, Agree, joined, is_called, is_sought, subr_state, name_state, code_state, joined_font, Compatible}
-use Rattle.t1_algebra.proofs.Maps.{get-merged, agree_back, joined_back}
+use Rattle.t1_algebra.proofs.Maps.{agree_back, joined_back}
 use Rattle.t1_algebra.proofs.Uses.{some_joined, executing_there, naming_there, calls_it}
-use Rattle.t1_algebra.proofs.Sets.{name_same, cases_Option, cases}
-use Rattle.t1_algebra.proofs.Subsets.{same_font, stub_is, same_encoding, code_joined}
+use Rattle.t1_algebra.proofs.Sets.{cases}
+use Rattle.t1_algebra.proofs.Subsets.{same_font, stub_is, same_encoding, code_joined, subr_in_join, glyph_in_join}
 use Rattle.t1_algebra.specs.JoinedEntries.{EntriesJoin}
 use Rattle.std.specs.FinSet as sets
 use Rattle.std.specs.FinMap as maps
-use Rattle.std.proofs.lemmas.Bool.{cases_Bool}
 
 -- ---- both orders
 
@@ -39,19 +36,6 @@ encodings_back d e h k a = same_encoding _ _ (grind (cases, h)) (λ c. grind (ca
 -- the charstrings of each name agree in compatible fonts
 pub glyph_agree : {O : Type 0} (m : Interpreter O) (f g : FontValue) → Compatible m f g → (n : List ℕ) → Agree (maps.get f.glyphs n) (maps.get g.glyphs n)
 glyph_agree m f g c n = grind (cases, c.names n)
-
-module _ {O : Type 0} (m : Interpreter O) (f g : FontValue) where
-  -- the entry of a Subr in the join
-  abbrev pub entry : ℕ → List ℕ
-  entry i = unwrap_or (joined (subr_state m f i) (subr_state m g i)) stub
-
-  -- the join has its entry at each index of the first font
-  pub subr_in_join : (i : ℕ) → maps.get (joined_font m f g).subrs i ≡ option_map (λ v. entry i) (maps.get f.subrs i)
-  subr_in_join i = get-map_values nat_cmp_total nat_cmp-IsAntisymmetric (λ i v. entry i) f.subrs i
-
-  -- the join has the charstring of either font at each name
-  pub glyph_in_join : (n : List ℕ) → maps.get (joined_font m f g).glyphs n ≡ joined (maps.get f.glyphs n) (maps.get g.glyphs n)
-  glyph_in_join n = get-merged nat_list_cmp_total name_same f.glyphs g.glyphs n
 
 -- compatible fonts join to the same font in both orders
 pub font_back : {O : Type 0} (m : Interpreter O) (f g : FontValue) → Compatible m f g → joined_font m f g ≡ joined_font m g f

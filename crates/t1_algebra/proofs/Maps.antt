@@ -7,10 +7,9 @@ use Rattle.t1_font.specs.Maps.{merged}
 use Rattle.t1_font.proofs.MapLemmas as cuts
 use Rattle.t1_algebra.specs.Conflicts.{keys_of_both}
 use Rattle.t1_algebra.specs.States.{Agree, joined}
-use Rattle.t1_algebra.proofs.Sets.{cases_Option, cases}
+use Rattle.t1_algebra.proofs.Sets.{cases}
 use Rattle.std.specs.List.{list_any}
 use Rattle.std.specs.Ordering.{eq_by_cmp}
-use Rattle.std.proofs.lemmas.Bool.{cases_Bool}
 
 module _ {V : Type 0} (x y : Option V) where
   -- states agree in both orders

@@ -1,6 +1,6 @@
 -- Searches: what they find, and when they find nothing.
-use Rattle.std.proofs.Common.{subst, ◌≡◌, ℕ, Bool, true, false, cond, ◌||◌, List, [], ◌∷◌, map, refl, sym, ◌∙◌, ap, true≢false, inl, inr, Ordering, Less, Option, Some, None, is_lt, arith, rules, T}
-use Rattle.std.proofs.lemmas.Bool.{or_right, or_cases, cases_Bool}
+use Rattle.std.proofs.Common.{subst, ◌≡◌, ℕ, Bool, true, false, cond, ◌||◌, List, [], ◌∷◌, map, refl, sym, ◌∙◌, ap, true≢false, inl, inr, Ordering, Less, Option, Some, None, is_lt, rules, T}
+use Rattle.std.proofs.lemmas.Bool.{or_right, or_cases}
 use Rattle.std.specs.List.{list_any, AllByRecursion}
 use Rattle.std.specs.Ordering.{eq_by_cmp}
 use Rattle.std.specs.Cmp.{IsTotalOrder, first_so, second_so}
@@ -10,7 +10,7 @@ use Rattle.std.specs.FinMap.Entries.{below_all, is_sorted}
 use Rattle.t1_join.proofs.Sorted.{lt_is}
 use Rattle.t1_font.proofs.MapLemmas.{T_true}
 use Rattle.t1_algebra.specs.Searches.{first_where, members, smallest, found}
-use Rattle.t1_algebra.proofs.Sets.{tied, itself, cases_Option, cases}
+use Rattle.t1_algebra.proofs.Sets.{tied, itself, cases}
 
 pub or_swap : (a b : Bool) → (a || b) ≡ (b || a)
 or_swap a b = search rules

@@ -1,5 +1,5 @@
 -- The states of a subset of a font, and the join of two subsets: the subset over both sets of names.
-use Rattle.std.proofs.Common.{◌≡◌, ℕ, ◌≤◌, Bool, true, false, cond, not, ◌&&◌, ◌||◌, List, [], refl, sym, ◌∙◌, ap, subst, Option, Some, None, option_map, unwrap_or, arith, le_trans}
+use Rattle.std.proofs.Common.{◌≡◌, ℕ, ◌≤◌, Bool, true, false, cond, not, ◌&&◌, List, [], refl, sym, ◌∙◌, ap, subst, Option, Some, None, option_map, unwrap_or, arith, le_trans}
 use Rattle.std.specs.List.{list_any}
 use Rattle.std.specs.Cmp.{nat_cmp_total}
 use Rattle.std.specs.Cmp.Lexicographic.{nat_list_cmp_total}
@@ -9,14 +9,13 @@ use Rattle.t1_font.specs.Cut.{stub, restrict, restrict_encoding}
 use Rattle.t1_font.specs.FontValue.{FontValue, notdef, weight, Encoding, Word, Codes}
 use Rattle.t1_font.proofs.Kept.{restrict_light, cut_had}
 use Rattle.t1_font.proofs.MapLemmas.{get-map_values, get-retain, total-le, length_total, Some_same, Some_None}
-use Rattle.t1_algebra.specs.Interpreter.{Interpreter, Names, same_bytes, Numbers}
+use Rattle.t1_algebra.specs.Interpreter.{Interpreter, Names, same_bytes}
 use Rattle.t1_algebra.specs.Keep.{keep, kept, components, has, subset}
-use Rattle.t1_algebra.specs.States.{Agree, joined, is_called, is_sought, subr_state, is_stub, IsWithin, name_state, code_state, joined_font, Compatible, Join}
+use Rattle.t1_algebra.specs.States.{Agree, joined, is_called, is_sought, subr_state, is_stub, IsWithin, code_state, joined_font, Compatible, Join}
 use Rattle.t1_algebra.proofs.Kept.{InFont, keep_closed, kept_call, component_here_from, keep_union, kept_union}
 use Rattle.t1_algebra.proofs.Uses.{caller, seeker}
-use Rattle.t1_algebra.proofs.Sets.{clash, name_same, cases_Option, cases}
-use Rattle.std.proofs.lemmas.Bool.{cases_Bool, false_from_ne_true}
-use Rattle.t1_font.specs.Maps.{map_values, merged}
+use Rattle.t1_algebra.proofs.Sets.{clash, name_same, cases}
+use Rattle.std.proofs.lemmas.Bool.{false_from_ne_true}
 use Rattle.t1_font.specs.Joins.{join_encodings}
 use Rattle.t1_font.specs.WriteLaws.{SameKind}
 use Rattle.t1_algebra.proofs.Maps.{get-merged}
@@ -134,8 +133,22 @@ module _ (k l : Names) (e : Encoding) where
 
   -- two cuts of an Encoding join to its cut to the names of both
   encodings_join : join_encodings (restrict_encoding (sets.contains k) e) (restrict_encoding (sets.contains l) e) ≡ restrict_encoding (sets.contains (sets.union k l)) e
-  encodings_join = same_encoding _ _ (grind cases) (λ c. grind (cases, code_joined _ _ encodings_kind c, get-code (sets.contains k) e c, get-code (sets.contains l) e c, get-code (sets.contains (sets.union k l)) e c,
-      sets.contains-union nat_list_cmp_total k l (unwrap_or (code_state e c) [])))
+  encodings_join = same_encoding _ _ (grind cases) (λ c.
+      let cut = λ (s : Names). get-code (sets.contains s) e c in
+      grind (cases, code_joined _ _ encodings_kind c, cut k, cut l, cut (sets.union k l), sets.contains-union nat_list_cmp_total k l (unwrap_or (code_state e c) [])))
+
+module _ {O : Type 0} (m : Interpreter O) (f g : FontValue) where
+  -- the entry of a Subr in the join
+  abbrev pub entry : ℕ → List ℕ
+  entry i = unwrap_or (joined (subr_state m f i) (subr_state m g i)) stub
+
+  -- the join has its entry at each index of the first font
+  pub subr_in_join : (i : ℕ) → maps.get (joined_font m f g).subrs i ≡ option_map (λ v. entry i) (maps.get f.subrs i)
+  subr_in_join i = get-map_values nat_cmp_total nat_cmp-IsAntisymmetric (λ i v. entry i) f.subrs i
+
+  -- the join has the charstring of either font at each name
+  pub glyph_in_join : (n : List ℕ) → maps.get (joined_font m f g).glyphs n ≡ joined (maps.get f.glyphs n) (maps.get g.glyphs n)
+  glyph_in_join n = get-merged nat_list_cmp_total name_same f.glyphs g.glyphs n
 
 module _ {O : Type 0} (m : Interpreter O) (f : FontValue) (base : has f notdef ≡ true) (a b : Names) (ia : InFont m f a) (ib : InFont m f b) where
   -- the states of each index agree in two subsets
@@ -145,23 +158,22 @@ module _ {O : Type 0} (m : Interpreter O) (f : FontValue) (base : has f notdef �
 
   -- ---- the joined font
 
-  -- the joined state of an index, with a stub for the bottom
-  abbrev value : ℕ → List ℕ
-  value i = unwrap_or (joined (subr_state m (subset m f a) i) (subr_state m (subset m f b) i)) stub
-
   subr_join : (i : ℕ) (x : Option (List ℕ)) → maps.get f.subrs i ≡ x → maps.get (joined_font m (subset m f a) (subset m f b)).subrs i ≡ option_map (λ c. cond (sets.contains (sets.union (kept m f a) (kept m f b)) i) c stub) x
-  subr_join i None h = grind (arith, h, get-map_values nat_cmp_total nat_cmp-IsAntisymmetric (λ i c. value i) (subset m f a).subrs i, get-subr m f base a ia i)
-  subr_join i (Some c) h = grind (cases, h, get-map_values nat_cmp_total nat_cmp-IsAntisymmetric (λ i c. value i) (subset m f a).subrs i, get-subr m f base a ia i, subr_state_of m f base a ia i c h, subr_state_of m f base b ib i c h,
-      stub_is c, sets.contains-union nat_cmp_total (kept m f a) (kept m f b) i)
+  subr_join i None h = grind (arith, h, subr_in_join m (subset m f a) (subset m f b) i, get-subr m f base a ia i)
+  subr_join i (Some c) h =
+      let either = sets.contains-union nat_cmp_total (kept m f a) (kept m f b) i in
+      grind (cases, h, subr_in_join m (subset m f a) (subset m f b) i, get-subr m f base a ia i, subr_state_of m f base a ia i c h, subr_state_of m f base b ib i c h, stub_is c, either)
 
   -- the joined font of two subsets is the subset over both sets of names
   pub join_is_subset : joined_font m (subset m f a) (subset m f b) ≡ subset m f (sets.union a b)
   join_is_subset =
-      let whole = restrict (sets.contains (sets.union (keep m f a) (keep m f b))) (sets.contains (sets.union (kept m f a) (kept m f b))) f in
-      same_font (joined_font m (subset m f a) (subset m f b)) whole refl (encodings_join (keep m f a) (keep m f b) f.encoding)
-      (λ i. subr_join i (maps.get f.subrs i) refl ∙ sym (get-map_values nat_cmp_total nat_cmp-IsAntisymmetric (λ i c. cond (sets.contains (sets.union (kept m f a) (kept m f b)) i) c stub) f.subrs i))
-      (λ n. grind (cases, get-merged nat_list_cmp_total name_same (subset m f a).glyphs (subset m f b).glyphs n, get-glyph m f base a ia n, get-glyph m f base b ib n,
-      get-retain nat_list_cmp_total name_same f.glyphs (sets.contains (sets.union (keep m f a) (keep m f b))) n, sets.contains-union nat_list_cmp_total (keep m f a) (keep m f b) n))
+      let names = sets.contains (sets.union (keep m f a) (keep m f b)) in
+      let indices = sets.contains (sets.union (kept m f a) (kept m f b)) in
+      same_font (joined_font m (subset m f a) (subset m f b)) (restrict names indices f) refl (encodings_join (keep m f a) (keep m f b) f.encoding)
+      (λ i. subr_join i (maps.get f.subrs i) refl ∙ sym (get-map_values nat_cmp_total nat_cmp-IsAntisymmetric (λ i c. cond (indices i) c stub) f.subrs i))
+      (λ n.
+      let either = sets.contains-union nat_list_cmp_total (keep m f a) (keep m f b) n in
+      grind (cases, glyph_in_join m (subset m f a) (subset m f b) n, get-glyph m f base a ia n, get-glyph m f base b ib n, get-retain nat_list_cmp_total name_same f.glyphs names n, either))
       ∙ (λ i. restrict (sets.contains (sym (keep_union m f a b base ia ib) i)) (sets.contains (sym (kept_union m f a b base ia ib) i)) f)
 
   -- a subset has entries at the indices at which the font has them

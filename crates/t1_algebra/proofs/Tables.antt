@@ -1,10 +1,10 @@
 -- Tables of codes, of Subrs and of names: what stands at each key, what they weigh, and how they join.
-use Rattle.std.proofs.Common.{◌≡◌, ◌≤◌, ℕ, ◌+◌, min, Bor, option_map, Bool, true, false, not, cond, T, List, [], ◌∷◌, ◌++◌, filter, refl, sym, ◌∙◌, ap, arith, Option, Some, None, is_some, Ordering, Less, Equal, Greater, ◌&&◌, map, subst, nat_cmp, is_lt, ◌↔◌, ◌||◌, true≢false, inl, inr, ◌⊎◌}
+use Rattle.std.proofs.Common.{◌≡◌, ◌≤◌, ℕ, ◌+◌, min, Bor, option_map, Bool, true, false, not, cond, T, List, [], ◌∷◌, ◌++◌, filter, refl, sym, ◌∙◌, ap, arith, Option, Some, None, is_some, Ordering, Less, Equal, Greater, ◌&&◌, map, subst, nat_cmp, is_lt, ◌↔◌, true≢false, inl, inr, ◌⊎◌}
 use Rattle.std.specs.Ordering.{ordering_reverse, is_eq, eq_by_cmp, ordering_then}
 use Rattle.std.specs.Cmp.{IsTotalOrder, nat_cmp_total, both_ways, first_so, second_so}
 use Rattle.std.specs.FinMap.{find, is_sorted}
 use Rattle.std.specs.FinMap.Entries.{below_all, by_order}
-use Rattle.std.specs.FinSet.{IsAntisymmetric, nat_cmp-IsAntisymmetric}
+use Rattle.std.specs.FinSet.{IsAntisymmetric}
 use Rattle.t1_join.specs.Passes.{weave, merge}
 use Rattle.t1_join.specs.TableMeaning.{Rises, TableMeaning, joined_table, TablesAgree}
 use Rattle.t1_join.proofs.Sorted.{both_true, make_both, is_lt_from, lt_is}
@@ -287,7 +287,9 @@ module _ (g : Named) (s : TableMeaning) (are : AreSought s) (t : TableMeaning) (
 
   -- the table of joined glyphs and joined sought names is the joined table
   pub names_join : (j : Named) (k : TableMeaning) → j ≡ merged g h → k ≡ joined_table s r → TablesAgree t u → names_table j k ≡ joined_table t u
-  names_join j k ej ek a = same_table (names_table j k) (joined_table t u) (λ n. grind (cases, get-name j k n, ej, ek, get-merged nat_list_cmp_total name_same g h n, get_joined s r n, get_joined t u n, at g s are t is n, at h r seek u so n, a n, are n, same_meaning-true))
+  names_join j k ej ek a = same_table (names_table j k) (joined_table t u) (λ n.
+      let merges = get-merged nat_list_cmp_total name_same g h n in
+      grind (cases, get-name j k n, ej, ek, merges, get_joined s r n, get_joined t u n, at g s are t is n, at h r seek u so n, a n, are n, same_meaning-true))
 
   -- joined sought names are sought names
   pub are_joined : (k : TableMeaning) → k ≡ joined_table s r → AreSought k

@@ -1,5 +1,5 @@
 -- When some glyph of a font executes an index or names a component.
-use Rattle.std.proofs.Common.{◌≡◌, ℕ, Bool, true, ◌||◌, inl, inr, List, refl, sym, ◌∙◌, ap, true≢false, Option, Some, None, is_some, arith}
+use Rattle.std.proofs.Common.{◌≡◌, ℕ, Bool, true, ◌||◌, inl, inr, List, refl, sym, ◌∙◌, ap, true≢false, Option, Some, None, is_some}
 use Rattle.std.specs.List.{list_any}
 use Rattle.std.specs.Cmp.{both_ways}
 use Rattle.std.specs.Cmp.Lexicographic.{nat_list_cmp_total}
@@ -10,7 +10,7 @@ use Rattle.t1_font.specs.FontValue.{FontValue}
 use Rattle.t1_algebra.specs.Interpreter.{Interpreter, same_bytes}
 use Rattle.t1_algebra.specs.Keep.{has, components}
 use Rattle.t1_algebra.specs.States.{executed_at, executes, called_at, calls_for, is_called, is_sought}
-use Rattle.t1_algebra.proofs.Sets.{name_same, any_one, any_at, cases_Option, cases}
+use Rattle.t1_algebra.proofs.Sets.{name_same, any_one, any_at, cases}
 use Rattle.std.proofs.lemmas.Bool.{or_cases, or_left, or_right}
 
 -- what is there is some value

@@ -1,5 +1,5 @@
 -- Fonts that are made even have all the Subrs that they had, so their glyphs stay drawn; fonts without tags that merge are even.
-use Rattle.std.proofs.Common.{◌≡◌, ◌<◌, ℕ, nat_lt, List, [], ◌∷◌, map, refl, ◌∙◌, ap, Option, Some, None, option_map, cond, arith}
+use Rattle.std.proofs.Common.{◌≡◌, ◌<◌, ℕ, List, [], ◌∷◌, map, refl, ◌∙◌, ap, Option, option_map}
 use Rattle.std.proofs.lemmas.Bool.{ltb-true, lt-ltb}
 use Rattle.std.specs.Cmp.{nat_cmp_total}
 use Rattle.std.specs.FinSet.{nat_cmp-IsAntisymmetric}
@@ -12,7 +12,6 @@ use Rattle.t1_font.specs.Evening.{raised, even, stubs_at, with_stubs, filled, la
 use Rattle.t1_algebra.specs.Evened.{StaysDrawn, subrs_of, AllStayDrawn, EachBeside, EvenedDraw}
 use Rattle.t1_algebra.specs.States.{joined}
 use Rattle.t1_algebra.proofs.Maps.{get-merged}
-use Rattle.t1_algebra.proofs.Subsets.{cond_some}
 use Rattle.std.specs.List.{AllByRecursion}
 use Rattle.t1_join.specs.Groupings.{leaves}
 use Rattle.t1_join.proofs.OrderLemmas.{all_leaves}

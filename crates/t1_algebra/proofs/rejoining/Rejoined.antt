@@ -1,6 +1,6 @@
 -- Truncated subsets that are made even merge to the subset over all their names, cut to the largest count and without its tag.
-use Rattle.std.proofs.Common.{◌≡◌, ◌≤◌, ℕ, nat_lt, nat_cmp, true, cond, List, [], ◌∷◌, map, refl, sym, ◌∙◌, ap, subst, Option, Some, None, option_map, unwrap_or, inl, inr, arith, IsPermutation}
-use Rattle.std.proofs.lemmas.Bool.{ltb-true, lt-ltb, cases_Bool}
+use Rattle.std.proofs.Common.{◌≡◌, ◌≤◌, ℕ, nat_lt, nat_cmp, true, cond, List, [], ◌∷◌, map, refl, sym, ◌∙◌, ap, subst, Option, Some, None, option_map, unwrap_or, arith, IsPermutation}
+use Rattle.std.proofs.lemmas.Bool.{ltb-true, lt-ltb}
 use Rattle.std.specs.List.{list_any, AllByRecursion}
 use Rattle.std.specs.Cmp.{nat_cmp_total}
 use Rattle.std.specs.Cmp.Lexicographic.{nat_list_cmp_total}
@@ -12,7 +12,7 @@ use Rattle.t1_font.specs.IsFont.{IsFont, IsWord, IsPhrase, SubrsFit, SubrWords}
 use Rattle.t1_font.specs.Evening.{evened}
 use Rattle.t1_font.proofs.even_fonts.Evened.{even_is_font}
 use Rattle.t1_font.proofs.MapLemmas.{get-retain, find_first, total-le, Some_None}
-use Rattle.t1_algebra.specs.Interpreter.{Names, Numbers, same_bytes}
+use Rattle.t1_algebra.specs.Interpreter.{Names, same_bytes}
 use Rattle.t1_algebra.specs.Keep.{keep, kept, subset, components, has}
 use Rattle.t1_algebra.specs.Outcomes.{component_outcome}
 use Rattle.t1_algebra.specs.Profile.{profile}
@@ -26,7 +26,7 @@ use Rattle.t1_algebra.proofs.Kept.{keep_closed, keep_more, kept_more, kept_union
 use Rattle.t1_algebra.proofs.ManyMerges.{alike_trans, each_font}
 use Rattle.t1_join.proofs.OrderLemmas.{leaves_from_left}
 use Rattle.t1_algebra.proofs.ManyMerges.{all_merge}
-use Rattle.t1_algebra.proofs.Sets.{clash, in_union, name_same, cases_Option, cases}
+use Rattle.t1_algebra.proofs.Sets.{clash, cases}
 use Rattle.t1_algebra.proofs.rejoining.Truncated.{WordsOf, words_empty, get_nothing, get_font, largest_fits, all_fit, Fits, cut_subset, evened_is, KeepsBelow, keep_same, subrs_below, runs_below, first_of}
 use Rattle.t1_algebra.proofs.Subsets.{cond_some}
 

@@ -1,6 +1,6 @@
 -- Fonts cut to their first Subrs keep and draw what they did, and truncated subsets that are made even are subsets of one font.
-use Rattle.std.proofs.Common.{◌≡◌, ◌<◌, ℕ, nat_lt, true, false, cond, List, refl, sym, ◌∙◌, ap, inl, inr, Option, Some, None, is_some, filter, arith, ◌≤◌, max, nat_cmp, Bool, [], ◌∷◌, map, length, subst, option_map}
-use Rattle.std.proofs.lemmas.Bool.{lt-ltb, cases_Bool, ltb-true, ltb-false, false_from_ne_true}
+use Rattle.std.proofs.Common.{◌≡◌, ◌<◌, ℕ, nat_lt, true, false, cond, List, refl, sym, ◌∙◌, ap, Option, Some, None, is_some, filter, arith, ◌≤◌, max, nat_cmp, Bool, [], ◌∷◌, map, length, subst, option_map}
+use Rattle.std.proofs.lemmas.Bool.{lt-ltb, ltb-true, ltb-false}
 use Rattle.std.specs.Cmp.{nat_cmp_total}
 use Rattle.std.specs.FinSet.{nat_cmp-IsAntisymmetric}
 use Rattle.t1_font.specs.FontValue.{FontValue, notdef, Shell, SubrsShell, Numbered, declared_count}
@@ -9,7 +9,7 @@ use Rattle.t1_algebra.specs.Interpreter.{Interpreter, Names}
 use Rattle.t1_algebra.specs.Keep.{keep, kept, components_here, has, charstring, subset}
 use Rattle.t1_algebra.specs.Rejoins.{cut_to, without_tag, declares, Truncated, IsTruncated, fonts_of, sets_of, largest, shared_font}
 use Rattle.t1_algebra.proofs.Kept.{InFont, keep_has, kept_call, keep_alike, kept_alike}
-use Rattle.t1_algebra.proofs.Sets.{cases_Option, clash, any_append, any_append_left, any_append_right, any_filter, any_filter_from, cases}
+use Rattle.t1_algebra.proofs.Sets.{clash, any_filter, any_filter_from, cases}
 use Rattle.std.specs.List.{list_any, AllByRecursion}
 use Rattle.std.specs.Ordering.{eq_by_cmp}
 use Rattle.t1_font.specs.IsFont.{IsFont, SubrsFit, SubrWords}
@@ -74,7 +74,9 @@ module _ (f : FontValue) (h : IsFont f) (n : ℕ) (a : Names) (inside : IsOf f a
   names_same = keep_same profile f h.glyphs.notdef n a inside low
 
   subrs_same : (q : ℕ) → maps.get (subset profile (first_of n f) a).subrs q ≡ maps.get (maps.retain_keys (subset profile f a).subrs (λ i. nat_lt i n)) q
-  subrs_same q = grind (cases, get-map_values nat_cmp_total nat_cmp-IsAntisymmetric (keeps (first_of n f) a) (first_of n f).subrs q, get-retain nat_cmp_total nat_cmp-IsAntisymmetric f.subrs (λ i. nat_lt i n) q, get_cut f n a q, kept_same profile f h.glyphs.notdef n a inside low)
+  subrs_same q =
+      let first = get-retain nat_cmp_total nat_cmp-IsAntisymmetric f.subrs (λ i. nat_lt i n) q in
+      grind (cases, get-map_values nat_cmp_total nat_cmp-IsAntisymmetric (keeps (first_of n f) a) (first_of n f).subrs q, first, get_cut f n a q, kept_same profile f h.glyphs.notdef n a inside low)
 
   -- the subset of the cut font is the subset, without its tag and cut as the font is
   pub cut_subset : subset profile (first_of n f) a ≡ cut_to n (without_tag (subset profile f a))

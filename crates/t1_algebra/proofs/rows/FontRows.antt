@@ -1,5 +1,5 @@
 -- Worked rows of what is kept, of the states of fonts and of conflicts: definitions over sets and maps, computed over lists.
-use Rattle.std.proofs.Common.{◌≡◌, ℕ, Bool, true, not, ◌&&◌, ◌||◌, T, List, [], ◌∷◌, ◌++◌, map, filter, flat_map, refl, sym, ◌∙◌, ap, Ordering, Option, None, is_some, unwrap_or, false, cond, Some, option_map, arith}
+use Rattle.std.proofs.Common.{◌≡◌, ℕ, Bool, true, not, ◌&&◌, ◌||◌, T, List, [], ◌∷◌, ◌++◌, map, filter, flat_map, refl, sym, ◌∙◌, ap, Ordering, Option, None, is_some, unwrap_or, false, cond, Some, option_map}
 use Rattle.std.specs.Prelude.{codes}
 use Rattle.std.specs.List.{list_any, list_all}
 use Rattle.std.specs.Ordering.{eq_by_cmp, nat_cmp}
@@ -11,7 +11,7 @@ use Rattle.t1_font.specs.Cut.{stub}
 use Rattle.t1_font.specs.FontValue.{FontValue, Shell, Encoding, Word, name_cmp, notdef, Codes}
 use Rattle.t1_algebra.specs.Interpreter.{Interpreter, Names, same_bytes}
 use Rattle.t1_algebra.specs.Keep.{sets_of, charstring, has, components_here, is_closed, is_needed, keep, called_by, kept}
-use Rattle.t1_algebra.proofs.Sets.{name_same, all_at, all_from, any_one, any_at, in_list, from_in_list, any_flat_map, cases_Option, cases}
+use Rattle.t1_algebra.proofs.Sets.{name_same, all_at, all_from, any_one, any_at, in_list, from_in_list, any_flat_map, cases}
 use Rattle.std.proofs.lemmas.List.Folds.{list_all-append, list_all-map}
 use Rattle.t1_font.specs.Maps.{map_values, merged}
 use Rattle.t1_font.specs.Entries.{last_entries}

@@ -24,12 +24,13 @@ use Rattle.t1_subset.specs.Clashes.{AreCallers}
 use Rattle.t1_subset.proofs.closing.ExecutedCalls.{calls_by, no_calls}
 use Rattle.t1_subset.proofs.closing.ProfileRuns.{no_components}
 use Rattle.t1_subset.proofs.state_tables.LowestKeys.{smaller_first}
-use Rattle.t1_algebra.proofs.JoinedStates.{glyph_in_join, present_joined, executes_join, calls_join}
+use Rattle.t1_algebra.proofs.JoinedStates.{present_joined, executes_join, calls_join}
 use Rattle.t1_algebra.proofs.Uses.{executing_there, naming_there, sought}
 use Rattle.std.specs.Cmp.{second_so}
 use Rattle.t1_algebra.proofs.Sets.{name_same, clash, tied}
 use Rattle.std.proofs.lemmas.Bool.{false_from_ne_true}
 use Rattle.t1_algebra.proofs.Maps.{agree_back}
+use Rattle.t1_algebra.proofs.Subsets.{glyph_in_join}
 
 -- ---- the first of some names
 
