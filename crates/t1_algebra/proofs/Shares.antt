@@ -1,5 +1,5 @@
 -- Fonts share what they have to exactly if no part differs, and the first part that differs is the same in both orders.
-use Rattle.std.proofs.Common.{◌≡◌, ◌↔◌, option_map, ℕ, Bool, true, false, not, List, [], ◌∷◌, map, refl, sym, ◌∙◌, ap, true≢false, Option, Some, None, is_some, nat_cmp}
+use Rattle.std.proofs.Common.{◌≡◌, ◌↔◌, option_map, ℕ, Bool, true, false, not, List, [], ◌∷◌, map, refl, sym, ◌∙◌, ap, true≢false, Option, Some, None, is_some, nat_cmp, arith}
 use Rattle.std.specs.List.{list_any, AllByRecursion}
 use Rattle.std.specs.Ordering.{eq_by_cmp}
 use Rattle.std.specs.FinMap as maps
@@ -15,7 +15,7 @@ use Rattle.t1_algebra.specs.Interpreter.{same_bytes}
 use Rattle.t1_algebra.specs.Shared.{Shared, shared_of, ShellPart, EncodingPart, SubrsTable, all_parts, same_number, same_bool, same_word, same_words, same_part, differing_part}
 use Rattle.t1_algebra.proofs.Searching.{none_passes}
 use Rattle.t1_algebra.proofs.Sets.{name_same, tied, itself, cases}
-use Rattle.std.proofs.lemmas.Bool.{not-false}
+use Rattle.std.proofs.lemmas.Bool.{not-false, and_parts}
 
 -- ---- each test decides
 
@@ -40,51 +40,18 @@ bools_decide = record { so = λ a b h. grind cases; self = λ a. grind cases }
 
 -- tables of Subrs are the same if both are there or neither, they declare as many, and their words are the same
 subrs_so : (s t : Option SubrsShell) → is_some s ≡ is_some t → declared_count s ≡ declared_count t → same_words s t ≡ true → s ≡ t
-subrs_so None None p d w = refl
-subrs_so None (Some t) p d w = absurd (true≢false (sym p))
-subrs_so (Some s) None p d w = absurd (true≢false p)
-subrs_so (Some s) (Some t) p d w =
-    let rd = bytes_decide.so s.rd t.rd (first_so (same_bytes s.rd t.rd) _ w) in
-    let more = second_so (same_bytes s.rd t.rd) _ w in
-    let put = bytes_decide.so s.put t.put (first_so (same_bytes s.put t.put) _ more) in
-    let closing = bytes_decide.so s.closing t.closing (second_so (same_bytes s.put t.put) _ more) in
-    λ i. Some (record { declared = d i; rd = rd i; put = put i; closing = closing i })
+subrs_so s t p d w = grind (cases, p, d, w, bytes_decide.so)
 
 words_decide : Decides same_word
 words_decide = record { so = λ v w h. grind (cases, bytes_decide.so); self = λ v. grind (cases, bytes_decide.self) }
 
 -- ---- what is shared
 
-module _ (s t : Shared) where
-  same_shells : AllByRecursion (λ part. not (same_part s t part) ≡ false) all_parts → s.0 ≡ t.0
-  same_shells h =
-      let head = bytes_decide.so s.0.head t.0.head (not-false _ h.0) in
-      let clear_tail = bytes_decide.so s.0.clear_tail t.0.clear_tail (not-false _ h.1.1.0) in
-      let privates = not-false _ h.1.1.1.0 in
-      let private = bytes_decide.so s.0.private t.0.private (first_so (same_bytes s.0.private t.0.private) _ privates) in
-      let len_iv = numbers_decide.so s.0.len_iv t.0.len_iv (second_so (same_bytes s.0.private t.0.private) _ privates) in
-      let table = not-false _ h.1.1.1.1.0 in
-      let there = bools_decide.so (is_some s.0.subrs) (is_some t.0.subrs) (first_so (same_bool (is_some s.0.subrs) (is_some t.0.subrs)) _ table) in
-      let count = numbers_decide.so (declared_count s.0.subrs) (declared_count t.0.subrs) (first_so (same_number (declared_count s.0.subrs) (declared_count t.0.subrs)) _ (second_so (same_bool (is_some s.0.subrs) (is_some t.0.subrs)) _ table)) in
-      let subrs = subrs_so s.0.subrs t.0.subrs there count (not-false _ h.1.1.1.1.1.0) in
-      let middle = bytes_decide.so s.0.middle t.0.middle (not-false _ h.1.1.1.1.1.1.0) in
-      let words = not-false _ h.1.1.1.1.1.1.1.0 in
-      let rd = bytes_decide.so s.0.glyphs_rd t.0.glyphs_rd (first_so (same_bytes s.0.glyphs_rd t.0.glyphs_rd) _ words) in
-      let def = bytes_decide.so s.0.glyphs_def t.0.glyphs_def (second_so (same_bytes s.0.glyphs_rd t.0.glyphs_rd) _ words) in
-      let tail = bytes_decide.so s.0.tail t.0.tail (not-false _ h.1.1.1.1.1.1.1.1.0) in
-      λ i. record { head = head i; clear_tail = clear_tail i; private = private i; middle = middle i; tail = tail i; len_iv = len_iv i; subrs = subrs i; glyphs_rd = rd i; glyphs_def = def i }
-
-  indices_so : same_part s t SubrsTable ≡ true → s.1.1 ≡ t.1.1
-  indices_so h = bytes_decide.so s.1.1 t.1.1 (second_so (same_number (declared_count s.0.subrs) (declared_count t.0.subrs)) _ (second_so (same_bool (is_some s.0.subrs) (is_some t.0.subrs)) _ h))
-
-  -- what fonts share is the same if no part differs
-  pub shared_so : differing_part s t ≡ None → s ≡ t
-  shared_so h =
-      let parts = none_passes (λ part. not (same_part s t part)) all_parts h in
-      let shells = same_shells parts in
-      let word = words_decide.so s.1.0 t.1.0 (not-false (same_part s t EncodingPart) parts.1.0) in
-      let indices = indices_so (not-false (same_part s t SubrsTable) parts.1.1.1.1.0) in
-      λ i. (shells i, (word i, indices i))
+-- what fonts share is the same if no part differs
+pub shared_so : (s t : Shared) → differing_part s t ≡ None → s ≡ t
+shared_so s t h =
+    let parts = none_passes (λ part. not (same_part s t part)) all_parts h in
+    grind (arith, parts, not-false, and_parts, bytes_decide.so, numbers_decide.so, bools_decide.so, words_decide.so, subrs_so s.0.subrs t.0.subrs)
 
 -- no part of what is the same differs
 pub no_part_differs : (s t : Shared) → s ≡ t → differing_part s t ≡ None
@@ -94,26 +61,7 @@ no_part_differs s t e = ap (differing_part s) (sym e) ∙ simp (bytes_decide.sel
 
 -- the first part that differs is the same in both orders
 pub differing_back : (s t : Shared) → differing_part s t ≡ differing_part t s
-differing_back s t =
-    let bytes = swaps same_bytes bytes_decide in
-    let word_of_subrs = λ (w : SubrsShell → List ℕ). bytes (of_subrs w s.0.subrs) (of_subrs w t.0.subrs) in
-    cc (
-      bytes s.0.head t.0.head,
-      swaps same_word words_decide s.1.0 t.1.0,
-      bytes s.0.clear_tail t.0.clear_tail,
-      bytes s.0.private t.0.private,
-      swaps same_number numbers_decide s.0.len_iv t.0.len_iv,
-      swaps same_bool bools_decide (is_some s.0.subrs) (is_some t.0.subrs),
-      swaps same_number numbers_decide (declared_count s.0.subrs) (declared_count t.0.subrs),
-      bytes s.1.1 t.1.1,
-      word_of_subrs (λ w. w.rd),
-      word_of_subrs (λ w. w.put),
-      word_of_subrs (λ w. w.closing),
-      bytes s.0.middle t.0.middle,
-      bytes s.0.glyphs_rd t.0.glyphs_rd,
-      bytes s.0.glyphs_def t.0.glyphs_def,
-      bytes s.0.tail t.0.tail,
-    )
+differing_back s t = grind (cases, swaps same_bytes bytes_decide, swaps same_word words_decide, swaps same_number numbers_decide, swaps same_bool bools_decide)
 
 -- ---- what two fonts share
 
