@@ -54,15 +54,11 @@ module _ {O : Type 0} (m : Interpreter O) (f : FontValue) (base : has f notdef �
 
   -- a kept glyph names the same components in the subset
   components_same : (n : List ℕ) → sets.contains (keep m f a) n ≡ true → components m sub.subrs (charstring sub n) ≡ components m f.subrs (charstring f n)
-  components_same n k =
-      let c = has_some (maps.get f.glyphs n) (keep_has m f a n k) in
-      ap (λ x. components m sub.subrs (unwrap_or x [])) (glyph_same n k ∙ c.1) ∙ ap m.names (runs_alike m f base a inside n c.0 k c.1).0 ∙ ap (λ x. components m f.subrs (unwrap_or x [])) (sym c.1)
+  components_same n k = grind (cases, glyph_same n k, runs_alike m f base a inside n, keep_has m f a n k, k)
 
   -- a kept glyph executes the same Subrs in the subset
   calls_same : (n : List ℕ) → sets.contains (keep m f a) n ≡ true → calls m sub n ≡ calls m f n
-  calls_same n k =
-      let c = has_some (maps.get f.glyphs n) (keep_has m f a n k) in
-      ap (λ x. m.exec sub.subrs (unwrap_or x [])) (glyph_same n k ∙ c.1) ∙ (runs_alike m f base a inside n c.0 k c.1).1 ∙ ap (λ x. m.exec f.subrs (unwrap_or x [])) (sym c.1)
+  calls_same n k = grind (cases, glyph_same n k, runs_alike m f base a inside n, keep_has m f a n k, k)
 
   -- a kept glyph has the same components in the subset
   parts_same : (n : List ℕ) → sets.contains (keep m f a) n ≡ true → components_here m sub n ≡ components_here m f n

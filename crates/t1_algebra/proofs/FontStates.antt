@@ -175,11 +175,9 @@ joint_grows w a b c h = ap (λ (t : TableMeaning). total w (maps.entries t)) h.1
 -- a join weighs what is computed from its two sides
 pub joint_weighs : (x y z : StatesValue) → PartsJoin x y z → states_weight z ≡ joint_weight x y
 joint_weighs x y z h =
-    let at : states_weight z ≡ shared_weight x.0 + total subr_adds (maps.entries (subr_part z)) + total (name_adds x.0.0.len_iv) (maps.entries (name_part z)) =
-    ap (λ (s : Shared). shared_weight s + total subr_adds (maps.entries (subr_part z)) + total (name_adds s.0.len_iv) (maps.entries (name_part z))) h.0.1 in
     let subrs = joint_grows subr_adds (subr_part x) (subr_part y) (subr_part z) h.1.1.1 in
     let names = joint_grows (name_adds x.0.0.len_iv) (name_part x) (name_part y) (name_part z) h.1.1.0 in
-    omega (arith, at, subrs, names)
+    grind (arith, h.0.1, subrs, names)
 
 -- a join has as many glyphs as are computed from its two sides
 pub joint_counts : (x y z : StatesValue) → PartsJoin x y z → states_glyphs z ≡ joint_glyphs x y

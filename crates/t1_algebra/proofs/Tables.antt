@@ -87,12 +87,11 @@ module _ {K X : Type 0} {R : K → K → Ordering} (o : IsTotalOrder R) (w : K �
 
 -- the first of the entries adds what it weighs, unless the table has its key
 pub total-new : {K X : Type 0} {R : K → K → Ordering} (w : K → X → ℕ) (m : maps.FinMap R X) (e : K × X) (es : List (K × X)) → total w (new_entries m (e ∷ es)) ≡ cond (maps.contains_key m e.0) 0 (w e.0 e.1) + total w (new_entries m es)
-total-new w m e es = elim (maps.contains_key m e.0) as (λ b. total w (cond (not b) (e ∷ new_entries m es) (new_entries m es)) ≡ cond b 0 (w e.0 e.1) + total w (new_entries m es)) [ true ↦ omega arith | false ↦ omega arith ]
+total-new w m e es = grind cases
 
 -- a copy of what is borrowed is there if it is
 pub some_copied : {V : Type 0} {X : Type 0} (f : V → X) (r : Option (Bor V)) → is_some r ≡ is_some (option_map f (option_copied r))
-some_copied f None = refl
-some_copied f (Some v) = refl
+some_copied f r = grind cases
 
 -- the sum so far, with what is left to add, comes to the whole, as far as 64 bits hold it
 pub record Adding {K X : Type 0} {R : K → K → Ordering} (w : K → X → ℕ) (m : maps.FinMap R X) (es : List (K × X)) (before sum : ℕ) (left : List (K × X)) : Type 0 where
@@ -271,14 +270,11 @@ module _ (t u : TableMeaning) (a : AreNameStates t) (b : AreNameStates u) where
 module _ (p : List ℕ → Bool) where
   -- if nothing is answered, nothing passes
   pub none_of : (r : Option (Bor (List ℕ))) (b : Bool) → is_some r ≡ not b → b ≡ true → IsLowest name_cmp p (option_map (λ n. n.now) r) → (n : List ℕ) → p n ≡ false
-  none_of None b e t h = h
-  none_of (Some k) b e t h = absurd (true≢false (e ∙ ap not t))
+  none_of r b e t h n = grind (cases, e, t, h)
 
   -- if nothing passes, nothing is answered
   pub none_is : (r : Option (Bor (List ℕ))) (b : Bool) → is_some r ≡ not b → IsLowest name_cmp p (option_map (λ n. n.now) r) → ((n : List ℕ) → p n ≡ false) → b ≡ true
-  none_is None true e h k = refl
-  none_is None false e h k = absurd (true≢false (sym e))
-  none_is (Some n) b e h k = absurd (true≢false (sym h.it ∙ k n.now))
+  none_is r b e h k = grind (cases, e, h, k)
 
 module _ (g : Named) (s : TableMeaning) (are : AreSought s) (t : TableMeaning) (is : names_table g s ≡ t) (h : Named) (r : TableMeaning) (seek : AreSought r) (u : TableMeaning) (so : names_table h r ≡ u) where
   -- sought names agree with sought names
