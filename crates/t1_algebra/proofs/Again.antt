@@ -14,7 +14,6 @@ use Rattle.t1_algebra.specs.Interpreter.{Interpreter, Names}
 use Rattle.t1_algebra.specs.Keep.{has, charstring, components, components_here, keep, kept, subset}
 use Rattle.t1_algebra.proofs.Sets.{name_same, same_members, cases}
 use Rattle.t1_algebra.proofs.Kept.{InFont, keep_has, keep_least, keep_closed, component_here, component_here_from, kept_more, calls, keep_alike, kept_alike}
-use Rattle.t1_algebra.proofs.Uses.{has_some}
 use Rattle.t1_algebra.proofs.Subsets.{get-glyph, runs_alike, same_font, same_encoding, get-code}
 use Rattle.t1_algebra.specs.States.{code_state}
 

@@ -16,8 +16,7 @@ use Rattle.t1_font.proofs.CutEntries.{entries-retain}
 use Rattle.t1_font.proofs.MapLemmas.{entries_all, get-retain, length_total}
 use Rattle.t1_algebra.specs.Interpreter.{Interpreter, same_bytes}
 use Rattle.t1_algebra.specs.States.{named_at, Agree, IsWithin, is_sought, subr_state, name_state, Compatible, Join, joined_font}
-use Rattle.t1_algebra.specs.StateTables.{StatesValue, numbered, name_meaning, AreSought, used_subrs, all_components, name_states, states_of, new_entries, subr_adds, name_adds, name_counts, shared_weight, states_weight, states_glyphs, StatesFit, IsSized, name_part, subr_part, joint_weight, joint_glyphs, PartsJoin, StatesAgree, StatesJoin, behind_mark, code_part}
-use Rattle.t1_algebra.specs.Shared.{Shared}
+use Rattle.t1_algebra.specs.StateTables.{StatesValue, numbered, name_meaning, AreSought, used_subrs, all_components, name_states, states_of, new_entries, subr_adds, name_adds, name_counts, states_weight, states_glyphs, StatesFit, IsSized, name_part, subr_part, joint_weight, joint_glyphs, PartsJoin, StatesAgree, StatesJoin, behind_mark, code_part}
 use Rattle.t1_join.specs.Products.{BothJoin}
 use Rattle.t1_algebra.specs.StateLaws.{PartsAgree, parts_laws}
 use Rattle.t1_algebra.proofs.Shares.{same_indices, shared_from, shared_to}

@@ -66,8 +66,7 @@ module _ {O : Type 0} (m : Interpreter O) (f g : FontValue) (c : Compatible m f 
 
   -- a glyph of the second font runs in the join as before
   pub right_runs : (n v : List ℕ) → maps.get g.glyphs n ≡ Some v → (m.direct whole.subrs v ≡ m.direct g.subrs v) × (m.exec whole.subrs v ≡ m.exec g.subrs v)
-  right_runs n v h = let r = left_runs m g f n v h in
-      (ap (λ (j : FontValue). m.direct j.subrs v) (font_back m f g c) ∙ r.0, ap (λ (j : FontValue). m.exec j.subrs v) (font_back m f g c) ∙ r.1)
+  right_runs n v h = grind (cases, font_back m f g c, left_runs m g f n v h)
 
   -- ---- what the join calls and seeks
 

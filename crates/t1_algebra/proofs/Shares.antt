@@ -1,18 +1,18 @@
 -- Fonts share what they have to exactly if no part differs, and the first part that differs is the same in both orders.
-use Rattle.std.proofs.Common.{◌≡◌, ◌↔◌, option_map, ℕ, Bool, true, false, not, List, [], ◌∷◌, map, refl, sym, ◌∙◌, ap, true≢false, Option, Some, None, is_some, nat_cmp, arith}
-use Rattle.std.specs.List.{list_any, AllByRecursion}
+use Rattle.std.proofs.Common.{◌≡◌, ◌↔◌, option_map, ℕ, Bool, true, not, List, [], ◌∷◌, map, refl, sym, ◌∙◌, ap, true≢false, Option, Some, None, is_some, nat_cmp, arith}
+use Rattle.std.specs.List.{list_any}
 use Rattle.std.specs.Ordering.{eq_by_cmp}
 use Rattle.std.specs.FinMap as maps
-use Rattle.std.specs.Cmp.{nat_cmp_total, first_so, second_so}
+use Rattle.std.specs.Cmp.{nat_cmp_total}
 use Rattle.std.specs.Cmp.Lexicographic.{nat_list_cmp_total}
 use Rattle.std.specs.FinSet.{nat_cmp-IsAntisymmetric}
 use Rattle.t1_font.specs.FontValue.{FontValue, SubrsShell, Numbered, declared_count}
-use Rattle.t1_font.specs.FontModel.{of_subrs, word_of}
+use Rattle.t1_font.specs.FontModel.{word_of}
 use Rattle.t1_font.specs.Maps.{map_values}
 use Rattle.t1_font.specs.WriteLaws.{SameKind}
 use Rattle.t1_font.proofs.MapLemmas.{Some_None, get-map_values, entries-map_values}
 use Rattle.t1_algebra.specs.Interpreter.{same_bytes}
-use Rattle.t1_algebra.specs.Shared.{Shared, shared_of, ShellPart, EncodingPart, SubrsTable, all_parts, same_number, same_bool, same_word, same_words, same_part, differing_part}
+use Rattle.t1_algebra.specs.Shared.{Shared, shared_of, ShellPart, all_parts, same_number, same_bool, same_word, same_words, same_part, differing_part}
 use Rattle.t1_algebra.proofs.Searching.{none_passes}
 use Rattle.t1_algebra.proofs.Sets.{name_same, tied, itself, cases}
 use Rattle.std.proofs.lemmas.Bool.{not-false, and_parts}

@@ -205,8 +205,7 @@ runs_at i None = false
 runs_at i (Some c) = list_any (eq_by_cmp nat_cmp i) c
 
 runs_is : (j : FontValue) (i : ℕ) (x : Option (List ℕ)) → executed_at spelled j i x ≡ runs_at i x
-runs_is j i None = refl
-runs_is j i (Some c) = sets.contains-from_list nat_cmp_total c i
+runs_is j i x = grind (cases, sets.contains-from_list nat_cmp_total)
 
 -- an entry, or the bottom if it is a stub that is not called
 abbrev state_by : Bool → Option (List ℕ) → Option (List ℕ)
