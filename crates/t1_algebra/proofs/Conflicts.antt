@@ -1,111 +1,63 @@
 -- Two fonts have no conflict exactly if they join, and they have the same conflict in both orders.
-use Rattle.std.proofs.Common.{◌≡◌, ◌↔◌, ℕ, Bool, true, false, cond, not, ◌&&◌, ◌||◌, List, [], refl, sym, ◌∙◌, ap, subst, true≢false, inl, inr, Ordering, Option, Some, None, is_some, unwrap_or, nat_le}
+use Rattle.std.proofs.Common.{◌≡◌, ◌↔◌, ℕ, true, false, cond, not, ◌&&◌, ◌||◌, List, [], refl, sym, ◌∙◌, ap, Ordering, Option, Some, None, unwrap_or, nat_le}
 use Rattle.std.specs.List.{list_any}
 use Rattle.std.specs.Cmp.{IsTotalOrder, nat_cmp_total, first_so, second_so}
 use Rattle.std.specs.Cmp.Lexicographic.{nat_list_cmp_total}
 use Rattle.std.specs.FinSet.{IsAntisymmetric, nat_cmp-IsAntisymmetric}
 use Rattle.std.specs.FinMap as maps
 use Rattle.t1_font.specs.FontValue.{FontValue, Encoding, Word, Codes, weight, weight_limit, count_limit}
-use Rattle.t1_font.proofs.MapLemmas.{Some_same, Some_None}
 use Rattle.t1_algebra.specs.Conflicts.{Conflict, ShellDiffers, CodeDiffers, GlyphDiffers, LacksComponent, SubrDiffers, OverLimit, keys_of_both, agrees, codes_of_both, wants, code_clashes, glyph_clashes, glyph_names, wanted_by, component_clashes, subr_clashes, used_by, is_within, shell_conflict, code_conflict, glyph_conflict, component_conflict, subr_conflict, states_conflict, conflict}
 use Rattle.t1_algebra.specs.Searches.{members, smallest, found}
 use Rattle.t1_algebra.specs.Shared.{shared_of}
 use Rattle.t1_algebra.specs.Interpreter.{Interpreter, same_bytes}
 use Rattle.t1_algebra.specs.Keep.{has}
-use Rattle.t1_algebra.specs.States.{IsWithin, Agree, code_state, is_sought, subr_state, state_of_glyph, state_of_entry, joined_font, Compatible, Join, executes, calls_for, called_at}
-use Rattle.t1_algebra.proofs.Flat.{agree_back}
+use Rattle.t1_algebra.specs.States.{IsWithin, Agree, code_state, is_sought, subr_state, joined_font, Compatible, Join, executes}
 use Rattle.t1_algebra.proofs.Uses.{sought, seeker}
-use Rattle.t1_algebra.proofs.Sets.{name_same, and_so, or_left, or_right, or_cases, is_or_not, clash, not_so, tied, itself, any_one, any_at}
-use Rattle.t1_algebra.proofs.JoinedStates.{font_back, compatible_back}
-use Rattle.std.proofs.lemmas.Bool.{leb-true, le-leb}
-use Rattle.t1_algebra.proofs.Searching.{not_false, false_of, or_swap, passes_none, found_none, none_found, contains-members, smallest_none, in_both, both_back}
-use Rattle.t1_algebra.proofs.Shares.{is_same, swaps, bytes_decide, Shares, shared_so, no_part_differs, differing_back, shared_from, shared_to}
+use Rattle.t1_algebra.proofs.Sets.{name_same, clash, any_one, any_at, cases}
+use Rattle.t1_algebra.proofs.JoinedStates.{font_back, compatible_back, glyph_agree}
+use Rattle.std.proofs.lemmas.Bool.{leb-true, le-leb, and_from, false_from_ne_true, not_from_true}
+use Rattle.t1_algebra.proofs.Searching.{or_swap, passes_none, found_none, none_found, smallest_none}
+use Rattle.t1_algebra.proofs.Shares.{swaps, bytes_decide, shared_so, no_part_differs, differing_back, shared_from, shared_to}
+use Rattle.t1_algebra.proofs.Maps.{in_both, both_back}
 
 -- ---- tests
 
--- states that pass the test join
-pub agrees_so : (x y : Option (List ℕ)) → agrees x y ≡ true → Agree x y
-agrees_so None y h = tt
-agrees_so (Some v) None h = tt
-agrees_so (Some v) (Some w) h = tied nat_list_cmp_total name_same v w h
+module _ (x y : Option (List ℕ)) where
+  -- states that join pass the test
+  pub so_agrees : Agree x y → agrees x y ≡ true
+  so_agrees h = grind (cases, bytes_decide.self)
 
--- states that join pass the test
-pub so_agrees : (x y : Option (List ℕ)) → Agree x y → agrees x y ≡ true
-so_agrees None y h = refl
-so_agrees (Some v) None h = refl
-so_agrees (Some v) (Some w) h = ap (λ u. same_bytes v u) (sym h) ∙ itself nat_list_cmp_total name_same v
-
--- the test is the same in both orders
-pub agrees_swap : (x y : Option (List ℕ)) → agrees x y ≡ agrees y x
-agrees_swap None None = refl
-agrees_swap None (Some w) = refl
-agrees_swap (Some v) None = refl
-agrees_swap (Some v) (Some w) = swaps same_bytes bytes_decide v w
-
--- whatever joins with nothing
-pub agrees_none : (x y : Option (List ℕ)) → is_some y ≡ false → agrees x y ≡ true
-agrees_none None y h = refl
-agrees_none (Some v) None h = refl
-agrees_none (Some v) (Some w) h = absurd (true≢false h)
+  -- the test is the same in both orders
+  pub agrees_swap : agrees x y ≡ agrees y x
+  agrees_swap = grind (cases, swaps same_bytes bytes_decide)
 
 -- the codes of two tables are the same in both orders
 codes_swap : (d e : Encoding) → codes_of_both d e ≡ codes_of_both e d
-codes_swap (Word v) (Word w) = refl
-codes_swap (Word v) (Codes t) = refl
-codes_swap (Codes s) (Word w) = refl
-codes_swap (Codes s) (Codes t) = both_back nat_cmp_total nat_cmp-IsAntisymmetric s t
+codes_swap d e = grind (cases, both_back nat_cmp_total nat_cmp-IsAntisymmetric {X = List ℕ})
+
+-- if no key of two maps has states that clash, and keys that the second lacks have no state, all states agree
+all_agree : {K : Type 0} {R : K → K → Ordering} (o : IsTotalOrder R) (same : IsAntisymmetric R) (a b : maps.FinMap R (List ℕ)) (x y : K → Option (List ℕ)) → smallest (λ k. not (agrees (x k) (y k))) (keys_of_both a b) ≡ None
+    → (k : K) → (maps.contains_key b k ≡ false → y k ≡ None) → Agree (x k) (y k)
+all_agree o same a b x y h k absent = grind (cases, absent, in_both o same a b k, smallest_none o same (λ k. not (agrees (x k) (y k))) (keys_of_both a b) k h, bytes_decide.so)
 
 -- ---- components that are lacking
 
 module _ {O : Type 0} (m : Interpreter O) where
-  -- a component that f seeks is called for by a glyph of f
-  pub wanting : (f g : FontValue) (p : List ℕ) → is_sought m f p ≡ true → (n : List ℕ) × (maps.contains_key (glyph_names f g) n ≡ true) × (calls_for m f n p ≡ true)
-  wanting f g p h =
-      let r = seeker m f p h in
-      (r.0, in_both nat_list_cmp_total name_same f.glyphs g.glyphs r.0 ∙ ap (λ b. b || has g r.0) (ap is_some r.2), ap (called_at m f p) r.2 ∙ r.3)
-
   -- ---- from no conflict to the join
 
   module _ (f g : FontValue) where
-    -- a key that neither map has is not in conflict
-    out_of_both : {K : Type 0} {R : K → K → Ordering} (o : IsTotalOrder R) (same : IsAntisymmetric R) (a b : maps.FinMap R (List ℕ)) (q : K) → maps.contains_key (keys_of_both a b) q ≡ false → agrees (maps.get a q) (maps.get b q) ≡ true
-    out_of_both o same a b q h = agrees_none (maps.get a q) (maps.get b q) (not_so (maps.contains_key b q) (λ k. clash (maps.contains_key (keys_of_both a b) q) (in_both o same a b q ∙ or_right (maps.contains_key a q) (maps.contains_key b q) k) h))
-
     -- without a conflict of codes, the names of each code agree
-    codes_agree_at : (d e : Encoding) → smallest (λ c. not (agrees (code_state d c) (code_state e c))) (codes_of_both d e) ≡ None → (c : ℕ) → agrees (code_state d c) (code_state e c) ≡ true
-    codes_agree_at (Word v) e h c = refl
-    codes_agree_at (Codes s) (Word w) h c = agrees_none (maps.get s c) None refl
-    codes_agree_at (Codes s) (Codes t) h c = elim (is_or_not (maps.contains_key (keys_of_both s t) c)) [
-      | inl k ↦ not_false (agrees (maps.get s c) (maps.get t c)) (smallest_none nat_cmp_total nat_cmp-IsAntisymmetric (λ c. not (agrees (maps.get s c) (maps.get t c))) (keys_of_both s t) c h k)
-      | inr k ↦ out_of_both nat_cmp_total nat_cmp-IsAntisymmetric s t c k
-    ]
-
-    -- without a conflict of glyphs, the charstrings of each name agree
-    glyphs_agree_at : glyph_conflict f g ≡ None → (n : List ℕ) → agrees (maps.get f.glyphs n) (maps.get g.glyphs n) ≡ true
-    glyphs_agree_at h n = elim (is_or_not (maps.contains_key (glyph_names f g) n)) [
-      | inl k ↦ not_false (agrees (maps.get f.glyphs n) (maps.get g.glyphs n)) (smallest_none nat_list_cmp_total name_same (glyph_clashes f g) (glyph_names f g) n h k)
-      | inr k ↦ out_of_both nat_list_cmp_total name_same f.glyphs g.glyphs n k
-    ]
-
-    -- if there is no entry, the state is the bottom
-    no_state : (i : ℕ) (x : Option (List ℕ)) → is_some x ≡ false → is_some (state_of_entry m g i x) ≡ false
-    no_state i None h = refl
-    no_state i (Some c) h = absurd (true≢false h)
-
-    -- without a conflict of Subrs, the states of each index agree
-    subrs_agree_at : subr_conflict m f g ≡ None → (i : ℕ) → agrees (subr_state m f i) (subr_state m g i) ≡ true
-    subrs_agree_at h i = elim (is_or_not (maps.contains_key (keys_of_both f.subrs g.subrs) i)) [
-      | inl k ↦ not_false (agrees (subr_state m f i) (subr_state m g i)) (smallest_none nat_cmp_total nat_cmp-IsAntisymmetric (subr_clashes m f g) (keys_of_both f.subrs g.subrs) i h k)
-      | inr k ↦ agrees_none (subr_state m f i) (subr_state m g i) (no_state i (maps.get g.subrs i) (not_so (maps.contains_key g.subrs i) (λ w. clash (maps.contains_key (keys_of_both f.subrs g.subrs) i) (in_both nat_cmp_total nat_cmp-IsAntisymmetric f.subrs g.subrs i ∙ or_right (maps.contains_key f.subrs i) (maps.contains_key g.subrs i) w) k)))
-    ]
+    codes_agree_at : (d e : Encoding) → smallest (λ c. not (agrees (code_state d c) (code_state e c))) (codes_of_both d e) ≡ None → (c : ℕ) → Agree (code_state d c) (code_state e c)
+    codes_agree_at (Word v) e h c = tt
+    codes_agree_at (Codes s) (Word w) h c = grind cases
+    codes_agree_at (Codes s) (Codes t) h c = all_agree nat_cmp_total nat_cmp-IsAntisymmetric s t (maps.get s) (maps.get t) h c (λ e. grind (cases, e))
 
     -- a component that f lacks and seeks and that g has is in conflict
     lacks_clashes : (p : List ℕ) → has f p ≡ false → is_sought m f p ≡ true → has g p ≡ true → component_clashes m f g p ≡ true
     lacks_clashes p l s h =
-        let w = wanting f g p s in
-        and_so (has f p || has g p) (list_any (wanted_by m f g p) (members (glyph_names f g))) (or_right (has f p) (has g p) h)
-        (any_at nat_list_cmp_total name_same (wanted_by m f g p) w.0 (members (glyph_names f g)) (sym (contains-members nat_list_cmp_total name_same (glyph_names f g) w.0) ∙ w.1)
-        (or_left (wants m f w.0 p) (wants m g w.0 p) (and_so (not (has f p)) (calls_for m f w.0 p) (ap not l) w.2)))
+        let r = seeker m f p s in
+        let any = any_at nat_list_cmp_total name_same (wanted_by m f g p) r.0 (members (glyph_names f g)) (grind (cases, in_both nat_list_cmp_total name_same f.glyphs g.glyphs r.0, maps.contains_key-keys (glyph_names f g) r.0, r.2)) in
+        grind (cases, any, r.2, r.3)
 
     -- the names of both are the same in either order
     names_back : glyph_names f g ≡ glyph_names g f
@@ -114,44 +66,15 @@ module _ {O : Type 0} (m : Interpreter O) where
     wanted_back : (p : List ℕ) → wanted_by m f g p ≡ wanted_by m g f p
     wanted_back p = λ i n. or_swap (wants m f n p) (wants m g n p) i
 
-    component_back : (p : List ℕ) → component_clashes m f g p ≡ component_clashes m g f p
-    component_back p = λ i. or_swap (has f p) (has g p) i && list_any (wanted_back p i) (members (names_back i))
-
   module _ (f g : FontValue) where
-    -- without a conflict of components, none of those that g has is in conflict
-    no_component_clash : component_conflict m f g ≡ None → (p : List ℕ) → has g p ≡ true → component_clashes m f g p ≡ false
-    no_component_clash h p k = smallest_none nat_list_cmp_total name_same (component_clashes m f g) (glyph_names f g) p h (in_both nat_list_cmp_total name_same f.glyphs g.glyphs p ∙ or_right (has f p) (has g p) k)
+    -- without a conflict of components, f seeks none that it lacks and g has
+    seeks_none : component_conflict m f g ≡ None → (p : List ℕ) → has f p ≡ false → has g p ≡ true → is_sought m f p ≡ false
+    seeks_none h p l k = grind (cases, l, k, lacks_clashes f g p, in_both nat_list_cmp_total name_same f.glyphs g.glyphs p, smallest_none nat_list_cmp_total name_same (component_clashes m f g) (glyph_names f g) p h)
 
     component_conflict_back : component_conflict m f g ≡ component_conflict m g f
-    component_conflict_back = λ i. smallest (λ p. component_back f g p i) (names_back f g i)
-
-    -- a name that is not sought agrees with a charstring
-    lone_agrees : (b : Bool) (c : List ℕ) → b ≡ false → Agree {V = Option (List ℕ)} (cond b (Some None) None) (Some (Some c))
-    lone_agrees true c h = absurd (true≢false h)
-    lone_agrees false c h = tt
-
-    -- names without charstrings agree
-    both_lack : (s t : Bool) → Agree {V = Option (List ℕ)} (cond s (Some None) None) (cond t (Some None) None)
-    both_lack true true = refl
-    both_lack true false = tt
-    both_lack false t = tt
-
-    -- without a conflict of components, a name that only g has agrees
-    lacking_agrees : component_conflict m f g ≡ None → (n d : List ℕ) → maps.get f.glyphs n ≡ None → maps.get g.glyphs n ≡ Some d → Agree (state_of_glyph m f n None) (state_of_glyph m g n (Some d))
-    lacking_agrees h n d l k = lone_agrees (is_sought m f n) d (not_so (is_sought m f n) (λ s. clash (component_clashes m f g n) (lacks_clashes f g n (ap is_some l) s (ap is_some k)) (no_component_clash h n (ap is_some k))))
-
-  -- without conflicts of glyphs and components, the states of a name agree
-  names_at : (f g : FontValue) → component_conflict m f g ≡ None → (n : List ℕ) (x y : Option (List ℕ)) → maps.get f.glyphs n ≡ x → maps.get g.glyphs n ≡ y → agrees x y ≡ true → Agree (state_of_glyph m f n x) (state_of_glyph m g n y)
-  names_at f g h n None None k l a = both_lack f g (is_sought m f n) (is_sought m g n)
-  names_at f g h n None (Some d) k l a = lacking_agrees f g h n d k l
-  names_at f g h n (Some c) None k l a = agree_back (state_of_glyph m g n None) (Some (Some c)) (lacking_agrees g f (sym (component_conflict_back f g) ∙ h) n c l k)
-  names_at f g h n (Some c) (Some d) k l a = ap Some (bytes_decide.so c d a)
+    component_conflict_back = λ i. smallest (λ p. or_swap (has f p) (has g p) i && list_any (wanted_back f g p i) (members (names_back f g i))) (names_back f g i)
 
   module _ (f g : FontValue) where
-    -- without a conflict of shells, the fonts share what they have to
-    pub shares : shell_conflict f g ≡ None → Shares f g
-    shares h = shared_to f g (shared_so (shared_of f) (shared_of g) h)
-
     -- without a conflict of states, the fonts are compatible
     pub compatible : states_conflict m f g ≡ None → Compatible m f g
     compatible h =
@@ -160,78 +83,42 @@ module _ {O : Type 0} (m : Interpreter O) where
         let c = found_none GlyphDiffers (glyph_conflict f g) _ b.1 in
         let d = found_none (λ p. LacksComponent (unwrap_or (smallest (wanted_by m f g p) (glyph_names f g)) []) p) (component_conflict m f g) _ c.1 in
         let e = found_none (λ i. SubrDiffers i (smallest (used_by m f g i) (glyph_names f g))) (subr_conflict m f g) None d.1 in
-        let same = shares a.0 in
+        let same = shared_to f g (shared_so (shared_of f) (shared_of g) a.0) in
         record {
           shells = same.shells;
           present = same.present;
           kinds = same.kinds;
-          subrs = λ i. agrees_so (subr_state m f i) (subr_state m g i) (subrs_agree_at f g e.0 i);
-          names = λ n. names_at f g d.0 n (maps.get f.glyphs n) (maps.get g.glyphs n) refl refl (glyphs_agree_at f g c.0 n);
-          codes = λ k. agrees_so (code_state f.encoding k) (code_state g.encoding k) (codes_agree_at f g f.encoding g.encoding b.0 k);
+          subrs = λ i. all_agree nat_cmp_total nat_cmp-IsAntisymmetric f.subrs g.subrs (subr_state m f) (subr_state m g) e.0 i (λ k. grind (cases, k));
+          names = λ n. grind (cases, seeks_none f g d.0 n, seeks_none g f (sym (component_conflict_back f g) ∙ d.0) n, all_agree nat_list_cmp_total name_same f.glyphs g.glyphs (maps.get f.glyphs) (maps.get g.glyphs) c.0 n (λ k. grind (cases, k)));
+          codes = codes_agree_at f g f.encoding g.encoding b.0;
         }
 
 -- ---- from the join to no conflict
 
--- fonts that share what they have to have no conflict of shells
-pub no_shell_conflict : (f g : FontValue) → Shares f g → shell_conflict f g ≡ None
-no_shell_conflict f g c = no_part_differs (shared_of f) (shared_of g) (shared_from f g c)
-
-module _ {O : Type 0} (m : Interpreter O) (f g : FontValue) (c : Compatible m f g) where
-  -- compatible fonts share what they have to
-  pub shares_all : Shares f g
-  shares_all = record { shells = c.shells; present = c.present; kinds = c.kinds }
-
-  -- if the states of a name agree, its charstrings do
-  glyph_at : (n : List ℕ) (x y : Option (List ℕ)) → Agree (state_of_glyph m f n x) (state_of_glyph m g n y) → agrees x y ≡ true
-  glyph_at n None y h = refl
-  glyph_at n (Some v) None h = refl
-  glyph_at n (Some v) (Some w) h = is_same same_bytes bytes_decide v w (Some_same h)
-
-  -- compatible fonts have no conflict of glyphs
-  glyph_so : (n : List ℕ) → glyph_clashes f g n ≡ false
-  glyph_so n = false_of _ (glyph_at n (maps.get f.glyphs n) (maps.get g.glyphs n) (c.names n))
-
--- a component that one of two compatible fonts lacks and seeks is lacking in the other
 module _ {O : Type 0} (m : Interpreter O) (f g : FontValue) where
-  lacking_both : (p n : List ℕ) (x y : Option (List ℕ)) → Agree (state_of_glyph m f p x) (state_of_glyph m g p y) → is_sought m f p ≡ true → is_some x ≡ false → is_some y ≡ false
-  lacking_both p n None None h s l = refl
-  lacking_both p n (Some v) y h s l = absurd (true≢false l)
-  lacking_both p n None (Some w) h s l = Some_None (sym (subst (λ (b : Bool). Agree {V = Option (List ℕ)} (cond b (Some None) None) (Some (Some w))) s h))
-
-  not_true : (b : Bool) → not b ≡ true → b ≡ false
-  not_true true h = absurd (true≢false (sym h))
-  not_true false h = refl
-
   -- a component that f lacks and calls for is lacking in a compatible g, too
-  wants_nothing : Compatible m f g → (p n : List ℕ) → wants m f n p ≡ true → has g p ≡ false
-  wants_nothing c p n h = lacking_both p n (maps.get f.glyphs p) (maps.get g.glyphs p) (c.names p) (sought m f p n (second_so (not (has f p)) (calls_for m f n p) h)) (not_true (has f p) (first_so (not (has f p)) (calls_for m f n p) h))
-
-  or_none : (a b : Bool) → a ≡ false → b ≡ false → (a || b) ≡ false
-  or_none true b h k = absurd (true≢false h)
-  or_none false b h k = k
+  wants_nothing : Compatible m f g → (p n : List ℕ) → wants m f n p ≡ true → (has f p || has g p) ≡ false
+  wants_nothing c p n h = grind (cases, h, c.names p, sought m f p n)
 
 module _ {O : Type 0} (m : Interpreter O) (f g : FontValue) (c : Compatible m f g) where
   -- neither of two compatible fonts has a component that a glyph of one of them calls for and its font lacks
   wanted_gone : (p n : List ℕ) → wanted_by m f g p n ≡ true → (has f p || has g p) ≡ false
-  wanted_gone p n h = elim (or_cases (wants m f n p) (wants m g n p) h) [
-    | inl a ↦ or_none m f g (has f p) (has g p) (not_true m f g (has f p) (first_so (not (has f p)) (calls_for m f n p) a)) (wants_nothing m f g c p n a)
-    | inr b ↦ or_none m f g (has f p) (has g p) (wants_nothing m g f (compatible_back m f g c) p n b) (not_true m f g (has g p) (first_so (not (has g p)) (calls_for m g n p) b))
-  ]
+  wanted_gone p n h = grind (cases, h, wants_nothing m f g c p n, wants_nothing m g f (compatible_back m f g c) p n)
 
   -- compatible fonts have no conflict of components
   no_component : (p : List ℕ) → component_clashes m f g p ≡ false
-  no_component p = not_so (component_clashes m f g p) (λ h.
+  no_component p = false_from_ne_true (component_clashes m f g p) (λ h.
       let w = any_one nat_list_cmp_total name_same (wanted_by m f g p) (members (glyph_names f g)) (second_so (has f p || has g p) (list_any (wanted_by m f g p) (members (glyph_names f g))) h) in
       clash (has f p || has g p) (first_so (has f p || has g p) (list_any (wanted_by m f g p) (members (glyph_names f g))) h) (wanted_gone p w.0 w.2))
 
   -- compatible fonts have no conflict of states
   pub no_states_conflict : states_conflict m f g ≡ None
   no_states_conflict =
-      none_found ShellDiffers (shell_conflict f g) _ (no_shell_conflict f g (shares_all m f g c))
-      (none_found CodeDiffers (code_conflict f g) _ (passes_none (code_clashes f g) (members (codes_of_both f.encoding g.encoding)) (λ k. false_of _ (so_agrees (code_state f.encoding k) (code_state g.encoding k) (c.codes k))))
-      (none_found GlyphDiffers (glyph_conflict f g) _ (passes_none (glyph_clashes f g) (members (glyph_names f g)) (glyph_so m f g c))
+      none_found ShellDiffers (shell_conflict f g) _ (no_part_differs (shared_of f) (shared_of g) (shared_from f g (record { shells = c.shells; present = c.present; kinds = c.kinds })))
+      (none_found CodeDiffers (code_conflict f g) _ (passes_none (code_clashes f g) (members (codes_of_both f.encoding g.encoding)) (λ k. not_from_true _ (so_agrees (code_state f.encoding k) (code_state g.encoding k) (c.codes k))))
+      (none_found GlyphDiffers (glyph_conflict f g) _ (passes_none (glyph_clashes f g) (members (glyph_names f g)) (λ n. not_from_true _ (so_agrees (maps.get f.glyphs n) (maps.get g.glyphs n) (glyph_agree m f g c n))))
       (none_found (λ p. LacksComponent (unwrap_or (smallest (wanted_by m f g p) (glyph_names f g)) []) p) (component_conflict m f g) _ (passes_none (component_clashes m f g) (members (glyph_names f g)) no_component)
-      (none_found (λ i. SubrDiffers i (smallest (used_by m f g i) (glyph_names f g))) (subr_conflict m f g) None (passes_none (subr_clashes m f g) (members (keys_of_both f.subrs g.subrs)) (λ i. false_of _ (so_agrees (subr_state m f i) (subr_state m g i) (c.subrs i)))) refl))))
+      (none_found (λ i. SubrDiffers i (smallest (used_by m f g i) (glyph_names f g))) (subr_conflict m f g) None (passes_none (subr_clashes m f g) (members (keys_of_both f.subrs g.subrs)) (λ i. not_from_true _ (so_agrees (subr_state m f i) (subr_state m g i) (c.subrs i)))) refl))))
 
 -- the test of the limits says that the joined font is within them
 pub within_so : {O : Type 0} (m : Interpreter O) (f g : FontValue) → is_within m f g ≡ true → IsWithin (joined_font m f g)
@@ -242,50 +129,28 @@ within_so m f g h = record {
 
 -- a joined font within the limits passes their test
 so_within : {O : Type 0} (m : Interpreter O) (f g : FontValue) → IsWithin (joined_font m f g) → is_within m f g ≡ true
-so_within m f g w = and_so (nat_le (weight (joined_font m f g)) weight_limit) (nat_le (maps.len (joined_font m f g).glyphs) count_limit) (le-leb _ _ w.weight) (le-leb _ _ w.glyphs)
-
--- if no conflict over the limits is told, the test of the limits has passed
-over_none : (b : Bool) → ◌≡◌ {A = Option Conflict} (cond b None (Some OverLimit)) None → b ≡ true
-over_none true h = refl
-over_none false h = Some_None h
+so_within m f g w = and_from (nat_le (weight (joined_font m f g)) weight_limit) (nat_le (maps.len (joined_font m f g).glyphs) count_limit) (le-leb _ _ w.weight) (le-leb _ _ w.glyphs)
 
 -- two fonts have no conflict exactly if they join
 pub no_conflict : {O : Type 0} (m : Interpreter O) (f g : FontValue) → (conflict m f g ≡ None) ↔ Join m f g
 no_conflict m f g = (
   λ h. let r = found_none (λ c. c) (states_conflict m f g) (cond (is_within m f g) None (Some OverLimit)) h in
-      record { states = compatible m f g r.0; within = within_so m f g (over_none (is_within m f g) r.1) },
+      record { states = compatible m f g r.0; within = within_so m f g (grind (cases, r.1)) },
   λ j. none_found (λ c. c) (states_conflict m f g) (cond (is_within m f g) None (Some OverLimit)) (no_states_conflict m f g j.states) (ap (λ b. cond b None (Some OverLimit)) (so_within m f g j.within)),
 )
 
 -- ---- both orders
 
 module _ {O : Type 0} (m : Interpreter O) (f g : FontValue) where
-  shell_back : shell_conflict f g ≡ shell_conflict g f
-  shell_back = differing_back (shared_of f) (shared_of g)
-
-  code_back : code_conflict f g ≡ code_conflict g f
-  code_back = λ i. smallest (λ c. not (agrees_swap (code_state f.encoding c) (code_state g.encoding c) i)) (codes_swap f.encoding g.encoding i)
-
-  glyph_back : glyph_conflict f g ≡ glyph_conflict g f
-  glyph_back = λ i. smallest (λ n. not (agrees_swap (maps.get f.glyphs n) (maps.get g.glyphs n) i)) (names_back m f g i)
-
-  subr_back : subr_conflict m f g ≡ subr_conflict m g f
-  subr_back = λ i. smallest (λ k. not (agrees_swap (subr_state m f k) (subr_state m g k) i)) (both_back nat_cmp_total nat_cmp-IsAntisymmetric f.subrs g.subrs i)
-
-  user_back : (k : ℕ) → smallest (used_by m f g k) (glyph_names f g) ≡ smallest (used_by m g f k) (glyph_names g f)
-  user_back k = λ i. smallest (λ n. or_swap (executes m f n k) (executes m g n k) i) (names_back m f g i)
-
-  wanter_back : (p : List ℕ) → smallest (wanted_by m f g p) (glyph_names f g) ≡ smallest (wanted_by m g f p) (glyph_names g f)
-  wanter_back p = λ i. smallest (wanted_back m f g p i) (names_back m f g i)
-
   -- the lowest conflict of states is the same in both orders
   pub states_conflict_back : states_conflict m f g ≡ states_conflict m g f
   states_conflict_back = λ i.
-      found ShellDiffers (shell_back i)
-      (found CodeDiffers (code_back i)
-      (found GlyphDiffers (glyph_back i)
-      (found (λ p. LacksComponent (unwrap_or (wanter_back p i) []) p) (component_conflict_back m f g i)
-      (found (λ k. SubrDiffers k (user_back k i)) (subr_back i) None))))
+      found ShellDiffers (differing_back (shared_of f) (shared_of g) i)
+      (found CodeDiffers (smallest (λ c. not (agrees_swap (code_state f.encoding c) (code_state g.encoding c) i)) (codes_swap f.encoding g.encoding i))
+      (found GlyphDiffers (smallest (λ n. not (agrees_swap (maps.get f.glyphs n) (maps.get g.glyphs n) i)) (names_back m f g i))
+      (found (λ p. LacksComponent (unwrap_or (smallest (wanted_back m f g p i) (names_back m f g i)) []) p) (component_conflict_back m f g i)
+      (found (λ k. SubrDiffers k (smallest (λ n. or_swap (executes m f n k) (executes m g n k) i) (names_back m f g i)))
+      (smallest (λ k. not (agrees_swap (subr_state m f k) (subr_state m g k) i)) (both_back nat_cmp_total nat_cmp-IsAntisymmetric f.subrs g.subrs i)) None))))
 
   limit_back : (x : Option Conflict) → states_conflict m f g ≡ x → found (λ c. c) x (cond (is_within m f g) None (Some OverLimit)) ≡ found (λ c. c) x (cond (is_within m g f) None (Some OverLimit))
   limit_back None h = ap (λ j. cond (nat_le (weight j) weight_limit && nat_le (maps.len j.glyphs) count_limit) None (Some OverLimit)) (font_back m f g (compatible m f g h))

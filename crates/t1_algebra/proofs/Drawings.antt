@@ -1,63 +1,111 @@
--- Glyphs draw in a subset and in a join as they did before.
-use Rattle.std.proofs.Common.{◌≡◌, ℕ, true, false, cond, List, [], ◌∷◌, map, refl, sym, ◌∙◌, ap, subst, Option, Some, None, is_some, unwrap_or, option_map}
+-- A glyph runs and draws in a subset and in a join as it did before.
+use Rattle.std.proofs.Common.{◌≡◌, ℕ, true, cond, List, [], ◌∷◌, map, refl, sym, ◌∙◌, ap, subst, Option, Some, None, unwrap_or, option_map}
 use Rattle.std.specs.List.{list_any}
-use Rattle.std.specs.FinSet as sets
-use Rattle.std.specs.FinMap as maps
 use Rattle.std.specs.Cmp.Lexicographic.{nat_list_cmp_total}
-use Rattle.t1_font.specs.FontValue.{FontValue, notdef}
-use Rattle.t1_font.proofs.MapLemmas.{Some_None}
+use Rattle.t1_font.specs.FontValue.{FontValue, notdef, Numbered}
 use Rattle.t1_algebra.specs.Interpreter.{Interpreter, Names, same_bytes}
 use Rattle.t1_algebra.specs.Keep.{keep, has, components, subset}
-use Rattle.t1_algebra.specs.Outcomes.{component_outcome, seen, drawing}
-use Rattle.t1_algebra.specs.States.{Agree, joined, is_sought, name_state, state_of_glyph, joined_font, Compatible}
+use Rattle.t1_algebra.specs.Outcomes.{component_outcome}
+use Rattle.t1_algebra.specs.States.{joined_font, Compatible}
 use Rattle.t1_algebra.proofs.Kept.{InFont, keep_closed, component_here_from}
-use Rattle.t1_algebra.proofs.Sets.{name_same, itself, here, later}
-use Rattle.t1_algebra.proofs.Uses.{seeks_it}
-use Rattle.t1_algebra.proofs.JoinedStates.{left_glyph, left_runs, glyph_in_join}
-use Rattle.t1_algebra.proofs.CutFonts.{get-glyph, runs_alike}
+use Rattle.t1_algebra.proofs.Sets.{name_same, itself, here, later, any_append_left, any_append_right, cases}
+use Rattle.t1_algebra.proofs.Uses.{seeks_it, has_some}
+use Rattle.t1_algebra.proofs.JoinedStates.{left_glyph, left_runs, left_subrs, font_back, compatible_back}
+use Rattle.t1_algebra.proofs.Subsets.{get-glyph, runs_alike, subrs_alike, glyph_in_join}
+use Rattle.t1_run.specs.State.{Ending}
+use Rattle.t1_run.specs.Run.{direct, direct3, exec, direct_by}
+use Rattle.t1_run.specs.Drawings.{parts_of, picture, picture_at, draw, draw3, outcome_at, draw_by, parts_by, parts}
+use Rattle.t1_run.proofs.Locality.{local}
+use Rattle.t1_algebra.specs.Profile.{profile, Endings, in_set_of}
+use Rattle.t1_font.specs.IsFont.{IsFont}
+use Rattle.t1_font.proofs.FontReaders.{all_seen}
+use Rattle.t1_algebra.specs.Laws.{IsOf, DrawsAlike, AnswersAlike}
+use Rattle.std.specs.FinSet as sets
+use Rattle.std.specs.FinMap as maps
+
+-- ---- fonts in which a glyph runs alike and names components that run alike
+
+-- a charstring runs the same over two tables of Subrs that agree at what it executes
+pub runs_by_rules : (s t : Numbered) (c : List ℕ) → ((i : ℕ) → sets.contains (profile.exec s c) i ≡ true → maps.get t i ≡ maps.get s i)
+    → (direct (maps.get t) c ≡ direct (maps.get s) c) × (direct3 (maps.get t) c ≡ direct3 (maps.get s) c) × (exec (maps.get t) c ≡ exec (maps.get s) c)
+unfolding profile
+runs_by_rules s t c h = local (maps.get s) (maps.get t) c (λ i k. sym (h i (in_set_of (exec (maps.get s) c) i k)))
+
+ending : (s : Numbered) (c : List ℕ) → (profile.direct s c ≡ (direct (maps.get s) c, direct3 (maps.get s) c)) × (components profile s c ≡ parts (maps.get s) c)
+unfolding profile
+ending s c = (refl, refl)
 
 -- functions that agree on a list map it to the same
 map_alike : {X : Type 0} (f g : List ℕ → X) (ps : List (List ℕ)) → ((p : List ℕ) → list_any (same_bytes p) ps ≡ true → f p ≡ g p) → map f ps ≡ map g ps
 map_alike f g [] h = refl
 map_alike f g (p ∷ ps) h = λ i. h p (here (same_bytes p) p ps (itself nat_list_cmp_total name_same p)) i ∷ map_alike f g ps (λ q w. h q (later (same_bytes q) p ps w)) i
 
--- a font in which the charstring and its components run as before draws it as before
-pub seen_alike : {O : Type 0} (m : Interpreter O) (f j : FontValue) (c : List ℕ) → m.direct j.subrs c ≡ m.direct f.subrs c
-    → ((p : List ℕ) → list_any (same_bytes p) (components m f.subrs c) ≡ true → component_outcome m j p ≡ component_outcome m f p) → seen m j c ≡ seen m f c
-seen_alike m f j c e h = λ i. (e i, (ap (λ d. map (component_outcome m j) (m.names d)) e ∙ map_alike (component_outcome m j) (component_outcome m f) (components m f.subrs c) h) i)
+module _ (f j : FontValue) (n : List ℕ) (same : maps.get j.glyphs n ≡ maps.get f.glyphs n)
+    (runs : (c : List ℕ) → maps.get f.glyphs n ≡ Some c → (i : ℕ) → sets.contains (profile.exec f.subrs c) i ≡ true → maps.get j.subrs i ≡ maps.get f.subrs i)
+    (same_parts : (c p : List ℕ) → maps.get f.glyphs n ≡ Some c → list_any (same_bytes p) (components profile f.subrs c) ≡ true → component_outcome profile j p ≡ component_outcome profile f p) where
+  -- `by` gives what a charstring comes to by one answer to hint replacement
+  module _ (hints : _) (by : Endings → Ending) (is_by : (s : Numbered) (c : List ℕ) → by (profile.direct s c) ≡ direct_by hints (maps.get s) c)
+      (named : (s : Numbered) (c p : List ℕ) → list_any (same_bytes p) (parts_by hints (maps.get s) c) ≡ true → list_any (same_bytes p) (components profile s c) ≡ true) where
+    part_alike : (p : List ℕ) → component_outcome profile j p ≡ component_outcome profile f p → outcome_at hints (maps.get j.subrs) (maps.get j.glyphs) p ≡ outcome_at hints (maps.get f.subrs) (maps.get f.glyphs) p
+    part_alike p e = grind (cases, e, is_by f.subrs, is_by j.subrs)
 
-module _ {O : Type 0} (m : Interpreter O) (f : FontValue) (base : has f notdef ≡ true) (a : Names) (inside : InFont m f a) where
-  -- a component of a kept glyph comes to the same in the subset
-  component_in_subset : (n c p : List ℕ) → sets.contains (keep m f a) n ≡ true → maps.get f.glyphs n ≡ Some c → list_any (same_bytes p) (components m f.subrs c) ≡ true
-      → (x : Option (List ℕ)) → maps.get f.glyphs p ≡ x → option_map (m.direct (subset m f a).subrs) (cond (sets.contains (keep m f a) p) x None) ≡ option_map (m.direct f.subrs) x
-  component_in_subset n c p k is w None hx = elim (sets.contains (keep m f a) p) as (λ b. option_map (m.direct (subset m f a).subrs) (cond b None None) ≡ None) [ true ↦ refl | false ↦ refl ]
-  component_in_subset n c p k is w (Some d) hx =
-      let kept = (keep_closed m f a base inside).components n p k (component_here_from m f n p (ap (λ x. list_any (same_bytes p) (components m f.subrs (unwrap_or x []))) is ∙ w) (ap is_some hx)) in
-      ap (λ b. option_map (m.direct (subset m f a).subrs) (cond b (Some d) None)) kept ∙ ap Some (runs_alike m f base a inside p d kept hx).0
+    picture_alike : (x : Option (List ℕ)) → maps.get f.glyphs n ≡ x
+        → picture_at hints (maps.get j.subrs) (maps.get j.glyphs) (option_map (direct_by hints (maps.get j.subrs)) x) ≡ picture_at hints (maps.get f.subrs) (maps.get f.glyphs) (option_map (direct_by hints (maps.get f.subrs)) x)
+    picture_alike None is = refl
+    picture_alike (Some c) is =
+        ap (λ own. picture own (map (outcome_at hints (maps.get j.subrs) (maps.get j.glyphs)) (parts_of own))) (sym (is_by j.subrs c) ∙ ap by (profile.local f.subrs j.subrs c (runs c is)).0 ∙ is_by f.subrs c)
+        ∙ ap (picture (direct_by hints (maps.get f.subrs) c)) (map_alike _ _ (parts_by hints (maps.get f.subrs) c) (λ p w. part_alike p (same_parts c p is (named f.subrs c p w))))
 
-  -- a kept glyph draws in the subset as it does in the font
-  pub subset_draws : (n : List ℕ) → sets.contains (keep m f a) n ≡ true → (x : Option (List ℕ)) → maps.get f.glyphs n ≡ x → drawing m (subset m f a) n ≡ option_map (seen m f) x
-  subset_draws n k None is = ap (option_map (seen m (subset m f a))) (get-glyph m f base a inside n ∙ ap (λ b. cond b (maps.get f.glyphs n) None) k ∙ is)
-  subset_draws n k (Some c) is = ap (option_map (seen m (subset m f a))) (get-glyph m f base a inside n ∙ ap (λ b. cond b (maps.get f.glyphs n) None) k ∙ is)
-      ∙ ap Some (seen_alike m f (subset m f a) c (runs_alike m f base a inside n c k is).0 (λ p w.
-      ap (option_map (m.direct (subset m f a).subrs)) (get-glyph m f base a inside p) ∙ component_in_subset n c p k is w (maps.get f.glyphs p) refl))
+    draws_alike : draw_by hints (maps.get j.subrs) (maps.get j.glyphs) n ≡ draw_by hints (maps.get f.subrs) (maps.get f.glyphs) n
+    draws_alike = ap (λ x. picture_at hints (maps.get j.subrs) (maps.get j.glyphs) (option_map (direct_by hints (maps.get j.subrs)) x)) same ∙ picture_alike (maps.get f.glyphs n) refl
 
-module _ {O : Type 0} (m : Interpreter O) (f g : FontValue) (c : Compatible m f g) where
-  -- a component that f seeks and lacks is lacking in g, too
-  lacking : (p : List ℕ) (y : Option (List ℕ)) → maps.get f.glyphs p ≡ None → is_sought m f p ≡ true → maps.get g.glyphs p ≡ y → y ≡ None
-  lacking p None h s hy = refl
-  lacking p (Some d) h s hy =
-      let e : name_state m f p ≡ Some None = ap (state_of_glyph m f p) h ∙ ap (λ b. cond b (Some None) None) s in
-      Some_None (sym (subst (λ (x : Option (Option (List ℕ))). Agree x (Some (Some d))) e (subst (λ (y : Option (List ℕ)). Agree (name_state m f p) (state_of_glyph m g p y)) hy (c.names p))))
+  -- the glyph draws alike in both
+  pub alike : DrawsAlike f j n
+  alike = record {
+    charstring = same;
+    answer = λ c is. (runs_by_rules f.subrs j.subrs c (runs c is)).0;
+    answer3 = λ c is. (runs_by_rules f.subrs j.subrs c (runs c is)).1;
+    executes = λ c is. (runs_by_rules f.subrs j.subrs c (runs c is)).2;
+    draws = draws_alike _ (λ e. e.0) (λ s c. ap (λ e. e.0) (ending s c).0) (λ s c p w. ap (list_any (same_bytes p)) (ending s c).1 ∙ any_append_left (same_bytes p) (parts_of (direct (maps.get s) c)) (parts_of (direct3 (maps.get s) c)) w);
+    draws3 = draws_alike _ (λ e. e.1) (λ s c. ap (λ e. e.1) (ending s c).0) (λ s c p w. ap (list_any (same_bytes p)) (ending s c).1 ∙ any_append_right (same_bytes p) (parts_of (direct (maps.get s) c)) (parts_of (direct3 (maps.get s) c)) w);
+  }
 
-  -- a component of a glyph of f comes to the same in the join
-  component_in_join : (n v p : List ℕ) → maps.get f.glyphs n ≡ Some v → list_any (same_bytes p) (components m f.subrs v) ≡ true → (x : Option (List ℕ)) → maps.get f.glyphs p ≡ x
-      → component_outcome m (joined_font m f g) p ≡ option_map (m.direct f.subrs) x
-  component_in_join n v p is w None hx = ap (option_map (m.direct (joined_font m f g).subrs)) (glyph_in_join m f g p ∙ ap (λ x. joined x (maps.get g.glyphs p)) hx ∙ lacking p (maps.get g.glyphs p) hx (seeks_it m f n v p is w) refl)
-  component_in_join n v p is w (Some d) hx = ap (option_map (m.direct (joined_font m f g).subrs)) (left_glyph m f g p d hx) ∙ ap Some (left_runs m f g p d hx).0
+-- ---- subsets and joins
 
-  -- a glyph of f draws in the join as it did
-  pub join_draws : (n v : List ℕ) → maps.get f.glyphs n ≡ Some v → drawing m (joined_font m f g) n ≡ drawing m f n
-  join_draws n v is = ap (option_map (seen m (joined_font m f g))) (left_glyph m f g n v is)
-      ∙ ap Some (seen_alike m f (joined_font m f g) v (left_runs m f g n v is).0 (λ p w. component_in_join n v p is w (maps.get f.glyphs p) refl))
-      ∙ ap (option_map (seen m f)) (sym is)
+-- a component of a kept glyph comes to the same in the subset
+component_in_subset : {O : Type 0} (m : Interpreter O) (f : FontValue) (base : has f notdef ≡ true) (a : Names) (inside : InFont m f a) (n c p : List ℕ) → sets.contains (keep m f a) n ≡ true
+    → maps.get f.glyphs n ≡ Some c → list_any (same_bytes p) (components m f.subrs c) ≡ true → component_outcome m (subset m f a) p ≡ component_outcome m f p
+component_in_subset m f base a inside n c p k is w =
+    let kept = λ (h : has f p ≡ true). (keep_closed m f a base inside).components n p k (component_here_from m f n p (ap (λ x. list_any (same_bytes p) (components m f.subrs (unwrap_or x []))) is ∙ w) h) in
+    grind (cases, get-glyph m f base a inside p, kept, runs_alike m f base a inside p)
+
+-- a kept glyph draws in a subset as in the font
+pub subset_alike : (f : FontValue) → IsFont f → (a : Names) → IsOf f a → (n : List ℕ) → sets.contains (keep profile f a) n ≡ true → DrawsAlike f (subset profile f a) n
+subset_alike f h a inside n k = alike f (subset profile f a) n (get-glyph profile f h.glyphs.notdef a inside n ∙ ap (λ b. cond b (maps.get f.glyphs n) None) k)
+    (λ c is. subrs_alike profile f h.glyphs.notdef a inside n c k is) (λ c p is w. component_in_subset profile f h.glyphs.notdef a inside n c p k is w)
+
+-- a component of a glyph of the first font comes to the same in the join
+component_in_join : {O : Type 0} (m : Interpreter O) (f g : FontValue) → Compatible m f g → (n c p : List ℕ) → maps.get f.glyphs n ≡ Some c → list_any (same_bytes p) (components m f.subrs c) ≡ true
+    → component_outcome m (joined_font m f g) p ≡ component_outcome m f p
+component_in_join m f g c n v p is w = grind (cases, glyph_in_join m f g p, c.names p, seeks_it m f n v p is w, left_runs m f g p)
+
+-- a glyph of the first font draws in the join as it did
+pub left_alike : (f g : FontValue) → Compatible profile f g → (n : List ℕ) → has f n ≡ true → DrawsAlike f (joined_font profile f g) n
+left_alike f g c n h =
+    let v = has_some (maps.get f.glyphs n) h in
+    alike f (joined_font profile f g) n (left_glyph profile f g n v.0 v.1 ∙ sym v.1) (left_subrs profile f g n) (component_in_join profile f g c n)
+
+-- so does a glyph of the second font
+pub right_alike : (f g : FontValue) → Compatible profile f g → (n : List ℕ) → has g n ≡ true → DrawsAlike g (joined_font profile f g) n
+right_alike f g c n h = subst (λ (j : FontValue). DrawsAlike g j n) (sym (font_back profile f g c)) (left_alike g f (compatible_back profile f g c) n h)
+
+-- fonts show their maps to an interpreter, so calls answer alike of glyphs that draw alike
+pub answers_alike : (f j : FontValue) → IsFont f → IsFont j → (n : List ℕ) → DrawsAlike f j n → AnswersAlike f j n
+answers_alike f j hf hj n d = record {
+  charstring = d.charstring;
+  answer = λ c is. ap (λ s. direct s c) (all_seen j hj) ∙ d.answer c is ∙ ap (λ s. direct s c) (sym (all_seen f hf));
+  answer3 = λ c is. ap (λ s. direct3 s c) (all_seen j hj) ∙ d.answer3 c is ∙ ap (λ s. direct3 s c) (sym (all_seen f hf));
+  executes = λ c is. ap (λ s. exec s c) (all_seen j hj) ∙ d.executes c is ∙ ap (λ s. exec s c) (sym (all_seen f hf));
+  draws = ap (λ s. draw s (maps.get j.glyphs) n) (all_seen j hj) ∙ d.draws ∙ ap (λ s. draw s (maps.get f.glyphs) n) (sym (all_seen f hf));
+  draws3 = ap (λ s. draw3 s (maps.get j.glyphs) n) (all_seen j hj) ∙ d.draws3 ∙ ap (λ s. draw3 s (maps.get f.glyphs) n) (sym (all_seen f hf));
+}

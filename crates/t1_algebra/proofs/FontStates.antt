@@ -1,181 +1,69 @@
--- The states of a font as tables: what stands at each key, what they weigh, and that they join as the fonts do.
-use Rattle.std.proofs.Common.{◌≡◌, ◌↔◌, ◌≤◌, ℕ, ◌+◌, ◌*◌, ◌-◌, zero, suc, max, Bool, true, false, cond, not, ◌&&◌, ◌||◌, List, [], ◌∷◌, map, filter, flat_map, length, refl, sym, ◌∙◌, ap, subst, true≢false, Option, Some, None, option_map, is_some, arith, inl, ⊎_elim}
-use Rattle.std.specs.List.{list_any, AllByRecursion}
+-- The states of a font as tables: what stands at each key, what they weigh, that they join as the fonts do, and that they determine the font.
+use Rattle.std.proofs.Common.{◌≡◌, ◌↔◌, ◌≤◌, ℕ, ◌+◌, ◌*◌, ◌-◌, Bool, true, false, cond, List, [], ◌∷◌, map, filter, length, refl, sym, ◌∙◌, ap, subst, true≢false, Option, Some, None, option_map, is_some, arith, inl, ⊎_elim}
+use Rattle.std.specs.List.{AllByRecursion}
 use Rattle.std.proofs.lemmas.List.{length-map}
-use Rattle.std.proofs.lemmas.List.Folds.{list_any-append}
 use Rattle.std.specs.Cmp.{nat_cmp_total}
 use Rattle.std.specs.Cmp.Lexicographic.{nat_list_cmp_total}
-use Rattle.std.specs.FinMap as maps
-use Rattle.std.specs.FinMap.{find}
 use Rattle.std.specs.FinSet.{nat_cmp-IsAntisymmetric}
-use Rattle.t1_join.specs.Meaning.{Meaning, meaning_cmp, same_meaning, of_number}
-use Rattle.t1_join.specs.Join.{State, states_agree, joined_state}
-use Rattle.t1_join.specs.Join.{StatesAgree as PlacesAgree}
-use Rattle.t1_join.specs.StateLaws.{same_meaning-true, same_meaning-self, state_itself}
+use Rattle.t1_join.specs.Meaning.{Meaning, of_number}
+use Rattle.t1_join.specs.Join.{State, StatesAgree as PlacesAgree}
+use Rattle.t1_join.specs.StateLaws.{same_meaning-self}
 use Rattle.t1_join.specs.TableMeaning.{TableMeaning, TablesAgree, TablesJoin, joined_table}
 use Rattle.t1_join.specs.TableLaws.{get_joined, same_table}
-use Rattle.t1_font.specs.Joins.{join_encodings}
 use Rattle.t1_font.specs.FontModel.{names_in, word_of, clamp}
-use Rattle.t1_font.specs.FontValue.{FontValue, Encoding, Word, Codes, Numbered, name_cmp, total, subr_weight, weight, weight_limit, count_limit}
-use Rattle.t1_font.specs.WriteLaws.{SameKind}
+use Rattle.t1_font.specs.FontValue.{FontValue, total, subr_weight, weight, weight_limit, count_limit}
 use Rattle.t1_font.proofs.CutEntries.{entries-retain}
-use Rattle.t1_font.proofs.MapLemmas.{Some_same, Some_None, entries_all, get-retain, length_total}
+use Rattle.t1_font.proofs.MapLemmas.{entries_all, get-retain, length_total}
 use Rattle.t1_algebra.specs.Interpreter.{Interpreter, same_bytes}
-use Rattle.t1_algebra.specs.States.{named_at, Agree, joined, IsWithin, is_called, is_sought, is_stub, state_of_entry, subr_state, state_of_glyph, name_state, code_state, Compatible, Join, joined_font}
-use Rattle.t1_algebra.specs.StateTables.{StatesValue, numbered, name_meaning, AreSought, code_states, used_subrs, all_components, name_states, states_of, new_entries, subr_adds, name_adds, name_counts, shared_weight, states_weight, states_glyphs, StatesFit, IsSized, name_part, subr_part, joint_weight, joint_glyphs, PartsJoin, StatesAgree, StatesJoin}
-use Rattle.t1_algebra.specs.Shared.{Shared}
+use Rattle.t1_algebra.specs.States.{named_at, Agree, IsWithin, is_sought, subr_state, name_state, Compatible, Join, joined_font}
+use Rattle.t1_algebra.specs.StateTables.{StatesValue, numbered, name_meaning, AreSought, used_subrs, all_components, name_states, states_of, new_entries, subr_adds, name_adds, name_counts, states_weight, states_glyphs, StatesFit, IsSized, name_part, subr_part, joint_weight, joint_glyphs, PartsJoin, StatesAgree, StatesJoin, behind_mark, code_part}
 use Rattle.t1_join.specs.Products.{BothJoin}
 use Rattle.t1_algebra.specs.StateLaws.{PartsAgree, parts_laws}
 use Rattle.t1_algebra.proofs.Shares.{same_indices, shared_from, shared_to}
-use Rattle.t1_algebra.proofs.CutFonts.{stub_is}
-use Rattle.t1_algebra.proofs.Maps.{get-merged, maps_same}
-use Rattle.t1_algebra.proofs.Numbered.{at_number, get-numbered, entries-numbered, numbered-merged}
-use Rattle.t1_algebra.proofs.Sets.{name_same}
+use Rattle.t1_algebra.proofs.Maps.{get-valued}
+use Rattle.t1_algebra.proofs.Sets.{name_same, cases_Option, any_flat_map, cases}
 use Rattle.t1_algebra.proofs.JoinedStates.{subr_joined, name_joined, present_joined}
-use Rattle.t1_algebra.proofs.NameTables.{get-name, names_total}
-use Rattle.t1_algebra.proofs.TableWeights.{total-merged}
+use Rattle.t1_algebra.proofs.Subsets.{stub_is, same_font, same_encoding, code_joined}
+use Rattle.std.specs.FinMap as maps
+use Rattle.t1_algebra.proofs.Tables.{total-merged, get-numbered, entries-numbered, get-name, names_total, Shows, cases_key, codes_shown, shown_agree, agree_shown, shown_joined, to_agree, total_mapped}
 
 -- ---- states that agree
-
--- states that agree in tables agree
-pub to_agree : (x y : State) → PlacesAgree x y → Agree x y
-to_agree None y h = tt
-to_agree (Some v) None h = tt
-to_agree (Some v) (Some w) h = same_meaning-true v w h
-
--- states that agree do so in tables
-pub from_agree : (x y : State) → Agree x y → PlacesAgree x y
-from_agree None y h = refl
-from_agree (Some v) None h = refl
-from_agree (Some v) (Some w) h = subst (λ (u : Meaning). same_meaning v u ≡ true) h (same_meaning-self v)
-
-same_name : (a b : Option (List ℕ)) → name_meaning a ≡ name_meaning b → a ≡ b
-same_name None None e = refl
-same_name None (Some d) e = cc
-same_name (Some c) None e = cc
-same_name (Some c) (Some d) e = cc
 
 -- what the state of a name means in a table
 abbrev pub meant : Option (Option (List ℕ)) → State
 meant x = option_map name_meaning x
 
--- names whose meanings agree have states that agree
-names_to : (x y : Option (Option (List ℕ))) → PlacesAgree (meant x) (meant y) → Agree x y
-names_to None y h = tt
-names_to (Some a) None h = tt
-names_to (Some a) (Some b) h = same_name a b (same_meaning-true (name_meaning a) (name_meaning b) h)
-
--- names whose states agree have meanings that agree
-names_from : (x y : Option (Option (List ℕ))) → Agree x y → PlacesAgree (meant x) (meant y)
-names_from None y h = refl
-names_from (Some a) None h = refl
-names_from (Some a) (Some b) h = subst (λ (c : Option (List ℕ)). same_meaning (name_meaning a) (name_meaning c) ≡ true) h (same_meaning-self (name_meaning a))
-
--- the meaning of a join of names is the join of their meanings
-names_joined : (x y : Option (Option (List ℕ))) → meant (joined x y) ≡ joined_state (meant x) (meant y)
-names_joined None y = refl
-names_joined (Some a) y = refl
-
--- ---- tables by number
-
--- maps that agree at each number are tables that agree
-numbers_agree : (s t : Numbered) → ((i : ℕ) → Agree (maps.get s i) (maps.get t i)) → TablesAgree (numbered s) (numbered t)
-numbers_agree s t h q = (λ i. states_agree (get-numbered s q i) (get-numbered t q i)) ∙ at q
-  where
-    at : (q : Meaning) → PlacesAgree (at_number (maps.get s) q) (at_number (maps.get t) q)
-    at [] = refl
-    at (n ∷ []) = from_agree (maps.get s n) (maps.get t n) (h n)
-    at (a ∷ b ∷ rest) = refl
-
--- tables by number that agree are maps that agree at each number
-agree_numbers : (s t : Numbered) → TablesAgree (numbered s) (numbered t) → (i : ℕ) → Agree (maps.get s i) (maps.get t i)
-agree_numbers s t h i = to_agree (maps.get s i) (maps.get t i) ((λ j. states_agree (sym (get-numbered s (of_number i)) j) (sym (get-numbered t (of_number i)) j)) ∙ h (of_number i))
+module _ (x y : Option (Option (List ℕ))) where
+  -- names whose meanings agree have states that agree
+  names_to : PlacesAgree (meant x) (meant y) → Agree x y
+  names_to h = grind (arith, to_agree (meant x) (meant y) h, cases_Option x, cases_Option y, cases_Option {X = List ℕ})
 
 -- ---- what stands at each key
 
-any_flat_map : {J : Type 0} (p : List ℕ → Bool) (f : J → List (List ℕ)) (xs : List J) → list_any p (flat_map f xs) ≡ list_any (λ x. list_any p (f x)) xs
-any_flat_map p f [] = refl
-any_flat_map p f (x ∷ xs) = list_any-append p (f x) (flat_map f xs) ∙ ap (λ b. list_any p (f x) || b) (any_flat_map p f xs)
-
--- in the table of sought names a name is found if it is one of them
-find_sought : (n : List ℕ) (ps : List (List ℕ)) → find name_cmp n (map (λ p. (p, name_meaning None)) ps) ≡ cond (list_any (same_bytes n) ps) (Some []) None
-find_sought n [] = refl
-find_sought n (p ∷ ps) = elim (same_bytes n p) as (λ b. cond b (Some []) (find name_cmp n (map (λ p. (p, name_meaning None)) ps)) ≡ cond (b || list_any (same_bytes n) ps) (Some []) None) [ true ↦ refl | false ↦ find_sought n ps ]
-
 module _ {O : Type 0} (m : Interpreter O) (f : FontValue) where
-  cut_at : (b : Bool) (c : List ℕ) → cond (is_some (cond b None (Some c))) (Some c) None ≡ cond b None (Some c)
-  cut_at true c = refl
-  cut_at false c = refl
-
-  used_at : (i : ℕ) (x : Option (List ℕ)) → cond (is_some (state_of_entry m f i x)) x None ≡ state_of_entry m f i x
-  used_at i None = refl
-  used_at i (Some c) = cut_at (is_stub c && not (is_called m f i)) c
-
   -- the table of Subrs has the state of each index
   pub get-used : (i : ℕ) → maps.get (used_subrs m f) i ≡ subr_state m f i
-  get-used i = get-retain nat_cmp_total nat_cmp-IsAntisymmetric f.subrs (λ i. is_some (subr_state m f i)) i ∙ used_at i (maps.get f.subrs i)
+  get-used i = grind (cases, get-retain nat_cmp_total nat_cmp-IsAntisymmetric f.subrs (λ i. is_some (subr_state m f i)) i)
+
+  -- so has the table by number
+  pub subrs_shown : Shows (numbered (used_subrs m f)) (subr_state m f)
+  subrs_shown q = grind (arith, get-numbered (used_subrs m f) q, cases_key q, get-used)
 
   -- the names that are sought
   abbrev sought : TableMeaning
   sought = maps.from_entries (map (λ p. (p, name_meaning None)) (all_components m f))
 
   get-sought : (n : List ℕ) → maps.get sought n ≡ cond (is_sought m f n) (Some []) None
-  get-sought n = maps.get-from_entries nat_list_cmp_total (map (λ p. (p, name_meaning None)) (all_components m f)) n ∙ find_sought n (all_components m f)
-      ∙ ap (λ b. cond b (Some []) None) (any_flat_map (same_bytes n) (λ n. named_at m f (maps.get f.glyphs n)) (names_in f.glyphs))
-
-  lone : (b : Bool) → cond b (Some []) None ≡ meant (cond b (Some None) None)
-  lone true = refl
-  lone false = refl
+  get-sought n = get-valued nat_list_cmp_total [] (all_components m f) n ∙ ap (λ b. cond b (Some []) None) (any_flat_map (same_bytes n) (λ n. named_at m f (maps.get f.glyphs n)) (names_in f.glyphs))
 
   are_sought : AreSought sought
-  are_sought n v is = at (is_sought m f n) (sym (get-sought n) ∙ is)
-    where
-      at : (b : Bool) → cond b (Some []) None ≡ Some v → v ≡ []
-      at true h = sym (Some_same h)
-      at false h = Some_None (sym h)
-
-  name_at : (n : List ℕ) (x : Option (List ℕ)) → joined_state (option_map (λ c. name_meaning (Some c)) x) (cond (is_sought m f n) (Some []) None) ≡ meant (state_of_glyph m f n x)
-  name_at n None = lone (is_sought m f n)
-  name_at n (Some c) = refl
+  are_sought n v is = grind (cases, get-sought n)
 
   -- the table of names has the state of each name
   pub get-names : (n : List ℕ) → maps.get (name_states m f) n ≡ meant (name_state m f n)
-  get-names n = get-name f.glyphs sought n ∙ ap (joined_state (option_map (λ c. name_meaning (Some c)) (maps.get f.glyphs n))) (get-sought n) ∙ name_at n (maps.get f.glyphs n)
+  get-names n = grind (cases, get-name f.glyphs sought n, get-sought n)
 
 -- ---- compatible fonts have states that agree
-
--- the join of two Encodings has the word of the first
-word_joined : (d e : Encoding) → SameKind d e → word_of (join_encodings d e) ≡ word_of d
-word_joined (Word v) e h = refl
-word_joined (Codes s) (Word w) h = refl
-word_joined (Codes s) (Codes t) h = refl
-
--- if the names of each code agree, the tables of codes agree
-codes_agree : (d e : Encoding) → SameKind d e → ((c : ℕ) → Agree (code_state d c) (code_state e c)) → TablesAgree (code_states d) (code_states e)
-codes_agree (Word v) (Word w) h a = λ q. state_itself (maps.get (maps.empty {R = meaning_cmp}) q)
-codes_agree (Word v) (Codes t) h a = absurd h
-codes_agree (Codes s) (Word w) h a = absurd h
-codes_agree (Codes s) (Codes t) h a = numbers_agree s t a
-
--- if the tables of codes agree, the names of each code agree
-agree_codes : (d e : Encoding) → TablesAgree (code_states d) (code_states e) → (c : ℕ) → Agree (code_state d c) (code_state e c)
-agree_codes (Word v) e h c = tt
-agree_codes (Codes s) (Word w) h c = none_right (maps.get s c)
-  where
-    none_right : (x : Option (List ℕ)) → Agree x None
-    none_right None = tt
-    none_right (Some v) = tt
-agree_codes (Codes s) (Codes t) h c = agree_numbers s t h c
-
--- the codes of the join of two Encodings are the join of their tables
-codes_joined : (d e : Encoding) → SameKind d e → code_states (join_encodings d e) ≡ joined_table (code_states d) (code_states e)
-codes_joined (Word v) (Word w) h = same_table maps.empty (joined_table maps.empty maps.empty) (λ q. nothing q ∙ sym (get_joined maps.empty maps.empty q))
-  where
-    nothing : (q : Meaning) → maps.get (maps.empty {R = meaning_cmp}) q ≡ joined_state (maps.get (maps.empty {R = meaning_cmp}) q) (maps.get (maps.empty {R = meaning_cmp}) q)
-    nothing q = let none = maps.get-empty meaning_cmp q in none ∙ (λ i. joined_state (sym none i) (sym none i))
-codes_joined (Word v) (Codes t) h = absurd h
-codes_joined (Codes s) (Word w) h = absurd h
-codes_joined (Codes s) (Codes t) h = sym (numbered-merged s t)
 
 module _ {O : Type 0} (m : Interpreter O) (f g : FontValue) where
   -- the states of compatible fonts agree part by part
@@ -183,11 +71,8 @@ module _ {O : Type 0} (m : Interpreter O) (f g : FontValue) where
   compatible_agree c = (
     shared_from f g (record { shells = c.shells; present = c.present; kinds = c.kinds }),
     (
-      codes_agree f.encoding g.encoding c.kinds c.codes,
-      (
-        λ n. (λ i. states_agree (get-names m f n i) (get-names m g n i)) ∙ names_from (name_state m f n) (name_state m g n) (c.names n),
-        numbers_agree (used_subrs m f) (used_subrs m g) (λ i. subst (λ (x : State). Agree x (maps.get (used_subrs m g) i)) (sym (get-used m f i)) (subst (Agree (subr_state m f i)) (sym (get-used m g i)) (c.subrs i))),
-      ),
+      shown_agree _ _ _ _ (codes_shown f.encoding) (codes_shown g.encoding) c.codes,
+      (λ n. grind (cases, get-names m f n, get-names m g n, c.names n, same_meaning-self), shown_agree _ _ _ _ (subrs_shown m f) (subrs_shown m g) c.subrs),
     ),
   )
 
@@ -197,84 +82,47 @@ module _ {O : Type 0} (m : Interpreter O) (f g : FontValue) where
     shells = (shared_to f g h.0).shells;
     present = (shared_to f g h.0).present;
     kinds = (shared_to f g h.0).kinds;
-    subrs = λ i. subst (λ (x : State). Agree x (subr_state m g i)) (get-used m f i) (subst (Agree (maps.get (used_subrs m f) i)) (get-used m g i) (agree_numbers (used_subrs m f) (used_subrs m g) h.1.1.1 i));
-    names = λ n. names_to (name_state m f n) (name_state m g n) ((λ i. states_agree (sym (get-names m f n) i) (sym (get-names m g n) i)) ∙ h.1.1.0 n);
-    codes = agree_codes f.encoding g.encoding h.1.0;
+    subrs = agree_shown _ _ _ _ (subrs_shown m f) (subrs_shown m g) h.1.1.1;
+    names = λ n. names_to (name_state m f n) (name_state m g n) (grind (arith, get-names m f n, get-names m g n, h.1.1.0 n));
+    codes = agree_shown _ _ _ _ (codes_shown f.encoding) (codes_shown g.encoding) h.1.0;
   }
 
   -- the states of a join are the joined states
   pub parts_join : Compatible m f g → PartsJoin (states_of m f) (states_of m g) (states_of m (joined_font m f g))
   parts_join c =
       let a = compatible_agree c in
-      let j = joined_font m f g in (
-        (a.0, λ i. (f.shell, (word_joined f.encoding g.encoding c.kinds i, same_indices j.subrs f.subrs (present_joined m f g) i))),
-        (
-          (a.1.0, codes_joined f.encoding g.encoding c.kinds),
-          (
-            (
-              a.1.1.0,
-              same_table (name_states m j) (joined_table (name_states m f) (name_states m g)) (λ n.
-                  get-names m j n ∙ ap meant (name_joined m f g c n) ∙ names_joined (name_state m f n) (name_state m g n)
-                  ∙ (λ i. joined_state (sym (get-names m f n) i) (sym (get-names m g n) i)) ∙ sym (get_joined (name_states m f) (name_states m g) n)),
-            ),
-            (
-              a.1.1.1,
-              ap numbered (maps_same nat_cmp_total nat_cmp-IsAntisymmetric (used_subrs m j) _ (λ i.
-                  get-used m j i ∙ subr_joined m f g c i ∙ (λ k. joined (sym (get-used m f i) k) (sym (get-used m g i) k)) ∙ sym (get-merged nat_cmp_total nat_cmp-IsAntisymmetric (used_subrs m f) (used_subrs m g) i)))
-                  ∙ sym (numbered-merged (used_subrs m f) (used_subrs m g)),
-            ),
-          ),
-        ),
-      )
+      let j = joined_font m f g in
+      let word : word_of j.encoding ≡ word_of f.encoding = grind (cases, c.kinds) in
+      let codes = shown_joined _ _ _ _ (codes_shown f.encoding) (codes_shown g.encoding) _ _ (codes_shown j.encoding) (code_joined f.encoding g.encoding c.kinds) in
+      let names = same_table (name_states m j) (joined_table (name_states m f) (name_states m g)) (λ n.
+      grind (cases, get-names m j n, name_joined m f g c n, get-names m f n, get-names m g n, get_joined (name_states m f) (name_states m g) n)) in
+      let subrs = shown_joined _ _ _ _ (subrs_shown m f) (subrs_shown m g) _ _ (subrs_shown m j) (subr_joined m f g c) in
+      ((a.0, λ i. (f.shell, (word i, same_indices j.subrs f.subrs (present_joined m f g) i))), ((a.1.0, codes), ((a.1.1.0, names), (a.1.1.1, subrs))))
 
 -- ---- weights
-
--- the weight of a table by number is that of its map
-total_keyed : (es : List (ℕ × List ℕ)) → total subr_adds (map (λ e. (of_number e.0, e.1)) es) ≡ total (λ i c. length c - 1) es
-total_keyed [] = refl
-total_keyed (e ∷ es) = ap (λ n. length e.1 - 1 + n) (total_keyed es)
 
 -- leaving out entries that weigh nothing changes no sum
 total_kept : {K : Type 0} (w : K → List ℕ → ℕ) (p : K → Bool) (es : List (K × List ℕ)) → AllByRecursion (λ e. p e.0 ≡ false → w e.0 e.1 ≡ 0) es → total w (filter (λ e. p e.0) es) ≡ total w es
 total_kept w p [] h = refl
-total_kept w p (e ∷ es) h =
-    elim (p e.0) as (λ b. p e.0 ≡ b → total w (cond b (e ∷ filter (λ e. p e.0) es) (filter (λ e. p e.0) es)) ≡ w e.0 e.1 + total w es) [
-      | true ↦ λ t. ap (λ n. w e.0 e.1 + n) (total_kept w p es h.1)
-      | false ↦ λ t. let none = h.0 t in let rest = total_kept w p es h.1 in omega (arith, none, rest)
-    ] refl
-
-at_least_one : (n : ℕ) → max 1 n ≡ 1 + (n - 1)
-at_least_one zero = refl
-at_least_one (suc n) = omega arith
+total_kept w p (e ∷ es) h = grind (cases, total_kept w p es h.1, h.0)
 
 -- Subrs weigh what as many stubs weigh and what each has beyond a stub
 total_apart : (iv : ℕ) (es : List (ℕ × List ℕ)) → total (subr_weight iv) es ≡ length es * (129 + iv) + total (λ i c. length c - 1) es
 total_apart iv [] = omega arith
-total_apart iv (e ∷ es) = let rest = total_apart iv es in let one = at_least_one (length e.1) in omega (arith, rest, one)
+total_apart iv (e ∷ es) = omega (arith, total_apart iv es)
 
 module _ {O : Type 0} (m : Interpreter O) (f : FontValue) where
   -- an entry whose state is the bottom weighs no more than a stub
   stub_adds_nothing : (i : ℕ) (c : List ℕ) → maps.get f.subrs i ≡ Some c → is_some (subr_state m f i) ≡ false → length c - 1 ≡ 0
-  stub_adds_nothing i c is h = ap (λ (d : List ℕ). length d - 1) (stub_is c (at (is_stub c) (not (is_called m f i)) (sym (ap (λ x. is_some (state_of_entry m f i x)) is) ∙ h)))
-    where
-      at : (a b : Bool) → is_some (cond (a && b) None (Some c)) ≡ false → a ≡ true
-      at true b h = refl
-      at false b h = absurd (true≢false h)
+  stub_adds_nothing i c is h = grind (cases, is, stub_is c)
 
   -- the Subrs of a font weigh as many stubs and what their states add
   subrs_weigh : total (subr_weight f.shell.len_iv) (maps.entries f.subrs) ≡ length (maps.keys f.subrs) * (129 + f.shell.len_iv) + total subr_adds (maps.entries (numbered (used_subrs m f)))
   subrs_weigh =
-      total_apart f.shell.len_iv (maps.entries f.subrs)
-      ∙ (λ i. count i * (129 + f.shell.len_iv) + added i)
-    where
-      count : length (maps.entries f.subrs) ≡ length (maps.keys f.subrs)
-      count = sym (length-map (maps.entries f.subrs) (λ e. e.0))
-
-      added : total (λ i c. length c - 1) (maps.entries f.subrs) ≡ total subr_adds (maps.entries (numbered (used_subrs m f)))
-      added = sym (ap (total subr_adds) (entries-numbered (used_subrs m f)) ∙ total_keyed (maps.entries (used_subrs m f))
-          ∙ ap (total (λ i c. length c - 1)) (entries-retain nat_cmp_total nat_cmp-IsAntisymmetric f.subrs (λ i. is_some (subr_state m f i)))
-          ∙ total_kept (λ i c. length c - 1) (λ i. is_some (subr_state m f i)) (maps.entries f.subrs)
-          (entries_all nat_cmp_total nat_cmp-IsAntisymmetric (λ i c. is_some (subr_state m f i) ≡ false → length c - 1 ≡ 0) f.subrs stub_adds_nothing))
+      let nothing = total_kept (λ i c. length c - 1) (λ i. is_some (subr_state m f i)) (maps.entries f.subrs) (entries_all nat_cmp_total nat_cmp-IsAntisymmetric (λ i c. is_some (subr_state m f i) ≡ false → length c - 1 ≡ 0) f.subrs stub_adds_nothing) in
+      let added = ap (total subr_adds) (entries-numbered (used_subrs m f)) ∙ total_mapped of_number (λ c. c) subr_adds (maps.entries (used_subrs m f))
+      ∙ ap (total (λ i c. length c - 1)) (entries-retain nat_cmp_total nat_cmp-IsAntisymmetric f.subrs (λ i. is_some (subr_state m f i))) ∙ nothing in
+      total_apart f.shell.len_iv (maps.entries f.subrs) ∙ (λ i. sym (length-map (maps.entries f.subrs) (λ e. e.0)) i * (129 + f.shell.len_iv) + sym added i)
 
   -- sought names add nothing to a sum over names
   in_all : (w : Meaning → Meaning → ℕ) → ((n : Meaning) → w n [] ≡ 0) → total w (maps.entries (name_states m f)) ≡ total (λ n c. w n (name_meaning (Some c))) (maps.entries f.glyphs)
@@ -326,11 +174,9 @@ joint_grows w a b c h = ap (λ (t : TableMeaning). total w (maps.entries t)) h.1
 -- a join weighs what is computed from its two sides
 pub joint_weighs : (x y z : StatesValue) → PartsJoin x y z → states_weight z ≡ joint_weight x y
 joint_weighs x y z h =
-    let at : states_weight z ≡ shared_weight x.0 + total subr_adds (maps.entries (subr_part z)) + total (name_adds x.0.0.len_iv) (maps.entries (name_part z)) =
-    ap (λ (s : Shared). shared_weight s + total subr_adds (maps.entries (subr_part z)) + total (name_adds s.0.len_iv) (maps.entries (name_part z))) h.0.1 in
     let subrs = joint_grows subr_adds (subr_part x) (subr_part y) (subr_part z) h.1.1.1 in
     let names = joint_grows (name_adds x.0.0.len_iv) (name_part x) (name_part y) (name_part z) h.1.1.0 in
-    omega (arith, at, subrs, names)
+    grind (arith, h.0.1, subrs, names)
 
 -- a join has as many glyphs as are computed from its two sides
 pub joint_counts : (x y z : StatesValue) → PartsJoin x y z → states_glyphs z ≡ joint_glyphs x y
@@ -360,13 +206,7 @@ module _ (x y : StatesValue) where
   pub sized_join : StatesFit x → StatesAgree x y → (z : StatesValue) → PartsJoin x y z → (w n : ℕ) → w ≡ clamp (joint_weight x y) → n ≡ clamp (joint_glyphs x y) → IsSized z w n
   sized_join h a z j w n ew en =
       let fits = ((agree_by_parts h).0 a).1 in
-      record { fits = fits_joint z j fits; weighs = not_cut w (joint_weight x y) ew fits.0 ∙ sym (joint_weighs x y z j); counts = few_cut n (joint_glyphs x y) en fits.1 ∙ sym (joint_counts x y z j) }
-    where
-      not_cut : (w n : ℕ) → w ≡ clamp n → n ≤ weight_limit → w ≡ n
-      not_cut w n e l = omega (arith, e, l)
-
-      few_cut : (w n : ℕ) → w ≡ clamp n → n ≤ count_limit → w ≡ n
-      few_cut w n e l = omega (arith, e, l)
+      record { fits = fits_joint z j fits; weighs = omega (arith, ew, fits.0, joint_weighs x y z j); counts = omega (arith, en, fits.1, joint_counts x y z j) }
 
 -- ---- values in memory, and what is seen of them
 
@@ -393,3 +233,23 @@ both_pass b c h k t = (λ s. (h.0 t, k.0 s), λ m. k.1 m.1)
 -- if the first test fails, not both things hold
 pub first_fails : {A B : Type 0} (b : Bool) → (b ≡ true) ↔ A → b ≡ false → (b ≡ true) ↔ (A × B)
 first_fails b h f = (λ t. absurd (true≢false (sym t ∙ f)), λ m. h.1 m.0)
+
+-- ---- a font is determined by its states
+
+module _ {O : Type 0} (m : Interpreter O) where
+  -- a charstring is what stands behind the mark of its name's state
+  pub glyph_known : (f : FontValue) (n : List ℕ) → behind_mark (maps.get (name_part (states_of m f)) n) ≡ maps.get f.glyphs n
+  glyph_known f n = grind (cases, get-names m f n)
+
+  module _ (f g : FontValue) (e : states_of m f ≡ states_of m g) where
+    -- tables that are the same show the same
+    same_shown : (s t : TableMeaning) (x y : ℕ → Option (List ℕ)) → Shows s x → Shows t y → s ≡ t → (i : ℕ) → x i ≡ y i
+    same_shown s t x y shows also e i = grind (arith, shows (of_number i), also (of_number i), e)
+
+    -- fonts with the same states are the same
+    pub font_known : f ≡ g
+    font_known =
+        let shared = shared_to f g (ap (λ (s : StatesValue). s.0) e) in
+        same_font f g shared.shells (same_encoding f.encoding g.encoding (ap (λ (s : StatesValue). s.0.1.0) e) (same_shown _ _ _ _ (codes_shown f.encoding) (codes_shown g.encoding) (ap code_part e)))
+        (λ i. grind (cases, same_shown _ _ _ _ (subrs_shown m f) (subrs_shown m g) (ap subr_part e) i, shared.present i, stub_is))
+        (λ n. sym (glyph_known f n) ∙ ap (λ (t : TableMeaning). behind_mark (maps.get t n)) (ap name_part e) ∙ glyph_known g n)

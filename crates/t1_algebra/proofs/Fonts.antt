@@ -1,32 +1,56 @@
--- Subsets and joins of fonts are fonts.
-use Rattle.std.proofs.Common.{◌≡◌, ◌≤◌, List, sym, ◌∙◌, subst, IsPermutation}
-use Rattle.std.specs.FinSet as sets
-use Rattle.t1_font.specs.FontValue.{FontValue, weight_limit, weight}
+-- Subsets and joins of fonts are fonts, and subsets of one font join in any order and grouping.
+use Rattle.std.proofs.Common.{◌≡◌, ℕ, ◌||◌, List, [], ◌∷◌, refl, sym, ◌∙◌, ap, inl, inr, IsPermutation, ◌≤◌, subst}
+use Rattle.std.specs.List.{list_any}
+use Rattle.std.specs.Cmp.Lexicographic.{nat_list_cmp_total}
+use Rattle.std.proofs.lemmas.List.Folds.{list_any-append}
+use Rattle.std.proofs.lemmas.List.Sorted.{list_any-IsPermutation}
+use Rattle.t1_font.specs.FontValue.{FontValue, name_cmp, weight_limit, weight}
 use Rattle.t1_font.specs.IsFont.{IsFont}
-use Rattle.t1_font.proofs.Kept.{restrict_is_font, join_is_font}
 use Rattle.t1_algebra.specs.Interpreter.{Interpreter, Names}
-use Rattle.t1_algebra.specs.Keep.{keep, kept, subset}
-use Rattle.t1_algebra.specs.States.{IsWithin, Join, joined_font}
+use Rattle.t1_algebra.specs.Keep.{subset, keep, kept}
+use Rattle.t1_algebra.specs.Laws.{IsOf}
 use Rattle.t1_join.specs.Groupings.{Grouping, one, two, map_grouping, EachLeaf, leaves}
 use Rattle.t1_algebra.specs.Groupings.{union_all, Merges}
-use Rattle.t1_algebra.specs.Laws.{IsOf}
+use Rattle.t1_algebra.proofs.Sets.{name_same, in_union, cases}
+use Rattle.t1_algebra.proofs.Subsets.{join_is_subset, subsets_join}
+use Rattle.t1_font.proofs.Kept.{restrict_is_font, join_is_font}
+use Rattle.t1_algebra.specs.States.{IsWithin, Join, joined_font}
 use Rattle.t1_algebra.proofs.Kept.{keep_closed}
-use Rattle.t1_algebra.proofs.JoinOfSubsets.{join_is_subset, subsets_join}
-use Rattle.t1_algebra.proofs.Trees.{all_alike, tree_merges}
-use Rattle.t1_algebra.proofs.JoinedEntries.{joined_are_entries}
-use Rattle.t1_algebra.proofs.Orders.{any_order, one_result, join_back}
+use Rattle.t1_algebra.proofs.Orders.{any_order, one_result, join_back, each_weaker}
+use Rattle.t1_algebra.proofs.JoinedStates.{joined_are_entries}
+use Rattle.std.specs.FinSet as sets
+
+-- the union of the sets at the leaves, in their grouping
+abbrev pub all_of : Grouping Names → Names
+all_of (one a) = a
+all_of (two s t) = sets.union (all_of s) (all_of t)
+
+-- a name is in the union if it is in the set of some leaf
+in_all_of : (t : Grouping Names) (n : List ℕ) → sets.contains (all_of t) n ≡ list_any (λ s. sets.contains s n) (leaves t)
+in_all_of (one a) n = grind cases
+in_all_of (two s t) n = sets.contains-union nat_list_cmp_total (all_of s) (all_of t) n ∙ (λ i. in_all_of s n i || in_all_of t n i) ∙ sym (list_any-append (λ s. sets.contains s n) (leaves s) (leaves t))
+
+-- a name is in the union of a list if it is in some set of the list
+in_union_all : (all : List Names) (n : List ℕ) → sets.contains (union_all all) n ≡ list_any (λ s. sets.contains s n) all
+in_union_all [] n = sets.contains-empty name_cmp n
+in_union_all (a ∷ rest) n = sets.contains-union nat_list_cmp_total a (union_all rest) n ∙ ap (λ b. sets.contains a n || b) (in_union_all rest n)
+
+-- the union is the same in every order and grouping
+pub all_alike : (all : List Names) (t : Grouping Names) → IsPermutation all (leaves t) → all_of t ≡ union_all all
+all_alike all t p = sets.same_set nat_list_cmp_total name_same _ _ (λ n. in_all_of t n ∙ sym (list_any-IsPermutation (λ s. sets.contains s n) all (leaves t) p) ∙ sym (in_union_all all n))
+
+module _ {O : Type 0} (m : Interpreter O) (f : FontValue) (h : IsFont f) where
+  -- the union of sets of the font's names is a set of its names
+  pub all_is_of : (t : Grouping Names) → EachLeaf (IsOf f) t → IsOf f (all_of t)
+  all_is_of (one a) i n w = i n w
+  all_is_of (two s t) i n w = elim (in_union nat_list_cmp_total name_same (all_of s) (all_of t) n w) [ inl x ↦ all_is_of s i.0 n x | inr y ↦ all_is_of t i.1 n y ]
 
 -- a font is within the limits
 pub font_within : (f : FontValue) → IsFont f → IsWithin f
 font_within f h = record { weight = h.light; glyphs = h.glyphs.few }
 
 pub fonts_within : (t : Grouping FontValue) → EachLeaf IsFont t → EachLeaf IsWithin t
-fonts_within (one f) h = font_within f h
-fonts_within (two s t) h = (fonts_within s h.0, fonts_within t h.1)
-
--- the font weighs no more than a font may
-abbrev IsLight : FontValue → Type 0
-IsLight f = weight f ≤ weight_limit
+fonts_within t h = each_weaker IsFont IsWithin font_within t h
 
 module _ {O : Type 0} (m : Interpreter O) where
   -- a subset of a font is a font
@@ -37,7 +61,7 @@ module _ {O : Type 0} (m : Interpreter O) where
   pub joined_is_font : (f g : FontValue) → IsFont f → IsFont g → Join m f g → IsFont (joined_font m f g)
   joined_is_font f g h k j =
       let e = joined_are_entries m f g j.states in
-      subst IsFont (sym e) (join_is_font f g h k j.states.shells j.states.kinds j.within.glyphs (subst (λ (j : FontValue). IsLight j) e j.within.weight))
+      subst IsFont (sym e) (join_is_font f g h k j.states.shells j.states.kinds j.within.glyphs (subst (λ (j : FontValue). weight j ≤ weight_limit) e j.within.weight))
 
   -- two subsets of a font join in either order, to the subset over both sets of names
   pub two_subsets : (f : FontValue) → IsFont f → (a b : Names) → IsOf f a → IsOf f b →
@@ -49,9 +73,16 @@ module _ {O : Type 0} (m : Interpreter O) where
       let back = join_back m (subset m f a) (subset m f b) join in
       (join, same, back.0, sym back.1 ∙ same)
 
+  -- subsets of one font merge in their grouping to the subset over the union
+  pub tree_merges : (f : FontValue) (h : IsFont f) (t : Grouping Names) → EachLeaf (IsOf f) t → Merges m (map_grouping (subset m f) t) (subset m f (all_of t))
+  tree_merges f h (one a) i = refl
+  tree_merges f h (two s t) i =
+      let both = two_subsets f h (all_of s) (all_of t) (all_is_of m f h s i.0) (all_is_of m f h t i.1) in
+      (subset m f (all_of s), subset m f (all_of t), tree_merges f h s i.0, tree_merges f h t i.1, (both.0, both.1))
+
   -- subsets of a font merge in any order and grouping to the subset over all the sets of names
   pub many_subsets : (f : FontValue) → IsFont f → (all : List Names) (t : Grouping Names) → IsPermutation all (leaves t) → EachLeaf (IsOf f) t → Merges m (map_grouping (subset m f) t) (subset m f (union_all all))
-  many_subsets f h all t p i = subst (λ (a : Names). Merges m (map_grouping (subset m f) t) (subset m f a)) (all_alike all t p) (tree_merges m f h t i)
+  many_subsets f h all t p i = subst (λ (a : Names). Merges m (map_grouping (subset m f) t) (subset m f a)) (all_alike all t p) (tree_merges f h t i)
 
   -- what fonts merge to is a font
   pub merges_are_fonts : (t : Grouping FontValue) (j : FontValue) → Merges m t j → EachLeaf IsFont t → IsFont j

@@ -17,9 +17,8 @@ use Rattle.t1_algebra.specs.Laws.{IsOf, DrawsAlike}
 use Rattle.t1_join.specs.Groupings.{EachLeaf, leaves}
 use Rattle.t1_algebra.specs.Groupings.{union_all}
 use Rattle.t1_algebra.specs.Headline.{Making, Subset, Merge, Again, sets_of, FormsFit, Makes, ComesToSubset}
-use Rattle.t1_algebra.proofs.Alike.{subset_alike}
-use Rattle.t1_algebra.proofs.Fonts.{subset_is_font, two_subsets}
-use Rattle.t1_algebra.proofs.Trees.{all_of, all_is_of, all_alike}
+use Rattle.t1_algebra.proofs.Fonts.{subset_is_font, two_subsets, all_of, all_is_of, all_alike}
+use Rattle.t1_algebra.proofs.Drawings.{subset_alike}
 
 -- a file is read as one font only
 one_read : (x y : FontValue) → ◌≡◌ {A = Result FontValue ReadFault} (Ok x) (Ok y) → x ≡ y

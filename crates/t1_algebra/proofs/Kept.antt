@@ -1,6 +1,6 @@
 -- What is kept is closed and least, and two sets of names keep together what each of them keeps.
-use Rattle.std.proofs.Common.{◌≡◌, ℕ, true, not, ◌&&◌, ◌||◌, List, [], ◌∷◌, ◌++◌, sym, ◌∙◌, ap, ◌⊎◌, inl, inr, filter, nat_cmp, flat_map}
-use Rattle.std.specs.List.{list_any, list_all}
+use Rattle.std.proofs.Common.{◌≡◌, ℕ, true, not, ◌||◌, List, [], ◌∷◌, ◌++◌, sym, ◌∙◌, ap, ◌⊎◌, inl, inr, filter, nat_cmp, flat_map, arith}
+use Rattle.std.specs.List.{list_any}
 use Rattle.std.specs.Ordering.{eq_by_cmp}
 use Rattle.std.specs.Cmp.{first_so, second_so, nat_cmp_total}
 use Rattle.std.specs.Cmp.Lexicographic.{nat_list_cmp_total}
@@ -10,37 +10,27 @@ use Rattle.std.specs.FinMap as maps
 use Rattle.t1_font.specs.FontValue.{FontValue, name_cmp, notdef}
 use Rattle.t1_algebra.specs.Interpreter.{Interpreter, Names, Numbers}
 use Rattle.t1_algebra.specs.Keep.{Closed, is_closed, is_needed, keep, kept, components, components_here, has, charstring}
-use Rattle.t1_algebra.proofs.Sets.{and_so, not_or_so, not_or_from, any_at, any_one, all_at, all_from, any_filter, any_filter_from, same_members, in_union, in_union_left, in_union_right, in_list, from_in_list, in_items, from_in_items, any_flat, any_flat_from, name_same, each_set, all_sets, any_append, any_append_left, any_append_right}
+use Rattle.t1_algebra.proofs.Sets.{any_at, any_one, all_at, all_from, any_filter, any_filter_from, same_members, in_union, in_union_left, in_union_right, in_list, from_in_list, in_items, from_in_items, any_flat, any_flat_from, name_same, each_set, all_sets, any_append, any_append_left, any_append_right}
+use Rattle.std.proofs.lemmas.Bool.{and_from, or_left, or_right, cases_Bool}
 
 module _ {O : Type 0} (m : Interpreter O) (f : FontValue) where
   -- ---- the test and the relation
 
   -- a set that passes the test is closed
   pub closed_from_test : (a s : Names) → is_closed m f a s ≡ true → Closed m f a s
-  closed_from_test a s h =
-      let two = second_so (sets.contains s notdef) (sets.is_subset a s && list_all (λ n. sets.is_subset (components_here m f n) s) (sets.items s)) h in
-      record {
-        asked = sets.is_subset-contains nat_list_cmp_total a s (first_so (sets.is_subset a s) (list_all (λ n. sets.is_subset (components_here m f n) s) (sets.items s)) two);
-        notdef = first_so (sets.contains s notdef) (sets.is_subset a s && list_all (λ n. sets.is_subset (components_here m f n) s) (sets.items s)) h;
-        components = λ n p is component. sets.is_subset-contains nat_list_cmp_total (components_here m f n) s
-            (all_at nat_list_cmp_total name_same (λ n. sets.is_subset (components_here m f n) s) n (sets.items s) (second_so (sets.is_subset a s) (list_all (λ n. sets.is_subset (components_here m f n) s) (sets.items s)) two) (in_items nat_list_cmp_total name_same s n is)) p component;
-      }
+  closed_from_test a s h = record {
+    asked = sets.is_subset-contains nat_list_cmp_total a s (first_so _ _ (second_so _ _ h));
+    notdef = first_so _ _ h;
+    components = λ n p is component. sets.is_subset-contains nat_list_cmp_total (components_here m f n) s
+        (all_at nat_list_cmp_total name_same (λ n. sets.is_subset (components_here m f n) s) n (sets.items s) (second_so _ _ (second_so _ _ h)) (in_items nat_list_cmp_total name_same s n is)) p component;
+  }
 
   -- a closed set passes the test
   pub closed_test : (a s : Names) → Closed m f a s → is_closed m f a s ≡ true
-  closed_test a s c = and_so (sets.contains s notdef) (sets.is_subset a s && list_all (λ n. sets.is_subset (components_here m f n) s) (sets.items s)) c.notdef
-      (and_so (sets.is_subset a s) (list_all (λ n. sets.is_subset (components_here m f n) s) (sets.items s)) (sets.contains-is_subset nat_list_cmp_total a s c.asked)
-      (all_from nat_list_cmp_total name_same (λ n. sets.is_subset (components_here m f n) s) (sets.items s) (λ n is. sets.contains-is_subset nat_list_cmp_total (components_here m f n) s (λ p component. c.components n p (from_in_items nat_list_cmp_total name_same s n is) component))))
+  closed_test a s c = and_from _ _ c.notdef (and_from _ _ (sets.contains-is_subset nat_list_cmp_total a s c.asked) (all_from nat_list_cmp_total name_same (λ n. sets.is_subset (components_here m f n) s) (sets.items s)
+      (λ n is. sets.contains-is_subset nat_list_cmp_total (components_here m f n) s (λ p. c.components n p (from_in_items nat_list_cmp_total name_same s n is)))))
 
   -- ---- members
-
-  -- a font has the glyphs that its map lists
-  pub has_key : (n : List ℕ) → list_any (eq_by_cmp name_cmp n) (maps.keys f.glyphs) ≡ true → has f n ≡ true
-  has_key n h = maps.contains_key-keys f.glyphs n ∙ h
-
-  -- the map of a font lists the glyphs that it has
-  pub key_of_has : (n : List ℕ) → has f n ≡ true → list_any (eq_by_cmp name_cmp n) (maps.keys f.glyphs) ≡ true
-  key_of_has n h = sym (maps.contains_key-keys f.glyphs n) ∙ h
 
   -- a component that is here is named by the glyph, and the font has it
   pub component_here : (n p : List ℕ) → sets.contains (components_here m f n) p ≡ true → (list_any (eq_by_cmp name_cmp p) (components m f.subrs (charstring f n)) ≡ true) × (has f p ≡ true)
@@ -58,7 +48,7 @@ module _ {O : Type 0} (m : Interpreter O) (f : FontValue) where
 
   -- a name that is kept is the font's
   pub keep_has : (a : Names) (n : List ℕ) → sets.contains (keep m f a) n ≡ true → has f n ≡ true
-  keep_has a n h = has_key n (keep_two a n h).0
+  keep_has a n h = maps.contains_key-keys f.glyphs n ∙ (keep_two a n h).0
 
   -- the names of a set are the font's
   abbrev pub InFont : Names → Type 0
@@ -66,15 +56,18 @@ module _ {O : Type 0} (m : Interpreter O) (f : FontValue) where
 
   -- what is kept is in each closed set of the font's names
   pub keep_least : (a s : Names) → InFont s → Closed m f a s → (n : List ℕ) → sets.contains (keep m f a) n ≡ true → sets.contains s n ≡ true
-  keep_least a s inside c n h = not_or_so (is_closed m f a s) (sets.contains s n)
-      (each_set (maps.keys f.glyphs) (λ s. not (is_closed m f a s) || sets.contains s n) (keep_two a n h).1 s (λ q is. key_of_has q (inside q is)))
-      (closed_test a s c)
+  keep_least a s inside c n h =
+      let in_each = each_set (maps.keys f.glyphs) (λ s. not (is_closed m f a s) || sets.contains s n) (keep_two a n h).1 s (λ q is. sym (maps.contains_key-keys f.glyphs q) ∙ inside q is) in
+      grind (arith, in_each, closed_test a s c)
 
   -- a name of the font that is in each closed set is kept
   pub keep_from : (a : Names) (n : List ℕ) → has f n ≡ true → ((s : Names) → InFont s → Closed m f a s → sets.contains s n ≡ true) → sets.contains (keep m f a) n ≡ true
   keep_from a n is each = from_in_list nat_list_cmp_total name_same (filter (is_needed m f a) (maps.keys f.glyphs)) n
-      (any_filter_from nat_list_cmp_total name_same (is_needed m f a) n (maps.keys f.glyphs) (key_of_has n is)
-      (all_sets (maps.keys f.glyphs) (λ s. not (is_closed m f a s) || sets.contains s n) (λ s w. not_or_from (is_closed m f a s) (sets.contains s n) (λ c. each s (λ q h. has_key q (w q h)) (closed_from_test a s c)))))
+      (any_filter_from nat_list_cmp_total name_same (is_needed m f a) n (maps.keys f.glyphs) (sym (maps.contains_key-keys f.glyphs n) ∙ is)
+      (all_sets (maps.keys f.glyphs) (λ s. not (is_closed m f a s) || sets.contains s n) (λ s w. elim (cases_Bool (is_closed m f a s)) [
+        | inl c ↦ or_right _ _ (each s (λ q h. maps.contains_key-keys f.glyphs q ∙ w q h) (closed_from_test a s c))
+        | inr d ↦ or_left _ _ (ap not d)
+      ])))
 
   -- what is kept is closed
   pub keep_closed : (a : Names) → has f notdef ≡ true → InFont a → Closed m f a (keep m f a)
@@ -98,17 +91,12 @@ module _ {O : Type 0} (m : Interpreter O) (f : FontValue) where
       let ka = keep m f a in
       let kb = keep m f b in
       same_members nat_list_cmp_total name_same _ _
-      (λ n h. keep_least (sets.union a b) (sets.union ka kb)
-      (λ q w. elim (in_union nat_list_cmp_total name_same ka kb q w) [ inl x ↦ keep_has a q x | inr y ↦ keep_has b q y ])
-      (record {
+      (keep_least (sets.union a b) (sets.union ka kb) (λ q w. elim (in_union nat_list_cmp_total name_same ka kb q w) [ inl x ↦ keep_has a q x | inr y ↦ keep_has b q y ]) (record {
         asked = λ q w. elim (in_union nat_list_cmp_total name_same a b q w) [ inl x ↦ in_union_left nat_list_cmp_total name_same ka kb q (ca.asked q x) | inr y ↦ in_union_right nat_list_cmp_total name_same ka kb q (cb.asked q y) ];
         notdef = in_union_left nat_list_cmp_total name_same ka kb notdef ca.notdef;
         components = λ q p w component. elim (in_union nat_list_cmp_total name_same ka kb q w) [ inl x ↦ in_union_left nat_list_cmp_total name_same ka kb p (ca.components q p x component) | inr y ↦ in_union_right nat_list_cmp_total name_same ka kb p (cb.components q p y component) ];
-      }) n h)
-      (λ n h. elim (in_union nat_list_cmp_total name_same ka kb n h) [
-        | inl x ↦ keep_more a (sets.union a b) (in_union_left nat_list_cmp_total name_same a b) n x
-        | inr y ↦ keep_more b (sets.union a b) (in_union_right nat_list_cmp_total name_same a b) n y
-      ])
+      }))
+      (λ n h. elim (in_union nat_list_cmp_total name_same ka kb n h) [ inl x ↦ keep_more a (sets.union a b) (in_union_left nat_list_cmp_total name_same a b) n x | inr y ↦ keep_more b (sets.union a b) (in_union_right nat_list_cmp_total name_same a b) n y ])
 
   -- ---- kept
 
@@ -141,25 +129,45 @@ module _ {O : Type 0} (m : Interpreter O) (f : FontValue) where
   kept_call a i n is h = from_in_list nat_cmp_total nat_cmp-IsAntisymmetric (low ++ called_by (keep m f a)) i (any_append_right (eq_by_cmp nat_cmp i) low (called_by (keep m f a))
       (any_flat_from nat_cmp_total nat_cmp-IsAntisymmetric (λ n. sets.items (calls n)) i (sets.items (keep m f a)) (any_at nat_list_cmp_total name_same (λ n. list_any (eq_by_cmp nat_cmp i) (sets.items (calls n))) n (sets.items (keep m f a)) (in_items nat_list_cmp_total name_same (keep m f a) n is) (in_items nat_cmp_total nat_cmp-IsAntisymmetric (calls n) i h))))
 
-  -- two sets of names keep together the Subrs that each of them keeps
-  pub kept_union : (a b : Names) → has f notdef ≡ true → InFont a → InFont b → kept m f (sets.union a b) ≡ sets.union (kept m f a) (kept m f b)
-  kept_union a b base ia ib =
-      let e = keep_union a b base ia ib in
-      let k = kept m f a in
-      let l = kept m f b in
-      same_members nat_cmp_total nat_cmp-IsAntisymmetric _ _
-      (λ i h. elim (kept_cases (sets.union a b) i h) [
-        | inl x ↦ in_union_left nat_cmp_total nat_cmp-IsAntisymmetric k l i (kept_low a i x)
-        | inr y ↦ elim (in_union nat_list_cmp_total name_same (keep m f a) (keep m f b) y.0 (ap (λ s. sets.contains s y.0) (sym e) ∙ y.1)) [
-          | inl w ↦ in_union_left nat_cmp_total nat_cmp-IsAntisymmetric k l i (kept_call a i y.0 w y.2)
-          | inr w ↦ in_union_right nat_cmp_total nat_cmp-IsAntisymmetric k l i (kept_call b i y.0 w y.2)
-        ]
-      ])
-      (λ i h. elim (in_union nat_cmp_total nat_cmp-IsAntisymmetric k l i h) [
-        | inl x ↦ elim (kept_cases a i x) [ inl y ↦ kept_low (sets.union a b) i y | inr y ↦ kept_call (sets.union a b) i y.0 (keep_more a (sets.union a b) (in_union_left nat_list_cmp_total name_same a b) y.0 y.1) y.2 ]
-        | inr x ↦ elim (kept_cases b i x) [ inl y ↦ kept_low (sets.union a b) i y | inr y ↦ kept_call (sets.union a b) i y.0 (keep_more b (sets.union a b) (in_union_right nat_list_cmp_total name_same a b) y.0 y.1) y.2 ]
-      ])
-
   -- a set that keeps more glyphs keeps no fewer Subrs
   pub kept_more : (a b : Names) → ((n : List ℕ) → sets.contains (keep m f a) n ≡ true → sets.contains (keep m f b) n ≡ true) → (i : ℕ) → sets.contains (kept m f a) i ≡ true → sets.contains (kept m f b) i ≡ true
   kept_more a b more i h = elim (kept_cases a i h) [ inl x ↦ kept_low b i x | inr y ↦ kept_call b i y.0 (more y.0 y.1) y.2 ]
+
+  -- two sets of names keep together the Subrs that each of them keeps
+  pub kept_union : (a b : Names) → has f notdef ≡ true → InFont a → InFont b → kept m f (sets.union a b) ≡ sets.union (kept m f a) (kept m f b)
+  kept_union a b base ia ib =
+      let more = λ (c : Names) (in_both : (n : List ℕ) → sets.contains c n ≡ true → sets.contains (sets.union a b) n ≡ true). kept_more c (sets.union a b) (keep_more c (sets.union a b) in_both) in
+      same_members nat_cmp_total nat_cmp-IsAntisymmetric _ _
+      (λ i h. elim (kept_cases (sets.union a b) i h) [
+        | inl x ↦ in_union_left nat_cmp_total nat_cmp-IsAntisymmetric (kept m f a) (kept m f b) i (kept_low a i x)
+        | inr y ↦ elim (in_union nat_list_cmp_total name_same (keep m f a) (keep m f b) y.0 (ap (λ s. sets.contains s y.0) (sym (keep_union a b base ia ib)) ∙ y.1)) [
+          | inl w ↦ in_union_left nat_cmp_total nat_cmp-IsAntisymmetric (kept m f a) (kept m f b) i (kept_call a i y.0 w y.2)
+          | inr w ↦ in_union_right nat_cmp_total nat_cmp-IsAntisymmetric (kept m f a) (kept m f b) i (kept_call b i y.0 w y.2)
+        ]
+      ])
+      (λ i h. elim (in_union nat_cmp_total nat_cmp-IsAntisymmetric (kept m f a) (kept m f b) i h) [ inl x ↦ more a (in_union_left nat_list_cmp_total name_same a b) i x | inr y ↦ more b (in_union_right nat_list_cmp_total name_same a b) i y ])
+
+-- g has the glyphs that f keeps, and each of them has the same components and executes the same Subrs in g
+module _ {O : Type 0} (m : Interpreter O) (f g : FontValue) (a : Names) (base : has f notdef ≡ true) (inside : InFont m f a) (also : has g notdef ≡ true) (within : InFont m g a)
+    (there : (n : List ℕ) → sets.contains (keep m f a) n ≡ true → has g n ≡ true)
+    (parts : (n : List ℕ) → sets.contains (keep m f a) n ≡ true → components_here m g n ≡ components_here m f n)
+    (runs : (n : List ℕ) → sets.contains (keep m f a) n ≡ true → calls m g n ≡ calls m f n) where
+  no_more : (n : List ℕ) → sets.contains (keep m g a) n ≡ true → sets.contains (keep m f a) n ≡ true
+  no_more =
+      let c = keep_closed m f a base inside in
+      keep_least m g a (keep m f a) there (record { asked = c.asked; notdef = c.notdef; components = λ n p k w. c.components n p k (ap (λ (s : Names). sets.contains s p) (sym (parts n k)) ∙ w) })
+
+  no_less : (n : List ℕ) → sets.contains (keep m f a) n ≡ true → sets.contains (keep m g a) n ≡ true
+  no_less =
+      let c = keep_closed m g a also within in
+      keep_least m f a (keep m g a) (λ n k. keep_has m f a n (no_more n k)) (record { asked = c.asked; notdef = c.notdef; components = λ n p k w. c.components n p k (ap (λ (s : Names). sets.contains s p) (parts n (no_more n k)) ∙ w) })
+
+  -- g keeps the same names
+  pub keep_alike : keep m g a ≡ keep m f a
+  keep_alike = same_members nat_list_cmp_total name_same (keep m g a) (keep m f a) no_more no_less
+
+  -- g keeps the same Subrs
+  pub kept_alike : kept m g a ≡ kept m f a
+  kept_alike = same_members nat_cmp_total nat_cmp-IsAntisymmetric (kept m g a) (kept m f a)
+      (λ i h. elim (kept_cases m g a i h) [ inl x ↦ kept_low m f a i x | inr y ↦ let k = no_more y.0 y.1 in kept_call m f a i y.0 k (ap (λ s. sets.contains s i) (sym (runs y.0 k)) ∙ y.2) ])
+      (λ i h. elim (kept_cases m f a i h) [ inl x ↦ kept_low m g a i x | inr y ↦ kept_call m g a i y.0 (no_less y.0 y.1) (ap (λ s. sets.contains s i) (runs y.0 y.1) ∙ y.2) ])

@@ -14,11 +14,11 @@ use Rattle.t1_algebra.specs.Laws.{IsOf, DrawsAlike}
 use Rattle.t1_join.specs.Groupings.{Grouping, one, two, EachLeaf, map_grouping, from_left, leaves}
 use Rattle.t1_algebra.specs.Groupings.{Merges, union_all}
 use Rattle.t1_algebra.specs.Merges.{DrawsAll}
-use Rattle.t1_algebra.proofs.Alike.{left_alike, right_alike}
 use Rattle.t1_algebra.proofs.Fonts.{many_subsets}
 use Rattle.t1_algebra.proofs.Orders.{one_result}
 use Rattle.t1_algebra.proofs.Sets.{in_union, clash, name_same}
 use Rattle.std.proofs.lemmas.List.{length-append}
+use Rattle.t1_algebra.proofs.Drawings.{left_alike, right_alike}
 
 -- ---- from left to right
 
@@ -33,9 +33,8 @@ left_map g t [] = refl
 left_map g t (x ∷ xs) = left_map g (two t (one x)) xs
 
 -- what holds of each element of a list holds at each leaf
-left_each : {X : Type 0} (P : X → Type 0) (t : Grouping X) (xs : List X) → EachLeaf P t → AllByRecursion P xs → EachLeaf P (from_left t xs)
-left_each P t [] h k = h
-left_each P t (x ∷ xs) h k = left_each P (two t (one x)) xs (h, k.0) k.1
+left_each : {X : Type 0} (P : X → Type 0) (x : X) (xs : List X) → AllByRecursion P (x ∷ xs) → EachLeaf P (from_left (one x) xs)
+left_each P x xs h = each_leaf P (from_left (one x) xs) (subst (AllByRecursion P) (sym (leaves_from_left (one x) xs)) h)
 
 -- a list of fonts merged from left to right may be merged in two parts
 pub left_append : {X : Type 0} (t : Grouping X) (xs ys : List X) → from_left t (xs ++ ys) ≡ from_left (from_left t xs) ys
@@ -50,15 +49,15 @@ inner t (x ∷ xs) j m = let r = inner (two t (one x)) xs j m in (r.1.0, r.1.2)
 -- each grouping has a leaf
 has_leaves : {X : Type 0} (t : Grouping X) → 0 < length (leaves t)
 has_leaves (one x) = omega arith
-has_leaves (two s t) = let a = has_leaves s in let b = length-append (leaves s) (leaves t) in omega (arith, a, b)
+has_leaves (two s t) = omega (arith, has_leaves s, length-append (leaves s) (leaves t))
 
 -- no grouping has no fonts
 pub no_tree : {X : Type 0} (t : Grouping X) → IsPermutation [] (leaves t) → ⊥
-no_tree t p = let a = has_leaves t in let b = length_permutation [] (leaves t) p in omega (arith, a, b)
+no_tree t p = omega (arith, has_leaves t, length_permutation [] (leaves t) p)
 
 -- fonts in a list are fonts at the leaves
 pub each_font : (f : FontValue) (fs : List FontValue) → AllByRecursion IsFont (f ∷ fs) → EachLeaf IsFont (from_left (one f) fs)
-each_font f fs w = each_leaf IsFont (from_left (one f) fs) (subst (AllByRecursion IsFont) (sym (leaves_from_left (one f) fs)) w)
+each_font f fs w = left_each IsFont f fs w
 
 -- ---- subsets of one font
 
@@ -95,7 +94,7 @@ module _ (f : FontValue) (w : IsFont f) where
   -- subsets of a font merge from left to right to the subset over all the sets
   pub all_merge : (a : Names) (more : List Names) → AllByRecursion (IsOf f) (a ∷ more) → Merges profile (from_left (one (subset profile f a)) (map (subset profile f) more)) (subset profile f (union_all (a ∷ more)))
   all_merge a more h = subst (λ (t : Grouping FontValue). Merges profile t (subset profile f (union_all (a ∷ more)))) (left_map (subset profile f) (one a) more)
-      (many_subsets profile f w (a ∷ more) (from_left (one a) more) (subst (IsPermutation (a ∷ more)) (sym (leaves_from_left (one a) more)) (IsPermutation-refl (a ∷ more))) (left_each (IsOf f) (one a) more h.0 h.1))
+      (many_subsets profile f w (a ∷ more) (from_left (one a) more) (subst (IsPermutation (a ∷ more)) (sym (leaves_from_left (one a) more)) (IsPermutation-refl (a ∷ more))) (left_each (IsOf f) a more h))
 
   -- subsets of a font merge from left to right to no other font
   pub one_subset : (a : Names) (more : List Names) → AllByRecursion (IsOf f) (a ∷ more) → (j : FontValue) → Merges profile (from_left (one (subset profile f a)) (map (subset profile f) more)) j → j ≡ subset profile f (union_all (a ∷ more))

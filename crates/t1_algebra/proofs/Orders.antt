@@ -2,7 +2,7 @@
 use Rattle.std.proofs.Common.{◌≡◌, List, [], ◌∷◌, refl, sym, ◌∙◌, ap, subst, IsPermutation}
 use Rattle.std.specs.List.{AllByRecursion}
 use Rattle.t1_join.specs.Groupings.{Grouping, one, two, leaves, map_grouping, EachLeaf, from_left, Gives}
-use Rattle.t1_join.proofs.OrderLemmas.{below_trans, below_left, below_right, below_both, gives_one, same_given, moved_images, same_leaves}
+use Rattle.t1_join.proofs.OrderLemmas.{below_trans, below_left, below_right, below_both, gives_one, same_given, moved_images, same_leaves, leaves_from_left, all_leaves}
 use Rattle.t1_font.specs.FontValue.{FontValue}
 use Rattle.t1_algebra.specs.Interpreter.{Interpreter}
 use Rattle.t1_algebra.specs.States.{IsWithin, joined_font, Compatible, Join}
@@ -10,12 +10,11 @@ use Rattle.t1_algebra.specs.StateTables.{StatesValue, StatesJoin, states_of}
 use Rattle.t1_algebra.specs.StateLaws.{parts_laws, parts_by_pairs, falls, states_laws}
 use Rattle.t1_algebra.specs.Groupings.{Merges, folded, EachPair}
 use Rattle.t1_algebra.proofs.JoinedStates.{font_back, compatible_back}
-use Rattle.t1_algebra.proofs.Known.{font_known}
-use Rattle.t1_algebra.proofs.FontStates.{agree_compatible, compatible_agree, parts_join, states_join, join_exactly, fits}
+use Rattle.t1_algebra.proofs.FontStates.{agree_compatible, compatible_agree, parts_join, states_join, join_exactly, fits, font_known}
 use Rattle.t1_algebra.proofs.FontStates.{within as fonts_fit}
 
 -- what follows from what holds at each leaf holds at each leaf
-each_weaker : {X : Type 0} (P Q : X → Type 0) → ((x : X) → P x → Q x) → (t : Grouping X) → EachLeaf P t → EachLeaf Q t
+pub each_weaker : {X : Type 0} (P Q : X → Type 0) → ((x : X) → P x → Q x) → (t : Grouping X) → EachLeaf P t → EachLeaf Q t
 each_weaker P Q w (one x) h = w x h
 each_weaker P Q w (two s t) h = (each_weaker P Q w s h.0, each_weaker P Q w t h.1)
 
@@ -123,11 +122,6 @@ module _ {O : Type 0} (m : Interpreter O) where
   pub accepted_from_pairs : (f : FontValue) (fs : List FontValue) → EachPair m (f ∷ fs) → IsWithin (folded m f fs) → Merges m (from_left (one f) fs) (folded m f fs)
   accepted_from_pairs f fs p w = folds (one f) f fs refl p.0 p.1 w
 
-  -- the leaves of merges from left to right are those of the first and the list
-  left_leaves : {X : Type 0} (P : X → Type 0) (t : Grouping X) (xs : List X) → EachLeaf P (from_left t xs) → EachLeaf P t × AllByRecursion P xs
-  left_leaves P t [] h = (h, tt)
-  left_leaves P t (x ∷ xs) h = let r = left_leaves P (two t (one x)) xs h in (r.0.0, (r.0.1, r.1))
-
   -- a font below j is compatible with all fonts below j
   one_with_all : (f j : FontValue) (gs : List FontValue) → Below j f → AllByRecursion (Below j) gs → AllByRecursion (Compatible m f) gs
   one_with_all f j [] b a = tt
@@ -140,7 +134,7 @@ module _ {O : Type 0} (m : Interpreter O) where
 
   -- each two fonts of a list that merges are compatible
   pub pairs_from_accepted : (f : FontValue) (fs : List FontValue) (j : FontValue) → Merges m (from_left (one f) fs) j → EachPair m (f ∷ fs)
-  pairs_from_accepted f fs j h = pairs_below j (f ∷ fs) (left_leaves (Below j) (one f) fs (above (from_left (one f) fs) j h))
+  pairs_from_accepted f fs j h = pairs_below j (f ∷ fs) (subst (AllByRecursion (Below j)) (leaves_from_left (one f) fs) (all_leaves (Below j) (from_left (one f) fs) (above (from_left (one f) fs) j h)))
 
   -- what merges from left to right came to is what the fonts fold to
   folded_from : (t : Grouping FontValue) (f : FontValue) (gs : List FontValue) (j : FontValue) → ((k : FontValue) → Merges m t k → k ≡ f) → Merges m (from_left t gs) j → folded m f gs ≡ j

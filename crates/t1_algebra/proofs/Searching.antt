@@ -1,116 +1,76 @@
 -- Searches: what they find, and when they find nothing.
-use Rattle.std.proofs.Common.{◌≡◌, ℕ, Bool, true, false, cond, not, ◌||◌, List, [], ◌∷◌, map, option_map, refl, sym, ◌∙◌, ap, true≢false, inl, inr, Ordering, Option, Some, None, is_some}
+use Rattle.std.proofs.Common.{subst, ◌≡◌, ℕ, Bool, true, false, cond, ◌||◌, List, [], ◌∷◌, map, refl, sym, ◌∙◌, ap, true≢false, inl, inr, Ordering, Less, Option, Some, None, is_lt, rules, T}
+use Rattle.std.proofs.lemmas.Bool.{or_right, or_cases}
 use Rattle.std.specs.List.{list_any, AllByRecursion}
 use Rattle.std.specs.Ordering.{eq_by_cmp}
-use Rattle.std.specs.Cmp.{IsTotalOrder}
+use Rattle.std.specs.Cmp.{IsTotalOrder, first_so, second_so}
 use Rattle.std.specs.FinSet.{IsAntisymmetric}
 use Rattle.std.specs.FinMap as maps
-use Rattle.std.specs.FinMap.{find}
-use Rattle.t1_font.specs.Maps.{merged}
-use Rattle.t1_font.proofs.MapLemmas.{Some_None, get-map_values}
+use Rattle.std.specs.FinMap.Entries.{below_all, is_sorted}
+use Rattle.t1_join.proofs.Sorted.{lt_is}
+use Rattle.t1_font.proofs.MapLemmas.{T_true}
 use Rattle.t1_algebra.specs.Searches.{first_where, members, smallest, found}
-use Rattle.t1_algebra.specs.Conflicts.{keys_of_both}
-use Rattle.t1_algebra.specs.States.{joined}
-use Rattle.t1_algebra.proofs.Maps.{get-merged, maps_same}
-use Rattle.t1_algebra.proofs.Sets.{or_cases, tied}
-
--- a test whose negation fails passes
-pub not_false : (b : Bool) → not b ≡ false → b ≡ true
-not_false true h = refl
-not_false false h = absurd (true≢false h)
-
--- the negation of a test that passes fails
-pub false_of : (b : Bool) → b ≡ true → not b ≡ false
-false_of true h = refl
-false_of false h = absurd (true≢false (sym h))
+use Rattle.t1_algebra.proofs.Sets.{tied, itself, cases}
 
 pub or_swap : (a b : Bool) → (a || b) ≡ (b || a)
-or_swap true true = refl
-or_swap true false = refl
-or_swap false true = refl
-or_swap false false = refl
+or_swap a b = search rules
 
 module _ {X : Type 0} (p : X → Bool) where
   -- if a search finds nothing, no element passes
   pub none_passes : (xs : List X) → first_where p xs ≡ None → AllByRecursion (λ x. p x ≡ false) xs
   none_passes [] h = tt
-  none_passes (x ∷ xs) h =
-      elim (p x) as (λ b. p x ≡ b → cond b (Some x) (first_where p xs) ≡ None → (p x ≡ false) × AllByRecursion (λ x. p x ≡ false) xs) [
-        | true ↦ λ e h. Some_None h
-        | false ↦ λ e h. (e, none_passes xs h)
-      ] refl h
-
-  same_Some : (x y : X) → ◌≡◌ {A = Option X} (Some x) (Some y) → x ≡ y
-  same_Some x y e = cc
+  none_passes (x ∷ xs) h = grind (cases, none_passes xs)
 
   -- what a search finds passes
   pub first_passes : (xs : List X) (x : X) → first_where p xs ≡ Some x → p x ≡ true
   first_passes [] x h = cc
-  first_passes (y ∷ xs) x h =
-      elim (p y) as (λ b. p y ≡ b → cond b (Some y) (first_where p xs) ≡ Some x → p x ≡ true) [
-        | true ↦ λ is h. ap p (sym (same_Some y x h)) ∙ is
-        | false ↦ λ is h. first_passes xs x h
-      ] refl h
+  first_passes (y ∷ xs) x h = grind (cases, first_passes xs x)
 
   -- if no element passes, a search finds nothing
   pub passes_none : (xs : List X) → ((x : X) → p x ≡ false) → first_where p xs ≡ None
   passes_none [] h = refl
   passes_none (x ∷ xs) h = ap (λ b. cond b (Some x) (first_where p xs)) (h x) ∙ passes_none xs h
 
--- if nothing is found of two things, neither is there
-pub found_none : {X Y : Type 0} (f : X → Y) (x : Option X) (e : Option Y) → found f x e ≡ None → (x ≡ None) × (e ≡ None)
-found_none f None e h = (refl, h)
-found_none f (Some x) e h = Some_None h
+module _ {X Y : Type 0} (f : X → Y) (x : Option X) (e : Option Y) where
+  -- if nothing is found of two things, neither is there
+  pub found_none : found f x e ≡ None → (x ≡ None) × (e ≡ None)
+  found_none h = grind cases
 
--- if neither of two things is there, nothing is found
-pub none_found : {X Y : Type 0} (f : X → Y) (x : Option X) (e : Option Y) → x ≡ None → e ≡ None → found f x e ≡ None
-none_found f x e h k = ap (λ x. found f x e) h ∙ k
+  -- if neither of two things is there, nothing is found
+  pub none_found : x ≡ None → e ≡ None → found f x e ≡ None
+  none_found h k = cc
 
-module _ {K : Type 0} {R : K → K → Ordering} (o : IsTotalOrder R) (same : IsAntisymmetric R) where
+module _ {K : Type 0} {R : K → K → Ordering} (o : IsTotalOrder R) (same : IsAntisymmetric R) (p : K → Bool) where
   -- no key of a list passes of which none passes
-  none_at : (p : K → Bool) (q : K) (ks : List K) → AllByRecursion (λ k. p k ≡ false) ks → list_any (eq_by_cmp R q) ks ≡ true → p q ≡ false
-  none_at p q [] all h = absurd (true≢false (sym h))
-  none_at p q (k ∷ ks) all h = elim (or_cases (eq_by_cmp R q k) (list_any (eq_by_cmp R q) ks) h) [
-    | inl a ↦ ap p (tied o same q k a) ∙ all.0
-    | inr b ↦ none_at p q ks all.1 b
-  ]
+  none_at : (q : K) (ks : List K) → AllByRecursion (λ k. p k ≡ false) ks → list_any (eq_by_cmp R q) ks ≡ true → p q ≡ false
+  none_at q [] all h = absurd (true≢false (sym h))
+  none_at q (k ∷ ks) all h = grind (cases, tied o same q k, none_at q ks all.1)
 
   -- if a search among keys finds nothing, no key passes
-  pub none_at_all : (p : K → Bool) (ks : List K) (q : K) → first_where p ks ≡ None → list_any (eq_by_cmp R q) ks ≡ true → p q ≡ false
-  none_at_all p ks q h k = none_at p q ks (none_passes p ks h) k
-
-  -- a key is found in entries if it is among their keys
-  found_key : {X : Type 0} (q : K) (es : List (K × X)) → is_some (find R q es) ≡ list_any (eq_by_cmp R q) (map (λ e. e.0) es)
-  found_key q [] = refl
-  found_key q (e ∷ es) = elim (eq_by_cmp R q e.0) as (λ b. is_some (cond b (Some e.1) (find R q es)) ≡ (b || list_any (eq_by_cmp R q) (map (λ e. e.0) es))) [ true ↦ refl | false ↦ found_key q es ]
-
-  -- a set contains the keys that are its members
-  pub contains-members : (s : maps.FinMap R ℕ) (q : K) → maps.contains_key s q ≡ list_any (eq_by_cmp R q) (members s)
-  contains-members s q = ap is_some (maps.get-entries s q) ∙ found_key q (maps.entries s)
+  pub none_at_all : (ks : List K) (q : K) → first_where p ks ≡ None → list_any (eq_by_cmp R q) ks ≡ true → p q ≡ false
+  none_at_all ks q h k = none_at q ks (none_passes p ks h) k
 
   -- if there is no smallest key that passes, no key of the set passes
-  pub smallest_none : (p : K → Bool) (s : maps.FinMap R ℕ) (q : K) → smallest p s ≡ None → maps.contains_key s q ≡ true → p q ≡ false
-  smallest_none p s q h k = none_at p q (members s) (none_passes p (members s) h) (sym (contains-members s q) ∙ k)
+  pub smallest_none : (s : maps.FinMap R ℕ) (q : K) → smallest p s ≡ None → maps.contains_key s q ≡ true → p q ≡ false
+  smallest_none s q h k = none_at_all (members s) q h (sym (maps.contains_key-keys s q) ∙ k)
 
-  module _ {X : Type 0} where
-    get-both : (a b : maps.FinMap R X) (q : K) → maps.get (keys_of_both a b) q ≡ option_map (λ v. 0) (joined (maps.get a q) (maps.get b q))
-    get-both a b q = get-map_values o same (λ k v. 0) (merged a b) q ∙ ap (option_map (λ v. 0)) (get-merged o same a b q)
+  -- a key is below the keys that come later
+  pub below_later : {X : Type 0} (k q : K) (es : List (K × X)) → below_all R k es ≡ true → list_any (eq_by_cmp R q) (map (λ e. e.0) es) ≡ true → R k q ≡ Less
+  below_later k q [] b h = absurd (true≢false (sym h))
+  below_later k q (e ∷ es) b h = elim (or_cases (eq_by_cmp R q e.0) _ h) [
+    | inl a ↦ ap (R k) (tied o same q e.0 a) ∙ lt_is (R k e.0) (subst T (sym (first_so _ _ b)) tt)
+    | inr c ↦ below_later k q es (second_so (is_lt (R k e.0)) _ b) c
+  ]
 
-    in_one : (x y : Option X) → is_some (option_map {U = ℕ} (λ v. 0) (joined x y)) ≡ (is_some x || is_some y)
-    in_one None None = refl
-    in_one None (Some w) = refl
-    in_one (Some v) y = refl
+  -- the first key that passes is one that passes, below which none does
+  first_is : {X : Type 0} (k : K) (es : List (K × X)) → is_sorted R es ≡ true → list_any (eq_by_cmp R k) (map (λ e. e.0) es) ≡ true → p k ≡ true
+      → ((q : K) → list_any (eq_by_cmp R q) (map (λ e. e.0) es) ≡ true → R q k ≡ Less → p q ≡ false) → first_where p (map (λ e. e.0) es) ≡ Some k
+  first_is k [] s h is least = absurd (true≢false (sym h))
+  first_is k (e ∷ es) s h is least =
+      let rest = λ (c : list_any (eq_by_cmp R k) (map (λ e. e.0) es) ≡ true). first_is k es (second_so (below_all R e.0 es) _ s) c is (λ q w. least q (or_right _ _ w)) in
+      grind (cases, tied o same k e.0, itself o same e.0, least e.0, below_later e.0 k es, rest, first_so (below_all R e.0 es) (is_sorted R es) s)
 
-    -- the keys of both maps are those of either
-    pub in_both : (a b : maps.FinMap R X) (q : K) → maps.contains_key (keys_of_both a b) q ≡ (maps.contains_key a q || maps.contains_key b q)
-    in_both a b q = ap is_some (get-both a b q) ∙ in_one (maps.get a q) (maps.get b q)
-
-    one_back : (x y : Option X) → option_map {U = ℕ} (λ v. 0) (joined x y) ≡ option_map (λ v. 0) (joined y x)
-    one_back None None = refl
-    one_back None (Some w) = refl
-    one_back (Some v) None = refl
-    one_back (Some v) (Some w) = refl
-
-    -- the keys of both maps are the same in either order
-    pub both_back : (a b : maps.FinMap R X) → keys_of_both a b ≡ keys_of_both b a
-    both_back a b = maps_same o same (keys_of_both a b) (keys_of_both b a) (λ q. get-both a b q ∙ one_back (maps.get a q) (maps.get b q) ∙ sym (get-both b a q))
+  -- a member that passes, below which none does, is the smallest
+  pub smallest_is : (s : maps.FinMap R ℕ) (k : K) → maps.contains_key s k ≡ true → p k ≡ true → ((q : K) → maps.contains_key s q ≡ true → R q k ≡ Less → p q ≡ false) → smallest p s ≡ Some k
+  smallest_is s k h is least = first_is k (maps.entries s) (T_true (is_sorted R (maps.entries s)) (maps.entries_sorted s)) (sym (maps.contains_key-keys s k) ∙ h) is
+      (λ q w l. least q (maps.contains_key-keys s q ∙ w) l)

@@ -1,83 +1,51 @@
 -- Members of lists and of finite sets.
-use Rattle.std.proofs.Common.{◌≡◌, ℕ, Bool, true, false, cond, not, ◌&&◌, ◌||◌, List, [], ◌∷◌, ◌++◌, map, refl, sym, ◌∙◌, ap, true≢false, ◌⊎◌, inl, inr, filter, Ordering, flat_map}
+use Rattle.std.proofs.Common.{◌≡◌, ℕ, Bool, true, false, ◌||◌, List, [], ◌∷◌, ◌++◌, map, refl, sym, ◌∙◌, ap, true≢false, ◌⊎◌, inl, inr, filter, Ordering, flat_map, arith, Option, Some, None}
 use Rattle.std.specs.List.{list_any, list_all}
 use Rattle.std.specs.Ordering.{eq_by_cmp}
 use Rattle.std.specs.Cmp.{IsTotalOrder, Equal-is, both_ways, first_so, second_so, tied_itself}
 use Rattle.std.specs.Cmp.Lexicographic.{nat_list_cmp_total}
 use Rattle.std.specs.FinSet as sets
 use Rattle.std.specs.FinSet.{FinSet, IsAntisymmetric, nat_cmp-IsAntisymmetric, slice_cmp-IsAntisymmetric}
-use Rattle.t1_font.specs.FontValue.{name_cmp}
+use Rattle.t1_font.specs.FontValue.{name_cmp, Encoding, Word, Codes, Numbered}
 use Rattle.t1_algebra.specs.Interpreter.{Names}
 use Rattle.t1_algebra.specs.Keep.{sets_of}
+use Rattle.std.proofs.lemmas.Bool.{and_from, or_left, or_right, or_cases, cases_Bool}
+use Rattle.std.proofs.lemmas.List.Folds.{list_all-append, list_all-map, list_any-append}
 
--- ---- tests
+-- ---- tests and options
 
-pub and_so : (a b : Bool) → a ≡ true → b ≡ true → (a && b) ≡ true
-and_so true b p q = q
-and_so false b p q = p
+pub cases_Option : {X : Type 0} (x : Option X) → (x ≡ None) ⊎ ((v : X) × (x ≡ Some v))
+cases_Option None = inl refl
+cases_Option (Some v) = inr (v, refl)
 
-pub or_left : (a b : Bool) → a ≡ true → (a || b) ≡ true
-or_left true b p = refl
-or_left false b p = absurd (true≢false (sym p))
+pub cases_Encoding : (e : Encoding) → ((v : List ℕ) × (e ≡ Word v)) ⊎ ((t : Numbered) × (e ≡ Codes t))
+cases_Encoding (Word v) = inl (v, refl)
+cases_Encoding (Codes t) = inr (t, refl)
 
-pub or_right : (a b : Bool) → b ≡ true → (a || b) ≡ true
-or_right true b p = refl
-or_right false b p = p
-
-pub or_cases : (a b : Bool) → (a || b) ≡ true → (a ≡ true) ⊎ (b ≡ true)
-or_cases true b p = inl refl
-or_cases false b p = inr p
-
--- an implication, as a test, and what follows from it
-pub not_or_so : (a b : Bool) → (not a || b) ≡ true → a ≡ true → b ≡ true
-not_or_so true b h p = h
-not_or_so false b h p = absurd (true≢false (sym p))
-
--- an implication is passed if it holds
-pub not_or_from : (a b : Bool) → (a ≡ true → b ≡ true) → (not a || b) ≡ true
-not_or_from true b f = f refl
-not_or_from false b f = refl
-
-pub is_or_not : (a : Bool) → (a ≡ true) ⊎ (a ≡ false)
-is_or_not true = inl refl
-is_or_not false = inr refl
+-- arithmetic, and cases on tests, options and Encodings
+pub ruleset cases = (arith, cases_Bool, cases_Option, cases_Encoding)
 
 -- nothing passes a test and fails it
 pub clash : {P : Type 0} (a : Bool) → a ≡ true → a ≡ false → P
 clash a p q = absurd (true≢false (sym p ∙ q))
 
-pub not_so : (a : Bool) → (a ≡ true → ⊥) → a ≡ false
-not_so true f = absurd (f refl)
-not_so false f = refl
-
 -- ---- lists
 
-pub and_assoc : (a b c : Bool) → (a && (b && c)) ≡ ((a && b) && c)
-and_assoc true b c = refl
-and_assoc false b c = refl
-
-module _ {K : Type 0} where
-  -- all elements of two lists pass if all of each do
-  pub all_append : (p : K → Bool) (xs ys : List K) → list_all p (xs ++ ys) ≡ (list_all p xs && list_all p ys)
-  all_append p [] ys = refl
-  all_append p (x ∷ xs) ys = ap (λ b. p x && b) (all_append p xs ys) ∙ and_assoc (p x) _ _
-
-  pub all_map : {J : Type 0} (p : K → Bool) (f : J → K) (xs : List J) → list_all p (map f xs) ≡ list_all (λ x. p (f x)) xs
-  all_map p f [] = refl
-  all_map p f (x ∷ xs) = ap (λ b. p (f x) && b) (all_map p f xs)
-
+module _ {K : Type 0} (p : K → Bool) (xs ys : List K) where
   -- an element of two lists that passes is in one of them
-  pub any_append : (p : K → Bool) (xs ys : List K) → list_any p (xs ++ ys) ≡ true → (list_any p xs ≡ true) ⊎ (list_any p ys ≡ true)
-  any_append p [] ys h = inr h
-  any_append p (x ∷ xs) ys h = elim (or_cases (p x) _ h) [ inl a ↦ inl (or_left (p x) _ a) | inr b ↦ elim (any_append p xs ys b) [ inl c ↦ inl (or_right (p x) _ c) | inr d ↦ inr d ] ]
+  pub any_append : list_any p (xs ++ ys) ≡ true → (list_any p xs ≡ true) ⊎ (list_any p ys ≡ true)
+  any_append h = or_cases _ _ (sym (list_any-append p xs ys) ∙ h)
 
-  pub any_append_left : (p : K → Bool) (xs ys : List K) → list_any p xs ≡ true → list_any p (xs ++ ys) ≡ true
-  any_append_left p [] ys h = absurd (true≢false (sym h))
-  any_append_left p (x ∷ xs) ys h = elim (or_cases (p x) _ h) [ inl a ↦ or_left (p x) _ a | inr b ↦ or_right (p x) _ (any_append_left p xs ys b) ]
+  pub any_append_left : list_any p xs ≡ true → list_any p (xs ++ ys) ≡ true
+  any_append_left h = list_any-append p xs ys ∙ or_left _ _ h
 
-  pub any_append_right : (p : K → Bool) (xs ys : List K) → list_any p ys ≡ true → list_any p (xs ++ ys) ≡ true
-  any_append_right p [] ys h = h
-  any_append_right p (x ∷ xs) ys h = or_right (p x) _ (any_append_right p xs ys h)
+  pub any_append_right : list_any p ys ≡ true → list_any p (xs ++ ys) ≡ true
+  any_append_right h = list_any-append p xs ys ∙ or_right _ _ h
+
+-- an element of a flat map passes if one of some part does
+pub any_flat_map : {J K : Type 0} (p : K → Bool) (f : J → List K) (xs : List J) → list_any p (flat_map f xs) ≡ list_any (λ x. list_any p (f x)) xs
+any_flat_map p f [] = refl
+any_flat_map p f (x ∷ xs) = list_any-append p (f x) (flat_map f xs) ∙ ap (λ b. list_any p (f x) || b) (any_flat_map p f xs)
 
 -- whether some element of a list passes, by its first element
 module _ {K : Type 0} (p : K → Bool) (k : K) (ks : List K) where
@@ -120,25 +88,17 @@ module _ {K : Type 0} {R : K → K → Ordering} (o : IsTotalOrder R) (same : Is
   -- if each member passes, all do
   pub all_from : (p : K → Bool) (ks : List K) → ((q : K) → list_any (eq_by_cmp R q) ks ≡ true → p q ≡ true) → list_all p ks ≡ true
   all_from p [] each = refl
-  all_from p (k ∷ ks) each = and_so _ _ (each k (or_left _ _ (itself k))) (all_from p ks (λ q h. each q (or_right _ _ h)))
+  all_from p (k ∷ ks) each = and_from _ _ (each k (or_left _ _ (itself k))) (all_from p ks (λ q h. each q (or_right _ _ h)))
 
   -- what is left of a list was in it and passes
   pub any_filter : (p : K → Bool) (q : K) (ks : List K) → list_any (eq_by_cmp R q) (filter p ks) ≡ true → (list_any (eq_by_cmp R q) ks ≡ true) × (p q ≡ true)
   any_filter p q [] h = absurd (true≢false (sym h))
-  any_filter p q (k ∷ ks) h =
-      elim (p k) as (λ b. p k ≡ b → list_any (eq_by_cmp R q) (cond b (k ∷ filter p ks) (filter p ks)) ≡ true → (list_any (eq_by_cmp R q) (k ∷ ks) ≡ true) × (p q ≡ true)) [
-        | true ↦ λ is h. elim (here_or (eq_by_cmp R q) k (filter p ks) h) [ inl a ↦ (here (eq_by_cmp R q) k ks a, ap p (tied q k a) ∙ is) | inr b ↦ let r = any_filter p q ks b in (later (eq_by_cmp R q) k ks r.0, r.1) ]
-        | false ↦ λ is h. let r = any_filter p q ks h in (later (eq_by_cmp R q) k ks r.0, r.1)
-      ] refl h
+  any_filter p q (k ∷ ks) h = grind (cases, tied q k, any_filter p q ks)
 
   -- what is in a list and passes is left
   pub any_filter_from : (p : K → Bool) (q : K) (ks : List K) → list_any (eq_by_cmp R q) ks ≡ true → p q ≡ true → list_any (eq_by_cmp R q) (filter p ks) ≡ true
   any_filter_from p q [] h is = h
-  any_filter_from p q (k ∷ ks) h is =
-      elim (p k) as (λ b. p k ≡ b → list_any (eq_by_cmp R q) (cond b (k ∷ filter p ks) (filter p ks)) ≡ true) [
-        | true ↦ λ w. elim (here_or (eq_by_cmp R q) k ks h) [ inl a ↦ here (eq_by_cmp R q) k (filter p ks) a | inr b ↦ later (eq_by_cmp R q) k (filter p ks) (any_filter_from p q ks b is) ]
-        | false ↦ λ w. elim (here_or (eq_by_cmp R q) k ks h) [ inl a ↦ clash (p k) (ap p (sym (tied q k a)) ∙ is) w | inr b ↦ any_filter_from p q ks b is ]
-      ] refl
+  any_filter_from p q (k ∷ ks) h is = grind (cases, tied q k, any_filter_from p q ks)
 
   -- ---- sets
 
@@ -171,13 +131,11 @@ module _ {K : Type 0} {R : K → K → Ordering} (o : IsTotalOrder R) (same : Is
 
   -- a member of a flat map is a member at some element
   pub any_flat : {J : Type 0} (f : J → List K) (q : K) (xs : List J) → list_any (eq_by_cmp R q) (flat_map f xs) ≡ true → list_any (λ x. list_any (eq_by_cmp R q) (f x)) xs ≡ true
-  any_flat f q [] h = h
-  any_flat f q (x ∷ xs) h = elim (any_append _ (f x) _ h) [ inl a ↦ or_left _ _ a | inr b ↦ or_right _ _ (any_flat f q xs b) ]
+  any_flat f q xs h = sym (any_flat_map (eq_by_cmp R q) f xs) ∙ h
 
   -- a member at some element is a member of the flat map
   pub any_flat_from : {J : Type 0} (f : J → List K) (q : K) (xs : List J) → list_any (λ x. list_any (eq_by_cmp R q) (f x)) xs ≡ true → list_any (eq_by_cmp R q) (flat_map f xs) ≡ true
-  any_flat_from f q [] h = h
-  any_flat_from f q (x ∷ xs) h = elim (or_cases _ _ h) [ inl a ↦ any_append_left _ (f x) _ a | inr b ↦ any_append_right _ (f x) _ (any_flat_from f q xs b) ]
+  any_flat_from f q xs h = any_flat_map (eq_by_cmp R q) f xs ∙ h
 
 -- ---- names and numbers
 
@@ -191,58 +149,23 @@ name_same = slice_cmp-IsAntisymmetric nat_cmp-IsAntisymmetric
 abbrev pub Within : Names → List (List ℕ) → Type 0
 Within s ns = (q : List ℕ) → sets.contains s q ≡ true → list_any (eq_by_cmp name_cmp q) ns ≡ true
 
-within_tail : (n : List ℕ) (ns : List (List ℕ)) (s : Names) → Within s ns → Within s (n ∷ ns)
-within_tail n ns s w q h = later (eq_by_cmp name_cmp q) n ns (w q h)
-
-within_insert : (n : List ℕ) (ns : List (List ℕ)) (s : Names) → Within s ns → Within (sets.insert s n) (n ∷ ns)
-within_insert n ns s w q h = elim (or_cases (eq_by_cmp name_cmp q n) (sets.contains s q) (sym (sets.contains-insert nat_list_cmp_total s n q) ∙ h)) [ inl a ↦ here (eq_by_cmp name_cmp q) n ns a | inr b ↦ later (eq_by_cmp name_cmp q) n ns (w q b) ]
-
-within_remove : (n : List ℕ) (ns : List (List ℕ)) (s : Names) → Within s (n ∷ ns) → Within (sets.remove s n) ns
-within_remove n ns s w q h =
-    let u = sym (sets.contains-remove nat_list_cmp_total s n q) ∙ h in
-    elim (here_or (eq_by_cmp name_cmp q) n ns (w q (second_so (not (eq_by_cmp name_cmp q n)) (sets.contains s q) u))) [
-      | inl a ↦ absurd (true≢false (sym (sym (ap not a) ∙ first_so (not (eq_by_cmp name_cmp q n)) (sets.contains s q) u)))
-      | inr b ↦ b
-    ]
-
--- a set without the first of some names has only the others
-within_without : (n : List ℕ) (ns : List (List ℕ)) (s : Names) → sets.contains s n ≡ false → Within s (n ∷ ns) → Within s ns
-within_without n ns s out w q h = elim (here_or (eq_by_cmp name_cmp q) n ns (w q h)) [
-  | inl a ↦ clash (sets.contains s n) (ap (sets.contains s) (sym (tied nat_list_cmp_total name_same q n a)) ∙ h) out
-  | inr b ↦ b
-]
-
--- a set is the same after a member is removed and put back
-again : (n : List ℕ) (s : Names) → sets.contains s n ≡ true → s ≡ sets.insert (sets.remove s n) n
-again n s is = same_members nat_list_cmp_total name_same s (sets.insert (sets.remove s n) n)
-    (λ q h. sets.contains-insert nat_list_cmp_total (sets.remove s n) n q ∙ (elim (is_or_not (eq_by_cmp name_cmp q n)) [
-      | inl a ↦ or_left (eq_by_cmp name_cmp q n) (sets.contains (sets.remove s n) q) a
-      | inr b ↦ or_right (eq_by_cmp name_cmp q n) (sets.contains (sets.remove s n) q) (sets.contains-remove nat_list_cmp_total s n q ∙ and_so (not (eq_by_cmp name_cmp q n)) (sets.contains s q) (ap not b) h)
-    ]))
-    (λ q h. elim (or_cases (eq_by_cmp name_cmp q n) (sets.contains (sets.remove s n) q) (sym (sets.contains-insert nat_list_cmp_total (sets.remove s n) n q) ∙ h)) [
-      | inl a ↦ ap (sets.contains s) (tied nat_list_cmp_total name_same q n a) ∙ is
-      | inr b ↦ second_so (not (eq_by_cmp name_cmp q n)) (sets.contains s q) (sym (sets.contains-remove nat_list_cmp_total s n q) ∙ b)
-    ])
-
--- a set without names is empty
-no_members : (s : Names) → Within s [] → s ≡ sets.empty
-no_members s w = same_members nat_list_cmp_total name_same s sets.empty (λ q h. absurd (true≢false (sym (w q h)))) (λ q h. clash (sets.contains {R = name_cmp} sets.empty q) h (sets.contains-empty name_cmp q))
-
 -- a test that all sets of some of the names pass holds of any set within them
 pub each_set : (ns : List (List ℕ)) (p : Names → Bool) → list_all p (sets_of ns) ≡ true → (s : Names) → Within s ns → p s ≡ true
-each_set [] p all s w = ap p (no_members s w) ∙ first_so (p sets.empty) true all
+each_set [] p all s w = ap p (sets.same_set nat_list_cmp_total name_same s sets.empty (λ q. grind (cases, w q, sets.contains-empty name_cmp q))) ∙ first_so (p sets.empty) true all
 each_set (n ∷ ns) p all s w =
-    let both = sym (all_append p (sets_of ns) (map (λ t. sets.insert t n) (sets_of ns))) ∙ all in
-    let with : list_all (λ t. p (sets.insert t n)) (sets_of ns) ≡ true = sym (all_map p (λ t. sets.insert t n) (sets_of ns)) ∙ second_so (list_all p (sets_of ns)) (list_all p (map (λ t. sets.insert t n) (sets_of ns))) both in
-    elim (is_or_not (sets.contains s n)) [
-      | inr out ↦ each_set ns p (first_so (list_all p (sets_of ns)) (list_all p (map (λ t. sets.insert t n) (sets_of ns))) both) s (within_without n ns s out w)
-      | inl is ↦ ap p (again n s is) ∙ each_set ns (λ t. p (sets.insert t n)) with (sets.remove s n) (within_remove n ns s w)
+    let both = sym (list_all-append p (sets_of ns) (map (λ t. sets.insert t n) (sets_of ns))) ∙ all in
+    elim (cases_Bool (sets.contains s n)) [
+      | inr out ↦ each_set ns p (first_so (list_all p (sets_of ns)) _ both) s (λ q h. grind (cases, w q h, tied nat_list_cmp_total name_same q n))
+      | inl is ↦
+          ap p (sets.same_set nat_list_cmp_total name_same s (sets.insert (sets.remove s n) n) (λ q.
+          grind (cases, sets.contains-insert nat_list_cmp_total (sets.remove s n) n q, sets.contains-remove nat_list_cmp_total s n q, tied nat_list_cmp_total name_same q n)))
+          ∙ each_set ns (λ t. p (sets.insert t n)) (sym (list_all-map p (λ t. sets.insert t n) (sets_of ns)) ∙ second_so (list_all p (sets_of ns)) _ both) (sets.remove s n)
+          (λ q h. grind (cases, w q, sets.contains-remove nat_list_cmp_total s n q))
     ]
 
 -- a test that holds of any set within some names is passed by all sets of them
 pub all_sets : (ns : List (List ℕ)) (p : Names → Bool) → ((s : Names) → Within s ns → p s ≡ true) → list_all p (sets_of ns) ≡ true
-all_sets [] p each = and_so (p sets.empty) true (each sets.empty (λ q h. clash (sets.contains {R = name_cmp} sets.empty q) h (sets.contains-empty name_cmp q))) refl
+all_sets [] p each = and_from (p sets.empty) true (each sets.empty (λ q h. clash (sets.contains {R = name_cmp} sets.empty q) h (sets.contains-empty name_cmp q))) refl
 all_sets (n ∷ ns) p each =
-    all_append p (sets_of ns) (map (λ t. sets.insert t n) (sets_of ns)) ∙ and_so (list_all p (sets_of ns)) (list_all p (map (λ t. sets.insert t n) (sets_of ns)))
-    (all_sets ns p (λ s w. each s (within_tail n ns s w)))
-    (all_map p (λ t. sets.insert t n) (sets_of ns) ∙ all_sets ns (λ t. p (sets.insert t n)) (λ s w. each (sets.insert s n) (within_insert n ns s w)))
+    list_all-append p (sets_of ns) (map (λ t. sets.insert t n) (sets_of ns)) ∙ and_from _ _ (all_sets ns p (λ s w. each s (λ q h. or_right _ _ (w q h))))
+    (list_all-map p (λ t. sets.insert t n) (sets_of ns) ∙ all_sets ns (λ t. p (sets.insert t n)) (λ s w. each (sets.insert s n) (λ q h. grind (cases, w q, sets.contains-insert nat_list_cmp_total s n q))))

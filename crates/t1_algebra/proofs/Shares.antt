@@ -1,31 +1,21 @@
 -- Fonts share what they have to exactly if no part differs, and the first part that differs is the same in both orders.
-use Rattle.std.proofs.Common.{◌≡◌, ◌↔◌, option_map, ℕ, Bool, true, false, not, ◌&&◌, List, [], ◌∷◌, map, refl, sym, ◌∙◌, ap, true≢false, inl, inr, Option, Some, None, is_some, nat_cmp}
-use Rattle.std.specs.List.{list_any, AllByRecursion}
+use Rattle.std.proofs.Common.{◌≡◌, ◌↔◌, option_map, ℕ, Bool, true, not, List, [], ◌∷◌, map, refl, sym, ◌∙◌, ap, true≢false, Option, Some, None, is_some, nat_cmp, arith}
+use Rattle.std.specs.List.{list_any}
 use Rattle.std.specs.Ordering.{eq_by_cmp}
 use Rattle.std.specs.FinMap as maps
-use Rattle.std.specs.Cmp.{nat_cmp_total, first_so, second_so}
+use Rattle.std.specs.Cmp.{nat_cmp_total}
 use Rattle.std.specs.Cmp.Lexicographic.{nat_list_cmp_total}
 use Rattle.std.specs.FinSet.{nat_cmp-IsAntisymmetric}
-use Rattle.t1_font.specs.FontValue.{FontValue, SubrsShell, Encoding, Word, Codes, Numbered, declared_count}
-use Rattle.t1_font.specs.FontModel.{of_subrs, word_of}
+use Rattle.t1_font.specs.FontValue.{FontValue, SubrsShell, Numbered, declared_count}
+use Rattle.t1_font.specs.FontModel.{word_of}
 use Rattle.t1_font.specs.Maps.{map_values}
 use Rattle.t1_font.specs.WriteLaws.{SameKind}
-use Rattle.t1_font.proofs.MapLemmas.{Some_same, Some_None, get-map_values, entries-map_values}
+use Rattle.t1_font.proofs.MapLemmas.{Some_None, get-map_values, entries-map_values}
 use Rattle.t1_algebra.specs.Interpreter.{same_bytes}
-use Rattle.t1_algebra.specs.Searches.{first_where}
-use Rattle.t1_algebra.specs.Shared.{Shared, shared_of, ShellPart, Head, EncodingPart, ClearTail, Private, SubrsTable, SubrsWords, Middle, GlyphsWords, Tail, all_parts, same_number, same_bool, same_word, same_words, same_part, differing_part}
-use Rattle.t1_algebra.proofs.JoinedStates.{constant}
-use Rattle.t1_algebra.proofs.Maps.{maps_same}
-use Rattle.t1_algebra.proofs.Searching.{not_false, false_of, none_passes, passes_none}
-use Rattle.t1_algebra.proofs.Sets.{name_same, and_so, is_or_not, not_so, tied, itself}
-
--- a test that decides equality is the same in both orders
-pub test_back : {X : Type 0} (t : X → X → Bool) → ((x y : X) → t x y ≡ true → x ≡ y) → ((x : X) → t x x ≡ true) → (x y : X) → t x y ≡ t y x
-test_back t so self x y =
-    elim (is_or_not (t x y)) [
-      | inl a ↦ a ∙ sym (ap (λ z. t z x) (sym (so x y a)) ∙ self x)
-      | inr b ↦ b ∙ sym (not_so (t y x) (λ k. true≢false (sym (ap (λ z. t x z) (so y x k) ∙ self x) ∙ b)))
-    ]
+use Rattle.t1_algebra.specs.Shared.{Shared, shared_of, ShellPart, all_parts, same_number, same_bool, same_word, same_words, same_part, differing_part}
+use Rattle.t1_algebra.proofs.Searching.{none_passes}
+use Rattle.t1_algebra.proofs.Sets.{name_same, tied, itself, cases}
+use Rattle.std.proofs.lemmas.Bool.{not-false, and_parts}
 
 -- ---- each test decides
 
@@ -35,13 +25,9 @@ module _ {X : Type 0} (t : X → X → Bool) where
     pub so : (x y : X) → t x y ≡ true → x ≡ y
     pub self : (x : X) → t x x ≡ true
 
-  -- what is equal passes the test
-  pub is_same : Decides → (x y : X) → x ≡ y → t x y ≡ true
-  is_same d x y e = ap (t x) (sym e) ∙ d.self x
-
   -- the test is the same in both orders
   pub swaps : Decides → (x y : X) → t x y ≡ t y x
-  swaps d = test_back t d.so d.self
+  swaps d x y = grind (cases, d.so x y, d.so y x, d.self x)
 
 pub bytes_decide : Decides same_bytes
 bytes_decide = record { so = tied nat_list_cmp_total name_same; self = itself nat_list_cmp_total name_same }
@@ -49,117 +35,33 @@ bytes_decide = record { so = tied nat_list_cmp_total name_same; self = itself na
 pub numbers_decide : Decides same_number
 numbers_decide = record { so = tied nat_cmp_total nat_cmp-IsAntisymmetric; self = itself nat_cmp_total nat_cmp-IsAntisymmetric }
 
-bool_so : (a b : Bool) → same_bool a b ≡ true → a ≡ b
-bool_so true b h = sym h
-bool_so false true h = h
-bool_so false false h = refl
-
-bool_self : (a : Bool) → same_bool a a ≡ true
-bool_self true = refl
-bool_self false = refl
-
 pub bools_decide : Decides same_bool
-bools_decide = record { so = bool_so; self = bool_self }
+bools_decide = record { so = λ a b h. grind cases; self = λ a. grind cases }
 
 -- tables of Subrs are the same if both are there or neither, they declare as many, and their words are the same
 subrs_so : (s t : Option SubrsShell) → is_some s ≡ is_some t → declared_count s ≡ declared_count t → same_words s t ≡ true → s ≡ t
-subrs_so None None p d w = refl
-subrs_so None (Some t) p d w = absurd (true≢false (sym p))
-subrs_so (Some s) None p d w = absurd (true≢false p)
-subrs_so (Some s) (Some t) p d w =
-    let rd = bytes_decide.so s.rd t.rd (first_so (same_bytes s.rd t.rd) _ w) in
-    let more = second_so (same_bytes s.rd t.rd) _ w in
-    let put = bytes_decide.so s.put t.put (first_so (same_bytes s.put t.put) _ more) in
-    let closing = bytes_decide.so s.closing t.closing (second_so (same_bytes s.put t.put) _ more) in
-    λ i. Some (record { declared = d i; rd = rd i; put = put i; closing = closing i })
-
-words_self : (s : Option SubrsShell) → same_words s s ≡ true
-words_self s = and_so (same_bytes (of_subrs (λ w. w.rd) s) (of_subrs (λ w. w.rd) s)) _ (bytes_decide.self (of_subrs (λ w. w.rd) s))
-    (and_so (same_bytes (of_subrs (λ w. w.put) s) (of_subrs (λ w. w.put) s)) _ (bytes_decide.self (of_subrs (λ w. w.put) s)) (bytes_decide.self (of_subrs (λ w. w.closing) s)))
-
-words_swap : (s t : Option SubrsShell) → same_words s t ≡ same_words t s
-words_swap s t = λ i. swaps same_bytes bytes_decide (of_subrs (λ w. w.rd) s) (of_subrs (λ w. w.rd) t) i
-    && (swaps same_bytes bytes_decide (of_subrs (λ w. w.put) s) (of_subrs (λ w. w.put) t) i && swaps same_bytes bytes_decide (of_subrs (λ w. w.closing) s) (of_subrs (λ w. w.closing) t) i)
-
-word_so : (v w : Option (List ℕ)) → same_word v w ≡ true → v ≡ w
-word_so None None h = refl
-word_so None (Some w) h = absurd (true≢false (sym h))
-word_so (Some v) None h = absurd (true≢false (sym h))
-word_so (Some v) (Some w) h = ap Some (bytes_decide.so v w h)
-
-word_self : (v : Option (List ℕ)) → same_word v v ≡ true
-word_self None = refl
-word_self (Some v) = bytes_decide.self v
+subrs_so s t p d w = grind (cases, p, d, w, bytes_decide.so)
 
 words_decide : Decides same_word
-words_decide = record { so = word_so; self = word_self }
+words_decide = record { so = λ v w h. grind (cases, bytes_decide.so); self = λ v. grind (cases, bytes_decide.self) }
 
 -- ---- what is shared
 
-module _ (s t : Shared) where
-  same_shells : AllByRecursion (λ part. not (same_part s t part) ≡ false) all_parts → s.0 ≡ t.0
-  same_shells h =
-      let head = bytes_decide.so s.0.head t.0.head (not_false _ h.0) in
-      let clear_tail = bytes_decide.so s.0.clear_tail t.0.clear_tail (not_false _ h.1.1.0) in
-      let privates = not_false _ h.1.1.1.0 in
-      let private = bytes_decide.so s.0.private t.0.private (first_so (same_bytes s.0.private t.0.private) _ privates) in
-      let len_iv = numbers_decide.so s.0.len_iv t.0.len_iv (second_so (same_bytes s.0.private t.0.private) _ privates) in
-      let table = not_false _ h.1.1.1.1.0 in
-      let there = bools_decide.so (is_some s.0.subrs) (is_some t.0.subrs) (first_so (same_bool (is_some s.0.subrs) (is_some t.0.subrs)) _ table) in
-      let count = numbers_decide.so (declared_count s.0.subrs) (declared_count t.0.subrs) (first_so (same_number (declared_count s.0.subrs) (declared_count t.0.subrs)) _ (second_so (same_bool (is_some s.0.subrs) (is_some t.0.subrs)) _ table)) in
-      let subrs = subrs_so s.0.subrs t.0.subrs there count (not_false _ h.1.1.1.1.1.0) in
-      let middle = bytes_decide.so s.0.middle t.0.middle (not_false _ h.1.1.1.1.1.1.0) in
-      let words = not_false _ h.1.1.1.1.1.1.1.0 in
-      let rd = bytes_decide.so s.0.glyphs_rd t.0.glyphs_rd (first_so (same_bytes s.0.glyphs_rd t.0.glyphs_rd) _ words) in
-      let def = bytes_decide.so s.0.glyphs_def t.0.glyphs_def (second_so (same_bytes s.0.glyphs_rd t.0.glyphs_rd) _ words) in
-      let tail = bytes_decide.so s.0.tail t.0.tail (not_false _ h.1.1.1.1.1.1.1.1.0) in
-      λ i. record { head = head i; clear_tail = clear_tail i; private = private i; middle = middle i; tail = tail i; len_iv = len_iv i; subrs = subrs i; glyphs_rd = rd i; glyphs_def = def i }
-
-  indices_so : same_part s t SubrsTable ≡ true → s.1.1 ≡ t.1.1
-  indices_so h = bytes_decide.so s.1.1 t.1.1 (second_so (same_number (declared_count s.0.subrs) (declared_count t.0.subrs)) _ (second_so (same_bool (is_some s.0.subrs) (is_some t.0.subrs)) _ h))
-
-  -- what fonts share is the same if no part differs
-  pub shared_so : differing_part s t ≡ None → s ≡ t
-  shared_so h =
-      let parts = none_passes (λ part. not (same_part s t part)) all_parts h in
-      let shells = same_shells parts in
-      let word = words_decide.so s.1.0 t.1.0 (not_false (same_part s t EncodingPart) parts.1.0) in
-      let indices = indices_so (not_false (same_part s t SubrsTable) parts.1.1.1.1.0) in
-      λ i. (shells i, (word i, indices i))
-
-part_self : (s : Shared) (part : ShellPart) → not (same_part s s part) ≡ false
-part_self s Head = false_of _ (bytes_decide.self s.0.head)
-part_self s EncodingPart = false_of _ (words_decide.self s.1.0)
-part_self s ClearTail = false_of _ (bytes_decide.self s.0.clear_tail)
-part_self s Private = false_of _ (and_so (same_bytes s.0.private s.0.private) _ (bytes_decide.self s.0.private) (numbers_decide.self s.0.len_iv))
-part_self s SubrsTable = false_of _ (and_so (same_bool (is_some s.0.subrs) (is_some s.0.subrs)) _ (bools_decide.self (is_some s.0.subrs))
-    (and_so (same_number (declared_count s.0.subrs) (declared_count s.0.subrs)) _ (numbers_decide.self (declared_count s.0.subrs)) (bytes_decide.self s.1.1)))
-part_self s SubrsWords = false_of _ (words_self s.0.subrs)
-part_self s Middle = false_of _ (bytes_decide.self s.0.middle)
-part_self s GlyphsWords = false_of _ (and_so (same_bytes s.0.glyphs_rd s.0.glyphs_rd) _ (bytes_decide.self s.0.glyphs_rd) (bytes_decide.self s.0.glyphs_def))
-part_self s Tail = false_of _ (bytes_decide.self s.0.tail)
+-- what fonts share is the same if no part differs
+pub shared_so : (s t : Shared) → differing_part s t ≡ None → s ≡ t
+shared_so s t h =
+    let parts = none_passes (λ part. not (same_part s t part)) all_parts h in
+    grind (arith, parts, not-false, and_parts, bytes_decide.so, numbers_decide.so, bools_decide.so, words_decide.so, subrs_so s.0.subrs t.0.subrs)
 
 -- no part of what is the same differs
 pub no_part_differs : (s t : Shared) → s ≡ t → differing_part s t ≡ None
-no_part_differs s t e = ap (differing_part s) (sym e) ∙ passes_none (λ part. not (same_part s s part)) all_parts (part_self s)
+no_part_differs s t e = ap (differing_part s) (sym e) ∙ simp (bytes_decide.self, numbers_decide.self, bools_decide.self, words_decide.self)
 
 -- ---- both orders
 
-module _ (s t : Shared) where
-  part_swap : (part : ShellPart) → same_part s t part ≡ same_part t s part
-  part_swap Head = swaps same_bytes bytes_decide s.0.head t.0.head
-  part_swap EncodingPart = swaps same_word words_decide s.1.0 t.1.0
-  part_swap ClearTail = swaps same_bytes bytes_decide s.0.clear_tail t.0.clear_tail
-  part_swap Private = λ i. swaps same_bytes bytes_decide s.0.private t.0.private i && swaps same_number numbers_decide s.0.len_iv t.0.len_iv i
-  part_swap SubrsTable = λ i. swaps same_bool bools_decide (is_some s.0.subrs) (is_some t.0.subrs) i && (swaps same_number numbers_decide (declared_count s.0.subrs) (declared_count t.0.subrs) i && swaps same_bytes bytes_decide s.1.1 t.1.1 i)
-  part_swap SubrsWords = words_swap s.0.subrs t.0.subrs
-  part_swap Middle = swaps same_bytes bytes_decide s.0.middle t.0.middle
-  part_swap GlyphsWords = λ i. swaps same_bytes bytes_decide s.0.glyphs_rd t.0.glyphs_rd i && swaps same_bytes bytes_decide s.0.glyphs_def t.0.glyphs_def i
-  part_swap Tail = swaps same_bytes bytes_decide s.0.tail t.0.tail
-
-  -- the first part that differs is the same in both orders
-  pub differing_back : differing_part s t ≡ differing_part t s
-  differing_back = λ i. first_where (λ part. not (part_swap part i)) all_parts
+-- the first part that differs is the same in both orders
+pub differing_back : (s t : Shared) → differing_part s t ≡ differing_part t s
+differing_back s t = grind (cases, swaps same_bytes bytes_decide, swaps same_word words_decide, swaps same_number numbers_decide, swaps same_bool bools_decide)
 
 -- ---- what two fonts share
 
@@ -168,20 +70,6 @@ pub record Shares (f g : FontValue) : Type 0 where
   pub shells : f.shell ≡ g.shell
   pub present : (i : ℕ) → maps.contains_key f.subrs i ≡ maps.contains_key g.subrs i
   pub kinds : SameKind f.encoding g.encoding
-
--- Encodings of one kind have the same word, or none
-kind_words : (d e : Encoding) → SameKind d e → word_of d ≡ word_of e
-kind_words (Word v) (Word w) h = ap Some h
-kind_words (Word v) (Codes t) h = absurd h
-kind_words (Codes s) (Word w) h = absurd h
-kind_words (Codes s) (Codes t) h = refl
-
--- Encodings with the same word, or none, are of one kind
-words_kind : (d e : Encoding) → word_of d ≡ word_of e → SameKind d e
-words_kind (Word v) (Word w) h = Some_same h
-words_kind (Word v) (Codes t) h = Some_None h
-words_kind (Codes s) (Word w) h = Some_None (sym h)
-words_kind (Codes s) (Codes t) h = tt
 
 keys_valued : (es : List (ℕ × List ℕ)) → map (λ (e : ℕ × List ℕ). e.0) es ≡ map (λ (e : ℕ × ℕ). e.0) (map (λ (e : ℕ × List ℕ). (e.0, 0)) es)
 keys_valued [] = refl
@@ -193,23 +81,25 @@ keys_of m = keys_valued (maps.entries m) ∙ ap (map (λ e. e.0)) (sym (entries-
 -- maps that are present at the same indices have the same keys
 pub same_indices : (m n : Numbered) → ((i : ℕ) → maps.contains_key m i ≡ maps.contains_key n i) → maps.keys m ≡ maps.keys n
 same_indices m n h = keys_of m
-    ∙ ap (λ (s : maps.FinMap nat_cmp ℕ). maps.keys s) (maps_same nat_cmp_total nat_cmp-IsAntisymmetric _ _ (λ i.
-    get-map_values nat_cmp_total nat_cmp-IsAntisymmetric (λ i c. 0) m i ∙ constant 0 (maps.get m i) (maps.get n i) (h i) ∙ sym (get-map_values nat_cmp_total nat_cmp-IsAntisymmetric (λ i c. 0) n i)))
+    ∙ ap (λ (s : maps.FinMap nat_cmp ℕ). maps.keys s) (maps.same_map nat_cmp_total nat_cmp-IsAntisymmetric _ _ (λ i.
+    grind (cases, h i, get-map_values nat_cmp_total nat_cmp-IsAntisymmetric {Y = ℕ} (λ i c. 0) m i, get-map_values nat_cmp_total nat_cmp-IsAntisymmetric {Y = ℕ} (λ i c. 0) n i)))
     ∙ sym (keys_of n)
 
 -- fonts that share what they have to have the same shared value
 pub shared_from : (f g : FontValue) → Shares f g → shared_of f ≡ shared_of g
-shared_from f g c = λ i. (c.shells i, (kind_words f.encoding g.encoding c.kinds i, same_indices f.subrs g.subrs c.present i))
+shared_from f g c =
+    let words : word_of f.encoding ≡ word_of g.encoding = grind (cases, c.kinds) in
+    λ i. (c.shells i, (words i, same_indices f.subrs g.subrs c.present i))
 
 -- fonts with the same shared value share what they have to
 pub shared_to : (f g : FontValue) → shared_of f ≡ shared_of g → Shares f g
 shared_to f g h = record {
   shells = ap (λ s. s.0) h;
   present = λ i. maps.contains_key-keys f.subrs i ∙ ap (λ (s : Shared). list_any (eq_by_cmp nat_cmp i) s.1.1) h ∙ sym (maps.contains_key-keys g.subrs i);
-  kinds = words_kind f.encoding g.encoding (ap (λ s. s.1.0) h);
+  kinds = grind (cases, ap (λ (s : Shared). s.1.0) h);
 }
 
 -- no part differs exactly if all is the same
 pub parts_test : {X : Type 0} (part : X → ShellPart) (s t : Shared) (r : Option X) (b : Bool) → is_some r ≡ not b → option_map part r ≡ differing_part s t → (b ≡ true) ↔ (s ≡ t)
-parts_test part s t None b n e = (λ h. shared_so s t (sym e), λ h. not_false b (sym n))
+parts_test part s t None b n e = (λ h. shared_so s t (sym e), λ h. not-false b (sym n))
 parts_test part s t (Some x) b n e = (λ h. absurd (true≢false (n ∙ ap not h)), λ h. Some_None (e ∙ no_part_differs s t h))

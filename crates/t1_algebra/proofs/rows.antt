@@ -1,2 +1,1 @@
-pub mod KeptRows
-pub mod StateRows
+pub mod FontRows

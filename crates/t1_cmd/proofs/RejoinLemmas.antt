@@ -12,7 +12,6 @@ use Rattle.t1_algebra.specs.Profile.{profile}
 use Rattle.t1_algebra.specs.Rejoins.{IsUntagged}
 use Rattle.t1_join.specs.Groupings.{one, from_left}
 use Rattle.t1_join.proofs.OrderLemmas.{leaves_from_left}
-use Rattle.t1_algebra.proofs.rejoining.MergingFonts.{merging_fonts_are_even}
 use Rattle.t1_algebra.proofs.Orders.{one_result}
 use Rattle.t1_cmd.specs.declared.faults.Reason.{Reason}
 use Rattle.t1_cmd.specs.declared.faults.Reason.TheVariants.{TooLong, Memory, List as ListReason, Join as JoinReason, Font, NoGlyph, Merge}
@@ -21,6 +20,7 @@ use Rattle.t1_cmd.specs.declared.faults.RunFault.TheVariants.{Refused, Read, Wri
 use Rattle.t1_cmd.specs.Mergers.{MergesTo, MergeStops}
 use Rattle.t1_cmd.specs.Rejoins.{RejoinsTo, RejoinStops, RejoinsWhatMerges}
 use Rattle.t1_cmd.proofs.MergeLemmas.{merges_apart}
+use Rattle.t1_algebra.proofs.rejoining.Evened.{merging_fonts_are_even}
 
 -- fonts of which each is light are not heavy
 light_or_heavy : (fs : List FontValue) → AreLight fs → AnyHeavy fs → ⊥

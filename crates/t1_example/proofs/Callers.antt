@@ -25,14 +25,14 @@ use Rattle.t1_algebra.specs.Searches.{first_where}
 use Rattle.t1_algebra.specs.Laws.{IsOf, AnswersAlike}
 use Rattle.t1_algebra.specs.Profile.{profile}
 use Rattle.t1_subset.specs.Refusals.{Absent}
-use Rattle.t1_algebra.proofs.Alike.{subset_alike, answers_alike}
 use Rattle.t1_algebra.proofs.Fonts.{subset_is_font}
-use Rattle.t1_algebra.proofs.Searching.{false_of}
-use Rattle.t1_algebra.proofs.Sets.{name_same, itself, or_left, or_right, in_list, from_in_list, in_union}
+use Rattle.t1_algebra.proofs.Sets.{name_same, itself, in_list, from_in_list, in_union}
 use Rattle.t1_example.specs.declared.refusal.Refusal.{Refusal}
 use Rattle.t1_example.specs.Joining.{CanBeCut, IsMemory, union_subset}
 use Rattle.t1_subset.specs.declared.conflict.Conflict.{Conflict}
 use Rattle.t1_subset.specs.Merger.{MergesSubsets}
+use Rattle.std.proofs.lemmas.Bool.{or_left, or_right, not_from_true}
+use Rattle.t1_algebra.proofs.Drawings.{subset_alike, answers_alike}
 
 -- a subset begins as its font does
 pub cut_fits : (form : Form) (f : FontValue) (a : Names) → Fits form f → Fits form (subset profile f a)
@@ -65,7 +65,7 @@ all_present : (f : FontValue) (ns : List (List ℕ)) → IsOf f (sets.from_list 
 all_present f [] i = refl
 all_present f (n ∷ ns) i =
     let first : list_any (eq_by_cmp name_cmp n) (n ∷ ns) ≡ true = or_left _ _ (itself nat_list_cmp_total name_same n) in
-    ap (λ b. cond b (Some n) (first_where (λ n. not (has f n)) ns)) (false_of (has f n) (i n (from_in_list nat_list_cmp_total name_same (n ∷ ns) n first)))
+    ap (λ b. cond b (Some n) (first_where (λ n. not (has f n)) ns)) (not_from_true (has f n) (i n (from_in_list nat_list_cmp_total name_same (n ∷ ns) n first)))
     ∙ all_present f ns (λ q w. i q (from_in_list nat_list_cmp_total name_same (n ∷ ns) q (or_right _ _ (in_list nat_list_cmp_total name_same ns q w))))
 
 -- where a font has all names, it is cut, or memory is wanted

@@ -18,7 +18,7 @@ use Rattle.t1_join.specs.Groupings.{Grouping, one, two, from_left, leaves}
 use Rattle.t1_algebra.specs.Groupings.{Merges, union_all, folded}
 use Rattle.t1_subset.specs.Merger.{StopsAt, IsRefused, MergesSubsets, MergesAllSubsets, IsMerger, MergesItself, AcceptsAllJoin, MergesInAnyOrder}
 use Rattle.t1_algebra.specs.Merges.{DrawsBoth, ComesTo, DrawsAll, MergesToNone}
-use Rattle.t1_algebra.proofs.Alike.{left_alike, right_alike}
+use Rattle.t1_algebra.proofs.Drawings.{left_alike, right_alike}
 use Rattle.t1_algebra.proofs.Conflicts.{no_conflict, conflict_back}
 use Rattle.t1_algebra.proofs.Fonts.{two_subsets, font_within, fonts_within, any_order_of_fonts}
 use Rattle.t1_algebra.proofs.Orders.{one_result, any_order, join_self, join_back, accepted_from_pairs, pairs_from_accepted, folded_is, within}

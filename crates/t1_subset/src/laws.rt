@@ -119,7 +119,7 @@ pub fn conflict_is_symmetric()
 {}
 
 /// If the states of two fonts join, their join has the entries of both.
-#[tactic(auto, using(t1_algebra::proofs::JoinedEntries::entries_join, t1_algebra::proofs::JoinedEntries::joined_are_entries))]
+#[tactic(auto, using(t1_algebra::proofs::JoinedStates::entries_join, t1_algebra::proofs::JoinedStates::joined_are_entries))]
 pub fn join_has_entries()
     ensures { JoinHasEntries profile }
 {}
@@ -127,7 +127,7 @@ pub fn join_has_entries()
 /// If a glyph runs and draws alike in two fonts, calls answer alike: `direct`, `direct3`, `executed`, `draw` and `draw3`
 /// of `t1_run` answer the same for both fonts. So the drawings of subsets and mergers, which the clauses of
 /// [`subset`](crate::subset) and [`merge`](crate::merge) state over the maps of fonts, are the drawings that calls answer.
-#[tactic(auto, using(t1_algebra::proofs::Alike::answers_alike))]
+#[tactic(auto, using(t1_algebra::proofs::Drawings::answers_alike))]
 pub fn calls_draw_alike()
     ensures { CallsDrawAlike }
 {}
@@ -151,7 +151,7 @@ pub fn truncated_subsets_rejoin()
 
 /// Fonts without tags that merge in some order and grouping are even already: making them even changes none of them, so
 /// they rejoin to what they merge to.
-#[tactic(auto, using(t1_algebra::proofs::rejoining::MergingFonts::merging_fonts_are_even))]
+#[tactic(auto, using(t1_algebra::proofs::rejoining::Evened::merging_fonts_are_even))]
 pub fn merging_fonts_are_even()
     ensures { MergingFontsAreEven }
 {}

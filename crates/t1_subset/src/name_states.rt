@@ -59,7 +59,7 @@ impl<'a> Model for NameTable<'a> {
 }
 
 /// The components that have a seeker, as sought names.
-#[tactic(auto, using(t1_algebra::proofs::NameTables::sought_all))]
+#[tactic(auto, using(t1_algebra::proofs::Tables::sought_all))]
 fn sought_names<'a>(
     alloc: Global,
     seekers: &Seekers<'a>,
@@ -114,7 +114,7 @@ fn glyph_adds(len_iv: u8, charstring: &[u8]) -> u64
 }
 
 /// `before` plus what these glyphs add to the weight if the table lacks their names, as far as 64 bits hold it.
-#[tactic(auto, using(std::proofs::lemmas::Map::Iter::rest_more, std::proofs::lemmas::Map::Iter::rest_all, t1_algebra::proofs::TableWeights::adds_none, t1_algebra::proofs::TableWeights::adds_next, t1_algebra::proofs::TableWeights::adds_all))]
+#[tactic(auto, using(std::proofs::lemmas::Map::Iter::rest_more, std::proofs::lemmas::Map::Iter::rest_all, t1_algebra::proofs::Tables::adds_none, t1_algebra::proofs::Tables::adds_next, t1_algebra::proofs::Tables::adds_all))]
 fn with_weights(before: u64, len_iv: u8, own: &NameTable<'_>, glyphs: &Named<'_>) -> u64
     ensures { result
         ≡ clamp (before
@@ -129,7 +129,7 @@ fn with_weights(before: u64, len_iv: u8, own: &NameTable<'_>, glyphs: &Named<'_>
 }
 
 /// `before` plus how many of these glyphs have a name that the table lacks, as far as 64 bits hold it.
-#[tactic(auto, using(std::proofs::lemmas::Map::Iter::rest_more, std::proofs::lemmas::Map::Iter::rest_all, t1_algebra::proofs::TableWeights::adds_none, t1_algebra::proofs::TableWeights::adds_next, t1_algebra::proofs::TableWeights::adds_all))]
+#[tactic(auto, using(std::proofs::lemmas::Map::Iter::rest_more, std::proofs::lemmas::Map::Iter::rest_all, t1_algebra::proofs::Tables::adds_none, t1_algebra::proofs::Tables::adds_next, t1_algebra::proofs::Tables::adds_all))]
 fn with_counts(before: u64, own: &NameTable<'_>, glyphs: &Named<'_>) -> u64
     ensures { result
         ≡ clamp (before + total one_each (new_entries own.now (maps.entries glyphs.now))) }
@@ -143,7 +143,7 @@ fn with_counts(before: u64, own: &NameTable<'_>, glyphs: &Named<'_>) -> u64
 
 impl<'a> NameTable<'a> {
     /// The states of the names of a font with these seekers.
-    #[tactic(auto, using(t1_algebra::proofs::NameTables::only_sought))]
+    #[tactic(auto, using(t1_algebra::proofs::Tables::only_sought))]
     pub(crate) fn of(
         alloc: Global,
         font: &Font<'a>,
@@ -159,7 +159,7 @@ impl<'a> NameTable<'a> {
     }
 
     /// The charstring of a name, if it has a glyph.
-    #[tactic(auto, using(t1_algebra::proofs::NameTables::charstring_in))]
+    #[tactic(auto, using(t1_algebra::proofs::Tables::charstring_in))]
     fn charstring(&self, name: &[u8]) -> Option<&'a [u8]>
         ensures { option_map (λ c. c.now) result ≡ behind_mark (maps.get self.now name.now) }
     {
@@ -223,7 +223,7 @@ impl<'a> NameTable<'a> {
 
     /// `before` plus what the names of the other table that this one lacks add to the weight of a font with this lenIV,
     /// as far as 64 bits hold it. A name that is sought weighs nothing.
-    #[tactic(auto, using(t1_algebra::proofs::NameTables::new_names_total))]
+    #[tactic(auto, using(t1_algebra::proofs::Tables::new_names_total))]
     pub(crate) fn weight_with(&self, other: &NameTable<'_>, before: u64, len_iv: u8) -> u64
         ensures { result
             ≡ clamp (before
@@ -233,7 +233,7 @@ impl<'a> NameTable<'a> {
     }
 
     /// `before` plus how many glyphs the names of the other table that this one lacks add, as far as 64 bits hold it.
-    #[tactic(auto, using(t1_algebra::proofs::NameTables::new_names_total))]
+    #[tactic(auto, using(t1_algebra::proofs::Tables::new_names_total))]
     pub(crate) fn count_with(&self, other: &NameTable<'_>, before: u64) -> u64
         ensures { result
             ≡ clamp (before
@@ -263,7 +263,7 @@ impl<'a> Join for NameTable<'a> {
         self.glyph_conflict(other).is_none() && self.component_conflict(other).is_none()
     }
 
-    #[tactic(auto, using(t1_algebra::proofs::NameTables::sought_agree, t1_algebra::proofs::NameTables::names_join))]
+    #[tactic(auto, using(t1_algebra::proofs::Tables::sought_agree, t1_algebra::proofs::Tables::names_join))]
     fn join(&self, alloc: Global, other: &NameTable<'a>) -> Result<NameTable<'a>, AllocError> {
         Ok(NameTable {
             glyphs: join_glyphs(alloc, &self.glyphs, &other.glyphs)?,

@@ -21,7 +21,7 @@ fn subr_adds(body: &[u8]) -> u64
 }
 
 /// Whether the table has the key.
-#[tactic(auto, using(t1_algebra::proofs::TableWeights::some_copied))]
+#[tactic(auto, using(t1_algebra::proofs::Tables::some_copied))]
 fn has<K: Key + Drop, V: Kept + Drop>(table: &Table<K, V>, key: &K) -> bool
     ensures { result ≡ maps.contains_key table.now (K.meaning key.now) }
 {
@@ -37,7 +37,7 @@ pub(crate) fn unless_there(is_there: bool, adds: u64) -> u64
 
 /// `before` plus what each Subr of the other table that the first lacks weighs more than a `return`, as far as 64 bits
 /// hold it.
-#[tactic(auto, using(std::proofs::lemmas::Map::Iter::rest_more, std::proofs::lemmas::Map::Iter::rest_all, t1_algebra::proofs::TableWeights::adds_none, t1_algebra::proofs::TableWeights::adds_next, t1_algebra::proofs::TableWeights::adds_all))]
+#[tactic(auto, using(std::proofs::lemmas::Map::Iter::rest_more, std::proofs::lemmas::Map::Iter::rest_all, t1_algebra::proofs::Tables::adds_none, t1_algebra::proofs::Tables::adds_next, t1_algebra::proofs::Tables::adds_all))]
 fn with_subrs(before: u64, own: &Table<u16, &[u8]>, other: &Table<u16, &[u8]>) -> u64
     ensures { result
         ≡ clamp (before

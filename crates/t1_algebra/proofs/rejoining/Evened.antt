@@ -1,19 +1,28 @@
--- Fonts that are made even have all the Subrs that they had, so their glyphs stay drawn.
-use Rattle.std.proofs.Common.{◌≡◌, ◌<◌, ℕ, nat_lt, List, [], ◌∷◌, map, refl, ◌∙◌, ap, Option, Some, None, option_map, cond, arith}
+-- Fonts that are made even have all the Subrs that they had, so their glyphs stay drawn; fonts without tags that merge are even.
+use Rattle.std.proofs.Common.{◌≡◌, ◌<◌, ℕ, List, [], ◌∷◌, map, refl, ◌∙◌, ap, Option, option_map}
 use Rattle.std.proofs.lemmas.Bool.{ltb-true, lt-ltb}
 use Rattle.std.specs.Cmp.{nat_cmp_total}
-use Rattle.std.specs.FinMap as maps
 use Rattle.std.specs.FinSet.{nat_cmp-IsAntisymmetric}
 use Rattle.t1_run.specs.Run.{Subrs}
 use Rattle.t1_run.specs.Growth.{Extends}
 use Rattle.t1_run.proofs.Grown.{runs_with_more, draws_with_more}
-use Rattle.t1_font.specs.FontValue.{FontValue, SubrsShell, Numbered, declared_count}
+use Rattle.t1_font.specs.FontValue.{FontValue, SubrsShell, Numbered, declared_count, Shell}
 use Rattle.t1_font.specs.FontModel.{subr_at}
 use Rattle.t1_font.specs.Evening.{raised, even, stubs_at, with_stubs, filled, largest_count, indices_of_all, evened_shells}
 use Rattle.t1_algebra.specs.Evened.{StaysDrawn, subrs_of, AllStayDrawn, EachBeside, EvenedDraw}
 use Rattle.t1_algebra.specs.States.{joined}
-use Rattle.t1_algebra.proofs.CutFonts.{cond_some}
 use Rattle.t1_algebra.proofs.Maps.{get-merged}
+use Rattle.std.specs.List.{AllByRecursion}
+use Rattle.t1_join.specs.Groupings.{leaves}
+use Rattle.t1_join.proofs.OrderLemmas.{all_leaves}
+use Rattle.t1_font.specs.EveningLaws.{IsEvenWith}
+use Rattle.t1_font.proofs.even_fonts.EvenStays.{even_fonts_stay}
+use Rattle.t1_algebra.specs.Profile.{profile}
+use Rattle.t1_algebra.specs.Rejoins.{IsUntagged, MergingFontsAreEven}
+use Rattle.t1_algebra.proofs.Orders.{Below, above}
+use Rattle.t1_algebra.proofs.Shares.{shared_to}
+use Rattle.std.specs.FinMap as maps
+use Rattle.t1_algebra.proofs.Sets.{cases}
 
 -- if a font has the same glyphs and more Subrs, each glyph stays drawn
 stays_drawn : (subrs : FontValue → Subrs) (f j : FontValue) → Extends (subrs f) (subrs j) → j.glyphs ≡ f.glyphs → (n : List ℕ) → StaysDrawn subrs f j n
@@ -35,8 +44,7 @@ stubs_added indices m (e ∷ es) i c is = get-merged nat_cmp_total nat_cmp-IsAnt
 
 -- a raised count declares no fewer Subrs
 no_fewer : (i count : ℕ) (s : Option SubrsShell) → i < declared_count s → i < declared_count (option_map (raised count) s)
-no_fewer i count None h = h
-no_fewer i count (Some t) h = omega (arith, h)
+no_fewer i count s h = grind cases
 
 module _ (indices : List ℕ) (count : ℕ) (f : FontValue) where
   -- the font that is made even
@@ -49,9 +57,7 @@ module _ (indices : List ℕ) (count : ℕ) (f : FontValue) where
 
   -- the font that is made even shows all the Subrs that the font showed
   seen_added : Extends (subr_at f) (subr_at made)
-  seen_added i c is =
-      let both = cond_some (nat_lt i (declared_count f.shell.subrs)) (maps.get f.subrs i) c is in
-      ap (λ b. cond b (maps.get made.subrs i) None) (lt-ltb i (declared_count made.shell.subrs) (no_fewer i count f.shell.subrs (ltb-true i (declared_count f.shell.subrs) both.0))) ∙ subrs_added i c both.1
+  seen_added i c is = grind (cases, is, subrs_added i c, no_fewer i count f.shell.subrs, ltb-true i (declared_count f.shell.subrs), lt-ltb i (declared_count made.shell.subrs))
 
   -- each glyph stays drawn in the font that is made even
   pub all_stay_drawn : AllStayDrawn f made
@@ -64,3 +70,13 @@ beside indices count (f ∷ fs) = (all_stay_drawn indices count f, beside indice
 
 pub evened_draw : EvenedDraw
 evened_draw = record { one = all_stay_drawn; all = λ fs. beside (indices_of_all (evened_shells fs)) (largest_count fs) fs }
+
+-- fonts without tags whose states are among those of one font are even with it
+each_even : (j : FontValue) (fs : List FontValue) → AllByRecursion (Below profile j) fs → AllByRecursion IsUntagged fs → AllByRecursion (IsEvenWith j) fs
+each_even j [] b u = tt
+each_even j (f ∷ fs) b u =
+    let shared = shared_to f j b.0.0.0.0 in
+    (record { head = u.0; count = ap (λ (s : Shell). declared_count s.subrs) shared.shells; present = shared.present }, each_even j fs b.1 u.1)
+
+pub merging_fonts_are_even : MergingFontsAreEven
+merging_fonts_are_even t j h u = even_fonts_stay j (leaves t) (each_even j (leaves t) (all_leaves (Below profile j) t (above profile t j h)) u)

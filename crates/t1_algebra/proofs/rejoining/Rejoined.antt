@@ -1,5 +1,5 @@
 -- Truncated subsets that are made even merge to the subset over all their names, cut to the largest count and without its tag.
-use Rattle.std.proofs.Common.{◌≡◌, ◌≤◌, ℕ, nat_lt, nat_cmp, Bool, true, false, cond, List, [], ◌∷◌, map, refl, sym, ◌∙◌, ap, subst, Option, Some, None, option_map, is_some, unwrap_or, inl, inr, arith, IsPermutation}
+use Rattle.std.proofs.Common.{◌≡◌, ◌≤◌, ℕ, nat_lt, nat_cmp, true, cond, List, [], ◌∷◌, map, refl, sym, ◌∙◌, ap, subst, Option, Some, None, option_map, unwrap_or, arith, IsPermutation}
 use Rattle.std.proofs.lemmas.Bool.{ltb-true, lt-ltb}
 use Rattle.std.specs.List.{list_any, AllByRecursion}
 use Rattle.std.specs.Cmp.{nat_cmp_total}
@@ -12,36 +12,29 @@ use Rattle.t1_font.specs.IsFont.{IsFont, IsWord, IsPhrase, SubrsFit, SubrWords}
 use Rattle.t1_font.specs.Evening.{evened}
 use Rattle.t1_font.proofs.even_fonts.Evened.{even_is_font}
 use Rattle.t1_font.proofs.MapLemmas.{get-retain, find_first, total-le, Some_None}
-use Rattle.t1_algebra.specs.Interpreter.{Names, Numbers, same_bytes}
-use Rattle.t1_algebra.specs.Keep.{keep, kept, subset, components}
-use Rattle.t1_algebra.specs.Outcomes.{seen}
+use Rattle.t1_algebra.specs.Interpreter.{Names, same_bytes}
+use Rattle.t1_algebra.specs.Keep.{keep, kept, subset, components, has}
+use Rattle.t1_algebra.specs.Outcomes.{component_outcome}
 use Rattle.t1_algebra.specs.Profile.{profile}
 use Rattle.t1_algebra.specs.Laws.{IsOf, DrawsAlike}
 use Rattle.t1_join.specs.Groupings.{Grouping, one, leaves, from_left}
 use Rattle.t1_algebra.specs.Merges.{MergesTo}
-use Rattle.t1_algebra.specs.Rejoins.{declares, cut_to, without_tag, Truncated, IsTruncated, fonts_of, sets_of, names_of_all, largest, shared_font, rejoined, Rejoins, TruncatedSubsetsRejoin}
-use Rattle.t1_algebra.proofs.Alike.{subset_alike}
-use Rattle.t1_algebra.proofs.rejoining.CutCounts.{KeepsBelow, keep_same, subrs_below}
-use Rattle.t1_algebra.proofs.CutFonts.{cond_some}
-use Rattle.t1_algebra.proofs.Drawings.{seen_alike}
+use Rattle.t1_algebra.specs.Rejoins.{declares, Truncated, IsTruncated, fonts_of, sets_of, names_of_all, largest, shared_font, rejoined, Rejoins, TruncatedSubsetsRejoin}
+use Rattle.t1_algebra.proofs.Drawings.{subset_alike, alike}
 use Rattle.t1_algebra.proofs.Fonts.{subset_is_font, any_order_of_fonts}
 use Rattle.t1_algebra.proofs.Kept.{keep_closed, keep_more, kept_more, kept_union, component_here_from}
 use Rattle.t1_algebra.proofs.ManyMerges.{alike_trans, each_font}
 use Rattle.t1_join.proofs.OrderLemmas.{leaves_from_left}
 use Rattle.t1_algebra.proofs.ManyMerges.{all_merge}
-use Rattle.t1_algebra.proofs.Pictures.{runs_by_rules, pictures_alike, pictures3_alike}
-use Rattle.t1_algebra.proofs.Sets.{clash, in_union, name_same}
-use Rattle.t1_algebra.proofs.rejoining.Truncated.{WordsOf, words_empty, get_nothing, get_font, largest_fits, all_fit, Fits, keeps, none_either_way, cut_subset, evened_is}
+use Rattle.t1_algebra.proofs.Sets.{clash, cases}
+use Rattle.t1_algebra.proofs.rejoining.Truncated.{WordsOf, words_empty, get_nothing, get_font, largest_fits, all_fit, Fits, cut_subset, evened_is, KeepsBelow, keep_same, subrs_below, runs_below, first_of}
+use Rattle.t1_algebra.proofs.Subsets.{cond_some}
 
 -- ---- tables without entries
 
 -- a map that has nothing at any key has no entries
 entries_none : (m : Numbered) → ((q : ℕ) → maps.get m q ≡ None) → maps.entries m ≡ []
-entries_none m h = by_entries (maps.entries m) refl
-  where
-    by_entries : (es : List (ℕ × List ℕ)) → maps.entries m ≡ es → es ≡ []
-    by_entries [] e = refl
-    by_entries (x ∷ es) e = Some_None (sym (maps.get-entries m x.0 ∙ (ap (maps.find nat_cmp x.0) e ∙ find_first nat_cmp_total nat_cmp-IsAntisymmetric x es)) ∙ h x.0)
+entries_none m h = ap maps.entries (maps.same_map nat_cmp_total nat_cmp-IsAntisymmetric m (maps.from_sorted []) (λ q. h q ∙ sym (maps.get-from_sorted nat_cmp [] q tt))) ∙ maps.entries-from_sorted nat_cmp [] tt
 
 -- a table with entries has words to write them
 some_words : (k : ℕ) (v : List ℕ) (es : List (ℕ × List ℕ)) (s : SubrsShell) → maps.find nat_cmp k es ≡ Some v → SubrWords es s → IsWord 32 s.rd × IsPhrase true s.put
@@ -51,56 +44,43 @@ some_words k v (x ∷ es) s e h = h
 -- ---- the shared font is a font
 
 module _ (f : FontValue) (h : IsFont f) (most : ℕ) (fits : most ≤ declared_count f.shell.subrs) (t : Truncated) (w : IsTruncated f t) (le : t.count ≤ most) where
-  -- the font without its tag, cut to the largest count
-  abbrev first : FontValue
-  first = cut_to most (without_tag f)
-
-  get_first : (q : ℕ) → maps.get first.subrs q ≡ cond (nat_lt q most) (maps.get f.subrs q) None
+  get_first : (q : ℕ) → maps.get (first_of most f).subrs q ≡ cond (nat_lt q most) (maps.get f.subrs q) None
   get_first q = get-retain nat_cmp_total nat_cmp-IsAntisymmetric f.subrs (λ i. nat_lt i most) q
 
   -- an entry of the cut font is one of the font, below the count
-  had : (q : ℕ) (c : List ℕ) → maps.get first.subrs q ≡ Some c → (nat_lt q most ≡ true) × (maps.get f.subrs q ≡ Some c)
+  had : (q : ℕ) (c : List ℕ) → maps.get (first_of most f).subrs q ≡ Some c → (nat_lt q most ≡ true) × (maps.get f.subrs q ≡ Some c)
   had q c e = cond_some (nat_lt q most) (maps.get f.subrs q) c (sym (get_first q) ∙ e)
 
-  -- an entry is lacking in the subset if it is lacking in the shared font
-  none_there : (k : List ℕ → List ℕ) (b d : Bool) (x : Option (List ℕ)) → (b ≡ true → d ≡ true) → cond d x None ≡ None → cond b (option_map k x) None ≡ None
-  none_there k b d None low e = elim b as (λ b. ◌≡◌ {A = Option (List ℕ)} (cond b None None) None) [ true ↦ refl | false ↦ refl ]
-  none_there k false d (Some c) low e = refl
-  none_there k true d (Some c) low e = Some_None (sym (ap (λ b. cond b (Some c) None) (low refl)) ∙ e)
-
-  below_most : (q : ℕ) → nat_lt q t.count ≡ true → nat_lt q most ≡ true
-  below_most q b = lt-ltb q most (omega (arith, ltb-true q t.count b, le))
-
   -- if the shared font has no entries, the subset has none
-  no_entries_there : maps.entries first.subrs ≡ [] → maps.entries t.font.subrs ≡ []
+  no_entries_there : maps.entries (first_of most f).subrs ≡ [] → maps.entries t.font.subrs ≡ []
   no_entries_there e = entries_none t.font.subrs (λ q.
-      get_font f t w q ∙ none_there (keeps f t.names q) (nat_lt q t.count) (nat_lt q most) (maps.get f.subrs q) (below_most q) (sym (get_first q) ∙ get_nothing first.subrs e q))
+      grind (cases, get_font f t w q, get_first q, get_nothing (first_of most f).subrs e q, le, ltb-true q t.count, lt-ltb q most))
 
   -- the words of a table fit the entries of the cut font
-  words_first : (s : SubrsShell) → (maps.entries first.subrs ≡ [] → WordsOf [] (Some s)) → SubrsFit f.shell (Some s) f.subrs → (es : List (ℕ × List ℕ)) → maps.entries first.subrs ≡ es → SubrWords es (declares most s)
+  words_first : (s : SubrsShell) → (maps.entries (first_of most f).subrs ≡ [] → WordsOf [] (Some s)) → SubrsFit f.shell (Some s) f.subrs → (es : List (ℕ × List ℕ)) → maps.entries (first_of most f).subrs ≡ es → SubrWords es (declares most s)
   words_first s empty fit [] is = empty is
   words_first s empty fit (x ∷ es) is =
-      let there : maps.get first.subrs x.0 ≡ Some x.1 = maps.get-entries first.subrs x.0 ∙ (ap (maps.find nat_cmp x.0) is ∙ find_first nat_cmp_total nat_cmp-IsAntisymmetric x es) in
+      let there : maps.get (first_of most f).subrs x.0 ≡ Some x.1 = maps.get-entries (first_of most f).subrs x.0 ∙ (ap (maps.find nat_cmp x.0) is ∙ find_first nat_cmp_total nat_cmp-IsAntisymmetric x es) in
       some_words x.0 x.1 (maps.entries f.subrs) s (sym (maps.get-entries f.subrs x.0) ∙ (had x.0 x.1 there).1) fit.words
 
   -- the table of Subrs fits in the cut font
-  subrs_fit : (o : Option SubrsShell) → SubrsFit f.shell o f.subrs → most ≤ declared_count o → (maps.entries first.subrs ≡ [] → WordsOf [] o) → SubrsFit first.shell (option_map (declares most) o) first.subrs
+  subrs_fit : (o : Option SubrsShell) → SubrsFit f.shell o f.subrs → most ≤ declared_count o → (maps.entries (first_of most f).subrs ≡ [] → WordsOf [] o) → SubrsFit (first_of most f).shell (option_map (declares most) o) (first_of most f).subrs
   subrs_fit None fit few empty =
-      (entries_none first.subrs (λ q. get_first q ∙ (ap (λ x. cond (nat_lt q most) x None) (get_nothing f.subrs fit.0 q) ∙ none_either_way (nat_lt q most))), fit.1)
+      (entries_none (first_of most f).subrs (λ q. grind (cases, get_first q, get_nothing f.subrs fit.0 q)), fit.1)
   subrs_fit (Some s) fit few empty = record {
     declared = omega (arith, few, fit.declared);
     below = λ q c e. ltb-true q most (had q c e).0;
     bodies = λ q c e. fit.bodies q c (had q c e).1;
-    words = words_first s empty fit (maps.entries first.subrs) refl;
+    words = words_first s empty fit (maps.entries (first_of most f).subrs) refl;
     closing = fit.closing;
   }
 
   -- the Subrs of the cut font weigh no more
-  fewer : total (subr_weight f.shell.len_iv) (maps.entries first.subrs) ≤ total (subr_weight f.shell.len_iv) (maps.entries f.subrs)
-  fewer = total-le nat_cmp_total nat_cmp-IsAntisymmetric (subr_weight f.shell.len_iv) (subr_weight f.shell.len_iv) first.subrs f.subrs (λ q c e. (c, (had q c e).1, omega arith))
+  fewer : total (subr_weight f.shell.len_iv) (maps.entries (first_of most f).subrs) ≤ total (subr_weight f.shell.len_iv) (maps.entries f.subrs)
+  fewer = total-le nat_cmp_total nat_cmp-IsAntisymmetric (subr_weight f.shell.len_iv) (subr_weight f.shell.len_iv) (first_of most f).subrs f.subrs (λ q c e. (c, (had q c e).1, omega arith))
 
   -- the cut font is a font
-  pub first_is_font : IsFont first
+  pub first_is_font : IsFont (first_of most f)
   first_is_font =
       let k = even_is_font 0 f (omega arith) h in
       let p = h.private in
@@ -131,47 +111,24 @@ module _ (f : FontValue) (h : IsFont f) (most : ℕ) where
   all_low (t ∷ ts) e w =
       let rest = all_low ts e w.1 in
       let both = kept_union profile f t.names (names_of_all ts) h.glyphs.notdef w.0.0.names rest.1 in (
-        λ i k p. elim (in_union nat_cmp_total nat_cmp-IsAntisymmetric (kept profile f t.names) (kept profile f (names_of_all ts)) i (ap (λ (s : Numbers). sets.contains s i) (sym both) ∙ k)) [
-          | inl x ↦ omega (arith, w.0.0.kept i x p, w.0.1)
-          | inr y ↦ rest.0 i y p
-        ],
-        λ n k. elim (in_union nat_list_cmp_total name_same t.names (names_of_all ts) n k) [ inl x ↦ w.0.0.names n x | inr y ↦ rest.1 n y ],
+        λ i k p. grind (cases, both, sets.contains-union nat_cmp_total (kept profile f t.names) (kept profile f (names_of_all ts)) i, w.0.0.kept i, w.0.1, rest.0 i, k, p),
+        λ n k. grind (cases, sets.contains-union nat_list_cmp_total t.names (names_of_all ts) n, w.0.0.names n, rest.1 n, k),
       )
 
   -- a kept glyph draws in the cut font as it does in the font
   module _ (a : Names) (inside : IsOf f a) (low : KeepsBelow profile f most a) where
-    -- the font without its tag, cut to its first Subrs
-    abbrev start : FontValue
-    start = cut_to most (without_tag f)
-
-    same_there : (n c : List ℕ) → sets.contains (keep profile f a) n ≡ true → maps.get f.glyphs n ≡ Some c → (i : ℕ) → sets.contains (profile.exec f.subrs c) i ≡ true → maps.get start.subrs i ≡ maps.get f.subrs i
+    same_there : (n c : List ℕ) → sets.contains (keep profile f a) n ≡ true → maps.get f.glyphs n ≡ Some c → (i : ℕ) → sets.contains (profile.exec f.subrs c) i ≡ true → maps.get (first_of most f).subrs i ≡ maps.get f.subrs i
     same_there n c k is i e = subrs_below profile f h.glyphs.notdef most a inside low n k i (ap (λ x. sets.contains (profile.exec f.subrs (unwrap_or x [])) i) is ∙ e)
 
-    direct_there : (n c : List ℕ) → sets.contains (keep profile f a) n ≡ true → maps.get f.glyphs n ≡ Some c → profile.direct start.subrs c ≡ profile.direct f.subrs c
-    direct_there n c k is = (profile.local f.subrs start.subrs c (same_there n c k is)).0
-
     -- a component of a kept glyph comes to the same in the cut font
-    component_there : (n c p : List ℕ) → sets.contains (keep profile f a) n ≡ true → maps.get f.glyphs n ≡ Some c → list_any (same_bytes p) (components profile f.subrs c) ≡ true
-        → (x : Option (List ℕ)) → maps.get f.glyphs p ≡ x → option_map (profile.direct start.subrs) x ≡ option_map (profile.direct f.subrs) x
-    component_there n c p k is e None hx = refl
-    component_there n c p k is e (Some d) hx =
-        let part = (keep_closed profile f a h.glyphs.notdef inside).components n p k (component_here_from profile f n p (ap (λ x. list_any (same_bytes p) (components profile f.subrs (unwrap_or x []))) is ∙ e) (ap is_some hx)) in
-        ap Some (direct_there p d part hx)
-
-    drawn_there : (n : List ℕ) → sets.contains (keep profile f a) n ≡ true → (x : Option (List ℕ)) → maps.get f.glyphs n ≡ x → option_map (seen profile start) x ≡ option_map (seen profile f) x
-    drawn_there n k None is = refl
-    drawn_there n k (Some c) is = ap Some (seen_alike profile f start c (direct_there n c k is) (λ p e. component_there n c p k is e (maps.get f.glyphs p) refl))
+    component_there : (n c p : List ℕ) → sets.contains (keep profile f a) n ≡ true → maps.get f.glyphs n ≡ Some c → list_any (same_bytes p) (components profile f.subrs c) ≡ true → component_outcome profile (first_of most f) p ≡ component_outcome profile f p
+    component_there n c p k is e =
+        let part = λ (d : has f p ≡ true). (keep_closed profile f a h.glyphs.notdef inside).components n p k (component_here_from profile f n p (ap (λ x. list_any (same_bytes p) (components profile f.subrs (unwrap_or x []))) is ∙ e) d) in
+        grind (cases, part, runs_below profile f h.glyphs.notdef most a inside low p)
 
     -- a kept glyph draws alike in the cut font
-    pub start_alike : (n : List ℕ) → sets.contains (keep profile f a) n ≡ true → DrawsAlike f start n
-    start_alike n k = record {
-      charstring = refl;
-      answer = λ c is. (runs_by_rules f.subrs start.subrs c (same_there n c k is)).0;
-      answer3 = λ c is. (runs_by_rules f.subrs start.subrs c (same_there n c k is)).1;
-      executes = λ c is. (runs_by_rules f.subrs start.subrs c (same_there n c k is)).2;
-      draws = pictures_alike start f n (drawn_there n k (maps.get f.glyphs n) refl);
-      draws3 = pictures3_alike start f n (drawn_there n k (maps.get f.glyphs n) refl);
-    }
+    pub start_alike : (n : List ℕ) → sets.contains (keep profile f a) n ≡ true → DrawsAlike f (first_of most f) n
+    start_alike n k = alike f (first_of most f) n refl (λ c is. same_there n c k is) (λ c p is w. component_there n c p k is w)
 
 -- ---- merges
 

@@ -1,27 +1,57 @@
--- Truncated subsets that are made even are subsets of one font.
-use Rattle.std.proofs.Common.{◌≡◌, ◌<◌, ◌≤◌, ℕ, max, nat_lt, nat_cmp, Bool, true, false, ◌||◌, cond, List, [], ◌∷◌, map, length, refl, sym, ◌∙◌, ap, subst, Option, Some, None, option_map, is_some, inl, inr, arith}
-use Rattle.std.proofs.lemmas.Bool.{ltb-true, ltb-false, lt-ltb, le-ltb}
+-- Fonts cut to their first Subrs keep and draw what they did, and truncated subsets that are made even are subsets of one font.
+use Rattle.std.proofs.Common.{◌≡◌, ◌<◌, ℕ, nat_lt, true, false, cond, List, refl, sym, ◌∙◌, ap, Option, Some, None, is_some, filter, arith, ◌≤◌, max, nat_cmp, Bool, [], ◌∷◌, map, length, subst, option_map}
+use Rattle.std.proofs.lemmas.Bool.{lt-ltb, ltb-true, ltb-false}
+use Rattle.std.specs.Cmp.{nat_cmp_total}
+use Rattle.std.specs.FinSet.{nat_cmp-IsAntisymmetric}
+use Rattle.t1_font.specs.FontValue.{FontValue, notdef, Shell, SubrsShell, Numbered, declared_count}
+use Rattle.t1_font.proofs.MapLemmas.{get-retain, get-map_values}
+use Rattle.t1_algebra.specs.Interpreter.{Interpreter, Names}
+use Rattle.t1_algebra.specs.Keep.{keep, kept, components_here, has, charstring, subset}
+use Rattle.t1_algebra.specs.Rejoins.{cut_to, without_tag, declares, Truncated, IsTruncated, fonts_of, sets_of, largest, shared_font}
+use Rattle.t1_algebra.proofs.Kept.{InFont, keep_has, kept_call, keep_alike, kept_alike}
+use Rattle.t1_algebra.proofs.Sets.{clash, any_filter, any_filter_from, cases}
 use Rattle.std.specs.List.{list_any, AllByRecursion}
 use Rattle.std.specs.Ordering.{eq_by_cmp}
-use Rattle.std.specs.Cmp.{nat_cmp_total}
-use Rattle.std.specs.FinMap as maps
-use Rattle.std.specs.FinSet as sets
-use Rattle.std.specs.FinSet.{nat_cmp-IsAntisymmetric}
-use Rattle.t1_font.specs.FontValue.{FontValue, Shell, SubrsShell, Numbered, declared_count}
 use Rattle.t1_font.specs.IsFont.{IsFont, SubrsFit, SubrWords}
 use Rattle.t1_font.specs.Tags.{untagged_head}
 use Rattle.t1_font.specs.Cut.{stub, restrict_encoding}
 use Rattle.t1_font.specs.Evening.{raised, even_shell, even, stubs_at, below, with_stubs, filled, largest_count, indices_of_all, evened}
-use Rattle.t1_font.proofs.MapLemmas.{get-map_values, get-retain}
-use Rattle.t1_algebra.specs.Interpreter.{Names, Numbers}
-use Rattle.t1_algebra.specs.Keep.{keep, kept, subset}
 use Rattle.t1_algebra.specs.Profile.{profile}
 use Rattle.t1_algebra.specs.States.{joined}
 use Rattle.t1_algebra.specs.Laws.{IsOf}
-use Rattle.t1_algebra.specs.Rejoins.{declares, cut_to, without_tag, Truncated, IsTruncated, fonts_of, sets_of, largest, shared_font}
-use Rattle.t1_algebra.proofs.rejoining.CutCounts.{KeepsBelow, keep_same, kept_same}
-use Rattle.t1_algebra.proofs.Maps.{get-merged, maps_same}
-use Rattle.t1_algebra.proofs.Sets.{is_or_not, not_so, clash, any_append, any_append_left, any_append_right, any_filter, any_filter_from}
+use Rattle.t1_algebra.proofs.Maps.{get-merged, get-valued}
+use Rattle.std.specs.FinMap as maps
+use Rattle.std.specs.FinSet as sets
+use Rattle.std.proofs.lemmas.List.Folds.{list_any-append}
+
+-- the font without its tag, cut to its first Subrs
+abbrev pub first_of : ℕ → FontValue → FontValue
+first_of count f = cut_to count (without_tag f)
+
+-- the names keep no Subr of the font at the count or above it
+abbrev pub KeepsBelow : {O : Type 0} → Interpreter O → FontValue → ℕ → Names → Type 0
+KeepsBelow m f count a = (i : ℕ) → sets.contains (kept m f a) i ≡ true → maps.contains_key f.subrs i ≡ true → i < count
+
+module _ {O : Type 0} (m : Interpreter O) (f : FontValue) (base : has f notdef ≡ true) (count : ℕ) (a : Names) (inside : InFont m f a) (low : KeepsBelow m f count a) where
+  -- the Subrs that a kept glyph executes are as before
+  pub subrs_below : (n : List ℕ) → sets.contains (keep m f a) n ≡ true → (i : ℕ) → sets.contains (m.exec f.subrs (charstring f n)) i ≡ true → maps.get (first_of count f).subrs i ≡ maps.get f.subrs i
+  subrs_below n k i w = grind (cases, get-retain nat_cmp_total nat_cmp-IsAntisymmetric f.subrs (λ i. nat_lt i count) i, low i (kept_call m f a i n k w), lt-ltb i count)
+
+  -- a kept glyph runs in the cut font as before
+  pub runs_below : (n : List ℕ) → sets.contains (keep m f a) n ≡ true → (m.direct (first_of count f).subrs (charstring f n) ≡ m.direct f.subrs (charstring f n)) × (m.exec (first_of count f).subrs (charstring f n) ≡ m.exec f.subrs (charstring f n))
+  runs_below n k = m.local f.subrs (first_of count f).subrs (charstring f n) (subrs_below n k)
+
+  -- a kept glyph has the same components in the cut font
+  components_same : (n : List ℕ) → sets.contains (keep m f a) n ≡ true → components_here m (first_of count f) n ≡ components_here m f n
+  components_same n k = ap (λ d. sets.from_list (filter (has f) (m.names d))) (runs_below n k).0
+
+  -- the cut font keeps the same names
+  pub keep_same : keep m (first_of count f) a ≡ keep m f a
+  keep_same = keep_alike m f (first_of count f) a base inside base inside (keep_has m f a) components_same (λ n k. (runs_below n k).1)
+
+  -- the cut font keeps the same Subrs
+  pub kept_same : kept m (first_of count f) a ≡ kept m f a
+  kept_same = kept_alike m f (first_of count f) a base inside base inside (keep_has m f a) components_same (λ n k. (runs_below n k).1)
 
 -- ---- what a cut subset has
 
@@ -33,10 +63,6 @@ keeps f a q c = cond (sets.contains (kept profile f a) q) c stub
 abbrev pub entry_in : FontValue → Names → ℕ → ℕ → Option (List ℕ) → Option (List ℕ)
 entry_in f a n q x = cond (nat_lt q n) (option_map (keeps f a q) x) None
 
-map_cond : (k : List ℕ → List ℕ) (b : Bool) (x : Option (List ℕ)) → option_map k (cond b x None) ≡ cond b (option_map k x) None
-map_cond k true x = refl
-map_cond k false x = refl
-
 -- a subset cut to a count has that entry at each index
 pub get_cut : (f : FontValue) (n : ℕ) (a : Names) (q : ℕ) → maps.get (maps.retain_keys (subset profile f a).subrs (λ i. nat_lt i n)) q ≡ entry_in f a n q (maps.get f.subrs q)
 get_cut f n a q = get-retain nat_cmp_total nat_cmp-IsAntisymmetric (subset profile f a).subrs (λ i. nat_lt i n) q
@@ -44,43 +70,30 @@ get_cut f n a q = get-retain nat_cmp_total nat_cmp-IsAntisymmetric (subset profi
 
 -- the subset of the cut font is the cut subset
 module _ (f : FontValue) (h : IsFont f) (n : ℕ) (a : Names) (inside : IsOf f a) (low : KeepsBelow profile f n a) where
-  -- the font without its tag, cut to its first Subrs
-  abbrev first : FontValue
-  first = cut_to n (without_tag f)
-
-  names_same : keep profile first a ≡ keep profile f a
+  names_same : keep profile (first_of n f) a ≡ keep profile f a
   names_same = keep_same profile f h.glyphs.notdef n a inside low
 
-  subrs_same : (q : ℕ) → maps.get (subset profile first a).subrs q ≡ maps.get (maps.retain_keys (subset profile f a).subrs (λ i. nat_lt i n)) q
+  subrs_same : (q : ℕ) → maps.get (subset profile (first_of n f) a).subrs q ≡ maps.get (maps.retain_keys (subset profile f a).subrs (λ i. nat_lt i n)) q
   subrs_same q =
-      get-map_values nat_cmp_total nat_cmp-IsAntisymmetric (keeps first a) first.subrs q
-      ∙ ap (λ (s : Numbers). option_map (λ c. cond (sets.contains s q) c stub) (maps.get first.subrs q)) (kept_same profile f h.glyphs.notdef n a inside low)
-      ∙ ap (option_map (keeps f a q)) (get-retain nat_cmp_total nat_cmp-IsAntisymmetric f.subrs (λ i. nat_lt i n) q)
-      ∙ map_cond (keeps f a q) (nat_lt q n) (maps.get f.subrs q)
-      ∙ sym (get_cut f n a q)
+      let first = get-retain nat_cmp_total nat_cmp-IsAntisymmetric f.subrs (λ i. nat_lt i n) q in
+      grind (cases, get-map_values nat_cmp_total nat_cmp-IsAntisymmetric (keeps (first_of n f) a) (first_of n f).subrs q, first, get_cut f n a q, kept_same profile f h.glyphs.notdef n a inside low)
 
   -- the subset of the cut font is the subset, without its tag and cut as the font is
-  pub cut_subset : subset profile first a ≡ cut_to n (without_tag (subset profile f a))
+  pub cut_subset : subset profile (first_of n f) a ≡ cut_to n (without_tag (subset profile f a))
   cut_subset =
-      let subrs = maps_same nat_cmp_total nat_cmp-IsAntisymmetric (subset profile first a).subrs (maps.retain_keys (subset profile f a).subrs (λ i. nat_lt i n)) subrs_same in
-      λ i. record { shell = first.shell; encoding = restrict_encoding (sets.contains (names_same i)) f.encoding; subrs = subrs i; glyphs = maps.retain_keys f.glyphs (sets.contains (names_same i)) }
+      let subrs = maps.same_map nat_cmp_total nat_cmp-IsAntisymmetric (subset profile (first_of n f) a).subrs (maps.retain_keys (subset profile f a).subrs (λ i. nat_lt i n)) subrs_same in
+      λ i. record { shell = (first_of n f).shell; encoding = restrict_encoding (sets.contains (names_same i)) f.encoding; subrs = subrs i; glyphs = maps.retain_keys f.glyphs (sets.contains (names_same i)) }
 
 -- ---- counts
 
--- a table cut to n declares n, if it declared no fewer
-declared_of : (n : ℕ) (s : Option SubrsShell) → n ≤ declared_count s → declared_count (option_map (declares n) s) ≡ n
-declared_of n None le = omega (arith, le)
-declared_of n (Some s) le = refl
-
 -- a table cut to n and raised to a larger count is the table cut to that count
 raised_declares : (most n : ℕ) (s : Option SubrsShell) → n ≤ most → option_map (raised most) (option_map (declares n) s) ≡ option_map (declares most) s
-raised_declares most n None le = refl
-raised_declares most n (Some s) le = let e : max most n ≡ most = omega (arith, le) in ap (λ (d : ℕ). Some (declares d s)) e
+raised_declares most n s le = grind cases
 
 module _ (f : FontValue) where
   -- a truncated subset declares its count
   pub count_is : (t : Truncated) → IsTruncated f t → declared_count t.font.shell.subrs ≡ t.count
-  count_is t w = ap (λ (g : FontValue). declared_count g.shell.subrs) w.others ∙ declared_of t.count f.shell.subrs w.count
+  count_is t w = grind (cases, ap (λ (g : FontValue). declared_count g.shell.subrs) w.others, w.count)
 
   -- the largest count that is declared is the largest of the counts
   pub largest_is : (ts : List Truncated) → AllByRecursion (IsTruncated f) ts → largest_count (fonts_of ts) ≡ largest ts
@@ -107,16 +120,6 @@ module _ (f : FontValue) where
   pub get_font : (t : Truncated) → IsTruncated f t → (q : ℕ) → maps.get t.font.subrs q ≡ entry_in f t.names t.count q (maps.get f.subrs q)
   get_font t w q = ap (λ (g : FontValue). maps.get g.subrs q) w.others ∙ get_cut f t.count t.names q
 
-  entry_from : (k : List ℕ → List ℕ) (b : Bool) (x : Option (List ℕ)) → is_some (cond b (option_map k x) None) ≡ true → is_some x ≡ true
-  entry_from k b (Some c) h = refl
-  entry_from k true None h = h
-  entry_from k false None h = h
-
-  entry_there : (k : List ℕ → List ℕ) (b : Bool) (x : Option (List ℕ)) → b ≡ true → is_some x ≡ true → is_some (cond b (option_map k x) None) ≡ true
-  entry_there k true (Some c) e h = refl
-  entry_there k true None e h = h
-  entry_there k false x e h = clash false e refl
-
   -- the indices of the Subrs of all fonts, made even
   abbrev all_indices : ℕ → List Truncated → List ℕ
   all_indices most ts = indices_of_all (map (even most) (fonts_of ts))
@@ -127,33 +130,12 @@ module _ (f : FontValue) where
   -- the indices of all fonts include each index of the font below the largest count
   reached : (most : ℕ) (ts : List Truncated) → AllByRecursion (IsTruncated f) ts → (q : ℕ) → q < largest ts → maps.contains_key f.subrs q ≡ true → listed q (all_indices most ts) ≡ true
   reached most [] w q lt is = absurd (omega (arith, lt))
-  reached most (t ∷ ts) w q lt is = elim (is_or_not (nat_lt q t.count)) [
-    | inl b ↦ any_append_left (eq_by_cmp nat_cmp q) (maps.keys t.font.subrs) (all_indices most ts)
-        (sym (maps.contains_key-keys t.font.subrs q) ∙ (ap is_some (get_font t w.0 q) ∙ entry_there (keeps f t.names q) (nat_lt q t.count) (maps.get f.subrs q) b is))
-    | inr b ↦ any_append_right (eq_by_cmp nat_cmp q) (maps.keys t.font.subrs) (all_indices most ts)
-        (reached most ts w.1 q (omega (arith, lt, ltb-false q t.count b)) is)
-  ]
+  reached most (t ∷ ts) w q lt is = grind (cases, lt, is, list_any-append (eq_by_cmp nat_cmp q) (maps.keys t.font.subrs) (all_indices most ts), maps.contains_key-keys t.font.subrs q, get_font t w.0 q, reached most ts w.1 q, ltb-false q t.count)
 
   -- each of the indices of all fonts is an index of the font
   from_indices : (most : ℕ) (ts : List Truncated) → AllByRecursion (IsTruncated f) ts → (q : ℕ) → listed q (all_indices most ts) ≡ true → maps.contains_key f.subrs q ≡ true
   from_indices most [] w q l = clash false l refl
-  from_indices most (t ∷ ts) w q l = elim (any_append (eq_by_cmp nat_cmp q) (maps.keys t.font.subrs) (all_indices most ts) l) [
-    | inl a ↦ entry_from (keeps f t.names q) (nat_lt q t.count) (maps.get f.subrs q) (ap is_some (sym (get_font t w.0 q)) ∙ (maps.contains_key-keys t.font.subrs q ∙ a))
-    | inr b ↦ from_indices most ts w.1 q b
-  ]
-
--- ---- stubs
-
-find_stubs : (indices : List ℕ) (q : ℕ) → maps.find nat_cmp q (map (λ i. (i, stub)) indices) ≡ cond (list_any (eq_by_cmp nat_cmp q) indices) (Some stub) None
-find_stubs [] q = refl
-find_stubs (i ∷ is) q = elim (eq_by_cmp nat_cmp q i) as (λ b. cond b (Some stub) (maps.find nat_cmp q (map (λ i. (i, stub)) is)) ≡ cond (b || list_any (eq_by_cmp nat_cmp q) is) (Some stub) None) [
-  | true ↦ refl
-  | false ↦ find_stubs is q
-]
-
--- a map of stubs has one at each of its indices, and nothing else
-get_stubs : (indices : List ℕ) (q : ℕ) → maps.get (stubs_at indices) q ≡ cond (list_any (eq_by_cmp nat_cmp q) indices) (Some stub) None
-get_stubs indices q = maps.get-from_entries nat_cmp_total (map (λ i. (i, stub)) indices) q ∙ find_stubs indices q
+  from_indices most (t ∷ ts) w q l = grind (cases, l, list_any-append (eq_by_cmp nat_cmp q) (maps.keys t.font.subrs) (all_indices most ts), maps.contains_key-keys t.font.subrs q, get_font t w.0 q, from_indices most ts w.1 q)
 
 -- ---- tables without entries
 
@@ -186,20 +168,10 @@ no_entries s (Some t) m h e = no_words (maps.entries m) t h.words e.0
 pub get_nothing : (m : Numbered) → maps.entries m ≡ [] → (q : ℕ) → maps.get m q ≡ None
 get_nothing m e q = maps.get-entries m q ∙ ap (maps.find nat_cmp q) e
 
--- nothing is left of nothing, by either test
-pub none_either_way : {X : Type 0} (b : Bool) → ◌≡◌ {A = Option X} (cond b None None) None
-none_either_way true = refl
-none_either_way false = refl
-
 -- a font with entries has a table, so a cut to n declares n
 has_table : (s : Shell) (o : Option SubrsShell) (m : Numbered) → SubrsFit s o m → (q : ℕ) → maps.contains_key m q ≡ true → (n : ℕ) → n ≤ declared_count o → declared_count (option_map (declares n) o) ≡ n
 has_table s None m h q is n le = clash (maps.contains_key m q) is (ap is_some (get_nothing m h.0 q))
 has_table s (Some t) m h q is n le = refl
-
--- a table cut to n declares n at most
-declares_below : (n : ℕ) (o : Option SubrsShell) → declared_count (option_map (declares n) o) ≤ n
-declares_below n None = omega arith
-declares_below n (Some s) = omega arith
 
 module _ (f : FontValue) (h : IsFont f) (most : ℕ) (fits : most ≤ declared_count f.shell.subrs) (t : Truncated) (w : IsTruncated f t) (le : t.count ≤ most) where
   -- if a truncated subset has no entries, the table of the font has no words
@@ -212,31 +184,10 @@ module _ (f : FontValue) (h : IsFont f) (most : ℕ) (fits : most ≤ declared_c
   nothing e = get_nothing f.subrs (no_entries f.shell f.shell.subrs f.subrs h.subrs (words_empty e))
 
   -- the shell of a truncated subset, made even, is that of the cut font
-  shell_same : even_shell most t.font.shell ≡ (cut_to most (without_tag f)).shell
+  shell_same : even_shell most t.font.shell ≡ (first_of most f).shell
   shell_same =
-      let subrs = raised_declares most t.count f.shell.subrs le in
-      (λ i. record {
-        head = w.head i;
-        clear_tail = (w.others i).shell.clear_tail;
-        private = (w.others i).shell.private;
-        middle = (w.others i).shell.middle;
-        tail = (w.others i).shell.tail;
-        len_iv = (w.others i).shell.len_iv;
-        subrs = option_map (raised most) (w.others i).shell.subrs;
-        glyphs_rd = (w.others i).shell.glyphs_rd;
-        glyphs_def = (w.others i).shell.glyphs_def;
-      })
-      ∙ (λ i. record {
-        head = untagged_head f.shell.head;
-        clear_tail = f.shell.clear_tail;
-        private = f.shell.private;
-        middle = f.shell.middle;
-        tail = f.shell.tail;
-        len_iv = f.shell.len_iv;
-        subrs = subrs i;
-        glyphs_rd = f.shell.glyphs_rd;
-        glyphs_def = f.shell.glyphs_def;
-      })
+      (λ i. record (w.others i).shell { head = w.head i; subrs = option_map (raised most) (w.others i).shell.subrs })
+      ∙ (λ i. record f.shell { head = untagged_head f.shell.head; subrs = raised_declares most t.count f.shell.subrs le i })
 
   -- how many Subrs are declared once the font is made even
   abbrev declared : ℕ
@@ -246,7 +197,7 @@ module _ (f : FontValue) (h : IsFont f) (most : ℕ) (fits : most ≤ declared_c
   declared_is = ap (λ (s : Shell). declared_count s.subrs) shell_same
 
   declared_low : declared ≤ most
-  declared_low = subst (λ (n : ℕ). n ≤ most) (sym declared_is) (declares_below most f.shell.subrs)
+  declared_low = grind (cases, declared_is)
 
   module _ (indices : List ℕ) (there : (q : ℕ) → q < most → maps.contains_key f.subrs q ≡ true → list_any (eq_by_cmp nat_cmp q) indices ≡ true) (from : (q : ℕ) → list_any (eq_by_cmp nat_cmp q) indices ≡ true → maps.contains_key f.subrs q ≡ true) where
     -- the indices that are then declared
@@ -259,69 +210,35 @@ module _ (f : FontValue) (h : IsFont f) (most : ℕ) (fits : most ≤ declared_c
     in_both : (q : ℕ) → is_in q ≡ true → (list_any (eq_by_cmp nat_cmp q) indices ≡ true) × (nat_lt q declared ≡ true)
     in_both q l = any_filter nat_cmp_total nat_cmp-IsAntisymmetric (λ i. nat_lt i declared) q indices l
 
-    -- no stub stands where the font has no entry
-    outside : (q : ℕ) → maps.get f.subrs q ≡ None → is_in q ≡ false
-    outside q e = not_so (is_in q) (λ l. clash (maps.contains_key f.subrs q) (from q (in_both q l).0) (ap is_some e))
-
-    -- no stub stands at the count or above it
-    above : (q : ℕ) → nat_lt q most ≡ false → is_in q ≡ false
-    above q e = not_so (is_in q) (λ l. clash (nat_lt q most) (lt-ltb q most (omega (arith, ltb-true q declared (in_both q l).1, declared_low))) e)
-
     -- a stub can stand at each index of the font below the count
     under : (q : ℕ) → q < most → maps.contains_key f.subrs q ≡ true → is_in q ≡ true
     under q lt is = any_filter_from nat_cmp_total nat_cmp-IsAntisymmetric (λ i. nat_lt i declared) q indices (there q lt is)
         (lt-ltb q declared (omega (arith, lt, declared_is, has_table f.shell f.shell.subrs f.subrs h.subrs q is most fits)))
 
-    abbrev with_stub : Bool → Option (List ℕ)
-    with_stub b = cond b (Some stub) None
-
-    both_none : (a b : Bool) → ◌≡◌ {A = Option (List ℕ)} (joined (cond a None None) None) (cond b None None)
-    both_none true true = refl
-    both_none true false = refl
-    both_none false true = refl
-    both_none false false = refl
-
-    -- an entry of the font at the count of the truncated subset or above it is not kept
-    not_kept : (q : ℕ) (c : List ℕ) → maps.get f.subrs q ≡ Some c → nat_lt q t.count ≡ false → sets.contains (kept profile f t.names) q ≡ false
-    not_kept q c is high = not_so (sets.contains (kept profile f t.names) q) (λ k. clash (nat_lt q t.count) (lt-ltb q t.count (w.kept q k (ap is_some is))) high)
-
     -- the entry of a truncated subset, or else a stub, is the entry of the subset cut to the largest count
-    value_same : (q : ℕ) (x : Option (List ℕ)) → maps.get f.subrs q ≡ x → joined (entry_in f t.names t.count q x) (with_stub (is_in q)) ≡ entry_in f t.names most q x
-    value_same q None is = ap (λ b. joined (cond (nat_lt q t.count) None None) (with_stub b)) (outside q is) ∙ both_none (nat_lt q t.count) (nat_lt q most)
-    value_same q (Some c) is = elim (is_or_not (nat_lt q most)) [
-      | inr high ↦
-          let high' : nat_lt q t.count ≡ false = le-ltb q t.count (omega (arith, le, ltb-false q most high)) in
-          (λ i. joined (cond (high' i) (Some (keeps f t.names q c)) None) (with_stub (above q high i))) ∙ ap (λ b. cond b (Some (keeps f t.names q c)) None) (sym high)
-      | inl lt ↦ elim (is_or_not (nat_lt q t.count)) [
-        | inl b ↦ ap (λ b. joined (cond b (Some (keeps f t.names q c)) None) (with_stub (is_in q))) b ∙ ap (λ b. cond b (Some (keeps f t.names q c)) None) (sym lt)
-        | inr b ↦ (λ i. joined (cond (b i) (Some (keeps f t.names q c)) None) (with_stub (under q (ltb-true q most lt) (ap is_some is) i)))
-            ∙ ap (λ b. Some (cond b c stub)) (sym (not_kept q c is b)) ∙ ap (λ b. cond b (Some (keeps f t.names q c)) None) (sym lt)
-      ]
-    ]
+    value_same : (q : ℕ) → joined (entry_in f t.names t.count q (maps.get f.subrs q)) (cond (is_in q) (Some stub) None) ≡ entry_in f t.names most q (maps.get f.subrs q)
+    value_same q = grind (cases, in_both q, from q, ltb-true q declared, declared_low, under q, w.kept q, le, lt-ltb q t.count, ltb-true q t.count, lt-ltb q most, ltb-true q most)
 
     -- the font that is made even has the entry of the subset cut to the largest count at each index
     filled_at : (es : List (ℕ × List ℕ)) → maps.entries t.font.subrs ≡ es → (q : ℕ) → maps.get (with_stubs inside t.font.subrs es) q ≡ entry_in f t.names most q (maps.get f.subrs q)
-    filled_at [] e q = get_nothing t.font.subrs e q ∙ sym (none_either_way (nat_lt q most)) ∙ ap (entry_in f t.names most q) (sym (nothing e q))
-    filled_at (x ∷ es) e q =
-        get-merged nat_cmp_total nat_cmp-IsAntisymmetric t.font.subrs (stubs_at inside) q
-        ∙ (λ i. joined (get_font f t w q i) (get_stubs inside q i))
-        ∙ value_same q (maps.get f.subrs q) refl
+    filled_at [] e q = grind (cases, get_nothing t.font.subrs e q, nothing e q)
+    filled_at (x ∷ es) e q = grind (cases, get-merged nat_cmp_total nat_cmp-IsAntisymmetric t.font.subrs (stubs_at inside) q, get_font f t w q, get-valued nat_cmp_total stub inside q, value_same q)
 
     -- the truncated subset, made even, is the subset without its tag, cut to the largest count
     pub made_is : filled indices (even most t.font) ≡ cut_to most (without_tag (subset profile f t.names))
     made_is =
-        let subrs = maps_same nat_cmp_total nat_cmp-IsAntisymmetric (filled indices (even most t.font)).subrs (maps.retain_keys (subset profile f t.names).subrs (λ i. nat_lt i most))
+        let subrs = maps.same_map nat_cmp_total nat_cmp-IsAntisymmetric (filled indices (even most t.font)).subrs (maps.retain_keys (subset profile f t.names).subrs (λ i. nat_lt i most))
         (λ q. filled_at (maps.entries t.font.subrs) refl q ∙ sym (get_cut f most t.names q)) in
         λ i. record { shell = shell_same i; encoding = (w.others i).encoding; subrs = subrs i; glyphs = (w.others i).glyphs }
 
     -- the truncated subset, made even, is a subset of the shared font
-    pub made_subset : filled indices (even most t.font) ≡ subset profile (cut_to most (without_tag f)) t.names
+    pub made_subset : filled indices (even most t.font) ≡ subset profile (first_of most f) t.names
     made_subset = made_is ∙ sym (cut_subset f h most t.names w.names (λ i k p. omega (arith, w.kept i k p, le)))
 
 -- ---- the fonts of a list
 
 module _ (f : FontValue) (h : IsFont f) (most : ℕ) (fits : most ≤ declared_count f.shell.subrs) (indices : List ℕ) (there : (q : ℕ) → q < most → maps.contains_key f.subrs q ≡ true → list_any (eq_by_cmp nat_cmp q) indices ≡ true) (from : (q : ℕ) → list_any (eq_by_cmp nat_cmp q) indices ≡ true → maps.contains_key f.subrs q ≡ true) where
-  made_subsets : (ts : List Truncated) → AllByRecursion (Fits f most) ts → map (filled indices) (map (even most) (fonts_of ts)) ≡ map (subset profile (cut_to most (without_tag f))) (sets_of ts)
+  made_subsets : (ts : List Truncated) → AllByRecursion (Fits f most) ts → map (filled indices) (map (even most) (fonts_of ts)) ≡ map (subset profile (first_of most f)) (sets_of ts)
   made_subsets [] w = refl
   made_subsets (t ∷ ts) w = λ i. made_subset f h most fits t w.0.0 w.0.1 indices there from i ∷ made_subsets ts w.1 i
 

@@ -1,4 +1,5 @@
 -- The names of a closure: a list to which names are added at the end, until it is closed; and the cut of a font to it.
+use Rattle.std.proofs.lemmas.Bool.{or_cases, not-false}
 use Rattle.std.proofs.Common.{◌≡◌, ℕ, ◌+◌, ◌<◌, ◌≤◌, Bool, true, false, List, [], ◌∷◌, ◌++◌, refl, sym, ◌∙◌, ap, ◌⊎◌, inl, inr, length, take, cond, arith, length-append, true≢false, get_or, ◌||◌, Some, None, slice_get, not, subst, take_all, filter, is_some, nat_cmp, append_assoc}
 use Rattle.std.specs.List.{list_any, IsDistinct}
 use Rattle.std.proofs.lemmas.Map.Keys.{IsDistinct-push}
@@ -7,7 +8,7 @@ use Rattle.std.specs.Cmp.{eq_by_cmp_equiv, nat_cmp_total}
 use Rattle.std.specs.Cmp.Lexicographic.{nat_list_cmp_total, pointwise, texts_ties}
 use Rattle.t1_algebra.specs.Interpreter.{same_bytes, Interpreter, Names, Numbers}
 use Rattle.t1_subset.specs.ClosureNames.{push_new, push_all}
-use Rattle.t1_algebra.proofs.Sets.{name_same, tied, itself, any_append, any_append_left, any_append_right, here_or, here, later, in_list, any_filter, or_cases, from_in_list, same_members}
+use Rattle.t1_algebra.proofs.Sets.{name_same, tied, itself, any_append, any_append_left, any_append_right, here_or, here, later, in_list, any_filter, from_in_list, same_members}
 use Rattle.std.specs.Prelude.{nat_eq}
 use Rattle.std.specs.Borrow.{Bor}
 use Rattle.indexmap.specs.IndexSet.{insert_key}
@@ -17,7 +18,7 @@ use Rattle.t1_font.specs.FontValue.{FontValue, name_cmp, notdef}
 use Rattle.t1_algebra.specs.Keep.{has, Closed, keep, components, components_here, charstring, kept, subset}
 use Rattle.t1_algebra.specs.Laws.{IsOf, DrawsAlike}
 use Rattle.t1_algebra.specs.Searches.{first_where}
-use Rattle.t1_algebra.proofs.Searching.{none_at_all, not_false}
+use Rattle.t1_algebra.proofs.Searching.{none_at_all}
 use Rattle.std.specs.Map.{lookup}
 use Rattle.std.proofs.lemmas.Map.Steps.{length-le_from_keys}
 use Rattle.std.proofs.lemmas.List.Folds.{list_any_more, list_any_at}
@@ -30,7 +31,7 @@ use Rattle.t1_font.specs.IsFont.{IsFont}
 use Rattle.t1_font.specs.Cut.{set_of_names, restrict}
 use Rattle.t1_algebra.specs.Profile.{profile}
 use Rattle.t1_subset.specs.Calls.{number_set}
-use Rattle.t1_algebra.proofs.Alike.{subset_alike}
+use Rattle.t1_algebra.proofs.Drawings.{subset_alike}
 use Rattle.std.proofs.lemmas.Option.{slice_get_cases}
 
 -- ---- names that are added to a list
@@ -130,7 +131,7 @@ past ns i e = grind (arith, slice_get_cases ns i)
 
 -- if a search for an absent name finds none, the names are the font's
 pub none_absent : (f : FontValue) (ns : List (List ℕ)) → first_where (λ n. not (has f n)) ns ≡ None → IsOf f (sets.from_list ns)
-none_absent f ns h n k = not_false (has f n) (none_at_all nat_list_cmp_total name_same (λ n. not (has f n)) ns n h (in_list nat_list_cmp_total name_same ns n k))
+none_absent f ns h n k = not-false (has f n) (none_at_all nat_list_cmp_total name_same (λ n. not (has f n)) ns n h (in_list nat_list_cmp_total name_same ns n k))
 
 -- the names of a closure so far: the components of the first i of them are among them
 pub record ClosureSoFar {O : Type 0} (m : Interpreter O) (f : FontValue) (a : Names) (ns : List (List ℕ)) (i : ℕ) : Type 0 where

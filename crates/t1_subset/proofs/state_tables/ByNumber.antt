@@ -11,8 +11,7 @@ use Rattle.t1_algebra.specs.Profile.{profile}
 use Rattle.t1_algebra.specs.States.{code_state, is_called, state_of_entry}
 use Rattle.t1_algebra.specs.StateTables.{numbered, code_states}
 use Rattle.t1_subset.specs.Differences.{with_state, entry_state}
-use Rattle.t1_algebra.proofs.Maps.{maps_same}
-use Rattle.t1_algebra.proofs.Numbered.{get-numbered, numbered-empty, numbered-insert}
+use Rattle.t1_algebra.proofs.Tables.{get-numbered, numbered-empty, numbered-insert}
 
 -- the table has what x gives for the numbers below n, and nothing else
 pub record HasBelow (t : TableMeaning) (x : ℕ → Option (List ℕ)) (n : ℕ) : Type 0 where
@@ -27,7 +26,7 @@ module _ (t : TableMeaning) (x : ℕ → Option (List ℕ)) where
 
   -- if x gives nothing from n on, the table has all of it
   pub has_all : (n : ℕ) → HasBelow t x n → ((i : ℕ) → n ≤ i → x i ≡ None) → (m : Numbered) → ((i : ℕ) → maps.get m i ≡ x i) → t ≡ numbered m
-  has_all n h far m is = h.table ∙ ap numbered (maps_same nat_cmp_total nat_cmp-IsAntisymmetric h.map m (λ i. grind (arith, nat_tests, h.shown i, is i, far i)))
+  has_all n h far m is = h.table ∙ ap numbered (maps.same_map nat_cmp_total nat_cmp-IsAntisymmetric h.map m (λ i. grind (arith, nat_tests, h.shown i, is i, far i)))
 
 module _ (t : TableMeaning) (x : ℕ → Option (List ℕ)) (n : ℕ) (h : HasBelow t x n) where
   -- the table has what x gives for each number below n

@@ -1,6 +1,6 @@
 -- The lowest conflict of two fonts, as the code finds it in their states.
 use Rattle.std.proofs.Common.{◌≡◌, ℕ, ◌≤◌, true, not, cond, List, refl, sym, ◌∙◌, ap, true≢false, Option, Some, None, is_some, inl, inr, arith, nat_lt, [], unwrap_or, MatchOption, ◌<◌, false, ◌||◌, nat_cmp, ◌&&◌, subst, option_map, Result, IfOk, IfErr}
-use Rattle.std.proofs.lemmas.Bool.{ltb-true, ltb-false}
+use Rattle.std.proofs.lemmas.Bool.{ltb-true, ltb-false, cases_Bool, or_left, false_from_ne_true}
 use Rattle.std.specs.Cmp.{nat_cmp_total, first_so}
 use Rattle.std.specs.FinSet.{nat_cmp-IsAntisymmetric}
 use Rattle.std.specs.FinMap as maps
@@ -9,8 +9,9 @@ use Rattle.t1_font.specs.FontModel.{name_at}
 use Rattle.t1_font.specs.IsFont.{IsFont, IsEncoding}
 use Rattle.t1_algebra.specs.Conflicts.{agrees, codes_of_both, subr_clashes, ShellDiffers, CodeDiffers, GlyphDiffers, LacksComponent, SubrDiffers, keys_of_both, shell_conflict, code_conflict, glyph_conflict, component_conflict, subr_conflict, wanted_by, used_by, glyph_names, code_clashes, glyph_clashes, component_clashes, Conflict, OverLimit, states_conflict, conflict, is_within}
 use Rattle.t1_algebra.specs.States.{code_state, state_of_entry, subr_state, is_sought, name_state, state_of_glyph, IsWithin, Join, joined_font}
-use Rattle.t1_algebra.proofs.Searching.{in_both, first_passes, found_none}
-use Rattle.t1_algebra.proofs.Sets.{is_or_not, or_left, not_so, name_same}
+use Rattle.t1_algebra.proofs.Maps.{in_both}
+use Rattle.t1_algebra.proofs.Searching.{first_passes, found_none}
+use Rattle.t1_algebra.proofs.Sets.{name_same}
 use Rattle.t1_algebra.specs.Interpreter.{Interpreter}
 use Rattle.t1_algebra.specs.Keep.{has}
 use Rattle.t1_algebra.specs.Profile.{profile}
@@ -23,9 +24,9 @@ use Rattle.std.specs.List.{list_any}
 use Rattle.std.specs.Cmp.Lexicographic.{nat_list_cmp_total}
 use Rattle.t1_join.specs.Meaning.{Meaning, meaning_cmp, of_number, by_number_law}
 use Rattle.t1_join.specs.Join.{StatesAgree, states_agree, joined_state}
-use Rattle.t1_algebra.proofs.Numbered.{get-numbered}
+use Rattle.t1_algebra.proofs.Tables.{get-numbered}
 use Rattle.t1_algebra.proofs.FontStates.{get-used, meant, get-names}
-use Rattle.t1_algebra.proofs.NameTables.{meanings_as_bytes, get-name}
+use Rattle.t1_algebra.proofs.Tables.{meanings_as_bytes, get-name}
 use Rattle.t1_subset.proofs.state_tables.LowestKeys.{lowest_is}
 use Rattle.t1_join.specs.TableLaws.{same_table}
 use Rattle.t1_subset.specs.Callers.{seeker_of}
@@ -40,7 +41,7 @@ use Rattle.t1_subset.specs.declared.conflict.Conflict.{Conflict as Refusal}
 use Rattle.t1_subset.specs.Refusals.{Tells, of_parts}
 use Rattle.t1_algebra.proofs.Conflicts.{compatible, within_so}
 use Rattle.t1_algebra.proofs.Fonts.{font_within}
-use Rattle.t1_algebra.proofs.JoinedEntries.{joined_are_entries}
+use Rattle.t1_algebra.proofs.JoinedStates.{joined_are_entries}
 
 -- a state that does not join is not the bottom
 pub there_of : (x y : Option (List ℕ)) → not (agrees x y) ≡ true → is_some x ≡ true
@@ -147,7 +148,7 @@ no_clash : (x y a b : Option Meaning) → x ≡ a → y ≡ b → StatesAgree x 
 no_clash x y a b e f h = ap not ((λ i. agrees (sym e i) (sym f i)) ∙ sym (agree_alike x y) ∙ h)
 
 clash : (x y a b : Option Meaning) → x ≡ a → y ≡ b → (StatesAgree x y → ⊥) → not (agrees a b) ≡ true
-clash x y a b e f h = ap not ((λ i. agrees (sym e i) (sym f i)) ∙ sym (agree_alike x y) ∙ not_so (states_agree x y) h)
+clash x y a b e f h = ap not ((λ i. agrees (sym e i) (sym f i)) ∙ sym (agree_alike x y) ∙ false_from_ne_true (states_agree x y) h)
 
 -- ---- tables by number
 
@@ -189,7 +190,7 @@ module _ (f g : FontValue) (s t : TableMeaning) (r : Option ℕ) (h : MatchOptio
 
 -- a code in conflict is below 256
 pub code_below : (f g : FontValue) → IsFont f → (c : ℕ) → Some c ≡ code_conflict f g → c < 256
-code_below f g h c e = elim (is_or_not (nat_lt c 256)) [
+code_below f g h c e = elim (cases_Bool (nat_lt c 256)) [
   | inl l ↦ ltb-true c 256 l
   | inr l ↦ absurd (true≢false (sym (clashing c e) ∙ ap (λ x. not (agrees x (code_state g.encoding c))) (no_name f.encoding h.encoding c (ltb-false c 256 l))))
 ]

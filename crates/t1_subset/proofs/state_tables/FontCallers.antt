@@ -1,4 +1,5 @@
 -- The smallest glyphs that execute a Subr or seek a component, as the code notes them, and in a join.
+use Rattle.std.proofs.lemmas.Bool.{false_from_ne_true}
 use Rattle.std.proofs.Common.{arith, ◌≡◌, ℕ, Bool, true, false, not, cond, ◌&&◌, ◌||◌, List, [], ◌∷◌, ◌++◌, map, refl, sym, ◌∙◌, ap, Option, Some, None, is_some, true≢false}
 use Rattle.std.specs.List.{list_any}
 use Rattle.std.specs.Cmp.{nat_cmp_total}
@@ -20,13 +21,14 @@ use Rattle.t1_subset.specs.Differences.{smaller}
 use Rattle.t1_subset.specs.Callers.{same_charstring, user_of, seeker_of, user_from, seeker_from, AreCallersOf}
 use Rattle.t1_join.specs.Meaning.{of_number}
 use Rattle.t1_subset.specs.Clashes.{AreCallers}
-use Rattle.t1_algebra.proofs.Flat.{agree_back}
+use Rattle.t1_algebra.proofs.Maps.{agree_back}
 use Rattle.t1_subset.proofs.closing.Runs.{calls_by, no_calls, no_components}
 use Rattle.t1_subset.proofs.state_tables.LowestKeys.{smaller_first}
-use Rattle.t1_algebra.proofs.JoinedStates.{glyph_in_join, present_joined, executes_join, calls_join}
+use Rattle.t1_algebra.proofs.Subsets.{glyph_in_join}
+use Rattle.t1_algebra.proofs.JoinedStates.{present_joined, executes_join, calls_join}
 use Rattle.t1_algebra.proofs.Uses.{executing_there, naming_there, sought}
 use Rattle.std.specs.Cmp.{second_so}
-use Rattle.t1_algebra.proofs.Sets.{name_same, not_so, clash, tied}
+use Rattle.t1_algebra.proofs.Sets.{name_same, clash, tied}
 
 -- ---- the first of some names
 
@@ -131,7 +133,7 @@ module _ (f g : FontValue) (c : Compatible profile f g) where
   unsought b v h = grind arith
 
   sought_by : (h : FontValue) (p n : List ℕ) → is_sought profile h p ≡ false → calls_for profile h n p ≡ false
-  sought_by h p n s = not_so (calls_for profile h n p) (λ k. clash (is_sought profile h p) (sought profile h p n k) s)
+  sought_by h p n s = false_from_ne_true (calls_for profile h n p) (λ k. clash (is_sought profile h p) (sought profile h p n k) s)
 
   wants_at : (p n : List ℕ) (x y : Option (List ℕ)) → Agree (state_of_glyph profile f p x) (state_of_glyph profile g p y)
       → (not (is_some (joined x y)) && calls_for profile both n p) ≡ ((not (is_some x) && calls_for profile f n p) || (not (is_some y) && calls_for profile g n p))

@@ -1,4 +1,5 @@
 -- The lowest key that passes a test, as a search of a map finds it, and the lower of two.
+use Rattle.std.proofs.lemmas.Bool.{or_cases, or_left, or_right, false_from_ne_true}
 use Rattle.std.proofs.Common.{arith, ◌≡◌, ℕ, Bool, true, false, cond, ◌||◌, List, [], ◌∷◌, map, option_map, refl, sym, ◌∙◌, ap, true≢false, inl, inr, Option, Some, None, Ordering, Less, Equal, Greater, is_lt}
 use Rattle.std.specs.List.{list_any, AllByRecursion}
 use Rattle.std.specs.Ordering.{eq_by_cmp, ordering_reverse}
@@ -10,10 +11,15 @@ use Rattle.t1_font.proofs.MapLemmas.{T_true}
 use Rattle.t1_algebra.specs.Conflicts.{keys_of_both}
 use Rattle.t1_algebra.specs.Searches.{smallest, members, first_where, IsLowest}
 use Rattle.t1_subset.specs.Differences.{smaller}
-use Rattle.t1_algebra.proofs.Searching.{in_both, passes_none, none_at_all, first_passes}
-use Rattle.t1_algebra.proofs.Maps.{less_of}
-use Rattle.t1_algebra.proofs.Smallest.{smallest_is, below_later}
-use Rattle.t1_algebra.proofs.Sets.{or_cases, or_left, or_right, tied, not_so}
+use Rattle.t1_algebra.proofs.Maps.{in_both}
+use Rattle.t1_algebra.proofs.Searching.{passes_none, none_at_all, first_passes}
+use Rattle.t1_algebra.proofs.Searching.{smallest_is, below_later}
+use Rattle.t1_algebra.proofs.Sets.{tied}
+
+less_of : (r : Ordering) → is_lt r ≡ true → r ≡ Less
+less_of Less h = refl
+less_of Equal h = absurd (true≢false (sym h))
+less_of Greater h = absurd (true≢false (sym h))
 
 module _ {K : Type 0} {R : K → K → Ordering} (o : IsTotalOrder R) (same : IsAntisymmetric R) where
   -- no key is both below and above another
@@ -47,10 +53,10 @@ module _ {K : Type 0} {R : K → K → Ordering} (o : IsTotalOrder R) (same : Is
       key_in q h = sym (maps.contains_key-keys m q) ∙ only q h
 
       pub lowest_key : (x : Option K) → first_where p (maps.keys m) ≡ x → IsLowest R p x
-      lowest_key None h = λ q. not_so (p q) (λ is. true≢false (sym is ∙ none_at_all o same p (maps.keys m) q h (key_in q is)))
+      lowest_key None h = λ q. false_from_ne_true (p q) (λ is. true≢false (sym is ∙ none_at_all o same p (maps.keys m) q h (key_in q is)))
       lowest_key (Some k) h = record {
         it = first_passes p (maps.keys m) k h;
-        none_lower = λ q l. not_so (p q) (λ is. true≢false (sym is ∙ first_least (maps.entries m) k q (T_true (is_sorted R (maps.entries m)) (maps.entries_sorted m)) h (key_in q is) l));
+        none_lower = λ q l. false_from_ne_true (p q) (λ is. true≢false (sym is ∙ first_least (maps.entries m) k q (T_true (is_sorted R (maps.entries m)) (maps.entries_sorted m)) h (key_in q is) l));
       }
 
       -- the same, of the first of its entries

@@ -21,8 +21,7 @@ use Rattle.t1_algebra.specs.StateTables.{StatesValue, StatesJoin, states_of}
 use Rattle.t1_subset.specs.Merger.{IsRefused}
 use Rattle.t1_algebra.specs.Merges.{EachGroupingMerges, ComesTo}
 use Rattle.t1_algebra.proofs.Fonts.{font_within}
-use Rattle.t1_algebra.proofs.JoinedEntries.{joined_are_entries}
-use Rattle.t1_algebra.proofs.JoinedStates.{font_back, left_glyph}
+use Rattle.t1_algebra.proofs.JoinedStates.{font_back, left_glyph, joined_are_entries}
 use Rattle.t1_algebra.proofs.Orders.{grouped, merges_by_states}
 
 -- a grouping of fonts groups the states of all of them

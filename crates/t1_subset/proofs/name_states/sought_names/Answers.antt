@@ -1,6 +1,6 @@
 use Rattle.std.proofs.Common.{rules, ◌≡◌, ◌∙◌, ap, List, ◌∷◌}
 use Rattle.t1_join.specs.Meaning.{Meaning}
-use Rattle.t1_algebra.proofs.NameTables.{with_sought, sought_next}
+use Rattle.t1_algebra.proofs.Tables.{with_sought, sought_next}
 use Rattle.t1_subset.proofs.name_states.sought_names.Goals as goal
 
 pub seekers-preserved : goal.seekers-preserved

@@ -2,9 +2,9 @@ use Rattle.std.proofs.Common.{◌≡◌, ap, sym, ◌∙◌, length}
 use Rattle.std.proofs.lemmas.List.{length-map}
 use Rattle.std.specs.FinMap as maps
 use Rattle.t1_font.specs.FontValue.{Numbered}
-use Rattle.t1_algebra.proofs.Sets.{not_so}
 use Rattle.t1_algebra.proofs.Shares.{bytes_decide}
 use Rattle.t1_subset.proofs.shared.same_indices.Goals as goal
+use Rattle.std.proofs.lemmas.Bool.{false_from_ne_true}
 
 -- a table has as many entries as keys
 counted : (m : Numbered) → maps.len m ≡ length (maps.keys m)
@@ -14,4 +14,4 @@ pub returns-then-len : goal.returns-then-len
 returns-then-len c =
     let m = c.args.left.now in
     let n = c.args.right.now in
-    sym (not_so _ (λ h. c.if-len.true (c.len.ensures ∙ counted m ∙ ap length (bytes_decide.so (maps.keys m) (maps.keys n) h) ∙ sym (c.len-2.ensures ∙ counted n))))
+    sym (false_from_ne_true _ (λ h. c.if-len.true (c.len.ensures ∙ counted m ∙ ap length (bytes_decide.so (maps.keys m) (maps.keys n) h) ∙ sym (c.len-2.ensures ∙ counted n))))

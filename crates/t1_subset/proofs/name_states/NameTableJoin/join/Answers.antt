@@ -1,4 +1,4 @@
-use Rattle.t1_algebra.proofs.NameTables.{are_joined}
+use Rattle.t1_algebra.proofs.Tables.{are_joined}
 use Rattle.t1_subset.proofs.name_states.NameTableJoin.join.Goals as goal
 
 pub invariant_of-result : goal.invariant_of-result
