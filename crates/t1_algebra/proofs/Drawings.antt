@@ -31,6 +31,7 @@ pub runs_by_rules : (s t : Numbered) (c : List ℕ) → ((i : ℕ) → sets.cont
 unfolding profile
 runs_by_rules s t c h = local (maps.get s) (maps.get t) c (λ i k. sym (h i (in_set_of (exec (maps.get s) c) i k)))
 
+-- what this project's interpreter comes to and names: the endings by both answers to hint replacement, and the parts of both
 ending : (s : Numbered) (c : List ℕ) → (profile.direct s c ≡ (direct (maps.get s) c, direct3 (maps.get s) c)) × (components profile s c ≡ parts (maps.get s) c)
 unfolding profile
 ending s c = (refl, refl)
@@ -46,9 +47,11 @@ module _ (f j : FontValue) (n : List ℕ) (same : maps.get j.glyphs n ≡ maps.g
   -- `by` gives what a charstring comes to by one answer to hint replacement
   module _ (hints : _) (by : Endings → Ending) (is_by : (s : Numbered) (c : List ℕ) → by (profile.direct s c) ≡ direct_by hints (maps.get s) c)
       (named : (s : Numbered) (c p : List ℕ) → list_any (same_bytes p) (parts_by hints (maps.get s) c) ≡ true → list_any (same_bytes p) (components profile s c) ≡ true) where
+    -- a component's own outcome is alike
     part_alike : (p : List ℕ) → component_outcome profile j p ≡ component_outcome profile f p → outcome_at hints (maps.get j.subrs) (maps.get j.glyphs) p ≡ outcome_at hints (maps.get f.subrs) (maps.get f.glyphs) p
     part_alike p e = grind (cases, e, is_by f.subrs, is_by j.subrs)
 
+    -- so is the picture of what the glyph's charstring comes to
     picture_alike : (x : Option (List ℕ)) → maps.get f.glyphs n ≡ x
         → picture_at hints (maps.get j.subrs) (maps.get j.glyphs) (option_map (direct_by hints (maps.get j.subrs)) x) ≡ picture_at hints (maps.get f.subrs) (maps.get f.glyphs) (option_map (direct_by hints (maps.get f.subrs)) x)
     picture_alike None is = refl

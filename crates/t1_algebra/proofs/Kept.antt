@@ -152,11 +152,13 @@ module _ {O : Type 0} (m : Interpreter O) (f g : FontValue) (a : Names) (base : 
     (there : (n : List ℕ) → sets.contains (keep m f a) n ≡ true → has g n ≡ true)
     (parts : (n : List ℕ) → sets.contains (keep m f a) n ≡ true → components_here m g n ≡ components_here m f n)
     (runs : (n : List ℕ) → sets.contains (keep m f a) n ≡ true → calls m g n ≡ calls m f n) where
+  -- g keeps no more names
   no_more : (n : List ℕ) → sets.contains (keep m g a) n ≡ true → sets.contains (keep m f a) n ≡ true
   no_more =
       let c = keep_closed m f a base inside in
       keep_least m g a (keep m f a) there (record { asked = c.asked; notdef = c.notdef; components = λ n p k w. c.components n p k (ap (λ (s : Names). sets.contains s p) (sym (parts n k)) ∙ w) })
 
+  -- g keeps no fewer names
   no_less : (n : List ℕ) → sets.contains (keep m f a) n ≡ true → sets.contains (keep m g a) n ≡ true
   no_less =
       let c = keep_closed m g a also within in

@@ -158,6 +158,7 @@ module _ {O : Type 0} (m : Interpreter O) (f : FontValue) (base : has f notdef �
 
   -- ---- the joined font
 
+  -- the joined font has the entry of each Subr that either subset keeps, and a stub for the others
   subr_join : (i : ℕ) (x : Option (List ℕ)) → maps.get f.subrs i ≡ x → maps.get (joined_font m (subset m f a) (subset m f b)).subrs i ≡ option_map (λ c. cond (sets.contains (sets.union (kept m f a) (kept m f b)) i) c stub) x
   subr_join i None h = grind (arith, h, subr_in_join m (subset m f a) (subset m f b) i, get-subr m f base a ia i)
   subr_join i (Some c) h =

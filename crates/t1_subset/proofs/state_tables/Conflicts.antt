@@ -287,7 +287,7 @@ module _ {O : Type 0} (m : Interpreter O) (f g : FontValue) (h : states_conflict
   tells_parts parts.Limit more = over (λ b. too_much more (subst IsWithin entries (within_so m f g b)))
   tells_parts parts.Memory more = tt
 
--- ---- conflicts in their order
+-- ---- what tells one conflict tells another
 
 -- a refusal that tells one conflict tells another that is the same wherever there is one
 tells_on : (e : Refusal) (c d : Option Conflict) → ((x : Conflict) → c ≡ Some x → d ≡ Some x) → Tells e c → Tells e d
