@@ -12,10 +12,10 @@ use Rattle.t1_font.specs.Cut.{restrict, restrict_encoding, stub}
 use Rattle.t1_font.proofs.MapLemmas.{get-map_values, get-retain}
 use Rattle.t1_algebra.specs.Interpreter.{Interpreter, Names}
 use Rattle.t1_algebra.specs.Keep.{has, charstring, components, components_here, keep, kept, subset}
+use Rattle.t1_algebra.specs.States.{code_state}
 use Rattle.t1_algebra.proofs.Sets.{name_same, same_members, cases}
 use Rattle.t1_algebra.proofs.Kept.{InFont, keep_has, keep_least, keep_closed, component_here, component_here_from, kept_more, calls, keep_alike, kept_alike}
 use Rattle.t1_algebra.proofs.Subsets.{get-glyph, runs_alike, same_font, same_encoding, get-code}
-use Rattle.t1_algebra.specs.States.{code_state}
 
 -- ---- a cut of a cut
 

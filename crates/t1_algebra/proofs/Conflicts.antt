@@ -5,6 +5,7 @@ use Rattle.std.specs.Cmp.{IsTotalOrder, nat_cmp_total, first_so, second_so}
 use Rattle.std.specs.Cmp.Lexicographic.{nat_list_cmp_total}
 use Rattle.std.specs.FinSet.{IsAntisymmetric, nat_cmp-IsAntisymmetric}
 use Rattle.std.specs.FinMap as maps
+use Rattle.std.proofs.lemmas.Bool.{leb-true, le-leb, and_from, false_from_ne_true, not_from_true}
 use Rattle.t1_font.specs.FontValue.{FontValue, Encoding, Word, Codes, weight, weight_limit, count_limit}
 use Rattle.t1_algebra.specs.Conflicts.{Conflict, ShellDiffers, CodeDiffers, GlyphDiffers, LacksComponent, SubrDiffers, OverLimit, keys_of_both, agrees, codes_of_both, wants, code_clashes, glyph_clashes, glyph_names, wanted_by, component_clashes, subr_clashes, used_by, is_within, shell_conflict, code_conflict, glyph_conflict, component_conflict, subr_conflict, states_conflict, conflict}
 use Rattle.t1_algebra.specs.Searches.{members, smallest, found}
@@ -15,7 +16,6 @@ use Rattle.t1_algebra.specs.States.{IsWithin, Agree, code_state, is_sought, subr
 use Rattle.t1_algebra.proofs.Uses.{sought, seeker}
 use Rattle.t1_algebra.proofs.Sets.{name_same, clash, any_one, any_at, cases}
 use Rattle.t1_algebra.proofs.JoinedStates.{font_back, compatible_back, glyph_agree}
-use Rattle.std.proofs.lemmas.Bool.{leb-true, le-leb, and_from, false_from_ne_true, not_from_true}
 use Rattle.t1_algebra.proofs.Searching.{or_swap, passes_none, found_none, none_found, smallest_none}
 use Rattle.t1_algebra.proofs.Shares.{swaps, bytes_decide, shared_so, no_part_differs, differing_back, shared_from, shared_to}
 use Rattle.t1_algebra.proofs.Maps.{in_both, both_back}

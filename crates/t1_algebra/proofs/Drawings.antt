@@ -2,26 +2,26 @@
 use Rattle.std.proofs.Common.{◌≡◌, ℕ, true, cond, List, [], ◌∷◌, map, refl, sym, ◌∙◌, ap, subst, Option, Some, None, unwrap_or, option_map}
 use Rattle.std.specs.List.{list_any}
 use Rattle.std.specs.Cmp.Lexicographic.{nat_list_cmp_total}
+use Rattle.std.specs.FinSet as sets
+use Rattle.std.specs.FinMap as maps
+use Rattle.t1_run.specs.State.{Ending}
+use Rattle.t1_run.specs.Run.{direct, direct3, exec, direct_by}
+use Rattle.t1_run.specs.Drawings.{parts_of, picture, picture_at, draw, draw3, outcome_at, draw_by, parts_by, parts}
+use Rattle.t1_run.proofs.Locality.{local}
 use Rattle.t1_font.specs.FontValue.{FontValue, notdef, Numbered}
+use Rattle.t1_font.specs.IsFont.{IsFont}
+use Rattle.t1_font.proofs.FontReaders.{all_seen}
 use Rattle.t1_algebra.specs.Interpreter.{Interpreter, Names, same_bytes}
 use Rattle.t1_algebra.specs.Keep.{keep, has, components, subset}
 use Rattle.t1_algebra.specs.Outcomes.{component_outcome}
 use Rattle.t1_algebra.specs.States.{joined_font, Compatible}
+use Rattle.t1_algebra.specs.Profile.{profile, Endings, in_set_of}
+use Rattle.t1_algebra.specs.Laws.{IsOf, DrawsAlike, AnswersAlike}
 use Rattle.t1_algebra.proofs.Kept.{InFont, keep_closed, component_here_from}
 use Rattle.t1_algebra.proofs.Sets.{name_same, itself, here, later, any_append_left, any_append_right, cases}
 use Rattle.t1_algebra.proofs.Uses.{seeks_it, has_some}
 use Rattle.t1_algebra.proofs.JoinedStates.{left_glyph, left_runs, left_subrs, font_back, compatible_back}
 use Rattle.t1_algebra.proofs.Subsets.{get-glyph, runs_alike, subrs_alike, glyph_in_join}
-use Rattle.t1_run.specs.State.{Ending}
-use Rattle.t1_run.specs.Run.{direct, direct3, exec, direct_by}
-use Rattle.t1_run.specs.Drawings.{parts_of, picture, picture_at, draw, draw3, outcome_at, draw_by, parts_by, parts}
-use Rattle.t1_run.proofs.Locality.{local}
-use Rattle.t1_algebra.specs.Profile.{profile, Endings, in_set_of}
-use Rattle.t1_font.specs.IsFont.{IsFont}
-use Rattle.t1_font.proofs.FontReaders.{all_seen}
-use Rattle.t1_algebra.specs.Laws.{IsOf, DrawsAlike, AnswersAlike}
-use Rattle.std.specs.FinSet as sets
-use Rattle.std.specs.FinMap as maps
 
 -- ---- fonts in which a glyph runs alike and names components that run alike
 

@@ -4,21 +4,21 @@ use Rattle.std.specs.List.{list_any}
 use Rattle.std.specs.Cmp.Lexicographic.{nat_list_cmp_total}
 use Rattle.std.proofs.lemmas.List.Folds.{list_any-append}
 use Rattle.std.proofs.lemmas.List.Sorted.{list_any-IsPermutation}
+use Rattle.std.specs.FinSet as sets
+use Rattle.t1_join.specs.Groupings.{Grouping, one, two, map_grouping, EachLeaf, leaves}
 use Rattle.t1_font.specs.FontValue.{FontValue, name_cmp, weight_limit, weight}
 use Rattle.t1_font.specs.IsFont.{IsFont}
+use Rattle.t1_font.proofs.Kept.{restrict_is_font, join_is_font}
 use Rattle.t1_algebra.specs.Interpreter.{Interpreter, Names}
 use Rattle.t1_algebra.specs.Keep.{subset, keep, kept}
 use Rattle.t1_algebra.specs.Laws.{IsOf}
-use Rattle.t1_join.specs.Groupings.{Grouping, one, two, map_grouping, EachLeaf, leaves}
 use Rattle.t1_algebra.specs.Groupings.{union_all, Merges}
+use Rattle.t1_algebra.specs.States.{IsWithin, Join, joined_font}
 use Rattle.t1_algebra.proofs.Sets.{name_same, in_union, cases}
 use Rattle.t1_algebra.proofs.Subsets.{join_is_subset, subsets_join}
-use Rattle.t1_font.proofs.Kept.{restrict_is_font, join_is_font}
-use Rattle.t1_algebra.specs.States.{IsWithin, Join, joined_font}
 use Rattle.t1_algebra.proofs.Kept.{keep_closed}
 use Rattle.t1_algebra.proofs.Orders.{any_order, one_result, join_back, each_weaker}
 use Rattle.t1_algebra.proofs.JoinedStates.{joined_are_entries}
-use Rattle.std.specs.FinSet as sets
 
 -- the union of the sets at the leaves, in their grouping
 abbrev pub all_of : Grouping Names → Names

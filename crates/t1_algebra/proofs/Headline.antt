@@ -2,6 +2,7 @@
 use Rattle.std.proofs.Common.{◌≡◌, List, sym, ◌∙◌, ap, subst, Result, Ok, IsPermutation}
 use Rattle.t1_bytes.specs.declared.form.Form.{Form}
 use Rattle.t1_bytes.specs.declared.form.Form.TheVariants.{Pfa, Pfb}
+use Rattle.t1_join.specs.Groupings.{EachLeaf, leaves}
 use Rattle.t1_font.specs.declared.fault.ReadFault.{ReadFault}
 use Rattle.t1_font.specs.FontValue.{FontValue}
 use Rattle.t1_font.specs.Canon.{canon}
@@ -14,7 +15,6 @@ use Rattle.t1_algebra.specs.Keep.{subset}
 use Rattle.t1_algebra.specs.Profile.{profile}
 use Rattle.t1_algebra.specs.States.{joined_font}
 use Rattle.t1_algebra.specs.Laws.{IsOf, DrawsAlike}
-use Rattle.t1_join.specs.Groupings.{EachLeaf, leaves}
 use Rattle.t1_algebra.specs.Groupings.{union_all}
 use Rattle.t1_algebra.specs.Headline.{Making, Subset, Merge, Again, sets_of, FormsFit, Makes, ComesToSubset}
 use Rattle.t1_algebra.proofs.Fonts.{subset_is_font, two_subsets, all_of, all_is_of, all_alike}

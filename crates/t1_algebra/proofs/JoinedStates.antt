@@ -2,19 +2,19 @@
 use Rattle.std.proofs.Common.{◌≡◌, ℕ, true, ◌||◌, List, refl, sym, ◌∙◌, ap, Some}
 use Rattle.std.specs.Cmp.{nat_cmp_total}
 use Rattle.std.specs.FinSet.{nat_cmp-IsAntisymmetric}
+use Rattle.std.specs.FinSet as sets
+use Rattle.std.specs.FinMap as maps
 use Rattle.t1_font.specs.Joins.{join_encodings, joined_subr, join_parts}
 use Rattle.t1_font.specs.FontValue.{FontValue, Encoding}
 use Rattle.t1_font.specs.WriteLaws.{SameKind}
 use Rattle.t1_font.proofs.MapLemmas.{get-map_values}
 use Rattle.t1_algebra.specs.Interpreter.{Interpreter}
 use Rattle.t1_algebra.specs.States.{executes, calls_for, Agree, joined, is_called, is_sought, subr_state, name_state, code_state, joined_font, Compatible}
+use Rattle.t1_algebra.specs.JoinedEntries.{EntriesJoin}
 use Rattle.t1_algebra.proofs.Maps.{agree_back, joined_back}
 use Rattle.t1_algebra.proofs.Uses.{some_joined, executing_there, naming_there, calls_it}
 use Rattle.t1_algebra.proofs.Sets.{cases}
 use Rattle.t1_algebra.proofs.Subsets.{same_font, stub_is, same_encoding, code_joined, subr_in_join, glyph_in_join}
-use Rattle.t1_algebra.specs.JoinedEntries.{EntriesJoin}
-use Rattle.std.specs.FinSet as sets
-use Rattle.std.specs.FinMap as maps
 
 -- ---- both orders
 

@@ -7,11 +7,11 @@ use Rattle.std.specs.Cmp.Lexicographic.{nat_list_cmp_total}
 use Rattle.std.specs.FinSet as sets
 use Rattle.std.specs.FinSet.{nat_cmp-IsAntisymmetric}
 use Rattle.std.specs.FinMap as maps
+use Rattle.std.proofs.lemmas.Bool.{and_from, or_left, or_right, cases_Bool}
 use Rattle.t1_font.specs.FontValue.{FontValue, name_cmp, notdef}
 use Rattle.t1_algebra.specs.Interpreter.{Interpreter, Names, Numbers}
 use Rattle.t1_algebra.specs.Keep.{Closed, is_closed, is_needed, keep, kept, components, components_here, has, charstring}
 use Rattle.t1_algebra.proofs.Sets.{any_at, any_one, all_at, all_from, any_filter, any_filter_from, same_members, in_union, in_union_left, in_union_right, in_list, from_in_list, in_items, from_in_items, any_flat, any_flat_from, name_same, each_set, all_sets, any_append, any_append_left, any_append_right}
-use Rattle.std.proofs.lemmas.Bool.{and_from, or_left, or_right, cases_Bool}
 
 module _ {O : Type 0} (m : Interpreter O) (f : FontValue) where
   -- ---- the test and the relation

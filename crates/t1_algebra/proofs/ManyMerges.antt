@@ -4,20 +4,20 @@ use Rattle.std.specs.List.{AllByRecursion}
 use Rattle.std.specs.FinSet as sets
 use Rattle.std.specs.Cmp.Lexicographic.{nat_list_cmp_total}
 use Rattle.std.proofs.lemmas.List.Sorted.{IsPermutation-refl, length_permutation}
+use Rattle.std.proofs.lemmas.List.{length-append}
 use Rattle.t1_join.proofs.OrderLemmas.{leaves_from_left, all_of_both, each_leaf}
+use Rattle.t1_join.specs.Groupings.{Grouping, one, two, EachLeaf, map_grouping, from_left, leaves}
 use Rattle.t1_font.specs.FontValue.{FontValue, name_cmp}
 use Rattle.t1_font.specs.IsFont.{IsFont}
 use Rattle.t1_algebra.specs.Interpreter.{Names}
 use Rattle.t1_algebra.specs.Keep.{subset, has}
 use Rattle.t1_algebra.specs.Profile.{profile}
 use Rattle.t1_algebra.specs.Laws.{IsOf, DrawsAlike}
-use Rattle.t1_join.specs.Groupings.{Grouping, one, two, EachLeaf, map_grouping, from_left, leaves}
 use Rattle.t1_algebra.specs.Groupings.{Merges, union_all}
 use Rattle.t1_algebra.specs.Merges.{DrawsAll}
 use Rattle.t1_algebra.proofs.Fonts.{many_subsets}
 use Rattle.t1_algebra.proofs.Orders.{one_result}
 use Rattle.t1_algebra.proofs.Sets.{in_union, clash, name_same}
-use Rattle.std.proofs.lemmas.List.{length-append}
 use Rattle.t1_algebra.proofs.Drawings.{left_alike, right_alike}
 
 -- ---- from left to right

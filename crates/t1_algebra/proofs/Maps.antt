@@ -3,13 +3,13 @@ use Rattle.std.proofs.Common.{◌≡◌, ℕ, ◌||◌, refl, arith, Option, Som
 use Rattle.std.specs.Cmp.{IsTotalOrder}
 use Rattle.std.specs.FinMap as maps
 use Rattle.std.specs.FinSet.{IsAntisymmetric}
+use Rattle.std.specs.List.{list_any}
+use Rattle.std.specs.Ordering.{eq_by_cmp}
 use Rattle.t1_font.specs.Maps.{merged}
 use Rattle.t1_font.proofs.MapLemmas as cuts
 use Rattle.t1_algebra.specs.Conflicts.{keys_of_both}
 use Rattle.t1_algebra.specs.States.{Agree, joined}
 use Rattle.t1_algebra.proofs.Sets.{cases}
-use Rattle.std.specs.List.{list_any}
-use Rattle.std.specs.Ordering.{eq_by_cmp}
 
 module _ {V : Type 0} (x y : Option V) where
   -- states agree in both orders

@@ -10,8 +10,7 @@ use Rattle.t1_algebra.specs.StateTables.{StatesValue, StatesJoin, states_of}
 use Rattle.t1_algebra.specs.StateLaws.{parts_laws, parts_by_pairs, falls, states_laws}
 use Rattle.t1_algebra.specs.Groupings.{Merges, folded, EachPair}
 use Rattle.t1_algebra.proofs.JoinedStates.{font_back, compatible_back}
-use Rattle.t1_algebra.proofs.FontStates.{agree_compatible, compatible_agree, parts_join, states_join, join_exactly, fits, font_known}
-use Rattle.t1_algebra.proofs.FontStates.{within as fonts_fit}
+use Rattle.t1_algebra.proofs.FontStates.{agree_compatible, compatible_agree, parts_join, states_join, join_exactly, fits, font_known, within as fonts_fit}
 
 -- what follows from what holds at each leaf holds at each leaf
 pub each_weaker : {X : Type 0} (P Q : X → Type 0) → ((x : X) → P x → Q x) → (t : Grouping X) → EachLeaf P t → EachLeaf Q t

@@ -6,6 +6,7 @@ use Rattle.std.specs.FinMap as maps
 use Rattle.std.specs.Cmp.{nat_cmp_total}
 use Rattle.std.specs.Cmp.Lexicographic.{nat_list_cmp_total}
 use Rattle.std.specs.FinSet.{nat_cmp-IsAntisymmetric}
+use Rattle.std.proofs.lemmas.Bool.{not-false, and_parts}
 use Rattle.t1_font.specs.FontValue.{FontValue, SubrsShell, Numbered, declared_count}
 use Rattle.t1_font.specs.FontModel.{word_of}
 use Rattle.t1_font.specs.Maps.{map_values}
@@ -15,7 +16,6 @@ use Rattle.t1_algebra.specs.Interpreter.{same_bytes}
 use Rattle.t1_algebra.specs.Shared.{Shared, shared_of, ShellPart, all_parts, same_number, same_bool, same_word, same_words, same_part, differing_part}
 use Rattle.t1_algebra.proofs.Searching.{none_passes}
 use Rattle.t1_algebra.proofs.Sets.{name_same, tied, itself, cases}
-use Rattle.std.proofs.lemmas.Bool.{not-false, and_parts}
 
 -- ---- each test decides
 

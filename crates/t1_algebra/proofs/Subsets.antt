@@ -5,23 +5,23 @@ use Rattle.std.specs.Cmp.{nat_cmp_total}
 use Rattle.std.specs.Cmp.Lexicographic.{nat_list_cmp_total}
 use Rattle.std.specs.FinSet.{nat_cmp-IsAntisymmetric}
 use Rattle.std.proofs.lemmas.Slice.Eq.{bytes_eq-Decides}
+use Rattle.std.proofs.lemmas.Bool.{false_from_ne_true}
+use Rattle.std.specs.FinSet as sets
+use Rattle.std.specs.FinMap as maps
 use Rattle.t1_font.specs.Cut.{stub, restrict, restrict_encoding}
 use Rattle.t1_font.specs.FontValue.{FontValue, notdef, weight, Encoding, Word, Codes}
 use Rattle.t1_font.proofs.Kept.{restrict_light, cut_had}
 use Rattle.t1_font.proofs.MapLemmas.{get-map_values, get-retain, total-le, length_total, Some_same, Some_None}
+use Rattle.t1_font.specs.Joins.{join_encodings}
+use Rattle.t1_font.specs.WriteLaws.{SameKind}
+use Rattle.t1_font.specs.FontModel.{word_of}
 use Rattle.t1_algebra.specs.Interpreter.{Interpreter, Names, same_bytes}
 use Rattle.t1_algebra.specs.Keep.{keep, kept, components, has, subset}
 use Rattle.t1_algebra.specs.States.{Agree, joined, is_called, is_sought, subr_state, is_stub, IsWithin, code_state, joined_font, Compatible, Join}
 use Rattle.t1_algebra.proofs.Kept.{InFont, keep_closed, kept_call, component_here_from, keep_union, kept_union}
 use Rattle.t1_algebra.proofs.Uses.{caller, seeker}
 use Rattle.t1_algebra.proofs.Sets.{clash, name_same, cases}
-use Rattle.std.proofs.lemmas.Bool.{false_from_ne_true}
-use Rattle.t1_font.specs.Joins.{join_encodings}
-use Rattle.t1_font.specs.WriteLaws.{SameKind}
 use Rattle.t1_algebra.proofs.Maps.{get-merged}
-use Rattle.std.specs.FinSet as sets
-use Rattle.std.specs.FinMap as maps
-use Rattle.t1_font.specs.FontModel.{word_of}
 
 -- ---- stubs and entries
 

@@ -5,32 +5,32 @@ use Rattle.std.specs.Cmp.{IsTotalOrder, nat_cmp_total, both_ways, first_so, seco
 use Rattle.std.specs.FinMap.{find, is_sorted}
 use Rattle.std.specs.FinMap.Entries.{below_all, by_order}
 use Rattle.std.specs.FinSet.{IsAntisymmetric}
+use Rattle.std.specs.Option.{option_copied}
+use Rattle.std.specs.Cmp.Lexicographic.{nat_list_cmp_total}
+use Rattle.std.specs.List.{list_any, AllByRecursion}
+use Rattle.std.proofs.lemmas.Bool.{cases_Bool, not-true}
+use Rattle.std.specs.FinMap as maps
 use Rattle.t1_join.specs.Passes.{weave, merge}
 use Rattle.t1_join.specs.TableMeaning.{Rises, TableMeaning, joined_table, TablesAgree}
 use Rattle.t1_join.proofs.Sorted.{both_true, make_both, is_lt_from, lt_is}
 use Rattle.t1_join.proofs.Merges.{Below-less, below_tied, find_below, merged_from_sorted, rises_merge}
-use Rattle.std.specs.Option.{option_copied}
+use Rattle.t1_join.specs.Meaning.{Meaning, meaning_cmp, of_number, by_number_law, same_meaning}
+use Rattle.t1_join.specs.Join.{joined_state, State, states_agree, StatesAgree}
+use Rattle.t1_join.specs.TableLaws.{get_joined, same_table}
+use Rattle.t1_join.specs.StateLaws.{same_meaning-true, same_meaning-self}
 use Rattle.t1_font.specs.Maps.{merged}
 use Rattle.t1_font.specs.FontModel.{clamp}
 use Rattle.t1_font.proofs.Weights.{clamp_more, clamp_all, clamp_fits}
 use Rattle.t1_font.specs.FontValue.{total, Numbered, Named, name_cmp, Encoding, Word, Codes}
-use Rattle.t1_algebra.specs.StateTables.{new_entries, numbered, name_meaning, AreNameStates, behind_mark, glyph_table, names_table, AreSought, code_states}
-use Rattle.std.specs.Cmp.Lexicographic.{nat_list_cmp_total}
-use Rattle.t1_join.specs.Meaning.{Meaning, meaning_cmp, of_number, by_number_law, same_meaning}
-use Rattle.t1_join.specs.Join.{joined_state, State, states_agree, StatesAgree}
-use Rattle.t1_join.specs.TableLaws.{get_joined, same_table}
-use Rattle.t1_algebra.proofs.Maps.{get-merged}
-use Rattle.t1_algebra.proofs.Sets.{cases_Option, name_same, cases}
-use Rattle.std.specs.List.{list_any, AllByRecursion}
-use Rattle.t1_join.specs.StateLaws.{same_meaning-true, same_meaning-self}
 use Rattle.t1_font.proofs.MapLemmas.{get-map_values, entries-map_values, entries_all}
+use Rattle.t1_algebra.specs.StateTables.{new_entries, numbered, name_meaning, AreNameStates, behind_mark, glyph_table, names_table, AreSought, code_states}
 use Rattle.t1_algebra.specs.Interpreter.{same_bytes}
 use Rattle.t1_algebra.specs.Searches.{IsLowest}
 use Rattle.t1_algebra.specs.NameStates.{is_sought_in, charstrings_differ, one_lacks, differs_from}
-use Rattle.t1_algebra.proofs.Shares.{bytes_decide}
-use Rattle.std.proofs.lemmas.Bool.{cases_Bool, not-true}
-use Rattle.std.specs.FinMap as maps
 use Rattle.t1_algebra.specs.States.{Agree, code_state, joined}
+use Rattle.t1_algebra.proofs.Maps.{get-merged}
+use Rattle.t1_algebra.proofs.Sets.{cases_Option, name_same, cases}
+use Rattle.t1_algebra.proofs.Shares.{bytes_decide}
 
 module _ {K X : Type 0} {R : K → K → Ordering} (o : IsTotalOrder R) (w : K → X → ℕ) where
   -- the entries of fs whose keys are not in es

@@ -5,13 +5,13 @@ use Rattle.std.specs.Cmp.{both_ways}
 use Rattle.std.specs.Cmp.Lexicographic.{nat_list_cmp_total}
 use Rattle.std.specs.FinSet as sets
 use Rattle.std.specs.FinMap as maps
+use Rattle.std.proofs.lemmas.Bool.{or_cases, or_left, or_right}
 use Rattle.t1_font.specs.FontModel.{names_in}
 use Rattle.t1_font.specs.FontValue.{FontValue}
 use Rattle.t1_algebra.specs.Interpreter.{Interpreter, same_bytes}
 use Rattle.t1_algebra.specs.Keep.{has, components}
 use Rattle.t1_algebra.specs.States.{executed_at, executes, called_at, calls_for, is_called, is_sought}
 use Rattle.t1_algebra.proofs.Sets.{name_same, any_one, any_at, cases}
-use Rattle.std.proofs.lemmas.Bool.{or_cases, or_left, or_right}
 
 -- what is there is some value
 pub has_some : {X : Type 0} (x : Option X) → is_some x ≡ true → (c : X) × (x ≡ Some c)

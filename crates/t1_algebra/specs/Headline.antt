@@ -3,6 +3,7 @@ use Rattle.std.specs.Prelude.{◌≡◌, ℕ, true, List, Ok, IsPermutation}
 use Rattle.std.specs.FinSet as sets
 use Rattle.t1_bytes.specs.declared.form.Form.{Form}
 use Rattle.t1_bytes.specs.Laws.{AreBytes}
+use Rattle.t1_join.specs.Groupings.{Grouping, one, two, EachLeaf, leaves}
 use Rattle.t1_font.specs.FontValue.{FontValue}
 use Rattle.t1_font.specs.Canon.{canon}
 use Rattle.t1_font.specs.ReadFont.{read_font}
@@ -12,7 +13,6 @@ use Rattle.t1_algebra.specs.Interpreter.{Names}
 use Rattle.t1_algebra.specs.Keep.{keep, subset}
 use Rattle.t1_algebra.specs.Profile.{profile}
 use Rattle.t1_algebra.specs.Laws.{IsOf, DrawsAlike}
-use Rattle.t1_join.specs.Groupings.{Grouping, one, two, EachLeaf, leaves}
 use Rattle.t1_algebra.specs.Groupings.{JoinTo, union_all}
 
 -- How a font is made of a font's subsets: the file of the subset over some names is read; two fonts are merged; a font

@@ -4,6 +4,7 @@ use Rattle.std.specs.FinSet as sets
 use Rattle.std.specs.FinMap as maps
 use Rattle.t1_run.specs.Run.{direct, direct3, exec}
 use Rattle.t1_run.specs.Drawings.{draw, draw3}
+use Rattle.t1_join.specs.Groupings.{Grouping, EachLeaf, leaves, map_grouping, one, from_left}
 use Rattle.t1_font.specs.FontValue.{FontValue, weight}
 use Rattle.t1_font.specs.FontModel.{subr_at}
 use Rattle.t1_font.specs.IsFont.{IsFont}
@@ -14,7 +15,6 @@ use Rattle.t1_algebra.specs.States.{Compatible, Join, IsWithin, joined, joined_f
 use Rattle.t1_algebra.specs.StateTables.{states_of, StatesAgree, StatesJoin}
 use Rattle.t1_algebra.specs.Conflicts.{conflict}
 use Rattle.t1_algebra.specs.JoinedEntries.{EntriesJoin}
-use Rattle.t1_join.specs.Groupings.{Grouping, EachLeaf, leaves, map_grouping, one, from_left}
 use Rattle.t1_algebra.specs.Groupings.{union_all, Merges, folded, EachPair}
 
 -- a set of names that the font has

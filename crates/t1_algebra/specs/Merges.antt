@@ -1,8 +1,8 @@
 -- What merges of fonts come to.
 use Rattle.std.specs.Prelude.{◌≡◌, ℕ, true, List, [], ◌∷◌}
 use Rattle.std.specs.List.{AllByRecursion}
-use Rattle.t1_font.specs.FontValue.{FontValue}
 use Rattle.t1_join.specs.Groupings.{Grouping, one, leaves, from_left}
+use Rattle.t1_font.specs.FontValue.{FontValue}
 use Rattle.t1_algebra.specs.Keep.{has}
 use Rattle.t1_algebra.specs.Profile.{profile}
 use Rattle.t1_algebra.specs.States.{IsWithin}

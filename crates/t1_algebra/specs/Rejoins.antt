@@ -4,6 +4,7 @@ use Rattle.std.specs.List.{AllByRecursion}
 use Rattle.std.specs.Option.{option_map}
 use Rattle.std.specs.FinMap as maps
 use Rattle.std.specs.FinSet as sets
+use Rattle.t1_join.specs.Groupings.{Grouping, leaves}
 use Rattle.t1_font.specs.FontValue.{FontValue, SubrsShell, declared_count}
 use Rattle.t1_font.specs.IsFont.{IsFont}
 use Rattle.t1_font.specs.Tags.{untagged_head}
@@ -12,7 +13,6 @@ use Rattle.t1_algebra.specs.Interpreter.{Names}
 use Rattle.t1_algebra.specs.Keep.{keep, kept, subset}
 use Rattle.t1_algebra.specs.Profile.{profile}
 use Rattle.t1_algebra.specs.Laws.{IsOf, DrawsAlike}
-use Rattle.t1_join.specs.Groupings.{Grouping, leaves}
 use Rattle.t1_algebra.specs.Groupings.{union_all, Merges}
 use Rattle.t1_algebra.specs.Merges.{MergesTo}
 

@@ -2,19 +2,19 @@
 use Rattle.std.specs.Prelude.{◌≡◌, ℕ, Bool, true, false, List, [], ◌∷◌, Option, Some, None, map}
 use Rattle.std.specs.List.{AllByRecursion}
 use Rattle.std.specs.FinMap as maps
+use Rattle.t1_join.specs.Meaning.{of_number}
 use Rattle.t1_font.specs.FontValue.{FontValue, name_cmp}
 use Rattle.t1_font.specs.FontModel.{names_in}
 use Rattle.t1_font.specs.IsFont.{IsFont}
-use Rattle.t1_subset.specs.declared.callers.Callers.{Callers}
 use Rattle.t1_algebra.specs.Interpreter.{same_bytes}
 use Rattle.t1_algebra.specs.Profile.{profile}
 use Rattle.t1_algebra.specs.Conflicts.{wants}
 use Rattle.t1_algebra.specs.States.{executes}
 use Rattle.t1_algebra.specs.Searches.{first_where}
+use Rattle.t1_subset.specs.declared.callers.Callers.{Callers}
 use Rattle.t1_subset.specs.Differences.{smaller}
 use Rattle.t1_subset.specs.declared.state_making.Uses.{Uses}
 use Rattle.t1_subset.specs.Users.{noted_at}
-use Rattle.t1_join.specs.Meaning.{of_number}
 
 -- the smallest glyph of the font that executes the index
 abbrev pub user_of : FontValue → ℕ → Option (List ℕ)

@@ -6,10 +6,10 @@ use Rattle.std.specs.declared.cmp.Ordering.{Ordering}
 use Rattle.std.specs.Ordering.{is_lt}
 use Rattle.t1_join.specs.Meaning.{Meaning}
 use Rattle.t1_join.specs.TableMeaning.{TableMeaning}
-use Rattle.t1_subset.specs.declared.conflict.ShellPart.{ShellPart as Part}
-use Rattle.t1_subset.specs.declared.conflict.ShellPart.TheVariants as part
 use Rattle.t1_algebra.specs.States.{is_stub}
 use Rattle.t1_algebra.specs.Shared.{ShellPart, Head, EncodingPart, ClearTail, Private, SubrsTable, SubrsWords, Middle, GlyphsWords, Tail}
+use Rattle.t1_subset.specs.declared.conflict.ShellPart.{ShellPart as Part}
+use Rattle.t1_subset.specs.declared.conflict.ShellPart.TheVariants as part
 
 -- the part of the shell that a variant in code stands for
 abbrev pub shell_part : Part → ShellPart

@@ -3,25 +3,25 @@ use Rattle.std.proofs.Common.{◌≡◌, ◌<◌, ℕ, List, [], ◌∷◌, map,
 use Rattle.std.proofs.lemmas.Bool.{ltb-true, lt-ltb}
 use Rattle.std.specs.Cmp.{nat_cmp_total}
 use Rattle.std.specs.FinSet.{nat_cmp-IsAntisymmetric}
+use Rattle.std.specs.List.{AllByRecursion}
+use Rattle.std.specs.FinMap as maps
 use Rattle.t1_run.specs.Run.{Subrs}
 use Rattle.t1_run.specs.Growth.{Extends}
 use Rattle.t1_run.proofs.Grown.{runs_with_more, draws_with_more}
+use Rattle.t1_join.specs.Groupings.{leaves}
+use Rattle.t1_join.proofs.OrderLemmas.{all_leaves}
 use Rattle.t1_font.specs.FontValue.{FontValue, SubrsShell, Numbered, declared_count, Shell}
 use Rattle.t1_font.specs.FontModel.{subr_at}
 use Rattle.t1_font.specs.Evening.{raised, even, stubs_at, with_stubs, filled, largest_count, indices_of_all, evened_shells}
-use Rattle.t1_algebra.specs.Evened.{StaysDrawn, subrs_of, AllStayDrawn, EachBeside, EvenedDraw}
-use Rattle.t1_algebra.specs.States.{joined}
-use Rattle.t1_algebra.proofs.Maps.{get-merged}
-use Rattle.std.specs.List.{AllByRecursion}
-use Rattle.t1_join.specs.Groupings.{leaves}
-use Rattle.t1_join.proofs.OrderLemmas.{all_leaves}
 use Rattle.t1_font.specs.EveningLaws.{IsEvenWith}
 use Rattle.t1_font.proofs.even_fonts.EvenStays.{even_fonts_stay}
+use Rattle.t1_algebra.specs.Evened.{StaysDrawn, subrs_of, AllStayDrawn, EachBeside, EvenedDraw}
+use Rattle.t1_algebra.specs.States.{joined}
 use Rattle.t1_algebra.specs.Profile.{profile}
 use Rattle.t1_algebra.specs.Rejoins.{IsUntagged, MergingFontsAreEven}
+use Rattle.t1_algebra.proofs.Maps.{get-merged}
 use Rattle.t1_algebra.proofs.Orders.{Below, above}
 use Rattle.t1_algebra.proofs.Shares.{shared_to}
-use Rattle.std.specs.FinMap as maps
 use Rattle.t1_algebra.proofs.Sets.{cases}
 
 -- if a font has the same glyphs and more Subrs, each glyph stays drawn

@@ -3,26 +3,26 @@ use Rattle.std.proofs.Common.{◌≡◌, ◌<◌, ℕ, nat_lt, true, false, cond
 use Rattle.std.proofs.lemmas.Bool.{lt-ltb, ltb-true, ltb-false}
 use Rattle.std.specs.Cmp.{nat_cmp_total}
 use Rattle.std.specs.FinSet.{nat_cmp-IsAntisymmetric}
-use Rattle.t1_font.specs.FontValue.{FontValue, notdef, Shell, SubrsShell, Numbered, declared_count}
-use Rattle.t1_font.proofs.MapLemmas.{get-retain, get-map_values}
-use Rattle.t1_algebra.specs.Interpreter.{Interpreter, Names}
-use Rattle.t1_algebra.specs.Keep.{keep, kept, components_here, has, charstring, subset}
-use Rattle.t1_algebra.specs.Rejoins.{cut_to, without_tag, declares, Truncated, IsTruncated, fonts_of, sets_of, largest, shared_font}
-use Rattle.t1_algebra.proofs.Kept.{InFont, keep_has, kept_call, keep_alike, kept_alike}
-use Rattle.t1_algebra.proofs.Sets.{clash, any_filter, any_filter_from, cases}
 use Rattle.std.specs.List.{list_any, AllByRecursion}
 use Rattle.std.specs.Ordering.{eq_by_cmp}
+use Rattle.std.specs.FinMap as maps
+use Rattle.std.specs.FinSet as sets
+use Rattle.std.proofs.lemmas.List.Folds.{list_any-append}
+use Rattle.t1_font.specs.FontValue.{FontValue, notdef, Shell, SubrsShell, Numbered, declared_count}
+use Rattle.t1_font.proofs.MapLemmas.{get-retain, get-map_values}
 use Rattle.t1_font.specs.IsFont.{IsFont, SubrsFit, SubrWords}
 use Rattle.t1_font.specs.Tags.{untagged_head}
 use Rattle.t1_font.specs.Cut.{stub, restrict_encoding}
 use Rattle.t1_font.specs.Evening.{raised, even_shell, even, stubs_at, below, with_stubs, filled, largest_count, indices_of_all, evened}
+use Rattle.t1_algebra.specs.Interpreter.{Interpreter, Names}
+use Rattle.t1_algebra.specs.Keep.{keep, kept, components_here, has, charstring, subset}
+use Rattle.t1_algebra.specs.Rejoins.{cut_to, without_tag, declares, Truncated, IsTruncated, fonts_of, sets_of, largest, shared_font}
 use Rattle.t1_algebra.specs.Profile.{profile}
 use Rattle.t1_algebra.specs.States.{joined}
 use Rattle.t1_algebra.specs.Laws.{IsOf}
+use Rattle.t1_algebra.proofs.Kept.{InFont, keep_has, kept_call, keep_alike, kept_alike}
+use Rattle.t1_algebra.proofs.Sets.{clash, any_filter, any_filter_from, cases}
 use Rattle.t1_algebra.proofs.Maps.{get-merged, get-valued}
-use Rattle.std.specs.FinMap as maps
-use Rattle.std.specs.FinSet as sets
-use Rattle.std.proofs.lemmas.List.Folds.{list_any-append}
 
 -- the font without its tag, cut to its first Subrs
 abbrev pub first_of : ℕ → FontValue → FontValue

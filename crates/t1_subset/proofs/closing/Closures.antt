@@ -6,33 +6,33 @@ use Rattle.std.proofs.lemmas.Map.Keys.{IsDistinct-push}
 use Rattle.std.proofs.lemmas.List.{take-append-le, map-append, append-nil}
 use Rattle.std.specs.Cmp.{eq_by_cmp_equiv, nat_cmp_total}
 use Rattle.std.specs.Cmp.Lexicographic.{nat_list_cmp_total, pointwise, texts_ties}
-use Rattle.t1_algebra.specs.Interpreter.{same_bytes, Interpreter, Names, Numbers}
-use Rattle.t1_subset.specs.ClosureNames.{push_new, push_all}
-use Rattle.t1_algebra.proofs.Sets.{name_same, tied, itself, any_append, any_append_left, any_append_right, here_or, here, later, in_list, any_filter, from_in_list, same_members}
 use Rattle.std.specs.Prelude.{nat_eq}
 use Rattle.std.specs.Borrow.{Bor}
-use Rattle.indexmap.specs.IndexSet.{insert_key}
-use Rattle.t1_subset.specs.NameSets.{lent}
 use Rattle.std.specs.FinSet as sets
-use Rattle.t1_font.specs.FontValue.{FontValue, name_cmp, notdef}
-use Rattle.t1_algebra.specs.Keep.{has, Closed, keep, components, components_here, charstring, kept, subset}
-use Rattle.t1_algebra.specs.Laws.{IsOf, DrawsAlike}
-use Rattle.t1_algebra.specs.Searches.{first_where}
-use Rattle.t1_algebra.proofs.Searching.{none_at_all}
 use Rattle.std.specs.Map.{lookup}
 use Rattle.std.proofs.lemmas.Map.Steps.{length-le_from_keys}
 use Rattle.std.proofs.lemmas.List.Folds.{list_any_more, list_any_at}
 use Rattle.std.specs.FinMap as maps
 use Rattle.std.specs.FinMap.{find}
-use Rattle.t1_algebra.proofs.Kept.{keep_least, keep_from, keep_has, keep_closed}
 use Rattle.std.specs.BTreeSet.{BTreeSet, contains}
 use Rattle.std.specs.Global.{Vec}
+use Rattle.std.proofs.lemmas.Option.{slice_get_cases}
+use Rattle.t1_font.specs.FontValue.{FontValue, name_cmp, notdef}
 use Rattle.t1_font.specs.IsFont.{IsFont}
 use Rattle.t1_font.specs.Cut.{set_of_names, restrict}
+use Rattle.t1_algebra.specs.Interpreter.{same_bytes, Interpreter, Names, Numbers}
+use Rattle.t1_algebra.specs.Keep.{has, Closed, keep, components, components_here, charstring, kept, subset}
+use Rattle.t1_algebra.specs.Laws.{IsOf, DrawsAlike}
+use Rattle.t1_algebra.specs.Searches.{first_where}
 use Rattle.t1_algebra.specs.Profile.{profile}
-use Rattle.t1_subset.specs.Calls.{number_set}
+use Rattle.t1_algebra.proofs.Sets.{name_same, tied, itself, any_append, any_append_left, any_append_right, here_or, here, later, in_list, any_filter, from_in_list, same_members}
+use Rattle.t1_algebra.proofs.Searching.{none_at_all}
+use Rattle.t1_algebra.proofs.Kept.{keep_least, keep_from, keep_has, keep_closed}
 use Rattle.t1_algebra.proofs.Drawings.{subset_alike}
-use Rattle.std.proofs.lemmas.Option.{slice_get_cases}
+use Rattle.t1_subset.specs.ClosureNames.{push_new, push_all}
+use Rattle.t1_subset.specs.NameSets.{lent}
+use Rattle.t1_subset.specs.Calls.{number_set}
+use Rattle.indexmap.specs.IndexSet.{insert_key}
 
 -- ---- names that are added to a list
 

@@ -7,13 +7,13 @@ use Rattle.std.specs.Ordering.{eq_by_cmp, match_ordering}
 use Rattle.std.specs.Cmp.Lexicographic.{nat_list_cmp_total}
 use Rattle.std.specs.BTreeSet.{insert_key}
 use Rattle.std.specs.FinSet as sets
-use Rattle.t1_font.specs.FontValue.{name_cmp}
-use Rattle.t1_subset.specs.NameSets.{names_of, set_by, lent}
-use Rattle.t1_algebra.proofs.Sets.{name_same}
 use Rattle.std.specs.Cmp.{IsTotalOrder}
 use Rattle.std.specs.FinSet.{FinSet, IsAntisymmetric}
-use Rattle.t1_algebra.specs.Interpreter.{Names}
 use Rattle.std.proofs.lemmas.Grind.{common_steps}
+use Rattle.t1_font.specs.FontValue.{name_cmp}
+use Rattle.t1_algebra.specs.Interpreter.{Names}
+use Rattle.t1_algebra.proofs.Sets.{name_same}
+use Rattle.t1_subset.specs.NameSets.{names_of, set_by, lent}
 
 -- ---- names in memory
 

@@ -8,13 +8,13 @@ use Rattle.std.specs.Cmp.Lexicographic.{nat_list_cmp_total}
 use Rattle.std.specs.BTreeSet.{insert_key}
 use Rattle.std.specs.FinSet as sets
 use Rattle.std.specs.FinSet.{nat_cmp-IsAntisymmetric}
+use Rattle.std.proofs.lemmas.List.Folds.{list_any_more, list_any-append}
 use Rattle.t1_run.specs.Run.{Subrs, calls, calls3, with_indices, with_executed, exec}
 use Rattle.t1_font.specs.FontValue.{name_cmp, FontValue}
 use Rattle.t1_algebra.specs.Interpreter.{Numbers, Names}
-use Rattle.t1_algebra.proofs.Sets.{name_same, any_at, any_one, any_flat, any_flat_from, in_list, from_in_list, in_items, from_in_items}
-use Rattle.std.proofs.lemmas.List.Folds.{list_any_more, list_any-append}
 use Rattle.t1_algebra.specs.Keep.{called_by}
 use Rattle.t1_algebra.specs.Profile.{profile, set_of}
+use Rattle.t1_algebra.proofs.Sets.{name_same, any_at, any_one, any_flat, any_flat_from, in_list, from_in_list, in_items, from_in_items}
 use Rattle.t1_subset.proofs.closing.NameSets.{any_insert, or_swapped}
 use Rattle.t1_subset.proofs.closing.NameSets as unions
 use Rattle.t1_subset.proofs.closing.Runs.{calls_by, calls_of}

@@ -10,8 +10,8 @@ use Rattle.t1_font.specs.FontValue.{FontValue, Encoding, Word, Codes, Numbered}
 use Rattle.t1_algebra.specs.Profile.{profile}
 use Rattle.t1_algebra.specs.States.{code_state, is_called, state_of_entry}
 use Rattle.t1_algebra.specs.StateTables.{numbered, code_states}
-use Rattle.t1_subset.specs.Differences.{with_state, entry_state}
 use Rattle.t1_algebra.proofs.Tables.{get-numbered, numbered-empty, numbered-insert}
+use Rattle.t1_subset.specs.Differences.{with_state, entry_state}
 
 -- the table has what x gives for the numbers below n, and nothing else
 pub record HasBelow (t : TableMeaning) (x : ℕ → Option (List ℕ)) (n : ℕ) : Type 0 where

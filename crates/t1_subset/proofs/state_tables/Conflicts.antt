@@ -4,44 +4,43 @@ use Rattle.std.proofs.lemmas.Bool.{ltb-true, ltb-false, cases_Bool, or_left, fal
 use Rattle.std.specs.Cmp.{nat_cmp_total, first_so}
 use Rattle.std.specs.FinSet.{nat_cmp-IsAntisymmetric}
 use Rattle.std.specs.FinMap as maps
+use Rattle.std.specs.List.{list_any}
+use Rattle.std.specs.Cmp.Lexicographic.{nat_list_cmp_total}
+use Rattle.std.specs.Option.{option_map}
+use Rattle.t1_join.specs.TableMeaning.{TableMeaning, TablesAgree, IsFirstConflict}
+use Rattle.t1_join.specs.Meaning.{Meaning, meaning_cmp, of_number, by_number_law}
+use Rattle.t1_join.specs.Join.{StatesAgree, states_agree, joined_state}
+use Rattle.t1_join.specs.TableLaws.{same_table}
 use Rattle.t1_font.specs.FontValue.{FontValue, Encoding, Word, Codes, name_cmp}
 use Rattle.t1_font.specs.FontModel.{name_at}
 use Rattle.t1_font.specs.IsFont.{IsFont, IsEncoding}
-use Rattle.t1_algebra.specs.Conflicts.{agrees, codes_of_both, subr_clashes, ShellDiffers, CodeDiffers, GlyphDiffers, LacksComponent, SubrDiffers, keys_of_both, shell_conflict, code_conflict, glyph_conflict, component_conflict, subr_conflict, wanted_by, used_by, glyph_names, code_clashes, glyph_clashes, component_clashes, Conflict, OverLimit, states_conflict, conflict, is_within}
-use Rattle.t1_algebra.specs.States.{code_state, state_of_entry, subr_state, is_sought, name_state, state_of_glyph, IsWithin, Join, joined_font}
-use Rattle.t1_algebra.proofs.Maps.{in_both}
-use Rattle.t1_algebra.proofs.Searching.{first_passes, found_none}
-use Rattle.t1_algebra.proofs.Sets.{name_same}
-use Rattle.t1_algebra.specs.Interpreter.{Interpreter}
-use Rattle.t1_algebra.specs.Keep.{has}
-use Rattle.t1_algebra.specs.Profile.{profile}
-use Rattle.t1_join.specs.TableMeaning.{TableMeaning, TablesAgree, IsFirstConflict}
-use Rattle.t1_algebra.specs.StateTables.{StatesValue, code_states, name_states, used_subrs, numbered, states_of, behind_mark, names_table, name_meaning}
-use Rattle.t1_algebra.specs.Shared.{Shared, shared_of, differing_part, ShellPart}
-use Rattle.t1_algebra.specs.Searches.{found, smallest, members, IsLowest}
-use Rattle.t1_subset.specs.Clashes.{entries_conflict, uses_conflict}
-use Rattle.std.specs.List.{list_any}
-use Rattle.std.specs.Cmp.Lexicographic.{nat_list_cmp_total}
-use Rattle.t1_join.specs.Meaning.{Meaning, meaning_cmp, of_number, by_number_law}
-use Rattle.t1_join.specs.Join.{StatesAgree, states_agree, joined_state}
-use Rattle.t1_algebra.proofs.Tables.{get-numbered}
-use Rattle.t1_algebra.proofs.FontStates.{get-used, meant, get-names}
-use Rattle.t1_algebra.proofs.Tables.{meanings_as_bytes, get-name}
-use Rattle.t1_subset.proofs.state_tables.LowestKeys.{lowest_is}
-use Rattle.t1_join.specs.TableLaws.{same_table}
-use Rattle.t1_subset.specs.Callers.{seeker_of}
-use Rattle.t1_algebra.specs.NameStates.{is_sought_in, charstrings_differ, one_lacks}
-use Rattle.t1_subset.proofs.state_tables.FontCallers.{any_first, sought_is, smallest_seeker}
 use Rattle.t1_font.specs.Joins.{join_parts, IsOverLimits, Refuses}
 use Rattle.t1_font.specs.WriteLaws.{SameKind}
 use Rattle.t1_font.specs.declared.parts.PartsFault.{PartsFault}
 use Rattle.t1_font.specs.declared.parts.PartsFault.TheVariants as parts
-use Rattle.std.specs.Option.{option_map}
-use Rattle.t1_subset.specs.declared.conflict.Conflict.{Conflict as Refusal}
-use Rattle.t1_subset.specs.Refusals.{Tells, of_parts}
+use Rattle.t1_algebra.specs.Conflicts.{agrees, codes_of_both, subr_clashes, ShellDiffers, CodeDiffers, GlyphDiffers, LacksComponent, SubrDiffers, keys_of_both, shell_conflict, code_conflict, glyph_conflict, component_conflict, subr_conflict, wanted_by, used_by, glyph_names, code_clashes, glyph_clashes, component_clashes, Conflict, OverLimit, states_conflict, conflict, is_within}
+use Rattle.t1_algebra.specs.States.{code_state, state_of_entry, subr_state, is_sought, name_state, state_of_glyph, IsWithin, Join, joined_font}
+use Rattle.t1_algebra.specs.Interpreter.{Interpreter}
+use Rattle.t1_algebra.specs.Keep.{has}
+use Rattle.t1_algebra.specs.Profile.{profile}
+use Rattle.t1_algebra.specs.StateTables.{StatesValue, code_states, name_states, used_subrs, numbered, states_of, behind_mark, names_table, name_meaning}
+use Rattle.t1_algebra.specs.Shared.{Shared, shared_of, differing_part, ShellPart}
+use Rattle.t1_algebra.specs.Searches.{found, smallest, members, IsLowest}
+use Rattle.t1_algebra.specs.NameStates.{is_sought_in, charstrings_differ, one_lacks}
+use Rattle.t1_algebra.proofs.Maps.{in_both}
+use Rattle.t1_algebra.proofs.Searching.{first_passes, found_none}
+use Rattle.t1_algebra.proofs.Sets.{name_same}
+use Rattle.t1_algebra.proofs.Tables.{get-numbered, meanings_as_bytes, get-name}
+use Rattle.t1_algebra.proofs.FontStates.{get-used, meant, get-names}
 use Rattle.t1_algebra.proofs.Conflicts.{compatible, within_so}
 use Rattle.t1_algebra.proofs.Fonts.{font_within}
 use Rattle.t1_algebra.proofs.JoinedStates.{joined_are_entries}
+use Rattle.t1_subset.specs.Clashes.{entries_conflict, uses_conflict}
+use Rattle.t1_subset.specs.Callers.{seeker_of}
+use Rattle.t1_subset.specs.declared.conflict.Conflict.{Conflict as Refusal}
+use Rattle.t1_subset.specs.Refusals.{Tells, of_parts}
+use Rattle.t1_subset.proofs.state_tables.LowestKeys.{lowest_is}
+use Rattle.t1_subset.proofs.state_tables.FontCallers.{any_first, sought_is, smallest_seeker}
 
 -- a state that does not join is not the bottom
 pub there_of : (x y : Option (List ℕ)) → not (agrees x y) ≡ true → is_some x ≡ true

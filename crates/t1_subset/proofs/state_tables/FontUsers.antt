@@ -4,8 +4,8 @@ use Rattle.std.proofs.Common.{◌≡◌, ◌<◌, ℕ, Bool, true, cond, ◌||�
 use Rattle.std.specs.FinMap as maps
 use Rattle.t1_font.specs.FontValue.{FontValue, declared_count}
 use Rattle.t1_font.specs.IsFont.{IsFont}
-use Rattle.t1_algebra.specs.States.{joined}
 use Rattle.t1_font.proofs.FontReaders.{subrs_seen}
+use Rattle.t1_algebra.specs.States.{joined}
 
 -- a font has no Subr at its declared count or above it
 pub absent_beyond : (f : FontValue) → IsFont f → (q : ℕ) → declared_count f.shell.subrs ≤ q → maps.get f.subrs q ≡ None

@@ -10,11 +10,10 @@ use Rattle.std.specs.FinMap.Entries.{below_all, is_sorted}
 use Rattle.t1_font.proofs.MapLemmas.{T_true}
 use Rattle.t1_algebra.specs.Conflicts.{keys_of_both}
 use Rattle.t1_algebra.specs.Searches.{smallest, members, first_where, IsLowest}
-use Rattle.t1_subset.specs.Differences.{smaller}
 use Rattle.t1_algebra.proofs.Maps.{in_both}
-use Rattle.t1_algebra.proofs.Searching.{passes_none, none_at_all, first_passes}
-use Rattle.t1_algebra.proofs.Searching.{smallest_is, below_later}
+use Rattle.t1_algebra.proofs.Searching.{passes_none, none_at_all, first_passes, smallest_is, below_later}
 use Rattle.t1_algebra.proofs.Sets.{tied}
+use Rattle.t1_subset.specs.Differences.{smaller}
 
 less_of : (r : Ordering) → is_lt r ≡ true → r ≡ Less
 less_of Less h = refl

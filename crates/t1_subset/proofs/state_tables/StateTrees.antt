@@ -6,23 +6,23 @@ use Rattle.t1_join.specs.Groupings.{Grouping, one, two, leaves, from_left, Uses,
 use Rattle.t1_join.proofs.OrderLemmas.{each_leaf, leaves_mapped, leaves_from_left, uses_its}
 use Rattle.t1_font.specs.declared.parts.PartsFault.{PartsFault}
 use Rattle.t1_font.specs.declared.parts.PartsFault.TheVariants as parts
-use Rattle.t1_subset.specs.Refusals.{of_parts}
 use Rattle.t1_font.specs.FontValue.{FontValue, Encoding}
 use Rattle.t1_font.specs.IsFont.{IsFont}
 use Rattle.t1_font.specs.Joins.{join_encodings, join_parts, join_all_parts, HaveOneGlyph, Refuses}
 use Rattle.t1_font.specs.Maps.{IsPartOf}
 use Rattle.t1_font.specs.WriteLaws.{SameKind}
-use Rattle.t1_subset.specs.declared.conflict.Conflict.{Conflict as Refusal}
-use Rattle.t1_subset.specs.declared.conflict.Conflict.TheVariants.{Memory}
 use Rattle.t1_algebra.specs.Profile.{profile}
 use Rattle.t1_algebra.specs.States.{IsWithin, Compatible, Join, joined_font}
 use Rattle.t1_algebra.specs.Groupings.{Merges}
 use Rattle.t1_algebra.specs.StateTables.{StatesValue, StatesJoin, states_of}
-use Rattle.t1_subset.specs.Merger.{IsRefused}
 use Rattle.t1_algebra.specs.Merges.{EachGroupingMerges, ComesTo}
 use Rattle.t1_algebra.proofs.Fonts.{font_within}
 use Rattle.t1_algebra.proofs.JoinedStates.{font_back, left_glyph, joined_are_entries}
 use Rattle.t1_algebra.proofs.Orders.{grouped, merges_by_states}
+use Rattle.t1_subset.specs.Refusals.{of_parts}
+use Rattle.t1_subset.specs.declared.conflict.Conflict.{Conflict as Refusal}
+use Rattle.t1_subset.specs.declared.conflict.Conflict.TheVariants.{Memory}
+use Rattle.t1_subset.specs.Merger.{IsRefused}
 
 -- a grouping of fonts groups the states of all of them
 pub uses_all : (t : Grouping FontValue) (fs : List FontValue) → leaves t ≡ fs → Uses (grouped profile t) (map (states_of profile) fs)

@@ -4,33 +4,32 @@ use Rattle.std.proofs.lemmas.List.{get_or-map, length-map, map-append, take_more
 use Rattle.std.proofs.lemmas.Grind.{common_steps}
 use Rattle.std.proofs.lemmas.List.Sorted.{IsPermutation-refl}
 use Rattle.std.specs.List.{AllByRecursion}
+use Rattle.t1_join.specs.Groupings.{Grouping, one, leaves, from_left}
+use Rattle.t1_join.proofs.OrderLemmas.{leaves_from_left, each_leaf, all_of_both}
 use Rattle.t1_font.specs.FontValue.{FontValue}
 use Rattle.t1_font.specs.IsFont.{IsFont}
-use Rattle.t1_subset.specs.declared.callers.Callers.{Callers}
-use Rattle.t1_subset.specs.declared.conflict.Conflict.{Conflict as Refusal}
-use Rattle.t1_subset.specs.declared.conflict.Conflict.TheVariants as refusal
 use Rattle.t1_algebra.specs.Profile.{profile}
 use Rattle.t1_algebra.specs.States.{Join, joined_font, IsWithin}
 use Rattle.t1_algebra.specs.StateTables.{StatesValue, StatesAgree, StatesJoin, states_of}
 use Rattle.t1_algebra.specs.StateLaws.{states_laws}
 use Rattle.t1_algebra.specs.Conflicts.{OverLimit, states_conflict, conflict}
 use Rattle.t1_algebra.specs.Searches.{found}
+use Rattle.t1_algebra.specs.Groupings.{Merges}
+use Rattle.t1_algebra.specs.Merges.{ComesTo, EachGroupingMerges}
+use Rattle.t1_algebra.proofs.Conflicts.{no_conflict}
+use Rattle.t1_algebra.proofs.FontStates.{join_exactly, states_join}
+use Rattle.t1_algebra.proofs.Fonts.{font_within, joined_is_font}
+use Rattle.t1_algebra.proofs.ManyMerges.{left_snoc}
+use Rattle.t1_algebra.proofs.Orders.{any_order}
+use Rattle.t1_subset.specs.declared.callers.Callers.{Callers}
+use Rattle.t1_subset.specs.declared.conflict.Conflict.{Conflict as Refusal}
+use Rattle.t1_subset.specs.declared.conflict.Conflict.TheVariants as refusal
 use Rattle.t1_subset.specs.Refusals.{Tells}
 use Rattle.t1_subset.specs.Callers.{AreCallersOf, AreNoted, fonts_of}
 use Rattle.t1_subset.specs.Clashes.{AreStatesOf, AreCallers}
-use Rattle.t1_join.specs.Groupings.{Grouping, one, leaves, from_left}
-use Rattle.t1_algebra.specs.Groupings.{Merges}
 use Rattle.t1_subset.specs.Merger.{IsRefused}
-use Rattle.t1_algebra.specs.Merges.{ComesTo, EachGroupingMerges}
-use Rattle.t1_algebra.proofs.Conflicts.{no_conflict}
 use Rattle.t1_subset.proofs.state_tables.Conflicts.{over}
 use Rattle.t1_subset.proofs.state_tables.FontCallers.{CallersSoFar, first_callers, both_callers, more_callers}
-use Rattle.t1_algebra.proofs.FontStates.{join_exactly, states_join}
-use Rattle.t1_algebra.proofs.Fonts.{font_within, joined_is_font}
-use Rattle.t1_join.proofs.OrderLemmas.{leaves_from_left}
-use Rattle.t1_algebra.proofs.ManyMerges.{left_snoc}
-use Rattle.t1_join.proofs.OrderLemmas.{each_leaf, all_of_both}
-use Rattle.t1_algebra.proofs.Orders.{any_order}
 use Rattle.t1_subset.proofs.state_tables.StateTrees.{all_within}
 
 -- ---- two fonts

@@ -4,9 +4,9 @@ use Rattle.std.specs.FinSet as sets
 use Rattle.std.specs.Cmp.Lexicographic.{nat_list_cmp_total}
 use Rattle.t1_font.specs.FontValue.{name_cmp}
 use Rattle.t1_algebra.specs.Interpreter.{Names}
+use Rattle.t1_algebra.proofs.Sets.{name_same}
 use Rattle.t1_subset.specs.NameSets.{lent, asked, set_by}
 use Rattle.t1_subset.proofs.closing.NameSets.{union_none, union_of_none}
-use Rattle.t1_algebra.proofs.Sets.{name_same}
 use Rattle.t1_subset.proofs.closures.upwards.Goals as goal
 
 pub names-init : goal.names-init

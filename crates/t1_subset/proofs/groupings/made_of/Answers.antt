@@ -1,8 +1,8 @@
 use Rattle.std.proofs.Common.{◌≡◌, subst, sym, ◌∙◌}
 use Rattle.std.proofs.lemmas.Result.{err_from_is_err_and}
 use Rattle.std.specs.Prelude.{IfErr}
-use Rattle.t1_subset.specs.declared.conflict.Conflict.TheVariants.{Memory}
 use Rattle.t1_algebra.specs.Merges.{EachGroupingMerges, ComesTo}
+use Rattle.t1_subset.specs.declared.conflict.Conflict.TheVariants.{Memory}
 use Rattle.t1_subset.proofs.state_tables.StateTrees.{parts_join, one_glyph, parts_come_to, parts_refused}
 use Rattle.t1_subset.proofs.groupings.made_of.Goals as goal
 

@@ -1,7 +1,7 @@
-use Rattle.t1_algebra.proofs.Fonts.{subset_is_font}
 use Rattle.t1_algebra.specs.Profile.{profile}
-use Rattle.t1_subset.proofs.laws.subset_is_font.Goals as goal
+use Rattle.t1_algebra.proofs.Fonts.{subset_is_font}
 use Rattle.t1_algebra.proofs.Subsets.{subset_weight}
+use Rattle.t1_subset.proofs.laws.subset_is_font.Goals as goal
 
 pub returns : goal.returns
 returns c f h a i = (subset_is_font profile f h a i, subset_weight profile f a)

@@ -1,5 +1,5 @@
-use Rattle.t1_subset.proofs.laws.subsets_draw.Goals as goal
 use Rattle.t1_algebra.proofs.Drawings.{subset_alike}
+use Rattle.t1_subset.proofs.laws.subsets_draw.Goals as goal
 
 pub returns : goal.returns
 returns c = subset_alike

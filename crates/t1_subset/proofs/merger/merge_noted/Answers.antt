@@ -1,10 +1,10 @@
 use Rattle.std.proofs.Common.{ap, ◌∙◌, map, sym, subst, List}
 use Rattle.t1_font.specs.FontValue.{FontValue}
-use Rattle.t1_subset.specs.Callers.{fonts_of}
-use Rattle.t1_subset.specs.Merger.{IsRefused}
 use Rattle.t1_algebra.specs.Merges.{EachGroupingMerges}
 use Rattle.t1_algebra.specs.Profile.{profile}
 use Rattle.t1_algebra.specs.StateTables.{states_of}
+use Rattle.t1_subset.specs.Callers.{fonts_of}
+use Rattle.t1_subset.specs.Merger.{IsRefused}
 use Rattle.t1_subset.proofs.state_tables.StateTrees.{refused_err}
 use Rattle.t1_subset.proofs.state_tables.Walks.{some_noted}
 use Rattle.t1_subset.proofs.merger.merge_noted.Goals as goal

@@ -2,9 +2,9 @@ use Rattle.std.proofs.Common.{◌≡◌, ◌∙◌, ap, sym, arith, ℕ, List, B
 use Rattle.t1_algebra.specs.Profile.{profile}
 use Rattle.t1_algebra.specs.States.{subr_state, state_of_entry}
 use Rattle.t1_algebra.specs.StateTables.{used_subrs}
+use Rattle.t1_algebra.proofs.FontStates.{get-used}
 use Rattle.t1_subset.proofs.state_tables.FontCallers.{called_is}
 use Rattle.t1_subset.proofs.state_tables.FontUsers.{absent_beyond}
-use Rattle.t1_algebra.proofs.FontStates.{get-used}
 use Rattle.t1_subset.proofs.state_tables.ByNumber.{has_none, has_next, has_all, entry_is}
 use Rattle.t1_subset.proofs.tables.subr_table.Goals as goal
 

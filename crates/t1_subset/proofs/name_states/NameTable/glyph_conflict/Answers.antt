@@ -4,10 +4,10 @@ use Rattle.std.specs.FinMap as maps
 use Rattle.t1_algebra.specs.StateTables.{behind_mark}
 use Rattle.t1_algebra.specs.NameStates.{charstrings_differ, differs_from}
 use Rattle.t1_algebra.proofs.Sets.{name_same}
+use Rattle.t1_algebra.proofs.Tables.{charstring_in, differs_at}
 use Rattle.t1_subset.proofs.state_tables.Conflicts.{there_of}
 use Rattle.t1_subset.proofs.state_tables.LowestKeys.{lowest_entry}
 use Rattle.t1_subset.proofs.name_states.NameTable.glyph_conflict.Goals as goal
-use Rattle.t1_algebra.proofs.Tables.{charstring_in, differs_at}
 
 pub returns : goal.returns
 returns c =

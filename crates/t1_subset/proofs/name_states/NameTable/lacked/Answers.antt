@@ -5,9 +5,9 @@ use Rattle.std.specs.FinMap as maps
 use Rattle.t1_font.proofs.MapLemmas.{entries_all}
 use Rattle.t1_algebra.specs.NameStates.{lacks, lacks_in}
 use Rattle.t1_algebra.proofs.Sets.{name_same}
+use Rattle.t1_algebra.proofs.Tables.{seeks_in}
 use Rattle.t1_subset.proofs.state_tables.LowestKeys.{lowest_entry}
 use Rattle.t1_subset.proofs.name_states.NameTable.lacked.Goals as goal
-use Rattle.t1_algebra.proofs.Tables.{seeks_in}
 
 pub returns : goal.returns
 returns c =

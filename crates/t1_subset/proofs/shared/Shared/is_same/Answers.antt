@@ -1,5 +1,5 @@
-use Rattle.t1_subset.specs.Differences.{shell_part}
 use Rattle.t1_algebra.proofs.Shares.{parts_test}
+use Rattle.t1_subset.specs.Differences.{shell_part}
 use Rattle.t1_subset.proofs.shared.Shared.is_same.Goals as goal
 
 pub returns : goal.returns
