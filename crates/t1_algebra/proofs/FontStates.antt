@@ -18,14 +18,15 @@ use Rattle.t1_font.proofs.CutEntries.{entries-retain}
 use Rattle.t1_font.proofs.MapLemmas.{entries_all, get-retain, length_total}
 use Rattle.t1_algebra.specs.Interpreter.{Interpreter, same_bytes}
 use Rattle.t1_algebra.specs.States.{named_at, Agree, IsWithin, is_sought, subr_state, name_state, Compatible, Join, joined_font}
-use Rattle.t1_algebra.specs.StateTables.{StatesValue, numbered, name_meaning, AreSought, used_subrs, all_components, name_states, states_of, new_entries, subr_adds, name_adds, name_counts, states_weight, states_glyphs, StatesFit, IsSized, name_part, subr_part, joint_weight, joint_glyphs, PartsJoin, StatesAgree, StatesJoin, behind_mark, code_part}
+use Rattle.t1_algebra.specs.StateTables.{StatesValue, numbered, name_meaning, AreSought, used_subrs, all_components, name_states, states_of, subr_adds, name_adds, name_counts, states_weight, states_glyphs, StatesFit, name_part, subr_part, joined_states, PartsJoin, StatesAgree, StatesJoin, behind_mark, code_part}
 use Rattle.t1_algebra.specs.StateLaws.{PartsAgree, parts_laws}
 use Rattle.t1_algebra.proofs.Shares.{same_indices, shared_from, shared_to}
 use Rattle.t1_algebra.proofs.Maps.{get-valued}
 use Rattle.t1_algebra.proofs.Sets.{name_same, cases_Option, any_flat_map, cases}
 use Rattle.t1_algebra.proofs.JoinedStates.{subr_joined, name_joined, present_joined}
 use Rattle.t1_algebra.proofs.Subsets.{stub_is, same_font, same_encoding, code_joined}
-use Rattle.t1_algebra.proofs.Tables.{total-merged, get-numbered, entries-numbered, get-name, names_total, Shows, cases_key, codes_shown, shown_agree, agree_shown, shown_joined, to_agree, total_mapped}
+use Rattle.t1_algebra.proofs.Sums.{total_mapped, names_total}
+use Rattle.t1_algebra.proofs.Tables.{get-numbered, entries-numbered, get-name, Shows, cases_key, codes_shown, shown_agree, agree_shown, shown_joined, to_agree}
 
 -- ---- states that agree
 
@@ -144,10 +145,6 @@ module _ {O : Type 0} (m : Interpreter O) (f : FontValue) where
   pub within : StatesFit (states_of m f) → IsWithin f
   within w = record { weight = subst (λ n. n ≤ weight_limit) weight_is w.weight; glyphs = subst (λ n. n ≤ count_limit) glyphs_are w.glyphs }
 
--- the states of a font within the limits have the weight and the count of the font
-pub sized : {O : Type 0} (m : Interpreter O) (f : FontValue) → IsWithin f → (s : StatesValue) → s ≡ states_of m f → (w n : ℕ) → w ≡ weight f → n ≡ maps.len f.glyphs → IsSized s w n
-sized m f h s is w n ew en = subst (λ (s : StatesValue). IsSized s w n) (sym is) (record { fits = fits m f h; weighs = ew ∙ sym (weight_is m f); counts = en ∙ sym (glyphs_are m f) })
-
 -- ---- fonts join exactly if their states agree
 
 module _ {O : Type 0} (m : Interpreter O) (f g : FontValue) where
@@ -165,48 +162,19 @@ module _ {O : Type 0} (m : Interpreter O) (f g : FontValue) where
           let same : h.0 ≡ states_of m (joined_font m f g) = parts_laws.one_answer _ _ _ _ h.1.0 (parts_join m f g c) in
           record { states = c; within = within m (joined_font m f g) (subst StatesFit same (⊎_elim (λ a. a) (λ b. subst StatesFit b.0 (fits m f w)) h.1.1)) }
 
--- ---- what a joined value weighs
-
--- a joined table weighs the first and the new entries of the second
-joint_grows : (w : Meaning → Meaning → ℕ) (a b c : TableMeaning) → TablesJoin a b c → total w (maps.entries c) ≡ total w (maps.entries a) + total w (new_entries a (maps.entries b))
-joint_grows w a b c h = ap (λ (t : TableMeaning). total w (maps.entries t)) h.1 ∙ total-merged nat_list_cmp_total w name_same a b
-
--- a join weighs what is computed from its two sides
-pub joint_weighs : (x y z : StatesValue) → PartsJoin x y z → states_weight z ≡ joint_weight x y
-joint_weighs x y z h =
-    let subrs = joint_grows subr_adds (subr_part x) (subr_part y) (subr_part z) h.1.1.1 in
-    let names = joint_grows (name_adds x.0.0.len_iv) (name_part x) (name_part y) (name_part z) h.1.1.0 in
-    grind (arith, h.0.1, subrs, names)
-
--- a join has as many glyphs as are computed from its two sides
-pub joint_counts : (x y z : StatesValue) → PartsJoin x y z → states_glyphs z ≡ joint_glyphs x y
-joint_counts x y z h = joint_grows name_counts (name_part x) (name_part y) (name_part z) h.1.1.0
+-- ---- joined states
 
 module _ (x y : StatesValue) where
-  -- the weight and the count that are computed from both sides are within the limits
-  abbrev pub JointFits : Type 0
-  JointFits = (joint_weight x y ≤ weight_limit) × (joint_glyphs x y ≤ count_limit)
+  -- a join part by part is that of the states of both
+  is_joined : (z : StatesValue) → PartsJoin x y z → z ≡ joined_states x y
+  is_joined z h = λ i. (h.0.1 i, (h.1.0.1 i, (h.1.1.0.1 i, h.1.1.1.1 i)))
 
-  -- if a join is within the limits, so are the weight and the count computed from its sides
-  pub joint_fits : (z : StatesValue) → PartsJoin x y z → StatesFit z → JointFits
-  joint_fits z h w = (subst (λ n. n ≤ weight_limit) (joint_weighs x y z h) w.weight, subst (λ n. n ≤ count_limit) (joint_counts x y z h) w.glyphs)
-
-  -- if the weight and the count computed from both sides are within the limits, so is the join
-  pub fits_joint : (z : StatesValue) → PartsJoin x y z → JointFits → StatesFit z
-  fits_joint z h w = record { weight = subst (λ n. n ≤ weight_limit) (sym (joint_weighs x y z h)) w.0; glyphs = subst (λ n. n ≤ count_limit) (sym (joint_counts x y z h)) w.1 }
-
-  -- states within the limits agree exactly if their parts do and the join is within the limits
-  pub agree_by_parts : StatesFit x → StatesAgree x y ↔ (PartsAgree x y × JointFits)
+  -- states within the limits agree exactly if their parts do and the joined states are within the limits
+  pub agree_by_parts : StatesFit x → StatesAgree x y ↔ (PartsAgree x y × StatesFit (joined_states x y))
   agree_by_parts w = (
-    λ h. (parts_laws.only_where x y h.0 h.1.0, joint_fits h.0 h.1.0 (⊎_elim (λ a. a) (λ b. subst StatesFit b.0 w) h.1.1)),
-    λ h. let z = parts_laws.some_answer x y h.0 in (z.0, (z.1, inl (fits_joint z.0 z.1 h.1))),
+    λ h. (parts_laws.only_where x y h.0 h.1.0, subst StatesFit (is_joined h.0 h.1.0) (⊎_elim (λ a. a) (λ b. subst StatesFit b.0 w) h.1.1)),
+    λ h. let z = parts_laws.some_answer x y h.0 in (z.0, (z.1, inl (subst StatesFit (sym (is_joined z.0 z.1)) h.1))),
   )
-
-  -- a join has the weight and the count computed from its sides, as far as 64 bits hold them
-  pub sized_join : StatesFit x → StatesAgree x y → (z : StatesValue) → PartsJoin x y z → (w n : ℕ) → w ≡ clamp (joint_weight x y) → n ≡ clamp (joint_glyphs x y) → IsSized z w n
-  sized_join h a z j w n ew en =
-      let fits = ((agree_by_parts h).0 a).1 in
-      record { fits = fits_joint z j fits; weighs = omega (arith, ew, fits.0, joint_weighs x y z j); counts = omega (arith, en, fits.1, joint_counts x y z j) }
 
 -- ---- values in memory, and what is seen of them
 
@@ -215,14 +183,9 @@ module _ (v w x y : StatesValue) (e : v ≡ x) (k : w ≡ y) where
   pub seen_agree : (part : StatesValue → TableMeaning) (b : Bool) → (b ≡ true) ↔ TablesAgree (part v) (part w) → (b ≡ true) ↔ TablesAgree (part x) (part y)
   seen_agree part b h = subst (λ (y : StatesValue). (b ≡ true) ↔ TablesAgree (part x) (part y)) k (subst (λ (x : StatesValue). (b ≡ true) ↔ TablesAgree (part x) (part w)) e h)
 
-  -- a join of values in memory has the weight and the count computed from its sides
-  pub seen_join : StatesFit v → StatesAgree x y → (z : StatesValue) → z.0 ≡ v.0 → BothJoin TablesJoin (BothJoin TablesJoin TablesJoin) v.1 w.1 z.1 → (n c : ℕ) → n ≡ clamp (joint_weight x y) → c ≡ clamp (joint_glyphs x y) → IsSized z n c
-  seen_join h a z s j n c en ec =
-      let same : v.0 ≡ w.0 = ap (λ t. t.0) e ∙ parts_shared ∙ sym (ap (λ t. t.0) k) in
-      sized_join x y (subst StatesFit e h) a z (subst (λ (y : StatesValue). PartsJoin x y z) k (subst (λ (x : StatesValue). PartsJoin x w z) e ((same, s), j))) n c en ec
-    where
-      parts_shared : x.0 ≡ y.0
-      parts_shared = (parts_laws.only_where x y a.0 a.1.0).0
+  -- the states of both, made in memory of states that agree, are within the limits
+  pub seen_fit : StatesFit v → StatesAgree x y → (z : StatesValue) → z ≡ joined_states v w → StatesFit z
+  seen_fit h a z is = subst StatesFit (sym (is ∙ (λ i. joined_states (e i) (k i)))) ((agree_by_parts x y (subst StatesFit e h)).0 a).1
 
 -- ---- tests of two things
 

@@ -15,5 +15,6 @@ pub mod ManyMerges
 pub mod Headline
 pub mod FontStates
 pub mod Tables
+pub mod Sums
 pub mod rejoining
 pub mod rows

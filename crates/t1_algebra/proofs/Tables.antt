@@ -1,4 +1,4 @@
--- Tables of codes, of Subrs and of names: what stands at each key, what they weigh, and how they join.
+-- Tables of codes, of Subrs and of names: what stands at each key, and how they join.
 use Rattle.std.proofs.Common.{◌≡◌, ◌≤◌, ℕ, ◌+◌, min, Bor, option_map, Bool, true, false, not, cond, T, List, [], ◌∷◌, ◌++◌, filter, refl, sym, ◌∙◌, ap, arith, Option, Some, None, is_some, Ordering, Less, Equal, Greater, ◌&&◌, map, subst, nat_cmp, is_lt, ◌↔◌, inl, inr, ◌⊎◌}
 use Rattle.std.specs.Ordering.{ordering_reverse, is_eq, eq_by_cmp, ordering_then}
 use Rattle.std.specs.Cmp.{IsTotalOrder, nat_cmp_total, both_ways, first_so, second_so}
@@ -32,90 +32,9 @@ use Rattle.t1_algebra.proofs.Maps.{get-merged}
 use Rattle.t1_algebra.proofs.Sets.{cases_Option, name_same, cases}
 use Rattle.t1_algebra.proofs.Shares.{bytes_decide}
 
-module _ {K X : Type 0} {R : K → K → Ordering} (o : IsTotalOrder R) (w : K → X → ℕ) where
-  -- the entries of fs whose keys are not in es
-  abbrev left_over : List (K × X) → List (K × X) → List (K × X)
-  left_over es fs = filter (λ f. not (is_some (find R f.0 es))) fs
-
-  -- all entries are left over beside no entries
-  all_left : (fs : List (K × X)) → total w fs ≡ total w (left_over [] fs)
-  all_left [] = refl
-  all_left (f ∷ fs) = ap (λ n. w f.0 f.1 + n) (all_left fs)
-
-  -- an entry whose key is below all of fs leaves the same entries over
-  same_left : (e : K × X) (es fs : List (K × X)) → T (below_all R e.0 fs) → left_over (e ∷ es) fs ≡ left_over es fs
-  same_left e es [] h = refl
-  same_left e es (f ∷ fs) h =
-      let below = both_true (is_lt (R e.0 f.0)) (below_all R e.0 fs) h in
-      grind (cases, lt_is (R e.0 f.0) below.0, o.antisymm f.0 e.0, same_left e es fs below.1)
-
-  -- merged entries sum to the first and what is left over of the second
-  sum_weave : (e : K × X) (es fs : List (K × X)) → T (below_all R e.0 es) → ((gs : List (K × X)) → Rises R gs → total w (merge R es gs) ≡ total w es + total w (left_over es gs)) → Rises R fs
-      → total w (weave R e (merge R es) fs) ≡ total w (e ∷ es) + total w (left_over (e ∷ es) fs)
-  sum_weave e es [] b k h = let rest = k [] tt in omega arith
-  sum_weave e es (f ∷ fs) b k h =
-      let fb = (both_true _ _ h).0 in
-      let fr = (both_true _ _ h).1 in
-      elim (R e.0 f.0) as (λ r. R e.0 f.0 ≡ r → total w (by_order r (e ∷ merge R es (f ∷ fs)) (e ∷ merge R es fs) (f ∷ weave R e (merge R es) fs)) ≡ total w (e ∷ es) + total w (left_over (e ∷ es) (f ∷ fs))) [
-        | Less ↦ λ p.
-            let left = same_left e es (f ∷ fs) (make_both _ _ (is_lt_from p) (Below-less o e.0 f.0 fs p fb)) in
-            grind (arith, k (f ∷ fs) h, left)
-        | Equal ↦ λ p.
-            let left = same_left e es fs (below_tied o e.0 f.0 fs p fb) in
-            grind (arith, p, k fs fr, o.antisymm f.0 e.0, left)
-        | Greater ↦ λ p.
-            let less : R f.0 e.0 ≡ Less = o.antisymm f.0 e.0 ∙ ap ordering_reverse p in
-            let none = find_below o f.0 (e ∷ es) (make_both _ _ (is_lt_from less) (Below-less o f.0 e.0 es less b)) in
-            grind (arith, none, sum_weave e es fs b k fr)
-      ] refl
-
-  sum_merge : (es fs : List (K × X)) → Rises R es → Rises R fs → total w (merge R es fs) ≡ total w es + total w (left_over es fs)
-  sum_merge [] fs g h = omega (arith, all_left fs)
-  sum_merge (e ∷ es) fs g h = sum_weave e es fs (both_true _ _ g).0 (λ gs k. sum_merge es gs (both_true _ _ g).1 k) h
-
-  -- a joined table sums to the entries of the first and those of the second at other keys
-  pub total-merged : IsAntisymmetric R → (m n : maps.FinMap R X) → total w (maps.entries (merged m n)) ≡ total w (maps.entries m) + total w (new_entries m (maps.entries n))
-  total-merged same m n =
-      let es = maps.entries m in
-      let fs = maps.entries n in
-      let g : Rises R es = maps.entries_sorted m in
-      let h : Rises R fs = maps.entries_sorted n in
-      ap (λ (t : maps.FinMap R X). total w (maps.entries t)) ((λ i. maps.from_entries (sym (maps.entries-from_sorted R es g) i ++ sym (maps.entries-from_sorted R fs h) i)) ∙ sym (merged_from_sorted o same es fs g h))
-      ∙ ap (total w) (maps.entries-from_sorted R (merge R es fs) (rises_merge o es fs g h))
-      ∙ sum_merge es fs g h
-      ∙ (λ i. total w es + total w (filter (λ f. not (is_some (sym (maps.get-entries m f.0) i))) fs))
-
--- the first of the entries adds what it weighs, unless the table has its key
-pub total-new : {K X : Type 0} {R : K → K → Ordering} (w : K → X → ℕ) (m : maps.FinMap R X) (e : K × X) (es : List (K × X)) → total w (new_entries m (e ∷ es)) ≡ cond (maps.contains_key m e.0) 0 (w e.0 e.1) + total w (new_entries m es)
-total-new w m e es = grind cases
-
 -- a copy of what is borrowed is there if it is
 pub some_copied : {V : Type 0} {X : Type 0} (f : V → X) (r : Option (Bor V)) → is_some r ≡ is_some (option_map f (option_copied r))
 some_copied f r = grind cases
-
--- the sum so far, with what is left to add, comes to the whole, as far as 64 bits hold it
-pub record Adding {K X : Type 0} {R : K → K → Ordering} (w : K → X → ℕ) (m : maps.FinMap R X) (es : List (K × X)) (before sum : ℕ) (left : List (K × X)) : Type 0 where
-  pub small : sum ≤ 18446744073709551615
-  pub all : clamp (sum + total w (new_entries m left)) ≡ clamp (before + total w (new_entries m es))
-
-module _ {K X : Type 0} {R : K → K → Ordering} (w : K → X → ℕ) (m : maps.FinMap R X) (es : List (K × X)) (before : ℕ) where
-  -- before any entry is added, all are left
-  pub adds_none : (left : List (K × X)) → before ≤ 18446744073709551615 → left ≡ es → Adding w m es before before left
-  adds_none left h e = record { small = h; all = ap (λ (fs : List (K × X)). clamp (before + total w (new_entries m fs))) e }
-
-  -- adding what the next entry weighs keeps the whole as it was
-  pub adds_next : (sum n new : ℕ) (e : K × X) (left rest : List (K × X)) → Adding w m es before sum left → left ≡ e ∷ rest → n ≡ cond (maps.contains_key m e.0) 0 (w e.0 e.1) → new ≡ min (sum + n) 18446744073709551615 → Adding w m es before new rest
-  adds_next sum n new e left rest a is en ew = record {
-    small = clamp_fits (sum + n) new ew;
-    all = ap (λ x. clamp (x + total w (new_entries m rest))) ew
-        ∙ clamp_more sum n (total w (new_entries m rest))
-        ∙ ap (λ x. clamp (sum + x)) (ap (λ x. x + total w (new_entries m rest)) en ∙ sym (total-new w m e rest) ∙ ap (λ (fs : List (K × X)). total w (new_entries m fs)) (sym is))
-        ∙ a.all;
-  }
-
-  -- when nothing is left, the sum is the whole
-  pub adds_all : (sum : ℕ) (left : List (K × X)) → Adding w m es before sum left → left ≡ [] → sum ≡ clamp (before + total w (new_entries m es))
-  adds_all sum left a e = clamp_all sum _ a.small (sym a.all ∙ ap (λ (fs : List (K × X)). clamp (sum + total w (new_entries m fs))) e)
 
 module _ (x y : State) where
   -- states that agree in tables agree
@@ -242,11 +161,6 @@ module _ (g : Named) (s : TableMeaning) (are : AreSought s) (t : TableMeaning) (
   pub state_in : (z : Option (Option (List ℕ))) × (maps.get t n ≡ option_map name_meaning z)
   state_in = let z = state_of (maps.get g n) (maps.get s n) (are n) in (z.0, at ∙ z.1)
 
--- the table has another charstring for a glyph exactly if it differs at the glyph's name
-pub differs_at : (g : Named) (s : TableMeaning) → AreSought s → (t u : TableMeaning) → names_table g s ≡ t → AllByRecursion (λ e. differs_from u e ≡ charstrings_differ (maps.get t e.0) (maps.get u e.0)) (maps.entries g)
-differs_at g s are t u is = entries_all nat_list_cmp_total name_same (λ n c. differs_from u (n, c) ≡ charstrings_differ (maps.get t n) (maps.get u n)) g
-    (λ n c has. sym (ap (λ x. charstrings_differ x (maps.get u n)) (at g s are t is n ∙ ap (λ x. joined_state (marked x) (maps.get s n)) has)))
-
 -- ---- tables that agree
 
 -- meanings are the same if their bytes are
@@ -290,39 +204,6 @@ module _ (g : Named) (s : TableMeaning) (are : AreSought s) (t : TableMeaning) (
   -- joined sought names are sought names
   pub are_joined : (k : TableMeaning) → k ≡ joined_table s r → AreSought k
   are_joined k e n v has = grind (cases, e, has, get_joined s r n, are n, seek n)
-
--- ---- weights
-
--- the sum over entries with other keys and values
-pub total_mapped : {K X : Type 0} (k : K → Meaning) (v : X → Meaning) (w : Meaning → Meaning → ℕ) (es : List (K × X)) → total w (map (λ e. (k e.0, v e.1)) es) ≡ total (λ a b. w (k a) (v b)) es
-total_mapped k v w [] = refl
-total_mapped k v w (e ∷ es) = ap (λ n. w (k e.0) (v e.1) + n) (total_mapped k v w es)
-
--- entries that weigh nothing sum to nothing
-total_none : (w : Meaning → Meaning → ℕ) (p : Meaning × Meaning → Bool) (es : List (Meaning × Meaning)) → AllByRecursion (λ e. w e.0 e.1 ≡ 0) es → total w (filter p es) ≡ 0
-total_none w p [] h = refl
-total_none w p (e ∷ es) h = grind (cases, h.0, total_none w p es h.1)
-
--- new entries sum to what all entries do, if those that are no new ones count nothing
-total_masked : (w : Meaning → Meaning → ℕ) (m : TableMeaning) (es : List (Meaning × Meaning)) → total w (new_entries m es) ≡ total (λ n v. cond (maps.contains_key m n) 0 (w n v)) es
-total_masked w m [] = refl
-total_masked w m (e ∷ es) = total-new w m e es ∙ ap (λ n. cond (maps.contains_key m e.0) 0 (w e.0 e.1) + n) (total_masked w m es)
-
-module _ (g : Named) (s : TableMeaning) (are : AreSought s) where
-  -- sought names add nothing to a sum over names
-  pub names_total : (w : Meaning → Meaning → ℕ) → ((n : Meaning) → w n [] ≡ 0) → total w (maps.entries (names_table g s)) ≡ total (λ n c. w n (name_meaning (Some c))) (maps.entries g)
-  names_total w none =
-      let new : total w (new_entries (glyph_table g) (maps.entries s)) ≡ 0 = total_none w (λ e. not (maps.contains_key (glyph_table g) e.0)) (maps.entries s) (entries_all nat_list_cmp_total name_same (λ n v. w n v ≡ 0) s (λ n v is. ap (w n) (are n v is) ∙ none n)) in
-      let own : total w (maps.entries (glyph_table g)) ≡ total (λ n c. w n (name_meaning (Some c))) (maps.entries g) = ap (total w) (entries-map_values nat_list_cmp_total name_same (λ n c. name_meaning (Some c)) g) ∙ total_mapped (λ n. n) (λ c. name_meaning (Some c)) w (maps.entries g) in
-      let all = total-merged nat_list_cmp_total w name_same (glyph_table g) s in
-      omega (arith, all, new, own)
-
-  -- nor to a sum over new names
-  pub new_names_total : (w : Meaning → Meaning → ℕ) → ((n : Meaning) → w n [] ≡ 0) → (own : TableMeaning) → total w (new_entries own (maps.entries (names_table g s))) ≡ total (λ n c. w n (name_meaning (Some c))) (new_entries own (maps.entries g))
-  new_names_total w none own =
-      total_masked w own (maps.entries (names_table g s))
-      ∙ names_total (λ n v. cond (maps.contains_key own n) 0 (w n v)) (λ n. grind (cases, none n))
-      ∙ sym (total_masked (λ n c. w n (name_meaning (Some c))) own (maps.entries g))
 
 -- ---- sought names, as the code puts them in
 

@@ -1,10 +1,10 @@
 -- How the states of a name clash in two tables.
-use Rattle.std.specs.Prelude.{ℕ, Bool, true, false, not, ◌&&◌, ◌||◌, List, [], ◌∷◌, Some, None, is_some}
+use Rattle.std.specs.Prelude.{Bool, true, false, not, ◌&&◌, ◌||◌, [], ◌∷◌, Some, None, is_some}
 use Rattle.std.specs.FinMap as maps
 use Rattle.t1_join.specs.Meaning.{Meaning}
 use Rattle.t1_join.specs.Join.{State}
 use Rattle.t1_join.specs.TableMeaning.{TableMeaning}
-use Rattle.t1_algebra.specs.StateTables.{behind_mark, name_meaning}
+use Rattle.t1_algebra.specs.StateTables.{behind_mark}
 use Rattle.t1_algebra.specs.Conflicts.{agrees}
 
 -- the name is sought
@@ -24,10 +24,6 @@ lacks x y = is_sought_in x && is_some (behind_mark y)
 -- the name of one of both is sought, and the other has a charstring
 abbrev pub one_lacks : State → State → Bool
 one_lacks x y = lacks x y || lacks y x
-
--- the table has another charstring for the name of a glyph
-abbrev pub differs_from : TableMeaning → List ℕ × List ℕ → Bool
-differs_from t e = charstrings_differ (Some (name_meaning (Some e.1))) (maps.get t e.0)
 
 -- the one table seeks the name of an entry, and the other has a glyph for it
 abbrev pub lacks_in : TableMeaning → TableMeaning → Meaning × Meaning → Bool

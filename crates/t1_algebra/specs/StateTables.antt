@@ -1,6 +1,5 @@
 -- The states of a font as tables, and what they weigh.
-use Rattle.std.specs.Prelude.{◌≡◌, ◌≤◌, ℕ, ◌+◌, ◌*◌, ◌-◌, not, List, [], ◌∷◌, map, flat_map, filter, length, Option, Some, None, is_some}
-use Rattle.std.specs.declared.cmp.Ordering.{Ordering}
+use Rattle.std.specs.Prelude.{◌≡◌, ◌≤◌, ℕ, ◌+◌, ◌*◌, ◌-◌, List, [], ◌∷◌, map, flat_map, length, Option, Some, None, is_some}
 use Rattle.std.specs.Coded.{Coded, coded×}
 use Rattle.std.specs.Option.{option_map}
 use Rattle.std.specs.FinMap as maps
@@ -91,10 +90,6 @@ module _ {O : Type 0} (m : Interpreter O) (f : FontValue) where
 
 -- ---- weights
 
--- the entries whose keys the table lacks
-abbrev pub new_entries : {K X : Type 0} {R : K → K → Ordering} → maps.FinMap R X → List (K × X) → List (K × X)
-new_entries m es = filter (λ e. not (maps.contains_key m e.0)) es
-
 -- what a Subr weighs more than a stub
 abbrev pub subr_adds : Meaning → Meaning → ℕ
 subr_adds i c = length c - 1
@@ -108,10 +103,6 @@ name_adds len_iv n (mark ∷ c) = 256 + len_iv + length c
 abbrev pub name_counts : Meaning → Meaning → ℕ
 name_counts n [] = 0
 name_counts n (mark ∷ c) = 1
-
--- each glyph counts as one
-abbrev pub one_each : Meaning → Meaning → ℕ
-one_each n c = 1
 
 -- the weight of a font whose states are all the bottom
 abbrev pub shared_weight : Shared → ℕ
@@ -144,16 +135,6 @@ StatesAgree = FittingAgree PartsJoin StatesFit
 abbrev pub StatesJoin : StatesValue → StatesValue → StatesValue → Type 0
 StatesJoin = FittingJoin PartsJoin StatesFit
 
--- the states are within the limits, and these are their weight and their count of glyphs
-pub record IsSized (s : StatesValue) (weight glyphs : ℕ) : Type 0 where
-  pub fits : StatesFit s
-  pub weighs : weight ≡ states_weight s
-  pub counts : glyphs ≡ states_glyphs s
-
--- what a font of the joined states weighs: the first's weight with that of the second's new entries
-abbrev pub joint_weight : StatesValue → StatesValue → ℕ
-joint_weight s t = states_weight s + total subr_adds (new_entries (subr_part s) (maps.entries (subr_part t))) + total (name_adds s.0.0.len_iv) (new_entries (name_part s) (maps.entries (name_part t)))
-
--- how many glyphs a font of the joined states has
-abbrev pub joint_glyphs : StatesValue → StatesValue → ℕ
-joint_glyphs s t = states_glyphs s + total name_counts (new_entries (name_part s) (maps.entries (name_part t)))
+-- the states of both, each key's by itself; what is shared is the first's
+abbrev pub joined_states : StatesValue → StatesValue → StatesValue
+joined_states s t = (s.0, (joined_table (code_part s) (code_part t), (joined_table (name_part s) (name_part t), joined_table (subr_part s) (subr_part t))))

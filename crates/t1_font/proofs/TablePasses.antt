@@ -1,14 +1,15 @@
 -- One pass by two places over two tables whose keys rise.
-use Rattle.std.proofs.Common.{◌≡◌, ℕ, ◌+◌, ◌-◌, arith, Ordering, List, [], ◌∷◌, ◌++◌, map, length, drop, Option, Some, None, refl, sym, ap, subst, ◌∙◌}
-use Rattle.std.specs.Prelude.{IfSome, MatchOption}
+use Rattle.std.proofs.Common.{◌≡◌, ◌<◌, ℕ, ◌+◌, ◌-◌, arith, Ordering, Bool, true, false, cond, List, [], ◌∷◌, ◌++◌, map, length, drop, Option, Some, None, refl, sym, ap, subst, ◌∙◌}
+use Rattle.std.specs.Prelude.{MatchOption}
 use Rattle.std.specs.declared.cmp.Ordering.TheVariants.{Less, Equal, Greater}
 use Rattle.std.specs.List.{slice_get}
 use Rattle.std.specs.Option.{option_map}
 use Rattle.std.specs.Cmp.{IsTotalOrder}
-use Rattle.std.specs.FinMap.{FinMap, IsAntisymmetric, entries, entries_sorted, from_sorted}
+use Rattle.std.specs.FinMap.{FinMap, IsAntisymmetric, entries, entries_sorted, entries-from_sorted, from_sorted}
 use Rattle.std.specs.FinMap.Entries.{by_order}
 use Rattle.std.proofs.lemmas.List.{append_assoc, append-nil, map-append}
-use Rattle.t1_join.specs.Passes.{merge}
+use Rattle.std.proofs.lemmas.Option.{slice_get_within}
+use Rattle.t1_join.specs.Passes.{merge, met, first_met}
 use Rattle.t1_join.specs.TableMeaning.{Rises}
 use Rattle.t1_join.proofs.Merges.{rises_merge, merged_from_sorted}
 use Rattle.t1_join.proofs.Sorted.{map_of}
@@ -73,12 +74,76 @@ module _ {K V M X : Type 0} (R : K → K → Ordering) (S : M → M → Ordering
         | Greater ↦ λ is. is ∙ ap (λ (l : List (M × X)). v f ∷ merge S l (drop (j + 1) fs)) (sym es_on ∙ stays i es)
       ] both
 
--- what holds of both next entries, holds of the lower
-pub lower_has : {K V : Type 0} (R : K → K → Ordering) (P : K × V → Type 0) (here there : Option (K × V)) → IfSome here P → IfSome there P → IfSome (lower R here there) (λ t. P t.0)
-lower_has R P None None p q = tt
-lower_has R P (Some e) None p q = p
-lower_has R P None (Some f) p q = q
-lower_has {K = K} {V = V} R P (Some e) (Some f) p q = elim (R e.0 f.0) as (λ r. IfSome {T = (K × V) × ℕ × ℕ} (by_order r (Some (e, 1, 0)) (Some (e, 1, 1)) (Some (f, 0, 1))) (λ t. P t.0)) [ Less ↦ p | Equal ↦ p | Greater ↦ q ]
+-- ---- what comes next of two lists from two places on, by what stands there
+
+-- the entries of both that are left, and the first key among them at which the values of both differ
+module _ {K X : Type 0} (R : K → K → Ordering) (es fs : List (K × X)) where
+  abbrev pub ahead : ℕ → ℕ → List (K × X)
+  ahead i j = merge R (drop i es) (drop j fs)
+
+  abbrev pub meets : (X → X → Bool) → ℕ → ℕ → Option K
+  meets same i j = first_met R same (drop i es) (drop j fs)
+
+module _ {K X : Type 0} (R : K → K → Ordering) (es fs : List (K × X)) (i j : ℕ) where
+  pub none_ahead : slice_get es i ≡ None → slice_get fs j ≡ None → ahead R es fs i j ≡ []
+  none_ahead a b = λ k. merge R (past_all es i a k) (past_all fs j b k)
+
+  pub first_alone : (e : K × X) → slice_get es i ≡ Some e → slice_get fs j ≡ None → ahead R es fs i j ≡ e ∷ ahead R es fs (i + 1) j
+  first_alone e a b = (λ k. merge R (from_place es i e a k) (past_all fs j b k)) ∙ ap (λ (r : List (K × X)). e ∷ merge R (drop (i + 1) es) r) (sym (past_all fs j b))
+
+  pub second_alone : (f : K × X) → slice_get es i ≡ None → slice_get fs j ≡ Some f → ahead R es fs i j ≡ f ∷ ahead R es fs i (j + 1)
+  second_alone f a b = (λ k. merge R (past_all es i a k) (from_place fs j f b k)) ∙ ap (λ (l : List (K × X)). f ∷ merge R l (drop (j + 1) fs)) (sym (past_all es i a))
+
+  module _ (e f : K × X) (a : slice_get es i ≡ Some e) (b : slice_get fs j ≡ Some f) where
+    both_stand : ahead R es fs i j ≡ by_order (R e.0 f.0) (e ∷ merge R (drop (i + 1) es) (f ∷ drop (j + 1) fs)) (e ∷ ahead R es fs (i + 1) (j + 1)) (f ∷ merge R (e ∷ drop (i + 1) es) (drop (j + 1) fs))
+    both_stand = λ k. merge R (from_place es i e a k) (from_place fs j f b k)
+
+    pub first_lower : R e.0 f.0 ≡ Less → ahead R es fs i j ≡ e ∷ ahead R es fs (i + 1) j
+    first_lower h = grind (arith, both_stand, h, from_place fs j f b)
+
+    pub both_tie : R e.0 f.0 ≡ Equal → ahead R es fs i j ≡ e ∷ ahead R es fs (i + 1) (j + 1)
+    both_tie h = grind (arith, both_stand, h)
+
+    pub second_lower : R e.0 f.0 ≡ Greater → ahead R es fs i j ≡ f ∷ ahead R es fs i (j + 1)
+    second_lower h = grind (arith, both_stand, h, from_place es i e a)
+
+  module _ (same : X → X → Bool) where
+    pub first_ends : slice_get es i ≡ None → meets R es fs same i j ≡ None
+    first_ends a = ap (λ (l : List (K × X)). first_met R same l (drop j fs)) (past_all es i a)
+
+    pub second_ends : slice_get fs j ≡ None → meets R es fs same i j ≡ None
+    second_ends b = ap (first_met R same (drop i es)) (past_all fs j b) ∙ nothing_met (drop i es)
+      where
+        nothing_met : (l : List (K × X)) → first_met R same l [] ≡ None
+        nothing_met [] = refl
+        nothing_met (x ∷ l) = refl
+
+    module _ (e f : K × X) (a : slice_get es i ≡ Some e) (b : slice_get fs j ≡ Some f) where
+      both_meet : meets R es fs same i j ≡ by_order (R e.0 f.0) (first_met R same (drop (i + 1) es) (f ∷ drop (j + 1) fs)) (cond (same e.1 f.1) (meets R es fs same (i + 1) (j + 1)) (Some e.0)) (first_met R same (e ∷ drop (i + 1) es) (drop (j + 1) fs))
+      both_meet = λ k. first_met R same (from_place es i e a k) (from_place fs j f b k)
+
+      pub meets_later : R e.0 f.0 ≡ Less → meets R es fs same i j ≡ meets R es fs same (i + 1) j
+      meets_later h = grind (arith, both_meet, h, from_place fs j f b)
+
+      pub meets_above : R e.0 f.0 ≡ Greater → meets R es fs same i j ≡ meets R es fs same i (j + 1)
+      meets_above h = grind (arith, both_meet, h, from_place es i e a)
+
+      pub meets_same : R e.0 f.0 ≡ Equal → same e.1 f.1 ≡ true → meets R es fs same i j ≡ meets R es fs same (i + 1) (j + 1)
+      meets_same h k = grind (arith, both_meet, h, k)
+
+      pub meets_here : R e.0 f.0 ≡ Equal → same e.1 f.1 ≡ false → meets R es fs same i j ≡ Some e.0
+      meets_here h k = grind (arith, both_meet, h, k)
+
+-- where an entry stands, less is left once the pass goes on behind it
+module _ {K X : Type 0} (es fs : List (K × X)) (i j : ℕ) (e f : K × X) (a : slice_get es i ≡ Some e) (b : slice_get fs j ≡ Some f) where
+  pub first_nearer : left es fs (i + 1) j < left es fs i j
+  first_nearer = omega (arith, slice_get_within es i e a)
+
+  pub second_nearer : left es fs i (j + 1) < left es fs i j
+  second_nearer = omega (arith, slice_get_within fs j f b)
+
+  pub both_nearer : left es fs (i + 1) (j + 1) < left es fs i j
+  both_nearer = omega (arith, slice_get_within es i e a, slice_get_within fs j f b)
 
 -- what a pass over the entries of two maps makes rises, and has the entries of both
 module _ {K X : Type 0} {R : K → K → Ordering} (o : IsTotalOrder R) (m n : FinMap R X) (all : List (K × X)) (h : all ≡ merge R (entries m) (entries n)) where
@@ -87,3 +152,8 @@ module _ {K X : Type 0} {R : K → K → Ordering} (o : IsTotalOrder R) (m n : F
 
   pub merge_is : IsAntisymmetric R → from_sorted all ≡ merged m n
   merge_is same = ap (from_sorted {R = R}) h ∙ (merged_from_sorted o same (entries m) (entries n) (entries_sorted m) (entries_sorted n) ∙ (λ i. merged (map_of (entries m) m refl i) (map_of (entries n) n refl i)))
+
+-- the entries of both maps are the merged entries
+pub entries-merged : {K X : Type 0} {R : K → K → Ordering} → IsTotalOrder R → IsAntisymmetric R → (m n : FinMap R X) → entries (merged m n) ≡ merge R (entries m) (entries n)
+entries-merged {R = R} o same m n =
+    ap entries (sym (merge_is o m n (merge R (entries m) (entries n)) refl same)) ∙ entries-from_sorted R (merge R (entries m) (entries n)) (merge_rises o m n (merge R (entries m) (entries n)) refl)

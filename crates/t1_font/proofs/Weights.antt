@@ -1,5 +1,5 @@
 -- Sums that are cut off at 64 bits, and weights of what is in ranges.
-use Rattle.std.proofs.Common.{◌≡◌, refl, ℕ, ◌+◌, ◌-◌, ◌≤◌, ◌<◌, min, List, [], ◌∷◌, length, map, drop, arith}
+use Rattle.std.proofs.Common.{◌≡◌, refl, sym, ◌∙◌, ap, ℕ, ◌+◌, ◌-◌, ◌≤◌, ◌<◌, min, List, [], ◌∷◌, length, map, drop, arith}
 use Rattle.std.proofs.lemmas.List.Elements.{All-head, All-tail}
 use Rattle.std.proofs.lemmas.List.{length-take-le, length-drop}
 use Rattle.std.specs.Ordering.{nat_cmp}
@@ -25,6 +25,42 @@ clamp_all w t h e = omega (arith, h, e)
 -- a sum that is cut off fits 64 bits
 pub clamp_fits : (n m : ℕ) → m ≡ min n 18446744073709551615 → m ≤ 18446744073709551615
 clamp_fits n m e = omega (arith, e)
+
+-- the sum so far, with what is left to add, comes to the whole, as far as 64 bits hold it
+pub record Summing {K X : Type 0} (w : K → X → ℕ) (es : List (K × X)) (before sum : ℕ) (left : List (K × X)) : Type 0 where
+  pub small : sum ≤ 18446744073709551615
+  pub all : clamp (sum + total w left) ≡ clamp (before + total w es)
+
+module _ {K X : Type 0} (w : K → X → ℕ) (es : List (K × X)) (before : ℕ) where
+  -- before any entry is added, all are left
+  pub sums_none : (left : List (K × X)) → before ≤ 18446744073709551615 → left ≡ es → Summing w es before before left
+  sums_none left h e = record { small = h; all = ap (λ (fs : List (K × X)). clamp (before + total w fs)) e }
+
+  -- adding what the next entry weighs keeps the whole as it was
+  pub sums_next : (sum n new : ℕ) (e : K × X) (left rest : List (K × X)) → Summing w es before sum left → left ≡ e ∷ rest → n ≡ clamp (w e.0 e.1) → new ≡ min (sum + n) 18446744073709551615 → Summing w es before new rest
+  sums_next sum n new e left rest s is en ew = record {
+    small = clamp_fits (sum + n) new ew;
+    all = clamp_step sum (w e.0 e.1) n new (total w rest) en ew ∙ (ap (λ (fs : List (K × X)). clamp (sum + total w fs)) (sym is) ∙ s.all);
+  }
+
+  -- when nothing is left, the sum is the whole
+  pub sums_all : (sum : ℕ) (left : List (K × X)) → Summing w es before sum left → left ≡ [] → sum ≡ clamp (before + total w es)
+  sums_all sum left s e = clamp_all sum _ s.small (sym s.all ∙ ap (λ (fs : List (K × X)). clamp (sum + total w fs)) e)
+
+-- the count so far, with what is left, is that of all, as far as 64 bits hold it
+pub record Counting {X : Type 0} (n count : ℕ) (left : List X) : Type 0 where
+  pub small : count ≤ 18446744073709551615
+  pub all : clamp (count + length left) ≡ clamp n
+
+pub counts_none : {X : Type 0} (left es : List X) → left ≡ es → Counting (length es) 0 left
+counts_none left es h = let same = ap length h in record { small = omega arith; all = omega (arith, same) }
+
+module _ {X : Type 0} (n : ℕ) where
+  pub counts_next : (count new : ℕ) (x : X) (left rest : List X) → Counting n count left → left ≡ x ∷ rest → new ≡ min (count + 1) 18446744073709551615 → Counting n new rest
+  counts_next count new x left rest c is e = let one = ap length is in record { small = clamp_fits (count + 1) new e; all = omega (arith, one, e, c.all) }
+
+  pub counts_all : (count : ℕ) (left : List X) → Counting n count left → left ≡ [] → count ≡ clamp n
+  counts_all count left c e = let none = ap length e in omega (arith, none, c.small, c.all)
 
 -- a sum that is within the limit is not cut off
 pub clamp_light : (w n : ℕ) → w ≡ clamp n → w ≤ weight_limit → n ≤ weight_limit

@@ -244,6 +244,7 @@ impl<'a> Numbered<'a> {
     }
 
     /// `before` plus the weight of the entries as Subrs of a font with this lenIV, as far as 64 bits hold it.
+    #[tactic(auto, using(std::proofs::lemmas::Map::Iter::rest_more, std::proofs::lemmas::Map::Iter::rest_all, crate::proofs::Weights::sums_none, crate::proofs::Weights::sums_next, crate::proofs::Weights::sums_all))]
     pub fn weight(&self, before: u64, len_iv: u8) -> u64
         ensures { result ≡ clamp (before + total (subr_weight len_iv) (fin.entries self.now)) }
     {
@@ -448,6 +449,7 @@ impl<'a> Named<'a> {
     }
 
     /// `before` plus the weight of the entries as glyphs of a font with this lenIV, as far as 64 bits hold it.
+    #[tactic(auto, using(std::proofs::lemmas::Map::Iter::rest_more, std::proofs::lemmas::Map::Iter::rest_all, crate::proofs::Weights::sums_none, crate::proofs::Weights::sums_next, crate::proofs::Weights::sums_all))]
     pub fn weight(&self, before: u64, len_iv: u8) -> u64
         ensures { result ≡ clamp (before + total (glyph_weight len_iv) (fin.entries self.now)) }
     {

@@ -1,17 +1,17 @@
 //! A font with the entries of two.
 
-ghost use Rattle.std.specs.Prelude.{◌≡◌, IfOk, IfSome, MatchResult};
+ghost use Rattle.std.specs.Prelude.{◌≡◌, IfOk, MatchResult};
 ghost use Rattle.std.specs.Option.{option_map};
 ghost use Rattle.std.specs.FinMap as fin;
 ghost use Rattle.t1_font.specs.FontModel.{encoding_of};
 ghost use Rattle.t1_font.specs.Maps.{map_values, merged};
 ghost use Rattle.t1_font.specs.Joins.{lower, joined_subr, join_encodings, join_parts, Refuses};
-ghost use Rattle.t1_font.specs.Lent.{lent_glyph, keyed_glyph, IsOwn};
 ghost use Rattle.t1_font.specs.WriteLaws.{SameKind};
 
 use crate::cut::STUB;
 use crate::font::{Font, FontParts, LentEncoding};
-use crate::lent::{Glyph, Named, Numbered};
+use crate::lent::Numbered;
+use crate::passes::join_glyphs;
 use std::alloc::{AllocError, Global};
 use std::cmp::Ordering;
 use std::fmt;
@@ -69,37 +69,6 @@ fn lower<K: Ord + Copy, V: Copy>(here: Option<(K, V)>, there: Option<(K, V)>) ->
             Ordering::Greater => Some((there, 0, 1)),
         },
     }
-}
-
-/// A glyph with its name.
-fn with_name<'a>(glyph: Option<Glyph<'a>>) -> Option<(&'a [u8], Glyph<'a>)>
-    ensures entry { option_map keyed_glyph result ≡ option_map lent_glyph glyph.entry }
-    ensures own { IfSome result IsOwn }
-{
-    let glyph = glyph?;
-    Some((glyph.name(), glyph))
-}
-
-/// The glyphs of both tables, in one pass over both. If both have a name, the first's glyph stands.
-pub fn join_glyphs<'a>(
-    alloc: Global,
-    first: &Named<'a>,
-    second: &Named<'a>,
-) -> Result<Named<'a>, AllocError>
-    ensures { IfOk result (λ m. m ≡ merged first.now second.now) }
-{
-    let mut all = Vec::with_capacity(alloc, first.len().saturating_add(second.len()))?;
-    let mut i = 0;
-    let mut j = 0;
-    'pass: while let Some(((_, glyph), of_first, of_second)) = lower(
-        with_name(first.at(i)),
-        with_name(second.at(j)),
-    ) {
-        all.push(glyph)?;
-        i += of_first;
-        j += of_second;
-    }
-    Ok(Named::made(all))
 }
 
 /// The codes of both fonts, in one pass over both tables. If both have a code, the first's name stands.

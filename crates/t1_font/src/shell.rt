@@ -97,7 +97,7 @@ impl Shell {
     }
 
     /// How many bytes the five kept texts have, or the greatest number of 64 bits if they have more.
-    pub(crate) fn texts_weight(&self) -> u64
+    pub fn texts_weight(&self) -> u64
         ensures { result ≡ clamp (texts_weight self.now) }
     {
         (self.head.len() as u64)

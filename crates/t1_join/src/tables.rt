@@ -140,7 +140,7 @@ impl<K: Key + Drop, V: Kept + Drop> Table<K, V> {
     }
 
     /// The entries of both tables, upwards by key: the first table's entry if both have the key.
-    pub(crate) fn entries_with<'t>(&'t self, other: &'t Table<K, V>) -> BothEntries<'t, K, V>
+    pub fn entries_with<'t>(&'t self, other: &'t Table<K, V>) -> BothEntries<'t, K, V>
         ensures { result ≡ fin.entries (joined_table self.now other.now) }
     {
         BothEntries {
@@ -374,9 +374,9 @@ fn lower<'a, K: Key, V: Kept>(first: &'a [(K, V)], second: &'a [(K, V)]) -> Opti
     }
 }
 
-/// The entries of two tables, upwards by key.
+/// The entries of two tables, upwards by key: the first table's entry if both have the key.
 #[derive(Drop)]
-pub(crate) struct BothEntries<'a, K: Key, V: Kept> {
+pub struct BothEntries<'a, K: Key, V: Kept> {
     first: &'a [(K, V)],
     second: &'a [(K, V)],
 }

@@ -47,7 +47,7 @@ fn holds(table: &Numbered, key: u16, byte: u8) -> bool {
     }
 }
 
-// The number of keys of either table, if they join: through the bounds alone.
+// The number of keys of either table, if they join and one pass over both meets as many: through the bounds alone.
 fn keys_of_both<K: Key + Drop, V: Kept + Drop>(
     alloc: Global,
     left: &Table<K, V>,
@@ -56,7 +56,9 @@ fn keys_of_both<K: Key + Drop, V: Kept + Drop>(
     if !left.agrees(right) {
         return Ok(None);
     }
-    Ok(Some(left.join(alloc, right)?.entries().count()))
+    let joined = left.join(alloc, right)?.entries().count();
+    let met = left.entries_with(right).count();
+    Ok(if joined == met { Some(joined) } else { None })
 }
 
 // The table that keeps the last value of a key, and each key once.

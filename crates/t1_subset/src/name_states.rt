@@ -3,18 +3,17 @@
 ghost use Rattle.std.specs.Prelude.{◌≡◌, ◌+◌, ℕ, List, IfOk, Some, None, is_some, [], cond};
 ghost use Rattle.std.specs.Option.{option_map};
 ghost use Rattle.std.specs.FinMap as maps;
-ghost use Rattle.t1_font.specs.FontValue.{name_cmp, total, glyph_weight};
+ghost use Rattle.t1_font.specs.FontValue.{name_cmp, total};
 ghost use Rattle.t1_font.specs.FontModel.{clamp};
 ghost use Rattle.t1_join.specs.Meaning.{Meaning};
+ghost use Rattle.t1_join.specs.TableMeaning.{TablesAgree, joined_table};
 ghost use Rattle.t1_algebra.specs.Profile.{profile};
-ghost use Rattle.t1_algebra.specs.StateTables.{name_states, AreNameStates, behind_mark, new_entries, name_adds, name_counts, one_each};
+ghost use Rattle.t1_algebra.specs.StateTables.{name_states, AreNameStates, behind_mark, name_adds, name_counts};
 ghost use Rattle.t1_subset.specs.Callers.{seeker_of};
-ghost use Rattle.t1_algebra.specs.NameStates.{is_sought_in, charstrings_differ, lacks, one_lacks, differs_from, lacks_in};
+ghost use Rattle.t1_algebra.specs.NameStates.{is_sought_in, charstrings_differ, lacks, one_lacks, lacks_in};
 ghost use Rattle.t1_algebra.specs.Searches.{first_where, IsLowest};
 
 use crate::callers::{Seekers, smaller};
-use crate::shared::differ;
-use crate::state_joins::unless_there;
 use std::alloc::{AllocError, Global};
 use std::marker::Model;
 use t1_font::{Font, Named, join_glyphs};
@@ -75,19 +74,6 @@ fn sought_names<'a>(
     Ok(sought)
 }
 
-/// The first of these glyphs for whose name the table has another charstring.
-fn first_differing<'a>(glyphs: &Named<'a>, other: &NameTable<'_>) -> Option<&'a [u8]>
-    ensures { option_map (λ n. n.now) result
-        ≡ option_map (λ e. e.0) (first_where (differs_from other.now) (maps.entries glyphs.now)) }
-{
-    'glyphs: for (name, charstring) in glyphs.entries() {
-        if differ(Some(charstring), other.charstring(name)) {
-            return Some(name);
-        }
-    }
-    None
-}
-
 /// The first of these names that the one table seeks and for which the other has a glyph.
 fn first_lacked<'a>(
     names: &Table<&'a [u8], Sought>,
@@ -104,41 +90,6 @@ fn first_lacked<'a>(
         }
     }
     None
-}
-
-/// What a glyph adds to the weight of a font with this lenIV.
-fn glyph_adds(len_iv: u8, charstring: &[u8]) -> u64
-    ensures { result ≡ glyph_weight len_iv [] charstring.now }
-{
-    256 + len_iv as u64 + charstring.len() as u64
-}
-
-/// `before` plus what these glyphs add to the weight if the table lacks their names, as far as 64 bits hold it.
-#[tactic(auto, using(std::proofs::lemmas::Map::Iter::rest_more, std::proofs::lemmas::Map::Iter::rest_all, t1_algebra::proofs::Tables::adds_none, t1_algebra::proofs::Tables::adds_next, t1_algebra::proofs::Tables::adds_all))]
-fn with_weights(before: u64, len_iv: u8, own: &NameTable<'_>, glyphs: &Named<'_>) -> u64
-    ensures { result
-        ≡ clamp (before
-        + total (glyph_weight len_iv) (new_entries own.now (maps.entries glyphs.now))) }
-{
-    let mut weight = before;
-    'glyphs: for (name, charstring) in glyphs.entries() {
-        let adds = glyph_adds(len_iv, charstring);
-        weight = weight.saturating_add(unless_there(own.has(name), adds));
-    }
-    weight
-}
-
-/// `before` plus how many of these glyphs have a name that the table lacks, as far as 64 bits hold it.
-#[tactic(auto, using(std::proofs::lemmas::Map::Iter::rest_more, std::proofs::lemmas::Map::Iter::rest_all, t1_algebra::proofs::Tables::adds_none, t1_algebra::proofs::Tables::adds_next, t1_algebra::proofs::Tables::adds_all))]
-fn with_counts(before: u64, own: &NameTable<'_>, glyphs: &Named<'_>) -> u64
-    ensures { result
-        ≡ clamp (before + total one_each (new_entries own.now (maps.entries glyphs.now))) }
-{
-    let mut count = before;
-    'glyphs: for (name, _) in glyphs.entries() {
-        count = count.saturating_add(unless_there(own.has(name), 1));
-    }
-    count
 }
 
 impl<'a> NameTable<'a> {
@@ -180,13 +131,6 @@ impl<'a> NameTable<'a> {
         !self.has_glyph(name) && self.sought.get(&name).is_some()
     }
 
-    /// Whether a name has a state.
-    fn has(&self, name: &[u8]) -> bool
-        ensures { result ≡ maps.contains_key self.now name.now }
-    {
-        self.has_glyph(name) || self.sought.get(&name).is_some()
-    }
-
     /// States that each state of a name is a charstring, or that the name is sought. It does nothing when it runs: proofs
     /// call it.
     fn proof_states(&self)
@@ -201,7 +145,7 @@ impl<'a> NameTable<'a> {
             (λ n. charstrings_differ (maps.get self.now n) (maps.get other.now n))
             (option_map (λ n. n.now) result) }
     {
-        first_differing(&self.glyphs, other)
+        self.glyphs.first_differing(&other.glyphs)
     }
 
     /// The smallest name that this table seeks and for which the other has a glyph.
@@ -221,25 +165,25 @@ impl<'a> NameTable<'a> {
         smaller(self.lacked(other), other.lacked(self))
     }
 
-    /// `before` plus what the names of the other table that this one lacks add to the weight of a font with this lenIV,
-    /// as far as 64 bits hold it. A name that is sought weighs nothing.
-    #[tactic(auto, using(t1_algebra::proofs::Tables::new_names_total))]
-    pub(crate) fn weight_with(&self, other: &NameTable<'_>, before: u64, len_iv: u8) -> u64
+    /// `before` plus what the names of both tables add to the weight of a font with this lenIV, as far as 64 bits hold it.
+    /// A name that is sought weighs nothing.
+    #[tactic(auto, using(t1_algebra::proofs::Sums::joined_total))]
+    pub(crate) fn weight_with(&self, other: &NameTable<'a>, before: u64, len_iv: u8) -> u64
+        requires { TablesAgree self.now other.now }
         ensures { result
             ≡ clamp (before
-            + total (name_adds len_iv) (new_entries self.now (maps.entries other.now))) }
+            + total (name_adds len_iv) (maps.entries (joined_table self.now other.now))) }
     {
-        with_weights(before, len_iv, self, &other.glyphs)
+        self.glyphs.weight_with(&other.glyphs, before, len_iv)
     }
 
-    /// `before` plus how many glyphs the names of the other table that this one lacks add, as far as 64 bits hold it.
-    #[tactic(auto, using(t1_algebra::proofs::Tables::new_names_total))]
-    pub(crate) fn count_with(&self, other: &NameTable<'_>, before: u64) -> u64
-        ensures { result
-            ≡ clamp (before
-            + total name_counts (new_entries self.now (maps.entries other.now))) }
+    /// How many glyphs the names of both tables have.
+    #[tactic(auto, using(t1_algebra::proofs::Sums::joined_count))]
+    pub(crate) fn count_with(&self, other: &NameTable<'a>) -> usize
+        requires { TablesAgree self.now other.now }
+        ensures { result ≡ total name_counts (maps.entries (joined_table self.now other.now)) }
     {
-        with_counts(before, self, &other.glyphs)
+        self.glyphs.count_with(&other.glyphs)
     }
 }
 

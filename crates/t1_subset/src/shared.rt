@@ -3,10 +3,10 @@
 ghost use Rattle.std.specs.Prelude.{◌≡◌, ◌↔◌, IsTrue, IfOk, not, map};
 ghost use Rattle.std.specs.Option.{option_map};
 ghost use Rattle.std.specs.FinMap as maps;
-ghost use Rattle.t1_font.specs.FontModel.{part_of};
+ghost use Rattle.t1_font.specs.FontModel.{part_of, clamp};
 ghost use Rattle.t1_algebra.specs.Interpreter.{same_bytes};
-ghost use Rattle.t1_algebra.specs.Conflicts.{agrees};
 ghost use Rattle.t1_algebra.specs.Searches.{first_where};
+ghost use Rattle.t1_algebra.specs.StateTables.{shared_weight};
 ghost use Rattle.t1_algebra.specs.Shared.{shared_of, same_part, same_word, differing_part};
 ghost use Rattle.t1_subset.specs.Differences.{shell_part};
 
@@ -54,19 +54,6 @@ pub(crate) fn same_bytes(left: &[u8], right: &[u8]) -> bool
     ensures { result ≡ same_bytes left.now right.now }
 {
     left == right
-}
-
-/// Whether two byte strings are there and differ.
-pub(crate) fn differ(left: Option<&[u8]>, right: Option<&[u8]>) -> bool
-    ensures { result
-        ≡ not
-        (agrees (option_map (λ b. b.now) left.entry)
-        (option_map (λ b. b.now) right.entry)) }
-{
-    match (left, right) {
-        (Some(left), Some(right)) => !same_bytes(left, right),
-        _ => false,
-    }
 }
 
 /// Whether two tables of Subrs have the same indices.
@@ -179,6 +166,15 @@ impl<'a> Shared<'a> {
         ensures { result ≡ self.now.0.len_iv }
     {
         self.shell.len_iv()
+    }
+
+    /// What a font weighs that shares this, has no glyph and has no Subr but stubs, as far as 64 bits hold it.
+    pub(crate) fn weight(&self) -> u64
+        ensures { result ≡ clamp (shared_weight self.now) }
+    {
+        let each = 129 + self.len_iv() as u64;
+        let stubs = (self.subrs.len() as u64).saturating_mul(each);
+        self.shell.texts_weight().saturating_add(stubs)
     }
 
     /// The first part that differs.

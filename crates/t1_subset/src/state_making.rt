@@ -77,8 +77,6 @@ fn states_from<'a>(
         codes: code_table(alloc, font)?,
         names: NameTable::of(alloc, font, &uses.seekers)?,
         subrs: subr_table(alloc, font, &uses.users)?,
-        weight: font.weight() as u64,
-        glyphs: font.glyphs().len() as u64,
     })
 }
 

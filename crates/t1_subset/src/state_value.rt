@@ -17,12 +17,10 @@ pub struct States<'a> {
     pub(crate) codes: Table<u16, &'a [u8]>,
     pub(crate) names: NameTable<'a>,
     pub(crate) subrs: Table<u16, &'a [u8]>,
-    pub(crate) weight: u64,
-    pub(crate) glyphs: u64,
 }
 
 impl<'a> Model for States<'a> {
-    ghost use Rattle.t1_algebra.specs.StateTables.{StatesValue, states_code, IsSized};
+    ghost use Rattle.t1_algebra.specs.StateTables.{StatesValue, states_code, StatesFit};
 
     ghost Value = { StatesValue };
 
@@ -30,5 +28,5 @@ impl<'a> Model for States<'a> {
 
     ghost view = { λ s. (s.shared, (s.codes, (s.names, s.subrs))) };
 
-    ghost invariant = { λ s. IsSized (s.shared, (s.codes, (s.names, s.subrs))) s.weight s.glyphs };
+    ghost invariant = { λ s. StatesFit (s.shared, (s.codes, (s.names, s.subrs))) };
 }

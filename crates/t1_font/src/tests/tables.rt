@@ -45,6 +45,19 @@ fn join_has<'a>(
     Ok(names.as_slice() == want && has_all(&both, first) && has_all(&both, second))
 }
 
+/// Whether one pass over the tables of two fonts weighs, counts and compares them as their joined table says.
+fn passes_right<'a>(
+    alloc: Global,
+    first: &Font<'a>,
+    second: &Font<'a>,
+) -> Result<bool, AllocError> {
+    let both = join_glyphs(alloc, first.glyphs(), second.glyphs())?;
+    let weight = first.glyphs().weight_with(second.glyphs(), 7, 4);
+    let count = first.glyphs().count_with(second.glyphs());
+    let differing = first.glyphs().first_differing(second.glyphs());
+    Ok(weight == both.weight(7, 4) && count == both.len() && differing.is_none())
+}
+
 /// The names of Tiny.
 const ALL_NAMES: &[u8] = b".notdef A Aacute B F H L N X Y acute ";
 
@@ -69,7 +82,7 @@ fn joins_with<'a>(
     want: &[u8],
 ) -> Result<bool, AllocError> {
     let second = lent_cut_font(alloc, source, cut)?;
-    join_has(alloc, first, &second, want)
+    Ok(join_has(alloc, first, &second, want)? && passes_right(alloc, first, &second)?)
 }
 
 /// The same of the table of a source and of a cut.
@@ -124,10 +137,14 @@ fn copied(alloc: Global, font: &Font<'_>) -> Result<usize, AllocError> {
     Ok(copy.len())
 }
 
-/// How many glyphs the tables of two fonts have together.
+/// How many glyphs the tables of two fonts have together, if one pass over both is right.
 fn joined<'a>(alloc: Global, first: &Font<'a>, second: &Font<'a>) -> Result<usize, AllocError> {
     let both = join_glyphs(alloc, first.glyphs(), second.glyphs())?;
-    Ok(both.len())
+    if passes_right(alloc, first, second)? {
+        Ok(both.len())
+    } else {
+        Ok(0)
+    }
 }
 
 /// The same of a part alone, and of the part and a font.

@@ -1,7 +1,8 @@
 use Rattle.std.specs.FinMap as maps
+use Rattle.t1_join.specs.TableMeaning.{joined_table}
+use Rattle.t1_font.proofs.Weights.{Summing}
 use Rattle.t1_algebra.specs.StateTables.{subr_adds}
-use Rattle.t1_algebra.proofs.Tables.{Adding}
 use Rattle.t1_subset.proofs.state_joins.with_subrs.Given as goal
 
 abbrev pub invariant-entries : goal.invariant-entries
-invariant-entries l = Adding subr_adds l.own (maps.entries l.other) l.before l.weight l.index-iterator
+invariant-entries l = Summing subr_adds (maps.entries (joined_table l.own l.other)) l.before l.weight l.body-iterator

@@ -1,8 +1,7 @@
-use Rattle.std.proofs.Common.{◌≡◌, ◌+◌, ◌≤◌}
 use Rattle.std.specs.FinMap as fin
-use Rattle.t1_font.specs.FontValue.{total, subr_weight}
-use Rattle.t1_font.specs.FontModel.{clamp}
+use Rattle.t1_font.specs.FontValue.{subr_weight}
+use Rattle.t1_font.proofs.Weights.{Summing}
 use Rattle.t1_font.proofs.lent.Numbered.weight.Given as goal
 
 abbrev pub invariant-bodies : goal.invariant-bodies
-invariant-bodies l = (l.weight ≤ 18446744073709551615) × (clamp (l.weight + total (subr_weight l.len_iv) l.body-iterator) ≡ clamp (l.before + total (subr_weight l.len_iv) (fin.entries l.self)))
+invariant-bodies l = Summing (subr_weight l.len_iv) (fin.entries l.self) l.before l.weight l.body-iterator

@@ -1,0 +1,173 @@
+//! One pass over two tables of glyphs.
+
+ghost use Rattle.std.specs.Prelude.{◌≡◌, ◌+◌, IfOk, length};
+ghost use Rattle.std.specs.Option.{option_map};
+ghost use Rattle.std.specs.FinMap as fin;
+ghost use Rattle.std.specs.Map.Iter.{TakesFirst};
+ghost use Rattle.std.specs.Str.{bytes_eq};
+ghost use Rattle.t1_join.specs.Passes.{first_met};
+ghost use Rattle.t1_font.specs.FontValue.{name_cmp, total, glyph_weight};
+ghost use Rattle.t1_font.specs.FontModel.{clamp};
+ghost use Rattle.t1_font.specs.Maps.{merged};
+ghost use Rattle.t1_font.specs.Lent.{lent_glyph};
+
+use crate::lent::{Glyph, Named, glyph_weight};
+use std::alloc::{AllocError, Global};
+use std::cmp::Ordering;
+use std::marker::Model;
+
+/// The glyphs of two tables, upwards by the bytes of their names. If both have a name, it is the first's glyph.
+#[derive(Drop)]
+pub struct BothGlyphs<'t, 'a> {
+    first: &'t Named<'a>,
+    second: &'t Named<'a>,
+    i: usize,
+    j: usize,
+}
+
+impl<'t, 'a> Model for BothGlyphs<'t, 'a> {
+    ghost use Rattle.std.specs.Prelude.{List, ℕ, drop};
+    ghost use Rattle.std.specs.FinMap as fin;
+    ghost use Rattle.t1_join.specs.Passes.{merge};
+    ghost use Rattle.t1_font.specs.FontValue.{name_cmp, total, glyph_weight};
+    ghost use Rattle.t1_font.specs.FontModel.{clamp};
+
+    ghost Value = { List (List ℕ × List ℕ) };
+
+    ghost view = { λ s. merge name_cmp (drop s.i (fin.entries s.first.now))
+        (drop s.j (fin.entries s.second.now)) };
+}
+
+impl<'t, 'a> BothGlyphs<'t, 'a> {
+    /// The next glyph.
+    #[tactic(auto, using(crate::proofs::TablePasses::none_ahead, crate::proofs::TablePasses::first_alone, crate::proofs::TablePasses::second_alone, crate::proofs::TablePasses::first_lower, crate::proofs::TablePasses::both_tie, crate::proofs::TablePasses::second_lower))]
+    fn next_glyph(&mut self) -> Option<Glyph<'a>>
+        ensures { TakesFirst lent_glyph self.old result self.new }
+    {
+        match (self.first.at(self.i), self.second.at(self.j)) {
+            (None, None) => None,
+            (Some(one), None) => {
+                self.i += 1;
+                Some(one)
+            }
+            (None, Some(other)) => {
+                self.j += 1;
+                Some(other)
+            }
+            (Some(one), Some(other)) => match one.name().cmp(other.name()) {
+                Ordering::Less => {
+                    self.i += 1;
+                    Some(one)
+                }
+                Ordering::Equal => {
+                    self.i += 1;
+                    self.j += 1;
+                    Some(one)
+                }
+                Ordering::Greater => {
+                    self.j += 1;
+                    Some(other)
+                }
+            },
+        }
+    }
+}
+
+impl<'t, 'a> Iterator for BothGlyphs<'t, 'a> {
+    type Item = (&'a [u8], &'a [u8]);
+
+    ghost use Rattle.std.specs.Prelude.{length};
+    ghost use Rattle.std.specs.Iterator.{at_most};
+    ghost use Rattle.std.specs.Map.Iter.{TakesFirst};
+    ghost use Rattle.t1_font.specs.Lent.{lent_name};
+
+    ghost next_gives = { TakesFirst lent_name };
+
+    ghost remaining = { λ s. at_most (length s) };
+
+    fn next(&mut self) -> Option<(&'a [u8], &'a [u8])> {
+        let glyph = self.next_glyph()?;
+        Some((glyph.name(), glyph.body()))
+    }
+}
+
+impl<'a> Named<'a> {
+    /// The glyphs of this table and of another, upwards by the bytes of their names. If both have a name, this table's
+    /// glyph stands. It takes no memory.
+    pub fn entries_with<'t>(&'t self, other: &'t Named<'a>) -> BothGlyphs<'t, 'a>
+        ensures { result ≡ fin.entries (merged self.now other.now) }
+    {
+        BothGlyphs {
+            first: self,
+            second: other,
+            i: 0,
+            j: 0,
+        }
+    }
+
+    /// `before` plus the weight of the glyphs of both tables in a font with this lenIV, as far as 64 bits hold it.
+    #[tactic(auto, using(std::proofs::lemmas::Map::Iter::rest_more, std::proofs::lemmas::Map::Iter::rest_all, crate::proofs::Weights::sums_none, crate::proofs::Weights::sums_next, crate::proofs::Weights::sums_all))]
+    pub fn weight_with(&self, other: &Named<'a>, before: u64, len_iv: u8) -> u64
+        ensures { result
+            ≡ clamp (before
+            + total (glyph_weight len_iv) (fin.entries (merged self.now other.now))) }
+    {
+        let mut weight = before;
+        'bodies: for (_, body) in self.entries_with(other) {
+            weight = weight.saturating_add(glyph_weight(len_iv, body.len()));
+        }
+        weight
+    }
+
+    /// How many glyphs both tables have together, as far as 64 bits hold it.
+    #[tactic(auto, using(std::proofs::lemmas::Map::Iter::rest_more, std::proofs::lemmas::Map::Iter::rest_all, crate::proofs::Weights::counts_none, crate::proofs::Weights::counts_next, crate::proofs::Weights::counts_all))]
+    pub fn count_with(&self, other: &Named<'a>) -> u64
+        ensures { result ≡ clamp (length (fin.entries (merged self.now other.now))) }
+    {
+        let mut count = 0u64;
+        'glyphs: for _glyph in self.entries_with(other) {
+            count = count.saturating_add(1);
+        }
+        count
+    }
+
+    /// The smallest name for which both tables have a glyph, with different charstrings.
+    #[tactic(auto, using(crate::proofs::TablePasses::meets_later, crate::proofs::TablePasses::meets_above, crate::proofs::TablePasses::meets_same, crate::proofs::TablePasses::meets_here, crate::proofs::TablePasses::first_ends, crate::proofs::TablePasses::second_ends, crate::proofs::TablePasses::first_nearer, crate::proofs::TablePasses::second_nearer, crate::proofs::TablePasses::both_nearer))]
+    pub fn first_differing(&self, other: &Named<'_>) -> Option<&'a [u8]>
+        ensures { option_map (λ n. n.now) result
+            ≡ first_met name_cmp bytes_eq (fin.entries self.now) (fin.entries other.now) }
+    {
+        let mut i = 0;
+        let mut j = 0;
+        'pass: while let (Some(one), Some(another)) = (self.at(i), other.at(j)) {
+            match one.name().cmp(another.name()) {
+                Ordering::Less => i += 1,
+                Ordering::Greater => j += 1,
+                Ordering::Equal => {
+                    if one.body() != another.body() {
+                        return Some(one.name());
+                    }
+                    i += 1;
+                    j += 1;
+                }
+            }
+        }
+        None
+    }
+}
+
+/// The glyphs of both tables, in one pass over both. If both have a name, the first's glyph stands.
+pub fn join_glyphs<'a>(
+    alloc: Global,
+    first: &Named<'a>,
+    second: &Named<'a>,
+) -> Result<Named<'a>, AllocError>
+    ensures { IfOk result (λ m. m ≡ merged first.now second.now) }
+{
+    let mut all = Vec::with_capacity(alloc, first.len().saturating_add(second.len()))?;
+    let mut both = first.entries_with(second);
+    'pass: while let Some(glyph) = both.next_glyph() {
+        all.push(glyph)?;
+    }
+    Ok(Named::made(all))
+}
