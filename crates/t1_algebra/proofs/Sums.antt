@@ -1,5 +1,5 @@
 -- Sums over the entries of tables: what they weigh, and how many glyphs they have.
-use Rattle.std.proofs.Common.{◌≡◌, ◌≤◌, ◌<◌, ℕ, ◌+◌, min, not, List, [], ◌∷◌, map, filter, refl, sym, ◌∙◌, ap, arith, Some, Less, Equal, Greater, Ordering, Bool, false}
+use Rattle.std.proofs.Common.{◌≡◌, ℕ, ◌+◌, List, [], ◌∷◌, map, length, refl, sym, ◌∙◌, ap, arith, Some, Less, Equal, Greater, Ordering}
 use Rattle.std.specs.Cmp.Lexicographic.{nat_list_cmp_total}
 use Rattle.std.specs.List.{AllByRecursion}
 use Rattle.std.specs.FinMap as maps
@@ -61,5 +61,5 @@ joined_total g s are t is h r seek u so a w none =
 
 -- and joined names have as many glyphs as both tables of glyphs together
 pub joined_count : (g : Named) (s : TableMeaning) → AreSought s → (t : TableMeaning) → names_table g s ≡ t → (h : Named) (r : TableMeaning) → AreSought r → (u : TableMeaning) → names_table h r ≡ u → TablesAgree t u
-    → total name_counts (maps.entries (joined_table t u)) ≡ maps.len (merged g h)
-joined_count g s are t is h r seek u so a = joined_total g s are t is h r seek u so a name_counts (λ n. refl) ∙ length_total (maps.entries (merged g h)) ∙ sym (maps.len-entries (merged g h))
+    → total name_counts (maps.entries (joined_table t u)) ≡ length (maps.entries (merged g h))
+joined_count g s are t is h r seek u so a = joined_total g s are t is h r seek u so a name_counts (λ n. refl) ∙ length_total (maps.entries (merged g h))

@@ -10,7 +10,11 @@ use Rattle.std.specs.Cmp.Lexicographic.{nat_list_cmp_total}
 use Rattle.std.specs.List.{list_any, AllByRecursion}
 use Rattle.std.proofs.lemmas.Bool.{cases_Bool, not-true}
 use Rattle.std.specs.FinMap as maps
-use Rattle.t1_join.specs.Passes.{weave, merge}
+use Rattle.t1_join.specs.Passes.{first_met}
+use Rattle.t1_join.proofs.Conflicts.{Says, both_agree, says_first}
+use Rattle.std.specs.Str.{bytes_eq}
+use Rattle.std.proofs.lemmas.Map.Text.{is_eq-slice_cmp}
+use Rattle.t1_algebra.specs.Conflicts.{agrees}
 use Rattle.t1_join.specs.TableMeaning.{Rises, TableMeaning, joined_table, TablesAgree}
 use Rattle.t1_join.proofs.Sorted.{both_true, make_both, is_lt_from, lt_is}
 use Rattle.t1_join.proofs.Merges.{Below-less, below_tied, find_below, merged_from_sorted, rises_merge}
@@ -23,10 +27,10 @@ use Rattle.t1_font.specs.FontModel.{clamp}
 use Rattle.t1_font.proofs.Weights.{clamp_more, clamp_all, clamp_fits}
 use Rattle.t1_font.specs.FontValue.{total, Numbered, Named, name_cmp, Encoding, Word, Codes}
 use Rattle.t1_font.proofs.MapLemmas.{get-map_values, entries-map_values, entries_all}
-use Rattle.t1_algebra.specs.StateTables.{new_entries, numbered, name_meaning, AreNameStates, behind_mark, glyph_table, names_table, AreSought, code_states}
+use Rattle.t1_algebra.specs.StateTables.{numbered, name_meaning, AreNameStates, behind_mark, glyph_table, names_table, AreSought, code_states}
 use Rattle.t1_algebra.specs.Interpreter.{same_bytes}
 use Rattle.t1_algebra.specs.Searches.{IsLowest}
-use Rattle.t1_algebra.specs.NameStates.{is_sought_in, charstrings_differ, one_lacks, differs_from}
+use Rattle.t1_algebra.specs.NameStates.{is_sought_in, charstrings_differ, one_lacks}
 use Rattle.t1_algebra.specs.States.{Agree, code_state, joined}
 use Rattle.t1_algebra.proofs.Maps.{get-merged}
 use Rattle.t1_algebra.proofs.Sets.{cases_Option, name_same, cases}
@@ -180,6 +184,25 @@ module _ (t u : TableMeaning) (a : AreNameStates t) (b : AreNameStates u) where
     λ k. (λ n. not-true _ (first_so _ _ (sym (agree_at n) ∙ k n)), λ n. not-true _ (second_so _ _ (sym (agree_at n) ∙ k n))),
     λ k n. agree_at n ∙ (λ i. not (k.0 n i) && not (k.1 n i)),
   )
+
+-- ---- the lowest name at which charstrings differ
+
+agrees_so : (x y : Option (List ℕ)) → agrees x y ≡ both_agree bytes_eq x y
+agrees_so x y = grind (cases, is_eq-slice_cmp)
+
+-- what a pass over two tables of glyphs meets is the lowest name at which their charstrings differ
+pub lowest_met : (g h : Named) (p : List ℕ → Bool) → ((n : List ℕ) → p n ≡ not (agrees (maps.get g n) (maps.get h n))) → (r : Option (List ℕ)) → r ≡ first_met name_cmp bytes_eq (maps.entries g) (maps.entries h) → IsLowest name_cmp p r
+lowest_met g h p is r e = lowest r (subst (Says name_cmp agree) (sym e) (says_first nat_list_cmp_total bytes_eq (maps.entries g) (maps.entries h) (maps.entries_sorted g) (maps.entries_sorted h)))
+  where
+    agree : List ℕ → Bool
+    agree n = both_agree bytes_eq (find name_cmp n (maps.entries g)) (find name_cmp n (maps.entries h))
+
+    fails : (n : List ℕ) → p n ≡ not (agree n)
+    fails n = is n ∙ ap not (agrees_so (maps.get g n) (maps.get h n) ∙ (λ i. both_agree bytes_eq (maps.get-entries g n i) (maps.get-entries h n i)))
+
+    lowest : (r : Option (List ℕ)) → Says name_cmp agree r → IsLowest name_cmp p r
+    lowest None k = λ n. fails n ∙ ap not (k n)
+    lowest (Some q) k = record { it = fails q ∙ ap not k.0; none_lower = λ n l. fails n ∙ ap not (k.1 n l) }
 
 module _ (p : List ℕ → Bool) where
   -- if nothing is answered, nothing passes

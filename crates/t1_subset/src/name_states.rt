@@ -177,11 +177,12 @@ impl<'a> NameTable<'a> {
         self.glyphs.weight_with(&other.glyphs, before, len_iv)
     }
 
-    /// How many glyphs the names of both tables have.
+    /// How many glyphs the names of both tables have, as far as 64 bits hold it.
     #[tactic(auto, using(t1_algebra::proofs::Sums::joined_count))]
-    pub(crate) fn count_with(&self, other: &NameTable<'a>) -> usize
+    pub(crate) fn count_with(&self, other: &NameTable<'a>) -> u64
         requires { TablesAgree self.now other.now }
-        ensures { result ≡ total name_counts (maps.entries (joined_table self.now other.now)) }
+        ensures { result
+            ≡ clamp (total name_counts (maps.entries (joined_table self.now other.now))) }
     {
         self.glyphs.count_with(&other.glyphs)
     }

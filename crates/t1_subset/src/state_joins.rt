@@ -50,7 +50,7 @@ impl<'a> States<'a> {
         ensures { IsTrue result ↔ StatesFit (joined_states self.now other.now) }
     {
         self.joint_weight(other) <= WEIGHT_LIMIT
-            && self.names.count_with(&other.names) <= COUNT_LIMIT
+            && self.names.count_with(&other.names) <= COUNT_LIMIT as u64
     }
 
     /// Whether the states of names and of Subrs join.
