@@ -1,7 +1,5 @@
 -- A glyph runs and draws in a subset and in a join as it did before.
-use Rattle.std.proofs.Common.{◌≡◌, ℕ, true, cond, List, [], ◌∷◌, map, refl, sym, ◌∙◌, ap, subst, Option, Some, None, unwrap_or, option_map}
-use Rattle.std.specs.List.{list_any}
-use Rattle.std.specs.Cmp.Lexicographic.{nat_list_cmp_total}
+use Rattle.std.proofs.Common.{◌≡◌, ℕ, true, cond, List, [], ◌∷◌, map, refl, sym, ◌∙◌, ap, subst, Option, Some, None, option_map}
 use Rattle.std.specs.FinSet as sets
 use Rattle.std.specs.FinMap as maps
 use Rattle.t1_run.specs.State.{Ending}
@@ -11,16 +9,16 @@ use Rattle.t1_run.proofs.Locality.{local}
 use Rattle.t1_font.specs.FontValue.{FontValue, notdef, Numbered}
 use Rattle.t1_font.specs.IsFont.{IsFont}
 use Rattle.t1_font.proofs.FontReaders.{all_seen}
-use Rattle.t1_algebra.specs.Interpreter.{Interpreter, Names, same_bytes}
 use Rattle.t1_algebra.specs.Keep.{keep, has, components, subset}
 use Rattle.t1_algebra.specs.Outcomes.{component_outcome}
 use Rattle.t1_algebra.specs.States.{joined_font, Compatible}
 use Rattle.t1_algebra.specs.Profile.{profile, Endings, in_set_of}
 use Rattle.t1_algebra.specs.Laws.{IsOf, DrawsAlike, AnswersAlike}
-use Rattle.t1_algebra.proofs.Kept.{InFont, keep_closed, component_here_from}
+use Rattle.t1_algebra.proofs.Words.{list_any, nat_list_cmp_total, Interpreter, Names, same_bytes}
+use Rattle.t1_algebra.proofs.Kept.{keep_part}
 use Rattle.t1_algebra.proofs.Sets.{name_same, itself, here, later, any_append_left, any_append_right, cases}
-use Rattle.t1_algebra.proofs.Uses.{seeks_it, has_some}
-use Rattle.t1_algebra.proofs.JoinedStates.{left_glyph, left_runs, left_subrs, font_back, compatible_back}
+use Rattle.t1_algebra.proofs.Uses.{sought}
+use Rattle.t1_algebra.proofs.JoinedStates.{left_runs, left_subrs, font_back, compatible_back}
 use Rattle.t1_algebra.proofs.Subsets.{get-glyph, runs_alike, subrs_alike, glyph_in_join}
 
 -- ---- fonts in which a glyph runs alike and names components that run alike
@@ -76,27 +74,24 @@ module _ (f j : FontValue) (n : List ℕ) (same : maps.get j.glyphs n ≡ maps.g
 -- ---- subsets and joins
 
 -- a component of a kept glyph comes to the same in the subset
-component_in_subset : {O : Type 0} (m : Interpreter O) (f : FontValue) (base : has f notdef ≡ true) (a : Names) (inside : InFont m f a) (n c p : List ℕ) → sets.contains (keep m f a) n ≡ true
+component_in_subset : {O : Type 0} (m : Interpreter O) (f : FontValue) (base : has f notdef ≡ true) (a : Names) (inside : IsOf f a) (n c p : List ℕ) → sets.contains (keep m f a) n ≡ true
     → maps.get f.glyphs n ≡ Some c → list_any (same_bytes p) (components m f.subrs c) ≡ true → component_outcome m (subset m f a) p ≡ component_outcome m f p
 component_in_subset m f base a inside n c p k is w =
-    let kept = λ (h : has f p ≡ true). (keep_closed m f a base inside).components n p k (component_here_from m f n p (ap (λ x. list_any (same_bytes p) (components m f.subrs (unwrap_or x []))) is ∙ w) h) in
-    grind (cases, get-glyph m f base a inside p, kept, runs_alike m f base a inside p)
+    grind (cases, get-glyph m f a p, keep_part m f a base inside n c p k is w, runs_alike m f a p)
 
 -- a kept glyph draws in a subset as in the font
 pub subset_alike : (f : FontValue) → IsFont f → (a : Names) → IsOf f a → (n : List ℕ) → sets.contains (keep profile f a) n ≡ true → DrawsAlike f (subset profile f a) n
-subset_alike f h a inside n k = alike f (subset profile f a) n (get-glyph profile f h.glyphs.notdef a inside n ∙ ap (λ b. cond b (maps.get f.glyphs n) None) k)
-    (λ c is. subrs_alike profile f h.glyphs.notdef a inside n c k is) (λ c p is w. component_in_subset profile f h.glyphs.notdef a inside n c p k is w)
+subset_alike f h a inside n k = alike f (subset profile f a) n (get-glyph profile f a n ∙ ap (λ b. cond b (maps.get f.glyphs n) None) k)
+    (λ c is. subrs_alike profile f a n c k is) (λ c p is w. component_in_subset profile f h.glyphs.notdef a inside n c p k is w)
 
 -- a component of a glyph of the first font comes to the same in the join
 component_in_join : {O : Type 0} (m : Interpreter O) (f g : FontValue) → Compatible m f g → (n c p : List ℕ) → maps.get f.glyphs n ≡ Some c → list_any (same_bytes p) (components m f.subrs c) ≡ true
     → component_outcome m (joined_font m f g) p ≡ component_outcome m f p
-component_in_join m f g c n v p is w = grind (cases, glyph_in_join m f g p, c.names p, seeks_it m f n v p is w, left_runs m f g p)
+component_in_join m f g c n v p is w = grind (cases, glyph_in_join m f g p, c.names p, sought m f p n, is, w, left_runs m f g p)
 
 -- a glyph of the first font draws in the join as it did
 pub left_alike : (f g : FontValue) → Compatible profile f g → (n : List ℕ) → has f n ≡ true → DrawsAlike f (joined_font profile f g) n
-left_alike f g c n h =
-    let v = has_some (maps.get f.glyphs n) h in
-    alike f (joined_font profile f g) n (left_glyph profile f g n v.0 v.1 ∙ sym v.1) (left_subrs profile f g n) (component_in_join profile f g c n)
+left_alike f g c n h = alike f (joined_font profile f g) n (grind (cases, glyph_in_join profile f g n, h)) (left_subrs profile f g n) (component_in_join profile f g c n)
 
 -- so does a glyph of the second font
 pub right_alike : (f g : FontValue) → Compatible profile f g → (n : List ℕ) → has g n ≡ true → DrawsAlike g (joined_font profile f g) n

@@ -1,19 +1,13 @@
 -- Searches: what they find, and when they find nothing.
-use Rattle.std.proofs.Common.{subst, ◌≡◌, ℕ, Bool, true, false, cond, ◌||◌, List, [], ◌∷◌, map, refl, sym, ◌∙◌, ap, true≢false, inl, inr, Ordering, Less, Option, Some, None, is_lt, rules, T}
+use Rattle.std.proofs.Common.{subst, ◌≡◌, ℕ, Bool, true, false, cond, List, [], ◌∷◌, map, refl, sym, ◌∙◌, ap, true≢false, inl, inr, Ordering, Less, Option, Some, None, is_lt, T}
 use Rattle.std.proofs.lemmas.Bool.{or_right, or_cases}
-use Rattle.std.specs.List.{list_any, AllByRecursion}
-use Rattle.std.specs.Ordering.{eq_by_cmp}
-use Rattle.std.specs.Cmp.{IsTotalOrder, first_so, second_so}
-use Rattle.std.specs.FinSet.{IsAntisymmetric}
-use Rattle.std.specs.FinMap as maps
 use Rattle.std.specs.FinMap.Entries.{below_all, is_sorted}
+use Rattle.std.specs.FinMap as maps
 use Rattle.t1_join.proofs.Sorted.{lt_is}
 use Rattle.t1_font.proofs.MapLemmas.{T_true}
 use Rattle.t1_algebra.specs.Searches.{first_where, members, smallest, found}
+use Rattle.t1_algebra.proofs.Words.{list_any, AllByRecursion, eq_by_cmp, IsTotalOrder, first_so, second_so, IsAntisymmetric}
 use Rattle.t1_algebra.proofs.Sets.{tied, itself, cases}
-
-pub or_swap : (a b : Bool) → (a || b) ≡ (b || a)
-or_swap a b = search rules
 
 module _ {X : Type 0} (p : X → Bool) where
   -- if a search finds nothing, no element passes
@@ -31,24 +25,15 @@ module _ {X : Type 0} (p : X → Bool) where
   passes_none [] h = refl
   passes_none (x ∷ xs) h = ap (λ b. cond b (Some x) (first_where p xs)) (h x) ∙ passes_none xs h
 
-module _ {X Y : Type 0} (f : X → Y) (x : Option X) (e : Option Y) where
-  -- if nothing is found of two things, neither is there
-  pub found_none : found f x e ≡ None → (x ≡ None) × (e ≡ None)
-  found_none h = grind cases
-
-  -- if neither of two things is there, nothing is found
-  pub none_found : x ≡ None → e ≡ None → found f x e ≡ None
-  none_found h k = cc
+-- if nothing is found of two things, neither is there
+pub found_none : {X Y : Type 0} (f : X → Y) (x : Option X) (e : Option Y) → found f x e ≡ None → (x ≡ None) × (e ≡ None)
+found_none f x e h = grind cases
 
 module _ {K : Type 0} {R : K → K → Ordering} (o : IsTotalOrder R) (same : IsAntisymmetric R) (p : K → Bool) where
-  -- no key of a list passes of which none passes
-  none_at : (q : K) (ks : List K) → AllByRecursion (λ k. p k ≡ false) ks → list_any (eq_by_cmp R q) ks ≡ true → p q ≡ false
-  none_at q [] all h = absurd (true≢false (sym h))
-  none_at q (k ∷ ks) all h = grind (cases, tied o same q k, none_at q ks all.1)
-
   -- if a search among keys finds nothing, no key passes
   pub none_at_all : (ks : List K) (q : K) → first_where p ks ≡ None → list_any (eq_by_cmp R q) ks ≡ true → p q ≡ false
-  none_at_all ks q h k = none_at q ks (none_passes p ks h) k
+  none_at_all [] q h k = absurd (true≢false (sym k))
+  none_at_all (j ∷ ks) q h k = grind (cases, tied o same q j, none_at_all ks q)
 
   -- if there is no smallest key that passes, no key of the set passes
   pub smallest_none : (s : maps.FinMap R ℕ) (q : K) → smallest p s ≡ None → maps.contains_key s q ≡ true → p q ≡ false

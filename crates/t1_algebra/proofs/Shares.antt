@@ -1,19 +1,15 @@
 -- Fonts share what they have to exactly if no part differs, and the first part that differs is the same in both orders.
-use Rattle.std.proofs.Common.{◌≡◌, ◌↔◌, option_map, ℕ, Bool, true, not, List, [], ◌∷◌, map, refl, sym, ◌∙◌, ap, true≢false, Option, Some, None, is_some, nat_cmp, arith}
-use Rattle.std.specs.List.{list_any}
-use Rattle.std.specs.Ordering.{eq_by_cmp}
-use Rattle.std.specs.FinMap as maps
-use Rattle.std.specs.Cmp.{nat_cmp_total}
-use Rattle.std.specs.Cmp.Lexicographic.{nat_list_cmp_total}
-use Rattle.std.specs.FinSet.{nat_cmp-IsAntisymmetric}
+use Rattle.std.proofs.Common.{◌≡◌, ◌↔◌, option_map, ℕ, Bool, true, not, List, map, sym, ◌∙◌, ap, true≢false, Option, Some, None, is_some, nat_cmp, arith}
 use Rattle.std.proofs.lemmas.Bool.{not-false, and_parts}
+use Rattle.std.proofs.lemmas.Simd.{map-map}
+use Rattle.std.specs.FinMap as maps
 use Rattle.t1_font.specs.FontValue.{FontValue, SubrsShell, Numbered, declared_count}
 use Rattle.t1_font.specs.FontModel.{word_of}
 use Rattle.t1_font.specs.Maps.{map_values}
 use Rattle.t1_font.specs.WriteLaws.{SameKind}
 use Rattle.t1_font.proofs.MapLemmas.{Some_None, get-map_values, entries-map_values}
-use Rattle.t1_algebra.specs.Interpreter.{same_bytes}
 use Rattle.t1_algebra.specs.Shared.{Shared, shared_of, ShellPart, all_parts, same_number, same_bool, same_word, same_words, same_part, differing_part}
+use Rattle.t1_algebra.proofs.Words.{list_any, eq_by_cmp, nat_cmp_total, nat_list_cmp_total, nat_cmp-IsAntisymmetric, same_bytes}
 use Rattle.t1_algebra.proofs.Searching.{none_passes}
 use Rattle.t1_algebra.proofs.Sets.{name_same, tied, itself, cases}
 
@@ -71,12 +67,8 @@ pub record Shares (f g : FontValue) : Type 0 where
   pub present : (i : ℕ) → maps.contains_key f.subrs i ≡ maps.contains_key g.subrs i
   pub kinds : SameKind f.encoding g.encoding
 
-keys_valued : (es : List (ℕ × List ℕ)) → map (λ (e : ℕ × List ℕ). e.0) es ≡ map (λ (e : ℕ × ℕ). e.0) (map (λ (e : ℕ × List ℕ). (e.0, 0)) es)
-keys_valued [] = refl
-keys_valued (e ∷ es) = ap (λ (ns : List ℕ). e.0 ∷ ns) (keys_valued es)
-
 keys_of : (m : Numbered) → maps.keys m ≡ maps.keys {X = ℕ} (map_values (λ i c. 0) m)
-keys_of m = keys_valued (maps.entries m) ∙ ap (map (λ e. e.0)) (sym (entries-map_values nat_cmp_total nat_cmp-IsAntisymmetric (λ i c. 0) m))
+keys_of m = sym (ap (map (λ e. e.0)) (entries-map_values nat_cmp_total nat_cmp-IsAntisymmetric (λ i c. 0) m) ∙ map-map (λ e. e.0) (λ e. (e.0, 0)) (maps.entries m))
 
 -- maps that are present at the same indices have the same keys
 pub same_indices : (m n : Numbered) → ((i : ℕ) → maps.contains_key m i ≡ maps.contains_key n i) → maps.keys m ≡ maps.keys n

@@ -1,19 +1,13 @@
 -- Tables of codes, of Subrs and of names: what stands at each key, what they weigh, and how they join.
 use Rattle.std.proofs.Common.{◌≡◌, ◌≤◌, ℕ, ◌+◌, min, Bor, option_map, Bool, true, false, not, cond, T, List, [], ◌∷◌, ◌++◌, filter, refl, sym, ◌∙◌, ap, arith, Option, Some, None, is_some, Ordering, Less, Equal, Greater, ◌&&◌, map, subst, nat_cmp, is_lt, ◌↔◌, inl, inr, ◌⊎◌}
-use Rattle.std.specs.Ordering.{ordering_reverse, is_eq, eq_by_cmp, ordering_then}
-use Rattle.std.specs.Cmp.{IsTotalOrder, nat_cmp_total, both_ways, first_so, second_so}
+use Rattle.std.specs.Ordering.{is_eq, ordering_then}
+use Rattle.std.specs.Cmp.{both_ways}
 use Rattle.std.specs.FinMap.{find, is_sorted}
-use Rattle.std.specs.FinMap.Entries.{below_all, by_order}
-use Rattle.std.specs.FinSet.{IsAntisymmetric}
+use Rattle.std.specs.FinMap.Entries.{below_all}
 use Rattle.std.specs.Option.{option_copied}
-use Rattle.std.specs.Cmp.Lexicographic.{nat_list_cmp_total}
-use Rattle.std.specs.List.{list_any, AllByRecursion}
 use Rattle.std.proofs.lemmas.Bool.{cases_Bool, not-true}
 use Rattle.std.specs.FinMap as maps
-use Rattle.t1_join.specs.Passes.{weave, merge}
-use Rattle.t1_join.specs.TableMeaning.{Rises, TableMeaning, joined_table, TablesAgree}
-use Rattle.t1_join.proofs.Sorted.{both_true, make_both, is_lt_from, lt_is}
-use Rattle.t1_join.proofs.Merges.{Below-less, below_tied, find_below, merged_from_sorted, rises_merge}
+use Rattle.t1_join.specs.TableMeaning.{TableMeaning, joined_table, TablesAgree}
 use Rattle.t1_join.specs.Meaning.{Meaning, meaning_cmp, of_number, by_number_law, same_meaning}
 use Rattle.t1_join.specs.Join.{joined_state, State, states_agree, StatesAgree}
 use Rattle.t1_join.specs.TableLaws.{get_joined, same_table}
@@ -22,68 +16,43 @@ use Rattle.t1_font.specs.Maps.{merged}
 use Rattle.t1_font.specs.FontModel.{clamp}
 use Rattle.t1_font.proofs.Weights.{clamp_more, clamp_all, clamp_fits}
 use Rattle.t1_font.specs.FontValue.{total, Numbered, Named, name_cmp, Encoding, Word, Codes}
-use Rattle.t1_font.proofs.MapLemmas.{get-map_values, entries-map_values, entries_all}
+use Rattle.t1_font.proofs.MapLemmas.{get-map_values, get-retain, entries-map_values, entries_all}
+use Rattle.t1_font.proofs.CutEntries.{entries-retain}
 use Rattle.t1_algebra.specs.StateTables.{new_entries, numbered, name_meaning, AreNameStates, behind_mark, glyph_table, names_table, AreSought, code_states}
-use Rattle.t1_algebra.specs.Interpreter.{same_bytes}
 use Rattle.t1_algebra.specs.Searches.{IsLowest}
 use Rattle.t1_algebra.specs.NameStates.{is_sought_in, charstrings_differ, one_lacks, differs_from}
 use Rattle.t1_algebra.specs.States.{Agree, code_state, joined}
+use Rattle.t1_algebra.proofs.Words.{list_any, AllByRecursion, eq_by_cmp, IsTotalOrder, nat_cmp_total, first_so, second_so, nat_list_cmp_total, IsAntisymmetric, same_bytes}
 use Rattle.t1_algebra.proofs.Maps.{get-merged}
 use Rattle.t1_algebra.proofs.Sets.{cases_Option, name_same, cases}
 use Rattle.t1_algebra.proofs.Shares.{bytes_decide}
 
-module _ {K X : Type 0} {R : K → K → Ordering} (o : IsTotalOrder R) (w : K → X → ℕ) where
-  -- the entries of fs whose keys are not in es
-  abbrev left_over : List (K × X) → List (K × X) → List (K × X)
-  left_over es fs = filter (λ f. not (is_some (find R f.0 es))) fs
+module _ {K X : Type 0} (w : K → X → ℕ) where
+  -- entries that pass a test and those that fail it sum to what all do
+  total_split : (p : K × X → Bool) (es : List (K × X)) → total w es ≡ total w (filter p es) + total w (filter (λ e. not (p e)) es)
+  total_split p [] = refl
+  total_split p (e ∷ es) = grind (cases, total_split p es)
 
-  -- all entries are left over beside no entries
-  all_left : (fs : List (K × X)) → total w fs ≡ total w (left_over [] fs)
-  all_left [] = refl
-  all_left (f ∷ fs) = ap (λ n. w f.0 f.1 + n) (all_left fs)
+  -- if the entries that pass a test weigh nothing, they sum to nothing
+  total_none : (p : K × X → Bool) (es : List (K × X)) → AllByRecursion (λ e. p e ≡ true → w e.0 e.1 ≡ 0) es → total w (filter p es) ≡ 0
+  total_none p [] h = refl
+  total_none p (e ∷ es) h = grind (cases, h.0, total_none p es h.1)
 
-  -- an entry whose key is below all of fs leaves the same entries over
-  same_left : (e : K × X) (es fs : List (K × X)) → T (below_all R e.0 fs) → left_over (e ∷ es) fs ≡ left_over es fs
-  same_left e es [] h = refl
-  same_left e es (f ∷ fs) h =
-      let below = both_true (is_lt (R e.0 f.0)) (below_all R e.0 fs) h in
-      grind (cases, lt_is (R e.0 f.0) below.0, o.antisymm f.0 e.0, same_left e es fs below.1)
-
-  -- merged entries sum to the first and what is left over of the second
-  sum_weave : (e : K × X) (es fs : List (K × X)) → T (below_all R e.0 es) → ((gs : List (K × X)) → Rises R gs → total w (merge R es gs) ≡ total w es + total w (left_over es gs)) → Rises R fs
-      → total w (weave R e (merge R es) fs) ≡ total w (e ∷ es) + total w (left_over (e ∷ es) fs)
-  sum_weave e es [] b k h = let rest = k [] tt in omega arith
-  sum_weave e es (f ∷ fs) b k h =
-      let fb = (both_true _ _ h).0 in
-      let fr = (both_true _ _ h).1 in
-      elim (R e.0 f.0) as (λ r. R e.0 f.0 ≡ r → total w (by_order r (e ∷ merge R es (f ∷ fs)) (e ∷ merge R es fs) (f ∷ weave R e (merge R es) fs)) ≡ total w (e ∷ es) + total w (left_over (e ∷ es) (f ∷ fs))) [
-        | Less ↦ λ p.
-            let left = same_left e es (f ∷ fs) (make_both _ _ (is_lt_from p) (Below-less o e.0 f.0 fs p fb)) in
-            grind (arith, k (f ∷ fs) h, left)
-        | Equal ↦ λ p.
-            let left = same_left e es fs (below_tied o e.0 f.0 fs p fb) in
-            grind (arith, p, k fs fr, o.antisymm f.0 e.0, left)
-        | Greater ↦ λ p.
-            let less : R f.0 e.0 ≡ Less = o.antisymm f.0 e.0 ∙ ap ordering_reverse p in
-            let none = find_below o f.0 (e ∷ es) (make_both _ _ (is_lt_from less) (Below-less o f.0 e.0 es less b)) in
-            grind (arith, none, sum_weave e es fs b k fr)
-      ] refl
-
-  sum_merge : (es fs : List (K × X)) → Rises R es → Rises R fs → total w (merge R es fs) ≡ total w es + total w (left_over es fs)
-  sum_merge [] fs g h = omega (arith, all_left fs)
-  sum_merge (e ∷ es) fs g h = sum_weave e es fs (both_true _ _ g).0 (λ gs k. sum_merge es gs (both_true _ _ g).1 k) h
+  -- if the entries that fail a test weigh nothing, those that pass it sum to what all do
+  pub total_kept : (p : K × X → Bool) (es : List (K × X)) → AllByRecursion (λ e. not (p e) ≡ true → w e.0 e.1 ≡ 0) es → total w (filter p es) ≡ total w es
+  total_kept p es h = omega (arith, total_split p es, total_none (λ e. not (p e)) es h)
 
   -- a joined table sums to the entries of the first and those of the second at other keys
-  pub total-merged : IsAntisymmetric R → (m n : maps.FinMap R X) → total w (maps.entries (merged m n)) ≡ total w (maps.entries m) + total w (new_entries m (maps.entries n))
-  total-merged same m n =
-      let es = maps.entries m in
-      let fs = maps.entries n in
-      let g : Rises R es = maps.entries_sorted m in
-      let h : Rises R fs = maps.entries_sorted n in
-      ap (λ (t : maps.FinMap R X). total w (maps.entries t)) ((λ i. maps.from_entries (sym (maps.entries-from_sorted R es g) i ++ sym (maps.entries-from_sorted R fs h) i)) ∙ sym (merged_from_sorted o same es fs g h))
-      ∙ ap (total w) (maps.entries-from_sorted R (merge R es fs) (rises_merge o es fs g h))
-      ∙ sum_merge es fs g h
-      ∙ (λ i. total w es + total w (filter (λ f. not (is_some (sym (maps.get-entries m f.0) i))) fs))
+  pub total-merged : {R : K → K → Ordering} → IsTotalOrder R → IsAntisymmetric R → (m n : maps.FinMap R X) → total w (maps.entries (merged m n)) ≡ total w (maps.entries m) + total w (new_entries m (maps.entries n))
+  total-merged o same m n =
+      let has = λ (k : K). maps.contains_key m k in
+      let lacks = λ (k : K). not (maps.contains_key m k) in
+      let all = merged m n in
+      let first = maps.same_map o same (maps.retain_keys all has) m (λ q. grind (cases, get-retain o same all has q, get-merged o same m n q)) in
+      let second = maps.same_map o same (maps.retain_keys all lacks) (maps.retain_keys n lacks) (λ q. grind (cases, get-retain o same all lacks q, get-retain o same n lacks q, get-merged o same m n q)) in
+      let firsts = sym (entries-retain o same all has) ∙ ap maps.entries first in
+      let seconds = sym (entries-retain o same all lacks) ∙ ap maps.entries second ∙ entries-retain o same n lacks in
+      total_split (λ e. has e.0) (maps.entries all) ∙ (λ i. total w (firsts i) + total w (seconds i))
 
 -- the first of the entries adds what it weighs, unless the table has its key
 pub total-new : {K X : Type 0} {R : K → K → Ordering} (w : K → X → ℕ) (m : maps.FinMap R X) (e : K × X) (es : List (K × X)) → total w (new_entries m (e ∷ es)) ≡ cond (maps.contains_key m e.0) 0 (w e.0 e.1) + total w (new_entries m es)
@@ -117,14 +86,9 @@ module _ {K X : Type 0} {R : K → K → Ordering} (w : K → X → ℕ) (m : ma
   pub adds_all : (sum : ℕ) (left : List (K × X)) → Adding w m es before sum left → left ≡ [] → sum ≡ clamp (before + total w (new_entries m es))
   adds_all sum left a e = clamp_all sum _ a.small (sym a.all ∙ ap (λ (fs : List (K × X)). clamp (sum + total w (new_entries m fs))) e)
 
-module _ (x y : State) where
-  -- states that agree in tables agree
-  pub to_agree : StatesAgree x y → Agree x y
-  to_agree h = grind (cases, same_meaning-true)
-
-  -- states that agree do so in tables
-  pub from_agree : Agree x y → StatesAgree x y
-  from_agree h = grind (cases, same_meaning-self)
+-- states that agree in tables agree
+pub to_agree : (x y : State) → StatesAgree x y → Agree x y
+to_agree x y h = grind (cases, same_meaning-true)
 
 -- entries with their numbers as keys of a table
 abbrev keyed : List (ℕ × List ℕ) → List (Meaning × Meaning)
@@ -189,7 +153,7 @@ codes_shown (Codes t) q = get-numbered t q
 module _ (s t : TableMeaning) (x y : ℕ → Option (List ℕ)) (shows : Shows s x) (also : Shows t y) where
   -- tables agree if what they show does
   pub shown_agree : ((n : ℕ) → Agree (x n) (y n)) → TablesAgree s t
-  shown_agree h q = grind (arith, shows q, also q, cases_key q, λ (n : ℕ). from_agree (x n) (y n) (h n))
+  shown_agree h q = grind (cases, shows q, also q, cases_key q, h, same_meaning-self)
 
   -- tables that agree show what agrees
   pub agree_shown : TablesAgree s t → (n : ℕ) → Agree (x n) (y n)
@@ -203,17 +167,13 @@ module _ (s t : TableMeaning) (x y : ℕ → Option (List ℕ)) (shows : Shows s
 abbrev marked : Option (List ℕ) → State
 marked x = option_map (λ c. name_meaning (Some c)) x
 
--- if something stands here, the name is sought
-abbrev IsSought : State → Type 0
-IsSought y = (v : Meaning) → y ≡ Some v → v ≡ []
-
 -- ---- what stands at a name
 
 -- at a name stands its glyph, or else that it is sought
 pub get-name : (g : Named) (s : TableMeaning) (n : Meaning) → maps.get (names_table g s) n ≡ joined_state (marked (maps.get g n)) (maps.get s n)
 get-name g s n = get_joined (glyph_table g) s n ∙ ap (λ x. joined_state x (maps.get s n)) (get-map_values nat_list_cmp_total name_same (λ n c. name_meaning (Some c)) g n)
 
-state_of : (x : Option (List ℕ)) (y : State) → IsSought y → (z : Option (Option (List ℕ))) × (joined_state (marked x) y ≡ option_map name_meaning z)
+state_of : (x : Option (List ℕ)) (y : State) → ((v : Meaning) → y ≡ Some v → v ≡ []) → (z : Option (Option (List ℕ))) × (joined_state (marked x) y ≡ option_map name_meaning z)
 state_of (Some c) y h = (Some (Some c), refl)
 state_of None None h = (None, refl)
 state_of None (Some v) h = (Some None, ap Some (h v refl))
@@ -298,23 +258,18 @@ pub total_mapped : {K X : Type 0} (k : K → Meaning) (v : X → Meaning) (w : M
 total_mapped k v w [] = refl
 total_mapped k v w (e ∷ es) = ap (λ n. w (k e.0) (v e.1) + n) (total_mapped k v w es)
 
--- entries that weigh nothing sum to nothing
-total_none : (w : Meaning → Meaning → ℕ) (p : Meaning × Meaning → Bool) (es : List (Meaning × Meaning)) → AllByRecursion (λ e. w e.0 e.1 ≡ 0) es → total w (filter p es) ≡ 0
-total_none w p [] h = refl
-total_none w p (e ∷ es) h = grind (cases, h.0, total_none w p es h.1)
-
 -- new entries sum to what all entries do, if those that are no new ones count nothing
 total_masked : (w : Meaning → Meaning → ℕ) (m : TableMeaning) (es : List (Meaning × Meaning)) → total w (new_entries m es) ≡ total (λ n v. cond (maps.contains_key m n) 0 (w n v)) es
 total_masked w m [] = refl
-total_masked w m (e ∷ es) = total-new w m e es ∙ ap (λ n. cond (maps.contains_key m e.0) 0 (w e.0 e.1) + n) (total_masked w m es)
+total_masked w m (e ∷ es) = grind (cases, total_masked w m es)
 
 module _ (g : Named) (s : TableMeaning) (are : AreSought s) where
   -- sought names add nothing to a sum over names
   pub names_total : (w : Meaning → Meaning → ℕ) → ((n : Meaning) → w n [] ≡ 0) → total w (maps.entries (names_table g s)) ≡ total (λ n c. w n (name_meaning (Some c))) (maps.entries g)
   names_total w none =
-      let new : total w (new_entries (glyph_table g) (maps.entries s)) ≡ 0 = total_none w (λ e. not (maps.contains_key (glyph_table g) e.0)) (maps.entries s) (entries_all nat_list_cmp_total name_same (λ n v. w n v ≡ 0) s (λ n v is. ap (w n) (are n v is) ∙ none n)) in
+      let new : total w (new_entries (glyph_table g) (maps.entries s)) ≡ 0 = total_none w (λ e. not (maps.contains_key (glyph_table g) e.0)) (maps.entries s) (entries_all nat_list_cmp_total name_same (λ n v. not (maps.contains_key (glyph_table g) n) ≡ true → w n v ≡ 0) s (λ n v is new. ap (w n) (are n v is) ∙ none n)) in
       let own : total w (maps.entries (glyph_table g)) ≡ total (λ n c. w n (name_meaning (Some c))) (maps.entries g) = ap (total w) (entries-map_values nat_list_cmp_total name_same (λ n c. name_meaning (Some c)) g) ∙ total_mapped (λ n. n) (λ c. name_meaning (Some c)) w (maps.entries g) in
-      let all = total-merged nat_list_cmp_total w name_same (glyph_table g) s in
+      let all = total-merged w nat_list_cmp_total name_same (glyph_table g) s in
       omega (arith, all, new, own)
 
   -- nor to a sum over new names

@@ -1,9 +1,6 @@
 -- Fonts that are made even have all the Subrs that they had, so their glyphs stay drawn; fonts without tags that merge are even.
 use Rattle.std.proofs.Common.{◌≡◌, ◌<◌, ℕ, List, [], ◌∷◌, map, refl, ◌∙◌, ap, Option, option_map}
 use Rattle.std.proofs.lemmas.Bool.{ltb-true, lt-ltb}
-use Rattle.std.specs.Cmp.{nat_cmp_total}
-use Rattle.std.specs.FinSet.{nat_cmp-IsAntisymmetric}
-use Rattle.std.specs.List.{AllByRecursion}
 use Rattle.std.specs.FinMap as maps
 use Rattle.t1_run.specs.Run.{Subrs}
 use Rattle.t1_run.specs.Growth.{Extends}
@@ -19,6 +16,7 @@ use Rattle.t1_algebra.specs.Evened.{StaysDrawn, subrs_of, AllStayDrawn, EachBesi
 use Rattle.t1_algebra.specs.States.{joined}
 use Rattle.t1_algebra.specs.Profile.{profile}
 use Rattle.t1_algebra.specs.Rejoins.{IsUntagged, MergingFontsAreEven}
+use Rattle.t1_algebra.proofs.Words.{AllByRecursion, nat_cmp_total, nat_cmp-IsAntisymmetric}
 use Rattle.t1_algebra.proofs.Maps.{get-merged}
 use Rattle.t1_algebra.proofs.Orders.{Below, above}
 use Rattle.t1_algebra.proofs.Shares.{shared_to}
