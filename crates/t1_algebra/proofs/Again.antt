@@ -2,7 +2,7 @@
 use Rattle.std.proofs.Common.{◌≡◌, ℕ, Bool, true, cond, List, [], refl, sym, ◌∙◌, unwrap_or}
 use Rattle.std.specs.FinSet as sets
 use Rattle.std.specs.FinMap as maps
-use Rattle.t1_font.specs.FontValue.{FontValue, Encoding, notdef}
+use Rattle.t1_font.specs.FontValue.{FontValue, notdef}
 use Rattle.t1_font.specs.Cut.{restrict, restrict_encoding, stub}
 use Rattle.t1_font.proofs.MapLemmas.{get-map_values, get-retain}
 use Rattle.t1_algebra.specs.Keep.{has, charstring, components, components_here, keep, kept, subset}
@@ -15,16 +15,13 @@ use Rattle.t1_algebra.proofs.Subsets.{get-glyph, runs_alike, same_font, same_enc
 
 -- ---- a cut of a cut
 
-encoding_twice : (p q : List ℕ → Bool) → ((n : List ℕ) → p n ≡ true → q n ≡ true) → (e : Encoding) → restrict_encoding p (restrict_encoding q e) ≡ restrict_encoding p e
-encoding_twice p q more e = same_encoding _ _ (grind cases) (λ c. grind (cases, get-code p (restrict_encoding q e) c, get-code q e c, get-code p e c, more (unwrap_or (code_state e c) [])))
-
 -- a font cut to q and then to p is the font cut to p, if p is narrower than q
 restrict_twice : (p q : List ℕ → Bool) (r s : ℕ → Bool) (f : FontValue) → ((n : List ℕ) → p n ≡ true → q n ≡ true) → ((i : ℕ) → r i ≡ true → s i ≡ true)
     → restrict p r (restrict q s f) ≡ restrict p r f
 restrict_twice p q r s f more most =
     let stubs = λ (t : ℕ → Bool) (g : FontValue) (i : ℕ). get-map_values nat_cmp_total nat_cmp-IsAntisymmetric (λ i c. cond (t i) c stub) g.subrs i in
     let glyphs = λ (t : List ℕ → Bool) (g : FontValue) (n : List ℕ). get-retain nat_list_cmp_total name_same g.glyphs t n in
-    same_font _ _ refl (encoding_twice p q more f.encoding)
+    same_font _ _ refl (same_encoding _ _ (grind cases) (λ c. grind (cases, get-code p (restrict_encoding q f.encoding) c, get-code q f.encoding c, get-code p f.encoding c, more (unwrap_or (code_state f.encoding c) []))))
     (λ i. grind (cases, stubs r (restrict q s f) i, stubs s f i, stubs r f i, most i))
     (λ n. grind (cases, glyphs p (restrict q s f) n, glyphs q f n, glyphs p f n, more n))
 

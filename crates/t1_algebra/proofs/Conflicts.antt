@@ -30,10 +30,6 @@ module _ (x y : Option (List ℕ)) where
   pub agrees_swap : agrees x y ≡ agrees y x
   agrees_swap = grind (cases, swaps same_bytes bytes_decide)
 
--- the codes of two tables are the same in both orders
-codes_swap : (d e : Encoding) → codes_of_both d e ≡ codes_of_both e d
-codes_swap d e = grind (cases, both_back nat_cmp_total nat_cmp-IsAntisymmetric {X = List ℕ})
-
 -- if no key of two maps has states that clash, and keys that the second lacks have no state, all states agree
 all_agree : {K : Type 0} {R : K → K → Ordering} (o : IsTotalOrder R) (same : IsAntisymmetric R) (a b : maps.FinMap R (List ℕ)) (x y : K → Option (List ℕ)) → smallest (λ k. not (agrees (x k) (y k))) (keys_of_both a b) ≡ None
     → (k : K) → (maps.contains_key b k ≡ false → y k ≡ None) → Agree (x k) (y k)
@@ -115,21 +111,18 @@ no_conflict m f g = (
 -- ---- both orders
 
 module _ {O : Type 0} (m : Interpreter O) (f g : FontValue) where
-  -- the names of both are the same in either order
-  names_back : glyph_names f g ≡ glyph_names g f
-  names_back = both_back nat_list_cmp_total name_same f.glyphs g.glyphs
-
-  wanted_back : (p : List ℕ) → wanted_by m f g p ≡ wanted_by m g f p
-  wanted_back p = λ i n. or_comm (wants m f n p) (wants m g n p) i
-
   -- the lowest conflict of states is the same in both orders
   states_conflict_back : states_conflict m f g ≡ states_conflict m g f
-  states_conflict_back = λ i.
+  states_conflict_back =
+      let codes : codes_of_both f.encoding g.encoding ≡ codes_of_both g.encoding f.encoding = grind (cases, both_back nat_cmp_total nat_cmp-IsAntisymmetric {X = List ℕ}) in
+      let names = both_back nat_list_cmp_total name_same f.glyphs g.glyphs in
+      let wanted = λ (p n : List ℕ). or_comm (wants m f n p) (wants m g n p) in
+      λ i.
       found ShellDiffers (differing_back (shared_of f) (shared_of g) i)
-      (found CodeDiffers (smallest (λ c. not (agrees_swap (code_state f.encoding c) (code_state g.encoding c) i)) (codes_swap f.encoding g.encoding i))
-      (found GlyphDiffers (smallest (λ n. not (agrees_swap (maps.get f.glyphs n) (maps.get g.glyphs n) i)) (names_back i))
-      (found (λ p. LacksComponent (unwrap_or (smallest (wanted_back p i) (names_back i)) []) p) (smallest (λ p. or_comm (has f p) (has g p) i && list_any (wanted_back p i) (members (names_back i))) (names_back i))
-      (found (λ k. SubrDiffers k (smallest (λ n. or_comm (executes m f n k) (executes m g n k) i) (names_back i)))
+      (found CodeDiffers (smallest (λ c. not (agrees_swap (code_state f.encoding c) (code_state g.encoding c) i)) (codes i))
+      (found GlyphDiffers (smallest (λ n. not (agrees_swap (maps.get f.glyphs n) (maps.get g.glyphs n) i)) (names i))
+      (found (λ p. LacksComponent (unwrap_or (smallest (λ n. wanted p n i) (names i)) []) p) (smallest (λ p. or_comm (has f p) (has g p) i && list_any (λ n. wanted p n i) (members (names i))) (names i))
+      (found (λ k. SubrDiffers k (smallest (λ n. or_comm (executes m f n k) (executes m g n k) i) (names i)))
       (smallest (λ k. not (agrees_swap (subr_state m f k) (subr_state m g k) i)) (both_back nat_cmp_total nat_cmp-IsAntisymmetric f.subrs g.subrs i)) None))))
 
   limit_back : (x : Option Conflict) → states_conflict m f g ≡ x → found (λ c. c) x (cond (is_within m f g) None (Some OverLimit)) ≡ found (λ c. c) x (cond (is_within m g f) None (Some OverLimit))

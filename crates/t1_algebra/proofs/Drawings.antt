@@ -45,17 +45,13 @@ module _ (f j : FontValue) (n : List ℕ) (same : maps.get j.glyphs n ≡ maps.g
   -- `by` gives what a charstring comes to by one answer to hint replacement
   module _ (hints : _) (by : Endings → Ending) (is_by : (s : Numbered) (c : List ℕ) → by (profile.direct s c) ≡ direct_by hints (maps.get s) c)
       (named : (s : Numbered) (c p : List ℕ) → list_any (same_bytes p) (parts_by hints (maps.get s) c) ≡ true → list_any (same_bytes p) (components profile s c) ≡ true) where
-    -- a component's own outcome is alike
-    part_alike : (p : List ℕ) → component_outcome profile j p ≡ component_outcome profile f p → outcome_at hints (maps.get j.subrs) (maps.get j.glyphs) p ≡ outcome_at hints (maps.get f.subrs) (maps.get f.glyphs) p
-    part_alike p e = grind (cases, e, is_by f.subrs, is_by j.subrs)
-
-    -- so is the picture of what the glyph's charstring comes to
+    -- the picture of what the glyph's charstring comes to is alike
     picture_alike : (x : Option (List ℕ)) → maps.get f.glyphs n ≡ x
         → picture_at hints (maps.get j.subrs) (maps.get j.glyphs) (option_map (direct_by hints (maps.get j.subrs)) x) ≡ picture_at hints (maps.get f.subrs) (maps.get f.glyphs) (option_map (direct_by hints (maps.get f.subrs)) x)
     picture_alike None is = refl
     picture_alike (Some c) is =
         ap (λ own. picture own (map (outcome_at hints (maps.get j.subrs) (maps.get j.glyphs)) (parts_of own))) (sym (is_by j.subrs c) ∙ ap by (profile.local f.subrs j.subrs c (runs c is)).0 ∙ is_by f.subrs c)
-        ∙ ap (picture (direct_by hints (maps.get f.subrs) c)) (map_alike _ _ (parts_by hints (maps.get f.subrs) c) (λ p w. part_alike p (same_parts c p is (named f.subrs c p w))))
+        ∙ ap (picture (direct_by hints (maps.get f.subrs) c)) (map_alike _ _ (parts_by hints (maps.get f.subrs) c) (λ p w. grind (cases, same_parts c p is (named f.subrs c p w), is_by f.subrs, is_by j.subrs)))
 
     draws_alike : draw_by hints (maps.get j.subrs) (maps.get j.glyphs) n ≡ draw_by hints (maps.get f.subrs) (maps.get f.glyphs) n
     draws_alike = ap (λ x. picture_at hints (maps.get j.subrs) (maps.get j.glyphs) (option_map (direct_by hints (maps.get j.subrs)) x)) same ∙ picture_alike (maps.get f.glyphs n) refl
@@ -73,25 +69,15 @@ module _ (f j : FontValue) (n : List ℕ) (same : maps.get j.glyphs n ≡ maps.g
 
 -- ---- subsets and joins
 
--- a component of a kept glyph comes to the same in the subset
-component_in_subset : {O : Type 0} (m : Interpreter O) (f : FontValue) (base : has f notdef ≡ true) (a : Names) (inside : IsOf f a) (n c p : List ℕ) → sets.contains (keep m f a) n ≡ true
-    → maps.get f.glyphs n ≡ Some c → list_any (same_bytes p) (components m f.subrs c) ≡ true → component_outcome m (subset m f a) p ≡ component_outcome m f p
-component_in_subset m f base a inside n c p k is w =
-    grind (cases, get-glyph m f a p, keep_part m f a base inside n c p k is w, runs_alike m f a p)
-
 -- a kept glyph draws in a subset as in the font
 pub subset_alike : (f : FontValue) → IsFont f → (a : Names) → IsOf f a → (n : List ℕ) → sets.contains (keep profile f a) n ≡ true → DrawsAlike f (subset profile f a) n
 subset_alike f h a inside n k = alike f (subset profile f a) n (get-glyph profile f a n ∙ ap (λ b. cond b (maps.get f.glyphs n) None) k)
-    (λ c is. subrs_alike profile f a n c k is) (λ c p is w. component_in_subset profile f h.glyphs.notdef a inside n c p k is w)
-
--- a component of a glyph of the first font comes to the same in the join
-component_in_join : {O : Type 0} (m : Interpreter O) (f g : FontValue) → Compatible m f g → (n c p : List ℕ) → maps.get f.glyphs n ≡ Some c → list_any (same_bytes p) (components m f.subrs c) ≡ true
-    → component_outcome m (joined_font m f g) p ≡ component_outcome m f p
-component_in_join m f g c n v p is w = grind (cases, glyph_in_join m f g p, c.names p, sought m f p n, is, w, left_runs m f g p)
+    (λ c is. subrs_alike profile f a n c k is) (λ c p is w. grind (cases, get-glyph profile f a p, keep_part profile f a h.glyphs.notdef inside n c p k is w, runs_alike profile f a p))
 
 -- a glyph of the first font draws in the join as it did
 pub left_alike : (f g : FontValue) → Compatible profile f g → (n : List ℕ) → has f n ≡ true → DrawsAlike f (joined_font profile f g) n
-left_alike f g c n h = alike f (joined_font profile f g) n (grind (cases, glyph_in_join profile f g n, h)) (left_subrs profile f g n) (component_in_join profile f g c n)
+left_alike f g c n h = alike f (joined_font profile f g) n (grind (cases, glyph_in_join profile f g n, h)) (left_subrs profile f g n)
+    (λ v p is w. grind (cases, glyph_in_join profile f g p, c.names p, sought profile f p n, is, w, left_runs profile f g p))
 
 -- so does a glyph of the second font
 pub right_alike : (f g : FontValue) → Compatible profile f g → (n : List ℕ) → has g n ≡ true → DrawsAlike g (joined_font profile f g) n

@@ -13,7 +13,7 @@ use Rattle.t1_font.specs.FontValue.{FontValue, total, subr_weight, weight, weigh
 use Rattle.t1_font.proofs.CutEntries.{entries-retain}
 use Rattle.t1_font.proofs.MapLemmas.{entries_all, get-retain, length_total}
 use Rattle.t1_algebra.specs.States.{named_at, Agree, IsWithin, is_sought, subr_state, name_state, Compatible, Join, joined_font}
-use Rattle.t1_algebra.specs.StateTables.{StatesValue, numbered, name_meaning, AreSought, used_subrs, all_components, name_states, states_of, new_entries, subr_adds, name_adds, name_counts, states_weight, states_glyphs, StatesFit, IsSized, name_part, subr_part, joint_weight, joint_glyphs, PartsJoin, StatesAgree, StatesJoin, code_part}
+use Rattle.t1_algebra.specs.StateTables.{StatesValue, numbered, name_meaning, used_subrs, all_components, name_states, states_of, new_entries, subr_adds, name_adds, name_counts, states_weight, states_glyphs, StatesFit, IsSized, name_part, subr_part, joint_weight, joint_glyphs, PartsJoin, StatesAgree, StatesJoin, code_part}
 use Rattle.t1_algebra.specs.StateLaws.{PartsAgree, parts_laws}
 use Rattle.t1_algebra.proofs.Words.{AllByRecursion, nat_cmp_total, nat_list_cmp_total, nat_cmp-IsAntisymmetric, Interpreter, same_bytes}
 use Rattle.t1_algebra.proofs.Shares.{same_indices, shared_from, shared_to}
@@ -46,9 +46,6 @@ module _ {O : Type 0} (m : Interpreter O) (f : FontValue) where
 
   get-sought : (n : List ℕ) → maps.get sought n ≡ cond (is_sought m f n) (Some []) None
   get-sought n = get-valued nat_list_cmp_total [] (all_components m f) n ∙ ap (λ b. cond b (Some []) None) (any_flat_map (same_bytes n) (λ n. named_at m f (maps.get f.glyphs n)) (names_in f.glyphs))
-
-  are_sought : AreSought sought
-  are_sought n v is = grind (cases, get-sought n)
 
   -- the table of names has the state of each name
   pub get-names : (n : List ℕ) → maps.get (name_states m f) n ≡ meant (name_state m f n)
@@ -108,7 +105,7 @@ module _ {O : Type 0} (m : Interpreter O) (f : FontValue) where
 
   -- sought names add nothing to a sum over names
   in_all : (w : Meaning → Meaning → ℕ) → ((n : Meaning) → w n [] ≡ 0) → total w (maps.entries (name_states m f)) ≡ total (λ n c. w n (name_meaning (Some c))) (maps.entries f.glyphs)
-  in_all w h = names_total f.glyphs (sought m f) (are_sought m f) w h
+  in_all w h = names_total f.glyphs (sought m f) (λ n v is. grind (cases, is, get-sought m f n)) w h
 
   -- the weight of a font's states is the weight of the font
   pub weight_is : states_weight (states_of m f) ≡ weight f

@@ -92,10 +92,6 @@ module _ {O : Type 0} (m : Interpreter O) where
         each_weaker (Below h.1) (Below j) (λ f b. below_trans states_laws _ _ _ b (below_right states_laws _ _ _ k)) t (above t h.1 h.3),
       )
 
-  -- fonts whose states are among those of one font are compatible
-  bounded : (j f g : FontValue) → Below j f → Below j g → Compatible m f g
-  bounded j f g a b = let r = below_both states_laws _ _ _ a b in agree_compatible m f g (parts_laws.only_where _ _ _ r.1.0)
-
   -- ---- each pair
 
   -- what is compatible with two fonts is compatible with their join
@@ -128,7 +124,10 @@ module _ {O : Type 0} (m : Interpreter O) where
   -- each two fonts below j are compatible
   pairs_below : (j : FontValue) (fs : List FontValue) → AllByRecursion (Below j) fs → EachPair m fs
   pairs_below j [] a = tt
-  pairs_below j (f ∷ fs) a = (all_weaker (Below j) (Compatible m f) (λ g b. bounded j f g a.0 b) fs a.1, pairs_below j fs a.1)
+  pairs_below j (f ∷ fs) a = (
+    all_weaker (Below j) (Compatible m f) (λ g b. let r = below_both states_laws _ _ _ a.0 b in agree_compatible m f g (parts_laws.only_where _ _ _ r.1.0)) fs a.1,
+    pairs_below j fs a.1,
+  )
 
   -- each two fonts of a list that merges are compatible
   pub pairs_from_accepted : (f : FontValue) (fs : List FontValue) (j : FontValue) → Merges m (from_left (one f) fs) j → EachPair m (f ∷ fs)

@@ -54,10 +54,6 @@ module _ {K X : Type 0} (w : K → X → ℕ) where
       let seconds = sym (entries-retain o same all lacks) ∙ ap maps.entries second ∙ entries-retain o same n lacks in
       total_split (λ e. has e.0) (maps.entries all) ∙ (λ i. total w (firsts i) + total w (seconds i))
 
--- the first of the entries adds what it weighs, unless the table has its key
-pub total-new : {K X : Type 0} {R : K → K → Ordering} (w : K → X → ℕ) (m : maps.FinMap R X) (e : K × X) (es : List (K × X)) → total w (new_entries m (e ∷ es)) ≡ cond (maps.contains_key m e.0) 0 (w e.0 e.1) + total w (new_entries m es)
-total-new w m e es = grind cases
-
 -- a copy of what is borrowed is there if it is
 pub some_copied : {V : Type 0} {X : Type 0} (f : V → X) (r : Option (Bor V)) → is_some r ≡ is_some (option_map f (option_copied r))
 some_copied f r = grind cases
@@ -74,13 +70,11 @@ module _ {K X : Type 0} {R : K → K → Ordering} (w : K → X → ℕ) (m : ma
 
   -- adding what the next entry weighs keeps the whole as it was
   pub adds_next : (sum n new : ℕ) (e : K × X) (left rest : List (K × X)) → Adding w m es before sum left → left ≡ e ∷ rest → n ≡ cond (maps.contains_key m e.0) 0 (w e.0 e.1) → new ≡ min (sum + n) 18446744073709551615 → Adding w m es before new rest
-  adds_next sum n new e left rest a is en ew = record {
-    small = clamp_fits (sum + n) new ew;
-    all = ap (λ x. clamp (x + total w (new_entries m rest))) ew
-        ∙ clamp_more sum n (total w (new_entries m rest))
-        ∙ ap (λ x. clamp (sum + x)) (ap (λ x. x + total w (new_entries m rest)) en ∙ sym (total-new w m e rest) ∙ ap (λ (fs : List (K × X)). total w (new_entries m fs)) (sym is))
-        ∙ a.all;
-  }
+  adds_next sum n new e left rest a is en ew =
+      let step : n + total w (new_entries m rest) ≡ total w (new_entries m left) = grind (cases, en, is) in record {
+        small = clamp_fits (sum + n) new ew;
+        all = ap (λ x. clamp (x + total w (new_entries m rest))) ew ∙ clamp_more sum n (total w (new_entries m rest)) ∙ ap (λ x. clamp (sum + x)) step ∙ a.all;
+      }
 
   -- when nothing is left, the sum is the whole
   pub adds_all : (sum : ℕ) (left : List (K × X)) → Adding w m es before sum left → left ≡ [] → sum ≡ clamp (before + total w (new_entries m es))
