@@ -40,7 +40,7 @@ all_alike all t p = sets.same_set nat_list_cmp_total name_same _ _ (λ n. in_all
 -- the union of sets of the font's names is a set of its names
 pub all_is_of : (f : FontValue) (t : Grouping Names) → EachLeaf (IsOf f) t → IsOf f (all_of t)
 all_is_of f (one a) i n w = i n w
-all_is_of f (two s t) i n w = elim (in_union nat_list_cmp_total name_same (all_of s) (all_of t) n w) [ inl x ↦ all_is_of f s i.0 n x | inr y ↦ all_is_of f t i.1 n y ]
+all_is_of f (two s t) i n w = grind (cases, w, sets.contains-union nat_list_cmp_total (all_of s) (all_of t) n, all_is_of f s i.0 n, all_is_of f t i.1 n)
 
 -- a font is within the limits
 pub font_within : (f : FontValue) → IsFont f → IsWithin f

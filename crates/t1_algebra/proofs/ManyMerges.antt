@@ -15,7 +15,7 @@ use Rattle.t1_algebra.specs.Merges.{DrawsAll}
 use Rattle.t1_algebra.proofs.Words.{AllByRecursion, nat_list_cmp_total, Names}
 use Rattle.t1_algebra.proofs.Fonts.{many_subsets}
 use Rattle.t1_algebra.proofs.Orders.{one_result, all_weaker}
-use Rattle.t1_algebra.proofs.Sets.{in_union, clash, name_same}
+use Rattle.t1_algebra.proofs.Sets.{cases}
 use Rattle.t1_algebra.proofs.Drawings.{left_alike, right_alike}
 
 -- ---- from left to right
@@ -85,8 +85,8 @@ all_before P (w ∷ xs) x ys h = let r = all_before P xs x ys h.1 in ((h.0, r.0)
 module _ (f : FontValue) (w : IsFont f) where
   -- names of sets of the font's names are names of the font
   pub all_of_font : (a : Names) (more : List Names) → AllByRecursion (IsOf f) (a ∷ more) → IsOf f (union_all (a ∷ more))
-  all_of_font a [] h n k = elim (in_union nat_list_cmp_total name_same a sets.empty n k) [ inl x ↦ h.0 n x | inr x ↦ clash (sets.contains {R = name_cmp} sets.empty n) x (sets.contains-empty name_cmp n) ]
-  all_of_font a (b ∷ more) h n k = elim (in_union nat_list_cmp_total name_same a (union_all (b ∷ more)) n k) [ inl x ↦ h.0 n x | inr x ↦ all_of_font b more h.1 n x ]
+  all_of_font a [] h n k = grind (cases, k, sets.contains-union nat_list_cmp_total a sets.empty n, sets.contains-empty name_cmp n, h.0 n)
+  all_of_font a (b ∷ more) h n k = grind (cases, k, sets.contains-union nat_list_cmp_total a (union_all (b ∷ more)) n, h.0 n, all_of_font b more h.1 n)
 
   -- subsets of a font merge from left to right to the subset over all the sets
   pub all_merge : (a : Names) (more : List Names) → AllByRecursion (IsOf f) (a ∷ more) → Merges profile (from_left (one (subset profile f a)) (map (subset profile f) more)) (subset profile f (union_all (a ∷ more)))

@@ -42,10 +42,7 @@ module _ {K : Type 0} {R : K → K → Ordering} (o : IsTotalOrder R) (same : Is
   -- a key is below the keys that come later
   pub below_later : {X : Type 0} (k q : K) (es : List (K × X)) → below_all R k es ≡ true → list_any (eq_by_cmp R q) (map (λ e. e.0) es) ≡ true → R k q ≡ Less
   below_later k q [] b h = absurd (true≢false (sym h))
-  below_later k q (e ∷ es) b h = elim (or_cases (eq_by_cmp R q e.0) _ h) [
-    | inl a ↦ ap (R k) (tied o same q e.0 a) ∙ lt_is (R k e.0) (subst T (sym (first_so _ _ b)) tt)
-    | inr c ↦ below_later k q es (second_so (is_lt (R k e.0)) _ b) c
-  ]
+  below_later k q (e ∷ es) b h = grind (cases, b, h, tied o same q e.0, lt_is (R k e.0), below_later k q es)
 
   -- the first key that passes is one that passes, below which none does
   first_is : {X : Type 0} (k : K) (es : List (K × X)) → is_sorted R es ≡ true → list_any (eq_by_cmp R k) (map (λ e. e.0) es) ≡ true → p k ≡ true

@@ -111,17 +111,10 @@ module _ (f : FontValue) (h : IsFont f) (most : ℕ) where
 
   -- a kept glyph draws in the cut font as it does in the font
   module _ (a : Names) (inside : IsOf f a) (low : KeepsBelow profile f most a) where
-    same_there : (n c : List ℕ) → sets.contains (keep profile f a) n ≡ true → maps.get f.glyphs n ≡ Some c → (i : ℕ) → sets.contains (profile.exec f.subrs c) i ≡ true → maps.get (first_of most f).subrs i ≡ maps.get f.subrs i
-    same_there n c k is i e = subrs_below profile f h.glyphs.notdef most a inside low n k i (ap (λ x. sets.contains (profile.exec f.subrs (unwrap_or x [])) i) is ∙ e)
-
-    -- a component of a kept glyph comes to the same in the cut font
-    component_there : (n c p : List ℕ) → sets.contains (keep profile f a) n ≡ true → maps.get f.glyphs n ≡ Some c → list_any (same_bytes p) (components profile f.subrs c) ≡ true → component_outcome profile (first_of most f) p ≡ component_outcome profile f p
-    component_there n c p k is e =
-        grind (cases, keep_part profile f a h.glyphs.notdef inside n c p k is e, runs_below profile f h.glyphs.notdef most a inside low p)
-
-    -- a kept glyph draws alike in the cut font
     pub start_alike : (n : List ℕ) → sets.contains (keep profile f a) n ≡ true → DrawsAlike f (first_of most f) n
-    start_alike n k = alike f (first_of most f) n refl (λ c is. same_there n c k is) (λ c p is w. component_there n c p k is w)
+    start_alike n k = alike f (first_of most f) n refl
+        (λ c is i e. subrs_below profile f h.glyphs.notdef most a inside low n k i (ap (λ x. sets.contains (profile.exec f.subrs (unwrap_or x [])) i) is ∙ e))
+        (λ c p is e. grind (cases, keep_part profile f a h.glyphs.notdef inside n c p k is e, runs_below profile f h.glyphs.notdef most a inside low p))
 
 -- ---- merges
 
