@@ -1,7 +1,6 @@
 -- A subset of a subset is the font's own subset.
 use Rattle.std.proofs.Common.{◌≡◌, ℕ, Bool, true, cond, List, [], refl, sym, ◌∙◌, unwrap_or}
 use Rattle.std.specs.FinSet as sets
-use Rattle.std.specs.FinMap as maps
 use Rattle.t1_font.specs.FontValue.{FontValue, notdef}
 use Rattle.t1_font.specs.Cut.{restrict, restrict_encoding, stub}
 use Rattle.t1_font.proofs.MapLemmas.{get-map_values, get-retain}

@@ -14,7 +14,7 @@ use Rattle.t1_algebra.specs.States.{IsWithin, Agree, calls_for, code_state, subr
 use Rattle.t1_algebra.proofs.Words.{list_any, IsTotalOrder, nat_cmp_total, first_so, second_so, nat_list_cmp_total, IsAntisymmetric, nat_cmp-IsAntisymmetric, Interpreter, same_bytes}
 use Rattle.t1_algebra.proofs.Uses.{sought}
 use Rattle.t1_algebra.proofs.Sets.{name_same, any_at, cases}
-use Rattle.t1_algebra.proofs.JoinedStates.{font_back, compatible_back, glyph_agree}
+use Rattle.t1_algebra.proofs.JoinedStates.{font_back, glyph_agree}
 use Rattle.t1_algebra.proofs.Searching.{passes_none, found_none, smallest_none}
 use Rattle.t1_algebra.proofs.Shares.{swaps, bytes_decide, shared_so, no_part_differs, differing_back, shared_from, shared_to}
 use Rattle.t1_algebra.proofs.Maps.{in_both, both_back}

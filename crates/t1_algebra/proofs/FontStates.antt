@@ -1,10 +1,10 @@
 -- The states of a font as tables: what stands at each key, what they weigh, that they join as the fonts do, and that they determine the font.
-use Rattle.std.proofs.Common.{◌≡◌, ◌↔◌, not, ◌≤◌, ℕ, ◌+◌, ◌*◌, ◌-◌, Bool, true, false, cond, List, [], ◌∷◌, map, filter, length, refl, sym, ◌∙◌, ap, subst, true≢false, Option, Some, None, option_map, is_some, arith, inl, ⊎_elim}
+use Rattle.std.proofs.Common.{◌≡◌, ◌↔◌, not, ◌≤◌, ℕ, ◌+◌, ◌*◌, ◌-◌, Bool, true, false, cond, List, [], ◌∷◌, map, length, refl, sym, ◌∙◌, ap, subst, true≢false, Option, Some, None, option_map, is_some, arith, inl, ⊎_elim}
 use Rattle.std.proofs.lemmas.List.{length-map}
 use Rattle.std.specs.FinMap as maps
 use Rattle.t1_join.specs.Meaning.{Meaning, of_number}
 use Rattle.t1_join.specs.Join.{State}
-use Rattle.t1_join.specs.StateLaws.{same_meaning-self, same_meaning-true}
+use Rattle.t1_join.specs.StateLaws.{same_meaning-self}
 use Rattle.t1_join.specs.TableMeaning.{TableMeaning, TablesAgree, TablesJoin, joined_table}
 use Rattle.t1_join.specs.TableLaws.{get_joined, same_table}
 use Rattle.t1_join.specs.Products.{BothJoin}
@@ -12,13 +12,13 @@ use Rattle.t1_font.specs.FontModel.{names_in, word_of, clamp}
 use Rattle.t1_font.specs.FontValue.{FontValue, total, subr_weight, weight, weight_limit, count_limit}
 use Rattle.t1_font.proofs.CutEntries.{entries-retain}
 use Rattle.t1_font.proofs.MapLemmas.{entries_all, get-retain, length_total}
-use Rattle.t1_algebra.specs.States.{named_at, Agree, IsWithin, is_sought, subr_state, name_state, Compatible, Join, joined_font}
+use Rattle.t1_algebra.specs.States.{named_at, IsWithin, is_sought, subr_state, name_state, Compatible, Join, joined_font}
 use Rattle.t1_algebra.specs.StateTables.{StatesValue, numbered, name_meaning, used_subrs, all_components, name_states, states_of, new_entries, subr_adds, name_adds, name_counts, states_weight, states_glyphs, StatesFit, IsSized, name_part, subr_part, joint_weight, joint_glyphs, PartsJoin, StatesAgree, StatesJoin, code_part}
 use Rattle.t1_algebra.specs.StateLaws.{PartsAgree, parts_laws}
-use Rattle.t1_algebra.proofs.Words.{AllByRecursion, nat_cmp_total, nat_list_cmp_total, nat_cmp-IsAntisymmetric, Interpreter, same_bytes}
+use Rattle.t1_algebra.proofs.Words.{nat_cmp_total, nat_list_cmp_total, nat_cmp-IsAntisymmetric, Interpreter, same_bytes}
 use Rattle.t1_algebra.proofs.Shares.{same_indices, shared_from, shared_to}
 use Rattle.t1_algebra.proofs.Maps.{get-valued}
-use Rattle.t1_algebra.proofs.Sets.{name_same, cases_Option, any_flat_map, cases}
+use Rattle.t1_algebra.proofs.Sets.{name_same, any_flat_map, cases}
 use Rattle.t1_algebra.proofs.JoinedStates.{subr_joined, name_joined, present_joined}
 use Rattle.t1_algebra.proofs.Subsets.{stub_is, same_font, same_encoding, code_joined}
 use Rattle.t1_algebra.proofs.Tables.{total_kept, total-merged, get-numbered, entries-numbered, get-name, names_total, Shows, cases_key, codes_shown, shown_agree, agree_shown, shown_joined, to_agree, total_mapped}

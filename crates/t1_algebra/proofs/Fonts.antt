@@ -1,5 +1,5 @@
 -- Subsets and joins of fonts are fonts, and subsets of one font join in any order and grouping.
-use Rattle.std.proofs.Common.{◌≡◌, ℕ, ◌||◌, List, [], ◌∷◌, refl, sym, ◌∙◌, ap, inl, inr, IsPermutation, ◌≤◌, subst}
+use Rattle.std.proofs.Common.{◌≡◌, ℕ, ◌||◌, List, [], ◌∷◌, refl, sym, ◌∙◌, ap, IsPermutation, ◌≤◌, subst}
 use Rattle.std.proofs.lemmas.List.Folds.{list_any-append}
 use Rattle.std.proofs.lemmas.List.Sorted.{list_any-IsPermutation}
 use Rattle.std.specs.FinSet as sets
@@ -12,7 +12,7 @@ use Rattle.t1_algebra.specs.Laws.{IsOf}
 use Rattle.t1_algebra.specs.Groupings.{union_all, Merges}
 use Rattle.t1_algebra.specs.States.{IsWithin, Join, joined_font}
 use Rattle.t1_algebra.proofs.Words.{list_any, nat_list_cmp_total, Interpreter, Names}
-use Rattle.t1_algebra.proofs.Sets.{name_same, in_union, cases}
+use Rattle.t1_algebra.proofs.Sets.{name_same, cases}
 use Rattle.t1_algebra.proofs.Subsets.{join_is_subset, subsets_join}
 use Rattle.t1_algebra.proofs.Kept.{keep_closed}
 use Rattle.t1_algebra.proofs.Orders.{any_order, one_result, join_back, each_weaker}

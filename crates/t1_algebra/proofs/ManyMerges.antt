@@ -1,5 +1,5 @@
 -- Merges from left to right, merges of subsets of one font, and how the glyphs of many fonts draw.
-use Rattle.std.proofs.Common.{◌≡◌, inl, inr, List, [], ◌∷◌, ◌++◌, map, refl, sym, ◌∙◌, ap, subst, IsPermutation, ◌<◌, ℕ, true, length, arith, is_some}
+use Rattle.std.proofs.Common.{◌≡◌, List, [], ◌∷◌, ◌++◌, map, refl, sym, ◌∙◌, ap, subst, IsPermutation, ◌<◌, ℕ, true, length, arith, is_some}
 use Rattle.std.proofs.lemmas.List.Sorted.{IsPermutation-refl, length_permutation}
 use Rattle.std.proofs.lemmas.List.{length-append}
 use Rattle.std.specs.FinSet as sets

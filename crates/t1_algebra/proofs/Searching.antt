@@ -1,6 +1,6 @@
 -- Searches: what they find, and when they find nothing.
-use Rattle.std.proofs.Common.{subst, ◌≡◌, ℕ, Bool, true, false, cond, List, [], ◌∷◌, map, refl, sym, ◌∙◌, ap, true≢false, inl, inr, Ordering, Less, Option, Some, None, is_lt, T}
-use Rattle.std.proofs.lemmas.Bool.{or_right, or_cases}
+use Rattle.std.proofs.Common.{◌≡◌, ℕ, Bool, true, false, cond, List, [], ◌∷◌, map, refl, sym, ◌∙◌, ap, true≢false, Ordering, Less, Option, Some, None}
+use Rattle.std.proofs.lemmas.Bool.{or_right}
 use Rattle.std.specs.FinMap.Entries.{below_all, is_sorted}
 use Rattle.std.specs.FinMap as maps
 use Rattle.t1_join.proofs.Sorted.{lt_is}

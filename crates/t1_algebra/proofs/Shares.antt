@@ -1,5 +1,5 @@
 -- Fonts share what they have to exactly if no part differs, and the first part that differs is the same in both orders.
-use Rattle.std.proofs.Common.{◌≡◌, ◌↔◌, option_map, ℕ, Bool, true, not, List, map, sym, ◌∙◌, ap, true≢false, Option, Some, None, is_some, nat_cmp, arith}
+use Rattle.std.proofs.Common.{◌≡◌, ◌↔◌, option_map, ℕ, Bool, true, not, map, sym, ◌∙◌, ap, true≢false, Option, Some, None, is_some, nat_cmp, arith}
 use Rattle.std.proofs.lemmas.Bool.{not-false, and_parts}
 use Rattle.std.proofs.lemmas.Simd.{map-map}
 use Rattle.std.specs.FinMap as maps

@@ -1,5 +1,5 @@
 -- Tables of codes, of Subrs and of names: what stands at each key, what they weigh, and how they join.
-use Rattle.std.proofs.Common.{◌≡◌, ◌≤◌, ℕ, ◌+◌, min, Bor, option_map, Bool, true, false, not, cond, T, List, [], ◌∷◌, ◌++◌, filter, refl, sym, ◌∙◌, ap, arith, Option, Some, None, is_some, Ordering, Less, Equal, Greater, ◌&&◌, map, subst, nat_cmp, is_lt, ◌↔◌, inl, inr, ◌⊎◌}
+use Rattle.std.proofs.Common.{◌≡◌, ◌≤◌, ℕ, ◌+◌, min, Bor, option_map, Bool, true, false, not, cond, T, List, [], ◌∷◌, filter, refl, sym, ◌∙◌, ap, arith, Option, Some, None, is_some, Ordering, Less, Equal, Greater, ◌&&◌, map, subst, nat_cmp, is_lt, ◌↔◌, inl, inr, ◌⊎◌}
 use Rattle.std.specs.Ordering.{is_eq, ordering_then}
 use Rattle.std.specs.Cmp.{both_ways}
 use Rattle.std.specs.FinMap.{find, is_sorted}

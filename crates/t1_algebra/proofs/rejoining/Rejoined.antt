@@ -10,13 +10,12 @@ use Rattle.t1_font.specs.IsFont.{IsFont, IsWord, IsPhrase, SubrsFit, SubrWords}
 use Rattle.t1_font.specs.Evening.{evened}
 use Rattle.t1_font.proofs.even_fonts.Evened.{even_is_font}
 use Rattle.t1_font.proofs.MapLemmas.{get-retain, find_first, total-le, Some_None}
-use Rattle.t1_algebra.specs.Keep.{keep, kept, subset, components, has}
-use Rattle.t1_algebra.specs.Outcomes.{component_outcome}
+use Rattle.t1_algebra.specs.Keep.{keep, kept, subset}
 use Rattle.t1_algebra.specs.Profile.{profile}
 use Rattle.t1_algebra.specs.Laws.{IsOf, DrawsAlike}
 use Rattle.t1_algebra.specs.Merges.{MergesTo}
 use Rattle.t1_algebra.specs.Rejoins.{declares, Truncated, IsTruncated, fonts_of, sets_of, names_of_all, largest, shared_font, rejoined, Rejoins, TruncatedSubsetsRejoin}
-use Rattle.t1_algebra.proofs.Words.{list_any, AllByRecursion, nat_cmp_total, nat_list_cmp_total, nat_cmp-IsAntisymmetric, Names, same_bytes}
+use Rattle.t1_algebra.proofs.Words.{AllByRecursion, nat_cmp_total, nat_list_cmp_total, nat_cmp-IsAntisymmetric, Names}
 use Rattle.t1_algebra.proofs.Drawings.{subset_alike, alike}
 use Rattle.t1_algebra.proofs.Fonts.{subset_is_font, any_order_of_fonts}
 use Rattle.t1_algebra.proofs.Kept.{keep_part, keep_more, kept_more, kept_union}
