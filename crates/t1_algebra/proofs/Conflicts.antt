@@ -95,10 +95,7 @@ module _ {O : Type 0} (m : Interpreter O) (f g : FontValue) (c : Compatible m f 
 
 -- the test of the limits says that the joined font is within them
 pub within_so : {O : Type 0} (m : Interpreter O) (f g : FontValue) → is_within m f g ≡ true → IsWithin (joined_font m f g)
-within_so m f g h = record {
-  weight = leb-true (weight (joined_font m f g)) weight_limit (first_so (nat_le (weight (joined_font m f g)) weight_limit) _ h);
-  glyphs = leb-true (maps.len (joined_font m f g).glyphs) count_limit (second_so (nat_le (weight (joined_font m f g)) weight_limit) _ h);
-}
+within_so m f g h = record { weight = leb-true _ weight_limit (first_so _ _ h); glyphs = leb-true _ count_limit (second_so _ _ h) }
 
 -- two fonts have no conflict exactly if they join
 pub no_conflict : {O : Type 0} (m : Interpreter O) (f g : FontValue) → (conflict m f g ≡ None) ↔ Join m f g

@@ -205,9 +205,7 @@ differs_at g s are t u is = entries_all nat_list_cmp_total name_same (λ n c. di
 
 -- meanings are the same if their bytes are
 pub meanings_as_bytes : (v w : Meaning) → same_meaning v w ≡ same_bytes v w
-meanings_as_bytes v w = both_ways (same_meaning v w) (same_bytes v w)
-    (λ h. subst (λ (u : List ℕ). same_bytes v u ≡ true) (same_meaning-true v w h) (bytes_decide.self v))
-    (λ h. subst (λ (u : List ℕ). same_meaning v u ≡ true) (bytes_decide.so v w h) (same_meaning-self v))
+meanings_as_bytes v w = grind (cases, same_meaning-true v w, same_meaning-self v, bytes_decide.so v w, bytes_decide.self v)
 
 module _ (t u : TableMeaning) (a : AreNameStates t) (b : AreNameStates u) where
   -- the states of a name agree exactly if they are no two charstrings that differ, and none is sought that the other has
@@ -217,7 +215,7 @@ module _ (t u : TableMeaning) (a : AreNameStates t) (b : AreNameStates u) where
   -- tables of names agree exactly if no charstrings differ and no name is lacking
   pub names_agree : TablesAgree t u ↔ (((n : Meaning) → charstrings_differ (maps.get t n) (maps.get u n) ≡ false) × ((n : Meaning) → one_lacks (maps.get t n) (maps.get u n) ≡ false))
   names_agree = (
-    λ k. (λ n. not-true _ (first_so _ _ (sym (agree_at n) ∙ k n)), λ n. not-true _ (second_so _ _ (sym (agree_at n) ∙ k n))),
+    λ k. (λ n. grind (cases, agree_at n, k n), λ n. grind (cases, agree_at n, k n)),
     λ k n. agree_at n ∙ (λ i. not (k.0 n i) && not (k.1 n i)),
   )
 
