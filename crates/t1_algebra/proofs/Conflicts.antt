@@ -1,7 +1,7 @@
 -- Two fonts have no conflict exactly if they join, and they have the same conflict in both orders.
 use Rattle.std.proofs.Common.{◌≡◌, ◌↔◌, ℕ, true, false, cond, not, ◌&&◌, ◌||◌, List, [], get_or, refl, ◌∙◌, ap, Ordering, Option, Some, None, unwrap_or, nat_le}
 use Rattle.std.proofs.Math.Bool.{or_comm}
-use Rattle.std.proofs.lemmas.Bool.{leb-true, le-leb, and_from, not_from_true}
+use Rattle.std.proofs.lemmas.Bool.{leb-true, le-leb, and_from}
 use Rattle.std.proofs.lemmas.List.Folds.{list_any_none}
 use Rattle.std.specs.FinMap as maps
 use Rattle.t1_font.specs.FontModel.{names_in}
@@ -16,18 +16,18 @@ use Rattle.t1_algebra.proofs.Uses.{sought}
 use Rattle.t1_algebra.proofs.Sets.{name_same, any_at, cases}
 use Rattle.t1_algebra.proofs.JoinedStates.{font_back, glyph_agree}
 use Rattle.t1_algebra.proofs.Searching.{passes_none, found_none, smallest_none}
-use Rattle.t1_algebra.proofs.Shares.{swaps, bytes_decide, shared_so, no_part_differs, differing_back, shared_from, shared_to}
+use Rattle.t1_algebra.proofs.Shares.{swaps, bytes_decide, shared_so, no_part_differs, differing_back, sharing}
 use Rattle.t1_algebra.proofs.Maps.{in_both, both_back}
 
 -- ---- tests
 
 module _ (x y : Option (List ℕ)) where
-  -- states that join pass the test
-  pub so_agrees : Agree x y → agrees x y ≡ true
-  so_agrees h = grind (cases, bytes_decide.self)
+  -- states that join don't fail the test
+  no_clash : Agree x y → not (agrees x y) ≡ false
+  no_clash h = grind (cases, bytes_decide.self)
 
   -- the test is the same in both orders
-  pub agrees_swap : agrees x y ≡ agrees y x
+  agrees_swap : agrees x y ≡ agrees y x
   agrees_swap = grind (cases, swaps same_bytes bytes_decide)
 
 -- if no key of two maps has states that clash, and keys that the second lacks have no state, all states agree
@@ -62,7 +62,7 @@ module _ {O : Type 0} (m : Interpreter O) (f g : FontValue) where
       let none = none_wanted d.0 in
       let left = λ (p : List ℕ) (lacks : has f p ≡ false) (is : has g p ≡ true). list_any_none (λ n. calls_for m f n p) (names_in f.glyphs) (λ k q l. grind (cases, lacks, is, none p (get_or (names_in f.glyphs) k q))) in
       let right = λ (p : List ℕ) (is : has f p ≡ true) (lacks : has g p ≡ false). list_any_none (λ n. calls_for m g n p) (names_in g.glyphs) (λ k q l. grind (cases, is, lacks, none p (get_or (names_in g.glyphs) k q))) in
-      let same = shared_to f g (shared_so (shared_of f) (shared_of g) a.0) in
+      let same = (sharing f g).1 (shared_so (shared_of f) (shared_of g) a.0) in
       record {
         shells = same.shells;
         present = same.present;
@@ -86,11 +86,11 @@ module _ {O : Type 0} (m : Interpreter O) (f g : FontValue) (c : Compatible m f 
   -- compatible fonts have no conflict of states
   no_states_conflict : states_conflict m f g ≡ None
   no_states_conflict =
-      let shells = no_part_differs (shared_of f) (shared_of g) (shared_from f g (record { shells = c.shells; present = c.present; kinds = c.kinds })) in
-      let codes = passes_none (code_clashes f g) (members (codes_of_both f.encoding g.encoding)) (λ k. not_from_true _ (so_agrees (code_state f.encoding k) (code_state g.encoding k) (c.codes k))) in
-      let glyphs = passes_none (glyph_clashes f g) (members (glyph_names f g)) (λ n. not_from_true _ (so_agrees (maps.get f.glyphs n) (maps.get g.glyphs n) (glyph_agree m f g c n))) in
+      let shells = no_part_differs (shared_of f) (shared_of g) ((sharing f g).0 (record { shells = c.shells; present = c.present; kinds = c.kinds })) in
+      let codes = passes_none (code_clashes f g) (members (codes_of_both f.encoding g.encoding)) (λ k. no_clash (code_state f.encoding k) (code_state g.encoding k) (c.codes k)) in
+      let glyphs = passes_none (glyph_clashes f g) (members (glyph_names f g)) (λ n. no_clash (maps.get f.glyphs n) (maps.get g.glyphs n) (glyph_agree m f g c n)) in
       let components = passes_none (component_clashes m f g) (members (glyph_names f g)) no_component in
-      let subrs = passes_none (subr_clashes m f g) (members (keys_of_both f.subrs g.subrs)) (λ i. not_from_true _ (so_agrees (subr_state m f i) (subr_state m g i) (c.subrs i))) in
+      let subrs = passes_none (subr_clashes m f g) (members (keys_of_both f.subrs g.subrs)) (λ i. no_clash (subr_state m f i) (subr_state m g i) (c.subrs i)) in
       simp (shells, codes, glyphs, components, subrs)
 
 -- the test of the limits says that the joined font is within them

@@ -16,7 +16,7 @@ use Rattle.t1_algebra.specs.States.{named_at, IsWithin, is_sought, subr_state, n
 use Rattle.t1_algebra.specs.StateTables.{StatesValue, numbered, name_meaning, used_subrs, all_components, name_states, states_of, new_entries, subr_adds, name_adds, name_counts, states_weight, states_glyphs, StatesFit, IsSized, name_part, subr_part, joint_weight, joint_glyphs, PartsJoin, StatesAgree, StatesJoin, code_part}
 use Rattle.t1_algebra.specs.StateLaws.{PartsAgree, parts_laws}
 use Rattle.t1_algebra.proofs.Words.{nat_cmp_total, nat_list_cmp_total, nat_cmp-IsAntisymmetric, Interpreter, same_bytes}
-use Rattle.t1_algebra.proofs.Shares.{same_indices, shared_from, shared_to}
+use Rattle.t1_algebra.proofs.Shares.{same_indices, sharing}
 use Rattle.t1_algebra.proofs.Maps.{get-valued}
 use Rattle.t1_algebra.proofs.Sets.{name_same, any_flat_map, cases}
 use Rattle.t1_algebra.proofs.JoinedStates.{subr_joined, name_joined, present_joined}
@@ -57,7 +57,7 @@ module _ {O : Type 0} (m : Interpreter O) (f g : FontValue) where
   -- the states of compatible fonts agree part by part
   pub compatible_agree : Compatible m f g → PartsAgree (states_of m f) (states_of m g)
   compatible_agree c = (
-    shared_from f g (record { shells = c.shells; present = c.present; kinds = c.kinds }),
+    (sharing f g).0 (record { shells = c.shells; present = c.present; kinds = c.kinds }),
     (
       shown_agree _ _ _ _ (codes_shown f.encoding) (codes_shown g.encoding) c.codes,
       (λ n. grind (cases, get-names m f n, get-names m g n, c.names n, same_meaning-self), shown_agree _ _ _ _ (subrs_shown m f) (subrs_shown m g) c.subrs),
@@ -66,10 +66,10 @@ module _ {O : Type 0} (m : Interpreter O) (f g : FontValue) where
 
   -- fonts whose states agree part by part are compatible
   pub agree_compatible : PartsAgree (states_of m f) (states_of m g) → Compatible m f g
-  agree_compatible h = record {
-    shells = (shared_to f g h.0).shells;
-    present = (shared_to f g h.0).present;
-    kinds = (shared_to f g h.0).kinds;
+  agree_compatible h = let shared = (sharing f g).1 h.0 in record {
+    shells = shared.shells;
+    present = shared.present;
+    kinds = shared.kinds;
     subrs = agree_shown _ _ _ _ (subrs_shown m f) (subrs_shown m g) h.1.1.1;
     names = λ n. grind (cases, get-names m f n, get-names m g n, to_agree (maps.get (name_states m f) n) (maps.get (name_states m g) n) (h.1.1.0 n));
     codes = agree_shown _ _ _ _ (codes_shown f.encoding) (codes_shown g.encoding) h.1.0;
@@ -219,7 +219,7 @@ module _ {O : Type 0} (m : Interpreter O) (f g : FontValue) (e : states_of m f �
   -- fonts with the same states are the same
   pub font_known : f ≡ g
   font_known =
-      let shared = shared_to f g (ap (λ (s : StatesValue). s.0) e) in
+      let shared = (sharing f g).1 (ap (λ (s : StatesValue). s.0) e) in
       same_font f g shared.shells (same_encoding f.encoding g.encoding (ap (λ (s : StatesValue). s.0.1.0) e) (same_shown _ _ _ _ (codes_shown f.encoding) (codes_shown g.encoding) (ap code_part e)))
       (λ i. grind (cases, same_shown _ _ _ _ (subrs_shown m f) (subrs_shown m g) (ap subr_part e) i, shared.present i, stub_is))
       (λ n. grind (cases, get-names m f n, get-names m g n, ap (λ (t : TableMeaning). maps.get t n) (ap name_part e)))

@@ -77,19 +77,16 @@ same_indices m n h = keys_of m
     grind (cases, h i, get-map_values nat_cmp_total nat_cmp-IsAntisymmetric {Y = ℕ} (λ i c. 0) m i, get-map_values nat_cmp_total nat_cmp-IsAntisymmetric {Y = ℕ} (λ i c. 0) n i)))
     ∙ sym (keys_of n)
 
--- fonts that share what they have to have the same shared value
-pub shared_from : (f g : FontValue) → Shares f g → shared_of f ≡ shared_of g
-shared_from f g c =
-    let words : word_of f.encoding ≡ word_of g.encoding = grind (cases, c.kinds) in
-    λ i. (c.shells i, (words i, same_indices f.subrs g.subrs c.present i))
-
--- fonts with the same shared value share what they have to
-pub shared_to : (f g : FontValue) → shared_of f ≡ shared_of g → Shares f g
-shared_to f g h = record {
-  shells = ap (λ s. s.0) h;
-  present = λ i. maps.contains_key-keys f.subrs i ∙ ap (λ (s : Shared). list_any (eq_by_cmp nat_cmp i) s.1.1) h ∙ sym (maps.contains_key-keys g.subrs i);
-  kinds = grind (cases, ap (λ (s : Shared). s.1.0) h);
-}
+-- fonts share what they have to exactly if they have the same shared value
+pub sharing : (f g : FontValue) → Shares f g ↔ (shared_of f ≡ shared_of g)
+sharing f g = (
+  λ c. let words : word_of f.encoding ≡ word_of g.encoding = grind (cases, c.kinds) in λ i. (c.shells i, (words i, same_indices f.subrs g.subrs c.present i)),
+  λ h. record {
+    shells = ap (λ s. s.0) h;
+    present = λ i. maps.contains_key-keys f.subrs i ∙ ap (λ (s : Shared). list_any (eq_by_cmp nat_cmp i) s.1.1) h ∙ sym (maps.contains_key-keys g.subrs i);
+    kinds = grind (cases, ap (λ (s : Shared). s.1.0) h);
+  },
+)
 
 -- no part differs exactly if all is the same
 pub parts_test : {X : Type 0} (part : X → ShellPart) (s t : Shared) (r : Option X) (b : Bool) → is_some r ≡ not b → option_map part r ≡ differing_part s t → (b ≡ true) ↔ (s ≡ t)
