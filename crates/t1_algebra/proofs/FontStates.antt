@@ -98,7 +98,8 @@ module _ {O : Type 0} (m : Interpreter O) (f : FontValue) where
   -- the Subrs of a font weigh as many stubs and what their states add
   subrs_weigh : total (subr_weight f.shell.len_iv) (maps.entries f.subrs) ≡ length (maps.keys f.subrs) * (129 + f.shell.len_iv) + total subr_adds (maps.entries (numbered (used_subrs m f)))
   subrs_weigh =
-      let nothing = total_kept (λ i c. length c - 1) (λ e. is_some (subr_state m f e.0)) (maps.entries f.subrs) (entries_all nat_cmp_total nat_cmp-IsAntisymmetric (λ i c. not (is_some (subr_state m f i)) ≡ true → length c - 1 ≡ 0) f.subrs (λ i c is h. grind (cases, is, h, stub_is c))) in
+      let nothing = total_kept (λ i c. length c - 1) (λ e. is_some (subr_state m f e.0)) (maps.entries f.subrs)
+      (entries_all nat_cmp_total nat_cmp-IsAntisymmetric (λ i c. not (is_some (subr_state m f i)) ≡ true → length c - 1 ≡ 0) f.subrs (λ i c is h. grind (cases, is, h, stub_is c))) in
       let added = ap (total subr_adds) (entries-numbered (used_subrs m f)) ∙ total_mapped of_number (λ c. c) subr_adds (maps.entries (used_subrs m f))
       ∙ ap (total (λ i c. length c - 1)) (entries-retain nat_cmp_total nat_cmp-IsAntisymmetric f.subrs (λ i. is_some (subr_state m f i))) ∙ nothing in
       total_apart f.shell.len_iv (maps.entries f.subrs) ∙ (λ i. sym (length-map (maps.entries f.subrs) (λ e. e.0)) i * (129 + f.shell.len_iv) + sym added i)

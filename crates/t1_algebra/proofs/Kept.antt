@@ -61,7 +61,8 @@ module _ {O : Type 0} (m : Interpreter O) (f : FontValue) where
   }
 
   -- a component that a kept glyph names is kept if the font has it
-  pub keep_part : (a : Names) → has f notdef ≡ true → IsOf f a → (n c p : List ℕ) → sets.contains (keep m f a) n ≡ true → maps.get f.glyphs n ≡ Some c → list_any (same_bytes p) (components m f.subrs c) ≡ true → has f p ≡ true → sets.contains (keep m f a) p ≡ true
+  pub keep_part : (a : Names) → has f notdef ≡ true → IsOf f a → (n c p : List ℕ)
+      → sets.contains (keep m f a) n ≡ true → maps.get f.glyphs n ≡ Some c → list_any (same_bytes p) (components m f.subrs c) ≡ true → has f p ≡ true → sets.contains (keep m f a) p ≡ true
   keep_part a base inside n c p k is w here = (keep_closed a base inside).components n p k (component_is n p ∙ and_from _ _ here (ap (λ x. list_any (same_bytes p) (components m f.subrs (unwrap_or x []))) is ∙ w))
 
   -- ---- distribution
@@ -106,7 +107,9 @@ module _ {O : Type 0} (m : Interpreter O) (f : FontValue) where
   kept_cases : (a : Names) (i : ℕ) → sets.contains (kept m f a) i ≡ true → (list_any (eq_by_cmp nat_cmp i) low ≡ true) ⊎ ((n : List ℕ) × (sets.contains (keep m f a) n ≡ true) × (sets.contains (calls n) i ≡ true))
   kept_cases a i h = elim (or_cases _ _ (sym (kept_is a i) ∙ h)) [
     | inl x ↦ inl x
-    | inr y ↦ let r = any_one nat_list_cmp_total name_same _ (sets.items (keep m f a)) y in inr (r.0, from_in_items nat_list_cmp_total name_same (keep m f a) r.0 r.1, from_in_items nat_cmp_total nat_cmp-IsAntisymmetric (calls r.0) i r.2)
+    | inr y ↦
+        let r = any_one nat_list_cmp_total name_same _ (sets.items (keep m f a)) y in
+        inr (r.0, from_in_items nat_list_cmp_total name_same (keep m f a) r.0 r.1, from_in_items nat_cmp_total nat_cmp-IsAntisymmetric (calls r.0) i r.2)
   ]
 
   -- what a kept glyph executes is kept
@@ -115,7 +118,8 @@ module _ {O : Type 0} (m : Interpreter O) (f : FontValue) where
       (in_items nat_list_cmp_total name_same (keep m f a) n is) (in_items nat_cmp_total nat_cmp-IsAntisymmetric (calls n) i h))
 
 -- if g keeps over b the glyphs that f keeps over a, and they execute the same in both, g keeps no fewer Subrs
-kept_in : {O : Type 0} (m : Interpreter O) (f g : FontValue) (a b : Names) → ((n : List ℕ) → sets.contains (keep m f a) n ≡ true → (sets.contains (keep m g b) n ≡ true) × (calls m g n ≡ calls m f n)) → (i : ℕ) → sets.contains (kept m f a) i ≡ true → sets.contains (kept m g b) i ≡ true
+kept_in : {O : Type 0} (m : Interpreter O) (f g : FontValue) (a b : Names) → ((n : List ℕ) → sets.contains (keep m f a) n ≡ true → (sets.contains (keep m g b) n ≡ true) × (calls m g n ≡ calls m f n))
+    → (i : ℕ) → sets.contains (kept m f a) i ≡ true → sets.contains (kept m g b) i ≡ true
 kept_in m f g a b more i h = elim (kept_cases m f a i h) [
   | inl x ↦ kept_is m g b i ∙ or_left _ _ x
   | inr y ↦ let there = more y.0 y.1 in kept_call m g b i y.0 there.0 (ap (λ s. sets.contains s i) there.1 ∙ y.2)
@@ -142,7 +146,8 @@ module _ {O : Type 0} (m : Interpreter O) (f : FontValue) where
       (λ i h. grind (cases, h, both i, more a (λ q w. grind (cases, w, sets.contains-union nat_list_cmp_total a b q)) i, more b (λ q w. grind (cases, w, sets.contains-union nat_list_cmp_total a b q)) i))
 
 -- if g has the glyphs that f keeps, and they have the same components there, g keeps no more names
-keep_in : {O : Type 0} (m : Interpreter O) (f g : FontValue) (a : Names) → has f notdef ≡ true → IsOf f a → IsOf g (keep m f a) → ((n : List ℕ) → sets.contains (keep m f a) n ≡ true → components_here m g n ≡ components_here m f n) → Inside (keep m g a) (keep m f a)
+keep_in : {O : Type 0} (m : Interpreter O) (f g : FontValue) (a : Names) → has f notdef ≡ true → IsOf f a → IsOf g (keep m f a)
+    → ((n : List ℕ) → sets.contains (keep m f a) n ≡ true → components_here m g n ≡ components_here m f n) → Inside (keep m g a) (keep m f a)
 keep_in m f g a base inside there parts =
     let c = keep_closed m f a base inside in
     keep_least m g a (keep m f a) there (record { asked = c.asked; notdef = c.notdef; components = λ n p k w. c.components n p k (ap (λ (s : Names). sets.contains s p) (sym (parts n k)) ∙ w) })
