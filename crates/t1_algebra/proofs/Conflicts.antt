@@ -1,5 +1,5 @@
 -- Two fonts have no conflict exactly if they join, and they have the same conflict in both orders.
-use Rattle.std.proofs.Common.{◌≡◌, ◌↔◌, ℕ, true, false, cond, not, ◌&&◌, ◌||◌, List, [], get_or, refl, ◌∙◌, ap, Ordering, Option, Some, None, unwrap_or, nat_le}
+use Rattle.std.proofs.Common.{arith, ◌≡◌, ◌↔◌, ℕ, true, false, cond, not, ◌&&◌, ◌||◌, List, [], get_or, refl, ◌∙◌, ap, Ordering, Option, Some, None, unwrap_or, nat_le}
 use Rattle.std.proofs.Math.Bool.{or_comm}
 use Rattle.std.proofs.lemmas.Bool.{leb-true, le-leb, and_from}
 use Rattle.std.proofs.lemmas.List.Folds.{list_any_none}
@@ -13,7 +13,7 @@ use Rattle.t1_algebra.specs.Keep.{has}
 use Rattle.t1_algebra.specs.States.{IsWithin, Agree, calls_for, code_state, subr_state, joined_font, Compatible, Join, executes}
 use Rattle.t1_algebra.proofs.Words.{list_any, IsTotalOrder, nat_cmp_total, first_so, second_so, nat_list_cmp_total, IsAntisymmetric, nat_cmp-IsAntisymmetric, Interpreter, same_bytes}
 use Rattle.t1_algebra.proofs.Uses.{sought}
-use Rattle.t1_algebra.proofs.Sets.{name_same, any_at, cases}
+use Rattle.t1_algebra.proofs.Sets.{name_same, any_at, cases_Option, cases}
 use Rattle.t1_algebra.proofs.JoinedStates.{font_back, glyph_agree}
 use Rattle.t1_algebra.proofs.Searching.{passes_none, found_none, smallest_none}
 use Rattle.t1_algebra.proofs.Shares.{swaps, bytes_decide, shared_so, no_part_differs, differing_back, sharing}
@@ -122,10 +122,6 @@ module _ {O : Type 0} (m : Interpreter O) (f g : FontValue) where
       (found (λ k. SubrDiffers k (smallest (λ n. or_comm (executes m f n k) (executes m g n k) i) (names i)))
       (smallest (λ k. not (agrees_swap (subr_state m f k) (subr_state m g k) i)) (both_back nat_cmp_total nat_cmp-IsAntisymmetric f.subrs g.subrs i)) None))))
 
-  limit_back : (x : Option Conflict) → states_conflict m f g ≡ x → found (λ c. c) x (cond (is_within m f g) None (Some OverLimit)) ≡ found (λ c. c) x (cond (is_within m g f) None (Some OverLimit))
-  limit_back None h = ap (λ j. cond (nat_le (weight j) weight_limit && nat_le (maps.len j.glyphs) count_limit) None (Some OverLimit)) (font_back m f g (compatible m f g h))
-  limit_back (Some c) h = refl
-
   -- the lowest conflict is the same in both orders
   pub conflict_back : conflict m f g ≡ conflict m g f
-  conflict_back = limit_back (states_conflict m f g) refl ∙ ap (λ x. found (λ c. c) x (cond (is_within m g f) None (Some OverLimit))) states_conflict_back
+  conflict_back = grind (arith, cases_Option (states_conflict m f g), states_conflict_back, λ (h : states_conflict m f g ≡ None). ap (λ j. nat_le (weight j) weight_limit && nat_le (maps.len j.glyphs) count_limit) (font_back m f g (compatible m f g h)))
