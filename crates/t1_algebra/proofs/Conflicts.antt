@@ -1,161 +1,127 @@
 -- Two fonts have no conflict exactly if they join, and they have the same conflict in both orders.
-use Rattle.std.proofs.Common.{◌≡◌, ◌↔◌, ℕ, true, false, cond, not, ◌&&◌, ◌||◌, List, [], refl, sym, ◌∙◌, ap, Ordering, Option, Some, None, unwrap_or, nat_le}
-use Rattle.std.specs.List.{list_any}
-use Rattle.std.specs.Cmp.{IsTotalOrder, nat_cmp_total, first_so, second_so}
-use Rattle.std.specs.Cmp.Lexicographic.{nat_list_cmp_total}
-use Rattle.std.specs.FinSet.{IsAntisymmetric, nat_cmp-IsAntisymmetric}
+use Rattle.std.proofs.Common.{arith, ◌≡◌, ◌↔◌, ℕ, true, false, cond, not, ◌&&◌, ◌||◌, List, [], get_or, refl, ◌∙◌, ap, Ordering, Option, Some, None, unwrap_or, nat_le}
+use Rattle.std.proofs.Math.Bool.{or_comm}
+use Rattle.std.proofs.lemmas.Bool.{leb-true, le-leb, and_from}
+use Rattle.std.proofs.lemmas.List.Folds.{list_any_none}
 use Rattle.std.specs.FinMap as maps
-use Rattle.std.proofs.lemmas.Bool.{leb-true, le-leb, and_from, false_from_ne_true, not_from_true}
+use Rattle.t1_font.specs.FontModel.{names_in}
 use Rattle.t1_font.specs.FontValue.{FontValue, Encoding, Word, Codes, weight, weight_limit, count_limit}
 use Rattle.t1_algebra.specs.Conflicts.{Conflict, ShellDiffers, CodeDiffers, GlyphDiffers, LacksComponent, SubrDiffers, OverLimit, keys_of_both, agrees, codes_of_both, wants, code_clashes, glyph_clashes, glyph_names, wanted_by, component_clashes, subr_clashes, used_by, is_within, shell_conflict, code_conflict, glyph_conflict, component_conflict, subr_conflict, states_conflict, conflict}
 use Rattle.t1_algebra.specs.Searches.{members, smallest, found}
 use Rattle.t1_algebra.specs.Shared.{shared_of}
-use Rattle.t1_algebra.specs.Interpreter.{Interpreter, same_bytes}
 use Rattle.t1_algebra.specs.Keep.{has}
-use Rattle.t1_algebra.specs.States.{IsWithin, Agree, code_state, is_sought, subr_state, joined_font, Compatible, Join, executes}
-use Rattle.t1_algebra.proofs.Uses.{sought, seeker}
-use Rattle.t1_algebra.proofs.Sets.{name_same, clash, any_one, any_at, cases}
-use Rattle.t1_algebra.proofs.JoinedStates.{font_back, compatible_back, glyph_agree}
-use Rattle.t1_algebra.proofs.Searching.{or_swap, passes_none, found_none, none_found, smallest_none}
-use Rattle.t1_algebra.proofs.Shares.{swaps, bytes_decide, shared_so, no_part_differs, differing_back, shared_from, shared_to}
+use Rattle.t1_algebra.specs.States.{IsWithin, Agree, calls_for, code_state, subr_state, joined_font, Compatible, Join, executes}
+use Rattle.t1_algebra.proofs.Words.{list_any, IsTotalOrder, nat_cmp_total, first_so, second_so, nat_list_cmp_total, IsAntisymmetric, nat_cmp-IsAntisymmetric, Interpreter, same_bytes}
+use Rattle.t1_algebra.proofs.Uses.{sought}
+use Rattle.t1_algebra.proofs.Sets.{name_same, any_at, cases_Option, cases}
+use Rattle.t1_algebra.proofs.JoinedStates.{font_back, glyph_agree}
+use Rattle.t1_algebra.proofs.Searching.{passes_none, found_none, smallest_none}
+use Rattle.t1_algebra.proofs.Shares.{swaps, bytes_decide, shared_so, no_part_differs, differing_back, sharing}
 use Rattle.t1_algebra.proofs.Maps.{in_both, both_back}
 
 -- ---- tests
 
 module _ (x y : Option (List ℕ)) where
-  -- states that join pass the test
-  pub so_agrees : Agree x y → agrees x y ≡ true
-  so_agrees h = grind (cases, bytes_decide.self)
+  -- states that join don't fail the test
+  no_clash : Agree x y → not (agrees x y) ≡ false
+  no_clash h = grind (cases, bytes_decide.self)
 
   -- the test is the same in both orders
-  pub agrees_swap : agrees x y ≡ agrees y x
+  agrees_swap : agrees x y ≡ agrees y x
   agrees_swap = grind (cases, swaps same_bytes bytes_decide)
-
--- the codes of two tables are the same in both orders
-codes_swap : (d e : Encoding) → codes_of_both d e ≡ codes_of_both e d
-codes_swap d e = grind (cases, both_back nat_cmp_total nat_cmp-IsAntisymmetric {X = List ℕ})
 
 -- if no key of two maps has states that clash, and keys that the second lacks have no state, all states agree
 all_agree : {K : Type 0} {R : K → K → Ordering} (o : IsTotalOrder R) (same : IsAntisymmetric R) (a b : maps.FinMap R (List ℕ)) (x y : K → Option (List ℕ)) → smallest (λ k. not (agrees (x k) (y k))) (keys_of_both a b) ≡ None
     → (k : K) → (maps.contains_key b k ≡ false → y k ≡ None) → Agree (x k) (y k)
 all_agree o same a b x y h k absent = grind (cases, absent, in_both o same a b k, smallest_none o same (λ k. not (agrees (x k) (y k))) (keys_of_both a b) k h, bytes_decide.so)
 
--- ---- components that are lacking
+-- without a conflict of codes, the names of each code agree
+codes_agree : (d e : Encoding) → smallest (λ c. not (agrees (code_state d c) (code_state e c))) (codes_of_both d e) ≡ None → (c : ℕ) → Agree (code_state d c) (code_state e c)
+codes_agree (Word v) e h c = tt
+codes_agree (Codes s) (Word w) h c = grind cases
+codes_agree (Codes s) (Codes t) h c = all_agree nat_cmp_total nat_cmp-IsAntisymmetric s t (maps.get s) (maps.get t) h c (λ e. grind (cases, e))
 
-module _ {O : Type 0} (m : Interpreter O) where
-  -- ---- from no conflict to the join
+-- ---- from no conflict to the join
 
-  module _ (f g : FontValue) where
-    -- without a conflict of codes, the names of each code agree
-    codes_agree_at : (d e : Encoding) → smallest (λ c. not (agrees (code_state d c) (code_state e c))) (codes_of_both d e) ≡ None → (c : ℕ) → Agree (code_state d c) (code_state e c)
-    codes_agree_at (Word v) e h c = tt
-    codes_agree_at (Codes s) (Word w) h c = grind cases
-    codes_agree_at (Codes s) (Codes t) h c = all_agree nat_cmp_total nat_cmp-IsAntisymmetric s t (maps.get s) (maps.get t) h c (λ e. grind (cases, e))
+module _ {O : Type 0} (m : Interpreter O) (f g : FontValue) where
+  -- without a conflict of components, no glyph calls for one that its font lacks and the other has
+  none_wanted : component_conflict m f g ≡ None → (p n : List ℕ) → (has f p || has g p) ≡ true → wanted_by m f g p n ≡ false
+  none_wanted h p n there =
+      let any = any_at nat_list_cmp_total name_same (wanted_by m f g p) n (members (glyph_names f g)) in
+      let named = in_both nat_list_cmp_total name_same f.glyphs g.glyphs in
+      grind (cases, there, any, maps.contains_key-keys (glyph_names f g) n, named n, named p, smallest_none nat_list_cmp_total name_same (component_clashes m f g) (glyph_names f g) p h)
 
-    -- a component that f lacks and seeks and that g has is in conflict
-    lacks_clashes : (p : List ℕ) → has f p ≡ false → is_sought m f p ≡ true → has g p ≡ true → component_clashes m f g p ≡ true
-    lacks_clashes p l s h =
-        let r = seeker m f p s in
-        let any = any_at nat_list_cmp_total name_same (wanted_by m f g p) r.0 (members (glyph_names f g)) (grind (cases, in_both nat_list_cmp_total name_same f.glyphs g.glyphs r.0, maps.contains_key-keys (glyph_names f g) r.0, r.2)) in
-        grind (cases, any, r.2, r.3)
-
-    -- the names of both are the same in either order
-    names_back : glyph_names f g ≡ glyph_names g f
-    names_back = both_back nat_list_cmp_total name_same f.glyphs g.glyphs
-
-    wanted_back : (p : List ℕ) → wanted_by m f g p ≡ wanted_by m g f p
-    wanted_back p = λ i n. or_swap (wants m f n p) (wants m g n p) i
-
-  module _ (f g : FontValue) where
-    -- without a conflict of components, f seeks none that it lacks and g has
-    seeks_none : component_conflict m f g ≡ None → (p : List ℕ) → has f p ≡ false → has g p ≡ true → is_sought m f p ≡ false
-    seeks_none h p l k = grind (cases, l, k, lacks_clashes f g p, in_both nat_list_cmp_total name_same f.glyphs g.glyphs p, smallest_none nat_list_cmp_total name_same (component_clashes m f g) (glyph_names f g) p h)
-
-    component_conflict_back : component_conflict m f g ≡ component_conflict m g f
-    component_conflict_back = λ i. smallest (λ p. or_swap (has f p) (has g p) i && list_any (wanted_back f g p i) (members (names_back f g i))) (names_back f g i)
-
-  module _ (f g : FontValue) where
-    -- without a conflict of states, the fonts are compatible
-    pub compatible : states_conflict m f g ≡ None → Compatible m f g
-    compatible h =
-        let a = found_none ShellDiffers (shell_conflict f g) _ h in
-        let b = found_none CodeDiffers (code_conflict f g) _ a.1 in
-        let c = found_none GlyphDiffers (glyph_conflict f g) _ b.1 in
-        let d = found_none (λ p. LacksComponent (unwrap_or (smallest (wanted_by m f g p) (glyph_names f g)) []) p) (component_conflict m f g) _ c.1 in
-        let e = found_none (λ i. SubrDiffers i (smallest (used_by m f g i) (glyph_names f g))) (subr_conflict m f g) None d.1 in
-        let same = shared_to f g (shared_so (shared_of f) (shared_of g) a.0) in
-        record {
-          shells = same.shells;
-          present = same.present;
-          kinds = same.kinds;
-          subrs = λ i. all_agree nat_cmp_total nat_cmp-IsAntisymmetric f.subrs g.subrs (subr_state m f) (subr_state m g) e.0 i (λ k. grind (cases, k));
-          names = λ n. grind (cases, seeks_none f g d.0 n, seeks_none g f (sym (component_conflict_back f g) ∙ d.0) n, all_agree nat_list_cmp_total name_same f.glyphs g.glyphs (maps.get f.glyphs) (maps.get g.glyphs) c.0 n (λ k. grind (cases, k)));
-          codes = codes_agree_at f g f.encoding g.encoding b.0;
-        }
+  -- without a conflict of states, the fonts are compatible
+  pub compatible : states_conflict m f g ≡ None → Compatible m f g
+  compatible h =
+      let a = found_none ShellDiffers (shell_conflict f g) _ h in
+      let b = found_none CodeDiffers (code_conflict f g) _ a.1 in
+      let c = found_none GlyphDiffers (glyph_conflict f g) _ b.1 in
+      let d = found_none (λ p. LacksComponent (unwrap_or (smallest (wanted_by m f g p) (glyph_names f g)) []) p) (component_conflict m f g) _ c.1 in
+      let e = found_none (λ i. SubrDiffers i (smallest (used_by m f g i) (glyph_names f g))) (subr_conflict m f g) None d.1 in
+      let none = none_wanted d.0 in
+      let left = λ (p : List ℕ) (lacks : has f p ≡ false) (is : has g p ≡ true). list_any_none (λ n. calls_for m f n p) (names_in f.glyphs) (λ k q l. grind (cases, lacks, is, none p (get_or (names_in f.glyphs) k q))) in
+      let right = λ (p : List ℕ) (is : has f p ≡ true) (lacks : has g p ≡ false). list_any_none (λ n. calls_for m g n p) (names_in g.glyphs) (λ k q l. grind (cases, is, lacks, none p (get_or (names_in g.glyphs) k q))) in
+      let same = (sharing f g).1 (shared_so (shared_of f) (shared_of g) a.0) in
+      record {
+        shells = same.shells;
+        present = same.present;
+        kinds = same.kinds;
+        subrs = λ i. all_agree nat_cmp_total nat_cmp-IsAntisymmetric f.subrs g.subrs (subr_state m f) (subr_state m g) e.0 i (λ k. grind (cases, k));
+        names = λ n. grind (cases, left n, right n, all_agree nat_list_cmp_total name_same f.glyphs g.glyphs (maps.get f.glyphs) (maps.get g.glyphs) c.0 n (λ k. grind (cases, k)));
+        codes = codes_agree f.encoding g.encoding b.0;
+      }
 
 -- ---- from the join to no conflict
 
-module _ {O : Type 0} (m : Interpreter O) (f g : FontValue) where
-  -- a component that f lacks and calls for is lacking in a compatible g, too
-  wants_nothing : Compatible m f g → (p n : List ℕ) → wants m f n p ≡ true → (has f p || has g p) ≡ false
-  wants_nothing c p n h = grind (cases, h, c.names p, sought m f p n)
-
 module _ {O : Type 0} (m : Interpreter O) (f g : FontValue) (c : Compatible m f g) where
-  -- neither of two compatible fonts has a component that a glyph of one of them calls for and its font lacks
-  wanted_gone : (p n : List ℕ) → wanted_by m f g p n ≡ true → (has f p || has g p) ≡ false
-  wanted_gone p n h = grind (cases, h, wants_nothing m f g c p n, wants_nothing m g f (compatible_back m f g c) p n)
-
   -- compatible fonts have no conflict of components
   no_component : (p : List ℕ) → component_clashes m f g p ≡ false
-  no_component p = false_from_ne_true (component_clashes m f g p) (λ h.
-      let w = any_one nat_list_cmp_total name_same (wanted_by m f g p) (members (glyph_names f g)) (second_so (has f p || has g p) (list_any (wanted_by m f g p) (members (glyph_names f g))) h) in
-      clash (has f p || has g p) (first_so (has f p || has g p) (list_any (wanted_by m f g p) (members (glyph_names f g))) h) (wanted_gone p w.0 w.2))
+  no_component p =
+      let none = λ (there : (has f p || has g p) ≡ true). list_any_none (wanted_by m f g p) (members (glyph_names f g)) (λ k d l.
+      let n = get_or (members (glyph_names f g)) k d in
+      grind (cases, there, c.names p, sought m f p n, sought m g p n)) in
+      grind (cases, none)
 
   -- compatible fonts have no conflict of states
-  pub no_states_conflict : states_conflict m f g ≡ None
+  no_states_conflict : states_conflict m f g ≡ None
   no_states_conflict =
-      none_found ShellDiffers (shell_conflict f g) _ (no_part_differs (shared_of f) (shared_of g) (shared_from f g (record { shells = c.shells; present = c.present; kinds = c.kinds })))
-      (none_found CodeDiffers (code_conflict f g) _ (passes_none (code_clashes f g) (members (codes_of_both f.encoding g.encoding)) (λ k. not_from_true _ (so_agrees (code_state f.encoding k) (code_state g.encoding k) (c.codes k))))
-      (none_found GlyphDiffers (glyph_conflict f g) _ (passes_none (glyph_clashes f g) (members (glyph_names f g)) (λ n. not_from_true _ (so_agrees (maps.get f.glyphs n) (maps.get g.glyphs n) (glyph_agree m f g c n))))
-      (none_found (λ p. LacksComponent (unwrap_or (smallest (wanted_by m f g p) (glyph_names f g)) []) p) (component_conflict m f g) _ (passes_none (component_clashes m f g) (members (glyph_names f g)) no_component)
-      (none_found (λ i. SubrDiffers i (smallest (used_by m f g i) (glyph_names f g))) (subr_conflict m f g) None (passes_none (subr_clashes m f g) (members (keys_of_both f.subrs g.subrs)) (λ i. not_from_true _ (so_agrees (subr_state m f i) (subr_state m g i) (c.subrs i)))) refl))))
+      let shells = no_part_differs (shared_of f) (shared_of g) ((sharing f g).0 (record { shells = c.shells; present = c.present; kinds = c.kinds })) in
+      let codes = passes_none (code_clashes f g) (members (codes_of_both f.encoding g.encoding)) (λ k. no_clash (code_state f.encoding k) (code_state g.encoding k) (c.codes k)) in
+      let glyphs = passes_none (glyph_clashes f g) (members (glyph_names f g)) (λ n. no_clash (maps.get f.glyphs n) (maps.get g.glyphs n) (glyph_agree m f g c n)) in
+      let components = passes_none (component_clashes m f g) (members (glyph_names f g)) no_component in
+      let subrs = passes_none (subr_clashes m f g) (members (keys_of_both f.subrs g.subrs)) (λ i. no_clash (subr_state m f i) (subr_state m g i) (c.subrs i)) in
+      simp (shells, codes, glyphs, components, subrs)
 
 -- the test of the limits says that the joined font is within them
 pub within_so : {O : Type 0} (m : Interpreter O) (f g : FontValue) → is_within m f g ≡ true → IsWithin (joined_font m f g)
-within_so m f g h = record {
-  weight = leb-true (weight (joined_font m f g)) weight_limit (first_so (nat_le (weight (joined_font m f g)) weight_limit) _ h);
-  glyphs = leb-true (maps.len (joined_font m f g).glyphs) count_limit (second_so (nat_le (weight (joined_font m f g)) weight_limit) _ h);
-}
-
--- a joined font within the limits passes their test
-so_within : {O : Type 0} (m : Interpreter O) (f g : FontValue) → IsWithin (joined_font m f g) → is_within m f g ≡ true
-so_within m f g w = and_from (nat_le (weight (joined_font m f g)) weight_limit) (nat_le (maps.len (joined_font m f g).glyphs) count_limit) (le-leb _ _ w.weight) (le-leb _ _ w.glyphs)
+within_so m f g h = record { weight = leb-true _ weight_limit (first_so _ _ h); glyphs = leb-true _ count_limit (second_so _ _ h) }
 
 -- two fonts have no conflict exactly if they join
 pub no_conflict : {O : Type 0} (m : Interpreter O) (f g : FontValue) → (conflict m f g ≡ None) ↔ Join m f g
 no_conflict m f g = (
   λ h. let r = found_none (λ c. c) (states_conflict m f g) (cond (is_within m f g) None (Some OverLimit)) h in
       record { states = compatible m f g r.0; within = within_so m f g (grind (cases, r.1)) },
-  λ j. none_found (λ c. c) (states_conflict m f g) (cond (is_within m f g) None (Some OverLimit)) (no_states_conflict m f g j.states) (ap (λ b. cond b None (Some OverLimit)) (so_within m f g j.within)),
+  λ j. (λ i. found (λ c. c) (no_states_conflict m f g j.states i) (cond (and_from _ _ (le-leb _ _ j.within.weight) (le-leb _ _ j.within.glyphs) i) None (Some OverLimit))),
 )
 
 -- ---- both orders
 
 module _ {O : Type 0} (m : Interpreter O) (f g : FontValue) where
   -- the lowest conflict of states is the same in both orders
-  pub states_conflict_back : states_conflict m f g ≡ states_conflict m g f
-  states_conflict_back = λ i.
+  states_conflict_back : states_conflict m f g ≡ states_conflict m g f
+  states_conflict_back =
+      let codes : codes_of_both f.encoding g.encoding ≡ codes_of_both g.encoding f.encoding = grind (cases, both_back nat_cmp_total nat_cmp-IsAntisymmetric {X = List ℕ}) in
+      let names = both_back nat_list_cmp_total name_same f.glyphs g.glyphs in
+      let wanted = λ (p n : List ℕ). or_comm (wants m f n p) (wants m g n p) in
+      λ i.
       found ShellDiffers (differing_back (shared_of f) (shared_of g) i)
-      (found CodeDiffers (smallest (λ c. not (agrees_swap (code_state f.encoding c) (code_state g.encoding c) i)) (codes_swap f.encoding g.encoding i))
-      (found GlyphDiffers (smallest (λ n. not (agrees_swap (maps.get f.glyphs n) (maps.get g.glyphs n) i)) (names_back m f g i))
-      (found (λ p. LacksComponent (unwrap_or (smallest (wanted_back m f g p i) (names_back m f g i)) []) p) (component_conflict_back m f g i)
-      (found (λ k. SubrDiffers k (smallest (λ n. or_swap (executes m f n k) (executes m g n k) i) (names_back m f g i)))
+      (found CodeDiffers (smallest (λ c. not (agrees_swap (code_state f.encoding c) (code_state g.encoding c) i)) (codes i))
+      (found GlyphDiffers (smallest (λ n. not (agrees_swap (maps.get f.glyphs n) (maps.get g.glyphs n) i)) (names i))
+      (found (λ p. LacksComponent (unwrap_or (smallest (λ n. wanted p n i) (names i)) []) p) (smallest (λ p. or_comm (has f p) (has g p) i && list_any (λ n. wanted p n i) (members (names i))) (names i))
+      (found (λ k. SubrDiffers k (smallest (λ n. or_comm (executes m f n k) (executes m g n k) i) (names i)))
       (smallest (λ k. not (agrees_swap (subr_state m f k) (subr_state m g k) i)) (both_back nat_cmp_total nat_cmp-IsAntisymmetric f.subrs g.subrs i)) None))))
-
-  limit_back : (x : Option Conflict) → states_conflict m f g ≡ x → found (λ c. c) x (cond (is_within m f g) None (Some OverLimit)) ≡ found (λ c. c) x (cond (is_within m g f) None (Some OverLimit))
-  limit_back None h = ap (λ j. cond (nat_le (weight j) weight_limit && nat_le (maps.len j.glyphs) count_limit) None (Some OverLimit)) (font_back m f g (compatible m f g h))
-  limit_back (Some c) h = refl
 
   -- the lowest conflict is the same in both orders
   pub conflict_back : conflict m f g ≡ conflict m g f
-  conflict_back = limit_back (states_conflict m f g) refl ∙ ap (λ x. found (λ c. c) x (cond (is_within m g f) None (Some OverLimit))) states_conflict_back
+  conflict_back = grind (arith, cases_Option (states_conflict m f g), states_conflict_back, λ (h : states_conflict m f g ≡ None). ap (λ j. nat_le (weight j) weight_limit && nat_le (maps.len j.glyphs) count_limit) (font_back m f g (compatible m f g h)))

@@ -1,26 +1,24 @@
 -- A glyph runs and draws in a subset and in a join as it did before.
-use Rattle.std.proofs.Common.{◌≡◌, ℕ, true, cond, List, [], ◌∷◌, map, refl, sym, ◌∙◌, ap, subst, Option, Some, None, unwrap_or, option_map}
-use Rattle.std.specs.List.{list_any}
-use Rattle.std.specs.Cmp.Lexicographic.{nat_list_cmp_total}
+use Rattle.std.proofs.Common.{◌≡◌, ℕ, true, cond, List, [], ◌∷◌, map, refl, sym, ◌∙◌, ap, subst, Option, Some, None, option_map}
 use Rattle.std.specs.FinSet as sets
 use Rattle.std.specs.FinMap as maps
 use Rattle.t1_run.specs.State.{Ending}
 use Rattle.t1_run.specs.Run.{direct, direct3, exec, direct_by}
 use Rattle.t1_run.specs.Drawings.{parts_of, picture, picture_at, draw, draw3, outcome_at, draw_by, parts_by, parts}
 use Rattle.t1_run.proofs.Locality.{local}
-use Rattle.t1_font.specs.FontValue.{FontValue, notdef, Numbered}
+use Rattle.t1_font.specs.FontValue.{FontValue, Numbered}
 use Rattle.t1_font.specs.IsFont.{IsFont}
 use Rattle.t1_font.proofs.FontReaders.{all_seen}
-use Rattle.t1_algebra.specs.Interpreter.{Interpreter, Names, same_bytes}
 use Rattle.t1_algebra.specs.Keep.{keep, has, components, subset}
 use Rattle.t1_algebra.specs.Outcomes.{component_outcome}
 use Rattle.t1_algebra.specs.States.{joined_font, Compatible}
 use Rattle.t1_algebra.specs.Profile.{profile, Endings, in_set_of}
 use Rattle.t1_algebra.specs.Laws.{IsOf, DrawsAlike, AnswersAlike}
-use Rattle.t1_algebra.proofs.Kept.{InFont, keep_closed, component_here_from}
+use Rattle.t1_algebra.proofs.Words.{list_any, nat_list_cmp_total, Names, same_bytes}
+use Rattle.t1_algebra.proofs.Kept.{keep_part}
 use Rattle.t1_algebra.proofs.Sets.{name_same, itself, here, later, any_append_left, any_append_right, cases}
-use Rattle.t1_algebra.proofs.Uses.{seeks_it, has_some}
-use Rattle.t1_algebra.proofs.JoinedStates.{left_glyph, left_runs, left_subrs, font_back, compatible_back}
+use Rattle.t1_algebra.proofs.Uses.{sought}
+use Rattle.t1_algebra.proofs.JoinedStates.{left_runs, left_subrs, font_back, compatible_back}
 use Rattle.t1_algebra.proofs.Subsets.{get-glyph, runs_alike, subrs_alike, glyph_in_join}
 
 -- ---- fonts in which a glyph runs alike and names components that run alike
@@ -47,17 +45,13 @@ module _ (f j : FontValue) (n : List ℕ) (same : maps.get j.glyphs n ≡ maps.g
   -- `by` gives what a charstring comes to by one answer to hint replacement
   module _ (hints : _) (by : Endings → Ending) (is_by : (s : Numbered) (c : List ℕ) → by (profile.direct s c) ≡ direct_by hints (maps.get s) c)
       (named : (s : Numbered) (c p : List ℕ) → list_any (same_bytes p) (parts_by hints (maps.get s) c) ≡ true → list_any (same_bytes p) (components profile s c) ≡ true) where
-    -- a component's own outcome is alike
-    part_alike : (p : List ℕ) → component_outcome profile j p ≡ component_outcome profile f p → outcome_at hints (maps.get j.subrs) (maps.get j.glyphs) p ≡ outcome_at hints (maps.get f.subrs) (maps.get f.glyphs) p
-    part_alike p e = grind (cases, e, is_by f.subrs, is_by j.subrs)
-
-    -- so is the picture of what the glyph's charstring comes to
+    -- the picture of what the glyph's charstring comes to is alike
     picture_alike : (x : Option (List ℕ)) → maps.get f.glyphs n ≡ x
         → picture_at hints (maps.get j.subrs) (maps.get j.glyphs) (option_map (direct_by hints (maps.get j.subrs)) x) ≡ picture_at hints (maps.get f.subrs) (maps.get f.glyphs) (option_map (direct_by hints (maps.get f.subrs)) x)
     picture_alike None is = refl
     picture_alike (Some c) is =
         ap (λ own. picture own (map (outcome_at hints (maps.get j.subrs) (maps.get j.glyphs)) (parts_of own))) (sym (is_by j.subrs c) ∙ ap by (profile.local f.subrs j.subrs c (runs c is)).0 ∙ is_by f.subrs c)
-        ∙ ap (picture (direct_by hints (maps.get f.subrs) c)) (map_alike _ _ (parts_by hints (maps.get f.subrs) c) (λ p w. part_alike p (same_parts c p is (named f.subrs c p w))))
+        ∙ ap (picture (direct_by hints (maps.get f.subrs) c)) (map_alike _ _ (parts_by hints (maps.get f.subrs) c) (λ p w. grind (cases, same_parts c p is (named f.subrs c p w), is_by f.subrs, is_by j.subrs)))
 
     draws_alike : draw_by hints (maps.get j.subrs) (maps.get j.glyphs) n ≡ draw_by hints (maps.get f.subrs) (maps.get f.glyphs) n
     draws_alike = ap (λ x. picture_at hints (maps.get j.subrs) (maps.get j.glyphs) (option_map (direct_by hints (maps.get j.subrs)) x)) same ∙ picture_alike (maps.get f.glyphs n) refl
@@ -75,28 +69,15 @@ module _ (f j : FontValue) (n : List ℕ) (same : maps.get j.glyphs n ≡ maps.g
 
 -- ---- subsets and joins
 
--- a component of a kept glyph comes to the same in the subset
-component_in_subset : {O : Type 0} (m : Interpreter O) (f : FontValue) (base : has f notdef ≡ true) (a : Names) (inside : InFont m f a) (n c p : List ℕ) → sets.contains (keep m f a) n ≡ true
-    → maps.get f.glyphs n ≡ Some c → list_any (same_bytes p) (components m f.subrs c) ≡ true → component_outcome m (subset m f a) p ≡ component_outcome m f p
-component_in_subset m f base a inside n c p k is w =
-    let kept = λ (h : has f p ≡ true). (keep_closed m f a base inside).components n p k (component_here_from m f n p (ap (λ x. list_any (same_bytes p) (components m f.subrs (unwrap_or x []))) is ∙ w) h) in
-    grind (cases, get-glyph m f base a inside p, kept, runs_alike m f base a inside p)
-
 -- a kept glyph draws in a subset as in the font
 pub subset_alike : (f : FontValue) → IsFont f → (a : Names) → IsOf f a → (n : List ℕ) → sets.contains (keep profile f a) n ≡ true → DrawsAlike f (subset profile f a) n
-subset_alike f h a inside n k = alike f (subset profile f a) n (get-glyph profile f h.glyphs.notdef a inside n ∙ ap (λ b. cond b (maps.get f.glyphs n) None) k)
-    (λ c is. subrs_alike profile f h.glyphs.notdef a inside n c k is) (λ c p is w. component_in_subset profile f h.glyphs.notdef a inside n c p k is w)
-
--- a component of a glyph of the first font comes to the same in the join
-component_in_join : {O : Type 0} (m : Interpreter O) (f g : FontValue) → Compatible m f g → (n c p : List ℕ) → maps.get f.glyphs n ≡ Some c → list_any (same_bytes p) (components m f.subrs c) ≡ true
-    → component_outcome m (joined_font m f g) p ≡ component_outcome m f p
-component_in_join m f g c n v p is w = grind (cases, glyph_in_join m f g p, c.names p, seeks_it m f n v p is w, left_runs m f g p)
+subset_alike f h a inside n k = alike f (subset profile f a) n (get-glyph profile f a n ∙ ap (λ b. cond b (maps.get f.glyphs n) None) k)
+    (λ c is. subrs_alike profile f a n c k is) (λ c p is w. grind (cases, get-glyph profile f a p, keep_part profile f a h.glyphs.notdef inside n c p k is w, runs_alike profile f a p))
 
 -- a glyph of the first font draws in the join as it did
 pub left_alike : (f g : FontValue) → Compatible profile f g → (n : List ℕ) → has f n ≡ true → DrawsAlike f (joined_font profile f g) n
-left_alike f g c n h =
-    let v = has_some (maps.get f.glyphs n) h in
-    alike f (joined_font profile f g) n (left_glyph profile f g n v.0 v.1 ∙ sym v.1) (left_subrs profile f g n) (component_in_join profile f g c n)
+left_alike f g c n h = alike f (joined_font profile f g) n (grind (cases, glyph_in_join profile f g n, h)) (left_subrs profile f g n)
+    (λ v p is w. grind (cases, glyph_in_join profile f g p, c.names p, sought profile f p n, is, w, left_runs profile f g p))
 
 -- so does a glyph of the second font
 pub right_alike : (f g : FontValue) → Compatible profile f g → (n : List ℕ) → has g n ≡ true → DrawsAlike g (joined_font profile f g) n

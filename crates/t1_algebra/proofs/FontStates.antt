@@ -1,13 +1,9 @@
 -- The states of a font as tables: what stands at each key, what they weigh, that they join as the fonts do, and that they determine the font.
-use Rattle.std.proofs.Common.{◌≡◌, ◌↔◌, ◌≤◌, ℕ, ◌+◌, ◌*◌, ◌-◌, Bool, true, false, cond, List, [], ◌∷◌, map, filter, length, refl, sym, ◌∙◌, ap, subst, true≢false, Option, Some, None, option_map, is_some, arith, inl, ⊎_elim}
-use Rattle.std.specs.List.{AllByRecursion}
+use Rattle.std.proofs.Common.{◌≡◌, ◌↔◌, not, ◌≤◌, ℕ, ◌+◌, ◌*◌, ◌-◌, Bool, true, false, cond, List, [], ◌∷◌, map, length, refl, sym, ◌∙◌, ap, subst, true≢false, Option, Some, None, option_map, is_some, arith, inl, ⊎_elim}
 use Rattle.std.proofs.lemmas.List.{length-map}
-use Rattle.std.specs.Cmp.{nat_cmp_total}
-use Rattle.std.specs.Cmp.Lexicographic.{nat_list_cmp_total}
-use Rattle.std.specs.FinSet.{nat_cmp-IsAntisymmetric}
 use Rattle.std.specs.FinMap as maps
 use Rattle.t1_join.specs.Meaning.{Meaning, of_number}
-use Rattle.t1_join.specs.Join.{State, StatesAgree as PlacesAgree}
+use Rattle.t1_join.specs.Join.{State}
 use Rattle.t1_join.specs.StateLaws.{same_meaning-self}
 use Rattle.t1_join.specs.TableMeaning.{TableMeaning, TablesAgree, TablesJoin, joined_table}
 use Rattle.t1_join.specs.TableLaws.{get_joined, same_table}
@@ -16,16 +12,16 @@ use Rattle.t1_font.specs.FontModel.{names_in, word_of, clamp}
 use Rattle.t1_font.specs.FontValue.{FontValue, total, subr_weight, weight, weight_limit, count_limit}
 use Rattle.t1_font.proofs.CutEntries.{entries-retain}
 use Rattle.t1_font.proofs.MapLemmas.{entries_all, get-retain, length_total}
-use Rattle.t1_algebra.specs.Interpreter.{Interpreter, same_bytes}
-use Rattle.t1_algebra.specs.States.{named_at, Agree, IsWithin, is_sought, subr_state, name_state, Compatible, Join, joined_font}
-use Rattle.t1_algebra.specs.StateTables.{StatesValue, numbered, name_meaning, AreSought, used_subrs, all_components, name_states, states_of, subr_adds, name_adds, name_counts, states_weight, states_glyphs, StatesFit, name_part, subr_part, joined_states, PartsJoin, StatesAgree, StatesJoin, behind_mark, code_part}
+use Rattle.t1_algebra.specs.States.{named_at, IsWithin, is_sought, subr_state, name_state, Compatible, Join, joined_font}
+use Rattle.t1_algebra.specs.StateTables.{StatesValue, numbered, name_meaning, used_subrs, all_components, name_states, states_of, subr_adds, name_adds, name_counts, states_weight, states_glyphs, StatesFit, name_part, subr_part, joined_states, PartsJoin, StatesAgree, StatesJoin, code_part}
 use Rattle.t1_algebra.specs.StateLaws.{PartsAgree, parts_laws}
-use Rattle.t1_algebra.proofs.Shares.{same_indices, shared_from, shared_to}
+use Rattle.t1_algebra.proofs.Words.{nat_cmp_total, nat_list_cmp_total, nat_cmp-IsAntisymmetric, Interpreter, same_bytes}
+use Rattle.t1_algebra.proofs.Shares.{same_indices, sharing}
 use Rattle.t1_algebra.proofs.Maps.{get-valued}
-use Rattle.t1_algebra.proofs.Sets.{name_same, cases_Option, any_flat_map, cases}
+use Rattle.t1_algebra.proofs.Sets.{name_same, any_flat_map, cases}
 use Rattle.t1_algebra.proofs.JoinedStates.{subr_joined, name_joined, present_joined}
 use Rattle.t1_algebra.proofs.Subsets.{stub_is, same_font, same_encoding, code_joined}
-use Rattle.t1_algebra.proofs.Sums.{total_mapped, names_total}
+use Rattle.t1_algebra.proofs.Sums.{total_kept, total_mapped, names_total}
 use Rattle.t1_algebra.proofs.Tables.{get-numbered, entries-numbered, get-name, Shows, cases_key, codes_shown, shown_agree, agree_shown, shown_joined, to_agree}
 
 -- ---- states that agree
@@ -33,11 +29,6 @@ use Rattle.t1_algebra.proofs.Tables.{get-numbered, entries-numbered, get-name, S
 -- what the state of a name means in a table
 abbrev pub meant : Option (Option (List ℕ)) → State
 meant x = option_map name_meaning x
-
-module _ (x y : Option (Option (List ℕ))) where
-  -- names whose meanings agree have states that agree
-  names_to : PlacesAgree (meant x) (meant y) → Agree x y
-  names_to h = grind (arith, to_agree (meant x) (meant y) h, cases_Option x, cases_Option y, cases_Option {X = List ℕ})
 
 -- ---- what stands at each key
 
@@ -57,9 +48,6 @@ module _ {O : Type 0} (m : Interpreter O) (f : FontValue) where
   get-sought : (n : List ℕ) → maps.get sought n ≡ cond (is_sought m f n) (Some []) None
   get-sought n = get-valued nat_list_cmp_total [] (all_components m f) n ∙ ap (λ b. cond b (Some []) None) (any_flat_map (same_bytes n) (λ n. named_at m f (maps.get f.glyphs n)) (names_in f.glyphs))
 
-  are_sought : AreSought sought
-  are_sought n v is = grind (cases, get-sought n)
-
   -- the table of names has the state of each name
   pub get-names : (n : List ℕ) → maps.get (name_states m f) n ≡ meant (name_state m f n)
   get-names n = grind (cases, get-name f.glyphs sought n, get-sought n)
@@ -70,7 +58,7 @@ module _ {O : Type 0} (m : Interpreter O) (f g : FontValue) where
   -- the states of compatible fonts agree part by part
   pub compatible_agree : Compatible m f g → PartsAgree (states_of m f) (states_of m g)
   compatible_agree c = (
-    shared_from f g (record { shells = c.shells; present = c.present; kinds = c.kinds }),
+    (sharing f g).0 (record { shells = c.shells; present = c.present; kinds = c.kinds }),
     (
       shown_agree _ _ _ _ (codes_shown f.encoding) (codes_shown g.encoding) c.codes,
       (λ n. grind (cases, get-names m f n, get-names m g n, c.names n, same_meaning-self), shown_agree _ _ _ _ (subrs_shown m f) (subrs_shown m g) c.subrs),
@@ -79,12 +67,12 @@ module _ {O : Type 0} (m : Interpreter O) (f g : FontValue) where
 
   -- fonts whose states agree part by part are compatible
   pub agree_compatible : PartsAgree (states_of m f) (states_of m g) → Compatible m f g
-  agree_compatible h = record {
-    shells = (shared_to f g h.0).shells;
-    present = (shared_to f g h.0).present;
-    kinds = (shared_to f g h.0).kinds;
+  agree_compatible h = let shared = (sharing f g).1 h.0 in record {
+    shells = shared.shells;
+    present = shared.present;
+    kinds = shared.kinds;
     subrs = agree_shown _ _ _ _ (subrs_shown m f) (subrs_shown m g) h.1.1.1;
-    names = λ n. names_to (name_state m f n) (name_state m g n) (grind (arith, get-names m f n, get-names m g n, h.1.1.0 n));
+    names = λ n. grind (cases, get-names m f n, get-names m g n, to_agree (maps.get (name_states m f) n) (maps.get (name_states m g) n) (h.1.1.0 n));
     codes = agree_shown _ _ _ _ (codes_shown f.encoding) (codes_shown g.encoding) h.1.0;
   }
 
@@ -102,32 +90,24 @@ module _ {O : Type 0} (m : Interpreter O) (f g : FontValue) where
 
 -- ---- weights
 
--- leaving out entries that weigh nothing changes no sum
-total_kept : {K : Type 0} (w : K → List ℕ → ℕ) (p : K → Bool) (es : List (K × List ℕ)) → AllByRecursion (λ e. p e.0 ≡ false → w e.0 e.1 ≡ 0) es → total w (filter (λ e. p e.0) es) ≡ total w es
-total_kept w p [] h = refl
-total_kept w p (e ∷ es) h = grind (cases, total_kept w p es h.1, h.0)
-
 -- Subrs weigh what as many stubs weigh and what each has beyond a stub
 total_apart : (iv : ℕ) (es : List (ℕ × List ℕ)) → total (subr_weight iv) es ≡ length es * (129 + iv) + total (λ i c. length c - 1) es
 total_apart iv [] = omega arith
 total_apart iv (e ∷ es) = omega (arith, total_apart iv es)
 
 module _ {O : Type 0} (m : Interpreter O) (f : FontValue) where
-  -- an entry whose state is the bottom weighs no more than a stub
-  stub_adds_nothing : (i : ℕ) (c : List ℕ) → maps.get f.subrs i ≡ Some c → is_some (subr_state m f i) ≡ false → length c - 1 ≡ 0
-  stub_adds_nothing i c is h = grind (cases, is, stub_is c)
-
   -- the Subrs of a font weigh as many stubs and what their states add
   subrs_weigh : total (subr_weight f.shell.len_iv) (maps.entries f.subrs) ≡ length (maps.keys f.subrs) * (129 + f.shell.len_iv) + total subr_adds (maps.entries (numbered (used_subrs m f)))
   subrs_weigh =
-      let nothing = total_kept (λ i c. length c - 1) (λ i. is_some (subr_state m f i)) (maps.entries f.subrs) (entries_all nat_cmp_total nat_cmp-IsAntisymmetric (λ i c. is_some (subr_state m f i) ≡ false → length c - 1 ≡ 0) f.subrs stub_adds_nothing) in
+      let nothing = total_kept (λ i c. length c - 1) (λ e. is_some (subr_state m f e.0)) (maps.entries f.subrs)
+      (entries_all nat_cmp_total nat_cmp-IsAntisymmetric (λ i c. not (is_some (subr_state m f i)) ≡ true → length c - 1 ≡ 0) f.subrs (λ i c is h. grind (cases, is, h, stub_is c))) in
       let added = ap (total subr_adds) (entries-numbered (used_subrs m f)) ∙ total_mapped of_number (λ c. c) subr_adds (maps.entries (used_subrs m f))
       ∙ ap (total (λ i c. length c - 1)) (entries-retain nat_cmp_total nat_cmp-IsAntisymmetric f.subrs (λ i. is_some (subr_state m f i))) ∙ nothing in
       total_apart f.shell.len_iv (maps.entries f.subrs) ∙ (λ i. sym (length-map (maps.entries f.subrs) (λ e. e.0)) i * (129 + f.shell.len_iv) + sym added i)
 
   -- sought names add nothing to a sum over names
   in_all : (w : Meaning → Meaning → ℕ) → ((n : Meaning) → w n [] ≡ 0) → total w (maps.entries (name_states m f)) ≡ total (λ n c. w n (name_meaning (Some c))) (maps.entries f.glyphs)
-  in_all w h = names_total f.glyphs (sought m f) (are_sought m f) w h
+  in_all w h = names_total f.glyphs (sought m f) (λ n v is. grind (cases, is, get-sought m f n)) w h
 
   -- the weight of a font's states is the weight of the font
   pub weight_is : states_weight (states_of m f) ≡ weight f
@@ -137,20 +117,19 @@ module _ {O : Type 0} (m : Interpreter O) (f : FontValue) where
   pub glyphs_are : states_glyphs (states_of m f) ≡ maps.len f.glyphs
   glyphs_are = in_all name_counts (λ n. refl) ∙ length_total (maps.entries f.glyphs) ∙ sym (maps.len-entries f.glyphs)
 
-  -- the states of a font within the limits are within them
-  pub fits : IsWithin f → StatesFit (states_of m f)
-  fits w = record { weight = subst (λ n. n ≤ weight_limit) (sym weight_is) w.weight; glyphs = subst (λ n. n ≤ count_limit) (sym glyphs_are) w.glyphs }
-
-  -- a font whose states are within the limits is within them
-  pub within : StatesFit (states_of m f) → IsWithin f
-  within w = record { weight = subst (λ n. n ≤ weight_limit) weight_is w.weight; glyphs = subst (λ n. n ≤ count_limit) glyphs_are w.glyphs }
+  -- a font is within the limits exactly if its states are
+  pub fits : IsWithin f ↔ StatesFit (states_of m f)
+  fits = (
+    λ w. record { weight = subst (λ n. n ≤ weight_limit) (sym weight_is) w.weight; glyphs = subst (λ n. n ≤ count_limit) (sym glyphs_are) w.glyphs },
+    λ w. record { weight = subst (λ n. n ≤ weight_limit) weight_is w.weight; glyphs = subst (λ n. n ≤ count_limit) glyphs_are w.glyphs },
+  )
 
 -- ---- fonts join exactly if their states agree
 
 module _ {O : Type 0} (m : Interpreter O) (f g : FontValue) where
   -- the states of fonts that join have the states of the join for theirs
   pub states_join : Join m f g → StatesJoin (states_of m f) (states_of m g) (states_of m (joined_font m f g))
-  states_join j = (parts_join m f g j.states, inl (fits m (joined_font m f g) j.within))
+  states_join j = (parts_join m f g j.states, inl ((fits m (joined_font m f g)).0 j.within))
 
   -- fonts within the limits join exactly if their states agree
   pub join_exactly : IsWithin f → StatesAgree (states_of m f) (states_of m g) ↔ Join m f g
@@ -160,7 +139,7 @@ module _ {O : Type 0} (m : Interpreter O) (f g : FontValue) where
       to h =
           let c = agree_compatible m f g (parts_laws.only_where _ _ h.0 h.1.0) in
           let same : h.0 ≡ states_of m (joined_font m f g) = parts_laws.one_answer _ _ _ _ h.1.0 (parts_join m f g c) in
-          record { states = c; within = within m (joined_font m f g) (subst StatesFit same (⊎_elim (λ a. a) (λ b. subst StatesFit b.0 (fits m f w)) h.1.1)) }
+          record { states = c; within = (fits m (joined_font m f g)).1 (subst StatesFit same (⊎_elim (λ a. a) (λ b. subst StatesFit b.0 ((fits m f).0 w)) h.1.1)) }
 
 -- ---- joined states
 
@@ -199,20 +178,15 @@ first_fails b h f = (λ t. absurd (true≢false (sym t ∙ f)), λ m. h.1 m.0)
 
 -- ---- a font is determined by its states
 
-module _ {O : Type 0} (m : Interpreter O) where
-  -- a charstring is what stands behind the mark of its name's state
-  pub glyph_known : (f : FontValue) (n : List ℕ) → behind_mark (maps.get (name_part (states_of m f)) n) ≡ maps.get f.glyphs n
-  glyph_known f n = grind (cases, get-names m f n)
+module _ {O : Type 0} (m : Interpreter O) (f g : FontValue) (e : states_of m f ≡ states_of m g) where
+  -- tables that are the same show the same
+  same_shown : (s t : TableMeaning) (x y : ℕ → Option (List ℕ)) → Shows s x → Shows t y → s ≡ t → (i : ℕ) → x i ≡ y i
+  same_shown s t x y shows also e i = grind (arith, shows (of_number i), also (of_number i), e)
 
-  module _ (f g : FontValue) (e : states_of m f ≡ states_of m g) where
-    -- tables that are the same show the same
-    same_shown : (s t : TableMeaning) (x y : ℕ → Option (List ℕ)) → Shows s x → Shows t y → s ≡ t → (i : ℕ) → x i ≡ y i
-    same_shown s t x y shows also e i = grind (arith, shows (of_number i), also (of_number i), e)
-
-    -- fonts with the same states are the same
-    pub font_known : f ≡ g
-    font_known =
-        let shared = shared_to f g (ap (λ (s : StatesValue). s.0) e) in
-        same_font f g shared.shells (same_encoding f.encoding g.encoding (ap (λ (s : StatesValue). s.0.1.0) e) (same_shown _ _ _ _ (codes_shown f.encoding) (codes_shown g.encoding) (ap code_part e)))
-        (λ i. grind (cases, same_shown _ _ _ _ (subrs_shown m f) (subrs_shown m g) (ap subr_part e) i, shared.present i, stub_is))
-        (λ n. sym (glyph_known f n) ∙ ap (λ (t : TableMeaning). behind_mark (maps.get t n)) (ap name_part e) ∙ glyph_known g n)
+  -- fonts with the same states are the same
+  pub font_known : f ≡ g
+  font_known =
+      let shared = (sharing f g).1 (ap (λ (s : StatesValue). s.0) e) in
+      same_font f g shared.shells (same_encoding f.encoding g.encoding (ap (λ (s : StatesValue). s.0.1.0) e) (same_shown _ _ _ _ (codes_shown f.encoding) (codes_shown g.encoding) (ap code_part e)))
+      (λ i. grind (cases, same_shown _ _ _ _ (subrs_shown m f) (subrs_shown m g) (ap subr_part e) i, shared.present i, stub_is))
+      (λ n. grind (cases, get-names m f n, get-names m g n, ap (λ (t : TableMeaning). maps.get t n) (ap name_part e)))

@@ -1,7 +1,5 @@
 -- Subsets and joins of fonts are fonts, and subsets of one font join in any order and grouping.
-use Rattle.std.proofs.Common.{◌≡◌, ℕ, ◌||◌, List, [], ◌∷◌, refl, sym, ◌∙◌, ap, inl, inr, IsPermutation, ◌≤◌, subst}
-use Rattle.std.specs.List.{list_any}
-use Rattle.std.specs.Cmp.Lexicographic.{nat_list_cmp_total}
+use Rattle.std.proofs.Common.{◌≡◌, ℕ, ◌||◌, List, [], ◌∷◌, refl, sym, ◌∙◌, ap, IsPermutation, ◌≤◌, subst}
 use Rattle.std.proofs.lemmas.List.Folds.{list_any-append}
 use Rattle.std.proofs.lemmas.List.Sorted.{list_any-IsPermutation}
 use Rattle.std.specs.FinSet as sets
@@ -9,12 +7,12 @@ use Rattle.t1_join.specs.Groupings.{Grouping, one, two, map_grouping, EachLeaf, 
 use Rattle.t1_font.specs.FontValue.{FontValue, name_cmp, weight_limit, weight}
 use Rattle.t1_font.specs.IsFont.{IsFont}
 use Rattle.t1_font.proofs.Kept.{restrict_is_font, join_is_font}
-use Rattle.t1_algebra.specs.Interpreter.{Interpreter, Names}
 use Rattle.t1_algebra.specs.Keep.{subset, keep, kept}
 use Rattle.t1_algebra.specs.Laws.{IsOf}
 use Rattle.t1_algebra.specs.Groupings.{union_all, Merges}
 use Rattle.t1_algebra.specs.States.{IsWithin, Join, joined_font}
-use Rattle.t1_algebra.proofs.Sets.{name_same, in_union, cases}
+use Rattle.t1_algebra.proofs.Words.{list_any, nat_list_cmp_total, Interpreter, Names}
+use Rattle.t1_algebra.proofs.Sets.{name_same, cases}
 use Rattle.t1_algebra.proofs.Subsets.{join_is_subset, subsets_join}
 use Rattle.t1_algebra.proofs.Kept.{keep_closed}
 use Rattle.t1_algebra.proofs.Orders.{any_order, one_result, join_back, each_weaker}
@@ -39,11 +37,10 @@ in_union_all (a ∷ rest) n = sets.contains-union nat_list_cmp_total a (union_al
 pub all_alike : (all : List Names) (t : Grouping Names) → IsPermutation all (leaves t) → all_of t ≡ union_all all
 all_alike all t p = sets.same_set nat_list_cmp_total name_same _ _ (λ n. in_all_of t n ∙ sym (list_any-IsPermutation (λ s. sets.contains s n) all (leaves t) p) ∙ sym (in_union_all all n))
 
-module _ {O : Type 0} (m : Interpreter O) (f : FontValue) (h : IsFont f) where
-  -- the union of sets of the font's names is a set of its names
-  pub all_is_of : (t : Grouping Names) → EachLeaf (IsOf f) t → IsOf f (all_of t)
-  all_is_of (one a) i n w = i n w
-  all_is_of (two s t) i n w = elim (in_union nat_list_cmp_total name_same (all_of s) (all_of t) n w) [ inl x ↦ all_is_of s i.0 n x | inr y ↦ all_is_of t i.1 n y ]
+-- the union of sets of the font's names is a set of its names
+pub all_is_of : (f : FontValue) (t : Grouping Names) → EachLeaf (IsOf f) t → IsOf f (all_of t)
+all_is_of f (one a) i n w = i n w
+all_is_of f (two s t) i n w = grind (cases, w, sets.contains-union nat_list_cmp_total (all_of s) (all_of t) n, all_is_of f s i.0 n, all_is_of f t i.1 n)
 
 -- a font is within the limits
 pub font_within : (f : FontValue) → IsFont f → IsWithin f
@@ -77,7 +74,7 @@ module _ {O : Type 0} (m : Interpreter O) where
   pub tree_merges : (f : FontValue) (h : IsFont f) (t : Grouping Names) → EachLeaf (IsOf f) t → Merges m (map_grouping (subset m f) t) (subset m f (all_of t))
   tree_merges f h (one a) i = refl
   tree_merges f h (two s t) i =
-      let both = two_subsets f h (all_of s) (all_of t) (all_is_of m f h s i.0) (all_is_of m f h t i.1) in
+      let both = two_subsets f h (all_of s) (all_of t) (all_is_of f s i.0) (all_is_of f t i.1) in
       (subset m f (all_of s), subset m f (all_of t), tree_merges f h s i.0, tree_merges f h t i.1, (both.0, both.1))
 
   -- subsets of a font merge in any order and grouping to the subset over all the sets of names

@@ -1,9 +1,8 @@
 -- The written subsets of a font, read and merged in any order and grouping, come to the subset over all names.
-use Rattle.std.proofs.Common.{◌≡◌, List, sym, ◌∙◌, ap, subst, Result, Ok, IsPermutation}
+use Rattle.std.proofs.Common.{◌≡◌, List, sym, ◌∙◌, ap, subst, Ok, IsPermutation}
 use Rattle.t1_bytes.specs.declared.form.Form.{Form}
 use Rattle.t1_bytes.specs.declared.form.Form.TheVariants.{Pfa, Pfb}
 use Rattle.t1_join.specs.Groupings.{EachLeaf, leaves}
-use Rattle.t1_font.specs.declared.fault.ReadFault.{ReadFault}
 use Rattle.t1_font.specs.FontValue.{FontValue}
 use Rattle.t1_font.specs.Canon.{canon}
 use Rattle.t1_font.specs.IsFont.{IsFont}
@@ -20,10 +19,6 @@ use Rattle.t1_algebra.specs.Headline.{Making, Subset, Merge, Again, sets_of, For
 use Rattle.t1_algebra.proofs.Fonts.{subset_is_font, two_subsets, all_of, all_is_of, all_alike}
 use Rattle.t1_algebra.proofs.Drawings.{subset_alike}
 
--- a file is read as one font only
-one_read : (x y : FontValue) → ◌≡◌ {A = Result FontValue ReadFault} (Ok x) (Ok y) → x ≡ y
-one_read x y e = cc
-
 module _ (f : FontValue) (h : IsFont f) where
   -- a subset has the head of its font, so it fits the same forms
   subset_fits : (form : Form) (a : Names) → Fits form f → Fits form (subset profile f a)
@@ -38,20 +33,21 @@ module _ (f : FontValue) (h : IsFont f) where
   makes : (m : Making) → EachLeaf (IsOf f) (sets_of m) → FormsFit f m → Makes f m (subset profile f (all_of (sets_of m)))
   makes (Subset a form) i k = subset_again a form i k
   makes (Merge s t) i k =
-      let both = two_subsets profile f h (all_of (sets_of s)) (all_of (sets_of t)) (all_is_of profile f h (sets_of s) i.0) (all_is_of profile f h (sets_of t) i.1) in
+      let both = two_subsets profile f h (all_of (sets_of s)) (all_of (sets_of t)) (all_is_of f (sets_of s) i.0) (all_is_of f (sets_of t) i.1) in
       (subset profile f (all_of (sets_of s)), subset profile f (all_of (sets_of t)), makes s i.0 k.0, makes t i.1 k.1, (both.0, both.1))
-  makes (Again form s) i k = (subset profile f (all_of (sets_of s)), makes s i k.1, subset_again (all_of (sets_of s)) form (all_is_of profile f h (sets_of s) i) k.0)
+  makes (Again form s) i k = (subset profile f (all_of (sets_of s)), makes s i k.1, subset_again (all_of (sets_of s)) form (all_is_of f (sets_of s) i) k.0)
 
   -- a making comes to no other font
   makes_one : (m : Making) → EachLeaf (IsOf f) (sets_of m) → FormsFit f m → (j : FontValue) → Makes f m j → j ≡ subset profile f (all_of (sets_of m))
-  makes_one (Subset a form) i k j d = one_read j (subset profile f a) (sym d ∙ subset_again a form i k)
+  makes_one (Subset a form) i k j d = let same = sym d ∙ subset_again a form i k in cc
   makes_one (Merge s t) i k j d =
       let left = makes_one s i.0 k.0 d.0 d.2 in
       let right = makes_one t i.1 k.1 d.1 d.3 in
-      sym d.4.1 ∙ (λ x. joined_font profile (left x) (right x)) ∙ (two_subsets profile f h (all_of (sets_of s)) (all_of (sets_of t)) (all_is_of profile f h (sets_of s) i.0) (all_is_of profile f h (sets_of t) i.1)).1
+      sym d.4.1 ∙ (λ x. joined_font profile (left x) (right x)) ∙ (two_subsets profile f h (all_of (sets_of s)) (all_of (sets_of t)) (all_is_of f (sets_of s) i.0) (all_is_of f (sets_of t) i.1)).1
   makes_one (Again form s) i k j d =
       let on_the_way = makes_one s i k.1 d.0 d.1 in
-      one_read j (subset profile f (all_of (sets_of s))) (sym d.2 ∙ ap (λ (p : FontValue). read_font (canon p form)) on_the_way ∙ subset_again (all_of (sets_of s)) form (all_is_of profile f h (sets_of s) i) k.0)
+      let same = sym d.2 ∙ ap (λ (p : FontValue). read_font (canon p form)) on_the_way ∙ subset_again (all_of (sets_of s)) form (all_is_of f (sets_of s) i) k.0 in
+      cc
 
   -- a making from sets in any order comes to the subset over all of them
   pub comes_to_subset : (all : List Names) (m : Making) → IsPermutation all (leaves (sets_of m)) → EachLeaf (IsOf f) (sets_of m) → FormsFit f m → ComesToSubset f m (union_all all)
@@ -61,5 +57,5 @@ module _ (f : FontValue) (h : IsFont f) where
       record {
         succeeds = subst (λ (a : Names). Makes f m (subset profile f a)) same (makes m i k);
         bytes = λ j form d. ap (λ (g : FontValue). canon g form) (one j d);
-        draws = λ j n d w. subst (λ (g : FontValue). DrawsAlike f g n) (sym (one j d)) (subset_alike f h (union_all all) (subst (IsOf f) same (all_is_of profile f h (sets_of m) i)) n w);
+        draws = λ j n d w. subst (λ (g : FontValue). DrawsAlike f g n) (sym (one j d)) (subset_alike f h (union_all all) (subst (IsOf f) same (all_is_of f (sets_of m) i)) n w);
       }

@@ -1,18 +1,15 @@
 -- The states and the entries of a join are those of its fonts, and the glyphs of each font run in it as before.
 use Rattle.std.proofs.Common.{◌≡◌, ℕ, true, ◌||◌, List, refl, sym, ◌∙◌, ap, Some}
-use Rattle.std.specs.Cmp.{nat_cmp_total}
-use Rattle.std.specs.FinSet.{nat_cmp-IsAntisymmetric}
 use Rattle.std.specs.FinSet as sets
 use Rattle.std.specs.FinMap as maps
-use Rattle.t1_font.specs.Joins.{join_encodings, joined_subr, join_parts}
-use Rattle.t1_font.specs.FontValue.{FontValue, Encoding}
-use Rattle.t1_font.specs.WriteLaws.{SameKind}
+use Rattle.t1_font.specs.Joins.{joined_subr, join_parts}
+use Rattle.t1_font.specs.FontValue.{FontValue}
 use Rattle.t1_font.proofs.MapLemmas.{get-map_values}
-use Rattle.t1_algebra.specs.Interpreter.{Interpreter}
 use Rattle.t1_algebra.specs.States.{executes, calls_for, Agree, joined, is_called, is_sought, subr_state, name_state, code_state, joined_font, Compatible}
 use Rattle.t1_algebra.specs.JoinedEntries.{EntriesJoin}
-use Rattle.t1_algebra.proofs.Maps.{agree_back, joined_back}
-use Rattle.t1_algebra.proofs.Uses.{some_joined, executing_there, naming_there, calls_it}
+use Rattle.t1_algebra.proofs.Words.{nat_cmp_total, nat_cmp-IsAntisymmetric, Interpreter}
+use Rattle.t1_algebra.proofs.Maps.{agree_back}
+use Rattle.t1_algebra.proofs.Uses.{some_joined, executing_there, naming_there, called}
 use Rattle.t1_algebra.proofs.Sets.{cases}
 use Rattle.t1_algebra.proofs.Subsets.{same_font, stub_is, same_encoding, code_joined, subr_in_join, glyph_in_join}
 
@@ -29,19 +26,16 @@ compatible_back m f g c = record {
   codes = λ k. agree_back (code_state f.encoding k) (code_state g.encoding k) (c.codes k);
 }
 
--- two Encodings that agree join to the same in both orders
-encodings_back : (d e : Encoding) → SameKind d e → SameKind e d → ((c : ℕ) → Agree (code_state d c) (code_state e c)) → join_encodings d e ≡ join_encodings e d
-encodings_back d e h k a = same_encoding _ _ (grind (cases, h)) (λ c. grind (cases, code_joined d e h c, code_joined e d k c, a c))
-
 -- the charstrings of each name agree in compatible fonts
 pub glyph_agree : {O : Type 0} (m : Interpreter O) (f g : FontValue) → Compatible m f g → (n : List ℕ) → Agree (maps.get f.glyphs n) (maps.get g.glyphs n)
 glyph_agree m f g c n = grind (cases, c.names n)
 
 -- compatible fonts join to the same font in both orders
 pub font_back : {O : Type 0} (m : Interpreter O) (f g : FontValue) → Compatible m f g → joined_font m f g ≡ joined_font m g f
-font_back m f g c = same_font (joined_font m f g) (joined_font m g f) c.shells (encodings_back f.encoding g.encoding c.kinds (compatible_back m f g c).kinds c.codes)
+font_back m f g c = same_font (joined_font m f g) (joined_font m g f) c.shells
+    (same_encoding _ _ (grind (cases, c.kinds)) (λ k. grind (cases, code_joined f.encoding g.encoding c.kinds k, code_joined g.encoding f.encoding (compatible_back m f g c).kinds k, c.codes k)))
     (λ i. grind (cases, subr_in_join m f g i, subr_in_join m g f i, c.present i, c.subrs i))
-    (λ n. glyph_in_join m f g n ∙ joined_back (maps.get f.glyphs n) (maps.get g.glyphs n) (glyph_agree m f g c n) ∙ sym (glyph_in_join m g f n))
+    (λ n. grind (cases, glyph_in_join m f g n, glyph_in_join m g f n, glyph_agree m f g c n))
 
 -- ---- the left side runs as before
 
@@ -50,9 +44,13 @@ module _ {O : Type 0} (m : Interpreter O) (f g : FontValue) where
   pub left_glyph : (n c : List ℕ) → maps.get f.glyphs n ≡ Some c → maps.get (joined_font m f g).glyphs n ≡ Some c
   left_glyph n c h = glyph_in_join m f g n ∙ ap (λ x. joined x (maps.get g.glyphs n)) h
 
+  -- the join has entries at the indices of the first font
+  pub present_joined : (i : ℕ) → maps.contains_key (joined_font m f g).subrs i ≡ maps.contains_key f.subrs i
+  present_joined i = grind (cases, subr_in_join m f g i)
+
   -- the Subrs that a glyph of the first font executes are in the join as before
   pub left_subrs : (n c : List ℕ) → maps.get f.glyphs n ≡ Some c → (i : ℕ) → sets.contains (m.exec f.subrs c) i ≡ true → maps.get (joined_font m f g).subrs i ≡ maps.get f.subrs i
-  left_subrs n c is i h = grind (cases, subr_in_join m f g i, calls_it m f n c i is h)
+  left_subrs n c is i h = grind (cases, subr_in_join m f g i, called m f i n, is, h)
 
   -- a glyph of the first font runs in the join as before
   pub left_runs : (n c : List ℕ) → maps.get f.glyphs n ≡ Some c
@@ -96,13 +94,8 @@ module _ {O : Type 0} (m : Interpreter O) (f g : FontValue) (c : Compatible m f 
   pub name_joined : (n : List ℕ) → name_state m whole n ≡ joined (name_state m f n) (name_state m g n)
   name_joined n = grind (cases, glyph_in_join m f g n, sought_in_join n, c.names n)
 
--- the join has entries at the indices of the first font
-pub present_joined : {O : Type 0} (m : Interpreter O) (f g : FontValue) (i : ℕ) → maps.contains_key (joined_font m f g).subrs i ≡ maps.contains_key f.subrs i
-present_joined m f g i = grind (cases, subr_in_join m f g i)
+  -- ---- the entries of a join
 
--- ---- the entries of a join
-
-module _ {O : Type 0} (m : Interpreter O) (f g : FontValue) (c : Compatible m f g) where
   -- the joined font is the font of the entries of both
   pub joined_are_entries : joined_font m f g ≡ join_parts f g
   joined_are_entries = same_font (joined_font m f g) (join_parts f g) refl refl

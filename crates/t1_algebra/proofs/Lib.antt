@@ -1,3 +1,4 @@
+pub mod Words
 pub mod Sets
 pub mod Kept
 pub mod Maps

@@ -1,31 +1,33 @@
 -- Merges from left to right, merges of subsets of one font, and how the glyphs of many fonts draw.
-use Rattle.std.proofs.Common.{◌≡◌, inl, inr, List, [], ◌∷◌, ◌++◌, map, refl, sym, ◌∙◌, ap, subst, IsPermutation, ◌<◌, ℕ, true, length, arith, is_some}
-use Rattle.std.specs.List.{AllByRecursion}
-use Rattle.std.specs.FinSet as sets
-use Rattle.std.specs.Cmp.Lexicographic.{nat_list_cmp_total}
+use Rattle.std.proofs.Common.{◌≡◌, List, [], ◌∷◌, ◌++◌, map, refl, sym, ◌∙◌, ap, subst, IsPermutation, ◌<◌, ℕ, true, length, arith, is_some}
 use Rattle.std.proofs.lemmas.List.Sorted.{IsPermutation-refl, length_permutation}
 use Rattle.std.proofs.lemmas.List.{length-append}
+use Rattle.std.specs.FinSet as sets
 use Rattle.t1_join.proofs.OrderLemmas.{leaves_from_left, all_of_both, each_leaf}
 use Rattle.t1_join.specs.Groupings.{Grouping, one, two, EachLeaf, map_grouping, from_left, leaves}
 use Rattle.t1_font.specs.FontValue.{FontValue, name_cmp}
 use Rattle.t1_font.specs.IsFont.{IsFont}
-use Rattle.t1_algebra.specs.Interpreter.{Names}
 use Rattle.t1_algebra.specs.Keep.{subset, has}
 use Rattle.t1_algebra.specs.Profile.{profile}
 use Rattle.t1_algebra.specs.Laws.{IsOf, DrawsAlike}
 use Rattle.t1_algebra.specs.Groupings.{Merges, union_all}
 use Rattle.t1_algebra.specs.Merges.{DrawsAll}
+use Rattle.t1_algebra.proofs.Words.{AllByRecursion, nat_list_cmp_total, Names}
 use Rattle.t1_algebra.proofs.Fonts.{many_subsets}
-use Rattle.t1_algebra.proofs.Orders.{one_result}
-use Rattle.t1_algebra.proofs.Sets.{in_union, clash, name_same}
+use Rattle.t1_algebra.proofs.Orders.{one_result, all_weaker}
+use Rattle.t1_algebra.proofs.Sets.{cases}
 use Rattle.t1_algebra.proofs.Drawings.{left_alike, right_alike}
 
 -- ---- from left to right
 
+-- a list of fonts merged from left to right may be merged in two parts
+pub left_append : {X : Type 0} (t : Grouping X) (xs ys : List X) → from_left t (xs ++ ys) ≡ from_left (from_left t xs) ys
+left_append t [] ys = refl
+left_append t (x ∷ xs) ys = left_append (two t (one x)) xs ys
+
 -- the last font of a list is merged last
 pub left_snoc : {X : Type 0} (t : Grouping X) (xs : List X) (x : X) → from_left t (xs ++ x ∷ []) ≡ two (from_left t xs) (one x)
-left_snoc t [] x = refl
-left_snoc t (y ∷ ys) x = left_snoc (two t (one y)) ys x
+left_snoc t xs x = left_append t xs (x ∷ [])
 
 -- merges from left to right of the images of a list
 left_map : {X Y : Type 0} (g : X → Y) (t : Grouping X) (xs : List X) → map_grouping g (from_left t xs) ≡ from_left (map_grouping g t) (map g xs)
@@ -35,11 +37,6 @@ left_map g t (x ∷ xs) = left_map g (two t (one x)) xs
 -- what holds of each element of a list holds at each leaf
 left_each : {X : Type 0} (P : X → Type 0) (x : X) (xs : List X) → AllByRecursion P (x ∷ xs) → EachLeaf P (from_left (one x) xs)
 left_each P x xs h = each_leaf P (from_left (one x) xs) (subst (AllByRecursion P) (sym (leaves_from_left (one x) xs)) h)
-
--- a list of fonts merged from left to right may be merged in two parts
-pub left_append : {X : Type 0} (t : Grouping X) (xs ys : List X) → from_left t (xs ++ ys) ≡ from_left (from_left t xs) ys
-left_append t [] ys = refl
-left_append t (x ∷ xs) ys = left_append (two t (one x)) xs ys
 
 -- if merges that go on from a grouping come to a font, so does the grouping
 pub inner : (t : Grouping FontValue) (xs : List FontValue) (j : FontValue) → Merges profile (from_left t xs) j → (p : FontValue) × Merges profile t p
@@ -88,8 +85,8 @@ all_before P (w ∷ xs) x ys h = let r = all_before P xs x ys h.1 in ((h.0, r.0)
 module _ (f : FontValue) (w : IsFont f) where
   -- names of sets of the font's names are names of the font
   pub all_of_font : (a : Names) (more : List Names) → AllByRecursion (IsOf f) (a ∷ more) → IsOf f (union_all (a ∷ more))
-  all_of_font a [] h n k = elim (in_union nat_list_cmp_total name_same a sets.empty n k) [ inl x ↦ h.0 n x | inr x ↦ clash (sets.contains {R = name_cmp} sets.empty n) x (sets.contains-empty name_cmp n) ]
-  all_of_font a (b ∷ more) h n k = elim (in_union nat_list_cmp_total name_same a (union_all (b ∷ more)) n k) [ inl x ↦ h.0 n x | inr x ↦ all_of_font b more h.1 n x ]
+  all_of_font a [] h n k = grind (cases, k, sets.contains-union nat_list_cmp_total a sets.empty n, sets.contains-empty name_cmp n, h.0 n)
+  all_of_font a (b ∷ more) h n k = grind (cases, k, sets.contains-union nat_list_cmp_total a (union_all (b ∷ more)) n, h.0 n, all_of_font b more h.1 n)
 
   -- subsets of a font merge from left to right to the subset over all the sets
   pub all_merge : (a : Names) (more : List Names) → AllByRecursion (IsOf f) (a ∷ more) → Merges profile (from_left (one (subset profile f a)) (map (subset profile f) more)) (subset profile f (union_all (a ∷ more)))
@@ -117,20 +114,13 @@ alike_trans f p j n a b = record {
 abbrev pub Draws : FontValue → FontValue → Type 0
 Draws j f = (n : List ℕ) → has f n ≡ true → DrawsAlike f j n
 
-draws_self : (f : FontValue) → Draws f f
-draws_self f n h = record { charstring = refl; answer = λ c is. refl; answer3 = λ c is. refl; executes = λ c is. refl; draws = refl; draws3 = refl }
-
-draws_on : (f p j : FontValue) → Draws p f → Draws j p → Draws j f
-draws_on f p j a b n h = alike_trans f p j n (a n h) (b n (ap is_some (a n h).charstring ∙ h))
-
 -- if each glyph of some fonts draws alike in p, and those of p in j, they draw alike in j
 all_on : (p j : FontValue) → Draws j p → (fs : List FontValue) → AllByRecursion (Draws p) fs → AllByRecursion (Draws j) fs
-all_on p j b [] h = tt
-all_on p j b (f ∷ fs) h = (draws_on f p j h.0 b, all_on p j b fs h.1)
+all_on p j b = all_weaker (Draws p) (Draws j) (λ f a n h. alike_trans f p j n (a n h) (b n (ap is_some (a n h).charstring ∙ h)))
 
 -- each glyph of fonts draws in what they merge to as it did
 pub all_draw : (t : Grouping FontValue) (j : FontValue) → Merges profile t j → DrawsAll (leaves t) j
-all_draw (one f) j m = (subst (λ (j : FontValue). Draws j f) m (draws_self f), tt)
+all_draw (one f) j m = (subst (λ (j : FontValue). Draws j f) m (λ n h. record { charstring = refl; answer = λ c is. refl; answer3 = λ c is. refl; executes = λ c is. refl; draws = refl; draws3 = refl }), tt)
 all_draw (two s t) j m =
     let l : Draws j m.0 = subst (λ (j : FontValue). Draws j m.0) m.4.1 (left_alike m.0 m.1 m.4.0.states) in
     let r : Draws j m.1 = subst (λ (j : FontValue). Draws j m.1) m.4.1 (right_alike m.0 m.1 m.4.0.states) in

@@ -1,24 +1,16 @@
 -- The join of flat states, and what a merged map has at a key.
 use Rattle.std.proofs.Common.{◌≡◌, ℕ, ◌||◌, refl, arith, Option, Some, None, option_map, Ordering, cond, List, [], ◌∷◌, map, ◌∙◌}
-use Rattle.std.specs.Cmp.{IsTotalOrder}
 use Rattle.std.specs.FinMap as maps
-use Rattle.std.specs.FinSet.{IsAntisymmetric}
-use Rattle.std.specs.List.{list_any}
-use Rattle.std.specs.Ordering.{eq_by_cmp}
 use Rattle.t1_font.specs.Maps.{merged}
 use Rattle.t1_font.proofs.MapLemmas as cuts
 use Rattle.t1_algebra.specs.Conflicts.{keys_of_both}
 use Rattle.t1_algebra.specs.States.{Agree, joined}
+use Rattle.t1_algebra.proofs.Words.{list_any, eq_by_cmp, IsTotalOrder, IsAntisymmetric}
 use Rattle.t1_algebra.proofs.Sets.{cases}
 
-module _ {V : Type 0} (x y : Option V) where
-  -- states agree in both orders
-  pub agree_back : Agree x y → Agree y x
-  agree_back h = grind cases
-
-  -- states that agree join to the same in both orders
-  pub joined_back : Agree x y → joined x y ≡ joined y x
-  joined_back h = grind cases
+-- states agree in both orders
+pub agree_back : {V : Type 0} (x y : Option V) → Agree x y → Agree y x
+agree_back x y h = grind cases
 
 module _ {K : Type 0} {R : K → K → Ordering} (o : IsTotalOrder R) (same : IsAntisymmetric R) {X : Type 0} where
   -- a merged map has the join of the values at each key

@@ -1,21 +1,25 @@
 -- Fonts from anywhere join to the same in every order and grouping, since their states do.
 use Rattle.std.proofs.Common.{◌≡◌, List, [], ◌∷◌, refl, sym, ◌∙◌, ap, subst, IsPermutation}
-use Rattle.std.specs.List.{AllByRecursion}
 use Rattle.t1_join.specs.Groupings.{Grouping, one, two, leaves, map_grouping, EachLeaf, from_left, Gives}
-use Rattle.t1_join.proofs.OrderLemmas.{below_trans, below_left, below_right, below_both, gives_one, same_given, moved_images, same_leaves, leaves_from_left, all_leaves}
+use Rattle.t1_join.proofs.OrderLemmas.{below_trans, below_left, below_right, below_both, gives_one, same_given, moved_images, same_leaves, leaves_from_left, all_leaves, each_leaf}
 use Rattle.t1_font.specs.FontValue.{FontValue}
-use Rattle.t1_algebra.specs.Interpreter.{Interpreter}
 use Rattle.t1_algebra.specs.States.{IsWithin, joined_font, Compatible, Join}
 use Rattle.t1_algebra.specs.StateTables.{StatesValue, StatesJoin, states_of}
 use Rattle.t1_algebra.specs.StateLaws.{parts_laws, parts_by_pairs, falls, states_laws}
-use Rattle.t1_algebra.specs.Groupings.{Merges, folded, EachPair}
+use Rattle.t1_algebra.specs.Groupings.{JoinTo, Merges, folded, EachPair}
+use Rattle.t1_algebra.proofs.Words.{AllByRecursion, Interpreter}
 use Rattle.t1_algebra.proofs.JoinedStates.{font_back, compatible_back}
-use Rattle.t1_algebra.proofs.FontStates.{agree_compatible, compatible_agree, parts_join, states_join, join_exactly, fits, font_known, within as fonts_fit}
+use Rattle.t1_algebra.proofs.FontStates.{agree_compatible, compatible_agree, parts_join, states_join, join_exactly, fits, font_known}
 
--- what follows from what holds at each leaf holds at each leaf
-pub each_weaker : {X : Type 0} (P Q : X → Type 0) → ((x : X) → P x → Q x) → (t : Grouping X) → EachLeaf P t → EachLeaf Q t
-each_weaker P Q w (one x) h = w x h
-each_weaker P Q w (two s t) h = (each_weaker P Q w s h.0, each_weaker P Q w t h.1)
+module _ {X : Type 0} (P Q : X → Type 0) (weaker : (x : X) → P x → Q x) where
+  -- what follows from what holds of each element of a list holds of each
+  pub all_weaker : (xs : List X) → AllByRecursion P xs → AllByRecursion Q xs
+  all_weaker [] h = tt
+  all_weaker (x ∷ xs) h = (weaker x h.0, all_weaker xs h.1)
+
+  -- what follows from what holds at each leaf holds at each leaf
+  pub each_weaker : (t : Grouping X) → EachLeaf P t → EachLeaf Q t
+  each_weaker t h = each_leaf Q t (all_weaker (leaves t) (all_leaves P t h))
 
 module _ {O : Type 0} (m : Interpreter O) where
   -- the states of fonts in the grouping of the fonts
@@ -32,10 +36,14 @@ module _ {O : Type 0} (m : Interpreter O) where
       let j = (join_exactly m p.0 q.0 p.3).0 (v, k) in
       (joined_font m p.0 q.0, (p.0, q.0, p.1, q.1, (j, refl)), states_laws.one_answer _ _ _ _ k (states_join m p.0 q.0 j), j.within)
 
+  -- the states of two fonts join to those of their join
+  join_states : (f g j : FontValue) → JoinTo m f g j → StatesJoin (states_of m f) (states_of m g) (states_of m j)
+  join_states f g j h = subst (λ (j : FontValue). StatesJoin (states_of m f) (states_of m g) (states_of m j)) h.1 (states_join m f g h.0)
+
   -- if fonts merge, their states join to those of the font
   pub states_by_merges : (t : Grouping FontValue) (j : FontValue) → Merges m t j → Gives StatesJoin (grouped t) (states_of m j)
   states_by_merges (one f) j h = ap (states_of m) h
-  states_by_merges (two s t) j h = (states_of m h.0, states_of m h.1, states_by_merges s h.0 h.2, states_by_merges t h.1 h.3, subst (λ (j : FontValue). StatesJoin (states_of m h.0) (states_of m h.1) (states_of m j)) h.4.1 (states_join m h.0 h.1 h.4.0))
+  states_by_merges (two s t) j h = (states_of m h.0, states_of m h.1, states_by_merges s h.0 h.2, states_by_merges t h.1 h.3, join_states h.0 h.1 j h.4)
 
   -- what fonts within the limits merge to is within them
   pub within : (t : Grouping FontValue) (j : FontValue) → Merges m t j → EachLeaf IsWithin t → IsWithin j
@@ -75,22 +83,14 @@ module _ {O : Type 0} (m : Interpreter O) where
   abbrev pub Below : FontValue → FontValue → Type 0
   Below j f = StatesJoin (states_of m f) (states_of m j) (states_of m j)
 
-  -- the states of two fonts join to those of their join
-  below_join : (f g j : FontValue) → Join m f g → joined_font m f g ≡ j → StatesJoin (states_of m f) (states_of m g) (states_of m j)
-  below_join f g j h e = subst (λ (j : FontValue). StatesJoin (states_of m f) (states_of m g) (states_of m j)) e (states_join m f g h)
-
   -- the states of fonts are among those of the font that they merge to
   pub above : (t : Grouping FontValue) (j : FontValue) → Merges m t j → EachLeaf (Below j) t
   above (one f) j h = subst (λ (j : FontValue). Below j f) h (states_laws.idempotent (states_of m f))
   above (two s t) j h =
-      let k = below_join h.0 h.1 j h.4.0 h.4.1 in (
+      let k = join_states h.0 h.1 j h.4 in (
         each_weaker (Below h.0) (Below j) (λ f b. below_trans states_laws _ _ _ b (below_left states_laws _ _ _ k)) s (above s h.0 h.2),
         each_weaker (Below h.1) (Below j) (λ f b. below_trans states_laws _ _ _ b (below_right states_laws _ _ _ k)) t (above t h.1 h.3),
       )
-
-  -- fonts whose states are among those of one font are compatible
-  bounded : (j f g : FontValue) → Below j f → Below j g → Compatible m f g
-  bounded j f g a b = let r = below_both states_laws _ _ _ a b in agree_compatible m f g (parts_laws.only_where _ _ _ r.1.0)
 
   -- ---- each pair
 
@@ -107,7 +107,7 @@ module _ {O : Type 0} (m : Interpreter O) where
   first_within f [] a p w = w
   first_within f (g ∷ gs) a p w =
       let j = joined_font m f g in
-      fonts_fit m f (falls _ _ _ (parts_join m f g a.0) (fits m j (first_within j gs (all_with_join f g gs a.0 a.1 p.0) p.1 w)))
+      (fits m f).1 (falls _ _ _ (parts_join m f g a.0) ((fits m j).0 (first_within j gs (all_with_join f g gs a.0 a.1 p.0) p.1 w)))
 
   -- fonts of which each two are compatible merge from left to right, if the last join is within the limits
   folds : (t : Grouping FontValue) (f : FontValue) (gs : List FontValue) → Merges m t f → AllByRecursion (Compatible m f) gs → EachPair m gs → IsWithin (folded m f gs) → Merges m (from_left t gs) (folded m f gs)
@@ -121,15 +121,13 @@ module _ {O : Type 0} (m : Interpreter O) where
   pub accepted_from_pairs : (f : FontValue) (fs : List FontValue) → EachPair m (f ∷ fs) → IsWithin (folded m f fs) → Merges m (from_left (one f) fs) (folded m f fs)
   accepted_from_pairs f fs p w = folds (one f) f fs refl p.0 p.1 w
 
-  -- a font below j is compatible with all fonts below j
-  one_with_all : (f j : FontValue) (gs : List FontValue) → Below j f → AllByRecursion (Below j) gs → AllByRecursion (Compatible m f) gs
-  one_with_all f j [] b a = tt
-  one_with_all f j (g ∷ gs) b a = (bounded j f g b a.0, one_with_all f j gs b a.1)
-
   -- each two fonts below j are compatible
   pairs_below : (j : FontValue) (fs : List FontValue) → AllByRecursion (Below j) fs → EachPair m fs
   pairs_below j [] a = tt
-  pairs_below j (f ∷ fs) a = (one_with_all f j fs a.0 a.1, pairs_below j fs a.1)
+  pairs_below j (f ∷ fs) a = (
+    all_weaker (Below j) (Compatible m f) (λ g b. let r = below_both states_laws _ _ _ a.0 b in agree_compatible m f g (parts_laws.only_where _ _ _ r.1.0)) fs a.1,
+    pairs_below j fs a.1,
+  )
 
   -- each two fonts of a list that merges are compatible
   pub pairs_from_accepted : (f : FontValue) (fs : List FontValue) (j : FontValue) → Merges m (from_left (one f) fs) j → EachPair m (f ∷ fs)

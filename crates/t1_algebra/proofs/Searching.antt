@@ -1,19 +1,13 @@
 -- Searches: what they find, and when they find nothing.
-use Rattle.std.proofs.Common.{subst, ◌≡◌, ℕ, Bool, true, false, cond, ◌||◌, List, [], ◌∷◌, map, refl, sym, ◌∙◌, ap, true≢false, inl, inr, Ordering, Less, Option, Some, None, is_lt, rules, T}
-use Rattle.std.proofs.lemmas.Bool.{or_right, or_cases}
-use Rattle.std.specs.List.{list_any, AllByRecursion}
-use Rattle.std.specs.Ordering.{eq_by_cmp}
-use Rattle.std.specs.Cmp.{IsTotalOrder, first_so, second_so}
-use Rattle.std.specs.FinSet.{IsAntisymmetric}
-use Rattle.std.specs.FinMap as maps
+use Rattle.std.proofs.Common.{◌≡◌, ℕ, Bool, true, false, cond, List, [], ◌∷◌, map, refl, sym, ◌∙◌, ap, true≢false, Ordering, Less, Option, Some, None}
+use Rattle.std.proofs.lemmas.Bool.{or_right}
 use Rattle.std.specs.FinMap.Entries.{below_all, is_sorted}
+use Rattle.std.specs.FinMap as maps
 use Rattle.t1_join.proofs.Sorted.{lt_is}
 use Rattle.t1_font.proofs.MapLemmas.{T_true}
 use Rattle.t1_algebra.specs.Searches.{first_where, members, smallest, found}
+use Rattle.t1_algebra.proofs.Words.{list_any, AllByRecursion, eq_by_cmp, IsTotalOrder, first_so, second_so, IsAntisymmetric}
 use Rattle.t1_algebra.proofs.Sets.{tied, itself, cases}
-
-pub or_swap : (a b : Bool) → (a || b) ≡ (b || a)
-or_swap a b = search rules
 
 module _ {X : Type 0} (p : X → Bool) where
   -- if a search finds nothing, no element passes
@@ -31,24 +25,15 @@ module _ {X : Type 0} (p : X → Bool) where
   passes_none [] h = refl
   passes_none (x ∷ xs) h = ap (λ b. cond b (Some x) (first_where p xs)) (h x) ∙ passes_none xs h
 
-module _ {X Y : Type 0} (f : X → Y) (x : Option X) (e : Option Y) where
-  -- if nothing is found of two things, neither is there
-  pub found_none : found f x e ≡ None → (x ≡ None) × (e ≡ None)
-  found_none h = grind cases
-
-  -- if neither of two things is there, nothing is found
-  pub none_found : x ≡ None → e ≡ None → found f x e ≡ None
-  none_found h k = cc
+-- if nothing is found of two things, neither is there
+pub found_none : {X Y : Type 0} (f : X → Y) (x : Option X) (e : Option Y) → found f x e ≡ None → (x ≡ None) × (e ≡ None)
+found_none f x e h = grind cases
 
 module _ {K : Type 0} {R : K → K → Ordering} (o : IsTotalOrder R) (same : IsAntisymmetric R) (p : K → Bool) where
-  -- no key of a list passes of which none passes
-  none_at : (q : K) (ks : List K) → AllByRecursion (λ k. p k ≡ false) ks → list_any (eq_by_cmp R q) ks ≡ true → p q ≡ false
-  none_at q [] all h = absurd (true≢false (sym h))
-  none_at q (k ∷ ks) all h = grind (cases, tied o same q k, none_at q ks all.1)
-
   -- if a search among keys finds nothing, no key passes
   pub none_at_all : (ks : List K) (q : K) → first_where p ks ≡ None → list_any (eq_by_cmp R q) ks ≡ true → p q ≡ false
-  none_at_all ks q h k = none_at q ks (none_passes p ks h) k
+  none_at_all [] q h k = absurd (true≢false (sym k))
+  none_at_all (j ∷ ks) q h k = grind (cases, tied o same q j, none_at_all ks q)
 
   -- if there is no smallest key that passes, no key of the set passes
   pub smallest_none : (s : maps.FinMap R ℕ) (q : K) → smallest p s ≡ None → maps.contains_key s q ≡ true → p q ≡ false
@@ -57,10 +42,7 @@ module _ {K : Type 0} {R : K → K → Ordering} (o : IsTotalOrder R) (same : Is
   -- a key is below the keys that come later
   pub below_later : {X : Type 0} (k q : K) (es : List (K × X)) → below_all R k es ≡ true → list_any (eq_by_cmp R q) (map (λ e. e.0) es) ≡ true → R k q ≡ Less
   below_later k q [] b h = absurd (true≢false (sym h))
-  below_later k q (e ∷ es) b h = elim (or_cases (eq_by_cmp R q e.0) _ h) [
-    | inl a ↦ ap (R k) (tied o same q e.0 a) ∙ lt_is (R k e.0) (subst T (sym (first_so _ _ b)) tt)
-    | inr c ↦ below_later k q es (second_so (is_lt (R k e.0)) _ b) c
-  ]
+  below_later k q (e ∷ es) b h = grind (cases, b, h, tied o same q e.0, lt_is (R k e.0), below_later k q es)
 
   -- the first key that passes is one that passes, below which none does
   first_is : {X : Type 0} (k : K) (es : List (K × X)) → is_sorted R es ≡ true → list_any (eq_by_cmp R k) (map (λ e. e.0) es) ≡ true → p k ≡ true

@@ -1,16 +1,14 @@
 -- Members of lists and of finite sets.
-use Rattle.std.proofs.Common.{◌≡◌, ℕ, Bool, true, false, ◌||◌, List, [], ◌∷◌, ◌++◌, map, refl, sym, ◌∙◌, ap, true≢false, ◌⊎◌, inl, inr, filter, Ordering, flat_map, arith, Option, Some, None}
-use Rattle.std.specs.List.{list_any, list_all}
-use Rattle.std.specs.Ordering.{eq_by_cmp}
-use Rattle.std.specs.Cmp.{IsTotalOrder, Equal-is, both_ways, first_so, second_so, tied_itself}
-use Rattle.std.specs.Cmp.Lexicographic.{nat_list_cmp_total}
-use Rattle.std.specs.FinSet as sets
-use Rattle.std.specs.FinSet.{FinSet, IsAntisymmetric, nat_cmp-IsAntisymmetric, slice_cmp-IsAntisymmetric}
+use Rattle.std.proofs.Common.{◌≡◌, ℕ, Bool, true, false, ◌||◌, ◌&&◌, List, [], ◌∷◌, ◌++◌, map, refl, sym, ◌∙◌, ap, true≢false, ◌⊎◌, ◌↔◌, inl, inr, filter, Ordering, flat_map, arith, Option, Some, None}
+use Rattle.std.specs.Cmp.{Equal-is, both_ways, tied_itself}
+use Rattle.std.specs.FinSet.{FinSet, slice_cmp-IsAntisymmetric}
 use Rattle.std.proofs.lemmas.Bool.{and_from, or_left, or_right, or_cases, cases_Bool}
 use Rattle.std.proofs.lemmas.List.Folds.{list_all-append, list_all-map, list_any-append}
+use Rattle.std.proofs.lemmas.Map.Views.{any-filter_same}
+use Rattle.std.specs.FinSet as sets
 use Rattle.t1_font.specs.FontValue.{name_cmp, Encoding, Word, Codes, Numbered}
-use Rattle.t1_algebra.specs.Interpreter.{Names}
 use Rattle.t1_algebra.specs.Keep.{sets_of}
+use Rattle.t1_algebra.proofs.Words.{list_any, list_all, eq_by_cmp, IsTotalOrder, first_so, second_so, nat_list_cmp_total, IsAntisymmetric, nat_cmp-IsAntisymmetric, Names}
 
 -- ---- tests and options
 
@@ -90,27 +88,19 @@ module _ {K : Type 0} {R : K → K → Ordering} (o : IsTotalOrder R) (same : Is
   all_from p [] each = refl
   all_from p (k ∷ ks) each = and_from _ _ (each k (or_left _ _ (itself k))) (all_from p ks (λ q h. each q (or_right _ _ h)))
 
+  -- a key is left of a list if it passes and was in the list
+  pub any_filtered : (p : K → Bool) (q : K) (ks : List K) → list_any (eq_by_cmp R q) (filter p ks) ≡ (p q && list_any (eq_by_cmp R q) ks)
+  any_filtered p q ks = any-filter_same (eq_by_cmp R q) p (p q) (λ k t. ap p (sym (tied q k t))) ks
+
   -- what is left of a list was in it and passes
   pub any_filter : (p : K → Bool) (q : K) (ks : List K) → list_any (eq_by_cmp R q) (filter p ks) ≡ true → (list_any (eq_by_cmp R q) ks ≡ true) × (p q ≡ true)
-  any_filter p q [] h = absurd (true≢false (sym h))
-  any_filter p q (k ∷ ks) h = grind (cases, tied q k, any_filter p q ks)
-
-  -- what is in a list and passes is left
-  pub any_filter_from : (p : K → Bool) (q : K) (ks : List K) → list_any (eq_by_cmp R q) ks ≡ true → p q ≡ true → list_any (eq_by_cmp R q) (filter p ks) ≡ true
-  any_filter_from p q [] h is = h
-  any_filter_from p q (k ∷ ks) h is = grind (cases, tied q k, any_filter_from p q ks)
+  any_filter p q ks h = grind (cases, h, any_filtered p q ks)
 
   -- ---- sets
 
   -- sets with the same members are the same
   pub same_members : (s t : FinSet R) → ((q : K) → sets.contains s q ≡ true → sets.contains t q ≡ true) → ((q : K) → sets.contains t q ≡ true → sets.contains s q ≡ true) → s ≡ t
   same_members s t f g = sets.same_set o same s t (λ q. both_ways _ _ (f q) (g q))
-
-  pub in_union_left : (s t : FinSet R) (q : K) → sets.contains s q ≡ true → sets.contains (sets.union s t) q ≡ true
-  in_union_left s t q h = sets.contains-union o s t q ∙ or_left _ _ h
-
-  pub in_union_right : (s t : FinSet R) (q : K) → sets.contains t q ≡ true → sets.contains (sets.union s t) q ≡ true
-  in_union_right s t q h = sets.contains-union o s t q ∙ or_right _ _ h
 
   pub in_union : (s t : FinSet R) (q : K) → sets.contains (sets.union s t) q ≡ true → (sets.contains s q ≡ true) ⊎ (sets.contains t q ≡ true)
   in_union s t q h = or_cases _ _ (sym (sets.contains-union o s t q) ∙ h)
@@ -122,6 +112,10 @@ module _ {K : Type 0} {R : K → K → Ordering} (o : IsTotalOrder R) (same : Is
   -- what is in a list is a member of its set
   pub from_in_list : (ks : List K) (q : K) → list_any (eq_by_cmp R q) ks ≡ true → sets.contains (sets.from_list {R = R} ks) q ≡ true
   from_in_list ks q h = sets.contains-from_list o ks q ∙ h
+
+  -- a member of the set of what is left of a list passes and was in the list
+  pub contains-filter : (p : K → Bool) (ks : List K) (q : K) → sets.contains (sets.from_list {R = R} (filter p ks)) q ≡ (p q && list_any (eq_by_cmp R q) ks)
+  contains-filter p ks q = sets.contains-from_list o (filter p ks) q ∙ any_filtered p q ks
 
   pub in_items : (s : FinSet R) (q : K) → sets.contains s q ≡ true → list_any (eq_by_cmp R q) (sets.items s) ≡ true
   in_items s q h = sym (sets.contains-items s q) ∙ h
@@ -145,27 +139,23 @@ name_same = slice_cmp-IsAntisymmetric nat_cmp-IsAntisymmetric
 
 -- ---- all sets of some names
 
--- each name of the set is in the list
-abbrev pub Within : Names → List (List ℕ) → Type 0
-Within s ns = (q : List ℕ) → sets.contains s q ≡ true → list_any (eq_by_cmp name_cmp q) ns ≡ true
-
--- a test that all sets of some of the names pass holds of any set within them
-pub each_set : (ns : List (List ℕ)) (p : Names → Bool) → list_all p (sets_of ns) ≡ true → (s : Names) → Within s ns → p s ≡ true
-each_set [] p all s w = ap p (sets.same_set nat_list_cmp_total name_same s sets.empty (λ q. grind (cases, w q, sets.contains-empty name_cmp q))) ∙ first_so (p sets.empty) true all
-each_set (n ∷ ns) p all s w =
-    let both = sym (list_all-append p (sets_of ns) (map (λ t. sets.insert t n) (sets_of ns))) ∙ all in
-    elim (cases_Bool (sets.contains s n)) [
-      | inr out ↦ each_set ns p (first_so (list_all p (sets_of ns)) _ both) s (λ q h. grind (cases, w q h, tied nat_list_cmp_total name_same q n))
-      | inl is ↦
-          ap p (sets.same_set nat_list_cmp_total name_same s (sets.insert (sets.remove s n) n) (λ q.
-          grind (cases, sets.contains-insert nat_list_cmp_total (sets.remove s n) n q, sets.contains-remove nat_list_cmp_total s n q, tied nat_list_cmp_total name_same q n)))
-          ∙ each_set ns (λ t. p (sets.insert t n)) (sym (list_all-map p (λ t. sets.insert t n) (sets_of ns)) ∙ second_so (list_all p (sets_of ns)) _ both) (sets.remove s n)
-          (λ q h. grind (cases, w q, sets.contains-remove nat_list_cmp_total s n q))
-    ]
-
--- a test that holds of any set within some names is passed by all sets of them
-pub all_sets : (ns : List (List ℕ)) (p : Names → Bool) → ((s : Names) → Within s ns → p s ≡ true) → list_all p (sets_of ns) ≡ true
-all_sets [] p each = and_from (p sets.empty) true (each sets.empty (λ q h. clash (sets.contains {R = name_cmp} sets.empty q) h (sets.contains-empty name_cmp q))) refl
-all_sets (n ∷ ns) p each =
-    list_all-append p (sets_of ns) (map (λ t. sets.insert t n) (sets_of ns)) ∙ and_from _ _ (all_sets ns p (λ s w. each s (λ q h. or_right _ _ (w q h))))
-    (list_all-map p (λ t. sets.insert t n) (sets_of ns) ∙ all_sets ns (λ t. p (sets.insert t n)) (λ s w. each (sets.insert s n) (λ q h. grind (cases, w q, sets.contains-insert nat_list_cmp_total s n q))))
+-- all sets of some names pass a test exactly if each set of these names does
+pub each_set : (ns : List (List ℕ)) (p : Names → Bool) → (list_all p (sets_of ns) ≡ true) ↔ ((s : Names) → ((q : List ℕ) → sets.contains s q ≡ true → list_any (eq_by_cmp name_cmp q) ns ≡ true) → p s ≡ true)
+each_set [] p = (
+  λ all s w. ap p (sets.same_set nat_list_cmp_total name_same s sets.empty (λ q. grind (cases, w q, sets.contains-empty name_cmp q))) ∙ first_so (p sets.empty) true all,
+  λ each. and_from (p sets.empty) true (each sets.empty (λ q h. clash (sets.contains {R = name_cmp} sets.empty q) h (sets.contains-empty name_cmp q))) refl,
+)
+each_set (n ∷ ns) p =
+    let both = list_all-append p (sets_of ns) (map (λ t. sets.insert t n) (sets_of ns)) in
+    let new = list_all-map p (λ t. sets.insert t n) (sets_of ns) in (
+      λ all s w. elim (cases_Bool (sets.contains s n)) [
+        | inr out ↦ (each_set ns p).0 (first_so (list_all p (sets_of ns)) _ (sym both ∙ all)) s (λ q h. grind (cases, w q h, tied nat_list_cmp_total name_same q n))
+        | inl is ↦
+            ap p (sets.same_set nat_list_cmp_total name_same s (sets.insert (sets.remove s n) n) (λ q.
+            grind (cases, sets.contains-insert nat_list_cmp_total (sets.remove s n) n q, sets.contains-remove nat_list_cmp_total s n q, tied nat_list_cmp_total name_same q n)))
+            ∙ (each_set ns (λ t. p (sets.insert t n))).0 (sym new ∙ second_so (list_all p (sets_of ns)) _ (sym both ∙ all)) (sets.remove s n)
+            (λ q h. grind (cases, w q, sets.contains-remove nat_list_cmp_total s n q))
+      ],
+      λ each. both ∙ and_from _ _ ((each_set ns p).1 (λ s w. each s (λ q h. or_right _ _ (w q h))))
+          (new ∙ (each_set ns (λ t. p (sets.insert t n))).1 (λ s w. each (sets.insert s n) (λ q h. grind (cases, w q, sets.contains-insert nat_list_cmp_total s n q)))),
+    )

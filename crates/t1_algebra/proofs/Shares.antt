@@ -1,19 +1,15 @@
 -- Fonts share what they have to exactly if no part differs, and the first part that differs is the same in both orders.
-use Rattle.std.proofs.Common.{◌≡◌, ◌↔◌, option_map, ℕ, Bool, true, not, List, [], ◌∷◌, map, refl, sym, ◌∙◌, ap, true≢false, Option, Some, None, is_some, nat_cmp, arith}
-use Rattle.std.specs.List.{list_any}
-use Rattle.std.specs.Ordering.{eq_by_cmp}
-use Rattle.std.specs.FinMap as maps
-use Rattle.std.specs.Cmp.{nat_cmp_total}
-use Rattle.std.specs.Cmp.Lexicographic.{nat_list_cmp_total}
-use Rattle.std.specs.FinSet.{nat_cmp-IsAntisymmetric}
+use Rattle.std.proofs.Common.{◌≡◌, ◌↔◌, option_map, ℕ, Bool, true, not, map, sym, ◌∙◌, ap, true≢false, Option, Some, None, is_some, nat_cmp, arith}
 use Rattle.std.proofs.lemmas.Bool.{not-false, and_parts}
+use Rattle.std.proofs.lemmas.Simd.{map-map}
+use Rattle.std.specs.FinMap as maps
 use Rattle.t1_font.specs.FontValue.{FontValue, SubrsShell, Numbered, declared_count}
 use Rattle.t1_font.specs.FontModel.{word_of}
 use Rattle.t1_font.specs.Maps.{map_values}
 use Rattle.t1_font.specs.WriteLaws.{SameKind}
 use Rattle.t1_font.proofs.MapLemmas.{Some_None, get-map_values, entries-map_values}
-use Rattle.t1_algebra.specs.Interpreter.{same_bytes}
 use Rattle.t1_algebra.specs.Shared.{Shared, shared_of, ShellPart, all_parts, same_number, same_bool, same_word, same_words, same_part, differing_part}
+use Rattle.t1_algebra.proofs.Words.{list_any, eq_by_cmp, nat_cmp_total, nat_list_cmp_total, nat_cmp-IsAntisymmetric, same_bytes}
 use Rattle.t1_algebra.proofs.Searching.{none_passes}
 use Rattle.t1_algebra.proofs.Sets.{name_same, tied, itself, cases}
 
@@ -71,12 +67,8 @@ pub record Shares (f g : FontValue) : Type 0 where
   pub present : (i : ℕ) → maps.contains_key f.subrs i ≡ maps.contains_key g.subrs i
   pub kinds : SameKind f.encoding g.encoding
 
-keys_valued : (es : List (ℕ × List ℕ)) → map (λ (e : ℕ × List ℕ). e.0) es ≡ map (λ (e : ℕ × ℕ). e.0) (map (λ (e : ℕ × List ℕ). (e.0, 0)) es)
-keys_valued [] = refl
-keys_valued (e ∷ es) = ap (λ (ns : List ℕ). e.0 ∷ ns) (keys_valued es)
-
 keys_of : (m : Numbered) → maps.keys m ≡ maps.keys {X = ℕ} (map_values (λ i c. 0) m)
-keys_of m = keys_valued (maps.entries m) ∙ ap (map (λ e. e.0)) (sym (entries-map_values nat_cmp_total nat_cmp-IsAntisymmetric (λ i c. 0) m))
+keys_of m = sym (ap (map (λ e. e.0)) (entries-map_values nat_cmp_total nat_cmp-IsAntisymmetric (λ i c. 0) m) ∙ map-map (λ e. e.0) (λ e. (e.0, 0)) (maps.entries m))
 
 -- maps that are present at the same indices have the same keys
 pub same_indices : (m n : Numbered) → ((i : ℕ) → maps.contains_key m i ≡ maps.contains_key n i) → maps.keys m ≡ maps.keys n
@@ -85,19 +77,16 @@ same_indices m n h = keys_of m
     grind (cases, h i, get-map_values nat_cmp_total nat_cmp-IsAntisymmetric {Y = ℕ} (λ i c. 0) m i, get-map_values nat_cmp_total nat_cmp-IsAntisymmetric {Y = ℕ} (λ i c. 0) n i)))
     ∙ sym (keys_of n)
 
--- fonts that share what they have to have the same shared value
-pub shared_from : (f g : FontValue) → Shares f g → shared_of f ≡ shared_of g
-shared_from f g c =
-    let words : word_of f.encoding ≡ word_of g.encoding = grind (cases, c.kinds) in
-    λ i. (c.shells i, (words i, same_indices f.subrs g.subrs c.present i))
-
--- fonts with the same shared value share what they have to
-pub shared_to : (f g : FontValue) → shared_of f ≡ shared_of g → Shares f g
-shared_to f g h = record {
-  shells = ap (λ s. s.0) h;
-  present = λ i. maps.contains_key-keys f.subrs i ∙ ap (λ (s : Shared). list_any (eq_by_cmp nat_cmp i) s.1.1) h ∙ sym (maps.contains_key-keys g.subrs i);
-  kinds = grind (cases, ap (λ (s : Shared). s.1.0) h);
-}
+-- fonts share what they have to exactly if they have the same shared value
+pub sharing : (f g : FontValue) → Shares f g ↔ (shared_of f ≡ shared_of g)
+sharing f g = (
+  λ c. let words : word_of f.encoding ≡ word_of g.encoding = grind (cases, c.kinds) in λ i. (c.shells i, (words i, same_indices f.subrs g.subrs c.present i)),
+  λ h. record {
+    shells = ap (λ s. s.0) h;
+    present = λ i. maps.contains_key-keys f.subrs i ∙ ap (λ (s : Shared). list_any (eq_by_cmp nat_cmp i) s.1.1) h ∙ sym (maps.contains_key-keys g.subrs i);
+    kinds = grind (cases, ap (λ (s : Shared). s.1.0) h);
+  },
+)
 
 -- no part differs exactly if all is the same
 pub parts_test : {X : Type 0} (part : X → ShellPart) (s t : Shared) (r : Option X) (b : Bool) → is_some r ≡ not b → option_map part r ≡ differing_part s t → (b ≡ true) ↔ (s ≡ t)

@@ -1,11 +1,7 @@
 -- The states of a subset of a font, and the join of two subsets: the subset over both sets of names.
-use Rattle.std.proofs.Common.{◌≡◌, ℕ, ◌≤◌, Bool, true, false, cond, not, ◌&&◌, List, [], refl, sym, ◌∙◌, ap, subst, Option, Some, None, option_map, unwrap_or, arith, le_trans}
-use Rattle.std.specs.List.{list_any}
-use Rattle.std.specs.Cmp.{nat_cmp_total}
-use Rattle.std.specs.Cmp.Lexicographic.{nat_list_cmp_total}
-use Rattle.std.specs.FinSet.{nat_cmp-IsAntisymmetric}
+use Rattle.std.proofs.Common.{◌≡◌, ℕ, ◌≤◌, Bool, true, false, cond, List, [], get_or, refl, sym, ◌∙◌, ap, subst, Some, None, option_map, unwrap_or, arith, le_trans}
 use Rattle.std.proofs.lemmas.Slice.Eq.{bytes_eq-Decides}
-use Rattle.std.proofs.lemmas.Bool.{false_from_ne_true}
+use Rattle.std.proofs.lemmas.List.Folds.{list_any_none}
 use Rattle.std.specs.FinSet as sets
 use Rattle.std.specs.FinMap as maps
 use Rattle.t1_font.specs.Cut.{stub, restrict, restrict_encoding}
@@ -14,13 +10,13 @@ use Rattle.t1_font.proofs.Kept.{restrict_light, cut_had}
 use Rattle.t1_font.proofs.MapLemmas.{get-map_values, get-retain, total-le, length_total, Some_same, Some_None}
 use Rattle.t1_font.specs.Joins.{join_encodings}
 use Rattle.t1_font.specs.WriteLaws.{SameKind}
-use Rattle.t1_font.specs.FontModel.{word_of}
-use Rattle.t1_algebra.specs.Interpreter.{Interpreter, Names, same_bytes}
-use Rattle.t1_algebra.specs.Keep.{keep, kept, components, has, subset}
-use Rattle.t1_algebra.specs.States.{Agree, joined, is_called, is_sought, subr_state, is_stub, IsWithin, code_state, joined_font, Compatible, Join}
-use Rattle.t1_algebra.proofs.Kept.{InFont, keep_closed, kept_call, component_here_from, keep_union, kept_union}
-use Rattle.t1_algebra.proofs.Uses.{caller, seeker}
-use Rattle.t1_algebra.proofs.Sets.{clash, name_same, cases}
+use Rattle.t1_font.specs.FontModel.{word_of, names_in}
+use Rattle.t1_algebra.specs.Keep.{keep, kept, has, subset}
+use Rattle.t1_algebra.specs.Laws.{IsOf}
+use Rattle.t1_algebra.specs.States.{joined, executes, calls_for, is_called, is_sought, state_of_entry, subr_state, is_stub, IsWithin, code_state, joined_font, Compatible, Join}
+use Rattle.t1_algebra.proofs.Words.{nat_cmp_total, nat_list_cmp_total, nat_cmp-IsAntisymmetric, Interpreter, Names}
+use Rattle.t1_algebra.proofs.Kept.{keep_part, kept_call, keep_union, kept_union}
+use Rattle.t1_algebra.proofs.Sets.{name_same, cases}
 use Rattle.t1_algebra.proofs.Maps.{get-merged}
 
 -- ---- stubs and entries
@@ -28,10 +24,6 @@ use Rattle.t1_algebra.proofs.Maps.{get-merged}
 -- what passes the test of stubs is the stub
 pub stub_is : (c : List ℕ) → is_stub c ≡ true → c ≡ stub
 stub_is c h = (bytes_eq-Decides c stub).0 h
-
--- what passes a test and has a value had the value before
-pub cond_some : {X : Type 0} (b : Bool) (x : Option X) (c : X) → cond b x None ≡ Some c → (b ≡ true) × (x ≡ Some c)
-cond_some b x c h = grind cases
 
 -- fonts with equal shells and Encodings and with the same Subrs and glyphs are equal
 pub same_font : (f g : FontValue) → f.shell ≡ g.shell → f.encoding ≡ g.encoding → ((i : ℕ) → maps.get f.subrs i ≡ maps.get g.subrs i) → ((n : List ℕ) → maps.get f.glyphs n ≡ maps.get g.glyphs n) → f ≡ g
@@ -56,7 +48,7 @@ pub get-code : (p : List ℕ → Bool) (e : Encoding) (c : ℕ) → code_state (
 get-code p (Word w) c = grind cases
 get-code p (Codes t) c = get-retain nat_cmp_total nat_cmp-IsAntisymmetric t (λ c. p (unwrap_or (maps.get t c) [])) c
 
-module _ {O : Type 0} (m : Interpreter O) (f : FontValue) (base : has f notdef ≡ true) (a : Names) (inside : InFont m f a) where
+module _ {O : Type 0} (m : Interpreter O) (f : FontValue) (a : Names) where
   -- an index of a subset has its entry if that is kept, else a stub
   pub get-subr : (i : ℕ) → maps.get (subset m f a).subrs i ≡ option_map (λ c. cond (sets.contains (kept m f a) i) c stub) (maps.get f.subrs i)
   get-subr i = get-map_values nat_cmp_total nat_cmp-IsAntisymmetric (λ i c. cond (sets.contains (kept m f a) i) c stub) f.subrs i
@@ -65,16 +57,10 @@ module _ {O : Type 0} (m : Interpreter O) (f : FontValue) (base : has f notdef �
   pub get-glyph : (n : List ℕ) → maps.get (subset m f a).glyphs n ≡ cond (sets.contains (keep m f a) n) (maps.get f.glyphs n) None
   get-glyph n = get-retain nat_list_cmp_total name_same f.glyphs (sets.contains (keep m f a)) n
 
-  -- a glyph of a subset is a kept glyph of the font
-  pub kept_glyph : (n c : List ℕ) → maps.get (subset m f a).glyphs n ≡ Some c → (sets.contains (keep m f a) n ≡ true) × (maps.get f.glyphs n ≡ Some c)
-  kept_glyph n c h = cond_some (sets.contains (keep m f a) n) (maps.get f.glyphs n) c (sym (get-glyph n) ∙ h)
-
   -- the Subrs that a kept glyph executes are as in the font
   pub subrs_alike : (n c : List ℕ) → sets.contains (keep m f a) n ≡ true → maps.get f.glyphs n ≡ Some c → (i : ℕ) → sets.contains (m.exec f.subrs c) i ≡ true
       → maps.get (subset m f a).subrs i ≡ maps.get f.subrs i
-  subrs_alike n c k is i h =
-      let stays = kept_call m f a i n k (ap (λ x. sets.contains (m.exec f.subrs (unwrap_or x [])) i) is ∙ h) in
-      grind (cases, get-subr i, stays)
+  subrs_alike n c k is i h = grind (cases, get-subr i, kept_call m f a i n k, is, h)
 
   -- a kept glyph runs as it does in the font
   pub runs_alike : (n c : List ℕ) → sets.contains (keep m f a) n ≡ true → maps.get f.glyphs n ≡ Some c
@@ -84,37 +70,23 @@ module _ {O : Type 0} (m : Interpreter O) (f : FontValue) (base : has f notdef �
   -- ---- the bottom
 
   -- no glyph of a subset executes a Subr that is not kept
-  pub not_called : (i : ℕ) → sets.contains (kept m f a) i ≡ false → is_called m (subset m f a) i ≡ false
-  not_called i out = false_from_ne_true (is_called m (subset m f a) i) (λ h.
-      let r = caller m (subset m f a) i h in
-      let g = kept_glyph r.0 r.1 r.2 in
-      clash (sets.contains (kept m f a) i)
-      (kept_call m f a i r.0 g.0 (ap (λ x. sets.contains (m.exec f.subrs (unwrap_or x [])) i) g.1 ∙ ap (λ s. sets.contains s i) (sym (runs_alike r.0 r.1 g.0 g.1).1) ∙ r.3)) out)
+  not_called : (i : ℕ) → sets.contains (kept m f a) i ≡ false → is_called m (subset m f a) i ≡ false
+  not_called i out = list_any_none (λ n. executes m (subset m f a) n i) (names_in (subset m f a).glyphs) (λ k d l.
+      let n = get_or (names_in (subset m f a).glyphs) k d in
+      grind (cases, get-glyph n, runs_alike n, kept_call m f a i n, out))
 
   -- no glyph of a subset seeks a name of the font that is not kept
-  pub not_sought : (n : List ℕ) → has f n ≡ true → sets.contains (keep m f a) n ≡ false → is_sought m (subset m f a) n ≡ false
-  not_sought n is out = false_from_ne_true (is_sought m (subset m f a) n) (λ h.
-      let r = seeker m (subset m f a) n h in
-      let g = kept_glyph r.0 r.1 r.2 in
-      clash (sets.contains (keep m f a) n)
-      ((keep_closed m f a base inside).components r.0 n g.0 (component_here_from m f r.0 n
-      (ap (λ x. list_any (same_bytes n) (components m f.subrs (unwrap_or x []))) g.1 ∙ ap (λ d. list_any (same_bytes n) (m.names d)) (sym (runs_alike r.0 r.1 g.0 g.1).0) ∙ r.3) is)) out)
+  not_sought : has f notdef ≡ true → IsOf f a → (p : List ℕ) → has f p ≡ true → sets.contains (keep m f a) p ≡ false → is_sought m (subset m f a) p ≡ false
+  not_sought base inside p is out = list_any_none (λ n. calls_for m (subset m f a) n p) (names_in (subset m f a).glyphs) (λ k d l.
+      let n = get_or (names_in (subset m f a).glyphs) k d in
+      grind (cases, get-glyph n, runs_alike n, λ (c : List ℕ). keep_part m f a base inside n c p, is, out))
 
-  -- the state of a Subr that is not kept is the bottom
-  pub bottom : (i : ℕ) → sets.contains (kept m f a) i ≡ false → subr_state m (subset m f a) i ≡ None
-  bottom i out = grind (cases, get-subr i, not_called i out)
+  -- the state of a Subr in a subset: the bottom if it is not kept
+  subr_state_is : (i : ℕ) → subr_state m (subset m f a) i ≡ cond (sets.contains (kept m f a) i) (state_of_entry m (subset m f a) i (maps.get f.subrs i)) None
+  subr_state_is i = grind (cases, get-subr i, not_called i)
 
-  -- a name that a subset seeks and lacks is lacking in the font
-  pub sought_lacks : (n : List ℕ) → has (subset m f a) n ≡ false → is_sought m (subset m f a) n ≡ true → has f n ≡ false
-  sought_lacks n lacks s = grind (cases, get-glyph n, not_sought n)
+  -- ---- limits
 
-  -- the state of an entry in a subset
-  pub subr_state_of : (i : ℕ) (c : List ℕ) → maps.get f.subrs i ≡ Some c → subr_state m (subset m f a) i ≡ cond (sets.contains (kept m f a) i && not (is_stub c && not (is_called m (subset m f a) i))) (Some c) None
-  subr_state_of i c is = grind (cases, get-subr i, is, not_called i)
-
--- ---- limits
-
-module _ {O : Type 0} (m : Interpreter O) (f : FontValue) (a : Names) where
   -- a subset weighs no more than the font
   pub subset_weight : weight (subset m f a) ≤ weight f
   subset_weight = restrict_light (sets.contains (keep m f a)) (sets.contains (kept m f a)) f
@@ -123,6 +95,15 @@ module _ {O : Type 0} (m : Interpreter O) (f : FontValue) (a : Names) where
   pub subset_glyphs : maps.len (subset m f a).glyphs ≤ maps.len f.glyphs
   subset_glyphs = rw (maps.len-entries, maps.len-entries, ← length_total, ← length_total) (total-le nat_list_cmp_total name_same (λ k x. 1) (λ k x. 1) (subset m f a).glyphs f.glyphs
       (λ n v h. (v, cut_had nat_list_cmp_total name_same f.glyphs (sets.contains (keep m f a)) n v h, omega arith)))
+
+module _ {O : Type 0} (m : Interpreter O) (f : FontValue) (base : has f notdef ≡ true) (a : Names) (inside : IsOf f a) where
+  -- the state of a Subr that is not kept is the bottom
+  pub bottom : (i : ℕ) → sets.contains (kept m f a) i ≡ false → subr_state m (subset m f a) i ≡ None
+  bottom i out = grind (cases, subr_state_is m f a i, out)
+
+  -- a name that a subset seeks and lacks is lacking in the font
+  pub sought_lacks : (n : List ℕ) → has (subset m f a) n ≡ false → is_sought m (subset m f a) n ≡ true → has f n ≡ false
+  sought_lacks n lacks s = grind (cases, get-glyph m f a n, not_sought m f a base inside n)
 
 -- ---- two cuts
 
@@ -138,57 +119,38 @@ module _ (k l : Names) (e : Encoding) where
       grind (cases, code_joined _ _ encodings_kind c, cut k, cut l, cut (sets.union k l), sets.contains-union nat_list_cmp_total k l (unwrap_or (code_state e c) [])))
 
 module _ {O : Type 0} (m : Interpreter O) (f g : FontValue) where
-  -- the entry of a Subr in the join
-  abbrev pub entry : ℕ → List ℕ
-  entry i = unwrap_or (joined (subr_state m f i) (subr_state m g i)) stub
-
-  -- the join has its entry at each index of the first font
-  pub subr_in_join : (i : ℕ) → maps.get (joined_font m f g).subrs i ≡ option_map (λ v. entry i) (maps.get f.subrs i)
-  subr_in_join i = get-map_values nat_cmp_total nat_cmp-IsAntisymmetric (λ i v. entry i) f.subrs i
+  -- the join has the joined state at each index of the first font, or a stub for the bottom
+  pub subr_in_join : (i : ℕ) → maps.get (joined_font m f g).subrs i ≡ option_map (λ v. unwrap_or (joined (subr_state m f i) (subr_state m g i)) stub) (maps.get f.subrs i)
+  subr_in_join i = get-map_values nat_cmp_total nat_cmp-IsAntisymmetric (λ i v. unwrap_or (joined (subr_state m f i) (subr_state m g i)) stub) f.subrs i
 
   -- the join has the charstring of either font at each name
   pub glyph_in_join : (n : List ℕ) → maps.get (joined_font m f g).glyphs n ≡ joined (maps.get f.glyphs n) (maps.get g.glyphs n)
   glyph_in_join n = get-merged nat_list_cmp_total name_same f.glyphs g.glyphs n
 
-module _ {O : Type 0} (m : Interpreter O) (f : FontValue) (base : has f notdef ≡ true) (a b : Names) (ia : InFont m f a) (ib : InFont m f b) where
-  -- the states of each index agree in two subsets
-  subrs_agree : (i : ℕ) (x : Option (List ℕ)) → maps.get f.subrs i ≡ x → Agree (subr_state m (subset m f a) i) (subr_state m (subset m f b) i)
-  subrs_agree i None h = grind (arith, h, get-subr m f base a ia i, get-subr m f base b ib i)
-  subrs_agree i (Some c) h = grind (cases, subr_state_of m f base a ia i c h, subr_state_of m f base b ib i c h)
-
-  -- ---- the joined font
-
-  -- the joined font has the entry of each Subr that either subset keeps, and a stub for the others
-  subr_join : (i : ℕ) (x : Option (List ℕ)) → maps.get f.subrs i ≡ x → maps.get (joined_font m (subset m f a) (subset m f b)).subrs i ≡ option_map (λ c. cond (sets.contains (sets.union (kept m f a) (kept m f b)) i) c stub) x
-  subr_join i None h = grind (arith, h, subr_in_join m (subset m f a) (subset m f b) i, get-subr m f base a ia i)
-  subr_join i (Some c) h =
-      let either = sets.contains-union nat_cmp_total (kept m f a) (kept m f b) i in
-      grind (cases, h, subr_in_join m (subset m f a) (subset m f b) i, get-subr m f base a ia i, subr_state_of m f base a ia i c h, subr_state_of m f base b ib i c h, stub_is c, either)
-
+module _ {O : Type 0} (m : Interpreter O) (f : FontValue) (base : has f notdef ≡ true) (a b : Names) (ia : IsOf f a) (ib : IsOf f b) where
   -- the joined font of two subsets is the subset over both sets of names
   pub join_is_subset : joined_font m (subset m f a) (subset m f b) ≡ subset m f (sets.union a b)
   join_is_subset =
       let names = sets.contains (sets.union (keep m f a) (keep m f b)) in
       let indices = sets.contains (sets.union (kept m f a) (kept m f b)) in
       same_font (joined_font m (subset m f a) (subset m f b)) (restrict names indices f) refl (encodings_join (keep m f a) (keep m f b) f.encoding)
-      (λ i. subr_join i (maps.get f.subrs i) refl ∙ sym (get-map_values nat_cmp_total nat_cmp-IsAntisymmetric (λ i c. cond (indices i) c stub) f.subrs i))
+      (λ i.
+      let either = sets.contains-union nat_cmp_total (kept m f a) (kept m f b) i in
+      let stubbed = get-map_values nat_cmp_total nat_cmp-IsAntisymmetric (λ i c. cond (indices i) c stub) f.subrs i in
+      grind (cases, subr_in_join m (subset m f a) (subset m f b) i, get-subr m f a i, subr_state_is m f a i, subr_state_is m f b i, stub_is, either, stubbed))
       (λ n.
       let either = sets.contains-union nat_list_cmp_total (keep m f a) (keep m f b) n in
-      grind (cases, glyph_in_join m (subset m f a) (subset m f b) n, get-glyph m f base a ia n, get-glyph m f base b ib n, get-retain nat_list_cmp_total name_same f.glyphs names n, either))
+      grind (cases, glyph_in_join m (subset m f a) (subset m f b) n, get-glyph m f a n, get-glyph m f b n, get-retain nat_list_cmp_total name_same f.glyphs names n, either))
       ∙ (λ i. restrict (sets.contains (sym (keep_union m f a b base ia ib) i)) (sets.contains (sym (kept_union m f a b base ia ib) i)) f)
 
-  -- a subset has entries at the indices at which the font has them
-  pub presence : (a : Names) (ia : InFont m f a) (i : ℕ) → maps.contains_key (subset m f a).subrs i ≡ maps.contains_key f.subrs i
-  presence a ia i = grind (cases, get-subr m f base a ia i)
-
   -- two subsets of a font are compatible
-  pub subsets_compatible : Compatible m (subset m f a) (subset m f b)
+  subsets_compatible : Compatible m (subset m f a) (subset m f b)
   subsets_compatible = record {
     shells = refl;
-    present = λ i. presence a ia i ∙ sym (presence b ib i);
+    present = λ i. grind (cases, get-subr m f a i, get-subr m f b i);
     kinds = encodings_kind (keep m f a) (keep m f b) f.encoding;
-    subrs = λ i. subrs_agree i (maps.get f.subrs i) refl;
-    names = λ n. grind (cases, get-glyph m f base a ia n, get-glyph m f base b ib n, not_sought m f base a ia n, not_sought m f base b ib n);
+    subrs = λ i. grind (cases, subr_state_is m f a i, subr_state_is m f b i);
+    names = λ n. grind (cases, get-glyph m f a n, get-glyph m f b n, not_sought m f a base ia n, not_sought m f b base ib n);
     codes = λ c. grind (cases, get-code (sets.contains (keep m f a)) f.encoding c, get-code (sets.contains (keep m f b)) f.encoding c);
   }
 

@@ -1,18 +1,16 @@
 -- Sums over the entries of tables: what they weigh, and how many glyphs they have.
-use Rattle.std.proofs.Common.{◌≡◌, ℕ, ◌+◌, List, [], ◌∷◌, map, length, refl, sym, ◌∙◌, ap, arith, Some, Less, Equal, Greater, Ordering}
-use Rattle.std.specs.Cmp.Lexicographic.{nat_list_cmp_total}
-use Rattle.std.specs.List.{AllByRecursion}
+use Rattle.std.proofs.Common.{◌≡◌, ℕ, ◌+◌, Bool, true, not, List, [], ◌∷◌, map, filter, length, refl, sym, ◌∙◌, ap, arith, Some}
 use Rattle.std.specs.FinMap as maps
-use Rattle.std.specs.FinMap.Entries.{by_order}
-use Rattle.t1_join.specs.Passes.{weave, merge}
 use Rattle.t1_join.specs.Meaning.{Meaning}
 use Rattle.t1_join.specs.TableMeaning.{TableMeaning, TablesAgree, joined_table}
+use Rattle.t1_join.specs.TableLaws.{get_joined}
 use Rattle.t1_font.specs.Maps.{merged}
 use Rattle.t1_font.specs.FontValue.{total, Named}
-use Rattle.t1_font.proofs.MapLemmas.{entries-map_values, entries_all, length_total}
-use Rattle.t1_font.proofs.TablePasses.{entries-merged}
+use Rattle.t1_font.proofs.CutEntries.{entries-retain}
+use Rattle.t1_font.proofs.MapLemmas.{entries-map_values, entries_all, get-retain, length_total}
 use Rattle.t1_algebra.specs.StateTables.{name_meaning, name_counts, glyph_table, names_table, AreSought}
-use Rattle.t1_algebra.proofs.Sets.{name_same}
+use Rattle.t1_algebra.proofs.Words.{AllByRecursion, nat_list_cmp_total}
+use Rattle.t1_algebra.proofs.Sets.{name_same, cases}
 use Rattle.t1_algebra.proofs.Tables.{names_join, are_joined}
 
 -- the sum over entries with other keys and values
@@ -20,34 +18,30 @@ pub total_mapped : {K X : Type 0} (k : K → Meaning) (v : X → Meaning) (w : M
 total_mapped k v w [] = refl
 total_mapped k v w (e ∷ es) = ap (λ n. w (k e.0) (v e.1) + n) (total_mapped k v w es)
 
-module _ {K X : Type 0} (R : K → K → Ordering) (w : K → X → ℕ) where
-  -- each of the entries counts nothing
-  abbrev CountNothing : List (K × X) → Type 0
-  CountNothing es = AllByRecursion (λ e. w e.0 e.1 ≡ 0) es
+module _ {K X : Type 0} (w : K → X → ℕ) where
+  -- entries that pass a test and those that fail it sum to what all do
+  total_split : (p : K × X → Bool) (es : List (K × X)) → total w es ≡ total w (filter p es) + total w (filter (λ e. not (p e)) es)
+  total_split p [] = refl
+  total_split p (e ∷ es) = grind (cases, total_split p es)
 
-  total_none : (es : List (K × X)) → CountNothing es → total w es ≡ 0
-  total_none [] h = refl
-  total_none (e ∷ es) h = omega (arith, h.0, total_none es h.1)
+  -- if the entries that pass a test weigh nothing, they sum to nothing
+  total_none : (p : K × X → Bool) (es : List (K × X)) → AllByRecursion (λ e. p e ≡ true → w e.0 e.1 ≡ 0) es → total w (filter p es) ≡ 0
+  total_none p [] h = refl
+  total_none p (e ∷ es) h = grind (cases, h.0, total_none p es h.1)
 
-  -- entries that count nothing add nothing where they are woven in
-  total_weave : (e : K × X) (rest : List (K × X) → List (K × X)) (n : ℕ) → ((gs : List (K × X)) → CountNothing gs → total w (rest gs) ≡ n) → (fs : List (K × X)) → CountNothing fs → total w (weave R e rest fs) ≡ w e.0 e.1 + n
-  total_weave e rest n k [] h = ap (λ m. w e.0 e.1 + m) (k [] tt)
-  total_weave e rest n k (f ∷ fs) h = elim (R e.0 f.0) as (λ r. total w (by_order r (e ∷ rest (f ∷ fs)) (e ∷ rest fs) (f ∷ weave R e rest fs)) ≡ w e.0 e.1 + n) [
-    | Less ↦ ap (λ m. w e.0 e.1 + m) (k (f ∷ fs) h)
-    | Equal ↦ ap (λ m. w e.0 e.1 + m) (k fs h.1)
-    | Greater ↦ omega (arith, h.0, total_weave e rest n k fs h.1)
-  ]
-
-  -- the sum over both lists is that over the first, if the second's entries count nothing
-  pub total_merge : (es fs : List (K × X)) → CountNothing fs → total w (merge R es fs) ≡ total w es
-  total_merge [] fs h = total_none fs h
-  total_merge (e ∷ es) fs h = total_weave e (merge R es) (total w es) (total_merge es) fs h
+  -- if the entries that fail a test weigh nothing, those that pass it sum to what all do
+  pub total_kept : (p : K × X → Bool) (es : List (K × X)) → AllByRecursion (λ e. not (p e) ≡ true → w e.0 e.1 ≡ 0) es → total w (filter p es) ≡ total w es
+  total_kept p es h = omega (arith, total_split p es, total_none (λ e. not (p e)) es h)
 
 -- sought names add nothing to a sum over names
 pub names_total : (g : Named) (s : TableMeaning) → AreSought s → (w : Meaning → Meaning → ℕ) → ((n : Meaning) → w n [] ≡ 0) → total w (maps.entries (names_table g s)) ≡ total (λ n c. w n (name_meaning (Some c))) (maps.entries g)
 names_total g s are w none =
-    ap (total w) (entries-merged nat_list_cmp_total name_same (glyph_table g) s)
-    ∙ total_merge _ w (maps.entries (glyph_table g)) (maps.entries s) (entries_all nat_list_cmp_total name_same (λ n v. w n v ≡ 0) s (λ n v is. ap (w n) (are n v is) ∙ none n))
+    let own = glyph_table g in
+    let all = names_table g s in
+    let has = λ (n : Meaning). maps.contains_key own n in
+    let kept = maps.same_map nat_list_cmp_total name_same (maps.retain_keys all has) own (λ n. grind (cases, get-retain nat_list_cmp_total name_same all has n, get_joined own s n)) in
+    sym (total_kept w (λ e. has e.0) (maps.entries all) (entries_all nat_list_cmp_total name_same (λ n v. not (has n) ≡ true → w n v ≡ 0) all (λ n v is new. grind (cases, get_joined own s n, is, new, are n, none n))))
+    ∙ ap (total w) (sym (entries-retain nat_list_cmp_total name_same all has) ∙ ap maps.entries kept)
     ∙ ap (total w) (entries-map_values nat_list_cmp_total name_same (λ n c. name_meaning (Some c)) g)
     ∙ total_mapped (λ n. n) (λ c. name_meaning (Some c)) w (maps.entries g)
 

@@ -1,23 +1,17 @@
 -- Tables of codes, of Subrs and of names: what stands at each key, and how they join.
-use Rattle.std.proofs.Common.{◌≡◌, ◌≤◌, ℕ, ◌+◌, min, Bor, option_map, Bool, true, false, not, cond, T, List, [], ◌∷◌, ◌++◌, filter, refl, sym, ◌∙◌, ap, arith, Option, Some, None, is_some, Ordering, Less, Equal, Greater, ◌&&◌, map, subst, nat_cmp, is_lt, ◌↔◌, inl, inr, ◌⊎◌}
-use Rattle.std.specs.Ordering.{ordering_reverse, is_eq, eq_by_cmp, ordering_then}
-use Rattle.std.specs.Cmp.{IsTotalOrder, nat_cmp_total, both_ways, first_so, second_so}
+use Rattle.std.proofs.Common.{◌≡◌, ◌≤◌, ℕ, ◌+◌, Bor, option_map, Bool, true, false, not, cond, T, List, [], ◌∷◌, refl, sym, ◌∙◌, ap, arith, Option, Some, None, is_some, Less, Equal, Greater, ◌&&◌, map, subst, nat_cmp, is_lt, ◌↔◌, inl, inr, ◌⊎◌}
+use Rattle.std.specs.Ordering.{is_eq, ordering_then}
+use Rattle.std.specs.Cmp.{both_ways}
 use Rattle.std.specs.FinMap.{find, is_sorted}
-use Rattle.std.specs.FinMap.Entries.{below_all, by_order}
-use Rattle.std.specs.FinSet.{IsAntisymmetric}
+use Rattle.std.specs.FinMap.Entries.{below_all}
 use Rattle.std.specs.Option.{option_copied}
-use Rattle.std.specs.Cmp.Lexicographic.{nat_list_cmp_total}
-use Rattle.std.specs.List.{list_any, AllByRecursion}
 use Rattle.std.proofs.lemmas.Bool.{cases_Bool, not-true}
 use Rattle.std.specs.FinMap as maps
-use Rattle.t1_join.specs.Passes.{first_met}
-use Rattle.t1_join.proofs.Conflicts.{Says, both_agree, says_first}
 use Rattle.std.specs.Str.{bytes_eq}
 use Rattle.std.proofs.lemmas.Map.Text.{is_eq-slice_cmp}
-use Rattle.t1_algebra.specs.Conflicts.{agrees}
-use Rattle.t1_join.specs.TableMeaning.{Rises, TableMeaning, joined_table, TablesAgree}
-use Rattle.t1_join.proofs.Sorted.{both_true, make_both, is_lt_from, lt_is}
-use Rattle.t1_join.proofs.Merges.{Below-less, below_tied, find_below, merged_from_sorted, rises_merge}
+use Rattle.t1_join.specs.Passes.{first_met}
+use Rattle.t1_join.proofs.Conflicts.{Says, both_agree, says_first}
+use Rattle.t1_join.specs.TableMeaning.{TableMeaning, joined_table, TablesAgree}
 use Rattle.t1_join.specs.Meaning.{Meaning, meaning_cmp, of_number, by_number_law, same_meaning}
 use Rattle.t1_join.specs.Join.{joined_state, State, states_agree, StatesAgree}
 use Rattle.t1_join.specs.TableLaws.{get_joined, same_table}
@@ -26,12 +20,13 @@ use Rattle.t1_font.specs.Maps.{merged}
 use Rattle.t1_font.specs.FontModel.{clamp}
 use Rattle.t1_font.proofs.Weights.{clamp_more, clamp_all, clamp_fits}
 use Rattle.t1_font.specs.FontValue.{total, Numbered, Named, name_cmp, Encoding, Word, Codes}
-use Rattle.t1_font.proofs.MapLemmas.{get-map_values, entries-map_values, entries_all}
+use Rattle.t1_font.proofs.MapLemmas.{get-map_values}
+use Rattle.t1_algebra.specs.Conflicts.{agrees}
 use Rattle.t1_algebra.specs.StateTables.{numbered, name_meaning, AreNameStates, behind_mark, glyph_table, names_table, AreSought, code_states}
-use Rattle.t1_algebra.specs.Interpreter.{same_bytes}
 use Rattle.t1_algebra.specs.Searches.{IsLowest}
 use Rattle.t1_algebra.specs.NameStates.{is_sought_in, charstrings_differ, one_lacks}
 use Rattle.t1_algebra.specs.States.{Agree, code_state, joined}
+use Rattle.t1_algebra.proofs.Words.{list_any, AllByRecursion, eq_by_cmp, IsTotalOrder, nat_cmp_total, first_so, second_so, nat_list_cmp_total, IsAntisymmetric, same_bytes}
 use Rattle.t1_algebra.proofs.Maps.{get-merged}
 use Rattle.t1_algebra.proofs.Sets.{cases_Option, name_same, cases}
 use Rattle.t1_algebra.proofs.Shares.{bytes_decide}
@@ -40,14 +35,9 @@ use Rattle.t1_algebra.proofs.Shares.{bytes_decide}
 pub some_copied : {V : Type 0} {X : Type 0} (f : V → X) (r : Option (Bor V)) → is_some r ≡ is_some (option_map f (option_copied r))
 some_copied f r = grind cases
 
-module _ (x y : State) where
-  -- states that agree in tables agree
-  pub to_agree : StatesAgree x y → Agree x y
-  to_agree h = grind (cases, same_meaning-true)
-
-  -- states that agree do so in tables
-  pub from_agree : Agree x y → StatesAgree x y
-  from_agree h = grind (cases, same_meaning-self)
+-- states that agree in tables agree
+pub to_agree : (x y : State) → StatesAgree x y → Agree x y
+to_agree x y h = grind (cases, same_meaning-true)
 
 -- entries with their numbers as keys of a table
 abbrev keyed : List (ℕ × List ℕ) → List (Meaning × Meaning)
@@ -112,7 +102,7 @@ codes_shown (Codes t) q = get-numbered t q
 module _ (s t : TableMeaning) (x y : ℕ → Option (List ℕ)) (shows : Shows s x) (also : Shows t y) where
   -- tables agree if what they show does
   pub shown_agree : ((n : ℕ) → Agree (x n) (y n)) → TablesAgree s t
-  shown_agree h q = grind (arith, shows q, also q, cases_key q, λ (n : ℕ). from_agree (x n) (y n) (h n))
+  shown_agree h q = grind (cases, shows q, also q, cases_key q, h, same_meaning-self)
 
   -- tables that agree show what agrees
   pub agree_shown : TablesAgree s t → (n : ℕ) → Agree (x n) (y n)
@@ -126,17 +116,13 @@ module _ (s t : TableMeaning) (x y : ℕ → Option (List ℕ)) (shows : Shows s
 abbrev marked : Option (List ℕ) → State
 marked x = option_map (λ c. name_meaning (Some c)) x
 
--- if something stands here, the name is sought
-abbrev IsSought : State → Type 0
-IsSought y = (v : Meaning) → y ≡ Some v → v ≡ []
-
 -- ---- what stands at a name
 
 -- at a name stands its glyph, or else that it is sought
 pub get-name : (g : Named) (s : TableMeaning) (n : Meaning) → maps.get (names_table g s) n ≡ joined_state (marked (maps.get g n)) (maps.get s n)
 get-name g s n = get_joined (glyph_table g) s n ∙ ap (λ x. joined_state x (maps.get s n)) (get-map_values nat_list_cmp_total name_same (λ n c. name_meaning (Some c)) g n)
 
-state_of : (x : Option (List ℕ)) (y : State) → IsSought y → (z : Option (Option (List ℕ))) × (joined_state (marked x) y ≡ option_map name_meaning z)
+state_of : (x : Option (List ℕ)) (y : State) → ((v : Meaning) → y ≡ Some v → v ≡ []) → (z : Option (Option (List ℕ))) × (joined_state (marked x) y ≡ option_map name_meaning z)
 state_of (Some c) y h = (Some (Some c), refl)
 state_of None None h = (None, refl)
 state_of None (Some v) h = (Some None, ap Some (h v refl))
@@ -169,9 +155,7 @@ module _ (g : Named) (s : TableMeaning) (are : AreSought s) (t : TableMeaning) (
 
 -- meanings are the same if their bytes are
 pub meanings_as_bytes : (v w : Meaning) → same_meaning v w ≡ same_bytes v w
-meanings_as_bytes v w = both_ways (same_meaning v w) (same_bytes v w)
-    (λ h. subst (λ (u : List ℕ). same_bytes v u ≡ true) (same_meaning-true v w h) (bytes_decide.self v))
-    (λ h. subst (λ (u : List ℕ). same_meaning v u ≡ true) (bytes_decide.so v w h) (same_meaning-self v))
+meanings_as_bytes v w = grind (cases, same_meaning-true v w, same_meaning-self v, bytes_decide.so v w, bytes_decide.self v)
 
 module _ (t u : TableMeaning) (a : AreNameStates t) (b : AreNameStates u) where
   -- the states of a name agree exactly if they are no two charstrings that differ, and none is sought that the other has
@@ -181,7 +165,7 @@ module _ (t u : TableMeaning) (a : AreNameStates t) (b : AreNameStates u) where
   -- tables of names agree exactly if no charstrings differ and no name is lacking
   pub names_agree : TablesAgree t u ↔ (((n : Meaning) → charstrings_differ (maps.get t n) (maps.get u n) ≡ false) × ((n : Meaning) → one_lacks (maps.get t n) (maps.get u n) ≡ false))
   names_agree = (
-    λ k. (λ n. not-true _ (first_so _ _ (sym (agree_at n) ∙ k n)), λ n. not-true _ (second_so _ _ (sym (agree_at n) ∙ k n))),
+    λ k. (λ n. grind (cases, agree_at n, k n), λ n. grind (cases, agree_at n, k n)),
     λ k n. agree_at n ∙ (λ i. not (k.0 n i) && not (k.1 n i)),
   )
 

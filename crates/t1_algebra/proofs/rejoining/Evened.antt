@@ -1,9 +1,6 @@
 -- Fonts that are made even have all the Subrs that they had, so their glyphs stay drawn; fonts without tags that merge are even.
 use Rattle.std.proofs.Common.{◌≡◌, ◌<◌, ℕ, List, [], ◌∷◌, map, refl, ◌∙◌, ap, Option, option_map}
 use Rattle.std.proofs.lemmas.Bool.{ltb-true, lt-ltb}
-use Rattle.std.specs.Cmp.{nat_cmp_total}
-use Rattle.std.specs.FinSet.{nat_cmp-IsAntisymmetric}
-use Rattle.std.specs.List.{AllByRecursion}
 use Rattle.std.specs.FinMap as maps
 use Rattle.t1_run.specs.Run.{Subrs}
 use Rattle.t1_run.specs.Growth.{Extends}
@@ -19,9 +16,10 @@ use Rattle.t1_algebra.specs.Evened.{StaysDrawn, subrs_of, AllStayDrawn, EachBesi
 use Rattle.t1_algebra.specs.States.{joined}
 use Rattle.t1_algebra.specs.Profile.{profile}
 use Rattle.t1_algebra.specs.Rejoins.{IsUntagged, MergingFontsAreEven}
+use Rattle.t1_algebra.proofs.Words.{AllByRecursion, nat_cmp_total, nat_cmp-IsAntisymmetric}
 use Rattle.t1_algebra.proofs.Maps.{get-merged}
 use Rattle.t1_algebra.proofs.Orders.{Below, above}
-use Rattle.t1_algebra.proofs.Shares.{shared_to}
+use Rattle.t1_algebra.proofs.Shares.{sharing}
 use Rattle.t1_algebra.proofs.Sets.{cases}
 
 -- if a font has the same glyphs and more Subrs, each glyph stays drawn
@@ -75,7 +73,7 @@ evened_draw = record { one = all_stay_drawn; all = λ fs. beside (indices_of_all
 each_even : (j : FontValue) (fs : List FontValue) → AllByRecursion (Below profile j) fs → AllByRecursion IsUntagged fs → AllByRecursion (IsEvenWith j) fs
 each_even j [] b u = tt
 each_even j (f ∷ fs) b u =
-    let shared = shared_to f j b.0.0.0.0 in
+    let shared = (sharing f j).1 b.0.0.0.0 in
     (record { head = u.0; count = ap (λ (s : Shell). declared_count s.subrs) shared.shells; present = shared.present }, each_even j fs b.1 u.1)
 
 pub merging_fonts_are_even : MergingFontsAreEven

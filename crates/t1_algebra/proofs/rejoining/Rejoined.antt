@@ -1,12 +1,8 @@
 -- Truncated subsets that are made even merge to the subset over all their names, cut to the largest count and without its tag.
 use Rattle.std.proofs.Common.{◌≡◌, ◌≤◌, ℕ, nat_lt, nat_cmp, true, cond, List, [], ◌∷◌, map, refl, sym, ◌∙◌, ap, subst, Option, Some, None, option_map, unwrap_or, arith, IsPermutation}
 use Rattle.std.proofs.lemmas.Bool.{ltb-true, lt-ltb}
-use Rattle.std.specs.List.{list_any, AllByRecursion}
-use Rattle.std.specs.Cmp.{nat_cmp_total}
-use Rattle.std.specs.Cmp.Lexicographic.{nat_list_cmp_total}
-use Rattle.std.specs.FinMap as maps
 use Rattle.std.specs.FinSet as sets
-use Rattle.std.specs.FinSet.{nat_cmp-IsAntisymmetric}
+use Rattle.std.specs.FinMap as maps
 use Rattle.t1_join.specs.Groupings.{Grouping, one, leaves, from_left}
 use Rattle.t1_join.proofs.OrderLemmas.{leaves_from_left}
 use Rattle.t1_font.specs.FontValue.{FontValue, SubrsShell, Numbered, name_cmp, total, subr_weight, declared_count}
@@ -14,20 +10,18 @@ use Rattle.t1_font.specs.IsFont.{IsFont, IsWord, IsPhrase, SubrsFit, SubrWords}
 use Rattle.t1_font.specs.Evening.{evened}
 use Rattle.t1_font.proofs.even_fonts.Evened.{even_is_font}
 use Rattle.t1_font.proofs.MapLemmas.{get-retain, find_first, total-le, Some_None}
-use Rattle.t1_algebra.specs.Interpreter.{Names, same_bytes}
-use Rattle.t1_algebra.specs.Keep.{keep, kept, subset, components, has}
-use Rattle.t1_algebra.specs.Outcomes.{component_outcome}
+use Rattle.t1_algebra.specs.Keep.{keep, kept, subset}
 use Rattle.t1_algebra.specs.Profile.{profile}
 use Rattle.t1_algebra.specs.Laws.{IsOf, DrawsAlike}
 use Rattle.t1_algebra.specs.Merges.{MergesTo}
 use Rattle.t1_algebra.specs.Rejoins.{declares, Truncated, IsTruncated, fonts_of, sets_of, names_of_all, largest, shared_font, rejoined, Rejoins, TruncatedSubsetsRejoin}
+use Rattle.t1_algebra.proofs.Words.{AllByRecursion, nat_cmp_total, nat_list_cmp_total, nat_cmp-IsAntisymmetric, Names}
 use Rattle.t1_algebra.proofs.Drawings.{subset_alike, alike}
 use Rattle.t1_algebra.proofs.Fonts.{subset_is_font, any_order_of_fonts}
-use Rattle.t1_algebra.proofs.Kept.{keep_closed, keep_more, kept_more, kept_union, component_here_from}
+use Rattle.t1_algebra.proofs.Kept.{keep_part, keep_more, kept_more, kept_union}
 use Rattle.t1_algebra.proofs.ManyMerges.{alike_trans, each_font, all_merge}
 use Rattle.t1_algebra.proofs.Sets.{clash, cases}
-use Rattle.t1_algebra.proofs.rejoining.Truncated.{WordsOf, words_empty, get_nothing, get_font, largest_fits, all_fit, Fits, cut_subset, evened_is, KeepsBelow, keep_same, subrs_below, runs_below, first_of}
-use Rattle.t1_algebra.proofs.Subsets.{cond_some}
+use Rattle.t1_algebra.proofs.rejoining.Truncated.{WordsOf, words_empty, get_nothing, get_font, largest_fits, all_fit, Fits, cut_subset, evened_is, KeepsBelow, keeps_same, subrs_below, runs_below, first_of}
 
 -- ---- tables without entries
 
@@ -48,7 +42,7 @@ module _ (f : FontValue) (h : IsFont f) (most : ℕ) (fits : most ≤ declared_c
 
   -- an entry of the cut font is one of the font, below the count
   had : (q : ℕ) (c : List ℕ) → maps.get (first_of most f).subrs q ≡ Some c → (nat_lt q most ≡ true) × (maps.get f.subrs q ≡ Some c)
-  had q c e = cond_some (nat_lt q most) (maps.get f.subrs q) c (sym (get_first q) ∙ e)
+  had q c e = grind (cases, e, get_first q)
 
   -- if the shared font has no entries, the subset has none
   no_entries_there : maps.entries (first_of most f).subrs ≡ [] → maps.entries t.font.subrs ≡ []
@@ -116,18 +110,10 @@ module _ (f : FontValue) (h : IsFont f) (most : ℕ) where
 
   -- a kept glyph draws in the cut font as it does in the font
   module _ (a : Names) (inside : IsOf f a) (low : KeepsBelow profile f most a) where
-    same_there : (n c : List ℕ) → sets.contains (keep profile f a) n ≡ true → maps.get f.glyphs n ≡ Some c → (i : ℕ) → sets.contains (profile.exec f.subrs c) i ≡ true → maps.get (first_of most f).subrs i ≡ maps.get f.subrs i
-    same_there n c k is i e = subrs_below profile f h.glyphs.notdef most a inside low n k i (ap (λ x. sets.contains (profile.exec f.subrs (unwrap_or x [])) i) is ∙ e)
-
-    -- a component of a kept glyph comes to the same in the cut font
-    component_there : (n c p : List ℕ) → sets.contains (keep profile f a) n ≡ true → maps.get f.glyphs n ≡ Some c → list_any (same_bytes p) (components profile f.subrs c) ≡ true → component_outcome profile (first_of most f) p ≡ component_outcome profile f p
-    component_there n c p k is e =
-        let part = λ (d : has f p ≡ true). (keep_closed profile f a h.glyphs.notdef inside).components n p k (component_here_from profile f n p (ap (λ x. list_any (same_bytes p) (components profile f.subrs (unwrap_or x []))) is ∙ e) d) in
-        grind (cases, part, runs_below profile f h.glyphs.notdef most a inside low p)
-
-    -- a kept glyph draws alike in the cut font
     pub start_alike : (n : List ℕ) → sets.contains (keep profile f a) n ≡ true → DrawsAlike f (first_of most f) n
-    start_alike n k = alike f (first_of most f) n refl (λ c is. same_there n c k is) (λ c p is w. component_there n c p k is w)
+    start_alike n k = alike f (first_of most f) n refl
+        (λ c is i e. subrs_below profile f h.glyphs.notdef most a inside low n k i (ap (λ x. sets.contains (profile.exec f.subrs (unwrap_or x [])) i) is ∙ e))
+        (λ c p is e. grind (cases, keep_part profile f a h.glyphs.notdef inside n c p k is e, runs_below profile f h.glyphs.notdef most a inside low p))
 
 -- ---- merges
 
@@ -178,7 +164,7 @@ module _ (f : FontValue) (h : IsFont f) (t : Truncated) (ts : List Truncated) (w
   -- each kept glyph draws in the rejoined font as in the font
   all_drawn : (n : List ℕ) → sets.contains (keep profile f names) n ≡ true → DrawsAlike f (rejoined f (t ∷ ts)) n
   all_drawn n k = alike_trans f shared (rejoined f (t ∷ ts)) n (start_alike f h most names low.1 low.0 n k)
-      (subst (λ (j : FontValue). DrawsAlike shared j n) whole (subset_alike shared shared_is names low.1 n (ap (λ (s : Names). sets.contains s n) (keep_same profile f h.glyphs.notdef most names low.1 low.0) ∙ k)))
+      (subst (λ (j : FontValue). DrawsAlike shared j n) whole (subset_alike shared shared_is names low.1 n (ap (λ (s : Names). sets.contains s n) (keeps_same profile f h.glyphs.notdef most names low.1 low.0).0 ∙ k)))
 
   pub rejoins : Rejoins f (t ∷ ts)
   rejoins = record { shared = shared_is; subsets = evened_is f h (t ∷ ts) w; merges = all_merged; draws = all_drawn }

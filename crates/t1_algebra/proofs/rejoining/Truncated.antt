@@ -1,27 +1,23 @@
 -- Fonts cut to their first Subrs keep and draw what they did, and truncated subsets that are made even are subsets of one font.
-use Rattle.std.proofs.Common.{◌≡◌, ◌<◌, ℕ, nat_lt, true, false, cond, List, refl, sym, ◌∙◌, ap, Option, Some, None, is_some, filter, arith, ◌≤◌, max, nat_cmp, Bool, [], ◌∷◌, map, length, subst, option_map}
-use Rattle.std.proofs.lemmas.Bool.{lt-ltb, ltb-true, ltb-false}
-use Rattle.std.specs.Cmp.{nat_cmp_total}
-use Rattle.std.specs.FinSet.{nat_cmp-IsAntisymmetric}
-use Rattle.std.specs.List.{list_any, AllByRecursion}
-use Rattle.std.specs.Ordering.{eq_by_cmp}
-use Rattle.std.specs.FinMap as maps
-use Rattle.std.specs.FinSet as sets
+use Rattle.std.proofs.Common.{◌≡◌, ◌<◌, ℕ, nat_lt, true, false, ◌&&◌, cond, List, refl, sym, ◌∙◌, ap, Option, Some, None, is_some, filter, arith, ◌≤◌, max, nat_cmp, Bool, [], ◌∷◌, map, length, subst, option_map}
+use Rattle.std.proofs.lemmas.Bool.{and_from, lt-ltb, ltb-true, ltb-false}
 use Rattle.std.proofs.lemmas.List.Folds.{list_any-append}
+use Rattle.std.specs.FinSet as sets
+use Rattle.std.specs.FinMap as maps
 use Rattle.t1_font.specs.FontValue.{FontValue, notdef, Shell, SubrsShell, Numbered, declared_count}
 use Rattle.t1_font.proofs.MapLemmas.{get-retain, get-map_values}
 use Rattle.t1_font.specs.IsFont.{IsFont, SubrsFit, SubrWords}
 use Rattle.t1_font.specs.Tags.{untagged_head}
 use Rattle.t1_font.specs.Cut.{stub, restrict_encoding}
 use Rattle.t1_font.specs.Evening.{raised, even_shell, even, stubs_at, below, with_stubs, filled, largest_count, indices_of_all, evened}
-use Rattle.t1_algebra.specs.Interpreter.{Interpreter, Names}
-use Rattle.t1_algebra.specs.Keep.{keep, kept, components_here, has, charstring, subset}
+use Rattle.t1_algebra.specs.Keep.{keep, kept, has, charstring, subset}
 use Rattle.t1_algebra.specs.Rejoins.{cut_to, without_tag, declares, Truncated, IsTruncated, fonts_of, sets_of, largest, shared_font}
 use Rattle.t1_algebra.specs.Profile.{profile}
 use Rattle.t1_algebra.specs.States.{joined}
 use Rattle.t1_algebra.specs.Laws.{IsOf}
-use Rattle.t1_algebra.proofs.Kept.{InFont, keep_has, kept_call, keep_alike, kept_alike}
-use Rattle.t1_algebra.proofs.Sets.{clash, any_filter, any_filter_from, cases}
+use Rattle.t1_algebra.proofs.Words.{list_any, AllByRecursion, eq_by_cmp, nat_cmp_total, nat_cmp-IsAntisymmetric, Interpreter, Names}
+use Rattle.t1_algebra.proofs.Kept.{keep_has, kept_call, keeps_alike}
+use Rattle.t1_algebra.proofs.Sets.{clash, any_filtered, cases}
 use Rattle.t1_algebra.proofs.Maps.{get-merged, get-valued}
 
 -- the font without its tag, cut to its first Subrs
@@ -32,7 +28,7 @@ first_of count f = cut_to count (without_tag f)
 abbrev pub KeepsBelow : {O : Type 0} → Interpreter O → FontValue → ℕ → Names → Type 0
 KeepsBelow m f count a = (i : ℕ) → sets.contains (kept m f a) i ≡ true → maps.contains_key f.subrs i ≡ true → i < count
 
-module _ {O : Type 0} (m : Interpreter O) (f : FontValue) (base : has f notdef ≡ true) (count : ℕ) (a : Names) (inside : InFont m f a) (low : KeepsBelow m f count a) where
+module _ {O : Type 0} (m : Interpreter O) (f : FontValue) (base : has f notdef ≡ true) (count : ℕ) (a : Names) (inside : IsOf f a) (low : KeepsBelow m f count a) where
   -- the Subrs that a kept glyph executes are as before
   pub subrs_below : (n : List ℕ) → sets.contains (keep m f a) n ≡ true → (i : ℕ) → sets.contains (m.exec f.subrs (charstring f n)) i ≡ true → maps.get (first_of count f).subrs i ≡ maps.get f.subrs i
   subrs_below n k i w = grind (cases, get-retain nat_cmp_total nat_cmp-IsAntisymmetric f.subrs (λ i. nat_lt i count) i, low i (kept_call m f a i n k w), lt-ltb i count)
@@ -41,17 +37,10 @@ module _ {O : Type 0} (m : Interpreter O) (f : FontValue) (base : has f notdef �
   pub runs_below : (n : List ℕ) → sets.contains (keep m f a) n ≡ true → (m.direct (first_of count f).subrs (charstring f n) ≡ m.direct f.subrs (charstring f n)) × (m.exec (first_of count f).subrs (charstring f n) ≡ m.exec f.subrs (charstring f n))
   runs_below n k = m.local f.subrs (first_of count f).subrs (charstring f n) (subrs_below n k)
 
-  -- a kept glyph has the same components in the cut font
-  components_same : (n : List ℕ) → sets.contains (keep m f a) n ≡ true → components_here m (first_of count f) n ≡ components_here m f n
-  components_same n k = ap (λ d. sets.from_list (filter (has f) (m.names d))) (runs_below n k).0
-
-  -- the cut font keeps the same names
-  pub keep_same : keep m (first_of count f) a ≡ keep m f a
-  keep_same = keep_alike m f (first_of count f) a base inside base inside (keep_has m f a) components_same (λ n k. (runs_below n k).1)
-
-  -- the cut font keeps the same Subrs
-  pub kept_same : kept m (first_of count f) a ≡ kept m f a
-  kept_same = kept_alike m f (first_of count f) a base inside base inside (keep_has m f a) components_same (λ n k. (runs_below n k).1)
+  -- the cut font keeps the same names and Subrs
+  pub keeps_same : (keep m (first_of count f) a ≡ keep m f a) × (kept m (first_of count f) a ≡ kept m f a)
+  keeps_same = keeps_alike m f (first_of count f) a base inside base inside
+      (λ n k. (keep_has m f a n k, ap (λ d. sets.from_list (filter (has f) (m.names d))) (runs_below n k).0, (runs_below n k).1))
 
 -- ---- what a cut subset has
 
@@ -71,12 +60,12 @@ get_cut f n a q = get-retain nat_cmp_total nat_cmp-IsAntisymmetric (subset profi
 -- the subset of the cut font is the cut subset
 module _ (f : FontValue) (h : IsFont f) (n : ℕ) (a : Names) (inside : IsOf f a) (low : KeepsBelow profile f n a) where
   names_same : keep profile (first_of n f) a ≡ keep profile f a
-  names_same = keep_same profile f h.glyphs.notdef n a inside low
+  names_same = (keeps_same profile f h.glyphs.notdef n a inside low).0
 
   subrs_same : (q : ℕ) → maps.get (subset profile (first_of n f) a).subrs q ≡ maps.get (maps.retain_keys (subset profile f a).subrs (λ i. nat_lt i n)) q
   subrs_same q =
       let first = get-retain nat_cmp_total nat_cmp-IsAntisymmetric f.subrs (λ i. nat_lt i n) q in
-      grind (cases, get-map_values nat_cmp_total nat_cmp-IsAntisymmetric (keeps (first_of n f) a) (first_of n f).subrs q, first, get_cut f n a q, kept_same profile f h.glyphs.notdef n a inside low)
+      grind (cases, get-map_values nat_cmp_total nat_cmp-IsAntisymmetric (keeps (first_of n f) a) (first_of n f).subrs q, first, get_cut f n a q, (keeps_same profile f h.glyphs.notdef n a inside low).1)
 
   -- the subset of the cut font is the subset, without its tag and cut as the font is
   pub cut_subset : subset profile (first_of n f) a ≡ cut_to n (without_tag (subset profile f a))
@@ -207,13 +196,13 @@ module _ (f : FontValue) (h : IsFont f) (most : ℕ) (fits : most ≤ declared_c
     abbrev is_in : ℕ → Bool
     is_in q = list_any (eq_by_cmp nat_cmp q) inside
 
-    in_both : (q : ℕ) → is_in q ≡ true → (list_any (eq_by_cmp nat_cmp q) indices ≡ true) × (nat_lt q declared ≡ true)
-    in_both q l = any_filter nat_cmp_total nat_cmp-IsAntisymmetric (λ i. nat_lt i declared) q indices l
+    -- an index of all fonts is one of these if it is below what is declared
+    in_both : (q : ℕ) → is_in q ≡ (nat_lt q declared && list_any (eq_by_cmp nat_cmp q) indices)
+    in_both q = any_filtered nat_cmp_total nat_cmp-IsAntisymmetric (λ i. nat_lt i declared) q indices
 
     -- a stub can stand at each index of the font below the count
     under : (q : ℕ) → q < most → maps.contains_key f.subrs q ≡ true → is_in q ≡ true
-    under q lt is = any_filter_from nat_cmp_total nat_cmp-IsAntisymmetric (λ i. nat_lt i declared) q indices (there q lt is)
-        (lt-ltb q declared (omega (arith, lt, declared_is, has_table f.shell f.shell.subrs f.subrs h.subrs q is most fits)))
+    under q lt is = in_both q ∙ and_from _ _ (lt-ltb q declared (omega (arith, lt, declared_is, has_table f.shell f.shell.subrs f.subrs h.subrs q is most fits))) (there q lt is)
 
     -- the entry of a truncated subset, or else a stub, is the entry of the subset cut to the largest count
     value_same : (q : ℕ) → joined (entry_in f t.names t.count q (maps.get f.subrs q)) (cond (is_in q) (Some stub) None) ≡ entry_in f t.names most q (maps.get f.subrs q)
