@@ -139,11 +139,7 @@ module _ (g : Named) (s : TableMeaning) (are : AreSought s) (t : TableMeaning) (
   pub seeks_in : is_sought_in (maps.get t n) ≡ (not (maps.contains_key g n) && maps.contains_key s n)
   seeks_in = grind (cases, at, are n)
 
-  -- if a name has no glyph, it has a state if it is one of the sought names
-  pub has_else : (b y : Bool) → b ≡ is_some (behind_mark (maps.get t n)) → b ≡ false → y ≡ maps.contains_key s n → y ≡ maps.contains_key t n
-  has_else b y e none k = grind (cases, at, are n)
-
-  -- and is sought if it is one of these
+  -- if a name has no glyph, it is sought if it is one of the sought names
   pub seeks_else : (b y : Bool) → b ≡ is_some (behind_mark (maps.get t n)) → b ≡ false → y ≡ maps.contains_key s n → y ≡ is_sought_in (maps.get t n)
   seeks_else b y e none k = grind (arith, charstring_in, seeks_in)
 
