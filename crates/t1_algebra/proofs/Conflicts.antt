@@ -19,8 +19,6 @@ use Rattle.t1_algebra.proofs.Searching.{passes_none, found_none, smallest_none}
 use Rattle.t1_algebra.proofs.Shares.{swaps, bytes_decide, shared_so, no_part_differs, differing_back, sharing}
 use Rattle.t1_algebra.proofs.Maps.{in_both, both_back}
 
--- ---- tests
-
 module _ (x y : Option (List ℕ)) where
   -- states that join don't fail the test
   no_clash : Agree x y → not (agrees x y) ≡ false
