@@ -19,8 +19,6 @@ use Rattle.t1_algebra.proofs.Searching.{passes_none, found_none, smallest_none}
 use Rattle.t1_algebra.proofs.Shares.{swaps, bytes_decide, shared_so, no_part_differs, differing_back, sharing}
 use Rattle.t1_algebra.proofs.Maps.{in_both, both_back}
 
--- ---- tests
-
 module _ (x y : Option (List ℕ)) where
   -- states that join don't fail the test
   no_clash : Agree x y → not (agrees x y) ≡ false
@@ -75,21 +73,16 @@ module _ {O : Type 0} (m : Interpreter O) (f g : FontValue) where
 -- ---- from the join to no conflict
 
 module _ {O : Type 0} (m : Interpreter O) (f g : FontValue) (c : Compatible m f g) where
-  -- compatible fonts have no conflict of components
-  no_component : (p : List ℕ) → component_clashes m f g p ≡ false
-  no_component p =
-      let none = λ (there : (has f p || has g p) ≡ true). list_any_none (wanted_by m f g p) (members (glyph_names f g)) (λ k d l.
-      let n = get_or (members (glyph_names f g)) k d in
-      grind (cases, there, c.names p, sought m f p n, sought m g p n)) in
-      grind (cases, none)
-
   -- compatible fonts have no conflict of states
   no_states_conflict : states_conflict m f g ≡ None
   no_states_conflict =
       let shells = no_part_differs (shared_of f) (shared_of g) ((sharing f g).0 (record { shells = c.shells; present = c.present; kinds = c.kinds })) in
       let codes = passes_none (code_clashes f g) (members (codes_of_both f.encoding g.encoding)) (λ k. no_clash (code_state f.encoding k) (code_state g.encoding k) (c.codes k)) in
       let glyphs = passes_none (glyph_clashes f g) (members (glyph_names f g)) (λ n. no_clash (maps.get f.glyphs n) (maps.get g.glyphs n) (glyph_agree m f g c n)) in
-      let components = passes_none (component_clashes m f g) (members (glyph_names f g)) no_component in
+      let none = λ (p : List ℕ) (there : (has f p || has g p) ≡ true). list_any_none (wanted_by m f g p) (members (glyph_names f g)) (λ k d l.
+      let n = get_or (members (glyph_names f g)) k d in
+      grind (cases, there, c.names p, sought m f p n, sought m g p n)) in
+      let components = passes_none (component_clashes m f g) (members (glyph_names f g)) (λ p. grind (cases, none p)) in
       let subrs = passes_none (subr_clashes m f g) (members (keys_of_both f.subrs g.subrs)) (λ i. no_clash (subr_state m f i) (subr_state m g i) (c.subrs i)) in
       simp (shells, codes, glyphs, components, subrs)
 

@@ -76,23 +76,19 @@ module _ {O : Type 0} (m : Interpreter O) (f g : FontValue) (c : Compatible m f 
   pub calls_join : (p n : List ℕ) → calls_for m whole n p ≡ (calls_for m f n p || calls_for m g n p)
   calls_join p n = grind (cases, glyph_in_join m f g n, left_runs m f g n, right_runs n, glyph_agree m f g c n)
 
-  -- some glyph of the join executes an index if some glyph of one of the fonts does
-  pub called_in_join : (i : ℕ) → is_called m whole i ≡ (is_called m f i || is_called m g i)
-  called_in_join i = some_joined (λ h n. executes m h n i) (λ h n. executing_there m h i (maps.get h.glyphs n)) f g whole (executes_join i)
-
-  -- a component is sought in the join if it is sought in one of the fonts
-  pub sought_in_join : (p : List ℕ) → is_sought m whole p ≡ (is_sought m f p || is_sought m g p)
-  sought_in_join p = some_joined (λ h n. calls_for m h n p) (λ h n. naming_there m h p (maps.get h.glyphs n)) f g whole (calls_join p)
-
   -- ---- the states of the join
 
   -- the state of a Subr in the join is the join of its states
   pub subr_joined : (i : ℕ) → subr_state m whole i ≡ joined (subr_state m f i) (subr_state m g i)
-  subr_joined i = grind (cases, subr_in_join m f g i, called_in_join i, c.present i)
+  subr_joined i =
+      let uses = some_joined (λ h n. executes m h n i) (λ h n. executing_there m h i (maps.get h.glyphs n)) f g whole (executes_join i) in
+      grind (cases, subr_in_join m f g i, uses, c.present i)
 
   -- the state of a name in the join is the join of its states
   pub name_joined : (n : List ℕ) → name_state m whole n ≡ joined (name_state m f n) (name_state m g n)
-  name_joined n = grind (cases, glyph_in_join m f g n, sought_in_join n, c.names n)
+  name_joined p =
+      let seeks = some_joined (λ h n. calls_for m h n p) (λ h n. naming_there m h p (maps.get h.glyphs n)) f g whole (calls_join p) in
+      grind (cases, glyph_in_join m f g p, seeks, c.names p)
 
   -- ---- the entries of a join
 

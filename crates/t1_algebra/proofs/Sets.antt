@@ -131,13 +131,9 @@ module _ {K : Type 0} {R : K → K → Ordering} (o : IsTotalOrder R) (same : Is
   pub any_flat_from : {J : Type 0} (f : J → List K) (q : K) (xs : List J) → list_any (λ x. list_any (eq_by_cmp R q) (f x)) xs ≡ true → list_any (eq_by_cmp R q) (flat_map f xs) ≡ true
   any_flat_from f q xs h = any_flat_map (eq_by_cmp R q) f xs ∙ h
 
--- ---- names and numbers
-
 -- names that compare as equal are equal
 pub name_same : IsAntisymmetric name_cmp
 name_same = slice_cmp-IsAntisymmetric nat_cmp-IsAntisymmetric
-
--- ---- all sets of some names
 
 -- all sets of some names pass a test exactly if each set of these names does
 pub each_set : (ns : List (List ℕ)) (p : Names → Bool) → (list_all p (sets_of ns) ≡ true) ↔ ((s : Names) → ((q : List ℕ) → sets.contains s q ≡ true → list_any (eq_by_cmp name_cmp q) ns ≡ true) → p s ≡ true)
