@@ -35,18 +35,10 @@ module _ (t : TableMeaning) (x : ℕ → Option (List ℕ)) (n : ℕ) (h : HasBe
       let is : maps.get h.map i ≡ x i = grind (arith, nat_tests, h.shown i) in
       ap (λ (t : TableMeaning). maps.get t (of_number i)) h.table ∙ get-numbered h.map (of_number i) ∙ is
 
-  -- a table with the value of n has what x gives below n + 1
-  with_one : (v : List ℕ) → x n ≡ Some v → (i : ℕ) → maps.get (maps.insert h.map n v) i ≡ cond (nat_lt i (n + 1)) (x i) None
-  with_one v e i = grind (arith, nat_tests, h.shown i, maps.get-insert nat_cmp_total h.map n v i)
-
-  -- if x gives nothing at n, the table has what x gives below n + 1
-  with_nothing : x n ≡ None → (i : ℕ) → maps.get h.map i ≡ cond (nat_lt i (n + 1)) (x i) None
-  with_nothing e i = grind (arith, nat_tests, h.shown i)
-
   -- a table that is filled below n is filled below n + 1 once the value of n is put
   pub has_next : (u : TableMeaning) (s : Option (List ℕ)) → u ≡ with_state t (of_number n) s → s ≡ x n → HasBelow u x (n + 1)
-  has_next u None is e = record { map = h.map; table = is ∙ h.table; shown = with_nothing (sym e) }
-  has_next u (Some v) is e = record { map = maps.insert h.map n v; table = is ∙ ap (λ (t : TableMeaning). maps.insert t (of_number n) v) h.table ∙ numbered-insert h.map n v; shown = with_one v (sym e) }
+  has_next u None is e = record { map = h.map; table = is ∙ h.table; shown = λ i. grind (arith, nat_tests, h.shown i, e) }
+  has_next u (Some v) is e = record { map = maps.insert h.map n v; table = is ∙ ap (λ (t : TableMeaning). maps.insert t (of_number n) v) h.table ∙ numbered-insert h.map n v; shown = λ i. grind (arith, nat_tests, h.shown i, e, maps.get-insert nat_cmp_total h.map n v i) }
 
 -- ---- codes and Subrs
 
