@@ -1,35 +1,16 @@
 -- The names of a closure: a list to which names are added at the end, until it is closed; and the cut of a font to it.
-use Rattle.std.proofs.lemmas.Bool.{or_cases, or_left, or_right, not-false}
+use Rattle.std.proofs.{lemmas.Bool.{or_cases, or_left, or_right, not-false}, lemmas.Map.Keys.{IsDistinct-push}, lemmas.List.{take-append-le, map-append, append-nil, length-map}}
+use Rattle.std.proofs.{lemmas.Map.Made.{length-le_from_is_member}, lemmas.List.Folds.{list_any_more, list_any_at, list_any-append}, lemmas.Option.{slice_get_cases}}
 use Rattle.std.proofs.Common.{◌≡◌, ℕ, ◌+◌, ◌<◌, ◌≤◌, Bool, true, false, List, [], ◌∷◌, ◌++◌, refl, sym, ◌∙◌, ap, inl, inr, length, take, cond, arith, length-append, true≢false, get_or, ◌||◌, Some, None, slice_get, not, subst, take_all, filter, nat_cmp, append_assoc}
-use Rattle.std.specs.List.{list_any, IsDistinct}
-use Rattle.std.proofs.lemmas.Map.Keys.{IsDistinct-push}
-use Rattle.std.proofs.lemmas.List.{take-append-le, map-append, append-nil, length-map}
-use Rattle.std.specs.Cmp.{eq_by_cmp_equiv, nat_cmp_total}
-use Rattle.std.specs.Cmp.Lexicographic.{nat_list_cmp_total, pointwise, texts_ties}
-use Rattle.std.specs.Prelude.{nat_eq}
-use Rattle.std.specs.Borrow.{Bor}
-use Rattle.std.specs.FinSet as sets
-use Rattle.std.proofs.lemmas.Map.Made.{length-le_from_is_member}
-use Rattle.std.proofs.lemmas.List.Folds.{list_any_more, list_any_at, list_any-append}
-use Rattle.std.specs.FinMap as maps
-use Rattle.std.specs.BTreeSet.{BTreeSet, contains}
+use Rattle.std.specs.{List.{list_any, IsDistinct}, Cmp.{eq_by_cmp_equiv, nat_cmp_total}, Cmp.Lexicographic.{nat_list_cmp_total, pointwise, texts_ties}, Prelude.{nat_eq}, Borrow.{Bor}, BTreeSet.{BTreeSet, contains}}
 use Rattle.std.specs.Global.{Vec}
-use Rattle.std.proofs.lemmas.Option.{slice_get_cases}
-use Rattle.t1_font.specs.FontValue.{FontValue, notdef}
-use Rattle.t1_font.specs.IsFont.{IsFont}
-use Rattle.t1_font.specs.Cut.{set_of_names, restrict}
-use Rattle.t1_algebra.specs.Interpreter.{same_bytes, Interpreter, Names, Numbers}
-use Rattle.t1_algebra.specs.Keep.{has, Closed, keep, components, components_here, charstring, kept, subset}
-use Rattle.t1_algebra.specs.Laws.{IsOf, DrawsAlike}
-use Rattle.t1_algebra.specs.Searches.{first_where}
+use Rattle.std.specs.FinSet as sets
+use Rattle.std.specs.FinMap as maps
+use Rattle.t1_font.specs.{FontValue.{FontValue, notdef}, IsFont.{IsFont}, Cut.{set_of_names, restrict}}
+use Rattle.t1_algebra.specs.{Interpreter.{same_bytes, Interpreter, Names, Numbers}, Keep.{has, Closed, keep, components, components_here, charstring, kept, subset}, Laws.{IsOf, DrawsAlike}, Searches.{first_where}}
 use Rattle.t1_algebra.specs.Profile.{profile}
-use Rattle.t1_algebra.proofs.Sets.{cases, name_same, tied, itself, in_list, any_filter, from_in_list, same_members}
-use Rattle.t1_algebra.proofs.Searching.{none_at_all}
-use Rattle.t1_algebra.proofs.Kept.{keep_least, keep_from, keep_has, keep_closed}
-use Rattle.t1_algebra.proofs.Drawings.{subset_alike}
-use Rattle.t1_subset.specs.ClosureNames.{push_new, push_all}
-use Rattle.t1_subset.specs.NameSets.{lent}
-use Rattle.t1_subset.specs.Calls.{number_set}
+use Rattle.t1_algebra.proofs.{Sets.{cases, name_same, tied, itself, in_list, any_filter, from_in_list, same_members}, Searching.{none_at_all}, Kept.{keep_least, keep_from, keep_has, keep_closed}, Drawings.{subset_alike}}
+use Rattle.t1_subset.specs.{ClosureNames.{push_new, push_all}, NameSets.{lent}, Calls.{number_set}}
 use Rattle.indexmap.specs.IndexSet.{insert_key}
 
 -- ---- names that are added to a list

@@ -1,15 +1,11 @@
 -- Tables that are filled by number, from 0 on.
 use Rattle.std.proofs.lemmas.Bool.Decides.{nat_tests}
 use Rattle.std.proofs.Common.{◌≡◌, ℕ, ◌<◌, ◌≤◌, ◌+◌, Bool, true, cond, List, refl, sym, ◌∙◌, ap, Option, Some, None, is_some, nat_cmp, nat_lt, arith}
-use Rattle.std.specs.Cmp.{nat_cmp_total}
+use Rattle.std.specs.{Cmp.{nat_cmp_total}, FinSet.{nat_cmp-IsAntisymmetric}}
 use Rattle.std.specs.FinMap as maps
-use Rattle.std.specs.FinSet.{nat_cmp-IsAntisymmetric}
-use Rattle.t1_join.specs.Meaning.{of_number}
-use Rattle.t1_join.specs.TableMeaning.{TableMeaning}
+use Rattle.t1_join.specs.{Meaning.{of_number}, TableMeaning.{TableMeaning}}
 use Rattle.t1_font.specs.FontValue.{FontValue, Encoding, Word, Codes, Numbered}
-use Rattle.t1_algebra.specs.Profile.{profile}
-use Rattle.t1_algebra.specs.States.{code_state, is_called, state_of_entry}
-use Rattle.t1_algebra.specs.StateTables.{numbered, code_states}
+use Rattle.t1_algebra.specs.{Profile.{profile}, States.{code_state, is_called, state_of_entry}, StateTables.{numbered, code_states}}
 use Rattle.t1_algebra.proofs.Tables.{get-numbered, numbered-empty, numbered-insert}
 use Rattle.t1_subset.specs.Differences.{with_state, entry_state}
 

@@ -1,44 +1,20 @@
 -- The lowest conflict of two fonts, as the code finds it in their states.
 use Rattle.std.proofs.Common.{◌≡◌, ℕ, ◌≤◌, true, not, cond, List, refl, sym, ◌∙◌, ap, true≢false, Option, Some, None, is_some, arith, inl, inr, [], unwrap_or, MatchOption, ◌<◌, ◌||◌, nat_cmp, subst, option_map, Ordering}
 use Rattle.std.proofs.lemmas.Bool.{false_from_ne_true}
-use Rattle.std.specs.Cmp.{IsTotalOrder, nat_cmp_total, first_so}
-use Rattle.std.specs.FinSet.{IsAntisymmetric, nat_cmp-IsAntisymmetric}
+use Rattle.std.specs.{Cmp.{IsTotalOrder, nat_cmp_total, first_so}, FinSet.{IsAntisymmetric, nat_cmp-IsAntisymmetric}, List.{list_any}, Cmp.Lexicographic.{nat_list_cmp_total}}
 use Rattle.std.specs.FinMap as maps
-use Rattle.std.specs.List.{list_any}
-use Rattle.std.specs.Cmp.Lexicographic.{nat_list_cmp_total}
-use Rattle.t1_join.specs.TableMeaning.{TableMeaning, TablesAgree, IsFirstConflict}
-use Rattle.t1_join.specs.Meaning.{Meaning, of_number, by_number_law}
-use Rattle.t1_join.specs.Join.{states_agree, joined_state}
-use Rattle.t1_join.specs.TableLaws.{same_table}
-use Rattle.t1_font.specs.FontValue.{FontValue, Encoding, Word, Codes, name_cmp}
-use Rattle.t1_font.specs.FontModel.{name_at}
-use Rattle.t1_font.specs.IsFont.{IsFont, IsEncoding}
-use Rattle.t1_font.specs.Joins.{join_parts, Refuses}
-use Rattle.t1_font.specs.WriteLaws.{SameKind}
+use Rattle.t1_join.specs.{TableMeaning.{TableMeaning, TablesAgree, IsFirstConflict}, Meaning.{Meaning, of_number, by_number_law}, Join.{states_agree, joined_state}, TableLaws.{same_table}}
+use Rattle.t1_font.specs.{FontValue.{FontValue, Encoding, Word, Codes, name_cmp}, FontModel.{name_at}, IsFont.{IsFont, IsEncoding}, Joins.{join_parts, Refuses}, WriteLaws.{SameKind}}
 use Rattle.t1_font.specs.declared.parts.PartsFault.{PartsFault}
 use Rattle.t1_font.specs.declared.parts.PartsFault.TheVariants as parts
 use Rattle.t1_algebra.specs.Conflicts.{agrees, clashes_at, codes_of_both, subr_clashes, ShellDiffers, CodeDiffers, GlyphDiffers, LacksComponent, SubrDiffers, keys_of_both, shell_conflict, code_conflict, glyph_conflict, component_conflict, subr_conflict, wanted_by, used_by, glyph_names, code_clashes, glyph_clashes, component_clashes, Conflict, OverLimit, states_conflict, conflict, is_within}
-use Rattle.t1_algebra.specs.States.{code_state, subr_state, IsWithin, Join, joined_font}
-use Rattle.t1_algebra.specs.Interpreter.{Interpreter}
-use Rattle.t1_algebra.specs.Keep.{has}
-use Rattle.t1_algebra.specs.Profile.{profile}
-use Rattle.t1_algebra.specs.StateTables.{StatesValue, name_part, code_states, name_states, used_subrs, numbered, states_of, behind_mark, names_table, name_meaning}
-use Rattle.t1_algebra.specs.Shared.{Shared, shared_of, differing_part, ShellPart}
-use Rattle.t1_algebra.specs.Searches.{found, smallest, members, IsLowest}
-use Rattle.t1_algebra.specs.NameStates.{is_sought_in, charstrings_differ, one_lacks}
-use Rattle.t1_algebra.proofs.Maps.{in_both}
-use Rattle.t1_algebra.proofs.Searching.{first_passes}
-use Rattle.t1_algebra.proofs.Sets.{name_same, cases, cases_Option}
-use Rattle.t1_algebra.proofs.Tables.{Shows, codes_shown, meanings_as_bytes, get-name}
-use Rattle.t1_algebra.proofs.FontStates.{get-names, subrs_shown, glyph_known}
-use Rattle.t1_algebra.proofs.Conflicts.{compatible, within_so}
-use Rattle.t1_algebra.proofs.Fonts.{font_within}
-use Rattle.t1_algebra.proofs.JoinedStates.{joined_are_entries}
-use Rattle.t1_subset.specs.Callers.{seeker_of}
-use Rattle.t1_subset.specs.declared.conflict.Conflict.{Conflict as Refusal}
-use Rattle.t1_subset.specs.Refusals.{Tells, of_parts}
-use Rattle.t1_subset.proofs.state_tables.LowestKeys.{lowest_is}
-use Rattle.t1_subset.proofs.state_tables.FontCallers.{any_first, sought_is, smallest_seeker}
+use Rattle.t1_algebra.specs.{States.{code_state, subr_state, IsWithin, Join, joined_font}, Interpreter.{Interpreter}, Keep.{has}, Profile.{profile}}
+use Rattle.t1_algebra.specs.{StateTables.{StatesValue, name_part, code_states, name_states, used_subrs, numbered, states_of, behind_mark, names_table, name_meaning}, Shared.{Shared, shared_of, differing_part, ShellPart}}
+use Rattle.t1_algebra.specs.{Searches.{found, smallest, members, IsLowest}, NameStates.{is_sought_in, charstrings_differ, one_lacks}}
+use Rattle.t1_algebra.proofs.{Maps.{in_both}, Searching.{first_passes}, Sets.{name_same, cases, cases_Option}, Tables.{Shows, codes_shown, meanings_as_bytes, get-name}, FontStates.{get-names, subrs_shown, glyph_known}}
+use Rattle.t1_algebra.proofs.{Conflicts.{compatible, within_so}, Fonts.{font_within}, JoinedStates.{joined_are_entries}}
+use Rattle.t1_subset.specs.{Callers.{seeker_of}, declared.conflict.Conflict.{Conflict as Refusal}, Refusals.{Tells, of_parts}}
+use Rattle.t1_subset.proofs.{state_tables.LowestKeys.{lowest_is}, state_tables.FontCallers.{any_first, sought_is, smallest_seeker}}
 
 -- a state that does not join is not the bottom
 pub there_of : (x y : Option (List ℕ)) → not (agrees x y) ≡ true → is_some x ≡ true

@@ -1,32 +1,17 @@
 -- The smallest glyphs that execute a Subr or seek a component, as the code notes them, and in a join.
 use Rattle.std.proofs.lemmas.Simd.{map-map}
 use Rattle.std.proofs.Common.{arith, ◌≡◌, ℕ, Bool, true, false, not, cond, ◌&&◌, ◌||◌, List, [], ◌∷◌, ◌++◌, map, refl, sym, ◌∙◌, ap, Option, Some, None, is_some}
-use Rattle.std.specs.List.{list_any}
-use Rattle.std.specs.Cmp.{nat_cmp_total, second_so}
-use Rattle.std.specs.Cmp.Lexicographic.{nat_list_cmp_total}
+use Rattle.std.specs.{List.{list_any}, Cmp.{nat_cmp_total, second_so}, Cmp.Lexicographic.{nat_list_cmp_total}}
 use Rattle.std.specs.FinMap as maps
 use Rattle.std.specs.FinSet as sets
 use Rattle.t1_join.specs.Meaning.{of_number}
-use Rattle.t1_font.specs.Maps.{merged}
-use Rattle.t1_font.specs.FontValue.{FontValue, Named, name_cmp}
-use Rattle.t1_font.specs.FontModel.{names_in}
+use Rattle.t1_font.specs.{Maps.{merged}, FontValue.{FontValue, Named, name_cmp}, FontModel.{names_in}}
 use Rattle.t1_font.proofs.MapLemmas.{entries-map_values}
-use Rattle.t1_algebra.specs.Interpreter.{same_bytes}
-use Rattle.t1_algebra.specs.Keep.{has, components, charstring}
-use Rattle.t1_algebra.specs.Profile.{profile}
-use Rattle.t1_algebra.specs.States.{joined, is_called, is_sought, joined_font, Compatible, executes, calls_for}
-use Rattle.t1_algebra.specs.Conflicts.{keys_of_both, wants, wanted_by, used_by, glyph_names}
-use Rattle.t1_algebra.specs.Searches.{smallest, members, first_where}
-use Rattle.t1_algebra.proofs.Subsets.{glyph_in_join}
-use Rattle.t1_algebra.proofs.JoinedStates.{present_joined, executes_join, calls_join}
-use Rattle.t1_algebra.proofs.Uses.{executing_there, naming_there, sought}
-use Rattle.t1_algebra.proofs.Sets.{name_same, clash, tied, cases}
-use Rattle.t1_subset.specs.declared.callers.Callers.{Callers}
-use Rattle.t1_subset.specs.Differences.{smaller}
-use Rattle.t1_subset.specs.Callers.{same_charstring, user_of, seeker_of, user_from, seeker_from, AreCallersOf}
-use Rattle.t1_subset.specs.Clashes.{AreCallers}
-use Rattle.t1_subset.proofs.closing.Runs.{calls_by, no_calls, no_components}
-use Rattle.t1_subset.proofs.state_tables.LowestKeys.{smaller_first}
+use Rattle.t1_algebra.specs.{Interpreter.{same_bytes}, Keep.{has, components, charstring}, Profile.{profile}, States.{joined, is_called, is_sought, joined_font, Compatible, executes, calls_for}}
+use Rattle.t1_algebra.specs.{Conflicts.{keys_of_both, wants, wanted_by, used_by, glyph_names}, Searches.{smallest, members, first_where}}
+use Rattle.t1_algebra.proofs.{Subsets.{glyph_in_join}, JoinedStates.{present_joined, executes_join, calls_join}, Uses.{executing_there, naming_there, sought}, Sets.{name_same, clash, tied, cases}}
+use Rattle.t1_subset.specs.{declared.callers.Callers.{Callers}, Differences.{smaller}, Callers.{same_charstring, user_of, seeker_of, user_from, seeker_from, AreCallersOf}, Clashes.{AreCallers}}
+use Rattle.t1_subset.proofs.{closing.Runs.{calls_by, no_calls, no_components}, state_tables.LowestKeys.{smaller_first}}
 
 -- ---- the first of some names
 

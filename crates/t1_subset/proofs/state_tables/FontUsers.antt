@@ -2,8 +2,7 @@
 use Rattle.std.proofs.lemmas.Bool.Decides.{nat_tests}
 use Rattle.std.proofs.Common.{◌≡◌, ◌<◌, ℕ, true, None, ◌≤◌, arith}
 use Rattle.std.specs.FinMap as maps
-use Rattle.t1_font.specs.FontValue.{FontValue, declared_count}
-use Rattle.t1_font.specs.IsFont.{IsFont}
+use Rattle.t1_font.specs.{FontValue.{FontValue, declared_count}, IsFont.{IsFont}}
 use Rattle.t1_font.proofs.FontReaders.{subrs_seen}
 
 -- a font has no Subr at its declared count or above it

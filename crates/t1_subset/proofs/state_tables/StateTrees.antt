@@ -4,25 +4,12 @@ use Rattle.std.proofs.lemmas.List.{map-id}
 use Rattle.std.specs.List.{AllByRecursion}
 use Rattle.t1_join.specs.Groupings.{Grouping, one, two, from_left, IsJoinOf}
 use Rattle.t1_join.proofs.OrderLemmas.{each_leaf, leaves_mapped, leaves_from_left, uses_its}
-use Rattle.t1_font.specs.declared.parts.PartsFault.{PartsFault}
-use Rattle.t1_font.specs.declared.parts.PartsFault.TheVariants as parts
-use Rattle.t1_font.specs.FontValue.{FontValue, Encoding}
-use Rattle.t1_font.specs.IsFont.{IsFont}
-use Rattle.t1_font.specs.Joins.{join_encodings, join_parts, join_all_parts, HaveOneGlyph, Refuses}
-use Rattle.t1_font.specs.Maps.{IsPartOf}
+use Rattle.t1_font.specs.{declared.parts.PartsFault.{PartsFault}, FontValue.{FontValue, Encoding}, IsFont.{IsFont}, Joins.{join_encodings, join_parts, join_all_parts, HaveOneGlyph, Refuses}, Maps.{IsPartOf}}
 use Rattle.t1_font.specs.WriteLaws.{SameKind}
-use Rattle.t1_algebra.specs.Profile.{profile}
-use Rattle.t1_algebra.specs.States.{IsWithin, Compatible, Join, joined_font}
-use Rattle.t1_algebra.specs.Groupings.{Merges}
-use Rattle.t1_algebra.specs.StateTables.{StatesValue, StatesJoin, states_of}
-use Rattle.t1_algebra.specs.Merges.{EachGroupingMerges, ComesTo}
-use Rattle.t1_algebra.proofs.Fonts.{font_within, fonts_within}
-use Rattle.t1_algebra.proofs.JoinedStates.{font_back, left_glyph, joined_are_entries}
-use Rattle.t1_algebra.proofs.Orders.{grouped, merges_by_states}
-use Rattle.t1_subset.specs.Refusals.{of_parts}
-use Rattle.t1_subset.specs.declared.conflict.Conflict.{Conflict as Refusal}
-use Rattle.t1_subset.specs.declared.conflict.Conflict.TheVariants.{Memory}
-use Rattle.t1_subset.specs.Merger.{IsRefused}
+use Rattle.t1_font.specs.declared.parts.PartsFault.TheVariants as parts
+use Rattle.t1_algebra.specs.{Profile.{profile}, States.{IsWithin, Compatible, Join, joined_font}, Groupings.{Merges}, StateTables.{StatesValue, StatesJoin, states_of}, Merges.{EachGroupingMerges, ComesTo}}
+use Rattle.t1_algebra.proofs.{Fonts.{font_within, fonts_within}, JoinedStates.{font_back, left_glyph, joined_are_entries}, Orders.{grouped, merges_by_states}}
+use Rattle.t1_subset.specs.{Refusals.{of_parts}, declared.conflict.Conflict.{Conflict as Refusal}, declared.conflict.Conflict.TheVariants.{Memory}, Merger.{IsRefused}}
 
 -- if the code answers a join of the states of all fonts, each grouping of the fonts merges
 pub joined_groupings : (fs : List FontValue) → AllByRecursion IsFont fs → (ss : List StatesValue) → ss ≡ map (states_of profile) fs → (o : Option StatesValue) → is_some o ≡ true → IsJoinOf StatesJoin (map (λ s. s) ss) (option_map (λ s. s) o) → EachGroupingMerges fs

@@ -1,32 +1,16 @@
 -- Merging fonts from left to right, by their states and callers.
 use Rattle.std.proofs.Common.{◌≡◌, ◌<◌, ◌≤◌, ◌+◌, ℕ, zero, suc, inr, cond, List, [], ◌∷◌, ◌++◌, map, length, take, take_all, drop, get_or, refl, sym, ◌∙◌, ap, subst, arith, add-one, Some, None, IsPermutation}
-use Rattle.std.proofs.lemmas.List.{length-map, map-append, take_more}
-use Rattle.std.proofs.lemmas.List.Sorted.{IsPermutation-refl}
+use Rattle.std.proofs.{lemmas.List.{length-map, map-append, take_more}, lemmas.List.Sorted.{IsPermutation-refl}}
 use Rattle.std.specs.List.{AllByRecursion}
 use Rattle.t1_join.specs.Groupings.{Grouping, one, leaves, from_left}
 use Rattle.t1_join.proofs.OrderLemmas.{leaves_from_left, all_of_both}
-use Rattle.t1_font.specs.FontValue.{FontValue}
-use Rattle.t1_font.specs.IsFont.{IsFont}
-use Rattle.t1_algebra.specs.Profile.{profile}
-use Rattle.t1_algebra.specs.States.{Join, joined_font}
-use Rattle.t1_algebra.specs.StateTables.{StatesValue, StatesAgree, StatesJoin, states_of}
-use Rattle.t1_algebra.specs.StateLaws.{states_laws}
-use Rattle.t1_algebra.specs.Conflicts.{OverLimit, states_conflict, conflict}
-use Rattle.t1_algebra.specs.Searches.{found}
-use Rattle.t1_algebra.specs.Groupings.{Merges}
-use Rattle.t1_algebra.specs.Merges.{ComesTo, EachGroupingMerges}
-use Rattle.t1_algebra.proofs.Conflicts.{no_conflict}
-use Rattle.t1_algebra.proofs.FontStates.{join_exactly, states_join}
-use Rattle.t1_algebra.proofs.Fonts.{font_within, joined_is_font, any_order_of_fonts}
-use Rattle.t1_algebra.proofs.ManyMerges.{left_snoc, each_font}
-use Rattle.t1_subset.specs.declared.callers.Callers.{Callers}
-use Rattle.t1_subset.specs.declared.conflict.Conflict.{Conflict as Refusal}
-use Rattle.t1_subset.specs.Refusals.{Tells}
-use Rattle.t1_subset.specs.Callers.{AreCallersOf, AreNoted, fonts_of}
-use Rattle.t1_subset.specs.Clashes.{AreStatesOf, AreCallers}
+use Rattle.t1_font.specs.{FontValue.{FontValue}, IsFont.{IsFont}}
+use Rattle.t1_algebra.specs.{Profile.{profile}, States.{Join, joined_font}, StateTables.{StatesValue, StatesAgree, StatesJoin, states_of}, StateLaws.{states_laws}, Conflicts.{OverLimit, states_conflict, conflict}}
+use Rattle.t1_algebra.specs.{Searches.{found}, Groupings.{Merges}, Merges.{ComesTo, EachGroupingMerges}}
+use Rattle.t1_algebra.proofs.{Conflicts.{no_conflict}, FontStates.{join_exactly, states_join}, Fonts.{font_within, joined_is_font, any_order_of_fonts}, ManyMerges.{left_snoc, each_font}}
+use Rattle.t1_subset.specs.{declared.callers.Callers.{Callers}, declared.conflict.Conflict.{Conflict as Refusal}, Refusals.{Tells}, Callers.{AreCallersOf, AreNoted, fonts_of}, Clashes.{AreStatesOf, AreCallers}}
 use Rattle.t1_subset.specs.Merger.{IsRefused}
-use Rattle.t1_subset.proofs.state_tables.Conflicts.{over}
-use Rattle.t1_subset.proofs.state_tables.FontCallers.{CallersSoFar, first_callers, both_callers, more_callers}
+use Rattle.t1_subset.proofs.{state_tables.Conflicts.{over}, state_tables.FontCallers.{CallersSoFar, first_callers, both_callers, more_callers}}
 
 -- ---- two fonts
 

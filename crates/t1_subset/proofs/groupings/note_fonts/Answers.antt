@@ -1,6 +1,5 @@
 use Rattle.std.proofs.Common.{◌∙◌, ap, map, sym, subst, take_all}
-use Rattle.t1_algebra.specs.Profile.{profile}
-use Rattle.t1_algebra.specs.StateTables.{states_of}
+use Rattle.t1_algebra.specs.{Profile.{profile}, StateTables.{states_of}}
 use Rattle.t1_subset.specs.Callers.{AreNoted, fonts_of}
 use Rattle.t1_subset.proofs.state_tables.Walks.{noted_more}
 use Rattle.t1_subset.proofs.groupings.note_fonts.Goals as goal

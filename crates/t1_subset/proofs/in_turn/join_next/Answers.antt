@@ -1,7 +1,6 @@
 use Rattle.std.proofs.Common.{sym, ◌∙◌, ap, true≢false}
 use Rattle.t1_algebra.specs.StateTables.{StatesValue}
-use Rattle.t1_subset.proofs.state_tables.Conflicts.{parts_seen, tells_shell, tells_states}
-use Rattle.t1_subset.proofs.state_tables.Walks.{joins_to, limits_refuse}
+use Rattle.t1_subset.proofs.{state_tables.Conflicts.{parts_seen, tells_shell, tells_states}, state_tables.Walks.{joins_to, limits_refuse}}
 use Rattle.t1_subset.proofs.in_turn.join_next.Goals as goal
 
 pub returns-in-Err-clause-err : goal.returns-in-Err-clause-err

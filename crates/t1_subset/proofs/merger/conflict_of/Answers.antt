@@ -1,6 +1,5 @@
 use Rattle.std.proofs.Common.{[], ◌∷◌, sym, ◌∙◌}
-use Rattle.t1_subset.proofs.state_tables.FontCallers.{first_callers, both_callers}
-use Rattle.t1_subset.proofs.state_tables.Conflicts.{parts_seen}
+use Rattle.t1_subset.proofs.{state_tables.FontCallers.{first_callers, both_callers}, state_tables.Conflicts.{parts_seen}}
 use Rattle.t1_subset.proofs.merger.conflict_of.Goals as goal
 
 pub returns-clause-ok : goal.returns-clause-ok

@@ -1,8 +1,7 @@
 use Rattle.std.proofs.Common.{◌∙◌, ap}
 use Rattle.std.specs.FinMap as maps
 use Rattle.t1_algebra.specs.Profile.{profile}
-use Rattle.t1_algebra.proofs.Fonts.{font_within}
-use Rattle.t1_algebra.proofs.FontStates.{sized}
+use Rattle.t1_algebra.proofs.{Fonts.{font_within}, FontStates.{sized}}
 use Rattle.t1_subset.proofs.state_making.states_from.Goals as goal
 
 pub invariant_of-result : goal.invariant_of-result

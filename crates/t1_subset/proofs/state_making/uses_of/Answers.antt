@@ -3,11 +3,7 @@ use Rattle.std.specs.List.{list_any}
 use Rattle.std.specs.FinMap as maps
 use Rattle.std.specs.FinSet as sets
 use Rattle.std.proofs.lemmas.Map.Iter.{rest_more, rest_all}
-use Rattle.t1_algebra.specs.Interpreter.{same_bytes}
-use Rattle.t1_algebra.specs.Keep.{has}
-use Rattle.t1_algebra.specs.Profile.{profile}
-use Rattle.t1_algebra.specs.States.{joined, executes, executed_at, called_at}
-use Rattle.t1_algebra.specs.Conflicts.{wants}
+use Rattle.t1_algebra.specs.{Interpreter.{same_bytes}, Keep.{has}, Profile.{profile}, States.{joined, executes, executed_at, called_at}, Conflicts.{wants}}
 use Rattle.t1_algebra.proofs.Sets.{cases}
 use Rattle.t1_subset.specs.Users.{noted_at}
 use Rattle.t1_subset.proofs.state_tables.FontCallers.{executes_so, calls_so, again_same, noting_starts, noting_again, noting_next, noting_ends}

@@ -1,12 +1,8 @@
 use Rattle.std.proofs.Common.{◌≡◌, ◌<◌, ℕ, true, not, ◌&&◌, List, length}
 use Rattle.std.specs.Option.{option_map}
 use Rattle.std.specs.FinMap as maps
-use Rattle.t1_algebra.specs.Keep.{has}
-use Rattle.t1_algebra.specs.Profile.{profile}
-use Rattle.t1_algebra.specs.States.{executes, executed_at, called_at}
-use Rattle.t1_algebra.specs.Conflicts.{wants}
-use Rattle.t1_subset.specs.Callers.{user_of, seeker_of}
-use Rattle.t1_subset.specs.Users.{noted_at}
+use Rattle.t1_algebra.specs.{Keep.{has}, Profile.{profile}, States.{executes, executed_at, called_at}, Conflicts.{wants}}
+use Rattle.t1_subset.specs.{Callers.{user_of, seeker_of}, Users.{noted_at}}
 use Rattle.t1_subset.proofs.state_tables.FontCallers.{IsNoting}
 use Rattle.t1_subset.proofs.state_making.uses_of.Given as goal
 
