@@ -1,29 +1,17 @@
 -- What the calls that merge answer.
 use Rattle.std.proofs.Common.{◌≡◌, inl, inr, List, [], ◌∷◌, map, refl, sym, ◌∙◌, ap, subst, Option, None, Result, Ok, Err, IfOk, IfErr, IsPermutation, nat_eq, Bool, true, ◌⊎◌, length, arith}
 use Rattle.std.specs.List.{AllByRecursion}
-use Rattle.std.proofs.lemmas.List.Sorted.{IsPermutation-sym}
-use Rattle.std.proofs.lemmas.Bool.{eqb-true}
+use Rattle.std.proofs.{lemmas.List.Sorted.{IsPermutation-sym}, lemmas.Bool.{eqb-true}}
 use Rattle.t1_join.proofs.OrderLemmas.{leaves_from_left, same_leaves}
 use Rattle.t1_join.specs.Groupings.{Grouping, one, two, from_left, leaves}
-use Rattle.t1_font.specs.FontValue.{FontValue}
-use Rattle.t1_font.specs.IsFont.{IsFont}
-use Rattle.t1_algebra.specs.Interpreter.{Names}
-use Rattle.t1_algebra.specs.Keep.{subset}
-use Rattle.t1_algebra.specs.Profile.{profile}
-use Rattle.t1_algebra.specs.Laws.{IsOf, DrawsAlike}
-use Rattle.t1_algebra.specs.States.{Join, joined_font, IsWithin}
-use Rattle.t1_algebra.specs.Conflicts.{Conflict, conflict}
-use Rattle.t1_algebra.specs.Groupings.{Merges, union_all, folded}
+use Rattle.t1_font.specs.{FontValue.{FontValue}, IsFont.{IsFont}}
+use Rattle.t1_algebra.specs.{Interpreter.{Names}, Keep.{subset}, Profile.{profile}, Laws.{IsOf, DrawsAlike}, States.{Join, joined_font, IsWithin}, Conflicts.{Conflict, conflict}, Groupings.{Merges, union_all, folded}}
 use Rattle.t1_algebra.specs.Merges.{DrawsBoth, ComesTo, DrawsAll, MergesToNone}
-use Rattle.t1_algebra.proofs.Drawings.{left_alike, right_alike}
-use Rattle.t1_algebra.proofs.Conflicts.{no_conflict, conflict_back}
-use Rattle.t1_algebra.proofs.Fonts.{two_subsets, font_within, fonts_within, any_order_of_fonts}
+use Rattle.t1_algebra.proofs.{Drawings.{left_alike, right_alike}, Conflicts.{no_conflict, conflict_back}, Fonts.{two_subsets, font_within, fonts_within, any_order_of_fonts}}
 use Rattle.t1_algebra.proofs.Orders.{one_result, any_order, join_self, join_back, accepted_from_pairs, pairs_from_accepted, folded_is, within}
 use Rattle.t1_algebra.proofs.ManyMerges.{left_append, inner, no_tree, each_font, cut_at, all_before, all_of_font, one_subset, all_draw}
-use Rattle.t1_subset.specs.declared.conflict.Conflict.{Conflict as Refusal}
+use Rattle.t1_subset.specs.{declared.conflict.Conflict.{Conflict as Refusal}, Refusals.{Tells}, Merger.{StopsAt, IsRefused, MergesSubsets, MergesAllSubsets, IsMerger, MergesItself, AcceptsAllJoin, MergesInAnyOrder}}
 use Rattle.t1_subset.specs.declared.conflict.Conflict.TheVariants as refusal
-use Rattle.t1_subset.specs.Refusals.{Tells}
-use Rattle.t1_subset.specs.Merger.{StopsAt, IsRefused, MergesSubsets, MergesAllSubsets, IsMerger, MergesItself, AcceptsAllJoin, MergesInAnyOrder}
 
 -- if there is no conflict, a refusal tells want of memory
 pub tells_none : (e : Refusal) (c : Option Conflict) → c ≡ None → Tells e c → e ≡ refusal.Memory

@@ -1,13 +1,12 @@
--- The callers and the states of two fonts, and their lowest conflict of entries and of uses.
-use Rattle.std.specs.Prelude.{◌≡◌, ℕ, true, List, [], Option, None}
-use Rattle.std.specs.Option.{unwrap_or}
+-- The callers and the states of two fonts.
+use Rattle.std.specs.Prelude.{◌≡◌, ℕ, true, List, None}
 use Rattle.std.specs.FinMap as maps
 use Rattle.t1_font.specs.FontValue.{FontValue}
 use Rattle.t1_font.specs.IsFont.{IsFont}
 use Rattle.t1_algebra.specs.Profile.{profile}
 use Rattle.t1_algebra.specs.StateTables.{StatesValue, states_of}
-use Rattle.t1_algebra.specs.Conflicts.{Conflict, ShellDiffers, CodeDiffers, GlyphDiffers, LacksComponent, SubrDiffers, shell_conflict, code_conflict, glyph_conflict, component_conflict, subr_conflict, wanted_by, used_by, glyph_names}
-use Rattle.t1_algebra.specs.Searches.{found, smallest}
+use Rattle.t1_algebra.specs.Conflicts.{wanted_by, used_by, glyph_names}
+use Rattle.t1_algebra.specs.Searches.{smallest}
 use Rattle.t1_subset.specs.declared.callers.Callers.{Callers}
 use Rattle.t1_subset.specs.Callers.{user_from, seeker_from}
 
@@ -22,14 +21,3 @@ pub record AreStatesOf (s t : StatesValue) (f g : FontValue) : Type 0 where
   pub other_font : IsFont g
   pub own : s ≡ states_of profile f
   pub other : t ≡ states_of profile g
-
-module _ (f g : FontValue) where
-  -- the lowest conflict of shells, codes and glyphs
-  abbrev pub entries_conflict : Option Conflict
-  entries_conflict = found ShellDiffers (shell_conflict f g) (found CodeDiffers (code_conflict f g) (found GlyphDiffers (glyph_conflict f g) None))
-
-  -- the lowest conflict of what glyphs name and execute
-  abbrev pub uses_conflict : Option Conflict
-  uses_conflict =
-      found (λ p. LacksComponent (unwrap_or (smallest (wanted_by profile f g p) (glyph_names f g)) []) p) (component_conflict profile f g)
-      (found (λ i. SubrDiffers i (smallest (used_by profile f g i) (glyph_names f g))) (subr_conflict profile f g) None)

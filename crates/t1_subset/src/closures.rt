@@ -33,7 +33,6 @@ fn first_absent<'a>(font: &Font<'_>, names: &'a [&'a [u8]]) -> Option<&'a [u8]>
 }
 
 /// Copies of these names, upwards by their bytes and without repeats.
-#[tactic(auto, using(crate::proofs::closing::NameSets::copy_step))]
 fn upwards(alloc: Global, names: &[&[u8]]) -> Result<Vec<Vec<u8>>, AllocError>
     ensures names { IfOk result (λ vs. set_by vs.items ≡ asked names.now) }
     ensures upwards { IfOk result (λ vs. IsStrictlySortedBy name_cmp (names_of vs.items)) }

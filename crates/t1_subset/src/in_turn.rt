@@ -1,9 +1,9 @@
 //! Why fonts don't merge: their states are joined from left to right up to the first conflict.
 
-ghost use Rattle.std.specs.Prelude.{◌≡◌, ◌<◌, ◌⊎◌, IfOk, IfErr, length, map};
+ghost use Rattle.std.specs.Prelude.{◌≡◌, ◌<◌, IfOk, IfErr, length, map};
 ghost use Rattle.t1_font.specs.FontValue.{FontValue};
 ghost use Rattle.t1_algebra.specs.Profile.{profile};
-ghost use Rattle.t1_algebra.specs.StateTables.{StatesAgree, StatesJoin, states_of};
+ghost use Rattle.t1_algebra.specs.StateTables.{states_of};
 ghost use Rattle.t1_algebra.specs.States.{Join, joined_font};
 ghost use Rattle.t1_algebra.specs.Conflicts.{conflict};
 ghost use Rattle.t1_subset.specs.Clashes.{AreStatesOf, AreCallers};
@@ -19,24 +19,9 @@ use crate::state_value::States;
 use std::alloc::Global;
 use t1_join::{Join, join_all};
 
-/// The joined states of two fonts. If shells and states have no conflict, only the limits can refuse them.
-fn join_states<'a>(
-    alloc: Global,
-    left: &States<'a>,
-    right: &States<'a>,
-) -> Result<States<'a>, Conflict>
-    ensures ok { IfOk result (λ both. StatesJoin left.now right.now both) }
-    ensures err { IfErr result (λ e. (e ≡ Conflict.Memory)
-        ⊎ ((e ≡ Conflict.Limit) × ¬ StatesAgree left.now right.now)) }
-{
-    if !left.agrees(right) {
-        return Err(Conflict::Limit);
-    }
-    Ok(left.join(alloc, right)?)
-}
-
-/// The joined states of two fonts, or their lowest conflict. The callers are those of both fonts.
-#[tactic(auto, using(crate::proofs::state_tables::Conflicts::tells_shell, crate::proofs::state_tables::Conflicts::tells_states, crate::proofs::state_tables::Conflicts::parts_seen, crate::proofs::state_tables::Conflicts::shared_seen))]
+/// The joined states of two fonts, or their lowest conflict: if shells and states have none, only the limits can refuse
+/// them. The callers are those of both fonts.
+#[tactic(auto, using(std::proofs::lemmas::Result::err_from_is_err_and, crate::proofs::state_tables::Conflicts::tells_shell, crate::proofs::state_tables::Conflicts::tells_states, crate::proofs::state_tables::Conflicts::parts_seen))]
 fn join_next<'a>(
     alloc: Global,
     left: &States<'a>,
@@ -58,7 +43,10 @@ fn join_next<'a>(
     if let Err(conflict) = tables_conflict(alloc, left, right, callers) {
         return Err(conflict);
     }
-    join_states(alloc, left, right)
+    if !left.agrees(right) {
+        return Err(Conflict::Limit);
+    }
+    Ok(left.join(alloc, right)?)
 }
 
 /// The first conflict of fonts from left to right, if there is one.

@@ -66,6 +66,7 @@ fn merge_two<'a>(alloc: Global, left: &Font<'a>, right: &Font<'a>) -> Result<Fon
 }
 
 /// The join of one or more fonts, by the callers of each and its states, which are let go before the join is made.
+#[tactic(auto, using(crate::proofs::state_tables::StateTrees::refused_err, crate::proofs::state_tables::Walks::some_noted))]
 fn merge_noted<'a>(
     alloc: Global,
     fonts: &[Font<'a>],

@@ -7,7 +7,7 @@ ghost use Rattle.t1_font.specs.IsFont.{IsFont};
 ghost use Rattle.t1_algebra.specs.Profile.{profile};
 ghost use Rattle.t1_algebra.specs.StateTables.{numbered, code_states, used_subrs};
 ghost use Rattle.t1_algebra.specs.Conflicts.{ShellDiffers, GlyphDiffers, LacksComponent, SubrDiffers, shell_conflict, code_conflict, subr_conflict, states_conflict};
-ghost use Rattle.t1_subset.specs.Clashes.{AreStatesOf, AreCallers, entries_conflict, uses_conflict};
+ghost use Rattle.t1_subset.specs.Clashes.{AreStatesOf, AreCallers};
 ghost use Rattle.t1_subset.specs.Refusals.{Tells};
 ghost use Rattle.t1_algebra.specs.Shared.{differing_part};
 
@@ -108,53 +108,7 @@ pub(crate) fn one_shell(left: &Shared<'_>, right: &Shared<'_>) -> Result<(), Con
     }
 }
 
-/// The lowest conflict of the codes and glyphs of two fonts of one shell, or want of memory.
-#[tactic(auto, using(crate::proofs::state_tables::Conflicts::codes_seen, crate::proofs::state_tables::Conflicts::entries_code))]
-fn entries_conflict(alloc: Global, left: &States<'_>, right: &States<'_>) -> Result<(), Conflict>
-    ensures ok { (f g : FontValue)
-        → AreStatesOf left.now right.now f g
-        → shell_conflict f g ≡ None
-        → IfOk result (λ _. entries_conflict f g ≡ None) }
-    ensures err { (f g : FontValue)
-        → AreStatesOf left.now right.now f g
-        → shell_conflict f g ≡ None
-        → IfErr result (λ e. Tells e (entries_conflict f g)) }
-{
-    if let Some(code) = code_conflict(&left.codes, &right.codes) {
-        return Err(Conflict::Code { code });
-    }
-    match left.names.glyph_conflict(&right.names) {
-        Some(name) => Err(glyph_differs(alloc, name)),
-        None => Ok(()),
-    }
-}
-
-/// The lowest conflict of what the glyphs of two fonts name and execute, or want of memory.
-fn uses_conflict(
-    alloc: Global,
-    left: &States<'_>,
-    right: &States<'_>,
-    callers: &[Callers<'_, '_>],
-) -> Result<(), Conflict>
-    ensures ok { (f g : FontValue)
-        → AreStatesOf left.now right.now f g
-        → IfOk result (λ _. uses_conflict f g ≡ None) }
-    ensures err { (f g : FontValue)
-        → AreStatesOf left.now right.now f g
-        → AreCallers callers.now f g
-        → IfErr result (λ e. Tells e (uses_conflict f g)) }
-{
-    if let Some(part) = left.names.component_conflict(&right.names) {
-        return Err(lacks_component(alloc, seeker(callers, part), part));
-    }
-    match subr_conflict(&left.subrs, &right.subrs) {
-        Some(index) => Err(subr_differs(alloc, index, user(callers, index))),
-        None => Ok(()),
-    }
-}
-
 /// The lowest conflict of the states of two fonts of one shell, or want of memory. The callers are those of both fonts.
-#[tactic(auto, using(crate::proofs::state_tables::Conflicts::tells_entries, crate::proofs::state_tables::Conflicts::then_ok, crate::proofs::state_tables::Conflicts::then_err))]
 pub(crate) fn tables_conflict(
     alloc: Global,
     left: &States<'_>,
@@ -171,8 +125,17 @@ pub(crate) fn tables_conflict(
         → shell_conflict f g ≡ None
         → IfErr result (λ e. Tells e (states_conflict profile f g)) }
 {
-    if let Err(conflict) = entries_conflict(alloc, left, right) {
-        return Err(conflict);
+    if let Some(code) = code_conflict(&left.codes, &right.codes) {
+        return Err(Conflict::Code { code });
     }
-    uses_conflict(alloc, left, right, callers)
+    if let Some(name) = left.names.glyph_conflict(&right.names) {
+        return Err(glyph_differs(alloc, name));
+    }
+    if let Some(part) = left.names.component_conflict(&right.names) {
+        return Err(lacks_component(alloc, seeker(callers, part), part));
+    }
+    match subr_conflict(&left.subrs, &right.subrs) {
+        Some(index) => Err(subr_differs(alloc, index, user(callers, index))),
+        None => Ok(()),
+    }
 }

@@ -25,6 +25,7 @@ pub(crate) type Noted<'a> = Vec<Option<&'a [u8]>>;
 pub(crate) type Users<'a> = Table<u16, &'a [u8]>;
 
 /// Nobody for each Subr that the font declares.
+#[tactic(auto, using(crate::proofs::state_tables::FontUsers::present_below))]
 pub(crate) fn nobody<'a>(alloc: Global, font: &Font<'_>) -> Result<Noted<'a>, AllocError>
     ensures places { IfOk result (λ users. (q : ℕ)
         → maps.contains_key font.now.subrs q ≡ true

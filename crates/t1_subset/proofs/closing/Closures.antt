@@ -1,100 +1,51 @@
 -- The names of a closure: a list to which names are added at the end, until it is closed; and the cut of a font to it.
-use Rattle.std.proofs.lemmas.Bool.{or_cases, not-false}
-use Rattle.std.proofs.Common.{◌≡◌, ℕ, ◌+◌, ◌<◌, ◌≤◌, Bool, true, false, List, [], ◌∷◌, ◌++◌, refl, sym, ◌∙◌, ap, ◌⊎◌, inl, inr, length, take, cond, arith, length-append, true≢false, get_or, ◌||◌, Some, None, slice_get, not, subst, take_all, filter, is_some, nat_cmp, append_assoc}
-use Rattle.std.specs.List.{list_any, IsDistinct}
-use Rattle.std.proofs.lemmas.Map.Keys.{IsDistinct-push}
-use Rattle.std.proofs.lemmas.List.{take-append-le, map-append, append-nil}
-use Rattle.std.specs.Cmp.{eq_by_cmp_equiv, nat_cmp_total}
-use Rattle.std.specs.Cmp.Lexicographic.{nat_list_cmp_total, pointwise, texts_ties}
-use Rattle.std.specs.Prelude.{nat_eq}
-use Rattle.std.specs.Borrow.{Bor}
-use Rattle.std.specs.FinSet as sets
-use Rattle.std.specs.Map.{lookup}
-use Rattle.std.proofs.lemmas.Map.Steps.{length-le_from_keys}
-use Rattle.std.proofs.lemmas.List.Folds.{list_any_more, list_any_at}
-use Rattle.std.specs.FinMap as maps
-use Rattle.std.specs.FinMap.{find}
-use Rattle.std.specs.BTreeSet.{BTreeSet, contains}
+use Rattle.std.proofs.{lemmas.Bool.{or_cases, or_left, or_right, not-false}, lemmas.Map.Keys.{IsDistinct-push}, lemmas.List.{take-append-le, map-append, append-nil, length-map}}
+use Rattle.std.proofs.{lemmas.Map.Made.{length-le_from_is_member}, lemmas.List.Folds.{list_any_more, list_any_at, list_any-append}, lemmas.Option.{slice_get_cases}}
+use Rattle.std.proofs.Common.{◌≡◌, ℕ, ◌+◌, ◌<◌, ◌≤◌, Bool, true, false, List, [], ◌∷◌, ◌++◌, refl, sym, ◌∙◌, ap, inl, inr, length, take, cond, arith, length-append, true≢false, get_or, ◌||◌, Some, None, slice_get, not, subst, take_all, filter, nat_cmp, append_assoc}
+use Rattle.std.specs.{List.{list_any, IsDistinct}, Cmp.{eq_by_cmp_equiv, nat_cmp_total}, Cmp.Lexicographic.{nat_list_cmp_total, pointwise, texts_ties}, Prelude.{nat_eq}, Borrow.{Bor}, BTreeSet.{BTreeSet, contains}}
 use Rattle.std.specs.Global.{Vec}
-use Rattle.std.proofs.lemmas.Option.{slice_get_cases}
-use Rattle.t1_font.specs.FontValue.{FontValue, name_cmp, notdef}
-use Rattle.t1_font.specs.IsFont.{IsFont}
-use Rattle.t1_font.specs.Cut.{set_of_names, restrict}
-use Rattle.t1_algebra.specs.Interpreter.{same_bytes, Interpreter, Names, Numbers}
-use Rattle.t1_algebra.specs.Keep.{has, Closed, keep, components, components_here, charstring, kept, subset}
-use Rattle.t1_algebra.specs.Laws.{IsOf, DrawsAlike}
-use Rattle.t1_algebra.specs.Searches.{first_where}
+use Rattle.std.specs.FinSet as sets
+use Rattle.std.specs.FinMap as maps
+use Rattle.t1_font.specs.{FontValue.{FontValue, notdef}, IsFont.{IsFont}, Cut.{set_of_names, restrict}}
+use Rattle.t1_algebra.specs.{Interpreter.{same_bytes, Interpreter, Names, Numbers}, Keep.{has, Closed, keep, components, components_here, charstring, kept, subset}, Laws.{IsOf, DrawsAlike}, Searches.{first_where}}
 use Rattle.t1_algebra.specs.Profile.{profile}
-use Rattle.t1_algebra.proofs.Sets.{name_same, tied, itself, any_append, any_append_left, any_append_right, here_or, here, later, in_list, any_filter, from_in_list, same_members}
-use Rattle.t1_algebra.proofs.Searching.{none_at_all}
-use Rattle.t1_algebra.proofs.Kept.{keep_least, keep_from, keep_has, keep_closed}
-use Rattle.t1_algebra.proofs.Drawings.{subset_alike}
-use Rattle.t1_subset.specs.ClosureNames.{push_new, push_all}
-use Rattle.t1_subset.specs.NameSets.{lent}
-use Rattle.t1_subset.specs.Calls.{number_set}
+use Rattle.t1_algebra.proofs.{Sets.{cases, name_same, tied, itself, in_list, any_filter, from_in_list, same_members}, Searching.{none_at_all}, Kept.{keep_least, keep_from, keep_has, keep_closed}, Drawings.{subset_alike}}
+use Rattle.t1_subset.specs.{ClosureNames.{push_new, push_all}, NameSets.{lent}, Calls.{number_set}}
 use Rattle.indexmap.specs.IndexSet.{insert_key}
 
 -- ---- names that are added to a list
 
--- the name is in the list
-abbrev pub is_in : List ℕ → List (List ℕ) → Type 0
-is_in q ns = list_any (same_bytes q) ns ≡ true
-
--- one more name stands after those that were there
-new_after : (n : List ℕ) (ns : List (List ℕ)) (b : Bool) → (one : List (List ℕ)) × (cond b ns (ns ++ n ∷ []) ≡ ns ++ one)
-new_after n ns true = ([], sym (append-nil ns))
-new_after n ns false = (n ∷ [], refl)
-
 -- more names stand after those that were there
 all_after : (ps ns : List (List ℕ)) → (more : List (List ℕ)) × (push_all ns ps ≡ ns ++ more)
 all_after [] ns = ([], sym (append-nil ns))
-all_after (p ∷ ps) ns =
-    let one = new_after p ns (list_any (same_bytes p) ns) in
-    let more = all_after ps (push_new ns p) in
-    (one.0 ++ more.0, more.1 ∙ ap (λ ms. ms ++ more.0) one.1 ∙ append_assoc ns one.0 more.0)
-
--- a list with one more name has the name that was added
-new_there : (n : List ℕ) (ns : List (List ℕ)) (b : Bool) → list_any (same_bytes n) ns ≡ b → is_in n (cond b ns (ns ++ n ∷ []))
-new_there n ns true h = h
-new_there n ns false h = any_append_right (same_bytes n) ns (n ∷ []) (here (same_bytes n) n [] (itself nat_list_cmp_total name_same n))
-
--- each name of a list with one more name was there or is the one added
-new_from : (q n : List ℕ) (ns : List (List ℕ)) (b : Bool) → is_in q (cond b ns (ns ++ n ∷ [])) → is_in q ns ⊎ (same_bytes q n ≡ true)
-new_from q n ns true h = inl h
-new_from q n ns false h = elim (any_append (same_bytes q) ns (n ∷ []) h) [ inl a ↦ inl a | inr b ↦ elim (here_or (same_bytes q) n [] b) [ inl c ↦ inr c | inr d ↦ absurd (true≢false (sym d)) ] ]
-
--- a list without repeats has none after one more name is added
-new_distinct : (n : List ℕ) (ns : List (List ℕ)) (b : Bool) → list_any (same_bytes n) ns ≡ b → IsDistinct same_bytes ns → IsDistinct same_bytes (cond b ns (ns ++ n ∷ []))
-new_distinct n ns true h d = d
-new_distinct n ns false h d = IsDistinct-push (eq_by_cmp_equiv nat_list_cmp_total) ns n d h
-
--- a list with more names has the names that it had
-pub all_more : (q : List ℕ) (ps ns : List (List ℕ)) → is_in q ns → is_in q (push_all ns ps)
-all_more q ps ns h = let a = all_after ps ns in ap (list_any (same_bytes q)) a.1 ∙ any_append_left (same_bytes q) ns a.0 h
-
--- a list with more names has the names that were added
-pub all_there : (q : List ℕ) (ps ns : List (List ℕ)) → is_in q ps → is_in q (push_all ns ps)
-all_there q [] ns h = absurd (true≢false (sym h))
-all_there q (p ∷ ps) ns h = elim (here_or (same_bytes q) p ps h) [
-  | inl a ↦ all_more q ps (push_new ns p) (ap (λ n. list_any (same_bytes n) (push_new ns p)) (tied nat_list_cmp_total name_same q p a) ∙ new_there p ns (list_any (same_bytes p) ns) refl)
-  | inr b ↦ all_there q ps (push_new ns p) b
+all_after (p ∷ ps) ns = elim (list_any (same_bytes p) ns) as (λ b. (more : List (List ℕ)) × (push_all (cond b ns (ns ++ p ∷ [])) ps ≡ ns ++ more)) [
+  | true ↦ all_after ps ns
+  | false ↦ let more = all_after ps (ns ++ p ∷ []) in (p ∷ more.0, more.1 ∙ append_assoc ns (p ∷ []) more.0)
 ]
 
--- each name of a list with more names was there or is one of those added
-pub all_from : (q : List ℕ) (ps ns : List (List ℕ)) → is_in q (push_all ns ps) → is_in q ns ⊎ is_in q ps
-all_from q [] ns h = inl h
-all_from q (p ∷ ps) ns h = elim (all_from q ps (push_new ns p) h) [
-  | inl a ↦ elim (new_from q p ns (list_any (same_bytes p) ns) a) [ inl c ↦ inl c | inr d ↦ inr (here (same_bytes q) p ps d) ]
-  | inr b ↦ inr (later (same_bytes q) p ps b)
-]
+-- a list with one more name has that name and those that it had
+new_in : (q n : List ℕ) (ns : List (List ℕ)) → list_any (same_bytes q) (push_new ns n) ≡ (list_any (same_bytes q) ns || same_bytes q n)
+new_in q n ns = grind (cases, tied nat_list_cmp_total name_same q n, list_any-append (same_bytes q) ns (n ∷ []))
+
+-- a list with more names has these names and those that it had
+pub all_in : (q : List ℕ) (ps ns : List (List ℕ)) → list_any (same_bytes q) (push_all ns ps) ≡ (list_any (same_bytes q) ns || list_any (same_bytes q) ps)
+all_in q [] ns = grind cases
+all_in q (p ∷ ps) ns = grind (cases, all_in q ps (push_new ns p), new_in q p ns)
 
 -- a list without repeats has none after more names are added
-pub all_distinct : (ps ns : List (List ℕ)) → IsDistinct same_bytes ns → IsDistinct same_bytes (push_all ns ps)
+all_distinct : (ps ns : List (List ℕ)) → IsDistinct same_bytes ns → IsDistinct same_bytes (push_all ns ps)
 all_distinct [] ns d = d
-all_distinct (p ∷ ps) ns d = all_distinct ps (push_new ns p) (new_distinct p ns (list_any (same_bytes p) ns) refl d)
+all_distinct (p ∷ ps) ns d = all_distinct ps (push_new ns p) (elim (list_any (same_bytes p) ns) as (λ b. list_any (same_bytes p) ns ≡ b → IsDistinct same_bytes (cond b ns (ns ++ p ∷ []))) [
+  | true ↦ λ h. d
+  | false ↦ λ h. IsDistinct-push (eq_by_cmp_equiv nat_list_cmp_total) ns p d h
+] refl)
+
+no_names : IsDistinct same_bytes []
+unfolding IsDistinct
+no_names = tt
 
 -- a list with more names is no shorter
-pub all_length : (ps ns : List (List ℕ)) → length ns ≤ length (push_all ns ps)
+all_length : (ps ns : List (List ℕ)) → length ns ≤ length (push_all ns ps)
 all_length ps ns = let a = all_after ps ns in omega (arith, ap length a.1, length-append ns a.0)
 
 -- a list with more names begins as it did
@@ -143,15 +94,19 @@ pub record ClosureSoFar {O : Type 0} (m : Interpreter O) (f : FontValue) (a : Na
   pub closed : (n : List ℕ) → list_any (same_bytes n) (take i ns) ≡ true → (p : List ℕ) → sets.contains (components_here m f n) p ≡ true → list_any (same_bytes p) ns ≡ true
   pub reached : i ≤ length ns
 
-one_in : (n : List ℕ) (ns : List (List ℕ)) (i : ℕ) → i < length ns → get_or ns i n ≡ n → is_in n (take (length ns) ns)
-one_in n ns i h e = ap (λ t. list_any (same_bytes n) t) (take_all (length ns) ns (omega arith)) ∙ list_any_at (same_bytes n) ns i n h (ap (same_bytes n) e ∙ itself nat_list_cmp_total name_same n)
-
-only : (q : List ℕ) → is_in q (notdef ∷ []) → q ≡ notdef
-only q h = elim (here_or (same_bytes q) notdef [] h) [ inl a ↦ tied nat_list_cmp_total name_same q notdef a | inr b ↦ absurd (true≢false (sym b)) ]
-
-alone : (n : List ℕ) → IsDistinct same_bytes (n ∷ [])
-unfolding IsDistinct
-alone n = (tt, tt)
+-- the closure begins with `.notdef` and the names that are asked for
+pub closure_start : {O : Type 0} (m : Interpreter O) (f : FontValue) (names : List (List ℕ)) → has f notdef ≡ true → IsOf f (sets.from_list names) → ClosureSoFar m f (sets.from_list names) (push_all (push_new [] notdef) names) 0
+closure_start m f names base inside =
+    let from = λ (q : List ℕ) (w : list_any (same_bytes q) (push_all [] (notdef ∷ names)) ≡ true). or_cases (same_bytes q notdef) (list_any (same_bytes q) names) (sym (all_in q (notdef ∷ names) []) ∙ w) in
+    record {
+      distinct = all_distinct (notdef ∷ names) [] no_names;
+      inside = λ q w. elim (from q w) [ inl x ↦ ap (has f) (tied nat_list_cmp_total name_same q notdef x) ∙ base | inr y ↦ inside q (from_in_list nat_list_cmp_total name_same names q y) ];
+      base = all_in notdef (notdef ∷ names) [] ∙ or_left (same_bytes notdef notdef) (list_any (same_bytes notdef) names) (itself nat_list_cmp_total name_same notdef);
+      asked = λ q w. all_in q (notdef ∷ names) [] ∙ or_right (same_bytes q notdef) (list_any (same_bytes q) names) (in_list nat_list_cmp_total name_same names q w);
+      least = λ s o c q w. elim (from q w) [ inl x ↦ ap (sets.contains s) (tied nat_list_cmp_total name_same q notdef x) ∙ c.notdef | inr y ↦ c.asked q (from_in_list nat_list_cmp_total name_same names q y) ];
+      closed = λ n w. absurd (true≢false (sym w));
+      reached = omega arith;
+    }
 
 module _ {O : Type 0} (m : Interpreter O) (f : FontValue) (a : Names) where
   -- the components of a name's glyph that the font has
@@ -161,36 +116,24 @@ module _ {O : Type 0} (m : Interpreter O) (f : FontValue) (a : Names) where
   -- a step adds the components of the next name
   pub closure_step : (ns : List (List ℕ)) (i : ℕ) (n : List ℕ) → ClosureSoFar m f a ns i → i < length ns → get_or ns i n ≡ n → ClosureSoFar m f a (push_all ns (found n)) (i + 1)
   closure_step ns i n k h e =
-      let is : is_in n ns = ap (λ t. list_any (same_bytes n) t) (sym (take_all (length ns) ns (omega arith))) ∙ one_in n ns i h e in
+      let ps = found n in
+      let is : list_any (same_bytes n) ns ≡ true = list_any_at (same_bytes n) ns i n h (ap (same_bytes n) e ∙ itself nat_list_cmp_total name_same n) in
+      let from = λ (q : List ℕ) (w : list_any (same_bytes q) (push_all ns ps) ≡ true). or_cases (list_any (same_bytes q) ns) (list_any (same_bytes q) ps) (sym (all_in q ps ns) ∙ w) in
+      let more = λ (q : List ℕ) (w : list_any (same_bytes q) ns ≡ true). all_in q ps ns ∙ or_left _ (list_any (same_bytes q) ps) w in
       record {
-        distinct = all_distinct (found n) ns k.distinct;
-        inside = λ q w. elim (all_from q (found n) ns w) [ inl x ↦ k.inside q x | inr y ↦ (any_filter nat_list_cmp_total name_same (has f) q (components m f.subrs (charstring f n)) y).1 ];
-        base = all_more notdef (found n) ns k.base;
-        asked = λ q w. all_more q (found n) ns (k.asked q w);
-        least = λ s o c q w. elim (all_from q (found n) ns w) [ inl x ↦ k.least s o c q x | inr y ↦ c.components n q (k.least s o c n is) (from_in_list nat_list_cmp_total name_same (found n) q y) ];
+        distinct = all_distinct ps ns k.distinct;
+        inside = λ q w. elim (from q w) [ inl x ↦ k.inside q x | inr y ↦ (any_filter nat_list_cmp_total name_same (has f) q (components m f.subrs (charstring f n)) y).1 ];
+        base = more notdef k.base;
+        asked = λ q w. more q (k.asked q w);
+        least = λ s o c q w. elim (from q w) [ inl x ↦ k.least s o c q x | inr y ↦ c.components n q (k.least s o c n is) (from_in_list nat_list_cmp_total name_same ps q y) ];
         closed = λ q w p component.
-            elim (or_cases (list_any (same_bytes q) (take i ns)) (same_bytes q (get_or ns i n)) (sym (list_any_more (same_bytes q) ns i n h) ∙ ap (λ t. list_any (same_bytes q) t) (sym (all_front (i + 1) (found n) ns (omega arith))) ∙ w)) [
-              | inl x ↦ all_more p (found n) ns (k.closed q x p component)
-              | inr y ↦ all_there p (found n) ns (in_list nat_list_cmp_total name_same (found n) p (ap (λ t. sets.contains (components_here m f t) p) (sym (tied nat_list_cmp_total name_same q n (ap (same_bytes q) (sym e) ∙ y))) ∙ component))
+            elim (or_cases (list_any (same_bytes q) (take i ns)) (same_bytes q (get_or ns i n)) (sym (list_any_more (same_bytes q) ns i n h) ∙ ap (list_any (same_bytes q)) (sym (all_front (i + 1) ps ns (omega arith))) ∙ w)) [
+              | inl x ↦ more p (k.closed q x p component)
+              | inr y ↦
+                  let here = tied nat_list_cmp_total name_same q n (ap (same_bytes q) (sym e) ∙ y) in
+                  all_in p ps ns ∙ or_right _ _ (in_list nat_list_cmp_total name_same ps p (ap (λ t. sets.contains (components_here m f t) p) (sym here) ∙ component))
             ];
-        reached = omega (arith, all_length (found n) ns);
-      }
-
-  -- the closure begins with `.notdef` and the names that are asked for
-  pub closure_start : (names : List (List ℕ)) → has f notdef ≡ true → IsOf f (sets.from_list names) → sets.from_list names ≡ a → ClosureSoFar m f a (push_all (push_new [] notdef) names) 0
-  closure_start names base inside e =
-      let one : is_in notdef (notdef ∷ []) = here (same_bytes notdef) notdef [] (itself nat_list_cmp_total name_same notdef) in
-      record {
-        distinct = all_distinct names (notdef ∷ []) (alone notdef);
-        inside = λ q w. elim (all_from q names (notdef ∷ []) w) [ inl x ↦ ap (has f) (only q x) ∙ base | inr y ↦ inside q (from_in_list nat_list_cmp_total name_same names q y) ];
-        base = all_more notdef names (notdef ∷ []) one;
-        asked = λ q w. all_there q names (notdef ∷ []) (in_list nat_list_cmp_total name_same names q (ap (λ t. sets.contains t q) e ∙ w));
-        least = λ s o c q w. elim (all_from q names (notdef ∷ []) w) [
-          | inl x ↦ ap (sets.contains s) (only q x) ∙ c.notdef
-          | inr y ↦ c.asked q (ap (λ t. sets.contains t q) (sym e) ∙ from_in_list nat_list_cmp_total name_same names q y)
-        ];
-        closed = λ n w. absurd (true≢false (sym w));
-        reached = omega arith;
+        reached = omega (arith, all_length ps ns);
       }
 
   -- at the end of the list the names of the closure are what is kept
@@ -207,35 +150,36 @@ module _ {O : Type 0} (m : Interpreter O) (f : FontValue) (a : Names) where
       (λ q w. keep_from m f a q (inside q w) (λ t o c. k.least t o c q (in_list nat_list_cmp_total name_same ns q w)))
       (λ q w. keep_least m f a s inside closed q w)
 
-  -- two ways to find a name in a table are the same
-  find_lookup : (q : List ℕ) (es : List (List ℕ × List ℕ)) → find name_cmp q es ≡ lookup (same_bytes q) es
-  find_lookup q [] = refl
-  find_lookup q (e ∷ es) = ap (cond (same_bytes q e.0) (Some e.1)) (find_lookup q es)
-
   -- a closure has no more names than the font has glyphs
-  pub closure_few : (ns : List (List ℕ)) (i : ℕ) → ClosureSoFar m f a ns i → length ns ≤ maps.len f.glyphs
-  closure_few ns i k = subst (λ (n : ℕ). length ns ≤ n) (sym (maps.len-entries f.glyphs)) (length-le_from_keys (eq_by_cmp_equiv nat_list_cmp_total) ns (maps.entries f.glyphs) k.distinct
-      (λ q h. ap is_some (sym (find_lookup q (maps.entries f.glyphs)) ∙ sym (maps.get-entries f.glyphs q)) ∙ k.inside q h))
+  closure_few : (ns : List (List ℕ)) (i : ℕ) → ClosureSoFar m f a ns i → length ns ≤ maps.len f.glyphs
+  closure_few ns i k =
+      let few = length-le_from_is_member (eq_by_cmp_equiv nat_list_cmp_total) ns (maps.keys f.glyphs) k.distinct (λ q h. sym (maps.contains_key-keys f.glyphs q) ∙ k.inside q h) in
+      omega (arith, few, maps.len-entries f.glyphs, length-map (maps.entries f.glyphs) (λ e. e.0))
+
+  -- a name's place in a closure is below the number of glyphs
+  pub place_below : (ns : List (List ℕ)) (i : ℕ) (n : List ℕ) → ClosureSoFar m f a ns i → Some n ≡ slice_get ns i → i < maps.len f.glyphs
+  place_below ns i n k e = omega (arith, closure_few ns i k, (got ns i n e).0)
 
 -- ---- cutting a font
 
-module _ {O : Type 0} (m : Interpreter O) (f : FontValue) (w : IsFont f) (a : Names) (is : IsOf f a) (vs : List (Vec ℕ)) (e : set_of_names vs ≡ keep m f a) where
-  -- the names of a closure include `.notdef`
-  pub has_notdef : sets.contains (set_of_names vs) notdef ≡ true
-  has_notdef = ap (λ (s : Names). sets.contains s notdef) e ∙ (keep_closed m f a w.glyphs.notdef is).notdef
+module _ (f : FontValue) (w : IsFont f) (ns : List (List ℕ)) (present : first_where (λ n. not (has f n)) ns ≡ None) where
+  -- the names that are asked for
+  abbrev of : Names
+  of = sets.from_list ns
 
-  -- the names of a closure are names of the font
-  pub of_font : IsOf f (set_of_names vs)
-  of_font n h = keep_has m f a n (ap (λ (s : Names). sets.contains s n) (sym e) ∙ h)
+  -- a kept glyph draws alike in the subset
+  pub draws : (s : FontValue) → s ≡ subset profile f of → (n : List ℕ) → sets.contains (keep profile f of) n ≡ true → DrawsAlike f s n
+  draws s e n k = subst (λ (s : FontValue). DrawsAlike f s n) (sym e) (subset_alike f w of (none_absent f ns present) n k)
 
-  -- a set of indices in memory contains what it means
-  contained : (s : BTreeSet ℕ) → contains nat_cmp s ≡ sets.contains (number_set s)
-  contained s = λ i. λ k. sym (sets.contains-from_list nat_cmp_total s.keys k) i
+  module _ (vs us : List (Vec ℕ)) (is : us ≡ vs) (e : set_of_names vs ≡ keep profile f of) where
+    -- the names of a closure include `.notdef`
+    pub has_notdef : sets.contains (set_of_names us) notdef ≡ true
+    has_notdef = ap (λ (s : Names). sets.contains s notdef) (ap set_of_names is ∙ e) ∙ (keep_closed profile f of w.glyphs.notdef (none_absent f ns present)).notdef
 
-  -- a font cut to its closure is the subset
-  pub cut_is : (s : BTreeSet ℕ) → number_set s ≡ kept m f a → restrict (sets.contains (set_of_names vs)) (contains nat_cmp s) f ≡ subset m f a
-  cut_is s h = (λ i. restrict (sets.contains (e i)) (contained s i) f) ∙ ap (λ (t : Numbers). restrict (sets.contains (keep m f a)) (sets.contains t) f) h
+    -- the names of a closure are names of the font
+    pub of_font : IsOf f (set_of_names us)
+    of_font n h = keep_has profile f of n (ap (λ (s : Names). sets.contains s n) (sym (ap set_of_names is ∙ e)) ∙ h)
 
--- a kept glyph draws alike in the subset
-pub draws : (f : FontValue) → IsFont f → (a : Names) → IsOf f a → (s : FontValue) → s ≡ subset profile f a → (n : List ℕ) → sets.contains (keep profile f a) n ≡ true → DrawsAlike f s n
-draws f w a is s e n k = subst (λ (s : FontValue). DrawsAlike f s n) (sym e) (subset_alike f w a is n k)
+    -- a font cut to its closure is the subset
+    pub cut_is : (s : BTreeSet ℕ) → number_set s ≡ kept profile f of → restrict (sets.contains (set_of_names us)) (contains nat_cmp s) f ≡ subset profile f of
+    cut_is s h = (λ i. restrict (sets.contains ((ap set_of_names is ∙ e) i)) (λ k. sym (sets.contains-from_list nat_cmp_total s.keys k) i) f) ∙ ap (λ (t : Numbers). restrict (sets.contains (keep profile f of)) (sets.contains t) f) h

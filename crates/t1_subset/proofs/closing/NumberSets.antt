@@ -1,59 +1,35 @@
 -- Indices as finite sets, and those of the Subrs that the glyphs of a closure execute, as the closure is walked.
-use Rattle.std.proofs.Common.{arith, ◌≡◌, ℕ, Bool, ◌||◌, List, [], ◌∷◌, ◌++◌, sym, ◌∙◌, ap, ◌+◌, ◌<◌, ◌≤◌, length, take, take_all, get_or}
-use Rattle.std.proofs.Math.Bool.{or_assoc}
-use Rattle.std.specs.List.{list_any}
-use Rattle.std.specs.Ordering.{nat_cmp, eq_by_cmp}
-use Rattle.std.specs.Cmp.{nat_cmp_total, both_ways}
-use Rattle.std.specs.Cmp.Lexicographic.{nat_list_cmp_total}
-use Rattle.std.specs.BTreeSet.{insert_key}
+use Rattle.std.proofs.Common.{◌≡◌, ℕ, Bool, ◌||◌, List, [], ◌∷◌, ◌++◌, sym, ◌∙◌, ap, ◌+◌, ◌<◌, ◌≤◌, length, take, take_all, get_or}
+use Rattle.std.specs.{List.{list_any}, Ordering.{nat_cmp, eq_by_cmp}, Cmp.{nat_cmp_total, both_ways}, Cmp.Lexicographic.{nat_list_cmp_total}, BTreeSet.{insert_key}, FinSet.{nat_cmp-IsAntisymmetric}}
 use Rattle.std.specs.FinSet as sets
-use Rattle.std.specs.FinSet.{nat_cmp-IsAntisymmetric}
 use Rattle.std.proofs.lemmas.List.Folds.{list_any_more, list_any-append}
 use Rattle.t1_run.specs.Run.{Subrs, calls, calls3, with_indices, with_executed, exec}
 use Rattle.t1_font.specs.FontValue.{name_cmp, FontValue}
-use Rattle.t1_algebra.specs.Interpreter.{Numbers, Names}
-use Rattle.t1_algebra.specs.Keep.{called_by}
-use Rattle.t1_algebra.specs.Profile.{profile, set_of}
-use Rattle.t1_algebra.proofs.Sets.{name_same, any_at, any_one, any_flat, any_flat_from, in_list, from_in_list, in_items, from_in_items}
-use Rattle.t1_subset.proofs.closing.NameSets.{any_insert, or_swapped}
-use Rattle.t1_subset.proofs.closing.NameSets as unions
-use Rattle.t1_subset.proofs.closing.Runs.{calls_by, calls_of}
-
--- the set of a list has what the list has
-in_of : (ks : List ℕ) (q : ℕ) → sets.contains (set_of ks) q ≡ list_any (eq_by_cmp nat_cmp q) ks
-in_of ks q = sets.contains-from_list nat_cmp_total ks q
+use Rattle.t1_algebra.specs.{Interpreter.{Numbers, Names}, Keep.{called_by}, Profile.{profile, set_of}}
+use Rattle.t1_algebra.proofs.Sets.{cases, name_same, any_at, any_one, any_flat_map, in_list, from_in_list, in_items, from_in_items}
+use Rattle.t1_subset.proofs.{closing.NameSets.{any_insert}, closing.Runs.{calls_by, calls_of}}
 
 -- a set to which indices are added has these and those that it had
 pub any_with : (q : ℕ) (set is : List ℕ) → list_any (eq_by_cmp nat_cmp q) (with_indices set is) ≡ (list_any (eq_by_cmp nat_cmp q) set || list_any (eq_by_cmp nat_cmp q) is)
-any_with q set [] = grind arith
-any_with q set (i ∷ is) =
-    any_with q (insert_key nat_cmp set i) is
-    ∙ ap (λ b. b || list_any (eq_by_cmp nat_cmp q) is) (any_insert nat_cmp nat_cmp-IsAntisymmetric (λ k. k) q i set)
-    ∙ or_swapped (eq_by_cmp nat_cmp q i) (list_any (eq_by_cmp nat_cmp q) set) (list_any (eq_by_cmp nat_cmp q) is)
+any_with q set [] = grind cases
+any_with q set (i ∷ is) = grind (cases, any_with q (insert_key nat_cmp set i) is, any_insert nat_cmp nat_cmp-IsAntisymmetric (λ k. k) q i set)
 
 -- adding what a charstring executes is a union
 pub of_executed : (set : List ℕ) (subrs : Subrs) (c : List ℕ) → set_of (with_executed set subrs c) ≡ sets.union (set_of set) (set_of (exec subrs c))
 of_executed set subrs c =
-    let any : ℕ → List ℕ → Bool = λ q. list_any (eq_by_cmp nat_cmp q) in
     let first : List ℕ = calls subrs c in
     let second : List ℕ = calls3 subrs c in
-    let both : (q : ℕ) (s : List ℕ) → any q (with_executed s subrs c) ≡ ((any q s || any q first) || any q second) =
-    λ q s. any_with q (with_indices s first) second ∙ ap (λ b. b || any q second) (any_with q s first) in
     sets.same_set nat_cmp_total nat_cmp-IsAntisymmetric _ _ (λ q.
-    in_of (with_executed set subrs c) q
-    ∙ both q set
-    ∙ or_assoc (any q set) (any q first) (any q second)
-    ∙ ap (λ b. any q set || b) (sym (in_of (exec subrs c) q ∙ both q []))
-    ∙ ap (λ b. b || sets.contains (set_of (exec subrs c)) q) (sym (in_of set q))
-    ∙ sym (sets.contains-union nat_cmp_total (set_of set) (set_of (exec subrs c)) q))
+    let more = λ (s : List ℕ). any_with q (with_indices s first) second ∙ ap (λ b. b || list_any (eq_by_cmp nat_cmp q) second) (any_with q s first) in
+    grind (cases, more set, more [], sets.contains-from_list nat_cmp_total, sets.contains-union nat_cmp_total (set_of set) (set_of (exec subrs c)) q))
 
 -- nothing is added by the empty list
 pub union_none : (s : Numbers) → sets.union s (set_of []) ≡ s
-union_none s = unions.union_none nat_cmp_total nat_cmp-IsAntisymmetric s
+union_none s = sets.same_set nat_cmp_total nat_cmp-IsAntisymmetric _ s (λ q. grind (cases, sets.contains-union nat_cmp_total s (set_of []) q, sets.contains-from_list nat_cmp_total [] q))
 
 -- the union of the empty set and another is the other
 pub none_union : (s : Numbers) → sets.union (set_of []) s ≡ s
-none_union s = unions.none_union nat_cmp_total nat_cmp-IsAntisymmetric s
+none_union s = sets.same_set nat_cmp_total nat_cmp-IsAntisymmetric _ s (λ q. grind (cases, sets.contains-union nat_cmp_total (set_of []) s q, sets.contains-from_list nat_cmp_total [] q))
 
 -- a test passes for a name of a list if it does for a member of the set of the list
 any_member : (p : List ℕ → Bool) (ns : List (List ℕ)) → list_any p ns ≡ list_any p (sets.items (sets.from_list {R = name_cmp} ns))
@@ -79,25 +55,15 @@ module _ (f : FontValue) where
   runs q n = list_any (eq_by_cmp nat_cmp q) (sets.items (calls_by f n))
 
   in_calls : (ns : List (List ℕ)) (q : ℕ) → sets.contains (calls_to f ns) q ≡ (list_any (eq_by_cmp nat_cmp q) low || list_any (runs q) ns)
-  in_calls ns q = sets.contains-from_list nat_cmp_total (low ++ calls_of f ns) q
-      ∙ (list_any-append (eq_by_cmp nat_cmp q) low (calls_of f ns)
-      ∙ ap (λ b. list_any (eq_by_cmp nat_cmp q) low || b)
-      (both_ways _ _ (any_flat nat_cmp_total nat_cmp-IsAntisymmetric (λ n. sets.items (calls_by f n)) q ns) (any_flat_from nat_cmp_total nat_cmp-IsAntisymmetric (λ n. sets.items (calls_by f n)) q ns)))
-
-  -- the calls of the names of a list are those of the members of their set
-  calls_of_set : (ns : List (List ℕ)) → calls_to f ns ≡ calls_to f (sets.items (sets.from_list {R = name_cmp} ns))
-  calls_of_set ns = sets.same_set nat_cmp_total nat_cmp-IsAntisymmetric _ _ (λ q. in_calls ns q ∙ ap (λ b. list_any (eq_by_cmp nat_cmp q) low || b) (any_member (runs q) ns) ∙ sym (in_calls (sets.items (sets.from_list ns)) q))
+  in_calls ns q = sets.contains-from_list nat_cmp_total (low ++ calls_of f ns) q ∙ list_any-append (eq_by_cmp nat_cmp q) low (calls_of f ns) ∙ ap (λ b. list_any (eq_by_cmp nat_cmp q) low || b) (any_flat_map (eq_by_cmp nat_cmp q) (λ n. sets.items (calls_by f n)) ns)
 
   -- the calls of one more name are added
   pub calls_step : (ns : List (List ℕ)) (i : ℕ) (n : List ℕ) (s new : Numbers) → i < length ns → get_or ns i n ≡ n → s ≡ calls_to f (take i ns) → new ≡ sets.union s (calls_by f n) → new ≡ calls_to f (take (i + 1) ns)
   calls_step ns i n s new h e is more = sets.same_set nat_cmp_total nat_cmp-IsAntisymmetric new (calls_to f (take (i + 1) ns)) (λ q.
-      ap (λ (t : Numbers). sets.contains t q) more
-      ∙ (sets.contains-union nat_cmp_total s (calls_by f n) q
-      ∙ ((λ d. (ap (λ (t : Numbers). sets.contains t q) is ∙ in_calls (take i ns) q) d || (sets.contains-items (calls_by f n) q ∙ ap (runs q) (sym e)) d)
-      ∙ (or_assoc (list_any (eq_by_cmp nat_cmp q) low) (list_any (runs q) (take i ns)) (runs q (get_or ns i n))
-      ∙ (ap (λ b. list_any (eq_by_cmp nat_cmp q) low || b) (sym (list_any_more (runs q) ns i n h))
-      ∙ sym (in_calls (take (i + 1) ns) q))))))
+      grind (cases, more, is, e, sets.contains-union nat_cmp_total s (calls_by f n) q, in_calls (take i ns) q, sets.contains-items (calls_by f n) q, list_any_more (runs q) ns i n h, in_calls (take (i + 1) ns) q))
 
   -- at the end of the list these are the Subrs that the set of all names executes
   pub calls_end : (ns : List (List ℕ)) (i : ℕ) (s : Numbers) (k : Names) → length ns ≤ i → s ≡ calls_to f (take i ns) → sets.from_list ns ≡ k → s ≡ called_by profile f k
-  calls_end ns i s k h is e = is ∙ (ap (calls_to f) (take_all i ns h) ∙ (calls_of_set ns ∙ ap (called_by profile f) e))
+  calls_end ns i s k h is e =
+      let same = sets.same_set nat_cmp_total nat_cmp-IsAntisymmetric (calls_to f ns) (calls_to f (sets.items (sets.from_list {R = name_cmp} ns))) (λ q. in_calls ns q ∙ ap (λ b. list_any (eq_by_cmp nat_cmp q) low || b) (any_member (runs q) ns) ∙ sym (in_calls (sets.items (sets.from_list ns)) q)) in
+      is ∙ ap (calls_to f) (take_all i ns h) ∙ same ∙ ap (called_by profile f) e

@@ -3,13 +3,9 @@ use Rattle.std.proofs.Common.{◌≡◌, ℕ, List, [], sym, ap, ◌∙◌, Some
 use Rattle.std.specs.FinMap as maps
 use Rattle.std.specs.FinSet as sets
 use Rattle.t1_run.specs.Run.{Subrs, direct, direct3, exec}
-use Rattle.t1_font.specs.FontValue.{FontValue}
-use Rattle.t1_font.specs.FontModel.{subr_at}
-use Rattle.t1_font.specs.IsFont.{IsFont}
+use Rattle.t1_font.specs.{FontValue.{FontValue}, FontModel.{subr_at}, IsFont.{IsFont}}
 use Rattle.t1_font.proofs.FontReaders.{all_seen}
-use Rattle.t1_algebra.specs.Keep.{components, charstring}
-use Rattle.t1_algebra.specs.Profile.{profile, names_of_both, set_of}
-use Rattle.t1_algebra.specs.Interpreter.{Numbers}
+use Rattle.t1_algebra.specs.{Keep.{components, charstring}, Profile.{profile, names_of_both, set_of}, Interpreter.{Numbers}}
 
 -- ---- components
 

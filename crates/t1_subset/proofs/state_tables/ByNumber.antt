@@ -1,15 +1,11 @@
 -- Tables that are filled by number, from 0 on.
 use Rattle.std.proofs.lemmas.Bool.Decides.{nat_tests}
 use Rattle.std.proofs.Common.{◌≡◌, ℕ, ◌<◌, ◌≤◌, ◌+◌, Bool, true, cond, List, refl, sym, ◌∙◌, ap, Option, Some, None, is_some, nat_cmp, nat_lt, arith}
-use Rattle.std.specs.Cmp.{nat_cmp_total}
+use Rattle.std.specs.{Cmp.{nat_cmp_total}, FinSet.{nat_cmp-IsAntisymmetric}}
 use Rattle.std.specs.FinMap as maps
-use Rattle.std.specs.FinSet.{nat_cmp-IsAntisymmetric}
-use Rattle.t1_join.specs.Meaning.{of_number}
-use Rattle.t1_join.specs.TableMeaning.{TableMeaning}
+use Rattle.t1_join.specs.{Meaning.{of_number}, TableMeaning.{TableMeaning}}
 use Rattle.t1_font.specs.FontValue.{FontValue, Encoding, Word, Codes, Numbered}
-use Rattle.t1_algebra.specs.Profile.{profile}
-use Rattle.t1_algebra.specs.States.{code_state, is_called, state_of_entry}
-use Rattle.t1_algebra.specs.StateTables.{numbered, code_states}
+use Rattle.t1_algebra.specs.{Profile.{profile}, States.{code_state, is_called, state_of_entry}, StateTables.{numbered, code_states}}
 use Rattle.t1_algebra.proofs.Tables.{get-numbered, numbered-empty, numbered-insert}
 use Rattle.t1_subset.specs.Differences.{with_state, entry_state}
 
@@ -35,18 +31,10 @@ module _ (t : TableMeaning) (x : ℕ → Option (List ℕ)) (n : ℕ) (h : HasBe
       let is : maps.get h.map i ≡ x i = grind (arith, nat_tests, h.shown i) in
       ap (λ (t : TableMeaning). maps.get t (of_number i)) h.table ∙ get-numbered h.map (of_number i) ∙ is
 
-  -- a table with the value of n has what x gives below n + 1
-  with_one : (v : List ℕ) → x n ≡ Some v → (i : ℕ) → maps.get (maps.insert h.map n v) i ≡ cond (nat_lt i (n + 1)) (x i) None
-  with_one v e i = grind (arith, nat_tests, h.shown i, maps.get-insert nat_cmp_total h.map n v i)
-
-  -- if x gives nothing at n, the table has what x gives below n + 1
-  with_nothing : x n ≡ None → (i : ℕ) → maps.get h.map i ≡ cond (nat_lt i (n + 1)) (x i) None
-  with_nothing e i = grind (arith, nat_tests, h.shown i)
-
   -- a table that is filled below n is filled below n + 1 once the value of n is put
   pub has_next : (u : TableMeaning) (s : Option (List ℕ)) → u ≡ with_state t (of_number n) s → s ≡ x n → HasBelow u x (n + 1)
-  has_next u None is e = record { map = h.map; table = is ∙ h.table; shown = with_nothing (sym e) }
-  has_next u (Some v) is e = record { map = maps.insert h.map n v; table = is ∙ ap (λ (t : TableMeaning). maps.insert t (of_number n) v) h.table ∙ numbered-insert h.map n v; shown = with_one v (sym e) }
+  has_next u None is e = record { map = h.map; table = is ∙ h.table; shown = λ i. grind (arith, nat_tests, h.shown i, e) }
+  has_next u (Some v) is e = record { map = maps.insert h.map n v; table = is ∙ ap (λ (t : TableMeaning). maps.insert t (of_number n) v) h.table ∙ numbered-insert h.map n v; shown = λ i. grind (arith, nat_tests, h.shown i, e, maps.get-insert nat_cmp_total h.map n v i) }
 
 -- ---- codes and Subrs
 

@@ -1,33 +1,17 @@
 -- The smallest glyphs that execute a Subr or seek a component, as the code notes them, and in a join.
-use Rattle.std.proofs.lemmas.Bool.{false_from_ne_true}
-use Rattle.std.proofs.Common.{arith, ◌≡◌, ℕ, Bool, true, false, not, cond, ◌&&◌, ◌||◌, List, [], ◌∷◌, ◌++◌, map, refl, sym, ◌∙◌, ap, Option, Some, None, is_some, true≢false}
-use Rattle.std.specs.List.{list_any}
-use Rattle.std.specs.Cmp.{nat_cmp_total, second_so}
-use Rattle.std.specs.Cmp.Lexicographic.{nat_list_cmp_total}
+use Rattle.std.proofs.lemmas.Simd.{map-map}
+use Rattle.std.proofs.Common.{arith, ◌≡◌, ℕ, Bool, true, false, not, cond, ◌&&◌, ◌||◌, List, [], ◌∷◌, ◌++◌, map, refl, sym, ◌∙◌, ap, Option, Some, None, is_some}
+use Rattle.std.specs.{List.{list_any}, Cmp.{nat_cmp_total, second_so}, Cmp.Lexicographic.{nat_list_cmp_total}}
 use Rattle.std.specs.FinMap as maps
 use Rattle.std.specs.FinSet as sets
 use Rattle.t1_join.specs.Meaning.{of_number}
-use Rattle.t1_font.specs.Maps.{merged}
-use Rattle.t1_font.specs.FontValue.{FontValue, Named, name_cmp}
-use Rattle.t1_font.specs.FontModel.{names_in}
+use Rattle.t1_font.specs.{Maps.{merged}, FontValue.{FontValue, Named, name_cmp}, FontModel.{names_in}}
 use Rattle.t1_font.proofs.MapLemmas.{entries-map_values}
-use Rattle.t1_algebra.specs.Interpreter.{same_bytes}
-use Rattle.t1_algebra.specs.Keep.{has, components, charstring}
-use Rattle.t1_algebra.specs.Profile.{profile}
-use Rattle.t1_algebra.specs.States.{Agree, joined, is_called, is_sought, state_of_glyph, joined_font, Compatible, executes, executed_at, calls_for, called_at}
-use Rattle.t1_algebra.specs.Conflicts.{keys_of_both, wants, wanted_by, used_by, glyph_names}
-use Rattle.t1_algebra.specs.Searches.{smallest, members, first_where}
-use Rattle.t1_algebra.proofs.Maps.{agree_back}
-use Rattle.t1_algebra.proofs.Subsets.{glyph_in_join}
-use Rattle.t1_algebra.proofs.JoinedStates.{present_joined, executes_join, calls_join}
-use Rattle.t1_algebra.proofs.Uses.{executing_there, naming_there, sought}
-use Rattle.t1_algebra.proofs.Sets.{name_same, clash, tied}
-use Rattle.t1_subset.specs.declared.callers.Callers.{Callers}
-use Rattle.t1_subset.specs.Differences.{smaller}
-use Rattle.t1_subset.specs.Callers.{same_charstring, user_of, seeker_of, user_from, seeker_from, AreCallersOf}
-use Rattle.t1_subset.specs.Clashes.{AreCallers}
-use Rattle.t1_subset.proofs.closing.Runs.{calls_by, no_calls, no_components}
-use Rattle.t1_subset.proofs.state_tables.LowestKeys.{smaller_first}
+use Rattle.t1_algebra.specs.{Interpreter.{same_bytes}, Keep.{has, components, charstring}, Profile.{profile}, States.{joined, is_called, is_sought, joined_font, Compatible, executes, calls_for}}
+use Rattle.t1_algebra.specs.{Conflicts.{keys_of_both, wants, wanted_by, used_by, glyph_names}, Searches.{smallest, members, first_where}}
+use Rattle.t1_algebra.proofs.{Subsets.{glyph_in_join}, JoinedStates.{present_joined, executes_join, calls_join}, Uses.{executing_there, naming_there, sought}, Sets.{name_same, clash, tied, cases}}
+use Rattle.t1_subset.specs.{declared.callers.Callers.{Callers}, Differences.{smaller}, Callers.{same_charstring, user_of, seeker_of, user_from, seeker_from, AreCallersOf}, Clashes.{AreCallers}}
+use Rattle.t1_subset.proofs.{closing.Runs.{calls_by, no_calls, no_components}, state_tables.LowestKeys.{smaller_first}}
 
 -- ---- the first of some names
 
@@ -44,42 +28,32 @@ module _ {K : Type 0} where
 
 -- ---- noting the names of a list, one by one
 
-module _ (p : List ℕ → Bool) where
-  -- before any name is noted, the first of all that passes is still to be found
-  pub noted_first : (x : Option (List ℕ)) (names all : List (List ℕ)) → x ≡ None → names ≡ all → joined x (first_where p names) ≡ first_where p all
-  noted_first x names all none e = λ i. joined (none i) (first_where p (e i))
+-- x is the first of all names that passes, or will be it once the names that are left are noted; and some name is noted if the last one passed
+pub record IsNoting (p : List ℕ → Bool) (x goal : Option (List ℕ)) (last : Bool) (left : List (List ℕ)) : Type 0 where
+  pub first : joined x (first_where p left) ≡ goal
+  pub known : last ≡ true → is_some x ≡ true
 
-  -- noting the next name leaves what is found in the end as it was
-  pub noted_next : (x y goal : Option (List ℕ)) (n : List ℕ) (names left : List (List ℕ)) → y ≡ joined x (cond (p n) (Some n) None) → names ≡ n ∷ left → joined x (first_where p names) ≡ goal → joined y (first_where p left) ≡ goal
-  noted_next x y goal n names left is more h = grind arith
+module _ (p : List ℕ → Bool) where
+  -- before any name is noted, all are left
+  pub noting_starts : (x : Option (List ℕ)) (b : Bool) (left all : List (List ℕ)) → x ≡ None → b ≡ false → left ≡ all → IsNoting p x (first_where p all) b left
+  noting_starts x b left all none last e = record { first = λ i. joined (none i) (first_where p (e i)); known = λ h. clash b h last }
+
+  module _ (x goal : Option (List ℕ)) (b : Bool) (n : List ℕ) (names left : List (List ℕ)) (is : names ≡ n ∷ left) (h : IsNoting p x goal b names) where
+    -- the next name need not be noted if it passes as the last one did
+    pub noting_again : p n ≡ b → IsNoting p x goal b left
+    noting_again same = record { first = grind (cases, is, h.first, h.known, same); known = h.known }
+
+    -- after the next name is noted, those after it are left
+    pub noting_next : (y : Option (List ℕ)) (c : Bool) → y ≡ joined x (cond (p n) (Some n) None) → c ≡ p n → IsNoting p y goal c left
+    noting_next y c e last = record { first = grind (cases, is, h.first, e); known = grind (cases, e, last) }
 
   -- when no name is left, what is noted is what is found
-  pub noted_last : (x goal : Option (List ℕ)) (names : List (List ℕ)) → names ≡ [] → joined x (first_where p names) ≡ goal → x ≡ goal
-  noted_last x goal names none h = grind arith
-
--- if a name is already noted whenever this one passes, noting this one changes nothing
-pub known_already : (x : Option (List ℕ)) (b : Bool) (n : List ℕ) → (b ≡ true → is_some x ≡ true) → x ≡ joined x (cond b (Some n) None)
-known_already x b n h = grind arith
-
--- after a name that passes, some name is noted
-pub known_then : (x y : Option (List ℕ)) (b : Bool) (n : List ℕ) → y ≡ joined x (cond b (Some n) None) → b ≡ true → is_some y ≡ true
-known_then x y b n e h = grind arith
+  pub noting_ends : (x goal : Option (List ℕ)) (b : Bool) (left : List (List ℕ)) → left ≡ [] → IsNoting p x goal b left → x ≡ goal
+  noting_ends x goal b left none h = grind (cases, none, h.first)
 
 -- charstrings with the same bytes are the same
 pub again_same : (x y : Option (List ℕ)) → same_charstring x y ≡ true → x ≡ y
 again_same x y h = grind (arith, tied nat_list_cmp_total name_same)
-
--- a charstring is noted: the indices that it executes have users, and the components that it names and the font lacks have seekers
-pub record IsNoted (f : FontValue) (users : ℕ → Option (List ℕ)) (seekers : List ℕ → Option (List ℕ)) (c : Option (List ℕ)) : Type 0 where
-  pub executed : (q : ℕ) → maps.contains_key f.subrs q ≡ true → executed_at profile f q c ≡ true → is_some (users q) ≡ true
-  pub named : (p : List ℕ) → (not (has f p) && called_at profile f p c) ≡ true → is_some (seekers p) ≡ true
-
--- the absence of a charstring is noted from the beginning
-pub nothing_noted : (f : FontValue) (users : ℕ → Option (List ℕ)) (seekers : List ℕ → Option (List ℕ)) → IsNoted f users seekers None
-nothing_noted f users seekers = record {
-  executed = λ q l h. absurd (true≢false (sym h));
-  named = λ p h. absurd (true≢false (sym (second_so (not (has f p)) false h)));
-}
 
 -- ---- the glyphs of one font
 
@@ -113,13 +87,9 @@ module _ (f g : FontValue) where
   smallest_seeker p = smaller_first nat_list_cmp_total name_same (λ n. wants profile f n p) (λ n. wants profile g n p) f.glyphs g.glyphs
       (λ n h. naming_there profile f p (maps.get f.glyphs n) (second_so (not (has f p)) (calls_for profile f n p) h)) (λ n h. naming_there profile g p (maps.get g.glyphs n) (second_so (not (has g p)) (calls_for profile g n p) h))
 
-keys_valued : (es : List (List ℕ × List ℕ)) → map (λ (e : List ℕ × List ℕ). e.0) es ≡ map (λ (e : List ℕ × ℕ). e.0) (map (λ (e : List ℕ × List ℕ). (e.0, 0)) es)
-keys_valued [] = refl
-keys_valued (e ∷ es) = ap (λ (ns : List (List ℕ)). e.0 ∷ ns) (keys_valued es)
-
 -- the names of merged maps are the keys of both
 names_of_both : (a b : Named) → names_in (merged a b) ≡ members (keys_of_both a b)
-names_of_both a b = keys_valued (maps.entries (merged a b)) ∙ ap (map (λ e. e.0)) (sym (entries-map_values nat_list_cmp_total name_same (λ k v. 0) (merged a b)))
+names_of_both a b = sym (ap (map (λ e. e.0)) (entries-map_values nat_list_cmp_total name_same (λ k v. 0) (merged a b)) ∙ map-map (λ (e : List ℕ × ℕ). e.0) (λ (e : List ℕ × List ℕ). (e.0, 0)) (maps.entries (merged a b)))
 
 -- ---- the glyphs of a join
 
@@ -127,23 +97,9 @@ module _ (f g : FontValue) (c : Compatible profile f g) where
   abbrev both : FontValue
   both = joined_font profile f g
 
-  -- a component that one of two fonts has is not sought by the other
-  unsought : (b : Bool) (v : List ℕ) → Agree {V = Option (List ℕ)} (cond b (Some None) None) (Some (Some v)) → b ≡ false
-  unsought b v h = grind arith
-
-  sought_by : (h : FontValue) (p n : List ℕ) → is_sought profile h p ≡ false → calls_for profile h n p ≡ false
-  sought_by h p n s = false_from_ne_true (calls_for profile h n p) (λ k. clash (is_sought profile h p) (sought profile h p n k) s)
-
-  wants_at : (p n : List ℕ) (x y : Option (List ℕ)) → Agree (state_of_glyph profile f p x) (state_of_glyph profile g p y)
-      → (not (is_some (joined x y)) && calls_for profile both n p) ≡ ((not (is_some x) && calls_for profile f n p) || (not (is_some y) && calls_for profile g n p))
-  wants_at p n None None a = calls_join profile f g c p n
-  wants_at p n None (Some d) a = sym (ap (λ b. b || false) (sought_by f p n (unsought (is_sought profile f p) d a)))
-  wants_at p n (Some v) None a = sym (sought_by g p n (unsought (is_sought profile g p) v (agree_back (Some (Some v)) (state_of_glyph profile g p None) a)))
-  wants_at p n (Some v) (Some d) a = refl
-
   -- a glyph of the join wants a component if it does so in one of the fonts
   wants_join : (p n : List ℕ) → wants profile both n p ≡ wanted_by profile f g p n
-  wants_join p n = ap (λ x. not (is_some x) && calls_for profile both n p) (glyph_in_join profile f g p) ∙ wants_at p n (maps.get f.glyphs p) (maps.get g.glyphs p) (c.names p)
+  wants_join p n = grind (cases, glyph_in_join profile f g p, calls_join profile f g c p n, c.names p, sought profile f p n, sought profile g p n)
 
   -- the user of an index in the join is the smaller of those in the fonts
   pub user_join : (i : ℕ) → user_of both i ≡ smaller name_cmp (user_of f i) (user_of g i)

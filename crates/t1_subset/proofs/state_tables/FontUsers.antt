@@ -1,11 +1,9 @@
 -- The users of a font's Subrs, as the code notes them.
 use Rattle.std.proofs.lemmas.Bool.Decides.{nat_tests}
-use Rattle.std.proofs.Common.{◌≡◌, ◌<◌, ℕ, Bool, true, cond, ◌||◌, List, Option, Some, None, ◌≤◌, arith}
+use Rattle.std.proofs.Common.{◌≡◌, ◌<◌, ℕ, true, None, ◌≤◌, arith}
 use Rattle.std.specs.FinMap as maps
-use Rattle.t1_font.specs.FontValue.{FontValue, declared_count}
-use Rattle.t1_font.specs.IsFont.{IsFont}
+use Rattle.t1_font.specs.{FontValue.{FontValue, declared_count}, IsFont.{IsFont}}
 use Rattle.t1_font.proofs.FontReaders.{subrs_seen}
-use Rattle.t1_algebra.specs.States.{joined}
 
 -- a font has no Subr at its declared count or above it
 pub absent_beyond : (f : FontValue) → IsFont f → (q : ℕ) → declared_count f.shell.subrs ≤ q → maps.get f.subrs q ≡ None
@@ -14,7 +12,3 @@ absent_beyond f h q l = let seen = subrs_seen f h q in grind (arith, nat_tests, 
 -- each Subr that a font has is below its declared count
 pub present_below : (f : FontValue) → IsFont f → (q : ℕ) → maps.contains_key f.subrs q ≡ true → q < declared_count f.shell.subrs
 present_below f h q t = let seen = subrs_seen f h q in grind (arith, nat_tests, seen)
-
--- noting a user twice is noting it once
-pub noted_twice : (x : Option (List ℕ)) (a b : Bool) (n : List ℕ) → joined (joined x (cond a (Some n) None)) (cond b (Some n) None) ≡ joined x (cond (a || b) (Some n) None)
-noted_twice x a b n = grind arith

@@ -1,24 +1,12 @@
 -- The lowest key that passes a test, as a search of a map finds it, and the lower of two.
-use Rattle.std.proofs.lemmas.Bool.{or_cases, or_left, or_right, false_from_ne_true}
-use Rattle.std.proofs.Common.{arith, ◌≡◌, ℕ, Bool, true, false, cond, ◌||◌, List, [], ◌∷◌, map, option_map, refl, sym, ◌∙◌, ap, true≢false, inl, inr, Option, Some, None, Ordering, Less, Equal, Greater, is_lt}
-use Rattle.std.specs.List.{list_any, AllByRecursion}
-use Rattle.std.specs.Ordering.{eq_by_cmp, ordering_reverse}
-use Rattle.std.specs.Cmp.{IsTotalOrder, first_so, second_so}
-use Rattle.std.specs.FinSet.{IsAntisymmetric}
+use Rattle.std.proofs.lemmas.Bool.{or_left, or_right, false_from_ne_true}
+use Rattle.std.proofs.Common.{arith, ◌≡◌, ℕ, Bool, true, false, cond, ◌||◌, List, [], ◌∷◌, map, option_map, refl, sym, ◌∙◌, ap, true≢false, Option, Some, None, Ordering, Less, Equal, Greater, is_lt}
+use Rattle.std.specs.{List.{list_any, AllByRecursion}, Ordering.{eq_by_cmp, ordering_reverse}, Cmp.{IsTotalOrder, first_so, second_so}, FinSet.{IsAntisymmetric}, FinMap.Entries.{below_all, is_sorted}}
 use Rattle.std.specs.FinMap as maps
-use Rattle.std.specs.FinMap.Entries.{below_all, is_sorted}
 use Rattle.t1_font.proofs.MapLemmas.{T_true}
-use Rattle.t1_algebra.specs.Conflicts.{keys_of_both}
-use Rattle.t1_algebra.specs.Searches.{smallest, members, first_where, IsLowest}
-use Rattle.t1_algebra.proofs.Maps.{in_both}
-use Rattle.t1_algebra.proofs.Searching.{passes_none, none_at_all, first_passes, smallest_is, below_later}
-use Rattle.t1_algebra.proofs.Sets.{tied}
+use Rattle.t1_algebra.specs.{Conflicts.{keys_of_both}, Searches.{smallest, members, first_where, IsLowest}}
+use Rattle.t1_algebra.proofs.{Maps.{in_both}, Searching.{passes_none, none_at_all, first_passes, smallest_is, below_later}, Sets.{tied, cases}}
 use Rattle.t1_subset.specs.Differences.{smaller}
-
-less_of : (r : Ordering) → is_lt r ≡ true → r ≡ Less
-less_of Less h = refl
-less_of Equal h = absurd (true≢false (sym h))
-less_of Greater h = absurd (true≢false (sym h))
 
 module _ {K : Type 0} {R : K → K → Ordering} (o : IsTotalOrder R) (same : IsAntisymmetric R) where
   -- no key is both below and above another
@@ -30,16 +18,8 @@ module _ {K : Type 0} {R : K → K → Ordering} (o : IsTotalOrder R) (same : Is
     first_least : {X : Type 0} (es : List (K × X)) (k q : K) → is_sorted R es ≡ true → first_where p (map (λ e. e.0) es) ≡ Some k → list_any (eq_by_cmp R q) (map (λ e. e.0) es) ≡ true → R q k ≡ Less → p q ≡ false
     first_least [] k q s h w l = cc
     first_least (e ∷ es) k q s h w l =
-        let in_rest = or_cases (eq_by_cmp R q e.0) (list_any (eq_by_cmp R q) (map (λ e. e.0) es)) w in
-        elim (p e.0) as (λ b. p e.0 ≡ b → cond b (Some e.0) (first_where p (map (λ e. e.0) es)) ≡ Some k → p q ≡ false) [
-          | true ↦ λ is h.
-              let e_k : e.0 ≡ k = cc in
-              elim in_rest [
-                | inl a ↦ absurd (one_way k k (ap (λ x. R x k) (sym e_k ∙ sym (tied o same q e.0 a)) ∙ l) (ap (λ x. R x k) (sym e_k ∙ sym (tied o same q e.0 a)) ∙ l))
-                | inr c ↦ absurd (one_way k q (ap (λ x. R x q) (sym e_k) ∙ below_later o same p e.0 q es (first_so (below_all R e.0 es) (is_sorted R es) s) c) l)
-              ]
-          | false ↦ λ is h. elim in_rest [ inl a ↦ ap p (tied o same q e.0 a) ∙ is | inr c ↦ first_least es k q (second_so (below_all R e.0 es) (is_sorted R es) s) h c l ]
-        ] refl h
+        let rest = first_least es k q (second_so (below_all R e.0 es) (is_sorted R es) s) in
+        grind (cases, tied o same q e.0, below_later o same p e.0 q es (first_so (below_all R e.0 es) (is_sorted R es) s), rest, one_way k q, one_way k k)
 
     -- the key of the first entry that passes is the first key that passes
     first_keys : {X : Type 0} (P : K × X → Bool) (es : List (K × X)) → AllByRecursion (λ e. P e ≡ p e.0) es → option_map (λ e. e.0) (first_where P es) ≡ first_where p (map (λ e. e.0) es)
@@ -68,12 +48,6 @@ module _ {K : Type 0} {R : K → K → Ordering} (o : IsTotalOrder R) (same : Is
     lowest_is s only (Some k) h = sym (smallest_is o same p s k (only k h.it) h.it (λ q w l. h.none_lower q l))
 
 module _ {K : Type 0} {R : K → K → Ordering} (o : IsTotalOrder R) (same : IsAntisymmetric R) where
-  -- what is below m is below n, if n is not below m
-  below_both : (r m n : K) (x : Ordering) → R n m ≡ x → is_lt x ≡ false → R r m ≡ Less → R r n ≡ Less
-  below_both r m n Less e h l = absurd (true≢false h)
-  below_both r m n Equal e h l = ap (R r) (same n m e) ∙ l
-  below_both r m n Greater e h l = o.trans r m n l (o.antisymm m n ∙ ap ordering_reverse e)
-
   module _ (p q : K → Bool) where
     -- the lower of the lowest keys of two tests is the lowest that passes either
     pub lower_of : (x y : Option K) → IsLowest R p x → IsLowest R q y → IsLowest R (λ k. p k || q k) (smaller R x y)
@@ -81,15 +55,16 @@ module _ {K : Type 0} {R : K → K → Ordering} (o : IsTotalOrder R) (same : Is
     lower_of None (Some n) h k = record { it = or_right (p n) (q n) k.it; none_lower = λ r l. grind (arith, h r, k.none_lower r l) }
     lower_of (Some m) None h k = record { it = or_left (p m) (q m) h.it; none_lower = λ r l. grind (arith, h.none_lower r l, k r) }
     lower_of (Some m) (Some n) h k =
-        elim (is_lt (R n m)) as (λ t. is_lt (R n m) ≡ t → IsLowest R (λ k. p k || q k) (cond t (Some n) (Some m))) [
-          | true ↦ λ is. record { it = or_right (p n) (q n) k.it; none_lower = λ r l. grind (arith, h.none_lower r (o.trans r n m l (less_of (R n m) is)), k.none_lower r l) }
-          | false ↦ λ is. record { it = or_left (p m) (q m) h.it; none_lower = λ r l. grind (arith, h.none_lower r l, k.none_lower r (below_both r m n (R n m) refl is l)) }
+        elim (R n m) as (λ x. R n m ≡ x → IsLowest R (λ k. p k || q k) (cond (is_lt x) (Some n) (Some m))) [
+          | Less ↦ λ e. record { it = or_right (p n) (q n) k.it; none_lower = λ r l. grind (arith, h.none_lower r (o.trans r n m l e), k.none_lower r l) }
+          | Equal ↦ λ e. record { it = or_left (p m) (q m) h.it; none_lower = λ r l. grind (arith, h.none_lower r l, k.none_lower r (ap (R r) (same n m e) ∙ l)) }
+          | Greater ↦ λ e. record { it = or_left (p m) (q m) h.it; none_lower = λ r l. grind (arith, h.none_lower r l, k.none_lower r (o.trans r m n l (o.antisymm m n ∙ ap ordering_reverse e))) }
         ] refl
 
     -- the smaller of the first keys of two maps is the smallest of both
     pub smaller_first : {X : Type 0} (a b : maps.FinMap R X) → ((k : K) → p k ≡ true → maps.contains_key a k ≡ true) → ((k : K) → q k ≡ true → maps.contains_key b k ≡ true)
         → smaller R (first_where p (maps.keys a)) (first_where q (maps.keys b)) ≡ smallest (λ k. p k || q k) (keys_of_both a b)
     smaller_first a b in_a in_b =
-        lowest_is o same (λ k. p k || q k) (keys_of_both a b) (λ k h. in_both o same a b k ∙ (elim (or_cases (p k) (q k) h) [ inl x ↦ or_left (maps.contains_key a k) (maps.contains_key b k) (in_a k x) | inr y ↦ or_right (maps.contains_key a k) (maps.contains_key b k) (in_b k y) ]))
+        lowest_is o same (λ k. p k || q k) (keys_of_both a b) (λ k h. grind (cases, h, in_both o same a b k, in_a k, in_b k))
         (smaller R (first_where p (maps.keys a)) (first_where q (maps.keys b)))
         (lower_of (first_where p (maps.keys a)) (first_where q (maps.keys b)) (lowest_key o same p a in_a (first_where p (maps.keys a)) refl) (lowest_key o same q b in_b (first_where q (maps.keys b)) refl))

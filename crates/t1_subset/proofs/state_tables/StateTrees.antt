@@ -2,47 +2,22 @@
 use Rattle.std.proofs.Common.{◌≡◌, ◌<◌, true≢false, List, [], ◌∷◌, map, length, refl, sym, ◌∙◌, ap, subst, arith, inl, inr, true, Option, Some, None, option_map, is_some, Result, Ok, Err, IfErr}
 use Rattle.std.proofs.lemmas.List.{map-id}
 use Rattle.std.specs.List.{AllByRecursion}
-use Rattle.t1_join.specs.Groupings.{Grouping, one, two, leaves, from_left, Uses, IsJoinOf}
+use Rattle.t1_join.specs.Groupings.{Grouping, one, two, from_left, IsJoinOf}
 use Rattle.t1_join.proofs.OrderLemmas.{each_leaf, leaves_mapped, leaves_from_left, uses_its}
-use Rattle.t1_font.specs.declared.parts.PartsFault.{PartsFault}
-use Rattle.t1_font.specs.declared.parts.PartsFault.TheVariants as parts
-use Rattle.t1_font.specs.FontValue.{FontValue, Encoding}
-use Rattle.t1_font.specs.IsFont.{IsFont}
-use Rattle.t1_font.specs.Joins.{join_encodings, join_parts, join_all_parts, HaveOneGlyph, Refuses}
-use Rattle.t1_font.specs.Maps.{IsPartOf}
+use Rattle.t1_font.specs.{declared.parts.PartsFault.{PartsFault}, FontValue.{FontValue, Encoding}, IsFont.{IsFont}, Joins.{join_encodings, join_parts, join_all_parts, HaveOneGlyph, Refuses}, Maps.{IsPartOf}}
 use Rattle.t1_font.specs.WriteLaws.{SameKind}
-use Rattle.t1_algebra.specs.Profile.{profile}
-use Rattle.t1_algebra.specs.States.{IsWithin, Compatible, Join, joined_font}
-use Rattle.t1_algebra.specs.Groupings.{Merges}
-use Rattle.t1_algebra.specs.StateTables.{StatesValue, StatesJoin, states_of}
-use Rattle.t1_algebra.specs.Merges.{EachGroupingMerges, ComesTo}
-use Rattle.t1_algebra.proofs.Fonts.{font_within}
-use Rattle.t1_algebra.proofs.JoinedStates.{font_back, left_glyph, joined_are_entries}
-use Rattle.t1_algebra.proofs.Orders.{grouped, merges_by_states}
-use Rattle.t1_subset.specs.Refusals.{of_parts}
-use Rattle.t1_subset.specs.declared.conflict.Conflict.{Conflict as Refusal}
-use Rattle.t1_subset.specs.declared.conflict.Conflict.TheVariants.{Memory}
-use Rattle.t1_subset.specs.Merger.{IsRefused}
+use Rattle.t1_font.specs.declared.parts.PartsFault.TheVariants as parts
+use Rattle.t1_algebra.specs.{Profile.{profile}, States.{IsWithin, Compatible, Join, joined_font}, Groupings.{Merges}, StateTables.{StatesValue, StatesJoin, states_of}, Merges.{EachGroupingMerges, ComesTo}}
+use Rattle.t1_algebra.proofs.{Fonts.{font_within, fonts_within}, JoinedStates.{font_back, left_glyph, joined_are_entries}, Orders.{grouped, merges_by_states}}
+use Rattle.t1_subset.specs.{Refusals.{of_parts}, declared.conflict.Conflict.{Conflict as Refusal}, declared.conflict.Conflict.TheVariants.{Memory}, Merger.{IsRefused}}
 
--- a grouping of fonts groups the states of all of them
-pub uses_all : (t : Grouping FontValue) (fs : List FontValue) → leaves t ≡ fs → Uses (grouped profile t) (map (states_of profile) fs)
-uses_all t fs e = uses_its (grouped profile t) (map (states_of profile) fs) (leaves_mapped (states_of profile) t ∙ ap (map (states_of profile)) e)
-
--- fonts are within the limits
-pub all_within : (fs : List FontValue) → AllByRecursion IsFont fs → AllByRecursion IsWithin fs
-all_within [] h = tt
-all_within (f ∷ fs) h = (font_within f h.0, all_within fs h.1)
-
--- if the states of all fonts join, each grouping of the fonts merges
-pub each_grouping : (fs : List FontValue) → AllByRecursion IsFont fs → (v : StatesValue) → IsJoinOf StatesJoin (map (states_of profile) fs) (Some v) → EachGroupingMerges fs
-each_grouping fs w v h t e =
-    let r = merges_by_states profile t (each_leaf IsWithin t (subst (AllByRecursion IsWithin) (sym e) (all_within fs w))) v (h.1 (grouped profile t) (uses_all t fs e)) in
-    (r.0, r.1)
-
--- the same, where the code answers a join
+-- if the code answers a join of the states of all fonts, each grouping of the fonts merges
 pub joined_groupings : (fs : List FontValue) → AllByRecursion IsFont fs → (ss : List StatesValue) → ss ≡ map (states_of profile) fs → (o : Option StatesValue) → is_some o ≡ true → IsJoinOf StatesJoin (map (λ s. s) ss) (option_map (λ s. s) o) → EachGroupingMerges fs
-joined_groupings fs w ss is None t h = absurd (true≢false (sym t))
-joined_groupings fs w ss is (Some v) t h = each_grouping fs w v (subst (λ (ss : List StatesValue). IsJoinOf StatesJoin ss (Some v)) (map-id ss ∙ is) h)
+joined_groupings fs w ss is None some h t e = absurd (true≢false (sym some))
+joined_groupings fs w ss is (Some v) some h t e =
+    let uses = uses_its (grouped profile t) (map (λ s. s) ss) (leaves_mapped (states_of profile) t ∙ ap (map (states_of profile)) e ∙ sym (map-id ss ∙ is)) in
+    let r = merges_by_states profile t (fonts_within t (each_leaf IsFont t (subst (AllByRecursion IsFont) (sym e) w))) v (h.1 (grouped profile t) uses) in
+    (r.0, r.1)
 
 -- ---- from left to right
 
@@ -84,9 +59,9 @@ left_parts t (g ∷ gs) j h =
       },
     )
 
-module _ (f : FontValue) (gs : List FontValue) (h : EachGroupingMerges (f ∷ gs)) where
+module _ (f : FontValue) (gs fs : List FontValue) (is : fs ≡ f ∷ gs) (h : EachGroupingMerges fs) where
   pub merged : (j : FontValue) × Merges profile (from_left (one f) gs) j
-  merged = h (from_left (one f) gs) (leaves_from_left (one f) gs)
+  merged = h (from_left (one f) gs) (leaves_from_left (one f) gs ∙ sym is)
 
   -- fonts of which each grouping merges have entries that join
   pub parts_join : AreParts f gs merged.0
@@ -97,21 +72,18 @@ module _ (f : FontValue) (gs : List FontValue) (h : EachGroupingMerges (f ∷ gs
   one_glyph = subst (λ (j : FontValue). AllByRecursion (λ g. IsPartOf g.glyphs j.glyphs) (f ∷ gs)) parts_join.is parts_join.glyphs
 
   -- the font of all their entries is what they come to
-  pub parts_come_to : (j : FontValue) → j ≡ join_all_parts f gs → ComesTo (f ∷ gs) j
-  parts_come_to j e = subst (ComesTo (f ∷ gs)) (parts_join.is ∙ sym e) merged.1
+  pub parts_come_to : (j : FontValue) → j ≡ join_all_parts f gs → ComesTo fs j
+  parts_come_to j e = subst (λ (fs : List FontValue). ComesTo fs j) (sym is) (subst (ComesTo (f ∷ gs)) (parts_join.is ∙ sym e) merged.1)
 
   -- and it is within the limits, so it is refused for want of memory alone
   pub parts_refused : IsFont f → (e : PartsFault) → Refuses (join_all_parts f gs) e → of_parts e ≡ Memory
-  parts_refused w parts.Limit (inl more) = let few = (subst IsWithin parts_join.is (parts_join.within (font_within f w))).glyphs in absurd (omega arith)
-  parts_refused w parts.Limit (inr more) = let light = (subst IsWithin parts_join.is (parts_join.within (font_within f w))).weight in absurd (omega arith)
   parts_refused w parts.Memory h = refl
-
--- want of memory may be answered for any fonts, one or more
-pub refused_memory : (fs : List FontValue) → 0 < length fs → (e : Refusal) → e ≡ Memory → IsRefused fs e
-refused_memory [] l e h = absurd (omega arith)
-refused_memory (f ∷ fs) l e h = inl h
+  parts_refused w parts.Limit h =
+      let fits = subst IsWithin parts_join.is (parts_join.within (font_within f w)) in let few = fits.glyphs in let light = fits.weight in
+      absurd (elim h [ inl more ↦ omega arith | inr more ↦ omega arith ])
 
 -- a refusal for want of memory alone is a refusal of one or more fonts
 pub refused_err : (fs : List FontValue) → 0 < length fs → (r : Result FontValue Refusal) → IfErr r (λ e. e ≡ Memory) → IfErr r (λ e. IsRefused fs e)
-refused_err fs l (Ok j) h = tt
-refused_err fs l (Err c) h = refused_memory fs l c h
+refused_err [] l r h = absurd (omega arith)
+refused_err (f ∷ fs) l (Ok j) h = tt
+refused_err (f ∷ fs) l (Err c) h = inl h

@@ -1,6 +1,5 @@
 use Rattle.std.proofs.Common.{◌≡◌, drop, not}
-use Rattle.t1_algebra.specs.Keep.{has}
-use Rattle.t1_algebra.specs.Searches.{first_where}
+use Rattle.t1_algebra.specs.{Keep.{has}, Searches.{first_where}}
 use Rattle.t1_subset.specs.NameSets.{lent}
 use Rattle.t1_subset.proofs.closures.first_absent.Given as goal
 

@@ -1,8 +1,7 @@
-use Rattle.std.proofs.Common.{◌≡◌, drop}
+use Rattle.std.proofs.Common.{◌≡◌, take}
 use Rattle.std.specs.FinSet as sets
-use Rattle.t1_font.specs.FontValue.{name_cmp}
-use Rattle.t1_subset.specs.NameSets.{lent, asked}
+use Rattle.t1_subset.specs.NameSets.{lent}
 use Rattle.t1_subset.proofs.closures.upwards.Given as goal
 
 abbrev pub invariant-names : goal.invariant-names
-invariant-names l = sets.union l.copies (sets.from_list {R = name_cmp} (lent (drop l.name-index l.names))) ≡ asked l.names
+invariant-names l = l.copies ≡ sets.from_list (lent (take l.name-index l.names))

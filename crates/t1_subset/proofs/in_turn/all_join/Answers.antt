@@ -1,7 +1,6 @@
 use Rattle.std.proofs.Common.{sym, ◌∙◌}
 use Rattle.t1_subset.specs.Callers.{fonts_of}
-use Rattle.t1_subset.proofs.state_tables.StateTrees.{joined_groupings}
-use Rattle.t1_subset.proofs.state_tables.Walks.{all_fonts}
+use Rattle.t1_subset.proofs.{state_tables.StateTrees.{joined_groupings}, state_tables.Walks.{all_fonts}}
 use Rattle.t1_subset.proofs.in_turn.all_join.Goals as goal
 
 pub returns-then-is_some-clause-ok : goal.returns-then-is_some-clause-ok

@@ -1,5 +1,4 @@
-use Rattle.t1_algebra.proofs.Fonts.{font_within}
-use Rattle.t1_algebra.proofs.Orders.{join_self}
+use Rattle.t1_algebra.proofs.{Fonts.{font_within}, Orders.{join_self}}
 use Rattle.t1_subset.proofs.laws.join_is_idempotent.Goals as goal
 
 pub returns : goal.returns

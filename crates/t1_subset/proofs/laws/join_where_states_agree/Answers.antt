@@ -1,5 +1,4 @@
-use Rattle.t1_algebra.proofs.Fonts.{font_within}
-use Rattle.t1_algebra.proofs.FontStates.{join_exactly}
+use Rattle.t1_algebra.proofs.{Fonts.{font_within}, FontStates.{join_exactly}}
 use Rattle.t1_subset.proofs.laws.join_where_states_agree.Goals as goal
 
 pub returns : goal.returns

@@ -1,6 +1,4 @@
-use Rattle.t1_algebra.proofs.JoinedStates.{subr_joined, name_joined}
-use Rattle.t1_algebra.proofs.FontStates.{states_join}
-use Rattle.t1_algebra.proofs.Subsets.{code_joined}
+use Rattle.t1_algebra.proofs.{JoinedStates.{subr_joined, name_joined}, FontStates.{states_join}, Subsets.{code_joined}}
 use Rattle.t1_subset.proofs.laws.states_of_join.Goals as goal
 
 pub returns : goal.returns

@@ -1,6 +1,5 @@
 use Rattle.t1_algebra.specs.Profile.{profile}
-use Rattle.t1_algebra.proofs.Fonts.{subset_is_font}
-use Rattle.t1_algebra.proofs.Subsets.{subset_weight}
+use Rattle.t1_algebra.proofs.{Fonts.{subset_is_font}, Subsets.{subset_weight}}
 use Rattle.t1_subset.proofs.laws.subset_is_font.Goals as goal
 
 pub returns : goal.returns

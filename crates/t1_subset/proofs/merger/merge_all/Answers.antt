@@ -1,5 +1,4 @@
-use Rattle.t1_subset.proofs.Answered.{in_any_order, none_in_any_order}
-use Rattle.t1_subset.proofs.state_tables.Walks.{font_list}
+use Rattle.t1_subset.proofs.{Answered.{in_any_order, none_in_any_order}, state_tables.Walks.{font_list}}
 use Rattle.t1_subset.proofs.merger.merge_all.Goals as goal
 
 pub returns-then-is_empty-clause-any_order : goal.returns-then-is_empty-clause-any_order

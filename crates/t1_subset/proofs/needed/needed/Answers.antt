@@ -1,12 +1,9 @@
-use Rattle.std.proofs.Common.{◌≡◌, ℕ, ◌+◌, take, List, [], Bor, map, filter, sym, ◌∙◌, ap, subst, refl, arith, nat_cmp}
+use Rattle.std.proofs.Common.{◌≡◌, ℕ, ◌+◌, take, List, [], Bor, map, filter, sym, ◌∙◌, ap, subst, arith, nat_cmp}
 use Rattle.std.specs.FinSet as sets
 use Rattle.t1_font.specs.FontValue.{notdef}
-use Rattle.t1_algebra.specs.Keep.{has, charstring, components}
-use Rattle.t1_algebra.specs.Profile.{profile, set_of}
-use Rattle.t1_subset.specs.ClosureNames.{push_new, push_all}
-use Rattle.t1_subset.specs.NameSets.{lent, asked}
-use Rattle.t1_subset.proofs.closing.Closures.{ClosureSoFar, closure_start, closure_step, closure_few, all_front, got}
-use Rattle.t1_subset.proofs.closing.NumberSets.{calls_to, calls_step}
+use Rattle.t1_algebra.specs.{Keep.{has, charstring, components}, Profile.{profile, set_of}}
+use Rattle.t1_subset.specs.{ClosureNames.{push_new, push_all}, NameSets.{lent, asked}}
+use Rattle.t1_subset.proofs.{closing.Closures.{ClosureSoFar, closure_start, closure_step, place_below, all_front, got}, closing.NumberSets.{calls_to, calls_step}}
 use Rattle.t1_subset.proofs.needed.needed.Goals as goal
 
 pub closure-init : goal.closure-init
@@ -14,22 +11,18 @@ closure-init c =
     let f = c.args.font.now in
     let start : c.add_all.new.self ≡ push_all (push_new [] notdef) (lent c.args.names.now) =
     c.in_ok-add_all.ensures ∙ ap (λ (ns : List (List ℕ)). push_all ns (lent c.args.names.now)) (c.in_ok-add.ensures ∙ ap (λ (ns : List (List ℕ)). push_new ns notdef) c.new-closure.ensures) in (
-      subst (λ (ns : List (List ℕ)). ClosureSoFar profile f (asked c.args.names.now) ns 0) (sym start) (closure_start profile f (asked c.args.names.now) (lent c.args.names.now) c.proof_is_font.ensures.glyphs.notdef c.requires refl),
+      subst (λ (ns : List (List ℕ)). ClosureSoFar profile f (asked c.args.names.now) ns 0) (sym start) (closure_start profile f (lent c.args.names.now) c.proof_is_font.ensures.glyphs.notdef c.requires),
       ap (λ (ks : List ℕ). sets.from_list {R = nat_cmp} ks) c.in_ok-calls.ensures,
     )
 
 pub overflow_add-place : goal.overflow_add-place
 overflow_add-place c =
-    let few = closure_few profile c.args.font.now (asked c.args.names.now) c.closure.closure c.closure.place c.closure.invariant.0 in
-    let at = (got c.closure.closure c.closure.place c.in-Some.name.now c.in-Some.ensures).0 in
+    let below = place_below profile c.args.font.now (asked c.args.names.now) c.closure.closure c.closure.place c.in-Some.name.now c.closure.invariant.0 c.in-Some.ensures in
     let most = c.proof_is_font.ensures.glyphs.few in
-    omega (arith, few, at, most)
+    omega (arith, below, most)
 
 pub closure-smaller : goal.closure-smaller
-closure-smaller c =
-    let few = closure_few profile c.args.font.now (asked c.args.names.now) c.closure.closure c.closure.place c.closure.invariant.0 in
-    let at = (got c.closure.closure c.closure.place c.in-Some.name.now c.in-Some.ensures).0 in
-    omega (arith, few, at)
+closure-smaller c = let below = place_below profile c.args.font.now (asked c.args.names.now) c.closure.closure c.closure.place c.in-Some.name.now c.closure.invariant.0 c.in-Some.ensures in omega (arith, below)
 
 pub closure-preserved : goal.closure-preserved
 closure-preserved c =

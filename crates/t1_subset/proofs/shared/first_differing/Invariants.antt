@@ -1,6 +1,5 @@
 use Rattle.std.proofs.Common.{◌≡◌, drop, map, not}
-use Rattle.t1_algebra.specs.Shared.{same_part}
-use Rattle.t1_algebra.specs.Searches.{first_where}
+use Rattle.t1_algebra.specs.{Shared.{same_part}, Searches.{first_where}}
 use Rattle.t1_subset.specs.Differences.{shell_part}
 use Rattle.t1_subset.proofs.shared.first_differing.Given as goal
 

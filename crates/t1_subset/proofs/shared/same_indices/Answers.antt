@@ -1,7 +1,6 @@
 use Rattle.std.proofs.Common.{◌≡◌, ap, sym, ◌∙◌, length}
-use Rattle.std.proofs.lemmas.List.{length-map}
+use Rattle.std.proofs.{lemmas.List.{length-map}, lemmas.Bool.{false_from_ne_true}}
 use Rattle.std.specs.FinMap as maps
-use Rattle.std.proofs.lemmas.Bool.{false_from_ne_true}
 use Rattle.t1_font.specs.FontValue.{Numbered}
 use Rattle.t1_algebra.proofs.Shares.{bytes_decide}
 use Rattle.t1_subset.proofs.shared.same_indices.Goals as goal

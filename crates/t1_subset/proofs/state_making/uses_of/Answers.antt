@@ -1,15 +1,12 @@
-use Rattle.std.proofs.Common.{◌≡◌, ◌<◌, ℕ, true, List, Bor, length, map, not, ◌&&◌, cond, Some, None, ap, sym, ◌∙◌, arith}
+use Rattle.std.proofs.Common.{◌≡◌, ◌<◌, ℕ, true, List, Bor, length, map, not, ◌&&◌, cond, Some, None, ap, sym, ◌∙◌, arith, refl}
 use Rattle.std.specs.List.{list_any}
 use Rattle.std.specs.FinMap as maps
 use Rattle.std.specs.FinSet as sets
 use Rattle.std.proofs.lemmas.Map.Iter.{rest_more, rest_all}
-use Rattle.t1_algebra.specs.Interpreter.{same_bytes}
-use Rattle.t1_algebra.specs.Keep.{has}
-use Rattle.t1_algebra.specs.Profile.{profile}
-use Rattle.t1_algebra.specs.States.{joined, executes, executed_at, called_at}
-use Rattle.t1_algebra.specs.Conflicts.{wants}
+use Rattle.t1_algebra.specs.{Interpreter.{same_bytes}, Keep.{has}, Profile.{profile}, States.{joined, executes, executed_at, called_at}, Conflicts.{wants}}
+use Rattle.t1_algebra.proofs.Sets.{cases}
 use Rattle.t1_subset.specs.Users.{noted_at}
-use Rattle.t1_subset.proofs.state_tables.FontCallers.{executes_so, calls_so, noted_first, noted_next, noted_last, known_already, known_then, again_same, nothing_noted}
+use Rattle.t1_subset.proofs.state_tables.FontCallers.{executes_so, calls_so, again_same, noting_starts, noting_again, noting_next, noting_ends}
 use Rattle.t1_subset.proofs.state_making.uses_of.Goals as goal
 
 pub names-init : goal.names-init
@@ -17,24 +14,18 @@ names-init c =
     let f = c.args.font.now in
     let all = c.into_iter-name-iterator.ensures.into_iter_gives ∙ c.names-name-items.ensures in (
       c.in_ok-users.ensures.places,
-      λ q l. noted_first (λ n. executes profile f n q) _ _ _ (c.in_ok-users.ensures.none q) all,
-      λ p. noted_first (λ n. wants profile f n p) _ _ _ (ap (λ t. maps.get t p) c.new-seekers.ensures ∙ maps.get-empty _ p) all,
-      nothing_noted f _ _,
+      λ q l. noting_starts (λ n. executes profile f n q) _ _ _ _ (c.in_ok-users.ensures.none q) refl all,
+      λ p. noting_starts (λ n. wants profile f n p) _ _ _ _ (ap (λ t. maps.get t p) c.new-seekers.ensures ∙ maps.get-empty _ p) (grind cases) all,
     )
 
 pub names-preserved-then-is_again : goal.names-preserved-then-is_again
 names-preserved-then-is_again c =
     let f = c.args.font.now in
-    let n = c.in-Some.name.now in
     let more = rest_more (λ (s : Bor (List ℕ)). s.now) _ _ _ _ c.in-Some.is c.next.ensures.steps in
-    let noted = c.names.invariant.3 in
-    let stands = again_same _ _ (sym c.is_again.ensures ∙ c.if-is_again.true) ∙ c.charstring-charstring.ensures in (
+    let same = sym (again_same _ _ (sym c.is_again.ensures ∙ c.if-is_again.true) ∙ c.charstring-charstring.ensures) in (
       c.names.invariant.0,
-      λ q l. noted_next (λ n. executes profile f n q) (noted_at c.names.users.items q) (noted_at c.names.users.items q) _ n c.names.name-iterator c.next.new.self
-          (known_already (noted_at c.names.users.items q) (executes profile f n q) n (λ h. noted.executed q l (ap (executed_at profile f q) stands ∙ h))) more (c.names.invariant.1 q l),
-      λ q. noted_next (λ n. wants profile f n q) (maps.get c.names.seekers q) (maps.get c.names.seekers q) _ n c.names.name-iterator c.next.new.self
-          (known_already (maps.get c.names.seekers q) (wants profile f n q) n (λ h. noted.named q (ap (λ x. not (has f q) && called_at profile f q x) stands ∙ h))) more (c.names.invariant.2 q),
-      noted,
+      λ q l. noting_again (λ n. executes profile f n q) _ _ _ _ _ _ more (c.names.invariant.1 q l) (ap (executed_at profile f q) same),
+      λ q. noting_again (λ n. wants profile f n q) _ _ _ _ _ _ more (c.names.invariant.2 q) (ap (λ x. not (has f q) && called_at profile f q x) same),
     )
 
 pub names-preserved : goal.names-preserved
@@ -50,12 +41,8 @@ names-preserved c =
     c.in_ok-note_seekers.ensures q
     ∙ ap (λ b. joined (maps.get c.names.seekers q) (cond (not (has f q) && b) (Some n) None)) (ap (list_any (same_bytes q)) named ∙ calls_so f n q) in (
       λ q l. let there : q < length c.names.users.items = c.names.invariant.0 q l in let same = c.note_users.ensures.places in omega (arith, there, same),
-      λ q l. noted_next (λ n. executes profile f n q) (noted_at c.names.users.items q) (noted_at c.note_users.new.users.items q) _ n c.names.name-iterator c.next.new.self (users q l) more (c.names.invariant.1 q l),
-      λ q. noted_next (λ n. wants profile f n q) (maps.get c.names.seekers q) (maps.get c.note_seekers.new.seekers q) _ n c.names.name-iterator c.next.new.self (seekers q) more (c.names.invariant.2 q),
-      record {
-        executed = λ q l h. known_then (noted_at c.names.users.items q) (noted_at c.note_users.new.users.items q) (executes profile f n q) n (users q l) (ap (executed_at profile f q) (sym c.charstring-charstring.ensures) ∙ h);
-        named = λ q h. known_then (maps.get c.names.seekers q) (maps.get c.note_seekers.new.seekers q) (wants profile f n q) n (seekers q) (ap (λ x. not (has f q) && called_at profile f q x) (sym c.charstring-charstring.ensures) ∙ h);
-      },
+      λ q l. noting_next (λ n. executes profile f n q) _ _ _ _ _ _ more (c.names.invariant.1 q l) _ _ (users q l) (ap (executed_at profile f q) c.charstring-charstring.ensures),
+      λ q. noting_next (λ n. wants profile f n q) _ _ _ _ _ _ more (c.names.invariant.2 q) _ _ (seekers q) (ap (λ x. not (has f q) && called_at profile f q x) c.charstring-charstring.ensures),
     )
 
 pub returns : goal.returns
@@ -63,6 +50,6 @@ returns c =
     let f = c.args.font.now in
     let none = rest_all (λ (s : Bor (List ℕ)). s.now) _ _ _ c.in-None.is c.next.ensures.steps in
     record {
-      users = λ q l. noted_last (λ n. executes profile f n q) _ _ _ none (c.names.invariant.1 q l);
-      seekers = λ p. noted_last (λ n. wants profile f n p) _ _ _ none (c.names.invariant.2 p);
+      users = λ q l. noting_ends (λ n. executes profile f n q) _ _ _ _ none (c.names.invariant.1 q l);
+      seekers = λ p. noting_ends (λ n. wants profile f n p) _ _ _ _ none (c.names.invariant.2 p);
     }

@@ -1,9 +1,7 @@
 use Rattle.std.proofs.Common.{◌≡◌, ◌<◌, ℕ, drop, cond, length, Some, None}
 use Rattle.std.specs.FinSet as sets
 use Rattle.std.specs.List.{list_any}
-use Rattle.t1_algebra.specs.Profile.{set_of}
-use Rattle.t1_algebra.specs.Shared.{same_number}
-use Rattle.t1_algebra.specs.States.{joined}
+use Rattle.t1_algebra.specs.{Profile.{set_of}, Shared.{same_number}, States.{joined}}
 use Rattle.t1_subset.specs.Users.{noted_at}
 use Rattle.t1_subset.proofs.users.note_users.Given as goal
 

@@ -1,6 +1,5 @@
 use Rattle.std.proofs.Common.{◌≡◌, drop}
-use Rattle.t1_subset.specs.ClosureNames.{push_all}
-use Rattle.t1_subset.specs.NameSets.{lent}
+use Rattle.t1_subset.specs.{ClosureNames.{push_all}, NameSets.{lent}}
 use Rattle.t1_subset.proofs.closure_names.ClosureNames.add_all.Given as goal
 
 abbrev pub invariant-names : goal.invariant-names
