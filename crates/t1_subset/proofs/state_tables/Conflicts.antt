@@ -11,7 +11,7 @@ use Rattle.t1_algebra.specs.Conflicts.{agrees, clashes_at, codes_of_both, subr_c
 use Rattle.t1_algebra.specs.{States.{code_state, subr_state, IsWithin, Join, joined_font}, Interpreter.{Interpreter}, Keep.{has}, Profile.{profile}}
 use Rattle.t1_algebra.specs.{StateTables.{StatesValue, name_part, code_states, name_states, used_subrs, numbered, states_of, behind_mark, names_table, name_meaning}, Shared.{Shared, shared_of, differing_part, ShellPart}}
 use Rattle.t1_algebra.specs.{Searches.{found, smallest, members, IsLowest}, NameStates.{is_sought_in, charstrings_differ, one_lacks}}
-use Rattle.t1_algebra.proofs.{Maps.{in_both}, Searching.{first_passes}, Sets.{name_same, cases, cases_Option}, Tables.{Shows, codes_shown, meanings_as_bytes, get-name}, FontStates.{get-names, subrs_shown, glyph_known}}
+use Rattle.t1_algebra.proofs.{Maps.{in_both}, Searching.{first_passes}, Sets.{name_same, cases, cases_Option}, Tables.{Shows, codes_shown, meanings_as_bytes, get-name}, FontStates.{get-names, subrs_shown}}
 use Rattle.t1_algebra.proofs.{Conflicts.{compatible, within_so}, Fonts.{font_within}, JoinedStates.{joined_are_entries}}
 use Rattle.t1_subset.specs.{Callers.{seeker_of}, declared.conflict.Conflict.{Conflict as Refusal}, Refusals.{Tells, of_parts}}
 use Rattle.t1_subset.proofs.{state_tables.LowestKeys.{lowest_is}, state_tables.FontCallers.{any_first, sought_is, smallest_seeker}}
@@ -82,7 +82,7 @@ module _ (f g : FontValue) where
 module _ (f : FontValue) (v : StatesValue) (is : v ≡ states_of profile f) where
   -- the states of a font have the charstring of each glyph
   charstring_seen : (n : List ℕ) → behind_mark (maps.get (name_part v) n) ≡ maps.get f.glyphs n
-  charstring_seen n = ap (λ (v : StatesValue). behind_mark (maps.get (name_part v) n)) is ∙ glyph_known profile f n
+  charstring_seen n = ap (λ (v : StatesValue). behind_mark (maps.get (name_part v) n)) is ∙ grind (cases, get-names profile f n)
 
   -- the states of a font seek what has a seeker
   seeking_seen : (n : List ℕ) → is_sought_in (maps.get (name_part v) n) ≡ is_some (seeker_of f n)
