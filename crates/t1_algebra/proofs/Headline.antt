@@ -1,23 +1,12 @@
 -- The written subsets of a font, read and merged in any order and grouping, come to the subset over all names.
 use Rattle.std.proofs.Common.{◌≡◌, List, sym, ◌∙◌, ap, subst, Ok, IsPermutation}
-use Rattle.t1_bytes.specs.declared.form.Form.{Form}
-use Rattle.t1_bytes.specs.declared.form.Form.TheVariants.{Pfa, Pfb}
+use Rattle.t1_bytes.specs.{declared.form.Form.{Form}, declared.form.Form.TheVariants.{Pfa, Pfb}}
 use Rattle.t1_join.specs.Groupings.{EachLeaf, leaves}
-use Rattle.t1_font.specs.FontValue.{FontValue}
-use Rattle.t1_font.specs.Canon.{canon}
-use Rattle.t1_font.specs.IsFont.{IsFont}
-use Rattle.t1_font.specs.ReadFont.{read_font}
-use Rattle.t1_font.specs.WriteLaws.{Fits}
+use Rattle.t1_font.specs.{FontValue.{FontValue}, Canon.{canon}, IsFont.{IsFont}, ReadFont.{read_font}, WriteLaws.{Fits}}
 use Rattle.t1_font.proofs.canonical.RoundTrip.{round_trip}
-use Rattle.t1_algebra.specs.Interpreter.{Names}
-use Rattle.t1_algebra.specs.Keep.{subset}
-use Rattle.t1_algebra.specs.Profile.{profile}
-use Rattle.t1_algebra.specs.States.{joined_font}
-use Rattle.t1_algebra.specs.Laws.{IsOf, DrawsAlike}
-use Rattle.t1_algebra.specs.Groupings.{union_all}
+use Rattle.t1_algebra.specs.{Interpreter.{Names}, Keep.{subset}, Profile.{profile}, States.{joined_font}, Laws.{IsOf, DrawsAlike}, Groupings.{union_all}}
 use Rattle.t1_algebra.specs.Headline.{Making, Subset, Merge, Again, sets_of, FormsFit, Makes, ComesToSubset}
-use Rattle.t1_algebra.proofs.Fonts.{subset_is_font, two_subsets, all_of, all_is_of, all_alike}
-use Rattle.t1_algebra.proofs.Drawings.{subset_alike}
+use Rattle.t1_algebra.proofs.{Fonts.{subset_is_font, two_subsets, all_of, all_is_of, all_alike}, Drawings.{subset_alike}}
 
 module _ (f : FontValue) (h : IsFont f) where
   -- a subset has the head of its font, so it fits the same forms

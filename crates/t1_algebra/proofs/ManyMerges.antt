@@ -1,22 +1,12 @@
 -- Merges from left to right, merges of subsets of one font, and how the glyphs of many fonts draw.
 use Rattle.std.proofs.Common.{◌≡◌, List, [], ◌∷◌, ◌++◌, map, refl, sym, ◌∙◌, ap, subst, IsPermutation, ◌<◌, ℕ, true, length, arith, is_some}
-use Rattle.std.proofs.lemmas.List.Sorted.{IsPermutation-refl, length_permutation}
-use Rattle.std.proofs.lemmas.List.{length-append}
+use Rattle.std.proofs.{lemmas.List.Sorted.{IsPermutation-refl, length_permutation}, lemmas.List.{length-append}}
 use Rattle.std.specs.FinSet as sets
 use Rattle.t1_join.proofs.OrderLemmas.{leaves_from_left, all_of_both, each_leaf}
 use Rattle.t1_join.specs.Groupings.{Grouping, one, two, EachLeaf, map_grouping, from_left, leaves}
-use Rattle.t1_font.specs.FontValue.{FontValue, name_cmp}
-use Rattle.t1_font.specs.IsFont.{IsFont}
-use Rattle.t1_algebra.specs.Keep.{subset, has}
-use Rattle.t1_algebra.specs.Profile.{profile}
-use Rattle.t1_algebra.specs.Laws.{IsOf, DrawsAlike}
-use Rattle.t1_algebra.specs.Groupings.{Merges, union_all}
-use Rattle.t1_algebra.specs.Merges.{DrawsAll}
-use Rattle.t1_algebra.proofs.Words.{AllByRecursion, nat_list_cmp_total, Names}
-use Rattle.t1_algebra.proofs.Fonts.{many_subsets}
-use Rattle.t1_algebra.proofs.Orders.{one_result, all_weaker}
-use Rattle.t1_algebra.proofs.Sets.{cases}
-use Rattle.t1_algebra.proofs.Drawings.{left_alike, right_alike}
+use Rattle.t1_font.specs.{FontValue.{FontValue, name_cmp}, IsFont.{IsFont}}
+use Rattle.t1_algebra.specs.{Keep.{subset, has}, Profile.{profile}, Laws.{IsOf, DrawsAlike}, Groupings.{Merges, union_all}, Merges.{DrawsAll}}
+use Rattle.t1_algebra.proofs.{Words.{AllByRecursion, nat_list_cmp_total, Names}, Fonts.{many_subsets}, Orders.{one_result, all_weaker}, Sets.{cases}, Drawings.{left_alike, right_alike}}
 
 -- ---- from left to right
 

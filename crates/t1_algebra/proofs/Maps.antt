@@ -3,10 +3,8 @@ use Rattle.std.proofs.Common.{◌≡◌, ℕ, ◌||◌, refl, arith, Option, Som
 use Rattle.std.specs.FinMap as maps
 use Rattle.t1_font.specs.Maps.{merged}
 use Rattle.t1_font.proofs.MapLemmas as cuts
-use Rattle.t1_algebra.specs.Conflicts.{keys_of_both}
-use Rattle.t1_algebra.specs.States.{Agree, joined}
-use Rattle.t1_algebra.proofs.Words.{list_any, eq_by_cmp, IsTotalOrder, IsAntisymmetric}
-use Rattle.t1_algebra.proofs.Sets.{cases}
+use Rattle.t1_algebra.specs.{Conflicts.{keys_of_both}, States.{Agree, joined}}
+use Rattle.t1_algebra.proofs.{Words.{list_any, eq_by_cmp, IsTotalOrder, IsAntisymmetric}, Sets.{cases}}
 
 -- states agree in both orders
 pub agree_back : {V : Type 0} (x y : Option V) → Agree x y → Agree y x

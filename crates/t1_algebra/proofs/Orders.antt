@@ -3,12 +3,9 @@ use Rattle.std.proofs.Common.{◌≡◌, List, [], ◌∷◌, refl, sym, ◌∙�
 use Rattle.t1_join.specs.Groupings.{Grouping, one, two, leaves, map_grouping, EachLeaf, from_left, Gives}
 use Rattle.t1_join.proofs.OrderLemmas.{below_trans, below_left, below_right, below_both, gives_one, same_given, moved_images, same_leaves, leaves_from_left, all_leaves, each_leaf}
 use Rattle.t1_font.specs.FontValue.{FontValue}
-use Rattle.t1_algebra.specs.States.{IsWithin, joined_font, Compatible, Join}
-use Rattle.t1_algebra.specs.StateTables.{StatesValue, StatesJoin, states_of}
-use Rattle.t1_algebra.specs.StateLaws.{parts_laws, parts_by_pairs, falls, states_laws}
+use Rattle.t1_algebra.specs.{States.{IsWithin, joined_font, Compatible, Join}, StateTables.{StatesValue, StatesJoin, states_of}, StateLaws.{parts_laws, parts_by_pairs, falls, states_laws}}
 use Rattle.t1_algebra.specs.Groupings.{JoinTo, Merges, folded, EachPair}
-use Rattle.t1_algebra.proofs.Words.{AllByRecursion, Interpreter}
-use Rattle.t1_algebra.proofs.JoinedStates.{font_back, compatible_back}
+use Rattle.t1_algebra.proofs.{Words.{AllByRecursion, Interpreter}, JoinedStates.{font_back, compatible_back}}
 use Rattle.t1_algebra.proofs.FontStates.{agree_compatible, compatible_agree, parts_join, states_join, join_exactly, fits, font_known}
 
 module _ {X : Type 0} (P Q : X → Type 0) (weaker : (x : X) → P x → Q x) where

@@ -1,10 +1,7 @@
 -- Members of lists and of finite sets.
 use Rattle.std.proofs.Common.{◌≡◌, ℕ, Bool, true, false, ◌||◌, ◌&&◌, List, [], ◌∷◌, ◌++◌, map, refl, sym, ◌∙◌, ap, true≢false, ◌⊎◌, ◌↔◌, inl, inr, filter, Ordering, flat_map, arith, Option, Some, None}
-use Rattle.std.specs.Cmp.{Equal-is, both_ways, tied_itself}
-use Rattle.std.specs.FinSet.{FinSet, slice_cmp-IsAntisymmetric}
-use Rattle.std.proofs.lemmas.Bool.{and_from, or_left, or_right, or_cases, cases_Bool}
-use Rattle.std.proofs.lemmas.List.Folds.{list_all-append, list_all-map, list_any-append}
-use Rattle.std.proofs.lemmas.Map.Views.{any-filter_same}
+use Rattle.std.specs.{Cmp.{Equal-is, both_ways, tied_itself}, FinSet.{FinSet, slice_cmp-IsAntisymmetric}}
+use Rattle.std.proofs.{lemmas.Bool.{and_from, or_left, or_right, or_cases, cases_Bool}, lemmas.List.Folds.{list_all-append, list_all-map, list_any-append}, lemmas.Map.Views.{any-filter_same}}
 use Rattle.std.specs.FinSet as sets
 use Rattle.t1_font.specs.FontValue.{name_cmp, Encoding, Word, Codes, Numbered}
 use Rattle.t1_algebra.specs.Keep.{sets_of}

@@ -1,17 +1,11 @@
 -- Sums over the entries of tables: what they weigh, and how many glyphs they have.
 use Rattle.std.proofs.Common.{◌≡◌, ℕ, ◌+◌, Bool, true, not, List, [], ◌∷◌, map, filter, length, refl, sym, ◌∙◌, ap, arith, Some}
 use Rattle.std.specs.FinMap as maps
-use Rattle.t1_join.specs.Meaning.{Meaning}
-use Rattle.t1_join.specs.TableMeaning.{TableMeaning, TablesAgree, joined_table}
-use Rattle.t1_join.specs.TableLaws.{get_joined}
-use Rattle.t1_font.specs.Maps.{merged}
-use Rattle.t1_font.specs.FontValue.{total, Named}
-use Rattle.t1_font.proofs.CutEntries.{entries-retain}
-use Rattle.t1_font.proofs.MapLemmas.{entries-map_values, entries_all, get-retain, length_total}
+use Rattle.t1_join.specs.{Meaning.{Meaning}, TableMeaning.{TableMeaning, TablesAgree, joined_table}, TableLaws.{get_joined}}
+use Rattle.t1_font.specs.{Maps.{merged}, FontValue.{total, Named}}
+use Rattle.t1_font.proofs.{CutEntries.{entries-retain}, MapLemmas.{entries-map_values, entries_all, get-retain, length_total}}
 use Rattle.t1_algebra.specs.StateTables.{name_meaning, name_counts, glyph_table, names_table, AreSought}
-use Rattle.t1_algebra.proofs.Words.{AllByRecursion, nat_list_cmp_total}
-use Rattle.t1_algebra.proofs.Sets.{name_same, cases}
-use Rattle.t1_algebra.proofs.Tables.{names_join, are_joined}
+use Rattle.t1_algebra.proofs.{Words.{AllByRecursion, nat_list_cmp_total}, Sets.{name_same, cases}, Tables.{names_join, are_joined}}
 
 -- the sum over entries with other keys and values
 pub total_mapped : {K X : Type 0} (k : K → Meaning) (v : X → Meaning) (w : Meaning → Meaning → ℕ) (es : List (K × X)) → total w (map (λ e. (k e.0, v e.1)) es) ≡ total (λ a b. w (k a) (v b)) es

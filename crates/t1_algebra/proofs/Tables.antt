@@ -1,35 +1,22 @@
 -- Tables of codes, of Subrs and of names: what stands at each key, and how they join.
 use Rattle.std.proofs.Common.{◌≡◌, ◌≤◌, ℕ, ◌+◌, Bor, option_map, Bool, true, false, not, cond, T, List, [], ◌∷◌, refl, sym, ◌∙◌, ap, arith, Option, Some, None, is_some, Less, Equal, Greater, ◌&&◌, map, subst, nat_cmp, is_lt, ◌↔◌, inl, inr, ◌⊎◌}
-use Rattle.std.specs.Ordering.{is_eq, ordering_then}
-use Rattle.std.specs.Cmp.{both_ways}
-use Rattle.std.specs.FinMap.{find, is_sorted}
-use Rattle.std.specs.FinMap.Entries.{below_all}
-use Rattle.std.specs.Option.{option_copied}
+use Rattle.std.specs.{Ordering.{is_eq, ordering_then}, Cmp.{both_ways}, FinMap.{find, is_sorted}, FinMap.Entries.{below_all}, Option.{option_copied}}
 use Rattle.std.proofs.lemmas.Bool.{cases_Bool, not-true}
 use Rattle.std.specs.FinMap as maps
 use Rattle.std.specs.Str.{bytes_eq}
 use Rattle.std.proofs.lemmas.Map.Text.{is_eq-slice_cmp}
 use Rattle.t1_join.specs.Passes.{first_met}
 use Rattle.t1_join.proofs.Conflicts.{Says, both_agree, says_first}
-use Rattle.t1_join.specs.TableMeaning.{TableMeaning, joined_table, TablesAgree}
-use Rattle.t1_join.specs.Meaning.{Meaning, meaning_cmp, of_number, by_number_law, same_meaning}
-use Rattle.t1_join.specs.Join.{joined_state, State, states_agree, StatesAgree}
-use Rattle.t1_join.specs.TableLaws.{get_joined, same_table}
-use Rattle.t1_join.specs.StateLaws.{same_meaning-true, same_meaning-self}
-use Rattle.t1_font.specs.Maps.{merged}
-use Rattle.t1_font.specs.FontModel.{clamp}
+use Rattle.t1_join.specs.{TableMeaning.{TableMeaning, joined_table, TablesAgree}, Meaning.{Meaning, meaning_cmp, of_number, by_number_law, same_meaning}}
+use Rattle.t1_join.specs.{Join.{joined_state, State, states_agree, StatesAgree}, TableLaws.{get_joined, same_table}, StateLaws.{same_meaning-true, same_meaning-self}}
+use Rattle.t1_font.specs.{Maps.{merged}, FontModel.{clamp}}
 use Rattle.t1_font.proofs.Weights.{clamp_more, clamp_all, clamp_fits}
 use Rattle.t1_font.specs.FontValue.{total, Numbered, Named, name_cmp, Encoding, Word, Codes}
 use Rattle.t1_font.proofs.MapLemmas.{get-map_values}
-use Rattle.t1_algebra.specs.Conflicts.{agrees}
-use Rattle.t1_algebra.specs.StateTables.{numbered, name_meaning, AreNameStates, behind_mark, glyph_table, names_table, AreSought, code_states}
-use Rattle.t1_algebra.specs.Searches.{IsLowest}
-use Rattle.t1_algebra.specs.NameStates.{is_sought_in, charstrings_differ, one_lacks}
-use Rattle.t1_algebra.specs.States.{Agree, code_state, joined}
-use Rattle.t1_algebra.proofs.Words.{list_any, AllByRecursion, eq_by_cmp, IsTotalOrder, nat_cmp_total, first_so, second_so, nat_list_cmp_total, IsAntisymmetric, same_bytes}
-use Rattle.t1_algebra.proofs.Maps.{get-merged}
-use Rattle.t1_algebra.proofs.Sets.{cases_Option, name_same, cases}
-use Rattle.t1_algebra.proofs.Shares.{bytes_decide}
+use Rattle.t1_algebra.specs.{Conflicts.{agrees}, StateTables.{numbered, name_meaning, AreNameStates, behind_mark, glyph_table, names_table, AreSought, code_states}, Searches.{IsLowest}}
+use Rattle.t1_algebra.specs.{NameStates.{is_sought_in, charstrings_differ, one_lacks}, States.{Agree, code_state, joined}}
+use Rattle.t1_algebra.proofs.{Words.{list_any, AllByRecursion, eq_by_cmp, IsTotalOrder, nat_cmp_total, first_so, second_so, nat_list_cmp_total, IsAntisymmetric, same_bytes}, Maps.{get-merged}}
+use Rattle.t1_algebra.proofs.{Sets.{cases_Option, name_same, cases}, Shares.{bytes_decide}}
 
 -- a copy of what is borrowed is there if it is
 pub some_copied : {V : Type 0} {X : Type 0} (f : V → X) (r : Option (Bor V)) → is_some r ≡ is_some (option_map f (option_copied r))

@@ -1,26 +1,15 @@
 -- Fonts that are made even have all the Subrs that they had, so their glyphs stay drawn; fonts without tags that merge are even.
-use Rattle.std.proofs.Common.{◌≡◌, ◌<◌, ℕ, List, [], ◌∷◌, map, refl, ◌∙◌, ap, Option, option_map}
-use Rattle.std.proofs.lemmas.Bool.{ltb-true, lt-ltb}
+use Rattle.std.proofs.{Common.{◌≡◌, ◌<◌, ℕ, List, [], ◌∷◌, map, refl, ◌∙◌, ap, Option, option_map}, lemmas.Bool.{ltb-true, lt-ltb}}
 use Rattle.std.specs.FinMap as maps
-use Rattle.t1_run.specs.Run.{Subrs}
-use Rattle.t1_run.specs.Growth.{Extends}
+use Rattle.t1_run.specs.{Run.{Subrs}, Growth.{Extends}}
 use Rattle.t1_run.proofs.Grown.{runs_with_more, draws_with_more}
 use Rattle.t1_join.specs.Groupings.{leaves}
 use Rattle.t1_join.proofs.OrderLemmas.{all_leaves}
-use Rattle.t1_font.specs.FontValue.{FontValue, SubrsShell, Numbered, declared_count, Shell}
-use Rattle.t1_font.specs.FontModel.{subr_at}
-use Rattle.t1_font.specs.Evening.{raised, even, stubs_at, with_stubs, filled, largest_count, indices_of_all, evened_shells}
-use Rattle.t1_font.specs.EveningLaws.{IsEvenWith}
+use Rattle.t1_font.specs.{FontValue.{FontValue, SubrsShell, Numbered, declared_count, Shell}, FontModel.{subr_at}}
+use Rattle.t1_font.specs.{Evening.{raised, even, stubs_at, with_stubs, filled, largest_count, indices_of_all, evened_shells}, EveningLaws.{IsEvenWith}}
 use Rattle.t1_font.proofs.even_fonts.EvenStays.{even_fonts_stay}
-use Rattle.t1_algebra.specs.Evened.{StaysDrawn, subrs_of, AllStayDrawn, EachBeside, EvenedDraw}
-use Rattle.t1_algebra.specs.States.{joined}
-use Rattle.t1_algebra.specs.Profile.{profile}
-use Rattle.t1_algebra.specs.Rejoins.{IsUntagged, MergingFontsAreEven}
-use Rattle.t1_algebra.proofs.Words.{AllByRecursion, nat_cmp_total, nat_cmp-IsAntisymmetric}
-use Rattle.t1_algebra.proofs.Maps.{get-merged}
-use Rattle.t1_algebra.proofs.Orders.{Below, above}
-use Rattle.t1_algebra.proofs.Shares.{sharing}
-use Rattle.t1_algebra.proofs.Sets.{cases}
+use Rattle.t1_algebra.specs.{Evened.{StaysDrawn, subrs_of, AllStayDrawn, EachBeside, EvenedDraw}, States.{joined}, Profile.{profile}, Rejoins.{IsUntagged, MergingFontsAreEven}}
+use Rattle.t1_algebra.proofs.{Words.{AllByRecursion, nat_cmp_total, nat_cmp-IsAntisymmetric}, Maps.{get-merged}, Orders.{Below, above}, Shares.{sharing}, Sets.{cases}}
 
 -- if a font has the same glyphs and more Subrs, each glyph stays drawn
 stays_drawn : (subrs : FontValue → Subrs) (f j : FontValue) → Extends (subrs f) (subrs j) → j.glyphs ≡ f.glyphs → (n : List ℕ) → StaysDrawn subrs f j n

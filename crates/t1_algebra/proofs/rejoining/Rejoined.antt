@@ -5,22 +5,12 @@ use Rattle.std.specs.FinSet as sets
 use Rattle.std.specs.FinMap as maps
 use Rattle.t1_join.specs.Groupings.{Grouping, one, leaves, from_left}
 use Rattle.t1_join.proofs.OrderLemmas.{leaves_from_left}
-use Rattle.t1_font.specs.FontValue.{FontValue, SubrsShell, Numbered, name_cmp, total, subr_weight, declared_count}
-use Rattle.t1_font.specs.IsFont.{IsFont, IsWord, IsPhrase, SubrsFit, SubrWords}
-use Rattle.t1_font.specs.Evening.{evened}
-use Rattle.t1_font.proofs.even_fonts.Evened.{even_is_font}
-use Rattle.t1_font.proofs.MapLemmas.{get-retain, find_first, total-le, Some_None}
-use Rattle.t1_algebra.specs.Keep.{keep, kept, subset}
-use Rattle.t1_algebra.specs.Profile.{profile}
-use Rattle.t1_algebra.specs.Laws.{IsOf, DrawsAlike}
-use Rattle.t1_algebra.specs.Merges.{MergesTo}
+use Rattle.t1_font.specs.{FontValue.{FontValue, SubrsShell, Numbered, name_cmp, total, subr_weight, declared_count}, IsFont.{IsFont, IsWord, IsPhrase, SubrsFit, SubrWords}, Evening.{evened}}
+use Rattle.t1_font.proofs.{even_fonts.Evened.{even_is_font}, MapLemmas.{get-retain, find_first, total-le, Some_None}}
+use Rattle.t1_algebra.specs.{Keep.{keep, kept, subset}, Profile.{profile}, Laws.{IsOf, DrawsAlike}, Merges.{MergesTo}}
 use Rattle.t1_algebra.specs.Rejoins.{declares, Truncated, IsTruncated, fonts_of, sets_of, names_of_all, largest, shared_font, rejoined, Rejoins, TruncatedSubsetsRejoin}
-use Rattle.t1_algebra.proofs.Words.{AllByRecursion, nat_cmp_total, nat_list_cmp_total, nat_cmp-IsAntisymmetric, Names}
-use Rattle.t1_algebra.proofs.Drawings.{subset_alike, alike}
-use Rattle.t1_algebra.proofs.Fonts.{subset_is_font, any_order_of_fonts}
-use Rattle.t1_algebra.proofs.Kept.{keep_part, keep_more, kept_more, kept_union}
-use Rattle.t1_algebra.proofs.ManyMerges.{alike_trans, each_font, all_merge}
-use Rattle.t1_algebra.proofs.Sets.{clash, cases}
+use Rattle.t1_algebra.proofs.{Words.{AllByRecursion, nat_cmp_total, nat_list_cmp_total, nat_cmp-IsAntisymmetric, Names}, Drawings.{subset_alike, alike}, Fonts.{subset_is_font, any_order_of_fonts}}
+use Rattle.t1_algebra.proofs.{Kept.{keep_part, keep_more, kept_more, kept_union}, ManyMerges.{alike_trans, each_font, all_merge}, Sets.{clash, cases}}
 use Rattle.t1_algebra.proofs.rejoining.Truncated.{WordsOf, words_empty, get_nothing, get_font, largest_fits, all_fit, Fits, cut_subset, evened_is, KeepsBelow, keeps_same, subrs_below, runs_below, first_of}
 
 -- ---- tables without entries

@@ -1,24 +1,16 @@
 -- Fonts cut to their first Subrs keep and draw what they did, and truncated subsets that are made even are subsets of one font.
 use Rattle.std.proofs.Common.{◌≡◌, ◌<◌, ℕ, nat_lt, true, false, ◌&&◌, cond, List, refl, sym, ◌∙◌, ap, Option, Some, None, is_some, filter, arith, ◌≤◌, max, nat_cmp, Bool, [], ◌∷◌, map, length, subst, option_map}
-use Rattle.std.proofs.lemmas.Bool.{and_from, lt-ltb, ltb-true, ltb-false}
-use Rattle.std.proofs.lemmas.List.Folds.{list_any-append}
+use Rattle.std.proofs.{lemmas.Bool.{and_from, lt-ltb, ltb-true, ltb-false}, lemmas.List.Folds.{list_any-append}}
 use Rattle.std.specs.FinSet as sets
 use Rattle.std.specs.FinMap as maps
 use Rattle.t1_font.specs.FontValue.{FontValue, notdef, Shell, SubrsShell, Numbered, declared_count}
 use Rattle.t1_font.proofs.MapLemmas.{get-retain, get-map_values}
-use Rattle.t1_font.specs.IsFont.{IsFont, SubrsFit, SubrWords}
-use Rattle.t1_font.specs.Tags.{untagged_head}
-use Rattle.t1_font.specs.Cut.{stub, restrict_encoding}
+use Rattle.t1_font.specs.{IsFont.{IsFont, SubrsFit, SubrWords}, Tags.{untagged_head}, Cut.{stub, restrict_encoding}}
 use Rattle.t1_font.specs.Evening.{raised, even_shell, even, stubs_at, below, with_stubs, filled, largest_count, indices_of_all, evened}
-use Rattle.t1_algebra.specs.Keep.{keep, kept, has, charstring, subset}
-use Rattle.t1_algebra.specs.Rejoins.{cut_to, without_tag, declares, Truncated, IsTruncated, fonts_of, sets_of, largest, shared_font}
-use Rattle.t1_algebra.specs.Profile.{profile}
-use Rattle.t1_algebra.specs.States.{joined}
-use Rattle.t1_algebra.specs.Laws.{IsOf}
-use Rattle.t1_algebra.proofs.Words.{list_any, AllByRecursion, eq_by_cmp, nat_cmp_total, nat_cmp-IsAntisymmetric, Interpreter, Names}
-use Rattle.t1_algebra.proofs.Kept.{keep_has, kept_call, keeps_alike}
-use Rattle.t1_algebra.proofs.Sets.{clash, any_filtered, cases}
-use Rattle.t1_algebra.proofs.Maps.{get-merged, get-valued}
+use Rattle.t1_algebra.specs.{Keep.{keep, kept, has, charstring, subset}, Rejoins.{cut_to, without_tag, declares, Truncated, IsTruncated, fonts_of, sets_of, largest, shared_font}, Profile.{profile}}
+use Rattle.t1_algebra.specs.{States.{joined}, Laws.{IsOf}}
+use Rattle.t1_algebra.proofs.{Words.{list_any, AllByRecursion, eq_by_cmp, nat_cmp_total, nat_cmp-IsAntisymmetric, Interpreter, Names}, Kept.{keep_has, kept_call, keeps_alike}}
+use Rattle.t1_algebra.proofs.{Sets.{clash, any_filtered, cases}, Maps.{get-merged, get-valued}}
 
 -- the font without its tag, cut to its first Subrs
 abbrev pub first_of : ℕ → FontValue → FontValue
