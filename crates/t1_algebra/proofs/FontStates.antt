@@ -2,15 +2,15 @@
 use Rattle.std.proofs.Common.{◌≡◌, ◌↔◌, not, ◌≤◌, ℕ, ◌+◌, ◌*◌, ◌-◌, Bool, true, false, cond, List, [], ◌∷◌, map, length, refl, sym, ◌∙◌, ap, subst, true≢false, Option, Some, None, option_map, is_some, arith, inl, ⊎_elim}
 use Rattle.std.proofs.lemmas.List.{length-map}
 use Rattle.std.specs.FinMap as maps
-use Rattle.t1_join.specs.{Meaning.{Meaning, of_number}, Join.{State}, StateLaws.{same_meaning-self}, TableMeaning.{TableMeaning, TablesAgree, TablesJoin, joined_table}}
-use Rattle.t1_join.specs.{TableLaws.{get_joined, same_table}, Products.{BothJoin}}
-use Rattle.t1_font.specs.{FontModel.{names_in, word_of, clamp}, FontValue.{FontValue, total, subr_weight, weight, weight_limit, count_limit}}
+use Rattle.t1_join.specs.{Meaning.{Meaning, of_number}, Join.{State}, StateLaws.{same_meaning-self}, TableMeaning.{TableMeaning, TablesAgree, joined_table}}
+use Rattle.t1_join.specs.{TableLaws.{get_joined, same_table}}
+use Rattle.t1_font.specs.{FontModel.{names_in, word_of}, FontValue.{FontValue, total, subr_weight, weight, weight_limit, count_limit}}
 use Rattle.t1_font.proofs.{CutEntries.{entries-retain}, MapLemmas.{entries_all, get-retain, length_total}}
 use Rattle.t1_algebra.specs.States.{named_at, IsWithin, is_sought, subr_state, name_state, Compatible, Join, joined_font}
 use Rattle.t1_algebra.specs.StateTables.{StatesValue, numbered, name_meaning, used_subrs, all_components, name_states, states_of, subr_adds, name_adds, name_counts, states_weight, states_glyphs, StatesFit, name_part, subr_part, joined_states, PartsJoin, StatesAgree, StatesJoin, code_part}
 use Rattle.t1_algebra.specs.StateLaws.{PartsAgree, parts_laws}
 use Rattle.t1_algebra.proofs.{Words.{nat_cmp_total, nat_list_cmp_total, nat_cmp-IsAntisymmetric, Interpreter, same_bytes}, Shares.{same_indices, sharing}, Maps.{get-valued}}
-use Rattle.t1_algebra.proofs.{Sets.{name_same, any_flat_map, cases}, JoinedStates.{subr_joined, name_joined, present_joined}, Subsets.{stub_is, same_font, same_encoding, code_joined}}
+use Rattle.t1_algebra.proofs.{Sets.{any_flat_map, cases}, JoinedStates.{subr_joined, name_joined, present_joined}, Subsets.{stub_is, same_font, same_encoding, code_joined}}
 use Rattle.t1_algebra.proofs.Sums.{total_kept, total_mapped, names_total}
 use Rattle.t1_algebra.proofs.Tables.{get-numbered, entries-numbered, get-name, Shows, cases_key, codes_shown, shown_agree, agree_shown, shown_joined, to_agree}
 

@@ -4,7 +4,7 @@ use Rattle.std.specs.FinSet as sets
 use Rattle.std.specs.FinMap as maps
 use Rattle.t1_font.specs.{Joins.{joined_subr, join_parts}, FontValue.{FontValue}}
 use Rattle.t1_font.proofs.MapLemmas.{get-map_values}
-use Rattle.t1_algebra.specs.{States.{executes, calls_for, Agree, joined, is_called, is_sought, subr_state, name_state, code_state, joined_font, Compatible}, JoinedEntries.{EntriesJoin}}
+use Rattle.t1_algebra.specs.{States.{executes, calls_for, Agree, joined, subr_state, name_state, code_state, joined_font, Compatible}, JoinedEntries.{EntriesJoin}}
 use Rattle.t1_algebra.proofs.{Words.{nat_cmp_total, nat_cmp-IsAntisymmetric, Interpreter}, Maps.{agree_back}, Uses.{some_joined, executing_there, naming_there, called}, Sets.{cases}}
 use Rattle.t1_algebra.proofs.Subsets.{same_font, stub_is, same_encoding, code_joined, subr_in_join, glyph_in_join}
 

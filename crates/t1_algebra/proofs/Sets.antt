@@ -27,10 +27,7 @@ clash a p q = absurd (true≢false (sym p ∙ q))
 -- ---- lists
 
 module _ {K : Type 0} (p : K → Bool) (xs ys : List K) where
-  -- an element of two lists that passes is in one of them
-  pub any_append : list_any p (xs ++ ys) ≡ true → (list_any p xs ≡ true) ⊎ (list_any p ys ≡ true)
-  any_append h = or_cases _ _ (sym (list_any-append p xs ys) ∙ h)
-
+  -- an element of one of two lists that passes is in both together
   pub any_append_left : list_any p xs ≡ true → list_any p (xs ++ ys) ≡ true
   any_append_left h = list_any-append p xs ys ∙ or_left _ _ h
 
@@ -49,9 +46,6 @@ module _ {K : Type 0} (p : K → Bool) (k : K) (ks : List K) where
 
   pub later : list_any p ks ≡ true → list_any p (k ∷ ks) ≡ true
   later h = or_right (p k) (list_any p ks) h
-
-  pub here_or : list_any p (k ∷ ks) ≡ true → (p k ≡ true) ⊎ (list_any p ks ≡ true)
-  here_or h = or_cases (p k) (list_any p ks) h
 
 module _ {K : Type 0} {R : K → K → Ordering} (o : IsTotalOrder R) (same : IsAntisymmetric R) where
   -- keys that compare as equal are equal
@@ -119,14 +113,6 @@ module _ {K : Type 0} {R : K → K → Ordering} (o : IsTotalOrder R) (same : Is
 
   pub from_in_items : (s : FinSet R) (q : K) → list_any (eq_by_cmp R q) (sets.items s) ≡ true → sets.contains s q ≡ true
   from_in_items s q h = sets.contains-items s q ∙ h
-
-  -- a member of a flat map is a member at some element
-  pub any_flat : {J : Type 0} (f : J → List K) (q : K) (xs : List J) → list_any (eq_by_cmp R q) (flat_map f xs) ≡ true → list_any (λ x. list_any (eq_by_cmp R q) (f x)) xs ≡ true
-  any_flat f q xs h = sym (any_flat_map (eq_by_cmp R q) f xs) ∙ h
-
-  -- a member at some element is a member of the flat map
-  pub any_flat_from : {J : Type 0} (f : J → List K) (q : K) (xs : List J) → list_any (λ x. list_any (eq_by_cmp R q) (f x)) xs ≡ true → list_any (eq_by_cmp R q) (flat_map f xs) ≡ true
-  any_flat_from f q xs h = any_flat_map (eq_by_cmp R q) f xs ∙ h
 
 -- names that compare as equal are equal
 pub name_same : IsAntisymmetric name_cmp

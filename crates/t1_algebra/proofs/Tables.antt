@@ -1,7 +1,7 @@
 -- Tables of codes, of Subrs and of names: what stands at each key, and how they join.
-use Rattle.std.proofs.Common.{◌≡◌, ◌≤◌, ℕ, ◌+◌, Bor, option_map, Bool, true, false, not, cond, T, List, [], ◌∷◌, refl, sym, ◌∙◌, ap, arith, Option, Some, None, is_some, Less, Equal, Greater, ◌&&◌, map, subst, nat_cmp, is_lt, ◌↔◌, inl, inr, ◌⊎◌}
-use Rattle.std.specs.{Ordering.{is_eq, ordering_then}, Cmp.{both_ways}, FinMap.{find, is_sorted}, FinMap.Entries.{below_all}, Option.{option_copied}}
-use Rattle.std.proofs.lemmas.Bool.{cases_Bool, not-true}
+use Rattle.std.proofs.Common.{◌≡◌, ℕ, Bor, option_map, Bool, true, false, not, cond, T, List, [], ◌∷◌, refl, sym, ◌∙◌, ap, arith, Option, Some, None, is_some, Less, Equal, Greater, ◌&&◌, map, subst, nat_cmp, is_lt, ◌↔◌, inl, inr, ◌⊎◌}
+use Rattle.std.specs.{Ordering.{is_eq, ordering_then}, FinMap.{find, is_sorted}, FinMap.Entries.{below_all}, Option.{option_copied}}
+use Rattle.std.proofs.lemmas.Bool.{cases_Bool}
 use Rattle.std.specs.FinMap as maps
 use Rattle.std.specs.Str.{bytes_eq}
 use Rattle.std.proofs.lemmas.Map.Text.{is_eq-slice_cmp}
@@ -9,13 +9,12 @@ use Rattle.t1_join.specs.Passes.{first_met}
 use Rattle.t1_join.proofs.Conflicts.{Says, both_agree, says_first}
 use Rattle.t1_join.specs.{TableMeaning.{TableMeaning, joined_table, TablesAgree}, Meaning.{Meaning, meaning_cmp, of_number, by_number_law, same_meaning}}
 use Rattle.t1_join.specs.{Join.{joined_state, State, states_agree, StatesAgree}, TableLaws.{get_joined, same_table}, StateLaws.{same_meaning-true, same_meaning-self}}
-use Rattle.t1_font.specs.{Maps.{merged}, FontModel.{clamp}}
-use Rattle.t1_font.proofs.Weights.{clamp_more, clamp_all, clamp_fits}
-use Rattle.t1_font.specs.FontValue.{total, Numbered, Named, name_cmp, Encoding, Word, Codes}
+use Rattle.t1_font.specs.{Maps.{merged}}
+use Rattle.t1_font.specs.FontValue.{Numbered, Named, name_cmp, Encoding, Word, Codes}
 use Rattle.t1_font.proofs.MapLemmas.{get-map_values}
 use Rattle.t1_algebra.specs.{Conflicts.{agrees}, StateTables.{numbered, name_meaning, AreNameStates, behind_mark, glyph_table, names_table, AreSought, code_states}, Searches.{IsLowest}}
 use Rattle.t1_algebra.specs.{NameStates.{is_sought_in, charstrings_differ, one_lacks}, States.{Agree, code_state, joined}}
-use Rattle.t1_algebra.proofs.{Words.{list_any, AllByRecursion, eq_by_cmp, IsTotalOrder, nat_cmp_total, first_so, second_so, nat_list_cmp_total, IsAntisymmetric, same_bytes}, Maps.{get-merged}}
+use Rattle.t1_algebra.proofs.{Words.{list_any, eq_by_cmp, nat_cmp_total, nat_list_cmp_total, same_bytes}, Maps.{get-merged}}
 use Rattle.t1_algebra.proofs.{Sets.{cases_Option, name_same, cases}, Shares.{bytes_decide}}
 
 -- a copy of what is borrowed is there if it is

@@ -10,11 +10,7 @@ use Rattle.t1_font.specs.FontValue.{Shell, weight_limit, name_cmp, total, texts_
 use Rattle.t1_font.specs.FontModel.{clamp}
 use Rattle.t1_font.specs.Ranges.{bytes_at, IsInside, AllInside, numbered_at, named_at, subr_at_weight, glyph_at_weight}
 
--- a sum that is cut off on the way is cut off at the end
-pub clamp_more : (w x t : ℕ) → clamp (min (w + x) 18446744073709551615 + t) ≡ clamp (w + (x + t))
-clamp_more w x t = omega arith
-
--- the same, where what is added was cut off, too
+-- a sum that is cut off on the way, with what is added, is cut off at the end
 pub clamp_step : (w x y sum t : ℕ) → y ≡ clamp x → sum ≡ min (w + y) 18446744073709551615 → clamp (sum + t) ≡ clamp (w + (x + t))
 clamp_step w x y sum t e f = omega arith
 

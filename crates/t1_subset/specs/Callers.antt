@@ -50,12 +50,15 @@ fonts_of cs = map (λ c. c.font.now) cs
 abbrev pub AreNoted : List Callers → Type 0
 AreNoted cs = AllByRecursion (λ c. IsFont c.font.now × AreCallersOf c c.font.now) cs
 
+-- the smallest of a name and what is noted in each of a list of callers
+abbrev pub smallest_from : (Callers → Option (List ℕ)) → Option (List ℕ) → List Callers → Option (List ℕ)
+smallest_from noted best [] = best
+smallest_from noted best (c ∷ cs) = smallest_from noted (smaller name_cmp best (noted c)) cs
+
 -- the smallest of a name and the users of an index in a list of callers
 abbrev pub user_from : Option (List ℕ) → List Callers → ℕ → Option (List ℕ)
-user_from best [] i = best
-user_from best (c ∷ cs) i = user_from (smaller name_cmp best (maps.get c.users (of_number i))) cs i
+user_from best cs i = smallest_from (λ c. maps.get c.users (of_number i)) best cs
 
 -- the smallest of a name and the seekers of a component in a list of callers
 abbrev pub seeker_from : Option (List ℕ) → List Callers → List ℕ → Option (List ℕ)
-seeker_from best [] p = best
-seeker_from best (c ∷ cs) p = seeker_from (smaller name_cmp best (maps.get c.seekers p)) cs p
+seeker_from best cs p = smallest_from (λ c. maps.get c.seekers p) best cs

@@ -16,10 +16,6 @@ use Rattle.t1_algebra.proofs.{Conflicts.{compatible, within_so}, Fonts.{font_wit
 use Rattle.t1_subset.specs.{Callers.{seeker_of}, declared.conflict.Conflict.{Conflict as Refusal}, Refusals.{Tells, of_parts}}
 use Rattle.t1_subset.proofs.{state_tables.LowestKeys.{lowest_is}, state_tables.FontCallers.{any_first, sought_is, smallest_seeker}}
 
--- a state that does not join is not the bottom
-pub there_of : (x y : Option (List ℕ)) → not (agrees x y) ≡ true → is_some x ≡ true
-there_of x y h = grind arith
-
 -- a key whose values in two maps do not join is a key of both
 clash_there : {K : Type 0} {R : K → K → Ordering} → IsTotalOrder R → IsAntisymmetric R → (a b : maps.FinMap R (List ℕ)) (k : K) → clashes_at a b k ≡ true → maps.contains_key (keys_of_both a b) k ≡ true
 clash_there o same a b k h = grind (cases, in_both o same a b k)

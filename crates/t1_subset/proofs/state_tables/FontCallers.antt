@@ -10,7 +10,7 @@ use Rattle.t1_font.proofs.MapLemmas.{entries-map_values}
 use Rattle.t1_algebra.specs.{Interpreter.{same_bytes}, Keep.{has, components, charstring}, Profile.{profile}, States.{joined, is_called, is_sought, joined_font, Compatible, executes, calls_for}}
 use Rattle.t1_algebra.specs.{Conflicts.{keys_of_both, wants, wanted_by, used_by, glyph_names}, Searches.{smallest, members, first_where}}
 use Rattle.t1_algebra.proofs.{Subsets.{glyph_in_join}, JoinedStates.{present_joined, executes_join, calls_join}, Uses.{executing_there, naming_there, sought}, Sets.{name_same, clash, tied, cases}}
-use Rattle.t1_subset.specs.{declared.callers.Callers.{Callers}, Differences.{smaller}, Callers.{same_charstring, user_of, seeker_of, user_from, seeker_from, AreCallersOf}, Clashes.{AreCallers}}
+use Rattle.t1_subset.specs.{declared.callers.Callers.{Callers}, Differences.{smaller}, Callers.{same_charstring, user_of, seeker_of, smallest_from, user_from, seeker_from, AreCallersOf}, Clashes.{AreCallers}}
 use Rattle.t1_subset.proofs.{closing.Runs.{calls_by, no_calls, no_components}, state_tables.LowestKeys.{smaller_first}}
 
 -- ---- the first of some names
@@ -116,15 +116,10 @@ pub record CallersSoFar (cs : List Callers) (f : FontValue) : Type 0 where
   pub users : (i : ℕ) → maps.contains_key f.subrs i ≡ true → user_from None cs i ≡ user_of f i
   pub seekers : (p : List ℕ) → seeker_from None cs p ≡ seeker_of f p
 
--- the user among callers with one more font is the smaller of two
-user_last : (best : Option (List ℕ)) (cs : List Callers) (c : Callers) (i : ℕ) → user_from best (cs ++ c ∷ []) i ≡ smaller name_cmp (user_from best cs i) (maps.get c.users (of_number i))
-user_last best [] c i = refl
-user_last best (d ∷ cs) c i = user_last (smaller name_cmp best (maps.get d.users (of_number i))) cs c i
-
--- the seeker among callers with one more font is the smaller of two
-seeker_last : (best : Option (List ℕ)) (cs : List Callers) (c : Callers) (p : List ℕ) → seeker_from best (cs ++ c ∷ []) p ≡ smaller name_cmp (seeker_from best cs p) (maps.get c.seekers p)
-seeker_last best [] c p = refl
-seeker_last best (d ∷ cs) c p = seeker_last (smaller name_cmp best (maps.get d.seekers p)) cs c p
+-- the smallest among callers with one more font is the smaller of two
+smallest_last : (noted : Callers → Option (List ℕ)) (best : Option (List ℕ)) (cs : List Callers) (c : Callers) → smallest_from noted best (cs ++ c ∷ []) ≡ smaller name_cmp (smallest_from noted best cs) (noted c)
+smallest_last noted best [] c = refl
+smallest_last noted best (d ∷ cs) c = smallest_last noted (smaller name_cmp best (noted d)) cs c
 
 -- the callers of one font are those of the font that it comes to
 pub first_callers : (c : Callers) (f : FontValue) → AreCallersOf c f → CallersSoFar (c ∷ []) f
@@ -132,10 +127,10 @@ first_callers c f h = record { users = h.users; seekers = h.seekers }
 
 module _ (f g : FontValue) (cs : List Callers) (d : Callers) (h : CallersSoFar cs f) (k : AreCallersOf d g) where
   user_more : (i : ℕ) → maps.contains_key f.subrs i ≡ true → maps.contains_key g.subrs i ≡ true → user_from None (cs ++ d ∷ []) i ≡ smaller name_cmp (user_of f i) (user_of g i)
-  user_more i l m = user_last None cs d i ∙ (λ t. smaller name_cmp (h.users i l t) (k.users i m t))
+  user_more i l m = smallest_last (λ c. maps.get c.users (of_number i)) None cs d ∙ (λ t. smaller name_cmp (h.users i l t) (k.users i m t))
 
   seeker_more : (p : List ℕ) → seeker_from None (cs ++ d ∷ []) p ≡ smaller name_cmp (seeker_of f p) (seeker_of g p)
-  seeker_more p = seeker_last None cs d p ∙ (λ t. smaller name_cmp (h.seekers p t) (k.seekers p t))
+  seeker_more p = smallest_last (λ c. maps.get c.seekers p) None cs d ∙ (λ t. smaller name_cmp (h.seekers p t) (k.seekers p t))
 
   -- the callers so far and those of the next font are the callers of both
   pub both_callers : AreCallers (cs ++ d ∷ []) f g
