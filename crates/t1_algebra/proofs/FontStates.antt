@@ -145,26 +145,9 @@ module _ (x y : StatesValue) where
     λ h. let z = parts_laws.some_answer x y h.0 in (z.0, (z.1, inl (subst StatesFit (sym (is_joined z.0 z.1)) h.1))),
   )
 
--- ---- values in memory, and what is seen of them
-
-module _ (v w x y : StatesValue) (e : v ≡ x) (k : w ≡ y) where
-  -- tables of values in memory agree exactly if the tables that they stand for do
-  pub seen_agree : (part : StatesValue → TableMeaning) (b : Bool) → (b ≡ true) ↔ TablesAgree (part v) (part w) → (b ≡ true) ↔ TablesAgree (part x) (part y)
-  seen_agree part b h = subst (λ (y : StatesValue). (b ≡ true) ↔ TablesAgree (part x) (part y)) k (subst (λ (x : StatesValue). (b ≡ true) ↔ TablesAgree (part x) (part w)) e h)
-
-  -- the states of both, made in memory of states that agree, are within the limits
-  pub seen_fit : StatesFit v → StatesAgree x y → (z : StatesValue) → z ≡ joined_states v w → StatesFit z
-  seen_fit h a z is = subst StatesFit (sym (is ∙ (λ i. joined_states (e i) (k i)))) ((agree_by_parts x y (subst StatesFit e h)).0 a).1
-
--- ---- tests of two things
-
--- two tests in turn decide both things, if the first passes
-pub both_pass : {A B : Type 0} (b c : Bool) → (b ≡ true) ↔ A → (c ≡ true) ↔ B → b ≡ true → (c ≡ true) ↔ (A × B)
-both_pass b c h k t = (λ s. (h.0 t, k.0 s), λ m. k.1 m.1)
-
--- if the first test fails, not both things hold
-pub first_fails : {A B : Type 0} (b : Bool) → (b ≡ true) ↔ A → b ≡ false → (b ≡ true) ↔ (A × B)
-first_fails b h f = (λ t. absurd (true≢false (sym t ∙ f)), λ m. h.1 m.0)
+-- the states of both, made in memory of states that agree, are within the limits
+pub seen_fit : (v w x y : StatesValue) → v ≡ x → w ≡ y → StatesFit v → StatesAgree x y → (z : StatesValue) → z ≡ joined_states v w → StatesFit z
+seen_fit v w x y e k h a z is = subst StatesFit (sym (is ∙ (λ i. joined_states (e i) (k i)))) ((agree_by_parts x y (subst StatesFit e h)).0 a).1
 
 -- ---- a font is determined by its states
 

@@ -2,12 +2,13 @@
 
 ghost use Rattle.std.specs.Prelude.{◌≡◌, ◌↔◌, ◌+◌, [], IsTrue};
 ghost use Rattle.std.specs.FinMap as maps;
-ghost use Rattle.t1_join.specs.TableMeaning.{TablesAgree, joined_table};
+ghost use Rattle.t1_join.specs.TableMeaning.{joined_table};
 ghost use Rattle.t1_font.specs.FontValue.{total};
 ghost use Rattle.t1_font.specs.FontModel.{clamp};
 ghost use Rattle.t1_algebra.specs.StateTables.{StatesFit, code_part, name_part, subr_part, subr_adds, states_weight, joined_states};
 ghost use Rattle.t1_algebra.specs.StateLaws.{PartsAgree};
 
+use crate::name_states::NameTable;
 use crate::state_value::States;
 use std::alloc::{AllocError, Global};
 use t1_font::{COUNT_LIMIT, WEIGHT_LIMIT};
@@ -53,30 +54,35 @@ impl<'a> States<'a> {
             && self.names.count_with(&other.names) <= COUNT_LIMIT as u64
     }
 
-    /// Whether the states of names and of Subrs join.
-    fn names_and_subrs_agree(&self, other: &States<'a>) -> bool
-        ensures { IsTrue result
-            ↔ (TablesAgree (name_part self.now) (name_part other.now)
-            × TablesAgree (subr_part self.now) (subr_part other.now)) }
+    /// The states of codes.
+    fn codes(&self) -> &Table<u16, &'a [u8]>
+        ensures { result.now ≡ code_part self.now }
     {
-        self.names.agrees(&other.names) && self.subrs.agrees(&other.subrs)
+        &self.codes
     }
 
-    /// Whether the states of codes, of names and of Subrs join.
-    fn tables_agree(&self, other: &States<'a>) -> bool
-        ensures { IsTrue result
-            ↔ (TablesAgree (code_part self.now) (code_part other.now)
-            × (TablesAgree (name_part self.now) (name_part other.now)
-            × TablesAgree (subr_part self.now) (subr_part other.now))) }
+    /// The states of names.
+    fn names(&self) -> &NameTable<'a>
+        ensures { result.now ≡ name_part self.now }
     {
-        self.codes.agrees(&other.codes) && self.names_and_subrs_agree(other)
+        &self.names
+    }
+
+    /// The states of Subrs.
+    fn subrs(&self) -> &Table<u16, &'a [u8]>
+        ensures { result.now ≡ subr_part self.now }
+    {
+        &self.subrs
     }
 
     /// Whether the fonts share what they have to, and all states join.
     fn parts_agree(&self, other: &States<'a>) -> bool
         ensures { IsTrue result ↔ PartsAgree self.now other.now }
     {
-        self.shared.is_same(&other.shared) && self.tables_agree(other)
+        self.shared.is_same(&other.shared)
+            && self.codes().agrees(other.codes())
+            && self.names().agrees(other.names())
+            && self.subrs().agrees(other.subrs())
     }
 
     /// States that these states are within the limits. It does nothing when it runs: proofs call it.
