@@ -25,6 +25,13 @@ pub struct BothGlyphs<'t, 'a> {
     j: usize,
 }
 
+/// What glyphs weigh, and how many they are, each as far as 64 bits hold it.
+#[derive(Clone, Copy)]
+pub struct Extent {
+    pub weight: u64,
+    pub count: u64,
+}
+
 impl<'t, 'a> Model for BothGlyphs<'t, 'a> {
     ghost use Rattle.std.specs.Prelude.{List, ℕ, drop};
     ghost use Rattle.std.specs.FinMap as fin;
@@ -105,30 +112,22 @@ impl<'a> Named<'a> {
         }
     }
 
-    /// `before` plus the weight of the glyphs of both tables in a font with this lenIV, as far as 64 bits hold it.
-    #[tactic(auto, using(std::proofs::lemmas::Map::Iter::rest_more, std::proofs::lemmas::Map::Iter::rest_all, crate::proofs::Weights::sums_none, crate::proofs::Weights::sums_next, crate::proofs::Weights::sums_all))]
-    pub fn weight_with(&self, other: &Named<'a>, before: u64, len_iv: u8) -> u64
-        ensures { result
+    /// How many glyphs both tables have together, and what they weigh in a font with this lenIV, added to `before`.
+    #[tactic(auto, using(std::proofs::lemmas::Map::Iter::rest_more, std::proofs::lemmas::Map::Iter::rest_all, crate::proofs::Weights::sums_none, crate::proofs::Weights::sums_next, crate::proofs::Weights::sums_all, crate::proofs::Weights::counts_none, crate::proofs::Weights::counts_next, crate::proofs::Weights::counts_all))]
+    pub fn extent_with(&self, other: &Named<'a>, before: u64, len_iv: u8) -> Extent
+        ensures weight { result.weight
             ≡ clamp (before
             + total (glyph_weight len_iv) (fin.entries (merged self.now other.now))) }
+        ensures count { result.count
+            ≡ clamp (length (fin.entries (merged self.now other.now))) }
     {
         let mut weight = before;
+        let mut count = 0u64;
         'bodies: for (_, body) in self.entries_with(other) {
             weight = weight.saturating_add(glyph_weight(len_iv, body.len()));
-        }
-        weight
-    }
-
-    /// How many glyphs both tables have together, as far as 64 bits hold it.
-    #[tactic(auto, using(std::proofs::lemmas::Map::Iter::rest_more, std::proofs::lemmas::Map::Iter::rest_all, crate::proofs::Weights::counts_none, crate::proofs::Weights::counts_next, crate::proofs::Weights::counts_all))]
-    pub fn count_with(&self, other: &Named<'a>) -> u64
-        ensures { result ≡ clamp (length (fin.entries (merged self.now other.now))) }
-    {
-        let mut count = 0u64;
-        'glyphs: for _glyph in self.entries_with(other) {
             count = count.saturating_add(1);
         }
-        count
+        Extent { weight, count }
     }
 
     /// The smallest name for which both tables have a glyph, with different charstrings.

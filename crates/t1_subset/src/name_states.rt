@@ -16,7 +16,7 @@ ghost use Rattle.t1_algebra.specs.Searches.{first_where, IsLowest};
 use crate::callers::{Seekers, smaller};
 use std::alloc::{AllocError, Global};
 use std::marker::Model;
-use t1_font::{Font, Named, join_glyphs};
+use t1_font::{Extent, Font, Named, join_glyphs};
 use t1_join::{Join, Kept, Table};
 
 /// That a name is sought. It has nothing else to say.
@@ -165,26 +165,17 @@ impl<'a> NameTable<'a> {
         smaller(self.lacked(other), other.lacked(self))
     }
 
-    /// `before` plus what the names of both tables add to the weight of a font with this lenIV, as far as 64 bits hold it.
-    /// A name that is sought weighs nothing.
-    #[tactic(auto, using(t1_algebra::proofs::Sums::joined_total))]
-    pub(crate) fn weight_with(&self, other: &NameTable<'a>, before: u64, len_iv: u8) -> u64
+    /// How many glyphs the names of both tables have, and what they add to the weight of a font with this lenIV, added to
+    /// `before`. A name that is sought weighs nothing.
+    pub(crate) fn extent_with(&self, other: &NameTable<'a>, before: u64, len_iv: u8) -> Extent
         requires { TablesAgree self.now other.now }
-        ensures { result
+        ensures weight { result.weight
             ≡ clamp (before
             + total (name_adds len_iv) (maps.entries (joined_table self.now other.now))) }
-    {
-        self.glyphs.weight_with(&other.glyphs, before, len_iv)
-    }
-
-    /// How many glyphs the names of both tables have, as far as 64 bits hold it.
-    #[tactic(auto, using(t1_algebra::proofs::Sums::joined_count))]
-    pub(crate) fn count_with(&self, other: &NameTable<'a>) -> u64
-        requires { TablesAgree self.now other.now }
-        ensures { result
+        ensures count { result.count
             ≡ clamp (total name_counts (maps.entries (joined_table self.now other.now))) }
     {
-        self.glyphs.count_with(&other.glyphs)
+        self.glyphs.extent_with(&other.glyphs, before, len_iv)
     }
 }
 

@@ -5,13 +5,13 @@ ghost use Rattle.std.specs.FinMap as maps;
 ghost use Rattle.t1_join.specs.TableMeaning.{joined_table};
 ghost use Rattle.t1_font.specs.FontValue.{total};
 ghost use Rattle.t1_font.specs.FontModel.{clamp};
-ghost use Rattle.t1_algebra.specs.StateTables.{StatesFit, code_part, name_part, subr_part, subr_adds, states_weight, joined_states};
+ghost use Rattle.t1_algebra.specs.StateTables.{StatesFit, code_part, name_part, subr_part, subr_adds, states_weight, states_glyphs, joined_states};
 ghost use Rattle.t1_algebra.specs.StateLaws.{PartsAgree};
 
 use crate::name_states::NameTable;
 use crate::state_value::States;
 use std::alloc::{AllocError, Global};
-use t1_font::{COUNT_LIMIT, WEIGHT_LIMIT};
+use t1_font::{COUNT_LIMIT, Extent, WEIGHT_LIMIT};
 use t1_join::{Join, Table};
 
 /// How many bytes a Subr has more than a stub.
@@ -35,14 +35,17 @@ fn with_subrs<'a>(before: u64, own: &Table<u16, &'a [u8]>, other: &Table<u16, &'
 }
 
 impl<'a> States<'a> {
-    /// What a font of the joined states weighs, as far as 64 bits hold it.
-    fn joint_weight(&self, other: &States<'a>) -> u64
+    /// What a font of the joined states weighs, and how many glyphs it has.
+    fn joint_extent(&self, other: &States<'a>) -> Extent
         requires { PartsAgree self.now other.now }
-        ensures { result ≡ clamp (states_weight (joined_states self.now other.now)) }
+        ensures weight { result.weight
+            ≡ clamp (states_weight (joined_states self.now other.now)) }
+        ensures count { result.count
+            ≡ clamp (states_glyphs (joined_states self.now other.now)) }
     {
         let with_subrs = with_subrs(self.shared.weight(), &self.subrs, &other.subrs);
         self.names
-            .weight_with(&other.names, with_subrs, self.shared.len_iv())
+            .extent_with(&other.names, with_subrs, self.shared.len_iv())
     }
 
     /// Whether a font of the joined states is within the limits.
@@ -50,8 +53,8 @@ impl<'a> States<'a> {
         requires { PartsAgree self.now other.now }
         ensures { IsTrue result ↔ StatesFit (joined_states self.now other.now) }
     {
-        self.joint_weight(other) <= WEIGHT_LIMIT
-            && self.names.count_with(&other.names) <= COUNT_LIMIT as u64
+        let extent = self.joint_extent(other);
+        extent.weight <= WEIGHT_LIMIT && extent.count <= COUNT_LIMIT as u64
     }
 
     /// The states of codes.

@@ -52,10 +52,13 @@ fn passes_right<'a>(
     second: &Font<'a>,
 ) -> Result<bool, AllocError> {
     let both = join_glyphs(alloc, first.glyphs(), second.glyphs())?;
-    let weight = first.glyphs().weight_with(second.glyphs(), 7, 4);
-    let count = first.glyphs().count_with(second.glyphs());
+    let extent = first.glyphs().extent_with(second.glyphs(), 7, 4);
     let differing = first.glyphs().first_differing(second.glyphs());
-    Ok(weight == both.weight(7, 4) && count == both.len() && differing.is_none())
+    Ok(
+        extent.weight == both.weight(7, 4)
+            && extent.count == both.len() as u64
+            && differing.is_none(),
+    )
 }
 
 /// The names of Tiny.

@@ -1,0 +1,11 @@
+use Rattle.std.proofs.Common.{length}
+use Rattle.std.specs.FinMap as fin
+use Rattle.t1_font.specs.FontValue.{glyph_weight}
+use Rattle.t1_font.specs.Maps.{merged}
+use Rattle.t1_font.proofs.Weights.{Summing, Counting}
+use Rattle.t1_font.proofs.lent.Named.extent_with.Given as goal
+
+abbrev pub invariant-bodies : goal.invariant-bodies
+invariant-bodies l =
+    let both = fin.entries (merged l.fn.self l.fn.other) in
+    Summing (glyph_weight l.len_iv) both l.before l.weight l.body-iterator × Counting (length both) l.count l.body-iterator
