@@ -1,5 +1,6 @@
 """Fonts that the benchmarks make: their texts, their ciphers, and what a word costs on them."""
 import os
+import re
 import subprocess
 
 HEAD = b"%!\n/Encoding StandardEncoding def\ncurrentfile eexec\n"
@@ -40,3 +41,15 @@ def cost(words):
     lines = done.stderr.splitlines()
     user, system, peak = lines[-1].split()
     return float(user) + float(system), int(peak), lines[0] if done.returncode else ""
+
+
+def millions(command):
+    """The instructions of one command, or of all parts of a pipe, in millions."""
+    total = 0
+    data = None
+    for part in command:
+        words = ["valgrind", "--tool=callgrind", "--callgrind-out-file=/dev/null"] + part
+        counted = subprocess.run(words, input=data, capture_output=True)
+        total += int(re.search(rb"Collected : (\d+)", counted.stderr).group(1))
+        data = counted.stdout
+    return total / 1e6
