@@ -25,19 +25,11 @@ pub struct BothGlyphs<'t, 'a> {
     j: usize,
 }
 
-/// What glyphs weigh, and how many they are, each as far as 64 bits hold it.
-#[derive(Clone, Copy)]
-pub struct Extent {
-    pub weight: u64,
-    pub count: u64,
-}
-
 impl<'t, 'a> Model for BothGlyphs<'t, 'a> {
     ghost use Rattle.std.specs.Prelude.{List, ℕ, drop};
     ghost use Rattle.std.specs.FinMap as fin;
     ghost use Rattle.t1_join.specs.Passes.{merge};
-    ghost use Rattle.t1_font.specs.FontValue.{name_cmp, total, glyph_weight};
-    ghost use Rattle.t1_font.specs.FontModel.{clamp};
+    ghost use Rattle.t1_font.specs.FontValue.{name_cmp};
 
     ghost Value = { List (List ℕ × List ℕ) };
 
@@ -96,6 +88,13 @@ impl<'t, 'a> Iterator for BothGlyphs<'t, 'a> {
         let glyph = self.next_glyph()?;
         Some((glyph.name(), glyph.body()))
     }
+}
+
+/// What glyphs weigh, and how many they are, each as far as 64 bits hold it.
+#[derive(Clone, Copy)]
+pub struct Extent {
+    pub weight: u64,
+    pub count: u64,
 }
 
 impl<'a> Named<'a> {
