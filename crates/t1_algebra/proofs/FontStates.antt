@@ -4,15 +4,15 @@ use Rattle.std.proofs.lemmas.List.{length-map}
 use Rattle.std.specs.FinMap as maps
 use Rattle.t1_join.specs.{Meaning.{Meaning, of_number}, Join.{State}, StateLaws.{same_meaning-self}, TableMeaning.{TableMeaning, TablesAgree, joined_table}}
 use Rattle.t1_join.specs.{TableLaws.{get_joined, same_table}}
-use Rattle.t1_font.specs.{FontModel.{names_in, word_of}, FontValue.{FontValue, total, subr_weight, weight, weight_limit, count_limit}}
+use Rattle.t1_font.specs.{FontModel.{names_in, word_of}, FontValue.{FontValue, Named, total, subr_weight, weight, weight_limit, count_limit}}
 use Rattle.t1_font.proofs.{CutEntries.{entries-retain}, MapLemmas.{entries_all, get-retain, length_total}}
 use Rattle.t1_algebra.specs.States.{named_at, IsWithin, is_sought, subr_state, name_state, Compatible, Join, joined_font}
-use Rattle.t1_algebra.specs.StateTables.{StatesValue, numbered, name_meaning, used_subrs, all_components, name_states, states_of, subr_adds, name_adds, name_counts, states_weight, states_glyphs, StatesFit, name_part, subr_part, joined_states, PartsJoin, StatesAgree, StatesJoin, code_part}
+use Rattle.t1_algebra.specs.StateTables.{StatesValue, numbered, name_meaning, behind_mark, used_subrs, all_components, name_states, states_of, subr_adds, name_adds, name_counts, states_weight, states_glyphs, StatesFit, name_part, subr_part, joined_states, PartsJoin, StatesAgree, StatesJoin, code_part}
 use Rattle.t1_algebra.specs.StateLaws.{PartsAgree, parts_laws}
 use Rattle.t1_algebra.proofs.{Words.{nat_cmp_total, nat_list_cmp_total, nat_cmp-IsAntisymmetric, Interpreter, same_bytes}, Shares.{same_indices, sharing}, Maps.{get-valued}}
-use Rattle.t1_algebra.proofs.{Sets.{any_flat_map, cases}, JoinedStates.{subr_joined, name_joined, present_joined}, Subsets.{stub_is, same_font, same_encoding, code_joined}}
+use Rattle.t1_algebra.proofs.{Sets.{any_flat_map, name_same, cases}, JoinedStates.{subr_joined, name_joined, present_joined}, Subsets.{stub_is, same_font, same_encoding, code_joined}}
 use Rattle.t1_algebra.proofs.Sums.{total_kept, total_mapped, names_total}
-use Rattle.t1_algebra.proofs.Tables.{get-numbered, entries-numbered, get-name, Shows, cases_key, codes_shown, shown_agree, agree_shown, shown_joined, to_agree}
+use Rattle.t1_algebra.proofs.Tables.{get-numbered, entries-numbered, get-name, charstring_in, Shows, cases_key, codes_shown, shown_agree, agree_shown, shown_joined, to_agree}
 
 -- ---- states that agree
 
@@ -98,6 +98,10 @@ module _ {O : Type 0} (m : Interpreter O) (f : FontValue) where
   -- sought names add nothing to a sum over names
   in_all : (w : Meaning → Meaning → ℕ) → ((n : Meaning) → w n [] ≡ 0) → total w (maps.entries (name_states m f)) ≡ total (λ n c. w n (name_meaning (Some c))) (maps.entries f.glyphs)
   in_all w h = names_total f.glyphs (sought m f) (λ n v is. grind (cases, is, get-sought m f n)) w h
+
+  -- the charstrings among the states of a font's names are those of its glyphs
+  pub glyphs_among : (g : Named) → ((n : List ℕ) → maps.get g n ≡ behind_mark (maps.get (name_states m f) n)) → g ≡ f.glyphs
+  glyphs_among g h = maps.same_map nat_list_cmp_total name_same g f.glyphs (λ n. h n ∙ charstring_in f.glyphs (sought m f) (λ n v is. grind (cases, is, get-sought m f n)) (name_states m f) refl n)
 
   -- the weight of a font's states is the weight of the font
   pub weight_is : states_weight (states_of m f) ≡ weight f

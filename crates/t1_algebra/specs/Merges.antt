@@ -1,11 +1,12 @@
 -- What merges of fonts come to.
 use Rattle.std.specs.Prelude.{◌≡◌, ℕ, true, List, [], ◌∷◌}
 use Rattle.std.specs.List.{AllByRecursion}
-use Rattle.t1_join.specs.Groupings.{Grouping, one, leaves, from_left}
+use Rattle.t1_join.specs.Groupings.{Grouping, one, from_left}
 use Rattle.t1_font.specs.FontValue.{FontValue}
 use Rattle.t1_algebra.specs.Keep.{has}
 use Rattle.t1_algebra.specs.Profile.{profile}
 use Rattle.t1_algebra.specs.States.{IsWithin}
+use Rattle.t1_algebra.specs.StateTables.{StatesValue, states_of}
 use Rattle.t1_algebra.specs.Laws.{DrawsAlike}
 use Rattle.t1_algebra.specs.Groupings.{folded, EachPair, Merges}
 
@@ -17,6 +18,10 @@ DrawsBoth f g j = ((n : List ℕ) → has f n ≡ true → DrawsAlike f j n) × 
 abbrev pub ComesTo : List FontValue → FontValue → Type 0
 ComesTo [] j = ⊥
 ComesTo (f ∷ fs) j = Merges profile (from_left (one f) fs) j
+
+-- the fonts come to a font of these states
+abbrev pub ComesToStates : List FontValue → StatesValue → Type 0
+ComesToStates fs s = (j : FontValue) × ComesTo fs j × (s ≡ states_of profile j)
 
 -- each glyph of each of the fonts runs and draws in j as it did
 abbrev pub DrawsAll : List FontValue → FontValue → Type 0
@@ -34,7 +39,3 @@ MergesTo t j = Merges profile t j × ((k : FontValue) → Merges profile t k →
 -- this order and grouping of the fonts comes to no font
 abbrev pub MergesToNone : Grouping FontValue → Type 0
 MergesToNone t = (k : FontValue) → ¬ Merges profile t k
-
--- each grouping of the fonts, in their order, comes to a font
-abbrev pub EachGroupingMerges : List FontValue → Type 0
-EachGroupingMerges fs = (t : Grouping FontValue) → leaves t ≡ fs → (j : FontValue) × Merges profile t j

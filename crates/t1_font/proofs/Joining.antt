@@ -1,18 +1,15 @@
 -- The entries of many fonts, joined one font after another.
-use Rattle.std.proofs.Common.{◌≡◌, ℕ, zero, suc, ◌≤◌, ◌<◌, ◌+◌, ◌++◌, List, [], ◌∷◌, length, take, get_or, map, Some, refl, sym, ap, subst, ◌∙◌, arith}
+use Rattle.std.proofs.Common.{◌≡◌, ℕ, zero, suc, ◌≤◌, ◌<◌, ◌+◌, ◌++◌, List, [], ◌∷◌, length, take, get_or, refl, sym, ap, subst, ◌∙◌, arith}
 use Rattle.std.proofs.lemmas.List.{take_more}
-use Rattle.std.proofs.lemmas.List.Elements.{All-nil, All-cons}
-use Rattle.std.specs.List.{All, AllByRecursion}
+use Rattle.std.specs.List.{AllByRecursion}
 use Rattle.std.specs.Cmp.Lexicographic.{nat_list_cmp_total}
-use Rattle.std.specs.FinMap.{entries, get, get-entries, from_entries, get-from_entries, len, len-entries, same_map}
-use Rattle.t1_font.specs.FontValue.{FontValue, Encoding, Word, Codes, Named, name_cmp, total, weight, count_limit, weight_limit}
+use Rattle.std.specs.FinMap.{entries, get, len, len-entries}
+use Rattle.t1_font.specs.FontValue.{FontValue, Encoding, Word, Codes, Named, total, weight, count_limit, weight_limit}
 use Rattle.t1_font.specs.IsFont.{IsFont}
 use Rattle.t1_font.specs.Joins.{join_encodings, join_parts, join_all_parts}
-use Rattle.t1_font.specs.declared.lent.Glyph.{Glyph}
-use Rattle.t1_font.specs.Lent.{lent_glyph, HasIn}
-use Rattle.t1_font.specs.Maps.{merged, IsPartOf}
+use Rattle.t1_font.specs.Maps.{merged}
 use Rattle.t1_font.specs.WriteLaws.{SameKind}
-use Rattle.t1_font.proofs.MapLemmas.{entries_all, find_append, get-merged, total-le, length_total, joined}
+use Rattle.t1_font.proofs.MapLemmas.{get-merged, total-le, length_total, joined}
 use Rattle.t1_font.proofs.Kept.{join_is_font, join_heavy}
 use Rattle.t1_font.proofs.canonical.FontAgain.{name_same}
 
@@ -66,38 +63,6 @@ kinds_kept f (g ∷ gs) e h = kinds_kept (join_parts f g) gs e (kind_kept f.enco
 all_kinds : (f g : FontValue) (gs : List FontValue) → AllByRecursion (λ x. SameKind f.encoding x.encoding) gs → AllByRecursion (λ x. SameKind (join_parts f g).encoding x.encoding) gs
 all_kinds f g [] h = tt
 all_kinds f g (x ∷ gs) h = (kind_kept f.encoding g.encoding x.encoding h.0, all_kinds f g gs h.1)
-
--- ---- glyphs
-
--- the entries of a map make it
-pub entries_make : (m : Named) → from_entries (entries m) ≡ m
-entries_make m = same_map nat_list_cmp_total name_same _ _ (λ q. get-from_entries nat_list_cmp_total (entries m) q ∙ sym (get-entries m q))
-
--- entries, and those of a map behind them, make the map of both
-pub more_merged : (es : List (List ℕ × List ℕ)) (n : Named) → from_entries {R = name_cmp} (es ++ entries n) ≡ merged (from_entries es) n
-more_merged es n = same_map nat_list_cmp_total name_same _ _ (λ q.
-    get-from_entries nat_list_cmp_total (es ++ entries n) q
-    ∙ find_append nat_list_cmp_total name_same q es (entries n)
-    ∙ (λ i. joined (sym (get-from_entries nat_list_cmp_total es q) i) (sym (get-entries n q) i))
-    ∙ sym (get-merged nat_list_cmp_total name_same (from_entries es) n q))
-
--- what holds of the entries of two lists holds of all
-all_of_both : {E : Type 0} (P : E → Type 0) (es fs : List E) → AllByRecursion P es → AllByRecursion P fs → AllByRecursion P (es ++ fs)
-all_of_both P [] fs h k = k
-all_of_both P (e ∷ es) fs h k = (h.0, all_of_both P es fs h.1 k)
-
-module _ (j : Named) where
-  abbrev pub IsEntry : List ℕ × List ℕ → Type 0
-  IsEntry e = get j e.0 ≡ Some e.1
-
-  -- where all entries are those of a map, so are they with the entries of a part of it
-  pub entries_more : (es fs : List (List ℕ × List ℕ)) (m : Named) → fs ≡ es ++ entries m → AllByRecursion IsEntry es → IsPartOf m j → AllByRecursion IsEntry fs
-  entries_more es fs m is h k = subst (AllByRecursion IsEntry) (sym is) (all_of_both IsEntry es (entries m) h (entries_all nat_list_cmp_total name_same (λ q v. get j q ≡ Some v) m k))
-
-  -- glyphs whose entries are those of a map are its own
-  pub are_in : (gs : List Glyph) → AllByRecursion IsEntry (map lent_glyph gs) → All (HasIn j) gs
-  are_in [] h = All-nil (HasIn j)
-  are_in (g ∷ gs) h = All-cons (HasIn j) g gs h.0 (are_in gs h.1)
 
 -- ---- limits
 

@@ -1,7 +1,6 @@
 pub mod WordLemmas
 pub mod MarkerLemmas
 pub mod Lasts
-pub mod OneOfEach
 pub mod Joining
 pub mod PartsOfOne
 pub mod EntryLemmas

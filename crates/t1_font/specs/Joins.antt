@@ -8,8 +8,7 @@ use Rattle.t1_font.specs.declared.parts.PartsFault.{PartsFault}
 use Rattle.t1_font.specs.declared.parts.PartsFault.TheVariants.{Limit, Memory}
 use Rattle.t1_font.specs.FontValue.{FontValue, Encoding, Word, Codes, count_limit, weight_limit, weight}
 use Rattle.t1_font.specs.Cut.{stub}
-use Rattle.std.specs.List.{AllByRecursion}
-use Rattle.t1_font.specs.Maps.{map_values, merged, IsPartOf}
+use Rattle.t1_font.specs.Maps.{map_values, merged}
 
 -- of the next entries of two lists the lower, or the first's where they tie; and by how many places each list goes on then
 abbrev pub lower : {K X : Type 0} → (K → K → Ordering) → Option (K × X) → Option (K × X) → Option ((K × X) × ℕ × ℕ)
@@ -41,10 +40,6 @@ join_parts f g = record {
 abbrev pub join_all_parts : FontValue → List FontValue → FontValue
 join_all_parts f [] = f
 join_all_parts f (g ∷ gs) = join_all_parts (join_parts f g) gs
-
--- no two of the fonts have different glyphs of one name: each glyph of each is one of the font of all
-abbrev pub HaveOneGlyph : FontValue → List FontValue → Type 0
-HaveOneGlyph f gs = AllByRecursion (λ g. IsPartOf g.glyphs (join_all_parts f gs).glyphs) (f ∷ gs)
 
 -- there are too many glyphs, or they weigh too much with the rest
 abbrev pub IsOverLimits : FontValue → Type 0

@@ -1,5 +1,5 @@
 -- What borrowed entries stand for.
-use Rattle.std.specs.Prelude.{◌≡◌, ℕ, List, Some, map, true, unwrap_or}
+use Rattle.std.specs.Prelude.{◌≡◌, ℕ, List, map, true, unwrap_or}
 use Rattle.std.specs.Borrow.{Bor}
 use Rattle.std.specs.FinMap.{get, contains_key, from_sorted, from_entries}
 use Rattle.std.specs.Ordering.{nat_cmp}
@@ -46,14 +46,6 @@ numbered_entries (numbers.Made entries) = map lent_number entries.items
 abbrev pub named_entries : NamedForm → List (List ℕ × List ℕ)
 named_entries (names.Stored buffer places) = map (named_at buffer.now.items) places.now
 named_entries (names.Made glyphs) = map lent_glyph glyphs.items
-
--- the table of glyphs in any order: of those with one name the first stands
-abbrev pub glyphs_by_name : List Glyph → Named
-glyphs_by_name gs = from_entries (map lent_glyph gs)
-
--- the glyph is one of the table
-abbrev pub HasIn : Named → Glyph → Type 0
-HasIn m g = get m (lent_glyph g).0 ≡ Some (lent_glyph g).1
 
 -- ---- glyphs under names in a tree
 

@@ -4,7 +4,7 @@ ghost use Rattle.std.specs.Prelude.{◌≡◌, ◌<◌, IfOk, IfErr, length, map
 ghost use Rattle.t1_algebra.specs.Profile.{profile};
 ghost use Rattle.t1_algebra.specs.StateTables.{states_of};
 ghost use Rattle.t1_subset.specs.Callers.{AreNoted, fonts_of};
-ghost use Rattle.t1_algebra.specs.Merges.{EachGroupingMerges, ComesTo};
+ghost use Rattle.t1_algebra.specs.Merges.{ComesTo, ComesToStates};
 
 use crate::callers::Callers;
 use crate::conflict::Conflict;
@@ -34,10 +34,14 @@ pub(crate) fn note_fonts<'t, 'a>(
     Ok((callers, states))
 }
 
-/// The font that these fonts make together. They are known to merge.
-pub(crate) fn made_of<'a>(alloc: Global, fonts: &[Font<'a>]) -> Result<Font<'a>, Conflict>
+/// The font that these fonts make together, by the joined states of all.
+pub(crate) fn made_of<'a>(
+    alloc: Global,
+    fonts: &[Font<'a>],
+    joined: States<'a>,
+) -> Result<Font<'a>, Conflict>
     requires some { 0 < length fonts.now }
-    requires merges { EachGroupingMerges fonts.now }
+    requires joined { ComesToStates fonts.now joined }
     ensures ok { IfOk result (λ j. ComesTo fonts.now j) }
     ensures err { IfErr result (λ e. e ≡ Conflict.Memory) }
 {
@@ -45,5 +49,5 @@ pub(crate) fn made_of<'a>(alloc: Global, fonts: &[Font<'a>]) -> Result<Font<'a>,
         return Err(Conflict::Empty);
     };
     first.proof_is_font();
-    Ok(join_all_parts(alloc, first, rest)?)
+    Ok(join_all_parts(alloc, first, rest, joined.into_glyphs())?)
 }

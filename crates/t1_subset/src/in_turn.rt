@@ -1,4 +1,5 @@
-//! Why fonts don't merge: their states are joined from left to right up to the first conflict.
+//! The joined states of fonts, or why they don't merge: then the states are joined from left to right up to the first
+//! conflict.
 
 ghost use Rattle.std.specs.Prelude.{◌≡◌, ◌<◌, IfOk, IfErr, length, map};
 ghost use Rattle.t1_font.specs.FontValue.{FontValue};
@@ -10,7 +11,7 @@ ghost use Rattle.t1_subset.specs.Clashes.{AreStatesOf, AreCallers};
 ghost use Rattle.t1_subset.specs.Refusals.{Tells};
 ghost use Rattle.t1_subset.specs.Callers.{AreNoted, fonts_of};
 ghost use Rattle.t1_subset.specs.Merger.{IsRefused};
-ghost use Rattle.t1_algebra.specs.Merges.{EachGroupingMerges};
+ghost use Rattle.t1_algebra.specs.Merges.{ComesToStates};
 
 use crate::callers::Callers;
 use crate::conflict::Conflict;
@@ -49,16 +50,16 @@ fn join_next<'a>(
     Ok(left.join(alloc, right)?)
 }
 
-/// The first conflict of fonts from left to right, if there is one.
-fn join_in_turn(
+/// The joined states of fonts, or the first conflict from left to right.
+fn join_in_turn<'a>(
     alloc: Global,
     callers: &[Callers<'_, '_>],
-    states: &[States<'_>],
-) -> Result<(), Conflict>
+    states: &[States<'a>],
+) -> Result<States<'a>, Conflict>
     requires some { 0 < length callers.now }
     requires noted { AreNoted callers.now }
     requires states { states.now ≡ map (states_of profile) (fonts_of callers.now) }
-    ensures ok { IfOk result (λ _. EachGroupingMerges (fonts_of callers.now)) }
+    ensures ok { IfOk result (λ all. ComesToStates (fonts_of callers.now) all) }
     ensures err { IfErr result (λ e. IsRefused (fonts_of callers.now) e) }
 {
     let first = &states[0];
@@ -69,24 +70,23 @@ fn join_in_turn(
             Err(conflict) => return Err(conflict),
         }
     }
-    Ok(())
+    Ok(all)
 }
 
-/// Whether one or more fonts merge, by the callers of each and its states, or the first conflict from left to right.
-pub(crate) fn all_join(
+/// The joined states of one or more fonts, by the callers of each and its states, or the first conflict from left to right.
+pub(crate) fn all_join<'a>(
     alloc: Global,
     callers: &[Callers<'_, '_>],
-    states: &[States<'_>],
-) -> Result<(), Conflict>
+    states: &[States<'a>],
+) -> Result<States<'a>, Conflict>
     requires some { 0 < length callers.now }
     requires noted { AreNoted callers.now }
     requires states { states.now ≡ map (states_of profile) (fonts_of callers.now) }
-    ensures ok { IfOk result (λ _. EachGroupingMerges (fonts_of callers.now)) }
+    ensures ok { IfOk result (λ all. ComesToStates (fonts_of callers.now) all) }
     ensures err { IfErr result (λ e. IsRefused (fonts_of callers.now) e) }
 {
-    let joined = join_all(alloc, states)?;
-    if joined.is_some() {
-        return Ok(());
+    match join_all(alloc, states)? {
+        Some(joined) => Ok(joined),
+        None => join_in_turn(alloc, callers, states),
     }
-    join_in_turn(alloc, callers, states)
 }

@@ -65,13 +65,14 @@ fn merge_two<'a>(alloc: Global, left: &Font<'a>, right: &Font<'a>) -> Result<Fon
     both(alloc, left, right)
 }
 
-/// The join of one or more fonts, by the callers of each and its states, which are let go before the join is made.
+/// The join of one or more fonts, by the callers of each and its states, which are let go before the join is made. It is made
+/// by the joined states.
 #[tactic(auto, using(crate::proofs::state_tables::StateTrees::refused_err, crate::proofs::state_tables::Walks::some_noted))]
 fn merge_noted<'a>(
     alloc: Global,
     fonts: &[Font<'a>],
     callers: Vec<Callers<'_, '_>>,
-    states: Vec<States<'_>>,
+    states: Vec<States<'a>>,
 ) -> Result<Font<'a>, Conflict>
     requires some { 0 < length fonts.now }
     requires fonts { fonts_of callers.items ≡ fonts.now }
@@ -80,12 +81,13 @@ fn merge_noted<'a>(
     ensures ok { IfOk result (λ j. ComesTo fonts.now j) }
     ensures err { IfErr result (λ e. IsRefused fonts.now e) }
 {
-    if let Err(conflict) = all_join(alloc, callers.as_slice(), states.as_slice()) {
-        return Err(conflict);
-    }
+    let joined = match all_join(alloc, callers.as_slice(), states.as_slice()) {
+        Ok(joined) => joined,
+        Err(conflict) => return Err(conflict),
+    };
     drop(states);
     drop(callers);
-    made_of(alloc, fonts)
+    made_of(alloc, fonts, joined)
 }
 
 /// The font that two fonts make together: the shell of both, the codes and glyphs of either, and for each Subr the

@@ -117,6 +117,14 @@ impl<'a> NameTable<'a> {
         self.glyphs.get(name)
     }
 
+    /// The glyphs of the names.
+    #[tactic(auto, using(t1_algebra::proofs::Tables::charstring_in))]
+    pub(crate) fn into_glyphs(self) -> Named<'a>
+        ensures { (n : List ℕ) → maps.get result n ≡ behind_mark (maps.get self.entry n) }
+    {
+        self.glyphs
+    }
+
     /// Whether a name has a glyph.
     fn has_glyph(&self, name: &[u8]) -> bool
         ensures { result ≡ is_some (behind_mark (maps.get self.now name.now)) }

@@ -1,17 +1,17 @@
 //! The join of states.
 
-ghost use Rattle.std.specs.Prelude.{◌≡◌, ◌↔◌, ◌+◌, [], IsTrue};
+ghost use Rattle.std.specs.Prelude.{◌≡◌, ◌↔◌, ◌+◌, ℕ, List, [], IsTrue};
 ghost use Rattle.std.specs.FinMap as maps;
 ghost use Rattle.t1_join.specs.TableMeaning.{joined_table};
 ghost use Rattle.t1_font.specs.FontValue.{total};
 ghost use Rattle.t1_font.specs.FontModel.{clamp};
-ghost use Rattle.t1_algebra.specs.StateTables.{StatesFit, code_part, name_part, subr_part, subr_adds, states_weight, states_glyphs, joined_states};
+ghost use Rattle.t1_algebra.specs.StateTables.{StatesFit, behind_mark, code_part, name_part, subr_part, subr_adds, states_weight, states_glyphs, joined_states};
 ghost use Rattle.t1_algebra.specs.StateLaws.{PartsAgree};
 
 use crate::name_states::NameTable;
 use crate::state_value::States;
 use std::alloc::{AllocError, Global};
-use t1_font::{COUNT_LIMIT, Extent, WEIGHT_LIMIT};
+use t1_font::{COUNT_LIMIT, Extent, Named, WEIGHT_LIMIT};
 use t1_join::{Join, Table};
 
 /// How many bytes a Subr has more than a stub.
@@ -76,6 +76,14 @@ impl<'a> States<'a> {
         ensures { result.now ≡ subr_part self.now }
     {
         &self.subrs
+    }
+
+    /// The glyphs of the font of these states.
+    pub(crate) fn into_glyphs(self) -> Named<'a>
+        ensures { (n : List ℕ)
+            → maps.get result n ≡ behind_mark (maps.get (name_part self.entry) n) }
+    {
+        self.names.into_glyphs()
     }
 
     /// Whether the fonts share what they have to, and all states join.

@@ -8,7 +8,7 @@ ghost use Rattle.t1_font.specs.FontValue.{notdef};
 ghost use Rattle.t1_font.specs.Cut.{set_of_names, restrict};
 ghost use Rattle.t1_font.specs.Canon.{canon};
 ghost use Rattle.t1_font.specs.IsFont.{IsFont};
-ghost use Rattle.t1_font.specs.Parts.{IsPartOfFont};
+ghost use Rattle.t1_font.specs.Parts.{HasShellOf};
 ghost use Rattle.t1_font.specs.WriteLaws.{SameKind};
 
 use super::rows::with;
@@ -301,7 +301,7 @@ fn cut_font<'a>(
     names: &[&[u8]],
     subrs: &[u16],
 ) -> Result<Font<'a>, AllocError>
-    ensures { IfOk result (λ f. IsPartOfFont f font.now) }
+    ensures { IfOk result (λ f. HasShellOf f font.now) }
 {
     let names = known(alloc, font, names)?;
     let subrs = set_of(alloc, subrs)?;
@@ -314,7 +314,7 @@ pub fn lent_cut_font<'a>(
     source: &'a Source,
     cut: Cut,
 ) -> Result<Font<'a>, AllocError>
-    ensures { IfOk result (λ f. IsPartOfFont f source.now) }
+    ensures { IfOk result (λ f. HasShellOf f source.now) }
 {
     let font = source.font(alloc)?;
     cut_font(alloc, &font, cut.0, cut.1)

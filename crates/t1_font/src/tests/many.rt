@@ -2,24 +2,39 @@
 
 ghost use Rattle.std.specs.Prelude.{◌≡◌, IfOk};
 ghost use Rattle.std.specs.List.{AllByRecursion};
-ghost use Rattle.t1_font.specs.Joins.{HaveOneGlyph};
-ghost use Rattle.t1_font.specs.Parts.{IsPartOfFont};
+ghost use Rattle.t1_font.specs.Joins.{join_all_parts};
+ghost use Rattle.t1_font.specs.Parts.{HasShellOf};
 ghost use Rattle.t1_font.specs.WriteLaws.{SameKind};
 
 use super::cuts::{Cut, X, X_AND_Y, Y, large, lent_cut_font, tiny_cut};
 use super::lent_file;
-use crate::{Font, Form, PartsFault, Source, join_all_parts, read, write};
+use crate::{Font, Form, Named, PartsFault, Source, join_all_parts, join_glyphs, read, write};
 use std::alloc::{AllocError, Global};
 use std::test::Fail;
 use t1_tiny::{PFA, PFB};
+
+/// The glyphs of all.
+fn all_glyphs<'a>(
+    alloc: Global,
+    first: &Font<'a>,
+    rest: &[Font<'a>],
+) -> Result<Named<'a>, AllocError>
+    ensures { IfOk result (λ m. m ≡ (join_all_parts first.now rest.now).glyphs) }
+{
+    let mut glyphs = first.glyphs().copy(alloc)?;
+    'rest: for font in rest {
+        glyphs = join_glyphs(alloc, &glyphs, font.glyphs())?;
+    }
+    Ok(glyphs)
+}
 
 /// The canonical PFB of the font of the entries of all.
 fn written<'a>(alloc: Global, first: &Font<'a>, rest: &[Font<'a>]) -> Result<Vec<u8>, PartsFault>
     requires shells { AllByRecursion (λ g. first.now.shell ≡ g.shell) rest.now }
     requires encodings { AllByRecursion (λ g. SameKind first.now.encoding g.encoding) rest.now }
-    requires glyphs { HaveOneGlyph first.now rest.now }
 {
-    let joined = join_all_parts(alloc, first, rest)?;
+    let glyphs = all_glyphs(alloc, first, rest)?;
+    let joined = join_all_parts(alloc, first, rest, glyphs)?;
     Ok(write(alloc, &joined, Form::Pfb)?)
 }
 
@@ -29,7 +44,7 @@ fn whole_or_cut<'a>(
     source: &'a Source,
     cut: Option<Cut>,
 ) -> Result<Font<'a>, AllocError>
-    ensures { IfOk result (λ f. IsPartOfFont f source.now) }
+    ensures { IfOk result (λ f. HasShellOf f source.now) }
 {
     match cut {
         Some(cut) => lent_cut_font(alloc, source, cut),
@@ -43,7 +58,7 @@ fn each<'a>(
     source: &'a Source,
     cuts: &[Option<Cut>],
 ) -> Result<Vec<Font<'a>>, AllocError>
-    ensures { IfOk result (λ v. AllByRecursion (λ f. IsPartOfFont f source.now) v.items) }
+    ensures { IfOk result (λ v. AllByRecursion (λ f. HasShellOf f source.now) v.items) }
 {
     let mut fonts = Vec::new(alloc);
     'cuts: for cut in cuts {

@@ -1,23 +1,25 @@
 -- Merges of fonts are joins of their states.
-use Rattle.std.proofs.Common.{◌≡◌, ◌<◌, true≢false, List, [], ◌∷◌, map, length, refl, sym, ◌∙◌, ap, subst, arith, inl, inr, true, Option, Some, None, option_map, is_some, Result, Ok, Err, IfErr}
+use Rattle.std.proofs.Common.{◌≡◌, ◌<◌, ℕ, List, [], ◌∷◌, map, length, refl, sym, ◌∙◌, ap, subst, arith, inl, inr, Some, Result, Ok, Err, IfErr}
 use Rattle.std.proofs.lemmas.List.{map-id}
 use Rattle.std.specs.List.{AllByRecursion}
+use Rattle.std.specs.FinMap as maps
 use Rattle.t1_join.specs.Groupings.{Grouping, one, two, from_left, IsJoinOf}
-use Rattle.t1_join.proofs.OrderLemmas.{each_leaf, leaves_mapped, leaves_from_left, uses_its}
-use Rattle.t1_font.specs.{declared.parts.PartsFault.{PartsFault}, FontValue.{FontValue, Encoding}, IsFont.{IsFont}, Joins.{join_encodings, join_parts, join_all_parts, HaveOneGlyph, Refuses}, Maps.{IsPartOf}}
+use Rattle.t1_join.proofs.OrderLemmas.{leaves_mapped, leaves_from_left, uses_its}
+use Rattle.t1_font.specs.{declared.parts.PartsFault.{PartsFault}, FontValue.{FontValue, Encoding, Named}, IsFont.{IsFont}, Joins.{join_encodings, join_parts, join_all_parts, Refuses}}
 use Rattle.t1_font.specs.WriteLaws.{SameKind}
 use Rattle.t1_font.specs.declared.parts.PartsFault.TheVariants as parts
-use Rattle.t1_algebra.specs.{Profile.{profile}, States.{IsWithin, Compatible, Join, joined_font}, Groupings.{Merges}, StateTables.{StatesValue, StatesJoin, states_of}, Merges.{EachGroupingMerges, ComesTo}}
-use Rattle.t1_algebra.proofs.{Fonts.{font_within, fonts_within}, JoinedStates.{font_back, left_glyph, joined_are_entries}, Orders.{grouped, merges_by_states}}
+use Rattle.t1_algebra.specs.{Profile.{profile}, States.{IsWithin, Join, joined_font}, Groupings.{Merges}, StateTables.{StatesValue, StatesJoin, states_of, name_part, behind_mark}, Merges.{ComesTo, ComesToStates}}
+use Rattle.t1_algebra.proofs.{Fonts.{font_within, fonts_within}, JoinedStates.{joined_are_entries}, FontStates.{glyphs_among}, ManyMerges.{each_font}, Orders.{grouped, merges_by_states}}
 use Rattle.t1_subset.specs.{Refusals.{of_parts}, declared.conflict.Conflict.{Conflict as Refusal}, declared.conflict.Conflict.TheVariants.{Memory}, Merger.{IsRefused}}
 
--- if the code answers a join of the states of all fonts, each grouping of the fonts merges
-pub joined_groupings : (fs : List FontValue) → AllByRecursion IsFont fs → (ss : List StatesValue) → ss ≡ map (states_of profile) fs → (o : Option StatesValue) → is_some o ≡ true → IsJoinOf StatesJoin (map (λ s. s) ss) (option_map (λ s. s) o) → EachGroupingMerges fs
-joined_groupings fs w ss is None some h t e = absurd (true≢false (sym some))
-joined_groupings fs w ss is (Some v) some h t e =
-    let uses = uses_its (grouped profile t) (map (λ s. s) ss) (leaves_mapped (states_of profile) t ∙ ap (map (states_of profile)) e ∙ sym (map-id ss ∙ is)) in
-    let r = merges_by_states profile t (fonts_within t (each_leaf IsFont t (subst (AllByRecursion IsFont) (sym e) w))) v (h.1 (grouped profile t) uses) in
-    (r.0, r.1)
+-- if the code answers a join of the states of fonts, they come to a font of these states
+pub joined_come : (fs : List FontValue) → 0 < length fs → AllByRecursion IsFont fs → (ss : List StatesValue) → ss ≡ map (states_of profile) fs → (v : StatesValue) → IsJoinOf StatesJoin (map (λ s. s) ss) (Some v) → ComesToStates fs v
+joined_come [] l w ss is v h = absurd (omega arith)
+joined_come (f ∷ fs) l w ss is v h =
+    let t = from_left (one f) fs in
+    let uses = uses_its (grouped profile t) (map (λ s. s) ss) (leaves_mapped (states_of profile) t ∙ ap (map (states_of profile)) (leaves_from_left (one f) fs) ∙ sym (map-id ss ∙ is)) in
+    let r = merges_by_states profile t (fonts_within t (each_font f fs w)) v (h.1 (grouped profile t) uses) in
+    (r.0, r.1, r.2)
 
 -- ---- from left to right
 
@@ -26,7 +28,6 @@ pub record AreParts (k : FontValue) (gs : List FontValue) (j : FontValue) : Type
   pub is : j ≡ join_all_parts k gs
   pub shells : AllByRecursion (λ g. k.shell ≡ g.shell) gs
   pub kinds : AllByRecursion (λ g. SameKind k.encoding g.encoding) gs
-  pub glyphs : AllByRecursion (λ g. IsPartOf g.glyphs j.glyphs) (k ∷ gs)
   pub within : IsWithin k → IsWithin j
 
 kind_before : (d e x : Encoding) → SameKind d e → SameKind (join_encodings d e) x → SameKind d x
@@ -36,11 +37,8 @@ kinds_before : (d e : Encoding) (gs : List FontValue) → SameKind d e → AllBy
 kinds_before d e [] k h = tt
 kinds_before d e (g ∷ gs) k h = (kind_before d e g.encoding k h.0, kinds_before d e gs k h.1)
 
-right_glyph : (f g : FontValue) → Compatible profile f g → IsPartOf g.glyphs (joined_font profile f g).glyphs
-right_glyph f g c = subst (λ (j : FontValue). IsPartOf g.glyphs j.glyphs) (sym (font_back profile f g c)) (left_glyph profile g f)
-
 left_parts : (t : Grouping FontValue) (gs : List FontValue) (j : FontValue) → Merges profile (from_left t gs) j → (k : FontValue) × Merges profile t k × AreParts k gs j
-left_parts t [] j h = (j, h, record { is = refl; shells = tt; kinds = tt; glyphs = (λ q c e. e, tt); within = λ w. w })
+left_parts t [] j h = (j, h, record { is = refl; shells = tt; kinds = tt; within = λ w. w })
 left_parts t (g ∷ gs) j h =
     let r = left_parts (two t (one g)) gs j h in
     let k = r.1.0 in
@@ -54,26 +52,22 @@ left_parts t (g ∷ gs) j h =
         is = rest.is;
         shells = (c.shells, rest.shells);
         kinds = (c.kinds, kinds_before k.encoding g.encoding gs c.kinds rest.kinds);
-        glyphs = (λ q b e. rest.glyphs.0 q b (left_glyph profile k g q b e), (λ q b e. rest.glyphs.0 q b (right_glyph k g c q b e), rest.glyphs.1));
         within = λ w. rest.within (subst IsWithin (joined_are_entries profile k g c) both.within);
       },
     )
 
-module _ (f : FontValue) (gs fs : List FontValue) (is : fs ≡ f ∷ gs) (h : EachGroupingMerges fs) where
-  pub merged : (j : FontValue) × Merges profile (from_left (one f) gs) j
-  merged = h (from_left (one f) gs) (leaves_from_left (one f) gs ∙ sym is)
+module _ (f : FontValue) (gs fs : List FontValue) (is : fs ≡ f ∷ gs) (s : StatesValue) (h : ComesToStates fs s) where
+  -- fonts that come to a font have entries that join
+  pub parts_join : AreParts f gs h.0
+  parts_join = let r = left_parts (one f) gs h.0 (subst (λ (fs : List FontValue). ComesTo fs h.0) is h.1) in subst (λ (k : FontValue). AreParts k gs h.0) (sym r.1) r.2
 
-  -- fonts of which each grouping merges have entries that join
-  pub parts_join : AreParts f gs merged.0
-  parts_join = let r = left_parts (one f) gs merged.0 merged.1 in subst (λ (k : FontValue). AreParts k gs merged.0) (sym r.1) r.2
-
-  -- no two of them have different glyphs of one name
-  pub one_glyph : HaveOneGlyph f gs
-  one_glyph = subst (λ (j : FontValue). AllByRecursion (λ g. IsPartOf g.glyphs j.glyphs) (f ∷ gs)) parts_join.is parts_join.glyphs
+  -- the glyphs of its states are those of the font of all their entries
+  pub joined_glyphs : (g : Named) → ((n : List ℕ) → maps.get g n ≡ behind_mark (maps.get (name_part s) n)) → g ≡ (join_all_parts f gs).glyphs
+  joined_glyphs g are = glyphs_among profile h.0 g (λ n. are n ∙ ap (λ (s : StatesValue). behind_mark (maps.get (name_part s) n)) h.2) ∙ ap (λ (j : FontValue). j.glyphs) parts_join.is
 
   -- the font of all their entries is what they come to
   pub parts_come_to : (j : FontValue) → j ≡ join_all_parts f gs → ComesTo fs j
-  parts_come_to j e = subst (λ (fs : List FontValue). ComesTo fs j) (sym is) (subst (ComesTo (f ∷ gs)) (parts_join.is ∙ sym e) merged.1)
+  parts_come_to j e = subst (ComesTo fs) (parts_join.is ∙ sym e) h.1
 
   -- and it is within the limits, so it is refused for want of memory alone
   pub parts_refused : IsFont f → (e : PartsFault) → Refuses (join_all_parts f gs) e → of_parts e ≡ Memory

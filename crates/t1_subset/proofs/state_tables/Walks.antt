@@ -1,13 +1,13 @@
 -- Merging fonts from left to right, by their states and callers.
-use Rattle.std.proofs.Common.{◌≡◌, ◌<◌, ◌≤◌, ◌+◌, ℕ, zero, suc, inr, cond, List, [], ◌∷◌, ◌++◌, map, length, take, take_all, drop, get_or, refl, sym, ◌∙◌, ap, subst, arith, add-one, Some, None, IsPermutation}
-use Rattle.std.proofs.{lemmas.List.{length-map, map-append, take_more}, lemmas.List.Sorted.{IsPermutation-refl}}
+use Rattle.std.proofs.Common.{◌≡◌, ◌<◌, ◌≤◌, ◌+◌, ℕ, zero, suc, inr, cond, List, [], ◌∷◌, ◌++◌, map, length, take, take_all, drop, get_or, refl, sym, ◌∙◌, ap, subst, arith, add-one, Some, None}
+use Rattle.std.proofs.lemmas.List.{length-map, map-append, take_more}
 use Rattle.std.specs.List.{AllByRecursion}
-use Rattle.t1_join.specs.Groupings.{Grouping, one, leaves, from_left}
-use Rattle.t1_join.proofs.OrderLemmas.{leaves_from_left, all_of_both}
+use Rattle.t1_join.specs.Groupings.{Grouping, one, from_left}
+use Rattle.t1_join.proofs.OrderLemmas.{all_of_both}
 use Rattle.t1_font.specs.{FontValue.{FontValue}, IsFont.{IsFont}}
 use Rattle.t1_algebra.specs.{Profile.{profile}, States.{Join, joined_font}, StateTables.{StatesValue, StatesAgree, StatesJoin, states_of}, StateLaws.{states_laws}, Conflicts.{OverLimit, states_conflict, conflict}}
-use Rattle.t1_algebra.specs.{Searches.{found}, Groupings.{Merges}, Merges.{ComesTo, EachGroupingMerges}}
-use Rattle.t1_algebra.proofs.{Conflicts.{no_conflict}, FontStates.{join_exactly, states_join}, Fonts.{font_within, joined_is_font, any_order_of_fonts}, ManyMerges.{left_snoc, each_font}}
+use Rattle.t1_algebra.specs.{Searches.{found}, Groupings.{Merges}, Merges.{ComesTo, ComesToStates}}
+use Rattle.t1_algebra.proofs.{Conflicts.{no_conflict}, FontStates.{join_exactly, states_join}, Fonts.{font_within, joined_is_font}, ManyMerges.{left_snoc}}
 use Rattle.t1_subset.specs.{declared.callers.Callers.{Callers}, declared.conflict.Conflict.{Conflict as Refusal}, Refusals.{Tells}, Callers.{AreCallersOf, AreNoted, fonts_of}, Clashes.{AreStatesOf, AreCallers}}
 use Rattle.t1_subset.specs.Merger.{IsRefused}
 use Rattle.t1_subset.proofs.{state_tables.Conflicts.{over}, state_tables.FontCallers.{CallersSoFar, first_callers, both_callers, more_callers}}
@@ -48,13 +48,6 @@ comes_last (f ∷ fs) x j h k = subst (λ (t : Grouping FontValue). Merges profi
 stops_at : (before : List FontValue) (x : FontValue) (after fs : List FontValue) (j : FontValue) → ComesTo before j → before ++ x ∷ after ≡ fs → (e : Refusal) → Tells e (conflict profile j x) → IsRefused fs e
 stops_at [] x after fs j h is e t = absurd h
 stops_at (f ∷ before) x after fs j h is e t = subst (λ (fs : List FontValue). IsRefused fs e) is (inr (record { before = before; font = x; after = after; joined = j; list = refl; merges = h; tells = t }))
-
--- if fonts come to a font, each grouping of them merges
-each_merges : (fs : List FontValue) (j : FontValue) → AllByRecursion IsFont fs → ComesTo fs j → EachGroupingMerges fs
-each_merges [] j w h t e = absurd h
-each_merges (f ∷ fs) j w h t e =
-    let same : IsPermutation (leaves (from_left (one f) fs)) (leaves t) = subst (λ (l : List FontValue). IsPermutation l (leaves t)) (e ∙ sym (leaves_from_left (one f) fs)) (IsPermutation-refl (leaves t)) in
-    (j, (any_order_of_fonts profile (from_left (one f) fs) t same (each_font f fs w) j h).1)
 
 -- the fonts of callers that are noted are fonts
 pub all_fonts : (cs : List Callers) → AreNoted cs → AllByRecursion IsFont (fonts_of cs)
@@ -118,9 +111,9 @@ module _ (cs : List Callers) (i : ℕ) (t : Turn cs i) (s : StatesValue) (far : 
   pub stops : (r : Refusal) → Tells r (conflict profile far.font t.here.font.now) → IsRefused (fonts_of cs) r
   stops = stops_at (fonts_of (take i cs)) t.here.font.now (fonts_of (drop (suc i) cs)) (fonts_of cs) far.font far.comes (sym (map-append _ (take i cs) (t.here ∷ drop (suc i) cs)) ∙ ap fonts_of t.all)
 
--- if no font is left, each grouping of the fonts merges
-pub ends : (cs : List Callers) → AreNoted cs → (i : ℕ) → length cs ≤ i → (s : StatesValue) → JoinedSoFar (take i cs) s → EachGroupingMerges (fonts_of cs)
-ends cs h i l s far = each_merges (fonts_of cs) far.font (all_fonts cs h) (subst (λ (ds : List Callers). ComesTo (fonts_of ds) far.font) (take_all i cs l) far.comes)
+-- if no font is left, the fonts come to a font of the states so far
+pub ends : (cs : List Callers) (i : ℕ) → length cs ≤ i → (s : StatesValue) → JoinedSoFar (take i cs) s → ComesToStates (fonts_of cs) s
+ends cs i l s far = (far.font, subst (λ (ds : List Callers). ComesTo (fonts_of ds) far.font) (take_all i cs l) far.comes, far.states)
 
 -- ---- noting
 

@@ -9,5 +9,5 @@ returns-clause-parts c = λ i. record {
   shell = (ap (λ (s : Inside). s.parts.shell) c.first-inside.view_is ∙ (ap (λ (f : FontValue). f.shell) c.first.view_is ∙ sym (shell_kept c.args.first.now c.args.rest.now))) i;
   encoding = c.in_ok-encoding.ensures.encoding i;
   subrs = c.in_ok-encoding.ensures.subrs i;
-  glyphs = c.in_ok-join_all_glyphs.ensures i;
+  glyphs = c.requires.glyphs i;
 }

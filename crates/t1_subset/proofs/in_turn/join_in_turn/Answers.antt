@@ -23,4 +23,4 @@ returns-in-Err-clause-err c =
     (c.in-Err.ensures.err far.font t.here.font.now (next_states cs i t c.rest.all far c.args.states.now c.requires.states c.index-states-place.result c.index-states-place.is) (next_callers cs i t c.rest.all far))
 
 pub returns-clause-ok : goal.returns-clause-ok
-returns-clause-ok c = ends c.args.callers.now c.requires.noted c.rest.place (let past = c.rest-test.false in omega (arith, past)) c.rest.all c.rest.invariant
+returns-clause-ok c = ends c.args.callers.now c.rest.place (let past = c.rest-test.false in omega (arith, past)) c.rest.all c.rest.invariant
