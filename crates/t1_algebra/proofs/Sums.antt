@@ -39,7 +39,11 @@ names_total g s are w none =
     ∙ ap (total w) (entries-map_values nat_list_cmp_total name_same (λ n c. name_meaning (Some c)) g)
     ∙ total_mapped (λ n. n) (λ c. name_meaning (Some c)) w (maps.entries g)
 
--- so the sum over joined names is that over the glyphs of both
+-- so names have as many glyphs as the table of glyphs
+pub names_count : (g : Named) (s : TableMeaning) → AreSought s → total name_counts (maps.entries (names_table g s)) ≡ maps.len g
+names_count g s are = names_total g s are name_counts (λ n. refl) ∙ length_total (maps.entries g) ∙ sym (maps.len-entries g)
+
+-- and the sum over joined names is that over the glyphs of both
 pub joined_total : (g : Named) (s : TableMeaning) → AreSought s → (t : TableMeaning) → names_table g s ≡ t → (h : Named) (r : TableMeaning) → AreSought r → (u : TableMeaning) → names_table h r ≡ u → TablesAgree t u
     → (w : Meaning → Meaning → ℕ) → ((n : Meaning) → w n [] ≡ 0) → total w (maps.entries (joined_table t u)) ≡ total (λ n c. w n (name_meaning (Some c))) (maps.entries (merged g h))
 joined_total g s are t is h r seek u so a w none =

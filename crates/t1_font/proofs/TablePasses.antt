@@ -134,6 +134,26 @@ module _ {K X : Type 0} (R : K → K → Ordering) (es fs : List (K × X)) (i j 
       pub meets_here : R e.0 f.0 ≡ Equal → same e.1 f.1 ≡ false → meets R es fs same i j ≡ Some e.0
       meets_here h k = grind (arith, both_meet, h, k)
 
+  -- where one list ends, what is left of both is what is left of each
+  pub first_done : slice_get es i ≡ None → ahead R es fs i j ≡ drop i es ++ drop j fs
+  first_done a = (λ k. merge R (past_all es i a k) (drop j fs)) ∙ ap (λ (l : List (K × X)). l ++ drop j fs) (sym (past_all es i a))
+
+  pub second_done : slice_get fs j ≡ None → ahead R es fs i j ≡ drop i es ++ drop j fs
+  second_done b = ap (merge R (drop i es)) (past_all fs j b) ∙ all_of (drop i es) ∙ ap (λ (l : List (K × X)). drop i es ++ l) (sym (past_all fs j b))
+    where
+      all_of : (l : List (K × X)) → merge R l [] ≡ l ++ []
+      all_of [] = refl
+      all_of (x ∷ l) = ap (λ r. x ∷ r) (all_of l)
+
+-- where what comes next is put out, the rest is left
+pub put_next : {Y E : Type 0} (v : Y → E) (out more : List Y) (y : Y) (es rest all : List E) → map v out ++ es ≡ all → es ≡ v y ∷ rest → more ≡ out ++ y ∷ [] → map v more ++ rest ≡ all
+put_next v out more y es rest all so_far is put =
+    ap (λ ys. map v ys ++ rest) put ∙ (ap (λ es. es ++ rest) (map-append v out (y ∷ [])) ∙ (append_assoc (map v out) (v y ∷ []) rest ∙ (ap (λ es. map v out ++ es) (sym is) ∙ so_far)))
+
+-- where what is left of each list is put out, all is
+pub put_both : {E : Type 0} (out es fs ahead all more most : List E) → out ++ ahead ≡ all → ahead ≡ es ++ fs → more ≡ out ++ es → most ≡ more ++ fs → most ≡ all
+put_both out es fs ahead all more most so_far is e f = f ∙ ap (λ r. r ++ fs) e ∙ append_assoc out es fs ∙ ap (λ r. out ++ r) (sym is) ∙ so_far
+
 -- where an entry stands, less is left once the pass goes on behind it
 module _ {K X : Type 0} (es fs : List (K × X)) (i j : ℕ) (e f : K × X) (a : slice_get es i ≡ Some e) (b : slice_get fs j ≡ Some f) where
   pub first_nearer : left es fs (i + 1) j < left es fs i j

@@ -20,7 +20,3 @@ put_all_into m (e ∷ es) = put_all_into (insert m e.0 e.1) es
 abbrev pub entry_of : {K X : Type 0} → K → Option X → List (K × X)
 entry_of k None = []
 entry_of k (Some x) = (k, x) ∷ []
-
--- each entry of m is one of n
-abbrev pub IsPartOf : {K X : Type 0} {R : K → K → Ordering} → FinMap R X → FinMap R X → Type 0
-IsPartOf {K} {X} m n = (q : K) (x : X) → get m q ≡ Some x → get n q ≡ Some x

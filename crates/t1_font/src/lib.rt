@@ -53,7 +53,7 @@ pub use lent::{Named, NamedEntries, Numbered, NumberedEntries};
 pub use limits::{COUNT_LIMIT, WEIGHT_LIMIT};
 pub use many::join_all_parts;
 pub use parts::{PartsFault, join_parts};
-pub use passes::{BothGlyphs, Extent, join_glyphs};
+pub use passes::{BothGlyphs, Extent, join_glyphs, join_same_glyphs};
 pub use shell::Shell;
 pub use source::Source;
 pub use t1_bytes::Form;

@@ -1,6 +1,6 @@
 //! One pass over two tables of glyphs.
 
-ghost use Rattle.std.specs.Prelude.{◌≡◌, ◌+◌, IfOk, length};
+ghost use Rattle.std.specs.Prelude.{◌≡◌, ◌+◌, ◌++◌, IfOk, OnOk, MatchOption, None, is_some, true, length, map, drop};
 ghost use Rattle.std.specs.Option.{option_map};
 ghost use Rattle.std.specs.FinMap as fin;
 ghost use Rattle.std.specs.Map.Iter.{TakesFirst};
@@ -168,4 +168,58 @@ pub fn join_glyphs<'a>(
         all.push(glyph)?;
     }
     Ok(Named::made(all))
+}
+
+/// Adds the glyphs of a table from a place on.
+fn push_from<'a>(
+    all: &mut Vec<Glyph<'a>>,
+    table: &Named<'a>,
+    place: usize,
+) -> Result<(), AllocError>
+    ensures { OnOk result (map lent_glyph all.new.items
+        ≡ map lent_glyph all.old.items ++ drop place (fin.entries table.now)) }
+{
+    let mut place = place;
+    'glyphs: while let Some(glyph) = table.at(place) {
+        all.push(glyph)?;
+        place += 1;
+    }
+    Ok(())
+}
+
+/// The glyphs of both tables, in one pass over both, or `None` if both have a name with different charstrings.
+#[tactic(auto, using(crate::proofs::TablePasses::meets_later, crate::proofs::TablePasses::meets_above, crate::proofs::TablePasses::meets_same, crate::proofs::TablePasses::meets_here, crate::proofs::TablePasses::first_ends, crate::proofs::TablePasses::second_ends, crate::proofs::TablePasses::first_nearer, crate::proofs::TablePasses::second_nearer, crate::proofs::TablePasses::both_nearer, crate::proofs::TablePasses::first_lower, crate::proofs::TablePasses::both_tie, crate::proofs::TablePasses::second_lower, crate::proofs::TablePasses::put_next))]
+pub fn join_same_glyphs<'a>(
+    alloc: Global,
+    first: &Named<'a>,
+    second: &Named<'a>,
+) -> Result<Option<Named<'a>>, AllocError>
+    ensures { IfOk result (λ o. MatchOption o (is_some (first_met name_cmp bytes_eq (fin.entries first.now) (fin.entries second.now)) ≡ true) (λ m. (m ≡ merged first.now second.now) × (first_met name_cmp bytes_eq (fin.entries first.now) (fin.entries second.now) ≡ None))) }
+{
+    let mut all = Vec::with_capacity(alloc, first.len().saturating_add(second.len()))?;
+    let mut i = 0;
+    let mut j = 0;
+    'pass: while let (Some(one), Some(other)) = (first.at(i), second.at(j)) {
+        match one.name().cmp(other.name()) {
+            Ordering::Less => {
+                all.push(one)?;
+                i += 1;
+            }
+            Ordering::Equal => {
+                if one.body() != other.body() {
+                    return Ok(None);
+                }
+                all.push(one)?;
+                i += 1;
+                j += 1;
+            }
+            Ordering::Greater => {
+                all.push(other)?;
+                j += 1;
+            }
+        }
+    }
+    push_from(&mut all, first, i)?;
+    push_from(&mut all, second, j)?;
+    Ok(Some(Named::made(all)))
 }

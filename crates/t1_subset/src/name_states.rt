@@ -16,7 +16,7 @@ ghost use Rattle.t1_algebra.specs.Searches.{first_where, IsLowest};
 use crate::callers::{Seekers, smaller};
 use std::alloc::{AllocError, Global};
 use std::marker::Model;
-use t1_font::{Extent, Font, Named, join_glyphs};
+use t1_font::{Extent, Font, Named, join_glyphs, join_same_glyphs};
 use t1_join::{Join, Kept, Table};
 
 /// That a name is sought. It has nothing else to say.
@@ -185,6 +185,18 @@ impl<'a> NameTable<'a> {
     {
         self.glyphs.extent_with(&other.glyphs, before, len_iv)
     }
+
+    /// How many glyphs the names have, and what they add to the weight of a font with this lenIV, added to `before`.
+    pub(crate) fn extent(&self, before: u64, len_iv: u8) -> Extent
+        ensures weight { result.weight
+            ≡ clamp (before + total (name_adds len_iv) (maps.entries self.now)) }
+        ensures count { result.count ≡ total name_counts (maps.entries self.now) }
+    {
+        Extent {
+            weight: self.glyphs.weight(before, len_iv),
+            count: self.glyphs.len() as u64,
+        }
+    }
 }
 
 impl<'a> Join for NameTable<'a> {
@@ -213,5 +225,23 @@ impl<'a> Join for NameTable<'a> {
             glyphs: join_glyphs(alloc, &self.glyphs, &other.glyphs)?,
             sought: self.sought.join(alloc, &other.sought)?,
         })
+    }
+
+    #[tactic(auto, using(t1_algebra::proofs::Tables::sought_agree))]
+    fn join_if_agreed(
+        &self,
+        alloc: Global,
+        other: &NameTable<'a>,
+    ) -> Result<Option<NameTable<'a>>, AllocError> {
+        self.proof_states();
+        other.proof_states();
+        if self.component_conflict(other).is_some() {
+            return Ok(None);
+        }
+        let Some(glyphs) = join_same_glyphs(alloc, &self.glyphs, &other.glyphs)? else {
+            return Ok(None);
+        };
+        let sought = self.sought.join(alloc, &other.sought)?;
+        Ok(Some(NameTable { glyphs, sought }))
     }
 }

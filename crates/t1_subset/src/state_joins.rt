@@ -2,7 +2,7 @@
 
 ghost use Rattle.std.specs.Prelude.{◌≡◌, ◌↔◌, ◌+◌, ℕ, List, [], IsTrue};
 ghost use Rattle.std.specs.FinMap as maps;
-ghost use Rattle.t1_join.specs.TableMeaning.{joined_table};
+ghost use Rattle.t1_join.specs.TableMeaning.{TablesAgree, joined_table};
 ghost use Rattle.t1_font.specs.FontValue.{total};
 ghost use Rattle.t1_font.specs.FontModel.{clamp};
 ghost use Rattle.t1_algebra.specs.StateTables.{StatesFit, behind_mark, code_part, name_part, subr_part, subr_adds, states_weight, states_glyphs, joined_states};
@@ -48,12 +48,33 @@ impl<'a> States<'a> {
             .extent_with(&other.names, with_subrs, self.shared.len_iv())
     }
 
+    /// The same, by the joined states of the names.
+    fn extent_by(&self, other: &States<'a>, names: &NameTable<'a>) -> Extent
+        requires { names.now ≡ joined_table (name_part self.now) (name_part other.now) }
+        ensures weight { result.weight
+            ≡ clamp (states_weight (joined_states self.now other.now)) }
+        ensures count { result.count
+            ≡ clamp (states_glyphs (joined_states self.now other.now)) }
+    {
+        let with_subrs = with_subrs(self.shared.weight(), &self.subrs, &other.subrs);
+        names.extent(with_subrs, self.shared.len_iv())
+    }
+
     /// Whether a font of the joined states is within the limits.
     fn fits_with(&self, other: &States<'a>) -> bool
         requires { PartsAgree self.now other.now }
         ensures { IsTrue result ↔ StatesFit (joined_states self.now other.now) }
     {
         let extent = self.joint_extent(other);
+        extent.weight <= WEIGHT_LIMIT && extent.count <= COUNT_LIMIT as u64
+    }
+
+    /// The same, by the joined states of the names.
+    fn fits_by(&self, other: &States<'a>, names: &NameTable<'a>) -> bool
+        requires { names.now ≡ joined_table (name_part self.now) (name_part other.now) }
+        ensures { IsTrue result ↔ StatesFit (joined_states self.now other.now) }
+    {
+        let extent = self.extent_by(other, names);
         extent.weight <= WEIGHT_LIMIT && extent.count <= COUNT_LIMIT as u64
     }
 
@@ -86,14 +107,23 @@ impl<'a> States<'a> {
         self.names.into_glyphs()
     }
 
+    /// Whether the fonts share what they have to, and the states of codes and Subrs join.
+    fn numbers_agree(&self, other: &States<'a>) -> bool
+        ensures { IsTrue result
+            ↔ ((self.now.0 ≡ other.now.0)
+            × TablesAgree (code_part self.now) (code_part other.now)
+            × TablesAgree (subr_part self.now) (subr_part other.now)) }
+    {
+        self.shared.is_same(&other.shared)
+            && self.codes().agrees(other.codes())
+            && self.subrs().agrees(other.subrs())
+    }
+
     /// Whether the fonts share what they have to, and all states join.
     fn parts_agree(&self, other: &States<'a>) -> bool
         ensures { IsTrue result ↔ PartsAgree self.now other.now }
     {
-        self.shared.is_same(&other.shared)
-            && self.codes().agrees(other.codes())
-            && self.names().agrees(other.names())
-            && self.subrs().agrees(other.subrs())
+        self.numbers_agree(other) && self.names().agrees(other.names())
     }
 
     /// States that these states are within the limits. It does nothing when it runs: proofs call it.
@@ -130,5 +160,28 @@ impl<'a> Join for States<'a> {
             names: self.names.join(alloc, &other.names)?,
             subrs: self.subrs.join(alloc, &other.subrs)?,
         })
+    }
+
+    fn join_if_agreed(
+        &self,
+        alloc: Global,
+        other: &States<'a>,
+    ) -> Result<Option<States<'a>>, AllocError> {
+        self.fits();
+        if !self.numbers_agree(other) {
+            return Ok(None);
+        }
+        let Some(names) = self.names().join_if_agreed(alloc, other.names())? else {
+            return Ok(None);
+        };
+        if !self.fits_by(other, &names) {
+            return Ok(None);
+        }
+        Ok(Some(States {
+            shared: self.shared.copy(alloc)?,
+            codes: self.codes.join(alloc, &other.codes)?,
+            names,
+            subrs: self.subrs.join(alloc, &other.subrs)?,
+        }))
     }
 }
