@@ -7,11 +7,11 @@ use Rattle.t1_join.specs.{TableLaws.{get_joined, same_table}}
 use Rattle.t1_font.specs.{FontModel.{names_in, word_of}, FontValue.{FontValue, Named, total, subr_weight, weight, weight_limit, count_limit}}
 use Rattle.t1_font.proofs.{CutEntries.{entries-retain}, MapLemmas.{entries_all, get-retain, length_total}}
 use Rattle.t1_algebra.specs.States.{named_at, IsWithin, is_sought, subr_state, name_state, Compatible, Join, joined_font}
-use Rattle.t1_algebra.specs.StateTables.{StatesValue, numbered, name_meaning, behind_mark, used_subrs, all_components, name_states, states_of, subr_adds, name_adds, name_counts, states_weight, states_glyphs, StatesFit, name_part, subr_part, joined_states, PartsJoin, StatesAgree, StatesJoin, code_part}
+use Rattle.t1_algebra.specs.StateTables.{StatesValue, numbered, name_meaning, behind_mark, AreSought, used_subrs, all_components, name_states, states_of, subr_adds, name_adds, name_counts, states_weight, states_glyphs, StatesFit, name_part, subr_part, joined_states, PartsJoin, StatesAgree, StatesJoin, code_part}
 use Rattle.t1_algebra.specs.StateLaws.{PartsAgree, parts_laws}
 use Rattle.t1_algebra.proofs.{Words.{nat_cmp_total, nat_list_cmp_total, nat_cmp-IsAntisymmetric, Interpreter, same_bytes}, Shares.{same_indices, sharing}, Maps.{get-valued}}
 use Rattle.t1_algebra.proofs.{Sets.{any_flat_map, name_same, cases}, JoinedStates.{subr_joined, name_joined, present_joined}, Subsets.{stub_is, same_font, same_encoding, code_joined}}
-use Rattle.t1_algebra.proofs.Sums.{total_kept, total_mapped, names_total}
+use Rattle.t1_algebra.proofs.Sums.{total_kept, total_mapped, names_total, names_count}
 use Rattle.t1_algebra.proofs.Tables.{get-numbered, entries-numbered, get-name, charstring_in, Shows, cases_key, codes_shown, shown_agree, agree_shown, shown_joined, to_agree}
 
 -- ---- states that agree
@@ -37,6 +37,9 @@ module _ {O : Type 0} (m : Interpreter O) (f : FontValue) where
 
   get-sought : (n : List ℕ) → maps.get sought n ≡ cond (is_sought m f n) (Some []) None
   get-sought n = get-valued nat_list_cmp_total [] (all_components m f) n ∙ ap (λ b. cond b (Some []) None) (any_flat_map (same_bytes n) (λ n. named_at m f (maps.get f.glyphs n)) (names_in f.glyphs))
+
+  are_sought : AreSought sought
+  are_sought n v is = grind (cases, is, get-sought n)
 
   -- the table of names has the state of each name
   pub get-names : (n : List ℕ) → maps.get (name_states m f) n ≡ meant (name_state m f n)
@@ -95,21 +98,17 @@ module _ {O : Type 0} (m : Interpreter O) (f : FontValue) where
       ∙ ap (total (λ i c. length c - 1)) (entries-retain nat_cmp_total nat_cmp-IsAntisymmetric f.subrs (λ i. is_some (subr_state m f i))) ∙ nothing in
       total_apart f.shell.len_iv (maps.entries f.subrs) ∙ (λ i. sym (length-map (maps.entries f.subrs) (λ e. e.0)) i * (129 + f.shell.len_iv) + sym added i)
 
-  -- sought names add nothing to a sum over names
-  in_all : (w : Meaning → Meaning → ℕ) → ((n : Meaning) → w n [] ≡ 0) → total w (maps.entries (name_states m f)) ≡ total (λ n c. w n (name_meaning (Some c))) (maps.entries f.glyphs)
-  in_all w h = names_total f.glyphs (sought m f) (λ n v is. grind (cases, is, get-sought m f n)) w h
-
   -- the charstrings among the states of a font's names are those of its glyphs
   pub glyphs_among : (g : Named) → ((n : List ℕ) → maps.get g n ≡ behind_mark (maps.get (name_states m f) n)) → g ≡ f.glyphs
-  glyphs_among g h = maps.same_map nat_list_cmp_total name_same g f.glyphs (λ n. h n ∙ charstring_in f.glyphs (sought m f) (λ n v is. grind (cases, is, get-sought m f n)) (name_states m f) refl n)
+  glyphs_among g h = maps.same_map nat_list_cmp_total name_same g f.glyphs (λ n. h n ∙ charstring_in f.glyphs (sought m f) (are_sought m f) (name_states m f) refl n)
 
   -- the weight of a font's states is the weight of the font
   pub weight_is : states_weight (states_of m f) ≡ weight f
-  weight_is = let subrs = subrs_weigh in let glyphs = in_all (name_adds f.shell.len_iv) (λ n. refl) in omega (arith, subrs, glyphs)
+  weight_is = let subrs = subrs_weigh in let glyphs = names_total f.glyphs (sought m f) (are_sought m f) (name_adds f.shell.len_iv) (λ n. refl) in omega (arith, subrs, glyphs)
 
   -- a font's states count the glyphs of the font
   pub glyphs_are : states_glyphs (states_of m f) ≡ maps.len f.glyphs
-  glyphs_are = in_all name_counts (λ n. refl) ∙ length_total (maps.entries f.glyphs) ∙ sym (maps.len-entries f.glyphs)
+  glyphs_are = names_count f.glyphs (sought m f) (are_sought m f)
 
   -- a font is within the limits exactly if its states are
   pub fits : IsWithin f ↔ StatesFit (states_of m f)
@@ -148,10 +147,6 @@ module _ (x y : StatesValue) where
     λ h. (parts_laws.only_where x y h.0 h.1.0, subst StatesFit (is_joined h.0 h.1.0) (⊎_elim (λ a. a) (λ b. subst StatesFit b.0 w) h.1.1)),
     λ h. let z = parts_laws.some_answer x y h.0 in (z.0, (z.1, inl (subst StatesFit (sym (is_joined z.0 z.1)) h.1))),
   )
-
--- the states of both, made in memory of states that agree, are within the limits
-pub seen_fit : (v w x y : StatesValue) → v ≡ x → w ≡ y → StatesFit v → StatesAgree x y → (z : StatesValue) → z ≡ joined_states v w → StatesFit z
-seen_fit v w x y e k h a z is = subst StatesFit (sym (is ∙ (λ i. joined_states (e i) (k i)))) ((agree_by_parts x y (subst StatesFit e h)).0 a).1
 
 -- ---- a font is determined by its states
 

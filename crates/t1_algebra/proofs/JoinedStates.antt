@@ -35,10 +35,6 @@ font_back m f g c = same_font (joined_font m f g) (joined_font m g f) c.shells
 -- ---- the left side runs as before
 
 module _ {O : Type 0} (m : Interpreter O) (f g : FontValue) where
-  -- the join has each glyph of the first font
-  pub left_glyph : (n c : List ℕ) → maps.get f.glyphs n ≡ Some c → maps.get (joined_font m f g).glyphs n ≡ Some c
-  left_glyph n c h = glyph_in_join m f g n ∙ ap (λ x. joined x (maps.get g.glyphs n)) h
-
   -- the join has entries at the indices of the first font
   pub present_joined : (i : ℕ) → maps.contains_key (joined_font m f g).subrs i ≡ maps.contains_key f.subrs i
   present_joined i = grind (cases, subr_in_join m f g i)

@@ -1,7 +1,7 @@
 -- Tables of codes, of Subrs and of names: what stands at each key, and how they join.
 use Rattle.std.proofs.Common.{◌≡◌, ℕ, Bor, option_map, Bool, true, false, not, cond, T, List, [], ◌∷◌, refl, sym, ◌∙◌, ap, arith, Option, Some, None, is_some, Less, Equal, Greater, ◌&&◌, map, subst, true≢false, nat_cmp, is_lt, ◌↔◌, inl, inr, ◌⊎◌}
 use Rattle.std.specs.{Ordering.{is_eq, ordering_then}, FinMap.{find, is_sorted}, FinMap.Entries.{below_all}, Option.{option_copied}}
-use Rattle.std.proofs.lemmas.Bool.{cases_Bool}
+use Rattle.std.proofs.lemmas.{Bool.{cases_Bool}, Option.{MatchOption-at_none, MatchOption-at_some}}
 use Rattle.std.specs.FinMap as maps
 use Rattle.std.specs.Prelude.{MatchOption}
 use Rattle.std.specs.Str.{bytes_eq}
@@ -185,10 +185,6 @@ module _ (p : List ℕ → Bool) where
   pub none_is : (r : Option (Bor (List ℕ))) (b : Bool) → is_some r ≡ not b → IsLowest name_cmp p (option_map (λ n. n.now) r) → ((n : List ℕ) → p n ≡ false) → b ≡ true
   none_is r b e h k = grind (cases, e, h, k)
 
--- if a name is lacking, the tables don't agree
-pub lacking : (t u : TableMeaning) → AreNameStates t → AreNameStates u → (r : Option (Bor (List ℕ))) → is_some r ≡ true → IsLowest name_cmp (λ n. one_lacks (maps.get t n) (maps.get u n)) (option_map (λ n. n.now) r) → ¬ TablesAgree t u
-lacking t u a b r some low k = true≢false (sym (none_is _ r false some low ((names_agree t u a b).0 k).1))
-
 module _ (g : Named) (s : TableMeaning) (are : AreSought s) (t : TableMeaning) (is : names_table g s ≡ t) (h : Named) (r : TableMeaning) (seek : AreSought r) (u : TableMeaning) (so : names_table h r ≡ u) where
   -- what a pass over both tables of glyphs meets is the lowest name at which the states are charstrings that differ
   pub lowest_differing : (q : Option (List ℕ)) → q ≡ first_met name_cmp bytes_eq (maps.entries g) (maps.entries h) → IsLowest name_cmp (λ n. charstrings_differ (maps.get t n) (maps.get u n)) q
@@ -204,24 +200,19 @@ module _ (g : Named) (s : TableMeaning) (are : AreSought s) (t : TableMeaning) (
       let merges = get-merged nat_list_cmp_total name_same g h n in
       grind (cases, get-name j k n, ej, ek, merges, get_joined s r n, get_joined t u n, at g s are t is n, at h r seek u so n, a n, are n, same_meaning-true))
 
-  agree_exactly : TablesAgree t u ↔ (((n : Meaning) → charstrings_differ (maps.get t n) (maps.get u n) ≡ false) × ((n : Meaning) → one_lacks (maps.get t n) (maps.get u n) ≡ false))
-  agree_exactly = names_agree t u (state_in g s are t is) (state_in h r seek u so)
-
   -- what one pass that joins both tables of glyphs answers
   abbrev pub Passed : Option Named → Type 0
   Passed o = MatchOption o (is_some (first_met name_cmp bytes_eq (maps.entries g) (maps.entries h)) ≡ true) (λ m. (m ≡ merged g h) × (first_met name_cmp bytes_eq (maps.entries g) (maps.entries h) ≡ None))
 
   -- if it answers nothing, the tables don't agree
   pub not_passed : (o : Option Named) → o ≡ None → Passed o → ¬ TablesAgree t u
-  not_passed None e m k = not_none _ _ m (lowest_differing _ refl) (agree_exactly.0 k).0
-  not_passed (Some j) e m k = cc
+  not_passed o e m k = not_none _ _ (MatchOption-at_none _ _ e m) (lowest_differing _ refl) ((names_agree t u (state_in g s are t is) (state_in h r seek u so)).0 k).0
 
   -- if it answers a table and no name is lacking, the tables agree, and with the joined sought names it is the joined table
   pub passed : (o : Option Named) (j : Named) → o ≡ Some j → Passed o → ((n : Meaning) → one_lacks (maps.get t n) (maps.get u n) ≡ false) → (k : TableMeaning) → k ≡ joined_table s r → TablesAgree t u × (names_table j k ≡ joined_table t u)
-  passed None j e m free k is = cc
-  passed (Some i) j e m free k is =
-      let a = agree_exactly.1 (lowest_differing None (sym m.1), free) in let same : i ≡ j = cc in
-      (a, names_join j k (sym same ∙ m.0) is a)
+  passed o j e m free k so_far =
+      let p = MatchOption-at_some _ _ j e m in let a = (names_agree t u (state_in g s are t is) (state_in h r seek u so)).1 (lowest_differing None (sym p.1), free) in
+      (a, names_join j k p.0 so_far a)
 
   -- joined sought names are sought names
   pub are_joined : (k : TableMeaning) → k ≡ joined_table s r → AreSought k

@@ -39,10 +39,6 @@ module _ (text part : List ℕ) (n : ℕ) (s : StandsIn text part n) where
   sizes : length text ≡ length s.before + (length part + n)
   sizes = omega (arith, ap length s.whole, length-append s.before (part ++ s.after), length-append part s.after, s.size)
 
-  -- a part and what stands behind it are within the text
-  pub stands_within : length part + n ≤ length text
-  stands_within = omega (arith, sizes)
-
   -- the bytes at the place of a part are the part
   pub placed_is : (p : Place) → p.len ≡ length part → p.behind ≡ n → placed text p ≡ part
   placed_is p len at =

@@ -129,14 +129,6 @@ decimal_more k v d (b ∷ bs) after e =
     let c = cond_some (is_digit b) (b - 48, bs) (d, after) (sym e) in
     subst (λ (y : ℕ × List ℕ). decimal_after (k + 1) (v * 10 + y.0) y.1 ≡ decimal_after k v (b ∷ bs)) c.1 (digit_first k v b bs c.0)
 
--- ten digits are too many
-pub decimal_too_long : (v : ℕ) (bytes : List ℕ) → decimal_after 10 v bytes ≡ None
-decimal_too_long v bytes =
-    let w = take (prefix_len is_regular bytes) bytes in
-    let low : leb (10 + length w) 9 ≡ false = lt-leb (10 + length w) 9 (omega arith) in
-    let high : leb 1 (10 + length w) ≡ true = le-leb 1 (10 + length w) (omega arith) in
-    rw (low, high) refl
-
 and_false : (b : Bool) → (b && false) ≡ false
 and_false true = refl
 and_false false = refl
@@ -156,13 +148,6 @@ decimal_breaks k v (b ∷ bs) e h = rw (← h, one-add, not_digit b bs e, and_fa
 word_ends : (k v : ℕ) (bytes : List ℕ) → regular_comes bytes ≡ false → decimal_after k v bytes ≡ word_after k v [] bytes
 word_ends k v [] h = refl
 word_ends k v (b ∷ bs) h = rw h refl
-
--- the word ends
-pub decimal_ends : (k v : ℕ) (bytes : List ℕ) → regular_comes bytes ≡ false → 0 < k → k ≤ 9 → decimal_after k v bytes ≡ Some (v, bytes)
-decimal_ends k v bytes h some few =
-    let low : leb 1 (k + 0) ≡ true = le-leb 1 (k + 0) (omega arith) in
-    let high : leb (k + 0) 9 ≡ true = le-leb (k + 0) 9 (omega arith) in
-    word_ends k v bytes h ∙ rw (low, high) refl
 
 -- no digit comes
 pub decimal_empty : (k v : ℕ) (bytes : List ℕ) → k ≡ 0 → None ≡ first_digit bytes → None ≡ decimal_after k v bytes

@@ -21,16 +21,6 @@ use Rattle.t1_join.specs.ListingText.{bytes_of, spelled}
 abbrev pub SpellsBytes : List ℕ → Type 0
 SpellsBytes d = is_some (bytes_of d) ≡ true
 
--- unwrapping gives the value that is there
-pub some_again : {A : Type 0} (o : Option A) (x : A) → is_some o ≡ true → Some (unwrap_or o x) ≡ o
-some_again (Some y) x h = refl
-some_again None x h = cc h
-
--- what is not there is None
-pub none_there : {A : Type 0} (o : Option A) → is_some o ≡ false → ◌≡◌ {A = Option A} None o
-none_there None h = refl
-none_there (Some y) h = cc h
-
 -- they decode
 decodes : (d : List ℕ) → SpellsBytes d → (v : List ℕ) × (decode_of d ≡ Ok v) × (spelled d ≡ v)
 decodes d h = by (nat_le (length d) 131070) refl (decode_of d) refl h
@@ -48,18 +38,6 @@ pub decoded : (d v : List ℕ) → SpellsBytes d → decode_of d ≡ Ok v → v 
 decoded d v h e = let k = decodes d h in ok_same v k.0 (sym e ∙ k.1) ∙ sym k.2
 
 -- ---- which digits do
-
--- more than 131,070 digits spell no value
-pub long_spells_none : (d : List ℕ) → nat_le (length d) 131070 ≡ false → is_some (bytes_of d) ≡ false
-long_spells_none d h = rw h refl
-
--- digits whose number is odd spell no value
-pub odd_spells_none : (d : List ℕ) → length d % 2 ≡ 1 → is_some (bytes_of d) ≡ false
-odd_spells_none d h = by (nat_le (length d) 131070)
-  where
-    by : (b : Bool) → is_some (cond b (result_ok (decode_of d)) None) ≡ false
-    by true = rw (decode_of-odd d h) refl
-    by false = refl
 
 -- ---- digits in lower case
 

@@ -36,10 +36,6 @@ pub record IsReading (text : List ℕ) (l : ListingMeaning) (line : ℕ) (rest :
   pub goes_on : entries_of text ≡ read_lines line seen (lines_of rest).0 (lines_of rest).1
   pub counted : line + length rest ≤ length text + 1
 
--- before the first line the listing is empty
-pub reading_starts : (text : List ℕ) (l : ListingMeaning) → l ≡ listing_from [] → IsReading text l 1 text
-reading_starts text l e = record { seen = []; listing = e; goes_on = refl; counted = omega arith }
-
 -- what the parts of a split are
 pub shorter : (c : ℕ) (xs : List ℕ) (p : List ℕ × List ℕ) → split_at c xs ≡ Some p → length p.1 + 1 ≤ length xs
 shorter c [] p h = cc
@@ -108,10 +104,6 @@ module _ (text : List ℕ) (l : ListingMeaning) (line : ℕ) (rest : List ℕ) (
   module _ (whole : split_at 10 rest ≡ None) where
     last : entries_of text ≡ at_end line r.seen rest
     last = r.goes_on ∙ ap (λ p. read_lines line r.seen p.0 p.1) (lines-split rest ∙ ap (first_line rest) whole)
-
-    -- where nothing is left, the text spells the listing so far
-    pub reading_ends : length rest ≡ 0 → listing_of text ≡ Ok l
-    reading_ends e = ap listing_result (last ∙ ended line r.seen rest e) ∙ ap Ok (sym r.listing)
 
     -- a last line without a line feed is a bad line
     pub no_line_feed : (length rest ≡ 0 → ⊥) → listing_of text ≡ Err (BadLine line)

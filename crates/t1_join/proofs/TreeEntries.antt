@@ -94,7 +94,3 @@ module _ {K V M X : Type 0} (f : K → M) (g : V → X) (R : K → K → Orderin
   length_entries : (es : List (K × V)) → length (entries_by f g es) ≡ length es
   length_entries [] = refl
   length_entries (e ∷ es) = ap suc (length_entries es)
-
-  -- the map has as many keys as there are entries
-  pub len_is : (es : List (K × V)) → IsStrictlySortedBy R (keys_of es) → fin.len {R = S} (fin.from_entries (entries_by f g es)) ≡ length es
-  len_is es h = fin.len-entries {R = S} (fin.from_entries (entries_by f g es)) ∙ (ap length (sym (entries_are es h)) ∙ length_entries es)

@@ -44,10 +44,10 @@ fn join_next<'a>(
     if let Err(conflict) = tables_conflict(alloc, left, right, callers) {
         return Err(conflict);
     }
-    if !left.agrees(right) {
-        return Err(Conflict::Limit);
+    match left.join_if_agreed(alloc, right)? {
+        Some(both) => Ok(both),
+        None => Err(Conflict::Limit),
     }
-    Ok(left.join(alloc, right)?)
 }
 
 /// The joined states of fonts, or the first conflict from left to right.

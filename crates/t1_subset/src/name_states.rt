@@ -1,12 +1,12 @@
 //! The states of names: the glyphs of a font, which are lent, and the components that its glyphs seek.
 
-ghost use Rattle.std.specs.Prelude.{◌≡◌, ◌+◌, ℕ, List, IfOk, Some, None, is_some, [], cond};
+ghost use Rattle.std.specs.Prelude.{◌≡◌, ◌↔◌, ◌+◌, ℕ, List, IfOk, IsTrue, MatchOption, Some, None, is_some, [], cond};
 ghost use Rattle.std.specs.Option.{option_map};
 ghost use Rattle.std.specs.FinMap as maps;
 ghost use Rattle.t1_font.specs.FontValue.{name_cmp, total};
 ghost use Rattle.t1_font.specs.FontModel.{clamp};
 ghost use Rattle.t1_join.specs.Meaning.{Meaning};
-ghost use Rattle.t1_join.specs.TableMeaning.{TablesAgree, joined_table};
+ghost use Rattle.t1_join.specs.TableMeaning.{TablesAgree, TablesJoin, joined_table};
 ghost use Rattle.t1_algebra.specs.Profile.{profile};
 ghost use Rattle.t1_algebra.specs.StateTables.{name_states, AreNameStates, behind_mark, name_adds, name_counts};
 ghost use Rattle.t1_subset.specs.Callers.{seeker_of};
@@ -16,7 +16,7 @@ ghost use Rattle.t1_algebra.specs.Searches.{first_where, IsLowest};
 use crate::callers::{Seekers, smaller};
 use std::alloc::{AllocError, Global};
 use std::marker::Model;
-use t1_font::{Extent, Font, Named, join_glyphs, join_same_glyphs};
+use t1_font::{Extent, Font, Named, join_same_glyphs};
 use t1_join::{Join, Kept, Table};
 
 /// That a name is sought. It has nothing else to say.
@@ -197,42 +197,26 @@ impl<'a> NameTable<'a> {
             count: self.glyphs.len() as u64,
         }
     }
-}
 
-impl<'a> Join for NameTable<'a> {
-    ghost use Rattle.t1_join.specs.TableMeaning.{TableMeaning, TablesAgree, TablesJoin};
-    ghost use Rattle.t1_join.specs.TableLaws.{table_laws};
-
-    ghost Meaning = { TableMeaning };
-
-    ghost meaning = { λ t. t };
-
-    ghost Agrees = { TablesAgree };
-
-    ghost Joins = { TablesJoin };
-
-    ghost laws = { table_laws };
-
-    fn agrees(&self, other: &NameTable<'a>) -> bool {
+    /// Whether the states of both tables join.
+    pub(crate) fn agrees(&self, other: &NameTable<'a>) -> bool
+        ensures { IsTrue result ↔ TablesAgree self.now other.now }
+    {
         self.proof_states();
         other.proof_states();
         self.glyph_conflict(other).is_none() && self.component_conflict(other).is_none()
     }
 
-    #[tactic(auto, using(t1_algebra::proofs::Tables::sought_agree, t1_algebra::proofs::Tables::names_join))]
-    fn join(&self, alloc: Global, other: &NameTable<'a>) -> Result<NameTable<'a>, AllocError> {
-        Ok(NameTable {
-            glyphs: join_glyphs(alloc, &self.glyphs, &other.glyphs)?,
-            sought: self.sought.join(alloc, &other.sought)?,
-        })
-    }
-
+    /// The joined states of both tables, or `None` if they don't join.
     #[tactic(auto, using(t1_algebra::proofs::Tables::sought_agree))]
-    fn join_if_agreed(
+    pub(crate) fn join_if_agreed(
         &self,
         alloc: Global,
         other: &NameTable<'a>,
-    ) -> Result<Option<NameTable<'a>>, AllocError> {
+    ) -> Result<Option<NameTable<'a>>, AllocError>
+        ensures { IfOk result
+            (λ o. MatchOption o (¬ TablesAgree self.now other.now) (TablesJoin self.now other.now)) }
+    {
         self.proof_states();
         other.proof_states();
         if self.component_conflict(other).is_some() {

@@ -1,9 +1,9 @@
 //! The join of states.
 
-ghost use Rattle.std.specs.Prelude.{◌≡◌, ◌↔◌, ◌+◌, ℕ, List, [], IsTrue};
+ghost use Rattle.std.specs.Prelude.{◌≡◌, ◌↔◌, ◌≤◌, ◌+◌, ℕ, List, [], IsTrue};
 ghost use Rattle.std.specs.FinMap as maps;
 ghost use Rattle.t1_join.specs.TableMeaning.{TablesAgree, joined_table};
-ghost use Rattle.t1_font.specs.FontValue.{total};
+ghost use Rattle.t1_font.specs.FontValue.{total, weight_limit, count_limit};
 ghost use Rattle.t1_font.specs.FontModel.{clamp};
 ghost use Rattle.t1_algebra.specs.StateTables.{StatesFit, behind_mark, code_part, name_part, subr_part, subr_adds, states_weight, states_glyphs, joined_states};
 ghost use Rattle.t1_algebra.specs.StateLaws.{PartsAgree};
@@ -32,6 +32,13 @@ fn with_subrs<'a>(before: u64, own: &Table<u16, &'a [u8]>, other: &Table<u16, &'
         weight = weight.saturating_add(subr_adds(body));
     }
     weight
+}
+
+/// Whether a font that weighs this and has as many glyphs is within the limits.
+fn is_within(extent: Extent) -> bool
+    ensures { IsTrue result ↔ ((extent.weight ≤ weight_limit) × (extent.count ≤ count_limit)) }
+{
+    extent.weight <= WEIGHT_LIMIT && extent.count <= COUNT_LIMIT as u64
 }
 
 impl<'a> States<'a> {
@@ -65,8 +72,7 @@ impl<'a> States<'a> {
         requires { PartsAgree self.now other.now }
         ensures { IsTrue result ↔ StatesFit (joined_states self.now other.now) }
     {
-        let extent = self.joint_extent(other);
-        extent.weight <= WEIGHT_LIMIT && extent.count <= COUNT_LIMIT as u64
+        is_within(self.joint_extent(other))
     }
 
     /// The same, by the joined states of the names.
@@ -74,8 +80,7 @@ impl<'a> States<'a> {
         requires { names.now ≡ joined_table (name_part self.now) (name_part other.now) }
         ensures { IsTrue result ↔ StatesFit (joined_states self.now other.now) }
     {
-        let extent = self.extent_by(other, names);
-        extent.weight <= WEIGHT_LIMIT && extent.count <= COUNT_LIMIT as u64
+        is_within(self.extent_by(other, names))
     }
 
     /// The states of codes.
@@ -154,12 +159,10 @@ impl<'a> Join for States<'a> {
     }
 
     fn join(&self, alloc: Global, other: &States<'a>) -> Result<States<'a>, AllocError> {
-        Ok(States {
-            shared: self.shared.copy(alloc)?,
-            codes: self.codes.join(alloc, &other.codes)?,
-            names: self.names.join(alloc, &other.names)?,
-            subrs: self.subrs.join(alloc, &other.subrs)?,
-        })
+        match self.join_if_agreed(alloc, other)? {
+            Some(joined) => Ok(joined),
+            None => unreachable!(),
+        }
     }
 
     fn join_if_agreed(

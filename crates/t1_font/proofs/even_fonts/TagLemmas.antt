@@ -260,7 +260,3 @@ module _ (head : List ℕ) (x : (List ℕ × List ℕ) × List ℕ) (e : Some x 
   -- where it would begin an Encoding
   pub encoding_there : (name : List ℕ) → name ≡ untagged x.1 → begins_encoding name ≡ true → untagged_head head ≡ head
   encoding_there name is h = named_is ∙ ap (λ b. cond b head (take (length head - length x.1) head ++ untagged x.1)) (ap begins_encoding (sym is) ∙ h)
-
-  -- where it is left out
-  pub tags_there : (before name : List ℕ) → name ≡ untagged x.1 → before ≡ take (length head - length x.1) head → begins_encoding name ≡ false → before ++ name ≡ untagged_head head
-  tags_there before name is at h = (λ i. at i ++ is i) ∙ sym (named_is ∙ ap (λ b. cond b head (take (length head - length x.1) head ++ untagged x.1)) (ap begins_encoding (sym is) ∙ h))

@@ -1,5 +1,5 @@
 -- Merges of fonts are joins of their states.
-use Rattle.std.proofs.Common.{◌≡◌, ◌<◌, ℕ, List, [], ◌∷◌, map, length, refl, sym, ◌∙◌, ap, subst, arith, inl, inr, Some, Result, Ok, Err, IfErr}
+use Rattle.std.proofs.Common.{◌≡◌, ◌<◌, ℕ, List, [], ◌∷◌, map, length, refl, sym, ◌∙◌, ap, subst, arith, inl, inr, Option, Some, option_map, Result, Ok, Err, IfErr}
 use Rattle.std.proofs.lemmas.List.{map-id}
 use Rattle.std.specs.List.{AllByRecursion}
 use Rattle.std.specs.FinMap as maps
@@ -10,15 +10,16 @@ use Rattle.t1_font.specs.WriteLaws.{SameKind}
 use Rattle.t1_font.specs.declared.parts.PartsFault.TheVariants as parts
 use Rattle.t1_algebra.specs.{Profile.{profile}, States.{IsWithin, Join, joined_font}, Groupings.{Merges}, StateTables.{StatesValue, StatesJoin, states_of, name_part, behind_mark}, Merges.{ComesTo, ComesToStates}}
 use Rattle.t1_algebra.proofs.{Fonts.{font_within, fonts_within}, JoinedStates.{joined_are_entries}, FontStates.{glyphs_among}, ManyMerges.{each_font}, Orders.{grouped, merges_by_states}}
-use Rattle.t1_subset.specs.{Refusals.{of_parts}, declared.conflict.Conflict.{Conflict as Refusal}, declared.conflict.Conflict.TheVariants.{Memory}, Merger.{IsRefused}}
+use Rattle.t1_subset.specs.{Refusals.{of_parts}, declared.conflict.Conflict.{Conflict as Refusal}, declared.conflict.Conflict.TheVariants.{Memory}, Merger.{IsRefused}, declared.callers.Callers.{Callers}, Callers.{AreNoted, fonts_of}}
+use Rattle.t1_subset.proofs.state_tables.Walks.{all_fonts}
 
 -- if the code answers a join of the states of fonts, they come to a font of these states
-pub joined_come : (fs : List FontValue) → 0 < length fs → AllByRecursion IsFont fs → (ss : List StatesValue) → ss ≡ map (states_of profile) fs → (v : StatesValue) → IsJoinOf StatesJoin (map (λ s. s) ss) (Some v) → ComesToStates fs v
-joined_come [] l w ss is v h = absurd (omega arith)
-joined_come (f ∷ fs) l w ss is v h =
-    let t = from_left (one f) fs in
+pub joined_come : (cs : List Callers) → 0 < length cs → AreNoted cs → (ss : List StatesValue) → ss ≡ map (states_of profile) (fonts_of cs) → (o : Option StatesValue) (v : StatesValue) → o ≡ Some v → IsJoinOf StatesJoin (map (λ s. s) ss) (option_map (λ s. s) o) → ComesToStates (fonts_of cs) v
+joined_come [] l n ss is o v e h = absurd (omega arith)
+joined_come (c ∷ cs) l n ss is o v e h =
+    let f = c.font.now in let fs = fonts_of cs in let t = from_left (one f) fs in
     let uses = uses_its (grouped profile t) (map (λ s. s) ss) (leaves_mapped (states_of profile) t ∙ ap (map (states_of profile)) (leaves_from_left (one f) fs) ∙ sym (map-id ss ∙ is)) in
-    let r = merges_by_states profile t (fonts_within t (each_font f fs w)) v (h.1 (grouped profile t) uses) in
+    let r = merges_by_states profile t (fonts_within t (each_font f fs (all_fonts (c ∷ cs) n))) v ((subst (λ o. IsJoinOf StatesJoin (map (λ s. s) ss) (option_map (λ s. s) o)) e h).1 (grouped profile t) uses) in
     (r.0, r.1, r.2)
 
 -- ---- from left to right

@@ -1,11 +1,12 @@
-use Rattle.std.proofs.Common.{sym, ◌∙◌, refl, true}
+use Rattle.std.proofs.Common.{sym, ◌∙◌, refl, true, false, true≢false}
 use Rattle.std.specs.FinMap as maps
 use Rattle.t1_algebra.specs.NameStates.{one_lacks}
-use Rattle.t1_algebra.proofs.Tables.{none_of, lacking, not_passed, passed, are_joined}
-use Rattle.t1_subset.proofs.name_states.NameTableJoin.join_if_agreed.Goals as goal
+use Rattle.t1_algebra.proofs.Tables.{names_agree, none_of, none_is, not_passed, passed, are_joined}
+use Rattle.t1_subset.proofs.name_states.NameTable.join_if_agreed.Goals as goal
 
 pub returns-then-is_some : goal.returns-then-is_some
-returns-then-is_some c = lacking c.args.self.now c.args.other.now c.proof_states.ensures c.proof_states-2.ensures c.component_conflict.result (sym c.is_some.ensures ∙ c.if-is_some.true) c.component_conflict.ensures
+returns-then-is_some c k =
+    true≢false (sym (none_is _ c.component_conflict.result false (sym c.is_some.ensures ∙ c.if-is_some.true) c.component_conflict.ensures ((names_agree _ _ c.proof_states.ensures c.proof_states-2.ensures).0 k).1))
 
 pub returns-in_default : goal.returns-in_default
 returns-in_default c = not_passed c.self.inside.glyphs c.self.inside.sought c.self.invariant _ c.self.view_is c.other.inside.glyphs c.other.inside.sought c.other.invariant _ c.other.view_is c.in_ok-glyphs.field-0 c.in_default.is c.in_ok-glyphs.ensures
