@@ -1,7 +1,8 @@
 //! Tables of glyphs, those of a source and those that were made, with ample memory.
 
 use super::cuts::{Cut, X, Y, large, lent_cut_font};
-use crate::{Font, Named, Source, join_glyphs, read};
+use super::file;
+use crate::{Font, Named, Source, join_glyphs, join_same_glyphs, read};
 use std::alloc::{AllocError, Global};
 use std::test::Fail;
 use t1_tiny::PFA;
@@ -45,7 +46,22 @@ fn join_has<'a>(
     Ok(names.as_slice() == want && has_all(&both, first) && has_all(&both, second))
 }
 
-/// Whether one pass over the tables of two fonts weighs, counts and compares them as their joined table says.
+/// Whether the tables of two fonts join in one pass to this table.
+fn join_same<'a>(
+    alloc: Global,
+    first: &Font<'a>,
+    second: &Font<'a>,
+    both: &Named<'a>,
+) -> Result<bool, AllocError> {
+    let Some(same) = join_same_glyphs(alloc, first.glyphs(), second.glyphs())? else {
+        return Ok(false);
+    };
+    let want = names(alloc, both)?;
+    let names = names(alloc, &same)?;
+    Ok(names.as_slice() == want.as_slice() && has_all(&same, first) && has_all(&same, second))
+}
+
+/// Whether one pass over the tables of two fonts weighs, counts, compares and joins them as their joined table says.
 fn passes_right<'a>(
     alloc: Global,
     first: &Font<'a>,
@@ -57,7 +73,8 @@ fn passes_right<'a>(
     Ok(
         extent.weight == both.weight(7, 4)
             && extent.count == both.len() as u64
-            && differing.is_none(),
+            && differing.is_none()
+            && join_same(alloc, first, second, &both)?,
     )
 }
 
@@ -128,6 +145,39 @@ pub fn tiny_is_right(alloc: Global) -> Result<bool, AllocError> {
 #[test]
 fn tables_of_tiny(rt: HostRuntime) -> Result<(), Fail> {
     assert!(rt; tiny_is_right(rt.alloc())?);
+    Ok(())
+}
+
+/// A font with `.notdef` and a glyph `X`, whose charstring is one byte.
+fn with_x(alloc: Global, charstring: &[u8]) -> Result<Vec<u8>, AllocError> {
+    let mut private = Vec::from_slice(alloc, b"/lenIV 0 def /CharStrings 2 dict dup begin\n")?;
+    private.extend_from_slice(b"/.notdef 1 RD x ND\n/X 1 RD ")?;
+    private.extend_from_slice(charstring)?;
+    private.extend_from_slice(b" ND\nend\nmark currentfile closefile\n")?;
+    let clear = b"/Encoding StandardEncoding def\ncurrentfile eexec\n";
+    file(alloc, clear, private.as_slice())
+}
+
+/// Whether the tables of two fonts don't join in one pass, and differ at `X`.
+fn differ_at_x(alloc: Global, first: &Source, second: &Source) -> Result<bool, AllocError> {
+    let first = first.font(alloc)?;
+    let second = second.font(alloc)?;
+    let joined = join_same_glyphs(alloc, first.glyphs(), second.glyphs())?;
+    let differing = first.glyphs().first_differing(second.glyphs());
+    Ok(joined.is_none() && differing == Some(b"X".as_slice()))
+}
+
+#[test]
+fn tables_with_two_glyphs_of_one_name(rt: HostRuntime) -> Result<(), Fail> {
+    let first = with_x(rt.alloc(), b"p")?;
+    let second = with_x(rt.alloc(), b"q")?;
+    match (
+        read(rt.alloc(), first.as_slice()),
+        read(rt.alloc(), second.as_slice()),
+    ) {
+        (Ok(first), Ok(second)) => assert!(rt; differ_at_x(rt.alloc(), &first, &second)?),
+        _ => assert!(rt; false, "not read"),
+    }
     Ok(())
 }
 
