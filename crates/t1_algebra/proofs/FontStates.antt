@@ -1,13 +1,13 @@
 -- The states of a font as tables: what stands at each key, what they weigh, that they join as the fonts do, and that they determine the font.
-use Rattle.std.proofs.Common.{◌≡◌, ◌↔◌, not, ◌≤◌, ℕ, ◌+◌, ◌*◌, ◌-◌, Bool, true, false, cond, List, [], ◌∷◌, map, length, refl, sym, ◌∙◌, ap, subst, true≢false, Option, Some, None, option_map, is_some, arith, inl, ⊎_elim}
+use Rattle.std.proofs.Common.{◌≡◌, ◌↔◌, not, ◌≤◌, ℕ, ◌+◌, ◌*◌, ◌-◌, true, cond, List, [], ◌∷◌, map, length, refl, sym, ◌∙◌, ap, subst, Option, Some, None, option_map, is_some, arith, inl, ⊎_elim}
 use Rattle.std.proofs.lemmas.List.{length-map}
 use Rattle.std.specs.FinMap as maps
-use Rattle.t1_join.specs.{Meaning.{Meaning, of_number}, Join.{State}, StateLaws.{same_meaning-self}, TableMeaning.{TableMeaning, TablesAgree, joined_table}}
+use Rattle.t1_join.specs.{Meaning.{of_number}, Join.{State}, StateLaws.{same_meaning-self}, TableMeaning.{TableMeaning, joined_table}}
 use Rattle.t1_join.specs.{TableLaws.{get_joined, same_table}}
 use Rattle.t1_font.specs.{FontModel.{names_in, word_of}, FontValue.{FontValue, Named, total, subr_weight, weight, weight_limit, count_limit}}
-use Rattle.t1_font.proofs.{CutEntries.{entries-retain}, MapLemmas.{entries_all, get-retain, length_total}}
+use Rattle.t1_font.proofs.{CutEntries.{entries-retain}, MapLemmas.{entries_all, get-retain}}
 use Rattle.t1_algebra.specs.States.{named_at, IsWithin, is_sought, subr_state, name_state, Compatible, Join, joined_font}
-use Rattle.t1_algebra.specs.StateTables.{StatesValue, numbered, name_meaning, behind_mark, AreSought, used_subrs, all_components, name_states, states_of, subr_adds, name_adds, name_counts, states_weight, states_glyphs, StatesFit, name_part, subr_part, joined_states, PartsJoin, StatesAgree, StatesJoin, code_part}
+use Rattle.t1_algebra.specs.StateTables.{StatesValue, numbered, name_meaning, behind_mark, AreSought, used_subrs, all_components, name_states, states_of, subr_adds, name_adds, states_weight, states_glyphs, StatesFit, name_part, subr_part, joined_states, PartsJoin, StatesAgree, StatesJoin, code_part}
 use Rattle.t1_algebra.specs.StateLaws.{PartsAgree, parts_laws}
 use Rattle.t1_algebra.proofs.{Words.{nat_cmp_total, nat_list_cmp_total, nat_cmp-IsAntisymmetric, Interpreter, same_bytes}, Shares.{same_indices, sharing}, Maps.{get-valued}}
 use Rattle.t1_algebra.proofs.{Sets.{any_flat_map, name_same, cases}, JoinedStates.{subr_joined, name_joined, present_joined}, Subsets.{stub_is, same_font, same_encoding, code_joined}}

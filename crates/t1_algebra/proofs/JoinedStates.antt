@@ -1,5 +1,5 @@
 -- The states and the entries of a join are those of its fonts, and the glyphs of each font run in it as before.
-use Rattle.std.proofs.Common.{◌≡◌, ℕ, true, ◌||◌, List, refl, sym, ◌∙◌, ap, Some}
+use Rattle.std.proofs.Common.{◌≡◌, ℕ, true, ◌||◌, List, refl, sym, Some}
 use Rattle.std.specs.FinSet as sets
 use Rattle.std.specs.FinMap as maps
 use Rattle.t1_font.specs.{Joins.{joined_subr, join_parts}, FontValue.{FontValue}}

@@ -6,11 +6,10 @@ use Rattle.std.specs.FinMap as maps
 use Rattle.std.specs.Prelude.{MatchOption}
 use Rattle.std.specs.Str.{bytes_eq}
 use Rattle.std.proofs.lemmas.Map.Text.{is_eq-slice_cmp}
-use Rattle.t1_join.specs.Passes.{first_met}
 use Rattle.t1_join.proofs.Conflicts.{Says, both_agree, says_first}
 use Rattle.t1_join.specs.{TableMeaning.{TableMeaning, joined_table, TablesAgree}, Meaning.{Meaning, meaning_cmp, of_number, by_number_law, same_meaning}}
 use Rattle.t1_join.specs.{Join.{joined_state, State, states_agree, StatesAgree}, TableLaws.{get_joined, same_table}, StateLaws.{same_meaning-true, same_meaning-self}}
-use Rattle.t1_font.specs.{Maps.{merged}}
+use Rattle.t1_font.specs.{Maps.{merged}, Joins.{differing_name}}
 use Rattle.t1_font.specs.FontValue.{Numbered, Named, name_cmp, Encoding, Word, Codes}
 use Rattle.t1_font.proofs.MapLemmas.{get-map_values}
 use Rattle.t1_algebra.specs.{Conflicts.{agrees}, StateTables.{numbered, name_meaning, AreNameStates, behind_mark, glyph_table, names_table, AreSought, code_states}, Searches.{IsLowest}}
@@ -158,7 +157,7 @@ agrees_so : (x y : Option (List ℕ)) → agrees x y ≡ both_agree bytes_eq x y
 agrees_so x y = grind (cases, is_eq-slice_cmp)
 
 -- what a pass over two tables of glyphs meets is the lowest name at which their charstrings differ
-pub lowest_met : (g h : Named) (p : List ℕ → Bool) → ((n : List ℕ) → p n ≡ not (agrees (maps.get g n) (maps.get h n))) → (r : Option (List ℕ)) → r ≡ first_met name_cmp bytes_eq (maps.entries g) (maps.entries h) → IsLowest name_cmp p r
+pub lowest_met : (g h : Named) (p : List ℕ → Bool) → ((n : List ℕ) → p n ≡ not (agrees (maps.get g n) (maps.get h n))) → (r : Option (List ℕ)) → r ≡ differing_name g h → IsLowest name_cmp p r
 lowest_met g h p is r e = lowest r (subst (Says name_cmp agree) (sym e) (says_first nat_list_cmp_total bytes_eq (maps.entries g) (maps.entries h) (maps.entries_sorted g) (maps.entries_sorted h)))
   where
     agree : List ℕ → Bool
@@ -187,7 +186,7 @@ module _ (p : List ℕ → Bool) where
 
 module _ (g : Named) (s : TableMeaning) (are : AreSought s) (t : TableMeaning) (is : names_table g s ≡ t) (h : Named) (r : TableMeaning) (seek : AreSought r) (u : TableMeaning) (so : names_table h r ≡ u) where
   -- what a pass over both tables of glyphs meets is the lowest name at which the states are charstrings that differ
-  pub lowest_differing : (q : Option (List ℕ)) → q ≡ first_met name_cmp bytes_eq (maps.entries g) (maps.entries h) → IsLowest name_cmp (λ n. charstrings_differ (maps.get t n) (maps.get u n)) q
+  pub lowest_differing : (q : Option (List ℕ)) → q ≡ differing_name g h → IsLowest name_cmp (λ n. charstrings_differ (maps.get t n) (maps.get u n)) q
   lowest_differing = lowest_met g h (λ n. charstrings_differ (maps.get t n) (maps.get u n)) (λ n. ap not (λ i. agrees (charstring_in g s are t is n i) (charstring_in h r seek u so n i)))
 
   -- sought names agree with sought names
@@ -202,7 +201,7 @@ module _ (g : Named) (s : TableMeaning) (are : AreSought s) (t : TableMeaning) (
 
   -- what one pass that joins both tables of glyphs answers
   abbrev pub Passed : Option Named → Type 0
-  Passed o = MatchOption o (is_some (first_met name_cmp bytes_eq (maps.entries g) (maps.entries h)) ≡ true) (λ m. (m ≡ merged g h) × (first_met name_cmp bytes_eq (maps.entries g) (maps.entries h) ≡ None))
+  Passed o = MatchOption o (is_some (differing_name g h) ≡ true) (λ m. (m ≡ merged g h) × (differing_name g h ≡ None))
 
   -- if it answers nothing, the tables don't agree
   pub not_passed : (o : Option Named) → o ≡ None → Passed o → ¬ TablesAgree t u

@@ -9,7 +9,7 @@ use Rattle.std.specs.FinMap.{FinMap, IsAntisymmetric, entries, entries_sorted, e
 use Rattle.std.specs.FinMap.Entries.{by_order}
 use Rattle.std.proofs.lemmas.List.{append_assoc, append-nil, map-append}
 use Rattle.std.proofs.lemmas.Option.{slice_get_within}
-use Rattle.t1_join.specs.Passes.{merge, met, first_met}
+use Rattle.t1_join.specs.Passes.{merge, first_met}
 use Rattle.t1_join.specs.TableMeaning.{Rises}
 use Rattle.t1_join.proofs.Merges.{rises_merge, merged_from_sorted}
 use Rattle.t1_join.proofs.Sorted.{map_of}

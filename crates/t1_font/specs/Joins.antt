@@ -2,11 +2,12 @@
 use Rattle.std.specs.Prelude.{◌<◌, ◌⊎◌, ℕ, cond, List, [], ◌∷◌, Option, Some, None, unwrap_or}
 use Rattle.std.specs.declared.cmp.Ordering.{Ordering}
 use Rattle.std.specs.Str.{bytes_eq}
-use Rattle.std.specs.FinMap.{get, len}
+use Rattle.std.specs.FinMap.{get, len, entries}
 use Rattle.std.specs.FinMap.Entries.{by_order}
+use Rattle.t1_join.specs.Passes.{first_met}
 use Rattle.t1_font.specs.declared.parts.PartsFault.{PartsFault}
 use Rattle.t1_font.specs.declared.parts.PartsFault.TheVariants.{Limit, Memory}
-use Rattle.t1_font.specs.FontValue.{FontValue, Encoding, Word, Codes, count_limit, weight_limit, weight}
+use Rattle.t1_font.specs.FontValue.{FontValue, Encoding, Word, Codes, Named, name_cmp, count_limit, weight_limit, weight}
 use Rattle.t1_font.specs.Cut.{stub}
 use Rattle.t1_font.specs.Maps.{map_values, merged}
 
@@ -22,6 +23,10 @@ abbrev pub join_encodings : Encoding → Encoding → Encoding
 join_encodings (Word w) e = Word w
 join_encodings (Codes m) (Word w) = Codes m
 join_encodings (Codes m) (Codes n) = Codes (merged m n)
+
+-- the smallest name for which both tables have a glyph, with different charstrings
+abbrev pub differing_name : Named → Named → Option (List ℕ)
+differing_name m n = first_met name_cmp bytes_eq (entries m) (entries n)
 
 -- the entry c, or where it is a stub the other font's
 abbrev pub joined_subr : List ℕ → Option (List ℕ) → List ℕ

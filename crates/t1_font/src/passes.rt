@@ -4,10 +4,9 @@ ghost use Rattle.std.specs.Prelude.{◌≡◌, ◌+◌, ◌++◌, IfOk, OnOk, Ma
 ghost use Rattle.std.specs.Option.{option_map};
 ghost use Rattle.std.specs.FinMap as fin;
 ghost use Rattle.std.specs.Map.Iter.{TakesFirst};
-ghost use Rattle.std.specs.Str.{bytes_eq};
-ghost use Rattle.t1_join.specs.Passes.{first_met};
-ghost use Rattle.t1_font.specs.FontValue.{name_cmp, total, glyph_weight};
+ghost use Rattle.t1_font.specs.FontValue.{total, glyph_weight};
 ghost use Rattle.t1_font.specs.FontModel.{clamp};
+ghost use Rattle.t1_font.specs.Joins.{differing_name};
 ghost use Rattle.t1_font.specs.Maps.{merged};
 ghost use Rattle.t1_font.specs.Lent.{lent_glyph};
 
@@ -133,7 +132,7 @@ impl<'a> Named<'a> {
     #[tactic(auto, using(crate::proofs::TablePasses::meets_later, crate::proofs::TablePasses::meets_above, crate::proofs::TablePasses::meets_same, crate::proofs::TablePasses::meets_here, crate::proofs::TablePasses::first_ends, crate::proofs::TablePasses::second_ends, crate::proofs::TablePasses::first_nearer, crate::proofs::TablePasses::second_nearer, crate::proofs::TablePasses::both_nearer))]
     pub fn first_differing(&self, other: &Named<'_>) -> Option<&'a [u8]>
         ensures { option_map (λ n. n.now) result
-            ≡ first_met name_cmp bytes_eq (fin.entries self.now) (fin.entries other.now) }
+            ≡ differing_name self.now other.now }
     {
         let mut i = 0;
         let mut j = 0;
@@ -194,7 +193,9 @@ pub fn join_same_glyphs<'a>(
     first: &Named<'a>,
     second: &Named<'a>,
 ) -> Result<Option<Named<'a>>, AllocError>
-    ensures { IfOk result (λ o. MatchOption o (is_some (first_met name_cmp bytes_eq (fin.entries first.now) (fin.entries second.now)) ≡ true) (λ m. (m ≡ merged first.now second.now) × (first_met name_cmp bytes_eq (fin.entries first.now) (fin.entries second.now) ≡ None))) }
+    ensures { IfOk result (λ o. MatchOption o (is_some (differing_name first.now second.now) ≡ true)
+        (λ m. (m ≡ merged first.now second.now)
+        × (differing_name first.now second.now ≡ None))) }
 {
     let mut all = Vec::with_capacity(alloc, first.len().saturating_add(second.len()))?;
     let mut i = 0;

@@ -2,7 +2,7 @@
 use Rattle.std.proofs.Common.{◌≡◌, ◌<◌, ◌≤◌, ◌+◌, ℕ, zero, suc, inr, cond, List, [], ◌∷◌, ◌++◌, map, length, take, take_all, drop, get_or, refl, sym, ◌∙◌, ap, subst, arith, add-one, Some, None}
 use Rattle.std.proofs.lemmas.List.{length-map, map-append, take_more}
 use Rattle.std.specs.List.{AllByRecursion}
-use Rattle.t1_join.specs.Groupings.{Grouping, one, from_left}
+use Rattle.t1_join.specs.Groupings.{Grouping, one}
 use Rattle.t1_join.proofs.OrderLemmas.{all_of_both}
 use Rattle.t1_font.specs.{FontValue.{FontValue}, IsFont.{IsFont}}
 use Rattle.t1_algebra.specs.{Profile.{profile}, States.{Join, joined_font}, StateTables.{StatesValue, StatesAgree, StatesJoin, states_of}, StateLaws.{states_laws}, Conflicts.{OverLimit, states_conflict, conflict}}

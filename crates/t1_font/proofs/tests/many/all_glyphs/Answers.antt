@@ -1,5 +1,4 @@
 use Rattle.std.proofs.Common.{ap, sym, ◌∙◌}
-use Rattle.t1_font.specs.declared.font.Font.TheInside.{Inside}
 use Rattle.t1_font.specs.FontValue.{FontValue}
 use Rattle.t1_font.specs.Maps.{merged}
 use Rattle.t1_font.proofs.Joining.{joined_next}

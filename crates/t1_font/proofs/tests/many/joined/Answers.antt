@@ -1,4 +1,4 @@
-use Rattle.std.proofs.Common.{List, subst, sym}
+use Rattle.std.proofs.Common.{subst, sym}
 use Rattle.std.specs.List.{AllByRecursion}
 use Rattle.t1_font.specs.FontValue.{FontValue}
 use Rattle.t1_font.specs.Parts.{HasShellOf}
