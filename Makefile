@@ -4,7 +4,7 @@ PREFIX ?= /usr/local
 all: bin/t1subset
 
 bin/t1subset: crates.txt $(shell find crates -name out -prune -o -type f -print)
-	@echo "Proving and building t1subset: some 15 minutes on four cores the first time."
+	@echo "Proving and building t1subset: 22 minutes on four quiet cores the first time, 50 on busy ones."
 	cd crates/t1subset && rt run -- --version
 	install -D crates/t1subset/out/t1subset bin/t1subset
 

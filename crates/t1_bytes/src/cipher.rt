@@ -71,14 +71,17 @@ pub fn decrypt(bytes: &mut [u8], key: u16)
     }
 }
 
-/// Decrypts a cipher in place, and answers its text, which stands after `lead` lead bytes. A cipher
-/// that is no longer than these has an empty text.
-pub fn open(cipher: &mut [u8], key: u16, lead: u8) -> &[u8]
-    ensures { result.now ≡ opened key lead cipher.old }
+/// The text of a cipher, which stands after `lead` lead bytes, in the cipher's own vector. A cipher
+/// that is no longer than these has an empty text. It takes no memory.
+pub fn open(cipher: Vec<u8>, key: u16, lead: u8) -> Vec<u8>
+    ensures { result.items ≡ opened key lead cipher.items }
 {
-    decrypt(cipher, key);
-    let from = cipher.len().min(lead as usize);
-    &cipher[from..]
+    let mut text = cipher;
+    decrypt(text.as_mut_slice(), key);
+    let lead = text.len().min(lead as usize);
+    text.copy_within(lead.., 0);
+    text.truncate(text.len() - lead);
+    text
 }
 
 /// The cipher of a text after `lead` lead bytes, which are zero.

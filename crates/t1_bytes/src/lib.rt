@@ -7,8 +7,8 @@
 //!
 //! ```text
 //! let flat = flatten(alloc, file)?;
-//! let (offset, mut cipher) = split_eexec(alloc, flat.as_slice())?;
-//! let private = open(cipher.as_mut_slice(), EEXEC_KEY, EEXEC_LEAD);
+//! let (offset, cipher) = split_eexec(alloc, flat.as_slice())?;
+//! let private = open(cipher, EEXEC_KEY, EEXEC_LEAD);
 //! ```
 //!
 //! The specifications speak of texts by grammars (`specs/Grammar.antt`): values that say which
@@ -32,7 +32,7 @@ pub use fault::BytesFault;
 pub use form::Form;
 pub use hexadecimal::{LINE, hex_lines, spread_hex_lines, trailer};
 pub use limits::FILE_LIMIT;
-pub use pfb::{flatten, flatten_in_place, segments};
+pub use pfb::{flatten, flatten_vec, segments};
 
 #[cfg(test)]
 mod tests;

@@ -59,11 +59,8 @@ fn is_segmented(file: &[u8]) -> bool
 fn flat(alloc: Global, file: &[u8]) -> Result<Vec<u8>, BytesFault>
     ensures { Gives (λ v. v.items) result (flat_of file.now) }
 {
-    let mut flat = Vec::from_slice(alloc, file)?;
-    match join(&mut flat) {
-        Ok(()) => Ok(flat),
-        Err(fault) => Err(fault),
-    }
+    let copy = Vec::from_slice(alloc, file)?;
+    flatten_vec(copy)
 }
 
 /// The flat text of a file: of a PFB file, which begins with 128, the data of its text and binary
@@ -116,11 +113,15 @@ fn join(file: &mut Vec<u8>) -> Result<(), BytesFault>
 ///
 /// # Errors
 ///
-/// `BadSegment`, as in [`flatten`]. What the vector then holds is not said.
-pub fn flatten_in_place(file: &mut Vec<u8>) -> Result<(), BytesFault>
-    ensures { Gives (λ _. file.new.items) result (flat_of file.old.items) }
+/// `BadSegment`, as in [`flatten`]. The file is gone then, as it is handed over.
+pub fn flatten_vec(file: Vec<u8>) -> Result<Vec<u8>, BytesFault>
+    ensures { Gives (λ v. v.items) result (flat_of file.items) }
 {
-    join(file)
+    let mut flat = file;
+    match join(&mut flat) {
+        Ok(()) => Ok(flat),
+        Err(fault) => Err(fault),
+    }
 }
 
 /// Writes a segment at the end.

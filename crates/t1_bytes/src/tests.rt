@@ -1,22 +1,33 @@
 //! Worked bytes, malformed input, and the two files of the font Tiny.
 
 mod growths;
+mod large;
 
 use crate::{
     BytesFault, CHARSTRING_KEY, Cipher, EEXEC_KEY, EEXEC_LEAD, decrypt, encrypt, find_cipher,
-    flatten, hex_lines, open, seal, segments, split_eexec, spread_hex_lines, trailer,
+    flatten, flatten_vec, hex_lines, open, seal, segments, split_eexec, spread_hex_lines, trailer,
 };
 use std::alloc::{AllocError, Global};
 use std::test::Fail;
 use t1_tiny::{PFA, PFB};
 
 /// Whether the flat text of a file is this one, or the fault is.
-fn flattens(alloc: Global, file: &[u8], want: Result<&[u8], BytesFault>) -> bool {
-    match (flatten(alloc, file), want) {
+fn is_flat(flat: Result<Vec<u8>, BytesFault>, want: Result<&[u8], BytesFault>) -> bool {
+    match (flat, want) {
         (Ok(flat), Ok(text)) => flat.as_slice() == text,
         (Err(fault), Err(other)) => fault == other,
         _ => false,
     }
+}
+
+/// Whether both calls give a file this flat text, or this fault.
+fn flattens(
+    alloc: Global,
+    file: &[u8],
+    want: Result<&[u8], BytesFault>,
+) -> Result<bool, AllocError> {
+    let own = flatten_vec(Vec::from_slice(alloc, file)?);
+    Ok(is_flat(flatten(alloc, file), want) && is_flat(own, want))
 }
 
 /// Whether a flat text is split into this offset and cipher, or the fault is this one.
@@ -60,9 +71,10 @@ fn is_enciphered(
     let decrypted = bytes.as_slice() == plain;
     encrypt(bytes.as_mut_slice(), key);
     let encrypted = bytes.as_slice() == cipher;
-    Ok(sealed && decrypted && encrypted && open(bytes.as_mut_slice(), key, lead) == text)
+    Ok(sealed && decrypted && encrypted && open(bytes, key, lead).as_slice() == text)
 }
 
+// meets seal Ok at 1 bytes
 #[test]
 fn enciphers_worked_bytes(rt: HostRuntime) -> Result<(), Fail> {
     const ROWS: &[(u16, u8, &[u8], &[u8], &str)] = &[
@@ -111,8 +123,12 @@ fn enciphers_worked_bytes(rt: HostRuntime) -> Result<(), Fail> {
     Ok(())
 }
 
+// meets flatten Ok at 0 bytes
+// meets flatten BadSegment at 1 bytes
+// meets flatten_vec Ok at 0 bytes
+// meets flatten_vec BadSegment at 1 bytes
 #[test]
-fn flattens_segments(rt: HostRuntime) {
+fn flattens_segments(rt: HostRuntime) -> Result<(), Fail> {
     const ROWS: &[(&[u8], Result<&[u8], BytesFault>, &str)] = &[
         (b"", Ok(b""), "no bytes"),
         (b"AB\x80\x03", Ok(b"AB\x80\x03"), "no segments"),
@@ -199,8 +215,9 @@ fn flattens_segments(rt: HostRuntime) {
         ),
     ];
     for &(file, want, name) in ROWS {
-        assert!(rt; flattens(rt.alloc(), file, want), "{name}");
+        assert!(rt; flattens(rt.alloc(), file, want)?, "{name}");
     }
+    Ok(())
 }
 
 /// The bytes from 0 to 39.
@@ -216,6 +233,12 @@ const LINE: &[u8] = b"\x00\x01\x02\x03\x04\x05\x06\x07\x08\x09\x0a\x0b\x0c\x0d\x
 const SHORT_LINE: &[u8] = b"\x00\x01\x02\x03\x04\x05\x06\x07\x08\x09\x0a\x0b\x0c\x0d\x0e\x0f\
     \x10\x11\x12\x13\x14\x15\x16\x17\x18\x19\x1a\x1b\x1c\x1d\x1e";
 
+// meets split_eexec Ok at 22 bytes
+// meets split_eexec NoEexec at 0 bytes
+// meets split_eexec ShortCipher at 18 bytes
+// meets find_cipher Ok at 22 bytes
+// meets find_cipher NoEexec at 0 bytes
+// meets find_cipher ShortCipher at 18 bytes
 #[test]
 fn splits_flat_texts(rt: HostRuntime) {
     const ROWS: &[(&[u8], Result<(usize, &[u8]), BytesFault>, &str)] = &[
@@ -395,6 +418,8 @@ fn splits_digits(rt: HostRuntime) {
     }
 }
 
+// meets hex_lines Ok at 0, 32, 40 bytes
+// meets spread_hex_lines Ok at 0, 32, 40 bytes
 #[test]
 fn writes_lines_of_digits(rt: HostRuntime) -> Result<(), Fail> {
     const ROWS: &[(&[u8], &[u8])] = &[
@@ -448,8 +473,7 @@ fn private_text(alloc: Global, file: &[u8]) -> Result<(usize, Vec<u8>), BytesFau
     let flat = flatten(alloc, file)?;
     let (at, mut cipher) = split_eexec(alloc, flat.as_slice())?;
     cipher.truncate(4 + PRIVATE);
-    let text = open(cipher.as_mut_slice(), EEXEC_KEY, EEXEC_LEAD);
-    Ok((at, text.to_vec(alloc)?))
+    Ok((at, open(cipher, EEXEC_KEY, EEXEC_LEAD)))
 }
 
 /// A clear part and a cipher as a PFA: the cipher in lines of digits.
@@ -482,6 +506,7 @@ fn is_put_together(alloc: Global, file: &[u8]) -> Result<bool, BytesFault> {
     Ok(pfb.as_slice() == PFB.as_slice() && pfa.as_slice() == PFA.as_slice())
 }
 
+// meets segments Ok at 1873 bytes
 #[test]
 fn takes_tiny_apart_and_together(rt: HostRuntime) -> Result<(), Fail> {
     const FILES: &[(&[u8], &str)] = &[(PFA, "PFA"), (PFB, "PFB")];
@@ -535,106 +560,4 @@ fn joined(alloc: Global, front: &[u8], back: &[u8]) -> Result<Vec<u8>, AllocErro
     let mut text = front.to_vec(alloc)?;
     text.extend_from_slice(back)?;
     Ok(text)
-}
-
-/// A text, so many times.
-fn repeated(alloc: Global, text: &[u8], times: usize) -> Result<Vec<u8>, AllocError> {
-    let mut all = Vec::new(alloc);
-    for _ in 0..times {
-        all.extend_from_slice(text)?;
-    }
-    Ok(all)
-}
-
-/// Files of a piece so many times, a text, and another piece so many times; and the refusal of each.
-const LARGE: &[(&[u8], &[u8], &[u8], usize, Option<BytesFault>, &str)] = &[
-    (
-        b"% currentfile\n",
-        b"currentfile eexec\n",
-        b"d9",
-        150_000,
-        None,
-        "one long line of digits",
-    ),
-    (
-        b"% currentfile\n",
-        b"currentfile eexec\n",
-        b"\x81",
-        3,
-        Some(BytesFault::ShortCipher),
-        "three bytes",
-    ),
-    (
-        b"% currentfile\n",
-        b"",
-        b"",
-        0,
-        Some(BytesFault::NoEexec),
-        "a clear text alone",
-    ),
-    (
-        b"\x80\x01\x0e\0\0\0% currentfile\n",
-        b"\x80\x03",
-        b"",
-        0,
-        Some(BytesFault::NoEexec),
-        "many segments",
-    ),
-    (
-        b"\x80\x01\x0e\0\0\0% currentfile\n",
-        b"\x80\x04",
-        b"",
-        0,
-        Some(BytesFault::BadSegment { at: 200_000 }),
-        "type 4 after many segments",
-    ),
-];
-
-/// 10,000 times a piece, a text, and another piece so many times.
-fn large(
-    alloc: Global,
-    piece: &[u8],
-    text: &[u8],
-    last: &[u8],
-    times: usize,
-) -> Result<Vec<u8>, AllocError> {
-    let mut file = repeated(alloc, piece, 10_000)?;
-    file.extend_from_slice(text)?;
-    let rest = repeated(alloc, last, times)?;
-    file.extend_from_slice(rest.as_slice())?;
-    Ok(file)
-}
-
-#[test]
-fn takes_large_files(rt: HostRuntime) -> Result<(), Fail> {
-    for &(piece, text, last, times, want, name) in LARGE {
-        let file = large(rt.alloc(), piece, text, last, times)?;
-        assert!(rt; refusal(rt.alloc(), file.as_slice()) == want, "{name}");
-    }
-    Ok(())
-}
-
-/// Whether a clear text and a cipher are taken apart again, as segments and as lines of digits.
-fn is_read_again(alloc: Global, clear: &[u8], cipher: &[u8]) -> Result<bool, BytesFault> {
-    if clear.len() > 200_000 || cipher.len() > 200_000 {
-        return Ok(false);
-    }
-    let pfb = segments(alloc, clear, cipher, trailer())?;
-    let pfa = with_digits(alloc, clear, cipher)?;
-    Ok(refusal(alloc, pfb.as_slice()).is_none() && refusal(alloc, pfa.as_slice()).is_none())
-}
-
-#[test]
-fn takes_large_files_that_were_written(rt: HostRuntime) -> Result<(), Fail> {
-    let clear = large(
-        rt.alloc(),
-        b"% currentfile\n",
-        b"currentfile eexec\n",
-        b"",
-        0,
-    )?;
-    let private = repeated(rt.alloc(), b"dup 5 {", 20_000)?;
-    let cipher = seal(rt.alloc(), private.as_slice(), EEXEC_KEY, EEXEC_LEAD)?;
-    assert!(rt; is_read_again(rt.alloc(), clear.as_slice(), cipher.as_slice())?);
-    Ok(())
 }

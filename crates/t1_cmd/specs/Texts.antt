@@ -19,8 +19,12 @@ reason_text (Font f) = fault_text f
 reason_text (NoGlyph name) = codes "no glyph " ++ shown name
 reason_text (Merge e) = conflict_text e
 
+-- what is printed of a run that did not finish
+abbrev pub run_fault_text : RunFault → List ℕ
+run_fault_text (Refused r) = codes "refused: " ++ reason_text r
+run_fault_text Read = codes "failed: read"
+run_fault_text Write = codes "failed: write"
+
 -- the line that tells of a fault
 abbrev pub fault_line : RunFault → List ℕ
-fault_line (Refused r) = codes "refused: " ++ reason_text r ++ 10 ∷ []
-fault_line Read = codes "failed: read" ++ 10 ∷ []
-fault_line Write = codes "failed: write" ++ 10 ∷ []
+fault_line fault = run_fault_text fault ++ 10 ∷ []

@@ -3,11 +3,11 @@ ghost use Rattle.std.specs.Prelude.{◌≡◌};
 ghost use Rattle.t1_cmd.specs.Runs.{status_of};
 
 use std::alloc::{AllocError, Global};
+use std::fmt;
 use std::marker::Model;
 use t1_font::ReadFault;
-use t1_join::{JoinFault, ListFault};
+use t1_join::{JoinFault, ListFault, Shown};
 use t1_subset::Conflict;
-use thiserror::Error;
 
 /// The name of a glyph, without its `/`.
 #[derive(Debug, Drop)]
@@ -45,44 +45,72 @@ impl Name {
 /// Why the input is refused.
 ///
 /// Want of memory and a file over the limit have variants of their own, whichever call met them.
-#[derive(Debug, Drop, Error)]
+#[derive(Debug, Drop)]
 pub enum Reason {
     /// An input is over the file limit.
-    #[error("file too long")]
     TooLong,
     /// A growth was refused.
-    #[error("out of memory")]
     Memory,
     /// A text is not a listing.
-    #[error("{0}")]
     List(ListFault),
     /// Two listings don't join.
-    #[error("{0}")]
     Join(JoinFault),
     /// A file spells no font.
-    #[error("{0}")]
     Font(ReadFault),
     /// The font has no glyph of this name.
-    #[error("no glyph {name:?}")]
     NoGlyph { name: Name },
     /// Fonts don't merge.
-    #[error("{0}")]
     Merge(Conflict),
 }
 
+impl fmt::Display for Reason {
+    ghost use Rattle.std.specs.Prelude.{Some};
+    ghost use Rattle.t1_cmd.specs.Texts.{reason_text};
+
+    ghost output = { λ reason. Some (reason_text reason) };
+
+    fn fmt<W: fmt::Write>(&self, f: &mut fmt::Formatter<W>) -> fmt::Result {
+        match self {
+            Reason::TooLong => f.write_str("file too long"),
+            Reason::Memory => f.write_str("out of memory"),
+            Reason::List(fault) => write!(f, "{fault}"),
+            Reason::Join(fault) => write!(f, "{fault}"),
+            Reason::Font(fault) => write!(f, "{fault}"),
+            Reason::NoGlyph { name } => write!(f, "no glyph {}", Shown(name.as_bytes())),
+            Reason::Merge(conflict) => write!(f, "{conflict}"),
+        }
+    }
+}
+
+impl std::error::Error for Reason {}
+
 /// Why an engine did not finish.
-#[derive(Debug, Drop, Error)]
+#[derive(Debug, Drop)]
 pub enum RunFault {
     /// The input is refused; nothing was written.
-    #[error("refused: {0}")]
     Refused(Reason),
     /// A reader failed; nothing was written.
-    #[error("failed: read")]
     Read,
     /// The writer failed; a part of the result may have been written.
-    #[error("failed: write")]
     Write,
 }
+
+impl fmt::Display for RunFault {
+    ghost use Rattle.std.specs.Prelude.{Some};
+    ghost use Rattle.t1_cmd.specs.Texts.{run_fault_text};
+
+    ghost output = { λ fault. Some (run_fault_text fault) };
+
+    fn fmt<W: fmt::Write>(&self, f: &mut fmt::Formatter<W>) -> fmt::Result {
+        match self {
+            RunFault::Refused(reason) => write!(f, "refused: {reason}"),
+            RunFault::Read => f.write_str("failed: read"),
+            RunFault::Write => f.write_str("failed: write"),
+        }
+    }
+}
+
+impl std::error::Error for RunFault {}
 
 impl From<AllocError> for RunFault {
     ghost use Rattle.std.specs.Prelude.{◌≡◌};

@@ -26,7 +26,7 @@ use crate::shell::kept_shell;
 use crate::source::{KeptEncoding, Source, SourceParts, keep_codes};
 use crate::subrs::SubrsParts;
 use std::alloc::{AllocError, Global};
-use t1_bytes::{Cipher, EEXEC_KEY, EEXEC_LEAD, FILE_LIMIT, decrypt, find_cipher, flatten_in_place};
+use t1_bytes::{Cipher, EEXEC_KEY, EEXEC_LEAD, FILE_LIMIT, decrypt, find_cipher, flatten_vec};
 
 /// The flat text of a file, in the file's own vector.
 #[tactic(auto, unfolding(crate::specs::ReadFont::flat_text))]
@@ -34,9 +34,8 @@ fn flat_text(file: Vec<u8>) -> Result<Vec<u8>, ReadFault>
     ensures value { Answers (λ v. v.items) result (flat_text file.items) }
     ensures no_longer { IfOk result (λ v. length v.items ≤ length file.items) }
 {
-    let mut flat = file;
-    match flatten_in_place(&mut flat) {
-        Ok(()) => Ok(flat),
+    match flatten_vec(file) {
+        Ok(flat) => Ok(flat),
         Err(fault) => Err(ReadFault::from(fault)),
     }
 }

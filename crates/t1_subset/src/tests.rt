@@ -5,5 +5,6 @@ mod fonts;
 mod growths;
 mod kept;
 mod large;
+mod lists;
 mod mergers;
 mod rows;

@@ -5,7 +5,7 @@ mod commands;
 mod output;
 mod perform;
 
-use std::io::Write;
+use std::io::{ErrorKind, Write};
 use std::process::ExitCode;
 use std::rt::Env;
 use std::{env, io};
@@ -16,16 +16,20 @@ fn words<R: Env + AllocGlobal>(rt: &R) -> io::Result<Vec<String>> {
     Ok(words)
 }
 
-/// Says that the words are no text.
-fn refuse_words<E: Write + Drop>(mut err: E) -> ExitCode {
-    let _ = err.write_all(b"error: the arguments are not UTF-8\n");
+/// Says why the words can't be read.
+fn refuse_words<E: Write + Drop>(error: &io::Error, mut err: E) -> ExitCode {
+    let text: &[u8] = match error.kind() {
+        ErrorKind::OutOfMemory => b"error: out of memory\n",
+        _ => b"error: the arguments are not UTF-8\n",
+    };
+    let _ = err.write_all(text);
     ExitCode::from(2)
 }
 
 fn main(rt: HostRuntime) -> ExitCode {
     let words: Vec<String> = match words(&rt) {
         Ok(words) => words,
-        Err(_) => return refuse_words(rt.stderr()),
+        Err(error) => return refuse_words(&error, rt.stderr()),
     };
     let status = perform::run(&rt, rt.alloc(), words.as_slice(), rt.stdout(), rt.stderr());
     ExitCode::from(status)

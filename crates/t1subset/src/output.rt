@@ -2,13 +2,16 @@
 use std::alloc::Global;
 use std::fs::{Metadata, OpenFile, OpenOptions};
 use std::io::{ErrorKind, Write};
-use std::os::unix::fs::MetadataExt;
+use std::os::unix::fs::{MetadataExt, OpenOptionsExt};
 use std::rt::Files;
 use std::{fs, io};
 use t1_cmd::RunFault;
 
 /// How many names are tried for the file beside OUT.
 const TRIES: u32 = 100;
+
+/// What a new file may be by default, before the umask.
+const NEW_MODE: u32 = 0o666;
 
 /// What stands under OUT's name before the result is written.
 #[derive(Drop)]
@@ -36,8 +39,8 @@ fn what_stands<R: Files>(rt: &R, path: &str) -> Before {
     }
 }
 
-/// A new file beside OUT, and its path.
-fn beside<R: Files>(rt: &R, alloc: Global, path: &str) -> Option<(String, R::File)> {
+/// A new file beside OUT, and its path. From the start, it can be read and written by no more people than this mode says.
+fn beside<R: Files>(rt: &R, alloc: Global, path: &str, mode: u32) -> Option<(String, R::File)> {
     for number in 0..TRIES {
         let Ok(name) = format!(in alloc; "{path}.{number}.part") else {
             return None;
@@ -45,6 +48,7 @@ fn beside<R: Files>(rt: &R, alloc: Global, path: &str) -> Option<(String, R::Fil
         match OpenOptions::new()
             .write(true)
             .create_new(true)
+            .mode(mode)
             .open(rt, name.as_str())
         {
             Ok(file) => return Some((name, file)),
@@ -66,19 +70,34 @@ fn can_replace<F: OpenFile>(new: &F, old: &Metadata) -> bool {
     }
 }
 
-/// A new file that can take OUT's name once it is whole, and its path.
-fn replacement<R: Files>(rt: &R, alloc: Global, path: &str) -> Option<(String, R::File)> {
+/// Where the result is written.
+#[derive(Drop)]
+enum Place<F> {
+    /// Into a new file of this path, which can take OUT's name once it is whole.
+    Beside(String, F),
+    /// Into OUT itself, since that is no plain file of ours.
+    Out,
+    /// Into OUT itself, since no file beside it could be made.
+    OutAlone,
+}
+
+/// Where the result of this path is written.
+fn place<R: Files>(rt: &R, alloc: Global, path: &str) -> Place<R::File> {
     let before = what_stands(rt, path);
-    if matches!(before, Before::Other) {
-        return None;
-    }
-    let (name, file) = beside(rt, alloc, path)?;
+    let mode = match &before {
+        Before::Nothing => NEW_MODE,
+        Before::File(old) => old.mode() & 0o777,
+        Before::Other => return Place::Out,
+    };
+    let Some((name, file)) = beside(rt, alloc, path, mode) else {
+        return Place::OutAlone;
+    };
     match before {
         Before::File(old) if !can_replace(&file, &old) => {
             let _ = fs::remove_file(rt, name.as_str());
-            None
+            Place::Out
         }
-        _ => Some((name, file)),
+        _ => Place::Beside(name, file),
     }
 }
 
@@ -88,6 +107,32 @@ struct Opened<F> {
     file: F,
     /// Where the result stands until it is whole, if that is beside OUT.
     beside: Option<String>,
+    /// Whether OUT is written in place because no file beside it could be made.
+    alone: bool,
+}
+
+/// What is said of OUT behind the result or its failure.
+#[derive(Drop)]
+pub enum Note<'p> {
+    /// Nothing.
+    Nothing,
+    /// The file of this path was written in place, since no file beside it could be made.
+    InPlace(&'p str),
+    /// The whole result is in the file of this path, since it could not take OUT's name.
+    KeptIn(String),
+}
+
+impl Note<'_> {
+    /// Says it in a line, if there is something to say.
+    pub fn tell<E: Write>(&self, err: &mut E) -> io::Result<()> {
+        match self {
+            Note::Nothing => Ok(()),
+            Note::InPlace(path) => {
+                writeln!(err, "note: {path} is written in place: no file could be made beside it")
+            }
+            Note::KeptIn(path) => writeln!(err, "note: the whole result is in {path}"),
+        }
+    }
 }
 
 /// OUT as an engine writes to it. The first write opens it, since an engine writes only when its result is complete. The
@@ -114,38 +159,60 @@ impl<'r, 'p, R: Files> Out<'r, 'p, R> {
 
     /// Opens a new file beside OUT, or else OUT.
     fn open(&self) -> io::Result<Opened<R::File>> {
-        if let Some((name, file)) = replacement(self.rt, self.alloc, self.path) {
+        let place = place(self.rt, self.alloc, self.path);
+        if let Place::Beside(name, file) = place {
             return Ok(Opened {
                 file,
                 beside: Some(name),
+                alone: false,
             });
         }
+        let alone = matches!(place, Place::OutAlone);
         let file = fs::create(self.rt, self.path)?;
-        Ok(Opened { file, beside: None })
+        Ok(Opened {
+            file,
+            beside: None,
+            alone,
+        })
     }
 
     /// Finishes the output of an engine that ended in this way: a whole result takes OUT's name, and a part is removed.
-    pub fn end(self, done: Result<(), RunFault>) -> Result<(), RunFault> {
+    /// Answers also what is to be said of it.
+    pub fn end(self, done: Result<(), RunFault>) -> (Result<(), RunFault>, Note<'p>) {
         let Out {
-            rt,
-            path,
-            opened,
-            ..
+            rt, path, opened, ..
         } = self;
-        let Some(Opened { file, beside }) = opened else {
-            return done;
+        let Some(opened) = opened else {
+            return (done, Note::Nothing);
         };
-        let Some(name) = beside else {
-            return done;
-        };
-        let kept = match done {
-            Ok(()) => keep(rt, file, name.as_str(), path),
-            Err(fault) => Err(fault),
-        };
-        if kept.is_err() {
-            let _ = fs::remove_file(rt, name.as_str());
+        match opened.beside {
+            Some(name) => end_beside(rt, opened.file, name, path, done),
+            None if opened.alone => (done, Note::InPlace(path)),
+            None => (done, Note::Nothing),
         }
-        kept
+    }
+}
+
+/// Finishes a result that was written beside OUT.
+fn end_beside<'p, R: Files>(
+    rt: &R,
+    file: R::File,
+    name: String,
+    path: &'p str,
+    done: Result<(), RunFault>,
+) -> (Result<(), RunFault>, Note<'p>) {
+    if done.is_ok() && file.sync_all().is_ok() {
+        drop(file);
+        return match keep(rt, name.as_str(), path) {
+            Ok(()) => (Ok(()), Note::Nothing),
+            Err(_) => (Err(RunFault::Write), Note::KeptIn(name)),
+        };
+    }
+    drop(file);
+    let _ = fs::remove_file(rt, name.as_str());
+    match done {
+        Ok(()) => (Err(RunFault::Write), Note::Nothing),
+        Err(fault) => (Err(fault), Note::Nothing),
     }
 }
 
@@ -165,20 +232,13 @@ impl<R: Files> Write for Out<'_, '_, R> {
     }
 }
 
-/// Gives a whole file OUT's name, once all of it is on the disk. If it can't have the name, its bytes are copied to what
-/// stands there.
-fn keep<R: Files>(rt: &R, file: R::File, name: &str, path: &str) -> Result<(), RunFault> {
-    let synced = file.sync_all();
-    drop(file);
-    if synced.is_err() {
-        return Err(RunFault::Write);
-    }
+/// Gives a whole file OUT's name. If it can't have the name, its bytes are copied to what stands there; if that fails, the
+/// file stays.
+fn keep<R: Files>(rt: &R, name: &str, path: &str) -> io::Result<()> {
     if fs::rename(rt, name, path).is_ok() {
         return Ok(());
     }
-    if fs::copy(rt, name, path).is_err() {
-        return Err(RunFault::Write);
-    }
+    fs::copy(rt, name, path)?;
     let _ = fs::remove_file(rt, name);
     Ok(())
 }

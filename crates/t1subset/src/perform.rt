@@ -1,6 +1,6 @@
 //! Performs what the words ask for.
 use crate::commands::parse;
-use crate::output::Out;
+use crate::output::{Note, Out};
 use clap::{ArgMatches, Error};
 use std::alloc::{AllocError, Global};
 use std::io::{ErrorKind, Write};
@@ -98,16 +98,28 @@ fn out<'r, 'p, R: Files>(
     Counted::new(Out::new(rt, alloc, path))
 }
 
-fn convert<R: Files>(
+/// Finishes the file that the words name for the result of an engine that ended in this way.
+fn end<'p, R: Files>(
+    out: Counted<Out<'_, 'p, R>>,
+    done: Result<(), RunFault>,
+    note: &mut Note<'p>,
+) -> Result<(), RunFault> {
+    let (done, said) = out.into_inner().end(done);
+    *note = said;
+    done
+}
+
+fn convert<'p, R: Files>(
     rt: &R,
     alloc: Global,
-    given: &ArgMatches<'_>,
+    given: &'p ArgMatches<'_>,
     form: Form,
+    note: &mut Note<'p>,
 ) -> Result<(), RunFault> {
     let mut input = font(rt, given)?;
     let mut out = out(rt, alloc, given);
     let done = run_convert(alloc, &mut input, form, &mut out);
-    out.into_inner().end(done)
+    end(out, done, note)
 }
 
 /// The names that the words give, as bytes.
@@ -119,12 +131,17 @@ fn names<'a>(alloc: Global, given: &ArgMatches<'a>) -> Result<Vec<&'a [u8]>, All
     Ok(names)
 }
 
-fn subset<R: Files>(rt: &R, alloc: Global, given: &ArgMatches<'_>) -> Result<(), RunFault> {
+fn subset<'p, R: Files>(
+    rt: &R,
+    alloc: Global,
+    given: &'p ArgMatches<'_>,
+    note: &mut Note<'p>,
+) -> Result<(), RunFault> {
     let names = names(alloc, given)?;
     let mut input = font(rt, given)?;
     let mut out = out(rt, alloc, given);
     let done = run_subset(alloc, &mut input, names.as_slice(), Form::Pfa, &mut out);
-    out.into_inner().end(done)
+    end(out, done, note)
 }
 
 /// The fonts that the words name, all of them opened.
@@ -143,38 +160,49 @@ fn fonts<R: Files>(
     Ok(fonts)
 }
 
-fn merge<R: Files>(rt: &R, alloc: Global, given: &ArgMatches<'_>) -> Result<(), RunFault> {
+fn merge<'p, R: Files>(
+    rt: &R,
+    alloc: Global,
+    given: &'p ArgMatches<'_>,
+    note: &mut Note<'p>,
+) -> Result<(), RunFault> {
     let mut fonts = fonts(rt, alloc, given)?;
     let mut out = out(rt, alloc, given);
     let done = run_merge(alloc, fonts.as_mut_slice(), Form::Pfa, &mut out);
-    out.into_inner().end(done)
+    end(out, done, note)
 }
 
-fn rejoin<R: Files>(rt: &R, alloc: Global, given: &ArgMatches<'_>) -> Result<(), RunFault> {
+fn rejoin<'p, R: Files>(
+    rt: &R,
+    alloc: Global,
+    given: &'p ArgMatches<'_>,
+    note: &mut Note<'p>,
+) -> Result<(), RunFault> {
     let mut fonts = fonts(rt, alloc, given)?;
     let mut out = out(rt, alloc, given);
     let done = run_rejoin(alloc, fonts.as_mut_slice(), Form::Pfa, &mut out);
-    out.into_inner().end(done)
+    end(out, done, note)
 }
 
-fn perform<R: Files, O: Write + Drop>(
+fn perform<'p, R: Files, O: Write + Drop>(
     rt: &R,
     alloc: Global,
-    matches: &ArgMatches<'_>,
+    matches: &'p ArgMatches<'_>,
     out: O,
+    note: &mut Note<'p>,
 ) -> Result<(), RunFault> {
     let Some((word, given)) = matches.subcommand() else {
         return Ok(());
     };
     match word {
-        "subset" => subset(rt, alloc, given),
-        "merge" => merge(rt, alloc, given),
-        "rejoin" => rejoin(rt, alloc, given),
+        "subset" => subset(rt, alloc, given, note),
+        "merge" => merge(rt, alloc, given, note),
+        "rejoin" => rejoin(rt, alloc, given, note),
         "check" => check(rt, alloc, given, out),
         "list" => list(rt, alloc, given, out),
         "show" => show(rt, alloc, given, out),
-        "pfa" => convert(rt, alloc, given, Form::Pfa),
-        "pfb" => convert(rt, alloc, given, Form::Pfb),
+        "pfa" => convert(rt, alloc, given, Form::Pfa, note),
+        "pfb" => convert(rt, alloc, given, Form::Pfb, note),
         "join" => {
             let (left, right) = (given.get_str("A"), given.get_str("B"));
             join(rt, alloc, left.unwrap_or(""), right.unwrap_or(""), out)
@@ -207,11 +235,15 @@ pub fn run<R: Files, O: Write + Drop, E: Write + Drop>(
         Ok(matches) => matches,
         Err(error) => return tell(&error, out, err),
     };
-    match perform(rt, alloc, &matches, out) {
+    let mut err = Counted::new(err);
+    let mut note = Note::Nothing;
+    let ended = match perform(rt, alloc, &matches, out, &mut note) {
         Ok(()) => 0,
         Err(fault) => {
-            let _ = write_fault(alloc, &fault, &mut Counted::new(err));
+            let _ = write_fault(alloc, &fault, &mut err);
             status(&fault)
         }
-    }
+    };
+    let _ = note.tell(&mut err);
+    ended
 }

@@ -4,7 +4,7 @@
 
 use super::{CLEAR, is_put_together};
 use crate::{
-    BytesFault, CHARSTRING_KEY, Cipher, decrypt, encrypt, find_cipher, flatten_in_place, hex_lines,
+    BytesFault, CHARSTRING_KEY, Cipher, decrypt, encrypt, find_cipher, flatten_vec, hex_lines,
     open, spread_hex_lines, trailer,
 };
 use std::alloc::Global;
@@ -41,12 +41,12 @@ fn growths(rt: HostRuntime) -> Result<(), Fail> {
 #[test]
 fn no_growth(rt: HostRuntime) -> Result<(), Fail> {
     let mut bytes = *b"\x10\xbf\x31\x70\xf9";
-    assert!(rt; open(bytes.as_mut_slice(), CHARSTRING_KEY, 4) == b"\x0b".as_slice());
+    decrypt(bytes.as_mut_slice(), CHARSTRING_KEY);
     encrypt(bytes.as_mut_slice(), CHARSTRING_KEY);
     decrypt(bytes.as_mut_slice(), CHARSTRING_KEY);
     assert!(rt; bytes.as_slice() == b"\x00\x00\x00\x00\x0b".as_slice());
-    let mut file = Vec::new(rt.alloc());
-    flatten_in_place(&mut file)?;
-    assert!(rt; file.is_empty() && trailer().len() == 532);
+    let file = flatten_vec(Vec::new(rt.alloc()))?;
+    let text = open(file, CHARSTRING_KEY, 4);
+    assert!(rt; text.is_empty() && trailer().len() == 532);
     Ok(())
 }

@@ -21,12 +21,8 @@ pub fn tiny_encoded(alloc: Global, encoding: &[u8]) -> Result<Vec<u8>, AllocErro
 /// The private text of Tiny.
 pub fn private(alloc: Global) -> Result<Vec<u8>, AllocError> {
     let whole: &[u8] = PFB;
-    let mut cipher = Vec::from_slice(alloc, &whole[325..1333])?;
-    if cipher.len() < 4 {
-        return Err(AllocError);
-    }
-    let text = open(cipher.as_mut_slice(), EEXEC_KEY, EEXEC_LEAD);
-    Vec::from_slice(alloc, text)
+    let cipher = Vec::from_slice(alloc, &whole[325..1333])?;
+    Ok(open(cipher, EEXEC_KEY, EEXEC_LEAD))
 }
 
 /// The bytes with lead bytes that are zero, encrypted.
@@ -91,14 +87,10 @@ pub fn tiny_changed(alloc: Global, old: &[u8], new: &[u8]) -> Result<Vec<u8>, Al
 
 /// The private text of a canonical file.
 fn private_of(alloc: Global, file: &[u8]) -> Result<Vec<u8>, AllocError> {
-    let Ok((_, mut cipher)) = split_eexec(alloc, file) else {
+    let Ok((_, cipher)) = split_eexec(alloc, file) else {
         return Err(AllocError);
     };
-    if cipher.len() < 4 {
-        return Err(AllocError);
-    }
-    let text = open(cipher.as_mut_slice(), EEXEC_KEY, EEXEC_LEAD);
-    Vec::from_slice(alloc, text)
+    Ok(open(cipher, EEXEC_KEY, EEXEC_LEAD))
 }
 
 /// A text without what stands between these two.

@@ -43,13 +43,10 @@ fn written(alloc: Global, file: &[u8]) -> Result<Vec<u8>, AllocError> {
     let Ok(pfa) = rewritten(alloc, file, Form::Pfa) else {
         return Err(AllocError);
     };
-    let Ok((_, mut cipher)) = split_eexec(alloc, pfa.as_slice()) else {
+    let Ok((_, cipher)) = split_eexec(alloc, pfa.as_slice()) else {
         return Err(AllocError);
     };
-    if cipher.len() < 4 {
-        return Err(AllocError);
-    }
-    Vec::from_slice(alloc, open(cipher.as_mut_slice(), EEXEC_KEY, EEXEC_LEAD))
+    Ok(open(cipher, EEXEC_KEY, EEXEC_LEAD))
 }
 
 /// The kept words of a font, each with a blank: those around the bytes of a Subr, after the last Subr, and those around

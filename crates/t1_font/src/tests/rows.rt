@@ -11,14 +11,10 @@ use t1_tiny::{PFA, PFB};
 
 /// The private text of Tiny.
 pub fn private(alloc: Global) -> Result<Vec<u8>, AllocError> {
-    let Ok((_, mut cipher)) = split_eexec(alloc, PFA) else {
+    let Ok((_, cipher)) = split_eexec(alloc, PFA) else {
         return Err(AllocError);
     };
-    if cipher.len() < 4 {
-        return Err(AllocError);
-    }
-    let text = open(cipher.as_mut_slice(), EEXEC_KEY, EEXEC_LEAD);
-    Vec::from_slice(alloc, text)
+    Ok(open(cipher, EEXEC_KEY, EEXEC_LEAD))
 }
 
 /// A text with `new` in place of the first `old`.

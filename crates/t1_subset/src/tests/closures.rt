@@ -79,6 +79,8 @@ fn cut_keeps(alloc: Global, file: &[u8], names: &[&[u8]], want: &[u8]) -> bool {
     keeps(alloc, cut.as_slice(), names, want)
 }
 
+// meets closure Ok at 0, 1 names
+// meets subset Ok at 0, 1 names
 #[test]
 fn what_names_keep(rt: HostRuntime) -> Result<(), Fail> {
     let file = whole(rt.alloc())?;
@@ -123,7 +125,7 @@ fn source_lacks(alloc: Global, source: &Source, names: &[&[u8]], want: &[u8]) ->
 }
 
 /// Whether a subset of a file's font is refused for this name.
-fn file_lacks(alloc: Global, file: &[u8], names: &[&[u8]], want: &[u8]) -> bool {
+pub fn file_lacks(alloc: Global, file: &[u8], names: &[&[u8]], want: &[u8]) -> bool {
     match read(alloc, file) {
         Ok(source) => {
             let told = source_lacks(alloc, &source, names, want);
@@ -134,6 +136,8 @@ fn file_lacks(alloc: Global, file: &[u8], names: &[&[u8]], want: &[u8]) -> bool 
     }
 }
 
+// meets closure NoSuchGlyph at 1, 3 names
+// meets subset NoSuchGlyph at 1, 3 names
 #[test]
 fn names_that_are_absent(rt: HostRuntime) -> Result<(), Fail> {
     let file = whole(rt.alloc())?;

@@ -1,9 +1,9 @@
-//! Fonts of thousands of glyphs, and two that together are over the limit of weight.
+//! Fonts of thousands of glyphs, and fonts that together are over the limits.
 
-use super::closures::kept;
+use super::closures::{file_lacks, keeps, kept};
 use super::fonts::{SHELL, SUBRS, cut, file, glyphs_text, lent, put_entry};
-use super::mergers::{all_merged, conflict, merged};
-use crate::Conflict;
+use super::mergers::{all_merged, conflict, glyph_differs, merged};
+use crate::{Conflict, states};
 use std::alloc::{AllocError, Global};
 use std::ops::Range;
 use std::test::Fail;
@@ -19,7 +19,7 @@ fn numbered(alloc: Global, number: u32) -> Result<Vec<u8>, AllocError> {
 }
 
 /// The file of `.notdef` and of glyphs with numbered names, each with these bytes.
-fn many(alloc: Global, numbers: Range<u32>, plain: &[u8]) -> Result<Vec<u8>, AllocError> {
+pub fn many(alloc: Global, numbers: Range<u32>, plain: &[u8]) -> Result<Vec<u8>, AllocError> {
     let mut text = glyphs_text(alloc, &SHELL, &[(b".notdef", b"\x0e")])?;
     for number in numbers {
         text.push(b'/')?;
@@ -30,7 +30,7 @@ fn many(alloc: Global, numbers: Range<u32>, plain: &[u8]) -> Result<Vec<u8>, All
 }
 
 /// The names of these numbers.
-fn names(alloc: Global, numbers: Range<u32>) -> Result<Vec<Vec<u8>>, AllocError> {
+pub fn names(alloc: Global, numbers: Range<u32>) -> Result<Vec<Vec<u8>>, AllocError> {
     let mut names = Vec::new(alloc);
     for number in numbers {
         match names.push(numbered(alloc, number)?) {
@@ -110,10 +110,12 @@ fn merged_count(alloc: Global, one: &[u8], other: &[u8]) -> usize {
     }
 }
 
+/// `0 0 hsbw 5 callsubr endchar`.
+const CALLS_5: &[u8] = b"\x8b\x8b\x0d\x90\x0a\x0e";
+
 #[test]
 fn thousands_of_glyphs(rt: HostRuntime) -> Result<(), Fail> {
-    // Each is `0 0 hsbw 5 callsubr endchar`.
-    let file = many(rt.alloc(), 0..6000, b"\x8b\x8b\x0d\x90\x0a\x0e")?;
+    let file = many(rt.alloc(), 0..6000, CALLS_5)?;
     let one = numbered_cut(rt.alloc(), file.as_slice(), 0..3500);
     let other = numbered_cut(rt.alloc(), file.as_slice(), 2500..6000);
     let got = merged_count(rt.alloc(), one.as_slice(), other.as_slice());
@@ -121,10 +123,88 @@ fn thousands_of_glyphs(rt: HostRuntime) -> Result<(), Fail> {
     Ok(())
 }
 
-/// Whether two fonts are too heavy together, in both orders, but the first is not with itself.
+/// Whether names of these numbers are refused, since a file's font lacks this one.
+fn lacks(alloc: Global, file: &[u8], numbers: Range<u32>, name: &[u8]) -> Result<bool, AllocError> {
+    let names = names(alloc, numbers)?;
+    let names = lent(alloc, names.as_slice())?;
+    let refused = file_lacks(alloc, file, names.as_slice(), name);
+    Ok(refused && keeps(alloc, file, names.as_slice(), name))
+}
+
+// meets merge Glyph at 6000 glyphs
+// meets closure NoSuchGlyph at 6000 glyphs
+// meets subset NoSuchGlyph at 6000 glyphs
+#[test]
+fn the_last_of_thousands_of_glyphs(rt: HostRuntime) -> Result<(), Fail> {
+    let file = many(rt.alloc(), 0..6000, CALLS_5)?;
+    let other = many(rt.alloc(), 5999..6001, b"\x0e")?;
+    assert!(rt; glyph_differs(rt.alloc(), file.as_slice(), other.as_slice(), b"g05999"));
+    assert!(rt; lacks(rt.alloc(), file.as_slice(), 0..6001, b"g06000")?);
+    Ok(())
+}
+
+/// Whether two files come to this many glyphs, all of which their subset keeps, and whose states can be made.
+fn reaches(alloc: Global, one: &[u8], other: &[u8], count: u32) -> Result<bool, AllocError> {
+    let whole = merged(alloc, one, other);
+    let cut = numbered_cut(alloc, whole.as_slice(), 0..count.saturating_sub(1));
+    let are_all = merged_count(alloc, one, other) == count as usize;
+    Ok(are_all && cut.as_slice() == whole.as_slice() && has_states(alloc, whole.as_slice()))
+}
+
+/// Whether the states of a source's font can be made.
+fn source_has_states(alloc: Global, source: &Source) -> bool {
+    match source.font(alloc) {
+        Ok(font) => {
+            let made = states(alloc, &font).is_ok();
+            drop(font);
+            made
+        }
+        Err(_) => false,
+    }
+}
+
+/// Whether the states of a file's font can be made.
+fn has_states(alloc: Global, file: &[u8]) -> bool {
+    match read(alloc, file) {
+        Ok(source) => {
+            let made = source_has_states(alloc, &source);
+            drop(source);
+            made
+        }
+        Err(_) => false,
+    }
+}
+
+// meets merge Ok at 65535 glyphs
+// meets merge_all Ok at 65535 glyphs
+// meets merge Limit at 65536 glyphs
+// meets merge_all Limit at 65536 glyphs
+// meets closure Ok at 65535 glyphs
+// meets subset Ok at 65535 glyphs
+// meets states Ok at 65535 glyphs
+#[test]
+fn as_many_glyphs_as_a_font_can_have(rt: HostRuntime) -> Result<(), Fail> {
+    let one = many(rt.alloc(), 0..32_767, CALLS_5)?;
+    let other = many(rt.alloc(), 32_767..65_534, CALLS_5)?;
+    assert!(rt; reaches(rt.alloc(), one.as_slice(), other.as_slice(), 65_535)?);
+    // 65536 of both, with `.notdef`.
+    let more = many(rt.alloc(), 32_767..65_535, CALLS_5)?;
+    assert!(rt; are_over_the_limit(rt.alloc(), one.as_slice(), more.as_slice()));
+    Ok(())
+}
+
+/// Whether two fonts are over a limit together, by both calls and in both orders.
+fn are_over_the_limit(alloc: Global, one: &[u8], other: &[u8]) -> bool {
+    let two = matches!(conflict(alloc, one, other), Some(Conflict::Limit));
+    let all = all_merged(alloc, &[one, other, one]);
+    let is_over = matches!(all, Err(Conflict::Limit));
+    drop(all);
+    two && is_over
+}
+
+/// Whether two fonts are too heavy together, but the first is not with itself.
 fn too_heavy(alloc: Global, one: &[u8], other: &[u8]) -> bool {
-    let is_over = matches!(conflict(alloc, one, other), Some(Conflict::Limit));
-    is_over && !merged(alloc, one, one).is_empty()
+    are_over_the_limit(alloc, one, other) && !merged(alloc, one, one).is_empty()
 }
 
 /// The file of the glyphs of these numbers, each of 65,000 bytes.

@@ -247,7 +247,7 @@ fn code_differs(alloc: Global, left: &[u8], right: &[u8], want: u8) -> bool {
 }
 
 /// Whether two fonts differ in the glyph of this name.
-fn glyph_differs(alloc: Global, left: &[u8], right: &[u8], want: &[u8]) -> bool {
+pub fn glyph_differs(alloc: Global, left: &[u8], right: &[u8], want: &[u8]) -> bool {
     match conflict(alloc, left, right) {
         Some(Conflict::Glyph { name }) => name.as_slice() == want,
         Some(other) => {
@@ -406,6 +406,7 @@ fn cuts_merge(alloc: Global, file: &[u8], sets: &[&[&[u8]]], all: &[&[u8]]) -> b
     }
 }
 
+// meets merge Ok at 2 fonts
 #[test]
 fn subsets_of_one_font(rt: HostRuntime) -> Result<(), Fail> {
     let file = whole(rt.alloc())?;
@@ -424,6 +425,7 @@ fn last_glyph_differs(alloc: Global, files: &[&[u8]], want: &[u8]) -> bool {
     }
 }
 
+// meets merge_all Empty at 0 fonts
 #[test]
 fn no_fonts(rt: HostRuntime) {
     let empty = all_merged(rt.alloc(), &[]).err();

@@ -88,14 +88,25 @@ const ORDERS: &[[usize; 3]] = &[
     [2, 1, 0],
 ];
 
+/// Whether files are refused at once, since X executes a Subr that differs.
+fn are_refused(alloc: Global, files: &[&[u8]]) -> bool {
+    match all_merged(alloc, files) {
+        Ok(_) => false,
+        Err(conflict) => {
+            let told = conflict.to_string(alloc);
+            drop(conflict);
+            told.is_ok_and(|text| text.as_str() == "subr 5 differs, used by X")
+        }
+    }
+}
+
 /// Whether three files are refused in this order, at once and in both groupings.
 fn three_are_refused(alloc: Global, one: &[u8], two: &[u8], three: &[u8]) -> bool {
     let front = merged(alloc, one, two);
     let back = merged(alloc, two, three);
     let from_left = merged(alloc, front.as_slice(), three);
     let from_right = merged(alloc, one, back.as_slice());
-    let at_once = all_merged(alloc, &[one, two, three]).is_err();
-    at_once && from_left.is_empty() && from_right.is_empty()
+    are_refused(alloc, &[one, two, three]) && from_left.is_empty() && from_right.is_empty()
 }
 
 /// The first order in which three files are not refused.
