@@ -23,6 +23,9 @@ PROGRAM = os.path.join(TOP, "crates/t1subset/out/t1subset")
 CRATES = ["t1_bytes", "t1_char", "t1_run", "t1_join", "t1_font", "t1_subset", "t1_example", "t1_cmd"]
 TINY = os.path.join(TOP, "examples/tiny.")
 NO_MEMORY = b"refused: out of memory\n"
+# What is said where there is no memory for the words, with status 2; and all that the program said.
+NO_ROOM = b"error: out of memory\n"
+SAID = set()
 LANES = os.cpu_count() or 1
 LISTED = b"""code 65 X
 subr 0 11
@@ -116,6 +119,8 @@ def wrong(case, refused, done, written):
         return None if right and told else "wrong with memory"
     if done.returncode not in (0, 1, 2, 3):
         return "no documented status"
+    if b"UTF-8" in done.stderr:
+        return "words that are text are refused as none"
     if done.returncode == 0 and (case.refusal or not told):
         return "done, and the result is not there"
     if not told and written != b"":
@@ -143,6 +148,7 @@ def sweep_words(shim, case):
     while refused:
         number += 1
         done, refused = shim.run(words, number)
+        SAID.add(done.stderr)
         written = taken(case.out) if case.out else done.stdout
         left = [name for name in os.listdir(shim.folder) if name.endswith(".part")]
         fault = wrong(case, refused, done, written) or (left and f"{left[0]} is left")
@@ -206,8 +212,10 @@ def font_cases(folder):
     yield Case(["subset", tiny, out, "Zed", "X"], b"", out, b"refused: no glyph Zed\n")
     yield Case(["merge", out, x, y], both, out)
     yield Case(["merge", out, y, x], both, out)
+    yield Case(["merge", out, y, x, y], both, out)
     yield Case(["merge", out, y, other_x], b"", out, b"refused: subr 5 differs, used by X\n")
-    yield Case(["rejoin", out, x, y], both, out)
+    yield Case(["merge", out, y, y, other_x], b"", out, b"refused: subr 5 differs, used by X\n")
+    yield Case(["rejoin", out, x, y, x], both, out)
 
 
 def listing_cases():
@@ -296,6 +304,8 @@ def main():
             runs += sweep_crate(shim, crate)
         for case in [*listing_cases(), *font_cases(folder)]:
             runs += sweep_words(shim, case) + 1
+    if NO_ROOM not in SAID:
+        sys.exit("no run said that there is no memory for the words")
     print(f"sweep of growths: {runs} runs, each refused growth answered")
 
 

@@ -2,15 +2,17 @@
 """Checks that the tests meet each answer of each public call that may need memory, at small and at large sizes.
 
 A call may answer want of memory in place of anything, so no clause refuses a body that answers it where a list is long, or
-in place of one refusal. Only tests do. A test tells what it meets by lines of this form right above its `#[test]`:
+in place of one refusal. Only tests do. A test tells what it meets by lines right above its `#[test]`:
 
     // meets CALL ANSWER at SIZE, SIZE.. UNIT
+    // like CALL: OTHER, OTHER..
 
-CALL is a function or `Type::method`, ANSWER is `Ok`, or a variant of what the call answers or refuses. This script reads
-the calls, the variants and the constants from the code, and these lines from the tests. It wants for each call each answer,
-a size of at most 100 for each call, a size above each constant with which its code chooses between two ways, and its limit.
-A size above 100 has to stand in the test's file, as a number or as the constant that has it. A constant that is not told of
-here is a fault, so that a new one is.
+CALL is a function or `Type::method`, ANSWER is `Ok`, `Some` or `None`, or a variant of what the call answers or refuses. The
+second form says that the lines above it hold for other calls, too. This script reads the calls, the variants and the
+constants from the code, and these lines from the tests. It wants for each call each of its answers; for each call a size of
+at most 100 and one that is large; and a size beyond each constant with which code chooses between two ways, for each call
+that comes there. A size above 100 has to stand in the test's file, as a number or as the value of a constant of the code
+that the file names. A constant of the code that is not told of here is a fault, so that a new one is.
 
 usage: tools/test_answers.py
 """
@@ -22,48 +24,227 @@ import sys
 TOP = os.path.abspath(os.path.join(os.path.dirname(os.path.abspath(__file__)), ".."))
 CRATES = ["t1_bytes", "t1_char", "t1_run", "t1_join", "t1_font", "t1_subset", "t1_cmd"]
 MEETS = re.compile(r"^// meets (\w+(?:::\w+)?) (\w+)(?: at ([\d, ]+) ([a-z]+))?$")
+LIKE = re.compile(r"^// like (\w+(?:::\w+)?): ([\w:, ]+)$")
+CALL = re.compile(r"^( *)pub fn (\w+)(?:<[^(]*>)?\(([^)]*)\)(?: -> ([^{\n]*))?", re.M)
 
-# Enums whose variants are answers of their own, by the type that a call answers; a variant with a fault in it stands for
-# those of the fault.
-READS, RUNS, DRAWS, CONFLICTS = "t1_font:ReadFault", "t1_run:Fault", "t1_run:DrawFault", "t1_subset:Conflict"
+# The answers of a type that is no plain value: names, or the variants of an enum but for those that no call answers.
+READS, RUNS = "ReadFault", "Fault"
 ANSWERS = {
-    "Drawing": [DRAWS, RUNS],
-    "Layout<'f>": [DRAWS, RUNS],
-    "Direct": [RUNS],
-    "BytesFault": ["t1_bytes:BytesFault"],
-    "CharFault": ["t1_char:CharFault"],
-    "ListFault": ["t1_join:ListFault"],
-    "JoinFault": ["t1_join:JoinFault"],
-    "ReadFault": [READS],
-    "PartsFault": ["t1_font:PartsFault"],
-    "Conflict": [CONFLICTS],
-    "SubsetFault": ["t1_subset:SubsetFault"],
+    "Drawing": ["Drawn", "DrawFault"],
+    "Layout<'f>": ["Drawn", "DrawFault"],
+    "Direct": ["Plain", "Seac", RUNS],
+    "RunFault": [],
 }
 # What each engine refuses, beside a reader or a writer that fails.
 REFUSALS = {
-    "read_all": [],
-    "write_fault": [],
-    "run_join": ["t1_join:ListFault", "t1_join:JoinFault"],
+    "read_all": ["TooLong"],
+    "run_join": ["TooLong", "ListFault", "JoinFault"],
     "run_check": [READS],
     "run_list": [READS],
     "run_convert": [READS],
-    "run_show": [READS],
-    "run_subset": [READS],
-    "run_merge": [READS, CONFLICTS],
-    "run_rejoin": [READS, CONFLICTS],
+    "run_show": [READS, "NoGlyph"],
+    "run_subset": [READS, "NoGlyph"],
+    "run_merge": [READS, "Conflict"],
+    "run_rejoin": [READS, "Conflict"],
 }
-# Answers beside those of the types, and those that a call can't give.
-MORE = {
-    "run_show": {"NoGlyph"},
-    "run_subset": {"NoGlyph"},
-}
+# What a call can't answer, though its type has it.
 NEVER = {
-    # Without segments, a cipher or a text no fault of these.
-    "seal": {"BadSegment", "NoEexec", "ShortCipher"},
-    "hex_lines": {"BadSegment", "NoEexec", "ShortCipher"},
-    "segments": {"BadSegment", "NoEexec", "ShortCipher"},
-    "flatten": {"NoEexec", "ShortCipher"},
-    "flatten_vec": {"NoEexec", "ShortCipher"},
-    "split_eexec": {"BadSegment"},
-    "find_cipher": {"BadSegment"},
+    ("t1_bytes", "seal"): {"BadSegment", "NoEexec", "ShortCipher"},
+    ("t1_bytes", "hex_lines"): {"BadSegment", "NoEexec", "ShortCipher"},
+    ("t1_bytes", "segments"): {"BadSegment", "NoEexec", "ShortCipher"},
+    ("t1_bytes", "flatten"): {"NoEexec", "ShortCipher"},
+    ("t1_bytes", "flatten_vec"): {"NoEexec", "ShortCipher"},
+    ("t1_bytes", "split_eexec"): {"BadSegment"},
+    ("t1_bytes", "find_cipher"): {"BadSegment"},
+    # Two fonts are given.
+    ("t1_subset", "merge"): {"Empty"},
 }
+# The size that is large for a call: what its contract or the formats allow at most, or else much for it. `None`: one size.
+LARGE = {
+    "t1_bytes": {"": 100_000},
+    "t1_char": {"write": 65_535},
+    "t1_run": {"": 1000, "parts_of": None, "Called::new": None, "Called::insert": 65_535, "Called::to_set": 65_535},
+    "t1_join": {"": 60_000, "Table::new": None, "Hex::bytes": 131_070},
+    "t1_font": {"": 65_535, "even_shells": 1000, "stub_indices": 65_535},
+    "t1_subset": {"": 65_535, "merge": 65_535},
+    "t1_cmd": {"": 65_535, "Name::new": 127, "read_all": 268_435_456, "write_fault": None},
+}
+# Constants that choose between two ways, or limit what is read: the calls that a test has to take to their value and beyond.
+THRESHOLDS = {
+    "t1_bytes/LINE": ["find_cipher", "split_eexec", "hex_lines", "spread_hex_lines"],
+    "t1_cmd/CHUNK": ["read_all"],
+    "t1_font/ROOM": ["read", "read_vec"],
+    "t1_font/NAME_LIMIT": ["read", "read_vec"],
+    "t1_font/CHARSTRING_LIMIT": ["read", "read_vec"],
+    "t1_font/COUNT_LIMIT": ["read", "read_vec", "join_parts", "join_all_parts"],
+    "t1_font/WEIGHT_LIMIT": ["read", "read_vec", "join_parts", "join_all_parts", "fill_all"],
+    "t1_font/MARKERS": ["write"],
+    "t1_font/CODES": ["read", "read_vec"],
+    "t1_join/NAME_LIMIT": ["read"],
+    "t1_join/DIGITS_LIMIT": ["read"],
+    "t1_run/TOKENS": ["direct", "direct3"],
+}
+# Constants that are part of a format or of a computation, and choose nothing by a size.
+FIXED = {
+    "t1_bytes": ["EEXEC_KEY", "EEXEC_LEAD", "CHARSTRING_KEY", "FACTOR", "SUMMAND", "MARK", "TEXT", "BINARY", "END"],
+    "t1_cmd": ["UNIT"],
+    "t1_font": ["AROUND", "WORD_LIMIT"],
+    "t1_run": ["OPERANDS", "FLEX_POINTS", "ANSWERS", "LEVELS", "SUBR_LIMIT", "UNIT"],
+}
+# The file limit is met by `t1_cmd`, whose readers need no file of that size.
+FIXED["t1_bytes"] += ["FILE_LIMIT"]
+
+
+def text_of(path):
+    with open(path, encoding="utf-8") as f:
+        return f.read()
+
+
+def sources(crate, tests=False):
+    """The paths of a crate's code, or of its tests."""
+    source = os.path.join(TOP, "crates", crate, "src")
+    paths = glob.glob(source + "/*.rt") + glob.glob(source + "/tests/*.rt")
+    return sorted(path for path in paths if ("/tests" in path[len(source) :]) == tests)
+
+
+def owner(text, at):
+    """The type whose `impl` a place of a text stands in, if it stands in one."""
+    found = None
+    for impl in re.finditer(r"^impl(?:<[^{]*?>)? (?:[\w:]+(?:<[^{]*?>)? for )?(\w+)", text[:at], re.M):
+        found = impl.group(1)
+    return found
+
+
+def calls(crate):
+    """The public calls of a crate that may need memory, and what each answers."""
+    root = text_of(os.path.join(TOP, "crates", crate, "src/lib.rt"))
+    handed_on = set(re.findall(r"\w+", " ".join(re.findall(r"^pub use (?!t1_)[^;]*;", root, re.M))))
+    rooms = set(re.findall(r"^pub mod (\w+);", root, re.M)) | {"lib"}
+    for path in sources(crate):
+        text = text_of(path)
+        room = os.path.basename(path)[:-3]
+        for call in CALL.finditer(text):
+            indent, name, parameters, answer = call.groups()
+            grows = "Global" in parameters or re.search("AllocError|BytesFault", answer or "")
+            if grows and (indent or name in handed_on or room in rooms):
+                yield f"{owner(text, call.start())}::{name}" if indent else name, (answer or "").strip()
+
+
+def variants():
+    """The variants of each public enum of the crates."""
+    found = {}
+    for crate in CRATES:
+        for path in sources(crate):
+            for name, body in re.findall(r"^pub enum (\w+)(?:<[^>]*>)? \{\n(.*?)^\}", text_of(path), re.M | re.S):
+                found[name] = re.findall(r"^    (\w+)", body, re.M)
+    return found
+
+
+def constants(crate):
+    """The constants of a crate that are numbers, by name."""
+    for path in sources(crate):
+        for name, value in re.findall(r"^ *(?:pub(?:\(crate\))? )?const (\w+): [iu]\w+ = ([\d_]+);", text_of(path), re.M):
+            yield name, int(value.replace("_", ""))
+
+
+def spread(names, enums):
+    """These answers, with the variants of each that is an enum in its place; want of memory is none."""
+    answers = set()
+    for name in names:
+        answers |= set(enums[name]) - {"Memory"} if name in enums else {name}
+    return answers
+
+
+def answers_of(crate, call, answer, enums):
+    """What a call can answer."""
+    found = re.match(r"Result<(.*), (\w+)>$", answer)
+    value, fault = found.groups() if found else (answer, "AllocError")
+    if value.startswith("Option<"):
+        names = ["Some", "None"]
+    else:
+        names = ANSWERS.get(value, ["Ok"])
+    names = names + REFUSALS.get(call, ANSWERS.get(fault, [fault] if fault in enums else []))
+    return spread(names, enums) - NEVER.get((crate, call), set())
+
+
+def blocks(path):
+    """The comment lines right above each test of a file."""
+    lines = text_of(path).splitlines()
+    for number, line in enumerate(lines):
+        if line == "#[test]":
+            first = number
+            while first and lines[first - 1].startswith("//"):
+                first -= 1
+            yield first, lines[first:number]
+
+
+def told(crate, wrong):
+    """What the tests of a crate say that they meet: the sizes of each answer of each call."""
+    known = dict(constants(crate))
+    met = {}
+    for path in sources(crate, tests=True):
+        text = text_of(path)
+        numbers = {int(n.replace("_", "")) for n in re.findall(r"\b\d[\d_]*\b", re.sub(r"// meets.*", "", text))}
+        numbers |= {value for name, value in known.items() if re.search(rf"\b{name}\b", text)}
+        for first, block in blocks(path):
+            here = {}
+            for at, line in enumerate(block):
+                place = f"{os.path.relpath(path, TOP)}:{first + at + 1}"
+                meets, like = MEETS.match(line), LIKE.match(line)
+                if meets:
+                    call, answer, sizes, _ = meets.groups()
+                    sizes = [int(size) for size in re.findall(r"\d+", sizes or "")]
+                    wrong += [f"{place}: {size} stands nowhere else" for size in sizes if size > 100 and size not in numbers]
+                    here.setdefault(call, {}).setdefault(answer, set()).update(sizes or [0])
+                elif like:
+                    here.update({other.strip(): here.get(like.group(1), {}) for other in like.group(2).split(",")})
+                elif re.match(r"// (meets|like)\b", line):
+                    wrong.append(f"{place}: not of the form that is read")
+            for call, answers in here.items():
+                for answer, sizes in answers.items():
+                    met.setdefault(call, {}).setdefault(answer, set()).update(sizes)
+    return met
+
+
+def check(crate, enums, wrong):
+    """How many answers the tests of a crate meet; what is wrong is added."""
+    met = told(crate, wrong)
+    count = 0
+    for call, answer in calls(crate):
+        wanted = answers_of(crate, call, answer, enums)
+        got = met.get(call, {})
+        wrong += [f"{crate}: no test meets {call} {name}" for name in sorted(wanted - got.keys())]
+        count += len(wanted)
+        sizes = set().union(*got.values()) if got else set()
+        large = LARGE[crate].get(call, LARGE[crate].get("", 0))
+        if large is not None and got and max(sizes) < large:
+            wrong.append(f"{crate}: no test takes {call} to {large}")
+        if got and min(sizes) > 100:
+            wrong.append(f"{crate}: no test takes {call} to a small size")
+    for name, value in constants(crate):
+        for call in THRESHOLDS.get(f"{crate}/{name}", []):
+            sizes = set().union(*met.get(call, {}).values()) if met.get(call) else {0}
+            if max(sizes) <= value:
+                wrong.append(f"{crate}: no test takes {call} beyond {name}, {value}")
+        if f"{crate}/{name}" not in THRESHOLDS and name not in FIXED.get(crate, []):
+            wrong.append(f"{crate}: {name} is a new constant: see tools/test_answers.py")
+    known = {call for call, _ in calls(crate)}
+    wrong += [f"{crate}: {call} is no public call" for call in sorted(met.keys() - known) if "::" not in call and call not in MORE]
+    return count
+
+
+# What tests meet beside the calls that need memory by their names: methods of traits.
+MORE = {"join_if_agreed"}
+
+
+def main():
+    enums, wrong = variants(), []
+    count = sum(check(crate, enums, wrong) for crate in CRATES)
+    for line in wrong:
+        print(line, file=sys.stderr)
+    print(f"{count} answers of public calls that may need memory are met by tests", file=sys.stderr)
+    return 1 if wrong else 0
+
+
+if __name__ == "__main__":
+    sys.exit(main())

@@ -143,6 +143,9 @@ def rows_of_outputs(given):
     yield Row(["pfb", "tiny.pfb", "old"], 0, b"", b"", {"old": pfb})
     for word in ("merge", "rejoin"):
         yield Row([word, "tiny.pfb", "tiny.pfa", "tiny.pfb"], 0, b"", b"", {"tiny.pfb": pfa})
+        yield Row([word, "out", "tiny.pfa", "tiny.pfb", "tiny.pfa"], 0, b"", b"", {"out": pfa})
+        yield Row([word, "old", "tiny.pfa", "tiny.pfb", "no.font"], 1, b"", b"refused: no eexec\n")
+        yield Row([word, "old", "tiny.pfa", "tiny.pfb", "absent"], 3, b"", b"failed: read\n")
     yield Row(["pfb", "no.font", "out"], 1, b"", b"refused: no eexec\n")
     yield Row(["pfb", "no.font", "old"], 1, b"", b"refused: no eexec\n")
     yield Row(["subset", "tiny.pfa", "old", "X", "Zed"], 1, b"", b"refused: no glyph Zed\n")
@@ -227,6 +230,8 @@ def kept_output(program, folder):
 
 def same_output(program, folder):
     """OUT keeps its permissions; a link still leads where it led, and a file with two names stays one file."""
+    with open("old", "wb") as f:
+        f.write(b"what stood here")
     os.chmod("old", 0o640)
     os.link("old", "other")
     os.symlink("linked", "link")
@@ -241,17 +246,66 @@ def same_output(program, folder):
     return all(written) and mode == 0o640 and os.path.islink("link") and names == ["link", "linked", "new", "old"]
 
 
+def left_parts(program, folder):
+    """Where parts were left under all names beside OUT, or the name would be too long, OUT is written in place and that is said."""
+    said = "note: %s is written in place: no file could be made beside it\n"
+    with open("old", "wb") as f:
+        f.write(b"what stood here")
+    for number in range(100):
+        with open(f"old.{number}.part", "wb"):
+            pass
+    whole = example("tiny.pfa")
+    for out in ("old", "l" * 250):
+        words = [program, "pfa", os.path.join(TOP, "examples/tiny.pfb"), out]
+        done = subprocess.run(words, capture_output=True, timeout=60)
+        with open(out, "rb") as f:
+            written = f.read()
+        if (done.returncode, done.stderr.decode(), written) != (0, said % out, whole):
+            return False
+    return sorted(os.listdir(folder)) == sorted(["old", "l" * 250] + [f"old.{number}.part" for number in range(100)])
+
+
+# OUT is a file of a disk of 4,096 bytes, mounted where it stands: nothing can take its name, and a longer text doesn't fit.
+MOUNTED = """set -e
+mkdir disk
+mount -t tmpfs -o size=4096 none disk
+: > disk/file
+: > out
+mount --bind disk/file out
+set +e
+"$1" pfa big.font out
+echo "status $?"
+cat out.0.part >&3
+"""
+
+
+def kept_result(program, folder):
+    """A complete result that can neither take OUT's name nor be copied to it stays, and it is said where."""
+    if subprocess.run(["unshare", "-m", "true"], capture_output=True).returncode:
+        print("no mounts here: a result that can't take OUT's name was left out", file=sys.stderr)
+        return True
+    with open("big.font", "wb") as f:
+        f.write(small_font(b"Big", [STUB] * 5, {b"g%d" % at: 4 for at in range(200)}))
+    subprocess.run([program, "pfa", "big.font", "whole"], check=True, timeout=60)
+    words = ["unshare", "-m", "sh", "-c", MOUNTED, "sh", program]
+    done = subprocess.run(["sh", "-c", 'exec 3>kept; exec "$@"', "sh", *words], capture_output=True, timeout=60)
+    with open("whole", "rb") as whole, open("kept", "rb") as kept:
+        is_kept = whole.read() == kept.read()
+    said = b"failed: write\nnote: the whole result is in out.0.part\n"
+    return is_kept and (done.stdout, done.stderr) == (b"status 3\n", said)
+
+
 def outputs(program):
     """What becomes of the file that OUT names."""
     here = os.getcwd()
-    with tempfile.TemporaryDirectory() as folder:
-        os.chdir(folder)
-        try:
-            for test in (kept_output, same_output):
+    for test in (kept_output, same_output, left_parts, kept_result):
+        with tempfile.TemporaryDirectory() as folder:
+            os.chdir(folder)
+            try:
                 if not test(program, folder):
                     sys.exit(f"{program}: {test.__doc__} Not so.")
-        finally:
-            os.chdir(here)
+            finally:
+                os.chdir(here)
 
 
 def main():
@@ -265,7 +319,7 @@ def main():
                 sys.exit(f"{program} {row.words}: {fault}")
         full(program)
         outputs(program)
-    print(f"t1subset: {len(rows) + 3} rows of words, by {len(programs)} builds", file=sys.stderr)
+    print(f"t1subset: {len(rows) + 5} rows of words, by {len(programs)} builds", file=sys.stderr)
 
 
 main()

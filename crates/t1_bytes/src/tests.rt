@@ -506,9 +506,12 @@ fn is_put_together(alloc: Global, file: &[u8]) -> Result<bool, BytesFault> {
     Ok(pfb.as_slice() == PFB.as_slice() && pfa.as_slice() == PFA.as_slice())
 }
 
-// meets segments Ok at 1873 bytes
+// meets segments Ok at 0 bytes
 #[test]
 fn takes_tiny_apart_and_together(rt: HostRuntime) -> Result<(), Fail> {
+    const EMPTY: &[u8] = b"\x80\x01\0\0\0\0\x80\x02\0\0\0\0\x80\x01\0\0\0\0\x80\x03";
+    let empty = segments(rt.alloc(), b"", b"", b"")?;
+    assert!(rt; empty.as_slice() == EMPTY);
     const FILES: &[(&[u8], &str)] = &[(PFA, "PFA"), (PFB, "PFB")];
     for &(file, form) in FILES {
         assert!(rt; is_taken_apart(rt.alloc(), file)?, "{form}, apart");

@@ -4,7 +4,10 @@ mod drawings;
 mod engines;
 mod failing_merges;
 mod growths;
+mod large;
+mod lists;
 mod merges;
+mod refusals;
 mod rejoins;
 mod subsets;
 
@@ -152,6 +155,8 @@ fn reads(alloc: Global, bytes: &[u8], plan: Plan, want: &str, length: usize) -> 
     got == want && count == length && calls == 101
 }
 
+// meets read_all Ok at 99, 100 bytes
+// meets read_all TooLong at 101 bytes
 #[test]
 fn turns_of_read_all(rt: HostRuntime) {
     let bytes = [7u8; 101];
@@ -246,6 +251,11 @@ const JOINS: &[(&[u8], &[u8], &[u8], &[u8])] = &[
     (b"S 1 0b\n", b"S 2 0c\n\n", b"", b"refused: bad line 2\n"),
 ];
 
+// meets run_join Ok at 0, 1, 2 lines
+// meets run_join BadLine at 1, 2 lines
+// meets run_join Repeated at 2 lines
+// meets run_join Subr at 1, 2 lines
+// meets run_join Glyph at 1 lines
 #[test]
 fn joins_listings(rt: HostRuntime) {
     for &(left, right, text, line) in JOINS {
@@ -382,6 +392,7 @@ fn told_in_vain(alloc: Global) -> (&'static str, u64) {
     (word, full.calls())
 }
 
+// meets write_fault Ok
 #[test]
 fn lines_of_faults(rt: HostRuntime) {
     let alloc = rt.alloc();
@@ -476,6 +487,7 @@ fn lines_of_shells(rt: HostRuntime) {
     }
 }
 
+// meets Name::new Ok at 2, 127 bytes
 #[test]
 fn lines_of_names(rt: HostRuntime) -> Result<(), Fail> {
     let alloc = rt.alloc();
@@ -490,5 +502,7 @@ fn lines_of_names(rt: HostRuntime) -> Result<(), Fail> {
             "refused: no glyph A\\x7f\n"
         )
     );
+    let long = Name::new(alloc, &[b'g'; 127])?;
+    assert!(rt; long.as_bytes() == &[b'g'; 127]);
     Ok(())
 }

@@ -15,7 +15,7 @@
 
 mod refusal;
 
-ghost use Rattle.std.specs.Prelude.{◌≡◌, ℕ, true, List, Ok, IfOk, MatchResult};
+ghost use Rattle.std.specs.Prelude.{◌≡◌, ◌⊎◌, ℕ, true, None, List, Ok, OnOk, IfOk, IfErr, MatchResult};
 ghost use Rattle.std.specs.FinSet as sets;
 ghost use Rattle.t1_font.specs.Canon.{canon};
 ghost use Rattle.t1_font.specs.FontValue.{FontValue};
@@ -26,10 +26,11 @@ ghost use Rattle.t1_font.specs.WriteLaws.{Fits};
 ghost use Rattle.t1_algebra.specs.Interpreter.{Names};
 ghost use Rattle.t1_algebra.specs.Keep.{keep, subset};
 ghost use Rattle.t1_algebra.specs.Laws.{AnswersAlike, IsOf};
-ghost use Rattle.t1_subset.specs.NameSets.{asked};
-ghost use Rattle.t1_subset.specs.Merger.{MergesSubsets};
+ghost use Rattle.t1_subset.specs.NameSets.{lent, asked};
+ghost use Rattle.t1_subset.specs.Merger.{IsMerger, MergesSubsets};
 ghost use Rattle.t1_algebra.specs.Profile.{profile};
 ghost use Rattle.t1_example.specs.Joining.{AreSubsets, CanBeCut, IsMemory, union_subset};
+ghost use Rattle.t1_example.specs.Outcomes.{ComesTo, FilesMergeTo, LacksFirst, MergeTo, file_of, lacking};
 
 pub use refusal::Refusal;
 use std::alloc::Global;
@@ -47,10 +48,14 @@ pub enum Order {
 
 // The file of a subset of a source's font, as a document carries it.
 fn cut(alloc: Global, source: &Source, names: &[&[u8]], form: Form) -> Result<Vec<u8>, Refusal>
-    ensures { IsOf source.now (asked names.now)
+    ensures again { IsOf source.now (asked names.now)
         → Fits form source.now
         → MatchResult result (λ v. read_font v.items
         ≡ Ok (subset profile source.now (asked names.now))) IsMemory }
+    ensures text { IfOk result (λ v. v.items ≡ file_of source.now (lent names.now) form) }
+    ensures present { OnOk result (lacking source.now (lent names.now) ≡ None) }
+    ensures absent { IfErr result
+        (λ e. IsMemory e ⊎ LacksFirst (lacking source.now (lent names.now)) e) }
 {
     let font = source.font(alloc)?;
     let subset = subset(alloc, &font, names);
@@ -68,7 +73,8 @@ fn merged<'a>(
     second: &Font<'a>,
     order: Order,
 ) -> Result<Font<'a>, Conflict>
-    ensures { MergesSubsets first.now second.now result }
+    ensures subsets { MergesSubsets first.now second.now result }
+    ensures comes { IsMerger first.now second.now result }
 {
     match order {
         Order::FirstIntoSecond => merge(alloc, second, first),
@@ -84,9 +90,10 @@ fn merged_file(
     order: Order,
     form: Form,
 ) -> Result<Vec<u8>, Refusal>
-    ensures { (f : FontValue) (a b : Names) → IsFont f → IsOf f a → IsOf f b →
+    ensures subsets { (f : FontValue) (a b : Names) → IsFont f → IsOf f a → IsOf f b →
         first.now ≡ subset profile f a → second.now ≡ subset profile f b →
         MatchResult result (λ v. v.items ≡ canon (union_subset f a b) form) IsMemory }
+    ensures comes { MergeTo first.now second.now form result }
 {
     let one = first.font(alloc)?;
     let other = match second.font(alloc) {
@@ -113,12 +120,13 @@ fn joined(
     order: Order,
     form: Form,
 ) -> Result<Vec<u8>, Refusal>
-    ensures { (f : FontValue) (a b : Names)
+    ensures subsets { (f : FontValue) (a b : Names)
         → IsFont f
         → IsOf f a
         → IsOf f b
         → AreSubsets f a b first.now second.now
         → MatchResult result (λ v. v.items ≡ canon (union_subset f a b) form) IsMemory }
+    ensures comes { FilesMergeTo (read_font first.now) (read_font second.now) form result }
 {
     let one = read(alloc, first)?;
     let other = match read(alloc, second) {
@@ -140,6 +148,10 @@ fn joined(
 /// If the file spells a font, the names are the font's, and the font's head doesn't begin with byte 128 or the form is
 /// PFB, the answer is the file of the subset of all the names, in either order of the merge, and each of its glyphs runs
 /// and draws as in the font. Then only want of memory is refused.
+///
+/// A file that spells no font is refused for its first fault, as [`Refusal::Read`]; else the first name that the font
+/// lacks, of `first` before `second`, as [`Refusal::Subset`]. A head that begins with byte 128 makes a PFA that is taken
+/// for a PFB: then the answer is what the two written files come to, whatever they are read as.
 pub fn cut_and_joined(
     alloc: Global,
     file: &[u8],
@@ -152,6 +164,7 @@ pub fn cut_and_joined(
         → CanBeCut file.now (asked first.now) (asked second.now) form f
         → MatchResult result (λ v. v.items
         ≡ canon (union_subset f (asked first.now) (asked second.now)) form) IsMemory }
+    ensures comes { ComesTo (read_font file.now) (lent first.now) (lent second.now) form result }
     ensures draws { (f : FontValue)
         → CanBeCut file.now (asked first.now) (asked second.now) form f
         → IfOk result (λ v. (g : FontValue) (n : List ℕ)

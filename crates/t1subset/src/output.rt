@@ -128,7 +128,10 @@ impl Note<'_> {
         match self {
             Note::Nothing => Ok(()),
             Note::InPlace(path) => {
-                writeln!(err, "note: {path} is written in place: no file could be made beside it")
+                writeln!(
+                    err,
+                    "note: {path} is written in place: no file could be made beside it"
+                )
             }
             Note::KeptIn(path) => writeln!(err, "note: the whole result is in {path}"),
         }
@@ -180,7 +183,10 @@ impl<'r, 'p, R: Files> Out<'r, 'p, R> {
     /// Answers also what is to be said of it.
     pub fn end(self, done: Result<(), RunFault>) -> (Result<(), RunFault>, Note<'p>) {
         let Out {
-            rt, path, opened, ..
+            rt,
+            path,
+            opened,
+            ..
         } = self;
         let Some(opened) = opened else {
             return (done, Note::Nothing);

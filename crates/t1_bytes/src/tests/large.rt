@@ -96,6 +96,7 @@ fn large(
 fn takes_large_files(rt: HostRuntime) -> Result<(), Fail> {
     for &(piece, text, last, times, want, name) in LARGE {
         let file = large(rt.alloc(), piece, text, last, times)?;
+        assert!(rt; file.len() >= 140_000, "{name}");
         assert!(rt; refusal(rt.alloc(), file.as_slice()) == want, "{name}");
         assert!(rt; own_refusal(rt.alloc(), file) == want, "{name}");
     }
@@ -140,8 +141,8 @@ fn takes_large_files_that_were_written(rt: HostRuntime) -> Result<(), Fail> {
         b"",
         0,
     )?;
-    // 1,400,000 bytes.
     let private = repeated(rt.alloc(), b"dup 5 {", 200_000)?;
+    assert_eq!(rt; private.len(), 1_400_000);
     let cipher = seal(rt.alloc(), private.as_slice(), EEXEC_KEY, EEXEC_LEAD)?;
     let lines = hex_lines(rt.alloc(), cipher.as_slice())?;
     assert!(rt; is_read_again(rt.alloc(), clear.as_slice(), cipher.as_slice())?);

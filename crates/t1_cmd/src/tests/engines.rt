@@ -60,6 +60,7 @@ pub fn answers(alloc: Global, engine: Engine<'_>, input: &[u8], want: &[u8]) -> 
     answer(alloc, engine, input).as_slice() == want
 }
 
+// meets run_check Ok at 11 glyphs
 #[test]
 fn tiny_is_checked(rt: HostRuntime) {
     const FILES: &[(&[u8], &[u8], &str)] = &[
@@ -90,6 +91,7 @@ fn is_pfb(alloc: Global, file: &[u8]) -> bool {
     answers(alloc, Engine::Convert(Form::Pfb), file, PFB)
 }
 
+// meets run_convert Ok at 11 glyphs
 #[test]
 fn tiny_in_both_forms(rt: HostRuntime) {
     const FILES: &[(&[u8], &str)] = &[(PFA, "the PFA file"), (PFB, "the PFB file")];
@@ -127,6 +129,7 @@ glyph Y 12
 glyph acute 10
 ";
 
+// meets run_list Ok at 11 glyphs
 #[test]
 fn tiny_is_listed(rt: HostRuntime) {
     assert!(rt; answers(rt.alloc(), Engine::List, PFB, TINY_LISTED));
@@ -206,12 +209,14 @@ fn each_read_fails(rt: HostRuntime) {
     }
 }
 
-const ENGINES: &[Engine] = &[
+pub const ENGINES: &[Engine] = &[
     Engine::Check,
     Engine::List,
     Engine::Show(b"Aacute"),
+    Engine::Convert(Form::Pfa),
     Engine::Convert(Form::Pfb),
     Engine::Subset(&[b"X"], Form::Pfa),
+    Engine::Subset(&[b"X"], Form::Pfb),
 ];
 
 /// How an engine ends over a writer of a plan, as a word, how many calls of that writer failed, and whether a prefix of the

@@ -96,17 +96,25 @@ fn merged(alloc: Global, readers: &mut [Counted<&[u8]>]) -> Result<Option<Vec<u8
     written(out, ended)
 }
 
-/// Whether Tiny's two files merge to its PFA.
+/// Whether Tiny's two files, one of them twice, merge to its PFA.
 fn merges(alloc: Global) -> Result<bool, AllocError> {
-    let mut readers = [Counted::new(PFA.as_slice()), Counted::new(PFB.as_slice())];
+    let mut readers = [
+        Counted::new(PFA.as_slice()),
+        Counted::new(PFB.as_slice()),
+        Counted::new(PFA.as_slice()),
+    ];
     let text = merged(alloc, &mut readers)?;
     Ok(text.is_some_and(|text| text.as_slice() == PFA.as_slice()))
 }
 
-/// Whether Tiny with a tag and its PFB rejoin to its PFA.
+/// Whether Tiny with a tag and its two files rejoin to its PFA.
 fn rejoins(alloc: Global) -> Result<bool, AllocError> {
     let file = tagged(alloc, PFA, b"/FontName /ABCDEF+Tiny")?;
-    let mut readers = [Counted::new(file.as_slice()), Counted::new(PFB.as_slice())];
+    let mut readers = [
+        Counted::new(file.as_slice()),
+        Counted::new(PFB.as_slice()),
+        Counted::new(PFA.as_slice()),
+    ];
     let mut out = Vec::with_capacity(alloc, PFA.len())?;
     let ended = run_rejoin(alloc, &mut readers, Form::Pfa, &mut Counted::new(&mut out));
     Ok(written(out, ended)?.is_some_and(|text| text.as_slice() == PFA.as_slice()))

@@ -130,7 +130,7 @@ fn heavy_private(alloc: Global, name: &[u8]) -> Result<Vec<u8>, AllocError> {
 }
 
 /// A font with a long head and that private text.
-fn heavy(alloc: Global, name: &[u8]) -> Result<Vec<u8>, AllocError> {
+pub fn heavy(alloc: Global, name: &[u8]) -> Result<Vec<u8>, AllocError> {
     let private = heavy_private(alloc, name)?;
     file_of(alloc, 67_000_000, private.as_slice())
 }

@@ -1,0 +1,206 @@
+//! Each refusal of a font by each engine, with the line that is printed: of the engines over one font, and of those over
+//! lists, whose third font is the one that is refused.
+use super::changed::file_of;
+use super::engines::{ENGINES, answers, run};
+use super::lists::{LISTS, listed, run_list_of};
+use super::word;
+use crate::{Counted, FILE_LIMIT, Reason, RunFault, read_all, run_join};
+use std::alloc::{AllocError, Global};
+use std::io;
+use std::io::Read;
+use std::test::Fail;
+use t1_tiny::PFA;
+
+/// Files whose containers or clear texts are refused, and the line.
+const CLEAR: &[(&[u8], &[u8])] = &[
+    (b"\x80\x04", b"refused: bad segment at 0\n"),
+    (b"", b"refused: no eexec\n"),
+    (
+        b"currentfile eexec \x81\x82\x83",
+        b"refused: cipher too short\n",
+    ),
+    (
+        b"currentfile eexec \x81\x82\x83\x84",
+        b"refused: no Encoding\n",
+    ),
+    (
+        b"/Encoding def currentfile eexec \x81\x82\x83\x84",
+        b"refused: bad Encoding at 0\n",
+    ),
+];
+
+/// Private texts that are refused, and the line.
+const PRIVATE: &[(&[u8], &[u8])] = &[
+    (b"/lenIV -1 def", b"refused: no CharStrings\n"),
+    (
+        b"/lenIV -1 def /CharStrings 1 dict dup begin ",
+        b"refused: bad lenIV\n",
+    ),
+    (
+        b"/lenIV 0 def /Subrs 1 array dup /CharStrings 1 dict dup begin ",
+        b"refused: bad Subrs at 28\n",
+    ),
+    (
+        b"/CharStrings 1 dict dup begin /.notdef ",
+        b"refused: bad CharStrings at 30\n",
+    ),
+    (
+        b"/CharStrings 0 dict dup begin end /Subrs 0 array ",
+        b"refused: hybrid font\n",
+    ),
+    (
+        b"/CharStrings 0 dict dup begin end close file",
+        b"refused: no closefile\n",
+    ),
+    (
+        b"/CharStrings 0 dict dup begin end closefile",
+        b"refused: no .notdef\n",
+    ),
+    (
+        b"/lenIV 0 def /Subrs 65536 array ND /CharStrings 0 dict dup begin /.notdef 0 RD  ND end closefile",
+        b"refused: over a limit\n",
+    ),
+];
+
+/// Whether each engine over one font, and each over a list with this as its third font, refuses a file with this line.
+fn all_refuse(alloc: Global, file: &[u8], line: &[u8]) -> bool {
+    for &engine in ENGINES {
+        if !answers(alloc, engine, file, line) {
+            return false;
+        }
+    }
+    third_is_refused(alloc, file, line)
+}
+
+/// Whether each engine over a list refuses a file with this line where it is the third of four.
+fn third_is_refused(alloc: Global, file: &[u8], line: &[u8]) -> bool {
+    for &list in LISTS {
+        if listed(alloc, list, &[PFA, PFA, file, b""]).as_slice() != line {
+            return false;
+        }
+    }
+    true
+}
+
+// meets run_check BadSegment
+// meets run_check NoEexec
+// meets run_check ShortCipher
+// meets run_check NoEncoding
+// meets run_check BadEncoding
+// meets run_check NoCharStrings
+// meets run_check BadLenIV
+// meets run_check BadSubrs
+// meets run_check BadGlyphs
+// meets run_check Hybrid
+// meets run_check NoClosefile
+// meets run_check NoNotdef
+// meets run_check Limit
+// like run_check: run_list, run_show, run_convert, run_subset, run_merge, run_rejoin
+#[test]
+fn each_fault_by_each_engine(rt: HostRuntime) -> Result<(), Fail> {
+    for &(file, line) in CLEAR {
+        assert!(rt; all_refuse(rt.alloc(), file, line), "{}", line.len());
+    }
+    for &(private, line) in PRIVATE {
+        let file = file_of(rt.alloc(), 0, private)?;
+        assert!(rt;
+            all_refuse(rt.alloc(), file.as_slice(), line),
+            "{}",
+            line.len()
+        );
+    }
+    Ok(())
+}
+
+/// So many zeros.
+#[derive(Drop)]
+struct Zeros {
+    left: usize,
+}
+
+impl Read for Zeros {
+    fn read(&mut self, buf: &mut [u8]) -> io::Result<usize> {
+        let n = self.left.min(buf.len());
+        buf[..n].fill(0);
+        self.left -= n;
+        Ok(n)
+    }
+}
+
+/// Whether a run is refused for a file over the limit.
+fn is_too_long(ended: &Result<(), RunFault>) -> bool {
+    matches!(ended, Err(RunFault::Refused(Reason::TooLong)))
+}
+
+/// Whether so many zeros are too long for each engine over a list.
+fn are_too_long_in_a_list(alloc: Global, count: usize) -> bool {
+    for &list in LISTS {
+        let mut out = Vec::new(alloc);
+        let mut zeros = [Counted::new(Zeros { left: count })];
+        let ended = run_list_of(alloc, list, &mut zeros, &mut Counted::new(&mut out));
+        let told = is_too_long(&ended);
+        drop(ended);
+        if !told || !out.is_empty() {
+            return false;
+        }
+    }
+    true
+}
+
+/// Whether so many zeros are too long for each engine over one font.
+fn are_too_long(alloc: Global, count: usize) -> Result<bool, AllocError> {
+    for &engine in ENGINES {
+        let mut out = Vec::new(alloc);
+        let mut zeros = Counted::new(Zeros { left: count });
+        let ended = run(alloc, engine, &mut zeros, &mut Counted::new(&mut out));
+        let told = is_too_long(&ended);
+        drop(ended);
+        if !told || !out.is_empty() {
+            return Ok(false);
+        }
+    }
+    Ok(true)
+}
+
+/// How many bytes of so many zeros are read, if they are not too long.
+fn read_zeros(alloc: Global, count: usize) -> Option<usize> {
+    match read_all(alloc, &mut Counted::new(Zeros { left: count }), FILE_LIMIT) {
+        Ok(bytes) => Some(bytes.len()),
+        Err(fault) => {
+            drop(fault);
+            None
+        }
+    }
+}
+
+/// How two listings of so many zeros join, as a word.
+fn joined_zeros(alloc: Global, left: usize, right: usize) -> &'static str {
+    let mut left = Counted::new(Zeros { left });
+    let mut right = Counted::new(Zeros { left: right });
+    let mut out = Vec::new(alloc);
+    let ended = run_join(alloc, &mut left, &mut right, &mut Counted::new(&mut out));
+    let word = if is_too_long(&ended) {
+        "too long"
+    } else {
+        word(&ended)
+    };
+    drop(ended);
+    word
+}
+
+// meets read_all Ok at 268435456 bytes
+// meets read_all TooLong at 268435457 bytes
+// meets run_join TooLong at 268435457 bytes
+// meets run_check TooLong at 268435457 bytes
+// like run_check: run_list, run_show, run_convert, run_subset, run_merge, run_rejoin
+#[test]
+fn files_over_the_limit(rt: HostRuntime) -> Result<(), Fail> {
+    // FILE_LIMIT is 268435456.
+    assert_eq!(rt; read_zeros(rt.alloc(), FILE_LIMIT), Some(268_435_456));
+    assert_eq!(rt; read_zeros(rt.alloc(), 268_435_457), None);
+    assert!(rt; are_too_long(rt.alloc(), 268_435_457)?);
+    assert!(rt; are_too_long_in_a_list(rt.alloc(), 268_435_457));
+    assert_eq!(rt; joined_zeros(rt.alloc(), 0, 268_435_457), "too long");
+    assert_eq!(rt; joined_zeros(rt.alloc(), 268_435_457, 0), "too long");
+    Ok(())
+}

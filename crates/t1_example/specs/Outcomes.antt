@@ -1,0 +1,67 @@
+-- What a caller's work comes to, whatever the file and the names are.
+use Rattle.std.specs.Prelude.{◌≡◌, ◌⊎◌, ℕ, List, Result, Ok, Err, Option, Some, None, MatchResult, not}
+use Rattle.std.specs.FinSet as sets
+use Rattle.std.specs.Global.{Vec}
+use Rattle.std.specs.Option.{option_or}
+use Rattle.t1_bytes.specs.declared.form.Form.{Form}
+use Rattle.t1_font.specs.declared.fault.ReadFault.{ReadFault}
+use Rattle.t1_font.specs.Canon.{canon}
+use Rattle.t1_font.specs.FontValue.{FontValue}
+use Rattle.t1_font.specs.ReadFont.{read_font}
+use Rattle.t1_algebra.specs.Conflicts.{Conflict, conflict}
+use Rattle.t1_algebra.specs.Keep.{has, subset}
+use Rattle.t1_algebra.specs.Profile.{profile}
+use Rattle.t1_algebra.specs.Searches.{first_where}
+use Rattle.t1_algebra.specs.States.{Join, joined_font}
+use Rattle.t1_subset.specs.declared.fault.SubsetFault.TheVariants.{NoSuchGlyph}
+use Rattle.t1_subset.specs.Refusals.{Absent, Tells}
+use Rattle.t1_example.specs.declared.refusal.Refusal.{Refusal}
+use Rattle.t1_example.specs.declared.refusal.Refusal.TheVariants.{Read, Subset, Merge, Memory}
+use Rattle.t1_example.specs.Joining.{IsMemory}
+
+-- there is no file, for this reason or since a growth was refused
+abbrev pub IsRefused : (Refusal → Type 0) → Result (Vec ℕ) Refusal → Type 0
+IsRefused Reason r = MatchResult r (λ _. ⊥) (λ e. IsMemory e ⊎ Reason e)
+
+-- the font lacks this name
+abbrev pub IsLack : List ℕ → Refusal → Type 0
+IsLack n (Subset (NoSuchGlyph name)) = name.items ≡ n
+IsLack n e = ⊥
+
+-- the fonts have this lowest conflict
+abbrev pub IsClash : Option Conflict → Refusal → Type 0
+IsClash c (Merge e) = Tells e c
+IsClash c e = ⊥
+
+-- the file of the join of two fonts, or their lowest conflict, or a growth was refused
+abbrev pub MergeTo : FontValue → FontValue → Form → Result (Vec ℕ) Refusal → Type 0
+MergeTo g h form r = MatchResult r (λ v. Join profile g h × (v.items ≡ canon (joined_font profile g h) form)) (λ e. IsMemory e ⊎ IsClash (conflict profile g h) e)
+
+-- what the fonts of two files come to: a file that spells none is refused, the first before the second
+abbrev pub FilesMergeTo : Result FontValue ReadFault → Result FontValue ReadFault → Form → Result (Vec ℕ) Refusal → Type 0
+FilesMergeTo (Err fault) other form = IsRefused (λ e. e ≡ Read fault)
+FilesMergeTo (Ok g) (Err fault) form = IsRefused (λ e. e ≡ Read fault)
+FilesMergeTo (Ok g) (Ok h) form = MergeTo g h form
+
+-- the first of these names that the font lacks
+abbrev pub lacking : FontValue → List (List ℕ) → Option (List ℕ)
+lacking f = first_where (λ n. not (has f n))
+
+-- the file of the subset over these names
+abbrev pub file_of : FontValue → List (List ℕ) → Form → List ℕ
+file_of f ns form = canon (subset profile f (sets.from_list ns)) form
+
+-- what a font comes to: a name that it lacks is refused, those of the first list before those of the second; else it is cut to both
+abbrev pub CutsMergeTo : Option (List ℕ) → FontValue → List (List ℕ) → List (List ℕ) → Form → Result (Vec ℕ) Refusal → Type 0
+CutsMergeTo (Some n) f a b form = IsRefused (IsLack n)
+CutsMergeTo None f a b form = FilesMergeTo (read_font (file_of f a form)) (read_font (file_of f b form)) form
+
+-- what a file comes to that spells this font, or no font
+abbrev pub ComesTo : Result FontValue ReadFault → List (List ℕ) → List (List ℕ) → Form → Result (Vec ℕ) Refusal → Type 0
+ComesTo (Err fault) a b form = IsRefused (λ e. e ≡ Read fault)
+ComesTo (Ok f) a b form = CutsMergeTo (option_or (lacking f a) (lacking f b)) f a b form
+
+-- the refusal of a cut names the first name that the font lacks
+abbrev pub LacksFirst : Option (List ℕ) → Refusal → Type 0
+LacksFirst first (Subset fault) = Absent fault first
+LacksFirst first e = ⊥
