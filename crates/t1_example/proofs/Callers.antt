@@ -29,6 +29,7 @@ use Rattle.t1_algebra.proofs.Fonts.{subset_is_font}
 use Rattle.t1_algebra.proofs.Sets.{name_same, itself, in_list, from_in_list, in_union}
 use Rattle.t1_example.specs.declared.refusal.Refusal.{Refusal}
 use Rattle.t1_example.specs.Joining.{CanBeCut, IsMemory, union_subset}
+use Rattle.t1_example.proofs.Outcomes.{unread}
 use Rattle.t1_subset.specs.declared.conflict.Conflict.{Conflict}
 use Rattle.t1_subset.specs.Merger.{MergesSubsets}
 use Rattle.std.proofs.lemmas.Bool.{or_left, or_right, not_from_true}
@@ -44,21 +45,7 @@ clash P r x e a b = cc
 
 -- a file that is read is refused for want of memory alone
 pub only_memory : (r : Result FontValue ReadFault) (f : FontValue) (e : ReadFault) → r ≡ Ok f → Refused e r → e ≡ reading.Memory
-only_memory r f reading.TooLong a b = clash _ r f _ a b
-only_memory r f (reading.BadSegment at) a b = clash _ r f _ a b
-only_memory r f reading.NoEexec a b = clash _ r f _ a b
-only_memory r f reading.ShortCipher a b = clash _ r f _ a b
-only_memory r f reading.NoEncoding a b = clash _ r f _ a b
-only_memory r f (reading.BadEncoding at) a b = clash _ r f _ a b
-only_memory r f reading.NoCharStrings a b = clash _ r f _ a b
-only_memory r f reading.BadLenIV a b = clash _ r f _ a b
-only_memory r f (reading.BadSubrs at) a b = clash _ r f _ a b
-only_memory r f (reading.BadGlyphs at) a b = clash _ r f _ a b
-only_memory r f reading.Hybrid a b = clash _ r f _ a b
-only_memory r f reading.NoClosefile a b = clash _ r f _ a b
-only_memory r f reading.NoNotdef a b = clash _ r f _ a b
-only_memory r f reading.Limit a b = clash _ r f _ a b
-only_memory r f reading.Memory a b = refl
+only_memory r f e a b = elim (unread e r b) [ inl m ↦ m | inr x ↦ clash _ r f e a x ]
 
 -- where a font has all names, none is absent
 all_present : (f : FontValue) (ns : List (List ℕ)) → IsOf f (sets.from_list ns) → first_where (λ n. not (has f n)) ns ≡ None

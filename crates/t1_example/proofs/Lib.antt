@@ -1,1 +1,2 @@
 mod Callers
+mod Outcomes

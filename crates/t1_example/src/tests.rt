@@ -3,7 +3,7 @@
 use crate::{Order, Refusal, cut_and_joined};
 use std::alloc::{AllocError, Global};
 use std::test::Fail;
-use t1_bytes::{EEXEC_KEY, EEXEC_LEAD, seal};
+use t1_bytes::{EEXEC_KEY, EEXEC_LEAD, seal, segments};
 use t1_font::{Font, Form, ReadFault, read};
 use t1_subset::SubsetFault;
 
@@ -94,6 +94,37 @@ fn refusals(rt: HostRuntime) -> Result<(), Fail> {
     assert!(rt; refusal(rt.alloc(), file.as_slice(), b"Q") == absent);
     let no_font = Some(Refusal::Read(ReadFault::NoEexec));
     assert!(rt; refusal(rt.alloc(), b"%!", b"A") == no_font);
+    Ok(())
+}
+
+/// The font as a PFB whose head begins with byte 128.
+fn with_byte_128(alloc: Global) -> Result<Vec<u8>, AllocError> {
+    let Ok(cipher) = seal(alloc, PRIVATE, EEXEC_KEY, EEXEC_LEAD) else {
+        return Err(AllocError);
+    };
+    if cipher.len() > 1000 {
+        return Err(AllocError);
+    }
+    let clear = b"\x80\n/Encoding StandardEncoding def\ncurrentfile eexec ";
+    let file = segments(alloc, clear, cipher.as_slice(), b"");
+    drop(cipher);
+    file.map_err(|_| AllocError)
+}
+
+/// Why there is no file of the subsets of A and of B in this form.
+fn refusal_in(alloc: Global, file: &[u8], form: Form) -> Option<Refusal> {
+    match cut_and_joined(alloc, file, &[b"A"], &[b"B"], Order::FirstIntoSecond, form) {
+        Ok(_) => None,
+        Err(refusal) => Some(refusal),
+    }
+}
+
+#[test]
+fn a_head_that_begins_as_segments_do(rt: HostRuntime) -> Result<(), Fail> {
+    let file = with_byte_128(rt.alloc())?;
+    let taken_for_segments = Some(Refusal::Read(ReadFault::BadSegment { at: 0 }));
+    assert!(rt; refusal_in(rt.alloc(), file.as_slice(), Form::Pfa) == taken_for_segments);
+    assert!(rt; refusal_in(rt.alloc(), file.as_slice(), Form::Pfb).is_none());
     Ok(())
 }
 

@@ -1,19 +1,33 @@
-use Rattle.std.proofs.Common.{◌∙◌, sym, ap, subst, Ok}
+use Rattle.std.proofs.Common.{◌∙◌, sym, ap, subst, inl, inr, Ok}
 use Rattle.std.proofs.lemmas.Result.{err_from_is_err_and}
+use Rattle.t1_font.specs.Canon.{canon}
 use Rattle.t1_font.specs.FontValue.{FontValue}
 use Rattle.t1_font.specs.WriteLaws.{Fits}
 use Rattle.t1_algebra.specs.Keep.{subset}
 use Rattle.t1_algebra.specs.Laws.{IsOf}
 use Rattle.t1_subset.specs.NameSets.{lent, asked}
 use Rattle.t1_algebra.specs.Profile.{profile}
+use Rattle.t1_example.specs.Outcomes.{LacksFirst, lacking}
+use Rattle.t1_example.specs.declared.refusal.Refusal.{Refusal}
 use Rattle.t1_example.proofs.Callers.{none_lacking, cut_fits}
 use Rattle.t1_example.proofs.cut.Goals as goal
 
-pub returns-in_err-subset : goal.returns-in_err-subset
-returns-in_err-subset c = let p = err_from_is_err_and c.from_residual-in_err-subset.result c.from_residual-in_err-subset.ensures.1 in rw (p.1, p.2) (λ i k.
+pub returns-in_err-subset-clause-again : goal.returns-in_err-subset-clause-again
+returns-in_err-subset-clause-again c = let p = err_from_is_err_and c.from_residual-in_err-subset.result c.from_residual-in_err-subset.ensures.1 in rw (p.1, p.2) (λ i k.
     none_lacking c.in_ok-font.font (lent c.args.names.now) c.in_err-subset.field-0.0 (subst (λ (j : FontValue). IsOf j (asked c.args.names.now)) (sym c.in_ok-font.ensures) i) c.in_err-subset.ensures.absent)
 
-pub returns : goal.returns
-returns c = λ i k.
+pub returns-in_err-subset-clause-absent : goal.returns-in_err-subset-clause-absent
+returns-in_err-subset-clause-absent c = let p = err_from_is_err_and c.from_residual-in_err-subset.result c.from_residual-in_err-subset.ensures.1 in rw (p.1, p.2) (inr (
+    subst (λ (j : FontValue). LacksFirst (lacking j (lent c.args.names.now)) (Refusal.Subset c.in_err-subset.field-0.0)) c.in_ok-font.ensures c.in_err-subset.ensures.absent))
+
+pub returns-clause-again : goal.returns-clause-again
+returns-clause-again c = λ i k.
     c.in_ok-file.ensures.again (subst (λ (j : FontValue). Fits c.args.form j) (sym (c.in_ok-subset.ensures.ok ∙ ap (λ (j : FontValue). subset profile j (asked c.args.names.now)) c.in_ok-font.ensures)) (cut_fits c.args.form c.args.source.now (asked c.args.names.now) k))
     ∙ ap Ok (c.in_ok-subset.ensures.ok ∙ ap (λ (j : FontValue). subset profile j (asked c.args.names.now)) c.in_ok-font.ensures)
+
+pub returns-clause-text : goal.returns-clause-text
+returns-clause-text c = c.in_ok-file.ensures.canon
+    ∙ ap (λ (j : FontValue). canon j c.args.form) (c.in_ok-subset.ensures.ok ∙ ap (λ (j : FontValue). subset profile j (asked c.args.names.now)) c.in_ok-font.ensures)
+
+pub returns-clause-present : goal.returns-clause-present
+returns-clause-present c = ap (λ (j : FontValue). lacking j (lent c.args.names.now)) (sym c.in_ok-font.ensures) ∙ c.in_ok-subset.ensures.present

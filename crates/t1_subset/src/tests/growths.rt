@@ -139,6 +139,7 @@ fn answers_right(alloc: Global) -> Result<bool, AllocError> {
     }
 }
 
+// meets states Ok at 10 glyphs
 #[test]
 fn growths(rt: HostRuntime) -> Result<(), Fail> {
     let right = match answers_right(rt.alloc()) {
