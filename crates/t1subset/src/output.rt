@@ -82,7 +82,7 @@ enum Place<F> {
 }
 
 /// Where the result of this path is written.
-fn place<R: Files>(rt: &R, alloc: Global, path: &str) -> Place<R::File> {
+fn place_for<R: Files>(rt: &R, alloc: Global, path: &str) -> Place<R::File> {
     let before = what_stands(rt, path);
     let mode = match &before {
         Before::Nothing => NEW_MODE,
@@ -162,7 +162,7 @@ impl<'r, 'p, R: Files> Out<'r, 'p, R> {
 
     /// Opens a new file beside OUT, or else OUT.
     fn open(&self) -> io::Result<Opened<R::File>> {
-        let place = place(self.rt, self.alloc, self.path);
+        let place = place_for(self.rt, self.alloc, self.path);
         if let Place::Beside(name, file) = place {
             return Ok(Opened {
                 file,
