@@ -15,7 +15,7 @@ use Rattle.t1_run.specs.declared.answer.Hints.{Hints}
 use Rattle.t1_run.specs.declared.answer.Hints.TheVariants.{Kept}
 use Rattle.t1_run.specs.State.{State, Ending, Failed, start}
 use Rattle.t1_run.specs.Rules.{Step, Goes, Ends}
-use Rattle.t1_run.specs.Run.{Subrs, Outcome, ends, taken, index_of, entry, then_run, spend, level_limit, call, with_indices, run_glyph, at_top}
+use Rattle.t1_run.specs.Run.{Subrs, Outcome, ends, taken, index_of, entry, then_run, spend, level_limit, call, with_indices, run_glyph, at_top, marks_after}
 use Rattle.t1_run.specs.Machine.{state_of, step_of, Does, is_one, ending_of, Runs}
 use Rattle.t1_run.specs.Frames.{frame_left}
 use Rattle.t1_run.specs.Limits.{IsWithinLimits, EndsWithinLimits, Keeps}
@@ -51,7 +51,7 @@ pub at_start : {P : Type 0} (subrs : Subrs) (hints : Hints) (c old : List ℕ) (
 at_start subrs hints c old Drawn frames top m first new all none = record {
   marks = [];
   drawn = none;
-  turns = subst (λ s. Turns (run_glyph subrs hints c) old subrs hints frames s old) (sym new) (begins subrs hints c start old frames top first all start_within);
+  turns = subst (λ s. Turns (run_glyph subrs hints c) old subrs hints frames s old) (sym new) (begins subrs hints c start old frames top first all refl start_within);
   mirror = subst (λ s. Mirror (run_glyph subrs hints c) (run_glyph subrs Kept c) subrs hints Kept true frames s) (sym new) (mirror_begins subrs hints Kept c start frames top first all);
 }
 
@@ -67,6 +67,11 @@ at_top_is (halt.Plain metrics) marks = refl
 at_top_is (halt.Seac accent) marks = refl
 at_top_is (halt.Failed fault) marks = refl
 
+ends_marks : {P : Type 0} (h : Halt) (m : Machine P) (marks : List Mark) → marks_after (state_of m marks) (Ends (ending_of h marks)) ≡ marks
+ends_marks (halt.Plain metrics) m marks = refl
+ends_marks (halt.Seac accent) m marks = refl
+ends_marks (halt.Failed f) m marks = refl
+
 ends_within : (h : Halt) (marks : List Mark) (n : ℕ) → Keeps n (Ends (ending_of h marks)) → EndsWithinLimits (ending_of h marks)
 ends_within (halt.Plain metrics) marks n k = k
 ends_within (halt.Seac accent) marks n k = k
@@ -79,8 +84,8 @@ module _ {P : Type 0} {subrs : Subrs} {hints : Hints} {c old : List ℕ} {one : 
   Ran h now = Runs (run_glyph subrs hints c) h Drawn old now
 
   -- the charstring ended so after the marks so far
-  ran : (h : Halt) (end : Ending) (now : List ℕ) → ending_of h inv.marks ≡ at_top end → EndsWithinLimits (ending_of h inv.marks) → Ended (run_glyph subrs hints c) end old now → Ran h now
-  ran h end now is within e = record { marks = inv.marks; drawn = inv.drawn; ends_so = is ∙ ap at_top e.ends_so; within = within; called = e.called }
+  ran : (h : Halt) (end : Ending) (now : List ℕ) → ending_of h inv.marks ≡ at_top end → EndsWithinLimits (ending_of h inv.marks) → Ended (run_glyph subrs hints c) end old now inv.marks → Ran h now
+  ran h end now is within e = record { marks = inv.marks; drawn = inv.drawn; made = e.made; ends_so = is ∙ ap at_top e.ends_so; within = within; called = e.called }
 
   -- no token is left on top
   pub out : frame_left top ≡ [] → Ran (halt.Failed Unended) now
@@ -114,7 +119,7 @@ module _ {P : Type 0} {subrs : Subrs} {hints : Hints} {c old : List ℕ} {one : 
     pub ends_so : (h : Halt) → step_of on (state_of m' inv.marks) ≡ Ends (ending_of h inv.marks) → Ran h now
     ends_so h is =
         ran h (ending_of h inv.marks) now (sym (at_top_is h inv.marks)) (ends_within h inv.marks (m.allowed - 1) (kept_limits (Ends (ending_of h inv.marks)) is))
-        (on_end in_turn (ending_of h inv.marks) (stops h inv.marks) (sym is ∙ spent.step inv.marks))
+        (subst (Ended (run_glyph subrs hints c) (ending_of h inv.marks) old now) (ends_marks h m inv.marks) (on_end in_turn (ending_of h inv.marks) (stops h inv.marks) (sym is ∙ spent.step inv.marks)))
 
     -- and so it does where hints are kept, if this token tells nothing apart either
     pub ends_one : (h : Halt) → step_of on (state_of m' inv.marks) ≡ Ends (ending_of h inv.marks) → is_one on ≡ true → one ≡ true → run_glyph subrs Kept c ≡ run_glyph subrs hints c

@@ -1,12 +1,14 @@
 -- Indices that come to a set: those that are in it already change nothing.
-use Rattle.std.proofs.Common.{◌≡◌, refl, sym, ap, subst, ◌∙◌, ℕ, zero, suc, List, [], ◌∷◌, ◌++◌, length, get_or, ◌⊎◌, inl, inr, ◌<◌, arith}
+use Rattle.std.proofs.Common.{◌≡◌, refl, sym, ap, subst, ◌∙◌, ℕ, List, [], ◌∷◌, ◌++◌, append_assoc, ◌⊎◌, inl, inr, ◌<◌, ◌≤◌, ◌+◌, ◌==◌, Bool, true, false, cond, eqb-true, arith}
+use Rattle.std.proofs.lemmas.List.{append-nil}
 use Rattle.std.specs.declared.cmp.Ordering.{Ordering}
 use Rattle.std.specs.declared.cmp.Ordering.TheVariants.{Less, Equal, Greater}
-use Rattle.std.specs.List.{Contains}
+use Rattle.std.proofs.lemmas.List.Sums.{sum_by-cons}
 use Rattle.std.specs.Cmp.{ranked}
 use Rattle.std.specs.BTreeSet.{insert_key}
 use Rattle.std.specs.Ordering.{nat_cmp, match_ordering, MatchOrdering}
-use Rattle.t1_run.specs.Run.{with_indices}
+use Rattle.t1_run.specs.Run.{with_indices, AddsFirst}
+use Rattle.t1_run.specs.Called.{is_in, times, AreListed}
 
 -- indices are put into a set one list after the other
 pub with_indices-append : (set is js : List ℕ) → with_indices set (is ++ js) ≡ with_indices (with_indices set is) js
@@ -58,14 +60,30 @@ reached_with : (j : ℕ) (is set : List ℕ) → Reached j set → Reached j (wi
 reached_with j [] set h = h
 reached_with j (i ∷ is) set h = reached_with j is (insert_key nat_cmp set i) (reached_insert_other j i set h)
 
-reached_from : (is set : List ℕ) (i k : ℕ) → k < length is → get_or is k i ≡ i → Reached i (with_indices set is)
-reached_from [] set i k h e = absurd (omega (arith, h))
-reached_from (j ∷ is) set i zero h e = subst (λ n. Reached n (with_indices (insert_key nat_cmp set j) is)) e (reached_with j is (insert_key nat_cmp set j) (reached_insert j set))
-reached_from (j ∷ is) set i (suc k) h e = reached_from is (insert_key nat_cmp set j) i k (omega (arith, h)) e
+reached_from : (is set : List ℕ) (i : ℕ) → 0 < times is i → Reached i (with_indices set is)
+reached_from [] set i h = absurd (omega (arith, h))
+reached_from (j ∷ is) set i h =
+    let here : j ≡ i → Reached i (with_indices (insert_key nat_cmp set j) is) = λ e. subst (λ n. Reached n (with_indices (insert_key nat_cmp set j) is)) e (reached_with j is (insert_key nat_cmp set j) (reached_insert j set)) in
+    let by : (b : Bool) → (j == i) ≡ b → 0 < cond b 1 0 + times is i → Reached i (with_indices (insert_key nat_cmp set j) is) =
+    λ b. elim b as (λ b. (j == i) ≡ b → 0 < cond b 1 0 + times is i → Reached i (with_indices (insert_key nat_cmp set j) is)) [ true ↦ λ e more. here (eqb-true j i e) | false ↦ λ e more. reached_from is (insert_key nat_cmp set j) i (omega (arith, more)) ]
+    in
+    by (j == i) refl (subst (λ n. 0 < n) (sum_by-cons (λ x. cond (x == i) 1 0) j is) h)
 
 -- an index of the list comes once more
-pub with_listed : (is set : List ℕ) (i : ℕ) → Contains is i → insert_key nat_cmp (with_indices set is) i ≡ with_indices set is
-with_listed is set i (k, h, e) = insert_reached i (with_indices set is) (reached_from is set i k h e)
+pub with_listed : (is set : List ℕ) (i : ℕ) → 0 < times is i → insert_key nat_cmp (with_indices set is) i ≡ with_indices set is
+with_listed is set i h = insert_reached i (with_indices set is) (reached_from is set i h)
+
+-- an index that is in stands in the list
+pub some_listed : (places : List Bool) (is : List ℕ) (i : ℕ) → AreListed places is → is_in places i ≡ true → 0 < times is i
+some_listed places is i h e = let once : times is i ≡ 1 = h i ∙ ap (λ b. cond b 1 0) e in omega (arith, once)
+
+-- each index stands in it at most once
+pub once_listed : (places : List Bool) (is : List ℕ) → AreListed places is → (i : ℕ) → times is i ≤ 1
+once_listed places is h i = rw (h i) (at_most_one (is_in places i))
+  where
+    at_most_one : (b : Bool) → cond b 1 0 ≤ 1
+    at_most_one true = omega arith
+    at_most_one false = omega arith
 
 abbrev AllReached : List ℕ → List ℕ → Type 0
 AllReached set [] = Unit {0}
@@ -82,3 +100,22 @@ with_reached (i ∷ is) set h = ap (λ (ks : List ℕ). with_indices ks is) (ins
 -- the same indices a second time
 pub with_again : (is set : List ℕ) → with_indices (with_indices set is) is ≡ with_indices set is
 with_again is set = with_reached is (with_indices set is) (all_reached is set)
+
+-- the first of some indices are the first of these and more
+pub first_of_more : (is js old new : List ℕ) → AddsFirst is old new → AddsFirst (is ++ js) old new
+first_of_more is js old new h =
+    record { added = h.added; left = h.left ++ js; are = ap (λ (all : List ℕ). all ++ js) h.are ∙ append_assoc h.added h.left js; makes = h.makes }
+
+-- after all of some indices came the first of others
+pub first_after : (is js old mid new : List ℕ) → mid ≡ with_indices old is → AddsFirst js mid new → AddsFirst (is ++ js) old new
+first_after is js old mid new e h =
+    record {
+      added = is ++ h.added;
+      left = h.left;
+      are = ap (λ (all : List ℕ). is ++ all) h.are ∙ sym (append_assoc is h.added h.left);
+      makes = h.makes ∙ ap (λ (set : List ℕ). with_indices set h.added) e ∙ sym (with_indices-append old is h.added);
+    }
+
+-- all of both came
+pub first_all : (is js old new : List ℕ) → new ≡ with_indices (with_indices old is) js → AddsFirst (is ++ js) old new
+first_all is js old new e = record { added = is ++ js; left = []; are = sym (append-nil (is ++ js)); makes = e ∙ sym (with_indices-append old is js) }

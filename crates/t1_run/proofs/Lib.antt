@@ -8,6 +8,7 @@ mod Turns
 mod Pages
 mod Between
 mod Endings
+mod Marks
 mod StandardNames
 pub mod Limits
 pub mod LimitsOfRuns

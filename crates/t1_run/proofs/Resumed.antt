@@ -1,8 +1,9 @@
 -- Runs that are resumed after others, and runs that are deeper in calls.
-use Rattle.std.proofs.Common.{◌≡◌, refl, ap, ◌∙◌, ℕ, zero, suc, List, ◌++◌, map, append_assoc}
+use Rattle.std.proofs.Common.{◌≡◌, refl, ap, ◌∙◌, ℕ, zero, suc, List, [], ◌∷◌, ◌++◌, map, append_assoc}
 use Rattle.std.proofs.lemmas.List.{map-append, append-nil}
 use Rattle.t1_run.specs.State.{State, Ending, Back, Plain, Seac, Failed}
-use Rattle.t1_run.specs.Run.{Visit, Outcome, ends, after, visiting, one_deeper, deeper, then_run, resume}
+use Rattle.t1_run.specs.declared.answer.Mark.{Mark}
+use Rattle.t1_run.specs.Run.{Visit, Outcome, ends, after, visiting, one_deeper, deeper, then_run, resume, marks_by}
 use Rattle.t1_run.specs.Frames.{deeper_by}
 
 -- ---- resumed runs
@@ -90,3 +91,20 @@ unfolding visits_by
 deeper_by-visiting zero visits o = refl
 deeper_by-visiting (suc n) visits o =
     ap (deeper_by n) (λ i. record o { visits = map-append one_deeper visits o.visits i }) ∙ deeper_by-visiting n (map one_deeper visits) (deeper o)
+
+-- no visits, so many calls deeper, leave the marks as they are
+pub none_by : (n : ℕ) (marks : List Mark) → marks_by marks (visits_by n []) ≡ marks
+unfolding visits_by
+none_by zero marks = refl
+none_by (suc n) marks = none_by n marks
+
+-- a visit leaves its marks, however deep
+pub one_by : (n : ℕ) (marks : List Mark) (v : Visit) → marks_by marks (visits_by n (v ∷ [])) ≡ v.marks
+unfolding visits_by
+one_by zero marks v = refl
+one_by (suc n) marks v = one_by n marks (one_deeper v)
+
+-- the marks after some visits and then others
+pub marks_by-append : (marks : List Mark) (xs ys : List Visit) → marks_by marks (xs ++ ys) ≡ marks_by (marks_by marks xs) ys
+marks_by-append marks [] ys = refl
+marks_by-append marks (v ∷ xs) ys = marks_by-append v.marks xs ys

@@ -5,21 +5,27 @@ use Rattle.t1_char.specs.declared.token.Token.{Token}
 use Rattle.t1_char.specs.Tokens.{tokens}
 use Rattle.t1_run.specs.declared.frames.Frame.{Frame}
 use Rattle.t1_run.specs.declared.answer.Fault.{Fault}
-use Rattle.t1_run.specs.declared.answer.Fault.TheVariants.{Unended}
+use Rattle.t1_run.specs.declared.answer.Fault.TheVariants.{Unended, TooLong}
+use Rattle.t1_run.specs.declared.answer.Mark.{Mark}
 use Rattle.t1_run.specs.declared.answer.Hints.{Hints}
 use Rattle.t1_run.specs.State.{State, Ending, Back, Failed}
 use Rattle.t1_run.specs.Rules.{Step, Goes, Ends, Calls}
-use Rattle.t1_run.specs.Run.{Subrs, Visit, Outcome, ends, after, visiting, deeper, visit, taken, index_of, entry, enter, then_run, resume, follow, spend, run, level_limit, call, with_indices}
+use Rattle.t1_run.specs.Run.{Subrs, Visit, Outcome, ends, after, visiting, deeper, visit, taken, index_of, entry, enter, then_run, resume, follow, spend, run, level_limit, call, with_indices, marks_after, marks_by}
 use Rattle.t1_run.specs.Frames.{frame_left, lists_of, deeper_by, run_frames}
 use Rattle.t1_run.specs.Limits.{IsWithinLimits}
 use Rattle.t1_run.proofs.Indices.{with_indices-append}
-use Rattle.t1_run.proofs.Resumed.{resume_after, resume_visiting, resume_twice, resume_nothing, deeper_by-resume, deeper_by-ends, deeper_by-after, deeper_by-visiting, visits_by}
+use Rattle.t1_run.proofs.Resumed.{resume_after, resume_visiting, resume_twice, resume_nothing, deeper_by-resume, deeper_by-ends, deeper_by-after, deeper_by-visiting, visits_by, none_by, one_by, marks_by-append}
 
 -- ---- what the next token of the list on top makes of a run of lists
 
 -- the visits of a token of the list on top
 abbrev pub seen : List (List Token) → State → Step → List Visit
 seen below s step = visits_by (length below) (visit s step)
+
+-- they leave the marks that there are after it
+seen_marks : (below : List (List Token)) (s : State) (step : Step) → marks_by s.marks (seen below s step) ≡ marks_after s step
+seen_marks below s (Ends (Failed TooLong)) = none_by (length below) s.marks
+seen_marks below s step = one_by (length below) s.marks (record { depth = 0; state = s; marks = marks_after s step })
 
 -- a call by the list on top, and from its Back the run of the lists
 abbrev pub call_on : Subrs → Hints → ℕ → List (List Token) → Option ℕ → State → Outcome
@@ -77,38 +83,40 @@ module _ (subrs : Subrs) (hints : Hints) (lists : List (List Token)) (index : Op
 
 -- ---- what is left of a whole run
 
--- It is the calls and visits so far, and then this; the set `now` has these calls beside `old`.
-pub record Leaves (whole : Outcome) (old : List ℕ) (rest : Outcome) (now : List ℕ) : Type 0 where
+-- It is the calls and visits so far, and then this; the set `now` has these calls beside `old`, and these are the marks.
+pub record Leaves (whole : Outcome) (old : List ℕ) (rest : Outcome) (now : List ℕ) (marks : List Mark) : Type 0 where
   pub calls : List ℕ
   pub visits : List Visit
   pub goes : whole ≡ after calls (visiting visits rest)
   pub took : now ≡ with_indices old calls
+  pub made : marks ≡ marks_by [] visits
 
 -- Between two turns that is the run of the frames, the top of which may call so many levels deeper, from a state within the limits.
 pub record Turns (whole : Outcome) (old : List ℕ) (subrs : Subrs) (hints : Hints) (frames : List Frame) (s : State) (now : List ℕ) : Type 0 where
   pub levels : ℕ
   pub depth : levels + length frames ≡ suc level_limit
-  pub left : Leaves whole old (run_frames subrs hints levels (lists_of frames) s) now
+  pub left : Leaves whole old (run_frames subrs hints levels (lists_of frames) s) now s.marks
   pub within : IsWithinLimits s
 
--- The whole run ended so, and its calls made the new set of the old.
-pub record Ended (whole : Outcome) (end : Ending) (old now : List ℕ) : Type 0 where
+-- The whole run ended so after these marks, and its calls made the new set of the old.
+pub record Ended (whole : Outcome) (end : Ending) (old now : List ℕ) (marks : List Mark) : Type 0 where
   pub ends_so : end ≡ whole.ending
   pub called : now ≡ with_indices old whole.indices
+  pub made : marks ≡ marks_by [] whole.visits
 
 -- In a turn the token t of the frame on top is next; f is that frame after it, and below it is the rest.
 pub record Turn (whole : Outcome) (old : List ℕ) (subrs : Subrs) (hints : Hints) (rest : List Frame) (f : Frame) (t : Token) (s : State) (now : List ℕ) : Type 0 where
   pub levels : ℕ
   pub depth : levels + (length rest + 1) ≡ suc level_limit
-  pub left : Leaves whole old (run_frames subrs hints levels ((t ∷ frame_left f) ∷ lists_of rest) s) now
+  pub left : Leaves whole old (run_frames subrs hints levels ((t ∷ frame_left f) ∷ lists_of rest) s) now s.marks
 
 module _ {whole : Outcome} {old : List ℕ} where
-  left_as : (a b : Outcome) (now : List ℕ) → a ≡ b → Leaves whole old a now → Leaves whole old b now
-  left_as a b now e k = record { calls = k.calls; visits = k.visits; goes = k.goes ∙ ap (λ (o : Outcome). after k.calls (visiting k.visits o)) e; took = k.took }
+  left_as : (a b : Outcome) (now : List ℕ) (marks : List Mark) → a ≡ b → Leaves whole old a now marks → Leaves whole old b now marks
+  left_as a b now marks e k = record { calls = k.calls; visits = k.visits; goes = k.goes ∙ ap (λ (o : Outcome). after k.calls (visiting k.visits o)) e; took = k.took; made = k.made }
 
   -- after more visits and calls
-  left_after : (visits : List Visit) (more : List ℕ) (a o : Outcome) (now mid : List ℕ) → a ≡ visiting visits (after more o) → mid ≡ with_indices now more → Leaves whole old a now → Leaves whole old o mid
-  left_after visits more a o now mid e m k =
+  left_after : (visits : List Visit) (more : List ℕ) (a o : Outcome) (now mid : List ℕ) (marks marks' : List Mark) → a ≡ visiting visits (after more o) → mid ≡ with_indices now more → marks_by marks visits ≡ marks' → Leaves whole old a now marks → Leaves whole old o mid marks'
+  left_after visits more a o now mid marks marks' e m made k =
       let so_far : Outcome → Outcome = λ (o : Outcome). after k.calls (visiting k.visits o) in
       let moved : so_far (visiting visits (after more o)) ≡ after (k.calls ++ more) (visiting (k.visits ++ visits) o) =
       λ i. record { ending = o.ending; indices = sym (append_assoc k.calls more o.indices) i; visits = sym (append_assoc k.visits visits o.visits) i }
@@ -118,14 +126,16 @@ module _ {whole : Outcome} {old : List ℕ} where
         visits = k.visits ++ visits;
         goes = k.goes ∙ ap so_far e ∙ moved;
         took = m ∙ ap (λ (set : List ℕ). with_indices set more) k.took ∙ sym (with_indices-append old k.calls more);
+        made = sym made ∙ ap (λ (ms : List Mark). marks_by ms visits) k.made ∙ sym (marks_by-append [] k.visits visits);
       }
 
-  left_ends : (end : Ending) (a : Outcome) (now : List ℕ) → a ≡ ends end → Leaves whole old a now → Ended whole end old now
-  left_ends end a now e k =
+  left_ends : (end : Ending) (a : Outcome) (now : List ℕ) (marks : List Mark) → a ≡ ends end → Leaves whole old a now marks → Ended whole end old now marks
+  left_ends end a now marks e k =
       let goes : whole ≡ after k.calls (visiting k.visits (ends end)) = k.goes ∙ ap (λ (o : Outcome). after k.calls (visiting k.visits o)) e in
       record {
         ends_so = ap (λ (o : Outcome). o.ending) (sym goes);
         called = k.took ∙ ap (with_indices old) (sym (append-nil k.calls)) ∙ ap (λ (o : Outcome). with_indices old o.indices) (sym goes);
+        made = k.made ∙ ap (marks_by []) (sym (append-nil k.visits)) ∙ ap (λ (o : Outcome). marks_by [] o.visits) (sym goes);
       }
 
 -- ---- turns of the frames
@@ -150,8 +160,8 @@ without_top frames rest f pushed =
     ap (take (length frames - 1)) pushed ∙ take_at rest (f ∷ []) (length frames - 1) (omega (arith, few))
 
 -- before the first turn the glyph's frame stands alone
-pub begins : (subrs : Subrs) (hints : Hints) (c : List ℕ) (s : State) (old : List ℕ) (frames : List Frame) (f : Frame) → frames ≡ [] ++ f ∷ [] → frame_left f ≡ tokens c → IsWithinLimits s → Turns (run subrs hints level_limit (tokens c) s) old subrs hints frames s old
-begins subrs hints c s old frames f first all within =
+pub begins : (subrs : Subrs) (hints : Hints) (c : List ℕ) (s : State) (old : List ℕ) (frames : List Frame) (f : Frame) → frames ≡ [] ++ f ∷ [] → frame_left f ≡ tokens c → s.marks ≡ [] → IsWithinLimits s → Turns (run subrs hints level_limit (tokens c) s) old subrs hints frames s old
+begins subrs hints c s old frames f first all none within =
     let goes : run subrs hints level_limit (tokens c) s ≡ run_frames subrs hints level_limit (lists_of frames) s =
     sym (ap (λ (lists : List (List Token)). run_frames subrs hints level_limit lists s) (lists_push frames [] f first ∙ ap (λ (ts : List Token). ts ∷ []) all)
     ∙ resume_nothing (run subrs hints level_limit (tokens c) s))
@@ -159,20 +169,20 @@ begins subrs hints c s old frames f first all within =
     record {
       levels = level_limit;
       depth = ap (λ n. level_limit + n) (length_push frames [] f first);
-      left = record { calls = []; visits = []; goes = goes; took = refl };
+      left = record { calls = []; visits = []; goes = goes; took = refl; made = none };
       within = within;
     }
 
 module _ {whole : Outcome} {old : List ℕ} {subrs : Subrs} {hints : Hints} {frames : List Frame} {s : State} {now : List ℕ} (inv : Turns whole old subrs hints frames s now) (rest : List Frame) (f : Frame) (popped : frames ≡ rest ++ f ∷ []) where
-  top : (ts : List Token) → frame_left f ≡ ts → Leaves whole old (run_frames subrs hints inv.levels (ts ∷ lists_of rest) s) now
+  top : (ts : List Token) → frame_left f ≡ ts → Leaves whole old (run_frames subrs hints inv.levels (ts ∷ lists_of rest) s) now s.marks
   top ts e =
       let lists : lists_of frames ≡ ts ∷ lists_of rest = lists_push frames rest f popped ∙ ap (λ (ts : List Token). ts ∷ lists_of rest) e in
-      left_as (run_frames subrs hints inv.levels (lists_of frames) s) (run_frames subrs hints inv.levels (ts ∷ lists_of rest) s) now
+      left_as (run_frames subrs hints inv.levels (lists_of frames) s) (run_frames subrs hints inv.levels (ts ∷ lists_of rest) s) now s.marks
       (ap (λ (lists : List (List Token)). run_frames subrs hints inv.levels lists s) lists) inv.left
 
   -- no token is left on top
-  pub runs_out : frame_left f ≡ [] → Ended whole (Failed Unended) old now
-  runs_out none = left_ends (Failed Unended) (run_frames subrs hints inv.levels ([] ∷ lists_of rest) s) now (none_left subrs hints inv.levels (lists_of rest) s) (top [] none)
+  pub runs_out : frame_left f ≡ [] → Ended whole (Failed Unended) old now s.marks
+  runs_out none = left_ends (Failed Unended) (run_frames subrs hints inv.levels ([] ∷ lists_of rest) s) now s.marks (none_left subrs hints inv.levels (lists_of rest) s) (top [] none)
 
   -- the frame on top gives its next token
   pub turn : (f' : Frame) (t : Token) → frame_left f ≡ t ∷ frame_left f' → Turn whole old subrs hints rest f' t s now
@@ -193,7 +203,7 @@ module _ {whole : Outcome} {old : List ℕ} {subrs : Subrs} {hints : Hints} {res
       record {
         levels = in_turn.levels;
         depth = ap (λ n. in_turn.levels + n) (length_push frames rest f pushed) ∙ in_turn.depth;
-        left = left_after (seen (lists_of rest) s (Goes s')) [] lists_now (run_frames subrs hints in_turn.levels (lists_of frames) s') now now goes refl in_turn.left;
+        left = left_after (seen (lists_of rest) s (Goes s')) [] lists_now (run_frames subrs hints in_turn.levels (lists_of frames) s') now now s.marks s'.marks goes refl (seen_marks (lists_of rest) s (Goes s')) in_turn.left;
         within = within;
       }
 
@@ -204,27 +214,27 @@ module _ {whole : Outcome} {old : List ℕ} {subrs : Subrs} {hints : Hints} {res
       (record {
         levels = suc in_turn.levels;
         depth = omega (arith, in_turn.depth);
-        left = left_after (seen (lists_of rest) s (Ends (Back s'))) [] lists_now (run_frames subrs hints (suc in_turn.levels) (lists_of rest) s') now now (token_ends subrs hints in_turn.levels (lists_of rest) t (frame_left f) s (Back s') e) refl in_turn.left;
+        left = left_after (seen (lists_of rest) s (Ends (Back s'))) [] lists_now (run_frames subrs hints (suc in_turn.levels) (lists_of rest) s') now now s.marks s'.marks (token_ends subrs hints in_turn.levels (lists_of rest) t (frame_left f) s (Back s') e) refl (seen_marks (lists_of rest) s (Ends (Back s'))) in_turn.left;
         within = within;
       })
 
   -- it goes back, and no frame is left
-  pub on_last : (frames : List Frame) (s' : State) → frames ≡ rest → frames ≡ [] → Ends (Back s') ≡ spend hints t s → Ended whole (Back s') old now
+  pub on_last : (frames : List Frame) (s' : State) → frames ≡ rest → frames ≡ [] → Ends (Back s') ≡ spend hints t s → Ended whole (Back s') old now s'.marks
   on_last frames s' popped none e =
       let below_run : List Frame → Outcome = λ (frames : List Frame). run_frames subrs hints (suc in_turn.levels) (lists_of frames) s' in
-      left_ends (Back s') (below_run rest) now (ap below_run (sym popped ∙ none))
-      (left_after (seen (lists_of rest) s (Ends (Back s'))) [] lists_now (below_run rest) now now (token_ends subrs hints in_turn.levels (lists_of rest) t (frame_left f) s (Back s') e) refl in_turn.left)
+      left_ends (Back s') (below_run rest) now s'.marks (ap below_run (sym popped ∙ none))
+      (left_after (seen (lists_of rest) s (Ends (Back s'))) [] lists_now (below_run rest) now now s.marks s'.marks (token_ends subrs hints in_turn.levels (lists_of rest) t (frame_left f) s (Back s') e) refl (seen_marks (lists_of rest) s (Ends (Back s'))) in_turn.left)
 
   -- it ends the glyph
-  pub on_end : (end : Ending) → ((g : State → Outcome) → then_run end g ≡ ends end) → Ends end ≡ spend hints t s → Ended whole end old now
+  pub on_end : (end : Ending) → ((g : State → Outcome) → then_run end g ≡ ends end) → Ends end ≡ spend hints t s → Ended whole end old now (marks_after s (Ends end))
   on_end end stops e =
       let below_run : State → Outcome = run_frames subrs hints (suc in_turn.levels) (lists_of rest) in
-      left_ends end (then_run end below_run) now (stops below_run)
-      (left_after (seen (lists_of rest) s (Ends end)) [] lists_now (then_run end below_run) now now (token_ends subrs hints in_turn.levels (lists_of rest) t (frame_left f) s end e) refl in_turn.left)
+      left_ends end (then_run end below_run) now (marks_after s (Ends end)) (stops below_run)
+      (left_after (seen (lists_of rest) s (Ends end)) [] lists_now (then_run end below_run) now now s.marks (marks_after s (Ends end)) (token_ends subrs hints in_turn.levels (lists_of rest) t (frame_left f) s end e) refl (seen_marks (lists_of rest) s (Ends end)) in_turn.left)
 
   -- it calls, where so many levels are left above its frame
   module _ (s' : State) (i : ℤ) (index : Option ℕ) (callers : List Frame) (levels : ℕ) (mid : List ℕ) (e : Calls i s' ≡ spend hints t s) (is : index ≡ index_of i) (pushed : callers ≡ rest ++ f ∷ []) (room : levels + length callers ≡ suc level_limit) (took : mid ≡ with_indices now (taken index)) where
-    called : Leaves whole old (call_on subrs hints levels (lists_of callers) index s') mid
+    called : Leaves whole old (call_on subrs hints levels (lists_of callers) index s') mid s'.marks
     called =
         let visits : List Visit = seen (lists_of rest) s (Calls i s') in
         let same : in_turn.levels ≡ levels = omega (arith, in_turn.depth, room, length_push callers rest f pushed) in
@@ -234,11 +244,11 @@ module _ {whole : Outcome} {old : List ℕ} {subrs : Subrs} {hints : Hints} {res
         ∙ ap (λ (lists : List (List Token)). visiting visits (after (taken index) (call_on subrs hints in_turn.levels lists index s'))) (sym (lists_push callers rest f pushed))
         ∙ ap (λ n. visiting visits (after (taken index) (call_on subrs hints n (lists_of callers) index s'))) same
         in
-        left_after visits (taken index) lists_now (call_on subrs hints levels (lists_of callers) index s') now mid goes took in_turn.left
+        left_after visits (taken index) lists_now (call_on subrs hints levels (lists_of callers) index s') now mid s.marks s'.marks goes took (seen_marks (lists_of rest) s (Calls i s')) in_turn.left
 
     -- the call fails
-    pub on_fault : (fault : Fault) → call subrs hints levels index s' ≡ ends (Failed fault) → Ended whole (Failed fault) old mid
-    on_fault fault failed = left_ends (Failed fault) (call_on subrs hints levels (lists_of callers) index s') mid (call_fails subrs hints (lists_of callers) index s' levels fault failed) called
+    pub on_fault : (fault : Fault) → call subrs hints levels index s' ≡ ends (Failed fault) → Ended whole (Failed fault) old mid s'.marks
+    on_fault fault failed = left_ends (Failed fault) (call_on subrs hints levels (lists_of callers) index s') mid s'.marks (call_fails subrs hints (lists_of callers) index s' levels fault failed) called
 
   -- a Subr is called: its frame is on top
   pub on_call : (s' : State) (i : ℤ) (index : Option ℕ) (callers frames : List Frame) (levels : ℕ) (mid c : List ℕ) (g : Frame) → Calls i s' ≡ spend hints t s → index ≡ index_of i → callers ≡ rest ++ f ∷ [] → levels + length callers ≡ suc level_limit → mid ≡ with_indices now (taken index) → frames ≡ callers ++ g ∷ [] → (0 < levels) × (entry subrs index ≡ Some c) → frame_left g ≡ tokens c → IsWithinLimits s' → Turns whole old subrs hints frames s' mid
@@ -251,6 +261,6 @@ module _ {whole : Outcome} {old : List ℕ} {subrs : Subrs} {hints : Hints} {res
       record {
         levels = levels;
         depth = omega (arith, room, length_push frames callers g entered);
-        left = left_as (call_on subrs hints (suc levels) (lists_of callers) index s') (run_frames subrs hints levels (lists_of frames) s') mid goes (called s' i index callers (suc levels) mid e is pushed room took);
+        left = left_as (call_on subrs hints (suc levels) (lists_of callers) index s') (run_frames subrs hints levels (lists_of frames) s') mid s'.marks goes (called s' i index callers (suc levels) mid e is pushed room took);
         within = within;
       }

@@ -1,8 +1,8 @@
 //! The Subrs that runs call.
 
-ghost use Rattle.std.specs.Prelude.{◌≡◌, ◌≢◌, ◌<◌, ℕ, [], ◌∷◌, false, length, IfOk, OnOk, OnErr};
+ghost use Rattle.std.specs.Prelude.{◌≡◌, ◌≢◌, ◌<◌, ◌≤◌, ℕ, [], ◌∷◌, false, length, IfOk, OnOk, OnErr};
 ghost use Rattle.t1_run.specs.Run.{with_indices};
-ghost use Rattle.t1_run.specs.Called.{is_in};
+ghost use Rattle.t1_run.specs.Called.{is_in, times};
 
 use std::alloc::{AllocError, Global};
 use std::collections::BTreeSet;
@@ -95,9 +95,10 @@ impl Called {
         }
     }
 
-    /// The indices, in the order in which they were added.
+    /// The indices, each once, in an order that is not told.
     pub fn as_slice(&self) -> &[u16]
-        ensures { with_indices [] result.now ≡ self.now }
+        ensures indices { with_indices [] result.now ≡ self.now }
+        ensures once { (i : ℕ) → times result.now i ≤ 1 }
     {
         self.order.as_slice()
     }

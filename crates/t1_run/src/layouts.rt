@@ -1,7 +1,7 @@
 //! Layouts of a font's glyphs: what a glyph draws, without its marks, which are drawn part by part.
 
 ghost use Rattle.std.specs.Prelude.{◌≡◌, IfOk, OnOk};
-ghost use Rattle.t1_run.specs.Run.{Subrs, direct};
+ghost use Rattle.t1_run.specs.Run.{Subrs, direct, marks_made};
 ghost use Rattle.t1_run.specs.Pens.{Draws};
 ghost use Rattle.t1_run.specs.Drawings.{draw, marks_of, IsPlain};
 ghost use Rattle.t1_run.specs.Composed.{composed_picture, EachPart};
@@ -98,9 +98,9 @@ pub fn lay_out<'f, F: Glyphs>(
 }
 
 /// Draws the marks of a plain charstring by a pen, one after another, in a font with these Subrs, where hints are replaced
-/// (Adobe Type 1 Font Format 1.1, chapters 6 and 8): those that [`direct`](crate::direct) answers. It keeps none itself.
-/// It fails only for want of memory, and the pen has then drawn some of the marks or none. If the charstring is faulty or
-/// an accented glyph's, the pen has drawn the marks before its fault or end.
+/// (Adobe Type 1 Font Format 1.1, chapters 6 and 8): those that it makes up to its end or its fault. A plain glyph's are
+/// those that [`direct`](crate::direct) answers; an accented glyph's are those before its `seac`, and none of its parts. It
+/// keeps none itself. It fails only for want of memory, and what the pen has drawn then is not told.
 pub fn trace<S: Subroutines, P: Pen>(
     alloc: Global,
     subrs: &S,
@@ -110,6 +110,8 @@ pub fn trace<S: Subroutines, P: Pen>(
     ensures drawn { OnOk result (IsPlain (direct (S.subrs subrs.now) charstring.now)
         → Draws P.marked (P.page pen.old) (P.page pen.new)
         (marks_of (direct (S.subrs subrs.now) charstring.now))) }
+    ensures made { OnOk result (Draws P.marked (P.page pen.old) (P.page pen.new)
+        (marks_made Hints.Replaced (S.subrs subrs.now) charstring.now)) }
 {
     let mut called = Called::new(alloc);
     run(subrs, Hints::Replaced, charstring, pen, &mut called)?;

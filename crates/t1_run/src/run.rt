@@ -1,9 +1,9 @@
 //! Runs of charstrings.
 
-ghost use Rattle.std.specs.Prelude.{◌≡◌, ◌≤◌, IfOk, OnOk, MatchResult, ◌<◌, List, length, [], ◌∷◌, ◌++◌, Some, true};
+ghost use Rattle.std.specs.Prelude.{◌≡◌, ◌≤◌, IfOk, OnOk, OnErr, MatchResult, ◌<◌, List, length, [], ◌∷◌, ◌++◌, Some, true};
 ghost use Rattle.std.specs.Option.{option_copied};
 ghost use Rattle.t1_run.specs.Limits.{EndsWithinLimits};
-ghost use Rattle.t1_run.specs.Run.{run_glyph, direct_by, direct, direct3, exec, calls_of, with_indices, index_of, taken, entry, call};
+ghost use Rattle.t1_run.specs.Run.{run_glyph, direct_by, direct, direct3, exec, calls_of, with_indices, AddsFirst, index_of, taken, entry, call};
 ghost use Rattle.t1_run.specs.Machine.{ending_of, value_of, Runs, IsEntered};
 ghost use Rattle.t1_run.specs.BothAnswers.{kept_value};
 ghost use Rattle.t1_run.specs.Pens.{Draws};
@@ -59,9 +59,10 @@ fn enter<S: Subroutines>(subrs: &S, levels: usize, index: Option<u16>) -> Result
     }
 }
 
-/// The indices with the one that a call took.
+/// The indices with the one that a call took. If memory is refused, nothing changes.
 fn take(called: &mut Called, index: Option<u16>) -> Result<(), AllocError>
-    ensures { OnOk result (called.new ≡ with_indices called.old (taken index)) }
+    ensures added { OnOk result (called.new ≡ with_indices called.old (taken index)) }
+    ensures unchanged { OnErr result (called.new ≡ called.old) }
 {
     if let Some(index) = index {
         called.insert(index)?;
@@ -99,6 +100,8 @@ pub(crate) fn run<'s, S: Subroutines, P: Pen>(
     ensures one { IfOk result (λ r. r.1 ≡ true
         → run_glyph (S.subrs subrs.now) Hints.Kept charstring.now
         ≡ run_glyph (S.subrs subrs.now) hints charstring.now) }
+    ensures some { OnErr result (AddsFirst (calls_of hints (S.subrs subrs.now) charstring.now)
+        called.old called.new) }
 {
     let mut machine = Machine::<P>::new();
     let mut callers: ArrayVec<Frame<'s>, LEVELS> = ArrayVec::new();

@@ -1,7 +1,7 @@
 //! What a glyph needs of its font: the parts that it names and the Subrs that it executes. Its marks are not kept.
 
-ghost use Rattle.std.specs.Prelude.{◌≡◌, IfOk, OnOk, map, [], true};
-ghost use Rattle.t1_run.specs.Run.{run_glyph, calls_of, exec, with_executed, with_indices};
+ghost use Rattle.std.specs.Prelude.{◌≡◌, ◌++◌, IfOk, OnOk, OnErr, map, [], true};
+ghost use Rattle.t1_run.specs.Run.{run_glyph, calls_of, calls, calls3, exec, with_executed, with_indices, AddsFirst};
 ghost use Rattle.t1_run.specs.Machine.{ending_of};
 ghost use Rattle.t1_run.specs.Drawings.{parts, parts_by, parts_of};
 
@@ -26,6 +26,8 @@ fn halt_of<S: Subroutines>(
         ≡ parts_by hints (S.subrs subrs.now) charstring.now) }
     ensures called { OnOk result (called.new
         ≡ with_indices called.old (calls_of hints (S.subrs subrs.now) charstring.now)) }
+    ensures some { OnErr result (AddsFirst (calls_of hints (S.subrs subrs.now) charstring.now)
+        called.old called.new) }
     ensures one { IfOk result (λ r. r.1 ≡ true
         → run_glyph (S.subrs subrs.now) Hints.Kept charstring.now
         ≡ run_glyph (S.subrs subrs.now) hints charstring.now) }
@@ -46,6 +48,9 @@ fn both_halts<S: Subroutines>(
         ≡ parts_by Hints.Kept (S.subrs subrs.now) charstring.now) }
     ensures executed { OnOk result (called.new
         ≡ with_executed called.old (S.subrs subrs.now) charstring.now) }
+    ensures some { OnErr result (AddsFirst
+        (calls (S.subrs subrs.now) charstring.now ++ calls3 (S.subrs subrs.now) charstring.now)
+        called.old called.new) }
 {
     let (replaced, is_one) = halt_of(subrs, Hints::Replaced, charstring, called)?;
     if is_one {
@@ -57,7 +62,8 @@ fn both_halts<S: Subroutines>(
 
 /// What a plain charstring needs of its font: the names of its parts, by [`parts_of`](crate::parts_of) where hints are
 /// replaced and then where they are kept, and the indices that it executes, as [`executed`] says, added to `called`. It
-/// keeps no marks. It fails only for want of memory, and has then added some of these indices or none.
+/// keeps no marks. It fails only for want of memory, and has then added the first few of these indices or none, in the
+/// order in which the runs take them; what was in `called` before is still there.
 pub fn parts_and_executed<S: Subroutines>(
     alloc: Global,
     subrs: &S,
@@ -68,6 +74,9 @@ pub fn parts_and_executed<S: Subroutines>(
         ≡ parts (S.subrs subrs.now) charstring.now) }
     ensures executed { OnOk result (called.new
         ≡ with_executed called.old (S.subrs subrs.now) charstring.now) }
+    ensures some { OnErr result (AddsFirst
+        (calls (S.subrs subrs.now) charstring.now ++ calls3 (S.subrs subrs.now) charstring.now)
+        called.old called.new) }
 {
     let (replaced, kept) = both_halts(subrs, charstring, called)?;
     let mut names = parts_of_halt(alloc, replaced)?;

@@ -110,7 +110,7 @@ returns-in-Err-clause-runs g c =
     let e = c.in-Call.ensures in
     fails_so c.turns.invariant c.turns.callers.items c.turns.top refl c.next.new.self c.in-Some.token c.spend.new.self c.in-Some.ensures
     c.in-Call.i (record { step = e.step; one = e.one; within = e.within }) c.index_of-index.result c.remaining_capacity.result (search rules) c.remaining_capacity.ensures
-    c.take.new.called c.in-Err.fault c.in_ok-take-in-Call.ensures c.in-Err.ensures
+    c.take.new.called c.in-Err.fault c.in_ok-take-in-Call.ensures.added c.in-Err.ensures
 
 pub returns-in-Err-clause-one : goal.returns-in-Err-clause-one
 returns-in-Err-clause-one g c =
@@ -125,7 +125,7 @@ turns-preserved g c =
     calls c.turns.invariant c.turns.callers.items c.turns.top refl c.next.new.self c.in-Some.token c.spend.new.self c.in-Some.ensures
     c.in-Call.i (record { step = e.step; one = e.one; within = e.within }) c.index_of-index.result c.remaining_capacity.result (search rules) c.remaining_capacity.ensures
     c.take.new.called c.in-Ok.charstring.now c.new-top-in-Ok.result c.push.new.self.items (c.push.new.self.items ++ c.new-top-in-Ok.result ∷ [])
-    c.in_ok-take-in-Call.ensures c.in-Ok.ensures c.new-top-in-Ok.ensures c.push.ensures.items refl
+    c.in_ok-take-in-Call.ensures.added c.in-Ok.ensures c.new-top-in-Ok.ensures c.push.ensures.items refl
 
 pub returns-in-None-clause-runs : goal.returns-in-None-clause-runs
 returns-in-None-clause-runs g c =

@@ -1,7 +1,7 @@
-use Rattle.std.proofs.Common.{sym, ap, ◌∙◌, ℕ, List}
+use Rattle.std.proofs.Common.{rules, sym, ap, ◌∙◌, ℕ, List}
 use Rattle.t1_run.specs.declared.answer.Hints.TheVariants.{Replaced}
-use Rattle.t1_run.specs.Run.{Outcome, with_indices, calls_of}
-use Rattle.t1_run.proofs.Indices.{with_again}
+use Rattle.t1_run.specs.Run.{Outcome, with_indices, calls_of, calls, calls3}
+use Rattle.t1_run.proofs.Indices.{with_again, first_of_more, first_after}
 use Rattle.t1_run.proofs.unmarked.both_halts.Goals as goal
 
 -- both runs are one, and its indices are all
@@ -12,3 +12,11 @@ returns-then-is_one-clause-executed g c =
     said.called
     ∙ sym (with_again calls c.args.called.now)
     ∙ ap (λ (o : Outcome). with_indices (with_indices c.args.called.now calls) o.indices) (sym (said.one c.if-is_one.true))
+
+-- memory is refused in the first run
+pub returns-in_err-replaced-clause-some : goal.returns-in_err-replaced-clause-some
+returns-in_err-replaced-clause-some g c = let some = first_of_more (calls (g.S.Subroutines.subrs c.args.subrs.now) c.args.charstring.now) (calls3 (g.S.Subroutines.subrs c.args.subrs.now) c.args.charstring.now) c.args.called.now _ c.in_err-replaced.ensures.some in search rules
+
+-- memory is refused in the second run
+pub returns-in_err-kept-clause-some : goal.returns-in_err-kept-clause-some
+returns-in_err-kept-clause-some g c = let some = first_after (calls (g.S.Subroutines.subrs c.args.subrs.now) c.args.charstring.now) (calls3 (g.S.Subroutines.subrs c.args.subrs.now) c.args.charstring.now) c.args.called.now c.halt_of.new.called _ c.in_ok-replaced.ensures.called c.in_err-kept.ensures.some in search rules

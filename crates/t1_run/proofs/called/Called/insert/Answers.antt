@@ -1,13 +1,13 @@
 use Rattle.std.proofs.Common.{◌≡◌, sym, ap, subst, ◌∙◌, ℕ, List, [], ◌∷◌, nat_cmp}
 use Rattle.std.specs.BTreeSet.{insert_key}
 use Rattle.t1_run.specs.Run.{with_indices}
-use Rattle.t1_run.proofs.Indices.{with_listed, with_indices-append}
+use Rattle.t1_run.proofs.Indices.{with_listed, some_listed, with_indices-append}
 use Rattle.t1_run.proofs.called.Called.insert.Goals as goal
 
 pub returns-then-is_in-clause-added : goal.returns-then-is_in-clause-added
 returns-then-is_in-clause-added c =
     subst (λ (set : List ℕ). set ≡ insert_key nat_cmp set c.args.index) c.self.view_is
-    (sym (with_listed c.self.inside.order.items [] c.args.index (c.self.invariant c.args.index (sym c.is_in.ensures ∙ c.if-is_in.true))))
+    (sym (with_listed c.self.inside.order.items [] c.args.index (some_listed c.self.inside.places.items c.self.inside.order.items c.args.index c.self.invariant (sym c.is_in.ensures ∙ c.if-is_in.true))))
 
 pub returns-clause-added : goal.returns-clause-added
 returns-clause-added c =
