@@ -8,7 +8,6 @@ pub mod Machine
 pub mod Laws
 pub mod Growth
 pub mod Limits
-pub mod Tables
 pub mod Standard
 pub mod Drawings
 pub mod Pictures
