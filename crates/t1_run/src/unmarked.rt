@@ -64,6 +64,7 @@ fn both_halts<S: Subroutines>(
 /// replaced and then where they are kept, and the indices that it executes, as [`executed`] says, added to `called`. It
 /// keeps no marks. It fails only for want of memory, and has then added the first few of these indices or none, in the
 /// order in which the runs take them; what was in `called` before is still there.
+#[tactic(auto, using(crate::proofs::Indices::first_all))]
 pub fn parts_and_executed<S: Subroutines>(
     alloc: Global,
     subrs: &S,
