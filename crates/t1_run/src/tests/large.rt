@@ -1,81 +1,188 @@
-// What is large: where there is memory, no call may want more of it.
+// What is small and what is large: where there is memory, no call may want more of it.
 
-use crate::tests::budget::charstring;
+use crate::tests::budget::{WIDTH, charstring, count_of_marks};
 use crate::tests::fonts::{Font, GlyphFont};
-use crate::{Drawing, direct, direct_and_executed, draw, executed, parts_of};
+use crate::tests::layouts::trace_glyph;
+use crate::{
+    Called, Direct, Drawing, both_answers, direct, direct_and_executed, direct3, draw, draw3,
+    executed, parts_and_executed, parts_of,
+};
 use std::alloc::{AllocError, Global};
+use std::collections::BTreeSet;
 use std::test::Fail;
-
-// `0 250 hsbw`.
-const WIDTH: [u8; 4] = [0x8B, 0xF7, 0x8E, 0x0D];
 
 const RETURN: [u8; 1] = [0x0B];
 
-// Subrs 0 to 999, each of which goes back.
-fn thousand_subrs(alloc: Global) -> Result<Vec<(u16, &'static [u8])>, AllocError> {
+// `7 1 3 callothersubr pop callsubr`: Subr 7, or Subr 3 where hints are kept.
+const SPLIT: [u8; 8] = [0x92, 0x8C, 0x8E, 0x0C, 0x10, 0x0C, 0x11, 0x0A];
+
+// So many Subrs from 0 on, each of which goes back.
+fn returns(alloc: Global, count: u16) -> Result<Vec<(u16, &'static [u8])>, AllocError> {
     let mut subrs = Vec::new(alloc);
-    for index in 0..1000 {
+    for index in 0..count {
         subrs.push((index, RETURN.as_slice()))?;
     }
     Ok(subrs)
 }
 
-// A glyph that calls each Subr from 0 to 999, its index as a number of four bytes.
-fn thousand_calls(alloc: Global) -> Result<Vec<u8>, AllocError> {
+// A glyph that begins so and calls each of these Subrs, its index as a number of four bytes.
+fn calls(alloc: Global, begin: &[u8], count: u16) -> Result<Vec<u8>, AllocError> {
     let mut bytes = Vec::new(alloc);
     bytes.extend_from_slice(&WIDTH)?;
-    for index in 0..1000u16 {
+    bytes.extend_from_slice(begin)?;
+    for index in 0..count {
         bytes.extend_from_slice(&[0xFF, 0, 0, (index / 256) as u8, (index % 256) as u8, 0x0A])?;
     }
     bytes.push(0x0E)?;
     Ok(bytes)
 }
 
-// How many Subrs that glyph executes, by both calls that answer them.
-fn executed_by_both(alloc: Global) -> Result<(usize, usize), Fail> {
-    let subrs = thousand_subrs(alloc)?;
-    let font = Font::new(alloc, &subrs)?;
-    let glyph = thousand_calls(alloc)?;
-    let alone = executed(alloc, &font, &glyph)?;
-    let (_, both) = direct_and_executed(alloc, &font, &glyph)?;
-    Ok((alone.len(), both.len()))
+// Whether a set is that of the indices below this number.
+fn is_below(set: &BTreeSet<u16>, count: u16) -> bool {
+    for (index, want) in set.iter().zip(0..count) {
+        if *index != want {
+            return false;
+        }
+    }
+    set.len() == usize::from(count)
 }
 
-// How many marks the two parts of a drawing have.
-fn two_counts(drawing: &Drawing) -> (usize, usize) {
+// Whether that glyph is plain and executes all of these Subrs, by each call that answers them.
+fn executes_all(alloc: Global, begin: &[u8], count: u16) -> Result<bool, Fail> {
+    let subrs = returns(alloc, count)?;
+    let font = Font::new(alloc, &subrs)?;
+    let glyph = calls(alloc, begin, count)?;
+    let alone = executed(alloc, &font, &glyph)?;
+    let (answer, beside) = direct_and_executed(alloc, &font, &glyph)?;
+    let both = both_answers(alloc, &font, &glyph)?;
+    let mut called = Called::new(alloc);
+    let names = parts_and_executed(alloc, &font, &glyph, &mut called)?;
+    let added = called.to_set(alloc)?;
+    let are_all = is_below(&alone, count)
+        && is_below(&beside, count)
+        && is_below(&both.executed, count)
+        && is_below(&added, count);
+    let is_plain = matches!(&answer, Direct::Plain { .. }) && both.direct == answer;
+    Ok(are_all && is_plain && names.is_empty())
+}
+
+// meets executed Ok at 0, 1, 101, 1001, 33332 indices
+// meets direct_and_executed Ok at 0, 1, 101, 1001, 33332 indices
+// meets both_answers Ok at 0, 1, 101, 1001, 33332 indices
+// meets parts_and_executed Ok at 0, 1, 101, 1001, 33332 indices
+#[test]
+fn executes_many(rt: HostRuntime) -> Result<(), Fail> {
+    const ROWS: &[(&[u8], u16)] = &[
+        (b"", 0),
+        (b"", 1),
+        (b"", 101),
+        (b"", 1_001),
+        (b"", 33_332),
+        (&SPLIT, 8),
+        (&SPLIT, 101),
+        (&SPLIT, 1_001),
+        (&SPLIT, 33_329),
+    ];
+    for &(begin, count) in ROWS {
+        assert!(rt;
+            executes_all(rt.alloc(), begin, count)?,
+            "{count} after {begin:?}"
+        );
+    }
+    Ok(())
+}
+
+// How many marks the parts of a drawing have.
+fn counts(drawing: &Drawing) -> Option<(usize, Option<usize>)> {
     let Drawing::Drawn { parts, .. } = drawing else {
-        return (0, 0);
+        return None;
     };
     match parts.as_slice() {
-        [base, accent] => (base.marks.len(), accent.marks.len()),
-        _ => (0, 0),
+        [one] => Some((one.marks.len(), None)),
+        [base, accent] => Some((base.marks.len(), Some(accent.marks.len()))),
+        _ => None,
     }
 }
 
-// How many marks the parts of an accented glyph have, 5,000 and 7,000.
-fn marks_drawn(alloc: Global) -> Result<(usize, usize), Fail> {
-    let base = charstring(alloc, &WIDTH, 5_000, b"\x0e")?;
-    let accent = charstring(alloc, &WIDTH, 7_000, b"\x0e")?;
-    let font = GlyphFont::new(alloc, &[], &[(b"A", &base), (b"acute", &accent)], None)?;
-    let drawing = draw(alloc, &font, b"Aacute")?;
-    Ok(two_counts(&drawing))
+// Whether a name is drawn with so many marks by both answers, and traced in all with so many.
+fn is_drawn(
+    alloc: Global,
+    font: &GlyphFont<'_>,
+    name: &[u8],
+    want: (usize, Option<usize>),
+    all: usize,
+) -> Result<bool, Fail> {
+    let replaced = draw(alloc, font, name)?;
+    let kept = draw3(alloc, font, name)?;
+    let mut marks = Vec::new(alloc);
+    let parts = trace_glyph(alloc, font, name, &mut marks)?;
+    Ok(counts(&replaced) == Some(want) && kept == replaced && parts.is_some() && marks.len() == all)
 }
 
-// `50 120 200 65 194 seac`.
-const SEAC: [u8; 10] = [0xBD, 0xF7, 0x0C, 0xF7, 0x5C, 0xCC, 0xF7, 0x56, 0x0C, 0x06];
-
-// How many parts an accented glyph of 60,000 bytes names.
-fn parts_named(alloc: Global) -> Result<usize, Fail> {
-    let font = Font::small(alloc)?;
-    let glyph = charstring(alloc, &WIDTH, 29_993, &SEAC)?;
-    let outcome = direct(alloc, &font, &glyph)?;
-    Ok(parts_of(alloc, &outcome)?.len())
+// Whether plain glyphs of so many marks are drawn, one and as the parts of an accented glyph, which has so many in all.
+fn draws(alloc: Global, count: u32, all: usize) -> Result<bool, Fail> {
+    let glyph = charstring(alloc, &WIDTH, count, b"\x0e")?;
+    let font = GlyphFont::new(alloc, &[], &[(b"A", &glyph), (b"acute", &glyph)], None)?;
+    let replaced = direct(alloc, &font, &glyph)?;
+    let kept = direct3(alloc, &font, &glyph)?;
+    let count = count as usize;
+    Ok(
+        count_of_marks(&replaced) == count
+            && kept == replaced
+            && is_drawn(alloc, &font, b"A", (count, None), count)?
+            && is_drawn(alloc, &font, b"Aacute", (count, Some(count)), all)?,
+    )
 }
 
+// meets direct Plain at 0, 1, 99996 marks
+// meets direct3 Plain at 0, 1, 99996 marks
+// meets draw Drawn at 0, 1, 99996 marks
+// meets draw3 Drawn at 0, 1, 99996 marks
+// meets lay_out Drawn at 0, 1, 99996 marks
+// meets trace Ok at 0, 1, 99996 marks
 #[test]
-fn succeeds(rt: HostRuntime) -> Result<(), Fail> {
-    assert_eq!(rt; executed_by_both(rt.alloc())?, (1000, 1000));
-    assert_eq!(rt; marks_drawn(rt.alloc())?, (5_000, 7_000));
-    assert_eq!(rt; parts_named(rt.alloc())?, 2);
+fn draws_many(rt: HostRuntime) -> Result<(), Fail> {
+    for (count, all) in [(0, 0), (1, 2), (99_996, 199_992)] {
+        assert!(rt; draws(rt.alloc(), count, all)?, "{count} marks");
+    }
+    Ok(())
+}
+
+// Whether an outcome is an accented glyph that names so many parts.
+fn names(alloc: Global, outcome: &Direct, count: usize) -> Result<bool, AllocError> {
+    let names = parts_of(alloc, outcome)?;
+    Ok(matches!(outcome, Direct::Seac { .. }) && names.len() == count)
+}
+
+// Whether a charstring that ends so after so many dotsections names so many parts, by each call that answers them.
+fn names_parts(alloc: Global, dotsections: u32, end: &[u8], count: usize) -> Result<bool, Fail> {
+    let font = Font::small(alloc)?;
+    let glyph = charstring(alloc, &WIDTH, dotsections, end)?;
+    let replaced = direct(alloc, &font, &glyph)?;
+    let kept = direct3(alloc, &font, &glyph)?;
+    let mut called = Called::new(alloc);
+    let both = parts_and_executed(alloc, &font, &glyph, &mut called)?;
+    Ok(names(alloc, &replaced, count)? && kept == replaced && both.len() / 2 == count)
+}
+
+// meets direct Seac at 0, 99991 marks
+// meets direct3 Seac at 0, 99991 marks
+// meets parts_of Ok at 0, 1, 2 names
+// meets parts_and_executed Ok at 0, 2, 4 names
+#[test]
+fn names_parts_late(rt: HostRuntime) -> Result<(), Fail> {
+    const ENDS: &[(&[u8], usize)] = &[
+        (b"\xbd\xf7\x0c\xf7\x5c\x8b\x8b\x0c\x06", 0),
+        (b"\xbd\xf7\x0c\xf7\x5c\x8b\xf7\x56\x0c\x06", 1),
+        (b"\xbd\xf7\x0c\xf7\x5c\xcc\xf7\x56\x0c\x06", 2),
+    ];
+    for dotsections in [0, 99_991] {
+        for &(end, count) in ENDS {
+            assert!(rt;
+                names_parts(rt.alloc(), dotsections, end, count)?,
+                "{count} parts after {dotsections}"
+            );
+        }
+    }
     Ok(())
 }

@@ -117,16 +117,93 @@ fn draws_many_marks(rt: HostRuntime) -> Result<(), Fail> {
     Ok(())
 }
 
-// The marks that a charstring makes before its fault are drawn.
-fn is_drawn_before_its_fault(alloc: Global) -> Result<bool, Fail> {
+// Charstrings that end as accented glyphs or by a fault, and the letters of the marks that they make before.
+const BEFORE_END: &[(&str, &[u8], &[u8])] = &[
+    (
+        "a path before seac",
+        b"\x8b\xf7\x8e\x0d\x8b\x16\xef\x06\x09\xbd\xf7\x0c\xf7\x5c\xcc\xf7\x56\x0c\x06",
+        b"mlz",
+    ),
+    (
+        "a hint of Subr 7 before seac",
+        b"\x8b\xf7\x8e\x0d\x92\x0a\xbd\xf7\x0c\xf7\x5c\xcc\xf7\x56\x0c\x06",
+        b"h",
+    ),
+    (
+        "seac alone",
+        b"\x8b\xf7\x8e\x0d\xbd\xf7\x0c\xf7\x5c\xcc\xf7\x56\x0c\x06",
+        b"",
+    ),
+    (
+        "byte 15 after a path",
+        b"\x8b\xf7\x8e\x0d\x8b\x16\x09\x0f",
+        b"mz",
+    ),
+    (
+        "a line of no operand after a move",
+        b"\x8b\xf7\x8e\x0d\x8b\x16\x06",
+        b"m",
+    ),
+    (
+        "no token after a path",
+        b"\x8b\xf7\x8e\x0d\x8b\x16\x09",
+        b"mz",
+    ),
+    (
+        "calls without end after the line of Subr 5",
+        b"\x8b\xf7\x8e\x0d\x8b\x16\x90\x0a\x94\x0a",
+        b"ml",
+    ),
+    (
+        "endchar in a flex, whose moves make no mark",
+        b"\x8b\xf7\x8e\x0d\x8b\x16\x8c\x0a\xbd\x16\x8d\x0a\x0e",
+        b"m",
+    ),
+    (
+        "byte 15 after other hints",
+        b"\x8b\xf8\x88\x0d\x8b\x9f\x01\x92\x8f\x0a\x0f",
+        b"hrh",
+    ),
+    ("a move before the width", b"\x8b\x16", b""),
+    ("no token", b"", b""),
+];
+
+// Whether a pen has drawn these letters of a charstring.
+fn traces(alloc: Global, charstring: &[u8], want: &[u8]) -> Result<bool, Fail> {
     let font = GlyphFont::new(alloc, &[], &[], None)?;
     let mut pen = Letters::new(alloc);
-    trace(alloc, &font, b"\x8b\xf7\x8e\x0d\x8b\x16\x09\x0f", &mut pen)?;
-    Ok(pen.are(b"mz"))
+    trace(alloc, &font, charstring, &mut pen)?;
+    Ok(pen.are(want))
 }
 
+// Whether a list has so many marks after a charstring of so many dotsections that ends so.
+fn traces_many(alloc: Global, dotsections: u32, end: &[u8]) -> Result<bool, Fail> {
+    let font = GlyphFont::new(alloc, &[], &[], None)?;
+    let glyph = charstring(alloc, &WIDTH, dotsections, end)?;
+    let mut marks = Vec::new(alloc);
+    trace(alloc, &font, &glyph, &mut marks)?;
+    Ok(marks.len() == dotsections as usize)
+}
+
+// meets trace Ok at 0, 1, 3, 99991, 99996, 99997 marks
 #[test]
-fn draws_up_to_a_fault(rt: HostRuntime) -> Result<(), Fail> {
-    assert!(rt; is_drawn_before_its_fault(rt.alloc())?);
+fn draws_up_to_the_end(rt: HostRuntime) -> Result<(), Fail> {
+    for &(name, charstring, want) in BEFORE_END {
+        assert!(rt; traces(rt.alloc(), charstring, want)?, "{name}");
+    }
+    let is_seac = traces_many(
+        rt.alloc(),
+        99_991,
+        b"\xbd\xf7\x0c\xf7\x5c\xcc\xf7\x56\x0c\x06",
+    )?;
+    assert!(rt; is_seac, "seac as token 100,000");
+    assert!(rt;
+        traces_many(rt.alloc(), 99_996, b"\x0f")?,
+        "byte 15 as token 100,000"
+    );
+    assert!(rt;
+        traces_many(rt.alloc(), 99_997, b"\x0e")?,
+        "endchar as token 100,001"
+    );
     Ok(())
 }
