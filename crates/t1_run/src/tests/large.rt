@@ -92,6 +92,33 @@ fn executes_many(rt: HostRuntime) -> Result<(), Fail> {
     Ok(())
 }
 
+// `0 250 hsbw 5 callsubr 50 120 200 65 194 seac`.
+const CALL_AND_SEAC: [u8; 16] = [
+    0x8B, 0xF7, 0x8E, 0x0D, 0x90, 0x0A, 0xBD, 0xF7, 0x0C, 0xF7, 0x5C, 0xCC, 0xF7, 0x56, 0x0C, 0x06,
+];
+
+// Whether the indices below this number, which were called before, are still there after that glyph, which calls one of them
+// again and names two parts in both runs.
+fn keeps(alloc: Global, before: u16) -> Result<bool, Fail> {
+    let font = Font::small(alloc)?;
+    let mut called = Called::new(alloc);
+    for index in 0..before {
+        called.insert(index)?;
+    }
+    let names = parts_and_executed(alloc, &font, &CALL_AND_SEAC, &mut called)?;
+    let all = called.to_set(alloc)?;
+    Ok(names.len() == 4 && is_below(&all, before))
+}
+
+// meets parts_and_executed Ok at 6, 1001, 65535 indices
+#[test]
+fn keeps_what_was_called(rt: HostRuntime) -> Result<(), Fail> {
+    for before in [6, 1_001, 65_535] {
+        assert!(rt; keeps(rt.alloc(), before)?, "{before} indices");
+    }
+    Ok(())
+}
+
 // How many marks the parts of a drawing have.
 fn counts(drawing: &Drawing) -> Option<(usize, Option<usize>)> {
     let Drawing::Drawn { parts, .. } = drawing else {
