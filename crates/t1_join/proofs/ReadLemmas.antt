@@ -59,7 +59,8 @@ pub ended : (n : ℕ) (seen : List Entry) (rest : List ℕ) → length rest ≡ 
 ended n seen [] e = refl
 ended n seen (b ∷ rest) e = absurd (omega arith)
 
-not_ended : (n : ℕ) (seen : List Entry) (rest : List ℕ) → (length rest ≡ 0 → ⊥) → at_end n seen rest ≡ Err (BadLine n)
+-- where something is left, it is a bad line
+pub not_ended : (n : ℕ) (seen : List Entry) (rest : List ℕ) → (length rest ≡ 0 → ⊥) → at_end n seen rest ≡ Err (BadLine n)
 not_ended n seen [] e = absurd (e refl)
 not_ended n seen (b ∷ rest) e = refl
 

@@ -18,10 +18,18 @@ abbrev pub with_line : Entry → Unsorted → Unsorted
 with_line (subr i v) u = record { subrs = u.subrs ++ (of_number i, v) ∷ []; glyphs = u.glyphs }
 with_line (glyph n v) u = record { subrs = u.subrs; glyphs = u.glyphs ++ (n, v) ∷ [] }
 
+-- no two entries have one key
+abbrev pub KeysDiffer : List (Meaning × Meaning) → Type 0
+KeysDiffer es = IsDistinct (eq_by_cmp meaning_cmp) (keys_of es)
+
 -- no key comes twice, and the table has the entries
 pub record IsTableOf (es : List (Meaning × Meaning)) (t : TableMeaning) : Type 0 where
-  pub differ : IsDistinct (eq_by_cmp meaning_cmp) (keys_of es)
+  pub differ : KeysDiffer es
   pub table : t ≡ fin.from_entries es
+
+-- no two Subrs have one index, and no two glyphs one name
+abbrev pub AllKeysDiffer : Unsorted → Type 0
+AllKeysDiffer u = KeysDiffer u.subrs × KeysDiffer u.glyphs
 
 -- each is the table of its entries
 abbrev pub AreTablesOf : Unsorted → TableMeaning × TableMeaning → Type 0

@@ -1,5 +1,5 @@
 //! Listings: texts of Subrs by index and glyphs by name, and their join.
-ghost use Rattle.std.specs.Prelude.{◌≡◌, ◌⊎◌, ◌∷◌, ◌++◌, [], OnOk, MatchResult, MatchBool, IfOk, IfSome, IsTrue};
+ghost use Rattle.std.specs.Prelude.{◌≡◌, ◌⊎◌, ◌∷◌, ◌++◌, [], OnOk, MatchResult, MatchOption, MatchBool, IfOk, IsErr, IsTrue};
 ghost use Rattle.std.specs.FinMap as fin;
 ghost use Rattle.hex.specs.Hex.{encode_lower};
 ghost use Rattle.t1_join.specs.ListingMeaning.{IsListing};
@@ -197,7 +197,8 @@ impl<'a> Lines<'a> {
 
 /// The listing that a text spells, or nothing if it has a fault: all lines are read, and then their keys are compared.
 fn read_at_once(alloc: Global, text: &[u8]) -> Result<Option<Listing<'_>>, AllocError>
-    ensures { IfOk result (λ o. IfSome o (λ l. listing_of text.now ≡ Ok l)) }
+    ensures { IfOk result
+        (λ o. MatchOption o (IsErr (listing_of text.now)) (λ l. listing_of text.now ≡ Ok l)) }
 {
     let mut lines = Unsorted::new(alloc);
     let mut rest = text;

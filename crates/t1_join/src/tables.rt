@@ -1,5 +1,5 @@
 //! Tables: finite maps, joined key by key.
-ghost use Rattle.std.specs.Prelude.{◌≡◌, ◌≤◌, ◌∷◌, ◌++◌, [], length, true, OnOk, OnErr, IfOk, IfSome, MatchOption};
+ghost use Rattle.std.specs.Prelude.{◌≡◌, ◌≤◌, ◌∷◌, ◌++◌, ◌↔◌, [], length, IsTrue, OnOk, OnErr, IfOk, MatchOption};
 ghost use Rattle.std.specs.Option.{option_map, option_copied};
 ghost use Rattle.std.specs.List.{insert};
 ghost use Rattle.std.specs.List.Sorted.{IsStrictlySortedBy, IsBinarySearchResult, IsSearchInRange};
@@ -8,7 +8,7 @@ ghost use Rattle.std.specs.FinMap as fin;
 ghost use Rattle.t1_join.specs.Meaning.{meaning_cmp, same_meaning};
 ghost use Rattle.t1_join.specs.Passes.{first_met, merge};
 ghost use Rattle.t1_join.specs.TableMeaning.{TablesAgree, IsFirstConflict, joined_table, entry_meanings, first_meanings, pair_meaning};
-ghost use Rattle.t1_join.specs.Unsorted.{IsTableOf};
+ghost use Rattle.t1_join.specs.Unsorted.{KeysDiffer, IsTableOf};
 
 use crate::keys::{Kept, Key};
 use crate::partial::Join;
@@ -70,7 +70,9 @@ impl<K: Key + Drop, V: Kept + Drop> Table<K, V> {
 
     /// The table of entries in any order, or nothing if a key comes twice. They are sorted in place.
     pub(crate) fn of_entries(entries: Vec<(K, V)>) -> Option<Self>
-        ensures { IfSome result (IsTableOf (entry_meanings K.meaning V.meaning entries.items)) }
+        ensures { MatchOption result
+            (¬ KeysDiffer (entry_meanings K.meaning V.meaning entries.items))
+            (IsTableOf (entry_meanings K.meaning V.meaning entries.items)) }
     {
         let mut sorted = entries;
         sorted.sort_unstable_by(|one, other| one.0.cmp(&other.0));
@@ -191,7 +193,7 @@ fn put_there<K: Drop, V: Drop>(
 
 /// Whether each key is above the one before it.
 fn keys_rise<K: Key, V>(entries: &[(K, V)]) -> bool
-    ensures { result ≡ true → IsStrictlySortedBy K.cmp (keys_of entries.now) }
+    ensures { IsTrue result ↔ IsStrictlySortedBy K.cmp (keys_of entries.now) }
 {
     entries.is_sorted_by(|one, other| matches!(one.0.cmp(&other.0), Ordering::Less))
 }

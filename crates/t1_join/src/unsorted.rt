@@ -1,7 +1,7 @@
 //! The entries of a listing in the order of its lines; they are sorted once, after all lines have been read.
-ghost use Rattle.std.specs.Prelude.{◌≡◌, [], OnOk, IfSome};
+ghost use Rattle.std.specs.Prelude.{◌≡◌, [], OnOk, MatchOption};
 ghost use Rattle.t1_join.specs.LineMeaning.{line_entry};
-ghost use Rattle.t1_join.specs.Unsorted.{with_line, AreTablesOf};
+ghost use Rattle.t1_join.specs.Unsorted.{with_line, AllKeysDiffer, AreTablesOf};
 
 use crate::hexadecimal::Hex;
 use crate::lines::Line;
@@ -53,7 +53,7 @@ impl<'a> Unsorted<'a> {
 
     /// The tables of the entries, or nothing if a key comes twice.
     pub(crate) fn tables(self) -> Option<(Table<u16, Hex<'a>>, Table<&'a [u8], Hex<'a>>)>
-        ensures { IfSome result (AreTablesOf self.entry) }
+        ensures { MatchOption result (¬ AllKeysDiffer self.entry) (AreTablesOf self.entry) }
     {
         let subrs = Table::of_entries(self.subrs)?;
         let glyphs = Table::of_entries(self.glyphs)?;
