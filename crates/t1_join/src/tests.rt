@@ -1,4 +1,5 @@
 mod growths;
+mod sizes;
 
 use crate::flats::Flat;
 use crate::keys::{Kept, Key};
@@ -90,6 +91,7 @@ fn small_with(
     Ok((small.conflict(&other).copied(), count))
 }
 
+// meets Table::join Ok at 5, 59992 keys
 #[test]
 fn tables(rt: HostRuntime) -> Result<(), Fail> {
     assert!(rt;
@@ -99,6 +101,7 @@ fn tables(rt: HostRuntime) -> Result<(), Fail> {
     const ROWS: &[(u16, u16, u8, Option<u16>, Option<usize>, &str)] = &[
         (9, 12, 1, Some(10), None, "one key in conflict"),
         (9, 12, 2, Some(9), None, "the smallest key in conflict"),
+        (12, 13, 2, None, Some(5), "one entry"),
         (12, 60_000, 2, None, Some(59_992), "many entries"),
     ];
     for &(from, to, byte, conflict, count, what) in ROWS {
@@ -131,6 +134,7 @@ fn long_flats_join(alloc: Global) -> Result<bool, AllocError> {
     Ok(Flat::Empty.agrees(&long) && joins_with_nothing(alloc, &long)?)
 }
 
+// meets Flat::join Ok at 2, 150000 bytes
 #[test]
 fn flats(rt: HostRuntime) -> Result<(), Fail> {
     let bytes: &[u8] = b"ab";
@@ -165,8 +169,8 @@ fn tables_of(alloc: Global, entries: &[(u16, u8)]) -> Result<Vec<Numbered>, Allo
 // Many entries, of ten keys in all.
 fn many_entries(alloc: Global) -> Result<Vec<(u16, u8)>, AllocError> {
     let mut entries = Vec::new(alloc);
-    for number in 0..10_000 {
-        entries.push((number % 10, 0x0b))?;
+    for number in 0..100_000u32 {
+        entries.push(((number % 10) as u16, 0x0b))?;
     }
     Ok(entries)
 }
@@ -196,12 +200,21 @@ fn three_join(alloc: Global) -> Result<bool, AllocError> {
     }
 }
 
+// meets join_all Some at 1, 2, 3, 100000 tables
+// meets join_all None at 0, 2, 3, 100001 tables
 #[test]
 fn joins_many(rt: HostRuntime) -> Result<(), Fail> {
     const ROWS: &[(&[(u16, u8)], Option<usize>, &str)] = &[
-        (THREE, Some(2), "three"),
-        (&[(5, 0x0b), (5, 0x0e)], None, "two that differ"),
         (&[], None, "none"),
+        (&[(5, 0x0b)], Some(1), "one"),
+        (&[(5, 0x0b), (6, 0x0e)], Some(2), "two"),
+        (&[(5, 0x0b), (5, 0x0e)], None, "two that differ"),
+        (THREE, Some(2), "three"),
+        (
+            &[(5, 0x0b), (6, 0x0e), (5, 0x0e)],
+            None,
+            "three that differ",
+        ),
     ];
     for &(entries, want, what) in ROWS {
         assert!(rt; keys_of(rt.alloc(), entries)? == want, "{what}");
@@ -291,10 +304,10 @@ fn joined(alloc: Global, front: &[u8], back: &[u8]) -> Result<Vec<u8>, AllocErro
     Ok(text)
 }
 
-// 65,000 lines of Subrs and 10,000 of glyphs, in the order in which they are written.
+// 65,000 lines of Subrs and 30,000 of glyphs, in the order in which they are written: more than 1,000,000 bytes.
 fn many_lines(alloc: Global) -> Result<Vec<u8>, AllocError> {
     let subrs = lines(alloc, "S", 0, 65_000, "0b")?;
-    let glyphs = lines(alloc, "G", 10_000, 20_000, "0e")?;
+    let glyphs = lines(alloc, "G", 10_000, 40_000, "0e")?;
     joined(alloc, subrs.as_slice(), glyphs.as_slice())
 }
 
@@ -320,15 +333,20 @@ fn listings_join_so(
     right: &Listing<'_>,
     want: Want<'_>,
 ) -> bool {
-    match listing::join(alloc, left, right) {
-        Ok(both) => is_text(alloc, &both, want),
+    let joined = match listing::join(alloc, left, right) {
+        Ok(both) => is_written_so(alloc, &both, want),
         Err(fault) => is_conflict(&fault, want),
-    }
+    };
+    let written = match listing::write_joined(alloc, left, right) {
+        Ok(text) => is_text(text.as_slice(), want),
+        Err(fault) => is_conflict(&fault, want),
+    };
+    joined && written
 }
 
-fn is_text(alloc: Global, both: &Listing<'_>, want: Want<'_>) -> bool {
+fn is_text(written: &[u8], want: Want<'_>) -> bool {
     match want {
-        Want::Text(text) => is_written_so(alloc, both, text),
+        Want::Text(text) => written == text,
         _ => false,
     }
 }
@@ -341,13 +359,20 @@ fn is_conflict(fault: &JoinFault, want: Want<'_>) -> bool {
     }
 }
 
-fn is_written_so(alloc: Global, listing: &Listing<'_>, text: &[u8]) -> bool {
+fn is_written_so(alloc: Global, listing: &Listing<'_>, want: Want<'_>) -> bool {
     match listing::write(alloc, listing) {
-        Ok(written) => written.as_slice() == text,
+        Ok(written) => is_text(written.as_slice(), want),
         Err(_) => false,
     }
 }
 
+// meets join Ok at 0, 1, 2, 4 lines
+// meets join Subr at 1, 3 lines
+// meets join Glyph at 3 lines
+// meets write_joined Ok at 0, 1, 2, 4 lines
+// meets write_joined Subr at 1, 3 lines
+// meets write_joined Glyph at 3 lines
+// meets write Ok at 0, 1, 2, 4 lines
 #[test]
 fn listings_join(rt: HostRuntime) {
     let alloc = rt.alloc();
@@ -409,12 +434,22 @@ fn listings_join(rt: HostRuntime) {
     }
 }
 
+// meets join Ok at 95000 lines
+// meets join Subr at 95000 lines
+// meets join Glyph at 95000 lines
+// meets write_joined Ok at 95000 lines
+// meets write_joined Subr at 95000 lines
+// meets write_joined Glyph at 95000 lines
+// meets write Ok at 95000 lines
 #[test]
 fn many_lines_join(rt: HostRuntime) -> Result<(), Fail> {
     let text = many_lines(rt.alloc())?;
+    const LINES: usize = 95_000;
+    let lines = text.iter().filter(|byte| **byte == b'\n').count();
+    assert!(rt; lines == LINES && text.len() > 1_000_000);
     const ROWS: &[(&[u8], Want<'static>)] = &[
         (b"S 64999 0c\n", Want::Subr(64999)),
-        (b"G 19999 0c\n", Want::Glyph(b"19999")),
+        (b"G 39999 0c\n", Want::Glyph(b"39999")),
     ];
     for &(right, want) in ROWS {
         assert!(rt; join_so(rt.alloc(), text.as_slice(), right, want));
@@ -442,6 +477,9 @@ fn is_read_so(alloc: Global, text: &[u8], want: &Option<ListFault>) -> bool {
 // The first line is faulty.
 const BAD: Option<ListFault> = Some(ListFault::BadLine { line: 1 });
 
+// meets read Ok at 1, 2 lines
+// meets read BadLine at 1, 2, 4 lines
+// meets read Repeated at 2, 3 lines
 #[test]
 fn reads_listings(rt: HostRuntime) {
     const ROWS: &[(&[u8], Option<ListFault>, &str)] = &[
@@ -498,6 +536,8 @@ fn reads_listings(rt: HostRuntime) {
     }
 }
 
+// meets read Ok at 127, 131070 bytes
+// meets read BadLine at 128, 131072 bytes
 #[test]
 fn reads_long_lines(rt: HostRuntime) -> Result<(), Fail> {
     const ROWS: &[(usize, usize, Option<ListFault>, &str)] = &[
@@ -513,6 +553,9 @@ fn reads_long_lines(rt: HostRuntime) -> Result<(), Fail> {
     Ok(())
 }
 
+// meets read Ok at 95000 lines
+// meets read BadLine at 95001 lines
+// meets read Repeated at 95001 lines
 #[test]
 fn reads_many_lines(rt: HostRuntime) -> Result<(), Fail> {
     let many = many_lines(rt.alloc())?;
@@ -520,12 +563,12 @@ fn reads_many_lines(rt: HostRuntime) -> Result<(), Fail> {
         (b"", None, "many lines"),
         (
             b"S 65535 0b\n",
-            Some(ListFault::BadLine { line: 75_001 }),
+            Some(ListFault::BadLine { line: 95_001 }),
             "a bad line after many",
         ),
         (
             b"G 10000 0e\n",
-            Some(ListFault::Repeated { line: 75_001 }),
+            Some(ListFault::Repeated { line: 95_001 }),
             "a name twice, after many lines",
         ),
     ];

@@ -1,0 +1,147 @@
+// Each call that grows, at its smallest sizes and at its largest.
+
+use crate::hexadecimal::Hex;
+use crate::partial::Join;
+use crate::tables::Table;
+use crate::tests::{Numbered, Want, holds, join_so, long_line, put, put_near, table};
+use std::alloc::{AllocError, Global};
+use std::test::Fail;
+
+// How many bytes so many digits spell, if each of them is 0xbb.
+fn spelled(alloc: Global, digits: usize) -> Result<Option<usize>, AllocError> {
+    let mut text = Vec::new(alloc);
+    text.resize(digits, b'b')?;
+    match Hex::read(text.as_slice()) {
+        Some(hex) => {
+            let bytes = hex.bytes(alloc)?;
+            let right = bytes.iter().all(|byte| *byte == 0xbb);
+            Ok(if right { Some(bytes.len()) } else { None })
+        }
+        None => Ok(None),
+    }
+}
+
+// meets Hex::bytes Ok at 0, 2, 100002, 131070 digits
+#[test]
+fn digits_of_each_size(rt: HostRuntime) -> Result<(), Fail> {
+    const ROWS: &[(usize, Option<usize>)] = &[
+        (0, Some(0)),
+        (1, None),
+        (2, Some(1)),
+        (100_002, Some(50_001)),
+        (131_070, Some(65_535)),
+        (131_072, None),
+    ];
+    for &(digits, want) in ROWS {
+        assert!(rt; spelled(rt.alloc(), digits)? == want, "{digits} digits");
+    }
+    Ok(())
+}
+
+// Puts a value of one byte at a key, by the one call or by the other.
+fn put_by(
+    alloc: Global,
+    table: &mut Numbered,
+    near: bool,
+    place: u16,
+    key: u16,
+    byte: u8,
+) -> Result<(), AllocError> {
+    if near {
+        put_near(alloc, table, usize::from(place), key, byte)
+    } else {
+        put(alloc, table, key, byte)
+    }
+}
+
+// Whether a table with so many entries takes one more before them and one after them, and then another value.
+fn takes_more(alloc: Global, near: bool, entries: u16) -> Result<bool, AllocError> {
+    let last = entries.saturating_add(1);
+    let mut table = table(alloc, 1, last, 1)?;
+    put_by(alloc, &mut table, near, 0, 0, 2)?;
+    put_by(alloc, &mut table, near, last, last, 3)?;
+    put_by(alloc, &mut table, near, 0, 0, 4)?;
+    let all = table.entries().count() == usize::from(last).saturating_add(1);
+    Ok(all && holds(&table, 0, 4) && holds(&table, last, 3))
+}
+
+// Whether there is room for so many entries, and none of them yet.
+fn has_room(alloc: Global, room: usize) -> Result<bool, AllocError> {
+    let table: Numbered = Table::with_capacity(alloc, room)?;
+    Ok(table.entries().next().is_none())
+}
+
+// How many keys two tables have that agree, of which one has so many and the other one more before them.
+fn agreed(alloc: Global, entries: u16, byte: u8) -> Result<Option<usize>, AllocError> {
+    let last = entries.saturating_add(1);
+    let one = table(alloc, 1, last, 1)?;
+    let mut other = table(alloc, 0, last, 1)?;
+    put(alloc, &mut other, entries, byte)?;
+    match one.join_if_agreed(alloc, &other)? {
+        Some(both) => Ok(Some(both.entries().count())),
+        None => Ok(None),
+    }
+}
+
+// meets Table::new Ok at 0 entries
+// meets Table::with_capacity Ok at 0, 1, 100000 entries
+// meets Table::insert Ok at 0, 1, 1000, 65534 entries
+// meets Table::insert_near Ok at 0, 1, 1000, 65534 entries
+// meets join_if_agreed Some at 1, 1000, 65534 entries
+// meets join_if_agreed None at 1, 1000, 65534 entries
+#[test]
+fn tables_of_each_size(rt: HostRuntime) -> Result<(), Fail> {
+    let none: Numbered = Table::new(rt.alloc());
+    assert!(rt; none.entries().next().is_none());
+    for &room in &[0, 1, 100_000] {
+        assert!(rt; has_room(rt.alloc(), room)?, "room for {room} entries");
+    }
+    const ROWS: &[u16] = &[0, 1, 1_000, 65_534];
+    for &entries in ROWS {
+        let plain = takes_more(rt.alloc(), false, entries)?;
+        let near = takes_more(rt.alloc(), true, entries)?;
+        assert!(rt; plain && near, "{entries} entries and two more");
+        let keys = usize::from(entries).saturating_add(1);
+        assert!(rt;
+            agreed(rt.alloc(), entries, 1)? == Some(keys),
+            "{keys} keys"
+        );
+        let apart = agreed(rt.alloc(), entries, 2)?;
+        assert!(rt;
+            entries == 0 || apart.is_none(),
+            "{keys} keys, the last of which differ"
+        );
+    }
+    Ok(())
+}
+
+// Whether a line with a name and digits of these lengths joins with itself, and not with one that has two more digits.
+fn joins_with_itself(alloc: Global, name: usize, digits: usize) -> Result<bool, AllocError> {
+    let line = long_line(alloc, name, digits)?;
+    let other = long_line(alloc, name, digits.saturating_add(2))?;
+    let mut key = Vec::new(alloc);
+    key.resize(name, b'n')?;
+    let apart = join_so(
+        alloc,
+        line.as_slice(),
+        other.as_slice(),
+        Want::Glyph(key.as_slice()),
+    );
+    let same = Want::Text(line.as_slice());
+    Ok(apart && join_so(alloc, line.as_slice(), line.as_slice(), same))
+}
+
+// meets join Ok at 1, 100, 101, 127 bytes
+// meets join Glyph at 1, 100, 101, 127 bytes
+// meets write_joined Ok at 1, 100, 101, 127 bytes
+// meets write_joined Glyph at 1, 100, 101, 127 bytes
+// meets write Ok at 1, 101, 127, 131068 bytes
+#[test]
+fn long_lines_join(rt: HostRuntime) -> Result<(), Fail> {
+    const ROWS: &[(usize, usize)] = &[(1, 0), (100, 2), (101, 2), (127, 2), (127, 131_068)];
+    for &(name, digits) in ROWS {
+        let right = joins_with_itself(rt.alloc(), name, digits)?;
+        assert!(rt; right, "a name of {name} bytes and {digits} digits");
+    }
+    Ok(())
+}
