@@ -36,3 +36,4 @@ pub mod LentTables
 pub mod FilledTables
 pub mod TablePasses
 pub mod even_fonts
+pub mod Differing

@@ -37,3 +37,4 @@ pub mod EveningLaws
 pub mod WriteLaws
 pub mod Parts
 pub mod Codes
+pub mod Differing

@@ -8,13 +8,14 @@ mod edges;
 mod evening;
 mod faults;
 mod growths;
+mod limits;
 mod long;
 mod many;
 mod prefixes;
 mod rows;
 mod tables;
 
-use crate::{Form, ReadFault, Source, read, write};
+use crate::{Form, ReadFault, Source, read, read_vec, write};
 use std::alloc::{AllocError, Global};
 use t1_bytes::{EEXEC_KEY, EEXEC_LEAD, seal};
 
@@ -88,7 +89,32 @@ fn counts(alloc: Global, file: &[u8]) -> Result<(usize, u32), ReadFault> {
     }
 }
 
-/// Why such a file spells no font; `None` if it spells one.
+/// Why a file spells no font, or `None` if it spells one; both calls say the same.
+fn fault_of(alloc: Global, file: &[u8]) -> Option<ReadFault> {
+    let lent = read(alloc, file).err();
+    let handed_over = match Vec::from_slice(alloc, file) {
+        Ok(file) => read_vec(alloc, file).err(),
+        Err(_) => Some(ReadFault::Memory),
+    };
+    if lent == handed_over {
+        lent
+    } else {
+        Some(ReadFault::Memory)
+    }
+}
+
+/// Why the file of these texts spells no font.
 fn fault(alloc: Global, clear: &[u8], private: &[u8]) -> Option<ReadFault> {
-    source(alloc, clear, private).err()
+    match file(alloc, clear, private) {
+        Ok(file) => fault_of(alloc, file.as_slice()),
+        Err(_) => Some(ReadFault::Memory),
+    }
+}
+
+/// So many blanks before a text.
+fn behind(alloc: Global, blanks: usize, text: &[u8]) -> Result<Vec<u8>, AllocError> {
+    let mut all = Vec::new(alloc);
+    all.resize(blanks, b' ')?;
+    all.extend_from_slice(text)?;
+    Ok(all)
 }

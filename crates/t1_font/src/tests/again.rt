@@ -1,7 +1,7 @@
 //! What is written is read again: other words, other numbers of lead bytes, no Subrs, one glyph.
 
 use super::rows::{private, with};
-use super::{CLEAR, GLYPHS, counts, file, is_written_as, joined, lent_file, rewritten};
+use super::{CLEAR, GLYPHS, behind, counts, file, is_written_as, joined, lent_file, rewritten};
 use crate::{Font, Form, Part, Source, read, write};
 use bstr::ByteSlice;
 use std::alloc::{AllocError, Global};
@@ -103,7 +103,7 @@ fn are_written_again(alloc: Global, pfa: &[u8], pfb: &[u8]) -> bool {
 }
 
 /// Whether what a file's font is written as is written again so.
-fn is_written_again(alloc: Global, file: &[u8]) -> bool {
+pub fn is_written_again(alloc: Global, file: &[u8]) -> bool {
     match (
         rewritten(alloc, file, Form::Pfa),
         rewritten(alloc, file, Form::Pfb),
@@ -131,6 +131,26 @@ fn most_lead_bytes(alloc: Global) -> Result<Vec<u8>, AllocError> {
     text.resize(text.len().saturating_add(255), b'x')?;
     text.extend_from_slice(b" ND end closefile and a rest")?;
     Ok(text)
+}
+
+/// The same of a font whose head and private text begin with so many blanks.
+fn is_kept_behind(alloc: Global, blanks: usize, weight: u32) -> Result<bool, AllocError> {
+    let clear = behind(alloc, blanks, CLEAR)?;
+    let start = behind(alloc, blanks, b"/lenIV 0 def ")?;
+    let private = joined(alloc, start.as_slice(), GLYPHS)?;
+    Ok(is_kept(alloc, clear.as_slice(), private.as_slice(), weight))
+}
+
+// A line has the digits of 32 bytes, so some of these ciphers fill their last line.
+// meets write Ok at 0, 64, 1000000 bytes
+#[test]
+fn each_length_of_the_last_line(rt: HostRuntime) -> Result<(), Fail> {
+    for blanks in (0..65).chain([1_000_000]) {
+        let weight = 318 + 2 * blanks as u32;
+        let kept = is_kept_behind(rt.alloc(), blanks, weight)?;
+        assert!(rt; kept, "{blanks} blanks");
+    }
+    Ok(())
 }
 
 #[test]

@@ -67,7 +67,7 @@ fn cut(
 
 /// Whether two fonts, cut to `.notdef` alone, are one font, so that nothing but the entries of their tables tells them
 /// apart.
-fn is_one_shell(alloc: Global, first: &Font<'_>, second: &Font<'_>) -> Result<bool, AllocError>
+pub fn is_one_shell(alloc: Global, first: &Font<'_>, second: &Font<'_>) -> Result<bool, AllocError>
     ensures shells { IfOk result (λ b. b ≡ true → first.now.shell ≡ second.now.shell) }
     ensures kinds { IfOk result (λ b. b ≡ true → SameKind first.now.encoding second.now.encoding) }
 {
@@ -233,6 +233,7 @@ const CUTS: &[(&[&[u8]], &[u16], &[u8], u32, usize)] = &[
     ),
 ];
 
+// meets restrict Ok at 1, 2, 3, 11 glyphs
 #[test]
 fn cuts_of_tiny(rt: HostRuntime) -> Result<(), Fail> {
     for &(names, subrs, text, weight, length) in CUTS {
@@ -271,6 +272,7 @@ fn cuts_join(alloc: Global, first: Cut, second: Cut, want: Cut) -> Result<bool, 
     joins_with(alloc, first.as_slice(), second, want)
 }
 
+// meets join_parts Ok at 3, 11 glyphs
 #[test]
 fn joins_of_tiny(rt: HostRuntime) -> Result<(), Fail> {
     const ROWS: &[(Cut, Cut, Cut, &str)] = &[
@@ -407,6 +409,8 @@ fn headed(alloc: Global, head: usize, glyph: &[u8]) -> Result<Vec<u8>, AllocErro
     file(alloc, clear.as_slice(), private.as_slice())
 }
 
+// meets join_parts Ok at 67108035 bytes
+// meets join_parts Limit at 67108036 bytes
 #[test]
 fn joins_at_the_limit_of_weight(rt: HostRuntime) -> Result<(), Fail> {
     // The clear tail has 18 bytes and the private texts 13 and 27; each of the three glyphs weighs 257.
@@ -427,7 +431,7 @@ fn joins_at_the_limit_of_weight(rt: HostRuntime) -> Result<(), Fail> {
 }
 
 /// Adds a line for each number: what stands before its digits, and what stands after them.
-fn add_lines(
+pub fn add_lines(
     alloc: Global,
     text: &mut Vec<u8>,
     numbers: Range<u32>,
@@ -496,7 +500,7 @@ fn lent_part(
 }
 
 /// The same of a file's font.
-fn part(
+pub fn part(
     alloc: Global,
     file: &[u8],
     lengths: Range<usize>,

@@ -4,7 +4,7 @@ ghost use Rattle.std.specs.Prelude.{◌≡◌, IfOk};
 ghost use Rattle.std.specs.FinMap.{keys};
 ghost use Rattle.t1_font.specs.Evening.{stubs_at, indices_of_all};
 
-use super::{GLYPHS, joined, lent_counts, source};
+use super::{GLYPHS, behind, joined, lent_counts, source};
 use crate::{
     Font, Part, PartsFault, STUB, Source, WEIGHT_LIMIT, even_shells, fill_all, stub_indices,
 };
@@ -137,6 +137,7 @@ pub const MARKS: &[u8] = b"bs..s sb..b ..... ..... ";
 /// And when they are filled with the counts that they have.
 const AS_THEY_ARE: &[u8] = b"bs... sb..b ..... ..... ";
 
+// meets Source::even Ok at 0, 1000000 bytes
 #[test]
 fn heads_without_tags(rt: HostRuntime) -> Result<(), Fail> {
     const ROWS: &[(&[u8], &[u8], &str)] = &[
@@ -178,12 +179,41 @@ fn heads_without_tags(rt: HostRuntime) -> Result<(), Fail> {
         (b"", b"", "no head"),
     ];
     for &(head, want, what) in ROWS {
-        let left = is_left(rt.alloc(), head, want)?;
-        assert!(rt; left, "{what}");
+        for &blanks in &[0, 1_000_000] {
+            let head = behind(rt.alloc(), blanks, head)?;
+            let want = behind(rt.alloc(), blanks, want)?;
+            let left = is_left(rt.alloc(), head.as_slice(), want.as_slice())?;
+            assert!(rt; left, "{what}, behind {blanks} blanks");
+        }
     }
     Ok(())
 }
 
+/// So many times one table, and then another.
+fn many_tables(alloc: Global, times: usize) -> Result<Vec<&'static [u8]>, AllocError> {
+    let mut tables = Vec::new(alloc);
+    for _ in 0..times {
+        tables.push(ONE)?;
+    }
+    tables.push(TWO)?;
+    Ok(tables)
+}
+
+/// Whether so many fonts of one table and then one of another are made even, and filled.
+fn are_evened(alloc: Global, fonts: usize) -> Result<bool, PartsFault> {
+    let tables = many_tables(alloc, fonts)?;
+    let mut want = Vec::new(alloc);
+    for _ in 0..fonts {
+        want.extend_from_slice(b"bs..s ")?;
+    }
+    want.extend_from_slice(b"sb..b ")?;
+    let marks = evened(alloc, tables.as_slice())?;
+    Ok(marks.as_slice() == want.as_slice())
+}
+
+// meets even_shells Ok at 0, 2, 4, 1001 fonts
+// meets stub_indices Ok at 0, 2, 4, 1001 fonts
+// meets fill_all Ok at 0, 2, 4, 1001 fonts
 #[test]
 fn counts_and_stubs(rt: HostRuntime) -> Result<(), Fail> {
     let even = even_shells(rt.alloc(), sources(rt.alloc(), TABLES)?)?;
@@ -198,6 +228,99 @@ fn counts_and_stubs(rt: HostRuntime) -> Result<(), Fail> {
     assert!(rt; marks.is_ok_and(|marks| marks.as_slice() == AS_THEY_ARE));
     let none = evened(rt.alloc(), &[]);
     assert!(rt; none.is_ok_and(|marks| marks.is_empty()));
+    for &fonts in &[1, 1_000] {
+        let right = are_evened(rt.alloc(), fonts)?;
+        assert!(rt; right, "{fonts} fonts and one more");
+    }
+    Ok(())
+}
+
+/// A table of so many declared Subrs that has every second of them, from the first or from the second on.
+fn every_other(alloc: Global, declared: u16, from: u16) -> Result<Vec<u8>, AllocError> {
+    let mut text = Vec::from_slice(alloc, b"/lenIV 0 def /Subrs ")?;
+    text.extend_from_slice(declared.to_string(alloc)?.as_bytes())?;
+    text.extend_from_slice(b" array\n")?;
+    for index in 0..declared {
+        if index % 2 == from {
+            text.extend_from_slice(b"dup ")?;
+            text.extend_from_slice(index.to_string(alloc)?.as_bytes())?;
+            text.extend_from_slice(b" 1 RD \x0e NP\n")?;
+        }
+    }
+    text.extend_from_slice(b"ND\n")?;
+    Ok(text)
+}
+
+/// The sources of two such fonts, which have all Subrs together; the first has so many blanks more.
+fn halves(alloc: Global, declared: u16, blanks: usize) -> Result<Vec<Source>, AllocError> {
+    let even = every_other(alloc, declared, 0)?;
+    let odd = every_other(alloc, declared, 1)?;
+    let mut pair = Vec::new(alloc);
+    pair.push(made(alloc, b"%!\n", even.as_slice(), blanks)?)?;
+    pair.push(made(alloc, b"%!\n", odd.as_slice(), 0)?)?;
+    Ok(pair)
+}
+
+/// How many Subrs fonts have.
+fn subr_counts(alloc: Global, fonts: &[Font<'_>]) -> Result<Vec<usize>, AllocError> {
+    let mut counts = Vec::new(alloc);
+    for font in fonts {
+        counts.push(font.subrs().len())?;
+    }
+    Ok(counts)
+}
+
+/// How many Subrs the fonts of sources have when they are filled at these indices.
+fn filled_counts<'a>(
+    alloc: Global,
+    sources: &'a [Source],
+    indices: &'a [u16],
+) -> Result<Vec<usize>, PartsFault>
+    requires { indices.now ≡ keys (stubs_at (indices_of_all sources.now)) }
+{
+    let filled = fill_all(alloc, fonts_of(alloc, sources)?, indices)?;
+    Ok(subr_counts(alloc, filled.as_slice())?)
+}
+
+/// The same of two such fonts.
+fn counts_of_halves(alloc: Global, declared: u16, blanks: usize) -> Result<Vec<usize>, PartsFault> {
+    let halves = halves(alloc, declared, blanks)?;
+    let indices = indices_of(alloc, halves.as_slice())?;
+    filled_counts(alloc, halves.as_slice(), indices.as_slice())
+}
+
+/// How many blanks the first of two such fonts may have so that it fits when it is filled.
+fn room_of_halves(alloc: Global, declared: u16) -> Result<usize, AllocError> {
+    let even = every_other(alloc, declared, 0)?;
+    let source = made(alloc, b"%!\n", even.as_slice(), 0)?;
+    let (_, weight) = lent_counts(alloc, &source)?;
+    let stubs = usize::from(declared / 2).saturating_mul(129);
+    Ok(
+        (WEIGHT_LIMIT as usize)
+            .saturating_sub(weight as usize)
+            .saturating_sub(stubs),
+    )
+}
+
+// meets stub_indices Ok at 2, 65535 subrs
+// meets fill_all Ok at 2, 65535 subrs
+// meets fill_all Limit at 2, 65535 subrs
+#[test]
+fn halves_of_all_subrs(rt: HostRuntime) -> Result<(), Fail> {
+    for &declared in &[2, 65_535] {
+        let room = room_of_halves(rt.alloc(), declared)?;
+        let all = usize::from(declared);
+        for &blanks in &[0, room] {
+            let counts = counts_of_halves(rt.alloc(), declared, blanks)?;
+            assert_eq!(rt; counts.as_slice(), [all, all].as_slice(), "{blanks} blanks");
+        }
+        let heavy = counts_of_halves(rt.alloc(), declared, room.saturating_add(1));
+        assert_eq!(rt;
+            heavy.err(),
+            Some(PartsFault::Limit),
+            "{declared} Subrs, a byte too many"
+        );
+    }
     Ok(())
 }
 
@@ -213,6 +336,7 @@ fn is_refused(alloc: Global, blanks: usize) -> Result<bool, AllocError> {
     }
 }
 
+// meets fill_all Limit at 3 subrs
 #[test]
 fn filled_up_to_the_limit(rt: HostRuntime) -> Result<(), Fail> {
     let light = made(rt.alloc(), b"%!\n", TWO, 0)?;

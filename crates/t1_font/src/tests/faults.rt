@@ -1,22 +1,89 @@
-//! Each fault of reading with its place, and of two that apply the first.
+//! Each fault of reading with its place, near the front and far behind it, and of two that apply the first.
 
-use super::{CLEAR, fault};
-use crate::{ReadFault, read};
+use super::{CLEAR, behind, fault, fault_of};
+use crate::ReadFault;
+use std::alloc::{AllocError, Global};
+use std::test::Fail;
 
+/// A first segment of so many blanks that declares this length, and what stands behind it.
+fn segment(
+    alloc: Global,
+    declared: u32,
+    blanks: usize,
+    rest: &[u8],
+) -> Result<Vec<u8>, AllocError> {
+    let mut file = Vec::from_slice(alloc, b"\x80\x01")?;
+    file.extend_from_slice(&declared.to_le_bytes())?;
+    file.resize(file.len().saturating_add(blanks), b' ')?;
+    file.extend_from_slice(rest)?;
+    Ok(file)
+}
+
+// meets read BadSegment at 2, 100000, 1000000 bytes
+// meets read_vec BadSegment at 2, 100000, 1000000 bytes
 #[test]
-fn faults_of_clear_texts(rt: HostRuntime) {
-    const ROWS: &[(&[u8], ReadFault, &str)] = &[
-        (b"", ReadFault::NoEexec, "nothing"),
+fn faults_of_segments(rt: HostRuntime) -> Result<(), Fail> {
+    const ROWS: &[(u32, usize, &[u8], usize, &str)] = &[
+        (3, 2, b"", 0, "data cut off"),
+        (100_001, 100_000, b"", 0, "data cut off"),
+        (2, 2, b"\x80\x04", 8, "another type, and no eexec"),
         (
-            b"\x80\x01\x05\0\0\0%!",
-            ReadFault::BadSegment { at: 0 },
-            "data cut off",
-        ),
-        (
-            b"\x80\x01\x02\0\0\0%!\x80\x04",
-            ReadFault::BadSegment { at: 8 },
+            100_000,
+            100_000,
+            b"\x80\x04",
+            100_006,
             "another type, and no eexec",
         ),
+        (
+            1_000_000,
+            1_000_000,
+            b"\x80\x02\x01\0\0\0",
+            1_000_006,
+            "no data, and no eexec",
+        ),
+    ];
+    for &(declared, blanks, rest, at, name) in ROWS {
+        let file = segment(rt.alloc(), declared, blanks, rest)?;
+        assert_eq!(rt;
+            fault_of(rt.alloc(), file.as_slice()),
+            Some(ReadFault::BadSegment { at }),
+            "{name}"
+        );
+    }
+    Ok(())
+}
+
+/// How many blanks stand before a text.
+const BEFORE: &[usize] = &[0, 100_000];
+
+/// The fault of a text behind so many blanks.
+fn moved(fault: ReadFault, blanks: usize) -> ReadFault {
+    match fault {
+        ReadFault::BadEncoding { at } => ReadFault::BadEncoding {
+            at: at.saturating_add(blanks),
+        },
+        ReadFault::BadSubrs { at } => ReadFault::BadSubrs {
+            at: at.saturating_add(blanks),
+        },
+        ReadFault::BadGlyphs { at } => ReadFault::BadGlyphs {
+            at: at.saturating_add(blanks),
+        },
+        other => other,
+    }
+}
+
+// meets read NoEexec at 0, 100000 bytes
+// meets read ShortCipher at 0, 100000 bytes
+// meets read NoEncoding at 0, 100000 bytes
+// meets read BadEncoding at 0, 100000 bytes
+// meets read_vec NoEexec at 0, 100000 bytes
+// meets read_vec ShortCipher at 0, 100000 bytes
+// meets read_vec NoEncoding at 0, 100000 bytes
+// meets read_vec BadEncoding at 0, 100000 bytes
+#[test]
+fn faults_of_clear_texts(rt: HostRuntime) -> Result<(), Fail> {
+    const ROWS: &[(&[u8], ReadFault, &str)] = &[
+        (b"", ReadFault::NoEexec, "nothing"),
         (
             b"currentfile eexec \x81\x82\x83",
             ReadFault::ShortCipher,
@@ -48,13 +115,37 @@ fn faults_of_clear_texts(rt: HostRuntime) {
             "the word 256 is an Encoding",
         ),
     ];
-    for &(file, want, name) in ROWS {
-        assert_eq!(rt; read(rt.alloc(), file).err(), Some(want), "{name}");
+    for &(text, want, name) in ROWS {
+        for &blanks in BEFORE {
+            let file = behind(rt.alloc(), blanks, text)?;
+            assert_eq!(rt;
+                fault_of(rt.alloc(), file.as_slice()),
+                Some(moved(want, blanks)),
+                "{name}, behind {blanks} blanks"
+            );
+        }
     }
+    Ok(())
 }
 
+// meets read NoCharStrings at 0, 100000 bytes
+// meets read BadLenIV at 0, 100000 bytes
+// meets read BadSubrs at 0, 100000 bytes
+// meets read BadGlyphs at 0, 100000 bytes
+// meets read Hybrid at 0, 100000 bytes
+// meets read NoClosefile at 0, 100000 bytes
+// meets read NoNotdef at 0, 100000 bytes
+// meets read Limit at 0, 100000 bytes
+// meets read_vec NoCharStrings at 0, 100000 bytes
+// meets read_vec BadLenIV at 0, 100000 bytes
+// meets read_vec BadSubrs at 0, 100000 bytes
+// meets read_vec BadGlyphs at 0, 100000 bytes
+// meets read_vec Hybrid at 0, 100000 bytes
+// meets read_vec NoClosefile at 0, 100000 bytes
+// meets read_vec NoNotdef at 0, 100000 bytes
+// meets read_vec Limit at 0, 100000 bytes
 #[test]
-fn faults_of_private_texts(rt: HostRuntime) {
+fn faults_of_private_texts(rt: HostRuntime) -> Result<(), Fail> {
     const ROWS: &[(&[u8], ReadFault, &str)] = &[
         (
             b"/lenIV -1 def",
@@ -127,7 +218,15 @@ fn faults_of_private_texts(rt: HostRuntime) {
             "no word after lenIV",
         ),
     ];
-    for &(private, want, name) in ROWS {
-        assert_eq!(rt; fault(rt.alloc(), CLEAR, private), Some(want), "{name}");
+    for &(text, want, name) in ROWS {
+        for &blanks in BEFORE {
+            let private = behind(rt.alloc(), blanks, text)?;
+            assert_eq!(rt;
+                fault(rt.alloc(), CLEAR, private.as_slice()),
+                Some(moved(want, blanks)),
+                "{name}, behind {blanks} blanks"
+            );
+        }
     }
+    Ok(())
 }

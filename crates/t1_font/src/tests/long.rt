@@ -1,7 +1,8 @@
 //! Long names, long charstrings, weights at the limit, and 64 MiB of nothing.
 
-use super::{CLEAR, GLYPHS, fault, joined};
-use crate::{ReadFault, read};
+use super::again::is_written_again;
+use super::{CLEAR, GLYPHS, fault, file, joined};
+use crate::{ReadFault, read, read_vec};
 use std::alloc::{AllocError, Global};
 use std::test::Fail;
 
@@ -25,6 +26,11 @@ fn glyph(alloc: Global, name: usize, length: usize) -> Result<Vec<u8>, AllocErro
     Ok(text)
 }
 
+// meets read Ok at 1, 127, 65535 bytes
+// meets read BadGlyphs at 0, 128, 65536 bytes
+// meets read_vec Ok at 1, 127, 65535 bytes
+// meets read_vec BadGlyphs at 0, 128, 65536 bytes
+// meets write Ok at 1, 127, 65535 bytes
 #[test]
 fn long_names_and_charstrings(rt: HostRuntime) -> Result<(), Fail> {
     const BAD: Option<ReadFault> = Some(ReadFault::BadGlyphs { at: 43 });
@@ -42,10 +48,17 @@ fn long_names_and_charstrings(rt: HostRuntime) -> Result<(), Fail> {
             want,
             "{what}"
         );
+        let file = file(rt.alloc(), CLEAR, private.as_slice())?;
+        let written = is_written_again(rt.alloc(), file.as_slice());
+        assert!(rt; written == want.is_none(), "{what}, written");
     }
     Ok(())
 }
 
+// meets read Ok at 127 bytes
+// meets read BadEncoding at 128 bytes
+// meets read_vec Ok at 127 bytes
+// meets read_vec BadEncoding at 128 bytes
 #[test]
 fn long_names_of_codes(rt: HostRuntime) -> Result<(), Fail> {
     let private = joined(rt.alloc(), b"/lenIV 0 def ", GLYPHS)?;
@@ -64,6 +77,10 @@ fn long_names_of_codes(rt: HostRuntime) -> Result<(), Fail> {
     Ok(())
 }
 
+// meets read Ok at 67108549 bytes
+// meets read Limit at 67108550 bytes
+// meets read_vec Ok at 67108549 bytes
+// meets read_vec Limit at 67108550 bytes
 #[test]
 fn weights_at_the_limit(rt: HostRuntime) -> Result<(), Fail> {
     // The clear tail has 18 bytes and the private texts 13 and 27; `.notdef` weighs 257.
@@ -85,6 +102,10 @@ fn weights_at_the_limit(rt: HostRuntime) -> Result<(), Fail> {
     Ok(())
 }
 
+// meets read NoEexec at 268435456 bytes
+// meets read BadSegment at 268435456 bytes
+// meets read TooLong at 268435457 bytes
+// meets read_vec TooLong at 268435457 bytes
 #[test]
 fn nothing_at_the_limit(rt: HostRuntime) -> Result<(), Fail> {
     let mut nothing = Vec::new(rt.alloc());
@@ -105,6 +126,13 @@ fn nothing_at_the_limit(rt: HostRuntime) -> Result<(), Fail> {
         read(rt.alloc(), nothing.as_slice()).err(),
         Some(ReadFault::TooLong),
         "a byte more"
+    );
+    const SIZE: usize = 268_435_457;
+    assert!(rt; nothing.len() == SIZE);
+    assert_eq!(rt;
+        read_vec(rt.alloc(), nothing).err(),
+        Some(ReadFault::TooLong),
+        "a byte more, handed over"
     );
     Ok(())
 }

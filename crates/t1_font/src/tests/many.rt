@@ -29,7 +29,11 @@ fn all_glyphs<'a>(
 }
 
 /// The canonical PFB of the font of the entries of all.
-fn written<'a>(alloc: Global, first: &Font<'a>, rest: &[Font<'a>]) -> Result<Vec<u8>, PartsFault>
+pub fn written<'a>(
+    alloc: Global,
+    first: &Font<'a>,
+    rest: &[Font<'a>],
+) -> Result<Vec<u8>, PartsFault>
     requires shells { AllByRecursion (λ g. first.now.shell ≡ g.shell) rest.now }
     requires encodings { AllByRecursion (λ g. SameKind first.now.encoding g.encoding) rest.now }
 {
@@ -101,6 +105,7 @@ pub fn tiny_is_right(alloc: Global) -> Result<bool, PartsFault> {
     )
 }
 
+// meets join_all_parts Ok at 1, 3, 4 fonts
 #[test]
 fn many_of_tiny(rt: HostRuntime) -> Result<(), Fail> {
     assert!(rt; tiny_is_right(rt.alloc())?);

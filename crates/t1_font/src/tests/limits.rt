@@ -1,0 +1,306 @@
+//! Fonts with as many glyphs and Subrs as there may be, with one more, and with keys that come again.
+
+use super::cuts::{add_lines, is_one_shell, joined, part};
+use super::many::written;
+use super::{CLEAR, GLYPHS, fault, fault_of, file, joined as one_after, lent_file, rewritten};
+use crate::{
+    Font, Form, Named, PartsFault, ReadFault, Source, join_glyphs, join_same_glyphs, read, read_vec,
+};
+use std::alloc::{AllocError, Global};
+use std::ops::Range;
+use std::test::Fail;
+
+/// A font with so many Subrs of one byte, and with `.notdef` and glyphs of these numbers as names, each of one byte; then
+/// come so many of these lines.
+fn counted(
+    alloc: Global,
+    subrs: u32,
+    names: Range<u32>,
+    times: usize,
+    line: &[u8],
+) -> Result<Vec<u8>, AllocError> {
+    let mut private = Vec::from_slice(alloc, b"/lenIV 0 def /Subrs ")?;
+    private.extend_from_slice(subrs.to_string(alloc)?.as_bytes())?;
+    private.extend_from_slice(b" array\n")?;
+    add_lines(alloc, &mut private, 0..subrs, b"dup ", b" 1 RD a NP\n")?;
+    private.extend_from_slice(b"ND\n/CharStrings 9 dict dup begin\n/.notdef 1 RD x ND\n")?;
+    add_lines(alloc, &mut private, names, b"/", b" 1 RD x ND\n")?;
+    for _ in 0..times {
+        private.extend_from_slice(line)?;
+    }
+    private.extend_from_slice(b"end\nmark currentfile closefile\n")?;
+    file(alloc, CLEAR, private.as_slice())
+}
+
+/// How many glyphs and Subrs a font has, and its weight.
+type Counts = (usize, usize, u32);
+
+/// Those of the font of a source.
+fn lent_counts(alloc: Global, source: &Source) -> Result<Counts, AllocError> {
+    let font = source.font(alloc)?;
+    Ok((font.glyphs().len(), font.subrs().len(), font.weight()))
+}
+
+/// Those of the answer of a reader.
+fn counts_of(alloc: Global, answer: Result<Source, ReadFault>) -> Result<Counts, ReadFault> {
+    let source = answer?;
+    match lent_counts(alloc, &source) {
+        Ok(counts) => Ok(counts),
+        Err(_) => Err(ReadFault::Memory),
+    }
+}
+
+/// Whether both readers answer a font of these counts, or this fault.
+fn reads_as(alloc: Global, file: Vec<u8>, want: Result<Counts, ReadFault>) -> bool {
+    let lent = counts_of(alloc, read(alloc, file.as_slice()));
+    let handed_over = counts_of(alloc, read_vec(alloc, file));
+    lent == want && handed_over == want
+}
+
+/// The counts of a font of so many Subrs and glyphs of one byte each. The kept texts have 3, 18, 13, 1 and 27 bytes.
+fn counts(subrs: u32, glyphs: u32) -> Counts {
+    let subrs_weigh = subrs.saturating_mul(129);
+    let glyphs_weigh = glyphs.saturating_mul(257);
+    let weight = subrs_weigh.saturating_add(glyphs_weigh).saturating_add(62);
+    (glyphs as usize, subrs as usize, weight)
+}
+
+// meets read Ok at 1, 4096, 4097, 65535 glyphs
+// meets read Ok at 0, 4096, 4097, 65535 subrs
+// meets read Limit at 65536, 100000 glyphs
+// meets read Limit at 65536 subrs
+// meets read_vec Ok at 1, 4096, 4097, 65535 glyphs
+// meets read_vec Ok at 0, 4096, 4097, 65535 subrs
+// meets read_vec Limit at 65536, 100000 glyphs
+// meets read_vec Limit at 65536 subrs
+// meets Source::font Ok at 1, 4096, 4097, 65535 glyphs
+#[test]
+fn counts_up_to_the_limit(rt: HostRuntime) -> Result<(), Fail> {
+    const ROWS: &[(u32, u32, usize, bool)] = &[
+        (0, 1, 0, true),
+        (1, 2, 1, true),
+        (4_095, 4_095, 0, true),
+        (4_096, 4_096, 1, true),
+        (4_097, 4_097, 4_096, true),
+        (2, 3, 100_000, true),
+        (65_535, 65_535, 0, true),
+        (0, 65_535, 10, true),
+        (0, 65_536, 0, false),
+        (3, 100_000, 0, false),
+        (65_536, 1, 0, false),
+    ];
+    for &(subrs, glyphs, times, fits) in ROWS {
+        let names = 1..glyphs;
+        let file = counted(rt.alloc(), subrs, names, times, b"/.notdef 1 RD y ND\n")?;
+        let want = if fits {
+            Ok(counts(subrs, glyphs))
+        } else {
+            Err(ReadFault::Limit)
+        };
+        assert!(rt;
+            reads_as(rt.alloc(), file, want),
+            "{subrs} Subrs, {glyphs} glyphs, .notdef {times} times again"
+        );
+    }
+    Ok(())
+}
+
+/// A text in which a line comes so often between two texts.
+fn repeated(
+    alloc: Global,
+    front: &[u8],
+    line: &[u8],
+    times: usize,
+    back: &[u8],
+) -> Result<Vec<u8>, AllocError> {
+    let mut text = Vec::from_slice(alloc, front)?;
+    for _ in 0..times {
+        text.extend_from_slice(line)?;
+    }
+    text.extend_from_slice(back)?;
+    Ok(text)
+}
+
+// meets read Ok at 1, 4096, 4097, 100000 entries
+// meets read_vec Ok at 1, 4096, 4097, 100000 entries
+#[test]
+fn entries_that_come_again(rt: HostRuntime) -> Result<(), Fail> {
+    const ROWS: &[usize] = &[1, 4_096, 4_097, 100_000];
+    for &times in ROWS {
+        let clear = repeated(
+            rt.alloc(),
+            b"%!\n/Encoding 256 array\n",
+            b"dup 65/X put\n",
+            times,
+            b"def\ncurrentfile eexec\n",
+        )?;
+        let subrs = repeated(
+            rt.alloc(),
+            b"/lenIV 0 def /Subrs 9 array\n",
+            b"dup 8 1 RD a NP\n",
+            times,
+            b"ND\n",
+        )?;
+        let private = one_after(rt.alloc(), subrs.as_slice(), GLYPHS)?;
+        let fault = fault(rt.alloc(), clear.as_slice(), private.as_slice());
+        assert_eq!(rt; fault, None, "code 65 and Subr 8, {times} times");
+    }
+    Ok(())
+}
+
+/// How many glyphs a table has that may be none.
+fn length(glyphs: Option<Named<'_>>) -> Option<usize> {
+    match glyphs {
+        Some(glyphs) => Some(glyphs.len()),
+        None => None,
+    }
+}
+
+/// How many entries the copies of a font's tables have, and how many glyphs the font and its copy have together, however
+/// they are joined.
+fn copied(
+    alloc: Global,
+    font: &Font<'_>,
+) -> Result<(usize, usize, usize, Option<usize>), AllocError> {
+    let glyphs = font.glyphs().copy(alloc)?;
+    let subrs = font.subrs().copy(alloc)?;
+    let both = join_glyphs(alloc, font.glyphs(), &glyphs)?;
+    let same = join_same_glyphs(alloc, font.glyphs(), &glyphs)?;
+    Ok((glyphs.len(), subrs.len(), both.len(), length(same)))
+}
+
+/// The same of the font of a source.
+fn lent_copied(
+    alloc: Global,
+    source: &Source,
+) -> Result<(usize, usize, usize, Option<usize>), AllocError> {
+    let font = source.font(alloc)?;
+    copied(alloc, &font)
+}
+
+/// Whether the font of a source is copied, and written in either form as a file that is read as one of these counts.
+fn is_handled(alloc: Global, source: &Source, want: Counts) -> Result<bool, AllocError> {
+    let copied = lent_copied(alloc, source)?;
+    let pfa = lent_file(alloc, source, Form::Pfa)?;
+    let pfb = lent_file(alloc, source, Form::Pfb)?;
+    let copies = (want.0, want.1, want.0, Some(want.0));
+    Ok(copied == copies && reads_as(alloc, pfa, Ok(want)) && reads_as(alloc, pfb, Ok(want)))
+}
+
+/// Whether a font of so many Subrs and glyphs is handled so, and is the cut to all of its names and Subrs.
+fn is_cut_to_itself(alloc: Global, subrs: u16, glyphs: u32) -> Result<bool, AllocError> {
+    let file = counted(alloc, u32::from(subrs), 1..glyphs, 0, b"")?;
+    let cut = part(alloc, file.as_slice(), 0..128, 0..subrs)?;
+    let same = match rewritten(alloc, file.as_slice(), Form::Pfb) {
+        Ok(pfb) => pfb.as_slice() == cut.as_slice(),
+        Err(_) => false,
+    };
+    match read_vec(alloc, file) {
+        Ok(source) => Ok(same && is_handled(alloc, &source, counts(u32::from(subrs), glyphs))?),
+        Err(_) => Err(AllocError),
+    }
+}
+
+// meets restrict Ok at 1, 2, 4097, 65535 glyphs
+// meets restrict Ok at 0, 4097, 65535 subrs
+// meets Named::copy Ok at 1, 2, 4097, 65535 glyphs
+// meets Numbered::copy Ok at 0, 4097, 65535 subrs
+// meets join_glyphs Ok at 1, 2, 4097, 65535 glyphs
+// meets join_same_glyphs Some at 1, 2, 4097, 65535 glyphs
+// meets write Ok at 1, 2, 4097, 65535 glyphs
+// meets write Ok at 0, 4097, 65535 subrs
+#[test]
+fn fonts_up_to_the_limit(rt: HostRuntime) -> Result<(), Fail> {
+    const ROWS: &[(u16, u32)] = &[(0, 1), (1, 2), (4_097, 4_097), (65_535, 65_535)];
+    for &(subrs, glyphs) in ROWS {
+        let right = is_cut_to_itself(rt.alloc(), subrs, glyphs)?;
+        assert!(rt; right, "{subrs} Subrs and {glyphs} glyphs");
+    }
+    Ok(())
+}
+
+/// The canonical PFB of the entries of a font and of another, by the call for many.
+fn written_by_many<'a>(
+    alloc: Global,
+    first: &Font<'a>,
+    second: Font<'a>,
+) -> Result<Vec<u8>, PartsFault> {
+    if !is_one_shell(alloc, first, &second)? {
+        return Err(PartsFault::Memory);
+    }
+    let rest = [second];
+    written(alloc, first, &rest)
+}
+
+/// The same of the fonts of sources, and whether their tables of glyphs don't join as the same.
+fn lent_by_many(
+    alloc: Global,
+    first: &Source,
+    second: &Source,
+) -> Result<(Vec<u8>, bool), PartsFault> {
+    let first = first.font(alloc)?;
+    let second = second.font(alloc)?;
+    let apart = join_same_glyphs(alloc, first.glyphs(), second.glyphs())?.is_none();
+    Ok((written_by_many(alloc, &first, second)?, apart))
+}
+
+/// The same of the fonts of files.
+fn joined_by_many(
+    alloc: Global,
+    first: &[u8],
+    second: &[u8],
+) -> Result<(Vec<u8>, bool), PartsFault> {
+    match (read(alloc, first), read(alloc, second)) {
+        (Ok(first), Ok(second)) => lent_by_many(alloc, &first, &second),
+        _ => Err(PartsFault::Memory),
+    }
+}
+
+/// How fonts of two files join by the call for two and by that for many: each answers this fault, or a font of so many
+/// glyphs; and whether their tables of glyphs don't join as the same.
+fn join_as(
+    alloc: Global,
+    first: &[u8],
+    second: &[u8],
+    want: Result<Counts, PartsFault>,
+) -> Option<bool> {
+    let two = joined(alloc, first, second);
+    let many = joined_by_many(alloc, first, second);
+    match (two, many, want) {
+        (Ok(two), Ok((many, apart)), Ok(counts)) => {
+            let same = two.as_slice() == many.as_slice();
+            (same && reads_as(alloc, two, Ok(counts))).then_some(apart)
+        }
+        (Err(two), Err(many), Err(fault)) => (two == fault && many == fault).then_some(false),
+        _ => None,
+    }
+}
+
+// meets join_parts Ok at 2, 3, 65535 glyphs
+// meets join_parts Limit at 65536, 100000 glyphs
+// meets join_all_parts Ok at 2, 3, 65535 glyphs
+// meets join_all_parts Limit at 65536, 100000 glyphs
+// meets join_same_glyphs None at 2, 3, 65535 glyphs
+#[test]
+fn joins_up_to_the_limit(rt: HostRuntime) -> Result<(), Fail> {
+    const ROWS: &[(u32, u32, bool)] = &[
+        (1, 1, true),
+        (1, 2, true),
+        (32_768, 65_534, true),
+        (32_768, 65_535, false),
+        (50_000, 99_999, false),
+    ];
+    for &(middle, last, fits) in ROWS {
+        let first = counted(rt.alloc(), 4, 1..middle, 1, b"/z 1 RD x ND\n")?;
+        let second = counted(rt.alloc(), 4, middle..last, 1, b"/z 1 RD y ND\n")?;
+        let glyphs = last.saturating_add(1);
+        let (want, apart) = if fits {
+            (Ok(counts(4, glyphs)), true)
+        } else {
+            (Err(PartsFault::Limit), false)
+        };
+        let answer = join_as(rt.alloc(), first.as_slice(), second.as_slice(), want);
+        assert!(rt; answer == Some(apart), "{glyphs} glyphs together");
+    }
+    Ok(())
+}
