@@ -139,6 +139,8 @@ fn keep(sources: &mut Vec<Source>, source: Source) -> Result<(), AllocError>
 /// The sources without tags, each with the largest declared count among them: fonts that other programs cut declare no
 /// Subrs after the last one that is used.
 ///
+/// The sources are consumed whatever the answer is; after an error none of them is left.
+///
 /// # Errors
 ///
 /// A growth was refused.

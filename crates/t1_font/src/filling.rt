@@ -177,6 +177,8 @@ pub fn stub_indices(alloc: Global, fonts: &[Font<'_>]) -> Result<Vec<u16>, Alloc
 /// The indices are those that [`stub_indices`] answers for these fonts. They are lent, so that a font of a source takes no
 /// room for its stubs.
 ///
+/// The fonts are consumed whatever the answer is; after an error none of them is left, and their sources are still there.
+///
 /// # Errors
 ///
 /// `Limit` if one of the fonts then weighs more than a font may, `Memory` if a growth was refused.

@@ -166,10 +166,13 @@ fn tables_of(alloc: Global, entries: &[(u16, u8)]) -> Result<Vec<Numbered>, Allo
     Ok(tables)
 }
 
-// Many entries, of ten keys in all.
+// How many tables are joined.
+const MANY: u32 = 100_000;
+
+// So many entries, of ten keys in all.
 fn many_entries(alloc: Global) -> Result<Vec<(u16, u8)>, AllocError> {
     let mut entries = Vec::new(alloc);
-    for number in 0..100_000u32 {
+    for number in 0..MANY {
         entries.push(((number % 10) as u16, 0x0b))?;
     }
     Ok(entries)
@@ -224,7 +227,7 @@ fn joins_many(rt: HostRuntime) -> Result<(), Fail> {
     assert!(rt; keys_of(rt.alloc(), many.as_slice())? == Some(10));
     many.push((9, 0x0e))?;
     let none = keys_of(rt.alloc(), many.as_slice())?.is_none();
-    assert!(rt; none, "many, the last of which differs");
+    assert!(rt; none && many.len() == 100_001, "many, the last of which differs");
     Ok(())
 }
 
@@ -369,9 +372,7 @@ fn is_written_so(alloc: Global, listing: &Listing<'_>, want: Want<'_>) -> bool {
 // meets join Ok at 0, 1, 2, 4 lines
 // meets join Subr at 1, 3 lines
 // meets join Glyph at 3 lines
-// meets write_joined Ok at 0, 1, 2, 4 lines
-// meets write_joined Subr at 1, 3 lines
-// meets write_joined Glyph at 3 lines
+// like join: write_joined
 // meets write Ok at 0, 1, 2, 4 lines
 #[test]
 fn listings_join(rt: HostRuntime) {
@@ -437,9 +438,7 @@ fn listings_join(rt: HostRuntime) {
 // meets join Ok at 95000 lines
 // meets join Subr at 95000 lines
 // meets join Glyph at 95000 lines
-// meets write_joined Ok at 95000 lines
-// meets write_joined Subr at 95000 lines
-// meets write_joined Glyph at 95000 lines
+// like join: write_joined
 // meets write Ok at 95000 lines
 #[test]
 fn many_lines_join(rt: HostRuntime) -> Result<(), Fail> {

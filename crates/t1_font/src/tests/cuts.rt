@@ -398,7 +398,7 @@ fn joins_of_fonts_of_two_sources(rt: HostRuntime) -> Result<(), Fail> {
 }
 
 /// A font with a head of so many blanks, `.notdef` and a glyph.
-fn headed(alloc: Global, head: usize, glyph: &[u8]) -> Result<Vec<u8>, AllocError> {
+pub fn headed(alloc: Global, head: usize, glyph: &[u8]) -> Result<Vec<u8>, AllocError> {
     let mut clear = Vec::new(alloc);
     clear.resize(head, b' ')?;
     clear.extend_from_slice(b"/Encoding StandardEncoding def\ncurrentfile eexec\n")?;
@@ -407,27 +407,6 @@ fn headed(alloc: Global, head: usize, glyph: &[u8]) -> Result<Vec<u8>, AllocErro
     private.extend_from_slice(glyph)?;
     private.extend_from_slice(b" 1 RD x ND\nend\nmark currentfile closefile\n")?;
     file(alloc, clear.as_slice(), private.as_slice())
-}
-
-// meets join_parts Ok at 67108035 bytes
-// meets join_parts Limit at 67108036 bytes
-#[test]
-fn joins_at_the_limit_of_weight(rt: HostRuntime) -> Result<(), Fail> {
-    // The clear tail has 18 bytes and the private texts 13 and 27; each of the three glyphs weighs 257.
-    const ROWS: &[(usize, Option<PartsFault>)] = &[
-        (67_108_035, None),
-        (67_108_036, Some(PartsFault::Limit)),
-    ];
-    for &(head, want) in ROWS {
-        let x = headed(rt.alloc(), head, b"/X")?;
-        let y = headed(rt.alloc(), head, b"/Y")?;
-        assert_eq!(rt;
-            joined(rt.alloc(), x.as_slice(), y.as_slice()).err(),
-            want,
-            "a head of {head} bytes"
-        );
-    }
-    Ok(())
 }
 
 /// Adds a line for each number: what stands before its digits, and what stands after them.

@@ -5,9 +5,7 @@ ghost use Rattle.std.specs.FinMap.{keys};
 ghost use Rattle.t1_font.specs.Evening.{stubs_at, indices_of_all};
 
 use super::{GLYPHS, behind, joined, lent_counts, source};
-use crate::{
-    Font, Part, PartsFault, STUB, Source, WEIGHT_LIMIT, even_shells, fill_all, stub_indices,
-};
+use crate::{Font, Part, PartsFault, STUB, Source, even_shells, fill_all, stub_indices};
 use std::alloc::{AllocError, Global};
 use std::test::Fail;
 
@@ -199,11 +197,12 @@ fn many_tables(alloc: Global, times: usize) -> Result<Vec<&'static [u8]>, AllocE
     Ok(tables)
 }
 
-/// Whether so many fonts of one table and then one of another are made even, and filled.
+/// Whether so many fonts, all but the last of them of one table, are made even, and filled.
 fn are_evened(alloc: Global, fonts: usize) -> Result<bool, PartsFault> {
-    let tables = many_tables(alloc, fonts)?;
+    let before = fonts.saturating_sub(1);
+    let tables = many_tables(alloc, before)?;
     let mut want = Vec::new(alloc);
-    for _ in 0..fonts {
+    for _ in 0..before {
         want.extend_from_slice(b"bs..s ")?;
     }
     want.extend_from_slice(b"sb..b ")?;
@@ -212,8 +211,7 @@ fn are_evened(alloc: Global, fonts: usize) -> Result<bool, PartsFault> {
 }
 
 // meets even_shells Ok at 0, 2, 4, 1001 fonts
-// meets stub_indices Ok at 0, 2, 4, 1001 fonts
-// meets fill_all Ok at 0, 2, 4, 1001 fonts
+// like even_shells: stub_indices, fill_all
 #[test]
 fn counts_and_stubs(rt: HostRuntime) -> Result<(), Fail> {
     let even = even_shells(rt.alloc(), sources(rt.alloc(), TABLES)?)?;
@@ -228,9 +226,9 @@ fn counts_and_stubs(rt: HostRuntime) -> Result<(), Fail> {
     assert!(rt; marks.is_ok_and(|marks| marks.as_slice() == AS_THEY_ARE));
     let none = evened(rt.alloc(), &[]);
     assert!(rt; none.is_ok_and(|marks| marks.is_empty()));
-    for &fonts in &[1, 1_000] {
+    for &fonts in &[2, 1_001] {
         let right = are_evened(rt.alloc(), fonts)?;
-        assert!(rt; right, "{fonts} fonts and one more");
+        assert!(rt; right, "{fonts} fonts");
     }
     Ok(())
 }
@@ -289,63 +287,37 @@ fn counts_of_halves(alloc: Global, declared: u16, blanks: usize) -> Result<Vec<u
     filled_counts(alloc, halves.as_slice(), indices.as_slice())
 }
 
-/// How many blanks the first of two such fonts may have so that it fits when it is filled.
-fn room_of_halves(alloc: Global, declared: u16) -> Result<usize, AllocError> {
+/// A byte more than a font may weigh.
+const HEAVY: usize = 67_108_865;
+
+/// How many blanks the first of two such fonts may have so that it weighs so when it is filled: each stub weighs 129.
+fn blanks_for(alloc: Global, declared: u16, filled: usize) -> Result<usize, AllocError> {
     let even = every_other(alloc, declared, 0)?;
     let source = made(alloc, b"%!\n", even.as_slice(), 0)?;
     let (_, weight) = lent_counts(alloc, &source)?;
     let stubs = usize::from(declared / 2).saturating_mul(129);
-    Ok(
-        (WEIGHT_LIMIT as usize)
-            .saturating_sub(weight as usize)
-            .saturating_sub(stubs),
-    )
+    Ok(filled.saturating_sub(weight as usize).saturating_sub(stubs))
 }
 
 // meets stub_indices Ok at 2, 65535 subrs
 // meets fill_all Ok at 2, 65535 subrs
 // meets fill_all Limit at 2, 65535 subrs
+// meets fill_all Limit at 67108865 bytes
 #[test]
 fn halves_of_all_subrs(rt: HostRuntime) -> Result<(), Fail> {
     for &declared in &[2, 65_535] {
-        let room = room_of_halves(rt.alloc(), declared)?;
+        let blanks = blanks_for(rt.alloc(), declared, HEAVY)?;
         let all = usize::from(declared);
-        for &blanks in &[0, room] {
+        for &blanks in &[0, blanks.saturating_sub(1)] {
             let counts = counts_of_halves(rt.alloc(), declared, blanks)?;
             assert_eq!(rt; counts.as_slice(), [all, all].as_slice(), "{blanks} blanks");
         }
-        let heavy = counts_of_halves(rt.alloc(), declared, room.saturating_add(1));
+        let heavy = counts_of_halves(rt.alloc(), declared, blanks);
         assert_eq!(rt;
             heavy.err(),
             Some(PartsFault::Limit),
             "{declared} Subrs, a byte too many"
         );
     }
-    Ok(())
-}
-
-/// Whether a font of this many blanks is refused for its weight when it is filled beside one with other Subrs.
-fn is_refused(alloc: Global, blanks: usize) -> Result<bool, AllocError> {
-    let mut pair = Vec::new(alloc);
-    pair.push(made(alloc, b"%!\n", TWO, blanks)?)?;
-    pair.push(made(alloc, b"%!\n", ONE, 0)?)?;
-    match lent_marks(alloc, pair.as_slice()) {
-        Ok(_) => Ok(false),
-        Err(PartsFault::Limit) => Ok(true),
-        Err(PartsFault::Memory) => Err(AllocError),
-    }
-}
-
-// meets fill_all Limit at 3 subrs
-#[test]
-fn filled_up_to_the_limit(rt: HostRuntime) -> Result<(), Fail> {
-    let light = made(rt.alloc(), b"%!\n", TWO, 0)?;
-    let (_, weight) = lent_counts(rt.alloc(), &light)?;
-    drop(light);
-    let room = (WEIGHT_LIMIT as usize).saturating_sub(weight as usize);
-    let fits = is_refused(rt.alloc(), room.saturating_sub(129))?;
-    assert!(rt; !fits, "one stub weighs 129");
-    let heavy = is_refused(rt.alloc(), room.saturating_sub(128))?;
-    assert!(rt; heavy, "one byte too many");
     Ok(())
 }

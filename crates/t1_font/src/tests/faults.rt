@@ -20,7 +20,7 @@ fn segment(
 }
 
 // meets read BadSegment at 2, 100000, 1000000 bytes
-// meets read_vec BadSegment at 2, 100000, 1000000 bytes
+// like read: read_vec
 #[test]
 fn faults_of_segments(rt: HostRuntime) -> Result<(), Fail> {
     const ROWS: &[(u32, usize, &[u8], usize, &str)] = &[
@@ -76,10 +76,7 @@ fn moved(fault: ReadFault, blanks: usize) -> ReadFault {
 // meets read ShortCipher at 0, 100000 bytes
 // meets read NoEncoding at 0, 100000 bytes
 // meets read BadEncoding at 0, 100000 bytes
-// meets read_vec NoEexec at 0, 100000 bytes
-// meets read_vec ShortCipher at 0, 100000 bytes
-// meets read_vec NoEncoding at 0, 100000 bytes
-// meets read_vec BadEncoding at 0, 100000 bytes
+// like read: read_vec
 #[test]
 fn faults_of_clear_texts(rt: HostRuntime) -> Result<(), Fail> {
     const ROWS: &[(&[u8], ReadFault, &str)] = &[
@@ -136,14 +133,7 @@ fn faults_of_clear_texts(rt: HostRuntime) -> Result<(), Fail> {
 // meets read NoClosefile at 0, 100000 bytes
 // meets read NoNotdef at 0, 100000 bytes
 // meets read Limit at 0, 100000 bytes
-// meets read_vec NoCharStrings at 0, 100000 bytes
-// meets read_vec BadLenIV at 0, 100000 bytes
-// meets read_vec BadSubrs at 0, 100000 bytes
-// meets read_vec BadGlyphs at 0, 100000 bytes
-// meets read_vec Hybrid at 0, 100000 bytes
-// meets read_vec NoClosefile at 0, 100000 bytes
-// meets read_vec NoNotdef at 0, 100000 bytes
-// meets read_vec Limit at 0, 100000 bytes
+// like read: read_vec
 #[test]
 fn faults_of_private_texts(rt: HostRuntime) -> Result<(), Fail> {
     const ROWS: &[(&[u8], ReadFault, &str)] = &[

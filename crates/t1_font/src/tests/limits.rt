@@ -1,6 +1,6 @@
 //! Fonts with as many glyphs and Subrs as there may be, with one more, and with keys that come again.
 
-use super::cuts::{add_lines, is_one_shell, joined, part};
+use super::cuts::{add_lines, headed, is_one_shell, joined, part};
 use super::many::written;
 use super::{CLEAR, GLYPHS, fault, fault_of, file, joined as one_after, lent_file, rewritten};
 use crate::{
@@ -65,42 +65,69 @@ fn counts(subrs: u32, glyphs: u32) -> Counts {
     (glyphs as usize, subrs as usize, weight)
 }
 
-// meets read Ok at 1, 4096, 4097, 65535 glyphs
-// meets read Ok at 0, 4096, 4097, 65535 subrs
-// meets read Limit at 65536, 100000 glyphs
-// meets read Limit at 65536 subrs
-// meets read_vec Ok at 1, 4096, 4097, 65535 glyphs
-// meets read_vec Ok at 0, 4096, 4097, 65535 subrs
-// meets read_vec Limit at 65536, 100000 glyphs
-// meets read_vec Limit at 65536 subrs
-// meets Source::font Ok at 1, 4096, 4097, 65535 glyphs
+/// Whether fonts with so many Subrs and glyphs, and with so many lines of `.notdef` more, are read, or are over the limit.
+fn are_read(
+    alloc: Global,
+    subrs: u32,
+    glyphs: u32,
+    times: usize,
+    fits: bool,
+) -> Result<bool, AllocError> {
+    let file = counted(alloc, subrs, 1..glyphs, times, b"/.notdef 1 RD y ND\n")?;
+    let want = if fits {
+        Ok(counts(subrs, glyphs))
+    } else {
+        Err(ReadFault::Limit)
+    };
+    Ok(reads_as(alloc, file, want))
+}
+
+// meets read Ok at 1, 4096, 4097 glyphs
+// meets read Ok at 0, 4096, 4097 subrs
+// like read: read_vec
+// meets Source::font Ok at 1, 4096, 4097 glyphs
 #[test]
-fn counts_up_to_the_limit(rt: HostRuntime) -> Result<(), Fail> {
-    const ROWS: &[(u32, u32, usize, bool)] = &[
-        (0, 1, 0, true),
-        (1, 2, 1, true),
-        (4_095, 4_095, 0, true),
-        (4_096, 4_096, 1, true),
-        (4_097, 4_097, 4_096, true),
-        (2, 3, 100_000, true),
-        (65_535, 65_535, 0, true),
-        (0, 65_535, 10, true),
-        (0, 65_536, 0, false),
-        (3, 100_000, 0, false),
-        (65_536, 1, 0, false),
+fn counts_about_the_first_look(rt: HostRuntime) -> Result<(), Fail> {
+    const ROWS: &[(u32, u32, usize)] = &[
+        (0, 1, 0),
+        (1, 2, 1),
+        (4_096, 4_096, 0),
+        (4_097, 4_097, 1),
+        (2, 3, 8_192),
     ];
-    for &(subrs, glyphs, times, fits) in ROWS {
-        let names = 1..glyphs;
-        let file = counted(rt.alloc(), subrs, names, times, b"/.notdef 1 RD y ND\n")?;
-        let want = if fits {
-            Ok(counts(subrs, glyphs))
-        } else {
-            Err(ReadFault::Limit)
-        };
+    for &(subrs, glyphs, times) in ROWS {
+        let right = are_read(rt.alloc(), subrs, glyphs, times, true)?;
         assert!(rt;
-            reads_as(rt.alloc(), file, want),
+            right,
             "{subrs} Subrs, {glyphs} glyphs, .notdef {times} times again"
         );
+    }
+    Ok(())
+}
+
+// meets read Ok at 65535 glyphs
+// meets read Ok at 65535 subrs
+// like read: read_vec
+// meets Source::font Ok at 65535 glyphs
+#[test]
+fn counts_at_the_limit(rt: HostRuntime) -> Result<(), Fail> {
+    const ROWS: &[(u32, u32, usize)] = &[(0, 65_535, 10), (65_535, 1, 0)];
+    for &(subrs, glyphs, times) in ROWS {
+        let right = are_read(rt.alloc(), subrs, glyphs, times, true)?;
+        assert!(rt; right, "{subrs} Subrs, {glyphs} glyphs");
+    }
+    Ok(())
+}
+
+// meets read Limit at 65536 glyphs
+// meets read Limit at 65536 subrs
+// like read: read_vec
+#[test]
+fn counts_over_the_limit(rt: HostRuntime) -> Result<(), Fail> {
+    const ROWS: &[(u32, u32)] = &[(0, 65_536), (65_536, 1)];
+    for &(subrs, glyphs) in ROWS {
+        let right = are_read(rt.alloc(), subrs, glyphs, 0, false)?;
+        assert!(rt; right, "{subrs} Subrs, {glyphs} glyphs");
     }
     Ok(())
 }
@@ -122,7 +149,7 @@ fn repeated(
 }
 
 // meets read Ok at 1, 4096, 4097, 100000 entries
-// meets read_vec Ok at 1, 4096, 4097, 100000 entries
+// like read: read_vec
 #[test]
 fn entries_that_come_again(rt: HostRuntime) -> Result<(), Fail> {
     const ROWS: &[usize] = &[1, 4_096, 4_097, 100_000];
@@ -277,30 +304,55 @@ fn join_as(
 }
 
 // meets join_parts Ok at 2, 3, 65535 glyphs
-// meets join_parts Limit at 65536, 100000 glyphs
-// meets join_all_parts Ok at 2, 3, 65535 glyphs
-// meets join_all_parts Limit at 65536, 100000 glyphs
+// like join_parts: join_all_parts
 // meets join_same_glyphs None at 2, 3, 65535 glyphs
 #[test]
 fn joins_up_to_the_limit(rt: HostRuntime) -> Result<(), Fail> {
-    const ROWS: &[(u32, u32, bool)] = &[
-        (1, 1, true),
-        (1, 2, true),
-        (32_768, 65_534, true),
-        (32_768, 65_535, false),
-        (50_000, 99_999, false),
-    ];
-    for &(middle, last, fits) in ROWS {
+    const ROWS: &[(u32, u32)] = &[(1, 2), (2, 3), (32_768, 65_535)];
+    for &(middle, glyphs) in ROWS {
+        let last = glyphs.saturating_sub(1);
         let first = counted(rt.alloc(), 4, 1..middle, 1, b"/z 1 RD x ND\n")?;
         let second = counted(rt.alloc(), 4, middle..last, 1, b"/z 1 RD y ND\n")?;
-        let glyphs = last.saturating_add(1);
-        let (want, apart) = if fits {
-            (Ok(counts(4, glyphs)), true)
-        } else {
-            (Err(PartsFault::Limit), false)
+        let want = Ok(counts(4, glyphs));
+        let apart = join_as(rt.alloc(), first.as_slice(), second.as_slice(), want);
+        assert!(rt; apart == Some(true), "{glyphs} glyphs together");
+    }
+    Ok(())
+}
+
+// meets join_parts Limit at 65536 glyphs
+// like join_parts: join_all_parts
+#[test]
+fn joins_over_the_limit(rt: HostRuntime) -> Result<(), Fail> {
+    const MIDDLE: u32 = 32_768;
+    const GLYPHS_TOGETHER: u32 = 65_536;
+    let first = counted(rt.alloc(), 4, 1..MIDDLE, 0, b"")?;
+    let second = counted(rt.alloc(), 4, MIDDLE..GLYPHS_TOGETHER, 0, b"")?;
+    let want = Err(PartsFault::Limit);
+    let refused = join_as(rt.alloc(), first.as_slice(), second.as_slice(), want);
+    assert!(rt; refused.is_some());
+    Ok(())
+}
+
+// meets join_parts Ok at 67108864 bytes
+// meets join_parts Limit at 67108865 bytes
+// like join_parts: join_all_parts
+#[test]
+fn joins_at_the_limit_of_weight(rt: HostRuntime) -> Result<(), Fail> {
+    // The clear tail has 18 bytes and the private texts 13 and 27; each of the three glyphs weighs 257.
+    const ROWS: &[(usize, u32, Option<PartsFault>)] = &[
+        (67_108_035, 67_108_864, None),
+        (67_108_036, 67_108_865, Some(PartsFault::Limit)),
+    ];
+    for &(head, weight, fault) in ROWS {
+        let x = headed(rt.alloc(), head, b"/X")?;
+        let y = headed(rt.alloc(), head, b"/Y")?;
+        let want = match fault {
+            Some(fault) => Err(fault),
+            None => Ok((3, 0, weight)),
         };
-        let answer = join_as(rt.alloc(), first.as_slice(), second.as_slice(), want);
-        assert!(rt; answer == Some(apart), "{glyphs} glyphs together");
+        let answer = join_as(rt.alloc(), x.as_slice(), y.as_slice(), want);
+        assert!(rt; answer == Some(false), "a weight of {weight}");
     }
     Ok(())
 }

@@ -86,7 +86,7 @@ fn agreed(alloc: Global, entries: u16, byte: u8) -> Result<Option<usize>, AllocE
 // meets Table::new Ok at 0 entries
 // meets Table::with_capacity Ok at 0, 1, 100000 entries
 // meets Table::insert Ok at 0, 1, 1000, 65534 entries
-// meets Table::insert_near Ok at 0, 1, 1000, 65534 entries
+// like Table::insert: Table::insert_near
 // meets join_if_agreed Some at 1, 1000, 65534 entries
 // meets join_if_agreed None at 1, 1000, 65534 entries
 #[test]
@@ -133,8 +133,7 @@ fn joins_with_itself(alloc: Global, name: usize, digits: usize) -> Result<bool, 
 
 // meets join Ok at 1, 100, 101, 127 bytes
 // meets join Glyph at 1, 100, 101, 127 bytes
-// meets write_joined Ok at 1, 100, 101, 127 bytes
-// meets write_joined Glyph at 1, 100, 101, 127 bytes
+// like join: write_joined
 // meets write Ok at 1, 101, 127, 131068 bytes
 #[test]
 fn long_lines_join(rt: HostRuntime) -> Result<(), Fail> {
