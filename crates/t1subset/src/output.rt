@@ -191,9 +191,14 @@ impl<'r, 'p, R: Files> Out<'r, 'p, R> {
         let Some(opened) = opened else {
             return (done, Note::Nothing);
         };
-        match opened.beside {
-            Some(name) => end_beside(rt, opened.file, name, path, done),
-            None if opened.alone => (done, Note::InPlace(path)),
+        let Opened {
+            file,
+            beside,
+            alone,
+        } = opened;
+        match beside {
+            Some(name) => end_beside(rt, file, name, path, done),
+            None if alone => (done, Note::InPlace(path)),
             None => (done, Note::Nothing),
         }
     }
