@@ -227,7 +227,10 @@ fn joins_many(rt: HostRuntime) -> Result<(), Fail> {
     assert!(rt; keys_of(rt.alloc(), many.as_slice())? == Some(10));
     many.push((9, 0x0e))?;
     let none = keys_of(rt.alloc(), many.as_slice())?.is_none();
-    assert!(rt; none && many.len() == 100_001, "many, the last of which differs");
+    assert!(rt;
+        none && many.len() == 100_001,
+        "many, the last of which differs"
+    );
     Ok(())
 }
 
