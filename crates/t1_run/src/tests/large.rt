@@ -146,16 +146,28 @@ fn is_drawn(
     Ok(counts(&replaced) == Some(want) && kept == replaced && parts.is_some() && marks.len() == all)
 }
 
+// Whether a plain glyph of so many marks is answered alike by each call.
+fn answers_alike(
+    alloc: Global,
+    font: &GlyphFont<'_>,
+    glyph: &[u8],
+    count: usize,
+) -> Result<bool, Fail> {
+    let replaced = direct(alloc, font, glyph)?;
+    let kept = direct3(alloc, font, glyph)?;
+    let both = both_answers(alloc, font, glyph)?;
+    let (answer, _) = direct_and_executed(alloc, font, glyph)?;
+    let are_same = kept == replaced && both.direct == replaced && answer == replaced;
+    Ok(count_of_marks(&replaced) == count && are_same && both.direct3.is_none())
+}
+
 // Whether plain glyphs of so many marks are drawn, one and as the parts of an accented glyph, which has so many in all.
 fn draws(alloc: Global, count: u32, all: usize) -> Result<bool, Fail> {
     let glyph = charstring(alloc, &WIDTH, count, b"\x0e")?;
     let font = GlyphFont::new(alloc, &[], &[(b"A", &glyph), (b"acute", &glyph)], None)?;
-    let replaced = direct(alloc, &font, &glyph)?;
-    let kept = direct3(alloc, &font, &glyph)?;
     let count = count as usize;
     Ok(
-        count_of_marks(&replaced) == count
-            && kept == replaced
+        answers_alike(alloc, &font, &glyph, count)?
             && is_drawn(alloc, &font, b"A", (count, None), count)?
             && is_drawn(alloc, &font, b"Aacute", (count, Some(count)), all)?,
     )
@@ -163,6 +175,8 @@ fn draws(alloc: Global, count: u32, all: usize) -> Result<bool, Fail> {
 
 // meets direct Plain at 0, 1, 99996 marks
 // meets direct3 Plain at 0, 1, 99996 marks
+// meets both_answers Ok at 0, 1, 99996 marks
+// meets direct_and_executed Ok at 0, 1, 99996 marks
 // meets draw Drawn at 0, 1, 99996 marks
 // meets draw3 Drawn at 0, 1, 99996 marks
 // meets lay_out Drawn at 0, 1, 99996 marks
@@ -171,6 +185,40 @@ fn draws(alloc: Global, count: u32, all: usize) -> Result<bool, Fail> {
 fn draws_many(rt: HostRuntime) -> Result<(), Fail> {
     for (count, all) in [(0, 0), (1, 2), (99_996, 199_992)] {
         assert!(rt; draws(rt.alloc(), count, all)?, "{count} marks");
+    }
+    Ok(())
+}
+
+// `0 250 hsbw`, and then Subr 7, which makes a mark, or Subr 3 where hints are kept; a mark tells both runs apart.
+const APART: [u8; 12] = [
+    0x8B, 0xF7, 0x8E, 0x0D, 0x92, 0x8C, 0x8E, 0x0C, 0x10, 0x0C, 0x11, 0x0A,
+];
+
+// Whether a charstring of two runs, with so many dotsections, has so many marks where hints are replaced and so many where
+// they are kept.
+fn answers_apart(
+    alloc: Global,
+    dotsections: u32,
+    replaced: usize,
+    kept: usize,
+) -> Result<bool, Fail> {
+    let font = Font::small(alloc)?;
+    let glyph = charstring(alloc, &APART, dotsections, b"\x0e")?;
+    let both = both_answers(alloc, &font, &glyph)?;
+    let alone = direct3(alloc, &font, &glyph)?;
+    let are_counted = count_of_marks(&both.direct) == replaced && count_of_marks(&alone) == kept;
+    Ok(are_counted && both.direct3 == Some(alone))
+}
+
+// meets both_answers Ok at 2, 99988 marks
+// meets direct3 Plain at 1, 99987 marks
+#[test]
+fn answers_many_apart(rt: HostRuntime) -> Result<(), Fail> {
+    for (dotsections, replaced, kept) in [(0, 2, 1), (99_986, 99_988, 99_987)] {
+        assert!(rt;
+            answers_apart(rt.alloc(), dotsections, replaced, kept)?,
+            "{dotsections} dotsections"
+        );
     }
     Ok(())
 }
