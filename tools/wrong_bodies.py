@@ -24,6 +24,8 @@ TOP = os.path.abspath(os.path.join(os.path.dirname(os.path.abspath(__file__)), "
 EDITS = os.path.join(TOP, "tools/wrong-bodies")
 # The first edit of a copy costs its crate's proof, and each further edit a load of that proof.
 CHUNK = 12
+# How long a test may run that is not built yet, which takes it many times as long.
+SECONDS = "900"
 # What is said of an edit that is refused, and of one that is caught.
 GOOD = ("refused, as it must be", "caught, as it must be, by")
 
@@ -109,8 +111,11 @@ def caught(crate, edit):
         bad = apply(edit, folder)
         if bad:
             return [(name, f"test {crate}/{name}: BAD EDIT: {bad}")]
-        done = subprocess.run(["rt", "try", "--test"], cwd=folder, capture_output=True, text=True, errors="replace")
-    if re.search(rf"^test (\w+::)*{test} \.\.\. FAILED", done.stdout, re.M):
+        words = ["rt", "try", "--test", "--seconds", SECONDS]
+        done = subprocess.run(words, cwd=folder, capture_output=True, text=True, errors="replace")
+    # What stands below the test's line, up to the next test: a test that is cut off has caught nothing.
+    failed = re.search(rf"^test (\w+::)*{test} \.\.\. FAILED\n((?: .*\n)*)", done.stdout, re.M)
+    if failed and "no-answer" not in failed.group(2):
         return [(name, f"test {crate}/{name}: {GOOD[1]} {test}")]
     told = "passed" if re.search(rf"^test (\w+::)*{test} \.\.\. ok", done.stdout, re.M) else "did not run"
     return [(name, f"test {crate}/{name}: NOT CAUGHT: {test} {told}: {(done.stdout + done.stderr).strip()[-300:]}")]
