@@ -297,7 +297,7 @@ fn the_first_of_two_names_of_a_code_stands(rt: HostRuntime) -> Result<(), Fail> 
 }
 
 /// A font that is cut to `.notdef`, to those of the names that it has, and to these Subrs.
-fn cut_font<'a>(
+pub fn cut_font<'a>(
     alloc: Global,
     font: &Font<'a>,
     names: &[&[u8]],

@@ -21,16 +21,11 @@ const EMPTY: &[u8] = b"/lenIV 0 def /Subrs 3 array\nND\n";
 /// No table of Subrs.
 const NONE: &[u8] = b"/lenIV 0 def ";
 
-/// The source of a font with this head, and with these Subrs and blanks behind them.
-fn made(alloc: Global, head: &[u8], subrs: &[u8], blanks: usize) -> Result<Source, AllocError> {
-    let clear = joined(
-        alloc,
-        head,
-        b"/Encoding StandardEncoding def\ncurrentfile eexec\n",
-    )?;
-    let mut private = Vec::from_slice(alloc, subrs)?;
-    private.resize(private.len().saturating_add(blanks), b' ')?;
-    private.extend_from_slice(GLYPHS)?;
+/// The source of a font with so many blanks and this head, and with these Subrs.
+fn made(alloc: Global, blanks: usize, head: &[u8], subrs: &[u8]) -> Result<Source, AllocError> {
+    let mut clear = behind(alloc, blanks, head)?;
+    clear.extend_from_slice(b"/Encoding StandardEncoding def\ncurrentfile eexec\n")?;
+    let private = joined(alloc, subrs, GLYPHS)?;
     match source(alloc, clear.as_slice(), private.as_slice()) {
         Ok(source) => Ok(source),
         Err(_) => Err(AllocError),
@@ -45,7 +40,7 @@ fn has_head(alloc: Global, source: &Source, head: &[u8]) -> Result<bool, AllocEr
 
 /// Whether this is left of a head when its font is made even.
 pub fn is_left(alloc: Global, head: &[u8], want: &[u8]) -> Result<bool, AllocError> {
-    let source = made(alloc, head, ONE, 0)?;
+    let source = made(alloc, 0, head, ONE)?;
     let source = source.even(alloc, 7)?;
     Ok(source.declared_count() == 7 && has_head(alloc, &source, want)?)
 }
@@ -109,7 +104,7 @@ fn lent_marks(alloc: Global, sources: &[Source]) -> Result<Vec<u8>, PartsFault> 
 fn sources(alloc: Global, tables: &[&[u8]]) -> Result<Vec<Source>, AllocError> {
     let mut sources = Vec::new(alloc);
     for &table in tables {
-        sources.push(made(alloc, b"%!\n", table, 0)?)?;
+        sources.push(made(alloc, 0, b"%!\n", table)?)?;
     }
     Ok(sources)
 }
@@ -254,8 +249,8 @@ fn halves(alloc: Global, declared: u16, blanks: usize) -> Result<Vec<Source>, Al
     let even = every_other(alloc, declared, 0)?;
     let odd = every_other(alloc, declared, 1)?;
     let mut pair = Vec::new(alloc);
-    pair.push(made(alloc, b"%!\n", even.as_slice(), blanks)?)?;
-    pair.push(made(alloc, b"%!\n", odd.as_slice(), 0)?)?;
+    pair.push(made(alloc, blanks, b"%!\n", even.as_slice())?)?;
+    pair.push(made(alloc, 0, b"%!\n", odd.as_slice())?)?;
     Ok(pair)
 }
 
@@ -293,7 +288,7 @@ const HEAVY: usize = 67_108_865;
 /// How many blanks the first of two such fonts may have so that it weighs so when it is filled: each stub weighs 129.
 fn blanks_for(alloc: Global, declared: u16, filled: usize) -> Result<usize, AllocError> {
     let even = every_other(alloc, declared, 0)?;
-    let source = made(alloc, b"%!\n", even.as_slice(), 0)?;
+    let source = made(alloc, 0, b"%!\n", even.as_slice())?;
     let (_, weight) = lent_counts(alloc, &source)?;
     let stubs = usize::from(declared / 2).saturating_mul(129);
     Ok(filled.saturating_sub(weight as usize).saturating_sub(stubs))
@@ -301,8 +296,7 @@ fn blanks_for(alloc: Global, declared: u16, filled: usize) -> Result<usize, Allo
 
 // meets stub_indices Ok at 2, 65535 subrs
 // meets fill_all Ok at 2, 65535 subrs
-// meets fill_all Limit at 2, 65535 subrs
-// meets fill_all Limit at 67108865 bytes
+// meets fill_all Limit at 65535 subrs
 #[test]
 fn halves_of_all_subrs(rt: HostRuntime) -> Result<(), Fail> {
     for &declared in &[2, 65_535] {
@@ -310,14 +304,25 @@ fn halves_of_all_subrs(rt: HostRuntime) -> Result<(), Fail> {
         let all = usize::from(declared);
         for &blanks in &[0, blanks.saturating_sub(1)] {
             let counts = counts_of_halves(rt.alloc(), declared, blanks)?;
-            assert_eq!(rt; counts.as_slice(), [all, all].as_slice(), "{blanks} blanks");
+            assert_eq!(rt;
+                counts.as_slice(),
+                [all, all].as_slice(),
+                "{declared} Subrs, {blanks} blanks"
+            );
         }
-        let heavy = counts_of_halves(rt.alloc(), declared, blanks);
-        assert_eq!(rt;
-            heavy.err(),
-            Some(PartsFault::Limit),
-            "{declared} Subrs, a byte too many"
-        );
     }
+    let blanks = blanks_for(rt.alloc(), 65_535, HEAVY)?;
+    let heavy = counts_of_halves(rt.alloc(), 65_535, blanks);
+    assert_eq!(rt; heavy.err(), Some(PartsFault::Limit));
+    Ok(())
+}
+
+// meets fill_all Limit at 2 subrs
+// meets fill_all Limit at 67108865 bytes
+#[test]
+fn a_filled_font_over_the_limit(rt: HostRuntime) -> Result<(), Fail> {
+    let blanks = blanks_for(rt.alloc(), 2, HEAVY)?;
+    let heavy = counts_of_halves(rt.alloc(), 2, blanks);
+    assert_eq!(rt; heavy.err(), Some(PartsFault::Limit), "a byte too many");
     Ok(())
 }

@@ -1,6 +1,6 @@
 //! Fonts with as many glyphs and Subrs as there may be, with one more, and with keys that come again.
 
-use super::cuts::{add_lines, headed, is_one_shell, joined, part};
+use super::cuts::{add_lines, cut_font, headed, is_one_shell, joined, part};
 use super::many::written;
 use super::{CLEAR, GLYPHS, fault, fault_of, file, joined as one_after, lent_file, rewritten};
 use crate::{
@@ -175,7 +175,7 @@ fn entries_that_come_again(rt: HostRuntime) -> Result<(), Fail> {
     Ok(())
 }
 
-/// How many glyphs a table has that may be none.
+/// How many glyphs a table has, if there is one.
 fn length(glyphs: Option<Named<'_>>) -> Option<usize> {
     match glyphs {
         Some(glyphs) => Some(glyphs.len()),
@@ -183,35 +183,40 @@ fn length(glyphs: Option<Named<'_>>) -> Option<usize> {
     }
 }
 
-/// How many entries the copies of a font's tables have, and how many glyphs the font and its copy have together, however
-/// they are joined.
-fn copied(
+/// How many glyphs a font's copied table has, the copy of its table joined with that one, and these joined as the same.
+fn glyphs_copied(
     alloc: Global,
     font: &Font<'_>,
-) -> Result<(usize, usize, usize, Option<usize>), AllocError> {
+) -> Result<(usize, usize, Option<usize>), AllocError> {
     let glyphs = font.glyphs().copy(alloc)?;
-    let subrs = font.subrs().copy(alloc)?;
-    let both = join_glyphs(alloc, font.glyphs(), &glyphs)?;
+    let both = join_glyphs(alloc, font.glyphs(), &glyphs)?.copy(alloc)?;
     let same = join_same_glyphs(alloc, font.glyphs(), &glyphs)?;
-    Ok((glyphs.len(), subrs.len(), both.len(), length(same)))
+    Ok((glyphs.len(), both.len(), length(same)))
 }
 
-/// The same of the font of a source.
-fn lent_copied(
-    alloc: Global,
-    source: &Source,
-) -> Result<(usize, usize, usize, Option<usize>), AllocError> {
+/// How many Subrs a font's copied table has, and the copied table of the font cut to `.notdef`.
+fn subrs_copied(alloc: Global, font: &Font<'_>) -> Result<(usize, usize), AllocError> {
+    let subrs = font.subrs().copy(alloc)?;
+    let cut = cut_font(alloc, font, &[], &[])?.subrs().copy(alloc)?;
+    Ok((subrs.len(), cut.len()))
+}
+
+/// Whether the tables of a source's font are copied as ones of these counts.
+fn are_copied(alloc: Global, source: &Source, want: Counts) -> Result<bool, AllocError> {
     let font = source.font(alloc)?;
-    copied(alloc, &font)
+    let (glyphs, subrs, _) = want;
+    Ok(
+        glyphs_copied(alloc, &font)? == (glyphs, glyphs, Some(glyphs))
+            && subrs_copied(alloc, &font)? == (subrs, subrs),
+    )
 }
 
 /// Whether the font of a source is copied, and written in either form as a file that is read as one of these counts.
 fn is_handled(alloc: Global, source: &Source, want: Counts) -> Result<bool, AllocError> {
-    let copied = lent_copied(alloc, source)?;
+    let copied = are_copied(alloc, source, want)?;
     let pfa = lent_file(alloc, source, Form::Pfa)?;
     let pfb = lent_file(alloc, source, Form::Pfb)?;
-    let copies = (want.0, want.1, want.0, Some(want.0));
-    Ok(copied == copies && reads_as(alloc, pfa, Ok(want)) && reads_as(alloc, pfb, Ok(want)))
+    Ok(copied && reads_as(alloc, pfa, Ok(want)) && reads_as(alloc, pfb, Ok(want)))
 }
 
 /// Whether a font of so many Subrs and glyphs is handled so, and is the cut to all of its names and Subrs.
@@ -283,8 +288,8 @@ fn joined_by_many(
     }
 }
 
-/// How fonts of two files join by the call for two and by that for many: each answers this fault, or a font of so many
-/// glyphs; and whether their tables of glyphs don't join as the same.
+/// Whether the tables of glyphs of two files' fonts don't join as the same, where the call for two fonts and that for many
+/// both answer this fault or one font with these counts; `None` if either answers another thing.
 fn join_as(
     alloc: Global,
     first: &[u8],
