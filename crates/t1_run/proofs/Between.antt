@@ -67,6 +67,7 @@ at_top_is (halt.Plain metrics) marks = refl
 at_top_is (halt.Seac accent) marks = refl
 at_top_is (halt.Failed fault) marks = refl
 
+-- what ends a charstring leaves the marks as they are
 ends_marks : {P : Type 0} (h : Halt) (m : Machine P) (marks : List Mark) → marks_after (state_of m marks) (Ends (ending_of h marks)) ≡ marks
 ends_marks (halt.Plain metrics) m marks = refl
 ends_marks (halt.Seac accent) m marks = refl

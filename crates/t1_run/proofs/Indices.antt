@@ -60,6 +60,7 @@ reached_with : (j : ℕ) (is set : List ℕ) → Reached j set → Reached j (wi
 reached_with j [] set h = h
 reached_with j (i ∷ is) set h = reached_with j is (insert_key nat_cmp set i) (reached_insert_other j i set h)
 
+-- an index of the list is in a set to which the list came
 reached_from : (is set : List ℕ) (i : ℕ) → 0 < times is i → Reached i (with_indices set is)
 reached_from [] set i h = absurd (omega (arith, h))
 reached_from (j ∷ is) set i h =
@@ -81,6 +82,7 @@ some_listed places is i h e = let once : times is i ≡ 1 = h i ∙ ap (λ b. co
 pub once_listed : (places : List Bool) (is : List ℕ) → AreListed places is → (i : ℕ) → times is i ≤ 1
 once_listed places is h i = rw (h i) (at_most_one (is_in places i))
   where
+    -- one or none is at most one
     at_most_one : (b : Bool) → cond b 1 0 ≤ 1
     at_most_one true = omega arith
     at_most_one false = omega arith

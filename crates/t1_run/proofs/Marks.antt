@@ -91,6 +91,7 @@ call_marked subrs hints zero i s = tt
 call_marked subrs hints (suc levels) i s =
     enter_marked (entry subrs i) (run_with hints (call subrs hints levels)) (λ ts. run_with_marked hints (call subrs hints levels) (call_marked subrs hints levels) ts) s
 
+-- the marks of an ending that is a plain glyph's are those of the outcome
 plain_marks : (e : Ending) (marks : List Mark) → HasMarks e marks → IsPlain (at_top e) → marks ≡ marks_of (at_top e)
 plain_marks (Back s) marks h plain = absurd plain
 plain_marks (Plain m made) marks h plain = sym h
