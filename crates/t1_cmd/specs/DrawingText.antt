@@ -1,5 +1,5 @@
 -- The lines of a drawing.
-use Rattle.std.specs.Prelude.{◌≡◌, ℕ, ◌+◌, ◌/◌, ◌%◌, ℤ, pos, negsuc, List, [], ◌∷◌, ◌++◌, codes, Result, Ok, Err, if◌then◌else◌, ◌==◌}
+use Rattle.std.specs.Prelude.{ℕ, ◌+◌, ◌/◌, ◌%◌, ℤ, pos, negsuc, List, [], ◌∷◌, ◌++◌, codes, Result, Ok, Err, if◌then◌else◌, ◌==◌}
 use Rattle.std.specs.Fmt.{decimal}
 use Rattle.std.specs.List.{flat_map}
 use Rattle.std.specs.FinMap.{get}
@@ -14,8 +14,6 @@ use Rattle.t1_font.specs.FontValue.{FontValue}
 use Rattle.t1_font.specs.FontModel.{subr_at}
 use Rattle.t1_cmd.specs.declared.faults.Reason.{Reason}
 use Rattle.t1_cmd.specs.declared.faults.Reason.TheVariants as reason
-use Rattle.t1_cmd.specs.declared.faults.RunFault.{RunFault}
-use Rattle.t1_cmd.specs.declared.faults.RunFault.TheVariants.{Refused, Read, Write}
 
 -- this many 1/65536 of a unit: whole units as a decimal, any other as the count
 abbrev pub amount : ℕ → List ℕ
@@ -72,10 +70,3 @@ picture_answer name (Undrawn fault) = Ok (fault_line fault)
 -- what the glyph of a name draws in a font
 abbrev pub show_answer : List ℕ → FontValue → Result (List ℕ) Reason
 show_answer name f = picture_answer name (draw (subr_at f) (get f.glyphs) name)
-
--- which end of an engine is right where this is its answer; want of memory always is
-abbrev pub ShowStops : Result (List ℕ) Reason → RunFault → Type 0
-ShowStops answer (Refused reason.Memory) = Unit {0}
-ShowStops answer (Refused r) = answer ≡ Err r
-ShowStops answer Read = ⊥
-ShowStops answer Write = ⊥

@@ -8,7 +8,7 @@ use Rattle.t1_font.specs.ReadFont.{read_font}
 use Rattle.t1_font.specs.Canon.{canon}
 use Rattle.t1_cmd.specs.declared.faults.Reason.{Reason}
 use Rattle.t1_cmd.specs.declared.faults.Reason.TheVariants.{TooLong, Memory, Font}
-use Rattle.t1_cmd.specs.Answers.{with_reason, within_limit}
+use Rattle.t1_cmd.specs.Answers.{with_reason, within_limit, if_there}
 
 -- a fault of reading as a reason
 abbrev pub font_reason : ReadFault → Reason
@@ -19,6 +19,10 @@ font_reason fault = Font fault
 -- the font that an input spells
 abbrev pub font_input : List ℕ → Result FontValue Reason
 font_input = within_limit (λ bytes. with_reason font_reason (read_font bytes))
+
+-- a file is answered with what its font is answered with, or with why it spells no font
+abbrev pub of_file : (FontValue → Result (List ℕ) Reason) → List ℕ → Result (List ℕ) Reason
+of_file answer file = if_there answer (font_input file)
 
 -- the canonical file of a font
 abbrev pub file_answer : Form → FontValue → Result (List ℕ) Reason

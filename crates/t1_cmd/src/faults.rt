@@ -84,6 +84,17 @@ impl fmt::Display for Reason {
 
 impl std::error::Error for Reason {}
 
+impl From<AllocError> for Reason {
+    ghost use Rattle.std.specs.Prelude.{◌≡◌};
+    ghost use Rattle.t1_cmd.specs.declared.faults.Reason.TheVariants.{Memory};
+
+    ghost from_gives = { λ _ e. e ≡ Memory };
+
+    fn from(_error: AllocError) -> Reason {
+        Reason::Memory
+    }
+}
+
 /// Why an engine did not finish.
 #[derive(Debug, Drop)]
 pub enum RunFault {

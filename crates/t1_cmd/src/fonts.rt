@@ -2,44 +2,22 @@
 ghost use Rattle.std.specs.Prelude.{◌≡◌, ◌+◌, ◌≤◌, ◌∷◌, [], Ok, IfOk};
 ghost use Rattle.std.specs.FinMap as fin;
 ghost use Rattle.t1_font.specs.FontValue.{FontValue};
-ghost use Rattle.t1_cmd.specs.Count.{calls_of, inner_of};
+ghost use Rattle.t1_cmd.specs.Count.{calls_of};
 ghost use Rattle.t1_cmd.specs.Inputs.{input_of};
 ghost use Rattle.t1_bytes.specs.Limits.{file_limit};
-ghost use Rattle.t1_cmd.specs.Runs.{InputEnds, RunEnds, Succeeds};
+ghost use Rattle.t1_cmd.specs.Runs.{RunEnds, Succeeds};
 ghost use Rattle.t1_cmd.specs.Answers.{Prints};
-ghost use Rattle.t1_cmd.specs.Fonts.{font_reason, font_input, file_answer};
+ghost use Rattle.t1_cmd.specs.Fonts.{font_input, file_answer};
 ghost use Rattle.t1_cmd.specs.CheckText.{check_answer};
 
 use crate::counting::Counted;
 use crate::faults::{Reason, RunFault};
-use crate::reading::read_all;
 use crate::texts::push_about;
-use crate::writing::write_text;
+use crate::words::{FontWord, run_word};
 use std::alloc::{AllocError, Global};
 use std::io::{Read, Write};
-use t1_bytes::FILE_LIMIT;
-use t1_font::{Font, Form, ReadFault, Source, read_vec, write};
+use t1_font::{Font, Form, write};
 use t1_run::Subroutines;
-
-fn refused_font(fault: ReadFault) -> RunFault
-    ensures { result ≡ RunFault.Refused (font_reason fault) }
-{
-    match fault {
-        ReadFault::TooLong => RunFault::Refused(Reason::TooLong),
-        ReadFault::Memory => RunFault::Refused(Reason::Memory),
-        other => RunFault::Refused(Reason::Font(other)),
-    }
-}
-
-/// The source of the font that a reader's bytes spell.
-pub(crate) fn read_font<R: Read>(alloc: Global, reader: &mut Counted<R>) -> Result<Source, RunFault>
-    ensures ends { InputEnds font_input (λ f. f)
-        (input_of R.remaining reader.old reader.new) result }
-    ensures turns { calls_of reader.new ≤ calls_of reader.old + (file_limit + 1) }
-{
-    let bytes = read_all(alloc, reader, FILE_LIMIT)?;
-    read_vec(alloc, bytes).map_err(refused_font)
-}
 
 // The canonical file of a font.
 pub(crate) fn font_file(alloc: Global, font: &Font<'_>, form: Form) -> Result<Vec<u8>, AllocError>
@@ -49,14 +27,21 @@ pub(crate) fn font_file(alloc: Global, font: &Font<'_>, form: Form) -> Result<Ve
     Ok(text)
 }
 
-// The same of a source's font.
-fn file_of(alloc: Global, source: &Source, form: Form) -> Result<Vec<u8>, AllocError>
-    ensures { IfOk result (λ text. file_answer form source.now ≡ Ok text.items) }
-{
-    let font = source.font(alloc)?;
-    let text = font_file(alloc, &font, form);
-    drop(font);
-    text
+/// The words `pfa` and `pfb`.
+#[derive(Drop)]
+pub(crate) struct Convert {
+    form: Form,
+}
+
+impl FontWord for Convert {
+    ghost answer = { λ word. file_answer word.form };
+
+    fn text(&self, alloc: Global, font: Font<'_>) -> Result<Vec<u8>, Reason> {
+        let text = font_file(alloc, &font, self.form);
+        drop(font);
+        let text = text?;
+        Ok(text)
+    }
 }
 
 /// Writes a font's canonical file in one of the two forms.
@@ -72,11 +57,7 @@ pub fn run_convert<R: Read, W: Write>(
         (input_of R.remaining reader.old reader.new ∷ []) writer.old writer.new result }
     ensures turns { calls_of reader.new ≤ calls_of reader.old + (file_limit + 1) }
 {
-    let source = read_font(alloc, reader)?;
-    let text = file_of(alloc, &source, form);
-    drop(source);
-    let text = text?;
-    write_text(writer, text.as_slice())
+    run_word(alloc, &Convert { form }, reader, writer)
 }
 
 // How many glyphs a font has.
@@ -117,14 +98,19 @@ fn check_line(alloc: Global, font: &Font<'_>) -> Result<Vec<u8>, AllocError>
     Ok(text)
 }
 
-// The same of a source's font.
-fn line_of(alloc: Global, source: &Source) -> Result<Vec<u8>, AllocError>
-    ensures { IfOk result (λ text. check_answer source.now ≡ Ok text.items) }
-{
-    let font = source.font(alloc)?;
-    let text = check_line(alloc, &font);
-    drop(font);
-    text
+/// The word `check`.
+#[derive(Drop)]
+pub(crate) struct Check;
+
+impl FontWord for Check {
+    ghost answer = { λ word. check_answer };
+
+    fn text(&self, alloc: Global, font: Font<'_>) -> Result<Vec<u8>, Reason> {
+        let text = check_line(alloc, &font);
+        drop(font);
+        let text = text?;
+        Ok(text)
+    }
 }
 
 /// Writes one line that says that a font can be read: how many glyphs it has, how many Subrs are present, and its weight.
@@ -139,9 +125,5 @@ pub fn run_check<R: Read, W: Write>(
         (input_of R.remaining reader.old reader.new ∷ []) writer.old writer.new result }
     ensures turns { calls_of reader.new ≤ calls_of reader.old + (file_limit + 1) }
 {
-    let source = read_font(alloc, reader)?;
-    let text = line_of(alloc, &source);
-    drop(source);
-    let text = text?;
-    write_text(writer, text.as_slice())
+    run_word(alloc, &Check, reader, writer)
 }

@@ -26,6 +26,7 @@ mod subsets;
 #[cfg(test)]
 mod tests;
 mod texts;
+mod words;
 mod writing;
 
 pub use counting::Counted;

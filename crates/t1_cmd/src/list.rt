@@ -3,7 +3,7 @@ ghost use Rattle.std.specs.Prelude.{◌≡◌, ◌+◌, ◌≤◌, ◌++◌, ◌
 ghost use Rattle.std.specs.FinMap as fin;
 ghost use Rattle.std.specs.List.{flat_map};
 ghost use Rattle.t1_font.specs.FontModel.{name_at, word_of, subr_at};
-ghost use Rattle.t1_cmd.specs.Count.{calls_of, inner_of};
+ghost use Rattle.t1_cmd.specs.Count.{calls_of};
 ghost use Rattle.t1_cmd.specs.Inputs.{input_of};
 ghost use Rattle.t1_bytes.specs.Limits.{file_limit};
 ghost use Rattle.t1_cmd.specs.Runs.{RunEnds, Succeeds};
@@ -12,13 +12,12 @@ ghost use Rattle.t1_cmd.specs.Fonts.{font_input};
 ghost use Rattle.t1_cmd.specs.ListText.{line_at, code_line, subr_line, glyph_line, encoding_lines, list_answer};
 
 use crate::counting::Counted;
-use crate::faults::RunFault;
-use crate::fonts::read_font;
+use crate::faults::{Reason, RunFault};
 use crate::texts::{push_about, push_number, push_shown};
-use crate::writing::write_text;
+use crate::words::{FontWord, run_word};
 use std::alloc::{AllocError, Global};
 use std::io::{Read, Write};
-use t1_font::{Font, Source};
+use t1_font::Font;
 use t1_run::{Glyphs, Subroutines};
 
 // The line of a code that has a name; nothing for any other.
@@ -128,14 +127,19 @@ fn list_text(alloc: Global, font: &Font<'_>) -> Result<Vec<u8>, AllocError>
     Ok(text)
 }
 
-// The same for a source's font.
-fn lines_of(alloc: Global, source: &Source) -> Result<Vec<u8>, AllocError>
-    ensures { IfOk result (λ text. list_answer source.now ≡ Ok text.items) }
-{
-    let font = source.font(alloc)?;
-    let text = list_text(alloc, &font);
-    drop(font);
-    text
+/// The word `list`.
+#[derive(Drop)]
+pub(crate) struct List;
+
+impl FontWord for List {
+    ghost answer = { λ word. list_answer };
+
+    fn text(&self, alloc: Global, font: Font<'_>) -> Result<Vec<u8>, Reason> {
+        let text = list_text(alloc, &font);
+        drop(font);
+        let text = text?;
+        Ok(text)
+    }
 }
 
 /// Writes a line for the Encoding, or for each of its codes, then one for each Subr that is present, then one for each
@@ -151,9 +155,5 @@ pub fn run_list<R: Read, W: Write>(
         (input_of R.remaining reader.old reader.new ∷ []) writer.old writer.new result }
     ensures turns { calls_of reader.new ≤ calls_of reader.old + (file_limit + 1) }
 {
-    let source = read_font(alloc, reader)?;
-    let text = lines_of(alloc, &source);
-    drop(source);
-    let text = text?;
-    write_text(writer, text.as_slice())
+    run_word(alloc, &List, reader, writer)
 }

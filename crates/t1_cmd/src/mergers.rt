@@ -9,7 +9,8 @@ ghost use Rattle.t1_cmd.specs.WrittenSubsets.{WritesUnion};
 
 use crate::counting::Counted;
 use crate::faults::{Reason, RunFault};
-use crate::fonts::{font_file, read_font};
+use crate::fonts::font_file;
+use crate::words::read_font;
 use crate::writing::write_text;
 use std::alloc::{AllocError, Global};
 use std::io::{Read, Write};

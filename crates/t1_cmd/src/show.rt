@@ -3,22 +3,21 @@ ghost use Rattle.std.specs.Prelude.{◌≡◌, ℕ, ◌+◌, ◌≤◌, List, �
 ghost use Rattle.std.specs.List.{All, flat_map};
 ghost use Rattle.t1_font.specs.FontModel.{subr_at};
 ghost use Rattle.t1_run.specs.Layouts.{traced, IsPlainPart};
-ghost use Rattle.t1_cmd.specs.Count.{calls_of, inner_of};
+ghost use Rattle.t1_cmd.specs.Count.{calls_of};
 ghost use Rattle.t1_cmd.specs.Inputs.{input_of};
 ghost use Rattle.t1_bytes.specs.Limits.{file_limit};
 ghost use Rattle.t1_cmd.specs.Runs.{RunEnds, Succeeds};
-ghost use Rattle.t1_cmd.specs.Answers.{Prints};
+ghost use Rattle.t1_cmd.specs.Answers.{Prints, Refuses};
 ghost use Rattle.t1_cmd.specs.Fonts.{font_input};
-ghost use Rattle.t1_cmd.specs.DrawingText.{amount, number, numbers, line, mark_line, with_line, part_lines, drawn_lines, fault_line, show_answer, ShowStops};
+ghost use Rattle.t1_cmd.specs.DrawingText.{amount, number, numbers, line, mark_line, with_line, part_lines, drawn_lines, fault_line, show_answer};
 
 use crate::counting::Counted;
 use crate::faults::{Name, Reason, RunFault};
-use crate::fonts::read_font;
 use crate::texts::push_number;
-use crate::writing::write_text;
+use crate::words::{FontWord, run_word};
 use std::alloc::{AllocError, Global};
 use std::io::{Read, Write};
-use t1_font::{DrawFault, Font, Layout, Mark, Pen, PlacedPart, Point, Source, lay_out, trace};
+use t1_font::{DrawFault, Font, Layout, Mark, Pen, PlacedPart, Point, lay_out, trace};
 
 // How many counts of 1/65536 make a unit.
 const UNIT: u64 = 65536;
@@ -178,9 +177,9 @@ fn fault_text(alloc: Global, fault: DrawFault) -> Result<Vec<u8>, AllocError>
 }
 
 // The text of what the glyph of a name draws.
-fn shown_glyph(alloc: Global, font: &Font<'_>, name: &[u8]) -> Result<Vec<u8>, RunFault>
+fn shown_glyph(alloc: Global, font: &Font<'_>, name: &[u8]) -> Result<Vec<u8>, Reason>
     ensures text { IfOk result (λ text. show_answer name.now font.now ≡ Ok text.items) }
-    ensures refused { IfErr result (λ e. ShowStops (show_answer name.now font.now) e) }
+    ensures refused { IfErr result (Refuses (λ a. a ≡ show_answer name.now font.now)) }
 {
     match lay_out(alloc, font, name)? {
         Layout::Drawn { width, sb, parts } => {
@@ -189,7 +188,7 @@ fn shown_glyph(alloc: Global, font: &Font<'_>, name: &[u8]) -> Result<Vec<u8>, R
         }
         Layout::Failed(DrawFault::NoGlyph) => {
             let name = Name::new(alloc, name)?;
-            Err(RunFault::Refused(Reason::NoGlyph { name }))
+            Err(Reason::NoGlyph { name })
         }
         Layout::Failed(fault) => {
             let text = fault_text(alloc, fault)?;
@@ -198,15 +197,20 @@ fn shown_glyph(alloc: Global, font: &Font<'_>, name: &[u8]) -> Result<Vec<u8>, R
     }
 }
 
-// The same for a glyph of a source's font.
-fn shown_of(alloc: Global, source: &Source, name: &[u8]) -> Result<Vec<u8>, RunFault>
-    ensures text { IfOk result (λ text. show_answer name.now source.now ≡ Ok text.items) }
-    ensures refused { IfErr result (λ e. ShowStops (show_answer name.now source.now) e) }
-{
-    let font = source.font(alloc)?;
-    let text = shown_glyph(alloc, &font, name);
-    drop(font);
-    text
+/// The word `show` about the glyph of a name.
+#[derive(Drop)]
+pub(crate) struct Show<'a> {
+    name: &'a [u8],
+}
+
+impl FontWord for Show<'_> {
+    ghost answer = { λ word. show_answer word.name.now };
+
+    fn text(&self, alloc: Global, font: Font<'_>) -> Result<Vec<u8>, Reason> {
+        let text = shown_glyph(alloc, &font, self.name);
+        drop(font);
+        text
+    }
 }
 
 /// Writes what the glyph of a name, without its `/`, draws: its width, its side bearing, its parts and their marks, or
@@ -225,9 +229,5 @@ pub fn run_show<R: Read, W: Write>(
         (input_of R.remaining reader.old reader.new ∷ []) writer.old writer.new result }
     ensures turns { calls_of reader.new ≤ calls_of reader.old + (file_limit + 1) }
 {
-    let source = read_font(alloc, reader)?;
-    let text = shown_of(alloc, &source, name);
-    drop(source);
-    let text = text?;
-    write_text(writer, text.as_slice())
+    run_word(alloc, &Show { name }, reader, writer)
 }

@@ -3,38 +3,37 @@ ghost use Rattle.std.specs.Prelude.{◌≡◌, ◌+◌, ◌≤◌, ◌∷◌, []
 ghost use Rattle.t1_algebra.specs.Profile.{profile};
 ghost use Rattle.t1_algebra.specs.Keep.{subset};
 ghost use Rattle.t1_subset.specs.NameSets.{lent, asked};
-ghost use Rattle.t1_cmd.specs.Count.{calls_of, inner_of};
+ghost use Rattle.t1_cmd.specs.Count.{calls_of};
 ghost use Rattle.t1_cmd.specs.Inputs.{input_of};
 ghost use Rattle.t1_bytes.specs.Limits.{file_limit};
 ghost use Rattle.t1_cmd.specs.Runs.{RunEnds, Succeeds};
-ghost use Rattle.t1_cmd.specs.Answers.{Prints};
+ghost use Rattle.t1_cmd.specs.Answers.{Prints, Refuses};
 ghost use Rattle.t1_cmd.specs.Fonts.{font_input};
-ghost use Rattle.t1_cmd.specs.DrawingText.{ShowStops};
 ghost use Rattle.t1_cmd.specs.Subsets.{first_absent, unless_absent, subset_answer};
 
 use crate::counting::Counted;
 use crate::faults::{Name, Reason, RunFault};
-use crate::fonts::{font_file, read_font};
-use crate::writing::write_text;
+use crate::fonts::font_file;
+use crate::words::{FontWord, run_word};
 use std::alloc::Global;
 use std::io::{Read, Write};
-use t1_font::{Font, Form, Source};
+use t1_font::{Font, Form};
 use t1_subset::{SubsetFault, subset};
 
 // The subset of a font.
-fn cut<'a>(alloc: Global, font: &Font<'a>, names: &[&[u8]]) -> Result<Font<'a>, RunFault>
+fn cut<'a>(alloc: Global, font: &Font<'a>, names: &[&[u8]]) -> Result<Font<'a>, Reason>
     ensures cut { IfOk result (λ s. s ≡ subset profile font.now (asked names.now)) }
     ensures present { OnOk result (first_absent font.now (lent names.now) ≡ None) }
     ensures refused { IfErr result (λ e. (text : List ℕ)
-        → ShowStops (unless_absent (first_absent font.now (lent names.now)) text) e) }
+        → Refuses (λ a. a ≡ unless_absent (first_absent font.now (lent names.now)) text) e) }
 {
     match subset(alloc, font, names) {
         Ok(cut) => Ok(cut),
         Err(SubsetFault::NoSuchGlyph { name }) => {
             let name = Name::new(alloc, name.as_slice())?;
-            Err(RunFault::Refused(Reason::NoGlyph { name }))
+            Err(Reason::NoGlyph { name })
         }
-        Err(SubsetFault::Memory) => Err(RunFault::Refused(Reason::Memory)),
+        Err(SubsetFault::Memory) => Err(Reason::Memory),
     }
 }
 
@@ -44,15 +43,15 @@ fn subset_file(
     font: Font<'_>,
     names: &[&[u8]],
     form: Form,
-) -> Result<Vec<u8>, RunFault>
+) -> Result<Vec<u8>, Reason>
     ensures text { IfOk result (λ text. subset_answer form (lent names.now) font.entry
         ≡ Ok text.items) }
     ensures refused { IfErr result
-        (λ e. ShowStops (subset_answer form (lent names.now) font.entry) e) }
+        (Refuses (λ a. a ≡ subset_answer form (lent names.now) font.entry)) }
 {
     let cut = match cut(alloc, &font, names) {
         Ok(cut) => cut,
-        Err(fault) => return Err(fault),
+        Err(reason) => return Err(reason),
     };
     drop(font);
     let text = font_file(alloc, &cut, form);
@@ -61,20 +60,19 @@ fn subset_file(
     Ok(text)
 }
 
-// The same for a source's font.
-fn subset_of(
-    alloc: Global,
-    source: &Source,
-    names: &[&[u8]],
+/// The word `subset` with names of glyphs, and the form that it writes.
+#[derive(Drop)]
+pub(crate) struct Subset<'a> {
+    names: &'a [&'a [u8]],
     form: Form,
-) -> Result<Vec<u8>, RunFault>
-    ensures text { IfOk result (λ text. subset_answer form (lent names.now) source.now
-        ≡ Ok text.items) }
-    ensures refused { IfErr result
-        (λ e. ShowStops (subset_answer form (lent names.now) source.now) e) }
-{
-    let font = source.font(alloc)?;
-    subset_file(alloc, font, names, form)
+}
+
+impl FontWord for Subset<'_> {
+    ghost answer = { λ word. subset_answer word.form (lent word.names.now) };
+
+    fn text(&self, alloc: Global, font: Font<'_>) -> Result<Vec<u8>, Reason> {
+        subset_file(alloc, font, self.names, self.form)
+    }
 }
 
 /// Writes the canonical file, in one of the two forms, of the subset of a font that keeps what these names need: their
@@ -96,9 +94,5 @@ pub fn run_subset<R: Read, W: Write>(
         (input_of R.remaining reader.old reader.new ∷ []) writer.old writer.new result }
     ensures turns { calls_of reader.new ≤ calls_of reader.old + (file_limit + 1) }
 {
-    let source = read_font(alloc, reader)?;
-    let text = subset_of(alloc, &source, names, form);
-    drop(source);
-    let text = text?;
-    write_text(writer, text.as_slice())
+    run_word(alloc, &Subset { names, form }, reader, writer)
 }

@@ -1,0 +1,125 @@
+//! The words about one font: what each makes of a font, of a file, and of what a reader has.
+ghost use Rattle.std.specs.Prelude.{◌≡◌, ◌+◌, ◌≤◌, ◌∷◌, [], ℕ, List, Result, Ok, IfOk, IfErr, IfSome};
+ghost use Rattle.t1_bytes.specs.Limits.{file_limit};
+ghost use Rattle.t1_font.specs.FontValue.{FontValue};
+ghost use Rattle.t1_cmd.specs.declared.faults.Reason.{Reason};
+ghost use Rattle.t1_cmd.specs.Count.{calls_of, inner_of};
+ghost use Rattle.t1_cmd.specs.Inputs.{input_of};
+ghost use Rattle.t1_cmd.specs.Runs.{InputStops, InputEnds, RunEnds, Succeeds};
+ghost use Rattle.t1_cmd.specs.Answers.{Prints, Refuses};
+ghost use Rattle.t1_cmd.specs.Fonts.{font_reason, font_input, of_file};
+
+use crate::counting::Counted;
+use crate::faults::{Reason, RunFault};
+use crate::reading::read_all;
+use crate::writing::write_text;
+use std::alloc::Global;
+use std::io::{Read, Write};
+use t1_bytes::FILE_LIMIT;
+use t1_font::{Font, ReadFault, Source, read_vec};
+
+/// A word about one font. Its answer for a font is a text or a refusal.
+pub(crate) trait FontWord {
+    ghost answer: { Self → FontValue → Result (List ℕ) Reason };
+
+    /// The text that the word makes of a font.
+    fn text(&self, alloc: Global, font: Font<'_>) -> Result<Vec<u8>, Reason>
+        ensures text { IfOk result (λ text. answer self.now font.entry ≡ Ok text.items) }
+        ensures refused { IfErr result (Refuses (λ a. a ≡ answer self.now font.entry)) };
+}
+
+fn reason_of(fault: ReadFault) -> Reason
+    ensures { result ≡ font_reason fault }
+{
+    match fault {
+        ReadFault::TooLong => Reason::TooLong,
+        ReadFault::Memory => Reason::Memory,
+        other => Reason::Font(other),
+    }
+}
+
+/// The source of the font that a file spells.
+pub(crate) fn source_of(alloc: Global, file: Vec<u8>) -> Result<Source, Reason>
+    ensures source { IfOk result (λ source. font_input file.items ≡ Ok source) }
+    ensures refused { IfErr result (Refuses (λ a. a ≡ font_input file.items)) }
+{
+    if file.len() > FILE_LIMIT {
+        return Err(Reason::TooLong);
+    }
+    read_vec(alloc, file).map_err(reason_of)
+}
+
+// The text that a word makes of the font of a source.
+fn text_of_source<T: FontWord>(alloc: Global, word: &T, source: &Source) -> Result<Vec<u8>, Reason>
+    ensures text { IfOk result (λ text. T.answer word.now source.now ≡ Ok text.items) }
+    ensures refused { IfErr result (Refuses (λ a. a ≡ T.answer word.now source.now)) }
+{
+    let font = source.font(alloc)?;
+    word.text(alloc, font)
+}
+
+/// The text that a word makes of the font that a file spells.
+pub(crate) fn text_of_file<T: FontWord>(
+    alloc: Global,
+    word: &T,
+    file: Vec<u8>,
+) -> Result<Vec<u8>, Reason>
+    ensures text { IfOk result (λ text. of_file (T.answer word.now) file.items ≡ Ok text.items) }
+    ensures refused { IfErr result (Refuses (λ a. a ≡ of_file (T.answer word.now) file.items)) }
+{
+    let source = match source_of(alloc, file) {
+        Ok(source) => source,
+        Err(reason) => return Err(reason),
+    };
+    let text = text_of_source(alloc, word, &source);
+    drop(source);
+    text
+}
+
+/// All the bytes of a reader.
+pub(crate) fn read_file<R: Read>(
+    alloc: Global,
+    reader: &mut Counted<R>,
+) -> Result<Vec<u8>, RunFault>
+    ensures file { IfOk result
+        (λ file. IfSome (R.remaining (inner_of reader.old)) (λ bytes. file.items ≡ bytes)) }
+    ensures refused { IfErr result
+        (InputStops font_input (input_of R.remaining reader.old reader.new)) }
+    ensures turns { calls_of reader.new ≤ calls_of reader.old + (file_limit + 1) }
+{
+    read_all(alloc, reader, FILE_LIMIT)
+}
+
+/// The source of the font that a reader's bytes spell.
+pub(crate) fn read_font<R: Read>(alloc: Global, reader: &mut Counted<R>) -> Result<Source, RunFault>
+    ensures ends { InputEnds font_input (λ f. f)
+        (input_of R.remaining reader.old reader.new) result }
+    ensures turns { calls_of reader.new ≤ calls_of reader.old + (file_limit + 1) }
+{
+    let file = read_file(alloc, reader)?;
+    match source_of(alloc, file) {
+        Ok(source) => Ok(source),
+        Err(reason) => Err(RunFault::Refused(reason)),
+    }
+}
+
+/// Writes the text that a word makes of the font that a reader's bytes spell.
+pub(crate) fn run_word<T: FontWord, R: Read, W: Write>(
+    alloc: Global,
+    word: &T,
+    reader: &mut Counted<R>,
+    writer: &mut Counted<W>,
+) -> Result<(), RunFault>
+    ensures ends { RunEnds font_input (Prints (T.answer word.now)) W.contents
+        (input_of R.remaining reader.old reader.new ∷ []) writer.old writer.new result }
+    ensures succeeds { Succeeds font_input (Prints (T.answer word.now))
+        (input_of R.remaining reader.old reader.new ∷ []) writer.old writer.new result }
+    ensures turns { calls_of reader.new ≤ calls_of reader.old + (file_limit + 1) }
+{
+    let file = read_file(alloc, reader)?;
+    let text = match text_of_file(alloc, word, file) {
+        Ok(text) => text,
+        Err(reason) => return Err(RunFault::Refused(reason)),
+    };
+    write_text(writer, text.as_slice())
+}
