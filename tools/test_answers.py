@@ -35,7 +35,7 @@ ANSWERS = {
     "Direct": ["Plain", "Seac", RUNS],
     "RunFault": [],
 }
-# What each engine refuses, beside a reader or a writer that fails.
+# What each engine refuses, beside a reader or a writer that fails, and each call below one.
 REFUSALS = {
     "read_all": ["TooLong"],
     "run_join": ["TooLong", "ListFault", "JoinFault"],
@@ -46,6 +46,13 @@ REFUSALS = {
     "run_subset": [READS, "NoGlyph"],
     "run_merge": [READS, "Conflict"],
     "run_rejoin": [READS, "Conflict"],
+    "check_file": [READS],
+    "list_file": [READS],
+    "convert_file": [READS],
+    "show_file": [READS, "NoGlyph"],
+    "subset_file": [READS, "NoGlyph"],
+    "merge_files": [READS, "Conflict"],
+    "rejoin_files": [READS, "Conflict"],
 }
 # What a call can't answer, though its type has it.
 NEVER = {

@@ -9,3 +9,4 @@ pub mod ListInputs
 pub mod FontLemmas
 pub mod Walks
 pub mod RejoinLemmas
+pub mod Files

@@ -14,8 +14,10 @@ use Rattle.t1_cmd.specs.declared.faults.RunFault.TheVariants.{Refused, Read, Wri
 use Rattle.t1_cmd.specs.Inputs.{Input, Say}
 use Rattle.t1_cmd.specs.Runs.{Stops}
 use Rattle.t1_cmd.specs.Fonts.{font_input}
-use Rattle.t1_cmd.specs.Mergers.{InputsStop, IsTold, MergesTo, AnswerStops}
+use Rattle.t1_cmd.specs.Mergers.{InputsStop, IsTold, MergesTo}
+use Rattle.t1_cmd.specs.Answers.{Refuses}
 use Rattle.t1_cmd.proofs.RunLemmas.{stops_together}
+use Rattle.t1_cmd.proofs.FontLemmas.{by_answer}
 
 -- ---- merges from left to right
 
@@ -50,17 +52,9 @@ inputs_stop Answers is (Refused (Merge f)) h = inl h
 inputs_stop Answers is Read h = h
 inputs_stop Answers is Write h = absurd h
 
--- what stops the answer stops the engine
-pub answer_stops : (Answers : List FontValue → Result (List ℕ) Reason → Type 0) (is : List Input) (fs : List FontValue) (e : RunFault) → Say font_input is fs → AnswerStops (Answers fs) e → Stops font_input Answers is e
-answer_stops Answers is fs (Refused TooLong) h s = stops_together font_input Answers is fs TooLong h s
-answer_stops Answers is fs (Refused Memory) h s = tt
-answer_stops Answers is fs (Refused (ListReason f)) h s = stops_together font_input Answers is fs (ListReason f) h s
-answer_stops Answers is fs (Refused (JoinReason f)) h s = stops_together font_input Answers is fs (JoinReason f) h s
-answer_stops Answers is fs (Refused (Font f)) h s = stops_together font_input Answers is fs (Font f) h s
-answer_stops Answers is fs (Refused (NoGlyph n)) h s = stops_together font_input Answers is fs (NoGlyph n) h s
-answer_stops Answers is fs (Refused (Merge f)) h s = stops_together font_input Answers is fs (Merge f) h s
-answer_stops Answers is fs Read h s = absurd s
-answer_stops Answers is fs Write h s = absurd s
+-- what refuses the fonts stops the engine
+pub answer_stops : (Answers : List FontValue → Result (List ℕ) Reason → Type 0) (is : List Input) (fs : List FontValue) (r : Reason) → Say font_input is fs → Refuses (Answers fs) r → Stops font_input Answers is (Refused r)
+answer_stops Answers is fs r h = by_answer (Answers fs) (λ s. Stops font_input Answers is (Refused s)) r tt (λ s a. stops_together font_input Answers is fs s h a)
 
 -- equal successes have equal texts
 pub same_text : (x y : List ℕ) → ◌≡◌ {A = Result (List ℕ) Reason} (Ok x) (Ok y) → y ≡ x

@@ -14,11 +14,11 @@ use Rattle.t1_join.specs.Groupings.{one, from_left}
 use Rattle.t1_join.proofs.OrderLemmas.{leaves_from_left}
 use Rattle.t1_algebra.proofs.Orders.{one_result}
 use Rattle.t1_cmd.specs.declared.faults.Reason.{Reason}
-use Rattle.t1_cmd.specs.declared.faults.Reason.TheVariants.{TooLong, Memory, List as ListReason, Join as JoinReason, Font, NoGlyph, Merge}
-use Rattle.t1_cmd.specs.declared.faults.RunFault.{RunFault}
-use Rattle.t1_cmd.specs.declared.faults.RunFault.TheVariants.{Refused, Read, Write}
-use Rattle.t1_cmd.specs.Mergers.{MergesTo, MergeStops}
-use Rattle.t1_cmd.specs.Rejoins.{RejoinsTo, RejoinStops, RejoinsWhatMerges}
+use Rattle.t1_cmd.specs.declared.faults.Reason.TheVariants.{Memory}
+use Rattle.t1_cmd.specs.Answers.{Refuses}
+use Rattle.t1_cmd.specs.Mergers.{MergesTo}
+use Rattle.t1_cmd.specs.Rejoins.{RejoinsTo, RejoinsWhatMerges}
+use Rattle.t1_cmd.proofs.FontLemmas.{refuses, by_answer}
 use Rattle.t1_cmd.proofs.MergeLemmas.{merges_apart}
 use Rattle.t1_algebra.proofs.rejoining.Evened.{merging_fonts_are_even}
 
@@ -34,17 +34,9 @@ rejoins_apart form fs text r (inl a) (inl b) = merges_apart form (evened fs) tex
 rejoins_apart form fs text r (inl a) (inr b) = absurd (light_or_heavy (evened fs) a.0 b.0)
 rejoins_apart form fs text r (inr a) k = let never : Ok text ≡ Err _ = a.1 in absurd cc
 
--- what stops the merge of fonts that are even stops the engine
-pub merge_of_even : (form : Form) (fs : List FontValue) (e : RunFault) → AreLight (evened fs) → MergeStops form (evened fs) e → RejoinStops form fs e
-merge_of_even form fs (Refused TooLong) l h = absurd h
-merge_of_even form fs (Refused Memory) l h = tt
-merge_of_even form fs (Refused (ListReason f)) l h = absurd h
-merge_of_even form fs (Refused (JoinReason f)) l h = absurd h
-merge_of_even form fs (Refused (Font f)) l h = absurd h
-merge_of_even form fs (Refused (NoGlyph n)) l h = absurd h
-merge_of_even form fs (Refused (Merge e)) l h = inl (l, h)
-merge_of_even form fs Read l h = h
-merge_of_even form fs Write l h = h
+-- what refuses the merge of fonts that are even refuses to rejoin
+pub merge_of_even : (form : Form) (fs : List FontValue) (r : Reason) → AreLight (evened fs) → Refuses (MergesTo form (evened fs)) r → Refuses (RejoinsTo form fs) r
+merge_of_even form fs r l = by_answer (MergesTo form (evened fs)) (Refuses (RejoinsTo form fs)) r tt (λ s h. refuses (RejoinsTo form fs) s (inl (l, h)))
 
 -- ---- fonts that merge
 

@@ -10,5 +10,6 @@ pub mod CheckText
 pub mod ListText
 pub mod DrawingText
 pub mod Mergers
+pub mod Files
 pub mod Rejoins
 pub mod WrittenSubsets

@@ -50,14 +50,3 @@ abbrev pub MergesTo : Form → List FontValue → Result (List ℕ) Reason → T
 MergesTo form fonts (Ok text) = (j : FontValue) × ComesTo fonts j × (text ≡ canon j form)
 MergesTo form fonts (Err (Merge e)) = IsRefused fonts e × IsTold e
 MergesTo form fonts (Err r) = ⊥
-
--- which end of an engine is right where the fonts are these and have these answers
-abbrev pub AnswerStops : (Result (List ℕ) Reason → Type 0) → RunFault → Type 0
-AnswerStops Answer (Refused Memory) = Unit {0}
-AnswerStops Answer (Refused r) = Answer (Err r)
-AnswerStops Answer Read = ⊥
-AnswerStops Answer Write = ⊥
-
--- which end of the engine that merges is right where the fonts are these
-abbrev pub MergeStops : Form → List FontValue → RunFault → Type 0
-MergeStops form fonts e = AnswerStops (MergesTo form fonts) e

@@ -10,16 +10,11 @@ use Rattle.t1_subset.specs.declared.conflict.Conflict.TheVariants as conflict
 use Rattle.t1_algebra.specs.Rejoins.{IsUntagged}
 use Rattle.t1_cmd.specs.declared.faults.Reason.{Reason}
 use Rattle.t1_cmd.specs.declared.faults.Reason.TheVariants.{Merge}
-use Rattle.t1_cmd.specs.declared.faults.RunFault.{RunFault}
-use Rattle.t1_cmd.specs.Mergers.{MergesTo, AnswerStops}
+use Rattle.t1_cmd.specs.Mergers.{MergesTo}
 
 -- the fonts, made even, are within the weight limit, and merge to this; or one of them is over it, and that is told
 abbrev pub RejoinsTo : Form → List FontValue → Result (List ℕ) Reason → Type 0
 RejoinsTo form fonts answer = (AreLight (evened fonts) × MergesTo form (evened fonts) answer) ⊎ (AnyHeavy (evened fonts) × (answer ≡ Err (Merge conflict.Limit)))
-
--- which end of the engine that rejoins is right where the fonts are these
-abbrev pub RejoinStops : Form → List FontValue → RunFault → Type 0
-RejoinStops form fonts e = AnswerStops (RejoinsTo form fonts) e
 
 -- fonts without tags that merge to a file rejoin to it, and to nothing else
 abbrev pub RejoinsWhatMerges : Type 0

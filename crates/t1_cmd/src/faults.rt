@@ -135,6 +135,29 @@ impl From<AllocError> for RunFault {
     }
 }
 
+/// Why several files are refused.
+#[derive(Debug, Drop)]
+pub struct FilesRefusal {
+    /// The place of the file that is refused, counted from 0; `None` if all are refused together, or for want of memory.
+    pub place: Option<usize>,
+    /// Why it is, or they are.
+    pub reason: Reason,
+}
+
+impl fmt::Display for FilesRefusal {
+    ghost use Rattle.std.specs.Prelude.{Some};
+    ghost use Rattle.t1_cmd.specs.Texts.{reason_text};
+
+    ghost output = { λ refusal. Some (reason_text refusal.reason) };
+
+    fn fmt<W: fmt::Write>(&self, f: &mut fmt::Formatter<W>) -> fmt::Result {
+        let reason = &self.reason;
+        write!(f, "{reason}")
+    }
+}
+
+impl std::error::Error for FilesRefusal {}
+
 /// The exit status of the program: 1 for a refusal, 3 for a reader or a writer that failed.
 pub fn status(fault: &RunFault) -> u8
     ensures { result ≡ status_of fault.now }

@@ -1,19 +1,19 @@
 //! The engines that take a whole font: one writes its canonical file, the other says that it can be read.
-ghost use Rattle.std.specs.Prelude.{◌≡◌, ◌+◌, ◌≤◌, ◌∷◌, [], Ok, IfOk};
+ghost use Rattle.std.specs.Prelude.{◌≡◌, ◌+◌, ◌≤◌, ◌∷◌, [], Ok, IfOk, IfErr};
 ghost use Rattle.std.specs.FinMap as fin;
 ghost use Rattle.t1_font.specs.FontValue.{FontValue};
 ghost use Rattle.t1_cmd.specs.Count.{calls_of};
 ghost use Rattle.t1_cmd.specs.Inputs.{input_of};
 ghost use Rattle.t1_bytes.specs.Limits.{file_limit};
 ghost use Rattle.t1_cmd.specs.Runs.{RunEnds, Succeeds};
-ghost use Rattle.t1_cmd.specs.Answers.{Prints};
-ghost use Rattle.t1_cmd.specs.Fonts.{font_input, file_answer};
+ghost use Rattle.t1_cmd.specs.Answers.{Prints, Refuses};
+ghost use Rattle.t1_cmd.specs.Fonts.{font_input, of_file, file_answer};
 ghost use Rattle.t1_cmd.specs.CheckText.{check_answer};
 
 use crate::counting::Counted;
 use crate::faults::{Reason, RunFault};
 use crate::texts::push_about;
-use crate::words::{FontWord, run_word};
+use crate::words::{FontWord, run_word, text_of_bytes};
 use std::alloc::{AllocError, Global};
 use std::io::{Read, Write};
 use t1_font::{Font, Form, write};
@@ -42,6 +42,19 @@ impl FontWord for Convert {
         let text = text?;
         Ok(text)
     }
+}
+
+/// The canonical file, in one of the two forms, of the font that a file spells.
+///
+/// # Errors
+///
+/// [`Reason::TooLong`] or [`Reason::Font`] if the file spells no font, for its first fault; [`Reason::Memory`] if a growth was
+/// refused.
+pub fn convert_file(alloc: Global, file: &[u8], form: Form) -> Result<Vec<u8>, Reason>
+    ensures text { IfOk result (λ text. of_file (file_answer form) file.now ≡ Ok text.items) }
+    ensures refused { IfErr result (Refuses (λ a. a ≡ of_file (file_answer form) file.now)) }
+{
+    text_of_bytes(alloc, &Convert { form }, file)
 }
 
 /// Writes a font's canonical file in one of the two forms.
@@ -111,6 +124,19 @@ impl FontWord for Check {
         let text = text?;
         Ok(text)
     }
+}
+
+/// One line that says that a file spells a font: how many glyphs it has, how many Subrs are present, and its weight.
+///
+/// # Errors
+///
+/// [`Reason::TooLong`] or [`Reason::Font`] if the file spells no font, for its first fault; [`Reason::Memory`] if a growth was
+/// refused.
+pub fn check_file(alloc: Global, file: &[u8]) -> Result<Vec<u8>, Reason>
+    ensures text { IfOk result (λ text. of_file check_answer file.now ≡ Ok text.items) }
+    ensures refused { IfErr result (Refuses (λ a. a ≡ of_file check_answer file.now)) }
+{
+    text_of_bytes(alloc, &Check, file)
 }
 
 /// Writes one line that says that a font can be read: how many glyphs it has, how many Subrs are present, and its weight.

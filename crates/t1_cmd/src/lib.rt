@@ -3,6 +3,9 @@
 //! Each engine reads whole inputs, makes its whole result, and writes it last. What is written is a stated function
 //! of the bytes that were read; after a refusal, or if a reader failed, nothing is written.
 //!
+//! Below the engines over fonts stand calls over files in memory, which answer the same texts: [`check_file`], [`list_file`],
+//! [`show_file`], [`convert_file`], [`subset_file`], [`merge_files`] and [`rejoin_files`].
+//!
 //! ```text
 //! let mut text = Vec::new(alloc);
 //! match run_check(alloc, &mut Counted::new(file), &mut Counted::new(&mut text)) {
@@ -21,6 +24,7 @@ mod listings;
 mod mergers;
 mod reading;
 mod rejoins;
+mod several;
 mod show;
 mod subsets;
 #[cfg(test)]
@@ -30,14 +34,14 @@ mod words;
 mod writing;
 
 pub use counting::Counted;
-pub use faults::{Name, Reason, RunFault, status};
-pub use fonts::{run_check, run_convert};
-pub use list::run_list;
+pub use faults::{FilesRefusal, Name, Reason, RunFault, status};
+pub use fonts::{check_file, convert_file, run_check, run_convert};
+pub use list::{list_file, run_list};
 pub use listings::run_join;
-pub use mergers::run_merge;
+pub use mergers::{merge_files, run_merge};
 pub use reading::read_all;
-pub use rejoins::run_rejoin;
-pub use show::run_show;
-pub use subsets::run_subset;
+pub use rejoins::{rejoin_files, run_rejoin};
+pub use show::{run_show, show_file};
+pub use subsets::{run_subset, subset_file};
 pub use t1_bytes::FILE_LIMIT;
 pub use writing::{write_fault, write_text};

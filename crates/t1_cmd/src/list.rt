@@ -1,5 +1,5 @@
 //! The engine that lists what a font has.
-ghost use Rattle.std.specs.Prelude.{◌≡◌, ◌+◌, ◌≤◌, ◌++◌, ◌∷◌, [], None, Ok, OnOk, IfOk};
+ghost use Rattle.std.specs.Prelude.{◌≡◌, ◌+◌, ◌≤◌, ◌++◌, ◌∷◌, [], None, Ok, OnOk, IfOk, IfErr};
 ghost use Rattle.std.specs.FinMap as fin;
 ghost use Rattle.std.specs.List.{flat_map};
 ghost use Rattle.t1_font.specs.FontModel.{name_at, word_of, subr_at};
@@ -7,14 +7,14 @@ ghost use Rattle.t1_cmd.specs.Count.{calls_of};
 ghost use Rattle.t1_cmd.specs.Inputs.{input_of};
 ghost use Rattle.t1_bytes.specs.Limits.{file_limit};
 ghost use Rattle.t1_cmd.specs.Runs.{RunEnds, Succeeds};
-ghost use Rattle.t1_cmd.specs.Answers.{Prints};
-ghost use Rattle.t1_cmd.specs.Fonts.{font_input};
+ghost use Rattle.t1_cmd.specs.Answers.{Prints, Refuses};
+ghost use Rattle.t1_cmd.specs.Fonts.{font_input, of_file};
 ghost use Rattle.t1_cmd.specs.ListText.{line_at, code_line, subr_line, glyph_line, encoding_lines, list_answer};
 
 use crate::counting::Counted;
 use crate::faults::{Reason, RunFault};
 use crate::texts::{push_about, push_number, push_shown};
-use crate::words::{FontWord, run_word};
+use crate::words::{FontWord, run_word, text_of_bytes};
 use std::alloc::{AllocError, Global};
 use std::io::{Read, Write};
 use t1_font::Font;
@@ -140,6 +140,19 @@ impl FontWord for List {
         let text = text?;
         Ok(text)
     }
+}
+
+/// The lines that list the font of a file, as [`run_list`] writes them.
+///
+/// # Errors
+///
+/// [`Reason::TooLong`] or [`Reason::Font`] if the file spells no font, for its first fault; [`Reason::Memory`] if a growth was
+/// refused.
+pub fn list_file(alloc: Global, file: &[u8]) -> Result<Vec<u8>, Reason>
+    ensures text { IfOk result (λ text. of_file list_answer file.now ≡ Ok text.items) }
+    ensures refused { IfErr result (Refuses (λ a. a ≡ of_file list_answer file.now)) }
+{
+    text_of_bytes(alloc, &List, file)
 }
 
 /// Writes a line for the Encoding, or for each of its codes, then one for each Subr that is present, then one for each

@@ -2,54 +2,21 @@
 ghost use Rattle.std.specs.Prelude.{◌≡◌, ◌++◌, ◌∷◌, [], Ok, OnOk, IfOk, IfErr};
 ghost use Rattle.t1_algebra.specs.Merges.{ComesTo};
 ghost use Rattle.t1_cmd.specs.Fonts.{font_input};
-ghost use Rattle.t1_cmd.specs.Inputs.{Say};
+ghost use Rattle.t1_subset.specs.NameSets.{lent};
+ghost use Rattle.t1_cmd.specs.Answers.{Refuses};
+ghost use Rattle.t1_cmd.specs.Files.{OfFiles, RefusesFiles};
 ghost use Rattle.t1_cmd.specs.Runs.{RunEnds, Succeeds};
-ghost use Rattle.t1_cmd.specs.Mergers.{inputs_of, InTurns, InputsStop, MergesTo, MergeStops};
+ghost use Rattle.t1_cmd.specs.Mergers.{inputs_of, InTurns, MergesTo};
 ghost use Rattle.t1_cmd.specs.WrittenSubsets.{WritesUnion};
 
 use crate::counting::Counted;
-use crate::faults::{Reason, RunFault};
+use crate::faults::{FilesRefusal, Reason, RunFault};
 use crate::fonts::font_file;
-use crate::words::read_font;
-use crate::writing::write_text;
+use crate::several::{FontsWord, run_words, text_of_files};
 use std::alloc::{AllocError, Global};
 use std::io::{Read, Write};
 use t1_font::{Font, Form, Source};
 use t1_subset::{Conflict, merge_all};
-
-// One more source.
-fn keep(sources: &mut Vec<Source>, source: Source) -> Result<(), AllocError>
-    ensures { OnOk result (sources.new.items ≡ sources.old.items ++ source ∷ []) }
-{
-    match sources.push(source) {
-        Ok(_) => Ok(()),
-        Err(_) => Err(AllocError),
-    }
-}
-
-// The sources of the fonts that the readers' bytes spell, one after the other.
-pub(crate) fn read_fonts<R: Read>(
-    alloc: Global,
-    readers: &mut [Counted<R>],
-) -> Result<Vec<Source>, RunFault>
-    ensures says { IfOk result
-        (λ sources. Say font_input
-        (inputs_of R.remaining readers.old readers.new) sources.items) }
-    ensures stops { IfErr result
-        (λ e. InputsStop font_input
-        (inputs_of R.remaining readers.old readers.new) e) }
-    ensures turns { InTurns readers.old readers.new }
-{
-    let mut sources = Vec::new(alloc);
-    'readers: for i in 0..readers.len() {
-        let source = match read_font(alloc, &mut readers[i]) {
-            Ok(source) => source,
-            Err(fault) => return Err(fault),
-        };
-        keep(&mut sources, source)?;
-    }
-    Ok(sources)
-}
 
 // The font of each source.
 pub(crate) fn fonts_of(alloc: Global, sources: &[Source]) -> Result<Vec<Font<'_>>, AllocError>
@@ -63,14 +30,14 @@ pub(crate) fn fonts_of(alloc: Global, sources: &[Source]) -> Result<Vec<Font<'_>
 }
 
 // The font that fonts come to, merged from left to right.
-fn merge_fonts<'a>(alloc: Global, fonts: &[Font<'a>]) -> Result<Font<'a>, RunFault>
+fn merge_fonts<'a>(alloc: Global, fonts: &[Font<'a>]) -> Result<Font<'a>, Reason>
     ensures comes { IfOk result (λ j. ComesTo fonts.now j) }
-    ensures refused { IfErr result (λ e. (form : Form) → MergeStops form fonts.now e) }
+    ensures refused { IfErr result (λ e. (form : Form) → Refuses (MergesTo form fonts.now) e) }
 {
     match merge_all(alloc, fonts) {
         Ok(font) => Ok(font),
-        Err(Conflict::Memory) => Err(RunFault::Refused(Reason::Memory)),
-        Err(conflict) => Err(RunFault::Refused(Reason::Merge(conflict))),
+        Err(Conflict::Memory) => Err(Reason::Memory),
+        Err(conflict) => Err(Reason::Merge(conflict)),
     }
 }
 
@@ -79,19 +46,48 @@ pub(crate) fn merged_file(
     alloc: Global,
     fonts: Vec<Font<'_>>,
     form: Form,
-) -> Result<Vec<u8>, RunFault>
+) -> Result<Vec<u8>, Reason>
     ensures text { IfOk result (λ text. MergesTo form fonts.entry.items (Ok text.items)) }
-    ensures refused { IfErr result (λ e. MergeStops form fonts.entry.items e) }
+    ensures refused { IfErr result (Refuses (MergesTo form fonts.entry.items)) }
 {
     let font = match merge_fonts(alloc, fonts.as_slice()) {
         Ok(font) => font,
-        Err(fault) => return Err(fault),
+        Err(reason) => return Err(reason),
     };
     drop(fonts);
     let text = font_file(alloc, &font, form);
     drop(font);
     let text = text?;
     Ok(text)
+}
+
+/// The word `merge`, and the form that it writes.
+#[derive(Drop)]
+pub(crate) struct Merge {
+    form: Form,
+}
+
+impl FontsWord for Merge {
+    ghost Answers = { λ word. MergesTo word.form };
+
+    fn text(&self, alloc: Global, sources: Vec<Source>) -> Result<Vec<u8>, Reason> {
+        let fonts = fonts_of(alloc, sources.as_slice())?;
+        merged_file(alloc, fonts, self.form)
+    }
+}
+
+/// The canonical file, in one of the two forms, of the font that the fonts of files come to when they are merged from left to
+/// right, as [`run_merge`] writes it.
+///
+/// # Errors
+///
+/// [`Reason::TooLong`] or [`Reason::Font`] with the place of the first file that spells no font; else [`Reason::Merge`] if the
+/// fonts don't merge, or if there is none. [`Reason::Memory`] if a growth was refused.
+pub fn merge_files(alloc: Global, files: &[&[u8]], form: Form) -> Result<Vec<u8>, FilesRefusal>
+    ensures text { IfOk result (λ text. OfFiles (MergesTo form) (lent files.now) (Ok text.items)) }
+    ensures refused { IfErr result (RefusesFiles (MergesTo form) (lent files.now)) }
+{
+    text_of_files(alloc, &Merge { form }, files)
 }
 
 /// Writes the canonical file, in one of the two forms, of the font that fonts come to when they are merged from left
@@ -113,14 +109,5 @@ pub fn run_merge<R: Read, W: Write>(
         (inputs_of R.remaining readers.old readers.new) writer.old writer.new result }
     ensures turns { InTurns readers.old readers.new }
 {
-    let sources = match read_fonts(alloc, readers) {
-        Ok(sources) => sources,
-        Err(fault) => return Err(fault),
-    };
-    let fonts = fonts_of(alloc, sources.as_slice())?;
-    let text = match merged_file(alloc, fonts, form) {
-        Ok(text) => text,
-        Err(fault) => return Err(fault),
-    };
-    write_text(writer, text.as_slice())
+    run_words(alloc, &Merge { form }, readers, writer)
 }

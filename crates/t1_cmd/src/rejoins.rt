@@ -3,15 +3,18 @@ ghost use Rattle.std.specs.Prelude.{◌≡◌, List, IfOk, IfErr, Ok};
 ghost use Rattle.std.specs.FinMap.{keys};
 ghost use Rattle.t1_font.specs.FontValue.{FontValue};
 ghost use Rattle.t1_font.specs.Evening.{stubs_at, indices_of_all, evened_shells};
+ghost use Rattle.t1_subset.specs.NameSets.{lent};
+ghost use Rattle.t1_cmd.specs.Answers.{Refuses};
+ghost use Rattle.t1_cmd.specs.Files.{OfFiles, RefusesFiles};
 ghost use Rattle.t1_cmd.specs.Fonts.{font_input};
 ghost use Rattle.t1_cmd.specs.Runs.{RunEnds, Succeeds};
 ghost use Rattle.t1_cmd.specs.Mergers.{inputs_of, InTurns};
-ghost use Rattle.t1_cmd.specs.Rejoins.{RejoinsTo, RejoinStops};
+ghost use Rattle.t1_cmd.specs.Rejoins.{RejoinsTo};
 
 use crate::counting::Counted;
-use crate::faults::{Reason, RunFault};
-use crate::mergers::{fonts_of, merged_file, read_fonts};
-use crate::writing::write_text;
+use crate::faults::{FilesRefusal, Reason, RunFault};
+use crate::mergers::{fonts_of, merged_file};
+use crate::several::{FontsWord, run_words, text_of_files};
 use std::alloc::{AllocError, Global};
 use std::io::{Read, Write};
 use t1_font::{Form, PartsFault, Source, even_shells, fill_all, stub_indices};
@@ -31,32 +34,61 @@ fn filled_file<'a>(
     sources: &'a [Source],
     indices: &'a [u16],
     form: Form,
-) -> Result<Vec<u8>, RunFault>
+) -> Result<Vec<u8>, Reason>
     requires { indices.now ≡ keys (stubs_at (indices_of_all sources.now)) }
     ensures text { (fonts : List FontValue)
         → sources.now ≡ evened_shells fonts
         → IfOk result (λ text. RejoinsTo form fonts (Ok text.items)) }
     ensures refused { (fonts : List FontValue)
         → sources.now ≡ evened_shells fonts
-        → IfErr result (λ e. RejoinStops form fonts e) }
+        → IfErr result (Refuses (RejoinsTo form fonts)) }
 {
     let lent = fonts_of(alloc, sources)?;
     let filled = match fill_all(alloc, lent, indices) {
         Ok(filled) => filled,
-        Err(PartsFault::Limit) => return Err(RunFault::Refused(Reason::Merge(Conflict::Limit))),
-        Err(PartsFault::Memory) => return Err(RunFault::Refused(Reason::Memory)),
+        Err(PartsFault::Limit) => return Err(Reason::Merge(Conflict::Limit)),
+        Err(PartsFault::Memory) => return Err(Reason::Memory),
     };
     merged_file(alloc, filled, form)
 }
 
 // The canonical file of the font that these come to when they are made even.
-fn rejoined_file(alloc: Global, sources: Vec<Source>, form: Form) -> Result<Vec<u8>, RunFault>
+fn rejoined_file(alloc: Global, sources: Vec<Source>, form: Form) -> Result<Vec<u8>, Reason>
     ensures text { IfOk result (λ text. RejoinsTo form sources.items (Ok text.items)) }
-    ensures refused { IfErr result (λ e. RejoinStops form sources.items e) }
+    ensures refused { IfErr result (Refuses (RejoinsTo form sources.items)) }
 {
     let evened = even_shells(alloc, sources)?;
     let indices = indices_of(alloc, evened.as_slice())?;
     filled_file(alloc, evened.as_slice(), indices.as_slice(), form)
+}
+
+/// The word `rejoin`, and the form that it writes.
+#[derive(Drop)]
+pub(crate) struct Rejoin {
+    form: Form,
+}
+
+impl FontsWord for Rejoin {
+    ghost Answers = { λ word. RejoinsTo word.form };
+
+    fn text(&self, alloc: Global, sources: Vec<Source>) -> Result<Vec<u8>, Reason> {
+        rejoined_file(alloc, sources, self.form)
+    }
+}
+
+/// The canonical file, in one of the two forms, of the font that the fonts of files come to when they are made even and then
+/// merged from left to right, as [`run_rejoin`] writes it.
+///
+/// # Errors
+///
+/// [`Reason::TooLong`] or [`Reason::Font`] with the place of the first file that spells no font; else [`Reason::Merge`] if the
+/// fonts, made even, don't merge, if one of them is then too heavy, or if there is none. [`Reason::Memory`] if a growth was
+/// refused.
+pub fn rejoin_files(alloc: Global, files: &[&[u8]], form: Form) -> Result<Vec<u8>, FilesRefusal>
+    ensures text { IfOk result (λ text. OfFiles (RejoinsTo form) (lent files.now) (Ok text.items)) }
+    ensures refused { IfErr result (RefusesFiles (RejoinsTo form) (lent files.now)) }
+{
+    text_of_files(alloc, &Rejoin { form }, files)
 }
 
 /// Writes the canonical file, in one of the two forms, of the font that fonts come to when they are made even and then
@@ -78,13 +110,5 @@ pub fn run_rejoin<R: Read, W: Write>(
         (inputs_of R.remaining readers.old readers.new) writer.old writer.new result }
     ensures turns { InTurns readers.old readers.new }
 {
-    let sources = match read_fonts(alloc, readers) {
-        Ok(sources) => sources,
-        Err(fault) => return Err(fault),
-    };
-    let text = match rejoined_file(alloc, sources, form) {
-        Ok(text) => text,
-        Err(fault) => return Err(fault),
-    };
-    write_text(writer, text.as_slice())
+    run_words(alloc, &Rejoin { form }, readers, writer)
 }

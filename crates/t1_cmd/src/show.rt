@@ -8,13 +8,13 @@ ghost use Rattle.t1_cmd.specs.Inputs.{input_of};
 ghost use Rattle.t1_bytes.specs.Limits.{file_limit};
 ghost use Rattle.t1_cmd.specs.Runs.{RunEnds, Succeeds};
 ghost use Rattle.t1_cmd.specs.Answers.{Prints, Refuses};
-ghost use Rattle.t1_cmd.specs.Fonts.{font_input};
+ghost use Rattle.t1_cmd.specs.Fonts.{font_input, of_file};
 ghost use Rattle.t1_cmd.specs.DrawingText.{amount, number, numbers, line, mark_line, with_line, part_lines, drawn_lines, fault_line, show_answer};
 
 use crate::counting::Counted;
 use crate::faults::{Name, Reason, RunFault};
 use crate::texts::push_number;
-use crate::words::{FontWord, run_word};
+use crate::words::{FontWord, run_word, text_of_bytes};
 use std::alloc::{AllocError, Global};
 use std::io::{Read, Write};
 use t1_font::{DrawFault, Font, Layout, Mark, Pen, PlacedPart, Point, lay_out, trace};
@@ -211,6 +211,19 @@ impl FontWord for Show<'_> {
         drop(font);
         text
     }
+}
+
+/// The lines of what a glyph of the font of a file draws, as [`run_show`] writes them. The name is without its `/`.
+///
+/// # Errors
+///
+/// [`Reason::TooLong`] or [`Reason::Font`] if the file spells no font, for its first fault; else [`Reason::NoGlyph`] if the
+/// font lacks the name. [`Reason::Memory`] if a growth was refused.
+pub fn show_file(alloc: Global, file: &[u8], name: &[u8]) -> Result<Vec<u8>, Reason>
+    ensures text { IfOk result (λ text. of_file (show_answer name.now) file.now ≡ Ok text.items) }
+    ensures refused { IfErr result (Refuses (λ a. a ≡ of_file (show_answer name.now) file.now)) }
+{
+    text_of_bytes(alloc, &Show { name }, file)
 }
 
 /// Writes what the glyph of a name, without its `/`, draws: its width, its side bearing, its parts and their marks, or

@@ -8,13 +8,13 @@ ghost use Rattle.t1_cmd.specs.Inputs.{input_of};
 ghost use Rattle.t1_bytes.specs.Limits.{file_limit};
 ghost use Rattle.t1_cmd.specs.Runs.{RunEnds, Succeeds};
 ghost use Rattle.t1_cmd.specs.Answers.{Prints, Refuses};
-ghost use Rattle.t1_cmd.specs.Fonts.{font_input};
+ghost use Rattle.t1_cmd.specs.Fonts.{font_input, of_file};
 ghost use Rattle.t1_cmd.specs.Subsets.{first_absent, unless_absent, subset_answer};
 
 use crate::counting::Counted;
 use crate::faults::{Name, Reason, RunFault};
 use crate::fonts::font_file;
-use crate::words::{FontWord, run_word};
+use crate::words::{FontWord, run_word, text_of_bytes};
 use std::alloc::Global;
 use std::io::{Read, Write};
 use t1_font::{Font, Form};
@@ -38,7 +38,7 @@ fn cut<'a>(alloc: Global, font: &Font<'a>, names: &[&[u8]]) -> Result<Font<'a>, 
 }
 
 // The canonical file of a font's subset. The font is dropped before the file is written.
-fn subset_file(
+fn file_of_cut(
     alloc: Global,
     font: Font<'_>,
     names: &[&[u8]],
@@ -71,8 +71,27 @@ impl FontWord for Subset<'_> {
     ghost answer = { λ word. subset_answer word.form (lent word.names.now) };
 
     fn text(&self, alloc: Global, font: Font<'_>) -> Result<Vec<u8>, Reason> {
-        subset_file(alloc, font, self.names, self.form)
+        file_of_cut(alloc, font, self.names, self.form)
     }
+}
+
+/// The canonical file, in one of the two forms, of the subset of the font of a file over these names, as [`run_subset`]
+/// writes it. A name is without its `/`, and may be asked for more than once.
+///
+/// # Errors
+///
+/// [`Reason::TooLong`] or [`Reason::Font`] if the file spells no font, for its first fault; else [`Reason::NoGlyph`] with the
+/// first name that the font lacks. [`Reason::Memory`] if a growth was refused.
+pub fn subset_file(
+    alloc: Global,
+    file: &[u8],
+    names: &[&[u8]],
+    form: Form,
+) -> Result<Vec<u8>, Reason>
+    ensures text { IfOk result (λ text. of_file (subset_answer form (lent names.now)) file.now ≡ Ok text.items) }
+    ensures refused { IfErr result (Refuses (λ a. a ≡ of_file (subset_answer form (lent names.now)) file.now)) }
+{
+    text_of_bytes(alloc, &Subset { names, form }, file)
 }
 
 /// Writes the canonical file, in one of the two forms, of the subset of a font that keeps what these names need: their

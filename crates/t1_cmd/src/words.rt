@@ -76,6 +76,19 @@ pub(crate) fn text_of_file<T: FontWord>(
     text
 }
 
+/// The same of a file that is lent.
+pub(crate) fn text_of_bytes<T: FontWord>(
+    alloc: Global,
+    word: &T,
+    file: &[u8],
+) -> Result<Vec<u8>, Reason>
+    ensures text { IfOk result (λ text. of_file (T.answer word.now) file.now ≡ Ok text.items) }
+    ensures refused { IfErr result (Refuses (λ a. a ≡ of_file (T.answer word.now) file.now)) }
+{
+    let file = file.to_vec(alloc)?;
+    text_of_file(alloc, word, file)
+}
+
 /// All the bytes of a reader.
 pub(crate) fn read_file<R: Read>(
     alloc: Global,

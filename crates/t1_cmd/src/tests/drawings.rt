@@ -7,6 +7,7 @@ use t1_font::{Font, Source, read};
 use t1_tiny::PFA;
 
 // meets run_show Ok at 11 glyphs
+// like run_show: show_file
 #[test]
 fn glyphs_of_tiny(rt: HostRuntime) {
     const ROWS: &[(&[u8], &[u8], &str)] = &[

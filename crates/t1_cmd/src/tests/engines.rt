@@ -1,7 +1,10 @@
 //! The engines over one font: what they write of the font Tiny and of changed ones, and how they end.
 use super::changed::tiny_encoded;
 use super::{FINE, Feed, Plan, Sink, line_of, word};
-use crate::{Counted, RunFault, run_check, run_convert, run_list, run_show, run_subset};
+use crate::{
+    Counted, Reason, RunFault, check_file, convert_file, list_file, run_check, run_convert,
+    run_list, run_show, run_subset, show_file, subset_file,
+};
 use std::alloc::Global;
 use std::io::{ErrorKind, Read, Write};
 use std::test::Fail;
@@ -34,8 +37,45 @@ pub fn run<R: Read, W: Write>(
     }
 }
 
+/// What the call below an engine makes of a file.
+pub fn made(alloc: Global, engine: Engine<'_>, file: &[u8]) -> Result<Vec<u8>, Reason> {
+    match engine {
+        Engine::Check => check_file(alloc, file),
+        Engine::List => list_file(alloc, file),
+        Engine::Show(name) => show_file(alloc, file, name),
+        Engine::Convert(form) => convert_file(alloc, file, form),
+        Engine::Subset(names, form) => subset_file(alloc, file, names, form),
+    }
+}
+
+/// The line of a refusal.
+pub fn line_of_reason(alloc: Global, reason: Reason) -> Vec<u8> {
+    let ended = Err(RunFault::Refused(reason));
+    let line = line_of(alloc, &ended);
+    drop(ended);
+    line
+}
+
+/// The same, or the line of its refusal.
+fn made_or_line(alloc: Global, engine: Engine<'_>, file: &[u8]) -> Vec<u8> {
+    match made(alloc, engine, file) {
+        Ok(text) => text,
+        Err(reason) => line_of_reason(alloc, reason),
+    }
+}
+
+/// What an engine writes of a file, and the call below it makes of it, or the line of the refusal of both; nothing if they
+/// differ.
+pub fn answer(alloc: Global, engine: Engine<'_>, file: &[u8]) -> Vec<u8> {
+    let text = written(alloc, engine, file);
+    if made_or_line(alloc, engine, file).as_slice() != text.as_slice() {
+        return Vec::new(alloc);
+    }
+    text
+}
+
 /// What an engine writes of bytes in memory, or the line of its fault.
-pub fn answer(alloc: Global, engine: Engine<'_>, input: &[u8]) -> Vec<u8> {
+fn written(alloc: Global, engine: Engine<'_>, input: &[u8]) -> Vec<u8> {
     let mut out = Vec::new(alloc);
     let ended = run(
         alloc,
@@ -61,6 +101,7 @@ pub fn answers(alloc: Global, engine: Engine<'_>, input: &[u8], want: &[u8]) -> 
 }
 
 // meets run_check Ok at 11 glyphs
+// like run_check: check_file
 #[test]
 fn tiny_is_checked(rt: HostRuntime) {
     const FILES: &[(&[u8], &[u8], &str)] = &[
@@ -92,6 +133,7 @@ fn is_pfb(alloc: Global, file: &[u8]) -> bool {
 }
 
 // meets run_convert Ok at 11 glyphs
+// like run_convert: convert_file
 #[test]
 fn tiny_in_both_forms(rt: HostRuntime) {
     const FILES: &[(&[u8], &str)] = &[(PFA, "the PFA file"), (PFB, "the PFB file")];
@@ -130,6 +172,7 @@ glyph acute 10
 ";
 
 // meets run_list Ok at 11 glyphs
+// like run_list: list_file
 #[test]
 fn tiny_is_listed(rt: HostRuntime) {
     assert!(rt; answers(rt.alloc(), Engine::List, PFB, TINY_LISTED));

@@ -1,9 +1,12 @@
 //! Each engine, over Tiny and two listings, with room for what it writes. `tools/sweep_growths.py` refuses one growth after
 //! the other: an engine that is then refused memory writes nothing, and writes right when it is run again.
 use super::changed::tagged;
-use super::engines::{Engine, run};
+use super::engines::{Engine, made, run};
+use super::lists::{List, made_of};
 use super::{LEFT, RIGHT};
-use crate::{Counted, Reason, RunFault, read_all, run_join, run_merge, run_rejoin, write_fault};
+use crate::{
+    Counted, FilesRefusal, Reason, RunFault, read_all, run_join, run_merge, run_rejoin, write_fault,
+};
 use std::alloc::{AllocError, Global};
 use std::test::Fail;
 use t1_font::Form;
@@ -38,6 +41,35 @@ fn writes(
     Ok(written(out, ended)?.is_some_and(|text| text.as_slice() == want))
 }
 
+/// Whether the call below an engine makes this of a file.
+fn makes(alloc: Global, engine: Engine<'_>, file: &[u8], want: &[u8]) -> Result<bool, AllocError> {
+    match made(alloc, engine, file) {
+        Ok(text) => Ok(text.as_slice() == want),
+        Err(Reason::Memory) => Err(AllocError),
+        Err(reason) => {
+            drop(reason);
+            Ok(false)
+        }
+    }
+}
+
+/// Whether the call below an engine over a list makes Tiny's PFA of its two files.
+fn makes_of_both(alloc: Global, list: List) -> Result<bool, AllocError> {
+    match made_of(alloc, list, &[PFA, PFB]) {
+        Ok(text) => Ok(text.as_slice() == PFA.as_slice()),
+        Err(
+            FilesRefusal {
+                place: None,
+                reason: Reason::Memory,
+            },
+        ) => Err(AllocError),
+        Err(refusal) => {
+            drop(refusal);
+            Ok(false)
+        }
+    }
+}
+
 /// The PFA of Tiny's subset of X.
 fn subset_of_x(alloc: Global) -> Result<Option<Vec<u8>>, AllocError> {
     let mut out = Vec::with_capacity(alloc, 2224)?;
@@ -53,7 +85,15 @@ fn subset_of_x(alloc: Global) -> Result<Option<Vec<u8>>, AllocError> {
 /// Whether it has its size, and is the same when it is cut again.
 fn subsets(alloc: Global) -> Result<bool, AllocError> {
     match (subset_of_x(alloc)?, subset_of_x(alloc)?) {
-        (Some(one), Some(other)) => Ok(one.len() == 2224 && one.as_slice() == other.as_slice()),
+        (Some(one), Some(other)) => {
+            let again = makes(
+                alloc,
+                Engine::Subset(&[b"X"], Form::Pfa),
+                PFA,
+                one.as_slice(),
+            )?;
+            Ok(again && one.len() == 2224 && one.as_slice() == other.as_slice())
+        }
         _ => Ok(false),
     }
 }
@@ -142,10 +182,10 @@ const ENGINES: &[(Engine<'static>, &[u8])] = &[
     (Engine::Convert(Form::Pfb), PFB),
 ];
 
-/// Whether each of these engines writes right.
+/// Whether each of these engines writes right, and the call below it makes the same.
 fn engines_write(alloc: Global) -> Result<bool, AllocError> {
     for &(engine, want) in ENGINES {
-        if !writes(alloc, engine, PFA, want)? {
+        if !writes(alloc, engine, PFA, want)? || !makes(alloc, engine, PFA, want)? {
             return Ok(false);
         }
     }
@@ -154,8 +194,10 @@ fn engines_write(alloc: Global) -> Result<bool, AllocError> {
 
 /// Whether they do, and the others.
 fn write_right(alloc: Global) -> Result<bool, AllocError> {
+    let lists = makes_of_both(alloc, List::Merge(Form::Pfa))?
+        && makes_of_both(alloc, List::Rejoin(Form::Pfa))?;
     let fonts = engines_write(alloc)? && subsets(alloc)? && merges(alloc)? && rejoins(alloc)?;
-    Ok(fonts && joins(alloc, LEFT, RIGHT, LISTED)? && reads(alloc)? && tells(alloc)?)
+    Ok(lists && fonts && joins(alloc, LEFT, RIGHT, LISTED)? && reads(alloc)? && tells(alloc)?)
 }
 
 #[test]

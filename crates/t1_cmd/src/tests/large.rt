@@ -71,7 +71,9 @@ fn lacks_the_next(alloc: Global, file: &[u8]) -> bool {
 // meets run_check Ok at 65535 glyphs
 // meets run_show NoGlyph at 65535 glyphs
 // meets run_subset NoGlyph at 65535 glyphs
-// like run_check: run_list, run_convert, run_merge, run_rejoin
+// like run_check: run_list, run_convert, run_merge, run_rejoin, check_file, list_file, convert_file, merge_files, rejoin_files
+// like run_show: show_file
+// like run_subset: subset_file
 #[test]
 fn as_many_glyphs_as_a_font_can_have(rt: HostRuntime) -> Result<(), Fail> {
     let file = many(rt.alloc())?;

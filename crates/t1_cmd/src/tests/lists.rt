@@ -3,10 +3,10 @@
 use super::changed::{
     file_of, tiny_and, tiny_changed, tiny_with_subr, with_all, without_acute, without_subr_5,
 };
-use super::engines::{Engine, answer};
+use super::engines::{Engine, answer, line_of_reason};
 use super::line_of;
 use super::merges::heavy;
-use crate::{Counted, RunFault, run_merge, run_rejoin};
+use crate::{Counted, FilesRefusal, RunFault, merge_files, rejoin_files, run_merge, run_rejoin};
 use std::alloc::{AllocError, Global};
 use std::io::{Read, Write};
 use std::test::Fail;
@@ -70,8 +70,42 @@ fn readers<'a>(alloc: Global, files: &[&'a [u8]]) -> Result<Vec<Counted<&'a [u8]
     Ok(readers)
 }
 
-/// The file that files come to, or the line of their refusal.
+/// What the call below an engine makes of files.
+pub fn made_of(alloc: Global, list: List, files: &[&[u8]]) -> Result<Vec<u8>, FilesRefusal> {
+    match list {
+        List::Merge(form) => merge_files(alloc, files, form),
+        List::Rejoin(form) => rejoin_files(alloc, files, form),
+    }
+}
+
+/// The place of the file that the call below an engine refuses, if it refuses one.
+pub fn refused_place(alloc: Global, list: List, files: &[&[u8]]) -> Option<usize> {
+    match made_of(alloc, list, files) {
+        Ok(_) => None,
+        Err(refusal) => refusal.place,
+    }
+}
+
+/// What the call below an engine makes of files, or the line of its refusal.
+fn made_or_line(alloc: Global, list: List, files: &[&[u8]]) -> Vec<u8> {
+    match made_of(alloc, list, files) {
+        Ok(text) => text,
+        Err(FilesRefusal { reason, .. }) => line_of_reason(alloc, reason),
+    }
+}
+
+/// The file that files come to by an engine and by the call below it, or the line of the refusal of both; nothing if they
+/// differ.
 pub fn listed(alloc: Global, list: List, files: &[&[u8]]) -> Vec<u8> {
+    let text = written(alloc, list, files);
+    if made_or_line(alloc, list, files).as_slice() != text.as_slice() {
+        return Vec::new(alloc);
+    }
+    text
+}
+
+/// The file that files come to by an engine, or the line of their refusal.
+fn written(alloc: Global, list: List, files: &[&[u8]]) -> Vec<u8> {
     match readers(alloc, files) {
         Ok(mut readers) => listed_from(alloc, list, readers.as_mut_slice()),
         Err(_) => Vec::new(alloc),
@@ -123,6 +157,9 @@ fn cuts_come_to_one(alloc: Global, count: usize) -> Result<bool, AllocError> {
 // meets run_subset Ok at 0, 1, 7 names
 // meets run_merge Ok at 1, 2, 3, 4, 5, 6, 40 fonts
 // meets run_rejoin Ok at 1, 2, 3, 4, 5, 6, 40 fonts
+// like run_subset: subset_file
+// like run_merge: merge_files
+// like run_rejoin: rejoin_files
 #[test]
 fn lists_of_subsets(rt: HostRuntime) -> Result<(), Fail> {
     for count in [1usize, 2, 3, 4, 5, 6, 40] {
@@ -185,7 +222,7 @@ fn is_refused(alloc: Global, odd: &[u8], before: usize, line: &[u8]) -> Result<b
 // meets run_merge Glyph at 3, 4, 5, 10 fonts
 // meets run_merge Part at 3, 4, 5, 10 fonts
 // meets run_merge Subr at 3, 4, 5, 10 fonts
-// like run_merge: run_rejoin
+// like run_merge: run_rejoin, merge_files, rejoin_files
 #[test]
 fn an_odd_font_wherever_it_stands(rt: HostRuntime) -> Result<(), Fail> {
     for &(kind, line) in ODD {
@@ -212,6 +249,8 @@ fn are_over(alloc: Global, files: &[&[u8]]) -> bool {
 // meets run_rejoin Empty at 0 fonts
 // meets run_merge Limit at 2, 3 fonts
 // meets run_rejoin Limit at 2, 3 fonts
+// like run_merge: merge_files
+// like run_rejoin: rejoin_files
 #[test]
 fn lists_over_the_limit(rt: HostRuntime) -> Result<(), Fail> {
     for &list in LISTS {
@@ -251,6 +290,7 @@ fn with_head(alloc: Global, before: usize, count: u32) -> Result<Vec<u8>, AllocE
 
 // A font of 67,000,000 bytes is near the greatest weight, 67,108,864; each stub weighs 129.
 // meets run_rejoin Limit at 1000 subrs
+// like run_rejoin: rejoin_files
 #[test]
 fn stubs_that_weigh_too_much(rt: HostRuntime) -> Result<(), Fail> {
     let heavy = with_head(rt.alloc(), 67_000_000, 1)?;

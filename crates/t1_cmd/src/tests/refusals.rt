@@ -1,10 +1,10 @@
 //! Each refusal of a font by each engine, with the line that is printed: of the engines over one font, and of those over
 //! lists, whose third font is the one that is refused.
 use super::changed::file_of;
-use super::engines::{ENGINES, answers, run};
-use super::lists::{LISTS, listed, run_list_of};
+use super::engines::{ENGINES, answers, made, run};
+use super::lists::{LISTS, listed, made_of, refused_place, run_list_of};
 use super::word;
-use crate::{Counted, FILE_LIMIT, Reason, RunFault, read_all, run_join};
+use crate::{Counted, FILE_LIMIT, FilesRefusal, Reason, RunFault, read_all, run_join};
 use std::alloc::{AllocError, Global};
 use std::io;
 use std::io::Read;
@@ -72,10 +72,15 @@ fn all_refuse(alloc: Global, file: &[u8], line: &[u8]) -> bool {
     third_is_refused(alloc, file, line)
 }
 
-/// Whether each engine over a list refuses a file with this line where it is the third of four.
+/// Whether each engine over a list refuses a file with this line where it is the third of four, and the call below it tells
+/// its place.
 fn third_is_refused(alloc: Global, file: &[u8], line: &[u8]) -> bool {
     for &list in LISTS {
-        if listed(alloc, list, &[PFA, PFA, file, b""]).as_slice() != line {
+        let files = [PFA, PFA, file, b""];
+        if listed(alloc, list, &files).as_slice() != line {
+            return false;
+        }
+        if refused_place(alloc, list, &files) != Some(2) {
             return false;
         }
     }
@@ -95,7 +100,7 @@ fn third_is_refused(alloc: Global, file: &[u8], line: &[u8]) -> bool {
 // meets run_check NoClosefile
 // meets run_check NoNotdef
 // meets run_check Limit
-// like run_check: run_list, run_show, run_convert, run_subset, run_merge, run_rejoin
+// like run_check: run_list, run_show, run_convert, run_subset, run_merge, run_rejoin, check_file, list_file, show_file, convert_file, subset_file, merge_files, rejoin_files
 #[test]
 fn each_fault_by_each_engine(rt: HostRuntime) -> Result<(), Fail> {
     for &(file, line) in CLEAR {
@@ -162,6 +167,28 @@ fn are_too_long(alloc: Global, count: usize) -> Result<bool, AllocError> {
     Ok(true)
 }
 
+/// Whether a file is too long for the call below each engine.
+fn is_too_long_a_file(alloc: Global, file: &[u8]) -> bool {
+    for &engine in ENGINES {
+        if !matches!(made(alloc, engine, file), Err(Reason::TooLong)) {
+            return false;
+        }
+    }
+    for &list in LISTS {
+        let refused = made_of(alloc, list, &[file]);
+        if !matches!(
+            refused,
+            Err(FilesRefusal {
+                place: Some(0),
+                reason: Reason::TooLong
+            })
+        ) {
+            return false;
+        }
+    }
+    true
+}
+
 /// How many bytes of so many zeros are read, if they are not too long.
 fn read_zeros(alloc: Global, count: usize) -> Option<usize> {
     match read_all(alloc, &mut Counted::new(Zeros { left: count }), FILE_LIMIT) {
@@ -192,7 +219,7 @@ fn joined_zeros(alloc: Global, left: usize, right: usize) -> &'static str {
 // meets read_all TooLong at 268435457 bytes
 // meets run_join TooLong at 268435457 bytes
 // meets run_check TooLong at 268435457 bytes
-// like run_check: run_list, run_show, run_convert, run_subset, run_merge, run_rejoin
+// like run_check: run_list, run_show, run_convert, run_subset, run_merge, run_rejoin, check_file, list_file, show_file, convert_file, subset_file, merge_files, rejoin_files
 #[test]
 fn files_over_the_limit(rt: HostRuntime) -> Result<(), Fail> {
     // FILE_LIMIT is 268435456.
@@ -200,6 +227,10 @@ fn files_over_the_limit(rt: HostRuntime) -> Result<(), Fail> {
     assert_eq!(rt; read_zeros(rt.alloc(), 268_435_457), None);
     assert!(rt; are_too_long(rt.alloc(), 268_435_457)?);
     assert!(rt; are_too_long_in_a_list(rt.alloc(), 268_435_457));
+    let mut zeros = Counted::new(Zeros { left: 268_435_457 });
+    let file = read_all(rt.alloc(), &mut zeros, 268_435_457)?;
+    assert!(rt; is_too_long_a_file(rt.alloc(), file.as_slice()));
+    drop(file);
     assert_eq!(rt; joined_zeros(rt.alloc(), 0, 268_435_457), "too long");
     assert_eq!(rt; joined_zeros(rt.alloc(), 268_435_457, 0), "too long");
     Ok(())

@@ -1,6 +1,6 @@
 use Rattle.std.proofs.Common.{◌+◌, set, get_or, ap, refl, arith, subst, sym}
 use Rattle.t1_cmd.proofs.ReaderLoops.{SoFar, goes_on, stops, turns_at, all_said, all_turns}
-use Rattle.t1_cmd.proofs.mergers.read_fonts.Goals as goal
+use Rattle.t1_cmd.proofs.several.read_fonts.Goals as goal
 
 pub readers-init : goal.readers-init
 readers-init g c = (refl, c.new-sources.ensures.items)

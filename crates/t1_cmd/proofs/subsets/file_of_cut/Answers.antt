@@ -6,7 +6,7 @@ use Rattle.t1_algebra.specs.Keep.{subset}
 use Rattle.t1_subset.specs.NameSets.{lent}
 use Rattle.t1_cmd.specs.declared.faults.Reason.{Reason}
 use Rattle.t1_cmd.specs.Subsets.{unless_absent}
-use Rattle.t1_cmd.proofs.subsets.subset_file.Goals as goal
+use Rattle.t1_cmd.proofs.subsets.file_of_cut.Goals as goal
 
 pub returns-in-Err-clause-refused : goal.returns-in-Err-clause-refused
 returns-in-Err-clause-refused c = c.in-Err.ensures.refused (canon (subset profile c.args.font (sets.from_list (lent c.args.names.now))) c.args.form)

@@ -1,5 +1,5 @@
 use Rattle.t1_cmd.proofs.ReaderLoops.{SoFar}
-use Rattle.t1_cmd.proofs.mergers.read_fonts.Given as goal
+use Rattle.t1_cmd.proofs.several.read_fonts.Given as goal
 
 abbrev pub invariant-readers : goal.invariant-readers
 invariant-readers g l = SoFar g.R.Read.remaining l.i l.fn.readers l.readers l.sources.items

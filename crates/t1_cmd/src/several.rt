@@ -1,0 +1,151 @@
+//! The words about several fonts: what each makes of fonts, of files, and of what readers have.
+ghost use Rattle.std.specs.Prelude.{◌≡◌, ◌++◌, ◌∷◌, [], ℕ, List, Result, Ok, OnOk, IfOk, IfErr};
+ghost use Rattle.t1_font.specs.FontValue.{FontValue};
+ghost use Rattle.t1_subset.specs.NameSets.{lent};
+ghost use Rattle.t1_cmd.specs.declared.faults.Reason.{Reason};
+ghost use Rattle.t1_cmd.specs.Answers.{Refuses};
+ghost use Rattle.t1_cmd.specs.Files.{fonts_from, IsUnread, IsRefusalAt, OfFiles, RefusesFiles};
+ghost use Rattle.t1_cmd.specs.Fonts.{font_input};
+ghost use Rattle.t1_cmd.specs.Inputs.{Say};
+ghost use Rattle.t1_cmd.specs.Mergers.{inputs_of, InTurns, InputsStop};
+ghost use Rattle.t1_cmd.specs.Runs.{RunEnds};
+
+use crate::counting::Counted;
+use crate::faults::{FilesRefusal, Reason, RunFault};
+use crate::words::{read_font, source_of};
+use crate::writing::write_text;
+use std::alloc::{AllocError, Global};
+use std::io::{Read, Write};
+use t1_font::Source;
+
+/// A word about several fonts. It has a text or a refusal among its answers for them.
+pub(crate) trait FontsWord {
+    ghost Answers: { Self → List FontValue → Result (List ℕ) Reason → Type 0 };
+
+    /// The text that the word makes of the fonts of sources.
+    fn text(&self, alloc: Global, sources: Vec<Source>) -> Result<Vec<u8>, Reason>
+        ensures text { IfOk result (λ text. Answers self.now sources.items (Ok text.items)) }
+        ensures refused { IfErr result (Refuses (Answers self.now sources.items)) };
+}
+
+// One more source.
+fn keep(sources: &mut Vec<Source>, source: Source) -> Result<(), AllocError>
+    ensures { OnOk result (sources.new.items ≡ sources.old.items ++ source ∷ []) }
+{
+    match sources.push(source) {
+        Ok(_) => Ok(()),
+        Err(_) => Err(AllocError),
+    }
+}
+
+// The source of the font that the bytes of a file spell.
+fn source_in(alloc: Global, file: &[u8]) -> Result<Source, Reason>
+    ensures source { IfOk result (λ source. font_input file.now ≡ Ok source) }
+    ensures refused { IfErr result (Refuses (λ a. a ≡ font_input file.now)) }
+{
+    let file = file.to_vec(alloc)?;
+    source_of(alloc, file)
+}
+
+// The refusal of the file at a place. Want of memory is no fault of the file.
+fn refused_at(place: usize, reason: Reason) -> FilesRefusal
+    ensures { IsRefusalAt place reason result }
+{
+    match reason {
+        Reason::Memory => FilesRefusal {
+            place: None,
+            reason: Reason::Memory,
+        },
+        reason => FilesRefusal {
+            place: Some(place),
+            reason,
+        },
+    }
+}
+
+// The sources of the fonts that files spell, one after the other.
+fn sources_of(alloc: Global, files: &[&[u8]]) -> Result<Vec<Source>, FilesRefusal>
+    ensures sources { IfOk result (λ sources. fonts_from 0 (lent files.now) ≡ Ok sources.items) }
+    ensures refused { IfErr result (λ e. IsUnread (lent files.now) e.place e.reason) }
+{
+    let mut sources = Vec::new(alloc);
+    'files: for place in 0..files.len() {
+        let source = match source_in(alloc, files[place]) {
+            Ok(source) => source,
+            Err(reason) => return Err(refused_at(place, reason)),
+        };
+        if keep(&mut sources, source).is_err() {
+            return Err(refused_at(place, Reason::Memory));
+        }
+    }
+    Ok(sources)
+}
+
+/// The text that a word makes of the fonts that files spell.
+pub(crate) fn text_of_files<T: FontsWord>(
+    alloc: Global,
+    word: &T,
+    files: &[&[u8]],
+) -> Result<Vec<u8>, FilesRefusal>
+    ensures text { IfOk result
+        (λ text. OfFiles (T.Answers word.now) (lent files.now) (Ok text.items)) }
+    ensures refused { IfErr result (RefusesFiles (T.Answers word.now) (lent files.now)) }
+{
+    let sources = match sources_of(alloc, files) {
+        Ok(sources) => sources,
+        Err(refusal) => return Err(refusal),
+    };
+    let text = match word.text(alloc, sources) {
+        Ok(text) => text,
+        Err(reason) => {
+            return Err(FilesRefusal {
+                place: None,
+                reason,
+            });
+        }
+    };
+    Ok(text)
+}
+
+// The sources of the fonts that the readers' bytes spell, one after the other.
+fn read_fonts<R: Read>(alloc: Global, readers: &mut [Counted<R>]) -> Result<Vec<Source>, RunFault>
+    ensures says { IfOk result
+        (λ sources. Say font_input
+        (inputs_of R.remaining readers.old readers.new) sources.items) }
+    ensures stops { IfErr result
+        (λ e. InputsStop font_input
+        (inputs_of R.remaining readers.old readers.new) e) }
+    ensures turns { InTurns readers.old readers.new }
+{
+    let mut sources = Vec::new(alloc);
+    'readers: for i in 0..readers.len() {
+        let source = match read_font(alloc, &mut readers[i]) {
+            Ok(source) => source,
+            Err(fault) => return Err(fault),
+        };
+        keep(&mut sources, source)?;
+    }
+    Ok(sources)
+}
+
+/// Writes the text that a word makes of the fonts that the readers' bytes spell.
+pub(crate) fn run_words<T: FontsWord, R: Read, W: Write>(
+    alloc: Global,
+    word: &T,
+    readers: &mut [Counted<R>],
+    writer: &mut Counted<W>,
+) -> Result<(), RunFault>
+    ensures ends { RunEnds font_input (T.Answers word.now) W.contents
+        (inputs_of R.remaining readers.old readers.new) writer.old writer.new result }
+    ensures turns { InTurns readers.old readers.new }
+{
+    let sources = match read_fonts(alloc, readers) {
+        Ok(sources) => sources,
+        Err(fault) => return Err(fault),
+    };
+    let text = match word.text(alloc, sources) {
+        Ok(text) => text,
+        Err(reason) => return Err(RunFault::Refused(reason)),
+    };
+    write_text(writer, text.as_slice())
+}
