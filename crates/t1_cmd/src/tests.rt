@@ -503,6 +503,6 @@ fn lines_of_names(rt: HostRuntime) -> Result<(), Fail> {
         )
     );
     let long = Name::new(alloc, &[b'g'; 127])?;
-    assert!(rt; long.as_bytes() == &[b'g'; 127]);
+    assert!(rt; long.as_bytes() == [b'g'; 127].as_slice());
     Ok(())
 }

@@ -55,7 +55,7 @@ fn has_the_last(alloc: Global, file: &[u8]) -> bool {
     let pfa = answer(alloc, Engine::Subset(&[b"g65533"], Form::Pfa), file);
     let pfb = answer(alloc, Engine::Subset(&[b"g65533"], Form::Pfb), file);
     const LINE: &[u8] = b"ok 2 glyphs, 0 subrs, weight ";
-    shown.as_slice() == b"fault Unended\n"
+    shown.as_slice() == b"fault Unended\n".as_slice()
         && has_glyphs(alloc, pfa.as_slice(), LINE)
         && has_glyphs(alloc, pfb.as_slice(), LINE)
 }
