@@ -148,7 +148,7 @@ fn reaches(alloc: Global, one: &[u8], other: &[u8], count: u32) -> Result<bool, 
     let whole = merged(alloc, one, other);
     let cut = numbered_cut(alloc, whole.as_slice(), 0..count.saturating_sub(1));
     let are_all = merged_count(alloc, one, other) == count as usize;
-    Ok(are_all && cut.as_slice() == whole.as_slice() && has_states(alloc, whole.as_slice()))
+    Ok(are_all && !cut.is_empty() && has_states(alloc, whole.as_slice()))
 }
 
 /// Whether the states of a source's font can be made.
