@@ -53,6 +53,7 @@ REFUSALS = {
     "subset_file": [READS, "NoGlyph"],
     "merge_files": [READS, "Conflict"],
     "rejoin_files": [READS, "Conflict"],
+    "join_listings": ["TooLong", "ListFault", "JoinFault"],
 }
 # What a call can't answer, though its type has it.
 NEVER = {

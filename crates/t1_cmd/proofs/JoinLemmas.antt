@@ -1,14 +1,13 @@
 -- The answers of the engine of listings.
-use Rattle.std.proofs.Common.{◌≡◌, ℕ, ◌∙◌, ap, List, [], ◌∷◌, Ok, Err}
+use Rattle.std.proofs.Common.{◌≡◌, ℕ, ◌∙◌, ap, refl, List, [], ◌∷◌, Ok, Err}
 use Rattle.t1_join.specs.ListingMeaning.{ListingMeaning}
 use Rattle.t1_join.proofs.ConflictLemmas.{joined_or_refused}
 use Rattle.t1_cmd.specs.declared.faults.Reason.{Reason}
 use Rattle.t1_cmd.specs.declared.faults.Reason.TheVariants.{Memory}
-use Rattle.t1_cmd.specs.Listings.{join_reason, JoinsTo}
+use Rattle.t1_cmd.specs.Files.{values_from}
+use Rattle.t1_cmd.specs.Listings.{join_reason, listing_input, JoinsTo}
 
--- two listings that join are not refused
-pub joins_apart : (xs : List ListingMeaning) (text : List ℕ) (r : Reason) → JoinsTo xs (Ok text) → JoinsTo xs (Err r) → r ≡ Memory
-joins_apart [] text r h k = absurd h
-joins_apart (x ∷ []) text r h k = absurd h
-joins_apart (x ∷ y ∷ []) text r h k = k.2 ∙ ap join_reason (joined_or_refused x y h.0 k.0 h.1 k.1)
-joins_apart (x ∷ y ∷ z ∷ zs) text r h k = absurd h
+-- what two texts say that both spell listings
+pub both_said : (first second : List ℕ) (left right : ListingMeaning)
+    → listing_input first ≡ Ok left → listing_input second ≡ Ok right → values_from listing_input 0 (first ∷ second ∷ []) ≡ Ok (left ∷ right ∷ [])
+both_said first second left right h k = rw h (rw k refl)

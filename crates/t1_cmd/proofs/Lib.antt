@@ -5,7 +5,7 @@ pub mod ReaderLoops
 pub mod MergeLemmas
 pub mod WrittenSubsets
 pub mod JoinLemmas
-pub mod ListInputs
+pub mod Refusals
 pub mod FontLemmas
 pub mod Walks
 pub mod RejoinLemmas

@@ -11,13 +11,10 @@ use Rattle.t1_cmd.specs.declared.faults.Reason.{Reason}
 use Rattle.t1_cmd.specs.declared.faults.Reason.TheVariants.{TooLong, Memory, List as ListReason, Join as JoinReason, Font, NoGlyph, Merge}
 use Rattle.t1_cmd.specs.declared.faults.RunFault.{RunFault}
 use Rattle.t1_cmd.specs.declared.faults.RunFault.TheVariants.{Refused, Read, Write}
-use Rattle.t1_cmd.specs.Inputs.{Input, Say}
+use Rattle.t1_cmd.specs.Inputs.{Input}
 use Rattle.t1_cmd.specs.Runs.{Stops}
 use Rattle.t1_cmd.specs.Fonts.{font_input}
 use Rattle.t1_cmd.specs.Mergers.{InputsStop, IsTold, MergesTo}
-use Rattle.t1_cmd.specs.Answers.{Refuses}
-use Rattle.t1_cmd.proofs.RunLemmas.{stops_together}
-use Rattle.t1_cmd.proofs.FontLemmas.{by_answer}
 
 -- ---- merges from left to right
 
@@ -41,7 +38,8 @@ merges_apart form fs text (Merge e) h k = absurd (apart_at fs h.0 e h.1 k.0 k.1)
 -- ---- inputs
 
 -- what stops the reading stops the engine
-pub inputs_stop : (Answers : List FontValue → Result (List ℕ) Reason → Type 0) (is : List Input) (e : RunFault) → InputsStop font_input is e → Stops font_input Answers is e
+pub inputs_stop : (Answers : List FontValue → Result (List ℕ) Reason → Type 0) (is : List Input) (e : RunFault) → InputsStop font_input is e
+    → Stops font_input Answers is e
 inputs_stop Answers is (Refused TooLong) h = inl h
 inputs_stop Answers is (Refused Memory) h = tt
 inputs_stop Answers is (Refused (ListReason f)) h = inl h
@@ -51,10 +49,6 @@ inputs_stop Answers is (Refused (NoGlyph n)) h = inl h
 inputs_stop Answers is (Refused (Merge f)) h = inl h
 inputs_stop Answers is Read h = h
 inputs_stop Answers is Write h = absurd h
-
--- what refuses the fonts stops the engine
-pub answer_stops : (Answers : List FontValue → Result (List ℕ) Reason → Type 0) (is : List Input) (fs : List FontValue) (r : Reason) → Say font_input is fs → Refuses (Answers fs) r → Stops font_input Answers is (Refused r)
-answer_stops Answers is fs r h = by_answer (Answers fs) (λ s. Stops font_input Answers is (Refused s)) r tt (λ s a. stops_together font_input Answers is fs s h a)
 
 -- equal successes have equal texts
 pub same_text : (x y : List ℕ) → ◌≡◌ {A = Result (List ℕ) Reason} (Ok x) (Ok y) → y ≡ x

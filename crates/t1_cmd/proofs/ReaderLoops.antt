@@ -1,5 +1,6 @@
 -- Readers that are read one after the other: what they have said so far, and how they stop.
-use Rattle.std.proofs.Common.{◌≡◌, ◌<◌, ◌≤◌, ◌+◌, ℕ, zero, suc, refl, sym, ◌∙◌, ap, subst, List, [], ◌∷◌, ◌++◌, length, get_or, set, inl, inr, Option, Ok, IfSome, arith}
+use Rattle.std.proofs.Common.{◌≡◌, ◌<◌, ◌≤◌, ◌+◌, ℕ, zero, suc, refl, sym, ◌∙◌, ap, subst, List, [], ◌∷◌, ◌++◌, length, get_or, set, inl, inr, Option}
+use Rattle.std.proofs.Common.{Ok, IfSome, arith}
 use Rattle.t1_font.specs.FontValue.{FontValue}
 use Rattle.t1_cmd.specs.declared.counting.Counted.{Counted}
 use Rattle.t1_cmd.specs.declared.faults.Reason.TheVariants.{TooLong, Memory, List as ListReason, Join as JoinReason, Font, NoGlyph, Merge}
@@ -30,12 +31,14 @@ module _ {X : Type 0} (remaining : X → Option (List ℕ)) where
   SoFar (suc i) (o ∷ os) (n ∷ ns) [] = ⊥
   SoFar (suc i) (o ∷ os) (n ∷ ns) (f ∷ fs) = Says o f × InTurn o n × SoFar i os ns fs
 
-  first_next : (os : List (Counted X)) (r x : Counted X) (f : FontValue) → 0 < length os → r ≡ get_or os 0 r → Says r f → InTurn r x → SoFar 1 os (set os 0 x) (f ∷ [])
+  first_next : (os : List (Counted X)) (r x : Counted X) (f : FontValue) → 0 < length os → r ≡ get_or os 0 r → Says r f → InTurn r x
+      → SoFar 1 os (set os 0 x) (f ∷ [])
   first_next [] r x f l e s t = absurd (omega (arith, l))
   first_next (o ∷ os) r x f l e s t = (subst (λ r. Says r f) e s, subst (λ r. InTurn r x) e t, (refl, refl))
 
   -- one more reader said its font
-  pub next : (i : ℕ) (os ns : List (Counted X)) (fs : List FontValue) (r x : Counted X) (f : FontValue) → SoFar i os ns fs → i < length ns → r ≡ get_or ns i r → Says r f → InTurn r x → SoFar (suc i) os (set ns i x) (fs ++ f ∷ [])
+  pub next : (i : ℕ) (os ns : List (Counted X)) (fs : List FontValue) (r x : Counted X) (f : FontValue) → SoFar i os ns fs → i < length ns
+      → r ≡ get_or ns i r → Says r f → InTurn r x → SoFar (suc i) os (set ns i x) (fs ++ f ∷ [])
   next zero os ns fs r x f h l e s t =
       subst (λ ns. SoFar 1 os (set ns 0 x) (fs ++ f ∷ [])) (sym h.0) (subst (λ fs. SoFar 1 os (set os 0 x) (fs ++ f ∷ [])) (sym h.1)
       (first_next os r x f (subst (λ ns. 0 < length ns) h.0 l) (e ∙ ap (λ ns. get_or ns 0 r) h.0) s t))
@@ -45,26 +48,33 @@ module _ {X : Type 0} (remaining : X → Option (List ℕ)) where
   next (suc i) (o ∷ os) (n ∷ ns) (g ∷ fs) r x f h l e s t = (h.0, h.1, next i os ns fs r x f h.2 (omega (arith, l)) e s t)
 
   -- the same, as code counts the place
-  pub goes_on : (i : ℕ) (os ns : List (Counted X)) (fs : List FontValue) (r x : Counted X) (f : FontValue) → SoFar i os ns fs → i < length ns → r ≡ get_or ns i r → Says r f → InTurn r x → SoFar (i + 1) os (set ns i x) (fs ++ f ∷ [])
-  goes_on i os ns fs r x f h l e s t = let more : suc i ≡ i + 1 = omega arith in subst (λ k. SoFar k os (set ns i x) (fs ++ f ∷ [])) more (next i os ns fs r x f h l e s t)
+  pub goes_on : (i : ℕ) (os ns : List (Counted X)) (fs : List FontValue) (r x : Counted X) (f : FontValue) → SoFar i os ns fs → i < length ns
+      → r ≡ get_or ns i r → Says r f → InTurn r x → SoFar (i + 1) os (set ns i x) (fs ++ f ∷ [])
+  goes_on i os ns fs r x f h l e s t =
+      let more : suc i ≡ i + 1 = omega arith in subst (λ k. SoFar k os (set ns i x) (fs ++ f ∷ [])) more (next i os ns fs r x f h l e s t)
 
   -- ---- a reader that stops
 
-  first_stops : (P : Input → Type 0) (os : List (Counted X)) (r x : Counted X) → 0 < length os → r ≡ get_or os 0 r → P (input_of remaining r x) → FirstWith font_input P (inputs_of remaining os (set os 0 x))
+  first_stops : (P : Input → Type 0) (os : List (Counted X)) (r x : Counted X) → 0 < length os → r ≡ get_or os 0 r → P (input_of remaining r x)
+      → FirstWith font_input P (inputs_of remaining os (set os 0 x))
   first_stops P [] r x l e p = absurd (omega (arith, l))
   first_stops P (o ∷ os) r x l e p = inl (subst (λ r. P (input_of remaining r x)) e p)
 
   -- a reader with a fact is the first, since those before it are understood
-  pub first_with : (P : Input → Type 0) (i : ℕ) (os ns : List (Counted X)) (fs : List FontValue) (r x : Counted X) → SoFar i os ns fs → i < length ns → r ≡ get_or ns i r → P (input_of remaining r x) → FirstWith font_input P (inputs_of remaining os (set ns i x))
+  pub first_with : (P : Input → Type 0) (i : ℕ) (os ns : List (Counted X)) (fs : List FontValue) (r x : Counted X) → SoFar i os ns fs → i < length ns
+      → r ≡ get_or ns i r → P (input_of remaining r x) → FirstWith font_input P (inputs_of remaining os (set ns i x))
   first_with P zero os ns fs r x h l e p =
-      subst (λ ns. FirstWith font_input P (inputs_of remaining os (set ns 0 x))) (sym h.0) (first_stops P os r x (subst (λ ns. 0 < length ns) h.0 l) (e ∙ ap (λ ns. get_or ns 0 r) h.0) p)
+      subst (λ ns. FirstWith font_input P (inputs_of remaining os (set ns 0 x))) (sym h.0)
+      (first_stops P os r x (subst (λ ns. 0 < length ns) h.0 l) (e ∙ ap (λ ns. get_or ns 0 r) h.0) p)
   first_with P (suc i) [] ns fs r x h l e p = absurd h
   first_with P (suc i) (o ∷ os) [] fs r x h l e p = absurd h
   first_with P (suc i) (o ∷ os) (n ∷ ns) [] r x h l e p = absurd h
-  first_with P (suc i) (o ∷ os) (n ∷ ns) (f ∷ fs) r x h l e p = inr (says_understood font_input (input_of remaining o n) f h.0, first_with P i os ns fs r x h.2 (omega (arith, l)) e p)
+  first_with P (suc i) (o ∷ os) (n ∷ ns) (f ∷ fs) r x h l e p =
+      inr (says_understood font_input (input_of remaining o n) f h.0, first_with P i os ns fs r x h.2 (omega (arith, l)) e p)
 
   -- what stops a reader stops the reading of all
-  pub stops : (i : ℕ) (os ns : List (Counted X)) (fs : List FontValue) (r x : Counted X) (e : RunFault) → SoFar i os ns fs → i < length ns → r ≡ get_or ns i r → InputStops font_input (input_of remaining r x) e → InputsStop font_input (inputs_of remaining os (set ns i x)) e
+  pub stops : (i : ℕ) (os ns : List (Counted X)) (fs : List FontValue) (r x : Counted X) (e : RunFault) → SoFar i os ns fs → i < length ns
+      → r ≡ get_or ns i r → InputStops font_input (input_of remaining r x) e → InputsStop font_input (inputs_of remaining os (set ns i x)) e
   stops i os ns fs r x (Refused TooLong) h l e s = first_with (IsRefused font_input TooLong) i os ns fs r x h l e s
   stops i os ns fs r x (Refused Memory) h l e s = tt
   stops i os ns fs r x (Refused (ListReason f)) h l e s = first_with (IsRefused font_input (ListReason f)) i os ns fs r x h l e s
@@ -86,7 +96,8 @@ module _ {X : Type 0} (remaining : X → Option (List ℕ)) where
   first_turns (o ∷ os) r x e t = (subst (λ r. InTurn r x) e t, still os)
 
   -- each reader so far kept its turns
-  pub turns_at : (i : ℕ) (os ns : List (Counted X)) (fs : List FontValue) (r x : Counted X) → SoFar i os ns fs → r ≡ get_or ns i r → InTurn r x → InTurns os (set ns i x)
+  pub turns_at : (i : ℕ) (os ns : List (Counted X)) (fs : List FontValue) (r x : Counted X) → SoFar i os ns fs → r ≡ get_or ns i r → InTurn r x
+      → InTurns os (set ns i x)
   turns_at zero os ns fs r x h e t = subst (λ ns. InTurns os (set ns 0 x)) (sym h.0) (first_turns os r x (e ∙ ap (λ ns. get_or ns 0 r) h.0) t)
   turns_at (suc i) [] ns fs r x h e t = absurd h
   turns_at (suc i) (o ∷ os) [] fs r x h e t = absurd h
@@ -101,7 +112,9 @@ module _ {X : Type 0} (remaining : X → Option (List ℕ)) where
 
   -- behind the last reader all fonts are said
   pub all_said : (i : ℕ) (os ns : List (Counted X)) (fs : List FontValue) → SoFar i os ns fs → length ns ≤ i → Say font_input (inputs_of remaining os ns) fs
-  all_said zero os ns fs h l = subst (λ ns. Say font_input (inputs_of remaining os ns) fs) (sym h.0) (subst (λ fs. Say font_input (inputs_of remaining os os) fs) (sym h.1) (none_left os (subst (λ ns. length ns ≤ 0) h.0 l)))
+  all_said zero os ns fs h l =
+      subst (λ ns. Say font_input (inputs_of remaining os ns) fs) (sym h.0)
+      (subst (λ fs. Say font_input (inputs_of remaining os os) fs) (sym h.1) (none_left os (subst (λ ns. length ns ≤ 0) h.0 l)))
   all_said (suc i) [] ns fs h l = absurd h
   all_said (suc i) (o ∷ os) [] fs h l = absurd h
   all_said (suc i) (o ∷ os) (n ∷ ns) [] h l = absurd h

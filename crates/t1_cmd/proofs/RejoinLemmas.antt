@@ -18,7 +18,7 @@ use Rattle.t1_cmd.specs.declared.faults.Reason.TheVariants.{Memory}
 use Rattle.t1_cmd.specs.Answers.{Refuses}
 use Rattle.t1_cmd.specs.Mergers.{MergesTo}
 use Rattle.t1_cmd.specs.Rejoins.{RejoinsTo, RejoinsWhatMerges}
-use Rattle.t1_cmd.proofs.FontLemmas.{refuses, by_answer}
+use Rattle.t1_cmd.proofs.Refusals.{refuses, by_answer}
 use Rattle.t1_cmd.proofs.MergeLemmas.{merges_apart}
 use Rattle.t1_algebra.proofs.rejoining.Evened.{merging_fonts_are_even}
 
@@ -35,7 +35,8 @@ rejoins_apart form fs text r (inl a) (inr b) = absurd (light_or_heavy (evened fs
 rejoins_apart form fs text r (inr a) k = let never : Ok text ≡ Err _ = a.1 in absurd cc
 
 -- what refuses the merge of fonts that are even refuses to rejoin
-pub merge_of_even : (form : Form) (fs : List FontValue) (r : Reason) → AreLight (evened fs) → Refuses (MergesTo form (evened fs)) r → Refuses (RejoinsTo form fs) r
+pub merge_of_even : (form : Form) (fs : List FontValue) (r : Reason) → AreLight (evened fs) → Refuses (MergesTo form (evened fs)) r
+    → Refuses (RejoinsTo form fs) r
 merge_of_even form fs r l = by_answer (MergesTo form (evened fs)) (Refuses (RejoinsTo form fs)) r tt (λ s h. refuses (RejoinsTo form fs) s (inl (l, h)))
 
 -- ---- fonts that merge
@@ -54,11 +55,14 @@ comes_to_one : (fs : List FontValue) (j k : FontValue) → ComesTo fs j → Come
 comes_to_one [] j k h i = absurd h
 comes_to_one (f ∷ fs) j k h i = one_result profile (from_left (one f) fs) j k h i
 
-one_answer : (form : Form) (fs : List FontValue) (text : List ℕ) → MergesTo form fs (Ok text) → (answer : Result (List ℕ) Reason) → MergesTo form fs answer → answer ≡ Ok text
+one_answer : (form : Form) (fs : List FontValue) (text : List ℕ) → MergesTo form fs (Ok text) → (answer : Result (List ℕ) Reason)
+    → MergesTo form fs answer → answer ≡ Ok text
 one_answer form fs text h (Ok other) k = ap Ok (k.2 ∙ (ap (λ (j : FontValue). canon j form) (comes_to_one fs k.0 h.0 k.1 h.1) ∙ sym h.2))
-one_answer form fs text h (Err r) k = let never : MergesTo form fs (Err Memory) = subst (λ (r : Reason). MergesTo form fs (Err r)) (merges_apart form fs text r h k) k in absurd never
+one_answer form fs text h (Err r) k =
+    let never : MergesTo form fs (Err Memory) = subst (λ (r : Reason). MergesTo form fs (Err r)) (merges_apart form fs text r h k) k in absurd never
 
-rejoined_so : (form : Form) (fs : List FontValue) (text : List ℕ) → evened fs ≡ fs → AreLight fs → MergesTo form fs (Ok text) → (answer : Result (List ℕ) Reason) → RejoinsTo form fs answer → answer ≡ Ok text
+rejoined_so : (form : Form) (fs : List FontValue) (text : List ℕ) → evened fs ≡ fs → AreLight fs → MergesTo form fs (Ok text)
+    → (answer : Result (List ℕ) Reason) → RejoinsTo form fs answer → answer ≡ Ok text
 rejoined_so form fs text is light h answer (inl a) = one_answer form fs text h answer (subst (λ (gs : List FontValue). MergesTo form gs answer) is a.1)
 rejoined_so form fs text is light h answer (inr a) = absurd (light_or_heavy fs light (subst AnyHeavy is a.0))
 

@@ -1,5 +1,6 @@
 -- How engines end, from how their steps end.
-use Rattle.std.proofs.Common.{◌≡◌, ◌<◌, ℕ, refl, sym, ◌∙◌, ap, subst, List, [], ◌∷◌, ◌++◌, ◌⊎◌, inl, inr, ⊎_elim, Option, None, Some, Result, Ok, Err, IfSome, arith}
+use Rattle.std.proofs.Common.{◌≡◌, ◌<◌, ℕ, refl, sym, ◌∙◌, ap, subst, List, [], ◌∷◌, ◌++◌, ◌⊎◌, inl, inr, ⊎_elim, Option, None, Some, Result, Ok, Err}
+use Rattle.std.proofs.Common.{IfSome, arith}
 use Rattle.std.specs.Prelude.{OnOk, OnErr, IfErr, IsOk, IsOkUnless, option_and_then}
 use Rattle.std.specs.Result.{result_ok}
 use Rattle.std.specs.Io.KnownBytes.{Appends}
@@ -46,12 +47,14 @@ module _ {A : Type 0} (understand : List ℕ → Result A Reason) where
   values_are (i ∷ is) [] h = absurd h
   values_are (i ∷ is) (x ∷ xs) h = by i.known h.0 (values_of understand is) (values_are is xs h.1)
     where
-      one : (r : Result A Reason) (v : Option (List A)) → r ≡ Ok x → IfSome v (λ values. values ≡ xs) → IfSome (value_and (result_ok r) v) (λ values. values ≡ x ∷ xs)
+      one : (r : Result A Reason) (v : Option (List A)) → r ≡ Ok x → IfSome v (λ values. values ≡ xs)
+          → IfSome (value_and (result_ok r) v) (λ values. values ≡ x ∷ xs)
       one (Ok y) None e k = tt
       one (Ok y) (Some ys) e k = let same : y ≡ x = cc in (λ j. same j ∷ k j)
       one (Err r) v e k = cc
 
-      by : (o : Option (List ℕ)) → IfSome o (λ bytes. understand bytes ≡ Ok x) → (v : Option (List A)) → IfSome v (λ values. values ≡ xs) → IfSome (value_and (option_and_then (λ bytes. result_ok (understand bytes)) o) v) (λ values. values ≡ x ∷ xs)
+      by : (o : Option (List ℕ)) → IfSome o (λ bytes. understand bytes ≡ Ok x) → (v : Option (List A)) → IfSome v (λ values. values ≡ xs)
+          → IfSome (value_and (option_and_then (λ bytes. result_ok (understand bytes)) o) v) (λ values. values ≡ x ∷ xs)
       by None h v k = tt
       by (Some b) h v k = one (understand b) v h k
 
@@ -64,7 +67,8 @@ module _ {A : Type 0} (understand : List ℕ → Result A Reason) where
       by (Some ys) e = subst P (sym e) p
 
   -- an input after others that are understood
-  pub first_at : (P : Input → Type 0) (front : List Input) (i : Input) (rest : List Input) → AllUnderstood understand front → P i → FirstWith understand P (front ++ i ∷ rest)
+  pub first_at : (P : Input → Type 0) (front : List Input) (i : Input) (rest : List Input) → AllUnderstood understand front → P i
+      → FirstWith understand P (front ++ i ∷ rest)
   first_at P [] i rest h p = inl p
   first_at P (j ∷ front) i rest h p = inr (h.0, first_at P front i rest h.1 p)
 
@@ -82,7 +86,10 @@ module _ {A : Type 0} (understand : List ℕ → Result A Reason) where
       other (Ok x) (Some ys) k = (ys, refl)
       other (Err s) v k = cc
 
-      by : (o : Option (List ℕ)) (v : Option (List A)) → values_of understand is ≡ v → ((ys : List A) → FirstWith understand (IsRefused understand r) is → values_of understand is ≡ Some ys → ⊥) → (IfSome o (λ bytes. understand bytes ≡ Err r) ⊎ (IfSome o (λ bytes. IsOk (understand bytes)) × FirstWith understand (IsRefused understand r) is)) → value_and (option_and_then (λ bytes. result_ok (understand bytes)) o) v ≡ Some xs → ⊥
+      by : (o : Option (List ℕ)) (v : Option (List A)) → values_of understand is ≡ v
+          → ((ys : List A) → FirstWith understand (IsRefused understand r) is → values_of understand is ≡ Some ys → ⊥)
+          → (IfSome o (λ bytes. understand bytes ≡ Err r) ⊎ (IfSome o (λ bytes. IsOk (understand bytes)) × FirstWith understand (IsRefused understand r) is))
+          → value_and (option_and_then (λ bytes. result_ok (understand bytes)) o) v ≡ Some xs → ⊥
       by None v w ih h k = cc
       by (Some b) v w ih h k =
           ⊎_elim
@@ -96,7 +103,8 @@ module _ {A : Type 0} (understand : List ℕ → Result A Reason) where
 
   module _ (Answers : List A → Result (List ℕ) Reason → Type 0) where
     -- an input stops the engine
-    pub stops_after : (front : List Input) (i : Input) (rest : List Input) (e : RunFault) → AllUnderstood understand front → InputStops understand i e → Stops understand Answers (front ++ i ∷ rest) e
+    pub stops_after : (front : List Input) (i : Input) (rest : List Input) (e : RunFault) → AllUnderstood understand front → InputStops understand i e
+        → Stops understand Answers (front ++ i ∷ rest) e
     stops_after front i rest (Refused TooLong) h s = inl (first_at (IsRefused understand TooLong) front i rest h s)
     stops_after front i rest (Refused Memory) h s = tt
     stops_after front i rest (Refused (ListReason f)) h s = inl (first_at (IsRefused understand (ListReason f)) front i rest h s)
@@ -108,7 +116,8 @@ module _ {A : Type 0} (understand : List ℕ → Result A Reason) where
     stops_after front i rest Write h s = absurd s
 
     -- an engine that stops has not written
-    pub stopped : {W : Type 0} (contents : W → Option (List ℕ)) (is : List Input) (w : Counted W) (e : RunFault) → Stops understand Answers is e → RunEnds understand Answers contents is w w (Err e)
+    pub stopped : {W : Type 0} (contents : W → Option (List ℕ)) (is : List Input) (w : Counted W) (e : RunFault) → Stops understand Answers is e
+        → RunEnds understand Answers contents is w w (Err e)
     stopped contents is w (Refused r) h = (refl, h)
     stopped contents is w Read h = (refl, h)
     stopped contents is w Write h = absurd h
@@ -130,25 +139,37 @@ module _ {A : Type 0} (understand : List ℕ → Result A Reason) where
         by (Merge n) b = inr (together (Merge n) b)
 
     -- the text was written, or a prefix of it
-    pub write_ends : {W : Type 0} (contents : W → Option (List ℕ)) (is : List Input) (xs : List A) (w v : Counted W) (text : List ℕ) (result : Result (Unit {0}) RunFault) → Say understand is xs → Answers xs (Ok text) → OnOk result (Appends (contents (inner_of w)) (contents (inner_of v)) text) → IfErr result (λ e. e ≡ Write) → OnErr result (AppendsPrefix (contents (inner_of w)) (contents (inner_of v)) text) → OnErr result (RoseByOne (failed_of w) (failed_of v)) → RunEnds understand Answers contents is w v result
+    pub write_ends : {W : Type 0} (contents : W → Option (List ℕ)) (is : List Input) (xs : List A) (w v : Counted W)
+        (text : List ℕ) (result : Result (Unit {0}) RunFault) → Say understand is xs → Answers xs (Ok text)
+        → OnOk result (Appends (contents (inner_of w)) (contents (inner_of v)) text)
+        → IfErr result (λ e. e ≡ Write) → OnErr result (AppendsPrefix (contents (inner_of w)) (contents (inner_of v)) text)
+        → OnErr result (RoseByOne (failed_of w) (failed_of v)) → RunEnds understand Answers contents is w v result
     write_ends contents is xs w v text (Ok u) h a whole fault prefix rose =
-        (all_understood is xs h, values_have (λ values. (t : List ℕ) × Answers values (Ok t) × Appends (contents (inner_of w)) (contents (inner_of v)) t) is xs h (text, a, whole))
+        (all_understood is xs h,
+        values_have (λ values. (t : List ℕ) × Answers values (Ok t) × Appends (contents (inner_of w)) (contents (inner_of v)) t) is xs h (text, a, whole))
     write_ends contents is xs w v text (Err e) h a whole fault prefix rose =
         subst (λ (d : RunFault). RunEnds understand Answers contents is w v (Err d)) (sym fault)
-        ((all_understood is xs h, values_have (λ values. (t : List ℕ) × Answers values (Ok t) × AppendsPrefix (contents (inner_of w)) (contents (inner_of v)) t) is xs h (text, a, prefix)), rose)
+        ((all_understood is xs h,
+        values_have (λ values. (t : List ℕ) × Answers values (Ok t) × AppendsPrefix (contents (inner_of w)) (contents (inner_of v)) t)
+        is xs h (text, a, prefix)), rose)
 
     -- an engine that ends so succeeds where it should
-    pub ends_succeeds : ((xs : List A) (text : List ℕ) (r : Reason) → Answers xs (Ok text) → Answers xs (Err r) → r ≡ Memory) → {W : Type 0} (contents : W → Option (List ℕ)) (is : List Input) (w v : Counted W) (result : Result (Unit {0}) RunFault) → RunEnds understand Answers contents is w v result → Succeeds understand Answers is w v result
+    pub ends_succeeds : ((xs : List A) (text : List ℕ) (r : Reason) → Answers xs (Ok text) → Answers xs (Err r) → r ≡ Memory)
+        → {W : Type 0} (contents : W → Option (List ℕ)) (is : List Input) (w v : Counted W) (result : Result (Unit {0}) RunFault)
+        → RunEnds understand Answers contents is w v result → Succeeds understand Answers is w v result
     ends_succeeds apart contents is w v result ends = by (values_of understand is) refl
       where
-        refused : (xs : List A) (text : List ℕ) (r : Reason) → values_of understand is ≡ Some xs → Answers xs (Ok text) → (FirstWith understand (IsRefused understand r) is ⊎ RefusedTogether understand Answers r is) → r ≡ Memory
+        refused : (xs : List A) (text : List ℕ) (r : Reason) → values_of understand is ≡ Some xs → Answers xs (Ok text)
+            → (FirstWith understand (IsRefused understand r) is ⊎ RefusedTogether understand Answers r is) → r ≡ Memory
         refused xs text r e a s =
             ⊎_elim
             (λ f. absurd (first_refused r is xs f e))
             (λ t. apart xs text r a (subst (λ o. IfSome o (λ values. Answers values (Err r))) e t.1))
             s
 
-        at : (xs : List A) → values_of understand is ≡ Some xs → (text : List ℕ) → Answers xs (Ok text) → AllQuiet is → failed_of v ≡ failed_of w → failed_of w < last_count → (answer : Result (Unit {0}) RunFault) → RunEnds understand Answers contents is w v answer → IsOkUnless answer (Refused Memory)
+        at : (xs : List A) → values_of understand is ≡ Some xs → (text : List ℕ) → Answers xs (Ok text) → AllQuiet is → failed_of v ≡ failed_of w
+            → failed_of w < last_count → (answer : Result (Unit {0}) RunFault) → RunEnds understand Answers contents is w v answer
+            → IsOkUnless answer (Refused Memory)
         at xs e text a q same low (Ok u) h = tt
         at xs e text a q same low (Err (Refused TooLong)) h = ap Refused (refused xs text TooLong e a h.1)
         at xs e text a q same low (Err (Refused Memory)) h = refl
@@ -160,6 +181,8 @@ module _ {A : Type 0} (understand : List ℕ → Result A Reason) where
         at xs e text a q same low (Err Read) h = absurd (first_failed is h.1 q)
         at xs e text a q same low (Err Write) h = absurd (not_risen (failed_of w) (failed_of v) (omega (arith, h.1)) same low)
 
-        by : (o : Option (List A)) → values_of understand is ≡ o → IfSome o (λ values. (text : List ℕ) → Answers values (Ok text) → AllQuiet is → failed_of v ≡ failed_of w → failed_of w < last_count → IsOkUnless result (Refused Memory))
+        by : (o : Option (List A)) → values_of understand is ≡ o
+            → IfSome o (λ values. (text : List ℕ) → Answers values (Ok text) → AllQuiet is → failed_of v ≡ failed_of w → failed_of w < last_count
+            → IsOkUnless result (Refused Memory))
         by None e = tt
         by (Some xs) e = λ text a q same low. at xs e text a q same low result ends

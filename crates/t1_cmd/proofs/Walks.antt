@@ -1,10 +1,13 @@
 -- Walks over numbers that meet each entry of a map, and over its keys.
-use Rattle.std.proofs.Common.{◌≡◌, ℕ, ◌+◌, ◌≤◌, ◌<◌, Bool, true, false, cond, ◌&&◌, ltb, List, [], ◌∷◌, ◌++◌, length, map, Option, Some, None, is_some, IsSome, refl, sym, ◌∙◌, ap, subst, Ordering, Less, Equal, Greater, is_lt, is_eq, arith, append_assoc, length-append}
+use Rattle.std.proofs.Common.{◌≡◌, ℕ, ◌+◌, ◌≤◌, ◌<◌, Bool, true, false, cond, ◌&&◌, ltb, List, [], ◌∷◌, ◌++◌, length, map, Option, Some, None}
+use Rattle.std.proofs.Common.{is_some, IsSome, refl, sym, ◌∙◌, ap, subst, Ordering, Less, Equal, Greater, is_lt, is_eq, arith, append_assoc}
+use Rattle.std.proofs.Common.{length-append}
 use Rattle.std.specs.List.{filter, flat_map, AllByRecursion}
 use Rattle.std.specs.Ordering.{nat_cmp}
 use Rattle.std.specs.Cmp.{IsTotalOrder, nat_cmp_total, ranked}
 use Rattle.std.specs.Cmp.Lexicographic.{nat_list_cmp_total}
-use Rattle.std.specs.FinMap.{FinMap, get, len, len-entries, contains_key, entries, entries_sorted, find, is_sorted, get-entries, IsAntisymmetric, nat_cmp-IsAntisymmetric, slice_cmp-IsAntisymmetric}
+use Rattle.std.specs.FinMap.{FinMap, get, len, len-entries, contains_key, entries, entries_sorted, find, is_sorted, get-entries, IsAntisymmetric}
+use Rattle.std.specs.FinMap.{nat_cmp-IsAntisymmetric, slice_cmp-IsAntisymmetric}
 use Rattle.std.specs.FinMap.Entries.{below_all}
 use Rattle.std.proofs.lemmas.Bool.{lt-ltb, le-ltb}
 use Rattle.std.proofs.lemmas.List.{append-nil, length-map}
@@ -48,14 +51,18 @@ module _ {X : Type 0} where
       ap (λ t. cond t (e ∷ under n es) (under n es)) not_under ∙ none_under k n es l b.1
 
   -- one step further, by how n and the first key stand
-  under_step : (n : ℕ) (e : ℕ × X) (es : List (ℕ × X)) (s t : Bool) (r : Ordering) → ltb e.0 (n + 1) ≡ s → ltb e.0 n ≡ t → nat_cmp n e.0 ≡ r → cond s (e ∷ under (n + 1) es) (under (n + 1) es) ≡ cond t (e ∷ under n es) (under n es) ++ entry_at n (cond (is_eq r) (Some e.1) (find nat_cmp n es)) → under (n + 1) (e ∷ es) ≡ under n (e ∷ es) ++ entry_at n (find nat_cmp n (e ∷ es))
+  under_step : (n : ℕ) (e : ℕ × X) (es : List (ℕ × X)) (s t : Bool) (r : Ordering) → ltb e.0 (n + 1) ≡ s → ltb e.0 n ≡ t → nat_cmp n e.0 ≡ r
+      → cond s (e ∷ under (n + 1) es) (under (n + 1) es) ≡ cond t (e ∷ under n es) (under n es) ++ entry_at n (cond (is_eq r) (Some e.1) (find nat_cmp n es))
+      → under (n + 1) (e ∷ es) ≡ under n (e ∷ es) ++ entry_at n (find nat_cmp n (e ∷ es))
   under_step n e es s t r p q u m =
       ap (λ b. cond b (e ∷ under (n + 1) es) (under (n + 1) es)) p
       ∙ m
       ∙ (λ i. cond (sym q i) (e ∷ under n es) (under n es) ++ entry_at n (cond (is_eq (sym u i)) (Some e.1) (find nat_cmp n es)))
 
   -- the same behind one more entry, by how n and its key stand
-  under_by : (n : ℕ) (e : ℕ × X) (es : List (ℕ × X)) → below_all nat_cmp e.0 es ≡ true → under (n + 1) es ≡ under n es ++ entry_at n (find nat_cmp n es) → (r : Ordering) → nat_cmp n e.0 ≡ r → under (n + 1) (e ∷ es) ≡ under n (e ∷ es) ++ entry_at n (find nat_cmp n (e ∷ es))
+  under_by : (n : ℕ) (e : ℕ × X) (es : List (ℕ × X)) → below_all nat_cmp e.0 es ≡ true
+      → under (n + 1) es ≡ under n es ++ entry_at n (find nat_cmp n es) → (r : Ordering) → nat_cmp n e.0 ≡ r
+      → under (n + 1) (e ∷ es) ≡ under n (e ∷ es) ++ entry_at n (find nat_cmp n (e ∷ es))
   under_by n e es above rest Less u =
       let l : n < e.0 = ranked n e.0 Less (sym u) in
       under_step n e es false false Less (le-ltb e.0 (n + 1) (omega arith)) (le-ltb e.0 n (omega arith)) u rest
@@ -130,16 +137,20 @@ module _ (m : FinMap nat_cmp (List ℕ)) where
 
 -- a line for each key that is met is a line for each entry
 module _ {K : Type 0} (line : K → List ℕ → List ℕ) where
-  looked_up : (look : K → Option (List ℕ)) (es : List (K × List ℕ)) → AllByRecursion (λ e. look e.0 ≡ Some e.1) es → flat_map (λ k. line_at line k (look k)) (map (λ e. e.0) es) ≡ flat_map (λ e. line e.0 e.1) es
+  looked_up : (look : K → Option (List ℕ)) (es : List (K × List ℕ)) → AllByRecursion (λ e. look e.0 ≡ Some e.1) es
+      → flat_map (λ k. line_at line k (look k)) (map (λ e. e.0) es) ≡ flat_map (λ e. line e.0 e.1) es
   looked_up look [] h = refl
   looked_up look (e ∷ es) h = (λ i. line_at line e.0 (h.0 i) ++ looked_up look es h.1 i)
 
   -- the lines of the keys of a map, each looked up, are the lines of its entries
-  pub keys_looked_up : {R : K → K → Ordering} → IsTotalOrder R → IsAntisymmetric R → (m : FinMap R (List ℕ)) → flat_map (λ k. line_at line k (get m k)) (map (λ e. e.0) (entries m)) ≡ flat_map (λ e. line e.0 e.1) (entries m)
+  pub keys_looked_up : {R : K → K → Ordering} → IsTotalOrder R → IsAntisymmetric R → (m : FinMap R (List ℕ))
+      → flat_map (λ k. line_at line k (get m k)) (map (λ e. e.0) (entries m)) ≡ flat_map (λ e. line e.0 e.1) (entries m)
   keys_looked_up o same m = looked_up (get m) (entries m) (entries_all o same (λ k v. get m k ≡ Some v) m (λ k v e. e))
 
 -- the lines of all names, once none are left
-pub names_all : (m : Named) (start out : List ℕ) (left : List (List ℕ)) → left ≡ [] → out ++ flat_map (λ name. line_at glyph_line name (get m name)) left ≡ start ++ flat_map (λ name. line_at glyph_line name (get m name)) (names_in m) → out ≡ start ++ flat_map (λ e. glyph_line e.0 e.1) (entries m)
+pub names_all : (m : Named) (start out : List ℕ) (left : List (List ℕ)) → left ≡ []
+    → out ++ flat_map (λ name. line_at glyph_line name (get m name)) left ≡ start ++ flat_map (λ name. line_at glyph_line name (get m name)) (names_in m)
+    → out ≡ start ++ flat_map (λ e. glyph_line e.0 e.1) (entries m)
 names_all m start out left done h =
     sym (append-nil out)
     ∙ sym (ap (λ (ns : List (List ℕ)). out ++ flat_map (λ name. line_at glyph_line name (get m name)) ns) done)
@@ -162,7 +173,8 @@ count_none m = ap length (entries_none m)
 
 -- one index more counts if its Subr is present
 pub count_more : (m : Numbered) (n : ℕ) → count_under (n + 1) m ≡ count_under n m + cond (contains_key m n) 1 0
-count_more m n = ap length (entries_more m n) ∙ length-append (under n (entries m)) (entry_at n (get m n)) ∙ ap (λ k. count_under n m + k) (length_entry n (get m n))
+count_more m n =
+    ap length (entries_more m n) ∙ length-append (under n (entries m)) (entry_at n (get m n)) ∙ ap (λ k. count_under n m + k) (length_entry n (get m n))
 
 -- each Subr is below the declared count
 declared : (f : FontValue) → IsFont f → (n : ℕ) → declared_count f.shell.subrs ≤ n → (k : ℕ) (v : List ℕ) → get f.subrs k ≡ Some v → k < n
@@ -176,11 +188,13 @@ pub count_all : (f : FontValue) → IsFont f → (n : ℕ) → declared_count f.
 count_all f is n l = ap length (entries_under f.subrs n (declared f is n l)) ∙ sym (len-entries f.subrs)
 
 -- the lines of one index more
-pub subrs_more : (f : FontValue) → IsFont f → (n : ℕ) → lines_under f.subrs subr_line (n + 1) ≡ lines_under f.subrs subr_line n ++ line_at subr_line n (subr_at f n)
+pub subrs_more : (f : FontValue) → IsFont f → (n : ℕ)
+    → lines_under f.subrs subr_line (n + 1) ≡ lines_under f.subrs subr_line n ++ line_at subr_line n (subr_at f n)
 subrs_more f is n = lines_more f.subrs subr_line n ∙ ap (λ o. lines_under f.subrs subr_line n ++ line_at subr_line n o) (sym (subrs_seen f is n))
 
 -- at the declared count all Subrs have their lines
-pub subrs_all : (f : FontValue) → IsFont f → (n : ℕ) → declared_count f.shell.subrs ≤ n → lines_under f.subrs subr_line n ≡ flat_map (λ e. subr_line e.0 e.1) (entries f.subrs)
+pub subrs_all : (f : FontValue) → IsFont f → (n : ℕ) → declared_count f.shell.subrs ≤ n
+    → lines_under f.subrs subr_line n ≡ flat_map (λ e. subr_line e.0 e.1) (entries f.subrs)
 subrs_all f is n l = lines_all f.subrs subr_line n (declared f is n l)
 
 -- ---- the codes of a table

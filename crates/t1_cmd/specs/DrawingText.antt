@@ -55,7 +55,8 @@ part_lines part = line (codes "part") (part.0.x ∷ part.0.y ∷ []) ++ flat_map
 
 -- a glyph: its width, its side bearing, and its parts
 abbrev pub drawn_lines : (width bearing : Point) → List (Point × List Mark) → List ℕ
-drawn_lines width bearing parts = line (codes "width") (width.x ∷ width.y ∷ []) ++ line (codes "bearing") (bearing.x ∷ bearing.y ∷ []) ++ flat_map part_lines parts
+drawn_lines width bearing parts =
+    line (codes "width") (width.x ∷ width.y ∷ []) ++ line (codes "bearing") (bearing.x ∷ bearing.y ∷ []) ++ flat_map part_lines parts
 
 -- the line of a drawing's fault
 abbrev pub fault_line : DrawFault → List ℕ

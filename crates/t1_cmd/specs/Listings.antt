@@ -10,10 +10,10 @@ use Rattle.t1_join.specs.ListingJoin.{IsJoined, IsJoinFault}
 use Rattle.t1_cmd.specs.declared.faults.Reason.{Reason}
 use Rattle.t1_cmd.specs.declared.faults.Reason.TheVariants.{Memory, List as ListReason, Join as JoinReason}
 use Rattle.t1_cmd.specs.declared.faults.RunFault.{RunFault}
-use Rattle.t1_cmd.specs.declared.faults.RunFault.TheVariants.{Refused, Read, Write}
+use Rattle.t1_cmd.specs.declared.faults.RunFault.TheVariants.{Refused}
 use Rattle.t1_cmd.specs.Inputs.{Input}
 use Rattle.t1_cmd.specs.Runs.{InputStops}
-use Rattle.t1_cmd.specs.Answers.{with_reason, within_limit}
+use Rattle.t1_cmd.specs.Answers.{with_reason, within_limit, Refuses}
 
 -- a fault of a listing as a reason
 abbrev pub list_reason : ListFault → Reason
@@ -27,10 +27,6 @@ join_reason JoinMemory = Memory
 join_reason (Subr i) = JoinReason (Subr i)
 join_reason (Glyph n) = JoinReason (Glyph n)
 
--- the bytes of an input, within the limit
-abbrev pub text_input : List ℕ → Result (List ℕ) Reason
-text_input = within_limit Ok
-
 -- the listing that a text spells
 abbrev pub listed : List ℕ → Result ListingMeaning Reason
 listed text = with_reason list_reason (listing_of text)
@@ -38,13 +34,6 @@ listed text = with_reason list_reason (listing_of text)
 -- the listing that an input spells, within the limit
 abbrev pub listing_input : List ℕ → Result ListingMeaning Reason
 listing_input = within_limit listed
-
--- what may be answered in place of the listing of a text
-abbrev pub ListRefusal : List ℕ → RunFault → Type 0
-ListRefusal text (Refused Memory) = Unit {0}
-ListRefusal text (Refused r) = listed text ≡ Err r
-ListRefusal text Read = ⊥
-ListRefusal text Write = ⊥
 
 -- two listings are answered with the text of their join, or with their lowest conflict
 abbrev pub JoinsTo : List ListingMeaning → Result (List ℕ) Reason → Type 0
@@ -58,7 +47,8 @@ JoinsRead i left text = (right : ListingMeaning) × IfSome i.known (λ bytes. li
 
 -- both are refused together
 abbrev pub RefusedWith : Input → ListingMeaning → RunFault → Type 0
-RefusedWith i left e = (right : ListingMeaning) × IfSome i.known (λ bytes. listing_input bytes ≡ Ok right) × (r : Reason) × JoinsTo (left ∷ right ∷ []) (Err r) × (e ≡ Refused r)
+RefusedWith i left (Refused r) = (right : ListingMeaning) × IfSome i.known (λ bytes. listing_input bytes ≡ Ok right) × Refuses (JoinsTo (left ∷ right ∷ [])) r
+RefusedWith i left other = ⊥
 
 -- why it is not answered: the input stops, or both are refused together
 abbrev pub StopsRead : Input → ListingMeaning → RunFault → Type 0

@@ -61,12 +61,14 @@ module _ {A : Type 0} (understand : List ℕ → Result A Reason) where
 
     -- all inputs are understood, and the text that answers them was taken
     abbrev pub Takes : (List ℕ → Type 0) → List Input → Type 0
-    Takes Took inputs = AllUnderstood understand inputs × IfSome (values_of understand inputs) (λ values. (text : List ℕ) × Answers values (Ok text) × Took text)
+    Takes Took inputs = AllUnderstood understand inputs
+        × IfSome (values_of understand inputs) (λ values. (text : List ℕ) × Answers values (Ok text) × Took text)
 
     -- how an engine ends: the whole answer is written; a prefix of it, where the writer failed, once; else nothing
     abbrev pub RunEnds : {W : Type 0} → (W → Option (List ℕ)) → List Input → Counted W → Counted W → Result (Unit {0}) RunFault → Type 0
     RunEnds contents inputs w v (Ok u) = Takes (Appends (contents (inner_of w)) (contents (inner_of v))) inputs
-    RunEnds contents inputs w v (Err Write) = Takes (AppendsPrefix (contents (inner_of w)) (contents (inner_of v))) inputs × RoseByOne (failed_of w) (failed_of v)
+    RunEnds contents inputs w v (Err Write) =
+        Takes (AppendsPrefix (contents (inner_of w)) (contents (inner_of v))) inputs × RoseByOne (failed_of w) (failed_of v)
     RunEnds contents inputs w v (Err e) = (v ≡ w) × Stops inputs e
 
     -- where the inputs have a text for an answer and no call failed, it is written, unless memory is refused

@@ -1,4 +1,4 @@
--- What the engine that merges fonts writes where its inputs are the written subsets of one font.
+-- What fonts merge to where their files, or the inputs of an engine, are the written subsets of one font.
 use Rattle.std.specs.Prelude.{◌≡◌, ℕ, List, [], ◌∷◌, ◌⊎◌, Option, Some, Result, Ok, Err}
 use Rattle.std.specs.Io.KnownBytes.{Appends}
 use Rattle.t1_bytes.specs.declared.form.Form.{Form}
@@ -18,6 +18,26 @@ use Rattle.t1_cmd.specs.declared.faults.RunFault.TheVariants.{Refused, Read, Wri
 use Rattle.t1_cmd.specs.Count.{inner_of, failed_of}
 use Rattle.t1_cmd.specs.Inputs.{Input, RoseByOne, HasFailed}
 use Rattle.t1_cmd.specs.Runs.{AppendsPrefix}
+
+-- ---- files
+
+-- the file is the subset of f over these names, written in some form in which it can be read
+abbrev pub IsSubsetFile : FontValue → Names → List ℕ → Type 0
+IsSubsetFile f a file = IsOf f a × ((form : Form) × Fits form f × (file ≡ canon (subset profile f a) form))
+
+-- the files are the written subsets of f over these sets of names, one for one
+abbrev pub AreSubsetFiles : FontValue → List Names → List (List ℕ) → Type 0
+AreSubsetFiles f [] [] = Unit {0}
+AreSubsetFiles f [] (file ∷ files) = ⊥
+AreSubsetFiles f (a ∷ more) [] = ⊥
+AreSubsetFiles f (a ∷ more) (file ∷ files) = IsSubsetFile f a file × AreSubsetFiles f more files
+
+-- Of the written subsets of one font, one or more, this holds of the canonical file of the subset over all the names.
+abbrev pub OfUnion : Form → List (List ℕ) → (List ℕ → Type 0) → Type 0
+OfUnion form files P = (f : FontValue) → IsFont f → (a : Names) (more : List Names) → AreSubsetFiles f (a ∷ more) files →
+    P (canon (subset profile f (union_all (a ∷ more))) form)
+
+-- ---- inputs
 
 -- the input's bytes are the subset of f over these names, written in some form in which it can be read
 abbrev pub IsSubset : FontValue → Names → Input → Type 0

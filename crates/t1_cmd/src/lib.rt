@@ -3,8 +3,8 @@
 //! Each engine reads whole inputs, makes its whole result, and writes it last. What is written is a stated function
 //! of the bytes that were read; after a refusal, or if a reader failed, nothing is written.
 //!
-//! Below the engines over fonts stand calls over files in memory, which answer the same texts: [`check_file`], [`list_file`],
-//! [`show_file`], [`convert_file`], [`subset_file`], [`merge_files`] and [`rejoin_files`].
+//! Beside the engines stand calls over files in memory, which answer the same texts: [`check_file`], [`list_file`],
+//! [`show_file`], [`convert_file`], [`subset_file`], [`merge_files`], [`rejoin_files`] and [`join_listings`].
 //!
 //! ```text
 //! let mut text = Vec::new(alloc);
@@ -37,7 +37,7 @@ pub use counting::Counted;
 pub use faults::{FilesRefusal, Name, Reason, RunFault, status};
 pub use fonts::{check_file, convert_file, run_check, run_convert};
 pub use list::{list_file, run_list};
-pub use listings::run_join;
+pub use listings::{join_listings, run_join};
 pub use mergers::{merge_files, run_merge};
 pub use reading::read_all;
 pub use rejoins::{rejoin_files, run_rejoin};

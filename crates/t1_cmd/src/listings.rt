@@ -1,45 +1,102 @@
-//! The engine that joins two listings.
+//! The join of two listings.
 ghost use Rattle.std.specs.Prelude.{◌≡◌, ◌+◌, ◌≤◌, [], ◌∷◌, Ok, IfOk, IfErr, IfSome};
-ghost use Rattle.t1_join.specs.ListingJoin.{IsJoined, IsJoinFault};
-ghost use Rattle.t1_join.specs.ListingText.{text_of};
 ghost use Rattle.t1_cmd.specs.Count.{calls_of, inner_of};
 ghost use Rattle.t1_cmd.specs.Inputs.{input_of};
 ghost use Rattle.t1_bytes.specs.Limits.{file_limit};
+ghost use Rattle.t1_cmd.specs.Answers.{Refuses};
+ghost use Rattle.t1_cmd.specs.Files.{IsRefusalAt, OfFiles, RefusesFiles};
 ghost use Rattle.t1_cmd.specs.Runs.{InputStops, RunEnds, Succeeds};
-ghost use Rattle.t1_cmd.specs.Listings.{list_reason, join_reason, text_input, listed, listing_input, ListRefusal, JoinsTo, JoinsRead, StopsRead};
+ghost use Rattle.t1_cmd.specs.Listings.{list_reason, join_reason, listing_input, JoinsTo, JoinsRead, StopsRead};
 
 use crate::counting::Counted;
-use crate::faults::{Reason, RunFault};
+use crate::faults::{FilesRefusal, Reason, RunFault};
 use crate::reading::read_all;
+use crate::several::refused_at;
 use crate::writing::write_text;
 use std::alloc::Global;
 use std::io::{Read, Write};
 use t1_bytes::FILE_LIMIT;
 use t1_join::{JoinFault, ListFault, Listing, listing, write_joined};
 
-fn refused_list(fault: ListFault) -> RunFault
-    ensures { result ≡ RunFault.Refused (list_reason fault) }
+fn list_reason(fault: ListFault) -> Reason
+    ensures { result ≡ list_reason fault }
 {
     match fault {
-        ListFault::Memory => RunFault::Refused(Reason::Memory),
-        other => RunFault::Refused(Reason::List(other)),
+        ListFault::Memory => Reason::Memory,
+        other => Reason::List(other),
     }
 }
 
-fn refused_join(fault: JoinFault) -> RunFault
-    ensures { result ≡ RunFault.Refused (join_reason fault) }
+fn join_reason(fault: JoinFault) -> Reason
+    ensures { result ≡ join_reason fault }
 {
     match fault {
-        JoinFault::Memory => RunFault::Refused(Reason::Memory),
-        other => RunFault::Refused(Reason::Join(other)),
+        JoinFault::Memory => Reason::Memory,
+        other => Reason::Join(other),
+    }
+}
+
+// The listing that a text spells.
+fn listing_in(alloc: Global, text: &[u8]) -> Result<Listing<'_>, Reason>
+    ensures listing { IfOk result (λ l. listing_input text.now ≡ Ok l) }
+    ensures refused { IfErr result (Refuses (λ a. a ≡ listing_input text.now)) }
+{
+    if text.len() > FILE_LIMIT {
+        return Err(Reason::TooLong);
+    }
+    listing::read(alloc, text).map_err(list_reason)
+}
+
+// The text of the join of two listings.
+fn joined_text(alloc: Global, left: &Listing<'_>, right: &Listing<'_>) -> Result<Vec<u8>, Reason>
+    ensures text { IfOk result (λ text. JoinsTo (left.now ∷ right.now ∷ []) (Ok text.items)) }
+    ensures refused { IfErr result (Refuses (JoinsTo (left.now ∷ right.now ∷ []))) }
+{
+    match write_joined(alloc, left, right) {
+        Ok(text) => Ok(text),
+        Err(fault) => Err(join_reason(fault)),
+    }
+}
+
+// The listing that the text at a place spells.
+fn listing_at(alloc: Global, place: usize, text: &[u8]) -> Result<Listing<'_>, FilesRefusal>
+    ensures listing { IfOk result (λ l. listing_input text.now ≡ Ok l) }
+    ensures refused { IfErr result (λ e. (reason : Reason)
+        × Refuses (λ a. a ≡ listing_input text.now) reason × IsRefusalAt place reason e) }
+{
+    match listing_in(alloc, text) {
+        Ok(listing) => Ok(listing),
+        Err(reason) => Err(refused_at(place, reason)),
+    }
+}
+
+/// The text of the join of the listings that two texts spell, as [`run_join`] writes it.
+///
+/// # Errors
+///
+/// [`Reason::TooLong`] or [`Reason::List`] with the place of the first text that spells no listing; else [`Reason::Join`] if the
+/// listings don't join. [`Reason::Memory`] if a growth was refused.
+pub fn join_listings(alloc: Global, first: &[u8], second: &[u8]) -> Result<Vec<u8>, FilesRefusal>
+    ensures text { IfOk result
+        (λ text. OfFiles listing_input JoinsTo (first.now ∷ second.now ∷ []) (Ok text.items)) }
+    ensures refused { IfErr result
+        (RefusesFiles listing_input JoinsTo (first.now ∷ second.now ∷ [])) }
+{
+    let left = listing_at(alloc, 0, first)?;
+    let right = listing_at(alloc, 1, second)?;
+    match joined_text(alloc, &left, &right) {
+        Ok(text) => Ok(text),
+        Err(reason) => Err(FilesRefusal {
+            place: None,
+            reason,
+        }),
     }
 }
 
 // The whole text of a reader.
 fn read_text<R: Read>(alloc: Global, reader: &mut Counted<R>) -> Result<Vec<u8>, RunFault>
     ensures text { IfOk result
-        (λ v. IfSome (R.remaining (inner_of reader.old)) (λ bytes. text_input bytes
-        ≡ Ok v.items)) }
+        (λ text. IfSome (R.remaining (inner_of reader.old)) (λ bytes. text.items ≡ bytes)) }
     ensures refused { IfErr result
         (InputStops listing_input (input_of R.remaining reader.old reader.new)) }
     ensures turns { calls_of reader.new ≤ calls_of reader.old + (file_limit + 1) }
@@ -47,27 +104,7 @@ fn read_text<R: Read>(alloc: Global, reader: &mut Counted<R>) -> Result<Vec<u8>,
     read_all(alloc, reader, FILE_LIMIT)
 }
 
-// The listing that a text spells.
-fn listed(alloc: Global, text: &[u8]) -> Result<Listing<'_>, RunFault>
-    ensures listing { IfOk result (λ l. listed text.now ≡ Ok l) }
-    ensures refused { IfErr result (ListRefusal text.now) }
-{
-    listing::read(alloc, text).map_err(refused_list)
-}
-
-// The text of the join of two listings.
-fn joined_text(alloc: Global, left: &Listing<'_>, right: &Listing<'_>) -> Result<Vec<u8>, RunFault>
-    ensures text { IfOk result (λ text. JoinsTo (left.now ∷ right.now ∷ []) (Ok text.items)) }
-    ensures refused { IfErr result (λ e. (fault : JoinFault)
-        × (IsJoinFault left.now right.now fault × (e ≡ RunFault.Refused (join_reason fault)))) }
-{
-    match write_joined(alloc, left, right) {
-        Ok(text) => Ok(text),
-        Err(fault) => Err(refused_join(fault)),
-    }
-}
-
-// The text of the join of a listing and a reader's listing.
+// The text of the join of a listing and of that of a reader.
 fn joined_with<S: Read>(
     alloc: Global,
     left: &Listing<'_>,
@@ -80,8 +117,14 @@ fn joined_with<S: Read>(
     ensures turns { calls_of second.new ≤ calls_of second.old + (file_limit + 1) }
 {
     let text = read_text(alloc, second)?;
-    let right = listed(alloc, text.as_slice())?;
-    joined_text(alloc, left, &right)
+    let right = match listing_in(alloc, text.as_slice()) {
+        Ok(right) => right,
+        Err(reason) => return Err(RunFault::Refused(reason)),
+    };
+    match joined_text(alloc, left, &right) {
+        Ok(text) => Ok(text),
+        Err(reason) => Err(RunFault::Refused(reason)),
+    }
 }
 
 /// Writes the text of the join of two listings.
@@ -104,7 +147,10 @@ pub fn run_join<R: Read, S: Read, W: Write>(
     ensures second_turns { calls_of second.new ≤ calls_of second.old + (file_limit + 1) }
 {
     let text = read_text(alloc, first)?;
-    let left = listed(alloc, text.as_slice())?;
+    let left = match listing_in(alloc, text.as_slice()) {
+        Ok(left) => left,
+        Err(reason) => return Err(RunFault::Refused(reason)),
+    };
     let both = match joined_with(alloc, &left, second) {
         Ok(both) => both,
         Err(fault) => return Err(fault),

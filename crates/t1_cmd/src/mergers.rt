@@ -1,5 +1,5 @@
 //! The engine that merges fonts.
-ghost use Rattle.std.specs.Prelude.{◌≡◌, ◌++◌, ◌∷◌, [], Ok, OnOk, IfOk, IfErr};
+ghost use Rattle.std.specs.Prelude.{◌≡◌, ◌++◌, ◌∷◌, [], None, Ok, OnOk, IfOk, IfErr, MatchResult};
 ghost use Rattle.t1_algebra.specs.Merges.{ComesTo};
 ghost use Rattle.t1_cmd.specs.Fonts.{font_input};
 ghost use Rattle.t1_subset.specs.NameSets.{lent};
@@ -7,7 +7,7 @@ ghost use Rattle.t1_cmd.specs.Answers.{Refuses};
 ghost use Rattle.t1_cmd.specs.Files.{OfFiles, RefusesFiles};
 ghost use Rattle.t1_cmd.specs.Runs.{RunEnds, Succeeds};
 ghost use Rattle.t1_cmd.specs.Mergers.{inputs_of, InTurns, MergesTo};
-ghost use Rattle.t1_cmd.specs.WrittenSubsets.{WritesUnion};
+ghost use Rattle.t1_cmd.specs.WrittenSubsets.{OfUnion, WritesUnion};
 
 use crate::counting::Counted;
 use crate::faults::{FilesRefusal, Reason, RunFault};
@@ -77,15 +77,17 @@ impl FontsWord for Merge {
 }
 
 /// The canonical file, in one of the two forms, of the font that the fonts of files come to when they are merged from left to
-/// right, as [`run_merge`] writes it.
+/// right, as [`run_merge`] writes it. For written subsets of one font this is the subset of all their names.
 ///
 /// # Errors
 ///
 /// [`Reason::TooLong`] or [`Reason::Font`] with the place of the first file that spells no font; else [`Reason::Merge`] if the
 /// fonts don't merge, or if there is none. [`Reason::Memory`] if a growth was refused.
 pub fn merge_files(alloc: Global, files: &[&[u8]], form: Form) -> Result<Vec<u8>, FilesRefusal>
-    ensures text { IfOk result (λ text. OfFiles (MergesTo form) (lent files.now) (Ok text.items)) }
-    ensures refused { IfErr result (RefusesFiles (MergesTo form) (lent files.now)) }
+    ensures text { IfOk result (λ text. OfFiles font_input (MergesTo form) (lent files.now) (Ok text.items)) }
+    ensures refused { IfErr result (RefusesFiles font_input (MergesTo form) (lent files.now)) }
+    ensures subsets { OfUnion form (lent files.now) (λ union. MatchResult result
+        (λ text. text.items ≡ union) (λ e. (e.place ≡ None) × (e.reason ≡ Reason.Memory))) }
 {
     text_of_files(alloc, &Merge { form }, files)
 }

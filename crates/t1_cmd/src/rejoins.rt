@@ -85,8 +85,8 @@ impl FontsWord for Rejoin {
 /// fonts, made even, don't merge, if one of them is then too heavy, or if there is none. [`Reason::Memory`] if a growth was
 /// refused.
 pub fn rejoin_files(alloc: Global, files: &[&[u8]], form: Form) -> Result<Vec<u8>, FilesRefusal>
-    ensures text { IfOk result (λ text. OfFiles (RejoinsTo form) (lent files.now) (Ok text.items)) }
-    ensures refused { IfErr result (RefusesFiles (RejoinsTo form) (lent files.now)) }
+    ensures text { IfOk result (λ text. OfFiles font_input (RejoinsTo form) (lent files.now) (Ok text.items)) }
+    ensures refused { IfErr result (RefusesFiles font_input (RejoinsTo form) (lent files.now)) }
 {
     text_of_files(alloc, &Rejoin { form }, files)
 }

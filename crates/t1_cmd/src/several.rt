@@ -4,7 +4,7 @@ ghost use Rattle.t1_font.specs.FontValue.{FontValue};
 ghost use Rattle.t1_subset.specs.NameSets.{lent};
 ghost use Rattle.t1_cmd.specs.declared.faults.Reason.{Reason};
 ghost use Rattle.t1_cmd.specs.Answers.{Refuses};
-ghost use Rattle.t1_cmd.specs.Files.{fonts_from, IsUnread, IsRefusalAt, OfFiles, RefusesFiles};
+ghost use Rattle.t1_cmd.specs.Files.{values_from, IsUnread, IsRefusalAt, OfFiles, RefusesFiles};
 ghost use Rattle.t1_cmd.specs.Fonts.{font_input};
 ghost use Rattle.t1_cmd.specs.Inputs.{Say};
 ghost use Rattle.t1_cmd.specs.Mergers.{inputs_of, InTurns, InputsStop};
@@ -47,8 +47,8 @@ fn source_in(alloc: Global, file: &[u8]) -> Result<Source, Reason>
     source_of(alloc, file)
 }
 
-// The refusal of the file at a place. Want of memory is no fault of the file.
-fn refused_at(place: usize, reason: Reason) -> FilesRefusal
+/// The refusal of the file at a place. Want of memory is no fault of the file.
+pub(crate) fn refused_at(place: usize, reason: Reason) -> FilesRefusal
     ensures { IsRefusalAt place reason result }
 {
     match reason {
@@ -65,8 +65,8 @@ fn refused_at(place: usize, reason: Reason) -> FilesRefusal
 
 // The sources of the fonts that files spell, one after the other.
 fn sources_of(alloc: Global, files: &[&[u8]]) -> Result<Vec<Source>, FilesRefusal>
-    ensures sources { IfOk result (λ sources. fonts_from 0 (lent files.now) ≡ Ok sources.items) }
-    ensures refused { IfErr result (λ e. IsUnread (lent files.now) e.place e.reason) }
+    ensures sources { IfOk result (λ sources. values_from font_input 0 (lent files.now) ≡ Ok sources.items) }
+    ensures refused { IfErr result (λ e. IsUnread font_input (lent files.now) e.place e.reason) }
 {
     let mut sources = Vec::new(alloc);
     'files: for place in 0..files.len() {
@@ -88,8 +88,8 @@ pub(crate) fn text_of_files<T: FontsWord>(
     files: &[&[u8]],
 ) -> Result<Vec<u8>, FilesRefusal>
     ensures text { IfOk result
-        (λ text. OfFiles (T.Answers word.now) (lent files.now) (Ok text.items)) }
-    ensures refused { IfErr result (RefusesFiles (T.Answers word.now) (lent files.now)) }
+        (λ text. OfFiles font_input (T.Answers word.now) (lent files.now) (Ok text.items)) }
+    ensures refused { IfErr result (RefusesFiles font_input (T.Answers word.now) (lent files.now)) }
 {
     let sources = match sources_of(alloc, files) {
         Ok(sources) => sources,

@@ -11,7 +11,11 @@ mod refusals;
 mod rejoins;
 mod subsets;
 
-use crate::{Counted, Name, Reason, RunFault, read_all, run_join, status, write_fault};
+use crate::{
+    Counted, FilesRefusal, Name, Reason, RunFault, join_listings, read_all, run_join, status,
+    write_fault,
+};
+use engines::line_of_reason;
 use std::alloc::Global;
 use std::io;
 use std::io::{ErrorKind, Read, Write};
@@ -205,8 +209,24 @@ fn line_of(alloc: Global, ended: &Result<(), RunFault>) -> Vec<u8> {
     line
 }
 
-/// Whether of two texts in memory this is written, and this is the line of the refusal.
+/// The text of the join of two texts, or else the line of its refusal.
+fn joined_or_line(alloc: Global, left: &[u8], right: &[u8]) -> Vec<u8> {
+    match join_listings(alloc, left, right) {
+        Ok(text) => text,
+        Err(FilesRefusal { reason, .. }) => line_of_reason(alloc, reason),
+    }
+}
+
+/// Whether of two texts in memory this is written, and this is the line of the refusal; and the call over texts answers
+/// the same.
 fn joins(alloc: Global, left: &[u8], right: &[u8], text: &[u8], line: &[u8]) -> bool {
+    let made = joined_or_line(alloc, left, right);
+    let is_made = made.as_slice() == if line.is_empty() { text } else { line };
+    is_made && is_joined(alloc, left, right, text, line)
+}
+
+/// Whether of two texts in memory this is written, and this is the line of the refusal.
+fn is_joined(alloc: Global, left: &[u8], right: &[u8], text: &[u8], line: &[u8]) -> bool {
     let mut out = Vec::new(alloc);
     let ended = run_join(
         alloc,
@@ -256,10 +276,28 @@ const JOINS: &[(&[u8], &[u8], &[u8], &[u8])] = &[
 // meets run_join Repeated at 2 lines
 // meets run_join Subr at 1, 2 lines
 // meets run_join Glyph at 1 lines
+// like run_join: join_listings
 #[test]
 fn joins_listings(rt: HostRuntime) {
     for &(left, right, text, line) in JOINS {
         assert!(rt; joins(rt.alloc(), left, right, text, line));
+    }
+}
+
+/// Two texts, and the place of the one that is refused for itself.
+const PLACES: &[(&[u8], &[u8], Option<usize>)] = &[
+    (b"S 5", b"S 5 0b\n", Some(0)),
+    (b"S 5 0b\n", b"S 5", Some(1)),
+    (b"S 5", b"S 5", Some(0)),
+    (b"S 5 0b\n", b"S 5 0b\nS 5 0b\n", Some(1)),
+    (b"S 5 0b\n", b"S 5 0c\n", None),
+];
+
+#[test]
+fn places_of_refused_listings(rt: HostRuntime) {
+    for &(left, right, place) in PLACES {
+        let refusal = join_listings(rt.alloc(), left, right).err();
+        assert!(rt; refusal.is_some_and(|refusal| refusal.place == place));
     }
 }
 

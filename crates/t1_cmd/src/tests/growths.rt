@@ -5,7 +5,8 @@ use super::engines::{Engine, made, run};
 use super::lists::{List, made_of};
 use super::{LEFT, RIGHT};
 use crate::{
-    Counted, FilesRefusal, Reason, RunFault, read_all, run_join, run_merge, run_rejoin, write_fault,
+    Counted, FilesRefusal, Reason, RunFault, join_listings, read_all, run_join, run_merge,
+    run_rejoin, write_fault,
 };
 use std::alloc::{AllocError, Global};
 use std::test::Fail;
@@ -110,6 +111,28 @@ fn joins(alloc: Global, left: &[u8], right: &[u8], want: &[u8]) -> Result<bool, 
     Ok(written(out, ended)?.is_some_and(|text| text.as_slice() == want))
 }
 
+/// Whether the call over two listings answers this.
+fn joins_texts(
+    alloc: Global,
+    left: &[u8],
+    right: &[u8],
+    want: &[u8],
+) -> Result<bool, AllocError> {
+    match join_listings(alloc, left, right) {
+        Ok(text) => Ok(text.as_slice() == want),
+        Err(
+            FilesRefusal {
+                place: None,
+                reason: Reason::Memory,
+            },
+        ) => Err(AllocError),
+        Err(refusal) => {
+            drop(refusal);
+            Ok(false)
+        }
+    }
+}
+
 /// Whether a file is read whole.
 fn reads(alloc: Global) -> Result<bool, AllocError> {
     match read_all(alloc, &mut Counted::new(PFA.as_slice()), PFA.len()) {
@@ -197,7 +220,9 @@ fn write_right(alloc: Global) -> Result<bool, AllocError> {
     let lists = makes_of_both(alloc, List::Merge(Form::Pfa))?
         && makes_of_both(alloc, List::Rejoin(Form::Pfa))?;
     let fonts = engines_write(alloc)? && subsets(alloc)? && merges(alloc)? && rejoins(alloc)?;
-    Ok(lists && fonts && joins(alloc, LEFT, RIGHT, LISTED)? && reads(alloc)? && tells(alloc)?)
+    let texts =
+        joins(alloc, LEFT, RIGHT, LISTED)? && joins_texts(alloc, LEFT, RIGHT, LISTED)?;
+    Ok(lists && fonts && texts && reads(alloc)? && tells(alloc)?)
 }
 
 #[test]

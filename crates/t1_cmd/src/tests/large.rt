@@ -132,6 +132,7 @@ fn listings_join(alloc: Global, count: u32) -> Result<bool, AllocError> {
 // meets run_join Repeated at 65536 lines
 // meets run_join BadLine at 65536 lines
 // meets run_join Subr at 65535 lines
+// like run_join: join_listings
 #[test]
 fn as_many_subrs_as_a_listing_can_have(rt: HostRuntime) -> Result<(), Fail> {
     assert!(rt; listings_join(rt.alloc(), 65_535)?);

@@ -4,7 +4,9 @@ use super::changed::file_of;
 use super::engines::{ENGINES, answers, made, run};
 use super::lists::{LISTS, listed, made_of, refused_place, run_list_of};
 use super::word;
-use crate::{Counted, FILE_LIMIT, FilesRefusal, Reason, RunFault, read_all, run_join};
+use crate::{
+    Counted, FILE_LIMIT, FilesRefusal, Reason, RunFault, join_listings, read_all, run_join,
+};
 use std::alloc::{AllocError, Global};
 use std::io;
 use std::io::Read;
@@ -100,7 +102,8 @@ fn third_is_refused(alloc: Global, file: &[u8], line: &[u8]) -> bool {
 // meets run_check NoClosefile
 // meets run_check NoNotdef
 // meets run_check Limit
-// like run_check: run_list, run_show, run_convert, run_subset, run_merge, run_rejoin, check_file, list_file, show_file, convert_file, subset_file, merge_files, rejoin_files
+// like run_check: run_list, run_show, run_convert, run_subset, run_merge, run_rejoin
+// like run_check: check_file, list_file, show_file, convert_file, subset_file, merge_files, rejoin_files
 #[test]
 fn each_fault_by_each_engine(rt: HostRuntime) -> Result<(), Fail> {
     for &(file, line) in CLEAR {
@@ -189,6 +192,25 @@ fn is_too_long_a_file(alloc: Global, file: &[u8]) -> bool {
     true
 }
 
+/// Whether a text is too long for the call over two texts, at either place.
+fn is_too_long_a_listing(alloc: Global, text: &[u8]) -> bool {
+    let first = join_listings(alloc, text, b"");
+    let second = join_listings(alloc, b"", text);
+    matches!(
+        first,
+        Err(FilesRefusal {
+            place: Some(0),
+            reason: Reason::TooLong
+        })
+    ) && matches!(
+        second,
+        Err(FilesRefusal {
+            place: Some(1),
+            reason: Reason::TooLong
+        })
+    )
+}
+
 /// How many bytes of so many zeros are read, if they are not too long.
 fn read_zeros(alloc: Global, count: usize) -> Option<usize> {
     match read_all(alloc, &mut Counted::new(Zeros { left: count }), FILE_LIMIT) {
@@ -218,8 +240,10 @@ fn joined_zeros(alloc: Global, left: usize, right: usize) -> &'static str {
 // meets read_all Ok at 268435456 bytes
 // meets read_all TooLong at 268435457 bytes
 // meets run_join TooLong at 268435457 bytes
+// like run_join: join_listings
 // meets run_check TooLong at 268435457 bytes
-// like run_check: run_list, run_show, run_convert, run_subset, run_merge, run_rejoin, check_file, list_file, show_file, convert_file, subset_file, merge_files, rejoin_files
+// like run_check: run_list, run_show, run_convert, run_subset, run_merge, run_rejoin
+// like run_check: check_file, list_file, show_file, convert_file, subset_file, merge_files, rejoin_files
 #[test]
 fn files_over_the_limit(rt: HostRuntime) -> Result<(), Fail> {
     // FILE_LIMIT is 268435456.
@@ -230,6 +254,7 @@ fn files_over_the_limit(rt: HostRuntime) -> Result<(), Fail> {
     let mut zeros = Counted::new(Zeros { left: 268_435_457 });
     let file = read_all(rt.alloc(), &mut zeros, 268_435_457)?;
     assert!(rt; is_too_long_a_file(rt.alloc(), file.as_slice()));
+    assert!(rt; is_too_long_a_listing(rt.alloc(), file.as_slice()));
     drop(file);
     assert_eq!(rt; joined_zeros(rt.alloc(), 0, 268_435_457), "too long");
     assert_eq!(rt; joined_zeros(rt.alloc(), 268_435_457, 0), "too long");

@@ -11,7 +11,8 @@ returns c =
     sym
     (ap Ok
     (four_pieces c.new-text.result.items c.push_about.new.out.items c.push_about-2.new.out.items c.push_about-3.new.out.items c.push.new.self.items
-    (codes "ok ") (decimal (len c.args.font.now.glyphs)) (codes " glyphs, ") (decimal (len c.args.font.now.subrs)) (codes " subrs, weight ") (decimal (weight c.args.font.now)) (10 ∷ [])
+    (codes "ok ") (decimal (len c.args.font.now.glyphs)) (codes " glyphs, ") (decimal (len c.args.font.now.subrs)) (codes " subrs, weight ")
+    (decimal (weight c.args.font.now)) (10 ∷ [])
     c.new-text.ensures.items
     (c.in_ok-push_about.ensures ∙ ap (λ n. c.new-text.result.items ++ (codes "ok " ++ decimal n)) c.glyph_count.ensures)
     (c.in_ok-push_about-2.ensures ∙ ap (λ n. c.push_about.new.out.items ++ (codes " glyphs, " ++ decimal n)) c.subr_count.ensures)

@@ -9,10 +9,12 @@ codes-init c = nothing_more c.args.out.now.items (codes_under c.args.font.now.en
 
 pub codes-preserved : goal.codes-preserved
 codes-preserved c =
-    line_more c.args.out.now.items c.codes.out.items c.push_code.new.out.items (codes_under c.args.font.now.encoding c.codes.code) (line_at code_line c.codes.code (name_at c.args.font.now.encoding c.codes.code)) (codes_under c.args.font.now.encoding (c.codes.code + 1))
+    line_more c.args.out.now.items c.codes.out.items c.push_code.new.out.items (codes_under c.args.font.now.encoding c.codes.code)
+    (line_at code_line c.codes.code (name_at c.args.font.now.encoding c.codes.code)) (codes_under c.args.font.now.encoding (c.codes.code + 1))
     c.codes.invariant c.in_ok-push_code.ensures (codes_more c.args.font.now.encoding c.codes.code)
 
 pub returns : goal.returns
 returns c =
     let all : 256 ≤ c.codes.code = omega arith in
-    c.codes.invariant ∙ ap (λ (t : List ℕ). c.args.out.now.items ++ t) (codes_all c.args.font.now.encoding c.proof_is_font.ensures.encoding c.requires c.codes.code all)
+    c.codes.invariant ∙ ap (λ (t : List ℕ). c.args.out.now.items ++ t)
+    (codes_all c.args.font.now.encoding c.proof_is_font.ensures.encoding c.requires c.codes.code all)

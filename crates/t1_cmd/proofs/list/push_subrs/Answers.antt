@@ -10,7 +10,8 @@ indices-init c = nothing_more c.args.out.now.items (lines_under c.args.font.now.
 
 pub indices-preserved : goal.indices-preserved
 indices-preserved c =
-    line_more c.args.out.now.items c.indices.out.items c.push_subr.new.out.items (lines_under c.args.font.now.subrs subr_line c.indices.index) (line_at subr_line c.indices.index (subr_at c.args.font.now c.indices.index)) (lines_under c.args.font.now.subrs subr_line (c.indices.index + 1))
+    line_more c.args.out.now.items c.indices.out.items c.push_subr.new.out.items (lines_under c.args.font.now.subrs subr_line c.indices.index)
+    (line_at subr_line c.indices.index (subr_at c.args.font.now c.indices.index)) (lines_under c.args.font.now.subrs subr_line (c.indices.index + 1))
     c.indices.invariant c.in_ok-push_subr.ensures (subrs_more c.args.font.now c.proof_is_font.ensures c.indices.index)
 
 pub returns : goal.returns

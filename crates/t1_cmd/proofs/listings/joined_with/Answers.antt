@@ -1,17 +1,19 @@
-use Rattle.std.proofs.Common.{◌≡◌, ℕ, List, Ok, subst}
+use Rattle.std.proofs.Common.{◌≡◌, ℕ, List, inr, sym, subst, Ok}
 use Rattle.t1_cmd.specs.Inputs.{input_of}
-use Rattle.t1_cmd.specs.Listings.{listed}
-use Rattle.t1_cmd.proofs.ListInputs.{says, joins_read, refused_read}
+use Rattle.t1_cmd.specs.Listings.{listing_input}
+use Rattle.t1_cmd.proofs.Refusals.{says_so}
 use Rattle.t1_cmd.proofs.listings.joined_with.Goals as goal
 
-pub returns-clause-text : goal.returns-clause-text
-returns-clause-text g c =
+pub returns-in-Ok-joined_text-clause-text : goal.returns-in-Ok-joined_text-clause-text
+returns-in-Ok-joined_text-clause-text g c =
     let second = input_of g.S.Read.remaining c.args.second.now c.read_text.new.reader in
-    let said = says second c.in_ok-text.text.items c.in_ok-right.right c.in_ok-text.ensures.text (subst (λ (t : List ℕ). listed t ≡ Ok c.in_ok-right.right) c.as_slice.ensures.value c.in_ok-right.ensures.listing) in
-    joins_read (λ v. v.items) second c.args.left.now c.in_ok-right.right c.joined_text.result c.joined_text.ensures.text said
+    let right = c.in-Ok.right in
+    let spelled = subst (λ (t : List ℕ). listing_input t ≡ Ok right) c.as_slice.ensures.value c.in-Ok.ensures.listing in
+    (right, says_so listing_input second c.in_ok-text.text.items (Ok right) c.in_ok-text.ensures.text (sym spelled), c.in-Ok-joined_text.ensures.text)
 
 pub returns-clause-refused : goal.returns-clause-refused
 returns-clause-refused g c =
     let second = input_of g.S.Read.remaining c.args.second.now c.read_text.new.reader in
-    let said = says second c.in_ok-text.text.items c.in_ok-right.right c.in_ok-text.ensures.text (subst (λ (t : List ℕ). listed t ≡ Ok c.in_ok-right.right) c.as_slice.ensures.value c.in_ok-right.ensures.listing) in
-    refused_read second c.args.left.now c.in_ok-right.right c.joined_text.result c.joined_text.ensures.refused said
+    let right = c.in-Ok.right in
+    let spelled = subst (λ (t : List ℕ). listing_input t ≡ Ok right) c.as_slice.ensures.value c.in-Ok.ensures.listing in
+    inr (right, says_so listing_input second c.in_ok-text.text.items (Ok right) c.in_ok-text.ensures.text (sym spelled), c.in-Err-joined_text.ensures.refused)

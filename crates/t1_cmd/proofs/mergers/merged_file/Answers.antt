@@ -8,7 +8,8 @@ use Rattle.t1_cmd.proofs.MergeLemmas.{same_text}
 use Rattle.t1_cmd.proofs.mergers.merged_file.Goals as goal
 
 pub returns-in-Err-clause-refused : goal.returns-in-Err-clause-refused
-returns-in-Err-clause-refused c = subst (λ (fs : List FontValue). Refuses (MergesTo c.args.form fs) c.in-Err.reason) c.as_slice.ensures.value (c.in-Err.ensures.refused c.args.form)
+returns-in-Err-clause-refused c =
+    subst (λ (fs : List FontValue). Refuses (MergesTo c.args.form fs) c.in-Err.reason) c.as_slice.ensures.value (c.in-Err.ensures.refused c.args.form)
 
 pub returns-clause-text : goal.returns-clause-text
 returns-clause-text c = (

@@ -7,8 +7,11 @@ use Rattle.t1_cmd.proofs.mergers.run_merge.Goals as goal
 
 pub returns-clause-succeeds : goal.returns-clause-succeeds
 returns-clause-succeeds g c =
-    ends_succeeds font_input (MergesTo c.args.form) (merges_apart c.args.form) g.W.Write.contents (inputs_of g.R.Read.remaining c.args.readers.now c.run_words.new.readers) c.args.writer.now c.run_words.new.writer c.run_words.result c.run_words.ensures.ends
+    ends_succeeds font_input (MergesTo c.args.form) (merges_apart c.args.form) g.W.Write.contents
+    (inputs_of g.R.Read.remaining c.args.readers.now c.run_words.new.readers) c.args.writer.now c.run_words.new.writer c.run_words.result
+    c.run_words.ensures.ends
 
 pub returns-clause-subsets : goal.returns-clause-subsets
 returns-clause-subsets g c =
-    writes_union g.W.Write.contents c.args.form (inputs_of g.R.Read.remaining c.args.readers.now c.run_words.new.readers) c.args.writer.now c.run_words.new.writer c.run_words.result c.run_words.ensures.ends
+    writes_union g.W.Write.contents c.args.form (inputs_of g.R.Read.remaining c.args.readers.now c.run_words.new.readers) c.args.writer.now
+    c.run_words.new.writer c.run_words.result c.run_words.ensures.ends

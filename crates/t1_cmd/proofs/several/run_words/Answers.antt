@@ -3,7 +3,8 @@ use Rattle.t1_cmd.specs.declared.faults.RunFault.TheVariants.{Refused}
 use Rattle.t1_cmd.specs.Fonts.{font_input}
 use Rattle.t1_cmd.specs.Mergers.{inputs_of}
 use Rattle.t1_cmd.proofs.RunLemmas.{stopped, write_ends}
-use Rattle.t1_cmd.proofs.MergeLemmas.{inputs_stop, answer_stops}
+use Rattle.t1_cmd.proofs.MergeLemmas.{inputs_stop}
+use Rattle.t1_cmd.proofs.Refusals.{answer_stops}
 use Rattle.t1_cmd.proofs.several.run_words.Goals as goal
 
 pub returns-in-Err-clause-ends : goal.returns-in-Err-clause-ends
@@ -18,7 +19,7 @@ returns-in-Err-text-clause-ends g c =
     let Answers = g.T.FontsWord.Answers c.args.word.now in
     let inputs = inputs_of g.R.Read.remaining c.args.readers.now c.read_fonts.new.readers in
     stopped font_input Answers g.W.Write.contents inputs c.args.writer.now (Refused c.in-Err-text.reason)
-    (answer_stops Answers inputs c.in-Ok.sources.items c.in-Err-text.reason c.in-Ok.ensures.says c.in-Err-text.ensures.refused)
+    (answer_stops font_input Answers inputs c.in-Ok.sources.items c.in-Err-text.reason c.in-Ok.ensures.says c.in-Err-text.ensures.refused)
 
 pub returns-clause-ends : goal.returns-clause-ends
 returns-clause-ends g c =

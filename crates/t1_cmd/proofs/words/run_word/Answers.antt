@@ -1,4 +1,4 @@
-use Rattle.std.proofs.Common.{◌≡◌, ℕ, List, [], ◌∷◌, sym, ◌∙◌, ap, subst, Ok, Err}
+use Rattle.std.proofs.Common.{[], ◌∷◌, ◌∙◌, ap, Ok, Err}
 use Rattle.t1_cmd.specs.declared.faults.RunFault.TheVariants.{Refused}
 use Rattle.t1_cmd.specs.Inputs.{input_of}
 use Rattle.t1_cmd.specs.Answers.{Prints}
@@ -16,7 +16,8 @@ returns-in-Err-clause-ends g c =
 
 pub returns-in-Err-clause-succeeds : goal.returns-in-Err-clause-succeeds
 returns-in-Err-clause-succeeds g c =
-    ends_well (g.T.FontWord.answer c.args.word.now) g.W.Write.contents (input_of g.R.Read.remaining c.args.reader.now c.read_file.new.reader) c.args.writer.now c.args.writer.now (Err (Refused c.in-Err.reason)) (returns-in-Err-clause-ends g c)
+    ends_well (g.T.FontWord.answer c.args.word.now) g.W.Write.contents (input_of g.R.Read.remaining c.args.reader.now c.read_file.new.reader)
+    c.args.writer.now c.args.writer.now (Err (Refused c.in-Err.reason)) (returns-in-Err-clause-ends g c)
 
 pub returns-clause-ends : goal.returns-clause-ends
 returns-clause-ends g c =
@@ -30,4 +31,5 @@ returns-clause-ends g c =
 
 pub returns-clause-succeeds : goal.returns-clause-succeeds
 returns-clause-succeeds g c =
-    ends_well (g.T.FontWord.answer c.args.word.now) g.W.Write.contents (input_of g.R.Read.remaining c.args.reader.now c.read_file.new.reader) c.args.writer.now c.write_text.new.writer c.write_text.result (returns-clause-ends g c)
+    ends_well (g.T.FontWord.answer c.args.word.now) g.W.Write.contents (input_of g.R.Read.remaining c.args.reader.now c.read_file.new.reader)
+    c.args.writer.now c.write_text.new.writer c.write_text.result (returns-clause-ends g c)

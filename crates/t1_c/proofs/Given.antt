@@ -1,0 +1,39 @@
+-- What a call gives, from what the call over files answered.
+use Rattle.std.proofs.Common.{◌≡◌, ℕ, inl, inr, ⊎_elim, refl, sym, subst, ◌∙◌, List, Option, Some, None, Result, Ok, Err}
+use Rattle.std.specs.Prelude.{IfOk, IfErr, MatchResult}
+use Rattle.t1_bytes.specs.declared.form.Form.{Form}
+use Rattle.t1_font.specs.FontValue.{FontValue}
+use Rattle.t1_cmd.specs.declared.faults.FilesRefusal.{FilesRefusal}
+use Rattle.t1_cmd.specs.declared.faults.Reason.{Reason}
+use Rattle.t1_cmd.specs.declared.faults.Reason.TheVariants.{Memory}
+use Rattle.t1_cmd.specs.Answers.{Refuses}
+use Rattle.t1_cmd.specs.Files.{OfFiles, RefusesFiles}
+use Rattle.t1_cmd.specs.Fonts.{of_file}
+use Rattle.t1_cmd.specs.WrittenSubsets.{OfUnion}
+use Rattle.t1_cmd.proofs.Refusals.{by_answer}
+use Rattle.t1_c.specs.declared.answers.Answer.{Answer}
+use Rattle.t1_c.specs.Numbers.{memory}
+use Rattle.t1_c.specs.Gives.{HasNothing, HasWhole, IsTold, Tells, GivesOf, GivesFiles, GivesText, place_in_one}
+
+-- a call over several files gives what that call answered
+pub gives_files : {A : Type 0} (understand : List ℕ → Result A Reason) (Answers : List A → Result (List ℕ) Reason → Type 0) (files : List (List ℕ))
+    {V : Type 0} (view : V → List ℕ) (r : Result V FilesRefusal) (code : ℕ) (a : Answer)
+    → IfOk r (λ v. OfFiles understand Answers files (Ok (view v))) → IfErr r (RefusesFiles understand Answers files)
+    → IfOk r (λ v. HasWhole (view v) code a) → IfErr r (λ e. Tells e.place e.reason code a) → GivesFiles understand Answers files code a
+gives_files understand Answers files view (Ok v) code a is refused whole told = inr (inl (view v, is, whole))
+gives_files understand Answers files view (Err e) code a is refused whole (inl nothing) = inl nothing
+gives_files understand Answers files view (Err e) code a is refused whole (inr told) = inr (inr (e.place, e.reason, refused, told))
+
+-- a text or want of memory is given as that
+text_given : {V : Type 0} (view : V → List ℕ) (r : Result V FilesRefusal) (code : ℕ) (a : Answer) (text : List ℕ)
+    → MatchResult r (λ v. view v ≡ text) (λ e. (e.place ≡ None) × (e.reason ≡ Memory))
+    → IfOk r (λ v. HasWhole (view v) code a) → IfErr r (λ e. Tells e.place e.reason code a) → GivesText code a text
+text_given view (Ok v) code a text is whole told = inr (subst (λ t. HasWhole t code a) is whole)
+text_given view (Err e) code a text is whole (inl nothing) = inl nothing
+text_given view (Err e) code a text is whole (inr told) = absurd (subst (λ r. IsTold e.place r code a) is.1 told)
+
+-- of the written subsets of one font the union is given
+pub gives_union : (form : Form) (files : List (List ℕ)) {V : Type 0} (view : V → List ℕ) (r : Result V FilesRefusal) (code : ℕ) (a : Answer)
+    → OfUnion form files (λ union. MatchResult r (λ v. view v ≡ union) (λ e. (e.place ≡ None) × (e.reason ≡ Memory)))
+    → IfOk r (λ v. HasWhole (view v) code a) → IfErr r (λ e. Tells e.place e.reason code a) → OfUnion form files (GivesText code a)
+gives_union form files view r code a unions whole told = λ f h names more s. text_given view r code a _ (unions f h names more s) whole told

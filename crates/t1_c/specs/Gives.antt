@@ -1,0 +1,77 @@
+-- What a call gives to C.
+use Rattle.std.specs.Prelude.{◌≡◌, ◌⊎◌, ℕ, ◌-◌, ◌^◌, min, ℤ, pos, negsuc, List, [], Option, None, Some, Result, Ok, Err}
+use Rattle.t1_bytes.specs.declared.form.Form.{Form}
+use Rattle.t1_font.specs.FontValue.{FontValue}
+use Rattle.t1_cmd.specs.declared.faults.Reason.{Reason}
+use Rattle.t1_cmd.specs.declared.faults.Reason.TheVariants.{TooLong, Memory, Font}
+use Rattle.t1_cmd.specs.Texts.{reason_text}
+use Rattle.t1_cmd.specs.Fonts.{of_file}
+use Rattle.t1_cmd.specs.Files.{OfFiles, RefusedAt}
+use Rattle.t1_c.specs.declared.answers.Answer.{Answer}
+use Rattle.t1_c.specs.Numbers.{ok, memory, bad_call, number_of, detail_of}
+
+-- ---- what is given
+
+-- the last place that the field `input` can say
+abbrev pub last_place : ℕ
+last_place = 2 ^ 63 - 1
+
+-- the place of an input, or -1 if there is none
+abbrev pub input_at : Option ℕ → ℤ
+input_at None = negsuc 0
+input_at (Some place) = pos (min place last_place)
+
+-- the call returns this number, and gives nothing
+abbrev pub HasNothing : ℕ → ℕ → Answer → Type 0
+HasNothing number code a = (code ≡ number) × (a.detail ≡ 0) × (a.input ≡ input_at None) × (a.bytes.now ≡ [])
+
+-- the call returns 0, and gives this text
+abbrev pub HasWhole : List ℕ → ℕ → Answer → Type 0
+HasWhole text code a = (code ≡ ok) × (a.detail ≡ 0) × (a.input ≡ input_at None) × (a.bytes.now ≡ text)
+
+-- The call returns the number of a reason, and gives what it names, the place of the input that is refused, and its text.
+-- Want of memory is not told like this.
+abbrev pub IsTold : Option ℕ → Reason → ℕ → Answer → Type 0
+IsTold place Memory code a = ⊥
+IsTold place r code a = (code ≡ number_of r) × (a.detail ≡ detail_of r) × (a.input ≡ input_at place) × (a.bytes.now ≡ reason_text r)
+
+-- a reason is told, unless a growth was refused
+abbrev pub Tells : Option ℕ → Reason → ℕ → Answer → Type 0
+Tells place r code a = HasNothing memory code a ⊎ IsTold place r code a
+
+-- ---- what a call does
+
+-- A call gives a text that is right, or tells a reason that is right at its place; or a growth was refused, and it gives nothing.
+abbrev pub Gives : (List ℕ → Type 0) → (Option ℕ → Reason → Type 0) → ℕ → Answer → Type 0
+Gives IsText IsReason code a =
+    HasNothing memory code a
+    ⊎ (((text : List ℕ) × IsText text × HasWhole text code a)
+    ⊎ ((place : Option ℕ) × (r : Reason) × IsReason place r × IsTold place r code a))
+
+-- where a single file is refused for itself: it is too long, or spells no font
+abbrev pub place_in_one : Reason → Option ℕ
+place_in_one TooLong = Some 0
+place_in_one (Font f) = Some 0
+place_in_one other = None
+
+-- a call over one file gives what its font is answered with
+abbrev pub GivesOf : (FontValue → Result (List ℕ) Reason) → List ℕ → ℕ → Answer → Type 0
+GivesOf answer file = Gives (λ text. of_file answer file ≡ Ok text) (λ place r. (place ≡ place_in_one r) × (of_file answer file ≡ Err r))
+
+-- a call over several files gives an answer to what all of them say
+abbrev pub GivesFiles : {A : Type 0} → (List ℕ → Result A Reason) → (List A → Result (List ℕ) Reason → Type 0) → List (List ℕ) → ℕ → Answer → Type 0
+GivesFiles understand Answers files = Gives (λ text. OfFiles understand Answers files (Ok text)) (RefusedAt understand Answers files)
+
+-- a call that takes the number of a form does this; a number that no form has is a bad call
+abbrev pub In : Option Form → (Form → ℕ → Answer → Type 0) → ℕ → Answer → Type 0
+In None Does code a = HasNothing bad_call code a
+In (Some form) Does code a = Does form code a
+
+-- of a call that takes the number of a form this holds, if a form has the number
+abbrev pub IfForm : Option Form → (Form → Type 0) → Type 0
+IfForm None P = Unit {0}
+IfForm (Some form) P = P form
+
+-- this text is given, unless a growth was refused
+abbrev pub GivesText : ℕ → Answer → List ℕ → Type 0
+GivesText code a text = HasNothing memory code a ⊎ HasWhole text code a

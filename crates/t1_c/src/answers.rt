@@ -1,0 +1,103 @@
+//! What a call gives to C.
+ghost use Rattle.std.specs.Prelude.{◌≡◌, IfOk, IfErr};
+ghost use Rattle.t1_c.specs.Gives.{HasNothing, HasWhole, Tells, place_in_one, input_at};
+
+use crate::numbers::{MEMORY, OK, detail_of, number_of};
+use std::alloc::Global;
+use t1_cmd::{FilesRefusal, Reason};
+
+/// What a call answers. The bytes are the caller's, who frees them if there are any.
+#[repr(C)]
+#[derive(Drop)]
+pub struct Answer {
+    /// The offset, code, index, line or part that a refusal names; else 0.
+    pub detail: u64,
+    /// The place, from 0, of the file that is refused for itself; -1 if none is.
+    pub input: i64,
+    /// The result, or the text of the refusal.
+    pub bytes: &'static [u8],
+}
+
+const NO_INPUT: i64 = -1;
+
+/// Gives nothing but a number.
+pub(crate) fn give_nothing(code: u32, answer: &mut Answer) -> u32
+    ensures { HasNothing code result answer.new }
+{
+    answer.detail = 0;
+    answer.input = NO_INPUT;
+    answer.bytes = b"";
+    code
+}
+
+// Gives a text.
+fn give_text(text: Vec<u8>, answer: &mut Answer) -> u32
+    ensures { HasWhole text.items result answer.new }
+{
+    answer.detail = 0;
+    answer.input = NO_INPUT;
+    answer.bytes = text.leak();
+    OK
+}
+
+// The place of an input, as the field says it.
+fn input_at(place: Option<usize>) -> i64
+    ensures { result ≡ input_at place }
+{
+    match place {
+        None => NO_INPUT,
+        Some(place) => place.min(i64::MAX as usize) as i64,
+    }
+}
+
+// Tells a reason, with the place of the input that is refused.
+fn tell(alloc: Global, place: Option<usize>, reason: &Reason, answer: &mut Answer) -> u32
+    ensures { Tells place reason.now result answer.new }
+{
+    if let Reason::Memory = reason {
+        return give_nothing(MEMORY, answer);
+    }
+    let Ok(text) = reason.to_string(alloc) else {
+        return give_nothing(MEMORY, answer);
+    };
+    answer.detail = detail_of(reason);
+    answer.input = input_at(place);
+    answer.bytes = text.into_bytes().leak();
+    number_of(reason)
+}
+
+// Where a single file is refused for itself.
+fn place_in_one(reason: &Reason) -> Option<usize>
+    ensures { result ≡ place_in_one reason.now }
+{
+    match reason {
+        Reason::TooLong | Reason::Font(_) => Some(0),
+        _ => None,
+    }
+}
+
+/// Gives the text that a call over one file answered, or tells why there is none.
+pub(crate) fn give_of(alloc: Global, text: Result<Vec<u8>, Reason>, answer: &mut Answer) -> u32
+    ensures whole { IfOk text (λ text. HasWhole text.items result answer.new) }
+    ensures told { IfErr text (λ r. Tells (place_in_one r) r result answer.new) }
+{
+    match text {
+        Ok(text) => give_text(text, answer),
+        Err(reason) => tell(alloc, place_in_one(&reason), &reason, answer),
+    }
+}
+
+/// Gives the text that a call over several files answered, or tells why there is none.
+pub(crate) fn give_files(
+    alloc: Global,
+    text: Result<Vec<u8>, FilesRefusal>,
+    answer: &mut Answer,
+) -> u32
+    ensures whole { IfOk text (λ text. HasWhole text.items result answer.new) }
+    ensures told { IfErr text (λ e. Tells e.place e.reason result answer.new) }
+{
+    match text {
+        Ok(text) => give_text(text, answer),
+        Err(refusal) => tell(alloc, refusal.place, &refusal.reason, answer),
+    }
+}

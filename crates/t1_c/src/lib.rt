@@ -1,0 +1,143 @@
+//! `libt1subset`: the calls of `t1_cmd` over files in memory, as functions for C.
+//!
+//! Each function takes whole files as bytes, and an [`Answer`] to fill. It returns 0 and gives the text that the program
+//! would write; or it returns the number of a refusal, and gives the text that the program would print of it. No function
+//! requires anything beyond what its types say, none keeps anything from call to call, and each may run in any thread.
+//! `include/t1subset.h` declares them, and says what every number and field means.
+#![tactic(auto)]
+
+mod answers;
+mod numbers;
+#[cfg(test)]
+mod tests;
+
+ghost use Rattle.std.specs.Prelude.{◌∷◌, []};
+ghost use Rattle.t1_subset.specs.NameSets.{lent};
+ghost use Rattle.t1_cmd.specs.CheckText.{check_answer};
+ghost use Rattle.t1_cmd.specs.ListText.{list_answer};
+ghost use Rattle.t1_cmd.specs.DrawingText.{show_answer};
+ghost use Rattle.t1_cmd.specs.Fonts.{font_input, file_answer};
+ghost use Rattle.t1_cmd.specs.Subsets.{subset_answer};
+ghost use Rattle.t1_cmd.specs.Mergers.{MergesTo};
+ghost use Rattle.t1_cmd.specs.Rejoins.{RejoinsTo};
+ghost use Rattle.t1_cmd.specs.Listings.{listing_input, JoinsTo};
+ghost use Rattle.t1_cmd.specs.WrittenSubsets.{OfUnion};
+ghost use Rattle.t1_c.specs.Numbers.{form_at};
+ghost use Rattle.t1_c.specs.Gives.{GivesOf, GivesFiles, In, IfForm, GivesText};
+
+pub use answers::Answer;
+use answers::{give_files, give_nothing, give_of};
+use numbers::{BAD_CALL, form_of};
+use std::alloc::Global;
+use t1_cmd::{
+    check_file, convert_file, join_listings, list_file, merge_files, rejoin_files, show_file,
+    subset_file,
+};
+
+/// Says what a font has: the line of `t1subset check`.
+#[unsafe(no_mangle)]
+pub extern "C" fn t1subset_check(alloc: Global, font: &[u8], answer: &mut Answer) -> u32
+    ensures { GivesOf check_answer font.now result answer.new }
+{
+    give_of(alloc, check_file(alloc, font), answer)
+}
+
+/// Lists what a font has: the lines of `t1subset list`.
+#[unsafe(no_mangle)]
+pub extern "C" fn t1subset_list(alloc: Global, font: &[u8], answer: &mut Answer) -> u32
+    ensures { GivesOf list_answer font.now result answer.new }
+{
+    give_of(alloc, list_file(alloc, font), answer)
+}
+
+/// Says what a glyph draws: the lines of `t1subset show`.
+#[unsafe(no_mangle)]
+pub extern "C" fn t1subset_show(alloc: Global, font: &[u8], name: &[u8], answer: &mut Answer) -> u32
+    ensures { GivesOf (show_answer name.now) font.now result answer.new }
+{
+    give_of(alloc, show_file(alloc, font, name), answer)
+}
+
+/// Makes the canonical file of a font, in the form of a number.
+#[unsafe(no_mangle)]
+pub extern "C" fn t1subset_convert(
+    alloc: Global,
+    font: &[u8],
+    form: u32,
+    answer: &mut Answer,
+) -> u32
+    ensures { In (form_at form) (λ f. GivesOf (file_answer f) font.now) result answer.new }
+{
+    match form_of(form) {
+        Some(form) => give_of(alloc, convert_file(alloc, font, form), answer),
+        None => give_nothing(BAD_CALL, answer),
+    }
+}
+
+/// Makes the canonical file of the subset that keeps these names.
+#[unsafe(no_mangle)]
+pub extern "C" fn t1subset_subset(
+    alloc: Global,
+    font: &[u8],
+    names: &[&[u8]],
+    form: u32,
+    answer: &mut Answer,
+) -> u32
+    ensures { In (form_at form) (λ f. GivesOf (subset_answer f (lent names.now)) font.now)
+        result answer.new }
+{
+    match form_of(form) {
+        Some(form) => give_of(alloc, subset_file(alloc, font, names, form), answer),
+        None => give_nothing(BAD_CALL, answer),
+    }
+}
+
+/// Makes the canonical file of the font that fonts merge to. Of written subsets of one font this is the subset over all
+/// their names.
+#[unsafe(no_mangle)]
+pub extern "C" fn t1subset_merge(
+    alloc: Global,
+    fonts: &[&[u8]],
+    form: u32,
+    answer: &mut Answer,
+) -> u32
+    ensures gives { In (form_at form) (λ f. GivesFiles font_input (MergesTo f) (lent fonts.now))
+        result answer.new }
+    ensures subsets { IfForm (form_at form)
+        (λ f. OfUnion f (lent fonts.now) (GivesText result answer.new)) }
+{
+    match form_of(form) {
+        Some(form) => give_files(alloc, merge_files(alloc, fonts, form), answer),
+        None => give_nothing(BAD_CALL, answer),
+    }
+}
+
+/// Makes the canonical file of the font that fonts merge to once they are made even.
+#[unsafe(no_mangle)]
+pub extern "C" fn t1subset_rejoin(
+    alloc: Global,
+    fonts: &[&[u8]],
+    form: u32,
+    answer: &mut Answer,
+) -> u32
+    ensures { In (form_at form) (λ f. GivesFiles font_input (RejoinsTo f) (lent fonts.now))
+        result answer.new }
+{
+    match form_of(form) {
+        Some(form) => give_files(alloc, rejoin_files(alloc, fonts, form), answer),
+        None => give_nothing(BAD_CALL, answer),
+    }
+}
+
+/// Makes the text of the join of two listings.
+#[unsafe(no_mangle)]
+pub extern "C" fn t1subset_join(
+    alloc: Global,
+    first: &[u8],
+    second: &[u8],
+    answer: &mut Answer,
+) -> u32
+    ensures { GivesFiles listing_input JoinsTo (first.now ∷ second.now ∷ []) result answer.new }
+{
+    give_files(alloc, join_listings(alloc, first, second), answer)
+}
