@@ -1,19 +1,14 @@
 -- What a call gives, from what the call over files answered.
-use Rattle.std.proofs.Common.{◌≡◌, ℕ, inl, inr, ⊎_elim, refl, sym, subst, ◌∙◌, List, Option, Some, None, Result, Ok, Err}
+use Rattle.std.proofs.Common.{◌≡◌, ℕ, inl, inr, subst, List, None, Result, Ok, Err}
 use Rattle.std.specs.Prelude.{IfOk, IfErr, MatchResult}
 use Rattle.t1_bytes.specs.declared.form.Form.{Form}
-use Rattle.t1_font.specs.FontValue.{FontValue}
 use Rattle.t1_cmd.specs.declared.faults.FilesRefusal.{FilesRefusal}
 use Rattle.t1_cmd.specs.declared.faults.Reason.{Reason}
 use Rattle.t1_cmd.specs.declared.faults.Reason.TheVariants.{Memory}
-use Rattle.t1_cmd.specs.Answers.{Refuses}
 use Rattle.t1_cmd.specs.Files.{OfFiles, RefusesFiles}
-use Rattle.t1_cmd.specs.Fonts.{of_file}
 use Rattle.t1_cmd.specs.WrittenSubsets.{OfUnion}
-use Rattle.t1_cmd.proofs.Refusals.{by_answer}
 use Rattle.t1_c.specs.declared.answers.Answer.{Answer}
-use Rattle.t1_c.specs.Numbers.{memory}
-use Rattle.t1_c.specs.Gives.{HasNothing, HasWhole, IsTold, Tells, GivesOf, GivesFiles, GivesText, place_in_one}
+use Rattle.t1_c.specs.Gives.{HasWhole, IsTold, Tells, GivesFiles, GivesText}
 
 -- a call over several files gives what that call answered
 pub gives_files : {A : Type 0} (understand : List ℕ → Result A Reason) (Answers : List A → Result (List ℕ) Reason → Type 0) (files : List (List ℕ))

@@ -32,7 +32,13 @@ fn begins(code: u32, answer: &Answer, start: &[u8]) -> bool {
 fn texts(rt: HostRuntime) -> Result<(), Fail> {
     let mut a = used();
     let code = t1subset_check(rt.alloc(), PFB, &mut a);
-    assert!(rt; gave(code, &a, (0, 0, -1, b"ok 11 glyphs, 10 subrs, weight 4936\n")));
+    assert!(rt;
+        gave(
+            code,
+            &a,
+            (0, 0, -1, b"ok 11 glyphs, 10 subrs, weight 4936\n")
+        )
+    );
     let mut a = used();
     let code = t1subset_list(rt.alloc(), PFB, &mut a);
     assert!(rt; begins(code, &a, b"code 65 X\n"));

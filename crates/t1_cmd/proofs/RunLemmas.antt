@@ -144,14 +144,19 @@ module _ {A : Type 0} (understand : List ℕ → Result A Reason) where
         → OnOk result (Appends (contents (inner_of w)) (contents (inner_of v)) text)
         → IfErr result (λ e. e ≡ Write) → OnErr result (AppendsPrefix (contents (inner_of w)) (contents (inner_of v)) text)
         → OnErr result (RoseByOne (failed_of w) (failed_of v)) → RunEnds understand Answers contents is w v result
-    write_ends contents is xs w v text (Ok u) h a whole fault prefix rose =
-        (all_understood is xs h,
-        values_have (λ values. (t : List ℕ) × Answers values (Ok t) × Appends (contents (inner_of w)) (contents (inner_of v)) t) is xs h (text, a, whole))
+    write_ends contents is xs w v text (Ok u) h a whole fault prefix rose = (
+      all_understood is xs h,
+      values_have (λ values. (t : List ℕ) × Answers values (Ok t) × Appends (contents (inner_of w)) (contents (inner_of v)) t) is xs h (text, a, whole),
+    )
     write_ends contents is xs w v text (Err e) h a whole fault prefix rose =
-        subst (λ (d : RunFault). RunEnds understand Answers contents is w v (Err d)) (sym fault)
-        ((all_understood is xs h,
-        values_have (λ values. (t : List ℕ) × Answers values (Ok t) × AppendsPrefix (contents (inner_of w)) (contents (inner_of v)) t)
-        is xs h (text, a, prefix)), rose)
+        subst (λ (d : RunFault). RunEnds understand Answers contents is w v (Err d)) (sym fault) (
+          (
+            all_understood is xs h,
+            values_have (λ values. (t : List ℕ) × Answers values (Ok t) × AppendsPrefix (contents (inner_of w)) (contents (inner_of v)) t)
+                is xs h (text, a, prefix),
+          ),
+          rose,
+        )
 
     -- an engine that ends so succeeds where it should
     pub ends_succeeds : ((xs : List A) (text : List ℕ) (r : Reason) → Answers xs (Ok text) → Answers xs (Err r) → r ≡ Memory)

@@ -125,9 +125,11 @@ module _ (f : FontValue) (h : IsFont f) where
 
         by : (o : Option ℕ) → e.place ≡ o → RefusedAt font_input (MergesTo form) files o e.reason → (e.place ≡ None) × (e.reason ≡ Memory)
         by (Some place) is d = absurd (never place (sym d ∙ files_said 0 (a ∷ more) files s))
-        by None is d =
-            (is, by_answer (OfFiles font_input (MergesTo form) files) (λ r. r ≡ Memory) e.reason refl
-            (λ r k. absurd (not_answered form a more (files_named (a ∷ more) files s) r (of_subsets (Err r) k))) d)
+        by None is d = (
+          is,
+          by_answer (OfFiles font_input (MergesTo form) files) (λ r. r ≡ Memory) e.reason refl
+              (λ r k. absurd (not_answered form a more (files_named (a ∷ more) files s) r (of_subsets (Err r) k))) d,
+        )
 
   -- ---- inputs
 
@@ -193,15 +195,15 @@ pub writes_union : {W : Type 0} (contents : W → Option (List ℕ)) (form : For
     → RunEnds font_input (MergesTo form) contents is w v result → WritesUnion contents form is w v result
 writes_union contents form is w v (Ok u) ends f h a more s =
     let d =
-        of_known f h form a more is s
-        (λ values. (text : List ℕ) × MergesTo form values (Ok text) × Appends (contents (inner_of w)) (contents (inner_of v)) text) ends.1 in
+    of_known f h form a more is s
+    (λ values. (text : List ℕ) × MergesTo form values (Ok text) × Appends (contents (inner_of w)) (contents (inner_of v)) text) ends.1 in
     subst (Appends (contents (inner_of w)) (contents (inner_of v))) (input_is f h form a more is s d.0 d.1) d.2
 writes_union contents form is w v (Err (Refused r)) ends f h a more s = (only_memory f h form a more is s r ends.1, ends.0)
 writes_union contents form is w v (Err Read) ends f h a more s = (some_failed is ends.1, ends.0)
 writes_union contents form is w v (Err Write) ends f h a more s =
     let d =
-        of_known f h form a more is s
-        (λ values. (text : List ℕ) × MergesTo form values (Ok text) × AppendsPrefix (contents (inner_of w)) (contents (inner_of v)) text) ends.0.1 in
+    of_known f h form a more is s
+    (λ values. (text : List ℕ) × MergesTo form values (Ok text) × AppendsPrefix (contents (inner_of w)) (contents (inner_of v)) text) ends.0.1 in
     (ends.1, subst (AppendsPrefix (contents (inner_of w)) (contents (inner_of v))) (input_is f h form a more is s d.0 d.1) d.2)
 
 -- what merges the files of subsets of one font answers the subset over all the names, unless a growth was refused

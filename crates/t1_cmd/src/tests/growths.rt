@@ -112,12 +112,7 @@ fn joins(alloc: Global, left: &[u8], right: &[u8], want: &[u8]) -> Result<bool, 
 }
 
 /// Whether the call over two listings answers this.
-fn joins_texts(
-    alloc: Global,
-    left: &[u8],
-    right: &[u8],
-    want: &[u8],
-) -> Result<bool, AllocError> {
+fn joins_texts(alloc: Global, left: &[u8], right: &[u8], want: &[u8]) -> Result<bool, AllocError> {
     match join_listings(alloc, left, right) {
         Ok(text) => Ok(text.as_slice() == want),
         Err(
@@ -220,8 +215,7 @@ fn write_right(alloc: Global) -> Result<bool, AllocError> {
     let lists = makes_of_both(alloc, List::Merge(Form::Pfa))?
         && makes_of_both(alloc, List::Rejoin(Form::Pfa))?;
     let fonts = engines_write(alloc)? && subsets(alloc)? && merges(alloc)? && rejoins(alloc)?;
-    let texts =
-        joins(alloc, LEFT, RIGHT, LISTED)? && joins_texts(alloc, LEFT, RIGHT, LISTED)?;
+    let texts = joins(alloc, LEFT, RIGHT, LISTED)? && joins_texts(alloc, LEFT, RIGHT, LISTED)?;
     Ok(lists && fonts && texts && reads(alloc)? && tells(alloc)?)
 }
 

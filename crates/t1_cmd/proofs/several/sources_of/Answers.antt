@@ -15,7 +15,7 @@ returns-in-Err-clause-refused c =
 pub files-preserved : goal.files-preserved
 files-preserved c =
     let more : c.keep.new.sources.items ≡ c.files.sources.items ++ c.in-Ok.source ∷ [] =
-        no_error c.keep.result _ (sym c.is_err.ensures.value ∙ c.if-is_err.false) c.keep.ensures in
+    no_error c.keep.result _ (sym c.is_err.ensures.value ∙ c.if-is_err.false) c.keep.ensures in
     subst (λ (fs : List FontValue). SoFar font_input (c.files.place + 1) c.args.files.now fs) (sym more)
     (one_more font_input c.args.files.now c.files.place c.files.sources.items _ c.in-Ok.source c.files.invariant
     (omega (arith, c.files-test.true)) c.in-Ok.ensures.source)
