@@ -1,0 +1,163 @@
+"""The calls of the library, with Python's values."""
+
+from __future__ import annotations
+
+import ctypes
+import enum
+import mmap
+from typing import Any, Iterable, Literal, Tuple, Union
+
+from . import _texts
+from ._library import Answer, Given, library
+from ._refusals import Number, Refused
+from ._texts import Checked, Drawn, Listed, Undrawn
+
+
+class Form(enum.Enum):
+    """The form of the file that is written."""
+
+    PFA = "pfa"
+    """Text, with the cipher in hexadecimal: what a PostScript document contains."""
+    PFB = "pfb"
+    """Segments, with the cipher in binary."""
+
+
+AnyForm = Union[Form, Literal["pfa", "pfb"]]
+BytesLike = Union[bytes, bytearray, memoryview, mmap.mmap]
+Name = Union[str, bytes]
+
+_FORMS = {Form.PFA: 0, Form.PFB: 1}
+
+
+def check(font: BytesLike) -> Checked:
+    """What a font has, if it is one.
+
+    >>> check(font)
+    Checked(glyphs=11, subrs=10, weight=4936)
+    """
+    return _texts.checked(_text(library.t1subset_check, *_file(font)))
+
+
+def list(font: BytesLike) -> Listed:
+    """The Encoding, and the lengths of the Subrs and of the glyphs.
+
+    >>> list(font).encoding
+    {65: 'X', 66: 'Y', 194: 'H'}
+    """
+    return _texts.listed(_text(library.t1subset_list, *_file(font)))
+
+
+def show(font: BytesLike, name: Name) -> Union[Drawn, Undrawn]:
+    """What a glyph draws, or the fault for which it can't be drawn.
+
+    >>> [mark.word for mark in show(font, "X").parts[0].marks]
+    ['move', 'line', 'line', 'line', 'close']
+    >>> show(font, "N")
+    Undrawn(fault='NestedSeac')
+    """
+    return _texts.drawn(_text(library.t1subset_show, *_file(font), *_file(_name(name))))
+
+
+def convert(font: BytesLike, form: AnyForm = "pfa") -> bytes:
+    """The one canonical file of a font, in a form."""
+    return _call(library.t1subset_convert, *_file(font), _form(form))
+
+
+def subset(font: BytesLike, names: Iterable[Name], form: AnyForm = "pfa") -> bytes:
+    """The canonical file of the subset that keeps these glyphs, .notdef, the components of accented glyphs, and the Subrs
+    that all of these execute. A name may be given more than once.
+
+    >>> check(subset(font, ["X", "Y"]))
+    Checked(glyphs=3, subrs=10, weight=2718)
+    """
+    return _call(library.t1subset_subset, *_file(font), *_files(map(_name, _several(names, "names"))), _form(form))
+
+
+def merge(fonts: Iterable[BytesLike], form: AnyForm = "pfa") -> bytes:
+    """The canonical file of the font that fonts merge to. Subsets of one font that t1subset cut merge, in every order, to
+    the subset of all their names, byte for byte.
+
+    >>> merge([subset(font, ["Y"]), subset(font, ["X"])]) == subset(font, ["X", "Y"])
+    True
+    """
+    return _call(library.t1subset_merge, *_files(_several(fonts, "fonts")), _form(form))
+
+
+def rejoin(fonts: Iterable[BytesLike], form: AnyForm = "pfa") -> bytes:
+    """The same for subsets that another program cut, such as dvips or pdfTeX: they are first made even (the tag before the
+    FontName is removed, and every table of Subrs declares as many)."""
+    return _call(library.t1subset_rejoin, *_files(_several(fonts, "fonts")), _form(form))
+
+
+def join(first: BytesLike, second: BytesLike) -> bytes:
+    """The join of two listings, texts of lines `S INDEX HEX` and `G NAME HEX`.
+
+    >>> join(b"S 5 ef060b\\n", b"G Y 0E\\n")
+    b'S 5 ef060b\\nG Y 0e\\n'
+    """
+    return _call(library.t1subset_join, *_file(first), *_file(second))
+
+
+def version() -> Tuple[int, int, int]:
+    """The version of the library that is loaded, such as (0, 1, 0)."""
+    number: int = library.t1subset_version()
+    return number >> 16 & 255, number >> 8 & 255, number & 255
+
+
+def _call(function: Any, *arguments: Any) -> bytes:
+    """What a call of the library answers."""
+    answer = Answer(0, -1, None, 0)
+    try:
+        number: int = function(*arguments, ctypes.byref(answer))
+        answered = ctypes.string_at(answer.data, answer.size) if answer.size else b""
+        detail: int = answer.detail
+        place: int = answer.input
+    finally:
+        library.t1subset_free(ctypes.byref(answer))
+    if number == Number.MEMORY:
+        raise MemoryError("libt1subset was refused memory")
+    if number != Number.OK:
+        raise Refused(number, answered.decode("ascii"), detail, None if place < 0 else place)
+    return answered
+
+
+def _text(function: Any, *arguments: Any) -> str:
+    return _call(function, *arguments).decode("ascii")
+
+
+def _kept(data: BytesLike) -> bytes:
+    """The bytes of an object as nobody can change them: the call runs without the interpreter's lock, and what is read
+    has to stay as it is. So bytes are lent to the library, and so is what a view has whole; anything else is copied."""
+    if type(data) is bytes:
+        return data
+    with memoryview(data) as view:
+        owner = view.obj
+        if type(owner) is bytes and view.contiguous and view.nbytes == len(owner):
+            return owner
+        return view.tobytes()
+
+
+def _file(data: BytesLike) -> Tuple[bytes, int]:
+    kept = _kept(data)
+    return kept, len(kept)
+
+
+def _files(items: Iterable[BytesLike]) -> Tuple["ctypes.Array[Given]", int]:
+    """An array of the library's; it keeps what its places point to."""
+    given = [Given(*_file(item)) for item in items]
+    return (Given * len(given))(*given), len(given)
+
+
+def _several(items: Iterable[Any], what: str) -> Iterable[Any]:
+    """A str or one file is an iterable, too, and never what is meant."""
+    if isinstance(items, (str, bytes, bytearray, memoryview, mmap.mmap)):
+        raise TypeError(f"{what}: an iterable of {what} is wanted, not one {type(items).__name__}")
+    return items
+
+
+def _name(name: Name) -> bytes:
+    return name.encode("utf-8", "surrogateescape") if isinstance(name, str) else _kept(name)
+
+
+def _form(form: AnyForm) -> int:
+    return _FORMS[Form(form)]

@@ -1,0 +1,160 @@
+"""What the library's texts say: `check`, `list` and `show`."""
+
+from __future__ import annotations
+
+import re
+from dataclasses import dataclass
+from fractions import Fraction
+from typing import Dict, List, Mapping, Tuple, Union
+
+
+@dataclass(frozen=True)
+class Checked:
+    """What a font has: how many glyphs, how many Subrs that are present, and its weight, the size that is limited."""
+
+    glyphs: int
+    subrs: int
+    weight: int
+
+
+@dataclass(frozen=True)
+class Listed:
+    """What a font lists.
+
+    encoding: a word, such as "StandardEncoding", or the names of the codes that have one.
+    subrs: the length of each Subr by its index.
+    glyphs: the length of each glyph by its name.
+
+    Lengths are those of the plain charstrings. A name is a str in UTF-8; a byte of it that is no UTF-8 stands as a lone
+    surrogate, as in `os.fsdecode`. So each name can be given back to `show` and `subset`.
+    """
+
+    encoding: Union[str, Mapping[int, str]]
+    subrs: Mapping[int, int]
+    glyphs: Mapping[str, int]
+
+
+@dataclass(frozen=True)
+class Point:
+    """A place or a distance, in font units, exactly: a multiple of 1/65536."""
+
+    x: Fraction
+    y: Fraction
+
+
+@dataclass(frozen=True)
+class Mark:
+    """A mark of a drawing: its word, and its numbers in font units.
+
+    move X Y, line X Y, curve X Y X Y X Y, close; hstem Y DY, vstem X DX, and hstem3 and vstem3 with three such pairs; dot
+    for a dotsection, replace for a replacement of hints, flex HEIGHT before the two curves of a flex.
+    """
+
+    word: str
+    numbers: Tuple[Fraction, ...]
+
+
+@dataclass(frozen=True)
+class DrawnPart:
+    """A part of a glyph: where it stands, and its marks in its own coordinates."""
+
+    offset: Point
+    marks: Tuple[Mark, ...]
+
+
+@dataclass(frozen=True)
+class Drawn:
+    """What a glyph draws. An accented glyph has two parts, any other has one."""
+
+    width: Point
+    bearing: Point
+    parts: Tuple[DrawnPart, ...]
+
+
+@dataclass(frozen=True)
+class Undrawn:
+    """A glyph that can't be drawn: the name of its fault, such as "NestedSeac"."""
+
+    fault: str
+
+
+_CHECKED = re.compile(r"ok (\d+) glyphs, (\d+) subrs, weight (\d+)\n")
+_ESCAPE = re.compile(rb"\\x([0-9a-f]{2})")
+
+
+def unknown(line: str) -> RuntimeError:
+    """A line that no version 0 of the library writes."""
+    return RuntimeError(f"this is not libt1subset.so.0: it answered {line!r}")
+
+
+def name_of(shown: str) -> str:
+    """The name that is printed so."""
+    if "\\" not in shown:
+        return shown
+    name = _ESCAPE.sub(lambda found: bytes([int(found[1], 16)]), shown.encode("ascii"))
+    return name.decode("utf-8", "surrogateescape")
+
+
+def checked(text: str) -> Checked:
+    """What the text of `check` says."""
+    found = _CHECKED.fullmatch(text)
+    if not found:
+        raise unknown(text)
+    return Checked(*map(int, found.groups()))
+
+
+def listed(text: str) -> Listed:
+    """What the text of `list` says."""
+    word = None
+    codes: Dict[int, str] = {}
+    subrs: Dict[int, int] = {}
+    glyphs: Dict[str, int] = {}
+    for line in text.splitlines():
+        kind, *rest = line.split(" ")
+        if kind == "glyph" and len(rest) == 2:
+            glyphs[name_of(rest[0])] = int(rest[1])
+        elif kind == "subr" and len(rest) == 2:
+            subrs[int(rest[0])] = int(rest[1])
+        elif kind == "code" and len(rest) == 2:
+            codes[int(rest[0])] = name_of(rest[1])
+        elif kind == "encoding" and len(rest) == 1:
+            word = name_of(rest[0])
+        else:
+            raise unknown(line)
+    return Listed(codes if word is None else word, subrs, glyphs)
+
+
+def _amount(text: str) -> Fraction:
+    count, slash, parts = text.partition("/")
+    return Fraction(int(count), int(parts)) if slash else Fraction(int(count))
+
+
+def _mark(line: str) -> Mark:
+    word, *numbers = line.split(" ")
+    return Mark(word, tuple(map(_amount, numbers)))
+
+
+def _point(mark: Mark, word: str) -> Point:
+    if mark.word != word or len(mark.numbers) != 2:
+        raise unknown(mark.word)
+    return Point(*mark.numbers)
+
+
+def drawn(text: str) -> Union[Drawn, Undrawn]:
+    """What the text of `show` says."""
+    lines = text.splitlines()
+    if text.startswith("fault ") and len(lines) == 1:
+        return Undrawn(lines[0][len("fault "):])
+    if len(lines) < 2:
+        raise unknown(text)
+    width, bearing, *rest = map(_mark, lines)
+    parts: List[Tuple[Point, List[Mark]]] = []
+    for mark in rest:
+        if mark.word == "part":
+            parts.append((_point(mark, "part"), []))
+        elif parts:
+            parts[-1][1].append(mark)
+        else:
+            raise unknown(mark.word)
+    made = tuple(DrawnPart(offset, tuple(marks)) for offset, marks in parts)
+    return Drawn(_point(width, "width"), _point(bearing, "bearing"), made)
