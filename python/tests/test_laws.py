@@ -1,0 +1,91 @@
+"""What holds between the calls, of Tiny and of installed fonts."""
+
+from __future__ import annotations
+
+import itertools
+import unittest
+from typing import Iterator, List, Tuple
+
+import t1subset
+
+from . import fonts, left_out
+from .fonts import PFA, PFB, made
+
+# Charstrings of Subrs that glyphs call: a move across, a move up, and the `return` that stands for a Subr that is cut.
+ACROSS, UP, STUB = b"\xef\x16\x0b", b"\xef\x04\x0b", b"\x0b"
+EMPTY = b"\x8b\xf7\x8e\x0d\x0e"
+
+
+def calling(index: int) -> bytes:
+    """A charstring that calls this Subr."""
+    return b"\x8b\xf7\x8e\x0d" + bytes([139 + index]) + b"\x0a\x0e"
+
+
+def each_font() -> Iterator[Tuple[str, bytes]]:
+    yield "tiny.pfa", PFA
+    yield "tiny.pfb", PFB
+    found = fonts.installed()
+    if not found:
+        left_out("no Type 1 font is installed: the laws are tried on Tiny alone")
+    for path in found:
+        with open(path, "rb") as file:
+            yield path, file.read()
+
+
+def some_names(font: bytes) -> List[str]:
+    """Eight names of a font, from its whole table."""
+    names = list(t1subset.list(font).glyphs)
+    return names[:: max(1, len(names) // 8)][:8]
+
+
+class Laws(unittest.TestCase):
+    def test_subsets_merge_in_any_order_to_the_subset_of_all(self) -> None:
+        for path, font in each_font():
+            with self.subTest(font=path):
+                names = some_names(font)
+                cuts = [names[:2], names[2:3], names[2:]]
+                parts = [t1subset.subset(font, cut, form) for cut, form in zip(cuts, itertools.cycle(t1subset.Form))]
+                for form in t1subset.Form:
+                    whole = t1subset.subset(font, names, form)
+                    for order in itertools.permutations(parts):
+                        self.assertEqual(t1subset.merge(order, form), whole)
+                        self.assertEqual(t1subset.rejoin(order, form), whole)
+
+    def test_a_glyph_draws_in_a_subset_as_in_the_font(self) -> None:
+        for path, font in each_font():
+            names = some_names(font)
+            cut = t1subset.subset(font, names)
+            for name in names:
+                with self.subTest(font=path, name=name):
+                    self.assertEqual(t1subset.show(cut, name), t1subset.show(font, name))
+
+    def test_a_font_has_one_file_in_each_form(self) -> None:
+        for path, font in each_font():
+            with self.subTest(font=path):
+                pfa, pfb = t1subset.convert(font, "pfa"), t1subset.convert(font, "pfb")
+                self.assertEqual((pfa[:1], pfb[:2]), (b"%", b"\x80\x01"))
+                self.assertEqual((t1subset.convert(pfb), t1subset.convert(pfa, "pfb")), (pfa, pfb))
+                self.assertEqual(t1subset.list(pfa), t1subset.list(font))
+
+    def test_tiny_in_both_forms(self) -> None:
+        for font in (PFA, PFB):
+            self.assertEqual((t1subset.convert(font), t1subset.convert(font, "pfb")), (PFA, PFB))
+
+    def test_subsets_that_another_program_cut_rejoin(self) -> None:
+        one = made([STUB] * 4 + [ACROSS], {b".notdef": EMPTY, b"A": calling(4)}, b"ABCDEF+Small")
+        two = made([STUB] * 5 + [UP], {b".notdef": EMPTY, b"B": calling(5)}, b"ZYXWVU+Small")
+        both = made([STUB] * 4 + [ACROSS, UP], {b".notdef": EMPTY, b"A": calling(4), b"B": calling(5)}, b"Small")
+        self.assertEqual((t1subset.rejoin([one, two]), t1subset.rejoin([two, one])), (both, both))
+        self.assertEqual(t1subset.rejoin([one, two], "pfb"), t1subset.convert(both, "pfb"))
+
+    def test_listings_join(self) -> None:
+        left, right = fonts.example("left.listing"), fonts.example("right.listing")
+        self.assertEqual(t1subset.join(left, right), fonts.example("both.listing"))
+        self.assertEqual(t1subset.join(b"", b""), b"")
+
+    def test_sizes_of_subsets(self) -> None:
+        rows: List[Tuple[List[str], int, int]] = [([], 2141, 2167), (["X"], 2224, 2444), (["X", "X"], 2224, 2444), (["X", "Y"], 2301, 2718)]
+        for names, size, weight in rows:
+            with self.subTest(names=names):
+                cut = t1subset.subset(PFA, names)
+                self.assertEqual((len(cut), t1subset.check(cut).weight), (size, weight))

@@ -1,0 +1,99 @@
+"""What `check`, `list` and `show` say, and names that are no ASCII."""
+
+from __future__ import annotations
+
+import doctest
+import pickle
+import unittest
+from fractions import Fraction
+from typing import Any, Tuple
+
+import t1subset
+from t1subset import Checked, Drawn, Listed, Undrawn, _texts
+
+from . import fonts
+from .fonts import PFA
+
+EMPTY = b"\x8b\xf7\x8e\x0d\x0e"
+
+
+def load_tests(loader: unittest.TestLoader, tests: unittest.TestSuite, pattern: Any) -> unittest.TestSuite:
+    """The examples of the calls, too."""
+    tests.addTest(doctest.DocTestSuite("t1subset._calls", extraglobs={"font": PFA}))
+    return tests
+
+
+def marks(drawing: object) -> Tuple[Any, ...]:
+    """A drawing as plain tuples."""
+    assert isinstance(drawing, Drawn)
+    parts = [((part.offset.x, part.offset.y), [(mark.word, *mark.numbers) for mark in part.marks]) for part in drawing.parts]
+    return (drawing.width.x, drawing.width.y), (drawing.bearing.x, drawing.bearing.y), parts
+
+
+class Texts(unittest.TestCase):
+    def test_check(self) -> None:
+        self.assertEqual(t1subset.check(PFA), Checked(glyphs=11, subrs=10, weight=4936))
+
+    def test_list_of_a_table(self) -> None:
+        listed = t1subset.list(t1subset.subset(PFA, ["X"]))
+        lengths = [11, 5, 5, 1, 1, 3, 1, 1, 1, 1]
+        self.assertEqual(listed, Listed({65: "X"}, dict(enumerate(lengths)), {".notdef": 5, "X": 15}))
+
+    def test_list_of_a_word(self) -> None:
+        listed = t1subset.list(fonts.made([], {b".notdef": EMPTY}))
+        self.assertEqual(listed, Listed("StandardEncoding", {}, {".notdef": 5}))
+
+    def test_list_of_no_codes(self) -> None:
+        self.assertEqual(t1subset.list(t1subset.subset(PFA, [])).encoding, {})
+
+    def test_show(self) -> None:
+        box = [("move", 50, 0), ("line", 150, 0), ("line", 150, 700), ("line", 50, 700), ("close",)]
+        self.assertEqual(marks(t1subset.show(PFA, "X")), ((300, 0), (50, 0), [((0, 0), box)]))
+        hints = [("hstem", 0, 20), ("replace",), ("hstem", 100, 20)]
+        self.assertEqual(marks(t1subset.show(PFA, "H")), ((500, 0), (0, 0), [((0, 0), hints)]))
+        curves = [("curve", 110, 0, 130, 5, 150, 5), ("curve", 170, 5, 190, 0, 200, 0)]
+        flex = [("move", 100, 0), ("flex", 50), *curves, ("close",)]
+        self.assertEqual(marks(t1subset.show(PFA, b"F")), ((500, 0), (0, 0), [((0, 0), flex)]))
+
+    def test_show_of_two_parts(self) -> None:
+        base = [("move", 0, 0), ("line", -100, 0), ("close",)]
+        accent = [("move", 50, 0), ("line", 150, 0), ("close",)]
+        parts = [((0, 0), base), ((70, 200), accent)]
+        self.assertEqual(marks(t1subset.show(PFA, "Aacute")), ((500, 0), (0, 0), parts))
+
+    def test_show_of_faults(self) -> None:
+        self.assertEqual(t1subset.show(PFA, "N"), Undrawn("NestedSeac"))
+        self.assertEqual(t1subset.show(PFA, "L"), Undrawn("Nesting"))
+
+    def test_amounts_that_are_not_whole(self) -> None:
+        # `0 250 hsbw 1 3 div -1 3 div rmoveto endchar`, of which a third is cut toward zero.
+        third = b"\x8b\xf7\x8e\x0d\x8c\x8e\x0c\x0c\x8a\x8e\x0c\x0c\x15\x0e"
+        drawing = t1subset.show(fonts.with_charstrings({b"/A": third}), "A")
+        move = ("move", Fraction(21845, 65536), Fraction(-21845, 65536))
+        self.assertEqual(marks(drawing), ((250, 0), (0, 0), [((0, 0), [move])]))
+
+    def test_names_that_are_no_ascii(self) -> None:
+        for name, given in [(b"a\\b", "a\\b"), ("é".encode(), "é"), (b"\xff\x80", "\udcff\udc80"), (b"\\x41", "\\x41")]:
+            with self.subTest(name=name):
+                font = fonts.made([], {b".notdef": EMPTY, name: EMPTY})
+                self.assertEqual(t1subset.list(font).glyphs, {".notdef": 5, given: 5})
+                self.assertEqual(t1subset.convert(font), font)
+                self.assertEqual(t1subset.subset(font, [given]), font)
+                self.assertEqual(t1subset.show(font, given), t1subset.show(font, name))
+
+    def test_answers_can_be_compared_and_pickled(self) -> None:
+        for answer in (t1subset.check(PFA), t1subset.list(PFA), t1subset.show(PFA, "X"), t1subset.show(PFA, "N")):
+            self.assertEqual(pickle.loads(pickle.dumps(answer)), answer)
+
+    def test_texts_of_another_library(self) -> None:
+        for parse, text in [
+            (_texts.checked, "ok\n"),
+            (_texts.listed, "glyph A\n"),
+            (_texts.listed, "kern A B 5\n"),
+            (_texts.drawn, ""),
+            (_texts.drawn, "width 1 0\nbearing 0 0\nmove 1 0\n"),
+            (_texts.drawn, "bearing 0 0\nwidth 1 0\n"),
+            (_texts.drawn, "width 1 0\nbearing 0 0\npart 0\n"),
+        ]:
+            with self.subTest(text=text):
+                self.assertRaises(RuntimeError, parse, text)
