@@ -6,19 +6,19 @@
 >>> merge([other, some]) == subset(font, ["A", "Aacute", "B"])
 True
 
-A file is any bytes-like object. Bytes are lent to the library; anything that could be changed during the call, such as a
-bytearray or a mmap, is copied first. The name of a glyph is a str or bytes, without its slash; a str is encoded in UTF-8,
-with surrogateescape for what `list` found to be no UTF-8.
+A file is any bytes-like object. Bytes are lent to the library; anything that could be changed during the call, such
+as a bytearray or a mmap, is copied first. The name of a glyph is a str or bytes, without its slash; a str is encoded
+in UTF-8, with surrogateescape for what `list` found to be no UTF-8.
 
-A call raises Refused, which is a ValueError, where the library gives no result; MemoryError where it was refused memory;
-ValueError for a form that is none; TypeError for arguments of another type. Any number of threads may call at once, and
-the interpreter's lock is released during a call.
+A call raises Refused, which is a ValueError, where the library gives no result; MemoryError where it was refused
+memory; ValueError for a form that is none; TypeError for arguments of another type. Any number of threads may call at
+once, and the interpreter's lock is released during a call.
 
-A font of 1 MB can be made so that merge and rejoin run for minutes: a service that opens files of strangers should limit
-the time of a call from outside, for instance in a process of its own.
+A font of 1 MB can be made so that merge and rejoin run for minutes: a service that opens files of strangers should
+limit the time of a call from outside, for instance in a process of its own.
 
-The library is that of the environment variable LIBT1SUBSET, a path; else the loader's libt1subset.so.0; else the one that
-the repository built, if this package stands in it.
+The library is that of the environment variable LIBT1SUBSET, a path; else the loader's libt1subset.so.0; else the one
+that the repository built, if this package stands in it.
 """
 
 from ._calls import (

@@ -64,8 +64,8 @@ def convert(font: BytesLike, form: AnyForm = "pfa") -> bytes:
 
 
 def subset(font: BytesLike, names: Iterable[Name], form: AnyForm = "pfa") -> bytes:
-    """The canonical file of the subset that keeps these glyphs, .notdef, the components of accented glyphs, and the Subrs
-    that all of these execute. A name may be given more than once.
+    """The canonical file of the subset that keeps these glyphs, .notdef, the components of accented glyphs, and the
+    Subrs that all of these execute. A name may be given more than once.
 
     >>> check(subset(font, ["X", "Y"]))
     Checked(glyphs=3, subrs=10, weight=2718)
@@ -74,8 +74,8 @@ def subset(font: BytesLike, names: Iterable[Name], form: AnyForm = "pfa") -> byt
 
 
 def merge(fonts: Iterable[BytesLike], form: AnyForm = "pfa") -> bytes:
-    """The canonical file of the font that fonts merge to. Subsets of one font that t1subset cut merge, in every order, to
-    the subset of all their names, byte for byte.
+    """The canonical file of the font that fonts merge to. Subsets of one font that t1subset cut merge, in every
+    order, to the subset of all their names, byte for byte.
 
     >>> merge([subset(font, ["Y"]), subset(font, ["X"])]) == subset(font, ["X", "Y"])
     True
@@ -84,8 +84,8 @@ def merge(fonts: Iterable[BytesLike], form: AnyForm = "pfa") -> bytes:
 
 
 def rejoin(fonts: Iterable[BytesLike], form: AnyForm = "pfa") -> bytes:
-    """The same for subsets that another program cut, such as dvips or pdfTeX: they are first made even (the tag before the
-    FontName is removed, and every table of Subrs declares as many)."""
+    """The same for subsets that another program cut, such as dvips or pdfTeX: they are first made even (the tag
+    before the FontName is removed, and every table of Subrs declares as many)."""
     return _call(library.t1subset_rejoin, *_files(_several(fonts, "fonts")), _form(form))
 
 

@@ -16,7 +16,7 @@ class Given(ctypes.Structure):
 
 
 class Answer(ctypes.Structure):
-    """t1subset_answer. Its data is no c_char_p, since ctypes would read that up to a NUL, and no NUL stands at its end."""
+    """t1subset_answer. Its data is no c_char_p: ctypes would read that up to a NUL, and none stands at its end."""
 
     _fields_ = [
         ("detail", ctypes.c_uint64),

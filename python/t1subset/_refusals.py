@@ -98,11 +98,11 @@ class Refused(ValueError):
     """The library gives no result, and says why. `str` gives the text.
 
     number: a Number, or a plain int for a number that a later library added.
-    text: what the program t1subset prints behind `refused: `, such as "no glyph Q". In a name there, each byte outside 33
-        to 126, and the backslash, stands as a backslash, `x` and two digits.
+    text: what the program t1subset prints behind `refused: `, such as "no glyph Q". In a name there, each byte outside
+        33 to 126, and the backslash, stands as a backslash, `x` and two digits.
     detail: what the number names: an offset, a code, an index, a line or a Part; else 0.
-    input: the place, from 0, of the file that is refused for itself; None if none is, as for a glyph that the font lacks
-        or a conflict of two fonts.
+    input: the place, from 0, of the file that is refused for itself; None if none is, as for a glyph that the font
+        lacks or a conflict of two fonts.
     """
 
     number: int

@@ -46,8 +46,9 @@ class Point:
 class Mark:
     """A mark of a drawing: its word, and its numbers in font units.
 
-    move X Y, line X Y, curve X Y X Y X Y, close; hstem Y DY, vstem X DX, and hstem3 and vstem3 with three such pairs; dot
-    for a dotsection, replace for a replacement of hints, flex HEIGHT before the two curves of a flex.
+    move X Y, line X Y, curve X Y X Y X Y, close; hstem Y DY, vstem X DX, and hstem3 and vstem3 with three such pairs,
+    as the charstring has them, from the side bearing point; dot for a dotsection, replace for a replacement of hints,
+    flex HEIGHT before the two curves of a flex.
     """
 
     word: str

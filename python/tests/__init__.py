@@ -1,4 +1,4 @@
-"""The tests of the package. In the repository they load the library that the tree built, unless LIBT1SUBSET names one."""
+"""The tests of the package. They load the library that the repository built, unless LIBT1SUBSET names one."""
 
 import os
 import sys

@@ -103,8 +103,8 @@ def installed() -> List[str]:
 
 @lru_cache(maxsize=None)
 def slow(glyphs: int = 100) -> bytes:
-    """A font of which each glyph executes as many tokens as a glyph may: Subr 11 calls Subr 10 eight times, and so on down
-    to Subr 5, so that 8 ** 7 tokens are wanted."""
+    """A font of which each glyph executes as many tokens as a glyph may: Subr 11 calls Subr 10 eight times, and so on
+    down to Subr 5, so that 8 ** 7 tokens are wanted."""
     subrs = [b"\x0b"] * 5 + [b"\x0b"]
     for index in range(5, 12):
         subrs.append((bytes([139 + index]) + b"\x0a") * 8 + b"\x0b")

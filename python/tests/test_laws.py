@@ -84,7 +84,8 @@ class Laws(unittest.TestCase):
         self.assertEqual(t1subset.join(b"", b""), b"")
 
     def test_sizes_of_subsets(self) -> None:
-        rows: List[Tuple[List[str], int, int]] = [([], 2141, 2167), (["X"], 2224, 2444), (["X", "X"], 2224, 2444), (["X", "Y"], 2301, 2718)]
+        rows: List[Tuple[List[str], int, int]] = [([], 2141, 2167), (["X"], 2224, 2444)]
+        rows += [(["X", "X"], 2224, 2444), (["X", "Y"], 2301, 2718)]
         for names, size, weight in rows:
             with self.subTest(names=names):
                 cut = t1subset.subset(PFA, names)

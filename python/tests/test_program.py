@@ -22,8 +22,8 @@ def program() -> Optional[str]:
 
 def shown(name: str) -> str:
     """A name as the program prints it."""
-    plain = (chr(byte) if 33 <= byte <= 126 and byte != 92 else r"\x%02x" % byte for byte in name.encode("utf-8", "surrogateescape"))
-    return "".join(plain)
+    them = name.encode("utf-8", "surrogateescape")
+    return "".join(chr(byte) if 33 <= byte <= 126 and byte != 92 else r"\x%02x" % byte for byte in them)
 
 
 def amount(value: Any) -> str:

@@ -1,4 +1,5 @@
-"""Each refusal: its number, text, detail and input. The texts are those of t1subset.h, the offsets those of docs/VECTORS.md."""
+"""Each refusal: its number, text, detail and input. The texts are those of t1subset.h, the offsets those of
+docs/VECTORS.md."""
 
 from __future__ import annotations
 

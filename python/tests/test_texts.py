@@ -26,7 +26,9 @@ def load_tests(loader: unittest.TestLoader, tests: unittest.TestSuite, pattern: 
 def marks(drawing: object) -> Tuple[Any, ...]:
     """A drawing as plain tuples."""
     assert isinstance(drawing, Drawn)
-    parts = [((part.offset.x, part.offset.y), [(mark.word, *mark.numbers) for mark in part.marks]) for part in drawing.parts]
+    parts = []
+    for part in drawing.parts:
+        parts.append(((part.offset.x, part.offset.y), [(mark.word, *mark.numbers) for mark in part.marks]))
     return (drawing.width.x, drawing.width.y), (drawing.bearing.x, drawing.bearing.y), parts
 
 
@@ -73,7 +75,8 @@ class Texts(unittest.TestCase):
         self.assertEqual(marks(drawing), ((250, 0), (0, 0), [((0, 0), [move])]))
 
     def test_names_that_are_no_ascii(self) -> None:
-        for name, given in [(b"a\\b", "a\\b"), ("é".encode(), "é"), (b"\xff\x80", "\udcff\udc80"), (b"\\x41", "\\x41")]:
+        rows = [(b"a\\b", "a\\b"), ("é".encode(), "é"), (b"\xff\x80", "\udcff\udc80"), (b"\\x41", "\\x41")]
+        for name, given in rows:
             with self.subTest(name=name):
                 font = fonts.made([], {b".notdef": EMPTY, name: EMPTY})
                 self.assertEqual(t1subset.list(font).glyphs, {".notdef": 5, given: 5})

@@ -1,0 +1,189 @@
+//! Adobe Type 1 fonts (PFA, PFB or with a raw binary cipher), cut, merged, checked, listed and drawn by libt1subset.
+//!
+//! ```
+//! use t1subset::{merge, subset, Form};
+//!
+//! # fn main() -> Result<(), Box<dyn std::error::Error>> {
+//! let font = std::fs::read("../examples/tiny.pfb")?;
+//! let some = subset(&font, &["X"], Form::Pfa)?;
+//! let other = subset(&font, &["Y", "Aacute"], Form::Pfb)?;
+//! let both = merge(&[&other, &some], Form::Pfa)?;
+//! assert_eq!(both, subset(&font, &["X", "Y", "Aacute"], Form::Pfa)?);
+//! # Ok(())
+//! # }
+//! ```
+//!
+//! A call takes whole files as bytes, any bytes, and answers a whole file or what a font has. The name of a glyph is a
+//! `str` or bytes, without its slash. A call that has no result answers [`Refused`], for want of memory, too, as
+//! [`Number::Memory`]; only memory for what this crate itself copies is asked for as Rust does.
+//!
+//! Any number of threads may call at once. A font of 1 MB can be made so that `merge` and `rejoin` run for minutes: a
+//! service that opens files of strangers should limit the time of a call from outside, for instance in a process of its
+//! own.
+//!
+//! # Panics
+//!
+//! [`check`], [`list`] and [`show`] read the library's texts, and panic at a text that libt1subset.so.0 doesn't write.
+
+#![warn(missing_docs)]
+#![deny(unsafe_code)]
+#![deny(unsafe_op_in_unsafe_fn)]
+
+mod drawing;
+mod ffi;
+mod listed;
+mod name;
+mod refusal;
+
+pub use drawing::{Amount, Drawing, DrawnPart, Mark, Picture, Point};
+pub use listed::{Checked, Encoding, Listed};
+pub use name::Name;
+pub use refusal::{Number, Part, Refused};
+
+/// The form of the file that is written.
+#[derive(Clone, Copy, Debug, Default, PartialEq, Eq, Hash)]
+pub enum Form {
+    /// Text, with the cipher in hexadecimal: what a PostScript document contains.
+    #[default]
+    Pfa,
+    /// Segments, with the cipher in binary.
+    Pfb,
+}
+
+/// What a font has, if it is one.
+///
+/// ```
+/// # fn main() -> Result<(), Box<dyn std::error::Error>> {
+/// let font = std::fs::read("../examples/tiny.pfa")?;
+/// assert_eq!(t1subset::check(&font)?.glyphs, 11);
+///
+/// let refused = t1subset::check(b"no font").unwrap_err();
+/// assert_eq!((refused.number, refused.input), (t1subset::Number::NoEexec, Some(0)));
+/// assert_eq!(refused.to_string(), "no eexec");
+/// # Ok(())
+/// # }
+/// ```
+pub fn check(font: &[u8]) -> Result<Checked, Refused> {
+    ffi::check(font).map(|text| read(&text, Checked::read))
+}
+
+/// The Encoding, and the lengths of the Subrs and of the glyphs.
+///
+/// ```
+/// # fn main() -> Result<(), Box<dyn std::error::Error>> {
+/// let font = std::fs::read("../examples/tiny.pfa")?;
+/// let listed = t1subset::list(&font)?;
+/// assert_eq!(listed.glyphs.get(&b"X"[..]), Some(&15));
+/// let all = t1subset::subset(&font, &listed.glyphs.keys().collect::<Vec<_>>(), t1subset::Form::Pfa)?;
+/// assert_eq!(t1subset::list(&all)?.glyphs, listed.glyphs);
+/// # Ok(())
+/// # }
+/// ```
+pub fn list(font: &[u8]) -> Result<Listed, Refused> {
+    ffi::list(font).map(|text| read(&text, Listed::read))
+}
+
+/// What a glyph draws, or the fault for which it can't be drawn.
+///
+/// ```
+/// use t1subset::{Mark, Picture};
+///
+/// # fn main() -> Result<(), Box<dyn std::error::Error>> {
+/// let font = std::fs::read("../examples/tiny.pfa")?;
+/// if let Picture::Drawn(drawing) = t1subset::show(&font, "X")? {
+///     assert_eq!(drawing.width.x.to_f64(), 300.0);
+///     for mark in &drawing.parts[0].marks {
+///         match mark {
+///             Mark::Move(to) => println!("{} {} moveto", to.x.to_f64(), to.y.to_f64()),
+///             Mark::Line(to) => println!("{} {} lineto", to.x.to_f64(), to.y.to_f64()),
+///             _ => (),
+///         }
+///     }
+/// }
+/// assert_eq!(t1subset::show(&font, "N")?, Picture::Undrawn("NestedSeac".into()));
+/// # Ok(())
+/// # }
+/// ```
+pub fn show<N: AsRef<[u8]> + ?Sized>(font: &[u8], name: &N) -> Result<Picture, Refused> {
+    ffi::show(font, name.as_ref()).map(|text| read(&text, Picture::read))
+}
+
+/// The one canonical file of a font, in a form.
+///
+/// ```
+/// # fn main() -> Result<(), Box<dyn std::error::Error>> {
+/// let (pfa, pfb) = (std::fs::read("../examples/tiny.pfa")?, std::fs::read("../examples/tiny.pfb")?);
+/// assert_eq!(t1subset::convert(&pfa, t1subset::Form::Pfb)?, pfb);
+/// # Ok(())
+/// # }
+/// ```
+pub fn convert(font: &[u8], form: Form) -> Result<Vec<u8>, Refused> {
+    ffi::convert(font, form)
+}
+
+/// The canonical file of the subset that keeps these glyphs, .notdef, the components of accented glyphs, and the Subrs
+/// that all of these execute. A name may stand in the list more than once.
+///
+/// ```
+/// # fn main() -> Result<(), Box<dyn std::error::Error>> {
+/// let font = std::fs::read("../examples/tiny.pfa")?;
+/// let some = t1subset::subset(&font, &["X", "Y"], t1subset::Form::Pfa)?;
+/// assert_eq!(t1subset::check(&some)?.glyphs, 3);
+/// # Ok(())
+/// # }
+/// ```
+pub fn subset<N: AsRef<[u8]>>(font: &[u8], names: &[N], form: Form) -> Result<Vec<u8>, Refused> {
+    ffi::subset(font, &slices(names), form)
+}
+
+/// The canonical file of the font that fonts merge to. Subsets of one font that t1subset cut merge, in every order, to
+/// the subset of all their names, byte for byte.
+///
+/// ```
+/// # fn main() -> Result<(), Box<dyn std::error::Error>> {
+/// use t1subset::{merge, subset, Form};
+/// let font = std::fs::read("../examples/tiny.pfa")?;
+/// let parts = [subset(&font, &["Y"], Form::Pfa)?, subset(&font, &["X"], Form::Pfa)?];
+/// assert_eq!(merge(&parts, Form::Pfb)?, subset(&font, &["X", "Y"], Form::Pfb)?);
+/// # Ok(())
+/// # }
+/// ```
+pub fn merge<F: AsRef<[u8]>>(fonts: &[F], form: Form) -> Result<Vec<u8>, Refused> {
+    ffi::merge(&slices(fonts), form)
+}
+
+/// The same for subsets that another program cut, such as dvips or pdfTeX: they are first made even (the tag before the
+/// FontName is removed, and every table of Subrs declares as many).
+pub fn rejoin<F: AsRef<[u8]>>(fonts: &[F], form: Form) -> Result<Vec<u8>, Refused> {
+    ffi::rejoin(&slices(fonts), form)
+}
+
+/// The join of two listings, texts of lines `S INDEX HEX` and `G NAME HEX`.
+///
+/// ```
+/// # fn main() -> Result<(), Box<dyn std::error::Error>> {
+/// assert_eq!(t1subset::join(b"S 5 ef060b\n", b"G Y 0E\n")?, b"S 5 ef060b\nG Y 0e\n");
+/// # Ok(())
+/// # }
+/// ```
+pub fn join(first: &[u8], second: &[u8]) -> Result<Vec<u8>, Refused> {
+    ffi::join(first, second)
+}
+
+/// The version of the library that is linked, as `T1SUBSET_VERSION`: 0x00MMmmpp.
+pub fn version() -> u32 {
+    ffi::version()
+}
+
+// Each item is asked once: `as_ref` may answer another slice the next time.
+fn slices<T: AsRef<[u8]>>(items: &[T]) -> Vec<&[u8]> {
+    items.iter().map(AsRef::as_ref).collect()
+}
+
+fn read<T>(text: &[u8], parse: impl FnOnce(&str) -> Option<T>) -> T {
+    let text = String::from_utf8_lossy(text);
+    match parse(&text) {
+        Some(said) => said,
+        None => panic!("this is not libt1subset.so.0: it answered {text:?}"),
+    }
+}

@@ -1,0 +1,103 @@
+//! What holds between the calls, of Tiny and of installed fonts.
+
+mod common;
+
+use common::{each_font, example, made, some_names, EMPTY, STUB};
+use std::thread;
+use t1subset::{check, convert, join, list, merge, rejoin, show, subset, Form};
+
+#[test]
+fn subsets_merge_in_any_order_to_the_subset_of_all() {
+    for (path, font) in each_font() {
+        let names = some_names(&font);
+        let one = subset(&font, &names[..2], Form::Pfa).unwrap();
+        let two = subset(&font, &names[2..3], Form::Pfb).unwrap();
+        let rest = subset(&font, &names[2..], Form::Pfa).unwrap();
+        for form in [Form::Pfa, Form::Pfb] {
+            let whole = subset(&font, &names, form).unwrap();
+            for order in [[&one, &two, &rest], [&two, &rest, &one], [&rest, &one, &two], [&rest, &two, &one]] {
+                assert!(merge(&order, form).unwrap() == whole, "{path}");
+                assert!(rejoin(&order, form).unwrap() == whole, "{path}");
+            }
+        }
+    }
+}
+
+#[test]
+fn a_glyph_draws_in_a_subset_as_in_the_font() {
+    for (path, font) in each_font() {
+        let names = some_names(&font);
+        let cut = subset(&font, &names, Form::Pfa).unwrap();
+        for name in &names {
+            assert_eq!(show(&cut, name), show(&font, name), "{path}: {name}");
+        }
+    }
+}
+
+#[test]
+fn a_font_has_one_file_in_each_form() {
+    for (path, font) in each_font() {
+        let (pfa, pfb) = (convert(&font, Form::Pfa).unwrap(), convert(&font, Form::Pfb).unwrap());
+        assert_eq!((&pfa[..1], &pfb[..2]), (&b"%"[..], &b"\x80\x01"[..]), "{path}");
+        assert!(convert(&pfb, Form::Pfa).unwrap() == pfa && convert(&pfa, Form::Pfb).unwrap() == pfb, "{path}");
+        assert_eq!(list(&pfa), list(&font), "{path}");
+    }
+}
+
+#[test]
+fn tiny_in_both_forms() {
+    let (pfa, pfb) = (example("tiny.pfa"), example("tiny.pfb"));
+    for font in [&pfa, &pfb] {
+        assert!(convert(font, Form::default()).unwrap() == pfa);
+        assert!(convert(font, Form::Pfb).unwrap() == pfb);
+    }
+}
+
+#[test]
+fn subsets_that_another_program_cut_rejoin() {
+    let (across, up) = (&b"\xef\x16\x0b"[..], &b"\xef\x04\x0b"[..]);
+    let (calls_4, calls_5) = (&b"\x8b\xf7\x8e\x0d\x8f\x0a\x0e"[..], &b"\x8b\xf7\x8e\x0d\x90\x0a\x0e"[..]);
+    let stubs = [STUB; 5];
+    let one = made("ABCDEF+Small", &[&stubs[..4], &[across]].concat(), &[(b".notdef", EMPTY), (b"A", calls_4)]);
+    let two = made("ZYXWVU+Small", &[&stubs[..5], &[up]].concat(), &[(b".notdef", EMPTY), (b"B", calls_5)]);
+    let glyphs: [(&[u8], &[u8]); 3] = [(b".notdef", EMPTY), (b"A", calls_4), (b"B", calls_5)];
+    let both = made("Small", &[&stubs[..4], &[across, up]].concat(), &glyphs);
+    for order in [[&one, &two], [&two, &one]] {
+        assert!(rejoin(&order, Form::Pfa).unwrap() == both);
+        assert!(rejoin(&order, Form::Pfb) == convert(&both, Form::Pfb));
+    }
+}
+
+#[test]
+fn listings_join() {
+    let joined = join(&example("left.listing"), &example("right.listing"));
+    assert!(joined.unwrap() == example("both.listing"));
+    assert_eq!(join(b"", b"").unwrap(), b"");
+}
+
+#[test]
+fn sizes_of_subsets() {
+    let font = example("tiny.pfa");
+    let rows: [(&[&str], usize, usize); 4] =
+        [(&[], 2141, 2167), (&["X"], 2224, 2444), (&["X", "X"], 2224, 2444), (&["X", "Y"], 2301, 2718)];
+    for (names, size, weight) in rows {
+        let cut = subset(&font, names, Form::Pfa).unwrap();
+        assert_eq!((cut.len(), check(&cut).unwrap().weight), (size, weight), "{names:?}");
+    }
+}
+
+#[test]
+fn many_threads() {
+    let font = &example("tiny.pfa");
+    thread::scope(|scope| {
+        for name in ["X", "Y", "H", "Aacute", "X", "Y", "H", "Aacute"] {
+            let want = subset(font, &[name], Form::Pfb).unwrap();
+            scope.spawn(move || {
+                for _ in 0..50 {
+                    assert!(subset(font, &[name], Form::Pfb).unwrap() == want);
+                    assert_eq!(check(b"").unwrap_err().text, "no eexec");
+                }
+            });
+        }
+    });
+}

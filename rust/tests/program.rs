@@ -1,0 +1,163 @@
+//! The crate against the program t1subset: the same bytes, and texts that say the same.
+
+mod common;
+
+use common::{each_font, example, left_out, some_names, top};
+use std::env;
+use std::fmt::Write;
+use std::fs;
+use std::path::PathBuf;
+use std::process::{Command, Output};
+use t1subset::{Amount, Checked, Drawing, Encoding, Form, Listed, Mark, Picture, Point, Refused};
+
+/// The program: that of the variable T1SUBSET, else the tree's.
+fn program() -> Option<PathBuf> {
+    let named = env::var_os("T1SUBSET").map(PathBuf::from);
+    let built = ["bin/t1subset", "crates/t1subset/out/t1subset"].map(top);
+    let found = named.into_iter().chain(built).find(|path| path.exists());
+    if found.is_none() {
+        left_out("no program t1subset: the crate is not compared with it");
+    }
+    found
+}
+
+fn numbers(out: &mut String, word: &str, amounts: &[Amount]) {
+    out.push_str(word);
+    for amount in amounts {
+        write!(out, " {amount}").unwrap();
+    }
+    out.push('\n');
+}
+
+fn pairs(them: &[(Amount, Amount); 3]) -> [Amount; 6] {
+    let [(a, b), (c, d), (e, f)] = *them;
+    [a, b, c, d, e, f]
+}
+
+fn mark_line(out: &mut String, mark: &Mark) {
+    match mark {
+        Mark::Move(Point { x, y }) => numbers(out, "move", &[*x, *y]),
+        Mark::Line(Point { x, y }) => numbers(out, "line", &[*x, *y]),
+        Mark::Curve(a, b, c) => numbers(out, "curve", &[a.x, a.y, b.x, b.y, c.x, c.y]),
+        Mark::Close => numbers(out, "close", &[]),
+        Mark::Hstem(y, dy) => numbers(out, "hstem", &[*y, *dy]),
+        Mark::Vstem(x, dx) => numbers(out, "vstem", &[*x, *dx]),
+        Mark::Hstem3(stems) => numbers(out, "hstem3", &pairs(stems)),
+        Mark::Vstem3(stems) => numbers(out, "vstem3", &pairs(stems)),
+        Mark::Dot => numbers(out, "dot", &[]),
+        Mark::Replace => numbers(out, "replace", &[]),
+        Mark::Flex(height) => numbers(out, "flex", &[*height]),
+        other => panic!("{other:?} is a new mark"),
+    }
+}
+
+fn drawing_text(drawing: &Drawing) -> String {
+    let mut out = String::new();
+    numbers(&mut out, "width", &[drawing.width.x, drawing.width.y]);
+    numbers(&mut out, "bearing", &[drawing.bearing.x, drawing.bearing.y]);
+    for part in &drawing.parts {
+        numbers(&mut out, "part", &[part.offset.x, part.offset.y]);
+        part.marks.iter().for_each(|mark| mark_line(&mut out, mark));
+    }
+    out
+}
+
+fn list_text(listed: &Listed) -> String {
+    let mut out = match &listed.encoding {
+        Encoding::Word(word) => format!("encoding {word}\n"),
+        Encoding::Codes(codes) => codes.iter().map(|(code, name)| format!("code {code} {name}\n")).collect(),
+    };
+    out.extend(listed.subrs.iter().map(|(index, length)| format!("subr {index} {length}\n")));
+    out.extend(listed.glyphs.iter().map(|(name, length)| format!("glyph {name} {length}\n")));
+    out
+}
+
+fn check_text(checked: &Checked) -> String {
+    format!("ok {} glyphs, {} subrs, weight {}\n", checked.glyphs, checked.subrs, checked.weight)
+}
+
+fn show_text(picture: &Picture) -> String {
+    match picture {
+        Picture::Drawn(drawing) => drawing_text(drawing),
+        Picture::Undrawn(fault) => format!("fault {fault}\n"),
+    }
+}
+
+/// A folder of files for the program, and what it makes of them.
+struct Run {
+    program: PathBuf,
+    folder: PathBuf,
+}
+
+impl Run {
+    fn new(name: &str) -> Option<Run> {
+        let folder = PathBuf::from(env!("CARGO_TARGET_TMPDIR")).join(name);
+        let program = fs::canonicalize(program()?).unwrap();
+        fs::create_dir_all(&folder).unwrap();
+        Some(Run { program, folder })
+    }
+
+    /// The call's result is what the program prints, or writes to OUT, or refuses. IN0, IN1 and so on name the inputs.
+    #[track_caller]
+    fn same(&self, words: &[&str], inputs: &[&[u8]], answer: Result<Vec<u8>, Refused>) {
+        for (place, bytes) in inputs.iter().enumerate() {
+            fs::write(self.folder.join(format!("IN{place}")), bytes).unwrap();
+        }
+        let Output { status, stdout, stderr } =
+            Command::new(&self.program).args(words).current_dir(&self.folder).output().unwrap();
+        let out = self.folder.join("OUT");
+        match answer {
+            Ok(bytes) => {
+                let said = if words.contains(&"OUT") { fs::read(&out).unwrap() } else { stdout };
+                assert_eq!((status.code(), said == bytes), (Some(0), true), "{words:?}");
+            }
+            Err(why) => {
+                let said = String::from_utf8(stderr).unwrap();
+                assert_eq!((status.code(), said), (Some(1), format!("refused: {why}\n")), "{words:?}");
+            }
+        }
+        fs::remove_file(out).ok();
+    }
+}
+
+#[test]
+fn words_about_one_font() {
+    let Some(run) = Run::new("one") else { return };
+    for (_, font) in each_font() {
+        let names: Vec<String> = some_names(&font).iter().map(|name| name.to_string()).collect();
+        let font = font.as_slice();
+        run.same(&["check", "IN0"], &[font], t1subset::check(font).map(|it| check_text(&it).into()));
+        run.same(&["list", "IN0"], &[font], t1subset::list(font).map(|it| list_text(&it).into()));
+        run.same(&["pfa", "IN0", "OUT"], &[font], t1subset::convert(font, Form::Pfa));
+        run.same(&["pfb", "IN0", "OUT"], &[font], t1subset::convert(font, Form::Pfb));
+        for name in names.iter().map(String::as_str).chain(["Zed"]) {
+            run.same(&["show", "IN0", name], &[font], t1subset::show(font, name).map(|it| show_text(&it).into()));
+            run.same(&["subset", "IN0", "OUT", name], &[font], t1subset::subset(font, &[name], Form::Pfa));
+        }
+    }
+}
+
+#[test]
+fn words_about_several_fonts() {
+    let Some(run) = Run::new("several") else { return };
+    let fonts: Vec<_> = each_font().into_iter().map(|(_, font)| font).collect();
+    for pair in fonts.windows(2) {
+        let inputs = [pair[0].as_slice(), pair[1].as_slice()];
+        run.same(&["merge", "OUT", "IN0", "IN1"], &inputs, t1subset::merge(&inputs, Form::Pfa));
+        run.same(&["rejoin", "OUT", "IN0", "IN1"], &inputs, t1subset::rejoin(&inputs, Form::Pfa));
+    }
+    for (left, right) in [("left", "right"), ("left", "other"), ("right", "other")] {
+        let (left, right) = (example(&format!("{left}.listing")), example(&format!("{right}.listing")));
+        run.same(&["join", "IN0", "IN1"], &[&left, &right], t1subset::join(&left, &right));
+    }
+}
+
+#[test]
+fn prefixes_of_tiny() {
+    let Some(run) = Run::new("prefixes") else { return };
+    for font in [example("tiny.pfa"), example("tiny.pfb")] {
+        for cut in (0..font.len()).step_by(37).map(|size| &font[..size]) {
+            run.same(&["check", "IN0"], &[cut], t1subset::check(cut).map(|it| check_text(&it).into()));
+        }
+    }
+}
