@@ -39,6 +39,8 @@ fn link_from(folder: &Path) -> bool {
         let path = folder.join(file);
         println!("cargo:rerun-if-changed={}", path.display());
         if path.exists() {
+            // The compiler may run in another folder than this script.
+            let folder = folder.canonicalize().unwrap_or_else(|_| folder.into());
             println!("cargo:rustc-link-search=native={}", folder.display());
             println!("cargo:rustc-link-lib={kind}=t1subset");
             return true;

@@ -54,7 +54,7 @@ extern "C" fn resize(user: *mut c_void, block: *mut c_void, size: usize) -> *mut
 fn sweep<T: Debug>(call: impl Fn() -> Result<T, Refused>) -> Result<T, Refused> {
     for growths in 0..100_000 {
         let counts = Counts { left: Cell::new(growths), ..Counts::default() };
-        let heap = Heap { resize, user: ptr::addr_of!(counts).cast_mut().cast() };
+        let heap = Heap { resize, user: ptr::addr_of!(counts) as *mut c_void };
         // SAFETY: the heap stays while it is in use: until the next line but one.
         unsafe { t1subset_use(&heap) };
         let done = call();
