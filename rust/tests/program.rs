@@ -122,7 +122,10 @@ impl Run {
 
 #[test]
 fn words_about_one_font() {
-    let Some(run) = Run::new("one") else { return };
+    let run = match Run::new("one") {
+        Some(run) => run,
+        None => return,
+    };
     for (_, font) in each_font() {
         let names: Vec<String> = some_names(&font).iter().map(|name| name.to_string()).collect();
         let font = font.as_slice();
@@ -139,7 +142,10 @@ fn words_about_one_font() {
 
 #[test]
 fn words_about_several_fonts() {
-    let Some(run) = Run::new("several") else { return };
+    let run = match Run::new("several") {
+        Some(run) => run,
+        None => return,
+    };
     let fonts: Vec<_> = each_font().into_iter().map(|(_, font)| font).collect();
     for pair in fonts.windows(2) {
         let inputs = [pair[0].as_slice(), pair[1].as_slice()];
@@ -154,7 +160,10 @@ fn words_about_several_fonts() {
 
 #[test]
 fn prefixes_of_tiny() {
-    let Some(run) = Run::new("prefixes") else { return };
+    let run = match Run::new("prefixes") {
+        Some(run) => run,
+        None => return,
+    };
     for font in [example("tiny.pfa"), example("tiny.pfb")] {
         for cut in (0..font.len()).step_by(37).map(|size| &font[..size]) {
             run.same(&["check", "IN0"], &[cut], t1subset::check(cut).map(|it| check_text(&it).into()));
