@@ -5,17 +5,23 @@ from __future__ import annotations
 import os
 import re
 from functools import lru_cache
-from typing import Dict, List
+from typing import Dict, List, Tuple
+
+from . import left_out
 
 TOP = os.path.abspath(os.path.join(os.path.dirname(__file__), "..", ".."))
 # How many of the installed fonts are tried.
 SOME = 8
 
 
+def read(path: str) -> bytes:
+    with open(path, "rb") as file:
+        return file.read()
+
+
 def example(name: str) -> bytes:
     """A file of the repository's examples."""
-    with open(os.path.join(TOP, "examples", name), "rb") as file:
-        return file.read()
+    return read(os.path.join(TOP, "examples", name))
 
 
 def deciphered(cipher: bytes, key: int) -> bytes:
@@ -91,14 +97,17 @@ def made(subrs: List[bytes], glyphs: Dict[bytes, bytes], name: bytes = b"Made") 
     return head + cipher + TRAILER
 
 
-def installed() -> List[str]:
-    """The paths of some fonts of this machine, from all of its folders of fonts."""
+@lru_cache(maxsize=None)
+def installed() -> List[Tuple[str, bytes]]:
+    """The paths of some fonts of this machine, from all of its folders of fonts, and their bytes."""
     found = []
     for root in ("/usr/share/fonts", "/usr/share/texlive/texmf-dist/fonts/type1", "/usr/share/texmf/fonts/type1"):
         for folder, _, files in os.walk(root):
             found += [os.path.join(folder, file) for file in files if file.endswith((".t1", ".pfb", ".pfa"))]
     found.sort()
-    return found[:: max(1, len(found) // SOME)][:SOME]
+    if not found:
+        left_out("no Type 1 font is installed: Tiny alone is tried")
+    return [(path, read(path)) for path in found[:: max(1, len(found) // SOME)][:SOME]]
 
 
 @lru_cache(maxsize=None)

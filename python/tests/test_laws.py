@@ -22,14 +22,16 @@ def calling(index: int) -> bytes:
 
 
 def each_font() -> Iterator[Tuple[str, bytes]]:
+    """Tiny, and those of the installed fonts that the library reads."""
     yield "tiny.pfa", PFA
     yield "tiny.pfb", PFB
-    found = fonts.installed()
-    if not found:
-        left_out("no Type 1 font is installed: the laws are tried on Tiny alone")
-    for path in found:
-        with open(path, "rb") as file:
-            yield path, file.read()
+    for path, font in fonts.installed():
+        try:
+            t1subset.check(font)
+        except t1subset.Refused as why:
+            left_out(f"{path}, which is refused: {why}")
+        else:
+            yield path, font
 
 
 def some_names(font: bytes) -> List[str]:

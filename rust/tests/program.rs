@@ -2,7 +2,7 @@
 
 mod common;
 
-use common::{each_font, example, left_out, some_names, top};
+use common::{every_font, example, left_out, some_names, top};
 use std::env;
 use std::fmt::Write;
 use std::fs;
@@ -126,7 +126,7 @@ fn words_about_one_font() {
         Some(run) => run,
         None => return,
     };
-    for (_, font) in each_font() {
+    for (_, font) in every_font() {
         let names: Vec<String> = some_names(&font).iter().map(|name| name.to_string()).collect();
         let font = font.as_slice();
         run.same(&["check", "IN0"], &[font], t1subset::check(font).map(|it| check_text(&it).into()));
@@ -146,7 +146,7 @@ fn words_about_several_fonts() {
         Some(run) => run,
         None => return,
     };
-    let fonts: Vec<_> = each_font().into_iter().map(|(_, font)| font).collect();
+    let fonts: Vec<_> = every_font().into_iter().map(|(_, font)| font).collect();
     for pair in fonts.windows(2) {
         let inputs = [pair[0].as_slice(), pair[1].as_slice()];
         run.same(&["merge", "OUT", "IN0", "IN1"], &inputs, t1subset::merge(&inputs, Form::Pfa));

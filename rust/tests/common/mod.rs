@@ -157,8 +157,21 @@ pub fn made(name: &str, subrs: &[&[u8]], glyphs: &[(&[u8], &[u8])]) -> Vec<u8> {
     file
 }
 
-/// Tiny in both forms, and some of the fonts that are installed.
+/// Tiny in both forms, and those of some installed fonts that the library reads.
 pub fn each_font() -> Vec<(String, Vec<u8>)> {
+    let mut fonts = every_font();
+    fonts.retain(|(path, font)| match t1subset::check(font) {
+        Err(why) if path.starts_with('/') => {
+            left_out(&format!("{path}, which is refused: {why}"));
+            false
+        }
+        _ => true,
+    });
+    fonts
+}
+
+/// Tiny in both forms, and some of the fonts that are installed.
+pub fn every_font() -> Vec<(String, Vec<u8>)> {
     let mut paths = Vec::new();
     for root in ["/usr/share/fonts", "/usr/share/texlive/texmf-dist/fonts/type1"] {
         walk(Path::new(root), &mut paths);
@@ -183,9 +196,9 @@ fn walk(folder: &Path, paths: &mut Vec<PathBuf>) {
     }
 }
 
-/// Eight names of a font, from its whole table.
+/// Eight names of a font, from its whole table; none of a font that is refused.
 pub fn some_names(font: &[u8]) -> Vec<t1subset::Name> {
-    let glyphs = t1subset::list(font).unwrap().glyphs;
+    let glyphs = t1subset::list(font).map(|listed| listed.glyphs).unwrap_or_default();
     let step = (glyphs.len() / 8).max(1);
     glyphs.into_keys().step_by(step).take(8).collect()
 }
