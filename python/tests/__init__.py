@@ -1,7 +1,7 @@
 """The tests of the package. They load the library that the repository built, unless LIBT1SUBSET names one."""
 
 import os
-import sys
+import warnings
 
 _BUILT = os.path.join(os.path.dirname(__file__), "..", "..", "lib", "libt1subset.so.0")
 if os.path.exists(_BUILT):
@@ -9,5 +9,5 @@ if os.path.exists(_BUILT):
 
 
 def left_out(what: str) -> None:
-    """Says on standard error what this machine can't try."""
-    print(f"left out: {what}", file=sys.stderr)
+    """Says what this machine can't try: on standard error, or in pytest's summary, which would keep a mere line."""
+    warnings.warn(f"left out: {what}", stacklevel=2)

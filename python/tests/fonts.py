@@ -111,11 +111,11 @@ def installed() -> List[Tuple[str, bytes]]:
 
 
 @lru_cache(maxsize=None)
-def slow(glyphs: int = 100) -> bytes:
-    """A font of which each glyph executes as many tokens as a glyph may: Subr 11 calls Subr 10 eight times, and so on
-    down to Subr 5, so that 8 ** 7 tokens are wanted."""
-    subrs = [b"\x0b"] * 5 + [b"\x0b"]
+def slow() -> bytes:
+    """A font of 100 glyphs, each with a width of its own, that execute as many tokens as a glyph may: Subr 12 calls
+    Subr 11 eight times, and so on down to Subr 5, so that 8 ** 7 tokens are wanted."""
+    subrs = [b"\x0b"] * 6
     for index in range(5, 12):
         subrs.append((bytes([139 + index]) + b"\x0a") * 8 + b"\x0b")
-    bodies = {b"g%d" % at: b"\x8b\xf7\x8e\x0d" + bytes([139 + 12]) + b"\x0a\x0e" for at in range(glyphs)}
+    bodies = {b"g%d" % at: b"\x8b" + bytes([139 + at]) + b"\x0d" + bytes([139 + 12]) + b"\x0a\x0e" for at in range(100)}
     return made(subrs, {**bodies, b".notdef": b"\x8b\xf7\x8e\x0d\x0e"})

@@ -64,9 +64,10 @@ class Header(unittest.TestCase):
             self.assertIs(call.restype, ctypes.c_uint32)
 
     def test_version(self) -> None:
-        found = re.search(r"#define T1SUBSET_VERSION 0x00(..)(..)(..)u", HEADER)
+        found = re.search(r"#define T1SUBSET_VERSION (0x[0-9a-f]+)u", HEADER)
         assert found
-        self.assertEqual(t1subset.__version__, ".".join(str(int(part, 16)) for part in found.groups()))
+        number = int(found[1], 16)
+        self.assertEqual(t1subset.__version__, f"{number >> 16}.{number >> 8 & 255}.{number & 255}")
 
     def test_layout(self) -> None:
         compiler = os.environ.get("CC") or next(filter(shutil.which, ("cc", "gcc", "clang")), None)

@@ -94,7 +94,7 @@ def rows_of_mergers() -> List[Row]:
     """Fonts that don't merge."""
     other = fonts.with_charstrings({b"/A": b"\x0e", b"/B": b"\x0e"})
     stubbed = fonts.with_charstrings({b"dup 5": b"\x0b"})
-    hinted = fonts.with_charstrings({b"dup 1": b"\x0b"})
+    hinted = fonts.with_charstrings({b"dup 1": b"\x8b\x0b"})
     lacking = fonts.without_glyph(b"acute")
     used, lacks = "subr 5 differs, used by X", "glyph Aacute lacks part acute"
     part, whole = t1subset.subset(lacking, ["Aacute"]), t1subset.subset(PFA, ["acute"])

@@ -9,18 +9,12 @@ from fractions import Fraction
 from typing import Any, Tuple
 
 import t1subset
-from t1subset import Checked, Drawn, Listed, Undrawn, _texts
+from t1subset import Checked, Drawn, Listed, Undrawn, _calls, _texts
 
 from . import fonts
 from .fonts import PFA
 
 EMPTY = b"\x8b\xf7\x8e\x0d\x0e"
-
-
-def load_tests(loader: unittest.TestLoader, tests: unittest.TestSuite, pattern: Any) -> unittest.TestSuite:
-    """The examples of the calls, too."""
-    tests.addTest(doctest.DocTestSuite("t1subset._calls", extraglobs={"font": PFA}))
-    return tests
 
 
 def marks(drawing: object) -> Tuple[Any, ...]:
@@ -33,6 +27,11 @@ def marks(drawing: object) -> Tuple[Any, ...]:
 
 
 class Texts(unittest.TestCase):
+    def test_examples_of_the_calls(self) -> None:
+        done = doctest.testmod(_calls, extraglobs={"font": PFA})
+        self.assertEqual(done.failed, 0)
+        self.assertGreater(done.attempted, 6)
+
     def test_check(self) -> None:
         self.assertEqual(t1subset.check(PFA), Checked(glyphs=11, subrs=10, weight=4936))
 

@@ -117,7 +117,7 @@ fn entries() {
     let two = subset(&tiny.with_charstring(b"dup 5", b"\x0b").file(), &["X"], Form::Pfa).unwrap();
     refused(merge(&[&one, &two], Form::Pfa), Number::SubrDiffers, "subr 5 differs, used by X", 5, None);
     refused(rejoin(&[&two, &one], Form::Pfa), Number::SubrDiffers, "subr 5 differs, used by X", 5, None);
-    let hinted = subset(&tiny.with_charstring(b"dup 1", b"\x0b").file(), &["Y"], Form::Pfa).unwrap();
+    let hinted = subset(&tiny.with_charstring(b"dup 1", b"\x8b\x0b").file(), &["Y"], Form::Pfa).unwrap();
     refused(merge(&[&one, &hinted], Form::Pfa), Number::SubrDiffers, "subr 1 differs", 1, None);
 }
 
