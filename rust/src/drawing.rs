@@ -183,3 +183,24 @@ fn mark(line: &str) -> Option<Mark> {
         _ => return None,
     })
 }
+
+#[cfg(test)]
+mod tests {
+    use super::Picture;
+
+    #[test]
+    fn texts_of_another_library() {
+        for text in [
+            "",
+            "width 1 0\n",
+            "bearing 0 0\nwidth 1 0\n",
+            "width 1 0\nbearing 0 0\nmove 1 0\n",
+            "width 1 0\nbearing 0 0\npart 0\n",
+            "width 1 0\nbearing 0 0\npart 0 0\nmove 1\n",
+            "width 1 0\nbearing 0 0\npart 0 0\nspline 1 0\n",
+            "width 1 0\nbearing 0 0\npart 0 0\nline 1/2 0\n",
+        ] {
+            assert_eq!(Picture::read(text), None, "{text}");
+        }
+    }
+}

@@ -63,3 +63,18 @@ impl Listed {
         Some(Listed { encoding: word.map_or(Encoding::Codes(codes), Encoding::Word), subrs, glyphs })
     }
 }
+
+#[cfg(test)]
+mod tests {
+    use super::{Checked, Listed};
+
+    #[test]
+    fn texts_of_another_library() {
+        for text in ["", "ok\n", "ok 1 glyphs, 2 subrs, weight 3", "ok 1 glyphs, 2 subrs, weight -3\n"] {
+            assert_eq!(Checked::read(text), None, "{text}");
+        }
+        for text in ["glyph A\n", "kern A B 5\n", "code 256 A\n", "subr 65536 1\n", "encoding \\x\n"] {
+            assert_eq!(Listed::read(text), None, "{text}");
+        }
+    }
+}

@@ -96,3 +96,15 @@ impl fmt::Debug for Name {
         write!(f, "\"{self}\"")
     }
 }
+
+#[cfg(test)]
+mod tests {
+    use super::Name;
+
+    #[test]
+    fn texts_that_are_no_names() {
+        for text in ["\\", "\\x", "\\x5", "\\y5c", "\\x5g", "a\\"] {
+            assert_eq!(Name::shown(text), None, "{text}");
+        }
+    }
+}
