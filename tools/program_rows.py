@@ -1,0 +1,173 @@
+"""The rows of words that the program is run on, and the files that each row finds.
+
+`tools/test_program.py` runs the program on them, `tools/test_library.py` the same words over the library.
+"""
+import os
+from collections import namedtuple
+
+TOP = os.path.abspath(os.path.join(os.path.dirname(os.path.abspath(__file__)), ".."))
+
+# Stands for a text that clap writes.
+SOME = object()
+
+# A font of two glyphs, one of whose names begins with `-`.
+DASHED = b"""\
+%!
+/Encoding StandardEncoding def
+currentfile eexec
+d9d66f6370c127631d46139186078a356fc2d10224c8e12685c13b098df815d8
+a9b03732dad86e0dc7e5c6a5cb54fe668163ca856cc9fdb8078c6b5aa2c52d45
+0f0772c85ec5f94dd679ad3d8c763702087a163f0a78cce094e822d4fb6fe01c
+cfc73f031a55957a3b1cf6aa42b1133b141833
+""" + (b"0" * 64 + b"\n") * 8 + b"cleartomark\n"
+
+LISTED = b"""\
+encoding StandardEncoding
+glyph -a 5
+glyph .notdef 1
+"""
+
+DRAWN = b"""\
+width 250 0
+bearing 0 0
+part 0 0
+"""
+
+# Charstrings of Subrs that glyphs call: a move across, a move up, and the `return` that stands for a Subr that is cut.
+ACROSS, UP, STUB = b"\xef\x16\x0b", b"\xef\x04\x0b", b"\x0b"
+
+# The words; the exit status; what is printed on standard output and on standard error; the files that are changed.
+Row = namedtuple("Row", "words status out err left", defaults=(b"", b"", {}))
+
+
+def example(name):
+    with open(os.path.join(TOP, "examples", name), "rb") as f:
+        return f.read()
+
+
+def ciphered(text, key):
+    """A text behind four lead bytes of zero, encrypted."""
+    out = bytearray()
+    for byte in bytes(4) + text:
+        byte ^= key >> 8
+        key = ((byte + key) * 52845 + 22719) & 0xFFFF
+        out.append(byte)
+    return bytes(out)
+
+
+def charstring(plain):
+    cipher = ciphered(plain, 4330)
+    return b"%d RD %s" % (len(cipher), cipher)
+
+
+def small_font(name, subrs, callers):
+    """The canonical PFA of a font of this name: its Subrs, and glyphs that each call one of them."""
+    glyphs = {b".notdef": b"\x8b\xf7\x8e\x0d\x0e"}
+    for glyph, index in callers.items():
+        glyphs[glyph] = b"\x8b\xf7\x8e\x0d" + bytes([139 + index]) + b"\x0a\x0e"
+    lines = [b"/Private 3 dict dup begin", b"/Subrs %d array" % len(subrs)]
+    lines += [b"dup %d %s NP" % (i, charstring(plain)) for i, plain in enumerate(subrs)]
+    lines += [b"ND", b"2 index /CharStrings %d dict dup begin" % len(glyphs)]
+    lines += [b"/%s %s ND" % (glyph, charstring(plain)) for glyph, plain in sorted(glyphs.items())]
+    lines += [b"end", b"end", b"mark currentfile closefile", b""]
+    digits = ciphered(b"\n".join(lines), 55665).hex()
+    cipher = "".join(digits[at:at + 64] + "\n" for at in range(0, len(digits), 64)).encode()
+    head = b"%%!\n/FontName /%s def\n/Encoding StandardEncoding def\ncurrentfile eexec\n" % name
+    return head + cipher + (b"0" * 64 + b"\n") * 8 + b"cleartomark\n"
+
+
+def version_of_the_man_page():
+    """The program's name and version, as the first line of the man page has them between quotes."""
+    with open(os.path.join(TOP, "docs/t1subset.1"), "rb") as f:
+        return f.readline().split(b'"')[1]
+
+
+def files():
+    """The files that each row finds."""
+    named = ["tiny.pfa", "tiny.pfb", "left.listing", "right.listing", "other.listing"]
+    given = {name: example(name) for name in named}
+    given["dashed.pfa"] = DASHED
+    given["one.cut"] = small_font(b"ABCDEF+Small", [STUB] * 4 + [ACROSS], {b"A": 4})
+    given["two.cut"] = small_font(b"ZYXWVU+Small", [STUB] * 5 + [UP], {b"B": 5})
+    given["other.cut"] = small_font(b"ZYXWVU+Other", [STUB] * 5 + [UP], {b"B": 5})
+    given["no.font"] = b"no font"
+    given["no.listing"] = b"no listing"
+    given["old"] = b"what stood here"
+    return given
+
+
+def rows_of_words():
+    """Words that ask for help or don't parse."""
+    commands = ["subset", "merge", "rejoin", "check", "list", "show", "pfa", "pfb", "join"]
+    yield Row(["--help"], 0, SOME)
+    yield Row(["--version"], 0, version_of_the_man_page() + b"\n")
+    for command in commands:
+        yield Row([command, "--help"], 0, SOME)
+        yield Row([command], 2, b"", SOME)
+    yield Row([], 2, b"", SOME)
+    yield Row(["tiny.pfa"], 2, b"", SOME)
+    yield Row(["check", "tiny.pfa", "more"], 2, b"", SOME)
+    yield Row(["merge", "out"], 2, b"", SOME)
+    yield Row(["rejoin", "out"], 2, b"", SOME)
+    yield Row(["show", "dashed.pfa", "-a"], 2, b"", SOME)
+    yield Row(["check", b"\xff"], 2, b"", b"error: the arguments are not UTF-8\n")
+
+
+def rows_of_fonts():
+    """What is said of a font, and what is refused."""
+    yield Row(["check", "dashed.pfa"], 0, b"ok 2 glyphs, 0 subrs, weight 579\n")
+    yield Row(["check", "tiny.pfb"], 0, b"ok 11 glyphs, 10 subrs, weight 4936\n")
+    yield Row(["check", "no.font"], 1, b"", b"refused: no eexec\n")
+    yield Row(["check", "absent"], 3, b"", b"failed: read\n")
+    yield Row(["list", "dashed.pfa"], 0, LISTED)
+    yield Row(["show", "dashed.pfa", "--", "-a"], 0, DRAWN)
+    yield Row(["show", "dashed.pfa", ".notdef"], 0, b"fault NoWidth\n")
+    yield Row(["show", "dashed.pfa", "Zed"], 1, b"", b"refused: no glyph Zed\n")
+    yield Row(["show", "absent", "Zed"], 3, b"", b"failed: read\n")
+
+
+def rows_of_outputs(given):
+    """OUT is opened only once the result is complete, and may be an input."""
+    pfa, pfb = given["tiny.pfa"], given["tiny.pfb"]
+    yield Row(["pfa", "tiny.pfb", "out"], 0, b"", b"", {"out": pfa})
+    yield Row(["pfb", "tiny.pfa", "out"], 0, b"", b"", {"out": pfb})
+    yield Row(["pfb", "tiny.pfa", "tiny.pfa"], 0, b"", b"", {"tiny.pfa": pfb})
+    yield Row(["pfb", "tiny.pfb", "old"], 0, b"", b"", {"old": pfb})
+    for word in ("merge", "rejoin"):
+        yield Row([word, "tiny.pfb", "tiny.pfa", "tiny.pfb"], 0, b"", b"", {"tiny.pfb": pfa})
+        yield Row([word, "out", "tiny.pfa", "tiny.pfb", "tiny.pfa"], 0, b"", b"", {"out": pfa})
+        yield Row([word, "old", "tiny.pfa", "tiny.pfb", "no.font"], 1, b"", b"refused: no eexec\n")
+        yield Row([word, "old", "tiny.pfa", "tiny.pfb", "absent"], 3, b"", b"failed: read\n")
+    yield Row(["pfb", "no.font", "out"], 1, b"", b"refused: no eexec\n")
+    yield Row(["pfb", "no.font", "old"], 1, b"", b"refused: no eexec\n")
+    yield Row(["subset", "tiny.pfa", "old", "X", "Zed"], 1, b"", b"refused: no glyph Zed\n")
+    yield Row(["merge", "old", "tiny.pfa", "no.font"], 1, b"", b"refused: no eexec\n")
+    yield Row(["merge", "old", "no.font", "absent"], 3, b"", b"failed: read\n")
+    yield Row(["pfa", "tiny.pfb", "no.folder/out"], 3, b"", b"failed: write\n")
+
+
+def rows_of_rejoined():
+    """Subsets that other programs cut."""
+    both = small_font(b"Small", [STUB] * 4 + [ACROSS, UP], {b"A": 4, b"B": 5})
+    untagged = small_font(b"Small", [STUB] * 4 + [ACROSS], {b"A": 4})
+    refused = b"refused: shells differ in head\n"
+    yield Row(["merge", "out", "one.cut", "two.cut"], 1, b"", refused)
+    yield Row(["rejoin", "out", "one.cut", "two.cut"], 0, b"", b"", {"out": both})
+    yield Row(["rejoin", "out", "two.cut", "one.cut"], 0, b"", b"", {"out": both})
+    yield Row(["rejoin", "one.cut", "one.cut"], 0, b"", b"", {"one.cut": untagged})
+    yield Row(["rejoin", "old", "one.cut", "other.cut"], 1, b"", refused)
+    yield Row(["rejoin", "old", "one.cut", "no.font"], 1, b"", b"refused: no eexec\n")
+    yield Row(["rejoin", "old", "one.cut", "absent"], 3, b"", b"failed: read\n")
+
+
+def rows_of_listings():
+    """All inputs are opened before the first is read."""
+    refused = b"refused: subr 150 differs\n"
+    yield Row(["join", "left.listing", "right.listing"], 0, example("both.listing"))
+    yield Row(["join", "left.listing", "other.listing"], 1, b"", refused)
+    yield Row(["join", "no.listing", "left.listing"], 1, b"", b"refused: bad line 1\n")
+    yield Row(["join", "no.listing", "absent"], 3, b"", b"failed: read\n")
+
+
+def all_rows(given):
+    return [*rows_of_words(), *rows_of_fonts(), *rows_of_outputs(given), *rows_of_rejoined(), *rows_of_listings()]
