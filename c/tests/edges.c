@@ -1,0 +1,92 @@
+/* Calls at their edges: NULL with size 0 in each place, forms that there are not, no fonts, a file that is too long, and
+ * answers that are freed twice. usage: edges FONT */
+#include "t1subset.h"
+
+#include <stdio.h>
+#include <stdlib.h>
+#include <string.h>
+
+#define TOO_LONG ((size_t) 268435457)
+
+static int faults;
+static t1subset_answer answer;
+
+/* A call has returned number; wanted are its number, what it says of a file, and its bytes (NULL: some). */
+static void expect(const char *call, uint32_t number, uint32_t wanted, int64_t input, const char *bytes) {
+    int right = number == wanted && answer.input == input && answer.detail == 0;
+    if (!bytes) right = right && answer.bytes.size;
+    else right = right && answer.bytes.size == strlen(bytes) && !memcmp(answer.bytes.data, bytes, answer.bytes.size);
+    if (!right) {
+        printf("%s: number %u, input %lld, %zu bytes\n", call, number, (long long) answer.input, answer.bytes.size);
+        faults++;
+    }
+    t1subset_free(&answer);
+    t1subset_free(&answer);
+    static const t1subset_answer nothing = T1SUBSET_ANSWER;
+    if (answer.detail || answer.input != -1 || answer.bytes.size || answer.bytes.data != nothing.bytes.data) {
+        printf("%s: t1subset_free leaves another answer\n", call);
+        faults++;
+    }
+    memset(&answer, 0xff, sizeof answer);
+}
+
+#define EXPECT(call, wanted, input, bytes) expect(#call, call, wanted, input, bytes)
+
+static void no_bytes(t1subset_bytes font) {
+    const t1subset_bytes nothing = {NULL, 0}, two[] = {font, nothing}, no_name[] = {nothing};
+    EXPECT(t1subset_check(NULL, 0, &answer), T1SUBSET_NO_EEXEC, 0, "no eexec");
+    EXPECT(t1subset_list(NULL, 0, &answer), T1SUBSET_NO_EEXEC, 0, "no eexec");
+    EXPECT(t1subset_show(NULL, 0, NULL, 0, &answer), T1SUBSET_NO_EEXEC, 0, "no eexec");
+    EXPECT(t1subset_show(font.data, font.size, NULL, 0, &answer), T1SUBSET_NO_GLYPH, -1, "no glyph ");
+    EXPECT(t1subset_convert(NULL, 0, T1SUBSET_PFA, &answer), T1SUBSET_NO_EEXEC, 0, "no eexec");
+    EXPECT(t1subset_subset(NULL, 0, NULL, 0, T1SUBSET_PFA, &answer), T1SUBSET_NO_EEXEC, 0, "no eexec");
+    EXPECT(t1subset_subset(font.data, font.size, NULL, 0, T1SUBSET_PFB, &answer), T1SUBSET_OK, -1, NULL);
+    EXPECT(t1subset_subset(font.data, font.size, no_name, 1, T1SUBSET_PFB, &answer), T1SUBSET_NO_GLYPH, -1, "no glyph ");
+    EXPECT(t1subset_merge(NULL, 0, T1SUBSET_PFA, &answer), T1SUBSET_NOTHING_TO_MERGE, -1, "nothing to merge");
+    EXPECT(t1subset_merge(two, 2, T1SUBSET_PFA, &answer), T1SUBSET_NO_EEXEC, 1, "no eexec");
+    EXPECT(t1subset_rejoin(NULL, 0, T1SUBSET_PFA, &answer), T1SUBSET_NOTHING_TO_MERGE, -1, "nothing to merge");
+    EXPECT(t1subset_rejoin(two, 2, T1SUBSET_PFA, &answer), T1SUBSET_NO_EEXEC, 1, "no eexec");
+    EXPECT(t1subset_join(NULL, 0, NULL, 0, &answer), T1SUBSET_OK, -1, "");
+    EXPECT(t1subset_join((const uint8_t *) "S 0 0B\n", 7, NULL, 0, &answer), T1SUBSET_OK, -1, "S 0 0b\n");
+    EXPECT(t1subset_join(NULL, 0, (const uint8_t *) "S 0 0B\n", 7, &answer), T1SUBSET_OK, -1, "S 0 0b\n");
+}
+
+static void no_forms(t1subset_bytes font) {
+    const uint32_t forms[] = {2, 0x100, 0x10000, 0xffffffff};
+    for (size_t at = 0; at < sizeof forms / sizeof *forms; at++) {
+        EXPECT(t1subset_convert(font.data, font.size, forms[at], &answer), T1SUBSET_BAD_CALL, -1, "");
+        EXPECT(t1subset_subset(font.data, font.size, NULL, 0, forms[at], &answer), T1SUBSET_BAD_CALL, -1, "");
+        EXPECT(t1subset_merge(&font, 1, forms[at], &answer), T1SUBSET_BAD_CALL, -1, "");
+        EXPECT(t1subset_rejoin(&font, 1, forms[at], &answer), T1SUBSET_BAD_CALL, -1, "");
+    }
+}
+
+static void too_long(t1subset_bytes font) {
+    uint8_t *data = calloc(TOO_LONG, 1);
+    if (!data) {
+        fputs("no memory for a file that is too long: left out\n", stderr);
+        return;
+    }
+    const t1subset_bytes two[] = {font, {data, TOO_LONG}};
+    EXPECT(t1subset_check(data, TOO_LONG, &answer), T1SUBSET_FILE_TOO_LONG, 0, "file too long");
+    EXPECT(t1subset_merge(two, 2, T1SUBSET_PFA, &answer), T1SUBSET_FILE_TOO_LONG, 1, "file too long");
+    EXPECT(t1subset_join(NULL, 0, data, TOO_LONG, &answer), T1SUBSET_FILE_TOO_LONG, 1, "file too long");
+    free(data);
+}
+
+int main(int count, char **words) {
+    static uint8_t room[1 << 20];
+    FILE *file = count == 2 ? fopen(words[1], "rb") : NULL;
+    if (!file) return 2;
+    const t1subset_bytes font = {room, fread(room, 1, sizeof room, file)};
+    fclose(file);
+    memset(&answer, 0xff, sizeof answer);
+    no_bytes(font);
+    no_forms(font);
+    too_long(font);
+    if (t1subset_version() != T1SUBSET_VERSION) {
+        puts("the library is of another version than the header");
+        faults++;
+    }
+    return faults != 0;
+}

@@ -1,0 +1,130 @@
+/* Refuses one growth after another in each call. A call answers MEMORY and holds nothing, also nothing of what the answer
+ * had before; or it answers as with memory. No block is left.
+ * usage: growths FONT FIRST SECOND NAME NAME    two listings that join, and two glyphs of the font */
+#include "t1subset.h"
+
+#include <stdio.h>
+#include <stdlib.h>
+#include <string.h>
+
+/* A heap that counts its blocks, and refuses the growth with the number refused. */
+struct counted {
+    long growths, refused, blocks;
+};
+
+static void *resize(void *user, void *block, size_t size) {
+    struct counted *counts = user;
+    if (size == 0) {
+        counts->blocks--;
+        free(block);
+        return block; /* anything */
+    }
+    if (++counts->growths == counts->refused) return NULL;
+    void *given = realloc(block, size);
+    if (given && !block) counts->blocks++;
+    return given;
+}
+
+static t1subset_bytes font, listings[2], names[3], parts[3];
+
+static uint32_t check(t1subset_answer *to) { return t1subset_check(font.data, font.size, to); }
+static uint32_t list(t1subset_answer *to) { return t1subset_list(font.data, font.size, to); }
+static uint32_t show(t1subset_answer *to) { return t1subset_show(font.data, font.size, names[0].data, names[0].size, to); }
+static uint32_t convert(t1subset_answer *to) { return t1subset_convert(font.data, font.size, T1SUBSET_PFB, to); }
+static uint32_t subset(t1subset_answer *to) { return t1subset_subset(font.data, font.size, names, 2, T1SUBSET_PFA, to); }
+static uint32_t merge(t1subset_answer *to) { return t1subset_merge(parts, 2, T1SUBSET_PFA, to); }
+static uint32_t rejoin(t1subset_answer *to) { return t1subset_rejoin(parts, 2, T1SUBSET_PFB, to); }
+static uint32_t join(t1subset_answer *to) {
+    return t1subset_join(listings[0].data, listings[0].size, listings[1].data, listings[1].size, to);
+}
+/* Refusals, whose texts grow too. */
+static uint32_t no_glyph(t1subset_answer *to) { return t1subset_subset(font.data, font.size, names, 3, T1SUBSET_PFA, to); }
+static uint32_t no_font(t1subset_answer *to) { return t1subset_merge(parts, 3, T1SUBSET_PFA, to); }
+
+static const struct {
+    const char *name;
+    uint32_t (*make)(t1subset_answer *);
+    uint32_t number;
+} calls[] = {
+    {"check", check, T1SUBSET_OK}, {"list", list, T1SUBSET_OK}, {"show", show, T1SUBSET_OK},
+    {"convert", convert, T1SUBSET_OK}, {"subset", subset, T1SUBSET_OK}, {"merge", merge, T1SUBSET_OK},
+    {"rejoin", rejoin, T1SUBSET_OK}, {"join", join, T1SUBSET_OK}, {"subset of no glyph", no_glyph, T1SUBSET_NO_GLYPH},
+    {"merge of no font", no_font, T1SUBSET_NO_EEXEC},
+};
+
+static t1subset_bytes whole(const char *path) {
+    static uint8_t room[3][1 << 20];
+    static int taken;
+    FILE *file = fopen(path, "rb");
+    if (!file) exit(2);
+    uint8_t *data = room[taken++];
+    t1subset_bytes bytes = {data, fread(data, 1, 1 << 20, file)};
+    fclose(file);
+    return bytes;
+}
+
+static int same(const t1subset_answer *one, const t1subset_answer *other) {
+    return one->detail == other->detail && one->input == other->input && one->bytes.size == other->bytes.size
+        && !memcmp(one->bytes.data, other->bytes.data, one->bytes.size);
+}
+
+/* What is wrong with an answer, or NULL. */
+static const char *fault(uint32_t number, uint32_t wanted, const t1subset_answer *answer, const t1subset_answer *right) {
+    if (number != T1SUBSET_MEMORY) return number == wanted && same(answer, right) ? NULL : "another answer";
+    if (answer->bytes.size) return "MEMORY with bytes";
+    return answer->detail == 0 && answer->input == -1 ? NULL : "MEMORY with a detail or an input";
+}
+
+/* Sweeps the growths of one call; tells what is wrong, or NULL. */
+static const char *sweep(size_t at, long *refusals) {
+    t1subset_answer right = T1SUBSET_ANSWER;
+    if (calls[at].make(&right) != calls[at].number) return "wrong with memory";
+    struct counted counts = {0, 0, 0};
+    const t1subset_heap heap = {resize, &counts};
+    const char *wrong = NULL;
+    t1subset_use(&heap);
+    for (long refused = 1; !wrong; refused++) {
+        t1subset_answer answer;
+        memset(&answer, 0xa5, sizeof answer);
+        counts = (struct counted) {0, refused, 0};
+        const uint32_t number = calls[at].make(&answer);
+        wrong = fault(number, calls[at].number, &answer, &right);
+        *refusals += number == T1SUBSET_MEMORY;
+        if (!wrong && counts.blocks != (answer.bytes.size != 0)) wrong = "a block is held";
+        t1subset_free(&answer);
+        if (!wrong && counts.blocks) wrong = "a block is left";
+        if (counts.growths < refused) break;
+    }
+    t1subset_use(NULL);
+    t1subset_free(&right);
+    return wrong;
+}
+
+int main(int count, char **words) {
+    if (count != 6) return 2;
+    font = whole(words[1]);
+    for (int at = 0; at < 2; at++) {
+        listings[at] = whole(words[2 + at]);
+        names[at] = (t1subset_bytes) {(const uint8_t *) words[4 + at], strlen(words[4 + at])};
+    }
+    names[2] = (t1subset_bytes) {(const uint8_t *) "no such glyph", 13};
+    t1subset_answer halves[2];
+    for (int at = 0; at < 2; at++) {
+        if (t1subset_subset(font.data, font.size, names + at, 1, T1SUBSET_PFB, halves + at)) return 2;
+        parts[at] = halves[at].bytes;
+    }
+    parts[2] = names[2];
+    for (size_t at = 0; at < sizeof calls / sizeof *calls; at++) {
+        long refusals = 0;
+        const char *wrong = sweep(at, &refusals);
+        if (!wrong && !refusals) wrong = "no growth was met";
+        if (wrong) {
+            printf("%s: %s\n", calls[at].name, wrong);
+            return 1;
+        }
+        printf("%s: %ld growths\n", calls[at].name, refusals);
+    }
+    t1subset_free(&halves[0]);
+    t1subset_free(&halves[1]);
+    return 0;
+}

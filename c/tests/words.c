@@ -1,0 +1,97 @@
+/* The words of the program t1subset over libt1subset: the same files, lines and exit status, but for the command line.
+ * A line "NUMBER DETAIL INPUT" about the answer is written to the file that the variable TOLD names. */
+#include "t1subset.h"
+
+#include <stdio.h>
+#include <stdlib.h>
+#include <string.h>
+
+static t1subset_bytes named(const char *text) {
+    return (t1subset_bytes) {(const uint8_t *) text, strlen(text)};
+}
+
+static void fail(const char *text) {
+    fputs(text, stderr);
+    exit(3);
+}
+
+/* A whole file, in a block of just its size, so that a sanitizer sees each byte that is read beyond it. */
+static t1subset_bytes whole(const char *path) {
+    FILE *file = fopen(path, "rb");
+    if (!file || fseek(file, 0, SEEK_END)) fail("failed: read\n");
+    size_t size = (size_t) ftell(file);
+    rewind(file);
+    uint8_t *data = malloc(size ? size : 1);
+    if (!data || fread(data, 1, size, file) != size) fail("failed: read\n");
+    fclose(file);
+    return (t1subset_bytes) {data, size};
+}
+
+/* The call of a word; arguments are the files and names behind it, without OUT. */
+static uint32_t call(const char *word, const t1subset_bytes *arguments, size_t count, t1subset_answer *answer) {
+    const t1subset_bytes first = count > 0 ? arguments[0] : named(""), second = count > 1 ? arguments[1] : named("");
+    if (!strcmp(word, "check")) return t1subset_check(first.data, first.size, answer);
+    if (!strcmp(word, "list")) return t1subset_list(first.data, first.size, answer);
+    if (!strcmp(word, "show")) return t1subset_show(first.data, first.size, second.data, second.size, answer);
+    if (!strcmp(word, "pfa")) return t1subset_convert(first.data, first.size, T1SUBSET_PFA, answer);
+    if (!strcmp(word, "pfb")) return t1subset_convert(first.data, first.size, T1SUBSET_PFB, answer);
+    if (!strcmp(word, "subset")) {
+        return t1subset_subset(first.data, first.size, arguments + 1, count - 1, T1SUBSET_PFA, answer);
+    }
+    if (!strcmp(word, "merge")) return t1subset_merge(arguments, count, T1SUBSET_PFA, answer);
+    if (!strcmp(word, "rejoin")) return t1subset_rejoin(arguments, count, T1SUBSET_PFA, answer);
+    if (!strcmp(word, "join")) return t1subset_join(first.data, first.size, second.data, second.size, answer);
+    fail("no such word\n");
+    return 0;
+}
+
+/* How many of the arguments behind a word are files, from the first on; and which of them is OUT, or 0. */
+static int files_of(const char *word, int count) {
+    if (!strcmp(word, "merge") || !strcmp(word, "rejoin") || !strcmp(word, "join")) return count;
+    return 1;
+}
+
+static int out_of(const char *word) {
+    if (!strcmp(word, "merge") || !strcmp(word, "rejoin")) return 2;
+    return !strcmp(word, "pfa") || !strcmp(word, "pfb") || !strcmp(word, "subset") ? 3 : 0;
+}
+
+static void tell(uint32_t number, const t1subset_answer *answer) {
+    const char *path = getenv("TOLD");
+    FILE *file = path ? fopen(path, "w") : NULL;
+    if (!file) return;
+    fprintf(file, "%u %llu %lld\n", number, (unsigned long long) answer->detail, (long long) answer->input);
+    fclose(file);
+}
+
+static int write_to(const char *path, t1subset_bytes bytes) {
+    FILE *file = path ? fopen(path, "wb") : stdout;
+    if (!file || fwrite(bytes.data, 1, bytes.size, file) != bytes.size || fflush(file)) {
+        fputs("failed: write\n", stderr);
+        return 3;
+    }
+    if (path) fclose(file);
+    return 0;
+}
+
+int main(int count, char **words) {
+    if (count < 3) return 2;
+    const int out = out_of(words[1]), files = files_of(words[1], count);
+    t1subset_bytes *arguments = calloc((size_t) count, sizeof *arguments);
+    if (!arguments) return 2;
+    size_t taken = 0;
+    for (int at = 2; at < count; at++) {
+        if (at == out || !strcmp(words[at], "--")) continue;
+        arguments[taken] = taken < (size_t) files ? whole(words[at]) : named(words[at]);
+        taken++;
+    }
+    t1subset_answer answer = T1SUBSET_ANSWER;
+    const uint32_t number = call(words[1], arguments, taken, &answer);
+    tell(number, &answer);
+    int status = number ? 1 : write_to(out ? words[out] : NULL, answer.bytes);
+    if (number) fprintf(stderr, "refused: %.*s\n", (int) answer.bytes.size, (const char *) answer.bytes.data);
+    t1subset_free(&answer);
+    for (size_t at = 0; at < taken && at < (size_t) files; at++) free((void *) arguments[at].data);
+    free(arguments);
+    return status;
+}
