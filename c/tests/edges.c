@@ -22,8 +22,7 @@ static void expect(const char *call, uint32_t number, uint32_t wanted, int64_t i
     }
     t1subset_free(&answer);
     t1subset_free(&answer);
-    static const t1subset_answer nothing = T1SUBSET_ANSWER;
-    if (answer.detail || answer.input != -1 || answer.bytes.size || answer.bytes.data != nothing.bytes.data) {
+    if (answer.detail || answer.input != -1 || answer.bytes.size || !answer.bytes.data) {
         printf("%s: t1subset_free leaves another answer\n", call);
         faults++;
     }

@@ -1,0 +1,356 @@
+#!/usr/bin/env python3
+"""Holds libt1subset to its header and to the program: exports, answers, numbers, refused growths, threads, an installation.
+
+The words of the program run over the library (c/tests/words.c), and the status, what is printed and the files are
+compared with the program's, on the rows of tools/program_rows.py, on files that are refused, and on fonts that are
+installed here. In the end a library that lies has to be found out.
+
+usage: tools/test_library.py [--lib FOLDER] [--program PROGRAM] [FONT...]
+Without names the library is made by tools/build_library.sh, the program is the one that `rt ci` leaves, and the fonts are
+some of those that are installed.
+"""
+import argparse
+import glob
+import os
+import re
+import shutil
+import subprocess
+import sys
+import tempfile
+
+import program_rows
+import refused_rows
+import test_header
+import test_install
+from test_program import BUILDS, wrong
+
+TOP = program_rows.TOP
+TINY = os.path.join(TOP, "examples/tiny.pfa")
+LISTINGS = [os.path.join(TOP, "examples", name) for name in ("left.listing", "right.listing")]
+FOLDERS = ["/usr/share/fonts/type1", "/usr/share/fonts/X11/Type1", "/usr/share/texmf/fonts/type1", "/usr/share/texlive/texmf-dist/fonts/type1"]
+FONTS = 30
+WARNINGS = ["-O1", "-g", "-Wall", "-Wextra", "-Wconversion", "-Wpedantic", "-Wshadow", "-Werror"]
+IN_C = ["-std=c11", "-Wstrict-prototypes"]
+SANITIZERS = ["-fsanitize=address,undefined", "-fno-sanitize-recover=all"]
+# The parts of `shells differ in PART`, as the man page t1subset(1) lists them, and the names of their numbers.
+PARTS = {
+    "head": "head", "encoding": "encoding", "clear tail": "clear_tail", "private": "private", "Subrs table": "subrs_table",
+    "Subrs words": "subrs_words", "middle": "middle", "CharStrings words": "glyphs_words", "tail": "tail",
+}
+# Numbers that no word of the program answers: growths.c and edges.c meet them.
+ELSEWHERE = {"ok", "memory", "bad_call", "file_too_long", "nothing_to_merge"}
+
+
+def say(text):
+    print(text, file=sys.stderr)
+
+
+def ran(words, **how):
+    """A run that has to end well."""
+    done = subprocess.run(words, capture_output=True, timeout=300, **how)
+    if done.returncode:
+        sys.exit(f"{' '.join(words)}: status {done.returncode}\n{done.stdout.decode()}{done.stderr.decode()}")
+    return done.stdout.decode()
+
+
+def compiler(names):
+    return next(filter(shutil.which, names), None)
+
+
+class Library:
+    """A built library, and the tests that are compiled over it."""
+
+    def __init__(self, folder, work):
+        self.folder, self.work = folder, work
+        self.cc = compiler(["cc", "gcc", "clang"])
+        self.shared = [f"-L{folder}", "-lt1subset", f"-Wl,-rpath,{folder}"]
+        self.static = [os.path.join(folder, "libt1subset.a")]
+
+    def compiled(self, source, links, *flags):
+        """The path of the test made of a file of c/tests."""
+        name, kind = os.path.splitext(source)
+        path = os.path.join(self.work, "-".join([name, "shared" if links == self.shared else "static", str(len(flags))]))
+        words = [self.cc, *IN_C] if kind == ".c" else [compiler(["c++", "g++", "clang++"]), "-std=c++11"]
+        words += [*WARNINGS, *flags, "-I", os.path.join(TOP, "include"), os.path.join(TOP, "c/tests", source)]
+        ran([*words, "-o", path, *links, "-pthread"])
+        return path
+
+    def exports(self, header):
+        """Both libraries define the calls of the header for others, and nothing else."""
+        for words in (["nm", "-D", "--defined-only", self.folder + "/libt1subset.so.0"], ["nm", "-g", "--defined-only", *self.static]):
+            found = set(re.findall(r"^[0-9a-f]+ [TDBRVWi] (\w+)", ran(words), re.M))
+            if found != set(header.calls):
+                sys.exit(f"{' '.join(words)}: {sorted(found ^ set(header.calls))} stand on one side alone")
+
+
+def library_rows(given):
+    """The rows that a library can be held to. Status 2 is a fault of the command line, and 3 of opening files, which are the
+    program's own; so are its help and its version."""
+    rows = [row for row in program_rows.all_rows(given) if row.status < 2 and row.out is not program_rows.SOME]
+    return [row for row in rows if not row.words[0].startswith("--")]
+
+
+def run_rows(words):
+    """How many rows the words over the library answer rightly; a fault is returned as text."""
+    given = program_rows.files()
+    rows = library_rows(given)
+    for row in rows:
+        fault = wrong(words, row, given)
+        if fault:
+            return f"{row.words}: {fault}"
+    return len(rows)
+
+
+class Pair:
+    """The program, and its words over the library, in one folder."""
+
+    def __init__(self, program, words, folder):
+        self.programs, self.folder = (program, words), folder
+        self.told, self.calls = os.path.join(folder, "told"), 0
+
+    def write(self, files):
+        for name, text in files.items():
+            with open(os.path.join(self.folder, name), "wb") as f:
+                f.write(text)
+
+    def taken(self, name):
+        path = os.path.join(self.folder, name)
+        if not os.path.exists(path):
+            return None
+        with open(path, "rb") as f:
+            text = f.read()
+        os.remove(path)
+        return text
+
+    def alone(self, program, words):
+        env = {**os.environ, "TOLD": self.told}
+        done = subprocess.run([program, *words], cwd=self.folder, env=env, stdin=subprocess.DEVNULL, capture_output=True, timeout=120)
+        return done.returncode, done.stdout, done.stderr, self.taken("out")
+
+    def both(self, words):
+        """What both answer to these words; a difference ends the run."""
+        one, other = (self.alone(program, words) for program in self.programs)
+        self.calls += 1
+        if one != other:
+            sys.exit(f"{words}: the program answers {one!r:.300}, the library {other!r:.300}")
+        return one
+
+
+def inputs_of(words):
+    return words[2:] if words[0] in ("merge", "rejoin") else words[1:] if words[0] == "join" else words[1:2]
+
+
+class Numbers:
+    """The numbers of the header, and what their texts look like."""
+
+    def __init__(self, text):
+        self.numbers = test_header.Header(text).numbers
+        self.texts = {}
+        for name, shape in re.findall(r'^ *T1SUBSET_(\w+) = \d+,? +/\* "([^"]*)"', text, re.M):
+            shape = re.escape(shape).replace("NAME", r"\S+").replace("PART", "(.+)").replace("N", r"(\d+)", shape.split().count("N"))
+            self.texts[name.lower()] = shape + (r"(?:, used by \S+)?" if name == "SUBR_DIFFERS" else "")
+
+    def detail(self, found):
+        """The number that a text names."""
+        if not found.groups():
+            return 0
+        return int(found[1]) if found[1].isdigit() else self.numbers["part_" + PARTS[found[1]]]
+
+    def fault(self, name, text, place, told):
+        """What is wrong with what was told of a refusal: its number, its detail, and the place of the refused file."""
+        found = re.fullmatch(self.texts[name], text)
+        if not found:
+            return f"the text is {text!r}, and not {self.texts[name]!r}"
+        want = (self.numbers[name], self.detail(found), place)
+        return None if told == want else f"{told} is told, and not {want}"
+
+
+def refused_alone(pair, words):
+    """The place of the first file that the program refuses by itself, or -1."""
+    pair.write({"empty": b""})
+    for place, name in enumerate(inputs_of(words)):
+        alone = ["join", name, "empty"] if words[0] == "join" else ["check", name]
+        if pair.alone(pair.programs[0], alone)[0] == 1:
+            return place
+    return -1
+
+
+def refusals(pair, numbers):
+    """Each number that files can bring about, with its text, its detail and the place of the file."""
+    met, parts = set(), set()
+    for name, words, files in refused_rows.rows():
+        pair.write(files)
+        status, _, said, out = pair.both(words)
+        with open(pair.told, encoding="ascii") as f:
+            told = tuple(map(int, f.read().split()))
+        if status != 1 or out is not None:
+            sys.exit(f"{name}, {words}: status {status}, and no refusal")
+        is_part = name.startswith("part_")
+        fault = numbers.fault("shells_differ" if is_part else name, said.decode()[9:-1], refused_alone(pair, words), told)
+        if fault or is_part and told[1] != numbers.numbers[name]:
+            sys.exit(f"{name}, {words}: {fault or told}")
+        met.add("shells_differ" if is_part else name)
+        parts.update([name] if is_part else [])
+    wanted = {name for name in numbers.numbers if not name.startswith("part_") and name not in ("pfa", "pfb")} - ELSEWHERE
+    lacking = sorted(wanted - met) + sorted({name for name in numbers.numbers if name.startswith("part_")} - parts)
+    if lacking:
+        sys.exit(f"no file brings about {', '.join(lacking)}")
+    return len(met)
+
+
+def fonts_here():
+    """Some of the fonts that are installed, at even distances."""
+    found = sorted(path for folder in FOLDERS for kind in ("pfa", "pfb", "t1") for path in glob.glob(f"{folder}/**/*.{kind}", recursive=True))
+    if not found:
+        say("no Type 1 fonts are installed here: only made fonts were tried")
+    return [found[at * len(found) // FONTS] for at in range(FONTS)] if len(found) > FONTS else found
+
+
+def run_font(pair, font, last):
+    """All words over a font, and over two subsets of it; the first of these is returned, if there is one."""
+    for words in (["check", font], ["pfa", font, "out"], ["pfb", font, "out"]):
+        pair.both(words)
+    status, listed, _, _ = pair.both(["list", font])
+    names = [name for name in re.findall(r"^glyph (\S+) ", listed.decode(), re.M) if "\\" not in name]
+    if status:
+        return last
+    names = names[:: max(1, len(names) // 12)][:12]
+    for name in names[:3]:
+        pair.both(["show", font, "--", name])
+    pair.both(["subset", font, "out", "--", *names, *names[:2]])
+    pair.both(["subset", font, "out", "--", *names, "no-such-glyph"])
+    halves = {name: pair.both(["subset", font, "out", "--", *names[at::2]])[3] for at, name in enumerate(("half", "other"))}
+    pair.write(halves)
+    pair.both(["merge", "out", "other", "half"])
+    pair.both(["rejoin", "out", "half", "other", font])
+    if last:
+        pair.write({"last": last})
+        pair.both(["merge", "out", "half", "last"])
+        pair.both(["rejoin", "out", "last", "half"])
+    return halves["half"]
+
+
+def run_fonts(pair, fonts):
+    last = None
+    for font in fonts:
+        last = run_font(pair, os.path.abspath(font), last)
+    return pair.calls
+
+
+def small_tests(library):
+    """The tests in C and C++ that judge themselves, under the sanitizers and valgrind where they are."""
+    growths = [library.compiled("growths.c", library.static), TINY, *LISTINGS, "X", "Y"]
+    print(ran(growths).replace("\n", "; ")[:-2], file=sys.stderr)
+    ran([library.compiled("edges.c", library.static), TINY])
+    ran([library.compiled("threads.c", library.shared), TINY, "X", "Y", "100"])
+    ran([library.compiled("heap.c", [])])
+    if compiler(["c++", "g++", "clang++"]):
+        line = ran([library.compiled("owner.cc", library.shared), TINY])
+        if line != "ok 11 glyphs, 10 subrs, weight 4936\n":
+            sys.exit(f"owner.cc prints {line!r}")
+    else:
+        say("no C++ compiler: owner.cc was left out")
+    sanitized(library)
+    if shutil.which("valgrind"):
+        for words in (growths, [library.compiled("edges.c", library.static), TINY]):
+            ran(["valgrind", "-q", "--error-exitcode=9", "--leak-check=full", *words])
+    else:
+        say("no valgrind: what it would see of the library was left out")
+
+
+def sanitized(library):
+    """AddressSanitizer and UBSan see the C code, and the heap and the copies of the proved code."""
+    probe = os.path.join(library.work, "probe.c")
+    with open(probe, "w", encoding="ascii") as f:
+        f.write("int main(void) { return 0; }\n")
+    if subprocess.run([library.cc, *SANITIZERS, probe, "-o", probe + ".out"], capture_output=True).returncode:
+        say(f"{library.cc} has no sanitizers: these runs were left out")
+        return
+    env = {**os.environ, "ASAN_OPTIONS": "allocator_may_return_null=1"}
+    ran([library.compiled("heap.c", [], *SANITIZERS)], env=env)
+    ran([library.compiled("growths.c", library.static, *SANITIZERS), TINY, *LISTINGS, "X", "Y"], env=env)
+    ran([library.compiled("edges.c", library.static, *SANITIZERS), TINY], env=env)
+    run = run_rows(library.compiled("words.c", library.static, *SANITIZERS))
+    if isinstance(run, str):
+        sys.exit(f"with sanitizers, {run}")
+
+
+def found_out(library, words, program):
+    """A library whose answers are wrong has to fail the tests above."""
+    liar = os.path.join(library.work, "liar.so")
+    include = ["-I", os.path.join(TOP, "include")]
+    ran([library.cc, "-std=gnu11", "-shared", "-fPIC", *include, os.path.join(TOP, "c/tests/liar.c"), "-o", liar, "-ldl"])
+    growths = [library.compiled("growths.c", library.shared), TINY, *LISTINGS, "X", "Y"]
+    lying = {**os.environ, "LD_PRELOAD": liar}
+    for lie in ("block", "detail"):
+        if subprocess.run(growths, env={**lying, "LIE": lie}, capture_output=True).returncode != 1:
+            sys.exit(f"growths.c does not see the lie {lie!r}")
+    os.environ.update(LD_PRELOAD=liar, LIE="text")
+    seen = run_rows(words)
+    os.environ["LIE"] = "number"
+    with tempfile.TemporaryDirectory() as folder:
+        pair = Pair(program, words, folder)
+        pair.write({"bad": b"no font"})
+        pair.both(["check", "bad"])
+        with open(pair.told, encoding="ascii") as f:
+            told = f.read()
+    del os.environ["LD_PRELOAD"], os.environ["LIE"]
+    if not isinstance(seen, str):
+        sys.exit("the rows don't see another byte in an answer")
+    if told != "12 0 0\n":
+        sys.exit(f"the lie about a number tells {told!r}")
+
+
+def other_languages(library):
+    """The tests of the packages for Python and Rust, over this library."""
+    env = {**os.environ, "LIBT1SUBSET": library.folder + "/libt1subset.so.0", "T1SUBSET_LIB_DIR": library.folder}
+    env.update(LD_LIBRARY_PATH=library.folder, CARGO_TARGET_DIR=os.path.join(library.work, "cargo"))
+    python, rust = os.path.join(TOP, "python"), os.path.join(TOP, "rust")
+    if os.path.isdir(python):
+        has_pytest = not subprocess.run([sys.executable, "-c", "import pytest"], capture_output=True).returncode
+        words = ["pytest", "-q", "-p", "no:cacheprovider", "tests"] if has_pytest else ["unittest", "discover", "-s", "tests"]
+        ran([sys.executable, "-m", *words], cwd=python, env=env)
+        say(f"python: the tests pass by {words[0]}")
+    else:
+        say("no folder python: its tests were left out")
+    if os.path.isdir(rust) and shutil.which("cargo"):
+        ran(["cargo", "test", "--quiet", "--offline"], cwd=os.path.dirname(glob.glob(rust + "/**/Cargo.toml", recursive=True)[0]), env=env)
+        say("rust: the tests pass by cargo")
+    else:
+        say("no folder rust, or no cargo: its tests were left out")
+
+
+def test(folder, program, fonts, work):
+    text = test_header.text_of(test_header.HEADER)
+    library = Library(folder, work)
+    library.exports(test_header.Header(text))
+    words = library.compiled("words.c", library.shared)
+    run = run_rows(words)
+    if isinstance(run, str):
+        sys.exit(run)
+    small_tests(library)
+    with tempfile.TemporaryDirectory() as room:
+        pair = Pair(program, words, room)
+        numbers = refusals(pair, Numbers(text))
+        calls = run_fonts(pair, fonts)
+    found_out(library, words, program)
+    test_install.test(folder, program, work)
+    other_languages(library)
+    say(f"libt1subset: {run} rows, {numbers} numbers of refusals, {calls} calls over {len(fonts)} fonts as the program")
+
+
+def main():
+    parser = argparse.ArgumentParser(description=__doc__.splitlines()[0])
+    parser.add_argument("--lib")
+    parser.add_argument("--program", default=BUILDS[0])
+    parser.add_argument("fonts", nargs="*")
+    asked = parser.parse_args()
+    with tempfile.TemporaryDirectory() as work:
+        folder = os.path.abspath(asked.lib or os.path.join(work, "lib"))
+        if not asked.lib:
+            print(ran([os.path.join(TOP, "tools/build_library.sh"), folder]), end="")
+        test(folder, os.path.abspath(asked.program), asked.fonts or fonts_here(), work)
+
+
+if __name__ == "__main__":
+    main()
