@@ -1,8 +1,8 @@
 #!/usr/bin/env python3
 """Compares include/t1subset.h with the exports of the crate t1_c: calls, parameters, the answer's fields and every number.
 
-Nothing may stand on one side alone, but for the three functions that c/t1subset.c defines. The header also has to compile
-as C and C++ with all warnings.
+Nothing may stand on one side alone, but for the three functions that c/t1subset.c defines. The man page has to have the
+same calls and numbers, and the header has to compile as C and C++ with all warnings.
 
 usage: tools/test_header.py
 """
@@ -14,6 +14,7 @@ import subprocess
 import sys
 
 TOP = os.path.abspath(os.path.join(os.path.dirname(os.path.abspath(__file__)), ".."))
+PAGE = os.path.join(TOP, "docs/t1subset.3")
 HEADER = os.path.join(TOP, "include/t1subset.h")
 CRATE = os.path.join(TOP, "crates/t1_c")
 IN_C = {"t1subset_free", "t1subset_use", "t1subset_version"}
@@ -27,6 +28,18 @@ PARAMETERS = {
     "&mut Answer": ["t1subset_answer *"],
 }
 FIELDS = {"u64": "uint64_t", "i64": "int64_t", "&'static [u8]": "t1subset_bytes"}
+# The parts of `shells differ in PART`, as the program prints them, and the names of their numbers.
+PARTS = {
+    "head": "part_head",
+    "encoding": "part_encoding",
+    "clear tail": "part_clear_tail",
+    "private": "part_private",
+    "Subrs table": "part_subrs_table",
+    "Subrs words": "part_subrs_words",
+    "middle": "part_middle",
+    "CharStrings words": "part_glyphs_words",
+    "tail": "part_tail",
+}
 SLICE = [("const uint8_t *", "data"), ("size_t", "size")]
 COMPILERS = [
     (["cc", "gcc", "clang"], ["-x", "c", "-std=c99", "-Wstrict-prototypes", "-Wmissing-prototypes"]),
@@ -114,6 +127,27 @@ def faults(header, crate):
         yield "a number or an export is not written as this script reads it"
 
 
+def calls_in(text):
+    """Prototypes with the names of their parameters, but for blanks."""
+    found = re.findall(r"^(\w+ \**t1subset_\w+\([^;]*\));", text, re.M)
+    return {re.sub(r"\s+", " ", it).replace("( ", "(") for it in found}
+
+
+def page_faults(header, text, page):
+    """Where the man page differs from the header."""
+    bare = re.sub(r"\\f[BIRP]", "", page).replace("\\-", "-")
+    ours, theirs = calls_in(re.sub(r"/\*.*?\*/", "", text, flags=re.S)), calls_in(bare)
+    yield from (f"the prototype {it} stands on one side alone" for it in sorted(ours ^ theirs))
+    table = {name.lower(): int(number) for number, name in re.findall(r"^\.B (\d+) (\w+)$", bare, re.M)}
+    parts = re.search(r"^shells differ in PART: (.*?)\.", bare, re.M | re.S)[1].replace("\n", " ").split(", ")
+    table.update((PARTS[name], int(number)) for number, name in (it.split(" ", 1) for it in parts))
+    forms = re.search(r"T1SUBSET_PFA \((\d)\) or T1SUBSET_PFB \((\d)\)", bare)
+    table.update(pfa=int(forms[1]), pfb=int(forms[2]))
+    for name in sorted({*table, *header.numbers}):
+        if table.get(name) != header.numbers.get(name):
+            yield f"number {name}: {header.numbers.get(name)} in the header, {table.get(name)} in the man page"
+
+
 def versions(header):
     for page in ("docs/t1subset.1", "docs/t1subset.3"):
         found = text_of(os.path.join(TOP, page)).split('"')[1].split()[1]
@@ -137,36 +171,40 @@ def compiled(path=HEADER):
     return done
 
 
-def sees_changes(text, crate):
-    """Copies of the header with one change each have to differ."""
-    changes = [
-        ("T1SUBSET_BAD_SUBRS = 17", "T1SUBSET_BAD_SUBRS = 18"),
-        ("    T1SUBSET_NO_GLYPH = 4,", ""),
-        ("T1SUBSET_PFB = 1", "T1SUBSET_PFB = 1,\n    T1SUBSET_CFF = 2"),
-        ("T1SUBSET_PART_HEAD = 0", "T1SUBSET_PART_HEADS = 0"),
-        ("    uint64_t detail;", "    uint32_t detail;"),
-        ("int64_t input;", "int64_t place;"),
-        ("uint32_t t1subset_list(const uint8_t *font, size_t size, ", "uint32_t t1subset_list(const uint8_t *font, "),
-        ("uint32_t t1subset_check(", "int32_t t1subset_check("),
-        ("size_t count, uint32_t form,", "uint32_t form, size_t count,"),
-    ]
-    for old, new in changes:
-        if old not in text:
-            sys.exit(f"the header has no {old!r} to change")
-        if not list(faults(Header(text.replace(old, new, 1)), crate)):
+# Changes of the header, and whether the man page says the same thing.
+CHANGES = [
+    ("T1SUBSET_BAD_SUBRS = 17", "T1SUBSET_BAD_SUBRS = 18", True),
+    ("    T1SUBSET_NO_GLYPH = 4,", "", True),
+    ("T1SUBSET_PFB = 1", "T1SUBSET_PFB = 1,\n    T1SUBSET_CFF = 2", True),
+    ("T1SUBSET_PART_HEAD = 0", "T1SUBSET_PART_HEADS = 0", True),
+    ("    uint64_t detail;", "    uint32_t detail;", False),
+    ("int64_t input;", "int64_t place;", False),
+    ("uint32_t t1subset_list(const uint8_t *font, size_t size, ", "uint32_t t1subset_list(const uint8_t *font, ", True),
+    ("uint32_t t1subset_check(", "int32_t t1subset_check(", True),
+    ("size_t count, uint32_t form,", "uint32_t form, size_t count,", True),
+]
+
+
+def sees_changes(text, crate, page):
+    """How many changed copies of the header were tried; each of them has to differ."""
+    for old, new, in_page in CHANGES:
+        changed = text.replace(old, new, 1)
+        header = Header(changed)
+        seen = changed != text and list(faults(header, crate))
+        if not seen or in_page and not list(page_faults(header, changed, page)):
             sys.exit(f"{new!r} in place of {old!r} is not noticed")
-    return len(changes)
+    return len(CHANGES)
 
 
 def main():
-    text, crate = text_of(HEADER), Crate(CRATE)
+    text, crate, page = text_of(HEADER), Crate(CRATE), text_of(PAGE)
     header = Header(text)
-    wrong = [*faults(header, crate), *versions(header)]
+    wrong = [*faults(header, crate), *page_faults(header, text, page), *versions(header)]
     for fault in wrong:
         print(f"include/t1subset.h, {fault}", file=sys.stderr)
     if wrong:
         sys.exit(1)
-    times, changes = compiled(), sees_changes(text, crate)
+    times, changes = compiled(), sees_changes(text, crate, page)
     print(
         f"header: {len(header.calls)} calls, {len(header.numbers)} numbers as in t1_c; compiled {times} times;"
         f" {changes} changes noticed",

@@ -32,11 +32,6 @@ FONTS = 30
 WARNINGS = ["-O1", "-g", "-Wall", "-Wextra", "-Wconversion", "-Wpedantic", "-Wshadow", "-Werror"]
 IN_C = ["-std=c11", "-Wstrict-prototypes"]
 SANITIZERS = ["-fsanitize=address,undefined", "-fno-sanitize-recover=all"]
-# The parts of `shells differ in PART`, as the man page t1subset(1) lists them, and the names of their numbers.
-PARTS = {
-    "head": "head", "encoding": "encoding", "clear tail": "clear_tail", "private": "private", "Subrs table": "subrs_table",
-    "Subrs words": "subrs_words", "middle": "middle", "CharStrings words": "glyphs_words", "tail": "tail",
-}
 # Numbers that no word of the program answers: growths.c and edges.c meet them.
 ELSEWHERE = {"ok", "memory", "bad_call", "file_too_long", "nothing_to_merge"}
 
@@ -154,7 +149,7 @@ class Numbers:
         """The number that a text names."""
         if not found.groups():
             return 0
-        return int(found[1]) if found[1].isdigit() else self.numbers["part_" + PARTS[found[1]]]
+        return int(found[1]) if found[1].isdigit() else self.numbers[test_header.PARTS[found[1]]]
 
     def fault(self, name, text, place, told):
         """What is wrong with what was told of a refusal: its number, its detail, and the place of the refused file."""
@@ -301,13 +296,15 @@ def found_out(library, words, program):
         sys.exit(f"the lie about a number tells {told!r}")
 
 
-def other_languages(library):
+def other_languages(library, program):
     """The tests of the packages for Python and Rust, over this library."""
     env = {**os.environ, "LIBT1SUBSET": library.folder + "/libt1subset.so.0", "T1SUBSET_LIB_DIR": library.folder}
-    env.update(LD_LIBRARY_PATH=library.folder, CARGO_TARGET_DIR=os.path.join(library.work, "cargo"))
+    env.update(T1SUBSET=program, LD_LIBRARY_PATH=library.folder, CARGO_TARGET_DIR=os.path.join(library.work, "cargo"))
     python, rust = os.path.join(TOP, "python"), os.path.join(TOP, "rust")
     if os.path.isdir(python):
         has_pytest = not subprocess.run([sys.executable, "-c", "import pytest"], capture_output=True).returncode
+        if not has_pytest:
+            say("no pytest: the Python tests run by unittest")
         words = ["pytest", "-q", "-p", "no:cacheprovider", "tests"] if has_pytest else ["unittest", "discover", "-s", "tests"]
         ran([sys.executable, "-m", *words], cwd=python, env=env)
         say(f"python: the tests pass by {words[0]}")
@@ -335,7 +332,7 @@ def test(folder, program, fonts, work):
         calls = run_fonts(pair, fonts)
     found_out(library, words, program)
     test_install.test(folder, program, work)
-    other_languages(library)
+    other_languages(library, program)
     say(f"libt1subset: {run} rows, {numbers} numbers of refusals, {calls} calls over {len(fonts)} fonts as the program")
 
 

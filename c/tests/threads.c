@@ -1,4 +1,4 @@
-/* Eight threads call at once over one font, every other one on a heap of its own.
+/* Eight threads call at once over one font, every other one on a heap of its own, each on a small stack.
  * usage: threads FONT NAME NAME TURNS */
 #include "t1subset.h"
 
@@ -8,6 +8,7 @@
 #include <string.h>
 
 #define THREADS 8
+#define STACK ((size_t) 128 << 10)
 
 static uint8_t font[1 << 22];
 static size_t size;
@@ -60,9 +61,11 @@ int main(int count, char **words) {
     turns = atol(words[4]);
     if (t1subset_subset(font, size, names, 2, T1SUBSET_PFA, &both)) return 2;
     pthread_t threads[THREADS];
+    pthread_attr_t small;
     int status = 0;
+    if (pthread_attr_init(&small) || pthread_attr_setstacksize(&small, STACK)) return 2;
     for (int at = 0; at < THREADS; at++) {
-        if (pthread_create(&threads[at], NULL, work, at % 2 ? &own_heap : NULL)) return 2;
+        if (pthread_create(&threads[at], &small, work, at % 2 ? &own_heap : NULL)) return 2;
     }
     for (int at = 0; at < THREADS; at++) {
         void *wrong;
