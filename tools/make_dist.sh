@@ -24,7 +24,7 @@ installed() {
 
 # The files of a folder that are kept in git, without tests.
 sources() {
-    git ls-files "$1" | grep -v /tests/ || true
+    git ls-files "$1" | grep -Ev '/tests/|/\.gitignore$' || true
 }
 
 # The modification times of a tree, whose bytes have to depend on nothing else of this run.
