@@ -91,9 +91,7 @@ def cut(program, folder, **env):
 def try_place(place, program, work):
     """The man page's example is compiled, linked by pkg-config with both libraries, and run."""
     cc = next(filter(shutil.which, ["cc", "gcc", "clang"]))
-    source = os.path.join(work, "cut.c")
-    with open(source, "w", encoding="utf-8") as f:
-        f.write(example("t1subset.3"))
+    source = os.path.join(TOP, "examples/cut.c")
     out = os.path.join(work, "cut")
     if ran([os.path.join(place.bin, "t1subset"), "check", TINY]).decode() != CHECKED:
         sys.exit("the installed program prints another line")
@@ -194,7 +192,10 @@ def distributed(program, library, work):
 
 
 def pages():
-    """The man pages have no fault that mandoc or man sees."""
+    """The man pages have no fault that mandoc or man sees, and the example is that of examples/."""
+    with open(os.path.join(TOP, "examples/cut.c"), encoding="utf-8") as f:
+        if f.read() != example("t1subset.3"):
+            sys.exit("the program in docs/t1subset.3 is not examples/cut.c")
     for page in ("t1subset.1", "t1subset.3"):
         path = os.path.join(TOP, "docs", page)
         if shutil.which("mandoc"):
