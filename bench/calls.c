@@ -1,4 +1,4 @@
-/* Milliseconds of processor time of one call of libt1subset. usage: calls SECONDS FONT NAME...
+/* Milliseconds of processor time of one call of libt1subset, and the most bytes that it held. usage: calls SECONDS FONT NAME...
  * Prints `check`, `subset` (to every fourth NAME) and `merge` (of the four such subsets), a line each. */
 #include "t1subset.h"
 
@@ -35,6 +35,43 @@ static double least(uint32_t (*call)(t1subset_answer *), double seconds) {
     return best * 1000 / CLOCKS_PER_SEC;
 }
 
+/* A heap that counts the bytes of its blocks; the size of each stands 16 bytes before it. */
+struct counted {
+    size_t now, most;
+};
+
+static void *resize(void *user, void *block, size_t bytes) {
+    struct counted *held = user;
+    size_t *old = block ? (size_t *) (void *) ((char *) block - 16) : NULL;
+    const size_t had = old ? *old : 0;
+    if (bytes == 0) {
+        held->now -= had;
+        free(old);
+        return NULL;
+    }
+    size_t *given = realloc(old, bytes + 16);
+    if (!given) return NULL;
+    *given = bytes;
+    held->now += bytes - had;
+    if (held->now > held->most) held->most = held->now;
+    return (char *) given + 16;
+}
+
+static size_t peak(uint32_t (*call)(t1subset_answer *)) {
+    struct counted held = {0, 0};
+    const t1subset_heap heap = {resize, &held};
+    t1subset_answer answer;
+    t1subset_use(&heap);
+    if (call(&answer)) exit(1);
+    t1subset_free(&answer);
+    t1subset_use(NULL);
+    return held.most;
+}
+
+static void report(const char *name, uint32_t (*call)(t1subset_answer *), double seconds) {
+    printf("%s %.4f %zu\n", name, least(call, seconds), peak(call));
+}
+
 static void read_font(const char *path) {
     FILE *file = fopen(path, "rb");
     if (!file || fseek(file, 0, SEEK_END)) exit(2);
@@ -59,6 +96,8 @@ int main(int count, char **words) {
         if (t1subset_subset(font, size, names[part], counts[part], T1SUBSET_PFA, &answer)) return 1;
         parts[part] = answer.bytes;
     }
-    printf("check %.4f\nsubset %.4f\nmerge %.4f\n", least(check, seconds), least(subset, seconds), least(merge, seconds));
+    report("check", check, seconds);
+    report("subset", subset, seconds);
+    report("merge", merge, seconds);
     return 0;
 }
