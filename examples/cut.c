@@ -1,5 +1,4 @@
 #include <stdio.h>
-#include <stdlib.h>
 #include <string.h>
 #include <t1subset.h>
 
@@ -7,8 +6,8 @@ static uint8_t font[1 << 22];
 
 int main(int argc, char **argv)
 {
-    t1subset_answer answer = T1SUBSET_ANSWER;
     t1subset_bytes names[100];
+    t1subset_answer answer;
     size_t size, count = 0;
     uint32_t number;
     FILE *in;
@@ -18,6 +17,10 @@ int main(int argc, char **argv)
         return 2;
     }
     size = fread(font, 1, sizeof font, in);
+    if (ferror(in) || size == sizeof font) {
+        fprintf(stderr, "%s can't be read, or is too long\n", argv[1]);
+        return 2;
+    }
     fclose(in);
     for (int i = 2; i < argc; i++) {
         names[count].data = (const uint8_t *) argv[i];
