@@ -32,6 +32,16 @@ at_one_time() {
     find "$1" -exec touch -h -d "@$SOURCE_DATE_EPOCH" {} +
 }
 
+# Kilobytes, whatever the disk counts in.
+size_of() {
+    find "$1" -type f -printf '%s\n' | awk '{ sum += int(($1 + 1023) / 1024) } END { print sum }'
+}
+
+# The newest version of the C library that a program or a library asks for.
+least_libc() {
+    objdump -T "$@" | sed -n 's/.*GLIBC_\([0-9.]*\).*/\1/p' | sort -Vu | tail -n 1
+}
+
 tar_file() {
     name=t1subset-$version-linux-$machine
     tree=$work/$name
@@ -41,23 +51,13 @@ tar_file() {
         -e 's|^includedir=.*|includedir=${prefix}/include|' "$tree/lib/pkgconfig/t1subset.pc" > "$work/pc"
     cat "$work/pc" > "$tree/lib/pkgconfig/t1subset.pc"
     cp LICENSE CHANGELOG.md examples/cut.c "$tree"
-    cp packaging/README "$tree/README"
+    sed "s|@LIBC@|$libc|" packaging/README > "$tree/README"
     install -m 755 packaging/install.sh "$tree/install.sh"
     for file in $(sources python) $(sources rust); do install -D -m 644 "$file" "$tree/$file"; done
     at_one_time "$tree"
     tar -C "$work" --sort=name --mtime="@$SOURCE_DATE_EPOCH" --owner=0 --group=0 --numeric-owner --format=ustar -cf - "$name" \
         | gzip -9n > "$out/$name.tar.gz"
     echo "$out/$name.tar.gz"
-}
-
-# Kilobytes, whatever the disk counts in.
-size_of() {
-    find "$1" -type f -printf '%s\n' | awk '{ sum += int(($1 + 1023) / 1024) } END { print sum }'
-}
-
-# The newest version of the C library that a program or a library asks for.
-least_libc() {
-    objdump -T "$@" | sed -n 's/.*GLIBC_\([0-9.]*\).*/\1/p' | sort -Vu | tail -n 1
 }
 
 debian_package() {
@@ -72,7 +72,7 @@ debian_package() {
     cp LICENSE "$pages/copyright"
     for file in $(sources python/t1subset); do install -D -m 644 "$file" "$tree/usr/lib/python3/dist-packages/${file#python/}"; done
     sed -e "s|@VERSION@|$version|" -e "s|@ARCHITECTURE@|$architecture|" -e "s|@SIZE@|$(size_of "$tree/usr")|" \
-        -e "s|@LIBC@|$(least_libc "$program" "$tree$shared/libt1subset.so")|" packaging/debian.in > "$tree/DEBIAN/control"
+        -e "s|@LIBC@|$libc|" packaging/debian.in > "$tree/DEBIAN/control"
     echo "libt1subset ${version%%.*} t1subset (>= $version)" > "$tree/DEBIAN/shlibs"
     echo "activate-noawait ldconfig" > "$tree/DEBIAN/triggers"
     (cd "$tree" && find usr -type f | sort | xargs md5sum > DEBIAN/md5sums)
@@ -81,6 +81,7 @@ debian_package() {
     echo "$out/t1subset_${version}_$architecture.deb"
 }
 
+libc=$(least_libc "$program" "$library/libt1subset.so")
 tar_file
 if command -v dpkg-deb > /dev/null; then
     debian_package

@@ -58,7 +58,7 @@ class Library:
 
     def __init__(self, folder, work):
         self.folder, self.work = folder, work
-        self.cc = compiler(["cc", "gcc", "clang"])
+        self.cc = compiler([os.environ.get("CC", "cc"), "gcc", "clang"])
         self.shared = [f"-L{folder}", "-lt1subset", f"-Wl,-rpath,{folder}"]
         self.static = [os.path.join(folder, "libt1subset.a")]
 
@@ -66,7 +66,7 @@ class Library:
         """The path of the test made of a file of c/tests."""
         name, kind = os.path.splitext(source)
         path = os.path.join(self.work, "-".join([name, "shared" if links == self.shared else "static", str(len(flags))]))
-        words = [self.cc, *IN_C] if kind == ".c" else [compiler(["c++", "g++", "clang++"]), "-std=c++11"]
+        words = [self.cc, *IN_C] if kind == ".c" else [compiler([os.environ.get("CXX", "c++"), "g++", "clang++"]), "-std=c++11"]
         words += [*WARNINGS, *flags, "-I", os.path.join(TOP, "include"), os.path.join(TOP, "c/tests", source)]
         ran([*words, "-o", path, *links, "-pthread"])
         return path
@@ -244,7 +244,7 @@ def small_tests(library):
     ran([library.compiled("edges.c", library.static), TINY])
     ran([library.compiled("threads.c", library.shared), TINY, "X", "Y", "100"])
     ran([library.compiled("heap.c", [])])
-    if compiler(["c++", "g++", "clang++"]):
+    if compiler([os.environ.get("CXX", "c++"), "g++", "clang++"]):
         line = ran([library.compiled("owner.cc", library.shared), TINY])
         if line != "ok 11 glyphs, 10 subrs, weight 4936\n":
             sys.exit(f"owner.cc prints {line!r}")
