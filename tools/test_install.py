@@ -23,6 +23,16 @@ SONAME = "libt1subset.so." + VERSION.split(".")[0]
 NAMES = ["libt1subset.a", "libt1subset.so", SONAME, "libt1subset.so." + VERSION, "pkgconfig/t1subset.pc"]
 
 
+SAID = set()
+
+
+def left_out(text):
+    """Says once what this machine lacks."""
+    if text not in SAID:
+        print(text, file=sys.stderr)
+    SAID.add(text)
+
+
 def ran(words, **how):
     """What a run prints; it has to end well."""
     done = subprocess.run(words, capture_output=True, timeout=300, **how)
@@ -105,7 +115,7 @@ def try_place(place, program, work):
             sys.exit("pkg-config tells another version")
         ran([cc, *warnings, source, "-o", out, *place.flags("--cflags", "--libs")])
     else:
-        print("no pkg-config: t1subset.pc was not tried", file=sys.stderr)
+        left_out("no pkg-config: t1subset.pc was not tried")
         ran([cc, *warnings, source, "-o", out, f"-I{place.include}", f"-L{place.lib}", "-lt1subset"])
     ran([cc, *warnings, source, "-o", out + ".static", f"-I{place.include}", place.lib + "/libt1subset.a"])
     answers = [cut(out, work, LD_LIBRARY_PATH=place.lib), cut(out + ".static", work)]
@@ -182,13 +192,22 @@ def distributed(program, library, work):
     ran([tree + "/install.sh", "--remove", moved])
     if files_in(moved):
         sys.exit("install.sh --remove leaves files")
-    for path in glob.glob(work + "/first/*.deb"):
-        root = os.path.join(work, "root")
-        ran(["dpkg-deb", "-x", path, root])
-        if ran([root + "/usr/bin/t1subset", "check", TINY]).decode() != CHECKED:
-            sys.exit("the program of the Debian package prints another line")
-        if shutil.which("lintian"):
-            ran(["lintian", "--allow-root", "--fail-on", "error", path])
+    packages = glob.glob(work + "/first/*.deb")
+    if packages:
+        debian_package(packages[0], work)
+    else:
+        left_out("no dpkg-deb: the Debian package was not tried")
+
+
+def debian_package(path, work):
+    root = os.path.join(work, "root")
+    ran(["dpkg-deb", "-x", path, root])
+    if ran([root + "/usr/bin/t1subset", "check", TINY]).decode() != CHECKED:
+        sys.exit("the program of the Debian package prints another line")
+    if shutil.which("lintian"):
+        ran(["lintian", "--allow-root", "--fail-on", "error", path])
+    else:
+        left_out("no lintian: what it would say of the Debian package was left out")
 
 
 def pages():
@@ -205,7 +224,7 @@ def pages():
             if done.returncode or done.stderr:
                 sys.exit(f"{page}: {done.stderr.decode()}")
         else:
-            print("neither mandoc nor man: the man pages were not looked at", file=sys.stderr)
+            left_out("neither mandoc nor man: the man pages were not looked at")
 
 
 def test(folder, program, work):
