@@ -17,7 +17,7 @@ static void *resize(void *user, void *block, size_t size) {
     if (size == 0) {
         counts->blocks--;
         free(block);
-        return block; /* anything */
+        return user; /* anything */
     }
     if (++counts->growths == counts->refused) return NULL;
     void *given = realloc(block, size);
