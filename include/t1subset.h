@@ -10,13 +10,15 @@
  * anything before a call, since a call only writes it: free an earlier result first. Free every answer by
  * t1subset_free, whatever the call returned.
  *
- * Threads: nothing is kept from call to call, and there is no global state, so any number of threads may call at once,
- * each with an answer of its own.
+ * Threads: nothing is kept from call to call, and the one state is the heap that a thread has chosen (t1subset_use), which
+ * is that thread's alone. So any number of threads may call at once, each with an answer of its own.
  *
  * Memory and time: if the heap refuses a growth, the call returns T1SUBSET_MEMORY, and nothing is held. The calls that
  * were measured took at most eight times their files and 2 MB. A font of 1 MB can be made so that merge and rejoin run
  * for minutes: a service that opens files of strangers should limit the time of a call from outside, for instance in a
  * process of its own.
+ *
+ * On x86-64 the library needs a processor of the level x86-64-v2 (nearly all since 2009), and doesn't look for it.
  *
  * Versions: a number, a name or a field of this header keeps its meaning as long as the library is libt1subset.so.0;
  * later versions may add calls and numbers. */
@@ -138,7 +140,8 @@ uint32_t t1subset_rejoin(const t1subset_bytes *fonts, size_t count, uint32_t for
 /* The join of two listings, texts of lines "S INDEX HEX" and "G NAME HEX". */
 uint32_t t1subset_join(const uint8_t *first, size_t first_size, const uint8_t *second, size_t second_size, t1subset_answer *answer);
 
-/* Frees what an answer holds, and leaves it as T1SUBSET_ANSWER; an answer that holds nothing may be freed again. */
+/* Frees what an answer holds, and leaves it as T1SUBSET_ANSWER; an answer that holds nothing may be freed again. The pointer
+ * is not NULL. */
 void t1subset_free(t1subset_answer *answer);
 
 /* The version of the library, as T1SUBSET_VERSION. */
@@ -146,7 +149,7 @@ uint32_t t1subset_version(void);
 
 /* A heap: resize(user, NULL, n) answers a new block of n bytes, resize(user, block, n) a block of n bytes with what the
  * old one had, and resize(user, block, 0) frees it and answers anything. NULL refuses a growth, and the old block stays.
- * A block is aligned as by malloc. */
+ * A block is aligned as by malloc. It has to return: neither longjmp nor a C++ exception may leave it. */
 typedef struct t1subset_heap {
     void *(*resize)(void *user, void *block, size_t size);
     void *user;
