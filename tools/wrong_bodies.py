@@ -23,7 +23,7 @@ import tempfile
 TOP = os.path.abspath(os.path.join(os.path.dirname(os.path.abspath(__file__)), ".."))
 EDITS = os.path.join(TOP, "tools/wrong-bodies")
 # The first edit of a copy costs its crate's proof, and each further edit a load of that proof.
-CHUNK = 12
+CHUNK = 30
 # How long a test may run that is not built yet, which takes it many times as long.
 SECONDS = "900"
 # What is said of an edit that is refused, and of one that is caught.
