@@ -6,10 +6,9 @@ use Rattle.std.proofs.lemmas.Bool.Decides.{nat_tests}
 use Rattle.std.proofs.lemmas.List.{length-append, length-take-le, take_more}
 use Rattle.std.proofs.lemmas.List.Sums.{take_while-cons}
 use Rattle.hex.specs.Hex.{is_hex_digit}
-use Rattle.t1_bytes.specs.Grammar.{Stops, count}
+use Rattle.t1_grammar.specs.Grammar.{Stops, count, run}
 use Rattle.t1_bytes.specs.White.{is_white, white}
 use Rattle.t1_bytes.specs.Eexec.{digit_value, paired, all_hex, hex_or_white, digits_ahead, spelled_ahead}
-use Rattle.t1_bytes.proofs.Grammars.{run_exact, count_exact}
 
 -- ---- one byte
 
@@ -48,7 +47,7 @@ pub record Left (text rest : List ℕ) : Type 0 where
 -- a text is left with the same digits ahead once its white space is skipped
 pub skipped : (text front rest : List ℕ) → Some (front, rest) ≡ white.read text → Left text rest
 skipped text front rest e =
-    let s = (run_exact is_white).takes text (front, rest) (sym e) in
+    let s = (run is_white).takes text (front, rest) (sym e) in
     let whole : text ≡ front ++ rest = s.1 ∙ ap (λ (u : List ℕ). u ++ rest) s.2.0 in
     record {
       digits = ap digits_ahead whole ∙ after_white front rest s.2.1;
@@ -110,7 +109,7 @@ pub record Counted (rest line after : List ℕ) : Type 0 where
 -- 64 bytes that are counted off a text are a line of it
 pub counted : (rest line after : List ℕ) → Some (line, after) ≡ (count 64).read rest → Counted rest line after
 counted rest line after e =
-    let s = (count_exact 64).takes rest (line, after) (sym e) in
+    let s = (count 64).takes rest (line, after) (sym e) in
     record { whole = s.1 ∙ ap (λ (u : List ℕ). u ++ after) s.2.0; full = s.2.1 }
 
 -- what stands after a line is shorter than the text

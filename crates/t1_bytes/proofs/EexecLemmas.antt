@@ -9,31 +9,12 @@ use Rattle.std.specs.Option.{option_map}
 use Rattle.std.proofs.lemmas.Option.{same_Some, none-some}
 use Rattle.t1_bytes.specs.declared.fault.BytesFault.{BytesFault}
 use Rattle.t1_bytes.specs.declared.fault.BytesFault.TheVariants.{BadSegment, Memory, NoEexec, ShortCipher}
-use Rattle.t1_bytes.specs.Grammar.{first}
-use Rattle.t1_bytes.specs.White.{is_white, white, gap}
-use Rattle.t1_bytes.specs.Eexec.{eexec_marker, is_hex_text, hex_cipher, cipher_text, cipher_in, last_bytes, IsSplit, SplitFails, or_short, split_after, split_of}
+use Rattle.t1_grammar.specs.Grammar.{first, front_again, unspelled, unread, Begins}
+use Rattle.t1_bytes.specs.White.{gap}
+use Rattle.t1_bytes.specs.Eexec.{eexec_marker, cipher_text, cipher_in, last_bytes, IsSplit, SplitFails, or_short, split_after, split_of}
 use Rattle.t1_bytes.specs.Faults.{Refused, Answers, OrMemory}
 use Rattle.t1_bytes.proofs.HexLemmas.{same_Ok}
-use Rattle.t1_bytes.proofs.Grammars.{IsExact, pure_exact, bind_exact, that_exact, run_exact, fixed_exact, before_exact, either_exact, all_exact, first_exact, front_again, unspelled, unread}
-use Rattle.t1_bytes.proofs.Places.{Begins, unread_lacks, lacks_unread}
-
-pub white_exact : IsExact white
-white_exact = run_exact is_white
-
-pub gap_exact : IsExact gap
-unfolding gap
-gap_exact = that_exact _ _ white_exact
-
-pub hex_exact : IsExact hex_cipher
-hex_exact = bind_exact _ _ (before_exact is_hex_text) (λ _. bind_exact _ _ (run_exact _) (λ digits. pure_exact _))
-
-pub cipher_exact : IsExact cipher_text
-unfolding cipher_text
-cipher_exact = that_exact _ _ (bind_exact _ _ (run_exact _) (λ _. either_exact _ _ hex_exact all_exact))
-
-pub eexec_exact : IsExact eexec_marker
-unfolding eexec_marker
-eexec_exact = bind_exact _ _ (fixed_exact (codes "currentfile")) (λ currentfile. bind_exact _ _ gap_exact (λ between. bind_exact _ _ (fixed_exact (codes "eexec")) (λ eexec. bind_exact _ _ (before_exact _) (λ _. pure_exact (currentfile ++ between ++ eexec)))))
+use Rattle.t1_grammar.proofs.Places.{unread_lacks, lacks_unread}
 
 -- the marker can be read only where `currentfile` stands
 pub eexec_begins : Begins (codes "currentfile") eexec_marker
@@ -43,12 +24,22 @@ eexec_begins bytes e = rw e refl
 -- ---- what the definition gives is the split, or the reason that there is none
 
 split_is : (flat : List ℕ) (found : Option ((List ℕ × List ℕ) × List ℕ)) → (first eexec_marker).read flat ≡ found → MatchResult {T = ℕ × List ℕ} (split_after found) (λ x. IsSplit flat x.0 x.1) (SplitFails flat)
-split_is flat None e = unread_lacks eexec_marker eexec_exact flat e
+split_is flat None e = unread_lacks eexec_marker flat e
 split_is flat (Some ((front, marker), after)) e = by_cipher (cipher_text.read after) refl
   where
     by_cipher : (secret : Option (List ℕ × List ℕ)) → cipher_text.read after ≡ secret → MatchResult {T = ℕ × List ℕ} (or_short (λ s. (length front + length marker, s.0)) secret) (λ x. IsSplit flat x.0 x.1) (SplitFails flat)
-    by_cipher None k = (front, marker, after, (first_exact eexec_marker eexec_exact).takes flat ((front, marker), after) e, unspelled cipher_text cipher_exact after k)
-    by_cipher (Some (cipher, rest)) k = record { front = front; marker = marker; after = after; rest = rest; first_marker = (first_exact eexec_marker eexec_exact).takes flat ((front, marker), after) e; secret = cipher_exact.takes after (cipher, rest) k; place = refl }
+    by_cipher None k = (front, marker, after, (first eexec_marker).takes flat ((front, marker), after) e, unspelled cipher_text after k)
+    by_cipher (Some (cipher, rest)) k =
+        record {
+          front = front;
+          marker = marker;
+          after = after;
+          rest = rest;
+          first_marker = (first eexec_marker).takes flat ((front, marker), after)
+              e;
+          secret = cipher_text.takes after (cipher, rest) k;
+          place = refl;
+        }
 
 -- the split of a flat text is right, and so is the reason why there is none
 pub split_right : (flat : List ℕ) → MatchResult {T = ℕ × List ℕ} (split_of flat) (λ x. IsSplit flat x.0 x.1) (SplitFails flat)
@@ -59,16 +50,17 @@ split_right flat = split_is flat ((first eexec_marker).read flat) refl
 pub split_again : (flat : List ℕ) (at : ℕ) (cipher : List ℕ) → IsSplit flat at cipher → split_of flat ≡ Ok (at, cipher)
 unfolding split_of
 split_again flat at cipher s =
-    ap split_after (front_again (first eexec_marker) (first_exact eexec_marker eexec_exact) flat ((s.front, s.marker), s.after) s.first_marker)
-    ∙ (ap (or_short (λ x. (length s.front + length s.marker, x.0))) (front_again cipher_text cipher_exact s.after (cipher, s.rest) s.secret)
+    ap split_after (front_again (first eexec_marker) flat ((s.front, s.marker), s.after) s.first_marker)
+    ∙ (ap (or_short (λ x. (length s.front + length s.marker, x.0))) (front_again cipher_text s.after (cipher, s.rest) s.secret)
     ∙ ap (λ (n : ℕ). Ok (n, cipher)) (sym s.place))
 
 -- a reason is what the definition gives
 pub fails_again : (flat : List ℕ) (fault : BytesFault) → SplitFails flat fault → split_of flat ≡ Err fault
 unfolding split_of
-fails_again flat NoEexec s = ap split_after (lacks_unread eexec_marker eexec_exact flat s)
+fails_again flat NoEexec s = ap split_after (lacks_unread eexec_marker flat s)
 fails_again flat ShortCipher s =
-    ap split_after (front_again (first eexec_marker) (first_exact eexec_marker eexec_exact) flat ((s.0, s.1), s.2) s.3) ∙ ap (or_short (λ x. (length s.0 + length s.1, x.0))) (unread cipher_text cipher_exact s.2 s.4)
+    ap split_after (front_again (first eexec_marker) flat ((s.0, s.1), s.2) s.3)
+    ∙ ap (or_short (λ x. (length s.0 + length s.1, x.0))) (unread cipher_text s.2 s.4)
 fails_again flat (BadSegment at) s = absurd s
 fails_again flat Memory s = absurd s
 
@@ -101,7 +93,7 @@ placed n secret = or_short (λ x. (n, x.0)) secret
 
 found_place : (flat front marker after : List ℕ) → (first eexec_marker).read flat ≡ Some ((front, marker), after) → length front + length marker ≡ length flat - length after
 found_place flat front marker after e =
-    let s = (first_exact eexec_marker eexec_exact).takes flat ((front, marker), after) e in
+    let s = (first eexec_marker).takes flat ((front, marker), after) e in
     let own : s.2.0 ≡ marker = marker_own marker s.2.0 after s.2.2 in
     omega (arith, ap length s.1, length-append s.0 after, ap length s.2.1, length-append front s.2.0, ap length own)
 
@@ -109,7 +101,7 @@ found_place flat front marker after e =
 pub split_within : (flat after : List ℕ) → option_map (λ (x : (List ℕ × List ℕ) × List ℕ). x.1) ((first eexec_marker).read flat) ≡ Some after → length after ≤ length flat
 split_within flat after e =
     let found = marker_found ((first eexec_marker).read flat) after e in
-    let s = (first_exact eexec_marker eexec_exact).takes flat (found.0, after) found.1 in
+    let s = (first eexec_marker).takes flat (found.0, after) found.1 in
     omega (arith, ap length s.1, length-append s.0 after)
 
 -- a flat text without the marker is refused as NoEexec
@@ -133,7 +125,7 @@ cipher_behind front after (Last n) room = sym (ap (λ k. drop k (front ++ after)
 pub cipher_stays : (flat after : List ℕ) → option_map (λ (x : (List ℕ × List ℕ) × List ℕ). x.1) ((first eexec_marker).read flat) ≡ Some after → (c : Cipher) → last_bytes c ≤ length after → cipher_in after c ≡ cipher_in flat c
 cipher_stays flat after e c room =
     let found = marker_found ((first eexec_marker).read flat) after e in
-    let whole = (first_exact eexec_marker eexec_exact).takes flat (found.0, after) found.1 in
+    let whole = (first eexec_marker).takes flat (found.0, after) found.1 in
     cipher_behind whole.0 after c room ∙ ap (λ (t : List ℕ). cipher_in t c) (sym whole.1)
 
 -- a cipher that is read is answered with its offset

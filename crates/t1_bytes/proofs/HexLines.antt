@@ -5,12 +5,11 @@ use Rattle.std.specs.List.{AllByRecursion}
 use Rattle.std.proofs.lemmas.Bool.{le-leb, agree_below_at, eqb-true, and_parts}
 use Rattle.std.proofs.lemmas.List.{length-append}
 use Rattle.hex.specs.Hex.{lower_digits, is_hex_digit}
-use Rattle.t1_bytes.specs.Grammar.{Grammar, Stops, run, either, all, before, pure, ◌>>=◌}
+use Rattle.t1_grammar.specs.Grammar.{Grammar, Stops, run, either, all, before, pure, ◌>>=◌}
+use Rattle.t1_grammar.proofs.Grammars.{bind_read, that_read, run_read}
 use Rattle.t1_bytes.specs.Eexec.{is_blank, blank_comes, digit_value, paired, is_hex_text, hex_or_white, hex_cipher, has_four, cipher_text}
 use Rattle.t1_bytes.specs.Texts.{hex_byte, hex_rest, hex_lines, zero_lines, trailer}
 use Rattle.t1_bytes.specs.Laws.{AreBytes, ReadsHexLines, ReadsBinary}
-use Rattle.t1_bytes.proofs.Grammars.{bind_read, that_read, run_read}
-use Rattle.t1_bytes.proofs.EexecLemmas.{cipher_exact}
 
 -- ---- digits
 
@@ -137,9 +136,9 @@ lines_read cipher long bytes =
     let black : blank_comes (text ++ rest) ≡ false = ap blank_comes whole ∙ lines_black cipher trailer bytes long in
     let hex : hex_cipher.read (text ++ rest) ≡ Some (cipher ++ replicate 256 0, rest) = hex_read text rest starts (both_ok (hex_lines cipher) zeros (lines_ok cipher bytes) (are_ok zeros refl)) refl ∙ ap (λ (u : List ℕ). Some (u, rest)) value in
     let secret : cipher_text.read (text ++ rest) ≡ Some (cipher ++ replicate 256 0, rest) = secret_read (text ++ rest) (cipher ++ replicate 256 0) rest black (either_first hex_cipher all (text ++ rest) _ hex) (omega (arith, length-append cipher (replicate 256 0))) in
-    cipher_exact.takes (hex_lines cipher ++ trailer) (cipher ++ replicate 256 0, rest) (ap cipher_text.read (sym whole) ∙ secret)
+    cipher_text.takes (hex_lines cipher ++ trailer) (cipher ++ replicate 256 0, rest) (ap cipher_text.read (sym whole) ∙ secret)
 
 pub binary_read : ReadsBinary
 binary_read cipher long black plain =
     let absent : hex_cipher.read cipher ≡ None = rw plain refl in
-    cipher_exact.takes cipher (cipher, []) (secret_read cipher cipher [] black (either_second hex_cipher all cipher absent) long)
+    cipher_text.takes cipher (cipher, []) (secret_read cipher cipher [] black (either_second hex_cipher all cipher absent) long)

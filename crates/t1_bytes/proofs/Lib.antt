@@ -1,7 +1,4 @@
 pub mod Ciphers
-pub mod Grammars
-pub mod Tables
-pub mod Counted
 pub mod Places
 pub mod SegmentLemmas
 pub mod SegmentMoves

@@ -3,7 +3,8 @@ use Rattle.std.proofs.Common.{◌≡◌, [], ◌∷◌, ◌++◌, length, take, 
 use Rattle.std.specs.Prelude.{codes, replicate}
 use Rattle.t1_bytes.specs.declared.fault.BytesFault.TheVariants.{NoEexec, ShortCipher}
 use Rattle.t1_bytes.specs.declared.form.Form.TheVariants.{Pfa, Pfb}
-use Rattle.t1_bytes.specs.Grammar.{first_at, table_within}
+use Rattle.t1_grammar.specs.Grammar.{first_at}
+use Rattle.t1_grammar.specs.Tables.{table_within}
 use Rattle.t1_bytes.specs.White.{gap}
 use Rattle.t1_bytes.specs.Segments.{flat_of}
 use Rattle.t1_bytes.specs.Eexec.{eexec_marker, cipher_text, split_of}

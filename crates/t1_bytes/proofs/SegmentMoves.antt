@@ -3,9 +3,9 @@ use Rattle.std.proofs.Common.{◌≡◌, ℕ, ◌+◌, ◌-◌, ◌≤◌, List,
 use Rattle.std.specs.List.{copy_within}
 use Rattle.std.proofs.lemmas.List.{length-append, length-drop, drop-drop, take_at, drop_at}
 use Rattle.std.proofs.lemmas.List.Edits.{take-paste, drop-paste, length-paste}
-use Rattle.t1_bytes.specs.Grammar.{table_at}
+use Rattle.t1_grammar.specs.Tables.{table_at}
 use Rattle.t1_bytes.specs.Segments.{segment, end, joined}
-use Rattle.t1_bytes.proofs.SegmentLemmas.{segment_exact, joined_turn}
+use Rattle.t1_bytes.proofs.SegmentLemmas.{joined_turn}
 
 -- the front of a buffer is the flat text so far, and what stands from an offset on is the rest of the file
 pub record Joins (file now : List ℕ) (len at : ℕ) : Type 0 where
@@ -22,7 +22,7 @@ regroup a b c d r =
 -- a segment is its header, its data and what stands after it
 pub segment_place : (bytes : List ℕ) (x : List ℕ × List ℕ) → segment.read bytes ≡ Some x → (head : List ℕ) × (bytes ≡ head ++ (x.0 ++ x.1))
 segment_place bytes x e =
-    let s = segment_exact.takes bytes x e in
+    let s = segment.takes bytes x e in
     let a = s.2 in
     let b = a.5 in
     let c = b.5 in

@@ -6,7 +6,7 @@ use Rattle.t1_bytes.specs.declared.fault.BytesFault.{BytesFault}
 use Rattle.t1_bytes.specs.declared.fault.BytesFault.TheVariants.{BadSegment, NoEexec, ShortCipher, Memory}
 use Rattle.t1_bytes.specs.declared.eexec.Cipher.{Cipher}
 use Rattle.t1_bytes.specs.declared.eexec.Cipher.TheVariants.{Last, Spelled}
-use Rattle.t1_bytes.specs.Grammar.{Grammar, pure, ◌>>=◌, ◌>>◌, that, run, before, fixed, either, all, first, AtFront, NotAtFront, Lacks}
+use Rattle.t1_grammar.specs.Grammar.{Grammar, pure, ◌>>=◌, ◌>>◌, that, run, before, fixed, either, all, first, AtFront, NotAtFront, Lacks}
 use Rattle.t1_bytes.specs.White.{is_white, gap}
 
 -- ---- the marker

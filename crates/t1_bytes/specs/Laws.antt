@@ -4,7 +4,7 @@ use Rattle.std.specs.List.{AllByRecursion}
 use Rattle.t1_bytes.specs.declared.fault.BytesFault.{BytesFault}
 use Rattle.t1_bytes.specs.declared.fault.BytesFault.TheVariants.{NoEexec}
 use Rattle.t1_bytes.specs.Cipher.{Enciphers, encrypted, decrypted, sealed, opened}
-use Rattle.t1_bytes.specs.Grammar.{AtFront, IsExact, count, fixed, first}
+use Rattle.t1_grammar.specs.Grammar.{AtFront, IsExact, count, fixed, first}
 use Rattle.t1_bytes.specs.White.{white, gap}
 use Rattle.t1_bytes.specs.Segments.{segment, end, IsFlat, IsBad}
 use Rattle.t1_bytes.specs.Eexec.{eexec_marker, blank_comes, is_hex_text, hex_cipher, cipher_text, IsSplit, SplitFails}

@@ -1,5 +1,4 @@
 pub mod Cipher
-pub mod Grammar
 pub mod White
 pub mod Segments
 pub mod Limits

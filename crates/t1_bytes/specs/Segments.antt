@@ -3,7 +3,8 @@ use Rattle.std.specs.Prelude.{◌≡◌, ℕ, ◌+◌, ◌-◌, ◌==◌, ◌||�
 use Rattle.std.specs.List.{flat_map}
 use Rattle.std.specs.Str.{bytes_eq}
 use Rattle.byteorder.specs.Endian.{little_number}
-use Rattle.t1_bytes.specs.Grammar.{Grammar, pure, ◌>>=◌, ◌>>◌, that, count, fixed, before, either, Table, table_at, IsTable, BreaksOff}
+use Rattle.t1_grammar.specs.Grammar.{Grammar, pure, ◌>>=◌, ◌>>◌, that, count, fixed, before, either}
+use Rattle.t1_grammar.specs.Tables.{Table, table_at, IsTable, BreaksOff}
 
 -- a segment of text or of binary data: 128, the kind, the length in four bytes, least significant first, and the data
 abbrev pub segment : Grammar (List ℕ)

@@ -1,6 +1,6 @@
 -- White space between the words of a font program: the white-space bytes of the PostScript language.
 use Rattle.std.specs.Prelude.{ℕ, ◌==◌, ◌||◌, nat_lt, Bool, List, length}
-use Rattle.t1_bytes.specs.Grammar.{Grammar, that, run}
+use Rattle.t1_grammar.specs.Grammar.{Grammar, that, run}
 
 -- a null, a tab, LF, a form feed, CR or a blank
 abbrev pub is_white : ℕ → Bool

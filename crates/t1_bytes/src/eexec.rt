@@ -2,7 +2,7 @@
 
 ghost use Rattle.std.specs.Prelude.{◌≡◌, ◌≤◌, ℕ, List, Some, Ok, Err, IfOk, MatchResult, length, take_while};
 ghost use Rattle.std.specs.Option.{option_map};
-ghost use Rattle.t1_bytes.specs.Grammar.{run, first};
+ghost use Rattle.t1_grammar.specs.Grammar.{run, first, exact};
 ghost use Rattle.t1_bytes.specs.Eexec.{is_blank, blank_comes, eexec_marker, is_hex_text, cipher_text, split_view, cipher_in, last_bytes, IsSplit, SplitFails, or_short, split_of};
 ghost use Rattle.t1_bytes.specs.Faults.{Answers, OrMemory};
 ghost use Rattle.t1_bytes.specs.declared.fault.BytesFault.{BytesFault};

@@ -11,8 +11,8 @@
 //! let private = open(cipher, EEXEC_KEY, EEXEC_LEAD);
 //! ```
 //!
-//! The specifications speak of texts by grammars (`specs/Grammar.antt`): values that say which
-//! bytes spell what, and how that is read. Their laws serve the grammar of fonts too.
+//! The specifications speak of texts by the grammars of `t1_grammar`: values that say which bytes
+//! spell what and how that is read, and carry the law that the two agree.
 #![tactic(auto)]
 
 mod cipher;

@@ -4,7 +4,7 @@
 ghost use Rattle.std.specs.Prelude.{◌≡◌, ◌≤◌, ◌+◌, length, take_while, Some, IfSome, MatchOption};
 ghost use Rattle.std.specs.Option.{option_map};
 ghost use Rattle.bstr.specs.Find.{OccursAt, Nowhere};
-ghost use Rattle.t1_bytes.specs.Grammar.{count, fixed};
+ghost use Rattle.t1_grammar.specs.Grammar.{count, fixed};
 ghost use Rattle.t1_bytes.specs.White.{is_white, white, gap};
 
 use bstr::ByteSlice;

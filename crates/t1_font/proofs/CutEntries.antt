@@ -7,7 +7,7 @@ use Rattle.std.specs.Cmp.{IsTotalOrder}
 use Rattle.std.specs.FinSet.{IsAntisymmetric}
 use Rattle.std.specs.FinMap.{FinMap, get, entries, entries_sorted, retain_keys, get-entries, same_map}
 use Rattle.std.specs.FinMap.Entries.{same_entries, is_sorted-where_key, find-where_key}
-use Rattle.t1_bytes.specs.Grammar.{choice}
+use Rattle.t1_grammar.specs.Grammar.{choice}
 use Rattle.t1_font.specs.Entries.{last_entries, last_value, map_of}
 use Rattle.t1_font.specs.Maps.{merged}
 use Rattle.t1_font.proofs.MapLaws.{get-map_of, entries-map_of}

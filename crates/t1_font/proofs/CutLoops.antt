@@ -8,7 +8,7 @@ use Rattle.std.specs.FinSet as sets
 use Rattle.std.specs.FinSet.{IsAntisymmetric}
 use Rattle.std.specs.FinMap.{FinMap, get, empty, contains_key, same_map, retain_keys}
 use Rattle.std.proofs.lemmas.List.{append_assoc, append-nil}
-use Rattle.t1_bytes.specs.Grammar.{choice}
+use Rattle.t1_grammar.specs.Grammar.{choice}
 use Rattle.t1_font.specs.Entries.{map_of, last_value}
 use Rattle.t1_font.specs.FontValue.{FontValue}
 use Rattle.t1_font.specs.Cut.{stub, restrict_encoding, restrict}

@@ -6,33 +6,20 @@ use Rattle.std.specs.Str.{bytes_eq}
 use Rattle.std.proofs.lemmas.Slice.Eq.{bytes_eq-Decides}
 use Rattle.std.proofs.lemmas.Option.{cond_some, option_and_then_some}
 use Rattle.std.proofs.lemmas.List.{append_assoc, length-append}
-use Rattle.t1_bytes.specs.Grammar.{Grammar, fixed}
+use Rattle.t1_grammar.specs.Grammar.{Grammar, fixed}
+use Rattle.t1_grammar.proofs.Tables.{Eats, Apart}
 use Rattle.t1_bytes.specs.White.{is_white, gap}
-use Rattle.t1_bytes.proofs.Grammars.{IsExact, pure_exact, bind_exact, that_exact, count_exact, fixed_exact}
-use Rattle.t1_bytes.proofs.Tables.{Eats, Apart}
 use Rattle.t1_bytes.proofs.SegmentLemmas.{Eats-spelled}
-use Rattle.t1_bytes.proofs.EexecLemmas.{white_exact, gap_exact}
 use Rattle.t1_font.specs.Words.{is_regular, word, keyword, name, phrase_of, passes, next_name}
 use Rattle.t1_font.specs.Encoding.{code_entry, encoding_end}
 use Rattle.t1_font.specs.Places.{StandsIn}
 use Rattle.t1_font.specs.Entry.{Body, length_from, body, entry}
 use Rattle.t1_font.specs.Subrs.{subr_key, subr, subrs_end}
 use Rattle.t1_font.specs.Glyphs.{glyph, glyphs_end}
-use Rattle.t1_font.proofs.WordLemmas.{one_white_exact, word_exact, keyword_exact, decimal_exact, name_exact, phrase_exact, keyword_text}
+use Rattle.t1_font.proofs.WordLemmas.{keyword_text}
 use Rattle.t1_font.proofs.PlaceLemmas.{behind}
-use Rattle.t1_font.proofs.MarkerLemmas.{code_entry_exact}
 
 -- ---- charstrings by a key
-
-pub length_exact : (iv : ℕ) → IsExact (length_from iv)
-unfolding length_from
-length_exact iv = that_exact _ _ decimal_exact
-
-pub body_exact : (iv : ℕ) → IsExact (body iv)
-unfolding body
-body_exact iv =
-    bind_exact _ _ gap_exact (λ _. bind_exact _ _ (length_exact iv) (λ len. bind_exact _ _ gap_exact (λ _. bind_exact _ _ word_exact (λ rd.
-    bind_exact _ _ one_white_exact (λ _. bind_exact _ _ (count_exact len) (λ bytes. bind_exact _ _ white_exact (λ _. bind_exact _ _ (phrase_exact (passes true)) (λ phrase. pure_exact _))))))))
 
 gap_has : (a text rest : List ℕ) → gap.Spells a text rest → 0 < length text
 unfolding gap
@@ -44,14 +31,12 @@ unfolding body
 body_has iv b text rest s = omega (arith, ap length s.3, length-append s.1 s.2, gap_has s.0 s.1 _ s.4)
 
 module _ {K : Type 0} (key : Grammar K) (iv : ℕ) where
-  pub entry_exact : IsExact key → IsExact (entry key iv)
-  unfolding entry
-  entry_exact exact = bind_exact _ _ exact (λ k. bind_exact _ _ (body_exact iv) (λ b. pure_exact _))
-
   -- an entry has at least one byte
-  pub entry_eats : IsExact key → Eats (entry key iv)
+  pub entry_eats : Eats (entry key iv)
   unfolding entry
-  entry_eats exact = Eats-spelled (entry key iv) (entry_exact exact) (λ e text rest s. omega (arith, ap length s.3, length-append s.1 s.2, ap length s.5.3, length-append s.5.1 s.5.2, body_has iv s.5.0 s.5.1 _ s.5.4))
+  entry_eats =
+      Eats-spelled (entry key iv)
+      (λ e text rest s. omega (arith, ap length s.3, length-append s.1 s.2, ap length s.5.3, length-append s.5.1 s.5.2, body_has iv s.5.0 s.5.1 _ s.5.4))
 
   -- where a key stands, the table does not end
   pub entry_apart : {B : Type 0} (close : Grammar B) → Apart key close → Apart (entry key iv) close
@@ -59,14 +44,6 @@ module _ {K : Type 0} (key : Grammar K) (iv : ℕ) where
   entry_apart close apart bytes x e = option_and_then_some _ (key.read bytes) x e (λ y h k. apart bytes y h)
 
 -- ---- Subrs
-
-pub subr_key_exact : (declared : ℕ) → IsExact (subr_key declared)
-unfolding subr_key
-subr_key_exact declared = bind_exact _ _ white_exact (λ _. bind_exact _ _ (keyword_exact (codes "dup")) (λ _. bind_exact _ _ gap_exact (λ _. that_exact _ _ decimal_exact)))
-
-pub subrs_end_exact : IsExact subrs_end
-unfolding subrs_end
-subrs_end_exact = bind_exact _ _ white_exact (λ _. phrase_exact (passes false))
 
 -- no phrase without `dup` begins with `dup`
 no_phrase : (bytes : List ℕ) (x : List ℕ × List ℕ) → (keyword (codes "dup")).read bytes ≡ Some x → (phrase_of (passes false)).read bytes ≡ None
@@ -84,12 +61,9 @@ subr_key_apart declared bytes x e =
     let r = drop (prefix_len is_white bytes) bytes in
     option_and_then_some _ ((keyword (codes "dup")).read r) x e (λ y h k. no_phrase r y h)
 
-pub subr_exact : (declared iv : ℕ) → IsExact (subr declared iv)
-subr_exact declared iv = entry_exact (subr_key declared) iv (subr_key_exact declared)
-
 -- a Subr has at least one byte
 pub subr_eats : (declared iv : ℕ) → Eats (subr declared iv)
-subr_eats declared iv = entry_eats (subr_key declared) iv (subr_key_exact declared)
+subr_eats declared iv = entry_eats (subr_key declared) iv
 
 -- where a Subr stands, its table doesn't close
 pub subr_apart : (declared iv : ℕ) → Apart (subr declared iv) subrs_end
@@ -97,29 +71,21 @@ subr_apart declared iv = entry_apart (subr_key declared) iv subrs_end (subr_key_
 
 -- ---- the glyphs
 
-pub next_name_exact : IsExact next_name
-unfolding next_name
-next_name_exact = bind_exact _ _ white_exact (λ _. name_exact)
-
 -- a name stands right before what is left
 pub name_stands : (bytes : List ℕ) (x : List ℕ × List ℕ) → next_name.read bytes ≡ Some x → StandsIn bytes x.0 (length x.1)
 unfolding next_name name
 name_stands bytes x e =
-    let h = next_name_exact.takes bytes x e in
+    let h = next_name.takes bytes x e in
     let k = h.2 in
     let n = k.5 in
     behind k.1 (k.2 ++ x.1) bytes x.0 (length x.1) (h.1 ∙ (ap (λ t. t ++ x.1) k.3 ∙ append_assoc k.1 k.2 x.1))
     (record { before = n.1; after = x.1; whole = ap (λ t. t ++ x.1) (n.3 ∙ ap (λ t. n.1 ++ t) n.5.0.0) ∙ append_assoc n.1 x.0 x.1; size = refl })
 
-pub glyphs_end_exact : IsExact glyphs_end
-unfolding glyphs_end
-glyphs_end_exact = bind_exact _ _ white_exact (λ _. keyword_exact (codes "end"))
-
 -- a name begins with a slash
 name_slash : (bytes : List ℕ) (x : List ℕ × List ℕ) → name.read bytes ≡ Some x → (rest : List ℕ) × (bytes ≡ 47 ∷ rest)
 unfolding name
 name_slash bytes x e = option_and_then_some _ ((fixed (codes "/")).read bytes) x e (λ y h k.
-    let s = (fixed_exact (codes "/")).takes bytes y h in
+    let s = (fixed (codes "/")).takes bytes y h in
     let slash : codes "/" ≡ y.0 = (bytes_eq-Decides (codes "/") y.0).0 s.2.1 in
     (y.1, s.1 ∙ ap (λ (u : List ℕ). u ++ y.1) (s.2.0.0 ∙ sym slash)))
 
@@ -132,12 +98,9 @@ pub next_name_apart : Apart next_name glyphs_end
 unfolding next_name glyphs_end
 next_name_apart bytes x e = let s = name_slash (drop (prefix_len is_white bytes) bytes) x e in rw s.1 (no_end s.0)
 
-pub glyph_exact : (iv : ℕ) → IsExact (glyph iv)
-glyph_exact iv = entry_exact next_name iv next_name_exact
-
 -- a glyph has at least one byte
 pub glyph_eats : (iv : ℕ) → Eats (glyph iv)
-glyph_eats iv = entry_eats next_name iv next_name_exact
+glyph_eats iv = entry_eats next_name iv
 
 -- where a glyph stands, its table doesn't close
 pub glyph_apart : (iv : ℕ) → Apart (glyph iv) glyphs_end
@@ -148,7 +111,7 @@ glyph_apart iv = entry_apart next_name iv glyphs_end next_name_apart
 -- a put has at least one byte
 pub code_entry_eats : Eats code_entry
 unfolding code_entry
-code_entry_eats = Eats-spelled code_entry code_entry_exact (λ a text rest s.
+code_entry_eats = Eats-spelled code_entry (λ a text rest s.
     let dup : s.5.1 ≡ codes "dup" = keyword_text (codes "dup") s.5.0 s.5.1 _ s.5.4 in
     omega (arith, ap length s.3, length-append s.1 s.2, ap length s.5.3, length-append s.5.1 s.5.2, ap length dup))
 

@@ -4,12 +4,11 @@ use Rattle.std.proofs.lemmas.List.{length-append, take_at}
 use Rattle.std.proofs.lemmas.Bool.{leb-true}
 use Rattle.t1_bytes.specs.declared.fault.BytesFault.{BytesFault}
 use Rattle.t1_bytes.specs.declared.fault.BytesFault.TheVariants.{BadSegment, NoEexec, ShortCipher, Memory}
-use Rattle.t1_bytes.specs.Grammar.{first}
+use Rattle.t1_grammar.specs.Grammar.{first, front_again, unread}
 use Rattle.t1_bytes.specs.Eexec.{eexec_marker, cipher_text, IsSplit, SplitFails}
 use Rattle.t1_bytes.specs.Faults.{OrMemory}
-use Rattle.t1_bytes.proofs.Grammars.{first_exact, front_again, unread}
-use Rattle.t1_bytes.proofs.Places.{lacks_unread}
-use Rattle.t1_bytes.proofs.EexecLemmas.{cipher_exact, eexec_exact, marker_own}
+use Rattle.t1_grammar.proofs.Places.{lacks_unread}
+use Rattle.t1_bytes.proofs.EexecLemmas.{marker_own}
 use Rattle.t1_font.specs.Faults.{read_fault}
 use Rattle.t1_font.specs.Answers.{Refused}
 use Rattle.t1_font.specs.Pieces.{FlatPieces, flat_pieces}
@@ -24,7 +23,7 @@ split_pieces flat at cipher s =
     let whole : flat ≡ (s.front ++ s.marker) ++ s.after = m.1 ∙ ap (λ (u : List ℕ). u ++ s.after) text in
     let place : at ≡ length (s.front ++ s.marker) = s.place ∙ sym (length-append s.front s.marker) in (
       record { clear = s.front ++ s.marker; cipher = cipher },
-      rw (front_again (first eexec_marker) (first_exact eexec_marker eexec_exact) flat ((s.front, s.marker), s.after) m, front_again cipher_text cipher_exact s.after (cipher, s.rest) s.secret) refl,
+      rw (front_again (first eexec_marker) flat ((s.front, s.marker), s.after) m, front_again cipher_text s.after (cipher, s.rest) s.secret) refl,
       (ap (take at) whole ∙ take_at (s.front ++ s.marker) s.after at (sym place), refl),
     )
 
@@ -44,6 +43,6 @@ split_lead flat at cipher s = leb-true 4 (length cipher) s.secret.2.1
 pub split_fails : (flat : List ℕ) (fault : BytesFault) → OrMemory (SplitFails flat) fault → Refused (read_fault fault) (flat_pieces flat)
 unfolding flat_pieces
 split_fails flat Memory h = tt
-split_fails flat NoEexec h = rw (lacks_unread eexec_marker eexec_exact flat h) refl
-split_fails flat ShortCipher h = rw (front_again (first eexec_marker) (first_exact eexec_marker eexec_exact) flat ((h.0, h.1), h.2) h.3, unread cipher_text cipher_exact h.2 h.4) refl
+split_fails flat NoEexec h = rw (lacks_unread eexec_marker flat h) refl
+split_fails flat ShortCipher h = rw (front_again (first eexec_marker) flat ((h.0, h.1), h.2) h.3, unread cipher_text h.2 h.4) refl
 split_fails flat (BadSegment at) h = absurd h

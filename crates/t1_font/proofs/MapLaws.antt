@@ -9,7 +9,7 @@ use Rattle.std.specs.FinSet.{IsAntisymmetric}
 use Rattle.std.specs.FinMap as maps
 use Rattle.std.specs.FinMap.Entries.{below_all, is_sorted-put, find-put}
 use Rattle.std.proofs.lemmas.Bool.{cases_Bool}
-use Rattle.t1_bytes.specs.Grammar.{choice}
+use Rattle.t1_grammar.specs.Grammar.{choice}
 use Rattle.t1_font.specs.Entries.{put_all, last_entries, map_of, has_name, last_names, names_of, last_value, unless_notdef}
 
 and_T : (a b : Bool) → T a → T b → T (a && b)

@@ -7,7 +7,7 @@ use Rattle.std.specs.FinSet.{IsAntisymmetric}
 use Rattle.std.specs.FinMap.Entries.{below_all}
 use Rattle.std.specs.List.{AllByRecursion}
 use Rattle.t1_font.specs.Maps.{map_values, merged}
-use Rattle.t1_bytes.specs.Grammar.{choice}
+use Rattle.t1_grammar.specs.Grammar.{choice}
 use Rattle.t1_font.specs.FontValue.{total}
 use Rattle.t1_font.specs.Entries.{last_value}
 

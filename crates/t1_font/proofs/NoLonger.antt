@@ -3,7 +3,7 @@ use Rattle.std.proofs.Common.{◌≡◌, ℕ, ◌≤◌, suc, inl, inr, Bool, tr
 use Rattle.std.specs.Prelude.{filter}
 use Rattle.std.specs.List.{flat_map}
 use Rattle.std.proofs.lemmas.List.{length-append}
-use Rattle.t1_bytes.specs.Grammar.{Entries}
+use Rattle.t1_grammar.specs.Tables.{Entries}
 use Rattle.t1_bytes.specs.Segments.{segment, starts_segment, IsJoined, IsFlat, IsBad, flat_of}
 use Rattle.t1_bytes.specs.Eexec.{paired, cipher_text, IsSplit}
 use Rattle.t1_bytes.proofs.SegmentLemmas.{flat_is}

@@ -1,8 +1,7 @@
 -- Places in a text, told from its end.
 use Rattle.std.proofs.Common.{◌≡◌, refl, sym, ap, ◌∙◌, ℕ, ◌+◌, ◌-◌, ◌≤◌, arith, List, [], ◌++◌, Some, length, take, drop}
 use Rattle.std.proofs.lemmas.List.{append_assoc, length-append, drop_at, take_at}
-use Rattle.t1_bytes.specs.Grammar.{Grammar, count}
-use Rattle.t1_bytes.proofs.Grammars.{IsExact, count_exact}
+use Rattle.t1_grammar.specs.Grammar.{Grammar, count}
 use Rattle.t1_font.specs.declared.places.Place.{Place}
 use Rattle.t1_font.specs.Places.{ending, placed, StandsIn}
 
@@ -16,23 +15,24 @@ behind front text whole part n is s = record {
 }
 
 -- behind what is read
-pub behind_read : {A : Type 0} (g : Grammar A) → IsExact g → (bytes : List ℕ) (x : A × List ℕ) → g.read bytes ≡ Some x → (part : List ℕ) (n : ℕ) → StandsIn x.1 part n → StandsIn bytes part n
-behind_read g G bytes x e part n s = let h = G.takes bytes x e in behind h.0 x.1 bytes part n h.1 s
+pub behind_read : {A : Type 0} (g : Grammar A) → (bytes : List ℕ) (x : A × List ℕ) → g.read bytes ≡ Some x → (part : List ℕ) (n : ℕ) →
+    StandsIn x.1 part n → StandsIn bytes part n
+behind_read g bytes x e part n s = let h = g.takes bytes x e in behind h.0 x.1 bytes part n h.1 s
 
 -- what stands behind a value that was read is the end of the text
-pub ending_read : {A : Type 0} (g : Grammar A) → IsExact g → (bytes : List ℕ) (x : A × List ℕ) → g.read bytes ≡ Some x → ending (length x.1) bytes ≡ x.1
-ending_read g G bytes x e =
-    let h = G.takes bytes x e in
+pub ending_read : {A : Type 0} (g : Grammar A) → (bytes : List ℕ) (x : A × List ℕ) → g.read bytes ≡ Some x → ending (length x.1) bytes ≡ x.1
+ending_read g bytes x e =
+    let h = g.takes bytes x e in
     ap (drop (length bytes - length x.1)) h.1 ∙ drop_at h.0 x.1 (length bytes - length x.1) (omega (arith, ap length h.1, length-append h.0 x.1))
 
 -- what is left is no longer
-pub no_longer : {A : Type 0} (g : Grammar A) → IsExact g → (bytes : List ℕ) (x : A × List ℕ) → g.read bytes ≡ Some x → length x.1 ≤ length bytes
-no_longer g G bytes x e = let h = G.takes bytes x e in omega (arith, ap length h.1, length-append h.0 x.1)
+pub no_longer : {A : Type 0} (g : Grammar A) → (bytes : List ℕ) (x : A × List ℕ) → g.read bytes ≡ Some x → length x.1 ≤ length bytes
+no_longer g bytes x e = let h = g.takes bytes x e in omega (arith, ap length h.1, length-append h.0 x.1)
 
 -- counted bytes
 pub counted : (n : ℕ) (bytes : List ℕ) (x : List ℕ × List ℕ) → (count n).read bytes ≡ Some x → StandsIn bytes x.0 (length x.1)
 counted n bytes x e =
-    let h = (count_exact n).takes bytes x e in
+    let h = (count n).takes bytes x e in
     record { before = []; after = x.1; whole = h.1 ∙ ap (λ t. t ++ x.1) h.2.0; size = refl }
 
 module _ (text part : List ℕ) (n : ℕ) (s : StandsIn text part n) where

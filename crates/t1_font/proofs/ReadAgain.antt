@@ -4,14 +4,13 @@ use Rattle.std.proofs.lemmas.Bool.{cases_Bool, lt-ltb, le-ltb, le-leb, lt-leb}
 use Rattle.std.specs.FinMap as maps
 use Rattle.std.specs.Ordering.{nat_cmp}
 use Rattle.t1_bytes.specs.Cipher.{private_text}
-use Rattle.t1_bytes.specs.Grammar.{Grammar, first, table_at, counted_at, AtFront, Lacks, TableAt, CountedAt}
+use Rattle.t1_grammar.specs.Grammar.{Grammar, first, AtFront, Lacks, front_again, unread}
+use Rattle.t1_grammar.specs.Tables.{table_at, counted_at, TableAt, CountedAt}
+use Rattle.t1_grammar.proofs.Tables.{Eats, Apart, table_again, break_again}
+use Rattle.t1_grammar.proofs.Counted.{counted_again, count_broken}
 use Rattle.t1_bytes.specs.Eexec.{eexec_marker, cipher_text}
-use Rattle.t1_bytes.proofs.Grammars.{IsExact, first_exact, front_again, unread}
-use Rattle.t1_bytes.proofs.Places.{lacks_unread}
-use Rattle.t1_bytes.proofs.Tables.{Eats, Apart, table_again, break_again}
-use Rattle.t1_bytes.proofs.Counted.{counted_again, count_broken}
+use Rattle.t1_grammar.proofs.Places.{lacks_unread}
 use Rattle.t1_bytes.proofs.SegmentLemmas.{flat_again, bad_again}
-use Rattle.t1_bytes.proofs.EexecLemmas.{cipher_exact, eexec_exact}
 use Rattle.t1_font.specs.declared.fault.ReadFault.{ReadFault}
 use Rattle.t1_font.specs.declared.fault.ReadFault.TheVariants.{TooLong, BadSegment, NoEexec, ShortCipher, NoEncoding, BadEncoding, NoCharStrings, BadLenIV, BadSubrs, BadGlyphs, Hybrid, NoClosefile, NoNotdef, Limit, Memory}
 use Rattle.t1_font.specs.Subrs.{subr, subrs_end}
@@ -27,33 +26,36 @@ use Rattle.t1_font.specs.Reading.{Reading}
 use Rattle.t1_font.specs.ReadFont.{subr_entries, glyph_entries, shell_of, font_of, is_within, flat_text, font_from, font_texts, font_file, read_font}
 use Rattle.t1_font.specs.Spelling.{IsCut, SpellsEncoding, IsClear, IsLenIV, said, unsaid, nowhere, later, Start, SpellsTables, HasTables, IsPrivate, Texts, HasPieces, Spells}
 use Rattle.t1_font.specs.Reasons.{CutFails, ClearFails, BadIV, BadSubrsAt, NoneAfterSubrs, BadGlyphsAt, IsHybrid, PrivateFails, FontFails, HasFlat, Reason}
-use Rattle.t1_font.proofs.EntryLemmas.{subr_exact, subrs_end_exact, subr_eats, subr_apart, code_entry_eats, code_entry_apart, next_name_exact, glyph_eats, glyph_apart, glyph_exact, glyphs_end_exact}
-use Rattle.t1_font.proofs.MarkerLemmas.{encoding_marker_exact, encoding_start_exact, code_entry_exact, encoding_end_exact, array_end_exact, subrs_marker_exact, chars_marker_exact, len_iv_marker_exact, len_iv_exact, closefile_exact}
+use Rattle.t1_font.proofs.EntryLemmas.{subr_eats, subr_apart, code_entry_eats, code_entry_apart, glyph_eats, glyph_apart}
 use Rattle.t1_font.proofs.HasSubrs.{lack_subrs, stand_subrs}
 use Rattle.t1_font.proofs.ReadRight.{IsTail}
 use Rattle.t1_font.proofs.ValueLaws.{notdef_is, within_of, within_again, private_again}
 
 -- what stands first is found there
-found : {A : Type 0} (g : Grammar A) → IsExact g → (bytes : List ℕ) (x : (List ℕ × A) × List ℕ) → AtFront (first g) bytes x → (first g).read bytes ≡ Some x
-found g G bytes x s = front_again (first g) (first_exact g G) bytes x s
+found : {A : Type 0} (g : Grammar A) → (bytes : List ℕ) (x : (List ℕ × A) × List ℕ) → AtFront (first g) bytes x → (first g).read bytes ≡ Some x
+found g bytes x s = front_again (first g) bytes x s
 
 -- a table is read
-table_found : {A B : Type 0} (entry : Grammar A) (close : Grammar B) → IsExact entry → IsExact close → Eats entry → Apart entry close → (xs : List A) (b : B) (bytes rest : List ℕ) → TableAt entry close xs b bytes rest → table_at entry close bytes ≡ Ok (xs, b, rest)
-table_found entry close E C eats apart xs b bytes rest s = ap (table_at entry close) s.1 ∙ table_again entry close E C eats apart xs b s.0 rest s.2
+table_found : {A B : Type 0} (entry : Grammar A) (close : Grammar B) → Eats entry → Apart entry close → (xs : List A) (b : B) (bytes rest : List ℕ) →
+    TableAt entry close xs b bytes rest → table_at entry close bytes ≡ Ok (xs, b, rest)
+table_found entry close eats apart xs b bytes rest s = ap (table_at entry close) s.1 ∙ table_again entry close eats apart xs b s.0 rest s.2
 
-counted_found : {A B : Type 0} (entry : Grammar A) (close : Grammar B) → IsExact entry → IsExact close → (n : ℕ) (xs : List A) (b : B) (bytes rest : List ℕ) → CountedAt entry close n xs b bytes rest → counted_at entry close n bytes ≡ Ok (xs, b, rest)
-counted_found entry close E C n xs b bytes rest s = ap (counted_at entry close n) s.1 ∙ counted_again entry close E C n xs b s.0 rest s.2
+counted_found : {A B : Type 0} (entry : Grammar A) (close : Grammar B) → (n : ℕ) (xs : List A) (b : B) (bytes rest : List ℕ) →
+    CountedAt entry close n xs b bytes rest → counted_at entry close n bytes ≡ Ok (xs, b, rest)
+counted_found entry close n xs b bytes rest s = ap (counted_at entry close n) s.1 ∙ counted_again entry close n xs b s.0 rest s.2
 
 -- ---- the flat text
 
 is_cut : (flat clear cipher : List ℕ) → IsCut flat clear cipher → flat_pieces flat ≡ Ok (record { clear = clear; cipher = cipher })
 unfolding flat_pieces
-is_cut flat clear cipher s = rw (found eexec_marker eexec_exact flat ((s.front, s.own), s.after) s.marker, front_again cipher_text cipher_exact s.after (cipher, s.rest) s.secret) (λ i. Ok (record { clear = sym s.clear_is i; cipher = cipher }))
+is_cut flat clear cipher s =
+    rw (found eexec_marker flat ((s.front, s.own), s.after) s.marker, front_again cipher_text s.after (cipher, s.rest) s.secret)
+    (λ i. Ok (record { clear = sym s.clear_is i; cipher = cipher }))
 
 fails_cut : (flat : List ℕ) (e : ReadFault) → CutFails flat e → flat_pieces flat ≡ Err e
 unfolding flat_pieces
-fails_cut flat NoEexec s = rw (lacks_unread eexec_marker eexec_exact flat s) refl
-fails_cut flat ShortCipher s = rw (found eexec_marker eexec_exact flat ((s.0, s.1), s.2) s.3, unread cipher_text cipher_exact s.2 s.4) refl
+fails_cut flat NoEexec s = rw (lacks_unread eexec_marker flat s) refl
+fails_cut flat ShortCipher s = rw (found eexec_marker flat ((s.0, s.1), s.2) s.3, unread cipher_text s.2 s.4) refl
 fails_cut flat e s = absurd s
 
 -- ---- the clear text
@@ -61,26 +63,35 @@ fails_cut flat e s = absurd s
 is_encoding : (clear bytes : List ℕ) (enc : EncodingText) (after : List ℕ) → SpellsEncoding enc bytes after → (start : Opening × List ℕ) × AtFront encoding_start bytes start × (encoding_from clear start.0 start.1 ≡ Ok (enc, after))
 unfolding encoding_from
 is_encoding clear bytes (OneWord w) after s = ((Whole w, after), s, refl)
-is_encoding clear bytes (Puts puts) after (inl s) = ((OpensPuts, s.0), s.2, rw (table_found code_entry encoding_end code_entry_exact encoding_end_exact code_entry_eats code_entry_apart puts s.1 s.0 after s.3) refl)
-is_encoding clear bytes (Puts puts) after (inr s) = ((OpensNames, s.1), s.4, rw (counted_found next_name array_end next_name_exact array_end_exact code_count s.0 s.2 s.1 after s.5) (ap (λ (p : List (ℕ × List ℕ)). Ok (Puts p, after)) (sym s.3)))
+is_encoding clear bytes (Puts puts) after (inl s) =
+    ((OpensPuts, s.0), s.2, rw (table_found code_entry encoding_end code_entry_eats code_entry_apart puts s.1 s.0 after s.3) refl)
+is_encoding clear bytes (Puts puts) after (inr s) = (
+  (OpensNames, s.1),
+  s.4,
+  rw (counted_found next_name array_end code_count s.0 s.2 s.1 after s.5)
+      (ap (λ (p : List (ℕ × List ℕ)). Ok (Puts p, after)) (sym s.3)),
+)
 
 is_clear : (clear : List ℕ) (c : ClearPieces) → IsClear clear c → clear_pieces clear ≡ Ok c
 unfolding clear_pieces
 is_clear clear c s =
     let e = is_encoding clear s.after c.encoding c.clear_tail s.encoding in
-    rw (found encoding_marker encoding_marker_exact clear ((c.head, tt), s.after) s.marker, front_again encoding_start encoding_start_exact s.after e.0 e.1, e.2) refl
+    rw (found encoding_marker clear ((c.head, tt), s.after) s.marker, front_again encoding_start s.after e.0 e.1, e.2) refl
 
 -- a clear text with a reason to spell nothing is refused for it
 fails_clear : (clear : List ℕ) (e : ReadFault) → ClearFails clear e → clear_pieces clear ≡ Err e
 unfolding clear_pieces encoding_from
-fails_clear clear NoEncoding s = rw (lacks_unread encoding_marker encoding_marker_exact clear s) refl
-fails_clear clear (BadEncoding at) (inl s) = rw (found encoding_marker encoding_marker_exact clear ((s.0, tt), s.1) s.2, unread encoding_start encoding_start_exact s.1 s.3) (ap (λ (n : ℕ). Err (BadEncoding n)) (sym s.4))
+fails_clear clear NoEncoding s = rw (lacks_unread encoding_marker clear s) refl
+fails_clear clear (BadEncoding at) (inl s) =
+    rw (found encoding_marker clear ((s.0, tt), s.1) s.2, unread encoding_start s.1 s.3) (ap (λ (n : ℕ). Err (BadEncoding n)) (sym s.4))
 fails_clear clear (BadEncoding at) (inr (inl s)) =
-    let broken = break_again code_entry encoding_end code_entry_exact encoding_end_exact code_entry_eats code_entry_apart s.2 s.3 s.6 in
-    rw (found encoding_marker encoding_marker_exact clear ((s.0, tt), s.1) s.4, front_again encoding_start encoding_start_exact s.1 (OpensPuts, s.2) s.5, broken) (ap (λ (n : ℕ). Err (BadEncoding n)) (sym s.7))
+    let broken = break_again code_entry encoding_end code_entry_eats code_entry_apart s.2 s.3 s.6 in
+    rw (found encoding_marker clear ((s.0, tt), s.1) s.4, front_again encoding_start s.1 (OpensPuts, s.2) s.5, broken)
+    (ap (λ (n : ℕ). Err (BadEncoding n)) (sym s.7))
 fails_clear clear (BadEncoding at) (inr (inr s)) =
-    let broken = count_broken next_name array_end next_name_exact array_end_exact code_count s.2 s.3 s.6 in
-    rw (found encoding_marker encoding_marker_exact clear ((s.0, tt), s.1) s.4, front_again encoding_start encoding_start_exact s.1 (OpensNames, s.2) s.5, broken) (ap (λ (n : ℕ). Err (BadEncoding n)) (sym s.7))
+    let broken = count_broken next_name array_end code_count s.2 s.3 s.6 in
+    rw (found encoding_marker clear ((s.0, tt), s.1) s.4, front_again encoding_start s.1 (OpensNames, s.2) s.5, broken)
+    (ap (λ (n : ℕ). Err (BadEncoding n)) (sym s.7))
 fails_clear clear e s = absurd s
 
 -- ---- lenIV and the tail
@@ -88,16 +99,22 @@ fails_clear clear e s = absurd s
 -- the lenIV that a private text spells is read
 pub is_iv : (private : List ℕ) (n : ℕ) → IsLenIV private n → iv_of private ≡ Ok n
 unfolding iv_of iv_at
-is_iv private n (said front after rest a b) = rw (found len_iv_marker len_iv_marker_exact private ((front, tt), after) a, front_again len_iv len_iv_exact after (n, rest) b) refl
-is_iv private n (unsaid l e) = rw (lacks_unread len_iv_marker len_iv_marker_exact private l) (ap (λ (k : ℕ). Ok k) (sym e))
+is_iv private n (said front after rest a b) = rw (found len_iv_marker private ((front, tt), after) a, front_again len_iv after (n, rest) b) refl
+is_iv private n (unsaid l e) = rw (lacks_unread len_iv_marker private l) (ap (λ (k : ℕ). Ok k) (sym e))
 
 fails_iv : (private : List ℕ) → BadIV private → iv_of private ≡ Err BadLenIV
 unfolding iv_of iv_at
-fails_iv private s = rw (found len_iv_marker len_iv_marker_exact private ((s.0, tt), s.1) s.2, unread len_iv len_iv_exact s.1 s.3) refl
+fails_iv private s = rw (found len_iv_marker private ((s.0, tt), s.1) s.2, unread len_iv s.1 s.3) refl
 
 is_tail : (middle after tail : List ℕ) → IsTail middle after tail → tail_after middle after ≡ Ok tail
 unfolding tail_after
-is_tail middle after tail s = rw (found closefile closefile_exact after ((s.front, s.own), s.rest) s.close, lack_subrs middle s.single.0, lack_subrs (s.front ++ s.own) (subst (Lacks subrs_marker) s.tail_is s.single.1)) (ap (λ (t : List ℕ). Ok t) (sym s.tail_is))
+is_tail middle after tail s =
+    rw (
+      found closefile after ((s.front, s.own), s.rest) s.close,
+      lack_subrs middle s.single.0,
+      lack_subrs (s.front ++ s.own)
+          (subst (Lacks subrs_marker) s.tail_is s.single.1),
+    ) (ap (λ (t : List ℕ). Ok t) (sym s.tail_is))
 
 -- a second table of Subrs is refused
 fails_tail : (middle after : List ℕ) → IsHybrid middle after → tail_after middle after ≡ Err Hybrid
@@ -109,12 +126,12 @@ fails_tail middle after h = elim (cases_Bool (has_subrs middle)) [
   where
     by_hybrid : has_subrs middle ≡ false → IsHybrid middle after → tail_after middle after ≡ Err Hybrid
     by_hybrid t (inl a) = rw (stand_subrs middle a) refl
-    by_hybrid t (inr (inl s)) = rw (t, found closefile closefile_exact after ((s.0, s.1), s.2) s.3, stand_subrs (s.0 ++ s.1) s.4) refl
-    by_hybrid t (inr (inr s)) = rw (t, lacks_unread closefile closefile_exact after s.0, stand_subrs after s.1) refl
+    by_hybrid t (inr (inl s)) = rw (t, found closefile after ((s.0, s.1), s.2) s.3, stand_subrs (s.0 ++ s.1) s.4) refl
+    by_hybrid t (inr (inr s)) = rw (t, lacks_unread closefile after s.0, stand_subrs after s.1) refl
 
 fails_close : (middle after : List ℕ) → Lacks subrs_marker middle → Lacks subrs_marker after → Lacks closefile after → tail_after middle after ≡ Err NoClosefile
 unfolding tail_after
-fails_close middle after m a lacks = rw (lack_subrs middle m, lacks_unread closefile closefile_exact after lacks, lack_subrs after a) refl
+fails_close middle after m a lacks = rw (lack_subrs middle m, lacks_unread closefile after lacks, lack_subrs after a) refl
 
 -- ---- the tables
 
@@ -122,14 +139,20 @@ fails_close middle after m a lacks = rw (lack_subrs middle m, lacks_unread close
 start_none : (text private rest : List ℕ) → Start text private None rest → (o : Reading PrivatePieces) → tables_from (length text) ((private, tt), rest) None ≡ o → private_pieces text ≡ o
 unfolding private_pieces
 start_none text private rest h o t = elim h.1 [
-  | nowhere l ↦ rw (found chars_marker chars_marker_exact text ((private, tt), rest) h.0, lacks_unread subrs_marker subrs_marker_exact text l) t
-  | later front declared after a ge ↦ rw (found chars_marker chars_marker_exact text ((private, tt), rest) h.0, found subrs_marker subrs_marker_exact text ((front, declared), after) a, le-ltb (length front) (length private) ge) t
+  | nowhere l ↦ rw (found chars_marker text ((private, tt), rest) h.0, lacks_unread subrs_marker text l) t
+  | later front declared after a ge ↦
+      rw (found chars_marker text ((private, tt), rest) h.0, found subrs_marker text ((front, declared), after) a, le-ltb (length front) (length private) ge) t
 ]
 
 start_some : (text private rest : List ℕ) (declared : ℕ) → Start text private (Some declared) rest → (o : Reading PrivatePieces) → ((chars : (List ℕ × Unit {0}) × List ℕ) → tables_from (length text) chars (Some ((private, declared), rest)) ≡ o) → private_pieces text ≡ o
 unfolding private_pieces
 start_some text private rest declared h o t =
-    rw (found chars_marker chars_marker_exact text ((h.0, tt), h.1) h.2, found subrs_marker subrs_marker_exact text ((private, declared), rest) h.3, lt-ltb (length private) (length h.0) h.4) (t ((h.0, tt), h.1))
+    rw (
+      found chars_marker text ((h.0, tt), h.1) h.2,
+      found subrs_marker text ((private, declared), rest) h.3,
+      lt-ltb (length private) (length h.0)
+          h.4,
+    ) (t ((h.0, tt), h.1))
 
 -- up to the glyphs, it is read as they are
 behind_tables : (text : List ℕ) (p : PrivatePieces) (start : List ℕ) → HasTables text p start → (o : Reading PrivatePieces) → glyphs_from (length text) p.private p.subrs p.middle p.len_iv start ≡ o → private_pieces text ≡ o
@@ -145,12 +168,14 @@ behind_tables text p start has o g = by_subrs p.subrs refl has.tables
     by_subrs : (s : Option SubrsPieces) → p.subrs ≡ s → SpellsTables text p s start → private_pieces text ≡ o
     by_subrs None k h = start_none text p.private start h.0 o (rw iv (glyphs [] None k h.1))
     by_subrs (Some x) k h =
-        let table = table_found (subr x.declared p.len_iv) subrs_end (subr_exact x.declared p.len_iv) subrs_end_exact (subr_eats x.declared p.len_iv) (subr_apart x.declared p.len_iv) x.entries x.closing h.0 h.1 h.3 in
-        start_some text p.private h.0 x.declared h.2 o (λ _. rw (iv, table, found chars_marker chars_marker_exact h.1 ((p.middle, tt), start) h.4) (glyphs p.middle (Some x) k refl))
+        let table =
+        table_found (subr x.declared p.len_iv) subrs_end (subr_eats x.declared p.len_iv) (subr_apart x.declared p.len_iv) x.entries x.closing h.0 h.1 h.3 in
+        start_some text p.private h.0 x.declared h.2 o
+        (λ _. rw (iv, table, found chars_marker h.1 ((p.middle, tt), start) h.4) (glyphs p.middle (Some x) k refl))
 
 -- the glyphs are read
 glyphs_found : (p : PrivatePieces) (closing start after : List ℕ) → TableAt (glyph p.len_iv) glyphs_end p.glyphs closing start after → table_at (glyph p.len_iv) glyphs_end start ≡ Ok (p.glyphs, closing, after)
-glyphs_found p closing start after s = table_found (glyph p.len_iv) glyphs_end (glyph_exact p.len_iv) glyphs_end_exact (glyph_eats p.len_iv) (glyph_apart p.len_iv) p.glyphs closing start after s
+glyphs_found p closing start after s = table_found (glyph p.len_iv) glyphs_end (glyph_eats p.len_iv) (glyph_apart p.len_iv) p.glyphs closing start after s
 
 is_private : (text : List ℕ) (p : PrivatePieces) → IsPrivate text p → private_pieces text ≡ Ok p
 unfolding glyphs_from
@@ -167,26 +192,27 @@ fails_start text private rest (Some declared) a b = start_some text private rest
 fails_subrs : (text : List ℕ) (at : ℕ) → BadSubrsAt text at → private_pieces text ≡ Err (BadSubrs at)
 unfolding tables_from
 fails_subrs text at s =
-    let broken = break_again (subr s.3 s.4) subrs_end (subr_exact s.3 s.4) subrs_end_exact (subr_eats s.3 s.4) (subr_apart s.3 s.4) s.1 s.2 s.7 in
+    let broken = break_again (subr s.3 s.4) subrs_end (subr_eats s.3 s.4) (subr_apart s.3 s.4) s.1 s.2 s.7 in
     start_some text s.0 s.1 s.3 s.5 (Err (BadSubrs at)) (λ _. rw (is_iv s.0 s.4 s.6, broken) (ap (λ (n : ℕ). Err (BadSubrs n)) (sym s.8)))
 
 fails_between : (text : List ℕ) (at : ℕ) → NoneAfterSubrs text at → private_pieces text ≡ Err (BadGlyphs at)
 unfolding tables_from
 fails_between text at s =
-    let table = table_found (subr s.4 s.5) subrs_end (subr_exact s.4 s.5) subrs_end_exact (subr_eats s.4 s.5) (subr_apart s.4 s.5) s.6 s.3 s.1 s.2 s.9 in
-    start_some text s.0 s.1 s.4 s.7 (Err (BadGlyphs at)) (λ _. rw (is_iv s.0 s.5 s.8, table, lacks_unread chars_marker chars_marker_exact s.2 s.10) (ap (λ (n : ℕ). Err (BadGlyphs n)) (sym s.11)))
+    let table = table_found (subr s.4 s.5) subrs_end (subr_eats s.4 s.5) (subr_apart s.4 s.5) s.6 s.3 s.1 s.2 s.9 in
+    start_some text s.0 s.1 s.4 s.7 (Err (BadGlyphs at))
+    (λ _. rw (is_iv s.0 s.5 s.8, table, lacks_unread chars_marker s.2 s.10) (ap (λ (n : ℕ). Err (BadGlyphs n)) (sym s.11)))
 
 fails_glyphs : (text : List ℕ) (at : ℕ) → BadGlyphsAt text at → private_pieces text ≡ Err (BadGlyphs at)
 unfolding glyphs_from
 fails_glyphs text at s =
     let iv = s.0.len_iv in
-    let broken = break_again (glyph iv) glyphs_end (glyph_exact iv) glyphs_end_exact (glyph_eats iv) (glyph_apart iv) s.1 s.2 s.4 in
+    let broken = break_again (glyph iv) glyphs_end (glyph_eats iv) (glyph_apart iv) s.1 s.2 s.4 in
     behind_tables text s.0 s.1 s.3 (Err (BadGlyphs at)) (rw broken (ap (λ (n : ℕ). Err (BadGlyphs n)) (sym s.5)))
 
 -- a private text with a reason to spell nothing is refused for it
 fails_private : (text : List ℕ) (e : ReadFault) → PrivateFails text e → private_pieces text ≡ Err e
 unfolding private_pieces glyphs_from
-fails_private text NoCharStrings s = rw (lacks_unread chars_marker chars_marker_exact text s) refl
+fails_private text NoCharStrings s = rw (lacks_unread chars_marker text s) refl
 fails_private text BadLenIV s = fails_start text s.0 s.1 s.2 s.3 s.4
 fails_private text (BadSubrs at) s = fails_subrs text at s
 fails_private text (BadGlyphs at) (inl s) = fails_between text at s

@@ -4,13 +4,12 @@ use Rattle.std.proofs.lemmas.Bool.{cases_Bool, or_parts, not-true, not-false, or
 use Rattle.std.specs.FinMap as maps
 use Rattle.std.specs.Ordering.{nat_cmp}
 use Rattle.t1_bytes.specs.Cipher.{decrypted, private_text}
-use Rattle.t1_bytes.specs.Grammar.{first, AtFront, Lacks, TableAt}
+use Rattle.t1_grammar.specs.Grammar.{first, AtFront, Lacks}
+use Rattle.t1_grammar.specs.Tables.{TableAt}
 use Rattle.t1_bytes.specs.Segments.{IsFlat, IsBad, flat_of}
 use Rattle.t1_bytes.specs.Eexec.{eexec_marker, cipher_text}
-use Rattle.t1_bytes.proofs.Grammars.{first_exact}
-use Rattle.t1_bytes.proofs.Places.{unread_lacks}
+use Rattle.t1_grammar.proofs.Places.{unread_lacks}
 use Rattle.t1_bytes.proofs.SegmentLemmas.{flat_is}
-use Rattle.t1_bytes.proofs.EexecLemmas.{cipher_exact, eexec_exact}
 use Rattle.t1_font.specs.declared.fault.ReadFault.{ReadFault}
 use Rattle.t1_font.specs.declared.fault.ReadFault.TheVariants.{TooLong, BadSegment, NoEexec, ShortCipher, NoEncoding, BadEncoding, NoCharStrings, BadLenIV, BadSubrs, BadGlyphs, Hybrid, NoClosefile, NoNotdef, Limit}
 use Rattle.t1_font.specs.Subrs.{subr, subrs_end}
@@ -25,8 +24,7 @@ use Rattle.t1_font.specs.Entries.{last_entries}
 use Rattle.t1_font.specs.ReadFont.{bad_segment, subr_entries, glyph_entries, shell_of, font_of, has_notdef, is_within, flat_text, font_from, font_texts, font_file, read_font}
 use Rattle.t1_font.specs.Spelling.{IsCut, SpellsEncoding, IsClear, IsLenIV, said, unsaid, nowhere, later, Start, SpellsTables, HasGlyphs, IsPrivate, Texts, HasPieces, Spells}
 use Rattle.t1_font.specs.Reasons.{CutFails, ClearFails, BadIV, IsHybrid, PrivateFails, FontFails, HasFlat, Reason}
-use Rattle.t1_font.proofs.EntryLemmas.{subr_exact, subrs_end_exact, subr_eats, code_entry_eats, next_name_exact, glyph_eats, glyph_exact, glyphs_end_exact}
-use Rattle.t1_font.proofs.MarkerLemmas.{encoding_marker_exact, encoding_start_exact, code_entry_exact, encoding_end_exact, array_end_exact, subrs_marker_exact, chars_marker_exact, len_iv_marker_exact, len_iv_exact, closefile_exact}
+use Rattle.t1_font.proofs.EntryLemmas.{subr_eats, code_entry_eats, glyph_eats}
 use Rattle.t1_font.proofs.HasSubrs.{subrs_lack, subrs_stand}
 use Rattle.t1_font.proofs.ReadingLaws.{Reads, value_is, fault_is, give_reads, reads_as, reads_then, must_then, wanted_then, first_then, table_then, counted_then}
 use Rattle.t1_font.proofs.ValueLaws.{notdef_is, within_of, within_again, private_enciphers, lead_length}
@@ -36,8 +34,9 @@ use Rattle.t1_font.proofs.ValueLaws.{notdef_is, within_of, within_again, private
 flat_reads : (flat : List ℕ) → Reads (flat_pieces flat) (λ p. IsCut flat p.clear p.cipher) (CutFails flat)
 unfolding flat_pieces
 flat_reads flat =
-    first_then NoEexec eexec_marker eexec_exact flat _ (λ marker m.
-    wanted_then ShortCipher cipher_text cipher_exact marker.1 _ (λ cipher c. give_reads _ (record { front = marker.0.0; own = marker.0.1; after = marker.1; rest = cipher.1; marker = m; secret = c; clear_is = refl }))
+    first_then NoEexec eexec_marker flat _ (λ marker m.
+    wanted_then ShortCipher cipher_text marker.1 _
+    (λ cipher c. give_reads _ (record { front = marker.0.0; own = marker.0.1; after = marker.1; rest = cipher.1; marker = m; secret = c; clear_is = refl }))
     (λ none. (marker.0.0, marker.0.1, marker.1, m, none)))
     (λ lacks. lacks)
 
@@ -52,15 +51,17 @@ encoding_reads : (clear head after : List ℕ) (start : Opening) (rest : List �
 unfolding encoding_from
 encoding_reads clear head after (Whole w) rest m a = give_reads _ a
 encoding_reads clear head after OpensPuts rest m a =
-    table_then BadEncoding (length clear) code_entry encoding_end code_entry_exact encoding_end_exact code_entry_eats rest _ (λ puts t. give_reads _ (inl (rest, puts.1, a, t))) (λ left b. inr (inl (head, after, rest, left, m, a, b, refl)))
+    table_then BadEncoding (length clear) code_entry encoding_end code_entry_eats rest _ (λ puts t. give_reads _ (inl (rest, puts.1, a, t)))
+    (λ left b. inr (inl (head, after, rest, left, m, a, b, refl)))
 encoding_reads clear head after OpensNames rest m a =
-    counted_then BadEncoding (length clear) next_name array_end next_name_exact array_end_exact code_count rest _ (λ names t. give_reads _ (inr (names.0, rest, names.1, refl, a, t))) (λ left b. inr (inr (head, after, rest, left, m, a, b, refl)))
+    counted_then BadEncoding (length clear) next_name array_end code_count rest _ (λ names t. give_reads _ (inr (names.0, rest, names.1, refl, a, t)))
+    (λ left b. inr (inr (head, after, rest, left, m, a, b, refl)))
 
 clear_reads : (clear : List ℕ) → Reads (clear_pieces clear) (IsClear clear) (ClearFails clear)
 unfolding clear_pieces
 clear_reads clear =
-    first_then NoEncoding encoding_marker encoding_marker_exact clear _ (λ marker m.
-    wanted_then (BadEncoding (length marker.0.0)) encoding_start encoding_start_exact marker.1 _ (λ start s.
+    first_then NoEncoding encoding_marker clear _ (λ marker m.
+    wanted_then (BadEncoding (length marker.0.0)) encoding_start marker.1 _ (λ start s.
     reads_then (encoding_from clear start.0 start.1) _ (encoding_reads clear marker.0.0 marker.1 start.0 start.1 m s) (λ e is. give_reads _ (record { after = marker.1; marker = m; encoding = is })) (λ e f. f))
     (λ none. inl (marker.0.0, marker.1, m, none, refl)))
     (λ lacks. lacks)
@@ -73,10 +74,10 @@ unfolding iv_of iv_at
 iv_reads private = by_marker ((first len_iv_marker).read private) refl
   where
     by_marker : (o : Option ((List ℕ × Unit {0}) × List ℕ)) → (first len_iv_marker).read private ≡ o → Reads (iv_at o) (IsLenIV private) (λ e. BadIV private × (e ≡ BadLenIV))
-    by_marker None e = give_reads 4 (unsaid (unread_lacks len_iv_marker len_iv_marker_exact private e) refl)
+    by_marker None e = give_reads 4 (unsaid (unread_lacks len_iv_marker private e) refl)
     by_marker (Some x) e =
-        let m = (first_exact len_iv_marker len_iv_marker_exact).takes private x e in
-        wanted_then BadLenIV len_iv len_iv_exact x.1 _ (λ n s. give_reads n.0 (said x.0.0 x.1 n.1 m s)) (λ none. ((x.0.0, x.1, m, none), refl))
+        let m = (first len_iv_marker).takes private x e in
+        wanted_then BadLenIV len_iv x.1 _ (λ n s. give_reads n.0 (said x.0.0 x.1 n.1 m s)) (λ none. ((x.0.0, x.1, m, none), refl))
 
 -- what lenIV is read is said
 pub iv_is : (private : List ℕ) (n : ℕ) → iv_of private ≡ Ok n → IsLenIV private n
@@ -108,12 +109,12 @@ tail_reads middle after = by_close ((first closefile).read after) refl
   where
     by_close : (o : Option ((List ℕ × List ℕ) × List ℕ)) → (first closefile).read after ≡ o → Reads (tail_after middle after) (IsTail middle after) (TailFails middle after)
     by_close (Some x) e =
-        let m = (first_exact closefile closefile_exact).takes after x e in
+        let m = (first closefile).takes after x e in
         let text : List ℕ = x.0.0 ++ x.0.1 in
         rw e (must_then Hybrid (not (has_subrs middle || has_subrs text)) _ (λ t. give_reads _ (record { front = x.0.0; own = x.0.1; rest = x.1; close = m; tail_is = refl; single = no_subrs middle text t }))
         (λ f. inl (elim (some_subrs middle text f) [ inl a ↦ inl (subrs_stand middle a) | inr b ↦ inr (inl (x.0.0, x.0.1, x.1, m, subrs_stand text b)) ], refl)))
     by_close None e =
-        let lacks = unread_lacks closefile closefile_exact after e in
+        let lacks = unread_lacks closefile after e in
         rw e (must_then Hybrid (not (has_subrs middle || has_subrs after)) _ (λ t. let both = no_subrs middle after t in record { right = inr (both.0, both.1, lacks, refl) })
         (λ f. inl (elim (some_subrs middle after f) [ inl a ↦ inl (subrs_stand middle a) | inr b ↦ inr (inr (lacks, subrs_stand after b)) ], refl)))
 
@@ -126,7 +127,7 @@ glyphs_reads : (text private : List ℕ) (subrs : Option SubrsPieces) (middle : 
     → Reads (glyphs_from (length text) private subrs middle iv rest) (IsPrivate text) (PrivateFails text)
 unfolding glyphs_from
 glyphs_reads text private subrs middle iv rest tables i =
-    table_then BadGlyphs (length text) (glyph iv) glyphs_end (glyph_exact iv) glyphs_end_exact (glyph_eats iv) rest _ (λ x t.
+    table_then BadGlyphs (length text) (glyph iv) glyphs_end (glyph_eats iv) rest _ (λ x t.
     reads_then (tail_after middle x.2) _ (tail_reads middle x.2) (λ tail s.
     give_reads _ (record { after = x.2; front = s.front; own = s.own; rest = s.rest; before = before x.0 x.1 x.2 tail t; close = s.close; tail = s.tail_is; single = s.single }))
     (λ e f. tail_fault x.0 x.1 x.2 t e f))
@@ -152,8 +153,8 @@ with_subrs : (text : List ℕ) (chars : (List ℕ × Unit {0}) × List ℕ) (x :
 unfolding tables_from
 with_subrs text chars x a =
     reads_then (iv_of x.0.0) _ (iv_reads x.0.0) (λ iv i.
-    table_then BadSubrs (length text) (subr x.0.1 iv) subrs_end (subr_exact x.0.1 iv) subrs_end_exact (subr_eats x.0.1 iv) x.1 _ (λ t s.
-    first_then (BadGlyphs (length text - length t.2)) chars_marker chars_marker_exact t.2 _ (λ next n.
+    table_then BadSubrs (length text) (subr x.0.1 iv) subrs_end (subr_eats x.0.1 iv) x.1 _ (λ t s.
+    first_then (BadGlyphs (length text - length t.2)) chars_marker t.2 _ (λ next n.
     glyphs_reads text x.0.0 (Some (record { declared = x.0.1; entries = t.0; closing = t.1 })) next.0.0 iv next.1 (x.1, t.2, a, s, n) i)
     (λ lacks. inl (x.0.0, x.1, t.2, t.1, x.0.1, iv, t.0, a, i, s, lacks, refl)))
     (λ left b. (x.0.0, x.1, left, x.0.1, iv, a, i, b, refl)))
@@ -162,12 +163,12 @@ with_subrs text chars x a =
 -- the private text is read rightly
 private_reads : (text : List ℕ) → Reads (private_pieces text) (IsPrivate text) (PrivateFails text)
 unfolding private_pieces
-private_reads text = first_then NoCharStrings chars_marker chars_marker_exact text _ (λ chars c. by_marker chars c ((first subrs_marker).read text) refl) (λ lacks. lacks)
+private_reads text = first_then NoCharStrings chars_marker text _ (λ chars c. by_marker chars c ((first subrs_marker).read text) refl) (λ lacks. lacks)
   where
     by_marker : (chars : (List ℕ × Unit {0}) × List ℕ) → AtFront (first chars_marker) text chars → (o : Option ((List ℕ × ℕ) × List ℕ)) → (first subrs_marker).read text ≡ o → Reads (tables_from (length text) chars (before_place (length chars.0.0) o)) (IsPrivate text) (PrivateFails text)
-    by_marker chars c None e = without text chars (c, nowhere (unread_lacks subrs_marker subrs_marker_exact text e))
+    by_marker chars c None e = without text chars (c, nowhere (unread_lacks subrs_marker text e))
     by_marker chars c (Some x) e =
-        let m = (first_exact subrs_marker subrs_marker_exact).takes text x e in
+        let m = (first subrs_marker).takes text x e in
         elim (cases_Bool (ltb (length x.0.0) (length chars.0.0))) [
           | inl lt ↦ rw lt (with_subrs text chars x (chars.0.0, chars.1, c, m, ltb-true _ _ lt))
           | inr ge ↦ rw ge (without text chars (c, later x.0.0 x.0.1 x.1 m (ltb-false _ _ ge)))

@@ -1,10 +1,10 @@
 -- Readings, step by step: what holds of the value that is read, and what of the fault.
 use Rattle.std.proofs.Common.{◌≡◌, ℕ, ◌-◌, Bool, true, false, List, Option, Some, None, Result, Ok, Err, MatchResult, refl, subst}
-use Rattle.t1_bytes.specs.Grammar.{Grammar, Table, table_at, counted_at, CountedAt, BreaksOff, CountBreaksOff, first, AtFront, NotAtFront, Lacks, TableAt}
-use Rattle.t1_bytes.proofs.Grammars.{IsExact, first_exact, unspelled}
-use Rattle.t1_bytes.proofs.Places.{unread_lacks}
-use Rattle.t1_bytes.proofs.Tables.{Eats, Read, table_reads}
-use Rattle.t1_bytes.proofs.Counted.{CountedRead, counted_reads}
+use Rattle.t1_grammar.specs.Grammar.{Grammar, first, AtFront, NotAtFront, Lacks, unspelled}
+use Rattle.t1_grammar.specs.Tables.{Table, table_at, counted_at, CountedAt, BreaksOff, CountBreaksOff, TableAt}
+use Rattle.t1_grammar.proofs.Tables.{Eats, Read, table_reads}
+use Rattle.t1_grammar.proofs.Counted.{CountedRead, counted_reads}
+use Rattle.t1_grammar.proofs.Places.{unread_lacks}
 use Rattle.t1_font.specs.declared.fault.ReadFault.{ReadFault}
 use Rattle.t1_font.specs.Faults.{left_after_white}
 use Rattle.t1_font.specs.Reading.{Reading, or_fault, give, ◌>>=◌, must, wanted, in_table, table, counted}
@@ -42,34 +42,39 @@ module _ {B : Type 0} {Is : B → Type 0} {Fails : ReadFault → Type 0} where
   must_then fault false f on_value on_fault = record { right = on_fault refl }
 
   -- after a text that is wanted
-  pub wanted_then : {A : Type 0} (fault : ReadFault) (g : Grammar A) → IsExact g → (bytes : List ℕ) (f : A × List ℕ → Reading B) → ((x : A × List ℕ) → AtFront g bytes x → Reads (f x) Is Fails) → (NotAtFront g bytes → Fails fault) → Reads (wanted fault g bytes >>= f) Is Fails
-  wanted_then {A} fault g G bytes f on_value on_fault = by_read (g.read bytes) refl
+  pub wanted_then : {A : Type 0} (fault : ReadFault) (g : Grammar A) → (bytes : List ℕ) (f : A × List ℕ → Reading B) →
+      ((x : A × List ℕ) → AtFront g bytes x → Reads (f x) Is Fails) → (NotAtFront g bytes → Fails fault) → Reads (wanted fault g bytes >>= f) Is Fails
+  wanted_then {A} fault g bytes f on_value on_fault = by_read (g.read bytes) refl
     where
       by_read : (o : Option (A × List ℕ)) → g.read bytes ≡ o → Reads (or_fault fault o >>= f) Is Fails
-      by_read (Some x) e = on_value x (G.takes bytes x e)
-      by_read None e = record { right = on_fault (unspelled g G bytes e) }
+      by_read (Some x) e = on_value x (g.takes bytes x e)
+      by_read None e = record { right = on_fault (unspelled g bytes e) }
 
   -- after the first place of a text that is wanted
-  pub first_then : {A : Type 0} (fault : ReadFault) (g : Grammar A) → IsExact g → (bytes : List ℕ) (f : (List ℕ × A) × List ℕ → Reading B) → ((x : (List ℕ × A) × List ℕ) → AtFront (first g) bytes x → Reads (f x) Is Fails) → (Lacks g bytes → Fails fault) → Reads (wanted fault (first g) bytes >>= f) Is Fails
-  first_then {A} fault g G bytes f on_value on_fault = by_read ((first g).read bytes) refl
+  pub first_then : {A : Type 0} (fault : ReadFault) (g : Grammar A) → (bytes : List ℕ) (f : (List ℕ × A) × List ℕ → Reading B) →
+      ((x : (List ℕ × A) × List ℕ) → AtFront (first g) bytes x → Reads (f x) Is Fails) → (Lacks g bytes → Fails fault) → Reads
+      (wanted fault (first g) bytes >>= f) Is Fails
+  first_then {A} fault g bytes f on_value on_fault = by_read ((first g).read bytes) refl
     where
       by_read : (o : Option ((List ℕ × A) × List ℕ)) → (first g).read bytes ≡ o → Reads (or_fault fault o >>= f) Is Fails
-      by_read (Some x) e = on_value x ((first_exact g G).takes bytes x e)
-      by_read None e = record { right = on_fault (unread_lacks g G bytes e) }
+      by_read (Some x) e = on_value x ((first g).takes bytes x e)
+      by_read None e = record { right = on_fault (unread_lacks g bytes e) }
 
   -- after a table
-  pub table_then : {A C : Type 0} (bad : ℕ → ReadFault) (len : ℕ) (entry : Grammar A) (close : Grammar C) → IsExact entry → IsExact close → Eats entry → (bytes : List ℕ) (f : List A × C × List ℕ → Reading B)
+  pub table_then : {A C : Type 0} (bad : ℕ → ReadFault) (len : ℕ) (entry : Grammar A) (close : Grammar C) → Eats entry →
+      (bytes : List ℕ) (f : List A × C × List ℕ → Reading B)
       → ((x : List A × C × List ℕ) → TableAt entry close x.0 x.1 bytes x.2 → Reads (f x) Is Fails) → ((left : List ℕ) → BreaksOff entry close bytes left → Fails (bad (len - left_after_white left))) → Reads (table bad len entry close bytes >>= f) Is Fails
-  table_then {A} {C} bad len entry close E X eats bytes f on_value on_fault = by_table (table_at entry close bytes) (table_reads entry close E X eats bytes)
+  table_then {A} {C} bad len entry close eats bytes f on_value on_fault = by_table (table_at entry close bytes) (table_reads entry close eats bytes)
     where
       by_table : (t : Table A C) → Read entry close bytes t → Reads (in_table bad len t >>= f) Is Fails
       by_table (Ok x) r = on_value x r
       by_table (Err left) r = record { right = on_fault left r }
 
   -- after a counted table
-  pub counted_then : {A C : Type 0} (bad : ℕ → ReadFault) (len : ℕ) (entry : Grammar A) (close : Grammar C) → IsExact entry → IsExact close → (n : ℕ) (bytes : List ℕ) (f : List A × C × List ℕ → Reading B)
+  pub counted_then : {A C : Type 0} (bad : ℕ → ReadFault) (len : ℕ) (entry : Grammar A) (close : Grammar C) →
+      (n : ℕ) (bytes : List ℕ) (f : List A × C × List ℕ → Reading B)
       → ((x : List A × C × List ℕ) → CountedAt entry close n x.0 x.1 bytes x.2 → Reads (f x) Is Fails) → ((left : List ℕ) → CountBreaksOff entry close n bytes left → Fails (bad (len - left_after_white left))) → Reads (counted bad len entry close n bytes >>= f) Is Fails
-  counted_then {A} {C} bad len entry close E X n bytes f on_value on_fault = by_table (counted_at entry close n bytes) (counted_reads entry close E X n bytes)
+  counted_then {A} {C} bad len entry close n bytes f on_value on_fault = by_table (counted_at entry close n bytes) (counted_reads entry close n bytes)
     where
       by_table : (t : Table A C) → CountedRead entry close n bytes t → Reads (in_table bad len t >>= f) Is Fails
       by_table (Ok x) r = on_value x r

@@ -13,7 +13,7 @@ use Rattle.std.proofs.lemmas.Bool.{leb-true, le-leb, and_parts, and_from}
 use Rattle.std.proofs.lemmas.List.{take-append-drop, drop_at, length-take-le}
 use Rattle.t1_bytes.specs.Cipher.{Enciphers, decrypted, private_text}
 use Rattle.t1_bytes.proofs.Ciphers.{Enciphers-decrypted, decrypted-is, length-decrypted}
-use Rattle.t1_bytes.specs.Grammar.{choice}
+use Rattle.t1_grammar.specs.Grammar.{choice}
 use Rattle.t1_font.specs.Charstrings.{plain_of}
 use Rattle.t1_font.specs.Entry.{plain_entries}
 use Rattle.t1_font.specs.Glyphs.{Glyph}

@@ -6,38 +6,8 @@ use Rattle.std.specs.Option.{option_and_then}
 use Rattle.std.proofs.lemmas.Bool.{and_parts, agree_below_at, leb-true}
 use Rattle.std.proofs.lemmas.Option.{none-some, cond_some}
 use Rattle.std.proofs.lemmas.Slice.Eq.{bytes_eq-Decides}
-use Rattle.t1_bytes.specs.Grammar.{Stops, fixed}
-use Rattle.t1_bytes.proofs.Grammars.{IsExact, pure_exact, bind_exact, that_exact, run_exact, count_exact, fixed_exact}
-use Rattle.t1_bytes.proofs.EexecLemmas.{gap_exact}
+use Rattle.t1_grammar.specs.Grammar.{Stops, fixed}
 use Rattle.t1_font.specs.Words.{is_regular, all_regular, regular_comes, first_digit, is_digit, all_digits, one_white, word, keyword, decimal, name, is_name, is_decimal, digits_after, phrase_after, phrase_of, is_access}
-
-pub one_white_exact : IsExact one_white
-unfolding one_white
-one_white_exact = that_exact _ _ (count_exact 1)
-
-pub word_exact : IsExact word
-unfolding word
-word_exact = that_exact _ _ (run_exact is_regular)
-
-pub keyword_exact : (w : List ℕ) → IsExact (keyword w)
-unfolding keyword
-keyword_exact w = that_exact _ _ (run_exact is_regular)
-
-pub decimal_exact : IsExact decimal
-unfolding decimal
-decimal_exact = bind_exact _ _ (that_exact is_decimal _ (run_exact is_regular)) (λ w. pure_exact (digits_after 0 w))
-
-pub name_exact : IsExact name
-unfolding name
-name_exact = bind_exact _ _ (fixed_exact (codes "/")) (λ _. that_exact is_name _ (run_exact is_regular))
-
-pub phrase_after_exact : (test : List ℕ → Bool) (b : Bool) (first : List ℕ) → IsExact (phrase_after test b first)
-phrase_after_exact test true first = that_exact _ _ (bind_exact _ _ gap_exact (λ _. bind_exact _ _ (that_exact test _ word_exact) (λ second. pure_exact _)))
-phrase_after_exact test false first = pure_exact first
-
-pub phrase_exact : (test : List ℕ → Bool) → IsExact (phrase_of test)
-unfolding phrase_of
-phrase_exact test = bind_exact _ _ (that_exact test _ word_exact) (λ first. phrase_after_exact test (is_access first) first)
 
 -- what a keyword spells is its own text
 pub keyword_text : (w a text rest : List ℕ) → (keyword w).Spells a text rest → text ≡ w
@@ -62,18 +32,18 @@ goes_on (b ∷ bs) h = h
 pub keyword_there : (w bytes : List ℕ) (x : List ℕ × List ℕ) → all_regular w ≡ true → (fixed w).read bytes ≡ Some x → regular_comes x.1 ≡ false → (keyword w).read bytes ≡ Some x
 unfolding keyword
 keyword_there w bytes x h e stop =
-    let s = (fixed_exact w).takes bytes x e in
+    let s = (fixed w).takes bytes x e in
     let same : w ≡ x.0 = (bytes_eq-Decides w x.0).0 s.2.1 in
     let all : AllByRecursion (λ b. is_regular b ≡ true) x.0 = rw (← same) (regular_bytes w h) in
-    ap (keyword w).read s.1 ∙ (keyword_exact w).again x.0 s.0 x.1 ((s.2.0.0, all, stops_there x.1 stop), s.2.1)
+    ap (keyword w).read s.1 ∙ (keyword w).again x.0 s.0 x.1 ((s.2.0.0, all, stops_there x.1 stop), s.2.1)
 
 -- where the word is read, these bytes come and no regular one after them
 keyword_front : (w bytes : List ℕ) (x : List ℕ × List ℕ) → (keyword w).read bytes ≡ Some x → ((fixed w).read bytes ≡ Some x) × (regular_comes x.1 ≡ false)
 unfolding keyword
 keyword_front w bytes x e =
-    let s = (keyword_exact w).takes bytes x e in
+    let s = (keyword w).takes bytes x e in
     let same : w ≡ x.0 = (bytes_eq-Decides w x.0).0 s.2.1 in
-    (ap (fixed w).read s.1 ∙ (fixed_exact w).again x.0 s.0 x.1 ((s.2.0.0, ap length (sym same)), s.2.1), goes_on x.1 s.2.0.2)
+    (ap (fixed w).read s.1 ∙ (fixed w).again x.0 s.0 x.1 ((s.2.0.0, ap length (sym same)), s.2.1), goes_on x.1 s.2.0.2)
 
 -- a keyword is its bytes, where no regular one comes after them
 pub keyword_by_bytes : (w bytes : List ℕ) → all_regular w ≡ true → (keyword w).read bytes ≡ option_and_then (λ x. cond (regular_comes x.1) None (Some x)) ((fixed w).read bytes)

@@ -1,6 +1,6 @@
 -- The Encoding of the clear text.
 use Rattle.std.specs.Prelude.{ℕ, suc, ◌+◌, ◌-◌, ◌*◌, ◌&&◌, nat_le, Bool, true, List, [], ◌∷◌, length, codes}
-use Rattle.t1_bytes.specs.Grammar.{Grammar, pure, ◌>>=◌, ◌>>◌, that, run, fixed, either}
+use Rattle.t1_grammar.specs.Grammar.{Grammar, pure, ◌>>=◌, ◌>>◌, that, run, fixed, either, may_be}
 use Rattle.t1_bytes.specs.White.{white, gap}
 use Rattle.t1_font.specs.Words.{is_regular, word, keyword, decimal, name}
 
@@ -89,9 +89,6 @@ code_entry = do
   gap
   keyword (codes "put")
   pure (c, n)
-
-abbrev pub may_be : Grammar (List ℕ) → Grammar (List ℕ)
-may_be g = either g (pure [])
 
 abbrev pub readonly : Grammar (List ℕ)
 readonly = may_be (do

@@ -1,6 +1,6 @@
 -- An entry of the table of subroutines or of glyphs: a key, and behind it an encrypted charstring between its words.
 use Rattle.std.specs.Prelude.{ℕ, ◌&&◌, nat_le, true, List, map}
-use Rattle.t1_bytes.specs.Grammar.{Grammar, pure, ◌>>=◌, ◌>>◌, that, count}
+use Rattle.t1_grammar.specs.Grammar.{Grammar, pure, ◌>>=◌, ◌>>◌, that, count}
 use Rattle.t1_bytes.specs.White.{white, gap}
 use Rattle.t1_font.specs.Words.{one_white, word, decimal, phrase_of, passes}
 use Rattle.t1_font.specs.Charstrings.{plain_of}

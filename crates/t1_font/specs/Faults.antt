@@ -3,7 +3,7 @@ use Rattle.std.specs.Prelude.{◌≡◌, ℕ, ◌-◌, List, length, drop, Err}
 use Rattle.std.specs.List.{prefix_len}
 use Rattle.t1_bytes.specs.declared.fault.BytesFault.{BytesFault}
 use Rattle.t1_bytes.specs.declared.fault.BytesFault.TheVariants as bytes
-use Rattle.t1_bytes.specs.Grammar.{Table}
+use Rattle.t1_grammar.specs.Tables.{Table}
 use Rattle.t1_bytes.specs.White.{is_white}
 use Rattle.t1_font.specs.declared.fault.ReadFault.{ReadFault}
 use Rattle.t1_font.specs.declared.fault.ReadFault.TheVariants as faults

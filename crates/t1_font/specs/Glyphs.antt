@@ -1,6 +1,6 @@
 -- The table of glyphs.
 use Rattle.std.specs.Prelude.{ℕ, List, codes}
-use Rattle.t1_bytes.specs.Grammar.{Grammar, ◌>>◌}
+use Rattle.t1_grammar.specs.Grammar.{Grammar, ◌>>◌}
 use Rattle.t1_bytes.specs.White.{white}
 use Rattle.t1_font.specs.Words.{keyword, next_name}
 use Rattle.t1_font.specs.Entry.{Entry, entry}

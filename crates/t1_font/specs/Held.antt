@@ -2,7 +2,7 @@
 use Rattle.std.specs.Prelude.{◌≡◌, ℕ, ◌≤◌, Bool, List, [], ◌∷◌, Option, Some, None, Result, Ok, Err}
 use Rattle.std.specs.List.{list_any}
 use Rattle.std.specs.Str.{bytes_eq}
-use Rattle.t1_bytes.specs.Grammar.{Table}
+use Rattle.t1_grammar.specs.Tables.{Table}
 use Rattle.t1_font.specs.declared.fault.TableError.{TableError}
 use Rattle.t1_font.specs.FontValue.{Numbered, Named, notdef, count_limit}
 use Rattle.t1_font.specs.Entries.{map_of}

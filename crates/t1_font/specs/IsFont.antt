@@ -5,7 +5,7 @@ use Rattle.std.specs.Option.{option_map}
 use Rattle.std.specs.Str.{bytes_eq}
 use Rattle.std.specs.FinMap.{get, contains_key, len, entries}
 use Rattle.t1_bytes.specs.Laws.{AreBytes}
-use Rattle.t1_bytes.specs.Grammar.{Grammar, first, NoneIn, Stops, Lacks}
+use Rattle.t1_grammar.specs.Grammar.{Grammar, first, NoneIn, Stops, Lacks}
 use Rattle.t1_bytes.specs.Eexec.{eexec_marker}
 use Rattle.t1_font.specs.Words.{word_limit, name_limit, is_regular, phrase_of, passes}
 use Rattle.t1_font.specs.Entry.{charstring_limit}

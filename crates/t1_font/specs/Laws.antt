@@ -2,7 +2,7 @@
 use Rattle.std.specs.Prelude.{◌≡◌, ◌↔◌, ℕ, Bool, List, Ok, Err}
 use Rattle.std.specs.Ordering.{nat_cmp}
 use Rattle.std.specs.FinMap as maps
-use Rattle.t1_bytes.specs.Grammar.{IsExact, first}
+use Rattle.t1_grammar.specs.Grammar.{IsExact, first}
 use Rattle.t1_font.specs.declared.fault.ReadFault.{ReadFault}
 use Rattle.t1_font.specs.FontValue.{FontValue, name_cmp}
 use Rattle.t1_font.specs.Entries.{map_of, names_of, last_value, unless_notdef}

@@ -2,9 +2,8 @@
 use Rattle.std.specs.Prelude.{ℕ, not, nat_le, Bool, false, List, [], ◌∷◌, codes}
 use Rattle.std.specs.Option.{option_and_then}
 use Rattle.std.proofs.Common.{ap}
-use Rattle.t1_bytes.specs.Grammar.{Grammar, pure, ◌>>=◌, ◌>>◌, that, before, fixed}
+use Rattle.t1_grammar.specs.Grammar.{Grammar, pure, ◌>>=◌, ◌>>◌, that, before, fixed, Begins}
 use Rattle.t1_bytes.specs.White.{is_white, white, gap}
-use Rattle.t1_bytes.proofs.Places.{Begins}
 use Rattle.t1_font.specs.Words.{is_regular, keyword, decimal}
 
 -- white space comes

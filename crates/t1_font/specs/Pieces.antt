@@ -1,6 +1,6 @@
 -- The pieces of a font's two texts.
 use Rattle.std.specs.Prelude.{ℕ, ◌-◌, ◌||◌, not, nat_lt, List, [], ◌++◌, Bool, length, Option, Some, None, is_some, if◌then◌else◌}
-use Rattle.t1_bytes.specs.Grammar.{first}
+use Rattle.t1_grammar.specs.Grammar.{first}
 use Rattle.t1_bytes.specs.Eexec.{eexec_marker, cipher_text}
 use Rattle.t1_font.specs.declared.fault.ReadFault.TheVariants.{NoEexec, ShortCipher, NoEncoding, BadEncoding, NoCharStrings, BadLenIV, BadSubrs, BadGlyphs, Hybrid, NoClosefile}
 use Rattle.t1_font.specs.Subrs.{Subr, subr, subrs_end}

@@ -1,6 +1,7 @@
 -- What is read of a font's texts: a value, or the first fault. The order of the lines of a reading is the order of the faults.
 use Rattle.std.specs.Prelude.{ℕ, ◌-◌, Bool, List, Option, Some, None, Result, Ok, Err, if◌then◌else◌}
-use Rattle.t1_bytes.specs.Grammar.{Grammar, Table, table_at, counted_at}
+use Rattle.t1_grammar.specs.Grammar.{Grammar}
+use Rattle.t1_grammar.specs.Tables.{Table, table_at, counted_at}
 use Rattle.t1_font.specs.declared.fault.ReadFault.{ReadFault}
 use Rattle.t1_font.specs.Faults.{left_after_white}
 

@@ -1,7 +1,8 @@
 -- Why a file spells no font: the first row whose condition holds. Each row names the pieces that were spelled before it.
 use Rattle.std.specs.Prelude.{◌≡◌, ◌⊎◌, ℕ, ◌-◌, ◌≤◌, ◌<◌, true, false, List, ◌++◌, length, Option, Some}
 use Rattle.std.specs.FinMap as maps
-use Rattle.t1_bytes.specs.Grammar.{first, BreaksOff, CountBreaksOff, AtFront, NotAtFront, Has, Lacks, TableAt}
+use Rattle.t1_grammar.specs.Grammar.{first, AtFront, NotAtFront, Has, Lacks}
+use Rattle.t1_grammar.specs.Tables.{BreaksOff, CountBreaksOff, TableAt}
 use Rattle.t1_bytes.specs.Segments.{IsFlat, IsBad}
 use Rattle.t1_bytes.specs.Eexec.{eexec_marker, cipher_text}
 use Rattle.t1_font.specs.declared.fault.ReadFault.{ReadFault}

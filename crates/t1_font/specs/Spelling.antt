@@ -2,7 +2,8 @@
 use Rattle.std.specs.Prelude.{◌≡◌, ◌⊎◌, ℕ, ◌≤◌, ◌<◌, true, List, [], ◌++◌, length, Option, Some, None}
 use Rattle.std.specs.FinMap as maps
 use Rattle.t1_bytes.specs.Cipher.{Enciphers}
-use Rattle.t1_bytes.specs.Grammar.{first, TableAt, CountedAt, AtFront, Lacks}
+use Rattle.t1_grammar.specs.Grammar.{first, AtFront, Lacks}
+use Rattle.t1_grammar.specs.Tables.{TableAt, CountedAt}
 use Rattle.t1_bytes.specs.Segments.{IsFlat}
 use Rattle.t1_bytes.specs.Eexec.{eexec_marker, cipher_text}
 use Rattle.t1_font.specs.Subrs.{subr, subrs_end}

@@ -1,6 +1,7 @@
 -- The table of subroutines.
 use Rattle.std.specs.Prelude.{ℕ, nat_lt, false, List, codes}
-use Rattle.t1_bytes.specs.Grammar.{Grammar, ◌>>◌, that, Table, table_at}
+use Rattle.t1_grammar.specs.Grammar.{Grammar, ◌>>◌, that}
+use Rattle.t1_grammar.specs.Tables.{Table, table_at}
 use Rattle.t1_bytes.specs.White.{white, gap}
 use Rattle.t1_font.specs.Words.{keyword, decimal, phrase_of, passes}
 use Rattle.t1_font.specs.Entry.{Entry, entry}

@@ -3,9 +3,8 @@ use Rattle.std.specs.Prelude.{ℕ, zero, suc, ◌-◌, ◌&&◌, nat_le, Bool, L
 use Rattle.std.specs.List.{list_all}
 use Rattle.std.specs.Option.{option_and_then}
 use Rattle.std.proofs.Common.{ap}
-use Rattle.t1_bytes.specs.Grammar.{Grammar, ◌>>◌, that, count, fixed, first}
+use Rattle.t1_grammar.specs.Grammar.{Grammar, ◌>>◌, that, count, fixed, first, Begins}
 use Rattle.t1_bytes.specs.White.{white}
-use Rattle.t1_bytes.proofs.Places.{Begins}
 use Rattle.t1_font.specs.Markers.{encoding_marker}
 
 -- A to Z

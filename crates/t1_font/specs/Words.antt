@@ -1,7 +1,7 @@
 -- Words of font text: white space, names, decimals and phrases.
 use Rattle.std.specs.Prelude.{ℕ, ◌+◌, ◌-◌, ◌*◌, ◌==◌, ◌&&◌, ◌||◌, not, nat_le, Bool, true, false, List, [], ◌∷◌, ◌++◌, length, codes, Option, Some, None, if◌then◌else◌}
 use Rattle.std.specs.Str.{bytes_eq}
-use Rattle.t1_bytes.specs.Grammar.{Grammar, pure, ◌>>=◌, ◌>>◌, that, run, count, fixed}
+use Rattle.t1_grammar.specs.Grammar.{Grammar, pure, ◌>>=◌, ◌>>◌, that, run, count, fixed}
 use Rattle.t1_bytes.specs.White.{white, is_white, gap}
 
 -- ( ) < > [ ] { } / %

@@ -2,9 +2,10 @@
 
 ghost use Rattle.std.specs.Prelude.{◌≡◌, ◌++◌, ◌∷◌, [], ℕ, List, OnOk, Some, None, length, if◌then◌else◌};
 ghost use Rattle.std.specs.Option.{option_map};
-ghost use Rattle.t1_bytes.specs.Grammar.{table_at, counted_at};
+ghost use Rattle.t1_grammar.specs.Grammar.{may_be};
+ghost use Rattle.t1_grammar.specs.Tables.{table_at, counted_at};
 ghost use Rattle.t1_font.specs.Words.{next_name};
-ghost use Rattle.t1_font.specs.Encoding.{is_octal, octal_after, octal, code, code_entry, encoding_end, encoding_word, encoding_table, loop_range, loop_body, encoding_loop, encoding_start, readonly, may_be, array_start, array_end, code_count, from_code, OpensPuts, OpensNames};
+ghost use Rattle.t1_font.specs.Encoding.{is_octal, octal_after, octal, code, code_entry, encoding_end, encoding_word, encoding_table, loop_range, loop_body, encoding_loop, encoding_start, readonly, array_start, array_end, code_count, from_code, OpensPuts, OpensNames};
 ghost use Rattle.t1_font.specs.Faults.{table_fault};
 ghost use Rattle.t1_font.specs.declared.fault.ReadFault.TheVariants.{BadEncoding};
 ghost use Rattle.std.specs.FinMap as fin;

@@ -4,7 +4,7 @@ ghost use Rattle.std.specs.Prelude.{◌≡◌, ◌≤◌, ◌+◌, OnOk, IfSome,
 ghost use Rattle.std.specs.Option.{option_map};
 ghost use Rattle.std.specs.Str.{bytes_eq};
 ghost use Rattle.t1_font.specs.FontValue.{notdef};
-ghost use Rattle.t1_bytes.specs.Grammar.{table_at};
+ghost use Rattle.t1_grammar.specs.Tables.{table_at};
 ghost use Rattle.t1_font.specs.Glyphs.{glyph, glyphs_end};
 ghost use Rattle.std.specs.FinMap as fin;
 ghost use Rattle.t1_font.specs.Answers.{ShowsGlyphs};

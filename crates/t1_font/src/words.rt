@@ -2,7 +2,7 @@
 
 ghost use Rattle.std.specs.Prelude.{◌≡◌, ◌<◌, true, length, take_while, unwrap_or, IfOk, IfSome, Some};
 ghost use Rattle.std.specs.Option.{option_map};
-ghost use Rattle.t1_bytes.specs.Grammar.{run, that};
+ghost use Rattle.t1_grammar.specs.Grammar.{run, that};
 ghost use Rattle.t1_font.specs.Words.{is_regular, one_white, word, keyword, all_regular, regular_comes, first_digit, decimal, name, next_name, is_access, phrase_of, passes};
 ghost use Rattle.t1_font.specs.Views.{phrase_view, words_view};
 

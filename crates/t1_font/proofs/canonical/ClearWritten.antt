@@ -4,17 +4,17 @@ use Rattle.std.specs.Prelude.{codes}
 use Rattle.std.specs.Fmt.{decimal as digits}
 use Rattle.std.specs.List.{AllByRecursion}
 use Rattle.std.proofs.lemmas.Bool.{le-leb}
-use Rattle.t1_bytes.specs.Grammar.{either, Stops, with_front, table_at, first_at}
+use Rattle.t1_grammar.specs.Grammar.{either, Stops, first_at}
+use Rattle.t1_grammar.specs.Tables.{with_front, table_at}
+use Rattle.t1_grammar.proofs.Grammars.{that_read}
+use Rattle.t1_grammar.proofs.Tables.{table_at-step}
 use Rattle.t1_bytes.specs.White.{gap}
-use Rattle.t1_bytes.proofs.Grammars.{that_read}
-use Rattle.t1_bytes.proofs.Tables.{table_at-step}
 use Rattle.t1_font.specs.Words.{is_regular, word, keyword, decimal}
 use Rattle.t1_font.specs.Markers.{encoding_marker}
 use Rattle.t1_font.specs.Encoding.{encoding_word, encoding_table, encoding_loop, Whole, OpensPuts, encoding_start, octal, code, code_entry, encoding_end}
 use Rattle.t1_font.specs.Pieces.{EncodingText, OneWord, Puts, encoding_from, clear_pieces}
 use Rattle.t1_font.specs.Writing.{puts_text, encoding_text}
 use Rattle.t1_font.specs.IsFont.{IsWord, IsCode, NoMarker}
-use Rattle.t1_font.proofs.MarkerLemmas.{encoding_marker_exact}
 use Rattle.t1_font.proofs.EntryLemmas.{code_entry_eats, code_entry_apart}
 use Rattle.t1_font.proofs.canonical.Written.{gap_one, word_read, keyword_read, black, black_digits, decimal_read, no_white}
 use Rattle.t1_font.proofs.canonical.EntriesWritten.{fixed_read, name_read, is_word_of}
@@ -123,7 +123,8 @@ unfolding clear_pieces encoding_from
 clear_again head (OneWord w) tail none h s =
     let t : List ℕ = w ++ (codes " def" ++ tail) in
     let regrouped : encoding_text (OneWord w) ++ tail ≡ codes "/Encoding" ++ (32 ∷ t) = simp append_assoc in
-    let marker : first_at encoding_marker (head ++ (codes "/Encoding" ++ (32 ∷ t))) ≡ Some ((head, tt), 32 ∷ t) = first_behind encoding_marker encoding_marker_exact head _ tt (32 ∷ t) (encoding_moves head [] _ none) (encoding_marker_read t) in
+    let marker : first_at encoding_marker (head ++ (codes "/Encoding" ++ (32 ∷ t))) ≡ Some ((head, tt), 32 ∷ t) =
+    first_behind encoding_marker head _ tt (32 ∷ t) (encoding_moves head [] _ none) (encoding_marker_read t) in
     rw (regrouped, marker, start_word w tail h s) refl
 clear_again head (Puts es) tail none h s =
     let line = puts_line es in
@@ -132,5 +133,6 @@ clear_again head (Puts es) tail none h s =
     let shown : p ≡ 10 ∷ (line.0 ++ tail) = ap (λ (u : List ℕ). u ++ tail) line.1 in
     let start : encoding_start.read (32 ∷ t) ≡ Some (OpensPuts, p) =
     subst (λ (u : List ℕ). encoding_start.read (codes " 256 array" ++ (10 ∷ (codes "0 1 255 {1 index exch /.notdef put} for" ++ u))) ≡ Some (OpensPuts, u)) (sym shown) (start_table (line.0 ++ tail)) in
-    let marker : first_at encoding_marker (head ++ (codes "/Encoding" ++ (32 ∷ t))) ≡ Some ((head, tt), 32 ∷ t) = first_behind encoding_marker encoding_marker_exact head _ tt (32 ∷ t) (encoding_moves head [] _ none) (encoding_marker_read t) in
+    let marker : first_at encoding_marker (head ++ (codes "/Encoding" ++ (32 ∷ t))) ≡ Some ((head, tt), 32 ∷ t) =
+    first_behind encoding_marker head _ tt (32 ∷ t) (encoding_moves head [] _ none) (encoding_marker_read t) in
     rw (marker, start, puts_read es tail h s) refl

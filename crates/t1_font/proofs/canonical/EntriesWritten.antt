@@ -5,22 +5,23 @@ use Rattle.std.specs.Fmt.{decimal as digits}
 use Rattle.std.specs.List.{AllByRecursion}
 use Rattle.std.proofs.lemmas.Slice.Eq.{bytes_eq-Decides}
 use Rattle.std.proofs.lemmas.Bool.{le-leb, lt-ltb, and_from}
-use Rattle.t1_bytes.specs.Grammar.{Grammar, that, run, fixed, Stops, with_front, table_at}
+use Rattle.t1_grammar.specs.Grammar.{Grammar, that, run, fixed, Stops}
+use Rattle.t1_grammar.specs.Tables.{with_front, table_at}
+use Rattle.t1_grammar.proofs.Grammars.{bind_read, that_read, run_read}
+use Rattle.t1_grammar.proofs.Tables.{Apart, table_at-step}
 use Rattle.t1_bytes.specs.White.{white}
-use Rattle.t1_bytes.proofs.Grammars.{IsExact, fixed_exact, bind_read, that_read, run_read}
-use Rattle.t1_bytes.proofs.Tables.{Apart, table_at-step}
 use Rattle.t1_font.specs.Words.{is_regular, is_word, keyword, name, is_name, next_name}
 use Rattle.t1_font.specs.Entry.{Body, Entry, body, entry}
 use Rattle.t1_font.specs.Subrs.{Subr, subr_key, subr, subrs_end}
 use Rattle.t1_font.specs.Glyphs.{Glyph, glyph, glyphs_end}
 use Rattle.t1_font.specs.Writing.{body_text, entry_text, entries_text, index_text, subrs_text, name_text, glyphs_text}
 use Rattle.t1_font.specs.IsFont.{IsWord, IsPhrase}
-use Rattle.t1_font.proofs.EntryLemmas.{entry_eats, entry_apart, subr_key_exact, subr_key_apart, next_name_exact, next_name_apart}
+use Rattle.t1_font.proofs.EntryLemmas.{entry_eats, entry_apart, subr_key_apart, next_name_apart}
 use Rattle.t1_font.proofs.canonical.Written.{white_one, gap_one, word_read, keyword_read, decimal_read, dup_regular, black, black_digits, count_read, length_read, one_read, no_white}
 use Rattle.t1_font.proofs.canonical.Phrases.{phrase_behind, phrase_starts, closing_read}
 
 pub fixed_read : (w rest : List ℕ) → (fixed w).read (w ++ rest) ≡ Some (w, rest)
-fixed_read w rest = (fixed_exact w).again w w rest ((refl, refl), (bytes_eq-Decides w w).1 refl)
+fixed_read w rest = (fixed w).again w w rest ((refl, refl), (bytes_eq-Decides w w).1 refl)
 
 pub name_read : (n rest : List ℕ) → IsWord 127 n → Stops is_regular rest → name.read (codes "/" ++ (n ++ rest)) ≡ Some (n, rest)
 unfolding name
@@ -68,7 +69,8 @@ body_read iv b rest h s =
     ) refl
 
 -- a table is read from its canonical text, where its keys are read from theirs
-module _ {K : Type 0} (key : Grammar K) (close : Grammar (List ℕ)) (exact : IsExact key) (apart : Apart key close) (key_text : K → List ℕ) (IsKey : K → Type 0) (key_read : (k : K) (rest : List ℕ) → IsKey k → Stops is_regular rest → key.read (10 ∷ (key_text k ++ rest)) ≡ Some (k, rest)) (iv : ℕ) where
+module _ {K : Type 0} (key : Grammar K) (close : Grammar (List ℕ)) (apart : Apart key close) (key_text : K → List ℕ) (IsKey : K → Type 0)
+    (key_read : (k : K) (rest : List ℕ) → IsKey k → Stops is_regular rest → key.read (10 ∷ (key_text k ++ rest)) ≡ Some (k, rest)) (iv : ℕ) where
   entry_read : (e : Entry K) (rest : List ℕ) → IsEntry IsKey iv e → Stops is_regular rest → (entry key iv).read (entry_text key_text e ++ rest) ≡ Some (e, rest)
   unfolding entry
   entry_read e rest h s =
@@ -81,12 +83,13 @@ module _ {K : Type 0} (key : Grammar K) (close : Grammar (List ℕ)) (exact : Is
   begins_line (e ∷ es) closing rest = refl
 
   table_read : (es : List (Entry K)) (closing rest : List ℕ) → AllByRecursion (IsEntry IsKey iv) es → ((after : List ℕ) → Stops is_regular after → close.read (10 ∷ (closing ++ after)) ≡ Some (closing, after)) → Stops is_regular rest → table_at (entry key iv) close (entries_text key_text es closing ++ rest) ≡ Ok (es, closing, rest)
-  table_read [] closing rest all ends s = rw (table_at-step (entry key iv) close (entry_eats key iv exact) (10 ∷ (closing ++ rest)), ends rest s) refl
+  table_read [] closing rest all ends s = rw (table_at-step (entry key iv) close (entry_eats key iv) (10 ∷ (closing ++ rest)), ends rest s) refl
   table_read (e ∷ es) closing rest all ends s =
       let others : List ℕ = entries_text key_text es closing ++ rest in
       let text : List ℕ = entry_text key_text e ++ others in
       let here : (entry key iv).read text ≡ Some (e, others) = entry_read e others all.0 (begins_line es closing rest) in
-      let one : table_at (entry key iv) close text ≡ with_front (e ∷ []) (table_at (entry key iv) close others) = rw (table_at-step (entry key iv) close (entry_eats key iv exact) text, entry_apart key iv close apart text (e, others) here, here) refl in
+      let one : table_at (entry key iv) close text ≡ with_front (e ∷ []) (table_at (entry key iv) close others) =
+      rw (table_at-step (entry key iv) close (entry_eats key iv) text, entry_apart key iv close apart text (e, others) here, here) refl in
       ap (table_at (entry key iv) close) (append_assoc (entry_text key_text e) (entries_text key_text es closing) rest) ∙ (one ∙ ap (with_front (e ∷ [])) (table_read es closing rest all.1 ends s))
 
 -- ---- Subrs
@@ -105,7 +108,9 @@ subr_key_read declared few i rest h s =
 
 -- a table of Subrs is read from its text
 pub subrs_read : (declared iv : ℕ) (es : List Subr) (closing rest : List ℕ) → declared ≤ 65535 → AllByRecursion (IsEntry (λ i. i < declared) iv) es → IsPhrase false closing → Stops is_regular rest → table_at (subr declared iv) subrs_end (subrs_text es closing ++ rest) ≡ Ok (es, closing, rest)
-subrs_read declared iv es closing rest few all ends s = table_read (subr_key declared) subrs_end (subr_key_exact declared) (subr_key_apart declared) index_text (λ i. i < declared) (subr_key_read declared few) iv es closing rest all (closing_read closing ends) s
+subrs_read declared iv es closing rest few all ends s =
+    table_read (subr_key declared) subrs_end (subr_key_apart declared) index_text (λ i. i < declared) (subr_key_read declared few) iv es closing rest
+    all (closing_read closing ends) s
 
 -- ---- the glyphs
 
@@ -119,4 +124,4 @@ end_read rest s = bind_read white (λ _. keyword (codes "end")) (10 ∷ (codes "
 
 -- a table of glyphs is read from its text
 pub glyphs_read : (iv : ℕ) (es : List Glyph) (rest : List ℕ) → AllByRecursion (IsEntry (IsWord 127) iv) es → Stops is_regular rest → table_at (glyph iv) glyphs_end (glyphs_text es ++ rest) ≡ Ok (es, codes "end", rest)
-glyphs_read iv es rest all s = table_read next_name glyphs_end next_name_exact next_name_apart name_text (IsWord 127) next_name_read iv es (codes "end") rest all end_read s
+glyphs_read iv es rest all s = table_read next_name glyphs_end next_name_apart name_text (IsWord 127) next_name_read iv es (codes "end") rest all end_read s

@@ -24,7 +24,6 @@ use Rattle.t1_font.specs.Entry.{Body}
 use Rattle.t1_font.specs.Canon.{sealed_body, sealed_entry, subr_entry, glyph_entry, subrs_pieces, encoding_pieces, canon_clear, canon_private, canon}
 use Rattle.t1_font.specs.WriteLaws.{CanonLength}
 use Rattle.t1_font.specs.IsFont.{IsFont, IsWord, IsPhrase, IsCharstring, SubrsFit, SubrWords, IsCode, IsEncoding}
-use Rattle.t1_font.proofs.WordLemmas.{phrase_exact}
 use Rattle.std.specs.Cmp.Lexicographic.{nat_list_cmp_total}
 use Rattle.t1_font.proofs.canonical.FontAgain.{name_same, length-body}
 use Rattle.t1_font.proofs.MapLemmas.{entries_all, T_true}
@@ -39,7 +38,7 @@ spelled_short test p text rest s = after_short test (is_access s.0) s.0 p s.2 re
 
 -- a phrase has at most 32 bytes
 pub phrase_short : (b : Bool) (p : List ℕ) → IsPhrase b p → length p ≤ 32
-phrase_short b p h = let s = (phrase_exact (passes b)).takes p (p, []) h.whole in spelled_short (passes b) p s.0 [] s.2
+phrase_short b p h = let s = (phrase_of (passes b)).takes p (p, []) h.whole in spelled_short (passes b) p s.0 [] s.2
 
 digits_short : (n : ℕ) → n ≤ 65535 → length (digits n) ≤ 5
 digits_short n h = length-decimal-le 5 n (omega arith) (omega arith) (omega arith)

@@ -6,15 +6,12 @@ use Rattle.std.specs.Option.{option_and_then}
 use Rattle.std.proofs.lemmas.Option.{none-some, some_pair_parts, same_Some}
 use Rattle.std.proofs.lemmas.List.{append-nil}
 use Rattle.std.proofs.lemmas.Bool.{cases_Bool}
-use Rattle.t1_bytes.specs.Grammar.{Grammar, pure, ◌>>=◌, that, run, before, fixed, NotAtFront, NoneIn, Stops, first_at}
-use Rattle.t1_bytes.proofs.Grammars.{IsExact, first_here, unspelled, unread}
-use Rattle.t1_bytes.proofs.EexecLemmas.{eexec_exact}
+use Rattle.t1_grammar.specs.Grammar.{Grammar, pure, ◌>>=◌, that, run, before, fixed, NotAtFront, NoneIn, Stops, first_at, first_here, unspelled, unread}
 use Rattle.t1_bytes.specs.White.{is_white, gap}
 use Rattle.t1_bytes.specs.Eexec.{eexec_marker, blank_comes}
 use Rattle.t1_font.specs.Words.{is_regular, keyword, decimal, digits_after, is_decimal}
 use Rattle.t1_font.specs.Markers.{subrs_marker, chars_marker, encoding_marker, white_comes, break_comes}
-use Rattle.t1_bytes.proofs.Places.{prepend}
-use Rattle.t1_font.proofs.MarkerLemmas.{encoding_marker_exact, subrs_marker_exact, chars_marker_exact}
+use Rattle.t1_grammar.proofs.Places.{prepend}
 use Rattle.t1_font.proofs.canonical.FirstPlace.{prepend-nil, prepend-prepend, one_place}
 use Rattle.t1_font.proofs.canonical.Borders.{strip, fixed_strip}
 
@@ -133,9 +130,13 @@ module _ (u v : List ℕ) where
   behind g G b xs = G.alike (b ∷ xs)
 
   -- a marker that stands at no place of a text stands at none before another such end
-  pub none_moves : {A : Type 0} (g : Grammar A) → IsExact g → Behind g → (front : List ℕ) → NoneIn g front u → NoneIn g front v
-  none_moves g E G [] none = tt
-  none_moves g E G (b ∷ front) none = (unspelled g E (b ∷ (front ++ v)) (elim (G b front) [ inl n ↦ n.1 | inr s ↦ absurd (none-some _ (sym (unread g E (b ∷ (front ++ u)) none.0) ∙ s.2)) ]), none_moves g E G front none.1)
+  pub none_moves : {A : Type 0} (g : Grammar A) → Behind g → (front : List ℕ) → NoneIn g front u → NoneIn g front v
+  none_moves g G [] none = tt
+  none_moves g G (b ∷ front) none = (
+    unspelled g (b ∷ (front ++ v))
+        (elim (G b front) [ inl n ↦ n.1 | inr s ↦ absurd (none-some _ (sym (unread g (b ∷ (front ++ u)) none.0) ∙ s.2)) ]),
+    none_moves g G front none.1,
+  )
 
 -- ---- the markers before a slash
 
@@ -198,19 +199,19 @@ eexec_within u v s t a b c d e = bind_within u v _ _ (fixed_within u v (codes "c
 
 -- where no marker of Subrs stands before one slash, none does before another
 pub subrs_moves : (front r s : List ℕ) → NoneIn subrs_marker front (47 ∷ r) → NoneIn subrs_marker front (47 ∷ s)
-subrs_moves front r s = none_moves (47 ∷ r) (47 ∷ s) subrs_marker subrs_marker_exact (subrs_behind r s) front
+subrs_moves front r s = none_moves (47 ∷ r) (47 ∷ s) subrs_marker (subrs_behind r s) front
 
 -- where no marker of CharStrings stands before one slash, none does before another
 pub chars_moves : (front r s : List ℕ) → NoneIn chars_marker front (47 ∷ r) → NoneIn chars_marker front (47 ∷ s)
-chars_moves front r s = none_moves (47 ∷ r) (47 ∷ s) chars_marker chars_marker_exact (chars_behind r s) front
+chars_moves front r s = none_moves (47 ∷ r) (47 ∷ s) chars_marker (chars_behind r s) front
 
 -- where no marker of the Encoding stands before one slash, none does before another
 pub encoding_moves : (front r s : List ℕ) → NoneIn encoding_marker front (47 ∷ r) → NoneIn encoding_marker front (47 ∷ s)
-encoding_moves front r s = none_moves (47 ∷ r) (47 ∷ s) encoding_marker encoding_marker_exact (encoding_behind r s) front
+encoding_moves front r s = none_moves (47 ∷ r) (47 ∷ s) encoding_marker (encoding_behind r s) front
 
 -- where no marker of eexec stands before one slash, none does before another
 pub eexec_moves : (front r s : List ℕ) → NoneIn eexec_marker front (47 ∷ r) → NoneIn eexec_marker front (47 ∷ s)
-eexec_moves front r s = none_moves (47 ∷ r) (47 ∷ s) eexec_marker eexec_exact (behind (47 ∷ r) (47 ∷ s) eexec_marker (eexec_within (47 ∷ r) (47 ∷ s) refl refl
+eexec_moves front r s = none_moves (47 ∷ r) (47 ∷ s) eexec_marker (behind (47 ∷ r) (47 ∷ s) eexec_marker (eexec_within (47 ∷ r) (47 ∷ s) refl refl
     (slash_word (codes "currentfile") r refl) (slash_word (codes "currentfile") s refl)
     (slash_word (codes "eexec") r refl) (slash_word (codes "eexec") s refl) refl)) front
 
@@ -252,10 +253,14 @@ NoneIn-append g [] ys after h k = k
 NoneIn-append g (b ∷ xs) ys after h k = (subst (λ (u : List ℕ). NotAtFront g (b ∷ u)) (sym (append_assoc xs ys after)) h.0, NoneIn-append g xs ys after h.1 k)
 
 -- a grammar that stands nowhere in the front is sought behind it
-pub past_none : {A : Type 0} (g : Grammar A) → IsExact g → (front after : List ℕ) → NoneIn g front after → first_at g (front ++ after) ≡ prepend front (first_at g after)
-past_none g G [] after h = prepend-nil (first_at g after)
-past_none g G (b ∷ front) after h = one_place g b (front ++ after) (unread g G (b ∷ (front ++ after)) h.0) ∙ (ap (prepend (b ∷ [])) (past_none g G front after h.1) ∙ prepend-prepend b front (first_at g after))
+pub past_none : {A : Type 0} (g : Grammar A) → (front after : List ℕ) → NoneIn g front after → first_at g (front ++ after) ≡ prepend front (first_at g after)
+past_none g [] after h = prepend-nil (first_at g after)
+past_none g (b ∷ front) after h =
+    one_place g b (front ++ after) (unread g (b ∷ (front ++ after)) h.0)
+    ∙ (ap (prepend (b ∷ [])) (past_none g front after h.1) ∙ prepend-prepend b front (first_at g after))
 
 -- a marker stands first where it is read behind a text without one
-pub first_behind : {A : Type 0} (g : Grammar A) → IsExact g → (front after : List ℕ) (a : A) (rest : List ℕ) → NoneIn g front after → g.read after ≡ Some (a, rest) → first_at g (front ++ after) ≡ Some ((front, a), rest)
-first_behind g G front after a rest h e = past_none g G front after h ∙ (ap (prepend front) (first_here g after a rest e) ∙ ap (λ (f : List ℕ). Some ((f, a), rest)) (append-nil front))
+pub first_behind : {A : Type 0} (g : Grammar A) → (front after : List ℕ) (a : A) (rest : List ℕ) → NoneIn g front after →
+    g.read after ≡ Some (a, rest) → first_at g (front ++ after) ≡ Some ((front, a), rest)
+first_behind g front after a rest h e =
+    past_none g front after h ∙ (ap (prepend front) (first_here g after a rest e) ∙ ap (λ (f : List ℕ). Some ((f, a), rest)) (append-nil front))

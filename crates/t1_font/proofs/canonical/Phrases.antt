@@ -3,13 +3,12 @@ use Rattle.std.proofs.Common.{◌≡◌, ℕ, Bool, true, false, ◌||◌, List,
 use Rattle.std.specs.List.{AllByRecursion}
 use Rattle.std.proofs.lemmas.List.{append-nil}
 use Rattle.std.proofs.lemmas.Bool.{or_parts, not-true}
-use Rattle.t1_bytes.specs.Grammar.{Stops}
+use Rattle.t1_grammar.specs.Grammar.{Stops}
+use Rattle.t1_grammar.proofs.Grammars.{bind_read}
 use Rattle.t1_bytes.specs.White.{is_white, white, gap}
-use Rattle.t1_bytes.proofs.Grammars.{bind_read}
 use Rattle.t1_font.specs.Words.{is_regular, word, is_word, phrase_of, phrase_after, is_access, passes, is_delimiter}
 use Rattle.t1_font.specs.Subrs.{subrs_end}
 use Rattle.t1_font.specs.IsFont.{IsPhrase}
-use Rattle.t1_font.proofs.WordLemmas.{phrase_exact}
 use Rattle.t1_font.proofs.canonical.Written.{white_one}
 
 stops_more : (p : ℕ → Bool) (back rest : List ℕ) → Stops p (back ++ []) → Stops p rest → Stops p (back ++ rest)
@@ -40,9 +39,9 @@ spelled_behind test p text rest s k =
 -- a phrase is read from its text
 pub phrase_behind : (b : Bool) (p rest : List ℕ) → IsPhrase b p → Stops is_regular rest → (phrase_of (passes b)).read (p ++ rest) ≡ Some (p, rest)
 phrase_behind b p rest h k =
-    let s = (phrase_exact (passes b)).takes p (p, []) h.whole in
+    let s = (phrase_of (passes b)).takes p (p, []) h.whole in
     let text : p ≡ s.0 = s.1 ∙ append-nil s.0 in
-    (phrase_exact (passes b)).again p p rest (spelled_behind (passes b) p p rest (subst (λ (t : List ℕ). (phrase_of (passes b)).Spells p t []) (sym text) s.2) k)
+    (phrase_of (passes b)).again p p rest (spelled_behind (passes b) p p rest (subst (λ (t : List ℕ). (phrase_of (passes b)).Spells p t []) (sym text) s.2) k)
 
 regular_black : (b : ℕ) → is_regular b ≡ true → is_white b ≡ false
 regular_black b h = (or_parts (is_white b) (is_delimiter b) (not-true (is_white b || is_delimiter b) h)).0
@@ -60,7 +59,7 @@ spelled_starts test p text after s rest =
 -- a phrase begins with no white space
 pub phrase_starts : (b : Bool) (p : List ℕ) → IsPhrase b p → (rest : List ℕ) → Stops is_white (p ++ rest)
 phrase_starts b p h rest =
-    let s = (phrase_exact (passes b)).takes p (p, []) h.whole in
+    let s = (phrase_of (passes b)).takes p (p, []) h.whole in
     subst (λ (u : List ℕ). Stops is_white (u ++ rest)) (sym (s.1 ∙ append-nil s.0)) (spelled_starts (passes b) p s.0 [] s.2 rest)
 
 -- what closes the table of subroutines is read so

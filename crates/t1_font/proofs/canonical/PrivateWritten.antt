@@ -7,9 +7,9 @@ use Rattle.std.specs.Option.{option_map}
 use Rattle.std.proofs.lemmas.List.{length-append, append-nil}
 use Rattle.std.proofs.lemmas.Option.{none-some, same_Some}
 use Rattle.std.proofs.lemmas.Bool.{lt-ltb, le-ltb}
-use Rattle.t1_bytes.specs.Grammar.{Grammar, Stops, first, first_at, Lacks, table_at}
-use Rattle.t1_bytes.proofs.Grammars.{first_exact, first_here}
-use Rattle.t1_bytes.proofs.Places.{prepend}
+use Rattle.t1_grammar.specs.Grammar.{Grammar, Stops, first, first_at, Lacks, first_here}
+use Rattle.t1_grammar.specs.Tables.{table_at}
+use Rattle.t1_grammar.proofs.Places.{prepend}
 use Rattle.t1_font.specs.Words.{is_regular}
 use Rattle.t1_font.specs.Entry.{Entry}
 use Rattle.t1_font.specs.Subrs.{subr, subrs_end}
@@ -19,7 +19,6 @@ use Rattle.t1_font.specs.declared.fault.ReadFault.{ReadFault}
 use Rattle.t1_font.specs.Pieces.{SubrsPieces, PrivatePieces, private_pieces, tables_from, before_place, glyphs_from, tail_after, has_subrs, iv_of}
 use Rattle.t1_font.specs.Writing.{entries_text, index_text, subrs_text, subrs_part, name_text, glyphs_text, glyphs_part, private_written}
 use Rattle.t1_font.specs.IsFont.{IsWord, IsPhrase, NoMarker}
-use Rattle.t1_font.proofs.MarkerLemmas.{subrs_marker_exact, chars_marker_exact, closefile_exact}
 use Rattle.t1_font.proofs.HasSubrs.{subrs_lack, lack_subrs}
 use Rattle.t1_font.proofs.canonical.Written.{gap_one, keyword_read, decimal_read, black_digits}
 use Rattle.t1_font.proofs.canonical.FirstPlace.{one_place}
@@ -111,7 +110,7 @@ whole_found tail h = by_found (first_at closefile tail) refl h
     by_found : (o : Option ((List ℕ × List ℕ) × List ℕ)) → first_at closefile tail ≡ o → option_map (λ x. x.1) o ≡ Some [] → (x : (List ℕ × List ℕ) × List ℕ) × (first_at closefile tail ≡ Some x) × (x.1 ≡ []) × (x.0.0 ++ x.0.1 ≡ tail)
     by_found None e k = absurd (none-some [] k)
     by_found (Some x) e k =
-        let s = (first_exact closefile closefile_exact).takes tail x e in
+        let s = (first closefile).takes tail x e in
         let nothing : x.1 ≡ [] = same_Some x.1 [] k in
         (x, e, nothing, sym (s.1 ∙ ap (λ (u : List ℕ). s.0 ++ u) nothing ∙ append-nil s.0 ∙ s.2.1 ∙ ap (λ (u : List ℕ). x.0.0 ++ u) (closefile_text x.0.1 s.2.0 x.1 s.2.2)))
 
@@ -177,8 +176,11 @@ no_subrs_again p junk h e =
     let g : List ℕ = glyphs_part p.glyphs ++ t in
     let text : List ℕ = p.private ++ g in
     let place : (List ℕ × Unit {0}) × List ℕ = ((p.private, tt), glyphs_text p.glyphs ++ t) in
-    let chars : first_at chars_marker text ≡ Some place = first_behind chars_marker chars_marker_exact p.private g tt _ (chars_moves p.private [] _ h.no_chars) (chars_part_read p.glyphs t h.few) in
-    let subrs : before_place (length p.private) (first_at subrs_marker text) ≡ None = ap (before_place (length p.private)) (past_none subrs_marker subrs_marker_exact p.private g (subrs_moves p.private [] _ h.no_subrs)) ∙ not_before p.private (first_at subrs_marker g) in
+    let chars : first_at chars_marker text ≡ Some place =
+    first_behind chars_marker p.private g tt _ (chars_moves p.private [] _ h.no_chars) (chars_part_read p.glyphs t h.few) in
+    let subrs : before_place (length p.private) (first_at subrs_marker text) ≡ None =
+    ap (before_place (length p.private)) (past_none subrs_marker p.private g (subrs_moves p.private [] _ h.no_subrs))
+    ∙ not_before p.private (first_at subrs_marker g) in
     pieces_read text place (first_at subrs_marker text) _ chars refl (ap (λ (o : Option ((List ℕ × ℕ) × List ℕ)). tables_from (length text) place o) subrs ∙ no_tables_again p text junk h)
 
 -- a marker that stands somewhere is found
@@ -222,7 +224,8 @@ tables_again p s text chars junk h k =
     let m : List ℕ = p.middle ++ g in
     let table : List ℕ = subrs_text s.entries s.closing ++ m in
     let read : table_at (subr s.declared p.len_iv) subrs_end table ≡ Ok (s.entries, s.closing, m) = subrs_read s.declared p.len_iv s.entries s.closing m k.declared k.entries k.closing (stops_slash p.middle _ h.middle_apart) in
-    let next : first_at chars_marker m ≡ Some ((p.middle, tt), glyphs_text p.glyphs ++ t) = first_behind chars_marker chars_marker_exact p.middle g tt _ (chars_moves p.middle [] _ h.middle_chars) (chars_part_read p.glyphs t h.few) in
+    let next : first_at chars_marker m ≡ Some ((p.middle, tt), glyphs_text p.glyphs ++ t) =
+    first_behind chars_marker p.middle g tt _ (chars_moves p.middle [] _ h.middle_chars) (chars_part_read p.glyphs t h.few) in
     rw (h.iv, read, next, glyphs_from_read text p.private (Some s) p.middle p.len_iv p.glyphs p.tail junk h.glyphs h.tail_apart h.middle_subrs h.tail_subrs h.tail_ends) refl
 
 -- a private text with Subrs is read from its text
@@ -235,11 +238,13 @@ with_subrs_again p s junk h k =
     let b : List ℕ = subrs_part (Some s) ++ m in
     let text : List ℕ = p.private ++ b in
     let table : List ℕ = subrs_text s.entries s.closing ++ m in
-    let subrs : first_at subrs_marker text ≡ Some ((p.private, s.declared), table) = first_behind subrs_marker subrs_marker_exact p.private b s.declared table (subrs_moves p.private [] _ h.no_subrs) (subrs_part_read s m k.declared) in
+    let subrs : first_at subrs_marker text ≡ Some ((p.private, s.declared), table) =
+    first_behind subrs_marker p.private b s.declared table (subrs_moves p.private [] _ h.no_subrs) (subrs_part_read s m k.declared) in
     let q : List ℕ = codes "Subrs " ++ (digits s.declared ++ (codes " array" ++ subrs_text s.entries s.closing)) in
     let y = is_found chars_marker (q ++ p.middle) g tt _ (chars_part_read p.glyphs t h.few) in
     let here : first_at chars_marker b ≡ Some ((47 ∷ y.0.0.0, y.0.0.1), y.0.1) = one_place chars_marker 47 (q ++ m) (not_chars ((digits s.declared ++ (codes " array" ++ subrs_text s.entries s.closing)) ++ m)) ∙ ap (prepend (47 ∷ [])) (ap (first_at chars_marker) (sym (append_assoc q p.middle g)) ∙ y.1) in
-    let chars : first_at chars_marker text ≡ Some ((p.private ++ (47 ∷ y.0.0.0), y.0.0.1), y.0.1) = past_none chars_marker chars_marker_exact p.private b (chars_moves p.private [] _ h.no_chars) ∙ ap (prepend p.private) here in
+    let chars : first_at chars_marker text ≡ Some ((p.private ++ (47 ∷ y.0.0.0), y.0.0.1), y.0.1) =
+    past_none chars_marker p.private b (chars_moves p.private [] _ h.no_chars) ∙ ap (prepend p.private) here in
     let place : (List ℕ × Unit {0}) × List ℕ = ((p.private ++ (47 ∷ y.0.0.0), y.0.0.1), y.0.1) in
     let before : ltb (length p.private) (length place.0.0) ≡ true = lt-ltb _ _ (omega (arith, length-append p.private (47 ∷ y.0.0.0))) in
     pieces_read text place (Some ((p.private, s.declared), table)) _ chars subrs (ap (λ (o : Option ((List ℕ × ℕ) × List ℕ)). tables_from (length text) place o) (before_is (length place.0.0) ((p.private, s.declared), table) before) ∙ tables_again p s text place junk h k)

@@ -12,8 +12,7 @@ use Rattle.t1_bytes.specs.Segments.{starts_segment}
 use Rattle.t1_bytes.specs.Eexec.{cipher_text}
 use Rattle.t1_bytes.specs.Texts.{pfb_text, segment_text, hex_lines, trailer}
 use Rattle.t1_bytes.proofs.Ciphers.{decrypted_front, length-sealed}
-use Rattle.t1_bytes.proofs.EexecLemmas.{cipher_exact}
-use Rattle.t1_bytes.proofs.Grammars.{front_again}
+use Rattle.t1_grammar.specs.Grammar.{front_again}
 use Rattle.t1_bytes.proofs.HexLines.{lines_read, binary_read}
 use Rattle.t1_bytes.proofs.PfbLemmas.{pfb_flat}
 use Rattle.t1_font.specs.declared.fault.ReadFault.{ReadFault}
@@ -62,7 +61,8 @@ not_hex false = refl
 binary_cipher : (private : List ℕ) → cipher_text.read (private_cipher private ++ trailer) ≡ Some (private_cipher private ++ trailer, [])
 binary_cipher private =
     let c : List ℕ = private_cipher private ++ trailer in
-    front_again cipher_text cipher_exact c (c, []) (binary_read c (omega (arith, four_lead private, length-append (private_cipher private) trailer)) refl (not_hex (leb 4 (length c))))
+    front_again cipher_text c (c, [])
+    (binary_read c (omega (arith, four_lead private, length-append (private_cipher private) trailer)) refl (not_hex (leb 4 (length c))))
 
 -- the private text of a cipher, whatever is read behind it
 text_again : (private more : List ℕ) → (junk : List ℕ) × (private_text (private_cipher private ++ more) ≡ private ++ junk)
@@ -133,7 +133,9 @@ pub round_trip : (f : FontValue) (form : Form) → IsFont f → Fits form f → 
 round_trip f Pfa h fits =
     let p = canon_private f in
     let v : List ℕ = hex_lines (private_cipher p) ++ trailer in
-    let secret = front_again cipher_text cipher_exact v (private_cipher p ++ replicate 256 0, codes "leartomark" ++ 10 ∷ []) (lines_read (private_cipher p) (four_lead p) (cipher_bytes f (has_bytes f h))) in
+    let secret =
+    front_again cipher_text v (private_cipher p ++ replicate 256 0, codes "leartomark" ++ 10 ∷ [])
+    (lines_read (private_cipher p) (four_lead p) (cipher_bytes f (has_bytes f h))) in
     let regrouped : canon f Pfa ≡ f.shell.head ++ (encoding_text (encoding_pieces f.encoding) ++ ((f.shell.clear_tail ++ 10 ∷ []) ++ v)) = simp append_assoc in
     let starts : starts_segment (canon f Pfa) ≡ false = ap starts_segment regrouped ∙ head_starts f.shell.head ((f.shell.clear_tail ++ 10 ∷ []) ++ v) (encoding_pieces f.encoding) fits in
     file_again f (canon f Pfa) v (replicate 256 0) (codes "leartomark" ++ 10 ∷ []) h (hex_border p) secret (canon_short f Pfa h) (plain_flat (canon f Pfa) starts)

@@ -7,12 +7,10 @@ use Rattle.std.specs.Option.{option_map, option_and_then}
 use Rattle.std.proofs.lemmas.List.{append-nil, append_cancel_right}
 use Rattle.std.proofs.lemmas.Option.{none-some, same_Some}
 use Rattle.std.proofs.lemmas.Bool.{cases_Bool, leb-true, and_parts, or_parts, not-true, ne_eqb}
-use Rattle.t1_bytes.specs.Grammar.{Grammar, pure, ◌>>=◌, ◌>>◌, before, Stops, NoneIn, first, first_at, fixed}
+use Rattle.t1_grammar.specs.Grammar.{Grammar, pure, ◌>>=◌, ◌>>◌, before, Stops, NoneIn, first, first_at, fixed, unspelled}
 use Rattle.t1_bytes.specs.White.{is_white, gap}
 use Rattle.t1_bytes.specs.Eexec.{eexec_marker, blank_comes, cipher_text}
-use Rattle.t1_bytes.proofs.Grammars.{first_exact, unspelled}
-use Rattle.t1_bytes.proofs.Places.{prepend}
-use Rattle.t1_bytes.proofs.EexecLemmas.{eexec_exact}
+use Rattle.t1_grammar.proofs.Places.{prepend}
 use Rattle.t1_font.specs.Words.{is_regular, is_delimiter, is_digit}
 use Rattle.t1_font.specs.Pieces.{EncodingText, OneWord, Puts, flat_pieces}
 use Rattle.t1_font.specs.Writing.{puts_text, encoding_text}
@@ -48,7 +46,12 @@ no_eexec bytes h = rw (fixed_strip (codes "currentfile") bytes, h) refl
 -- no marker stands in a text without `currentfile`
 pub free_none : (text after : List ℕ) → is_free (codes "currentfile") text ≡ true → NoneIn eexec_marker text after
 free_none [] after h = tt
-free_none (b ∷ text) after h = let both = and_parts (differs (codes "currentfile") (b ∷ text)) (is_free (codes "currentfile") text) h in (unspelled eexec_marker eexec_exact (b ∷ (text ++ after)) (no_eexec (b ∷ (text ++ after)) (differs_strip (codes "currentfile") (b ∷ text) after both.0)), free_none text after both.1)
+free_none (b ∷ text) after h =
+    let both =
+    and_parts (differs (codes "currentfile") (b ∷ text)) (is_free (codes "currentfile") text) h in (
+      unspelled eexec_marker (b ∷ (text ++ after)) (no_eexec (b ∷ (text ++ after)) (differs_strip (codes "currentfile") (b ∷ text) after both.0)),
+      free_none text after both.1,
+    )
 
 -- ---- a word and a blank
 
@@ -86,7 +89,7 @@ no_marker_at t b rest a w e = elim (strip_word (codes "currentfile") (refl, (ref
 -- no marker stands in a word before a blank and a byte that doesn't begin `eexec`
 pub word_none : (w : List ℕ) (b : ℕ) (rest : List ℕ) → AllRegular w → is_white b ≡ false → eqb 101 b ≡ false → NoneIn eexec_marker w (32 ∷ (b ∷ rest))
 word_none [] b rest a w e = tt
-word_none (c ∷ t) b rest a w e = (unspelled eexec_marker eexec_exact (c ∷ (t ++ (32 ∷ (b ∷ rest)))) (no_marker_at (c ∷ t) b rest a w e), word_none t b rest a.1 w e)
+word_none (c ∷ t) b rest a w e = (unspelled eexec_marker (c ∷ (t ++ (32 ∷ (b ∷ rest)))) (no_marker_at (c ∷ t) b rest a w e), word_none t b rest a.1 w e)
 
 -- ---- the Encoding
 
@@ -95,7 +98,7 @@ digit_none [] after h = tt
 digit_none (b ∷ w) after h =
     let low : b ≤ 57 = leb-true b 57 (and_parts (leb 48 b) (leb b 57) h.0).1 in
     let other : eqb 99 b ≡ false = ne_eqb 99 b (λ e. omega arith) in
-    (unspelled eexec_marker eexec_exact (b ∷ (w ++ after)) (no_eexec (b ∷ (w ++ after)) (rw other refl)), digit_none w after h.1)
+    (unspelled eexec_marker (b ∷ (w ++ after)) (no_eexec (b ∷ (w ++ after)) (rw other refl)), digit_none w after h.1)
 
 -- no marker stands in digits
 pub digits_none : (n : ℕ) (after : List ℕ) → n < 2 ^ 64 → NoneIn eexec_marker (digits n) after
@@ -152,7 +155,8 @@ eexec_found head encoding tail v none ok ends border =
     let more : first_at eexec_marker ((tail ++ 10 ∷ []) ++ v) ≡ Some (f.0.0, f.0.1 ++ v) = first_grows eexec_marker v (eexec_within [] v tt border.white nil_foreign border.current nil_second border.eexec (sym border.blank)) (tail ++ 10 ∷ []) f.0 f.1 in
     let in_head : NoneIn eexec_marker head (e ++ ((tail ++ 10 ∷ []) ++ v)) = subst (λ (u : List ℕ). NoneIn eexec_marker head (u ++ ((tail ++ 10 ∷ []) ++ v))) (sym slash.1) (eexec_moves head [] (slash.0 ++ ((tail ++ 10 ∷ []) ++ v)) none) in
     let clear : first_at eexec_marker (head ++ (e ++ ((tail ++ 10 ∷ []) ++ v))) ≡ prepend head (prepend e (Some (f.0.0, f.0.1 ++ v))) =
-    past_none eexec_marker eexec_exact head (e ++ ((tail ++ 10 ∷ []) ++ v)) in_head ∙ ap (prepend head) (past_none eexec_marker eexec_exact e ((tail ++ 10 ∷ []) ++ v) (encoding_none encoding _ ok) ∙ ap (prepend e) more) in
+    past_none eexec_marker head (e ++ ((tail ++ 10 ∷ []) ++ v)) in_head
+    ∙ ap (prepend head) (past_none eexec_marker e ((tail ++ 10 ∷ []) ++ v) (encoding_none encoding _ ok) ∙ ap (prepend e) more) in
     let regrouped : (head ++ (e ++ tail)) ++ (10 ∷ v) ≡ head ++ (e ++ ((tail ++ 10 ∷ []) ++ v)) = simp append_assoc in
     (((head ++ (e ++ f.0.0.0), f.0.0.1), f.0.1 ++ v), ap (first_at eexec_marker) regrouped ∙ clear, ap (λ (u : List ℕ). u ++ v) f.2)
 
@@ -176,7 +180,7 @@ line_skipped v = rw one-add refl
 pub split_again : (clear v cipher rest : List ℕ) (x : (List ℕ × List ℕ) × List ℕ) → first_at eexec_marker (clear ++ (10 ∷ v)) ≡ Some x → x.1 ≡ 10 ∷ v → cipher_text.read v ≡ Some (cipher, rest) → flat_pieces (clear ++ (10 ∷ v)) ≡ Ok (record { clear = clear; cipher = cipher })
 unfolding flat_pieces
 split_again clear v cipher rest x e after c =
-    let s = (first_exact eexec_marker eexec_exact).takes (clear ++ (10 ∷ v)) x e in
+    let s = (first eexec_marker).takes (clear ++ (10 ∷ v)) x e in
     let whole : clear ++ (10 ∷ v) ≡ (x.0.0 ++ x.0.1) ++ (10 ∷ v) = s.1 ∙ (λ i. (s.2.1 ∙ ap (λ (u : List ℕ). x.0.0 ++ u) (marker_own x.0.1 s.2.0 x.1 s.2.2)) i ++ after i) in
     let same : x.0.0 ++ x.0.1 ≡ clear = sym (append_cancel_right clear (x.0.0 ++ x.0.1) (10 ∷ v) whole) in
     let secret : cipher_text.read x.1 ≡ Some (cipher, rest) = ap cipher_text.read after ∙ (line_skipped v ∙ c) in

@@ -7,9 +7,9 @@ use Rattle.std.specs.Str.{bytes_eq}
 use Rattle.std.proofs.lemmas.Slice.Eq.{bytes_eq-Decides}
 use Rattle.std.proofs.lemmas.Bool.{le-leb, leb-true, and_parts, and_from, or_parts, not-true, agree_below_at}
 use Rattle.std.proofs.lemmas.Fmt.{decimal_by_steps, length-decimal-le, decimal_nonempty}
-use Rattle.t1_bytes.specs.Grammar.{pure, that, Stops, run, count}
+use Rattle.t1_grammar.specs.Grammar.{pure, that, Stops, run, count}
+use Rattle.t1_grammar.proofs.Grammars.{bind_read, that_read, run_read}
 use Rattle.t1_bytes.specs.White.{is_white, white, has_bytes, gap}
-use Rattle.t1_bytes.proofs.Grammars.{count_exact, bind_read, that_read, run_read}
 use Rattle.t1_font.specs.Words.{is_regular, one_white, word, is_word, keyword, decimal, is_delimiter, is_digit, starts_white, is_decimal, all_digits, digits_after}
 use Rattle.t1_font.specs.Entry.{length_from}
 
@@ -98,7 +98,7 @@ pub black_digits : (n : ℕ) (rest : List ℕ) → n < 10 ^ 9 → Stops is_white
 black_digits n rest small = black (digits n) rest (digits_regular (digits n) (digits_are n (omega arith)).made) (decimal_nonempty n (omega arith))
 
 pub count_read : (body rest : List ℕ) → (count (length body)).read (body ++ rest) ≡ Some (body, rest)
-count_read body rest = (count_exact (length body)).again body body rest (refl, refl)
+count_read body rest = (count (length body)).again body body rest (refl, refl)
 
 pub length_read : (iv n : ℕ) (rest : List ℕ) → iv ≤ n → n ≤ 65535 → Stops is_regular rest → (length_from iv).read (digits n ++ rest) ≡ Some (n, rest)
 unfolding length_from

@@ -7,11 +7,9 @@ use Rattle.std.specs.Cmp.{nat_cmp_total, Equal-is}
 use Rattle.std.specs.FinMap.{find, get, entries, get-entries, get-from_entries, retain_keys, same_map, nat_cmp-IsAntisymmetric}
 use Rattle.std.proofs.lemmas.Bool.{ltb-true}
 use Rattle.std.proofs.lemmas.List.{length-append}
-use Rattle.t1_bytes.specs.Grammar.{Grammar, NoneIn, NotAtFront}
+use Rattle.t1_grammar.specs.Grammar.{Grammar, NoneIn, NotAtFront, unspelled}
 use Rattle.t1_bytes.specs.Laws.{AreBytes}
 use Rattle.t1_bytes.specs.Eexec.{eexec_marker}
-use Rattle.t1_bytes.proofs.Grammars.{unspelled}
-use Rattle.t1_bytes.proofs.EexecLemmas.{eexec_exact}
 use Rattle.t1_font.specs.Markers.{encoding_marker}
 use Rattle.t1_font.specs.FontValue.{FontValue, Shell, SubrsShell, Numbered, declared_count, count_limit, weight_limit, weight}
 use Rattle.t1_font.specs.Cut.{stub}
@@ -21,7 +19,6 @@ use Rattle.t1_font.specs.Evening.{raised, even_shell, even, stubs_at, below, wit
 use Rattle.t1_font.specs.IsFont.{IsFont, NoMarker, IsCharstring, SubrsFit, SubrWords, IsWord, IsPhrase}
 use Rattle.t1_font.proofs.ByteLemmas.{AreBytes-append}
 use Rattle.t1_font.proofs.canonical.Borders.{fixed_strip}
-use Rattle.t1_font.proofs.MarkerLemmas.{encoding_marker_exact}
 use Rattle.t1_font.proofs.canonical.Moves.{NoneIn-append, encoding_moves, eexec_moves}
 use Rattle.t1_font.proofs.MapLemmas.{is_or_not, joined, get-merged, get-retain, find_first, Some_None}
 use Rattle.t1_font.proofs.Kept.{iv_small, merged_has}
@@ -48,11 +45,11 @@ not_some None h = refl
 not_some (Some x) h = absurd cc
 
 no_encoding_there : (name : List ℕ) → begins_encoding name ≡ false → NotAtFront encoding_marker (47 ∷ (name ++ 47 ∷ []))
-no_encoding_there name h = unspelled encoding_marker encoding_marker_exact (47 ∷ (name ++ 47 ∷ [])) (not_some (encoding_marker.read (47 ∷ (name ++ 47 ∷ []))) h)
+no_encoding_there name h = unspelled encoding_marker (47 ∷ (name ++ 47 ∷ [])) (not_some (encoding_marker.read (47 ∷ (name ++ 47 ∷ []))) h)
 
 no_eexec_there : (text : List ℕ) → NotAtFront eexec_marker (47 ∷ text)
 unfolding eexec_marker
-no_eexec_there text = unspelled eexec_marker eexec_exact (47 ∷ text) (ap (option_and_then _) (fixed_strip (codes "currentfile") (47 ∷ text)))
+no_eexec_there text = unspelled eexec_marker (47 ∷ text) (ap (option_and_then _) (fixed_strip (codes "currentfile") (47 ∷ text)))
 
 front_bytes : (xs ys : List ℕ) → AreBytes (xs ++ ys) → AreBytes xs
 front_bytes [] ys h = tt

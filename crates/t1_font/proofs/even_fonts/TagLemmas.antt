@@ -6,28 +6,18 @@ use Rattle.std.proofs.lemmas.Bool.{cases_Bool, eqb-true}
 use Rattle.std.proofs.lemmas.List.{length-append, take_at}
 use Rattle.std.proofs.lemmas.Slice.Eq.{bytes_eq-Decides}
 use Rattle.std.proofs.lemmas.Option.{none-some, same_Some}
-use Rattle.t1_bytes.specs.Grammar.{IsExact, first, fixed, before}
-use Rattle.t1_bytes.proofs.Grammars.{bind_exact, that_exact, count_exact, fixed_exact, first_exact}
-use Rattle.t1_bytes.proofs.EexecLemmas.{white_exact}
+use Rattle.t1_grammar.specs.Grammar.{first, fixed, before}
 use Rattle.t1_font.specs.Words.{is_regular}
 use Rattle.t1_font.specs.Markers.{encoding_marker, break_comes}
 use Rattle.t1_font.proofs.canonical.Borders.{strip, fixed_strip}
 use Rattle.t1_font.proofs.canonical.Moves.{is_slashless}
 use Rattle.t1_font.specs.Tags.{tag, name_marker, past_tag, behind_tags, untagged, begins_encoding, named_head, untagged_head}
 
-pub name_marker_exact : IsExact name_marker
-unfolding name_marker
-name_marker_exact = bind_exact _ _ (fixed_exact (codes "/FontName")) (λ _. bind_exact _ _ white_exact (λ _. fixed_exact (codes "/")))
-
-pub tag_exact : IsExact tag
-unfolding tag
-tag_exact = bind_exact _ _ (that_exact _ _ (count_exact 6)) (λ _. fixed_exact (codes "+"))
-
 -- a tag has bytes
 pub tag_shortens : (text : List ℕ) (x : List ℕ × List ℕ) → tag.read text ≡ Some x → length x.1 < length text
 unfolding tag
 tag_shortens text x e =
-    let s = tag_exact.takes text x e in
+    let s = tag.takes text x e in
     let six : length s.2.1 ≡ 6 = ap length s.2.4.0.0 ∙ s.2.4.0.1 in
     omega (arith, ap length s.1, length-append s.0 x.1, ap length s.2.3, length-append s.2.1 s.2.2, six)
 
@@ -40,7 +30,7 @@ EndsWith text end = (u : List ℕ) × (text ≡ u ++ end)
 ends_past : (n : ℕ) (text : List ℕ) → ((t : List ℕ) → EndsWith t (behind_tags n t)) → (o : Option (List ℕ × List ℕ)) → tag.read text ≡ o → EndsWith text (past_tag (behind_tags n) text o)
 ends_past n text h None e = ([], refl)
 ends_past n text h (Some x) e =
-    let s = tag_exact.takes text x e in
+    let s = tag.takes text x e in
     let r = h x.1 in
     (s.0 ++ r.0, s.1 ∙ (ap (λ (v : List ℕ). s.0 ++ v) r.1 ∙ sym (append_assoc s.0 r.0 (behind_tags n x.1))))
 
@@ -97,7 +87,7 @@ regrouped a b c e =
 pub named : (head : List ℕ) (x : (List ℕ × List ℕ) × List ℕ) → (first name_marker).read head ≡ Some x → Named head x.1
 unfolding name_marker
 named head x e =
-    let s = (first_exact name_marker name_marker_exact).takes head x e in
+    let s = (first name_marker).takes head x e in
     let m = s.2.2 in
     let n = m.5 in
     let slash : n.2 ≡ 47 ∷ [] = n.5.0.0 ∙ sym ((bytes_eq-Decides (codes "/") x.0.1).0 n.5.1) in

@@ -7,12 +7,11 @@ use Rattle.std.proofs.lemmas.Bool.{cases_Bool}
 use Rattle.std.proofs.lemmas.List.{length-append, take_at}
 use Rattle.std.proofs.lemmas.Option.{none-some}
 use Rattle.std.proofs.lemmas.Slice.Eq.{bytes_eq-Decides}
-use Rattle.t1_bytes.specs.Grammar.{first, fixed, NoneIn, Stops}
+use Rattle.t1_grammar.specs.Grammar.{first, fixed, NoneIn, Stops, unspelled, unread}
 use Rattle.t1_bytes.specs.White.{is_white, white}
-use Rattle.t1_bytes.proofs.Grammars.{first_exact, unspelled, unread}
 use Rattle.t1_font.proofs.canonical.Borders.{strip, fixed_strip}
 use Rattle.t1_font.proofs.canonical.Moves.{Alike, run_front, fixed_behind, slash_word, first_behind}
-use Rattle.t1_font.proofs.even_fonts.TagLemmas.{name_marker_exact, untagged_twice, no_name, no_tags_there, encoding_there}
+use Rattle.t1_font.proofs.even_fonts.TagLemmas.{untagged_twice, no_name, no_tags_there, encoding_there}
 use Rattle.t1_font.specs.Tags.{name_marker, untagged, begins_encoding, named_head, untagged_head}
 
 -- ---- no name of a font stands before the slash of another
@@ -46,7 +45,8 @@ module _ (r s : List ℕ) where
 
   name_moves : (front : List ℕ) → NoneIn name_marker front (47 ∷ r) → NoneIn name_marker front (47 ∷ s)
   name_moves [] h = tt
-  name_moves (b ∷ front) h = (unspelled name_marker name_marker_exact (b ∷ (front ++ 47 ∷ s)) (name_none b front (unread name_marker name_marker_exact (b ∷ (front ++ 47 ∷ r)) h.0)), name_moves front h.1)
+  name_moves (b ∷ front) h =
+      (unspelled name_marker (b ∷ (front ++ 47 ∷ s)) (name_none b front (unread name_marker (b ∷ (front ++ 47 ∷ r)) h.0)), name_moves front h.1)
 
 -- ---- the marker before another name
 
@@ -69,7 +69,7 @@ module _ (head : List ℕ) (x : (List ℕ × List ℕ) × List ℕ) (e : (first 
   -- another name behind the marker is found there
   found : (name : List ℕ) → (front : List ℕ) × (take (length head - length x.1) head ≡ front) × ((first name_marker).read (front ++ name) ≡ Some (x.0, name))
   found name =
-      let s = (first_exact name_marker name_marker_exact).takes head x e in
+      let s = (first name_marker).takes head x e in
       let own = s.2.0 in
       let b = begins_so x.0.1 own x.1 s.2.2 in
       let all : head ≡ (x.0.0 ++ own) ++ x.1 = s.1 ∙ ap (λ (u : List ℕ). u ++ x.1) s.2.1 in
@@ -78,7 +78,8 @@ module _ (head : List ℕ) (x : (List ℕ × List ℕ) × List ℕ) (e : (first 
       (name_moves (b.0 ++ x.1) (b.0 ++ name) x.0.0 (subst (λ (u : List ℕ). NoneIn name_marker x.0.0 (u ++ x.1)) b.1 s.2.3)) in (
         x.0.0 ++ own,
         ap (take (length head - length x.1)) all ∙ take_at (x.0.0 ++ own) x.1 (length head - length x.1) (omega (arith, ap length all, length-append (x.0.0 ++ own) x.1)),
-        ap (first name_marker).read (append_assoc x.0.0 own name) ∙ first_behind name_marker name_marker_exact x.0.0 (own ++ name) x.0.1 name none (name_marker_exact.again x.0.1 own name (before_any x.0.1 own x.1 name s.2.2)),
+        ap (first name_marker).read (append_assoc x.0.0 own name)
+            ∙ first_behind name_marker x.0.0 (own ++ name) x.0.1 name none (name_marker.again x.0.1 own name (before_any x.0.1 own x.1 name s.2.2)),
       )
 
   -- a head that lost its tags has none

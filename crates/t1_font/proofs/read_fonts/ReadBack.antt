@@ -6,13 +6,11 @@ use Rattle.std.specs.Option.{option_map, option_and_then}
 use Rattle.std.proofs.lemmas.Option.{none-some}
 use Rattle.std.proofs.lemmas.Bool.{cases_Bool}
 use Rattle.std.proofs.lemmas.List.{append-nil, length-append}
-use Rattle.t1_bytes.specs.Grammar.{Grammar, pure, ◌>>=◌, ◌>>◌, before, NoneIn, Stops, first, first_at, fixed}
+use Rattle.t1_grammar.specs.Grammar.{Grammar, pure, ◌>>=◌, ◌>>◌, before, NoneIn, Stops, first, first_at, fixed, unspelled, unread}
 use Rattle.t1_bytes.specs.White.{is_white, has_bytes, gap}
 use Rattle.t1_bytes.specs.Eexec.{eexec_marker, blank_comes}
-use Rattle.t1_bytes.proofs.Grammars.{first_exact, fixed_exact, unspelled, unread}
 use Rattle.t1_font.specs.Words.{is_regular, word, phrase_of, phrase_after, is_access}
 use Rattle.t1_font.specs.Markers.{closefile}
-use Rattle.t1_font.proofs.WordLemmas.{phrase_exact}
 use Rattle.t1_font.proofs.canonical.Borders.{strip, fixed_strip}
 use Rattle.t1_font.proofs.canonical.Written.{black, word_has}
 use Rattle.t1_font.proofs.canonical.Moves.{first_behind, run_front}
@@ -36,21 +34,27 @@ none_strip w bytes h = by_strip (strip w bytes) refl
 none_shrinks : (w front own u v : List ℕ) → length w ≤ length own → NoneIn (fixed w) front (own ++ u) → NoneIn (fixed w) front (own ++ v)
 none_shrinks w [] own u v h n = tt
 none_shrinks w (b ∷ front) own u v h n =
-    let before : strip w (((b ∷ front) ++ own) ++ u) ≡ None = ap (λ (t : List ℕ). strip w (b ∷ t)) (append_assoc front own u) ∙ none_strip w (b ∷ (front ++ (own ++ u))) (unread (fixed w) (fixed_exact w) (b ∷ (front ++ (own ++ u))) n.0) in
-    let after : strip w (b ∷ (front ++ (own ++ v))) ≡ None = ap (λ (t : List ℕ). strip w (b ∷ t)) (sym (append_assoc front own v)) ∙ strip_long w ((b ∷ front) ++ own) u v (omega (arith, length-append front own)) before in
-    (unspelled (fixed w) (fixed_exact w) (b ∷ (front ++ (own ++ v))) (fixed_strip w (b ∷ (front ++ (own ++ v))) ∙ ap (option_and_then (λ r. Some (w, r))) after), none_shrinks w front own u v h n.1)
+    let before : strip w (((b ∷ front) ++ own) ++ u) ≡ None =
+    ap (λ (t : List ℕ). strip w (b ∷ t)) (append_assoc front own u)
+    ∙ none_strip w (b ∷ (front ++ (own ++ u))) (unread (fixed w) (b ∷ (front ++ (own ++ u))) n.0) in
+    let after : strip w (b ∷ (front ++ (own ++ v))) ≡ None =
+    ap (λ (t : List ℕ). strip w (b ∷ t)) (sym (append_assoc front own v)) ∙ strip_long w ((b ∷ front) ++ own) u v (omega (arith, length-append front own)) before in (
+      unspelled (fixed w) (b ∷ (front ++ (own ++ v))) (fixed_strip w (b ∷ (front ++ (own ++ v)))
+          ∙ ap (option_and_then (λ r. Some (w, r))) after),
+      none_shrinks w front own u v h n.1,
+    )
 
 -- the first `closefile` of a text is the first of the text through it, and ends it
 pub tail_ends_of : (bytes : List ℕ) (x : (List ℕ × List ℕ) × List ℕ) → (first closefile).read bytes ≡ Some x → option_map (λ y. y.1) ((first closefile).read (x.0.0 ++ x.0.1)) ≡ Some []
 unfolding closefile
 tail_ends_of bytes x e =
     let w : List ℕ = codes "closefile" in
-    let s = (first_exact (fixed w) (fixed_exact w)).takes bytes x e in
+    let s = (first (fixed w)).takes bytes x e in
     let own_is : s.2.0 ≡ x.0.1 = s.2.2.0.0 in
     let long : length w ≤ length s.2.0 = omega (arith, ap length own_is, s.2.2.0.1) in
     let none : NoneIn (fixed w) x.0.0 (s.2.0 ++ []) = none_shrinks w x.0.0 s.2.0 x.1 [] long s.2.3 in
-    let read : (fixed w).read (s.2.0 ++ []) ≡ Some (x.0.1, []) = (fixed_exact w).again x.0.1 s.2.0 [] s.2.2 in
-    let found : first_at (fixed w) (x.0.0 ++ (s.2.0 ++ [])) ≡ Some ((x.0.0, x.0.1), []) = first_behind (fixed w) (fixed_exact w) x.0.0 (s.2.0 ++ []) x.0.1 [] none read in
+    let read : (fixed w).read (s.2.0 ++ []) ≡ Some (x.0.1, []) = (fixed w).again x.0.1 s.2.0 [] s.2.2 in
+    let found : first_at (fixed w) (x.0.0 ++ (s.2.0 ++ [])) ≡ Some ((x.0.0, x.0.1), []) = first_behind (fixed w) x.0.0 (s.2.0 ++ []) x.0.1 [] none read in
     let text : x.0.0 ++ x.0.1 ≡ x.0.0 ++ (s.2.0 ++ []) = ap (λ (t : List ℕ). x.0.0 ++ t) (sym own_is ∙ sym (append-nil s.2.0)) in
     ap (λ (t : List ℕ). option_map (λ y. y.1) (first_at (fixed w) t)) text ∙ ap (option_map (λ y. y.1)) found
 
@@ -71,7 +75,7 @@ spells_itself test p text rest s =
 
 -- and is read as a whole
 pub whole_of : (test : List ℕ → Bool) (p text rest : List ℕ) → (phrase_of test).Spells p text rest → (phrase_of test).read p ≡ Some (p, [])
-whole_of test p text rest s = ap (phrase_of test).read (sym (append-nil p)) ∙ (phrase_exact test).again p p [] (spells_itself test p text rest s)
+whole_of test p text rest s = ap (phrase_of test).read (sym (append-nil p)) ∙ (phrase_of test).again p p [] (spells_itself test p text rest s)
 
 -- ---- the end of the clear text, before another blank
 

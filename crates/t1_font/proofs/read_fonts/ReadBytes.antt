@@ -5,7 +5,8 @@ use Rattle.std.specs.List.{AllByRecursion, flat_map}
 use Rattle.std.proofs.lemmas.Nat.{xor_lt}
 use Rattle.std.proofs.lemmas.Bool.{cases_Bool, leb-true, agree_below_at}
 use Rattle.t1_bytes.specs.Cipher.{next_key, decrypted}
-use Rattle.t1_bytes.specs.Grammar.{Grammar, Entries}
+use Rattle.t1_grammar.specs.Grammar.{Grammar}
+use Rattle.t1_grammar.specs.Tables.{Entries}
 use Rattle.t1_bytes.specs.Segments.{segment, starts_segment, IsJoined, IsFlat}
 use Rattle.t1_bytes.specs.Eexec.{digit_value, paired, cipher_text}
 use Rattle.t1_bytes.specs.Laws.{AreBytes}

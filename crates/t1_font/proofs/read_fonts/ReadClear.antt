@@ -9,12 +9,11 @@ use Rattle.std.specs.Cmp.{nat_cmp_total}
 use Rattle.std.specs.FinMap.{nat_cmp-IsAntisymmetric}
 use Rattle.std.proofs.lemmas.List.{append-nil, length-append}
 use Rattle.std.proofs.lemmas.Bool.{cases_Bool}
-use Rattle.t1_bytes.specs.Grammar.{NoneIn, Stops, first, first_at, AtFront}
+use Rattle.t1_grammar.specs.Grammar.{NoneIn, Stops, first, first_at, AtFront, unspelled, unread}
+use Rattle.t1_grammar.proofs.Grammars.{that_read, run_read}
 use Rattle.t1_bytes.specs.White.{is_white, white, has_bytes, gap}
 use Rattle.t1_bytes.specs.Eexec.{eexec_marker, blank_comes}
 use Rattle.t1_bytes.specs.Laws.{AreBytes}
-use Rattle.t1_bytes.proofs.Grammars.{that_read, run_read, unspelled, unread}
-use Rattle.t1_bytes.proofs.EexecLemmas.{eexec_exact}
 use Rattle.t1_font.specs.Words.{is_regular, keyword, next_name}
 use Rattle.t1_font.specs.Markers.{encoding_marker}
 use Rattle.t1_font.specs.Encoding.{Opening, Whole, OpensPuts, OpensNames, encoding_start, encoding_word, code_entry, encoding_end, array_end, from_code}
@@ -166,9 +165,14 @@ blank_moves : (z core u v : List ℕ) → 11 ≤ length core → blank_comes u �
 blank_moves [] core u v long h k none = tt
 blank_moves (b ∷ z) core u v long h k none =
     let y : List ℕ = b ∷ (z ++ core) in
-    let before : eexec_marker.read (y ++ (codes "eexec" ++ u)) ≡ None = ap (λ (t : List ℕ). eexec_marker.read (b ∷ t)) (append_assoc z core (codes "eexec" ++ u)) ∙ unread eexec_marker eexec_exact (b ∷ (z ++ (core ++ (codes "eexec" ++ u)))) none.0 in
-    let moved : eexec_marker.read (y ++ (codes "eexec" ++ v)) ≡ None = eexec_alike y u v (omega (arith, long, length-append z core)) h k before in
-    (unspelled eexec_marker eexec_exact (b ∷ (z ++ (core ++ (codes "eexec" ++ v)))) (ap (λ (t : List ℕ). eexec_marker.read (b ∷ t)) (sym (append_assoc z core (codes "eexec" ++ v))) ∙ moved), blank_moves z core u v long h k none.1)
+    let before : eexec_marker.read (y ++ (codes "eexec" ++ u)) ≡ None =
+    ap (λ (t : List ℕ). eexec_marker.read (b ∷ t)) (append_assoc z core (codes "eexec" ++ u))
+    ∙ unread eexec_marker (b ∷ (z ++ (core ++ (codes "eexec" ++ u)))) none.0 in
+    let moved : eexec_marker.read (y ++ (codes "eexec" ++ v)) ≡ None = eexec_alike y u v (omega (arith, long, length-append z core)) h k before in (
+      unspelled eexec_marker (b ∷ (z ++ (core ++ (codes "eexec" ++ v))))
+          (ap (λ (t : List ℕ). eexec_marker.read (b ∷ t)) (sym (append_assoc z core (codes "eexec" ++ v))) ∙ moved),
+      blank_moves z core u v long h k none.1,
+    )
 
 -- the marker's text, up to its last word
 core_parts : (own after u : List ℕ) (m : IsMarker own after) → own ++ u ≡ (codes "currentfile" ++ m.between) ++ (codes "eexec" ++ u)
@@ -203,7 +207,8 @@ pub tail_through : (x tail front own after : List ℕ) → (x ++ codes "def") ++
 tail_through x tail front own after e m none = elim (meet (x ++ codes "def") tail front own e) [
   | inl s ↦
       let inner : NoneIn eexec_marker s.0 (own ++ after) = NoneIn-right eexec_marker (x ++ codes "def") s.0 (own ++ after) (subst (λ (u : List ℕ). NoneIn eexec_marker u (own ++ after)) s.1 none) in
-      let found : first_at eexec_marker (s.0 ++ (own ++ 10 ∷ [])) ≡ Some ((s.0, own), 10 ∷ []) = first_behind eexec_marker eexec_exact s.0 (own ++ 10 ∷ []) own (10 ∷ []) (line_moves s.0 own after m inner) (marker_read own after (10 ∷ []) m refl) in
+      let found : first_at eexec_marker (s.0 ++ (own ++ 10 ∷ [])) ≡ Some ((s.0, own), 10 ∷ []) =
+      first_behind eexec_marker s.0 (own ++ 10 ∷ []) own (10 ∷ []) (line_moves s.0 own after m inner) (marker_read own after (10 ∷ []) m refl) in
       let whole : tail ++ 10 ∷ [] ≡ s.0 ++ (own ++ 10 ∷ []) = ap (λ (u : List ℕ). u ++ 10 ∷ []) s.2 ∙ append_assoc s.0 own (10 ∷ []) in
       ap (λ (u : List ℕ). option_map (λ y. y.1) (first_at eexec_marker u)) whole ∙ ap (option_map (λ y. y.1)) found
   | inr s ↦ absurd (not_within x front own after tail s.0 s.1 s.2 s.3 m)

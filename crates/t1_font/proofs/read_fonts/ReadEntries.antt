@@ -7,7 +7,7 @@ use Rattle.std.specs.Cmp.{IsTotalOrder, Equal-is}
 use Rattle.std.specs.FinMap.{get, IsAntisymmetric}
 use Rattle.std.proofs.lemmas.Bool.{leb-true, ltb-true, and_parts}
 use Rattle.std.proofs.lemmas.List.{length-drop}
-use Rattle.t1_bytes.specs.Grammar.{Grammar, choice}
+use Rattle.t1_grammar.specs.Grammar.{Grammar, choice}
 use Rattle.t1_bytes.specs.Laws.{AreBytes}
 use Rattle.t1_bytes.specs.Cipher.{decrypted}
 use Rattle.t1_bytes.proofs.Ciphers.{length-decrypted}

@@ -9,12 +9,11 @@ use Rattle.std.specs.Cmp.Lexicographic.{nat_list_cmp_total}
 use Rattle.std.specs.FinMap.{find, contains_key, nat_cmp-IsAntisymmetric}
 use Rattle.t1_bytes.specs.declared.form.Form.TheVariants.{Pfb}
 use Rattle.t1_bytes.specs.Cipher.{decrypted}
-use Rattle.t1_bytes.specs.Grammar.{Stops, first, choice}
+use Rattle.t1_grammar.specs.Grammar.{Stops, first, choice, front_again}
 use Rattle.t1_bytes.specs.Laws.{AreBytes}
 use Rattle.t1_bytes.specs.Segments.{starts_segment, IsFlat}
 use Rattle.t1_bytes.proofs.ContainerLaws.{one_flat}
 use Rattle.t1_bytes.proofs.Ciphers.{decrypted-is}
-use Rattle.t1_bytes.proofs.Grammars.{first_exact, front_again}
 use Rattle.t1_font.specs.Words.{is_regular}
 use Rattle.t1_font.specs.Entry.{plain_entries}
 use Rattle.t1_font.specs.Subrs.{Subr}
@@ -29,7 +28,7 @@ use Rattle.t1_font.specs.Spelling.{IsPrivate, IsCut, Texts, Spells}
 use Rattle.t1_font.specs.Canon.{canon}
 use Rattle.t1_font.specs.IsFont.{IsWord, IsPhrase, IsPrivateShell, SubrWords, SubrsFit, AreGlyphs, IsFont, HasBytes}
 use Rattle.t1_font.proofs.MapLaws.{entries-map_of, find-last}
-use Rattle.t1_font.proofs.MarkerLemmas.{closefile_exact, close_parts}
+use Rattle.t1_font.proofs.MarkerLemmas.{close_parts}
 use Rattle.t1_font.proofs.ReadRight.{reads}
 use Rattle.t1_font.proofs.ReadAgain.{is_iv}
 use Rattle.t1_font.proofs.ValueLaws.{notdef_is}
@@ -116,7 +115,7 @@ private_of text c p s h =
     let t = s.before.glyphs in
     let a = parts_bytes s.before.start t.0 s.after t.1 m.0.after in
     let b = parts_bytes t.0 t.2.0 t.2.1 t.2.2 a.0 in
-    let found = front_again (first closefile) (first_exact closefile closefile_exact) s.after ((s.front, s.own), s.rest) s.close in
+    let found = front_again (first closefile) s.after ((s.front, s.own), s.rest) s.close in
     let whole : s.after ≡ p.tail ++ s.rest = close_parts s.after s.front s.own s.rest found ∙ ap (λ (u : List ℕ). u ++ s.rest) (sym s.tail) in
     record {
       shell = record {

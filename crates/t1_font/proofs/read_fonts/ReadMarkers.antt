@@ -5,7 +5,7 @@ use Rattle.std.specs.List.{AllByRecursion}
 use Rattle.std.proofs.lemmas.Slice.Eq.{bytes_eq-Decides}
 use Rattle.std.proofs.lemmas.Bool.{cases_Bool, eqb-true}
 use Rattle.std.proofs.lemmas.List.{append-nil, length-append}
-use Rattle.t1_bytes.specs.Grammar.{Grammar, fixed, NotAtFront, NoneIn, Lacks}
+use Rattle.t1_grammar.specs.Grammar.{Grammar, fixed, NotAtFront, NoneIn, Lacks}
 use Rattle.t1_bytes.specs.White.{is_white, has_bytes, gap}
 use Rattle.t1_bytes.specs.Eexec.{eexec_marker, blank_comes}
 use Rattle.t1_font.specs.Markers.{encoding_marker, subrs_marker, chars_marker}

@@ -2,7 +2,8 @@
 use Rattle.std.proofs.Common.{◌≡◌, ℕ, ◌<◌, Bool, true, false, List, [], ◌∷◌, ◌++◌, length, Option, Some, None, refl, sym, ap, subst, ◌∙◌, append_assoc, arith}
 use Rattle.std.specs.List.{AllByRecursion}
 use Rattle.std.proofs.lemmas.List.{append-nil, length-append}
-use Rattle.t1_bytes.specs.Grammar.{NoneIn, Stops, first, TableAt}
+use Rattle.t1_grammar.specs.Grammar.{NoneIn, Stops, first}
+use Rattle.t1_grammar.specs.Tables.{TableAt}
 use Rattle.t1_bytes.specs.Laws.{AreBytes}
 use Rattle.t1_font.specs.Words.{is_regular, word, keyword, phrase_of, phrase_after, is_access, passes}
 use Rattle.t1_font.specs.Subrs.{Subr, subr, subrs_end}

@@ -7,7 +7,8 @@ use Rattle.t1_bytes.specs.declared.form.Form.{Form}
 use Rattle.t1_bytes.specs.declared.form.Form.TheVariants.{Pfa, Pfb}
 use Rattle.t1_bytes.specs.Cipher.{private_cipher}
 use Rattle.t1_bytes.specs.Eexec.{paired, eexec_marker, cipher_text}
-use Rattle.t1_bytes.specs.Grammar.{table_within, first_at}
+use Rattle.t1_grammar.specs.Grammar.{first_at}
+use Rattle.t1_grammar.specs.Tables.{table_within}
 use Rattle.t1_bytes.specs.White.{gap}
 use Rattle.t1_bytes.specs.Texts.{file_text, zero_lines}
 use Rattle.t1_font.specs.declared.fault.ReadFault.TheVariants.{BadSegment, NoEexec, ShortCipher}

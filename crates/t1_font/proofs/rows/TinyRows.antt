@@ -4,7 +4,8 @@ use Rattle.std.proofs.lemmas.Bool.{le-leb, lt-leb}
 use Rattle.std.specs.Prelude.{codes}
 use Rattle.std.specs.Ordering.{nat_cmp}
 use Rattle.std.specs.FinMap.{find}
-use Rattle.t1_bytes.specs.Grammar.{table_within, first_at}
+use Rattle.t1_grammar.specs.Grammar.{first_at}
+use Rattle.t1_grammar.specs.Tables.{table_within}
 use Rattle.t1_bytes.specs.White.{gap}
 use Rattle.t1_font.specs.declared.fault.ReadFault.TheVariants.{BadEncoding, BadLenIV, BadSubrs, BadGlyphs, Hybrid, NoNotdef, Limit}
 use Rattle.t1_font.specs.Words.{one_white, word, keyword, decimal, name, phrase_of, next_name}

@@ -1,18 +1,19 @@
-use Rattle.t1_bytes.proofs.Grammars.{count_exact, fixed_exact, first_exact}
-use Rattle.t1_bytes.proofs.SegmentLemmas.{segment_exact, end_exact}
-use Rattle.t1_bytes.proofs.EexecLemmas.{white_exact, gap_exact, eexec_exact, hex_exact, cipher_exact}
 use Rattle.t1_bytes.proofs.laws.reads_as_spelled.Goals as goal
+use Rattle.t1_bytes.specs.Eexec.{cipher_text, eexec_marker, hex_cipher}
+use Rattle.t1_grammar.specs.Grammar.{exact, count, first, fixed}
+use Rattle.t1_bytes.specs.Segments.{end, segment}
+use Rattle.t1_bytes.specs.White.{gap, white}
 
 pub returns : goal.returns
 returns c = record {
-  counts = count_exact;
-  texts = fixed_exact;
-  whites = white_exact;
-  gaps = gap_exact;
-  segments = segment_exact;
-  ends = end_exact;
-  markers = eexec_exact;
-  first_markers = first_exact _ eexec_exact;
-  hex_ciphers = hex_exact;
-  ciphers = cipher_exact;
+  counts = λ n. exact (count n);
+  texts = λ text. exact (fixed text);
+  whites = exact white;
+  gaps = exact gap;
+  segments = exact segment;
+  ends = exact end;
+  markers = exact eexec_marker;
+  first_markers = exact (first eexec_marker);
+  hex_ciphers = exact hex_cipher;
+  ciphers = exact cipher_text;
 }

@@ -1,44 +1,47 @@
-use Rattle.t1_bytes.proofs.Grammars.{first_exact}
-use Rattle.t1_font.proofs.WordLemmas.{one_white_exact, word_exact, keyword_exact, decimal_exact, name_exact, phrase_exact}
-use Rattle.t1_font.proofs.MarkerLemmas.{encoding_marker_exact, subrs_marker_exact, chars_marker_exact, len_iv_marker_exact, len_iv_exact, closefile_exact, encoding_word_exact, encoding_table_exact, encoding_loop_exact, encoding_start_exact, octal_exact, code_exact, code_entry_exact, encoding_end_exact, array_start_exact, array_end_exact}
-use Rattle.t1_font.proofs.EntryLemmas.{length_exact, body_exact, subr_key_exact, subr_exact, subrs_end_exact, next_name_exact, glyph_exact, glyphs_end_exact}
 use Rattle.t1_font.proofs.laws.reads_as_spelled.Goals as goal
+use Rattle.t1_font.specs.Encoding.{array_end, array_start, code, code_entry, encoding_end, encoding_loop, encoding_start, encoding_table, encoding_word, octal}
+use Rattle.t1_font.specs.Entry.{body, length_from}
+use Rattle.t1_font.specs.Markers.{chars_marker, closefile, encoding_marker, len_iv, len_iv_marker, subrs_marker}
+use Rattle.t1_font.specs.Words.{decimal, keyword, name, next_name, one_white, phrase_of, word}
+use Rattle.t1_grammar.specs.Grammar.{exact, first}
+use Rattle.t1_font.specs.Glyphs.{glyph, glyphs_end}
+use Rattle.t1_font.specs.Subrs.{subr, subr_key, subrs_end}
 
 pub returns : goal.returns
 returns c = record {
-  words = word_exact;
-  keywords = keyword_exact;
-  numbers = decimal_exact;
-  names = name_exact;
-  phrases = phrase_exact;
-  blanks = one_white_exact;
-  encoding_markers = encoding_marker_exact;
-  encodings = first_exact _ encoding_marker_exact;
-  encoding_words = encoding_word_exact;
-  encoding_tables = encoding_table_exact;
-  encoding_loops = encoding_loop_exact;
-  starts = encoding_start_exact;
-  octals = octal_exact;
-  code_numbers = code_exact;
-  codes = code_entry_exact;
-  encoding_ends = encoding_end_exact;
-  array_starts = array_start_exact;
-  array_ends = array_end_exact;
-  len_iv_markers = len_iv_marker_exact;
-  lenIVs = first_exact _ len_iv_marker_exact;
-  lead_counts = len_iv_exact;
-  subrs_markers = subrs_marker_exact;
-  tables = first_exact _ subrs_marker_exact;
-  lengths = length_exact;
-  bodies = body_exact;
-  subr_keys = subr_key_exact;
-  subrs = subr_exact;
-  subrs_ends = subrs_end_exact;
-  chars_markers = chars_marker_exact;
-  charstrings = first_exact _ chars_marker_exact;
-  next_names = next_name_exact;
-  glyphs = glyph_exact;
-  glyphs_ends = glyphs_end_exact;
-  close_markers = closefile_exact;
-  closes = first_exact _ closefile_exact;
+  words = exact word;
+  keywords = λ w. exact (keyword w);
+  numbers = exact decimal;
+  names = exact name;
+  phrases = λ test. exact (phrase_of test);
+  blanks = exact one_white;
+  encoding_markers = exact encoding_marker;
+  encodings = exact (first encoding_marker);
+  encoding_words = exact encoding_word;
+  encoding_tables = exact encoding_table;
+  encoding_loops = exact encoding_loop;
+  starts = exact encoding_start;
+  octals = exact octal;
+  code_numbers = exact code;
+  codes = exact code_entry;
+  encoding_ends = exact encoding_end;
+  array_starts = exact array_start;
+  array_ends = exact array_end;
+  len_iv_markers = exact len_iv_marker;
+  lenIVs = exact (first len_iv_marker);
+  lead_counts = exact len_iv;
+  subrs_markers = exact subrs_marker;
+  tables = exact (first subrs_marker);
+  lengths = λ iv. exact (length_from iv);
+  bodies = λ iv. exact (body iv);
+  subr_keys = λ declared. exact (subr_key declared);
+  subrs = λ declared iv. exact (subr declared iv);
+  subrs_ends = exact subrs_end;
+  chars_markers = exact chars_marker;
+  charstrings = exact (first chars_marker);
+  next_names = exact next_name;
+  glyphs = λ iv. exact (glyph iv);
+  glyphs_ends = exact glyphs_end;
+  close_markers = exact closefile;
+  closes = exact (first closefile);
 }

@@ -1,5 +1,5 @@
 use Rattle.std.proofs.Common.{rules, ◌≡◌, List, ℕ, drop, Some, sym, ap, ◌∙◌, arith}
-use Rattle.t1_bytes.specs.Grammar.{first_at}
+use Rattle.t1_grammar.specs.Grammar.{first_at}
 use Rattle.t1_bytes.proofs.Places.{found_at, passed_at, nowhere_at}
 use Rattle.t1_font.proofs.markers.first.Goals as goal
 

@@ -1,21 +1,19 @@
 use Rattle.std.proofs.Common.{◌≡◌, ◌∙◌, ap, arith, sym, refl, Some, None, length, ℕ, List, [], ◌≤◌}
 use Rattle.std.proofs.lemmas.Bool.{lt-ltb, le-ltb}
-use Rattle.t1_bytes.specs.Grammar.{first}
-use Rattle.t1_bytes.proofs.Grammars.{first_exact}
+use Rattle.t1_grammar.specs.Grammar.{first}
 use Rattle.t1_font.specs.Gathering.{Entries}
 use Rattle.t1_font.specs.Markers.{chars_marker, subrs_marker}
 use Rattle.t1_font.specs.Pieces.{before_place, private_pieces, tables_from}
 use Rattle.t1_font.proofs.AnswersRight.{shown_same}
-use Rattle.t1_font.proofs.MarkerLemmas.{chars_marker_exact, subrs_marker_exact}
 use Rattle.t1_font.proofs.PlaceLemmas.{ending_read, no_longer}
 use Rattle.t1_font.proofs.private.private_parts.Goals as goal
 use Rattle.t1_font.proofs.private.private_parts.Goals.{in-Some-first+else-private-front, in_default-first}
 
 pub pass_to-requires : goal.pass_to-requires
-pass_to-requires c = omega (arith, ap length c.rest-text.ensures, no_longer (first subrs_marker) (first_exact subrs_marker subrs_marker_exact) c.rest-text.result.now _ (sym c.in-Some-first.ensures))
+pass_to-requires c = omega (arith, ap length c.rest-text.ensures, no_longer (first subrs_marker) c.rest-text.result.now _ (sym c.in-Some-first.ensures))
 
 pub pass_to-requires-2 : goal.pass_to-requires-2
-pass_to-requires-2 c = omega (arith, ap length c.rest-text.ensures, no_longer (first chars_marker) (first_exact chars_marker chars_marker_exact) c.rest-text.result.now _ (sym c.in-Some.ensures))
+pass_to-requires-2 c = omega (arith, ap length c.rest-text.ensures, no_longer (first chars_marker) c.rest-text.result.now _ (sym c.in-Some.ensures))
 
 chars_found : (text here : List ℕ) (front glyphs : List ℕ) → here ≡ text → Some ((front, tt), glyphs) ≡ (first chars_marker).read here → (first chars_marker).read text ≡ Some ((front, tt), glyphs)
 chars_found text here front glyphs is e = ap (first chars_marker).read (sym is) ∙ sym e
@@ -27,7 +25,8 @@ returns-then-private-front-clause-shown c =
     let place : (List ℕ × ℕ) × List ℕ = ((c.in-Some-first.private.now, c.in-Some-first.subrs.declared), c.in-Some-first.entries.now) in
     let chars = chars_found text c.rest-text.result.now c.in-Some.front.now c.in-Some.glyphs.now c.rest-text.ensures c.in-Some.ensures in
     let subrs : (first subrs_marker).read text ≡ Some place = ap (first subrs_marker).read (sym c.rest-text.ensures) ∙ sym c.in-Some-first.ensures in
-    let rest : c.pass_to.new.self.rest ≡ c.in-Some-first.entries.now = ap (λ (g : Entries). g.rest) c.pass_to.ensures ∙ ending_read (first subrs_marker) (first_exact subrs_marker subrs_marker_exact) text place subrs in
+    let rest : c.pass_to.new.self.rest ≡ c.in-Some-first.entries.now =
+    ap (λ (g : Entries). g.rest) c.pass_to.ensures ∙ ending_read (first subrs_marker) text place subrs in
     shown_same _ c.tables_with.result _ (tables_from (length c.rest-text.result.now) (([], tt), []) (Some ((c.in_ok-private.private.items, c.in-Some-first.subrs.declared), c.pass_to.new.self.rest)))
     (rw (chars, subrs, lt-ltb (length c.in-Some-first.private.now) (length c.in-Some.front.now) c.if-private-front.true) (λ i. tables_from (length (sym c.rest-text.ensures i)) (([], tt), []) (Some ((sym c.in_ok-private.ensures.items i, c.in-Some-first.subrs.declared), sym rest i))))
     c.tables_with.ensures.shown
@@ -50,7 +49,8 @@ pub returns-clause-shown : goal.returns-clause-shown
 unfolding private_pieces
 returns-clause-shown c =
     let found = chars_found c.args.gathered.now.rest c.rest-text.result.now c.in-Some.front.now c.in-Some.glyphs.now c.rest-text.ensures c.in-Some.ensures in
-    let rest : c.pass_to-2.new.self.rest ≡ c.in-Some.glyphs.now = ap (λ (g : Entries). g.rest) c.pass_to-2.ensures ∙ ending_read (first chars_marker) (first_exact chars_marker chars_marker_exact) c.args.gathered.now.rest _ found in
+    let rest : c.pass_to-2.new.self.rest ≡ c.in-Some.glyphs.now =
+    ap (λ (g : Entries). g.rest) c.pass_to-2.ensures ∙ ending_read (first chars_marker) c.args.gathered.now.rest _ found in
     shown_same _ c.tables_without.result _ (tables_from (length c.rest-text.result.now) ((c.in_ok-private-2.private.items, tt), c.pass_to-2.new.self.rest) None)
     (rw found (ap (tables_from (length c.args.gathered.now.rest) ((c.in-Some.front.now, tt), c.in-Some.glyphs.now)) (none_before c) ∙ (λ i. tables_from (length (sym c.rest-text.ensures i)) ((sym c.in_ok-private-2.ensures.items i, tt), sym rest i) None)))
     c.tables_without.ensures.shown

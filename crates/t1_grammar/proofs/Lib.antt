@@ -1,0 +1,4 @@
+pub mod Grammars
+pub mod Tables
+pub mod Counted
+pub mod Places
