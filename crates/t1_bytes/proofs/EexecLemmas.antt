@@ -14,7 +14,7 @@ use Rattle.t1_bytes.specs.White.{gap}
 use Rattle.t1_bytes.specs.Eexec.{eexec_marker, cipher_text, cipher_in, last_bytes, IsSplit, SplitFails, or_short, split_after, split_of}
 use Rattle.t1_bytes.specs.Faults.{Refused, Answers, OrMemory}
 use Rattle.t1_bytes.proofs.HexLemmas.{same_Ok}
-use Rattle.t1_grammar.proofs.Places.{unread_lacks, lacks_unread}
+use Rattle.t1_grammar.specs.Places.{unread_lacks, lacks_unread}
 
 -- the marker can be read only where `currentfile` stands
 pub eexec_begins : Begins (codes "currentfile") eexec_marker

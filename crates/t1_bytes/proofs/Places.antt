@@ -6,7 +6,7 @@ use Rattle.std.proofs.lemmas.Slice.Eq.{bytes_eq-Decides}
 use Rattle.std.proofs.lemmas.Bool.{cases_lt}
 use Rattle.bstr.specs.Find.{OccursAt, Nowhere}
 use Rattle.t1_grammar.specs.Grammar.{Grammar, fixed, first_at, Begins}
-use Rattle.t1_grammar.proofs.Places.{NoneBelow, first_found, first_nowhere, one_more}
+use Rattle.t1_grammar.specs.Places.{NoneBelow, first_found, first_nowhere, one_more}
 
 -- where a text stands, its bytes occur
 fixed_occurs : (w bytes : List ℕ) (k : ℕ) (x : List ℕ × List ℕ) → (fixed w).read (drop k bytes) ≡ Some x → k ≤ length bytes → OccursAt bytes w k

@@ -15,7 +15,7 @@ use Rattle.t1_font.specs.IsFont.{IsFont}
 use Rattle.t1_font.specs.ReadFont.{read_font}
 use Rattle.t1_font.specs.Spelling.{Spells}
 use Rattle.t1_font.specs.WriteLaws.{Fits}
-use Rattle.t1_font.proofs.ReadAgain.{reads_again, one_font}
+use Rattle.t1_font.proofs.Spelled.{reads_again, one_font}
 use Rattle.t1_font.proofs.canonical.RoundTrip.{round_trip}
 use Rattle.t1_subset.specs.declared.fault.SubsetFault.{SubsetFault}
 use Rattle.t1_subset.specs.declared.fault.SubsetFault.TheVariants as subsetting

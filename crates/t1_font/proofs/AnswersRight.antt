@@ -5,9 +5,8 @@ use Rattle.t1_font.specs.declared.fault.ReadFault.{ReadFault}
 use Rattle.t1_font.specs.declared.fault.ReadFault.TheVariants.{TooLong, BadSegment, NoEexec, ShortCipher, NoEncoding, BadEncoding, NoCharStrings, BadLenIV, BadSubrs, BadGlyphs, Hybrid, NoClosefile, NoNotdef, Limit, Memory}
 use Rattle.t1_font.specs.ReadFont.{read_font}
 use Rattle.t1_font.specs.Reasons.{Refuses}
-use Rattle.t1_font.specs.Reading.{Reading}
 use Rattle.t1_font.specs.Answers.{Refused, Shown, Answers}
-use Rattle.t1_font.proofs.ReadRight.{refuses}
+use Rattle.t1_font.proofs.Spelled.{refuses}
 
 -- the bytes of a slice are bytes
 pub bytes_of_slice : (xs : List ℕ) → ((i : ℕ) → Fits w8 (get_or xs i 0)) → AreBytes xs
@@ -15,12 +14,12 @@ bytes_of_slice [] h = tt
 bytes_of_slice (x ∷ xs) h = ((h 0).fits, bytes_of_slice xs (λ i. h (suc i)))
 
 -- what shows one reading shows another that reads the same
-pub shown_same : {X A : Type 0} (Shows : X → A → Type 0) (x : Result X ReadFault) (r s : Reading A) → r ≡ s → Shown Shows x s → Shown Shows x r
+pub shown_same : {X A : Type 0} (Shows : X → A → Type 0) (x : Result X ReadFault) (r s : Result A ReadFault) → r ≡ s → Shown Shows x s → Shown Shows x r
 shown_same Shows (Ok x) r s same h = (h.0, same ∙ h.1, h.2)
 shown_same Shows (Err e) r s same h = subst (Refused e) (sym same) h
 
 -- what answers one reading answers another that reads the same
-pub answers_same : {X : Type 0} (x : Result X ReadFault) (r s : Reading X) → r ≡ s → Answers (λ v. v) x s → Answers (λ v. v) x r
+pub answers_same : {X : Type 0} (x : Result X ReadFault) (r s : Result X ReadFault) → r ≡ s → Answers (λ v. v) x s → Answers (λ v. v) x r
 answers_same (Ok x) r s same h = same ∙ h
 answers_same (Err e) r s same h = subst (Refused e) (sym same) h
 

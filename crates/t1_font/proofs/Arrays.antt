@@ -4,7 +4,7 @@ use Rattle.std.specs.FinMap.{insert}
 use Rattle.std.specs.Ordering.{nat_cmp}
 use Rattle.std.proofs.lemmas.List.{length-append}
 use Rattle.t1_grammar.specs.Tables.{with_front, counted_at}
-use Rattle.t1_grammar.proofs.Counted.{counted_turn, counted_stops, counted_closes, counted_unclosed}
+use Rattle.t1_grammar.specs.CountedLaws.{counted_turn, counted_stops, counted_closes, counted_unclosed}
 use Rattle.t1_font.specs.Words.{next_name}
 use Rattle.t1_font.specs.Encoding.{code_count, array_end, from_code}
 use Rattle.t1_font.specs.Entries.{map_of}

@@ -7,14 +7,15 @@ use Rattle.t1_bytes.specs.declared.fault.BytesFault.TheVariants.{BadSegment, NoE
 use Rattle.t1_grammar.specs.Grammar.{first, front_again, unread}
 use Rattle.t1_bytes.specs.Eexec.{eexec_marker, cipher_text, IsSplit, SplitFails}
 use Rattle.t1_bytes.specs.Faults.{OrMemory}
-use Rattle.t1_grammar.proofs.Places.{lacks_unread}
+use Rattle.t1_grammar.specs.Places.{lacks_unread}
 use Rattle.t1_bytes.proofs.EexecLemmas.{marker_own}
 use Rattle.t1_font.specs.Faults.{read_fault}
 use Rattle.t1_font.specs.Answers.{Refused}
 use Rattle.t1_font.specs.Pieces.{FlatPieces, flat_pieces}
 
 -- the parts of a split are the pieces of the flat text
-pub split_pieces : (flat : List ℕ) (at : ℕ) (cipher : List ℕ) → IsSplit flat at cipher → (p : FlatPieces) × (flat_pieces flat ≡ Ok p) × ((take at flat ≡ p.clear) × (cipher ≡ p.cipher))
+pub split_pieces : (flat : List ℕ) (at : ℕ) (cipher : List ℕ) → IsSplit flat at cipher →
+    (p : FlatPieces) × ((flat_pieces flat).read ≡ Ok p) × ((take at flat ≡ p.clear) × (cipher ≡ p.cipher))
 unfolding flat_pieces
 split_pieces flat at cipher s =
     let m = s.first_marker in
@@ -40,7 +41,7 @@ unfolding cipher_text
 split_lead flat at cipher s = leb-true 4 (length cipher) s.secret.2.1
 
 -- where there is no split, the pieces are refused for the same reason
-pub split_fails : (flat : List ℕ) (fault : BytesFault) → OrMemory (SplitFails flat) fault → Refused (read_fault fault) (flat_pieces flat)
+pub split_fails : (flat : List ℕ) (fault : BytesFault) → OrMemory (SplitFails flat) fault → Refused (read_fault fault) (flat_pieces flat).read
 unfolding flat_pieces
 split_fails flat Memory h = tt
 split_fails flat NoEexec h = rw (lacks_unread eexec_marker flat h) refl

@@ -16,7 +16,8 @@ use Rattle.std.specs.Option.{option_map}
 use Rattle.t1_font.proofs.ValueLaws.{within_of, within_again}
 
 -- a font without `.notdef`
-pub lacks_notdef : (c : ClearPieces) (p : PrivatePieces) (x : PrivateParts) (g : Entries) → ShowsPrivate x g p → x.glyphs.has_notdef ≡ false → font_from c p ≡ Err NoNotdef
+pub lacks_notdef : (c : ClearPieces) (p : PrivatePieces) (x : PrivateParts) (g : Entries) → ShowsPrivate x g p → x.glyphs.has_notdef ≡ false →
+    (font_from c p).read ≡ Err NoNotdef
 unfolding font_from
 lacks_notdef c p x g shows none = rw (sym shows.glyphs.notdef ∙ none) refl
 
@@ -36,20 +37,24 @@ not_within c p h = by_test (within c p) refl
     by_test true e = absurd (h (within_of c p e))
     by_test false e = refl
 
-over : (c : ClearPieces) (p : PrivatePieces) (x : PrivateParts) (g : Entries) → ShowsPrivate x g p → x.glyphs.has_notdef ≡ true → within c p ≡ false → font_from c p ≡ Err Limit
+over : (c : ClearPieces) (p : PrivatePieces) (x : PrivateParts) (g : Entries) → ShowsPrivate x g p → x.glyphs.has_notdef ≡ true →
+    within c p ≡ false → (font_from c p).read ≡ Err Limit
 unfolding font_from
 over c p x g shows there no_room = rw (sym shows.glyphs.notdef ∙ there, no_room) refl
 
 -- more Subrs are declared than a font may have
-pub declared_over : (c : ClearPieces) (p : PrivatePieces) (x : PrivateParts) (g : Entries) → ShowsPrivate x g p → x.glyphs.has_notdef ≡ true → count_limit < declared_in x.subrs → font_from c p ≡ Err Limit
+pub declared_over : (c : ClearPieces) (p : PrivatePieces) (x : PrivateParts) (g : Entries) → ShowsPrivate x g p → x.glyphs.has_notdef ≡ true →
+    count_limit < declared_in x.subrs → (font_from c p).read ≡ Err Limit
 declared_over c p x g shows there many = over c p x g shows there (not_within c p (λ w. omega (arith, same_declared x.subrs p.subrs shows.subrs, w.declared, many)))
 
 -- more glyphs are there
-pub glyphs_over : (c : ClearPieces) (p : PrivatePieces) (x : PrivateParts) (g : Entries) (f : FontValue) → ShowsPrivate x g p → x.glyphs.has_notdef ≡ true → f ≡ font_of c p → count_limit < len f.glyphs → font_from c p ≡ Err Limit
+pub glyphs_over : (c : ClearPieces) (p : PrivatePieces) (x : PrivateParts) (g : Entries) (f : FontValue) → ShowsPrivate x g p →
+    x.glyphs.has_notdef ≡ true → f ≡ font_of c p → count_limit < len f.glyphs → (font_from c p).read ≡ Err Limit
 glyphs_over c p x g f shows there same many = over c p x g shows there (not_within c p (λ w. omega (arith, ap (λ (v : FontValue). len v.glyphs) same, w.glyphs, many)))
 
 -- a font over the weight limit is refused as Limit
-pub weight_over : (c : ClearPieces) (p : PrivatePieces) (x : PrivateParts) (g : Entries) (f : FontValue) (n : ℕ) → ShowsPrivate x g p → x.glyphs.has_notdef ≡ true → f ≡ font_of c p → n ≡ clamp (weight f) → weight_limit < n → font_from c p ≡ Err Limit
+pub weight_over : (c : ClearPieces) (p : PrivatePieces) (x : PrivateParts) (g : Entries) (f : FontValue) (n : ℕ) → ShowsPrivate x g p →
+    x.glyphs.has_notdef ≡ true → f ≡ font_of c p → n ≡ clamp (weight f) → weight_limit < n → (font_from c p).read ≡ Err Limit
 weight_over c p x g f n shows there same is heavy = over c p x g shows there (not_within c p (λ w. heavier (weight f) n (subst (λ (v : FontValue). weight v ≤ weight_limit) (sym same) w.weight) is heavy))
   where
     heavier : (m n : ℕ) → m ≤ weight_limit → n ≡ clamp m → weight_limit < n → ⊥
@@ -57,7 +62,7 @@ weight_over c p x g f n shows there same is heavy = over c p x g shows there (no
 
 -- a font within the limits
 pub font_is : (c : ClearPieces) (p : PrivatePieces) (x : PrivateParts) (g : Entries) (f : FontValue) (n : ℕ) → ShowsPrivate x g p → x.glyphs.has_notdef ≡ true →
-    declared_in x.subrs ≤ count_limit → len f.glyphs ≤ count_limit → f ≡ font_of c p → n ≡ clamp (weight f) → n ≤ weight_limit → font_from c p ≡ Ok f
+    declared_in x.subrs ≤ count_limit → len f.glyphs ≤ count_limit → f ≡ font_of c p → n ≡ clamp (weight f) → n ≤ weight_limit → (font_from c p).read ≡ Ok f
 unfolding font_from
 font_is c p x g f n shows there few_subrs few_glyphs same is light =
     let declared : declared_count (shell_of c p).subrs ≤ count_limit = subst (λ (k : ℕ). k ≤ count_limit) (same_declared x.subrs p.subrs shows.subrs) few_subrs in

@@ -2,7 +2,7 @@
 use Rattle.std.proofs.Common.{◌≡◌, ℕ, inl, inr, true, false, true≢false, List, Option, Some, None, is_some, refl, sym, ap}
 use Rattle.std.proofs.lemmas.Bool.{cases_Bool}
 use Rattle.t1_grammar.specs.Grammar.{first, Has, Lacks}
-use Rattle.t1_grammar.proofs.Places.{unread_lacks, lacks_unread, found_has}
+use Rattle.t1_grammar.specs.Places.{unread_lacks, lacks_unread, found_has}
 use Rattle.t1_font.specs.Markers.{subrs_marker}
 use Rattle.t1_font.specs.Pieces.{has_subrs}
 

@@ -18,11 +18,11 @@ use Rattle.t1_font.specs.IsFont.{IsFont, IsWord, IsCharstring, SubrsFit, SubrWor
 use Rattle.t1_font.specs.WriteLaws.{SameKind}
 use Rattle.t1_font.proofs.MapLemmas.{get-map_values, entries-map_values, get-retain, get-merged, total-le, length_total, joined, Some_same, Some_None}
 use Rattle.std.specs.Cmp.Lexicographic.{nat_list_cmp_total}
-use Rattle.t1_font.proofs.ReadRight.{iv_is}
+use Rattle.t1_font.proofs.Spelled.{iv_is}
 use Rattle.t1_font.proofs.canonical.FontAgain.{name_same}
 
 -- lenIV is at most 255
-pub iv_small : (private : List ℕ) (iv : ℕ) → iv_of private ≡ Ok iv → iv ≤ 255
+pub iv_small : (private : List ℕ) (iv : ℕ) → (iv_of private).read ≡ Ok iv → iv ≤ 255
 unfolding len_iv
 iv_small private iv h = by_said (iv_is private iv h)
   where

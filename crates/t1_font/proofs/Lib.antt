@@ -3,7 +3,6 @@ pub mod MarkerLemmas
 pub mod Lasts
 pub mod Joining
 pub mod PartsOfOne
-pub mod EntryLemmas
 pub mod MapLaws
 pub mod Buffers
 pub mod Drains
@@ -21,9 +20,7 @@ pub mod Lengths
 pub mod canonical
 pub mod ValueLaws
 pub mod HasSubrs
-pub mod ReadingLaws
-pub mod ReadRight
-pub mod ReadAgain
+pub mod Spelled
 pub mod PlaceLemmas
 pub mod MapLemmas
 pub mod ByteLemmas

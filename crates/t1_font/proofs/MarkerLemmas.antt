@@ -1,14 +1,7 @@
--- Markers are read as they are spelled.
-use Rattle.std.proofs.Common.{◌≡◌, ℕ, List, [], ◌++◌, Some, ap, ◌∙◌}
-use Rattle.std.specs.Prelude.{codes}
+-- Where a font's own text ends.
+use Rattle.std.proofs.Common.{◌≡◌, ℕ, List, ◌++◌, Some, ap, ◌∙◌}
 use Rattle.t1_grammar.specs.Grammar.{first}
-use Rattle.t1_font.specs.Markers.{encoding_marker, subrs_marker, chars_marker, len_iv_marker, len_iv, closefile}
-use Rattle.t1_font.specs.Encoding.{encoding_word, encoding_table, loop_range, loop_body, encoding_loop, octal, octal_after}
-use Rattle.t1_font.specs.Encoding.{code, code_entry, encoding_end, array_start, array_end, Whole, encoding_start}
-
--- ---- the Encoding
-
--- ---- the end of the private text
+use Rattle.t1_font.specs.Markers.{closefile}
 
 -- the text through the first `closefile`
 pub close_parts : (bytes front own rest : List ℕ) → (first closefile).read bytes ≡ Some ((front, own), rest) → bytes ≡ (front ++ own) ++ rest

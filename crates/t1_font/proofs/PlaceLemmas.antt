@@ -3,6 +3,7 @@ use Rattle.std.proofs.Common.{◌≡◌, refl, sym, ap, ◌∙◌, ℕ, ◌+◌,
 use Rattle.std.proofs.lemmas.List.{append_assoc, length-append, drop_at, take_at}
 use Rattle.t1_grammar.specs.Grammar.{Grammar, count}
 use Rattle.t1_font.specs.declared.places.Place.{Place}
+use Rattle.t1_font.specs.Words.{name, next_name}
 use Rattle.t1_font.specs.Places.{ending, placed, StandsIn}
 
 -- in a text with more before it
@@ -28,6 +29,16 @@ ending_read g bytes x e =
 -- what is left is no longer
 pub no_longer : {A : Type 0} (g : Grammar A) → (bytes : List ℕ) (x : A × List ℕ) → g.read bytes ≡ Some x → length x.1 ≤ length bytes
 no_longer g bytes x e = let h = g.takes bytes x e in omega (arith, ap length h.1, length-append h.0 x.1)
+
+-- a name stands right before what is left
+pub name_stands : (bytes : List ℕ) (x : List ℕ × List ℕ) → next_name.read bytes ≡ Some x → StandsIn bytes x.0 (length x.1)
+unfolding next_name name
+name_stands bytes x e =
+    let h = next_name.takes bytes x e in
+    let k = h.2 in
+    let n = k.5 in
+    behind k.1 (k.2 ++ x.1) bytes x.0 (length x.1) (h.1 ∙ (ap (λ t. t ++ x.1) k.3 ∙ append_assoc k.1 k.2 x.1))
+    (record { before = n.1; after = x.1; whole = ap (λ t. t ++ x.1) (n.3 ∙ ap (λ t. n.1 ++ t) n.5.0.0) ∙ append_assoc n.1 x.0 x.1; size = refl })
 
 -- counted bytes
 pub counted : (n : ℕ) (bytes : List ℕ) (x : List ℕ × List ℕ) → (count n).read bytes ≡ Some x → StandsIn bytes x.0 (length x.1)

@@ -1,18 +1,12 @@
--- Words are read as they are spelled.
+-- Keywords and decimals, byte by byte.
 use Rattle.std.proofs.Common.{◌≡◌, ℕ, suc, ◌+◌, ◌*◌, ◌-◌, ◌<◌, Bool, true, false, ◌&&◌, ◌||◌, not, cond, leb, List, [], ◌∷◌, length, take, drop, Option, Some, None, refl, sym, ap, subst, ◌∙◌, one-add, arith}
-use Rattle.std.specs.Prelude.{codes}
 use Rattle.std.specs.List.{AllByRecursion, prefix_len}
 use Rattle.std.specs.Option.{option_and_then}
 use Rattle.std.proofs.lemmas.Bool.{and_parts, agree_below_at, leb-true}
 use Rattle.std.proofs.lemmas.Option.{none-some, cond_some}
 use Rattle.std.proofs.lemmas.Slice.Eq.{bytes_eq-Decides}
 use Rattle.t1_grammar.specs.Grammar.{Stops, fixed}
-use Rattle.t1_font.specs.Words.{is_regular, all_regular, regular_comes, first_digit, is_digit, all_digits, one_white, word, keyword, decimal, name, is_name, is_decimal, digits_after, phrase_after, phrase_of, is_access}
-
--- what a keyword spells is its own text
-pub keyword_text : (w a text rest : List ℕ) → (keyword w).Spells a text rest → text ≡ w
-unfolding keyword
-keyword_text w a text rest s = s.0.0 ∙ sym ((bytes_eq-Decides w a).0 s.1)
+use Rattle.t1_font.specs.Words.{is_regular, all_regular, regular_comes, first_digit, is_digit, all_digits, keyword, decimal, is_decimal, digits_after}
 
 -- ---- keywords, by the bytes at the front and the one behind them
 

@@ -10,7 +10,6 @@ use Rattle.t1_font.specs.declared.subrs.SubrsParts.{SubrsParts}
 use Rattle.t1_font.specs.declared.glyphs.GlyphsParts.{GlyphsParts}
 use Rattle.t1_font.specs.declared.private.Before.{Before}
 use Rattle.t1_font.specs.declared.private.PrivateParts.{PrivateParts}
-use Rattle.t1_font.specs.Reading.{Reading}
 use Rattle.t1_font.specs.FontValue.{Numbered, Encoding, Word, Codes}
 use Rattle.t1_font.specs.Pieces.{ClearPieces, SubrsPieces, PrivatePieces}
 use Rattle.t1_font.specs.Glyphs.{Glyph}
@@ -20,17 +19,17 @@ use Rattle.t1_font.specs.Gathering.{Entries, named}
 use Rattle.t1_font.specs.Held.{first_words, names_notdef, HoldsSubrs, HoldsGlyphs}
 
 -- want of memory may come in place of each answer
-abbrev pub Refused : {A : Type 0} → ReadFault → Reading A → Type 0
+abbrev pub Refused : {A : Type 0} → ReadFault → Result A ReadFault → Type 0
 Refused Memory r = Unit {0}
 Refused e r = r ≡ Err e
 
 -- what was returned shows what is read, unless memory ran out
-abbrev pub Shown : {X A : Type 0} → (X → A → Type 0) → Result X ReadFault → Reading A → Type 0
+abbrev pub Shown : {X A : Type 0} → (X → A → Type 0) → Result X ReadFault → Result A ReadFault → Type 0
 Shown {A = A} Shows (Ok x) r = (a : A) × (r ≡ Ok a) × Shows x a
 Shown Shows (Err e) r = Refused e r
 
 -- what was returned, seen by view, is what is read, unless memory ran out
-abbrev pub Answers : {X A : Type 0} → (X → A) → Result X ReadFault → Reading A → Type 0
+abbrev pub Answers : {X A : Type 0} → (X → A) → Result X ReadFault → Result A ReadFault → Type 0
 Answers view (Ok x) r = r ≡ Ok (view x)
 Answers view (Err e) r = Refused e r
 

@@ -47,7 +47,7 @@ pub record IsClearShell (s : Shell) : Type 0 where
 
 -- the private text around the tables: its lenIV, no marker of a table, and a first `closefile` that ends it
 pub record IsPrivateShell (s : Shell) : Type 0 where
-  pub iv : iv_of s.private ≡ Ok s.len_iv
+  pub iv : (iv_of s.private).read ≡ Ok s.len_iv
   pub no_subrs : NoMarker subrs_marker s.private
   pub no_chars : NoMarker chars_marker s.private
   pub middle_apart : Stops is_regular s.middle

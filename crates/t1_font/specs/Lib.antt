@@ -9,6 +9,7 @@ pub mod FaultTexts
 pub mod Markers
 pub mod Charstrings
 pub mod Reading
+pub mod EntryLaws
 pub mod Pieces
 pub mod FontValue
 pub mod Entries

@@ -8,7 +8,8 @@ use Rattle.t1_font.specs.Markers.{encoding_marker, subrs_marker, chars_marker, l
 use Rattle.t1_font.specs.Words.{next_name}
 use Rattle.t1_font.specs.Encoding.{Opening, Whole, OpensPuts, OpensNames, encoding_start, code_entry, encoding_end, code_count, array_end, from_code}
 use Rattle.t1_font.specs.Glyphs.{Glyph, glyph, glyphs_end}
-use Rattle.t1_font.specs.Reading.{Reading, give, ◌>>=◌, ◌>>◌, must, wanted, optional, table, counted}
+use Rattle.t1_font.specs.EntryLaws.{code_entry_eats, code_entry_apart, subr_eats, subr_apart, glyph_eats, glyph_apart}
+use Rattle.t1_font.specs.Reading.{Reading, give, ◌>>=◌, ◌>>◌, must, wanted, sought, if_sought, table, counted}
 
 -- ---- the flat text
 
@@ -19,7 +20,7 @@ pub record FlatPieces : Type 0 where
 -- the clear text through the first `currentfile eexec`, and the cipher after it
 unfoldable pub flat_pieces : List ℕ → Reading FlatPieces
 flat_pieces flat = do
-  marker ← wanted NoEexec (first eexec_marker) flat
+  marker ← sought NoEexec eexec_marker flat
   cipher ← wanted ShortCipher cipher_text marker.1
   give (record { clear = marker.0.0 ++ marker.0.1; cipher = cipher.0 })
 
@@ -38,7 +39,7 @@ pub record ClearPieces : Type 0 where
 unfoldable pub encoding_from : List ℕ → Opening → List ℕ → Reading (EncodingText × List ℕ)
 encoding_from clear (Whole w) rest = give (OneWord w, rest)
 encoding_from clear OpensPuts rest = do
-  puts ← table BadEncoding (length clear) code_entry encoding_end rest
+  puts ← table BadEncoding (length clear) code_entry encoding_end code_entry_eats code_entry_apart rest
   give (Puts puts.0, puts.2)
 encoding_from clear OpensNames rest = do
   names ← counted BadEncoding (length clear) next_name array_end code_count rest
@@ -46,7 +47,7 @@ encoding_from clear OpensNames rest = do
 
 unfoldable pub clear_pieces : List ℕ → Reading ClearPieces
 clear_pieces clear = do
-  marker ← wanted NoEncoding (first encoding_marker) clear
+  marker ← sought NoEncoding encoding_marker clear
   start ← wanted (BadEncoding (length marker.0.0)) encoding_start marker.1
   encoding ← encoding_from clear start.0 start.1
   give (record { head = marker.0.0; encoding = encoding.0; clear_tail = encoding.1 })
@@ -75,7 +76,7 @@ iv_at (Some marker) = do
 
 unfoldable pub iv_of : List ℕ → Reading ℕ
 iv_of private = do
-  marker ← optional (first len_iv_marker) private
+  marker ← if_sought len_iv_marker private
   iv_at marker
 
 abbrev pub has_subrs : List ℕ → Bool
@@ -88,15 +89,15 @@ through (Some x) rest = x.0.0 ++ x.0.1
 
 unfoldable pub tail_after : List ℕ → List ℕ → Reading (List ℕ)
 tail_after middle rest = do
-  close ← optional (first closefile) rest
+  close ← if_sought closefile rest
   must Hybrid (not (has_subrs middle || has_subrs (through close rest)))
-  end ← wanted NoClosefile (first closefile) rest
+  end ← sought NoClosefile closefile rest
   give (end.0.0 ++ end.0.1)
 
 -- what stands before the CharStrings marker, and the glyphs after it, in a private text of so many bytes
 unfoldable pub glyphs_from : ℕ → List ℕ → Option SubrsPieces → List ℕ → ℕ → List ℕ → Reading PrivatePieces
 glyphs_from size private subrs middle iv rest = do
-  glyphs ← table BadGlyphs size (glyph iv) glyphs_end rest
+  glyphs ← table BadGlyphs size (glyph iv) glyphs_end (glyph_eats iv) (glyph_apart iv) rest
   tail ← tail_after middle glyphs.2
   give (record { private = private; len_iv = iv; subrs = subrs; middle = middle; glyphs = glyphs.0; tail = tail })
 
@@ -111,12 +112,12 @@ tables_from size chars None = do
   glyphs_from size chars.0.0 None [] iv chars.1
 tables_from size chars (Some marker) = do
   iv ← iv_of marker.0.0
-  subrs ← table BadSubrs size (subr marker.0.1 iv) subrs_end marker.1
-  next ← wanted (BadGlyphs (size - length subrs.2)) (first chars_marker) subrs.2
+  subrs ← table BadSubrs size (subr marker.0.1 iv) subrs_end (subr_eats marker.0.1 iv) (subr_apart marker.0.1 iv) marker.1
+  next ← sought (BadGlyphs (size - length subrs.2)) chars_marker subrs.2
   glyphs_from size marker.0.0 (Some (record { declared = marker.0.1; entries = subrs.0; closing = subrs.1 })) next.0.0 iv next.1
 
 unfoldable pub private_pieces : List ℕ → Reading PrivatePieces
 private_pieces text = do
-  chars ← wanted NoCharStrings (first chars_marker) text
-  marker ← optional (first subrs_marker) text
+  chars ← sought NoCharStrings chars_marker text
+  marker ← if_sought subrs_marker text
   tables_from (length text) chars (before_place (length chars.0.0) marker)

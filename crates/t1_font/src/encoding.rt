@@ -319,7 +319,7 @@ fn table_from<'a>(
 ) -> Result<(EncodingParts<'a>, &'a [u8]), ReadFault>
     requires { gathered.old.codes ≡ fin.empty }
     ensures shown { Shown (λ x e. (encoding_view x.0 gathered.new.codes ≡ encoding_value e.0)
-        × (x.1.now ≡ e.1)) result (encoding_from clear.now OpensPuts rest.now) }
+        × (x.1.now ≡ e.1)) result (encoding_from clear.now OpensPuts rest.now).read }
     ensures others { OnOk result (CodesAlone gathered.old gathered.new) }
 {
     match puts_at(rest, gathered) {
@@ -337,7 +337,7 @@ fn array_from<'a>(
 ) -> Result<(EncodingParts<'a>, &'a [u8]), ReadFault>
     requires { gathered.old.codes ≡ fin.empty }
     ensures shown { Shown (λ x e. (encoding_view x.0 gathered.new.codes ≡ encoding_value e.0)
-        × (x.1.now ≡ e.1)) result (encoding_from clear.now OpensNames rest.now) }
+        × (x.1.now ≡ e.1)) result (encoding_from clear.now OpensNames rest.now).read }
     ensures others { OnOk result (CodesAlone gathered.old gathered.new) }
 {
     match names_at(rest, gathered) {
@@ -357,7 +357,7 @@ fn encoding_from<'a>(
     requires { gathered.old.codes ≡ fin.empty }
     ensures shown { Shown (λ x e. (encoding_view x.0 gathered.new.codes ≡ encoding_value e.0)
         × (x.1.now
-        ≡ e.1)) result (encoding_from clear.now (opening_view opening.entry) rest.now) }
+        ≡ e.1)) result (encoding_from clear.now (opening_view opening.entry) rest.now).read }
     ensures others { OnOk result (CodesAlone gathered.old gathered.new) }
 {
     match opening {
@@ -375,7 +375,7 @@ pub(crate) fn clear_parts<'a>(
 ) -> Result<ClearParts<'a>, ReadFault>
     requires { gathered.old.codes ≡ fin.empty }
     ensures shown { Shown (λ x c. ShowsClear x gathered.new.codes c) result
-        (clear_pieces clear.now) }
+        (clear_pieces clear.now).read }
     ensures others { OnOk result (CodesAlone gathered.old gathered.new) }
 {
     let Some((head, _, after)) = first::<EncodingMarker>(clear) else {

@@ -31,7 +31,7 @@ use t1_bytes::{Cipher, EEXEC_KEY, EEXEC_LEAD, FILE_LIMIT, decrypt, find_cipher, 
 /// The flat text of a file, in the file's own vector.
 #[tactic(auto, unfolding(crate::specs::ReadFont::flat_text))]
 fn flat_text(file: Vec<u8>) -> Result<Vec<u8>, ReadFault>
-    ensures value { Answers (λ v. v.items) result (flat_text file.items) }
+    ensures value { Answers (λ v. v.items) result (flat_text file.items).read }
     ensures no_longer { IfOk result (λ v. length v.items ≤ length file.items) }
 {
     match flatten_vec(file) {
@@ -43,7 +43,7 @@ fn flat_text(file: Vec<u8>) -> Result<Vec<u8>, ReadFault>
 /// Where the clear text of a flat text ends, and the cipher.
 fn found(alloc: Global, flat: &[u8]) -> Result<(usize, Cipher), ReadFault>
     ensures parts { Shown (λ x p. (take x.0 flat.now ≡ p.clear)
-        × (cipher_in flat.now x.1 ≡ p.cipher)) result (flat_pieces flat.now) }
+        × (cipher_in flat.now x.1 ≡ p.cipher)) result (flat_pieces flat.now).read }
     ensures end { IfOk result (λ x. x.0 ≤ length flat.now) }
     ensures last { IfOk result (λ x. last_bytes x.1 ≤ length flat.now) }
     ensures lead { IfOk result (λ x. 4 ≤ length (cipher_in flat.now x.1)) }
@@ -66,7 +66,7 @@ pub(crate) struct CutFile {
 /// A flat text, cut. A binary cipher stays where it stands.
 fn cut_flat(alloc: Global, flat: Vec<u8>) -> Result<CutFile, ReadFault>
     ensures parts { Shown (λ x p. (x.clear.items ≡ p.clear)
-        × (drop x.from x.buffer.items ≡ p.cipher)) result (flat_pieces flat.items) }
+        × (drop x.from x.buffer.items ≡ p.cipher)) result (flat_pieces flat.items).read }
     ensures lead { IfOk result (λ x. x.from + 4 ≤ length x.buffer.items) }
     ensures no_longer { IfOk result (λ x. length x.buffer.items ≤ length flat.items) }
 {
@@ -92,7 +92,7 @@ fn cut_flat(alloc: Global, flat: Vec<u8>) -> Result<CutFile, ReadFault>
 /// A file, cut.
 fn cut_file(alloc: Global, file: Vec<u8>) -> Result<CutFile, ReadFault>
     ensures parts { Shown (λ x p. (x.clear.items ≡ p.clear)
-        × (drop x.from x.buffer.items ≡ p.cipher)) result (file_pieces file.items) }
+        × (drop x.from x.buffer.items ≡ p.cipher)) result (file_pieces file.items).read }
     ensures lead { IfOk result (λ x. x.from + 4 ≤ length x.buffer.items) }
     ensures no_longer { IfOk result (λ x. length x.buffer.items ≤ length file.items) }
 {
@@ -165,7 +165,7 @@ fn light_parts(
     ensures { (c : ClearPieces) (p : PrivatePieces)
         → ShowsClear outside.now gathered.entry.codes c
         → ShowsPrivate inside gathered.entry p
-        → Answers (λ f. f) result (font_from c p) }
+        → Answers (λ f. f) result (font_from c p).read }
 {
     let parts = source_parts(alloc, outside, inside, gathered)?;
     if parts.glyph_count() > COUNT_LIMIT {
@@ -187,7 +187,7 @@ fn font_from(
     ensures { (c : ClearPieces) (p : PrivatePieces)
         → ShowsClear outside.now gathered.entry.codes c
         → ShowsPrivate inside gathered.entry p
-        → Answers (λ f. f) result (font_from c p) }
+        → Answers (λ f. f) result (font_from c p).read }
 {
     if !inside.glyphs.has_notdef {
         return Err(ReadFault::NoNotdef);
@@ -217,7 +217,7 @@ fn text_parts(
 ) -> Result<SourceParts, ReadFault>
     requires inside { at ≤ length buffer.items }
     requires short { length buffer.items ≤ file_limit }
-    ensures { Answers (λ f. f) result (font_texts clear.now (drop at buffer.items)) }
+    ensures { Answers (λ f. f) result (font_texts clear.now (drop at buffer.items)).read }
 {
     let mut gathered = Gathered::new(alloc, buffer, at);
     let outside = clear_parts(clear, &mut gathered)?;
@@ -228,7 +228,7 @@ fn text_parts(
 /// The parts of the font that a file spells.
 #[tactic(auto, unfolding(crate::specs::ReadFont::font_file))]
 fn file_parts(alloc: Global, file: Vec<u8>) -> Result<SourceParts, ReadFault>
-    ensures { Answers (λ f. f) result (font_file file.items) }
+    ensures { Answers (λ f. f) result (font_file file.items).read }
 {
     if file.len() > FILE_LIMIT {
         return Err(ReadFault::TooLong);
@@ -255,7 +255,7 @@ fn are_bytes(bytes: &[u8])
 /// Those of [`read`].
 pub fn read_vec(alloc: Global, file: Vec<u8>) -> Result<Source, ReadFault>
     ensures right { MatchResult result (Spells file.items) (Refuses file.items) }
-    ensures exact { Answers (λ f. f) result (font_file file.items) }
+    ensures exact { Answers (λ f. f) result (font_file file.items).read }
 {
     are_bytes(file.as_slice());
     match file_parts(alloc, file) {
@@ -275,7 +275,7 @@ pub fn read_vec(alloc: Global, file: Vec<u8>) -> Result<Source, ReadFault>
 /// the private text for the tables. If a growth was refused, the answer is `Memory`.
 pub fn read(alloc: Global, file: &[u8]) -> Result<Source, ReadFault>
     ensures right { MatchResult result (Spells file.now) (Refuses file.now) }
-    ensures exact { Answers (λ f. f) result (font_file file.now) }
+    ensures exact { Answers (λ f. f) result (font_file file.now).read }
 {
     match Vec::from_slice(alloc, file) {
         Ok(file) => read_vec(alloc, file),

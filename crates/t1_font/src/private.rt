@@ -3,13 +3,15 @@
 ghost use Rattle.std.specs.Prelude.{◌≡◌, ◌++◌, Option, Some, None, [], OnOk};
 ghost use Rattle.std.specs.FinMap as fin;
 ghost use Rattle.std.specs.Option.{option_map};
+ghost use Rattle.t1_grammar.specs.Formats.{in_table};
 ghost use Rattle.t1_grammar.specs.Grammar.{first};
+ghost use Rattle.t1_grammar.specs.Tables.{table_at};
 ghost use Rattle.t1_font.specs.Markers.{closefile};
 ghost use Rattle.t1_font.specs.Glyphs.{glyph, glyphs_end};
 ghost use Rattle.t1_font.specs.Pieces.{SubrsPieces, has_subrs, iv_of, tail_after, glyphs_from, tables_from, private_pieces};
 ghost use Rattle.t1_font.specs.declared.fault.ReadFault.TheVariants.{BadSubrs, BadGlyphs};
 ghost use Rattle.t1_font.specs.Subrs.{subr, subrs_end};
-ghost use Rattle.t1_font.specs.Reading.{table};
+ghost use Rattle.t1_font.specs.Reading.{bad_at};
 ghost use Rattle.t1_font.specs.Answers.{Answers, Shown, ShowsTable, ShowsGlyphs, ShowsBefore, ShowsPrivate};
 ghost use Rattle.t1_font.specs.Gathering.{SubrsAlone, GlyphsAlone};
 ghost use Rattle.t1_font.specs.Held.{HoldsSubrs, HoldsGlyphs};
@@ -51,7 +53,7 @@ fn has_subrs(text: &[u8]) -> bool
 /// lenIV, from the text before the tables.
 #[tactic(auto, unfolding(crate::specs::Pieces::iv_of, crate::specs::Pieces::iv_at))]
 fn iv_of(private: &[u8]) -> Result<u8, ReadFault>
-    ensures { Answers (λ n. n) result (iv_of private.now) }
+    ensures { Answers (λ n. n) result (iv_of private.now).read }
 {
     let Some((_, _, after)) = first::<LenIvMarker>(private) else {
         return Ok(4);
@@ -65,7 +67,7 @@ fn iv_of(private: &[u8]) -> Result<u8, ReadFault>
 /// What is kept after the glyphs.
 #[tactic(auto, unfolding(crate::specs::Pieces::tail_after))]
 fn tail_after<'a>(middle: &[u8], rest: &'a [u8]) -> Result<&'a [u8], ReadFault>
-    ensures { Answers (λ t. t.now) result (tail_after middle.now rest.now) }
+    ensures { Answers (λ t. t.now) result (tail_after middle.now rest.now).read }
 {
     let Some(tail) = through_close(rest) else {
         if has_subrs(middle) || has_subrs(rest) {
@@ -100,7 +102,7 @@ fn glyphs_parts(
     ensures shown { Shown (λ x t. ShowsGlyphs x t.0
         × HoldsGlyphs len_iv gathered.new.glyphs t.0
         × (gathered.new.rest
-        ≡ t.2)) result (table BadGlyphs size (glyph len_iv) glyphs_end gathered.old.rest) }
+        ≡ t.2)) result (in_table (bad_at BadGlyphs size) (table_at (glyph len_iv) glyphs_end gathered.old.rest)) }
     ensures others { OnOk result (GlyphsAlone gathered.old gathered.new) }
 {
     match glyphs_at(alloc, len_iv, gathered) {
@@ -125,7 +127,7 @@ fn glyphs_from(
         → ShowsBefore before gathered.old.subrs s
         → Shown (λ x p. ShowsPrivate x gathered.new p) result
         (glyphs_from size before.private.items s before.middle.items before.len_iv
-        gathered.old.rest) }
+        gathered.old.rest).read }
     ensures codes { OnOk result (gathered.new.codes ≡ gathered.old.codes) }
 {
     let glyphs = glyphs_parts(alloc, size, before.len_iv, gathered)?;
@@ -152,7 +154,7 @@ fn tables_without(
     requires subrs { gathered.old.subrs ≡ fin.empty }
     requires glyphs { gathered.old.glyphs ≡ fin.empty }
     ensures shown { Shown (λ x p. ShowsPrivate x gathered.new p) result
-        (tables_from size ((private.items, tt), gathered.old.rest) None) }
+        (tables_from size ((private.items, tt), gathered.old.rest) None).read }
     ensures codes { OnOk result (gathered.new.codes ≡ gathered.old.codes) }
 {
     let len_iv = iv_of(private.as_slice())?;
@@ -180,8 +182,8 @@ fn subrs_parts(
         × HoldsSubrs declared len_iv gathered.new.subrs t.0
         × (gathered.new.rest
         ≡ t.2)) result
-        (table BadSubrs size
-        (subr declared len_iv) subrs_end gathered.old.rest) }
+        (in_table (bad_at BadSubrs size)
+        (table_at (subr declared len_iv) subrs_end gathered.old.rest)) }
     ensures others { OnOk result (SubrsAlone gathered.old gathered.new) }
 {
     match subrs_at(alloc, declared, len_iv, gathered) {
@@ -205,7 +207,7 @@ fn tables_with(
     requires subrs { gathered.old.subrs ≡ fin.empty }
     requires glyphs { gathered.old.glyphs ≡ fin.empty }
     ensures shown { Shown (λ x p. ShowsPrivate x gathered.new p) result
-        (tables_from size (([], tt), []) (Some ((private.items, declared), gathered.old.rest))) }
+        (tables_from size (([], tt), []) (Some ((private.items, declared), gathered.old.rest))).read }
     ensures codes { OnOk result (gathered.new.codes ≡ gathered.old.codes) }
 {
     let len_iv = iv_of(private.as_slice())?;
@@ -237,7 +239,7 @@ pub(crate) fn private_parts(
     requires subrs { gathered.old.subrs ≡ fin.empty }
     requires glyphs { gathered.old.glyphs ≡ fin.empty }
     ensures shown { Shown (λ x p. ShowsPrivate x gathered.new p) result
-        (private_pieces gathered.old.rest) }
+        (private_pieces gathered.old.rest).read }
     ensures codes { OnOk result (gathered.new.codes ≡ gathered.old.codes) }
 {
     let text = gathered.rest();

@@ -1,4 +1,1 @@
 pub mod Grammars
-pub mod Tables
-pub mod Counted
-pub mod Places

@@ -7,7 +7,7 @@ use Rattle.std.proofs.lemmas.Bool.{le-leb}
 use Rattle.t1_grammar.specs.Grammar.{either, Stops, first_at}
 use Rattle.t1_grammar.specs.Tables.{with_front, table_at}
 use Rattle.t1_grammar.proofs.Grammars.{that_read}
-use Rattle.t1_grammar.proofs.Tables.{table_at-step}
+use Rattle.t1_grammar.specs.TableLaws.{table_at-step}
 use Rattle.t1_bytes.specs.White.{gap}
 use Rattle.t1_font.specs.Words.{is_regular, word, keyword, decimal}
 use Rattle.t1_font.specs.Markers.{encoding_marker}
@@ -15,7 +15,7 @@ use Rattle.t1_font.specs.Encoding.{encoding_word, encoding_table, encoding_loop,
 use Rattle.t1_font.specs.Pieces.{EncodingText, OneWord, Puts, encoding_from, clear_pieces}
 use Rattle.t1_font.specs.Writing.{puts_text, encoding_text}
 use Rattle.t1_font.specs.IsFont.{IsWord, IsCode, NoMarker}
-use Rattle.t1_font.proofs.EntryLemmas.{code_entry_eats, code_entry_apart}
+use Rattle.t1_font.specs.EntryLaws.{code_entry_eats, code_entry_apart}
 use Rattle.t1_font.proofs.canonical.Written.{gap_one, word_read, keyword_read, black, black_digits, decimal_read, no_white}
 use Rattle.t1_font.proofs.canonical.EntriesWritten.{fixed_read, name_read, is_word_of}
 use Rattle.t1_font.proofs.canonical.Moves.{first_behind, encoding_moves}
@@ -118,7 +118,8 @@ unfolding encoding_start
 start_table rest = rw (no_word (codes "0 1 255 {1 index exch /.notdef put} for" ++ (10 ∷ rest)), table_begins (codes "0 1 255 {1 index exch /.notdef put} for" ++ (10 ∷ rest)), loop_read rest) refl
 
 -- the canonical clear text, without the line end behind it
-pub clear_again : (head : List ℕ) (encoding : EncodingText) (tail : List ℕ) → NoMarker encoding_marker head → IsEncodingText encoding → Stops is_regular tail → clear_pieces (head ++ (encoding_text encoding ++ tail)) ≡ Ok (record { head = head; encoding = encoding; clear_tail = tail })
+pub clear_again : (head : List ℕ) (encoding : EncodingText) (tail : List ℕ) → NoMarker encoding_marker head → IsEncodingText encoding →
+    Stops is_regular tail → (clear_pieces (head ++ (encoding_text encoding ++ tail))).read ≡ Ok (record { head = head; encoding = encoding; clear_tail = tail })
 unfolding clear_pieces encoding_from
 clear_again head (OneWord w) tail none h s =
     let t : List ℕ = w ++ (codes " def" ++ tail) in

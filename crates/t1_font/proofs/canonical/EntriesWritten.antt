@@ -8,7 +8,7 @@ use Rattle.std.proofs.lemmas.Bool.{le-leb, lt-ltb, and_from}
 use Rattle.t1_grammar.specs.Grammar.{Grammar, that, run, fixed, Stops}
 use Rattle.t1_grammar.specs.Tables.{with_front, table_at}
 use Rattle.t1_grammar.proofs.Grammars.{bind_read, that_read, run_read}
-use Rattle.t1_grammar.proofs.Tables.{Apart, table_at-step}
+use Rattle.t1_grammar.specs.TableLaws.{Apart, table_at-step}
 use Rattle.t1_bytes.specs.White.{white}
 use Rattle.t1_font.specs.Words.{is_regular, is_word, keyword, name, is_name, next_name}
 use Rattle.t1_font.specs.Entry.{Body, Entry, body, entry}
@@ -16,7 +16,7 @@ use Rattle.t1_font.specs.Subrs.{Subr, subr_key, subr, subrs_end}
 use Rattle.t1_font.specs.Glyphs.{Glyph, glyph, glyphs_end}
 use Rattle.t1_font.specs.Writing.{body_text, entry_text, entries_text, index_text, subrs_text, name_text, glyphs_text}
 use Rattle.t1_font.specs.IsFont.{IsWord, IsPhrase}
-use Rattle.t1_font.proofs.EntryLemmas.{entry_eats, entry_apart, subr_key_apart, next_name_apart}
+use Rattle.t1_font.specs.EntryLaws.{entry_eats, entry_apart, subr_key_apart, next_name_apart}
 use Rattle.t1_font.proofs.canonical.Written.{white_one, gap_one, word_read, keyword_read, decimal_read, dup_regular, black, black_digits, count_read, length_read, one_read, no_white}
 use Rattle.t1_font.proofs.canonical.Phrases.{phrase_behind, phrase_starts, closing_read}
 

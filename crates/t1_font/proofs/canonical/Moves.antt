@@ -11,7 +11,7 @@ use Rattle.t1_bytes.specs.White.{is_white, gap}
 use Rattle.t1_bytes.specs.Eexec.{eexec_marker, blank_comes}
 use Rattle.t1_font.specs.Words.{is_regular, keyword, decimal, digits_after, is_decimal}
 use Rattle.t1_font.specs.Markers.{subrs_marker, chars_marker, encoding_marker, white_comes, break_comes}
-use Rattle.t1_grammar.proofs.Places.{prepend}
+use Rattle.t1_grammar.specs.Places.{prepend}
 use Rattle.t1_font.proofs.canonical.FirstPlace.{prepend-nil, prepend-prepend, one_place}
 use Rattle.t1_font.proofs.canonical.Borders.{strip, fixed_strip}
 

@@ -9,7 +9,7 @@ use Rattle.std.proofs.lemmas.Option.{none-some, same_Some}
 use Rattle.std.proofs.lemmas.Bool.{lt-ltb, le-ltb}
 use Rattle.t1_grammar.specs.Grammar.{Grammar, Stops, first, first_at, Lacks, first_here}
 use Rattle.t1_grammar.specs.Tables.{table_at}
-use Rattle.t1_grammar.proofs.Places.{prepend}
+use Rattle.t1_grammar.specs.Places.{prepend}
 use Rattle.t1_font.specs.Words.{is_regular}
 use Rattle.t1_font.specs.Entry.{Entry}
 use Rattle.t1_font.specs.Subrs.{subr, subrs_end}
@@ -39,7 +39,7 @@ AreOptional iv middle (Some s) = ArePieces iv s
 
 -- a private text that can be written
 pub record IsWritable (p : PrivatePieces) : Type 0 where
-  pub iv : iv_of p.private ≡ Ok p.len_iv
+  pub iv : (iv_of p.private).read ≡ Ok p.len_iv
   pub no_subrs : NoMarker subrs_marker p.private
   pub no_chars : NoMarker chars_marker p.private
   pub middle_apart : Stops is_regular p.middle
@@ -115,7 +115,8 @@ whole_found tail h = by_found (first_at closefile tail) refl h
         (x, e, nothing, sym (s.1 ∙ ap (λ (u : List ℕ). s.0 ++ u) nothing ∙ append-nil s.0 ∙ s.2.1 ∙ ap (λ (u : List ℕ). x.0.0 ++ u) (closefile_text x.0.1 s.2.0 x.1 s.2.2)))
 
 -- the tail is read through its `closefile`
-pub tail_read : (middle tail junk : List ℕ) → Lacks subrs_marker middle → Lacks subrs_marker tail → option_map (λ x. x.1) ((first closefile).read tail) ≡ Some [] → tail_after middle (tail ++ (10 ∷ junk)) ≡ Ok tail
+pub tail_read : (middle tail junk : List ℕ) → Lacks subrs_marker middle → Lacks subrs_marker tail →
+    option_map (λ x. x.1) ((first closefile).read tail) ≡ Some [] → (tail_after middle (tail ++ (10 ∷ junk))).read ≡ Ok tail
 unfolding tail_after
 tail_read middle tail junk m t e =
     let f = whole_found tail e in
@@ -124,7 +125,9 @@ tail_read middle tail junk m t e =
 
 -- the glyphs and the tail are read from their texts
 pub glyphs_from_read : (text private : List ℕ) (subrs : Option SubrsPieces) (middle : List ℕ) (iv : ℕ) (es : List Glyph) (tail junk : List ℕ) → AllByRecursion (IsEntry (IsWord 127) iv) es → Stops is_regular tail → Lacks subrs_marker middle → Lacks subrs_marker tail
-    → option_map (λ x. x.1) ((first closefile).read tail) ≡ Some [] → glyphs_from (length text) private subrs middle iv (glyphs_text es ++ (tail ++ (10 ∷ junk))) ≡ Ok (record { private = private; len_iv = iv; subrs = subrs; middle = middle; glyphs = es; tail = tail })
+    → option_map (λ x. x.1) ((first closefile).read tail) ≡ Some []
+    → (glyphs_from (length text) private subrs middle iv (glyphs_text es ++ (tail ++ (10 ∷ junk)))).read ≡ Ok
+    (record { private = private; len_iv = iv; subrs = subrs; middle = middle; glyphs = es; tail = tail })
 unfolding glyphs_from
 glyphs_from_read text private subrs middle iv es tail junk all apart m t e = rw (glyphs_read iv es (tail ++ (10 ∷ junk)) all (stops_then tail junk apart), tail_read middle tail junk m t e) refl
   where
@@ -161,16 +164,22 @@ nothing_subrs : Lacks subrs_marker []
 nothing_subrs = subrs_lack [] nothing_found
 
 -- what is read where the two markers are known
-pieces_read : (text : List ℕ) (chars : (List ℕ × Unit {0}) × List ℕ) (marker : Option ((List ℕ × ℕ) × List ℕ)) (o : Result PrivatePieces ReadFault) → first_at chars_marker text ≡ Some chars → first_at subrs_marker text ≡ marker → tables_from (length text) chars (before_place (length chars.0.0) marker) ≡ o → private_pieces text ≡ o
+pieces_read : (text : List ℕ) (chars : (List ℕ × Unit {0}) × List ℕ) (marker : Option ((List ℕ × ℕ) × List ℕ)) (o : Result PrivatePieces ReadFault) →
+    first_at chars_marker text ≡ Some chars → first_at subrs_marker text ≡ marker
+    → (tables_from (length text) chars (before_place (length chars.0.0) marker)).read ≡ o → (private_pieces text).read ≡ o
 unfolding private_pieces
 pieces_read text chars marker o e k t = rw (e, k) t
 
 -- without Subrs
-no_tables_again : (p : PrivatePieces) (text junk : List ℕ) → IsWritable p → tables_from (length text) ((p.private, tt), glyphs_text p.glyphs ++ (p.tail ++ (10 ∷ junk))) None ≡ Ok (record { private = p.private; len_iv = p.len_iv; subrs = None; middle = []; glyphs = p.glyphs; tail = p.tail })
+no_tables_again : (p : PrivatePieces) (text junk : List ℕ) → IsWritable p →
+    (tables_from (length text) ((p.private, tt), glyphs_text p.glyphs ++ (p.tail ++ (10 ∷ junk))) None).read ≡ Ok
+    (record { private = p.private; len_iv = p.len_iv; subrs = None; middle = []; glyphs = p.glyphs; tail = p.tail })
 unfolding tables_from
 no_tables_again p text junk h = rw (h.iv, glyphs_from_read text p.private None [] p.len_iv p.glyphs p.tail junk h.glyphs h.tail_apart nothing_subrs h.tail_subrs h.tail_ends) refl
 
-no_subrs_again : (p : PrivatePieces) (junk : List ℕ) → IsWritable p → p.subrs ≡ None → private_pieces (p.private ++ (glyphs_part p.glyphs ++ (p.tail ++ (10 ∷ junk)))) ≡ Ok (record { private = p.private; len_iv = p.len_iv; subrs = None; middle = []; glyphs = p.glyphs; tail = p.tail })
+no_subrs_again : (p : PrivatePieces) (junk : List ℕ) → IsWritable p → p.subrs ≡ None →
+    (private_pieces (p.private ++ (glyphs_part p.glyphs ++ (p.tail ++ (10 ∷ junk))))).read ≡ Ok
+    (record { private = p.private; len_iv = p.len_iv; subrs = None; middle = []; glyphs = p.glyphs; tail = p.tail })
 no_subrs_again p junk h e =
     let t : List ℕ = p.tail ++ (10 ∷ junk) in
     let g : List ℕ = glyphs_part p.glyphs ++ t in
@@ -181,7 +190,8 @@ no_subrs_again p junk h e =
     let subrs : before_place (length p.private) (first_at subrs_marker text) ≡ None =
     ap (before_place (length p.private)) (past_none subrs_marker p.private g (subrs_moves p.private [] _ h.no_subrs))
     ∙ not_before p.private (first_at subrs_marker g) in
-    pieces_read text place (first_at subrs_marker text) _ chars refl (ap (λ (o : Option ((List ℕ × ℕ) × List ℕ)). tables_from (length text) place o) subrs ∙ no_tables_again p text junk h)
+    pieces_read text place (first_at subrs_marker text) _ chars refl
+    (ap (λ (o : Option ((List ℕ × ℕ) × List ℕ)). (tables_from (length text) place o).read) subrs ∙ no_tables_again p text junk h)
 
 -- a marker that stands somewhere is found
 pub is_found : {A : Type 0} (g : Grammar A) (front after : List ℕ) (a : A) (rest : List ℕ) → g.read after ≡ Some (a, rest) → (x : (List ℕ × A) × List ℕ) × (first_at g (front ++ after) ≡ Some x)
@@ -216,7 +226,13 @@ before_is n x t = rw t refl
 
 -- the tables, where the markers are known
 tables_again : (p : PrivatePieces) (s : SubrsPieces) (text : List ℕ) (chars : (List ℕ × Unit {0}) × List ℕ) (junk : List ℕ) → IsWritable p → ArePieces p.len_iv s
-    → tables_from (length text) chars (Some ((p.private, s.declared), subrs_text s.entries s.closing ++ (p.middle ++ (glyphs_part p.glyphs ++ (p.tail ++ (10 ∷ junk)))))) ≡ Ok (record { private = p.private; len_iv = p.len_iv; subrs = Some s; middle = p.middle; glyphs = p.glyphs; tail = p.tail })
+    → (tables_from (length text) chars
+    (Some (
+      (p.private, s.declared),
+      subrs_text s.entries s.closing
+          ++ (p.middle ++ (glyphs_part p.glyphs
+          ++ (p.tail ++ (10 ∷ junk)))),
+    ))).read ≡ Ok (record { private = p.private; len_iv = p.len_iv; subrs = Some s; middle = p.middle; glyphs = p.glyphs; tail = p.tail })
 unfolding tables_from
 tables_again p s text chars junk h k =
     let t : List ℕ = p.tail ++ (10 ∷ junk) in
@@ -230,7 +246,8 @@ tables_again p s text chars junk h k =
 
 -- a private text with Subrs is read from its text
 with_subrs_again : (p : PrivatePieces) (s : SubrsPieces) (junk : List ℕ) → IsWritable p → ArePieces p.len_iv s
-    → private_pieces (p.private ++ (subrs_part (Some s) ++ (p.middle ++ (glyphs_part p.glyphs ++ (p.tail ++ (10 ∷ junk)))))) ≡ Ok (record { private = p.private; len_iv = p.len_iv; subrs = Some s; middle = p.middle; glyphs = p.glyphs; tail = p.tail })
+    → (private_pieces (p.private ++ (subrs_part (Some s) ++ (p.middle ++ (glyphs_part p.glyphs ++ (p.tail ++ (10 ∷ junk))))))).read ≡ Ok
+    (record { private = p.private; len_iv = p.len_iv; subrs = Some s; middle = p.middle; glyphs = p.glyphs; tail = p.tail })
 with_subrs_again p s junk h k =
     let t : List ℕ = p.tail ++ (10 ∷ junk) in
     let g : List ℕ = glyphs_part p.glyphs ++ t in
@@ -247,19 +264,23 @@ with_subrs_again p s junk h k =
     past_none chars_marker p.private b (chars_moves p.private [] _ h.no_chars) ∙ ap (prepend p.private) here in
     let place : (List ℕ × Unit {0}) × List ℕ = ((p.private ++ (47 ∷ y.0.0.0), y.0.0.1), y.0.1) in
     let before : ltb (length p.private) (length place.0.0) ≡ true = lt-ltb _ _ (omega (arith, length-append p.private (47 ∷ y.0.0.0))) in
-    pieces_read text place (Some ((p.private, s.declared), table)) _ chars subrs (ap (λ (o : Option ((List ℕ × ℕ) × List ℕ)). tables_from (length text) place o) (before_is (length place.0.0) ((p.private, s.declared), table) before) ∙ tables_again p s text place junk h k)
+    pieces_read text place (Some ((p.private, s.declared), table)) _ chars subrs
+    (ap (λ (o : Option ((List ℕ × ℕ) × List ℕ)). (tables_from (length text) place o).read)
+    (before_is (length place.0.0) ((p.private, s.declared), table) before) ∙ tables_again p s text place junk h k)
 
 regrouped : (a b c d t junk : List ℕ) → (a ++ (b ++ (c ++ (d ++ (t ++ 10 ∷ []))))) ++ junk ≡ a ++ (b ++ (c ++ (d ++ (t ++ (10 ∷ junk)))))
 regrouped a b c d t junk = simp append_assoc
 
 -- the canonical private text is read as its pieces
-pub private_again : (p : PrivatePieces) (junk : List ℕ) → IsWritable p → private_pieces (private_written p ++ junk) ≡ Ok p
-private_again p junk h = ap private_pieces (regrouped p.private (subrs_part p.subrs) p.middle (glyphs_part p.glyphs) p.tail junk) ∙ by_subrs p.subrs refl h.subrs
+pub private_again : (p : PrivatePieces) (junk : List ℕ) → IsWritable p → (private_pieces (private_written p ++ junk)).read ≡ Ok p
+private_again p junk h =
+    ap (λ t. (private_pieces t).read) (regrouped p.private (subrs_part p.subrs) p.middle (glyphs_part p.glyphs) p.tail junk) ∙ by_subrs p.subrs refl h.subrs
   where
-    by_subrs : (o : Option SubrsPieces) → p.subrs ≡ o → AreOptional p.len_iv p.middle o → private_pieces (p.private ++ (subrs_part p.subrs ++ (p.middle ++ (glyphs_part p.glyphs ++ (p.tail ++ (10 ∷ junk)))))) ≡ Ok p
+    by_subrs : (o : Option SubrsPieces) → p.subrs ≡ o → AreOptional p.len_iv p.middle o →
+        (private_pieces (p.private ++ (subrs_part p.subrs ++ (p.middle ++ (glyphs_part p.glyphs ++ (p.tail ++ (10 ∷ junk))))))).read ≡ Ok p
     by_subrs None e k =
-        ap private_pieces (λ i. p.private ++ (subrs_part (e i) ++ (k i ++ (glyphs_part p.glyphs ++ (p.tail ++ (10 ∷ junk))))))
+        ap (λ t. (private_pieces t).read) (λ i. p.private ++ (subrs_part (e i) ++ (k i ++ (glyphs_part p.glyphs ++ (p.tail ++ (10 ∷ junk))))))
         ∙ (no_subrs_again p junk h e ∙ (λ i. Ok (record { private = p.private; len_iv = p.len_iv; subrs = sym e i; middle = sym k i; glyphs = p.glyphs; tail = p.tail })))
     by_subrs (Some s) e k =
-        ap private_pieces (λ i. p.private ++ (subrs_part (e i) ++ (p.middle ++ (glyphs_part p.glyphs ++ (p.tail ++ (10 ∷ junk))))))
+        ap (λ t. (private_pieces t).read) (λ i. p.private ++ (subrs_part (e i) ++ (p.middle ++ (glyphs_part p.glyphs ++ (p.tail ++ (10 ∷ junk))))))
         ∙ (with_subrs_again p s junk h k ∙ (λ i. Ok (record { private = p.private; len_iv = p.len_iv; subrs = sym e i; middle = p.middle; glyphs = p.glyphs; tail = p.tail })))

@@ -71,7 +71,8 @@ text_again private more = let r = decrypted_front (replicate 4 0 ++ private) 556
 -- ---- the font
 
 -- the pieces of a font make the font again
-value_again : (f : FontValue) → IsFont f → font_from (outside_of f.shell (encoding_pieces f.encoding)) (inside_of f.shell (entries f.subrs) (entries f.glyphs)) ≡ Ok f
+value_again : (f : FontValue) → IsFont f →
+    (font_from (outside_of f.shell (encoding_pieces f.encoding)) (inside_of f.shell (entries f.subrs) (entries f.glyphs))).read ≡ Ok f
 unfolding font_from
 value_again f h =
     let c : ClearPieces = outside_of f.shell (encoding_pieces f.encoding) in
@@ -97,14 +98,16 @@ module _ (f : FontValue) where
   clear_regrouped v = simp append_assoc
 
   -- a file with this flat text spells the font, where the cipher that is read begins with the one that was written
-  file_again : (file v more rest : List ℕ) → IsFont f → IsBorder v → cipher_text.read v ≡ Some (private_cipher (canon_private f) ++ more, rest) → length file ≤ file_limit → flat_text file ≡ Ok (canon_clear f ++ v) → read_font file ≡ Ok f
+  file_again : (file v more rest : List ℕ) → IsFont f → IsBorder v → cipher_text.read v ≡ Some (private_cipher (canon_private f) ++ more, rest) →
+      length file ≤ file_limit → (flat_text file).read ≡ Ok (canon_clear f ++ v) → read_font file ≡ Ok f
   unfolding font_file
   file_again file v more rest h border c short flat =
       let x = eexec_found f.shell.head (encoding_pieces f.encoding) f.shell.clear_tail v h.clear.head_eexec (encoding_writable f.encoding h.encoding) h.clear.tail_ends border in
-      let split = ap flat_pieces (clear_regrouped v) ∙ split_again clear_end v (private_cipher (canon_private f) ++ more) rest x.0 x.1 x.2 c in
+      let split = ap (λ t. (flat_pieces t).read) (clear_regrouped v) ∙ split_again clear_end v (private_cipher (canon_private f) ++ more) rest x.0 x.1 x.2 c in
       let clear = clear_again f.shell.head (encoding_pieces f.encoding) f.shell.clear_tail h.clear.head_encoding (encoding_writable f.encoding h.encoding) h.clear.tail_apart in
       let text = text_again (canon_private f) more in
-      let private = ap private_pieces text.1 ∙ private_again (inside_of f.shell (entries f.subrs) (entries f.glyphs)) text.0 (font_writable f h) in
+      let private =
+      ap (λ t. (private_pieces t).read) text.1 ∙ private_again (inside_of f.shell (entries f.subrs) (entries f.glyphs)) text.0 (font_writable f h) in
       rw (le-leb (length file) file_limit short, flat, split, clear, private) (value_again f h)
 
 head_starts : (head rest : List ℕ) (e : EncodingText) → starts_segment head ≡ false → starts_segment (head ++ (encoding_text e ++ rest)) ≡ false
@@ -112,12 +115,13 @@ head_starts [] rest (OneWord w) h = refl
 head_starts [] rest (Puts es) h = refl
 head_starts (b ∷ head) rest e h = h
 
-plain_flat : (file : List ℕ) → starts_segment file ≡ false → flat_text file ≡ Ok file
+plain_flat : (file : List ℕ) → starts_segment file ≡ false → (flat_text file).read ≡ Ok file
 unfolding flat_text
 plain_flat file s = rw s refl
 
 -- a PFB within the file limit is read as its three parts
-joined_flat : (clear cipher trailer : List ℕ) → length (pfb_text clear cipher trailer) ≤ file_limit → flat_text (pfb_text clear cipher trailer) ≡ Ok (clear ++ (cipher ++ trailer))
+joined_flat : (clear cipher trailer : List ℕ) → length (pfb_text clear cipher trailer) ≤ file_limit →
+    (flat_text (pfb_text clear cipher trailer)).read ≡ Ok (clear ++ (cipher ++ trailer))
 unfolding flat_text
 joined_flat clear cipher trailer h =
     let e : List ℕ = 128 ∷ 3 ∷ [] in

@@ -10,7 +10,7 @@ use Rattle.std.proofs.lemmas.Bool.{cases_Bool, leb-true, and_parts, or_parts, no
 use Rattle.t1_grammar.specs.Grammar.{Grammar, pure, ◌>>=◌, ◌>>◌, before, Stops, NoneIn, first, first_at, fixed, unspelled}
 use Rattle.t1_bytes.specs.White.{is_white, gap}
 use Rattle.t1_bytes.specs.Eexec.{eexec_marker, blank_comes, cipher_text}
-use Rattle.t1_grammar.proofs.Places.{prepend}
+use Rattle.t1_grammar.specs.Places.{prepend}
 use Rattle.t1_font.specs.Words.{is_regular, is_delimiter, is_digit}
 use Rattle.t1_font.specs.Pieces.{EncodingText, OneWord, Puts, flat_pieces}
 use Rattle.t1_font.specs.Writing.{puts_text, encoding_text}
@@ -177,7 +177,8 @@ unfolding cipher_text
 line_skipped v = rw one-add refl
 
 -- a flat text is split where its first marker ends
-pub split_again : (clear v cipher rest : List ℕ) (x : (List ℕ × List ℕ) × List ℕ) → first_at eexec_marker (clear ++ (10 ∷ v)) ≡ Some x → x.1 ≡ 10 ∷ v → cipher_text.read v ≡ Some (cipher, rest) → flat_pieces (clear ++ (10 ∷ v)) ≡ Ok (record { clear = clear; cipher = cipher })
+pub split_again : (clear v cipher rest : List ℕ) (x : (List ℕ × List ℕ) × List ℕ) → first_at eexec_marker (clear ++ (10 ∷ v)) ≡ Some x →
+    x.1 ≡ 10 ∷ v → cipher_text.read v ≡ Some (cipher, rest) → (flat_pieces (clear ++ (10 ∷ v))).read ≡ Ok (record { clear = clear; cipher = cipher })
 unfolding flat_pieces
 split_again clear v cipher rest x e after c =
     let s = (first eexec_marker).takes (clear ++ (10 ∷ v)) x e in

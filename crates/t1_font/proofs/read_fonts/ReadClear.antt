@@ -23,7 +23,7 @@ use Rattle.t1_font.specs.Entries.{last_value, unless_notdef}
 use Rattle.t1_font.specs.ReadFont.{encoding_value, shell_of}
 use Rattle.t1_font.specs.Spelling.{IsCut, SpellsEncoding, IsClear}
 use Rattle.t1_font.specs.IsFont.{IsWord, IsClearShell, IsEncoding, NoMarker}
-use Rattle.t1_font.proofs.WordLemmas.{keyword_text}
+use Rattle.t1_font.specs.EntryLaws.{keyword_text}
 use Rattle.t1_font.proofs.MapLaws.{get-names_of}
 use Rattle.t1_font.proofs.MapLemmas.{Some_same, Some_None}
 use Rattle.t1_font.proofs.canonical.EntriesWritten.{fixed_read}

@@ -29,8 +29,8 @@ use Rattle.t1_font.specs.Canon.{canon}
 use Rattle.t1_font.specs.IsFont.{IsWord, IsPhrase, IsPrivateShell, SubrWords, SubrsFit, AreGlyphs, IsFont, HasBytes}
 use Rattle.t1_font.proofs.MapLaws.{entries-map_of, find-last}
 use Rattle.t1_font.proofs.MarkerLemmas.{close_parts}
-use Rattle.t1_font.proofs.ReadRight.{reads}
-use Rattle.t1_font.proofs.ReadAgain.{is_iv}
+use Rattle.t1_font.proofs.Spelled.{reads}
+use Rattle.t1_font.proofs.Spelled.{is_iv}
 use Rattle.t1_font.proofs.ValueLaws.{notdef_is}
 use Rattle.t1_font.proofs.canonical.FontAgain.{name_same}
 use Rattle.t1_font.proofs.ByteLemmas.{has_bytes, canon_bytes}

@@ -24,15 +24,15 @@ use Rattle.t1_font.proofs.rows.Tiny.{lines, glyph_notdef, head, clear_tail, puts
 
 -- ---- the clear text
 
-clear_reads : clear_pieces clear ≡ Ok (record { head = head; encoding = Puts puts; clear_tail = clear_tail })
+clear_reads : (clear_pieces clear).read ≡ Ok (record { head = head; encoding = Puts puts; clear_tail = clear_tail })
 unfolding first_at table_within gap word keyword decimal name encoding_marker encoding_word encoding_table encoding_loop encoding_start code code_entry encoding_end encoding_from clear_pieces
 clear_reads = refl
 
-code_too_large : clear_pieces (clear_with (codes "dup 256 /X put")) ≡ Err (BadEncoding 195)
+code_too_large : (clear_pieces (clear_with (codes "dup 256 /X put"))).read ≡ Err (BadEncoding 195)
 unfolding first_at table_within gap word keyword decimal name octal encoding_marker encoding_word encoding_table encoding_loop encoding_start code code_entry encoding_end encoding_from clear_pieces
 code_too_large = refl
 
-octal_code : clear_pieces (clear_with (codes "dup 8#101 /X put")) ≡ Ok (record { head = head; encoding = Puts puts; clear_tail = clear_tail })
+octal_code : (clear_pieces (clear_with (codes "dup 8#101 /X put"))).read ≡ Ok (record { head = head; encoding = Puts puts; clear_tail = clear_tail })
 unfolding first_at table_within gap word keyword decimal name octal encoding_marker encoding_word encoding_table encoding_loop encoding_start code code_entry encoding_end encoding_from clear_pieces
 octal_code = refl
 
@@ -42,69 +42,90 @@ octal_code = refl
 abbrev declaring : ℕ → Shell
 declaring n = record shell { subrs = Some (record { declared = n; rd = codes "RD"; put = codes "NP"; closing = codes "ND" }) }
 
-private_reads : private_pieces private_text ≡ Ok (inside_of shell subrs glyphs)
+private_reads : (private_pieces private_text).read ≡ Ok (inside_of shell subrs glyphs)
 unfolding first_at table_within gap one_white word keyword decimal name phrase_of length_from body entry subr_key subrs_end subrs_marker chars_marker len_iv_marker len_iv closefile next_name glyphs_end iv_at iv_of tail_after glyphs_from tables_from private_pieces
 private_reads = refl
 
-subr_too_short : private_pieces (private_with private_lines (codes "/Subrs 10 array") (codes "dup 0 3 RD abc NP" ∷ more_subrs) [] (codes "11") (first_glyph ∷ more_glyphs)) ≡ Err (BadSubrs 269)
+subr_too_short : (private_pieces
+    (private_with private_lines (codes "/Subrs 10 array") (codes "dup 0 3 RD abc NP" ∷ more_subrs) [] (codes "11")
+    (first_glyph ∷ more_glyphs))).read ≡ Err (BadSubrs 269)
 unfolding first_at table_within gap one_white word keyword decimal name phrase_of length_from body entry subr_key subrs_end subrs_marker chars_marker len_iv_marker len_iv closefile next_name glyphs_end iv_at iv_of tail_after glyphs_from tables_from private_pieces
 subr_too_short = refl
 
-glyph_too_short : private_pieces (private_with private_lines (codes "/Subrs 10 array") (first_subr ∷ more_subrs) [] (codes "11") (codes "/.notdef 3 RD abc ND" ∷ more_glyphs)) ≡ Err (BadGlyphs 546)
+glyph_too_short : (private_pieces
+    (private_with private_lines (codes "/Subrs 10 array") (first_subr ∷ more_subrs) [] (codes "11")
+    (codes "/.notdef 3 RD abc ND" ∷ more_glyphs))).read ≡ Err (BadGlyphs 546)
 unfolding first_at table_within gap one_white word keyword decimal name phrase_of length_from body entry subr_key subrs_end subrs_marker chars_marker len_iv_marker len_iv closefile next_name glyphs_end iv_at iv_of tail_after glyphs_from tables_from private_pieces
 glyph_too_short = refl
 
 -- the entry of Subr 9
-nine_subrs : private_pieces (private_with private_lines (codes "/Subrs 9 array") (first_subr ∷ more_subrs) [] (codes "11") (first_glyph ∷ more_glyphs)) ≡ Err (BadSubrs 481)
+nine_subrs : (private_pieces
+    (private_with private_lines (codes "/Subrs 9 array") (first_subr ∷ more_subrs) [] (codes "11") (first_glyph ∷ more_glyphs))).read ≡ Err (BadSubrs 481)
 unfolding first_at table_within gap one_white word keyword decimal name phrase_of length_from body entry subr_key subrs_end subrs_marker chars_marker len_iv_marker len_iv closefile next_name glyphs_end iv_at iv_of tail_after glyphs_from tables_from private_pieces
 nine_subrs = refl
 
-many_subrs : private_pieces (private_with private_lines (codes "/Subrs 65535 array") (first_subr ∷ more_subrs) [] (codes "11") (first_glyph ∷ more_glyphs)) ≡ Ok (inside_of (declaring 65535) subrs glyphs)
+many_subrs : (private_pieces
+    (private_with private_lines (codes "/Subrs 65535 array") (first_subr ∷ more_subrs) [] (codes "11") (first_glyph ∷ more_glyphs))).read ≡ Ok (inside_of
+    (declaring 65535) subrs glyphs)
 unfolding first_at table_within gap one_white word keyword decimal name phrase_of length_from body entry subr_key subrs_end subrs_marker chars_marker len_iv_marker len_iv closefile next_name glyphs_end iv_at iv_of tail_after glyphs_from tables_from private_pieces
 many_subrs = refl
 
 -- read, and over a limit below
-too_many_subrs : private_pieces (private_with private_lines (codes "/Subrs 65536 array") (first_subr ∷ more_subrs) [] (codes "11") (first_glyph ∷ more_glyphs)) ≡ Ok (inside_of (declaring 65536) subrs glyphs)
+too_many_subrs : (private_pieces
+    (private_with private_lines (codes "/Subrs 65536 array") (first_subr ∷ more_subrs) [] (codes "11") (first_glyph ∷ more_glyphs))).read ≡ Ok (inside_of
+    (declaring 65536) subrs glyphs)
 unfolding first_at table_within gap one_white word keyword decimal name phrase_of length_from body entry subr_key subrs_end subrs_marker chars_marker len_iv_marker len_iv closefile next_name glyphs_end iv_at iv_of tail_after glyphs_from tables_from private_pieces
 too_many_subrs = refl
 
-second_x : private_pieces (private_with private_lines (codes "/Subrs 10 array") (first_subr ∷ more_subrs) [] (codes "11") (first_glyph ∷ (more_glyphs ++ glyph_line (codes "/X 16") glyph_Y ∷ []))) ≡ Ok (inside_of shell subrs (glyphs ++ (codes "X", glyph_Y) ∷ []))
+second_x : (private_pieces
+    (private_with private_lines (codes "/Subrs 10 array") (first_subr ∷ more_subrs) [] (codes "11")
+    (first_glyph ∷ (more_glyphs ++ glyph_line (codes "/X 16") glyph_Y ∷ [])))).read ≡ Ok (inside_of shell subrs (glyphs ++ (codes "X", glyph_Y) ∷ []))
 unfolding first_at table_within gap one_white word keyword decimal name phrase_of length_from body entry subr_key subrs_end subrs_marker chars_marker len_iv_marker len_iv closefile next_name glyphs_end iv_at iv_of tail_after glyphs_from tables_from private_pieces
 second_x = refl
 
 -- the count of glyphs is not looked at
-other_count : private_pieces (private_with private_lines (codes "/Subrs 10 array") (first_subr ∷ more_subrs) [] (codes "3") (first_glyph ∷ more_glyphs)) ≡ Ok (inside_of shell subrs glyphs)
+other_count : (private_pieces
+    (private_with private_lines (codes "/Subrs 10 array") (first_subr ∷ more_subrs) [] (codes "3") (first_glyph ∷ more_glyphs))).read ≡ Ok (inside_of
+    shell subrs glyphs)
 unfolding first_at table_within gap one_white word keyword decimal name phrase_of length_from body entry subr_key subrs_end subrs_marker chars_marker len_iv_marker len_iv closefile next_name glyphs_end iv_at iv_of tail_after glyphs_from tables_from private_pieces
 other_count = refl
 
-hybrid : private_pieces (private_with private_lines (codes "/Subrs 10 array") (first_subr ∷ more_subrs) (codes "/Subrs 0 array ND ") (codes "11") (first_glyph ∷ more_glyphs)) ≡ Err Hybrid
+hybrid : (private_pieces
+    (private_with private_lines (codes "/Subrs 10 array") (first_subr ∷ more_subrs) (codes "/Subrs 0 array ND ") (codes "11")
+    (first_glyph ∷ more_glyphs))).read ≡ Err Hybrid
 unfolding first_at table_within gap one_white word keyword decimal name phrase_of length_from body entry subr_key subrs_end subrs_marker chars_marker len_iv_marker len_iv closefile next_name glyphs_end iv_at iv_of tail_after glyphs_from tables_from private_pieces
 hybrid = refl
 
-negative_len_iv : private_pieces (private_with (private_lines ++ codes "/lenIV -1 def" ∷ []) (codes "/Subrs 10 array") (first_subr ∷ more_subrs) [] (codes "11") (first_glyph ∷ more_glyphs)) ≡ Err BadLenIV
+negative_len_iv : (private_pieces
+    (private_with (private_lines ++ codes "/lenIV -1 def" ∷ []) (codes "/Subrs 10 array") (first_subr ∷ more_subrs) [] (codes "11")
+    (first_glyph ∷ more_glyphs))).read ≡ Err BadLenIV
 unfolding first_at table_within gap one_white word keyword decimal name phrase_of length_from body entry subr_key subrs_end subrs_marker chars_marker len_iv_marker len_iv closefile next_name glyphs_end iv_at iv_of tail_after glyphs_from tables_from private_pieces
 negative_len_iv = refl
 
-four_lead_bytes : private_pieces (private_with (private_lines ++ codes "/lenIV 4 def" ∷ []) (codes "/Subrs 10 array") (first_subr ∷ more_subrs) [] (codes "11") (first_glyph ∷ more_glyphs)) ≡ Ok (inside_of (record shell { private = lines (private_lines ++ codes "/lenIV 4 def" ∷ []) }) subrs glyphs)
+four_lead_bytes : (private_pieces
+    (private_with (private_lines ++ codes "/lenIV 4 def" ∷ []) (codes "/Subrs 10 array") (first_subr ∷ more_subrs) [] (codes "11")
+    (first_glyph ∷ more_glyphs))).read ≡ Ok (inside_of (record shell { private = lines (private_lines ++ codes "/lenIV 4 def" ∷ []) }) subrs glyphs)
 unfolding first_at table_within gap one_white word keyword decimal name phrase_of length_from body entry subr_key subrs_end subrs_marker chars_marker len_iv_marker len_iv closefile next_name glyphs_end iv_at iv_of tail_after glyphs_from tables_from private_pieces
 four_lead_bytes = refl
 
 -- read, and without `.notdef` below
-no_notdef_read : private_pieces (private_with private_lines (codes "/Subrs 10 array") (first_subr ∷ more_subrs) [] (codes "11") more_glyphs) ≡ Ok (inside_of shell subrs (drop 1 glyphs))
+no_notdef_read : (private_pieces
+    (private_with private_lines (codes "/Subrs 10 array") (first_subr ∷ more_subrs) [] (codes "11") more_glyphs)).read ≡
+    Ok (inside_of shell subrs (drop 1 glyphs))
 unfolding first_at table_within gap one_white word keyword decimal name phrase_of length_from body entry subr_key subrs_end subrs_marker chars_marker len_iv_marker len_iv closefile next_name glyphs_end iv_at iv_of tail_after glyphs_from tables_from private_pieces
 no_notdef_read = refl
 
 -- ---- the font
 
-font_read : font_from (outside_of shell (Puts puts)) (inside_of shell subrs glyphs) ≡ Ok tiny
+font_read : (font_from (outside_of shell (Puts puts)) (inside_of shell subrs glyphs)).read ≡ Ok tiny
 unfolding font_from
 font_read = refl
 
-no_notdef : font_from (outside_of shell (Puts puts)) (inside_of shell subrs (drop 1 glyphs)) ≡ Err NoNotdef
+no_notdef : (font_from (outside_of shell (Puts puts)) (inside_of shell subrs (drop 1 glyphs))).read ≡ Err NoNotdef
 unfolding font_from
 no_notdef = refl
 
-over_count : font_from (outside_of shell (Puts puts)) (inside_of (declaring 65536) subrs glyphs) ≡ Err Limit
+over_count : (font_from (outside_of shell (Puts puts)) (inside_of (declaring 65536) subrs glyphs)).read ≡ Err Limit
 unfolding font_from
 over_count = refl
 
@@ -149,7 +170,17 @@ words_subrs = record {
   closing = codes "noaccess put";
 }
 
-words_read : private_pieces words_text ≡ Ok (record { private = []; len_iv = 4; subrs = Some words_subrs; middle = 10 ∷ []; glyphs = (record { key = notdef; body = record { rd = codes "-|"; bytes = sealed 4330 4 glyph_notdef; phrase = codes "readonly def" } }) ∷ []; tail = 10 ∷ codes "closefile" })
+words_read : (private_pieces words_text).read ≡ Ok
+    (record {
+      private = [];
+      len_iv = 4;
+      subrs = Some words_subrs;
+      middle = 10 ∷ [];
+      glyphs =
+          (record { key = notdef; body = record { rd = codes "-|"; bytes = sealed 4330 4 glyph_notdef; phrase = codes "readonly def" } }) ∷ [];
+      tail = 10 ∷
+          codes "closefile";
+    })
 unfolding first_at table_within gap one_white word keyword decimal name phrase_of length_from body entry subr_key subrs_end subrs_marker chars_marker len_iv_marker len_iv closefile next_name glyphs_end iv_at iv_of tail_after glyphs_from tables_from private_pieces
 words_read = refl
 

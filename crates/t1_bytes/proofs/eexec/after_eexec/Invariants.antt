@@ -1,6 +1,6 @@
 use Rattle.std.proofs.Common.{◌≤◌, ◌-◌, length}
 use Rattle.t1_bytes.specs.Eexec.{eexec_marker}
-use Rattle.t1_grammar.proofs.Places.{NoneBelow}
+use Rattle.t1_grammar.specs.Places.{NoneBelow}
 use Rattle.t1_bytes.proofs.eexec.after_eexec.Given as goal
 
 abbrev pub invariant-places : goal.invariant-places

@@ -1,7 +1,7 @@
 use Rattle.std.proofs.Common.{drop, arith}
 use Rattle.t1_bytes.specs.Eexec.{eexec_marker}
 use Rattle.t1_grammar.specs.Grammar.{unread}
-use Rattle.t1_grammar.proofs.Places.{first_nowhere, unread_lacks}
+use Rattle.t1_grammar.specs.Places.{first_nowhere, unread_lacks}
 use Rattle.t1_bytes.proofs.laws.lacks_everywhere.Goals as goal
 
 pub returns : goal.returns

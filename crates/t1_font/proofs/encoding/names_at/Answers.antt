@@ -1,6 +1,6 @@
 use Rattle.std.proofs.Common.{[], sym, ap, ◌∙◌, refl, length, ◌≤◌, arith}
 use Rattle.std.proofs.lemmas.Option.{some_pair_parts}
-use Rattle.t1_grammar.proofs.Tables.{front_nil}
+use Rattle.t1_grammar.specs.TableLaws.{front_nil}
 use Rattle.t1_bytes.proofs.EexecLemmas.{marker_found, marker_absent}
 use Rattle.t1_font.specs.Encoding.{code_count, array_end}
 use Rattle.t1_font.specs.Gathering.{Entries}

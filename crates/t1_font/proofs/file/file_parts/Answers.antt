@@ -1,25 +1,27 @@
-use Rattle.std.proofs.Common.{rules, ◌+◌, ◌≡◌, ◌≤◌, ◌∙◌, ap, arith, sym, refl, drop, ℕ, List, Ok, Err, length}
+use Rattle.std.proofs.Common.{rules, ◌+◌, ◌≡◌, ◌≤◌, ◌∙◌, ap, arith, sym, refl, drop, ℕ, List, Result, Ok, Err, length}
 use Rattle.std.proofs.lemmas.Bool.{le-leb}
 use Rattle.std.proofs.lemmas.List.{drop-drop}
 use Rattle.t1_bytes.specs.Cipher.{private_text}
+use Rattle.t1_font.specs.declared.fault.ReadFault.{ReadFault}
 use Rattle.t1_font.specs.FontValue.{FontValue}
 use Rattle.t1_bytes.specs.Limits.{file_limit}
 use Rattle.t1_font.specs.Pieces.{FlatPieces, flat_pieces}
 use Rattle.t1_font.specs.ReadFont.{flat_text, file_pieces, font_texts, font_file}
-use Rattle.t1_font.specs.Reading.{Reading, if_ok}
+use Rattle.t1_grammar.specs.Formats.{if_ok}
 use Rattle.t1_font.proofs.AnswersRight.{answers_same}
 use Rattle.t1_font.proofs.file.file_parts.Goals as goal
 
-grouped : {A B C : Type 0} (r : Reading A) (f : A → Reading B) (g : B → Reading C) → if_ok (λ x. if_ok g (f x)) r ≡ if_ok g (if_ok f r)
+grouped : {E A B C : Type 0} (r : Result A E) (f : A → Result B E) (g : B → Result C E) → if_ok (λ x. if_ok g (f x)) r ≡ if_ok g (if_ok f r)
 grouped (Ok x) f g = refl
 grouped (Err e) f g = refl
 
 -- the font of a file that is not too long, where it is cut
-file_is : (file : List ℕ) (p : FlatPieces) → length file ≤ file_limit → file_pieces file ≡ Ok p → font_file file ≡ font_texts p.clear (private_text p.cipher)
+file_is : (file : List ℕ) (p : FlatPieces) → length file ≤ file_limit → (file_pieces file).read ≡ Ok p →
+    (font_file file).read ≡ (font_texts p.clear (private_text p.cipher)).read
 unfolding font_file
 file_is file p short cut =
-    let texts : FlatPieces → Reading FontValue = λ parts. font_texts parts.clear (private_text parts.cipher) in
-    rw (le-leb (length file) file_limit short) (grouped (flat_text file) flat_pieces texts ∙ ap (if_ok texts) cut)
+    let texts : FlatPieces → Result FontValue ReadFault = λ parts. (font_texts parts.clear (private_text parts.cipher)).read in
+    rw (le-leb (length file) file_limit short) (grouped (flat_text file).read (λ flat. (flat_pieces flat).read) texts ∙ ap (if_ok texts) cut)
 
 pub returns : goal.returns
 returns c =
@@ -27,8 +29,8 @@ returns c =
     let from = c.in_ok-cut.cut.from in
     let buffer = c.open_private.new.buffer.items in
     let private : private_text h.0.cipher ≡ drop (from + 4) buffer = ap private_text (sym h.2.1) ∙ (ap (drop 4) (sym c.open_private.ensures.value) ∙ (drop-drop 4 from buffer ∙ ap (λ k. drop k buffer) (omega arith))) in
-    answers_same c.text_parts.result _ (font_texts c.as_slice.result.now (drop (from + 4) buffer))
-    (file_is c.args.file.items h.0 (search rules) h.1 ∙ (λ i. font_texts (sym (c.as_slice.ensures.value ∙ h.2.0) i) (private i)))
+    answers_same c.text_parts.result _ (font_texts c.as_slice.result.now (drop (from + 4) buffer)).read
+    (file_is c.args.file.items h.0 (search rules) h.1 ∙ (λ i. (font_texts (sym (c.as_slice.ensures.value ∙ h.2.0) i) (private i)).read))
     c.text_parts.ensures
 
 pub text_parts-requires-clause-inside : goal.text_parts-requires-clause-inside

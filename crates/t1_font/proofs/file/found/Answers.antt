@@ -20,4 +20,6 @@ pub returns-in-Ok-clause-no_longer : goal.returns-in-Ok-clause-no_longer
 returns-in-Ok-clause-no_longer c = split_no_longer c.args.flat.now c.in-Ok.end (cipher_in c.args.flat.now c.in-Ok.cipher) c.in-Ok.ensures.right
 
 pub returns-in-Err-clause-parts : goal.returns-in-Err-clause-parts
-returns-in-Err-clause-parts c = subst (λ (e : ReadFault). Refused e (flat_pieces c.args.flat.now)) (sym c.from.ensures) (split_fails c.args.flat.now c.in-Err.fault c.in-Err.ensures.right)
+returns-in-Err-clause-parts c =
+    subst (λ (e : ReadFault). Refused e (flat_pieces c.args.flat.now).read) (sym c.from.ensures)
+    (split_fails c.args.flat.now c.in-Err.fault c.in-Err.ensures.right)

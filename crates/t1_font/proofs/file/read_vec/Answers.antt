@@ -1,5 +1,5 @@
 use Rattle.std.proofs.Common.{subst}
-use Rattle.t1_font.proofs.ReadRight.{reads}
+use Rattle.t1_font.proofs.Spelled.{reads}
 use Rattle.t1_font.proofs.read_fonts.ReadFontLaws.{read_is_font}
 use Rattle.t1_font.proofs.AnswersRight.{fault_right}
 use Rattle.t1_bytes.specs.Laws.{AreBytes}

@@ -1,5 +1,5 @@
 use Rattle.std.proofs.Common.{sym}
-use Rattle.t1_font.proofs.EntryLemmas.{name_stands}
+use Rattle.t1_font.proofs.PlaceLemmas.{name_stands}
 use Rattle.t1_font.proofs.PlaceLemmas.{behind_read}
 use Rattle.t1_font.proofs.glyphs.glyph_at.Goals as goal
 use Rattle.t1_font.specs.Words.{next_name}

@@ -1,5 +1,5 @@
 use Rattle.std.proofs.Common.{◌+◌, ◌-◌, length}
-use Rattle.t1_grammar.proofs.Places.{NoneBelow}
+use Rattle.t1_grammar.specs.Places.{NoneBelow}
 use Rattle.t1_font.proofs.markers.first.Given as goal
 
 abbrev pub invariant-places : goal.invariant-places

@@ -6,7 +6,8 @@ pub returns-clause-shown : goal.returns-clause-shown
 unfolding glyphs_from
 returns-clause-shown c = λ s before.
     let h = c.in_ok-glyphs.ensures.shown in
-    let tail : tail_after c.args.before.middle.items h.0.2 ≡ Ok c.in_ok-kept.kept.now = (λ i. tail_after (sym c.as_slice.ensures.value i) (sym (c.rest.ensures ∙ h.2.2) i)) ∙ c.in_ok-kept.ensures in (
+    let tail : (tail_after c.args.before.middle.items h.0.2).read ≡ Ok c.in_ok-kept.kept.now =
+    (λ i. (tail_after (sym c.as_slice.ensures.value i) (sym (c.rest.ensures ∙ h.2.2) i)).read) ∙ c.in_ok-kept.ensures in (
       record { private = c.args.before.private.items; len_iv = c.args.before.len_iv; subrs = s; middle = c.args.before.middle.items; glyphs = h.0.0; tail = c.in_ok-kept.kept.now },
       rw (h.1, tail) refl,
       record {

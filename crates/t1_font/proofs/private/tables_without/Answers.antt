@@ -9,7 +9,8 @@ unfolding tables_from
 returns-clause-shown c =
     let private = c.args.private.items in
     let rest = c.args.gathered.now.rest in
-    let iv : iv_of private ≡ Ok c.in_ok-len_iv.len_iv = ap iv_of (sym c.as_slice.ensures.value) ∙ c.in_ok-len_iv.ensures in
-    shown_same _ c.glyphs_from.result (tables_from c.args.size ((private, tt), rest) None) (glyphs_from c.args.size private None c.new.result.items c.in_ok-len_iv.len_iv rest)
-    (rw iv (ap (λ m. glyphs_from c.args.size private None m c.in_ok-len_iv.len_iv rest) (sym c.new.ensures.items)))
+    let iv : (iv_of private).read ≡ Ok c.in_ok-len_iv.len_iv = ap (λ t. (iv_of t).read) (sym c.as_slice.ensures.value) ∙ c.in_ok-len_iv.ensures in
+    shown_same _ c.glyphs_from.result (tables_from c.args.size ((private, tt), rest) None).read
+    (glyphs_from c.args.size private None c.new.result.items c.in_ok-len_iv.len_iv rest).read
+    (rw iv (ap (λ m. (glyphs_from c.args.size private None m c.in_ok-len_iv.len_iv rest).read) (sym c.new.ensures.items)))
     (c.glyphs_from.ensures.shown None (record { table = tt; bodies = λ few. c.requires.subrs ∙ none_numbered }))

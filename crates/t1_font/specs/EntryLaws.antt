@@ -1,23 +1,25 @@
--- Entries are read as they are spelled and have bytes, and no close can be read where one stands.
-use Rattle.std.proofs.Common.{◌≡◌, ℕ, ◌<◌, true, false, true≢false, List, [], ◌∷◌, length, take, drop, Some, None, refl, sym, ap, ◌∙◌, arith, ◌++◌}
+-- Each entry has bytes, and no close can be read where one stands: so a table has one reading.
+use Rattle.std.proofs.Common.{◌≡◌, ℕ, ◌<◌, false, true≢false, List, [], ◌∷◌, length, take, drop, Some, None, refl, sym, ap, ◌∙◌, arith, ◌++◌}
 use Rattle.std.specs.Prelude.{codes}
 use Rattle.std.specs.List.{prefix_len}
 use Rattle.std.specs.Str.{bytes_eq}
 use Rattle.std.proofs.lemmas.Slice.Eq.{bytes_eq-Decides}
 use Rattle.std.proofs.lemmas.Option.{cond_some, option_and_then_some}
-use Rattle.std.proofs.lemmas.List.{append_assoc, length-append}
+use Rattle.std.proofs.lemmas.List.{length-append}
 use Rattle.t1_grammar.specs.Grammar.{Grammar, fixed}
-use Rattle.t1_grammar.proofs.Tables.{Eats, Apart}
+use Rattle.t1_grammar.specs.TableLaws.{Eats, Apart}
 use Rattle.t1_bytes.specs.White.{is_white, gap}
 use Rattle.t1_bytes.proofs.SegmentLemmas.{Eats-spelled}
 use Rattle.t1_font.specs.Words.{is_regular, word, keyword, name, phrase_of, passes, next_name}
 use Rattle.t1_font.specs.Encoding.{code_entry, encoding_end}
-use Rattle.t1_font.specs.Places.{StandsIn}
-use Rattle.t1_font.specs.Entry.{Body, length_from, body, entry}
+use Rattle.t1_font.specs.Entry.{Body, body, entry}
 use Rattle.t1_font.specs.Subrs.{subr_key, subr, subrs_end}
 use Rattle.t1_font.specs.Glyphs.{glyph, glyphs_end}
-use Rattle.t1_font.proofs.WordLemmas.{keyword_text}
-use Rattle.t1_font.proofs.PlaceLemmas.{behind}
+
+-- what a keyword spells is its own text
+pub keyword_text : (w a text rest : List ℕ) → (keyword w).Spells a text rest → text ≡ w
+unfolding keyword
+keyword_text w a text rest s = s.0.0 ∙ sym ((bytes_eq-Decides w a).0 s.1)
 
 -- ---- charstrings by a key
 
@@ -70,16 +72,6 @@ pub subr_apart : (declared iv : ℕ) → Apart (subr declared iv) subrs_end
 subr_apart declared iv = entry_apart (subr_key declared) iv subrs_end (subr_key_apart declared)
 
 -- ---- the glyphs
-
--- a name stands right before what is left
-pub name_stands : (bytes : List ℕ) (x : List ℕ × List ℕ) → next_name.read bytes ≡ Some x → StandsIn bytes x.0 (length x.1)
-unfolding next_name name
-name_stands bytes x e =
-    let h = next_name.takes bytes x e in
-    let k = h.2 in
-    let n = k.5 in
-    behind k.1 (k.2 ++ x.1) bytes x.0 (length x.1) (h.1 ∙ (ap (λ t. t ++ x.1) k.3 ∙ append_assoc k.1 k.2 x.1))
-    (record { before = n.1; after = x.1; whole = ap (λ t. t ++ x.1) (n.3 ∙ ap (λ t. n.1 ++ t) n.5.0.0) ∙ append_assoc n.1 x.0 x.1; size = refl })
 
 -- a name begins with a slash
 name_slash : (bytes : List ℕ) (x : List ℕ × List ℕ) → name.read bytes ≡ Some x → (rest : List ℕ) × (bytes ≡ 47 ∷ rest)

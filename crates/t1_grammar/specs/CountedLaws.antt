@@ -4,7 +4,7 @@ use Rattle.std.proofs.Common.{refl, sym, ap, subst, ◌∙◌, append_assoc, ari
 use Rattle.std.proofs.lemmas.List.{append-nil}
 use Rattle.t1_grammar.specs.Grammar.{Grammar, unspelled, unread}
 use Rattle.t1_grammar.specs.Tables.{Entries, IsCounted, CountedAt, NextIsMissing, CountBreaksOff, Table, with_front, table_step, counted_at}
-use Rattle.t1_grammar.proofs.Tables.{table_front, front_nil, with_front-with_front}
+use Rattle.t1_grammar.specs.TableLaws.{table_front, front_nil, with_front-with_front}
 
 -- what is read is so many entries and their close, or it breaks off
 abbrev pub CountedRead : {A B : Type 0} (entry : Grammar A) (close : Grammar B) (n : ℕ) → List ℕ → Table A B → Type 0
