@@ -45,6 +45,7 @@ encoding_from clear OpensNames rest = do
   names ← counted BadEncoding (length clear) next_name array_end code_count rest
   give (Puts (from_code 0 names.0), names.2)
 
+-- the head before the first Encoding marker, the Encoding, and what stands after it
 unfoldable pub clear_pieces : List ℕ → Reading ClearPieces
 clear_pieces clear = do
   marker ← sought NoEncoding encoding_marker clear
@@ -74,11 +75,13 @@ iv_at (Some marker) = do
   n ← wanted BadLenIV len_iv marker.1
   give n.0
 
+-- the lenIV of the text before the tables
 unfoldable pub iv_of : List ℕ → Reading ℕ
 iv_of private = do
   marker ← if_sought len_iv_marker private
   iv_at marker
 
+-- a Subrs marker stands in the text
 abbrev pub has_subrs : List ℕ → Bool
 has_subrs text = is_some ((first subrs_marker).read text)
 
@@ -87,6 +90,7 @@ abbrev pub through : Option ((List ℕ × List ℕ) × List ℕ) → List ℕ �
 through None rest = rest
 through (Some x) rest = x.0.0 ++ x.0.1
 
+-- the text through the first `closefile`; neither it nor the middle has a Subrs marker
 unfoldable pub tail_after : List ℕ → List ℕ → Reading (List ℕ)
 tail_after middle rest = do
   close ← if_sought closefile rest
@@ -106,6 +110,7 @@ abbrev pub before_place : ℕ → Option ((List ℕ × ℕ) × List ℕ) → Opt
 before_place n None = None
 before_place n (Some x) = if nat_lt (length x.0.0) n then Some x else None
 
+-- the tables behind the first Subrs marker, where one stands before that of CharStrings, else the glyphs alone
 unfoldable pub tables_from : ℕ → (List ℕ × Unit {0}) × List ℕ → Option ((List ℕ × ℕ) × List ℕ) → Reading PrivatePieces
 tables_from size chars None = do
   iv ← iv_of chars.0.0
@@ -116,6 +121,7 @@ tables_from size chars (Some marker) = do
   next ← sought (BadGlyphs (size - length subrs.2)) chars_marker subrs.2
   glyphs_from size marker.0.0 (Some (record { declared = marker.0.1; entries = subrs.0; closing = subrs.1 })) next.0.0 iv next.1
 
+-- the pieces of a private text
 unfoldable pub private_pieces : List ℕ → Reading PrivatePieces
 private_pieces text = do
   chars ← sought NoCharStrings chars_marker text

@@ -112,6 +112,7 @@ has_notdef p = list_any (λ g. bytes_eq notdef g.key) p.glyphs
 abbrev pub is_within : Shell → List (ℕ × List ℕ) → List (List ℕ × List ℕ) → Bool
 is_within s subrs glyphs = nat_le (declared_count s.subrs) count_limit && nat_le (length glyphs) count_limit && nat_le (weight_of s subrs glyphs) weight_limit
 
+-- the font of the pieces, which has `.notdef` and is within the limits
 unfoldable pub font_from : ClearPieces → PrivatePieces → Reading FontValue
 font_from c p = do
   must NoNotdef (has_notdef p)
@@ -125,6 +126,7 @@ font_texts clear private = do
   inside ← private_pieces private
   font_from outside inside
 
+-- the font of a file that is not too long
 unfoldable pub font_file : List ℕ → Reading FontValue
 font_file file = do
   must TooLong (nat_le (length file) file_limit)

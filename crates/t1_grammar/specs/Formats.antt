@@ -18,12 +18,15 @@ pub record Format (E A : Type 0) : Type 1 where
   pub refuses : (e : E) → read ≡ Err e → Reason e
   pub refused : (e : E) → Reason e → read ≡ Err e
 
+-- one answer has one value
 pub same_Ok : {E A : Type 0} (x y : A) → ◌≡◌ {A = Result A E} (Ok x) (Ok y) → x ≡ y
 same_Ok x y e = cc
 
+-- and one fault
 pub same_Err : {E A : Type 0} (x y : E) → ◌≡◌ {A = Result A E} (Err x) (Err y) → x ≡ y
 same_Err x y e = cc
 
+-- and never both
 pub ok_err : {E A C : Type 0} (x : A) (y : E) → ◌≡◌ {A = Result A E} (Ok x) (Err y) → C
 ok_err x y e = absurd cc
 
@@ -47,6 +50,7 @@ give {E} {A} a = record {
 
 -- ---- one after another
 
+-- what f makes of a value; a fault stays
 abbrev pub if_ok : {E A B : Type 0} → (A → Result B E) → Result A E → Result B E
 if_ok f (Ok x) = f x
 if_ok f (Err e) = Err e
@@ -123,6 +127,7 @@ must fault test = record {
 
 -- ---- what stands at the front of bytes
 
+-- the value, or this fault
 abbrev pub or_fault : {E A : Type 0} → E → Option A → Result A E
 or_fault e (Some x) = Ok x
 or_fault e None = Err e
