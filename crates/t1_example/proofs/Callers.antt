@@ -15,6 +15,7 @@ use Rattle.t1_font.specs.IsFont.{IsFont}
 use Rattle.t1_font.specs.ReadFont.{read_font}
 use Rattle.t1_font.specs.Spelling.{Spells}
 use Rattle.t1_font.specs.WriteLaws.{Fits}
+use Rattle.t1_font.specs.declared.dialect.Dialect.TheVariants.{Strict}
 use Rattle.t1_font.proofs.Spelled.{reads_again, one_font}
 use Rattle.t1_font.proofs.canonical.RoundTrip.{round_trip}
 use Rattle.t1_subset.specs.declared.fault.SubsetFault.{SubsetFault}
@@ -85,7 +86,7 @@ read_back file cut again a b = sym (same_read cut again (read_font file) a b)
 
 -- the font of the file is the one that can be cut
 pub the_font : (file : List ℕ) (a b : Names) (form : Form) (f g : FontValue) → CanBeCut file a b form f → Spells file g → g ≡ f
-the_font file a b form f g c s = one_font file g f s c.spelled
+the_font file a b form f g c s = one_font Strict file g f s c.spelled
 
 -- what two subsets come to, merged in the other order
 pub turned : (g h : FontValue) (r : Result FontValue Conflict) → MergesSubsets h g r → MergesSubsets g h r
@@ -111,12 +112,12 @@ readable file a b form f g c s =
 
 -- what a file that can be cut is refused for
 pub file_refused : (file : List ℕ) (a b : Names) (form : Form) (f : FontValue) (e : ReadFault) → CanBeCut file a b form f → Refused e (read_font file) → e ≡ reading.Memory
-file_refused file a b form f e c r = only_memory (read_font file) f e (reads_again file f c.spelled) r
+file_refused file a b form f e c r = only_memory (read_font file) f e (reads_again Strict file f c.spelled) r
 
 -- what a font's own file spells is the font
 pub of_file : (file : List ℕ) (cut g : FontValue) (form : Form) → IsFont cut → Fits form cut → file ≡ canon cut form → Spells file g → g ≡ cut
 of_file file cut g form h k e s =
-    same_read g cut (read_font file) (reads_again file g s) (subst (λ (v : List ℕ). read_font v ≡ Ok cut) (sym e) (round_trip cut form h k))
+    same_read g cut (read_font file) (reads_again Strict file g s) (subst (λ (v : List ℕ). read_font v ≡ Ok cut) (sym e) (round_trip cut form h k))
 
 pub moved : (f cut g : FontValue) (n : List ℕ) → g ≡ cut → AnswersAlike f cut n → AnswersAlike f g n
 moved f cut g n e a = subst (λ (j : FontValue). AnswersAlike f j n) (sym e) a

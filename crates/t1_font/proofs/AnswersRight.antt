@@ -1,6 +1,7 @@
 -- What was answered, by the relations.
 use Rattle.std.proofs.Common.{◌≡◌, ◌∙◌, sym, subst, ℕ, List, [], ◌∷◌, Result, Ok, Err, get_or, Fits, w8, suc}
 use Rattle.t1_bytes.specs.Laws.{AreBytes}
+use Rattle.t1_font.specs.declared.dialect.Dialect.TheVariants.{Strict}
 use Rattle.t1_font.specs.declared.fault.ReadFault.{ReadFault}
 use Rattle.t1_font.specs.declared.fault.ReadFault.TheVariants.{TooLong, BadSegment, NoEexec, ShortCipher, NoEncoding, BadEncoding, NoCharStrings, BadLenIV, BadSubrs, BadGlyphs, Hybrid, NoClosefile, NoNotdef, Limit, Memory}
 use Rattle.t1_font.specs.ReadFont.{read_font}
@@ -26,17 +27,17 @@ answers_same (Err e) r s same h = subst (Refused e) (sym same) h
 -- a fault that reading gives is refused for its reason
 pub fault_right : (file : List ℕ) (e : ReadFault) → Refused e (read_font file) → Refuses file e
 fault_right file Memory h = tt
-fault_right file TooLong h = refuses file TooLong h
-fault_right file (BadSegment at) h = refuses file (BadSegment at) h
-fault_right file NoEexec h = refuses file NoEexec h
-fault_right file ShortCipher h = refuses file ShortCipher h
-fault_right file NoEncoding h = refuses file NoEncoding h
-fault_right file (BadEncoding at) h = refuses file (BadEncoding at) h
-fault_right file NoCharStrings h = refuses file NoCharStrings h
-fault_right file BadLenIV h = refuses file BadLenIV h
-fault_right file (BadSubrs at) h = refuses file (BadSubrs at) h
-fault_right file (BadGlyphs at) h = refuses file (BadGlyphs at) h
-fault_right file Hybrid h = refuses file Hybrid h
-fault_right file NoClosefile h = refuses file NoClosefile h
-fault_right file NoNotdef h = refuses file NoNotdef h
-fault_right file Limit h = refuses file Limit h
+fault_right file TooLong h = refuses Strict file TooLong h
+fault_right file (BadSegment at) h = refuses Strict file (BadSegment at) h
+fault_right file NoEexec h = refuses Strict file NoEexec h
+fault_right file ShortCipher h = refuses Strict file ShortCipher h
+fault_right file NoEncoding h = refuses Strict file NoEncoding h
+fault_right file (BadEncoding at) h = refuses Strict file (BadEncoding at) h
+fault_right file NoCharStrings h = refuses Strict file NoCharStrings h
+fault_right file BadLenIV h = refuses Strict file BadLenIV h
+fault_right file (BadSubrs at) h = refuses Strict file (BadSubrs at) h
+fault_right file (BadGlyphs at) h = refuses Strict file (BadGlyphs at) h
+fault_right file Hybrid h = refuses Strict file Hybrid h
+fault_right file NoClosefile h = refuses Strict file NoClosefile h
+fault_right file NoNotdef h = refuses Strict file NoNotdef h
+fault_right file Limit h = refuses Strict file Limit h

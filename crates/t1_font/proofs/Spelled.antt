@@ -10,6 +10,7 @@ use Rattle.t1_bytes.specs.Cipher.{decrypted, private_text}
 use Rattle.t1_bytes.specs.Limits.{file_limit}
 use Rattle.t1_bytes.specs.Segments.{IsFlat}
 use Rattle.t1_bytes.specs.Eexec.{cipher_text}
+use Rattle.t1_font.specs.declared.dialect.Dialect.{Dialect}
 use Rattle.t1_font.specs.declared.fault.ReadFault.{ReadFault}
 use Rattle.t1_font.specs.Glyphs.{Glyph, glyph, glyphs_end}
 use Rattle.t1_font.specs.Encoding.{Opening, Whole, OpensPuts, OpensNames, encoding_start}
@@ -17,10 +18,9 @@ use Rattle.t1_font.specs.Markers.{subrs_marker, closefile, len_iv_marker}
 use Rattle.t1_font.specs.Pieces.{FlatPieces, EncodingText, OneWord, Puts, ClearPieces, SubrsPieces, PrivatePieces}
 use Rattle.t1_font.specs.Pieces.{flat_pieces, encoding_from, clear_pieces, iv_at, iv_of, has_subrs, through, tail_after, glyphs_from, before_place, tables_from, private_pieces}
 use Rattle.t1_font.specs.FontValue.{FontValue, notdef, IsWithin}
-use Rattle.t1_font.specs.ReadFont.{font_of, flat_text, font_from, font_texts, font_file, read_font}
+use Rattle.t1_font.specs.ReadFont.{font_of, flat_text, font_from, font_texts, font_file}
 use Rattle.t1_font.specs.Spelling.{IsCut, SpellsEncoding, IsClear, IsLenIV, said, unsaid, nowhere, later, Start, SpellsTables, HasGlyphs}
-use Rattle.t1_font.specs.Spelling.{IsPrivate, Texts, HasPieces, Spells}
-use Rattle.t1_font.specs.Reasons.{Reason}
+use Rattle.t1_font.specs.Spelling.{IsPrivate, Texts, HasPieces, SpellsIn}
 use Rattle.t1_font.proofs.HasSubrs.{subrs_lack, lack_subrs}
 use Rattle.t1_font.proofs.ValueLaws.{notdef_is, within_of, within_again, private_enciphers, private_again, lead_length}
 
@@ -44,33 +44,33 @@ cut_four flat clear cipher s = leb-true 4 (length cipher) s.secret.2.1
 
 -- ---- the clear text
 
-encoding_is : (clear after : List ℕ) (start : Opening) (rest : List ℕ) (e : EncodingText × List ℕ) →
-    AtFront encoding_start after (start, rest) → (encoding_from clear start rest).Spells e → SpellsEncoding e.0 after e.1
+encoding_is : (d : Dialect) (clear after : List ℕ) (start : Opening) (rest : List ℕ) (e : EncodingText × List ℕ) →
+    AtFront (encoding_start d) after (start, rest) → (encoding_from d clear start rest).Spells e → SpellsEncoding d e.0 after e.1
 unfolding encoding_from
-encoding_is clear after (Whole w) rest e a s = subst (λ (x : EncodingText × List ℕ). SpellsEncoding x.0 after x.1) s a
-encoding_is clear after OpensPuts rest e a s =
-    subst (λ (x : EncodingText × List ℕ). SpellsEncoding x.0 after x.1) s.2 (inl (rest, s.0.1, a, s.1))
-encoding_is clear after OpensNames rest e a s =
-    subst (λ (x : EncodingText × List ℕ). SpellsEncoding x.0 after x.1) s.2 (inr (s.0.0, rest, s.0.1, refl, a, s.1))
+encoding_is d clear after (Whole w) rest e a s = subst (λ (x : EncodingText × List ℕ). SpellsEncoding d x.0 after x.1) s a
+encoding_is d clear after OpensPuts rest e a s =
+    subst (λ (x : EncodingText × List ℕ). SpellsEncoding d x.0 after x.1) s.2 (inl (rest, s.0.1, a, s.1))
+encoding_is d clear after OpensNames rest e a s =
+    subst (λ (x : EncodingText × List ℕ). SpellsEncoding d x.0 after x.1) s.2 (inr (s.0.0, rest, s.0.1, refl, a, s.1))
 
-is_encoding : (clear bytes : List ℕ) (enc : EncodingText) (after : List ℕ) → SpellsEncoding enc bytes after →
-    (start : Opening × List ℕ) × AtFront encoding_start bytes start × ((encoding_from clear start.0 start.1).Spells (enc, after))
+is_encoding : (d : Dialect) (clear bytes : List ℕ) (enc : EncodingText) (after : List ℕ) → SpellsEncoding d enc bytes after →
+    (start : Opening × List ℕ) × AtFront (encoding_start d) bytes start × ((encoding_from d clear start.0 start.1).Spells (enc, after))
 unfolding encoding_from
-is_encoding clear bytes (OneWord w) after s = ((Whole w, after), s, refl)
-is_encoding clear bytes (Puts puts) after (inl s) = ((OpensPuts, s.0), s.2, ((puts, s.1, after), s.3, refl))
-is_encoding clear bytes (Puts puts) after (inr s) =
+is_encoding d clear bytes (OneWord w) after s = ((Whole w, after), s, refl)
+is_encoding d clear bytes (Puts puts) after (inl s) = ((OpensPuts, s.0), s.2, ((puts, s.1, after), s.3, refl))
+is_encoding d clear bytes (Puts puts) after (inr s) =
     ((OpensNames, s.1), s.4, ((s.0, s.2, after), s.5, ap (λ (p : List (ℕ × List ℕ)). (Puts p, after)) (sym s.3)))
 
-clear_is : (clear : List ℕ) (c : ClearPieces) → (clear_pieces clear).Spells c → IsClear clear c
+clear_is : (d : Dialect) (clear : List ℕ) (c : ClearPieces) → (clear_pieces d clear).Spells c → IsClear d clear c
 unfolding clear_pieces
-clear_is clear c s =
-    let encoding = encoding_is clear s.0.1 s.2.0.0 s.2.0.1 s.2.2.0 s.2.1 s.2.2.1 in
-    subst (IsClear clear) s.2.2.2 (record { after = s.0.1; marker = s.1; encoding = encoding })
+clear_is d clear c s =
+    let encoding = encoding_is d clear s.0.1 s.2.0.0 s.2.0.1 s.2.2.0 s.2.1 s.2.2.1 in
+    subst (IsClear d clear) s.2.2.2 (record { after = s.0.1; marker = s.1; encoding = encoding })
 
-is_clear : (clear : List ℕ) (c : ClearPieces) → IsClear clear c → (clear_pieces clear).Spells c
+is_clear : (d : Dialect) (clear : List ℕ) (c : ClearPieces) → IsClear d clear c → (clear_pieces d clear).Spells c
 unfolding clear_pieces
-is_clear clear c s =
-    let e = is_encoding clear s.after c.encoding c.clear_tail s.encoding in
+is_clear d clear c s =
+    let e = is_encoding d clear s.after c.encoding c.clear_tail s.encoding in
     (((c.head, tt), s.after), s.marker, (e.0, e.1, ((c.encoding, c.clear_tail), e.2, refl)))
 
 -- ---- lenIV and the tail
@@ -133,64 +133,64 @@ is_tail middle after tail s =
 abbrev made : List ℕ → ℕ → Option SubrsPieces → List ℕ → PrivatePieces
 made private iv subrs middle = record { private = private; len_iv = iv; subrs = subrs; middle = middle; glyphs = []; tail = [] }
 
-glyphs_are : (text private : List ℕ) (subrs : Option SubrsPieces) (middle : List ℕ) (iv : ℕ) (rest : List ℕ) (p : PrivatePieces) →
-    SpellsTables text (made private iv subrs middle) subrs rest → IsLenIV private iv →
-    (glyphs_from (length text) private subrs middle iv rest).Spells p → IsPrivate text p
+glyphs_are : (d : Dialect) (text private : List ℕ) (subrs : Option SubrsPieces) (middle : List ℕ) (iv : ℕ) (rest : List ℕ) (p : PrivatePieces) →
+    SpellsTables d text (made private iv subrs middle) subrs rest → IsLenIV private iv →
+    (glyphs_from (length text) private subrs middle iv rest).Spells p → IsPrivate d text p
 unfolding glyphs_from
-glyphs_are text private subrs middle iv rest p tables i s =
+glyphs_are d text private subrs middle iv rest p tables i s =
     let t = tail_is middle s.0.2 s.2.0 s.2.1 in
     let before = before s.0.0 s.0.1 s.0.2 s.2.0 s.1 in
-    subst (IsPrivate text) s.2.2
+    subst (IsPrivate d text) s.2.2
     (record { after = s.0.2; front = t.front; own = t.own; rest = t.rest; before = before; close = t.close; tail = t.tail_is; single = t.single })
   where
-    moved : (gs : List Glyph) (tail : List ℕ) (o : Option SubrsPieces) → SpellsTables text (made private iv subrs middle) o rest →
-        SpellsTables text (record (made private iv subrs middle) { glyphs = gs; tail = tail }) o rest
+    moved : (gs : List Glyph) (tail : List ℕ) (o : Option SubrsPieces) → SpellsTables d text (made private iv subrs middle) o rest →
+        SpellsTables d text (record (made private iv subrs middle) { glyphs = gs; tail = tail }) o rest
     moved gs tail None h = h
     moved gs tail (Some x) h = h
 
     before : (gs : List Glyph) (closing after tail : List ℕ) → TableAt (glyph iv) glyphs_end gs closing rest after →
-        HasGlyphs text (record (made private iv subrs middle) { glyphs = gs; tail = tail }) after
+        HasGlyphs d text (record (made private iv subrs middle) { glyphs = gs; tail = tail }) after
     before gs closing after tail t =
         record { start = rest; closing = closing; tables = record { tables = moved gs tail subrs tables; len_iv = i }; glyphs = t }
 
-without_subrs : (text : List ℕ) (chars : (List ℕ × Unit {0}) × List ℕ) (p : PrivatePieces) → Start text chars.0.0 None chars.1 →
-    (tables_from (length text) chars None).Spells p → IsPrivate text p
+without_subrs : (d : Dialect) (text : List ℕ) (chars : (List ℕ × Unit {0}) × List ℕ) (p : PrivatePieces) → Start text chars.0.0 None chars.1 →
+    (tables_from d (length text) chars None).Spells p → IsPrivate d text p
 unfolding tables_from
-without_subrs text chars p a s = glyphs_are text chars.0.0 None [] s.0 chars.1 p (a, refl) (iv_spelled chars.0.0 s.0 s.1) s.2
+without_subrs d text chars p a s = glyphs_are d text chars.0.0 None [] s.0 chars.1 p (a, refl) (iv_spelled chars.0.0 s.0 s.1) s.2
 
-with_subrs : (text : List ℕ) (chars : (List ℕ × Unit {0}) × List ℕ) (x : (List ℕ × ℕ) × List ℕ) (p : PrivatePieces) →
-    Start text x.0.0 (Some x.0.1) x.1 → (tables_from (length text) chars (Some x)).Spells p → IsPrivate text p
+with_subrs : (d : Dialect) (text : List ℕ) (chars : (List ℕ × Unit {0}) × List ℕ) (x : (List ℕ × ℕ) × List ℕ) (p : PrivatePieces) →
+    Start text x.0.0 (Some x.0.1) x.1 → (tables_from d (length text) chars (Some x)).Spells p → IsPrivate d text p
 unfolding tables_from
-with_subrs text chars x p a s =
+with_subrs d text chars x p a s =
     let t = s.2.0 in
     let next = s.2.2.0 in
     let subrs : SubrsPieces = record { declared = x.0.1; entries = t.0; closing = t.1 } in
-    glyphs_are text x.0.0 (Some subrs) next.0.0 s.0 next.1 p (x.1, t.2, a, s.2.1, s.2.2.1) (iv_spelled x.0.0 s.0 s.1) s.2.2.2
+    glyphs_are d text x.0.0 (Some subrs) next.0.0 s.0 next.1 p (x.1, t.2, a, s.2.1, s.2.2.1) (iv_spelled x.0.0 s.0 s.1) s.2.2.2
 
 -- the tables where the marker of Subrs stands before that of CharStrings, or doesn't
-abbrev Chosen : List ℕ → (List ℕ × Unit {0}) × List ℕ → (List ℕ × ℕ) × List ℕ → PrivatePieces → Bool → Type 0
-Chosen text chars x p b = (tables_from (length text) chars (cond b (Some x) None)).Spells p
+abbrev Chosen : Dialect → List ℕ → (List ℕ × Unit {0}) × List ℕ → (List ℕ × ℕ) × List ℕ → PrivatePieces → Bool → Type 0
+Chosen d text chars x p b = (tables_from d (length text) chars (cond b (Some x) None)).Spells p
 
-private_is : (text : List ℕ) (p : PrivatePieces) → (private_pieces text).Spells p → IsPrivate text p
+private_is : (d : Dialect) (text : List ℕ) (p : PrivatePieces) → (private_pieces d text).Spells p → IsPrivate d text p
 unfolding private_pieces
-private_is text p s = by_marker s.2.0 s.2.1 s.2.2
+private_is d text p s = by_marker s.2.0 s.2.1 s.2.2
   where
     chars : (List ℕ × Unit {0}) × List ℕ
     chars = s.0
 
     by_marker : (o : Option ((List ℕ × ℕ) × List ℕ)) → MayOccur subrs_marker text o →
-        (tables_from (length text) chars (before_place (length chars.0.0) o)).Spells p → IsPrivate text p
-    by_marker None l t = without_subrs text chars p (s.1, nowhere l) t
+        (tables_from d (length text) chars (before_place (length chars.0.0) o)).Spells p → IsPrivate d text p
+    by_marker None l t = without_subrs d text chars p (s.1, nowhere l) t
     by_marker (Some x) m t = elim (cases_Bool (ltb (length x.0.0) (length chars.0.0))) [
-      | inl lt ↦ with_subrs text chars x p (chars.0.0, chars.1, s.1, m, ltb-true _ _ lt) (subst (Chosen text chars x p) lt t)
-      | inr ge ↦ without_subrs text chars p (s.1, later x.0.0 x.0.1 x.1 m (ltb-false _ _ ge)) (subst (Chosen text chars x p) ge t)
+      | inl lt ↦ with_subrs d text chars x p (chars.0.0, chars.1, s.1, m, ltb-true _ _ lt) (subst (Chosen d text chars x p) lt t)
+      | inr ge ↦ without_subrs d text chars p (s.1, later x.0.0 x.0.1 x.1 m (ltb-false _ _ ge)) (subst (Chosen d text chars x p) ge t)
     ]
 
-is_private : (text : List ℕ) (p : PrivatePieces) → IsPrivate text p → (private_pieces text).Spells p
+is_private : (d : Dialect) (text : List ℕ) (p : PrivatePieces) → IsPrivate d text p → (private_pieces d text).Spells p
 unfolding private_pieces tables_from glyphs_from
-is_private text p s = by_subrs p.subrs refl b.tables.tables
+is_private d text p s = by_subrs p.subrs refl b.tables.tables
   where
-    b : HasGlyphs text p s.after
+    b : HasGlyphs d text p s.after
     b = s.before
 
     iv : (iv_of p.private).Spells p.len_iv
@@ -206,22 +206,22 @@ is_private text p s = by_subrs p.subrs refl b.tables.tables
         (subst (λ (x : List ℕ). (glyphs_from (length text) p.private p.subrs x p.len_iv b.start).Spells p) m
         ((p.glyphs, b.closing, s.after), b.glyphs, (p.tail, tail, refl)))
 
-    by_subrs : (o : Option SubrsPieces) → p.subrs ≡ o → SpellsTables text p o b.start → (private_pieces text).Spells p
+    by_subrs : (o : Option SubrsPieces) → p.subrs ≡ o → SpellsTables d text p o b.start → (private_pieces d text).Spells p
     by_subrs None k h =
         let chars : (List ℕ × Unit {0}) × List ℕ = ((p.private, tt), b.start) in
-        let tables : (tables_from (length text) chars None).Spells p = (p.len_iv, iv, glyphs [] None h.1 k) in
+        let tables : (tables_from d (length text) chars None).Spells p = (p.len_iv, iv, glyphs [] None h.1 k) in
         elim h.0.1 [
           | nowhere l ↦ (chars, h.0.0, (None, l, tables))
           | later front declared after a ge ↦
               let x : (List ℕ × ℕ) × List ℕ = ((front, declared), after) in
-              (chars, h.0.0, (Some x, a, subst (Chosen text chars x p) (sym (le-ltb (length front) (length p.private) ge)) tables))
+              (chars, h.0.0, (Some x, a, subst (Chosen d text chars x p) (sym (le-ltb (length front) (length p.private) ge)) tables))
         ]
     by_subrs (Some x) k h =
         let chars : (List ℕ × Unit {0}) × List ℕ = ((h.2.0, tt), h.2.1) in
         let marker : (List ℕ × ℕ) × List ℕ = ((p.private, x.declared), h.0) in
-        let tables : (tables_from (length text) chars (Some marker)).Spells p =
+        let tables : (tables_from d (length text) chars (Some marker)).Spells p =
         (p.len_iv, iv, ((x.entries, x.closing, h.1), h.3, (((p.middle, tt), b.start), h.4, glyphs p.middle (Some x) refl k))) in
-        (chars, h.2.2, (Some marker, h.2.3, subst (Chosen text chars marker p) (sym (lt-ltb (length p.private) (length h.2.0) h.2.4)) tables))
+        (chars, h.2.2, (Some marker, h.2.3, subst (Chosen d text chars marker p) (sym (lt-ltb (length p.private) (length h.2.0) h.2.4)) tables))
 
 -- ---- the font
 
@@ -258,50 +258,50 @@ texts_are file flat parts short flat_is cut = record {
 }
 
 -- what the reading spells is spelled by the file
-pub file_spells : (file : List ℕ) (font : FontValue) → (font_file file).Spells font → Spells file font
+pub file_spells : (d : Dialect) (file : List ℕ) (font : FontValue) → (font_file d file).Spells font → SpellsIn d file font
 unfolding font_file flat_text
-file_spells file font s =
+file_spells d file font s =
     let parts = s.2.2.0 in
     let texts = texts_are file s.2.0 parts (leb-true (length file) file_limit s.1) s.2.1 (cut_is s.2.0 parts s.2.2.1) in
     let t = s.2.2.2 in
-    let clear = clear_is parts.clear t.0 t.1 in
-    let private = private_is (private_text parts.cipher) t.2.0 t.2.1 in
-    let pieces : HasPieces file t.0 t.2.0 =
+    let clear = clear_is d parts.clear t.0 t.1 in
+    let private = private_is d (private_text parts.cipher) t.2.0 t.2.1 in
+    let pieces : HasPieces d file t.0 t.2.0 =
     record { clear = parts.clear; text = private_text parts.cipher; texts = texts; clear_is = clear; private_is = private } in
     let f = font_is t.0 t.2.0 font t.2.2 in
     record { outside = t.0; inside = t.2.0; pieces = pieces; value = f.value; has_notdef = f.has_notdef; within = f.within }
 
 -- and the other way round
-pub spells_file : (file : List ℕ) (font : FontValue) → Spells file font → (font_file file).Spells font
+pub spells_file : (d : Dialect) (file : List ℕ) (font : FontValue) → SpellsIn d file font → (font_file d file).Spells font
 unfolding font_file flat_text
-spells_file file font s =
+spells_file d file font s =
     let h = s.pieces in
     let t = h.texts in
     let parts : FlatPieces = record { clear = h.clear; cipher = t.cipher } in
-    let private : (private_pieces (private_text t.cipher)).Spells s.inside =
-    subst (λ (x : List ℕ). (private_pieces x).Spells s.inside) (private_again t.lead h.text t.cipher t.secret t.lead_is)
-    (is_private h.text s.inside h.private_is) in
+    let private : (private_pieces d (private_text t.cipher)).Spells s.inside =
+    subst (λ (x : List ℕ). (private_pieces d x).Spells s.inside) (private_again t.lead h.text t.cipher t.secret t.lead_is)
+    (is_private d h.text s.inside h.private_is) in
     let font_is = is_font s.outside s.inside font (record { value = s.value; has_notdef = s.has_notdef; within = s.within }) in
-    let inside : (font_texts h.clear (private_text t.cipher)).Spells font =
-    (s.outside, is_clear h.clear s.outside h.clear_is, (s.inside, private, font_is)) in
+    let inside : (font_texts d h.clear (private_text t.cipher)).Spells font =
+    (s.outside, is_clear d h.clear s.outside h.clear_is, (s.inside, private, font_is)) in
     (tt, le-leb (length file) file_limit t.short, (t.flat, t.flat_is, (parts, is_cut t.flat h.clear t.cipher t.cut, inside)))
 
 -- the font that is read is spelled by the file
-pub reads : (file : List ℕ) (font : FontValue) → read_font file ≡ Ok font → Spells file font
-reads file font e = file_spells file font ((font_file file).takes font e)
+pub reads : (d : Dialect) (file : List ℕ) (font : FontValue) → (font_file d file).read ≡ Ok font → SpellsIn d file font
+reads d file font e = file_spells d file font ((font_file d file).takes font e)
 
 -- a file that spells a font is read as it
-pub reads_again : (file : List ℕ) (font : FontValue) → Spells file font → read_font file ≡ Ok font
-reads_again file font s = (font_file file).again font (spells_file file font s)
+pub reads_again : (d : Dialect) (file : List ℕ) (font : FontValue) → SpellsIn d file font → (font_file d file).read ≡ Ok font
+reads_again d file font s = (font_file d file).again font (spells_file d file font s)
 
 -- the fault that is read is the reason why the file spells no font
-pub refuses : (file : List ℕ) (fault : ReadFault) → read_font file ≡ Err fault → Reason file fault
-refuses file fault e = (font_file file).refuses fault e
+pub refuses : (d : Dialect) (file : List ℕ) (fault : ReadFault) → (font_file d file).read ≡ Err fault → (font_file d file).Reason fault
+refuses d file fault e = (font_file d file).refuses fault e
 
 -- a file with a reason to spell nothing is refused for it
-pub refuses_again : (file : List ℕ) (fault : ReadFault) → Reason file fault → read_font file ≡ Err fault
-refuses_again file fault s = (font_file file).refused fault s
+pub refuses_again : (d : Dialect) (file : List ℕ) (fault : ReadFault) → (font_file d file).Reason fault → (font_file d file).read ≡ Err fault
+refuses_again d file fault s = (font_file d file).refused fault s
 
 -- a file spells at most one font
-pub one_font : (file : List ℕ) (f g : FontValue) → Spells file f → Spells file g → f ≡ g
-one_font file f g s t = one_value (font_file file) f g (spells_file file f s) (spells_file file g t)
+pub one_font : (d : Dialect) (file : List ℕ) (f g : FontValue) → SpellsIn d file f → SpellsIn d file g → f ≡ g
+one_font d file f g s t = one_value (font_file d file) f g (spells_file d file f s) (spells_file d file g t)

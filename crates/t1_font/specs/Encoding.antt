@@ -1,60 +1,61 @@
 -- The Encoding of the clear text.
 use Rattle.std.specs.Prelude.{ℕ, suc, ◌+◌, ◌-◌, ◌*◌, ◌&&◌, nat_le, Bool, true, List, [], ◌∷◌, length, codes}
 use Rattle.t1_grammar.specs.Grammar.{Grammar, pure, ◌>>=◌, ◌>>◌, that, run, fixed, either, may_be}
-use Rattle.t1_bytes.specs.White.{white, gap}
+use Rattle.t1_font.specs.declared.dialect.Dialect.{Dialect}
+use Rattle.t1_font.specs.Dialect.{white_in, gap_in}
 use Rattle.t1_font.specs.Words.{is_regular, word, keyword, decimal, name}
 
 -- a word that is the whole Encoding
-unfoldable pub encoding_word : Grammar (List ℕ)
-encoding_word = do
-  white
+unfoldable pub encoding_word : Dialect → Grammar (List ℕ)
+encoding_word d = do
+  white_in d
   w ← word
-  gap
+  gap_in d
   keyword (codes "def")
   pure w
 
-unfoldable pub encoding_table : Grammar (List ℕ)
-encoding_table = do
-  white
+unfoldable pub encoding_table : Dialect → Grammar (List ℕ)
+encoding_table d = do
+  white_in d
   keyword (codes "256")
-  gap
+  gap_in d
   keyword (codes "array")
 
 -- 0 1 255
-abbrev pub loop_range : Grammar (List ℕ)
-loop_range = do
-  white
+abbrev pub loop_range : Dialect → Grammar (List ℕ)
+loop_range d = do
+  white_in d
   keyword (codes "0")
-  gap
+  gap_in d
   keyword (codes "1")
-  gap
+  gap_in d
   keyword (codes "255")
 
 -- 1 index exch /.notdef put
-abbrev pub loop_body : Grammar (List ℕ)
-loop_body = do
-  white
+abbrev pub loop_body : Dialect → Grammar (List ℕ)
+loop_body d = do
+  white_in d
   keyword (codes "1")
-  gap
+  gap_in d
   keyword (codes "index")
-  gap
+  gap_in d
   keyword (codes "exch")
-  white
+  white_in d
   fixed (codes "/")
   keyword (codes ".notdef")
-  gap
+  gap_in d
   keyword (codes "put")
 
 -- 0 1 255 {1 index exch /.notdef put} for
-unfoldable pub encoding_loop : Grammar (List ℕ)
-encoding_loop = do
-  loop_range
-  white
+unfoldable pub encoding_loop : Dialect → Grammar (List ℕ)
+encoding_loop d = do
+  loop_range d
+  white_in d
   fixed (codes "{")
-  loop_body
-  white
+  loop_body d
+  white_in d
   fixed (codes "}")
-  white
+  white_in d
   keyword (codes "for")
 
 abbrev pub all_octal : List ℕ → Bool
@@ -78,27 +79,27 @@ octal = do
 unfoldable pub code : Grammar ℕ
 code = that (λ n. nat_le n 255) (either decimal octal)
 
-unfoldable pub code_entry : Grammar (ℕ × List ℕ)
-code_entry = do
-  white
+unfoldable pub code_entry : Dialect → Grammar (ℕ × List ℕ)
+code_entry d = do
+  white_in d
   keyword (codes "dup")
-  gap
+  gap_in d
   c ← code
-  white
+  white_in d
   n ← name
-  gap
+  gap_in d
   keyword (codes "put")
   pure (c, n)
 
-abbrev pub readonly : Grammar (List ℕ)
-readonly = may_be (do
+abbrev pub readonly : Dialect → Grammar (List ℕ)
+readonly d = may_be (do
   keyword (codes "readonly")
-  gap)
+  gap_in d)
 
-unfoldable pub encoding_end : Grammar (List ℕ)
-encoding_end = do
-  white
-  readonly
+unfoldable pub encoding_end : Dialect → Grammar (List ℕ)
+encoding_end d = do
+  white_in d
+  readonly d
   keyword (codes "def")
 
 -- ---- a literal array
@@ -107,16 +108,16 @@ encoding_end = do
 abbrev pub code_count : ℕ
 code_count = 256
 
-unfoldable pub array_start : Grammar (List ℕ)
-array_start = do
-  white
+unfoldable pub array_start : Dialect → Grammar (List ℕ)
+array_start d = do
+  white_in d
   fixed (codes "[")
 
-unfoldable pub array_end : Grammar (List ℕ)
-array_end = do
-  white
+unfoldable pub array_end : Dialect → Grammar (List ℕ)
+array_end d = do
+  white_in d
   fixed (codes "]")
-  encoding_end
+  encoding_end d
 
 -- each name at the code of its place, from this code on
 abbrev pub from_code : ℕ → List (List ℕ) → List (ℕ × List ℕ)
@@ -132,12 +133,12 @@ pub data Opening : Type 0 where
   OpensNames : Opening
 
 -- how the Encoding begins
-unfoldable pub encoding_start : Grammar Opening
-encoding_start = either (do
-  w ← encoding_word
+unfoldable pub encoding_start : Dialect → Grammar Opening
+encoding_start d = either (do
+  w ← encoding_word d
   pure (Whole w)) (either (do
-    encoding_table
-    may_be encoding_loop
+    encoding_table d
+    may_be (encoding_loop d)
     pure OpensPuts) (do
-      array_start
+      array_start d
       pure OpensNames))

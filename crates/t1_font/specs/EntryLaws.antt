@@ -1,20 +1,30 @@
 -- Each entry has bytes, and no close can be read where one stands: so a table has one reading.
-use Rattle.std.proofs.Common.{◌≡◌, ℕ, ◌<◌, false, true≢false, List, [], ◌∷◌, length, take, drop, Some, None, refl, sym, ap, ◌∙◌, arith, ◌++◌}
+use Rattle.std.proofs.Common.{◌≡◌, ℕ, ◌<◌, false, true≢false, List, [], ◌∷◌, length, take, drop, Option, Some, None, refl, sym, ap, ◌∙◌, arith, ◌++◌}
 use Rattle.std.specs.Prelude.{codes}
 use Rattle.std.specs.List.{prefix_len}
 use Rattle.std.specs.Str.{bytes_eq}
 use Rattle.std.proofs.lemmas.Slice.Eq.{bytes_eq-Decides}
 use Rattle.std.proofs.lemmas.Option.{cond_some, option_and_then_some}
+use Rattle.std.specs.Option.{option_and_then}
 use Rattle.std.proofs.lemmas.List.{length-append}
 use Rattle.t1_grammar.specs.Grammar.{Grammar, fixed}
 use Rattle.t1_grammar.specs.TableLaws.{Eats, Apart}
 use Rattle.t1_bytes.specs.White.{is_white, gap}
 use Rattle.t1_bytes.proofs.SegmentLemmas.{Eats-spelled}
+use Rattle.t1_font.specs.declared.dialect.Dialect.{Dialect}
+use Rattle.t1_font.specs.declared.dialect.Dialect.TheVariants.{Strict}
+use Rattle.t1_font.specs.Dialect.{white_in}
 use Rattle.t1_font.specs.Words.{is_regular, word, keyword, name, phrase_of, passes, next_name}
 use Rattle.t1_font.specs.Encoding.{code_entry, encoding_end}
 use Rattle.t1_font.specs.Entry.{Body, body, entry}
 use Rattle.t1_font.specs.Subrs.{subr_key, subr, subrs_end}
 use Rattle.t1_font.specs.Glyphs.{glyph, glyphs_end}
+
+-- what keeps apart behind a text keeps apart with it
+behind_apart : {S A B : Type 0} (f : S → Option A) (g : S → Option B) (o : Option S) (x : A) → option_and_then f o ≡ Some x →
+    ((y : S) → f y ≡ Some x → g y ≡ None) → option_and_then g o ≡ None
+behind_apart f g None x e apart = refl
+behind_apart f g (Some y) x e apart = apart y e
 
 -- what a keyword spells is its own text
 pub keyword_text : (w a text rest : List ℕ) → (keyword w).Spells a text rest → text ≡ w
@@ -57,19 +67,18 @@ no_phrase bytes x e =
     rw dup refl
 
 -- where a Subr begins, its table doesn't close
-pub subr_key_apart : (declared : ℕ) → Apart (subr_key declared) subrs_end
+pub subr_key_apart : (d : Dialect) (declared : ℕ) → Apart (subr_key d declared) (subrs_end d)
 unfolding subr_key subrs_end
-subr_key_apart declared bytes x e =
-    let r = drop (prefix_len is_white bytes) bytes in
-    option_and_then_some _ ((keyword (codes "dup")).read r) x e (λ y h k. no_phrase r y h)
+subr_key_apart d declared bytes x e = behind_apart _ _ ((white_in d).read bytes) x e (λ r h.
+    option_and_then_some _ ((keyword (codes "dup")).read r.1) x h (λ y k l. no_phrase r.1 y k))
 
 -- a Subr has at least one byte
-pub subr_eats : (declared iv : ℕ) → Eats (subr declared iv)
-subr_eats declared iv = entry_eats (subr_key declared) iv
+pub subr_eats : (d : Dialect) (declared iv : ℕ) → Eats (subr d declared iv)
+subr_eats d declared iv = entry_eats (subr_key d declared) iv
 
 -- where a Subr stands, its table doesn't close
-pub subr_apart : (declared iv : ℕ) → Apart (subr declared iv) subrs_end
-subr_apart declared iv = entry_apart (subr_key declared) iv subrs_end (subr_key_apart declared)
+pub subr_apart : (d : Dialect) (declared iv : ℕ) → Apart (subr d declared iv) (subrs_end d)
+subr_apart d declared iv = entry_apart (subr_key d declared) iv (subrs_end d) (subr_key_apart d declared)
 
 -- ---- the glyphs
 
@@ -86,24 +95,24 @@ unfolding keyword
 no_end rest = refl
 
 -- where a name comes, the table of glyphs doesn't close
-pub next_name_apart : Apart next_name glyphs_end
+pub next_name_apart : Apart (next_name Strict) glyphs_end
 unfolding next_name glyphs_end
 next_name_apart bytes x e = let s = name_slash (drop (prefix_len is_white bytes) bytes) x e in rw s.1 (no_end s.0)
 
 -- a glyph has at least one byte
 pub glyph_eats : (iv : ℕ) → Eats (glyph iv)
-glyph_eats iv = entry_eats next_name iv
+glyph_eats iv = entry_eats (next_name Strict) iv
 
 -- where a glyph stands, its table doesn't close
 pub glyph_apart : (iv : ℕ) → Apart (glyph iv) glyphs_end
-glyph_apart iv = entry_apart next_name iv glyphs_end next_name_apart
+glyph_apart iv = entry_apart (next_name Strict) iv glyphs_end next_name_apart
 
 -- ---- codes
 
 -- a put has at least one byte
-pub code_entry_eats : Eats code_entry
+pub code_entry_eats : (d : Dialect) → Eats (code_entry d)
 unfolding code_entry
-code_entry_eats = Eats-spelled code_entry (λ a text rest s.
+code_entry_eats d = Eats-spelled (code_entry d) (λ a text rest s.
     let dup : s.5.1 ≡ codes "dup" = keyword_text (codes "dup") s.5.0 s.5.1 _ s.5.4 in
     omega (arith, ap length s.3, length-append s.1 s.2, ap length s.5.3, length-append s.5.1 s.5.2, ap length dup))
 
@@ -117,8 +126,7 @@ no_closing bytes x e =
     (rw dup refl, rw dup refl)
 
 -- where a put stands, the Encoding doesn't close
-pub code_entry_apart : Apart code_entry encoding_end
+pub code_entry_apart : (d : Dialect) → Apart (code_entry d) (encoding_end d)
 unfolding code_entry encoding_end
-code_entry_apart bytes x e =
-    let r = drop (prefix_len is_white bytes) bytes in
-    option_and_then_some _ ((keyword (codes "dup")).read r) x e (λ y h k. let none = no_closing r y h in rw (none.0, none.1) refl)
+code_entry_apart d bytes x e = behind_apart _ _ ((white_in d).read bytes) x e (λ r h.
+    option_and_then_some _ ((keyword (codes "dup")).read r.1) x h (λ y k l. let none = no_closing r.1 y k in rw (none.0, none.1) refl))

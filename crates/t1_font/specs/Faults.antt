@@ -1,22 +1,28 @@
 -- What reading a table returned, against what reading gives.
-use Rattle.std.specs.Prelude.{◌≡◌, ℕ, ◌-◌, List, length, drop, Err}
-use Rattle.std.specs.List.{prefix_len}
+use Rattle.std.specs.Prelude.{◌≡◌, ℕ, ◌-◌, List, length, Option, Some, None, Err}
 use Rattle.t1_bytes.specs.declared.fault.BytesFault.{BytesFault}
 use Rattle.t1_bytes.specs.declared.fault.BytesFault.TheVariants as bytes
 use Rattle.t1_grammar.specs.Tables.{Table}
-use Rattle.t1_bytes.specs.White.{is_white}
+use Rattle.t1_font.specs.declared.dialect.Dialect.{Dialect}
+use Rattle.t1_font.specs.Dialect.{white_in}
 use Rattle.t1_font.specs.declared.fault.ReadFault.{ReadFault}
 use Rattle.t1_font.specs.declared.fault.ReadFault.TheVariants as faults
 use Rattle.t1_font.specs.declared.fault.TableError.{TableError}
 use Rattle.t1_font.specs.declared.fault.TableError.TheVariants.{Memory, Left}
 
--- how many bytes are left after white space
-abbrev pub left_after_white : List ℕ → ℕ
-left_after_white bytes = length (drop (prefix_len is_white bytes) bytes)
+-- how many bytes stand behind what is read
+abbrev pub behind : {A : Type 0} → Option (A × List ℕ) → ℕ
+behind None = 0
+behind (Some x) = length x.1
 
-abbrev pub TableFails : {A B : Type 0} → TableError → Table A B → Type 0
-TableFails Memory read = Unit {0}
-TableFails (Left n) read = (left : List ℕ) × (read ≡ Err left) × (n ≡ left_after_white left)
+-- how many bytes are left after white space
+abbrev pub left_after_white : Dialect → List ℕ → ℕ
+left_after_white d bytes = behind ((white_in d).read bytes)
+
+-- the table breaks off there
+abbrev pub TableFails : {A B : Type 0} → Dialect → TableError → Table A B → Type 0
+TableFails d Memory read = Unit {0}
+TableFails d (Left n) read = (left : List ℕ) × (read ≡ Err left) × (n ≡ left_after_white d left)
 
 -- the fault of a table in the last part of a text of len bytes
 abbrev pub table_fault : (ℕ → ReadFault) → ℕ → TableError → ReadFault

@@ -9,6 +9,7 @@ use Rattle.t1_font.specs.Entries.{map_of, names_of, last_value, unless_notdef}
 use Rattle.t1_font.specs.ReadFont.{read_font}
 use Rattle.t1_font.specs.Spelling.{Spells}
 use Rattle.t1_font.specs.Reasons.{Reason}
+use Rattle.t1_font.specs.declared.dialect.Dialect.{Dialect}
 use Rattle.t1_font.specs.Words.{one_white, word, keyword, decimal, name, phrase_of, next_name}
 use Rattle.t1_font.specs.Markers.{encoding_marker, subrs_marker, chars_marker, len_iv_marker, len_iv, closefile}
 use Rattle.t1_font.specs.Encoding.{encoding_word, encoding_table, encoding_loop, encoding_start, octal, code, code_entry, encoding_end, array_start, array_end}
@@ -26,16 +27,16 @@ pub record ReadsAsSpelled : Type 0 where
   pub blanks : IsExact one_white
   pub encoding_markers : IsExact encoding_marker
   pub encodings : IsExact (first encoding_marker)
-  pub encoding_words : IsExact encoding_word
-  pub encoding_tables : IsExact encoding_table
-  pub encoding_loops : IsExact encoding_loop
-  pub starts : IsExact encoding_start
+  pub encoding_words : (d : Dialect) → IsExact (encoding_word d)
+  pub encoding_tables : (d : Dialect) → IsExact (encoding_table d)
+  pub encoding_loops : (d : Dialect) → IsExact (encoding_loop d)
+  pub starts : (d : Dialect) → IsExact (encoding_start d)
   pub octals : IsExact octal
   pub code_numbers : IsExact code
-  pub codes : IsExact code_entry
-  pub encoding_ends : IsExact encoding_end
-  pub array_starts : IsExact array_start
-  pub array_ends : IsExact array_end
+  pub codes : (d : Dialect) → IsExact (code_entry d)
+  pub encoding_ends : (d : Dialect) → IsExact (encoding_end d)
+  pub array_starts : (d : Dialect) → IsExact (array_start d)
+  pub array_ends : (d : Dialect) → IsExact (array_end d)
   pub len_iv_markers : IsExact len_iv_marker
   pub lenIVs : IsExact (first len_iv_marker)
   pub lead_counts : IsExact len_iv
@@ -43,12 +44,12 @@ pub record ReadsAsSpelled : Type 0 where
   pub tables : IsExact (first subrs_marker)
   pub lengths : (iv : ℕ) → IsExact (length_from iv)
   pub bodies : (iv : ℕ) → IsExact (body iv)
-  pub subr_keys : (declared : ℕ) → IsExact (subr_key declared)
-  pub subrs : (declared iv : ℕ) → IsExact (subr declared iv)
-  pub subrs_ends : IsExact subrs_end
+  pub subr_keys : (d : Dialect) (declared : ℕ) → IsExact (subr_key d declared)
+  pub subrs : (d : Dialect) (declared iv : ℕ) → IsExact (subr d declared iv)
+  pub subrs_ends : (d : Dialect) → IsExact (subrs_end d)
   pub chars_markers : IsExact chars_marker
   pub charstrings : IsExact (first chars_marker)
-  pub next_names : IsExact next_name
+  pub next_names : (d : Dialect) → IsExact (next_name d)
   pub glyphs : (iv : ℕ) → IsExact (glyph iv)
   pub glyphs_ends : IsExact glyphs_end
   pub close_markers : IsExact closefile

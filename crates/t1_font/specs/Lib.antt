@@ -1,6 +1,7 @@
 pub mod Glyphs
 pub mod Encoding
 pub mod Words
+pub mod Dialect
 pub mod Entry
 pub mod Subrs
 pub mod Views

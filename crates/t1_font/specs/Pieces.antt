@@ -3,6 +3,8 @@ use Rattle.std.specs.Prelude.{ℕ, ◌-◌, ◌||◌, not, nat_lt, List, [], ◌
 use Rattle.t1_grammar.specs.Grammar.{first}
 use Rattle.t1_bytes.specs.Eexec.{eexec_marker, cipher_text}
 use Rattle.t1_font.specs.declared.fault.ReadFault.TheVariants.{NoEexec, ShortCipher, NoEncoding, BadEncoding, NoCharStrings, BadLenIV, BadSubrs, BadGlyphs, Hybrid, NoClosefile}
+use Rattle.t1_font.specs.declared.dialect.Dialect.{Dialect}
+use Rattle.t1_font.specs.declared.dialect.Dialect.TheVariants.{Strict}
 use Rattle.t1_font.specs.Subrs.{Subr, subr, subrs_end}
 use Rattle.t1_font.specs.Markers.{encoding_marker, subrs_marker, chars_marker, len_iv_marker, len_iv, closefile}
 use Rattle.t1_font.specs.Words.{next_name}
@@ -36,21 +38,21 @@ pub record ClearPieces : Type 0 where
   pub clear_tail : List ℕ
 
 -- what is opened, in the last part of the clear text; the names of an array are put at the codes of their places
-unfoldable pub encoding_from : List ℕ → Opening → List ℕ → Reading (EncodingText × List ℕ)
-encoding_from clear (Whole w) rest = give (OneWord w, rest)
-encoding_from clear OpensPuts rest = do
-  puts ← table BadEncoding (length clear) code_entry encoding_end code_entry_eats code_entry_apart rest
+unfoldable pub encoding_from : Dialect → List ℕ → Opening → List ℕ → Reading (EncodingText × List ℕ)
+encoding_from d clear (Whole w) rest = give (OneWord w, rest)
+encoding_from d clear OpensPuts rest = do
+  puts ← table d BadEncoding (length clear) (code_entry d) (encoding_end d) (code_entry_eats d) (code_entry_apart d) rest
   give (Puts puts.0, puts.2)
-encoding_from clear OpensNames rest = do
-  names ← counted BadEncoding (length clear) next_name array_end code_count rest
+encoding_from d clear OpensNames rest = do
+  names ← counted d BadEncoding (length clear) (next_name d) (array_end d) code_count rest
   give (Puts (from_code 0 names.0), names.2)
 
 -- the head before the first Encoding marker, the Encoding, and what stands after it
-unfoldable pub clear_pieces : List ℕ → Reading ClearPieces
-clear_pieces clear = do
+unfoldable pub clear_pieces : Dialect → List ℕ → Reading ClearPieces
+clear_pieces d clear = do
   marker ← sought NoEncoding encoding_marker clear
-  start ← wanted (BadEncoding (length marker.0.0)) encoding_start marker.1
-  encoding ← encoding_from clear start.0 start.1
+  start ← wanted (BadEncoding (length marker.0.0)) (encoding_start d) marker.1
+  encoding ← encoding_from d clear start.0 start.1
   give (record { head = marker.0.0; encoding = encoding.0; clear_tail = encoding.1 })
 
 -- ---- the private text
@@ -101,7 +103,7 @@ tail_after middle rest = do
 -- what stands before the CharStrings marker, and the glyphs after it, in a private text of so many bytes
 unfoldable pub glyphs_from : ℕ → List ℕ → Option SubrsPieces → List ℕ → ℕ → List ℕ → Reading PrivatePieces
 glyphs_from size private subrs middle iv rest = do
-  glyphs ← table BadGlyphs size (glyph iv) glyphs_end (glyph_eats iv) (glyph_apart iv) rest
+  glyphs ← table Strict BadGlyphs size (glyph iv) glyphs_end (glyph_eats iv) (glyph_apart iv) rest
   tail ← tail_after middle glyphs.2
   give (record { private = private; len_iv = iv; subrs = subrs; middle = middle; glyphs = glyphs.0; tail = tail })
 
@@ -111,19 +113,19 @@ before_place n None = None
 before_place n (Some x) = if nat_lt (length x.0.0) n then Some x else None
 
 -- the tables behind the first Subrs marker, where one stands before that of CharStrings, else the glyphs alone
-unfoldable pub tables_from : ℕ → (List ℕ × Unit {0}) × List ℕ → Option ((List ℕ × ℕ) × List ℕ) → Reading PrivatePieces
-tables_from size chars None = do
+unfoldable pub tables_from : Dialect → ℕ → (List ℕ × Unit {0}) × List ℕ → Option ((List ℕ × ℕ) × List ℕ) → Reading PrivatePieces
+tables_from d size chars None = do
   iv ← iv_of chars.0.0
   glyphs_from size chars.0.0 None [] iv chars.1
-tables_from size chars (Some marker) = do
+tables_from d size chars (Some marker) = do
   iv ← iv_of marker.0.0
-  subrs ← table BadSubrs size (subr marker.0.1 iv) subrs_end (subr_eats marker.0.1 iv) (subr_apart marker.0.1 iv) marker.1
+  subrs ← table d BadSubrs size (subr d marker.0.1 iv) (subrs_end d) (subr_eats d marker.0.1 iv) (subr_apart d marker.0.1 iv) marker.1
   next ← sought (BadGlyphs (size - length subrs.2)) chars_marker subrs.2
   glyphs_from size marker.0.0 (Some (record { declared = marker.0.1; entries = subrs.0; closing = subrs.1 })) next.0.0 iv next.1
 
 -- the pieces of a private text
-unfoldable pub private_pieces : List ℕ → Reading PrivatePieces
-private_pieces text = do
+unfoldable pub private_pieces : Dialect → List ℕ → Reading PrivatePieces
+private_pieces d text = do
   chars ← sought NoCharStrings chars_marker text
   marker ← if_sought subrs_marker text
-  tables_from (length text) chars (before_place (length chars.0.0) marker)
+  tables_from d (length text) chars (before_place (length chars.0.0) marker)

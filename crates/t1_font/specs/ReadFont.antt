@@ -14,6 +14,8 @@ use Rattle.t1_font.specs.declared.fault.ReadFault.TheVariants.{TooLong, BadSegme
 use Rattle.t1_font.specs.FontValue.{SubrsShell, Shell, Encoding, Word, Codes, FontValue, name_cmp, notdef, count_limit, weight_limit, weight_of, declared_count}
 use Rattle.t1_bytes.specs.Limits.{file_limit}
 use Rattle.t1_font.specs.Entries.{last_entries, map_of, names_of}
+use Rattle.t1_font.specs.declared.dialect.Dialect.{Dialect}
+use Rattle.t1_font.specs.declared.dialect.Dialect.TheVariants.{Strict}
 use Rattle.t1_font.specs.Entry.{plain_entries}
 use Rattle.t1_font.specs.Subrs.{Subr}
 use Rattle.t1_font.specs.Pieces.{FlatPieces, EncodingText, OneWord, Puts, ClearPieces, SubrsPieces, PrivatePieces, flat_pieces, clear_pieces, private_pieces}
@@ -120,20 +122,20 @@ font_from c p = do
   give (font_of c p)
 
 -- of a clear text and a private text
-abbrev pub font_texts : List ℕ → List ℕ → Reading FontValue
-font_texts clear private = do
-  outside ← clear_pieces clear
-  inside ← private_pieces private
+abbrev pub font_texts : Dialect → List ℕ → List ℕ → Reading FontValue
+font_texts d clear private = do
+  outside ← clear_pieces d clear
+  inside ← private_pieces d private
   font_from outside inside
 
 -- the font of a file that is not too long
-unfoldable pub font_file : List ℕ → Reading FontValue
-font_file file = do
+unfoldable pub font_file : Dialect → List ℕ → Reading FontValue
+font_file d file = do
   must TooLong (nat_le (length file) file_limit)
   flat ← flat_text file
   parts ← flat_pieces flat
-  font_texts parts.clear (private_text parts.cipher)
+  font_texts d parts.clear (private_text parts.cipher)
 
 -- the font of a file, or the first fault that applies
 abbrev pub read_font : List ℕ → Result FontValue ReadFault
-read_font file = (font_file file).read
+read_font file = (font_file Strict file).read

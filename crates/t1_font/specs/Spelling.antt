@@ -6,6 +6,8 @@ use Rattle.t1_grammar.specs.Grammar.{first, AtFront, Lacks}
 use Rattle.t1_grammar.specs.Tables.{TableAt, CountedAt}
 use Rattle.t1_bytes.specs.Segments.{IsFlat}
 use Rattle.t1_bytes.specs.Eexec.{eexec_marker, cipher_text}
+use Rattle.t1_font.specs.declared.dialect.Dialect.{Dialect}
+use Rattle.t1_font.specs.declared.dialect.Dialect.TheVariants.{Strict}
 use Rattle.t1_font.specs.Subrs.{subr, subrs_end}
 use Rattle.t1_font.specs.Markers.{encoding_marker, subrs_marker, chars_marker, len_iv_marker, len_iv, closefile}
 use Rattle.t1_font.specs.Words.{next_name}
@@ -26,22 +28,22 @@ pub record IsCut (flat clear cipher : List ℕ) : Type 0 where
   pub secret : AtFront cipher_text after (cipher, rest)
   pub clear_is : clear ≡ front ++ own
 
-abbrev pub SpellsPuts : List (ℕ × List ℕ) → List ℕ → List ℕ → Type 0
-SpellsPuts puts bytes rest = (entries closing : List ℕ) × AtFront encoding_start bytes (OpensPuts, entries) × TableAt code_entry encoding_end puts closing entries rest
+abbrev pub SpellsPuts : Dialect → List (ℕ × List ℕ) → List ℕ → List ℕ → Type 0
+SpellsPuts d puts bytes rest = (entries closing : List ℕ) × AtFront (encoding_start d) bytes (OpensPuts, entries) × TableAt (code_entry d) (encoding_end d) puts closing entries rest
 
 -- a literal array: the puts are its names at the codes of their places
-abbrev pub SpellsNames : List (ℕ × List ℕ) → List ℕ → List ℕ → Type 0
-SpellsNames puts bytes rest = (names : List (List ℕ)) × (entries closing : List ℕ) × (puts ≡ from_code 0 names) × AtFront encoding_start bytes (OpensNames, entries) × CountedAt next_name array_end code_count names closing entries rest
+abbrev pub SpellsNames : Dialect → List (ℕ × List ℕ) → List ℕ → List ℕ → Type 0
+SpellsNames d puts bytes rest = (names : List (List ℕ)) × (entries closing : List ℕ) × (puts ≡ from_code 0 names) × AtFront (encoding_start d) bytes (OpensNames, entries) × CountedAt (next_name d) (array_end d) code_count names closing entries rest
 
-abbrev pub SpellsEncoding : EncodingText → List ℕ → List ℕ → Type 0
-SpellsEncoding (OneWord w) bytes rest = AtFront encoding_start bytes (Whole w, rest)
-SpellsEncoding (Puts puts) bytes rest = SpellsPuts puts bytes rest ⊎ SpellsNames puts bytes rest
+abbrev pub SpellsEncoding : Dialect → EncodingText → List ℕ → List ℕ → Type 0
+SpellsEncoding d (OneWord w) bytes rest = AtFront (encoding_start d) bytes (Whole w, rest)
+SpellsEncoding d (Puts puts) bytes rest = SpellsPuts d puts bytes rest ⊎ SpellsNames d puts bytes rest
 
 -- the head, the first Encoding, and what stands after it
-pub record IsClear (clear : List ℕ) (c : ClearPieces) : Type 0 where
+pub record IsClear (d : Dialect) (clear : List ℕ) (c : ClearPieces) : Type 0 where
   pub after : List ℕ
   pub marker : AtFront (first encoding_marker) clear ((c.head, tt), after)
-  pub encoding : SpellsEncoding c.encoding after c.clear_tail
+  pub encoding : SpellsEncoding d c.encoding after c.clear_tail
 
 -- the first `/lenIV` of the text before the tables says n; without one n is 4
 pub data IsLenIV (private : List ℕ) (n : ℕ) : Type 0 where
@@ -59,27 +61,27 @@ Start text private None rest = AtFront (first chars_marker) text ((private, tt),
 Start text private (Some declared) rest = (chars after : List ℕ) × AtFront (first chars_marker) text ((chars, tt), after) × AtFront (first subrs_marker) text ((private, declared), rest) × (length private < length chars)
 
 -- the private text up to its glyphs
-abbrev pub SpellsTables : List ℕ → PrivatePieces → Option SubrsPieces → List ℕ → Type 0
-SpellsTables text p None glyphs = Start text p.private None glyphs × (p.middle ≡ [])
-SpellsTables text p (Some s) glyphs = (entries between : List ℕ) × Start text p.private (Some s.declared) entries × TableAt (subr s.declared p.len_iv) subrs_end s.entries s.closing entries between × AtFront (first chars_marker) between ((p.middle, tt), glyphs)
+abbrev pub SpellsTables : Dialect → List ℕ → PrivatePieces → Option SubrsPieces → List ℕ → Type 0
+SpellsTables d text p None glyphs = Start text p.private None glyphs × (p.middle ≡ [])
+SpellsTables d text p (Some s) glyphs = (entries between : List ℕ) × Start text p.private (Some s.declared) entries × TableAt (subr d s.declared p.len_iv) (subrs_end d) s.entries s.closing entries between × AtFront (first chars_marker) between ((p.middle, tt), glyphs)
 
-pub record HasTables (text : List ℕ) (p : PrivatePieces) (glyphs : List ℕ) : Type 0 where
-  pub tables : SpellsTables text p p.subrs glyphs
+pub record HasTables (d : Dialect) (text : List ℕ) (p : PrivatePieces) (glyphs : List ℕ) : Type 0 where
+  pub tables : SpellsTables d text p p.subrs glyphs
   pub len_iv : IsLenIV p.private p.len_iv
 
 -- the private text through its glyphs
-pub record HasGlyphs (text : List ℕ) (p : PrivatePieces) (after : List ℕ) : Type 0 where
+pub record HasGlyphs (d : Dialect) (text : List ℕ) (p : PrivatePieces) (after : List ℕ) : Type 0 where
   pub start : List ℕ
   pub closing : List ℕ
-  pub tables : HasTables text p start
+  pub tables : HasTables d text p start
   pub glyphs : TableAt (glyph p.len_iv) glyphs_end p.glyphs closing start after
 
-pub record IsPrivate (text : List ℕ) (p : PrivatePieces) : Type 0 where
+pub record IsPrivate (d : Dialect) (text : List ℕ) (p : PrivatePieces) : Type 0 where
   pub after : List ℕ
   pub front : List ℕ
   pub own : List ℕ
   pub rest : List ℕ
-  pub before : HasGlyphs text p after
+  pub before : HasGlyphs d text p after
   pub close : AtFront (first closefile) after ((front, own), rest)
   pub tail : p.tail ≡ front ++ own
   pub single : Lacks subrs_marker p.middle × Lacks subrs_marker p.tail
@@ -96,17 +98,22 @@ pub record Texts (file clear text : List ℕ) : Type 0 where
   pub lead_is : length lead ≡ 4
 
 -- the pieces of a file
-pub record HasPieces (file : List ℕ) (outside : ClearPieces) (inside : PrivatePieces) : Type 0 where
+pub record HasPieces (d : Dialect) (file : List ℕ) (outside : ClearPieces) (inside : PrivatePieces) : Type 0 where
   pub clear : List ℕ
   pub text : List ℕ
   pub texts : Texts file clear text
-  pub clear_is : IsClear clear outside
-  pub private_is : IsPrivate text inside
+  pub clear_is : IsClear d clear outside
+  pub private_is : IsPrivate d text inside
 
-pub record Spells (file : List ℕ) (font : FontValue) : Type 0 where
+-- the font that a file spells in a dialect
+pub record SpellsIn (d : Dialect) (file : List ℕ) (font : FontValue) : Type 0 where
   pub outside : ClearPieces
   pub inside : PrivatePieces
-  pub pieces : HasPieces file outside inside
+  pub pieces : HasPieces d file outside inside
   pub value : font ≡ font_of outside inside
   pub has_notdef : maps.contains_key font.glyphs notdef ≡ true
   pub within : IsWithin font
+
+-- the font that a file spells
+abbrev pub Spells : List ℕ → FontValue → Type 0
+Spells = SpellsIn Strict

@@ -2,7 +2,9 @@
 use Rattle.std.specs.Prelude.{ℕ, ◌+◌, ◌-◌, ◌*◌, ◌==◌, ◌&&◌, ◌||◌, not, nat_le, Bool, true, false, List, [], ◌∷◌, ◌++◌, length, codes, Option, Some, None, if◌then◌else◌}
 use Rattle.std.specs.Str.{bytes_eq}
 use Rattle.t1_grammar.specs.Grammar.{Grammar, pure, ◌>>=◌, ◌>>◌, that, run, count, fixed}
-use Rattle.t1_bytes.specs.White.{white, is_white, gap}
+use Rattle.t1_bytes.specs.White.{is_white, gap}
+use Rattle.t1_font.specs.declared.dialect.Dialect.{Dialect}
+use Rattle.t1_font.specs.Dialect.{white_in}
 
 -- ( ) < > [ ] { } / %
 abbrev pub is_delimiter : ℕ → Bool
@@ -82,10 +84,10 @@ name = do
   fixed (codes "/")
   that is_name (run is_regular)
 
--- white space, and a name behind it
-unfoldable pub next_name : Grammar (List ℕ)
-next_name = do
-  white
+-- a name behind white space
+unfoldable pub next_name : Dialect → Grammar (List ℕ)
+next_name d = do
+  white_in d
   name
 
 -- a word that takes the next one with it

@@ -17,11 +17,12 @@ ghost use Rattle.t1_font.specs.Views.{put_view, opening_view};
 ghost use Rattle.t1_font.specs.Pieces.{encoding_from, clear_pieces};
 ghost use Rattle.t1_font.specs.Answers.{Shown, encoding_view, ShowsClear};
 
+use crate::dialect::Dialect;
 use crate::fault::{ReadFault, TableError};
 use crate::gathered::Gathered;
 use crate::markers::{EncodingMarker, first};
-use crate::words::{decimal_at, keyword_at, name_at, next_name_at, regular_at, word_at};
-use t1_bytes::texts::{fixed_at, gap_at, white_at};
+use crate::words::{decimal_at, keyword_at, name_at, regular_at, word_at};
+use t1_bytes::texts::fixed_at;
 
 /// An array has a name for each code.
 const CODES: u16 = 256;
@@ -78,26 +79,26 @@ pub struct Put<'a> {
 
 /// An entry of the table.
 #[tactic(auto, unfolding(crate::specs::Encoding::code_entry))]
-fn code_entry_at(bytes: &[u8]) -> Option<(Put<'_>, &[u8])>
-    ensures { option_map (λ x. (put_view x.0, x.1.now)) result ≡ code_entry.read bytes.now }
+fn code_entry_at(bytes: &[u8], dialect: Dialect) -> Option<(Put<'_>, &[u8])>
+    ensures { option_map (λ x. (put_view x.0, x.1.now)) result ≡ (code_entry dialect).read bytes.now }
 {
-    let (_, rest) = white_at(bytes);
+    let (_, rest) = dialect.white_at(bytes);
     let (_, rest) = keyword_at(rest, b"dup")?;
-    let (_, rest) = gap_at(rest)?;
+    let (_, rest) = dialect.gap_at(rest)?;
     let (code, rest) = code_at(rest)?;
-    let (_, rest) = white_at(rest);
+    let (_, rest) = dialect.white_at(rest);
     let (name, rest) = name_at(rest)?;
-    let (_, rest) = gap_at(rest)?;
+    let (_, rest) = dialect.gap_at(rest)?;
     let (_, rest) = keyword_at(rest, b"put")?;
     Some((Put { code, name }, rest))
 }
 
 /// `readonly` and the white space after it, if they are there.
-fn after_readonly(bytes: &[u8]) -> &[u8]
-    ensures { Some result.now ≡ option_map (λ x. x.1) (readonly.read bytes.now) }
+fn after_readonly(bytes: &[u8], dialect: Dialect) -> &[u8]
+    ensures { Some result.now ≡ option_map (λ x. x.1) ((readonly dialect).read bytes.now) }
 {
     if let Some((_, rest)) = keyword_at(bytes, b"readonly") {
-        if let Some((_, rest)) = gap_at(rest) {
+        if let Some((_, rest)) = dialect.gap_at(rest) {
             return rest;
         }
     }
@@ -106,86 +107,86 @@ fn after_readonly(bytes: &[u8]) -> &[u8]
 
 /// What stands after the close of the table.
 #[tactic(auto, unfolding(crate::specs::Encoding::encoding_end))]
-fn encoding_end_at(bytes: &[u8]) -> Option<&[u8]>
-    ensures { option_map (λ x. x.now) result ≡ option_map (λ x. x.1) (encoding_end.read bytes.now) }
+fn encoding_end_at(bytes: &[u8], dialect: Dialect) -> Option<&[u8]>
+    ensures { option_map (λ x. x.now) result ≡ option_map (λ x. x.1) ((encoding_end dialect).read bytes.now) }
 {
-    let (_, rest) = white_at(bytes);
-    let (_, rest) = keyword_at(after_readonly(rest), b"def")?;
+    let (_, rest) = dialect.white_at(bytes);
+    let (_, rest) = keyword_at(after_readonly(rest, dialect), b"def")?;
     Some(rest)
 }
 
 /// A word that is the whole Encoding.
 #[tactic(auto, unfolding(crate::specs::Encoding::encoding_word))]
-fn encoding_word_at(bytes: &[u8]) -> Option<(&[u8], &[u8])>
-    ensures { option_map (λ x. (x.0.now, x.1.now)) result ≡ encoding_word.read bytes.now }
+fn encoding_word_at(bytes: &[u8], dialect: Dialect) -> Option<(&[u8], &[u8])>
+    ensures { option_map (λ x. (x.0.now, x.1.now)) result ≡ (encoding_word dialect).read bytes.now }
 {
-    let (_, rest) = white_at(bytes);
+    let (_, rest) = dialect.white_at(bytes);
     let (word, rest) = word_at(rest)?;
-    let (_, rest) = gap_at(rest)?;
+    let (_, rest) = dialect.gap_at(rest)?;
     let (_, rest) = keyword_at(rest, b"def")?;
     Some((word, rest))
 }
 
 /// How a table begins.
 #[tactic(auto, unfolding(crate::specs::Encoding::encoding_table))]
-fn encoding_table_at(bytes: &[u8]) -> Option<(&[u8], &[u8])>
-    ensures { option_map (λ x. (x.0.now, x.1.now)) result ≡ encoding_table.read bytes.now }
+fn encoding_table_at(bytes: &[u8], dialect: Dialect) -> Option<(&[u8], &[u8])>
+    ensures { option_map (λ x. (x.0.now, x.1.now)) result ≡ (encoding_table dialect).read bytes.now }
 {
-    let (_, rest) = white_at(bytes);
+    let (_, rest) = dialect.white_at(bytes);
     let (_, rest) = keyword_at(rest, b"256")?;
-    let (_, rest) = gap_at(rest)?;
+    let (_, rest) = dialect.gap_at(rest)?;
     keyword_at(rest, b"array")
 }
 
 /// `0 1 255`, which begins the loop.
-fn loop_range_at(bytes: &[u8]) -> Option<(&[u8], &[u8])>
-    ensures { option_map (λ x. (x.0.now, x.1.now)) result ≡ loop_range.read bytes.now }
+fn loop_range_at(bytes: &[u8], dialect: Dialect) -> Option<(&[u8], &[u8])>
+    ensures { option_map (λ x. (x.0.now, x.1.now)) result ≡ (loop_range dialect).read bytes.now }
 {
-    let (_, rest) = white_at(bytes);
+    let (_, rest) = dialect.white_at(bytes);
     let (_, rest) = keyword_at(rest, b"0")?;
-    let (_, rest) = gap_at(rest)?;
+    let (_, rest) = dialect.gap_at(rest)?;
     let (_, rest) = keyword_at(rest, b"1")?;
-    let (_, rest) = gap_at(rest)?;
+    let (_, rest) = dialect.gap_at(rest)?;
     keyword_at(rest, b"255")
 }
 
 /// `1 index exch /.notdef put`, which the loop does.
-fn loop_body_at(bytes: &[u8]) -> Option<(&[u8], &[u8])>
-    ensures { option_map (λ x. (x.0.now, x.1.now)) result ≡ loop_body.read bytes.now }
+fn loop_body_at(bytes: &[u8], dialect: Dialect) -> Option<(&[u8], &[u8])>
+    ensures { option_map (λ x. (x.0.now, x.1.now)) result ≡ (loop_body dialect).read bytes.now }
 {
-    let (_, rest) = white_at(bytes);
+    let (_, rest) = dialect.white_at(bytes);
     let (_, rest) = keyword_at(rest, b"1")?;
-    let (_, rest) = gap_at(rest)?;
+    let (_, rest) = dialect.gap_at(rest)?;
     let (_, rest) = keyword_at(rest, b"index")?;
-    let (_, rest) = gap_at(rest)?;
+    let (_, rest) = dialect.gap_at(rest)?;
     let (_, rest) = keyword_at(rest, b"exch")?;
-    let (_, rest) = white_at(rest);
+    let (_, rest) = dialect.white_at(rest);
     let (_, rest) = fixed_at(rest, b"/")?;
     let (_, rest) = keyword_at(rest, b".notdef")?;
-    let (_, rest) = gap_at(rest)?;
+    let (_, rest) = dialect.gap_at(rest)?;
     keyword_at(rest, b"put")
 }
 
 /// The loop that names all codes `.notdef`.
 #[tactic(auto, unfolding(crate::specs::Encoding::encoding_loop))]
-fn encoding_loop_at(bytes: &[u8]) -> Option<(&[u8], &[u8])>
-    ensures { option_map (λ x. (x.0.now, x.1.now)) result ≡ encoding_loop.read bytes.now }
+fn encoding_loop_at(bytes: &[u8], dialect: Dialect) -> Option<(&[u8], &[u8])>
+    ensures { option_map (λ x. (x.0.now, x.1.now)) result ≡ (encoding_loop dialect).read bytes.now }
 {
-    let (_, rest) = loop_range_at(bytes)?;
-    let (_, rest) = white_at(rest);
+    let (_, rest) = loop_range_at(bytes, dialect)?;
+    let (_, rest) = dialect.white_at(rest);
     let (_, rest) = fixed_at(rest, b"{")?;
-    let (_, rest) = loop_body_at(rest)?;
-    let (_, rest) = white_at(rest);
+    let (_, rest) = loop_body_at(rest, dialect)?;
+    let (_, rest) = dialect.white_at(rest);
     let (_, rest) = fixed_at(rest, b"}")?;
-    let (_, rest) = white_at(rest);
+    let (_, rest) = dialect.white_at(rest);
     keyword_at(rest, b"for")
 }
 
 /// The loop, if it is there.
-fn after_loop(bytes: &[u8]) -> &[u8]
-    ensures { Some result.now ≡ option_map (λ x. x.1) ((may_be encoding_loop).read bytes.now) }
+fn after_loop(bytes: &[u8], dialect: Dialect) -> &[u8]
+    ensures { Some result.now ≡ option_map (λ x. x.1) ((may_be (encoding_loop dialect)).read bytes.now) }
 {
-    if let Some((_, rest)) = encoding_loop_at(bytes) {
+    if let Some((_, rest)) = encoding_loop_at(bytes, dialect) {
         return rest;
     }
     bytes
@@ -193,21 +194,30 @@ fn after_loop(bytes: &[u8]) -> &[u8]
 
 /// How an array begins.
 #[tactic(auto, unfolding(crate::specs::Encoding::array_start))]
-fn array_start_at(bytes: &[u8]) -> Option<(&[u8], &[u8])>
-    ensures { option_map (λ x. (x.0.now, x.1.now)) result ≡ array_start.read bytes.now }
+fn array_start_at(bytes: &[u8], dialect: Dialect) -> Option<(&[u8], &[u8])>
+    ensures { option_map (λ x. (x.0.now, x.1.now)) result ≡ (array_start dialect).read bytes.now }
 {
-    let (_, rest) = white_at(bytes);
+    let (_, rest) = dialect.white_at(bytes);
     fixed_at(rest, b"[")
 }
 
 /// What stands after the close of an array.
 #[tactic(auto, unfolding(crate::specs::Encoding::array_end))]
-fn array_end_at(bytes: &[u8]) -> Option<&[u8]>
-    ensures { option_map (λ x. x.now) result ≡ option_map (λ x. x.1) (array_end.read bytes.now) }
+fn array_end_at(bytes: &[u8], dialect: Dialect) -> Option<&[u8]>
+    ensures { option_map (λ x. x.now) result ≡ option_map (λ x. x.1) ((array_end dialect).read bytes.now) }
 {
-    let (_, rest) = white_at(bytes);
+    let (_, rest) = dialect.white_at(bytes);
     let (_, rest) = fixed_at(rest, b"]")?;
-    encoding_end_at(rest)
+    encoding_end_at(rest, dialect)
+}
+
+/// A name of an array.
+#[tactic(auto, unfolding(crate::specs::Words::next_name))]
+fn array_name_at(bytes: &[u8], dialect: Dialect) -> Option<(&[u8], &[u8])>
+    ensures { option_map (λ x. (x.0.now, x.1.now)) result ≡ (next_name dialect).read bytes.now }
+{
+    let (_, rest) = dialect.white_at(bytes);
+    name_at(rest)
 }
 
 /// How the Encoding begins.
@@ -223,33 +233,37 @@ pub enum Opening<'a> {
 
 /// How the Encoding begins, in one of three forms.
 #[tactic(auto, unfolding(crate::specs::Encoding::encoding_start))]
-fn encoding_start_at(bytes: &[u8]) -> Option<(Opening<'_>, &[u8])>
-    ensures { option_map (λ x. (opening_view x.0, x.1.now)) result ≡ encoding_start.read bytes.now }
+fn encoding_start_at(bytes: &[u8], dialect: Dialect) -> Option<(Opening<'_>, &[u8])>
+    ensures { option_map (λ x. (opening_view x.0, x.1.now)) result ≡ (encoding_start dialect).read bytes.now }
 {
-    if let Some((word, rest)) = encoding_word_at(bytes) {
+    if let Some((word, rest)) = encoding_word_at(bytes, dialect) {
         return Some((Opening::Word(word), rest));
     }
-    if let Some((_, rest)) = encoding_table_at(bytes) {
-        return Some((Opening::Puts, after_loop(rest)));
+    if let Some((_, rest)) = encoding_table_at(bytes, dialect) {
+        return Some((Opening::Puts, after_loop(rest, dialect)));
     }
-    let (_, rest) = array_start_at(bytes)?;
+    let (_, rest) = array_start_at(bytes, dialect)?;
     Some((Opening::Names, rest))
 }
 
 /// The entries of the table, kept, and what stands after their close.
-fn puts_at<'a>(bytes: &'a [u8], gathered: &mut Gathered<'a>) -> Result<&'a [u8], TableError>
+fn puts_at<'a>(
+    bytes: &'a [u8],
+    dialect: Dialect,
+    gathered: &mut Gathered<'a>,
+) -> Result<&'a [u8], TableError>
     requires { gathered.old.codes ≡ fin.empty }
-    ensures shown { TableHeld (λ x es close rest. (gathered.new.codes ≡ map_of es)
-        × (x.now ≡ rest)) result (table_at code_entry encoding_end bytes.now) }
+    ensures shown { TableHeld dialect (λ x es close rest. (gathered.new.codes ≡ map_of es)
+        × (x.now ≡ rest)) result (table_at (code_entry dialect) (encoding_end dialect) bytes.now) }
     ensures others { OnOk result (CodesAlone gathered.old gathered.new) }
 {
     let mut rest = bytes;
     'entries: loop {
-        if let Some(after) = encoding_end_at(rest) {
+        if let Some(after) = encoding_end_at(rest, dialect) {
             return Ok(after);
         }
-        let Some((put, after)) = code_entry_at(rest) else {
-            let (_, left) = white_at(rest);
+        let Some((put, after)) = code_entry_at(rest, dialect) else {
+            let (_, left) = dialect.white_at(rest);
             return Err(TableError::Left(left.len()));
         };
         gathered.keep_code(put.code, put.name)?;
@@ -258,26 +272,30 @@ fn puts_at<'a>(bytes: &'a [u8], gathered: &mut Gathered<'a>) -> Result<&'a [u8],
 }
 
 /// The names of an array, kept at the codes of their places, and what stands after their close.
-fn names_at<'a>(bytes: &'a [u8], gathered: &mut Gathered<'a>) -> Result<&'a [u8], TableError>
+fn names_at<'a>(
+    bytes: &'a [u8],
+    dialect: Dialect,
+    gathered: &mut Gathered<'a>,
+) -> Result<&'a [u8], TableError>
     requires { gathered.old.codes ≡ fin.empty }
-    ensures shown { TableHeld (λ x names close rest. (gathered.new.codes
+    ensures shown { TableHeld dialect (λ x names close rest. (gathered.new.codes
         ≡ map_of (from_code 0 names))
         × (x.now
         ≡ rest)) result
-        (counted_at next_name array_end code_count bytes.now) }
+        (counted_at (next_name dialect) (array_end dialect) code_count bytes.now) }
     ensures others { OnOk result (CodesAlone gathered.old gathered.new) }
 {
     let mut rest = bytes;
     'names: for code in 0..CODES {
-        let Some((name, after)) = next_name_at(rest) else {
-            let (_, left) = white_at(rest);
+        let Some((name, after)) = array_name_at(rest, dialect) else {
+            let (_, left) = dialect.white_at(rest);
             return Err(TableError::Left(left.len()));
         };
         gathered.keep_code(code as u8, name)?;
         rest = after;
     }
-    let Some(after) = array_end_at(rest) else {
-        let (_, left) = white_at(rest);
+    let Some(after) = array_end_at(rest, dialect) else {
+        let (_, left) = dialect.white_at(rest);
         return Err(TableError::Left(left.len()));
     };
     Ok(after)
@@ -315,14 +333,15 @@ fn bad_encoding(clear: &[u8], error: TableError) -> ReadFault
 fn table_from<'a>(
     clear: &[u8],
     rest: &'a [u8],
+    dialect: Dialect,
     gathered: &mut Gathered<'a>,
 ) -> Result<(EncodingParts<'a>, &'a [u8]), ReadFault>
     requires { gathered.old.codes ≡ fin.empty }
     ensures shown { Shown (λ x e. (encoding_view x.0 gathered.new.codes ≡ encoding_value e.0)
-        × (x.1.now ≡ e.1)) result (encoding_from clear.now OpensPuts rest.now).read }
+        × (x.1.now ≡ e.1)) result (encoding_from dialect clear.now OpensPuts rest.now).read }
     ensures others { OnOk result (CodesAlone gathered.old gathered.new) }
 {
-    match puts_at(rest, gathered) {
+    match puts_at(rest, dialect, gathered) {
         Ok(after) => Ok((EncodingParts::Puts, after)),
         Err(error) => Err(bad_encoding(clear, error)),
     }
@@ -333,14 +352,15 @@ fn table_from<'a>(
 fn array_from<'a>(
     clear: &[u8],
     rest: &'a [u8],
+    dialect: Dialect,
     gathered: &mut Gathered<'a>,
 ) -> Result<(EncodingParts<'a>, &'a [u8]), ReadFault>
     requires { gathered.old.codes ≡ fin.empty }
     ensures shown { Shown (λ x e. (encoding_view x.0 gathered.new.codes ≡ encoding_value e.0)
-        × (x.1.now ≡ e.1)) result (encoding_from clear.now OpensNames rest.now).read }
+        × (x.1.now ≡ e.1)) result (encoding_from dialect clear.now OpensNames rest.now).read }
     ensures others { OnOk result (CodesAlone gathered.old gathered.new) }
 {
-    match names_at(rest, gathered) {
+    match names_at(rest, dialect, gathered) {
         Ok(after) => Ok((EncodingParts::Puts, after)),
         Err(error) => Err(bad_encoding(clear, error)),
     }
@@ -352,18 +372,19 @@ fn encoding_from<'a>(
     clear: &[u8],
     opening: Opening<'a>,
     rest: &'a [u8],
+    dialect: Dialect,
     gathered: &mut Gathered<'a>,
 ) -> Result<(EncodingParts<'a>, &'a [u8]), ReadFault>
     requires { gathered.old.codes ≡ fin.empty }
     ensures shown { Shown (λ x e. (encoding_view x.0 gathered.new.codes ≡ encoding_value e.0)
         × (x.1.now
-        ≡ e.1)) result (encoding_from clear.now (opening_view opening.entry) rest.now).read }
+        ≡ e.1)) result (encoding_from dialect clear.now (opening_view opening.entry) rest.now).read }
     ensures others { OnOk result (CodesAlone gathered.old gathered.new) }
 {
     match opening {
         Opening::Word(word) => Ok((EncodingParts::OneWord(word), rest)),
-        Opening::Puts => table_from(clear, rest, gathered),
-        Opening::Names => array_from(clear, rest, gathered),
+        Opening::Puts => table_from(clear, rest, dialect, gathered),
+        Opening::Names => array_from(clear, rest, dialect, gathered),
     }
 }
 
@@ -371,20 +392,21 @@ fn encoding_from<'a>(
 #[tactic(auto, unfolding(crate::specs::Pieces::clear_pieces))]
 pub(crate) fn clear_parts<'a>(
     clear: &'a [u8],
+    dialect: Dialect,
     gathered: &mut Gathered<'a>,
 ) -> Result<ClearParts<'a>, ReadFault>
     requires { gathered.old.codes ≡ fin.empty }
     ensures shown { Shown (λ x c. ShowsClear x gathered.new.codes c) result
-        (clear_pieces clear.now).read }
+        (clear_pieces dialect clear.now).read }
     ensures others { OnOk result (CodesAlone gathered.old gathered.new) }
 {
     let Some((head, _, after)) = first::<EncodingMarker>(clear) else {
         return Err(ReadFault::NoEncoding);
     };
-    let Some((opening, rest)) = encoding_start_at(after) else {
+    let Some((opening, rest)) = encoding_start_at(after, dialect) else {
         return Err(ReadFault::BadEncoding { at: head.len() });
     };
-    let (encoding, clear_tail) = encoding_from(clear, opening, rest, gathered)?;
+    let (encoding, clear_tail) = encoding_from(clear, opening, rest, dialect, gathered)?;
     Ok(ClearParts {
         head,
         encoding,

@@ -9,13 +9,14 @@ ghost use Rattle.t1_join.specs.TableMeaning.{Rises};
 ghost use Rattle.t1_font.specs.FontValue.{count_limit};
 ghost use Rattle.t1_font.specs.Gathering.{gathered_codes};
 ghost use Rattle.t1_font.specs.Pieces.{ClearPieces, PrivatePieces, flat_pieces};
-ghost use Rattle.t1_font.specs.ReadFont.{font_of, flat_text, file_pieces, font_from, font_texts, font_file};
+ghost use Rattle.t1_font.specs.ReadFont.{font_of, flat_text, file_pieces, font_from, font_texts, font_file, read_font};
 ghost use Rattle.t1_bytes.specs.Laws.{AreBytes};
 ghost use Rattle.t1_font.specs.Answers.{Answers, Shown, ShowsClear, ShowsPrivate, encoding_view, declared_in};
 ghost use Rattle.t1_font.specs.Sources.{kept_encoding, codes_of};
 ghost use Rattle.t1_font.specs.Spelling.{Spells};
 ghost use Rattle.t1_font.specs.Reasons.{Refuses};
 
+use crate::dialect::Dialect;
 use crate::encoding::{ClearParts, EncodingParts, clear_parts};
 use crate::fault::ReadFault;
 use crate::gathered::Gathered;
@@ -211,24 +212,29 @@ fn open_private(buffer: &mut Vec<u8>, from: usize)
 /// The parts of the font of a clear text, and of a private text that stands in a buffer from `at` on.
 fn text_parts(
     alloc: Global,
+    dialect: Dialect,
     clear: &[u8],
     buffer: Vec<u8>,
     at: usize,
 ) -> Result<SourceParts, ReadFault>
     requires inside { at ≤ length buffer.items }
     requires short { length buffer.items ≤ file_limit }
-    ensures { Answers (λ f. f) result (font_texts clear.now (drop at buffer.items)).read }
+    ensures { Answers (λ f. f) result (font_texts dialect clear.now (drop at buffer.items)).read }
 {
     let mut gathered = Gathered::new(alloc, buffer, at);
-    let outside = clear_parts(clear, &mut gathered)?;
-    let inside = private_parts(alloc, &mut gathered)?;
+    let outside = clear_parts(clear, dialect, &mut gathered)?;
+    let inside = private_parts(alloc, dialect, &mut gathered)?;
     font_from(alloc, &outside, inside, gathered)
 }
 
 /// The parts of the font that a file spells.
 #[tactic(auto, unfolding(crate::specs::ReadFont::font_file))]
-fn file_parts(alloc: Global, file: Vec<u8>) -> Result<SourceParts, ReadFault>
-    ensures { Answers (λ f. f) result (font_file file.items).read }
+fn file_parts(
+    alloc: Global,
+    dialect: Dialect,
+    file: Vec<u8>,
+) -> Result<SourceParts, ReadFault>
+    ensures { Answers (λ f. f) result (font_file dialect file.items).read }
 {
     if file.len() > FILE_LIMIT {
         return Err(ReadFault::TooLong);
@@ -237,7 +243,7 @@ fn file_parts(alloc: Global, file: Vec<u8>) -> Result<SourceParts, ReadFault>
     let mut buffer = cut.buffer;
     open_private(&mut buffer, cut.from);
     let at = cut.from + EEXEC_LEAD as usize;
-    text_parts(alloc, cut.clear.as_slice(), buffer, at)
+    text_parts(alloc, dialect, cut.clear.as_slice(), buffer, at)
 }
 
 /// Tells proofs that bytes are numbers below 256. It does nothing when it runs.
@@ -255,10 +261,10 @@ fn are_bytes(bytes: &[u8])
 /// Those of [`read`].
 pub fn read_vec(alloc: Global, file: Vec<u8>) -> Result<Source, ReadFault>
     ensures right { MatchResult result (Spells file.items) (Refuses file.items) }
-    ensures exact { Answers (λ f. f) result (font_file file.items).read }
+    ensures exact { Answers (λ f. f) result (read_font file.items) }
 {
     are_bytes(file.as_slice());
-    match file_parts(alloc, file) {
+    match file_parts(alloc, Dialect::Strict, file) {
         Ok(parts) => Ok(Source { parts }),
         Err(fault) => Err(fault),
     }
@@ -275,7 +281,7 @@ pub fn read_vec(alloc: Global, file: Vec<u8>) -> Result<Source, ReadFault>
 /// the private text for the tables. If a growth was refused, the answer is `Memory`.
 pub fn read(alloc: Global, file: &[u8]) -> Result<Source, ReadFault>
     ensures right { MatchResult result (Spells file.now) (Refuses file.now) }
-    ensures exact { Answers (λ f. f) result (font_file file.now).read }
+    ensures exact { Answers (λ f. f) result (read_font file.now) }
 {
     match Vec::from_slice(alloc, file) {
         Ok(file) => read_vec(alloc, file),

@@ -15,6 +15,7 @@
 #![tactic(auto)]
 
 mod cut;
+mod dialect;
 mod encoding;
 mod entry;
 mod evening;

@@ -10,12 +10,14 @@ ghost use Rattle.t1_font.specs.Markers.{closefile};
 ghost use Rattle.t1_font.specs.Glyphs.{glyph, glyphs_end};
 ghost use Rattle.t1_font.specs.Pieces.{SubrsPieces, has_subrs, iv_of, tail_after, glyphs_from, tables_from, private_pieces};
 ghost use Rattle.t1_font.specs.declared.fault.ReadFault.TheVariants.{BadSubrs, BadGlyphs};
+ghost use Rattle.t1_font.specs.declared.dialect.Dialect.TheVariants.{Strict};
 ghost use Rattle.t1_font.specs.Subrs.{subr, subrs_end};
 ghost use Rattle.t1_font.specs.Reading.{bad_at};
 ghost use Rattle.t1_font.specs.Answers.{Answers, Shown, ShowsTable, ShowsGlyphs, ShowsBefore, ShowsPrivate};
 ghost use Rattle.t1_font.specs.Gathering.{SubrsAlone, GlyphsAlone};
 ghost use Rattle.t1_font.specs.Held.{HoldsSubrs, HoldsGlyphs};
 
+use crate::dialect::Dialect;
 use crate::fault::{ReadFault, TableError};
 use crate::gathered::Gathered;
 use crate::glyphs::{GlyphsParts, glyphs_at};
@@ -102,7 +104,7 @@ fn glyphs_parts(
     ensures shown { Shown (λ x t. ShowsGlyphs x t.0
         × HoldsGlyphs len_iv gathered.new.glyphs t.0
         × (gathered.new.rest
-        ≡ t.2)) result (in_table (bad_at BadGlyphs size) (table_at (glyph len_iv) glyphs_end gathered.old.rest)) }
+        ≡ t.2)) result (in_table (bad_at Strict BadGlyphs size) (table_at (glyph len_iv) glyphs_end gathered.old.rest)) }
     ensures others { OnOk result (GlyphsAlone gathered.old gathered.new) }
 {
     match glyphs_at(alloc, len_iv, gathered) {
@@ -154,7 +156,7 @@ fn tables_without(
     requires subrs { gathered.old.subrs ≡ fin.empty }
     requires glyphs { gathered.old.glyphs ≡ fin.empty }
     ensures shown { Shown (λ x p. ShowsPrivate x gathered.new p) result
-        (tables_from size ((private.items, tt), gathered.old.rest) None).read }
+        (tables_from Strict size ((private.items, tt), gathered.old.rest) None).read }
     ensures codes { OnOk result (gathered.new.codes ≡ gathered.old.codes) }
 {
     let len_iv = iv_of(private.as_slice())?;
@@ -170,6 +172,7 @@ fn tables_without(
 /// The table of Subrs, in the last part of a private text of this many bytes.
 fn subrs_parts(
     alloc: Global,
+    dialect: Dialect,
     size: usize,
     declared: u32,
     len_iv: u8,
@@ -182,11 +185,11 @@ fn subrs_parts(
         × HoldsSubrs declared len_iv gathered.new.subrs t.0
         × (gathered.new.rest
         ≡ t.2)) result
-        (in_table (bad_at BadSubrs size)
-        (table_at (subr declared len_iv) subrs_end gathered.old.rest)) }
+        (in_table (bad_at dialect BadSubrs size)
+        (table_at (subr dialect declared len_iv) (subrs_end dialect) gathered.old.rest)) }
     ensures others { OnOk result (SubrsAlone gathered.old gathered.new) }
 {
-    match subrs_at(alloc, declared, len_iv, gathered) {
+    match subrs_at(alloc, dialect, declared, len_iv, gathered) {
         Ok(found) => Ok(found),
         Err(TableError::Memory) => Err(ReadFault::Memory),
         Err(TableError::Left(left)) => Err(ReadFault::BadSubrs {
@@ -199,6 +202,7 @@ fn subrs_parts(
 #[tactic(auto, unfolding(crate::specs::Pieces::tables_from))]
 fn tables_with(
     alloc: Global,
+    dialect: Dialect,
     size: usize,
     private: Vec<u8>,
     declared: u32,
@@ -207,11 +211,11 @@ fn tables_with(
     requires subrs { gathered.old.subrs ≡ fin.empty }
     requires glyphs { gathered.old.glyphs ≡ fin.empty }
     ensures shown { Shown (λ x p. ShowsPrivate x gathered.new p) result
-        (tables_from size (([], tt), []) (Some ((private.items, declared), gathered.old.rest))).read }
+        (tables_from dialect size (([], tt), []) (Some ((private.items, declared), gathered.old.rest))).read }
     ensures codes { OnOk result (gathered.new.codes ≡ gathered.old.codes) }
 {
     let len_iv = iv_of(private.as_slice())?;
-    let subrs = subrs_parts(alloc, size, declared, len_iv, gathered)?;
+    let subrs = subrs_parts(alloc, dialect, size, declared, len_iv, gathered)?;
     let between = gathered.rest();
     let Some((middle, _, glyphs)) = first::<CharsMarker>(between) else {
         return Err(ReadFault::BadGlyphs {
@@ -234,12 +238,13 @@ fn tables_with(
 #[tactic(auto, unfolding(crate::specs::Pieces::private_pieces, crate::specs::Pieces::tables_from))]
 pub(crate) fn private_parts(
     alloc: Global,
+    dialect: Dialect,
     gathered: &mut Gathered<'_>,
 ) -> Result<PrivateParts, ReadFault>
     requires subrs { gathered.old.subrs ≡ fin.empty }
     requires glyphs { gathered.old.glyphs ≡ fin.empty }
     ensures shown { Shown (λ x p. ShowsPrivate x gathered.new p) result
-        (private_pieces gathered.old.rest).read }
+        (private_pieces dialect gathered.old.rest).read }
     ensures codes { OnOk result (gathered.new.codes ≡ gathered.old.codes) }
 {
     let text = gathered.rest();
@@ -252,7 +257,7 @@ pub(crate) fn private_parts(
             let private = Vec::from_slice(alloc, private)?;
             let left = entries.len();
             gathered.pass_to(left);
-            return tables_with(alloc, size, private, subrs.declared, gathered);
+            return tables_with(alloc, dialect, size, private, subrs.declared, gathered);
         }
     }
     let private = Vec::from_slice(alloc, front)?;

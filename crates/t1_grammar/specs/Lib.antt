@@ -1,5 +1,6 @@
 pub mod Grammar
 pub mod Places
+pub mod Scans
 pub mod Tables
 pub mod TableLaws
 pub mod CountedLaws

@@ -9,6 +9,7 @@ use Rattle.t1_grammar.specs.Tables.{with_front, table_at}
 use Rattle.t1_grammar.proofs.Grammars.{that_read}
 use Rattle.t1_grammar.specs.TableLaws.{table_at-step}
 use Rattle.t1_bytes.specs.White.{gap}
+use Rattle.t1_font.specs.declared.dialect.Dialect.TheVariants.{Strict}
 use Rattle.t1_font.specs.Words.{is_regular, word, keyword, decimal}
 use Rattle.t1_font.specs.Markers.{encoding_marker}
 use Rattle.t1_font.specs.Encoding.{encoding_word, encoding_table, encoding_loop, Whole, OpensPuts, encoding_start, octal, code, code_entry, encoding_end}
@@ -26,7 +27,7 @@ unfolding encoding_marker
 encoding_marker_read rest = rw (fixed_read (codes "/Encoding") (32 ∷ rest)) refl
 
 -- an Encoding that is a word is read from its text
-pub encoding_word_read : (w rest : List ℕ) → IsWord 32 w → Stops is_regular rest → encoding_word.read (32 ∷ (w ++ (codes " def" ++ rest))) ≡ Some (w, rest)
+pub encoding_word_read : (w rest : List ℕ) → IsWord 32 w → Stops is_regular rest → (encoding_word Strict).read (32 ∷ (w ++ (codes " def" ++ rest))) ≡ Some (w, rest)
 unfolding encoding_word
 encoding_word_read w rest h s =
     let t : List ℕ = codes "def" ++ rest in
@@ -37,15 +38,15 @@ encoding_word_read w rest h s =
       keyword_read (codes "def") rest (refl, (refl, (refl, tt))) s,
     ) refl
 
-no_word : (rest : List ℕ) → encoding_word.read (codes " 256 array" ++ (10 ∷ rest)) ≡ None
+no_word : (rest : List ℕ) → (encoding_word Strict).read (codes " 256 array" ++ (10 ∷ rest)) ≡ None
 unfolding encoding_word word gap keyword
 no_word rest = refl
 
-table_begins : (rest : List ℕ) → encoding_table.read (codes " 256 array" ++ (10 ∷ rest)) ≡ Some (codes "array", 10 ∷ rest)
+table_begins : (rest : List ℕ) → (encoding_table Strict).read (codes " 256 array" ++ (10 ∷ rest)) ≡ Some (codes "array", 10 ∷ rest)
 unfolding encoding_table gap keyword
 table_begins rest = refl
 
-loop_read : (rest : List ℕ) → encoding_loop.read (10 ∷ (codes "0 1 255 {1 index exch /.notdef put} for" ++ (10 ∷ rest))) ≡ Some (codes "for", 10 ∷ rest)
+loop_read : (rest : List ℕ) → (encoding_loop Strict).read (10 ∷ (codes "0 1 255 {1 index exch /.notdef put} for" ++ (10 ∷ rest))) ≡ Some (codes "for", 10 ∷ rest)
 unfolding encoding_loop gap keyword
 loop_read rest = rw (fixed_read (codes "{") (codes "1 index exch /.notdef put} for" ++ (10 ∷ rest)), fixed_read (codes "/") (codes ".notdef put} for" ++ (10 ∷ rest)), fixed_read (codes "}") (codes " for" ++ (10 ∷ rest))) refl
 
@@ -56,7 +57,7 @@ unfolding code
 code_read c rest h s = that_read _ (either decimal octal) (digits c ++ rest) c rest (rw (decimal_read c rest (omega arith) s) refl) (le-leb c 255 h)
 
 -- a put is read from its text
-code_entry_read : (c : ℕ) (n rest : List ℕ) → IsCode c n → Stops is_regular rest → code_entry.read (10 ∷ (codes "dup " ++ (digits c ++ (codes " /" ++ (n ++ (codes " put" ++ rest)))))) ≡ Some ((c, n), rest)
+code_entry_read : (c : ℕ) (n rest : List ℕ) → IsCode c n → Stops is_regular rest → (code_entry Strict).read (10 ∷ (codes "dup " ++ (digits c ++ (codes " /" ++ (n ++ (codes " put" ++ rest)))))) ≡ Some ((c, n), rest)
 unfolding code_entry
 code_entry_read c n rest h s =
     let t4 : List ℕ = codes "put" ++ rest in
@@ -76,7 +77,7 @@ puts_line [] = (_, refl)
 puts_line (e ∷ es) = (_, refl)
 
 -- the end of a table Encoding is read from its text
-encoding_end_read : (rest : List ℕ) → Stops is_regular rest → encoding_end.read (10 ∷ (codes "readonly def" ++ rest)) ≡ Some (codes "def", rest)
+encoding_end_read : (rest : List ℕ) → Stops is_regular rest → (encoding_end Strict).read (10 ∷ (codes "readonly def" ++ rest)) ≡ Some (codes "def", rest)
 unfolding encoding_end
 encoding_end_read rest s =
     let t : List ℕ = codes "def" ++ rest in
@@ -87,17 +88,17 @@ encoding_end_read rest s =
     ) refl
 
 -- the puts of an Encoding are read from their text
-pub puts_read : (es : List (ℕ × List ℕ)) (rest : List ℕ) → AllByRecursion (λ e. IsCode e.0 e.1) es → Stops is_regular rest → table_at code_entry encoding_end (puts_text es ++ rest) ≡ Ok (es, codes "def", rest)
-puts_read [] rest all s = rw (table_at-step code_entry encoding_end code_entry_eats (10 ∷ (codes "readonly def" ++ rest)), encoding_end_read rest s) refl
+pub puts_read : (es : List (ℕ × List ℕ)) (rest : List ℕ) → AllByRecursion (λ e. IsCode e.0 e.1) es → Stops is_regular rest → table_at (code_entry Strict) (encoding_end Strict) (puts_text es ++ rest) ≡ Ok (es, codes "def", rest)
+puts_read [] rest all s = rw (table_at-step (code_entry Strict) (encoding_end Strict) (code_entry_eats Strict) (10 ∷ (codes "readonly def" ++ rest)), encoding_end_read rest s) refl
 puts_read (e ∷ es) rest all s =
     let others : List ℕ = puts_text es ++ rest in
     let line = puts_line es in
     let text : List ℕ = 10 ∷ (codes "dup " ++ (digits e.0 ++ (codes " /" ++ (e.1 ++ (codes " put" ++ others))))) in
     let regrouped : puts_text (e ∷ es) ++ rest ≡ text = simp append_assoc in
     let stops : Stops is_regular others = subst (λ (u : List ℕ). Stops is_regular (u ++ rest)) (sym line.1) refl in
-    let here : code_entry.read text ≡ Some (e, others) = code_entry_read e.0 e.1 others all.0 stops in
-    let one : table_at code_entry encoding_end text ≡ with_front (e ∷ []) (table_at code_entry encoding_end others) = rw (table_at-step code_entry encoding_end code_entry_eats text, code_entry_apart text (e, others) here, here) refl in
-    ap (table_at code_entry encoding_end) regrouped ∙ (one ∙ ap (with_front (e ∷ [])) (puts_read es rest all.1 s))
+    let here : (code_entry Strict).read text ≡ Some (e, others) = code_entry_read e.0 e.1 others all.0 stops in
+    let one : table_at (code_entry Strict) (encoding_end Strict) text ≡ with_front (e ∷ []) (table_at (code_entry Strict) (encoding_end Strict) others) = rw (table_at-step (code_entry Strict) (encoding_end Strict) (code_entry_eats Strict) text, (code_entry_apart Strict) text (e, others) here, here) refl in
+    ap (table_at (code_entry Strict) (encoding_end Strict)) regrouped ∙ (one ∙ ap (with_front (e ∷ [])) (puts_read es rest all.1 s))
 
 -- ---- the whole
 
@@ -109,17 +110,17 @@ IsEncodingText (Puts es) = AllByRecursion (λ e. IsCode e.0 e.1) es
 -- the canonical clear text, without the line end behind it
 -- ---- the start of the Encoding
 
-start_word : (w rest : List ℕ) → IsWord 32 w → Stops is_regular rest → encoding_start.read (32 ∷ (w ++ (codes " def" ++ rest))) ≡ Some (Whole w, rest)
+start_word : (w rest : List ℕ) → IsWord 32 w → Stops is_regular rest → (encoding_start Strict).read (32 ∷ (w ++ (codes " def" ++ rest))) ≡ Some (Whole w, rest)
 unfolding encoding_start
 start_word w rest h s = rw (encoding_word_read w rest h s) refl
 
-start_table : (rest : List ℕ) → encoding_start.read (codes " 256 array" ++ (10 ∷ (codes "0 1 255 {1 index exch /.notdef put} for" ++ (10 ∷ rest)))) ≡ Some (OpensPuts, 10 ∷ rest)
+start_table : (rest : List ℕ) → (encoding_start Strict).read (codes " 256 array" ++ (10 ∷ (codes "0 1 255 {1 index exch /.notdef put} for" ++ (10 ∷ rest)))) ≡ Some (OpensPuts, 10 ∷ rest)
 unfolding encoding_start
 start_table rest = rw (no_word (codes "0 1 255 {1 index exch /.notdef put} for" ++ (10 ∷ rest)), table_begins (codes "0 1 255 {1 index exch /.notdef put} for" ++ (10 ∷ rest)), loop_read rest) refl
 
 -- the canonical clear text, without the line end behind it
 pub clear_again : (head : List ℕ) (encoding : EncodingText) (tail : List ℕ) → NoMarker encoding_marker head → IsEncodingText encoding →
-    Stops is_regular tail → (clear_pieces (head ++ (encoding_text encoding ++ tail))).read ≡ Ok (record { head = head; encoding = encoding; clear_tail = tail })
+    Stops is_regular tail → (clear_pieces Strict (head ++ (encoding_text encoding ++ tail))).read ≡ Ok (record { head = head; encoding = encoding; clear_tail = tail })
 unfolding clear_pieces encoding_from
 clear_again head (OneWord w) tail none h s =
     let t : List ℕ = w ++ (codes " def" ++ tail) in
@@ -132,8 +133,8 @@ clear_again head (Puts es) tail none h s =
     let p : List ℕ = puts_text es ++ tail in
     let t : List ℕ = codes "256 array" ++ (10 ∷ (codes "0 1 255 {1 index exch /.notdef put} for" ++ p)) in
     let shown : p ≡ 10 ∷ (line.0 ++ tail) = ap (λ (u : List ℕ). u ++ tail) line.1 in
-    let start : encoding_start.read (32 ∷ t) ≡ Some (OpensPuts, p) =
-    subst (λ (u : List ℕ). encoding_start.read (codes " 256 array" ++ (10 ∷ (codes "0 1 255 {1 index exch /.notdef put} for" ++ u))) ≡ Some (OpensPuts, u)) (sym shown) (start_table (line.0 ++ tail)) in
+    let start : (encoding_start Strict).read (32 ∷ t) ≡ Some (OpensPuts, p) =
+    subst (λ (u : List ℕ). (encoding_start Strict).read (codes " 256 array" ++ (10 ∷ (codes "0 1 255 {1 index exch /.notdef put} for" ++ u))) ≡ Some (OpensPuts, u)) (sym shown) (start_table (line.0 ++ tail)) in
     let marker : first_at encoding_marker (head ++ (codes "/Encoding" ++ (32 ∷ t))) ≡ Some ((head, tt), 32 ∷ t) =
     first_behind encoding_marker head _ tt (32 ∷ t) (encoding_moves head [] _ none) (encoding_marker_read t) in
     rw (marker, start, puts_read es tail h s) refl

@@ -14,6 +14,7 @@ use Rattle.t1_grammar.proofs.Grammars.{that_read, run_read}
 use Rattle.t1_bytes.specs.White.{is_white, white, has_bytes, gap}
 use Rattle.t1_bytes.specs.Eexec.{eexec_marker, blank_comes}
 use Rattle.t1_bytes.specs.Laws.{AreBytes}
+use Rattle.t1_font.specs.declared.dialect.Dialect.{Dialect}
 use Rattle.t1_font.specs.Words.{is_regular, keyword, next_name}
 use Rattle.t1_font.specs.Markers.{encoding_marker}
 use Rattle.t1_font.specs.Encoding.{Opening, Whole, OpensPuts, OpensNames, encoding_start, encoding_word, code_entry, encoding_end, array_end, from_code}
@@ -55,13 +56,13 @@ word_in OpensPuts = None
 word_in OpensNames = None
 
 -- a word is its own Encoding
-word_start : (w bytes rest : List ℕ) → AtFront encoding_start bytes (Whole w, rest) → (text : List ℕ) × (bytes ≡ text ++ rest) × encoding_word.Spells w text rest
+word_start : (d : Dialect) (w bytes rest : List ℕ) → AtFront (encoding_start d) bytes (Whole w, rest) → (text : List ℕ) × (bytes ≡ text ++ rest) × (encoding_word d).Spells w text rest
 unfolding encoding_start
-word_start w bytes rest a = elim a.2 [
+word_start d w bytes rest a = elim a.2 [
   | inl t ↦
       let text : a.0 ≡ t.1 = t.3 ∙ (ap (λ (u : List ℕ). t.1 ++ u) t.5.0 ∙ append-nil t.1) in
-      let spelled : encoding_word.Spells t.0 t.1 rest = subst (λ (u : List ℕ). encoding_word.Spells t.0 t.1 (u ++ rest)) t.5.0 t.4 in
-      (t.1, a.1 ∙ ap (λ (u : List ℕ). u ++ rest) text, subst (λ (v : List ℕ). encoding_word.Spells v t.1 rest) (Some_same (ap word_in t.5.1)) spelled)
+      let spelled : (encoding_word d).Spells t.0 t.1 rest = subst (λ (u : List ℕ). (encoding_word d).Spells t.0 t.1 (u ++ rest)) t.5.0 t.4 in
+      (t.1, a.1 ∙ ap (λ (u : List ℕ). u ++ rest) text, subst (λ (v : List ℕ). (encoding_word d).Spells v t.1 rest) (Some_same (ap word_in t.5.1)) spelled)
   | inr t ↦ elim t.0 [
     | inl u ↦ Some_None (sym (ap word_in u.5.5.1))
     | inr u ↦ Some_None (sym (ap word_in u.0.5.1))
@@ -69,9 +70,9 @@ word_start w bytes rest a = elim a.2 [
 ]
 
 -- an Encoding that is a word ends with `def`
-word_ends : (w text rest bytes : List ℕ) → encoding_word.Spells w text rest → bytes ≡ text ++ rest → IsEnded bytes rest
+word_ends : (d : Dialect) (w text rest bytes : List ℕ) → (encoding_word d).Spells w text rest → bytes ≡ text ++ rest → IsEnded bytes rest
 unfolding encoding_word
-word_ends w text rest bytes s b =
+word_ends d w text rest bytes s b =
     let k = s.5.5.5 in
     let none : k.2 ≡ [] = k.5.0 in
     let own : (keyword (codes "def")).Spells k.0 k.1 rest = subst (λ (u : List ℕ). (keyword (codes "def")).Spells k.0 k.1 (u ++ rest)) none k.4 in
@@ -79,39 +80,39 @@ word_ends w text rest bytes s b =
     let flat : s.1 ++ (s.5.1 ++ (s.5.5.1 ++ (k.1 ++ []))) ≡ (s.1 ++ (s.5.1 ++ s.5.5.1)) ++ k.1 = simp (append_assoc, append-nil) in
     def_ends k.0 text (s.1 ++ (s.5.1 ++ s.5.5.1)) k.1 rest bytes own (parts ∙ flat) b
 
-close_ends : (closing text rest : List ℕ) (front bytes : List ℕ) → encoding_end.Spells closing text rest → bytes ≡ (front ++ text) ++ rest → IsEnded bytes rest
+close_ends : (d : Dialect) (closing text rest : List ℕ) (front bytes : List ℕ) → (encoding_end d).Spells closing text rest → bytes ≡ (front ++ text) ++ rest → IsEnded bytes rest
 unfolding encoding_end
-close_ends closing text rest front bytes s b =
+close_ends d closing text rest front bytes s b =
     let parts : front ++ text ≡ front ++ (s.1 ++ (s.5.1 ++ s.5.2)) = λ i. front ++ (s.3 ∙ (λ j. s.1 ++ s.5.3 j)) i in
     let flat : front ++ (s.1 ++ (s.5.1 ++ s.5.2)) ≡ (front ++ (s.1 ++ s.5.1)) ++ s.5.2 = simp append_assoc in
     def_ends closing (front ++ text) (front ++ (s.1 ++ s.5.1)) s.5.2 rest bytes s.5.5 (parts ∙ flat) b
 
-array_ends : (closing text rest : List ℕ) (front bytes : List ℕ) → array_end.Spells closing text rest → bytes ≡ (front ++ text) ++ rest → IsEnded bytes rest
+array_ends : (d : Dialect) (closing text rest : List ℕ) (front bytes : List ℕ) → (array_end d).Spells closing text rest → bytes ≡ (front ++ text) ++ rest → IsEnded bytes rest
 unfolding array_end
-array_ends closing text rest front bytes s b =
+array_ends d closing text rest front bytes s b =
     let parts : front ++ text ≡ front ++ (s.1 ++ (s.5.1 ++ s.5.2)) = λ i. front ++ (s.3 ∙ (λ j. s.1 ++ s.5.3 j)) i in
     let flat : front ++ (s.1 ++ (s.5.1 ++ s.5.2)) ≡ (front ++ (s.1 ++ s.5.1)) ++ s.5.2 = simp append_assoc in
-    close_ends closing s.5.2 rest (front ++ (s.1 ++ s.5.1)) bytes s.5.5 (b ∙ ap (λ (u : List ℕ). u ++ rest) (parts ∙ flat))
+    close_ends d closing s.5.2 rest (front ++ (s.1 ++ s.5.1)) bytes s.5.5 (b ∙ ap (λ (u : List ℕ). u ++ rest) (parts ∙ flat))
 
 -- what opens the entries, the entries, their close and a rest
 table_parts : (opening entries closing rest bytes behind : List ℕ) → bytes ≡ opening ++ behind → behind ≡ (entries ++ closing) ++ rest → bytes ≡ ((opening ++ entries) ++ closing) ++ rest
 table_parts opening entries closing rest bytes behind b e = b ∙ (ap (λ (u : List ℕ). opening ++ u) e ∙ simp append_assoc)
 
 -- an Encoding ends with `def`
-pub encoding_ends : (e : EncodingText) (bytes rest : List ℕ) → SpellsEncoding e bytes rest → IsEnded bytes rest
-encoding_ends (OneWord w) bytes rest s = let a = word_start w bytes rest s in word_ends w a.0 rest bytes a.2 a.1
-encoding_ends (Puts puts) bytes rest (inl s) =
+pub encoding_ends : (d : Dialect) (e : EncodingText) (bytes rest : List ℕ) → SpellsEncoding d e bytes rest → IsEnded bytes rest
+encoding_ends d (OneWord w) bytes rest s = let a = word_start d w bytes rest s in word_ends d w a.0 rest bytes a.2 a.1
+encoding_ends d (Puts puts) bytes rest (inl s) =
     let t = s.3.2 in
-    close_ends s.1 t.1 rest (s.2.0 ++ t.0) bytes t.4 (table_parts s.2.0 t.0 t.1 rest bytes s.0 s.2.1 (s.3.1 ∙ ap (λ (u : List ℕ). u ++ rest) t.2))
-encoding_ends (Puts puts) bytes rest (inr s) =
+    close_ends d s.1 t.1 rest (s.2.0 ++ t.0) bytes t.4 (table_parts s.2.0 t.0 t.1 rest bytes s.0 s.2.1 (s.3.1 ∙ ap (λ (u : List ℕ). u ++ rest) t.2))
+encoding_ends d (Puts puts) bytes rest (inr s) =
     let t = s.5.2.1 in
-    array_ends s.2 t.1 rest (s.4.0 ++ t.0) bytes t.4 (table_parts s.4.0 t.0 t.1 rest bytes s.1 s.4.1 (s.5.1 ∙ ap (λ (u : List ℕ). u ++ rest) t.2))
+    array_ends d s.2 t.1 rest (s.4.0 ++ t.0) bytes t.4 (table_parts s.4.0 t.0 t.1 rest bytes s.1 s.4.1 (s.5.1 ∙ ap (λ (u : List ℕ). u ++ rest) t.2))
 
 -- ---- and is one of a font
 
-word_value : (w text rest : List ℕ) → encoding_word.Spells w text rest → AreBytes text → IsWord 32 w
+word_value : (d : Dialect) (w text rest : List ℕ) → (encoding_word d).Spells w text rest → AreBytes text → IsWord 32 w
 unfolding encoding_word
-word_value w text rest s h =
+word_value d w text rest s h =
     let a = parts_bytes text s.1 s.2 s.3 h in
     let b = parts_bytes s.2 s.5.1 s.5.2 s.5.3 a.1 in
     subst (IsWord 32) s.5.5.5.5.1 (word_of s.5.0 s.5.1 _ s.5.4 b.0)
@@ -139,14 +140,14 @@ array_puts c [] all few = tt
 array_puts c (n ∷ names) all few = (record { code = omega (arith, few); name = all.0 }, array_puts (suc c) names all.1 (omega (arith, few)))
 
 -- an Encoding that is spelled by bytes is that of a font
-pub encoding_of : (e : EncodingText) (bytes rest : List ℕ) → SpellsEncoding e bytes rest → AreBytes bytes → IsEncoding (encoding_value e)
-encoding_of (OneWord w) bytes rest s h = let a = word_start w bytes rest s in word_value w a.0 rest a.2 (parts_bytes bytes a.0 rest a.1 h).0
-encoding_of (Puts puts) bytes rest (inl s) h =
+pub encoding_of : (d : Dialect) (e : EncodingText) (bytes rest : List ℕ) → SpellsEncoding d e bytes rest → AreBytes bytes → IsEncoding (encoding_value e)
+encoding_of d (OneWord w) bytes rest s h = let a = word_start d w bytes rest s in word_value d w a.0 rest a.2 (parts_bytes bytes a.0 rest a.1 h).0
+encoding_of d (Puts puts) bytes rest (inl s) h =
     let t = s.3.2 in
-    puts_value puts (entries_have code_entry IsReadPut put_of puts t.0 (t.1 ++ rest) t.3 (entries_bytes s.2.0 s.0 s.3.0 t.0 t.1 rest bytes s.2.1 s.3.1 t.2 h))
-encoding_of (Puts puts) bytes rest (inr s) h =
+    puts_value puts (entries_have (code_entry d) IsReadPut (put_of d) puts t.0 (t.1 ++ rest) t.3 (entries_bytes s.2.0 s.0 s.3.0 t.0 t.1 rest bytes s.2.1 s.3.1 t.2 h))
+encoding_of d (Puts puts) bytes rest (inr s) h =
     let t = s.5.2.1 in
-    let all : AllByRecursion (IsWord 127) s.0 = entries_have next_name (IsWord 127) next_name_of s.0 t.0 (t.1 ++ rest) t.3 (entries_bytes s.4.0 s.1 s.5.0 t.0 t.1 rest bytes s.4.1 s.5.1 t.2 h) in
+    let all : AllByRecursion (IsWord 127) s.0 = entries_have (next_name d) (IsWord 127) (next_name_of d) s.0 t.0 (t.1 ++ rest) t.3 (entries_bytes s.4.0 s.1 s.5.0 t.0 t.1 rest bytes s.4.1 s.5.1 t.2 h) in
     puts_value puts (subst (AllByRecursion IsReadPut) (sym s.3) (array_puts 0 s.0 all (omega (arith, s.5.2.0))))
 
 -- ---- the clear text ends with the first marker
@@ -234,13 +235,13 @@ pub record IsReadClear (c : ClearPieces) (p : PrivatePieces) : Type 0 where
   pub encoding : IsEncoding (encoding_value c.encoding)
 
 -- the clear text that bytes spell is that of a font
-pub clear_of : (flat clear cipher : List ℕ) (c : ClearPieces) (p : PrivatePieces) → IsCut flat clear cipher → IsClear clear c → AreBytes clear → IsReadClear c p
-clear_of flat clear cipher c p cut s h =
+pub clear_of : (d : Dialect) (flat clear cipher : List ℕ) (c : ClearPieces) (p : PrivatePieces) → IsCut flat clear cipher → IsClear d clear c → AreBytes clear → IsReadClear c p
+clear_of d flat clear cipher c p cut s h =
     let f = s.marker.2 in
     let slash = encoding_slash f.0 s.after f.2 in
     let text = parts_bytes clear s.marker.0 s.after s.marker.1 h in
     let head = parts_bytes s.marker.0 c.head f.0 f.1 text.0 in
-    let ends = encoding_ends c.encoding s.after c.clear_tail s.encoding in
+    let ends = encoding_ends d c.encoding s.after c.clear_tail s.encoding in
     let e = cut.marker.2 in
     let marker = marker_is cut.own e.0 cut.after e.2 in
     let through : clear ≡ cut.front ++ e.0 = cut.clear_is ∙ ap (λ (u : List ℕ). cut.front ++ u) (sym (marker_own cut.own e.0 cut.after e.2)) in
@@ -255,7 +256,7 @@ clear_of flat clear cipher c p cut s h =
       };
       head = head.0;
       tail = (parts_bytes s.after (ends.body ++ codes "def") c.clear_tail ends.parts text.1).1;
-      encoding = encoding_of c.encoding s.after c.clear_tail s.encoding text.1;
+      encoding = encoding_of d c.encoding s.after c.clear_tail s.encoding text.1;
     }
   where
     grouped : (a b d t : List ℕ) → a ++ ((b ++ d) ++ t) ≡ ((a ++ b) ++ d) ++ t

@@ -11,6 +11,8 @@ use Rattle.t1_grammar.specs.Grammar.{Grammar, choice}
 use Rattle.t1_bytes.specs.Laws.{AreBytes}
 use Rattle.t1_bytes.specs.Cipher.{decrypted}
 use Rattle.t1_bytes.proofs.Ciphers.{length-decrypted}
+use Rattle.t1_font.specs.declared.dialect.Dialect.{Dialect}
+use Rattle.t1_font.specs.declared.dialect.Dialect.TheVariants.{Strict}
 use Rattle.t1_font.specs.Words.{word, name, phrase_of, phrase_after, is_access, passes, next_name}
 use Rattle.t1_font.specs.Entry.{Body, Entry, length_from, body, entry, plain_entries}
 use Rattle.t1_font.specs.Subrs.{Subr, subr_key, subr}
@@ -101,22 +103,22 @@ entry_of key IsKey key_is iv e text rest s h =
     let k = body_of iv b.0 b.1 _ b.4 (parts_bytes s.2 b.1 b.2 b.3 h1.1).0 in
     subst (IsRead IsKey iv) b.5.1 (key_is s.0 s.1 _ s.4 h1.0, k.0, k.1)
 
-subr_key_of : (declared i : ℕ) (text rest : List ℕ) → (subr_key declared).Spells i text rest → AreBytes text → i < declared
+subr_key_of : (d : Dialect) (declared i : ℕ) (text rest : List ℕ) → (subr_key d declared).Spells i text rest → AreBytes text → i < declared
 unfolding subr_key
-subr_key_of declared i text rest s h = ltb-true i declared s.5.5.5.1
+subr_key_of d declared i text rest s h = ltb-true i declared s.5.5.5.1
 
 -- a Subr that bytes spell is one of a font
-pub subr_of : (declared iv : ℕ) (e : Subr) (text rest : List ℕ) → (subr declared iv).Spells e text rest → AreBytes text → IsRead (λ i. i < declared) iv e
-subr_of declared = entry_of (subr_key declared) (λ i. i < declared) (subr_key_of declared)
+pub subr_of : (d : Dialect) (declared iv : ℕ) (e : Subr) (text rest : List ℕ) → (subr d declared iv).Spells e text rest → AreBytes text → IsRead (λ i. i < declared) iv e
+subr_of d declared = entry_of (subr_key d declared) (λ i. i < declared) (subr_key_of d declared)
 
 -- a name behind white space that bytes spell is a name of a font
-pub next_name_of : (n text rest : List ℕ) → next_name.Spells n text rest → AreBytes text → IsWord 127 n
+pub next_name_of : (d : Dialect) (n text rest : List ℕ) → (next_name d).Spells n text rest → AreBytes text → IsWord 127 n
 unfolding next_name
-next_name_of n text rest s h = name_of n s.2 rest s.5 (parts_bytes text s.1 s.2 s.3 h).1
+next_name_of d n text rest s h = name_of n s.2 rest s.5 (parts_bytes text s.1 s.2 s.3 h).1
 
 -- a glyph that bytes spell is one of a font
 pub glyph_of : (iv : ℕ) (e : Glyph) (text rest : List ℕ) → (glyph iv).Spells e text rest → AreBytes text → IsRead (IsWord 127) iv e
-glyph_of = entry_of next_name (IsWord 127) next_name_of
+glyph_of = entry_of (next_name Strict) (IsWord 127) (next_name_of Strict)
 
 -- a put of a font: its code and its name
 pub record IsReadPut (e : ℕ × List ℕ) : Type 0 where
@@ -124,9 +126,9 @@ pub record IsReadPut (e : ℕ × List ℕ) : Type 0 where
   pub name : IsWord 127 e.1
 
 -- a put that bytes spell is one of a font
-pub put_of : (e : ℕ × List ℕ) (text rest : List ℕ) → code_entry.Spells e text rest → AreBytes text → IsReadPut e
+pub put_of : (d : Dialect) (e : ℕ × List ℕ) (text rest : List ℕ) → (code_entry d).Spells e text rest → AreBytes text → IsReadPut e
 unfolding code_entry code
-put_of e text rest s h =
+put_of d e text rest s h =
     let h1 = parts_bytes text s.1 s.2 s.3 h in
     let h2 = parts_bytes s.2 s.5.1 s.5.2 s.5.3 h1.1 in
     let h3 = parts_bytes s.5.2 s.5.5.1 s.5.5.2 s.5.5.3 h2.1 in

@@ -14,6 +14,8 @@ use Rattle.t1_bytes.specs.Laws.{AreBytes}
 use Rattle.t1_bytes.specs.Segments.{starts_segment, IsFlat}
 use Rattle.t1_bytes.proofs.ContainerLaws.{one_flat}
 use Rattle.t1_bytes.proofs.Ciphers.{decrypted-is}
+use Rattle.t1_font.specs.declared.dialect.Dialect.{Dialect}
+use Rattle.t1_font.specs.declared.dialect.Dialect.TheVariants.{Strict}
 use Rattle.t1_font.specs.Words.{is_regular}
 use Rattle.t1_font.specs.Entry.{plain_entries}
 use Rattle.t1_font.specs.Subrs.{Subr}
@@ -24,7 +26,7 @@ use Rattle.t1_font.specs.Pieces.{ClearPieces, SubrsPieces, PrivatePieces}
 use Rattle.t1_font.specs.FontValue.{FontValue, SubrsShell, notdef, declared_count, count_limit, IsWithin}
 use Rattle.t1_font.specs.Entries.{map_of, last_entries, last_value}
 use Rattle.t1_font.specs.ReadFont.{of_first, subrs_of, subrs_shell, glyph_entries, shell_of, font_of, read_font}
-use Rattle.t1_font.specs.Spelling.{IsPrivate, IsCut, Texts, Spells}
+use Rattle.t1_font.specs.Spelling.{IsPrivate, IsCut, Texts, SpellsIn}
 use Rattle.t1_font.specs.Canon.{canon}
 use Rattle.t1_font.specs.IsFont.{IsWord, IsPhrase, IsPrivateShell, SubrWords, SubrsFit, AreGlyphs, IsFont, HasBytes}
 use Rattle.t1_font.proofs.MapLaws.{entries-map_of, find-last}
@@ -109,9 +111,9 @@ pub record IsReadPrivate (c : ClearPieces) (p : PrivatePieces) : Type 0 where
   pub glyphs : AllByRecursion (IsRead (IsWord 127) p.len_iv) p.glyphs
 
 -- the private text that bytes spell is that of a font
-pub private_of : (text : List ℕ) (c : ClearPieces) (p : PrivatePieces) → IsPrivate text p → AreBytes text → IsReadPrivate c p
-private_of text c p s h =
-    let m = middle_of text p p.subrs s.before.start s.before.tables.tables h in
+pub private_of : (d : Dialect) (text : List ℕ) (c : ClearPieces) (p : PrivatePieces) → IsPrivate d text p → AreBytes text → IsReadPrivate c p
+private_of d text c p s h =
+    let m = middle_of d text p p.subrs s.before.start s.before.tables.tables h in
     let t = s.before.glyphs in
     let a = parts_bytes s.before.start t.0 s.after t.1 m.0.after in
     let b = parts_bytes t.0 t.2.0 t.2.1 t.2.2 a.0 in
@@ -153,14 +155,14 @@ texts_bytes file clear text s h =
     (both.0, plain.1)
 
 -- what a file of bytes spells is a font
-pub spelled_font : (file : List ℕ) (f : FontValue) → AreBytes file → Spells file f → IsFont f
-spelled_font file f h s =
+pub spelled_font : (d : Dialect) (file : List ℕ) (f : FontValue) → AreBytes file → SpellsIn d file f → IsFont f
+spelled_font d file f h s =
     let c = s.outside in
     let p = s.inside in
     let t = s.pieces.texts in
     let bytes = texts_bytes file s.pieces.clear s.pieces.text t h in
-    let clear = clear_of t.flat s.pieces.clear t.cipher c p t.cut s.pieces.clear_is bytes.0 in
-    let private = private_of s.pieces.text c p s.pieces.private_is bytes.1 in
+    let clear = clear_of d t.flat s.pieces.clear t.cipher c p t.cut s.pieces.clear_is bytes.0 in
+    let private = private_of d s.pieces.text c p s.pieces.private_is bytes.1 in
     let some : contains_key (font_of c p).glyphs notdef ≡ true = subst (λ (f : FontValue). contains_key f.glyphs notdef ≡ true) s.value s.has_notdef in
     let within : IsWithin (font_of c p) = subst IsWithin s.value s.within in
     subst IsFont (sym s.value) (record {
@@ -175,7 +177,7 @@ spelled_font file f h s =
 
 -- what is read of a file of bytes is a font
 pub read_is_font : (file : List ℕ) (f : FontValue) → AreBytes file → read_font file ≡ Ok f → IsFont f
-read_is_font file f h e = spelled_font file f h (reads file f e)
+read_is_font file f h e = spelled_font Strict file f h (reads Strict file f e)
 
 -- a font is a value of bytes that its own canonical file spells
 pub font_exactly : (f : FontValue) → (IsFont f → HasBytes f × (read_font (canon f Pfb) ≡ Ok f)) × (HasBytes f × (read_font (canon f Pfb) ≡ Ok f) → IsFont f)
@@ -188,8 +190,8 @@ starts_head [] rest = refl
 starts_head (b ∷ head) rest = refl
 
 -- the head of a font begins as its flat text does
-spelled_starts : (file flat : List ℕ) (f : FontValue) → IsFlat file flat → Spells file f → starts_segment f.shell.head ≡ starts_segment flat
-spelled_starts file flat f flat_is s =
+spelled_starts : (d : Dialect) (file flat : List ℕ) (f : FontValue) → IsFlat file flat → SpellsIn d file f → starts_segment f.shell.head ≡ starts_segment flat
+spelled_starts d file flat f flat_is s =
     let t = s.pieces.texts in
     let c = s.pieces.clear_is in
     let e = t.cut.marker.2 in
@@ -203,4 +205,4 @@ spelled_starts file flat f flat_is s =
 
 -- a font's head begins with byte 128 exactly where its flat text does
 pub head_starts : (file flat : List ℕ) (f : FontValue) → IsFlat file flat → read_font file ≡ Ok f → starts_segment f.shell.head ≡ starts_segment flat
-head_starts file flat f flat_is e = spelled_starts file flat f flat_is (reads file f e)
+head_starts file flat f flat_is e = spelled_starts Strict file flat f flat_is (reads Strict file f e)

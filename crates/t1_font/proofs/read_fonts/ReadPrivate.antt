@@ -5,6 +5,7 @@ use Rattle.std.proofs.lemmas.List.{append-nil, length-append}
 use Rattle.t1_grammar.specs.Grammar.{NoneIn, Stops, first}
 use Rattle.t1_grammar.specs.Tables.{TableAt}
 use Rattle.t1_bytes.specs.Laws.{AreBytes}
+use Rattle.t1_font.specs.declared.dialect.Dialect.{Dialect}
 use Rattle.t1_font.specs.Words.{is_regular, word, keyword, phrase_of, phrase_after, is_access, passes}
 use Rattle.t1_font.specs.Subrs.{Subr, subr, subrs_end}
 use Rattle.t1_font.specs.Markers.{subrs_marker, chars_marker}
@@ -35,18 +36,18 @@ phrase_stops : (test : List ℕ → Bool) (p text rest : List ℕ) → (phrase_o
 unfolding phrase_of word
 phrase_stops test p text rest s = after_stops test (is_access s.0) s.0 p [] s.2 rest s.5 s.4.0.0.2
 
-subrs_stops : (p text rest : List ℕ) → subrs_end.Spells p text rest → Stops is_regular rest
+subrs_stops : (d : Dialect) (p text rest : List ℕ) → (subrs_end d).Spells p text rest → Stops is_regular rest
 unfolding subrs_end
-subrs_stops p text rest s = phrase_stops (passes false) p s.2 rest s.5
+subrs_stops d p text rest s = phrase_stops (passes false) p s.2 rest s.5
 
 -- the end of the glyphs ends a word
 pub glyphs_stops : (p text rest : List ℕ) → glyphs_end.Spells p text rest → Stops is_regular rest
 unfolding glyphs_end keyword
 glyphs_stops p text rest s = s.5.0.2
 
-closing_is : (p text rest : List ℕ) → subrs_end.Spells p text rest → AreBytes text → IsPhrase false p
+closing_is : (d : Dialect) (p text rest : List ℕ) → (subrs_end d).Spells p text rest → AreBytes text → IsPhrase false p
 unfolding subrs_end
-closing_is p text rest s h = phrase_is false p s.2 rest s.5 (parts_bytes text s.1 s.2 s.3 h).1
+closing_is d p text rest s h = phrase_is false p s.2 rest s.5 (parts_bytes text s.1 s.2 s.3 h).1
 
 -- ---- where the tables begin
 
@@ -102,14 +103,14 @@ pub record IsReadTable (declared iv : ℕ) (es : List Subr) (last between : List
   pub bytes : AreBytes between
 
 -- a table of Subrs in bytes is one of a font
-table_of : (declared iv : ℕ) (es : List Subr) (closing bytes between : List ℕ) → TableAt (subr declared iv) subrs_end es closing bytes between → AreBytes bytes → IsReadTable declared iv es closing between
-table_of declared iv es closing bytes between s h =
+table_of : (d : Dialect) (declared iv : ℕ) (es : List Subr) (closing bytes between : List ℕ) → TableAt (subr d declared iv) (subrs_end d) es closing bytes between → AreBytes bytes → IsReadTable declared iv es closing between
+table_of d declared iv es closing bytes between s h =
     let a = parts_bytes bytes s.0 between s.1 h in
     let b = parts_bytes s.0 s.2.0 s.2.1 s.2.2 a.0 in
     record {
-      entries = entries_have (subr declared iv) (IsRead (λ i. i < declared) iv) (subr_of declared iv) es s.2.0 (s.2.1 ++ between) s.2.3 b.0;
-      closing = closing_is closing s.2.1 between s.2.4 b.1;
-      apart = subrs_stops closing s.2.1 between s.2.4;
+      entries = entries_have (subr d declared iv) (IsRead (λ i. i < declared) iv) (subr_of d declared iv) es s.2.0 (s.2.1 ++ between) s.2.3 b.0;
+      closing = closing_is d closing s.2.1 between s.2.4 b.1;
+      apart = subrs_stops d closing s.2.1 between s.2.4;
       bytes = a.1;
     }
 
@@ -129,8 +130,8 @@ IsReadSubrs p None = p.middle ≡ []
 IsReadSubrs p (Some s) = AllByRecursion (IsRead (λ i. i < s.declared) p.len_iv) s.entries × IsPhrase false s.closing
 
 -- what bytes spell up to the glyphs is that of a font
-pub middle_of : (text : List ℕ) (p : PrivatePieces) (o : Option SubrsPieces) (glyphs : List ℕ) → SpellsTables text p o glyphs → AreBytes text → IsReadMiddle p o glyphs × IsReadSubrs p o
-middle_of text p None glyphs s h =
+pub middle_of : (d : Dialect) (text : List ℕ) (p : PrivatePieces) (o : Option SubrsPieces) (glyphs : List ℕ) → SpellsTables d text p o glyphs → AreBytes text → IsReadMiddle p o glyphs × IsReadSubrs p o
+middle_of d text p None glyphs s h =
     let a = started text p.private None glyphs s.0 in
     let b = parts_bytes text p.private (a.before ++ glyphs) a.parts h in (
       record {
@@ -144,10 +145,10 @@ middle_of text p None glyphs s h =
       },
       s.1,
     )
-middle_of text p (Some x) glyphs s h =
+middle_of d text p (Some x) glyphs s h =
     let a = started text p.private (Some x.declared) s.0 s.2 in
     let b = parts_bytes text p.private (a.before ++ s.0) a.parts h in
-    let t = table_of x.declared p.len_iv x.entries x.closing s.0 s.1 s.3 (parts_bytes (a.before ++ s.0) a.before s.0 refl b.1).1 in
+    let t = table_of d x.declared p.len_iv x.entries x.closing s.0 s.1 s.3 (parts_bytes (a.before ++ s.0) a.before s.0 refl b.1).1 in
     let c = s.4.2 in
     let k = chars_slash c.0 glyphs c.2 in
     let e = found_parts s.1 p.middle c.0 s.4.0 glyphs k.0 s.4.1 c.1 k.1 in

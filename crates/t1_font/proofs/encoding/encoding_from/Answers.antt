@@ -8,6 +8,6 @@ pub returns-in-Word-clause-shown : goal.returns-in-Word-clause-shown
 unfolding encoding_from
 returns-in-Word-clause-shown c = (
   (OneWord c.in-Word.word.now, c.args.rest.now),
-  ap (λ (o : Opening). (encoding_from c.args.clear.now (opening_view o) c.args.rest.now).read) c.in-Word.is,
+  ap (λ (o : Opening). (encoding_from c.args.dialect c.args.clear.now (opening_view o) c.args.rest.now).read) c.in-Word.is,
   (refl, refl),
 )

@@ -2,6 +2,7 @@ use Rattle.std.proofs.Common.{rules, ◌+◌, ◌≡◌, ◌≤◌, ◌∙◌, a
 use Rattle.std.proofs.lemmas.Bool.{le-leb}
 use Rattle.std.proofs.lemmas.List.{drop-drop}
 use Rattle.t1_bytes.specs.Cipher.{private_text}
+use Rattle.t1_font.specs.declared.dialect.Dialect.{Dialect}
 use Rattle.t1_font.specs.declared.fault.ReadFault.{ReadFault}
 use Rattle.t1_font.specs.FontValue.{FontValue}
 use Rattle.t1_bytes.specs.Limits.{file_limit}
@@ -16,11 +17,11 @@ grouped (Ok x) f g = refl
 grouped (Err e) f g = refl
 
 -- the font of a file that is not too long, where it is cut
-file_is : (file : List ℕ) (p : FlatPieces) → length file ≤ file_limit → (file_pieces file).read ≡ Ok p →
-    (font_file file).read ≡ (font_texts p.clear (private_text p.cipher)).read
+file_is : (d : Dialect) (file : List ℕ) (p : FlatPieces) → length file ≤ file_limit → (file_pieces file).read ≡ Ok p →
+    (font_file d file).read ≡ (font_texts d p.clear (private_text p.cipher)).read
 unfolding font_file
-file_is file p short cut =
-    let texts : FlatPieces → Result FontValue ReadFault = λ parts. (font_texts parts.clear (private_text parts.cipher)).read in
+file_is d file p short cut =
+    let texts : FlatPieces → Result FontValue ReadFault = λ parts. (font_texts d parts.clear (private_text parts.cipher)).read in
     rw (le-leb (length file) file_limit short) (grouped (flat_text file).read (λ flat. (flat_pieces flat).read) texts ∙ ap (if_ok texts) cut)
 
 pub returns : goal.returns
@@ -29,8 +30,8 @@ returns c =
     let from = c.in_ok-cut.cut.from in
     let buffer = c.open_private.new.buffer.items in
     let private : private_text h.0.cipher ≡ drop (from + 4) buffer = ap private_text (sym h.2.1) ∙ (ap (drop 4) (sym c.open_private.ensures.value) ∙ (drop-drop 4 from buffer ∙ ap (λ k. drop k buffer) (omega arith))) in
-    answers_same c.text_parts.result _ (font_texts c.as_slice.result.now (drop (from + 4) buffer)).read
-    (file_is c.args.file.items h.0 (search rules) h.1 ∙ (λ i. (font_texts (sym (c.as_slice.ensures.value ∙ h.2.0) i) (private i)).read))
+    answers_same c.text_parts.result _ (font_texts c.args.dialect c.as_slice.result.now (drop (from + 4) buffer)).read
+    (file_is c.args.dialect c.args.file.items h.0 (search rules) h.1 ∙ (λ i. (font_texts c.args.dialect (sym (c.as_slice.ensures.value ∙ h.2.0) i) (private i)).read))
     c.text_parts.ensures
 
 pub text_parts-requires-clause-inside : goal.text_parts-requires-clause-inside

@@ -1,4 +1,4 @@
-use Rattle.std.proofs.Common.{◌≡◌, true, ap, sym, subst, ◌∙◌, refl, List, ℕ, ◌∷◌, Option, Some, None, is_some, Bor}
+use Rattle.std.proofs.Common.{◌≡◌, true, ap, sym, subst, ◌∙◌, refl, List, ℕ, Option, Some, None, is_some, Bor}
 use Rattle.std.specs.Option.{option_map}
 use Rattle.std.specs.FinMap.{contains_key}
 use Rattle.std.proofs.lemmas.Map.Iter.{rest_more, rest_all}
