@@ -19,7 +19,6 @@ pub mod AnswersRight
 pub mod Lengths
 pub mod canonical
 pub mod ValueLaws
-pub mod HasSubrs
 pub mod Spelled
 pub mod PlaceLemmas
 pub mod MapLemmas

@@ -1,7 +1,7 @@
 -- What the reading of a file spells is what `Spelling.antt` says, part by part.
-use Rattle.std.proofs.Common.{◌≡◌, ℕ, ◌≤◌, true, not, ◌||◌, cond, Bool, ltb, List, [], ◌++◌, length, take, Option, Some, None, Ok, Err, refl, sym, ap, subst, ◌∙◌}
+use Rattle.std.proofs.Common.{◌≡◌, ℕ, ◌≤◌, true, cond, Bool, ltb, List, [], ◌++◌, length, take, Option, Some, None, Ok, Err, refl, sym, ap, subst, ◌∙◌}
 use Rattle.std.proofs.Common.{inl, inr}
-use Rattle.std.proofs.lemmas.Bool.{cases_Bool, or_parts, not-true, ltb-true, ltb-false, lt-ltb, le-ltb, leb-true, le-leb}
+use Rattle.std.proofs.lemmas.Bool.{cases_Bool, ltb-true, ltb-false, lt-ltb, le-ltb, leb-true, le-leb}
 use Rattle.std.specs.FinMap as maps
 use Rattle.t1_grammar.specs.Grammar.{first, AtFront, Lacks, front_again}
 use Rattle.t1_grammar.specs.Tables.{TableAt}
@@ -16,12 +16,11 @@ use Rattle.t1_font.specs.Glyphs.{Glyph, glyph, glyphs_end}
 use Rattle.t1_font.specs.Encoding.{Opening, Whole, OpensPuts, OpensNames, encoding_start}
 use Rattle.t1_font.specs.Markers.{subrs_marker, closefile, len_iv_marker}
 use Rattle.t1_font.specs.Pieces.{FlatPieces, EncodingText, OneWord, Puts, ClearPieces, SubrsPieces, PrivatePieces}
-use Rattle.t1_font.specs.Pieces.{flat_pieces, encoding_from, clear_pieces, iv_at, iv_of, has_subrs, through, tail_after, glyphs_from, before_place, tables_from, private_pieces}
+use Rattle.t1_font.specs.Pieces.{flat_pieces, encoding_from, clear_pieces, iv_at, iv_of, through, tail_after, glyphs_from, before_place, tables_from, private_pieces}
 use Rattle.t1_font.specs.FontValue.{FontValue, notdef, IsWithin}
 use Rattle.t1_font.specs.ReadFont.{font_of, flat_text, font_from, font_texts, font_file}
 use Rattle.t1_font.specs.Spelling.{IsCut, SpellsEncoding, IsClear, IsLenIV, said, unsaid, nowhere, later, Start, SpellsTables, HasGlyphs}
 use Rattle.t1_font.specs.Spelling.{IsPrivate, Texts, HasPieces, SpellsIn}
-use Rattle.t1_font.proofs.HasSubrs.{subrs_lack, lack_subrs}
 use Rattle.t1_font.proofs.ValueLaws.{notdef_is, within_of, within_again, private_enciphers, private_again, lead_length}
 
 -- ---- the flat text
@@ -105,27 +104,21 @@ record IsTail (middle after tail : List ℕ) : Type 0 where
   pub tail_is : tail ≡ front ++ own
   pub single : Lacks subrs_marker middle × Lacks subrs_marker tail
 
--- neither text has a Subrs marker
-no_subrs : (a b : List ℕ) → not (has_subrs a || has_subrs b) ≡ true → Lacks subrs_marker a × Lacks subrs_marker b
-no_subrs a b h = let both = or_parts (has_subrs a) (has_subrs b) (not-true (has_subrs a || has_subrs b) h) in (subrs_lack a both.0, subrs_lack b both.1)
-
 tail_is : (middle after tail : List ℕ) → (tail_after middle after).Spells tail → IsTail middle after tail
 unfolding tail_after
 tail_is middle after tail s =
-    let found = s.2.2.0 in
-    let text : List ℕ = found.0.0 ++ found.0.1 in
-    let close : s.0 ≡ Some found = sym (occurs_again closefile after s.0 s.1) ∙ front_again (first closefile) after found s.2.2.1 in
-    let test : not (has_subrs middle || has_subrs text) ≡ true =
-    subst (λ (o : Option ((List ℕ × List ℕ) × List ℕ)). not (has_subrs middle || has_subrs (through o after)) ≡ true) close s.2.1 in
-    subst (IsTail middle after) s.2.2.2
-    (record { front = found.0.0; own = found.0.1; rest = found.1; close = s.2.2.1; tail_is = refl; single = no_subrs middle text test })
+    let found = s.2.2.2.0 in
+    let close : s.0 ≡ Some found = sym (occurs_again closefile after s.0 s.1) ∙ front_again (first closefile) after found s.2.2.2.1 in
+    let lacks : Lacks subrs_marker (found.0.0 ++ found.0.1) =
+    subst (λ (o : Option ((List ℕ × List ℕ) × List ℕ)). Lacks subrs_marker (through o after)) close s.2.2.1 in
+    subst (IsTail middle after) s.2.2.2.2
+    (record { front = found.0.0; own = found.0.1; rest = found.1; close = s.2.2.2.1; tail_is = refl; single = (s.2.1, lacks) })
 
 is_tail : (middle after tail : List ℕ) → IsTail middle after tail → (tail_after middle after).Spells tail
 unfolding tail_after
 is_tail middle after tail s =
-    let none = lack_subrs (s.front ++ s.own) (subst (Lacks subrs_marker) s.tail_is s.single.1) in
-    let test : not (has_subrs middle || has_subrs (s.front ++ s.own)) ≡ true = rw (lack_subrs middle s.single.0, none) refl in
-    (Some ((s.front, s.own), s.rest), s.close, (tt, test, (((s.front, s.own), s.rest), s.close, sym s.tail_is)))
+    let lacks = subst (Lacks subrs_marker) s.tail_is s.single.1 in
+    (Some ((s.front, s.own), s.rest), s.close, (tt, s.single.0, (tt, lacks, (((s.front, s.own), s.rest), s.close, sym s.tail_is))))
 
 -- ---- the tables
 

@@ -1,6 +1,5 @@
 -- The pieces of a font's two texts.
-use Rattle.std.specs.Prelude.{ℕ, ◌-◌, ◌||◌, not, nat_lt, List, [], ◌++◌, Bool, length, Option, Some, None, is_some, if◌then◌else◌}
-use Rattle.t1_grammar.specs.Grammar.{first}
+use Rattle.std.specs.Prelude.{ℕ, ◌-◌, nat_lt, List, [], ◌++◌, length, Option, Some, None, if◌then◌else◌}
 use Rattle.t1_bytes.specs.Eexec.{eexec_marker, cipher_text}
 use Rattle.t1_font.specs.declared.fault.ReadFault.TheVariants.{NoEexec, ShortCipher, NoEncoding, BadEncoding, NoCharStrings, BadLenIV, BadSubrs, BadGlyphs, Hybrid, NoClosefile}
 use Rattle.t1_font.specs.declared.dialect.Dialect.{Dialect}
@@ -11,7 +10,7 @@ use Rattle.t1_font.specs.Words.{next_name}
 use Rattle.t1_font.specs.Encoding.{Opening, Whole, OpensPuts, OpensNames, encoding_start, code_entry, encoding_end, code_count, array_end, from_code}
 use Rattle.t1_font.specs.Glyphs.{Glyph, glyph, glyphs_end}
 use Rattle.t1_font.specs.EntryLaws.{code_entry_eats, code_entry_apart, subr_eats, subr_apart, glyph_eats, glyph_apart}
-use Rattle.t1_font.specs.Reading.{Reading, give, ◌>>=◌, ◌>>◌, must, wanted, sought, if_sought, table, counted}
+use Rattle.t1_font.specs.Reading.{Reading, give, ◌>>=◌, ◌>>◌, wanted, sought, if_sought, lacking, table, counted}
 
 -- ---- the flat text
 
@@ -83,10 +82,6 @@ iv_of private = do
   marker ← if_sought len_iv_marker private
   iv_at marker
 
--- a Subrs marker stands in the text
-abbrev pub has_subrs : List ℕ → Bool
-has_subrs text = is_some ((first subrs_marker).read text)
-
 -- through the first `closefile`, or to the end
 abbrev pub through : Option ((List ℕ × List ℕ) × List ℕ) → List ℕ → List ℕ
 through None rest = rest
@@ -96,7 +91,8 @@ through (Some x) rest = x.0.0 ++ x.0.1
 unfoldable pub tail_after : List ℕ → List ℕ → Reading (List ℕ)
 tail_after middle rest = do
   close ← if_sought closefile rest
-  must Hybrid (not (has_subrs middle || has_subrs (through close rest)))
+  lacking Hybrid subrs_marker middle
+  lacking Hybrid subrs_marker (through close rest)
   end ← sought NoClosefile closefile rest
   give (end.0.0 ++ end.0.1)
 

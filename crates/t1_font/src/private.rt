@@ -6,9 +6,10 @@ ghost use Rattle.std.specs.Option.{option_map};
 ghost use Rattle.t1_grammar.specs.Formats.{in_table};
 ghost use Rattle.t1_grammar.specs.Grammar.{first};
 ghost use Rattle.t1_grammar.specs.Tables.{table_at};
-ghost use Rattle.t1_font.specs.Markers.{closefile};
+ghost use Rattle.t1_grammar.specs.Places.{occurs};
+ghost use Rattle.t1_font.specs.Markers.{subrs_marker, closefile};
 ghost use Rattle.t1_font.specs.Glyphs.{glyph, glyphs_end};
-ghost use Rattle.t1_font.specs.Pieces.{SubrsPieces, has_subrs, iv_of, tail_after, glyphs_from, tables_from, private_pieces};
+ghost use Rattle.t1_font.specs.Pieces.{SubrsPieces, iv_of, tail_after, glyphs_from, tables_from, private_pieces};
 ghost use Rattle.t1_font.specs.declared.fault.ReadFault.TheVariants.{BadSubrs, BadGlyphs};
 ghost use Rattle.t1_font.specs.declared.dialect.Dialect.TheVariants.{Strict};
 ghost use Rattle.t1_font.specs.Subrs.{subr, subrs_end};
@@ -47,7 +48,7 @@ pub struct Before {
 
 /// Whether a Subrs marker stands in a text.
 fn has_subrs(text: &[u8]) -> bool
-    ensures { result ≡ has_subrs text.now }
+    ensures { result ≡ occurs subrs_marker text.now }
 {
     first::<SubrsMarker>(text).is_some()
 }

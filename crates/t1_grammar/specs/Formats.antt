@@ -1,9 +1,10 @@
 -- Formats: what a whole text says, or the first reason why it says nothing. A format carries the laws that what is read is what is
 -- spelled, and that the fault is the reason.
 use Rattle.std.proofs.Common.{refl, sym, ap, subst, ◌∙◌, inl, inr}
+use Rattle.std.proofs.lemmas.Bool.{cases_Bool}
 use Rattle.std.specs.Prelude.{◌≡◌, ◌⊎◌, ℕ, Bool, true, false, List, Option, Some, None, Result, Ok, Err, if◌then◌else◌}
-use Rattle.t1_grammar.specs.Grammar.{Grammar, AtFront, NotAtFront, Lacks, first, first_at, front_again, unspelled, unread}
-use Rattle.t1_grammar.specs.Places.{unread_lacks, lacks_unread}
+use Rattle.t1_grammar.specs.Grammar.{Grammar, AtFront, NotAtFront, Has, Lacks, first, first_at, front_again, unspelled, unread}
+use Rattle.t1_grammar.specs.Places.{unread_lacks, lacks_unread, occurs, absent_lacks, lacks_absent, occurs_has, has_occurs}
 use Rattle.t1_grammar.specs.Tables.{Table, TableAt, BreaksOff, CountedAt, CountBreaksOff, table_at, counted_at}
 use Rattle.t1_grammar.specs.TableLaws.{Eats, Apart, Read, table_reads, table_again, break_again}
 use Rattle.t1_grammar.specs.CountedLaws.{CountedRead, counted_reads, counted_again, count_broken}
@@ -201,6 +202,31 @@ if_sought {E} {A} g bytes = record {
   refuses = λ e h. ok_err (first_at g bytes) e h;
   refused = λ e h. absurd h;
 }
+
+module _ {E A : Type 0} (fault : E) (g : Grammar A) (bytes : List ℕ) where
+  pub lacking_takes : (x : Unit {0}) → ◌≡◌ {A = Result (Unit {0}) E} (if occurs g bytes then Err fault else Ok tt) (Ok x) → Lacks g bytes
+  lacking_takes x h = elim (cases_Bool (occurs g bytes)) [
+    | inl e ↦ ok_err x fault (sym (rw e at h))
+    | inr e ↦ absent_lacks g bytes e
+  ]
+
+  pub lacking_refuses : (e : E) → ◌≡◌ {A = Result (Unit {0}) E} (if occurs g bytes then Err fault else Ok tt) (Err e) → Has g bytes × (e ≡ fault)
+  lacking_refuses e h = elim (cases_Bool (occurs g bytes)) [
+    | inl k ↦ (occurs_has g bytes k, sym (same_Err {E = E} {A = Unit {0}} fault e (rw k at h)))
+    | inr k ↦ ok_err tt e (rw k at h)
+  ]
+
+  -- nothing, where g stands nowhere in the text
+  abbrev pub lacking : Format E (Unit {0})
+  lacking = record {
+    Spells = λ _. Lacks g bytes;
+    Reason = λ e. Has g bytes × (e ≡ fault);
+    read = if occurs g bytes then Err fault else Ok tt;
+    takes = lacking_takes;
+    again = λ x s. rw (lacks_absent g bytes s) refl;
+    refuses = lacking_refuses;
+    refused = λ e s. rw (has_occurs g bytes s.0) (ap (λ (d : E). Err d) (sym s.1));
+  }
 
 -- ---- tables
 

@@ -1,4 +1,6 @@
 -- The first place where a grammar can be read, from places where it can't.
+use Rattle.std.proofs.Common.{inl, inr, Bool, true, false, true≢false, is_some, sym}
+use Rattle.std.proofs.lemmas.Bool.{cases_Bool}
 use Rattle.std.proofs.Common.{◌≡◌, ℕ, zero, suc, ◌+◌, ◌≤◌, ◌<◌, List, [], ◌∷◌, ◌++◌}
 use Rattle.std.proofs.Common.{length, take, drop, Option, Some, None, refl, ap, ◌∙◌, append_assoc, arith, below_more}
 use Rattle.std.specs.Option.{option_and_then}
@@ -74,6 +76,37 @@ found_has g bytes x e =
     let s = (first g).takes bytes x e in
     let parts : bytes ≡ x.0.0 ++ (s.2.0 ++ x.1) = s.1 ∙ (ap (λ (u : List ℕ). u ++ x.1) s.2.1 ∙ append_assoc x.0.0 s.2.0 x.1) in
     (length x.0.0, (x.0.1, x.1), (s.2.0, ap (drop (length x.0.0)) parts ∙ drop_at x.0.0 (s.2.0 ++ x.1) (length x.0.0) refl, s.2.2))
+
+-- g can be read somewhere in the text
+abbrev pub occurs : {A : Type 0} → Grammar A → List ℕ → Bool
+occurs g bytes = is_some (first_at g bytes)
+
+-- a text where it can be read nowhere has none
+pub absent_lacks : {A : Type 0} (g : Grammar A) → (bytes : List ℕ) → occurs g bytes ≡ false → Lacks g bytes
+absent_lacks {A} g bytes e = unread_lacks g bytes (by_read (first_at g bytes) e)
+  where
+    by_read : (o : Option ((List ℕ × A) × List ℕ)) → is_some o ≡ false → o ≡ None
+    by_read None h = refl
+    by_read (Some x) h = absurd (true≢false h)
+
+-- in a text that has none it can be read nowhere
+pub lacks_absent : {A : Type 0} (g : Grammar A) → (bytes : List ℕ) → Lacks g bytes → occurs g bytes ≡ false
+lacks_absent g bytes lacks = ap is_some (lacks_unread g bytes lacks)
+
+-- a text where it can be read has one
+pub occurs_has : {A : Type 0} (g : Grammar A) → (bytes : List ℕ) → occurs g bytes ≡ true → Has g bytes
+occurs_has {A} g bytes e = by_read (first_at g bytes) refl e
+  where
+    by_read : (o : Option ((List ℕ × A) × List ℕ)) → first_at g bytes ≡ o → is_some o ≡ true → Has g bytes
+    by_read None r h = absurd (true≢false (sym h))
+    by_read (Some x) r h = found_has g bytes x r
+
+-- in a text that has one it can be read
+pub has_occurs : {A : Type 0} (g : Grammar A) → (bytes : List ℕ) → Has g bytes → occurs g bytes ≡ true
+has_occurs g bytes h = elim (cases_Bool (occurs g bytes)) [
+  | inl e ↦ e
+  | inr e ↦ absurd (absent_lacks g bytes e h.0 h.1 h.2)
+]
 
 -- at no place below `to`, nor at `to` itself
 pub one_more : {A : Type 0} (g : Grammar A) (bytes : List ℕ) (to : ℕ) → NoneBelow g bytes to → g.read (drop to bytes) ≡ None → NoneBelow g bytes (to + 1)

@@ -9,7 +9,7 @@ use Rattle.std.proofs.lemmas.Option.{none-some, same_Some}
 use Rattle.std.proofs.lemmas.Bool.{lt-ltb, le-ltb}
 use Rattle.t1_grammar.specs.Grammar.{Grammar, Stops, first, first_at, Lacks, first_here}
 use Rattle.t1_grammar.specs.Tables.{table_at}
-use Rattle.t1_grammar.specs.Places.{prepend}
+use Rattle.t1_grammar.specs.Places.{prepend, occurs, absent_lacks, lacks_absent}
 use Rattle.t1_font.specs.declared.dialect.Dialect.TheVariants.{Strict}
 use Rattle.t1_font.specs.Words.{is_regular}
 use Rattle.t1_font.specs.Entry.{Entry}
@@ -17,10 +17,9 @@ use Rattle.t1_font.specs.Subrs.{subr, subrs_end}
 use Rattle.t1_font.specs.Markers.{subrs_marker, chars_marker, closefile, white_comes}
 use Rattle.t1_font.specs.Glyphs.{Glyph}
 use Rattle.t1_font.specs.declared.fault.ReadFault.{ReadFault}
-use Rattle.t1_font.specs.Pieces.{SubrsPieces, PrivatePieces, private_pieces, tables_from, before_place, glyphs_from, tail_after, has_subrs, iv_of}
+use Rattle.t1_font.specs.Pieces.{SubrsPieces, PrivatePieces, private_pieces, tables_from, before_place, glyphs_from, tail_after, iv_of}
 use Rattle.t1_font.specs.Writing.{entries_text, index_text, subrs_text, subrs_part, name_text, glyphs_text, glyphs_part, private_written}
 use Rattle.t1_font.specs.IsFont.{IsWord, IsPhrase, NoMarker}
-use Rattle.t1_font.proofs.HasSubrs.{subrs_lack, lack_subrs}
 use Rattle.t1_font.proofs.canonical.Written.{gap_one, keyword_read, decimal_read, black_digits}
 use Rattle.t1_font.proofs.canonical.FirstPlace.{one_place}
 use Rattle.t1_font.proofs.canonical.Borders.{fixed_strip}
@@ -122,7 +121,7 @@ unfolding tail_after
 tail_read middle tail junk m t e =
     let f = whole_found tail e in
     let more : first_at closefile (tail ++ (10 ∷ junk)) ≡ Some (f.0.0, f.0.1 ++ (10 ∷ junk)) = first_grows closefile (10 ∷ junk) (closefile_grows junk) tail f.0 f.1 in
-    rw (more, lack_subrs middle m, f.3, lack_subrs tail t) refl
+    rw (more, lacks_absent subrs_marker middle m, f.3, lacks_absent subrs_marker tail t) refl
 
 -- the glyphs and the tail are read from their texts
 pub glyphs_from_read : (text private : List ℕ) (subrs : Option SubrsPieces) (middle : List ℕ) (iv : ℕ) (es : List Glyph) (tail junk : List ℕ) → AllByRecursion (IsEntry (IsWord 127) iv) es → Stops is_regular tail → Lacks subrs_marker middle → Lacks subrs_marker tail
@@ -157,12 +156,12 @@ chars_part_read es rest few =
     let shown : glyphs_text es ++ rest ≡ 10 ∷ (line.0 ++ rest) = ap (λ (u : List ℕ). u ++ rest) line.1 in
     ap chars_marker.read (regrouped ∙ ap (λ (u : List ℕ). codes "/CharStrings " ++ (digits (length es) ++ (codes " dict dup begin" ++ u))) shown) ∙ (chars_marker_read (length es) (line.0 ++ rest) (omega (arith, few)) ∙ ap (λ (u : List ℕ). Some (tt, u)) (sym shown))
 
-nothing_found : has_subrs [] ≡ false
+nothing_found : occurs subrs_marker [] ≡ false
 unfolding first_at subrs_marker
 nothing_found = refl
 
 nothing_subrs : Lacks subrs_marker []
-nothing_subrs = subrs_lack [] nothing_found
+nothing_subrs = absent_lacks subrs_marker [] nothing_found
 
 -- what is read where the two markers are known
 pieces_read : (text : List ℕ) (chars : (List ℕ × Unit {0}) × List ℕ) (marker : Option ((List ℕ × ℕ) × List ℕ)) (o : Result PrivatePieces ReadFault) →
