@@ -9,6 +9,7 @@ pub mod Drains
 pub mod Sourced
 pub mod TableLoops
 pub mod HeldLemmas
+pub mod Copies
 pub mod Arrays
 pub mod FontReaders
 pub mod Weights

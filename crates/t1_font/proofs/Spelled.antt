@@ -48,7 +48,7 @@ encoding_is : (d : Dialect) (clear after : List ℕ) (start : Opening) (rest : L
 unfolding encoding_from
 encoding_is d clear after (Whole w) rest e a s = subst (λ (x : EncodingText × List ℕ). SpellsEncoding d x.0 after x.1) s a
 encoding_is d clear after OpensPuts rest e a s =
-    subst (λ (x : EncodingText × List ℕ). SpellsEncoding d x.0 after x.1) s.2 (inl (rest, s.0.1, a, s.1))
+    subst (λ (x : EncodingText × List ℕ). SpellsEncoding d x.0 after x.1) s.2 (inl (s.0.0, rest, s.0.1, refl, a, s.1))
 encoding_is d clear after OpensNames rest e a s =
     subst (λ (x : EncodingText × List ℕ). SpellsEncoding d x.0 after x.1) s.2 (inr (s.0.0, rest, s.0.1, refl, a, s.1))
 
@@ -56,7 +56,7 @@ is_encoding : (d : Dialect) (clear bytes : List ℕ) (enc : EncodingText) (after
     (start : Opening × List ℕ) × AtFront (encoding_start d) bytes start × ((encoding_from d clear start.0 start.1).Spells (enc, after))
 unfolding encoding_from
 is_encoding d clear bytes (OneWord w) after s = ((Whole w, after), s, refl)
-is_encoding d clear bytes (Puts puts) after (inl s) = ((OpensPuts, s.0), s.2, ((puts, s.1, after), s.3, refl))
+is_encoding d clear bytes (Puts puts) after (inl s) = ((OpensPuts, s.1), s.4, ((s.0, s.2, after), s.5, ap (λ (p : List (ℕ × List ℕ)). (Puts p, after)) (sym s.3)))
 is_encoding d clear bytes (Puts puts) after (inr s) =
     ((OpensNames, s.1), s.4, ((s.0, s.2, after), s.5, ap (λ (p : List (ℕ × List ℕ)). (Puts p, after)) (sym s.3)))
 

@@ -1,9 +1,23 @@
 -- The Encoding of the clear text.
-use Rattle.std.specs.Prelude.{ℕ, suc, ◌+◌, ◌-◌, ◌*◌, ◌&&◌, nat_le, Bool, true, List, [], ◌∷◌, length, codes}
+use Rattle.std.specs.Ordering.{nat_cmp}
+use Rattle.std.specs.Prelude.{ℕ, zero, suc, ◌+◌, ◌-◌, ◌*◌, ◌&&◌, nat_le, Bool, true, List, [], ◌∷◌, ◌++◌, length, codes, unwrap_or}
 use Rattle.t1_grammar.specs.Grammar.{Grammar, pure, ◌>>=◌, ◌>>◌, that, run, fixed, either, may_be}
 use Rattle.t1_font.specs.declared.dialect.Dialect.{Dialect}
+use Rattle.t1_font.specs.declared.dialect.Dialect.TheVariants.{Strict, Wide}
+use Rattle.t1_font.specs.FontValue.{notdef}
+use Rattle.t1_font.specs.Entries.{last_value}
 use Rattle.t1_font.specs.Dialect.{white_in, gap_in}
 use Rattle.t1_font.specs.Words.{is_regular, word, keyword, decimal, name}
+
+abbrev pub readonly : Dialect → Grammar (List ℕ)
+readonly d = may_be (do
+  keyword (codes "readonly")
+  gap_in d)
+
+-- what may stand between a word that is the whole Encoding and its `def`
+abbrev pub before_def : Dialect → Grammar (List ℕ)
+before_def Strict = pure []
+before_def Wide = readonly Wide
 
 -- a word that is the whole Encoding
 unfoldable pub encoding_word : Dialect → Grammar (List ℕ)
@@ -11,6 +25,7 @@ encoding_word d = do
   white_in d
   w ← word
   gap_in d
+  before_def d
   keyword (codes "def")
   pure w
 
@@ -76,11 +91,25 @@ octal = do
   w ← that is_octal (run is_regular)
   pure (octal_after 0 w)
 
-unfoldable pub code : Grammar ℕ
-code = that (λ n. nat_le n 255) (either decimal octal)
+-- how many codes there are
+abbrev pub code_count : ℕ
+code_count = 256
 
-unfoldable pub code_entry : Dialect → Grammar (ℕ × List ℕ)
-code_entry d = do
+-- in decimal or in octal digits
+abbrev pub number : Grammar ℕ
+number = either decimal octal
+
+unfoldable pub code : Grammar ℕ
+code = that (λ n. nat_le n 255) number
+
+-- an entry of the table: a name at a code; or the names of so many codes, from one on, at the codes from another one on
+pub data CodeEntry : Type 0 where
+  Put : ℕ → List ℕ → CodeEntry
+  Copy : ℕ → ℕ → ℕ → CodeEntry
+
+-- dup CODE /NAME put
+unfoldable pub put_entry : Dialect → Grammar CodeEntry
+put_entry d = do
   white_in d
   keyword (codes "dup")
   gap_in d
@@ -89,12 +118,72 @@ code_entry d = do
   n ← name
   gap_in d
   keyword (codes "put")
-  pure (c, n)
+  pure (Put c n)
 
-abbrev pub readonly : Dialect → Grammar (List ℕ)
-readonly d = may_be (do
-  keyword (codes "readonly")
-  gap_in d)
+-- dup dup
+abbrev pub copy_start : Dialect → Grammar (List ℕ)
+copy_start d = do
+  white_in d
+  keyword (codes "dup")
+  gap_in d
+  keyword (codes "dup")
+  gap_in d
+
+-- dup dup TO exch FROM get put
+unfoldable pub one_copy : Dialect → Grammar CodeEntry
+one_copy d = do
+  copy_start d
+  to ← code
+  gap_in d
+  keyword (codes "exch")
+  gap_in d
+  from ← code
+  gap_in d
+  keyword (codes "get")
+  gap_in d
+  keyword (codes "put")
+  pure (Copy from 1 to)
+
+-- so many codes from one on are codes
+abbrev pub are_codes : ℕ → ℕ → Bool
+are_codes from count = nat_le (from + count) code_count
+
+-- a copy is within the codes
+abbrev pub within_codes : CodeEntry → Bool
+within_codes (Put c n) = true
+within_codes (Copy from count to) = are_codes from count && are_codes to count
+
+-- dup dup FROM COUNT getinterval
+unfoldable pub copied_range : Dialect → Grammar (ℕ × ℕ)
+copied_range d = do
+  copy_start d
+  from ← number
+  gap_in d
+  count ← number
+  gap_in d
+  keyword (codes "getinterval")
+  pure (from, count)
+
+-- dup dup FROM COUNT getinterval TO exch putinterval
+unfoldable pub copy_of_range : Dialect → Grammar CodeEntry
+copy_of_range d = do
+  range ← copied_range d
+  gap_in d
+  to ← number
+  gap_in d
+  keyword (codes "exch")
+  gap_in d
+  keyword (codes "putinterval")
+  pure (Copy range.0 range.1 to)
+
+-- the same, within the codes
+abbrev pub range_copy : Dialect → Grammar CodeEntry
+range_copy d = that within_codes (copy_of_range d)
+
+-- only a wide table has copies
+abbrev pub code_entry : Dialect → Grammar CodeEntry
+code_entry Strict = put_entry Strict
+code_entry Wide = either (put_entry Wide) (either (one_copy Wide) (range_copy Wide))
 
 unfoldable pub encoding_end : Dialect → Grammar (List ℕ)
 encoding_end d = do
@@ -102,11 +191,32 @@ encoding_end d = do
   readonly d
   keyword (codes "def")
 
--- ---- a literal array
+-- ---- what the entries of a table put
 
--- an array has a name for each code
-abbrev pub code_count : ℕ
-code_count = 256
+-- the name of a code after these puts
+abbrev pub name_after : List (ℕ × List ℕ) → ℕ → List ℕ
+name_after puts c = unwrap_or (last_value nat_cmp c puts) notdef
+
+-- the names of so many codes from `from` on, put at the codes from `to` on
+abbrev pub copied : List (ℕ × List ℕ) → ℕ → ℕ → ℕ → List (ℕ × List ℕ)
+copied puts from zero to = []
+copied puts from (suc n) to = (to, name_after puts from) ∷ copied puts (suc from) n (suc to)
+
+-- what one more entry puts after these puts
+abbrev pub put_by : List (ℕ × List ℕ) → CodeEntry → List (ℕ × List ℕ)
+put_by puts (Put c n) = (c, n) ∷ []
+put_by puts (Copy from count to) = copied puts from count to
+
+-- these puts, and then those of entries
+abbrev pub puts_after : List (ℕ × List ℕ) → List CodeEntry → List (ℕ × List ℕ)
+puts_after puts [] = puts
+puts_after puts (e ∷ es) = puts_after (puts ++ put_by puts e) es
+
+-- the puts of a table: each copy takes the names that its codes have by then
+abbrev pub puts_of : List CodeEntry → List (ℕ × List ℕ)
+puts_of es = puts_after [] es
+
+-- ---- a literal array
 
 unfoldable pub array_start : Dialect → Grammar (List ℕ)
 array_start d = do

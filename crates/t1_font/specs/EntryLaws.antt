@@ -1,30 +1,23 @@
 -- Each entry has bytes, and no close can be read where one stands: so a table has one reading.
-use Rattle.std.proofs.Common.{◌≡◌, ℕ, ◌<◌, false, true≢false, List, [], ◌∷◌, length, take, drop, Option, Some, None, refl, sym, ap, ◌∙◌, arith, ◌++◌}
+use Rattle.std.proofs.Common.{◌≡◌, ℕ, ◌<◌, false, true≢false, List, [], ◌∷◌, length, take, drop, Some, None, refl, sym, ap, ◌∙◌, arith, ◌++◌}
 use Rattle.std.specs.Prelude.{codes}
 use Rattle.std.specs.List.{prefix_len}
 use Rattle.std.specs.Str.{bytes_eq}
 use Rattle.std.proofs.lemmas.Slice.Eq.{bytes_eq-Decides}
 use Rattle.std.proofs.lemmas.Option.{cond_some, option_and_then_some}
-use Rattle.std.specs.Option.{option_and_then}
 use Rattle.std.proofs.lemmas.List.{length-append}
-use Rattle.t1_grammar.specs.Grammar.{Grammar, fixed}
-use Rattle.t1_grammar.specs.TableLaws.{Eats, Apart}
+use Rattle.t1_grammar.specs.Grammar.{Grammar, fixed, either}
+use Rattle.t1_grammar.specs.TableLaws.{Eats, Apart, eats_either, apart_either, apart_behind}
 use Rattle.t1_bytes.specs.White.{is_white, gap}
 use Rattle.t1_bytes.proofs.SegmentLemmas.{Eats-spelled}
 use Rattle.t1_font.specs.declared.dialect.Dialect.{Dialect}
-use Rattle.t1_font.specs.declared.dialect.Dialect.TheVariants.{Strict}
+use Rattle.t1_font.specs.declared.dialect.Dialect.TheVariants.{Strict, Wide}
 use Rattle.t1_font.specs.Dialect.{white_in}
 use Rattle.t1_font.specs.Words.{is_regular, word, keyword, name, phrase_of, passes, next_name}
-use Rattle.t1_font.specs.Encoding.{code_entry, encoding_end}
+use Rattle.t1_font.specs.Encoding.{put_entry, copy_start, one_copy, copied_range, copy_of_range, range_copy, code_entry, encoding_end}
 use Rattle.t1_font.specs.Entry.{Body, body, entry}
 use Rattle.t1_font.specs.Subrs.{subr_key, subr, subrs_end}
 use Rattle.t1_font.specs.Glyphs.{glyph, glyphs_end}
-
--- what keeps apart behind a text keeps apart with it
-behind_apart : {S A B : Type 0} (f : S → Option A) (g : S → Option B) (o : Option S) (x : A) → option_and_then f o ≡ Some x →
-    ((y : S) → f y ≡ Some x → g y ≡ None) → option_and_then g o ≡ None
-behind_apart f g None x e apart = refl
-behind_apart f g (Some y) x e apart = apart y e
 
 -- what a keyword spells is its own text
 pub keyword_text : (w a text rest : List ℕ) → (keyword w).Spells a text rest → text ≡ w
@@ -69,7 +62,7 @@ no_phrase bytes x e =
 -- where a Subr begins, its table doesn't close
 pub subr_key_apart : (d : Dialect) (declared : ℕ) → Apart (subr_key d declared) (subrs_end d)
 unfolding subr_key subrs_end
-subr_key_apart d declared bytes x e = behind_apart _ _ ((white_in d).read bytes) x e (λ r h.
+subr_key_apart d declared bytes x e = apart_behind _ _ ((white_in d).read bytes) x e (λ r h.
     option_and_then_some _ ((keyword (codes "dup")).read r.1) x h (λ y k l. no_phrase r.1 y k))
 
 -- a Subr has at least one byte
@@ -109,15 +102,9 @@ glyph_apart iv = entry_apart (next_name Strict) iv glyphs_end next_name_apart
 
 -- ---- codes
 
--- a put has at least one byte
-pub code_entry_eats : (d : Dialect) → Eats (code_entry d)
-unfolding code_entry
-code_entry_eats d = Eats-spelled (code_entry d) (λ a text rest s.
-    let dup : s.5.1 ≡ codes "dup" = keyword_text (codes "dup") s.5.0 s.5.1 _ s.5.4 in
-    omega (arith, ap length s.3, length-append s.1 s.2, ap length s.5.3, length-append s.5.1 s.5.2, ap length dup))
-
 -- where `dup` stands, no closing word does
-no_closing : (bytes : List ℕ) (x : List ℕ × List ℕ) → (keyword (codes "dup")).read bytes ≡ Some x → ((keyword (codes "readonly")).read bytes ≡ None) × ((keyword (codes "def")).read bytes ≡ None)
+no_closing : (bytes : List ℕ) (x : List ℕ × List ℕ) → (keyword (codes "dup")).read bytes ≡ Some x →
+    ((keyword (codes "readonly")).read bytes ≡ None) × ((keyword (codes "def")).read bytes ≡ None)
 unfolding keyword
 no_closing bytes x e =
     let n = prefix_len is_regular bytes in
@@ -125,8 +112,57 @@ no_closing bytes x e =
     let dup : take n bytes ≡ codes "dup" = sym ((bytes_eq-Decides (codes "dup") (take n bytes)).0 t.0) in
     (rw dup refl, rw dup refl)
 
--- where a put stands, the Encoding doesn't close
-pub code_entry_apart : (d : Dialect) → Apart (code_entry d) (encoding_end d)
-unfolding code_entry encoding_end
-code_entry_apart d bytes x e = behind_apart _ _ ((white_in d).read bytes) x e (λ r h.
+-- a put has bytes, and where it stands the Encoding doesn't close
+put_laws : (d : Dialect) → Eats (put_entry d) × Apart (put_entry d) (encoding_end d)
+unfolding put_entry encoding_end
+put_laws d = (
+  Eats-spelled (put_entry d) (λ a text rest s.
+      let dup = keyword_text (codes "dup") s.5.0 s.5.1 _ s.5.4 in
+      omega (arith, ap length s.3, length-append s.1 s.2, ap length s.5.3, length-append s.5.1 s.5.2, ap length dup)),
+  λ bytes x e. apart_behind _ _ ((white_in d).read bytes) x e (λ r h.
+      option_and_then_some _ ((keyword (codes "dup")).read r.1) x h (λ y k l. let none = no_closing r.1 y k in rw (none.0, none.1) refl)),
+)
+
+-- so is it with the start of a copy
+start_has : (d : Dialect) (a text rest : List ℕ) → (copy_start d).Spells a text rest → 0 < length text
+start_has d a text rest s =
+    let dup = keyword_text (codes "dup") s.5.0 s.5.1 _ s.5.4 in
+    omega (arith, ap length s.3, length-append s.1 s.2, ap length s.5.3, length-append s.5.1 s.5.2, ap length dup)
+
+start_apart : (d : Dialect) → Apart (copy_start d) (encoding_end d)
+unfolding encoding_end
+start_apart d bytes x e = apart_behind _ _ ((white_in d).read bytes) x e (λ r h.
     option_and_then_some _ ((keyword (codes "dup")).read r.1) x h (λ y k l. let none = no_closing r.1 y k in rw (none.0, none.1) refl))
+
+-- and with a copy
+one_copy_laws : (d : Dialect) → Eats (one_copy d) × Apart (one_copy d) (encoding_end d)
+unfolding one_copy
+one_copy_laws d = (
+  Eats-spelled (one_copy d) (λ a text rest s. omega (arith, ap length s.3, length-append s.1 s.2, start_has d s.0 s.1 _ s.4)),
+  λ bytes x e. option_and_then_some _ ((copy_start d).read bytes) x e (λ y h k. start_apart d bytes y h),
+)
+
+range_copy_laws : (d : Dialect) → Eats (range_copy d) × Apart (range_copy d) (encoding_end d)
+unfolding copied_range copy_of_range
+range_copy_laws d = (
+  Eats-spelled (range_copy d) (λ a text rest s.
+      let t = s.0.4 in
+      omega (arith, ap length s.0.3, length-append s.0.1 s.0.2, ap length t.3, length-append t.1 t.2, start_has d t.0 t.1 _ t.4)),
+  λ bytes x e. option_and_then_some _ ((copy_of_range d).read bytes) x e (λ y h k.
+      option_and_then_some _ ((copied_range d).read bytes) y h (λ z l m.
+          option_and_then_some _ ((copy_start d).read bytes) z l (λ w n o. start_apart d bytes w n))),
+)
+
+-- an entry has at least one byte
+pub code_entry_eats : (d : Dialect) → Eats (code_entry d)
+code_entry_eats Strict = (put_laws Strict).0
+code_entry_eats Wide =
+    eats_either (put_entry Wide) (either (one_copy Wide) (range_copy Wide)) (put_laws Wide).0
+    (eats_either (one_copy Wide) (range_copy Wide) (one_copy_laws Wide).0 (range_copy_laws Wide).0)
+
+-- where an entry stands, the Encoding doesn't close
+pub code_entry_apart : (d : Dialect) → Apart (code_entry d) (encoding_end d)
+code_entry_apart Strict = (put_laws Strict).1
+code_entry_apart Wide =
+    apart_either (encoding_end Wide) (put_entry Wide) (either (one_copy Wide) (range_copy Wide)) (put_laws Wide).1
+    (apart_either (encoding_end Wide) (one_copy Wide) (range_copy Wide) (one_copy_laws Wide).1 (range_copy_laws Wide).1)

@@ -1,14 +1,15 @@
 -- What is gathered of a font while it is read.
-use Rattle.std.specs.Prelude.{◌≡◌, ℕ, ◌≤◌, List, length, filter, map, drop}
+use Rattle.std.specs.Prelude.{◌≡◌, ℕ, zero, suc, ◌≤◌, List, [], ◌∷◌, length, filter, map, drop, unwrap_or}
 use Rattle.std.specs.Borrow.{Bor}
 use Rattle.std.specs.Coded.{Coded, code_by, coded×}
-use Rattle.std.specs.FinMap.{from_sorted, entries}
+use Rattle.std.specs.FinMap.{from_sorted, entries, get, insert}
 use Rattle.std.proofs.Common.{refl}
 use Rattle.t1_bytes.specs.Limits.{file_limit}
 use Rattle.t1_join.specs.Entries.{entries_by}
 use Rattle.t1_font.specs.declared.gathered.Gathered.TheInside.{Inside}
 use Rattle.t1_font.specs.declared.ranges.Range.{Range}
-use Rattle.t1_font.specs.FontValue.{Numbered, Named}
+use Rattle.t1_font.specs.FontValue.{Numbered, Named, notdef}
+use Rattle.t1_font.specs.Encoding.{CodeEntry, Put, Copy}
 use Rattle.t1_font.specs.Entries.{has_name, map_of}
 use Rattle.t1_font.specs.Codes.{bytes_code, numbered_code, named_code}
 use Rattle.t1_font.specs.Ranges.{bytes_at, AllInside, NamesInside, named_at}
@@ -55,6 +56,27 @@ pub record IsGathered (g : Inside) : Type 0 where
 -- the names of codes, but for `.notdef`
 abbrev pub named : Numbered → Numbered
 named m = from_sorted (filter has_name (entries m))
+
+-- ---- what an entry of an Encoding puts
+
+-- the name of a code among those that are gathered
+abbrev pub name_in : Numbered → ℕ → List ℕ
+name_in codes c = unwrap_or (get codes c) notdef
+
+-- the names of so many codes from one on
+abbrev pub names_in : Numbered → ℕ → ℕ → List (List ℕ)
+names_in codes from zero = []
+names_in codes from (suc n) = name_in codes from ∷ names_in codes (suc from) n
+
+-- names put at the codes from one on
+abbrev pub named_from : Numbered → ℕ → List (List ℕ) → Numbered
+named_from codes to [] = codes
+named_from codes to (n ∷ names) = named_from (insert codes to n) (suc to) names
+
+-- what is gathered with one entry more
+abbrev pub kept_by : Numbered → CodeEntry → Numbered
+kept_by codes (Put c n) = insert codes c n
+kept_by codes (Copy from count to) = named_from codes to (names_in codes from count)
 
 -- nothing changed but the names of codes; the Subrs, or the glyphs, and what is left
 abbrev pub CodesAlone : Entries → Entries → Type 0

@@ -12,7 +12,7 @@ use Rattle.t1_font.specs.Reasons.{Reason}
 use Rattle.t1_font.specs.declared.dialect.Dialect.{Dialect}
 use Rattle.t1_font.specs.Words.{one_white, word, keyword, decimal, name, phrase_of, next_name}
 use Rattle.t1_font.specs.Markers.{encoding_marker, subrs_marker, chars_marker, len_iv_marker, len_iv, closefile}
-use Rattle.t1_font.specs.Encoding.{encoding_word, encoding_table, encoding_loop, encoding_start, octal, code, code_entry, encoding_end, array_start, array_end}
+use Rattle.t1_font.specs.Encoding.{encoding_word, encoding_table, encoding_loop, encoding_start, octal, code, put_entry, one_copy, range_copy, code_entry, encoding_end, array_start, array_end}
 use Rattle.t1_font.specs.Glyphs.{glyph, glyphs_end}
 use Rattle.t1_font.specs.Entry.{length_from, body}
 use Rattle.t1_font.specs.Subrs.{subr_key, subr, subrs_end}
@@ -33,7 +33,10 @@ pub record ReadsAsSpelled : Type 0 where
   pub starts : (d : Dialect) → IsExact (encoding_start d)
   pub octals : IsExact octal
   pub code_numbers : IsExact code
-  pub codes : (d : Dialect) → IsExact (code_entry d)
+  pub code_entries : (d : Dialect) → IsExact (code_entry d)
+  pub puts : (d : Dialect) → IsExact (put_entry d)
+  pub copies : (d : Dialect) → IsExact (one_copy d)
+  pub range_copies : (d : Dialect) → IsExact (range_copy d)
   pub encoding_ends : (d : Dialect) → IsExact (encoding_end d)
   pub array_starts : (d : Dialect) → IsExact (array_start d)
   pub array_ends : (d : Dialect) → IsExact (array_end d)

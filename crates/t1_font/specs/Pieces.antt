@@ -7,7 +7,7 @@ use Rattle.t1_font.specs.declared.dialect.Dialect.TheVariants.{Strict}
 use Rattle.t1_font.specs.Subrs.{Subr, subr, subrs_end}
 use Rattle.t1_font.specs.Markers.{encoding_marker, subrs_marker, chars_marker, len_iv_marker, len_iv, closefile}
 use Rattle.t1_font.specs.Words.{next_name}
-use Rattle.t1_font.specs.Encoding.{Opening, Whole, OpensPuts, OpensNames, encoding_start, code_entry, encoding_end, code_count, array_end, from_code}
+use Rattle.t1_font.specs.Encoding.{Opening, Whole, OpensPuts, OpensNames, encoding_start, code_entry, encoding_end, puts_of, code_count, array_end, from_code}
 use Rattle.t1_font.specs.Glyphs.{Glyph, glyph, glyphs_end}
 use Rattle.t1_font.specs.EntryLaws.{code_entry_eats, code_entry_apart, subr_eats, subr_apart, glyph_eats, glyph_apart}
 use Rattle.t1_font.specs.Reading.{Reading, give, ◌>>=◌, ◌>>◌, wanted, sought, if_sought, lacking, table, counted}
@@ -41,7 +41,7 @@ unfoldable pub encoding_from : Dialect → List ℕ → Opening → List ℕ →
 encoding_from d clear (Whole w) rest = give (OneWord w, rest)
 encoding_from d clear OpensPuts rest = do
   puts ← table d BadEncoding (length clear) (code_entry d) (encoding_end d) (code_entry_eats d) (code_entry_apart d) rest
-  give (Puts puts.0, puts.2)
+  give (Puts (puts_of puts.0), puts.2)
 encoding_from d clear OpensNames rest = do
   names ← counted d BadEncoding (length clear) (next_name d) (array_end d) code_count rest
   give (Puts (from_code 0 names.0), names.2)

@@ -11,7 +11,7 @@ use Rattle.t1_font.specs.declared.dialect.Dialect.TheVariants.{Strict}
 use Rattle.t1_font.specs.Subrs.{subr, subrs_end}
 use Rattle.t1_font.specs.Markers.{encoding_marker, subrs_marker, chars_marker, len_iv_marker, len_iv, closefile}
 use Rattle.t1_font.specs.Words.{next_name}
-use Rattle.t1_font.specs.Encoding.{Whole, OpensPuts, OpensNames, encoding_start, code_entry, encoding_end, code_count, array_end, from_code}
+use Rattle.t1_font.specs.Encoding.{Whole, OpensPuts, OpensNames, encoding_start, CodeEntry, code_entry, encoding_end, puts_of, code_count, array_end, from_code}
 use Rattle.t1_font.specs.Glyphs.{glyph, glyphs_end}
 use Rattle.t1_font.specs.Pieces.{EncodingText, OneWord, Puts, ClearPieces, SubrsPieces, PrivatePieces}
 use Rattle.t1_font.specs.FontValue.{FontValue, notdef, IsWithin}
@@ -28,8 +28,11 @@ pub record IsCut (flat clear cipher : List ℕ) : Type 0 where
   pub secret : AtFront cipher_text after (cipher, rest)
   pub clear_is : clear ≡ front ++ own
 
+-- a table: the puts are those of its entries
 abbrev pub SpellsPuts : Dialect → List (ℕ × List ℕ) → List ℕ → List ℕ → Type 0
-SpellsPuts d puts bytes rest = (entries closing : List ℕ) × AtFront (encoding_start d) bytes (OpensPuts, entries) × TableAt (code_entry d) (encoding_end d) puts closing entries rest
+SpellsPuts d puts bytes rest =
+    (es : List CodeEntry) × (entries closing : List ℕ) × (puts ≡ puts_of es) × AtFront (encoding_start d) bytes (OpensPuts, entries) ×
+    TableAt (code_entry d) (encoding_end d) es closing entries rest
 
 -- a literal array: the puts are its names at the codes of their places
 abbrev pub SpellsNames : Dialect → List (ℕ × List ℕ) → List ℕ → List ℕ → Type 0

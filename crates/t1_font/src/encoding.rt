@@ -1,19 +1,19 @@
 //! The Encoding of the clear text.
 
-ghost use Rattle.std.specs.Prelude.{◌≡◌, ◌++◌, ◌∷◌, [], ℕ, List, OnOk, Some, None, length, if◌then◌else◌};
+ghost use Rattle.std.specs.Prelude.{◌≡◌, ◌+◌, ◌≤◌, ◌++◌, ◌∷◌, [], true, ℕ, List, map, OnOk, IfOk, IfSome, Some, None, length, if◌then◌else◌};
 ghost use Rattle.std.specs.Option.{option_map};
 ghost use Rattle.t1_grammar.specs.Grammar.{may_be};
 ghost use Rattle.t1_grammar.specs.Tables.{table_at, counted_at};
 ghost use Rattle.t1_font.specs.Words.{next_name};
-ghost use Rattle.t1_font.specs.Encoding.{is_octal, octal_after, octal, code, code_entry, encoding_end, encoding_word, encoding_table, loop_range, loop_body, encoding_loop, encoding_start, readonly, array_start, array_end, code_count, from_code, OpensPuts, OpensNames};
+ghost use Rattle.t1_font.specs.Encoding.{is_octal, octal_after, octal, number, code, put_entry, copy_start, one_copy, copied_range, copy_of_range, are_codes, range_copy, code_entry, within_codes, Copy, puts_of, before_def, encoding_end, encoding_word, encoding_table, loop_range, loop_body, encoding_loop, encoding_start, readonly, array_start, array_end, code_count, from_code, OpensPuts, OpensNames};
 ghost use Rattle.t1_font.specs.Faults.{table_fault};
 ghost use Rattle.t1_font.specs.declared.fault.ReadFault.TheVariants.{BadEncoding};
 ghost use Rattle.std.specs.FinMap as fin;
 ghost use Rattle.t1_font.specs.Entries.{map_of};
-ghost use Rattle.t1_font.specs.Gathering.{CodesAlone};
+ghost use Rattle.t1_font.specs.Gathering.{CodesAlone, names_in, named_from, kept_by};
 ghost use Rattle.t1_font.specs.Held.{TableHeld};
 ghost use Rattle.t1_font.specs.ReadFont.{encoding_value};
-ghost use Rattle.t1_font.specs.Views.{put_view, opening_view};
+ghost use Rattle.t1_font.specs.Views.{code_entry_view, opening_view};
 ghost use Rattle.t1_font.specs.Pieces.{encoding_from, clear_pieces};
 ghost use Rattle.t1_font.specs.Answers.{Shown, encoding_view, ShowsClear};
 
@@ -22,9 +22,10 @@ use crate::fault::{ReadFault, TableError};
 use crate::gathered::Gathered;
 use crate::markers::{EncodingMarker, first};
 use crate::words::{decimal_at, keyword_at, name_at, regular_at, word_at};
+use std::alloc::{AllocError, Global};
 use t1_bytes::texts::fixed_at;
 
-/// An array has a name for each code.
+/// How many codes there are.
 const CODES: u16 = 256;
 
 /// The number that 1 to 9 octal digits spell.
@@ -55,32 +56,43 @@ fn octal_at(bytes: &[u8]) -> Option<(u32, &[u8])>
     Some((value, rest))
 }
 
-/// A code, in decimal or in octal digits.
+/// A number, in decimal or in octal digits.
+fn number_at(bytes: &[u8]) -> Option<(u32, &[u8])>
+    ensures { option_map (λ x. (x.0, x.1.now)) result ≡ number.read bytes.now }
+{
+    match decimal_at(bytes) {
+        Some(found) => Some(found),
+        None => octal_at(bytes),
+    }
+}
+
+/// A code.
 #[tactic(auto, unfolding(crate::specs::Encoding::code))]
 fn code_at(bytes: &[u8]) -> Option<(u8, &[u8])>
     ensures { option_map (λ x. (x.0, x.1.now)) result ≡ code.read bytes.now }
 {
-    let (value, rest) = match decimal_at(bytes) {
-        Some(found) => found,
-        None => octal_at(bytes)?,
-    };
+    let (value, rest) = number_at(bytes)?;
     if value > 255 {
         return None;
     }
     Some((value as u8, rest))
 }
 
-/// A code that is given a name.
+/// An entry of the table.
 #[derive(Clone, Copy)]
-pub struct Put<'a> {
-    pub code: u8,
-    pub name: &'a [u8],
+pub enum CodeEntry<'a> {
+    /// A code that is given a name.
+    Put(u8, &'a [u8]),
+    /// The names of so many codes from one on, which are put at the codes from another one on.
+    Copy(u16, u16, u16),
 }
 
-/// An entry of the table.
-#[tactic(auto, unfolding(crate::specs::Encoding::code_entry))]
-fn code_entry_at(bytes: &[u8], dialect: Dialect) -> Option<(Put<'_>, &[u8])>
-    ensures { option_map (λ x. (put_view x.0, x.1.now)) result ≡ (code_entry dialect).read bytes.now }
+/// A code and its name.
+#[tactic(auto, unfolding(crate::specs::Encoding::put_entry))]
+fn put_at(bytes: &[u8], dialect: Dialect) -> Option<(CodeEntry<'_>, &[u8])>
+    ensures value { option_map (λ x. (code_entry_view x.0, x.1.now)) result
+        ≡ (put_entry dialect).read bytes.now }
+    ensures within { IfSome result (λ x. within_codes (code_entry_view x.0) ≡ true) }
 {
     let (_, rest) = dialect.white_at(bytes);
     let (_, rest) = keyword_at(rest, b"dup")?;
@@ -90,7 +102,97 @@ fn code_entry_at(bytes: &[u8], dialect: Dialect) -> Option<(Put<'_>, &[u8])>
     let (name, rest) = name_at(rest)?;
     let (_, rest) = dialect.gap_at(rest)?;
     let (_, rest) = keyword_at(rest, b"put")?;
-    Some((Put { code, name }, rest))
+    Some((CodeEntry::Put(code, name), rest))
+}
+
+/// `dup dup`, which begins a copy.
+fn copy_start_at(bytes: &[u8], dialect: Dialect) -> Option<(&[u8], &[u8])>
+    ensures { option_map (λ x. (x.0.now, x.1.now)) result ≡ (copy_start dialect).read bytes.now }
+{
+    let (_, rest) = dialect.white_at(bytes);
+    let (_, rest) = keyword_at(rest, b"dup")?;
+    let (_, rest) = dialect.gap_at(rest)?;
+    let (_, rest) = keyword_at(rest, b"dup")?;
+    dialect.gap_at(rest)
+}
+
+/// The copy of one code's name.
+#[tactic(auto, unfolding(crate::specs::Encoding::one_copy))]
+fn one_copy_at(bytes: &[u8], dialect: Dialect) -> Option<(CodeEntry<'_>, &[u8])>
+    ensures value { option_map (λ x. (code_entry_view x.0, x.1.now)) result
+        ≡ (one_copy dialect).read bytes.now }
+    ensures within { IfSome result (λ x. within_codes (code_entry_view x.0) ≡ true) }
+{
+    let (_, rest) = copy_start_at(bytes, dialect)?;
+    let (to, rest) = code_at(rest)?;
+    let (_, rest) = dialect.gap_at(rest)?;
+    let (_, rest) = keyword_at(rest, b"exch")?;
+    let (_, rest) = dialect.gap_at(rest)?;
+    let (from, rest) = code_at(rest)?;
+    let (_, rest) = dialect.gap_at(rest)?;
+    let (_, rest) = keyword_at(rest, b"get")?;
+    let (_, rest) = dialect.gap_at(rest)?;
+    let (_, rest) = keyword_at(rest, b"put")?;
+    Some((CodeEntry::Copy(from as u16, 1, to as u16), rest))
+}
+
+/// The range of codes whose names are copied.
+#[tactic(auto, unfolding(crate::specs::Encoding::copied_range))]
+fn copied_range_at(bytes: &[u8], dialect: Dialect) -> Option<(u32, u32, &[u8])>
+    ensures { option_map (λ x. ((x.0, x.1), x.2.now)) result ≡ (copied_range dialect).read bytes.now }
+{
+    let (_, rest) = copy_start_at(bytes, dialect)?;
+    let (from, rest) = number_at(rest)?;
+    let (_, rest) = dialect.gap_at(rest)?;
+    let (count, rest) = number_at(rest)?;
+    let (_, rest) = dialect.gap_at(rest)?;
+    let (_, rest) = keyword_at(rest, b"getinterval")?;
+    Some((from, count, rest))
+}
+
+/// Whether so many codes from one on are codes.
+fn are_codes(from: u32, count: u32) -> bool
+    ensures { result ≡ are_codes from count }
+{
+    from <= CODES as u32 && count <= CODES as u32 - from
+}
+
+/// The copy of the names of a range of codes.
+#[tactic(auto, unfolding(crate::specs::Encoding::copy_of_range))]
+fn range_copy_at(bytes: &[u8], dialect: Dialect) -> Option<(CodeEntry<'_>, &[u8])>
+    ensures value { option_map (λ x. (code_entry_view x.0, x.1.now)) result
+        ≡ (range_copy dialect).read bytes.now }
+    ensures within { IfSome result (λ x. within_codes (code_entry_view x.0) ≡ true) }
+{
+    let (from, count, rest) = copied_range_at(bytes, dialect)?;
+    let (_, rest) = dialect.gap_at(rest)?;
+    let (to, rest) = number_at(rest)?;
+    let (_, rest) = dialect.gap_at(rest)?;
+    let (_, rest) = keyword_at(rest, b"exch")?;
+    let (_, rest) = dialect.gap_at(rest)?;
+    let (_, rest) = keyword_at(rest, b"putinterval")?;
+    if !are_codes(from, count) || !are_codes(to, count) {
+        return None;
+    }
+    Some((CodeEntry::Copy(from as u16, count as u16, to as u16), rest))
+}
+
+/// An entry of the table. Only a wide one may be a copy.
+fn code_entry_at(bytes: &[u8], dialect: Dialect) -> Option<(CodeEntry<'_>, &[u8])>
+    ensures value { option_map (λ x. (code_entry_view x.0, x.1.now)) result
+        ≡ (code_entry dialect).read bytes.now }
+    ensures within { IfSome result (λ x. within_codes (code_entry_view x.0) ≡ true) }
+{
+    if let Some(found) = put_at(bytes, dialect) {
+        return Some(found);
+    }
+    match dialect {
+        Dialect::Strict => None,
+        Dialect::Wide => match one_copy_at(bytes, dialect) {
+            Some(found) => Some(found),
+            None => range_copy_at(bytes, dialect),
+        },
+    }
 }
 
 /// `readonly` and the white space after it, if they are there.
@@ -115,6 +217,16 @@ fn encoding_end_at(bytes: &[u8], dialect: Dialect) -> Option<&[u8]>
     Some(rest)
 }
 
+/// What may stand between a word that is the whole Encoding and its `def` is passed over.
+fn before_def(bytes: &[u8], dialect: Dialect) -> &[u8]
+    ensures { Some result.now ≡ option_map (λ x. x.1) ((before_def dialect).read bytes.now) }
+{
+    match dialect {
+        Dialect::Strict => bytes,
+        Dialect::Wide => after_readonly(bytes, dialect),
+    }
+}
+
 /// A word that is the whole Encoding.
 #[tactic(auto, unfolding(crate::specs::Encoding::encoding_word))]
 fn encoding_word_at(bytes: &[u8], dialect: Dialect) -> Option<(&[u8], &[u8])>
@@ -123,7 +235,7 @@ fn encoding_word_at(bytes: &[u8], dialect: Dialect) -> Option<(&[u8], &[u8])>
     let (_, rest) = dialect.white_at(bytes);
     let (word, rest) = word_at(rest)?;
     let (_, rest) = dialect.gap_at(rest)?;
-    let (_, rest) = keyword_at(rest, b"def")?;
+    let (_, rest) = keyword_at(before_def(rest, dialect), b"def")?;
     Some((word, rest))
 }
 
@@ -246,14 +358,85 @@ fn encoding_start_at(bytes: &[u8], dialect: Dialect) -> Option<(Opening<'_>, &[u
     Some((Opening::Names, rest))
 }
 
+/// The names of so many codes from one on.
+fn names_in<'a>(
+    alloc: Global,
+    from: u16,
+    count: u16,
+    gathered: &Gathered<'a>,
+) -> Result<Vec<&'a [u8]>, AllocError>
+    requires { from + count ≤ 256 }
+    ensures { IfOk result (λ v. map (λ n. n.now) v.items ≡ names_in gathered.now.codes from count) }
+{
+    let mut names = Vec::new(alloc);
+    'names: for i in 0..count {
+        names.push(gathered.name_at(from + i))?;
+    }
+    Ok(names)
+}
+
+/// Puts names at the codes from one on.
+fn put_names<'a>(
+    to: u16,
+    names: &[&'a [u8]],
+    gathered: &mut Gathered<'a>,
+) -> Result<(), AllocError>
+    requires { to + length names.now ≤ 256 }
+    ensures kept { OnOk result (gathered.new.codes
+        ≡ named_from gathered.old.codes to (map (λ n. n.now) names.now)) }
+    ensures others { OnOk result (CodesAlone gathered.old gathered.new) }
+{
+    'names: for i in 0..names.len() {
+        gathered.keep_code((to + i as u16) as u8, names[i])?;
+    }
+    Ok(())
+}
+
+/// Puts the names of so many codes from one on at the codes from another one on.
+fn copy_codes(
+    alloc: Global,
+    from: u16,
+    count: u16,
+    to: u16,
+    gathered: &mut Gathered<'_>,
+) -> Result<(), AllocError>
+    requires from { from + count ≤ 256 }
+    requires to { to + count ≤ 256 }
+    ensures kept { OnOk result (gathered.new.codes
+        ≡ kept_by gathered.old.codes (Copy from count to)) }
+    ensures others { OnOk result (CodesAlone gathered.old gathered.new) }
+{
+    gathered.settle_codes()?;
+    let names = names_in(alloc, from, count, gathered)?;
+    put_names(to, names.as_slice(), gathered)
+}
+
+/// Keeps what an entry of the table puts.
+fn keep_entry<'a>(
+    alloc: Global,
+    entry: CodeEntry<'a>,
+    gathered: &mut Gathered<'a>,
+) -> Result<(), AllocError>
+    requires { within_codes (code_entry_view entry) ≡ true }
+    ensures kept { OnOk result (gathered.new.codes
+        ≡ kept_by gathered.old.codes (code_entry_view entry.entry)) }
+    ensures others { OnOk result (CodesAlone gathered.old gathered.new) }
+{
+    match entry {
+        CodeEntry::Put(code, name) => gathered.keep_code(code, name),
+        CodeEntry::Copy(from, count, to) => copy_codes(alloc, from, count, to, gathered),
+    }
+}
+
 /// The entries of the table, kept, and what stands after their close.
 fn puts_at<'a>(
+    alloc: Global,
     bytes: &'a [u8],
     dialect: Dialect,
     gathered: &mut Gathered<'a>,
 ) -> Result<&'a [u8], TableError>
     requires { gathered.old.codes ≡ fin.empty }
-    ensures shown { TableHeld dialect (λ x es close rest. (gathered.new.codes ≡ map_of es)
+    ensures shown { TableHeld dialect (λ x es close rest. (gathered.new.codes ≡ map_of (puts_of es))
         × (x.now ≡ rest)) result (table_at (code_entry dialect) (encoding_end dialect) bytes.now) }
     ensures others { OnOk result (CodesAlone gathered.old gathered.new) }
 {
@@ -262,11 +445,11 @@ fn puts_at<'a>(
         if let Some(after) = encoding_end_at(rest, dialect) {
             return Ok(after);
         }
-        let Some((put, after)) = code_entry_at(rest, dialect) else {
+        let Some((entry, after)) = code_entry_at(rest, dialect) else {
             let (_, left) = dialect.white_at(rest);
             return Err(TableError::Left(left.len()));
         };
-        gathered.keep_code(put.code, put.name)?;
+        keep_entry(alloc, entry, gathered)?;
         rest = after;
     }
 }
@@ -331,6 +514,7 @@ fn bad_encoding(clear: &[u8], error: TableError) -> ReadFault
 /// The names of the table's codes, in the last part of the clear text.
 #[tactic(auto, unfolding(crate::specs::Pieces::encoding_from))]
 fn table_from<'a>(
+    alloc: Global,
     clear: &[u8],
     rest: &'a [u8],
     dialect: Dialect,
@@ -341,7 +525,7 @@ fn table_from<'a>(
         × (x.1.now ≡ e.1)) result (encoding_from dialect clear.now OpensPuts rest.now).read }
     ensures others { OnOk result (CodesAlone gathered.old gathered.new) }
 {
-    match puts_at(rest, dialect, gathered) {
+    match puts_at(alloc, rest, dialect, gathered) {
         Ok(after) => Ok((EncodingParts::Puts, after)),
         Err(error) => Err(bad_encoding(clear, error)),
     }
@@ -369,6 +553,7 @@ fn array_from<'a>(
 /// The Encoding, from its word or from the first of its puts or names on.
 #[tactic(auto, unfolding(crate::specs::Pieces::encoding_from))]
 fn encoding_from<'a>(
+    alloc: Global,
     clear: &[u8],
     opening: Opening<'a>,
     rest: &'a [u8],
@@ -383,7 +568,7 @@ fn encoding_from<'a>(
 {
     match opening {
         Opening::Word(word) => Ok((EncodingParts::OneWord(word), rest)),
-        Opening::Puts => table_from(clear, rest, dialect, gathered),
+        Opening::Puts => table_from(alloc, clear, rest, dialect, gathered),
         Opening::Names => array_from(clear, rest, dialect, gathered),
     }
 }
@@ -391,6 +576,7 @@ fn encoding_from<'a>(
 /// The head, the Encoding, and the rest of a clear text.
 #[tactic(auto, unfolding(crate::specs::Pieces::clear_pieces))]
 pub(crate) fn clear_parts<'a>(
+    alloc: Global,
     clear: &'a [u8],
     dialect: Dialect,
     gathered: &mut Gathered<'a>,
@@ -406,7 +592,7 @@ pub(crate) fn clear_parts<'a>(
     let Some((opening, rest)) = encoding_start_at(after, dialect) else {
         return Err(ReadFault::BadEncoding { at: head.len() });
     };
-    let (encoding, clear_tail) = encoding_from(clear, opening, rest, dialect, gathered)?;
+    let (encoding, clear_tail) = encoding_from(alloc, clear, opening, rest, dialect, gathered)?;
     Ok(ClearParts {
         head,
         encoding,

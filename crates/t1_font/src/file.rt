@@ -222,7 +222,7 @@ fn text_parts(
     ensures { Answers (λ f. f) result (font_texts dialect clear.now (drop at buffer.items)).read }
 {
     let mut gathered = Gathered::new(alloc, buffer, at);
-    let outside = clear_parts(clear, dialect, &mut gathered)?;
+    let outside = clear_parts(alloc, clear, dialect, &mut gathered)?;
     let inside = private_parts(alloc, dialect, &mut gathered)?;
     font_from(alloc, &outside, inside, gathered)
 }

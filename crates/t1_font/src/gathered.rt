@@ -1,10 +1,15 @@
 //! What is gathered of a font while it is read.
 
-ghost use Rattle.std.specs.Prelude.{◌≡◌, ◌≤◌, ◌+◌, ◌-◌, ◌++◌, length, take, drop, OnOk};
+ghost use Rattle.std.specs.Prelude.{◌≡◌, ◌≤◌, ◌+◌, ◌-◌, ◌++◌, length, take, drop, unwrap_or, OnOk};
 ghost use Rattle.std.specs.FinMap as fin;
 ghost use Rattle.t1_bytes.specs.Cipher.{decrypted};
 ghost use Rattle.t1_bytes.specs.Limits.{file_limit};
 ghost use Rattle.t1_font.specs.Charstrings.{plain_of};
+ghost use Rattle.std.specs.Ordering.{nat_cmp};
+ghost use Rattle.t1_join.specs.Entries.{entries_by};
+ghost use Rattle.t1_font.specs.Entries.{last_value};
+ghost use Rattle.t1_font.specs.FontValue.{notdef};
+ghost use Rattle.t1_font.specs.Gathering.{name_in};
 ghost use Rattle.t1_font.specs.Places.{ending, placed};
 ghost use Rattle.t1_font.specs.Ranges.{bytes_at, IsInside};
 
@@ -82,6 +87,20 @@ fn decrypt_in(buffer: &mut Vec<u8>, part: Range)
     decrypt(body, CHARSTRING_KEY);
 }
 
+/// The last name of a code: `.notdef` where it has none.
+fn last_name<'a>(codes: &[(u16, &'a [u8])], code: u16) -> &'a [u8]
+    ensures { result.now ≡ unwrap_or (last_value nat_cmp code
+        (entries_by (λ k. k) (λ n. n.now) codes.now)) notdef }
+{
+    let mut name = b".notdef".as_slice();
+    'codes: for entry in codes {
+        if entry.0 == code {
+            name = entry.1;
+        }
+    }
+    name
+}
+
 impl<'a> Gathered<'a> {
     /// No entries, before the private text, which stands in a buffer from `at` on.
     pub(crate) fn new(alloc: Global, buffer: Vec<u8>, at: usize) -> Self
@@ -140,6 +159,21 @@ impl<'a> Gathered<'a> {
     {
         self.code_room = settle(&mut self.codes, self.code_room)?;
         self.codes.push((code as u16, name))?;
+        Ok(())
+    }
+
+    /// The name of a code: `.notdef` where it has none.
+    pub(crate) fn name_at(&self, code: u16) -> &'a [u8]
+        ensures { result.now ≡ name_in self.now.codes code }
+    {
+        last_name(self.codes.as_slice(), code)
+    }
+
+    /// Keeps of each code the last name alone.
+    pub(crate) fn settle_codes(&mut self) -> Result<(), AllocError>
+        ensures { OnOk result (self.new ≡ self.old) }
+    {
+        self.code_room = settle(&mut self.codes, 0)?;
         Ok(())
     }
 

@@ -1,7 +1,9 @@
 -- Tables: reading goes entry by entry, and finds what the text spells or the first place where it breaks off.
+use Rattle.std.proofs.Common.{inl, inr}
 use Rattle.std.proofs.Common.{◌≡◌, ℕ, zero, suc, ◌<◌, List, [], ◌∷◌, ◌++◌, length, Option, Some, None, Ok, Err, refl, sym, ap, subst, ◌∙◌, append_assoc, arith}
 use Rattle.std.proofs.lemmas.List.{append-nil}
-use Rattle.t1_grammar.specs.Grammar.{Grammar, unspelled, unread}
+use Rattle.std.specs.Option.{option_and_then}
+use Rattle.t1_grammar.specs.Grammar.{Grammar, either, choice_some, unspelled, unread}
 use Rattle.t1_grammar.specs.Tables.{Entries, IsTable, TableAt, BreaksOff, Table, with_front, table_step, table_within, table_at}
 
 -- an entry has bytes
@@ -11,6 +13,21 @@ Eats {A} g = (bytes : List ℕ) (x : A × List ℕ) → g.read bytes ≡ Some x 
 -- where an entry can be read, no close can
 abbrev pub Apart : {A B : Type 0} → Grammar A → Grammar B → Type 0
 Apart {A} entry close = (bytes : List ℕ) (x : A × List ℕ) → entry.read bytes ≡ Some x → close.read bytes ≡ None
+
+-- one or the other has bytes, where both have
+pub eats_either : {A : Type 0} (g h : Grammar A) → Eats g → Eats h → Eats (either g h)
+eats_either g h first second bytes x e = elim (choice_some (g.read bytes) (h.read bytes) x e) [ | inl p ↦ first bytes x p | inr p ↦ second bytes x p.1 ]
+
+-- no close can be read where one or the other can, if none can where each can
+pub apart_either : {A B : Type 0} (close : Grammar B) (g h : Grammar A) → Apart g close → Apart h close → Apart (either g h) close
+apart_either close g h first second bytes x e =
+    elim (choice_some (g.read bytes) (h.read bytes) x e) [ | inl p ↦ first bytes x p | inr p ↦ second bytes x p.1 ]
+
+-- what keeps apart behind a text keeps apart with it
+pub apart_behind : {S A B : Type 0} (f : S → Option A) (g : S → Option B) (o : Option S) (x : A) → option_and_then f o ≡ Some x →
+    ((y : S) → f y ≡ Some x → g y ≡ None) → option_and_then g o ≡ None
+apart_behind f g None x e apart = refl
+apart_behind f g (Some y) x e apart = apart y e
 
 -- what is read is a table, or it breaks off
 abbrev pub Read : {A B : Type 0} (entry : Grammar A) (close : Grammar B) → List ℕ → Table A B → Type 0

@@ -1,6 +1,6 @@
 -- The clear text is read from its canonical text.
 use Rattle.std.proofs.Common.{◌≡◌, ℕ, ◌≤◌, List, [], ◌∷◌, ◌++◌, Some, None, Ok, refl, sym, ap, subst, ◌∙◌, append_assoc, arith}
-use Rattle.std.specs.Prelude.{codes}
+use Rattle.std.specs.Prelude.{map, codes}
 use Rattle.std.specs.Fmt.{decimal as digits}
 use Rattle.std.specs.List.{AllByRecursion}
 use Rattle.std.proofs.lemmas.Bool.{le-leb}
@@ -12,11 +12,12 @@ use Rattle.t1_bytes.specs.White.{gap}
 use Rattle.t1_font.specs.declared.dialect.Dialect.TheVariants.{Strict}
 use Rattle.t1_font.specs.Words.{is_regular, word, keyword, decimal}
 use Rattle.t1_font.specs.Markers.{encoding_marker}
-use Rattle.t1_font.specs.Encoding.{encoding_word, encoding_table, encoding_loop, Whole, OpensPuts, encoding_start, octal, code, code_entry, encoding_end}
+use Rattle.t1_font.specs.Encoding.{encoding_word, encoding_table, encoding_loop, Whole, OpensPuts, encoding_start, octal, code, CodeEntry, Put, put_entry, code_entry, encoding_end}
 use Rattle.t1_font.specs.Pieces.{EncodingText, OneWord, Puts, encoding_from, clear_pieces}
 use Rattle.t1_font.specs.Writing.{puts_text, encoding_text}
 use Rattle.t1_font.specs.IsFont.{IsWord, IsCode, NoMarker}
 use Rattle.t1_font.specs.EntryLaws.{code_entry_eats, code_entry_apart}
+use Rattle.t1_font.proofs.Copies.{puts_plain}
 use Rattle.t1_font.proofs.canonical.Written.{gap_one, word_read, keyword_read, black, black_digits, decimal_read, no_white}
 use Rattle.t1_font.proofs.canonical.EntriesWritten.{fixed_read, name_read, is_word_of}
 use Rattle.t1_font.proofs.canonical.Moves.{first_behind, encoding_moves}
@@ -57,8 +58,8 @@ unfolding code
 code_read c rest h s = that_read _ (either decimal octal) (digits c ++ rest) c rest (rw (decimal_read c rest (omega arith) s) refl) (le-leb c 255 h)
 
 -- a put is read from its text
-code_entry_read : (c : ℕ) (n rest : List ℕ) → IsCode c n → Stops is_regular rest → (code_entry Strict).read (10 ∷ (codes "dup " ++ (digits c ++ (codes " /" ++ (n ++ (codes " put" ++ rest)))))) ≡ Some ((c, n), rest)
-unfolding code_entry
+code_entry_read : (c : ℕ) (n rest : List ℕ) → IsCode c n → Stops is_regular rest → (put_entry Strict).read (10 ∷ (codes "dup " ++ (digits c ++ (codes " /" ++ (n ++ (codes " put" ++ rest)))))) ≡ Some (Put c n, rest)
+unfolding put_entry
 code_entry_read c n rest h s =
     let t4 : List ℕ = codes "put" ++ rest in
     let t3 : List ℕ = codes "/" ++ (n ++ (32 ∷ t4)) in
@@ -87,18 +88,24 @@ encoding_end_read rest s =
       keyword_read (codes "def") rest (refl, (refl, (refl, tt))) s,
     ) refl
 
+abbrev put_of : ℕ × List ℕ → CodeEntry
+put_of e = Put e.0 e.1
+
 -- the puts of an Encoding are read from their text
-pub puts_read : (es : List (ℕ × List ℕ)) (rest : List ℕ) → AllByRecursion (λ e. IsCode e.0 e.1) es → Stops is_regular rest → table_at (code_entry Strict) (encoding_end Strict) (puts_text es ++ rest) ≡ Ok (es, codes "def", rest)
-puts_read [] rest all s = rw (table_at-step (code_entry Strict) (encoding_end Strict) (code_entry_eats Strict) (10 ∷ (codes "readonly def" ++ rest)), encoding_end_read rest s) refl
+pub puts_read : (es : List (ℕ × List ℕ)) (rest : List ℕ) → AllByRecursion (λ e. IsCode e.0 e.1) es → Stops is_regular rest →
+    table_at (code_entry Strict) (encoding_end Strict) (puts_text es ++ rest) ≡ Ok (map put_of es, codes "def", rest)
+puts_read [] rest all s =
+    rw (table_at-step (code_entry Strict) (encoding_end Strict) (code_entry_eats Strict) (10 ∷ (codes "readonly def" ++ rest)), encoding_end_read rest s) refl
 puts_read (e ∷ es) rest all s =
     let others : List ℕ = puts_text es ++ rest in
     let line = puts_line es in
     let text : List ℕ = 10 ∷ (codes "dup " ++ (digits e.0 ++ (codes " /" ++ (e.1 ++ (codes " put" ++ others))))) in
     let regrouped : puts_text (e ∷ es) ++ rest ≡ text = simp append_assoc in
     let stops : Stops is_regular others = subst (λ (u : List ℕ). Stops is_regular (u ++ rest)) (sym line.1) refl in
-    let here : (code_entry Strict).read text ≡ Some (e, others) = code_entry_read e.0 e.1 others all.0 stops in
-    let one : table_at (code_entry Strict) (encoding_end Strict) text ≡ with_front (e ∷ []) (table_at (code_entry Strict) (encoding_end Strict) others) = rw (table_at-step (code_entry Strict) (encoding_end Strict) (code_entry_eats Strict) text, (code_entry_apart Strict) text (e, others) here, here) refl in
-    ap (table_at (code_entry Strict) (encoding_end Strict)) regrouped ∙ (one ∙ ap (with_front (e ∷ [])) (puts_read es rest all.1 s))
+    let here : (code_entry Strict).read text ≡ Some (put_of e, others) = code_entry_read e.0 e.1 others all.0 stops in
+    let one : table_at (code_entry Strict) (encoding_end Strict) text ≡ with_front (put_of e ∷ []) (table_at (code_entry Strict) (encoding_end Strict) others) =
+    rw (table_at-step (code_entry Strict) (encoding_end Strict) (code_entry_eats Strict) text, (code_entry_apart Strict) text (put_of e, others) here, here) refl in
+    ap (table_at (code_entry Strict) (encoding_end Strict)) regrouped ∙ (one ∙ ap (with_front (put_of e ∷ [])) (puts_read es rest all.1 s))
 
 -- ---- the whole
 
@@ -137,4 +144,4 @@ clear_again head (Puts es) tail none h s =
     subst (λ (u : List ℕ). (encoding_start Strict).read (codes " 256 array" ++ (10 ∷ (codes "0 1 255 {1 index exch /.notdef put} for" ++ u))) ≡ Some (OpensPuts, u)) (sym shown) (start_table (line.0 ++ tail)) in
     let marker : first_at encoding_marker (head ++ (codes "/Encoding" ++ (32 ∷ t))) ≡ Some ((head, tt), 32 ∷ t) =
     first_behind encoding_marker head _ tt (32 ∷ t) (encoding_moves head [] _ none) (encoding_marker_read t) in
-    rw (marker, start, puts_read es tail h s) refl
+    rw (marker, start, puts_read es tail h s) (ap (λ (puts : List (ℕ × List ℕ)). Ok (record { head = head; encoding = Puts puts; clear_tail = tail })) (puts_plain [] es))

@@ -32,7 +32,7 @@ use Rattle.t1_font.proofs.canonical.SplitWritten.{marker_own}
 use Rattle.t1_font.proofs.canonical.Moves.{first_behind, eexec_moves, encoding_moves}
 use Rattle.t1_font.proofs.read_fonts.ReadBack.{eexec_alike}
 use Rattle.t1_font.proofs.read_fonts.ReadBytes.{parts_bytes, entries_have}
-use Rattle.t1_font.proofs.read_fonts.ReadEntries.{word_of, put_of, next_name_of, IsReadPut, last_has}
+use Rattle.t1_font.proofs.read_fonts.ReadEntries.{word_of, code_entry_of, next_name_of, IsReadPut, IsReadEntry, puts_are, last_has}
 use Rattle.t1_font.proofs.read_fonts.ReadMarkers.{meet, NoneIn-left, NoneIn-right, encoding_slash, IsMarker, marker_is, is_plain, marker_plain, plain_right}
 
 -- ---- the Encoding ends with `def`
@@ -73,12 +73,17 @@ word_start d w bytes rest a = elim a.2 [
 word_ends : (d : Dialect) (w text rest bytes : List ℕ) → (encoding_word d).Spells w text rest → bytes ≡ text ++ rest → IsEnded bytes rest
 unfolding encoding_word
 word_ends d w text rest bytes s b =
-    let k = s.5.5.5 in
+    let g = s.5.5 in
+    let r = g.5 in
+    let k = r.5 in
     let none : k.2 ≡ [] = k.5.0 in
     let own : (keyword (codes "def")).Spells k.0 k.1 rest = subst (λ (u : List ℕ). (keyword (codes "def")).Spells k.0 k.1 (u ++ rest)) none k.4 in
-    let parts : text ≡ s.1 ++ (s.5.1 ++ (s.5.5.1 ++ (k.1 ++ []))) = s.3 ∙ (λ i. s.1 ++ (s.5.3 ∙ (λ j. s.5.1 ++ (s.5.5.3 ∙ (λ l. s.5.5.1 ++ (k.3 ∙ (λ m. k.1 ++ none m)) l)) j)) i) in
-    let flat : s.1 ++ (s.5.1 ++ (s.5.5.1 ++ (k.1 ++ []))) ≡ (s.1 ++ (s.5.1 ++ s.5.5.1)) ++ k.1 = simp (append_assoc, append-nil) in
-    def_ends k.0 text (s.1 ++ (s.5.1 ++ s.5.5.1)) k.1 rest bytes own (parts ∙ flat) b
+    let front : List ℕ = s.1 ++ (s.5.1 ++ (g.1 ++ r.1)) in
+    let last : k.1 ++ [] ≡ k.1 = append-nil k.1 in
+    let parts : text ≡ s.1 ++ (s.5.1 ++ (g.1 ++ (r.1 ++ k.1))) =
+    s.3 ∙ (λ i. s.1 ++ (s.5.3 ∙ (λ j. s.5.1 ++ (g.3 ∙ (λ l. g.1 ++ (r.3 ∙ (λ n. r.1 ++ (k.3 ∙ ((λ m. k.1 ++ none m) ∙ last)) n)) l)) j)) i) in
+    let flat : s.1 ++ (s.5.1 ++ (g.1 ++ (r.1 ++ k.1))) ≡ front ++ k.1 = simp append_assoc in
+    def_ends k.0 text front k.1 rest bytes own (parts ∙ flat) b
 
 close_ends : (d : Dialect) (closing text rest : List ℕ) (front bytes : List ℕ) → (encoding_end d).Spells closing text rest → bytes ≡ (front ++ text) ++ rest → IsEnded bytes rest
 unfolding encoding_end
@@ -102,8 +107,8 @@ table_parts opening entries closing rest bytes behind b e = b ∙ (ap (λ (u : L
 pub encoding_ends : (d : Dialect) (e : EncodingText) (bytes rest : List ℕ) → SpellsEncoding d e bytes rest → IsEnded bytes rest
 encoding_ends d (OneWord w) bytes rest s = let a = word_start d w bytes rest s in word_ends d w a.0 rest bytes a.2 a.1
 encoding_ends d (Puts puts) bytes rest (inl s) =
-    let t = s.3.2 in
-    close_ends d s.1 t.1 rest (s.2.0 ++ t.0) bytes t.4 (table_parts s.2.0 t.0 t.1 rest bytes s.0 s.2.1 (s.3.1 ∙ ap (λ (u : List ℕ). u ++ rest) t.2))
+    let t = s.5.2 in
+    close_ends d s.2 t.1 rest (s.4.0 ++ t.0) bytes t.4 (table_parts s.4.0 t.0 t.1 rest bytes s.1 s.4.1 (s.5.1 ∙ ap (λ (u : List ℕ). u ++ rest) t.2))
 encoding_ends d (Puts puts) bytes rest (inr s) =
     let t = s.5.2.1 in
     array_ends d s.2 t.1 rest (s.4.0 ++ t.0) bytes t.4 (table_parts s.4.0 t.0 t.1 rest bytes s.1 s.4.1 (s.5.1 ∙ ap (λ (u : List ℕ). u ++ rest) t.2))
@@ -115,7 +120,7 @@ unfolding encoding_word
 word_value d w text rest s h =
     let a = parts_bytes text s.1 s.2 s.3 h in
     let b = parts_bytes s.2 s.5.1 s.5.2 s.5.3 a.1 in
-    subst (IsWord 32) s.5.5.5.5.1 (word_of s.5.0 s.5.1 _ s.5.4 b.0)
+    subst (IsWord 32) s.5.5.5.5.5.1 (word_of s.5.0 s.5.1 _ s.5.4 b.0)
 
 named : (o : Option (List ℕ)) (n : List ℕ) → unless_notdef o ≡ Some n → (o ≡ Some n) × (bytes_eq notdef n ≡ false)
 named None n e = Some_None (sym e)
@@ -143,8 +148,10 @@ array_puts c (n ∷ names) all few = (record { code = omega (arith, few); name =
 pub encoding_of : (d : Dialect) (e : EncodingText) (bytes rest : List ℕ) → SpellsEncoding d e bytes rest → AreBytes bytes → IsEncoding (encoding_value e)
 encoding_of d (OneWord w) bytes rest s h = let a = word_start d w bytes rest s in word_value d w a.0 rest a.2 (parts_bytes bytes a.0 rest a.1 h).0
 encoding_of d (Puts puts) bytes rest (inl s) h =
-    let t = s.3.2 in
-    puts_value puts (entries_have (code_entry d) IsReadPut (put_of d) puts t.0 (t.1 ++ rest) t.3 (entries_bytes s.2.0 s.0 s.3.0 t.0 t.1 rest bytes s.2.1 s.3.1 t.2 h))
+    let t = s.5.2 in
+    let all : AllByRecursion IsReadEntry s.0 =
+    entries_have (code_entry d) IsReadEntry (code_entry_of d) s.0 t.0 (t.1 ++ rest) t.3 (entries_bytes s.4.0 s.1 s.5.0 t.0 t.1 rest bytes s.4.1 s.5.1 t.2 h) in
+    puts_value puts (subst (AllByRecursion IsReadPut) (sym s.3) (puts_are [] s.0 tt all))
 encoding_of d (Puts puts) bytes rest (inr s) h =
     let t = s.5.2.1 in
     let all : AllByRecursion (IsWord 127) s.0 = entries_have (next_name d) (IsWord 127) (next_name_of d) s.0 t.0 (t.1 ++ rest) t.3 (entries_bytes s.4.0 s.1 s.5.0 t.0 t.1 rest bytes s.4.1 s.5.1 t.2 h) in

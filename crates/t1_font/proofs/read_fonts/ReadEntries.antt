@@ -1,8 +1,9 @@
 -- What is known of the words and entries that were read of bytes.
-use Rattle.std.proofs.Common.{◌≡◌, ℕ, ◌≤◌, ◌<◌, Ordering, Bool, true, false, leb, cond, List, [], ◌∷◌, ◌++◌, length, Option, Some, None, refl, sym, subst, ◌∙◌, arith}
-use Rattle.std.specs.Prelude.{codes}
+use Rattle.std.proofs.Common.{◌+◌, zero, suc, inl, inr, ◌≡◌, ℕ, ◌≤◌, ◌<◌, Ordering, Bool, true, false, leb, cond, List, [], ◌∷◌, ◌++◌, length, Option, Some, None, refl, sym, subst, ◌∙◌, arith}
+use Rattle.std.specs.Prelude.{codes, unwrap_or}
 use Rattle.std.specs.List.{AllByRecursion}
-use Rattle.std.specs.Ordering.{is_eq}
+use Rattle.std.specs.Ordering.{is_eq, nat_cmp}
+use Rattle.std.specs.FinSet.{nat_cmp-IsAntisymmetric}
 use Rattle.std.specs.Cmp.{IsTotalOrder, Equal-is}
 use Rattle.std.specs.FinMap.{get, IsAntisymmetric}
 use Rattle.std.proofs.lemmas.Bool.{leb-true, ltb-true, and_parts}
@@ -12,15 +13,17 @@ use Rattle.t1_bytes.specs.Laws.{AreBytes}
 use Rattle.t1_bytes.specs.Cipher.{decrypted}
 use Rattle.t1_bytes.proofs.Ciphers.{length-decrypted}
 use Rattle.t1_font.specs.declared.dialect.Dialect.{Dialect}
-use Rattle.t1_font.specs.declared.dialect.Dialect.TheVariants.{Strict}
+use Rattle.t1_font.specs.declared.dialect.Dialect.TheVariants.{Strict, Wide}
 use Rattle.t1_font.specs.Words.{word, name, phrase_of, phrase_after, is_access, passes, next_name}
 use Rattle.t1_font.specs.Entry.{Body, Entry, length_from, body, entry, plain_entries}
 use Rattle.t1_font.specs.Subrs.{Subr, subr_key, subr}
-use Rattle.t1_font.specs.Encoding.{code, code_entry}
+use Rattle.t1_font.specs.Encoding.{code, CodeEntry, Put, Copy, put_entry, one_copy, within_codes, are_codes, copy_of_range, range_copy, name_after, copied, put_by, puts_after, code_entry}
 use Rattle.t1_font.specs.Glyphs.{Glyph, glyph}
 use Rattle.t1_font.specs.Charstrings.{plain_of}
+use Rattle.t1_font.specs.FontValue.{notdef}
 use Rattle.t1_font.specs.Entries.{last_value, map_of}
 use Rattle.t1_font.specs.IsFont.{IsWord, IsPhrase, IsCharstring}
+use Rattle.t1_join.proofs.OrderLemmas.{all_of_both}
 use Rattle.t1_font.proofs.MapLemmas.{Some_same, Some_None}
 use Rattle.t1_font.proofs.ByteLemmas.{AreBytes-append}
 use Rattle.t1_font.proofs.read_fonts.ReadBytes.{parts_bytes, drop_bytes, decrypted_bytes}
@@ -125,9 +128,14 @@ pub record IsReadPut (e : ℕ × List ℕ) : Type 0 where
   pub code : e.0 ≤ 255
   pub name : IsWord 127 e.1
 
+-- so is a copy whose ranges are codes
+abbrev pub IsReadEntry : CodeEntry → Type 0
+IsReadEntry (Put c n) = IsReadPut (c, n)
+IsReadEntry (Copy from count to) = (from + count ≤ 256) × (to + count ≤ 256)
+
 -- a put that bytes spell is one of a font
-pub put_of : (d : Dialect) (e : ℕ × List ℕ) (text rest : List ℕ) → (code_entry d).Spells e text rest → AreBytes text → IsReadPut e
-unfolding code_entry code
+put_of : (d : Dialect) (e : CodeEntry) (text rest : List ℕ) → (put_entry d).Spells e text rest → AreBytes text → IsReadEntry e
+unfolding put_entry code
 put_of d e text rest s h =
     let h1 = parts_bytes text s.1 s.2 s.3 h in
     let h2 = parts_bytes s.2 s.5.1 s.5.2 s.5.3 h1.1 in
@@ -137,9 +145,38 @@ put_of d e text rest s h =
     let h5 = parts_bytes c.2 c.5.1 c.5.2 c.5.3 h4.1 in
     let n = c.5.5 in
     let h6 = parts_bytes c.5.2 n.1 n.2 n.3 h5.1 in
-    subst IsReadPut n.5.5.5.1 (record { code = leb-true c.0 255 c.4.1; name = name_of n.0 n.1 _ n.4 h6.0 })
+    subst IsReadEntry n.5.5.5.1 (record { code = leb-true c.0 255 c.4.1; name = name_of n.0 n.1 _ n.4 h6.0 })
 
--- ---- the last value of a key
+-- and so is each copy
+one_copy_of : (d : Dialect) (e : CodeEntry) (text rest : List ℕ) → (one_copy d).Spells e text rest → IsReadEntry e
+unfolding one_copy code
+one_copy_of d e text rest s =
+    let to = s.5 in
+    let from = to.5.5.5.5 in
+    let below = leb-true from.0 255 from.4.1 in
+    let under = leb-true to.0 255 to.4.1 in
+    subst IsReadEntry from.5.5.5.5.5.1 (omega (arith, below), omega (arith, under))
+
+within_of : (e : CodeEntry) → ((c : ℕ) (n : List ℕ) → e ≡ Put c n → IsReadPut (c, n)) → within_codes e ≡ true → IsReadEntry e
+within_of (Put c n) put h = put c n refl
+within_of (Copy from count to) put h =
+    let both = and_parts (are_codes from count) (are_codes to count) h in (leb-true (from + count) 256 both.0, leb-true (to + count) 256 both.1)
+
+-- of a range, too
+range_copy_of : (d : Dialect) (e : CodeEntry) (text rest : List ℕ) → (range_copy d).Spells e text rest → IsReadEntry e
+unfolding copy_of_range
+range_copy_of d e text rest s = within_of e (λ c n k. absurd (no_put c n (s.0.5.5.5.5.5.5.5.1 ∙ k))) s.1
+  where
+    no_put : {from count to : ℕ} (c : ℕ) (n : List ℕ) → Copy from count to ≡ Put c n → ⊥
+    no_put c n k = cc
+
+-- an entry that bytes spell is one of a font
+pub code_entry_of : (d : Dialect) (e : CodeEntry) (text rest : List ℕ) → (code_entry d).Spells e text rest → AreBytes text → IsReadEntry e
+code_entry_of Strict e text rest s h = put_of Strict e text rest s h
+code_entry_of Wide e text rest s h = elim s [
+  | inl p ↦ put_of Wide e text rest p h
+  | inr p ↦ elim p.0 [ | inl q ↦ one_copy_of Wide e text rest q | inr q ↦ range_copy_of Wide e text rest q.0 ]
+]
 
 -- what holds of each entry holds of the last value of a key
 pub last_has : {K : Type 0} (R : K → K → Ordering) → IsAntisymmetric R → (P : K → List ℕ → Type 0) (es : List (K × List ℕ)) → AllByRecursion (λ e. P e.0 e.1) es → (q : K) (v : List ℕ) → last_value R q es ≡ Some v → P q v
@@ -153,6 +190,32 @@ last_has R same P (e ∷ es) all q v h = by_rest (λ k. last_has R same P es all
     by_rest : (last_value R q es ≡ Some v → P q v) → (o : Option (List ℕ)) → last_value R q es ≡ o → choice o (cond (is_eq (R q e.0)) (Some e.1) None) ≡ Some v → P q v
     by_rest again (Some x) k t = again (k ∙ t)
     by_rest again None k t = by_key (is_eq (R q e.0)) refl t
+
+-- ---- what entries of a font put is put by a font
+
+notdef_bytes : AreBytes notdef
+notdef_bytes = (omega arith, (omega arith, (omega arith, (omega arith, (omega arith, (omega arith, (omega arith, tt)))))))
+
+name_is : (puts : List (ℕ × List ℕ)) (c : ℕ) → AllByRecursion IsReadPut puts → IsWord 127 (name_after puts c)
+name_is puts c all = by_last (last_value nat_cmp c puts) refl
+  where
+    by_last : (o : Option (List ℕ)) → last_value nat_cmp c puts ≡ o → IsWord 127 (unwrap_or o notdef)
+    by_last None e = record { regular = (refl, (refl, (refl, (refl, (refl, (refl, (refl, tt))))))); some = omega arith; few = omega arith; bytes = notdef_bytes }
+    by_last (Some n) e = (last_has nat_cmp nat_cmp-IsAntisymmetric (λ c n. IsReadPut (c, n)) puts all c n e).name
+copied_are : (puts : List (ℕ × List ℕ)) (from count to : ℕ) → AllByRecursion IsReadPut puts → to + count ≤ 256 → AllByRecursion IsReadPut (copied puts from count to)
+copied_are puts from zero to all h = tt
+copied_are puts from (suc n) to all h =
+    (record { code = omega (arith, h); name = name_is puts from all }, copied_are puts (suc from) n (suc to) all (omega (arith, h)))
+
+put_is : (puts : List (ℕ × List ℕ)) (e : CodeEntry) → AllByRecursion IsReadPut puts → IsReadEntry e → AllByRecursion IsReadPut (put_by puts e)
+put_is puts (Put c n) all h = (h, tt)
+put_is puts (Copy from count to) all h = copied_are puts from count to all h.1
+
+pub puts_are : (puts : List (ℕ × List ℕ)) (es : List CodeEntry) → AllByRecursion IsReadPut puts → AllByRecursion IsReadEntry es → AllByRecursion IsReadPut (puts_after puts es)
+puts_are puts [] all h = all
+puts_are puts (e ∷ es) all h = puts_are (puts ++ put_by puts e) es (all_of_both IsReadPut puts (put_by puts e) all (put_is puts e all h.0)) h.1
+
+-- ---- the last value of a key
 
 plain_fits : (iv : ℕ) (b : Body) → IsBody iv b → AreBytes b.bytes → IsCharstring iv (plain_of iv b.bytes)
 plain_fits iv b h bytes = record {

@@ -17,7 +17,7 @@ use Rattle.t1_font.specs.Words.{one_white, word, keyword, decimal, name, phrase_
 use Rattle.t1_font.specs.Entry.{length_from, body, entry}
 use Rattle.t1_font.specs.Subrs.{subr_key, subrs_end}
 use Rattle.t1_font.specs.Markers.{encoding_marker, subrs_marker, chars_marker, len_iv_marker, len_iv, closefile}
-use Rattle.t1_font.specs.Encoding.{encoding_word, encoding_table, encoding_loop, encoding_start, octal, code, code_entry, encoding_end}
+use Rattle.t1_font.specs.Encoding.{encoding_word, encoding_table, encoding_loop, encoding_start, octal, code, put_entry, encoding_end}
 use Rattle.t1_font.specs.Glyphs.{glyphs_end}
 use Rattle.t1_font.specs.Pieces.{Puts, flat_pieces, encoding_from, clear_pieces, iv_at, iv_of, tail_after, glyphs_from, tables_from, private_pieces}
 use Rattle.t1_font.specs.ReadFont.{flat_text, font_from, font_file, read_font}
@@ -115,11 +115,11 @@ tiny_pfb = canon_is Pfb ∙ written_pfb
 -- ---- what is read
 
 pfa_reads : read_font pfa ≡ Ok tiny
-unfolding table_within first_at gap one_white word keyword decimal name phrase_of length_from body entry subr_key subrs_end eexec_marker encoding_marker subrs_marker chars_marker len_iv_marker len_iv closefile encoding_word encoding_table encoding_loop encoding_start octal code code_entry encoding_end next_name glyphs_end cipher_text flat_pieces encoding_from clear_pieces iv_at iv_of tail_after glyphs_from tables_from private_pieces flat_text font_from font_file
+unfolding table_within first_at gap one_white word keyword decimal name phrase_of length_from body entry subr_key subrs_end eexec_marker encoding_marker subrs_marker chars_marker len_iv_marker len_iv closefile encoding_word encoding_table encoding_loop encoding_start octal code put_entry encoding_end next_name glyphs_end cipher_text flat_pieces encoding_from clear_pieces iv_at iv_of tail_after glyphs_from tables_from private_pieces flat_text font_from font_file
 pfa_reads = refl
 
 pfb_reads : read_font pfb ≡ Ok tiny
-unfolding table_within first_at gap one_white word keyword decimal name phrase_of length_from body entry subr_key subrs_end eexec_marker encoding_marker subrs_marker chars_marker len_iv_marker len_iv closefile encoding_word encoding_table encoding_loop encoding_start octal code code_entry encoding_end next_name glyphs_end cipher_text flat_pieces encoding_from clear_pieces iv_at iv_of tail_after glyphs_from tables_from private_pieces flat_text font_from font_file
+unfolding table_within first_at gap one_white word keyword decimal name phrase_of length_from body entry subr_key subrs_end eexec_marker encoding_marker subrs_marker chars_marker len_iv_marker len_iv closefile encoding_word encoding_table encoding_loop encoding_start octal code put_entry encoding_end next_name glyphs_end cipher_text flat_pieces encoding_from clear_pieces iv_at iv_of tail_after glyphs_from tables_from private_pieces flat_text font_from font_file
 pfb_reads = refl
 
 pfb_cut : read_font (take 1000 pfb) ≡ Err (BadSegment 319)
@@ -127,7 +127,7 @@ unfolding flat_text font_file flat_pieces table_within first_at gap eexec_marker
 pfb_cut = refl
 
 pfb_at_border : read_font (take 1333 pfb) ≡ Ok tiny
-unfolding table_within first_at gap one_white word keyword decimal name phrase_of length_from body entry subr_key subrs_end eexec_marker encoding_marker subrs_marker chars_marker len_iv_marker len_iv closefile encoding_word encoding_table encoding_loop encoding_start octal code code_entry encoding_end next_name glyphs_end cipher_text flat_pieces encoding_from clear_pieces iv_at iv_of tail_after glyphs_from tables_from private_pieces flat_text font_from font_file
+unfolding table_within first_at gap one_white word keyword decimal name phrase_of length_from body entry subr_key subrs_end eexec_marker encoding_marker subrs_marker chars_marker len_iv_marker len_iv closefile encoding_word encoding_table encoding_loop encoding_start octal code put_entry encoding_end next_name glyphs_end cipher_text flat_pieces encoding_from clear_pieces iv_at iv_of tail_after glyphs_from tables_from private_pieces flat_text font_from font_file
 pfb_at_border = refl
 
 -- upper-case digits, and CR behind each line of them
@@ -139,7 +139,7 @@ upper_lines [] = []
 upper_lines (l ∷ ls) = map upper l ++ (13 ∷ upper_lines ls)
 
 upper_hex : read_font (clear ++ (10 ∷ (upper_lines cipher_lines ++ end_lines))) ≡ Ok tiny
-unfolding table_within first_at gap one_white word keyword decimal name phrase_of length_from body entry subr_key subrs_end eexec_marker encoding_marker subrs_marker chars_marker len_iv_marker len_iv closefile encoding_word encoding_table encoding_loop encoding_start octal code code_entry encoding_end next_name glyphs_end cipher_text flat_pieces encoding_from clear_pieces iv_at iv_of tail_after glyphs_from tables_from private_pieces flat_text font_from font_file
+unfolding table_within first_at gap one_white word keyword decimal name phrase_of length_from body entry subr_key subrs_end eexec_marker encoding_marker subrs_marker chars_marker len_iv_marker len_iv closefile encoding_word encoding_table encoding_loop encoding_start octal code put_entry encoding_end next_name glyphs_end cipher_text flat_pieces encoding_from clear_pieces iv_at iv_of tail_after glyphs_from tables_from private_pieces flat_text font_from font_file
 upper_hex = refl
 
 empty : read_font [] ≡ Err NoEexec

@@ -13,7 +13,7 @@ use Rattle.t1_font.specs.Words.{one_white, word, keyword, decimal, name, phrase_
 use Rattle.t1_font.specs.Entry.{length_from, body, entry}
 use Rattle.t1_font.specs.Subrs.{subr_key, subrs_end}
 use Rattle.t1_font.specs.Markers.{encoding_marker, subrs_marker, chars_marker, len_iv_marker, len_iv, closefile}
-use Rattle.t1_font.specs.Encoding.{encoding_word, encoding_table, encoding_loop, encoding_start, octal, code, code_entry, encoding_end}
+use Rattle.t1_font.specs.Encoding.{encoding_word, encoding_table, encoding_loop, encoding_start, octal, code, put_entry, encoding_end}
 use Rattle.t1_font.specs.Glyphs.{glyphs_end}
 use Rattle.t1_font.specs.Pieces.{Puts, SubrsPieces, encoding_from, clear_pieces, iv_at, iv_of, tail_after, glyphs_from, tables_from, private_pieces}
 use Rattle.t1_bytes.specs.Cipher.{sealed}
@@ -26,15 +26,15 @@ use Rattle.t1_font.proofs.rows.Tiny.{lines, glyph_notdef, head, clear_tail, puts
 -- ---- the clear text
 
 clear_reads : (clear_pieces Strict clear).read ≡ Ok (record { head = head; encoding = Puts puts; clear_tail = clear_tail })
-unfolding first_at table_within gap word keyword decimal name encoding_marker encoding_word encoding_table encoding_loop encoding_start code code_entry encoding_end encoding_from clear_pieces
+unfolding first_at table_within gap word keyword decimal name encoding_marker encoding_word encoding_table encoding_loop encoding_start code put_entry encoding_end encoding_from clear_pieces
 clear_reads = refl
 
 code_too_large : (clear_pieces Strict (clear_with (codes "dup 256 /X put"))).read ≡ Err (BadEncoding 195)
-unfolding first_at table_within gap word keyword decimal name octal encoding_marker encoding_word encoding_table encoding_loop encoding_start code code_entry encoding_end encoding_from clear_pieces
+unfolding first_at table_within gap word keyword decimal name octal encoding_marker encoding_word encoding_table encoding_loop encoding_start code put_entry encoding_end encoding_from clear_pieces
 code_too_large = refl
 
 octal_code : (clear_pieces Strict (clear_with (codes "dup 8#101 /X put"))).read ≡ Ok (record { head = head; encoding = Puts puts; clear_tail = clear_tail })
-unfolding first_at table_within gap word keyword decimal name octal encoding_marker encoding_word encoding_table encoding_loop encoding_start code code_entry encoding_end encoding_from clear_pieces
+unfolding first_at table_within gap word keyword decimal name octal encoding_marker encoding_word encoding_table encoding_loop encoding_start code put_entry encoding_end encoding_from clear_pieces
 octal_code = refl
 
 -- ---- the private text

@@ -1,4 +1,5 @@
 use Rattle.std.proofs.Common.{refl, ap}
+use Rattle.t1_font.specs.Encoding.{puts_of}
 use Rattle.t1_font.specs.Pieces.{encoding_from, Puts}
 use Rattle.t1_font.specs.FontValue.{Codes}
 use Rattle.t1_font.proofs.HeldLemmas.{names_put}
@@ -8,4 +9,4 @@ pub returns-in-Ok-clause-shown : goal.returns-in-Ok-clause-shown
 unfolding encoding_from
 returns-in-Ok-clause-shown c =
     let h = c.in-Ok.ensures.shown in
-    ((Puts h.0, h.2), rw h.3 refl, (ap Codes (names_put h.0 _ h.4.0), h.4.1))
+    ((Puts (puts_of h.0), h.2), rw h.3 refl, (ap Codes (names_put (puts_of h.0) _ h.4.0), h.4.1))

@@ -1,5 +1,5 @@
 use Rattle.t1_font.proofs.laws.reads_as_spelled.Goals as goal
-use Rattle.t1_font.specs.Encoding.{array_end, array_start, code, code_entry, encoding_end, encoding_loop, encoding_start, encoding_table, encoding_word, octal}
+use Rattle.t1_font.specs.Encoding.{array_end, array_start, code, put_entry, one_copy, range_copy, code_entry, encoding_end, encoding_loop, encoding_start, encoding_table, encoding_word, octal}
 use Rattle.t1_font.specs.Entry.{body, length_from}
 use Rattle.t1_font.specs.Markers.{chars_marker, closefile, encoding_marker, len_iv, len_iv_marker, subrs_marker}
 use Rattle.t1_font.specs.Words.{decimal, keyword, name, next_name, one_white, phrase_of, word}
@@ -23,7 +23,10 @@ returns c = record {
   starts = λ d. exact (encoding_start d);
   octals = exact octal;
   code_numbers = exact code;
-  codes = λ d. exact (code_entry d);
+  code_entries = λ d. exact (code_entry d);
+  puts = λ d. exact (put_entry d);
+  copies = λ d. exact (one_copy d);
+  range_copies = λ d. exact (range_copy d);
   encoding_ends = λ d. exact (encoding_end d);
   array_starts = λ d. exact (array_start d);
   array_ends = λ d. exact (array_end d);

@@ -1,0 +1,64 @@
+-- What the entries of an Encoding put, copies among them.
+use Rattle.std.proofs.Common.{◌≡◌, ℕ, zero, suc, ◌+◌, ◌-◌, ◌<◌, List, [], ◌∷◌, ◌++◌, length, refl, sym, ap, ◌∙◌, append_assoc, arith}
+use Rattle.std.specs.Prelude.{map, unwrap_or}
+use Rattle.std.specs.Ordering.{nat_cmp}
+use Rattle.std.specs.Cmp.{nat_cmp_total}
+use Rattle.std.specs.FinSet.{nat_cmp-IsAntisymmetric}
+use Rattle.std.specs.FinMap.{insert}
+use Rattle.std.proofs.lemmas.List.{append-nil}
+use Rattle.t1_font.specs.FontValue.{Numbered, notdef}
+use Rattle.t1_font.specs.Encoding.{CodeEntry, Put, Copy, name_after, copied, put_by, puts_after, puts_of}
+use Rattle.t1_font.specs.Entries.{map_of}
+use Rattle.t1_font.specs.Gathering.{name_in, names_in, named_from, kept_by}
+use Rattle.t1_font.proofs.MapLaws.{get-map_of}
+use Rattle.t1_font.proofs.HeldLemmas.{one_code_more}
+
+-- ---- names in turn
+
+-- one more name of so many
+pub names_turn : (codes : Numbered) (from n i : ℕ) (done : List (List ℕ)) (name : List ℕ) (all : List (List ℕ)) → i < n → name ≡ name_in codes (from + i) →
+    done ++ names_in codes (from + i) (n - i) ≡ all → (done ++ name ∷ []) ++ names_in codes (from + (i + 1)) (n - (i + 1)) ≡ all
+names_turn codes from n i done name all below is so_far =
+    let more : n - i ≡ suc (n - (i + 1)) = omega (arith, below) in
+    let next : from + (i + 1) ≡ suc (from + i) = omega arith in
+    append_assoc done (name ∷ []) (names_in codes (from + (i + 1)) (n - (i + 1)))
+    ∙ (ap (λ (ns : List (List ℕ)). done ++ ns)
+    ((λ j. is j ∷ names_in codes (next j) (n - (i + 1))) ∙ ap (names_in codes (from + i)) (sym more)) ∙ so_far)
+
+-- there are so many
+pub names_count : (codes : Numbered) (from n : ℕ) → length (names_in codes from n) ≡ n
+names_count codes from zero = refl
+names_count codes from (suc n) = ap suc (names_count codes (suc from) n)
+
+-- ---- entries in turn
+
+-- one more entry puts its own behind those before it
+pub puts_push : (puts : List (ℕ × List ℕ)) (es : List CodeEntry) (e : CodeEntry) → puts_after puts (es ++ e ∷ []) ≡ puts_after puts es ++ put_by (puts_after puts es) e
+puts_push puts [] e = refl
+puts_push puts (f ∷ es) e = puts_push (puts ++ put_by puts f) es e
+
+-- entries that put one name each are the puts
+pub puts_plain : (puts es : List (ℕ × List ℕ)) → puts_after puts (map (λ e. Put e.0 e.1) es) ≡ puts ++ es
+puts_plain puts [] = sym (append-nil puts)
+puts_plain puts (e ∷ es) = puts_plain (puts ++ e ∷ []) es ∙ append_assoc puts (e ∷ []) es
+
+-- names that are copied are those of the puts before
+copies_kept : (n from to : ℕ) (old now : Numbered) (before puts : List (ℕ × List ℕ)) → old ≡ map_of before → now ≡ map_of puts →
+    named_from now to (names_in old from n) ≡ map_of (puts ++ copied before from n to)
+copies_kept zero from to old now before puts o h = h ∙ ap (map_of {R = nat_cmp}) (sym (append-nil puts))
+copies_kept (suc n) from to old now before puts o h =
+    let put : ℕ × List ℕ = (to, name_after before from) in
+    let name : name_in old from ≡ name_after before from =
+    ap (λ m. name_in m from) o ∙ ap (λ x. unwrap_or x notdef) (get-map_of nat_cmp_total nat_cmp-IsAntisymmetric before from) in
+    let one : insert now to (name_in old from) ≡ map_of (puts ++ put ∷ []) = one_code_more puts put now _ (ap (insert now to) name) h in
+    copies_kept n (suc from) (suc to) old (insert now to (name_in old from)) before (puts ++ put ∷ []) o one
+    ∙ ap (map_of {R = nat_cmp}) (append_assoc puts (put ∷ []) (copied before (suc from) n (suc to)))
+
+-- what one entry puts is held with what is held before
+entry_kept : (e : CodeEntry) (puts : List (ℕ × List ℕ)) (codes : Numbered) → codes ≡ map_of puts → kept_by codes e ≡ map_of (puts ++ put_by puts e)
+entry_kept (Put c n) puts codes h = one_code_more puts (c, n) codes _ refl h
+entry_kept (Copy from count to) puts codes h = copies_kept count from to codes codes puts puts h h
+
+-- one more entry
+pub one_entry_more : (es : List CodeEntry) (e : CodeEntry) (codes next : Numbered) → next ≡ kept_by codes e → codes ≡ map_of (puts_of es) → next ≡ map_of (puts_of (es ++ e ∷ []))
+one_entry_more es e codes next kept h = kept ∙ (entry_kept e (puts_of es) codes h ∙ ap (map_of {R = nat_cmp}) (sym (puts_push [] es e)))

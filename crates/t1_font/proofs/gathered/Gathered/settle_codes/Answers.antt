@@ -1,0 +1,20 @@
+use Rattle.std.proofs.Common.{◌∙◌, drop, refl}
+use Rattle.std.proofs.lemmas.Cmp.{nat_cmp_total}
+use Rattle.std.specs.FinSet.{nat_cmp-IsAntisymmetric}
+use Rattle.std.specs.Ordering.{nat_cmp}
+use Rattle.t1_font.specs.Gathering.{gathered_subrs, gathered_glyphs}
+use Rattle.t1_font.proofs.Lasts.{settled_map}
+use Rattle.t1_font.proofs.gathered.Gathered.settle_codes.Goals as goal
+
+pub returns : goal.returns
+returns c =
+    let settled =
+        settled_map (λ k. k) nat_cmp nat_cmp nat_cmp_total (λ x y. refl) c.self.inside.codes.items c.settle.new.entries.items
+        nat_cmp-IsAntisymmetric (λ n. n.now) c.in_ok-self-inside.ensures.settled in
+    (λ i. record {
+      rest = drop c.self.inside.at c.self.inside.buffer.items;
+      codes = settled i;
+      subrs = gathered_subrs c.self.inside.buffer.items c.self.inside.subrs.items;
+      glyphs = gathered_glyphs c.self.inside.buffer.items c.self.inside.glyphs.items;
+    })
+    ∙ c.self.view_is
