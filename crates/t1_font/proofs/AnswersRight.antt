@@ -1,11 +1,11 @@
 -- What was answered, by the relations.
 use Rattle.std.proofs.Common.{◌≡◌, ◌∙◌, sym, subst, ℕ, List, [], ◌∷◌, Result, Ok, Err, get_or, Fits, w8, suc}
 use Rattle.t1_bytes.specs.Laws.{AreBytes}
-use Rattle.t1_font.specs.declared.dialect.Dialect.TheVariants.{Strict}
+use Rattle.t1_font.specs.declared.dialect.Dialect.{Dialect}
 use Rattle.t1_font.specs.declared.fault.ReadFault.{ReadFault}
 use Rattle.t1_font.specs.declared.fault.ReadFault.TheVariants.{TooLong, BadSegment, NoEexec, ShortCipher, NoEncoding, BadEncoding, NoCharStrings, BadLenIV, BadSubrs, BadGlyphs, Hybrid, NoClosefile, NoNotdef, Limit, Memory}
-use Rattle.t1_font.specs.ReadFont.{read_font}
-use Rattle.t1_font.specs.Reasons.{Refuses}
+use Rattle.t1_font.specs.ReadFont.{font_file}
+use Rattle.t1_font.specs.Reasons.{RefusesIn}
 use Rattle.t1_font.specs.Answers.{Refused, Shown, Answers}
 use Rattle.t1_font.proofs.Spelled.{refuses}
 
@@ -25,19 +25,19 @@ answers_same (Ok x) r s same h = same ∙ h
 answers_same (Err e) r s same h = subst (Refused e) (sym same) h
 
 -- a fault that reading gives is refused for its reason
-pub fault_right : (file : List ℕ) (e : ReadFault) → Refused e (read_font file) → Refuses file e
-fault_right file Memory h = tt
-fault_right file TooLong h = refuses Strict file TooLong h
-fault_right file (BadSegment at) h = refuses Strict file (BadSegment at) h
-fault_right file NoEexec h = refuses Strict file NoEexec h
-fault_right file ShortCipher h = refuses Strict file ShortCipher h
-fault_right file NoEncoding h = refuses Strict file NoEncoding h
-fault_right file (BadEncoding at) h = refuses Strict file (BadEncoding at) h
-fault_right file NoCharStrings h = refuses Strict file NoCharStrings h
-fault_right file BadLenIV h = refuses Strict file BadLenIV h
-fault_right file (BadSubrs at) h = refuses Strict file (BadSubrs at) h
-fault_right file (BadGlyphs at) h = refuses Strict file (BadGlyphs at) h
-fault_right file Hybrid h = refuses Strict file Hybrid h
-fault_right file NoClosefile h = refuses Strict file NoClosefile h
-fault_right file NoNotdef h = refuses Strict file NoNotdef h
-fault_right file Limit h = refuses Strict file Limit h
+pub fault_right : (d : Dialect) (file : List ℕ) (e : ReadFault) → Refused e (font_file d file).read → RefusesIn d file e
+fault_right d file Memory h = tt
+fault_right d file TooLong h = refuses d file TooLong h
+fault_right d file (BadSegment at) h = refuses d file (BadSegment at) h
+fault_right d file NoEexec h = refuses d file NoEexec h
+fault_right d file ShortCipher h = refuses d file ShortCipher h
+fault_right d file NoEncoding h = refuses d file NoEncoding h
+fault_right d file (BadEncoding at) h = refuses d file (BadEncoding at) h
+fault_right d file NoCharStrings h = refuses d file NoCharStrings h
+fault_right d file BadLenIV h = refuses d file BadLenIV h
+fault_right d file (BadSubrs at) h = refuses d file (BadSubrs at) h
+fault_right d file (BadGlyphs at) h = refuses d file (BadGlyphs at) h
+fault_right d file Hybrid h = refuses d file Hybrid h
+fault_right d file NoClosefile h = refuses d file NoClosefile h
+fault_right d file NoNotdef h = refuses d file NoNotdef h
+fault_right d file Limit h = refuses d file Limit h

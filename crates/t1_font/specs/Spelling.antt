@@ -7,7 +7,7 @@ use Rattle.t1_grammar.specs.Tables.{TableAt, CountedAt}
 use Rattle.t1_bytes.specs.Segments.{IsFlat}
 use Rattle.t1_bytes.specs.Eexec.{eexec_marker, cipher_text}
 use Rattle.t1_font.specs.declared.dialect.Dialect.{Dialect}
-use Rattle.t1_font.specs.declared.dialect.Dialect.TheVariants.{Strict}
+use Rattle.t1_font.specs.declared.dialect.Dialect.TheVariants.{Strict, Wide}
 use Rattle.t1_font.specs.Subrs.{subr, subrs_end}
 use Rattle.t1_font.specs.Markers.{encoding_marker, subrs_marker, chars_marker, len_iv_marker, len_iv, closefile}
 use Rattle.t1_font.specs.Words.{next_name}
@@ -120,3 +120,7 @@ pub record SpellsIn (d : Dialect) (file : List ℕ) (font : FontValue) : Type 0 
 -- the font that a file spells
 abbrev pub Spells : List ℕ → FontValue → Type 0
 Spells = SpellsIn Strict
+
+-- the same, where comments, copies of codes and `readonly` may stand as other programs write them
+abbrev pub SpellsWidely : List ℕ → FontValue → Type 0
+SpellsWidely = SpellsIn Wide

@@ -9,12 +9,12 @@ ghost use Rattle.t1_join.specs.TableMeaning.{Rises};
 ghost use Rattle.t1_font.specs.FontValue.{count_limit};
 ghost use Rattle.t1_font.specs.Gathering.{gathered_codes};
 ghost use Rattle.t1_font.specs.Pieces.{ClearPieces, PrivatePieces, flat_pieces};
-ghost use Rattle.t1_font.specs.ReadFont.{font_of, flat_text, file_pieces, font_from, font_texts, font_file, read_font};
+ghost use Rattle.t1_font.specs.ReadFont.{font_of, flat_text, file_pieces, font_from, font_texts, font_file, read_font, read_font_widely};
 ghost use Rattle.t1_bytes.specs.Laws.{AreBytes};
 ghost use Rattle.t1_font.specs.Answers.{Answers, Shown, ShowsClear, ShowsPrivate, encoding_view, declared_in};
 ghost use Rattle.t1_font.specs.Sources.{kept_encoding, codes_of};
-ghost use Rattle.t1_font.specs.Spelling.{Spells};
-ghost use Rattle.t1_font.specs.Reasons.{Refuses};
+ghost use Rattle.t1_font.specs.Spelling.{SpellsIn, Spells, SpellsWidely};
+ghost use Rattle.t1_font.specs.Reasons.{RefusesIn, Refuses, RefusesWidely};
 
 use crate::dialect::Dialect;
 use crate::encoding::{ClearParts, EncodingParts, clear_parts};
@@ -253,6 +253,18 @@ fn are_bytes(bytes: &[u8])
     let _bytes = bytes;
 }
 
+/// Reads a font file that is spelled in a dialect.
+fn read_in(alloc: Global, dialect: Dialect, file: Vec<u8>) -> Result<Source, ReadFault>
+    ensures right { MatchResult result (SpellsIn dialect file.items) (RefusesIn dialect file.items) }
+    ensures exact { Answers (λ f. f) result (font_file dialect file.items).read }
+{
+    are_bytes(file.as_slice());
+    match file_parts(alloc, dialect, file) {
+        Ok(parts) => Ok(Source { parts }),
+        Err(fault) => Err(fault),
+    }
+}
+
 /// Reads a font file that is handed over, as [`read`] reads one that is lent. The answer owns the file's vector, in which
 /// a binary cipher was decrypted in place; a hexadecimal cipher takes another half of the memory of its digits.
 ///
@@ -263,11 +275,19 @@ pub fn read_vec(alloc: Global, file: Vec<u8>) -> Result<Source, ReadFault>
     ensures right { MatchResult result (Spells file.items) (Refuses file.items) }
     ensures exact { Answers (λ f. f) result (read_font file.items) }
 {
-    are_bytes(file.as_slice());
-    match file_parts(alloc, Dialect::Strict, file) {
-        Ok(parts) => Ok(Source { parts }),
-        Err(fault) => Err(fault),
-    }
+    read_in(alloc, Dialect::Strict, file)
+}
+
+/// Reads a font file that is handed over, as [`read_wide`] reads one that is lent.
+///
+/// # Errors
+///
+/// Those of [`read_wide`].
+pub fn read_wide_vec(alloc: Global, file: Vec<u8>) -> Result<Source, ReadFault>
+    ensures right { MatchResult result (SpellsWidely file.items) (RefusesWidely file.items) }
+    ensures exact { Answers (λ f. f) result (read_font_widely file.items) }
+{
+    read_in(alloc, Dialect::Wide, file)
 }
 
 /// Reads a font file: PFA or PFB, in any spelling of the Type 1 grammar that this library accepts
@@ -285,6 +305,25 @@ pub fn read(alloc: Global, file: &[u8]) -> Result<Source, ReadFault>
 {
     match Vec::from_slice(alloc, file) {
         Ok(file) => read_vec(alloc, file),
+        Err(_) => Err(ReadFault::Memory),
+    }
+}
+
+/// Reads a font file as [`read`] does, and takes what other programs write beside it: comments between the words of an
+/// Encoding, before the entries of Subrs and before the words that close them; in an Encoding's table copies of names of
+/// codes (`dup dup TO exch FROM get put` and `dup dup FROM COUNT getinterval TO exch putinterval`), each within the 256
+/// codes; and `readonly` behind a word that is the whole Encoding. It reads a copy of the file; [`read_wide_vec`] takes the
+/// file itself.
+///
+/// # Errors
+///
+/// The first fault, as [`read`] has it; `at` is the offset of the first entry that doesn't parse behind any comments.
+pub fn read_wide(alloc: Global, file: &[u8]) -> Result<Source, ReadFault>
+    ensures right { MatchResult result (SpellsWidely file.now) (RefusesWidely file.now) }
+    ensures exact { Answers (λ f. f) result (read_font_widely file.now) }
+{
+    match Vec::from_slice(alloc, file) {
+        Ok(file) => read_wide_vec(alloc, file),
         Err(_) => Err(ReadFault::Memory),
     }
 }

@@ -47,7 +47,7 @@ mod writing;
 pub use cut::{STUB, restrict};
 pub use evening::even_shells;
 pub use fault::ReadFault;
-pub use file::{read, read_vec};
+pub use file::{read, read_vec, read_wide, read_wide_vec};
 pub use filling::{fill_all, stub_indices};
 pub use font::{Font, Indices, Names, Part};
 pub use lent::{Named, NamedEntries, Numbered, NumberedEntries};

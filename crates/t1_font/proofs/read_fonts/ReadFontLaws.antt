@@ -25,7 +25,7 @@ use Rattle.t1_font.specs.Charstrings.{plain_of}
 use Rattle.t1_font.specs.Pieces.{ClearPieces, SubrsPieces, PrivatePieces}
 use Rattle.t1_font.specs.FontValue.{FontValue, SubrsShell, notdef, declared_count, count_limit, IsWithin}
 use Rattle.t1_font.specs.Entries.{map_of, last_entries, last_value}
-use Rattle.t1_font.specs.ReadFont.{of_first, subrs_of, subrs_shell, glyph_entries, shell_of, font_of, read_font}
+use Rattle.t1_font.specs.ReadFont.{font_file, of_first, subrs_of, subrs_shell, glyph_entries, shell_of, font_of, read_font}
 use Rattle.t1_font.specs.Spelling.{IsPrivate, IsCut, Texts, SpellsIn}
 use Rattle.t1_font.specs.Canon.{canon}
 use Rattle.t1_font.specs.IsFont.{IsWord, IsPhrase, IsPrivateShell, SubrWords, SubrsFit, AreGlyphs, IsFont, HasBytes}
@@ -176,12 +176,12 @@ spelled_font d file f h s =
     })
 
 -- what is read of a file of bytes is a font
-pub read_is_font : (file : List ℕ) (f : FontValue) → AreBytes file → read_font file ≡ Ok f → IsFont f
-read_is_font file f h e = spelled_font Strict file f h (reads Strict file f e)
+pub read_is_font : (d : Dialect) (file : List ℕ) (f : FontValue) → AreBytes file → (font_file d file).read ≡ Ok f → IsFont f
+read_is_font d file f h e = spelled_font d file f h (reads d file f e)
 
 -- a font is a value of bytes that its own canonical file spells
 pub font_exactly : (f : FontValue) → (IsFont f → HasBytes f × (read_font (canon f Pfb) ≡ Ok f)) × (HasBytes f × (read_font (canon f Pfb) ≡ Ok f) → IsFont f)
-font_exactly f = (λ h. (has_bytes f h, round_trip f Pfb h tt), λ s. read_is_font (canon f Pfb) f (canon_bytes f Pfb s.0) s.1)
+font_exactly f = (λ h. (has_bytes f h, round_trip f Pfb h tt), λ s. read_is_font Strict (canon f Pfb) f (canon_bytes f Pfb s.0) s.1)
 
 -- ---- the first byte
 
