@@ -14,8 +14,9 @@ mod many;
 mod prefixes;
 mod rows;
 mod tables;
+mod wide;
 
-use crate::{Form, ReadFault, Source, read, read_vec, write};
+use crate::{Form, ReadFault, Source, read, read_vec, read_wide, read_wide_vec, write};
 use std::alloc::{AllocError, Global};
 use t1_bytes::{EEXEC_KEY, EEXEC_LEAD, seal};
 
@@ -89,14 +90,22 @@ fn counts(alloc: Global, file: &[u8]) -> Result<(usize, u32), ReadFault> {
     }
 }
 
-/// Why a file spells no font, or `None` if it spells one; both calls say the same.
-fn fault_of(alloc: Global, file: &[u8]) -> Option<ReadFault> {
-    let lent = read(alloc, file).err();
-    let handed_over = match Vec::from_slice(alloc, file) {
+/// Why a file that is handed over spells no font, or `None` if it spells one.
+fn fault_handed_over(alloc: Global, file: &[u8], wide: bool) -> Option<ReadFault> {
+    match Vec::from_slice(alloc, file) {
+        Ok(file) if wide => read_wide_vec(alloc, file).err(),
         Ok(file) => read_vec(alloc, file).err(),
         Err(_) => Some(ReadFault::Memory),
-    };
-    if lent == handed_over {
+    }
+}
+
+/// Why a file spells no font, or `None` if it spells one; all four calls say the same.
+fn fault_of(alloc: Global, file: &[u8]) -> Option<ReadFault> {
+    let lent = read(alloc, file).err();
+    let wide = read_wide(alloc, file).err();
+    let handed_over = fault_handed_over(alloc, file, false);
+    let wide_handed_over = fault_handed_over(alloc, file, true);
+    if lent == wide && lent == handed_over && lent == wide_handed_over {
         lent
     } else {
         Some(ReadFault::Memory)

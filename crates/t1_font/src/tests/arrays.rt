@@ -8,7 +8,7 @@ use std::test::Fail;
 use t1_tiny::PFA;
 
 /// Tiny's PFA with this text behind its `/Encoding`.
-fn encoded(alloc: Global, encoding: &[u8]) -> Result<Vec<u8>, AllocError> {
+pub(super) fn encoded(alloc: Global, encoding: &[u8]) -> Result<Vec<u8>, AllocError> {
     let tiny: &[u8] = PFA;
     let Some(end) = tiny.find(b"readonly def") else {
         return Err(AllocError);
