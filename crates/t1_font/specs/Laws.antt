@@ -6,9 +6,9 @@ use Rattle.t1_grammar.specs.Grammar.{IsExact, first}
 use Rattle.t1_font.specs.declared.fault.ReadFault.{ReadFault}
 use Rattle.t1_font.specs.FontValue.{FontValue, name_cmp}
 use Rattle.t1_font.specs.Entries.{map_of, names_of, last_value, unless_notdef}
-use Rattle.t1_font.specs.ReadFont.{read_font}
-use Rattle.t1_font.specs.Spelling.{Spells}
-use Rattle.t1_font.specs.Reasons.{Reason}
+use Rattle.t1_font.specs.ReadFont.{read_font, read_font_widely}
+use Rattle.t1_font.specs.Spelling.{Spells, SpellsWidely}
+use Rattle.t1_font.specs.Reasons.{Reason, WideReason}
 use Rattle.t1_font.specs.declared.dialect.Dialect.{Dialect}
 use Rattle.t1_font.specs.Words.{one_white, word, keyword, decimal, name, phrase_of, next_name}
 use Rattle.t1_font.specs.Markers.{encoding_marker, subrs_marker, chars_marker, len_iv_marker, len_iv, closefile}
@@ -69,6 +69,13 @@ SpellsOne = (file : List ℕ) (f g : FontValue) → Spells file f → Spells fil
 -- the fault is the reason
 abbrev pub RefusesForReason : Type 0
 RefusesForReason = (file : List ℕ) (e : ReadFault) → (read_font file ≡ Err e) ↔ Reason file e
+
+-- the same of files that may be spelled widely; and a file that spells a font spells the same font widely
+pub record ReadsWidely : Type 0 where
+  pub spelled : (file : List ℕ) (font : FontValue) → (read_font_widely file ≡ Ok font) ↔ SpellsWidely file font
+  pub one : (file : List ℕ) (f g : FontValue) → SpellsWidely file f → SpellsWidely file g → f ≡ g
+  pub reason : (file : List ℕ) (e : ReadFault) → (read_font_widely file ≡ Err e) ↔ WideReason file e
+  pub same : (file : List ℕ) (font : FontValue) → Spells file font → SpellsWidely file font
 
 -- of a repeated index, name or code the last entry stands, and a code whose last name is `.notdef` has none
 pub record LastStands : Type 0 where

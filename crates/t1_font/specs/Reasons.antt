@@ -10,6 +10,10 @@ use Rattle.t1_font.specs.ReadFont.{font_file}
 abbrev pub Reason : List ℕ → ReadFault → Type 0
 Reason file e = (font_file Strict file).Reason e
 
+-- the reason for a fault of reading widely
+abbrev pub WideReason : List ℕ → ReadFault → Type 0
+WideReason file e = (font_file Wide file).Reason e
+
 -- which refusals are right in a dialect; want of memory always is
 abbrev pub RefusesIn : Dialect → List ℕ → ReadFault → Type 0
 RefusesIn d file Memory = Unit {0}

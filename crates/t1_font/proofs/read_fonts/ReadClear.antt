@@ -56,7 +56,7 @@ word_in OpensPuts = None
 word_in OpensNames = None
 
 -- a word is its own Encoding
-word_start : (d : Dialect) (w bytes rest : List ℕ) → AtFront (encoding_start d) bytes (Whole w, rest) → (text : List ℕ) × (bytes ≡ text ++ rest) × (encoding_word d).Spells w text rest
+pub word_start : (d : Dialect) (w bytes rest : List ℕ) → AtFront (encoding_start d) bytes (Whole w, rest) → (text : List ℕ) × (bytes ≡ text ++ rest) × (encoding_word d).Spells w text rest
 unfolding encoding_start
 word_start d w bytes rest a = elim a.2 [
   | inl t ↦
