@@ -1,5 +1,6 @@
 -- What is known of the marker and the cipher that were read, and the split of a flat text.
-use Rattle.std.proofs.Common.{◌≡◌, ℕ, ◌≤◌, ◌-◌, List, ◌++◌, length, drop, Option, Some, None, Result, Ok, Err, MatchResult, refl, sym, ap, ◌∙◌, arith, inl, inr}
+use Rattle.std.proofs.Common.{◌≡◌, ℕ, ◌≤◌, ◌-◌, List, ◌++◌, length, drop, Option, Some, None, Result, Ok, Err}
+use Rattle.std.proofs.Common.{MatchResult, refl, sym, ap, ◌∙◌, arith, inl, inr}
 use Rattle.std.specs.Prelude.{codes}
 use Rattle.std.proofs.lemmas.List.{length-append}
 use Rattle.std.proofs.Math.Seq.{drop-append-add}
@@ -53,12 +54,14 @@ split_lacks flat (inr (marker, at, inl short)) = absurd cc
 split_lacks flat (inr (marker, at, inr (secret, there, none))) = absurd none
 
 -- a flat text without the marker is refused as NoEexec
-pub split_absent : (flat : List ℕ) → option_map (λ (x : (List ℕ × List ℕ) × List ℕ). x.1) ((first eexec_marker).read flat) ≡ None → split_of flat ≡ Err NoEexec
+pub split_absent : (flat : List ℕ) → option_map (λ (x : (List ℕ × List ℕ) × List ℕ). x.1) ((first eexec_marker).read flat) ≡ None →
+    split_of flat ≡ Err NoEexec
 unfolding split
 split_absent flat e = rw (marker_absent ((first eexec_marker).read flat) e) refl
 
 -- a flat text with the marker is split after the first one, at the cipher that follows
-pub split_found : (flat after : List ℕ) → option_map (λ (x : (List ℕ × List ℕ) × List ℕ). x.1) ((first eexec_marker).read flat) ≡ Some after → split_of flat ≡ placed (length flat - length after) (cipher_of after)
+pub split_found : (flat after : List ℕ) → option_map (λ (x : (List ℕ × List ℕ) × List ℕ). x.1) ((first eexec_marker).read flat) ≡ Some after →
+    split_of flat ≡ placed (length flat - length after) (cipher_of after)
 unfolding split
 split_found flat after e =
     rw (marker_found ((first eexec_marker).read flat) after e).1
@@ -86,7 +89,8 @@ err_placed (BadSegment at) n cipher r = ap (placed n) r
 -- ---- what was answered
 
 -- an answer that agrees with the split as a function is right by its relation
-pub split_answers : {X : Type 0} (view : X → ℕ × List ℕ) (flat : List ℕ) (r : Result X BytesFault) → Answers view r (split_of flat) → MatchResult r (λ x. IsSplit flat (view x).0 (view x).1) (OrMemory (SplitFails flat))
+pub split_answers : {X : Type 0} (view : X → ℕ × List ℕ) (flat : List ℕ) (r : Result X BytesFault) → Answers view r (split_of flat) →
+    MatchResult r (λ x. IsSplit flat (view x).0 (view x).1) (OrMemory (SplitFails flat))
 split_answers view flat (Ok x) h = (split flat).takes (view x) h
 split_answers view flat (Err Memory) h = tt
 split_answers view flat (Err NoEexec) h = (split flat).refuses NoEexec h

@@ -1,5 +1,6 @@
 -- The data of segments, moved to the front of their file.
-use Rattle.std.proofs.Common.{◌≡◌, ℕ, ◌+◌, ◌-◌, ◌≤◌, Bool, true, List, [], ◌∷◌, ◌++◌, length, take, drop, Some, None, Ok, Err, refl, sym, ap, ap₂, ◌∙◌, append_assoc, arith}
+use Rattle.std.proofs.Common.{◌≡◌, ℕ, ◌+◌, ◌-◌, ◌≤◌, Bool, true, List, [], ◌∷◌, ◌++◌, length, take, drop}
+use Rattle.std.proofs.Common.{Some, None, Ok, Err, refl, sym, ap, ap₂, ◌∙◌, append_assoc, arith}
 use Rattle.std.specs.List.{copy_within, flat_map}
 use Rattle.std.proofs.lemmas.List.{flat_map_more, length-append, length-drop, drop-drop, take_at, drop_at}
 use Rattle.std.proofs.lemmas.List.Edits.{take-paste, drop-paste, length-paste}
@@ -26,14 +27,16 @@ none_moved file =
 pub joined_end : (file now : List ℕ) (len at : ℕ) (x : List ℕ × List ℕ) → starts_segment file ≡ true → Joins file now len at →
     end.read (drop at now) ≡ Some x → flat_of file ≡ Ok (take len now)
 joined_end file now len at x s j e =
-    ap (λ (b : Bool). (flat_when b file).read) s ∙ rw (closes segment end segment_eats j.pieces (drop at now) x _ e j.so_far) (ap (λ (u : List ℕ). Ok u) (sym j.data_is))
+    ap (λ (b : Bool). (flat_when b file).read) s
+    ∙ rw (closes segment end segment_eats j.pieces (drop at now) x _ e j.so_far) (ap (λ (u : List ℕ). Ok u) (sym j.data_is))
 
 -- where neither a segment nor the end stands, the file is bad
 pub joined_bad : (file now : List ℕ) (len at : ℕ) → starts_segment file ≡ true → Joins file now len at →
     end.read (drop at now) ≡ None → segment.read (drop at now) ≡ None → flat_of file ≡ Err at
 joined_bad file now len at s j c e =
     let place : length file - length (drop at now) ≡ at = omega (arith, length-drop at now, j.within, j.size) in
-    ap (λ (b : Bool). (flat_when b file).read) s ∙ rw (breaks segment end segment_eats j.pieces (drop at now) _ c e j.so_far) (ap (λ (n : ℕ). Err n) place)
+    ap (λ (b : Bool). (flat_when b file).read) s
+    ∙ rw (breaks segment end segment_eats j.pieces (drop at now) _ c e j.so_far) (ap (λ (n : ℕ). Err n) place)
 
 regroup : (a b c d r : List ℕ) → (a ++ (b ++ (c ++ d))) ++ r ≡ (a ++ (b ++ c)) ++ (d ++ r)
 regroup a b c d r =

@@ -21,15 +21,15 @@ abbrev pub flat_when : Bool → List ℕ → Format ℕ (List ℕ)
 flat_when true file = joined file
 flat_when false file = give file
 
--- the flat text of a file, which consists of segments if it begins with 128; or the place where it is bad
+-- the flat text of a file, or the place where it is bad
 abbrev pub flat_text : List ℕ → Format ℕ (List ℕ)
 flat_text file = flat_when (starts_segment file) file
 
--- this is the flat text of a file
+-- the flat text of a file: of one that begins with 128 its segments' data, of any other the file itself
 abbrev pub IsFlat : List ℕ → List ℕ → Type 0
 IsFlat file flat = (flat_text file).Spells flat
 
--- a file is bad at this place
+-- a file that begins with 128 is bad at a place: segments stand before it, and there neither a segment nor the end
 abbrev pub IsBad : List ℕ → ℕ → Type 0
 IsBad file at = (flat_text file).Reason at
 

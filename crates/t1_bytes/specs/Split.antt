@@ -8,18 +8,18 @@ use Rattle.t1_bytes.specs.declared.eexec.Cipher.{Cipher}
 use Rattle.t1_bytes.specs.declared.eexec.Cipher.TheVariants.{Last, Spelled}
 use Rattle.t1_bytes.specs.Eexec.{eexec_marker, cipher_text}
 
--- the offset of what follows the first marker, with which the clear text ends, and the cipher there
+-- the offset of what follows the first marker, and the cipher there
 unfoldable pub split : List ℕ → Format BytesFault (ℕ × List ℕ)
 split flat = do
   marker ← sought NoEexec eexec_marker flat
   secret ← wanted ShortCipher cipher_text marker.1
   give (length flat - length marker.1, secret.0)
 
--- a flat text is split at this offset, and this is its cipher
+-- A flat text is split at the offset `at`: through there it is its clear text, which ends with the first marker, and this is the cipher that follows.
 abbrev pub IsSplit : List ℕ → ℕ → List ℕ → Type 0
 IsSplit flat at cipher = (split flat).Spells (at, cipher)
 
--- Why a flat text isn't split: it has no marker, or no cipher follows the first one.
+-- Why a flat text isn't split: it has no marker, or no cipher follows the first one. Want of memory is no reason of the text.
 abbrev pub SplitFails : List ℕ → BytesFault → Type 0
 SplitFails flat fault = (split flat).Reason fault
 

@@ -7,9 +7,8 @@ use Rattle.std.proofs.lemmas.Slice.Eq.{bytes_eq-Decides}
 use Rattle.std.proofs.lemmas.Option.{cond_some, option_and_then_some}
 use Rattle.std.proofs.lemmas.List.{length-append}
 use Rattle.t1_grammar.specs.Grammar.{Grammar, fixed}
-use Rattle.t1_grammar.specs.TableLaws.{Eats, Apart}
+use Rattle.t1_grammar.specs.TableLaws.{Eats, Eats-spelled, Apart}
 use Rattle.t1_bytes.specs.White.{is_white, gap}
-use Rattle.t1_bytes.proofs.SegmentLemmas.{Eats-spelled}
 use Rattle.t1_font.specs.Words.{is_regular, word, keyword, name, phrase_of, passes, next_name}
 use Rattle.t1_font.specs.Encoding.{code_entry, encoding_end}
 use Rattle.t1_font.specs.Entry.{Body, body, entry}

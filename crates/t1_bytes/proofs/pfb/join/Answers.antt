@@ -12,7 +12,8 @@ pub returns-in-Some : goal.returns-in-Some
 returns-in-Some c =
     let now = c.segments.file.items in
     let rest : c.split_at.result.1.now ≡ drop c.segments.at now = c.split_at.ensures.back ∙ ap (drop c.segments.at) c.as_slice-in-segments.ensures.value in
-    let starts : starts_segment c.args.file.now.items ≡ true = ap starts_segment (sym c.as_slice.ensures.value) ∙ (sym c.is_segmented.ensures ∙ c.if-not-is_segmented.false) in
+    let starts : starts_segment c.args.file.now.items ≡ true =
+    ap starts_segment (sym c.as_slice.ensures.value) ∙ (sym c.is_segmented.ensures ∙ c.if-not-is_segmented.false) in
     joined_end c.args.file.now.items now c.segments.len c.segments.at _ starts c.segments.invariant (ap end.read (sym rest) ∙ sym c.in-Some.ensures)
     ∙ ap (λ (u : List ℕ). Ok u) (sym c.truncate.ensures.items)
 
@@ -20,7 +21,8 @@ pub returns-in_default-segment_at : goal.returns-in_default-segment_at
 returns-in_default-segment_at c =
     let now = c.segments.file.items in
     let rest : c.split_at.result.1.now ≡ drop c.segments.at now = c.split_at.ensures.back ∙ ap (drop c.segments.at) c.as_slice-in-segments.ensures.value in
-    let starts : starts_segment c.args.file.now.items ≡ true = ap starts_segment (sym c.as_slice.ensures.value) ∙ (sym c.is_segmented.ensures ∙ c.if-not-is_segmented.false) in
+    let starts : starts_segment c.args.file.now.items ≡ true =
+    ap starts_segment (sym c.as_slice.ensures.value) ∙ (sym c.is_segmented.ensures ∙ c.if-not-is_segmented.false) in
     joined_bad c.args.file.now.items now c.segments.len c.segments.at starts c.segments.invariant (ap end.read (sym rest) ∙ sym c.in_default.ensures)
     (ap segment.read (sym rest) ∙ sym c.in_default-segment_at.ensures)
 
