@@ -6,8 +6,9 @@ use Rattle.t1_bytes.specs.declared.form.Form.TheVariants.{Pfa, Pfb}
 use Rattle.t1_grammar.specs.Grammar.{first_at}
 use Rattle.t1_grammar.specs.Tables.{table_within}
 use Rattle.t1_bytes.specs.White.{gap}
-use Rattle.t1_bytes.specs.Segments.{flat_of}
-use Rattle.t1_bytes.specs.Eexec.{eexec_marker, cipher_text, split_of}
+use Rattle.t1_bytes.specs.FlatText.{flat_of}
+use Rattle.t1_bytes.specs.Eexec.{eexec_marker, cipher_text}
+use Rattle.t1_bytes.specs.Split.{split, split_of}
 use Rattle.t1_bytes.specs.Texts.{hex_lines, trailer, pfb_text, file_text}
 
 -- ---- flat texts
@@ -34,36 +35,36 @@ other_file = refl
 -- ---- splits
 
 no_bytes : split_of [] ≡ Err NoEexec
-unfolding split_of first_at eexec_marker gap
+unfolding split first_at eexec_marker gap
 no_bytes = refl
 
 nothing_after : split_of (codes "currentfile eexec") ≡ Err NoEexec
-unfolding split_of first_at eexec_marker gap
+unfolding split first_at eexec_marker gap
 nothing_after = refl
 
 no_white : split_of (codes "currentfileeexec abcd") ≡ Err NoEexec
-unfolding split_of first_at eexec_marker gap
+unfolding split first_at eexec_marker gap
 no_white = refl
 
 three_bytes : split_of (codes "currentfile eexec xyz") ≡ Err ShortCipher
-unfolding split_of first_at eexec_marker gap cipher_text
+unfolding split first_at eexec_marker gap cipher_text
 three_bytes = refl
 
 two_bytes : split_of (codes "currentfile eexec d9d6") ≡ Err ShortCipher
-unfolding split_of first_at eexec_marker gap cipher_text
+unfolding split first_at eexec_marker gap cipher_text
 two_bytes = refl
 
 binary : split_of (codes "xcurrentfile eexec d9dg") ≡ Ok (18, codes "d9dg")
-unfolding split_of first_at eexec_marker gap cipher_text
+unfolding split first_at eexec_marker gap cipher_text
 binary = refl
 
 first_of_two : split_of (codes "currentfile eexec currentfile eexec z") ≡ Ok (17, codes "currentfile eexec z")
-unfolding split_of first_at eexec_marker gap cipher_text
+unfolding split first_at eexec_marker gap cipher_text
 first_of_two = refl
 
 -- digits of either case, white space among them, and an odd one
 hexadecimal : split_of (codes "currentfile eexec D9d6 6f" ++ (0 ∷ 12 ∷ codes "633g")) ≡ Ok (17, 0xD9 ∷ 0xD6 ∷ 0x6F ∷ 0x63 ∷ [])
-unfolding split_of first_at eexec_marker gap cipher_text
+unfolding split first_at eexec_marker gap cipher_text
 hexadecimal = refl
 
 -- ---- lines

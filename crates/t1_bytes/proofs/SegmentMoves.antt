@@ -1,18 +1,42 @@
 -- The data of segments, moved to the front of their file.
-use Rattle.std.proofs.Common.{◌≡◌, ℕ, ◌+◌, ◌-◌, ◌≤◌, List, [], ◌++◌, length, take, drop, Some, None, refl, sym, ap, ap₂, ◌∙◌, append_assoc, arith}
-use Rattle.std.specs.List.{copy_within}
-use Rattle.std.proofs.lemmas.List.{length-append, length-drop, drop-drop, take_at, drop_at}
+use Rattle.std.proofs.Common.{◌≡◌, ℕ, ◌+◌, ◌-◌, ◌≤◌, Bool, true, List, [], ◌∷◌, ◌++◌, length, take, drop}
+use Rattle.std.proofs.Common.{Some, None, Ok, Err, refl, sym, ap, ap₂, ◌∙◌, append_assoc, arith}
+use Rattle.std.specs.List.{copy_within, flat_map}
+use Rattle.std.proofs.lemmas.List.{flat_map_more, length-append, length-drop, drop-drop, take_at, drop_at}
 use Rattle.std.proofs.lemmas.List.Edits.{take-paste, drop-paste, length-paste}
-use Rattle.t1_grammar.specs.Tables.{table_at}
-use Rattle.t1_bytes.specs.Segments.{segment, end, joined}
-use Rattle.t1_bytes.proofs.SegmentLemmas.{joined_turn}
+use Rattle.t1_grammar.specs.Tables.{with_front, table_at}
+use Rattle.t1_grammar.specs.TableLaws.{front_nil, turns, closes, breaks}
+use Rattle.t1_bytes.specs.Segments.{segment, end, segment_eats}
+use Rattle.t1_bytes.specs.FlatText.{starts_segment, flat_when, flat_of}
 
 -- the front of a buffer is the flat text so far, and what stands from an offset on is the rest of the file
 pub record Joins (file now : List ℕ) (len at : ℕ) : Type 0 where
   pub front : len ≤ at
   pub within : at ≤ length now
   pub size : length now ≡ length file
-  pub so_far : joined (take len now) (table_at segment end (drop at now)) (length file) ≡ joined [] (table_at segment end file) (length file)
+  pub pieces : List (List ℕ)
+  pub data_is : take len now ≡ flat_map (λ piece. piece) pieces
+  pub so_far : with_front pieces (table_at segment end (drop at now)) ≡ table_at segment end file
+
+-- at the start no segment was read
+pub none_moved : (file : List ℕ) → Joins file file 0 0
+none_moved file =
+    record { front = omega arith; within = omega arith; size = refl; pieces = []; data_is = refl; so_far = sym (front_nil (table_at segment end file)) }
+
+-- at the end of the segments the flat text is whole
+pub joined_end : (file now : List ℕ) (len at : ℕ) (x : List ℕ × List ℕ) → starts_segment file ≡ true → Joins file now len at →
+    end.read (drop at now) ≡ Some x → flat_of file ≡ Ok (take len now)
+joined_end file now len at x s j e =
+    ap (λ (b : Bool). (flat_when b file).read) s
+    ∙ rw (closes segment end segment_eats j.pieces (drop at now) x _ e j.so_far) (ap (λ (u : List ℕ). Ok u) (sym j.data_is))
+
+-- where neither a segment nor the end stands, the file is bad
+pub joined_bad : (file now : List ℕ) (len at : ℕ) → starts_segment file ≡ true → Joins file now len at →
+    end.read (drop at now) ≡ None → segment.read (drop at now) ≡ None → flat_of file ≡ Err at
+joined_bad file now len at s j c e =
+    let place : length file - length (drop at now) ≡ at = omega (arith, length-drop at now, j.within, j.size) in
+    ap (λ (b : Bool). (flat_when b file).read) s
+    ∙ rw (breaks segment end segment_eats j.pieces (drop at now) _ c e j.so_far) (ap (λ (n : ℕ). Err n) place)
 
 regroup : (a b c d r : List ℕ) → (a ++ (b ++ (c ++ d))) ++ r ≡ (a ++ (b ++ c)) ++ (d ++ r)
 regroup a b c d r =
@@ -61,5 +85,8 @@ moved file now len at size next x j stop e is_size is_next =
       front = omega (arith, whole, is_size, is_next, j.front);
       within = omega (arith, whole, is_next, same);
       size = same ∙ j.size;
-      so_far = ap₂ (λ (u v : List ℕ). joined u (table_at segment end v) (length file)) text rest ∙ joined_turn (take len now) (drop at now) x (length file) _ stop e j.so_far;
+      pieces = j.pieces ++ x.0 ∷ [];
+      data_is = text ∙ (ap (λ (u : List ℕ). u ++ x.0) j.data_is ∙ flat_map_more (λ piece. piece) [] j.pieces x.0);
+      so_far = ap (λ (u : List ℕ). with_front (j.pieces ++ x.0 ∷ []) (table_at segment end u)) rest
+          ∙ turns segment end segment_eats j.pieces (drop at now) x _ stop e j.so_far;
     }

@@ -1,12 +1,7 @@
--- The end of the clear text, and the cipher after it (Adobe Type 1 Font Format 1.1, chapter 7).
-use Rattle.std.specs.Prelude.{◌≡◌, ℕ, ◌+◌, ◌-◌, ◌*◌, ◌==◌, ◌&&◌, ◌||◌, nat_le, Bool, true, false, List, [], ◌∷◌, ◌++◌, length, take, drop, take_while, filter, codes, unwrap_or, Option, Some, None, Result, Ok, Err}
-use Rattle.std.specs.Global.{Vec}
+-- The marker that ends the clear text, and the cipher after it (Adobe Type 1 Font Format 1.1, chapter 7).
+use Rattle.std.specs.Prelude.{ℕ, ◌+◌, ◌*◌, ◌==◌, ◌&&◌, ◌||◌, nat_le, Bool, true, false, List, [], ◌∷◌, ◌++◌, length, take, take_while, filter, codes, unwrap_or}
 use Rattle.hex.specs.Hex.{is_hex_digit, hex_digit_value}
-use Rattle.t1_bytes.specs.declared.fault.BytesFault.{BytesFault}
-use Rattle.t1_bytes.specs.declared.fault.BytesFault.TheVariants.{BadSegment, NoEexec, ShortCipher, Memory}
-use Rattle.t1_bytes.specs.declared.eexec.Cipher.{Cipher}
-use Rattle.t1_bytes.specs.declared.eexec.Cipher.TheVariants.{Last, Spelled}
-use Rattle.t1_grammar.specs.Grammar.{Grammar, pure, ◌>>=◌, ◌>>◌, that, run, before, fixed, either, all, first, AtFront, NotAtFront, Lacks}
+use Rattle.t1_grammar.specs.Grammar.{Grammar, pure, ◌>>=◌, ◌>>◌, that, run, before, fixed, either, all}
 use Rattle.t1_bytes.specs.White.{is_white, gap}
 
 -- ---- the marker
@@ -79,52 +74,3 @@ unfoldable pub cipher_text : Grammar (List ℕ)
 cipher_text = that has_four (do
   run is_blank
   either hex_cipher all)
-
--- ---- the split
-
--- A flat text is split at the offset `at`: through there it is its clear text, which ends with the first marker, and this is the cipher that follows.
-pub record IsSplit (flat : List ℕ) (at : ℕ) (cipher : List ℕ) : Type 0 where
-  pub front : List ℕ
-  pub marker : List ℕ
-  pub after : List ℕ
-  pub rest : List ℕ
-  pub first_marker : AtFront (first eexec_marker) flat ((front, marker), after)
-  pub secret : AtFront cipher_text after (cipher, rest)
-  pub place : at ≡ length front + length marker
-
--- Why a flat text isn't split: it has no marker, or no cipher follows the first one. Want of memory is no reason of the text.
-abbrev pub SplitFails : List ℕ → BytesFault → Type 0
-SplitFails flat NoEexec = Lacks eexec_marker flat
-SplitFails flat ShortCipher = (front marker after : List ℕ) × AtFront (first eexec_marker) flat ((front, marker), after) × NotAtFront cipher_text after
-SplitFails flat (BadSegment at) = ⊥
-SplitFails flat Memory = ⊥
-
--- an answer of code, its cipher as bytes
-abbrev pub split_view : ℕ × Vec ℕ → ℕ × List ℕ
-split_view x = (x.0, x.1.items)
-
--- the cipher of a text, where code says it is
-abbrev pub cipher_in : List ℕ → Cipher → List ℕ
-cipher_in text (Last n) = drop (length text - n) text
-cipher_in text (Spelled v) = v.items
-
--- how many of the last bytes of a text are the cipher
-abbrev pub last_bytes : Cipher → ℕ
-last_bytes (Last n) = n
-last_bytes (Spelled v) = 0
-
--- ---- the same, as a function
-
--- the cipher, or that it is too short
-abbrev pub or_short : {A B : Type 0} → (A → B) → Option A → Result B BytesFault
-or_short f (Some x) = Ok (f x)
-or_short f None = Err ShortCipher
-
--- the split at a marker that was found, if one was
-abbrev pub split_after : Option ((List ℕ × List ℕ) × List ℕ) → Result (ℕ × List ℕ) BytesFault
-split_after None = Err NoEexec
-split_after (Some found) = or_short (λ secret. (length found.0.0 + length found.0.1, secret.0)) (cipher_text.read found.1)
-
--- the offset after `eexec` and the cipher, or why there is none
-unfoldable pub split_of : List ℕ → Result (ℕ × List ℕ) BytesFault
-split_of flat = split_after ((first eexec_marker).read flat)

@@ -1,6 +1,6 @@
 -- What a function returned, against what its definition gives.
 use Rattle.std.specs.Prelude.{◌≡◌, ℕ, List, Result, Ok, Err}
-use Rattle.t1_bytes.specs.Segments.{IsBad}
+use Rattle.t1_bytes.specs.FlatText.{IsBad}
 use Rattle.t1_bytes.specs.declared.fault.BytesFault.{BytesFault}
 use Rattle.t1_bytes.specs.declared.fault.BytesFault.TheVariants.{BadSegment, Memory, NoEexec, ShortCipher}
 

@@ -6,8 +6,10 @@ use Rattle.t1_bytes.specs.declared.fault.BytesFault.TheVariants.{NoEexec}
 use Rattle.t1_bytes.specs.Cipher.{Enciphers, encrypted, decrypted, sealed, opened}
 use Rattle.t1_grammar.specs.Grammar.{AtFront, IsExact, count, fixed, first}
 use Rattle.t1_bytes.specs.White.{white, gap}
-use Rattle.t1_bytes.specs.Segments.{segment, end, IsFlat, IsBad}
-use Rattle.t1_bytes.specs.Eexec.{eexec_marker, blank_comes, is_hex_text, hex_cipher, cipher_text, IsSplit, SplitFails}
+use Rattle.t1_bytes.specs.Segments.{segment, end}
+use Rattle.t1_bytes.specs.FlatText.{IsFlat, IsBad}
+use Rattle.t1_bytes.specs.Eexec.{eexec_marker, blank_comes, is_hex_text, hex_cipher, cipher_text}
+use Rattle.t1_bytes.specs.Split.{IsSplit, SplitFails}
 use Rattle.t1_bytes.specs.Texts.{pfb_text, hex_lines, trailer}
 
 -- what is read of counted bytes, of a fixed text, of white space, of segments and their end, of the marker and of the cipher

@@ -1,9 +1,11 @@
 pub mod Cipher
 pub mod White
 pub mod Segments
+pub mod FlatText
 pub mod Limits
 pub mod Faults
 pub mod FaultTexts
 pub mod Eexec
+pub mod Split
 pub mod Texts
 pub mod Laws

@@ -1,10 +1,14 @@
--- Segments of a PFB file, and the flat text of a file (Technical Note 5040; what ends a file is this project's own choice).
-use Rattle.std.specs.Prelude.{◌≡◌, ℕ, ◌+◌, ◌-◌, ◌==◌, ◌||◌, MatchBool, Bool, true, false, List, [], ◌∷◌, ◌++◌, length, Result, Ok, Err, if◌then◌else◌}
-use Rattle.std.specs.List.{flat_map}
+-- Segments of a PFB file (Technical Note 5040; what ends a file is this project's own choice).
+use Rattle.std.proofs.Common.{suc, cond, eqb, leb, arith, refl, sym, ap, ◌∙◌}
+use Rattle.std.specs.Prelude.{◌≡◌, ℕ, ◌||◌, ◌&&◌, Bool, true, false, List, [], ◌∷◌, length, Option, Some, None}
+use Rattle.std.specs.Option.{option_and_then}
 use Rattle.std.specs.Str.{bytes_eq}
+use Rattle.std.proofs.lemmas.Bool.{eqb-true, and_parts, le-leb}
+use Rattle.std.proofs.lemmas.List.{length-append}
+use Rattle.std.proofs.lemmas.Option.{none-some}
 use Rattle.byteorder.specs.Endian.{little_number}
 use Rattle.t1_grammar.specs.Grammar.{Grammar, pure, ◌>>=◌, ◌>>◌, that, count, fixed, before, either}
-use Rattle.t1_grammar.specs.Tables.{Table, table_at, IsTable, BreaksOff}
+use Rattle.t1_grammar.specs.TableLaws.{Eats, Eats-spelled, Apart}
 
 -- a segment of text or of binary data: 128, the kind, the length in four bytes, least significant first, and the data
 abbrev pub segment : Grammar (List ℕ)
@@ -25,36 +29,32 @@ end = either (do
   before is_nil
   pure []) (fixed (128 ∷ 3 ∷ []))
 
--- the first byte is 128
-abbrev pub starts_segment : List ℕ → Bool
-starts_segment [] = false
-starts_segment (b ∷ bs) = b == 128
+-- ---- a list of segments has one reading
 
--- A file is segments up to their end, and a rest that is ignored; its flat text is the data of the segments, joined in order.
-pub record IsJoined (file flat : List ℕ) : Type 0 where
-  pub pieces : List (List ℕ)
-  pub stop : List ℕ
-  pub text : List ℕ
-  pub rest : List ℕ
-  pub whole : file ≡ text ++ rest
-  pub segments : IsTable segment end pieces stop text rest
-  pub data_is : flat ≡ flat_map (λ piece. piece) pieces
+-- a segment has at least one byte
+pub segment_eats : Eats segment
+segment_eats = Eats-spelled segment (λ a text rest s. omega (arith, ap length s.3, length-append s.1 s.2, ap length s.4.0.0, s.4.0.1))
 
--- the flat text of a file: of one that begins with 128 its segments' data, of any other the file itself
-abbrev pub IsFlat : List ℕ → List ℕ → Type 0
-IsFlat file flat = MatchBool (starts_segment file) (IsJoined file flat) (flat ≡ file)
+skip_none : {A B : Type 0} (f : A → Option B) (t : Bool) (y : A) → f y ≡ None → option_and_then f (cond t (Some y) None) ≡ None
+skip_none f true y e = e
+skip_none f false y e = refl
 
--- a file that begins with 128 is bad at a place: segments stand before it, and there neither a segment nor the end
-abbrev pub IsBad : List ℕ → ℕ → Type 0
-IsBad file at = (left : List ℕ) × (starts_segment file ≡ true) × BreaksOff segment end file left × (at + length left ≡ length file)
+not_three : (a : ℕ) (bytes : List ℕ) → segment.read (a ∷ 3 ∷ bytes) ≡ None
+not_three a bytes =
+    let one : leb 1 (suc (suc (length bytes))) ≡ true = le-leb _ _ (omega arith) in
+    let two : leb 1 (suc (length bytes)) ≡ true = le-leb _ _ (omega arith) in
+    let kind : (that (λ k. bytes_eq k (1 ∷ []) || bytes_eq k (2 ∷ [])) (count 1)).read (3 ∷ bytes) ≡ None = rw two refl in
+    rw one (skip_none _ (eqb 128 a && true) (a ∷ [], 3 ∷ bytes) (rw kind refl))
 
--- ---- the same, as a function
+test_false : (a b : ℕ) (bytes : List ℕ) (x : List ℕ × List ℕ) → segment.read (a ∷ b ∷ bytes) ≡ Some x → (t : Bool) → (eqb 128 a && (eqb 3 b && true)) ≡ t → t ≡ false
+test_false a b bytes x e true h = absurd (none-some x (sym (not_three a bytes) ∙ (ap (λ k. segment.read (a ∷ k ∷ bytes)) (eqb-true 3 b (and_parts _ _ (and_parts _ _ h).1).0) ∙ e)))
+test_false a b bytes x e false h = refl
 
--- what the segments hold after flat, in a file of len bytes
-abbrev pub joined : List ℕ → Table (List ℕ) (List ℕ) → ℕ → Result (List ℕ) ℕ
-joined flat (Ok x) len = Ok (flat ++ flat_map (λ piece. piece) x.0)
-joined flat (Err left) len = Err (len - length left)
-
--- the flat text of a file, or the place where it is bad
-abbrev pub flat_of : List ℕ → Result (List ℕ) ℕ
-flat_of file = if starts_segment file then joined [] (table_at segment end file) (length file) else Ok file
+-- no segment begins where an end stands
+pub segment_apart : Apart segment end
+segment_apart [] x e = absurd cc
+segment_apart (a ∷ []) x e = refl
+segment_apart (a ∷ b ∷ bytes) x e =
+    let one : leb 2 (suc (suc (length bytes))) ≡ true = le-leb _ _ (omega arith) in
+    let two = test_false a b bytes x e _ refl in
+    rw (one, two) refl

@@ -3,9 +3,12 @@
 ghost use Rattle.std.specs.Prelude.{◌≡◌, ◌≤◌, ℕ, List, Some, Ok, Err, IfOk, MatchResult, length, take_while};
 ghost use Rattle.std.specs.Option.{option_map};
 ghost use Rattle.t1_grammar.specs.Grammar.{run, first, exact};
-ghost use Rattle.t1_bytes.specs.Eexec.{is_blank, blank_comes, eexec_marker, is_hex_text, cipher_text, split_view, cipher_in, last_bytes, IsSplit, SplitFails, or_short, split_of};
+ghost use Rattle.t1_grammar.specs.Formats.{if_ok, or_fault};
+ghost use Rattle.t1_bytes.specs.Eexec.{is_blank, blank_comes, eexec_marker, is_hex_text, cipher_text};
+ghost use Rattle.t1_bytes.specs.Split.{split_view, cipher_in, last_bytes, IsSplit, SplitFails, split_of};
 ghost use Rattle.t1_bytes.specs.Faults.{Answers, OrMemory};
 ghost use Rattle.t1_bytes.specs.declared.fault.BytesFault.{BytesFault};
+ghost use Rattle.t1_bytes.specs.declared.fault.BytesFault.TheVariants.{ShortCipher};
 
 use crate::digits::{hex_bytes, is_hex_digit};
 use crate::fault::BytesFault;
@@ -94,7 +97,7 @@ pub enum Cipher {
 #[tactic(auto, unfolding(crate::specs::Eexec::cipher_text, crate::specs::Eexec::spelled_ahead, crate::specs::Eexec::digits_ahead))]
 fn cipher_after(alloc: Global, after: &[u8]) -> Result<Cipher, BytesFault>
     ensures cipher { Answers (cipher_in after.now) result
-        (or_short (λ x. x.0) (cipher_text.read after.now)) }
+        (if_ok (λ x. Ok x.0) (or_fault ShortCipher (cipher_text.read after.now))) }
     ensures last { IfOk result (λ c. last_bytes c ≤ length after.now) }
 {
     let text = after_blanks(after);

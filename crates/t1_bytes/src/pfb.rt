@@ -3,7 +3,8 @@
 ghost use Rattle.std.specs.Prelude.{◌≡◌, ◌++◌, ◌≤◌, ◌<◌, ◌^◌, ℕ, List, length, Ok, Err, MatchResult, OnOk, IfOk, IfErr};
 ghost use Rattle.std.specs.Option.{option_map};
 ghost use Rattle.t1_bytes.specs.declared.fault.BytesFault.TheVariants.{Memory};
-ghost use Rattle.t1_bytes.specs.Segments.{segment, end, starts_segment, IsFlat, IsBad, flat_of};
+ghost use Rattle.t1_bytes.specs.Segments.{segment, end};
+ghost use Rattle.t1_bytes.specs.FlatText.{starts_segment, IsFlat, IsBad, flat_of};
 ghost use Rattle.t1_bytes.specs.Limits.{file_limit};
 ghost use Rattle.t1_bytes.specs.Texts.{segment_text, pfb_text};
 ghost use Rattle.t1_bytes.specs.Faults.{Gives, Refuses};

@@ -1,12 +1,13 @@
 -- A flat text is no longer than its file, and a cipher is no longer than its flat text.
-use Rattle.std.proofs.Common.{◌≡◌, ℕ, ◌≤◌, suc, inl, inr, Bool, true, false, cond, List, [], ◌∷◌, ◌++◌, length, MatchBool, MatchResult, Ok, ap, arith, subst}
+use Rattle.std.proofs.Common.{◌≡◌, ℕ, ◌≤◌, suc, inl, inr, Bool, true, false, cond, List, [], ◌∷◌, ◌++◌, length, Ok, ap, arith}
 use Rattle.std.specs.Prelude.{filter}
 use Rattle.std.specs.List.{flat_map}
 use Rattle.std.proofs.lemmas.List.{length-append}
 use Rattle.t1_grammar.specs.Tables.{Entries}
-use Rattle.t1_bytes.specs.Segments.{segment, starts_segment, IsJoined, IsFlat, IsBad, flat_of}
-use Rattle.t1_bytes.specs.Eexec.{paired, cipher_text, IsSplit}
-use Rattle.t1_bytes.proofs.SegmentLemmas.{flat_is}
+use Rattle.t1_bytes.specs.Segments.{segment}
+use Rattle.t1_bytes.specs.FlatText.{starts_segment, flat_when, flat_text, IsFlat, flat_of}
+use Rattle.t1_bytes.specs.Eexec.{paired, cipher_text}
+use Rattle.t1_bytes.specs.Split.{split, IsSplit}
 
 piece_short : (piece text rest : List ℕ) → segment.Spells piece text rest → length piece ≤ length text
 piece_short piece text rest s =
@@ -20,13 +21,14 @@ pieces_short (p ∷ ps) text rest s =
 flat_short : (file flat : List ℕ) → IsFlat file flat → length flat ≤ length file
 flat_short file flat s = by_start (starts_segment file) s
   where
-    by_start : (b : Bool) → MatchBool b (IsJoined file flat) (flat ≡ file) → length flat ≤ length file
+    by_start : (b : Bool) → (flat_when b file).Spells flat → length flat ≤ length file
     by_start true j =
-        omega (arith, ap length j.whole, length-append j.text j.rest, ap length j.segments.2, length-append j.segments.0 j.segments.1, pieces_short j.pieces j.segments.0 (j.segments.1 ++ j.rest) j.segments.3, ap length j.data_is)
+        let t = j.1.2 in
+        omega (arith, ap length j.1.1, length-append j.1.0 j.0.2, ap length t.2, length-append t.0 t.1, pieces_short j.0.0 t.0 (t.1 ++ j.0.2) t.3, ap length j.2)
     by_start false e = omega (arith, ap length e)
 
 pub flat_no_longer : (file flat : List ℕ) → flat_of file ≡ Ok flat → length flat ≤ length file
-flat_no_longer file flat e = flat_short file flat (subst (λ (r : _). MatchResult r (IsFlat file) (IsBad file)) e (flat_is file))
+flat_no_longer file flat e = flat_short file flat ((flat_text file).takes flat e)
 
 -- ---- the cipher
 
@@ -55,7 +57,9 @@ cipher_short cipher text rest s = elim s.0.5 [
 ]
 
 pub split_no_longer : (flat : List ℕ) (at : ℕ) (cipher : List ℕ) → IsSplit flat at cipher → length cipher ≤ length flat
+unfolding split
 split_no_longer flat at cipher s =
-    let front = s.first_marker in
-    let secret = s.secret in
-    omega (arith, ap length front.1, length-append front.0 s.after, ap length secret.1, length-append secret.0 s.rest, cipher_short cipher secret.0 s.rest secret.2)
+    let front = s.1 in
+    let secret = s.2.1 in
+    let short = cipher_short s.2.0.0 secret.0 s.2.0.1 secret.2 in
+    omega (arith, ap length front.1, length-append front.0 s.0.1, ap length secret.1, length-append secret.0 s.2.0.1, short, ap (λ (x : ℕ × List ℕ). length x.1) s.2.2)

@@ -8,9 +8,8 @@ use Rattle.t1_grammar.specs.Tables.{TableAt}
 use Rattle.t1_grammar.specs.Formats.{MayOccur, occurs_again, one_value}
 use Rattle.t1_bytes.specs.Cipher.{decrypted, private_text}
 use Rattle.t1_bytes.specs.Limits.{file_limit}
-use Rattle.t1_bytes.specs.Segments.{IsFlat}
-use Rattle.t1_bytes.specs.Eexec.{cipher_text}
 use Rattle.t1_font.specs.declared.dialect.Dialect.{Dialect}
+use Rattle.t1_bytes.specs.FlatText.{IsFlat}
 use Rattle.t1_font.specs.declared.fault.ReadFault.{ReadFault}
 use Rattle.t1_font.specs.Glyphs.{Glyph, glyph, glyphs_end}
 use Rattle.t1_font.specs.Encoding.{Opening, Whole, OpensPuts, OpensNames, encoding_start}
@@ -19,27 +18,10 @@ use Rattle.t1_font.specs.Pieces.{FlatPieces, EncodingText, OneWord, Puts, ClearP
 use Rattle.t1_font.specs.Pieces.{flat_pieces, encoding_from, clear_pieces, iv_at, iv_of, through, tail_after, glyphs_from, before_place, tables_from, private_pieces}
 use Rattle.t1_font.specs.FontValue.{FontValue, notdef, IsWithin}
 use Rattle.t1_font.specs.ReadFont.{font_of, flat_text, font_from, font_texts, font_file}
-use Rattle.t1_font.specs.Spelling.{IsCut, SpellsEncoding, IsClear, IsLenIV, said, unsaid, nowhere, later, Start, SpellsTables, HasGlyphs}
+use Rattle.t1_font.specs.Spelling.{SpellsEncoding, IsClear, IsLenIV, said, unsaid, nowhere, later, Start, SpellsTables, HasGlyphs}
 use Rattle.t1_font.specs.Spelling.{IsPrivate, Texts, HasPieces, SpellsIn}
+use Rattle.t1_font.proofs.FileParts.{split_lead}
 use Rattle.t1_font.proofs.ValueLaws.{notdef_is, within_of, within_again, private_enciphers, private_again, lead_length}
-
--- ---- the flat text
-
-cut_is : (flat : List ℕ) (p : FlatPieces) → (flat_pieces flat).Spells p → IsCut flat p.clear p.cipher
-unfolding flat_pieces
-cut_is flat p s =
-    let cut : IsCut flat (s.0.0.0 ++ s.0.0.1) s.2.0.0 =
-    record { front = s.0.0.0; own = s.0.0.1; after = s.0.1; rest = s.2.0.1; marker = s.1; secret = s.2.1; clear_is = refl } in
-    subst (λ (q : FlatPieces). IsCut flat q.clear q.cipher) s.2.2 cut
-
-is_cut : (flat clear cipher : List ℕ) → IsCut flat clear cipher → (flat_pieces flat).Spells (record { clear = clear; cipher = cipher })
-unfolding flat_pieces
-is_cut flat clear cipher s =
-    (((s.front, s.own), s.after), s.marker, ((cipher, s.rest), s.secret, (λ i. record { clear = sym s.clear_is i; cipher = cipher })))
-
-cut_four : (flat clear cipher : List ℕ) → IsCut flat clear cipher → 4 ≤ length cipher
-unfolding cipher_text
-cut_four flat clear cipher s = leb-true 4 (length cipher) s.secret.2.1
 
 -- ---- the clear text
 
@@ -237,25 +219,28 @@ is_font c p f s =
 
 -- ---- the file
 
-texts_are : (file flat : List ℕ) (parts : FlatPieces) → length file ≤ file_limit → IsFlat file flat → IsCut flat parts.clear parts.cipher →
+texts_are : (file flat : List ℕ) (parts : FlatPieces) → length file ≤ file_limit → IsFlat file flat → (flat_pieces flat).Spells parts →
     Texts file parts.clear (private_text parts.cipher)
-texts_are file flat parts short flat_is cut = record {
+unfolding flat_pieces
+texts_are file flat parts short flat_is s = subst (λ (q : FlatPieces). Texts file q.clear (private_text q.cipher)) s.2 (record {
   flat = flat;
-  cipher = parts.cipher;
-  lead = take 4 (decrypted 55665 parts.cipher);
+  at = s.0.0;
+  cipher = s.0.1;
+  lead = take 4 (decrypted 55665 s.0.1);
   short = short;
   flat_is = flat_is;
-  cut = cut;
-  secret = private_enciphers parts.cipher;
-  lead_is = lead_length parts.cipher (cut_four flat parts.clear parts.cipher cut);
-}
+  split = s.1;
+  clear_is = refl;
+  secret = private_enciphers s.0.1;
+  lead_is = lead_length s.0.1 (split_lead flat s.0.0 s.0.1 s.1);
+})
 
 -- what the reading spells is spelled by the file
 pub file_spells : (d : Dialect) (file : List ℕ) (font : FontValue) → (font_file d file).Spells font → SpellsIn d file font
 unfolding font_file flat_text
 file_spells d file font s =
     let parts = s.2.2.0 in
-    let texts = texts_are file s.2.0 parts (leb-true (length file) file_limit s.1) s.2.1 (cut_is s.2.0 parts s.2.2.1) in
+    let texts = texts_are file s.2.0 parts (leb-true (length file) file_limit s.1) s.2.1 s.2.2.1 in
     let t = s.2.2.2 in
     let clear = clear_is d parts.clear t.0 t.1 in
     let private = private_is d (private_text parts.cipher) t.2.0 t.2.1 in
@@ -266,7 +251,7 @@ file_spells d file font s =
 
 -- and the other way round
 pub spells_file : (d : Dialect) (file : List ℕ) (font : FontValue) → SpellsIn d file font → (font_file d file).Spells font
-unfolding font_file flat_text
+unfolding font_file flat_text flat_pieces
 spells_file d file font s =
     let h = s.pieces in
     let t = h.texts in
@@ -274,10 +259,11 @@ spells_file d file font s =
     let private : (private_pieces d (private_text t.cipher)).Spells s.inside =
     subst (λ (x : List ℕ). (private_pieces d x).Spells s.inside) (private_again t.lead h.text t.cipher t.secret t.lead_is)
     (is_private d h.text s.inside h.private_is) in
+    let cut : (flat_pieces t.flat).Spells parts = ((t.at, t.cipher), t.split, (λ i. record { clear = sym t.clear_is i; cipher = t.cipher })) in
     let font_is = is_font s.outside s.inside font (record { value = s.value; has_notdef = s.has_notdef; within = s.within }) in
     let inside : (font_texts d h.clear (private_text t.cipher)).Spells font =
     (s.outside, is_clear d h.clear s.outside h.clear_is, (s.inside, private, font_is)) in
-    (tt, le-leb (length file) file_limit t.short, (t.flat, t.flat_is, (parts, is_cut t.flat h.clear t.cipher t.cut, inside)))
+    (tt, le-leb (length file) file_limit t.short, (t.flat, t.flat_is, (parts, cut, inside)))
 
 -- the font that is read is spelled by the file
 pub reads : (d : Dialect) (file : List ℕ) (font : FontValue) → (font_file d file).read ≡ Ok font → SpellsIn d file font

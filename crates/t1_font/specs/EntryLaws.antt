@@ -7,9 +7,8 @@ use Rattle.std.proofs.lemmas.Slice.Eq.{bytes_eq-Decides}
 use Rattle.std.proofs.lemmas.Option.{cond_some, option_and_then_some}
 use Rattle.std.proofs.lemmas.List.{length-append}
 use Rattle.t1_grammar.specs.Grammar.{Grammar, fixed, either}
-use Rattle.t1_grammar.specs.TableLaws.{Eats, Apart, eats_either, apart_either, apart_behind}
+use Rattle.t1_grammar.specs.TableLaws.{Eats, Eats-spelled, Apart, eats_either, apart_either, apart_behind}
 use Rattle.t1_bytes.specs.White.{is_white, gap}
-use Rattle.t1_bytes.proofs.SegmentLemmas.{Eats-spelled}
 use Rattle.t1_font.specs.declared.dialect.Dialect.{Dialect}
 use Rattle.t1_font.specs.declared.dialect.Dialect.TheVariants.{Strict, Wide}
 use Rattle.t1_font.specs.Dialect.{white_in}

@@ -1,16 +1,17 @@
 -- The pieces of a font's two texts.
-use Rattle.std.specs.Prelude.{ℕ, ◌-◌, nat_lt, List, [], ◌++◌, length, Option, Some, None, if◌then◌else◌}
-use Rattle.t1_bytes.specs.Eexec.{eexec_marker, cipher_text}
-use Rattle.t1_font.specs.declared.fault.ReadFault.TheVariants.{NoEexec, ShortCipher, NoEncoding, BadEncoding, NoCharStrings, BadLenIV, BadSubrs, BadGlyphs, Hybrid, NoClosefile}
+use Rattle.std.specs.Prelude.{ℕ, ◌-◌, nat_lt, List, [], ◌++◌, length, take, Option, Some, None, if◌then◌else◌}
+use Rattle.t1_bytes.specs.Split.{split}
+use Rattle.t1_font.specs.declared.fault.ReadFault.TheVariants.{NoEncoding, BadEncoding, NoCharStrings, BadLenIV, BadSubrs, BadGlyphs, Hybrid, NoClosefile}
 use Rattle.t1_font.specs.declared.dialect.Dialect.{Dialect}
 use Rattle.t1_font.specs.declared.dialect.Dialect.TheVariants.{Strict}
+use Rattle.t1_font.specs.Faults.{read_fault}
 use Rattle.t1_font.specs.Subrs.{Subr, subr, subrs_end}
 use Rattle.t1_font.specs.Markers.{encoding_marker, subrs_marker, chars_marker, len_iv_marker, len_iv, closefile}
 use Rattle.t1_font.specs.Words.{next_name}
 use Rattle.t1_font.specs.Encoding.{Opening, Whole, OpensPuts, OpensNames, encoding_start, code_entry, encoding_end, puts_of, code_count, array_end, from_code}
 use Rattle.t1_font.specs.Glyphs.{Glyph, glyph, glyphs_end}
 use Rattle.t1_font.specs.EntryLaws.{code_entry_eats, code_entry_apart, subr_eats, subr_apart, glyph_eats, glyph_apart}
-use Rattle.t1_font.specs.Reading.{Reading, give, ◌>>=◌, ◌>>◌, wanted, sought, if_sought, lacking, table, counted}
+use Rattle.t1_font.specs.Reading.{Reading, give, ◌>>=◌, ◌>>◌, faulted, wanted, sought, if_sought, lacking, table, counted}
 
 -- ---- the flat text
 
@@ -21,9 +22,8 @@ pub record FlatPieces : Type 0 where
 -- the clear text through the first `currentfile eexec`, and the cipher after it
 unfoldable pub flat_pieces : List ℕ → Reading FlatPieces
 flat_pieces flat = do
-  marker ← sought NoEexec eexec_marker flat
-  cipher ← wanted ShortCipher cipher_text marker.1
-  give (record { clear = marker.0.0 ++ marker.0.1; cipher = cipher.0 })
+  parts ← faulted read_fault (split flat)
+  give (record { clear = take parts.0 flat; cipher = parts.1 })
 
 -- ---- the clear text
 

@@ -1,13 +1,10 @@
 -- Reading a font file.
-use Rattle.std.proofs.Common.{◌∙◌, sym, ap, subst, MatchResult}
-use Rattle.std.specs.Prelude.{◌≡◌, ℕ, ◌&&◌, nat_le, Bool, List, [], ◌∷◌, length, Option, Some, None, Result, Ok, Err}
+use Rattle.std.specs.Prelude.{ℕ, ◌&&◌, nat_le, Bool, List, [], ◌∷◌, length, Option, Some, None, Result}
 use Rattle.std.specs.List.{list_any}
 use Rattle.std.specs.Str.{bytes_eq}
 use Rattle.std.specs.Ordering.{nat_cmp}
 use Rattle.std.specs.Option.{option_map}
-use Rattle.t1_grammar.specs.Formats.{same_Ok, same_Err, ok_err}
-use Rattle.t1_bytes.specs.Segments.{IsFlat, IsBad, flat_of}
-use Rattle.t1_bytes.proofs.SegmentLemmas.{flat_is, flat_again, bad_again}
+use Rattle.t1_bytes.specs.FlatText as files
 use Rattle.t1_bytes.specs.Cipher.{private_text}
 use Rattle.t1_font.specs.declared.fault.ReadFault.{ReadFault}
 use Rattle.t1_font.specs.declared.fault.ReadFault.TheVariants.{TooLong, BadSegment, NoNotdef, Limit}
@@ -19,7 +16,7 @@ use Rattle.t1_font.specs.declared.dialect.Dialect.TheVariants.{Strict, Wide}
 use Rattle.t1_font.specs.Entry.{plain_entries}
 use Rattle.t1_font.specs.Subrs.{Subr}
 use Rattle.t1_font.specs.Pieces.{FlatPieces, EncodingText, OneWord, Puts, ClearPieces, SubrsPieces, PrivatePieces, flat_pieces, clear_pieces, private_pieces}
-use Rattle.t1_font.specs.Reading.{Reading, give, ◌>>=◌, ◌>>◌, must}
+use Rattle.t1_font.specs.Reading.{Reading, give, ◌>>=◌, ◌>>◌, faulted, must}
 
 -- ---- the value of the pieces
 
@@ -71,35 +68,9 @@ font_of c p = record { shell = shell_of c p; encoding = encoding_value c.encodin
 
 -- ---- reading
 
--- a file is bad at a place
-abbrev pub BadText : List ℕ → ReadFault → Type 0
-BadText file e = (at : ℕ) × IsBad file at × (e ≡ BadSegment at)
-
--- the flat text of a file
-abbrev pub bad_segment : Result (List ℕ) ℕ → Result (List ℕ) ReadFault
-bad_segment (Ok flat) = Ok flat
-bad_segment (Err at) = Err (BadSegment at)
-
-pub flat_takes : (file : List ℕ) (o : Result (List ℕ) ℕ) → MatchResult o (IsFlat file) (IsBad file) → (flat : List ℕ) → bad_segment o ≡ Ok flat →
-    IsFlat file flat
-flat_takes file (Ok x) h flat e = subst (IsFlat file) (same_Ok {E = ReadFault} x flat e) h
-flat_takes file (Err at) h flat e = ok_err flat (BadSegment at) (sym e)
-
-pub flat_refuses : (file : List ℕ) (o : Result (List ℕ) ℕ) → MatchResult o (IsFlat file) (IsBad file) → (e : ReadFault) → bad_segment o ≡ Err e → BadText file e
-flat_refuses file (Ok x) h e k = ok_err x e k
-flat_refuses file (Err at) h e k = (at, h, sym (same_Err {E = ReadFault} {A = List ℕ} (BadSegment at) e k))
-
 -- the flat text of a file, or the place of its bad segment
 unfoldable pub flat_text : List ℕ → Reading (List ℕ)
-flat_text file = record {
-  Spells = IsFlat file;
-  Reason = BadText file;
-  read = bad_segment (flat_of file);
-  takes = flat_takes file (flat_of file) (flat_is file);
-  again = λ flat h. ap bad_segment (flat_again file flat h);
-  refuses = flat_refuses file (flat_of file) (flat_is file);
-  refused = λ e h. ap bad_segment (bad_again file h.0 h.1) ∙ ap (λ (d : ReadFault). Err d) (sym h.2);
-}
+flat_text file = faulted BadSegment (files.flat_text file)
 
 -- the clear text of a file, and its cipher
 abbrev pub file_pieces : List ℕ → Reading FlatPieces

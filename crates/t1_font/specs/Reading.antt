@@ -4,7 +4,7 @@ use Rattle.std.specs.Prelude.{ℕ, ◌-◌, List}
 use Rattle.t1_grammar.specs.Grammar.{Grammar}
 use Rattle.t1_grammar.specs.TableLaws.{Eats, Apart}
 use Rattle.t1_grammar.specs.Formats as formats
-pub use Rattle.t1_grammar.specs.Formats.{Format, give, ◌>>=◌, ◌>>◌, must, wanted, sought, if_sought, lacking}
+pub use Rattle.t1_grammar.specs.Formats.{Format, give, ◌>>=◌, ◌>>◌, faulted, must, wanted, sought, if_sought, lacking}
 use Rattle.t1_font.specs.declared.fault.ReadFault.{ReadFault}
 use Rattle.t1_font.specs.declared.dialect.Dialect.{Dialect}
 use Rattle.t1_font.specs.Faults.{left_after_white}

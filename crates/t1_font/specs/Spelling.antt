@@ -1,11 +1,11 @@
 -- Which font a file spells: each piece is a text of its grammar, and each marker is the first of its kind.
-use Rattle.std.specs.Prelude.{◌≡◌, ◌⊎◌, ℕ, ◌≤◌, ◌<◌, true, List, [], ◌++◌, length, Option, Some, None}
+use Rattle.std.specs.Prelude.{◌≡◌, ◌⊎◌, ℕ, ◌≤◌, ◌<◌, true, List, [], ◌++◌, length, take, Option, Some, None}
 use Rattle.std.specs.FinMap as maps
 use Rattle.t1_bytes.specs.Cipher.{Enciphers}
 use Rattle.t1_grammar.specs.Grammar.{first, AtFront, Lacks}
 use Rattle.t1_grammar.specs.Tables.{TableAt, CountedAt}
-use Rattle.t1_bytes.specs.Segments.{IsFlat}
-use Rattle.t1_bytes.specs.Eexec.{eexec_marker, cipher_text}
+use Rattle.t1_bytes.specs.FlatText.{IsFlat}
+use Rattle.t1_bytes.specs.Split.{IsSplit}
 use Rattle.t1_font.specs.declared.dialect.Dialect.{Dialect}
 use Rattle.t1_font.specs.declared.dialect.Dialect.TheVariants.{Strict, Wide}
 use Rattle.t1_font.specs.Subrs.{subr, subrs_end}
@@ -17,16 +17,6 @@ use Rattle.t1_font.specs.Pieces.{EncodingText, OneWord, Puts, ClearPieces, Subrs
 use Rattle.t1_font.specs.FontValue.{FontValue, notdef, IsWithin}
 use Rattle.t1_bytes.specs.Limits.{file_limit}
 use Rattle.t1_font.specs.ReadFont.{font_of}
-
--- clear text through the first `currentfile eexec`, then the cipher's text and a rest
-pub record IsCut (flat clear cipher : List ℕ) : Type 0 where
-  pub front : List ℕ
-  pub own : List ℕ
-  pub after : List ℕ
-  pub rest : List ℕ
-  pub marker : AtFront (first eexec_marker) flat ((front, own), after)
-  pub secret : AtFront cipher_text after (cipher, rest)
-  pub clear_is : clear ≡ front ++ own
 
 -- a table: the puts are those of its entries
 abbrev pub SpellsPuts : Dialect → List (ℕ × List ℕ) → List ℕ → List ℕ → Type 0
@@ -89,14 +79,16 @@ pub record IsPrivate (d : Dialect) (text : List ℕ) (p : PrivatePieces) : Type 
   pub tail : p.tail ≡ front ++ own
   pub single : Lacks subrs_marker p.middle × Lacks subrs_marker p.tail
 
--- the clear text and the private text of a file
+-- the clear text of a file, through its first `currentfile eexec`, and the private text, whose cipher follows
 pub record Texts (file clear text : List ℕ) : Type 0 where
   pub flat : List ℕ
+  pub at : ℕ
   pub cipher : List ℕ
   pub lead : List ℕ
   pub short : length file ≤ file_limit
   pub flat_is : IsFlat file flat
-  pub cut : IsCut flat clear cipher
+  pub split : IsSplit flat at cipher
+  pub clear_is : clear ≡ take at flat
   pub secret : Enciphers 55665 (lead ++ text) cipher
   pub lead_is : length lead ≡ 4
 

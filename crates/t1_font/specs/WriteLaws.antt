@@ -4,7 +4,7 @@ use Rattle.std.specs.FinMap.{get, len}
 use Rattle.t1_bytes.specs.declared.form.Form.{Form}
 use Rattle.t1_bytes.specs.declared.form.Form.TheVariants.{Pfa, Pfb}
 use Rattle.t1_bytes.specs.Laws.{AreBytes}
-use Rattle.t1_bytes.specs.Segments.{starts_segment, IsFlat}
+use Rattle.t1_bytes.specs.FlatText.{starts_segment, IsFlat}
 use Rattle.t1_font.specs.FontValue.{FontValue, Encoding, Word, Codes, notdef, count_limit, weight_limit, weight}
 use Rattle.t1_bytes.specs.Limits.{file_limit}
 use Rattle.t1_font.specs.FontModel.{subr_at}

@@ -3,7 +3,7 @@
 ghost use Rattle.std.specs.Prelude.{◌≡◌, ◌≤◌, ◌+◌, length, take, drop, true, IfOk, MatchResult};
 ghost use Rattle.std.specs.Ordering.{nat_cmp};
 ghost use Rattle.t1_bytes.specs.Cipher.{decrypted};
-ghost use Rattle.t1_bytes.specs.Eexec.{cipher_in, last_bytes};
+ghost use Rattle.t1_bytes.specs.Split.{cipher_in, last_bytes};
 ghost use Rattle.t1_bytes.specs.Limits.{file_limit};
 ghost use Rattle.t1_join.specs.TableMeaning.{Rises};
 ghost use Rattle.t1_font.specs.FontValue.{count_limit};

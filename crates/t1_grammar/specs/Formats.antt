@@ -35,6 +35,22 @@ ok_err x y e = absurd cc
 pub one_value : {E A : Type 0} (r : Format E A) (a b : A) → r.Spells a → r.Spells b → a ≡ b
 one_value {E} {A} r a b s t = same_Ok {E = E} {A = A} a b (sym (r.again a s) ∙ r.again b t)
 
+-- it has at most one fault
+pub one_fault : {E A : Type 0} (r : Format E A) (d e : E) → r.Reason d → r.Reason e → d ≡ e
+one_fault {E} {A} r d e s t = same_Err {E = E} {A = A} d e (sym (r.refused d s) ∙ r.refused e t)
+
+-- it spells no value where it has a fault
+pub not_both : {E A : Type 0} (r : Format E A) (a : A) (e : E) → r.Spells a → r.Reason e → ⊥
+not_both r a e s t = ok_err a e (sym (r.again a s) ∙ r.refused e t)
+
+-- it spells a value, or it has a fault
+pub one_or_other : {E A : Type 0} (r : Format E A) → ((a : A) × r.Spells a) ⊎ ((e : E) × r.Reason e)
+one_or_other {E} {A} r = by_read r.read refl
+  where
+    by_read : (o : Result A E) → r.read ≡ o → ((a : A) × r.Spells a) ⊎ ((e : E) × r.Reason e)
+    by_read (Ok a) h = inl (a, r.takes a h)
+    by_read (Err e) h = inr (e, r.refuses e h)
+
 -- ---- this value
 
 -- this value, whatever the text is
@@ -96,6 +112,43 @@ r >>= f = record {
 infixl 10 ◌>>◌
 abbrev pub ◌>>◌ : {E A B : Type 0} → Format E A → Format E B → Format E B
 r >> s = r >>= λ _. s
+
+-- one after another, in either grouping
+pub if_ok_twice : {E A B C : Type 0} (o : Result A E) (f : A → Result B E) (g : B → Result C E) → if_ok (λ x. if_ok g (f x)) o ≡ if_ok g (if_ok f o)
+if_ok_twice (Ok x) f g = refl
+if_ok_twice (Err e) f g = refl
+
+-- ---- with other faults
+
+-- the value; or what f makes of the fault
+abbrev pub with_fault : {E F A : Type 0} → (E → F) → Result A E → Result A F
+with_fault f (Ok x) = Ok x
+with_fault f (Err e) = Err (f e)
+
+module _ {E F A : Type 0} (f : E → F) (r : Format E A) where
+  -- what f makes of a reason of r
+  abbrev pub ReasonOf : F → Type 0
+  ReasonOf e = (d : E) × r.Reason d × (e ≡ f d)
+
+  pub fault_takes : (o : Result A E) → r.read ≡ o → (a : A) → with_fault f o ≡ Ok a → r.Spells a
+  fault_takes (Ok x) h a k = subst (λ (y : A). r.Spells y) (same_Ok {E = F} x a k) (r.takes x h)
+  fault_takes (Err d) h a k = ok_err a (f d) (sym k)
+
+  pub fault_refuses : (o : Result A E) → r.read ≡ o → (e : F) → with_fault f o ≡ Err e → ReasonOf e
+  fault_refuses (Ok x) h e k = ok_err x e k
+  fault_refuses (Err d) h e k = (d, r.refuses d h, sym (same_Err {E = F} {A = A} (f d) e k))
+
+  -- the values of r, and its faults as f names them
+  abbrev pub faulted : Format F A
+  faulted = record {
+    Spells = r.Spells;
+    Reason = ReasonOf;
+    read = with_fault f r.read;
+    takes = fault_takes r.read refl;
+    again = λ a s. ap (with_fault f) (r.again a s);
+    refuses = fault_refuses r.read refl;
+    refused = λ e s. ap (with_fault f) (r.refused s.0 s.1) ∙ ap (λ (d : F). Err d) (sym s.2);
+  }
 
 -- ---- where a test holds
 

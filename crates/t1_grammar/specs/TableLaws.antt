@@ -1,7 +1,7 @@
 -- Tables: reading goes entry by entry, and finds what the text spells or the first place where it breaks off.
 use Rattle.std.proofs.Common.{inl, inr}
 use Rattle.std.proofs.Common.{◌≡◌, ℕ, zero, suc, ◌<◌, List, [], ◌∷◌, ◌++◌, length, Option, Some, None, Ok, Err, refl, sym, ap, subst, ◌∙◌, append_assoc, arith}
-use Rattle.std.proofs.lemmas.List.{append-nil}
+use Rattle.std.proofs.lemmas.List.{append-nil, length-append}
 use Rattle.std.specs.Option.{option_and_then}
 use Rattle.t1_grammar.specs.Grammar.{Grammar, either, choice_some, unspelled, unread}
 use Rattle.t1_grammar.specs.Tables.{Entries, IsTable, TableAt, BreaksOff, Table, with_front, table_step, table_within, table_at}
@@ -9,6 +9,10 @@ use Rattle.t1_grammar.specs.Tables.{Entries, IsTable, TableAt, BreaksOff, Table,
 -- an entry has bytes
 abbrev pub Eats : {A : Type 0} → Grammar A → Type 0
 Eats {A} g = (bytes : List ℕ) (x : A × List ℕ) → g.read bytes ≡ Some x → length x.1 < length bytes
+
+-- a grammar whose texts have bytes
+pub Eats-spelled : {A : Type 0} (g : Grammar A) → ((a : A) (text rest : List ℕ) → g.Spells a text rest → 0 < length text) → Eats g
+Eats-spelled g h bytes x e = let s = g.takes bytes x e in omega (arith, ap length s.1, length-append s.0 x.1, h x.0 s.0 x.1 s.2)
 
 -- where an entry can be read, no close can
 abbrev pub Apart : {A B : Type 0} → Grammar A → Grammar B → Type 0

@@ -8,7 +8,9 @@ use Rattle.std.specs.FinMap.{entries}
 use Rattle.t1_bytes.specs.declared.form.Form.{Form}
 use Rattle.t1_bytes.specs.declared.form.Form.TheVariants.{Pfa, Pfb}
 use Rattle.t1_bytes.specs.Cipher.{private_cipher, private_text}
-use Rattle.t1_bytes.specs.Segments.{starts_segment}
+use Rattle.t1_grammar.specs.Formats.{with_fault}
+use Rattle.t1_bytes.specs.FlatText.{starts_segment, flat_when}
+use Rattle.t1_font.specs.declared.fault.ReadFault.TheVariants.{BadSegment}
 use Rattle.t1_bytes.specs.Eexec.{cipher_text}
 use Rattle.t1_bytes.specs.Texts.{pfb_text, segment_text, hex_lines, trailer}
 use Rattle.t1_bytes.proofs.Ciphers.{decrypted_front, length-sealed}
@@ -20,7 +22,7 @@ use Rattle.t1_font.specs.declared.fault.ReadFault.{ReadFault}
 use Rattle.t1_font.specs.FontValue.{FontValue, SubrsShell, Numbered, notdef, count_limit, declared_count, IsWithin}
 use Rattle.t1_bytes.specs.Limits.{file_limit}
 use Rattle.t1_font.specs.Pieces.{EncodingText, OneWord, Puts, ClearPieces, PrivatePieces, flat_pieces, private_pieces}
-use Rattle.t1_font.specs.ReadFont.{font_of, has_notdef, flat_text, bad_segment, font_from, font_file, read_font}
+use Rattle.t1_font.specs.ReadFont.{font_of, has_notdef, flat_text, font_from, font_file, read_font}
 use Rattle.t1_font.specs.Writing.{encoding_text}
 use Rattle.t1_font.specs.Canon.{encoding_pieces, inside_of, outside_of, canon_clear, canon_private, canon}
 use Rattle.t1_font.specs.IsFont.{IsFont, SubrsFit}
@@ -118,7 +120,7 @@ head_starts (b ∷ head) rest e h = h
 
 plain_flat : (file : List ℕ) → starts_segment file ≡ false → (flat_text file).read ≡ Ok file
 unfolding flat_text
-plain_flat file s = rw s refl
+plain_flat file s = ap (λ (b : Bool). with_fault BadSegment (flat_when b file).read) s
 
 -- a PFB within the file limit is read as its three parts
 joined_flat : (clear cipher trailer : List ℕ) → length (pfb_text clear cipher trailer) ≤ file_limit →
@@ -131,7 +133,7 @@ joined_flat clear cipher trailer h =
     let a : length clear < 2 ^ 32 = omega (arith, h, length-append clear c) in
     let b : length cipher < 2 ^ 32 = omega (arith, h, length-append clear c, length-append cipher t) in
     let d : length trailer < 2 ^ 32 = omega (arith, h, length-append clear c, length-append cipher t, length-append trailer e) in
-    ap bad_segment (pfb_flat clear cipher trailer a b d)
+    ap (with_fault BadSegment) (pfb_flat clear cipher trailer a b d)
 
 -- reading the canonical file of a font gives the font
 pub round_trip : (f : FontValue) (form : Form) → IsFont f → Fits form f → read_font (canon f form) ≡ Ok f

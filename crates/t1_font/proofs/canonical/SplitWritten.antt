@@ -1,20 +1,21 @@
 -- The clear text ends where it was written to end.
-use Rattle.std.proofs.Common.{◌≡◌, ℕ, ◌≤◌, ◌<◌, ◌^◌, inl, inr, ◌⊎◌, Bool, true, false, leb, ◌||◌, eqb, ◌&&◌, cond, List, [], ◌∷◌, ◌++◌, one-add, Option, Some, None, Ok, refl, sym, ap, subst, ◌∙◌, append_assoc, arith}
+use Rattle.std.proofs.Common.{◌≡◌, ℕ, ◌≤◌, ◌<◌, ◌^◌, inl, inr, ◌⊎◌, Bool, true, false, leb, ◌||◌, eqb, ◌&&◌, cond, List, [], ◌∷◌, ◌++◌, length, take, ◌-◌, one-add, Option, Some, None, Ok, refl, sym, ap, subst, ◌∙◌, append_assoc, arith}
 use Rattle.std.specs.Prelude.{codes}
 use Rattle.std.specs.Fmt.{decimal as digits}
 use Rattle.std.specs.List.{AllByRecursion}
 use Rattle.std.specs.Option.{option_map, option_and_then}
-use Rattle.std.proofs.lemmas.List.{append-nil, append_cancel_right}
 use Rattle.std.proofs.lemmas.Option.{none-some, same_Some}
 use Rattle.std.proofs.lemmas.Bool.{cases_Bool, leb-true, and_parts, or_parts, not-true, ne_eqb}
 use Rattle.t1_grammar.specs.Grammar.{Grammar, pure, ◌>>=◌, ◌>>◌, before, Stops, NoneIn, first, first_at, fixed, unspelled}
 use Rattle.t1_bytes.specs.White.{is_white, gap}
 use Rattle.t1_bytes.specs.Eexec.{eexec_marker, blank_comes, cipher_text}
+use Rattle.t1_bytes.specs.Split.{split}
 use Rattle.t1_grammar.specs.Places.{prepend}
 use Rattle.t1_font.specs.Words.{is_regular, is_delimiter, is_digit}
 use Rattle.t1_font.specs.Pieces.{EncodingText, OneWord, Puts, flat_pieces}
 use Rattle.t1_font.specs.Writing.{puts_text, encoding_text}
 use Rattle.t1_font.specs.IsFont.{IsCode, NoMarker}
+use Rattle.t1_font.proofs.FileParts.{before_last}
 use Rattle.t1_font.proofs.canonical.Written.{AllRegular, gap_one, digits_are}
 use Rattle.t1_font.proofs.canonical.ClearWritten.{IsEncodingText}
 use Rattle.t1_font.proofs.canonical.Borders.{strip, fixed_strip}
@@ -160,17 +161,6 @@ eexec_found head encoding tail v none ok ends border =
     let regrouped : (head ++ (e ++ tail)) ++ (10 ∷ v) ≡ head ++ (e ++ ((tail ++ 10 ∷ []) ++ v)) = simp append_assoc in
     (((head ++ (e ++ f.0.0.0), f.0.0.1), f.0.1 ++ v), ap (first_at eexec_marker) regrouped ∙ clear, ap (λ (u : List ℕ). u ++ v) f.2)
 
--- the marker's value is its own text
-pub marker_own : (marker own rest : List ℕ) → eexec_marker.Spells marker own rest → own ≡ marker
-unfolding eexec_marker gap
-marker_own marker own rest s =
-    let last : s.5.5.5.2 ≡ [] = s.5.5.5.5.0 in
-    let none : s.5.5.5.1 ≡ [] = s.5.5.5.4.0 in
-    let parts : own ≡ s.0 ++ (s.5.0 ++ (s.5.5.0 ++ ([] ++ []))) =
-    s.3 ∙ (λ i. s.4.0.0 i ++ (s.5.3 ∙ (λ j. s.5.4.0.0 j ++ (s.5.5.3 ∙ (λ k. s.5.5.4.0.0 k ++ (s.5.5.5.3 ∙ (λ l. none l ++ last l)) k)) j)) i) in
-    let flat : s.0 ++ (s.5.0 ++ (s.5.5.0 ++ ([] ++ []))) ≡ s.0 ++ s.5.0 ++ s.5.5.0 = simp (append_assoc, append-nil) in
-    parts ∙ (flat ∙ s.5.5.5.5.1)
-
 -- the line end before the cipher is skipped
 line_skipped : (v : List ℕ) → cipher_text.read (10 ∷ v) ≡ cipher_text.read v
 unfolding cipher_text
@@ -179,10 +169,9 @@ line_skipped v = rw one-add refl
 -- a flat text is split where its first marker ends
 pub split_again : (clear v cipher rest : List ℕ) (x : (List ℕ × List ℕ) × List ℕ) → first_at eexec_marker (clear ++ (10 ∷ v)) ≡ Some x →
     x.1 ≡ 10 ∷ v → cipher_text.read v ≡ Some (cipher, rest) → (flat_pieces (clear ++ (10 ∷ v))).read ≡ Ok (record { clear = clear; cipher = cipher })
-unfolding flat_pieces
+unfolding flat_pieces split
 split_again clear v cipher rest x e after c =
-    let s = (first eexec_marker).takes (clear ++ (10 ∷ v)) x e in
-    let whole : clear ++ (10 ∷ v) ≡ (x.0.0 ++ x.0.1) ++ (10 ∷ v) = s.1 ∙ (λ i. (s.2.1 ∙ ap (λ (u : List ℕ). x.0.0 ++ u) (marker_own x.0.1 s.2.0 x.1 s.2.2)) i ++ after i) in
-    let same : x.0.0 ++ x.0.1 ≡ clear = sym (append_cancel_right clear (x.0.0 ++ x.0.1) (10 ∷ v) whole) in
+    let flat : List ℕ = clear ++ (10 ∷ v) in
+    let same : take (length flat - length x.1) flat ≡ clear = before_last flat clear (10 ∷ v) _ refl (ap (λ (u : List ℕ). length flat - length u) (sym after)) in
     let secret : cipher_text.read x.1 ≡ Some (cipher, rest) = ap cipher_text.read after ∙ (line_skipped v ∙ c) in
     rw (e, secret, same) refl

@@ -1,5 +1,5 @@
 -- What is read of bytes is bytes.
-use Rattle.std.proofs.Common.{◌≡◌, ℕ, zero, suc, ◌/◌, ◌<◌, ◌^◌, ◌≤◌, inl, inr, Bool, true, false, leb, List, [], ◌∷◌, ◌++◌, drop, MatchBool, refl, sym, subst, arith}
+use Rattle.std.proofs.Common.{◌≡◌, ℕ, zero, suc, ◌/◌, ◌<◌, ◌^◌, ◌≤◌, inl, inr, Bool, true, false, leb, List, [], ◌∷◌, ◌++◌, drop, refl, subst, arith}
 use Rattle.std.specs.Prelude.{filter}
 use Rattle.std.specs.List.{AllByRecursion, flat_map}
 use Rattle.std.proofs.lemmas.Nat.{xor_lt}
@@ -7,7 +7,8 @@ use Rattle.std.proofs.lemmas.Bool.{cases_Bool, leb-true, agree_below_at}
 use Rattle.t1_bytes.specs.Cipher.{next_key, decrypted}
 use Rattle.t1_grammar.specs.Grammar.{Grammar}
 use Rattle.t1_grammar.specs.Tables.{Entries}
-use Rattle.t1_bytes.specs.Segments.{segment, starts_segment, IsJoined, IsFlat}
+use Rattle.t1_bytes.specs.Segments.{segment}
+use Rattle.t1_bytes.specs.FlatText.{starts_segment, flat_when, IsFlat}
 use Rattle.t1_bytes.specs.Eexec.{digit_value, paired, cipher_text}
 use Rattle.t1_bytes.specs.Laws.{AreBytes}
 use Rattle.t1_font.proofs.ByteLemmas.{AreBytes-append}
@@ -59,12 +60,13 @@ pieces_bytes (p ∷ ps) h = AreBytes-append p (flat_map (λ piece. piece) ps) h.
 pub flat_bytes : (file flat : List ℕ) → IsFlat file flat → AreBytes file → AreBytes flat
 flat_bytes file flat s h = by_start (starts_segment file) s
   where
-    by_start : (b : Bool) → MatchBool b (IsJoined file flat) (flat ≡ file) → AreBytes flat
+    by_start : (b : Bool) → (flat_when b file).Spells flat → AreBytes flat
     by_start true j =
-        let text = parts_bytes file j.text j.rest j.whole h in
-        let front = parts_bytes j.text j.segments.0 j.segments.1 j.segments.2 text.0 in
-        subst AreBytes (sym j.data_is) (pieces_bytes j.pieces (entries_have segment AreBytes segment_bytes j.pieces j.segments.0 (j.segments.1 ++ j.rest) j.segments.3 front.0))
-    by_start false e = subst AreBytes (sym e) h
+        let t = j.1.2 in
+        let text = parts_bytes file j.1.0 j.0.2 j.1.1 h in
+        let front = parts_bytes j.1.0 t.0 t.1 t.2 text.0 in
+        subst AreBytes j.2 (pieces_bytes j.0.0 (entries_have segment AreBytes segment_bytes j.0.0 t.0 (t.1 ++ j.0.2) t.3 front.0))
+    by_start false e = subst AreBytes e h
 
 -- ---- the cipher
 

@@ -1,5 +1,5 @@
 -- The clear text of a file that was read is that of a font.
-use Rattle.std.proofs.Common.{◌≡◌, ℕ, suc, ◌+◌, ◌≤◌, inl, inr, true, false, List, [], ◌∷◌, ◌++◌, length, get_or, Option, Some, None, refl, sym, ap, subst, ◌∙◌, append_assoc, arith, true≢false}
+use Rattle.std.proofs.Common.{◌≡◌, ℕ, suc, ◌+◌, ◌≤◌, inl, inr, true, false, List, [], ◌∷◌, ◌++◌, length, take, ◌-◌, get_or, Option, Some, None, refl, sym, ap, subst, ◌∙◌, append_assoc, arith, true≢false}
 use Rattle.std.specs.Prelude.{codes}
 use Rattle.std.specs.List.{AllByRecursion}
 use Rattle.std.specs.Option.{option_map}
@@ -13,6 +13,7 @@ use Rattle.t1_grammar.specs.Grammar.{NoneIn, Stops, first, first_at, AtFront, un
 use Rattle.t1_grammar.proofs.Grammars.{that_read, run_read}
 use Rattle.t1_bytes.specs.White.{is_white, white, has_bytes, gap}
 use Rattle.t1_bytes.specs.Eexec.{eexec_marker, blank_comes}
+use Rattle.t1_bytes.specs.Split.{split, IsSplit}
 use Rattle.t1_bytes.specs.Laws.{AreBytes}
 use Rattle.t1_font.specs.declared.dialect.Dialect.{Dialect}
 use Rattle.t1_font.specs.Words.{is_regular, keyword, next_name}
@@ -22,13 +23,13 @@ use Rattle.t1_font.specs.Pieces.{EncodingText, OneWord, Puts, ClearPieces, Priva
 use Rattle.t1_font.specs.FontValue.{notdef}
 use Rattle.t1_font.specs.Entries.{last_value, unless_notdef}
 use Rattle.t1_font.specs.ReadFont.{encoding_value, shell_of}
-use Rattle.t1_font.specs.Spelling.{IsCut, SpellsEncoding, IsClear}
+use Rattle.t1_font.specs.Spelling.{SpellsEncoding, IsClear}
 use Rattle.t1_font.specs.IsFont.{IsWord, IsClearShell, IsEncoding, NoMarker}
 use Rattle.t1_font.specs.EntryLaws.{keyword_text}
 use Rattle.t1_font.proofs.MapLaws.{get-names_of}
 use Rattle.t1_font.proofs.MapLemmas.{Some_same, Some_None}
 use Rattle.t1_font.proofs.canonical.EntriesWritten.{fixed_read}
-use Rattle.t1_font.proofs.canonical.SplitWritten.{marker_own}
+use Rattle.t1_font.proofs.FileParts.{before_last}
 use Rattle.t1_font.proofs.canonical.Moves.{first_behind, eexec_moves, encoding_moves}
 use Rattle.t1_font.proofs.read_fonts.ReadBack.{eexec_alike}
 use Rattle.t1_font.proofs.read_fonts.ReadBytes.{parts_bytes, entries_have}
@@ -242,24 +243,29 @@ pub record IsReadClear (c : ClearPieces) (p : PrivatePieces) : Type 0 where
   pub encoding : IsEncoding (encoding_value c.encoding)
 
 -- the clear text that bytes spell is that of a font
-pub clear_of : (d : Dialect) (flat clear cipher : List ℕ) (c : ClearPieces) (p : PrivatePieces) → IsCut flat clear cipher → IsClear d clear c → AreBytes clear → IsReadClear c p
-clear_of d flat clear cipher c p cut s h =
+pub clear_of : (d : Dialect) (flat : List ℕ) (at : ℕ) (clear cipher : List ℕ) (c : ClearPieces) (p : PrivatePieces) →
+    IsSplit flat at cipher → clear ≡ take at flat → IsClear d clear c → AreBytes clear → IsReadClear c p
+unfolding split
+clear_of d flat at clear cipher c p cut clear_is s h =
     let f = s.marker.2 in
     let slash = encoding_slash f.0 s.after f.2 in
     let text = parts_bytes clear s.marker.0 s.after s.marker.1 h in
     let head = parts_bytes s.marker.0 c.head f.0 f.1 text.0 in
     let ends = encoding_ends d c.encoding s.after c.clear_tail s.encoding in
-    let e = cut.marker.2 in
-    let marker = marker_is cut.own e.0 cut.after e.2 in
-    let through : clear ≡ cut.front ++ e.0 = cut.clear_is ∙ ap (λ (u : List ℕ). cut.front ++ u) (sym (marker_own cut.own e.0 cut.after e.2)) in
+    let front : List ℕ = cut.0.0.0 in
+    let after : List ℕ = cut.0.1 in
+    let e = cut.1.2 in
+    let marker = marker_is cut.0.0.1 e.0 after e.2 in
+    let place : length flat - length after ≡ at = ap (λ (x : ℕ × List ℕ). x.0) cut.2.2 in
+    let through : clear ≡ front ++ e.0 = clear_is ∙ (before_last flat cut.1.0 after at cut.1.1 place ∙ e.1) in
     let behind : clear ≡ c.head ++ (47 ∷ (slash.0 ++ s.after)) = s.marker.1 ∙ (ap (λ (u : List ℕ). u ++ s.after) (f.1 ∙ ap (λ (u : List ℕ). c.head ++ u) slash.1) ∙ append_assoc c.head (47 ∷ slash.0) s.after) in
     let last : clear ≡ ((s.marker.0 ++ ends.body) ++ codes "def") ++ c.clear_tail = s.marker.1 ∙ (ap (λ (u : List ℕ). s.marker.0 ++ u) ends.parts ∙ grouped s.marker.0 ends.body (codes "def") c.clear_tail) in
     record {
       shell = record {
         head_encoding = encoding_moves c.head (slash.0 ++ s.after) [] (subst (λ (u : List ℕ). NoneIn encoding_marker c.head (u ++ s.after)) slash.1 f.3);
-        head_eexec = head_before c.head (slash.0 ++ s.after) cut.front e.0 cut.after (sym behind ∙ through) marker e.3;
+        head_eexec = head_before c.head (slash.0 ++ s.after) front e.0 after (sym behind ∙ through) marker e.3;
         tail_apart = ends.apart;
-        tail_ends = tail_through (s.marker.0 ++ ends.body) c.clear_tail cut.front e.0 cut.after (sym last ∙ through) marker e.3;
+        tail_ends = tail_through (s.marker.0 ++ ends.body) c.clear_tail front e.0 after (sym last ∙ through) marker e.3;
       };
       head = head.0;
       tail = (parts_bytes s.after (ends.body ++ codes "def") c.clear_tail ends.parts text.1).1;

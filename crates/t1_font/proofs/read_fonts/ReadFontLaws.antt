@@ -1,5 +1,6 @@
 -- What is read of a file of bytes is a font.
-use Rattle.std.proofs.Common.{◌≡◌, ℕ, ◌≤◌, ◌<◌, true, cond, List, [], ◌∷◌, ◌++◌, Option, Some, None, is_some, Ok, refl, sym, ap, subst, ◌∙◌, append_assoc, arith, true≢false}
+use Rattle.std.proofs.lemmas.List.{take-append-drop}
+use Rattle.std.proofs.Common.{◌≡◌, ℕ, ◌≤◌, ◌<◌, true, cond, List, [], ◌∷◌, ◌++◌, take, drop, Option, Some, None, is_some, Ok, refl, sym, ap, subst, ◌∙◌, append_assoc, arith, true≢false}
 use Rattle.std.specs.List.{AllByRecursion, list_any}
 use Rattle.std.specs.Option.{option_map}
 use Rattle.std.specs.Str.{bytes_eq}
@@ -11,7 +12,8 @@ use Rattle.t1_bytes.specs.declared.form.Form.TheVariants.{Pfb}
 use Rattle.t1_bytes.specs.Cipher.{decrypted}
 use Rattle.t1_grammar.specs.Grammar.{Stops, first, choice, front_again}
 use Rattle.t1_bytes.specs.Laws.{AreBytes}
-use Rattle.t1_bytes.specs.Segments.{starts_segment, IsFlat}
+use Rattle.t1_bytes.specs.FlatText.{starts_segment, IsFlat}
+use Rattle.t1_bytes.specs.Split.{split, IsSplit}
 use Rattle.t1_bytes.proofs.ContainerLaws.{one_flat}
 use Rattle.t1_bytes.proofs.Ciphers.{decrypted-is}
 use Rattle.t1_font.specs.declared.dialect.Dialect.{Dialect}
@@ -26,7 +28,7 @@ use Rattle.t1_font.specs.Pieces.{ClearPieces, SubrsPieces, PrivatePieces}
 use Rattle.t1_font.specs.FontValue.{FontValue, SubrsShell, notdef, declared_count, count_limit, IsWithin}
 use Rattle.t1_font.specs.Entries.{map_of, last_entries, last_value}
 use Rattle.t1_font.specs.ReadFont.{font_file, of_first, subrs_of, subrs_shell, glyph_entries, shell_of, font_of, read_font}
-use Rattle.t1_font.specs.Spelling.{IsPrivate, IsCut, Texts, SpellsIn}
+use Rattle.t1_font.specs.Spelling.{IsPrivate, Texts, SpellsIn}
 use Rattle.t1_font.specs.Canon.{canon}
 use Rattle.t1_font.specs.IsFont.{IsWord, IsPhrase, IsPrivateShell, SubrWords, SubrsFit, AreGlyphs, IsFont, HasBytes}
 use Rattle.t1_font.proofs.MapLaws.{entries-map_of, find-last}
@@ -37,7 +39,6 @@ use Rattle.t1_font.proofs.ValueLaws.{notdef_is}
 use Rattle.t1_font.proofs.canonical.FontAgain.{name_same}
 use Rattle.t1_font.proofs.ByteLemmas.{has_bytes, canon_bytes}
 use Rattle.t1_font.proofs.canonical.RoundTrip.{round_trip}
-use Rattle.t1_font.proofs.canonical.SplitWritten.{marker_own}
 use Rattle.t1_font.proofs.read_fonts.ReadBack.{tail_ends_of}
 use Rattle.t1_font.proofs.read_fonts.ReadBytes.{parts_bytes, flat_bytes, cipher_bytes_of, decrypted_bytes, entries_have}
 use Rattle.t1_font.proofs.read_fonts.ReadEntries.{IsRead, glyph_of, map_fits}
@@ -140,19 +141,20 @@ private_of d text c p s h =
 
 -- ---- the file
 
-cut_bytes : (flat clear cipher : List ℕ) → IsCut flat clear cipher → AreBytes flat → AreBytes clear × AreBytes cipher
-cut_bytes flat clear cipher s h =
-    let a = parts_bytes flat s.marker.0 s.after s.marker.1 h in
-    let e = s.marker.2 in
-    let same : s.marker.0 ≡ clear = e.1 ∙ (ap (λ (u : List ℕ). s.front ++ u) (marker_own s.own e.0 s.after e.2) ∙ sym s.clear_is) in
-    let b = parts_bytes s.after s.secret.0 s.rest s.secret.1 a.1 in
-    (subst AreBytes same a.0, cipher_bytes_of cipher s.secret.0 s.rest s.secret.2 b.0)
+cut_bytes : (flat : List ℕ) (at : ℕ) (cipher : List ℕ) → IsSplit flat at cipher → AreBytes flat → AreBytes (take at flat) × AreBytes cipher
+unfolding split
+cut_bytes flat at cipher s h =
+    let secret = s.2.1 in
+    let a = parts_bytes flat s.1.0 s.0.1 s.1.1 h in
+    let b = parts_bytes s.0.1 secret.0 s.2.0.1 secret.1 a.1 in
+    let clear = parts_bytes flat (take at flat) (drop at flat) (sym (take-append-drop at flat)) h in
+    (clear.0, subst AreBytes (ap (λ (x : ℕ × List ℕ). x.1) s.2.2) (cipher_bytes_of s.2.0.0 secret.0 s.2.0.1 secret.2 b.0))
 
 texts_bytes : (file clear text : List ℕ) → Texts file clear text → AreBytes file → AreBytes clear × AreBytes text
 texts_bytes file clear text s h =
-    let both = cut_bytes s.flat clear s.cipher s.cut (flat_bytes file s.flat s.flat_is h) in
+    let both = cut_bytes s.flat s.at s.cipher s.split (flat_bytes file s.flat s.flat_is h) in
     let plain = parts_bytes (decrypted 55665 s.cipher) s.lead text (decrypted-is (s.lead ++ text) s.cipher 55665 s.secret) (decrypted_bytes s.cipher 55665 (omega arith) both.1) in
-    (both.0, plain.1)
+    (subst AreBytes (sym s.clear_is) both.0, plain.1)
 
 -- what a file of bytes spells is a font
 pub spelled_font : (d : Dialect) (file : List ℕ) (f : FontValue) → AreBytes file → SpellsIn d file f → IsFont f
@@ -161,7 +163,7 @@ spelled_font d file f h s =
     let p = s.inside in
     let t = s.pieces.texts in
     let bytes = texts_bytes file s.pieces.clear s.pieces.text t h in
-    let clear = clear_of d t.flat s.pieces.clear t.cipher c p t.cut s.pieces.clear_is bytes.0 in
+    let clear = clear_of d t.flat t.at s.pieces.clear t.cipher c p t.split t.clear_is s.pieces.clear_is bytes.0 in
     let private = private_of d s.pieces.text c p s.pieces.private_is bytes.1 in
     let some : contains_key (font_of c p).glyphs notdef ≡ true = subst (λ (f : FontValue). contains_key f.glyphs notdef ≡ true) s.value s.has_notdef in
     let within : IsWithin (font_of c p) = subst IsWithin s.value s.within in
@@ -194,14 +196,15 @@ spelled_starts : (d : Dialect) (file flat : List ℕ) (f : FontValue) → IsFlat
 spelled_starts d file flat f flat_is s =
     let t = s.pieces.texts in
     let c = s.pieces.clear_is in
-    let e = t.cut.marker.2 in
     let m = c.marker.2 in
+    let rest : List ℕ = drop t.at t.flat in
     let slash = encoding_slash m.0 c.after m.2 in
     let same : flat ≡ t.flat = one_flat.texts file flat t.flat flat_is t.flat_is in
-    let clear : t.cut.marker.0 ≡ s.pieces.clear = e.1 ∙ (ap (λ (u : List ℕ). t.cut.front ++ u) (marker_own t.cut.own e.0 t.cut.after e.2) ∙ sym t.cut.clear_is) in
+    let clear : t.flat ≡ s.pieces.clear ++ rest = sym (take-append-drop t.at t.flat) ∙ ap (λ (u : List ℕ). u ++ rest) (sym t.clear_is) in
     let behind : s.pieces.clear ≡ s.outside.head ++ (47 ∷ (slash.0 ++ c.after)) = c.marker.1 ∙ (ap (λ (u : List ℕ). u ++ c.after) (m.1 ∙ ap (λ (u : List ℕ). s.outside.head ++ u) slash.1) ∙ append_assoc s.outside.head (47 ∷ slash.0) c.after) in
-    let whole : flat ≡ s.outside.head ++ (47 ∷ ((slash.0 ++ c.after) ++ t.cut.after)) = same ∙ (t.cut.marker.1 ∙ (ap (λ (u : List ℕ). u ++ t.cut.after) (clear ∙ behind) ∙ append_assoc s.outside.head (47 ∷ (slash.0 ++ c.after)) t.cut.after)) in
-    ap (λ (g : FontValue). starts_segment g.shell.head) s.value ∙ (starts_head s.outside.head ((slash.0 ++ c.after) ++ t.cut.after) ∙ ap starts_segment (sym whole))
+    let whole : flat ≡ s.outside.head ++ (47 ∷ ((slash.0 ++ c.after) ++ rest)) =
+    same ∙ (clear ∙ (ap (λ (u : List ℕ). u ++ rest) behind ∙ append_assoc s.outside.head (47 ∷ (slash.0 ++ c.after)) rest)) in
+    ap (λ (g : FontValue). starts_segment g.shell.head) s.value ∙ (starts_head s.outside.head ((slash.0 ++ c.after) ++ rest) ∙ ap starts_segment (sym whole))
 
 -- a font's head begins with byte 128 exactly where its flat text does
 pub head_starts : (file flat : List ℕ) (f : FontValue) → IsFlat file flat → read_font file ≡ Ok f → starts_segment f.shell.head ≡ starts_segment flat

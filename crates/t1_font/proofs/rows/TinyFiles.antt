@@ -7,6 +7,7 @@ use Rattle.t1_bytes.specs.declared.form.Form.{Form}
 use Rattle.t1_bytes.specs.declared.form.Form.TheVariants.{Pfa, Pfb}
 use Rattle.t1_bytes.specs.Cipher.{private_cipher}
 use Rattle.t1_bytes.specs.Eexec.{paired, eexec_marker, cipher_text}
+use Rattle.t1_bytes.specs.Split.{split}
 use Rattle.t1_grammar.specs.Grammar.{first_at}
 use Rattle.t1_grammar.specs.Tables.{table_within}
 use Rattle.t1_bytes.specs.White.{gap}
@@ -116,19 +117,19 @@ tiny_pfb = canon_is Pfb ∙ written_pfb
 -- ---- what is read
 
 pfa_reads : read_font pfa ≡ Ok tiny
-unfolding table_within first_at gap one_white word keyword decimal name phrase_of length_from body entry subr_key subrs_end eexec_marker encoding_marker subrs_marker chars_marker len_iv_marker len_iv closefile encoding_word encoding_table encoding_loop encoding_start octal code put_entry encoding_end next_name glyphs_end cipher_text flat_pieces encoding_from clear_pieces iv_at iv_of tail_after glyphs_from tables_from private_pieces flat_text font_from font_file
+unfolding table_within first_at gap one_white word keyword decimal name phrase_of length_from body entry subr_key subrs_end eexec_marker encoding_marker subrs_marker chars_marker len_iv_marker len_iv closefile encoding_word encoding_table encoding_loop encoding_start octal code put_entry encoding_end next_name glyphs_end cipher_text split flat_pieces encoding_from clear_pieces iv_at iv_of tail_after glyphs_from tables_from private_pieces flat_text font_from font_file
 pfa_reads = refl
 
 pfb_reads : read_font pfb ≡ Ok tiny
-unfolding table_within first_at gap one_white word keyword decimal name phrase_of length_from body entry subr_key subrs_end eexec_marker encoding_marker subrs_marker chars_marker len_iv_marker len_iv closefile encoding_word encoding_table encoding_loop encoding_start octal code put_entry encoding_end next_name glyphs_end cipher_text flat_pieces encoding_from clear_pieces iv_at iv_of tail_after glyphs_from tables_from private_pieces flat_text font_from font_file
+unfolding table_within first_at gap one_white word keyword decimal name phrase_of length_from body entry subr_key subrs_end eexec_marker encoding_marker subrs_marker chars_marker len_iv_marker len_iv closefile encoding_word encoding_table encoding_loop encoding_start octal code put_entry encoding_end next_name glyphs_end cipher_text split flat_pieces encoding_from clear_pieces iv_at iv_of tail_after glyphs_from tables_from private_pieces flat_text font_from font_file
 pfb_reads = refl
 
 pfb_cut : read_font (take 1000 pfb) ≡ Err (BadSegment 319)
-unfolding flat_text font_file flat_pieces table_within first_at gap eexec_marker cipher_text
+unfolding flat_text font_file split flat_pieces table_within first_at gap eexec_marker cipher_text
 pfb_cut = refl
 
 pfb_at_border : read_font (take 1333 pfb) ≡ Ok tiny
-unfolding table_within first_at gap one_white word keyword decimal name phrase_of length_from body entry subr_key subrs_end eexec_marker encoding_marker subrs_marker chars_marker len_iv_marker len_iv closefile encoding_word encoding_table encoding_loop encoding_start octal code put_entry encoding_end next_name glyphs_end cipher_text flat_pieces encoding_from clear_pieces iv_at iv_of tail_after glyphs_from tables_from private_pieces flat_text font_from font_file
+unfolding table_within first_at gap one_white word keyword decimal name phrase_of length_from body entry subr_key subrs_end eexec_marker encoding_marker subrs_marker chars_marker len_iv_marker len_iv closefile encoding_word encoding_table encoding_loop encoding_start octal code put_entry encoding_end next_name glyphs_end cipher_text split flat_pieces encoding_from clear_pieces iv_at iv_of tail_after glyphs_from tables_from private_pieces flat_text font_from font_file
 pfb_at_border = refl
 
 -- upper-case digits, and CR behind each line of them
@@ -140,23 +141,23 @@ upper_lines [] = []
 upper_lines (l ∷ ls) = map upper l ++ (13 ∷ upper_lines ls)
 
 upper_hex : read_font (clear ++ (10 ∷ (upper_lines cipher_lines ++ end_lines))) ≡ Ok tiny
-unfolding table_within first_at gap one_white word keyword decimal name phrase_of length_from body entry subr_key subrs_end eexec_marker encoding_marker subrs_marker chars_marker len_iv_marker len_iv closefile encoding_word encoding_table encoding_loop encoding_start octal code put_entry encoding_end next_name glyphs_end cipher_text flat_pieces encoding_from clear_pieces iv_at iv_of tail_after glyphs_from tables_from private_pieces flat_text font_from font_file
+unfolding table_within first_at gap one_white word keyword decimal name phrase_of length_from body entry subr_key subrs_end eexec_marker encoding_marker subrs_marker chars_marker len_iv_marker len_iv closefile encoding_word encoding_table encoding_loop encoding_start octal code put_entry encoding_end next_name glyphs_end cipher_text split flat_pieces encoding_from clear_pieces iv_at iv_of tail_after glyphs_from tables_from private_pieces flat_text font_from font_file
 upper_hex = refl
 
 empty : read_font [] ≡ Err NoEexec
-unfolding flat_text font_file flat_pieces table_within first_at gap eexec_marker cipher_text
+unfolding flat_text font_file split flat_pieces table_within first_at gap eexec_marker cipher_text
 empty = refl
 
 through_eexec : read_font (take 312 pfa) ≡ Err NoEexec
-unfolding flat_text font_file flat_pieces table_within first_at gap eexec_marker cipher_text
+unfolding flat_text font_file split flat_pieces table_within first_at gap eexec_marker cipher_text
 through_eexec = refl
 
 through_line : read_font (take 313 pfa) ≡ Err ShortCipher
-unfolding flat_text font_file flat_pieces table_within first_at gap eexec_marker cipher_text
+unfolding flat_text font_file split flat_pieces table_within first_at gap eexec_marker cipher_text
 through_line = refl
 
 two_bytes : read_font (take 313 pfa ++ codes "d9d6") ≡ Err ShortCipher
-unfolding flat_text font_file flat_pieces table_within first_at gap eexec_marker cipher_text
+unfolding flat_text font_file split flat_pieces table_within first_at gap eexec_marker cipher_text
 two_bytes = refl
 
 -- ---- Tiny is a font

@@ -1,14 +1,14 @@
 use Rattle.std.proofs.Common.{subst}
 use Rattle.t1_bytes.specs.Faults.{Answers}
-use Rattle.t1_bytes.specs.Eexec.{split_view}
-use Rattle.t1_bytes.proofs.EexecLemmas.{split_answers, split_again, fails_again}
+use Rattle.t1_bytes.specs.Split.{split, split_view}
+use Rattle.t1_bytes.proofs.EexecLemmas.{split_answers}
 use Rattle.t1_bytes.proofs.eexec.split_eexec.Goals as goal
 
 pub returns-clause-right : goal.returns-clause-right
 returns-clause-right c = split_answers split_view c.args.flat.now c.split.result c.split.ensures
 
 pub returns-clause-only : goal.returns-clause-only
-returns-clause-only c = λ at cipher s. subst (Answers split_view c.split.result) (split_again c.args.flat.now at cipher s) c.split.ensures
+returns-clause-only c = λ at cipher s. subst (Answers split_view c.split.result) ((split c.args.flat.now).again (at, cipher) s) c.split.ensures
 
 pub returns-clause-refused : goal.returns-clause-refused
-returns-clause-refused c = λ fault s. subst (Answers split_view c.split.result) (fails_again c.args.flat.now fault s) c.split.ensures
+returns-clause-refused c = λ fault s. subst (Answers split_view c.split.result) ((split c.args.flat.now).refused fault s) c.split.ensures

@@ -1,13 +1,14 @@
 use Rattle.std.proofs.Common.{subst}
 use Rattle.t1_bytes.specs.Faults.{Gives}
-use Rattle.t1_bytes.proofs.SegmentLemmas.{answers, flat_again, bad_again}
+use Rattle.t1_bytes.specs.FlatText.{flat_text}
+use Rattle.t1_bytes.proofs.SegmentLemmas.{answers}
 use Rattle.t1_bytes.proofs.pfb.flatten.Goals as goal
 
 pub returns-clause-right : goal.returns-clause-right
 returns-clause-right c = answers c.args.file.now c.flat.result c.flat.ensures
 
 pub returns-clause-only : goal.returns-clause-only
-returns-clause-only c = λ text h. subst (λ f. Gives (λ v. v.items) c.flat.result f) (flat_again c.args.file.now text h) c.flat.ensures
+returns-clause-only c = λ text h. subst (λ f. Gives (λ v. v.items) c.flat.result f) ((flat_text c.args.file.now).again text h) c.flat.ensures
 
 pub returns-clause-refused : goal.returns-clause-refused
-returns-clause-refused c = λ at h. subst (λ f. Gives (λ v. v.items) c.flat.result f) (bad_again c.args.file.now at h) c.flat.ensures
+returns-clause-refused c = λ at h. subst (λ f. Gives (λ v. v.items) c.flat.result f) ((flat_text c.args.file.now).refused at h) c.flat.ensures

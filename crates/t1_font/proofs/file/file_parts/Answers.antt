@@ -1,4 +1,4 @@
-use Rattle.std.proofs.Common.{rules, ◌+◌, ◌≡◌, ◌≤◌, ◌∙◌, ap, arith, sym, refl, drop, ℕ, List, Result, Ok, Err, length}
+use Rattle.std.proofs.Common.{rules, ◌+◌, ◌≡◌, ◌≤◌, ◌∙◌, ap, arith, sym, drop, ℕ, List, Result, Ok, length}
 use Rattle.std.proofs.lemmas.Bool.{le-leb}
 use Rattle.std.proofs.lemmas.List.{drop-drop}
 use Rattle.t1_bytes.specs.Cipher.{private_text}
@@ -8,13 +8,9 @@ use Rattle.t1_font.specs.FontValue.{FontValue}
 use Rattle.t1_bytes.specs.Limits.{file_limit}
 use Rattle.t1_font.specs.Pieces.{FlatPieces, flat_pieces}
 use Rattle.t1_font.specs.ReadFont.{flat_text, file_pieces, font_texts, font_file}
-use Rattle.t1_grammar.specs.Formats.{if_ok}
+use Rattle.t1_grammar.specs.Formats.{if_ok, if_ok_twice}
 use Rattle.t1_font.proofs.AnswersRight.{answers_same}
 use Rattle.t1_font.proofs.file.file_parts.Goals as goal
-
-grouped : {E A B C : Type 0} (r : Result A E) (f : A → Result B E) (g : B → Result C E) → if_ok (λ x. if_ok g (f x)) r ≡ if_ok g (if_ok f r)
-grouped (Ok x) f g = refl
-grouped (Err e) f g = refl
 
 -- the font of a file that is not too long, where it is cut
 file_is : (d : Dialect) (file : List ℕ) (p : FlatPieces) → length file ≤ file_limit → (file_pieces file).read ≡ Ok p →
@@ -22,7 +18,7 @@ file_is : (d : Dialect) (file : List ℕ) (p : FlatPieces) → length file ≤ f
 unfolding font_file
 file_is d file p short cut =
     let texts : FlatPieces → Result FontValue ReadFault = λ parts. (font_texts d parts.clear (private_text parts.cipher)).read in
-    rw (le-leb (length file) file_limit short) (grouped (flat_text file).read (λ flat. (flat_pieces flat).read) texts ∙ ap (if_ok texts) cut)
+    rw (le-leb (length file) file_limit short) (if_ok_twice (flat_text file).read (λ flat. (flat_pieces flat).read) texts ∙ ap (if_ok texts) cut)
 
 pub returns : goal.returns
 returns c =
