@@ -15,7 +15,13 @@ restrict_twice : (p q : List ℕ → Bool) (r s : ℕ → Bool) (f : FontValue) 
 restrict_twice p q r s f more most =
     let stubs = λ (t : ℕ → Bool) (g : FontValue) (i : ℕ). get-map_values nat_cmp_total nat_cmp-IsAntisymmetric (λ i c. cond (t i) c stub) g.subrs i in
     let glyphs = λ (t : List ℕ → Bool) (g : FontValue) (n : List ℕ). get-retain nat_list_cmp_total name_same g.glyphs t n in
-    same_font _ _ refl (same_encoding _ _ (grind cases) (λ c. grind (cases, get-code p (restrict_encoding q f.encoding) c, get-code q f.encoding c, get-code p f.encoding c, more (unwrap_or (code_state f.encoding c) []))))
+    same_font _ _ refl (same_encoding _ _ (grind cases) (λ c. grind (
+      cases,
+      get-code p (restrict_encoding q f.encoding) c,
+      get-code q f.encoding c,
+      get-code p f.encoding c,
+      more (unwrap_or (code_state f.encoding c) []),
+    )))
     (λ i. grind (cases, stubs r (restrict q s f) i, stubs s f i, stubs r f i, most i))
     (λ n. grind (cases, glyphs p (restrict q s f) n, glyphs q f n, glyphs p f n, more n))
 
@@ -30,13 +36,22 @@ module _ {O : Type 0} (m : Interpreter O) (f : FontValue) (base : has f notdef �
   sub_has n = grind (cases, get-glyph m f a n, keep_has m f a n)
 
   -- a kept glyph names the same components in the subset, and executes the same Subrs
-  runs_same : (n : List ℕ) → sets.contains (keep m f a) n ≡ true → (components m sub.subrs (charstring sub n) ≡ components m f.subrs (charstring f n)) × (calls m sub n ≡ calls m f n)
+  runs_same : (n : List ℕ) → sets.contains (keep m f a) n ≡ true →
+      (components m sub.subrs (charstring sub n) ≡ components m f.subrs (charstring f n)) × (calls m sub n ≡ calls m f n)
   runs_same n k = grind (cases, get-glyph m f a n, runs_alike m f a n, keep_has m f a n k, k)
 
   -- a kept glyph has the same components in the subset
   parts_same : (n : List ℕ) → sets.contains (keep m f a) n ≡ true → components_here m sub n ≡ components_here m f n
   parts_same n k = sets.same_set nat_list_cmp_total name_same _ _ (λ p.
-      grind (cases, component_is m sub n p, component_is m f n p, (runs_same n k).0, sub_has p, keep_has m f a p, (keep_closed m f a base inside).components n p k))
+      grind (
+        cases,
+        component_is m sub n p,
+        component_is m f n p,
+        (runs_same n k).0,
+        sub_has p,
+        keep_has m f a p,
+        (keep_closed m f a base inside).components n p k,
+      ))
 
   module _ (b : Names) (within : IsOf sub b) where
     -- names of the subset are names of the font
@@ -58,7 +73,8 @@ module _ {O : Type 0} (m : Interpreter O) (f : FontValue) (base : has f notdef �
     pub subset_again : subset m sub b ≡ subset m f b
     subset_again =
         (λ i. restrict (sets.contains (again.0 i)) (sets.contains (again.1 i)) sub)
-        ∙ restrict_twice (sets.contains (keep m f b)) (sets.contains (keep m f a)) (sets.contains (kept m f b)) (sets.contains (kept m f a)) f keep_less (kept_more m f b a keep_less)
+        ∙ restrict_twice (sets.contains (keep m f b)) (sets.contains (keep m f a))
+        (sets.contains (kept m f b)) (sets.contains (kept m f a)) f keep_less (kept_more m f b a keep_less)
 
   -- the subset of a subset over the same names is the subset itself
   pub subset_itself : subset m sub a ≡ subset m f a

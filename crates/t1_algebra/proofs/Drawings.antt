@@ -27,24 +27,31 @@ ending s c = (refl, refl)
 -- functions that agree on a list map it to the same
 map_alike : {X : Type 0} (f g : List ℕ → X) (ps : List (List ℕ)) → ((p : List ℕ) → list_any (same_bytes p) ps ≡ true → f p ≡ g p) → map f ps ≡ map g ps
 map_alike f g [] h = refl
-map_alike f g (p ∷ ps) h = λ i. h p (here (same_bytes p) p ps (itself nat_list_cmp_total name_same p)) i ∷ map_alike f g ps (λ q w. h q (later (same_bytes q) p ps w)) i
+map_alike f g (p ∷ ps) h =
+    λ i. h p (here (same_bytes p) p ps (itself nat_list_cmp_total name_same p)) i ∷ map_alike f g ps (λ q w. h q (later (same_bytes q) p ps w)) i
 
 module _ (f j : FontValue) (n : List ℕ) (same : maps.get j.glyphs n ≡ maps.get f.glyphs n)
     (runs : (c : List ℕ) → maps.get f.glyphs n ≡ Some c → (i : ℕ) → sets.contains (profile.exec f.subrs c) i ≡ true → maps.get j.subrs i ≡ maps.get f.subrs i)
-    (same_parts : (c p : List ℕ) → maps.get f.glyphs n ≡ Some c → list_any (same_bytes p) (components profile f.subrs c) ≡ true → component_outcome profile j p ≡ component_outcome profile f p) where
+    (same_parts : (c p : List ℕ) → maps.get f.glyphs n ≡ Some c → list_any (same_bytes p) (components profile f.subrs c) ≡ true →
+    component_outcome profile j p ≡ component_outcome profile f p) where
   -- `by` gives what a charstring comes to by one answer to hint replacement
   module _ (hints : _) (by : Endings → Ending) (is_by : (s : Numbered) (c : List ℕ) → by (profile.direct s c) ≡ direct_by hints (maps.get s) c)
-      (named : (s : Numbered) (c p : List ℕ) → list_any (same_bytes p) (parts_by hints (maps.get s) c) ≡ true → list_any (same_bytes p) (components profile s c) ≡ true) where
+      (named : (s : Numbered) (c p : List ℕ) → list_any (same_bytes p) (parts_by hints (maps.get s) c) ≡ true →
+      list_any (same_bytes p) (components profile s c) ≡ true) where
     -- the picture of what the glyph's charstring comes to is alike
     picture_alike : (x : Option (List ℕ)) → maps.get f.glyphs n ≡ x
-        → picture_at hints (maps.get j.subrs) (maps.get j.glyphs) (option_map (direct_by hints (maps.get j.subrs)) x) ≡ picture_at hints (maps.get f.subrs) (maps.get f.glyphs) (option_map (direct_by hints (maps.get f.subrs)) x)
+        → picture_at hints (maps.get j.subrs) (maps.get j.glyphs) (option_map (direct_by hints (maps.get j.subrs)) x)
+        ≡ picture_at hints (maps.get f.subrs) (maps.get f.glyphs) (option_map (direct_by hints (maps.get f.subrs)) x)
     picture_alike None is = refl
     picture_alike (Some c) is =
-        ap (λ own. picture own (map (outcome_at hints (maps.get j.subrs) (maps.get j.glyphs)) (parts_of own))) (sym (is_by j.subrs c) ∙ ap by (profile.local f.subrs j.subrs c (runs c is)).0 ∙ is_by f.subrs c)
-        ∙ ap (picture (direct_by hints (maps.get f.subrs) c)) (map_alike _ _ (parts_by hints (maps.get f.subrs) c) (λ p w. grind (cases, same_parts c p is (named f.subrs c p w), is_by f.subrs, is_by j.subrs)))
+        ap (λ own. picture own (map (outcome_at hints (maps.get j.subrs) (maps.get j.glyphs)) (parts_of own)))
+        (sym (is_by j.subrs c) ∙ ap by (profile.local f.subrs j.subrs c (runs c is)).0 ∙ is_by f.subrs c)
+        ∙ ap (picture (direct_by hints (maps.get f.subrs) c))
+        (map_alike _ _ (parts_by hints (maps.get f.subrs) c) (λ p w. grind (cases, same_parts c p is (named f.subrs c p w), is_by f.subrs, is_by j.subrs)))
 
     draws_alike : draw_by hints (maps.get j.subrs) (maps.get j.glyphs) n ≡ draw_by hints (maps.get f.subrs) (maps.get f.glyphs) n
-    draws_alike = ap (λ x. picture_at hints (maps.get j.subrs) (maps.get j.glyphs) (option_map (direct_by hints (maps.get j.subrs)) x)) same ∙ picture_alike (maps.get f.glyphs n) refl
+    draws_alike = ap (λ x. picture_at hints (maps.get j.subrs) (maps.get j.glyphs) (option_map (direct_by hints (maps.get j.subrs)) x)) same
+        ∙ picture_alike (maps.get f.glyphs n) refl
 
   -- the glyph draws alike in both
   pub alike : DrawsAlike f j n
@@ -53,16 +60,20 @@ module _ (f j : FontValue) (n : List ℕ) (same : maps.get j.glyphs n ≡ maps.g
     answer = λ c is. (runs_by_rules f.subrs j.subrs c (runs c is)).0;
     answer3 = λ c is. (runs_by_rules f.subrs j.subrs c (runs c is)).1;
     executes = λ c is. (runs_by_rules f.subrs j.subrs c (runs c is)).2;
-    draws = draws_alike _ (λ e. e.0) (λ s c. ap (λ e. e.0) (ending s c).0) (λ s c p w. ap (list_any (same_bytes p)) (ending s c).1 ∙ any_append_left (same_bytes p) (parts_of (direct (maps.get s) c)) (parts_of (direct3 (maps.get s) c)) w);
-    draws3 = draws_alike _ (λ e. e.1) (λ s c. ap (λ e. e.1) (ending s c).0) (λ s c p w. ap (list_any (same_bytes p)) (ending s c).1 ∙ any_append_right (same_bytes p) (parts_of (direct (maps.get s) c)) (parts_of (direct3 (maps.get s) c)) w);
+    draws = draws_alike _ (λ e. e.0) (λ s c. ap (λ e. e.0) (ending s c).0) (λ s c p w.
+        ap (list_any (same_bytes p)) (ending s c).1 ∙ any_append_left (same_bytes p) (parts_of (direct (maps.get s) c)) (parts_of (direct3 (maps.get s) c)) w);
+    draws3 = draws_alike _ (λ e. e.1) (λ s c. ap (λ e. e.1) (ending s c).0) (λ s c p w.
+        ap (list_any (same_bytes p)) (ending s c).1 ∙ any_append_right (same_bytes p) (parts_of (direct (maps.get s) c)) (parts_of (direct3 (maps.get s) c)) w);
   }
 
 -- ---- subsets and joins
 
 -- a kept glyph draws in a subset as in the font
-pub subset_alike : (f : FontValue) → IsFont f → (a : Names) → IsOf f a → (n : List ℕ) → sets.contains (keep profile f a) n ≡ true → DrawsAlike f (subset profile f a) n
+pub subset_alike : (f : FontValue) → IsFont f → (a : Names) → IsOf f a → (n : List ℕ) → sets.contains (keep profile f a) n ≡ true →
+    DrawsAlike f (subset profile f a) n
 subset_alike f h a inside n k = alike f (subset profile f a) n (get-glyph profile f a n ∙ ap (λ b. cond b (maps.get f.glyphs n) None) k)
-    (λ c is. subrs_alike profile f a n c k is) (λ c p is w. grind (cases, get-glyph profile f a p, keep_part profile f a h.glyphs.notdef inside n c p k is w, runs_alike profile f a p))
+    (λ c is. subrs_alike profile f a n c k is) (λ c p is w.
+    grind (cases, get-glyph profile f a p, keep_part profile f a h.glyphs.notdef inside n c p k is w, runs_alike profile f a p))
 
 -- a glyph of the first font draws in the join as it did
 pub left_alike : (f g : FontValue) → Compatible profile f g → (n : List ℕ) → has f n ≡ true → DrawsAlike f (joined_font profile f g) n

@@ -7,7 +7,8 @@ use Rattle.t1_join.specs.{TableLaws.{get_joined, same_table}}
 use Rattle.t1_font.specs.{FontModel.{names_in, word_of}, FontValue.{FontValue, Named, total, subr_weight, weight, weight_limit, count_limit}}
 use Rattle.t1_font.proofs.{CutEntries.{entries-retain}, MapLemmas.{entries_all, get-retain}}
 use Rattle.t1_algebra.specs.States.{named_at, IsWithin, is_sought, subr_state, name_state, Compatible, Join, joined_font}
-use Rattle.t1_algebra.specs.StateTables.{StatesValue, numbered, name_meaning, behind_mark, AreSought, used_subrs, all_components, name_states, states_of, subr_adds, name_adds, states_weight, states_glyphs, StatesFit, name_part, subr_part, joined_states, PartsJoin, StatesAgree, StatesJoin, code_part}
+use Rattle.t1_algebra.specs.StateTables.{StatesValue, numbered, name_meaning, behind_mark, AreSought, used_subrs, all_components, name_states, states_of, subr_adds, name_adds}
+use Rattle.t1_algebra.specs.StateTables.{states_weight, states_glyphs, StatesFit, name_part, subr_part, joined_states, PartsJoin, StatesAgree, StatesJoin, code_part}
 use Rattle.t1_algebra.specs.StateLaws.{PartsAgree, parts_laws}
 use Rattle.t1_algebra.proofs.{Words.{nat_cmp_total, nat_list_cmp_total, nat_cmp-IsAntisymmetric, Interpreter, same_bytes}, Shares.{same_indices, sharing}, Maps.{get-valued}}
 use Rattle.t1_algebra.proofs.{Sets.{any_flat_map, name_same, cases}, JoinedStates.{subr_joined, name_joined, present_joined}, Subsets.{stub_is, same_font, same_encoding, code_joined}}
@@ -36,7 +37,8 @@ module _ {O : Type 0} (m : Interpreter O) (f : FontValue) where
   sought = maps.from_entries (map (λ p. (p, name_meaning None)) (all_components m f))
 
   get-sought : (n : List ℕ) → maps.get sought n ≡ cond (is_sought m f n) (Some []) None
-  get-sought n = get-valued nat_list_cmp_total [] (all_components m f) n ∙ ap (λ b. cond b (Some []) None) (any_flat_map (same_bytes n) (λ n. named_at m f (maps.get f.glyphs n)) (names_in f.glyphs))
+  get-sought n = get-valued nat_list_cmp_total [] (all_components m f) n
+      ∙ ap (λ b. cond b (Some []) None) (any_flat_map (same_bytes n) (λ n. named_at m f (maps.get f.glyphs n)) (names_in f.glyphs))
 
   are_sought : AreSought sought
   are_sought n v is = grind (cases, is, get-sought n)
@@ -75,7 +77,8 @@ module _ {O : Type 0} (m : Interpreter O) (f g : FontValue) where
       let a = compatible_agree c in
       let j = joined_font m f g in
       let word : word_of j.encoding ≡ word_of f.encoding = grind (cases, c.kinds) in
-      let codes = shown_joined _ _ _ _ (codes_shown f.encoding) (codes_shown g.encoding) _ _ (codes_shown j.encoding) (code_joined f.encoding g.encoding c.kinds) in
+      let codes =
+      shown_joined _ _ _ _ (codes_shown f.encoding) (codes_shown g.encoding) _ _ (codes_shown j.encoding) (code_joined f.encoding g.encoding c.kinds) in
       let names = same_table (name_states m j) (joined_table (name_states m f) (name_states m g)) (λ n.
       grind (cases, get-names m j n, name_joined m f g c n, get-names m f n, get-names m g n, get_joined (name_states m f) (name_states m g) n)) in
       let subrs = shown_joined _ _ _ _ (subrs_shown m f) (subrs_shown m g) _ _ (subrs_shown m j) (subr_joined m f g c) in
@@ -90,21 +93,25 @@ total_apart iv (e ∷ es) = omega (arith, total_apart iv es)
 
 module _ {O : Type 0} (m : Interpreter O) (f : FontValue) where
   -- the Subrs of a font weigh as many stubs and what their states add
-  subrs_weigh : total (subr_weight f.shell.len_iv) (maps.entries f.subrs) ≡ length (maps.keys f.subrs) * (129 + f.shell.len_iv) + total subr_adds (maps.entries (numbered (used_subrs m f)))
+  subrs_weigh : total (subr_weight f.shell.len_iv) (maps.entries f.subrs)
+      ≡ length (maps.keys f.subrs) * (129 + f.shell.len_iv) + total subr_adds (maps.entries (numbered (used_subrs m f)))
   subrs_weigh =
       let nothing = total_kept (λ i c. length c - 1) (λ e. is_some (subr_state m f e.0)) (maps.entries f.subrs)
-      (entries_all nat_cmp_total nat_cmp-IsAntisymmetric (λ i c. not (is_some (subr_state m f i)) ≡ true → length c - 1 ≡ 0) f.subrs (λ i c is h. grind (cases, is, h, stub_is c))) in
+      (entries_all nat_cmp_total nat_cmp-IsAntisymmetric
+      (λ i c. not (is_some (subr_state m f i)) ≡ true → length c - 1 ≡ 0) f.subrs (λ i c is h. grind (cases, is, h, stub_is c))) in
       let added = ap (total subr_adds) (entries-numbered (used_subrs m f)) ∙ total_mapped of_number (λ c. c) subr_adds (maps.entries (used_subrs m f))
       ∙ ap (total (λ i c. length c - 1)) (entries-retain nat_cmp_total nat_cmp-IsAntisymmetric f.subrs (λ i. is_some (subr_state m f i))) ∙ nothing in
       total_apart f.shell.len_iv (maps.entries f.subrs) ∙ (λ i. sym (length-map (maps.entries f.subrs) (λ e. e.0)) i * (129 + f.shell.len_iv) + sym added i)
 
   -- the charstrings among the states of a font's names are those of its glyphs
   pub glyphs_among : (g : Named) → ((n : List ℕ) → maps.get g n ≡ behind_mark (maps.get (name_states m f) n)) → g ≡ f.glyphs
-  glyphs_among g h = maps.same_map nat_list_cmp_total name_same g f.glyphs (λ n. h n ∙ charstring_in f.glyphs (sought m f) (are_sought m f) (name_states m f) refl n)
+  glyphs_among g h =
+      maps.same_map nat_list_cmp_total name_same g f.glyphs (λ n. h n ∙ charstring_in f.glyphs (sought m f) (are_sought m f) (name_states m f) refl n)
 
   -- the weight of a font's states is the weight of the font
   pub weight_is : states_weight (states_of m f) ≡ weight f
-  weight_is = let subrs = subrs_weigh in let glyphs = names_total f.glyphs (sought m f) (are_sought m f) (name_adds f.shell.len_iv) (λ n. refl) in omega (arith, subrs, glyphs)
+  weight_is = let subrs = subrs_weigh in let glyphs = names_total f.glyphs (sought m f) (are_sought m f) (name_adds f.shell.len_iv) (λ n. refl) in
+      omega (arith, subrs, glyphs)
 
   -- a font's states count the glyphs of the font
   pub glyphs_are : states_glyphs (states_of m f) ≡ maps.len f.glyphs
@@ -132,7 +139,10 @@ module _ {O : Type 0} (m : Interpreter O) (f g : FontValue) where
       to h =
           let c = agree_compatible m f g (parts_laws.only_where _ _ h.0 h.1.0) in
           let same : h.0 ≡ states_of m (joined_font m f g) = parts_laws.one_answer _ _ _ _ h.1.0 (parts_join m f g c) in
-          record { states = c; within = (fits m (joined_font m f g)).1 (subst StatesFit same (⊎_elim (λ a. a) (λ b. subst StatesFit b.0 ((fits m f).0 w)) h.1.1)) }
+          record {
+            states = c;
+            within = (fits m (joined_font m f g)).1 (subst StatesFit same (⊎_elim (λ a. a) (λ b. subst StatesFit b.0 ((fits m f).0 w)) h.1.1));
+          }
 
 -- ---- joined states
 
@@ -159,6 +169,7 @@ module _ {O : Type 0} (m : Interpreter O) (f g : FontValue) (e : states_of m f �
   pub font_known : f ≡ g
   font_known =
       let shared = (sharing f g).1 (ap (λ (s : StatesValue). s.0) e) in
-      same_font f g shared.shells (same_encoding f.encoding g.encoding (ap (λ (s : StatesValue). s.0.1.0) e) (same_shown _ _ _ _ (codes_shown f.encoding) (codes_shown g.encoding) (ap code_part e)))
+      same_font f g shared.shells (same_encoding f.encoding g.encoding (ap (λ (s : StatesValue). s.0.1.0) e)
+      (same_shown _ _ _ _ (codes_shown f.encoding) (codes_shown g.encoding) (ap code_part e)))
       (λ i. grind (cases, same_shown _ _ _ _ (subrs_shown m f) (subrs_shown m g) (ap subr_part e) i, shared.present i, stub_is))
       (λ n. grind (cases, get-names m f n, get-names m g n, ap (λ (t : TableMeaning). maps.get t n) (ap name_part e)))

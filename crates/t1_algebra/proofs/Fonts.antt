@@ -16,7 +16,8 @@ all_of (two s t) = sets.union (all_of s) (all_of t)
 -- a name is in the union if it is in the set of some leaf
 in_all_of : (t : Grouping Names) (n : List ℕ) → sets.contains (all_of t) n ≡ list_any (λ s. sets.contains s n) (leaves t)
 in_all_of (one a) n = grind cases
-in_all_of (two s t) n = sets.contains-union nat_list_cmp_total (all_of s) (all_of t) n ∙ (λ i. in_all_of s n i || in_all_of t n i) ∙ sym (list_any-append (λ s. sets.contains s n) (leaves s) (leaves t))
+in_all_of (two s t) n = sets.contains-union nat_list_cmp_total (all_of s) (all_of t) n
+    ∙ (λ i. in_all_of s n i || in_all_of t n i) ∙ sym (list_any-append (λ s. sets.contains s n) (leaves s) (leaves t))
 
 -- a name is in the union of a list if it is in some set of the list
 in_union_all : (all : List Names) (n : List ℕ) → sets.contains (union_all all) n ≡ list_any (λ s. sets.contains s n) all
@@ -25,7 +26,8 @@ in_union_all (a ∷ rest) n = sets.contains-union nat_list_cmp_total a (union_al
 
 -- the union is the same in every order and grouping
 pub all_alike : (all : List Names) (t : Grouping Names) → IsPermutation all (leaves t) → all_of t ≡ union_all all
-all_alike all t p = sets.same_set nat_list_cmp_total name_same _ _ (λ n. in_all_of t n ∙ sym (list_any-IsPermutation (λ s. sets.contains s n) all (leaves t) p) ∙ sym (in_union_all all n))
+all_alike all t p = sets.same_set nat_list_cmp_total name_same _ _
+    (λ n. in_all_of t n ∙ sym (list_any-IsPermutation (λ s. sets.contains s n) all (leaves t) p) ∙ sym (in_union_all all n))
 
 -- the union of sets of the font's names is a set of its names
 pub all_is_of : (f : FontValue) (t : Grouping Names) → EachLeaf (IsOf f) t → IsOf f (all_of t)
@@ -48,7 +50,8 @@ module _ {O : Type 0} (m : Interpreter O) where
   pub joined_is_font : (f g : FontValue) → IsFont f → IsFont g → Join m f g → IsFont (joined_font m f g)
   joined_is_font f g h k j =
       let e = joined_are_entries m f g j.states in
-      subst IsFont (sym e) (join_is_font f g h k j.states.shells j.states.kinds j.within.glyphs (subst (λ (j : FontValue). weight j ≤ weight_limit) e j.within.weight))
+      subst IsFont (sym e) (join_is_font f g h k j.states.shells j.states.kinds j.within.glyphs
+      (subst (λ (j : FontValue). weight j ≤ weight_limit) e j.within.weight))
 
   -- two subsets of a font join in either order, to the subset over both sets of names
   pub two_subsets : (f : FontValue) → IsFont f → (a b : Names) → IsOf f a → IsOf f b →
@@ -68,7 +71,8 @@ module _ {O : Type 0} (m : Interpreter O) where
       (subset m f (all_of s), subset m f (all_of t), tree_merges f h s i.0, tree_merges f h t i.1, (both.0, both.1))
 
   -- subsets of a font merge in any order and grouping to the subset over all the sets of names
-  pub many_subsets : (f : FontValue) → IsFont f → (all : List Names) (t : Grouping Names) → IsPermutation all (leaves t) → EachLeaf (IsOf f) t → Merges m (map_grouping (subset m f) t) (subset m f (union_all all))
+  pub many_subsets : (f : FontValue) → IsFont f → (all : List Names) (t : Grouping Names) → IsPermutation all (leaves t) → EachLeaf (IsOf f) t →
+      Merges m (map_grouping (subset m f) t) (subset m f (union_all all))
   many_subsets f h all t p i = subst (λ (a : Names). Merges m (map_grouping (subset m f) t) (subset m f a)) (all_alike all t p) (tree_merges f h t i)
 
   -- what fonts merge to is a font
@@ -77,7 +81,8 @@ module _ {O : Type 0} (m : Interpreter O) where
   merges_are_fonts (two s t) j k h = subst IsFont k.4.1 (joined_is_font k.0 k.1 (merges_are_fonts s k.0 k.2 h.0) (merges_are_fonts t k.1 k.3 h.1) k.4.0)
 
   -- fonts that merge in one order and grouping merge in every other, to the same font and to no other
-  pub any_order_of_fonts : (s t : Grouping FontValue) → IsPermutation (leaves s) (leaves t) → EachLeaf IsFont s → (j : FontValue) → Merges m s j → IsFont j × Merges m t j × ((k : FontValue) → Merges m t k → k ≡ j)
+  pub any_order_of_fonts : (s t : Grouping FontValue) → IsPermutation (leaves s) (leaves t) → EachLeaf IsFont s → (j : FontValue) → Merges m s j →
+      IsFont j × Merges m t j × ((k : FontValue) → Merges m t k → k ≡ j)
   any_order_of_fonts s t p h j k =
       let there = any_order m s t p (fonts_within s h) j k in
       (merges_are_fonts s j k h, there, λ q w. one_result m t q j w there)

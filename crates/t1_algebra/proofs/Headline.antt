@@ -32,19 +32,23 @@ module _ (f : FontValue) (h : IsFont f) where
   makes_one (Merge s t) i k j d =
       let left = makes_one s i.0 k.0 d.0 d.2 in
       let right = makes_one t i.1 k.1 d.1 d.3 in
-      sym d.4.1 ∙ (λ x. joined_font profile (left x) (right x)) ∙ (two_subsets profile f h (all_of (sets_of s)) (all_of (sets_of t)) (all_is_of f (sets_of s) i.0) (all_is_of f (sets_of t) i.1)).1
+      sym d.4.1 ∙ (λ x. joined_font profile (left x) (right x))
+      ∙ (two_subsets profile f h (all_of (sets_of s)) (all_of (sets_of t)) (all_is_of f (sets_of s) i.0) (all_is_of f (sets_of t) i.1)).1
   makes_one (Again form s) i k j d =
       let on_the_way = makes_one s i k.1 d.0 d.1 in
-      let same = sym d.2 ∙ ap (λ (p : FontValue). read_font (canon p form)) on_the_way ∙ subset_again (all_of (sets_of s)) form (all_is_of f (sets_of s) i) k.0 in
+      let same =
+      sym d.2 ∙ ap (λ (p : FontValue). read_font (canon p form)) on_the_way ∙ subset_again (all_of (sets_of s)) form (all_is_of f (sets_of s) i) k.0 in
       cc
 
   -- a making from sets in any order comes to the subset over all of them
-  pub comes_to_subset : (all : List Names) (m : Making) → IsPermutation all (leaves (sets_of m)) → EachLeaf (IsOf f) (sets_of m) → FormsFit f m → ComesToSubset f m (union_all all)
+  pub comes_to_subset : (all : List Names) (m : Making) → IsPermutation all (leaves (sets_of m)) → EachLeaf (IsOf f) (sets_of m) → FormsFit f m →
+      ComesToSubset f m (union_all all)
   comes_to_subset all m p i k =
       let same = all_alike all (sets_of m) p in
       let one : (j : FontValue) → Makes f m j → j ≡ subset profile f (union_all all) = λ j d. makes_one m i k j d ∙ ap (subset profile f) same in
       record {
         succeeds = subst (λ (a : Names). Makes f m (subset profile f a)) same (makes m i k);
         bytes = λ j form d. ap (λ (g : FontValue). canon g form) (one j d);
-        draws = λ j n d w. subst (λ (g : FontValue). DrawsAlike f g n) (sym (one j d)) (subset_alike f h (union_all all) (subst (IsOf f) same (all_is_of f (sets_of m) i)) n w);
+        draws = λ j n d w. subst (λ (g : FontValue). DrawsAlike f g n) (sym (one j d))
+            (subset_alike f h (union_all all) (subst (IsOf f) same (all_is_of f (sets_of m) i)) n w);
       }

@@ -28,7 +28,8 @@ glyph_agree m f g c n = grind (cases, c.names n)
 -- compatible fonts join to the same font in both orders
 pub font_back : {O : Type 0} (m : Interpreter O) (f g : FontValue) → Compatible m f g → joined_font m f g ≡ joined_font m g f
 font_back m f g c = same_font (joined_font m f g) (joined_font m g f) c.shells
-    (same_encoding _ _ (grind (cases, c.kinds)) (λ k. grind (cases, code_joined f.encoding g.encoding c.kinds k, code_joined g.encoding f.encoding (compatible_back m f g c).kinds k, c.codes k)))
+    (same_encoding _ _ (grind (cases, c.kinds))
+    (λ k. grind (cases, code_joined f.encoding g.encoding c.kinds k, code_joined g.encoding f.encoding (compatible_back m f g c).kinds k, c.codes k)))
     (λ i. grind (cases, subr_in_join m f g i, subr_in_join m g f i, c.present i, c.subrs i))
     (λ n. grind (cases, glyph_in_join m f g n, glyph_in_join m g f n, glyph_agree m f g c n))
 
@@ -40,7 +41,8 @@ module _ {O : Type 0} (m : Interpreter O) (f g : FontValue) where
   present_joined i = grind (cases, subr_in_join m f g i)
 
   -- the Subrs that a glyph of the first font executes are in the join as before
-  pub left_subrs : (n c : List ℕ) → maps.get f.glyphs n ≡ Some c → (i : ℕ) → sets.contains (m.exec f.subrs c) i ≡ true → maps.get (joined_font m f g).subrs i ≡ maps.get f.subrs i
+  pub left_subrs : (n c : List ℕ) → maps.get f.glyphs n ≡ Some c → (i : ℕ) → sets.contains (m.exec f.subrs c) i ≡ true →
+      maps.get (joined_font m f g).subrs i ≡ maps.get f.subrs i
   left_subrs n c is i h = grind (cases, subr_in_join m f g i, called m f i n, is, h)
 
   -- a glyph of the first font runs in the join as before
@@ -86,7 +88,14 @@ module _ {O : Type 0} (m : Interpreter O) (f g : FontValue) (c : Compatible m f 
   -- the joined font is the font of the entries of both
   pub joined_are_entries : joined_font m f g ≡ join_parts f g
   joined_are_entries = same_font (joined_font m f g) (join_parts f g) refl refl
-      (λ i. grind (cases, subr_in_join m f g i, c.present i, c.subrs i, get-map_values nat_cmp_total nat_cmp-IsAntisymmetric (λ i v. joined_subr v (maps.get g.subrs i)) f.subrs i, stub_is))
+      (λ i. grind (
+        cases,
+        subr_in_join m f g i,
+        c.present i,
+        c.subrs i,
+        get-map_values nat_cmp_total nat_cmp-IsAntisymmetric (λ i v. joined_subr v (maps.get g.subrs i)) f.subrs i,
+        stub_is,
+      ))
       (λ n. refl)
 
   -- the entries of both make a join

@@ -79,13 +79,17 @@ module _ (f : FontValue) (w : IsFont f) where
   all_of_font a (b ∷ more) h n k = grind (cases, k, sets.contains-union nat_list_cmp_total a (union_all (b ∷ more)) n, h.0 n, all_of_font b more h.1 n)
 
   -- subsets of a font merge from left to right to the subset over all the sets
-  pub all_merge : (a : Names) (more : List Names) → AllByRecursion (IsOf f) (a ∷ more) → Merges profile (from_left (one (subset profile f a)) (map (subset profile f) more)) (subset profile f (union_all (a ∷ more)))
+  pub all_merge : (a : Names) (more : List Names) → AllByRecursion (IsOf f) (a ∷ more) →
+      Merges profile (from_left (one (subset profile f a)) (map (subset profile f) more)) (subset profile f (union_all (a ∷ more)))
   all_merge a more h = subst (λ (t : Grouping FontValue). Merges profile t (subset profile f (union_all (a ∷ more)))) (left_map (subset profile f) (one a) more)
-      (many_subsets profile f w (a ∷ more) (from_left (one a) more) (subst (IsPermutation (a ∷ more)) (sym (leaves_from_left (one a) more)) (IsPermutation-refl (a ∷ more))) (left_each (IsOf f) a more h))
+      (many_subsets profile f w (a ∷ more) (from_left (one a) more)
+      (subst (IsPermutation (a ∷ more)) (sym (leaves_from_left (one a) more)) (IsPermutation-refl (a ∷ more))) (left_each (IsOf f) a more h))
 
   -- subsets of a font merge from left to right to no other font
-  pub one_subset : (a : Names) (more : List Names) → AllByRecursion (IsOf f) (a ∷ more) → (j : FontValue) → Merges profile (from_left (one (subset profile f a)) (map (subset profile f) more)) j → j ≡ subset profile f (union_all (a ∷ more))
-  one_subset a more h j m = one_result profile (from_left (one (subset profile f a)) (map (subset profile f) more)) j (subset profile f (union_all (a ∷ more))) m (all_merge a more h)
+  pub one_subset : (a : Names) (more : List Names) → AllByRecursion (IsOf f) (a ∷ more) → (j : FontValue) →
+      Merges profile (from_left (one (subset profile f a)) (map (subset profile f) more)) j → j ≡ subset profile f (union_all (a ∷ more))
+  one_subset a more h j m =
+      one_result profile (from_left (one (subset profile f a)) (map (subset profile f) more)) j (subset profile f (union_all (a ∷ more))) m (all_merge a more h)
 
 -- ---- glyphs
 
@@ -110,7 +114,11 @@ all_on p j b = all_weaker (Draws p) (Draws j) (λ f a n h. alike_trans f p j n (
 
 -- each glyph of fonts draws in what they merge to as it did
 pub all_draw : (t : Grouping FontValue) (j : FontValue) → Merges profile t j → DrawsAll (leaves t) j
-all_draw (one f) j m = (subst (λ (j : FontValue). Draws j f) m (λ n h. record { charstring = refl; answer = λ c is. refl; answer3 = λ c is. refl; executes = λ c is. refl; draws = refl; draws3 = refl }), tt)
+all_draw (one f) j m = (
+  subst (λ (j : FontValue). Draws j f) m
+      (λ n h. record { charstring = refl; answer = λ c is. refl; answer3 = λ c is. refl; executes = λ c is. refl; draws = refl; draws3 = refl }),
+  tt,
+)
 all_draw (two s t) j m =
     let l : Draws j m.0 = subst (λ (j : FontValue). Draws j m.0) m.4.1 (left_alike m.0 m.1 m.4.0.states) in
     let r : Draws j m.1 = subst (λ (j : FontValue). Draws j m.1) m.4.1 (right_alike m.0 m.1 m.4.0.states) in

@@ -27,7 +27,8 @@ module _ {K : Type 0} {R : K → K → Ordering} (o : IsTotalOrder R) (same : Is
   both_back a b = maps.same_map o same (keys_of_both a b) (keys_of_both b a) (λ q. grind (cases, get-both a b q, get-both b a q))
 
 -- a map of keys that all have one value has it at each of these keys, and nothing else
-pub get-valued : {K X : Type 0} {R : K → K → Ordering} (o : IsTotalOrder R) (v : X) (ks : List K) (q : K) → maps.get {R = R} (maps.from_entries (map (λ k. (k, v)) ks)) q ≡ cond (list_any (eq_by_cmp R q) ks) (Some v) None
+pub get-valued : {K X : Type 0} {R : K → K → Ordering} (o : IsTotalOrder R) (v : X) (ks : List K) (q : K) →
+    maps.get {R = R} (maps.from_entries (map (λ k. (k, v)) ks)) q ≡ cond (list_any (eq_by_cmp R q) ks) (Some v) None
 get-valued {R = R} o v ks q = maps.get-from_entries o (map (λ k. (k, v)) ks) q ∙ find_valued ks
   where
     find_valued : (ks : List _) → maps.find R q (map (λ k. (k, v)) ks) ≡ cond (list_any (eq_by_cmp R q) ks) (Some v) None

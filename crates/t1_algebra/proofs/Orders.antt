@@ -24,12 +24,14 @@ module _ {O : Type 0} (m : Interpreter O) where
   grouped t = map_grouping (states_of m) t
 
   -- if the states of fonts join, the fonts merge, to a font of the joined states
-  pub merges_by_states : (t : Grouping FontValue) → EachLeaf IsWithin t → (v : StatesValue) → Gives StatesJoin (grouped t) v → (j : FontValue) × Merges m t j × (v ≡ states_of m j) × IsWithin j
+  pub merges_by_states : (t : Grouping FontValue) → EachLeaf IsWithin t → (v : StatesValue) → Gives StatesJoin (grouped t) v →
+      (j : FontValue) × Merges m t j × (v ≡ states_of m j) × IsWithin j
   merges_by_states (one f) w v h = (f, refl, sym h, w)
   merges_by_states (two s t) w v h =
       let p = merges_by_states s w.0 h.0 h.2 in
       let q = merges_by_states t w.1 h.1 h.3 in
-      let k : StatesJoin (states_of m p.0) (states_of m q.0) v = subst (λ (y : StatesValue). StatesJoin (states_of m p.0) y v) q.2 (subst (λ (x : StatesValue). StatesJoin x h.1 v) p.2 h.4) in
+      let k : StatesJoin (states_of m p.0) (states_of m q.0) v =
+      subst (λ (y : StatesValue). StatesJoin (states_of m p.0) y v) q.2 (subst (λ (x : StatesValue). StatesJoin x h.1 v) p.2 h.4) in
       let j = (join_exactly m p.0 q.0 p.3).0 (v, k) in
       (joined_font m p.0 q.0, (p.0, q.0, p.1, q.1, (j, refl)), states_laws.one_answer _ _ _ _ k (states_join m p.0 q.0 j), j.within)
 
@@ -92,7 +94,8 @@ module _ {O : Type 0} (m : Interpreter O) where
   -- ---- each pair
 
   -- what is compatible with two fonts is compatible with their join
-  all_with_join : (f g : FontValue) (hs : List FontValue) → Compatible m f g → AllByRecursion (Compatible m f) hs → AllByRecursion (Compatible m g) hs → AllByRecursion (Compatible m (joined_font m f g)) hs
+  all_with_join : (f g : FontValue) (hs : List FontValue) → Compatible m f g → AllByRecursion (Compatible m f) hs → AllByRecursion (Compatible m g) hs →
+      AllByRecursion (Compatible m (joined_font m f g)) hs
   all_with_join f g [] c a b = tt
   all_with_join f g (h ∷ hs) c a b = (
     agree_compatible m (joined_font m f g) h (parts_by_pairs _ _ _ _ (parts_join m f g c) (compatible_agree m f h a.0) (compatible_agree m g h b.0)),
@@ -107,7 +110,8 @@ module _ {O : Type 0} (m : Interpreter O) where
       (fits m f).1 (falls _ _ _ (parts_join m f g a.0) ((fits m j).0 (first_within j gs (all_with_join f g gs a.0 a.1 p.0) p.1 w)))
 
   -- fonts of which each two are compatible merge from left to right, if the last join is within the limits
-  folds : (t : Grouping FontValue) (f : FontValue) (gs : List FontValue) → Merges m t f → AllByRecursion (Compatible m f) gs → EachPair m gs → IsWithin (folded m f gs) → Merges m (from_left t gs) (folded m f gs)
+  folds : (t : Grouping FontValue) (f : FontValue) (gs : List FontValue) → Merges m t f →
+      AllByRecursion (Compatible m f) gs → EachPair m gs → IsWithin (folded m f gs) → Merges m (from_left t gs) (folded m f gs)
   folds t f [] h a p w = h
   folds t f (g ∷ gs) h a p w =
       let j = joined_font m f g in
@@ -115,25 +119,30 @@ module _ {O : Type 0} (m : Interpreter O) where
       folds (two t (one g)) j gs (f, g, h, refl, (record { states = a.0; within = first_within j gs next p.1 w }, refl)) next p.1 w
 
   -- a list of which each two fonts are compatible merges, if what it folds to is within the limits
-  pub accepted_from_pairs : (f : FontValue) (fs : List FontValue) → EachPair m (f ∷ fs) → IsWithin (folded m f fs) → Merges m (from_left (one f) fs) (folded m f fs)
+  pub accepted_from_pairs : (f : FontValue) (fs : List FontValue) → EachPair m (f ∷ fs) → IsWithin (folded m f fs) →
+      Merges m (from_left (one f) fs) (folded m f fs)
   accepted_from_pairs f fs p w = folds (one f) f fs refl p.0 p.1 w
 
   -- each two fonts below j are compatible
   pairs_below : (j : FontValue) (fs : List FontValue) → AllByRecursion (Below j) fs → EachPair m fs
   pairs_below j [] a = tt
   pairs_below j (f ∷ fs) a = (
-    all_weaker (Below j) (Compatible m f) (λ g b. let r = below_both states_laws _ _ _ a.0 b in agree_compatible m f g (parts_laws.only_where _ _ _ r.1.0)) fs a.1,
+    all_weaker (Below j) (Compatible m f)
+        (λ g b. let r = below_both states_laws _ _ _ a.0 b in agree_compatible m f g (parts_laws.only_where _ _ _ r.1.0)) fs a.1,
     pairs_below j fs a.1,
   )
 
   -- each two fonts of a list that merges are compatible
   pub pairs_from_accepted : (f : FontValue) (fs : List FontValue) (j : FontValue) → Merges m (from_left (one f) fs) j → EachPair m (f ∷ fs)
-  pairs_from_accepted f fs j h = pairs_below j (f ∷ fs) (subst (AllByRecursion (Below j)) (leaves_from_left (one f) fs) (all_leaves (Below j) (from_left (one f) fs) (above (from_left (one f) fs) j h)))
+  pairs_from_accepted f fs j h = pairs_below j (f ∷ fs)
+      (subst (AllByRecursion (Below j)) (leaves_from_left (one f) fs) (all_leaves (Below j) (from_left (one f) fs) (above (from_left (one f) fs) j h)))
 
   -- what merges from left to right came to is what the fonts fold to
-  folded_from : (t : Grouping FontValue) (f : FontValue) (gs : List FontValue) (j : FontValue) → ((k : FontValue) → Merges m t k → k ≡ f) → Merges m (from_left t gs) j → folded m f gs ≡ j
+  folded_from : (t : Grouping FontValue) (f : FontValue) (gs : List FontValue) (j : FontValue) →
+      ((k : FontValue) → Merges m t k → k ≡ f) → Merges m (from_left t gs) j → folded m f gs ≡ j
   folded_from t f [] j only h = sym (only j h)
-  folded_from t f (g ∷ gs) j only h = folded_from (two t (one g)) (joined_font m f g) gs j (λ k i. sym i.4.1 ∙ (λ e. joined_font m (only i.0 i.2 e) (sym i.3 e))) h
+  folded_from t f (g ∷ gs) j only h =
+      folded_from (two t (one g)) (joined_font m f g) gs j (λ k i. sym i.4.1 ∙ (λ e. joined_font m (only i.0 i.2 e) (sym i.3 e))) h
 
   -- what a list merges to is what it folds to
   pub folded_is : (f : FontValue) (fs : List FontValue) (j : FontValue) → Merges m (from_left (one f) fs) j → folded m f fs ≡ j

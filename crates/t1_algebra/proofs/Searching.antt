@@ -47,10 +47,13 @@ module _ {K : Type 0} {R : K → K → Ordering} (o : IsTotalOrder R) (same : Is
       → ((q : K) → list_any (eq_by_cmp R q) (map (λ e. e.0) es) ≡ true → R q k ≡ Less → p q ≡ false) → first_where p (map (λ e. e.0) es) ≡ Some k
   first_is k [] s h is least = absurd (true≢false (sym h))
   first_is k (e ∷ es) s h is least =
-      let rest = λ (c : list_any (eq_by_cmp R k) (map (λ e. e.0) es) ≡ true). first_is k es (second_so (below_all R e.0 es) _ s) c is (λ q w. least q (or_right _ _ w)) in
+      let rest = λ (c : list_any (eq_by_cmp R k) (map (λ e. e.0) es) ≡ true).
+      first_is k es (second_so (below_all R e.0 es) _ s) c is (λ q w. least q (or_right _ _ w)) in
       grind (cases, tied o same k e.0, itself o same e.0, least e.0, below_later e.0 k es, rest, first_so (below_all R e.0 es) (is_sorted R es) s)
 
   -- a member that passes, below which none does, is the smallest
-  pub smallest_is : (s : maps.FinMap R ℕ) (k : K) → maps.contains_key s k ≡ true → p k ≡ true → ((q : K) → maps.contains_key s q ≡ true → R q k ≡ Less → p q ≡ false) → smallest p s ≡ Some k
-  smallest_is s k h is least = first_is k (maps.entries s) (T_true (is_sorted R (maps.entries s)) (maps.entries_sorted s)) (sym (maps.contains_key-keys s k) ∙ h) is
+  pub smallest_is : (s : maps.FinMap R ℕ) (k : K) → maps.contains_key s k ≡ true → p k ≡ true →
+      ((q : K) → maps.contains_key s q ≡ true → R q k ≡ Less → p q ≡ false) → smallest p s ≡ Some k
+  smallest_is s k h is least =
+      first_is k (maps.entries s) (T_true (is_sorted R (maps.entries s)) (maps.entries_sorted s)) (sym (maps.contains_key-keys s k) ∙ h) is
       (λ q w l. least q (maps.contains_key-keys s q ∙ w) l)

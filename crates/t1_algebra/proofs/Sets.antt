@@ -1,5 +1,6 @@
 -- Members of lists and of finite sets.
-use Rattle.std.proofs.Common.{◌≡◌, ℕ, Bool, true, false, ◌||◌, ◌&&◌, List, [], ◌∷◌, ◌++◌, map, refl, sym, ◌∙◌, ap, true≢false, ◌⊎◌, ◌↔◌, inl, inr, filter, Ordering, flat_map, arith, Option, Some, None}
+use Rattle.std.proofs.Common.{◌≡◌, ℕ, Bool, true, false, ◌||◌, ◌&&◌, List, [], ◌∷◌, ◌++◌, map, refl, sym, ◌∙◌, ap}
+use Rattle.std.proofs.Common.{true≢false, ◌⊎◌, ◌↔◌, inl, inr, filter, Ordering, flat_map, arith, Option, Some, None}
 use Rattle.std.specs.{Cmp.{Equal-is, both_ways, tied_itself}, FinSet.{FinSet, slice_cmp-IsAntisymmetric}}
 use Rattle.std.proofs.{lemmas.Bool.{and_from, or_left, or_right, or_cases, cases_Bool}, lemmas.List.Folds.{list_all-append, list_all-map, list_any-append}, lemmas.Map.Views.{any-filter_same}}
 use Rattle.std.specs.FinSet as sets
@@ -90,7 +91,8 @@ module _ {K : Type 0} {R : K → K → Ordering} (o : IsTotalOrder R) (same : Is
   -- ---- sets
 
   -- sets with the same members are the same
-  pub same_members : (s t : FinSet R) → ((q : K) → sets.contains s q ≡ true → sets.contains t q ≡ true) → ((q : K) → sets.contains t q ≡ true → sets.contains s q ≡ true) → s ≡ t
+  pub same_members : (s t : FinSet R) → ((q : K) → sets.contains s q ≡ true → sets.contains t q ≡ true) →
+      ((q : K) → sets.contains t q ≡ true → sets.contains s q ≡ true) → s ≡ t
   same_members s t f g = sets.same_set o same s t (λ q. both_ways _ _ (f q) (g q))
 
   pub in_union : (s t : FinSet R) (q : K) → sets.contains (sets.union s t) q ≡ true → (sets.contains s q ≡ true) ⊎ (sets.contains t q ≡ true)
@@ -119,22 +121,31 @@ pub name_same : IsAntisymmetric name_cmp
 name_same = slice_cmp-IsAntisymmetric nat_cmp-IsAntisymmetric
 
 -- all sets of some names pass a test exactly if each set of these names does
-pub each_set : (ns : List (List ℕ)) (p : Names → Bool) → (list_all p (sets_of ns) ≡ true) ↔ ((s : Names) → ((q : List ℕ) → sets.contains s q ≡ true → list_any (eq_by_cmp name_cmp q) ns ≡ true) → p s ≡ true)
+pub each_set : (ns : List (List ℕ)) (p : Names → Bool) → (list_all p (sets_of ns) ≡ true) ↔
+    ((s : Names) → ((q : List ℕ) → sets.contains s q ≡ true → list_any (eq_by_cmp name_cmp q) ns ≡ true) → p s ≡ true)
 each_set [] p = (
-  λ all s w. ap p (sets.same_set nat_list_cmp_total name_same s sets.empty (λ q. grind (cases, w q, sets.contains-empty name_cmp q))) ∙ first_so (p sets.empty) true all,
+  λ all s w. ap p (sets.same_set nat_list_cmp_total name_same s sets.empty (λ q. grind (cases, w q, sets.contains-empty name_cmp q)))
+      ∙ first_so (p sets.empty) true all,
   λ each. and_from (p sets.empty) true (each sets.empty (λ q h. clash (sets.contains {R = name_cmp} sets.empty q) h (sets.contains-empty name_cmp q))) refl,
 )
 each_set (n ∷ ns) p =
     let both = list_all-append p (sets_of ns) (map (λ t. sets.insert t n) (sets_of ns)) in
     let new = list_all-map p (λ t. sets.insert t n) (sets_of ns) in (
       λ all s w. elim (cases_Bool (sets.contains s n)) [
-        | inr out ↦ (each_set ns p).0 (first_so (list_all p (sets_of ns)) _ (sym both ∙ all)) s (λ q h. grind (cases, w q h, tied nat_list_cmp_total name_same q n))
+        | inr out ↦ (each_set ns p).0 (first_so (list_all p (sets_of ns)) _ (sym both ∙ all)) s
+            (λ q h. grind (cases, w q h, tied nat_list_cmp_total name_same q n))
         | inl is ↦
             ap p (sets.same_set nat_list_cmp_total name_same s (sets.insert (sets.remove s n) n) (λ q.
-            grind (cases, sets.contains-insert nat_list_cmp_total (sets.remove s n) n q, sets.contains-remove nat_list_cmp_total s n q, tied nat_list_cmp_total name_same q n)))
+            grind (
+              cases,
+              sets.contains-insert nat_list_cmp_total (sets.remove s n) n q,
+              sets.contains-remove nat_list_cmp_total s n q,
+              tied nat_list_cmp_total name_same q n,
+            )))
             ∙ (each_set ns (λ t. p (sets.insert t n))).0 (sym new ∙ second_so (list_all p (sets_of ns)) _ (sym both ∙ all)) (sets.remove s n)
             (λ q h. grind (cases, w q, sets.contains-remove nat_list_cmp_total s n q))
       ],
       λ each. both ∙ and_from _ _ ((each_set ns p).1 (λ s w. each s (λ q h. or_right _ _ (w q h))))
-          (new ∙ (each_set ns (λ t. p (sets.insert t n))).1 (λ s w. each (sets.insert s n) (λ q h. grind (cases, w q, sets.contains-insert nat_list_cmp_total s n q)))),
+          (new ∙ (each_set ns (λ t. p (sets.insert t n))).1
+          (λ s w. each (sets.insert s n) (λ q h. grind (cases, w q, sets.contains-insert nat_list_cmp_total s n q)))),
     )

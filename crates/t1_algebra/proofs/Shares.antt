@@ -62,13 +62,19 @@ pub record Shares (f g : FontValue) : Type 0 where
   pub kinds : SameKind f.encoding g.encoding
 
 keys_of : (m : Numbered) → maps.keys m ≡ maps.keys {X = ℕ} (map_values (λ i c. 0) m)
-keys_of m = sym (ap (map (λ e. e.0)) (entries-map_values nat_cmp_total nat_cmp-IsAntisymmetric (λ i c. 0) m) ∙ map-map (λ e. e.0) (λ e. (e.0, 0)) (maps.entries m))
+keys_of m =
+    sym (ap (map (λ e. e.0)) (entries-map_values nat_cmp_total nat_cmp-IsAntisymmetric (λ i c. 0) m) ∙ map-map (λ e. e.0) (λ e. (e.0, 0)) (maps.entries m))
 
 -- maps that are present at the same indices have the same keys
 pub same_indices : (m n : Numbered) → ((i : ℕ) → maps.contains_key m i ≡ maps.contains_key n i) → maps.keys m ≡ maps.keys n
 same_indices m n h = keys_of m
     ∙ ap (λ (s : maps.FinMap nat_cmp ℕ). maps.keys s) (maps.same_map nat_cmp_total nat_cmp-IsAntisymmetric _ _ (λ i.
-    grind (cases, h i, get-map_values nat_cmp_total nat_cmp-IsAntisymmetric {Y = ℕ} (λ i c. 0) m i, get-map_values nat_cmp_total nat_cmp-IsAntisymmetric {Y = ℕ} (λ i c. 0) n i)))
+    grind (
+      cases,
+      h i,
+      get-map_values nat_cmp_total nat_cmp-IsAntisymmetric {Y = ℕ} (λ i c. 0) m i,
+      get-map_values nat_cmp_total nat_cmp-IsAntisymmetric {Y = ℕ} (λ i c. 0) n i,
+    )))
     ∙ sym (keys_of n)
 
 -- fonts share what they have to exactly if they have the same shared value
@@ -83,6 +89,7 @@ sharing f g = (
 )
 
 -- no part differs exactly if all is the same
-pub parts_test : {X : Type 0} (part : X → ShellPart) (s t : Shared) (r : Option X) (b : Bool) → is_some r ≡ not b → option_map part r ≡ differing_part s t → (b ≡ true) ↔ (s ≡ t)
+pub parts_test : {X : Type 0} (part : X → ShellPart) (s t : Shared) (r : Option X) (b : Bool) →
+    is_some r ≡ not b → option_map part r ≡ differing_part s t → (b ≡ true) ↔ (s ≡ t)
 parts_test part s t None b n e = (λ h. shared_so s t (sym e), λ h. not-false b (sym n))
 parts_test part s t (Some x) b n e = (λ h. absurd (true≢false (n ∙ ap not h)), λ h. Some_None (e ∙ no_part_differs s t h))

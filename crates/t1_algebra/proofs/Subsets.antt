@@ -18,7 +18,8 @@ pub stub_is : (c : List ℕ) → is_stub c ≡ true → c ≡ stub
 stub_is c h = (bytes_eq-Decides c stub).0 h
 
 -- fonts with equal shells and Encodings and with the same Subrs and glyphs are equal
-pub same_font : (f g : FontValue) → f.shell ≡ g.shell → f.encoding ≡ g.encoding → ((i : ℕ) → maps.get f.subrs i ≡ maps.get g.subrs i) → ((n : List ℕ) → maps.get f.glyphs n ≡ maps.get g.glyphs n) → f ≡ g
+pub same_font : (f g : FontValue) → f.shell ≡ g.shell → f.encoding ≡ g.encoding →
+    ((i : ℕ) → maps.get f.subrs i ≡ maps.get g.subrs i) → ((n : List ℕ) → maps.get f.glyphs n ≡ maps.get g.glyphs n) → f ≡ g
 same_font f g a b c d =
     let subrs = maps.same_map nat_cmp_total nat_cmp-IsAntisymmetric f.subrs g.subrs c in
     let glyphs = maps.same_map nat_list_cmp_total name_same f.glyphs g.glyphs d in
@@ -36,7 +37,8 @@ pub code_joined : (d e : Encoding) → SameKind d e → (c : ℕ) → code_state
 code_joined d e h c = grind (cases, h, get-merged nat_cmp_total nat_cmp-IsAntisymmetric {X = List ℕ})
 
 -- a code of a cut Encoding has its name if that is kept
-pub get-code : (p : List ℕ → Bool) (e : Encoding) (c : ℕ) → code_state (restrict_encoding p e) c ≡ cond (p (unwrap_or (code_state e c) [])) (code_state e c) None
+pub get-code : (p : List ℕ → Bool) (e : Encoding) (c : ℕ) →
+    code_state (restrict_encoding p e) c ≡ cond (p (unwrap_or (code_state e c) [])) (code_state e c) None
 get-code p (Word w) c = grind cases
 get-code p (Codes t) c = get-retain nat_cmp_total nat_cmp-IsAntisymmetric t (λ c. p (unwrap_or (maps.get t c) [])) c
 
@@ -85,7 +87,8 @@ module _ {O : Type 0} (m : Interpreter O) (f : FontValue) (a : Names) where
 
   -- a subset has no more glyphs than the font
   pub subset_glyphs : maps.len (subset m f a).glyphs ≤ maps.len f.glyphs
-  subset_glyphs = rw (maps.len-entries, maps.len-entries, ← length_total, ← length_total) (total-le nat_list_cmp_total name_same (λ k x. 1) (λ k x. 1) (subset m f a).glyphs f.glyphs
+  subset_glyphs = rw (maps.len-entries, maps.len-entries, ← length_total, ← length_total)
+      (total-le nat_list_cmp_total name_same (λ k x. 1) (λ k x. 1) (subset m f a).glyphs f.glyphs
       (λ n v h. (v, cut_had nat_list_cmp_total name_same f.glyphs (sets.contains (keep m f a)) n v h, omega arith)))
 
 module _ {O : Type 0} (m : Interpreter O) (f : FontValue) (base : has f notdef ≡ true) (a : Names) (inside : IsOf f a) where
@@ -105,14 +108,23 @@ module _ (k l : Names) (e : Encoding) where
   encodings_kind = grind cases
 
   -- two cuts of an Encoding join to its cut to the names of both
-  encodings_join : join_encodings (restrict_encoding (sets.contains k) e) (restrict_encoding (sets.contains l) e) ≡ restrict_encoding (sets.contains (sets.union k l)) e
+  encodings_join : join_encodings (restrict_encoding (sets.contains k) e) (restrict_encoding (sets.contains l) e)
+      ≡ restrict_encoding (sets.contains (sets.union k l)) e
   encodings_join = same_encoding _ _ (grind cases) (λ c.
       let cut = λ (s : Names). get-code (sets.contains s) e c in
-      grind (cases, code_joined _ _ encodings_kind c, cut k, cut l, cut (sets.union k l), sets.contains-union nat_list_cmp_total k l (unwrap_or (code_state e c) [])))
+      grind (
+        cases,
+        code_joined _ _ encodings_kind c,
+        cut k,
+        cut l,
+        cut (sets.union k l),
+        sets.contains-union nat_list_cmp_total k l (unwrap_or (code_state e c) []),
+      ))
 
 module _ {O : Type 0} (m : Interpreter O) (f g : FontValue) where
   -- the join has the joined state at each index of the first font, or a stub for the bottom
-  pub subr_in_join : (i : ℕ) → maps.get (joined_font m f g).subrs i ≡ option_map (λ v. unwrap_or (joined (subr_state m f i) (subr_state m g i)) stub) (maps.get f.subrs i)
+  pub subr_in_join : (i : ℕ) →
+      maps.get (joined_font m f g).subrs i ≡ option_map (λ v. unwrap_or (joined (subr_state m f i) (subr_state m g i)) stub) (maps.get f.subrs i)
   subr_in_join i = get-map_values nat_cmp_total nat_cmp-IsAntisymmetric (λ i v. unwrap_or (joined (subr_state m f i) (subr_state m g i)) stub) f.subrs i
 
   -- the join has the charstring of either font at each name
@@ -132,7 +144,14 @@ module _ {O : Type 0} (m : Interpreter O) (f : FontValue) (base : has f notdef �
       grind (cases, subr_in_join m (subset m f a) (subset m f b) i, get-subr m f a i, subr_state_is m f a i, subr_state_is m f b i, stub_is, either, stubbed))
       (λ n.
       let either = sets.contains-union nat_list_cmp_total (keep m f a) (keep m f b) n in
-      grind (cases, glyph_in_join m (subset m f a) (subset m f b) n, get-glyph m f a n, get-glyph m f b n, get-retain nat_list_cmp_total name_same f.glyphs names n, either))
+      grind (
+        cases,
+        glyph_in_join m (subset m f a) (subset m f b) n,
+        get-glyph m f a n,
+        get-glyph m f b n,
+        get-retain nat_list_cmp_total name_same f.glyphs names n,
+        either,
+      ))
       ∙ (λ i. restrict (sets.contains (sym (keep_union m f a b base ia ib) i)) (sets.contains (sym (kept_union m f a b base ia ib) i)) f)
 
   -- two subsets of a font are compatible
@@ -150,5 +169,6 @@ module _ {O : Type 0} (m : Interpreter O) (f : FontValue) (base : has f notdef �
   pub subsets_join : IsWithin f → Join m (subset m f a) (subset m f b)
   subsets_join w = record {
     states = subsets_compatible;
-    within = subst IsWithin (sym join_is_subset) (record { weight = le_trans (subset_weight m f (sets.union a b)) w.weight; glyphs = le_trans (subset_glyphs m f (sets.union a b)) w.glyphs });
+    within = subst IsWithin (sym join_is_subset)
+        (record { weight = le_trans (subset_weight m f (sets.union a b)) w.weight; glyphs = le_trans (subset_glyphs m f (sets.union a b)) w.glyphs });
   }

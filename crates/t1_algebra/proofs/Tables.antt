@@ -1,5 +1,6 @@
 -- Tables of codes, of Subrs and of names: what stands at each key, and how they join.
-use Rattle.std.proofs.Common.{◌≡◌, ℕ, Bor, option_map, Bool, true, false, not, cond, T, List, [], ◌∷◌, refl, sym, ◌∙◌, ap, arith, Option, Some, None, is_some, Less, Equal, Greater, ◌&&◌, map, subst, true≢false, nat_cmp, is_lt, ◌↔◌, inl, inr, ◌⊎◌}
+use Rattle.std.proofs.Common.{◌≡◌, ℕ, Bor, option_map, Bool, true, false, not, cond, T, List, [], ◌∷◌, refl, sym, ◌∙◌, ap, arith, Option}
+use Rattle.std.proofs.Common.{Some, None, is_some, Less, Equal, Greater, ◌&&◌, map, subst, true≢false, nat_cmp, is_lt, ◌↔◌, inl, inr, ◌⊎◌}
 use Rattle.std.specs.{Ordering.{is_eq, ordering_then}, FinMap.{find, is_sorted}, FinMap.Entries.{below_all}, Option.{option_copied}}
 use Rattle.std.proofs.lemmas.{Bool.{cases_Bool}, Option.{MatchOption-at_none, MatchOption-at_some}}
 use Rattle.std.specs.FinMap as maps
@@ -36,10 +37,12 @@ at_number x (n ∷ []) = x n
 at_number x (a ∷ b ∷ rest) = None
 
 -- a key stands for a number or for none
-pub cases_key : (q : Meaning) → ((n : ℕ) × (q ≡ of_number n)) ⊎ (((x : ℕ → Option (List ℕ)) → at_number x q ≡ None) × ((k : ℕ) → eq_by_cmp meaning_cmp q (of_number k) ≡ false))
+pub cases_key : (q : Meaning) →
+    ((n : ℕ) × (q ≡ of_number n)) ⊎ (((x : ℕ → Option (List ℕ)) → at_number x q ≡ None) × ((k : ℕ) → eq_by_cmp meaning_cmp q (of_number k) ≡ false))
 cases_key [] = inr (λ x. refl, λ k. refl)
 cases_key (n ∷ []) = inl (n, refl)
-cases_key (a ∷ b ∷ rest) = inr (λ x. refl, λ k. elim (nat_cmp a k) as (λ o. is_eq (ordering_then o Greater) ≡ false) [ Less ↦ refl | Equal ↦ refl | Greater ↦ refl ])
+cases_key (a ∷ b ∷ rest) =
+    inr (λ x. refl, λ k. elim (nat_cmp a k) as (λ o. is_eq (ordering_then o Greater) ≡ false) [ Less ↦ refl | Equal ↦ refl | Greater ↦ refl ])
 
 -- keys are the same if their numbers are
 pub by_number : (i n : ℕ) → eq_by_cmp meaning_cmp (of_number i) (of_number n) ≡ eq_by_cmp nat_cmp i n
@@ -71,10 +74,12 @@ pub numbered_is : (t : TableMeaning) (m : Numbered) → ((q : Meaning) → maps.
 numbered_is t m h = same_table t (numbered m) (λ q. h q ∙ sym (get-numbered m q))
 
 pub numbered-empty : maps.empty ≡ numbered maps.empty
-numbered-empty = numbered_is maps.empty maps.empty (λ q. grind (arith, maps.get-empty {X = Meaning} meaning_cmp q, maps.get-empty {X = List ℕ} nat_cmp, cases_key q))
+numbered-empty =
+    numbered_is maps.empty maps.empty (λ q. grind (arith, maps.get-empty {X = Meaning} meaning_cmp q, maps.get-empty {X = List ℕ} nat_cmp, cases_key q))
 
 pub numbered-insert : (m : Numbered) (n : ℕ) (v : List ℕ) → maps.insert (numbered m) (of_number n) v ≡ numbered (maps.insert m n v)
-numbered-insert m n v = numbered_is _ (maps.insert m n v) (λ q. grind (cases, maps.get-insert nat_list_cmp_total (numbered m) (of_number n) v q, get-numbered m q, cases_key q, by_number, maps.get-insert nat_cmp_total m n v))
+numbered-insert m n v = numbered_is _ (maps.insert m n v) (λ q. grind
+    (cases, maps.get-insert nat_list_cmp_total (numbered m) (of_number n) v q, get-numbered m q, cases_key q, by_number, maps.get-insert nat_cmp_total m n v))
 
 -- a table shows these values at the keys that stand for numbers, and nothing else
 abbrev pub Shows : TableMeaning → (ℕ → Option (List ℕ)) → Type 0
@@ -106,9 +111,11 @@ marked x = option_map (λ c. name_meaning (Some c)) x
 
 -- at a name stands its glyph, or else that it is sought
 pub get-name : (g : Named) (s : TableMeaning) (n : Meaning) → maps.get (names_table g s) n ≡ joined_state (marked (maps.get g n)) (maps.get s n)
-get-name g s n = get_joined (glyph_table g) s n ∙ ap (λ x. joined_state x (maps.get s n)) (get-map_values nat_list_cmp_total name_same (λ n c. name_meaning (Some c)) g n)
+get-name g s n =
+    get_joined (glyph_table g) s n ∙ ap (λ x. joined_state x (maps.get s n)) (get-map_values nat_list_cmp_total name_same (λ n c. name_meaning (Some c)) g n)
 
-state_of : (x : Option (List ℕ)) (y : State) → ((v : Meaning) → y ≡ Some v → v ≡ []) → (z : Option (Option (List ℕ))) × (joined_state (marked x) y ≡ option_map name_meaning z)
+state_of : (x : Option (List ℕ)) (y : State) → ((v : Meaning) → y ≡ Some v → v ≡ []) →
+    (z : Option (Option (List ℕ))) × (joined_state (marked x) y ≡ option_map name_meaning z)
 state_of (Some c) y h = (Some (Some c), refl)
 state_of None None h = (None, refl)
 state_of None (Some v) h = (Some None, ap Some (h v refl))
@@ -141,11 +148,13 @@ meanings_as_bytes v w = grind (cases, same_meaning-true v w, same_meaning-self v
 
 module _ (t u : TableMeaning) (a : AreNameStates t) (b : AreNameStates u) where
   -- the states of a name agree exactly if they are no two charstrings that differ, and none is sought that the other has
-  agree_at : (n : Meaning) → states_agree (maps.get t n) (maps.get u n) ≡ (not (charstrings_differ (maps.get t n) (maps.get u n)) && not (one_lacks (maps.get t n) (maps.get u n)))
+  agree_at : (n : Meaning) →
+      states_agree (maps.get t n) (maps.get u n) ≡ (not (charstrings_differ (maps.get t n) (maps.get u n)) && not (one_lacks (maps.get t n) (maps.get u n)))
   agree_at n = grind (arith, (a n).1, (b n).1, cases_Option (a n).0, cases_Option (b n).0, cases_Option {X = List ℕ}, meanings_as_bytes, cases_Bool)
 
   -- tables of names agree exactly if no charstrings differ and no name is lacking
-  pub names_agree : TablesAgree t u ↔ (((n : Meaning) → charstrings_differ (maps.get t n) (maps.get u n) ≡ false) × ((n : Meaning) → one_lacks (maps.get t n) (maps.get u n) ≡ false))
+  pub names_agree : TablesAgree t u ↔
+      (((n : Meaning) → charstrings_differ (maps.get t n) (maps.get u n) ≡ false) × ((n : Meaning) → one_lacks (maps.get t n) (maps.get u n) ≡ false))
   names_agree = (
     λ k. (λ n. grind (cases, agree_at n, k n), λ n. grind (cases, agree_at n, k n)),
     λ k n. agree_at n ∙ (λ i. not (k.0 n i) && not (k.1 n i)),
@@ -157,8 +166,10 @@ agrees_so : (x y : Option (List ℕ)) → agrees x y ≡ both_agree bytes_eq x y
 agrees_so x y = grind (cases, is_eq-slice_cmp)
 
 -- what a pass over two tables of glyphs meets is the lowest name at which their charstrings differ
-pub lowest_met : (g h : Named) (p : List ℕ → Bool) → ((n : List ℕ) → p n ≡ not (agrees (maps.get g n) (maps.get h n))) → (r : Option (List ℕ)) → r ≡ differing_name g h → IsLowest name_cmp p r
-lowest_met g h p is r e = lowest r (subst (Says name_cmp agree) (sym e) (says_first nat_list_cmp_total bytes_eq (maps.entries g) (maps.entries h) (maps.entries_sorted g) (maps.entries_sorted h)))
+pub lowest_met : (g h : Named) (p : List ℕ → Bool) → ((n : List ℕ) → p n ≡ not (agrees (maps.get g n) (maps.get h n))) →
+    (r : Option (List ℕ)) → r ≡ differing_name g h → IsLowest name_cmp p r
+lowest_met g h p is r e = lowest r (subst (Says name_cmp agree) (sym e)
+    (says_first nat_list_cmp_total bytes_eq (maps.entries g) (maps.entries h) (maps.entries_sorted g) (maps.entries_sorted h)))
   where
     agree : List ℕ → Bool
     agree n = both_agree bytes_eq (find name_cmp n (maps.entries g)) (find name_cmp n (maps.entries h))
@@ -172,7 +183,8 @@ lowest_met g h p is r e = lowest r (subst (Says name_cmp agree) (sym e) (says_fi
 
 module _ (p : List ℕ → Bool) where
   -- if nothing is answered, nothing passes
-  pub none_of : (r : Option (Bor (List ℕ))) (b : Bool) → is_some r ≡ not b → b ≡ true → IsLowest name_cmp p (option_map (λ n. n.now) r) → (n : List ℕ) → p n ≡ false
+  pub none_of : (r : Option (Bor (List ℕ))) (b : Bool) → is_some r ≡ not b → b ≡ true →
+      IsLowest name_cmp p (option_map (λ n. n.now) r) → (n : List ℕ) → p n ≡ false
   none_of r b e t h n = grind (cases, e, t, h)
 
   -- if something is answered, something passes
@@ -181,13 +193,16 @@ module _ (p : List ℕ → Bool) where
   not_none (Some q) s h k = true≢false (sym h.it ∙ k q)
 
   -- if nothing passes, nothing is answered
-  pub none_is : (r : Option (Bor (List ℕ))) (b : Bool) → is_some r ≡ not b → IsLowest name_cmp p (option_map (λ n. n.now) r) → ((n : List ℕ) → p n ≡ false) → b ≡ true
+  pub none_is : (r : Option (Bor (List ℕ))) (b : Bool) → is_some r ≡ not b →
+      IsLowest name_cmp p (option_map (λ n. n.now) r) → ((n : List ℕ) → p n ≡ false) → b ≡ true
   none_is r b e h k = grind (cases, e, h, k)
 
-module _ (g : Named) (s : TableMeaning) (are : AreSought s) (t : TableMeaning) (is : names_table g s ≡ t) (h : Named) (r : TableMeaning) (seek : AreSought r) (u : TableMeaning) (so : names_table h r ≡ u) where
+module _ (g : Named) (s : TableMeaning) (are : AreSought s) (t : TableMeaning) (is : names_table g s ≡ t)
+    (h : Named) (r : TableMeaning) (seek : AreSought r) (u : TableMeaning) (so : names_table h r ≡ u) where
   -- what a pass over both tables of glyphs meets is the lowest name at which the states are charstrings that differ
   pub lowest_differing : (q : Option (List ℕ)) → q ≡ differing_name g h → IsLowest name_cmp (λ n. charstrings_differ (maps.get t n) (maps.get u n)) q
-  lowest_differing = lowest_met g h (λ n. charstrings_differ (maps.get t n) (maps.get u n)) (λ n. ap not (λ i. agrees (charstring_in g s are t is n i) (charstring_in h r seek u so n i)))
+  lowest_differing = lowest_met g h (λ n. charstrings_differ (maps.get t n) (maps.get u n))
+      (λ n. ap not (λ i. agrees (charstring_in g s are t is n i) (charstring_in h r seek u so n i)))
 
   -- sought names agree with sought names
   pub sought_agree : TablesAgree s r
@@ -205,12 +220,15 @@ module _ (g : Named) (s : TableMeaning) (are : AreSought s) (t : TableMeaning) (
 
   -- if it answers nothing, the tables don't agree
   pub not_passed : (o : Option Named) → o ≡ None → Passed o → ¬ TablesAgree t u
-  not_passed o e m k = not_none _ _ (MatchOption-at_none _ _ e m) (lowest_differing _ refl) ((names_agree t u (state_in g s are t is) (state_in h r seek u so)).0 k).0
+  not_passed o e m k =
+      not_none _ _ (MatchOption-at_none _ _ e m) (lowest_differing _ refl) ((names_agree t u (state_in g s are t is) (state_in h r seek u so)).0 k).0
 
   -- if it answers a table and no name is lacking, the tables agree, and with the joined sought names it is the joined table
-  pub passed : (o : Option Named) (j : Named) → o ≡ Some j → Passed o → ((n : Meaning) → one_lacks (maps.get t n) (maps.get u n) ≡ false) → (k : TableMeaning) → k ≡ joined_table s r → TablesAgree t u × (names_table j k ≡ joined_table t u)
+  pub passed : (o : Option Named) (j : Named) → o ≡ Some j → Passed o → ((n : Meaning) → one_lacks (maps.get t n) (maps.get u n) ≡ false) →
+      (k : TableMeaning) → k ≡ joined_table s r → TablesAgree t u × (names_table j k ≡ joined_table t u)
   passed o j e m free k so_far =
-      let p = MatchOption-at_some _ _ j e m in let a = (names_agree t u (state_in g s are t is) (state_in h r seek u so)).1 (lowest_differing None (sym p.1), free) in
+      let p = MatchOption-at_some _ _ j e m in
+      let a = (names_agree t u (state_in g s are t is) (state_in h r seek u so)).1 (lowest_differing None (sym p.1), free) in
       (a, names_join j k p.0 so_far a)
 
   -- joined sought names are sought names
@@ -224,12 +242,15 @@ abbrev pub with_sought : TableMeaning → List (Meaning × Meaning) → Meaning 
 with_sought t es q = cond (list_any (eq_by_cmp meaning_cmp q) (map (λ e. e.0) es)) (Some []) (maps.get t q)
 
 -- putting in the next name leaves the state in the end as it was
-pub sought_next : (t u : TableMeaning) (e : Meaning × Meaning) (es : List (Meaning × Meaning)) (q : Meaning) → u ≡ maps.insert t e.0 [] → with_sought u es q ≡ with_sought t (e ∷ es) q
+pub sought_next : (t u : TableMeaning) (e : Meaning × Meaning) (es : List (Meaning × Meaning)) (q : Meaning) → u ≡ maps.insert t e.0 [] →
+    with_sought u es q ≡ with_sought t (e ∷ es) q
 sought_next t u e es q is = grind (cases, is, maps.get-insert nat_list_cmp_total t e.0 [] q)
 
 -- once the names of all seekers are put in, each of them is sought
-pub sought_all : (t s : TableMeaning) (es : List (Meaning × Meaning)) (q : Meaning) → t ≡ maps.empty → es ≡ maps.entries s → with_sought t es q ≡ cond (maps.contains_key s q) (Some []) None
-sought_all t s es q none e = ap (λ es. with_sought t es q) e ∙ (λ i. cond (sym (maps.contains_key-keys s q) i) (Some []) ((ap (λ (t : TableMeaning). maps.get t q) none ∙ maps.get-empty meaning_cmp q) i))
+pub sought_all : (t s : TableMeaning) (es : List (Meaning × Meaning)) (q : Meaning) → t ≡ maps.empty → es ≡ maps.entries s →
+    with_sought t es q ≡ cond (maps.contains_key s q) (Some []) None
+sought_all t s es q none e = ap (λ es. with_sought t es q) e
+    ∙ (λ i. cond (sym (maps.contains_key-keys s q) i) (Some []) ((ap (λ (t : TableMeaning). maps.get t q) none ∙ maps.get-empty meaning_cmp q) i))
 
 -- names that are put in are sought
 pub only_sought : (s seekers : TableMeaning) → ((q : Meaning) → maps.get s q ≡ cond (maps.contains_key seekers q) (Some []) None) → AreSought s

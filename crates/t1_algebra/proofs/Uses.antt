@@ -13,12 +13,17 @@ module _ (p : FontValue → List ℕ → Bool) (there : (h : FontValue) (n : Lis
   some h n t = any_at nat_list_cmp_total name_same (p h) n (names_in h.glyphs) (sym (maps.contains_key-keys h.glyphs n) ∙ there h n t) t
 
   -- if a test passes a name in j where it does in f or in g, it passes some glyph of j if it does one of f or of g
-  pub some_joined : (f g j : FontValue) → ((n : List ℕ) → p j n ≡ (p f n || p g n)) → list_any (p j) (names_in j.glyphs) ≡ (list_any (p f) (names_in f.glyphs) || list_any (p g) (names_in g.glyphs))
+  pub some_joined : (f g j : FontValue) → ((n : List ℕ) → p j n ≡ (p f n || p g n)) →
+      list_any (p j) (names_in j.glyphs) ≡ (list_any (p f) (names_in f.glyphs) || list_any (p g) (names_in g.glyphs))
   some_joined f g j both =
       let one = λ (h : FontValue). any_one nat_list_cmp_total name_same (p h) (names_in h.glyphs) in
       both_ways (list_any (p j) (names_in j.glyphs)) _
-      (λ t. let w = one j t in elim (or_cases (p f w.0) (p g w.0) (sym (both w.0) ∙ w.2)) [ inl x ↦ or_left _ _ (some f w.0 x) | inr y ↦ or_right _ _ (some g w.0 y) ])
-      (λ t. elim (or_cases _ _ t) [ inl x ↦ let w = one f x in some j w.0 (both w.0 ∙ or_left _ _ w.2) | inr y ↦ let w = one g y in some j w.0 (both w.0 ∙ or_right _ _ w.2) ])
+      (λ t. let w = one j t in
+      elim (or_cases (p f w.0) (p g w.0) (sym (both w.0) ∙ w.2)) [ inl x ↦ or_left _ _ (some f w.0 x) | inr y ↦ or_right _ _ (some g w.0 y) ])
+      (λ t. elim (or_cases _ _ t) [
+        | inl x ↦ let w = one f x in some j w.0 (both w.0 ∙ or_left _ _ w.2)
+        | inr y ↦ let w = one g y in some j w.0 (both w.0 ∙ or_right _ _ w.2)
+      ])
 
 module _ {O : Type 0} (m : Interpreter O) where
   -- a charstring that executes an index is there

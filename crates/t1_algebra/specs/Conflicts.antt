@@ -13,7 +13,8 @@ use Rattle.t1_algebra.specs.Shared.{ShellPart, shared_of, differing_part}
 use Rattle.t1_algebra.specs.Searches.{KeySet, members, smallest, found}
 use Rattle.t1_algebra.specs.States.{executes, calls_for, code_state, subr_state, joined_font}
 
--- why two fonts do not join, the lowest kind first; a component is told with the smallest glyph that names it in a font that lacks it, and a Subr with the smallest glyph that executes it
+-- why two fonts do not join, the lowest kind first; a component is told with the smallest glyph that names it in a font that lacks it, and a Subr with the
+-- smallest glyph that executes it
 pub data Conflict : Type 0 where
   ShellDiffers : (part : ShellPart) → Conflict
   CodeDiffers : (code : ℕ) → Conflict

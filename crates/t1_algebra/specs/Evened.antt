@@ -8,12 +8,14 @@ use Rattle.t1_font.specs.FontValue.{FontValue}
 use Rattle.t1_font.specs.FontModel.{subr_at}
 use Rattle.t1_font.specs.Evening.{even, filled, evened}
 
--- A glyph of f has the same charstring in j, and what runs in f without a fault or is drawn in f runs and draws the same in j, by each answer to hint replacement by itself; `subrs` says which Subrs a font shows.
+-- A glyph of f has the same charstring in j, and what runs in f without a fault or is drawn in f runs and draws the same in j, by each answer to hint
+-- replacement by itself; `subrs` says which Subrs a font shows.
 pub record StaysDrawn (subrs : FontValue → Subrs) (f j : FontValue) (n : List ℕ) : Type 0 where
   pub charstring : maps.get j.glyphs n ≡ maps.get f.glyphs n
   pub answer : (c : List ℕ) → maps.get f.glyphs n ≡ Some c → NoFault (direct (subrs f) c) → direct (subrs j) c ≡ direct (subrs f) c
   pub answer3 : (c : List ℕ) → maps.get f.glyphs n ≡ Some c → NoFault (direct3 (subrs f) c) → direct3 (subrs j) c ≡ direct3 (subrs f) c
-  pub executes : (c : List ℕ) → maps.get f.glyphs n ≡ Some c → NoFault (direct (subrs f) c) → NoFault (direct3 (subrs f) c) → exec (subrs j) c ≡ exec (subrs f) c
+  pub executes : (c : List ℕ) → maps.get f.glyphs n ≡ Some c → NoFault (direct (subrs f) c) → NoFault (direct3 (subrs f) c) →
+      exec (subrs j) c ≡ exec (subrs f) c
   pub draws : IsDrawn (draw (subrs f) (maps.get f.glyphs) n) → draw (subrs j) (maps.get j.glyphs) n ≡ draw (subrs f) (maps.get f.glyphs) n
   pub draws3 : IsDrawn (draw3 (subrs f) (maps.get f.glyphs) n) → draw3 (subrs j) (maps.get j.glyphs) n ≡ draw3 (subrs f) (maps.get f.glyphs) n
 

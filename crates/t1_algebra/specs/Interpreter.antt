@@ -17,9 +17,11 @@ Numbers = sets.FinSet nat_cmp
 abbrev pub same_bytes : List ℕ → List ℕ → Bool
 same_bytes a b = is_eq (name_cmp a b)
 
--- An interpreter: what a charstring comes to in a font of these Subrs, the indices that it executes, and the components that an outcome names; it depends on no Subr but those that it executes.
+-- An interpreter: what a charstring comes to in a font of these Subrs, the indices that it executes, and the components that an outcome names; it depends on no
+-- Subr but those that it executes.
 pub record Interpreter (O : Type 0) : Type 0 where
   pub direct : Numbered → List ℕ → O
   pub exec : Numbered → List ℕ → Numbers
   pub names : O → List (List ℕ)
-  pub local : (s t : Numbered) (c : List ℕ) → ((i : ℕ) → sets.contains (exec s c) i ≡ true → maps.get t i ≡ maps.get s i) → (direct t c ≡ direct s c) × (exec t c ≡ exec s c)
+  pub local : (s t : Numbered) (c : List ℕ) → ((i : ℕ) → sets.contains (exec s c) i ≡ true → maps.get t i ≡ maps.get s i) →
+      (direct t c ≡ direct s c) × (exec t c ≡ exec s c)

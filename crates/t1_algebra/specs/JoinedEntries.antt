@@ -10,7 +10,8 @@ abbrev pub past_stub : Option (List ℕ) → Option (List ℕ)
 past_stub None = None
 past_stub (Some c) = cond (is_stub c) None (Some c)
 
--- the entries of two fonts make a join: the shells are equal, the same Subrs are present, the Encodings are the same word or both tables, and entries that both have are the same, except for a Subr that is a stub in one font
+-- the entries of two fonts make a join: the shells are equal, the same Subrs are present, the Encodings are the same word or both tables, and entries that both
+-- have are the same, except for a Subr that is a stub in one font
 pub record EntriesJoin (f g : FontValue) : Type 0 where
   pub shells : f.shell ≡ g.shell
   pub present : (i : ℕ) → maps.contains_key f.subrs i ≡ maps.contains_key g.subrs i

@@ -34,7 +34,8 @@ pub record DrawsAlike (f j : FontValue) (n : List ℕ) : Type 0 where
   pub draws : draw (maps.get j.subrs) (maps.get j.glyphs) n ≡ draw (maps.get f.subrs) (maps.get f.glyphs) n
   pub draws3 : draw3 (maps.get j.subrs) (maps.get j.glyphs) n ≡ draw3 (maps.get f.subrs) (maps.get f.glyphs) n
 
--- calls answer the same of a glyph in j as in f: what its charstring does by itself and what it draws, where hints are replaced and where they are kept, and what it executes, over what each font shows to an interpreter
+-- calls answer the same of a glyph in j as in f: what its charstring does by itself and what it draws, where hints are replaced and where they are kept, and
+-- what it executes, over what each font shows to an interpreter
 pub record AnswersAlike (f j : FontValue) (n : List ℕ) : Type 0 where
   pub charstring : maps.get j.glyphs n ≡ maps.get f.glyphs n
   pub answer : (c : List ℕ) → maps.get f.glyphs n ≡ Some c → direct (subr_at j) c ≡ direct (subr_at f) c

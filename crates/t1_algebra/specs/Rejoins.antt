@@ -45,7 +45,8 @@ pub record Truncated : Type 0 where
   pub names : Names
   pub count : ℕ
 
--- It is the subset of f over names of f, cut to its first Subrs: they include those that it keeps and f has, and f declares no fewer. Its head is that of f with any tag.
+-- It is the subset of f over names of f, cut to its first Subrs: they include those that it keeps and f has, and f declares no fewer. Its head is that of f
+-- with any tag.
 pub record IsTruncated (f : FontValue) (t : Truncated) : Type 0 where
   pub font : IsFont t.font
   pub names : IsOf f t.names
@@ -79,7 +80,8 @@ shared_font f ts = cut_to (largest ts) (without_tag f)
 abbrev pub rejoined : FontValue → List Truncated → FontValue
 rejoined f ts = cut_to (largest ts) (without_tag (subset profile f (names_of_all ts)))
 
--- Made even, truncated subsets are subsets of one font; in every order and grouping they merge to the subset over all the names, cut to the largest of the counts and without its tag, and to nothing else; each kept glyph draws in it as in the font.
+-- Made even, truncated subsets are subsets of one font; in every order and grouping they merge to the subset over all the names, cut to the largest of the
+-- counts and without its tag, and to nothing else; each kept glyph draws in it as in the font.
 pub record Rejoins (f : FontValue) (ts : List Truncated) : Type 0 where
   pub shared : IsFont (shared_font f ts)
   pub subsets : evened (fonts_of ts) ≡ map (subset profile (shared_font f ts)) (sets_of ts)

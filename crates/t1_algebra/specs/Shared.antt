@@ -56,7 +56,8 @@ same_word (Some v) (Some w) = same_bytes v w
 
 -- the words of two tables of Subrs are the same; without a table they are empty
 abbrev pub same_words : Option SubrsShell → Option SubrsShell → Bool
-same_words s t = same_bytes (of_subrs (λ w. w.rd) s) (of_subrs (λ w. w.rd) t) && (same_bytes (of_subrs (λ w. w.put) s) (of_subrs (λ w. w.put) t) && same_bytes (of_subrs (λ w. w.closing) s) (of_subrs (λ w. w.closing) t))
+same_words s t = same_bytes (of_subrs (λ w. w.rd) s) (of_subrs (λ w. w.rd) t)
+    && (same_bytes (of_subrs (λ w. w.put) s) (of_subrs (λ w. w.put) t) && same_bytes (of_subrs (λ w. w.closing) s) (of_subrs (λ w. w.closing) t))
 
 module _ (s t : Shared) where
   -- a part is the same in both; that of the Encoding is its word or that it is a table, and that of the table of Subrs includes which indices are present
@@ -65,7 +66,8 @@ module _ (s t : Shared) where
   same_part EncodingPart = same_word s.1.0 t.1.0
   same_part ClearTail = same_bytes s.0.clear_tail t.0.clear_tail
   same_part Private = same_bytes s.0.private t.0.private && same_number s.0.len_iv t.0.len_iv
-  same_part SubrsTable = same_bool (is_some s.0.subrs) (is_some t.0.subrs) && (same_number (declared_count s.0.subrs) (declared_count t.0.subrs) && same_bytes s.1.1 t.1.1)
+  same_part SubrsTable =
+      same_bool (is_some s.0.subrs) (is_some t.0.subrs) && (same_number (declared_count s.0.subrs) (declared_count t.0.subrs) && same_bytes s.1.1 t.1.1)
   same_part SubrsWords = same_words s.0.subrs t.0.subrs
   same_part Middle = same_bytes s.0.middle t.0.middle
   same_part GlyphsWords = same_bytes s.0.glyphs_rd t.0.glyphs_rd && same_bytes s.0.glyphs_def t.0.glyphs_def

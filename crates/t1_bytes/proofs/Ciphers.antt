@@ -33,7 +33,8 @@ pub encrypted-is : (plains ciphers : List ℕ) (key : ℕ) → Enciphers key pla
 encrypted-is [] [] key s = refl
 encrypted-is [] (c ∷ cs) key s = absurd s
 encrypted-is (p ∷ ps) [] key s = absurd s
-encrypted-is (p ∷ ps) (c ∷ cs) key s = ap (λ (b : ℕ). b ∷ encrypted (next_key key b) ps) (sym s.0) ∙ ap (λ (bytes : List ℕ). c ∷ bytes) (encrypted-is ps cs (next_key key c) s.1)
+encrypted-is (p ∷ ps) (c ∷ cs) key s =
+    ap (λ (b : ℕ). b ∷ encrypted (next_key key b) ps) (sym s.0) ∙ ap (λ (bytes : List ℕ). c ∷ bytes) (encrypted-is ps cs (next_key key c) s.1)
 
 -- plain bytes have one cipher under a key, their encryption
 pub is_encrypted : (plains ciphers : List ℕ) (key : ℕ) → Enciphers key plains ciphers ↔ (encrypted key plains ≡ ciphers)
@@ -85,7 +86,8 @@ last_byte (b ∷ bytes) (suc at) now e = ap (λ (rest : List ℕ). b ∷ rest) (
 -- ---- lead bytes
 
 pub length-sealed : (key lead : ℕ) (text : List ℕ) → length (sealed key lead text) ≡ lead + length text
-length-sealed key lead text = omega (arith, length-encrypted (replicate lead 0 ++ text) key, length-append (replicate lead 0) text, length-replicate {A = ℕ} lead 0)
+length-sealed key lead text =
+    omega (arith, length-encrypted (replicate lead 0 ++ text) key, length-append (replicate lead 0) text, length-replicate {A = ℕ} lead 0)
 
 zeros_bytes : (n : ℕ) (bytes : List ℕ) → AreBytes bytes → AreBytes (replicate n 0 ++ bytes)
 zeros_bytes zero bytes h = h
@@ -96,10 +98,12 @@ pub sealed_bytes : (key lead : ℕ) (text : List ℕ) → key < 65536 → AreByt
 sealed_bytes key lead text k h = encrypted_bytes (replicate lead 0 ++ text) key k (zeros_bytes lead text h)
 
 pub opened-sealed : (key lead : ℕ) (text : List ℕ) → opened key lead (sealed key lead text) ≡ text
-opened-sealed key lead text = ap (drop lead) (decrypted-encrypted (replicate lead 0 ++ text) key) ∙ drop_at (replicate lead 0) text lead (length-replicate {A = ℕ} lead 0)
+opened-sealed key lead text =
+    ap (drop lead) (decrypted-encrypted (replicate lead 0 ++ text) key) ∙ drop_at (replicate lead 0) text lead (length-replicate {A = ℕ} lead 0)
 
 -- what stands in a buffer of len bytes, all of them encrypted in place
-pub encrypted_whole : (key lead len : ℕ) (text bytes written : List ℕ) → bytes ≡ replicate lead 0 ++ text → written ≡ encrypted key bytes → len ≡ length bytes → take len (written ++ drop (length written) bytes) ≡ sealed key lead text
+pub encrypted_whole : (key lead len : ℕ) (text bytes written : List ℕ) → bytes ≡ replicate lead 0 ++ text → written ≡ encrypted key bytes → len ≡ length bytes →
+    take len (written ++ drop (length written) bytes) ≡ sealed key lead text
 encrypted_whole key lead len text bytes written is e size =
     let same : length written ≡ len = omega (arith, ap length e, length-encrypted bytes key, size) in
     take_at written (drop (length written) bytes) len same ∙ (e ∙ ap (encrypted key) is)

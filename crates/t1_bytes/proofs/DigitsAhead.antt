@@ -83,7 +83,8 @@ unfolding spelled_ahead
 half_pair text rest high e f = ap paired (e ∙ ap (λ (u : List ℕ). high ∷ u) f)
 
 -- the first two digits ahead spell the first byte
-pub one_pair : (text rest after : List ℕ) (high low : ℕ) → digits_ahead text ≡ high ∷ digits_ahead rest → digits_ahead rest ≡ low ∷ digits_ahead after → spelled_ahead text ≡ (digit_value high * 16 + digit_value low) ∷ spelled_ahead after
+pub one_pair : (text rest after : List ℕ) (high low : ℕ) → digits_ahead text ≡ high ∷ digits_ahead rest → digits_ahead rest ≡ low ∷ digits_ahead after →
+    spelled_ahead text ≡ (digit_value high * 16 + digit_value low) ∷ spelled_ahead after
 unfolding spelled_ahead
 one_pair text rest after high low e f = ap paired (e ∙ ap (λ (u : List ℕ). high ∷ u) f)
 
@@ -93,7 +94,8 @@ paired_parts : (n : ℕ) (front back : List ℕ) → length front ≡ n * 2 → 
 paired_parts n [] back e = refl
 paired_parts n (b ∷ []) back e = absurd (omega arith)
 paired_parts zero (high ∷ low ∷ rest) back e = absurd (omega arith)
-paired_parts (suc n) (high ∷ low ∷ rest) back e = ap (λ (bytes : List ℕ). (digit_value high * 16 + digit_value low) ∷ bytes) (paired_parts n rest back (omega arith))
+paired_parts (suc n) (high ∷ low ∷ rest) back e =
+    ap (λ (bytes : List ℕ). (digit_value high * 16 + digit_value low) ∷ bytes) (paired_parts n rest back (omega arith))
 
 line_digits : (line after : List ℕ) → all_hex line ≡ true → digits_ahead (line ++ after) ≡ line ++ digits_ahead after
 line_digits [] after e = refl
@@ -117,7 +119,8 @@ pub line_shorter : (text rest line after : List ℕ) → Left text rest → Coun
 line_shorter text rest line after left c = omega (arith, left.no_longer, ap length c.whole, length-append line after, c.full)
 
 -- a line of 64 digits spells its 32 bytes, and what follows spells the others
-pub one_full_line : (text rest line after : List ℕ) → Left text rest → Counted rest line after → all_hex line ≡ true → spelled_ahead text ≡ paired line ++ spelled_ahead after
+pub one_full_line : (text rest line after : List ℕ) → Left text rest → Counted rest line after → all_hex line ≡ true →
+    spelled_ahead text ≡ paired line ++ spelled_ahead after
 unfolding spelled_ahead
 one_full_line text rest line after left c e =
     ap paired (left.digits ∙ (ap digits_ahead c.whole ∙ line_digits line after e)) ∙ paired_parts 32 line (digits_ahead after) c.full
@@ -141,7 +144,8 @@ pub one_more_hex : (bytes : List ℕ) (i : ℕ) → i < length bytes → all_hex
 one_more_hex bytes i h = ap all_hex (take_more bytes i 0 h) ∙ hex_and_one (take i bytes) (get_or bytes i 0)
 
 -- one more pair of digits spells one more byte
-pub one_more_pair : (line : List ℕ) (i : ℕ) → 2 * i + 1 < length line → paired (take (2 * (i + 1)) line) ≡ paired (take (2 * i) line) ++ (digit_value (get_or line (2 * i) 0) * 16 + digit_value (get_or line (2 * i + 1) 0)) ∷ []
+pub one_more_pair : (line : List ℕ) (i : ℕ) → 2 * i + 1 < length line →
+    paired (take (2 * (i + 1)) line) ≡ paired (take (2 * i) line) ++ (digit_value (get_or line (2 * i) 0) * 16 + digit_value (get_or line (2 * i + 1) 0)) ∷ []
 one_more_pair line i h =
     let j : ℕ = 2 * i in
     let first : take (j + 1) line ≡ take j line ++ get_or line j 0 ∷ [] = take_more line j 0 (omega arith) in
@@ -149,5 +153,6 @@ one_more_pair line i h =
     let twice : j ≡ i * 2 = omega arith in
     let size : 2 * (i + 1) ≡ (j + 1) + 1 = omega arith in
     let two : take (2 * (i + 1)) line ≡ take j line ++ (get_or line j 0 ∷ get_or line (j + 1) 0 ∷ []) =
-    ap (λ (n : ℕ). take n line) size ∙ (second ∙ (ap (λ (u : List ℕ). u ++ get_or line (j + 1) 0 ∷ []) first ∙ append_assoc (take j line) (get_or line j 0 ∷ []) (get_or line (j + 1) 0 ∷ []))) in
+    ap (λ (n : ℕ). take n line) size ∙ (second
+    ∙ (ap (λ (u : List ℕ). u ++ get_or line (j + 1) 0 ∷ []) first ∙ append_assoc (take j line) (get_or line j 0 ∷ []) (get_or line (j + 1) 0 ∷ []))) in
     ap paired two ∙ paired_parts i (take j line) _ (length-take-le j line (omega arith) ∙ twice)

@@ -40,7 +40,8 @@ abbrev pub cipher_of : List ℕ → Result (List ℕ) BytesFault
 cipher_of after = if_ok (λ x. Ok x.0) (or_fault ShortCipher (cipher_text.read after))
 
 -- what follows the first marker is no longer than the flat text
-pub split_within : (flat after : List ℕ) → option_map (λ (x : (List ℕ × List ℕ) × List ℕ). x.1) ((first eexec_marker).read flat) ≡ Some after → length after ≤ length flat
+pub split_within : (flat after : List ℕ) → option_map (λ (x : (List ℕ × List ℕ) × List ℕ). x.1) ((first eexec_marker).read flat) ≡ Some after →
+    length after ≤ length flat
 split_within flat after e =
     let found = marker_found ((first eexec_marker).read flat) after e in
     let s = (first eexec_marker).takes flat (found.0, after) found.1 in
@@ -70,10 +71,12 @@ split_found flat after e =
 -- the cipher of what stands after the marker is that of the whole text
 cipher_behind : (front after : List ℕ) (c : Cipher) → last_bytes c ≤ length after → cipher_in after c ≡ cipher_in (front ++ after) c
 cipher_behind front after (Spelled v) room = refl
-cipher_behind front after (Last n) room = sym (ap (λ k. drop k (front ++ after)) (omega (arith, room, length-append front after)) ∙ drop-append-add front after (length after - n))
+cipher_behind front after (Last n) room =
+    sym (ap (λ k. drop k (front ++ after)) (omega (arith, room, length-append front after)) ∙ drop-append-add front after (length after - n))
 
 -- a cipher that lies in what follows the marker is the same cipher in the flat text
-pub cipher_stays : (flat after : List ℕ) → option_map (λ (x : (List ℕ × List ℕ) × List ℕ). x.1) ((first eexec_marker).read flat) ≡ Some after → (c : Cipher) → last_bytes c ≤ length after → cipher_in after c ≡ cipher_in flat c
+pub cipher_stays : (flat after : List ℕ) → option_map (λ (x : (List ℕ × List ℕ) × List ℕ). x.1) ((first eexec_marker).read flat) ≡ Some after →
+    (c : Cipher) → last_bytes c ≤ length after → cipher_in after c ≡ cipher_in flat c
 cipher_stays flat after e c room =
     let found = marker_found ((first eexec_marker).read flat) after e in
     let whole = (first eexec_marker).takes flat (found.0, after) found.1 in

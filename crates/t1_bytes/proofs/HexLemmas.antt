@@ -29,7 +29,8 @@ last_line zero (c ∷ cs) e = absurd (omega arith)
 last_line (suc n) (c ∷ cs) e = ap (λ (text : List ℕ). hex_byte c ++ text) (last_line n cs (omega arith))
 
 -- the digits of a line and a line feed come before the lines of the other bytes
-pub one_line : (line rest : List ℕ) → 0 < length line → (length line ≡ 32) ⊎ ((length line ≤ 32) × (rest ≡ [])) → hex_lines (line ++ rest) ≡ encode_lower line ++ (10 ∷ hex_lines rest)
+pub one_line : (line rest : List ℕ) → 0 < length line → (length line ≡ 32) ⊎ ((length line ≤ 32) × (rest ≡ [])) →
+    hex_lines (line ++ rest) ≡ encode_lower line ++ (10 ∷ hex_lines rest)
 unfolding encode_with
 one_line [] rest h e = absurd (omega arith)
 one_line (c ∷ cs) rest h (inl e) = ap (λ (text : List ℕ). hex_byte c ++ text) (full_line 31 cs rest (omega arith))

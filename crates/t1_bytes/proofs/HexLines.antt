@@ -1,5 +1,6 @@
 -- What is written as a cipher is read as it: lines of hexadecimal digits before the trailer, and binary bytes.
-use Rattle.std.proofs.Common.{◌≡◌, ℕ, zero, suc, ◌*◌, ◌/◌, ◌%◌, ◌+◌, ◌≤◌, ◌<◌, Bool, true, false, leb, eqb, ◌&&◌, List, [], ◌∷◌, ◌++◌, length, get_or, Some, None, refl, sym, ap, ◌∙◌, append_assoc, arith}
+use Rattle.std.proofs.Common.{◌≡◌, ℕ, zero, suc, ◌*◌, ◌/◌, ◌%◌, ◌+◌, ◌≤◌, ◌<◌, Bool, true, false, leb, eqb, ◌&&◌, List}
+use Rattle.std.proofs.Common.{[], ◌∷◌, ◌++◌, length, get_or, Some, None, refl, sym, ap, ◌∙◌, append_assoc, arith}
 use Rattle.std.specs.Prelude.{codes, filter, replicate}
 use Rattle.std.specs.List.{AllByRecursion}
 use Rattle.std.proofs.lemmas.Bool.{le-leb, agree_below_at, eqb-true, and_parts}
@@ -101,21 +102,27 @@ starts_hex : (a b : ℕ) (rest more : List ℕ) → AreBytes (a ∷ b ∷ rest) 
 starts_hex a b rest more h =
     let text : List ℕ = hex_lines (a ∷ b ∷ rest) ++ more in
     let enough : leb 4 (length text) ≡ true = le-leb 4 (length text) (omega arith) in
-    rw (enough, low_hex (a / 16) (omega (arith, h.0)), low_hex (a % 16) (omega arith), low_hex (b / 16) (omega (arith, h.1.0)), low_hex (b % 16) (omega arith)) refl
+    rw (enough, low_hex (a / 16) (omega (arith, h.0)), low_hex (a % 16) (omega arith), low_hex (b / 16) (omega (arith, h.1.0)), low_hex (b % 16) (omega arith))
+    refl
 
 before_read : (test : List ℕ → Bool) (bytes : List ℕ) → test bytes ≡ true → (before test).read bytes ≡ Some (tt, bytes)
 before_read test bytes e = rw e refl
 
-hex_read : (text rest : List ℕ) → is_hex_text (text ++ rest) ≡ true → AreHexOrWhite text → Stops hex_or_white rest → hex_cipher.read (text ++ rest) ≡ Some (spelled text, rest)
+hex_read : (text rest : List ℕ) → is_hex_text (text ++ rest) ≡ true → AreHexOrWhite text → Stops hex_or_white rest →
+    hex_cipher.read (text ++ rest) ≡ Some (spelled text, rest)
 hex_read text rest starts ok stops =
-    bind_read (before is_hex_text) (λ _. run hex_or_white >>= λ digits. pure (paired (filter is_hex_digit digits))) (text ++ rest) tt (text ++ rest) _ (before_read is_hex_text (text ++ rest) starts)
-    (bind_read (run hex_or_white) (λ digits. pure (paired (filter is_hex_digit digits))) (text ++ rest) text rest _ (run_read hex_or_white text rest ok stops) refl)
+    bind_read (before is_hex_text) (λ _. run hex_or_white >>= λ digits. pure (paired (filter is_hex_digit digits)))
+    (text ++ rest) tt (text ++ rest) _ (before_read is_hex_text (text ++ rest) starts)
+    (bind_read (run hex_or_white) (λ digits. pure (paired (filter is_hex_digit digits)))
+    (text ++ rest) text rest _ (run_read hex_or_white text rest ok stops) refl)
 
-secret_read : (bytes cipher rest : List ℕ) → blank_comes bytes ≡ false → (either hex_cipher all).read bytes ≡ Some (cipher, rest) → 4 ≤ length cipher → cipher_text.read bytes ≡ Some (cipher, rest)
+secret_read : (bytes cipher rest : List ℕ) → blank_comes bytes ≡ false → (either hex_cipher all).read bytes ≡ Some (cipher, rest) → 4 ≤ length cipher →
+    cipher_text.read bytes ≡ Some (cipher, rest)
 unfolding cipher_text
 secret_read bytes cipher rest black e long =
     that_read has_four (run is_blank >>= λ _. either hex_cipher all) bytes cipher rest
-    (bind_read (run is_blank) (λ _. either hex_cipher all) bytes [] bytes _ (run_read is_blank [] bytes tt (no_blanks bytes black)) e) (le-leb 4 (length cipher) long)
+    (bind_read (run is_blank) (λ _. either hex_cipher all) bytes [] bytes _ (run_read is_blank [] bytes tt (no_blanks bytes black)) e)
+    (le-leb 4 (length cipher) long)
 
 lines_black : (bs more : List ℕ) → AreBytes bs → 4 ≤ length bs → blank_comes (hex_lines bs ++ more) ≡ false
 lines_black [] more h long = absurd (omega arith)
@@ -134,8 +141,10 @@ lines_read cipher long bytes =
     let value : spelled text ≡ cipher ++ replicate 256 0 = lines_again cipher zeros bytes in
     let starts : is_hex_text (text ++ rest) ≡ true = ap is_hex_text whole ∙ lines_start cipher trailer bytes long in
     let black : blank_comes (text ++ rest) ≡ false = ap blank_comes whole ∙ lines_black cipher trailer bytes long in
-    let hex : hex_cipher.read (text ++ rest) ≡ Some (cipher ++ replicate 256 0, rest) = hex_read text rest starts (both_ok (hex_lines cipher) zeros (lines_ok cipher bytes) (are_ok zeros refl)) refl ∙ ap (λ (u : List ℕ). Some (u, rest)) value in
-    let secret : cipher_text.read (text ++ rest) ≡ Some (cipher ++ replicate 256 0, rest) = secret_read (text ++ rest) (cipher ++ replicate 256 0) rest black (either_first hex_cipher all (text ++ rest) _ hex) (omega (arith, length-append cipher (replicate 256 0))) in
+    let hex : hex_cipher.read (text ++ rest) ≡ Some (cipher ++ replicate 256 0, rest) = hex_read text rest starts
+    (both_ok (hex_lines cipher) zeros (lines_ok cipher bytes) (are_ok zeros refl)) refl ∙ ap (λ (u : List ℕ). Some (u, rest)) value in
+    let secret : cipher_text.read (text ++ rest) ≡ Some (cipher ++ replicate 256 0, rest) = secret_read (text ++ rest)
+    (cipher ++ replicate 256 0) rest black (either_first hex_cipher all (text ++ rest) _ hex) (omega (arith, length-append cipher (replicate 256 0))) in
     cipher_text.takes (hex_lines cipher ++ trailer) (cipher ++ replicate 256 0, rest) (ap cipher_text.read (sym whole) ∙ secret)
 
 pub binary_read : ReadsBinary

@@ -19,7 +19,8 @@ fixed_occurs w bytes k x e le =
       reads = λ j h. sym (get_or-drop k bytes j 0) ∙ (ap (λ (u : List ℕ). get_or u j 0) whole ∙ get_or_append_left w x.1 0 j h);
     }
 
-no_text : (w bytes : List ℕ) (k : ℕ) → k ≤ length bytes → (OccursAt bytes w k → ⊥) → (o : Option (List ℕ × List ℕ)) → (fixed w).read (drop k bytes) ≡ o → o ≡ None
+no_text : (w bytes : List ℕ) (k : ℕ) → k ≤ length bytes → (OccursAt bytes w k → ⊥) →
+    (o : Option (List ℕ × List ℕ)) → (fixed w).read (drop k bytes) ≡ o → o ≡ None
 no_text w bytes k le absent None e = refl
 no_text w bytes k le absent (Some x) e = absurd (absent (fixed_occurs w bytes k x e le))
 
@@ -38,13 +39,15 @@ occurs_later bytes w from k le o = record {
 }
 
 -- a word that stands nowhere in the rest of a text stands nowhere in that part of the text
-pub nowhere_later : (bytes w : List ℕ) (from n m : ℕ) → from ≤ length bytes → m ≤ from + n → Nowhere (OccursAt (drop from bytes) w) 0 n → Nowhere (OccursAt bytes w) from m
+pub nowhere_later : (bytes w : List ℕ) (from n m : ℕ) → from ≤ length bytes → m ≤ from + n → Nowhere (OccursAt (drop from bytes) w) 0 n →
+    Nowhere (OccursAt bytes w) from m
 nowhere_later bytes w from n m le top none k low high o =
     let e : k ≡ from + (k - from) = omega arith in
     none (k - from) (omega arith) (omega arith) (occurs_later bytes w from (k - from) le (subst (λ (i : ℕ). OccursAt bytes w i) e o))
 
 -- no place is read from `from` up to `to`, where the first text occurs nowhere there
-pub more_none : {A : Type 0} (w : List ℕ) (g : Grammar A) → Begins w g → (bytes : List ℕ) (from to : ℕ) → to ≤ length bytes + 1 → NoneBelow g bytes from → Nowhere (OccursAt bytes w) from to → NoneBelow g bytes to
+pub more_none : {A : Type 0} (w : List ℕ) (g : Grammar A) → Begins w g → (bytes : List ℕ) (from to : ℕ) →
+    to ≤ length bytes + 1 → NoneBelow g bytes from → Nowhere (OccursAt bytes w) from to → NoneBelow g bytes to
 more_none w g begins bytes from to le none absent k h = elim (cases_lt k from) [
   | inl lt ↦ none k lt
   | inr ge ↦ begins (drop k bytes) (no_text w bytes k (omega arith) (absent k ge h) _ refl)
@@ -53,14 +56,18 @@ more_none w g begins bytes from to le none absent k h = elim (cases_lt k from) [
 -- ---- a search for w, which g begins with
 
 -- a grammar that is read where its first word is met first is found there
-pub found_at : {A : Type 0} (w : List ℕ) (g : Grammar A) → Begins w g → (bytes : List ℕ) (from place : ℕ) (a : A) (rest : List ℕ) → place ≤ length bytes → NoneBelow g bytes from → Nowhere (OccursAt bytes w) from place → g.read (drop place bytes) ≡ Some (a, rest)
+pub found_at : {A : Type 0} (w : List ℕ) (g : Grammar A) → Begins w g → (bytes : List ℕ) (from place : ℕ) (a : A) (rest : List ℕ) →
+    place ≤ length bytes → NoneBelow g bytes from → Nowhere (OccursAt bytes w) from place → g.read (drop place bytes) ≡ Some (a, rest)
     → Some ((take place bytes, a), rest) ≡ first_at g bytes
-found_at w g begins bytes from place a rest le none absent e = sym (first_found g bytes place a rest le (more_none w g begins bytes from place (omega arith) none absent) e)
+found_at w g begins bytes from place a rest le none absent e =
+    sym (first_found g bytes place a rest le (more_none w g begins bytes from place (omega arith) none absent) e)
 
 -- where the word is met and the grammar can't be read, the search goes on behind it
-pub passed_at : {A : Type 0} (w : List ℕ) (g : Grammar A) → Begins w g → (bytes : List ℕ) (from place : ℕ) → place ≤ length bytes → NoneBelow g bytes from → Nowhere (OccursAt bytes w) from place → g.read (drop place bytes) ≡ None → NoneBelow g bytes (place + 1)
+pub passed_at : {A : Type 0} (w : List ℕ) (g : Grammar A) → Begins w g → (bytes : List ℕ) (from place : ℕ) → place ≤ length bytes →
+    NoneBelow g bytes from → Nowhere (OccursAt bytes w) from place → g.read (drop place bytes) ≡ None → NoneBelow g bytes (place + 1)
 passed_at w g begins bytes from place le none absent e = one_more g bytes place (more_none w g begins bytes from place (omega arith) none absent) e
 
 -- where the word is met no more, the grammar is found nowhere
-pub nowhere_at : {A : Type 0} (w : List ℕ) (g : Grammar A) → Begins w g → (bytes : List ℕ) (from : ℕ) → NoneBelow g bytes from → Nowhere (OccursAt bytes w) from (length bytes + 1) → None ≡ first_at g bytes
+pub nowhere_at : {A : Type 0} (w : List ℕ) (g : Grammar A) → Begins w g → (bytes : List ℕ) (from : ℕ) →
+    NoneBelow g bytes from → Nowhere (OccursAt bytes w) from (length bytes + 1) → None ≡ first_at g bytes
 nowhere_at w g begins bytes from none absent = sym (first_nowhere g bytes (more_none w g begins bytes from (length bytes + 1) (omega arith) none absent))

@@ -55,7 +55,8 @@ segment_place bytes x e =
     (a.1 ++ (b.1 ++ c.1), s.1 ∙ (ap (λ (u : List ℕ). u ++ x.1) text ∙ regroup a.1 b.1 c.1 x.0 x.1))
 
 -- a turn: the data of a segment is moved behind the flat text so far
-pub moved : (file now : List ℕ) (len at size next : ℕ) (x : List ℕ × List ℕ) → Joins file now len at → end.read (drop at now) ≡ None → segment.read (drop at now) ≡ Some x
+pub moved : (file now : List ℕ) (len at size next : ℕ) (x : List ℕ × List ℕ) → Joins file now len at → end.read (drop at now) ≡ None →
+    segment.read (drop at now) ≡ Some x
     → size ≡ length x.0 → next ≡ length now - length x.1 → Joins file (copy_within now (next - size) next len) (len + size) next
 moved file now len at size next x j stop e is_size is_next =
     let p = segment_place (drop at now) x e in

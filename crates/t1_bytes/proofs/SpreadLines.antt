@@ -71,7 +71,8 @@ module _ (whole : List ℕ) (from count lines : ℕ) where
           let rest_is : rest ≡ take (count - 32 * left) (drop start whole) =
           ap (λ n. drop (32 * left) (take n (drop from whole))) (sym most)
           ∙ (drop-take (32 * left) (count - 32 * left) (drop from whole) ∙ ap (take (count - 32 * left)) (drop-drop (32 * left) from whole)) in
-          sym (drop-take start len text) ∙ (ap (drop start) kept ∙ (drop-take start len whole ∙ (sym (take-take len (count - 32 * left) (drop start whole) (omega arith)) ∙ ap (take len) (sym rest_is))))
+          sym (drop-take start len text) ∙ (ap (drop start) kept
+          ∙ (drop-take start len whole ∙ (sym (take-take len (count - 32 * left) (drop start whole) (omega arith)) ∙ ap (take len) (sym rest_is))))
 
       -- the lines behind it stand already
       behind_short : count - 32 * left < 32 → drop (to + (2 * len + 1)) text ≡ hex_lines (drop len rest)
@@ -95,10 +96,12 @@ module _ (whole : List ℕ) (from count lines : ℕ) where
       ]
 
       lines_are : encode_lower line ++ (10 ∷ hex_lines (drop len rest)) ≡ hex_lines rest
-      lines_are = sym (one_line line (drop len rest) (omega (arith, length-take len rest, rest_many, inside)) full_or_last) ∙ ap hex_lines (take-append-drop len rest)
+      lines_are =
+          sym (one_line line (drop len rest) (omega (arith, length-take len rest, rest_many, inside)) full_or_last) ∙ ap hex_lines (take-append-drop len rest)
 
       -- once one more line is written, the lines behind it stay
-      pub one_more : (new : List ℕ) → length new ≡ length text → new ≡ take to text ++ (encode_lower (take len (drop start text)) ++ (10 ∷ drop (to + (2 * len + 1)) text)) → Spread left new
+      pub one_more : (new : List ℕ) → length new ≡ length text →
+          new ≡ take to text ++ (encode_lower (take len (drop start text)) ++ (10 ∷ drop (to + (2 * len + 1)) text)) → Spread left new
       one_more new same put =
           let within : to ≤ length text = omega (arith, h.size, room, is, h.few, few, enough) in
           let first : from + min (32 * left) count ≡ start = omega (arith, inside) in

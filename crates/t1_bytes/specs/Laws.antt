@@ -32,7 +32,8 @@ UndoEachOther = (key : ℕ) (bytes : List ℕ) → (decrypted key (encrypted key
 
 -- plain bytes have one cipher, and a cipher has one plain text
 abbrev pub OneCipher : Type 0
-OneCipher = (key : ℕ) (plain cipher : List ℕ) → (Enciphers key plain cipher ↔ (encrypted key plain ≡ cipher)) × (Enciphers key plain cipher ↔ (decrypted key cipher ≡ plain))
+OneCipher = (key : ℕ) (plain cipher : List ℕ) →
+    (Enciphers key plain cipher ↔ (encrypted key plain ≡ cipher)) × (Enciphers key plain cipher ↔ (decrypted key cipher ≡ plain))
 
 -- a text after lead bytes that are zero is opened again
 abbrev pub OpensSealed : Type 0
@@ -55,7 +56,8 @@ pub record OneFlatText : Type 0 where
 
 -- the flat text of segments that are written is their data
 abbrev pub FlattensWritten : Type 0
-FlattensWritten = (clear cipher trailer : List ℕ) → length clear < 2 ^ 32 → length cipher < 2 ^ 32 → length trailer < 2 ^ 32 → IsFlat (pfb_text clear cipher trailer) (clear ++ (cipher ++ trailer))
+FlattensWritten = (clear cipher trailer : List ℕ) → length clear < 2 ^ 32 → length cipher < 2 ^ 32 → length trailer < 2 ^ 32 →
+    IsFlat (pfb_text clear cipher trailer) (clear ++ (cipher ++ trailer))
 
 -- a flat text has a split
 abbrev pub HasSplit : List ℕ → Type 0
@@ -84,7 +86,8 @@ AreBytes bytes = AllByRecursion (λ b. b < 256) bytes
 -- Hexadecimal lines before the trailer are read as the bytes that they were written from, and then as the zeros of the trailer.
 -- The `c` of `cleartomark` is a digit too, odd and dropped.
 abbrev pub ReadsHexLines : Type 0
-ReadsHexLines = (cipher : List ℕ) → 4 ≤ length cipher → AreBytes cipher → AtFront cipher_text (hex_lines cipher ++ trailer) (cipher ++ replicate 256 0, codes "leartomark" ++ 10 ∷ [])
+ReadsHexLines = (cipher : List ℕ) → 4 ≤ length cipher → AreBytes cipher →
+    AtFront cipher_text (hex_lines cipher ++ trailer) (cipher ++ replicate 256 0, codes "leartomark" ++ 10 ∷ [])
 
 -- a binary cipher is read as it stands, if its first byte is no blank, tab, CR or LF and its first four are not all hexadecimal digits
 abbrev pub ReadsBinary : Type 0

@@ -46,8 +46,10 @@ not_three a bytes =
     let kind : (that (λ k. bytes_eq k (1 ∷ []) || bytes_eq k (2 ∷ [])) (count 1)).read (3 ∷ bytes) ≡ None = rw two refl in
     rw one (skip_none _ (eqb 128 a && true) (a ∷ [], 3 ∷ bytes) (rw kind refl))
 
-test_false : (a b : ℕ) (bytes : List ℕ) (x : List ℕ × List ℕ) → segment.read (a ∷ b ∷ bytes) ≡ Some x → (t : Bool) → (eqb 128 a && (eqb 3 b && true)) ≡ t → t ≡ false
-test_false a b bytes x e true h = absurd (none-some x (sym (not_three a bytes) ∙ (ap (λ k. segment.read (a ∷ k ∷ bytes)) (eqb-true 3 b (and_parts _ _ (and_parts _ _ h).1).0) ∙ e)))
+test_false : (a b : ℕ) (bytes : List ℕ) (x : List ℕ × List ℕ) →
+    segment.read (a ∷ b ∷ bytes) ≡ Some x → (t : Bool) → (eqb 128 a && (eqb 3 b && true)) ≡ t → t ≡ false
+test_false a b bytes x e true h =
+    absurd (none-some x (sym (not_three a bytes) ∙ (ap (λ k. segment.read (a ∷ k ∷ bytes)) (eqb-true 3 b (and_parts _ _ (and_parts _ _ h).1).0) ∙ e)))
 test_false a b bytes x e false h = refl
 
 -- no segment begins where an end stands

@@ -57,7 +57,8 @@ all_present f (n ∷ ns) i =
     ∙ all_present f ns (λ q w. i q (from_in_list nat_list_cmp_total name_same (n ∷ ns) q (or_right _ _ (in_list nat_list_cmp_total name_same ns q w))))
 
 -- where a font has all names, it is cut, or memory is wanted
-pub none_lacking : (f : FontValue) (ns : List (List ℕ)) (e : SubsetFault) → IsOf f (sets.from_list ns) → Absent e (first_where (λ n. not (has f n)) ns) → e ≡ subsetting.Memory
+pub none_lacking : (f : FontValue) (ns : List (List ℕ)) (e : SubsetFault) →
+    IsOf f (sets.from_list ns) → Absent e (first_where (λ n. not (has f n)) ns) → e ≡ subsetting.Memory
 none_lacking f ns (subsetting.NoSuchGlyph n) i h = absurd (none_some (sym (all_present f ns i) ∙ h))
   where
     none_some : {A : Type 0} {x : A} → ◌≡◌ {A = Option A} None (Some x) → ⊥
@@ -72,7 +73,8 @@ or_flip false false = refl
 
 -- the names of both sets, in either order
 pub swapped : (a b : Names) → sets.union b a ≡ sets.union a b
-swapped a b = sets.same_set nat_list_cmp_total name_same _ _ (λ n. sets.contains-union nat_list_cmp_total b a n ∙ or_flip (sets.contains a n) (sets.contains b n) ∙ sym (sets.contains-union nat_list_cmp_total a b n))
+swapped a b = sets.same_set nat_list_cmp_total name_same _ _
+    (λ n. sets.contains-union nat_list_cmp_total b a n ∙ or_flip (sets.contains a n) (sets.contains b n) ∙ sym (sets.contains-union nat_list_cmp_total a b n))
 
 pub of_both : (f : FontValue) (a b : Names) → IsOf f a → IsOf f b → IsOf f (sets.union a b)
 of_both f a b i k n w = elim (in_union nat_list_cmp_total name_same a b n w) [ inl x ↦ i n x | inr y ↦ k n y ]
@@ -111,7 +113,8 @@ readable file a b form f g c s =
     }
 
 -- what a file that can be cut is refused for
-pub file_refused : (file : List ℕ) (a b : Names) (form : Form) (f : FontValue) (e : ReadFault) → CanBeCut file a b form f → Refused e (read_font file) → e ≡ reading.Memory
+pub file_refused : (file : List ℕ) (a b : Names) (form : Form) (f : FontValue) (e : ReadFault) →
+    CanBeCut file a b form f → Refused e (read_font file) → e ≡ reading.Memory
 file_refused file a b form f e c r = only_memory (read_font file) f e (reads_again Strict file f c.spelled) r
 
 -- what a font's own file spells is the font
@@ -127,11 +130,13 @@ pub answered : (file : List ℕ) (f : FontValue) (s : Names) (form : Form) → I
     → (g : FontValue) (n : List ℕ) → Spells file g → sets.contains (keep profile f s) n ≡ true → AnswersAlike f g n
 answered file f s form h i k e g n sp w =
     let cut = subset_is_font profile f h s i in
-    moved f (subset profile f s) g n (of_file file (subset profile f s) g form cut (cut_fits form f s k) e sp) (answers_alike f (subset profile f s) h cut n (subset_alike f h s i n w))
+    moved f (subset profile f s) g n (of_file file (subset profile f s) g form cut (cut_fits form f s k) e sp)
+    (answers_alike f (subset profile f s) h cut n (subset_alike f h s i n w))
 
 -- the drawings of the joined file, where there is one
 pub drawn : (r : Result (Vec ℕ Global) Refusal) (f : FontValue) (a b : Names) (form : Form) → IsFont f → IsOf f a → IsOf f b → Fits form f
     → MatchResult r (λ (v : Vec ℕ Global). v.items ≡ canon (union_subset f a b) form) IsMemory
-    → IfOk r (λ (v : Vec ℕ Global). (g : FontValue) (n : List ℕ) → Spells v.items g → sets.contains (keep profile f (sets.union a b)) n ≡ true → AnswersAlike f g n)
+    → IfOk r (λ (v : Vec ℕ Global).
+    (g : FontValue) (n : List ℕ) → Spells v.items g → sets.contains (keep profile f (sets.union a b)) n ≡ true → AnswersAlike f g n)
 drawn (Ok v) f a b form h i j k e = λ g n s w. answered v.items f (sets.union a b) form h (of_both f a b i j) k e g n s w
 drawn (Err x) f a b form h i j k e = tt

@@ -62,7 +62,8 @@ first_unread e r s form h = elim (unread e r h) [
 ]
 
 -- the second of two files spells no font
-pub second_unread : (e : ReadFault) (r s : Result FontValue ReadFault) (form : Form) (g : FontValue) → r ≡ Ok g → Refused e s → FilesMergeTo r s form (Err (Read e))
+pub second_unread : (e : ReadFault) (r s : Result FontValue ReadFault) (form : Form) (g : FontValue) → r ≡ Ok g → Refused e s →
+    FilesMergeTo r s form (Err (Read e))
 second_unread e r s form g k h = elim (unread e s h) [
   | inl m ↦ files_wanting r s form (Read e) m
   | inr x ↦ subst (λ (p : Result FontValue ReadFault). FilesMergeTo p s form (Err (Read e))) (sym k)
@@ -70,9 +71,11 @@ second_unread e r s form g k h = elim (unread e s h) [
 ]
 
 -- both files spell fonts
-pub both_read : (r s : Result FontValue ReadFault) (form : Form) (g h : FontValue) (q : Result (Vec ℕ Global) Refusal) → r ≡ Ok g → s ≡ Ok h → MergeTo g h form q → FilesMergeTo r s form q
+pub both_read : (r s : Result FontValue ReadFault) (form : Form) (g h : FontValue) (q : Result (Vec ℕ Global) Refusal) →
+    r ≡ Ok g → s ≡ Ok h → MergeTo g h form q → FilesMergeTo r s form q
 both_read r s form g h q k l m =
-    subst (λ (p : Result FontValue ReadFault). FilesMergeTo p s form q) (sym k) (subst (λ (p : Result FontValue ReadFault). FilesMergeTo (Ok g) p form q) (sym l) m)
+    subst (λ (p : Result FontValue ReadFault). FilesMergeTo p s form q) (sym k)
+    (subst (λ (p : Result FontValue ReadFault). FilesMergeTo (Ok g) p form q) (sym l) m)
 
 -- the file spells no font
 pub file_unread : (e : ReadFault) (r : Result FontValue ReadFault) (a b : List (List ℕ)) (form : Form) → Refused e r → ComesTo r a b form (Err (Read e))
@@ -91,7 +94,8 @@ lacked o f a b form (Merge x) l = absurd l
 lacked o f a b form Memory l = absurd l
 
 -- a name of the first list is lacking
-lacked_first : (o p : Option (List ℕ)) (f : FontValue) (a b : List (List ℕ)) (form : Form) (e : Refusal) → LacksFirst o e → CutsMergeTo (option_or o p) f a b form (Err e)
+lacked_first : (o p : Option (List ℕ)) (f : FontValue) (a b : List (List ℕ)) (form : Form) (e : Refusal) → LacksFirst o e →
+    CutsMergeTo (option_or o p) f a b form (Err e)
 lacked_first (Some n) p f a b form e l = lacked (Some n) f a b form e l
 lacked_first None p f a b form (Subset (subsetting.NoSuchGlyph n)) l = cc
 lacked_first None p f a b form (Subset subsetting.Memory) l = cuts_wanting p f a b form (Subset subsetting.Memory) refl
@@ -100,7 +104,8 @@ lacked_first None p f a b form (Merge x) l = absurd l
 lacked_first None p f a b form Memory l = absurd l
 
 -- the cut to the first list is refused
-pub first_refused : (r : Result FontValue ReadFault) (f : FontValue) (a b : List (List ℕ)) (form : Form) (e : Refusal) → r ≡ Ok f → IsMemory e ⊎ LacksFirst (lacking f a) e
+pub first_refused : (r : Result FontValue ReadFault) (f : FontValue) (a b : List (List ℕ)) (form : Form) (e : Refusal) → r ≡ Ok f →
+    IsMemory e ⊎ LacksFirst (lacking f a) e
     → ComesTo r a b form (Err e)
 first_refused r f a b form e k h = subst (λ (q : Result FontValue ReadFault). ComesTo q a b form (Err e)) (sym k) (elim h [
   | inl m ↦ wanting (Ok f) a b form e m
@@ -108,7 +113,8 @@ first_refused r f a b form e k h = subst (λ (q : Result FontValue ReadFault). C
 ])
 
 -- what a font comes to that has all names of the first list
-pub first_has : (r : Result FontValue ReadFault) (f : FontValue) (a b : List (List ℕ)) (form : Form) (q : Result (Vec ℕ Global) Refusal) → r ≡ Ok f → lacking f a ≡ None
+pub first_has : (r : Result FontValue ReadFault) (f : FontValue) (a b : List (List ℕ)) (form : Form) (q : Result (Vec ℕ Global) Refusal) →
+    r ≡ Ok f → lacking f a ≡ None
     → CutsMergeTo (lacking f b) f a b form q → ComesTo r a b form q
 first_has r f a b form q k n m = subst (λ (p : Result FontValue ReadFault). ComesTo p a b form q) (sym k)
     (subst (λ (o : Option (List ℕ)). CutsMergeTo (option_or o (lacking f b)) f a b form q) (sym n) m)
@@ -122,7 +128,8 @@ second_refused r f a b form e k n h = first_has r f a b form (Err e) k n (elim h
 ])
 
 -- both cuts are made
-pub both_cut : (r : Result FontValue ReadFault) (f : FontValue) (a b : List (List ℕ)) (form : Form) (one other : List ℕ) (q : Result (Vec ℕ Global) Refusal) → r ≡ Ok f → lacking f a ≡ None → lacking f b ≡ None
+pub both_cut : (r : Result FontValue ReadFault) (f : FontValue) (a b : List (List ℕ)) (form : Form) (one other : List ℕ) (q : Result (Vec ℕ Global) Refusal) →
+    r ≡ Ok f → lacking f a ≡ None → lacking f b ≡ None
     → one ≡ file_of f a form → other ≡ file_of f b form → FilesMergeTo (read_font one) (read_font other) form q → ComesTo r a b form q
 both_cut r f a b form one other q k n o e w m = first_has r f a b form q k n
     (subst (λ (p : Option (List ℕ)). CutsMergeTo p f a b form q) (sym o)
@@ -130,6 +137,7 @@ both_cut r f a b form one other q k n o e w m = first_has r f a b form q k n
     (subst (λ (v : List ℕ). FilesMergeTo (read_font one) (read_font v) form q) w m)))
 
 -- an answer of a merger, from its two sides
-pub of_sides : (g h : FontValue) (r : Result FontValue Conflict) → IfOk r (λ j. Join profile g h × (j ≡ joined_font profile g h)) → IfErr r (λ e. Tells e (conflict profile g h)) → IsMerger g h r
+pub of_sides : (g h : FontValue) (r : Result FontValue Conflict) →
+    IfOk r (λ j. Join profile g h × (j ≡ joined_font profile g h)) → IfErr r (λ e. Tells e (conflict profile g h)) → IsMerger g h r
 of_sides g h (Ok j) o e = o
 of_sides g h (Err x) o e = e

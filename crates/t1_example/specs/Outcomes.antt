@@ -35,7 +35,8 @@ IsClash c e = ⊥
 
 -- the file of the join of two fonts, or their lowest conflict, or a growth was refused
 abbrev pub MergeTo : FontValue → FontValue → Form → Result (Vec ℕ) Refusal → Type 0
-MergeTo g h form r = MatchResult r (λ v. Join profile g h × (v.items ≡ canon (joined_font profile g h) form)) (λ e. IsMemory e ⊎ IsClash (conflict profile g h) e)
+MergeTo g h form r =
+    MatchResult r (λ v. Join profile g h × (v.items ≡ canon (joined_font profile g h) form)) (λ e. IsMemory e ⊎ IsClash (conflict profile g h) e)
 
 -- what the fonts of two files come to: a file that spells none is refused, the first before the second
 abbrev pub FilesMergeTo : Result FontValue ReadFault → Result FontValue ReadFault → Form → Result (Vec ℕ) Refusal → Type 0

@@ -3,7 +3,8 @@ use Rattle.std.proofs.Common.{◌≡◌, ◌∙◌, sym, subst, ℕ, List, [], �
 use Rattle.t1_bytes.specs.Laws.{AreBytes}
 use Rattle.t1_font.specs.declared.dialect.Dialect.{Dialect}
 use Rattle.t1_font.specs.declared.fault.ReadFault.{ReadFault}
-use Rattle.t1_font.specs.declared.fault.ReadFault.TheVariants.{TooLong, BadSegment, NoEexec, ShortCipher, NoEncoding, BadEncoding, NoCharStrings, BadLenIV, BadSubrs, BadGlyphs, Hybrid, NoClosefile, NoNotdef, Limit, Memory}
+use Rattle.t1_font.specs.declared.fault.ReadFault.TheVariants.{TooLong, BadSegment, NoEexec, ShortCipher, NoEncoding, BadEncoding, NoCharStrings}
+use Rattle.t1_font.specs.declared.fault.ReadFault.TheVariants.{BadLenIV, BadSubrs, BadGlyphs, Hybrid, NoClosefile, NoNotdef, Limit, Memory}
 use Rattle.t1_font.specs.ReadFont.{font_file}
 use Rattle.t1_font.specs.Reasons.{RefusesIn}
 use Rattle.t1_font.specs.Answers.{Refused, Shown, Answers}

@@ -21,27 +21,35 @@ pub record NamesSoFar (d : Dialect) (bytes rest : List ℕ) (codes : Numbered) (
 
 from_code-push : (c : ℕ) (names : List (List ℕ)) (n : List ℕ) → from_code c (names ++ n ∷ []) ≡ from_code c names ++ (c + length names, n) ∷ []
 from_code-push c [] n = ap (λ (k : ℕ). (k, n) ∷ []) (omega arith)
-from_code-push c (m ∷ names) n = ap (λ (es : List (ℕ × List ℕ)). (c, m) ∷ es) (from_code-push (suc c) names n ∙ ap (λ (k : ℕ). from_code (suc c) names ++ (k, n) ∷ []) (omega arith))
+from_code-push c (m ∷ names) n =
+    ap (λ (es : List (ℕ × List ℕ)). (c, m) ∷ es) (from_code-push (suc c) names n ∙ ap (λ (k : ℕ). from_code (suc c) names ++ (k, n) ∷ []) (omega arith))
 
 module _ (d : Dialect) (bytes rest : List ℕ) (codes : Numbered) (code : ℕ) (s : NamesSoFar d bytes rest codes code) where
-  before_one : (m : ℕ) → code_count - code ≡ m → with_front s.names (counted_at (next_name d) (array_end d) m rest) ≡ counted_at (next_name d) (array_end d) code_count bytes
-  before_one m e = subst (λ (k : ℕ). with_front s.names (counted_at (next_name d) (array_end d) k rest) ≡ counted_at (next_name d) (array_end d) code_count bytes) e s.read
+  before_one : (m : ℕ) → code_count - code ≡ m →
+      with_front s.names (counted_at (next_name d) (array_end d) m rest) ≡ counted_at (next_name d) (array_end d) code_count bytes
+  before_one m e =
+      subst (λ (k : ℕ). with_front s.names (counted_at (next_name d) (array_end d) k rest) ≡ counted_at (next_name d) (array_end d) code_count bytes) e s.read
 
   -- one more name
-  pub name_more : (x : List ℕ × List ℕ) (next : Numbered) → code < code_count → (next_name d).read rest ≡ Some x → next ≡ insert codes code x.0 → NamesSoFar d bytes x.1 next (code + 1)
+  pub name_more : (x : List ℕ × List ℕ) (next : Numbered) → code < code_count → (next_name d).read rest ≡ Some x → next ≡ insert codes code x.0 →
+      NamesSoFar d bytes x.1 next (code + 1)
   name_more x next below e put =
-      let placed : from_code 0 (s.names ++ x.0 ∷ []) ≡ from_code 0 s.names ++ (code, x.0) ∷ [] = from_code-push 0 s.names x.0 ∙ ap (λ (k : ℕ). from_code 0 s.names ++ (k, x.0) ∷ []) (omega (arith, s.count)) in
+      let placed : from_code 0 (s.names ++ x.0 ∷ []) ≡ from_code 0 s.names ++ (code, x.0) ∷ [] =
+      from_code-push 0 s.names x.0 ∙ ap (λ (k : ℕ). from_code 0 s.names ++ (k, x.0) ∷ []) (omega (arith, s.count)) in
       record {
         names = s.names ++ x.0 ∷ [];
         count = omega (arith, s.count, length-append s.names (x.0 ∷ []));
         held = one_code_more (from_code 0 s.names) (code, x.0) codes next put s.held ∙ ap (λ (es : List (ℕ × List ℕ)). map_of {R = nat_cmp} es) (sym placed);
-        read = subst (λ (k : ℕ). with_front (s.names ++ x.0 ∷ []) (counted_at (next_name d) (array_end d) k x.1) ≡ counted_at (next_name d) (array_end d) code_count bytes) (omega (arith, below))
-            (counted_turn (next_name d) (array_end d) (code_count - suc code) s.names rest x _ e (before_one (suc (code_count - suc code)) (omega (arith, below))));
+        read = subst (λ (k : ℕ). with_front (s.names ++ x.0 ∷ []) (counted_at (next_name d) (array_end d) k x.1)
+            ≡ counted_at (next_name d) (array_end d) code_count bytes) (omega (arith, below))
+            (counted_turn (next_name d) (array_end d) (code_count - suc code) s.names rest x _ e
+            (before_one (suc (code_count - suc code)) (omega (arith, below))));
       }
 
   -- no name where one is wanted
   pub name_missing : code < code_count → (next_name d).read rest ≡ None → counted_at (next_name d) (array_end d) code_count bytes ≡ Err rest
-  name_missing below e = counted_stops (next_name d) (array_end d) (code_count - suc code) s.names rest _ e (before_one (suc (code_count - suc code)) (omega (arith, below)))
+  name_missing below e =
+      counted_stops (next_name d) (array_end d) (code_count - suc code) s.names rest _ e (before_one (suc (code_count - suc code)) (omega (arith, below)))
 
 -- behind the last name
 module _ (d : Dialect) (bytes rest : List ℕ) (codes : Numbered) (code : ℕ) (all : code_count ≤ code) (s : NamesSoFar d bytes rest codes code) where

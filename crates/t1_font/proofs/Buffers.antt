@@ -72,7 +72,8 @@ module _ (was now : List ℕ) (at left iv : ℕ) (body : Place) (cipher plain : 
   long = omega (arith, d.room, length-drop at was)
 
   size : length (decrypted 4330 (bytes_at was cipher)) ≡ body.len
-  size = length-decrypted (bytes_at was cipher) 4330 ∙ (length-take-le (cipher.end - cipher.start) (drop cipher.start was) (omega (arith, length-drop cipher.start was, d.start, d.end, long, d.fits)) ∙ omega (arith, d.start, d.end, long, d.fits))
+  size = length-decrypted (bytes_at was cipher) 4330 ∙ (length-take-le (cipher.end - cipher.start) (drop cipher.start was)
+      (omega (arith, length-drop cipher.start was, d.start, d.end, long, d.fits)) ∙ omega (arith, d.start, d.end, long, d.fits))
 
   front : length (take cipher.start was) ≡ cipher.start
   front = length-take-le cipher.start was (omega (arith, d.start, d.fits))
@@ -105,7 +106,8 @@ module _ (was now : List ℕ) (at left iv : ℕ) (body : Place) (cipher plain : 
   pub entries_stay : {K M : Type 0} (f : K → M) (es : List (K × Range)) → AllInside at es → entries_by f (bytes_at now) es ≡ entries_by f (bytes_at was) es
   entries_stay f [] h = refl
   entries_stay f (e ∷ es) h =
-      λ i. (f e.0, earlier e.1 (All-head (λ (e : _ × Range). IsInside at e.1) e es h) i) ∷ entries_stay f es (All-tail (λ (e : _ × Range). IsInside at e.1) e es h) i
+      λ i. (f e.0, earlier e.1 (All-head (λ (e : _ × Range). IsInside at e.1) e es h) i)
+      ∷ entries_stay f es (All-tail (λ (e : _ × Range). IsInside at e.1) e es h) i
 
   -- glyphs that were gathered before stay
   pub names_stay : (es : List (Range × Range)) → NamesInside at es → AllInside at es → map (named_at now) es ≡ map (named_at was) es
@@ -125,22 +127,30 @@ module _ (was now : List ℕ) (at left iv : ℕ) (body : Place) (cipher plain : 
   -- the charstring is plain behind its lead bytes
   pub plain_at : bytes_at now plain ≡ plain_of iv (placed (drop at was) body)
   plain_at =
-      let from : drop cipher.start was ≡ ending (body.len + body.behind) (drop at was) = ap (λ k. drop k was) d.start ∙ sym (ending_of (body.len + body.behind) at was d.fits d.room) in
+      let from : drop cipher.start was ≡ ending (body.len + body.behind) (drop at was) =
+      ap (λ k. drop k was) d.start ∙ sym (ending_of (body.len + body.behind) at was d.fits d.room) in
       let here : bytes_at was cipher ≡ placed (drop at was) body = λ i. take (short i) (from i) in
-      let tail : drop cipher.start now ≡ decrypted 4330 (bytes_at was cipher) ++ drop cipher.end was = ap (drop cipher.start) by_parts ∙ drop_at (take cipher.start was) (decrypted 4330 (bytes_at was cipher) ++ drop cipher.end was) cipher.start front in
+      let tail : drop cipher.start now ≡ decrypted 4330 (bytes_at was cipher) ++ drop cipher.end was =
+      ap (drop cipher.start) by_parts ∙ drop_at (take cipher.start was) (decrypted 4330 (bytes_at was cipher) ++ drop cipher.end was) cipher.start front in
       let plain_long : plain.end - plain.start ≡ body.len - iv = omega (arith, d.plain_start, d.plain_end, d.start, d.end, long, d.fits) in
-      let room_for : body.len - iv ≤ length (drop iv (decrypted 4330 (bytes_at was cipher))) = omega (arith, length-drop iv (decrypted 4330 (bytes_at was cipher)), size) in
+      let room_for : body.len - iv ≤ length (drop iv (decrypted 4330 (bytes_at was cipher))) =
+      omega (arith, length-drop iv (decrypted 4330 (bytes_at was cipher)), size) in
       (λ i. take (plain_long i) (drop (d.plain_start i) now))
-      ∙ (ap (take (body.len - iv)) (sym (drop-drop iv cipher.start now) ∙ (ap (drop iv) tail ∙ drop-append-le iv (decrypted 4330 (bytes_at was cipher)) (drop cipher.end was) (omega (arith, size, d.lead))))
+      ∙ (ap (take (body.len - iv)) (sym (drop-drop iv cipher.start now)
+      ∙ (ap (drop iv) tail ∙ drop-append-le iv (decrypted 4330 (bytes_at was cipher)) (drop cipher.end was) (omega (arith, size, d.lead))))
       ∙ (take-append-le (body.len - iv) (drop iv (decrypted 4330 (bytes_at was cipher))) (drop cipher.end was) room_for
-      ∙ (take_all (body.len - iv) (drop iv (decrypted 4330 (bytes_at was cipher))) (omega (arith, length-drop iv (decrypted 4330 (bytes_at was cipher)), size)) ∙ ap (plain_of iv) here)))
+      ∙ (take_all (body.len - iv) (drop iv (decrypted 4330 (bytes_at was cipher))) (omega (arith, length-drop iv (decrypted 4330 (bytes_at was cipher)), size))
+      ∙ ap (plain_of iv) here)))
     where
       short : cipher.end - cipher.start ≡ body.len
       short = omega (arith, d.start, d.end, long, d.fits)
 
   -- it stands before what d.is left
   pub plain_inside : IsInside (length now - left) plain
-  plain_inside = record { ordered = omega (arith, d.plain_start, d.plain_end, d.start, d.end, d.lead, long, d.fits); within = omega (arith, d.plain_end, d.end, d.past, same_length) }
+  plain_inside = record {
+    ordered = omega (arith, d.plain_start, d.plain_end, d.start, d.end, d.lead, long, d.fits);
+    within = omega (arith, d.plain_end, d.end, d.past, same_length);
+  }
 
   -- what is left stands behind what was read before
   pub goes_on : at ≤ length now - left
@@ -154,7 +164,8 @@ module _ (was now : List ℕ) (at left iv : ℕ) (body : Place) (cipher plain : 
     -- the name is the one that was read
     pub name_at : bytes_at now part ≡ placed (drop at was) name
     name_at =
-        let from : drop part.start was ≡ ending (name.len + name.behind) (drop at was) = ap (λ k. drop k was) n.start ∙ sym (ending_of (name.len + name.behind) at was d.fits n.room) in
+        let from : drop part.start was ≡ ending (name.len + name.behind) (drop at was) =
+        ap (λ k. drop k was) n.start ∙ sym (ending_of (name.len + name.behind) at was d.fits n.room) in
         bytes_stay part name_before ∙ (λ i. take (short i) (from i))
       where
         short : part.end - part.start ≡ name.len
@@ -166,8 +177,10 @@ module _ (was now : List ℕ) (at left iv : ℕ) (body : Place) (cipher plain : 
 
 -- one entry more
 pub with_one : {K : Type 0} (n : ℕ) (es more : List (K × Range)) (e : K × Range) → more ≡ es ++ e ∷ [] → AllInside n es → IsInside n e.1 → AllInside n more
-with_one n es more e is h one = let Inside = λ (x : _ × Range). IsInside n x.1 in subst (AllInside n) (sym is) (All-append Inside es (e ∷ []) h (All-cons Inside e [] one (All-nil Inside)))
+with_one n es more e is h one =
+    let Inside = λ (x : _ × Range). IsInside n x.1 in subst (AllInside n) (sym is) (All-append Inside es (e ∷ []) h (All-cons Inside e [] one (All-nil Inside)))
 
 -- one name more
 pub names_with_one : (n : ℕ) (es more : List (Range × Range)) (e : Range × Range) → more ≡ es ++ e ∷ [] → NamesInside n es → IsInside n e.0 → NamesInside n more
-names_with_one n es more e is h one = let Inside = λ (x : Range × Range). IsInside n x.0 in subst (NamesInside n) (sym is) (All-append Inside es (e ∷ []) h (All-cons Inside e [] one (All-nil Inside)))
+names_with_one n es more e is h one = let Inside =
+    λ (x : Range × Range). IsInside n x.0 in subst (NamesInside n) (sym is) (All-append Inside es (e ∷ []) h (All-cons Inside e [] one (All-nil Inside)))

@@ -79,7 +79,9 @@ behind_bytes b rd bytes phrase =
     let b2 = AreBytes-append b.rd (32 ∷ t3) rd (blank_bytes t3 b3) in
     blank_bytes (digits (length b.bytes) ++ (32 ∷ t2)) (AreBytes-append (digits (length b.bytes)) (32 ∷ t2) (digits_bytes (length b.bytes)) (blank_bytes t2 b2))
 
-entries_bytes : {K : Type 0} (key_text : K → List ℕ) (iv : ℕ) (rd phrase closing : List ℕ) → AreBytes rd → AreBytes phrase → AreBytes closing → (es : List (K × List ℕ)) → AllByRecursion (λ e. AreBytes (key_text e.0) × AreBytes e.1) es → AreBytes (entries_text key_text (map (sealed_entry iv rd phrase) es) closing)
+entries_bytes : {K : Type 0} (key_text : K → List ℕ) (iv : ℕ) (rd phrase closing : List ℕ) → AreBytes rd → AreBytes phrase →
+    AreBytes closing → (es : List (K × List ℕ)) → AllByRecursion (λ e. AreBytes (key_text e.0) × AreBytes e.1) es →
+    AreBytes (entries_text key_text (map (sealed_entry iv rd phrase) es) closing)
 entries_bytes key_text iv rd phrase closing r p c [] all = (line, c)
 entries_bytes key_text iv rd phrase closing r p c (e ∷ es) all =
     let b : Body = record { rd = rd; bytes = sealed_body iv e.1; phrase = phrase } in
@@ -93,14 +95,16 @@ index_bytes i = AreBytes-append (codes "dup ") (digits i) (small_bytes (codes "d
 name_bytes : (n : List ℕ) → AreBytes n → AreBytes (name_text n)
 name_bytes n h = AreBytes-append (codes "/") n (small_bytes (codes "/") refl) h
 
-part_bytes : (iv : ℕ) (o : Option SubrsShell) (m : Numbered) → SubrsBytes o → ((i : ℕ) (c : List ℕ) → get m i ≡ Some c → AreBytes c) → AreBytes (subrs_part (option_map (subrs_pieces iv (entries m)) o))
+part_bytes : (iv : ℕ) (o : Option SubrsShell) (m : Numbered) → SubrsBytes o → ((i : ℕ) (c : List ℕ) → get m i ≡ Some c → AreBytes c) →
+    AreBytes (subrs_part (option_map (subrs_pieces iv (entries m)) o))
 part_bytes iv None m h k = tt
 part_bytes iv (Some t) m h k =
     let all = entries_all nat_cmp_total nat_cmp-IsAntisymmetric (λ i c. AreBytes (index_text i) × AreBytes c) m (λ i c e. (index_bytes i, k i c e)) in
     let table : List ℕ = subrs_text (map (subr_entry iv t) (entries m)) t.closing in
     let table_is = entries_bytes index_text iv t.rd t.put t.closing h.0 h.1 h.2 (entries m) all in
     AreBytes-append (codes "/Subrs ") (digits t.declared ++ (codes " array" ++ table)) (small_bytes (codes "/Subrs ") refl)
-    (AreBytes-append (digits t.declared) (codes " array" ++ table) (digits_bytes t.declared) (AreBytes-append (codes " array") table (small_bytes (codes " array") refl) table_is))
+    (AreBytes-append (digits t.declared) (codes " array" ++ table) (digits_bytes t.declared)
+    (AreBytes-append (codes " array") table (small_bytes (codes " array") refl) table_is))
 
 -- the canonical private text of a value of bytes is bytes
 pub private_bytes : (f : FontValue) → HasBytes f → AreBytes (canon_private f)
@@ -108,13 +112,15 @@ private_bytes f h =
     let s = f.shell in
     let gs = map (glyph_entry s) (entries f.glyphs) in
     let o = option_map (subrs_pieces s.len_iv (entries f.subrs)) s.subrs in
-    let all = entries_all nat_list_cmp_total name_same (λ n c. AreBytes (name_text n) × AreBytes c) f.glyphs (λ n c e. (name_bytes n (h.names n c e), h.glyphs n c e)) in
+    let all = entries_all nat_list_cmp_total name_same (λ n c. AreBytes (name_text n) × AreBytes c) f.glyphs
+    (λ n c e. (name_bytes n (h.names n c e), h.glyphs n c e)) in
     let end : List ℕ = s.tail ++ 10 ∷ [] in
     let end_is = AreBytes-append s.tail (10 ∷ []) h.texts.tail (line, tt) in
     let table_is = entries_bytes name_text s.len_iv s.glyphs_rd s.glyphs_def (codes "end") h.rd h.def (small_bytes (codes "end") refl) (entries f.glyphs) all in
     let part_is : AreBytes (glyphs_part gs) =
     AreBytes-append (codes "/CharStrings ") (digits (length gs) ++ (codes " dict dup begin" ++ glyphs_text gs)) (small_bytes (codes "/CharStrings ") refl)
-    (AreBytes-append (digits (length gs)) (codes " dict dup begin" ++ glyphs_text gs) (digits_bytes (length gs)) (AreBytes-append (codes " dict dup begin") (glyphs_text gs) (small_bytes (codes " dict dup begin") refl) table_is)) in
+    (AreBytes-append (digits (length gs)) (codes " dict dup begin" ++ glyphs_text gs) (digits_bytes (length gs))
+    (AreBytes-append (codes " dict dup begin") (glyphs_text gs) (small_bytes (codes " dict dup begin") refl) table_is)) in
     AreBytes-append s.private (subrs_part o ++ (s.middle ++ (glyphs_part gs ++ end))) h.texts.private
     (AreBytes-append (subrs_part o) (s.middle ++ (glyphs_part gs ++ end)) (part_bytes s.len_iv s.subrs f.subrs h.subrs_words h.subrs)
     (AreBytes-append s.middle (glyphs_part gs ++ end) h.texts.middle (AreBytes-append (glyphs_part gs) end part_is end_is)))
@@ -131,17 +137,20 @@ puts_bytes (e ∷ es) all =
     (AreBytes-append e.1 (codes " put" ++ p) all.0 (AreBytes-append (codes " put") p (small_bytes (codes " put") refl) (puts_bytes es all.1)))))
 
 encoding_bytes : (e : Encoding) → EncodingBytes e → AreBytes (encoding_text (encoding_pieces e))
-encoding_bytes (Word w) h = AreBytes-append (codes "/Encoding ") (w ++ codes " def") (small_bytes (codes "/Encoding ") refl) (AreBytes-append w (codes " def") h (small_bytes (codes " def") refl))
+encoding_bytes (Word w) h = AreBytes-append (codes "/Encoding ") (w ++ codes " def")
+    (small_bytes (codes "/Encoding ") refl) (AreBytes-append w (codes " def") h (small_bytes (codes " def") refl))
 encoding_bytes (Codes m) h =
     let start : List ℕ = codes "/Encoding 256 array" ++ (10 ∷ codes "0 1 255 {1 index exch /.notdef put} for") in
-    AreBytes-append start (puts_text (entries m)) (small_bytes start refl) (puts_bytes (entries m) (entries_all nat_cmp_total nat_cmp-IsAntisymmetric (λ c n. AreBytes n) m h))
+    AreBytes-append start (puts_text (entries m)) (small_bytes start refl)
+    (puts_bytes (entries m) (entries_all nat_cmp_total nat_cmp-IsAntisymmetric (λ c n. AreBytes n) m h))
 
 -- the canonical clear text of a value of bytes is bytes
 pub clear_bytes : (f : FontValue) → HasBytes f → AreBytes (canon_clear f)
 clear_bytes f h =
     let e = encoding_text (encoding_pieces f.encoding) in
     let end : List ℕ = f.shell.clear_tail ++ 10 ∷ [] in
-    AreBytes-append f.shell.head (e ++ end) h.texts.head (AreBytes-append e end (encoding_bytes f.encoding h.encoding) (AreBytes-append f.shell.clear_tail (10 ∷ []) h.texts.clear_tail (line, tt)))
+    AreBytes-append f.shell.head (e ++ end) h.texts.head
+    (AreBytes-append e end (encoding_bytes f.encoding h.encoding) (AreBytes-append f.shell.clear_tail (10 ∷ []) h.texts.clear_tail (line, tt)))
 
 -- ---- the file
 
@@ -171,12 +180,15 @@ cipher_bytes f h = sealed_bytes 55665 4 (canon_private f) (omega arith) (private
 pub canon_bytes : (f : FontValue) (form : Form) → HasBytes f → AreBytes (canon f form)
 canon_bytes f Pfa h =
     let c = private_cipher (canon_private f) in
-    AreBytes-append (canon_clear f) (hex_lines c ++ trailer) (clear_bytes f h) (AreBytes-append (hex_lines c) trailer (lines_bytes c (cipher_bytes f h)) trailer_bytes)
+    AreBytes-append (canon_clear f) (hex_lines c ++ trailer) (clear_bytes f h)
+    (AreBytes-append (hex_lines c) trailer (lines_bytes c (cipher_bytes f h)) trailer_bytes)
 canon_bytes f Pfb h =
     let c = private_cipher (canon_private f) in
     let e : List ℕ = 128 ∷ 3 ∷ [] in
-    AreBytes-append (segment_text 1 (canon_clear f)) (segment_text 2 c ++ (segment_text 1 trailer ++ e)) (segment_bytes 1 (canon_clear f) (omega arith) (clear_bytes f h))
-    (AreBytes-append (segment_text 2 c) (segment_text 1 trailer ++ e) (segment_bytes 2 c (omega arith) (cipher_bytes f h)) (AreBytes-append (segment_text 1 trailer) e (segment_bytes 1 trailer (omega arith) trailer_bytes) (small_bytes e refl)))
+    AreBytes-append (segment_text 1 (canon_clear f)) (segment_text 2 c ++ (segment_text 1 trailer ++ e))
+    (segment_bytes 1 (canon_clear f) (omega arith) (clear_bytes f h))
+    (AreBytes-append (segment_text 2 c) (segment_text 1 trailer ++ e) (segment_bytes 2 c (omega arith) (cipher_bytes f h))
+    (AreBytes-append (segment_text 1 trailer) e (segment_bytes 1 trailer (omega arith) trailer_bytes) (small_bytes e refl)))
 
 -- ---- a font has bytes
 

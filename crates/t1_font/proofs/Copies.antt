@@ -33,7 +33,8 @@ names_count codes from (suc n) = ap suc (names_count codes (suc from) n)
 -- ---- entries in turn
 
 -- one more entry puts its own behind those before it
-pub puts_push : (puts : List (ℕ × List ℕ)) (es : List CodeEntry) (e : CodeEntry) → puts_after puts (es ++ e ∷ []) ≡ puts_after puts es ++ put_by (puts_after puts es) e
+pub puts_push : (puts : List (ℕ × List ℕ)) (es : List CodeEntry) (e : CodeEntry) →
+    puts_after puts (es ++ e ∷ []) ≡ puts_after puts es ++ put_by (puts_after puts es) e
 puts_push puts [] e = refl
 puts_push puts (f ∷ es) e = puts_push (puts ++ put_by puts f) es e
 
@@ -60,5 +61,6 @@ entry_kept (Put c n) puts codes h = one_code_more puts (c, n) codes _ refl h
 entry_kept (Copy from count to) puts codes h = copies_kept count from to codes codes puts puts h h
 
 -- one more entry
-pub one_entry_more : (es : List CodeEntry) (e : CodeEntry) (codes next : Numbered) → next ≡ kept_by codes e → codes ≡ map_of (puts_of es) → next ≡ map_of (puts_of (es ++ e ∷ []))
+pub one_entry_more : (es : List CodeEntry) (e : CodeEntry) (codes next : Numbered) → next ≡ kept_by codes e → codes ≡ map_of (puts_of es) →
+    next ≡ map_of (puts_of (es ++ e ∷ []))
 one_entry_more es e codes next kept h = kept ∙ (entry_kept e (puts_of es) codes h ∙ ap (map_of {R = nat_cmp}) (sym (puts_push [] es e)))

@@ -37,7 +37,8 @@ module _ {K : Type 0} {R : K → K → Ordering} (o : IsTotalOrder R) (same : Is
   choice_none None = refl
   choice_none (Some v) = refl
 
-  one_more : (q k : K) (es : List (K × List ℕ)) (v : Option (List ℕ)) → last_value R q (entry_of k v ++ es) ≡ choice (last_value R q es) (cond (is_eq (R q k)) v None)
+  one_more : (q k : K) (es : List (K × List ℕ)) (v : Option (List ℕ)) →
+      last_value R q (entry_of k v ++ es) ≡ choice (last_value R q es) (cond (is_eq (R q k)) v None)
   one_more q k es None = sym (choice_none (last_value R q es)) ∙ by_key (is_eq (R q k))
     where
       by_key : (b : Bool) → choice (last_value R q es) None ≡ choice (last_value R q es) (cond b None None)
@@ -54,14 +55,18 @@ module _ {K : Type 0} {R : K → K → Ordering} (o : IsTotalOrder R) (same : Is
   found_in : (m : FinMap R (List ℕ)) (q : K) (ks : List K) → last_value R q (entries_of m ks) ≡ cond (list_any (eq_by_cmp R q) ks) (get m q) None
   found_in m q [] = refl
   found_in m q (k ∷ ks) =
-      one_more q k (entries_of m ks) (get m k) ∙ (ap (λ x. choice x (cond (is_eq (R q k)) (get m k) None)) (found_in m q ks) ∙ elim (is_or_not (is_eq (R q k))) [
-        | inl e ↦ rw e (ap (λ x. choice (cond (list_any (eq_by_cmp R q) ks) (get m q) None) (get m x)) (sym (same q k ((Equal-is (R q k)).0 e))) ∙ both_ways (get m q) (list_any (eq_by_cmp R q) ks))
+      one_more q k (entries_of m ks) (get m k)
+      ∙ (ap (λ x. choice x (cond (is_eq (R q k)) (get m k) None)) (found_in m q ks) ∙ elim (is_or_not (is_eq (R q k))) [
+        | inl e ↦ rw e (ap (λ x. choice (cond (list_any (eq_by_cmp R q) ks) (get m q) None) (get m x)) (sym (same q k ((Equal-is (R q k)).0 e)))
+            ∙ both_ways (get m q) (list_any (eq_by_cmp R q) ks))
         | inr e ↦ rw e (choice_none (cond (list_any (eq_by_cmp R q) ks) (get m q) None))
       ])
 
-  pub put_some : (m : FinMap R (List ℕ)) (ks : List K) → put_all_into {R = R} empty (entries_of m ks) ≡ retain_keys m (sets.contains (sets.from_list {R = R} ks))
+  pub put_some : (m : FinMap R (List ℕ)) (ks : List K) →
+      put_all_into {R = R} empty (entries_of m ks) ≡ retain_keys m (sets.contains (sets.from_list {R = R} ks))
   put_some m ks = put_first (entries_of m ks) ∙ same_map o same _ _ (λ q.
-      get-map_of o same (entries_of m ks) q ∙ (found_in m q ks ∙ (ap (λ b. cond b (get m q) None) (sym (sets.contains-from_list o ks q)) ∙ sym (get-retain o same m (sets.contains (sets.from_list {R = R} ks)) q))))
+      get-map_of o same (entries_of m ks) q ∙ (found_in m q ks
+      ∙ (ap (λ b. cond b (get m q) None) (sym (sets.contains-from_list o ks q)) ∙ sym (get-retain o same m (sets.contains (sets.from_list {R = R} ks)) q))))
 
   -- a map cut to keys that it has, has these
   pub has_cut : (m : FinMap R (List ℕ)) (p : K → Bool) → ((k : K) → p k ≡ true → contains_key m k ≡ true) → (q : K) → contains_key (retain_keys m p) q ≡ p q
@@ -82,6 +87,7 @@ pub cut_font : (names : List ℕ → Bool) (subrs : ℕ → Bool) (f parts cut :
     → cut.glyphs ≡ retain_keys parts.glyphs names
     → cut ≡ restrict names subrs f
 cut_font names subrs f parts cut is known shell encoding bodies glyphs =
-    let has : (n : List ℕ) → contains_key cut.glyphs n ≡ names n = λ n. ap (λ m. contains_key m n) glyphs ∙ has_cut nat_list_cmp_total name_same parts.glyphs names (λ k t. ap (λ p. contains_key p.glyphs k) (sym is) ∙ known k t) n in
+    let has : (n : List ℕ) → contains_key cut.glyphs n ≡ names n = λ n. ap (λ m. contains_key m n) glyphs
+    ∙ has_cut nat_list_cmp_total name_same parts.glyphs names (λ k t. ap (λ p. contains_key p.glyphs k) (sym is) ∙ known k t) n in
     let names_cut : cut.encoding ≡ restrict_encoding names parts.encoding = encoding ∙ (λ i. restrict_encoding (λ n. has n i) parts.encoding) in
     (λ i. record { shell = shell i; encoding = names_cut i; subrs = bodies i; glyphs = glyphs i }) ∙ ap (restrict names subrs) (sym is)

@@ -8,7 +8,8 @@ keyed {k = k} e = ap (λ v. (k, v)) e
 
 module _ {A B C : Type 0} (f : A → C) (g : B → C) where
   -- one more
-  pub one_more : (out more : List B) (xs : List A) (i : ℕ) (d : A) (y : B) → i < length xs → more ≡ out ++ y ∷ [] → g y ≡ f (get_or xs i d) → map g out ≡ map f (take i xs) → map g more ≡ map f (take (i + 1) xs)
+  pub one_more : (out more : List B) (xs : List A) (i : ℕ) (d : A) (y : B) → i < length xs → more ≡ out ++ y ∷ [] →
+      g y ≡ f (get_or xs i d) → map g out ≡ map f (take i xs) → map g more ≡ map f (take (i + 1) xs)
   one_more out more xs i d y room is same so_far =
       ap (map g) is
       ∙ (map-append g out (y ∷ [])

@@ -1,5 +1,6 @@
 -- Tables that are filled from others.
-use Rattle.std.proofs.Common.{◌≡◌, ℕ, Bool, true, false, cond, ◌&&◌, List, [], ◌∷◌, map, length, Option, Some, None, is_some, T, refl, sym, ap, subst, ◌∙◌, option_map, unwrap_or, true≢false, Result, Ok, Err, arith}
+use Rattle.std.proofs.Common.{◌≡◌, ℕ, Bool, true, false, cond, ◌&&◌, List, [], ◌∷◌, map, length, Option, Some, None, is_some}
+use Rattle.std.proofs.Common.{T, refl, sym, ap, subst, ◌∙◌, option_map, unwrap_or, true≢false, Result, Ok, Err, arith}
 use Rattle.std.specs.Prelude.{filter, nat_lt}
 use Rattle.std.specs.List.{AllByRecursion}
 use Rattle.std.specs.Cmp.{nat_cmp_total, Equal-is}
@@ -39,18 +40,21 @@ module _ (own : Numbered) (q : ℕ) where
   -- an entry is found as the stub there
   find_filled : (es : List ℕ) → fin.find nat_cmp q (map (filled_at own) es) ≡ option_map (unwrap_or (fin.get own q)) (fin.find nat_cmp q (map stub_at es))
   find_filled [] = refl
-  find_filled (e ∷ es) = elim (eq_by_cmp nat_cmp q e) as (λ b. eq_by_cmp nat_cmp q e ≡ b → cond b (Some (unwrap_or (fin.get own e) stub)) (fin.find nat_cmp q (map (filled_at own) es)) ≡ option_map (unwrap_or (fin.get own q)) (cond b (Some stub) (fin.find nat_cmp q (map stub_at es)))) [
-    | true ↦ λ t. ap (λ (k : ℕ). Some (unwrap_or (fin.get own k) stub)) (sym (fin.nat_cmp-IsAntisymmetric q e ((Equal-is (nat_cmp q e)).0 t)))
-    | false ↦ λ t. find_filled es
-  ] refl
+  find_filled (e ∷ es) = elim (eq_by_cmp nat_cmp q e) as (λ b. eq_by_cmp nat_cmp q e ≡ b → cond b (Some (unwrap_or (fin.get own e) stub))
+      (fin.find nat_cmp q (map (filled_at own) es)) ≡ option_map (unwrap_or (fin.get own q)) (cond b (Some stub) (fin.find nat_cmp q (map stub_at es)))) [
+        | true ↦ λ t. ap (λ (k : ℕ). Some (unwrap_or (fin.get own k) stub)) (sym (fin.nat_cmp-IsAntisymmetric q e ((Equal-is (nat_cmp q e)).0 t)))
+        | false ↦ λ t. find_filled es
+      ] refl
 
 -- what holds of each key of a list holds of a key that is found
-holds_found : (buffer : List ℕ) (P : ℕ → Type 0) (q : ℕ) (c : List ℕ) (places : List (ℕ × Range)) → AllByRecursion (λ e. P e.0) places → fin.find nat_cmp q (map (numbered_at buffer) places) ≡ Some c → P q
+holds_found : (buffer : List ℕ) (P : ℕ → Type 0) (q : ℕ) (c : List ℕ) (places : List (ℕ × Range)) →
+    AllByRecursion (λ e. P e.0) places → fin.find nat_cmp q (map (numbered_at buffer) places) ≡ Some c → P q
 holds_found buffer P q c [] h e = cc
-holds_found buffer P q c (p ∷ places) h e = elim (eq_by_cmp nat_cmp q p.0) as (λ b. eq_by_cmp nat_cmp q p.0 ≡ b → cond b (Some (numbered_at buffer p).1) (fin.find nat_cmp q (map (numbered_at buffer) places)) ≡ Some c → P q) [
-  | true ↦ λ t is. subst P (sym (fin.nat_cmp-IsAntisymmetric q p.0 ((Equal-is (nat_cmp q p.0)).0 t))) h.0
-  | false ↦ λ t is. holds_found buffer P q c places h.1 is
-] refl e
+holds_found buffer P q c (p ∷ places) h e = elim (eq_by_cmp nat_cmp q p.0)
+    as (λ b. eq_by_cmp nat_cmp q p.0 ≡ b → cond b (Some (numbered_at buffer p).1) (fin.find nat_cmp q (map (numbered_at buffer) places)) ≡ Some c → P q) [
+      | true ↦ λ t is. subst P (sym (fin.nat_cmp-IsAntisymmetric q p.0 ((Equal-is (nat_cmp q p.0)).0 t))) h.0
+      | false ↦ λ t is. holds_found buffer P q c places h.1 is
+    ] refl e
 
 over : (x y : Option (List ℕ)) → ((c : List ℕ) → x ≡ Some c → is_some y ≡ true) → option_map (unwrap_or x) y ≡ joined x y
 over None None h = refl
@@ -58,7 +62,8 @@ over None (Some d) h = refl
 over (Some c) None h = absurd (true≢false (sym (h c refl)))
 over (Some c) (Some d) h = refl
 
-module _ (buffer : List ℕ) (places : List (ℕ × Range)) (others : List ℕ) (own : Numbered) (is : fin.from_sorted (map (numbered_at buffer) places) ≡ own) (up : Rises nat_cmp (map (numbered_at buffer) places)) (rise : Rises nat_cmp (map stub_at others)) (among : AreAmong others places) where
+module _ (buffer : List ℕ) (places : List (ℕ × Range)) (others : List ℕ) (own : Numbered) (is : fin.from_sorted (map (numbered_at buffer) places) ≡ own)
+    (up : Rises nat_cmp (map (numbered_at buffer) places)) (rise : Rises nat_cmp (map stub_at others)) (among : AreAmong others places) where
   there : (q : ℕ) (c : List ℕ) → fin.get own q ≡ Some c → fin.contains_key (fin.from_sorted {R = nat_cmp} (map stub_at others)) q ≡ true
   there q c e = holds_found buffer (λ k. fin.contains_key (fin.from_sorted {R = nat_cmp} (map stub_at others)) k ≡ true) q c places among
       (sym (fin.get-from_sorted nat_cmp (map (numbered_at buffer) places) q up) ∙ (ap (λ (m : Numbered). fin.get m q) is ∙ e))
@@ -73,7 +78,8 @@ module _ (buffer : List ℕ) (places : List (ℕ × Range)) (others : List ℕ) 
       ∙ sym (get-merged nat_cmp_total fin.nat_cmp-IsAntisymmetric own (fin.from_sorted (map stub_at others)) q)))))
 
 -- a search finds an index exactly if a list has it
-pub among_is : (q : ℕ) (es : List ℕ) (r : Result ℕ ℕ) → Rises nat_cmp (map stub_at es) → IsSearchInRange r (length es) → IsBinarySearchResult (λ i. nat_cmp i q) es r
+pub among_is : (q : ℕ) (es : List ℕ) (r : Result ℕ ℕ) → Rises nat_cmp (map stub_at es) → IsSearchInRange r (length es) →
+    IsBinarySearchResult (λ i. nat_cmp i q) es r
     → is_ok r ≡ fin.contains_key (fin.from_sorted {R = nat_cmp} (map stub_at es)) q
 among_is q [] (Ok i) rise range at = absurd (omega (arith, range))
 among_is q (e ∷ es) (Ok i) rise range at = ap is_some (sym (searched nat_cmp_total stub_at q (e ∷ es) (Ok i) rise range at e))
@@ -96,14 +102,16 @@ keys_rise m = subst (λ (b : Bool). T b) (sym (same_keys_rise (fin.entries m))) 
 module _ (indices : List ℕ) (rise : Rises nat_cmp (map stub_at indices)) where
   -- the table of stubs at indices that rise
   pub sorted_stubs : fin.from_sorted {R = nat_cmp} (map stub_at indices) ≡ stubs_at indices
-  sorted_stubs = fin.same_map nat_cmp_total fin.nat_cmp-IsAntisymmetric _ _ (λ q. fin.get-from_sorted nat_cmp (map stub_at indices) q rise ∙ sym (fin.get-from_entries nat_cmp_total (map stub_at indices) q))
+  sorted_stubs = fin.same_map nat_cmp_total fin.nat_cmp-IsAntisymmetric _ _
+      (λ q. fin.get-from_sorted nat_cmp (map stub_at indices) q rise ∙ sym (fin.get-from_entries nat_cmp_total (map stub_at indices) q))
 
   filter_stubs : (n : ℕ) (js : List ℕ) → filter (λ (e : ℕ × List ℕ). nat_lt e.0 n) (map stub_at js) ≡ map stub_at (below n js)
   filter_stubs n [] = refl
-  filter_stubs n (j ∷ js) = elim (nat_lt j n) as (λ b. cond b (stub_at j ∷ filter (λ (e : ℕ × List ℕ). nat_lt e.0 n) (map stub_at js)) (filter (λ (e : ℕ × List ℕ). nat_lt e.0 n) (map stub_at js)) ≡ map stub_at (cond b (j ∷ below n js) (below n js))) [
-    | true ↦ ap (λ (es : List (ℕ × List ℕ)). stub_at j ∷ es) (filter_stubs n js)
-    | false ↦ filter_stubs n js
-  ]
+  filter_stubs n (j ∷ js) = elim (nat_lt j n) as (λ b. cond b (stub_at j ∷ filter (λ (e : ℕ × List ℕ). nat_lt e.0 n) (map stub_at js))
+      (filter (λ (e : ℕ × List ℕ). nat_lt e.0 n) (map stub_at js)) ≡ map stub_at (cond b (j ∷ below n js) (below n js))) [
+        | true ↦ ap (λ (es : List (ℕ × List ℕ)). stub_at j ∷ es) (filter_stubs n js)
+        | false ↦ filter_stubs n js
+      ]
 
   -- those below a count are the entries of that table below it
   pub stubs_before : (n : ℕ) → map stub_at (below n indices) ≡ fin.entries (fin.retain_keys (stubs_at indices) (λ i. nat_lt i n))

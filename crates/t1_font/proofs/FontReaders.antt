@@ -26,7 +26,8 @@ masked false (Some c) h = cc_of (h c refl)
 
 -- the Subrs that an interpreter sees are the entries
 pub subrs_seen : (f : FontValue) → IsFont f → (i : ℕ) → subr_at f i ≡ get f.subrs i
-subrs_seen f is i = masked (ltb i (declared_count f.shell.subrs)) (get f.subrs i) (λ c e. lt-ltb i (declared_count f.shell.subrs) (below_of f.shell f.shell.subrs f.subrs is.subrs i c e))
+subrs_seen f is i = masked (ltb i (declared_count f.shell.subrs)) (get f.subrs i)
+    (λ c e. lt-ltb i (declared_count f.shell.subrs) (below_of f.shell f.shell.subrs f.subrs is.subrs i c e))
 
 -- the map of Subrs that an interpreter sees is the font's
 pub all_seen : (f : FontValue) → IsFont f → subr_at f ≡ get f.subrs

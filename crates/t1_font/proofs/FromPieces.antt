@@ -45,17 +45,20 @@ over c p x g shows there no_room = rw (sym shows.glyphs.notdef ∙ there, no_roo
 -- more Subrs are declared than a font may have
 pub declared_over : (c : ClearPieces) (p : PrivatePieces) (x : PrivateParts) (g : Entries) → ShowsPrivate x g p → x.glyphs.has_notdef ≡ true →
     count_limit < declared_in x.subrs → (font_from c p).read ≡ Err Limit
-declared_over c p x g shows there many = over c p x g shows there (not_within c p (λ w. omega (arith, same_declared x.subrs p.subrs shows.subrs, w.declared, many)))
+declared_over c p x g shows there many =
+    over c p x g shows there (not_within c p (λ w. omega (arith, same_declared x.subrs p.subrs shows.subrs, w.declared, many)))
 
 -- more glyphs are there
 pub glyphs_over : (c : ClearPieces) (p : PrivatePieces) (x : PrivateParts) (g : Entries) (f : FontValue) → ShowsPrivate x g p →
     x.glyphs.has_notdef ≡ true → f ≡ font_of c p → count_limit < len f.glyphs → (font_from c p).read ≡ Err Limit
-glyphs_over c p x g f shows there same many = over c p x g shows there (not_within c p (λ w. omega (arith, ap (λ (v : FontValue). len v.glyphs) same, w.glyphs, many)))
+glyphs_over c p x g f shows there same many =
+    over c p x g shows there (not_within c p (λ w. omega (arith, ap (λ (v : FontValue). len v.glyphs) same, w.glyphs, many)))
 
 -- a font over the weight limit is refused as Limit
 pub weight_over : (c : ClearPieces) (p : PrivatePieces) (x : PrivateParts) (g : Entries) (f : FontValue) (n : ℕ) → ShowsPrivate x g p →
     x.glyphs.has_notdef ≡ true → f ≡ font_of c p → n ≡ clamp (weight f) → weight_limit < n → (font_from c p).read ≡ Err Limit
-weight_over c p x g f n shows there same is heavy = over c p x g shows there (not_within c p (λ w. heavier (weight f) n (subst (λ (v : FontValue). weight v ≤ weight_limit) (sym same) w.weight) is heavy))
+weight_over c p x g f n shows there same is heavy =
+    over c p x g shows there (not_within c p (λ w. heavier (weight f) n (subst (λ (v : FontValue). weight v ≤ weight_limit) (sym same) w.weight) is heavy))
   where
     heavier : (m n : ℕ) → m ≤ weight_limit → n ≡ clamp m → weight_limit < n → ⊥
     heavier m n light e h = omega (arith, e, h, light)
@@ -65,7 +68,8 @@ pub font_is : (c : ClearPieces) (p : PrivatePieces) (x : PrivateParts) (g : Entr
     declared_in x.subrs ≤ count_limit → len f.glyphs ≤ count_limit → f ≡ font_of c p → n ≡ clamp (weight f) → n ≤ weight_limit → (font_from c p).read ≡ Ok f
 unfolding font_from
 font_is c p x g f n shows there few_subrs few_glyphs same is light =
-    let declared : declared_count (shell_of c p).subrs ≤ count_limit = subst (λ (k : ℕ). k ≤ count_limit) (same_declared x.subrs p.subrs shows.subrs) few_subrs in
+    let declared : declared_count (shell_of c p).subrs ≤ count_limit =
+    subst (λ (k : ℕ). k ≤ count_limit) (same_declared x.subrs p.subrs shows.subrs) few_subrs in
     let glyphs : len (font_of c p).glyphs ≤ count_limit = subst (λ (v : FontValue). len v.glyphs ≤ count_limit) same few_glyphs in
     let weighs : weight (font_of c p) ≤ weight_limit = subst (λ (v : FontValue). weight v ≤ weight_limit) same (lighter (weight f) n is light) in
     let same_font : font_of c p ≡ f = sym same in

@@ -27,12 +27,14 @@ pub none_named : empty ≡ map_of {R = name_cmp} []
 none_named = sym (map_of-nil nat_list_cmp_total (slice_cmp-IsAntisymmetric nat_cmp-IsAntisymmetric))
 
 -- one more put
-pub one_code_more : (es : List (ℕ × List ℕ)) (e : ℕ × List ℕ) (codes next : Numbered) → next ≡ insert codes e.0 e.1 → codes ≡ map_of es → next ≡ map_of (es ++ e ∷ [])
+pub one_code_more : (es : List (ℕ × List ℕ)) (e : ℕ × List ℕ) (codes next : Numbered) → next ≡ insert codes e.0 e.1 → codes ≡ map_of es →
+    next ≡ map_of (es ++ e ∷ [])
 one_code_more es e codes next put same = put ∙ (ap (λ m. insert m e.0 e.1) same ∙ sym (map_of-append nat_cmp_total nat_cmp-IsAntisymmetric es e))
 
 -- the names among the last puts
 pub names_put : (es : List (ℕ × List ℕ)) (codes : Numbered) → codes ≡ map_of es → named codes ≡ names_of es
-names_put es codes same = ap named same ∙ ap (λ last. from_sorted {R = nat_cmp} (filter has_name last)) (entries-map_of nat_cmp_total nat_cmp-IsAntisymmetric es)
+names_put es codes same =
+    ap named same ∙ ap (λ last. from_sorted {R = nat_cmp} (filter has_name last)) (entries-map_of nat_cmp_total nat_cmp-IsAntisymmetric es)
 
 -- the words of the first entry stay
 pub first_more : {K : Type 0} (es : List (Entry K)) (e : Entry K) → first_words (es ++ e ∷ []) ≡ Some (unwrap_or (first_words es) (e.body.rd, e.body.phrase))
@@ -41,18 +43,23 @@ first_more (f ∷ es) e = refl
 
 module _ {K : Type 0} {R : K → K → Ordering} (o : IsTotalOrder R) (same : IsAntisymmetric R) where
   -- one more entry in the map of those before it
-  entries_more : (iv : ℕ) (es : List (Entry K)) (e : Entry K) → map_of {R = R} (plain_entries iv (es ++ e ∷ [])) ≡ insert (map_of (plain_entries iv es)) e.key (plain_of iv e.body.bytes)
-  entries_more iv es e = ap (map_of {R = R}) (map_push (λ (f : Entry K). (f.key, plain_of iv f.body.bytes)) es e) ∙ map_of-append o same (plain_entries iv es) (e.key, plain_of iv e.body.bytes)
+  entries_more : (iv : ℕ) (es : List (Entry K)) (e : Entry K) →
+      map_of {R = R} (plain_entries iv (es ++ e ∷ [])) ≡ insert (map_of (plain_entries iv es)) e.key (plain_of iv e.body.bytes)
+  entries_more iv es e = ap (map_of {R = R}) (map_push (λ (f : Entry K). (f.key, plain_of iv f.body.bytes)) es e)
+      ∙ map_of-append o same (plain_entries iv es) (e.key, plain_of iv e.body.bytes)
 
-  entry_more : (iv : ℕ) (bodies next : FinMap R (List ℕ)) (es : List (Entry K)) (e : Entry K) → next ≡ insert bodies e.key (plain_of iv e.body.bytes) → bodies ≡ map_of (plain_entries iv es) → next ≡ map_of (plain_entries iv (es ++ e ∷ []))
+  entry_more : (iv : ℕ) (bodies next : FinMap R (List ℕ)) (es : List (Entry K)) (e : Entry K) →
+      next ≡ insert bodies e.key (plain_of iv e.body.bytes) → bodies ≡ map_of (plain_entries iv es) → next ≡ map_of (plain_entries iv (es ++ e ∷ []))
   entry_more iv bodies next es e put held = put ∙ (ap (λ m. insert m e.key (plain_of iv e.body.bytes)) held ∙ sym (entries_more iv es e))
 
 -- one more glyph
-pub one_glyph_more : (iv : ℕ) (bodies next : Named) (es : List Glyph) (e : Glyph) → next ≡ insert bodies e.key (plain_of iv e.body.bytes) → HoldsGlyphs iv bodies es → HoldsGlyphs iv next (es ++ e ∷ [])
+pub one_glyph_more : (iv : ℕ) (bodies next : Named) (es : List Glyph) (e : Glyph) →
+    next ≡ insert bodies e.key (plain_of iv e.body.bytes) → HoldsGlyphs iv bodies es → HoldsGlyphs iv next (es ++ e ∷ [])
 one_glyph_more = entry_more nat_list_cmp_total (slice_cmp-IsAntisymmetric nat_cmp-IsAntisymmetric)
 
 -- one Subr more
-pub one_subr_more : (declared iv : ℕ) (bodies next : Numbered) (es : List Subr) (e : Subr) → next ≡ insert bodies e.key (plain_of iv e.body.bytes) → HoldsSubrs declared iv bodies es → HoldsSubrs declared iv next (es ++ e ∷ [])
+pub one_subr_more : (declared iv : ℕ) (bodies next : Numbered) (es : List Subr) (e : Subr) →
+    next ≡ insert bodies e.key (plain_of iv e.body.bytes) → HoldsSubrs declared iv bodies es → HoldsSubrs declared iv next (es ++ e ∷ [])
 one_subr_more declared iv bodies next es e put h few = entry_more nat_cmp_total nat_cmp-IsAntisymmetric iv bodies next es e put (h few)
 
 -- `.notdef` is among the names if it was, or if the one more is it

@@ -39,7 +39,8 @@ all_last P [] x h k = (k, tt)
 all_last P (g ∷ gs) x h k = (h.0, all_last P gs x h.1 k)
 
 -- what holds of the first i fonts and of the font there holds of the first i + 1
-pub all_next : (P : FontValue → Type 0) (gs : List FontValue) (i : ℕ) (x : FontValue) → i < length gs → x ≡ get_or gs i x → AllByRecursion P (take i gs) → P x → AllByRecursion P (take (i + 1) gs)
+pub all_next : (P : FontValue → Type 0) (gs : List FontValue) (i : ℕ) (x : FontValue) → i < length gs → x ≡ get_or gs i x → AllByRecursion P (take i gs) → P x →
+    AllByRecursion P (take (i + 1) gs)
 all_next P gs i x l e h k = subst (AllByRecursion P) (sym (next_font x gs i x l e)) (all_last P (take i gs) x h k)
 
 -- the shell is that of the first font
@@ -60,7 +61,8 @@ pub kinds_kept : (f : FontValue) (gs : List FontValue) (e : Encoding) → SameKi
 kinds_kept f [] e h = h
 kinds_kept f (g ∷ gs) e h = kinds_kept (join_parts f g) gs e (kind_kept f.encoding g.encoding e h)
 
-all_kinds : (f g : FontValue) (gs : List FontValue) → AllByRecursion (λ x. SameKind f.encoding x.encoding) gs → AllByRecursion (λ x. SameKind (join_parts f g).encoding x.encoding) gs
+all_kinds : (f g : FontValue) (gs : List FontValue) → AllByRecursion (λ x. SameKind f.encoding x.encoding) gs →
+    AllByRecursion (λ x. SameKind (join_parts f g).encoding x.encoding) gs
 all_kinds f g [] h = tt
 all_kinds f g (x ∷ gs) h = (kind_kept f.encoding g.encoding x.encoding h.0, all_kinds f g gs h.1)
 
@@ -68,7 +70,8 @@ all_kinds f g (x ∷ gs) h = (kind_kept f.encoding g.encoding x.encoding h.0, al
 
 fewer : (m n : Named) → len m ≤ len (merged m n)
 fewer m n =
-    let few : total (λ k x. 1) (entries m) ≤ total (λ k x. 1) (entries (merged m n)) = total-le nat_list_cmp_total name_same (λ k x. 1) (λ k x. 1) m (merged m n) (λ q v e. (v, get-merged nat_list_cmp_total name_same m n q ∙ ap (λ x. joined x (get n q)) e, omega arith)) in
+    let few : total (λ k x. 1) (entries m) ≤ total (λ k x. 1) (entries (merged m n)) = total-le nat_list_cmp_total name_same (λ k x. 1)
+    (λ k x. 1) m (merged m n) (λ q v e. (v, get-merged nat_list_cmp_total name_same m n q ∙ ap (λ x. joined x (get n q)) e, omega arith)) in
     omega (arith, few, length_total (entries m), length_total (entries (merged m n)), len-entries m, len-entries (merged m n))
 
 never_fewer : (f : FontValue) (gs : List FontValue) → len f.glyphs ≤ len (join_all_parts f gs).glyphs
@@ -80,10 +83,12 @@ never_lighter f [] = omega arith
 never_lighter f (g ∷ gs) = let one = join_heavy f g in let rest = never_lighter (join_parts f g) gs in omega (arith, one, rest)
 
 -- the entries of fonts of one shell, within the limits, are a font
-pub all_are_font : (f : FontValue) (gs : List FontValue) → IsFont f → AllByRecursion IsFont gs → AllByRecursion (λ g. f.shell ≡ g.shell) gs → AllByRecursion (λ g. SameKind f.encoding g.encoding) gs
+pub all_are_font : (f : FontValue) (gs : List FontValue) → IsFont f → AllByRecursion IsFont gs → AllByRecursion (λ g. f.shell ≡ g.shell) gs →
+    AllByRecursion (λ g. SameKind f.encoding g.encoding) gs
     → len (join_all_parts f gs).glyphs ≤ count_limit → weight (join_all_parts f gs) ≤ weight_limit → IsFont (join_all_parts f gs)
 all_are_font f [] h k shells kinds few light = h
 all_are_font f (g ∷ gs) h k shells kinds few light =
     let no_more = never_fewer (join_parts f g) gs in
     let no_heavier = never_lighter (join_parts f g) gs in
-    all_are_font (join_parts f g) gs (join_is_font f g h k.0 shells.0 kinds.0 (omega (arith, no_more, few)) (omega (arith, no_heavier, light))) k.1 shells.1 (all_kinds f g gs kinds.1) few light
+    all_are_font (join_parts f g) gs (join_is_font f g h k.0 shells.0 kinds.0 (omega (arith, no_more, few)) (omega (arith, no_heavier, light))) k.1 shells.1
+    (all_kinds f g gs kinds.1) few light

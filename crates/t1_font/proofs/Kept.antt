@@ -35,7 +35,8 @@ from_cond true o v h = h
 from_cond false o v h = Some_None (sym h)
 
 -- what a key of a map has that was cut to some keys, it had
-pub cut_had : {K X : Type 0} {R : K → K → Ordering} (o : IsTotalOrder R) (same : IsAntisymmetric R) (m : FinMap R X) (p : K → Bool) (q : K) (v : X) → get (retain_keys m p) q ≡ Some v → get m q ≡ Some v
+pub cut_had : {K X : Type 0} {R : K → K → Ordering} (o : IsTotalOrder R) (same : IsAntisymmetric R) (m : FinMap R X) (p : K → Bool) (q : K) (v : X) →
+    get (retain_keys m p) q ≡ Some v → get m q ≡ Some v
 cut_had o same m p q v h = from_cond (p q) (get m q) v (sym (get-retain o same m p q) ∙ h)
 
 from_mapped : {X Y : Type 0} (f : X → Y) (o : Option X) (w : Y) → option_map f o ≡ Some w → (v : X) × (o ≡ Some v) × (w ≡ f v)
@@ -43,7 +44,8 @@ from_mapped f None w h = Some_None (sym h)
 from_mapped f (Some v) w h = (v, refl, sym (Some_same h))
 
 -- what a key of a map with other values has was made of what it had
-mapped_had : {K X Y : Type 0} {R : K → K → Ordering} (o : IsTotalOrder R) (same : IsAntisymmetric R) (f : K → X → Y) (m : FinMap R X) (q : K) (w : Y) → get (map_values f m) q ≡ Some w → (v : X) × (get m q ≡ Some v) × (w ≡ f q v)
+mapped_had : {K X Y : Type 0} {R : K → K → Ordering} (o : IsTotalOrder R) (same : IsAntisymmetric R) (f : K → X → Y) (m : FinMap R X) (q : K) (w : Y) →
+    get (map_values f m) q ≡ Some w → (v : X) × (get m q ≡ Some v) × (w ≡ f q v)
 mapped_had o same f m q w h = from_mapped (f q) (get m q) w (sym (get-map_values o same f m q) ∙ h)
 
 words_kept : (f : ℕ → List ℕ → List ℕ) (es : List (ℕ × List ℕ)) (s : SubrsShell) → SubrWords es s → SubrWords (map (λ e. (e.0, f e.0 e.1)) es) s
@@ -51,13 +53,16 @@ words_kept f [] s h = h
 words_kept f (e ∷ es) s h = h
 
 -- subroutines with other charstrings, which have room for their lead bytes
-subrs_kept : (s : Shell) (o : Option SubrsShell) (m : Numbered) (f : ℕ → List ℕ → List ℕ) → SubrsFit s o m → ((i : ℕ) (c : List ℕ) → get m i ≡ Some c → IsCharstring s.len_iv c → IsCharstring s.len_iv (f i c)) → SubrsFit s o (map_values f m)
+subrs_kept : (s : Shell) (o : Option SubrsShell) (m : Numbered) (f : ℕ → List ℕ → List ℕ) → SubrsFit s o m →
+    ((i : ℕ) (c : List ℕ) → get m i ≡ Some c → IsCharstring s.len_iv c → IsCharstring s.len_iv (f i c)) → SubrsFit s o (map_values f m)
 subrs_kept s None m f h k = (entries-map_values nat_cmp_total nat_cmp-IsAntisymmetric f m ∙ ap (map (λ e. (e.0, f e.0 e.1))) h.0, h.1)
 subrs_kept s (Some t) m f h k = record {
   declared = h.declared;
   below = λ i c e. let v = mapped_had nat_cmp_total nat_cmp-IsAntisymmetric f m i c e in h.below i v.0 v.1;
-  bodies = λ i c e. let v = mapped_had nat_cmp_total nat_cmp-IsAntisymmetric f m i c e in subst (IsCharstring s.len_iv) (sym v.2) (k i v.0 v.1 (h.bodies i v.0 v.1));
-  words = subst (λ (es : List (ℕ × List ℕ)). SubrWords es t) (sym (entries-map_values nat_cmp_total nat_cmp-IsAntisymmetric f m)) (words_kept f (entries m) t h.words);
+  bodies =
+      λ i c e. let v = mapped_had nat_cmp_total nat_cmp-IsAntisymmetric f m i c e in subst (IsCharstring s.len_iv) (sym v.2) (k i v.0 v.1 (h.bodies i v.0 v.1));
+  words = subst (λ (es : List (ℕ × List ℕ)). SubrWords es t)
+      (sym (entries-map_values nat_cmp_total nat_cmp-IsAntisymmetric f m)) (words_kept f (entries m) t h.words);
   closing = h.closing;
 }
 
@@ -75,13 +80,16 @@ stub_light : (iv i : ℕ) (b : Bool) (c : List ℕ) → subr_weight iv i (cond b
 stub_light iv i true c = omega arith
 stub_light iv i false c = omega arith
 
-subrs_light : (f : FontValue) (subrs : ℕ → Bool) → total (subr_weight f.shell.len_iv) (entries (map_values (λ i c. cond (subrs i) c stub) f.subrs)) ≤ total (subr_weight f.shell.len_iv) (entries f.subrs)
-subrs_light f subrs = total-le nat_cmp_total nat_cmp-IsAntisymmetric (subr_weight f.shell.len_iv) (subr_weight f.shell.len_iv) (map_values (λ i c. cond (subrs i) c stub) f.subrs) f.subrs (λ i c e.
+subrs_light : (f : FontValue) (subrs : ℕ → Bool) →
+    total (subr_weight f.shell.len_iv) (entries (map_values (λ i c. cond (subrs i) c stub) f.subrs)) ≤ total (subr_weight f.shell.len_iv) (entries f.subrs)
+subrs_light f subrs = total-le nat_cmp_total nat_cmp-IsAntisymmetric (subr_weight f.shell.len_iv)
+    (subr_weight f.shell.len_iv) (map_values (λ i c. cond (subrs i) c stub) f.subrs) f.subrs (λ i c e.
     let v = mapped_had nat_cmp_total nat_cmp-IsAntisymmetric (λ i c. cond (subrs i) c stub) f.subrs i c e in
     (v.0, v.1, subst (λ (d : List ℕ). subr_weight f.shell.len_iv i d ≤ subr_weight f.shell.len_iv i v.0) (sym v.2) (stub_light f.shell.len_iv i (subrs i) v.0)))
 
 glyphs_light : (f : FontValue) (names : List ℕ → Bool) (w : List ℕ → List ℕ → ℕ) → total w (entries (retain_keys f.glyphs names)) ≤ total w (entries f.glyphs)
-glyphs_light f names w = total-le nat_list_cmp_total name_same w w (retain_keys f.glyphs names) f.glyphs (λ n c e. (c, cut_had nat_list_cmp_total name_same f.glyphs names n c e, omega arith))
+glyphs_light f names w = total-le nat_list_cmp_total name_same w w (retain_keys f.glyphs names) f.glyphs
+    (λ n c e. (c, cut_had nat_list_cmp_total name_same f.glyphs names n c e, omega arith))
 
 -- a restriction weighs no more
 pub restrict_light : (names : List ℕ → Bool) (subrs : ℕ → Bool) (f : FontValue) → weight (restrict names subrs f) ≤ weight f
@@ -97,7 +105,8 @@ notdef_kept false o h k = absurd (true≢false (sym h))
 pub restrict_is_font : (names : List ℕ → Bool) (subrs : ℕ → Bool) (f : FontValue) → IsFont f → names notdef ≡ true → IsFont (restrict names subrs f)
 restrict_is_font names subrs f h has =
     let iv = iv_small f.shell.private f.shell.len_iv h.private.iv in
-    let fewer : length (entries (retain_keys f.glyphs names)) ≤ length (entries f.glyphs) = omega (arith, glyphs_light f names (λ k x. 1), length_total (entries f.glyphs), length_total (entries (retain_keys f.glyphs names))) in
+    let fewer : length (entries (retain_keys f.glyphs names)) ≤ length (entries f.glyphs) =
+    omega (arith, glyphs_light f names (λ k x. 1), length_total (entries f.glyphs), length_total (entries (retain_keys f.glyphs names))) in
     record {
       clear = h.clear;
       private = h.private;
@@ -109,7 +118,8 @@ restrict_is_font names subrs f h has =
         def = h.glyphs.def;
         names = λ n c e. h.glyphs.names n c (cut_had nat_list_cmp_total name_same f.glyphs names n c e);
         bodies = λ n c e. h.glyphs.bodies n c (cut_had nat_list_cmp_total name_same f.glyphs names n c e);
-        notdef = ap is_some (get-retain nat_list_cmp_total name_same f.glyphs names notdef) ∙ notdef_kept (names notdef) (get f.glyphs notdef) has h.glyphs.notdef;
+        notdef =
+            ap is_some (get-retain nat_list_cmp_total name_same f.glyphs names notdef) ∙ notdef_kept (names notdef) (get f.glyphs notdef) has h.glyphs.notdef;
         few = omega (arith, len-entries (retain_keys f.glyphs names), len-entries f.glyphs, h.glyphs.few);
       };
       light = omega (arith, restrict_light names subrs f, h.light);
@@ -122,7 +132,8 @@ from_joined P None y v h f g = g v h
 from_joined P (Some w) y v h f g = f v h
 
 -- what holds of the entries of two maps holds of the entries of both
-pub merged_has : {K X : Type 0} {R : K → K → Ordering} (o : IsTotalOrder R) (same : IsAntisymmetric R) (P : K → X → Type 0) (m n : FinMap R X) → ((q : K) (v : X) → get m q ≡ Some v → P q v) → ((q : K) (v : X) → get n q ≡ Some v → P q v) → (q : K) (v : X) → get (merged m n) q ≡ Some v → P q v
+pub merged_has : {K X : Type 0} {R : K → K → Ordering} (o : IsTotalOrder R) (same : IsAntisymmetric R) (P : K → X → Type 0) (m n : FinMap R X) →
+    ((q : K) (v : X) → get m q ≡ Some v → P q v) → ((q : K) (v : X) → get n q ≡ Some v → P q v) → (q : K) (v : X) → get (merged m n) q ≡ Some v → P q v
 merged_has o same P m n f g q v h = from_joined (P q) (get m q) (get n q) v (sym (get-merged o same m n q) ∙ h) (f q) (g q)
 
 encodings_joined : (d e : Encoding) → SameKind d e → IsEncoding d → IsEncoding e → IsEncoding (join_encodings d e)
@@ -131,7 +142,8 @@ encodings_joined (Word v) (Codes n) s h k = absurd s
 encodings_joined (Codes m) (Word w) s h k = absurd s
 encodings_joined (Codes m) (Codes n) s h k = merged_has nat_cmp_total nat_cmp-IsAntisymmetric IsCode m n h k
 
-other_fits : (iv : ℕ) (b : Bool) (c : List ℕ) (o : Option (List ℕ)) → IsCharstring iv c → ((d : List ℕ) → o ≡ Some d → IsCharstring iv d) → IsCharstring iv (cond b (unwrap_or o c) c)
+other_fits : (iv : ℕ) (b : Bool) (c : List ℕ) (o : Option (List ℕ)) → IsCharstring iv c → ((d : List ℕ) → o ≡ Some d → IsCharstring iv d) →
+    IsCharstring iv (cond b (unwrap_or o c) c)
 other_fits iv true c None h k = h
 other_fits iv true c (Some d) h k = k d refl
 other_fits iv false c o h k = h
@@ -144,7 +156,8 @@ notdef_joined : (x y : Option (List ℕ)) → is_some x ≡ true → is_some (jo
 notdef_joined None y h = absurd (true≢false (sym h))
 notdef_joined (Some v) y h = refl
 
-pub join_is_font : (f g : FontValue) → IsFont f → IsFont g → f.shell ≡ g.shell → SameKind f.encoding g.encoding → len (merged f.glyphs g.glyphs) ≤ count_limit → weight (join_parts f g) ≤ weight_limit → IsFont (join_parts f g)
+pub join_is_font : (f g : FontValue) → IsFont f → IsFont g → f.shell ≡ g.shell → SameKind f.encoding g.encoding →
+    len (merged f.glyphs g.glyphs) ≤ count_limit → weight (join_parts f g) ≤ weight_limit → IsFont (join_parts f g)
 join_is_font f g h k shells kinds few light =
     let subrs : SubrsFit f.shell f.shell.subrs g.subrs = subst (λ (s : Shell). SubrsFit s s.subrs g.subrs) (sym shells) k.subrs in
     let glyphs : AreGlyphs f.shell g.glyphs = subst (λ (s : Shell). AreGlyphs s g.glyphs) (sym shells) k.glyphs in
@@ -153,13 +166,15 @@ join_is_font f g h k shells kinds few light =
       private = h.private;
       texts = h.texts;
       encoding = encodings_joined f.encoding g.encoding kinds h.encoding k.encoding;
-      subrs = subrs_kept f.shell f.shell.subrs f.subrs (λ i c. joined_subr c (get g.subrs i)) h.subrs (λ i c e fits. other_fits f.shell.len_iv (bytes_eq c stub) c (get g.subrs i) fits (subrs_fit f.shell f.shell.subrs g.subrs subrs i));
+      subrs = subrs_kept f.shell f.shell.subrs f.subrs (λ i c. joined_subr c (get g.subrs i)) h.subrs
+          (λ i c e fits. other_fits f.shell.len_iv (bytes_eq c stub) c (get g.subrs i) fits (subrs_fit f.shell f.shell.subrs g.subrs subrs i));
       glyphs = record {
         rd = h.glyphs.rd;
         def = h.glyphs.def;
         names = merged_has nat_list_cmp_total name_same (λ n c. IsWord 127 n) f.glyphs g.glyphs h.glyphs.names glyphs.names;
         bodies = merged_has nat_list_cmp_total name_same (λ n c. IsCharstring f.shell.len_iv c) f.glyphs g.glyphs h.glyphs.bodies glyphs.bodies;
-        notdef = ap is_some (get-merged nat_list_cmp_total name_same f.glyphs g.glyphs notdef) ∙ notdef_joined (get f.glyphs notdef) (get g.glyphs notdef) h.glyphs.notdef;
+        notdef = ap is_some (get-merged nat_list_cmp_total name_same f.glyphs g.glyphs notdef)
+            ∙ notdef_joined (get f.glyphs notdef) (get g.glyphs notdef) h.glyphs.notdef;
         few = few;
       };
       light = light;
@@ -179,8 +194,10 @@ pub join_heavy : (f g : FontValue) → weight f ≤ weight (join_parts f g)
 join_heavy f g =
     let iv = f.shell.len_iv in
     let h : ℕ → List ℕ → List ℕ = λ i c. joined_subr c (get g.subrs i) in
-    let subrs : total (subr_weight iv) (entries f.subrs) ≤ total (subr_weight iv) (entries (map_values h f.subrs)) = total-le nat_cmp_total nat_cmp-IsAntisymmetric (subr_weight iv) (subr_weight iv) f.subrs (map_values h f.subrs) (λ i c e.
+    let subrs : total (subr_weight iv) (entries f.subrs) ≤ total (subr_weight iv) (entries (map_values h f.subrs)) =
+    total-le nat_cmp_total nat_cmp-IsAntisymmetric (subr_weight iv) (subr_weight iv) f.subrs (map_values h f.subrs) (λ i c e.
     (h i c, get-map_values nat_cmp_total nat_cmp-IsAntisymmetric h f.subrs i ∙ ap (option_map (h i)) e, joined_heavy iv i c (get g.subrs i))) in
-    let glyphs : total (glyph_weight iv) (entries f.glyphs) ≤ total (glyph_weight iv) (entries (merged f.glyphs g.glyphs)) = total-le nat_list_cmp_total name_same (glyph_weight iv) (glyph_weight iv) f.glyphs (merged f.glyphs g.glyphs) (λ n c e.
+    let glyphs : total (glyph_weight iv) (entries f.glyphs) ≤ total (glyph_weight iv) (entries (merged f.glyphs g.glyphs)) =
+    total-le nat_list_cmp_total name_same (glyph_weight iv) (glyph_weight iv) f.glyphs (merged f.glyphs g.glyphs) (λ n c e.
     (c, get-merged nat_list_cmp_total name_same f.glyphs g.glyphs n ∙ ap (λ x. joined x (get g.glyphs n)) e, omega arith)) in
     omega (arith, subrs, glyphs)

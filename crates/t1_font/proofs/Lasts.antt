@@ -1,6 +1,7 @@
 -- The last entries of a list, each key once, and the map of the list.
 use native.Mathlib.Numerals.{unary_clauses}
-use Rattle.std.proofs.Common.{◌≡◌, ℕ, ◌+◌, ◌<◌, ◌≤◌, ◌++◌, length, take, drop, set, add-one, refl, sym, ap, subst, ◌∙◌, arith, ◌⊎◌, inl, inr, Bool, true, false, cond, not, ◌&&◌, List, [], ◌∷◌, Option, Some, None, get_or, zero, suc}
+use Rattle.std.proofs.Common.{◌≡◌, ℕ, ◌+◌, ◌<◌, ◌≤◌, ◌++◌, length, take, drop, set, add-one, refl, sym, ap, subst, ◌∙◌, arith, ◌⊎◌}
+use Rattle.std.proofs.Common.{inl, inr, Bool, true, false, cond, not, ◌&&◌, List, [], ◌∷◌, Option, Some, None, get_or, zero, suc}
 use Rattle.std.specs.Prelude.{filter}
 use Rattle.std.proofs.lemmas.List.{append_assoc, append-nil, nil_from_length, length-set, length-drop, drop-drop, drop-set-lt, take_more_set}
 use Rattle.std.specs.Option.{option_map}
@@ -57,7 +58,8 @@ module _ {K V : Type 0} {R : K → K → Ordering} (o : IsTotalOrder R) where
   head_up e (f ∷ fs) up = up zero e (omega arith) (omega arith)
 
   tail_up : (e : K × V) (es : List (K × V)) → IsSortedByKey key R (e ∷ es) → IsSortedByKey key R es
-  tail_up e es up = λ k d low high. subst (λ n. is_lt (R (key (get_or es n d)) (key (get_or es k d))) ≡ false) (omega arith) (simp unary_clauses at (up (suc k) d (omega arith) (omega (arith, high))))
+  tail_up e es up = λ k d low high. subst (λ n. is_lt (R (key (get_or es n d)) (key (get_or es k d))) ≡ false)
+      (omega arith) (simp unary_clauses at (up (suc k) d (omega arith) (omega (arith, high))))
 
   -- a key below the first entry's is below all
   below_first : (k : K) (e : K × V) (es : List (K × V)) → R k e.0 ≡ Less → IsSortedByKey key R (e ∷ es) → All (λ x. R k x.0 ≡ Less) (e ∷ es)
@@ -75,7 +77,10 @@ module _ {K V : Type 0} {R : K → K → Ordering} (o : IsTotalOrder R) where
   all_ends P [] h = h
   all_ends P (e ∷ es) h =
       let rest = all_ends P es (All-tail P e es h) in
-      elim (comes_again R e.0 es) as (λ b. All P (cond b (run_ends R es) (e ∷ run_ends R es))) [ true ↦ rest | false ↦ All-cons P e (run_ends R es) (All-head P e es h) rest ]
+      elim (comes_again R e.0 es) as (λ b. All P (cond b (run_ends R es) (e ∷ run_ends R es))) [
+        | true ↦ rest
+        | false ↦ All-cons P e (run_ends R es) (All-head P e es h) rest
+      ]
 
   -- what holds of all entries holds of the last ones
   pub all_last : (P : K × V → Type 0) (es last : List (K × V)) → AreLast R es last → All P es → All P last
@@ -83,7 +88,8 @@ module _ {K V : Type 0} {R : K → K → Ordering} (o : IsTotalOrder R) where
 
   above_ends : (e : K × V) (es : List (K × V)) → comes_again R e.0 es ≡ false → IsSortedByKey key R (e ∷ es) → All (λ x. R e.0 x.0 ≡ Less) es
   above_ends e [] alone up = All-nil (λ (x : K × V). R e.0 x.0 ≡ Less)
-  above_ends e (f ∷ fs) alone up = below_first e.0 f fs (must_be_less (R e.0 f.0) (R f.0 e.0) (o.antisymm f.0 e.0) (head_up e (f ∷ fs) up) alone) (tail_up e (f ∷ fs) up)
+  above_ends e (f ∷ fs) alone up =
+      below_first e.0 f fs (must_be_less (R e.0 f.0) (R f.0 e.0) (o.antisymm f.0 e.0) (head_up e (f ∷ fs) up) alone) (tail_up e (f ∷ fs) up)
 
   keys_all : (k : K) (es : List (K × V)) → All (λ x. R k x.0 ≡ Less) es → AllByRecursion (λ y. R k y ≡ Less) (keys_of es)
   keys_all k [] h = tt
@@ -115,18 +121,22 @@ module _ {K M : Type 0} (f : K → M) (R : K → K → Ordering) (S : M → M �
     congr = λ x y z p. by x z ∙ o.congr (f x) (f y) (f z) (sym (by x y) ∙ p) ∙ sym (by y z);
   }
 
-module _ {K V M X : Type 0} (f : K → M) (g : V → X) (R : K → K → Ordering) (S : M → M → Ordering) (o : IsTotalOrder S) (by : (x y : K) → R x y ≡ S (f x) (f y)) where
+module _ {K V M X : Type 0} (f : K → M) (g : V → X) (R : K → K → Ordering)
+    (S : M → M → Ordering) (o : IsTotalOrder S) (by : (x y : K) → R x y ≡ S (f x) (f y)) where
   abbrev lt : K × V → K × V → Bool
   lt x y = is_lt (R x.0 y.0)
 
   -- the value of a key is that of the last entry that ties with one of its entries
-  value_by : (m : M) (e : K × V) → S m (f e.0) ≡ Equal → (es : List (K × V)) → last_value S m (entries_by f g es) ≡ option_map (λ (x : K × V). g x.1) (last_of (filter (ties lt e) es))
+  value_by : (m : M) (e : K × V) → S m (f e.0) ≡ Equal → (es : List (K × V)) →
+      last_value S m (entries_by f g es) ≡ option_map (λ (x : K × V). g x.1) (last_of (filter (ties lt e) es))
   value_by m e t [] = refl
   value_by m e t (d ∷ ds) =
-      let tied : is_eq (S m (f d.0)) ≡ ties lt e d = ap is_eq (o.congr m (f e.0) (f d.0) t ∙ sym (by e.0 d.0)) ∙ tie_is (R e.0 d.0) (R d.0 e.0) ((order f R S o by).antisymm d.0 e.0) in
+      let tied : is_eq (S m (f d.0)) ≡ ties lt e d =
+      ap is_eq (o.congr m (f e.0) (f d.0) t ∙ sym (by e.0 d.0)) ∙ tie_is (R e.0 d.0) (R d.0 e.0) ((order f R S o by).antisymm d.0 e.0) in
       (λ i. choice (value_by m e t ds i) (cond (tied i) (Some (g d.1)) None))
       ∙ (elim (ties lt e d)
-      as (λ b. choice (option_map (λ (x : K × V). g x.1) (last_of (filter (ties lt e) ds))) (cond b (Some (g d.1)) None) ≡ option_map (λ (x : K × V). g x.1) (last_of (cond b (d ∷ filter (ties lt e) ds) (filter (ties lt e) ds)))) [
+      as (λ b. choice (option_map (λ (x : K × V). g x.1) (last_of (filter (ties lt e) ds))) (cond b (Some (g d.1)) None)
+      ≡ option_map (λ (x : K × V). g x.1) (last_of (cond b (d ∷ filter (ties lt e) ds) (filter (ties lt e) ds)))) [
         | true ↦ sym (map_choice (λ (x : K × V). g x.1) (last_of (filter (ties lt e) ds)) (Some d))
         | false ↦ choice-none _
       ])
@@ -136,15 +146,17 @@ module _ {K V M X : Type 0} (f : K → M) (g : V → X) (R : K → K → Orderin
   found_or_none m [] = inr refl
   found_or_none m (e ∷ es) = elim (found_or_none m es) [
     | inl found ↦ inl found
-    | inr none ↦ elim (S m (f e.0)) as (λ r. S m (f e.0) ≡ r → ((d : K × V) × (S m (f d.0) ≡ Equal)) ⊎ (choice (last_value S m (entries_by f g es)) (cond (is_eq r) (Some (g e.1)) None) ≡ None)) [
-      | Less ↦ λ h. inr (choice-none _ ∙ none)
-      | Equal ↦ λ h. inl (e, h)
-      | Greater ↦ λ h. inr (choice-none _ ∙ none)
-    ] refl
+    | inr none ↦ elim (S m (f e.0)) as (λ r. S m (f e.0) ≡ r →
+        ((d : K × V) × (S m (f d.0) ≡ Equal)) ⊎ (choice (last_value S m (entries_by f g es)) (cond (is_eq r) (Some (g e.1)) None) ≡ None)) [
+          | Less ↦ λ h. inr (choice-none _ ∙ none)
+          | Equal ↦ λ h. inl (e, h)
+          | Greater ↦ λ h. inr (choice-none _ ∙ none)
+        ] refl
   ]
 
   -- where entries that tie stand in their order, each key has its value
-  same_last : (es sorted : List (K × V)) → IsStableByKey (λ (e : K × V). e.0) R es sorted → (m : M) → last_value S m (entries_by f g sorted) ≡ last_value S m (entries_by f g es)
+  same_last : (es sorted : List (K × V)) → IsStableByKey (λ (e : K × V). e.0) R es sorted → (m : M) →
+      last_value S m (entries_by f g sorted) ≡ last_value S m (entries_by f g es)
   same_last es sorted stable m = elim (found_or_none m es) [
     | inl e ↦ by_entry e.0 e.1
     | inr none ↦ elim (found_or_none m sorted) [
@@ -164,11 +176,13 @@ module _ {K V M X : Type 0} (f : K → M) (g : V → X) (R : K → K → Orderin
       (λ i. choice (none_above m e t ds (All-tail (λ (x : K × V). R e.0 x.0 ≡ Less) d ds h) i) (cond (is_eq (less i)) (Some (g d.1)) None))
 
   -- where the next entry has the key, this one's value is not the last
-  passed_over : (m : M) (e : K × V) (es : List (K × V)) → comes_again R e.0 es ≡ true → choice (last_value S m (entries_by f g es)) (cond (is_eq (S m (f e.0))) (Some (g e.1)) None) ≡ last_value S m (entries_by f g es)
+  passed_over : (m : M) (e : K × V) (es : List (K × V)) → comes_again R e.0 es ≡ true →
+      choice (last_value S m (entries_by f g es)) (cond (is_eq (S m (f e.0))) (Some (g e.1)) None) ≡ last_value S m (entries_by f g es)
   passed_over m e [] again = cc
   passed_over m e (d ∷ ds) again =
       let alike : S m (f d.0) ≡ S m (f e.0) = alike_right o (f d.0) (f e.0) m (sym (by d.0 e.0) ∙ (Equal-is (R d.0 e.0)).0 again) in
-      ap (λ r. choice (choice (last_value S m (entries_by f g ds)) (cond (is_eq (S m (f d.0))) (Some (g d.1)) None)) (cond (is_eq r) (Some (g e.1)) None)) (sym alike)
+      ap (λ r. choice (choice (last_value S m (entries_by f g ds)) (cond (is_eq (S m (f d.0))) (Some (g d.1)) None)) (cond (is_eq r) (Some (g e.1)) None))
+      (sym alike)
       ∙ by_test (last_value S m (entries_by f g ds)) (is_eq (S m (f d.0)))
     where
       by_test : (v : Option X) (b : Bool) → choice (choice v (cond b (Some (g d.1)) None)) (cond b (Some (g e.1)) None) ≡ choice v (cond b (Some (g d.1)) None)
@@ -177,22 +191,26 @@ module _ {K V M X : Type 0} (f : K → M) (g : V → X) (R : K → K → Orderin
       by_test None false = refl
 
   -- the last entries of runs have the last value of each key
-  find_ends : (es : List (K × V)) → IsSortedByKey (λ (e : K × V). e.0) R es → (m : M) → fin.find S m (entries_by f g (run_ends R es)) ≡ last_value S m (entries_by f g es)
+  find_ends : (es : List (K × V)) → IsSortedByKey (λ (e : K × V). e.0) R es → (m : M) →
+      fin.find S m (entries_by f g (run_ends R es)) ≡ last_value S m (entries_by f g es)
   find_ends [] up m = refl
   find_ends (e ∷ es) up m =
       let rest = find_ends es (tail_up (order f R S o by) e es up) m in
       elim (comes_again R e.0 es)
-      as (λ b. comes_again R e.0 es ≡ b → fin.find S m (entries_by f g (cond b (run_ends R es) (e ∷ run_ends R es))) ≡ choice (last_value S m (entries_by f g es)) (cond (is_eq (S m (f e.0))) (Some (g e.1)) None)) [
+      as (λ b. comes_again R e.0 es ≡ b → fin.find S m (entries_by f g (cond b (run_ends R es) (e ∷ run_ends R es)))
+      ≡ choice (last_value S m (entries_by f g es)) (cond (is_eq (S m (f e.0))) (Some (g e.1)) None)) [
         | true ↦ λ h. rest ∙ sym (passed_over m e es h)
         | false ↦ λ h. elim (S m (f e.0))
-            as (λ r. S m (f e.0) ≡ r → cond (is_eq r) (Some (g e.1)) (fin.find S m (entries_by f g (run_ends R es))) ≡ choice (last_value S m (entries_by f g es)) (cond (is_eq r) (Some (g e.1)) None)) [
+            as (λ r. S m (f e.0) ≡ r → cond (is_eq r) (Some (g e.1)) (fin.find S m (entries_by f g (run_ends R es)))
+            ≡ choice (last_value S m (entries_by f g es)) (cond (is_eq r) (Some (g e.1)) None)) [
               | Less ↦ λ t. rest ∙ sym (choice-none _)
               | Equal ↦ λ t. ap (λ v. choice v (Some (g e.1))) (sym (none_above m e t es (above_ends (order f R S o by) e es h up)))
               | Greater ↦ λ t. rest ∙ sym (choice-none _)
             ] refl
       ] refl
 
-module _ {K V M : Type 0} (f : K → M) (g : V → List ℕ) (R : K → K → Ordering) (S : M → M → Ordering) (o : IsTotalOrder S) (same : IsAntisymmetric S) (by : (x y : K) → R x y ≡ S (f x) (f y)) (es last : List (K × V)) (are : AreLast R es last) where
+module _ {K V M : Type 0} (f : K → M) (g : V → List ℕ) (R : K → K → Ordering) (S : M → M → Ordering) (o : IsTotalOrder S)
+    (same : IsAntisymmetric S) (by : (x y : K) → R x y ≡ S (f x) (f y)) (es last : List (K × V)) (are : AreLast R es last) where
   -- what the keys of the last entries stand for rises
   pub lasts_rise : Rises S (entries_by f g last)
   lasts_rise = sorted_entries f g R S o same by last (last_rise (order f R S o by) es last are)
@@ -214,7 +232,8 @@ module _ {K V M : Type 0} (f : K → M) (g : V → List ℕ) (R : K → K → Or
   lasts_again = ap (map_of {R = S}) lasts_are ∙ map_again o same (map_of (entries_by f g es))
 
 -- entries that are settled have the map that they had, and no others are among them
-module _ {K V M : Type 0} (f : K → M) (R : K → K → Ordering) (S : M → M → Ordering) (o : IsTotalOrder S) (by : (x y : K) → R x y ≡ S (f x) (f y)) (old new : List (K × V)) where
+module _ {K V M : Type 0} (f : K → M) (R : K → K → Ordering) (S : M → M → Ordering)
+    (o : IsTotalOrder S) (by : (x y : K) → R x y ≡ S (f x) (f y)) (old new : List (K × V)) where
   -- the map stays
   pub settled_map : IsAntisymmetric S → (g : V → List ℕ) → AreSettled R old new → map_of {R = S} (entries_by f g new) ≡ map_of (entries_by f g old)
   settled_map same g (inl is) = ap (λ es. map_of {R = S} (entries_by f g es)) is
@@ -234,15 +253,18 @@ pub record EndsMoved {K V : Type 0} (R : K → K → Ordering) (was now : List (
   pub left : drop at now ≡ drop at was
   pub ends : take kept now ++ run_ends R (drop at was) ≡ run_ends R was
 
-end_or_none : {K V : Type 0} (R : K → K → Ordering) (e : K × V) (es : List (K × V)) (o : Option (K × V)) → o ≡ run_end R (e ∷ es) → run_ends R (e ∷ es) ≡ elim o [ None ↦ run_ends R es | Some x ↦ x ∷ run_ends R es ]
-end_or_none R e es o is = subst (λ (p : Option _). run_ends R (e ∷ es) ≡ elim p [ None ↦ run_ends R es | Some x ↦ x ∷ run_ends R es ]) (sym is) (by_test (comes_again R e.0 es))
+end_or_none : {K V : Type 0} (R : K → K → Ordering) (e : K × V) (es : List (K × V)) (o : Option (K × V)) → o ≡ run_end R (e ∷ es) →
+    run_ends R (e ∷ es) ≡ elim o [ None ↦ run_ends R es | Some x ↦ x ∷ run_ends R es ]
+end_or_none R e es o is =
+    subst (λ (p : Option _). run_ends R (e ∷ es) ≡ elim p [ None ↦ run_ends R es | Some x ↦ x ∷ run_ends R es ]) (sym is) (by_test (comes_again R e.0 es))
   where
     by_test : (b : Bool) → cond b (run_ends R es) (e ∷ run_ends R es) ≡ elim (cond b None (Some e)) [ None ↦ run_ends R es | Some x ↦ x ∷ run_ends R es ]
     by_test true = refl
     by_test false = refl
 
 -- of the entries from a place on: the one there, where it ends a run, and those that do behind it
-next_end : {K V : Type 0} (R : K → K → Ordering) (es : List (K × V)) (at : ℕ) (o : Option (K × V)) → at < length es → o ≡ run_end R (drop at es) → run_ends R (drop at es) ≡ elim o [ None ↦ run_ends R (drop (suc at) es) | Some x ↦ x ∷ run_ends R (drop (suc at) es) ]
+next_end : {K V : Type 0} (R : K → K → Ordering) (es : List (K × V)) (at : ℕ) (o : Option (K × V)) → at < length es → o ≡ run_end R (drop at es) →
+    run_ends R (drop at es) ≡ elim o [ None ↦ run_ends R (drop (suc at) es) | Some x ↦ x ∷ run_ends R (drop (suc at) es) ]
 next_end R [] at o h is = absurd (omega arith)
 next_end R (e ∷ es) zero o h is = end_or_none R e es o is
 next_end R (e ∷ es) (suc at) o h is = next_end R es at o (omega arith) is
@@ -273,7 +295,8 @@ module _ {K V : Type 0} (R : K → K → Ordering) (was now : List (K × V)) (at
   }
 
 -- behind the last entry, those that end a run are all in front
-pub ends_moved : {K V : Type 0} (R : K → K → Ordering) (was now : List (K × V)) (at kept : ℕ) → EndsMoved R was now at kept → length was ≤ at → take kept now ≡ run_ends R was
+pub ends_moved : {K V : Type 0} (R : K → K → Ordering) (was now : List (K × V)) (at kept : ℕ) → EndsMoved R was now at kept → length was ≤ at →
+    take kept now ≡ run_ends R was
 ends_moved R was now at kept h past =
     let none : drop at was ≡ [] = nil_from_length (drop at was) (length-drop at was ∙ omega arith) in
     sym (append-nil (take kept now)) ∙ (ap (λ es. take kept now ++ run_ends R es) (sym none) ∙ h.ends)

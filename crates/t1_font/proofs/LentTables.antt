@@ -52,7 +52,8 @@ module _ {Y : Type 0} (ys : List Y) (i : ℕ) where
   lent_nowhere h = slice_get_past ys i h.3
 
 -- a table, whose entries es are what is seen of ys
-module _ {K X Y : Type 0} {R : K → K → Ordering} (v : Y → K × X) (ys : List Y) (es : List (K × X)) (m : FinMap R X) (form : es ≡ map v ys) (h : Rises R es) (is : from_sorted es ≡ m) where
+module _ {K X Y : Type 0} {R : K → K → Ordering} (v : Y → K × X) (ys : List Y) (es : List (K × X))
+    (m : FinMap R X) (form : es ≡ map v ys) (h : Rises R es) (is : from_sorted es ≡ m) where
   pub seen : map v ys ≡ entries m
   seen = sym form ∙ (sym (entries-from_sorted R es h) ∙ ap entries is)
 
@@ -77,7 +78,8 @@ module _ {K X Y : Type 0} {R : K → K → Ordering} (v : Y → K × X) (ys : Li
     finds : get m q ≡ get (from_sorted {R = R} (map v ys)) q
     finds = ap (λ n. get n q) (sym is ∙ ap (from_sorted {R = R}) form)
 
-    pub found_place : (r : Result ℕ ℕ) → IsSearchInRange r (length ys) → IsBinarySearchResult (λ y. R (v y).0 q) ys r → option_and_then (slice_get (entries m)) (result_ok r) ≡ option_map (λ b. (q, b)) (get m q)
+    pub found_place : (r : Result ℕ ℕ) → IsSearchInRange r (length ys) → IsBinarySearchResult (λ y. R (v y).0 q) ys r →
+        option_and_then (slice_get (entries m)) (result_ok r) ≡ option_map (λ b. (q, b)) (get m q)
     found_place (Ok i) range at = elim (slice_get_cases ys i).1 [
       | inl w ↦
           let x = w.0 in
@@ -127,24 +129,29 @@ own_names [] h = refl
 own_names (e ∷ es) h = λ i. (h.0 i, (lent_glyph e.1).1) ∷ own_names es h.1 i
 
 -- the names stay the glyphs' own where a glyph is put under its name
-pub own_put : (es : List (Bor (List ℕ) × Glyph)) (name : Bor (List ℕ)) (g : Glyph) → name.now ≡ (lent_glyph g).0 → AreOwn es → AreOwn (insert_entry lent_cmp es name g)
+pub own_put : (es : List (Bor (List ℕ) × Glyph)) (name : Bor (List ℕ)) (g : Glyph) → name.now ≡ (lent_glyph g).0 → AreOwn es →
+    AreOwn (insert_entry lent_cmp es name g)
 own_put [] name g own h = (own, tt)
 own_put (e ∷ es) name g own h =
-    elim (lent_cmp name e.0) as (λ r. lent_cmp name e.0 ≡ r → AreOwn (match_ordering r ((name, g) ∷ e ∷ es) ((e.0, g) ∷ es) (e ∷ insert_entry lent_cmp es name g))) [
+    elim (lent_cmp name e.0)
+    as (λ r. lent_cmp name e.0 ≡ r → AreOwn (match_ordering r ((name, g) ∷ e ∷ es) ((e.0, g) ∷ es) (e ∷ insert_entry lent_cmp es name g))) [
       | Less ↦ λ is. (own, h)
       | Equal ↦ λ is. (sym (name_same name.now e.0.now is) ∙ own, h.1)
       | Greater ↦ λ is. (h.0, own_put es name g own h.1)
     ] refl
 
 -- a glyph put into the tree
-glyph_put : (es : List (Bor (List ℕ) × Glyph)) (name : Bor (List ℕ)) (g : Glyph) → glyph_names (insert_entry lent_cmp es name g) ≡ insert (glyph_names es) name.now (lent_glyph g).1
+glyph_put : (es : List (Bor (List ℕ) × Glyph)) (name : Bor (List ℕ)) (g : Glyph) →
+    glyph_names (insert_entry lent_cmp es name g) ≡ insert (glyph_names es) name.now (lent_glyph g).1
 glyph_put es name g = map_insert (λ k. k.now) (λ (g : Glyph). (lent_glyph g).1) lent_cmp name_cmp nat_list_cmp_total name_same (λ x y. refl) es name g
 
 -- the tree's glyphs rise, and are those of its map
 pub glyphs_rise : (es : List (Bor (List ℕ) × Glyph)) → AreOwn es → IsStrictlySortedBy lent_cmp (keys_of es) → Rises name_cmp (map lent_glyph (values_of es))
-glyphs_rise es own h = subst (Rises name_cmp) (own_names es own) (sorted_entries (λ k. k.now) (λ (g : Glyph). (lent_glyph g).1) lent_cmp name_cmp nat_list_cmp_total name_same (λ x y. refl) es h)
+glyphs_rise es own h = subst (Rises name_cmp) (own_names es own)
+    (sorted_entries (λ k. k.now) (λ (g : Glyph). (lent_glyph g).1) lent_cmp name_cmp nat_list_cmp_total name_same (λ x y. refl) es h)
 
-pub glyphs_sorted : (es : List (Bor (List ℕ) × Glyph)) → AreOwn es → IsStrictlySortedBy lent_cmp (keys_of es) → from_sorted (map lent_glyph (values_of es)) ≡ glyph_names es
+pub glyphs_sorted : (es : List (Bor (List ℕ) × Glyph)) → AreOwn es → IsStrictlySortedBy lent_cmp (keys_of es) →
+    from_sorted (map lent_glyph (values_of es)) ≡ glyph_names es
 glyphs_sorted es own h =
     ap (from_sorted {R = name_cmp}) (sym (own_names es own))
     ∙ map_sorted (λ k. k.now) (λ (g : Glyph). (lent_glyph g).1) lent_cmp name_cmp nat_list_cmp_total name_same (λ x y. refl) es h
@@ -154,7 +161,10 @@ pub no_glyphs : glyph_names [] ≡ empty
 no_glyphs = same_map nat_list_cmp_total name_same _ _ (λ q. get-from_entries nat_list_cmp_total [] q ∙ sym (get-empty name_cmp q))
 
 -- a glyph that is found, put
-pub found_put : (es next : List (Bor (List ℕ) × Glyph)) (k : List ℕ) (name : Bor (List ℕ)) (g : Glyph) (v : Option (List ℕ)) → Some (lent_glyph g) ≡ option_map (λ b. (k, b)) v → name.now ≡ (lent_glyph g).0 → next ≡ insert_entry lent_cmp es name g → glyph_names next ≡ put_all_into (glyph_names es) (entry_of k v)
+pub found_put : (es next : List (Bor (List ℕ) × Glyph)) (k : List ℕ) (name : Bor (List ℕ)) (g : Glyph) (v : Option (List ℕ)) →
+    Some (lent_glyph g) ≡ option_map (λ b. (k, b)) v → name.now ≡ (lent_glyph g).0 → next ≡ insert_entry lent_cmp es name g →
+    glyph_names next ≡ put_all_into (glyph_names es) (entry_of k v)
 found_put es next k name g v found own put =
     let key : name.now ≡ k = own ∙ key_there k (lent_glyph g) v found in
-    ap glyph_names put ∙ (glyph_put es name g ∙ (ap (λ x. insert (glyph_names es) x (lent_glyph g).1) key ∙ ap (λ o. put_all_into (glyph_names es) (entry_of k o)) (value_there k (Some (lent_glyph g)) v found)))
+    ap glyph_names put ∙ (glyph_put es name g ∙ (ap (λ x. insert (glyph_names es) x (lent_glyph g).1) key
+    ∙ ap (λ o. put_all_into (glyph_names es) (entry_of k o)) (value_there k (Some (lent_glyph g)) v found)))

@@ -29,7 +29,8 @@ less_apart Less h = refl
 less_apart Equal h = absurd h
 less_apart Greater h = refl
 
-regroup : (o : Option (List ℕ)) (b : Bool) (v : List ℕ) (rest : Option (List ℕ)) → choice o (cond b (Some v) rest) ≡ choice (choice o (cond b (Some v) None)) rest
+regroup : (o : Option (List ℕ)) (b : Bool) (v : List ℕ) (rest : Option (List ℕ)) →
+    choice o (cond b (Some v) rest) ≡ choice (choice o (cond b (Some v) None)) rest
 regroup (Some x) b v rest = refl
 regroup None true v rest = refl
 regroup None false v rest = refl
@@ -118,7 +119,8 @@ module _ {K : Type 0} {R : K → K → Ordering} (o : IsTotalOrder R) (same : Is
 
   -- the last put on a code stands; `.notdef` means none
   pub get-names_of : (es : List (K × List ℕ)) (q : K) → maps.get {R = R} (names_of es) q ≡ unless_notdef (last_value R q es)
-  get-names_of es q = maps.get-from_sorted R (last_names R es) q (names_sorted es) ∙ (find_names q (last_entries R es) (last_sorted es) ∙ ap unless_notdef (find-last q es))
+  get-names_of es q =
+      maps.get-from_sorted R (last_names R es) q (names_sorted es) ∙ (find_names q (last_entries R es) (last_sorted es) ∙ ap unless_notdef (find-last q es))
 
   -- ---- one more entry
 
@@ -127,9 +129,11 @@ module _ {K : Type 0} {R : K → K → Ordering} (o : IsTotalOrder R) (same : Is
   choice-cond false v rest x = refl
 
   -- the value of a last entry is the last one of its key
-  pub last_value-append : (q : K) (es : List (K × List ℕ)) (e : K × List ℕ) → last_value R q (es ++ e ∷ []) ≡ cond (is_eq (R q e.0)) (Some e.1) (last_value R q es)
+  pub last_value-append : (q : K) (es : List (K × List ℕ)) (e : K × List ℕ) →
+      last_value R q (es ++ e ∷ []) ≡ cond (is_eq (R q e.0)) (Some e.1) (last_value R q es)
   last_value-append q [] e = refl
-  last_value-append q (d ∷ ds) e = ap (λ o. choice o (cond (is_eq (R q d.0)) (Some d.1) None)) (last_value-append q ds e) ∙ choice-cond (is_eq (R q e.0)) e.1 (last_value R q ds) (cond (is_eq (R q d.0)) (Some d.1) None)
+  last_value-append q (d ∷ ds) e = ap (λ o. choice o (cond (is_eq (R q d.0)) (Some d.1) None)) (last_value-append q ds e)
+      ∙ choice-cond (is_eq (R q e.0)) e.1 (last_value R q ds) (cond (is_eq (R q d.0)) (Some d.1) None)
 
   -- the last entry is put in the map of those before it
   pub map_of-append : (es : List (K × List ℕ)) (e : K × List ℕ) → map_of {R = R} (es ++ e ∷ []) ≡ maps.insert (map_of es) e.0 e.1

@@ -1,5 +1,6 @@
 -- What `map_values` and `merged` have at a key, the entries of a map, and sums over entries.
-use Rattle.std.proofs.Common.{◌≡◌, ℕ, ◌≤◌, Bool, true, false, cond, ◌&&◌, ◌⊎◌, Option, T, List, [], ◌∷◌, ◌++◌, map, refl, sym, ◌∙◌, ap, subst, true≢false, length, inl, inr, Some, None, is_some, option_map, Ordering, Less, Equal, Greater, is_eq, is_lt, arith, unwrap_or}
+use Rattle.std.proofs.Common.{◌≡◌, ℕ, ◌≤◌, Bool, true, false, cond, ◌&&◌, ◌⊎◌, Option, T, List, [], ◌∷◌, ◌++◌, map, refl, sym, ◌∙◌, ap, subst, true≢false}
+use Rattle.std.proofs.Common.{length, inl, inr, Some, None, is_some, option_map, Ordering, Less, Equal, Greater, is_eq, is_lt, arith, unwrap_or}
 use Rattle.std.specs.Ordering.{eq_by_cmp, ordering_reverse}
 use Rattle.std.specs.Cmp.{IsTotalOrder, first_so, second_so, tied_itself, Equal-is}
 use Rattle.std.specs.FinMap.{FinMap, get, entries, entries_sorted, retain_keys, find, is_sorted, get-from_entries, entries-from_sorted, get-entries, get-retain_keys}
@@ -44,12 +45,14 @@ module _ {K : Type 0} {R : K → K → Ordering} (o : IsTotalOrder R) (same : Is
     below_more : (x y : K) (es : List (K × X)) → R x y ≡ Less → below_all R y es ≡ true → below_all R x es ≡ true
     below_more x y [] p h = refl
     below_more x y (e ∷ es) p h =
-        and_so (is_lt (R x e.0)) (below_all R x es) (ap is_lt (o.trans x y e.0 p (less_of (R y e.0) (first_so (is_lt (R y e.0)) (below_all R y es) h)))) (below_more x y es p (second_so (is_lt (R y e.0)) (below_all R y es) h))
+        and_so (is_lt (R x e.0)) (below_all R x es) (ap is_lt (o.trans x y e.0 p (less_of (R y e.0) (first_so (is_lt (R y e.0)) (below_all R y es) h))))
+        (below_more x y es p (second_so (is_lt (R y e.0)) (below_all R y es) h))
 
     -- a key below all entries is not among them
     pub find_below : (q : K) (es : List (K × X)) → below_all R q es ≡ true → find R q es ≡ None
     find_below q [] h = refl
-    find_below q (e ∷ es) h = ap (λ r. cond (is_eq r) (Some e.1) (find R q es)) (less_of (R q e.0) (first_so (is_lt (R q e.0)) (below_all R q es) h)) ∙ find_below q es (second_so (is_lt (R q e.0)) (below_all R q es) h)
+    find_below q (e ∷ es) h = ap (λ r. cond (is_eq r) (Some e.1) (find R q es)) (less_of (R q e.0) (first_so (is_lt (R q e.0)) (below_all R q es) h))
+        ∙ find_below q es (second_so (is_lt (R q e.0)) (below_all R q es) h)
 
     -- the first entry is found at its key
     pub find_first : (e : K × X) (es : List (K × X)) → find R e.0 (e ∷ es) ≡ Some e.1
@@ -69,19 +72,26 @@ module _ {K : Type 0} {R : K → K → Ordering} (o : IsTotalOrder R) (same : Is
     -- what is found in two lists, one after the other, is what the first has, else the second
     pub find_append : (q : K) (es fs : List (K × X)) → find R q (es ++ fs) ≡ joined (find R q es) (find R q fs)
     find_append q [] fs = refl
-    find_append q (e ∷ es) fs = elim (eq_by_cmp R q e.0) as (λ b. cond b (Some e.1) (find R q (es ++ fs)) ≡ joined (cond b (Some e.1) (find R q es)) (find R q fs)) [ true ↦ refl | false ↦ find_append q es fs ]
+    find_append q (e ∷ es) fs = elim (eq_by_cmp R q e.0)
+        as (λ b. cond b (Some e.1) (find R q (es ++ fs)) ≡ joined (cond b (Some e.1) (find R q es)) (find R q fs)) [ true ↦ refl | false ↦ find_append q es fs ]
 
     pub get-merged : (m n : FinMap R X) (q : K) → get (merged m n) q ≡ joined (get m q) (get n q)
-    get-merged m n q = get-from_entries o (entries m ++ entries n) q ∙ find_append q (entries m) (entries n) ∙ ap (λ x. joined x (find R q (entries n))) (sym (get-entries m q)) ∙ ap (joined (get m q)) (sym (get-entries n q))
+    get-merged m n q = get-from_entries o (entries m ++ entries n) q ∙ find_append q (entries m) (entries n)
+        ∙ ap (λ x. joined x (find R q (entries n))) (sym (get-entries m q)) ∙ ap (joined (get m q)) (sym (get-entries n q))
 
     -- a map that is cut to some keys has what it had at these
     pub get-retain : (m : FinMap R X) (p : K → Bool) (q : K) → get (retain_keys m p) q ≡ cond (p q) (get m q) None
     get-retain m p q = get-retain_keys m p q (λ x t. ap p (sym (same q x t)))
 
     -- what holds of what each key has holds of each entry
-    found_all : (P : K → X → Type 0) (es : List (K × X)) → is_sorted R es ≡ true → ((k : K) (v : X) → find R k es ≡ Some v → P k v) → AllByRecursion (λ e. P e.0 e.1) es
+    found_all : (P : K → X → Type 0) (es : List (K × X)) → is_sorted R es ≡ true → ((k : K) (v : X) → find R k es ≡ Some v → P k v) →
+        AllByRecursion (λ e. P e.0 e.1) es
     found_all P [] s h = tt
-    found_all P (e ∷ es) s h = (h e.0 e.1 (find_first e es), found_all P es (second_so (below_all R e.0 es) (is_sorted R es) s) (λ k v is. h k v (find_rest k v e es (first_so (below_all R e.0 es) (is_sorted R es) s) is)))
+    found_all P (e ∷ es) s h = (
+      h e.0 e.1 (find_first e es),
+      found_all P es (second_so (below_all R e.0 es) (is_sorted R es) s)
+          (λ k v is. h k v (find_rest k v e es (first_so (below_all R e.0 es) (is_sorted R es) s) is)),
+    )
 
     -- what holds at each key holds of each entry
     pub entries_all : (P : K → X → Type 0) (m : FinMap R X) → ((k : K) (v : X) → get m k ≡ Some v → P k v) → AllByRecursion (λ e. P e.0 e.1) (entries m)
@@ -90,7 +100,8 @@ module _ {K : Type 0} {R : K → K → Ordering} (o : IsTotalOrder R) (same : Is
   -- in a sorted list the last value of a key is the only one
   pub last-sorted : (q : K) (es : List (K × List ℕ)) → is_sorted R es ≡ true → last_value R q es ≡ find R q es
   last-sorted q [] s = refl
-  last-sorted q (e ∷ es) s = ap (λ x. choice x (cond (is_eq (R q e.0)) (Some e.1) None)) (last-sorted q es (second_so (below_all R e.0 es) (is_sorted R es) s)) ∙ by_key (is_eq (R q e.0)) refl
+  last-sorted q (e ∷ es) s = ap (λ x. choice x (cond (is_eq (R q e.0)) (Some e.1) None)) (last-sorted q es (second_so (below_all R e.0 es) (is_sorted R es) s))
+      ∙ by_key (is_eq (R q e.0)) refl
     where
       by_rest : (v : Option (List ℕ)) → choice v None ≡ v
       by_rest None = refl
@@ -98,7 +109,8 @@ module _ {K : Type 0} {R : K → K → Ordering} (o : IsTotalOrder R) (same : Is
 
       by_key : (b : Bool) → is_eq (R q e.0) ≡ b → choice (find R q es) (cond b (Some e.1) None) ≡ cond b (Some e.1) (find R q es)
       by_key true t =
-          let none : find R q es ≡ None = ap (λ k. find R k es) (same q e.0 ((Equal-is (R q e.0)).0 t)) ∙ find_below e.0 es (first_so (below_all R e.0 es) (is_sorted R es) s) in
+          let none : find R q es ≡ None =
+          ap (λ k. find R k es) (same q e.0 ((Equal-is (R q e.0)).0 t)) ∙ find_below e.0 es (first_so (below_all R e.0 es) (is_sorted R es) s) in
           rw none refl
       by_key false t = by_rest (find R q es)
 
@@ -121,13 +133,15 @@ module _ {K : Type 0} {R : K → K → Ordering} (o : IsTotalOrder R) (same : Is
     find_valued : (q : K) (es : List (K × X)) → find R q (valued es) ≡ option_map (f q) (find R q es)
     find_valued q [] = refl
     find_valued q (e ∷ es) =
-        elim (eq_by_cmp R q e.0) as (λ b. eq_by_cmp R q e.0 ≡ b → cond b (Some (f e.0 e.1)) (find R q (valued es)) ≡ option_map (f q) (cond b (Some e.1) (find R q es))) [
+        elim (eq_by_cmp R q e.0)
+        as (λ b. eq_by_cmp R q e.0 ≡ b → cond b (Some (f e.0 e.1)) (find R q (valued es)) ≡ option_map (f q) (cond b (Some e.1) (find R q es))) [
           | true ↦ λ t. ap (λ k. Some (f k e.1)) (sym (same q e.0 ((Equal-is (R q e.0)).0 t)))
           | false ↦ λ t. find_valued q es
         ] refl
 
     pub get-map_values : (m : FinMap R X) (q : K) → get (map_values f m) q ≡ option_map (f q) (get m q)
-    get-map_values m q = get-entries (map_values f m) q ∙ ap (find R q) (entries-map_values m) ∙ find_valued q (entries m) ∙ ap (option_map (f q)) (sym (get-entries m q))
+    get-map_values m q =
+        get-entries (map_values f m) q ∙ ap (find R q) (entries-map_values m) ∙ find_valued q (entries m) ∙ ap (option_map (f q)) (sym (get-entries m q))
 
   -- ---- sums
 
@@ -145,18 +159,21 @@ module _ {K : Type 0} {R : K → K → Ordering} (o : IsTotalOrder R) (same : Is
         let sd = first_so (below_all R d.0 fs) (is_sorted R fs) t in
         let here = h e.0 e.1 (find_first e es) in
         elim (R e.0 d.0) as (λ r. R e.0 d.0 ≡ r → total f (e ∷ es) ≤ total g (d ∷ fs)) [
-          | Less ↦ λ p. Some_None (sym here.1 ∙ find_below e.0 (d ∷ fs) (and_so (is_lt (R e.0 d.0)) (below_all R e.0 fs) (ap is_lt p) (below_more e.0 d.0 fs p sd)))
+          | Less ↦ λ p.
+              Some_None (sym here.1 ∙ find_below e.0 (d ∷ fs) (and_so (is_lt (R e.0 d.0)) (below_all R e.0 fs) (ap is_lt p) (below_more e.0 d.0 fs p sd)))
           | Equal ↦ λ p.
               let keys = same e.0 d.0 p in
               let value : here.0 ≡ d.1 = Some_same (sym here.1 ∙ ap (λ k. find R k (d ∷ fs)) keys ∙ find_first d fs) in
               let first : f e.0 e.1 ≤ g d.0 d.1 = subst (λ (k : K). f e.0 e.1 ≤ g k d.1) keys (subst (λ (w : X). f e.0 e.1 ≤ g e.0 w) value here.2) in
-              let rest : total f es ≤ total g fs = total_le es fs (second_so (below_all R e.0 es) (is_sorted R es) s) (second_so (below_all R d.0 fs) (is_sorted R fs) t) (λ q v is.
+              let rest : total f es ≤ total g fs =
+              total_le es fs (second_so (below_all R e.0 es) (is_sorted R es) s) (second_so (below_all R d.0 fs) (is_sorted R fs) t) (λ q v is.
               let r = h q v (find_rest q v e es se is) in
               (r.0, sym (ap (λ b. cond b (Some d.1) (find R q fs)) (ap (λ k. eq_by_cmp R q k) (sym keys) ∙ find_later q v e es se is)) ∙ r.1, r.2)) in
               omega arith
           | Greater ↦ λ p.
               let back : R d.0 e.0 ≡ Less = o.antisymm d.0 e.0 ∙ ap ordering_reverse p in
-              let none : find R d.0 (e ∷ es) ≡ None = find_below d.0 (e ∷ es) (and_so (is_lt (R d.0 e.0)) (below_all R d.0 es) (ap is_lt back) (below_more d.0 e.0 es back se)) in
+              let none : find R d.0 (e ∷ es) ≡ None =
+              find_below d.0 (e ∷ es) (and_so (is_lt (R d.0 e.0)) (below_all R d.0 es) (ap is_lt back) (below_more d.0 e.0 es back se)) in
               let rest : total f (e ∷ es) ≤ total g fs = total_le (e ∷ es) fs s (second_so (below_all R d.0 fs) (is_sorted R fs) t) (λ q v is.
               let r = h q v is in
               elim (is_or_not (eq_by_cmp R q d.0)) [
@@ -167,8 +184,10 @@ module _ {K : Type 0} {R : K → K → Ordering} (o : IsTotalOrder R) (same : Is
         ] refl
 
     -- the same of the entries of maps
-    pub total-le : (m n : FinMap R X) → ((q : K) (v : X) → get m q ≡ Some v → (w : X) × (get n q ≡ Some w) × (f q v ≤ g q w)) → total f (entries m) ≤ total g (entries n)
-    total-le m n h = total_le (entries m) (entries n) (T_true (is_sorted R (entries m)) (entries_sorted m)) (T_true (is_sorted R (entries n)) (entries_sorted n)) (λ q v is. let r = h q v (get-entries m q ∙ is) in (r.0, sym (get-entries n q) ∙ r.1, r.2))
+    pub total-le : (m n : FinMap R X) → ((q : K) (v : X) → get m q ≡ Some v → (w : X) × (get n q ≡ Some w) × (f q v ≤ g q w)) →
+        total f (entries m) ≤ total g (entries n)
+    total-le m n h = total_le (entries m) (entries n) (T_true (is_sorted R (entries m)) (entries_sorted m))
+        (T_true (is_sorted R (entries n)) (entries_sorted n)) (λ q v is. let r = h q v (get-entries m q ∙ is) in (r.0, sym (get-entries n q) ∙ r.1, r.2))
 
 -- the length of a list is the sum of ones
 pub length_total : {K X : Type 0} (es : List (K × X)) → total (λ k x. 1) es ≡ length es

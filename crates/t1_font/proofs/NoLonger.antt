@@ -11,12 +11,28 @@ use Rattle.t1_bytes.specs.Split.{split, IsSplit}
 
 piece_short : (piece text rest : List ℕ) → segment.Spells piece text rest → length piece ≤ length text
 piece_short piece text rest s =
-    omega (arith, ap length s.3, length-append s.1 s.2, ap length s.5.3, length-append s.5.1 s.5.2, ap length s.5.5.3, length-append s.5.5.1 s.5.5.2, ap length s.5.5.5.0)
+    omega (
+      arith,
+      ap length s.3,
+      length-append s.1 s.2,
+      ap length s.5.3,
+      length-append s.5.1 s.5.2,
+      ap length s.5.5.3,
+      length-append s.5.5.1 s.5.5.2,
+      ap length s.5.5.5.0,
+    )
 
 pieces_short : (pieces : List (List ℕ)) (text rest : List ℕ) → Entries segment pieces text rest → length (flat_map (λ piece. piece) pieces) ≤ length text
 pieces_short [] text rest s = omega arith
 pieces_short (p ∷ ps) text rest s =
-    omega (arith, ap length s.2, length-append s.0 s.1, piece_short p s.0 (s.1 ++ rest) s.3, length-append p (flat_map (λ piece. piece) ps), pieces_short ps s.1 rest s.4)
+    omega (
+      arith,
+      ap length s.2,
+      length-append s.0 s.1,
+      piece_short p s.0 (s.1 ++ rest) s.3,
+      length-append p (flat_map (λ piece. piece) ps),
+      pieces_short ps s.1 rest s.4,
+    )
 
 flat_short : (file flat : List ℕ) → IsFlat file flat → length flat ≤ length file
 flat_short file flat s = by_start (starts_segment file) s
@@ -24,7 +40,15 @@ flat_short file flat s = by_start (starts_segment file) s
     by_start : (b : Bool) → (flat_when b file).Spells flat → length flat ≤ length file
     by_start true j =
         let t = j.1.2 in
-        omega (arith, ap length j.1.1, length-append j.1.0 j.0.2, ap length t.2, length-append t.0 t.1, pieces_short j.0.0 t.0 (t.1 ++ j.0.2) t.3, ap length j.2)
+        omega (
+          arith,
+          ap length j.1.1,
+          length-append j.1.0 j.0.2,
+          ap length t.2,
+          length-append t.0 t.1,
+          pieces_short j.0.0 t.0 (t.1 ++ j.0.2) t.3,
+          ap length j.2,
+        )
     by_start false e = omega (arith, ap length e)
 
 pub flat_no_longer : (file flat : List ℕ) → flat_of file ≡ Ok flat → length flat ≤ length file
@@ -52,7 +76,17 @@ cipher_short : (cipher text rest : List ℕ) → cipher_text.Spells cipher text 
 unfolding cipher_text
 cipher_short cipher text rest s = elim s.0.5 [
   | inl t ↦
-      omega (arith, ap length s.0.3, length-append s.0.1 s.0.2, ap length t.3, length-append t.1 t.2, ap length t.5.3, length-append t.5.1 t.5.2, ap length t.5.4.0, digits_short _ t.5.0 cipher t.5.5.1)
+      omega (
+        arith,
+        ap length s.0.3,
+        length-append s.0.1 s.0.2,
+        ap length t.3,
+        length-append t.1 t.2,
+        ap length t.5.3,
+        length-append t.5.1 t.5.2,
+        ap length t.5.4.0,
+        digits_short _ t.5.0 cipher t.5.5.1,
+      )
   | inr t ↦ omega (arith, ap length s.0.3, length-append s.0.1 s.0.2, ap length t.0.0)
 ]
 
@@ -62,4 +96,12 @@ split_no_longer flat at cipher s =
     let front = s.1 in
     let secret = s.2.1 in
     let short = cipher_short s.2.0.0 secret.0 s.2.0.1 secret.2 in
-    omega (arith, ap length front.1, length-append front.0 s.0.1, ap length secret.1, length-append secret.0 s.2.0.1, short, ap (λ (x : ℕ × List ℕ). length x.1) s.2.2)
+    omega (
+      arith,
+      ap length front.1,
+      length-append front.0 s.0.1,
+      ap length secret.1,
+      length-append secret.0 s.2.0.1,
+      short,
+      ap (λ (x : ℕ × List ℕ). length x.1) s.2.2,
+    )

@@ -38,7 +38,8 @@ is_encoding : (d : Dialect) (clear bytes : List ℕ) (enc : EncodingText) (after
     (start : Opening × List ℕ) × AtFront (encoding_start d) bytes start × ((encoding_from d clear start.0 start.1).Spells (enc, after))
 unfolding encoding_from
 is_encoding d clear bytes (OneWord w) after s = ((Whole w, after), s, refl)
-is_encoding d clear bytes (Puts puts) after (inl s) = ((OpensPuts, s.1), s.4, ((s.0, s.2, after), s.5, ap (λ (p : List (ℕ × List ℕ)). (Puts p, after)) (sym s.3)))
+is_encoding d clear bytes (Puts puts) after (inl s) =
+    ((OpensPuts, s.1), s.4, ((s.0, s.2, after), s.5, ap (λ (p : List (ℕ × List ℕ)). (Puts p, after)) (sym s.3)))
 is_encoding d clear bytes (Puts puts) after (inr s) =
     ((OpensNames, s.1), s.4, ((s.0, s.2, after), s.5, ap (λ (p : List (ℕ × List ℕ)). (Puts p, after)) (sym s.3)))
 

@@ -50,7 +50,8 @@ module _ {Y M X : Type 0} (S : M → M → Ordering) (v : Y → M × X) (es fs :
   pub all_out : (out : List Y) (i j : ℕ) → Ending i j → Passing out i j → map v out ≡ merge S es fs
   all_out out i j none so_far = sym (append-nil (map v out)) ∙ (ap (λ (a : List (M × X)). map v out ++ a) (sym none) ∙ so_far)
 
-module _ {K V M X : Type 0} (R : K → K → Ordering) (S : M → M → Ordering) (v : K × V → M × X) (by : (a b : K × V) → R a.0 b.0 ≡ S (v a).0 (v b).0) (es fs : List (M × X)) (i j : ℕ) where
+module _ {K V M X : Type 0} (R : K → K → Ordering) (S : M → M → Ordering) (v : K × V → M × X)
+    (by : (a b : K × V) → R a.0 b.0 ≡ S (v a).0 (v b).0) (es fs : List (M × X)) (i j : ℕ) where
   stays : (n : ℕ) (xs : List (M × X)) → drop n xs ≡ drop (n + 0) xs
   stays n xs = let same : n ≡ n + 0 = omega arith in ap (λ k. drop k xs) same
 
@@ -58,17 +59,21 @@ module _ {K V M X : Type 0} (R : K → K → Ordering) (S : M → M → Ordering
       → MatchOption (lower R here there) (Ending S v es fs i j) (Turn S v es fs i j)
   turn None None a b = λ k. merge S (past_all es i (sym a) k) (past_all fs j (sym b) k)
   turn (Some e) None a b =
-      (λ k. merge S (from_place es i (v e) (sym a) k) (past_all fs j (sym b) k)) ∙ ap (λ (r : List (M × X)). v e ∷ merge S (drop (i + 1) es) r) (sym (past_all fs j (sym b)) ∙ stays j fs)
+      (λ k. merge S (from_place es i (v e) (sym a) k) (past_all fs j (sym b) k))
+      ∙ ap (λ (r : List (M × X)). v e ∷ merge S (drop (i + 1) es) r) (sym (past_all fs j (sym b)) ∙ stays j fs)
   turn None (Some f) a b =
-      (λ k. merge S (past_all es i (sym a) k) (from_place fs j (v f) (sym b) k)) ∙ ap (λ (l : List (M × X)). v f ∷ merge S l (drop (j + 1) fs)) (sym (past_all es i (sym a)) ∙ stays i es)
+      (λ k. merge S (past_all es i (sym a) k) (from_place fs j (v f) (sym b) k))
+      ∙ ap (λ (l : List (M × X)). v f ∷ merge S l (drop (j + 1) fs)) (sym (past_all es i (sym a)) ∙ stays i es)
   turn (Some e) (Some f) a b =
       let es_on = from_place es i (v e) (sym a) in
       let fs_on = from_place fs j (v f) (sym b) in
       let one = v e ∷ merge S (drop (i + 1) es) (v f ∷ drop (j + 1) fs) in
       let two = v e ∷ merge S (drop (i + 1) es) (drop (j + 1) fs) in
       let three = v f ∷ merge S (v e ∷ drop (i + 1) es) (drop (j + 1) fs) in
-      let both : merge S (drop i es) (drop j fs) ≡ by_order (R e.0 f.0) one two three = (λ k. merge S (es_on k) (fs_on k)) ∙ ap (λ r. by_order r one two three) (sym (by e f)) in
-      elim (R e.0 f.0) as (λ r. merge S (drop i es) (drop j fs) ≡ by_order r one two three → MatchOption (by_order r (Some (e, 1, 0)) (Some (e, 1, 1)) (Some (f, 0, 1))) (Ending S v es fs i j) (Turn S v es fs i j)) [
+      let both : merge S (drop i es) (drop j fs) ≡ by_order (R e.0 f.0) one two three =
+      (λ k. merge S (es_on k) (fs_on k)) ∙ ap (λ r. by_order r one two three) (sym (by e f)) in
+      elim (R e.0 f.0) as (λ r. merge S (drop i es) (drop j fs) ≡ by_order r one two three →
+      MatchOption (by_order r (Some (e, 1, 0)) (Some (e, 1, 1)) (Some (f, 0, 1))) (Ending S v es fs i j) (Turn S v es fs i j)) [
         | Less ↦ λ is. is ∙ ap (λ (r : List (M × X)). v e ∷ merge S (drop (i + 1) es) r) (sym fs_on ∙ stays j fs)
         | Equal ↦ λ is. is
         | Greater ↦ λ is. is ∙ ap (λ (l : List (M × X)). v f ∷ merge S l (drop (j + 1) fs)) (sym es_on ∙ stays i es)
@@ -89,13 +94,16 @@ module _ {K X : Type 0} (R : K → K → Ordering) (es fs : List (K × X)) (i j 
   none_ahead a b = λ k. merge R (past_all es i a k) (past_all fs j b k)
 
   pub first_alone : (e : K × X) → slice_get es i ≡ Some e → slice_get fs j ≡ None → ahead R es fs i j ≡ e ∷ ahead R es fs (i + 1) j
-  first_alone e a b = (λ k. merge R (from_place es i e a k) (past_all fs j b k)) ∙ ap (λ (r : List (K × X)). e ∷ merge R (drop (i + 1) es) r) (sym (past_all fs j b))
+  first_alone e a b =
+      (λ k. merge R (from_place es i e a k) (past_all fs j b k)) ∙ ap (λ (r : List (K × X)). e ∷ merge R (drop (i + 1) es) r) (sym (past_all fs j b))
 
   pub second_alone : (f : K × X) → slice_get es i ≡ None → slice_get fs j ≡ Some f → ahead R es fs i j ≡ f ∷ ahead R es fs i (j + 1)
-  second_alone f a b = (λ k. merge R (past_all es i a k) (from_place fs j f b k)) ∙ ap (λ (l : List (K × X)). f ∷ merge R l (drop (j + 1) fs)) (sym (past_all es i a))
+  second_alone f a b =
+      (λ k. merge R (past_all es i a k) (from_place fs j f b k)) ∙ ap (λ (l : List (K × X)). f ∷ merge R l (drop (j + 1) fs)) (sym (past_all es i a))
 
   module _ (e f : K × X) (a : slice_get es i ≡ Some e) (b : slice_get fs j ≡ Some f) where
-    both_stand : ahead R es fs i j ≡ by_order (R e.0 f.0) (e ∷ merge R (drop (i + 1) es) (f ∷ drop (j + 1) fs)) (e ∷ ahead R es fs (i + 1) (j + 1)) (f ∷ merge R (e ∷ drop (i + 1) es) (drop (j + 1) fs))
+    both_stand : ahead R es fs i j ≡ by_order (R e.0 f.0) (e ∷ merge R (drop (i + 1) es) (f ∷ drop (j + 1) fs))
+        (e ∷ ahead R es fs (i + 1) (j + 1)) (f ∷ merge R (e ∷ drop (i + 1) es) (drop (j + 1) fs))
     both_stand = λ k. merge R (from_place es i e a k) (from_place fs j f b k)
 
     pub first_lower : R e.0 f.0 ≡ Less → ahead R es fs i j ≡ e ∷ ahead R es fs (i + 1) j
@@ -119,7 +127,8 @@ module _ {K X : Type 0} (R : K → K → Ordering) (es fs : List (K × X)) (i j 
         nothing_met (x ∷ l) = refl
 
     module _ (e f : K × X) (a : slice_get es i ≡ Some e) (b : slice_get fs j ≡ Some f) where
-      both_meet : meets R es fs same i j ≡ by_order (R e.0 f.0) (first_met R same (drop (i + 1) es) (f ∷ drop (j + 1) fs)) (cond (same e.1 f.1) (meets R es fs same (i + 1) (j + 1)) (Some e.0)) (first_met R same (e ∷ drop (i + 1) es) (drop (j + 1) fs))
+      both_meet : meets R es fs same i j ≡ by_order (R e.0 f.0) (first_met R same (drop (i + 1) es) (f ∷ drop (j + 1) fs))
+          (cond (same e.1 f.1) (meets R es fs same (i + 1) (j + 1)) (Some e.0)) (first_met R same (e ∷ drop (i + 1) es) (drop (j + 1) fs))
       both_meet = λ k. first_met R same (from_place es i e a k) (from_place fs j f b k)
 
       pub meets_later : R e.0 f.0 ≡ Less → meets R es fs same i j ≡ meets R es fs same (i + 1) j
@@ -146,9 +155,11 @@ module _ {K X : Type 0} (R : K → K → Ordering) (es fs : List (K × X)) (i j 
       all_of (x ∷ l) = ap (λ r. x ∷ r) (all_of l)
 
 -- where what comes next is put out, the rest is left
-pub put_next : {Y E : Type 0} (v : Y → E) (out more : List Y) (y : Y) (es rest all : List E) → map v out ++ es ≡ all → es ≡ v y ∷ rest → more ≡ out ++ y ∷ [] → map v more ++ rest ≡ all
+pub put_next : {Y E : Type 0} (v : Y → E) (out more : List Y) (y : Y) (es rest all : List E) →
+    map v out ++ es ≡ all → es ≡ v y ∷ rest → more ≡ out ++ y ∷ [] → map v more ++ rest ≡ all
 put_next v out more y es rest all so_far is put =
-    ap (λ ys. map v ys ++ rest) put ∙ (ap (λ es. es ++ rest) (map-append v out (y ∷ [])) ∙ (append_assoc (map v out) (v y ∷ []) rest ∙ (ap (λ es. map v out ++ es) (sym is) ∙ so_far)))
+    ap (λ ys. map v ys ++ rest) put
+    ∙ (ap (λ es. es ++ rest) (map-append v out (y ∷ [])) ∙ (append_assoc (map v out) (v y ∷ []) rest ∙ (ap (λ es. map v out ++ es) (sym is) ∙ so_far)))
 
 -- where what is left of each list is put out, all is
 pub put_both : {E : Type 0} (out es fs ahead all more most : List E) → out ++ ahead ≡ all → ahead ≡ es ++ fs → more ≡ out ++ es → most ≡ more ++ fs → most ≡ all
@@ -171,9 +182,12 @@ module _ {K X : Type 0} {R : K → K → Ordering} (o : IsTotalOrder R) (m n : F
   merge_rises = subst (Rises R) (sym h) (rises_merge o (entries m) (entries n) (entries_sorted m) (entries_sorted n))
 
   pub merge_is : IsAntisymmetric R → from_sorted all ≡ merged m n
-  merge_is same = ap (from_sorted {R = R}) h ∙ (merged_from_sorted o same (entries m) (entries n) (entries_sorted m) (entries_sorted n) ∙ (λ i. merged (map_of (entries m) m refl i) (map_of (entries n) n refl i)))
+  merge_is same = ap (from_sorted {R = R}) h ∙ (merged_from_sorted o same (entries m) (entries n) (entries_sorted m) (entries_sorted n)
+      ∙ (λ i. merged (map_of (entries m) m refl i) (map_of (entries n) n refl i)))
 
 -- the entries of both maps are the merged entries
-pub entries-merged : {K X : Type 0} {R : K → K → Ordering} → IsTotalOrder R → IsAntisymmetric R → (m n : FinMap R X) → entries (merged m n) ≡ merge R (entries m) (entries n)
+pub entries-merged : {K X : Type 0} {R : K → K → Ordering} → IsTotalOrder R → IsAntisymmetric R → (m n : FinMap R X) →
+    entries (merged m n) ≡ merge R (entries m) (entries n)
 entries-merged {R = R} o same m n =
-    ap entries (sym (merge_is o m n (merge R (entries m) (entries n)) refl same)) ∙ entries-from_sorted R (merge R (entries m) (entries n)) (merge_rises o m n (merge R (entries m) (entries n)) refl)
+    ap entries (sym (merge_is o m n (merge R (entries m) (entries n)) refl same))
+    ∙ entries-from_sorted R (merge R (entries m) (entries n)) (merge_rises o m n (merge R (entries m) (entries n)) refl)

@@ -43,25 +43,30 @@ pub notdef_is : (c : ClearPieces) (p : PrivatePieces) → maps.contains_key (fon
 notdef_is c p = ap is_some (get-map_of nat_list_cmp_total name_same (glyph_entries p) notdef) ∙ some_last notdef p.len_iv p.glyphs
 
 -- entries that are tested to be within the limits make a font within them
-pub within_of : (c : ClearPieces) (p : PrivatePieces) → is_within (shell_of c p) (last_entries nat_cmp (subr_entries p)) (last_entries name_cmp (glyph_entries p)) ≡ true → IsWithin (font_of c p)
+pub within_of : (c : ClearPieces) (p : PrivatePieces) →
+    is_within (shell_of c p) (last_entries nat_cmp (subr_entries p)) (last_entries name_cmp (glyph_entries p)) ≡ true → IsWithin (font_of c p)
 within_of c p h =
     let s = last_entries nat_cmp (subr_entries p) in
     let g = last_entries name_cmp (glyph_entries p) in
-    let one = and_parts (leb (declared_count (shell_of c p).subrs) count_limit && leb (length g) count_limit) (leb (weight_of (shell_of c p) s g) weight_limit) h in
+    let one =
+    and_parts (leb (declared_count (shell_of c p).subrs) count_limit && leb (length g) count_limit) (leb (weight_of (shell_of c p) s g) weight_limit) h in
     let two = and_parts (leb (declared_count (shell_of c p).subrs) count_limit) (leb (length g) count_limit) one.0 in
     record {
       declared = leb-true _ _ two.0;
       glyphs = rw (len-map_of nat_list_cmp_total name_same (glyph_entries p)) (leb-true _ _ two.1);
-      weight = rw (entries-map_of nat_cmp_total nat_cmp-IsAntisymmetric (subr_entries p), entries-map_of nat_list_cmp_total name_same (glyph_entries p)) (leb-true _ _ one.1);
+      weight = rw (entries-map_of nat_cmp_total nat_cmp-IsAntisymmetric (subr_entries p), entries-map_of nat_list_cmp_total name_same (glyph_entries p))
+          (leb-true _ _ one.1);
     }
 
 -- the entries of a font within the limits pass the test
-pub within_again : (c : ClearPieces) (p : PrivatePieces) → IsWithin (font_of c p) → is_within (shell_of c p) (last_entries nat_cmp (subr_entries p)) (last_entries name_cmp (glyph_entries p)) ≡ true
+pub within_again : (c : ClearPieces) (p : PrivatePieces) → IsWithin (font_of c p) →
+    is_within (shell_of c p) (last_entries nat_cmp (subr_entries p)) (last_entries name_cmp (glyph_entries p)) ≡ true
 within_again c p h =
     let s = last_entries nat_cmp (subr_entries p) in
     let g = last_entries name_cmp (glyph_entries p) in
     let few : length g ≤ count_limit = rw (len-map_of nat_list_cmp_total name_same (glyph_entries p)) at h.glyphs in
-    let light : weight_of (shell_of c p) s g ≤ weight_limit = rw (entries-map_of nat_cmp_total nat_cmp-IsAntisymmetric (subr_entries p), entries-map_of nat_list_cmp_total name_same (glyph_entries p)) at h.weight in
+    let light : weight_of (shell_of c p) s g ≤ weight_limit =
+    rw (entries-map_of nat_cmp_total nat_cmp-IsAntisymmetric (subr_entries p), entries-map_of nat_list_cmp_total name_same (glyph_entries p)) at h.weight in
     and_from _ _ (and_from _ _ (le-leb _ _ h.declared) (le-leb _ _ few)) (le-leb _ _ light)
 
 -- ---- the private text of a cipher

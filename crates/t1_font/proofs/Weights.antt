@@ -33,7 +33,8 @@ module _ {K X : Type 0} (w : K → X → ℕ) (es : List (K × X)) (before : ℕ
   sums_none left h e = record { small = h; all = ap (λ (fs : List (K × X)). clamp (before + total w fs)) e }
 
   -- adding what the next entry weighs keeps the whole as it was
-  pub sums_next : (sum n new : ℕ) (e : K × X) (left rest : List (K × X)) → Summing w es before sum left → left ≡ e ∷ rest → n ≡ clamp (w e.0 e.1) → new ≡ min (sum + n) 18446744073709551615 → Summing w es before new rest
+  pub sums_next : (sum n new : ℕ) (e : K × X) (left rest : List (K × X)) → Summing w es before sum left →
+      left ≡ e ∷ rest → n ≡ clamp (w e.0 e.1) → new ≡ min (sum + n) 18446744073709551615 → Summing w es before new rest
   sums_next sum n new e left rest s is en ew = record {
     small = clamp_fits (sum + n) new ew;
     all = clamp_step sum (w e.0 e.1) n new (total w rest) en ew ∙ (ap (λ (fs : List (K × X)). clamp (sum + total w fs)) (sym is) ∙ s.all);
@@ -52,7 +53,8 @@ pub counts_none : {X : Type 0} (left es : List X) → left ≡ es → Counting (
 counts_none left es h = let same = ap length h in record { small = omega arith; all = omega (arith, same) }
 
 module _ {X : Type 0} (n : ℕ) where
-  pub counts_next : (count new : ℕ) (x : X) (left rest : List X) → Counting n count left → left ≡ x ∷ rest → new ≡ min (count + 1) 18446744073709551615 → Counting n new rest
+  pub counts_next : (count new : ℕ) (x : X) (left rest : List X) → Counting n count left →
+      left ≡ x ∷ rest → new ≡ min (count + 1) 18446744073709551615 → Counting n new rest
   counts_next count new x left rest c is e = let one = ap length is in record { small = clamp_fits (count + 1) new e; all = omega (arith, one, e, c.all) }
 
   pub counts_all : (count : ℕ) (left : List X) → Counting n count left → left ≡ [] → count ≡ clamp n
@@ -72,14 +74,16 @@ bytes_in : (buffer : List ℕ) (r : Range) → IsInside (length buffer) r → le
 bytes_in buffer r h = length-take-le (r.end - r.start) (drop r.start buffer) (omega (arith, length-drop r.start buffer, h.ordered, h.within))
 
 -- Subrs in ranges weigh what their bytes do
-pub subrs_in : (buffer : List ℕ) (len_iv : ℕ) (es : List (ℕ × Range)) → AllInside (length buffer) es → total (subr_at_weight len_iv) es ≡ total (subr_weight len_iv) (map (numbered_at buffer) es)
+pub subrs_in : (buffer : List ℕ) (len_iv : ℕ) (es : List (ℕ × Range)) → AllInside (length buffer) es →
+    total (subr_at_weight len_iv) es ≡ total (subr_weight len_iv) (map (numbered_at buffer) es)
 subrs_in buffer len_iv [] h = refl
 subrs_in buffer len_iv (e ∷ es) h =
     let Body = λ (e : ℕ × Range). IsInside (length buffer) e.1 in
     rw (bytes_in buffer e.1 (All-head Body e es h), subrs_in buffer len_iv es (All-tail Body e es h)) refl
 
 -- glyphs in ranges weigh what their bytes do
-pub glyphs_in : (buffer : List ℕ) (len_iv : ℕ) (es : List (Range × Range)) → AllInside (length buffer) es → total (glyph_at_weight len_iv) es ≡ total (glyph_weight len_iv) (map (named_at buffer) es)
+pub glyphs_in : (buffer : List ℕ) (len_iv : ℕ) (es : List (Range × Range)) → AllInside (length buffer) es →
+    total (glyph_at_weight len_iv) es ≡ total (glyph_weight len_iv) (map (named_at buffer) es)
 glyphs_in buffer len_iv [] h = refl
 glyphs_in buffer len_iv (e ∷ es) h =
     let Body = λ (e : Range × Range). IsInside (length buffer) e.1 in
@@ -87,11 +91,17 @@ glyphs_in buffer len_iv (e ∷ es) h =
 
 -- the weight of what a source holds
 pub source_weighs : (s : Shell) (buffer : List ℕ) (subrs : List (ℕ × Range)) (glyphs : List (Range × Range)) →
-    AllInside (length buffer) subrs → AllInside (length buffer) glyphs → Rises nat_cmp (map (numbered_at buffer) subrs) → Rises name_cmp (map (named_at buffer) glyphs) →
+    AllInside (length buffer) subrs → AllInside (length buffer) glyphs →
+    Rises nat_cmp (map (numbered_at buffer) subrs) → Rises name_cmp (map (named_at buffer) glyphs) →
     texts_weight s + total (subr_at_weight s.len_iv) subrs + total (glyph_at_weight s.len_iv) glyphs
     ≡ weight_of s (entries (from_sorted {R = nat_cmp} (map (numbered_at buffer) subrs))) (entries (from_sorted {R = name_cmp} (map (named_at buffer) glyphs)))
 source_weighs s buffer subrs glyphs subrs_inside glyphs_inside subrs_rise glyphs_rise =
-    rw (entries-from_sorted nat_cmp (map (numbered_at buffer) subrs) subrs_rise, entries-from_sorted name_cmp (map (named_at buffer) glyphs) glyphs_rise, subrs_in buffer s.len_iv subrs subrs_inside, glyphs_in buffer s.len_iv glyphs glyphs_inside) refl
+    rw (
+      entries-from_sorted nat_cmp (map (numbered_at buffer) subrs) subrs_rise,
+      entries-from_sorted name_cmp (map (named_at buffer) glyphs) glyphs_rise,
+      subrs_in buffer s.len_iv subrs subrs_inside,
+      glyphs_in buffer s.len_iv glyphs glyphs_inside,
+    ) refl
 
 -- a sum of three, cut off at each step
 pub clamp_each : (a s g x y r : ℕ) → x ≡ clamp a → y ≡ clamp (x + s) → r ≡ clamp (y + g) → r ≡ clamp (a + s + g)

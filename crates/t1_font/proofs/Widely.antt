@@ -17,7 +17,8 @@ use Rattle.t1_font.specs.Dialect.{Blank, spacing, white_and_comments, white_in, 
 use Rattle.t1_font.specs.Words.{is_regular, is_word, is_decimal, word, keyword, decimal, name, next_name, phrase_of, passes}
 use Rattle.t1_font.specs.Entry.{entry}
 use Rattle.t1_font.specs.Subrs.{Subr, subr_key, subr, subrs_end}
-use Rattle.t1_font.specs.Encoding.{octal, code, CodeEntry, put_entry, code_entry, Opening, Whole, OpensPuts, OpensNames, encoding_start, readonly, encoding_end, array_start, array_end, encoding_word, encoding_table, loop_range, loop_body, encoding_loop}
+use Rattle.t1_font.specs.Encoding.{octal, code, CodeEntry, put_entry, code_entry, Opening, Whole, OpensPuts, OpensNames, encoding_start, readonly}
+use Rattle.t1_font.specs.Encoding.{encoding_end, array_start, array_end, encoding_word, encoding_table, loop_range, loop_body, encoding_loop}
 use Rattle.t1_font.specs.EntryLaws.{keyword_text}
 use Rattle.t1_font.specs.Pieces.{EncodingText, OneWord, Puts, ClearPieces, SubrsPieces, PrivatePieces}
 use Rattle.t1_font.specs.FontValue.{FontValue}
@@ -52,7 +53,8 @@ gap_wide a text rest s h = (white_wide a text rest s.0 h, s.1)
 -- what begins with a text that begins no comment begins none
 starts : {A : Type 0} (g : Grammar A) → Plain g → (a : A) (text front back rest : List ℕ) → text ≡ front ++ back → g.Spells a front (back ++ rest) →
     starts_comment (text ++ rest) ≡ false
-starts g plain a text front back rest e s = ap (λ t. starts_comment (t ++ rest)) e ∙ (ap starts_comment (append_assoc front back rest) ∙ plain a front (back ++ rest) s)
+starts g plain a text front back rest e s =
+    ap (λ t. starts_comment (t ++ rest)) e ∙ (ap starts_comment (append_assoc front back rest) ∙ plain a front (back ++ rest) s)
 
 module _ {A : Type 0} (g : Grammar A) (plain : Plain g) where
   -- what stands between words, a text of g, and more
@@ -145,7 +147,7 @@ octal_plain n text rest s = starts (fixed (codes "8#")) (fixed_plain (codes "8#"
 
 code_plain : Plain code
 unfolding code
-code_plain n text rest s = elim s.0 [ | inl p ↦ decimal_plain n text rest p | inr p ↦ octal_plain n text rest p.0 ]
+code_plain n text rest s = elim s.0 [ inl p ↦ decimal_plain n text rest p | inr p ↦ octal_plain n text rest p.0 ]
 
 name_plain : Plain name
 unfolding name
@@ -219,9 +221,12 @@ end_wide c text rest s = by_readonly s.5.4
     by_readonly : (readonly Strict).Spells s.5.0 s.5.1 (s.5.2 ++ rest) → (encoding_end Wide).Spells c text rest
     by_readonly (inl p) =
         let word = starts (keyword (codes "readonly")) (keyword_plain (codes "readonly") refl) p.0 s.5.1 p.1 p.2 (s.5.2 ++ rest) p.3 p.4 in
-        let none = ap (λ t. starts_comment (t ++ rest)) s.5.3 ∙ (ap starts_comment (append_assoc s.5.1 s.5.2 rest) ∙ word) in
-        (
-          s.0, s.1, s.2, s.3, white_wide s.0 s.1 (s.2 ++ rest) s.4 none,
+        let none = ap (λ t. starts_comment (t ++ rest)) s.5.3 ∙ (ap starts_comment (append_assoc s.5.1 s.5.2 rest) ∙ word) in (
+          s.0,
+          s.1,
+          s.2,
+          s.3,
+          white_wide s.0 s.1 (s.2 ++ rest) s.4 none,
           (s.5.0, s.5.1, s.5.2, s.5.3, inl (p.0, p.1, p.2, p.3, p.4, gap_wide s.5.0 p.2 (s.5.2 ++ rest) p.5 def_plain), s.5.5),
         )
     by_readonly (inr q) =
@@ -248,7 +253,8 @@ word_wide w text rest s = white_then word word_plain text rest s (λ a t s.
     let own : s.2 ++ rest ≡ r.2 ++ rest = ap (λ u. u ++ rest) (r.3 ∙ ap (λ u. u ++ r.2) r.4.0) in
     let none : starts_comment (s.2 ++ rest) ≡ false = ap starts_comment (own ∙ last) ∙ def_plain in
     let here : r.1 ++ (r.2 ++ rest) ≡ k.1 ++ (k.2 ++ rest) = ap (λ u. u ++ (r.2 ++ rest)) r.4.0 ∙ last in
-    let absent = subst (NotAtFront (keyword (codes "readonly") >> gap_in Wide)) (sym here) (not_readonly (codes "def") (k.1 ++ (k.2 ++ rest)) _ def_read refl) in
+    let absent =
+    subst (NotAtFront (keyword (codes "readonly") >> gap_in Wide)) (sym here) (not_readonly (codes "def") (k.1 ++ (k.2 ++ rest)) _ def_read refl) in
     (s.0, s.1, s.2, s.3, gap_wide s.0 s.1 (s.2 ++ rest) s.4 none, (r.0, r.1, r.2, r.3, inr (r.4, absent), k)))
 
 start_table_wide : (a text rest : List ℕ) → (encoding_table Strict).Spells a text rest → (encoding_table Wide).Spells a text rest
@@ -271,11 +277,20 @@ body_wide a text rest s = white_then (keyword (codes "1")) (keyword_plain (codes
 loop_wide : (a text rest : List ℕ) → (encoding_loop Strict).Spells a text rest → (encoding_loop Wide).Spells a text rest
 unfolding encoding_loop
 loop_wide a text rest s = (
-  s.0, s.1, s.2, s.3, range_wide s.0 s.1 (s.2 ++ rest) s.4,
+  s.0,
+  s.1,
+  s.2,
+  s.3,
+  range_wide s.0 s.1 (s.2 ++ rest) s.4,
   white_then (fixed (codes "{")) (fixed_plain (codes "{") refl) s.2 rest s.5 (λ k t s. (
-    s.0, s.1, s.2, s.3, body_wide s.0 s.1 (s.2 ++ rest) s.4,
+    s.0,
+    s.1,
+    s.2,
+    s.3,
+    body_wide s.0 s.1 (s.2 ++ rest) s.4,
     white_then (fixed (codes "}")) (fixed_plain (codes "}") refl) s.2 rest s.5 (λ k t s.
-        white_last (keyword (codes "for")) (keyword_plain (codes "for") refl) a t rest s))),
+        white_last (keyword (codes "for")) (keyword_plain (codes "for") refl) a t rest s),
+  )),
 )
 
 array_wide : (a text rest : List ℕ) → (array_start Strict).Spells a text rest → (array_start Wide).Spells a text rest
@@ -375,7 +390,8 @@ end_no_loop c text rest s = by_readonly s.5.4
     by_readonly (inl p) =
         let after : List ℕ = p.2 ++ (s.5.2 ++ rest) in
         let own : s.2 ++ rest ≡ p.1 ++ after = here ∙ (ap (λ t. t ++ (s.5.2 ++ rest)) p.3 ∙ append_assoc p.1 p.2 (s.5.2 ++ rest)) in
-        no_loop (codes "readonly") (text ++ rest) refl (comes (codes "readonly") p.1 after (p.0, after) own ((keyword (codes "readonly")).again p.0 p.1 after p.4))
+        no_loop (codes "readonly") (text ++ rest) refl
+        (comes (codes "readonly") p.1 after (p.0, after) own ((keyword (codes "readonly")).again p.0 p.1 after p.4))
     by_readonly (inr q) =
         let own : s.2 ++ rest ≡ s.5.2 ++ rest = here ∙ ap (λ t. t ++ (s.5.2 ++ rest)) q.0.0 in
         no_loop (codes "def") (text ++ rest) refl (comes (codes "def") s.5.2 rest (c, rest) own ((keyword (codes "def")).again c s.5.2 rest s.5.5))
@@ -402,26 +418,32 @@ form OpensNames = 2
 no_word_here : (bytes : List ℕ) → (encoding_word Wide).read bytes ≡ None → NotAtFront (encoding_word Wide >>= λ w. pure (Whole w)) bytes
 no_word_here bytes e = unspelled (encoding_word Wide >>= λ w. pure (Whole w)) bytes (rw e refl)
 
-no_table_here : (bytes : List ℕ) → (encoding_table Wide).read bytes ≡ None → NotAtFront (encoding_table Wide >> (may_be (encoding_loop Wide) >> pure OpensPuts)) bytes
+no_table_here : (bytes : List ℕ) → (encoding_table Wide).read bytes ≡ None →
+    NotAtFront (encoding_table Wide >> (may_be (encoding_loop Wide) >> pure OpensPuts)) bytes
 no_table_here bytes e = unspelled (encoding_table Wide >> (may_be (encoding_loop Wide) >> pure OpensPuts)) bytes (rw e refl)
 
 puts_start : (bytes entries : List ℕ) → AtFront (encoding_start Strict) bytes (OpensPuts, entries) → (encoding_loop Wide).read entries ≡ None →
     AtFront (encoding_start Wide) bytes (OpensPuts, entries)
 unfolding encoding_start
-puts_start bytes entries a none = (a.0, a.1, elim a.2 [
-  | inl t ↦ absurd (omega (arith, ap form t.5.1))
-  | inr t ↦ elim t.0 [
-    | inl p ↦
-        let q = p.5 in
-        let table = start_table_wide p.0 p.1 (p.2 ++ entries) p.4 in
-        let whole : a.0 ++ entries ≡ p.1 ++ (p.2 ++ entries) = ap (λ u. u ++ entries) p.3 ∙ append_assoc p.1 p.2 entries in
-        let absent = no_word_here (a.0 ++ entries) (ap (encoding_word Wide).read whole ∙ table_no_word p.0 p.1 (p.2 ++ entries) table) in
-        inr (inl (p.0, p.1, p.2, p.3, table, (q.0, q.1, q.2, q.3, may_loop q.0 q.1 q.2 q.5.0 q.4, q.5)), absent)
-    | inr u ↦ absurd (omega (arith, ap form u.0.5.1))
-  ]
-])
+puts_start bytes entries a none = (
+  a.0,
+  a.1,
+  elim a.2 [
+    | inl t ↦ absurd (omega (arith, ap form t.5.1))
+    | inr t ↦ elim t.0 [
+      | inl p ↦
+          let q = p.5 in
+          let table = start_table_wide p.0 p.1 (p.2 ++ entries) p.4 in
+          let whole : a.0 ++ entries ≡ p.1 ++ (p.2 ++ entries) = ap (λ u. u ++ entries) p.3 ∙ append_assoc p.1 p.2 entries in
+          let absent = no_word_here (a.0 ++ entries) (ap (encoding_word Wide).read whole ∙ table_no_word p.0 p.1 (p.2 ++ entries) table) in
+          inr (inl (p.0, p.1, p.2, p.3, table, (q.0, q.1, q.2, q.3, may_loop q.0 q.1 q.2 q.5.0 q.4, q.5)), absent)
+      | inr u ↦ absurd (omega (arith, ap form u.0.5.1))
+    ]
+  ],
+)
   where
-    may_loop : (l own after : List ℕ) → after ≡ [] → (may_be (encoding_loop Strict)).Spells l own (after ++ entries) → (may_be (encoding_loop Wide)).Spells l own (after ++ entries)
+    may_loop : (l own after : List ℕ) → after ≡ [] → (may_be (encoding_loop Strict)).Spells l own (after ++ entries) →
+        (may_be (encoding_loop Wide)).Spells l own (after ++ entries)
     may_loop l own after e (inl p) = inl (loop_wide l own (after ++ entries) p)
     may_loop l own after e (inr p) =
         let here : own ++ (after ++ entries) ≡ entries = λ i. p.0.0 i ++ (e i ++ entries) in
@@ -429,19 +451,23 @@ puts_start bytes entries a none = (a.0, a.1, elim a.2 [
 
 names_start : (bytes entries : List ℕ) → AtFront (encoding_start Strict) bytes (OpensNames, entries) → AtFront (encoding_start Wide) bytes (OpensNames, entries)
 unfolding encoding_start
-names_start bytes entries a = (a.0, a.1, elim a.2 [
-  | inl t ↦ absurd (omega (arith, ap form t.5.1))
-  | inr t ↦ elim t.0 [
-    | inl p ↦ absurd (omega (arith, ap form p.5.5.1))
-    | inr u ↦
-        let p = u.0 in
-        let array = array_wide p.0 p.1 (p.2 ++ entries) p.4 in
-        let whole : a.0 ++ entries ≡ p.1 ++ (p.2 ++ entries) = ap (λ u. u ++ entries) p.3 ∙ append_assoc p.1 p.2 entries in
-        let no_table = no_table_here (a.0 ++ entries) (ap (encoding_table Wide).read whole ∙ array_no_table p.0 p.1 (p.2 ++ entries) array) in
-        let no_word = no_word_here (a.0 ++ entries) (ap (encoding_word Wide).read whole ∙ array_no_word p.0 p.1 (p.2 ++ entries) array) in
-        inr (inr ((p.0, p.1, p.2, p.3, array, p.5), no_table), no_word)
-  ]
-])
+names_start bytes entries a = (
+  a.0,
+  a.1,
+  elim a.2 [
+    | inl t ↦ absurd (omega (arith, ap form t.5.1))
+    | inr t ↦ elim t.0 [
+      | inl p ↦ absurd (omega (arith, ap form p.5.5.1))
+      | inr u ↦
+          let p = u.0 in
+          let array = array_wide p.0 p.1 (p.2 ++ entries) p.4 in
+          let whole : a.0 ++ entries ≡ p.1 ++ (p.2 ++ entries) = ap (λ u. u ++ entries) p.3 ∙ append_assoc p.1 p.2 entries in
+          let no_table = no_table_here (a.0 ++ entries) (ap (encoding_table Wide).read whole ∙ array_no_table p.0 p.1 (p.2 ++ entries) array) in
+          let no_word = no_word_here (a.0 ++ entries) (ap (encoding_word Wide).read whole ∙ array_no_word p.0 p.1 (p.2 ++ entries) array) in
+          inr (inr ((p.0, p.1, p.2, p.3, array, p.5), no_table), no_word)
+    ]
+  ],
+)
 
 encoding_wide : (e : EncodingText) (bytes rest : List ℕ) → SpellsEncoding Strict e bytes rest → SpellsEncoding Wide e bytes rest
 unfolding encoding_start
@@ -451,7 +477,8 @@ encoding_wide (OneWord w) bytes rest s =
 encoding_wide (Puts puts) bytes rest (inl s) =
     let t = s.5 in
     let none = ap (encoding_loop Wide).read t.1 ∙ table_no_loop s.0 s.2 t.0 rest t.2 in
-    let wide = table_wide (code_entry Strict) (code_entry Wide) (encoding_end Strict) (encoding_end Wide) (λ e text rest s. inl (put_wide e text rest s)) end_wide s.0 s.2 t.0 rest t.2 in
+    let wide = table_wide (code_entry Strict) (code_entry Wide) (encoding_end Strict)
+    (encoding_end Wide) (λ e text rest s. inl (put_wide e text rest s)) end_wide s.0 s.2 t.0 rest t.2 in
     inl (s.0, s.1, s.2, s.3, puts_start bytes s.1 s.4 none, (t.0, t.1, wide))
 encoding_wide (Puts puts) bytes rest (inr s) =
     let t = s.5 in
@@ -463,7 +490,8 @@ encoding_wide (Puts puts) bytes rest (inr s) =
 clear_wide : (clear : List ℕ) (c : ClearPieces) → IsClear Strict clear c → IsClear Wide clear c
 clear_wide clear c s = record { after = s.after; marker = s.marker; encoding = encoding_wide c.encoding s.after c.clear_tail s.encoding }
 
-tables_wide : (text : List ℕ) (p : PrivatePieces) (o : Option SubrsPieces) (glyphs : List ℕ) → SpellsTables Strict text p o glyphs → SpellsTables Wide text p o glyphs
+tables_wide : (text : List ℕ) (p : PrivatePieces) (o : Option SubrsPieces) (glyphs : List ℕ) → SpellsTables Strict text p o glyphs →
+    SpellsTables Wide text p o glyphs
 tables_wide text p None glyphs s = s
 tables_wide text p (Some x) glyphs s =
     let t = s.3 in

@@ -1,5 +1,6 @@
 -- Keywords and decimals, byte by byte.
-use Rattle.std.proofs.Common.{◌≡◌, ℕ, suc, ◌+◌, ◌*◌, ◌-◌, ◌<◌, Bool, true, false, ◌&&◌, ◌||◌, not, cond, leb, List, [], ◌∷◌, length, take, drop, Option, Some, None, refl, sym, ap, subst, ◌∙◌, one-add, arith}
+use Rattle.std.proofs.Common.{◌≡◌, ℕ, suc, ◌+◌, ◌*◌, ◌-◌, ◌<◌, Bool, true, false, ◌&&◌, ◌||◌, not, cond, leb, List, []}
+use Rattle.std.proofs.Common.{◌∷◌, length, take, drop, Option, Some, None, refl, sym, ap, subst, ◌∙◌, one-add, arith}
 use Rattle.std.specs.List.{AllByRecursion, prefix_len}
 use Rattle.std.specs.Option.{option_and_then}
 use Rattle.std.proofs.lemmas.Bool.{and_parts, agree_below_at, leb-true}
@@ -23,7 +24,8 @@ goes_on [] h = refl
 goes_on (b ∷ bs) h = h
 
 -- where these bytes come and no regular one after them, the word is read
-pub keyword_there : (w bytes : List ℕ) (x : List ℕ × List ℕ) → all_regular w ≡ true → (fixed w).read bytes ≡ Some x → regular_comes x.1 ≡ false → (keyword w).read bytes ≡ Some x
+pub keyword_there : (w bytes : List ℕ) (x : List ℕ × List ℕ) → all_regular w ≡ true → (fixed w).read bytes ≡ Some x → regular_comes x.1 ≡ false →
+    (keyword w).read bytes ≡ Some x
 unfolding keyword
 keyword_there w bytes x h e stop =
     let s = (fixed w).takes bytes x e in
@@ -40,14 +42,17 @@ keyword_front w bytes x e =
     (ap (fixed w).read s.1 ∙ (fixed w).again x.0 s.0 x.1 ((s.2.0.0, ap length (sym same)), s.2.1), goes_on x.1 s.2.0.2)
 
 -- a keyword is its bytes, where no regular one comes after them
-pub keyword_by_bytes : (w bytes : List ℕ) → all_regular w ≡ true → (keyword w).read bytes ≡ option_and_then (λ x. cond (regular_comes x.1) None (Some x)) ((fixed w).read bytes)
+pub keyword_by_bytes : (w bytes : List ℕ) → all_regular w ≡ true →
+    (keyword w).read bytes ≡ option_and_then (λ x. cond (regular_comes x.1) None (Some x)) ((fixed w).read bytes)
 keyword_by_bytes w bytes h = by_read ((keyword w).read bytes) ((fixed w).read bytes) refl refl
   where
-    ends : (x : List ℕ × List ℕ) (b : Bool) → (fixed w).read bytes ≡ Some x → regular_comes x.1 ≡ b → (keyword w).read bytes ≡ None → None ≡ cond b None (Some x)
+    ends : (x : List ℕ × List ℕ) (b : Bool) → (fixed w).read bytes ≡ Some x → regular_comes x.1 ≡ b → (keyword w).read bytes ≡ None →
+        None ≡ cond b None (Some x)
     ends x true f r k = refl
     ends x false f r k = absurd (none-some x (sym k ∙ keyword_there w bytes x h f r))
 
-    by_read : (k f : Option (List ℕ × List ℕ)) → (keyword w).read bytes ≡ k → (fixed w).read bytes ≡ f → k ≡ option_and_then (λ x. cond (regular_comes x.1) None (Some x)) f
+    by_read : (k f : Option (List ℕ × List ℕ)) → (keyword w).read bytes ≡ k → (fixed w).read bytes ≡ f →
+        k ≡ option_and_then (λ x. cond (regular_comes x.1) None (Some x)) f
     by_read None None k f = refl
     by_read None (Some x) k f = ends x (regular_comes x.1) f refl k
     by_read (Some x) f k g = let front = keyword_front w bytes x k in rw (sym g ∙ front.0, front.1) refl
@@ -62,7 +67,8 @@ word_after k v w rest = cond (leb 1 (k + length w) && leb (k + length w) 9 && al
 abbrev pub decimal_after : ℕ → ℕ → List ℕ → Option (ℕ × List ℕ)
 decimal_after k v bytes = word_after k v (take (prefix_len is_regular bytes) bytes) (drop (prefix_len is_regular bytes) bytes)
 
-read_by_test : (b : Bool) (x : List ℕ × List ℕ) (y : ℕ × List ℕ) → y ≡ (digits_after 0 x.0, x.1) → cond b (Some y) None ≡ option_and_then (λ z. Some (digits_after 0 z.0, z.1)) (cond b (Some x) None)
+read_by_test : (b : Bool) (x : List ℕ × List ℕ) (y : ℕ × List ℕ) → y ≡ (digits_after 0 x.0, x.1) →
+    cond b (Some y) None ≡ option_and_then (λ z. Some (digits_after 0 z.0, z.1)) (cond b (Some x) None)
 read_by_test true x y e = ap Some e
 read_by_test false x y e = refl
 

@@ -20,7 +20,17 @@ abbrev pub subrs_view : KeptSubrs → SubrsShell
 subrs_view s = record { declared = s.declared; rd = s.rd.items; put = s.put.items; closing = s.closing.items }
 
 abbrev pub shell_view : shells.Inside → Shell
-shell_view s = record { head = s.head.items; clear_tail = s.clear_tail.items; private = s.private.items; middle = s.middle.items; tail = s.tail.items; len_iv = s.len_iv; subrs = option_map subrs_view s.subrs; glyphs_rd = s.glyphs_rd.items; glyphs_def = s.glyphs_def.items }
+shell_view s = record {
+  head = s.head.items;
+  clear_tail = s.clear_tail.items;
+  private = s.private.items;
+  middle = s.middle.items;
+  tail = s.tail.items;
+  len_iv = s.len_iv;
+  subrs = option_map subrs_view s.subrs;
+  glyphs_rd = s.glyphs_rd.items;
+  glyphs_def = s.glyphs_def.items;
+}
 
 abbrev pub encoding_of : LentEncoding → Encoding
 encoding_of (lent.Word w) = Word w.now
@@ -39,9 +49,20 @@ subrs_shell_code = code_by (ℕ × (List ℕ × (List ℕ × List ℕ))) (coded�
     (λ s. (s.declared, (s.rd, (s.put, s.closing)))) (λ p. record { declared = p.0; rd = p.1.0; put = p.1.1.0; closing = p.1.1.1 }) (λ s. refl)
 
 abbrev pub shell_code : Coded Shell
-shell_code = code_by (Texts × (ℕ × (Option SubrsShell × (List ℕ × List ℕ)))) (coded× texts_code (coded× coded_ℕ (coded× (coded_option subrs_shell_code) (coded× bytes_code bytes_code))))
+shell_code = code_by (Texts × (ℕ × (Option SubrsShell × (List ℕ × List ℕ))))
+    (coded× texts_code (coded× coded_ℕ (coded× (coded_option subrs_shell_code) (coded× bytes_code bytes_code))))
     (λ s. ((s.head, (s.clear_tail, (s.private, (s.middle, s.tail)))), (s.len_iv, (s.subrs, (s.glyphs_rd, s.glyphs_def)))))
-    (λ p. record { head = p.0.0; clear_tail = p.0.1.0; private = p.0.1.1.0; middle = p.0.1.1.1.0; tail = p.0.1.1.1.1; len_iv = p.1.0; subrs = p.1.1.0; glyphs_rd = p.1.1.1.0; glyphs_def = p.1.1.1.1 }) (λ s. refl)
+    (λ p. record {
+      head = p.0.0;
+      clear_tail = p.0.1.0;
+      private = p.0.1.1.0;
+      middle = p.0.1.1.1.0;
+      tail = p.0.1.1.1.1;
+      len_iv = p.1.0;
+      subrs = p.1.1.0;
+      glyphs_rd = p.1.1.1.0;
+      glyphs_def = p.1.1.1.1;
+    }) (λ s. refl)
 
 abbrev pub from_encoding : Encoding → List ℕ ⊎ Numbered
 from_encoding (Word w) = inl w

@@ -26,7 +26,8 @@ SpellsPuts d puts bytes rest =
 
 -- a literal array: the puts are its names at the codes of their places
 abbrev pub SpellsNames : Dialect → List (ℕ × List ℕ) → List ℕ → List ℕ → Type 0
-SpellsNames d puts bytes rest = (names : List (List ℕ)) × (entries closing : List ℕ) × (puts ≡ from_code 0 names) × AtFront (encoding_start d) bytes (OpensNames, entries) × CountedAt (next_name d) (array_end d) code_count names closing entries rest
+SpellsNames d puts bytes rest = (names : List (List ℕ)) × (entries closing : List ℕ) × (puts ≡ from_code 0 names)
+    × AtFront (encoding_start d) bytes (OpensNames, entries) × CountedAt (next_name d) (array_end d) code_count names closing entries rest
 
 abbrev pub SpellsEncoding : Dialect → EncodingText → List ℕ → List ℕ → Type 0
 SpellsEncoding d (OneWord w) bytes rest = AtFront (encoding_start d) bytes (Whole w, rest)
@@ -46,17 +47,20 @@ pub data IsLenIV (private : List ℕ) (n : ℕ) : Type 0 where
 -- no Subrs marker stands before a place
 pub data NotBefore (text : List ℕ) (place : ℕ) : Type 0 where
   nowhere : Lacks subrs_marker text → NotBefore text place
-  later : (front : List ℕ) (declared : ℕ) (after : List ℕ) → AtFront (first subrs_marker) text ((front, declared), after) → place ≤ length front → NotBefore text place
+  later : (front : List ℕ) (declared : ℕ) (after : List ℕ) →
+      AtFront (first subrs_marker) text ((front, declared), after) → place ≤ length front → NotBefore text place
 
 -- where the tables begin: private stands before the marker of Subrs, where there are any, else before that of CharStrings
 abbrev pub Start : List ℕ → List ℕ → Option ℕ → List ℕ → Type 0
 Start text private None rest = AtFront (first chars_marker) text ((private, tt), rest) × NotBefore text (length private)
-Start text private (Some declared) rest = (chars after : List ℕ) × AtFront (first chars_marker) text ((chars, tt), after) × AtFront (first subrs_marker) text ((private, declared), rest) × (length private < length chars)
+Start text private (Some declared) rest = (chars after : List ℕ) × AtFront (first chars_marker) text ((chars, tt), after)
+    × AtFront (first subrs_marker) text ((private, declared), rest) × (length private < length chars)
 
 -- the private text up to its glyphs
 abbrev pub SpellsTables : Dialect → List ℕ → PrivatePieces → Option SubrsPieces → List ℕ → Type 0
 SpellsTables d text p None glyphs = Start text p.private None glyphs × (p.middle ≡ [])
-SpellsTables d text p (Some s) glyphs = (entries between : List ℕ) × Start text p.private (Some s.declared) entries × TableAt (subr d s.declared p.len_iv) (subrs_end d) s.entries s.closing entries between × AtFront (first chars_marker) between ((p.middle, tt), glyphs)
+SpellsTables d text p (Some s) glyphs = (entries between : List ℕ) × Start text p.private (Some s.declared) entries
+    × TableAt (subr d s.declared p.len_iv) (subrs_end d) s.entries s.closing entries between × AtFront (first chars_marker) between ((p.middle, tt), glyphs)
 
 pub record HasTables (d : Dialect) (text : List ℕ) (p : PrivatePieces) (glyphs : List ℕ) : Type 0 where
   pub tables : SpellsTables d text p p.subrs glyphs

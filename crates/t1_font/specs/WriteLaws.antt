@@ -58,7 +58,8 @@ CanonWeighs = (f : FontValue) (form : Form) → IsFont f → length (canon f for
 
 -- a font cut to names with `.notdef` is a font, and weighs no more
 abbrev pub RestrictIsFont : Type 0
-RestrictIsFont = (names : List ℕ → Bool) (subrs : ℕ → Bool) (f : FontValue) → IsFont f → names notdef ≡ true → IsFont (restrict names subrs f) × (weight (restrict names subrs f) ≤ weight f)
+RestrictIsFont = (names : List ℕ → Bool) (subrs : ℕ → Bool) (f : FontValue) → IsFont f → names notdef ≡ true →
+    IsFont (restrict names subrs f) × (weight (restrict names subrs f) ≤ weight f)
 
 -- the Subrs that an interpreter sees of a font are all that the font has: what is said of a font's maps is said of its calls
 abbrev pub ShowsItsSubrs : Type 0
@@ -77,4 +78,5 @@ SameKind (Codes m) (Codes n) = Unit {0}
 
 -- the entries of two fonts with one shell, within the limits, are a font
 abbrev pub JoinIsFont : Type 0
-JoinIsFont = (f g : FontValue) → IsFont f → IsFont g → f.shell ≡ g.shell → SameKind f.encoding g.encoding → len (merged f.glyphs g.glyphs) ≤ count_limit → weight (join_parts f g) ≤ weight_limit → IsFont (join_parts f g)
+JoinIsFont = (f g : FontValue) → IsFont f → IsFont g → f.shell ≡ g.shell → SameKind f.encoding g.encoding →
+    len (merged f.glyphs g.glyphs) ≤ count_limit → weight (join_parts f g) ≤ weight_limit → IsFont (join_parts f g)

@@ -1,199 +1,34 @@
 //! The Encoding of the clear text.
 
-ghost use Rattle.std.specs.Prelude.{◌≡◌, ◌+◌, ◌≤◌, ◌++◌, ◌∷◌, [], true, ℕ, List, map, OnOk, IfOk, IfSome, Some, None, length, if◌then◌else◌};
+ghost use Rattle.std.specs.Prelude.{◌≡◌, ◌++◌, ◌∷◌, [], ℕ, List, OnOk, Some, None, length, if◌then◌else◌};
 ghost use Rattle.std.specs.Option.{option_map};
 ghost use Rattle.t1_grammar.specs.Grammar.{may_be};
 ghost use Rattle.t1_grammar.specs.Tables.{table_at, counted_at};
 ghost use Rattle.t1_font.specs.Words.{next_name};
-ghost use Rattle.t1_font.specs.Encoding.{is_octal, octal_after, octal, number, code, put_entry, copy_start, one_copy, copied_range, copy_of_range, are_codes, range_copy, code_entry, within_codes, Copy, puts_of, before_def, encoding_end, encoding_word, encoding_table, loop_range, loop_body, encoding_loop, encoding_start, readonly, array_start, array_end, code_count, from_code, OpensPuts, OpensNames};
+ghost use Rattle.t1_font.specs.Encoding.{code_entry, puts_of, before_def, encoding_end, encoding_word, encoding_table, loop_range, loop_body};
+ghost use Rattle.t1_font.specs.Encoding.{encoding_loop, encoding_start, readonly, array_start, array_end, code_count, from_code, OpensPuts, OpensNames};
 ghost use Rattle.t1_font.specs.Faults.{table_fault};
 ghost use Rattle.t1_font.specs.declared.fault.ReadFault.TheVariants.{BadEncoding};
 ghost use Rattle.std.specs.FinMap as fin;
 ghost use Rattle.t1_font.specs.Entries.{map_of};
-ghost use Rattle.t1_font.specs.Gathering.{CodesAlone, names_in, named_from, kept_by};
+ghost use Rattle.t1_font.specs.Gathering.{CodesAlone};
 ghost use Rattle.t1_font.specs.Held.{TableHeld};
 ghost use Rattle.t1_font.specs.ReadFont.{encoding_value};
-ghost use Rattle.t1_font.specs.Views.{code_entry_view, opening_view};
+ghost use Rattle.t1_font.specs.Views.{opening_view};
 ghost use Rattle.t1_font.specs.Pieces.{encoding_from, clear_pieces};
 ghost use Rattle.t1_font.specs.Answers.{Shown, encoding_view, ShowsClear};
 
+use crate::code_entry::{code_entry_at, keep_entry};
 use crate::dialect::Dialect;
 use crate::fault::{ReadFault, TableError};
 use crate::gathered::Gathered;
 use crate::markers::{EncodingMarker, first};
-use crate::words::{decimal_at, keyword_at, name_at, regular_at, word_at};
-use std::alloc::{AllocError, Global};
+use crate::words::{keyword_at, name_at, word_at};
+use std::alloc::Global;
 use t1_bytes::texts::fixed_at;
 
 /// How many codes there are.
 const CODES: u16 = 256;
-
-/// The number that 1 to 9 octal digits spell.
-fn octal_digits(digits: &[u8]) -> Option<u32>
-    ensures { result ≡ (if is_octal digits.now then Some (octal_after 0 digits.now) else None) }
-{
-    if digits.is_empty() || digits.len() > 9 {
-        return None;
-    }
-    let mut value = 0;
-    for b in digits {
-        if *b < b'0' || b'7' < *b {
-            return None;
-        }
-        value = value * 8 + (*b - b'0') as u32;
-    }
-    Some(value)
-}
-
-/// `8#` and octal digits.
-#[tactic(auto, unfolding(crate::specs::Encoding::octal))]
-fn octal_at(bytes: &[u8]) -> Option<(u32, &[u8])>
-    ensures { option_map (λ x. (x.0, x.1.now)) result ≡ octal.read bytes.now }
-{
-    let (_, rest) = fixed_at(bytes, b"8#")?;
-    let (digits, rest) = regular_at(rest);
-    let value = octal_digits(digits)?;
-    Some((value, rest))
-}
-
-/// A number, in decimal or in octal digits.
-fn number_at(bytes: &[u8]) -> Option<(u32, &[u8])>
-    ensures { option_map (λ x. (x.0, x.1.now)) result ≡ number.read bytes.now }
-{
-    match decimal_at(bytes) {
-        Some(found) => Some(found),
-        None => octal_at(bytes),
-    }
-}
-
-/// A code.
-#[tactic(auto, unfolding(crate::specs::Encoding::code))]
-fn code_at(bytes: &[u8]) -> Option<(u8, &[u8])>
-    ensures { option_map (λ x. (x.0, x.1.now)) result ≡ code.read bytes.now }
-{
-    let (value, rest) = number_at(bytes)?;
-    if value > 255 {
-        return None;
-    }
-    Some((value as u8, rest))
-}
-
-/// An entry of the table.
-#[derive(Clone, Copy)]
-pub enum CodeEntry<'a> {
-    /// A code that is given a name.
-    Put(u8, &'a [u8]),
-    /// The names of so many codes from one on, which are put at the codes from another one on.
-    Copy(u16, u16, u16),
-}
-
-/// A code and its name.
-#[tactic(auto, unfolding(crate::specs::Encoding::put_entry))]
-fn put_at(bytes: &[u8], dialect: Dialect) -> Option<(CodeEntry<'_>, &[u8])>
-    ensures value { option_map (λ x. (code_entry_view x.0, x.1.now)) result
-        ≡ (put_entry dialect).read bytes.now }
-    ensures within { IfSome result (λ x. within_codes (code_entry_view x.0) ≡ true) }
-{
-    let (_, rest) = dialect.white_at(bytes);
-    let (_, rest) = keyword_at(rest, b"dup")?;
-    let (_, rest) = dialect.gap_at(rest)?;
-    let (code, rest) = code_at(rest)?;
-    let (_, rest) = dialect.white_at(rest);
-    let (name, rest) = name_at(rest)?;
-    let (_, rest) = dialect.gap_at(rest)?;
-    let (_, rest) = keyword_at(rest, b"put")?;
-    Some((CodeEntry::Put(code, name), rest))
-}
-
-/// `dup dup`, which begins a copy.
-fn copy_start_at(bytes: &[u8], dialect: Dialect) -> Option<(&[u8], &[u8])>
-    ensures { option_map (λ x. (x.0.now, x.1.now)) result ≡ (copy_start dialect).read bytes.now }
-{
-    let (_, rest) = dialect.white_at(bytes);
-    let (_, rest) = keyword_at(rest, b"dup")?;
-    let (_, rest) = dialect.gap_at(rest)?;
-    let (_, rest) = keyword_at(rest, b"dup")?;
-    dialect.gap_at(rest)
-}
-
-/// The copy of one code's name.
-#[tactic(auto, unfolding(crate::specs::Encoding::one_copy))]
-fn one_copy_at(bytes: &[u8], dialect: Dialect) -> Option<(CodeEntry<'_>, &[u8])>
-    ensures value { option_map (λ x. (code_entry_view x.0, x.1.now)) result
-        ≡ (one_copy dialect).read bytes.now }
-    ensures within { IfSome result (λ x. within_codes (code_entry_view x.0) ≡ true) }
-{
-    let (_, rest) = copy_start_at(bytes, dialect)?;
-    let (to, rest) = code_at(rest)?;
-    let (_, rest) = dialect.gap_at(rest)?;
-    let (_, rest) = keyword_at(rest, b"exch")?;
-    let (_, rest) = dialect.gap_at(rest)?;
-    let (from, rest) = code_at(rest)?;
-    let (_, rest) = dialect.gap_at(rest)?;
-    let (_, rest) = keyword_at(rest, b"get")?;
-    let (_, rest) = dialect.gap_at(rest)?;
-    let (_, rest) = keyword_at(rest, b"put")?;
-    Some((CodeEntry::Copy(from as u16, 1, to as u16), rest))
-}
-
-/// The range of codes whose names are copied.
-#[tactic(auto, unfolding(crate::specs::Encoding::copied_range))]
-fn copied_range_at(bytes: &[u8], dialect: Dialect) -> Option<(u32, u32, &[u8])>
-    ensures { option_map (λ x. ((x.0, x.1), x.2.now)) result ≡ (copied_range dialect).read bytes.now }
-{
-    let (_, rest) = copy_start_at(bytes, dialect)?;
-    let (from, rest) = number_at(rest)?;
-    let (_, rest) = dialect.gap_at(rest)?;
-    let (count, rest) = number_at(rest)?;
-    let (_, rest) = dialect.gap_at(rest)?;
-    let (_, rest) = keyword_at(rest, b"getinterval")?;
-    Some((from, count, rest))
-}
-
-/// Whether so many codes from one on are codes.
-fn are_codes(from: u32, count: u32) -> bool
-    ensures { result ≡ are_codes from count }
-{
-    from <= CODES as u32 && count <= CODES as u32 - from
-}
-
-/// The copy of the names of a range of codes.
-#[tactic(auto, unfolding(crate::specs::Encoding::copy_of_range))]
-fn range_copy_at(bytes: &[u8], dialect: Dialect) -> Option<(CodeEntry<'_>, &[u8])>
-    ensures value { option_map (λ x. (code_entry_view x.0, x.1.now)) result
-        ≡ (range_copy dialect).read bytes.now }
-    ensures within { IfSome result (λ x. within_codes (code_entry_view x.0) ≡ true) }
-{
-    let (from, count, rest) = copied_range_at(bytes, dialect)?;
-    let (_, rest) = dialect.gap_at(rest)?;
-    let (to, rest) = number_at(rest)?;
-    let (_, rest) = dialect.gap_at(rest)?;
-    let (_, rest) = keyword_at(rest, b"exch")?;
-    let (_, rest) = dialect.gap_at(rest)?;
-    let (_, rest) = keyword_at(rest, b"putinterval")?;
-    if !are_codes(from, count) || !are_codes(to, count) {
-        return None;
-    }
-    Some((CodeEntry::Copy(from as u16, count as u16, to as u16), rest))
-}
-
-/// An entry of the table. Only a wide one may be a copy.
-fn code_entry_at(bytes: &[u8], dialect: Dialect) -> Option<(CodeEntry<'_>, &[u8])>
-    ensures value { option_map (λ x. (code_entry_view x.0, x.1.now)) result
-        ≡ (code_entry dialect).read bytes.now }
-    ensures within { IfSome result (λ x. within_codes (code_entry_view x.0) ≡ true) }
-{
-    if let Some(found) = put_at(bytes, dialect) {
-        return Some(found);
-    }
-    match dialect {
-        Dialect::Strict => None,
-        Dialect::Wide => match one_copy_at(bytes, dialect) {
-            Some(found) => Some(found),
-            None => range_copy_at(bytes, dialect),
-        },
-    }
-}
 
 /// `readonly` and the white space after it, if they are there.
 fn after_readonly(bytes: &[u8], dialect: Dialect) -> &[u8]
@@ -356,76 +191,6 @@ fn encoding_start_at(bytes: &[u8], dialect: Dialect) -> Option<(Opening<'_>, &[u
     }
     let (_, rest) = array_start_at(bytes, dialect)?;
     Some((Opening::Names, rest))
-}
-
-/// The names of so many codes from one on.
-fn names_in<'a>(
-    alloc: Global,
-    from: u16,
-    count: u16,
-    gathered: &Gathered<'a>,
-) -> Result<Vec<&'a [u8]>, AllocError>
-    requires { from + count ≤ 256 }
-    ensures { IfOk result (λ v. map (λ n. n.now) v.items ≡ names_in gathered.now.codes from count) }
-{
-    let mut names = Vec::new(alloc);
-    'names: for i in 0..count {
-        names.push(gathered.name_at(from + i))?;
-    }
-    Ok(names)
-}
-
-/// Puts names at the codes from one on.
-fn put_names<'a>(
-    to: u16,
-    names: &[&'a [u8]],
-    gathered: &mut Gathered<'a>,
-) -> Result<(), AllocError>
-    requires { to + length names.now ≤ 256 }
-    ensures kept { OnOk result (gathered.new.codes
-        ≡ named_from gathered.old.codes to (map (λ n. n.now) names.now)) }
-    ensures others { OnOk result (CodesAlone gathered.old gathered.new) }
-{
-    'names: for i in 0..names.len() {
-        gathered.keep_code((to + i as u16) as u8, names[i])?;
-    }
-    Ok(())
-}
-
-/// Puts the names of so many codes from one on at the codes from another one on.
-fn copy_codes(
-    alloc: Global,
-    from: u16,
-    count: u16,
-    to: u16,
-    gathered: &mut Gathered<'_>,
-) -> Result<(), AllocError>
-    requires from { from + count ≤ 256 }
-    requires to { to + count ≤ 256 }
-    ensures kept { OnOk result (gathered.new.codes
-        ≡ kept_by gathered.old.codes (Copy from count to)) }
-    ensures others { OnOk result (CodesAlone gathered.old gathered.new) }
-{
-    gathered.settle_codes()?;
-    let names = names_in(alloc, from, count, gathered)?;
-    put_names(to, names.as_slice(), gathered)
-}
-
-/// Keeps what an entry of the table puts.
-fn keep_entry<'a>(
-    alloc: Global,
-    entry: CodeEntry<'a>,
-    gathered: &mut Gathered<'a>,
-) -> Result<(), AllocError>
-    requires { within_codes (code_entry_view entry) ≡ true }
-    ensures kept { OnOk result (gathered.new.codes
-        ≡ kept_by gathered.old.codes (code_entry_view entry.entry)) }
-    ensures others { OnOk result (CodesAlone gathered.old gathered.new) }
-{
-    match entry {
-        CodeEntry::Put(code, name) => gathered.keep_code(code, name),
-        CodeEntry::Copy(from, count, to) => copy_codes(alloc, from, count, to, gathered),
-    }
 }
 
 /// The entries of the table, kept, and what stands after their close.

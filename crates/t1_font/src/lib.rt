@@ -10,10 +10,14 @@
 //! let canonical = write(alloc, &font, Form::Pfb)?;
 //! ```
 //!
+//! [`read_wide`] reads fonts that other programs spell, too: with comments in the Encoding and among Subrs, with codes that are
+//! copied, and with `readonly` behind a word that is the whole Encoding.
+//!
 //! The specifications speak of a font as a `FontValue` (`specs/FontValue.antt`), and of reading as a relation, `Spells`,
 //! and as a function, `read_font`; laws tie the two together.
 #![tactic(auto)]
 
+mod code_entry;
 mod cut;
 mod dialect;
 mod encoding;

@@ -3,7 +3,8 @@
 ghost use Rattle.std.specs.Prelude.{◌≡◌, ℕ, List, codes};
 ghost use Rattle.std.specs.Option.{option_map};
 ghost use Rattle.t1_grammar.specs.Grammar.{Grammar, first, Begins};
-ghost use Rattle.t1_font.specs.Markers.{white_comes, break_comes, encoding_marker, subrs_marker, chars_marker, len_iv_marker, len_iv, closefile, encoding_begins, subrs_begins, chars_begins, len_iv_begins, closefile_begins};
+ghost use Rattle.t1_font.specs.Markers.{white_comes, break_comes, encoding_marker, subrs_marker, chars_marker, len_iv_marker, len_iv, closefile};
+ghost use Rattle.t1_font.specs.Markers.{encoding_begins, subrs_begins, chars_begins, len_iv_begins, closefile_begins};
 
 use crate::words::{decimal_at, is_regular, keyword_at};
 use t1_bytes::texts::{find_from, fixed_at, gap_at, is_white, white_at};

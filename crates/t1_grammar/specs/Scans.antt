@@ -59,7 +59,8 @@ module _ {S : Type 0} (step : S → ℕ → Option S) where
     pub scan_takes : (bytes : List ℕ) (x : List ℕ × List ℕ) → read_scan bytes ≡ Some x → Front SpellsScan bytes x
     scan_takes bytes x e =
         let n = taken start bytes in
-        subst (Front SpellsScan bytes) (same_Some (take n bytes, drop n bytes) x e) (take n bytes, sym (take-append-drop n bytes), (refl, taken_goes start bytes))
+        subst (Front SpellsScan bytes) (same_Some (take n bytes, drop n bytes) x e)
+        (take n bytes, sym (take-append-drop n bytes), (refl, taken_goes start bytes))
 
     pub scan_again : (a text rest : List ℕ) → SpellsScan a text rest → read_scan (text ++ rest) ≡ Some (a, rest)
     scan_again a text rest s =

@@ -54,12 +54,14 @@ module _ (xs ys : List (Meaning × Meaning)) (moved : IsPermutation xs ys) (apar
   found_again q v h = lookup-from_Contains laws q v ys still (Contains-permutation xs ys (q, v) moved (Contains-from_lookup one_key q v xs h))
 
   found_before : (q v : Meaning) → lookup (eq_by_cmp meaning_cmp q) ys ≡ Some v → lookup (eq_by_cmp meaning_cmp q) xs ≡ Some v
-  found_before q v h = lookup-from_Contains laws q v xs apart (Contains-permutation ys xs (q, v) (IsPermutation-sym xs ys moved) (Contains-from_lookup one_key q v ys h))
+  found_before q v h =
+      lookup-from_Contains laws q v xs apart (Contains-permutation ys xs (q, v) (IsPermutation-sym xs ys moved) (Contains-from_lookup one_key q v ys h))
 
   found_alike : (q : Meaning) → lookup (eq_by_cmp meaning_cmp q) ys ≡ lookup (eq_by_cmp meaning_cmp q) xs
   found_alike q = by (lookup (eq_by_cmp meaning_cmp q) ys) refl (lookup (eq_by_cmp meaning_cmp q) xs) refl
     where
-      by : (a : Option Meaning) → lookup (eq_by_cmp meaning_cmp q) ys ≡ a → (b : Option Meaning) → lookup (eq_by_cmp meaning_cmp q) xs ≡ b → lookup (eq_by_cmp meaning_cmp q) ys ≡ lookup (eq_by_cmp meaning_cmp q) xs
+      by : (a : Option Meaning) → lookup (eq_by_cmp meaning_cmp q) ys ≡ a → (b : Option Meaning) → lookup (eq_by_cmp meaning_cmp q) xs ≡ b →
+          lookup (eq_by_cmp meaning_cmp q) ys ≡ lookup (eq_by_cmp meaning_cmp q) xs
       by (Some v) h b k = h ∙ sym (found_before q v h)
       by None h (Some w) k = found_again q w k ∙ sym k
       by None h None k = h ∙ sym k
@@ -70,7 +72,8 @@ table_of xs ys moved rises =
     let still : KeysDiffer ys = IsDistinct-from_sorted meaning_cmp (keys_of ys) (rising_keys meaning_cmp ys rises) in
     let apart : KeysDiffer xs = still_apart ys xs (IsPermutation-sym xs ys moved) still in record {
       differ = apart;
-      table = same_table _ _ (λ q. fin.get-from_sorted meaning_cmp ys q rises ∙ find_is q ys ∙ found_alike xs ys moved apart still q ∙ sym (find_is q xs) ∙ sym (fin.get-from_entries nat_list_cmp_total xs q));
+      table = same_table _ _ (λ q. fin.get-from_sorted meaning_cmp ys q rises ∙ find_is q ys
+          ∙ found_alike xs ys moved apart still q ∙ sym (find_is q xs) ∙ sym (fin.get-from_entries nat_list_cmp_total xs q));
     }
 
 -- whether the order is less
@@ -91,11 +94,13 @@ no_keys_rise R = tt
 get_key : {K V : Type 0} (es : List (K × V)) (k : ℕ) (d : K × V) → get_or (keys_of es) k d.0 ≡ (get_or es k d).0
 get_key es k d = get_or-map (λ e. e.0) es k d
 
-get_meaning : {K V : Type 0} (f : K → Meaning) (g : V → Meaning) (es : List (K × V)) (k : ℕ) (d : K × V) → get_or (keys_of (entry_meanings f g es)) k (f d.0) ≡ f (get_or es k d).0
+get_meaning : {K V : Type 0} (f : K → Meaning) (g : V → Meaning) (es : List (K × V)) (k : ℕ) (d : K × V) →
+    get_or (keys_of (entry_meanings f g es)) k (f d.0) ≡ f (get_or es k d).0
 get_meaning f g es k d = get_key (entry_meanings f g es) k (f d.0, g d.1) ∙ ap (λ e. e.0) (get_or-map (pair_meaning f g) es k d)
 
 -- each key that rises is below the next
-rise_at : {K : Type 0} (R : K → K → Ordering) (ks : List K) (k : ℕ) (d : K) → IsStrictlySortedBy R ks → suc k < length ks → R (get_or ks k d) (get_or ks (suc k) d) ≡ Less
+rise_at : {K : Type 0} (R : K → K → Ordering) (ks : List K) (k : ℕ) (d : K) → IsStrictlySortedBy R ks → suc k < length ks →
+    R (get_or ks k d) (get_or ks (suc k) d) ≡ Less
 unfolding IsStrictlySortedBy
 rise_at R [] k d h b = absurd (omega arith)
 rise_at R (x ∷ []) k d h b = absurd (omega arith)
@@ -110,18 +115,22 @@ apart_at e (x ∷ y ∷ ks) zero d h b = (IsDistinct-head e x (y ∷ ks) h).0
 apart_at e (x ∷ y ∷ ks) (suc k) d h b = apart_at e (y ∷ ks) k d (IsDistinct-tail e x (y ∷ ks) h) (omega arith)
 
 -- where each two neighbours rise, all keys do
-pub rise_from_neighbours : {K V : Type 0} {R : K → K → Ordering} → IsTotalOrder R → (es : List (K × V)) (r : Bool) → r ≡ true → IsAllAdjacentAnswer (λ x y b. b ≡ is_less (R x.0 y.0)) es r → IsStrictlySortedBy R (keys_of es)
+pub rise_from_neighbours : {K V : Type 0} {R : K → K → Ordering} → IsTotalOrder R → (es : List (K × V)) (r : Bool) →
+    r ≡ true → IsAllAdjacentAnswer (λ x y b. b ≡ is_less (R x.0 y.0)) es r → IsStrictlySortedBy R (keys_of es)
 rise_from_neighbours {R = R} o [] r t h = no_keys_rise R
 rise_from_neighbours {R = R} o (e ∷ es) true t h =
-    sorted_from_all_adjacent o (keys_of (e ∷ es)) e.0 (λ k below. rw (get_key (e ∷ es) k e, get_key (e ∷ es) (k + 1) e) (less_is _ (h k e (rw length-keys_of at below))))
+    sorted_from_all_adjacent o (keys_of (e ∷ es)) e.0
+    (λ k below. rw (get_key (e ∷ es) k e, get_key (e ∷ es) (k + 1) e) (less_is _ (h k e (rw length-keys_of at below))))
 rise_from_neighbours o (e ∷ es) false t h = cc
 
-next_rises : {K V : Type 0} (R : K → K → Ordering) (e : K × V) (es : List (K × V)) (k : ℕ) → IsStrictlySortedBy R (keys_of (e ∷ es)) → k + 1 < length (e ∷ es) → R (get_or (e ∷ es) k e).0 (get_or (e ∷ es) (k + 1) e).0 ≡ Less
+next_rises : {K V : Type 0} (R : K → K → Ordering) (e : K × V) (es : List (K × V)) (k : ℕ) → IsStrictlySortedBy R (keys_of (e ∷ es)) → k + 1 < length (e ∷ es) →
+    R (get_or (e ∷ es) k e).0 (get_or (e ∷ es) (k + 1) e).0 ≡ Less
 next_rises R e es k rise b =
     rw (← get_key (e ∷ es) k e, ← get_key (e ∷ es) (k + 1) e, add-one k) (rise_at R (keys_of (e ∷ es)) k e.0 rise (rw length-keys_of (omega arith)))
 
 -- and only there
-pub neighbours_rise : {K V : Type 0} (R : K → K → Ordering) (es : List (K × V)) (r : Bool) → IsAllAdjacentAnswer (λ x y b. b ≡ is_less (R x.0 y.0)) es r → IsStrictlySortedBy R (keys_of es) → r ≡ true
+pub neighbours_rise : {K V : Type 0} (R : K → K → Ordering) (es : List (K × V)) (r : Bool) →
+    IsAllAdjacentAnswer (λ x y b. b ≡ is_less (R x.0 y.0)) es r → IsStrictlySortedBy R (keys_of es) → r ≡ true
 neighbours_rise R es true t rise = refl
 neighbours_rise R [] false t rise = absurd (omega (arith, t.1))
 neighbours_rise R (e ∷ es) false t rise = t.2 e ∙ ap is_less (next_rises R e es t.0 rise t.1)
@@ -135,13 +144,16 @@ less_of Greater Equal e h k = cc
 less_of Greater Greater e h k = cc
 
 module _ {K V : Type 0} (f : K → Meaning) (g : V → Meaning) (R : K → K → Ordering) (by : (x y : K) → R x y ≡ meaning_cmp (f x) (f y)) where
-  next_apart : (e : K × V) (es : List (K × V)) (k : ℕ) → KeysDiffer (entry_meanings f g (e ∷ es)) → k + 1 < length (e ∷ es) → is_eq (R (get_or (e ∷ es) k e).0 (get_or (e ∷ es) (k + 1) e).0) ≡ false
+  next_apart : (e : K × V) (es : List (K × V)) (k : ℕ) → KeysDiffer (entry_meanings f g (e ∷ es)) → k + 1 < length (e ∷ es) →
+      is_eq (R (get_or (e ∷ es) k e).0 (get_or (e ∷ es) (k + 1) e).0) ≡ false
   next_apart e es k apart b =
       ap is_eq (by _ _)
-      ∙ (rw (← get_meaning f g (e ∷ es) k e, ← get_meaning f g (e ∷ es) (k + 1) e, add-one k) (apart_at (eq_by_cmp meaning_cmp) (keys_of (entry_meanings f g (e ∷ es))) k (f e.0) apart (rw (length-keys_of, length-map) (omega arith))))
+      ∙ (rw (← get_meaning f g (e ∷ es) k e, ← get_meaning f g (e ∷ es) (k + 1) e, add-one k)
+      (apart_at (eq_by_cmp meaning_cmp) (keys_of (entry_meanings f g (e ∷ es))) k (f e.0) apart (rw (length-keys_of, length-map) (omega arith))))
 
   -- keys that ascend and differ in their meanings rise
-  pub rise_from_sorted : IsTotalOrder R → (es : List (K × V)) → IsSortedBy (λ x y. is_lt (R x.0 y.0)) es → KeysDiffer (entry_meanings f g es) → IsStrictlySortedBy R (keys_of es)
+  pub rise_from_sorted : IsTotalOrder R → (es : List (K × V)) → IsSortedBy (λ x y. is_lt (R x.0 y.0)) es → KeysDiffer (entry_meanings f g es) →
+      IsStrictlySortedBy R (keys_of es)
   rise_from_sorted o [] up apart = no_keys_rise R
   rise_from_sorted o (e ∷ es) up apart =
       sorted_from_all_adjacent o (keys_of (e ∷ es)) e.0 (λ k below. rw (get_key (e ∷ es) k e, get_key (e ∷ es) (k + 1) e)

@@ -57,11 +57,13 @@ module _ (text : List ℕ) (u : Unsorted) (rest : List ℕ) (r : IsGathering tex
     gathered_shorter = shorter 10 rest (front, back) split
 
     -- where all keys are apart, what the text reads as depends on this line
-    this_line : Apart r.seen → entries_of text ≡ read_entry r.line r.seen (entry_of front) (λ more. read_lines (r.line + 1) more (lines_of back).0 (lines_of back).1)
+    this_line : Apart r.seen →
+        entries_of text ≡ read_entry r.line r.seen (entry_of front) (λ more. read_lines (r.line + 1) more (lines_of back).0 (lines_of back).1)
     this_line apart = r.goes_on apart ∙ ap (λ p. read_lines r.line r.seen p.0 p.1) (lines-split rest ∙ ap (first_line rest) split)
 
     module _ (e : Entry) (says : entry_of front ≡ Some e) where
-      said : (b : Bool) → list_any (same_key e) r.seen ≡ b → Apart r.seen → entries_of text ≡ cond b (Err (Repeated r.line)) (read_lines (r.line + 1) (e ∷ r.seen) (lines_of back).0 (lines_of back).1)
+      said : (b : Bool) → list_any (same_key e) r.seen ≡ b → Apart r.seen →
+          entries_of text ≡ cond b (Err (Repeated r.line)) (read_lines (r.line + 1) (e ∷ r.seen) (lines_of back).0 (lines_of back).1)
       said b h apart =
           this_line apart
           ∙ ap (λ x. read_entry r.line r.seen x (λ more. read_lines (r.line + 1) more (lines_of back).0 (lines_of back).1)) says
@@ -93,7 +95,8 @@ module _ (text : List ℕ) (u : Unsorted) (rest : List ℕ) (r : IsGathering tex
   pub gathered_cut : split_at 10 rest ≡ None → (length rest ≡ 0 → ⊥) → IsErr (listing_of text)
   gathered_cut whole more = no_listing (entries_of text) (λ es good.
       let bad : entries_of text ≡ Err (BadLine r.line) =
-      r.goes_on (r.no_fault es good) ∙ ap (λ p. read_lines r.line r.seen p.0 p.1) (lines-split rest ∙ ap (first_line rest) whole) ∙ not_ended r.line r.seen rest more in
+      r.goes_on (r.no_fault es good) ∙ ap (λ p. read_lines r.line r.seen p.0 p.1) (lines-split rest ∙ ap (first_line rest) whole)
+      ∙ not_ended r.line r.seen rest more in
       cc)
 
 abbrev test : Meaning → Meaning → Bool
@@ -101,7 +104,8 @@ test = eq_by_cmp meaning_cmp
 
 -- where keys differ, the last one differs from those before it
 to_front : (es : List (Meaning × Meaning)) (e : Meaning × Meaning) → KeysDiffer (es ++ e ∷ []) → KeysDiffer (e ∷ es)
-to_front es e h = IsDistinct-IsPermutation test (eq_by_cmp_equiv nat_list_cmp_total).symm _ _ (IsPermutation-map (λ x. x.0) (es ++ e ∷ []) (e ∷ es) (IsPermutation-to_front es e)) h
+to_front es e h = IsDistinct-IsPermutation test (eq_by_cmp_equiv nat_list_cmp_total).symm _ _
+    (IsPermutation-map (λ x. x.0) (es ++ e ∷ []) (e ∷ es) (IsPermutation-to_front es e)) h
 
 found_none : (k : Meaning) (es : List (Meaning × Meaning)) → AllByRecursion (λ y. test k y ≡ false) (keys_of es) → fin.find meaning_cmp k es ≡ None
 found_none k [] h = refl
@@ -114,10 +118,12 @@ differ_before : (es : List (Meaning × Meaning)) (e : Meaning × Meaning) → Ke
 differ_before es e h = IsDistinct-tail test e.0 (keys_of es) (to_front es e h)
 
 -- the last entry is put at its key
-pushed : (es : List (Meaning × Meaning)) (e : Meaning × Meaning) → KeysDiffer (es ++ e ∷ []) → fin.from_entries {R = meaning_cmp} (es ++ e ∷ []) ≡ fin.insert (fin.from_entries es) e.0 e.1
+pushed : (es : List (Meaning × Meaning)) (e : Meaning × Meaning) → KeysDiffer (es ++ e ∷ []) →
+    fin.from_entries {R = meaning_cmp} (es ++ e ∷ []) ≡ fin.insert (fin.from_entries es) e.0 e.1
 pushed es e h = fin.from_entries_push nat_list_cmp_total same_by_cmp es e.0 e.1 (found_none e.0 es (none_before es e h))
 
-any_last : (p : Meaning → Bool) (es : List (Meaning × Meaning)) (e : Meaning × Meaning) → list_any p (keys_of (es ++ e ∷ [])) ≡ (p e.0 || list_any p (keys_of es))
+any_last : (p : Meaning → Bool) (es : List (Meaning × Meaning)) (e : Meaning × Meaning) →
+    list_any p (keys_of (es ++ e ∷ [])) ≡ (p e.0 || list_any p (keys_of es))
 any_last p [] e = refl
 any_last p (f ∷ es) e = ap (λ b. p f.0 || b) (any_last p es e) ∙ exchanged (p f.0) (p e.0) (list_any p (keys_of es))
   where
@@ -129,7 +135,8 @@ any_last p (f ∷ es) e = ap (λ b. p f.0 || b) (any_last p es e) ∙ exchanged 
 -- the keys of one kind are those that lines of it have
 subr_seen : (i : ℕ) (v : Meaning) (es : List Entry) → list_any (same_key (subr i v)) es ≡ list_any (test (of_number i)) (keys_of (unsorted es).subrs)
 subr_seen i v [] = refl
-subr_seen i v (subr j w ∷ es) = ap (λ b. test (of_number i) (of_number j) || b) (subr_seen i v es) ∙ sym (any_last (test (of_number i)) (unsorted es).subrs (of_number j, w))
+subr_seen i v (subr j w ∷ es) =
+    ap (λ b. test (of_number i) (of_number j) || b) (subr_seen i v es) ∙ sym (any_last (test (of_number i)) (unsorted es).subrs (of_number j, w))
 subr_seen i v (glyph m w ∷ es) = subr_seen i v es
 
 glyph_seen : (n v : Meaning) (es : List Entry) → list_any (same_key (glyph n v)) es ≡ list_any (test n) (keys_of (unsorted es).glyphs)
@@ -144,9 +151,14 @@ none_any k (x ∷ ks) h = ap (λ b. b || list_any (test k) ks) h.0 ∙ none_any 
 all_apart : (es : List Entry) → KeysDiffer (unsorted es).subrs → KeysDiffer (unsorted es).glyphs → Apart es
 all_apart [] s g = tt
 all_apart (subr i v ∷ es) s g =
-    let before = (unsorted es).subrs in (subr_seen i v es ∙ none_any (of_number i) (keys_of before) (none_before before (of_number i, v) s), all_apart es (differ_before before (of_number i, v) s) g)
+    let before = (unsorted es).subrs in (
+      subr_seen i v es
+          ∙ none_any (of_number i) (keys_of before) (none_before before (of_number i, v) s),
+      all_apart es (differ_before before (of_number i, v) s) g,
+    )
 all_apart (glyph n v ∷ es) s g =
-    let before = (unsorted es).glyphs in (glyph_seen n v es ∙ none_any n (keys_of before) (none_before before (n, v) g), all_apart es s (differ_before before (n, v) g))
+    let before = (unsorted es).glyphs in
+    (glyph_seen n v es ∙ none_any n (keys_of before) (none_before before (n, v) g), all_apart es s (differ_before before (n, v) g))
 
 both_false : (a b : Bool) → (a || b) ≡ false → (a ≡ false) × (b ≡ false)
 both_false true b h = cc
@@ -174,7 +186,8 @@ all_differ (glyph n v ∷ es) h =
 
 -- a text of which a key came twice has a fault
 pub gathered_repeats : (text : List ℕ) (u : Unsorted) (rest : List ℕ) → IsGathering text u rest → ¬ AllKeysDiffer u → IsErr (listing_of text)
-gathered_repeats text u rest r twice = no_listing (entries_of text) (λ es good. twice (subst AllKeysDiffer (sym r.read) (all_differ r.seen (r.no_fault es good))))
+gathered_repeats text u rest r twice =
+    no_listing (entries_of text) (λ es good. twice (subst AllKeysDiffer (sym r.read) (all_differ r.seen (r.no_fault es good))))
 
 abbrev tables : TableMeaning → TableMeaning → ListingMeaning
 tables m n = record { subrs = m; glyphs = n }
@@ -186,7 +199,8 @@ no_entry : empty_table ≡ fin.from_entries {R = meaning_cmp} []
 no_entry = same_table _ _ (λ q. fin.get-empty meaning_cmp q ∙ sym (fin.get-from_entries nat_list_cmp_total [] q))
 
 -- the listing of entries whose keys differ has the tables of them
-listing_is : (es : List Entry) → KeysDiffer (unsorted es).subrs → KeysDiffer (unsorted es).glyphs → listing_from es ≡ tables (fin.from_entries (unsorted es).subrs) (fin.from_entries (unsorted es).glyphs)
+listing_is : (es : List Entry) → KeysDiffer (unsorted es).subrs → KeysDiffer (unsorted es).glyphs →
+    listing_from es ≡ tables (fin.from_entries (unsorted es).subrs) (fin.from_entries (unsorted es).glyphs)
 listing_is [] s g = ap (λ m. tables m m) no_entry
 listing_is (subr i v ∷ es) s g =
     let before = (unsorted es).subrs in

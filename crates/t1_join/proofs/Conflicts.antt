@@ -29,7 +29,8 @@ module _ {K X Y : Type 0} (R : K → K → Ordering) (same : X → X → Bool) (
   -- where one of the lists is used up, no conflict is met
   pub meets_nothing : (es fs : List Y) (i j : ℕ) → (length es ≤ i) ⊎ (length fs ≤ j) → Meeting es fs i j → first_met R same (map v es) (map v fs) ≡ None
   meets_nothing es fs i j (inl k) h = sym h ∙ ap (λ (a : List Y). first_met R same (map v a) (map v (drop j fs))) (drop_all i es k)
-  meets_nothing es fs i j (inr k) h = sym h ∙ ap (λ (a : List Y). first_met R same (map v (drop i es)) (map v a)) (drop_all j fs k) ∙ nothing_met (map v (drop i es))
+  meets_nothing es fs i j (inr k) h =
+      sym h ∙ ap (λ (a : List Y). first_met R same (map v (drop i es)) (map v a)) (drop_all j fs k) ∙ nothing_met (map v (drop i es))
 
 -- ---- what a pass over lists whose keys rise says of their maps
 
@@ -66,28 +67,42 @@ module _ {K X : Type 0} {R : K → K → Ordering} (o : IsTotalOrder R) (same : 
   carried a b (Some k) e h = (e k ∙ h.0, λ p l. e p ∙ h.1 p l)
 
   -- the first entry is met rightly if the others are
-  says_met : (e : K × X) (es fs : List (K × X)) → T (below_all R e.0 es) → Rises R fs → ((gs : List (K × X)) → Rises R gs → Says R (agree_at es gs) (first_met R same es gs)) → Says R (agree_at (e ∷ es) fs) (met R same e (first_met R same es) fs)
+  says_met : (e : K × X) (es fs : List (K × X)) → T (below_all R e.0 es) → Rises R fs →
+      ((gs : List (K × X)) → Rises R gs → Says R (agree_at es gs) (first_met R same es gs)) →
+      Says R (agree_at (e ∷ es) fs) (met R same e (first_met R same es) fs)
   says_met e es [] b h k = λ q. nothing_right (find R q (e ∷ es))
   says_met e es (f ∷ fs) b h k =
       let fb = (both_true _ _ h).0 in
       let fr = (both_true _ _ h).1 in
-      elim (R e.0 f.0) as (λ r. R e.0 f.0 ≡ r → Says R (agree_at (e ∷ es) (f ∷ fs)) (by_order r (first_met R same es (f ∷ fs)) (cond (same e.1 f.1) (first_met R same es fs) (Some e.0)) (met R same e (first_met R same es) fs))) [
-        | Less ↦ λ p. carried _ _ _ (λ q. by_case (is_eq (R q e.0)) (λ t. both_agree same (cond t (Some e.1) (find R q es)) (find R q (f ∷ fs)) ≡ both_agree same (find R q es) (find R q (f ∷ fs)))
-            (λ t. let none = find_below o q (f ∷ fs) (make_both _ _ (is_lt_from (o.congr q e.0 f.0 (tied _ t) ∙ p)) (below_tied o q e.0 fs (tied _ t) (Below-less o e.0 f.0 fs p fb))) in
+      elim (R e.0 f.0) as (λ r. R e.0 f.0 ≡ r → Says R (agree_at (e ∷ es) (f ∷ fs))
+      (by_order r (first_met R same es (f ∷ fs)) (cond (same e.1 f.1) (first_met R same es fs) (Some e.0)) (met R same e (first_met R same es) fs))) [
+        | Less ↦ λ p. carried _ _ _ (λ q. by_case (is_eq (R q e.0))
+            (λ t. both_agree same (cond t (Some e.1) (find R q es)) (find R q (f ∷ fs)) ≡ both_agree same (find R q es) (find R q (f ∷ fs)))
+            (λ t. let none = find_below o q (f ∷ fs)
+            (make_both _ _ (is_lt_from (o.congr q e.0 f.0 (tied _ t) ∙ p)) (below_tied o q e.0 fs (tied _ t) (Below-less o e.0 f.0 fs p fb))) in
             (λ i. both_agree same (Some e.1) (none i)) ∙ (λ i. both_agree same (sym (find_below o q es (below_tied o q e.0 es (tied _ t) b)) i) (sym none i)))
             (λ t. refl)) (k (f ∷ fs) h)
         | Greater ↦ λ p.
             let less : R f.0 e.0 ≡ Less = o.antisymm f.0 e.0 ∙ ap ordering_reverse p in
-            carried _ _ _ (λ q. by_case (is_eq (R q f.0)) (λ t. both_agree same (find R q (e ∷ es)) (cond t (Some f.1) (find R q fs)) ≡ both_agree same (find R q (e ∷ es)) (find R q fs))
-            (λ t. let none = find_below o q (e ∷ es) (make_both _ _ (is_lt_from (o.congr q f.0 e.0 (tied _ t) ∙ less)) (below_tied o q f.0 es (tied _ t) (Below-less o f.0 e.0 es less b))) in
+            carried _ _ _ (λ q. by_case (is_eq (R q f.0))
+            (λ t. both_agree same (find R q (e ∷ es)) (cond t (Some f.1) (find R q fs)) ≡ both_agree same (find R q (e ∷ es)) (find R q fs))
+            (λ t. let none = find_below o q (e ∷ es)
+            (make_both _ _ (is_lt_from (o.congr q f.0 e.0 (tied _ t) ∙ less)) (below_tied o q f.0 es (tied _ t) (Below-less o f.0 e.0 es less b))) in
             (λ i. both_agree same (none i) (Some f.1)) ∙ (λ i. both_agree same (sym none i) (find R q fs)))
             (λ t. refl)) (says_met e es fs b fr k)
         | Equal ↦ λ p.
             let fb' = below_tied o e.0 f.0 fs p fb in
-            let here : (q : K) (t : Bool) → is_eq (R q e.0) ≡ t → both_agree same (find R q (e ∷ es)) (find R q (f ∷ fs)) ≡ both_agree same (cond t (Some e.1) (find R q es)) (cond t (Some f.1) (find R q fs)) = λ q t s. (λ i. both_agree same (cond (s i) (Some e.1) (find R q es)) (cond ((ap is_eq (sym (alike_right o e.0 f.0 q p)) ∙ s) i) (Some f.1) (find R q fs))) in
+            let here : (q : K) (t : Bool) → is_eq (R q e.0) ≡ t → both_agree same (find R q (e ∷ es)) (find R q (f ∷ fs))
+            ≡ both_agree same (cond t (Some e.1) (find R q es)) (cond t (Some f.1) (find R q fs)) = λ q t s. (λ i. both_agree same
+            (cond (s i) (Some e.1) (find R q es)) (cond ((ap is_eq (sym (alike_right o e.0 f.0 q p)) ∙ s) i) (Some f.1) (find R q fs))) in
             by_case (same e.1 f.1) (λ w. Says R (agree_at (e ∷ es) (f ∷ fs)) (cond w (first_met R same es fs) (Some e.0)))
-            (λ w. carried _ _ _ (λ q. by_case (is_eq (R q e.0)) (λ _. agree_at (e ∷ es) (f ∷ fs) q ≡ agree_at es fs q) (λ t. here q true t ∙ w ∙ (λ i. both_agree same (sym (find_below o q es (below_tied o q e.0 es (tied _ t) b)) i) (find R q fs))) (λ t. here q false t)) (k fs fr))
-            (λ w. (here e.0 true (ap is_eq (tied_itself o e.0)) ∙ w, λ q l. here q false (ap is_eq l) ∙ ap (λ (y : Option X). both_agree same y (find R q fs)) (find_below o q es (Below-less o q e.0 es l b))))
+            (λ w. carried _ _ _ (λ q. by_case (is_eq (R q e.0)) (λ _. agree_at (e ∷ es) (f ∷ fs) q ≡ agree_at es fs q) (λ t. here q true t ∙ w
+            ∙ (λ i. both_agree same (sym (find_below o q es (below_tied o q e.0 es (tied _ t) b)) i) (find R q fs))) (λ t. here q false t)) (k fs fr))
+            (λ w. (
+              here e.0 true (ap is_eq (tied_itself o e.0))
+                  ∙ w,
+              λ q l. here q false (ap is_eq l) ∙ ap (λ (y : Option X). both_agree same y (find R q fs)) (find_below o q es (Below-less o q e.0 es l b)),
+            ))
       ] refl
 
   -- and so for the whole of both
@@ -102,18 +117,26 @@ alike None y = refl
 alike (Some v) None = refl
 alike (Some v) (Some w) = refl
 
-module _ {B : Type 0} (f : B → Meaning) (es fs : List (Meaning × Meaning)) (m n : TableMeaning) (g : Rises meaning_cmp es) (h : Rises meaning_cmp fs) (is_m : from_sorted es ≡ m) (is_n : from_sorted fs ≡ n) where
+module _ {B : Type 0} (f : B → Meaning) (es fs : List (Meaning × Meaning)) (m n : TableMeaning)
+    (g : Rises meaning_cmp es) (h : Rises meaning_cmp fs) (is_m : from_sorted es ≡ m) (is_n : from_sorted fs ≡ n) where
   agreed : (q : Meaning) → states_agree (get m q) (get n q) ≡ both_agree same_meaning (find meaning_cmp q es) (find meaning_cmp q fs)
   agreed q =
-      (λ i. states_agree (get (sym is_m i) q) (get (sym is_n i) q)) ∙ (λ i. states_agree (get-from_sorted meaning_cmp es q g i) (get-from_sorted meaning_cmp fs q h i)) ∙ sym (alike (find meaning_cmp q es) (find meaning_cmp q fs))
+      (λ i. states_agree (get (sym is_m i) q) (get (sym is_n i) q))
+      ∙ (λ i. states_agree (get-from_sorted meaning_cmp es q g i) (get-from_sorted meaning_cmp fs q h i))
+      ∙ sym (alike (find meaning_cmp q es) (find meaning_cmp q fs))
 
   -- what the pass over two tables meets is their first conflict, and they join where it meets none
-  pub conflict_is : (r : Option B) → option_map f r ≡ first_met meaning_cmp same_meaning es fs → MatchOption r (TablesAgree m n) (λ k. IsFirstConflict m n (f k))
+  pub conflict_is : (r : Option B) → option_map f r ≡ first_met meaning_cmp same_meaning es fs →
+      MatchOption r (TablesAgree m n) (λ k. IsFirstConflict m n (f k))
   conflict_is None is =
-      let says : Says meaning_cmp (λ q. both_agree same_meaning (find meaning_cmp q es) (find meaning_cmp q fs)) None = subst (λ (k : Option Meaning). Says meaning_cmp (λ q. both_agree same_meaning (find meaning_cmp q es) (find meaning_cmp q fs)) k) (sym is) (says_first nat_list_cmp_total same_meaning es fs g h) in
+      let says : Says meaning_cmp (λ q. both_agree same_meaning (find meaning_cmp q es) (find meaning_cmp q fs)) None =
+      subst (λ (k : Option Meaning). Says meaning_cmp (λ q. both_agree same_meaning (find meaning_cmp q es) (find meaning_cmp q fs)) k)
+      (sym is) (says_first nat_list_cmp_total same_meaning es fs g h) in
       λ q. agreed q ∙ says q
   conflict_is (Some k) is =
-      let says : Says meaning_cmp (λ q. both_agree same_meaning (find meaning_cmp q es) (find meaning_cmp q fs)) (Some (f k)) = subst (λ (k : Option Meaning). Says meaning_cmp (λ q. both_agree same_meaning (find meaning_cmp q es) (find meaning_cmp q fs)) k) (sym is) (says_first nat_list_cmp_total same_meaning es fs g h) in
+      let says : Says meaning_cmp (λ q. both_agree same_meaning (find meaning_cmp q es) (find meaning_cmp q fs)) (Some (f k)) =
+      subst (λ (k : Option Meaning). Says meaning_cmp (λ q. both_agree same_meaning (find meaning_cmp q es) (find meaning_cmp q fs)) k)
+      (sym is) (says_first nat_list_cmp_total same_meaning es fs g h) in
       record { differs = λ a. true≢false (sym a ∙ agreed (f k) ∙ says.0); first = λ p l. agreed p ∙ says.1 p l }
 
 -- a key that is copied from a borrow stays the same

@@ -1,5 +1,6 @@
 -- Digits, and the bytes that they spell.
-use Rattle.std.proofs.Common.{◌≡◌, ◌↔◌, ◌<◌, ◌+◌, ◌*◌, ◌/◌, ◌%◌, ℕ, refl, sym, ◌∙◌, ap, List, [], ◌∷◌, length, map, cond, Bool, true, false, true≢false, inl, inr, eqb, Option, None, Some, is_some, Result, Ok, Err, nat_le, arith}
+use Rattle.std.proofs.Common.{◌≡◌, ◌↔◌, ◌<◌, ◌+◌, ◌*◌, ◌/◌, ◌%◌, ℕ, refl, sym, ◌∙◌, ap, List, [], ◌∷◌, length, map, cond, Bool, true, false, true≢false, inl}
+use Rattle.std.proofs.Common.{inr, eqb, Option, None, Some, is_some, Result, Ok, Err, nat_le, arith}
 use Rattle.std.specs.Prelude.{slice_index}
 use Rattle.std.specs.Bool.{IsTrue}
 use Rattle.std.specs.Result.{result_ok, result_unwrap_or}
@@ -25,7 +26,8 @@ SpellsBytes d = is_some (bytes_of d) ≡ true
 decodes : (d : List ℕ) → SpellsBytes d → (v : List ℕ) × (decode_of d ≡ Ok v) × (spelled d ≡ v)
 decodes d h = by (nat_le (length d) 131070) refl (decode_of d) refl h
   where
-    by : (b : Bool) → nat_le (length d) 131070 ≡ b → (r : Result (List ℕ) FromHexError) → decode_of d ≡ r → is_some (cond b (result_ok r) None) ≡ true → (v : List ℕ) × (decode_of d ≡ Ok v) × (spelled d ≡ v)
+    by : (b : Bool) → nat_le (length d) 131070 ≡ b → (r : Result (List ℕ) FromHexError) → decode_of d ≡ r → is_some (cond b (result_ok r) None) ≡ true →
+        (v : List ℕ) × (decode_of d ≡ Ok v) × (spelled d ≡ v)
     by true t (Ok v) e h = (v, e, rw (t, e) refl)
     by true t (Err x) e h = cc h
     by false t r e h = cc h
@@ -63,7 +65,8 @@ lower_again i [] bytes h = let e : [] ≡ bytes = ok_same [] bytes h in rw (← 
 lower_again i (a ∷ []) bytes h = cc h
 lower_again i (a ∷ b ∷ rest) bytes h = by (lower_again (i + 2) rest) (hex_digit_value a) (hex_digit_value b) (decode_pairs (i + 2) rest) refl refl refl h
   where
-    by : ((more : List ℕ) → decode_pairs (i + 2) rest ≡ Ok more → map to_ascii_lowercase rest ≡ encode_lower more) → (x y : Option ℕ) (r : Result (List ℕ) FromHexError) → hex_digit_value a ≡ x → hex_digit_value b ≡ y → decode_pairs (i + 2) rest ≡ r
+    by : ((more : List ℕ) → decode_pairs (i + 2) rest ≡ Ok more → map to_ascii_lowercase rest ≡ encode_lower more) →
+        (x y : Option ℕ) (r : Result (List ℕ) FromHexError) → hex_digit_value a ≡ x → hex_digit_value b ≡ y → decode_pairs (i + 2) rest ≡ r
         → ((digit_or_error a i x >>= λ high. digit_or_error b (i + 1) y >>= λ low. Ok (high * 16 + low)) >>= λ byte. r >>= λ more. Ok (byte ∷ more)) ≡ Ok bytes
         → map to_ascii_lowercase (a ∷ b ∷ rest) ≡ encode_lower bytes
     by ih (Some x) (Some y) (Ok more) p q e k =
@@ -89,7 +92,8 @@ pub same_spelled : (a b : List ℕ) → SpellsBytes a → SpellsBytes b → (map
 same_spelled a b h k = (
   λ same.
       let texts : encode_lower (spelled a) ≡ encode_lower (spelled b) = sym (lowered a h) ∙ (same ∙ lowered b k) in
-      ok_same (spelled a) (spelled b) (sym (decode_of-encode_lower (spelled a) (spelled_bytes a h)) ∙ (ap decode_of texts ∙ decode_of-encode_lower (spelled b) (spelled_bytes b k))),
+      ok_same (spelled a) (spelled b)
+      (sym (decode_of-encode_lower (spelled a) (spelled_bytes a h)) ∙ (ap decode_of texts ∙ decode_of-encode_lower (spelled b) (spelled_bytes b k))),
   λ same. lowered a h ∙ (ap encode_lower same ∙ sym (lowered b k)),
 )
 
@@ -100,7 +104,8 @@ same_bool false true f g = g refl
 same_bool false false f g = refl
 
 -- two values are the same exactly where their digits are, without regard to case
-pub same_result : (a b v w : List ℕ) (r : Bool) → spelled a ≡ v → spelled b ≡ w → SpellsBytes a → SpellsBytes b → (IsTrue r ↔ (map to_ascii_lowercase a ≡ map to_ascii_lowercase b)) → r ≡ same_meaning v w
+pub same_result : (a b v w : List ℕ) (r : Bool) → spelled a ≡ v → spelled b ≡ w → SpellsBytes a →
+    SpellsBytes b → (IsTrue r ↔ (map to_ascii_lowercase a ≡ map to_ascii_lowercase b)) → r ≡ same_meaning v w
 same_result a b v w r p q h k t =
     let d = slice_eq-Decides Decides-eqb v w (same_meaning v w) refl in
     let s = same_spelled a b h k in

@@ -1,5 +1,6 @@
 -- A line that was written is read again.
-use Rattle.std.proofs.Common.{◌≡◌, ◌<◌, ◌≤◌, ◌+◌, ◌-◌, ◌*◌, ◌/◌, ◌%◌, ◌^◌, ◌==◌, ◌&&◌, ℕ, refl, sym, ◌∙◌, ap, subst, List, [], ◌∷◌, ◌++◌, length, cond, Bool, true, false, not, None, Some, nat_le, arith, suc, ◌≢◌, eq-eqb, eqb-true}
+use Rattle.std.proofs.Common.{◌≡◌, ◌<◌, ◌≤◌, ◌+◌, ◌-◌, ◌*◌, ◌/◌, ◌%◌, ◌^◌, ◌==◌, ◌&&◌, ℕ, refl, sym, ◌∙◌, ap, subst, List, [], ◌∷◌, ◌++◌, length, cond, Bool}
+use Rattle.std.proofs.Common.{true, false, not, None, Some, nat_le, arith, suc, ◌≢◌, eq-eqb, eqb-true}
 use Rattle.std.specs.Prelude.{option_and_then, slice_index}
 use Rattle.std.specs.Option.{option_map}
 use Rattle.std.specs.Result.{result_ok}
@@ -42,7 +43,8 @@ is_digit : (d : ℕ) → 48 ≤ d → d ≤ 57 → (nat_le 48 d && nat_le d 57) 
 is_digit d low high = and_from (nat_le 48 d) (nat_le d 57) (le-leb 48 d low) (le-leb d 57 high)
 
 -- one more digit
-after_push : (n m : ℕ) (w : List ℕ) (d : ℕ) → AreDigits w → 48 ≤ d → d ≤ 57 → digits_after n w ≡ Some m → digits_after n (w ++ d ∷ []) ≡ Some (m * 10 + (d - 48))
+after_push : (n m : ℕ) (w : List ℕ) (d : ℕ) → AreDigits w → 48 ≤ d → d ≤ 57 → digits_after n w ≡ Some m →
+    digits_after n (w ++ d ∷ []) ≡ Some (m * 10 + (d - 48))
 after_push n m [] d h low high e =
     let same : n ≡ m = cc in
     ap (λ t. cond t (Some (n * 10 + (d - 48))) None) (is_digit d low high) ∙ ap (λ k. Some (k * 10 + (d - 48))) same
@@ -108,8 +110,10 @@ no_hex : (v : List ℕ) → IsBytes v → No 10 (encode_lower v)
 unfolding encode_with
 no_hex [] h = tt
 no_hex (b ∷ bs) h =
-    let small : b < 256 = h 0 in
-    (digit_is_no 10 (b / 16) (omega arith) (omega arith) (omega arith), (digit_is_no 10 (b % 16) (omega arith) (omega arith) (omega arith), no_hex bs (λ i. h (suc i))))
+    let small : b < 256 = h 0 in (
+      digit_is_no 10 (b / 16) (omega arith) (omega arith) (omega arith),
+      (digit_is_no 10 (b % 16) (omega arith) (omega arith) (omega arith), no_hex bs (λ i. h (suc i))),
+    )
 
 bytes_read : (v : List ℕ) → IsValue v → bytes_of (encode_lower v) ≡ Some v
 bytes_read v h =
@@ -160,7 +164,14 @@ entry_read (glyph n v) h =
     ∙ ap (option_map (glyph n)) (bytes_read v h.1)
 
 no_line_feed : (e : Entry) → IsEntry e → No 10 (bare_line e)
-no_line_feed (subr i v) h = (refl, (refl, no_append 10 (decimal i) (32 ∷ encode_lower v) (no_digit 10 (decimal i) (omega arith) (number i (omega (arith, h.0))).made) (refl, no_hex v h.1.bytes)))
+no_line_feed (subr i v) h = (
+  refl,
+  (
+    refl,
+    no_append 10 (decimal i) (32 ∷ encode_lower v)
+        (no_digit 10 (decimal i) (omega arith) (number i (omega (arith, h.0))).made) (refl, no_hex v h.1.bytes),
+  ),
+)
 no_line_feed (glyph n v) h = (refl, (refl, no_append 10 n (32 ∷ encode_lower v) (name_no 10 n refl h.0) (refl, no_hex v h.1.bytes)))
 
 -- the line of an entry comes first

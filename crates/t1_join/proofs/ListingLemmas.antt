@@ -73,7 +73,8 @@ subr_fits p e h = by (index_of p.0) refl (bytes_of p.1) refl h
 glyph_fits : (p : List ℕ × List ℕ) (e : Entry) → glyph_of p ≡ Some e → IsEntry e
 glyph_fits p e h = by (name_of p.0) refl (bytes_of p.1) refl h
   where
-    by : (n : Option (List ℕ)) → name_of p.0 ≡ n → (v : Option (List ℕ)) → bytes_of p.1 ≡ v → option_and_then (λ w. option_map (glyph w) v) n ≡ Some e → IsEntry e
+    by : (n : Option (List ℕ)) → name_of p.0 ≡ n → (v : Option (List ℕ)) →
+        bytes_of p.1 ≡ v → option_and_then (λ w. option_map (glyph w) v) n ≡ Some e → IsEntry e
     by (Some n) a (Some v) b h =
         let s : glyph n v ≡ e = cc in
         subst IsEntry s (name_fits p.0 n a, bytes_fit p.1 v b)
@@ -86,7 +87,8 @@ entry_fits [] e h = cc
 entry_fits (kind ∷ []) e h = cc
 entry_fits (kind ∷ blank ∷ rest) e h = by (blank == 32) (kind == 83) (kind == 71) (split_at 32 rest) h
   where
-    by : (b s g : Bool) (p : Option (List ℕ × List ℕ)) → (if not b then None else if s then option_and_then subr_of p else if g then option_and_then glyph_of p else None) ≡ Some e → IsEntry e
+    by : (b s g : Bool) (p : Option (List ℕ × List ℕ)) →
+        (if not b then None else if s then option_and_then subr_of p else if g then option_and_then glyph_of p else None) ≡ Some e → IsEntry e
     by false s g p h = cc
     by true true g (Some p) h = subr_fits p e h
     by true true g None h = cc
@@ -154,13 +156,15 @@ entry_listed l (glyph n v) h e = record {
 }
 
 -- what holds of a table, with and without the entry, holds of it once the entry was added or refused
-pub table_added : {F : Type 0} (P : TableMeaning → Type 0) (old new : TableMeaning) (k v : Meaning) (r : Result Bool F) → IfOk r (λ b. MatchBool b (IsNewEntry old k v new) (IsRepeated old k new)) → OnErr r (new ≡ old) → P old → P (fin.insert old k v) → P new
+pub table_added : {F : Type 0} (P : TableMeaning → Type 0) (old new : TableMeaning) (k v : Meaning) (r : Result Bool F) →
+    IfOk r (λ b. MatchBool b (IsNewEntry old k v new) (IsRepeated old k new)) → OnErr r (new ≡ old) → P old → P (fin.insert old k v) → P new
 table_added P old new k v (Ok true) h e p q = subst P (sym h.new_entry) q
 table_added P old new k v (Ok false) h e p q = subst P (sym h.unchanged) p
 table_added P old new k v (Err x) h e p q = subst P (sym e) p
 
 -- the joined tables of two listings are those of a listing
-pub both_listed : (l r : ListingMeaning) → IsListing l → IsListing r → IsListing (record { subrs = joined_table l.subrs r.subrs; glyphs = joined_table l.glyphs r.glyphs })
+pub both_listed : (l r : ListingMeaning) → IsListing l → IsListing r →
+    IsListing (record { subrs = joined_table l.subrs r.subrs; glyphs = joined_table l.glyphs r.glyphs })
 both_listed l r h k = record {
   indices = each_joined index_key l.subrs r.subrs h.indices k.indices;
   names = each_joined name_key l.glyphs r.glyphs h.names k.names;

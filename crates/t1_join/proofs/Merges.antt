@@ -36,13 +36,15 @@ module _ {K X Y : Type 0} (R : K → K → Ordering) (v : Y → K × X) where
   rest_of xs i = take_all (length xs - i) (drop i xs) (omega (arith, length-drop i xs))
 
   -- where one list is used up, the rest of both ends the merge
-  pub ended : (es fs out : List Y) (i j : ℕ) → (length es ≤ i) ⊎ (length fs ≤ j) → Merging es fs out i j → map v ((out ++ take (length es - i) (drop i es)) ++ take (length fs - j) (drop j fs)) ≡ merge R (map v es) (map v fs)
+  pub ended : (es fs out : List Y) (i j : ℕ) → (length es ≤ i) ⊎ (length fs ≤ j) → Merging es fs out i j →
+      map v ((out ++ take (length es - i) (drop i es)) ++ take (length fs - j) (drop j fs)) ≡ merge R (map v es) (map v fs)
   ended es fs out i j (inl h) m = rw (rest_of es i, rest_of fs j) (left out (drop i es) (drop j fs) _ (inl (drop_all i es h)) m)
   ended es fs out i j (inr h) m = rw (rest_of es i, rest_of fs j) (left out (drop i es) (drop j fs) _ (inr (drop_all j fs h)) m)
 
   -- the same where copies of both rests come after what is out
   pub ended_by_copies : (es fs out : List Y) (i j : ℕ) → (length es ≤ i) ⊎ (length fs ≤ j) → Merging es fs out i j → (once twice : List Y) →
-      map v once ≡ map v out ++ map v (take (length es - i) (drop i es)) → map v twice ≡ map v once ++ map v (take (length fs - j) (drop j fs)) → map v twice ≡ merge R (map v es) (map v fs)
+      map v once ≡ map v out ++ map v (take (length es - i) (drop i es)) → map v twice ≡ map v once ++ map v (take (length fs - j) (drop j fs)) →
+      map v twice ≡ merge R (map v es) (map v fs)
   ended_by_copies es fs out i j over m once twice p q =
       q ∙ ap (λ (a : List (K × X)). a ++ map v (take (length fs - j) (drop j fs))) (p ∙ sym (map-append v out (take (length es - i) (drop i es))))
       ∙ sym (map-append v (out ++ take (length es - i) (drop i es)) (take (length fs - j) (drop j fs)))
@@ -72,7 +74,8 @@ module _ {K X : Type 0} {R : K → K → Ordering} (o : IsTotalOrder R) where
   find_below q (e ∷ es) h = ap (λ r. cond (is_eq r) (Some e.1) (find R q es)) (lt_is _ (both_true _ _ h).0) ∙ find_below q es (both_true _ _ h).1
 
   -- what is below both lists is below their merge
-  below_weave : (x : K) (e : K × X) (rest : List (K × X) → List (K × X)) (fs : List (K × X)) → R x e.0 ≡ Less → ((gs : List (K × X)) → T (below_all R x gs) → T (below_all R x (rest gs))) → T (below_all R x fs) → T (below_all R x (weave R e rest fs))
+  below_weave : (x : K) (e : K × X) (rest : List (K × X) → List (K × X)) (fs : List (K × X)) → R x e.0 ≡ Less →
+      ((gs : List (K × X)) → T (below_all R x gs) → T (below_all R x (rest gs))) → T (below_all R x fs) → T (below_all R x (weave R e rest fs))
   below_weave x e rest [] p k h = make_both _ _ (is_lt_from p) (k [] tt)
   below_weave x e rest (f ∷ fs) p k h =
       elim (R e.0 f.0) as (λ r. T (below_all R x (by_order r (e ∷ rest (f ∷ fs)) (e ∷ rest fs) (f ∷ weave R e rest fs)))) [
@@ -86,7 +89,8 @@ module _ {K X : Type 0} {R : K → K → Ordering} (o : IsTotalOrder R) where
   below_merge x (e ∷ es) fs g h = below_weave x e (merge R es) fs (lt_is _ (both_true _ _ g).0) (λ gs k. below_merge x es gs (both_true _ _ g).1 k) h
 
   -- the keys of the merge rise
-  rises_weave : (e : K × X) (es fs : List (K × X)) → T (below_all R e.0 es) → ((gs : List (K × X)) → Rises R gs → Rises R (merge R es gs)) → Rises R fs → Rises R (weave R e (merge R es) fs)
+  rises_weave : (e : K × X) (es fs : List (K × X)) → T (below_all R e.0 es) → ((gs : List (K × X)) → Rises R gs → Rises R (merge R es gs)) → Rises R fs →
+      Rises R (weave R e (merge R es) fs)
   rises_weave e es [] b k h = make_both _ _ (below_merge e.0 es [] b tt) (k [] tt)
   rises_weave e es (f ∷ fs) b k h =
       let fb = (both_true _ _ h).0 in
@@ -105,22 +109,31 @@ module _ {K X : Type 0} {R : K → K → Ordering} (o : IsTotalOrder R) where
   rises_merge (e ∷ es) fs g h = rises_weave e es fs (both_true _ _ g).0 (λ gs k. rises_merge es gs (both_true _ _ g).1 k) h
 
   -- and it finds what the first list finds, or else the second
-  found_weave : (q : K) (e : K × X) (es fs : List (K × X)) → T (below_all R e.0 es) → ((gs : List (K × X)) → Rises R gs → find R q (merge R es gs) ≡ first_of (find R q es) (find R q gs)) → Rises R fs → find R q (weave R e (merge R es) fs) ≡ first_of (find R q (e ∷ es)) (find R q fs)
+  found_weave : (q : K) (e : K × X) (es fs : List (K × X)) → T (below_all R e.0 es) →
+      ((gs : List (K × X)) → Rises R gs → find R q (merge R es gs) ≡ first_of (find R q es) (find R q gs)) → Rises R fs →
+      find R q (weave R e (merge R es) fs) ≡ first_of (find R q (e ∷ es)) (find R q fs)
   found_weave q e es [] b k h =
-      elim (is_eq (R q e.0)) as (λ t. cond t (Some e.1) (find R q (merge R es [])) ≡ first_of (cond t (Some e.1) (find R q es)) None) [ true ↦ refl | false ↦ k [] tt ]
+      elim (is_eq (R q e.0)) as (λ t. cond t (Some e.1) (find R q (merge R es [])) ≡ first_of (cond t (Some e.1) (find R q es)) None) [
+        | true ↦ refl
+        | false ↦ k [] tt
+      ]
   found_weave q e es (f ∷ fs) b k h =
-      elim (R e.0 f.0) as (λ r. R e.0 f.0 ≡ r → find R q (by_order r (e ∷ merge R es (f ∷ fs)) (e ∷ merge R es fs) (f ∷ weave R e (merge R es) fs)) ≡ first_of (find R q (e ∷ es)) (find R q (f ∷ fs))) [
-        | Less ↦ λ p. elim (is_eq (R q e.0)) as (λ t. cond t (Some e.1) (find R q (merge R es (f ∷ fs))) ≡ first_of (cond t (Some e.1) (find R q es)) (find R q (f ∷ fs))) [ true ↦ refl | false ↦ k (f ∷ fs) h ]
+      elim (R e.0 f.0) as (λ r. R e.0 f.0 ≡ r → find R q (by_order r (e ∷ merge R es (f ∷ fs)) (e ∷ merge R es fs) (f ∷ weave R e (merge R es) fs))
+      ≡ first_of (find R q (e ∷ es)) (find R q (f ∷ fs))) [
+        | Less ↦ λ p. elim (is_eq (R q e.0)) as (λ t. cond t (Some e.1) (find R q (merge R es (f ∷ fs)))
+            ≡ first_of (cond t (Some e.1) (find R q es)) (find R q (f ∷ fs))) [ true ↦ refl | false ↦ k (f ∷ fs) h ]
         | Equal ↦ λ p.
             let same : is_eq (R q f.0) ≡ is_eq (R q e.0) = ap is_eq (sym (alike_right o e.0 f.0 q p)) in
-            elim (is_eq (R q e.0)) as (λ t. is_eq (R q f.0) ≡ t → cond t (Some e.1) (find R q (merge R es fs)) ≡ first_of (cond t (Some e.1) (find R q es)) (find R q (f ∷ fs))) [
+            elim (is_eq (R q e.0))
+            as (λ t. is_eq (R q f.0) ≡ t → cond t (Some e.1) (find R q (merge R es fs)) ≡ first_of (cond t (Some e.1) (find R q es)) (find R q (f ∷ fs))) [
               | true ↦ λ s. refl
               | false ↦ λ s. k fs (both_true _ _ h).1 ∙ ap (λ t. first_of (find R q es) (cond t (Some f.1) (find R q fs))) (sym s)
             ] same
         | Greater ↦ λ p.
             let less : R f.0 e.0 ≡ Less = o.antisymm f.0 e.0 ∙ ap ordering_reverse p in
             let rest = found_weave q e es fs b k (both_true _ _ h).1 in
-            elim (R q f.0) as (λ r. R q f.0 ≡ r → cond (is_eq r) (Some f.1) (find R q (weave R e (merge R es) fs)) ≡ first_of (find R q (e ∷ es)) (cond (is_eq r) (Some f.1) (find R q fs))) [
+            elim (R q f.0) as (λ r. R q f.0 ≡ r →
+            cond (is_eq r) (Some f.1) (find R q (weave R e (merge R es) fs)) ≡ first_of (find R q (e ∷ es)) (cond (is_eq r) (Some f.1) (find R q fs))) [
               | Less ↦ λ _. rest
               | Greater ↦ λ _. rest
               | Equal ↦ λ t.
@@ -134,11 +147,13 @@ module _ {K X : Type 0} {R : K → K → Ordering} (o : IsTotalOrder R) where
   found_merge q (e ∷ es) fs g h = found_weave q e es fs (both_true _ _ g).0 (λ gs k. found_merge q es gs (both_true _ _ g).1 k) h
 
   -- the map of what one pass makes of the entries of two maps
-  pub merged_from_sorted : IsAntisymmetric R → (es fs : List (K × X)) → Rises R es → Rises R fs → from_sorted {R = R} (merge R es fs) ≡ from_entries (entries (from_sorted {R = R} es) ++ entries (from_sorted {R = R} fs))
+  pub merged_from_sorted : IsAntisymmetric R → (es fs : List (K × X)) → Rises R es → Rises R fs →
+      from_sorted {R = R} (merge R es fs) ≡ from_entries (entries (from_sorted {R = R} es) ++ entries (from_sorted {R = R} fs))
   merged_from_sorted same es fs g h =
       same_map o same _ _ (λ q.
       get-from_sorted R (merge R es fs) q (rises_merge es fs g h) ∙ found_merge q es fs g h ∙ sym (found_both q es fs)
-      ∙ sym (get-from_entries o (entries (from_sorted {R = R} es) ++ entries (from_sorted {R = R} fs)) q ∙ (λ i. find R q (entries-from_sorted R es g i ++ entries-from_sorted R fs h i))))
+      ∙ sym (get-from_entries o (entries (from_sorted {R = R} es) ++ entries (from_sorted {R = R} fs)) q
+      ∙ (λ i. find R q (entries-from_sorted R es g i ++ entries-from_sorted R fs h i))))
     where
       find_in : (t : Bool) (a : X) (x y : Option X) → cond t (Some a) (first_of x y) ≡ first_of (cond t (Some a) x) y
       find_in true a x y = refl
@@ -156,11 +171,14 @@ module _ {K M X : Type 0} (k : K → M) (R : K → K → Ordering) (S : M → M 
   keyed e = (k e.0, e.1)
 
   -- a merge step is the same by what the keys stand for
-  weave_keys : (e : K × X) (rest : List (K × X) → List (K × X)) (seen : List (M × X) → List (M × X)) (fs : List (K × X)) → ((gs : List (K × X)) → seen (map keyed gs) ≡ map keyed (rest gs)) → weave S (keyed e) seen (map keyed fs) ≡ map keyed (weave R e rest fs)
+  weave_keys : (e : K × X) (rest : List (K × X) → List (K × X)) (seen : List (M × X) → List (M × X)) (fs : List (K × X)) →
+      ((gs : List (K × X)) → seen (map keyed gs) ≡ map keyed (rest gs)) → weave S (keyed e) seen (map keyed fs) ≡ map keyed (weave R e rest fs)
   weave_keys e rest seen [] h = ap (λ (a : List (M × X)). keyed e ∷ a) (h [])
   weave_keys e rest seen (f ∷ fs) h =
-      ap (λ r. by_order r (keyed e ∷ seen (map keyed (f ∷ fs))) (keyed e ∷ seen (map keyed fs)) (keyed f ∷ weave S (keyed e) seen (map keyed fs))) (sym (by e.0 f.0))
-      ∙ (elim (R e.0 f.0) as (λ r. by_order r (keyed e ∷ seen (map keyed (f ∷ fs))) (keyed e ∷ seen (map keyed fs)) (keyed f ∷ weave S (keyed e) seen (map keyed fs)) ≡ map keyed (by_order r (e ∷ rest (f ∷ fs)) (e ∷ rest fs) (f ∷ weave R e rest fs))) [
+      ap (λ r. by_order r (keyed e ∷ seen (map keyed (f ∷ fs))) (keyed e ∷ seen (map keyed fs)) (keyed f ∷ weave S (keyed e) seen (map keyed fs)))
+      (sym (by e.0 f.0))
+      ∙ (elim (R e.0 f.0) as (λ r. by_order r (keyed e ∷ seen (map keyed (f ∷ fs))) (keyed e ∷ seen (map keyed fs))
+      (keyed f ∷ weave S (keyed e) seen (map keyed fs)) ≡ map keyed (by_order r (e ∷ rest (f ∷ fs)) (e ∷ rest fs) (f ∷ weave R e rest fs))) [
         | Less ↦ ap (λ (a : List (M × X)). keyed e ∷ a) (h (f ∷ fs))
         | Equal ↦ ap (λ (a : List (M × X)). keyed e ∷ a) (h fs)
         | Greater ↦ ap (λ (a : List (M × X)). keyed f ∷ a) (weave_keys e rest seen fs h)

@@ -32,7 +32,8 @@ module _ {K X Y : Type 0} {R : K → K → Ordering} (o : IsTotalOrder R) (v : Y
   placed y (e ∷ es) zero h low high =
       sym (by_first (v y).0 (v y).1 e es Less (back (v y).0 (v e).0 Greater (high 0 e (omega arith) (omega arith))))
   placed y (e ∷ es) (suc i) h low high =
-      ap (λ (rest : List (K × X)). v e ∷ rest) (placed y es i (omega arith) (λ k d l. low (suc k) d (omega arith)) (λ k d a l. high (suc k) d (omega arith) (omega arith)))
+      ap (λ (rest : List (K × X)). v e ∷ rest)
+      (placed y es i (omega arith) (λ k d l. low (suc k) d (omega arith)) (λ k d a l. high (suc k) d (omega arith) (omega arith)))
       ∙ sym (by_first (v y).0 (v y).1 e es Greater (back (v y).0 (v e).0 Less (low 0 e (omega arith))))
 
   -- an entry in place of one with its key is that key with another value
@@ -48,7 +49,8 @@ module _ {K X Y : Type 0} {R : K → K → Ordering} (o : IsTotalOrder R) (v : Y
 
   put_is : (q : K) (x : X) (es : List (K × X)) → Rises R es → from_sorted {R = R} (put R q x es) ≡ fin.insert (from_sorted {R = R} es) q x
   put_is q x es h =
-      same_entries_map _ _ (entries-from_sorted R (put R q x es) (is_sorted-put R o q x es h) ∙ sym (entries-insert o (from_sorted es) q x ∙ ap (put R q x) (entries-from_sorted R es h)))
+      same_entries_map _ _ (entries-from_sorted R (put R q x es) (is_sorted-put R o q x es h)
+      ∙ sym (entries-insert o (from_sorted es) q x ∙ ap (put R q x) (entries-from_sorted R es h)))
 
   -- an entry put where the search for its key ended
   module _ (y : Y) (ys : List Y) (i : ℕ) (h : Rises R (map v ys)) (inside : i ≤ length ys) (is : IsBinarySearchResult (λ e. R (v e).0 (v y).0) ys (Err i)) where
@@ -64,7 +66,8 @@ module _ {K X Y : Type 0} {R : K → K → Ordering} (o : IsTotalOrder R) (v : Y
     map_placed = ap from_sorted placed_there ∙ put_is (v y).0 (v y).1 (map v ys) h
 
   -- an entry with another value, where the search for a key found it
-  module _ (q : K) (y : Y) (ys : List Y) (i : ℕ) (d : Y) (h : Rises R (map v ys)) (inside : i < length ys) (is : IsBinarySearchResult (λ e. R (v e).0 q) ys (Ok i)) (same : (v y).0 ≡ (v (get_or ys i d)).0) where
+  module _ (q : K) (y : Y) (ys : List Y) (i : ℕ) (d : Y) (h : Rises R (map v ys)) (inside : i < length ys)
+      (is : IsBinarySearchResult (λ e. R (v e).0 q) ys (Ok i)) (same : (v y).0 ≡ (v (get_or ys i d)).0) where
     replaced_there : map v (slice_set ys i y) ≡ put R q (v y).1 (map v ys)
     replaced_there = replaced q y ys i d h inside (is d) same
 

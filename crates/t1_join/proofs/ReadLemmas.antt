@@ -9,7 +9,8 @@ use Rattle.t1_join.specs.ListingMeaning.{ListingMeaning}
 use Rattle.t1_join.specs.declared.listing.ListFault.TheVariants.{BadLine, Repeated}
 use Rattle.t1_join.specs.Meaning.{Meaning, meaning_cmp, of_number}
 use Rattle.t1_join.specs.TableMeaning.{TableMeaning}
-use Rattle.t1_join.specs.ListingText.{Entry, subr, glyph, split_at, with_front, entry_of, lines_of, same_key, read_entry, at_end, read_lines, entries_of, with_entry, listing_from, listing_of, listing_result}
+use Rattle.t1_join.specs.ListingText.{Entry, subr, glyph, split_at, with_front, entry_of, lines_of, same_key, read_entry, at_end, read_lines, entries_of}
+use Rattle.t1_join.specs.ListingText.{with_entry, listing_from, listing_of, listing_result}
 use Rattle.t1_join.specs.LineMeaning.{has_entry}
 use Rattle.t1_join.proofs.SplitLemmas.{lines-split, first_line}
 
@@ -24,7 +25,8 @@ has_inserted m k v q = ap is_some (fin.get-insert nat_list_cmp_total m k v q) �
 pub has_seen : (e : Entry) (seen : List Entry) → has_entry (listing_from seen) e ≡ list_any (same_key e) seen
 has_seen (subr i v) [] = ap is_some (fin.get-empty meaning_cmp (of_number i))
 has_seen (glyph n v) [] = ap is_some (fin.get-empty meaning_cmp n)
-has_seen (subr i v) (subr j w ∷ es) = has_inserted _ (of_number j) w (of_number i) ∙ ap (λ b. eq_by_cmp meaning_cmp (of_number i) (of_number j) || b) (has_seen (subr i v) es)
+has_seen (subr i v) (subr j w ∷ es) =
+    has_inserted _ (of_number j) w (of_number i) ∙ ap (λ b. eq_by_cmp meaning_cmp (of_number i) (of_number j) || b) (has_seen (subr i v) es)
 has_seen (subr i v) (glyph m w ∷ es) = has_seen (subr i v) es
 has_seen (glyph n v) (subr j w ∷ es) = has_seen (glyph n v) es
 has_seen (glyph n v) (glyph m w ∷ es) = has_inserted _ m w n ∙ ap (λ b. eq_by_cmp meaning_cmp n m || b) (has_seen (glyph n v) es)
@@ -46,7 +48,8 @@ shorter c (b ∷ bs) p h = by (b == c) (split_at c bs) (shorter c bs) h
         let e : ◌≡◌ {A = List ℕ × List ℕ} ([], bs) p = cc in
         subst (λ (w : List ℕ × List ℕ). length w.1 + 1 ≤ suc (length bs)) e (omega arith)
 
-    by : (t : Bool) (s : Option (List ℕ × List ℕ)) → ((q : List ℕ × List ℕ) → s ≡ Some q → length q.1 + 1 ≤ length bs) → cond t (Some ([], bs)) (option_map (with_front b) s) ≡ Some p → length p.1 + 1 ≤ length (b ∷ bs)
+    by : (t : Bool) (s : Option (List ℕ × List ℕ)) → ((q : List ℕ × List ℕ) → s ≡ Some q → length q.1 + 1 ≤ length bs) →
+        cond t (Some ([], bs)) (option_map (with_front b) s) ≡ Some p → length p.1 + 1 ≤ length (b ∷ bs)
     by true s ih h = at_head h
     by false None ih h = cc
     by false (Some q) ih h =
@@ -83,7 +86,8 @@ module _ (text : List ℕ) (l : ListingMeaning) (line : ℕ) (rest : List ℕ) (
     known : (e : Entry) → has_entry l e ≡ list_any (same_key e) r.seen
     known e = ap (λ k. has_entry k e) r.listing ∙ has_seen e r.seen
 
-    with_line : (e : Entry) (b : Bool) → entry_of front ≡ Some e → has_entry l e ≡ b → entries_of text ≡ cond b (Err (Repeated line)) (read_lines (line + 1) (e ∷ r.seen) (lines_of back).0 (lines_of back).1)
+    with_line : (e : Entry) (b : Bool) → entry_of front ≡ Some e → has_entry l e ≡ b →
+        entries_of text ≡ cond b (Err (Repeated line)) (read_lines (line + 1) (e ∷ r.seen) (lines_of back).0 (lines_of back).1)
     with_line e b h k =
         next_line
         ∙ ap (λ x. read_entry line r.seen x (λ more. read_lines (line + 1) more (lines_of back).0 (lines_of back).1)) h

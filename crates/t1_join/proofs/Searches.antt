@@ -23,7 +23,8 @@ no_less Equal s l h = let is : ordering_index s ≡ 0 = ap ordering_index h in a
 no_less Greater s l h = let is : ordering_index s ≡ 0 = ap ordering_index h in absurd (omega (arith, l, is))
 
 -- where the last element is below, all are, and a search ends behind them
-pub behind_all : {Y : Type 0} (cmp : Y → Ordering) (ys : List Y) (end : ℕ) → end ≡ length ys → 0 < end → ((d : Y) → cmp (get_or ys (end - 1) d) ≡ Less) → IsBinarySearchResult cmp ys (Err end)
+pub behind_all : {Y : Type 0} (cmp : Y → Ordering) (ys : List Y) (end : ℕ) → end ≡ length ys → 0 < end → ((d : Y) → cmp (get_or ys (end - 1) d) ≡ Less) →
+    IsBinarySearchResult cmp ys (Err end)
 behind_all cmp ys end e some last rising = (
   λ k d low inside. no_less (cmp (get_or ys k d)) (cmp (get_or ys (end - 1) d)) (rising k (end - 1) d (omega arith) (omega arith)) (last d),
   λ k d high inside. absurd (omega arith),
@@ -59,7 +60,8 @@ module _ {K X Y : Type 0} {R : K → K → Ordering} (o : IsTotalOrder R) (v : Y
   rising q (y ∷ ys) h (suc i) (suc j) d le k = rising q ys (both_true _ _ h).1 i j d (omega arith) (omega arith)
 
   -- the entry whose key ties with q is the one that is found
-  found : (q : K) (ys : List Y) (i : ℕ) (d : Y) → Rises R (map v ys) → i < length ys → R (v (get_or ys i d)).0 q ≡ Equal → find R q (map v ys) ≡ Some (v (get_or ys i d)).1
+  found : (q : K) (ys : List Y) (i : ℕ) (d : Y) → Rises R (map v ys) → i < length ys → R (v (get_or ys i d)).0 q ≡ Equal →
+      find R q (map v ys) ≡ Some (v (get_or ys i d)).1
   found q [] i d h k e = absurd (omega arith)
   found q (y ∷ ys) zero d h k e = ap (λ r. cond (is_eq r) (Some (v y).1) (find R q (map v ys))) (tied_back o _ q e)
   found q (y ∷ ys) (suc i) d h k e =
@@ -68,7 +70,8 @@ module _ {K X Y : Type 0} {R : K → K → Ordering} (o : IsTotalOrder R) (v : Y
       ∙ found q ys i d (both_true _ _ h).1 (omega arith) e
 
   -- so it stands in the finite map at q
-  pub found_at : (q : K) (ys : List Y) (i : ℕ) (d : Y) → Rises R (map v ys) → i < length ys → R (v (get_or ys i d)).0 q ≡ Equal → get (from_sorted {R = R} (map v ys)) q ≡ Some (v (get_or ys i d)).1
+  pub found_at : (q : K) (ys : List Y) (i : ℕ) (d : Y) → Rises R (map v ys) → i < length ys → R (v (get_or ys i d)).0 q ≡ Equal →
+      get (from_sorted {R = R} (map v ys)) q ≡ Some (v (get_or ys i d)).1
   found_at q ys i d h inside tied = get-from_sorted R (map v ys) q h ∙ found q ys i d h inside tied
 
   -- where no key ties with q, nothing is found
@@ -84,7 +87,8 @@ module _ {K X Y : Type 0} {R : K → K → Ordering} (o : IsTotalOrder R) (v : Y
   Found q ys (Err i) = get (from_sorted {R = R} (map v ys)) q ≡ None
 
   -- the search finds a key exactly where the map has it, at the place of its entry
-  pub searched : (q : K) (ys : List Y) (r : Result ℕ ℕ) → Rises R (map v ys) → IsSearchInRange r (length ys) → IsBinarySearchResult (λ y. R (v y).0 q) ys r → Found q ys r
+  pub searched : (q : K) (ys : List Y) (r : Result ℕ ℕ) → Rises R (map v ys) →
+      IsSearchInRange r (length ys) → IsBinarySearchResult (λ y. R (v y).0 q) ys r → Found q ys r
   searched q ys (Ok i) h range is = λ d. get-from_sorted R (map v ys) q h ∙ found q ys i d h range (is d)
   searched q ys (Err i) h range is =
       let parts = is (rising q ys h) in

@@ -30,20 +30,27 @@ swapped true true x y z apart = absurd (apart refl refl)
 swapped true false x y z apart = refl
 swapped false b x y z apart = refl
 
-module _ {K V M X : Type 0} (f : K → M) (g : V → X) (R : K → K → Ordering) (S : M → M → Ordering) (o : IsTotalOrder S) (same : IsAntisymmetric S) (by : (x y : K) → R x y ≡ S (f x) (f y)) where
+module _ {K V M X : Type 0} (f : K → M) (g : V → X) (R : K → K → Ordering) (S : M → M → Ordering)
+    (o : IsTotalOrder S) (same : IsAntisymmetric S) (by : (x y : K) → R x y ≡ S (f x) (f y)) where
   -- a look-up by a key is one by what the key stands for
-  pub find_entries : (k : M) (test : K → Bool) → ((x : K) → test x ≡ is_eq (S k (f x))) → (es : List (K × V)) → fin.find S k (entries_by f g es) ≡ option_map g (lookup test es)
+  pub find_entries : (k : M) (test : K → Bool) → ((x : K) → test x ≡ is_eq (S k (f x))) → (es : List (K × V)) →
+      fin.find S k (entries_by f g es) ≡ option_map g (lookup test es)
   find_entries k test is [] = refl
   find_entries k test is (e ∷ es) =
       ap (λ b. cond b (Some (g e.1)) (fin.find S k (entries_by f g es))) (sym (is e.0))
-      ∙ (elim (test e.0) as (λ b. cond b (Some (g e.1)) (fin.find S k (entries_by f g es)) ≡ option_map g (cond b (Some e.1) (lookup test es))) [ true ↦ refl | false ↦ find_entries k test is es ])
+      ∙ (elim (test e.0) as (λ b. cond b (Some (g e.1)) (fin.find S k (entries_by f g es)) ≡ option_map g (cond b (Some e.1) (lookup test es))) [
+        | true ↦ refl
+        | false ↦ find_entries k test is es
+      ])
 
   -- an inserted entry stands at its key, and changes no other
-  find_insert : (q : M) (es : List (K × V)) (k : K) (v : V) → fin.find S q (entries_by f g (insert_entry R es k v)) ≡ cond (eq_by_cmp S q (f k)) (Some (g v)) (fin.find S q (entries_by f g es))
+  find_insert : (q : M) (es : List (K × V)) (k : K) (v : V) →
+      fin.find S q (entries_by f g (insert_entry R es k v)) ≡ cond (eq_by_cmp S q (f k)) (Some (g v)) (fin.find S q (entries_by f g es))
   find_insert q [] k v = refl
   find_insert q (e ∷ es) k v =
       elim (R k e.0)
-      as (λ r. R k e.0 ≡ r → fin.find S q (entries_by f g (match_ordering r ((k, v) ∷ e ∷ es) ((e.0, v) ∷ es) (e ∷ insert_entry R es k v))) ≡ cond (eq_by_cmp S q (f k)) (Some (g v)) (fin.find S q (entries_by f g (e ∷ es)))) [
+      as (λ r. R k e.0 ≡ r → fin.find S q (entries_by f g (match_ordering r ((k, v) ∷ e ∷ es) ((e.0, v) ∷ es) (e ∷ insert_entry R es k v)))
+      ≡ cond (eq_by_cmp S q (f k)) (Some (g v)) (fin.find S q (entries_by f g (e ∷ es)))) [
         | Less ↦ λ h. refl
         | Equal ↦ λ h.
             let keys : f k ≡ f e.0 = same (f k) (f e.0) (sym (by k e.0) ∙ h) in
@@ -65,7 +72,8 @@ module _ {K V M X : Type 0} (f : K → M) (g : V → X) (R : K → K → Orderin
           cc
 
   -- the map of the entries with one more
-  pub map_insert : (es : List (K × V)) (k : K) (v : V) → fin.from_entries {R = S} (entries_by f g (insert_entry R es k v)) ≡ fin.insert (fin.from_entries (entries_by f g es)) (f k) (g v)
+  pub map_insert : (es : List (K × V)) (k : K) (v : V) →
+      fin.from_entries {R = S} (entries_by f g (insert_entry R es k v)) ≡ fin.insert (fin.from_entries (entries_by f g es)) (f k) (g v)
   map_insert es k v = fin.same_map o same _ _ (λ q.
       fin.get-from_entries o (entries_by f g (insert_entry R es k v)) q
       ∙ find_insert q es k v

@@ -23,7 +23,8 @@ use Rattle.t1_join.proofs.Sorted.{both_true, lt_is}
 use Rattle.t1_join.proofs.Merges.{find_below}
 use Rattle.t1_join.proofs.LineTexts.{bare_line, entry_read, line_first}
 
-present_first : (b : Bool) (x : State) (v : Meaning) (z : State) → (b ≡ true → x ≡ None) → joined_state x (cond b (Some v) z) ≡ joined_state (cond b (Some v) x) z
+present_first : (b : Bool) (x : State) (v : Meaning) (z : State) → (b ≡ true → x ≡ None) →
+    joined_state x (cond b (Some v) z) ≡ joined_state (cond b (Some v) x) z
 present_first true None v z h = refl
 present_first false None v z h = refl
 present_first false (Some w) v z h = refl
@@ -50,7 +51,8 @@ abbrev Apart : List Entry → List Entry → Type 0
 Apart [] seen = Unit {0}
 Apart (e ∷ es) seen = (list_any (same_key e) seen ≡ false) × Apart es (e ∷ seen)
 
-read_all : (n : ℕ) (es seen : List Entry) → AllByRecursion IsEntry es → Apart es seen → read_lines n seen (lines_of (lines es [])).0 (lines_of (lines es [])).1 ≡ Ok (onto es seen)
+read_all : (n : ℕ) (es seen : List Entry) → AllByRecursion IsEntry es → Apart es seen →
+    read_lines n seen (lines_of (lines es [])).0 (lines_of (lines es [])).1 ≡ Ok (onto es seen)
 read_all n [] seen h a = refl
 read_all n (e ∷ es) seen h a =
     ap (λ p. read_lines n seen p.0 p.1) (line_first e (lines es []) h.0)
@@ -90,11 +92,16 @@ above_differs k q l = by (eq_by_cmp meaning_cmp q k) refl
         cc
 
 -- the entries that are found at their keys
-each_found : (P : Meaning → Meaning → Type 0) (es : List (Meaning × Meaning)) → T (fin.is_sorted meaning_cmp es) → ((k v : Meaning) → fin.find meaning_cmp k es ≡ Some v → P k v) → AllByRecursion (λ e. P e.0 e.1) es
+each_found : (P : Meaning → Meaning → Type 0) (es : List (Meaning × Meaning)) → T (fin.is_sorted meaning_cmp es) →
+    ((k v : Meaning) → fin.find meaning_cmp k es ≡ Some v → P k v) → AllByRecursion (λ e. P e.0 e.1) es
 each_found P [] s h = tt
-each_found P (e ∷ es) s h = (h e.0 e.1 (ap (λ o. cond (is_eq o) (Some e.1) (fin.find meaning_cmp e.0 es)) (tied_itself nat_list_cmp_total e.0)), each_found P es (both_true _ _ s).1 (λ k v f. h k v (later k v f (eq_by_cmp meaning_cmp k e.0) refl)))
+each_found P (e ∷ es) s h = (
+  h e.0 e.1 (ap (λ o. cond (is_eq o) (Some e.1) (fin.find meaning_cmp e.0 es)) (tied_itself nat_list_cmp_total e.0)),
+  each_found P es (both_true _ _ s).1 (λ k v f. h k v (later k v f (eq_by_cmp meaning_cmp k e.0) refl)),
+)
   where
-    later : (k v : Meaning) → fin.find meaning_cmp k es ≡ Some v → (b : Bool) → eq_by_cmp meaning_cmp k e.0 ≡ b → cond (eq_by_cmp meaning_cmp k e.0) (Some e.1) (fin.find meaning_cmp k es) ≡ Some v
+    later : (k v : Meaning) → fin.find meaning_cmp k es ≡ Some v → (b : Bool) → eq_by_cmp meaning_cmp k e.0 ≡ b →
+        cond (eq_by_cmp meaning_cmp k e.0) (Some e.1) (fin.find meaning_cmp k es) ≡ Some v
     later k v f false t = ap (λ b. cond b (Some e.1) (fin.find meaning_cmp k es)) t ∙ f
     later k v f true t =
         let same : k ≡ e.0 = same_by_cmp k e.0 (is_eq-Equal (meaning_cmp k e.0) t) in
@@ -105,7 +112,8 @@ each_found P (e ∷ es) s h = (h e.0 e.1 (ap (λ o. cond (is_eq o) (Some e.1) (f
         none_some : None ≡ Some v → ⊥
         none_some e = cc
 
-each_entry : (P : Meaning → Meaning → Type 0) (m : TableMeaning) → ((k v : Meaning) → fin.get m k ≡ Some v → P k v) → AllByRecursion (λ e. P e.0 e.1) (fin.entries m)
+each_entry : (P : Meaning → Meaning → Type 0) (m : TableMeaning) → ((k v : Meaning) → fin.get m k ≡ Some v → P k v) →
+    AllByRecursion (λ e. P e.0 e.1) (fin.entries m)
 each_entry P m h = each_found P (fin.entries m) (fin.entries_sorted m) (λ k v f. h k v (fin.get-entries m k ∙ f))
 
 -- the table with the entries put in one after the other
@@ -116,12 +124,14 @@ put_all (e ∷ es) m = put_all es (fin.insert m e.0 e.1)
 abbrev value_at : TableMeaning → Meaning → State
 value_at m q = fin.get m q
 
-get_all : (es : List (Meaning × Meaning)) (m : TableMeaning) (q : Meaning) → T (fin.is_sorted meaning_cmp es) → value_at (put_all es m) q ≡ joined_state (fin.find meaning_cmp q es) (fin.get m q)
+get_all : (es : List (Meaning × Meaning)) (m : TableMeaning) (q : Meaning) → T (fin.is_sorted meaning_cmp es) →
+    value_at (put_all es m) q ≡ joined_state (fin.find meaning_cmp q es) (fin.get m q)
 get_all [] m q s = refl
 get_all (e ∷ es) m q s =
     get_all es (fin.insert m e.0 e.1) q (both_true _ _ s).1
     ∙ ap (joined_state (fin.find meaning_cmp q es)) (fin.get-insert nat_list_cmp_total m e.0 e.1 q)
-    ∙ present_first (eq_by_cmp meaning_cmp q e.0) (fin.find meaning_cmp q es) e.1 (fin.get m q) (λ t. ap (λ k. fin.find meaning_cmp k es) (same_by_cmp q e.0 (is_eq-Equal (meaning_cmp q e.0) t)) ∙ find_below nat_list_cmp_total e.0 es (both_true _ _ s).0)
+    ∙ present_first (eq_by_cmp meaning_cmp q e.0) (fin.find meaning_cmp q es) e.1 (fin.get m q) (λ t.
+    ap (λ k. fin.find meaning_cmp k es) (same_by_cmp q e.0 (is_eq-Equal (meaning_cmp q e.0) t)) ∙ find_below nat_list_cmp_total e.0 es (both_true _ _ s).0)
 
 state_none : (x : State) → joined_state x None ≡ x
 state_none None = refl
@@ -135,17 +145,20 @@ put_entries m = same_table _ _ (λ q.
     ∙ sym (fin.get-entries m q))
 
 -- entries that are made of a table's are apart
-module _ (made : Meaning × Meaning → Entry) (Good : Meaning → Type 0) (keyed : (e f : Meaning × Meaning) → Good e.0 → Good f.0 → same_key (made f) (made e) ≡ eq_by_cmp meaning_cmp f.0 e.0) where
+module _ (made : Meaning × Meaning → Entry) (Good : Meaning → Type 0)
+    (keyed : (e f : Meaning × Meaning) → Good e.0 → Good f.0 → same_key (made f) (made e) ≡ eq_by_cmp meaning_cmp f.0 e.0) where
   abbrev Fresh : List (Meaning × Meaning) → List Entry → Type 0
   Fresh es seen = AllByRecursion (λ e. list_any (same_key (made e)) seen ≡ false) es
 
-  fresh_after : (e : Meaning × Meaning) (es : List (Meaning × Meaning)) (seen : List Entry) → Good e.0 → AllByRecursion (λ f. Good f.0) es → T (below_all meaning_cmp e.0 es) → Fresh es seen → Fresh es (made e ∷ seen)
+  fresh_after : (e : Meaning × Meaning) (es : List (Meaning × Meaning)) (seen : List Entry) → Good e.0 →
+      AllByRecursion (λ f. Good f.0) es → T (below_all meaning_cmp e.0 es) → Fresh es seen → Fresh es (made e ∷ seen)
   fresh_after e [] seen g gs s h = tt
   fresh_after e (f ∷ fs) seen g gs s h =
       let apart : same_key (made f) (made e) ≡ false = keyed e f g gs.0 ∙ above_differs e.0 f.0 (lt_is (meaning_cmp e.0 f.0) (both_true _ _ s).0) in
       (ap (λ b. b || list_any (same_key (made f)) seen) apart ∙ h.0, fresh_after e fs seen g gs.1 (both_true _ _ s).1 h.1)
 
-  apart_entries : (es : List (Meaning × Meaning)) (seen : List Entry) → AllByRecursion (λ f. Good f.0) es → T (fin.is_sorted meaning_cmp es) → Fresh es seen → Apart (map made es) seen
+  apart_entries : (es : List (Meaning × Meaning)) (seen : List Entry) → AllByRecursion (λ f. Good f.0) es → T (fin.is_sorted meaning_cmp es) → Fresh es seen →
+      Apart (map made es) seen
   apart_entries [] seen g s h = tt
   apart_entries (e ∷ es) seen g s h = (h.0, apart_entries es (made e ∷ seen) g.1 (both_true _ _ s).1 (fresh_after e es seen g.0 g.1 (both_true _ _ s).0 h.1))
 
@@ -173,7 +186,8 @@ nothing_seen : (es : List (Meaning × Meaning)) → AllByRecursion (λ e. list_a
 nothing_seen [] = tt
 nothing_seen (e ∷ es) = (refl, nothing_seen es)
 
-no_glyph_seen : (n v : List ℕ) (es : List (Meaning × Meaning)) (seen : List Entry) → list_any (same_key (glyph n v)) seen ≡ false → list_any (same_key (glyph n v)) (onto (map subr_entry es) seen) ≡ false
+no_glyph_seen : (n v : List ℕ) (es : List (Meaning × Meaning)) (seen : List Entry) → list_any (same_key (glyph n v)) seen ≡ false →
+    list_any (same_key (glyph n v)) (onto (map subr_entry es) seen) ≡ false
 no_glyph_seen n v [] seen h = h
 no_glyph_seen n v (e ∷ es) seen h = no_glyph_seen n v es (subr_entry e ∷ seen) h
 
@@ -188,25 +202,31 @@ any_name (g ∷ gs) = (tt, any_name gs)
 entries_apart : (l : ListingMeaning) → IsListing l → Apart (all_entries l) []
 entries_apart l h =
     apart_append (map subr_entry (fin.entries l.subrs)) (map glyph_entry (fin.entries l.glyphs)) []
-    (apart_entries subr_entry IsIndex subr_keyed (fin.entries l.subrs) [] (each_entry (λ k v. IsIndex k) l.subrs h.indices) (fin.entries_sorted l.subrs) (nothing_seen (fin.entries l.subrs)))
-    (apart_entries glyph_entry (λ k. Unit {0}) (λ e f g h. refl) (fin.entries l.glyphs) _ (any_name (fin.entries l.glyphs)) (fin.entries_sorted l.glyphs) (no_glyphs_seen (fin.entries l.subrs) (fin.entries l.glyphs)))
+    (apart_entries subr_entry IsIndex subr_keyed (fin.entries l.subrs) []
+    (each_entry (λ k v. IsIndex k) l.subrs h.indices) (fin.entries_sorted l.subrs) (nothing_seen (fin.entries l.subrs)))
+    (apart_entries glyph_entry (λ k. Unit {0}) (λ e f g h. refl) (fin.entries l.glyphs) _ (any_name (fin.entries l.glyphs))
+    (fin.entries_sorted l.glyphs) (no_glyphs_seen (fin.entries l.subrs) (fin.entries l.glyphs)))
 
 entries_fit : (l : ListingMeaning) → IsListing l → AllByRecursion IsEntry (all_entries l)
 entries_fit l h =
     all_append IsEntry (map subr_entry (fin.entries l.subrs)) (map glyph_entry (fin.entries l.glyphs))
-    (all_map IsEntry subr_entry (fin.entries l.subrs) (each_entry (λ k v. IsEntry (subr_entry (k, v))) l.subrs (λ k v e. (small k (h.indices k v e), h.subr_values k v e))))
-    (all_map IsEntry glyph_entry (fin.entries l.glyphs) (each_entry (λ k v. IsEntry (glyph_entry (k, v))) l.glyphs (λ k v e. (h.names k v e, h.glyph_values k v e))))
+    (all_map IsEntry subr_entry (fin.entries l.subrs)
+    (each_entry (λ k v. IsEntry (subr_entry (k, v))) l.subrs (λ k v e. (small k (h.indices k v e), h.subr_values k v e))))
+    (all_map IsEntry glyph_entry (fin.entries l.glyphs)
+    (each_entry (λ k v. IsEntry (glyph_entry (k, v))) l.glyphs (λ k v e. (h.names k v e, h.glyph_values k v e))))
   where
     small : (k : Meaning) → IsIndex k → slice_index k 0 < 65535
     small k i = subst (λ x. slice_index x 0 < 65535) (sym i.is) i.small
 
-subrs_from : (es : List (Meaning × Meaning)) (seen : List Entry) → AllByRecursion (λ e. IsIndex e.0) es → listing_from (onto (map subr_entry es) seen) ≡ record { subrs = put_all es (listing_from seen).subrs; glyphs = (listing_from seen).glyphs }
+subrs_from : (es : List (Meaning × Meaning)) (seen : List Entry) → AllByRecursion (λ e. IsIndex e.0) es →
+    listing_from (onto (map subr_entry es) seen) ≡ record { subrs = put_all es (listing_from seen).subrs; glyphs = (listing_from seen).glyphs }
 subrs_from [] seen h = refl
 subrs_from (e ∷ es) seen h =
     subrs_from es (subr_entry e ∷ seen) h.1
     ∙ ap (λ k. with_subrs (put_all es (fin.insert (listing_from seen).subrs k e.1)) (listing_from seen).glyphs) (number_is e.0 h.0)
 
-glyphs_from : (es : List (Meaning × Meaning)) (seen : List Entry) → listing_from (onto (map glyph_entry es) seen) ≡ record { subrs = (listing_from seen).subrs; glyphs = put_all es (listing_from seen).glyphs }
+glyphs_from : (es : List (Meaning × Meaning)) (seen : List Entry) →
+    listing_from (onto (map glyph_entry es) seen) ≡ record { subrs = (listing_from seen).subrs; glyphs = put_all es (listing_from seen).glyphs }
 glyphs_from [] seen = refl
 glyphs_from (e ∷ es) seen = glyphs_from es (glyph_entry e ∷ seen)
 
@@ -214,7 +234,8 @@ listing_again : (l : ListingMeaning) → IsListing l → listing_from (onto (all
 listing_again l h =
     ap listing_from (onto-append (map subr_entry (fin.entries l.subrs)) (map glyph_entry (fin.entries l.glyphs)) [])
     ∙ glyphs_from (fin.entries l.glyphs) (onto (map subr_entry (fin.entries l.subrs)) [])
-    ∙ ap (λ m. with_subrs m.subrs (put_all (fin.entries l.glyphs) m.glyphs)) (subrs_from (fin.entries l.subrs) [] (each_entry (λ k v. IsIndex k) l.subrs h.indices))
+    ∙ ap (λ m. with_subrs m.subrs (put_all (fin.entries l.glyphs) m.glyphs))
+    (subrs_from (fin.entries l.subrs) [] (each_entry (λ k v. IsIndex k) l.subrs h.indices))
     ∙ ap (λ m. with_subrs m (put_all (fin.entries l.glyphs) fin.empty)) (put_entries l.subrs)
     ∙ ap (λ m. with_subrs l.subrs m) (put_entries l.glyphs)
 

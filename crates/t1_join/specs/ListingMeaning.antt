@@ -13,7 +13,8 @@ pub record ListingMeaning : Type 0 where
   pub glyphs : TableMeaning
 
 abbrev pub listing_code : Coded ListingMeaning
-listing_code = code_by (TableMeaning × TableMeaning) (coded× table_code table_code) (λ l. (l.subrs, l.glyphs)) (λ p. record { subrs = p.0; glyphs = p.1 }) (λ _. refl)
+listing_code =
+    code_by (TableMeaning × TableMeaning) (coded× table_code table_code) (λ l. (l.subrs, l.glyphs)) (λ p. record { subrs = p.0; glyphs = p.1 }) (λ _. refl)
 
 -- white space and delimiters end a name (the tokens of chapter 2)
 abbrev pub ends_name : ℕ → Bool

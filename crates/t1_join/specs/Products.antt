@@ -35,7 +35,8 @@ BothAgree A B x y = A x.0 y.0 × B x.1 y.1
 abbrev pub BothJoin : {M N : Type 0} → (M → M → M → Type 0) → (N → N → N → Type 0) → M × N → M × N → M × N → Type 0
 BothJoin J K x y z = J x.0 y.0 z.0 × K x.1 y.1 z.1
 
-pub both_laws : {M N : Type 0} {A : M → M → Type 0} {J : M → M → M → Type 0} {B : N → N → Type 0} {K : N → N → N → Type 0} → JoinLaws A J → JoinLaws B K → JoinLaws (BothAgree A B) (BothJoin J K)
+pub both_laws : {M N : Type 0} {A : M → M → Type 0} {J : M → M → M → Type 0} {B : N → N → Type 0} {K : N → N → N → Type 0} → JoinLaws A J → JoinLaws B K →
+    JoinLaws (BothAgree A B) (BothJoin J K)
 both_laws l m = record {
   some_answer = λ x y h. let a = l.some_answer x.0 y.0 h.0 in let b = m.some_answer x.1 y.1 h.1 in ((a.0, b.0), (a.1, b.1));
   only_where = λ x y z h. (l.only_where x.0 y.0 z.0 h.0, m.only_where x.1 y.1 z.1 h.1);
@@ -48,7 +49,8 @@ both_laws l m = record {
   idempotent = λ x. (l.idempotent x.0, m.idempotent x.1);
 }
 
-pub both_by_pairs : {M N : Type 0} {A : M → M → Type 0} {J : M → M → M → Type 0} {B : N → N → Type 0} {K : N → N → N → Type 0} → AgreesByPairs A J → AgreesByPairs B K → AgreesByPairs (BothAgree A B) (BothJoin J K)
+pub both_by_pairs : {M N : Type 0} {A : M → M → Type 0} {J : M → M → M → Type 0} {B : N → N → Type 0} {K : N → N → N → Type 0} →
+    AgreesByPairs A J → AgreesByPairs B K → AgreesByPairs (BothAgree A B) (BothJoin J K)
 both_by_pairs p q x y z w h a b = (p x.0 y.0 z.0 w.0 h.0 a.0 b.0, q x.1 y.1 z.1 w.1 h.1 a.1 b.1)
 
 -- ---- values within limits
@@ -61,7 +63,8 @@ abbrev pub FittingAgree : {M : Type 0} → (M → M → M → Type 0) → (M →
 FittingAgree {M} J Fits x y = (z : M) × FittingJoin J Fits x y z
 
 -- what is joined fits wherever the join does
-module _ {M : Type 0} {A : M → M → Type 0} {J : M → M → M → Type 0} (l : JoinLaws A J) (Fits : M → Type 0) (falls : (x y z : M) → J x y z → Fits z → Fits x) where
+module _ {M : Type 0} {A : M → M → Type 0} {J : M → M → M → Type 0} (l : JoinLaws A J)
+    (Fits : M → Type 0) (falls : (x y z : M) → J x y z → Fits z → Fits x) where
   module _ (x y z a b : M) (h : FittingJoin J Fits x y a) (k : FittingJoin J Fits a z b) where
     light : Fits b → (c : M) × FittingJoin J Fits y z c × FittingJoin J Fits x c b
     light w =

@@ -24,7 +24,8 @@ use Rattle.t1_run.proofs.Turns.{Turns, Turn, Ended, begins, turn, runs_out, leng
 use Rattle.t1_run.proofs.Mirrors.{Mirror, MirrorTurn, mirror_begins, mirror_turn, mirror_out, mirror_goes, mirror_back, mirror_last, mirror_end, mirror_fault, mirror_call}
 
 -- Between two turns: what is left of the frames, from the state of the machine after the marks so far, which were drawn.
-pub record Between {P : Type 0} (subrs : Subrs) (hints : Hints) (c old : List ℕ) (one : Bool) (Drawn : List Mark → Type 0) (frames : List Frame) (m : Machine P) (now : List ℕ) : Type 0 where
+pub record Between {P : Type 0} (subrs : Subrs) (hints : Hints) (c old : List ℕ) (one : Bool)
+    (Drawn : List Mark → Type 0) (frames : List Frame) (m : Machine P) (now : List ℕ) : Type 0 where
   pub marks : List Mark
   pub drawn : Drawn marks
   pub turns : Turns (run_glyph subrs hints c) old subrs hints frames (state_of m marks) now
@@ -47,12 +48,15 @@ fewer on zero after going spent e = absurd (subst IsGoing (spent refl) going)
 fewer on (suc n) after going spent e = omega (arith, e)
 
 -- before the first turn
-pub at_start : {P : Type 0} (subrs : Subrs) (hints : Hints) (c old : List ℕ) (Drawn : List Mark → Type 0) (frames : List Frame) (top : Frame) (m : Machine P) → frames ≡ [] ++ top ∷ [] → state_of m [] ≡ start → frame_left top ≡ tokens c → Drawn [] → Between subrs hints c old true Drawn frames m old
+pub at_start : {P : Type 0} (subrs : Subrs) (hints : Hints) (c old : List ℕ) (Drawn : List Mark → Type 0) (frames : List Frame) (top : Frame) (m : Machine P) →
+    frames ≡ [] ++ top ∷ [] → state_of m [] ≡ start → frame_left top ≡ tokens c → Drawn [] → Between subrs hints c old true Drawn frames m old
 at_start subrs hints c old Drawn frames top m first new all none = record {
   marks = [];
   drawn = none;
-  turns = subst (λ s. Turns (run_glyph subrs hints c) old subrs hints frames s old) (sym new) (begins subrs hints c start old frames top first all refl start_within);
-  mirror = subst (λ s. Mirror (run_glyph subrs hints c) (run_glyph subrs Kept c) subrs hints Kept true frames s) (sym new) (mirror_begins subrs hints Kept c start frames top first all);
+  turns = subst (λ s. Turns (run_glyph subrs hints c) old subrs hints frames s old)
+      (sym new) (begins subrs hints c start old frames top first all refl start_within);
+  mirror = subst (λ s. Mirror (run_glyph subrs hints c) (run_glyph subrs Kept c) subrs hints Kept true frames s)
+      (sym new) (mirror_begins subrs hints Kept c start frames top first all);
 }
 
 -- ---- endings of charstrings
@@ -80,13 +84,16 @@ ends_within (halt.Failed fault) marks n k = k
 
 -- ---- turns
 
-module _ {P : Type 0} {subrs : Subrs} {hints : Hints} {c old : List ℕ} {one : Bool} {Drawn : List Mark → Type 0} {frames : List Frame} {m : Machine P} {now : List ℕ} (inv : Between subrs hints c old one Drawn frames m now) (rest : List Frame) (top : Frame) (are : frames ≡ rest ++ top ∷ []) where
+module _ {P : Type 0} {subrs : Subrs} {hints : Hints} {c old : List ℕ} {one : Bool} {Drawn : List Mark → Type 0} {frames : List Frame} {m : Machine P}
+    {now : List ℕ} (inv : Between subrs hints c old one Drawn frames m now) (rest : List Frame) (top : Frame) (are : frames ≡ rest ++ top ∷ []) where
   abbrev Ran : Halt → List ℕ → Type 0
   Ran h now = Runs (run_glyph subrs hints c) h Drawn old now
 
   -- the charstring ended so after the marks so far
-  ran : (h : Halt) (end : Ending) (now : List ℕ) → ending_of h inv.marks ≡ at_top end → EndsWithinLimits (ending_of h inv.marks) → Ended (run_glyph subrs hints c) end old now inv.marks → Ran h now
-  ran h end now is within e = record { marks = inv.marks; drawn = inv.drawn; made = e.made; ends_so = is ∙ ap at_top e.ends_so; within = within; called = e.called }
+  ran : (h : Halt) (end : Ending) (now : List ℕ) → ending_of h inv.marks ≡ at_top end →
+      EndsWithinLimits (ending_of h inv.marks) → Ended (run_glyph subrs hints c) end old now inv.marks → Ran h now
+  ran h end now is within e =
+      record { marks = inv.marks; drawn = inv.drawn; made = e.made; ends_so = is ∙ ap at_top e.ends_so; within = within; called = e.called }
 
   -- no token is left on top
   pub out : frame_left top ≡ [] → Ran (halt.Failed Unended) now
@@ -108,23 +115,30 @@ module _ {P : Type 0} {subrs : Subrs} {hints : Hints} {c old : List ℕ} {one : 
     kept_limits step is = subst (λ step. Keeps (m.allowed - 1) step) is (spent.within inv.marks inv.turns.within)
 
     -- it goes on, after these marks
-    pub goes : (one' : Bool) (Drawn' : List Mark → Type 0) (marks : List Mark) (frames' : List Frame) → step_of on (state_of m' inv.marks) ≡ Goes (state_of m' marks) → Drawn' marks → (one' ≡ true → (one ≡ true) × (is_one on ≡ true)) → frames' ≡ rest ++ top' ∷ [] → Between subrs hints c old one' Drawn' frames' m' now
+    pub goes : (one' : Bool) (Drawn' : List Mark → Type 0) (marks : List Mark) (frames' : List Frame) →
+        step_of on (state_of m' inv.marks) ≡ Goes (state_of m' marks) → Drawn' marks → (one' ≡ true → (one ≡ true) × (is_one on ≡ true)) →
+        frames' ≡ rest ++ top' ∷ [] → Between subrs hints c old one' Drawn' frames' m' now
     goes one' Drawn' marks frames' is drawn stays pushed = record {
       marks = marks;
       drawn = drawn;
       turns = on_goes in_turn frames' (state_of m' marks) pushed (sym is ∙ spent.step inv.marks) (kept_limits (Goes (state_of m' marks)) is).0;
-      mirror = mirror_goes in_mirror one' frames' (state_of m' marks) pushed (sym is ∙ spent.step inv.marks) (λ h. let same = stays h in (same.0, sym is ∙ spent.one same.1 inv.marks));
+      mirror = mirror_goes in_mirror one' frames' (state_of m' marks) pushed (sym is ∙ spent.step inv.marks)
+          (λ h. let same = stays h in (same.0, sym is ∙ spent.one same.1 inv.marks));
     }
 
     -- it ends the glyph
     pub ends_so : (h : Halt) → step_of on (state_of m' inv.marks) ≡ Ends (ending_of h inv.marks) → Ran h now
     ends_so h is =
-        ran h (ending_of h inv.marks) now (sym (at_top_is h inv.marks)) (ends_within h inv.marks (m.allowed - 1) (kept_limits (Ends (ending_of h inv.marks)) is))
-        (subst (Ended (run_glyph subrs hints c) (ending_of h inv.marks) old now) (ends_marks h m inv.marks) (on_end in_turn (ending_of h inv.marks) (stops h inv.marks) (sym is ∙ spent.step inv.marks)))
+        ran h (ending_of h inv.marks) now (sym (at_top_is h inv.marks))
+        (ends_within h inv.marks (m.allowed - 1) (kept_limits (Ends (ending_of h inv.marks)) is))
+        (subst (Ended (run_glyph subrs hints c) (ending_of h inv.marks) old now) (ends_marks h m inv.marks)
+        (on_end in_turn (ending_of h inv.marks) (stops h inv.marks) (sym is ∙ spent.step inv.marks)))
 
     -- and so it does where hints are kept, if this token tells nothing apart either
-    pub ends_one : (h : Halt) → step_of on (state_of m' inv.marks) ≡ Ends (ending_of h inv.marks) → is_one on ≡ true → one ≡ true → run_glyph subrs Kept c ≡ run_glyph subrs hints c
-    ends_one h is same = mirror_end in_mirror one (ending_of h inv.marks) (stops h inv.marks) (sym is ∙ spent.step inv.marks) (λ h. (h, sym is ∙ spent.one same inv.marks))
+    pub ends_one : (h : Halt) → step_of on (state_of m' inv.marks) ≡ Ends (ending_of h inv.marks) → is_one on ≡ true → one ≡ true →
+        run_glyph subrs Kept c ≡ run_glyph subrs hints c
+    ends_one h is same =
+        mirror_end in_mirror one (ending_of h inv.marks) (stops h inv.marks) (sym is ∙ spent.step inv.marks) (λ h. (h, sym is ∙ spent.one same inv.marks))
 
   module _ (top' : Frame) (t : Token) (m' : Machine P) (next : frame_left top ≡ t ∷ frame_left top') where
     abbrev turn_now : Turn (run_glyph subrs hints c) old subrs hints rest top' t (state_of m inv.marks) now
@@ -152,28 +166,37 @@ module _ {P : Type 0} {subrs : Subrs} {hints : Hints} {c old : List ℕ} {one : 
       last_one none = mirror_last mirror_now one rest (state_of m' inv.marks) refl none (spent.step inv.marks) (λ h. (h, spent.one refl inv.marks))
 
     -- it calls, where so many levels are left
-    module _ (i : ℤ) (spent : Spent hints t m m' (flow.Call i)) (index : Option ℕ) (levels : ℕ) (is : index ≡ index_of i) (left : levels + length rest ≡ level_limit) where
+    module _ (i : ℤ) (spent : Spent hints t m m' (flow.Call i)) (index : Option ℕ)
+        (levels : ℕ) (is : index ≡ index_of i) (left : levels + length rest ≡ level_limit) where
       room : levels + length (rest ++ top' ∷ []) ≡ suc level_limit
       room = omega (arith, left, length_push (rest ++ top' ∷ []) rest top' refl)
 
       -- the call fails
-      pub fails_so : (mid : List ℕ) (fault : Fault) → mid ≡ with_indices now (taken index) → ((h : Hints) (s : State) → call subrs h levels index s ≡ ends (Failed fault)) → Ran (halt.Failed fault) mid
+      pub fails_so : (mid : List ℕ) (fault : Fault) → mid ≡ with_indices now (taken index) →
+          ((h : Hints) (s : State) → call subrs h levels index s ≡ ends (Failed fault)) → Ran (halt.Failed fault) mid
       fails_so mid fault took failed =
           ran (halt.Failed fault) _ mid refl tt
-          (on_fault turn_now (state_of m' inv.marks) i index (rest ++ top' ∷ []) levels mid (spent.step inv.marks) is refl room took fault (failed hints (state_of m' inv.marks)))
+          (on_fault turn_now (state_of m' inv.marks) i index (rest ++ top' ∷ []) levels mid
+          (spent.step inv.marks) is refl room took fault (failed hints (state_of m' inv.marks)))
 
       -- and so it does where hints are kept
-      pub fails_one : (fault : Fault) → ((h : Hints) (s : State) → call subrs h levels index s ≡ ends (Failed fault)) → one ≡ true → run_glyph subrs Kept c ≡ run_glyph subrs hints c
+      pub fails_one : (fault : Fault) → ((h : Hints) (s : State) → call subrs h levels index s ≡ ends (Failed fault)) → one ≡ true →
+          run_glyph subrs Kept c ≡ run_glyph subrs hints c
       fails_one fault failed =
-          mirror_fault mirror_now one (state_of m' inv.marks) i index (rest ++ top' ∷ []) levels (spent.step inv.marks) (λ h. (h, spent.one refl inv.marks)) is refl room fault (λ h. failed h (state_of m' inv.marks))
+          mirror_fault mirror_now one (state_of m' inv.marks) i index (rest ++ top' ∷ []) levels (spent.step inv.marks)
+          (λ h. (h, spent.one refl inv.marks)) is refl room fault (λ h. failed h (state_of m' inv.marks))
 
       -- the Subr is on top
-      pub calls : (mid c' : List ℕ) (g : Frame) (callers frames' : List Frame) → mid ≡ with_indices now (taken index) → (0 < levels) × (entry subrs index ≡ Some c') → frame_left g ≡ tokens c' → callers ≡ rest ++ top' ∷ [] → frames' ≡ callers ++ g ∷ [] → Between subrs hints c old one Drawn frames' m' mid
+      pub calls : (mid c' : List ℕ) (g : Frame) (callers frames' : List Frame) → mid ≡ with_indices now (taken index) →
+          (0 < levels) × (entry subrs index ≡ Some c') → frame_left g ≡ tokens c' → callers ≡ rest ++ top' ∷ [] → frames' ≡ callers ++ g ∷ [] →
+          Between subrs hints c old one Drawn frames' m' mid
       calls mid c' g callers frames' took enters all pushed entered =
           let frames_are : frames' ≡ (rest ++ top' ∷ []) ++ g ∷ [] = entered ∙ ap (λ (fs : List Frame). fs ++ g ∷ []) pushed in
           record {
             marks = inv.marks;
             drawn = inv.drawn;
-            turns = on_call turn_now (state_of m' inv.marks) i index (rest ++ top' ∷ []) frames' levels mid c' g (spent.step inv.marks) is refl room took frames_are enters all (spent.within inv.marks inv.turns.within).0;
-            mirror = mirror_call mirror_now one (state_of m' inv.marks) i index (rest ++ top' ∷ []) frames' levels c' g (spent.step inv.marks) (λ h. (h, spent.one refl inv.marks)) is refl room frames_are enters all;
+            turns = on_call turn_now (state_of m' inv.marks) i index (rest ++ top' ∷ []) frames' levels mid c' g
+                (spent.step inv.marks) is refl room took frames_are enters all (spent.within inv.marks inv.turns.within).0;
+            mirror = mirror_call mirror_now one (state_of m' inv.marks) i index (rest ++ top' ∷ []) frames' levels c' g
+                (spent.step inv.marks) (λ h. (h, spent.one refl inv.marks)) is refl room frames_are enters all;
           }

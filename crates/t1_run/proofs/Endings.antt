@@ -12,7 +12,8 @@ use Rattle.t1_run.specs.Drawings.{parts_of}
 use Rattle.t1_run.proofs.Pages.{kept_marks}
 
 -- where marks were kept, it answers with these
-module _ (outcome : Outcome) (h : Halt) (before kept : List Mark) (none : before ≡ []) (old new : List ℕ) (runs : Runs outcome h (Draws with_mark before kept) old new) (value : Ending) (is : value ≡ ending_of h kept) where
+module _ (outcome : Outcome) (h : Halt) (before kept : List Mark) (none : before ≡ []) (old new : List ℕ)
+    (runs : Runs outcome h (Draws with_mark before kept) old new) (value : Ending) (is : value ≡ ending_of h kept) where
   with_all : value ≡ ending_of h runs.marks
   with_all = is ∙ ap (ending_of h) (runs.drawn ∙ ap (λ page. drawn_on with_mark page runs.marks) none ∙ kept_marks [] runs.marks)
 
@@ -31,5 +32,6 @@ same_parts (halt.Seac accent) marks = refl
 same_parts (halt.Failed fault) marks = refl
 
 -- it names the parts of the run's answer, whatever was drawn
-pub named : (outcome : Outcome) (h : Halt) (Drawn : List Mark → Type 0) (old new : List ℕ) → Runs outcome h Drawn old new → parts_of (ending_of h []) ≡ parts_of (at_top outcome.ending)
+pub named : (outcome : Outcome) (h : Halt) (Drawn : List Mark → Type 0) (old new : List ℕ) → Runs outcome h Drawn old new →
+    parts_of (ending_of h []) ≡ parts_of (at_top outcome.ending)
 named outcome h Drawn old new runs = same_parts h runs.marks ∙ ap parts_of runs.ends_so

@@ -7,7 +7,8 @@ use Rattle.t1_run.specs.declared.answer.Hints.{Hints}
 use Rattle.t1_run.specs.declared.answer.Hints.TheVariants.{Replaced, Kept}
 use Rattle.t1_run.specs.State.{State, Ending, Back, Plain, Seac, Failed, start}
 use Rattle.t1_run.specs.Rules.{Step, Goes, Ends, Calls}
-use Rattle.t1_run.specs.Run.{Subrs, Outcome, taken, index_of, entry, enter, call, then_run, resume, follow, after, visiting, deeper, visit, spend, run_with, run, level_limit, run_glyph, direct_by, at_top, calls_of, with_indices, exec}
+use Rattle.t1_run.specs.Run.{Subrs, Outcome, taken, index_of, entry, enter, call, then_run, resume, follow, after, visiting, deeper, visit, spend, run_with}
+use Rattle.t1_run.specs.Run.{run, level_limit, run_glyph, direct_by, at_top, calls_of, with_indices, exec}
 use Rattle.t1_run.specs.Drawings.{Glyphs, parts_of, picture, picture_at, of_two, accented_picture, outcome_at, draw_by}
 use Rattle.t1_run.specs.Growth.{Extends, NoFault, IsDrawn, RunsWithMore, DrawsWithMore}
 
@@ -34,14 +35,16 @@ then_grown (Failed e) rest rest' same h = refl
 resume_grown : (o : Outcome) (rest rest' : State → Outcome) → GrowsFrom rest rest' → NoFault (resume o rest).ending → resume o rest' ≡ resume o rest
 resume_grown o rest rest' same h = ap (λ (x : Outcome). after o.indices (visiting o.visits x)) (then_grown o.ending rest rest' same h)
 
-follow_grown : (call call' : Option ℕ → State → Outcome) (rest rest' : State → Outcome) (step : Step) → Grows call call' → GrowsFrom rest rest' → NoFault (follow call rest step).ending → follow call' rest' step ≡ follow call rest step
+follow_grown : (call call' : Option ℕ → State → Outcome) (rest rest' : State → Outcome) (step : Step) → Grows call call' →
+    GrowsFrom rest rest' → NoFault (follow call rest step).ending → follow call' rest' step ≡ follow call rest step
 follow_grown call call' rest rest' (Goes s) calls same h = same s h
 follow_grown call call' rest rest' (Ends e) calls same h = refl
 follow_grown call call' rest rest' (Calls i s) calls same h =
     let e : call' (index_of i) s ≡ call (index_of i) s = calls (index_of i) s (then_ended (call (index_of i) s).ending rest h) in
     ap (after (taken (index_of i))) (ap (λ (o : Outcome). resume (deeper o) rest') e ∙ resume_grown (deeper (call (index_of i) s)) rest rest' same h)
 
-run_with_grown : (hints : Hints) (call call' : Option ℕ → State → Outcome) (ts : List Token) → Grows call call' → GrowsFrom (run_with hints call ts) (run_with hints call' ts)
+run_with_grown : (hints : Hints) (call call' : Option ℕ → State → Outcome) (ts : List Token) → Grows call call' →
+    GrowsFrom (run_with hints call ts) (run_with hints call' ts)
 run_with_grown hints call call' [] calls s h = refl
 run_with_grown hints call call' (t ∷ ts) calls s h =
     ap (visiting (visit s (spend hints t s))) (follow_grown call call' (run_with hints call ts) (run_with hints call' ts) (spend hints t s) calls
@@ -49,7 +52,8 @@ run_with_grown hints call call' (t ∷ ts) calls s h =
 
 module _ (f g : Subrs) (more : Extends f g) where
   -- what is there is there in g, and a run of what isn't is a fault
-  enter_grown : (i : Option ℕ) (o : Option (List ℕ)) → entry f i ≡ o → (inner inner' : List Token → State → Outcome) → ((ts : List Token) → GrowsFrom (inner ts) (inner' ts)) → (s : State) → NoFault (enter o inner s).ending → enter (entry g i) inner' s ≡ enter o inner s
+  enter_grown : (i : Option ℕ) (o : Option (List ℕ)) → entry f i ≡ o → (inner inner' : List Token → State → Outcome) →
+      ((ts : List Token) → GrowsFrom (inner ts) (inner' ts)) → (s : State) → NoFault (enter o inner s).ending → enter (entry g i) inner' s ≡ enter o inner s
   enter_grown i None is inner inner' same s h = absurd h
   enter_grown None (Some c) is inner inner' same s h = cc
   enter_grown (Some i) (Some c) is inner inner' same s h = ap (λ (o : Option (List ℕ)). enter o inner' s) (more i c is) ∙ same (tokens c) s h
@@ -57,7 +61,8 @@ module _ (f g : Subrs) (more : Extends f g) where
   call_grown : (hints : Hints) (levels : ℕ) → Grows (call f hints levels) (call g hints levels)
   call_grown hints zero i s h = refl
   call_grown hints (suc levels) i s h =
-      enter_grown i (entry f i) refl (run f hints levels) (run g hints levels) (λ ts. run_with_grown hints (call f hints levels) (call g hints levels) ts (call_grown hints levels)) s h
+      enter_grown i (entry f i) refl (run f hints levels) (run g hints levels)
+      (λ ts. run_with_grown hints (call f hints levels) (call g hints levels) ts (call_grown hints levels)) s h
 
   top_ended : (e : Ending) → NoFault (at_top e) → NoFault e
   top_ended (Back s) h = tt
@@ -67,7 +72,8 @@ module _ (f g : Subrs) (more : Extends f g) where
 
   glyph_grown : (hints : Hints) (c : List ℕ) → NoFault (direct_by hints f c) → run_glyph g hints c ≡ run_glyph f hints c
   glyph_grown hints c h =
-      run_with_grown hints (call f hints level_limit) (call g hints level_limit) (tokens c) (call_grown hints level_limit) start (top_ended (run_glyph f hints c).ending h)
+      run_with_grown hints (call f hints level_limit) (call g hints level_limit) (tokens c)
+      (call_grown hints level_limit) start (top_ended (run_glyph f hints c).ending h)
 
   -- a charstring that ends without a fault answers the same where there are more Subrs
   pub direct_grown : (hints : Hints) (c : List ℕ) → NoFault (direct_by hints f c) → direct_by hints g c ≡ direct_by hints f c
@@ -109,7 +115,8 @@ two_plain a (Some (Plain m ms)) (Some (Failed e)) h = absurd h
 two_plain a (Some (Plain m ms)) (Some (Plain n ns)) h = (tt, tt)
 
 -- a font whose outcomes are those of another wherever those are plain glyphs
-accented_grown : (a : Accent) (h k : List ℕ → Option Ending) → ((n : List ℕ) → IsPlain (h n) → k n ≡ h n) → (ps : List (List ℕ)) → IsDrawn (accented_picture a (map h ps)) → accented_picture a (map k ps) ≡ accented_picture a (map h ps)
+accented_grown : (a : Accent) (h k : List ℕ → Option Ending) → ((n : List ℕ) → IsPlain (h n) → k n ≡ h n) →
+    (ps : List (List ℕ)) → IsDrawn (accented_picture a (map h ps)) → accented_picture a (map k ps) ≡ accented_picture a (map h ps)
 accented_grown a h k same [] d = absurd d
 accented_grown a h k same (p ∷ []) d = absurd d
 accented_grown a h k same (p ∷ q ∷ []) d =
@@ -119,9 +126,11 @@ accented_grown a h k same (p ∷ q ∷ r ∷ ps) d = absurd d
 
 module _ (hints : Hints) (f g : Subrs) (f' g' : Glyphs) (more : Extends f g) (more' : Extends f' g') where
   -- a plain glyph comes to the same where there is more
-  outcome_grown : (n : List ℕ) (x : Option (List ℕ)) → f' n ≡ x → IsPlain (option_map (direct_by hints f) x) → outcome_at hints g g' n ≡ option_map (direct_by hints f) x
+  outcome_grown : (n : List ℕ) (x : Option (List ℕ)) → f' n ≡ x → IsPlain (option_map (direct_by hints f) x) →
+      outcome_at hints g g' n ≡ option_map (direct_by hints f) x
   outcome_grown n None is h = absurd h
-  outcome_grown n (Some c) is h = ap (option_map (direct_by hints g)) (more' n c is) ∙ ap Some (direct_grown f g more hints c (plain_ended (direct_by hints f c) h))
+  outcome_grown n (Some c) is h =
+      ap (option_map (direct_by hints g)) (more' n c is) ∙ ap Some (direct_grown f g more hints c (plain_ended (direct_by hints f c) h))
     where
       plain_ended : (e : Ending) → IsPlain (Some e) → NoFault e
       plain_ended (Back s) h = tt
@@ -129,7 +138,8 @@ module _ (hints : Hints) (f g : Subrs) (f' g' : Glyphs) (more : Extends f g) (mo
       plain_ended (Seac a) h = tt
       plain_ended (Failed e) h = h
 
-  picture_grown : (e : Ending) → IsDrawn (picture e (map (outcome_at hints f f') (parts_of e))) → picture e (map (outcome_at hints g g') (parts_of e)) ≡ picture e (map (outcome_at hints f f') (parts_of e))
+  picture_grown : (e : Ending) → IsDrawn (picture e (map (outcome_at hints f f') (parts_of e))) →
+      picture e (map (outcome_at hints g g') (parts_of e)) ≡ picture e (map (outcome_at hints f f') (parts_of e))
   picture_grown (Back s) h = refl
   picture_grown (Plain m ms) h = refl
   picture_grown (Seac a) h = accented_grown a (outcome_at hints f f') (outcome_at hints g g') (λ n p. outcome_grown n (f' n) refl p) (parts_of (Seac a)) h
@@ -141,7 +151,8 @@ module _ (hints : Hints) (f g : Subrs) (f' g' : Glyphs) (more : Extends f g) (mo
   drawn_ended (Seac a) os h = tt
   drawn_ended (Failed e) os h = h
 
-  glyph_drawn : (name : List ℕ) (x : Option (List ℕ)) → f' name ≡ x → IsDrawn (picture_at hints f f' (option_map (direct_by hints f) x)) → draw_by hints g g' name ≡ picture_at hints f f' (option_map (direct_by hints f) x)
+  glyph_drawn : (name : List ℕ) (x : Option (List ℕ)) → f' name ≡ x → IsDrawn (picture_at hints f f' (option_map (direct_by hints f) x)) →
+      draw_by hints g g' name ≡ picture_at hints f f' (option_map (direct_by hints f) x)
   glyph_drawn name None is h = absurd h
   glyph_drawn name (Some c) is h =
       let own = direct_by hints f c in

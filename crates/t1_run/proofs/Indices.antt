@@ -24,7 +24,11 @@ reached_insert : (i : ℕ) (ks : List ℕ) → Reached i (insert_key nat_cmp ks 
 reached_insert i [] = inl refl
 reached_insert i (x ∷ xs) =
     let P : Ordering → Type 0 = λ r. Reached i (match_ordering r (i ∷ x ∷ xs) (x ∷ xs) (x ∷ insert_key nat_cmp xs i)) in
-    let by : (r : Ordering) → MatchOrdering r (i < x) (i ≡ x) (x < i) → P r = λ r. elim r as (λ r. MatchOrdering r (i < x) (i ≡ x) (x < i) → P r) [ Less ↦ λ h. inl refl | Equal ↦ λ h. inl (sym h) | Greater ↦ λ h. inr (h, reached_insert i xs) ] in
+    let by : (r : Ordering) → MatchOrdering r (i < x) (i ≡ x) (x < i) → P r = λ r. elim r as (λ r. MatchOrdering r (i < x) (i ≡ x) (x < i) → P r) [
+      | Less ↦ λ h. inl refl
+      | Equal ↦ λ h. inl (sym h)
+      | Greater ↦ λ h. inr (h, reached_insert i xs)
+    ] in
     by (nat_cmp i x) (ranked i x (nat_cmp i x) refl)
 
 before_reached : (i j x : ℕ) (xs : List ℕ) → j < x → Reached i (x ∷ xs) → j < i
@@ -36,7 +40,11 @@ reached_insert_other i j [] h = absurd h
 reached_insert_other i j (x ∷ xs) h =
     let rest : Reached i xs → Reached i (insert_key nat_cmp xs j) = reached_insert_other i j xs in
     let P : Ordering → Type 0 = λ r. Reached i (match_ordering r (j ∷ x ∷ xs) (x ∷ xs) (x ∷ insert_key nat_cmp xs j)) in
-    let by : (r : Ordering) → MatchOrdering r (j < x) (j ≡ x) (x < j) → P r = λ r. elim r as (λ r. MatchOrdering r (j < x) (j ≡ x) (x < j) → P r) [ Less ↦ λ less. inr (before_reached i j x xs less h, h) | Equal ↦ λ e. h | Greater ↦ λ more. elim h [ inl e ↦ inl e | inr k ↦ inr (k.0, rest k.1) ] ] in
+    let by : (r : Ordering) → MatchOrdering r (j < x) (j ≡ x) (x < j) → P r = λ r. elim r as (λ r. MatchOrdering r (j < x) (j ≡ x) (x < j) → P r) [
+      | Less ↦ λ less. inr (before_reached i j x xs less h, h)
+      | Equal ↦ λ e. h
+      | Greater ↦ λ more. elim h [ inl e ↦ inl e | inr k ↦ inr (k.0, rest k.1) ]
+    ] in
     by (nat_cmp j x) (ranked j x (nat_cmp j x) refl)
 
 not_below : (i x : ℕ) (xs : List ℕ) → i < x → Reached i (x ∷ xs) → ⊥
@@ -53,7 +61,12 @@ insert_reached i [] h = absurd h
 insert_reached i (x ∷ xs) h =
     let rest : Reached i xs → insert_key nat_cmp xs i ≡ xs = insert_reached i xs in
     let P : Ordering → Type 0 = λ r. match_ordering r (i ∷ x ∷ xs) (x ∷ xs) (x ∷ insert_key nat_cmp xs i) ≡ x ∷ xs in
-    let by : (r : Ordering) → MatchOrdering r (i < x) (i ≡ x) (x < i) → P r = λ r. elim r as (λ r. MatchOrdering r (i < x) (i ≡ x) (x < i) → P r) [ Less ↦ λ less. absurd (not_below i x xs less h) | Equal ↦ λ e. refl | Greater ↦ λ more. ap (λ (ks : List ℕ). x ∷ ks) (rest (reached_rest i x xs more h)) ] in
+    let by : (r : Ordering) → MatchOrdering r (i < x) (i ≡ x) (x < i) → P r =
+    λ r. elim r as (λ r. MatchOrdering r (i < x) (i ≡ x) (x < i) → P r) [
+      | Less ↦ λ less. absurd (not_below i x xs less h)
+      | Equal ↦ λ e. refl
+      | Greater ↦ λ more. ap (λ (ks : List ℕ). x ∷ ks) (rest (reached_rest i x xs more h))
+    ] in
     by (nat_cmp i x) (ranked i x (nat_cmp i x) refl)
 
 reached_with : (j : ℕ) (is set : List ℕ) → Reached j set → Reached j (with_indices set is)
@@ -64,9 +77,13 @@ reached_with j (i ∷ is) set h = reached_with j is (insert_key nat_cmp set i) (
 reached_from : (is set : List ℕ) (i : ℕ) → 0 < times is i → Reached i (with_indices set is)
 reached_from [] set i h = absurd (omega (arith, h))
 reached_from (j ∷ is) set i h =
-    let here : j ≡ i → Reached i (with_indices (insert_key nat_cmp set j) is) = λ e. subst (λ n. Reached n (with_indices (insert_key nat_cmp set j) is)) e (reached_with j is (insert_key nat_cmp set j) (reached_insert j set)) in
+    let here : j ≡ i → Reached i (with_indices (insert_key nat_cmp set j) is) =
+    λ e. subst (λ n. Reached n (with_indices (insert_key nat_cmp set j) is)) e (reached_with j is (insert_key nat_cmp set j) (reached_insert j set)) in
     let by : (b : Bool) → (j == i) ≡ b → 0 < cond b 1 0 + times is i → Reached i (with_indices (insert_key nat_cmp set j) is) =
-    λ b. elim b as (λ b. (j == i) ≡ b → 0 < cond b 1 0 + times is i → Reached i (with_indices (insert_key nat_cmp set j) is)) [ true ↦ λ e more. here (eqb-true j i e) | false ↦ λ e more. reached_from is (insert_key nat_cmp set j) i (omega (arith, more)) ]
+    λ b. elim b as (λ b. (j == i) ≡ b → 0 < cond b 1 0 + times is i → Reached i (with_indices (insert_key nat_cmp set j) is)) [
+      | true ↦ λ e more. here (eqb-true j i e)
+      | false ↦ λ e more. reached_from is (insert_key nat_cmp set j) i (omega (arith, more))
+    ]
     in
     by (j == i) refl (subst (λ n. 0 < n) (sum_by-cons (λ x. cond (x == i) 1 0) j is) h)
 

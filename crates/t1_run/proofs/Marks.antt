@@ -7,7 +7,8 @@ use Rattle.t1_run.specs.declared.answer.Hints.{Hints}
 use Rattle.t1_run.specs.declared.answer.Mark.{Mark}
 use Rattle.t1_run.specs.State.{State, Ending, Back, Plain, Seac, Failed, start}
 use Rattle.t1_run.specs.Rules.{Step, Goes, Ends, Calls}
-use Rattle.t1_run.specs.Run.{Subrs, Visit, Outcome, one_deeper, deeper, visiting, marks_after, visit, then_run, resume, follow, spend, index_of, entry, enter, run_with, call, level_limit, run_glyph, marks_by, at_top}
+use Rattle.t1_run.specs.Run.{Subrs, Visit, Outcome, one_deeper, deeper, visiting, marks_after, visit, then_run, resume, follow, spend, index_of, entry, enter}
+use Rattle.t1_run.specs.Run.{run_with, call, level_limit, run_glyph, marks_by, at_top}
 use Rattle.t1_run.specs.Drawings.{marks_of, IsPlain}
 use Rattle.t1_run.specs.Laws.{MakesItsMarks}
 use Rattle.t1_run.proofs.Resumed.{marks_by-append}
@@ -47,7 +48,8 @@ resume_marked marks o rest h k =
     subst (HasMarks later.ending) (sym (marks_by-append marks o.visits later.visits)) (then_marked o.ending rest (marks_by marks o.visits) h k)
 
 -- what follows a token does if its calls and the rest do
-follow_marked : (call : Option ℕ → State → Outcome) (rest : State → Outcome) (s : State) (step : Step) → ((i : Option ℕ) → RestMarked (call i)) → RestMarked rest → EndsMarked (marks_after s step) (follow call rest step)
+follow_marked : (call : Option ℕ → State → Outcome) (rest : State → Outcome) (s : State) (step : Step) →
+    ((i : Option ℕ) → RestMarked (call i)) → RestMarked rest → EndsMarked (marks_after s step) (follow call rest step)
 unfolding RestMarked
 follow_marked call rest s (Goes next) calls k = k next
 follow_marked call rest s (Ends (Back next)) calls k = refl
@@ -64,7 +66,8 @@ visit_marks s (Ends (Failed TooLong)) = refl
 visit_marks s _ = refl
 
 -- a token and what follows it do
-visited_marked : (call : Option ℕ → State → Outcome) (rest : State → Outcome) (s : State) (step : Step) → ((i : Option ℕ) → RestMarked (call i)) → RestMarked rest → EndsMarked s.marks (visiting (visit s step) (follow call rest step))
+visited_marked : (call : Option ℕ → State → Outcome) (rest : State → Outcome) (s : State) (step : Step) →
+    ((i : Option ℕ) → RestMarked (call i)) → RestMarked rest → EndsMarked s.marks (visiting (visit s step) (follow call rest step))
 visited_marked call rest s step calls k =
     let later : Outcome = follow call rest step in
     let all : marks_by s.marks (visit s step ++ later.visits) ≡ marks_by (marks_after s step) later.visits =
@@ -73,7 +76,8 @@ visited_marked call rest s step calls k =
     subst (HasMarks later.ending) (sym all) (follow_marked call rest s step calls k)
 
 -- a run of a token list does if its calls do
-run_with_marked : (hints : Hints) (call : Option ℕ → State → Outcome) → ((i : Option ℕ) → RestMarked (call i)) → (ts : List Token) → RestMarked (run_with hints call ts)
+run_with_marked : (hints : Hints) (call : Option ℕ → State → Outcome) → ((i : Option ℕ) → RestMarked (call i)) → (ts : List Token) →
+    RestMarked (run_with hints call ts)
 unfolding RestMarked
 run_with_marked hints call calls [] s = tt
 run_with_marked hints call calls (t ∷ ts) s = visited_marked call (run_with hints call ts) s (spend hints t s) calls (run_with_marked hints call calls ts)
@@ -89,7 +93,8 @@ call_marked : (subrs : Subrs) (hints : Hints) (levels : ℕ) (i : Option ℕ) �
 unfolding RestMarked
 call_marked subrs hints zero i s = tt
 call_marked subrs hints (suc levels) i s =
-    enter_marked (entry subrs i) (run_with hints (call subrs hints levels)) (λ ts. run_with_marked hints (call subrs hints levels) (call_marked subrs hints levels) ts) s
+    enter_marked (entry subrs i) (run_with hints (call subrs hints levels))
+    (λ ts. run_with_marked hints (call subrs hints levels) (call_marked subrs hints levels) ts) s
 
 -- the marks of an ending that is a plain glyph's are those of the outcome
 plain_marks : (e : Ending) (marks : List Mark) → HasMarks e marks → IsPlain (at_top e) → marks ≡ marks_of (at_top e)
@@ -103,4 +108,5 @@ pub makes_its_marks : MakesItsMarks
 unfolding RestMarked
 makes_its_marks hints subrs c plain =
     let o : Outcome = run_glyph subrs hints c in
-    plain_marks o.ending (marks_by [] o.visits) (run_with_marked hints (call subrs hints level_limit) (call_marked subrs hints level_limit) (tokens c) start) plain
+    plain_marks o.ending (marks_by [] o.visits)
+    (run_with_marked hints (call subrs hints level_limit) (call_marked subrs hints level_limit) (tokens c) start) plain

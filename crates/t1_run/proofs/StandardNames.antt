@@ -1,5 +1,6 @@
 -- The name that runs of names have for a code.
-use Rattle.std.proofs.Common.{◌≡◌, ◌-◌, ◌∙◌, ◌+◌, ◌<◌, ℕ, sym, Bor, slice_index_or, drop, refl, ap, List, [], ◌∷◌, length, Bool, true, false, Option, None, map, nat_le, nat_lt, slice_get, if◌then◌else◌}
+use Rattle.std.proofs.Common.{◌≡◌, ◌-◌, ◌∙◌, ◌+◌, ◌<◌, ℕ, sym, Bor, slice_index_or, drop, refl, ap, List, [], ◌∷◌, length, Bool, true, false, Option, None, map}
+use Rattle.std.proofs.Common.{nat_le, nat_lt, slice_get, if◌then◌else◌}
 use Rattle.std.proofs.lemmas.Option.{slice_get-get_or, slice_get_past}
 use Rattle.std.specs.Option.{option_or}
 use Rattle.std.proofs.lemmas.Bool.{ltb-true, ltb-false}

@@ -10,11 +10,13 @@ use Rattle.t1_run.specs.declared.answer.Mark.{Mark}
 use Rattle.t1_run.specs.declared.answer.Hints.{Hints}
 use Rattle.t1_run.specs.State.{State, Ending, Back, Failed}
 use Rattle.t1_run.specs.Rules.{Step, Goes, Ends, Calls}
-use Rattle.t1_run.specs.Run.{Subrs, Visit, Outcome, ends, after, visiting, deeper, visit, taken, index_of, entry, enter, then_run, resume, follow, spend, run, level_limit, call, with_indices, marks_after, marks_by}
+use Rattle.t1_run.specs.Run.{Subrs, Visit, Outcome, ends, after, visiting, deeper, visit, taken, index_of, entry, enter, then_run, resume, follow, spend, run}
+use Rattle.t1_run.specs.Run.{level_limit, call, with_indices, marks_after, marks_by}
 use Rattle.t1_run.specs.Frames.{frame_left, lists_of, deeper_by, run_frames}
 use Rattle.t1_run.specs.Limits.{IsWithinLimits}
 use Rattle.t1_run.proofs.Indices.{with_indices-append}
-use Rattle.t1_run.proofs.Resumed.{resume_after, resume_visiting, resume_twice, resume_nothing, deeper_by-resume, deeper_by-ends, deeper_by-after, deeper_by-visiting, visits_by, none_by, one_by, marks_by-append}
+use Rattle.t1_run.proofs.Resumed.{resume_after, resume_visiting, resume_twice, resume_nothing, deeper_by-resume, deeper_by-ends, deeper_by-after}
+use Rattle.t1_run.proofs.Resumed.{deeper_by-visiting, visits_by, none_by, one_by, marks_by-append}
 
 -- ---- what the next token of the list on top makes of a run of lists
 
@@ -44,7 +46,8 @@ module _ (subrs : Subrs) (hints : Hints) (levels : ℕ) (below : List (List Toke
     lists_run = run_frames subrs hints levels ((t ∷ ts) ∷ below) s
 
     -- its visit comes first, and then what its step leaves
-    token_steps : (step : Step) → step ≡ spend hints t s → lists_run ≡ visiting (seen below s step) (resume (deeper_by (length below) (follow (call subrs hints levels) (run subrs hints levels ts) step)) below_runs)
+    token_steps : (step : Step) → step ≡ spend hints t s → lists_run
+        ≡ visiting (seen below s step) (resume (deeper_by (length below) (follow (call subrs hints levels) (run subrs hints levels ts) step)) below_runs)
     token_steps step e =
         let on : Step → Outcome = follow (call subrs hints levels) (run subrs hints levels ts) in
         ap (λ (x : Step). resume (deeper_by (length below) (visiting (visit s x) (on x))) below_runs) (sym e)
@@ -61,25 +64,31 @@ module _ (subrs : Subrs) (hints : Hints) (levels : ℕ) (below : List (List Toke
         token_steps (Ends end) e ∙ ap (λ (o : Outcome). visiting (seen below s (Ends end)) (resume o below_runs)) (deeper_by-ends (length below) end)
 
     -- it calls, and from a Back of the call its list goes on
-    pub token_calls : (s' : State) (i : ℤ) → Calls i s' ≡ spend hints t s → lists_run ≡ visiting (seen below s (Calls i s')) (after (taken (index_of i)) (call_on subrs hints levels (ts ∷ below) (index_of i) s'))
+    pub token_calls : (s' : State) (i : ℤ) → Calls i s' ≡ spend hints t s →
+        lists_run ≡ visiting (seen below s (Calls i s')) (after (taken (index_of i)) (call_on subrs hints levels (ts ∷ below) (index_of i) s'))
     token_calls s' i e =
         let called : Outcome = call subrs hints levels (index_of i) s' in
         let on : State → Outcome = run subrs hints levels ts in
         let n : ℕ = length below in
         token_steps (Calls i s') e
         ∙ ap (visiting (seen below s (Calls i s')))
-        (ap (λ (o : Outcome). resume o below_runs) (deeper_by-after n (taken (index_of i)) (resume (deeper called) on) ∙ ap (after (taken (index_of i))) (deeper_by-resume n (deeper called) on))
+        (ap (λ (o : Outcome). resume o below_runs)
+        (deeper_by-after n (taken (index_of i)) (resume (deeper called) on) ∙ ap (after (taken (index_of i))) (deeper_by-resume n (deeper called) on))
         ∙ resume_after (taken (index_of i)) (resume (deeper_by (suc n) called) (λ s. deeper_by n (on s))) below_runs
         ∙ ap (after (taken (index_of i))) (resume_twice (deeper_by (suc n) called) (λ s. deeper_by n (on s)) below_runs))
 
 module _ (subrs : Subrs) (hints : Hints) (lists : List (List Token)) (index : Option ℕ) (s : State) where
   -- a call that fails ends the run
-  pub call_fails : (levels : ℕ) (fault : Fault) → call subrs hints levels index s ≡ ends (Failed fault) → call_on subrs hints levels lists index s ≡ ends (Failed fault)
-  call_fails levels fault e = ap (λ (o : Outcome). resume o (run_frames subrs hints levels lists)) (ap (deeper_by (length lists)) e ∙ deeper_by-ends (length lists) (Failed fault))
+  pub call_fails : (levels : ℕ) (fault : Fault) → call subrs hints levels index s ≡ ends (Failed fault) →
+      call_on subrs hints levels lists index s ≡ ends (Failed fault)
+  call_fails levels fault e =
+      ap (λ (o : Outcome). resume o (run_frames subrs hints levels lists)) (ap (deeper_by (length lists)) e ∙ deeper_by-ends (length lists) (Failed fault))
 
   -- a call of a Subr puts its tokens on top, where calls may be one level less deep
-  pub call_enters : (levels : ℕ) (c : List ℕ) → entry subrs index ≡ Some c → call_on subrs hints (suc levels) lists index s ≡ run_frames subrs hints levels (tokens c ∷ lists) s
-  call_enters levels c e = ap (λ (o : Option (List ℕ)). resume (deeper_by (length lists) (enter o (run subrs hints levels) s)) (run_frames subrs hints (suc levels) lists)) e
+  pub call_enters : (levels : ℕ) (c : List ℕ) → entry subrs index ≡ Some c →
+      call_on subrs hints (suc levels) lists index s ≡ run_frames subrs hints levels (tokens c ∷ lists) s
+  call_enters levels c e =
+      ap (λ (o : Option (List ℕ)). resume (deeper_by (length lists) (enter o (run subrs hints levels) s)) (run_frames subrs hints (suc levels) lists)) e
 
 -- ---- what is left of a whole run
 
@@ -105,17 +114,20 @@ pub record Ended (whole : Outcome) (end : Ending) (old now : List ℕ) (marks : 
   pub made : marks ≡ marks_by [] whole.visits
 
 -- In a turn the token t of the frame on top is next; f is that frame after it, and below it is the rest.
-pub record Turn (whole : Outcome) (old : List ℕ) (subrs : Subrs) (hints : Hints) (rest : List Frame) (f : Frame) (t : Token) (s : State) (now : List ℕ) : Type 0 where
+pub record Turn (whole : Outcome) (old : List ℕ) (subrs : Subrs) (hints : Hints) (rest : List Frame) (f : Frame) (t : Token) (s : State) (now : List ℕ) :
+    Type 0 where
   pub levels : ℕ
   pub depth : levels + (length rest + 1) ≡ suc level_limit
   pub left : Leaves whole old (run_frames subrs hints levels ((t ∷ frame_left f) ∷ lists_of rest) s) now s.marks
 
 module _ {whole : Outcome} {old : List ℕ} where
   left_as : (a b : Outcome) (now : List ℕ) (marks : List Mark) → a ≡ b → Leaves whole old a now marks → Leaves whole old b now marks
-  left_as a b now marks e k = record { calls = k.calls; visits = k.visits; goes = k.goes ∙ ap (λ (o : Outcome). after k.calls (visiting k.visits o)) e; took = k.took; made = k.made }
+  left_as a b now marks e k =
+      record { calls = k.calls; visits = k.visits; goes = k.goes ∙ ap (λ (o : Outcome). after k.calls (visiting k.visits o)) e; took = k.took; made = k.made }
 
   -- after more visits and calls
-  left_after : (visits : List Visit) (more : List ℕ) (a o : Outcome) (now mid : List ℕ) (marks marks' : List Mark) → a ≡ visiting visits (after more o) → mid ≡ with_indices now more → marks_by marks visits ≡ marks' → Leaves whole old a now marks → Leaves whole old o mid marks'
+  left_after : (visits : List Visit) (more : List ℕ) (a o : Outcome) (now mid : List ℕ) (marks marks' : List Mark) → a ≡ visiting visits (after more o) →
+      mid ≡ with_indices now more → marks_by marks visits ≡ marks' → Leaves whole old a now marks → Leaves whole old o mid marks'
   left_after visits more a o now mid marks marks' e m made k =
       let so_far : Outcome → Outcome = λ (o : Outcome). after k.calls (visiting k.visits o) in
       let moved : so_far (visiting visits (after more o)) ≡ after (k.calls ++ more) (visiting (k.visits ++ visits) o) =
@@ -160,7 +172,8 @@ without_top frames rest f pushed =
     ap (take (length frames - 1)) pushed ∙ take_at rest (f ∷ []) (length frames - 1) (omega (arith, few))
 
 -- before the first turn the glyph's frame stands alone
-pub begins : (subrs : Subrs) (hints : Hints) (c : List ℕ) (s : State) (old : List ℕ) (frames : List Frame) (f : Frame) → frames ≡ [] ++ f ∷ [] → frame_left f ≡ tokens c → s.marks ≡ [] → IsWithinLimits s → Turns (run subrs hints level_limit (tokens c) s) old subrs hints frames s old
+pub begins : (subrs : Subrs) (hints : Hints) (c : List ℕ) (s : State) (old : List ℕ) (frames : List Frame) (f : Frame) → frames ≡ [] ++ f ∷ [] →
+    frame_left f ≡ tokens c → s.marks ≡ [] → IsWithinLimits s → Turns (run subrs hints level_limit (tokens c) s) old subrs hints frames s old
 begins subrs hints c s old frames f first all none within =
     let goes : run subrs hints level_limit (tokens c) s ≡ run_frames subrs hints level_limit (lists_of frames) s =
     sym (ap (λ (lists : List (List Token)). run_frames subrs hints level_limit lists s) (lists_push frames [] f first ∙ ap (λ (ts : List Token). ts ∷ []) all)
@@ -173,7 +186,8 @@ begins subrs hints c s old frames f first all none within =
       within = within;
     }
 
-module _ {whole : Outcome} {old : List ℕ} {subrs : Subrs} {hints : Hints} {frames : List Frame} {s : State} {now : List ℕ} (inv : Turns whole old subrs hints frames s now) (rest : List Frame) (f : Frame) (popped : frames ≡ rest ++ f ∷ []) where
+module _ {whole : Outcome} {old : List ℕ} {subrs : Subrs} {hints : Hints} {frames : List Frame} {s : State} {now : List ℕ}
+    (inv : Turns whole old subrs hints frames s now) (rest : List Frame) (f : Frame) (popped : frames ≡ rest ++ f ∷ []) where
   top : (ts : List Token) → frame_left f ≡ ts → Leaves whole old (run_frames subrs hints inv.levels (ts ∷ lists_of rest) s) now s.marks
   top ts e =
       let lists : lists_of frames ≡ ts ∷ lists_of rest = lists_push frames rest f popped ∙ ap (λ (ts : List Token). ts ∷ lists_of rest) e in
@@ -182,39 +196,47 @@ module _ {whole : Outcome} {old : List ℕ} {subrs : Subrs} {hints : Hints} {fra
 
   -- no token is left on top
   pub runs_out : frame_left f ≡ [] → Ended whole (Failed Unended) old now s.marks
-  runs_out none = left_ends (Failed Unended) (run_frames subrs hints inv.levels ([] ∷ lists_of rest) s) now s.marks (none_left subrs hints inv.levels (lists_of rest) s) (top [] none)
+  runs_out none = left_ends (Failed Unended) (run_frames subrs hints inv.levels ([] ∷ lists_of rest) s) now s.marks
+      (none_left subrs hints inv.levels (lists_of rest) s) (top [] none)
 
   -- the frame on top gives its next token
   pub turn : (f' : Frame) (t : Token) → frame_left f ≡ t ∷ frame_left f' → Turn whole old subrs hints rest f' t s now
   turn f' t next =
       record { levels = inv.levels; depth = ap (λ n. inv.levels + n) (sym (length_push frames rest f popped)) ∙ inv.depth; left = top (t ∷ frame_left f') next }
 
-module _ {whole : Outcome} {old : List ℕ} {subrs : Subrs} {hints : Hints} {rest : List Frame} {f : Frame} {t : Token} {s : State} {now : List ℕ} (in_turn : Turn whole old subrs hints rest f t s now) where
+module _ {whole : Outcome} {old : List ℕ} {subrs : Subrs} {hints : Hints} {rest : List Frame} {f : Frame}
+    {t : Token} {s : State} {now : List ℕ} (in_turn : Turn whole old subrs hints rest f t s now) where
   abbrev lists_now : Outcome
   lists_now = run_frames subrs hints in_turn.levels ((t ∷ frame_left f) ∷ lists_of rest) s
 
   -- the token goes on: its frame stays
-  pub on_goes : (frames : List Frame) (s' : State) → frames ≡ rest ++ f ∷ [] → Goes s' ≡ spend hints t s → IsWithinLimits s' → Turns whole old subrs hints frames s' now
+  pub on_goes : (frames : List Frame) (s' : State) → frames ≡ rest ++ f ∷ [] → Goes s' ≡ spend hints t s → IsWithinLimits s' →
+      Turns whole old subrs hints frames s' now
   on_goes frames s' pushed e within =
       let goes : lists_now ≡ visiting (seen (lists_of rest) s (Goes s')) (run_frames subrs hints in_turn.levels (lists_of frames) s') =
       token_goes subrs hints in_turn.levels (lists_of rest) t (frame_left f) s s' e
-      ∙ ap (λ (lists : List (List Token)). visiting (seen (lists_of rest) s (Goes s')) (run_frames subrs hints in_turn.levels lists s')) (sym (lists_push frames rest f pushed))
+      ∙ ap (λ (lists : List (List Token)). visiting (seen (lists_of rest) s (Goes s')) (run_frames subrs hints in_turn.levels lists s'))
+      (sym (lists_push frames rest f pushed))
       in
       record {
         levels = in_turn.levels;
         depth = ap (λ n. in_turn.levels + n) (length_push frames rest f pushed) ∙ in_turn.depth;
-        left = left_after (seen (lists_of rest) s (Goes s')) [] lists_now (run_frames subrs hints in_turn.levels (lists_of frames) s') now now s.marks s'.marks goes refl (seen_marks (lists_of rest) s (Goes s')) in_turn.left;
+        left = left_after (seen (lists_of rest) s (Goes s')) [] lists_now (run_frames subrs hints in_turn.levels
+            (lists_of frames) s') now now s.marks s'.marks goes refl (seen_marks (lists_of rest) s (Goes s')) in_turn.left;
         within = within;
       }
 
   -- it goes back: its frame is gone
-  pub on_back : (frames : List Frame) (s' : State) → frames ≡ rest → Ends (Back s') ≡ spend hints t s → IsWithinLimits s' → Turns whole old subrs hints frames s' now
+  pub on_back : (frames : List Frame) (s' : State) → frames ≡ rest → Ends (Back s') ≡ spend hints t s → IsWithinLimits s' →
+      Turns whole old subrs hints frames s' now
   on_back frames s' popped e within =
       subst (λ (frames : List Frame). Turns whole old subrs hints frames s' now) (sym popped)
       (record {
         levels = suc in_turn.levels;
         depth = omega (arith, in_turn.depth);
-        left = left_after (seen (lists_of rest) s (Ends (Back s'))) [] lists_now (run_frames subrs hints (suc in_turn.levels) (lists_of rest) s') now now s.marks s'.marks (token_ends subrs hints in_turn.levels (lists_of rest) t (frame_left f) s (Back s') e) refl (seen_marks (lists_of rest) s (Ends (Back s'))) in_turn.left;
+        left = left_after (seen (lists_of rest) s (Ends (Back s'))) [] lists_now
+            (run_frames subrs hints (suc in_turn.levels) (lists_of rest) s') now now s.marks s'.marks (token_ends subrs hints in_turn.levels
+            (lists_of rest) t (frame_left f) s (Back s') e) refl (seen_marks (lists_of rest) s (Ends (Back s'))) in_turn.left;
         within = within;
       })
 
@@ -223,17 +245,22 @@ module _ {whole : Outcome} {old : List ℕ} {subrs : Subrs} {hints : Hints} {res
   on_last frames s' popped none e =
       let below_run : List Frame → Outcome = λ (frames : List Frame). run_frames subrs hints (suc in_turn.levels) (lists_of frames) s' in
       left_ends (Back s') (below_run rest) now s'.marks (ap below_run (sym popped ∙ none))
-      (left_after (seen (lists_of rest) s (Ends (Back s'))) [] lists_now (below_run rest) now now s.marks s'.marks (token_ends subrs hints in_turn.levels (lists_of rest) t (frame_left f) s (Back s') e) refl (seen_marks (lists_of rest) s (Ends (Back s'))) in_turn.left)
+      (left_after (seen (lists_of rest) s (Ends (Back s'))) [] lists_now (below_run rest) now now s.marks s'.marks (token_ends subrs hints in_turn.levels
+      (lists_of rest) t (frame_left f) s (Back s') e) refl (seen_marks (lists_of rest) s (Ends (Back s'))) in_turn.left)
 
   -- it ends the glyph
-  pub on_end : (end : Ending) → ((g : State → Outcome) → then_run end g ≡ ends end) → Ends end ≡ spend hints t s → Ended whole end old now (marks_after s (Ends end))
+  pub on_end : (end : Ending) → ((g : State → Outcome) → then_run end g ≡ ends end) → Ends end ≡ spend hints t s →
+      Ended whole end old now (marks_after s (Ends end))
   on_end end stops e =
       let below_run : State → Outcome = run_frames subrs hints (suc in_turn.levels) (lists_of rest) in
       left_ends end (then_run end below_run) now (marks_after s (Ends end)) (stops below_run)
-      (left_after (seen (lists_of rest) s (Ends end)) [] lists_now (then_run end below_run) now now s.marks (marks_after s (Ends end)) (token_ends subrs hints in_turn.levels (lists_of rest) t (frame_left f) s end e) refl (seen_marks (lists_of rest) s (Ends end)) in_turn.left)
+      (left_after (seen (lists_of rest) s (Ends end)) [] lists_now (then_run end below_run) now now s.marks (marks_after s (Ends end))
+      (token_ends subrs hints in_turn.levels (lists_of rest) t (frame_left f) s end e) refl (seen_marks (lists_of rest) s (Ends end)) in_turn.left)
 
   -- it calls, where so many levels are left above its frame
-  module _ (s' : State) (i : ℤ) (index : Option ℕ) (callers : List Frame) (levels : ℕ) (mid : List ℕ) (e : Calls i s' ≡ spend hints t s) (is : index ≡ index_of i) (pushed : callers ≡ rest ++ f ∷ []) (room : levels + length callers ≡ suc level_limit) (took : mid ≡ with_indices now (taken index)) where
+  module _ (s' : State) (i : ℤ) (index : Option ℕ) (callers : List Frame) (levels : ℕ) (mid : List ℕ)
+      (e : Calls i s' ≡ spend hints t s) (is : index ≡ index_of i) (pushed : callers ≡ rest ++ f ∷ [])
+      (room : levels + length callers ≡ suc level_limit) (took : mid ≡ with_indices now (taken index)) where
     called : Leaves whole old (call_on subrs hints levels (lists_of callers) index s') mid s'.marks
     called =
         let visits : List Visit = seen (lists_of rest) s (Calls i s') in
@@ -241,26 +268,34 @@ module _ {whole : Outcome} {old : List ℕ} {subrs : Subrs} {hints : Hints} {res
         let goes : lists_now ≡ visiting visits (after (taken index) (call_on subrs hints levels (lists_of callers) index s')) =
         token_calls subrs hints in_turn.levels (lists_of rest) t (frame_left f) s s' i e
         ∙ ap (λ (index : Option ℕ). visiting visits (after (taken index) (call_on subrs hints in_turn.levels (frame_left f ∷ lists_of rest) index s'))) (sym is)
-        ∙ ap (λ (lists : List (List Token)). visiting visits (after (taken index) (call_on subrs hints in_turn.levels lists index s'))) (sym (lists_push callers rest f pushed))
+        ∙ ap (λ (lists : List (List Token)). visiting visits (after (taken index) (call_on subrs hints in_turn.levels lists index s')))
+        (sym (lists_push callers rest f pushed))
         ∙ ap (λ n. visiting visits (after (taken index) (call_on subrs hints n (lists_of callers) index s'))) same
         in
-        left_after visits (taken index) lists_now (call_on subrs hints levels (lists_of callers) index s') now mid s.marks s'.marks goes took (seen_marks (lists_of rest) s (Calls i s')) in_turn.left
+        left_after visits (taken index) lists_now (call_on subrs hints levels (lists_of callers) index s') now mid s.marks s'.marks goes took
+        (seen_marks (lists_of rest) s (Calls i s')) in_turn.left
 
     -- the call fails
     pub on_fault : (fault : Fault) → call subrs hints levels index s' ≡ ends (Failed fault) → Ended whole (Failed fault) old mid s'.marks
-    on_fault fault failed = left_ends (Failed fault) (call_on subrs hints levels (lists_of callers) index s') mid s'.marks (call_fails subrs hints (lists_of callers) index s' levels fault failed) called
+    on_fault fault failed = left_ends (Failed fault) (call_on subrs hints levels (lists_of callers) index s') mid s'.marks
+        (call_fails subrs hints (lists_of callers) index s' levels fault failed) called
 
   -- a Subr is called: its frame is on top
-  pub on_call : (s' : State) (i : ℤ) (index : Option ℕ) (callers frames : List Frame) (levels : ℕ) (mid c : List ℕ) (g : Frame) → Calls i s' ≡ spend hints t s → index ≡ index_of i → callers ≡ rest ++ f ∷ [] → levels + length callers ≡ suc level_limit → mid ≡ with_indices now (taken index) → frames ≡ callers ++ g ∷ [] → (0 < levels) × (entry subrs index ≡ Some c) → frame_left g ≡ tokens c → IsWithinLimits s' → Turns whole old subrs hints frames s' mid
+  pub on_call : (s' : State) (i : ℤ) (index : Option ℕ) (callers frames : List Frame) (levels : ℕ) (mid c : List ℕ) (g : Frame) → Calls i s' ≡ spend hints t s →
+      index ≡ index_of i → callers ≡ rest ++ f ∷ [] → levels + length callers ≡ suc level_limit → mid ≡ with_indices now (taken index) →
+      frames ≡ callers ++ g ∷ [] → (0 < levels) × (entry subrs index ≡ Some c) → frame_left g ≡ tokens c → IsWithinLimits s' →
+      Turns whole old subrs hints frames s' mid
   on_call s' i index callers frames zero mid c g e is pushed room took entered enters all within = absurd (omega (arith, enters.0))
   on_call s' i index callers frames (suc levels) mid c g e is pushed room took entered enters all within =
       let lists : lists_of frames ≡ tokens c ∷ lists_of callers = lists_push frames callers g entered ∙ ap (λ (ts : List Token). ts ∷ lists_of callers) all in
       let goes : call_on subrs hints (suc levels) (lists_of callers) index s' ≡ run_frames subrs hints levels (lists_of frames) s' =
-      call_enters subrs hints (lists_of callers) index s' levels c enters.1 ∙ ap (λ (lists : List (List Token)). run_frames subrs hints levels lists s') (sym lists)
+      call_enters subrs hints (lists_of callers) index s' levels c enters.1
+      ∙ ap (λ (lists : List (List Token)). run_frames subrs hints levels lists s') (sym lists)
       in
       record {
         levels = levels;
         depth = omega (arith, room, length_push frames callers g entered);
-        left = left_as (call_on subrs hints (suc levels) (lists_of callers) index s') (run_frames subrs hints levels (lists_of frames) s') mid s'.marks goes (called s' i index callers (suc levels) mid e is pushed room took);
+        left = left_as (call_on subrs hints (suc levels) (lists_of callers) index s')
+            (run_frames subrs hints levels (lists_of frames) s') mid s'.marks goes (called s' i index callers (suc levels) mid e is pushed room took);
         within = within;
       }

@@ -20,7 +20,8 @@ abbrev pub deeper_by : ℕ → Outcome → Outcome
 deeper_by zero o = o
 deeper_by (suc n) o = deeper_by n (deeper o)
 
--- A run of token lists, the top first, where the top may call so many levels deeper: that of the top, as many calls deep as lists are below it, and then, from its Back, that of the lists below.
+-- A run of token lists, the top first, where the top may call so many levels deeper: that of the top, as many calls deep as lists are below it, and then, from
+-- its Back, that of the lists below.
 abbrev pub run_frames : Subrs → Hints → ℕ → List (List Token) → State → Outcome
 run_frames subrs hints levels [] s = ends (Back s)
 run_frames subrs hints levels (ts ∷ below) s =

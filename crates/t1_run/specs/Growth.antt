@@ -19,7 +19,8 @@ abbrev pub IsDrawn : Picture → Type 0
 IsDrawn (Drawn metrics parts) = Unit {0}
 IsDrawn (Undrawn fault) = ⊥
 
--- A run that ends without a fault calls no Subr that is absent: where there are more, it ends the same, and its calls take the same indices, by either answer to hint replacement by itself.
+-- A run that ends without a fault calls no Subr that is absent: where there are more, it ends the same, and its calls take the same indices, by either answer
+-- to hint replacement by itself.
 pub record RunsWithMore : Type 0 where
   pub answers : (f g : Subrs) (c : List ℕ) (hints : Hints) → Extends f g → NoFault (direct_by hints f c) → direct_by hints g c ≡ direct_by hints f c
   pub calls : (f g : Subrs) (c : List ℕ) (hints : Hints) → Extends f g → NoFault (direct_by hints f c) → calls_of hints g c ≡ calls_of hints f c

@@ -12,7 +12,8 @@ use Rattle.t1_subset.specs.Callers.{user_from, seeker_from}
 
 -- the smallest callers in the list are the smallest of both fonts
 pub record AreCallers (cs : List Callers) (f g : FontValue) : Type 0 where
-  pub users : (i : ℕ) → maps.contains_key f.subrs i ≡ true → maps.contains_key g.subrs i ≡ true → user_from None cs i ≡ smallest (used_by profile f g i) (glyph_names f g)
+  pub users : (i : ℕ) → maps.contains_key f.subrs i ≡ true → maps.contains_key g.subrs i ≡ true →
+      user_from None cs i ≡ smallest (used_by profile f g i) (glyph_names f g)
   pub seekers : (p : List ℕ) → seeker_from None cs p ≡ smallest (wanted_by profile f g p) (glyph_names f g)
 
 -- s and t are the states of two fonts

@@ -55,5 +55,6 @@ MergesSubsets g h r = (f : FontValue) → IsFont f → (a b : Names) → IsOf f 
 
 -- One or more subsets of one font come to the subset over all the sets of names, or a growth was refused.
 abbrev pub MergesAllSubsets : List FontValue → Result FontValue Refusal → Type 0
-MergesAllSubsets fs r = (f : FontValue) → IsFont f → (a : Names) (more : List Names) → AllByRecursion (IsOf f) (a ∷ more) → fs ≡ map (subset profile f) (a ∷ more)
+MergesAllSubsets fs r =
+    (f : FontValue) → IsFont f → (a : Names) (more : List Names) → AllByRecursion (IsOf f) (a ∷ more) → fs ≡ map (subset profile f) (a ∷ more)
     → MatchResult r (λ j. j ≡ subset profile f (union_all (a ∷ more))) (λ e. e ≡ Memory)

@@ -1,6 +1,8 @@
 //! Laws of subsets and mergers. They speak of the definitions alone and depend on no code.
 
-ghost use Rattle.t1_algebra.specs.Laws.{KeepIsLeast, KeepIsMonotone, Distribution, SubsetIsFont, SubsetOfSubset, Bottom, SubsetsDraw, TwoSubsets, ManySubsets, JoinIsFont, JoinIsSymmetric, JoinIsIdempotent, StatesOfJoin, JoinsDraw, AnyOrder, AcceptedByPairs, JoinWhereStatesAgree, NoConflictIsJoin, ConflictIsSymmetric, JoinHasEntries, CallsDrawAlike};
+ghost use Rattle.t1_algebra.specs.Laws.{KeepIsLeast, KeepIsMonotone, Distribution, SubsetIsFont, SubsetOfSubset, Bottom, SubsetsDraw, TwoSubsets};
+ghost use Rattle.t1_algebra.specs.Laws.{ManySubsets, JoinIsFont, JoinIsSymmetric, JoinIsIdempotent, StatesOfJoin, JoinsDraw, AnyOrder};
+ghost use Rattle.t1_algebra.specs.Laws.{AcceptedByPairs, JoinWhereStatesAgree, NoConflictIsJoin, ConflictIsSymmetric, JoinHasEntries, CallsDrawAlike};
 ghost use Rattle.t1_algebra.specs.Profile.{profile};
 ghost use Rattle.t1_algebra.specs.Headline.{Headline};
 ghost use Rattle.t1_algebra.specs.Evened.{EvenedDraw};

@@ -27,7 +27,8 @@ stays_drawn subrs f j more same n =
 -- stubs take the place of no entry
 stubs_added : (indices : List ℕ) (m : Numbered) (es : List (ℕ × List ℕ)) → Extends (maps.get m) (maps.get (with_stubs indices m es))
 stubs_added indices m [] i c is = is
-stubs_added indices m (e ∷ es) i c is = get-merged nat_cmp_total nat_cmp-IsAntisymmetric m (stubs_at indices) i ∙ ap (λ x. joined x (maps.get (stubs_at indices) i)) is
+stubs_added indices m (e ∷ es) i c is =
+    get-merged nat_cmp_total nat_cmp-IsAntisymmetric m (stubs_at indices) i ∙ ap (λ x. joined x (maps.get (stubs_at indices) i)) is
 
 -- a raised count declares no fewer Subrs
 no_fewer : (i count : ℕ) (s : Option SubrsShell) → i < declared_count s → i < declared_count (option_map (raised count) s)
@@ -44,7 +45,8 @@ module _ (indices : List ℕ) (count : ℕ) (f : FontValue) where
 
   -- the font that is made even shows all the Subrs that the font showed
   seen_added : Extends (subr_at f) (subr_at made)
-  seen_added i c is = grind (cases, is, subrs_added i c, no_fewer i count f.shell.subrs, ltb-true i (declared_count f.shell.subrs), lt-ltb i (declared_count made.shell.subrs))
+  seen_added i c is =
+      grind (cases, is, subrs_added i c, no_fewer i count f.shell.subrs, ltb-true i (declared_count f.shell.subrs), lt-ltb i (declared_count made.shell.subrs))
 
   -- each glyph stays drawn in the font that is made even
   pub all_stay_drawn : AllStayDrawn f made

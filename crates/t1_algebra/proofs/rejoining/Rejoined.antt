@@ -11,22 +11,27 @@ use Rattle.t1_algebra.specs.{Keep.{keep, kept, subset}, Profile.{profile}, Laws.
 use Rattle.t1_algebra.specs.Rejoins.{declares, Truncated, IsTruncated, fonts_of, sets_of, names_of_all, largest, shared_font, rejoined, Rejoins, TruncatedSubsetsRejoin}
 use Rattle.t1_algebra.proofs.{Words.{AllByRecursion, nat_cmp_total, nat_list_cmp_total, nat_cmp-IsAntisymmetric, Names}, Drawings.{subset_alike, alike}, Fonts.{subset_is_font, any_order_of_fonts}}
 use Rattle.t1_algebra.proofs.{Kept.{keep_part, keep_more, kept_more, kept_union}, ManyMerges.{alike_trans, each_font, all_merge}, Sets.{clash, cases}}
-use Rattle.t1_algebra.proofs.rejoining.Truncated.{WordsOf, words_empty, get_nothing, get_font, largest_fits, all_fit, Fits, cut_subset, evened_is, KeepsBelow, keeps_same, subrs_below, runs_below, first_of}
+use Rattle.t1_algebra.proofs.rejoining.Truncated.{WordsOf, words_empty, get_nothing, get_font, largest_fits, all_fit, Fits}
+use Rattle.t1_algebra.proofs.rejoining.Truncated.{cut_subset, evened_is, KeepsBelow, keeps_same, subrs_below, runs_below, first_of}
 
 -- ---- tables without entries
 
 -- a map that has nothing at any key has no entries
 entries_none : (m : Numbered) → ((q : ℕ) → maps.get m q ≡ None) → maps.entries m ≡ []
-entries_none m h = ap maps.entries (maps.same_map nat_cmp_total nat_cmp-IsAntisymmetric m (maps.from_sorted []) (λ q. h q ∙ sym (maps.get-from_sorted nat_cmp [] q tt))) ∙ maps.entries-from_sorted nat_cmp [] tt
+entries_none m h =
+    ap maps.entries (maps.same_map nat_cmp_total nat_cmp-IsAntisymmetric m (maps.from_sorted []) (λ q. h q ∙ sym (maps.get-from_sorted nat_cmp [] q tt)))
+    ∙ maps.entries-from_sorted nat_cmp [] tt
 
 -- a table with entries has words to write them
-some_words : (k : ℕ) (v : List ℕ) (es : List (ℕ × List ℕ)) (s : SubrsShell) → maps.find nat_cmp k es ≡ Some v → SubrWords es s → IsWord 32 s.rd × IsPhrase true s.put
+some_words : (k : ℕ) (v : List ℕ) (es : List (ℕ × List ℕ)) (s : SubrsShell) → maps.find nat_cmp k es ≡ Some v → SubrWords es s →
+    IsWord 32 s.rd × IsPhrase true s.put
 some_words k v [] s e h = Some_None (sym e)
 some_words k v (x ∷ es) s e h = h
 
 -- ---- the shared font is a font
 
-module _ (f : FontValue) (h : IsFont f) (most : ℕ) (fits : most ≤ declared_count f.shell.subrs) (t : Truncated) (w : IsTruncated f t) (le : t.count ≤ most) where
+module _ (f : FontValue) (h : IsFont f) (most : ℕ) (fits : most ≤ declared_count f.shell.subrs)
+    (t : Truncated) (w : IsTruncated f t) (le : t.count ≤ most) where
   get_first : (q : ℕ) → maps.get (first_of most f).subrs q ≡ cond (nat_lt q most) (maps.get f.subrs q) None
   get_first q = get-retain nat_cmp_total nat_cmp-IsAntisymmetric f.subrs (λ i. nat_lt i most) q
 
@@ -40,14 +45,17 @@ module _ (f : FontValue) (h : IsFont f) (most : ℕ) (fits : most ≤ declared_c
       grind (cases, get_font f t w q, get_first q, get_nothing (first_of most f).subrs e q, le, ltb-true q t.count, lt-ltb q most))
 
   -- the words of a table fit the entries of the cut font
-  words_first : (s : SubrsShell) → (maps.entries (first_of most f).subrs ≡ [] → WordsOf [] (Some s)) → SubrsFit f.shell (Some s) f.subrs → (es : List (ℕ × List ℕ)) → maps.entries (first_of most f).subrs ≡ es → SubrWords es (declares most s)
+  words_first : (s : SubrsShell) → (maps.entries (first_of most f).subrs ≡ [] → WordsOf [] (Some s)) → SubrsFit f.shell (Some s) f.subrs →
+      (es : List (ℕ × List ℕ)) → maps.entries (first_of most f).subrs ≡ es → SubrWords es (declares most s)
   words_first s empty fit [] is = empty is
   words_first s empty fit (x ∷ es) is =
-      let there : maps.get (first_of most f).subrs x.0 ≡ Some x.1 = maps.get-entries (first_of most f).subrs x.0 ∙ (ap (maps.find nat_cmp x.0) is ∙ find_first nat_cmp_total nat_cmp-IsAntisymmetric x es) in
+      let there : maps.get (first_of most f).subrs x.0 ≡ Some x.1 =
+      maps.get-entries (first_of most f).subrs x.0 ∙ (ap (maps.find nat_cmp x.0) is ∙ find_first nat_cmp_total nat_cmp-IsAntisymmetric x es) in
       some_words x.0 x.1 (maps.entries f.subrs) s (sym (maps.get-entries f.subrs x.0) ∙ (had x.0 x.1 there).1) fit.words
 
   -- the table of Subrs fits in the cut font
-  subrs_fit : (o : Option SubrsShell) → SubrsFit f.shell o f.subrs → most ≤ declared_count o → (maps.entries (first_of most f).subrs ≡ [] → WordsOf [] o) → SubrsFit (first_of most f).shell (option_map (declares most) o) (first_of most f).subrs
+  subrs_fit : (o : Option SubrsShell) → SubrsFit f.shell o f.subrs → most ≤ declared_count o → (maps.entries (first_of most f).subrs ≡ [] → WordsOf [] o) →
+      SubrsFit (first_of most f).shell (option_map (declares most) o) (first_of most f).subrs
   subrs_fit None fit few empty =
       (entries_none (first_of most f).subrs (λ q. grind (cases, get_first q, get_nothing f.subrs fit.0 q)), fit.1)
   subrs_fit (Some s) fit few empty = record {
@@ -60,7 +68,8 @@ module _ (f : FontValue) (h : IsFont f) (most : ℕ) (fits : most ≤ declared_c
 
   -- the Subrs of the cut font weigh no more
   fewer : total (subr_weight f.shell.len_iv) (maps.entries (first_of most f).subrs) ≤ total (subr_weight f.shell.len_iv) (maps.entries f.subrs)
-  fewer = total-le nat_cmp_total nat_cmp-IsAntisymmetric (subr_weight f.shell.len_iv) (subr_weight f.shell.len_iv) (first_of most f).subrs f.subrs (λ q c e. (c, (had q c e).1, omega arith))
+  fewer = total-le nat_cmp_total nat_cmp-IsAntisymmetric (subr_weight f.shell.len_iv)
+      (subr_weight f.shell.len_iv) (first_of most f).subrs f.subrs (λ q c e. (c, (had q c e).1, omega arith))
 
   -- the cut font is a font
   pub first_is_font : IsFont (first_of most f)
@@ -69,8 +78,19 @@ module _ (f : FontValue) (h : IsFont f) (most : ℕ) (fits : most ≤ declared_c
       let p = h.private in
       let g = h.glyphs in
       record {
-        clear = record { head_encoding = k.clear.head_encoding; head_eexec = k.clear.head_eexec; tail_apart = h.clear.tail_apart; tail_ends = h.clear.tail_ends };
-        private = record { iv = p.iv; no_subrs = p.no_subrs; no_chars = p.no_chars; middle_apart = p.middle_apart; middle_chars = p.middle_chars; middle_subrs = p.middle_subrs; tail_apart = p.tail_apart; tail_subrs = p.tail_subrs; tail_ends = p.tail_ends };
+        clear =
+            record { head_encoding = k.clear.head_encoding; head_eexec = k.clear.head_eexec; tail_apart = h.clear.tail_apart; tail_ends = h.clear.tail_ends };
+        private = record {
+          iv = p.iv;
+          no_subrs = p.no_subrs;
+          no_chars = p.no_chars;
+          middle_apart = p.middle_apart;
+          middle_chars = p.middle_chars;
+          middle_subrs = p.middle_subrs;
+          tail_apart = p.tail_apart;
+          tail_subrs = p.tail_subrs;
+          tail_ends = p.tail_ends;
+        };
         texts = record { head = k.texts.head; clear_tail = h.texts.clear_tail; private = h.texts.private; middle = h.texts.middle; tail = h.texts.tail };
         encoding = h.encoding;
         subrs = subrs_fit f.shell.subrs h.subrs fits (λ e. words_empty f h most fits t w le (no_entries_there e));
@@ -89,12 +109,22 @@ module _ (f : FontValue) (h : IsFont f) (most : ℕ) where
   empty_low a low i k p = low i (kept_more profile f sets.empty a (keep_more profile f sets.empty a (λ n e. no_name n e)) i k) p
 
   -- all the names are the font's, and they keep no Subr at the count or above it
-  all_low : (ts : List Truncated) → KeepsBelow profile f most sets.empty → AllByRecursion (Fits f most) ts → KeepsBelow profile f most (names_of_all ts) × IsOf f (names_of_all ts)
+  all_low : (ts : List Truncated) → KeepsBelow profile f most sets.empty → AllByRecursion (Fits f most) ts →
+      KeepsBelow profile f most (names_of_all ts) × IsOf f (names_of_all ts)
   all_low [] e w = (e, λ n k. no_name n k)
   all_low (t ∷ ts) e w =
       let rest = all_low ts e w.1 in
       let both = kept_union profile f t.names (names_of_all ts) h.glyphs.notdef w.0.0.names rest.1 in (
-        λ i k p. grind (cases, both, sets.contains-union nat_cmp_total (kept profile f t.names) (kept profile f (names_of_all ts)) i, w.0.0.kept i, w.0.1, rest.0 i, k, p),
+        λ i k p. grind (
+          cases,
+          both,
+          sets.contains-union nat_cmp_total (kept profile f t.names) (kept profile f (names_of_all ts)) i,
+          w.0.0.kept i,
+          w.0.1,
+          rest.0 i,
+          k,
+          p,
+        ),
         λ n k. grind (cases, sets.contains-union nat_list_cmp_total t.names (names_of_all ts) n, w.0.0.names n, rest.1 n, k),
       )
 
@@ -148,13 +178,15 @@ module _ (f : FontValue) (h : IsFont f) (t : Truncated) (ts : List Truncated) (w
       let g = subset profile shared t.names in
       let gs = map (subset profile shared) (sets_of ts) in
       let order = subst (λ (l : List FontValue). IsPermutation l (leaves s)) (evened_is f h (t ∷ ts) w ∙ sym (leaves_from_left (one g) gs)) p in
-      let all = any_order_of_fonts profile (from_left (one g) gs) s order (each_font g gs (subsets_are shared shared_is (sets_of (t ∷ ts)) parts)) (subset profile shared names) (all_merge shared shared_is t.names (sets_of ts) parts) in
+      let all = any_order_of_fonts profile (from_left (one g) gs) s order (each_font g gs (subsets_are shared shared_is (sets_of (t ∷ ts)) parts))
+      (subset profile shared names) (all_merge shared shared_is t.names (sets_of ts) parts) in
       subst (λ (j : FontValue). MergesTo s j) whole (all.1, all.2)
 
   -- each kept glyph draws in the rejoined font as in the font
   all_drawn : (n : List ℕ) → sets.contains (keep profile f names) n ≡ true → DrawsAlike f (rejoined f (t ∷ ts)) n
   all_drawn n k = alike_trans f shared (rejoined f (t ∷ ts)) n (start_alike f h most names low.1 low.0 n k)
-      (subst (λ (j : FontValue). DrawsAlike shared j n) whole (subset_alike shared shared_is names low.1 n (ap (λ (s : Names). sets.contains s n) (keeps_same profile f h.glyphs.notdef most names low.1 low.0).0 ∙ k)))
+      (subst (λ (j : FontValue). DrawsAlike shared j n) whole (subset_alike shared shared_is names low.1 n
+      (ap (λ (s : Names). sets.contains s n) (keeps_same profile f h.glyphs.notdef most names low.1 low.0).0 ∙ k)))
 
   pub rejoins : Rejoins f (t ∷ ts)
   rejoins = record { shared = shared_is; subsets = evened_is f h (t ∷ ts) w; merges = all_merged; draws = all_drawn }

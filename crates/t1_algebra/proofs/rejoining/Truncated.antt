@@ -1,5 +1,6 @@
 -- Fonts cut to their first Subrs keep and draw what they did, and truncated subsets that are made even are subsets of one font.
-use Rattle.std.proofs.Common.{◌≡◌, ◌<◌, ℕ, nat_lt, true, false, ◌&&◌, cond, List, refl, sym, ◌∙◌, ap, Option, Some, None, is_some, filter, arith, ◌≤◌, max, nat_cmp, Bool, [], ◌∷◌, map, length, subst, option_map}
+use Rattle.std.proofs.Common.{◌≡◌, ◌<◌, ℕ, nat_lt, true, false, ◌&&◌, cond, List, refl, sym, ◌∙◌, ap, Option, Some, None}
+use Rattle.std.proofs.Common.{is_some, filter, arith, ◌≤◌, max, nat_cmp, Bool, [], ◌∷◌, map, length, subst, option_map}
 use Rattle.std.proofs.{lemmas.Bool.{and_from, lt-ltb, ltb-true, ltb-false}, lemmas.List.Folds.{list_any-append}}
 use Rattle.std.specs.FinSet as sets
 use Rattle.std.specs.FinMap as maps
@@ -20,13 +21,17 @@ first_of count f = cut_to count (without_tag f)
 abbrev pub KeepsBelow : {O : Type 0} → Interpreter O → FontValue → ℕ → Names → Type 0
 KeepsBelow m f count a = (i : ℕ) → sets.contains (kept m f a) i ≡ true → maps.contains_key f.subrs i ≡ true → i < count
 
-module _ {O : Type 0} (m : Interpreter O) (f : FontValue) (base : has f notdef ≡ true) (count : ℕ) (a : Names) (inside : IsOf f a) (low : KeepsBelow m f count a) where
+module _ {O : Type 0} (m : Interpreter O) (f : FontValue) (base : has f notdef ≡ true)
+    (count : ℕ) (a : Names) (inside : IsOf f a) (low : KeepsBelow m f count a) where
   -- the Subrs that a kept glyph executes are as before
-  pub subrs_below : (n : List ℕ) → sets.contains (keep m f a) n ≡ true → (i : ℕ) → sets.contains (m.exec f.subrs (charstring f n)) i ≡ true → maps.get (first_of count f).subrs i ≡ maps.get f.subrs i
-  subrs_below n k i w = grind (cases, get-retain nat_cmp_total nat_cmp-IsAntisymmetric f.subrs (λ i. nat_lt i count) i, low i (kept_call m f a i n k w), lt-ltb i count)
+  pub subrs_below : (n : List ℕ) → sets.contains (keep m f a) n ≡ true → (i : ℕ) → sets.contains (m.exec f.subrs (charstring f n)) i ≡ true →
+      maps.get (first_of count f).subrs i ≡ maps.get f.subrs i
+  subrs_below n k i w =
+      grind (cases, get-retain nat_cmp_total nat_cmp-IsAntisymmetric f.subrs (λ i. nat_lt i count) i, low i (kept_call m f a i n k w), lt-ltb i count)
 
   -- a kept glyph runs in the cut font as before
-  pub runs_below : (n : List ℕ) → sets.contains (keep m f a) n ≡ true → (m.direct (first_of count f).subrs (charstring f n) ≡ m.direct f.subrs (charstring f n)) × (m.exec (first_of count f).subrs (charstring f n) ≡ m.exec f.subrs (charstring f n))
+  pub runs_below : (n : List ℕ) → sets.contains (keep m f a) n ≡ true → (m.direct (first_of count f).subrs (charstring f n) ≡ m.direct f.subrs (charstring f n))
+      × (m.exec (first_of count f).subrs (charstring f n) ≡ m.exec f.subrs (charstring f n))
   runs_below n k = m.local f.subrs (first_of count f).subrs (charstring f n) (subrs_below n k)
 
   -- the cut font keeps the same names and Subrs
@@ -45,7 +50,8 @@ abbrev pub entry_in : FontValue → Names → ℕ → ℕ → Option (List ℕ) 
 entry_in f a n q x = cond (nat_lt q n) (option_map (keeps f a q) x) None
 
 -- a subset cut to a count has that entry at each index
-pub get_cut : (f : FontValue) (n : ℕ) (a : Names) (q : ℕ) → maps.get (maps.retain_keys (subset profile f a).subrs (λ i. nat_lt i n)) q ≡ entry_in f a n q (maps.get f.subrs q)
+pub get_cut : (f : FontValue) (n : ℕ) (a : Names) (q : ℕ) →
+    maps.get (maps.retain_keys (subset profile f a).subrs (λ i. nat_lt i n)) q ≡ entry_in f a n q (maps.get f.subrs q)
 get_cut f n a q = get-retain nat_cmp_total nat_cmp-IsAntisymmetric (subset profile f a).subrs (λ i. nat_lt i n) q
     ∙ ap (λ x. cond (nat_lt q n) x None) (get-map_values nat_cmp_total nat_cmp-IsAntisymmetric (keeps f a) f.subrs q)
 
@@ -57,13 +63,25 @@ module _ (f : FontValue) (h : IsFont f) (n : ℕ) (a : Names) (inside : IsOf f a
   subrs_same : (q : ℕ) → maps.get (subset profile (first_of n f) a).subrs q ≡ maps.get (maps.retain_keys (subset profile f a).subrs (λ i. nat_lt i n)) q
   subrs_same q =
       let first = get-retain nat_cmp_total nat_cmp-IsAntisymmetric f.subrs (λ i. nat_lt i n) q in
-      grind (cases, get-map_values nat_cmp_total nat_cmp-IsAntisymmetric (keeps (first_of n f) a) (first_of n f).subrs q, first, get_cut f n a q, (keeps_same profile f h.glyphs.notdef n a inside low).1)
+      grind (
+        cases,
+        get-map_values nat_cmp_total nat_cmp-IsAntisymmetric (keeps (first_of n f) a) (first_of n f).subrs q,
+        first,
+        get_cut f n a q,
+        (keeps_same profile f h.glyphs.notdef n a inside low).1,
+      )
 
   -- the subset of the cut font is the subset, without its tag and cut as the font is
   pub cut_subset : subset profile (first_of n f) a ≡ cut_to n (without_tag (subset profile f a))
   cut_subset =
-      let subrs = maps.same_map nat_cmp_total nat_cmp-IsAntisymmetric (subset profile (first_of n f) a).subrs (maps.retain_keys (subset profile f a).subrs (λ i. nat_lt i n)) subrs_same in
-      λ i. record { shell = (first_of n f).shell; encoding = restrict_encoding (sets.contains (names_same i)) f.encoding; subrs = subrs i; glyphs = maps.retain_keys f.glyphs (sets.contains (names_same i)) }
+      let subrs = maps.same_map nat_cmp_total nat_cmp-IsAntisymmetric (subset profile (first_of n f) a).subrs
+      (maps.retain_keys (subset profile f a).subrs (λ i. nat_lt i n)) subrs_same in
+      λ i. record {
+        shell = (first_of n f).shell;
+        encoding = restrict_encoding (sets.contains (names_same i)) f.encoding;
+        subrs = subrs i;
+        glyphs = maps.retain_keys f.glyphs (sets.contains (names_same i));
+      }
 
 -- ---- counts
 
@@ -109,14 +127,32 @@ module _ (f : FontValue) where
   listed q indices = list_any (eq_by_cmp nat_cmp q) indices
 
   -- the indices of all fonts include each index of the font below the largest count
-  reached : (most : ℕ) (ts : List Truncated) → AllByRecursion (IsTruncated f) ts → (q : ℕ) → q < largest ts → maps.contains_key f.subrs q ≡ true → listed q (all_indices most ts) ≡ true
+  reached : (most : ℕ) (ts : List Truncated) → AllByRecursion (IsTruncated f) ts → (q : ℕ) → q < largest ts → maps.contains_key f.subrs q ≡ true →
+      listed q (all_indices most ts) ≡ true
   reached most [] w q lt is = absurd (omega (arith, lt))
-  reached most (t ∷ ts) w q lt is = grind (cases, lt, is, list_any-append (eq_by_cmp nat_cmp q) (maps.keys t.font.subrs) (all_indices most ts), maps.contains_key-keys t.font.subrs q, get_font t w.0 q, reached most ts w.1 q, ltb-false q t.count)
+  reached most (t ∷ ts) w q lt is = grind (
+    cases,
+    lt,
+    is,
+    list_any-append (eq_by_cmp nat_cmp q) (maps.keys t.font.subrs) (all_indices most ts),
+    maps.contains_key-keys t.font.subrs q,
+    get_font t w.0 q,
+    reached most ts w.1 q,
+    ltb-false q t.count,
+  )
 
   -- each of the indices of all fonts is an index of the font
-  from_indices : (most : ℕ) (ts : List Truncated) → AllByRecursion (IsTruncated f) ts → (q : ℕ) → listed q (all_indices most ts) ≡ true → maps.contains_key f.subrs q ≡ true
+  from_indices : (most : ℕ) (ts : List Truncated) → AllByRecursion (IsTruncated f) ts → (q : ℕ) → listed q (all_indices most ts) ≡ true →
+      maps.contains_key f.subrs q ≡ true
   from_indices most [] w q l = clash false l refl
-  from_indices most (t ∷ ts) w q l = grind (cases, l, list_any-append (eq_by_cmp nat_cmp q) (maps.keys t.font.subrs) (all_indices most ts), maps.contains_key-keys t.font.subrs q, get_font t w.0 q, from_indices most ts w.1 q)
+  from_indices most (t ∷ ts) w q l = grind (
+    cases,
+    l,
+    list_any-append (eq_by_cmp nat_cmp q) (maps.keys t.font.subrs) (all_indices most ts),
+    maps.contains_key-keys t.font.subrs q,
+    get_font t w.0 q,
+    from_indices most ts w.1 q,
+  )
 
 -- ---- tables without entries
 
@@ -150,11 +186,13 @@ pub get_nothing : (m : Numbered) → maps.entries m ≡ [] → (q : ℕ) → map
 get_nothing m e q = maps.get-entries m q ∙ ap (maps.find nat_cmp q) e
 
 -- a font with entries has a table, so a cut to n declares n
-has_table : (s : Shell) (o : Option SubrsShell) (m : Numbered) → SubrsFit s o m → (q : ℕ) → maps.contains_key m q ≡ true → (n : ℕ) → n ≤ declared_count o → declared_count (option_map (declares n) o) ≡ n
+has_table : (s : Shell) (o : Option SubrsShell) (m : Numbered) → SubrsFit s o m → (q : ℕ) → maps.contains_key m q ≡ true → (n : ℕ) → n ≤ declared_count o →
+    declared_count (option_map (declares n) o) ≡ n
 has_table s None m h q is n le = clash (maps.contains_key m q) is (ap is_some (get_nothing m h.0 q))
 has_table s (Some t) m h q is n le = refl
 
-module _ (f : FontValue) (h : IsFont f) (most : ℕ) (fits : most ≤ declared_count f.shell.subrs) (t : Truncated) (w : IsTruncated f t) (le : t.count ≤ most) where
+module _ (f : FontValue) (h : IsFont f) (most : ℕ) (fits : most ≤ declared_count f.shell.subrs)
+    (t : Truncated) (w : IsTruncated f t) (le : t.count ≤ most) where
   -- if a truncated subset has no entries, the table of the font has no words
   pub words_empty : maps.entries t.font.subrs ≡ [] → WordsOf [] f.shell.subrs
   words_empty e = words_declared t.count f.shell.subrs (subst (WordsOf []) (ap (λ (g : FontValue). g.shell.subrs) w.others)
@@ -180,7 +218,8 @@ module _ (f : FontValue) (h : IsFont f) (most : ℕ) (fits : most ≤ declared_c
   declared_low : declared ≤ most
   declared_low = grind (cases, declared_is)
 
-  module _ (indices : List ℕ) (there : (q : ℕ) → q < most → maps.contains_key f.subrs q ≡ true → list_any (eq_by_cmp nat_cmp q) indices ≡ true) (from : (q : ℕ) → list_any (eq_by_cmp nat_cmp q) indices ≡ true → maps.contains_key f.subrs q ≡ true) where
+  module _ (indices : List ℕ) (there : (q : ℕ) → q < most → maps.contains_key f.subrs q ≡ true → list_any (eq_by_cmp nat_cmp q) indices ≡ true)
+      (from : (q : ℕ) → list_any (eq_by_cmp nat_cmp q) indices ≡ true → maps.contains_key f.subrs q ≡ true) where
     -- the indices that are then declared
     abbrev inside : List ℕ
     inside = below declared indices
@@ -194,21 +233,44 @@ module _ (f : FontValue) (h : IsFont f) (most : ℕ) (fits : most ≤ declared_c
 
     -- a stub can stand at each index of the font below the count
     under : (q : ℕ) → q < most → maps.contains_key f.subrs q ≡ true → is_in q ≡ true
-    under q lt is = in_both q ∙ and_from _ _ (lt-ltb q declared (omega (arith, lt, declared_is, has_table f.shell f.shell.subrs f.subrs h.subrs q is most fits))) (there q lt is)
+    under q lt is = in_both q
+        ∙ and_from _ _ (lt-ltb q declared (omega (arith, lt, declared_is, has_table f.shell f.shell.subrs f.subrs h.subrs q is most fits))) (there q lt is)
 
     -- the entry of a truncated subset, or else a stub, is the entry of the subset cut to the largest count
-    value_same : (q : ℕ) → joined (entry_in f t.names t.count q (maps.get f.subrs q)) (cond (is_in q) (Some stub) None) ≡ entry_in f t.names most q (maps.get f.subrs q)
-    value_same q = grind (cases, in_both q, from q, ltb-true q declared, declared_low, under q, w.kept q, le, lt-ltb q t.count, ltb-true q t.count, lt-ltb q most, ltb-true q most)
+    value_same : (q : ℕ) →
+        joined (entry_in f t.names t.count q (maps.get f.subrs q)) (cond (is_in q) (Some stub) None) ≡ entry_in f t.names most q (maps.get f.subrs q)
+    value_same q = grind (
+      cases,
+      in_both q,
+      from q,
+      ltb-true q declared,
+      declared_low,
+      under q,
+      w.kept q,
+      le,
+      lt-ltb q t.count,
+      ltb-true q t.count,
+      lt-ltb q most,
+      ltb-true q most,
+    )
 
     -- the font that is made even has the entry of the subset cut to the largest count at each index
-    filled_at : (es : List (ℕ × List ℕ)) → maps.entries t.font.subrs ≡ es → (q : ℕ) → maps.get (with_stubs inside t.font.subrs es) q ≡ entry_in f t.names most q (maps.get f.subrs q)
+    filled_at : (es : List (ℕ × List ℕ)) → maps.entries t.font.subrs ≡ es → (q : ℕ) →
+        maps.get (with_stubs inside t.font.subrs es) q ≡ entry_in f t.names most q (maps.get f.subrs q)
     filled_at [] e q = grind (cases, get_nothing t.font.subrs e q, nothing e q)
-    filled_at (x ∷ es) e q = grind (cases, get-merged nat_cmp_total nat_cmp-IsAntisymmetric t.font.subrs (stubs_at inside) q, get_font f t w q, get-valued nat_cmp_total stub inside q, value_same q)
+    filled_at (x ∷ es) e q = grind (
+      cases,
+      get-merged nat_cmp_total nat_cmp-IsAntisymmetric t.font.subrs (stubs_at inside) q,
+      get_font f t w q,
+      get-valued nat_cmp_total stub inside q,
+      value_same q,
+    )
 
     -- the truncated subset, made even, is the subset without its tag, cut to the largest count
     pub made_is : filled indices (even most t.font) ≡ cut_to most (without_tag (subset profile f t.names))
     made_is =
-        let subrs = maps.same_map nat_cmp_total nat_cmp-IsAntisymmetric (filled indices (even most t.font)).subrs (maps.retain_keys (subset profile f t.names).subrs (λ i. nat_lt i most))
+        let subrs = maps.same_map nat_cmp_total nat_cmp-IsAntisymmetric (filled indices (even most t.font)).subrs
+        (maps.retain_keys (subset profile f t.names).subrs (λ i. nat_lt i most))
         (λ q. filled_at (maps.entries t.font.subrs) refl q ∙ sym (get_cut f most t.names q)) in
         λ i. record { shell = shell_same i; encoding = (w.others i).encoding; subrs = subrs i; glyphs = (w.others i).glyphs }
 
@@ -218,14 +280,19 @@ module _ (f : FontValue) (h : IsFont f) (most : ℕ) (fits : most ≤ declared_c
 
 -- ---- the fonts of a list
 
-module _ (f : FontValue) (h : IsFont f) (most : ℕ) (fits : most ≤ declared_count f.shell.subrs) (indices : List ℕ) (there : (q : ℕ) → q < most → maps.contains_key f.subrs q ≡ true → list_any (eq_by_cmp nat_cmp q) indices ≡ true) (from : (q : ℕ) → list_any (eq_by_cmp nat_cmp q) indices ≡ true → maps.contains_key f.subrs q ≡ true) where
-  made_subsets : (ts : List Truncated) → AllByRecursion (Fits f most) ts → map (filled indices) (map (even most) (fonts_of ts)) ≡ map (subset profile (first_of most f)) (sets_of ts)
+module _ (f : FontValue) (h : IsFont f) (most : ℕ) (fits : most ≤ declared_count f.shell.subrs) (indices : List ℕ)
+    (there : (q : ℕ) → q < most → maps.contains_key f.subrs q ≡ true → list_any (eq_by_cmp nat_cmp q) indices ≡ true)
+    (from : (q : ℕ) → list_any (eq_by_cmp nat_cmp q) indices ≡ true → maps.contains_key f.subrs q ≡ true) where
+  made_subsets : (ts : List Truncated) → AllByRecursion (Fits f most) ts →
+      map (filled indices) (map (even most) (fonts_of ts)) ≡ map (subset profile (first_of most f)) (sets_of ts)
   made_subsets [] w = refl
   made_subsets (t ∷ ts) w = λ i. made_subset f h most fits t w.0.0 w.0.1 indices there from i ∷ made_subsets ts w.1 i
 
 -- truncated subsets that are made even are subsets of the shared font
-pub evened_is : (f : FontValue) → IsFont f → (ts : List Truncated) → AllByRecursion (IsTruncated f) ts → evened (fonts_of ts) ≡ map (subset profile (shared_font f ts)) (sets_of ts)
+pub evened_is : (f : FontValue) → IsFont f → (ts : List Truncated) → AllByRecursion (IsTruncated f) ts →
+    evened (fonts_of ts) ≡ map (subset profile (shared_font f ts)) (sets_of ts)
 evened_is f h ts w =
     let most = largest ts in
     ap (λ (n : ℕ). map (filled (indices_of_all (map (even n) (fonts_of ts)))) (map (even n) (fonts_of ts))) (largest_is f ts w)
-    ∙ made_subsets f h most (largest_fits f ts w) (all_indices f most ts) (λ q lt is. reached f most ts w q lt is) (λ q l. from_indices f most ts w q l) ts (all_fit f most ts (omega arith) w)
+    ∙ made_subsets f h most (largest_fits f ts w) (all_indices f most ts) (λ q lt is. reached f most ts w q lt is)
+    (λ q l. from_indices f most ts w q l) ts (all_fit f most ts (omega arith) w)

@@ -1,5 +1,6 @@
 -- Worked rows of what is kept, of the states of fonts and of conflicts: definitions over sets and maps, computed over lists.
-use Rattle.std.proofs.Common.{◌≡◌, ℕ, Bool, true, not, ◌&&◌, ◌||◌, T, List, [], ◌∷◌, ◌++◌, map, filter, flat_map, refl, sym, ◌∙◌, ap, Ordering, Option, None, is_some, unwrap_or, false, cond, Some, option_map}
+use Rattle.std.proofs.Common.{◌≡◌, ℕ, Bool, true, not, ◌&&◌, ◌||◌, T, List, [], ◌∷◌, ◌++◌, map, filter, flat_map, refl}
+use Rattle.std.proofs.Common.{sym, ◌∙◌, ap, Ordering, Option, None, is_some, unwrap_or, false, cond, Some, option_map}
 use Rattle.std.specs.Prelude.{codes}
 use Rattle.std.specs.List.{list_any, list_all}
 use Rattle.std.specs.Ordering.{eq_by_cmp, nat_cmp}
@@ -24,7 +25,8 @@ use Rattle.t1_algebra.specs.Interpreter.{Interpreter, Names, same_bytes}
 use Rattle.t1_algebra.specs.Keep.{sets_of, charstring, has, components_here, is_closed, is_needed, keep, called_by, kept}
 use Rattle.t1_algebra.specs.States.{named_at, is_stub, is_called, subr_state, state_of_entry, called_at, executed_at}
 use Rattle.t1_algebra.specs.StateTables.{states_of, all_components, used_subrs, subr_part, name_part, name_meaning}
-use Rattle.t1_algebra.specs.Conflicts.{Conflict, ShellDiffers, CodeDiffers, GlyphDiffers, LacksComponent, SubrDiffers, OverLimit, keys_of_both, agrees, codes_of_both, glyph_names, code_clashes, wanted_by, used_by, is_within, shell_conflict, code_conflict, glyph_conflict, component_conflict, subr_conflict, states_conflict, conflict}
+use Rattle.t1_algebra.specs.Conflicts.{Conflict, ShellDiffers, CodeDiffers, GlyphDiffers, LacksComponent, SubrDiffers, OverLimit, keys_of_both, agrees, codes_of_both, glyph_names}
+use Rattle.t1_algebra.specs.Conflicts.{code_clashes, wanted_by, used_by, is_within, shell_conflict, code_conflict, glyph_conflict, component_conflict, subr_conflict, states_conflict, conflict}
 use Rattle.t1_algebra.specs.Searches.{members, found, first_where}
 use Rattle.t1_algebra.specs.Shared.{ShellPart, Head, EncodingPart, Private, SubrsTable, same_word}
 use Rattle.t1_algebra.proofs.Sets.{name_same, all_at, all_from, any_one, any_at, in_list, from_in_list, any_flat_map, cases}
@@ -44,7 +46,8 @@ module _ {K : Type 0} {R : K → K → Ordering} (o : IsTotalOrder R) (same : Is
   same_items l q = sym (sets.contains-items (sets.from_list l) q) ∙ sets.contains-from_list o l q
 
   all_items : (p : K → Bool) (l : List K) → list_all p (sets.items (sets.from_list {R = R} l)) ≡ list_all p l
-  all_items p l = both_ways _ _ (λ w. all_from o same p l (λ q k. all_at o same p q (sets.items (sets.from_list l)) w (same_items l q ∙ k))) (λ w. all_from o same p (sets.items (sets.from_list l)) (λ q k. all_at o same p q l w (sym (same_items l q) ∙ k)))
+  all_items p l = both_ways _ _ (λ w. all_from o same p l (λ q k. all_at o same p q (sets.items (sets.from_list l)) w (same_items l q ∙ k)))
+      (λ w. all_from o same p (sets.items (sets.from_list l)) (λ q k. all_at o same p q l w (sym (same_items l q) ∙ k)))
 
   pub any_items : (p : K → Bool) (l : List K) → list_any p (sets.items (sets.from_list {R = R} l)) ≡ list_any p l
   any_items p l = both_ways _ _
@@ -90,7 +93,8 @@ spelled = record { direct = λ s c. c; exec = λ s c. sets.from_list c; names = 
 
 -- a shell with this head and lenIV and nothing else
 abbrev pub shell_of : List ℕ → ℕ → Shell
-shell_of head len_iv = record { head = head; clear_tail = []; private = []; middle = []; tail = []; len_iv = len_iv; subrs = None; glyphs_rd = []; glyphs_def = [] }
+shell_of head len_iv =
+    record { head = head; clear_tail = []; private = []; middle = []; tail = []; len_iv = len_iv; subrs = None; glyphs_rd = []; glyphs_def = [] }
 
 -- the font of this Encoding, these Subrs and these glyphs
 abbrev pub font_of : Encoding → List (ℕ × List ℕ) → List (List ℕ × List ℕ) → FontValue
@@ -119,7 +123,8 @@ module _ (e : Encoding) (ss : List (ℕ × List ℕ)) (es : List (List ℕ × Li
   abbrev components_listed : List ℕ → List (List ℕ)
   components_listed n = filter (λ p. is_some (at_name es p)) (letters (unwrap_or (at_name es n) []))
 
-  components_are : (l : List (List ℕ)) (n : List ℕ) → sets.is_subset (components_here spelled (font_of e ss es) n) (sets.from_list l) ≡ list_all (named l) (components_listed n)
+  components_are : (l : List (List ℕ)) (n : List ℕ) →
+      sets.is_subset (components_here spelled (font_of e ss es) n) (sets.from_list l) ≡ list_all (named l) (components_listed n)
   components_are l n = subset_of_lists nat_list_cmp_total name_same (filter (has (font_of e ss es)) (letters (charstring (font_of e ss es) n))) l
       ∙ (λ i. list_all (named l) (filter (λ p. has_listed p i) (letters (charstring_listed n i))))
 
@@ -128,7 +133,8 @@ module _ (e : Encoding) (ss : List (ℕ × List ℕ)) (es : List (List ℕ × Li
 
   closed_is : (a l : List (List ℕ)) → is_closed spelled (font_of e ss es) (sets.from_list a) (sets.from_list l) ≡ closed_listed a l
   closed_is a l =
-      (λ i. sets.contains-from_list nat_list_cmp_total l notdef i && (subset_of_lists nat_list_cmp_total name_same a l i && all_items nat_list_cmp_total name_same (λ n. sets.is_subset (components_here spelled (font_of e ss es) n) (sets.from_list l)) l i))
+      (λ i. sets.contains-from_list nat_list_cmp_total l notdef i && (subset_of_lists nat_list_cmp_total name_same a l i
+      && all_items nat_list_cmp_total name_same (λ n. sets.is_subset (components_here spelled (font_of e ss es) n) (sets.from_list l)) l i))
       ∙ (λ i. named l notdef && (list_all (named l) a && list_all (λ n. components_are l n i) l))
 
   abbrev needed_listed : List (List ℕ) → List ℕ → Bool
@@ -154,7 +160,8 @@ module _ (e : Encoding) (ss : List (ℕ × List ℕ)) (es : List (List ℕ × Li
       ∙ ap (λ b. eq_by_cmp nat_cmp i 0 || (eq_by_cmp nat_cmp i 1 || (eq_by_cmp nat_cmp i 2 || (eq_by_cmp nat_cmp i 3 || b))))
       (any_flat_map (eq_by_cmp nat_cmp i) at items
       ∙ (any_items nat_list_cmp_total name_same (λ n. list_any (eq_by_cmp nat_cmp i) (at n)) l
-      ∙ ((λ d. list_any (λ n. (any_items nat_cmp_total nat_cmp-IsAntisymmetric (eq_by_cmp nat_cmp i) (charstring (font_of e ss es) n) ∙ ap (list_any (eq_by_cmp nat_cmp i)) (charstring_listed n)) d) l)
+      ∙ ((λ d. list_any (λ n. (any_items nat_cmp_total nat_cmp-IsAntisymmetric (eq_by_cmp nat_cmp i) (charstring (font_of e ss es) n)
+      ∙ ap (list_any (eq_by_cmp nat_cmp i)) (charstring_listed n)) d) l)
       ∙ sym (any_flat_map (eq_by_cmp nat_cmp i) (λ n. unwrap_or (at_name es n) []) l))))
       ∙ sym (sets.contains-from_list nat_cmp_total (calls_listed l) i))
 
@@ -170,7 +177,8 @@ subrs = (0, stub) ∷ (5, 12 ∷ []) ∷ (7, stub) ∷ (8, stub) ∷ []
 abbrev pub small : FontValue
 small = font_of (Word (codes "StandardEncoding")) subrs glyphs
 
-keeps : (a : List (List ℕ)) → keep spelled small (sets.from_list a) ≡ sets.from_list (filter (needed_listed (Word (codes "StandardEncoding")) subrs glyphs tt a) (map (λ e. e.0) glyphs))
+keeps : (a : List (List ℕ)) →
+    keep spelled small (sets.from_list a) ≡ sets.from_list (filter (needed_listed (Word (codes "StandardEncoding")) subrs glyphs tt a) (map (λ e. e.0) glyphs))
 keeps a = keep_listed (Word (codes "StandardEncoding")) subrs glyphs tt a
 
 calls : (l : List (List ℕ)) → called_by spelled small (sets.from_list l) ≡ sets.from_list (calls_listed (Word (codes "StandardEncoding")) subrs glyphs tt l)
@@ -241,9 +249,12 @@ module _ (e : Encoding) (ss : List (ℕ × List ℕ)) (es : List (List ℕ × Li
   name_listed : (n : List ℕ) → maps.get (name_part (states_of spelled (font_of e ss es))) n
       ≡ joined_state (option_map (λ c. name_meaning (Some c)) (at_name es n)) (find name_cmp n (map (λ p. (p, name_meaning None)) sought_listed))
   name_listed n =
-      get_joined (map_values (λ n c. name_meaning (Some c)) (font_of e ss es).glyphs) (maps.from_entries (map (λ p. (p, name_meaning None)) (all_components spelled (font_of e ss es)))) n
-      ∙ (λ d. joined_state (get-map_values nat_list_cmp_total name_same (λ n c. name_meaning (Some c)) (font_of e ss es).glyphs n d) (maps.get-from_entries nat_list_cmp_total (map (λ p. (p, name_meaning None)) (all_components spelled (font_of e ss es))) n d))
-      ∙ (λ d. joined_state (option_map (λ c. name_meaning (Some c)) (glyph_listed e ss es h n d)) (find name_cmp n (map (λ p. (p, name_meaning None)) (sought_are d))))
+      get_joined (map_values (λ n c. name_meaning (Some c)) (font_of e ss es).glyphs)
+      (maps.from_entries (map (λ p. (p, name_meaning None)) (all_components spelled (font_of e ss es)))) n
+      ∙ (λ d. joined_state (get-map_values nat_list_cmp_total name_same (λ n c. name_meaning (Some c)) (font_of e ss es).glyphs n d)
+      (maps.get-from_entries nat_list_cmp_total (map (λ p. (p, name_meaning None)) (all_components spelled (font_of e ss es))) n d))
+      ∙ (λ d. joined_state (option_map (λ c. name_meaning (Some c)) (glyph_listed e ss es h n d))
+      (find name_cmp n (map (λ p. (p, name_meaning None)) (sought_are d))))
 
 -- ---- rows of states
 
@@ -280,13 +291,16 @@ state_Q = name_listed standard subrs glyphs tt tt (codes "Q") ∙ refl
 abbrev keys_listed : {K : Type 0} → (K → K → Ordering) → List (K × List ℕ) → List (K × List ℕ) → List K
 keys_listed {K = K} R es fs = map (λ (e : K × ℕ). e.0) (map (λ (e : K × List ℕ). (e.0, 0)) (last_entries R (fs ++ es)))
 
-keys_are : {K : Type 0} {R : K → K → Ordering} (o : IsTotalOrder R) (same : IsAntisymmetric R) (es fs : List (K × List ℕ)) → T (is_sorted R es) → T (is_sorted R fs)
+keys_are : {K : Type 0} {R : K → K → Ordering} (o : IsTotalOrder R) (same : IsAntisymmetric R) (es fs : List (K × List ℕ)) →
+    T (is_sorted R es) → T (is_sorted R fs)
     → members (keys_of_both {R = R} (maps.from_sorted es) (maps.from_sorted fs)) ≡ keys_listed R es fs
 keys_are {R = R} o same es fs he hf = ap (map (λ e. e.0))
     (entries-map_values o same (λ k v. 0) (merged (maps.from_sorted es) (maps.from_sorted fs))
-    ∙ ap (map (λ e. (e.0, 0))) (entries-merged o same (maps.from_sorted es) (maps.from_sorted fs) ∙ (λ d. last_entries R (maps.entries-from_sorted R fs hf d ++ maps.entries-from_sorted R es he d))))
+    ∙ ap (map (λ e. (e.0, 0))) (entries-merged o same (maps.from_sorted es) (maps.from_sorted fs)
+    ∙ (λ d. last_entries R (maps.entries-from_sorted R fs hf d ++ maps.entries-from_sorted R es he d))))
 
-module _ (e k : Encoding) (ss ts : List (ℕ × List ℕ)) (es fs : List (List ℕ × List ℕ)) (hs : T (is_sorted nat_cmp ss)) (ht : T (is_sorted nat_cmp ts)) (he : T (is_sorted name_cmp es)) (hf : T (is_sorted name_cmp fs)) where
+module _ (e k : Encoding) (ss ts : List (ℕ × List ℕ)) (es fs : List (List ℕ × List ℕ)) (hs : T (is_sorted nat_cmp ss))
+    (ht : T (is_sorted nat_cmp ts)) (he : T (is_sorted name_cmp es)) (hf : T (is_sorted name_cmp fs)) where
   abbrev f : FontValue
   f = font_of e ss es
 
@@ -314,10 +328,12 @@ module _ (e k : Encoding) (ss ts : List (ℕ × List ℕ)) (es fs : List (List �
 
   -- a glyph that is there calls for a component that its list lacks
   abbrev wanted_listed : List ℕ → List ℕ → Bool
-  wanted_listed p n = (not (is_some (at_name es p)) && called_at spelled f p (at_name es n)) || (not (is_some (at_name fs p)) && called_at spelled g p (at_name fs n))
+  wanted_listed p n =
+      (not (is_some (at_name es p)) && called_at spelled f p (at_name es n)) || (not (is_some (at_name fs p)) && called_at spelled g p (at_name fs n))
 
   wanted_are : (p n : List ℕ) → wanted_by spelled f g p n ≡ wanted_listed p n
-  wanted_are p n = λ d. (not (has_listed e ss es he p d) && called_at spelled f p (glyph_listed e ss es he n d)) || (not (has_listed k ts fs hf p d) && called_at spelled g p (glyph_listed k ts fs hf n d))
+  wanted_are p n = λ d. (not (has_listed e ss es he p d) && called_at spelled f p (glyph_listed e ss es he n d))
+      || (not (has_listed k ts fs hf p d) && called_at spelled g p (glyph_listed k ts fs hf n d))
 
   abbrev lacking_listed : List ℕ → Bool
   lacking_listed p = (is_some (at_name es p) || is_some (at_name fs p)) && list_any (wanted_listed p) names
@@ -326,16 +342,19 @@ module _ (e k : Encoding) (ss ts : List (ℕ × List ℕ)) (es fs : List (List �
   lacking_are = λ d. first_where (λ p. (has_listed e ss es he p d || has_listed k ts fs hf p d) && list_any (λ n. wanted_are p n d) (names_are d)) (names_are d)
 
   abbrev subr_differs : ℕ → Bool
-  subr_differs i = not (agrees (state_by (executed_listed e ss es hs he i) (find nat_cmp i ss)) (state_by (executed_listed k ts fs ht hf i) (find nat_cmp i ts)))
+  subr_differs i =
+      not (agrees (state_by (executed_listed e ss es hs he i) (find nat_cmp i ss)) (state_by (executed_listed k ts fs ht hf i) (find nat_cmp i ts)))
 
   subrs_differ : subr_conflict spelled f g ≡ first_where subr_differs (keys_listed nat_cmp ss ts)
-  subrs_differ = λ d. first_where (λ i. not (agrees (state_is e ss es hs he i d) (state_is k ts fs ht hf i d))) (keys_are nat_cmp_total nat_cmp-IsAntisymmetric ss ts hs ht d)
+  subrs_differ = λ d. first_where (λ i. not (agrees (state_is e ss es hs he i d) (state_is k ts fs ht hf i d)))
+      (keys_are nat_cmp_total nat_cmp-IsAntisymmetric ss ts hs ht d)
 
   abbrev used_listed : ℕ → List ℕ → Bool
   used_listed i n = runs_at i (at_name es n) || runs_at i (at_name fs n)
 
   used_are : (i : ℕ) (n : List ℕ) → used_by spelled f g i n ≡ used_listed i n
-  used_are i n = (λ d. runs_is f i (maps.get f.glyphs n) d || runs_is g i (maps.get g.glyphs n) d) ∙ (λ d. runs_at i (glyph_listed e ss es he n d) || runs_at i (glyph_listed k ts fs hf n d))
+  used_are i n = (λ d. runs_is f i (maps.get f.glyphs n) d || runs_is g i (maps.get g.glyphs n) d)
+      ∙ (λ d. runs_at i (glyph_listed e ss es he n d) || runs_at i (glyph_listed k ts fs hf n d))
 
   -- the lowest conflict, over lists, after the shells and codes
   abbrev listed : Option ShellPart → Option ℕ → Option Conflict
@@ -346,7 +365,8 @@ module _ (e k : Encoding) (ss ts : List (ℕ × List ℕ)) (es fs : List (List �
       (found (λ p. LacksComponent (unwrap_or (first_where (wanted_listed p) names) []) p) (first_where lacking_listed names)
       (found (λ i. SubrDiffers i (first_where (used_listed i) names)) (first_where subr_differs (keys_listed nat_cmp ss ts)) None))))
 
-  conflicts_are : (part : Option ShellPart) (code : Option ℕ) → shell_conflict f g ≡ part → code_conflict f g ≡ code → states_conflict spelled f g ≡ listed part code
+  conflicts_are : (part : Option ShellPart) (code : Option ℕ) → shell_conflict f g ≡ part → code_conflict f g ≡ code →
+      states_conflict spelled f g ≡ listed part code
   conflicts_are part code s c = λ d.
       found ShellDiffers (s d)
       (found CodeDiffers (c d)
@@ -359,8 +379,10 @@ module _ (e k : Encoding) (ss ts : List (ℕ × List ℕ)) (es fs : List (List �
   shells_same kinds present = λ d. cond (not (kinds d)) (Some EncodingPart) (cond (not ((present_are ∙ present) d)) (Some SubrsTable) None)
 
 -- two fonts with the same word as Encoding, each with its lists of Subrs and glyphs
-module _ (ss ts : List (ℕ × List ℕ)) (es fs : List (List ℕ × List ℕ)) (hs : T (is_sorted nat_cmp ss)) (ht : T (is_sorted nat_cmp ts)) (he : T (is_sorted name_cmp es)) (hf : T (is_sorted name_cmp fs)) where
-  in_both : same_bytes (map (λ e. e.0) ss) (map (λ e. e.0) ts) ≡ true → states_conflict spelled (font_of standard ss es) (font_of standard ts fs) ≡ listed standard standard ss ts es fs hs ht he hf None None
+module _ (ss ts : List (ℕ × List ℕ)) (es fs : List (List ℕ × List ℕ)) (hs : T (is_sorted nat_cmp ss))
+    (ht : T (is_sorted nat_cmp ts)) (he : T (is_sorted name_cmp es)) (hf : T (is_sorted name_cmp fs)) where
+  in_both : same_bytes (map (λ e. e.0) ss) (map (λ e. e.0) ts) ≡ true →
+      states_conflict spelled (font_of standard ss es) (font_of standard ts fs) ≡ listed standard standard ss ts es fs hs ht he hf None None
   in_both present = conflicts_are standard standard ss ts es fs hs ht he hf None None (shells_same standard standard ss ts es fs hs ht he hf refl present)
       (passes_none (code_clashes (font_of standard ss es) (font_of standard ts fs)) (members (codes_of_both standard standard)) (λ c. refl))
 
@@ -383,10 +405,12 @@ lead_bytes_differ = refl
 lowest : (f g : FontValue) (c : Conflict) → states_conflict spelled f g ≡ Some c → conflict spelled f g ≡ Some c
 lowest f g c s = ap (λ x. found (λ c. c) x (cond (is_within spelled f g) None (Some OverLimit))) s
 
-index_lacks : states_conflict spelled (font_of standard ((0, stub) ∷ []) ((notdef, []) ∷ [])) (font_of standard [] ((notdef, []) ∷ [])) ≡ Some (ShellDiffers SubrsTable)
+index_lacks : states_conflict spelled (font_of standard ((0, stub) ∷ []) ((notdef, []) ∷ [])) (font_of standard [] ((notdef, []) ∷ []))
+    ≡ Some (ShellDiffers SubrsTable)
 index_lacks = conflicts_are standard standard ((0, stub) ∷ []) [] ((notdef, []) ∷ []) ((notdef, []) ∷ []) tt tt tt tt (Some SubrsTable) None
     (λ d. cond (not (present_are standard standard ((0, stub) ∷ []) [] ((notdef, []) ∷ []) ((notdef, []) ∷ []) tt tt tt tt d)) (Some SubrsTable) None)
-    (passes_none (code_clashes (font_of standard ((0, stub) ∷ []) ((notdef, []) ∷ [])) (font_of standard [] ((notdef, []) ∷ []))) (members (codes_of_both standard standard)) (λ c. refl))
+    (passes_none (code_clashes (font_of standard ((0, stub) ∷ []) ((notdef, []) ∷ [])) (font_of standard [] ((notdef, []) ∷ [])))
+    (members (codes_of_both standard standard)) (λ c. refl))
     ∙ refl
 
 -- V without its component A, as a cut of another font may have it
@@ -400,10 +424,12 @@ abbrev other_B : List (List ℕ × List ℕ)
 other_B = (notdef, []) ∷ (codes "A", 5 ∷ []) ∷ (codes "B", 8 ∷ []) ∷ []
 
 B_differs : conflict spelled (font_of standard subrs A_and_B) (font_of standard subrs other_B) ≡ Some (GlyphDiffers (codes "B"))
-B_differs = lowest (font_of standard subrs A_and_B) (font_of standard subrs other_B) (GlyphDiffers (codes "B")) (in_both subrs subrs A_and_B other_B tt tt tt tt refl ∙ refl)
+B_differs = lowest (font_of standard subrs A_and_B) (font_of standard subrs other_B)
+    (GlyphDiffers (codes "B")) (in_both subrs subrs A_and_B other_B tt tt tt tt refl ∙ refl)
 
 V_lacks_A : conflict spelled (font_of standard subrs V_alone) (font_of standard subrs A_and_B) ≡ Some (LacksComponent (codes "V") (codes "A"))
-V_lacks_A = lowest (font_of standard subrs V_alone) (font_of standard subrs A_and_B) (LacksComponent (codes "V") (codes "A")) (in_both subrs subrs V_alone A_and_B tt tt tt tt refl ∙ refl)
+V_lacks_A = lowest (font_of standard subrs V_alone) (font_of standard subrs A_and_B)
+    (LacksComponent (codes "V") (codes "A")) (in_both subrs subrs V_alone A_and_B tt tt tt tt refl ∙ refl)
 
 -- another charstring at index 5, which A executes
 abbrev other_5 : List (ℕ × List ℕ)
@@ -419,7 +445,8 @@ abbrev other_at_0 : List (ℕ × List ℕ)
 other_at_0 = (0, 13 ∷ []) ∷ (5, 12 ∷ []) ∷ (7, stub) ∷ (8, stub) ∷ []
 
 no_user_of_0 : conflict spelled (font_of standard two_at_0 glyphs) (font_of standard other_at_0 A_and_B) ≡ Some (SubrDiffers 0 None)
-no_user_of_0 = lowest (font_of standard two_at_0 glyphs) (font_of standard other_at_0 A_and_B) (SubrDiffers 0 None) (in_both two_at_0 other_at_0 glyphs A_and_B tt tt tt tt refl ∙ refl)
+no_user_of_0 = lowest (font_of standard two_at_0 glyphs) (font_of standard other_at_0 A_and_B)
+    (SubrDiffers 0 None) (in_both two_at_0 other_at_0 glyphs A_and_B tt tt tt tt refl ∙ refl)
 
 -- a stub that no glyph of its font executes gives way: 7 in one font and 5 in the other
 abbrev cut_to_A : List (ℕ × List ℕ)
@@ -439,7 +466,8 @@ cuts_agree = in_both cut_to_A cut_to_B A_alone B_alone tt tt tt tt refl ∙ refl
 
 -- a stub that is executed doesn't give way
 stub_is_used : conflict spelled (font_of standard cut_to_A A_and_B) (font_of standard cut_to_B B_alone) ≡ Some (SubrDiffers 7 (Some (codes "B")))
-stub_is_used = lowest (font_of standard cut_to_A A_and_B) (font_of standard cut_to_B B_alone) (SubrDiffers 7 (Some (codes "B"))) (in_both cut_to_A cut_to_B A_and_B B_alone tt tt tt tt refl ∙ refl)
+stub_is_used = lowest (font_of standard cut_to_A A_and_B) (font_of standard cut_to_B B_alone)
+    (SubrDiffers 7 (Some (codes "B"))) (in_both cut_to_A cut_to_B A_and_B B_alone tt tt tt tt refl ∙ refl)
 
 -- two tables with different names at a code
 abbrev table : List (ℕ × List ℕ) → Encoding
@@ -453,6 +481,8 @@ codes_of_V = (64, codes "V") ∷ (66, codes "V") ∷ []
 
 code_66_differs : conflict spelled (font_of (table codes_of_A) subrs glyphs) (font_of (table codes_of_V) subrs glyphs) ≡ Some (CodeDiffers 66)
 code_66_differs = lowest (font_of (table codes_of_A) subrs glyphs) (font_of (table codes_of_V) subrs glyphs) (CodeDiffers 66)
-    (conflicts_are (table codes_of_A) (table codes_of_V) subrs subrs glyphs glyphs tt tt tt tt None (Some 66) (shells_same (table codes_of_A) (table codes_of_V) subrs subrs glyphs glyphs tt tt tt tt refl refl)
-    ((λ d. first_where (λ c. not (agrees (maps.get-from_sorted nat_cmp codes_of_A c tt d) (maps.get-from_sorted nat_cmp codes_of_V c tt d))) (keys_are nat_cmp_total nat_cmp-IsAntisymmetric codes_of_A codes_of_V tt tt d)) ∙ refl)
+    (conflicts_are (table codes_of_A) (table codes_of_V) subrs subrs glyphs glyphs tt tt tt tt None (Some 66)
+    (shells_same (table codes_of_A) (table codes_of_V) subrs subrs glyphs glyphs tt tt tt tt refl refl)
+    ((λ d. first_where (λ c. not (agrees (maps.get-from_sorted nat_cmp codes_of_A c tt d) (maps.get-from_sorted nat_cmp codes_of_V c tt d)))
+    (keys_are nat_cmp_total nat_cmp-IsAntisymmetric codes_of_A codes_of_V tt tt d)) ∙ refl)
     ∙ refl)

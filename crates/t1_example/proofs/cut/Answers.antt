@@ -13,21 +13,28 @@ use Rattle.t1_example.proofs.Callers.{none_lacking, cut_fits}
 use Rattle.t1_example.proofs.cut.Goals as goal
 
 pub returns-in_err-subset-clause-again : goal.returns-in_err-subset-clause-again
-returns-in_err-subset-clause-again c = let p = err_from_is_err_and c.from_residual-in_err-subset.result c.from_residual-in_err-subset.ensures.1 in rw (p.1, p.2) (λ i k.
-    none_lacking c.in_ok-font.font (lent c.args.names.now) c.in_err-subset.field-0.0 (subst (λ (j : FontValue). IsOf j (asked c.args.names.now)) (sym c.in_ok-font.ensures) i) c.in_err-subset.ensures.absent)
+returns-in_err-subset-clause-again c =
+    let p = err_from_is_err_and c.from_residual-in_err-subset.result c.from_residual-in_err-subset.ensures.1 in rw (p.1, p.2) (λ i k.
+    none_lacking c.in_ok-font.font (lent c.args.names.now) c.in_err-subset.field-0.0
+    (subst (λ (j : FontValue). IsOf j (asked c.args.names.now)) (sym c.in_ok-font.ensures) i) c.in_err-subset.ensures.absent)
 
 pub returns-in_err-subset-clause-absent : goal.returns-in_err-subset-clause-absent
-returns-in_err-subset-clause-absent c = let p = err_from_is_err_and c.from_residual-in_err-subset.result c.from_residual-in_err-subset.ensures.1 in rw (p.1, p.2) (inr (
-    subst (λ (j : FontValue). LacksFirst (lacking j (lent c.args.names.now)) (Refusal.Subset c.in_err-subset.field-0.0)) c.in_ok-font.ensures c.in_err-subset.ensures.absent))
+returns-in_err-subset-clause-absent c =
+    let p = err_from_is_err_and c.from_residual-in_err-subset.result c.from_residual-in_err-subset.ensures.1 in rw (p.1, p.2) (inr (
+    subst (λ (j : FontValue). LacksFirst (lacking j (lent c.args.names.now)) (Refusal.Subset c.in_err-subset.field-0.0))
+    c.in_ok-font.ensures c.in_err-subset.ensures.absent))
 
 pub returns-clause-again : goal.returns-clause-again
 returns-clause-again c = λ i k.
-    c.in_ok-file.ensures.again (subst (λ (j : FontValue). Fits c.args.form j) (sym (c.in_ok-subset.ensures.ok ∙ ap (λ (j : FontValue). subset profile j (asked c.args.names.now)) c.in_ok-font.ensures)) (cut_fits c.args.form c.args.source.now (asked c.args.names.now) k))
+    c.in_ok-file.ensures.again (subst (λ (j : FontValue). Fits c.args.form j)
+    (sym (c.in_ok-subset.ensures.ok ∙ ap (λ (j : FontValue). subset profile j (asked c.args.names.now)) c.in_ok-font.ensures))
+    (cut_fits c.args.form c.args.source.now (asked c.args.names.now) k))
     ∙ ap Ok (c.in_ok-subset.ensures.ok ∙ ap (λ (j : FontValue). subset profile j (asked c.args.names.now)) c.in_ok-font.ensures)
 
 pub returns-clause-text : goal.returns-clause-text
 returns-clause-text c = c.in_ok-file.ensures.canon
-    ∙ ap (λ (j : FontValue). canon j c.args.form) (c.in_ok-subset.ensures.ok ∙ ap (λ (j : FontValue). subset profile j (asked c.args.names.now)) c.in_ok-font.ensures)
+    ∙ ap (λ (j : FontValue). canon j c.args.form)
+    (c.in_ok-subset.ensures.ok ∙ ap (λ (j : FontValue). subset profile j (asked c.args.names.now)) c.in_ok-font.ensures)
 
 pub returns-clause-present : goal.returns-clause-present
 returns-clause-present c = ap (λ (j : FontValue). lacking j (lent c.args.names.now)) (sym c.in_ok-font.ensures) ∙ c.in_ok-subset.ensures.present

@@ -26,8 +26,10 @@ returns-in_err-one-clause-comes c = let p = err_from_is_err_and c.from_residual.
 
 pub returns-in-Err-clause-comes : goal.returns-in-Err-clause-comes
 returns-in-Err-clause-comes c =
-    second_unread c.in-Err.fault (read_font c.args.first.now) (read_font c.args.second.now) c.args.form c.in_ok-one.one c.in_ok-one.ensures.exact c.in-Err.ensures.exact
+    second_unread c.in-Err.fault (read_font c.args.first.now)
+    (read_font c.args.second.now) c.args.form c.in_ok-one.one c.in_ok-one.ensures.exact c.in-Err.ensures.exact
 
 pub returns-clause-comes : goal.returns-clause-comes
 returns-clause-comes c =
-    both_read (read_font c.args.first.now) (read_font c.args.second.now) c.args.form c.in_ok-one.one c.in-Ok.other c.merged_file-file.result c.in_ok-one.ensures.exact c.in-Ok.ensures.exact c.merged_file-file.ensures.comes
+    both_read (read_font c.args.first.now) (read_font c.args.second.now)
+    c.args.form c.in_ok-one.one c.in-Ok.other c.merged_file-file.result c.in_ok-one.ensures.exact c.in-Ok.ensures.exact c.merged_file-file.ensures.comes

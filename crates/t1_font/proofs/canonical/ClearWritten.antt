@@ -28,7 +28,8 @@ unfolding encoding_marker
 encoding_marker_read rest = rw (fixed_read (codes "/Encoding") (32 ∷ rest)) refl
 
 -- an Encoding that is a word is read from its text
-pub encoding_word_read : (w rest : List ℕ) → IsWord 32 w → Stops is_regular rest → (encoding_word Strict).read (32 ∷ (w ++ (codes " def" ++ rest))) ≡ Some (w, rest)
+pub encoding_word_read : (w rest : List ℕ) → IsWord 32 w → Stops is_regular rest →
+    (encoding_word Strict).read (32 ∷ (w ++ (codes " def" ++ rest))) ≡ Some (w, rest)
 unfolding encoding_word
 encoding_word_read w rest h s =
     let t : List ℕ = codes "def" ++ rest in
@@ -47,9 +48,14 @@ table_begins : (rest : List ℕ) → (encoding_table Strict).read (codes " 256 a
 unfolding encoding_table gap keyword
 table_begins rest = refl
 
-loop_read : (rest : List ℕ) → (encoding_loop Strict).read (10 ∷ (codes "0 1 255 {1 index exch /.notdef put} for" ++ (10 ∷ rest))) ≡ Some (codes "for", 10 ∷ rest)
+loop_read : (rest : List ℕ) →
+    (encoding_loop Strict).read (10 ∷ (codes "0 1 255 {1 index exch /.notdef put} for" ++ (10 ∷ rest))) ≡ Some (codes "for", 10 ∷ rest)
 unfolding encoding_loop gap keyword
-loop_read rest = rw (fixed_read (codes "{") (codes "1 index exch /.notdef put} for" ++ (10 ∷ rest)), fixed_read (codes "/") (codes ".notdef put} for" ++ (10 ∷ rest)), fixed_read (codes "}") (codes " for" ++ (10 ∷ rest))) refl
+loop_read rest = rw (
+  fixed_read (codes "{") (codes "1 index exch /.notdef put} for" ++ (10 ∷ rest)),
+  fixed_read (codes "/") (codes ".notdef put} for" ++ (10 ∷ rest)),
+  fixed_read (codes "}") (codes " for" ++ (10 ∷ rest)),
+) refl
 
 -- ---- the puts
 
@@ -58,7 +64,8 @@ unfolding code
 code_read c rest h s = that_read _ (either decimal octal) (digits c ++ rest) c rest (rw (decimal_read c rest (omega arith) s) refl) (le-leb c 255 h)
 
 -- a put is read from its text
-code_entry_read : (c : ℕ) (n rest : List ℕ) → IsCode c n → Stops is_regular rest → (put_entry Strict).read (10 ∷ (codes "dup " ++ (digits c ++ (codes " /" ++ (n ++ (codes " put" ++ rest)))))) ≡ Some (Put c n, rest)
+code_entry_read : (c : ℕ) (n rest : List ℕ) → IsCode c n → Stops is_regular rest →
+    (put_entry Strict).read (10 ∷ (codes "dup " ++ (digits c ++ (codes " /" ++ (n ++ (codes " put" ++ rest)))))) ≡ Some (Put c n, rest)
 unfolding put_entry
 code_entry_read c n rest h s =
     let t4 : List ℕ = codes "put" ++ rest in
@@ -104,7 +111,8 @@ puts_read (e ∷ es) rest all s =
     let stops : Stops is_regular others = subst (λ (u : List ℕ). Stops is_regular (u ++ rest)) (sym line.1) refl in
     let here : (code_entry Strict).read text ≡ Some (put_of e, others) = code_entry_read e.0 e.1 others all.0 stops in
     let one : table_at (code_entry Strict) (encoding_end Strict) text ≡ with_front (put_of e ∷ []) (table_at (code_entry Strict) (encoding_end Strict) others) =
-    rw (table_at-step (code_entry Strict) (encoding_end Strict) (code_entry_eats Strict) text, (code_entry_apart Strict) text (put_of e, others) here, here) refl in
+    rw (table_at-step (code_entry Strict) (encoding_end Strict) (code_entry_eats Strict) text, (code_entry_apart Strict) text (put_of e, others) here, here)
+    refl in
     ap (table_at (code_entry Strict) (encoding_end Strict)) regrouped ∙ (one ∙ ap (with_front (put_of e ∷ [])) (puts_read es rest all.1 s))
 
 -- ---- the whole
@@ -121,13 +129,19 @@ start_word : (w rest : List ℕ) → IsWord 32 w → Stops is_regular rest → (
 unfolding encoding_start
 start_word w rest h s = rw (encoding_word_read w rest h s) refl
 
-start_table : (rest : List ℕ) → (encoding_start Strict).read (codes " 256 array" ++ (10 ∷ (codes "0 1 255 {1 index exch /.notdef put} for" ++ (10 ∷ rest)))) ≡ Some (OpensPuts, 10 ∷ rest)
+start_table : (rest : List ℕ) →
+    (encoding_start Strict).read (codes " 256 array" ++ (10 ∷ (codes "0 1 255 {1 index exch /.notdef put} for" ++ (10 ∷ rest)))) ≡ Some (OpensPuts, 10 ∷ rest)
 unfolding encoding_start
-start_table rest = rw (no_word (codes "0 1 255 {1 index exch /.notdef put} for" ++ (10 ∷ rest)), table_begins (codes "0 1 255 {1 index exch /.notdef put} for" ++ (10 ∷ rest)), loop_read rest) refl
+start_table rest = rw (
+  no_word (codes "0 1 255 {1 index exch /.notdef put} for" ++ (10 ∷ rest)),
+  table_begins (codes "0 1 255 {1 index exch /.notdef put} for" ++ (10 ∷ rest)),
+  loop_read rest,
+) refl
 
 -- the canonical clear text, without the line end behind it
 pub clear_again : (head : List ℕ) (encoding : EncodingText) (tail : List ℕ) → NoMarker encoding_marker head → IsEncodingText encoding →
-    Stops is_regular tail → (clear_pieces Strict (head ++ (encoding_text encoding ++ tail))).read ≡ Ok (record { head = head; encoding = encoding; clear_tail = tail })
+    Stops is_regular tail →
+    (clear_pieces Strict (head ++ (encoding_text encoding ++ tail))).read ≡ Ok (record { head = head; encoding = encoding; clear_tail = tail })
 unfolding clear_pieces encoding_from
 clear_again head (OneWord w) tail none h s =
     let t : List ℕ = w ++ (codes " def" ++ tail) in
@@ -141,7 +155,9 @@ clear_again head (Puts es) tail none h s =
     let t : List ℕ = codes "256 array" ++ (10 ∷ (codes "0 1 255 {1 index exch /.notdef put} for" ++ p)) in
     let shown : p ≡ 10 ∷ (line.0 ++ tail) = ap (λ (u : List ℕ). u ++ tail) line.1 in
     let start : (encoding_start Strict).read (32 ∷ t) ≡ Some (OpensPuts, p) =
-    subst (λ (u : List ℕ). (encoding_start Strict).read (codes " 256 array" ++ (10 ∷ (codes "0 1 255 {1 index exch /.notdef put} for" ++ u))) ≡ Some (OpensPuts, u)) (sym shown) (start_table (line.0 ++ tail)) in
+    subst (λ (u : List ℕ). (encoding_start Strict).read (codes " 256 array" ++ (10 ∷ (codes "0 1 255 {1 index exch /.notdef put} for" ++ u)))
+    ≡ Some (OpensPuts, u)) (sym shown) (start_table (line.0 ++ tail)) in
     let marker : first_at encoding_marker (head ++ (codes "/Encoding" ++ (32 ∷ t))) ≡ Some ((head, tt), 32 ∷ t) =
     first_behind encoding_marker head _ tt (32 ∷ t) (encoding_moves head [] _ none) (encoding_marker_read t) in
-    rw (marker, start, puts_read es tail h s) (ap (λ (puts : List (ℕ × List ℕ)). Ok (record { head = head; encoding = Puts puts; clear_tail = tail })) (puts_plain [] es))
+    rw (marker, start, puts_read es tail h s)
+    (ap (λ (puts : List (ℕ × List ℕ)). Ok (record { head = head; encoding = Puts puts; clear_tail = tail })) (puts_plain [] es))

@@ -27,8 +27,10 @@ fixed_read w rest = (fixed w).again w w rest ((refl, refl), (bytes_eq-Decides w 
 pub name_read : (n rest : List ℕ) → IsWord 127 n → Stops is_regular rest → name.read (codes "/" ++ (n ++ rest)) ≡ Some (n, rest)
 unfolding name
 name_read n rest h s =
-    bind_read (fixed (codes "/")) (λ _. that is_name (run is_regular)) (codes "/" ++ (n ++ rest)) (codes "/") (n ++ rest) (Some (n, rest)) (fixed_read (codes "/") (n ++ rest))
-    (that_read is_name (run is_regular) (n ++ rest) n rest (run_read is_regular n rest h.regular s) (and_from _ _ (le-leb 1 (length n) h.some) (le-leb (length n) 127 h.few)))
+    bind_read (fixed (codes "/")) (λ _. that is_name (run is_regular)) (codes "/" ++ (n ++ rest))
+    (codes "/") (n ++ rest) (Some (n, rest)) (fixed_read (codes "/") (n ++ rest))
+    (that_read is_name (run is_regular) (n ++ rest) n rest (run_read is_regular n rest h.regular s)
+    (and_from _ _ (le-leb 1 (length n) h.some) (le-leb (length n) 127 h.few)))
 
 -- a word of 1 to 32 bytes passes the test for words
 pub is_word_of : (w : List ℕ) → IsWord 32 w → is_word w ≡ true
@@ -76,14 +78,17 @@ module _ {K : Type 0} (key : Grammar K) (close : Grammar (List ℕ)) (apart : Ap
   unfolding entry
   entry_read e rest h s =
       let behind : List ℕ = body_text e.body ++ rest in
-      let regrouped : entry_text key_text e ++ rest ≡ 10 ∷ (key_text e.key ++ behind) = ap (λ (u : List ℕ). 10 ∷ u) (append_assoc (key_text e.key) (body_text e.body) rest) in
+      let regrouped : entry_text key_text e ++ rest ≡ 10 ∷ (key_text e.key ++ behind) =
+      ap (λ (u : List ℕ). 10 ∷ u) (append_assoc (key_text e.key) (body_text e.body) rest) in
       rw (regrouped, key_read e.key behind h.0 refl, body_read iv e.body rest h.1 s) refl
 
   begins_line : (es : List (Entry K)) (closing rest : List ℕ) → Stops is_regular (entries_text key_text es closing ++ rest)
   begins_line [] closing rest = refl
   begins_line (e ∷ es) closing rest = refl
 
-  table_read : (es : List (Entry K)) (closing rest : List ℕ) → AllByRecursion (IsEntry IsKey iv) es → ((after : List ℕ) → Stops is_regular after → close.read (10 ∷ (closing ++ after)) ≡ Some (closing, after)) → Stops is_regular rest → table_at (entry key iv) close (entries_text key_text es closing ++ rest) ≡ Ok (es, closing, rest)
+  table_read : (es : List (Entry K)) (closing rest : List ℕ) → AllByRecursion (IsEntry IsKey iv) es →
+      ((after : List ℕ) → Stops is_regular after → close.read (10 ∷ (closing ++ after)) ≡ Some (closing, after)) → Stops is_regular rest →
+      table_at (entry key iv) close (entries_text key_text es closing ++ rest) ≡ Ok (es, closing, rest)
   table_read [] closing rest all ends s = rw (table_at-step (entry key iv) close (entry_eats key iv) (10 ∷ (closing ++ rest)), ends rest s) refl
   table_read (e ∷ es) closing rest all ends s =
       let others : List ℕ = entries_text key_text es closing ++ rest in
@@ -91,12 +96,14 @@ module _ {K : Type 0} (key : Grammar K) (close : Grammar (List ℕ)) (apart : Ap
       let here : (entry key iv).read text ≡ Some (e, others) = entry_read e others all.0 (begins_line es closing rest) in
       let one : table_at (entry key iv) close text ≡ with_front (e ∷ []) (table_at (entry key iv) close others) =
       rw (table_at-step (entry key iv) close (entry_eats key iv) text, entry_apart key iv close apart text (e, others) here, here) refl in
-      ap (table_at (entry key iv) close) (append_assoc (entry_text key_text e) (entries_text key_text es closing) rest) ∙ (one ∙ ap (with_front (e ∷ [])) (table_read es closing rest all.1 ends s))
+      ap (table_at (entry key iv) close) (append_assoc (entry_text key_text e) (entries_text key_text es closing) rest)
+      ∙ (one ∙ ap (with_front (e ∷ [])) (table_read es closing rest all.1 ends s))
 
 -- ---- Subrs
 
 -- the index of a Subr is read from its text
-subr_key_read : (declared : ℕ) → declared ≤ 65535 → (i : ℕ) (rest : List ℕ) → i < declared → Stops is_regular rest → (subr_key Strict declared).read (10 ∷ (index_text i ++ rest)) ≡ Some (i, rest)
+subr_key_read : (declared : ℕ) → declared ≤ 65535 → (i : ℕ) (rest : List ℕ) → i < declared → Stops is_regular rest →
+    (subr_key Strict declared).read (10 ∷ (index_text i ++ rest)) ≡ Some (i, rest)
 unfolding subr_key
 subr_key_read declared few i rest h s =
     let small : i < 10 ^ 9 = omega (arith, h, few) in
@@ -108,21 +115,28 @@ subr_key_read declared few i rest h s =
     ) refl
 
 -- a table of Subrs is read from its text
-pub subrs_read : (declared iv : ℕ) (es : List Subr) (closing rest : List ℕ) → declared ≤ 65535 → AllByRecursion (IsEntry (λ i. i < declared) iv) es → IsPhrase false closing → Stops is_regular rest → table_at (subr Strict declared iv) (subrs_end Strict) (subrs_text es closing ++ rest) ≡ Ok (es, closing, rest)
+pub subrs_read : (declared iv : ℕ) (es : List Subr) (closing rest : List ℕ) → declared ≤ 65535 →
+    AllByRecursion (IsEntry (λ i. i < declared) iv) es → IsPhrase false closing → Stops is_regular rest →
+    table_at (subr Strict declared iv) (subrs_end Strict) (subrs_text es closing ++ rest) ≡ Ok (es, closing, rest)
 subrs_read declared iv es closing rest few all ends s =
-    table_read (subr_key Strict declared) (subrs_end Strict) (subr_key_apart Strict declared) index_text (λ i. i < declared) (subr_key_read declared few) iv es closing rest
+    table_read (subr_key Strict declared) (subrs_end Strict) (subr_key_apart Strict declared) index_text
+    (λ i. i < declared) (subr_key_read declared few) iv es closing rest
     all (closing_read closing ends) s
 
 -- ---- the glyphs
 
 next_name_read : (n rest : List ℕ) → IsWord 127 n → Stops is_regular rest → (next_name Strict).read (10 ∷ (name_text n ++ rest)) ≡ Some (n, rest)
 unfolding next_name
-next_name_read n rest h s = bind_read white (λ _. name) (10 ∷ (name_text n ++ rest)) (10 ∷ []) (codes "/" ++ (n ++ rest)) _ (white_one 10 (codes "/" ++ (n ++ rest)) refl refl) (name_read n rest h s)
+next_name_read n rest h s = bind_read white (λ _. name) (10 ∷ (name_text n ++ rest)) (10 ∷ [])
+    (codes "/" ++ (n ++ rest)) _ (white_one 10 (codes "/" ++ (n ++ rest)) refl refl) (name_read n rest h s)
 
 end_read : (rest : List ℕ) → Stops is_regular rest → glyphs_end.read (10 ∷ (codes "end" ++ rest)) ≡ Some (codes "end", rest)
 unfolding glyphs_end
-end_read rest s = bind_read white (λ _. keyword (codes "end")) (10 ∷ (codes "end" ++ rest)) (10 ∷ []) (codes "end" ++ rest) _ (white_one 10 (codes "end" ++ rest) refl refl) (keyword_read (codes "end") rest (refl, (refl, (refl, tt))) s)
+end_read rest s = bind_read white (λ _. keyword (codes "end")) (10 ∷ (codes "end" ++ rest)) (10 ∷ []) (codes "end" ++ rest) _
+    (white_one 10 (codes "end" ++ rest) refl refl) (keyword_read (codes "end") rest (refl, (refl, (refl, tt))) s)
 
 -- a table of glyphs is read from its text
-pub glyphs_read : (iv : ℕ) (es : List Glyph) (rest : List ℕ) → AllByRecursion (IsEntry (IsWord 127) iv) es → Stops is_regular rest → table_at (glyph iv) glyphs_end (glyphs_text es ++ rest) ≡ Ok (es, codes "end", rest)
-glyphs_read iv es rest all s = table_read (next_name Strict) glyphs_end next_name_apart name_text (IsWord 127) next_name_read iv es (codes "end") rest all end_read s
+pub glyphs_read : (iv : ℕ) (es : List Glyph) (rest : List ℕ) → AllByRecursion (IsEntry (IsWord 127) iv) es → Stops is_regular rest →
+    table_at (glyph iv) glyphs_end (glyphs_text es ++ rest) ≡ Ok (es, codes "end", rest)
+glyphs_read iv es rest all s =
+    table_read (next_name Strict) glyphs_end next_name_apart name_text (IsWord 127) next_name_read iv es (codes "end") rest all end_read s

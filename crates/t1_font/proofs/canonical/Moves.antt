@@ -54,11 +54,13 @@ stops_none p (b ∷ bs) s = rw s refl
 pub run_front : (p : ℕ → Bool) (xs u : List ℕ) → Stops p u → (run p).read (xs ++ u) ≡ Some (take (prefix_len p xs) xs, drop (prefix_len p xs) xs ++ u)
 run_front p [] u s = rw (stops_none p u s) refl
 run_front p (x ∷ xs) u s = elim (cases_Bool (p x)) [
-  | inl t ↦ let e = run_front p xs u s in rw (t, one-add, one-add) (more x (take (prefix_len p (xs ++ u)) (xs ++ u)) (drop (prefix_len p (xs ++ u)) (xs ++ u)) _ _ e)
+  | inl t ↦ let e = run_front p xs u s in
+      rw (t, one-add, one-add) (more x (take (prefix_len p (xs ++ u)) (xs ++ u)) (drop (prefix_len p (xs ++ u)) (xs ++ u)) _ _ e)
   | inr t ↦ rw t refl
 ]
   where
-    more : (x : ℕ) (a b c d : List ℕ) → ◌≡◌ {A = Option (List ℕ × List ℕ)} (Some (a, b)) (Some (c, d)) → ◌≡◌ {A = Option (List ℕ × List ℕ)} (Some (x ∷ a, b)) (Some (x ∷ c, d))
+    more : (x : ℕ) (a b c d : List ℕ) → ◌≡◌ {A = Option (List ℕ × List ℕ)} (Some (a, b)) (Some (c, d)) →
+        ◌≡◌ {A = Option (List ℕ × List ℕ)} (Some (x ∷ a, b)) (Some (x ∷ c, d))
     more x a b c d e = let parts = some_pair_parts a c b d e in rw (parts.0, parts.1) refl
 
 -- no byte of w begins the text
@@ -76,7 +78,8 @@ module _ (u v : List ℕ) where
   pub run_within : (p : ℕ → Bool) → Stops p u → Stops p v → Within u v (run p)
   run_within p s t = record { alike = λ xs. inr (take (prefix_len p xs) xs, drop (prefix_len p xs) xs, run_front p xs u s, run_front p xs v t) }
 
-  strip_within : (w : List ℕ) → Foreign w u → Foreign w v → (a xs : List ℕ) → Alike u v (option_and_then (λ r. Some (a, r)) (strip w (xs ++ u))) (option_and_then (λ r. Some (a, r)) (strip w (xs ++ v)))
+  strip_within : (w : List ℕ) → Foreign w u → Foreign w v → (a xs : List ℕ) →
+      Alike u v (option_and_then (λ r. Some (a, r)) (strip w (xs ++ u))) (option_and_then (λ r. Some (a, r)) (strip w (xs ++ v)))
   strip_within [] h k a xs = inr (a, xs, refl, refl)
   strip_within (c ∷ w) h k a [] = inl (rw (foreign_strip c w u h.0) refl, rw (foreign_strip c w v k.0) refl)
   strip_within (c ∷ w) h k a (x ∷ xs) = elim (cases_Bool (eqb c x)) [
@@ -88,10 +91,12 @@ module _ (u v : List ℕ) where
   fixed_within w h k = record { alike = λ xs. rw (fixed_strip w (xs ++ u), fixed_strip w (xs ++ v)) (strip_within w h k w xs) }
 
   -- w behind a first byte
-  pub fixed_behind : (b : ℕ) (w : List ℕ) → Foreign w u → Foreign w v → (x : ℕ) (xs : List ℕ) → Alike u v ((fixed (b ∷ w)).read (x ∷ (xs ++ u))) ((fixed (b ∷ w)).read (x ∷ (xs ++ v)))
+  pub fixed_behind : (b : ℕ) (w : List ℕ) → Foreign w u → Foreign w v → (x : ℕ) (xs : List ℕ) →
+      Alike u v ((fixed (b ∷ w)).read (x ∷ (xs ++ u))) ((fixed (b ∷ w)).read (x ∷ (xs ++ v)))
   fixed_behind b w h k x xs = rw (fixed_strip (b ∷ w) (x ∷ (xs ++ u)), fixed_strip (b ∷ w) (x ∷ (xs ++ v))) (by_first (eqb b x) refl)
     where
-      by_first : (t : Bool) → eqb b x ≡ t → Alike u v (option_and_then (λ r. Some (b ∷ w, r)) (strip (b ∷ w) (x ∷ (xs ++ u)))) (option_and_then (λ r. Some (b ∷ w, r)) (strip (b ∷ w) (x ∷ (xs ++ v))))
+      by_first : (t : Bool) → eqb b x ≡ t → Alike u v (option_and_then (λ r. Some (b ∷ w, r)) (strip (b ∷ w) (x ∷ (xs ++ u))))
+          (option_and_then (λ r. Some (b ∷ w, r)) (strip (b ∷ w) (x ∷ (xs ++ v))))
       by_first true t = rw t (strip_within w h k (b ∷ w) xs)
       by_first false t = inl (rw t refl, rw t refl)
 
@@ -164,11 +169,13 @@ module _ (r s : List ℕ) where
   slash_decimal : Within (47 ∷ r) (47 ∷ s) decimal
   slash_decimal = decimal_within (47 ∷ r) (47 ∷ s) refl refl
 
-  slash_bind : {A B : Type 0} (g : Grammar A) (f : A → Grammar B) → Within (47 ∷ r) (47 ∷ s) g → ((a : A) → Within (47 ∷ r) (47 ∷ s) (f a)) → Within (47 ∷ r) (47 ∷ s) (g >>= f)
+  slash_bind : {A B : Type 0} (g : Grammar A) (f : A → Grammar B) → Within (47 ∷ r) (47 ∷ s) g → ((a : A) → Within (47 ∷ r) (47 ∷ s) (f a)) →
+      Within (47 ∷ r) (47 ∷ s) (g >>= f)
   slash_bind = bind_within (47 ∷ r) (47 ∷ s)
 
   -- a fixed text, and then what is read alike
-  then_within : {A B : Type 0} (o p : Option (A × List ℕ)) (g : Grammar B) → Alike (47 ∷ r) (47 ∷ s) o p → Within (47 ∷ r) (47 ∷ s) g → Alike (47 ∷ r) (47 ∷ s) (option_and_then (λ x. g.read x.1) o) (option_and_then (λ x. g.read x.1) p)
+  then_within : {A B : Type 0} (o p : Option (A × List ℕ)) (g : Grammar B) → Alike (47 ∷ r) (47 ∷ s) o p → Within (47 ∷ r) (47 ∷ s) g →
+      Alike (47 ∷ r) (47 ∷ s) (option_and_then (λ x. g.read x.1) o) (option_and_then (λ x. g.read x.1) p)
   then_within o p g h G = elim h [
     | inl n ↦ inl (rw n.0 refl, rw n.1 refl)
     | inr t ↦ rw (t.2, t.3) (G.alike t.1)
@@ -178,24 +185,32 @@ module _ (r s : List ℕ) where
   unfolding subrs_marker
   subrs_behind b xs =
       then_within _ _ _ (fixed_behind (47 ∷ r) (47 ∷ s) 47 (codes "Subrs") (slash_word (codes "Subrs") r refl) (slash_word (codes "Subrs") s refl) b xs)
-      (slash_bind _ _ slash_gap (λ _. slash_bind _ _ slash_decimal (λ declared. slash_bind _ _ slash_gap (λ _. slash_bind _ _ (slash_keyword (codes "array")) (λ _. slash_bind _ _ (before_within (47 ∷ r) (47 ∷ s) white_comes (λ b bs cs. refl) refl) (λ _. pure_within (47 ∷ r) (47 ∷ s) declared))))))
+      (slash_bind _ _ slash_gap (λ _. slash_bind _ _ slash_decimal (λ declared. slash_bind _ _ slash_gap (λ _. slash_bind _ _ (slash_keyword (codes "array"))
+      (λ _. slash_bind _ _ (before_within (47 ∷ r) (47 ∷ s) white_comes (λ b bs cs. refl) refl) (λ _. pure_within (47 ∷ r) (47 ∷ s) declared))))))
 
   chars_behind : Behind (47 ∷ r) (47 ∷ s) chars_marker
   unfolding chars_marker
   chars_behind b xs =
-      then_within _ _ _ (fixed_behind (47 ∷ r) (47 ∷ s) 47 (codes "CharStrings") (slash_word (codes "CharStrings") r refl) (slash_word (codes "CharStrings") s refl) b xs)
-      (slash_bind _ _ slash_gap (λ _. slash_bind _ _ slash_decimal (λ declared. slash_bind _ _ slash_gap (λ _. slash_bind _ _ (slash_keyword (codes "dict")) (λ _. slash_bind _ _ slash_gap (λ _. slash_bind _ _ (slash_keyword (codes "dup")) (λ _. slash_bind _ _ slash_gap (λ _. slash_bind _ _ (slash_keyword (codes "begin")) (λ _. before_within (47 ∷ r) (47 ∷ s) white_comes (λ b bs cs. refl) refl)))))))))
+      then_within _ _ _ (fixed_behind (47 ∷ r) (47 ∷ s) 47 (codes "CharStrings")
+      (slash_word (codes "CharStrings") r refl) (slash_word (codes "CharStrings") s refl) b xs)
+      (slash_bind _ _ slash_gap (λ _. slash_bind _ _ slash_decimal (λ declared. slash_bind _ _ slash_gap (λ _. slash_bind _ _
+      (slash_keyword (codes "dict")) (λ _. slash_bind _ _ slash_gap (λ _. slash_bind _ _ (slash_keyword (codes "dup")) (λ _. slash_bind _ _ slash_gap
+      (λ _. slash_bind _ _ (slash_keyword (codes "begin")) (λ _. before_within (47 ∷ r) (47 ∷ s) white_comes (λ b bs cs. refl) refl)))))))))
 
   encoding_behind : Behind (47 ∷ r) (47 ∷ s) encoding_marker
   unfolding encoding_marker
   encoding_behind b xs =
-      then_within _ _ _ (fixed_behind (47 ∷ r) (47 ∷ s) 47 (codes "Encoding") (slash_word (codes "Encoding") r refl) (slash_word (codes "Encoding") s refl) b xs)
+      then_within _ _ _ (fixed_behind (47 ∷ r) (47 ∷ s) 47 (codes "Encoding")
+      (slash_word (codes "Encoding") r refl) (slash_word (codes "Encoding") s refl) b xs)
       (before_within (47 ∷ r) (47 ∷ s) break_comes (λ b bs cs. refl) refl)
 
 -- the end of the clear text, before two texts that begin with no white space and no letter of it
-pub eexec_within : (u v : List ℕ) → Stops is_white u → Stops is_white v → Foreign (codes "currentfile") u → Foreign (codes "currentfile") v → Foreign (codes "eexec") u → Foreign (codes "eexec") v → blank_comes u ≡ blank_comes v → Within u v eexec_marker
+pub eexec_within : (u v : List ℕ) → Stops is_white u → Stops is_white v → Foreign (codes "currentfile") u → Foreign (codes "currentfile") v →
+    Foreign (codes "eexec") u → Foreign (codes "eexec") v → blank_comes u ≡ blank_comes v → Within u v eexec_marker
 unfolding eexec_marker
-eexec_within u v s t a b c d e = bind_within u v _ _ (fixed_within u v (codes "currentfile") a b) (λ currentfile. bind_within u v _ _ (gap_within u v s t) (λ between. bind_within u v _ _ (fixed_within u v (codes "eexec") c d) (λ eexec. bind_within u v _ _ (before_within u v blank_comes (λ b bs cs. refl) e) (λ _. pure_within u v (currentfile ++ between ++ eexec)))))
+eexec_within u v s t a b c d e = bind_within u v _ _ (fixed_within u v (codes "currentfile") a b)
+    (λ currentfile. bind_within u v _ _ (gap_within u v s t) (λ between. bind_within u v _ _ (fixed_within u v (codes "eexec") c d)
+    (λ eexec. bind_within u v _ _ (before_within u v blank_comes (λ b bs cs. refl) e) (λ _. pure_within u v (currentfile ++ between ++ eexec)))))
 
 -- where no marker of Subrs stands before one slash, none does before another
 pub subrs_moves : (front r s : List ℕ) → NoneIn subrs_marker front (47 ∷ r) → NoneIn subrs_marker front (47 ∷ s)
@@ -217,32 +232,38 @@ eexec_moves front r s = none_moves (47 ∷ r) (47 ∷ s) eexec_marker (behind (4
 
 -- ---- the first place, in a text that is followed by more
 
-nil_alike : {A : Type 0} (v xs : List ℕ) (o p : Option (A × List ℕ)) → Alike [] v o p → ((o ≡ None) × (p ≡ None)) ⊎ ((a : A) × (ys : List ℕ) × (o ≡ Some (a, ys)) × (p ≡ Some (a, ys ++ v)))
+nil_alike : {A : Type 0} (v xs : List ℕ) (o p : Option (A × List ℕ)) → Alike [] v o p →
+    ((o ≡ None) × (p ≡ None)) ⊎ ((a : A) × (ys : List ℕ) × (o ≡ Some (a, ys)) × (p ≡ Some (a, ys ++ v)))
 nil_alike v xs o p (inl n) = inl n
 nil_alike v xs o p (inr s) = inr (s.0, s.1, s.2 ∙ ap (λ (u : List ℕ). Some (s.0, u)) (append-nil s.1), s.3)
 
 -- what is read of a text, or not, stays so with v behind it
-pub grows : {A : Type 0} (g : Grammar A) (v : List ℕ) → Within [] v g → (xs : List ℕ) → ((g.read xs ≡ None) × (g.read (xs ++ v) ≡ None)) ⊎ ((a : A) × (ys : List ℕ) × (g.read xs ≡ Some (a, ys)) × (g.read (xs ++ v) ≡ Some (a, ys ++ v)))
+pub grows : {A : Type 0} (g : Grammar A) (v : List ℕ) → Within [] v g → (xs : List ℕ) →
+    ((g.read xs ≡ None) × (g.read (xs ++ v) ≡ None)) ⊎ ((a : A) × (ys : List ℕ) × (g.read xs ≡ Some (a, ys)) × (g.read (xs ++ v) ≡ Some (a, ys ++ v)))
 grows g v G xs = nil_alike v xs (g.read xs) (g.read (xs ++ v)) (subst (λ (u : List ℕ). Alike [] v (g.read u) (g.read (xs ++ v))) (append-nil xs) (G.alike xs))
 
 abbrev with_byte : {A : Type 0} → ℕ → Option ((List ℕ × A) × List ℕ) → Option ((List ℕ × A) × List ℕ)
 with_byte b o = option_and_then (λ y. Some ((b ∷ y.0.0, y.0.1), y.1)) o
 
-found_grows : {A : Type 0} (b : ℕ) (v : List ℕ) (o p : Option ((List ℕ × A) × List ℕ)) → (x : (List ℕ × A) × List ℕ) → ((y : (List ℕ × A) × List ℕ) → o ≡ Some y → p ≡ Some (y.0, y.1 ++ v))
+found_grows : {A : Type 0} (b : ℕ) (v : List ℕ) (o p : Option ((List ℕ × A) × List ℕ)) → (x : (List ℕ × A) × List ℕ) →
+    ((y : (List ℕ × A) × List ℕ) → o ≡ Some y → p ≡ Some (y.0, y.1 ++ v))
     → with_byte b o ≡ Some x → with_byte b p ≡ Some (x.0, x.1 ++ v)
 found_grows b v None p x h e = absurd (none-some x e)
 found_grows b v (Some y) p x h e = rw (h y refl) (ap (λ (z : (List ℕ × _) × List ℕ). Some (z.0, z.1 ++ v)) (same_Some ((b ∷ y.0.0, y.0.1), y.1) x e))
 
 -- the first marker of a text is the first of the text and what stands behind it
-pub first_grows : {A : Type 0} (g : Grammar A) (v : List ℕ) → Within [] v g → (xs : List ℕ) (x : (List ℕ × A) × List ℕ) → first_at g xs ≡ Some x → first_at g (xs ++ v) ≡ Some (x.0, x.1 ++ v)
+pub first_grows : {A : Type 0} (g : Grammar A) (v : List ℕ) → Within [] v g → (xs : List ℕ) (x : (List ℕ × A) × List ℕ) → first_at g xs ≡ Some x →
+    first_at g (xs ++ v) ≡ Some (x.0, x.1 ++ v)
 unfolding first_at
 first_grows g v G [] x e = elim (grows g v G []) [
   | inl n ↦ let k : ◌≡◌ {A = Option ((List ℕ × _) × List ℕ)} None (Some x) = rw n.0 at e in absurd (none-some x k)
-  | inr s ↦ let k : ◌≡◌ {A = Option ((List ℕ × _) × List ℕ)} (Some (([], s.0), s.1)) (Some x) = rw s.2 at e in first_here g v s.0 (s.1 ++ v) s.3 ∙ ap (λ (z : (List ℕ × _) × List ℕ). Some (z.0, z.1 ++ v)) (same_Some (([], s.0), s.1) x k)
+  | inr s ↦ let k : ◌≡◌ {A = Option ((List ℕ × _) × List ℕ)} (Some (([], s.0), s.1)) (Some x) = rw s.2 at e in
+      first_here g v s.0 (s.1 ++ v) s.3 ∙ ap (λ (z : (List ℕ × _) × List ℕ). Some (z.0, z.1 ++ v)) (same_Some (([], s.0), s.1) x k)
 ]
 first_grows g v G (b ∷ xs) x e = elim (grows g v G (b ∷ xs)) [
   | inl n ↦ rw n.1 (found_grows b v (first_at g xs) (first_at g (xs ++ v)) x (first_grows g v G xs) (rw n.0 at e))
-  | inr s ↦ let k : ◌≡◌ {A = Option ((List ℕ × _) × List ℕ)} (Some (([], s.0), s.1)) (Some x) = rw s.2 at e in first_here g (b ∷ (xs ++ v)) s.0 (s.1 ++ v) s.3 ∙ ap (λ (z : (List ℕ × _) × List ℕ). Some (z.0, z.1 ++ v)) (same_Some (([], s.0), s.1) x k)
+  | inr s ↦ let k : ◌≡◌ {A = Option ((List ℕ × _) × List ℕ)} (Some (([], s.0), s.1)) (Some x) = rw s.2 at e in
+      first_here g (b ∷ (xs ++ v)) s.0 (s.1 ++ v) s.3 ∙ ap (λ (z : (List ℕ × _) × List ℕ). Some (z.0, z.1 ++ v)) (same_Some (([], s.0), s.1) x k)
 ]
 
 -- ---- a text in which no marker stands, before one with markers

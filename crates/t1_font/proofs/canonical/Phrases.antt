@@ -22,20 +22,37 @@ stops_word [] back rest h k = absurd (cc)
 stops_word (b ∷ w) back rest h k = k
 
 -- the end of a phrase is spelled before whatever ends a word
-after_spelled : (test : List ℕ → Bool) (access : Bool) (first p text rest : List ℕ) → (phrase_after test access first).Spells p text [] → Stops is_regular rest → (phrase_after test access first).Spells p text rest
+after_spelled : (test : List ℕ → Bool) (access : Bool) (first p text rest : List ℕ) →
+    (phrase_after test access first).Spells p text [] → Stops is_regular rest → (phrase_after test access first).Spells p text rest
 unfolding gap word
 after_spelled test false first p text rest s k = s
 after_spelled test true first p text rest s k =
     let gap_part = s.0.4 in
     let w = s.0.5 in
     let parts : s.0.2 ≡ w.0 ++ w.2 = w.3 ∙ ap (λ (u : List ℕ). u ++ w.2) w.4.0.0.0 in
-    let stops : Stops is_white (s.0.2 ++ rest) = subst (λ (u : List ℕ). Stops is_white (u ++ rest)) (sym parts) (stops_word w.0 w.2 rest w.4.0.1 (subst (λ (u : List ℕ). Stops is_white (u ++ [])) parts gap_part.0.2)) in
-    ((s.0.0, s.0.1, s.0.2, s.0.3, ((gap_part.0.0, gap_part.0.1, stops), gap_part.1), (w.0, w.1, w.2, w.3, (((w.4.0.0.0, w.4.0.0.1, stops_more is_regular w.2 rest w.4.0.0.2 k), w.4.0.1), w.4.1), w.5)), s.1)
+    let stops : Stops is_white (s.0.2 ++ rest) = subst (λ (u : List ℕ). Stops is_white (u ++ rest)) (sym parts)
+    (stops_word w.0 w.2 rest w.4.0.1 (subst (λ (u : List ℕ). Stops is_white (u ++ [])) parts gap_part.0.2)) in (
+      (
+        s.0.0,
+        s.0.1,
+        s.0.2,
+        s.0.3,
+        ((gap_part.0.0, gap_part.0.1, stops), gap_part.1),
+        (w.0, w.1, w.2, w.3, (((w.4.0.0.0, w.4.0.0.1, stops_more is_regular w.2 rest w.4.0.0.2 k), w.4.0.1), w.4.1), w.5),
+      ),
+      s.1,
+    )
 
 spelled_behind : (test : List ℕ → Bool) (p text rest : List ℕ) → (phrase_of test).Spells p text [] → Stops is_regular rest → (phrase_of test).Spells p text rest
 unfolding phrase_of word
-spelled_behind test p text rest s k =
-    (s.0, s.1, s.2, s.3, (((s.4.0.0.0, s.4.0.0.1, stops_more is_regular s.2 rest s.4.0.0.2 k), s.4.0.1), s.4.1), after_spelled test (is_access s.0) s.0 p s.2 rest s.5 k)
+spelled_behind test p text rest s k = (
+  s.0,
+  s.1,
+  s.2,
+  s.3,
+  (((s.4.0.0.0, s.4.0.0.1, stops_more is_regular s.2 rest s.4.0.0.2 k), s.4.0.1), s.4.1),
+  after_spelled test (is_access s.0) s.0 p s.2 rest s.5 k,
+)
 
 -- a phrase is read from its text
 pub phrase_behind : (b : Bool) (p rest : List ℕ) → IsPhrase b p → Stops is_regular rest → (phrase_of (passes b)).read (p ++ rest) ≡ Some (p, rest)
@@ -67,4 +84,5 @@ phrase_starts b p h rest =
 pub closing_read : (p : List ℕ) → IsPhrase false p → (after : List ℕ) → Stops is_regular after → (subrs_end Strict).read (10 ∷ (p ++ after)) ≡ Some (p, after)
 unfolding subrs_end
 closing_read p h after s =
-    bind_read white (λ _. phrase_of (passes false)) (10 ∷ (p ++ after)) (10 ∷ []) (p ++ after) (Some (p, after)) (white_one 10 (p ++ after) refl (phrase_starts false p h after)) (phrase_behind false p after h s)
+    bind_read white (λ _. phrase_of (passes false)) (10 ∷ (p ++ after)) (10 ∷ []) (p ++ after) (Some (p, after))
+    (white_one 10 (p ++ after) refl (phrase_starts false p h after)) (phrase_behind false p after h s)

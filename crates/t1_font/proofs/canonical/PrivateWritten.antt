@@ -55,7 +55,8 @@ pub record IsWritable (p : PrivatePieces) : Type 0 where
 -- ---- the markers
 
 -- the marker of Subrs is read from its text
-pub subrs_marker_read : (declared : ℕ) (rest : List ℕ) → declared < 10 ^ 9 → white_comes rest ≡ true → subrs_marker.read (codes "/Subrs " ++ (digits declared ++ (codes " array" ++ rest))) ≡ Some (declared, rest)
+pub subrs_marker_read : (declared : ℕ) (rest : List ℕ) → declared < 10 ^ 9 → white_comes rest ≡ true →
+    subrs_marker.read (codes "/Subrs " ++ (digits declared ++ (codes " array" ++ rest))) ≡ Some (declared, rest)
 unfolding subrs_marker
 subrs_marker_read declared rest few w =
     let t2 : List ℕ = codes "array" ++ rest in
@@ -74,7 +75,8 @@ subrs_marker_read declared rest few w =
     white_stops (b ∷ bs) w = rw w refl
 
 -- the marker of CharStrings is read from its text
-pub chars_marker_read : (n : ℕ) (rest : List ℕ) → n < 10 ^ 9 → chars_marker.read (codes "/CharStrings " ++ (digits n ++ (codes " dict dup begin" ++ (10 ∷ rest)))) ≡ Some (tt, 10 ∷ rest)
+pub chars_marker_read : (n : ℕ) (rest : List ℕ) → n < 10 ^ 9 →
+    chars_marker.read (codes "/CharStrings " ++ (digits n ++ (codes " dict dup begin" ++ (10 ∷ rest)))) ≡ Some (tt, 10 ∷ rest)
 unfolding chars_marker
 chars_marker_read n rest few =
     let t4 : List ℕ = codes "begin" ++ (10 ∷ rest) in
@@ -97,22 +99,30 @@ chars_marker_read n rest few =
 
 closefile_grows : (junk : List ℕ) → Within [] (10 ∷ junk) closefile
 unfolding closefile
-closefile_grows junk = fixed_within [] (10 ∷ junk) (codes "closefile") (refl, (refl, (refl, (refl, (refl, (refl, (refl, (refl, (refl, tt))))))))) (refl, (refl, (refl, (refl, (refl, (refl, (refl, (refl, (refl, tt)))))))))
+closefile_grows junk = fixed_within [] (10 ∷ junk) (codes "closefile") (refl, (refl, (refl, (refl, (refl, (refl, (refl, (refl, (refl, tt)))))))))
+    (refl, (refl, (refl, (refl, (refl, (refl, (refl, (refl, (refl, tt)))))))))
 
 closefile_text : (a own rest : List ℕ) → closefile.Spells a own rest → own ≡ a
 unfolding closefile
 closefile_text a own rest s = s.0.0
 
 -- what is found, with nothing behind it, is the whole text
-pub whole_found : (tail : List ℕ) → option_map (λ x. x.1) ((first closefile).read tail) ≡ Some [] → (x : (List ℕ × List ℕ) × List ℕ) × ((first closefile).read tail ≡ Some x) × (x.1 ≡ []) × (x.0.0 ++ x.0.1 ≡ tail)
+pub whole_found : (tail : List ℕ) → option_map (λ x. x.1) ((first closefile).read tail) ≡ Some [] →
+    (x : (List ℕ × List ℕ) × List ℕ) × ((first closefile).read tail ≡ Some x) × (x.1 ≡ []) × (x.0.0 ++ x.0.1 ≡ tail)
 whole_found tail h = by_found (first_at closefile tail) refl h
   where
-    by_found : (o : Option ((List ℕ × List ℕ) × List ℕ)) → first_at closefile tail ≡ o → option_map (λ x. x.1) o ≡ Some [] → (x : (List ℕ × List ℕ) × List ℕ) × (first_at closefile tail ≡ Some x) × (x.1 ≡ []) × (x.0.0 ++ x.0.1 ≡ tail)
+    by_found : (o : Option ((List ℕ × List ℕ) × List ℕ)) → first_at closefile tail ≡ o → option_map (λ x. x.1) o ≡ Some [] →
+        (x : (List ℕ × List ℕ) × List ℕ) × (first_at closefile tail ≡ Some x) × (x.1 ≡ []) × (x.0.0 ++ x.0.1 ≡ tail)
     by_found None e k = absurd (none-some [] k)
     by_found (Some x) e k =
         let s = (first closefile).takes tail x e in
-        let nothing : x.1 ≡ [] = same_Some x.1 [] k in
-        (x, e, nothing, sym (s.1 ∙ ap (λ (u : List ℕ). s.0 ++ u) nothing ∙ append-nil s.0 ∙ s.2.1 ∙ ap (λ (u : List ℕ). x.0.0 ++ u) (closefile_text x.0.1 s.2.0 x.1 s.2.2)))
+        let nothing : x.1 ≡ [] = same_Some x.1 [] k in (
+          x,
+          e,
+          nothing,
+          sym (s.1 ∙ ap (λ (u : List ℕ). s.0 ++ u) nothing ∙ append-nil s.0
+              ∙ s.2.1 ∙ ap (λ (u : List ℕ). x.0.0 ++ u) (closefile_text x.0.1 s.2.0 x.1 s.2.2)),
+        )
 
 -- the tail is read through its `closefile`
 pub tail_read : (middle tail junk : List ℕ) → Lacks subrs_marker middle → Lacks subrs_marker tail →
@@ -120,16 +130,19 @@ pub tail_read : (middle tail junk : List ℕ) → Lacks subrs_marker middle → 
 unfolding tail_after
 tail_read middle tail junk m t e =
     let f = whole_found tail e in
-    let more : first_at closefile (tail ++ (10 ∷ junk)) ≡ Some (f.0.0, f.0.1 ++ (10 ∷ junk)) = first_grows closefile (10 ∷ junk) (closefile_grows junk) tail f.0 f.1 in
+    let more : first_at closefile (tail ++ (10 ∷ junk)) ≡ Some (f.0.0, f.0.1 ++ (10 ∷ junk)) =
+    first_grows closefile (10 ∷ junk) (closefile_grows junk) tail f.0 f.1 in
     rw (more, lacks_absent subrs_marker middle m, f.3, lacks_absent subrs_marker tail t) refl
 
 -- the glyphs and the tail are read from their texts
-pub glyphs_from_read : (text private : List ℕ) (subrs : Option SubrsPieces) (middle : List ℕ) (iv : ℕ) (es : List Glyph) (tail junk : List ℕ) → AllByRecursion (IsEntry (IsWord 127) iv) es → Stops is_regular tail → Lacks subrs_marker middle → Lacks subrs_marker tail
+pub glyphs_from_read : (text private : List ℕ) (subrs : Option SubrsPieces) (middle : List ℕ) (iv : ℕ) (es : List Glyph) (tail junk : List ℕ) →
+    AllByRecursion (IsEntry (IsWord 127) iv) es → Stops is_regular tail → Lacks subrs_marker middle → Lacks subrs_marker tail
     → option_map (λ x. x.1) ((first closefile).read tail) ≡ Some []
     → (glyphs_from (length text) private subrs middle iv (glyphs_text es ++ (tail ++ (10 ∷ junk)))).read ≡ Ok
     (record { private = private; len_iv = iv; subrs = subrs; middle = middle; glyphs = es; tail = tail })
 unfolding glyphs_from
-glyphs_from_read text private subrs middle iv es tail junk all apart m t e = rw (glyphs_read iv es (tail ++ (10 ∷ junk)) all (stops_then tail junk apart), tail_read middle tail junk m t e) refl
+glyphs_from_read text private subrs middle iv es tail junk all apart m t e =
+    rw (glyphs_read iv es (tail ++ (10 ∷ junk)) all (stops_then tail junk apart), tail_read middle tail junk m t e) refl
   where
     stops_then : (tail junk : List ℕ) → Stops is_regular tail → Stops is_regular (tail ++ (10 ∷ junk))
     stops_then [] junk s = refl
@@ -141,7 +154,8 @@ glyphs_from_read text private subrs middle iv es tail junk all apart m t e = rw 
 not_before : (front : List ℕ) (o : Option ((List ℕ × ℕ) × List ℕ)) → before_place (length front) (prepend front o) ≡ None
 not_before front None = refl
 not_before front (Some x) =
-    let late : ltb (length (front ++ x.0.0)) (length front) ≡ false = le-ltb (length (front ++ x.0.0)) (length front) (omega (arith, length-append front x.0.0)) in
+    let late : ltb (length (front ++ x.0.0)) (length front) ≡ false =
+    le-ltb (length (front ++ x.0.0)) (length front) (omega (arith, length-append front x.0.0)) in
     rw late refl
 
 begins_line : {K : Type 0} (key_text : K → List ℕ) (es : List (Entry K)) (closing : List ℕ) → (r : List ℕ) × (entries_text key_text es closing ≡ 10 ∷ r)
@@ -152,9 +166,11 @@ begins_line key_text (e ∷ es) closing = (_, refl)
 pub chars_part_read : (es : List Glyph) (rest : List ℕ) → length es ≤ 65535 → chars_marker.read (glyphs_part es ++ rest) ≡ Some (tt, glyphs_text es ++ rest)
 chars_part_read es rest few =
     let line = begins_line name_text es (codes "end") in
-    let regrouped : glyphs_part es ++ rest ≡ codes "/CharStrings " ++ (digits (length es) ++ (codes " dict dup begin" ++ (glyphs_text es ++ rest))) = simp append_assoc in
+    let regrouped : glyphs_part es ++ rest ≡ codes "/CharStrings " ++ (digits (length es) ++ (codes " dict dup begin" ++ (glyphs_text es ++ rest))) =
+    simp append_assoc in
     let shown : glyphs_text es ++ rest ≡ 10 ∷ (line.0 ++ rest) = ap (λ (u : List ℕ). u ++ rest) line.1 in
-    ap chars_marker.read (regrouped ∙ ap (λ (u : List ℕ). codes "/CharStrings " ++ (digits (length es) ++ (codes " dict dup begin" ++ u))) shown) ∙ (chars_marker_read (length es) (line.0 ++ rest) (omega (arith, few)) ∙ ap (λ (u : List ℕ). Some (tt, u)) (sym shown))
+    ap chars_marker.read (regrouped ∙ ap (λ (u : List ℕ). codes "/CharStrings " ++ (digits (length es) ++ (codes " dict dup begin" ++ u))) shown)
+    ∙ (chars_marker_read (length es) (line.0 ++ rest) (omega (arith, few)) ∙ ap (λ (u : List ℕ). Some (tt, u)) (sym shown))
 
 nothing_found : occurs subrs_marker [] ≡ false
 unfolding first_at subrs_marker
@@ -175,7 +191,8 @@ no_tables_again : (p : PrivatePieces) (text junk : List ℕ) → IsWritable p �
     (tables_from Strict (length text) ((p.private, tt), glyphs_text p.glyphs ++ (p.tail ++ (10 ∷ junk))) None).read ≡ Ok
     (record { private = p.private; len_iv = p.len_iv; subrs = None; middle = []; glyphs = p.glyphs; tail = p.tail })
 unfolding tables_from
-no_tables_again p text junk h = rw (h.iv, glyphs_from_read text p.private None [] p.len_iv p.glyphs p.tail junk h.glyphs h.tail_apart nothing_subrs h.tail_subrs h.tail_ends) refl
+no_tables_again p text junk h =
+    rw (h.iv, glyphs_from_read text p.private None [] p.len_iv p.glyphs p.tail junk h.glyphs h.tail_apart nothing_subrs h.tail_subrs h.tail_ends) refl
 
 no_subrs_again : (p : PrivatePieces) (junk : List ℕ) → IsWritable p → p.subrs ≡ None →
     (private_pieces Strict (p.private ++ (glyphs_part p.glyphs ++ (p.tail ++ (10 ∷ junk))))).read ≡ Ok
@@ -194,7 +211,8 @@ no_subrs_again p junk h e =
     (ap (λ (o : Option ((List ℕ × ℕ) × List ℕ)). (tables_from Strict (length text) place o).read) subrs ∙ no_tables_again p text junk h)
 
 -- a marker that stands somewhere is found
-pub is_found : {A : Type 0} (g : Grammar A) (front after : List ℕ) (a : A) (rest : List ℕ) → g.read after ≡ Some (a, rest) → (x : (List ℕ × A) × List ℕ) × (first_at g (front ++ after) ≡ Some x)
+pub is_found : {A : Type 0} (g : Grammar A) (front after : List ℕ) (a : A) (rest : List ℕ) → g.read after ≡ Some (a, rest) →
+    (x : (List ℕ × A) × List ℕ) × (first_at g (front ++ after) ≡ Some x)
 is_found g [] after a rest e = (_, first_here g after a rest e)
 is_found g (b ∷ front) after a rest e = elim (read_or_not (g.read (b ∷ (front ++ after)))) [
   | inl n ↦ let f = is_found g front after a rest e in (_, one_place g b (front ++ after) n ∙ ap (prepend (b ∷ [])) f.1)
@@ -206,11 +224,14 @@ is_found g (b ∷ front) after a rest e = elim (read_or_not (g.read (b ∷ (fron
     read_or_not (Some x) = inr (x, refl)
 
 -- the marker is read from the text of the table of Subrs
-pub subrs_part_read : (s : SubrsPieces) (rest : List ℕ) → s.declared ≤ 65535 → subrs_marker.read (subrs_part (Some s) ++ rest) ≡ Some (s.declared, subrs_text s.entries s.closing ++ rest)
+pub subrs_part_read : (s : SubrsPieces) (rest : List ℕ) → s.declared ≤ 65535 →
+    subrs_marker.read (subrs_part (Some s) ++ rest) ≡ Some (s.declared, subrs_text s.entries s.closing ++ rest)
 subrs_part_read s rest few =
     let line = begins_line index_text s.entries s.closing in
-    let regrouped : subrs_part (Some s) ++ rest ≡ codes "/Subrs " ++ (digits s.declared ++ (codes " array" ++ (subrs_text s.entries s.closing ++ rest))) = simp append_assoc in
-    ap subrs_marker.read regrouped ∙ subrs_marker_read s.declared (subrs_text s.entries s.closing ++ rest) (omega (arith, few)) (ap (λ (u : List ℕ). white_comes (u ++ rest)) line.1)
+    let regrouped : subrs_part (Some s) ++ rest ≡ codes "/Subrs " ++ (digits s.declared ++ (codes " array" ++ (subrs_text s.entries s.closing ++ rest))) =
+    simp append_assoc in
+    ap subrs_marker.read regrouped
+    ∙ subrs_marker_read s.declared (subrs_text s.entries s.closing ++ rest) (omega (arith, few)) (ap (λ (u : List ℕ). white_comes (u ++ rest)) line.1)
 
 stops_slash : (middle rest : List ℕ) → Stops is_regular middle → Stops is_regular (middle ++ (47 ∷ rest))
 stops_slash [] rest s = refl
@@ -225,7 +246,8 @@ before_is : (n : ℕ) (x : (List ℕ × ℕ) × List ℕ) → ltb (length x.0.0)
 before_is n x t = rw t refl
 
 -- the tables, where the markers are known
-tables_again : (p : PrivatePieces) (s : SubrsPieces) (text : List ℕ) (chars : (List ℕ × Unit {0}) × List ℕ) (junk : List ℕ) → IsWritable p → ArePieces p.len_iv s
+tables_again : (p : PrivatePieces) (s : SubrsPieces) (text : List ℕ) (chars : (List ℕ × Unit {0}) × List ℕ) (junk : List ℕ) →
+    IsWritable p → ArePieces p.len_iv s
     → (tables_from Strict (length text) chars
     (Some (
       (p.private, s.declared),
@@ -239,10 +261,16 @@ tables_again p s text chars junk h k =
     let g : List ℕ = glyphs_part p.glyphs ++ t in
     let m : List ℕ = p.middle ++ g in
     let table : List ℕ = subrs_text s.entries s.closing ++ m in
-    let read : table_at (subr Strict s.declared p.len_iv) (subrs_end Strict) table ≡ Ok (s.entries, s.closing, m) = subrs_read s.declared p.len_iv s.entries s.closing m k.declared k.entries k.closing (stops_slash p.middle _ h.middle_apart) in
+    let read : table_at (subr Strict s.declared p.len_iv) (subrs_end Strict) table ≡ Ok (s.entries, s.closing, m) =
+    subrs_read s.declared p.len_iv s.entries s.closing m k.declared k.entries k.closing (stops_slash p.middle _ h.middle_apart) in
     let next : first_at chars_marker m ≡ Some ((p.middle, tt), glyphs_text p.glyphs ++ t) =
     first_behind chars_marker p.middle g tt _ (chars_moves p.middle [] _ h.middle_chars) (chars_part_read p.glyphs t h.few) in
-    rw (h.iv, read, next, glyphs_from_read text p.private (Some s) p.middle p.len_iv p.glyphs p.tail junk h.glyphs h.tail_apart h.middle_subrs h.tail_subrs h.tail_ends) refl
+    rw (
+      h.iv,
+      read,
+      next,
+      glyphs_from_read text p.private (Some s) p.middle p.len_iv p.glyphs p.tail junk h.glyphs h.tail_apart h.middle_subrs h.tail_subrs h.tail_ends,
+    ) refl
 
 -- a private text with Subrs is read from its text
 with_subrs_again : (p : PrivatePieces) (s : SubrsPieces) (junk : List ℕ) → IsWritable p → ArePieces p.len_iv s
@@ -259,7 +287,9 @@ with_subrs_again p s junk h k =
     first_behind subrs_marker p.private b s.declared table (subrs_moves p.private [] _ h.no_subrs) (subrs_part_read s m k.declared) in
     let q : List ℕ = codes "Subrs " ++ (digits s.declared ++ (codes " array" ++ subrs_text s.entries s.closing)) in
     let y = is_found chars_marker (q ++ p.middle) g tt _ (chars_part_read p.glyphs t h.few) in
-    let here : first_at chars_marker b ≡ Some ((47 ∷ y.0.0.0, y.0.0.1), y.0.1) = one_place chars_marker 47 (q ++ m) (not_chars ((digits s.declared ++ (codes " array" ++ subrs_text s.entries s.closing)) ++ m)) ∙ ap (prepend (47 ∷ [])) (ap (first_at chars_marker) (sym (append_assoc q p.middle g)) ∙ y.1) in
+    let here : first_at chars_marker b ≡ Some ((47 ∷ y.0.0.0, y.0.0.1), y.0.1) =
+    one_place chars_marker 47 (q ++ m) (not_chars ((digits s.declared ++ (codes " array" ++ subrs_text s.entries s.closing)) ++ m))
+    ∙ ap (prepend (47 ∷ [])) (ap (first_at chars_marker) (sym (append_assoc q p.middle g)) ∙ y.1) in
     let chars : first_at chars_marker text ≡ Some ((p.private ++ (47 ∷ y.0.0.0), y.0.0.1), y.0.1) =
     past_none chars_marker p.private b (chars_moves p.private [] _ h.no_chars) ∙ ap (prepend p.private) here in
     let place : (List ℕ × Unit {0}) × List ℕ = ((p.private ++ (47 ∷ y.0.0.0), y.0.0.1), y.0.1) in
@@ -274,13 +304,16 @@ regrouped a b c d t junk = simp append_assoc
 -- the canonical private text is read as its pieces
 pub private_again : (p : PrivatePieces) (junk : List ℕ) → IsWritable p → (private_pieces Strict (private_written p ++ junk)).read ≡ Ok p
 private_again p junk h =
-    ap (λ t. (private_pieces Strict t).read) (regrouped p.private (subrs_part p.subrs) p.middle (glyphs_part p.glyphs) p.tail junk) ∙ by_subrs p.subrs refl h.subrs
+    ap (λ t. (private_pieces Strict t).read) (regrouped p.private (subrs_part p.subrs) p.middle (glyphs_part p.glyphs) p.tail junk)
+    ∙ by_subrs p.subrs refl h.subrs
   where
     by_subrs : (o : Option SubrsPieces) → p.subrs ≡ o → AreOptional p.len_iv p.middle o →
         (private_pieces Strict (p.private ++ (subrs_part p.subrs ++ (p.middle ++ (glyphs_part p.glyphs ++ (p.tail ++ (10 ∷ junk))))))).read ≡ Ok p
     by_subrs None e k =
         ap (λ t. (private_pieces Strict t).read) (λ i. p.private ++ (subrs_part (e i) ++ (k i ++ (glyphs_part p.glyphs ++ (p.tail ++ (10 ∷ junk))))))
-        ∙ (no_subrs_again p junk h e ∙ (λ i. Ok (record { private = p.private; len_iv = p.len_iv; subrs = sym e i; middle = sym k i; glyphs = p.glyphs; tail = p.tail })))
+        ∙ (no_subrs_again p junk h e
+        ∙ (λ i. Ok (record { private = p.private; len_iv = p.len_iv; subrs = sym e i; middle = sym k i; glyphs = p.glyphs; tail = p.tail })))
     by_subrs (Some s) e k =
         ap (λ t. (private_pieces Strict t).read) (λ i. p.private ++ (subrs_part (e i) ++ (p.middle ++ (glyphs_part p.glyphs ++ (p.tail ++ (10 ∷ junk))))))
-        ∙ (with_subrs_again p s junk h k ∙ (λ i. Ok (record { private = p.private; len_iv = p.len_iv; subrs = sym e i; middle = p.middle; glyphs = p.glyphs; tail = p.tail })))
+        ∙ (with_subrs_again p s junk h k
+        ∙ (λ i. Ok (record { private = p.private; len_iv = p.len_iv; subrs = sym e i; middle = p.middle; glyphs = p.glyphs; tail = p.tail })))

@@ -1,5 +1,6 @@
 -- The canonical file of a font is read as the font.
-use Rattle.std.proofs.Common.{◌≡◌, ℕ, ◌≤◌, ◌<◌, ◌^◌, true, false, leb, ◌&&◌, Bool, List, [], ◌∷◌, ◌++◌, length, drop, Option, Some, None, Result, Ok, Err, refl, sym, ap, subst, ◌∙◌, append_assoc, arith}
+use Rattle.std.proofs.Common.{◌≡◌, ℕ, ◌≤◌, ◌<◌, ◌^◌, true, false, leb, ◌&&◌, Bool, List, [], ◌∷◌, ◌++◌, length, drop}
+use Rattle.std.proofs.Common.{Option, Some, None, Result, Ok, Err, refl, sym, ap, subst, ◌∙◌, append_assoc, arith}
 use Rattle.std.specs.Prelude.{codes, replicate}
 use Rattle.std.proofs.lemmas.Bool.{le-leb}
 use Rattle.std.proofs.lemmas.List.{length-append}
@@ -105,9 +106,11 @@ module _ (f : FontValue) where
       length file ≤ file_limit → (flat_text file).read ≡ Ok (canon_clear f ++ v) → read_font file ≡ Ok f
   unfolding font_file
   file_again file v more rest h border c short flat =
-      let x = eexec_found f.shell.head (encoding_pieces f.encoding) f.shell.clear_tail v h.clear.head_eexec (encoding_writable f.encoding h.encoding) h.clear.tail_ends border in
+      let x = eexec_found f.shell.head (encoding_pieces f.encoding) f.shell.clear_tail v h.clear.head_eexec
+      (encoding_writable f.encoding h.encoding) h.clear.tail_ends border in
       let split = ap (λ t. (flat_pieces t).read) (clear_regrouped v) ∙ split_again clear_end v (private_cipher (canon_private f) ++ more) rest x.0 x.1 x.2 c in
-      let clear = clear_again f.shell.head (encoding_pieces f.encoding) f.shell.clear_tail h.clear.head_encoding (encoding_writable f.encoding h.encoding) h.clear.tail_apart in
+      let clear = clear_again f.shell.head (encoding_pieces f.encoding) f.shell.clear_tail h.clear.head_encoding
+      (encoding_writable f.encoding h.encoding) h.clear.tail_apart in
       let text = text_again (canon_private f) more in
       let private =
       ap (λ t. (private_pieces Strict t).read) text.1 ∙ private_again (inside_of f.shell (entries f.subrs) (entries f.glyphs)) text.0 (font_writable f h) in
@@ -144,11 +147,14 @@ round_trip f Pfa h fits =
     front_again cipher_text v (private_cipher p ++ replicate 256 0, codes "leartomark" ++ 10 ∷ [])
     (lines_read (private_cipher p) (four_lead p) (cipher_bytes f (has_bytes f h))) in
     let regrouped : canon f Pfa ≡ f.shell.head ++ (encoding_text (encoding_pieces f.encoding) ++ ((f.shell.clear_tail ++ 10 ∷ []) ++ v)) = simp append_assoc in
-    let starts : starts_segment (canon f Pfa) ≡ false = ap starts_segment regrouped ∙ head_starts f.shell.head ((f.shell.clear_tail ++ 10 ∷ []) ++ v) (encoding_pieces f.encoding) fits in
-    file_again f (canon f Pfa) v (replicate 256 0) (codes "leartomark" ++ 10 ∷ []) h (hex_border p) secret (canon_short f Pfa h) (plain_flat (canon f Pfa) starts)
+    let starts : starts_segment (canon f Pfa) ≡ false =
+    ap starts_segment regrouped ∙ head_starts f.shell.head ((f.shell.clear_tail ++ 10 ∷ []) ++ v) (encoding_pieces f.encoding) fits in
+    file_again f (canon f Pfa) v (replicate 256 0) (codes "leartomark" ++ 10 ∷ []) h
+    (hex_border p) secret (canon_short f Pfa h) (plain_flat (canon f Pfa) starts)
 round_trip f Pfb h fits =
     let p = canon_private f in
-    file_again f (canon f Pfb) (private_cipher p ++ trailer) trailer [] h (binary_border p) (binary_cipher p) (canon_short f Pfb h) (joined_flat (canon_clear f) (private_cipher p) trailer (canon_short f Pfb h))
+    file_again f (canon f Pfb) (private_cipher p ++ trailer) trailer [] h (binary_border p) (binary_cipher p)
+    (canon_short f Pfb h) (joined_flat (canon_clear f) (private_cipher p) trailer (canon_short f Pfb h))
 
 -- fonts with one canonical file are one font
 pub one_canon : (f g : FontValue) (form : Form) → IsFont f → IsFont g → Fits form f → Fits form g → canon f form ≡ canon g form → f ≡ g

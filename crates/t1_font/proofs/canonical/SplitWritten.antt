@@ -1,5 +1,6 @@
 -- The clear text ends where it was written to end.
-use Rattle.std.proofs.Common.{◌≡◌, ℕ, ◌≤◌, ◌<◌, ◌^◌, inl, inr, ◌⊎◌, Bool, true, false, leb, ◌||◌, eqb, ◌&&◌, cond, List, [], ◌∷◌, ◌++◌, length, take, ◌-◌, one-add, Option, Some, None, Ok, refl, sym, ap, subst, ◌∙◌, append_assoc, arith}
+use Rattle.std.proofs.Common.{◌≡◌, ℕ, ◌≤◌, ◌<◌, ◌^◌, inl, inr, ◌⊎◌, Bool, true, false, leb, ◌||◌, eqb, ◌&&◌, cond, List, [], ◌∷◌, ◌++◌}
+use Rattle.std.proofs.Common.{length, take, ◌-◌, one-add, Option, Some, None, Ok, refl, sym, ap, subst, ◌∙◌, append_assoc, arith}
 use Rattle.std.specs.Prelude.{codes}
 use Rattle.std.specs.Fmt.{decimal as digits}
 use Rattle.std.specs.List.{AllByRecursion}
@@ -56,7 +57,8 @@ free_none (b ∷ text) after h =
 
 -- ---- a word and a blank
 
-strip_word : (w : List ℕ) → AllByRecursion (λ c. eqb c 32 ≡ false) w → (t rest : List ℕ) → AllRegular t → (strip w (t ++ (32 ∷ rest)) ≡ None) ⊎ ((s : List ℕ) × AllRegular s × (strip w (t ++ (32 ∷ rest)) ≡ Some (s ++ (32 ∷ rest))))
+strip_word : (w : List ℕ) → AllByRecursion (λ c. eqb c 32 ≡ false) w → (t rest : List ℕ) → AllRegular t →
+    (strip w (t ++ (32 ∷ rest)) ≡ None) ⊎ ((s : List ℕ) × AllRegular s × (strip w (t ++ (32 ∷ rest)) ≡ Some (s ++ (32 ∷ rest))))
 strip_word [] h t rest a = inr (t, a, refl)
 strip_word (c ∷ w) h [] rest a = inl (rw h.0 refl)
 strip_word (c ∷ w) h (b ∷ t) rest a = elim (cases_Bool (eqb c b)) [
@@ -75,17 +77,19 @@ no_gap b bs h = rw h refl
 abbrev second : List ℕ → List ℕ → Grammar (List ℕ)
 second currentfile between = fixed (codes "eexec") >>= (λ eexec. before blank_comes >> pure (currentfile ++ between ++ eexec))
 
-no_second : (currentfile s : List ℕ) (b : ℕ) (rest : List ℕ) → AllRegular s → is_white b ≡ false → eqb 101 b ≡ false → option_and_then (λ x. (second currentfile x.0).read x.1) (gap.read (s ++ (32 ∷ (b ∷ rest)))) ≡ None
+no_second : (currentfile s : List ℕ) (b : ℕ) (rest : List ℕ) → AllRegular s → is_white b ≡ false → eqb 101 b ≡ false →
+    option_and_then (λ x. (second currentfile x.0).read x.1) (gap.read (s ++ (32 ∷ (b ∷ rest)))) ≡ None
 no_second currentfile [] b rest a w e = rw (gap_one (b ∷ rest) w, fixed_strip (codes "eexec") (b ∷ rest), e) refl
 no_second currentfile (c ∷ s) b rest a w e = rw (no_gap c (s ++ (32 ∷ (b ∷ rest))) (regular_black c a.0)) refl
 
 -- no marker begins in a word, where neither white space nor `e` stands behind the blank behind it
 no_marker_at : (t : List ℕ) (b : ℕ) (rest : List ℕ) → AllRegular t → is_white b ≡ false → eqb 101 b ≡ false → eexec_marker.read (t ++ (32 ∷ (b ∷ rest))) ≡ None
 unfolding eexec_marker
-no_marker_at t b rest a w e = elim (strip_word (codes "currentfile") (refl, (refl, (refl, (refl, (refl, (refl, (refl, (refl, (refl, (refl, (refl, tt))))))))))) t (b ∷ rest) a) [
-  | inl n ↦ no_eexec (t ++ (32 ∷ (b ∷ rest))) n
-  | inr s ↦ rw (fixed_strip (codes "currentfile") (t ++ (32 ∷ (b ∷ rest))), s.2) (no_second (codes "currentfile") s.0 b rest s.1 w e)
-]
+no_marker_at t b rest a w e =
+    elim (strip_word (codes "currentfile") (refl, (refl, (refl, (refl, (refl, (refl, (refl, (refl, (refl, (refl, (refl, tt))))))))))) t (b ∷ rest) a) [
+      | inl n ↦ no_eexec (t ++ (32 ∷ (b ∷ rest))) n
+      | inr s ↦ rw (fixed_strip (codes "currentfile") (t ++ (32 ∷ (b ∷ rest))), s.2) (no_second (codes "currentfile") s.0 b rest s.1 w e)
+    ]
 
 -- no marker stands in a word before a blank and a byte that doesn't begin `eexec`
 pub word_none : (w : List ℕ) (b : ℕ) (rest : List ℕ) → AllRegular w → is_white b ≡ false → eqb 101 b ≡ false → NoneIn eexec_marker w (32 ∷ (b ∷ rest))
@@ -119,9 +123,11 @@ puts_none (e ∷ es) after h =
 -- no marker stands in the text of an Encoding
 pub encoding_none : (encoding : EncodingText) (after : List ℕ) → IsEncodingText encoding → NoneIn eexec_marker (encoding_text encoding) after
 encoding_none (OneWord w) after h =
-    NoneIn-append eexec_marker (codes "/Encoding ") (w ++ codes " def") after (free_none (codes "/Encoding ") _ refl) (NoneIn-append eexec_marker w (codes " def") after (word_none w 100 _ h.regular refl refl) (free_none (codes " def") after refl))
+    NoneIn-append eexec_marker (codes "/Encoding ") (w ++ codes " def") after (free_none (codes "/Encoding ") _ refl)
+    (NoneIn-append eexec_marker w (codes " def") after (word_none w 100 _ h.regular refl refl) (free_none (codes " def") after refl))
 encoding_none (Puts es) after h =
-    NoneIn-append eexec_marker (codes "/Encoding 256 array" ++ (10 ∷ codes "0 1 255 {1 index exch /.notdef put} for")) (puts_text es) after (free_none (codes "/Encoding 256 array" ++ (10 ∷ codes "0 1 255 {1 index exch /.notdef put} for")) _ refl) (puts_none es after h)
+    NoneIn-append eexec_marker (codes "/Encoding 256 array" ++ (10 ∷ codes "0 1 255 {1 index exch /.notdef put} for")) (puts_text es) after
+    (free_none (codes "/Encoding 256 array" ++ (10 ∷ codes "0 1 255 {1 index exch /.notdef put} for")) _ refl) (puts_none es after h)
 
 -- ---- the split
 
@@ -136,7 +142,8 @@ pub record IsBorder (v : List ℕ) : Type 0 where
 abbrev pub IsClearEnd : List ℕ → Type 0
 IsClearEnd tail = option_map (λ x. x.1) ((first eexec_marker).read (tail ++ 10 ∷ [])) ≡ Some (10 ∷ [])
 
-found_with : (o : Option ((List ℕ × List ℕ) × List ℕ)) (r : List ℕ) → option_map (λ x. x.1) o ≡ Some r → (x : (List ℕ × List ℕ) × List ℕ) × (o ≡ Some x) × (x.1 ≡ r)
+found_with : (o : Option ((List ℕ × List ℕ) × List ℕ)) (r : List ℕ) → option_map (λ x. x.1) o ≡ Some r →
+    (x : (List ℕ × List ℕ) × List ℕ) × (o ≡ Some x) × (x.1 ≡ r)
 found_with None r h = absurd (none-some r h)
 found_with (Some x) r h = (x, refl, same_Some x.1 r h)
 
@@ -145,7 +152,8 @@ starts_slash (OneWord w) = (_, refl)
 starts_slash (Puts es) = (_, refl)
 
 -- the first marker is found at the end of the clear text
-pub eexec_found : (head : List ℕ) (encoding : EncodingText) (tail v : List ℕ) → NoMarker eexec_marker head → IsEncodingText encoding → IsClearEnd tail → IsBorder v
+pub eexec_found : (head : List ℕ) (encoding : EncodingText) (tail v : List ℕ) →
+    NoMarker eexec_marker head → IsEncodingText encoding → IsClearEnd tail → IsBorder v
     → (x : (List ℕ × List ℕ) × List ℕ) × (first_at eexec_marker ((head ++ (encoding_text encoding ++ tail)) ++ (10 ∷ v)) ≡ Some x) × (x.1 ≡ 10 ∷ v)
 eexec_found head encoding tail v none ok ends border =
     let f = found_with (first_at eexec_marker (tail ++ 10 ∷ [])) (10 ∷ []) ends in
@@ -153,8 +161,10 @@ eexec_found head encoding tail v none ok ends border =
     let slash = starts_slash encoding in
     let nil_foreign : Foreign (codes "currentfile") [] = (refl, (refl, (refl, (refl, (refl, (refl, (refl, (refl, (refl, (refl, (refl, tt))))))))))) in
     let nil_second : Foreign (codes "eexec") [] = (refl, (refl, (refl, (refl, (refl, tt))))) in
-    let more : first_at eexec_marker ((tail ++ 10 ∷ []) ++ v) ≡ Some (f.0.0, f.0.1 ++ v) = first_grows eexec_marker v (eexec_within [] v tt border.white nil_foreign border.current nil_second border.eexec (sym border.blank)) (tail ++ 10 ∷ []) f.0 f.1 in
-    let in_head : NoneIn eexec_marker head (e ++ ((tail ++ 10 ∷ []) ++ v)) = subst (λ (u : List ℕ). NoneIn eexec_marker head (u ++ ((tail ++ 10 ∷ []) ++ v))) (sym slash.1) (eexec_moves head [] (slash.0 ++ ((tail ++ 10 ∷ []) ++ v)) none) in
+    let more : first_at eexec_marker ((tail ++ 10 ∷ []) ++ v) ≡ Some (f.0.0, f.0.1 ++ v) = first_grows eexec_marker v
+    (eexec_within [] v tt border.white nil_foreign border.current nil_second border.eexec (sym border.blank)) (tail ++ 10 ∷ []) f.0 f.1 in
+    let in_head : NoneIn eexec_marker head (e ++ ((tail ++ 10 ∷ []) ++ v)) = subst (λ (u : List ℕ). NoneIn eexec_marker head (u ++ ((tail ++ 10 ∷ []) ++ v)))
+    (sym slash.1) (eexec_moves head [] (slash.0 ++ ((tail ++ 10 ∷ []) ++ v)) none) in
     let clear : first_at eexec_marker (head ++ (e ++ ((tail ++ 10 ∷ []) ++ v))) ≡ prepend head (prepend e (Some (f.0.0, f.0.1 ++ v))) =
     past_none eexec_marker head (e ++ ((tail ++ 10 ∷ []) ++ v)) in_head
     ∙ ap (prepend head) (past_none eexec_marker e ((tail ++ 10 ∷ []) ++ v) (encoding_none encoding _ ok) ∙ ap (prepend e) more) in
@@ -172,6 +182,7 @@ pub split_again : (clear v cipher rest : List ℕ) (x : (List ℕ × List ℕ) �
 unfolding flat_pieces split
 split_again clear v cipher rest x e after c =
     let flat : List ℕ = clear ++ (10 ∷ v) in
-    let same : take (length flat - length x.1) flat ≡ clear = before_last flat clear (10 ∷ v) _ refl (ap (λ (u : List ℕ). length flat - length u) (sym after)) in
+    let same : take (length flat - length x.1) flat ≡ clear =
+    before_last flat clear (10 ∷ v) _ refl (ap (λ (u : List ℕ). length flat - length u) (sym after)) in
     let secret : cipher_text.read x.1 ≡ Some (cipher, rest) = ap cipher_text.read after ∙ (line_skipped v ∙ c) in
     rw (e, secret, same) refl

@@ -49,7 +49,8 @@ abbrev AreDigits : List ℕ → Type 0
 AreDigits w = AllByRecursion (λ b. is_digit b ≡ true) w
 
 digit_regular : (b : ℕ) → is_digit b ≡ true → is_regular b ≡ true
-digit_regular b h = let both = and_parts (leb 48 b) (leb b 57) h in let low : 48 ≤ b = leb-true 48 b both.0 in let high : b ≤ 57 = leb-true b 57 both.1 in agree_at b low high
+digit_regular b h = let both = and_parts (leb 48 b) (leb b 57) h in let low : 48 ≤ b = leb-true 48 b both.0 in
+    let high : b ≤ 57 = leb-true b 57 both.1 in agree_at b low high
 
 pub digits_regular : (w : List ℕ) → AreDigits w → AllRegular w
 digits_regular [] h = tt
@@ -78,7 +79,10 @@ pub record IsNumber (n : ℕ) (w : List ℕ) : Type 0 where
 pub digits_are : (n : ℕ) → n < 2 ^ 64 → IsNumber n (digits n)
 digits_are = decimal_by_steps IsNumber
     (λ n h. record { made = (last_digit n h, tt); value = omega arith })
-    (λ n ds h k. record { made = digits_push ds (48 + n % 10) k.made (last_digit (n % 10) (omega arith)); value = after_push 0 ds (48 + n % 10) ∙ omega (arith, k.value) })
+    (λ n ds h k. record {
+      made = digits_push ds (48 + n % 10) k.made (last_digit (n % 10) (omega arith));
+      value = after_push 0 ds (48 + n % 10) ∙ omega (arith, k.value);
+    })
 
 -- a word begins with no white space
 pub black : (w rest : List ℕ) → AllRegular w → 0 < length w → Stops is_white (w ++ rest)
@@ -91,7 +95,9 @@ decimal_read n rest small s =
     let d = digits_are n (omega arith) in
     let few : leb (length (digits n)) 9 ≡ true = le-leb (length (digits n)) 9 (length-decimal-le 9 n (omega arith) small (omega arith)) in
     let some : leb 1 (length (digits n)) ≡ true = le-leb 1 (length (digits n)) (decimal_nonempty n (omega arith)) in
-    bind_read (that is_decimal (run is_regular)) (λ w. pure (digits_after 0 w)) (digits n ++ rest) (digits n) rest (Some (n, rest)) (that_read is_decimal (run is_regular) (digits n ++ rest) (digits n) rest (run_read is_regular (digits n) rest (digits_regular (digits n) d.made) s) (and_from _ _ (and_from _ _ some few) (are_all (digits n) d.made))) (rw d.value refl)
+    bind_read (that is_decimal (run is_regular)) (λ w. pure (digits_after 0 w)) (digits n ++ rest) (digits n) rest (Some (n, rest))
+    (that_read is_decimal (run is_regular) (digits n ++ rest) (digits n) rest (run_read is_regular (digits n) rest (digits_regular (digits n) d.made) s)
+    (and_from _ _ (and_from _ _ some few) (are_all (digits n) d.made))) (rw d.value refl)
 
 -- digits begin with no white space
 pub black_digits : (n : ℕ) (rest : List ℕ) → n < 10 ^ 9 → Stops is_white (digits n ++ rest)
@@ -102,7 +108,8 @@ count_read body rest = (count (length body)).again body body rest (refl, refl)
 
 pub length_read : (iv n : ℕ) (rest : List ℕ) → iv ≤ n → n ≤ 65535 → Stops is_regular rest → (length_from iv).read (digits n ++ rest) ≡ Some (n, rest)
 unfolding length_from
-length_read iv n rest h k s = that_read _ decimal (digits n ++ rest) n rest (decimal_read n rest (omega arith) s) (and_from _ _ (le-leb iv n h) (le-leb n 65535 k))
+length_read iv n rest h k s =
+    that_read _ decimal (digits n ++ rest) n rest (decimal_read n rest (omega arith) s) (and_from _ _ (le-leb iv n h) (le-leb n 65535 k))
 
 -- a blank is one byte of white space
 pub one_read : (rest : List ℕ) → one_white.read (32 ∷ rest) ≡ Some (32 ∷ [], rest)

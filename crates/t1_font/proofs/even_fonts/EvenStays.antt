@@ -47,7 +47,8 @@ own_or_none None false true h = refl
 own_or_none None false false h = refl
 
 -- what a map says of an index where stubs were put in
-pub get_filled : (m : Numbered) (n : ℕ) (indices : List ℕ) (q : ℕ) → get (merged m (stubs_at (below n indices))) q ≡ joined (get m q) (cond (nat_lt q n) (cond (is_one q indices) (Some stub) None) None)
+pub get_filled : (m : Numbered) (n : ℕ) (indices : List ℕ) (q : ℕ) →
+    get (merged m (stubs_at (below n indices))) q ≡ joined (get m q) (cond (nat_lt q n) (cond (is_one q indices) (Some stub) None) None)
 get_filled m n indices q =
     get-merged nat_cmp_total nat_cmp-IsAntisymmetric m (stubs_at (below n indices)) q
     ∙ ap (joined (get m q))
@@ -70,7 +71,12 @@ subrs_stay m n indices own (e ∷ es) = own_stubs m n indices own
 
 -- a font that lacks none of the indices stays
 pub font_stays : (f : FontValue) (indices : List ℕ) → AreIn indices f.subrs → filled indices f ≡ f
-font_stays f indices own = λ i. record { shell = f.shell; encoding = f.encoding; subrs = subrs_stay f.subrs (declared_count f.shell.subrs) indices own (entries f.subrs) i; glyphs = f.glyphs }
+font_stays f indices own = λ i. record {
+  shell = f.shell;
+  encoding = f.encoding;
+  subrs = subrs_stay f.subrs (declared_count f.shell.subrs) indices own (entries f.subrs) i;
+  glyphs = f.glyphs;
+}
 
 pub filled_stays : FilledStays
 filled_stays f = font_stays f (keys f.subrs) (λ q one. contains_key-keys f.subrs q ∙ one)
@@ -87,7 +93,8 @@ by_either false b h own rest = rest h
 
 indices_in : (m : Numbered) (fs : List FontValue) → AllByRecursion (λ f. (i : ℕ) → contains_key f.subrs i ≡ contains_key m i) fs → AreIn (indices_of_all fs) m
 indices_in m [] h q one = absurd (true≢false (sym one))
-indices_in m (f ∷ fs) h q one = by_either (contains_key f.subrs q) (is_one q (indices_of_all fs)) (sym (indices_next q f fs) ∙ one) (λ own. sym (h.0 q) ∙ own) (indices_in m fs h.1 q)
+indices_in m (f ∷ fs) h q one =
+    by_either (contains_key f.subrs q) (is_one q (indices_of_all fs)) (sym (indices_next q f fs) ∙ one) (λ own. sym (h.0 q) ∙ own) (indices_in m fs h.1 q)
 
 all_of : {P Q : FontValue → Type 0} → ((f : FontValue) → P f → Q f) → (fs : List FontValue) → AllByRecursion P fs → AllByRecursion Q fs
 all_of t [] h = tt
@@ -101,9 +108,11 @@ each_stays g (f ∷ fs) h = λ i. h.0 i ∷ each_stays g fs h.1 i
 pub even_fonts_stay : EvenFontsStay
 even_fonts_stay f fs h =
     let counts = counts_below (declared_count f.shell.subrs) fs (all_of (λ g (e : IsEvenWith f g). e.count) fs h) in
-    let shells : evened_shells fs ≡ fs = each_stays (even (largest_count fs)) fs (all_of (λ g (e : IsEvenWith f g). even_stays (largest_count fs) g e.head (omega (arith, counts, e.count))) fs h) in
+    let shells : evened_shells fs ≡ fs = each_stays (even (largest_count fs)) fs
+    (all_of (λ g (e : IsEvenWith f g). even_stays (largest_count fs) g e.head (omega (arith, counts, e.count))) fs h) in
     let own = indices_in f.subrs fs (all_of (λ g (e : IsEvenWith f g). e.present) fs h) in
-    ap filled_all shells ∙ each_stays (filled (indices_of_all fs)) fs (all_of (λ g (e : IsEvenWith f g). font_stays g (indices_of_all fs) (λ q one. e.present q ∙ own q one)) fs h)
+    ap filled_all shells
+    ∙ each_stays (filled (indices_of_all fs)) fs (all_of (λ g (e : IsEvenWith f g). font_stays g (indices_of_all fs) (λ q one. e.present q ∙ own q one)) fs h)
 
 -- ---- fonts that were made even
 
@@ -141,7 +150,8 @@ counts_again k indices (f ∷ fs) h =
     let rest = counts_again k indices fs (omega (arith, h)) in
     omega (arith, own, rest)
 
-shells_twice : (n k : ℕ) (indices : List ℕ) (fs : List FontValue) → n ≤ k → map (even n) (map (filled indices) (map (even k) fs)) ≡ map (filled indices) (map (even k) fs)
+shells_twice : (n k : ℕ) (indices : List ℕ) (fs : List FontValue) → n ≤ k →
+    map (even n) (map (filled indices) (map (even k) fs)) ≡ map (filled indices) (map (even k) fs)
 shells_twice n k indices [] h = refl
 shells_twice n k indices (f ∷ fs) h = λ i. even_twice n k indices f h i ∷ shells_twice n k indices fs h i
 
@@ -149,14 +159,16 @@ shells_twice n k indices (f ∷ fs) h = λ i. even_twice n k indices f h i ∷ s
 abbrev pub Among : List ℕ → List ℕ → Type 0
 Among some all = (q : ℕ) → is_one q some ≡ true → is_one q all ≡ true
 
-filled_or_own : (o : Option (List ℕ)) (b c : Bool) → (is_some o ≡ true → b ≡ true) → is_some (joined o (cond c (cond b (Some stub) None) None)) ≡ true → b ≡ true
+filled_or_own : (o : Option (List ℕ)) (b c : Bool) → (is_some o ≡ true → b ≡ true) →
+    is_some (joined o (cond c (cond b (Some stub) None) None)) ≡ true → b ≡ true
 filled_or_own (Some v) b c h e = h refl
 filled_or_own None true c h e = refl
 filled_or_own None false true h e = e
 filled_or_own None false false h e = e
 
 -- what is filled has no index but these
-filled_among : (m : Numbered) (n : ℕ) (indices : List ℕ) (q : ℕ) → (contains_key m q ≡ true → is_one q indices ≡ true) → (es : List (ℕ × List ℕ)) → contains_key (with_stubs (below n indices) m es) q ≡ true → is_one q indices ≡ true
+filled_among : (m : Numbered) (n : ℕ) (indices : List ℕ) (q : ℕ) → (contains_key m q ≡ true → is_one q indices ≡ true) →
+    (es : List (ℕ × List ℕ)) → contains_key (with_stubs (below n indices) m es) q ≡ true → is_one q indices ≡ true
 filled_among m n indices q own [] h = own h
 filled_among m n indices q own (e ∷ es) h = filled_or_own (get m q) (is_one q indices) (nat_lt q n) own (ap is_some (sym (get_filled m n indices q)) ∙ h)
 
@@ -171,11 +183,14 @@ right_true false b h = h
 indices_again : (indices : List ℕ) (fs : List FontValue) → Among (indices_of_all fs) indices → Among (indices_of_all (map (filled indices) fs)) indices
 indices_again indices [] h q one = absurd (true≢false (sym one))
 indices_again indices (f ∷ fs) h q one =
-    by_either (contains_key (filled indices f).subrs q) (is_one q (indices_of_all (map (filled indices) fs))) (sym (indices_next q (filled indices f) (map (filled indices) fs)) ∙ one)
-    (filled_among f.subrs (declared_count f.shell.subrs) indices q (λ own. h q (indices_next q f fs ∙ left_true (contains_key f.subrs q) (is_one q (indices_of_all fs)) own)) (entries f.subrs))
+    by_either (contains_key (filled indices f).subrs q) (is_one q (indices_of_all (map (filled indices) fs)))
+    (sym (indices_next q (filled indices f) (map (filled indices) fs)) ∙ one)
+    (filled_among f.subrs (declared_count f.shell.subrs) indices q
+    (λ own. h q (indices_next q f fs ∙ left_true (contains_key f.subrs q) (is_one q (indices_of_all fs)) own)) (entries f.subrs))
     (indices_again indices fs (λ p l. h p (indices_next p f fs ∙ right_true (contains_key f.subrs p) (is_one p (indices_of_all fs)) l)) q)
 
-fills_once : (o : Option (List ℕ)) (b c d : Bool) → (d ≡ true → b ≡ true) → joined (joined o (cond c (cond b (Some stub) None) None)) (cond c (cond d (Some stub) None) None) ≡ joined o (cond c (cond b (Some stub) None) None)
+fills_once : (o : Option (List ℕ)) (b c d : Bool) → (d ≡ true → b ≡ true) →
+    joined (joined o (cond c (cond b (Some stub) None) None)) (cond c (cond d (Some stub) None) None) ≡ joined o (cond c (cond b (Some stub) None) None)
 fills_once (Some v) b c d h = refl
 fills_once None true true d h = refl
 fills_once None true false d h = refl
@@ -184,7 +199,8 @@ fills_once None false true true h = absurd (true≢false (sym (h refl)))
 fills_once None false true false h = refl
 
 -- Subrs that are filled at some indices stay when they are filled at some of these
-filled_again : (m : Numbered) (n : ℕ) (indices more : List ℕ) → Among more indices → (es : List (ℕ × List ℕ)) → entries m ≡ es → with_stubs (below n more) (with_stubs (below n indices) m es) (entries (with_stubs (below n indices) m es)) ≡ with_stubs (below n indices) m es
+filled_again : (m : Numbered) (n : ℕ) (indices more : List ℕ) → Among more indices → (es : List (ℕ × List ℕ)) → entries m ≡ es →
+    with_stubs (below n more) (with_stubs (below n indices) m es) (entries (with_stubs (below n indices) m es)) ≡ with_stubs (below n indices) m es
 filled_again m n indices more h [] none = ap (with_stubs (below n more) m) none
 filled_again m n indices more h (e ∷ es) is = by_entries (entries (merged m (stubs_at (below n indices))))
   where
@@ -197,7 +213,12 @@ filled_again m n indices more h (e ∷ es) is = by_entries (entries (merged m (s
 
 fill_twice : (indices more : List ℕ) → Among more indices → (fs : List FontValue) → map (filled more) (map (filled indices) fs) ≡ map (filled indices) fs
 fill_twice indices more h [] = refl
-fill_twice indices more h (f ∷ fs) = λ i. record { shell = f.shell; encoding = f.encoding; subrs = filled_again f.subrs (declared_count f.shell.subrs) indices more h (entries f.subrs) refl i; glyphs = f.glyphs } ∷ fill_twice indices more h fs i
+fill_twice indices more h (f ∷ fs) = λ i. record {
+  shell = f.shell;
+  encoding = f.encoding;
+  subrs = filled_again f.subrs (declared_count f.shell.subrs) indices more h (entries f.subrs) refl i;
+  glyphs = f.glyphs;
+} ∷ fill_twice indices more h fs i
 
 pub evened_twice : EvenedTwice
 evened_twice fs =

@@ -35,9 +35,11 @@ module _ {A : Type 0} (g : Grammar A) where
   back_none [] ys after h = h
   back_none (b ∷ xs) ys after h = back_none xs ys after h.1
 
-  without_tags : ((front r s : List ℕ) → NoneIn g front (47 ∷ r) → NoneIn g front (47 ∷ s)) → (before tags name : List ℕ) → NotAtFront g (47 ∷ (name ++ 47 ∷ [])) → NoMarker g (before ++ 47 ∷ (tags ++ name)) → NoMarker g (before ++ 47 ∷ name)
+  without_tags : ((front r s : List ℕ) → NoneIn g front (47 ∷ r) → NoneIn g front (47 ∷ s)) → (before tags name : List ℕ) →
+      NotAtFront g (47 ∷ (name ++ 47 ∷ [])) → NoMarker g (before ++ 47 ∷ (tags ++ name)) → NoMarker g (before ++ 47 ∷ name)
   without_tags moves before tags name none h =
-      NoneIn-append g before (47 ∷ name) (47 ∷ []) (moves before ((tags ++ name) ++ 47 ∷ []) (name ++ 47 ∷ []) (front_none before (47 ∷ (tags ++ name)) (47 ∷ []) h))
+      NoneIn-append g before (47 ∷ name) (47 ∷ [])
+      (moves before ((tags ++ name) ++ 47 ∷ []) (name ++ 47 ∷ []) (front_none before (47 ∷ (tags ++ name)) (47 ∷ []) h))
       (none, back_none tags name (47 ∷ []) (back_none before (47 ∷ (tags ++ name)) (47 ∷ []) h).1)
 
 not_some : {A : Type 0} (o : Option A) → is_some o ≡ false → o ≡ None
@@ -71,15 +73,30 @@ pub head_fits : (head : List ℕ) → HeadFits head (untagged_head head)
 head_fits head = by_tags (untagged_head head) (loses_tags head)
   where
     by_tags : (new : List ℕ) → (new ≡ head) ⊎ Untagged head new → HeadFits head new
-    by_tags new (inl e) = record { encoding = subst (NoMarker encoding_marker) (sym e); eexec = subst (NoMarker eexec_marker) (sym e); bytes = subst AreBytes (sym e); short = omega (arith, ap length e) }
+    by_tags new (inl e) = record {
+      encoding = subst (NoMarker encoding_marker) (sym e);
+      eexec = subst (NoMarker eexec_marker) (sym e);
+      bytes = subst AreBytes (sym e);
+      short = omega (arith, ap length e);
+    }
     by_tags new (inr u) = record {
-      encoding = λ h. subst (NoMarker encoding_marker) (sym u.new_is) (without_tags encoding_marker encoding_moves u.before u.tags u.name (no_encoding_there u.name u.no_encoding) (subst (NoMarker encoding_marker) u.whole h));
-      eexec = λ h. subst (NoMarker eexec_marker) (sym u.new_is) (without_tags eexec_marker eexec_moves u.before u.tags u.name (no_eexec_there (u.name ++ 47 ∷ [])) (subst (NoMarker eexec_marker) u.whole h));
+      encoding = λ h. subst (NoMarker encoding_marker) (sym u.new_is) (without_tags encoding_marker encoding_moves u.before u.tags u.name
+          (no_encoding_there u.name u.no_encoding) (subst (NoMarker encoding_marker) u.whole h));
+      eexec = λ h. subst (NoMarker eexec_marker) (sym u.new_is)
+          (without_tags eexec_marker eexec_moves u.before u.tags u.name (no_eexec_there (u.name ++ 47 ∷ [])) (subst (NoMarker eexec_marker) u.whole h));
       bytes = λ h.
           let all : AreBytes (u.before ++ 47 ∷ (u.tags ++ u.name)) = subst AreBytes u.whole h in
           let back : AreBytes (47 ∷ (u.tags ++ u.name)) = back_bytes u.before (47 ∷ (u.tags ++ u.name)) all in
-          subst AreBytes (sym u.new_is) (AreBytes-append u.before (47 ∷ u.name) (front_bytes u.before (47 ∷ (u.tags ++ u.name)) all) (back.0, back_bytes u.tags u.name back.1));
-      short = omega (arith, ap length u.whole, ap length u.new_is, length-append u.before (47 ∷ (u.tags ++ u.name)), length-append u.tags u.name, length-append u.before (47 ∷ u.name));
+          subst AreBytes (sym u.new_is)
+          (AreBytes-append u.before (47 ∷ u.name) (front_bytes u.before (47 ∷ (u.tags ++ u.name)) all) (back.0, back_bytes u.tags u.name back.1));
+      short = omega (
+        arith,
+        ap length u.whole,
+        ap length u.new_is,
+        length-append u.before (47 ∷ (u.tags ++ u.name)),
+        length-append u.tags u.name,
+        length-append u.before (47 ∷ u.name),
+      );
     }
 
 -- ---- a font made even
@@ -89,7 +106,8 @@ words_raised n [] t h = h
 words_raised n (e ∷ es) t h = h
 
 -- Subrs still fit a shell that declares more
-subrs_raised : (n : ℕ) (s : Shell) (o : Option SubrsShell) (m : Numbered) → n ≤ count_limit → SubrsFit s o m → SubrsFit (even_shell n s) (option_map (raised n) o) m
+subrs_raised : (n : ℕ) (s : Shell) (o : Option SubrsShell) (m : Numbered) → n ≤ count_limit → SubrsFit s o m →
+    SubrsFit (even_shell n s) (option_map (raised n) o) m
 subrs_raised n s None m le h = h
 subrs_raised n s (Some t) m le h = record {
   declared = omega (arith, le, h.declared);
@@ -110,9 +128,25 @@ even_is_font n f le h =
     let g = h.glyphs in
     let p = h.private in
     record {
-      clear = record { head_encoding = fits.encoding h.clear.head_encoding; head_eexec = fits.eexec h.clear.head_eexec; tail_apart = h.clear.tail_apart; tail_ends = h.clear.tail_ends };
-      private = record { iv = p.iv; no_subrs = p.no_subrs; no_chars = p.no_chars; middle_apart = p.middle_apart; middle_chars = p.middle_chars; middle_subrs = p.middle_subrs; tail_apart = p.tail_apart; tail_subrs = p.tail_subrs; tail_ends = p.tail_ends };
-      texts = record { head = fits.bytes h.texts.head; clear_tail = h.texts.clear_tail; private = h.texts.private; middle = h.texts.middle; tail = h.texts.tail };
+      clear = record {
+        head_encoding = fits.encoding h.clear.head_encoding;
+        head_eexec = fits.eexec h.clear.head_eexec;
+        tail_apart = h.clear.tail_apart;
+        tail_ends = h.clear.tail_ends;
+      };
+      private = record {
+        iv = p.iv;
+        no_subrs = p.no_subrs;
+        no_chars = p.no_chars;
+        middle_apart = p.middle_apart;
+        middle_chars = p.middle_chars;
+        middle_subrs = p.middle_subrs;
+        tail_apart = p.tail_apart;
+        tail_subrs = p.tail_subrs;
+        tail_ends = p.tail_ends;
+      };
+      texts =
+          record { head = fits.bytes h.texts.head; clear_tail = h.texts.clear_tail; private = h.texts.private; middle = h.texts.middle; tail = h.texts.tail };
       encoding = h.encoding;
       subrs = subrs_raised n f.shell f.shell.subrs f.subrs le h.subrs;
       glyphs = record { rd = g.rd; def = g.def; names = g.names; bodies = g.bodies; notdef = g.notdef; few = g.few };
@@ -149,7 +183,8 @@ pub stubs_below : (n : ℕ) (indices : List ℕ) → stubs_at (below n indices) 
 stubs_below n indices = same_map nat_cmp_total nat_cmp-IsAntisymmetric _ _ (λ q.
     get-from_entries nat_cmp_total (stub_entries (below n indices)) q
     ∙ (find_below n q indices
-    ∙ (ap (λ (x : Option (List ℕ)). cond (nat_lt q n) x None) (sym (get-from_entries nat_cmp_total (stub_entries indices) q)) ∙ sym (get-retain nat_cmp_total nat_cmp-IsAntisymmetric (stubs_at indices) (λ i. nat_lt i n) q))))
+    ∙ (ap (λ (x : Option (List ℕ)). cond (nat_lt q n) x None) (sym (get-from_entries nat_cmp_total (stub_entries indices) q))
+    ∙ sym (get-retain nat_cmp_total nat_cmp-IsAntisymmetric (stubs_at indices) (λ i. nat_lt i n) q))))
 
 stub_or_none : (i : ℕ) (indices : List ℕ) (c : List ℕ) → find nat_cmp i (stub_entries indices) ≡ Some c → c ≡ stub
 stub_or_none i [] c e = Some_None (sym e)
@@ -165,7 +200,8 @@ kept_so false o c e = Some_None (sym e)
 -- what a stub of these is, and where
 pub a_stub : (n : ℕ) (indices : List ℕ) (i : ℕ) (c : List ℕ) → get (stubs_at (below n indices)) i ≡ Some c → (i < n) × (c ≡ stub)
 a_stub n indices i c e =
-    let k = kept_so (nat_lt i n) (find nat_cmp i (stub_entries indices)) c (sym (find_below n i indices) ∙ (sym (get-from_entries nat_cmp_total (stub_entries (below n indices)) i) ∙ e)) in
+    let k = kept_so (nat_lt i n) (find nat_cmp i (stub_entries indices)) c
+    (sym (find_below n i indices) ∙ (sym (get-from_entries nat_cmp_total (stub_entries (below n indices)) i) ∙ e)) in
     (ltb-true i n k.0, stub_or_none i indices c k.1)
 
 -- ---- a font that is filled
@@ -178,21 +214,25 @@ stub_fits : (iv : ℕ) (c : List ℕ) → iv ≤ 255 → c ≡ stub → IsCharst
 stub_fits iv c h e = subst (IsCharstring iv) (sym e) (record { short = omega (arith, h); bytes = (omega arith, tt) })
 
 -- the Subrs of a filled font fit its shell
-subrs_filled : (s : Shell) (t : SubrsShell) (m : Numbered) (indices : List ℕ) → s.len_iv ≤ 255 → SubrsFit s (Some t) m → (es : List (ℕ × List ℕ)) → entries m ≡ es → SubrsFit s (Some t) (with_stubs (below t.declared indices) m es)
+subrs_filled : (s : Shell) (t : SubrsShell) (m : Numbered) (indices : List ℕ) → s.len_iv ≤ 255 → SubrsFit s (Some t) m →
+    (es : List (ℕ × List ℕ)) → entries m ≡ es → SubrsFit s (Some t) (with_stubs (below t.declared indices) m es)
 subrs_filled s t m indices iv h [] is = h
 subrs_filled s t m indices iv h (e ∷ es) is =
     let n = stubs_at (below t.declared indices) in
     let there : get m e.0 ≡ Some e.1 = get-entries m e.0 ∙ (ap (find nat_cmp e.0) is ∙ find_first nat_cmp_total nat_cmp-IsAntisymmetric e es) in
-    let still : find nat_cmp e.0 (entries (merged m n)) ≡ Some e.1 = sym (get-entries (merged m n) e.0) ∙ (get-merged nat_cmp_total nat_cmp-IsAntisymmetric m n e.0 ∙ ap (λ (x : Option (List ℕ)). joined x (get n e.0)) there) in
+    let still : find nat_cmp e.0 (entries (merged m n)) ≡ Some e.1 = sym (get-entries (merged m n) e.0)
+    ∙ (get-merged nat_cmp_total nat_cmp-IsAntisymmetric m n e.0 ∙ ap (λ (x : Option (List ℕ)). joined x (get n e.0)) there) in
     record {
       declared = h.declared;
       below = merged_has nat_cmp_total nat_cmp-IsAntisymmetric (λ i c. i < t.declared) m n h.below (λ i c e. (a_stub t.declared indices i c e).0);
-      bodies = merged_has nat_cmp_total nat_cmp-IsAntisymmetric (λ i c. IsCharstring s.len_iv c) m n h.bodies (λ i c e. stub_fits s.len_iv c iv (a_stub t.declared indices i c e).1);
+      bodies = merged_has nat_cmp_total nat_cmp-IsAntisymmetric (λ i c. IsCharstring s.len_iv c) m n h.bodies
+          (λ i c e. stub_fits s.len_iv c iv (a_stub t.declared indices i c e).1);
       words = some_words e.0 e.1 (entries (merged m n)) t still (subst (λ (es : List (ℕ × List ℕ)). SubrWords es t) is h.words);
       closing = h.closing;
     }
 
-table_filled : (s : Shell) (o : Option SubrsShell) (m : Numbered) (indices : List ℕ) → s.len_iv ≤ 255 → SubrsFit s o m → SubrsFit s o (with_stubs (below (declared_count o) indices) m (entries m))
+table_filled : (s : Shell) (o : Option SubrsShell) (m : Numbered) (indices : List ℕ) → s.len_iv ≤ 255 → SubrsFit s o m →
+    SubrsFit s o (with_stubs (below (declared_count o) indices) m (entries m))
 table_filled s None m indices iv h = subst (λ (es : List (ℕ × List ℕ)). SubrsFit s None (with_stubs (below 0 indices) m es)) (sym h.0) h
 table_filled s (Some t) m indices iv h = subrs_filled s t m indices iv h (entries m) refl
 

@@ -1,5 +1,6 @@
 -- Fonts that are filled one by one, by one table of stubs.
-use Rattle.std.proofs.Common.{◌≡◌, ℕ, ◌+◌, ◌≤◌, ◌<◌, Bool, true, false, cond, ◌||◌, List, [], ◌∷◌, ◌++◌, map, length, drop, get_or, Option, Some, None, is_some, inl, inr, refl, sym, ap, subst, ◌∙◌, arith, true≢false}
+use Rattle.std.proofs.Common.{◌≡◌, ℕ, ◌+◌, ◌≤◌, ◌<◌, Bool, true, false, cond, ◌||◌, List, [], ◌∷◌, ◌++◌, map, length, drop}
+use Rattle.std.proofs.Common.{get_or, Option, Some, None, is_some, inl, inr, refl, sym, ap, subst, ◌∙◌, arith, true≢false}
 use Rattle.std.specs.Prelude.{nat_lt, max, ◌==◌}
 use Rattle.std.specs.List.{list_any}
 use Rattle.std.specs.Ordering.{nat_cmp, eq_by_cmp}
@@ -44,8 +45,10 @@ count_done fs i n h = max_zero n ∙ ap (λ (gs : List FontValue). max n (larges
     max_zero n = omega arith
 
 -- the largest count of one more font
-pub count_step : (fs : List FontValue) (i : ℕ) (d : FontValue) (n : ℕ) → i < length fs → max n (largest_count (drop i fs)) ≡ max (max n (declared_count (get_or fs i d).shell.subrs)) (largest_count (drop (i + 1) fs))
-count_step fs i d n h = ap (λ (gs : List FontValue). max n (largest_count gs)) (drop_more fs i d h) ∙ sym (max_assoc n (declared_count (get_or fs i d).shell.subrs) (largest_count (drop (i + 1) fs)))
+pub count_step : (fs : List FontValue) (i : ℕ) (d : FontValue) (n : ℕ) → i < length fs →
+    max n (largest_count (drop i fs)) ≡ max (max n (declared_count (get_or fs i d).shell.subrs)) (largest_count (drop (i + 1) fs))
+count_step fs i d n h = ap (λ (gs : List FontValue). max n (largest_count gs)) (drop_more fs i d h)
+    ∙ sym (max_assoc n (declared_count (get_or fs i d).shell.subrs) (largest_count (drop (i + 1) fs)))
 
 -- ---- the indices of all
 
@@ -75,13 +78,16 @@ some_either (Some v) y = refl
 
 -- an index of some fonts is one of the first or of the others
 pub indices_next : (q : ℕ) (f : FontValue) (fs : List FontValue) → is_one q (indices_of_all (f ∷ fs)) ≡ (contains_key f.subrs q || is_one q (indices_of_all fs))
-indices_next q f fs = list_any-append (eq_by_cmp nat_cmp q) (keys f.subrs) (indices_of_all fs) ∙ ap (λ b. b || is_one q (indices_of_all fs)) (sym (contains_key-keys f.subrs q))
+indices_next q f fs =
+    list_any-append (eq_by_cmp nat_cmp q) (keys f.subrs) (indices_of_all fs) ∙ ap (λ b. b || is_one q (indices_of_all fs)) (sym (contains_key-keys f.subrs q))
 
-module _ (m : Numbered) (all fs : List FontValue) (i : ℕ) (d f : FontValue) (room : i < length fs) (is : get_or fs i d ≡ f) (h : IndicesSoFar m (drop i fs) all) where
+module _ (m : Numbered) (all fs : List FontValue) (i : ℕ) (d f : FontValue)
+    (room : i < length fs) (is : get_or fs i d ≡ f) (h : IndicesSoFar m (drop i fs) all) where
   next : drop i fs ≡ f ∷ drop (i + 1) fs
   next = drop_more fs i d room ∙ ap (λ (g : FontValue). g ∷ drop (i + 1) fs) is
 
-  more : (q : ℕ) (b : Bool) → b ≡ (contains_key m q || contains_key f.subrs q) → (b || is_one q (indices_of_all (drop (i + 1) fs))) ≡ is_one q (indices_of_all all)
+  more : (q : ℕ) (b : Bool) → b ≡ (contains_key m q || contains_key f.subrs q) →
+      (b || is_one q (indices_of_all (drop (i + 1) fs))) ≡ is_one q (indices_of_all all)
   more q b e =
       ap (λ b. b || is_one q (indices_of_all (drop (i + 1) fs))) e
       ∙ (or_assoc (contains_key m q) (contains_key f.subrs q) (is_one q (indices_of_all (drop (i + 1) fs)))
@@ -90,7 +96,8 @@ module _ (m : Numbered) (all fs : List FontValue) (i : ℕ) (d f : FontValue) (r
 
   -- those of one more font
   pub one_more_font : (n : Numbered) → n ≡ merged m f.subrs → IndicesSoFar n (drop (i + 1) fs) all
-  one_more_font n put q = more q (contains_key n q) (ap (λ (k : Numbered). contains_key k q) put ∙ (ap is_some (get-merged nat_cmp_total nat_cmp-IsAntisymmetric m f.subrs q) ∙ some_either (get m q) (get f.subrs q)))
+  one_more_font n put q = more q (contains_key n q) (ap (λ (k : Numbered). contains_key k q) put
+      ∙ (ap is_some (get-merged nat_cmp_total nat_cmp-IsAntisymmetric m f.subrs q) ∙ some_either (get m q) (get f.subrs q)))
 
   one_of_both : (a b : Bool) → (b ≡ true → a ≡ true) → a ≡ (a || b)
   one_of_both true b k = refl
@@ -113,13 +120,15 @@ true_after false b h = h
 
 -- before the first entry all are left
 pub all_left : (m n : Numbered) (left : List (ℕ × List ℕ)) → left ≡ entries n → KnownOrLeft m n left
-all_left m n left is q t = true_after (contains_key m q) (is_one q (map (λ e. e.0) left)) (ap (λ es. is_one q (map (λ e. e.0) es)) is ∙ (sym (contains_key-keys n q) ∙ t))
+all_left m n left is q t =
+    true_after (contains_key m q) (is_one q (map (λ e. e.0) left)) (ap (λ es. is_one q (map (λ e. e.0) es)) is ∙ (sym (contains_key-keys n q) ∙ t))
 
 -- a number that the first table has is left no more
 pub one_known : (m n : Numbered) (e : ℕ × List ℕ) (left : List (ℕ × List ℕ)) → contains_key m e.0 ≡ true → KnownOrLeft m n (e ∷ left) → KnownOrLeft m n left
 one_known m n e left t h q k = at (eq_by_cmp nat_cmp q e.0) refl (h q k)
   where
-    at : (b : Bool) → eq_by_cmp nat_cmp q e.0 ≡ b → (contains_key m q || (b || is_one q (map (λ e. e.0) left))) ≡ true → (contains_key m q || is_one q (map (λ e. e.0) left)) ≡ true
+    at : (b : Bool) → eq_by_cmp nat_cmp q e.0 ≡ b → (contains_key m q || (b || is_one q (map (λ e. e.0) left))) ≡ true →
+        (contains_key m q || is_one q (map (λ e. e.0) left)) ≡ true
     at false is w = w
     at true is w = ap (λ b. b || is_one q (map (λ e. e.0) left)) (ap (contains_key m) (same_key is) ∙ t)
       where
@@ -128,12 +137,14 @@ one_known m n e left t h q k = at (eq_by_cmp nat_cmp q e.0) refl (h q k)
 
 -- when none is left, the first table has all
 pub all_known : (m n : Numbered) (left : List (ℕ × List ℕ)) → left ≡ [] → KnownOrLeft m n left → (q : ℕ) → contains_key n q ≡ true → contains_key m q ≡ true
-all_known m n left none h q t = sym (or_false (contains_key m q)) ∙ (ap (λ es. contains_key m q || is_one q (map (λ (e : ℕ × List ℕ). e.0) es)) (sym none) ∙ h q t)
+all_known m n left none h q t =
+    sym (or_false (contains_key m q)) ∙ (ap (λ es. contains_key m q || is_one q (map (λ (e : ℕ × List ℕ). e.0) es)) (sym none) ∙ h q t)
 
 -- the stubs at some indices have a stub at each of them, and nothing else
 pub find_stub : (q : ℕ) (indices : List ℕ) → find nat_cmp q (map (λ i. (i, stub)) indices) ≡ cond (is_one q indices) (Some stub) None
 find_stub q [] = refl
-find_stub q (j ∷ js) = elim (eq_by_cmp nat_cmp q j) as (λ b. cond b (Some stub) (find nat_cmp q (map (λ i. (i, stub)) js)) ≡ cond (b || is_one q js) (Some stub) None) [ true ↦ refl | false ↦ find_stub q js ]
+find_stub q (j ∷ js) = elim (eq_by_cmp nat_cmp q j)
+    as (λ b. cond b (Some stub) (find nat_cmp q (map (λ i. (i, stub)) js)) ≡ cond (b || is_one q js) (Some stub) None) [ true ↦ refl | false ↦ find_stub q js ]
 
 stub_of : (o : Option (List ℕ)) → option_map (λ c. stub) o ≡ cond (is_some o) (Some stub) None
 stub_of None = refl
@@ -153,13 +164,15 @@ stubs_of m n all h is = is ∙ same_map nat_cmp_total nat_cmp-IsAntisymmetric _ 
 
 -- ---- one font, and all
 
-these_are : (n : ℕ) (indices : List ℕ) (m : Numbered) (es : List (ℕ × List ℕ)) → with_these (retain_keys (stubs_at indices) (λ i. nat_lt i n)) m es ≡ with_stubs (below n indices) m es
+these_are : (n : ℕ) (indices : List ℕ) (m : Numbered) (es : List (ℕ × List ℕ)) →
+    with_these (retain_keys (stubs_at indices) (λ i. nat_lt i n)) m es ≡ with_stubs (below n indices) m es
 these_are n indices m [] = refl
 these_are n indices m (e ∷ es) = ap (merged m) (sym (stubs_below n indices))
 
 -- filling by the table of stubs is filling at the indices
 pub filled_so : (stubs : Numbered) (indices : List ℕ) (f : FontValue) → stubs ≡ stubs_at indices → filled_by stubs f ≡ filled indices f
-filled_so stubs indices f is = ap (λ (s : Numbered). filled_by s f) is ∙ (λ i. record { shell = f.shell; encoding = f.encoding; subrs = these_are (declared_count f.shell.subrs) indices f.subrs (entries f.subrs) i; glyphs = f.glyphs })
+filled_so stubs indices f is = ap (λ (s : Numbered). filled_by s f) is ∙ (λ i.
+    record { shell = f.shell; encoding = f.encoding; subrs = these_are (declared_count f.shell.subrs) indices f.subrs (entries f.subrs) i; glyphs = f.glyphs })
 
 heavy_later : (xs : List FontValue) (y : FontValue) (ys : List FontValue) → weight_limit < weight y → AnyHeavy (xs ++ y ∷ ys)
 heavy_later [] y ys h = inl h
@@ -185,7 +198,8 @@ none_filled fs out left none is = record {
 pub all_filled : (fs out left : List FontValue) → left ≡ [] → Filling fs out left → Fills fs out
 all_filled fs out left none h = (sym (append-nil out) ∙ (ap (λ (l : List FontValue). out ++ map (filled (indices_of_all fs)) l) (sym none) ∙ h.all), h.light)
 
-module _ (stubs : Numbered) (fs out left next : List FontValue) (f : FontValue) (h : Filling fs out left) (is : left ≡ f ∷ next) (at : stubs ≡ stubs_at (indices_of_all fs)) where
+module _ (stubs : Numbered) (fs out left next : List FontValue) (f : FontValue)
+    (h : Filling fs out left) (is : left ≡ f ∷ next) (at : stubs ≡ stubs_at (indices_of_all fs)) where
   here : out ++ filled_by stubs f ∷ map (filled (indices_of_all fs)) next ≡ filled_all fs
   here =
       ap (λ (x : FontValue). out ++ x ∷ map (filled (indices_of_all fs)) next) (filled_so stubs (indices_of_all fs) f at)
@@ -194,7 +208,8 @@ module _ (stubs : Numbered) (fs out left next : List FontValue) (f : FontValue) 
   -- one more light font is out
   pub fills_on : (more : List FontValue) (g : FontValue) → g ≡ filled_by stubs f → weight g ≤ weight_limit → more ≡ out ++ g ∷ [] → Filling fs more next
   fills_on more g same light put = record {
-    all = ap (λ (l : List FontValue). l ++ map (filled (indices_of_all fs)) next) put ∙ (append_assoc out (g ∷ []) (map (filled (indices_of_all fs)) next) ∙ (ap (λ (x : FontValue). out ++ x ∷ map (filled (indices_of_all fs)) next) same ∙ here));
+    all = ap (λ (l : List FontValue). l ++ map (filled (indices_of_all fs)) next) put ∙ (append_assoc out (g ∷ []) (map (filled (indices_of_all fs)) next)
+        ∙ (ap (λ (x : FontValue). out ++ x ∷ map (filled (indices_of_all fs)) next) same ∙ here));
     light = subst AreLight (sym put) (light_append out g h.light light);
   }
 
@@ -218,22 +233,26 @@ unfilled stubs f h = λ i. record { shell = f.shell; encoding = f.encoding; subr
     stays (e ∷ es) h = absurd (true≢false (sym h))
 
 -- one with Subrs has these, and the stubs
-pub newly_filled : (stubs : Numbered) (f : FontValue) (subrs : Numbered) → has_none (entries f.subrs) ≡ false → subrs ≡ merged f.subrs (retain_keys stubs (λ i. nat_lt i (declared_count f.shell.subrs)))
+pub newly_filled : (stubs : Numbered) (f : FontValue) (subrs : Numbered) → has_none (entries f.subrs) ≡ false →
+    subrs ≡ merged f.subrs (retain_keys stubs (λ i. nat_lt i (declared_count f.shell.subrs)))
     → ◌≡◌ {A = FontValue} (record { shell = f.shell; encoding = f.encoding; subrs = subrs; glyphs = f.glyphs }) (filled_by stubs f)
 newly_filled stubs f subrs h put = λ i. record { shell = f.shell; encoding = f.encoding; subrs = (put ∙ more (entries f.subrs) h) i; glyphs = f.glyphs }
   where
-    more : (es : List (ℕ × List ℕ)) → has_none es ≡ false → merged f.subrs (retain_keys stubs (λ i. nat_lt i (declared_count f.shell.subrs))) ≡ with_these (retain_keys stubs (λ i. nat_lt i (declared_count f.shell.subrs))) f.subrs es
+    more : (es : List (ℕ × List ℕ)) → has_none es ≡ false → merged f.subrs (retain_keys stubs (λ i. nat_lt i (declared_count f.shell.subrs)))
+        ≡ with_these (retain_keys stubs (λ i. nat_lt i (declared_count f.shell.subrs))) f.subrs es
     more [] h = absurd (true≢false h)
     more (e ∷ es) h = refl
 
 -- the same of parts of a font
-pub parts_filled : (stubs : Numbered) (f p : FontValue) (n : ℕ) (subrs : Numbered) → p ≡ f → has_none (entries p.subrs) ≡ false → n ≡ declared_count p.shell.subrs → subrs ≡ merged p.subrs (retain_keys stubs (λ i. nat_lt i n))
+pub parts_filled : (stubs : Numbered) (f p : FontValue) (n : ℕ) (subrs : Numbered) → p ≡ f → has_none (entries p.subrs) ≡ false →
+    n ≡ declared_count p.shell.subrs → subrs ≡ merged p.subrs (retain_keys stubs (λ i. nat_lt i n))
     → ◌≡◌ {A = FontValue} (record { shell = p.shell; encoding = p.encoding; subrs = subrs; glyphs = p.glyphs }) (filled_by stubs f)
 parts_filled stubs f p n subrs is some declared put =
     newly_filled stubs p subrs some (put ∙ ap (λ (k : ℕ). merged p.subrs (retain_keys stubs (λ i. nat_lt i k))) declared) ∙ ap (filled_by stubs) is
 
 -- a font filled with stubs is a font if it is within the weight limit
-pub filled_by_is_font : (indices : List ℕ) (f : FontValue) → IsFont f → weight (filled_by (stubs_at indices) f) ≤ weight_limit → IsFont (filled_by (stubs_at indices) f)
+pub filled_by_is_font : (indices : List ℕ) (f : FontValue) → IsFont f → weight (filled_by (stubs_at indices) f) ≤ weight_limit →
+    IsFont (filled_by (stubs_at indices) f)
 filled_by_is_font indices f h light =
     let is = filled_so (stubs_at indices) indices f refl in
     subst IsFont (sym is) (filled_is_font indices f h (subst (λ (g : FontValue). weight g ≤ weight_limit) is light))

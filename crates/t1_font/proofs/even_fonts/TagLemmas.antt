@@ -1,5 +1,6 @@
 -- Tags are read as they are spelled, and what stands behind them ends the text.
-use Rattle.std.proofs.Common.{◌≡◌, ◌⊎◌, ℕ, zero, suc, ◌-◌, ◌≤◌, ◌<◌, arith, List, [], ◌∷◌, ◌++◌, length, take, Option, Some, None, is_some, eqb, Bool, true, false, cond, inl, inr, refl, sym, ap, ◌∙◌, append_assoc}
+use Rattle.std.proofs.Common.{◌≡◌, ◌⊎◌, ℕ, zero, suc, ◌-◌, ◌≤◌, ◌<◌, arith, List, [], ◌∷◌, ◌++◌, length, take, Option, Some}
+use Rattle.std.proofs.Common.{None, is_some, eqb, Bool, true, false, cond, inl, inr, refl, sym, ap, ◌∙◌, append_assoc}
 use Rattle.std.specs.Prelude.{codes, not, ◌==◌}
 use Rattle.std.specs.Option.{option_and_then, option_map}
 use Rattle.std.proofs.lemmas.Bool.{cases_Bool, eqb-true}
@@ -27,7 +28,8 @@ tag_shortens text x e =
 abbrev pub EndsWith : List ℕ → List ℕ → Type 0
 EndsWith text end = (u : List ℕ) × (text ≡ u ++ end)
 
-ends_past : (n : ℕ) (text : List ℕ) → ((t : List ℕ) → EndsWith t (behind_tags n t)) → (o : Option (List ℕ × List ℕ)) → tag.read text ≡ o → EndsWith text (past_tag (behind_tags n) text o)
+ends_past : (n : ℕ) (text : List ℕ) → ((t : List ℕ) → EndsWith t (behind_tags n t)) → (o : Option (List ℕ × List ℕ)) → tag.read text ≡ o →
+    EndsWith text (past_tag (behind_tags n) text o)
 ends_past n text h None e = ([], refl)
 ends_past n text h (Some x) e =
     let s = tag.takes text x e in
@@ -51,7 +53,8 @@ pub past_one : (n : ℕ) (text : List ℕ) (x : List ℕ × List ℕ) → tag.re
 unfolding behind_tags
 past_one n text x e = ap (past_tag (behind_tags n) text) e
 
-none_past : (n : ℕ) (text : List ℕ) → length text ≤ suc n → ((t : List ℕ) → length t ≤ n → tag.read (behind_tags n t) ≡ None) → (o : Option (List ℕ × List ℕ)) → tag.read text ≡ o → tag.read (past_tag (behind_tags n) text o) ≡ None
+none_past : (n : ℕ) (text : List ℕ) → length text ≤ suc n → ((t : List ℕ) → length t ≤ n → tag.read (behind_tags n t) ≡ None) →
+    (o : Option (List ℕ × List ℕ)) → tag.read text ≡ o → tag.read (past_tag (behind_tags n) text o) ≡ None
 none_past n text le h None e = e
 none_past n text le h (Some x) e = h x.1 (omega (arith, le, tag_shortens text x e))
 
@@ -80,7 +83,8 @@ pub record Named (head rest : List ℕ) : Type 0 where
 regrouped : (a b c e : List ℕ) → (a ++ (b ++ (c ++ 47 ∷ []))) ++ e ≡ (a ++ (b ++ c)) ++ 47 ∷ e
 regrouped a b c e =
     append_assoc a (b ++ (c ++ 47 ∷ [])) e
-    ∙ (ap (λ (u : List ℕ). a ++ u) (append_assoc b (c ++ 47 ∷ []) e ∙ (ap (λ (u : List ℕ). b ++ u) (append_assoc c (47 ∷ []) e) ∙ sym (append_assoc b c (47 ∷ e))))
+    ∙ (ap (λ (u : List ℕ). a ++ u)
+    (append_assoc b (c ++ 47 ∷ []) e ∙ (ap (λ (u : List ℕ). b ++ u) (append_assoc c (47 ∷ []) e) ∙ sym (append_assoc b c (47 ∷ e))))
     ∙ sym (append_assoc a (b ++ c) (47 ∷ e)))
 
 -- a name that is found in a head stands behind a slash, and ends it
@@ -101,7 +105,8 @@ named head x e =
 pub before_name : (head rest : List ℕ) → (h : Named head rest) → take (length head - length rest) head ≡ h.before ++ 47 ∷ []
 before_name head rest h =
     let split : head ≡ (h.before ++ 47 ∷ []) ++ rest = h.whole ∙ sym (append_assoc h.before (47 ∷ []) rest) in
-    ap (take (length head - length rest)) split ∙ take_at (h.before ++ 47 ∷ []) rest (length head - length rest) (omega (arith, ap length split, length-append (h.before ++ 47 ∷ []) rest))
+    ap (take (length head - length rest)) split
+    ∙ take_at (h.before ++ 47 ∷ []) rest (length head - length rest) (omega (arith, ap length split, length-append (h.before ++ 47 ∷ []) rest))
 
 -- a head whose name lost its tags
 pub record Untagged (head new : List ℕ) : Type 0 where
@@ -117,7 +122,8 @@ pub loses_tags : (head : List ℕ) → (untagged_head head ≡ head) ⊎ Untagge
 loses_tags head = by_name ((first name_marker).read head) refl
   where
     by_test : (x : (List ℕ × List ℕ) × List ℕ) → Named head x.1 → (b : Bool) → begins_encoding (untagged x.1) ≡ b
-        → (cond b head (take (length head - length x.1) head ++ untagged x.1) ≡ head) ⊎ Untagged head (cond b head (take (length head - length x.1) head ++ untagged x.1))
+        → (cond b head (take (length head - length x.1) head ++ untagged x.1) ≡ head)
+        ⊎ Untagged head (cond b head (take (length head - length x.1) head ++ untagged x.1))
     by_test x h true t = inl refl
     by_test x h false t =
         let s = ends_untagged (length x.1) x.1 in
@@ -170,7 +176,8 @@ strip_before (c ∷ w) (b ∷ bs) h = elim (cases_Bool (eqb c 47)) [
   ]
 ]
 
-marker_after : (o : Option (List ℕ)) → is_some (option_and_then (λ (x : List ℕ × List ℕ). (before break_comes).read x.1) (option_and_then (λ r. Some (codes "/Encoding", r)) (option_map (λ r. r ++ 47 ∷ []) o))) ≡ ends_after (option_and_then (λ r. Some (codes "Encoding", r)) o)
+marker_after : (o : Option (List ℕ)) → is_some (option_and_then (λ (x : List ℕ × List ℕ). (before break_comes).read x.1)
+    (option_and_then (λ r. Some (codes "/Encoding", r)) (option_map (λ r. r ++ 47 ∷ []) o))) ≡ ends_after (option_and_then (λ r. Some (codes "Encoding", r)) o)
 marker_after None = refl
 marker_after (Some r) = by_break (break_comes (r ++ 47 ∷ [])) refl ∙ break_there r
   where
@@ -182,8 +189,10 @@ marker_after (Some r) = by_break (break_comes (r ++ 47 ∷ [])) refl ∙ break_t
 pub begins_read : (name : List ℕ) → begins_encoding name ≡ ends_after ((fixed (codes "Encoding")).read name)
 unfolding encoding_marker
 begins_read name =
-    ap (λ (o : Option (List ℕ × List ℕ)). is_some (option_and_then (λ (x : List ℕ × List ℕ). (before break_comes).read x.1) o)) (fixed_strip (codes "/Encoding") (47 ∷ (name ++ 47 ∷ [])))
-    ∙ (ap (λ (o : Option (List ℕ)). is_some (option_and_then (λ (x : List ℕ × List ℕ). (before break_comes).read x.1) (option_and_then (λ r. Some (codes "/Encoding", r)) o))) (strip_before (codes "Encoding") name refl)
+    ap (λ (o : Option (List ℕ × List ℕ)). is_some (option_and_then (λ (x : List ℕ × List ℕ). (before break_comes).read x.1) o))
+    (fixed_strip (codes "/Encoding") (47 ∷ (name ++ 47 ∷ [])))
+    ∙ (ap (λ (o : Option (List ℕ)). is_some (option_and_then (λ (x : List ℕ × List ℕ). (before break_comes).read x.1)
+    (option_and_then (λ r. Some (codes "/Encoding", r)) o))) (strip_before (codes "Encoding") name refl)
     ∙ (marker_after (strip (codes "Encoding") name)
     ∙ ap ends_after (sym (fixed_strip (codes "Encoding") name))))
 
@@ -202,13 +211,15 @@ to_map None r e = absurd (none-some r (sym e))
 to_map (Some x) r e = (x, refl, same_Some x.1 r (sym e))
 
 -- one tag more is passed
-pub walked_on : (text rest next : List ℕ) → Walked text rest → Some next ≡ option_map (λ x. x.1) (tag.read rest) → Walked text next × (length next < length rest)
+pub walked_on : (text rest next : List ℕ) → Walked text rest → Some next ≡ option_map (λ x. x.1) (tag.read rest) →
+    Walked text next × (length next < length rest)
 walked_on text rest next w e =
     let x = to_map (tag.read rest) next e in
     let less : length next < length rest = omega (arith, tag_shortens rest x.0 x.1, ap length x.2) in
     (by_fuel w.0 w.1 w.2 x.0 x.1 x.2 less, less)
   where
-    by_fuel : (n : ℕ) → length rest ≤ n → behind_tags n rest ≡ untagged text → (x : List ℕ × List ℕ) → tag.read rest ≡ Some x → x.1 ≡ next → length next < length rest → Walked text next
+    by_fuel : (n : ℕ) → length rest ≤ n → behind_tags n rest ≡ untagged text → (x : List ℕ × List ℕ) →
+        tag.read rest ≡ Some x → x.1 ≡ next → length next < length rest → Walked text next
     by_fuel zero le h x e is less = absurd (omega (arith, le, less))
     by_fuel (suc n) le h x e is less = (n, omega (arith, le, less), ap (behind_tags n) (sym is) ∙ (sym (past_one n rest x e) ∙ h))
 
@@ -245,7 +256,8 @@ module _ (head : List ℕ) (x : (List ℕ × List ℕ) × List ℕ) (e : Some x 
   pub no_tags_there : (name : List ℕ) → name ≡ untagged x.1 → length name ≡ length x.1 → untagged_head head ≡ head
   no_tags_there name is same =
       let whole : untagged x.1 ≡ x.1 = whole_end x.1 (untagged x.1) (ends_untagged (length x.1) x.1) (ap length (sym is) ∙ same) in
-      named_is ∙ either_way (begins_encoding (untagged x.1)) head _ (ap (λ (u : List ℕ). take (length head - length x.1) head ++ u) whole ∙ all_again head x.1 (named head x (sym e)))
+      named_is ∙ either_way (begins_encoding (untagged x.1)) head _
+      (ap (λ (u : List ℕ). take (length head - length x.1) head ++ u) whole ∙ all_again head x.1 (named head x (sym e)))
 
   -- where it would begin an Encoding
   pub encoding_there : (name : List ℕ) → name ≡ untagged x.1 → begins_encoding name ≡ true → untagged_head head ≡ head

@@ -22,16 +22,19 @@ module _ (r s : List ℕ) where
   slash_none [] h = absurd (none-some _ (sym h ∙ fixed_strip (codes "/") (47 ∷ r)))
   slash_none (c ∷ xs) h = fixed_strip (codes "/") (c ∷ (xs ++ 47 ∷ s)) ∙ elim (cases_Bool (eqb 47 c)) [
     | inl t ↦
-        let k : ◌≡◌ {A = Option (List ℕ × List ℕ)} (option_and_then (λ r. Some (codes "/", r)) (strip (codes "/") (c ∷ (xs ++ 47 ∷ r)))) None = sym (fixed_strip (codes "/") (c ∷ (xs ++ 47 ∷ r))) ∙ h in
+        let k : ◌≡◌ {A = Option (List ℕ × List ℕ)} (option_and_then (λ r. Some (codes "/", r)) (strip (codes "/") (c ∷ (xs ++ 47 ∷ r)))) None =
+        sym (fixed_strip (codes "/") (c ∷ (xs ++ 47 ∷ r))) ∙ h in
         let l : ◌≡◌ {A = Option (List ℕ × List ℕ)} (Some (codes "/", xs ++ 47 ∷ r)) None = rw t at k in
         absurd (none-some _ (sym l))
     | inr t ↦ rw t refl
   ]
 
-  white_none : (ys : List ℕ) → option_and_then (λ (x : List ℕ × List ℕ). (fixed (codes "/")).read x.1) (white.read (ys ++ 47 ∷ r)) ≡ None → option_and_then (λ (x : List ℕ × List ℕ). (fixed (codes "/")).read x.1) (white.read (ys ++ 47 ∷ s)) ≡ None
+  white_none : (ys : List ℕ) → option_and_then (λ (x : List ℕ × List ℕ). (fixed (codes "/")).read x.1) (white.read (ys ++ 47 ∷ r)) ≡ None →
+      option_and_then (λ (x : List ℕ × List ℕ). (fixed (codes "/")).read x.1) (white.read (ys ++ 47 ∷ s)) ≡ None
   white_none ys h =
       ap (option_and_then (λ (x : List ℕ × List ℕ). (fixed (codes "/")).read x.1)) (run_front is_white ys (47 ∷ s) refl)
-      ∙ slash_none (drop (prefix_len is_white ys) ys) (sym (ap (option_and_then (λ (x : List ℕ × List ℕ). (fixed (codes "/")).read x.1)) (run_front is_white ys (47 ∷ r) refl)) ∙ h)
+      ∙ slash_none (drop (prefix_len is_white ys) ys)
+      (sym (ap (option_and_then (λ (x : List ℕ × List ℕ). (fixed (codes "/")).read x.1)) (run_front is_white ys (47 ∷ r) refl)) ∙ h)
 
   after_word : (o p : Option (List ℕ × List ℕ)) → Alike (47 ∷ r) (47 ∷ s) o p
       → option_and_then (λ (x : List ℕ × List ℕ). option_and_then (λ (y : List ℕ × List ℕ). (fixed (codes "/")).read y.1) (white.read x.1)) o ≡ None
@@ -41,7 +44,8 @@ module _ (r s : List ℕ) where
 
   name_none : (b : ℕ) (xs : List ℕ) → name_marker.read (b ∷ (xs ++ 47 ∷ r)) ≡ None → name_marker.read (b ∷ (xs ++ 47 ∷ s)) ≡ None
   unfolding name_marker
-  name_none b xs h = after_word _ _ (fixed_behind (47 ∷ r) (47 ∷ s) 47 (codes "FontName") (slash_word (codes "FontName") r refl) (slash_word (codes "FontName") s refl) b xs) h
+  name_none b xs h =
+      after_word _ _ (fixed_behind (47 ∷ r) (47 ∷ s) 47 (codes "FontName") (slash_word (codes "FontName") r refl) (slash_word (codes "FontName") s refl) b xs) h
 
   name_moves : (front : List ℕ) → NoneIn name_marker front (47 ∷ r) → NoneIn name_marker front (47 ∷ s)
   name_moves [] h = tt
@@ -77,7 +81,8 @@ module _ (head : List ℕ) (x : (List ℕ × List ℕ) × List ℕ) (e : (first 
       subst (λ (u : List ℕ). NoneIn name_marker x.0.0 (u ++ name)) (sym b.1)
       (name_moves (b.0 ++ x.1) (b.0 ++ name) x.0.0 (subst (λ (u : List ℕ). NoneIn name_marker x.0.0 (u ++ x.1)) b.1 s.2.3)) in (
         x.0.0 ++ own,
-        ap (take (length head - length x.1)) all ∙ take_at (x.0.0 ++ own) x.1 (length head - length x.1) (omega (arith, ap length all, length-append (x.0.0 ++ own) x.1)),
+        ap (take (length head - length x.1)) all
+            ∙ take_at (x.0.0 ++ own) x.1 (length head - length x.1) (omega (arith, ap length all, length-append (x.0.0 ++ own) x.1)),
         ap (first name_marker).read (append_assoc x.0.0 own name)
             ∙ first_behind name_marker x.0.0 (own ++ name) x.0.1 name none (name_marker.again x.0.1 own name (before_any x.0.1 own x.1 name s.2.2)),
       )
@@ -94,7 +99,8 @@ pub untagged_head_twice : (head : List ℕ) → untagged_head (untagged_head hea
 untagged_head_twice head = by_name ((first name_marker).read head) refl
   where
     by_test : (x : (List ℕ × List ℕ) × List ℕ) → (first name_marker).read head ≡ Some x → (b : Bool) → begins_encoding (untagged x.1) ≡ b
-        → untagged_head (cond b head (take (length head - length x.1) head ++ untagged x.1)) ≡ cond b head (take (length head - length x.1) head ++ untagged x.1)
+        →
+        untagged_head (cond b head (take (length head - length x.1) head ++ untagged x.1)) ≡ cond b head (take (length head - length x.1) head ++ untagged x.1)
     by_test x e true t = encoding_there head x (sym e) (untagged x.1) refl t
     by_test x e false t = lost_stays head x e
 

@@ -39,7 +39,8 @@ decrypted_bytes (c ∷ cs) key k h =
 -- ---- tables
 
 -- what holds of each entry that is spelled in bytes holds of the entries of a table
-pub entries_have : {A : Type 0} (g : Grammar A) (P : A → Type 0) → ((a : A) (text rest : List ℕ) → g.Spells a text rest → AreBytes text → P a) → (xs : List A) (text rest : List ℕ) → Entries g xs text rest → AreBytes text → AllByRecursion P xs
+pub entries_have : {A : Type 0} (g : Grammar A) (P : A → Type 0) → ((a : A) (text rest : List ℕ) → g.Spells a text rest → AreBytes text → P a) →
+    (xs : List A) (text rest : List ℕ) → Entries g xs text rest → AreBytes text → AllByRecursion P xs
 entries_have g P f [] text rest s h = tt
 entries_have g P f (a ∷ xs) text rest s h = let k = parts_bytes text s.0 s.1 s.2 h in (f a s.0 (s.1 ++ rest) s.3 k.0, entries_have g P f xs s.1 rest s.4 k.1)
 

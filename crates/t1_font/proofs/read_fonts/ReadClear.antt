@@ -1,5 +1,6 @@
 -- The clear text of a file that was read is that of a font.
-use Rattle.std.proofs.Common.{◌≡◌, ℕ, suc, ◌+◌, ◌≤◌, inl, inr, true, false, List, [], ◌∷◌, ◌++◌, length, take, ◌-◌, get_or, Option, Some, None, refl, sym, ap, subst, ◌∙◌, append_assoc, arith, true≢false}
+use Rattle.std.proofs.Common.{◌≡◌, ℕ, suc, ◌+◌, ◌≤◌, inl, inr, true, false, List, [], ◌∷◌, ◌++◌, length, take, ◌-◌}
+use Rattle.std.proofs.Common.{get_or, Option, Some, None, refl, sym, ap, subst, ◌∙◌, append_assoc, arith, true≢false}
 use Rattle.std.specs.Prelude.{codes}
 use Rattle.std.specs.List.{AllByRecursion}
 use Rattle.std.specs.Option.{option_map}
@@ -57,7 +58,8 @@ word_in OpensPuts = None
 word_in OpensNames = None
 
 -- a word is its own Encoding
-pub word_start : (d : Dialect) (w bytes rest : List ℕ) → AtFront (encoding_start d) bytes (Whole w, rest) → (text : List ℕ) × (bytes ≡ text ++ rest) × (encoding_word d).Spells w text rest
+pub word_start : (d : Dialect) (w bytes rest : List ℕ) → AtFront (encoding_start d) bytes (Whole w, rest) →
+    (text : List ℕ) × (bytes ≡ text ++ rest) × (encoding_word d).Spells w text rest
 unfolding encoding_start
 word_start d w bytes rest a = elim a.2 [
   | inl t ↦
@@ -86,14 +88,16 @@ word_ends d w text rest bytes s b =
     let flat : s.1 ++ (s.5.1 ++ (g.1 ++ (r.1 ++ k.1))) ≡ front ++ k.1 = simp append_assoc in
     def_ends k.0 text front k.1 rest bytes own (parts ∙ flat) b
 
-close_ends : (d : Dialect) (closing text rest : List ℕ) (front bytes : List ℕ) → (encoding_end d).Spells closing text rest → bytes ≡ (front ++ text) ++ rest → IsEnded bytes rest
+close_ends : (d : Dialect) (closing text rest : List ℕ) (front bytes : List ℕ) →
+    (encoding_end d).Spells closing text rest → bytes ≡ (front ++ text) ++ rest → IsEnded bytes rest
 unfolding encoding_end
 close_ends d closing text rest front bytes s b =
     let parts : front ++ text ≡ front ++ (s.1 ++ (s.5.1 ++ s.5.2)) = λ i. front ++ (s.3 ∙ (λ j. s.1 ++ s.5.3 j)) i in
     let flat : front ++ (s.1 ++ (s.5.1 ++ s.5.2)) ≡ (front ++ (s.1 ++ s.5.1)) ++ s.5.2 = simp append_assoc in
     def_ends closing (front ++ text) (front ++ (s.1 ++ s.5.1)) s.5.2 rest bytes s.5.5 (parts ∙ flat) b
 
-array_ends : (d : Dialect) (closing text rest : List ℕ) (front bytes : List ℕ) → (array_end d).Spells closing text rest → bytes ≡ (front ++ text) ++ rest → IsEnded bytes rest
+array_ends : (d : Dialect) (closing text rest : List ℕ) (front bytes : List ℕ) →
+    (array_end d).Spells closing text rest → bytes ≡ (front ++ text) ++ rest → IsEnded bytes rest
 unfolding array_end
 array_ends d closing text rest front bytes s b =
     let parts : front ++ text ≡ front ++ (s.1 ++ (s.5.1 ++ s.5.2)) = λ i. front ++ (s.3 ∙ (λ j. s.1 ++ s.5.3 j)) i in
@@ -101,7 +105,8 @@ array_ends d closing text rest front bytes s b =
     close_ends d closing s.5.2 rest (front ++ (s.1 ++ s.5.1)) bytes s.5.5 (b ∙ ap (λ (u : List ℕ). u ++ rest) (parts ∙ flat))
 
 -- what opens the entries, the entries, their close and a rest
-table_parts : (opening entries closing rest bytes behind : List ℕ) → bytes ≡ opening ++ behind → behind ≡ (entries ++ closing) ++ rest → bytes ≡ ((opening ++ entries) ++ closing) ++ rest
+table_parts : (opening entries closing rest bytes behind : List ℕ) → bytes ≡ opening ++ behind → behind ≡ (entries ++ closing) ++ rest →
+    bytes ≡ ((opening ++ entries) ++ closing) ++ rest
 table_parts opening entries closing rest bytes behind b e = b ∙ (ap (λ (u : List ℕ). opening ++ u) e ∙ simp append_assoc)
 
 -- an Encoding ends with `def`
@@ -137,8 +142,10 @@ puts_value puts all = λ c n e.
     record { code = here.code; name = here.name; put = found.1 }
 
 -- the bytes of entries, behind what opens them
-entries_bytes : (opening behind text entries closing rest bytes : List ℕ) → bytes ≡ opening ++ behind → behind ≡ text ++ rest → text ≡ entries ++ closing → AreBytes bytes → AreBytes entries
-entries_bytes opening behind text entries closing rest bytes b e t h = (parts_bytes text entries closing t (parts_bytes behind text rest e (parts_bytes bytes opening behind b h).1).0).0
+entries_bytes : (opening behind text entries closing rest bytes : List ℕ) → bytes ≡ opening ++ behind →
+    behind ≡ text ++ rest → text ≡ entries ++ closing → AreBytes bytes → AreBytes entries
+entries_bytes opening behind text entries closing rest bytes b e t h =
+    (parts_bytes text entries closing t (parts_bytes behind text rest e (parts_bytes bytes opening behind b h).1).0).0
 
 -- up to 256 names at the codes of their places
 array_puts : (c : ℕ) (names : List (List ℕ)) → AllByRecursion (IsWord 127) names → c + length names ≤ 256 → AllByRecursion IsReadPut (from_code c names)
@@ -155,22 +162,32 @@ encoding_of d (Puts puts) bytes rest (inl s) h =
     puts_value puts (subst (AllByRecursion IsReadPut) (sym s.3) (puts_are [] s.0 tt all))
 encoding_of d (Puts puts) bytes rest (inr s) h =
     let t = s.5.2.1 in
-    let all : AllByRecursion (IsWord 127) s.0 = entries_have (next_name d) (IsWord 127) (next_name_of d) s.0 t.0 (t.1 ++ rest) t.3 (entries_bytes s.4.0 s.1 s.5.0 t.0 t.1 rest bytes s.4.1 s.5.1 t.2 h) in
+    let all : AllByRecursion (IsWord 127) s.0 = entries_have (next_name d) (IsWord 127) (next_name_of d) s.0 t.0
+    (t.1 ++ rest) t.3 (entries_bytes s.4.0 s.1 s.5.0 t.0 t.1 rest bytes s.4.1 s.5.1 t.2 h) in
     puts_value puts (subst (AllByRecursion IsReadPut) (sym s.3) (array_puts 0 s.0 all (omega (arith, s.5.2.0))))
 
 -- ---- the clear text ends with the first marker
 
-gap_read : (between rest : List ℕ) → AllByRecursion (λ b. is_white b ≡ true) between → has_bytes between ≡ true → Stops is_white rest → gap.read (between ++ rest) ≡ Some (between, rest)
+gap_read : (between rest : List ℕ) → AllByRecursion (λ b. is_white b ≡ true) between → has_bytes between ≡ true → Stops is_white rest →
+    gap.read (between ++ rest) ≡ Some (between, rest)
 unfolding gap
 gap_read between rest w h s = that_read has_bytes white (between ++ rest) between rest (run_read is_white between rest w s) h
 
 marker_read : (own after v : List ℕ) → IsMarker own after → blank_comes v ≡ true → eexec_marker.read (own ++ v) ≡ Some (own, v)
 unfolding eexec_marker
 marker_read own after v m b =
-    let whole : own ++ v ≡ codes "currentfile" ++ (m.between ++ (codes "eexec" ++ v)) = ap (λ (u : List ℕ). u ++ v) m.parts ∙ (λ i. codes "currentfile" ++ append_assoc m.between (codes "eexec") v i) in
-    rw (whole, fixed_read (codes "currentfile") (m.between ++ (codes "eexec" ++ v)), gap_read m.between (codes "eexec" ++ v) m.white m.some refl, fixed_read (codes "eexec") v, b) (ap (λ (u : List ℕ). Some (u, v)) (sym m.parts))
+    let whole : own ++ v ≡ codes "currentfile" ++ (m.between ++ (codes "eexec" ++ v)) =
+    ap (λ (u : List ℕ). u ++ v) m.parts ∙ (λ i. codes "currentfile" ++ append_assoc m.between (codes "eexec") v i) in
+    rw (
+      whole,
+      fixed_read (codes "currentfile") (m.between ++ (codes "eexec" ++ v)),
+      gap_read m.between (codes "eexec" ++ v) m.white m.some refl,
+      fixed_read (codes "eexec") v,
+      b,
+    ) (ap (λ (u : List ℕ). Some (u, v)) (sym m.parts))
 
-blank_moves : (z core u v : List ℕ) → 11 ≤ length core → blank_comes u ≡ true → blank_comes v ≡ true → NoneIn eexec_marker z (core ++ (codes "eexec" ++ u)) → NoneIn eexec_marker z (core ++ (codes "eexec" ++ v))
+blank_moves : (z core u v : List ℕ) → 11 ≤ length core → blank_comes u ≡ true → blank_comes v ≡ true → NoneIn eexec_marker z (core ++ (codes "eexec" ++ u)) →
+    NoneIn eexec_marker z (core ++ (codes "eexec" ++ v))
 blank_moves [] core u v long h k none = tt
 blank_moves (b ∷ z) core u v long h k none =
     let y : List ℕ = b ∷ (z ++ core) in
@@ -190,7 +207,8 @@ core_parts own after u m = ap (λ (t : List ℕ). t ++ u) m.parts ∙ (λ i. cod
 line_moves : (z own after : List ℕ) → IsMarker own after → NoneIn eexec_marker z (own ++ after) → NoneIn eexec_marker z (own ++ 10 ∷ [])
 line_moves z own after m none =
     let core : List ℕ = codes "currentfile" ++ m.between in
-    subst (NoneIn eexec_marker z) (sym (core_parts own after (10 ∷ []) m)) (blank_moves z core after (10 ∷ []) (omega arith) m.blank refl (subst (NoneIn eexec_marker z) (core_parts own after after m) none))
+    subst (NoneIn eexec_marker z) (sym (core_parts own after (10 ∷ []) m))
+    (blank_moves z core after (10 ∷ []) (omega arith) m.blank refl (subst (NoneIn eexec_marker z) (core_parts own after after m) none))
 
 -- `def` doesn't end within the marker
 not_def : (s : List ℕ) (y : ℕ) (z : List ℕ) → codes "def" ≡ s ++ (y ∷ z) → y ≡ 99 → ⊥
@@ -207,15 +225,18 @@ not_within x front own after tail y z e o m =
       | inl s ↦ not_def s.0 y z s.2 first
       | inr s ↦
           let whole : own ≡ (s.0 ∷ s.1) ++ (codes "def" ++ tail) = o ∙ (ap (λ (u : List ℕ). u ++ tail) s.3 ∙ append_assoc (s.0 ∷ s.1) (codes "def") tail) in
-          let plain = plain_right (s.0 ∷ s.1) (codes "def" ++ tail) (subst (λ (u : List ℕ). AllByRecursion (λ b. is_plain b ≡ true) u) whole (marker_plain own after m)) in
+          let plain = plain_right (s.0 ∷ s.1) (codes "def" ++ tail)
+          (subst (λ (u : List ℕ). AllByRecursion (λ b. is_plain b ≡ true) u) whole (marker_plain own after m)) in
           true≢false (sym plain.0)
     ]
 
 -- the marker at the end of a clear text is the first of its tail
-pub tail_through : (x tail front own after : List ℕ) → (x ++ codes "def") ++ tail ≡ front ++ own → IsMarker own after → NoneIn eexec_marker front (own ++ after) → option_map (λ y. y.1) ((first eexec_marker).read (tail ++ 10 ∷ [])) ≡ Some (10 ∷ [])
+pub tail_through : (x tail front own after : List ℕ) → (x ++ codes "def") ++ tail ≡ front ++ own → IsMarker own after →
+    NoneIn eexec_marker front (own ++ after) → option_map (λ y. y.1) ((first eexec_marker).read (tail ++ 10 ∷ [])) ≡ Some (10 ∷ [])
 tail_through x tail front own after e m none = elim (meet (x ++ codes "def") tail front own e) [
   | inl s ↦
-      let inner : NoneIn eexec_marker s.0 (own ++ after) = NoneIn-right eexec_marker (x ++ codes "def") s.0 (own ++ after) (subst (λ (u : List ℕ). NoneIn eexec_marker u (own ++ after)) s.1 none) in
+      let inner : NoneIn eexec_marker s.0 (own ++ after) =
+      NoneIn-right eexec_marker (x ++ codes "def") s.0 (own ++ after) (subst (λ (u : List ℕ). NoneIn eexec_marker u (own ++ after)) s.1 none) in
       let found : first_at eexec_marker (s.0 ++ (own ++ 10 ∷ [])) ≡ Some ((s.0, own), 10 ∷ []) =
       first_behind eexec_marker s.0 (own ++ 10 ∷ []) own (10 ∷ []) (line_moves s.0 own after m inner) (marker_read own after (10 ∷ []) m refl) in
       let whole : tail ++ 10 ∷ [] ≡ s.0 ++ (own ++ 10 ∷ []) = ap (λ (u : List ℕ). u ++ 10 ∷ []) s.2 ∙ append_assoc s.0 own (10 ∷ []) in
@@ -224,13 +245,16 @@ tail_through x tail front own after e m none = elim (meet (x ++ codes "def") tai
 ]
 
 -- no marker of eexec stands in the head
-pub head_before : (head r front own after : List ℕ) → head ++ (47 ∷ r) ≡ front ++ own → IsMarker own after → NoneIn eexec_marker front (own ++ after) → NoMarker eexec_marker head
+pub head_before : (head r front own after : List ℕ) → head ++ (47 ∷ r) ≡ front ++ own →
+    IsMarker own after → NoneIn eexec_marker front (own ++ after) → NoMarker eexec_marker head
 head_before head r front own after e m none = elim (meet head (47 ∷ r) front own e) [
   | inl s ↦
-      let inner : NoneIn eexec_marker head (s.0 ++ (own ++ after)) = NoneIn-left eexec_marker head s.0 (own ++ after) (subst (λ (u : List ℕ). NoneIn eexec_marker u (own ++ after)) s.1 none) in
+      let inner : NoneIn eexec_marker head (s.0 ++ (own ++ after)) =
+      NoneIn-left eexec_marker head s.0 (own ++ after) (subst (λ (u : List ℕ). NoneIn eexec_marker u (own ++ after)) s.1 none) in
       let slash : s.0 ++ (own ++ after) ≡ 47 ∷ (r ++ after) = sym (append_assoc s.0 own after) ∙ ap (λ (u : List ℕ). u ++ after) (sym s.2) in
       eexec_moves head (r ++ after) [] (subst (NoneIn eexec_marker head) slash inner)
-  | inr s ↦ let plain = plain_right (s.0 ∷ s.1) (47 ∷ r) (subst (λ (u : List ℕ). AllByRecursion (λ b. is_plain b ≡ true) u) s.3 (marker_plain own after m)) in absurd (true≢false (sym plain.0))
+  | inr s ↦ let plain = plain_right (s.0 ∷ s.1) (47 ∷ r) (subst (λ (u : List ℕ). AllByRecursion (λ b. is_plain b ≡ true) u) s.3 (marker_plain own after m)) in
+      absurd (true≢false (sym plain.0))
 ]
 
 -- ---- the whole
@@ -258,8 +282,10 @@ clear_of d flat at clear cipher c p cut clear_is s h =
     let marker = marker_is cut.0.0.1 e.0 after e.2 in
     let place : length flat - length after ≡ at = ap (λ (x : ℕ × List ℕ). x.0) cut.2.2 in
     let through : clear ≡ front ++ e.0 = clear_is ∙ (before_last flat cut.1.0 after at cut.1.1 place ∙ e.1) in
-    let behind : clear ≡ c.head ++ (47 ∷ (slash.0 ++ s.after)) = s.marker.1 ∙ (ap (λ (u : List ℕ). u ++ s.after) (f.1 ∙ ap (λ (u : List ℕ). c.head ++ u) slash.1) ∙ append_assoc c.head (47 ∷ slash.0) s.after) in
-    let last : clear ≡ ((s.marker.0 ++ ends.body) ++ codes "def") ++ c.clear_tail = s.marker.1 ∙ (ap (λ (u : List ℕ). s.marker.0 ++ u) ends.parts ∙ grouped s.marker.0 ends.body (codes "def") c.clear_tail) in
+    let behind : clear ≡ c.head ++ (47 ∷ (slash.0 ++ s.after)) =
+    s.marker.1 ∙ (ap (λ (u : List ℕ). u ++ s.after) (f.1 ∙ ap (λ (u : List ℕ). c.head ++ u) slash.1) ∙ append_assoc c.head (47 ∷ slash.0) s.after) in
+    let last : clear ≡ ((s.marker.0 ++ ends.body) ++ codes "def") ++ c.clear_tail =
+    s.marker.1 ∙ (ap (λ (u : List ℕ). s.marker.0 ++ u) ends.parts ∙ grouped s.marker.0 ends.body (codes "def") c.clear_tail) in
     record {
       shell = record {
         head_encoding = encoding_moves c.head (slash.0 ++ s.after) [] (subst (λ (u : List ℕ). NoneIn encoding_marker c.head (u ++ s.after)) slash.1 f.3);

@@ -45,10 +45,16 @@ pub name_of : (n text rest : List ℕ) → name.Spells n text rest → AreBytes 
 unfolding name
 name_of n text rest s h =
     let both = and_parts (leb 1 (length n)) (leb (length n) 127) s.5.1 in
-    record { regular = s.5.0.1; some = leb-true 1 (length n) both.0; few = leb-true (length n) 127 both.1; bytes = subst AreBytes s.5.0.0 (parts_bytes text s.1 s.2 s.3 h).1 }
+    record {
+      regular = s.5.0.1;
+      some = leb-true 1 (length n) both.0;
+      few = leb-true (length n) 127 both.1;
+      bytes = subst AreBytes s.5.0.0 (parts_bytes text s.1 s.2 s.3 h).1;
+    }
 
 -- the end of a phrase in bytes is bytes
-after_bytes : (test : List ℕ → Bool) (access : Bool) (first p text rest : List ℕ) → (phrase_after test access first).Spells p text rest → AreBytes first → AreBytes text → AreBytes p
+after_bytes : (test : List ℕ → Bool) (access : Bool) (first p text rest : List ℕ) →
+    (phrase_after test access first).Spells p text rest → AreBytes first → AreBytes text → AreBytes p
 unfolding word
 after_bytes test false first p text rest s f h = subst AreBytes s.1 f
 after_bytes test true first p text rest s f h =
@@ -98,7 +104,8 @@ body_of iv body text rest s h =
 abbrev pub IsRead : {K : Type 0} → (K → Type 0) → ℕ → Entry K → Type 0
 IsRead IsKey iv e = IsKey e.key × IsBody iv e.body × AreBytes e.body.bytes
 
-entry_of : {K : Type 0} (key : Grammar K) (IsKey : K → Type 0) → ((k : K) (text rest : List ℕ) → key.Spells k text rest → AreBytes text → IsKey k) → (iv : ℕ) (e : Entry K) (text rest : List ℕ) → (entry key iv).Spells e text rest → AreBytes text → IsRead IsKey iv e
+entry_of : {K : Type 0} (key : Grammar K) (IsKey : K → Type 0) → ((k : K) (text rest : List ℕ) → key.Spells k text rest → AreBytes text → IsKey k) →
+    (iv : ℕ) (e : Entry K) (text rest : List ℕ) → (entry key iv).Spells e text rest → AreBytes text → IsRead IsKey iv e
 unfolding entry
 entry_of key IsKey key_is iv e text rest s h =
     let h1 = parts_bytes text s.1 s.2 s.3 h in
@@ -111,7 +118,8 @@ unfolding subr_key
 subr_key_of d declared i text rest s h = ltb-true i declared s.5.5.5.1
 
 -- a Subr that bytes spell is one of a font
-pub subr_of : (d : Dialect) (declared iv : ℕ) (e : Subr) (text rest : List ℕ) → (subr d declared iv).Spells e text rest → AreBytes text → IsRead (λ i. i < declared) iv e
+pub subr_of : (d : Dialect) (declared iv : ℕ) (e : Subr) (text rest : List ℕ) → (subr d declared iv).Spells e text rest → AreBytes text →
+    IsRead (λ i. i < declared) iv e
 subr_of d declared = entry_of (subr_key d declared) (λ i. i < declared) (subr_key_of d declared)
 
 -- a name behind white space that bytes spell is a name of a font
@@ -175,11 +183,12 @@ pub code_entry_of : (d : Dialect) (e : CodeEntry) (text rest : List ℕ) → (co
 code_entry_of Strict e text rest s h = put_of Strict e text rest s h
 code_entry_of Wide e text rest s h = elim s [
   | inl p ↦ put_of Wide e text rest p h
-  | inr p ↦ elim p.0 [ | inl q ↦ one_copy_of Wide e text rest q | inr q ↦ range_copy_of Wide e text rest q.0 ]
+  | inr p ↦ elim p.0 [ inl q ↦ one_copy_of Wide e text rest q | inr q ↦ range_copy_of Wide e text rest q.0 ]
 ]
 
 -- what holds of each entry holds of the last value of a key
-pub last_has : {K : Type 0} (R : K → K → Ordering) → IsAntisymmetric R → (P : K → List ℕ → Type 0) (es : List (K × List ℕ)) → AllByRecursion (λ e. P e.0 e.1) es → (q : K) (v : List ℕ) → last_value R q es ≡ Some v → P q v
+pub last_has : {K : Type 0} (R : K → K → Ordering) → IsAntisymmetric R → (P : K → List ℕ → Type 0) (es : List (K × List ℕ)) →
+    AllByRecursion (λ e. P e.0 e.1) es → (q : K) (v : List ℕ) → last_value R q es ≡ Some v → P q v
 last_has R same P [] all q v h = Some_None (sym h)
 last_has R same P (e ∷ es) all q v h = by_rest (λ k. last_has R same P es all.1 q v k) (last_value R q es) refl h
   where
@@ -187,7 +196,8 @@ last_has R same P (e ∷ es) all q v h = by_rest (λ k. last_has R same P es all
     by_key true t k = subst (λ (x : List ℕ). P q x) (Some_same k) (subst (λ x. P x e.1) (sym (same q e.0 ((Equal-is (R q e.0)).0 t))) all.0)
     by_key false t k = Some_None (sym k)
 
-    by_rest : (last_value R q es ≡ Some v → P q v) → (o : Option (List ℕ)) → last_value R q es ≡ o → choice o (cond (is_eq (R q e.0)) (Some e.1) None) ≡ Some v → P q v
+    by_rest : (last_value R q es ≡ Some v → P q v) → (o : Option (List ℕ)) →
+        last_value R q es ≡ o → choice o (cond (is_eq (R q e.0)) (Some e.1) None) ≡ Some v → P q v
     by_rest again (Some x) k t = again (k ∙ t)
     by_rest again None k t = by_key (is_eq (R q e.0)) refl t
 
@@ -200,9 +210,12 @@ name_is : (puts : List (ℕ × List ℕ)) (c : ℕ) → AllByRecursion IsReadPut
 name_is puts c all = by_last (last_value nat_cmp c puts) refl
   where
     by_last : (o : Option (List ℕ)) → last_value nat_cmp c puts ≡ o → IsWord 127 (unwrap_or o notdef)
-    by_last None e = record { regular = (refl, (refl, (refl, (refl, (refl, (refl, (refl, tt))))))); some = omega arith; few = omega arith; bytes = notdef_bytes }
+    by_last None e =
+        record { regular = (refl, (refl, (refl, (refl, (refl, (refl, (refl, tt))))))); some = omega arith; few = omega arith; bytes = notdef_bytes }
     by_last (Some n) e = (last_has nat_cmp nat_cmp-IsAntisymmetric (λ c n. IsReadPut (c, n)) puts all c n e).name
-copied_are : (puts : List (ℕ × List ℕ)) (from count to : ℕ) → AllByRecursion IsReadPut puts → to + count ≤ 256 → AllByRecursion IsReadPut (copied puts from count to)
+
+copied_are : (puts : List (ℕ × List ℕ)) (from count to : ℕ) → AllByRecursion IsReadPut puts → to + count ≤ 256 →
+    AllByRecursion IsReadPut (copied puts from count to)
 copied_are puts from zero to all h = tt
 copied_are puts from (suc n) to all h =
     (record { code = omega (arith, h); name = name_is puts from all }, copied_are puts (suc from) n (suc to) all (omega (arith, h)))
@@ -211,7 +224,8 @@ put_is : (puts : List (ℕ × List ℕ)) (e : CodeEntry) → AllByRecursion IsRe
 put_is puts (Put c n) all h = (h, tt)
 put_is puts (Copy from count to) all h = copied_are puts from count to all h.1
 
-pub puts_are : (puts : List (ℕ × List ℕ)) (es : List CodeEntry) → AllByRecursion IsReadPut puts → AllByRecursion IsReadEntry es → AllByRecursion IsReadPut (puts_after puts es)
+pub puts_are : (puts : List (ℕ × List ℕ)) (es : List CodeEntry) → AllByRecursion IsReadPut puts → AllByRecursion IsReadEntry es →
+    AllByRecursion IsReadPut (puts_after puts es)
 puts_are puts [] all h = all
 puts_are puts (e ∷ es) all h = puts_are (puts ++ put_by puts e) es (all_of_both IsReadPut puts (put_by puts e) all (put_is puts e all h.0)) h.1
 
@@ -223,10 +237,13 @@ plain_fits iv b h bytes = record {
   bytes = drop_bytes iv (decrypted 4330 b.bytes) (decrypted_bytes b.bytes 4330 (omega arith) bytes);
 }
 
-all_fit : {K : Type 0} (IsKey : K → Type 0) (iv : ℕ) (es : List (Entry K)) → AllByRecursion (IsRead IsKey iv) es → AllByRecursion (λ e. IsKey e.0 × IsCharstring iv e.1) (plain_entries iv es)
+all_fit : {K : Type 0} (IsKey : K → Type 0) (iv : ℕ) (es : List (Entry K)) → AllByRecursion (IsRead IsKey iv) es →
+    AllByRecursion (λ e. IsKey e.0 × IsCharstring iv e.1) (plain_entries iv es)
 all_fit IsKey iv [] all = tt
 all_fit IsKey iv (e ∷ es) all = ((all.0.0, plain_fits iv e.body all.0.1 all.0.2), all_fit IsKey iv es all.1)
 
 -- so it is of each charstring in the map of such entries
-pub map_fits : {K : Type 0} {R : K → K → Ordering} → IsTotalOrder R → IsAntisymmetric R → (IsKey : K → Type 0) (iv : ℕ) (es : List (Entry K)) → AllByRecursion (IsRead IsKey iv) es → (k : K) (v : List ℕ) → get {R = R} (map_of (plain_entries iv es)) k ≡ Some v → IsKey k × IsCharstring iv v
-map_fits {R = R} o same IsKey iv es all k v e = last_has R same (λ k v. IsKey k × IsCharstring iv v) (plain_entries iv es) (all_fit IsKey iv es all) k v (sym (get-map_of o same (plain_entries iv es) k) ∙ e)
+pub map_fits : {K : Type 0} {R : K → K → Ordering} → IsTotalOrder R → IsAntisymmetric R → (IsKey : K → Type 0) (iv : ℕ) (es : List (Entry K)) →
+    AllByRecursion (IsRead IsKey iv) es → (k : K) (v : List ℕ) → get {R = R} (map_of (plain_entries iv es)) k ≡ Some v → IsKey k × IsCharstring iv v
+map_fits {R = R} o same IsKey iv es all k v e = last_has R same (λ k v. IsKey k × IsCharstring iv v)
+    (plain_entries iv es) (all_fit IsKey iv es all) k v (sym (get-map_of o same (plain_entries iv es) k) ∙ e)

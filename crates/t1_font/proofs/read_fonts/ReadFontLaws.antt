@@ -56,19 +56,22 @@ some_last (Some x) v = refl
 no_entries : (e : ℕ × List ℕ) (es : List (ℕ × List ℕ)) → last_entries nat_cmp (e ∷ es) ≡ [] → ⊥
 no_entries e es h =
     let found : last_value nat_cmp e.0 (e ∷ es) ≡ None = sym (find-last nat_cmp_total nat_cmp-IsAntisymmetric e.0 (e ∷ es)) ∙ ap (find nat_cmp e.0) h in
-    let there : last_value nat_cmp e.0 (e ∷ es) ≡ choice (last_value nat_cmp e.0 es) (Some e.1) = ap (λ r. choice (last_value nat_cmp e.0 es) (cond (is_eq r) (Some e.1) None)) (tied_itself nat_cmp_total e.0) in
+    let there : last_value nat_cmp e.0 (e ∷ es) ≡ choice (last_value nat_cmp e.0 es) (Some e.1) =
+    ap (λ r. choice (last_value nat_cmp e.0 es) (cond (is_eq r) (Some e.1) None)) (tied_itself nat_cmp_total e.0) in
     true≢false (sym (some_last (last_value nat_cmp e.0 es) e.1) ∙ ap is_some (sym there ∙ found))
 
 words_by : (l : List (ℕ × List ℕ)) (s : SubrsShell) → (l ≡ [] → ⊥) → IsWord 32 s.rd → IsPhrase true s.put → SubrWords l s
 words_by [] s some rd put = absurd (some refl)
 words_by (e ∷ es) s some rd put = (rd, put)
 
-words_of : (declared iv : ℕ) (closing : List ℕ) (es : List Subr) → AllByRecursion (IsRead (λ i. i < declared) iv) es → SubrWords (last_entries nat_cmp (plain_entries iv es)) (subrs_shell (record { declared = declared; entries = es; closing = closing }))
+words_of : (declared iv : ℕ) (closing : List ℕ) (es : List Subr) → AllByRecursion (IsRead (λ i. i < declared) iv) es →
+    SubrWords (last_entries nat_cmp (plain_entries iv es)) (subrs_shell (record { declared = declared; entries = es; closing = closing }))
 words_of declared iv closing [] all = (refl, refl)
 words_of declared iv closing (e ∷ es) all = words_by _ _ (no_entries (e.key, plain_of iv e.body.bytes) (plain_entries iv es)) all.0.1.rd all.0.1.phrase
 
 -- the Subrs that were read fit the shell that was read
-pub subrs_of_font : (c : ClearPieces) (p : PrivatePieces) (o : Option SubrsPieces) → IsReadSubrs p o → declared_count (option_map subrs_shell o) ≤ count_limit → SubrsFit (shell_of c p) (option_map subrs_shell o) (map_of (plain_entries p.len_iv (subrs_of o)))
+pub subrs_of_font : (c : ClearPieces) (p : PrivatePieces) (o : Option SubrsPieces) → IsReadSubrs p o → declared_count (option_map subrs_shell o) ≤ count_limit →
+    SubrsFit (shell_of c p) (option_map subrs_shell o) (map_of (plain_entries p.len_iv (subrs_of o)))
 subrs_of_font c p None h few = (entries-map_of nat_cmp_total nat_cmp-IsAntisymmetric [], h)
 subrs_of_font c p (Some x) h few =
     let has = map_fits nat_cmp_total nat_cmp-IsAntisymmetric (λ i. i < x.declared) p.len_iv x.entries h.0 in
@@ -76,18 +79,22 @@ subrs_of_font c p (Some x) h few =
       declared = few;
       below = λ i v e. (has i v e).0;
       bodies = λ i v e. (has i v e).1;
-      words = subst (λ (l : List (ℕ × List ℕ)). SubrWords l (subrs_shell x)) (sym (entries-map_of nat_cmp_total nat_cmp-IsAntisymmetric (plain_entries p.len_iv x.entries))) (words_of x.declared p.len_iv x.closing x.entries h.0);
+      words = subst (λ (l : List (ℕ × List ℕ)). SubrWords l (subrs_shell x))
+          (sym (entries-map_of nat_cmp_total nat_cmp-IsAntisymmetric (plain_entries p.len_iv x.entries)))
+          (words_of x.declared p.len_iv x.closing x.entries h.0);
       closing = h.1;
     }
 
 -- ---- the glyphs
 
-glyph_words : (iv : ℕ) (gs : List Glyph) → AllByRecursion (IsRead (IsWord 127) iv) gs → list_any (λ g. bytes_eq notdef g.key) gs ≡ true → IsWord 32 (of_first (λ g. g.body.rd) gs) × IsPhrase true (of_first (λ g. g.body.phrase) gs)
+glyph_words : (iv : ℕ) (gs : List Glyph) → AllByRecursion (IsRead (IsWord 127) iv) gs → list_any (λ g. bytes_eq notdef g.key) gs ≡ true →
+    IsWord 32 (of_first (λ g. g.body.rd) gs) × IsPhrase true (of_first (λ g. g.body.phrase) gs)
 glyph_words iv [] all some = absurd (true≢false (sym some))
 glyph_words iv (g ∷ gs) all some = (all.0.1.rd, all.0.1.phrase)
 
 -- the glyphs that were read are glyphs of a font
-pub glyphs_of_font : (c : ClearPieces) (p : PrivatePieces) → AllByRecursion (IsRead (IsWord 127) p.len_iv) p.glyphs → contains_key (font_of c p).glyphs notdef ≡ true → IsWithin (font_of c p) → AreGlyphs (shell_of c p) (map_of (glyph_entries p))
+pub glyphs_of_font : (c : ClearPieces) (p : PrivatePieces) → AllByRecursion (IsRead (IsWord 127) p.len_iv) p.glyphs →
+    contains_key (font_of c p).glyphs notdef ≡ true → IsWithin (font_of c p) → AreGlyphs (shell_of c p) (map_of (glyph_entries p))
 glyphs_of_font c p h some within =
     let has = map_fits nat_list_cmp_total name_same (IsWord 127) p.len_iv p.glyphs h in
     let words = glyph_words p.len_iv p.glyphs h (sym (notdef_is c p) ∙ some) in
@@ -153,7 +160,8 @@ cut_bytes flat at cipher s h =
 texts_bytes : (file clear text : List ℕ) → Texts file clear text → AreBytes file → AreBytes clear × AreBytes text
 texts_bytes file clear text s h =
     let both = cut_bytes s.flat s.at s.cipher s.split (flat_bytes file s.flat s.flat_is h) in
-    let plain = parts_bytes (decrypted 55665 s.cipher) s.lead text (decrypted-is (s.lead ++ text) s.cipher 55665 s.secret) (decrypted_bytes s.cipher 55665 (omega arith) both.1) in
+    let plain = parts_bytes (decrypted 55665 s.cipher) s.lead text
+    (decrypted-is (s.lead ++ text) s.cipher 55665 s.secret) (decrypted_bytes s.cipher 55665 (omega arith) both.1) in
     (subst AreBytes (sym s.clear_is) both.0, plain.1)
 
 -- what a file of bytes spells is a font
@@ -201,7 +209,8 @@ spelled_starts d file flat f flat_is s =
     let slash = encoding_slash m.0 c.after m.2 in
     let same : flat ≡ t.flat = one_flat.texts file flat t.flat flat_is t.flat_is in
     let clear : t.flat ≡ s.pieces.clear ++ rest = sym (take-append-drop t.at t.flat) ∙ ap (λ (u : List ℕ). u ++ rest) (sym t.clear_is) in
-    let behind : s.pieces.clear ≡ s.outside.head ++ (47 ∷ (slash.0 ++ c.after)) = c.marker.1 ∙ (ap (λ (u : List ℕ). u ++ c.after) (m.1 ∙ ap (λ (u : List ℕ). s.outside.head ++ u) slash.1) ∙ append_assoc s.outside.head (47 ∷ slash.0) c.after) in
+    let behind : s.pieces.clear ≡ s.outside.head ++ (47 ∷ (slash.0 ++ c.after)) = c.marker.1
+    ∙ (ap (λ (u : List ℕ). u ++ c.after) (m.1 ∙ ap (λ (u : List ℕ). s.outside.head ++ u) slash.1) ∙ append_assoc s.outside.head (47 ∷ slash.0) c.after) in
     let whole : flat ≡ s.outside.head ++ (47 ∷ ((slash.0 ++ c.after) ++ rest)) =
     same ∙ (clear ∙ (ap (λ (u : List ℕ). u ++ rest) behind ∙ append_assoc s.outside.head (47 ∷ (slash.0 ++ c.after)) rest)) in
     ap (λ (g : FontValue). starts_segment g.shell.head) s.value ∙ (starts_head s.outside.head ((slash.0 ++ c.after) ++ rest) ∙ ap starts_segment (sym whole))

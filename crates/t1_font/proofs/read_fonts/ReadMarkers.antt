@@ -14,7 +14,8 @@ use Rattle.t1_font.specs.IsFont.{NoMarker}
 -- ---- two divisions of a text
 
 -- the first of two parts ends within the other, or goes beyond it
-pub meet : (a b c d : List ℕ) → a ++ b ≡ c ++ d → ((z : List ℕ) × (c ≡ a ++ z) × (b ≡ z ++ d)) ⊎ ((x : ℕ) × (z : List ℕ) × (a ≡ c ++ (x ∷ z)) × (d ≡ x ∷ (z ++ b)))
+pub meet : (a b c d : List ℕ) → a ++ b ≡ c ++ d →
+    ((z : List ℕ) × (c ≡ a ++ z) × (b ≡ z ++ d)) ⊎ ((x : ℕ) × (z : List ℕ) × (a ≡ c ++ (x ∷ z)) × (d ≡ x ∷ (z ++ b)))
 meet [] b c d e = inl (c, refl, e)
 meet (x ∷ a) b [] d e = inr (x, a, refl, sym e)
 meet (x ∷ a) b (y ∷ c) d e =
@@ -43,7 +44,8 @@ lacks_none g [] lacks = tt
 lacks_none g (b ∷ bs) lacks = (subst (λ (u : List ℕ). NotAtFront g (b ∷ u)) (sym (append-nil bs)) (lacks 0), lacks_none g bs (λ k. lacks (suc k)))
 
 -- no marker stands in a text, if none does in one that is at least as long, and a slash stands behind it
-pub before_slash : {A : Type 0} (g : Grammar A) → ((front r s : List ℕ) → NoneIn g front (47 ∷ r) → NoneIn g front (47 ∷ s)) → (a m b c : List ℕ) → a ++ (47 ∷ m) ≡ b ++ c → length a ≤ length b → NoneIn g b c → NoMarker g a
+pub before_slash : {A : Type 0} (g : Grammar A) → ((front r s : List ℕ) → NoneIn g front (47 ∷ r) → NoneIn g front (47 ∷ s)) →
+    (a m b c : List ℕ) → a ++ (47 ∷ m) ≡ b ++ c → length a ≤ length b → NoneIn g b c → NoMarker g a
 before_slash g moves a m b c e long none = elim (meet a (47 ∷ m) b c e) [
   | inl s ↦
       let inner : NoneIn g a (s.0 ++ c) = NoneIn-left g a s.0 c (subst (λ (u : List ℕ). NoneIn g u c) s.1 none) in
@@ -138,5 +140,6 @@ plain_right (x ∷ a) b h = plain_right a b h.1
 
 -- the marker of eexec is such a text
 pub marker_plain : (own after : List ℕ) → IsMarker own after → ArePlain own
-marker_plain own after m = subst ArePlain (sym m.parts) (plain_both (codes "currentfile") (m.between ++ codes "eexec") (refl, (refl, (refl, (refl, (refl, (refl, (refl, (refl, (refl, (refl, (refl, tt)))))))))))
+marker_plain own after m = subst ArePlain (sym m.parts) (plain_both (codes "currentfile") (m.between ++ codes "eexec")
+    (refl, (refl, (refl, (refl, (refl, (refl, (refl, (refl, (refl, (refl, (refl, tt)))))))))))
     (plain_both m.between (codes "eexec") (whites_plain m.between m.white) (refl, (refl, (refl, (refl, (refl, tt)))))))

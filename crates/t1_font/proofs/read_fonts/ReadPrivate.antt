@@ -25,7 +25,8 @@ pub stops_front : (a b : List ℕ) → Stops is_regular (a ++ b) → Stops is_re
 stops_front [] b s = tt
 stops_front (x ∷ a) b s = s
 
-after_stops : (test : List ℕ → Bool) (access : Bool) (first p front text rest : List ℕ) → (phrase_after test access first).Spells p text rest → Stops is_regular (text ++ rest) → Stops is_regular rest
+after_stops : (test : List ℕ → Bool) (access : Bool) (first p front text rest : List ℕ) →
+    (phrase_after test access first).Spells p text rest → Stops is_regular (text ++ rest) → Stops is_regular rest
 unfolding word
 after_stops test false first p front text rest s k = subst (λ (u : List ℕ). Stops is_regular (u ++ rest)) s.0 k
 after_stops test true first p front text rest s k =
@@ -52,8 +53,10 @@ closing_is d p text rest s h = phrase_is false p s.2 rest s.5 (parts_bytes text 
 -- ---- where the tables begin
 
 -- the text before a marker and behind it
-found_parts : (bytes front own own_text after r : List ℕ) → bytes ≡ own_text ++ after → own_text ≡ front ++ own → own ≡ 47 ∷ r → bytes ≡ front ++ (47 ∷ (r ++ after))
-found_parts bytes front own own_text after r e f k = e ∙ (ap (λ (u : List ℕ). u ++ after) (f ∙ ap (λ (u : List ℕ). front ++ u) k) ∙ append_assoc front (47 ∷ r) after)
+found_parts : (bytes front own own_text after r : List ℕ) → bytes ≡ own_text ++ after → own_text ≡ front ++ own → own ≡ 47 ∷ r →
+    bytes ≡ front ++ (47 ∷ (r ++ after))
+found_parts bytes front own own_text after r e f k =
+    e ∙ (ap (λ (u : List ℕ). u ++ after) (f ∙ ap (λ (u : List ℕ). front ++ u) k) ∙ append_assoc front (47 ∷ r) after)
 
 -- text, without the markers of tables in front of it
 pub record IsStarted (text private rest : List ℕ) : Type 0 where
@@ -63,10 +66,12 @@ pub record IsStarted (text private rest : List ℕ) : Type 0 where
   pub parts : text ≡ private ++ (before ++ rest)
 
 not_before : (text private m : List ℕ) → text ≡ private ++ (47 ∷ m) → NotBefore text (length private) → NoMarker subrs_marker private
-not_before text private m e (nowhere lacks) = before_slash subrs_marker subrs_moves private m text [] (sym e ∙ sym (append-nil text)) (omega (arith, ap length e, length-append private (47 ∷ m))) (lacks_none subrs_marker text lacks)
+not_before text private m e (nowhere lacks) = before_slash subrs_marker subrs_moves private m text []
+    (sym e ∙ sym (append-nil text)) (omega (arith, ap length e, length-append private (47 ∷ m))) (lacks_none subrs_marker text lacks)
 not_before text private m e (later front declared after s long) =
     let t = s.2 in
-    before_slash subrs_marker subrs_moves private m front (t.0 ++ after) (sym e ∙ (s.1 ∙ (ap (λ (u : List ℕ). u ++ after) t.1 ∙ append_assoc front t.0 after))) long t.3
+    before_slash subrs_marker subrs_moves private m front (t.0 ++ after)
+    (sym e ∙ (s.1 ∙ (ap (λ (u : List ℕ). u ++ after) t.1 ∙ append_assoc front t.0 after))) long t.3
 
 -- no marker of tables stands before the one that was read
 pub started : (text private : List ℕ) (declared : Option ℕ) (rest : List ℕ) → Start text private declared rest → IsStarted text private rest
@@ -103,7 +108,8 @@ pub record IsReadTable (declared iv : ℕ) (es : List Subr) (last between : List
   pub bytes : AreBytes between
 
 -- a table of Subrs in bytes is one of a font
-table_of : (d : Dialect) (declared iv : ℕ) (es : List Subr) (closing bytes between : List ℕ) → TableAt (subr d declared iv) (subrs_end d) es closing bytes between → AreBytes bytes → IsReadTable declared iv es closing between
+table_of : (d : Dialect) (declared iv : ℕ) (es : List Subr) (closing bytes between : List ℕ) →
+    TableAt (subr d declared iv) (subrs_end d) es closing bytes between → AreBytes bytes → IsReadTable declared iv es closing between
 table_of d declared iv es closing bytes between s h =
     let a = parts_bytes bytes s.0 between s.1 h in
     let b = parts_bytes s.0 s.2.0 s.2.1 s.2.2 a.0 in
@@ -130,7 +136,8 @@ IsReadSubrs p None = p.middle ≡ []
 IsReadSubrs p (Some s) = AllByRecursion (IsRead (λ i. i < s.declared) p.len_iv) s.entries × IsPhrase false s.closing
 
 -- what bytes spell up to the glyphs is that of a font
-pub middle_of : (d : Dialect) (text : List ℕ) (p : PrivatePieces) (o : Option SubrsPieces) (glyphs : List ℕ) → SpellsTables d text p o glyphs → AreBytes text → IsReadMiddle p o glyphs × IsReadSubrs p o
+pub middle_of : (d : Dialect) (text : List ℕ) (p : PrivatePieces) (o : Option SubrsPieces) (glyphs : List ℕ) → SpellsTables d text p o glyphs → AreBytes text →
+    IsReadMiddle p o glyphs × IsReadSubrs p o
 middle_of d text p None glyphs s h =
     let a = started text p.private None glyphs s.0 in
     let b = parts_bytes text p.private (a.before ++ glyphs) a.parts h in (

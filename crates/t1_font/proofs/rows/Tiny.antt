@@ -12,18 +12,21 @@ lines (l ∷ ls) = l ++ (10 ∷ lines ls)
 -- ---- the kept texts
 
 abbrev pub head : List ℕ
-head = lines (codes "%!FontType1-1.0: Tiny 001.001" ∷ codes "11 dict begin" ∷ codes "/FontName /Tiny def" ∷ codes "/FontType 1 def" ∷ codes "/PaintType 0 def" ∷ codes "/FontMatrix [0.001 0 0 0.001 0 0] def" ∷ [])
+head = lines (codes "%!FontType1-1.0: Tiny 001.001" ∷ codes "11 dict begin" ∷ codes "/FontName /Tiny def"
+    ∷ codes "/FontType 1 def" ∷ codes "/PaintType 0 def" ∷ codes "/FontMatrix [0.001 0 0 0.001 0 0] def" ∷ [])
 
 abbrev pub clear_tail : List ℕ
 clear_tail = 10 ∷ (lines (codes "/FontBBox {0 0 500 700} def" ∷ codes "currentdict end" ∷ []) ++ codes "currentfile eexec")
 
 abbrev pub private_lines : List (List ℕ)
 private_lines =
-    codes "dup /Private 9 dict dup begin" ∷ codes "/RD {string currentfile exch readstring pop} executeonly def" ∷ codes "/ND {noaccess def} executeonly def" ∷ codes "/NP {noaccess put} executeonly def"
+    codes "dup /Private 9 dict dup begin" ∷ codes "/RD {string currentfile exch readstring pop} executeonly def"
+    ∷ codes "/ND {noaccess def} executeonly def" ∷ codes "/NP {noaccess put} executeonly def"
     ∷ codes "/BlueValues [] def" ∷ codes "/MinFeature {16 16} def" ∷ codes "/password 5839 def" ∷ codes "/OtherSubrs [{} {} {} {}] def" ∷ []
 
 abbrev pub tail : List ℕ
-tail = 10 ∷ (lines (codes "end" ∷ codes "readonly put" ∷ codes "noaccess put" ∷ codes "dup /FontName get exch definefont pop" ∷ []) ++ codes "mark currentfile closefile")
+tail = 10 ∷ (lines (codes "end" ∷ codes "readonly put" ∷ codes "noaccess put" ∷ codes "dup /FontName get exch definefont pop" ∷ [])
+    ++ codes "mark currentfile closefile")
 
 abbrev pub shell : Shell
 shell = record {
@@ -78,7 +81,12 @@ glyphs =
     ∷ (codes "A", 0x8B ∷ 0xF8 ∷ 0x88 ∷ 0x0D ∷ 0x8B ∷ 0x16 ∷ 0x91 ∷ 0x0A ∷ 0x09 ∷ 0x0E ∷ [])
     ∷ (codes "Aacute", composed 0xCC)
     ∷ (codes "B", composed 0xCC)
-    ∷ (codes "F", 0x8B ∷ 0xF8 ∷ 0x88 ∷ 0x0D ∷ 0xEF ∷ 0x16 ∷ 0x8C ∷ 0x0A ∷ 0xBD ∷ 0x16 ∷ 0x8D ∷ 0x0A ∷ 0x63 ∷ 0x16 ∷ 0x8D ∷ 0x0A ∷ 0x9F ∷ 0x90 ∷ 0x15 ∷ 0x8D ∷ 0x0A ∷ 0x9F ∷ 0x16 ∷ 0x8D ∷ 0x0A ∷ 0x9F ∷ 0x16 ∷ 0x8D ∷ 0x0A ∷ 0x9F ∷ 0x86 ∷ 0x15 ∷ 0x8D ∷ 0x0A ∷ 0x95 ∷ 0x16 ∷ 0x8D ∷ 0x0A ∷ 0xBD ∷ 0xF7 ∷ 0x5C ∷ 0x8B ∷ 0x8B ∷ 0x0A ∷ 0x09 ∷ 0x0E ∷ [])
+    ∷ (
+      codes "F",
+      0x8B ∷ 0xF8 ∷ 0x88 ∷ 0x0D ∷ 0xEF ∷ 0x16 ∷ 0x8C ∷ 0x0A ∷ 0xBD ∷ 0x16 ∷ 0x8D ∷ 0x0A ∷ 0x63 ∷ 0x16 ∷ 0x8D
+          ∷ 0x0A ∷ 0x9F ∷ 0x90 ∷ 0x15 ∷ 0x8D ∷ 0x0A ∷ 0x9F ∷ 0x16 ∷ 0x8D ∷ 0x0A ∷ 0x9F ∷ 0x16 ∷ 0x8D ∷ 0x0A ∷ 0x9F ∷ 0x86
+          ∷ 0x15 ∷ 0x8D ∷ 0x0A ∷ 0x95 ∷ 0x16 ∷ 0x8D ∷ 0x0A ∷ 0xBD ∷ 0xF7 ∷ 0x5C ∷ 0x8B ∷ 0x8B ∷ 0x0A ∷ 0x09 ∷ 0x0E ∷ [],
+    )
     ∷ (codes "H", 0x8B ∷ 0xF8 ∷ 0x88 ∷ 0x0D ∷ 0x8B ∷ 0x9F ∷ 0x01 ∷ 0x92 ∷ 0x8F ∷ 0x0A ∷ 0x0E ∷ [])
     ∷ (codes "L", 0x8B ∷ 0xF8 ∷ 0x88 ∷ 0x0D ∷ 0x94 ∷ 0x0A ∷ 0x0E ∷ [])
     ∷ (codes "N", composed 0xCD)
@@ -143,7 +151,9 @@ more_glyphs =
     glyph_line (codes "/A 14") (0x8B ∷ 0xF8 ∷ 0x88 ∷ 0x0D ∷ 0x8B ∷ 0x16 ∷ 0x91 ∷ 0x0A ∷ 0x09 ∷ 0x0E ∷ [])
     ∷ glyph_line (codes "/Aacute 18") (composed 0xCC)
     ∷ glyph_line (codes "/B 18") (composed 0xCC)
-    ∷ glyph_line (codes "/F 50") (0x8B ∷ 0xF8 ∷ 0x88 ∷ 0x0D ∷ 0xEF ∷ 0x16 ∷ 0x8C ∷ 0x0A ∷ 0xBD ∷ 0x16 ∷ 0x8D ∷ 0x0A ∷ 0x63 ∷ 0x16 ∷ 0x8D ∷ 0x0A ∷ 0x9F ∷ 0x90 ∷ 0x15 ∷ 0x8D ∷ 0x0A ∷ 0x9F ∷ 0x16 ∷ 0x8D ∷ 0x0A ∷ 0x9F ∷ 0x16 ∷ 0x8D ∷ 0x0A ∷ 0x9F ∷ 0x86 ∷ 0x15 ∷ 0x8D ∷ 0x0A ∷ 0x95 ∷ 0x16 ∷ 0x8D ∷ 0x0A ∷ 0xBD ∷ 0xF7 ∷ 0x5C ∷ 0x8B ∷ 0x8B ∷ 0x0A ∷ 0x09 ∷ 0x0E ∷ [])
+    ∷ glyph_line (codes "/F 50") (0x8B ∷ 0xF8 ∷ 0x88 ∷ 0x0D ∷ 0xEF ∷ 0x16 ∷ 0x8C ∷ 0x0A ∷ 0xBD ∷ 0x16 ∷ 0x8D ∷ 0x0A ∷ 0x63
+    ∷ 0x16 ∷ 0x8D ∷ 0x0A ∷ 0x9F ∷ 0x90 ∷ 0x15 ∷ 0x8D ∷ 0x0A ∷ 0x9F ∷ 0x16 ∷ 0x8D ∷ 0x0A ∷ 0x9F ∷ 0x16 ∷ 0x8D ∷ 0x0A ∷ 0x9F
+    ∷ 0x86 ∷ 0x15 ∷ 0x8D ∷ 0x0A ∷ 0x95 ∷ 0x16 ∷ 0x8D ∷ 0x0A ∷ 0xBD ∷ 0xF7 ∷ 0x5C ∷ 0x8B ∷ 0x8B ∷ 0x0A ∷ 0x09 ∷ 0x0E ∷ [])
     ∷ glyph_line (codes "/H 15") (0x8B ∷ 0xF8 ∷ 0x88 ∷ 0x0D ∷ 0x8B ∷ 0x9F ∷ 0x01 ∷ 0x92 ∷ 0x8F ∷ 0x0A ∷ 0x0E ∷ [])
     ∷ glyph_line (codes "/L 11") (0x8B ∷ 0xF8 ∷ 0x88 ∷ 0x0D ∷ 0x94 ∷ 0x0A ∷ 0x0E ∷ [])
     ∷ glyph_line (codes "/N 18") (composed 0xCD)
@@ -154,7 +164,8 @@ more_glyphs =
 
 -- these lines before the tables, the line of Subrs, its entries, what stands before the marker of glyphs, its count, the entries of glyphs
 abbrev pub private_with : List (List ℕ) → List ℕ → List (List ℕ) → List ℕ → List ℕ → List (List ℕ) → List ℕ
-private_with before array subrs middle count glyphs = lines before ++ (lines (array ∷ subrs) ++ (lines (codes "ND" ∷ []) ++ (middle ++ (codes "2 index /CharStrings " ++ (count ++ (codes " dict dup begin" ++ (10 ∷ (lines glyphs ++ (codes "end" ++ (tail ++ 10 ∷ []))))))))))
+private_with before array subrs middle count glyphs = lines before ++ (lines (array ∷ subrs) ++ (lines (codes "ND" ∷ [])
+    ++ (middle ++ (codes "2 index /CharStrings " ++ (count ++ (codes " dict dup begin" ++ (10 ∷ (lines glyphs ++ (codes "end" ++ (tail ++ 10 ∷ []))))))))))
 
 abbrev pub private_text : List ℕ
 private_text = private_with private_lines (codes "/Subrs 10 array") (first_subr ∷ more_subrs) [] (codes "11") (first_glyph ∷ more_glyphs)

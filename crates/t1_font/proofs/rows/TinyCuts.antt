@@ -22,7 +22,8 @@ use Rattle.t1_font.proofs.MapLemmas.{entries-map_values}
 use Rattle.t1_font.proofs.canonical.FontAgain.{name_same}
 use Rattle.t1_font.proofs.CutEntries.{entries-retain, entries-retain_values, entries-merged}
 use Rattle.t1_font.proofs.rows.TinyNumbers.{n0, n1, n2, n3, n4, n5, n6, n7, n8, n9, n10, n15, n16, n19, n65, n66}
-use Rattle.t1_font.proofs.rows.Tiny.{lines, head, clear_tail, shell, puts, subrs, glyphs, tiny, glyph_X, glyph_Y, encoding_head, private_lines, subr_line, glyph_line, first_subr, more_subrs, first_glyph, private_with}
+use Rattle.t1_font.proofs.rows.Tiny.{lines, head, clear_tail, shell, puts, subrs, glyphs, tiny, glyph_X, glyph_Y, encoding_head}
+use Rattle.t1_font.proofs.rows.Tiny.{private_lines, subr_line, glyph_line, first_subr, more_subrs, first_glyph, private_with}
 
 -- ---- the entries of cuts
 
@@ -37,7 +38,8 @@ cut_puts names = filter (λ e. names e.1) puts
 
 module _ (names : List ℕ → Bool) (kept : ℕ → Bool) where
   subrs_are : entries (restrict names kept tiny).subrs ≡ cut_subrs kept
-  subrs_are = entries-map_values nat_cmp_total nat_cmp-IsAntisymmetric (λ i c. cond (kept i) c stub) tiny.subrs ∙ ap (map (λ e. (e.0, cond (kept e.0) e.1 stub))) (entries-from_sorted nat_cmp subrs tt)
+  subrs_are = entries-map_values nat_cmp_total nat_cmp-IsAntisymmetric (λ i c. cond (kept i) c stub) tiny.subrs
+      ∙ ap (map (λ e. (e.0, cond (kept e.0) e.1 stub))) (entries-from_sorted nat_cmp subrs tt)
 
   glyphs_are : entries (restrict names kept tiny).glyphs ≡ cut_glyphs names
   glyphs_are = entries-retain nat_list_cmp_total name_same tiny.glyphs names ∙ ap (filter (λ e. names e.0)) (entries-from_sorted name_cmp glyphs tt)
@@ -51,7 +53,8 @@ code_map names = retain_keys (from_sorted puts) (λ c. names (unwrap_or (get {R 
 
 codes_are : (names : List ℕ → Bool) → entries (code_map names) ≡ cut_puts names
 unfolding code_map
-codes_are names = entries-retain_values nat_cmp_total nat_cmp-IsAntisymmetric (from_sorted puts) names [] ∙ ap (filter (λ e. names e.1)) (entries-from_sorted nat_cmp puts tt)
+codes_are names =
+    entries-retain_values nat_cmp_total nat_cmp-IsAntisymmetric (from_sorted puts) names [] ∙ ap (filter (λ e. names e.1)) (entries-from_sorted nat_cmp puts tt)
 
 -- ---- sets of names and of Subrs
 
@@ -101,7 +104,8 @@ codes_of_X = codes_are is_X ∙ refl
 -- ---- joins
 
 -- two cuts join to a third one, if the lists of their entries do
-join_is : (a b c : List ℕ → Bool) (i j k : ℕ → Bool) → map (λ e. (e.0, joined_subr e.1 (find nat_cmp e.0 (cut_subrs j)))) (cut_subrs i) ≡ cut_subrs k → last_entries name_cmp (cut_glyphs b ++ cut_glyphs a) ≡ cut_glyphs c → last_entries nat_cmp (cut_puts b ++ cut_puts a) ≡ cut_puts c
+join_is : (a b c : List ℕ → Bool) (i j k : ℕ → Bool) → map (λ e. (e.0, joined_subr e.1 (find nat_cmp e.0 (cut_subrs j)))) (cut_subrs i) ≡ cut_subrs k →
+    last_entries name_cmp (cut_glyphs b ++ cut_glyphs a) ≡ cut_glyphs c → last_entries nat_cmp (cut_puts b ++ cut_puts a) ≡ cut_puts c
     → join_parts (restrict a i tiny) (restrict b j tiny) ≡ restrict c k tiny
 unfolding code_map
 join_is a b c i j k s g p =
@@ -110,9 +114,12 @@ join_is a b c i j k s g p =
     let t = restrict c k tiny in
     let subrs_same : map_values (λ n x. joined_subr x (get h.subrs n)) f.subrs ≡ t.subrs = same_entries_map _ _
     (entries-map_values nat_cmp_total nat_cmp-IsAntisymmetric (λ n x. joined_subr x (get h.subrs n)) f.subrs
-    ∙ ((λ d. map (λ e. (e.0, joined_subr e.1 ((get-entries h.subrs e.0 ∙ ap (find nat_cmp e.0) (subrs_are b j)) d))) (subrs_are a i d)) ∙ (s ∙ sym (subrs_are c k)))) in
-    let glyphs_same : merged f.glyphs h.glyphs ≡ t.glyphs = same_entries_map _ _ (entries-merged nat_list_cmp_total name_same f.glyphs h.glyphs ∙ ((λ d. last_entries name_cmp (glyphs_are b j d ++ glyphs_are a i d)) ∙ (g ∙ sym (glyphs_are c k)))) in
-    let codes_same : merged (code_map a) (code_map b) ≡ code_map c = same_entries_map _ _ (entries-merged nat_cmp_total nat_cmp-IsAntisymmetric (code_map a) (code_map b) ∙ ((λ d. last_entries nat_cmp (codes_are b d ++ codes_are a d)) ∙ (p ∙ sym (codes_are c)))) in
+    ∙ ((λ d. map (λ e. (e.0, joined_subr e.1 ((get-entries h.subrs e.0 ∙ ap (find nat_cmp e.0) (subrs_are b j)) d))) (subrs_are a i d))
+    ∙ (s ∙ sym (subrs_are c k)))) in
+    let glyphs_same : merged f.glyphs h.glyphs ≡ t.glyphs = same_entries_map _ _ (entries-merged nat_list_cmp_total name_same f.glyphs h.glyphs
+    ∙ ((λ d. last_entries name_cmp (glyphs_are b j d ++ glyphs_are a i d)) ∙ (g ∙ sym (glyphs_are c k)))) in
+    let codes_same : merged (code_map a) (code_map b) ≡ code_map c = same_entries_map _ _ (entries-merged nat_cmp_total nat_cmp-IsAntisymmetric
+    (code_map a) (code_map b) ∙ ((λ d. last_entries nat_cmp (codes_are b d ++ codes_are a d)) ∙ (p ∙ sym (codes_are c)))) in
     λ d. record { shell = shell; encoding = Codes (codes_same d); subrs = subrs_same d; glyphs = glyphs_same d }
 
 X_with_Y : join_parts (restrict is_X and_five tiny) (restrict is_Y and_six tiny) ≡ restrict is_X_or_Y and_six tiny
@@ -124,16 +131,19 @@ Y_with_X = join_is is_Y is_X is_X_or_Y and_six and_five and_six refl refl refl
 -- ---- lengths
 
 -- a cut's canonical file, of the lists of its entries
-canon_is : (names : List ℕ → Bool) (kept : ℕ → Bool) (form : Form) → canon (restrict names kept tiny) form ≡ file_text form (clear_written (outside_of shell (Puts (cut_puts names)))) (private_cipher (private_written (inside_of shell (cut_subrs kept) (cut_glyphs names))))
+canon_is : (names : List ℕ → Bool) (kept : ℕ → Bool) (form : Form) → canon (restrict names kept tiny) form ≡ file_text form
+    (clear_written (outside_of shell (Puts (cut_puts names)))) (private_cipher (private_written (inside_of shell (cut_subrs kept) (cut_glyphs names))))
 unfolding code_map
-canon_is names kept form = λ i. file_text form (clear_written (outside_of shell (Puts (codes_are names i)))) (private_cipher (private_written (inside_of shell (subrs_are names kept i) (glyphs_are names kept i))))
+canon_is names kept form = λ i. file_text form (clear_written (outside_of shell (Puts (codes_are names i))))
+    (private_cipher (private_written (inside_of shell (subrs_are names kept i) (glyphs_are names kept i))))
 
 abbrev stub_line : List ℕ → List ℕ
 stub_line index = subr_line (index ++ codes " 5") stub
 
 -- the first four, the fifth and sixth as they are given, and the last four stubs
 abbrev subr_lines : List ℕ → List ℕ → List (List ℕ)
-subr_lines fifth sixth = (first_subr ∷ take 3 more_subrs) ++ (stub_line (codes "4") ∷ fifth ∷ sixth ∷ stub_line (codes "7") ∷ stub_line (codes "8") ∷ stub_line (codes "9") ∷ [])
+subr_lines fifth sixth =
+    (first_subr ∷ take 3 more_subrs) ++ (stub_line (codes "4") ∷ fifth ∷ sixth ∷ stub_line (codes "7") ∷ stub_line (codes "8") ∷ stub_line (codes "9") ∷ [])
 
 abbrev clear_of : List (List ℕ) → List ℕ
 clear_of codes_lines = head ++ (lines encoding_head ++ (lines codes_lines ++ (codes "readonly def" ++ (clear_tail ++ 10 ∷ []))))
@@ -153,7 +163,8 @@ line_5 = subr_line (codes "5 7") (0xEF ∷ 0x06 ∷ 0x0B ∷ [])
 abbrev line_6 : List ℕ
 line_6 = subr_line (codes "6 7") (0x27 ∷ 0x06 ∷ 0x0B ∷ [])
 
-private_of_none : private_written (inside_of shell (cut_subrs first_four) (cut_glyphs is_notdef)) ≡ private_of (stub_line (codes "5")) (stub_line (codes "6")) (codes "1") []
+private_of_none : private_written (inside_of shell (cut_subrs first_four) (cut_glyphs is_notdef))
+    ≡ private_of (stub_line (codes "5")) (stub_line (codes "6")) (codes "1") []
 private_of_none = simp (n0, n1, n2, n3, n4, n5, n6, n7, n8, n9, n10, n15)
 
 length_of_none : length (canon (restrict is_notdef first_four tiny) Pfa) ≡ 2141

@@ -82,7 +82,8 @@ abbrev cipher : List ℕ
 cipher = paired (filter (λ b. not (b == 10)) (lines cipher_lines))
 
 abbrev pub pfb : List ℕ
-pfb = (0x80 ∷ 0x01 ∷ 0x39 ∷ 0x01 ∷ 0x00 ∷ 0x00 ∷ []) ++ (clear ++ (10 ∷ ((0x80 ∷ 0x02 ∷ 0xF0 ∷ 0x03 ∷ 0x00 ∷ 0x00 ∷ []) ++ (cipher ++ ((0x80 ∷ 0x01 ∷ 0x14 ∷ 0x02 ∷ 0x00 ∷ 0x00 ∷ []) ++ (end_lines ++ 0x80 ∷ 0x03 ∷ []))))))
+pfb = (0x80 ∷ 0x01 ∷ 0x39 ∷ 0x01 ∷ 0x00 ∷ 0x00 ∷ []) ++ (clear ++ (10
+    ∷ ((0x80 ∷ 0x02 ∷ 0xF0 ∷ 0x03 ∷ 0x00 ∷ 0x00 ∷ []) ++ (cipher ++ ((0x80 ∷ 0x01 ∷ 0x14 ∷ 0x02 ∷ 0x00 ∷ 0x00 ∷ []) ++ (end_lines ++ 0x80 ∷ 0x03 ∷ []))))))
 
 sizes : length pfa ∷ length pfb ∷ [] ≡ 2893 ∷ 1873 ∷ []
 sizes = refl
@@ -103,7 +104,8 @@ written_pfb = refl
 
 canon_is : (form : Form) → canon tiny form ≡ file_text form (clear ++ 10 ∷ []) (private_cipher private_text)
 canon_is form =
-    (λ i. file_text form (clear_written (outside_of shell (Puts (entries-from_sorted nat_cmp puts tt i)))) (private_cipher (private_written (inside_of shell (entries-from_sorted nat_cmp subrs tt i) (entries-from_sorted name_cmp glyphs tt i)))))
+    (λ i. file_text form (clear_written (outside_of shell (Puts (entries-from_sorted nat_cmp puts tt i))))
+    (private_cipher (private_written (inside_of shell (entries-from_sorted nat_cmp subrs tt i) (entries-from_sorted name_cmp glyphs tt i)))))
     ∙ (λ i. file_text form (clear_is i) (private_cipher (private_is i)))
 
 -- the canonical PFA of Tiny is this file
@@ -117,11 +119,17 @@ tiny_pfb = canon_is Pfb ∙ written_pfb
 -- ---- what is read
 
 pfa_reads : read_font pfa ≡ Ok tiny
-unfolding table_within first_at gap one_white word keyword decimal name phrase_of length_from body entry subr_key subrs_end eexec_marker encoding_marker subrs_marker chars_marker len_iv_marker len_iv closefile encoding_word encoding_table encoding_loop encoding_start octal code put_entry encoding_end next_name glyphs_end cipher_text split flat_pieces encoding_from clear_pieces iv_at iv_of tail_after glyphs_from tables_from private_pieces flat_text font_from font_file
+unfolding table_within first_at gap one_white word keyword decimal name phrase_of length_from body entry subr_key subrs_end
+    eexec_marker encoding_marker subrs_marker chars_marker len_iv_marker len_iv closefile encoding_word encoding_table
+    encoding_loop encoding_start octal code put_entry encoding_end next_name glyphs_end cipher_text split flat_pieces
+    encoding_from clear_pieces iv_at iv_of tail_after glyphs_from tables_from private_pieces flat_text font_from font_file
 pfa_reads = refl
 
 pfb_reads : read_font pfb ≡ Ok tiny
-unfolding table_within first_at gap one_white word keyword decimal name phrase_of length_from body entry subr_key subrs_end eexec_marker encoding_marker subrs_marker chars_marker len_iv_marker len_iv closefile encoding_word encoding_table encoding_loop encoding_start octal code put_entry encoding_end next_name glyphs_end cipher_text split flat_pieces encoding_from clear_pieces iv_at iv_of tail_after glyphs_from tables_from private_pieces flat_text font_from font_file
+unfolding table_within first_at gap one_white word keyword decimal name phrase_of length_from body entry subr_key subrs_end
+    eexec_marker encoding_marker subrs_marker chars_marker len_iv_marker len_iv closefile encoding_word encoding_table
+    encoding_loop encoding_start octal code put_entry encoding_end next_name glyphs_end cipher_text split flat_pieces
+    encoding_from clear_pieces iv_at iv_of tail_after glyphs_from tables_from private_pieces flat_text font_from font_file
 pfb_reads = refl
 
 pfb_cut : read_font (take 1000 pfb) ≡ Err (BadSegment 319)
@@ -129,7 +137,10 @@ unfolding flat_text font_file split flat_pieces table_within first_at gap eexec_
 pfb_cut = refl
 
 pfb_at_border : read_font (take 1333 pfb) ≡ Ok tiny
-unfolding table_within first_at gap one_white word keyword decimal name phrase_of length_from body entry subr_key subrs_end eexec_marker encoding_marker subrs_marker chars_marker len_iv_marker len_iv closefile encoding_word encoding_table encoding_loop encoding_start octal code put_entry encoding_end next_name glyphs_end cipher_text split flat_pieces encoding_from clear_pieces iv_at iv_of tail_after glyphs_from tables_from private_pieces flat_text font_from font_file
+unfolding table_within first_at gap one_white word keyword decimal name phrase_of length_from body entry subr_key subrs_end
+    eexec_marker encoding_marker subrs_marker chars_marker len_iv_marker len_iv closefile encoding_word encoding_table
+    encoding_loop encoding_start octal code put_entry encoding_end next_name glyphs_end cipher_text split flat_pieces
+    encoding_from clear_pieces iv_at iv_of tail_after glyphs_from tables_from private_pieces flat_text font_from font_file
 pfb_at_border = refl
 
 -- upper-case digits, and CR behind each line of them
@@ -141,7 +152,10 @@ upper_lines [] = []
 upper_lines (l ∷ ls) = map upper l ++ (13 ∷ upper_lines ls)
 
 upper_hex : read_font (clear ++ (10 ∷ (upper_lines cipher_lines ++ end_lines))) ≡ Ok tiny
-unfolding table_within first_at gap one_white word keyword decimal name phrase_of length_from body entry subr_key subrs_end eexec_marker encoding_marker subrs_marker chars_marker len_iv_marker len_iv closefile encoding_word encoding_table encoding_loop encoding_start octal code put_entry encoding_end next_name glyphs_end cipher_text split flat_pieces encoding_from clear_pieces iv_at iv_of tail_after glyphs_from tables_from private_pieces flat_text font_from font_file
+unfolding table_within first_at gap one_white word keyword decimal name phrase_of length_from body entry subr_key subrs_end
+    eexec_marker encoding_marker subrs_marker chars_marker len_iv_marker len_iv closefile encoding_word encoding_table
+    encoding_loop encoding_start octal code put_entry encoding_end next_name glyphs_end cipher_text split flat_pieces
+    encoding_from clear_pieces iv_at iv_of tail_after glyphs_from tables_from private_pieces flat_text font_from font_file
 upper_hex = refl
 
 empty : read_font [] ≡ Err NoEexec

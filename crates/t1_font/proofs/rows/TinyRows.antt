@@ -21,20 +21,24 @@ use Rattle.t1_font.specs.FontValue.{Shell, name_cmp, notdef, weight_of}
 use Rattle.t1_font.specs.Entries.{last_entries, last_names}
 use Rattle.t1_font.specs.ReadFont.{subrs_shell, is_within, font_from}
 use Rattle.t1_font.specs.Canon.{inside_of, outside_of}
-use Rattle.t1_font.proofs.rows.Tiny.{lines, glyph_notdef, head, clear_tail, puts, shell, subrs, glyphs, glyph_Y, tiny, private_lines, clear_with, clear, glyph_line, first_subr, more_subrs, first_glyph, more_glyphs, private_with, private_text}
+use Rattle.t1_font.proofs.rows.Tiny.{lines, glyph_notdef, head, clear_tail, puts, shell, subrs, glyphs, glyph_Y, tiny, private_lines, clear_with}
+use Rattle.t1_font.proofs.rows.Tiny.{clear, glyph_line, first_subr, more_subrs, first_glyph, more_glyphs, private_with, private_text}
 
 -- ---- the clear text
 
 clear_reads : (clear_pieces Strict clear).read ≡ Ok (record { head = head; encoding = Puts puts; clear_tail = clear_tail })
-unfolding first_at table_within gap word keyword decimal name encoding_marker encoding_word encoding_table encoding_loop encoding_start code put_entry encoding_end encoding_from clear_pieces
+unfolding first_at table_within gap word keyword decimal name encoding_marker encoding_word
+    encoding_table encoding_loop encoding_start code put_entry encoding_end encoding_from clear_pieces
 clear_reads = refl
 
 code_too_large : (clear_pieces Strict (clear_with (codes "dup 256 /X put"))).read ≡ Err (BadEncoding 195)
-unfolding first_at table_within gap word keyword decimal name octal encoding_marker encoding_word encoding_table encoding_loop encoding_start code put_entry encoding_end encoding_from clear_pieces
+unfolding first_at table_within gap word keyword decimal name octal encoding_marker encoding_word
+    encoding_table encoding_loop encoding_start code put_entry encoding_end encoding_from clear_pieces
 code_too_large = refl
 
 octal_code : (clear_pieces Strict (clear_with (codes "dup 8#101 /X put"))).read ≡ Ok (record { head = head; encoding = Puts puts; clear_tail = clear_tail })
-unfolding first_at table_within gap word keyword decimal name octal encoding_marker encoding_word encoding_table encoding_loop encoding_start code put_entry encoding_end encoding_from clear_pieces
+unfolding first_at table_within gap word keyword decimal name octal encoding_marker encoding_word
+    encoding_table encoding_loop encoding_start code put_entry encoding_end encoding_from clear_pieces
 octal_code = refl
 
 -- ---- the private text
@@ -44,76 +48,88 @@ abbrev declaring : ℕ → Shell
 declaring n = record shell { subrs = Some (record { declared = n; rd = codes "RD"; put = codes "NP"; closing = codes "ND" }) }
 
 private_reads : (private_pieces Strict private_text).read ≡ Ok (inside_of shell subrs glyphs)
-unfolding first_at table_within gap one_white word keyword decimal name phrase_of length_from body entry subr_key subrs_end subrs_marker chars_marker len_iv_marker len_iv closefile next_name glyphs_end iv_at iv_of tail_after glyphs_from tables_from private_pieces
+unfolding first_at table_within gap one_white word keyword decimal name phrase_of length_from body entry subr_key subrs_end subrs_marker
+    chars_marker len_iv_marker len_iv closefile next_name glyphs_end iv_at iv_of tail_after glyphs_from tables_from private_pieces
 private_reads = refl
 
 subr_too_short : (private_pieces Strict
     (private_with private_lines (codes "/Subrs 10 array") (codes "dup 0 3 RD abc NP" ∷ more_subrs) [] (codes "11")
     (first_glyph ∷ more_glyphs))).read ≡ Err (BadSubrs 269)
-unfolding first_at table_within gap one_white word keyword decimal name phrase_of length_from body entry subr_key subrs_end subrs_marker chars_marker len_iv_marker len_iv closefile next_name glyphs_end iv_at iv_of tail_after glyphs_from tables_from private_pieces
+unfolding first_at table_within gap one_white word keyword decimal name phrase_of length_from body entry subr_key subrs_end subrs_marker
+    chars_marker len_iv_marker len_iv closefile next_name glyphs_end iv_at iv_of tail_after glyphs_from tables_from private_pieces
 subr_too_short = refl
 
 glyph_too_short : (private_pieces Strict
     (private_with private_lines (codes "/Subrs 10 array") (first_subr ∷ more_subrs) [] (codes "11")
     (codes "/.notdef 3 RD abc ND" ∷ more_glyphs))).read ≡ Err (BadGlyphs 546)
-unfolding first_at table_within gap one_white word keyword decimal name phrase_of length_from body entry subr_key subrs_end subrs_marker chars_marker len_iv_marker len_iv closefile next_name glyphs_end iv_at iv_of tail_after glyphs_from tables_from private_pieces
+unfolding first_at table_within gap one_white word keyword decimal name phrase_of length_from body entry subr_key subrs_end subrs_marker
+    chars_marker len_iv_marker len_iv closefile next_name glyphs_end iv_at iv_of tail_after glyphs_from tables_from private_pieces
 glyph_too_short = refl
 
 -- the entry of Subr 9
 nine_subrs : (private_pieces Strict
     (private_with private_lines (codes "/Subrs 9 array") (first_subr ∷ more_subrs) [] (codes "11") (first_glyph ∷ more_glyphs))).read ≡ Err (BadSubrs 481)
-unfolding first_at table_within gap one_white word keyword decimal name phrase_of length_from body entry subr_key subrs_end subrs_marker chars_marker len_iv_marker len_iv closefile next_name glyphs_end iv_at iv_of tail_after glyphs_from tables_from private_pieces
+unfolding first_at table_within gap one_white word keyword decimal name phrase_of length_from body entry subr_key subrs_end subrs_marker
+    chars_marker len_iv_marker len_iv closefile next_name glyphs_end iv_at iv_of tail_after glyphs_from tables_from private_pieces
 nine_subrs = refl
 
 many_subrs : (private_pieces Strict
     (private_with private_lines (codes "/Subrs 65535 array") (first_subr ∷ more_subrs) [] (codes "11") (first_glyph ∷ more_glyphs))).read ≡ Ok (inside_of
     (declaring 65535) subrs glyphs)
-unfolding first_at table_within gap one_white word keyword decimal name phrase_of length_from body entry subr_key subrs_end subrs_marker chars_marker len_iv_marker len_iv closefile next_name glyphs_end iv_at iv_of tail_after glyphs_from tables_from private_pieces
+unfolding first_at table_within gap one_white word keyword decimal name phrase_of length_from body entry subr_key subrs_end subrs_marker
+    chars_marker len_iv_marker len_iv closefile next_name glyphs_end iv_at iv_of tail_after glyphs_from tables_from private_pieces
 many_subrs = refl
 
 -- read, and over a limit below
 too_many_subrs : (private_pieces Strict
     (private_with private_lines (codes "/Subrs 65536 array") (first_subr ∷ more_subrs) [] (codes "11") (first_glyph ∷ more_glyphs))).read ≡ Ok (inside_of
     (declaring 65536) subrs glyphs)
-unfolding first_at table_within gap one_white word keyword decimal name phrase_of length_from body entry subr_key subrs_end subrs_marker chars_marker len_iv_marker len_iv closefile next_name glyphs_end iv_at iv_of tail_after glyphs_from tables_from private_pieces
+unfolding first_at table_within gap one_white word keyword decimal name phrase_of length_from body entry subr_key subrs_end subrs_marker
+    chars_marker len_iv_marker len_iv closefile next_name glyphs_end iv_at iv_of tail_after glyphs_from tables_from private_pieces
 too_many_subrs = refl
 
 second_x : (private_pieces Strict
     (private_with private_lines (codes "/Subrs 10 array") (first_subr ∷ more_subrs) [] (codes "11")
     (first_glyph ∷ (more_glyphs ++ glyph_line (codes "/X 16") glyph_Y ∷ [])))).read ≡ Ok (inside_of shell subrs (glyphs ++ (codes "X", glyph_Y) ∷ []))
-unfolding first_at table_within gap one_white word keyword decimal name phrase_of length_from body entry subr_key subrs_end subrs_marker chars_marker len_iv_marker len_iv closefile next_name glyphs_end iv_at iv_of tail_after glyphs_from tables_from private_pieces
+unfolding first_at table_within gap one_white word keyword decimal name phrase_of length_from body entry subr_key subrs_end subrs_marker
+    chars_marker len_iv_marker len_iv closefile next_name glyphs_end iv_at iv_of tail_after glyphs_from tables_from private_pieces
 second_x = refl
 
 -- the count of glyphs is not looked at
 other_count : (private_pieces Strict
     (private_with private_lines (codes "/Subrs 10 array") (first_subr ∷ more_subrs) [] (codes "3") (first_glyph ∷ more_glyphs))).read ≡ Ok (inside_of
     shell subrs glyphs)
-unfolding first_at table_within gap one_white word keyword decimal name phrase_of length_from body entry subr_key subrs_end subrs_marker chars_marker len_iv_marker len_iv closefile next_name glyphs_end iv_at iv_of tail_after glyphs_from tables_from private_pieces
+unfolding first_at table_within gap one_white word keyword decimal name phrase_of length_from body entry subr_key subrs_end subrs_marker
+    chars_marker len_iv_marker len_iv closefile next_name glyphs_end iv_at iv_of tail_after glyphs_from tables_from private_pieces
 other_count = refl
 
 hybrid : (private_pieces Strict
     (private_with private_lines (codes "/Subrs 10 array") (first_subr ∷ more_subrs) (codes "/Subrs 0 array ND ") (codes "11")
     (first_glyph ∷ more_glyphs))).read ≡ Err Hybrid
-unfolding first_at table_within gap one_white word keyword decimal name phrase_of length_from body entry subr_key subrs_end subrs_marker chars_marker len_iv_marker len_iv closefile next_name glyphs_end iv_at iv_of tail_after glyphs_from tables_from private_pieces
+unfolding first_at table_within gap one_white word keyword decimal name phrase_of length_from body entry subr_key subrs_end subrs_marker
+    chars_marker len_iv_marker len_iv closefile next_name glyphs_end iv_at iv_of tail_after glyphs_from tables_from private_pieces
 hybrid = refl
 
 negative_len_iv : (private_pieces Strict
     (private_with (private_lines ++ codes "/lenIV -1 def" ∷ []) (codes "/Subrs 10 array") (first_subr ∷ more_subrs) [] (codes "11")
     (first_glyph ∷ more_glyphs))).read ≡ Err BadLenIV
-unfolding first_at table_within gap one_white word keyword decimal name phrase_of length_from body entry subr_key subrs_end subrs_marker chars_marker len_iv_marker len_iv closefile next_name glyphs_end iv_at iv_of tail_after glyphs_from tables_from private_pieces
+unfolding first_at table_within gap one_white word keyword decimal name phrase_of length_from body entry subr_key subrs_end subrs_marker
+    chars_marker len_iv_marker len_iv closefile next_name glyphs_end iv_at iv_of tail_after glyphs_from tables_from private_pieces
 negative_len_iv = refl
 
 four_lead_bytes : (private_pieces Strict
     (private_with (private_lines ++ codes "/lenIV 4 def" ∷ []) (codes "/Subrs 10 array") (first_subr ∷ more_subrs) [] (codes "11")
     (first_glyph ∷ more_glyphs))).read ≡ Ok (inside_of (record shell { private = lines (private_lines ++ codes "/lenIV 4 def" ∷ []) }) subrs glyphs)
-unfolding first_at table_within gap one_white word keyword decimal name phrase_of length_from body entry subr_key subrs_end subrs_marker chars_marker len_iv_marker len_iv closefile next_name glyphs_end iv_at iv_of tail_after glyphs_from tables_from private_pieces
+unfolding first_at table_within gap one_white word keyword decimal name phrase_of length_from body entry subr_key subrs_end subrs_marker
+    chars_marker len_iv_marker len_iv closefile next_name glyphs_end iv_at iv_of tail_after glyphs_from tables_from private_pieces
 four_lead_bytes = refl
 
 -- read, and without `.notdef` below
 no_notdef_read : (private_pieces Strict
     (private_with private_lines (codes "/Subrs 10 array") (first_subr ∷ more_subrs) [] (codes "11") more_glyphs)).read ≡
     Ok (inside_of shell subrs (drop 1 glyphs))
-unfolding first_at table_within gap one_white word keyword decimal name phrase_of length_from body entry subr_key subrs_end subrs_marker chars_marker len_iv_marker len_iv closefile next_name glyphs_end iv_at iv_of tail_after glyphs_from tables_from private_pieces
+unfolding first_at table_within gap one_white word keyword decimal name phrase_of length_from body entry subr_key subrs_end subrs_marker
+    chars_marker len_iv_marker len_iv closefile next_name glyphs_end iv_at iv_of tail_after glyphs_from tables_from private_pieces
 no_notdef_read = refl
 
 -- ---- the font
@@ -161,13 +177,16 @@ last_put = refl
 -- entries with other words, and white space in their phrases
 abbrev words_text : List ℕ
 words_text =
-    lines (codes "/Subrs 2 array" ∷ (codes "dup 0 5 -| " ++ (sealed 4330 4 (0x0B ∷ []) ++ codes "|")) ∷ (codes "dup 1 5 RD " ++ (sealed 4330 4 (0x0B ∷ []) ++ codes " NP")) ∷ codes "noaccess  put" ∷ [])
-    ++ (codes "/CharStrings 1 dict dup begin" ++ (10 ∷ (lines ((codes "/.notdef 9 -| " ++ (sealed 4330 4 glyph_notdef ++ (codes " readonly" ++ (10 ∷ codes "def")))) ∷ codes "end" ∷ []) ++ codes "closefile")))
+    lines (codes "/Subrs 2 array" ∷ (codes "dup 0 5 -| " ++ (sealed 4330 4 (0x0B ∷ []) ++ codes "|"))
+    ∷ (codes "dup 1 5 RD " ++ (sealed 4330 4 (0x0B ∷ []) ++ codes " NP")) ∷ codes "noaccess  put" ∷ [])
+    ++ (codes "/CharStrings 1 dict dup begin" ++ (10 ∷ (lines
+    ((codes "/.notdef 9 -| " ++ (sealed 4330 4 glyph_notdef ++ (codes " readonly" ++ (10 ∷ codes "def")))) ∷ codes "end" ∷ []) ++ codes "closefile")))
 
 abbrev words_subrs : SubrsPieces
 words_subrs = record {
   declared = 2;
-  entries = (record { key = 0; body = record { rd = codes "-|"; bytes = sealed 4330 4 (0x0B ∷ []); phrase = codes "|" } }) ∷ (record { key = 1; body = record { rd = codes "RD"; bytes = sealed 4330 4 (0x0B ∷ []); phrase = codes "NP" } }) ∷ [];
+  entries = (record { key = 0; body = record { rd = codes "-|"; bytes = sealed 4330 4 (0x0B ∷ []); phrase = codes "|" } })
+      ∷ (record { key = 1; body = record { rd = codes "RD"; bytes = sealed 4330 4 (0x0B ∷ []); phrase = codes "NP" } }) ∷ [];
   closing = codes "noaccess put";
 }
 
@@ -182,7 +201,8 @@ words_read : (private_pieces Strict words_text).read ≡ Ok
       tail = 10 ∷
           codes "closefile";
     })
-unfolding first_at table_within gap one_white word keyword decimal name phrase_of length_from body entry subr_key subrs_end subrs_marker chars_marker len_iv_marker len_iv closefile next_name glyphs_end iv_at iv_of tail_after glyphs_from tables_from private_pieces
+unfolding first_at table_within gap one_white word keyword decimal name phrase_of length_from body entry subr_key subrs_end subrs_marker
+    chars_marker len_iv_marker len_iv closefile next_name glyphs_end iv_at iv_of tail_after glyphs_from tables_from private_pieces
 words_read = refl
 
 -- the words of the first entry are kept

@@ -159,7 +159,9 @@ fn last_entries_and_first_words(rt: HostRuntime) -> Result<(), Fail> {
     let clear =
         b"%!\n/Encoding 256 array dup 65/X put dup 66/Y put dup 65/.notdef put def currentfile eexec ";
     let private =
-        b"/lenIV 0 def /lenIV 9 def /Subrs 3 array dup 2 1 a \x01 b dup 2 1 c \x0b d ND\nx /CharStrings 9 dict dup begin /.notdef 1 e \x01 f /.notdef 1 g \x02 end\nend closefileclosefile/Subrs 0 array ";
+        b"/lenIV 0 def /lenIV 9 def /Subrs 3 array dup 2 1 a \x01 b dup 2 1 c \x0b d ND\nx \
+        /CharStrings 9 dict dup begin /.notdef 1 e \x01 f /.notdef 1 g \x02 end\nend \
+        closefileclosefile/Subrs 0 array ";
     assert_eq!(rt;
         said(rt.alloc(), clear, private),
         Some(((true, true, true), (true, 3, false, true, Some(2)), 0)),

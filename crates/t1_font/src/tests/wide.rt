@@ -74,7 +74,8 @@ fn tables_of_codes(rt: HostRuntime) -> Result<(), Fail> {
             "the copy of a code without a name",
         ),
         (
-            b"dup 65 /X put dup 66 /Y put dup dup 65 2 getinterval 66 exch putinterval dup dup 8#102 2 getinterval 65 exch putinterval dup 67 /.notdef put dup 194 /H put def",
+            b"dup 65 /X put dup 66 /Y put dup dup 65 2 getinterval 66 exch putinterval \
+            dup dup 8#102 2 getinterval 65 exch putinterval dup 67 /.notdef put dup 194 /H put def",
             223,
             "copies over their own codes",
         ),

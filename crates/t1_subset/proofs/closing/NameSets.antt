@@ -1,7 +1,8 @@
 -- Names as finite sets: in the order of their bytes, and added to a set one after another.
 use Rattle.std.proofs.Common.{◌≡◌, ℕ, Bool, ◌||◌, List, [], ◌∷◌, ◌++◌, refl, sym, ◌∙◌, ap, Ordering, Less, Equal, Greater, ◌<◌, ◌+◌, length, take, get_or, arith, Bor}
 use Rattle.std.proofs.{lemmas.List.{map-append, take_more}, lemmas.Grind.{common_steps}}
-use Rattle.std.specs.{Global.{Vec}, List.{list_any, AllByRecursion}, List.Sorted.{IsStrictlySortedBy}, Ordering.{eq_by_cmp, match_ordering}, Cmp.Lexicographic.{nat_list_cmp_total}, BTreeSet.{insert_key}}
+use Rattle.std.specs.{Global.{Vec}, List.{list_any, AllByRecursion}, List.Sorted.{IsStrictlySortedBy}}
+use Rattle.std.specs.{Ordering.{eq_by_cmp, match_ordering}, Cmp.Lexicographic.{nat_list_cmp_total}, BTreeSet.{insert_key}}
 use Rattle.std.specs.FinSet.{IsAntisymmetric}
 use Rattle.std.specs.FinSet as sets
 use Rattle.t1_font.specs.FontValue.{name_cmp}
@@ -55,7 +56,9 @@ pub all_taken : (taken left all : List (Vec ℕ)) → left ≡ [] → taken ++ l
 all_taken taken left all h e = grind (arith, common_steps)
 
 -- as one more name of a list is added to a set, the set is that of one more name
-pub copy_step : (copies new : Names) (ns : List (Bor (List ℕ))) (i : ℕ) (v : List ℕ) (d : Bor (List ℕ)) → i < length ns → v ≡ (get_or ns i d).now → new ≡ sets.insert copies v → copies ≡ sets.from_list (lent (take i ns)) → new ≡ sets.from_list (lent (take (i + 1) ns))
+pub copy_step : (copies new : Names) (ns : List (Bor (List ℕ))) (i : ℕ) (v : List ℕ) (d : Bor (List ℕ)) → i < length ns →
+    v ≡ (get_or ns i d).now → new ≡ sets.insert copies v → copies ≡ sets.from_list (lent (take i ns)) → new ≡ sets.from_list (lent (take (i + 1) ns))
 copy_step copies new ns i v d h e is far =
     let more = ap lent (take_more ns i d h) ∙ map-append _ (take i ns) (get_or ns i d ∷ []) in
-    is ∙ (λ j. sets.insert (far j) (e j)) ∙ sym (ap (λ (ks : List (List ℕ)). sets.from_list {R = name_cmp} ks) more ∙ sets.from_list_push nat_list_cmp_total name_same (lent (take i ns)) (get_or ns i d).now)
+    is ∙ (λ j. sets.insert (far j) (e j)) ∙ sym (ap (λ (ks : List (List ℕ)). sets.from_list {R = name_cmp} ks) more
+    ∙ sets.from_list_push nat_list_cmp_total name_same (lent (take i ns)) (get_or ns i d).now)

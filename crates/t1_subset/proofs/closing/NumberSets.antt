@@ -10,7 +10,8 @@ use Rattle.t1_algebra.proofs.Sets.{cases, name_same, any_at, any_one, any_flat_m
 use Rattle.t1_subset.proofs.{closing.NameSets.{any_insert}, closing.Runs.{calls_by, calls_of}}
 
 -- a set to which indices are added has these and those that it had
-pub any_with : (q : ℕ) (set is : List ℕ) → list_any (eq_by_cmp nat_cmp q) (with_indices set is) ≡ (list_any (eq_by_cmp nat_cmp q) set || list_any (eq_by_cmp nat_cmp q) is)
+pub any_with : (q : ℕ) (set is : List ℕ) →
+    list_any (eq_by_cmp nat_cmp q) (with_indices set is) ≡ (list_any (eq_by_cmp nat_cmp q) set || list_any (eq_by_cmp nat_cmp q) is)
 any_with q set [] = grind cases
 any_with q set (i ∷ is) = grind (cases, any_with q (insert_key nat_cmp set i) is, any_insert nat_cmp nat_cmp-IsAntisymmetric (λ k. k) q i set)
 
@@ -25,19 +26,23 @@ of_executed set subrs c =
 
 -- nothing is added by the empty list
 pub union_none : (s : Numbers) → sets.union s (set_of []) ≡ s
-union_none s = sets.same_set nat_cmp_total nat_cmp-IsAntisymmetric _ s (λ q. grind (cases, sets.contains-union nat_cmp_total s (set_of []) q, sets.contains-from_list nat_cmp_total [] q))
+union_none s = sets.same_set nat_cmp_total nat_cmp-IsAntisymmetric _ s
+    (λ q. grind (cases, sets.contains-union nat_cmp_total s (set_of []) q, sets.contains-from_list nat_cmp_total [] q))
 
 -- the union of the empty set and another is the other
 pub none_union : (s : Numbers) → sets.union (set_of []) s ≡ s
-none_union s = sets.same_set nat_cmp_total nat_cmp-IsAntisymmetric _ s (λ q. grind (cases, sets.contains-union nat_cmp_total (set_of []) s q, sets.contains-from_list nat_cmp_total [] q))
+none_union s = sets.same_set nat_cmp_total nat_cmp-IsAntisymmetric _ s
+    (λ q. grind (cases, sets.contains-union nat_cmp_total (set_of []) s q, sets.contains-from_list nat_cmp_total [] q))
 
 -- a test passes for a name of a list if it does for a member of the set of the list
 any_member : (p : List ℕ → Bool) (ns : List (List ℕ)) → list_any p ns ≡ list_any p (sets.items (sets.from_list {R = name_cmp} ns))
 any_member p ns =
     let set : Names = sets.from_list ns in
     both_ways _ _
-    (λ h. let one = any_one nat_list_cmp_total name_same p ns h in any_at nat_list_cmp_total name_same p one.0 (sets.items set) (in_items nat_list_cmp_total name_same set one.0 (from_in_list nat_list_cmp_total name_same ns one.0 one.1)) one.2)
-    (λ h. let one = any_one nat_list_cmp_total name_same p (sets.items set) h in any_at nat_list_cmp_total name_same p one.0 ns (in_list nat_list_cmp_total name_same ns one.0 (from_in_items nat_list_cmp_total name_same set one.0 one.1)) one.2)
+    (λ h. let one = any_one nat_list_cmp_total name_same p ns h in any_at nat_list_cmp_total name_same p one.0 (sets.items set)
+    (in_items nat_list_cmp_total name_same set one.0 (from_in_list nat_list_cmp_total name_same ns one.0 one.1)) one.2)
+    (λ h. let one = any_one nat_list_cmp_total name_same p (sets.items set) h in any_at nat_list_cmp_total name_same p one.0 ns
+    (in_list nat_list_cmp_total name_same ns one.0 (from_in_items nat_list_cmp_total name_same set one.0 one.1)) one.2)
 
 -- ---- the Subrs of a closure
 
@@ -55,15 +60,29 @@ module _ (f : FontValue) where
   runs q n = list_any (eq_by_cmp nat_cmp q) (sets.items (calls_by f n))
 
   in_calls : (ns : List (List ℕ)) (q : ℕ) → sets.contains (calls_to f ns) q ≡ (list_any (eq_by_cmp nat_cmp q) low || list_any (runs q) ns)
-  in_calls ns q = sets.contains-from_list nat_cmp_total (low ++ calls_of f ns) q ∙ list_any-append (eq_by_cmp nat_cmp q) low (calls_of f ns) ∙ ap (λ b. list_any (eq_by_cmp nat_cmp q) low || b) (any_flat_map (eq_by_cmp nat_cmp q) (λ n. sets.items (calls_by f n)) ns)
+  in_calls ns q = sets.contains-from_list nat_cmp_total (low ++ calls_of f ns) q ∙ list_any-append (eq_by_cmp nat_cmp q) low (calls_of f ns)
+      ∙ ap (λ b. list_any (eq_by_cmp nat_cmp q) low || b) (any_flat_map (eq_by_cmp nat_cmp q) (λ n. sets.items (calls_by f n)) ns)
 
   -- the calls of one more name are added
-  pub calls_step : (ns : List (List ℕ)) (i : ℕ) (n : List ℕ) (s new : Numbers) → i < length ns → get_or ns i n ≡ n → s ≡ calls_to f (take i ns) → new ≡ sets.union s (calls_by f n) → new ≡ calls_to f (take (i + 1) ns)
+  pub calls_step : (ns : List (List ℕ)) (i : ℕ) (n : List ℕ) (s new : Numbers) → i < length ns → get_or ns i n ≡ n →
+      s ≡ calls_to f (take i ns) → new ≡ sets.union s (calls_by f n) → new ≡ calls_to f (take (i + 1) ns)
   calls_step ns i n s new h e is more = sets.same_set nat_cmp_total nat_cmp-IsAntisymmetric new (calls_to f (take (i + 1) ns)) (λ q.
-      grind (cases, more, is, e, sets.contains-union nat_cmp_total s (calls_by f n) q, in_calls (take i ns) q, sets.contains-items (calls_by f n) q, list_any_more (runs q) ns i n h, in_calls (take (i + 1) ns) q))
+      grind (
+        cases,
+        more,
+        is,
+        e,
+        sets.contains-union nat_cmp_total s (calls_by f n) q,
+        in_calls (take i ns) q,
+        sets.contains-items (calls_by f n) q,
+        list_any_more (runs q) ns i n h,
+        in_calls (take (i + 1) ns) q,
+      ))
 
   -- at the end of the list these are the Subrs that the set of all names executes
-  pub calls_end : (ns : List (List ℕ)) (i : ℕ) (s : Numbers) (k : Names) → length ns ≤ i → s ≡ calls_to f (take i ns) → sets.from_list ns ≡ k → s ≡ called_by profile f k
+  pub calls_end : (ns : List (List ℕ)) (i : ℕ) (s : Numbers) (k : Names) → length ns ≤ i → s ≡ calls_to f (take i ns) → sets.from_list ns ≡ k →
+      s ≡ called_by profile f k
   calls_end ns i s k h is e =
-      let same = sets.same_set nat_cmp_total nat_cmp-IsAntisymmetric (calls_to f ns) (calls_to f (sets.items (sets.from_list {R = name_cmp} ns))) (λ q. in_calls ns q ∙ ap (λ b. list_any (eq_by_cmp nat_cmp q) low || b) (any_member (runs q) ns) ∙ sym (in_calls (sets.items (sets.from_list ns)) q)) in
+      let same = sets.same_set nat_cmp_total nat_cmp-IsAntisymmetric (calls_to f ns) (calls_to f (sets.items (sets.from_list {R = name_cmp} ns))) (λ q.
+      in_calls ns q ∙ ap (λ b. list_any (eq_by_cmp nat_cmp q) low || b) (any_member (runs q) ns) ∙ sym (in_calls (sets.items (sets.from_list ns)) q)) in
       is ∙ ap (calls_to f) (take_all i ns h) ∙ same ∙ ap (called_by profile f) e

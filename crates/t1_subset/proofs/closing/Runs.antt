@@ -14,7 +14,8 @@ abbrev pub names_by : Subrs → List ℕ → List (List ℕ)
 names_by s c = names_of_both (direct s c, direct3 s c)
 
 -- the components that runs in code name are those of the definition
-pub components_are : (f : FontValue) → IsFont f → (n c : List ℕ) → maps.get f.glyphs n ≡ Some c → names_by (subr_at f) c ≡ components profile f.subrs (charstring f n)
+pub components_are : (f : FontValue) → IsFont f → (n c : List ℕ) → maps.get f.glyphs n ≡ Some c →
+    names_by (subr_at f) c ≡ components profile f.subrs (charstring f n)
 unfolding profile
 components_are f h n c e = ap (λ s. names_by s c) (all_seen f h) ∙ ap (λ x. names_by (maps.get f.subrs) (unwrap_or x [])) (sym e)
 

@@ -18,11 +18,13 @@ pub record HasBelow (t : TableMeaning) (x : ℕ → Option (List ℕ)) (n : ℕ)
 module _ (t : TableMeaning) (x : ℕ → Option (List ℕ)) where
   -- an empty table has what x gives below 0
   pub has_none : t ≡ maps.empty → HasBelow t x 0
-  has_none e = record { map = maps.empty; table = e ∙ numbered-empty; shown = λ i. let none = maps.get-empty {X = List ℕ} nat_cmp i in grind (arith, nat_tests, none) }
+  has_none e =
+      record { map = maps.empty; table = e ∙ numbered-empty; shown = λ i. let none = maps.get-empty {X = List ℕ} nat_cmp i in grind (arith, nat_tests, none) }
 
   -- if x gives nothing from n on, the table has all of it
   pub has_all : (n : ℕ) → HasBelow t x n → ((i : ℕ) → n ≤ i → x i ≡ None) → (m : Numbered) → ((i : ℕ) → maps.get m i ≡ x i) → t ≡ numbered m
-  has_all n h far m is = h.table ∙ ap numbered (maps.same_map nat_cmp_total nat_cmp-IsAntisymmetric h.map m (λ i. grind (arith, nat_tests, h.shown i, is i, far i)))
+  has_all n h far m is =
+      h.table ∙ ap numbered (maps.same_map nat_cmp_total nat_cmp-IsAntisymmetric h.map m (λ i. grind (arith, nat_tests, h.shown i, is i, far i)))
 
 module _ (t : TableMeaning) (x : ℕ → Option (List ℕ)) (n : ℕ) (h : HasBelow t x n) where
   -- the table has what x gives for each number below n
@@ -34,7 +36,12 @@ module _ (t : TableMeaning) (x : ℕ → Option (List ℕ)) (n : ℕ) (h : HasBe
   -- a table that is filled below n is filled below n + 1 once the value of n is put
   pub has_next : (u : TableMeaning) (s : Option (List ℕ)) → u ≡ with_state t (of_number n) s → s ≡ x n → HasBelow u x (n + 1)
   has_next u None is e = record { map = h.map; table = is ∙ h.table; shown = λ i. grind (arith, nat_tests, h.shown i, e) }
-  has_next u (Some v) is e = record { map = maps.insert h.map n v; table = is ∙ ap (λ (t : TableMeaning). maps.insert t (of_number n) v) h.table ∙ numbered-insert h.map n v; shown = λ i. grind (arith, nat_tests, h.shown i, e, maps.get-insert nat_cmp_total h.map n v i) }
+  has_next u (Some v) is e =
+      record {
+        map = maps.insert h.map n v;
+        table = is ∙ ap (λ (t : TableMeaning). maps.insert t (of_number n) v) h.table ∙ numbered-insert h.map n v;
+        shown = λ i. grind (arith, nat_tests, h.shown i, e, maps.get-insert nat_cmp_total h.map n v i);
+      }
 
 -- ---- codes and Subrs
 
@@ -44,5 +51,6 @@ codes_filled (Word w) t n h far = has_all t (code_state (Word w)) n h far maps.e
 codes_filled (Codes s) t n h far = has_all t (code_state (Codes s)) n h far s (λ i. refl)
 
 -- an entry, with whether it is called, gives its state
-pub entry_is : (f : FontValue) (i : ℕ) (x y : Option (List ℕ)) (b : Bool) → x ≡ y → (is_some y ≡ true → b ≡ is_called profile f i) → entry_state x b ≡ state_of_entry profile f i y
+pub entry_is : (f : FontValue) (i : ℕ) (x y : Option (List ℕ)) (b : Bool) → x ≡ y → (is_some y ≡ true → b ≡ is_called profile f i) →
+    entry_state x b ≡ state_of_entry profile f i y
 entry_is f i x y b e h = grind arith

@@ -1,5 +1,6 @@
 -- The lowest conflict of two fonts, as the code finds it in their states.
-use Rattle.std.proofs.Common.{◌≡◌, ℕ, ◌≤◌, true, not, cond, List, refl, sym, ◌∙◌, ap, true≢false, Option, Some, None, is_some, arith, inl, inr, [], unwrap_or, MatchOption, ◌<◌, ◌||◌, nat_cmp, subst, option_map, Ordering}
+use Rattle.std.proofs.Common.{◌≡◌, ℕ, ◌≤◌, true, not, cond, List, refl, sym, ◌∙◌, ap, true≢false, Option, Some, None, is_some}
+use Rattle.std.proofs.Common.{arith, inl, inr, [], unwrap_or, MatchOption, ◌<◌, ◌||◌, nat_cmp, subst, option_map, Ordering}
 use Rattle.std.proofs.lemmas.Bool.{false_from_ne_true}
 use Rattle.std.specs.{Cmp.{IsTotalOrder, nat_cmp_total, first_so}, FinSet.{IsAntisymmetric, nat_cmp-IsAntisymmetric}, List.{list_any}, Cmp.Lexicographic.{nat_list_cmp_total}}
 use Rattle.std.specs.FinMap as maps
@@ -7,17 +8,22 @@ use Rattle.t1_join.specs.{TableMeaning.{TableMeaning, TablesAgree, IsFirstConfli
 use Rattle.t1_font.specs.{FontValue.{FontValue, Encoding, Word, Codes, name_cmp}, FontModel.{name_at}, IsFont.{IsFont, IsEncoding}, Joins.{join_parts, Refuses}, WriteLaws.{SameKind}}
 use Rattle.t1_font.specs.declared.parts.PartsFault.{PartsFault}
 use Rattle.t1_font.specs.declared.parts.PartsFault.TheVariants as parts
-use Rattle.t1_algebra.specs.Conflicts.{agrees, clashes_at, codes_of_both, subr_clashes, ShellDiffers, CodeDiffers, GlyphDiffers, LacksComponent, SubrDiffers, keys_of_both, shell_conflict, code_conflict, glyph_conflict, component_conflict, subr_conflict, wanted_by, used_by, glyph_names, code_clashes, glyph_clashes, component_clashes, Conflict, OverLimit, states_conflict, conflict, is_within}
+use Rattle.t1_algebra.specs.Conflicts.{agrees, clashes_at, codes_of_both, subr_clashes, ShellDiffers, CodeDiffers, GlyphDiffers, LacksComponent, SubrDiffers}
+use Rattle.t1_algebra.specs.Conflicts.{keys_of_both, shell_conflict, code_conflict, glyph_conflict, component_conflict, subr_conflict, wanted_by, used_by}
+use Rattle.t1_algebra.specs.Conflicts.{glyph_names, code_clashes, glyph_clashes, component_clashes, Conflict, OverLimit, states_conflict, conflict, is_within}
 use Rattle.t1_algebra.specs.{States.{code_state, subr_state, IsWithin, Join, joined_font}, Interpreter.{Interpreter}, Keep.{has}, Profile.{profile}}
-use Rattle.t1_algebra.specs.{StateTables.{StatesValue, name_part, code_states, name_states, used_subrs, numbered, states_of, behind_mark, names_table, name_meaning}, Shared.{Shared, shared_of, differing_part, ShellPart}}
+use Rattle.t1_algebra.specs.{StateTables.{StatesValue, name_part, code_states, name_states, used_subrs, numbered, states_of, behind_mark, names_table, name_meaning}}
+use Rattle.t1_algebra.specs.{Shared.{Shared, shared_of, differing_part, ShellPart}}
 use Rattle.t1_algebra.specs.{Searches.{found, smallest, members, IsLowest}, NameStates.{is_sought_in, charstrings_differ, one_lacks}}
-use Rattle.t1_algebra.proofs.{Maps.{in_both}, Searching.{first_passes}, Sets.{name_same, cases, cases_Option}, Tables.{Shows, codes_shown, meanings_as_bytes, get-name}, FontStates.{get-names, subrs_shown}}
+use Rattle.t1_algebra.proofs.{Maps.{in_both}, Searching.{first_passes}, Sets.{name_same, cases, cases_Option}}
+use Rattle.t1_algebra.proofs.{Tables.{Shows, codes_shown, meanings_as_bytes, get-name}, FontStates.{get-names, subrs_shown}}
 use Rattle.t1_algebra.proofs.{Conflicts.{compatible, within_so}, Fonts.{font_within}, JoinedStates.{joined_are_entries}}
 use Rattle.t1_subset.specs.{Callers.{seeker_of}, declared.conflict.Conflict.{Conflict as Refusal}, Refusals.{Tells, of_parts}}
 use Rattle.t1_subset.proofs.{state_tables.LowestKeys.{lowest_is}, state_tables.FontCallers.{any_first, sought_is, smallest_seeker}}
 
 -- a key whose values in two maps do not join is a key of both
-clash_there : {K : Type 0} {R : K → K → Ordering} → IsTotalOrder R → IsAntisymmetric R → (a b : maps.FinMap R (List ℕ)) (k : K) → clashes_at a b k ≡ true → maps.contains_key (keys_of_both a b) k ≡ true
+clash_there : {K : Type 0} {R : K → K → Ordering} → IsTotalOrder R → IsAntisymmetric R → (a b : maps.FinMap R (List ℕ)) (k : K) → clashes_at a b k ≡ true →
+    maps.contains_key (keys_of_both a b) k ≡ true
 clash_there o same a b k h = grind (cases, in_both o same a b k)
 
 -- ---- codes
@@ -41,26 +47,33 @@ no_name (Codes t) h c l = elim (cases_Option (maps.get t c)) [ inl none ↦ none
 -- ---- the smallest code and the smallest Subr
 
 -- what a search of two tables for a conflict answers is the lowest number whose states are in conflict
-lowest_clash : (s t : TableMeaning) (x y : ℕ → Option (List ℕ)) → Shows s x → Shows t y → (r : Option ℕ) → MatchOption r (TablesAgree s t) (λ k. IsFirstConflict s t (of_number k)) → IsLowest nat_cmp (λ i. not (agrees (x i) (y i))) r
+lowest_clash : (s t : TableMeaning) (x y : ℕ → Option (List ℕ)) → Shows s x → Shows t y → (r : Option ℕ) →
+    MatchOption r (TablesAgree s t) (λ k. IsFirstConflict s t (of_number k)) → IsLowest nat_cmp (λ i. not (agrees (x i) (y i))) r
 lowest_clash s t x y shows also r h = subst (λ p. IsLowest nat_cmp p r) (λ j i. not (alike i j)) (lowest r h)
   where
     alike : (i : ℕ) → states_agree (maps.get s (of_number i)) (maps.get t (of_number i)) ≡ agrees (x i) (y i)
     alike i = grind (cases, shows (of_number i), also (of_number i), meanings_as_bytes)
 
-    lowest : (r : Option ℕ) → MatchOption r (TablesAgree s t) (λ k. IsFirstConflict s t (of_number k)) → IsLowest nat_cmp (λ i. not (states_agree (maps.get s (of_number i)) (maps.get t (of_number i)))) r
+    lowest : (r : Option ℕ) → MatchOption r (TablesAgree s t) (λ k. IsFirstConflict s t (of_number k)) →
+        IsLowest nat_cmp (λ i. not (states_agree (maps.get s (of_number i)) (maps.get t (of_number i)))) r
     lowest None h = λ i. ap not (h (of_number i))
-    lowest (Some k) h = record { it = ap not (false_from_ne_true _ h.differs); none_lower = λ i l. ap not (h.first (of_number i) (sym (by_number_law i k) ∙ l)) }
+    lowest (Some k) h =
+        record { it = ap not (false_from_ne_true _ h.differs); none_lower = λ i l. ap not (h.first (of_number i) (sym (by_number_law i k) ∙ l)) }
 
 module _ (f g : FontValue) (s t : TableMeaning) (r : Option ℕ) (h : MatchOption r (TablesAgree s t) (λ k. IsFirstConflict s t (of_number k))) where
   -- what a search of two tables of codes answers is the conflict of codes
   pub code_found : s ≡ code_states f.encoding → t ≡ code_states g.encoding → r ≡ code_conflict f g
-  code_found sf sg = lowest_is nat_cmp_total nat_cmp-IsAntisymmetric (code_clashes f g) (codes_of_both f.encoding g.encoding) (code_there f.encoding g.encoding) r
-      (lowest_clash s t (code_state f.encoding) (code_state g.encoding) (subst (λ s. Shows s (code_state f.encoding)) (sym sf) (codes_shown f.encoding)) (subst (λ t. Shows t (code_state g.encoding)) (sym sg) (codes_shown g.encoding)) r h)
+  code_found sf sg =
+      lowest_is nat_cmp_total nat_cmp-IsAntisymmetric (code_clashes f g) (codes_of_both f.encoding g.encoding) (code_there f.encoding g.encoding) r
+      (lowest_clash s t (code_state f.encoding) (code_state g.encoding) (subst (λ s. Shows s (code_state f.encoding)) (sym sf) (codes_shown f.encoding))
+      (subst (λ t. Shows t (code_state g.encoding)) (sym sg) (codes_shown g.encoding)) r h)
 
   -- what a search of two tables of Subrs answers is the conflict of Subrs
   pub subr_found : s ≡ numbered (used_subrs profile f) → t ≡ numbered (used_subrs profile g) → r ≡ subr_conflict profile f g
-  subr_found sf sg = lowest_is nat_cmp_total nat_cmp-IsAntisymmetric (subr_clashes profile f g) (keys_of_both f.subrs g.subrs) (λ i c. grind (cases, c, in_both nat_cmp_total nat_cmp-IsAntisymmetric f.subrs g.subrs i)) r
-      (lowest_clash s t (subr_state profile f) (subr_state profile g) (subst (λ s. Shows s (subr_state profile f)) (sym sf) (subrs_shown profile f)) (subst (λ t. Shows t (subr_state profile g)) (sym sg) (subrs_shown profile g)) r h)
+  subr_found sf sg = lowest_is nat_cmp_total nat_cmp-IsAntisymmetric (subr_clashes profile f g)
+      (keys_of_both f.subrs g.subrs) (λ i c. grind (cases, c, in_both nat_cmp_total nat_cmp-IsAntisymmetric f.subrs g.subrs i)) r
+      (lowest_clash s t (subr_state profile f) (subr_state profile g) (subst (λ s. Shows s (subr_state profile f)) (sym sf) (subrs_shown profile f))
+      (subst (λ t. Shows t (subr_state profile g)) (sym sg) (subrs_shown profile g)) r h)
 
 module _ (f g : FontValue) where
   -- a code in conflict is below 256
@@ -71,7 +84,8 @@ module _ (f g : FontValue) where
 
   -- both fonts have an entry at an index in conflict
   pub subr_clashing : (i : ℕ) → Some i ≡ subr_conflict profile f g → (maps.contains_key f.subrs i ≡ true) × (maps.contains_key g.subrs i ≡ true)
-  subr_clashing i is = let h = first_passes (subr_clashes profile f g) (members (keys_of_both f.subrs g.subrs)) i (sym is) in (grind (cases, h), grind (cases, h))
+  subr_clashing i is =
+      let h = first_passes (subr_clashes profile f g) (members (keys_of_both f.subrs g.subrs)) i (sym is) in (grind (cases, h), grind (cases, h))
 
 -- ---- the smallest glyph and the smallest component
 
@@ -86,7 +100,8 @@ module _ (f : FontValue) (v : StatesValue) (is : v ≡ states_of profile f) wher
 
 module _ (f g : FontValue) (v w : StatesValue) (a : v ≡ states_of profile f) (b : w ≡ states_of profile g) where
   -- the lowest name with two charstrings that differ is the conflict of glyphs
-  pub glyph_found : (x : Option (List ℕ)) → IsLowest name_cmp (λ n. charstrings_differ (maps.get (name_part v) n) (maps.get (name_part w) n)) x → x ≡ glyph_conflict f g
+  pub glyph_found : (x : Option (List ℕ)) →
+      IsLowest name_cmp (λ n. charstrings_differ (maps.get (name_part v) n) (maps.get (name_part w) n)) x → x ≡ glyph_conflict f g
   glyph_found x h = lowest_is nat_list_cmp_total name_same (glyph_clashes f g) (glyph_names f g) (clash_there nat_list_cmp_total name_same f.glyphs g.glyphs) x
       (subst (λ p. IsLowest name_cmp p x) (λ i n. not (agrees (charstring_seen f v a n i) (charstring_seen g w b n i))) h)
 
@@ -96,22 +111,27 @@ module _ (f g : FontValue) (v w : StatesValue) (a : v ≡ states_of profile f) (
 
   -- one font seeks a name that the other has exactly if the component is in conflict
   lacking_so : (p : List ℕ) → one_lacks (maps.get (name_part v) p) (maps.get (name_part w) p) ≡ component_clashes profile f g p
-  lacking_so p = grind (arith, seeking_seen f v a p, seeking_seen g w b p, charstring_seen f v a p, charstring_seen g w b p, wanted_so p, sought_is f p, sought_is g p)
+  lacking_so p =
+      grind (arith, seeking_seen f v a p, seeking_seen g w b p, charstring_seen f v a p, charstring_seen g w b p, wanted_so p, sought_is f p, sought_is g p)
 
   -- the lowest name that one seeks and the other has is the conflict of components
-  pub component_found : (x : Option (List ℕ)) → IsLowest name_cmp (λ n. one_lacks (maps.get (name_part v) n) (maps.get (name_part w) n)) x → x ≡ component_conflict profile f g
+  pub component_found : (x : Option (List ℕ)) → IsLowest name_cmp (λ n. one_lacks (maps.get (name_part v) n) (maps.get (name_part w) n)) x →
+      x ≡ component_conflict profile f g
   component_found x h = lowest_is nat_list_cmp_total name_same (component_clashes profile f g) (glyph_names f g)
-      (λ n h. in_both nat_list_cmp_total name_same f.glyphs g.glyphs n ∙ first_so (has f n || has g n) (list_any (wanted_by profile f g n) (members (glyph_names f g))) h)
+      (λ n h. in_both nat_list_cmp_total name_same f.glyphs g.glyphs n
+      ∙ first_so (has f n || has g n) (list_any (wanted_by profile f g n) (members (glyph_names f g))) h)
       x (subst (λ p. IsLowest name_cmp p x) (λ i n. lacking_so n i) h)
 
 -- ---- the table of a font's names
 
 module _ (f : FontValue) where
   -- the table of the glyphs and of what they seek has the states of the names
-  pub names_made : (s seekers : TableMeaning) → ((q : Meaning) → maps.get s q ≡ cond (maps.contains_key seekers q) (Some []) None) → ((p : List ℕ) → maps.get seekers p ≡ seeker_of f p) → names_table f.glyphs s ≡ name_states profile f
+  pub names_made : (s seekers : TableMeaning) → ((q : Meaning) → maps.get s q ≡ cond (maps.contains_key seekers q) (Some []) None) →
+      ((p : List ℕ) → maps.get seekers p ≡ seeker_of f p) → names_table f.glyphs s ≡ name_states profile f
   names_made s seekers h are = same_table (names_table f.glyphs s) (name_states profile f) (λ q.
       get-name f.glyphs s q
-      ∙ ap (joined_state (option_map (λ c. name_meaning (Some c)) (maps.get f.glyphs q))) (h q ∙ ap (λ b. cond b (Some []) None) (ap is_some (are q) ∙ sought_is f q))
+      ∙ ap (joined_state (option_map (λ c. name_meaning (Some c)) (maps.get f.glyphs q)))
+      (h q ∙ ap (λ b. cond b (Some []) None) (ap is_some (are q) ∙ sought_is f q))
       ∙ grind (cases, get-names profile f q))
 
 -- ---- fonts without a conflict
@@ -139,7 +159,8 @@ module _ {O : Type 0} (m : Interpreter O) (f g : FontValue) (h : states_conflict
 
   -- a refusal of the entries of both tells the lowest conflict
   pub tells_parts : (e : PartsFault) → Refuses (join_parts f g) e → Tells (of_parts e) (conflict m f g)
-  tells_parts parts.Limit more = over (λ b. let w = subst IsWithin entries (within_so m f g b) in let few = w.glyphs in let light = w.weight in grind (arith, more, few, light))
+  tells_parts parts.Limit more =
+      over (λ b. let w = subst IsWithin entries (within_so m f g b) in let few = w.glyphs in let light = w.weight in grind (arith, more, few, light))
   tells_parts parts.Memory more = tt
 
 -- ---- what is found in turn
@@ -154,14 +175,21 @@ module _ (f g : FontValue) where
   parts_seen s t a b = λ i. differing_part (a i) (b i)
 
   -- what is found of each kind in turn is the lowest conflict of states, if the shells have none
-  pub states_are : {c : Option ℕ} {n p : Option (List ℕ)} {i : Option ℕ} → shell_conflict f g ≡ None → c ≡ code_conflict f g → n ≡ glyph_conflict f g → p ≡ component_conflict profile f g → i ≡ subr_conflict profile f g
-      → states_conflict profile f g ≡ found CodeDiffers c (found GlyphDiffers n (found (λ p. LacksComponent (unwrap_or (smallest (wanted_by profile f g p) (glyph_names f g)) []) p) p (found (λ i. SubrDiffers i (smallest (used_by profile f g i) (glyph_names f g))) i None)))
-  states_are s c n p i = sym (λ j. found ShellDiffers (sym s j) (found CodeDiffers (c j) (found GlyphDiffers (n j) (found (λ p. LacksComponent (unwrap_or (smallest (wanted_by profile f g p) (glyph_names f g)) []) p) (p j) (found (λ i. SubrDiffers i (smallest (used_by profile f g i) (glyph_names f g))) (i j) None)))))
+  pub states_are : {c : Option ℕ} {n p : Option (List ℕ)} {i : Option ℕ} → shell_conflict f g ≡ None →
+      c ≡ code_conflict f g → n ≡ glyph_conflict f g → p ≡ component_conflict profile f g → i ≡ subr_conflict profile f g
+      → states_conflict profile f g
+      ≡ found CodeDiffers c (found GlyphDiffers n (found (λ p. LacksComponent (unwrap_or (smallest (wanted_by profile f g p) (glyph_names f g)) []) p) p
+      (found (λ i. SubrDiffers i (smallest (used_by profile f g i) (glyph_names f g))) i None)))
+  states_are s c n p i = sym (λ j. found ShellDiffers (sym s j)
+      (found CodeDiffers (c j) (found GlyphDiffers (n j) (found (λ p. LacksComponent (unwrap_or (smallest (wanted_by profile f g p) (glyph_names f g)) []) p)
+      (p j) (found (λ i. SubrDiffers i (smallest (used_by profile f g i) (glyph_names f g))) (i j) None)))))
 
   -- a refusal that tells a part that differs tells the lowest conflict of states
-  pub tells_shell : (x : Option ShellPart) → x ≡ shell_conflict f g → (e : Refusal) → Tells e (option_map ShellDiffers x) → Tells e (states_conflict profile f g)
+  pub tells_shell : (x : Option ShellPart) → x ≡ shell_conflict f g → (e : Refusal) → Tells e (option_map ShellDiffers x) →
+      Tells e (states_conflict profile f g)
   tells_shell x is e t = tells_on e (option_map ShellDiffers x) (states_conflict profile f g) (λ c h. grind (cases, is, h)) t
 
   -- a refusal that tells the lowest conflict of states tells that of the fonts
   pub tells_states : (e : Refusal) → Tells e (states_conflict profile f g) → Tells e (conflict profile f g)
-  tells_states e t = tells_on e (states_conflict profile f g) (conflict profile f g) (λ x h. ap (λ o. found (λ c. c) o (cond (is_within profile f g) None (Some OverLimit))) h) t
+  tells_states e t = tells_on e (states_conflict profile f g) (conflict profile f g)
+      (λ x h. ap (λ o. found (λ c. c) o (cond (is_within profile f g) None (Some OverLimit))) h) t

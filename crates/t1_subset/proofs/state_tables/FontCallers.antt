@@ -10,7 +10,8 @@ use Rattle.t1_font.proofs.MapLemmas.{entries-map_values}
 use Rattle.t1_algebra.specs.{Interpreter.{same_bytes}, Keep.{has, components, charstring}, Profile.{profile}, States.{joined, is_called, is_sought, joined_font, Compatible, executes, calls_for}}
 use Rattle.t1_algebra.specs.{Conflicts.{keys_of_both, wants, wanted_by, used_by, glyph_names}, Searches.{smallest, members, first_where}}
 use Rattle.t1_algebra.proofs.{Subsets.{glyph_in_join}, JoinedStates.{present_joined, executes_join, calls_join}, Uses.{executing_there, naming_there, sought}, Sets.{name_same, clash, tied, cases}}
-use Rattle.t1_subset.specs.{declared.callers.Callers.{Callers}, Differences.{smaller}, Callers.{same_charstring, user_of, seeker_of, smallest_from, user_from, seeker_from, AreCallersOf}, Clashes.{AreCallers}}
+use Rattle.t1_subset.specs.{declared.callers.Callers.{Callers}, Differences.{smaller}}
+use Rattle.t1_subset.specs.{Callers.{same_charstring, user_of, seeker_of, smallest_from, user_from, seeker_from, AreCallersOf}, Clashes.{AreCallers}}
 use Rattle.t1_subset.proofs.{closing.Runs.{calls_by, no_calls, no_components}, state_tables.LowestKeys.{smaller_first}}
 
 -- ---- the first of some names
@@ -85,11 +86,13 @@ module _ (f g : FontValue) where
   -- the smaller of the seekers in two fonts is the smallest glyph of both that wants the component
   pub smallest_seeker : (p : List ℕ) → smaller name_cmp (seeker_of f p) (seeker_of g p) ≡ smallest (wanted_by profile f g p) (glyph_names f g)
   smallest_seeker p = smaller_first nat_list_cmp_total name_same (λ n. wants profile f n p) (λ n. wants profile g n p) f.glyphs g.glyphs
-      (λ n h. naming_there profile f p (maps.get f.glyphs n) (second_so (not (has f p)) (calls_for profile f n p) h)) (λ n h. naming_there profile g p (maps.get g.glyphs n) (second_so (not (has g p)) (calls_for profile g n p) h))
+      (λ n h. naming_there profile f p (maps.get f.glyphs n) (second_so (not (has f p)) (calls_for profile f n p) h)) (λ n h.
+      naming_there profile g p (maps.get g.glyphs n) (second_so (not (has g p)) (calls_for profile g n p) h))
 
 -- the names of merged maps are the keys of both
 names_of_both : (a b : Named) → names_in (merged a b) ≡ members (keys_of_both a b)
-names_of_both a b = sym (ap (map (λ e. e.0)) (entries-map_values nat_list_cmp_total name_same (λ k v. 0) (merged a b)) ∙ map-map (λ (e : List ℕ × ℕ). e.0) (λ (e : List ℕ × List ℕ). (e.0, 0)) (maps.entries (merged a b)))
+names_of_both a b = sym (ap (map (λ e. e.0)) (entries-map_values nat_list_cmp_total name_same (λ k v. 0) (merged a b))
+    ∙ map-map (λ (e : List ℕ × ℕ). e.0) (λ (e : List ℕ × List ℕ). (e.0, 0)) (maps.entries (merged a b)))
 
 -- ---- the glyphs of a join
 
@@ -103,11 +106,13 @@ module _ (f g : FontValue) (c : Compatible profile f g) where
 
   -- the user of an index in the join is the smaller of those in the fonts
   pub user_join : (i : ℕ) → user_of both i ≡ smaller name_cmp (user_of f i) (user_of g i)
-  user_join i = (λ k. first_where (λ n. executes_join profile f g c i n k) (names_in both.glyphs)) ∙ ap (first_where (used_by profile f g i)) (names_of_both f.glyphs g.glyphs) ∙ sym (smallest_user f g i)
+  user_join i = (λ k. first_where (λ n. executes_join profile f g c i n k) (names_in both.glyphs))
+      ∙ ap (first_where (used_by profile f g i)) (names_of_both f.glyphs g.glyphs) ∙ sym (smallest_user f g i)
 
   -- the seeker of a component in the join is the smaller of those in the fonts
   pub seeker_join : (p : List ℕ) → seeker_of both p ≡ smaller name_cmp (seeker_of f p) (seeker_of g p)
-  seeker_join p = (λ k. first_where (λ n. wants_join p n k) (names_in both.glyphs)) ∙ ap (first_where (wanted_by profile f g p)) (names_of_both f.glyphs g.glyphs) ∙ sym (smallest_seeker f g p)
+  seeker_join p = (λ k. first_where (λ n. wants_join p n k) (names_in both.glyphs))
+      ∙ ap (first_where (wanted_by profile f g p)) (names_of_both f.glyphs g.glyphs) ∙ sym (smallest_seeker f g p)
 
 -- ---- the callers of some fonts
 
@@ -117,7 +122,8 @@ pub record CallersSoFar (cs : List Callers) (f : FontValue) : Type 0 where
   pub seekers : (p : List ℕ) → seeker_from None cs p ≡ seeker_of f p
 
 -- the smallest among callers with one more font is the smaller of two
-smallest_last : (noted : Callers → Option (List ℕ)) (best : Option (List ℕ)) (cs : List Callers) (c : Callers) → smallest_from noted best (cs ++ c ∷ []) ≡ smaller name_cmp (smallest_from noted best cs) (noted c)
+smallest_last : (noted : Callers → Option (List ℕ)) (best : Option (List ℕ)) (cs : List Callers) (c : Callers) →
+    smallest_from noted best (cs ++ c ∷ []) ≡ smaller name_cmp (smallest_from noted best cs) (noted c)
 smallest_last noted best [] c = refl
 smallest_last noted best (d ∷ cs) c = smallest_last noted (smaller name_cmp best (noted d)) cs c
 
@@ -126,7 +132,8 @@ pub first_callers : (c : Callers) (f : FontValue) → AreCallersOf c f → Calle
 first_callers c f h = record { users = h.users; seekers = h.seekers }
 
 module _ (f g : FontValue) (cs : List Callers) (d : Callers) (h : CallersSoFar cs f) (k : AreCallersOf d g) where
-  user_more : (i : ℕ) → maps.contains_key f.subrs i ≡ true → maps.contains_key g.subrs i ≡ true → user_from None (cs ++ d ∷ []) i ≡ smaller name_cmp (user_of f i) (user_of g i)
+  user_more : (i : ℕ) → maps.contains_key f.subrs i ≡ true → maps.contains_key g.subrs i ≡ true →
+      user_from None (cs ++ d ∷ []) i ≡ smaller name_cmp (user_of f i) (user_of g i)
   user_more i l m = smallest_last (λ c. maps.get c.users (of_number i)) None cs d ∙ (λ t. smaller name_cmp (h.users i l t) (k.users i m t))
 
   seeker_more : (p : List ℕ) → seeker_from None (cs ++ d ∷ []) p ≡ smaller name_cmp (seeker_of f p) (seeker_of g p)

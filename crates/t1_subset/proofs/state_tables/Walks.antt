@@ -5,10 +5,12 @@ use Rattle.std.specs.List.{AllByRecursion}
 use Rattle.t1_join.specs.Groupings.{Grouping, one}
 use Rattle.t1_join.proofs.OrderLemmas.{all_of_both}
 use Rattle.t1_font.specs.{FontValue.{FontValue}, IsFont.{IsFont}}
-use Rattle.t1_algebra.specs.{Profile.{profile}, States.{Join, joined_font}, StateTables.{StatesValue, StatesAgree, StatesJoin, states_of}, StateLaws.{states_laws}, Conflicts.{OverLimit, states_conflict, conflict}}
+use Rattle.t1_algebra.specs.{Profile.{profile}, States.{Join, joined_font}, StateTables.{StatesValue, StatesAgree, StatesJoin, states_of}}
+use Rattle.t1_algebra.specs.{StateLaws.{states_laws}, Conflicts.{OverLimit, states_conflict, conflict}}
 use Rattle.t1_algebra.specs.{Searches.{found}, Groupings.{Merges}, Merges.{ComesTo, ComesToStates}}
 use Rattle.t1_algebra.proofs.{Conflicts.{no_conflict}, FontStates.{join_exactly, states_join}, Fonts.{font_within, joined_is_font}, ManyMerges.{left_snoc}}
-use Rattle.t1_subset.specs.{declared.callers.Callers.{Callers}, declared.conflict.Conflict.{Conflict as Refusal}, Refusals.{Tells}, Callers.{AreCallersOf, AreNoted, fonts_of}, Clashes.{AreStatesOf, AreCallers}}
+use Rattle.t1_subset.specs.{declared.callers.Callers.{Callers}, declared.conflict.Conflict.{Conflict as Refusal}}
+use Rattle.t1_subset.specs.{Refusals.{Tells}, Callers.{AreCallersOf, AreNoted, fonts_of}, Clashes.{AreStatesOf, AreCallers}}
 use Rattle.t1_subset.specs.Merger.{IsRefused}
 use Rattle.t1_subset.proofs.{state_tables.Conflicts.{over}, state_tables.FontCallers.{CallersSoFar, first_callers, both_callers, more_callers}}
 
@@ -18,7 +20,8 @@ module _ (s t : StatesValue) (f g : FontValue) (h : AreStatesOf s t f g) where
   -- if the states of two fonts join, the fonts do, and to a font of the joined states
   pub joins_to : (z : StatesValue) → StatesJoin s t z → Join profile f g × (z ≡ states_of profile (joined_font profile f g))
   joins_to z j =
-      let k : StatesJoin (states_of profile f) (states_of profile g) z = subst (λ (t : StatesValue). StatesJoin (states_of profile f) t z) h.other (subst (λ (s : StatesValue). StatesJoin s t z) h.own j) in
+      let k : StatesJoin (states_of profile f) (states_of profile g) z =
+      subst (λ (t : StatesValue). StatesJoin (states_of profile f) t z) h.other (subst (λ (s : StatesValue). StatesJoin s t z) h.own j) in
       let join = (join_exactly profile f g (font_within f h.own_font)).0 (z, k) in
       (join, states_laws.one_answer _ _ _ _ k (states_join profile f g join))
 
@@ -42,12 +45,15 @@ pub record JoinedSoFar (cs : List Callers) (s : StatesValue) : Type 0 where
 -- fonts with one more that joins come to the join
 comes_last : (fs : List FontValue) (x j : FontValue) → ComesTo fs j → Join profile j x → ComesTo (fs ++ x ∷ []) (joined_font profile j x)
 comes_last [] x j h k = absurd h
-comes_last (f ∷ fs) x j h k = subst (λ (t : Grouping FontValue). Merges profile t (joined_font profile j x)) (sym (left_snoc (one f) fs x)) (j, x, h, refl, (k, refl))
+comes_last (f ∷ fs) x j h k =
+    subst (λ (t : Grouping FontValue). Merges profile t (joined_font profile j x)) (sym (left_snoc (one f) fs x)) (j, x, h, refl, (k, refl))
 
 -- fonts are refused for the conflict with the first that does not join
-stops_at : (before : List FontValue) (x : FontValue) (after fs : List FontValue) (j : FontValue) → ComesTo before j → before ++ x ∷ after ≡ fs → (e : Refusal) → Tells e (conflict profile j x) → IsRefused fs e
+stops_at : (before : List FontValue) (x : FontValue) (after fs : List FontValue) (j : FontValue) →
+    ComesTo before j → before ++ x ∷ after ≡ fs → (e : Refusal) → Tells e (conflict profile j x) → IsRefused fs e
 stops_at [] x after fs j h is e t = absurd h
-stops_at (f ∷ before) x after fs j h is e t = subst (λ (fs : List FontValue). IsRefused fs e) is (inr (record { before = before; font = x; after = after; joined = j; list = refl; merges = h; tells = t }))
+stops_at (f ∷ before) x after fs j h is e t = subst (λ (fs : List FontValue). IsRefused fs e) is
+    (inr (record { before = before; font = x; after = after; joined = j; list = refl; merges = h; tells = t }))
 
 -- the fonts of callers that are noted are fonts
 pub all_fonts : (cs : List Callers) → AreNoted cs → AllByRecursion IsFont (fonts_of cs)
@@ -70,10 +76,18 @@ turn [] h i l = absurd (omega (arith, l))
 turn (c ∷ cs) h zero l = record { here = c; is_font = h.0.0; callers = h.0.1; next = refl; all = refl; states = λ s. refl }
 turn (c ∷ cs) h (suc i) l =
     let t = turn cs h.1 i (omega (arith, l)) in
-    record { here = t.here; is_font = t.is_font; callers = t.callers; next = ap (λ (ds : List Callers). c ∷ ds) t.next; all = ap (λ (ds : List Callers). c ∷ ds) t.all; states = t.states }
+    record {
+      here = t.here;
+      is_font = t.is_font;
+      callers = t.callers;
+      next = ap (λ (ds : List Callers). c ∷ ds) t.next;
+      all = ap (λ (ds : List Callers). c ∷ ds) t.all;
+      states = t.states;
+    }
 
 -- the first font comes to itself, and its states joined with themselves are its states
-pub starts : (cs : List Callers) → AreNoted cs → 0 < length cs → (ss : List StatesValue) → ss ≡ map (states_of profile) (fonts_of cs) → (t s : StatesValue) → t ≡ get_or ss 0 t → StatesJoin t t s → JoinedSoFar (take 1 cs) s
+pub starts : (cs : List Callers) → AreNoted cs → 0 < length cs → (ss : List StatesValue) →
+    ss ≡ map (states_of profile) (fonts_of cs) → (t s : StatesValue) → t ≡ get_or ss 0 t → StatesJoin t t s → JoinedSoFar (take 1 cs) s
 starts [] h l ss is t s e j = absurd (omega (arith, l))
 starts (c ∷ cs) h l ss is t s e j = record {
   font = c.font.now;
@@ -85,7 +99,8 @@ starts (c ∷ cs) h l ss is t s e j = record {
 
 module _ (cs : List Callers) (i : ℕ) (t : Turn cs i) (s : StatesValue) (far : JoinedSoFar (take i cs) s) where
   -- the states of the font so far and of the next one
-  pub next_states : (ss : List StatesValue) → ss ≡ map (states_of profile) (fonts_of cs) → (u : StatesValue) → u ≡ get_or ss i u → AreStatesOf s u far.font t.here.font.now
+  pub next_states : (ss : List StatesValue) → ss ≡ map (states_of profile) (fonts_of cs) → (u : StatesValue) → u ≡ get_or ss i u →
+      AreStatesOf s u far.font t.here.font.now
   next_states ss is u e = record { own_font = far.is_font; other_font = t.is_font; own = far.states; other = e ∙ ap (λ ss. get_or ss i u) is ∙ t.states u }
 
   next : take i cs ++ t.here ∷ [] ≡ take (i + 1) cs
@@ -93,15 +108,18 @@ module _ (cs : List Callers) (i : ℕ) (t : Turn cs i) (s : StatesValue) (far : 
 
   -- the callers up to the next font are those of both
   pub next_callers : AreCallers (take (i + 1) cs) far.font t.here.font.now
-  next_callers = subst (λ (ds : List Callers). AreCallers ds far.font t.here.font.now) next (both_callers far.font t.here.font.now (take i cs) t.here far.callers t.callers)
+  next_callers = subst (λ (ds : List Callers). AreCallers ds far.font t.here.font.now) next
+      (both_callers far.font t.here.font.now (take i cs) t.here far.callers t.callers)
 
   -- if the next font joins, the fonts come to the join
-  pub goes_on : (z : StatesValue) → Join profile far.font t.here.font.now × (z ≡ states_of profile (joined_font profile far.font t.here.font.now)) → JoinedSoFar (take (i + 1) cs) z
+  pub goes_on : (z : StatesValue) → Join profile far.font t.here.font.now × (z ≡ states_of profile (joined_font profile far.font t.here.font.now)) →
+      JoinedSoFar (take (i + 1) cs) z
   goes_on z j =
       let both = joined_font profile far.font t.here.font.now in
       subst (λ (ds : List Callers). JoinedSoFar ds z) next (record {
         font = both;
-        comes = subst (λ (fs : List FontValue). ComesTo fs both) (sym (map-append _ (take i cs) (t.here ∷ []))) (comes_last (fonts_of (take i cs)) t.here.font.now far.font far.comes j.0);
+        comes = subst (λ (fs : List FontValue). ComesTo fs both) (sym (map-append _ (take i cs) (t.here ∷ [])))
+            (comes_last (fonts_of (take i cs)) t.here.font.now far.font far.comes j.0);
         is_font = joined_is_font profile far.font t.here.font.now far.is_font t.is_font j.0;
         states = j.1;
         callers = more_callers far.font t.here.font.now (take i cs) t.here far.callers t.callers j.0.states;
@@ -109,7 +127,8 @@ module _ (cs : List Callers) (i : ℕ) (t : Turn cs i) (s : StatesValue) (far : 
 
   -- if the next font doesn't join, the fonts are refused
   pub stops : (r : Refusal) → Tells r (conflict profile far.font t.here.font.now) → IsRefused (fonts_of cs) r
-  stops = stops_at (fonts_of (take i cs)) t.here.font.now (fonts_of (drop (suc i) cs)) (fonts_of cs) far.font far.comes (sym (map-append _ (take i cs) (t.here ∷ drop (suc i) cs)) ∙ ap fonts_of t.all)
+  stops = stops_at (fonts_of (take i cs)) t.here.font.now (fonts_of (drop (suc i) cs))
+      (fonts_of cs) far.font far.comes (sym (map-append _ (take i cs) (t.here ∷ drop (suc i) cs)) ∙ ap fonts_of t.all)
 
 -- if no font is left, the fonts come to a font of the states so far
 pub ends : (cs : List Callers) (i : ℕ) → length cs ≤ i → (s : StatesValue) → JoinedSoFar (take i cs) s → ComesToStates (fonts_of cs) s
@@ -124,7 +143,8 @@ pub record NotedSoFar (cs : List Callers) (ss : List StatesValue) (fs : List Fon
   pub states : ss ≡ map (states_of profile) fs
 
 -- and those of one more font
-pub noted_more : (cs ds : List Callers) (ss us : List StatesValue) (fs : List FontValue) (i : ℕ) (c : Callers) (s : StatesValue) (f : FontValue) → NotedSoFar cs ss (take i fs) → i < length fs → f ≡ get_or fs i f → IsFont f → c.font.now ≡ f → AreCallersOf c f → s ≡ states_of profile f
+pub noted_more : (cs ds : List Callers) (ss us : List StatesValue) (fs : List FontValue) (i : ℕ) (c : Callers) (s : StatesValue) (f : FontValue) →
+    NotedSoFar cs ss (take i fs) → i < length fs → f ≡ get_or fs i f → IsFont f → c.font.now ≡ f → AreCallersOf c f → s ≡ states_of profile f
     → ds ≡ cs ++ c ∷ [] → us ≡ ss ++ s ∷ [] → NotedSoFar ds us (take (i + 1) fs)
 noted_more cs ds ss us fs i c s f n l at w e k h ed eu =
     let next : take i fs ++ f ∷ [] ≡ take (i + 1) fs = ap (λ (x : FontValue). take i fs ++ x ∷ []) at ∙ sym (take_more fs i f l) in

@@ -10,5 +10,6 @@ bytes-preserved c =
     let pair = one_more_pair c.args.line.now c.bytes.i (omega (arith, c.requires)) in
     record {
       size = simp length-set c.bytes.invariant.size;
-      so_far = take_more_set c.bytes.bytes c.bytes.i _ room ∙ (ap (λ (u : List ℕ). u ++ (c.digit_value.result * 16 + c.digit_value-in-bytes.result) ∷ []) c.bytes.invariant.so_far ∙ rw (c.digit_value.ensures.value, c.digit_value-in-bytes.ensures.value) (sym pair));
+      so_far = take_more_set c.bytes.bytes c.bytes.i _ room ∙ (ap (λ (u : List ℕ). u ++ (c.digit_value.result * 16 + c.digit_value-in-bytes.result) ∷ [])
+          c.bytes.invariant.so_far ∙ rw (c.digit_value.ensures.value, c.digit_value-in-bytes.ensures.value) (sym pair));
     }

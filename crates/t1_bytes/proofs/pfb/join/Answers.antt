@@ -27,14 +27,18 @@ returns-in_default-segment_at c =
     (ap segment.read (sym rest) ∙ sym c.in_default-segment_at.ensures)
 
 -- a turn
-turn : (c : goal.After-copy_within) → Joins c.args.file.now.items c.copy_within.new.self.items (c.segments.len + length c.in-Some-segment_at.data.now) (c.len.result - length c.in-Some-segment_at.after.now)
+turn : (c : goal.After-copy_within) → Joins c.args.file.now.items c.copy_within.new.self.items
+    (c.segments.len + length c.in-Some-segment_at.data.now) (c.len.result - length c.in-Some-segment_at.after.now)
 turn c =
     let now = c.segments.file.items in
     let rest : c.split_at.result.1.now ≡ drop c.segments.at now = c.split_at.ensures.back ∙ ap (drop c.segments.at) c.as_slice-in-segments.ensures.value in
     let many : c.len.result ≡ length now = c.len.ensures ∙ (sym c.as_slice-in-segments.ensures.len ∙ ap length c.as_slice-in-segments.ensures.value) in
-    subst (λ (b : List ℕ). Joins c.args.file.now.items b (c.segments.len + length c.in-Some-segment_at.data.now) (c.len.result - length c.in-Some-segment_at.after.now)) (sym c.copy_within.ensures.items)
-    (moved c.args.file.now.items now c.segments.len c.segments.at (length c.in-Some-segment_at.data.now) (c.len.result - length c.in-Some-segment_at.after.now) (c.in-Some-segment_at.data.now, c.in-Some-segment_at.after.now)
-    c.segments.invariant (ap end.read (sym rest) ∙ sym c.in_default.ensures) (ap segment.read (sym rest) ∙ sym c.in-Some-segment_at.ensures) refl (ap (λ (n : ℕ). n - length c.in-Some-segment_at.after.now) many))
+    subst (λ (b : List ℕ). Joins c.args.file.now.items b (c.segments.len + length c.in-Some-segment_at.data.now)
+    (c.len.result - length c.in-Some-segment_at.after.now)) (sym c.copy_within.ensures.items)
+    (moved c.args.file.now.items now c.segments.len c.segments.at (length c.in-Some-segment_at.data.now)
+    (c.len.result - length c.in-Some-segment_at.after.now) (c.in-Some-segment_at.data.now, c.in-Some-segment_at.after.now)
+    c.segments.invariant (ap end.read (sym rest) ∙ sym c.in_default.ensures)
+    (ap segment.read (sym rest) ∙ sym c.in-Some-segment_at.ensures) refl (ap (λ (n : ℕ). n - length c.in-Some-segment_at.after.now) many))
 
 pub segments-preserved : goal.segments-preserved
 segments-preserved c = turn c
@@ -44,5 +48,6 @@ segments-smaller c =
     let now = c.segments.file.items in
     let rest : c.split_at.result.1.now ≡ drop c.segments.at now = c.split_at.ensures.back ∙ ap (drop c.segments.at) c.as_slice-in-segments.ensures.value in
     let many : c.len.result ≡ length now = c.len.ensures ∙ (sym c.as_slice-in-segments.ensures.len ∙ ap length c.as_slice-in-segments.ensures.value) in
-    let eaten = segment_eats (drop c.segments.at now) (c.in-Some-segment_at.data.now, c.in-Some-segment_at.after.now) (ap segment.read (sym rest) ∙ sym c.in-Some-segment_at.ensures) in
+    let eaten = segment_eats (drop c.segments.at now) (c.in-Some-segment_at.data.now, c.in-Some-segment_at.after.now)
+    (ap segment.read (sym rest) ∙ sym c.in-Some-segment_at.ensures) in
     omega (arith, eaten, many, length-drop c.segments.at now, (turn c).size, c.segments.invariant.size, c.segments.invariant.within)

@@ -13,7 +13,8 @@ pub returns-in-None-clause-first : goal.returns-in-None-clause-first
 returns-in-None-clause-first c =
     let le : c.args.from ≤ length c.args.bytes.now = omega arith in
     let absent = rw c.split_at.ensures.back at c.in-None.ensures in
-    nowhere_later c.args.bytes.now c.args.text.now c.args.from (length (drop c.args.from c.args.bytes.now) + 1) (length c.args.bytes.now + 1) le (omega (arith, length-drop c.args.from c.args.bytes.now)) absent
+    nowhere_later c.args.bytes.now c.args.text.now c.args.from (length (drop c.args.from c.args.bytes.now) + 1)
+    (length c.args.bytes.now + 1) le (omega (arith, length-drop c.args.from c.args.bytes.now)) absent
 
 pub returns-in-Some-clause-found : goal.returns-in-Some-clause-found
 returns-in-Some-clause-found c =

@@ -20,12 +20,14 @@ names-init c = record {
 }
 
 pub made-requires : goal.made-requires
-made-requires c = subst (λ gs. Rises name_cmp (map lent_glyph gs)) (sym c.in_ok-drain.ensures.items) (glyphs_rise c.names.cut.entries c.names.invariant.own c.in_ok-drain.ensures.ordered)
+made-requires c = subst (λ gs. Rises name_cmp (map lent_glyph gs)) (sym c.in_ok-drain.ensures.items)
+    (glyphs_rise c.names.cut.entries c.names.invariant.own c.in_ok-drain.ensures.ordered)
 
 pub returns : goal.returns
 returns c =
     c.made.ensures
     ∙ ap (λ gs. from_sorted {R = name_cmp} (map lent_glyph gs)) c.in_ok-drain.ensures.items
     ∙ (glyphs_sorted c.names.cut.entries c.names.invariant.own c.in_ok-drain.ensures.ordered
-    ∙ (ap (λ ns. put_all_into (glyph_names c.names.cut.entries) (entries_of c.args.glyphs.now (map (λ v. v.items) ns))) (sym (drop_all c.names.name-index c.args.names.now c.names-test.false))
+    ∙ (ap (λ ns. put_all_into (glyph_names c.names.cut.entries) (entries_of c.args.glyphs.now (map (λ v. v.items) ns)))
+    (sym (drop_all c.names.name-index c.args.names.now c.names-test.false))
     ∙ c.names.invariant.left))

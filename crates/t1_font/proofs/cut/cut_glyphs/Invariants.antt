@@ -10,5 +10,6 @@ use Rattle.t1_font.proofs.cut.cut_glyphs.Given as goal
 abbrev pub invariant-names : goal.invariant-names
 invariant-names l = record {
   own : AreOwn l.cut.entries;
-  left : put_all_into (glyph_names l.cut.entries) (entries_of l.fn.glyphs (map (λ v. v.items) (drop l.name-index l.fn.names))) ≡ fin.retain_keys l.fn.glyphs (sets.contains (set_of_names l.fn.names));
+  left : put_all_into (glyph_names l.cut.entries) (entries_of l.fn.glyphs (map (λ v. v.items) (drop l.name-index l.fn.names)))
+      ≡ fin.retain_keys l.fn.glyphs (sets.contains (set_of_names l.fn.names));
 }

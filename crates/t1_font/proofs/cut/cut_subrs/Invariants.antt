@@ -8,4 +8,5 @@ use Rattle.t1_font.specs.Lent.{lent_number}
 use Rattle.t1_font.proofs.cut.cut_subrs.Given as goal
 
 abbrev pub invariant-bodies : goal.invariant-bodies
-invariant-bodies l = map lent_number l.cut.items ++ map (λ e. (e.0, cond (contains nat_cmp l.fn.kept e.0) e.1 stub)) l.index-iterator ≡ fin.entries (map_values (λ i c. cond (contains nat_cmp l.fn.kept i) c stub) l.fn.subrs)
+invariant-bodies l = map lent_number l.cut.items ++ map (λ e. (e.0, cond (contains nat_cmp l.fn.kept e.0) e.1 stub)) l.index-iterator
+    ≡ fin.entries (map_values (λ i c. cond (contains nat_cmp l.fn.kept i) c stub) l.fn.subrs)

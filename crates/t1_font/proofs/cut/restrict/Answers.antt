@@ -8,4 +8,5 @@ use Rattle.t1_font.proofs.Kept.{restrict_is_font}
 use Rattle.t1_font.proofs.cut.restrict.Goals as goal
 
 pub invariant_of-result : goal.invariant_of-result
-invariant_of-result c = subst IsFont (sym c.in_ok-parts.ensures) (restrict_is_font (sets.contains (set_of_names c.args.names.now)) (contains nat_cmp c.args.subrs.now) c.font.inside.parts c.font.invariant c.requires.notdef)
+invariant_of-result c = subst IsFont (sym c.in_ok-parts.ensures) (restrict_is_font (sets.contains (set_of_names c.args.names.now))
+    (contains nat_cmp c.args.subrs.now) c.font.inside.parts c.font.invariant c.requires.notdef)

@@ -7,12 +7,14 @@ use Rattle.t1_font.proofs.Drains.{moved, all_moved}
 use Rattle.t1_font.proofs.evening.even_shells.Goals as goal
 
 pub sources-init : goal.sources-init
-sources-init c = ap (λ (items : List FontValue). items ++ map (even c.largest_count-declared.result) (into_iter_items c.into_iter-source-iterator.result)) c.in_ok-all.ensures.items
+sources-init c = ap (λ (items : List FontValue). items ++ map (even c.largest_count-declared.result) (into_iter_items c.into_iter-source-iterator.result))
+    c.in_ok-all.ensures.items
 
 pub sources-preserved : goal.sources-preserved
 sources-preserved c =
     let n = c.largest_count-declared.result in
-    moved c.sources.all.items (map (even n) (into_iter_items c.sources.source-iterator)) (map (even n) (into_iter_items c.into_iter-source-iterator.result)) c.sources.invariant
+    moved c.sources.all.items (map (even n) (into_iter_items c.sources.source-iterator))
+    (map (even n) (into_iter_items c.into_iter-source-iterator.result)) c.sources.invariant
     c.keep.new.sources.items (map (even n) (into_iter_items c.next.new.self)) (even n c.in-Some.source)
     (c.in_ok-keep.ensures ∙ ap (λ (f : FontValue). c.sources.all.items ++ f ∷ []) c.in-Ok.ensures)
     (ap (map (even n)) c.in-Some.ensures.steps.0)
@@ -20,7 +22,8 @@ sources-preserved c =
 pub returns : goal.returns
 returns c =
     let n = c.largest_count-declared.result in
-    all_moved c.sources.all.items (map (even n) (into_iter_items c.sources.source-iterator)) (map (even n) (into_iter_items c.into_iter-source-iterator.result)) c.sources.invariant
+    all_moved c.sources.all.items (map (even n) (into_iter_items c.sources.source-iterator))
+    (map (even n) (into_iter_items c.into_iter-source-iterator.result)) c.sources.invariant
     (ap (map (even n)) (nil_from_length (into_iter_items c.sources.source-iterator) (sym c.sources.source-iterator.rest.ok.0 ∙ c.in-None.ensures.steps.0)))
     ∙ (ap (map (even n)) c.into_iter-source-iterator.ensures.into_iter_gives.0
     ∙ ap (λ (m : ℕ). map (even m) c.args.sources.items) (c.largest_count-declared.ensures ∙ ap largest_count c.as_slice.ensures.value))

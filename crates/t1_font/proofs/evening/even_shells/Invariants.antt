@@ -4,4 +4,5 @@ use Rattle.t1_font.specs.Evening.{even}
 use Rattle.t1_font.proofs.evening.even_shells.Given as goal
 
 abbrev pub invariant-sources : goal.invariant-sources
-invariant-sources l = l.all.items ++ map (even l.declared) (into_iter_items l.source-iterator) ≡ map (even l.declared) (into_iter_items l.initial.source-iterator)
+invariant-sources l =
+    l.all.items ++ map (even l.declared) (into_iter_items l.source-iterator) ≡ map (even l.declared) (into_iter_items l.initial.source-iterator)

@@ -11,7 +11,8 @@ sources-preserved c =
     let fs = c.args.sources.now in
     let n = c.sources.largest in
     let f = get_or fs c.sources.source-index c.source-item.result in
-    let declared : c.declared_count-declared.result ≡ declared_count f.shell.subrs = c.declared_count-declared.ensures ∙ ap (λ (f : FontValue). declared_count f.shell.subrs) c.source-item.is in
+    let declared : c.declared_count-declared.result ≡ declared_count f.shell.subrs =
+    c.declared_count-declared.ensures ∙ ap (λ (f : FontValue). declared_count f.shell.subrs) c.source-item.is in
     let larger : c.if-largest-declared.largest ≡ max n c.declared_count-declared.result = elim c.if-largest-declared.branch [
       | then-largest-declared w ↦ bigger _ n c.declared_count-declared.result w.if-largest-declared.true w.largest-is
       | else-largest-declared w ↦ no_bigger _ n c.declared_count-declared.result w.if-largest-declared.false w.largest-is

@@ -25,9 +25,11 @@ returns c =
     let h = c.in_ok-cut.ensures.parts in
     let from = c.in_ok-cut.cut.from in
     let buffer = c.open_private.new.buffer.items in
-    let private : private_text h.0.cipher ≡ drop (from + 4) buffer = ap private_text (sym h.2.1) ∙ (ap (drop 4) (sym c.open_private.ensures.value) ∙ (drop-drop 4 from buffer ∙ ap (λ k. drop k buffer) (omega arith))) in
+    let private : private_text h.0.cipher ≡ drop (from + 4) buffer =
+    ap private_text (sym h.2.1) ∙ (ap (drop 4) (sym c.open_private.ensures.value) ∙ (drop-drop 4 from buffer ∙ ap (λ k. drop k buffer) (omega arith))) in
     answers_same c.text_parts.result _ (font_texts c.args.dialect c.as_slice.result.now (drop (from + 4) buffer)).read
-    (file_is c.args.dialect c.args.file.items h.0 (search rules) h.1 ∙ (λ i. (font_texts c.args.dialect (sym (c.as_slice.ensures.value ∙ h.2.0) i) (private i)).read))
+    (file_is c.args.dialect c.args.file.items h.0 (search rules) h.1
+    ∙ (λ i. (font_texts c.args.dialect (sym (c.as_slice.ensures.value ∙ h.2.0) i) (private i)).read))
     c.text_parts.ensures
 
 pub text_parts-requires-clause-inside : goal.text_parts-requires-clause-inside

@@ -10,4 +10,6 @@ use Rattle.t1_font.proofs.MapLaws.{sorted_filter}
 use Rattle.t1_font.proofs.file.kept_encoding.Goals as goal
 
 pub returns-in_ok-keep_codes-in-Puts-clause-rise : goal.returns-in_ok-keep_codes-in-Puts-clause-rise
-returns-in_ok-keep_codes-in-Puts-clause-rise c = subst (Rises nat_cmp) (sym c.in_ok-keep_codes-in-Puts.ensures) (sorted_filter nat_cmp_total nat_cmp-IsAntisymmetric has_name (fin.entries (gathered_codes c.args.codes.items)) (fin.entries_sorted (gathered_codes c.args.codes.items)))
+returns-in_ok-keep_codes-in-Puts-clause-rise c =
+    subst (Rises nat_cmp) (sym c.in_ok-keep_codes-in-Puts.ensures) (sorted_filter nat_cmp_total nat_cmp-IsAntisymmetric has_name
+    (fin.entries (gathered_codes c.args.codes.items)) (fin.entries_sorted (gathered_codes c.args.codes.items)))

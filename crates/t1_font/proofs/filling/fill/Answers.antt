@@ -12,7 +12,8 @@ pub returns-then-is_empty-clause-filled : goal.returns-then-is_empty-clause-fill
 returns-then-is_empty-clause-filled c =
     let p = c.parts.inside in
     let f : FontValue = record { shell = p.shell.now; encoding = encoding_of p.encoding; subrs = p.subrs; glyphs = p.glyphs } in
-    sym c.parts.view_is ∙ (unfilled (stubs_at c.args.indices.now) f (sym c.is_empty.ensures ∙ c.if-is_empty.true) ∙ ap (filled_by (stubs_at c.args.indices.now)) (c.parts.view_is ∙ c.font.view_is))
+    sym c.parts.view_is ∙ (unfilled (stubs_at c.args.indices.now) f (sym c.is_empty.ensures ∙ c.if-is_empty.true)
+    ∙ ap (filled_by (stubs_at c.args.indices.now)) (c.parts.view_is ∙ c.font.view_is))
 
 pub returns-then-weight-gt-WEIGHT_LIMIT-clause-filled : goal.returns-then-weight-gt-WEIGHT_LIMIT-clause-filled
 returns-then-weight-gt-WEIGHT_LIMIT-clause-filled c =
@@ -20,7 +21,8 @@ returns-then-weight-gt-WEIGHT_LIMIT-clause-filled c =
     let f : FontValue = record { shell = p.shell.now; encoding = encoding_of p.encoding; subrs = p.subrs; glyphs = p.glyphs } in
     let g : FontValue = record { shell = p.shell.now; encoding = encoding_of p.encoding; subrs = c.in-Ok.subrs; glyphs = p.glyphs } in
     subst (λ (f : FontValue). weight_limit < weight f)
-    (parts_filled (stubs_at c.args.indices.now) c.args.font f c.declared_count.result c.in-Ok.subrs (c.parts.view_is ∙ c.font.view_is) (sym c.is_empty.ensures ∙ c.if-is_empty.false) c.declared_count.ensures c.in-Ok.ensures)
+    (parts_filled (stubs_at c.args.indices.now) c.args.font f c.declared_count.result c.in-Ok.subrs
+    (c.parts.view_is ∙ c.font.view_is) (sym c.is_empty.ensures ∙ c.if-is_empty.false) c.declared_count.ensures c.in-Ok.ensures)
     (clamp_heavy c.weight.result (weight g) c.weight.ensures c.if-weight-gt-WEIGHT_LIMIT.true)
 
 pub invariant_of-result-2 : goal.invariant_of-result-2
@@ -29,7 +31,8 @@ invariant_of-result-2 c =
     let f : FontValue = record { shell = p.shell.now; encoding = encoding_of p.encoding; subrs = p.subrs; glyphs = p.glyphs } in
     let g : FontValue = record { shell = p.shell.now; encoding = encoding_of p.encoding; subrs = c.in-Ok.subrs; glyphs = p.glyphs } in
     let is : g ≡ filled_by (stubs_at c.args.indices.now) c.args.font =
-    parts_filled (stubs_at c.args.indices.now) c.args.font f c.declared_count.result c.in-Ok.subrs (c.parts.view_is ∙ c.font.view_is) (sym c.is_empty.ensures ∙ c.if-is_empty.false) c.declared_count.ensures c.in-Ok.ensures in
+    parts_filled (stubs_at c.args.indices.now) c.args.font f c.declared_count.result c.in-Ok.subrs
+    (c.parts.view_is ∙ c.font.view_is) (sym c.is_empty.ensures ∙ c.if-is_empty.false) c.declared_count.ensures c.in-Ok.ensures in
     subst IsFont (sym is) (filled_by_is_font c.args.indices.now c.args.font (subst IsFont c.font.view_is c.font.invariant)
     (subst (λ (f : FontValue). weight f ≤ weight_limit) is (clamp_light c.weight.result (weight g) c.weight.ensures c.if-weight-gt-WEIGHT_LIMIT.false)))
 
@@ -37,4 +40,5 @@ pub returns-clause-filled : goal.returns-clause-filled
 returns-clause-filled c =
     let p = c.parts.inside in
     let f : FontValue = record { shell = p.shell.now; encoding = encoding_of p.encoding; subrs = p.subrs; glyphs = p.glyphs } in
-    parts_filled (stubs_at c.args.indices.now) c.args.font f c.declared_count.result c.in-Ok.subrs (c.parts.view_is ∙ c.font.view_is) (sym c.is_empty.ensures ∙ c.if-is_empty.false) c.declared_count.ensures c.in-Ok.ensures
+    parts_filled (stubs_at c.args.indices.now) c.args.font f c.declared_count.result c.in-Ok.subrs
+    (c.parts.view_is ∙ c.font.view_is) (sym c.is_empty.ensures ∙ c.if-is_empty.false) c.declared_count.ensures c.in-Ok.ensures

@@ -12,21 +12,26 @@ use Rattle.t1_font.proofs.even_fonts.Filled.{stubs_listed, none_filled, all_fill
 use Rattle.t1_font.proofs.filling.fill_all.Goals as goal
 
 pub fonts-init : goal.fonts-init
-fonts-init c = none_filled (into_iter_items c.into_iter-font-iterator.result) c.in_ok-all.all.items (into_iter_items c.into_iter-font-iterator.result) c.in_ok-all.ensures.items refl
+fonts-init c = none_filled (into_iter_items c.into_iter-font-iterator.result) c.in_ok-all.all.items
+    (into_iter_items c.into_iter-font-iterator.result) c.in_ok-all.ensures.items refl
 
 pub fonts-preserved : goal.fonts-preserved
 fonts-preserved c =
     let fs = into_iter_items c.into_iter-font-iterator.result in
-    let at : stubs_at c.args.indices.now ≡ stubs_at (indices_of_all fs) = ap stubs_at c.requires ∙ (stubs_listed (indices_of_all c.args.fonts.items) ∙ ap (λ (gs : List FontValue). stubs_at (indices_of_all gs)) (sym c.into_iter-font-iterator.ensures.into_iter_gives.0)) in
-    fills_on (stubs_at c.args.indices.now) fs c.fonts.all.items (into_iter_items c.fonts.font-iterator) (into_iter_items c.next.new.self) c.in-Some.font c.fonts.invariant c.in-Some.ensures.steps.0 at
+    let at : stubs_at c.args.indices.now ≡ stubs_at (indices_of_all fs) = ap stubs_at c.requires ∙ (stubs_listed (indices_of_all c.args.fonts.items)
+    ∙ ap (λ (gs : List FontValue). stubs_at (indices_of_all gs)) (sym c.into_iter-font-iterator.ensures.into_iter_gives.0)) in
+    fills_on (stubs_at c.args.indices.now) fs c.fonts.all.items (into_iter_items c.fonts.font-iterator)
+    (into_iter_items c.next.new.self) c.in-Some.font c.fonts.invariant c.in-Some.ensures.steps.0 at
     c.keep.new.fonts.items c.in-Ok.font c.in-Ok.ensures.filled c.in-Ok.ensures.light c.in_ok-keep.ensures
 
 pub returns-in-Err : goal.returns-in-Err
 returns-in-Err c =
     let fs = into_iter_items c.into_iter-font-iterator.result in
-    let at : stubs_at c.args.indices.now ≡ stubs_at (indices_of_all fs) = ap stubs_at c.requires ∙ (stubs_listed (indices_of_all c.args.fonts.items) ∙ ap (λ (gs : List FontValue). stubs_at (indices_of_all gs)) (sym c.into_iter-font-iterator.ensures.into_iter_gives.0)) in
+    let at : stubs_at c.args.indices.now ≡ stubs_at (indices_of_all fs) = ap stubs_at c.requires ∙ (stubs_listed (indices_of_all c.args.fonts.items)
+    ∙ ap (λ (gs : List FontValue). stubs_at (indices_of_all gs)) (sym c.into_iter-font-iterator.ensures.into_iter_gives.0)) in
     subst (λ (gs : List FontValue). FillRefuses gs c.in-Err.fault) c.into_iter-font-iterator.ensures.into_iter_gives.0
-    (refused_there (stubs_at c.args.indices.now) fs c.fonts.all.items (into_iter_items c.fonts.font-iterator) (into_iter_items c.next.new.self) c.in-Some.font c.fonts.invariant c.in-Some.ensures.steps.0 at c.in-Err.fault c.in-Err.ensures.filled)
+    (refused_there (stubs_at c.args.indices.now) fs c.fonts.all.items (into_iter_items c.fonts.font-iterator)
+    (into_iter_items c.next.new.self) c.in-Some.font c.fonts.invariant c.in-Some.ensures.steps.0 at c.in-Err.fault c.in-Err.ensures.filled)
 
 pub returns : goal.returns
 returns c =

@@ -19,7 +19,9 @@ others-preserved c =
     let m = c.args.table.now in
     let there : contains_key m c.in-Some.number ≡ true = sym (ap is_some c.get_near.ensures) ∙ (lent_there c.get_near.result ∙ c.if-is_none.ensures) in
     let more = rest_more lent_number _ _ _ _ c.in-Some.is c.next.ensures.steps in
-    one_known m c.args.others.now (c.in-Some.number, c.in-Some.field-0-1.now) c.next.new.self there (subst (KnownOrLeft m c.args.others.now) more c.others.invariant)
+    one_known m c.args.others.now (c.in-Some.number, c.in-Some.field-0-1.now) c.next.new.self there
+    (subst (KnownOrLeft m c.args.others.now) more c.others.invariant)
 
 pub returns : goal.returns
-returns c = λ t. all_known c.args.table.now c.args.others.now c.others.number-iterator (rest_all lent_number _ _ _ c.in-None.is c.next.ensures.steps) c.others.invariant
+returns c =
+    λ t. all_known c.args.table.now c.args.others.now c.others.number-iterator (rest_all lent_number _ _ _ c.in-None.is c.next.ensures.steps) c.others.invariant

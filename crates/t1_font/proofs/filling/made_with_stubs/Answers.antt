@@ -16,7 +16,8 @@ made-stubs-requires c =
     let n = c.args.declared in
     let js = c.args.indices.now in
     rises_of _ (retain_keys (stubs_at js) (λ i. nat_lt i n))
-    (all_out lent_number c.indices.stubs.items _ _ (ap (λ (js : List ℕ). map stub_at (below n js)) (drop_all c.indices.index-index js c.indices-test.false)) c.indices.invariant ∙ stubs_before js c.requires n)
+    (all_out lent_number c.indices.stubs.items _ _ (ap (λ (js : List ℕ). map stub_at (below n js)) (drop_all c.indices.index-index js c.indices-test.false))
+    c.indices.invariant ∙ stubs_before js c.requires n)
 
 pub returns : goal.returns
 returns c =
@@ -24,5 +25,6 @@ returns c =
     let js = c.args.indices.now in
     subst (λ (m : Numbered). IfOk c.join_codes.result (λ r. r ≡ merged c.args.subrs.now m))
     (c.made-stubs.ensures ∙ map_of _ (retain_keys (stubs_at js) (λ i. nat_lt i n))
-    (all_out lent_number c.indices.stubs.items _ _ (ap (λ (js : List ℕ). map stub_at (below n js)) (drop_all c.indices.index-index js c.indices-test.false)) c.indices.invariant ∙ stubs_before js c.requires n))
+    (all_out lent_number c.indices.stubs.items _ _ (ap (λ (js : List ℕ). map stub_at (below n js)) (drop_all c.indices.index-index js c.indices-test.false))
+    c.indices.invariant ∙ stubs_before js c.requires n))
     c.join_codes.ensures

@@ -4,4 +4,5 @@ use Rattle.t1_font.specs.Lent.{lent_number, stub_at}
 use Rattle.t1_font.proofs.filling.made_with_stubs.Given as goal
 
 abbrev pub invariant-indices : goal.invariant-indices
-invariant-indices l = map lent_number l.stubs.items ++ map stub_at (below l.fn.declared (drop l.index-index l.fn.indices)) ≡ map stub_at (below l.fn.declared l.fn.indices)
+invariant-indices l =
+    map lent_number l.stubs.items ++ map stub_at (below l.fn.declared (drop l.index-index l.fn.indices)) ≡ map stub_at (below l.fn.declared l.fn.indices)

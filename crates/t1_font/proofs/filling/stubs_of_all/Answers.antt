@@ -13,17 +13,20 @@ use Rattle.t1_font.proofs.filling.stubs_of_all.Goals as goal
 use Rattle.t1_font.proofs.filling.stubs_of_all.Goals.{then-not-has_all+in_ok-all, else-not-has_all}
 
 pub fonts-init : goal.fonts-init
-fonts-init c = none_so_far _ c.args.fonts.now (c.made-all.ensures ∙ ap (λ es. from_sorted {R = nat_cmp} (map lent_number es)) c.new.ensures.items ∙ no_entries nat_cmp)
+fonts-init c =
+    none_so_far _ c.args.fonts.now (c.made-all.ensures ∙ ap (λ es. from_sorted {R = nat_cmp} (map lent_number es)) c.new.ensures.items ∙ no_entries nat_cmp)
 
 pub fonts-preserved : goal.fonts-preserved
 fonts-preserved c =
     let fs = c.args.fonts.now in
     let i = c.fonts.font-index in
     let f = c.font-item.result in
-    let subrs : c.font-inside.inside.0.0.subrs ≡ f.subrs = ap (λ (s : Inside). s.parts.subrs) c.font-inside.view_is ∙ ap (λ (f : FontValue). f.subrs) c.font.view_is in
+    let subrs : c.font-inside.inside.0.0.subrs ≡ f.subrs =
+    ap (λ (s : Inside). s.parts.subrs) c.font-inside.view_is ∙ ap (λ (f : FontValue). f.subrs) c.font.view_is in
     elim c.if-not-has_all.branch [
       | then-not-has_all+in_ok-all w ↦ subst (λ (m : Numbered). IndicesSoFar m (drop (i + 1) fs) fs) (sym w.all-is)
-          (one_more_font c.fonts.all fs fs i f f c.fonts-test.true (sym c.font-item.is) c.fonts.invariant w.in_ok-all.all (w.in_ok-all.ensures ∙ ap (merged c.fonts.all) subrs))
+          (one_more_font c.fonts.all fs fs i f f c.fonts-test.true
+          (sym c.font-item.is) c.fonts.invariant w.in_ok-all.all (w.in_ok-all.ensures ∙ ap (merged c.fonts.all) subrs))
       | else-not-has_all w ↦ subst (λ (m : Numbered). IndicesSoFar m (drop (i + 1) fs) fs) (sym w.all-is)
           (no_more_font c.fonts.all fs fs i f f c.fonts-test.true (sym c.font-item.is) c.fonts.invariant
           (subst (λ (n : Numbered). (q : ℕ) → contains_key n q ≡ true → contains_key c.fonts.all q ≡ true) subrs (c.has_all.ensures w.if-not-has_all.false)))
@@ -32,4 +35,6 @@ fonts-preserved c =
 pub returns : goal.returns
 returns c =
     let fs = c.args.fonts.now in
-    IfOk-weaker c.cut_subrs.result _ _ (λ m e. stubs_of c.fonts.all m fs (subst (λ (gs : List FontValue). IndicesSoFar c.fonts.all gs fs) (drop_all c.fonts.font-index fs c.fonts-test.false) c.fonts.invariant) (e ∙ all_stubs c.new-2.result c.fonts.all c.new-2.ensures.empty)) c.cut_subrs.ensures
+    IfOk-weaker c.cut_subrs.result _ _ (λ m e. stubs_of c.fonts.all m fs
+    (subst (λ (gs : List FontValue). IndicesSoFar c.fonts.all gs fs) (drop_all c.fonts.font-index fs c.fonts-test.false) c.fonts.invariant)
+    (e ∙ all_stubs c.new-2.result c.fonts.all c.new-2.ensures.empty)) c.cut_subrs.ensures

@@ -5,4 +5,8 @@ use Rattle.t1_font.proofs.MapLaws.{get-map_of, get-names_of}
 use Rattle.t1_font.proofs.laws.last_stands.Goals as goal
 
 pub returns : goal.returns
-returns c = record { subrs = get-map_of nat_cmp_total nat_cmp-IsAntisymmetric; glyphs = get-map_of nat_list_cmp_total (slice_cmp-IsAntisymmetric nat_cmp-IsAntisymmetric); codes = get-names_of nat_cmp_total nat_cmp-IsAntisymmetric }
+returns c = record {
+  subrs = get-map_of nat_cmp_total nat_cmp-IsAntisymmetric;
+  glyphs = get-map_of nat_list_cmp_total (slice_cmp-IsAntisymmetric nat_cmp-IsAntisymmetric);
+  codes = get-names_of nat_cmp_total nat_cmp-IsAntisymmetric;
+}

@@ -13,7 +13,8 @@ returns-in-Some-at g c =
     let here : m.marker.read (drop c.in-Some.place bytes) ≡ Some (said, after) = ap m.marker.read back ∙ sym c.in-Some-at.ensures in
     let found : Some ((c.split_at.result.0.now, said), after) ≡ first_at m.marker bytes =
     ap (λ (front : List ℕ). Some ((front, said), after)) c.split_at.ensures.front
-    ∙ found_at m.text m.marker g.met.M.Marker.begins bytes c.places.from c.in-Some.place said after (omega (arith, c.in-Some.ensures.within.1)) c.places.invariant (rw c.text.ensures at c.in-Some.ensures.first) here in
+    ∙ found_at m.text m.marker g.met.M.Marker.begins bytes c.places.from c.in-Some.place said after
+    (omega (arith, c.in-Some.ensures.within.1)) c.places.invariant (rw c.text.ensures at c.in-Some.ensures.first) here in
     search (rules, found)
 
 pub places-preserved : goal.places-preserved
@@ -21,8 +22,10 @@ places-preserved g c =
     let m = g.M.Marker in
     let bytes = c.args.bytes.now in
     let back : drop c.in-Some.place bytes ≡ c.split_at.result.1.now = sym c.split_at.ensures.back in
-    passed_at m.text m.marker g.met.M.Marker.begins bytes c.places.from c.in-Some.place (omega (arith, c.in-Some.ensures.within.1)) c.places.invariant (rw c.text.ensures at c.in-Some.ensures.first)
+    passed_at m.text m.marker g.met.M.Marker.begins bytes c.places.from c.in-Some.place
+    (omega (arith, c.in-Some.ensures.within.1)) c.places.invariant (rw c.text.ensures at c.in-Some.ensures.first)
     (ap m.marker.read back ∙ sym c.in_default-at.ensures)
 
 pub returns : goal.returns
-returns g c = nowhere_at g.M.Marker.text g.M.Marker.marker g.met.M.Marker.begins c.args.bytes.now c.places.from c.places.invariant (rw c.text.ensures at c.in_default.ensures.first)
+returns g c = nowhere_at g.M.Marker.text g.M.Marker.marker g.met.M.Marker.begins c.args.bytes.now c.places.from c.places.invariant
+    (rw c.text.ensures at c.in_default.ensures.first)

@@ -11,9 +11,11 @@ use Rattle.t1_font.proofs.passes.join_glyphs.Goals as goal
 pub made-requires : goal.made-requires
 made-requires c =
     let both = merged c.args.first.now c.args.second.now in
-    subst (Rises name_cmp) (sym (all_out lent_glyph c.pass.all.items c.pass.both (fin.entries both) c.in_default.ensures.0 c.pass.invariant)) (fin.entries_sorted both)
+    subst (Rises name_cmp) (sym (all_out lent_glyph c.pass.all.items c.pass.both (fin.entries both) c.in_default.ensures.0 c.pass.invariant))
+    (fin.entries_sorted both)
 
 pub returns : goal.returns
 returns c =
     let both = merged c.args.first.now c.args.second.now in
-    c.made.ensures ∙ (ap (fin.from_sorted {R = name_cmp}) (all_out lent_glyph c.pass.all.items c.pass.both (fin.entries both) c.in_default.ensures.0 c.pass.invariant) ∙ map_of (fin.entries both) both refl)
+    c.made.ensures ∙ (ap (fin.from_sorted {R = name_cmp})
+    (all_out lent_glyph c.pass.all.items c.pass.both (fin.entries both) c.in_default.ensures.0 c.pass.invariant) ∙ map_of (fin.entries both) both refl)

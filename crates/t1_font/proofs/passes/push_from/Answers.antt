@@ -11,8 +11,10 @@ glyphs-preserved c =
     ap (λ gs. map lent_glyph gs ++ drop (c.glyphs.place + 1) left) c.in_ok-push.ensures.items
     ∙ (ap (λ (es : List (List ℕ × List ℕ)). es ++ drop (c.glyphs.place + 1) left) (map-append lent_glyph c.glyphs.all.items (c.in-Some.glyph ∷ []))
     ∙ (append_assoc (map lent_glyph c.glyphs.all.items) (lent_glyph c.in-Some.glyph ∷ []) (drop (c.glyphs.place + 1) left)
-    ∙ (ap (λ (es : List (List ℕ × List ℕ)). map lent_glyph c.glyphs.all.items ++ es) (sym (from_place left c.glyphs.place (lent_glyph c.in-Some.glyph) (sym c.in-Some.ensures.entry)))
+    ∙ (ap (λ (es : List (List ℕ × List ℕ)). map lent_glyph c.glyphs.all.items ++ es)
+    (sym (from_place left c.glyphs.place (lent_glyph c.in-Some.glyph) (sym c.in-Some.ensures.entry)))
     ∙ c.glyphs.invariant)))
 
 pub returns : goal.returns
-returns c = all_out lent_glyph c.glyphs.all.items _ _ (past_all (fin.entries c.args.table.now) c.glyphs.place (sym c.in_default.ensures.entry)) c.glyphs.invariant
+returns c =
+    all_out lent_glyph c.glyphs.all.items _ _ (past_all (fin.entries c.args.table.now) c.glyphs.place (sym c.in_default.ensures.entry)) c.glyphs.invariant

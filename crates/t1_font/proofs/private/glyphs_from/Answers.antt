@@ -8,7 +8,14 @@ returns-clause-shown c = λ s before.
     let h = c.in_ok-glyphs.ensures.shown in
     let tail : (tail_after c.args.before.middle.items h.0.2).read ≡ Ok c.in_ok-kept.kept.now =
     (λ i. (tail_after (sym c.as_slice.ensures.value i) (sym (c.rest.ensures ∙ h.2.2) i)).read) ∙ c.in_ok-kept.ensures in (
-      record { private = c.args.before.private.items; len_iv = c.args.before.len_iv; subrs = s; middle = c.args.before.middle.items; glyphs = h.0.0; tail = c.in_ok-kept.kept.now },
+      record {
+        private = c.args.before.private.items;
+        len_iv = c.args.before.len_iv;
+        subrs = s;
+        middle = c.args.before.middle.items;
+        glyphs = h.0.0;
+        tail = c.in_ok-kept.kept.now;
+      },
       rw (h.1, tail) refl,
       record {
         private = refl;

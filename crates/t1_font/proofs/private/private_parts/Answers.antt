@@ -17,7 +17,8 @@ pass_to-requires c = omega (arith, ap length c.rest-text.ensures, no_longer (fir
 pub pass_to-requires-2 : goal.pass_to-requires-2
 pass_to-requires-2 c = omega (arith, ap length c.rest-text.ensures, no_longer (first chars_marker) c.rest-text.result.now _ (sym c.in-Some.ensures))
 
-chars_found : (text here : List ℕ) (front glyphs : List ℕ) → here ≡ text → Some ((front, tt), glyphs) ≡ (first chars_marker).read here → (first chars_marker).read text ≡ Some ((front, tt), glyphs)
+chars_found : (text here : List ℕ) (front glyphs : List ℕ) → here ≡ text → Some ((front, tt), glyphs) ≡ (first chars_marker).read here →
+    (first chars_marker).read text ≡ Some ((front, tt), glyphs)
 chars_found text here front glyphs is e = ap (first chars_marker).read (sym is) ∙ sym e
 
 pub returns-then-private-front-clause-shown : goal.returns-then-private-front-clause-shown
@@ -31,7 +32,8 @@ returns-then-private-front-clause-shown c =
     ap (λ (g : Entries). g.rest) c.pass_to.ensures ∙ ending_read (first subrs_marker) text place subrs in
     let chosen : Bool → Reading PrivatePieces =
     λ b. tables_from c.args.dialect (length text) ((c.in-Some.front.now, tt), c.in-Some.glyphs.now) (cond b (Some place) None) in
-    let begins : (private_pieces c.args.dialect text).read ≡ (chosen (ltb (length c.in-Some-first.private.now) (length c.in-Some.front.now))).read = rw (chars, subrs) refl in
+    let begins : (private_pieces c.args.dialect text).read ≡ (chosen (ltb (length c.in-Some-first.private.now) (length c.in-Some.front.now))).read =
+    rw (chars, subrs) refl in
     let lt = lt-ltb (length c.in-Some-first.private.now) (length c.in-Some.front.now) c.if-private-front.true in
     shown_same _ c.tables_with.result _
     (tables_from c.args.dialect (length c.rest-text.result.now) (([], tt), [])
@@ -51,7 +53,8 @@ none_before c =
     let n = length c.in-Some.front.now in
     ap (λ t. before_place n ((first subrs_marker).read t)) (sym c.rest-text.ensures)
     ∙ (elim c.match-first-2.branch [
-      | in-Some-first+else-private-front w ↦ ap (before_place n) (sym w.in-Some-first.ensures) ∙ none_at n ((w.in-Some-first.private.now, w.in-Some-first.subrs.declared), w.in-Some-first.entries.now) w.if-private-front.false
+      | in-Some-first+else-private-front w ↦ ap (before_place n) (sym w.in-Some-first.ensures)
+          ∙ none_at n ((w.in-Some-first.private.now, w.in-Some-first.subrs.declared), w.in-Some-first.entries.now) w.if-private-front.false
       | in_default-first w ↦ ap (before_place n) (sym w.in_default-first.ensures)
     ])
 

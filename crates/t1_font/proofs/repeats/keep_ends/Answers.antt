@@ -13,9 +13,12 @@ entries-preserved g c =
     let were = c.args.entries.now.items in
     let slice = ap (λ es. run_end order (drop c.entries.at es)) c.as_slice.ensures.value in
     elim c.match-end_at.branch [
-      | in-Some w ↦ rw (w.entries-is, w.kept-is) (end_moved order were c.entries.entries.items c.entries.at c.entries.kept c.entries.invariant (there g c) w.in-Some.entry (w.in-Some.ensures ∙ slice))
-      | in_default w ↦ rw (w.entries-is, w.kept-is) (end_passed order were c.entries.entries.items c.entries.at c.entries.kept c.entries.invariant (there g c) (w.in_default.ensures ∙ slice))
+      | in-Some w ↦ rw (w.entries-is, w.kept-is)
+          (end_moved order were c.entries.entries.items c.entries.at c.entries.kept c.entries.invariant (there g c) w.in-Some.entry (w.in-Some.ensures ∙ slice))
+      | in_default w ↦ rw (w.entries-is, w.kept-is)
+          (end_passed order were c.entries.entries.items c.entries.at c.entries.kept c.entries.invariant (there g c) (w.in_default.ensures ∙ slice))
     ]
 
 pub returns : goal.returns
-returns g c = c.truncate.ensures.items ∙ ends_moved g.K.Ord.cmp c.args.entries.now.items c.entries.entries.items c.entries.at c.entries.kept c.entries.invariant (omega (arith, c.entries-test.false, c.len-at-end.ensures, c.args.entries.now.ok.0))
+returns g c = c.truncate.ensures.items ∙ ends_moved g.K.Ord.cmp c.args.entries.now.items c.entries.entries.items c.entries.at c.entries.kept c.entries.invariant
+    (omega (arith, c.entries-test.false, c.len-at-end.ensures, c.args.entries.now.ok.0))

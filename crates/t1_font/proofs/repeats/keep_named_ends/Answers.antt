@@ -14,9 +14,13 @@ glyphs-preserved c =
     let were = c.args.glyphs.now.items in
     let slice = ap (λ es. run_end order (drop c.glyphs.at es)) c.as_slice.ensures.value in
     elim c.match-named_end_at.branch [
-      | in-Some w ↦ rw (w.glyphs-is, w.kept-is) (end_moved order were c.glyphs.glyphs.items c.glyphs.at c.glyphs.kept c.glyphs.invariant (there c) w.in-Some.glyph (w.in-Some.ensures ∙ slice))
-      | in_default w ↦ rw (w.glyphs-is, w.kept-is) (end_passed order were c.glyphs.glyphs.items c.glyphs.at c.glyphs.kept c.glyphs.invariant (there c) (w.in_default.ensures ∙ slice))
+      | in-Some w ↦ rw (w.glyphs-is, w.kept-is)
+          (end_moved order were c.glyphs.glyphs.items c.glyphs.at c.glyphs.kept c.glyphs.invariant (there c) w.in-Some.glyph (w.in-Some.ensures ∙ slice))
+      | in_default w ↦ rw (w.glyphs-is, w.kept-is)
+          (end_passed order were c.glyphs.glyphs.items c.glyphs.at c.glyphs.kept c.glyphs.invariant (there c) (w.in_default.ensures ∙ slice))
     ]
 
 pub returns : goal.returns
-returns c = c.truncate.ensures.items ∙ ends_moved (by_name c.args.buffer.now) c.args.glyphs.now.items c.glyphs.glyphs.items c.glyphs.at c.glyphs.kept c.glyphs.invariant (omega (arith, c.glyphs-test.false, c.len-at-end.ensures, c.args.glyphs.now.ok.0))
+returns c =
+    c.truncate.ensures.items ∙ ends_moved (by_name c.args.buffer.now) c.args.glyphs.now.items c.glyphs.glyphs.items c.glyphs.at c.glyphs.kept c.glyphs.invariant
+    (omega (arith, c.glyphs-test.false, c.len-at-end.ensures, c.args.glyphs.now.ok.0))

@@ -22,7 +22,8 @@ last_so c =
       sorted = c.sort_by.new.self.items;
       same = c.in_ok-sort_by.ensures.permutation;
       rise = c.in_ok-sort_by.ensures.sorted (λ x y. is_lt (by_name c.args.buffer.now x.0 y.0)) rank (always_returns_same _ _ _ (λ a r f' called. search rules));
-      stable = c.in_ok-sort_by.ensures.stable (λ x y. is_lt (by_name c.args.buffer.now x.0 y.0)) rank (always_returns_same _ _ _ (λ a r f' called. search rules));
+      stable =
+          c.in_ok-sort_by.ensures.stable (λ x y. is_lt (by_name c.args.buffer.now x.0 y.0)) rank (always_returns_same _ _ _ (λ a r f' called. search rules));
       last_is = c.keep_named_ends.ensures;
     }
 
@@ -31,6 +32,10 @@ returns c =
     let buffer = c.args.buffer.now in
     let o = names_ordered buffer in
     record {
-      entries = lasts_are (bytes_at buffer) (bytes_at buffer) (by_name buffer) name_cmp nat_list_cmp_total name_same (λ x y. refl) c.args.glyphs.items c.keep_named_ends.new.glyphs.items (last_so c);
-      inside = λ n names bodies. (all_last o (λ e. IsInside n e.0) c.args.glyphs.items c.keep_named_ends.new.glyphs.items (last_so c) names, all_last o (λ e. IsInside n e.1) c.args.glyphs.items c.keep_named_ends.new.glyphs.items (last_so c) bodies);
+      entries = lasts_are (bytes_at buffer) (bytes_at buffer) (by_name buffer) name_cmp nat_list_cmp_total name_same
+          (λ x y. refl) c.args.glyphs.items c.keep_named_ends.new.glyphs.items (last_so c);
+      inside = λ n names bodies. (
+        all_last o (λ e. IsInside n e.0) c.args.glyphs.items c.keep_named_ends.new.glyphs.items (last_so c) names,
+        all_last o (λ e. IsInside n e.1) c.args.glyphs.items c.keep_named_ends.new.glyphs.items (last_so c) bodies,
+      );
     }

@@ -9,4 +9,5 @@ use Rattle.t1_font.proofs.repeats.settle_names.Goals as goal
 pub returns-clause-settled : goal.returns-clause-settled
 returns-clause-settled c =
     ap (λ (es : List (List ℕ × List ℕ)). map_of {R = name_cmp} es) c.in_ok-last.ensures.entries
-    ∙ (map_again nat_list_cmp_total name_same (gathered_glyphs c.args.buffer.now c.replace-all.result.items) ∙ ap (λ (v : _). gathered_glyphs c.args.buffer.now v.items) c.replace-all.ensures.value)
+    ∙ (map_again nat_list_cmp_total name_same (gathered_glyphs c.args.buffer.now c.replace-all.result.items)
+    ∙ ap (λ (v : _). gathered_glyphs c.args.buffer.now v.items) c.replace-all.ensures.value)

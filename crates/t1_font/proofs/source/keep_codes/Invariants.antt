@@ -7,4 +7,5 @@ use Rattle.t1_font.specs.Sources.{kept_name}
 use Rattle.t1_font.proofs.source.keep_codes.Given as goal
 
 abbrev pub invariant-codes : goal.invariant-codes
-invariant-codes l = map kept_name l.kept.items ++ filter has_name (entries_by (λ k. k) (λ n. n.now) (into_iter_items l.code-iterator)) ≡ filter has_name (entries_by (λ k. k) (λ n. n.now) (into_iter_items l.initial.code-iterator))
+invariant-codes l = map kept_name l.kept.items ++ filter has_name (entries_by (λ k. k) (λ n. n.now) (into_iter_items l.code-iterator))
+    ≡ filter has_name (entries_by (λ k. k) (λ n. n.now) (into_iter_items l.initial.code-iterator))

@@ -20,7 +20,8 @@ pub overflow_mul-value : goal.overflow_mul-value
 overflow_mul-value c = omega (arith, small c.digits.value c.digits.count c.digits.invariant.below c.digits.invariant.few c.if-count-eq9.false)
 
 pub overflow_add-value : goal.overflow_add-value
-overflow_add-value c = omega (arith, small c.digits.value c.digits.count c.digits.invariant.below c.digits.invariant.few c.if-count-eq9.false, c.in-Some.ensures.below)
+overflow_add-value c =
+    omega (arith, small c.digits.value c.digits.count c.digits.invariant.below c.digits.invariant.few c.if-count-eq9.false, c.in-Some.ensures.below)
 
 pub digits-preserved : goal.digits-preserved
 digits-preserved c = record {
@@ -31,6 +32,8 @@ digits-preserved c = record {
 
 pub returns-then-count-eq0 : goal.returns-then-count-eq0
 returns-then-count-eq0 c = elim c.then-count-eq0.branch [
-  | then-count-eq0-via-then-count-eq0 w ↦ decimal_empty c.digits.count c.digits.value c.digits.rest.now w.if-count-eq0.true c.in_default.ensures.digit ∙ c.digits.invariant.number
-  | then-count-eq0-via-else-count-eq0+then-regular_comes w ↦ decimal_breaks c.digits.count c.digits.value c.digits.rest.now c.in_default.ensures.digit w.if-regular_comes.ensures ∙ c.digits.invariant.number
+  | then-count-eq0-via-then-count-eq0 w ↦ decimal_empty c.digits.count c.digits.value c.digits.rest.now w.if-count-eq0.true c.in_default.ensures.digit
+      ∙ c.digits.invariant.number
+  | then-count-eq0-via-else-count-eq0+then-regular_comes w ↦
+      decimal_breaks c.digits.count c.digits.value c.digits.rest.now c.in_default.ensures.digit w.if-regular_comes.ensures ∙ c.digits.invariant.number
 ]

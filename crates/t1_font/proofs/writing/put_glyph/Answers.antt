@@ -8,5 +8,8 @@ use Rattle.t1_font.proofs.writing.put_glyph.Goals as goal
 
 pub returns : goal.returns
 returns c =
-    glyph_put c.args.out.now.items _ _ _ (shell_view c.shell.inside) c.args.name.now c.args.plain.now c.in_ok-extend_from_slice.ensures.items c.in_ok-extend_from_slice-2.ensures.items (c.in_ok-put_body.ensures ∙ (λ i. c.extend_from_slice-2.new.self.items ++ after_key c.shell.inside.len_iv c.args.plain.now (c.as_slice.ensures.value i) (c.as_slice-2.ensures.value i)))
+    glyph_put c.args.out.now.items _ _ _
+    (shell_view c.shell.inside) c.args.name.now c.args.plain.now c.in_ok-extend_from_slice.ensures.items c.in_ok-extend_from_slice-2.ensures.items
+    (c.in_ok-put_body.ensures ∙ (λ i. c.extend_from_slice-2.new.self.items
+    ++ after_key c.shell.inside.len_iv c.args.plain.now (c.as_slice.ensures.value i) (c.as_slice-2.ensures.value i)))
     ∙ ap (λ (s : Shell). c.args.out.now.items ++ glyph_text (glyph_entry s (c.args.name.now, c.args.plain.now))) c.shell.view_is

@@ -5,4 +5,5 @@ use Rattle.t1_font.specs.Canon.{glyph_entry}
 use Rattle.t1_font.proofs.writing.put_glyphs.Given as goal
 
 abbrev pub invariant-glyphs : goal.invariant-glyphs
-invariant-glyphs l = l.out.items ++ glyphs_text (map (glyph_entry l.shell) l.name-iterator) ≡ l.fn.out.items ++ glyphs_part (map (glyph_entry l.shell) (fin.entries l.glyphs))
+invariant-glyphs l =
+    l.out.items ++ glyphs_text (map (glyph_entry l.shell) l.name-iterator) ≡ l.fn.out.items ++ glyphs_part (map (glyph_entry l.shell) (fin.entries l.glyphs))

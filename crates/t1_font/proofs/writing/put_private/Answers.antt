@@ -9,8 +9,10 @@ returns c =
     six_put c.args.out.now.items c.parts.inside.shell.now.private _ c.parts.inside.shell.now.middle _ c.parts.inside.shell.now.tail _ _ _ _ _ _ _
     (c.in_ok-extend_from_slice.ensures.items ∙ ap (λ b. c.args.out.now.items ++ b) (c.as_slice.ensures.value ∙ ap (λ (s : Shell). s.private) c.shell.view_is))
     c.in_ok-put_table.ensures
-    (c.in_ok-extend_from_slice-2.ensures.items ∙ ap (λ b. c.put_table.new.out.items ++ b) (c.as_slice-2.ensures.value ∙ ap (λ (s : Shell). s.middle) c.shell.view_is))
+    (c.in_ok-extend_from_slice-2.ensures.items
+    ∙ ap (λ b. c.put_table.new.out.items ++ b) (c.as_slice-2.ensures.value ∙ ap (λ (s : Shell). s.middle) c.shell.view_is))
     c.in_ok-put_glyphs.ensures
-    (c.in_ok-extend_from_slice-3.ensures.items ∙ ap (λ b. c.put_glyphs.new.out.items ++ b) (c.as_slice-3.ensures.value ∙ ap (λ (s : Shell). s.tail) c.shell.view_is))
+    (c.in_ok-extend_from_slice-3.ensures.items
+    ∙ ap (λ b. c.put_glyphs.new.out.items ++ b) (c.as_slice-3.ensures.value ∙ ap (λ (s : Shell). s.tail) c.shell.view_is))
     c.in_ok-push.ensures.items
     ∙ ap (λ (f : FontValue). c.args.out.now.items ++ canon_private f) c.parts.view_is

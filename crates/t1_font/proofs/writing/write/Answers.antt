@@ -19,7 +19,8 @@ pub returns-clause-canon : goal.returns-clause-canon
 returns-clause-canon c = c.in_ok-file.ensures ∙ ap (λ (f : FontValue). canon f c.args.form) c.font.view_is
 
 pub returns-clause-again : goal.returns-clause-again
-returns-clause-again c = λ fits. ap read_font (c.in_ok-file.ensures ∙ ap (λ (f : FontValue). canon f c.args.form) c.font.view_is) ∙ round_trip c.args.font.now c.args.form (subst IsFont c.font.view_is c.font.invariant) fits
+returns-clause-again c = λ fits. ap read_font (c.in_ok-file.ensures ∙ ap (λ (f : FontValue). canon f c.args.form) c.font.view_is)
+    ∙ round_trip c.args.font.now c.args.form (subst IsFont c.font.view_is c.font.invariant) fits
 
 pub returns-clause-short : goal.returns-clause-short
 returns-clause-short c = subst (λ (t : List ℕ). length t ≤ file_limit) (sym c.in_ok-file.ensures) (canon_short c.font.inside.parts c.args.form c.font.invariant)

@@ -13,7 +13,9 @@ pub returns-then-is_lt-clause-search : goal.returns-then-is_lt-clause-search
 returns-then-is_lt-clause-search g c =
     let entries = c.args.entries.now in
     behind_all (λ e. g.K.Ord.cmp e.0 c.args.key.now) entries (length entries) refl c.if-end-gt0.true
-    (λ d. ap (λ e. g.K.Ord.cmp e.0 c.args.key.now) (get_or_default entries _ d _ (let some = c.if-end-gt0.true in omega (arith, some))) ∙ sym c.cmp.ensures ∙ less_so c.cmp.result c.if-is_lt.ensures)
+    (λ d. ap (λ e. g.K.Ord.cmp e.0 c.args.key.now) (get_or_default entries _ d _ (let some = c.if-end-gt0.true in omega (arith, some)))
+    ∙ sym c.cmp.ensures ∙ less_so c.cmp.result c.if-is_lt.ensures)
 
 pub returns-clause-search : goal.returns-clause-search
-returns-clause-search g c = c.binary_search_by.ensures.position (λ e. g.K.Ord.cmp e.0 c.args.key.now) (always_returns_same _ _ _ (λ a r f' called. search rules))
+returns-clause-search g c =
+    c.binary_search_by.ensures.position (λ e. g.K.Ord.cmp e.0 c.args.key.now) (always_returns_same _ _ _ (λ a r f' called. search rules))

@@ -8,4 +8,5 @@ decreases-turns g l = l.machine.allowed
 
 abbrev pub invariant-turns : goal.invariant-turns
 invariant-turns g l =
-    Between (g.S.Subroutines.subrs l.subrs) l.hints l.charstring l.initial.called l.is_one (Draws g.P.Pen.marked (g.P.Pen.page l.initial.pen) (g.P.Pen.page l.pen)) (l.callers.items ++ l.top ∷ []) l.machine l.called
+    Between (g.S.Subroutines.subrs l.subrs) l.hints l.charstring l.initial.called l.is_one
+    (Draws g.P.Pen.marked (g.P.Pen.page l.initial.pen) (g.P.Pen.page l.pen)) (l.callers.items ++ l.top ∷ []) l.machine l.called

@@ -4,8 +4,10 @@ use Rattle.t1_run.proofs.run.run_glyph.Goals as goal
 
 pub returns-clause-direct : goal.returns-clause-direct
 returns-clause-direct g c =
-    answered (run_glyph (g.S.Subroutines.subrs c.args.subrs.now) c.args.hints c.args.charstring.now) c.in_ok-halt.halt _ _ c.new-marks.ensures.items _ _ c.in_ok-halt.ensures.runs _ c.answer_of.ensures
+    answered (run_glyph (g.S.Subroutines.subrs c.args.subrs.now) c.args.hints c.args.charstring.now)
+    c.in_ok-halt.halt _ _ c.new-marks.ensures.items _ _ c.in_ok-halt.ensures.runs _ c.answer_of.ensures
 
 pub returns-clause-within : goal.returns-clause-within
 returns-clause-within g c =
-    answered_within (run_glyph (g.S.Subroutines.subrs c.args.subrs.now) c.args.hints c.args.charstring.now) c.in_ok-halt.halt _ _ c.new-marks.ensures.items _ _ c.in_ok-halt.ensures.runs _ c.answer_of.ensures
+    answered_within (run_glyph (g.S.Subroutines.subrs c.args.subrs.now) c.args.hints c.args.charstring.now)
+    c.in_ok-halt.halt _ _ c.new-marks.ensures.items _ _ c.in_ok-halt.ensures.runs _ c.answer_of.ensures

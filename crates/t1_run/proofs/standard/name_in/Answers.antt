@@ -8,4 +8,5 @@ returns-in-Some c = sym (from_run_on c.args.runs.now c.loop-first.first-index _ 
 
 -- src/standard.rt:146:5
 pub loop-first-preserved : goal.loop-first-preserved
-loop-first-preserved c = sym (from_run_on c.args.runs.now c.loop-first.first-index _ c.args.code _ c.loop-first-test.true c.in_default.ensures) ∙ c.loop-first.invariant
+loop-first-preserved c =
+    sym (from_run_on c.args.runs.now c.loop-first.first-index _ c.args.code _ c.loop-first-test.true c.in_default.ensures) ∙ c.loop-first.invariant

@@ -15,8 +15,11 @@ returns-then-is_one-clause-executed g c =
 
 -- memory is refused in the first run
 pub returns-in_err-replaced-clause-some : goal.returns-in_err-replaced-clause-some
-returns-in_err-replaced-clause-some g c = let some = first_of_more (calls (g.S.Subroutines.subrs c.args.subrs.now) c.args.charstring.now) (calls3 (g.S.Subroutines.subrs c.args.subrs.now) c.args.charstring.now) c.args.called.now _ c.in_err-replaced.ensures.some in search rules
+returns-in_err-replaced-clause-some g c = let some = first_of_more (calls (g.S.Subroutines.subrs c.args.subrs.now) c.args.charstring.now)
+    (calls3 (g.S.Subroutines.subrs c.args.subrs.now) c.args.charstring.now) c.args.called.now _ c.in_err-replaced.ensures.some in search rules
 
 -- memory is refused in the second run
 pub returns-in_err-kept-clause-some : goal.returns-in_err-kept-clause-some
-returns-in_err-kept-clause-some g c = let some = first_after (calls (g.S.Subroutines.subrs c.args.subrs.now) c.args.charstring.now) (calls3 (g.S.Subroutines.subrs c.args.subrs.now) c.args.charstring.now) c.args.called.now c.halt_of.new.called _ c.in_ok-replaced.ensures.called c.in_err-kept.ensures.some in search rules
+returns-in_err-kept-clause-some g c = let some =
+    first_after (calls (g.S.Subroutines.subrs c.args.subrs.now) c.args.charstring.now) (calls3 (g.S.Subroutines.subrs c.args.subrs.now) c.args.charstring.now)
+    c.args.called.now c.halt_of.new.called _ c.in_ok-replaced.ensures.called c.in_err-kept.ensures.some in search rules

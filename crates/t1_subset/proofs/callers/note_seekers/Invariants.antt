@@ -6,5 +6,6 @@ use Rattle.t1_subset.specs.NameSets.{lent}
 use Rattle.t1_subset.proofs.callers.note_seekers.Given as goal
 
 abbrev pub invariant-components : goal.invariant-components
-invariant-components l = (q : List ℕ) → joined (maps.get l.seekers q) (cond (not (has l.font q) && list_any (same_bytes q) (lent (drop l.component-index l.components))) (Some l.glyph) None)
+invariant-components l = (q : List ℕ) →
+    joined (maps.get l.seekers q) (cond (not (has l.font q) && list_any (same_bytes q) (lent (drop l.component-index l.components))) (Some l.glyph) None)
     ≡ joined (maps.get l.fn.seekers q) (cond (not (has l.font q) && list_any (same_bytes q) (lent l.components)) (Some l.glyph) None)

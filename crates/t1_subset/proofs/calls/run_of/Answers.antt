@@ -9,4 +9,5 @@ pub returns-in_ok-names-in-Some-clause-calls : goal.returns-in_ok-names-in-Some-
 returns-in_ok-names-in-Some-clause-calls c =
     ap set_of c.in_ok-names-in-Some.ensures.executed
     ∙ of_executed c.args.calls.now (subr_at c.args.font.now) c.in-Some.charstring.now
-    ∙ ap (sets.union (set_of c.args.calls.now)) (calls_are c.args.font.now c.proof_is_font.ensures c.args.name.now c.in-Some.charstring.now (sym c.in-Some.ensures))
+    ∙ ap (sets.union (set_of c.args.calls.now))
+    (calls_are c.args.font.now c.proof_is_font.ensures c.args.name.now c.in-Some.charstring.now (sym c.in-Some.ensures))

@@ -4,4 +4,5 @@ use Rattle.t1_subset.specs.ClosureNames.{push_all}
 use Rattle.t1_subset.proofs.closure_names.add_components.Given as goal
 
 abbrev pub invariant-components : goal.invariant-components
-invariant-components l = push_all l.closure (filter (has l.font) (map (λ s. s.now) (drop l.component-index l.components))) ≡ push_all l.fn.closure (filter (has l.font) (map (λ s. s.now) l.components))
+invariant-components l = push_all l.closure (filter (has l.font) (map (λ s. s.now) (drop l.component-index l.components)))
+    ≡ push_all l.fn.closure (filter (has l.font) (map (λ s. s.now) l.components))

@@ -17,7 +17,8 @@ join_all_parts-requires-clause-glyphs c = joined_glyphs _ _ _ c.in-Some.ensures.
 pub returns-in_err-join_all_parts-clause-err : goal.returns-in_err-join_all_parts-clause-err
 returns-in_err-join_all_parts-clause-err c =
     let p = err_from_is_err_and c.from_residual.result c.from_residual.ensures.1 in
-    let memory = parts_refused _ _ _ c.in-Some.ensures.cases.0 _ c.requires.joined c.proof_is_font.ensures c.in_err-join_all_parts.field-0.0 c.in_err-join_all_parts.ensures in
+    let memory = parts_refused _ _ _ c.in-Some.ensures.cases.0 _ c.requires.joined
+    c.proof_is_font.ensures c.in_err-join_all_parts.field-0.0 c.in_err-join_all_parts.ensures in
     subst (λ r. IfErr r (λ e. e ≡ Memory)) (sym p.1) (p.2 ∙ memory)
 
 pub returns-clause-ok : goal.returns-clause-ok

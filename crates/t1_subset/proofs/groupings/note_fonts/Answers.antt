@@ -5,12 +5,17 @@ use Rattle.t1_subset.proofs.state_tables.Walks.{noted_more}
 use Rattle.t1_subset.proofs.groupings.note_fonts.Goals as goal
 
 pub fonts-init : goal.fonts-init
-fonts-init c = record { fonts = ap fonts_of c.in_ok-callers.ensures.items; noted = subst AreNoted (sym c.in_ok-callers.ensures.items) tt; states = c.in_ok-states.ensures.items }
+fonts-init c = record {
+  fonts = ap fonts_of c.in_ok-callers.ensures.items;
+  noted = subst AreNoted (sym c.in_ok-callers.ensures.items) tt;
+  states = c.in_ok-states.ensures.items;
+}
 
 pub fonts-preserved : goal.fonts-preserved
 fonts-preserved c =
     let noted = c.in_ok-own in
-    noted_more _ _ _ _ c.args.fonts.now c.fonts.font-index _ _ c.font-item.result c.fonts.invariant c.fonts-test.true c.font-item.is c.proof_is_font.ensures noted.ensures.font noted.ensures.callers noted.ensures.states
+    noted_more _ _ _ _ c.args.fonts.now c.fonts.font-index _ _ c.font-item.result c.fonts.invariant c.fonts-test.true
+    c.font-item.is c.proof_is_font.ensures noted.ensures.font noted.ensures.callers noted.ensures.states
     c.in_ok-push.ensures.items c.in_ok-push-2.ensures.items
 
 pub returns-clause-fonts : goal.returns-clause-fonts

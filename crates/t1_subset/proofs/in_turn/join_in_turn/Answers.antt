@@ -13,14 +13,17 @@ pub rest-preserved : goal.rest-preserved
 rest-preserved c =
     let cs = c.args.callers.now in let i = c.rest.place in let far = c.rest.invariant in
     let t = turn cs c.requires.noted i c.rest-test.true in
-    goes_on cs i t c.rest.all far c.in-Ok.more (c.in-Ok.ensures.ok far.font t.here.font.now (next_states cs i t c.rest.all far c.args.states.now c.requires.states c.index-states-place.result c.index-states-place.is))
+    goes_on cs i t c.rest.all far c.in-Ok.more (c.in-Ok.ensures.ok far.font t.here.font.now
+    (next_states cs i t c.rest.all far c.args.states.now c.requires.states c.index-states-place.result c.index-states-place.is))
 
 pub returns-in-Err-clause-err : goal.returns-in-Err-clause-err
 returns-in-Err-clause-err c =
     let cs = c.args.callers.now in let i = c.rest.place in let far = c.rest.invariant in
     let t = turn cs c.requires.noted i c.rest-test.true in
     stops cs i t c.rest.all far c.in-Err.conflict
-    (c.in-Err.ensures.err far.font t.here.font.now (next_states cs i t c.rest.all far c.args.states.now c.requires.states c.index-states-place.result c.index-states-place.is) (next_callers cs i t c.rest.all far))
+    (c.in-Err.ensures.err far.font t.here.font.now
+    (next_states cs i t c.rest.all far c.args.states.now c.requires.states c.index-states-place.result c.index-states-place.is)
+    (next_callers cs i t c.rest.all far))
 
 pub returns-clause-ok : goal.returns-clause-ok
 returns-clause-ok c = ends c.args.callers.now c.rest.place (let past = c.rest-test.false in omega (arith, past)) c.rest.all c.rest.invariant

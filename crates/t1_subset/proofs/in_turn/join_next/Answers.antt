@@ -5,7 +5,8 @@ use Rattle.t1_subset.proofs.{state_tables.Conflicts.{parts_seen, tells_shell, te
 use Rattle.t1_subset.proofs.in_turn.join_next.Goals as goal
 
 pub returns-in-Err-clause-err : goal.returns-in-Err-clause-err
-returns-in-Err-clause-err c f g h k = tells_states f g _ (tells_shell f g _ (parts_seen f g _ _ (ap (λ (s : StatesValue). s.0) (c.left.view_is ∙ h.own)) (ap (λ (s : StatesValue). s.0) (c.right.view_is ∙ h.other))) _ c.in-Err.ensures.err)
+returns-in-Err-clause-err c f g h k = tells_states f g _ (tells_shell f g _ (parts_seen f g _ _
+    (ap (λ (s : StatesValue). s.0) (c.left.view_is ∙ h.own)) (ap (λ (s : StatesValue). s.0) (c.right.view_is ∙ h.other))) _ c.in-Err.ensures.err)
 
 pub returns-in-Err-tables_conflict-clause-err : goal.returns-in-Err-tables_conflict-clause-err
 returns-in-Err-tables_conflict-clause-err c f g h k =
@@ -15,7 +16,8 @@ returns-in-Err-tables_conflict-clause-err c f g h k =
 pub returns-in-None-clause-err : goal.returns-in-None-clause-err
 returns-in-None-clause-err c f g h k =
     let shells = parts_seen f g _ _ (ap (λ (s : StatesValue). s.0) (c.left.view_is ∙ h.own)) (ap (λ (s : StatesValue). s.0) (c.right.view_is ∙ h.other)) in
-    limits_refuse _ _ f g h (c.in_default-tables_conflict.ensures.ok f g h (sym shells ∙ c.in_default.ensures.ok)) (MatchOption-at_none _ _ c.in-None.is c.in_ok-both.ensures)
+    limits_refuse _ _ f g h (c.in_default-tables_conflict.ensures.ok f g h (sym shells ∙ c.in_default.ensures.ok))
+    (MatchOption-at_none _ _ c.in-None.is c.in_ok-both.ensures)
 
 pub returns-in-Some-clause-ok : goal.returns-in-Some-clause-ok
 returns-in-Some-clause-ok c f g h = joins_to _ _ f g h c.in-Some.both (MatchOption-at_some _ _ c.in-Some.both c.in-Some.is c.in_ok-both.ensures)

@@ -10,19 +10,23 @@ pub closure-init : goal.closure-init
 closure-init c =
     let f = c.args.font.now in
     let start : c.add_all.new.self ≡ push_all (push_new [] notdef) (lent c.args.names.now) =
-    c.in_ok-add_all.ensures ∙ ap (λ (ns : List (List ℕ)). push_all ns (lent c.args.names.now)) (c.in_ok-add.ensures ∙ ap (λ (ns : List (List ℕ)). push_new ns notdef) c.new-closure.ensures) in (
-      subst (λ (ns : List (List ℕ)). ClosureSoFar profile f (asked c.args.names.now) ns 0) (sym start) (closure_start profile f (lent c.args.names.now) c.proof_is_font.ensures.glyphs.notdef c.requires),
+    c.in_ok-add_all.ensures ∙ ap (λ (ns : List (List ℕ)). push_all ns (lent c.args.names.now))
+    (c.in_ok-add.ensures ∙ ap (λ (ns : List (List ℕ)). push_new ns notdef) c.new-closure.ensures) in (
+      subst (λ (ns : List (List ℕ)). ClosureSoFar profile f (asked c.args.names.now) ns 0) (sym start)
+          (closure_start profile f (lent c.args.names.now) c.proof_is_font.ensures.glyphs.notdef c.requires),
       ap (λ (ks : List ℕ). sets.from_list {R = nat_cmp} ks) c.in_ok-calls.ensures,
     )
 
 pub overflow_add-place : goal.overflow_add-place
 overflow_add-place c =
-    let below = place_below profile c.args.font.now (asked c.args.names.now) c.closure.closure c.closure.place c.in-Some.name.now c.closure.invariant.0 c.in-Some.ensures in
+    let below = place_below profile c.args.font.now
+    (asked c.args.names.now) c.closure.closure c.closure.place c.in-Some.name.now c.closure.invariant.0 c.in-Some.ensures in
     let most = c.proof_is_font.ensures.glyphs.few in
     omega (arith, below, most)
 
 pub closure-smaller : goal.closure-smaller
-closure-smaller c = let below = place_below profile c.args.font.now (asked c.args.names.now) c.closure.closure c.closure.place c.in-Some.name.now c.closure.invariant.0 c.in-Some.ensures in omega (arith, below)
+closure-smaller c = let below = place_below profile c.args.font.now
+    (asked c.args.names.now) c.closure.closure c.closure.place c.in-Some.name.now c.closure.invariant.0 c.in-Some.ensures in omega (arith, below)
 
 pub closure-preserved : goal.closure-preserved
 closure-preserved c =
@@ -32,9 +36,11 @@ closure-preserved c =
     let at = got ns c.closure.place n c.in-Some.ensures in
     let found = filter (has f) (components profile f.subrs (charstring f n)) in
     let more : c.add_components.new.closure ≡ push_all ns found =
-    c.in_ok-add_components.ensures ∙ ap (λ (ps : List (List ℕ)). push_all ns (filter (has f) ps)) (ap (map (λ (s : Bor (List ℕ)). s.now)) c.as_slice.ensures.value ∙ c.in_ok-components.ensures.components) in
+    c.in_ok-add_components.ensures ∙ ap (λ (ps : List (List ℕ)). push_all ns (filter (has f) ps))
+    (ap (map (λ (s : Bor (List ℕ)). s.now)) c.as_slice.ensures.value ∙ c.in_ok-components.ensures.components) in
     let l = at.0 in (
-      subst (λ (ns : List (List ℕ)). ClosureSoFar profile f (asked c.args.names.now) ns (c.closure.place + 1)) (sym more) (closure_step profile f (asked c.args.names.now) ns c.closure.place n c.closure.invariant.0 at.0 at.1),
+      subst (λ (ns : List (List ℕ)). ClosureSoFar profile f (asked c.args.names.now) ns (c.closure.place + 1))
+          (sym more) (closure_step profile f (asked c.args.names.now) ns c.closure.place n c.closure.invariant.0 at.0 at.1),
       calls_step f ns c.closure.place n (set_of c.closure.calls) (set_of c.run_of.new.calls) at.0 at.1 c.closure.invariant.1 c.in_ok-components.ensures.calls
           ∙ ap (calls_to f) (sym (ap (take (c.closure.place + 1)) more ∙ all_front (c.closure.place + 1) found ns (omega (arith, l)))),
     )

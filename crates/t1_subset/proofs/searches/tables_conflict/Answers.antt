@@ -23,7 +23,8 @@ returns-in-Some-component_conflict-clause-err c f g h k s =
     let glyph = glyph_found f g _ _ a b None c.in_default-glyph_conflict.ensures in
     let part = component_found f g _ _ a b (Some c.in-Some-component_conflict.part.now) c.in-Some-component_conflict.ensures in
     let seeker = c.seeker.ensures ∙ k.seekers c.in-Some-component_conflict.part.now in
-    subst (Tells c.lacks_component.result) (ap (λ s. Some (LacksComponent (unwrap_or s []) c.in-Some-component_conflict.part.now)) seeker ∙ sym (states_are f g s code glyph part refl)) c.lacks_component.ensures
+    subst (Tells c.lacks_component.result) (ap (λ s. Some (LacksComponent (unwrap_or s []) c.in-Some-component_conflict.part.now)) seeker
+    ∙ sym (states_are f g s code glyph part refl)) c.lacks_component.ensures
 
 pub returns-in-Some-subr_conflict-clause-err : goal.returns-in-Some-subr_conflict-clause-err
 returns-in-Some-subr_conflict-clause-err c f g h k s =
@@ -34,7 +35,8 @@ returns-in-Some-subr_conflict-clause-err c f g h k s =
     let index = c.in-Some-subr_conflict.ensures f g h.own_font (ap subr_part a) (ap subr_part b) in
     let there = subr_clashing f g c.in-Some-subr_conflict.index index in
     let user = c.user.ensures ∙ k.users c.in-Some-subr_conflict.index there.0 there.1 in
-    subst (Tells c.subr_differs.result) (ap (λ u. Some (SubrDiffers c.in-Some-subr_conflict.index u)) user ∙ sym (states_are f g s code glyph part index)) c.subr_differs.ensures
+    subst (Tells c.subr_differs.result)
+    (ap (λ u. Some (SubrDiffers c.in-Some-subr_conflict.index u)) user ∙ sym (states_are f g s code glyph part index)) c.subr_differs.ensures
 
 pub returns-in-None-clause-ok : goal.returns-in-None-clause-ok
 returns-in-None-clause-ok c f g h s =

@@ -13,4 +13,5 @@ pub returns-then-len : goal.returns-then-len
 returns-then-len c =
     let m = c.args.left.now in
     let n = c.args.right.now in
-    sym (false_from_ne_true _ (λ h. c.if-len.true (c.len.ensures ∙ counted m ∙ ap length (bytes_decide.so (maps.keys m) (maps.keys n) h) ∙ sym (c.len-2.ensures ∙ counted n))))
+    sym (false_from_ne_true _
+    (λ h. c.if-len.true (c.len.ensures ∙ counted m ∙ ap length (bytes_decide.so (maps.keys m) (maps.keys n) h) ∙ sym (c.len-2.ensures ∙ counted n))))

@@ -9,4 +9,5 @@ returns c = λ i. (c.requires.shared i, (c.in_ok-code_table.ensures i, (c.in_ok-
 
 pub invariant_of-result : goal.invariant_of-result
 invariant_of-result c =
-    subst StatesFit (λ i. (sym c.requires.shared i, (sym c.in_ok-code_table.ensures i, (sym c.in_ok-of.ensures i, sym c.in_ok-subr_table.ensures i)))) ((fits profile c.args.font.now).0 (font_within c.args.font.now c.proof_is_font.ensures))
+    subst StatesFit (λ i. (sym c.requires.shared i, (sym c.in_ok-code_table.ensures i, (sym c.in_ok-of.ensures i, sym c.in_ok-subr_table.ensures i))))
+    ((fits profile c.args.font.now).0 (font_within c.args.font.now c.proof_is_font.ensures))

@@ -36,13 +36,16 @@ names-preserved c =
     let named = ap (map (λ (s : Bor (List ℕ)). s.now)) c.as_slice.ensures.value ∙ c.in_ok-components.ensures.components in
     let users = λ (q : ℕ) (l : maps.contains_key f.subrs q ≡ true).
     c.note_users.ensures.noted q (c.names.invariant.0 q l)
-    ∙ ap (λ b. joined (noted_at c.names.users.items q) (cond b (Some n) None)) (ap (λ s. sets.contains s q) c.in_ok-components.ensures.calls ∙ executes_so f n q) in
+    ∙ ap (λ b. joined (noted_at c.names.users.items q) (cond b (Some n) None))
+    (ap (λ s. sets.contains s q) c.in_ok-components.ensures.calls ∙ executes_so f n q) in
     let seekers = λ (q : List ℕ).
     c.in_ok-note_seekers.ensures q
     ∙ ap (λ b. joined (maps.get c.names.seekers q) (cond (not (has f q) && b) (Some n) None)) (ap (list_any (same_bytes q)) named ∙ calls_so f n q) in (
       λ q l. let there : q < length c.names.users.items = c.names.invariant.0 q l in let same = c.note_users.ensures.places in omega (arith, there, same),
-      λ q l. noting_next (λ n. executes profile f n q) _ _ _ _ _ _ more (c.names.invariant.1 q l) _ _ (users q l) (ap (executed_at profile f q) c.charstring-charstring.ensures),
-      λ q. noting_next (λ n. wants profile f n q) _ _ _ _ _ _ more (c.names.invariant.2 q) _ _ (seekers q) (ap (λ x. not (has f q) && called_at profile f q x) c.charstring-charstring.ensures),
+      λ q l. noting_next (λ n. executes profile f n q) _ _ _ _ _ _ more (c.names.invariant.1 q l) _ _
+          (users q l) (ap (executed_at profile f q) c.charstring-charstring.ensures),
+      λ q. noting_next (λ n. wants profile f n q) _ _ _ _ _ _ more (c.names.invariant.2 q) _ _
+          (seekers q) (ap (λ x. not (has f q) && called_at profile f q x) c.charstring-charstring.ensures),
     )
 
 pub returns : goal.returns

@@ -9,5 +9,7 @@ use Rattle.t1_subset.proofs.state_making.uses_of.Given as goal
 abbrev pub invariant-names : goal.invariant-names
 invariant-names l =
     ((q : ℕ) → maps.contains_key l.font.subrs q ≡ true → q < length l.users.items)
-    × ((q : ℕ) → maps.contains_key l.font.subrs q ≡ true → IsNoting (λ n. executes profile l.font n q) (noted_at l.users.items q) (user_of l.font q) (executed_at profile l.font q (option_map (λ c. c.now) l.last)) l.name-iterator)
-    × ((p : List ℕ) → IsNoting (λ n. wants profile l.font n p) (maps.get l.seekers p) (seeker_of l.font p) (not (has l.font p) && called_at profile l.font p (option_map (λ c. c.now) l.last)) l.name-iterator)
+    × ((q : ℕ) → maps.contains_key l.font.subrs q ≡ true → IsNoting (λ n. executes profile l.font n q) (noted_at l.users.items q)
+    (user_of l.font q) (executed_at profile l.font q (option_map (λ c. c.now) l.last)) l.name-iterator)
+    × ((p : List ℕ) → IsNoting (λ n. wants profile l.font n p) (maps.get l.seekers p) (seeker_of l.font p)
+    (not (has l.font p) && called_at profile l.font p (option_map (λ c. c.now) l.last)) l.name-iterator)

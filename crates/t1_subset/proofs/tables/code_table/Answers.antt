@@ -12,4 +12,5 @@ codes-preserved c = has_next c.codes.table (code_state c.args.font.now.encoding)
     (c.encoding_at.ensures ∙ named_so c.args.font.now.encoding c.codes.code)
 
 pub returns : goal.returns
-returns c = codes_filled c.args.font.now.encoding c.codes.table c.codes.code c.codes.invariant (λ i l. no_name c.args.font.now.encoding c.proof_is_font.ensures.encoding i (let t = c.codes-test.false in omega arith))
+returns c = codes_filled c.args.font.now.encoding c.codes.table c.codes.code c.codes.invariant
+    (λ i l. no_name c.args.font.now.encoding c.proof_is_font.ensures.encoding i (let t = c.codes-test.false in omega arith))

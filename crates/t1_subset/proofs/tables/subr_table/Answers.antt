@@ -26,4 +26,5 @@ pub returns : goal.returns
 returns c =
     let f = c.args.font.now in
     has_all c.indices.table (subr_state profile f) c.indices.index c.indices.invariant
-    (λ i l. ap (state_of_entry profile f i) (absent_beyond f c.proof_is_font.ensures i (let t = c.indices-test.false in omega (arith, c.count-index-end.ensures)))) (used_subrs profile f) (get-used profile f)
+    (λ i l. ap (state_of_entry profile f i) (absent_beyond f c.proof_is_font.ensures i (let t = c.indices-test.false in
+    omega (arith, c.count-index-end.ensures)))) (used_subrs profile f) (get-used profile f)

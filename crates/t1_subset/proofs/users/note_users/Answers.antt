@@ -6,7 +6,11 @@ use Rattle.t1_subset.proofs.closing.NumberSets.{any_with}
 use Rattle.t1_subset.proofs.users.note_users.Goals as goal
 
 pub calls-init : goal.calls-init
-calls-init c = (refl, λ q l. grind (cases, c.as_slice-index-items.ensures, any_with q [] c.as_slice-index-items.result.now, sets.contains-from_list nat_cmp_total c.args.calls.now q))
+calls-init c = (
+  refl,
+  λ q l.
+      grind (cases, c.as_slice-index-items.ensures, any_with q [] c.as_slice-index-items.result.now, sets.contains-from_list nat_cmp_total c.args.calls.now q),
+)
 
 pub calls-preserved : goal.calls-preserved
 calls-preserved c =

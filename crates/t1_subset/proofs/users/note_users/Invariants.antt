@@ -7,5 +7,6 @@ use Rattle.t1_subset.proofs.users.note_users.Given as goal
 
 abbrev pub invariant-calls : goal.invariant-calls
 invariant-calls l = (length l.users.items ≡ length l.fn.users.items)
-    × ((q : ℕ) → q < length l.fn.users.items → joined (noted_at l.users.items q) (cond (list_any (same_number q) (drop l.index-index l.index-items)) (Some l.glyph) None)
+    × ((q : ℕ) → q < length l.fn.users.items →
+    joined (noted_at l.users.items q) (cond (list_any (same_number q) (drop l.index-index l.index-items)) (Some l.glyph) None)
     ≡ joined (noted_at l.fn.users.items q) (cond (sets.contains (set_of l.calls) q) (Some l.glyph) None))

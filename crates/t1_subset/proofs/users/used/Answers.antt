@@ -7,8 +7,10 @@ pub indices-init : goal.indices-init
 indices-init c = has_none _ (noted_at c.args.users.now.items) c.new-used.ensures
 
 pub indices-preserved : goal.indices-preserved
-indices-preserved c = has_next c.indices.used (noted_at c.args.users.now.items) c.indices.index c.indices.invariant c.put.new.table _ c.in_ok-put.ensures c.noted_user.ensures
+indices-preserved c =
+    has_next c.indices.used (noted_at c.args.users.now.items) c.indices.index c.indices.invariant c.put.new.table _ c.in_ok-put.ensures c.noted_user.ensures
 
 pub returns : goal.returns
 returns c = λ q t. has_at c.indices.used (noted_at c.args.users.now.items) c.indices.index c.indices.invariant q
-    (let below = present_below c.args.font.now c.proof_is_font.ensures q t in let past = c.indices-test.false in omega (arith, below, past, c.count-index-end.ensures))
+    (let below = present_below c.args.font.now c.proof_is_font.ensures q t in
+    let past = c.indices-test.false in omega (arith, below, past, c.count-index-end.ensures))

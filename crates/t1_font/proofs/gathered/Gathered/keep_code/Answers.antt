@@ -11,10 +11,13 @@ use Rattle.t1_font.proofs.gathered.Gathered.keep_code.Goals as goal
 
 pub returns : goal.returns
 returns c =
-    let settled = settled_map (λ k. k) nat_cmp nat_cmp nat_cmp_total (λ x y. refl) c.self.inside.codes.items c.settle.new.entries.items nat_cmp-IsAntisymmetric (λ n. n.now) c.in_ok-self-inside.ensures.settled in
+    let settled = settled_map (λ k. k) nat_cmp nat_cmp nat_cmp_total
+    (λ x y. refl) c.self.inside.codes.items c.settle.new.entries.items nat_cmp-IsAntisymmetric (λ n. n.now) c.in_ok-self-inside.ensures.settled in
     (λ i. record {
       rest = drop c.self.inside.at c.self.inside.buffer.items;
-      codes = (ap gathered_codes c.in_ok-push.ensures.items ∙ (pushed (entry_by (λ k. k) (λ n. n.now)) nat_cmp_total nat_cmp-IsAntisymmetric c.settle.new.entries.items (c.args.code, c.args.name) ∙ ap (λ m. fin.insert m c.args.code c.args.name.now) settled)) i;
+      codes = (ap gathered_codes c.in_ok-push.ensures.items
+          ∙ (pushed (entry_by (λ k. k) (λ n. n.now)) nat_cmp_total nat_cmp-IsAntisymmetric c.settle.new.entries.items (c.args.code, c.args.name)
+          ∙ ap (λ m. fin.insert m c.args.code c.args.name.now) settled)) i;
       subrs = gathered_subrs c.self.inside.buffer.items c.self.inside.subrs.items;
       glyphs = gathered_glyphs c.self.inside.buffer.items c.self.inside.glyphs.items;
     })

@@ -8,14 +8,16 @@ use Rattle.t1_font.specs.FontValue.{name_cmp}
 use Rattle.t1_font.specs.Gathering.{Entries, gathered_codes, gathered_glyphs}
 use Rattle.t1_font.specs.Places.{ending, placed}
 use Rattle.t1_font.specs.Ranges.{named_at, IsInside, AllInside, NamesInside}
-use Rattle.t1_font.proofs.Buffers.{Decrypted, Named, pushed, with_one, names_with_one, all_longer, names_wider, entries_stay, names_stay, rest_stays, plain_at, plain_inside, name_at, name_inside, goes_on, same_length}
+use Rattle.t1_font.proofs.Buffers.{Decrypted, Named, pushed, with_one, names_with_one, all_longer, names_wider, entries_stay}
+use Rattle.t1_font.proofs.Buffers.{names_stay, rest_stays, plain_at, plain_inside, name_at, name_inside, goes_on, same_length}
 use Rattle.t1_font.proofs.canonical.FontAgain.{name_same}
 use Rattle.t1_font.proofs.gathered.Gathered.keep_glyph.Goals as goal
 
 now_long : (c : goal.After-self-3-1) → c.len-3.result ≡ length c.decrypt_in.new.buffer.items
 now_long c = c.len-3.ensures ∙ c.decrypt_in.new.buffer.ok.0
 
-decrypted_so : (c : goal.After-self-3-1) → Decrypted c.self.inside.buffer.items c.decrypt_in.new.buffer.items c.self.inside.at c.args.left c.args.len_iv c.args.body c.part_at-cipher.result c.behind_lead-plain.result
+decrypted_so : (c : goal.After-self-3-1) → Decrypted c.self.inside.buffer.items c.decrypt_in.new.buffer.items
+    c.self.inside.at c.args.left c.args.len_iv c.args.body c.part_at-cipher.result c.behind_lead-plain.result
 decrypted_so c = record {
   fits = c.self.invariant.at;
   room = subst (λ (g : Entries). c.args.body.len + c.args.body.behind ≤ length g.rest) (sym c.self.view_is) (omega (arith, c.requires.name, c.requires.body));
@@ -36,8 +38,10 @@ named_so c = record {
   end = c.part_at-name.ensures.end ∙ ap (λ n. n - c.args.name.behind) (c.len.ensures ∙ c.self.inside.buffer.ok.0);
 }
 
-settled_so : (c : goal.After-self-3-1) → gathered_glyphs c.self.inside.buffer.items c.settle_names.new.entries.items ≡ gathered_glyphs c.self.inside.buffer.items c.self.inside.glyphs.items
-settled_so c = subst (λ (b : List ℕ). gathered_glyphs b c.settle_names.new.entries.items ≡ gathered_glyphs b c.self.inside.glyphs.items) c.as_slice.ensures.value c.in_ok-self-inside.ensures.settled
+settled_so : (c : goal.After-self-3-1) →
+    gathered_glyphs c.self.inside.buffer.items c.settle_names.new.entries.items ≡ gathered_glyphs c.self.inside.buffer.items c.self.inside.glyphs.items
+settled_so c = subst (λ (b : List ℕ). gathered_glyphs b c.settle_names.new.entries.items ≡ gathered_glyphs b c.self.inside.glyphs.items)
+    c.as_slice.ensures.value c.in_ok-self-inside.ensures.settled
 
 pub invariant_of-self-2 : goal.invariant_of-self-2
 invariant_of-self-2 c =
@@ -47,14 +51,17 @@ invariant_of-self-2 c =
     let plain : Range = c.behind_lead-plain.result in
     let wider : was ≤ now = omega (arith, goes_on _ _ _ _ _ _ _ _ d, now_long c) in
     let one : IsInside now plain = subst (λ n. IsInside (n - c.args.left) plain) (sym (now_long c)) (plain_inside _ _ _ _ _ _ _ _ d) in
-    let name : IsInside now c.part_at-name.result = subst (λ n. IsInside (n - c.args.left) c.part_at-name.result) (sym (now_long c)) (name_inside _ _ _ _ _ _ _ _ d _ _ (named_so c)) in
+    let name : IsInside now c.part_at-name.result =
+    subst (λ n. IsInside (n - c.args.left) c.part_at-name.result) (sym (now_long c)) (name_inside _ _ _ _ _ _ _ _ d _ _ (named_so c)) in
     let settled = c.in_ok-self-inside.ensures.inside was c.self.invariant.names c.self.invariant.glyphs in
     record {
       short = omega (arith, same_length _ _ _ _ _ _ _ _ d, c.self.invariant.short);
       at = omega (arith, now_long c);
       subrs = all_longer was now c.self.inside.subrs.items wider c.self.invariant.subrs;
-      names = names_with_one now c.settle_names.new.entries.items c.push.new.self.items _ c.in_ok-push.ensures.items (names_wider was now c.settle_names.new.entries.items wider settled.0) name;
-      glyphs = with_one now c.settle_names.new.entries.items c.push.new.self.items _ c.in_ok-push.ensures.items (all_longer was now c.settle_names.new.entries.items wider settled.1) one;
+      names = names_with_one now c.settle_names.new.entries.items c.push.new.self.items _ c.in_ok-push.ensures.items
+          (names_wider was now c.settle_names.new.entries.items wider settled.0) name;
+      glyphs = with_one now c.settle_names.new.entries.items c.push.new.self.items _ c.in_ok-push.ensures.items
+          (all_longer was now c.settle_names.new.entries.items wider settled.1) one;
     }
 
 pub returns : goal.returns
@@ -66,15 +73,22 @@ returns c =
     let together =
     ap (λ es. map_of {R = name_cmp} (map (named_at now) es)) c.in_ok-push.ensures.items
     ∙ (pushed (named_at now) nat_list_cmp_total name_same c.settle_names.new.entries.items (c.part_at-name.result, _)
-    ∙ ((λ i. fin.insert (map_of {R = name_cmp} (names_stay _ _ _ _ _ _ _ _ d c.settle_names.new.entries.items settled.0 settled.1 i)) (name_at _ _ _ _ _ _ _ _ d _ _ (named_so c) i) (plain_at _ _ _ _ _ _ _ _ d i))
-    ∙ ap (λ m. fin.insert m (placed (drop c.self.inside.at was) c.args.name) (plain_of c.args.len_iv (placed (drop c.self.inside.at was) c.args.body))) (settled_so c))) in
+    ∙ ((λ i. fin.insert (map_of {R = name_cmp} (names_stay _ _ _ _ _ _ _ _ d c.settle_names.new.entries.items settled.0 settled.1 i))
+    (name_at _ _ _ _ _ _ _ _ d _ _ (named_so c) i) (plain_at _ _ _ _ _ _ _ _ d i))
+    ∙ ap (λ m. fin.insert m (placed (drop c.self.inside.at was) c.args.name) (plain_of c.args.len_iv (placed (drop c.self.inside.at was) c.args.body)))
+    (settled_so c))) in
     (λ i. record {
       rest = (ap (λ n. drop (n - c.args.left) now) (now_long c) ∙ rest_stays _ _ _ _ _ _ _ _ d) i;
       codes = gathered_codes c.self.inside.codes.items;
       subrs = map_of (entries_stay _ _ _ _ _ _ _ _ d (λ k. k) c.self.inside.subrs.items c.self.invariant.subrs i);
       glyphs = together i;
     })
-    ∙ ap (λ (g : Entries). record { rest = ending c.args.left g.rest; codes = g.codes; subrs = g.subrs; glyphs = fin.insert g.glyphs (placed g.rest c.args.name) (plain_of c.args.len_iv (placed g.rest c.args.body)) }) c.self.view_is
+    ∙ ap (λ (g : Entries). record {
+      rest = ending c.args.left g.rest;
+      codes = g.codes;
+      subrs = g.subrs;
+      glyphs = fin.insert g.glyphs (placed g.rest c.args.name) (plain_of c.args.len_iv (placed g.rest c.args.body));
+    }) c.self.view_is
 
 pub invariant_of-self-in_err-push : goal.invariant_of-self-in_err-push
 invariant_of-self-in_err-push c =

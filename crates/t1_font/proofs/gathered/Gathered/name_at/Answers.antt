@@ -15,4 +15,5 @@ returns c =
     let es = entries_by (λ k. k) (λ n. n.now) c.self.inside.codes.items in
     c.last_name.ensures
     ∙ (ap (λ s. unwrap_or (last_value nat_cmp c.args.code (entries_by (λ k. k) (λ n. n.now) s)) notdef) c.as_slice.ensures.value
-    ∙ (ap (λ o. unwrap_or o notdef) (sym (get-map_of nat_cmp_total nat_cmp-IsAntisymmetric es c.args.code)) ∙ ap (λ (g : Entries). name_in g.codes c.args.code) c.self.view_is))
+    ∙ (ap (λ o. unwrap_or o notdef) (sym (get-map_of nat_cmp_total nat_cmp-IsAntisymmetric es c.args.code))
+    ∙ ap (λ (g : Entries). name_in g.codes c.args.code) c.self.view_is))

@@ -6,5 +6,10 @@ use Rattle.t1_font.proofs.gathered.Gathered.new.Goals as goal
 pub returns : goal.returns
 returns c =
     let buffer = c.args.buffer.items in
-    (λ i. record { rest = drop c.args.at buffer; codes = gathered_codes (c.new.ensures.items i); subrs = gathered_subrs buffer (c.new-2.ensures.items i); glyphs = gathered_glyphs buffer (c.new-3.ensures.items i) })
+    (λ i. record {
+      rest = drop c.args.at buffer;
+      codes = gathered_codes (c.new.ensures.items i);
+      subrs = gathered_subrs buffer (c.new-2.ensures.items i);
+      glyphs = gathered_glyphs buffer (c.new-3.ensures.items i);
+    })
     ∙ (λ i. record { rest = drop c.args.at buffer; codes = sym none_numbered i; subrs = sym none_numbered i; glyphs = sym none_named i })

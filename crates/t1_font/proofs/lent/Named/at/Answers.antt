@@ -5,13 +5,21 @@ use Rattle.t1_font.proofs.LentTables.{stands, stands_not}
 use Rattle.t1_font.proofs.lent.Named.at.Goals as goal
 
 pub returns-in_err-places-in-Stored-clause-entry : goal.returns-in_err-places-in-Stored-clause-entry
-returns-in_err-places-in-Stored-clause-entry c = rw c.from_residual.ensures (stands_not (named_at c.in-Stored.buffer.now.items) c.in-Stored.places.now (named_entries c.self.inside.form) c.args.self.now (ap named_entries c.in-Stored.is) c.self.invariant c.self.view_is c.args.place c.in_err-places-in-Stored.ensures.lookup)
+returns-in_err-places-in-Stored-clause-entry c =
+    rw c.from_residual.ensures (stands_not (named_at c.in-Stored.buffer.now.items) c.in-Stored.places.now (named_entries c.self.inside.form) c.args.self.now
+    (ap named_entries c.in-Stored.is) c.self.invariant c.self.view_is c.args.place c.in_err-places-in-Stored.ensures.lookup)
 
 pub returns-in_err-glyph-in-Made-clause-entry : goal.returns-in_err-glyph-in-Made-clause-entry
-returns-in_err-glyph-in-Made-clause-entry c = rw c.from_residual-in_err-glyph-in-Made.ensures (stands_not lent_glyph c.deref.result.now (named_entries c.self.inside.form) c.args.self.now (ap named_entries c.in-Made.is ∙ ap (map lent_glyph) (sym c.deref.ensures.value)) c.self.invariant c.self.view_is c.args.place c.in_err-glyph-in-Made.ensures.lookup)
+returns-in_err-glyph-in-Made-clause-entry c = rw c.from_residual-in_err-glyph-in-Made.ensures (stands_not lent_glyph c.deref.result.now
+    (named_entries c.self.inside.form) c.args.self.now (ap named_entries c.in-Made.is ∙ ap (map lent_glyph) (sym c.deref.ensures.value))
+    c.self.invariant c.self.view_is c.args.place c.in_err-glyph-in-Made.ensures.lookup)
 
 pub returns-in_ok-places-in-Stored-clause-entry : goal.returns-in_ok-places-in-Stored-clause-entry
-returns-in_ok-places-in-Stored-clause-entry c = stands (named_at c.in-Stored.buffer.now.items) c.in-Stored.places.now (named_entries c.self.inside.form) c.args.self.now (ap named_entries c.in-Stored.is) c.self.invariant c.self.view_is c.args.place c.in_ok-places-in-Stored.places _ c.in_ok-places-in-Stored.ensures.lookup refl
+returns-in_ok-places-in-Stored-clause-entry c =
+    stands (named_at c.in-Stored.buffer.now.items) c.in-Stored.places.now (named_entries c.self.inside.form) c.args.self.now (ap named_entries c.in-Stored.is)
+    c.self.invariant c.self.view_is c.args.place c.in_ok-places-in-Stored.places _ c.in_ok-places-in-Stored.ensures.lookup refl
 
 pub returns-in_ok-glyph-in-Made-clause-entry : goal.returns-in_ok-glyph-in-Made-clause-entry
-returns-in_ok-glyph-in-Made-clause-entry c = stands lent_glyph c.deref.result.now (named_entries c.self.inside.form) c.args.self.now (ap named_entries c.in-Made.is ∙ ap (map lent_glyph) (sym c.deref.ensures.value)) c.self.invariant c.self.view_is c.args.place c.in_ok-glyph-in-Made.glyph _ c.in_ok-glyph-in-Made.ensures.lookup refl
+returns-in_ok-glyph-in-Made-clause-entry c = stands lent_glyph c.deref.result.now
+    (named_entries c.self.inside.form) c.args.self.now (ap named_entries c.in-Made.is ∙ ap (map lent_glyph) (sym c.deref.ensures.value))
+    c.self.invariant c.self.view_is c.args.place c.in_ok-glyph-in-Made.glyph _ c.in_ok-glyph-in-Made.ensures.lookup refl

@@ -6,4 +6,5 @@ use Rattle.t1_font.proofs.FilledTables.{same_rise}
 use Rattle.t1_font.proofs.lent.Numbered.copy.Goals as goal
 
 pub filled-requires : goal.filled-requires
-filled-requires c = subst (λ (b : Bool). T b) (ap (λ f. is_sorted nat_cmp (numbered_entries f)) c.in-Filled.is ∙ same_rise c.in-Filled.own c.in-Filled.indices.now) c.self.invariant
+filled-requires c = subst (λ (b : Bool). T b)
+    (ap (λ f. is_sorted nat_cmp (numbered_entries f)) c.in-Filled.is ∙ same_rise c.in-Filled.own c.in-Filled.indices.now) c.self.invariant

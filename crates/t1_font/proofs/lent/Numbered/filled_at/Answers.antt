@@ -12,7 +12,9 @@ pub returns : goal.returns
 returns c =
     let buffer = c.in-Stored.buffer.now in
     let places = c.in-Stored.places.now in
-    let is : from_sorted {R = nat_cmp} (map (numbered_at buffer) places) ≡ c.args.self.now = ap (λ f. from_sorted {R = nat_cmp} (numbered_entries f)) (sym c.in-Stored.is) ∙ c.self.view_is in
+    let is : from_sorted {R = nat_cmp} (map (numbered_at buffer) places) ≡ c.args.self.now =
+    ap (λ f. from_sorted {R = nat_cmp} (numbered_entries f)) (sym c.in-Stored.is) ∙ c.self.view_is in
     c.filled.ensures
     ∙ (ap (λ (own : Numbered). from_sorted {R = nat_cmp} (map (filled_at own) c.args.indices.now)) (c.new.ensures ∙ is)
-    ∙ filled_is buffer places c.args.indices.now c.args.self.now is (subst (λ es. Rises nat_cmp es) (ap numbered_entries c.in-Stored.is) c.self.invariant) c.requires (c.are_among.ensures c.if-not-are_among.false))
+    ∙ filled_is buffer places c.args.indices.now c.args.self.now is
+    (subst (λ es. Rises nat_cmp es) (ap numbered_entries c.in-Stored.is) c.self.invariant) c.requires (c.are_among.ensures c.if-not-are_among.false))

@@ -14,15 +14,21 @@ pub returns-in-Stored : goal.returns-in-Stored
 returns-in-Stored c =
     let position = c.binary_search_by_key.ensures.position (λ e. e.0) (answers_always _ _ _ (λ f a r g called. search rules)) in
     ap (option_and_then (slice_get (entries c.args.self.now))) c.ok.ensures.value
-    ∙ found_place (numbered_at c.in-Stored.buffer.now) c.in-Stored.places.now (numbered_entries c.self.inside.form) c.args.self.now (ap numbered_entries c.in-Stored.is) c.self.invariant c.self.view_is nat_cmp_total nat_cmp-IsAntisymmetric c.args.number c.binary_search_by_key.result c.binary_search_by_key.ensures.bound position
+    ∙ found_place (numbered_at c.in-Stored.buffer.now) c.in-Stored.places.now (numbered_entries c.self.inside.form) c.args.self.now
+    (ap numbered_entries c.in-Stored.is) c.self.invariant c.self.view_is nat_cmp_total nat_cmp-IsAntisymmetric
+    c.args.number c.binary_search_by_key.result c.binary_search_by_key.ensures.bound position
 
 pub returns-in-Filled : goal.returns-in-Filled
 returns-in-Filled c =
     ap (option_and_then (slice_get (entries c.args.self.now))) c.ok-in-Filled.ensures.value
-    ∙ found_place (filled_at c.in-Filled.own) c.in-Filled.indices.now (numbered_entries c.self.inside.form) c.args.self.now (ap numbered_entries c.in-Filled.is) c.self.invariant c.self.view_is nat_cmp_total nat_cmp-IsAntisymmetric c.args.number c.binary_search.result c.binary_search.ensures.bound c.binary_search.ensures.position
+    ∙ found_place (filled_at c.in-Filled.own) c.in-Filled.indices.now (numbered_entries c.self.inside.form) c.args.self.now
+    (ap numbered_entries c.in-Filled.is) c.self.invariant c.self.view_is nat_cmp_total nat_cmp-IsAntisymmetric
+    c.args.number c.binary_search.result c.binary_search.ensures.bound c.binary_search.ensures.position
 
 pub returns-in-Made : goal.returns-in-Made
 returns-in-Made c =
     let position = c.binary_search_by_key-in-Made.ensures.position (λ e. e.0) (answers_always _ _ _ (λ f a r g called. search rules)) in
     ap (option_and_then (slice_get (entries c.args.self.now))) c.ok-in-Made.ensures.value
-    ∙ found_place lent_number c.deref.result.now (numbered_entries c.self.inside.form) c.args.self.now (ap numbered_entries c.in-Made.is ∙ ap (map lent_number) (sym c.deref.ensures.value)) c.self.invariant c.self.view_is nat_cmp_total nat_cmp-IsAntisymmetric c.args.number c.binary_search_by_key-in-Made.result c.binary_search_by_key-in-Made.ensures.bound position
+    ∙ found_place lent_number c.deref.result.now (numbered_entries c.self.inside.form) c.args.self.now
+    (ap numbered_entries c.in-Made.is ∙ ap (map lent_number) (sym c.deref.ensures.value)) c.self.invariant c.self.view_is nat_cmp_total
+    nat_cmp-IsAntisymmetric c.args.number c.binary_search_by_key-in-Made.result c.binary_search_by_key-in-Made.ensures.bound position

@@ -10,7 +10,8 @@ returns-in_err-entry-clause-steps c =
     rw c.from_residual.ensures (none, none)
 
 pub returns-clause-steps : goal.returns-clause-steps
-returns-clause-steps c = sym c.self.view_is ∙ from_place (entries c.self.inside.table.now) c.self.inside.place (lent_number c.in_ok-entry.entry) (sym c.in_ok-entry.ensures.entry)
+returns-clause-steps c =
+    sym c.self.view_is ∙ from_place (entries c.self.inside.table.now) c.self.inside.place (lent_number c.in_ok-entry.entry) (sym c.in_ok-entry.ensures.entry)
 
 pub returns-clause-goes : goal.returns-clause-goes
 returns-clause-goes c =

@@ -14,4 +14,5 @@ returns c =
     let s = c.self.inside in
     let position = c.binary_search_by_key.ensures.position (λ e. e.0) (answers_always _ _ _ (λ f a r g called. search rules)) in
     ap (option_and_then (slice_get (entries c.args.self.now))) c.ok.ensures.value
-    ∙ found_place (numbered_at s.buffer.now) s.places.now (map (numbered_at s.buffer.now) s.places.now) c.args.self.now refl c.self.invariant c.self.view_is nat_cmp_total nat_cmp-IsAntisymmetric c.args.index c.binary_search_by_key.result c.binary_search_by_key.ensures.bound position
+    ∙ found_place (numbered_at s.buffer.now) s.places.now (map (numbered_at s.buffer.now) s.places.now) c.args.self.now refl c.self.invariant
+    c.self.view_is nat_cmp_total nat_cmp-IsAntisymmetric c.args.index c.binary_search_by_key.result c.binary_search_by_key.ensures.bound position

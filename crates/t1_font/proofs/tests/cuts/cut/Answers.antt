@@ -15,4 +15,5 @@ returns c =
     let p : List ℕ → Bool = sets.contains (set_of_names c.as_slice.result.now) in
     let s : ℕ → Bool = contains nat_cmp c.in_ok-subrs.subrs in
     let is = c.in_ok-cut.ensures in
-    IfOk-weaker c.write.result _ _ (λ v h. (p, (s, (subst IsFont is c.proof_is_font.ensures, h ∙ ap (λ (f : FontValue). canon f Pfb) is)))) c.write.ensures.canon
+    IfOk-weaker c.write.result _ _
+    (λ v h. (p, (s, (subst IsFont is c.proof_is_font.ensures, h ∙ ap (λ (f : FontValue). canon f Pfb) is)))) c.write.ensures.canon

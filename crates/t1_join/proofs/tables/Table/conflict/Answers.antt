@@ -11,5 +11,7 @@ pub returns : goal.returns
 returns g c =
     let mine = entry_meanings g.K.Kept.meaning g.V.Kept.meaning c.self.inside.entries.items in
     let others = entry_meanings g.K.Kept.meaning g.V.Kept.meaning c.other.inside.entries.items in
-    let met : option_map g.K.Kept.meaning (option_copied c.first_conflict.result) ≡ first_met meaning_cmp same_meaning mine others = rw (← c.deref.ensures.value, ← c.deref-2.ensures.value) c.first_conflict.ensures in
-    conflict_is (λ (k : Bor g.row.K.Denot). g.K.Kept.meaning k.now) mine others c.args.self.now c.args.other.now c.self.invariant c.other.invariant c.self.view_is c.other.view_is c.first_conflict.result (sym (read_copied g.K.Kept.meaning c.first_conflict.result) ∙ met)
+    let met : option_map g.K.Kept.meaning (option_copied c.first_conflict.result) ≡ first_met meaning_cmp same_meaning mine others =
+    rw (← c.deref.ensures.value, ← c.deref-2.ensures.value) c.first_conflict.ensures in
+    conflict_is (λ (k : Bor g.row.K.Denot). g.K.Kept.meaning k.now) mine others c.args.self.now c.args.other.now c.self.invariant
+    c.other.invariant c.self.view_is c.other.view_is c.first_conflict.result (sym (read_copied g.K.Kept.meaning c.first_conflict.result) ∙ met)

@@ -12,4 +12,5 @@ returns g c =
     let es = entry_meanings g.K.Kept.meaning g.V.Kept.meaning c.self.inside.entries.items in
     let fs = entry_meanings g.K.Kept.meaning g.V.Kept.meaning c.other.inside.entries.items in
     rw (c.deref.ensures.value, c.deref-2.ensures.value, ← c.self.view_is, ← c.other.view_is)
-    (sym (fin.entries-from_sorted meaning_cmp _ (rises_merge nat_list_cmp_total es fs c.self.invariant c.other.invariant)) ∙ ap fin.entries (merged_from_sorted nat_list_cmp_total same_by_cmp es fs c.self.invariant c.other.invariant))
+    (sym (fin.entries-from_sorted meaning_cmp _ (rises_merge nat_list_cmp_total es fs c.self.invariant c.other.invariant))
+    ∙ ap fin.entries (merged_from_sorted nat_list_cmp_total same_by_cmp es fs c.self.invariant c.other.invariant))

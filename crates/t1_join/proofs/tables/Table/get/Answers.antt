@@ -12,13 +12,18 @@ use Rattle.t1_join.proofs.tables.Table.get.Goals as goal
 pub returns-in-Ok : goal.returns-in-Ok
 returns-in-Ok g c =
     let position = c.in-Ok.ensures.position (λ e. g.K.Ord.cmp e.0 c.args.key.now) (always_returns_same _ _ _ (λ a r f' called. search rules)) in
-    let by_meanings = subst (λ (ord : g.row.K.Denot × g.row.V.Denot → Ordering). IsBinarySearchResult ord c.deref.result.now (Ok c.in-Ok.at)) (λ i e. g.met.K.Key.by_meaning e.0 c.args.key.now i) position in
-    let answer = searched nat_list_cmp_total (pair_meaning g.K.Kept.meaning g.V.Kept.meaning) (g.K.Kept.meaning c.args.key.now) c.deref.result.now (Ok c.in-Ok.at) (rw c.deref.ensures.value c.self.invariant) c.in-Ok.ensures.bound by_meanings c.index.result.now in
-    ap (λ (e : g.row.K.Denot × g.row.V.Denot). Some (g.V.Kept.meaning e.1)) c.index.ensures ∙ sym (rw c.deref.ensures.value at answer) ∙ ap (λ (m : TableMeaning). get m (g.K.Kept.meaning c.args.key.now)) c.self.view_is
+    let by_meanings = subst (λ (ord : g.row.K.Denot × g.row.V.Denot → Ordering). IsBinarySearchResult ord c.deref.result.now (Ok c.in-Ok.at))
+    (λ i e. g.met.K.Key.by_meaning e.0 c.args.key.now i) position in
+    let answer = searched nat_list_cmp_total (pair_meaning g.K.Kept.meaning g.V.Kept.meaning) (g.K.Kept.meaning c.args.key.now) c.deref.result.now
+    (Ok c.in-Ok.at) (rw c.deref.ensures.value c.self.invariant) c.in-Ok.ensures.bound by_meanings c.index.result.now in
+    ap (λ (e : g.row.K.Denot × g.row.V.Denot). Some (g.V.Kept.meaning e.1)) c.index.ensures
+    ∙ sym (rw c.deref.ensures.value at answer) ∙ ap (λ (m : TableMeaning). get m (g.K.Kept.meaning c.args.key.now)) c.self.view_is
 
 pub returns-in-Err : goal.returns-in-Err
 returns-in-Err g c =
     let position = c.in-Err.ensures.position (λ e. g.K.Ord.cmp e.0 c.args.key.now) (always_returns_same _ _ _ (λ a r f' called. search rules)) in
-    let by_meanings = subst (λ (ord : g.row.K.Denot × g.row.V.Denot → Ordering). IsBinarySearchResult ord c.deref.result.now (Err c.in-Err.field-0)) (λ i e. g.met.K.Key.by_meaning e.0 c.args.key.now i) position in
-    let answer = searched nat_list_cmp_total (pair_meaning g.K.Kept.meaning g.V.Kept.meaning) (g.K.Kept.meaning c.args.key.now) c.deref.result.now (Err c.in-Err.field-0) (rw c.deref.ensures.value c.self.invariant) c.in-Err.ensures.bound by_meanings in
+    let by_meanings = subst (λ (ord : g.row.K.Denot × g.row.V.Denot → Ordering). IsBinarySearchResult ord c.deref.result.now (Err c.in-Err.field-0))
+    (λ i e. g.met.K.Key.by_meaning e.0 c.args.key.now i) position in
+    let answer = searched nat_list_cmp_total (pair_meaning g.K.Kept.meaning g.V.Kept.meaning) (g.K.Kept.meaning c.args.key.now) c.deref.result.now
+    (Err c.in-Err.field-0) (rw c.deref.ensures.value c.self.invariant) c.in-Err.ensures.bound by_meanings in
     sym (rw c.deref.ensures.value at answer) ∙ ap (λ (m : TableMeaning). get m (g.K.Kept.meaning c.args.key.now)) c.self.view_is

@@ -7,11 +7,14 @@ use Rattle.t1_join.proofs.tables.TableJoin.join.Goals as goal
 pub invariant_of-result : goal.invariant_of-result
 invariant_of-result g c =
     rw (c.in_ok-merge_entries.ensures, c.deref.ensures.value, c.deref-2.ensures.value)
-    (rises_merge nat_list_cmp_total (entry_meanings g.K.Kept.meaning g.V.Kept.meaning c.self.inside.entries.items) (entry_meanings g.K.Kept.meaning g.V.Kept.meaning c.other.inside.entries.items) c.self.invariant c.other.invariant)
+    (rises_merge nat_list_cmp_total (entry_meanings g.K.Kept.meaning g.V.Kept.meaning c.self.inside.entries.items)
+    (entry_meanings g.K.Kept.meaning g.V.Kept.meaning c.other.inside.entries.items) c.self.invariant c.other.invariant)
 
 pub returns : goal.returns
 returns g c = (
   c.requires,
   rw (c.in_ok-merge_entries.ensures, c.deref.ensures.value, c.deref-2.ensures.value, ← c.self.view_is, ← c.other.view_is)
-      (merged_from_sorted nat_list_cmp_total (slice_cmp-IsAntisymmetric nat_cmp-IsAntisymmetric) (entry_meanings g.K.Kept.meaning g.V.Kept.meaning c.self.inside.entries.items) (entry_meanings g.K.Kept.meaning g.V.Kept.meaning c.other.inside.entries.items) c.self.invariant c.other.invariant),
+      (merged_from_sorted nat_list_cmp_total (slice_cmp-IsAntisymmetric nat_cmp-IsAntisymmetric)
+      (entry_meanings g.K.Kept.meaning g.V.Kept.meaning c.self.inside.entries.items)
+      (entry_meanings g.K.Kept.meaning g.V.Kept.meaning c.other.inside.entries.items) c.self.invariant c.other.invariant),
 )

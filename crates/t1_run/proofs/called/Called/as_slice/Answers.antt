@@ -5,4 +5,5 @@ use Rattle.t1_run.proofs.called.Called.as_slice.Goals as goal
 
 pub returns-clause-once : goal.returns-clause-once
 returns-clause-once c =
-    subst (λ (indices : List ℕ). (i : ℕ) → times indices i ≤ 1) (sym c.as_slice.ensures.value) (once_listed c.self.inside.places.items c.self.inside.order.items c.self.invariant)
+    subst (λ (indices : List ℕ). (i : ℕ) → times indices i ≤ 1) (sym c.as_slice.ensures.value)
+    (once_listed c.self.inside.places.items c.self.inside.order.items c.self.invariant)

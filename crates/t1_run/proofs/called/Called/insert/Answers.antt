@@ -7,7 +7,8 @@ use Rattle.t1_run.proofs.called.Called.insert.Goals as goal
 pub returns-then-is_in-clause-added : goal.returns-then-is_in-clause-added
 returns-then-is_in-clause-added c =
     subst (λ (set : List ℕ). set ≡ insert_key nat_cmp set c.args.index) c.self.view_is
-    (sym (with_listed c.self.inside.order.items [] c.args.index (some_listed c.self.inside.places.items c.self.inside.order.items c.args.index c.self.invariant (sym c.is_in.ensures ∙ c.if-is_in.true))))
+    (sym (with_listed c.self.inside.order.items [] c.args.index
+    (some_listed c.self.inside.places.items c.self.inside.order.items c.args.index c.self.invariant (sym c.is_in.ensures ∙ c.if-is_in.true))))
 
 pub returns-clause-added : goal.returns-clause-added
 returns-clause-added c =

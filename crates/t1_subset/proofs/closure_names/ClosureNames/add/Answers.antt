@@ -4,4 +4,5 @@ use Rattle.t1_subset.proofs.closing.Closures.{lent_insert}
 use Rattle.t1_subset.proofs.closure_names.ClosureNames.add.Goals as goal
 
 pub returns : goal.returns
-returns c = ap lent c.in_ok-insert.ensures.keys ∙ lent_insert c.self.inside.names.keys c.args.name ∙ ap (λ (ns : List (List ℕ)). push_new ns c.args.name.now) c.self.view_is
+returns c = ap lent c.in_ok-insert.ensures.keys ∙ lent_insert c.self.inside.names.keys c.args.name
+    ∙ ap (λ (ns : List (List ℕ)). push_new ns c.args.name.now) c.self.view_is

@@ -6,4 +6,5 @@ use Rattle.t1_subset.proofs.closing.NameSets.{set_insert}
 use Rattle.t1_subset.proofs.name_sets.NameSet.insert.Goals as goal
 
 pub returns-clause-ok : goal.returns-clause-ok
-returns-clause-ok c = ap set_by c.in_ok-insert.ensures.keys ∙ set_insert c.self.inside.names.keys c.args.name ∙ ap (λ s. sets.insert {R = name_cmp} s c.args.name.items) c.self.view_is
+returns-clause-ok c = ap set_by c.in_ok-insert.ensures.keys ∙ set_insert c.self.inside.names.keys c.args.name
+    ∙ ap (λ s. sets.insert {R = name_cmp} s c.args.name.items) c.self.view_is

@@ -12,4 +12,5 @@ pub returns : goal.returns
 returns c =
     let t = c.args.self.now in let u = c.args.other.now in
     subst (IsLowest name_cmp (λ n. one_lacks (maps.get t n) (maps.get u n))) (sym c.smaller.ensures)
-    (lower_of nat_list_cmp_total name_same (λ n. lacks (maps.get t n) (maps.get u n)) (λ n. lacks (maps.get u n) (maps.get t n)) _ _ c.lacked.ensures c.lacked-2.ensures)
+    (lower_of nat_list_cmp_total name_same (λ n. lacks (maps.get t n) (maps.get u n))
+    (λ n. lacks (maps.get u n) (maps.get t n)) _ _ c.lacked.ensures c.lacked-2.ensures)

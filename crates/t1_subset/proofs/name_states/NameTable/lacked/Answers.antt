@@ -14,4 +14,5 @@ returns c =
     let t = c.args.self.now in let u = c.args.other.now in let s = c.self.inside.sought in
     lowest_entry nat_list_cmp_total name_same (λ n. lacks (maps.get t n) (maps.get u n)) s
     (λ n h. second_so _ (maps.contains_key s n) (sym (seeks_in c.self.inside.glyphs s c.self.invariant t c.self.view_is n) ∙ first_so _ _ h))
-    (lacks_in t u) (entries_all nat_list_cmp_total name_same (λ n v. lacks_in t u (n, v) ≡ lacks (maps.get t n) (maps.get u n)) s (λ n v is. refl)) _ c.first_lacked.ensures
+    (lacks_in t u) (entries_all nat_list_cmp_total name_same (λ n v. lacks_in t u (n, v) ≡ lacks (maps.get t n) (maps.get u n)) s (λ n v is. refl))
+    _ c.first_lacked.ensures

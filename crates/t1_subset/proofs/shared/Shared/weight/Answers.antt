@@ -14,5 +14,6 @@ returns c =
     let subrs = c.self.inside.subrs in
     let count : c.len.result ≡ length (maps.keys subrs) = c.len.ensures ∙ maps.len-entries subrs ∙ sym (length-map (maps.entries subrs) (λ e. e.0)) in
     let iv : c.len_iv.result ≡ c.self.inside.shell.now.len_iv = c.len_iv.ensures ∙ sym (ap (λ s. s.0.len_iv) c.self.view_is) in
-    both_cut _ _ (length (maps.keys subrs) * (129 + c.self.inside.shell.now.len_iv)) _ _ c.texts_weight.ensures (c.saturating_mul-stubs.ensures ∙ (λ i. min (count i * (129 + iv i)) 18446744073709551615)) c.saturating_add.ensures
+    both_cut _ _ (length (maps.keys subrs) * (129 + c.self.inside.shell.now.len_iv)) _ _ c.texts_weight.ensures
+    (c.saturating_mul-stubs.ensures ∙ (λ i. min (count i * (129 + iv i)) 18446744073709551615)) c.saturating_add.ensures
     ∙ ap (λ s. clamp (shared_weight s)) c.self.view_is

@@ -1,6 +1,6 @@
 use Rattle.std.proofs.Common.{◌≡◌, ◌+◌, ◌-◌, ◌++◌, map}
 use Rattle.t1_font.specs.Gathering.{names_in}
-use Rattle.t1_font.proofs.encoding.names_in.Given as goal
+use Rattle.t1_font.proofs.code_entry.names_in.Given as goal
 
 abbrev pub invariant-names : goal.invariant-names
 invariant-names l =

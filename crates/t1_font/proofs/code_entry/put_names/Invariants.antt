@@ -1,6 +1,6 @@
 use Rattle.std.proofs.Common.{◌≡◌, ◌+◌, drop, map}
 use Rattle.t1_font.specs.Gathering.{CodesAlone, named_from}
-use Rattle.t1_font.proofs.encoding.put_names.Given as goal
+use Rattle.t1_font.proofs.code_entry.put_names.Given as goal
 
 abbrev pub invariant-names : goal.invariant-names
 invariant-names l =

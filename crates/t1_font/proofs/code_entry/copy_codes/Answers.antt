@@ -1,7 +1,7 @@
 use Rattle.std.proofs.Common.{arith, ap, length, List, ℕ}
 use Rattle.std.proofs.lemmas.List.{length-map}
 use Rattle.t1_font.proofs.Copies.{names_count}
-use Rattle.t1_font.proofs.encoding.copy_codes.Goals as goal
+use Rattle.t1_font.proofs.code_entry.copy_codes.Goals as goal
 
 pub put_names-requires : goal.put_names-requires
 put_names-requires c =

@@ -1,6 +1,6 @@
 use Rattle.std.proofs.Common.{refl, sym}
 use Rattle.t1_font.specs.Encoding.{copy_of_range}
-use Rattle.t1_font.proofs.encoding.range_copy_at.Goals as goal
+use Rattle.t1_font.proofs.code_entry.range_copy_at.Goals as goal
 
 pub returns-clause-value : goal.returns-clause-value
 unfolding copy_of_range

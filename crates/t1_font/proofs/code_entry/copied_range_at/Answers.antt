@@ -1,6 +1,6 @@
 use Rattle.std.proofs.Common.{refl, sym}
 use Rattle.t1_font.specs.Encoding.{copied_range}
-use Rattle.t1_font.proofs.encoding.copied_range_at.Goals as goal
+use Rattle.t1_font.proofs.code_entry.copied_range_at.Goals as goal
 
 pub returns : goal.returns
 unfolding copied_range
