@@ -149,7 +149,7 @@ range_copy_laws d = (
       omega (arith, ap length s.0.3, length-append s.0.1 s.0.2, ap length t.3, length-append t.1 t.2, start_has d t.0 t.1 _ t.4)),
   λ bytes x e. option_and_then_some _ ((copy_of_range d).read bytes) x e (λ y h k.
       option_and_then_some _ ((copied_range d).read bytes) y h (λ z l m.
-          option_and_then_some _ ((copy_start d).read bytes) z l (λ w n o. start_apart d bytes w n))),
+      option_and_then_some _ ((copy_start d).read bytes) z l (λ w n o. start_apart d bytes w n))),
 )
 
 -- an entry has at least one byte

@@ -198,11 +198,7 @@ fn names_in<'a>(
 }
 
 /// Puts names at the codes from one on.
-fn put_names<'a>(
-    to: u16,
-    names: &[&'a [u8]],
-    gathered: &mut Gathered<'a>,
-) -> Result<(), AllocError>
+fn put_names<'a>(to: u16, names: &[&'a [u8]], gathered: &mut Gathered<'a>) -> Result<(), AllocError>
     requires { to + length names.now ≤ 256 }
     ensures kept { OnOk result (gathered.new.codes
         ≡ named_from gathered.old.codes to (map (λ n. n.now) names.now)) }

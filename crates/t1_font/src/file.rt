@@ -229,11 +229,7 @@ fn text_parts(
 
 /// The parts of the font that a file spells.
 #[tactic(auto, unfolding(crate::specs::ReadFont::font_file))]
-fn file_parts(
-    alloc: Global,
-    dialect: Dialect,
-    file: Vec<u8>,
-) -> Result<SourceParts, ReadFault>
+fn file_parts(alloc: Global, dialect: Dialect, file: Vec<u8>) -> Result<SourceParts, ReadFault>
     ensures { Answers (λ f. f) result (font_file dialect file.items).read }
 {
     if file.len() > FILE_LIMIT {

@@ -20,12 +20,12 @@ Apart {A} entry close = (bytes : List ℕ) (x : A × List ℕ) → entry.read by
 
 -- one or the other has bytes, where both have
 pub eats_either : {A : Type 0} (g h : Grammar A) → Eats g → Eats h → Eats (either g h)
-eats_either g h first second bytes x e = elim (choice_some (g.read bytes) (h.read bytes) x e) [ | inl p ↦ first bytes x p | inr p ↦ second bytes x p.1 ]
+eats_either g h first second bytes x e = elim (choice_some (g.read bytes) (h.read bytes) x e) [ inl p ↦ first bytes x p | inr p ↦ second bytes x p.1 ]
 
 -- no close can be read where one or the other can, if none can where each can
 pub apart_either : {A B : Type 0} (close : Grammar B) (g h : Grammar A) → Apart g close → Apart h close → Apart (either g h) close
 apart_either close g h first second bytes x e =
-    elim (choice_some (g.read bytes) (h.read bytes) x e) [ | inl p ↦ first bytes x p | inr p ↦ second bytes x p.1 ]
+    elim (choice_some (g.read bytes) (h.read bytes) x e) [ inl p ↦ first bytes x p | inr p ↦ second bytes x p.1 ]
 
 -- what keeps apart behind a text keeps apart with it
 pub apart_behind : {S A B : Type 0} (f : S → Option A) (g : S → Option B) (o : Option S) (x : A) → option_and_then f o ≡ Some x →

@@ -4,8 +4,8 @@ use super::cuts::{add_lines, cut_font, headed, is_one_shell, joined, part};
 use super::many::written;
 use super::{CLEAR, GLYPHS, fault, fault_of, file, joined as one_after, lent_file, rewritten};
 use crate::{
-    Font, Form, Named, PartsFault, ReadFault, Source, join_glyphs, join_same_glyphs, read, read_vec,
-    read_wide, read_wide_vec,
+    Font, Form, Named, PartsFault, ReadFault, Source, join_glyphs, join_same_glyphs, read,
+    read_vec, read_wide, read_wide_vec,
 };
 use std::alloc::{AllocError, Global};
 use std::ops::Range;

@@ -93,7 +93,12 @@ fn tables_of_codes(rt: HostRuntime) -> Result<(), Fail> {
     for &(entries, at, name) in ROWS {
         let text = joined(rt.alloc(), OPEN, entries)?;
         let file = encoded(rt.alloc(), text.as_slice())?;
-        let right = is_mended_as(rt.alloc(), file.as_slice(), PFA, ReadFault::BadEncoding { at });
+        let right = is_mended_as(
+            rt.alloc(),
+            file.as_slice(),
+            PFA,
+            ReadFault::BadEncoding { at },
+        );
         assert!(rt; right, "{name}");
     }
     Ok(())
@@ -171,11 +176,31 @@ fn comments_among_subrs(rt: HostRuntime) -> Result<(), Fail> {
 #[test]
 fn refused_widely(rt: HostRuntime) -> Result<(), Fail> {
     const ROWS: &[(&[u8], usize, &str)] = &[
-        (b"dup dup 250 7 getinterval 0 exch putinterval def", 195, "a range over 255"),
-        (b"%\ndup dup 0 7 getinterval 250 exch putinterval def", 197, "into a range over 255"),
-        (b"dup 65 /X put dup dup 256 exch 65 get put def", 209, "into code 256"),
-        (b"dup dup 65 exch 256 get put def", 195, "the copy of code 256"),
-        (b"dup dup 65 exch 66 getinterval put def", 195, "half of either copy"),
+        (
+            b"dup dup 250 7 getinterval 0 exch putinterval def",
+            195,
+            "a range over 255",
+        ),
+        (
+            b"%\ndup dup 0 7 getinterval 250 exch putinterval def",
+            197,
+            "into a range over 255",
+        ),
+        (
+            b"dup 65 /X put dup dup 256 exch 65 get put def",
+            209,
+            "into code 256",
+        ),
+        (
+            b"dup dup 65 exch 256 get put def",
+            195,
+            "the copy of code 256",
+        ),
+        (
+            b"dup dup 65 exch 66 getinterval put def",
+            195,
+            "half of either copy",
+        ),
         (b"% dup 65 /X put def", 215, "a comment through the close"),
     ];
     for &(entries, at, name) in ROWS {
@@ -208,7 +233,11 @@ fn comments_elsewhere_are_refused(rt: HostRuntime) -> Result<(), Fail> {
     ];
     for &(private, want, name) in ROWS {
         let file = file(rt.alloc(), CLEAR, private)?;
-        assert_eq!(rt; read_wide(rt.alloc(), file.as_slice()).err(), Some(want), "{name}");
+        assert_eq!(rt;
+            read_wide(rt.alloc(), file.as_slice()).err(),
+            Some(want),
+            "{name}"
+        );
     }
     Ok(())
 }

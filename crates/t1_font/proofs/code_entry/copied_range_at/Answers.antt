@@ -5,5 +5,11 @@ use Rattle.t1_font.proofs.code_entry.copied_range_at.Goals as goal
 pub returns : goal.returns
 unfolding copied_range
 returns c =
-    rw (sym c.in_ok-rest.ensures, sym c.in_ok-from.ensures, sym c.in_ok-rest-2.ensures, sym c.in_ok-count.ensures, sym c.in_ok-rest-3.ensures,
-    sym c.in_ok-rest-4.ensures) refl
+    rw (
+      sym c.in_ok-rest.ensures,
+      sym c.in_ok-from.ensures,
+      sym c.in_ok-rest-2.ensures,
+      sym c.in_ok-count.ensures,
+      sym c.in_ok-rest-3.ensures,
+      sym c.in_ok-rest-4.ensures,
+    ) refl

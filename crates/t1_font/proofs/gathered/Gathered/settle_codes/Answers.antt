@@ -9,8 +9,8 @@ use Rattle.t1_font.proofs.gathered.Gathered.settle_codes.Goals as goal
 pub returns : goal.returns
 returns c =
     let settled =
-        settled_map (λ k. k) nat_cmp nat_cmp nat_cmp_total (λ x y. refl) c.self.inside.codes.items c.settle.new.entries.items
-        nat_cmp-IsAntisymmetric (λ n. n.now) c.in_ok-self-inside.ensures.settled in
+    settled_map (λ k. k) nat_cmp nat_cmp nat_cmp_total (λ x y. refl) c.self.inside.codes.items c.settle.new.entries.items
+    nat_cmp-IsAntisymmetric (λ n. n.now) c.in_ok-self-inside.ensures.settled in
     (λ i. record {
       rest = drop c.self.inside.at c.self.inside.buffer.items;
       codes = settled i;
