@@ -4,8 +4,9 @@
 use super::cuts::{joined, tiny_cut};
 use super::evening::{MARKS, TABLES, evened, is_left};
 use super::tables::tiny_is_right;
-use super::{many, rewritten};
-use crate::{Form, PartsFault, ReadFault, read_vec};
+use super::wide::with_copies;
+use super::{lent_file, many, rewritten};
+use crate::{Form, PartsFault, ReadFault, read_vec, read_wide, read_wide_vec};
 use std::alloc::Global;
 use std::test::Fail;
 use t1_tiny::{PFA, PFB};
@@ -17,6 +18,16 @@ fn is_written_again(alloc: Global, file: &[u8]) -> Result<bool, ReadFault> {
     let source = read_vec(alloc, Vec::from_slice(alloc, file)?)?;
     drop(source);
     Ok(pfa.as_slice() == PFA.as_slice() && pfb.as_slice() == PFB.as_slice())
+}
+
+/// Whether Tiny with codes that are copied is read widely as Tiny, lent and handed over.
+fn is_read_widely(alloc: Global) -> Result<bool, ReadFault> {
+    let file = with_copies(alloc)?;
+    let lent = read_wide(alloc, file.as_slice())?;
+    let pfa = lent_file(alloc, &lent, Form::Pfa)?;
+    let handed_over = read_wide_vec(alloc, file)?;
+    let other = lent_file(alloc, &handed_over, Form::Pfa)?;
+    Ok(pfa.as_slice() == PFA.as_slice() && other.as_slice() == PFA.as_slice())
 }
 
 /// Whether two cuts of Tiny join to the cut to the names of both.
@@ -50,6 +61,16 @@ fn growths_of_files(rt: HostRuntime) -> Result<(), Fail> {
         };
         assert!(rt; right);
     }
+    Ok(())
+}
+
+#[test]
+fn growths_of_wide_files(rt: HostRuntime) -> Result<(), Fail> {
+    let right = match is_read_widely(rt.alloc()) {
+        Err(ReadFault::Memory) => is_read_widely(rt.alloc())?,
+        answer => answer?,
+    };
+    assert!(rt; right);
     Ok(())
 }
 

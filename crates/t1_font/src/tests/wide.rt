@@ -30,6 +30,17 @@ fn is_mended_as(alloc: Global, file: &[u8], like: &[u8], fault: ReadFault) -> bo
 /// What opens the table of an Encoding; it begins at offset 144 of Tiny.
 const OPEN: &[u8] = b" 256 array\n0 1 255 {1 index exch /.notdef put} for\n";
 
+/// Tiny with codes that get their names by copies.
+pub(super) fn with_copies(alloc: Global) -> Result<Vec<u8>, AllocError> {
+    let text = joined(
+        alloc,
+        OPEN,
+        b"dup 1 /X put dup 2 /Y put dup dup 1 2 getinterval 65 exch putinterval \
+        dup 1 /.notdef put dup dup 2 exch 3 get put dup 194 /H put % endarray\ndef",
+    )?;
+    encoded(alloc, text.as_slice())
+}
+
 #[test]
 fn tables_of_codes(rt: HostRuntime) -> Result<(), Fail> {
     const ROWS: &[(&[u8], usize, &str)] = &[
