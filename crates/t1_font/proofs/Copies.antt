@@ -9,7 +9,7 @@ use Rattle.std.proofs.lemmas.List.{append-nil}
 use Rattle.t1_font.specs.FontValue.{Numbered, notdef}
 use Rattle.t1_font.specs.Encoding.{CodeEntry, Put, Copy, name_after, copied, put_by, puts_after, puts_of}
 use Rattle.t1_font.specs.Entries.{map_of}
-use Rattle.t1_font.specs.Gathering.{name_in, names_in, named_from, kept_by}
+use Rattle.t1_font.specs.Gathering.{name_in, copied_names, named_from, kept_by}
 use Rattle.t1_font.proofs.MapLaws.{get-map_of}
 use Rattle.t1_font.proofs.HeldLemmas.{one_code_more}
 
@@ -17,16 +17,16 @@ use Rattle.t1_font.proofs.HeldLemmas.{one_code_more}
 
 -- one more name of so many
 pub names_turn : (codes : Numbered) (from n i : ℕ) (done : List (List ℕ)) (name : List ℕ) (all : List (List ℕ)) → i < n → name ≡ name_in codes (from + i) →
-    done ++ names_in codes (from + i) (n - i) ≡ all → (done ++ name ∷ []) ++ names_in codes (from + (i + 1)) (n - (i + 1)) ≡ all
+    done ++ copied_names codes (from + i) (n - i) ≡ all → (done ++ name ∷ []) ++ copied_names codes (from + (i + 1)) (n - (i + 1)) ≡ all
 names_turn codes from n i done name all below is so_far =
     let more : n - i ≡ suc (n - (i + 1)) = omega (arith, below) in
     let next : from + (i + 1) ≡ suc (from + i) = omega arith in
-    append_assoc done (name ∷ []) (names_in codes (from + (i + 1)) (n - (i + 1)))
+    append_assoc done (name ∷ []) (copied_names codes (from + (i + 1)) (n - (i + 1)))
     ∙ (ap (λ (ns : List (List ℕ)). done ++ ns)
-    ((λ j. is j ∷ names_in codes (next j) (n - (i + 1))) ∙ ap (names_in codes (from + i)) (sym more)) ∙ so_far)
+    ((λ j. is j ∷ copied_names codes (next j) (n - (i + 1))) ∙ ap (copied_names codes (from + i)) (sym more)) ∙ so_far)
 
 -- there are so many
-pub names_count : (codes : Numbered) (from n : ℕ) → length (names_in codes from n) ≡ n
+pub names_count : (codes : Numbered) (from n : ℕ) → length (copied_names codes from n) ≡ n
 names_count codes from zero = refl
 names_count codes from (suc n) = ap suc (names_count codes (suc from) n)
 
@@ -45,7 +45,7 @@ puts_plain puts (e ∷ es) = puts_plain (puts ++ e ∷ []) es ∙ append_assoc p
 
 -- names that are copied are those of the puts before
 copies_kept : (n from to : ℕ) (old now : Numbered) (before puts : List (ℕ × List ℕ)) → old ≡ map_of before → now ≡ map_of puts →
-    named_from now to (names_in old from n) ≡ map_of (puts ++ copied before from n to)
+    named_from now to (copied_names old from n) ≡ map_of (puts ++ copied before from n to)
 copies_kept zero from to old now before puts o h = h ∙ ap (map_of {R = nat_cmp}) (sym (append-nil puts))
 copies_kept (suc n) from to old now before puts o h =
     let put : ℕ × List ℕ = (to, name_after before from) in

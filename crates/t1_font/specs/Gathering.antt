@@ -64,9 +64,9 @@ abbrev pub name_in : Numbered → ℕ → List ℕ
 name_in codes c = unwrap_or (get codes c) notdef
 
 -- the names of so many codes from one on
-abbrev pub names_in : Numbered → ℕ → ℕ → List (List ℕ)
-names_in codes from zero = []
-names_in codes from (suc n) = name_in codes from ∷ names_in codes (suc from) n
+abbrev pub copied_names : Numbered → ℕ → ℕ → List (List ℕ)
+copied_names codes from zero = []
+copied_names codes from (suc n) = name_in codes from ∷ copied_names codes (suc from) n
 
 -- names put at the codes from one on
 abbrev pub named_from : Numbered → ℕ → List (List ℕ) → Numbered
@@ -76,7 +76,7 @@ named_from codes to (n ∷ names) = named_from (insert codes to n) (suc to) name
 -- what is gathered with one entry more
 abbrev pub kept_by : Numbered → CodeEntry → Numbered
 kept_by codes (Put c n) = insert codes c n
-kept_by codes (Copy from count to) = named_from codes to (names_in codes from count)
+kept_by codes (Copy from count to) = named_from codes to (copied_names codes from count)
 
 -- nothing changed but the names of codes; the Subrs, or the glyphs, and what is left
 abbrev pub CodesAlone : Entries → Entries → Type 0

@@ -4,7 +4,7 @@ ghost use Rattle.std.specs.Prelude.{◌≡◌, ◌+◌, ◌≤◌, true, ℕ, Li
 ghost use Rattle.std.specs.Option.{option_map};
 ghost use Rattle.t1_font.specs.Encoding.{is_octal, octal_after, octal, number, code, put_entry, copy_start, one_copy, copied_range, copy_of_range};
 ghost use Rattle.t1_font.specs.Encoding.{are_codes, range_copy, code_entry, within_codes, Copy};
-ghost use Rattle.t1_font.specs.Gathering.{CodesAlone, names_in, named_from, kept_by};
+ghost use Rattle.t1_font.specs.Gathering.{CodesAlone, copied_names, named_from, kept_by};
 ghost use Rattle.t1_font.specs.Views.{code_entry_view};
 
 use crate::dialect::Dialect;
@@ -181,18 +181,17 @@ pub(crate) fn code_entry_at(bytes: &[u8], dialect: Dialect) -> Option<(CodeEntry
 }
 
 /// The names of so many codes from one on.
-fn names_in<'a>(
+fn copied_names<'a>(
     alloc: Global,
     from: u16,
     count: u16,
     gathered: &Gathered<'a>,
 ) -> Result<Vec<&'a [u8]>, AllocError>
-    requires { from + count ≤ 256 }
-    ensures { IfOk result (λ v. map (λ n. n.now) v.items ≡ names_in gathered.now.codes from count) }
+    ensures { IfOk result (λ v. map (λ n. n.now) v.items ≡ copied_names gathered.now.codes from count) }
 {
     let mut names = Vec::new(alloc);
     'names: for i in 0..count {
-        names.push(gathered.name_at(from + i))?;
+        names.push(gathered.name_at(from as u32 + i as u32))?;
     }
     Ok(names)
 }
@@ -218,14 +217,13 @@ fn copy_codes(
     to: u16,
     gathered: &mut Gathered<'_>,
 ) -> Result<(), AllocError>
-    requires from { from + count ≤ 256 }
-    requires to { to + count ≤ 256 }
+    requires { to + count ≤ 256 }
     ensures kept { OnOk result (gathered.new.codes
         ≡ kept_by gathered.old.codes (Copy from count to)) }
     ensures others { OnOk result (CodesAlone gathered.old gathered.new) }
 {
     gathered.settle_codes()?;
-    let names = names_in(alloc, from, count, gathered)?;
+    let names = copied_names(alloc, from, count, gathered)?;
     put_names(to, names.as_slice(), gathered)
 }
 

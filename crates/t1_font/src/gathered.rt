@@ -88,13 +88,13 @@ fn decrypt_in(buffer: &mut Vec<u8>, part: Range)
 }
 
 /// The last name of a code: `.notdef` where it has none.
-fn last_name<'a>(codes: &[(u16, &'a [u8])], code: u16) -> &'a [u8]
+fn last_name<'a>(codes: &[(u16, &'a [u8])], code: u32) -> &'a [u8]
     ensures { result.now ≡ unwrap_or (last_value nat_cmp code
         (entries_by (λ k. k) (λ n. n.now) codes.now)) notdef }
 {
     let mut name = b".notdef".as_slice();
     'codes: for entry in codes {
-        if entry.0 == code {
+        if entry.0 as u32 == code {
             name = entry.1;
         }
     }
@@ -163,7 +163,7 @@ impl<'a> Gathered<'a> {
     }
 
     /// The name of a code: `.notdef` where it has none.
-    pub(crate) fn name_at(&self, code: u16) -> &'a [u8]
+    pub(crate) fn name_at(&self, code: u32) -> &'a [u8]
         ensures { result.now ≡ name_in self.now.codes code }
     {
         last_name(self.codes.as_slice(), code)

@@ -7,7 +7,7 @@ pub put_names-requires : goal.put_names-requires
 put_names-requires c =
     omega (
       arith,
-      c.requires.to,
+      c.requires,
       c.as_slice.ensures.len,
       ap length c.in_ok-names.ensures,
       names_count c.settle_codes.new.self.codes c.args.from c.args.count,
