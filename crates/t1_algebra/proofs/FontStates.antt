@@ -1,16 +1,17 @@
 -- The states of a font as tables: what stands at each key, what they weigh, that they join as the fonts do, and that they determine the font.
-use Rattle.std.proofs.Common.{◌≡◌, ◌↔◌, not, ◌≤◌, ℕ, ◌+◌, ◌*◌, ◌-◌, true, cond, List, [], ◌∷◌, map, length, refl, sym, ◌∙◌, ap, subst, Option, Some, None, option_map, is_some, arith, inl, ⊎_elim}
+use Rattle.std.proofs.Common.{◌≡◌, ◌↔◌, not, ◌≤◌, ℕ, ◌+◌, ◌*◌, ◌-◌, true, cond, List, [], ◌∷◌, map, length, refl, sym, ◌∙◌, ap, subst}
+use Rattle.std.proofs.Common.{Option, Some, None, option_map, is_some, arith, inl, ⊎_elim, nat_cmp}
 use Rattle.std.proofs.lemmas.List.{length-map}
 use Rattle.std.specs.FinMap as maps
 use Rattle.t1_join.specs.{Meaning.{of_number}, Join.{State}, StateLaws.{same_meaning-self}, TableMeaning.{TableMeaning, joined_table}}
 use Rattle.t1_join.specs.{TableLaws.{get_joined, same_table}}
-use Rattle.t1_font.specs.{FontModel.{names_in, word_of}, FontValue.{FontValue, Named, total, subr_weight, weight, weight_limit, count_limit}}
-use Rattle.t1_font.proofs.{CutEntries.{entries-retain}, MapLemmas.{entries_all, get-retain}}
-use Rattle.t1_algebra.specs.States.{named_at, IsWithin, is_sought, subr_state, name_state, Compatible, Join, joined_font}
+use Rattle.t1_font.specs.{FontModel.{names_in, word_of, encoding_by, font_by}, Maps.{map_values}, FontValue.{FontValue, Numbered, Named, total, subr_weight, weight, weight_limit, count_limit}}
+use Rattle.t1_font.proofs.{CutEntries.{entries-retain}, MapLemmas.{entries_all, get-retain, get-map_values}}
+use Rattle.t1_algebra.specs.States.{named_at, code_state, IsWithin, is_sought, subr_state, name_state, Compatible, Join, joined_font}
 use Rattle.t1_algebra.specs.StateTables.{StatesValue, numbered, name_meaning, behind_mark, AreSought, used_subrs, all_components, name_states, states_of, subr_adds, name_adds}
-use Rattle.t1_algebra.specs.StateTables.{states_weight, states_glyphs, StatesFit, name_part, subr_part, joined_states, PartsJoin, StatesAgree, StatesJoin, code_part}
+use Rattle.t1_algebra.specs.StateTables.{code_states, state_or_stub, states_weight, states_glyphs, StatesFit, name_part, subr_part, joined_states, PartsJoin, StatesAgree, StatesJoin, code_part}
 use Rattle.t1_algebra.specs.StateLaws.{PartsAgree, parts_laws}
-use Rattle.t1_algebra.proofs.{Words.{nat_cmp_total, nat_list_cmp_total, nat_cmp-IsAntisymmetric, Interpreter, same_bytes}, Shares.{same_indices, sharing}, Maps.{get-valued}}
+use Rattle.t1_algebra.proofs.{Words.{nat_cmp_total, nat_list_cmp_total, nat_cmp-IsAntisymmetric, eq_by_cmp, list_any, Interpreter, same_bytes}, Shares.{same_indices, sharing}, Maps.{get-valued}}
 use Rattle.t1_algebra.proofs.{Sets.{any_flat_map, name_same, cases}, JoinedStates.{subr_joined, name_joined, present_joined}, Subsets.{stub_is, same_font, same_encoding, code_joined}}
 use Rattle.t1_algebra.proofs.Sums.{total_kept, total_mapped, names_total, names_count}
 use Rattle.t1_algebra.proofs.Tables.{get-numbered, entries-numbered, get-name, charstring_in, Shows, cases_key, codes_shown, shown_agree, agree_shown, shown_joined, to_agree}
@@ -173,3 +174,38 @@ module _ {O : Type 0} (m : Interpreter O) (f g : FontValue) (e : states_of m f �
       (same_shown _ _ _ _ (codes_shown f.encoding) (codes_shown g.encoding) (ap code_part e)))
       (λ i. grind (cases, same_shown _ _ _ _ (subrs_shown m f) (subrs_shown m g) (ap subr_part e) i, shared.present i, stub_is))
       (λ n. grind (cases, get-names m f n, get-names m g n, ap (λ (t : TableMeaning). maps.get t n) (ap name_part e)))
+
+-- ---- a font is made of its states
+
+module _ {O : Type 0} (m : Interpreter O) (f : FontValue) where
+  -- a font has the state of each of its Subrs, or a stub where it is the bottom
+  subr_again : (i : ℕ) → option_map (λ c. state_or_stub (numbered (used_subrs m f)) i) (maps.get f.subrs i) ≡ maps.get f.subrs i
+  subr_again i = grind (cases, subrs_shown m f (of_number i), stub_is)
+
+  -- the Encoding is the word that the font shares, or else the table of the names of its codes
+  encoding_again : (codes : Numbered) → numbered codes ≡ code_states f.encoding → encoding_by (word_of f.encoding) codes ≡ f.encoding
+  encoding_again codes same =
+      let named : (c : ℕ) → maps.get codes c ≡ code_state f.encoding c =
+      λ c. sym (get-numbered codes (of_number c)) ∙ ap (λ (t : TableMeaning). maps.get t (of_number c)) same ∙ codes_shown f.encoding (of_number c) in
+      same_encoding (encoding_by (word_of f.encoding) codes) f.encoding (grind cases) (λ c. grind (cases, named c))
+
+  -- the font of its states, with stubs for the Subrs that have none, is the font
+  pub font_again : (codes present : Numbered) (glyphs : Named) → numbered codes ≡ code_states f.encoding → maps.keys present ≡ maps.keys f.subrs →
+      ((n : List ℕ) → maps.get glyphs n ≡ behind_mark (maps.get (name_states m f) n)) →
+      font_by f.shell (word_of f.encoding) codes (map_values (λ i c. state_or_stub (numbered (used_subrs m f)) i) present) glyphs ≡ f
+  font_again codes present glyphs same keys are = same_font _ f refl (encoding_again codes same)
+      (λ i.
+      let there = maps.contains_key-keys present i ∙ ap (list_any (eq_by_cmp nat_cmp i)) keys ∙ sym (maps.contains_key-keys f.subrs i) in
+      let values = get-map_values nat_cmp_total nat_cmp-IsAntisymmetric (λ i c. state_or_stub (numbered (used_subrs m f)) i) present i in
+      grind (cases, there, values, subr_again i))
+      (λ n. ap (λ (g : Named). maps.get g n) (glyphs_among m f glyphs are))
+
+  -- so is a font that is made of its states
+  pub font_made : (s : StatesValue) → s ≡ states_of m f → (codes present subrs : Numbered) (glyphs : Named) →
+      numbered codes ≡ code_part s → maps.keys present ≡ s.0.1.1 → subrs ≡ map_values (λ i c. state_or_stub (subr_part s) i) present →
+      ((n : List ℕ) → maps.get glyphs n ≡ behind_mark (maps.get (name_part s) n)) → font_by s.0.0 s.0.1.0 codes subrs glyphs ≡ f
+  font_made s e codes present subrs glyphs same keys stubbed are =
+      let filled = stubbed ∙ ap (λ (s : StatesValue). map_values (λ i c. state_or_stub (subr_part s) i) present) e in
+      (λ i. font_by (e i).0.0 (e i).0.1.0 codes (filled i) glyphs)
+      ∙ font_again codes present glyphs (same ∙ ap code_part e) (keys ∙ ap (λ (s : StatesValue). s.0.1.1) e)
+      (λ n. are n ∙ ap (λ (s : StatesValue). behind_mark (maps.get (name_part s) n)) e)

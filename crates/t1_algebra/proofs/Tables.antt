@@ -8,9 +8,10 @@ use Rattle.std.specs.Prelude.{MatchOption}
 use Rattle.std.specs.Str.{bytes_eq}
 use Rattle.std.proofs.lemmas.Map.Text.{is_eq-slice_cmp}
 use Rattle.t1_join.proofs.Conflicts.{Says, both_agree, says_first}
-use Rattle.t1_join.specs.{TableMeaning.{TableMeaning, joined_table, TablesAgree}, Meaning.{Meaning, meaning_cmp, of_number, by_number_law, same_meaning}}
+use Rattle.t1_join.proofs.Sorted.{map_of}
+use Rattle.t1_join.specs.{TableMeaning.{TableMeaning, Rises, entry_meanings, joined_table, TablesAgree}, Meaning.{Meaning, meaning_cmp, of_number, by_number_law, same_meaning}}
 use Rattle.t1_join.specs.{Join.{joined_state, State, states_agree, StatesAgree}, TableLaws.{get_joined, same_table}, StateLaws.{same_meaning-true, same_meaning-self}}
-use Rattle.t1_font.specs.{Maps.{merged}, Joins.{differing_name}}
+use Rattle.t1_font.specs.{Maps.{merged}, Joins.{differing_name}, Lent.{lent_number}}
 use Rattle.t1_font.specs.FontValue.{Numbered, Named, name_cmp, Encoding, Word, Codes}
 use Rattle.t1_font.proofs.MapLemmas.{get-map_values}
 use Rattle.t1_algebra.specs.{Conflicts.{agrees}, StateTables.{numbered, name_meaning, AreNameStates, behind_mark, glyph_table, names_table, AreSought, code_states}, Searches.{IsLowest}}
@@ -27,7 +28,7 @@ pub to_agree : (x y : State) → StatesAgree x y → Agree x y
 to_agree x y h = grind (cases, same_meaning-true)
 
 -- entries with their numbers as keys of a table
-abbrev keyed : List (ℕ × List ℕ) → List (Meaning × Meaning)
+abbrev pub keyed : List (ℕ × List ℕ) → List (Meaning × Meaning)
 keyed es = map (λ e. (of_number e.0, e.1)) es
 
 -- the value at a key that stands for a number, and nothing at any other key
@@ -59,6 +60,19 @@ below_keyed k (e ∷ es) = λ i. is_lt (sym (by_number_law k e.0) i) && below_ke
 sorted_keyed : (es : List (ℕ × List ℕ)) → is_sorted meaning_cmp (keyed es) ≡ is_sorted nat_cmp es
 sorted_keyed [] = refl
 sorted_keyed (e ∷ es) = λ i. below_keyed e.0 es i && sorted_keyed es i
+
+-- what entries mean that are lent, by number
+pub keyed_lent : (es : List (ℕ × Bor (List ℕ))) → keyed (map lent_number es) ≡ entry_meanings of_number (λ s. s.now) es
+keyed_lent [] = refl
+keyed_lent (e ∷ es) = λ i. (of_number e.0, e.1.now) ∷ keyed_lent es i
+
+-- entries by number that are a table's stand upwards by number
+pub numbers_rise : (es : List (ℕ × List ℕ)) (t : TableMeaning) → keyed es ≡ maps.entries t → Rises nat_cmp es
+numbers_rise es t is = subst T (sorted_keyed es) (subst (λ (es : List (Meaning × Meaning)). T (is_sorted meaning_cmp es)) (sym is) (maps.entries_sorted t))
+
+-- and the map of them is that table
+pub numbers_again : (es : List (ℕ × List ℕ)) (t : TableMeaning) → keyed es ≡ maps.entries t → numbered (maps.from_sorted {R = nat_cmp} es) ≡ t
+numbers_again es t is = map_of _ t (ap keyed (maps.entries-from_sorted nat_cmp es (numbers_rise es t is)) ∙ is)
 
 module _ (m : Numbered) where
   -- the entries of a table by number are those of its map

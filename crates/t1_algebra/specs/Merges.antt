@@ -3,6 +3,7 @@ use Rattle.std.specs.Prelude.{◌≡◌, ℕ, true, List, [], ◌∷◌}
 use Rattle.std.specs.List.{AllByRecursion}
 use Rattle.t1_join.specs.Groupings.{Grouping, one, from_left}
 use Rattle.t1_font.specs.FontValue.{FontValue}
+use Rattle.t1_font.specs.IsFont.{IsFont}
 use Rattle.t1_algebra.specs.Keep.{has}
 use Rattle.t1_algebra.specs.Profile.{profile}
 use Rattle.t1_algebra.specs.States.{IsWithin}
@@ -22,6 +23,10 @@ ComesTo (f ∷ fs) j = Merges profile (from_left (one f) fs) j
 -- the fonts come to a font of these states
 abbrev pub ComesToStates : List FontValue → StatesValue → Type 0
 ComesToStates fs s = (j : FontValue) × ComesTo fs j × (s ≡ states_of profile j)
+
+-- a font has these states
+abbrev pub AreOfFont : StatesValue → Type 0
+AreOfFont s = (f : FontValue) × IsFont f × (s ≡ states_of profile f)
 
 -- each glyph of each of the fonts runs and draws in j as it did
 abbrev pub DrawsAll : List FontValue → FontValue → Type 0

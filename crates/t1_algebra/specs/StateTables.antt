@@ -1,5 +1,5 @@
 -- The states of a font as tables, and what they weigh.
-use Rattle.std.specs.Prelude.{◌≡◌, ◌≤◌, ℕ, ◌+◌, ◌*◌, ◌-◌, List, [], ◌∷◌, map, flat_map, length, Option, Some, None, is_some}
+use Rattle.std.specs.Prelude.{◌≡◌, ◌≤◌, ℕ, ◌+◌, ◌*◌, ◌-◌, List, [], ◌∷◌, map, flat_map, length, Option, Some, None, is_some, unwrap_or}
 use Rattle.std.specs.Coded.{Coded, coded×}
 use Rattle.std.specs.Option.{option_map}
 use Rattle.std.specs.FinMap as maps
@@ -9,6 +9,7 @@ use Rattle.t1_join.specs.TableMeaning.{TableMeaning, TablesJoin, table_code, joi
 use Rattle.t1_font.specs.FontModel.{names_in}
 use Rattle.t1_font.specs.FontValue.{FontValue, Encoding, Word, Codes, Numbered, Named, total, texts_weight, weight_limit, count_limit}
 use Rattle.t1_font.specs.Maps.{map_values}
+use Rattle.t1_font.specs.Cut.{stub}
 use Rattle.t1_algebra.specs.Interpreter.{Interpreter}
 use Rattle.t1_algebra.specs.States.{named_at, subr_state}
 use Rattle.t1_algebra.specs.Shared.{Shared, shared_code, shared_of}
@@ -87,6 +88,10 @@ module _ {O : Type 0} (m : Interpreter O) (f : FontValue) where
   -- the states of a font
   abbrev pub states_of : StatesValue
   states_of = (shared_of f, (code_states f.encoding, (name_states, numbered used_subrs)))
+
+-- the state of a Subr, or a stub where it is the bottom
+abbrev pub state_or_stub : TableMeaning → ℕ → List ℕ
+state_or_stub t i = unwrap_or (maps.get t (of_number i)) stub
 
 -- ---- weights
 

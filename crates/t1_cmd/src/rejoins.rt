@@ -1,8 +1,7 @@
 //! The engine that rejoins fonts that other programs cut.
 ghost use Rattle.std.specs.Prelude.{◌≡◌, List, IfOk, IfErr, Ok};
-ghost use Rattle.std.specs.FinMap.{keys};
 ghost use Rattle.t1_font.specs.FontValue.{FontValue};
-ghost use Rattle.t1_font.specs.Evening.{stubs_at, indices_of_all, evened_shells};
+ghost use Rattle.t1_font.specs.Evening.{evened_shells};
 ghost use Rattle.t1_subset.specs.NameSets.{lent};
 ghost use Rattle.t1_cmd.specs.Answers.{Refuses};
 ghost use Rattle.t1_cmd.specs.Files.{OfFiles, RefusesFiles};
@@ -17,25 +16,11 @@ use crate::mergers::{fonts_of, merged_file};
 use crate::several::{FontsWord, run_words, text_of_files};
 use std::alloc::{AllocError, Global};
 use std::io::{Read, Write};
-use t1_font::{Form, PartsFault, Source, even_shells, fill_all, stub_indices};
+use t1_font::{Form, PartsFault, Source, even_shells, fill_all};
 use t1_subset::Conflict;
 
-// The indices at which the fonts of sources have Subrs.
-fn indices_of(alloc: Global, sources: &[Source]) -> Result<Vec<u16>, AllocError>
-    ensures { IfOk result (λ v. v.items ≡ keys (stubs_at (indices_of_all sources.now))) }
-{
-    let fonts = fonts_of(alloc, sources)?;
-    stub_indices(alloc, fonts.as_slice())
-}
-
-// The canonical file of the font that sources of one declared count come to when they are filled at these indices.
-fn filled_file<'a>(
-    alloc: Global,
-    sources: &'a [Source],
-    indices: &'a [u16],
-    form: Form,
-) -> Result<Vec<u8>, Reason>
-    requires { indices.now ≡ keys (stubs_at (indices_of_all sources.now)) }
+// The canonical file of the font that sources of one declared count come to when they are filled.
+fn filled_file(alloc: Global, sources: &[Source], form: Form) -> Result<Vec<u8>, Reason>
     ensures text { (fonts : List FontValue)
         → sources.now ≡ evened_shells fonts
         → IfOk result (λ text. RejoinsTo form fonts (Ok text.items)) }
@@ -44,7 +29,8 @@ fn filled_file<'a>(
         → IfErr result (Refuses (RejoinsTo form fonts)) }
 {
     let lent = fonts_of(alloc, sources)?;
-    let filled = match fill_all(alloc, lent, indices) {
+    let mut indices = Vec::new(alloc);
+    let filled = match fill_all(alloc, lent, &mut indices) {
         Ok(filled) => filled,
         Err(PartsFault::Limit) => return Err(Reason::Merge(Conflict::Limit)),
         Err(PartsFault::Memory) => return Err(Reason::Memory),
@@ -58,8 +44,7 @@ fn rejoined_file(alloc: Global, sources: Vec<Source>, form: Form) -> Result<Vec<
     ensures refused { IfErr result (Refuses (RejoinsTo form sources.items)) }
 {
     let evened = even_shells(alloc, sources)?;
-    let indices = indices_of(alloc, evened.as_slice())?;
-    filled_file(alloc, evened.as_slice(), indices.as_slice(), form)
+    filled_file(alloc, evened.as_slice(), form)
 }
 
 /// The word `rejoin`, and the form that it writes.

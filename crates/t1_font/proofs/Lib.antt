@@ -1,7 +1,6 @@
 pub mod WordLemmas
 pub mod MarkerLemmas
 pub mod Lasts
-pub mod Joining
 pub mod PartsOfOne
 pub mod MapLaws
 pub mod Buffers

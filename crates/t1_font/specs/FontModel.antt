@@ -108,6 +108,15 @@ abbrev pub word_of : Encoding → Option (List ℕ)
 word_of (Word w) = Some w
 word_of (Codes m) = None
 
+-- the Encoding that is this word, or else the table of these names
+abbrev pub encoding_by : Option (List ℕ) → Numbered → Encoding
+encoding_by (Some w) names = Word w
+encoding_by None names = Codes names
+
+-- the font of these parts: its Encoding is a word, or else the names of codes
+abbrev pub font_by : Shell → Option (List ℕ) → Numbered → Numbered → Named → FontValue
+font_by shell word codes subrs glyphs = record { shell = shell; encoding = encoding_by word codes; subrs = subrs; glyphs = glyphs }
+
 -- the name of a code in a table
 abbrev pub name_at : Encoding → ℕ → Option (List ℕ)
 name_at (Word w) code = None

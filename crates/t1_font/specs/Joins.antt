@@ -1,5 +1,5 @@
 -- A font of the entries of two, and why these are not one font.
-use Rattle.std.specs.Prelude.{◌<◌, ◌⊎◌, ℕ, cond, List, [], ◌∷◌, Option, Some, None, unwrap_or}
+use Rattle.std.specs.Prelude.{◌<◌, ◌⊎◌, ℕ, cond, List, Option, Some, None, unwrap_or}
 use Rattle.std.specs.declared.cmp.Ordering.{Ordering}
 use Rattle.std.specs.Str.{bytes_eq}
 use Rattle.std.specs.FinMap.{get, len, entries}
@@ -40,11 +40,6 @@ join_parts f g = record {
   subrs = map_values (λ i c. joined_subr c (get g.subrs i)) f.subrs;
   glyphs = merged f.glyphs g.glyphs;
 }
-
--- the entries of all fonts: to those of the first the others', one font after another
-abbrev pub join_all_parts : FontValue → List FontValue → FontValue
-join_all_parts f [] = f
-join_all_parts f (g ∷ gs) = join_all_parts (join_parts f g) gs
 
 -- there are too many glyphs, or they weigh too much with the rest
 abbrev pub IsOverLimits : FontValue → Type 0

@@ -159,8 +159,8 @@ fn keep<'a>(fonts: &mut Vec<Font<'a>>, font: Font<'a>) -> Result<(), AllocError>
     }
 }
 
-/// The indices at which some font has a Subr, upwards, for [`fill_all`].
-pub fn stub_indices(alloc: Global, fonts: &[Font<'_>]) -> Result<Vec<u16>, AllocError>
+/// The indices at which some font has a Subr, upwards.
+fn stub_indices(alloc: Global, fonts: &[Font<'_>]) -> Result<Vec<u16>, AllocError>
     ensures { IfOk result (λ v. v.items ≡ fin.keys (stubs_at (indices_of_all fonts.now))) }
 {
     let stubs = stubs_of_all(alloc, fonts)?;
@@ -171,18 +171,8 @@ pub fn stub_indices(alloc: Global, fonts: &[Font<'_>]) -> Result<Vec<u16>, Alloc
     Ok(indices)
 }
 
-/// The fonts, each with [`STUB`](crate::STUB) at the indices of Subrs that it declares and lacks and that another of the
-/// fonts has. A font without Subrs gets none, since it has no words to write them with.
-///
-/// The indices are those that [`stub_indices`] answers for these fonts. They are lent, so that a font of a source takes no
-/// room for its stubs.
-///
-/// The fonts are consumed whatever the answer is; after an error none of them is left, and their sources are still there.
-///
-/// # Errors
-///
-/// `Limit` if one of the fonts then weighs more than a font may, `Memory` if a growth was refused.
-pub fn fill_all<'a>(
+/// The fonts, each with the stubs at the indices of a list that it declares and lacks.
+fn fill_each<'a>(
     alloc: Global,
     fonts: Vec<Font<'a>>,
     indices: &'a [u16],
@@ -201,4 +191,27 @@ pub fn fill_all<'a>(
         keep(&mut all, font)?;
     }
     Ok(all)
+}
+
+/// The fonts, each with [`STUB`](crate::STUB) at the indices of Subrs that it declares and lacks and that another of the
+/// fonts has. A font without Subrs gets none, since it has no words to write them with.
+///
+/// `indices` is a place for the indices of all, from which they are lent, so that a font of a source takes no room for its
+/// stubs; what it held before is let go.
+///
+/// The fonts are consumed whatever the answer is; after an error none of them is left, and their sources are still there.
+///
+/// # Errors
+///
+/// `Limit` if one of the fonts then weighs more than a font may, `Memory` if a growth was refused.
+pub fn fill_all<'a>(
+    alloc: Global,
+    fonts: Vec<Font<'a>>,
+    indices: &'a mut Vec<u16>,
+) -> Result<Vec<Font<'a>>, PartsFault>
+    ensures { MatchResult result (λ all. Fills fonts.entry.items all.items)
+        (FillRefuses fonts.entry.items) }
+{
+    *indices = stub_indices(alloc, fonts.as_slice())?;
+    fill_each(alloc, fonts, indices.as_slice())
 }

@@ -4,7 +4,7 @@ ghost use Rattle.std.specs.Prelude.{◌≡◌, ◌≤◌, true, false, is_some};
 ghost use Rattle.std.specs.Option.{option_map};
 ghost use Rattle.std.specs.FinMap as fin;
 ghost use Rattle.t1_font.specs.FontValue.{weight, count_limit, weight_limit};
-ghost use Rattle.t1_font.specs.FontModel.{clamp, part_of, word_of, name_at, names_in, subr_at};
+ghost use Rattle.t1_font.specs.FontModel.{clamp, part_of, word_of, font_by, name_at, names_in, subr_at};
 ghost use Rattle.t1_font.specs.IsFont.{IsFont};
 ghost use Rattle.t1_font.specs.Joins.{IsOverLimits};
 
@@ -98,6 +98,32 @@ impl<'a> Font<'a> {
         ensures { IsFont self.now }
     {
         let _parts = &self.parts;
+    }
+
+    /// The font of these parts: its shell, its Encoding, which is a word or else the names of codes, its Subrs and its glyphs.
+    pub fn of_parts(
+        shell: &'a Shell,
+        word: Option<&'a [u8]>,
+        codes: Numbered<'a>,
+        subrs: Numbered<'a>,
+        glyphs: Named<'a>,
+    ) -> Self
+        requires { IsFont (font_by shell.now (option_map (λ w. w.now) word) codes subrs glyphs) }
+        ensures { result
+            ≡ font_by shell.now (option_map (λ w. w.now) word.entry) codes.entry subrs.entry glyphs.entry }
+    {
+        let encoding = match word {
+            Some(word) => LentEncoding::Word(word),
+            None => LentEncoding::Codes(codes),
+        };
+        Font {
+            parts: FontParts {
+                shell,
+                encoding,
+                subrs,
+                glyphs,
+            },
+        }
     }
 
     /// The names of the glyphs, upwards by their bytes.

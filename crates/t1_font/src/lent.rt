@@ -137,8 +137,8 @@ impl<'a> Numbered<'a> {
         Some(Numbered::filled(StoredSubrs::new(buffer, places), indices))
     }
 
-    /// The table of these entries.
-    pub(crate) fn made(entries: Vec<(u16, &'a [u8])>) -> Self
+    /// The table of these entries, which stand upwards by number.
+    pub fn made(entries: Vec<(u16, &'a [u8])>) -> Self
         requires { Rises nat_cmp (map lent_number entries.items) }
         ensures { result ≡ fin.from_sorted (map lent_number entries.entry.items) }
     {

@@ -10,7 +10,6 @@ mod faults;
 mod growths;
 mod limits;
 mod long;
-mod many;
 mod prefixes;
 mod rows;
 mod tables;

@@ -48,15 +48,6 @@ impl<K: Key + Drop, V: Kept + Drop> Table<K, V> {
         }
     }
 
-    /// A table with no entry, and room for this many entries.
-    pub fn with_capacity(alloc: Global, room: usize) -> Result<Self, AllocError>
-        ensures { IfOk result (λ t. t ≡ fin.empty) }
-    {
-        Ok(Table {
-            entries: Vec::with_capacity(alloc, room)?,
-        })
-    }
-
     /// The table of the entries of a map, which stand upwards by key.
     pub(crate) fn of_map(alloc: Global, map: BTreeMap<K, V>) -> Result<Self, AllocError>
         ensures { IfOk result (λ t. t ≡ first_meanings K.meaning V.meaning map.entries) }
@@ -107,31 +98,6 @@ impl<K: Key + Drop, V: Kept + Drop> Table<K, V> {
         }
     }
 
-    /// The value at the key, which is first looked for at this place among the entries.
-    pub fn get_near(&self, place: usize, key: &K) -> Option<&V>
-        ensures { option_map V.meaning (option_copied result)
-            ≡ fin.get self.now (K.meaning key.now) }
-    {
-        if place < self.entries.len() && self.entries[place].0.cmp(key).is_eq() {
-            return Some(&self.entries[place].1);
-        }
-        self.get(key)
-    }
-
-    /// Puts the value at the key, which is first looked for at this place among the entries. If memory is refused, the
-    /// table stays as it was, and the pair is dropped.
-    pub fn insert_near(&mut self, place: usize, key: K, value: V) -> Result<(), AllocError>
-        ensures ok { OnOk result (self.new
-            ≡ fin.insert self.old (K.meaning key) (V.meaning value)) }
-        ensures err { OnErr result (self.new ≡ self.old) }
-    {
-        if place < self.entries.len() && self.entries[place].0.cmp(&key).is_eq() {
-            self.entries[place].1 = value;
-            return Ok(());
-        }
-        self.insert(key, value)
-    }
-
     /// The entries, upwards by key.
     pub fn entries(&self) -> Entries<'_, K, V>
         ensures { result ≡ fin.entries self.now }
@@ -139,6 +105,13 @@ impl<K: Key + Drop, V: Kept + Drop> Table<K, V> {
         Entries {
             inner: self.entries.iter(),
         }
+    }
+
+    /// The entries, upwards by key, in a list of their own.
+    pub fn into_entries(self) -> Vec<(K, V)>
+        ensures { entry_meanings K.meaning V.meaning result.items ≡ fin.entries self }
+    {
+        self.entries
     }
 
     /// The entries of both tables, upwards by key: the first table's entry if both have the key.

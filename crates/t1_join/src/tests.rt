@@ -15,7 +15,7 @@ type Numbered = Table<u16, Vec<u8>>;
 
 // The table that has the byte at each key from one to another.
 fn table(alloc: Global, from: u16, to: u16, byte: u8) -> Result<Numbered, AllocError> {
-    let mut table = Table::with_capacity(alloc, 4)?;
+    let mut table = Table::new(alloc);
     for key in from..to {
         put(alloc, &mut table, key, byte)?;
     }
@@ -26,18 +26,6 @@ fn table(alloc: Global, from: u16, to: u16, byte: u8) -> Result<Numbered, AllocE
 fn put(alloc: Global, table: &mut Numbered, key: u16, byte: u8) -> Result<(), AllocError> {
     let value = [byte].as_slice().to_vec(alloc)?;
     table.insert(key, value)
-}
-
-// The same, with the key first looked for at this place.
-fn put_near(
-    alloc: Global,
-    table: &mut Numbered,
-    place: usize,
-    key: u16,
-    byte: u8,
-) -> Result<(), AllocError> {
-    let value = [byte].as_slice().to_vec(alloc)?;
-    table.insert_near(place, key, value)
 }
 
 // Whether the table has the byte alone at the key.
@@ -65,8 +53,8 @@ fn keys_of_both<K: Key + Drop, V: Kept + Drop>(
 // The table that keeps the last value of a key, and each key once.
 fn small(alloc: Global) -> Result<Numbered, AllocError> {
     let mut small = table(alloc, 9, 12, 1)?;
-    put_near(alloc, &mut small, 0, 3, 1)?;
-    put_near(alloc, &mut small, 2, 10, 7)?;
+    put(alloc, &mut small, 3, 1)?;
+    put(alloc, &mut small, 10, 7)?;
     Ok(small)
 }
 
@@ -74,8 +62,7 @@ fn small(alloc: Global) -> Result<Numbered, AllocError> {
 fn small_is_right(alloc: Global) -> Result<bool, AllocError> {
     let small = small(alloc)?;
     let upwards = small.entries().map(|(key, _)| *key).eq([3, 9, 10, 11]);
-    let near = small.get_near(2, &10).is_some() && small.get_near(9, &11).is_some();
-    Ok(upwards && near && small.get_near(2, &4).is_none() && holds(&small, 10, 7))
+    Ok(upwards && small.get(&11).is_some() && small.get(&4).is_none() && holds(&small, 10, 7))
 }
 
 // The key at which the small table is in conflict with another, if any, and the number of keys of both, if they join.

@@ -19,6 +19,11 @@ use Rattle.t1_subset.specs.declared.conflict.Conflict.TheVariants as refusal
 pub tells_none : (e : Refusal) (c : Option Conflict) → c ≡ None → Tells e c → e ≡ refusal.Memory
 tells_none e c k h = grind arith
 
+-- a refusal that tells of a conflict is not that there are no fonts
+pub never_empty : (r : Result FontValue Refusal) (c : Option Conflict) → IfErr r (λ e. Tells e c) → IfErr r (λ e. ¬ (e ≡ refusal.Empty))
+never_empty (Ok j) c h = tt
+never_empty (Err e) c h = λ is. subst (λ (e : Refusal). Tells e c) is h
+
 -- ---- two fonts
 
 module _ (g h : FontValue) where

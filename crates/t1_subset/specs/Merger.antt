@@ -1,5 +1,5 @@
 -- What the calls that merge answer.
-use Rattle.std.specs.Prelude.{◌≡◌, ◌⊎◌, List, [], ◌∷◌, ◌++◌, map, Result, MatchResult, IsPermutation}
+use Rattle.std.specs.Prelude.{◌≡◌, ◌⊎◌, List, [], ◌∷◌, ◌++◌, map, None, Result, MatchResult, IsPermutation}
 use Rattle.std.specs.FinSet as sets
 use Rattle.std.specs.List.{AllByRecursion}
 use Rattle.t1_join.specs.Groupings.{Grouping, one, leaves, from_left}
@@ -10,7 +10,7 @@ use Rattle.t1_algebra.specs.Keep.{subset}
 use Rattle.t1_algebra.specs.Profile.{profile}
 use Rattle.t1_algebra.specs.States.{Join, joined_font}
 use Rattle.t1_algebra.specs.Laws.{IsOf}
-use Rattle.t1_algebra.specs.Conflicts.{conflict}
+use Rattle.t1_algebra.specs.Conflicts.{shell_conflict, conflict}
 use Rattle.t1_algebra.specs.Groupings.{Merges, union_all}
 use Rattle.t1_algebra.specs.Merges.{AllJoin, MergesTo, MergesToNone}
 use Rattle.t1_subset.specs.declared.conflict.Conflict.{Conflict as Refusal}
@@ -42,6 +42,12 @@ AcceptsAllJoin fs r = MatchResult r (λ j. AllJoin fs) (λ e. (e ≡ Memory) ⊎
 -- each order and grouping of the fonts comes to the font that is answered, or each comes to none, or a growth was refused
 abbrev pub MergesInAnyOrder : List FontValue → Result FontValue Refusal → Type 0
 MergesInAnyOrder fs r = (t : Grouping FontValue) → IsPermutation fs (leaves t) → MatchResult r (λ j. MergesTo t j) (λ e. (e ≡ Memory) ⊎ MergesToNone t)
+
+-- the first two of these fonts, if there are two, share what they have to
+abbrev pub FirstShare : List FontValue → Type 0
+FirstShare [] = Unit {0}
+FirstShare (f ∷ []) = Unit {0}
+FirstShare (f ∷ g ∷ fs) = shell_conflict f g ≡ None
 
 -- there are no fonts, or a growth was refused, or a font does not join those before it
 abbrev pub IsRefused : List FontValue → Refusal → Type 0

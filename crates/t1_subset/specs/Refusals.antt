@@ -25,8 +25,3 @@ Tells (refusal.Subr i g) c = c ≡ Some (SubrDiffers i (option_map bytes_of g))
 Tells refusal.Limit c = c ≡ Some OverLimit
 Tells refusal.Memory c = Unit {0}
 Tells refusal.Empty c = ⊥
-
--- the refusal of two fonts' entries, or of many
-abbrev pub of_parts : PartsFault → Refusal
-of_parts parts.Limit = refusal.Limit
-of_parts parts.Memory = refusal.Memory

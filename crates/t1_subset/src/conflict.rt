@@ -5,7 +5,6 @@ ghost use Rattle.t1_subset.specs.FaultTexts.{part_text, conflict_text};
 
 use std::alloc::AllocError;
 use std::fmt;
-use t1_font::PartsFault;
 use t1_join::Shown;
 
 /// A part of a font's shell, in the order in which parts are compared.
@@ -112,19 +111,5 @@ impl From<AllocError> for Conflict {
 
     fn from(_fault: AllocError) -> Conflict {
         Conflict::Memory
-    }
-}
-
-impl From<PartsFault> for Conflict {
-    ghost use Rattle.std.specs.Prelude.{◌≡◌};
-    ghost use Rattle.t1_subset.specs.Refusals.{of_parts};
-
-    ghost from_gives = { λ fault e. e ≡ of_parts fault };
-
-    fn from(fault: PartsFault) -> Conflict {
-        match fault {
-            PartsFault::Limit => Conflict::Limit,
-            PartsFault::Memory => Conflict::Memory,
-        }
     }
 }

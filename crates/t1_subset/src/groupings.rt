@@ -1,27 +1,84 @@
-//! Many fonts at once: what is noted of each, and the font that they make.
+//! Many fonts at once: whether the first two share what they have to, and what is noted of each.
 
-ghost use Rattle.std.specs.Prelude.{◌≡◌, ◌<◌, IfOk, IfErr, length, map};
+ghost use Rattle.std.specs.Prelude.{◌≡◌, ◌∷◌, [], IfOk, IfErr, None, map};
+ghost use Rattle.std.specs.List.{AllByRecursion};
+ghost use Rattle.t1_font.specs.IsFont.{IsFont};
 ghost use Rattle.t1_algebra.specs.Profile.{profile};
+ghost use Rattle.t1_algebra.specs.Conflicts.{shell_conflict, conflict};
 ghost use Rattle.t1_algebra.specs.StateTables.{states_of};
 ghost use Rattle.t1_subset.specs.Callers.{AreNoted, fonts_of};
-ghost use Rattle.t1_algebra.specs.Merges.{ComesTo, ComesToStates};
+ghost use Rattle.t1_subset.specs.Merger.{IsRefused, FirstShare};
+ghost use Rattle.t1_subset.specs.Refusals.{Tells};
 
 use crate::callers::Callers;
 use crate::conflict::Conflict;
+use crate::searches::one_shell;
 use crate::shared::Shared;
 use crate::state_making::note_font;
 use crate::state_value::States;
 use std::alloc::{AllocError, Global};
-use t1_font::{Font, join_all_parts};
+use t1_font::Font;
+
+/// The fonts, lent one by one.
+pub(crate) fn lent_fonts<'t, 'a>(
+    alloc: Global,
+    fonts: &'t [Font<'a>],
+) -> Result<Vec<&'t Font<'a>>, AllocError>
+    ensures lent { IfOk result (λ v. map (λ f. f.now) v.items ≡ fonts.now) }
+    ensures fonts { IfOk result (λ _. AllByRecursion IsFont fonts.now) }
+{
+    let mut lent = Vec::with_capacity(alloc, fonts.len())?;
+    'fonts: for font in fonts {
+        font.proof_is_font();
+        lent.push(font)?;
+    }
+    Ok(lent)
+}
+
+/// A list of two fonts.
+pub(crate) fn both_lent<'t, 'a>(
+    alloc: Global,
+    left: &'t Font<'a>,
+    right: &'t Font<'a>,
+) -> Result<Vec<&'t Font<'a>>, AllocError>
+    ensures { IfOk result (λ v. map (λ f. f.now) v.items ≡ left.now ∷ right.now ∷ []) }
+{
+    let mut lent = Vec::with_capacity(alloc, 2)?;
+    lent.push(left)?;
+    lent.push(right)?;
+    Ok(lent)
+}
+
+/// Refuses two fonts that don't share what they have to. No glyph is run.
+#[tactic(auto, using(crate::proofs::state_tables::Conflicts::tells_shell, crate::proofs::state_tables::Conflicts::tells_states, crate::proofs::state_tables::Conflicts::parts_seen))]
+fn share(alloc: Global, left: &Font<'_>, right: &Font<'_>) -> Result<(), Conflict>
+    ensures ok { IfOk result (λ _. shell_conflict left.now right.now ≡ None) }
+    ensures err { IfErr result (λ e. Tells e (conflict profile left.now right.now)) }
+{
+    let own = Shared::of(alloc, left)?;
+    let other = Shared::of(alloc, right)?;
+    one_shell(&own, &other)
+}
+
+/// Refuses fonts of which the first two don't share what they have to. No glyph is run.
+pub(crate) fn first_share(alloc: Global, fonts: &[&Font<'_>]) -> Result<(), Conflict>
+    ensures ok { IfOk result (λ _. FirstShare (map (λ f. f.now) fonts.now)) }
+    ensures err { IfErr result (λ e. IsRefused (map (λ f. f.now) fonts.now) e) }
+{
+    match fonts {
+        [first, second, ..] => share(alloc, first, second),
+        _ => Ok(()),
+    }
+}
 
 /// The callers of each of the fonts, and its states.
 pub(crate) fn note_fonts<'t, 'a>(
     alloc: Global,
-    fonts: &'t [Font<'a>],
+    fonts: &[&'t Font<'a>],
 ) -> Result<(Vec<Callers<'t, 'a>>, Vec<States<'a>>), AllocError>
-    ensures fonts { IfOk result (λ n. fonts_of n.0.items ≡ fonts.now) }
+    ensures fonts { IfOk result (λ n. fonts_of n.0.items ≡ map (λ f. f.now) fonts.now) }
     ensures noted { IfOk result (λ n. AreNoted n.0.items) }
-    ensures states { IfOk result (λ n. n.1.items ≡ map (states_of profile) fonts.now) }
+    ensures states { IfOk result (λ n. n.1.items ≡ map (states_of profile) (fonts_of n.0.items)) }
 {
     let mut callers = Vec::with_capacity(alloc, fonts.len())?;
     let mut states = Vec::with_capacity(alloc, fonts.len())?;
@@ -32,22 +89,4 @@ pub(crate) fn note_fonts<'t, 'a>(
         states.push(state)?;
     }
     Ok((callers, states))
-}
-
-/// The font that these fonts make together, by the joined states of all.
-pub(crate) fn made_of<'a>(
-    alloc: Global,
-    fonts: &[Font<'a>],
-    joined: States<'a>,
-) -> Result<Font<'a>, Conflict>
-    requires some { 0 < length fonts.now }
-    requires joined { ComesToStates fonts.now joined }
-    ensures ok { IfOk result (λ j. ComesTo fonts.now j) }
-    ensures err { IfErr result (λ e. e ≡ Conflict.Memory) }
-{
-    let Some((first, rest)) = fonts.split_first() else {
-        return Err(Conflict::Empty);
-    };
-    first.proof_is_font();
-    Ok(join_all_parts(alloc, first, rest, joined.into_glyphs())?)
 }

@@ -20,6 +20,7 @@ mod closure_names;
 mod closures;
 mod conflict;
 mod fault;
+mod font_making;
 mod groupings;
 mod in_turn;
 pub mod laws;

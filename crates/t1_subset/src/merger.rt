@@ -1,10 +1,11 @@
 //! The join of two fonts, or their lowest conflict.
 
-ghost use Rattle.std.specs.Prelude.{◌≡◌, ◌<◌, length, map, IfOk, IfErr, None};
+ghost use Rattle.std.specs.Prelude.{◌≡◌, ◌<◌, length, map, IfOk, IfErr};
 ghost use Rattle.t1_algebra.specs.Profile.{profile};
 ghost use Rattle.t1_algebra.specs.States.{Join, joined_font};
-ghost use Rattle.t1_algebra.specs.Conflicts.{conflict, states_conflict};
+ghost use Rattle.t1_algebra.specs.Conflicts.{conflict};
 ghost use Rattle.t1_subset.specs.Refusals.{Tells};
+ghost use Rattle.t1_subset.specs.declared.conflict.Conflict.TheVariants.{Empty};
 ghost use Rattle.t1_subset.specs.Callers.{AreNoted, fonts_of};
 ghost use Rattle.t1_algebra.specs.StateTables.{states_of};
 ghost use Rattle.t1_subset.specs.Merger.{IsMerger, MergesItself, IsRefused, AcceptsAllJoin, MergesInAnyOrder, MergesSubsets, MergesAllSubsets};
@@ -12,74 +13,25 @@ ghost use Rattle.t1_algebra.specs.Merges.{DrawsBoth, DrawsAll, ComesTo};
 
 use crate::callers::Callers;
 use crate::conflict::Conflict;
-use crate::groupings::{made_of, note_fonts};
+use crate::groupings::{both_lent, first_share, lent_fonts, note_fonts};
 use crate::in_turn::all_join;
-use crate::searches::{one_shell, tables_conflict};
-use crate::shared::Shared;
-use crate::state_making::note_font;
 use crate::state_value::States;
 use std::alloc::Global;
-use t1_font::{Font, join_parts};
+use t1_font::Font;
 
-/// The font with the entries of two fonts whose states join, if it is within the limits.
-#[tactic(auto, using(std::proofs::lemmas::Result::err_from_is_err_and, crate::proofs::state_tables::Conflicts::same_shells, crate::proofs::state_tables::Conflicts::same_kinds, crate::proofs::state_tables::Conflicts::tells_parts))]
-fn both<'a>(alloc: Global, left: &Font<'a>, right: &Font<'a>) -> Result<Font<'a>, Conflict>
-    requires { states_conflict profile left.now right.now ≡ None }
-    ensures ok { IfOk result (λ j. Join profile left.now right.now
-        × (j ≡ joined_font profile left.now right.now)) }
-    ensures err { IfErr result (λ e. Tells e (conflict profile left.now right.now)) }
-{
-    let font = join_parts(alloc, left, right)?;
-    font.proof_is_font();
-    Ok(font)
-}
-
-/// The lowest conflict of two fonts, except that the limits are not looked at, or want of memory. If what the fonts have
-/// to share differs, no glyph is run.
-#[tactic(auto, using(crate::proofs::state_tables::Conflicts::tells_shell, crate::proofs::state_tables::Conflicts::parts_seen))]
-fn conflict_of(alloc: Global, left: &Font<'_>, right: &Font<'_>) -> Result<(), Conflict>
-    ensures ok { IfOk result (λ _. states_conflict profile left.now right.now ≡ None) }
-    ensures err { IfErr result (λ e. Tells e (states_conflict profile left.now right.now)) }
-{
-    left.proof_is_font();
-    right.proof_is_font();
-    let own = Shared::of(alloc, left)?;
-    let other = Shared::of(alloc, right)?;
-    if let Err(conflict) = one_shell(&own, &other) {
-        return Err(conflict);
-    }
-    let (own, own_states) = note_font(alloc, left, own)?;
-    let (other, other_states) = note_font(alloc, right, other)?;
-    tables_conflict(alloc, &own_states, &other_states, &[own, other])
-}
-
-/// The join of two fonts, or their lowest conflict.
-fn merge_two<'a>(alloc: Global, left: &Font<'a>, right: &Font<'a>) -> Result<Font<'a>, Conflict>
-    ensures ok { IfOk result (λ j. Join profile left.now right.now
-        × (j ≡ joined_font profile left.now right.now)) }
-    ensures err { IfErr result (λ e. Tells e (conflict profile left.now right.now)) }
-{
-    if let Err(conflict) = conflict_of(alloc, left, right) {
-        return Err(conflict);
-    }
-    both(alloc, left, right)
-}
-
-/// The join of one or more fonts, by the callers of each and its states, which are let go before the join is made. It is made
-/// by the joined states.
-#[tactic(auto, using(crate::proofs::state_tables::StateTrees::refused_err, crate::proofs::state_tables::Walks::some_noted))]
+/// The join of one or more fonts, by the callers of each and its states, which are let go before the font is made of the joined
+/// states.
+#[tactic(auto, using(std::proofs::lemmas::Result::err_from_is_err_and))]
 fn merge_noted<'a>(
     alloc: Global,
-    fonts: &[Font<'a>],
     callers: Vec<Callers<'_, '_>>,
     states: Vec<States<'a>>,
 ) -> Result<Font<'a>, Conflict>
-    requires some { 0 < length fonts.now }
-    requires fonts { fonts_of callers.items ≡ fonts.now }
+    requires some { 0 < length callers.items }
     requires noted { AreNoted callers.items }
-    requires states { states.items ≡ map (states_of profile) fonts.now }
-    ensures ok { IfOk result (λ j. ComesTo fonts.now j) }
-    ensures err { IfErr result (λ e. IsRefused fonts.now e) }
+    requires states { states.items ≡ map (states_of profile) (fonts_of callers.items) }
+    ensures ok { IfOk result (λ j. ComesTo (fonts_of callers.entry.items) j) }
+    ensures err { IfErr result (λ e. IsRefused (fonts_of callers.entry.items) e) }
 {
     let joined = match all_join(alloc, callers.as_slice(), states.as_slice()) {
         Ok(joined) => joined,
@@ -87,7 +39,36 @@ fn merge_noted<'a>(
     };
     drop(states);
     drop(callers);
-    made_of(alloc, fonts, joined)
+    Ok(joined.into_font(alloc)?)
+}
+
+/// The join of one or more fonts, or the first conflict from left to right. If the first two don't share what they have to, no
+/// glyph is run.
+fn merge_lent<'a>(alloc: Global, fonts: &[&Font<'a>]) -> Result<Font<'a>, Conflict>
+    requires { 0 < length fonts.now }
+    ensures ok { IfOk result (λ j. ComesTo (map (λ f. f.now) fonts.now) j) }
+    ensures err { IfErr result (λ e. IsRefused (map (λ f. f.now) fonts.now) e) }
+{
+    if let Err(conflict) = first_share(alloc, fonts) {
+        return Err(conflict);
+    }
+    let (callers, states) = note_fonts(alloc, fonts)?;
+    merge_noted(alloc, callers, states)
+}
+
+/// The join of two fonts, or their lowest conflict.
+#[tactic(auto, using(crate::proofs::state_tables::Walks::two_come, crate::proofs::state_tables::Walks::two_refused))]
+fn merge_two<'t, 'a>(
+    alloc: Global,
+    left: &'t Font<'a>,
+    right: &'t Font<'a>,
+) -> Result<Font<'a>, Conflict>
+    ensures ok { IfOk result (λ j. Join profile left.now right.now
+        × (j ≡ joined_font profile left.now right.now)) }
+    ensures err { IfErr result (λ e. Tells e (conflict profile left.now right.now)) }
+{
+    let fonts = both_lent(alloc, left, right)?;
+    merge_lent(alloc, fonts.as_slice())
 }
 
 /// The font that two fonts make together: the shell of both, the codes and glyphs of either, and for each Subr the
@@ -96,11 +77,11 @@ fn merge_noted<'a>(
 /// same, what both have is the same, neither lacks a component that it needs and the other has, and the font of both is
 /// within the limits.
 ///
-/// Otherwise the lowest [`Conflict`] is answered, the same in both orders of the fonts. Want of memory may be answered
-/// in place of either. A font merged with itself is itself.
+/// Otherwise the lowest [`Conflict`] is answered, the same in both orders of the fonts, and never `Empty`. Want of memory may be
+/// answered in place of either. A font merged with itself is itself.
 ///
 /// Two subsets of one font always join, and their join is the subset over both sets of names.
-#[tactic(auto, using(crate::proofs::Answered::draws_both, crate::proofs::Answered::other_order, crate::proofs::Answered::itself))]
+#[tactic(auto, using(crate::proofs::Answered::draws_both, crate::proofs::Answered::other_order, crate::proofs::Answered::itself, crate::proofs::Answered::never_empty))]
 pub fn merge<'a>(alloc: Global, left: &Font<'a>, right: &Font<'a>) -> Result<Font<'a>, Conflict>
     ensures ok { IfOk result (λ j. Join profile left.now right.now
         × (j ≡ joined_font profile left.now right.now)) }
@@ -109,6 +90,7 @@ pub fn merge<'a>(alloc: Global, left: &Font<'a>, right: &Font<'a>) -> Result<Fon
     ensures itself { MergesItself left.now right.now result }
     ensures subsets { MergesSubsets left.now right.now result }
     ensures draws { IfOk result (λ j. DrawsBoth left.now right.now j) }
+    ensures never_empty { IfErr result (λ e. ¬ (e ≡ Empty)) }
 {
     left.proof_is_font();
     merge_two(alloc, left, right)
@@ -133,6 +115,6 @@ pub fn merge_all<'a>(alloc: Global, fonts: &[Font<'a>]) -> Result<Font<'a>, Conf
     if fonts.is_empty() {
         return Err(Conflict::Empty);
     }
-    let (callers, states) = note_fonts(alloc, fonts)?;
-    merge_noted(alloc, fonts, callers, states)
+    let lent = lent_fonts(alloc, fonts)?;
+    merge_lent(alloc, lent.as_slice())
 }

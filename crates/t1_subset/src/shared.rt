@@ -18,10 +18,10 @@ use t1_font::{Font, Numbered, Part, Shell};
 /// What fonts have to share to join: the shell, the Encoding if it is a word, and which Subrs are present.
 #[derive(Drop)]
 pub(crate) struct Shared<'a> {
-    shell: &'a Shell,
-    word: Option<&'a [u8]>,
+    pub(crate) shell: &'a Shell,
+    pub(crate) word: Option<&'a [u8]>,
     /// The Subrs. Only their indices count here, and a table of a source is lent.
-    subrs: Numbered<'a>,
+    pub(crate) subrs: Numbered<'a>,
 }
 
 impl<'a> Model for Shared<'a> {

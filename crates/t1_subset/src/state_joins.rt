@@ -104,14 +104,6 @@ impl<'a> States<'a> {
         &self.subrs
     }
 
-    /// The glyphs of the font of these states.
-    pub(crate) fn into_glyphs(self) -> Named<'a>
-        ensures { (n : List ℕ)
-            → maps.get result n ≡ behind_mark (maps.get (name_part self.entry) n) }
-    {
-        self.names.into_glyphs()
-    }
-
     /// Whether the fonts share what they have to, and the states of codes and Subrs join.
     fn numbers_agree(&self, other: &States<'a>) -> bool
         ensures { IsTrue result

@@ -1,11 +1,9 @@
 //! Sources made even, and fonts that are filled.
 
 ghost use Rattle.std.specs.Prelude.{◌≡◌, IfOk};
-ghost use Rattle.std.specs.FinMap.{keys};
-ghost use Rattle.t1_font.specs.Evening.{stubs_at, indices_of_all};
 
 use super::{GLYPHS, behind, joined, lent_counts, source};
-use crate::{Font, Part, PartsFault, STUB, Source, even_shells, fill_all, stub_indices};
+use crate::{Font, Part, PartsFault, STUB, Source, even_shells, fill_all};
 use std::alloc::{AllocError, Global};
 use std::test::Fail;
 
@@ -70,34 +68,15 @@ fn fonts_of(alloc: Global, sources: &[Source]) -> Result<Vec<Font<'_>>, AllocErr
     Ok(fonts)
 }
 
-/// The indices at which the fonts of sources have Subrs.
-fn indices_of(alloc: Global, sources: &[Source]) -> Result<Vec<u16>, AllocError>
-    ensures { IfOk result (λ v. v.items ≡ keys (stubs_at (indices_of_all sources.now))) }
-{
-    let fonts = fonts_of(alloc, sources)?;
-    stub_indices(alloc, fonts.as_slice())
-}
-
-/// The marks of the fonts of sources when they are filled at these indices.
-fn filled_marks<'a>(
-    alloc: Global,
-    sources: &'a [Source],
-    indices: &'a [u16],
-) -> Result<Vec<u8>, PartsFault>
-    requires { indices.now ≡ keys (stubs_at (indices_of_all sources.now)) }
-{
-    let filled = fill_all(alloc, fonts_of(alloc, sources)?, indices)?;
+/// The marks of the fonts of sources when they are filled.
+fn lent_marks(alloc: Global, sources: &[Source]) -> Result<Vec<u8>, PartsFault> {
+    let mut indices = Vec::new(alloc);
+    let filled = fill_all(alloc, fonts_of(alloc, sources)?, &mut indices)?;
     let mut marks = Vec::new(alloc);
     for font in filled.as_slice() {
         put_marks(&mut marks, font)?;
     }
     Ok(marks)
-}
-
-/// The marks of the fonts of sources when they are filled.
-fn lent_marks(alloc: Global, sources: &[Source]) -> Result<Vec<u8>, PartsFault> {
-    let indices = indices_of(alloc, sources)?;
-    filled_marks(alloc, sources, indices.as_slice())
 }
 
 /// The sources of fonts with these Subrs.
@@ -206,7 +185,7 @@ fn are_evened(alloc: Global, fonts: usize) -> Result<bool, PartsFault> {
 }
 
 // meets even_shells Ok at 0, 2, 4, 1001 fonts
-// like even_shells: stub_indices, fill_all
+// like even_shells: fill_all
 #[test]
 fn counts_and_stubs(rt: HostRuntime) -> Result<(), Fail> {
     let even = even_shells(rt.alloc(), sources(rt.alloc(), TABLES)?)?;
@@ -263,23 +242,12 @@ fn subr_counts(alloc: Global, fonts: &[Font<'_>]) -> Result<Vec<usize>, AllocErr
     Ok(counts)
 }
 
-/// How many Subrs the fonts of sources have when they are filled at these indices.
-fn filled_counts<'a>(
-    alloc: Global,
-    sources: &'a [Source],
-    indices: &'a [u16],
-) -> Result<Vec<usize>, PartsFault>
-    requires { indices.now ≡ keys (stubs_at (indices_of_all sources.now)) }
-{
-    let filled = fill_all(alloc, fonts_of(alloc, sources)?, indices)?;
-    Ok(subr_counts(alloc, filled.as_slice())?)
-}
-
-/// The same of two such fonts.
+/// How many Subrs two such fonts have when they are filled.
 fn counts_of_halves(alloc: Global, declared: u16, blanks: usize) -> Result<Vec<usize>, PartsFault> {
     let halves = halves(alloc, declared, blanks)?;
-    let indices = indices_of(alloc, halves.as_slice())?;
-    filled_counts(alloc, halves.as_slice(), indices.as_slice())
+    let mut indices = Vec::new(alloc);
+    let filled = fill_all(alloc, fonts_of(alloc, halves.as_slice())?, &mut indices)?;
+    Ok(subr_counts(alloc, filled.as_slice())?)
 }
 
 /// A byte more than a font may weigh.
@@ -294,7 +262,6 @@ fn blanks_for(alloc: Global, declared: u16, filled: usize) -> Result<usize, Allo
     Ok(filled.saturating_sub(weight as usize).saturating_sub(stubs))
 }
 
-// meets stub_indices Ok at 2, 65535 subrs
 // meets fill_all Ok at 2, 65535 subrs
 // meets fill_all Limit at 65535 subrs
 #[test]

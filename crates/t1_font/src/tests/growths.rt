@@ -5,7 +5,7 @@ use super::cuts::{joined, tiny_cut};
 use super::evening::{MARKS, TABLES, evened, is_left};
 use super::tables::tiny_is_right;
 use super::wide::with_copies;
-use super::{lent_file, many, rewritten};
+use super::{lent_file, rewritten};
 use crate::{Form, PartsFault, ReadFault, read_vec, read_wide, read_wide_vec};
 use std::alloc::Global;
 use std::test::Fail;
@@ -99,16 +99,6 @@ fn growths_of_tables(rt: HostRuntime) -> Result<(), Fail> {
     let right = match tiny_is_right(rt.alloc()) {
         Err(_) => tiny_is_right(rt.alloc()).is_ok_and(|right| right),
         Ok(right) => right,
-    };
-    assert!(rt; right);
-    Ok(())
-}
-
-#[test]
-fn growths_of_many(rt: HostRuntime) -> Result<(), Fail> {
-    let right = match many::tiny_is_right(rt.alloc()) {
-        Err(PartsFault::Memory) => many::tiny_is_right(rt.alloc()).is_ok_and(|right| right),
-        answer => answer.is_ok_and(|right| right),
     };
     assert!(rt; right);
     Ok(())

@@ -1,7 +1,6 @@
 //! Fonts with as many glyphs and Subrs as there may be, with one more, and with keys that come again.
 
-use super::cuts::{add_lines, cut_font, headed, is_one_shell, joined, part};
-use super::many::written;
+use super::cuts::{add_lines, cut_font, headed, joined, part};
 use super::{CLEAR, GLYPHS, fault, fault_of, file, joined as one_after, lent_file, rewritten};
 use crate::{
     Font, Form, Named, PartsFault, ReadFault, Source, join_glyphs, join_same_glyphs, read,
@@ -262,65 +261,41 @@ fn fonts_up_to_the_limit(rt: HostRuntime) -> Result<(), Fail> {
     Ok(())
 }
 
-/// The canonical PFB of the entries of a font and of another, by the call for many.
-fn written_by_many<'a>(
-    alloc: Global,
-    first: &Font<'a>,
-    second: Font<'a>,
-) -> Result<Vec<u8>, PartsFault> {
-    if !is_one_shell(alloc, first, &second)? {
-        return Err(PartsFault::Memory);
-    }
-    let rest = [second];
-    written(alloc, first, &rest)
-}
-
-/// The same of the fonts of sources, and whether their tables of glyphs don't join as the same.
-fn lent_by_many(
-    alloc: Global,
-    first: &Source,
-    second: &Source,
-) -> Result<(Vec<u8>, bool), PartsFault> {
+/// Whether the tables of glyphs of the fonts of sources don't join as the same.
+fn are_apart(alloc: Global, first: &Source, second: &Source) -> Result<bool, AllocError> {
     let first = first.font(alloc)?;
     let second = second.font(alloc)?;
-    let apart = join_same_glyphs(alloc, first.glyphs(), second.glyphs())?.is_none();
-    Ok((written_by_many(alloc, &first, second)?, apart))
+    Ok(join_same_glyphs(alloc, first.glyphs(), second.glyphs())?.is_none())
 }
 
-/// The same of the fonts of files.
-fn joined_by_many(
-    alloc: Global,
-    first: &[u8],
-    second: &[u8],
-) -> Result<(Vec<u8>, bool), PartsFault> {
+/// The same of the fonts of files, if both are fonts.
+fn differ(alloc: Global, first: &[u8], second: &[u8]) -> Option<bool> {
     match (read(alloc, first), read(alloc, second)) {
-        (Ok(first), Ok(second)) => lent_by_many(alloc, &first, &second),
-        _ => Err(PartsFault::Memory),
+        (Ok(first), Ok(second)) => are_apart(alloc, &first, &second).ok(),
+        _ => None,
     }
 }
 
-/// Whether the tables of glyphs of two files' fonts don't join as the same, where the call for two fonts and that for many
-/// both answer this fault or one font with these counts; `None` if either answers another thing.
+/// Whether the tables of glyphs of two files' fonts don't join as the same, where the entries of both fonts are one font
+/// with these counts, or are refused so; `None` if they are another thing.
 fn join_as(
     alloc: Global,
     first: &[u8],
     second: &[u8],
     want: Result<Counts, PartsFault>,
 ) -> Option<bool> {
-    let two = joined(alloc, first, second);
-    let many = joined_by_many(alloc, first, second);
-    match (two, many, want) {
-        (Ok(two), Ok((many, apart)), Ok(counts)) => {
-            let same = two.as_slice() == many.as_slice();
-            (same && reads_as(alloc, two, Ok(counts))).then_some(apart)
-        }
-        (Err(two), Err(many), Err(fault)) => (two == fault && many == fault).then_some(false),
-        _ => None,
+    let right = match (joined(alloc, first, second), want) {
+        (Ok(both), Ok(counts)) => reads_as(alloc, both, Ok(counts)),
+        (Err(both), Err(fault)) => both == fault,
+        _ => false,
+    };
+    if !right {
+        return None;
     }
+    differ(alloc, first, second)
 }
 
 // meets join_parts Ok at 2, 3, 65535 glyphs
-// like join_parts: join_all_parts
 // meets join_same_glyphs None at 2, 3, 65535 glyphs
 #[test]
 fn joins_up_to_the_limit(rt: HostRuntime) -> Result<(), Fail> {
@@ -337,7 +312,6 @@ fn joins_up_to_the_limit(rt: HostRuntime) -> Result<(), Fail> {
 }
 
 // meets join_parts Limit at 65536 glyphs
-// like join_parts: join_all_parts
 #[test]
 fn joins_over_the_limit(rt: HostRuntime) -> Result<(), Fail> {
     const MIDDLE: u32 = 32_768;
@@ -352,7 +326,6 @@ fn joins_over_the_limit(rt: HostRuntime) -> Result<(), Fail> {
 
 // meets join_parts Ok at 67108864 bytes
 // meets join_parts Limit at 67108865 bytes
-// like join_parts: join_all_parts
 #[test]
 fn joins_at_the_limit_of_weight(rt: HostRuntime) -> Result<(), Fail> {
     // The clear tail has 18 bytes and the private texts 13 and 27; each of the three glyphs weighs 257.

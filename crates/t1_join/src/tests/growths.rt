@@ -126,7 +126,7 @@ fn growths(rt: HostRuntime) -> Result<(), Fail> {
 fn no_growth(rt: HostRuntime) {
     let one: Numbered = Table::new(rt.alloc());
     let other: Numbered = Table::new(rt.alloc());
-    assert!(rt; one.get(&5).is_none() && one.get_near(0, &5).is_none());
+    assert!(rt; one.get(&5).is_none());
     assert!(rt; one.entries().next().is_none());
     assert!(rt; one.conflict(&other).is_none() && one.agrees(&other));
 }

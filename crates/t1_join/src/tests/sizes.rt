@@ -3,7 +3,7 @@
 use crate::hexadecimal::Hex;
 use crate::partial::Join;
 use crate::tables::Table;
-use crate::tests::{Numbered, Want, holds, join_so, long_line, put, put_near, table};
+use crate::tests::{Numbered, Want, holds, join_so, long_line, put, table};
 use std::alloc::{AllocError, Global};
 use std::test::Fail;
 
@@ -38,37 +38,15 @@ fn digits_of_each_size(rt: HostRuntime) -> Result<(), Fail> {
     Ok(())
 }
 
-// Puts a value of one byte at a key, by the one call or by the other.
-fn put_by(
-    alloc: Global,
-    table: &mut Numbered,
-    near: bool,
-    place: u16,
-    key: u16,
-    byte: u8,
-) -> Result<(), AllocError> {
-    if near {
-        put_near(alloc, table, usize::from(place), key, byte)
-    } else {
-        put(alloc, table, key, byte)
-    }
-}
-
 // Whether a table with so many entries takes one more before them and one after them, and then another value.
-fn takes_more(alloc: Global, near: bool, entries: u16) -> Result<bool, AllocError> {
+fn takes_more(alloc: Global, entries: u16) -> Result<bool, AllocError> {
     let last = entries.saturating_add(1);
     let mut table = table(alloc, 1, last, 1)?;
-    put_by(alloc, &mut table, near, 0, 0, 2)?;
-    put_by(alloc, &mut table, near, last, last, 3)?;
-    put_by(alloc, &mut table, near, 0, 0, 4)?;
+    put(alloc, &mut table, 0, 2)?;
+    put(alloc, &mut table, last, 3)?;
+    put(alloc, &mut table, 0, 4)?;
     let all = table.entries().count() == usize::from(last).saturating_add(1);
     Ok(all && holds(&table, 0, 4) && holds(&table, last, 3))
-}
-
-// Whether there is room for so many entries, and none of them yet.
-fn has_room(alloc: Global, room: usize) -> Result<bool, AllocError> {
-    let table: Numbered = Table::with_capacity(alloc, room)?;
-    Ok(table.entries().next().is_none())
 }
 
 // How many keys two tables have that agree, of which one has so many and the other one more before them.
@@ -84,23 +62,17 @@ fn agreed(alloc: Global, entries: u16, byte: u8) -> Result<Option<usize>, AllocE
 }
 
 // meets Table::new Ok at 0 entries
-// meets Table::with_capacity Ok at 0, 1, 100000 entries
 // meets Table::insert Ok at 0, 1, 1000, 65534 entries
-// like Table::insert: Table::insert_near
 // meets join_if_agreed Some at 1, 1000, 65534 entries
 // meets join_if_agreed None at 1, 1000, 65534 entries
 #[test]
 fn tables_of_each_size(rt: HostRuntime) -> Result<(), Fail> {
     let none: Numbered = Table::new(rt.alloc());
     assert!(rt; none.entries().next().is_none());
-    for &room in &[0, 1, 100_000] {
-        assert!(rt; has_room(rt.alloc(), room)?, "room for {room} entries");
-    }
     const ROWS: &[u16] = &[0, 1, 1_000, 65_534];
     for &entries in ROWS {
-        let plain = takes_more(rt.alloc(), false, entries)?;
-        let near = takes_more(rt.alloc(), true, entries)?;
-        assert!(rt; plain && near, "{entries} entries and two more");
+        let taken = takes_more(rt.alloc(), entries)?;
+        assert!(rt; taken, "{entries} entries and two more");
         let keys = usize::from(entries).saturating_add(1);
         assert!(rt;
             agreed(rt.alloc(), entries, 1)? == Some(keys),

@@ -5,20 +5,17 @@ use Rattle.std.proofs.lemmas.Bool.{false_from_ne_true}
 use Rattle.std.specs.{Cmp.{IsTotalOrder, nat_cmp_total, first_so}, FinSet.{IsAntisymmetric, nat_cmp-IsAntisymmetric}, List.{list_any}, Cmp.Lexicographic.{nat_list_cmp_total}}
 use Rattle.std.specs.FinMap as maps
 use Rattle.t1_join.specs.{TableMeaning.{TableMeaning, TablesAgree, IsFirstConflict}, Meaning.{Meaning, of_number, by_number_law}, Join.{states_agree, joined_state}, TableLaws.{same_table}}
-use Rattle.t1_font.specs.{FontValue.{FontValue, Encoding, Word, Codes, name_cmp}, FontModel.{name_at}, IsFont.{IsFont, IsEncoding}, Joins.{join_parts, Refuses}, WriteLaws.{SameKind}}
-use Rattle.t1_font.specs.declared.parts.PartsFault.{PartsFault}
-use Rattle.t1_font.specs.declared.parts.PartsFault.TheVariants as parts
+use Rattle.t1_font.specs.{FontValue.{FontValue, Encoding, Word, Codes, name_cmp}, FontModel.{name_at}, IsFont.{IsFont, IsEncoding}}
 use Rattle.t1_algebra.specs.Conflicts.{agrees, clashes_at, codes_of_both, subr_clashes, ShellDiffers, CodeDiffers, GlyphDiffers, LacksComponent, SubrDiffers}
 use Rattle.t1_algebra.specs.Conflicts.{keys_of_both, shell_conflict, code_conflict, glyph_conflict, component_conflict, subr_conflict, wanted_by, used_by}
 use Rattle.t1_algebra.specs.Conflicts.{glyph_names, code_clashes, glyph_clashes, component_clashes, Conflict, OverLimit, states_conflict, conflict, is_within}
-use Rattle.t1_algebra.specs.{States.{code_state, subr_state, IsWithin, Join, joined_font}, Interpreter.{Interpreter}, Keep.{has}, Profile.{profile}}
+use Rattle.t1_algebra.specs.{States.{code_state, subr_state}, Interpreter.{Interpreter}, Keep.{has}, Profile.{profile}}
 use Rattle.t1_algebra.specs.{StateTables.{StatesValue, name_part, code_states, name_states, used_subrs, numbered, states_of, behind_mark, names_table, name_meaning}}
 use Rattle.t1_algebra.specs.{Shared.{Shared, shared_of, differing_part, ShellPart}}
 use Rattle.t1_algebra.specs.{Searches.{found, smallest, members, IsLowest}, NameStates.{is_sought_in, charstrings_differ, one_lacks}}
 use Rattle.t1_algebra.proofs.{Maps.{in_both}, Searching.{first_passes}, Sets.{name_same, cases, cases_Option}}
 use Rattle.t1_algebra.proofs.{Tables.{Shows, codes_shown, meanings_as_bytes, get-name}, FontStates.{get-names, subrs_shown}}
-use Rattle.t1_algebra.proofs.{Conflicts.{compatible, within_so}, Fonts.{font_within}, JoinedStates.{joined_are_entries}}
-use Rattle.t1_subset.specs.{Callers.{seeker_of}, declared.conflict.Conflict.{Conflict as Refusal}, Refusals.{Tells, of_parts}}
+use Rattle.t1_subset.specs.{Callers.{seeker_of}, declared.conflict.Conflict.{Conflict as Refusal}, Refusals.{Tells}}
 use Rattle.t1_subset.proofs.{state_tables.LowestKeys.{lowest_is}, state_tables.FontCallers.{any_first, sought_is, smallest_seeker}}
 
 -- a key whose values in two maps do not join is a key of both
@@ -137,31 +134,9 @@ module _ (f : FontValue) where
 -- ---- fonts without a conflict
 
 module _ {O : Type 0} (m : Interpreter O) (f g : FontValue) (h : states_conflict m f g ≡ None) where
-  -- fonts without a conflict of states have the same shell
-  pub same_shells : f.shell ≡ g.shell
-  same_shells = (compatible m f g h).shells
-
-  -- fonts without a conflict of states have Encodings of one kind
-  pub same_kinds : SameKind f.encoding g.encoding
-  same_kinds = (compatible m f g h).kinds
-
-  -- the joined font is the font of the entries of both
-  entries : joined_font m f g ≡ join_parts f g
-  entries = joined_are_entries m f g (compatible m f g h)
-
-  -- if the font of the entries of both is a font, it is their join
-  pub joins : (j : FontValue) → j ≡ join_parts f g → IsFont j → Join m f g × (j ≡ joined_font m f g)
-  joins j e is = (record { states = compatible m f g h; within = subst IsWithin (e ∙ sym entries) (font_within j is) }, e ∙ sym entries)
-
   -- fonts without a conflict of states that are not within the limits are over them
   pub over : (is_within m f g ≡ true → ⊥) → conflict m f g ≡ Some OverLimit
   over k = grind (arith, h, k)
-
-  -- a refusal of the entries of both tells the lowest conflict
-  pub tells_parts : (e : PartsFault) → Refuses (join_parts f g) e → Tells (of_parts e) (conflict m f g)
-  tells_parts parts.Limit more =
-      over (λ b. let w = subst IsWithin entries (within_so m f g b) in let few = w.glyphs in let light = w.weight in grind (arith, more, few, light))
-  tells_parts parts.Memory more = tt
 
 -- ---- what is found in turn
 

@@ -1,8 +1,9 @@
 -- Merging fonts from left to right, by their states and callers.
-use Rattle.std.proofs.Common.{◌≡◌, ◌<◌, ◌≤◌, ◌+◌, ℕ, zero, suc, inr, cond, List, [], ◌∷◌, ◌++◌, map, length, take, take_all, drop, get_or, refl, sym, ◌∙◌, ap, subst, arith, add-one, Some, None}
-use Rattle.std.proofs.lemmas.List.{length-map, map-append, take_more}
+use Rattle.std.proofs.Common.{◌≡◌, ◌<◌, ◌≤◌, ◌+◌, ℕ, zero, suc, inl, inr, cond, List, [], ◌∷◌, ◌++◌, map, length, take, take_all, drop, get_or}
+use Rattle.std.proofs.Common.{Bor, refl, sym, ◌∙◌, ap, subst, arith, add-one, Some, None}
+use Rattle.std.proofs.lemmas.List.{length-map, length-append, map-append, take_more}
 use Rattle.std.specs.List.{AllByRecursion}
-use Rattle.t1_join.specs.Groupings.{Grouping, one}
+use Rattle.t1_join.specs.Groupings.{Grouping, one, from_left}
 use Rattle.t1_join.proofs.OrderLemmas.{all_of_both}
 use Rattle.t1_font.specs.{FontValue.{FontValue}, IsFont.{IsFont}}
 use Rattle.t1_algebra.specs.{Profile.{profile}, States.{Join, joined_font}, StateTables.{StatesValue, StatesAgree, StatesJoin, states_of}}
@@ -31,6 +32,28 @@ module _ (s t : StatesValue) (f g : FontValue) (h : AreStatesOf s t f g) where
       let join = (no_conflict profile f g).0 (λ i. found (λ c. c) (free i) (cond (within i) None (Some OverLimit))) in
       let agree = (join_exactly profile f g (font_within f h.own_font)).1 join in
       apart (subst (λ (s : StatesValue). StatesAgree s t) (sym h.own) (subst (λ (t : StatesValue). StatesAgree (states_of profile f) t) (sym h.other) agree)))
+
+-- two fonts come to their join
+pub two_come : (f g j : FontValue) → ComesTo (f ∷ g ∷ []) j → Join profile f g × (j ≡ joined_font profile f g)
+two_come f g j h = (
+  subst (Join profile f) (sym h.3) (subst (λ (x : FontValue). Join profile x h.1) (sym h.2) h.4.0),
+  sym h.4.1 ∙ (λ i. joined_font profile (sym h.2 i) (sym h.3 i)),
+)
+
+-- where the merge of two fonts stops, it stops at the second
+stops_second : (f g : FontValue) (e : Refusal) (before : List FontValue) (font : FontValue) (after : List FontValue) (joined : FontValue) →
+    g ∷ [] ≡ before ++ font ∷ after → Merges profile (from_left (one f) before) joined → Tells e (conflict profile joined font) → Tells e (conflict profile f g)
+stops_second f g e [] font after joined is m t =
+    let same : g ≡ font = cc in
+    subst (λ (x : FontValue). Tells e (conflict profile f x)) (sym same) (subst (λ (x : FontValue). Tells e (conflict profile x font)) (sym m) t)
+stops_second f g e (b ∷ bs) font after joined is m t = absurd (let short = ap length is in omega (arith, short, length-append bs (font ∷ after)))
+
+-- two fonts are refused for their lowest conflict
+pub two_refused : (f g : FontValue) (e : Refusal) → IsRefused (f ∷ g ∷ []) e → Tells e (conflict profile f g)
+two_refused f g e h = elim h [
+  | inl m ↦ subst (λ (e : Refusal). Tells e (conflict profile f g)) (sym m) tt
+  | inr s ↦ stops_second f g e s.before s.font s.after s.joined s.list s.merges s.tells
+]
 
 -- ---- from left to right
 
@@ -143,16 +166,46 @@ pub record NotedSoFar (cs : List Callers) (ss : List StatesValue) (fs : List Fon
   pub states : ss ≡ map (states_of profile) fs
 
 -- and those of one more font
-pub noted_more : (cs ds : List Callers) (ss us : List StatesValue) (fs : List FontValue) (i : ℕ) (c : Callers) (s : StatesValue) (f : FontValue) →
-    NotedSoFar cs ss (take i fs) → i < length fs → f ≡ get_or fs i f → IsFont f → c.font.now ≡ f → AreCallersOf c f → s ≡ states_of profile f
-    → ds ≡ cs ++ c ∷ [] → us ≡ ss ++ s ∷ [] → NotedSoFar ds us (take (i + 1) fs)
-noted_more cs ds ss us fs i c s f n l at w e k h ed eu =
+pub noted_more : (cs ds : List Callers) (ss us : List StatesValue) (fs gs : List FontValue) (c : Callers) (s : StatesValue) (f : FontValue) →
+    NotedSoFar cs ss fs → fs ++ f ∷ [] ≡ gs → IsFont f → c.font.now ≡ f → AreCallersOf c f → s ≡ states_of profile f
+    → ds ≡ cs ++ c ∷ [] → us ≡ ss ++ s ∷ [] → NotedSoFar ds us gs
+noted_more cs ds ss us fs gs c s f n next w e k h ed eu = record {
+  fonts = ap fonts_of ed ∙ map-append _ cs (c ∷ []) ∙ (λ j. n.fonts j ++ e j ∷ []) ∙ next;
+  noted = subst AreNoted (sym ed) (all_of_both _ cs (c ∷ []) n.noted ((subst IsFont (sym e) w, subst (AreCallersOf c) (sym e) k), tt));
+  states = eu ∙ (λ j. n.states j ++ h j ∷ []) ∙ sym (map-append (states_of profile) fs (f ∷ [])) ∙ ap (map (states_of profile)) next;
+}
+
+-- the fonts that are lent
+abbrev pub shown : List (Bor FontValue) → List FontValue
+shown bs = map (λ b. b.now) bs
+
+-- one font more of those that are lent
+pub shown_more : (bs : List (Bor FontValue)) (i : ℕ) (b : Bor FontValue) → i < length bs → b ≡ get_or bs i b →
+    shown (take i bs) ++ b.now ∷ [] ≡ shown (take (i + 1) bs)
+shown_more bs i b l at = sym (map-append _ (take i bs) (b ∷ [])) ∙ ap shown (ap (λ (x : Bor FontValue). take i bs ++ x ∷ []) at ∙ sym (take_more bs i b l))
+
+-- the first fonts, lent so far, each of which is a font
+pub record LentSoFar (bs : List (Bor FontValue)) (fs : List FontValue) : Type 0 where
+  pub fonts : shown bs ≡ fs
+  pub are : AllByRecursion IsFont fs
+
+-- and one more font
+pub lent_more : (bs cs : List (Bor FontValue)) (b : Bor FontValue) (fs : List FontValue) (i : ℕ) (f : FontValue) → LentSoFar bs (take i fs) →
+    i < length fs → f ≡ get_or fs i f → IsFont f → b.now ≡ f → cs ≡ bs ++ b ∷ [] → LentSoFar cs (take (i + 1) fs)
+lent_more bs cs b fs i f n l at w e ec =
     let next : take i fs ++ f ∷ [] ≡ take (i + 1) fs = ap (λ (x : FontValue). take i fs ++ x ∷ []) at ∙ sym (take_more fs i f l) in
     record {
-      fonts = ap fonts_of ed ∙ map-append _ cs (c ∷ []) ∙ (λ j. n.fonts j ++ e j ∷ []) ∙ next;
-      noted = subst AreNoted (sym ed) (all_of_both _ cs (c ∷ []) n.noted ((subst IsFont (sym e) w, subst (AreCallersOf c) (sym e) k), tt));
-      states = eu ∙ (λ j. n.states j ++ h j ∷ []) ∙ sym (map-append (states_of profile) (take i fs) (f ∷ [])) ∙ ap (map (states_of profile)) next;
+      fonts = ap shown ec ∙ map-append _ bs (b ∷ []) ∙ (λ j. n.fonts j ++ e j ∷ []) ∙ next;
+      are = subst (AllByRecursion IsFont) next (all_of_both IsFont (take i fs) (f ∷ []) n.are (w, tt));
     }
+
+-- fonts of which the first two have a conflict are refused for it
+pub refused_at_second : (bs : List (Bor FontValue)) (f g : Bor FontValue) → 2 ≤ length bs → f ≡ get_or bs 0 f → g ≡ get_or bs 1 g →
+    (e : Refusal) → Tells e (conflict profile f.now g.now) → IsRefused (shown bs) e
+refused_at_second [] f g l a b e t = absurd (omega (arith, l))
+refused_at_second (c ∷ []) f g l a b e t = absurd (omega (arith, l))
+refused_at_second (c ∷ d ∷ bs) f g l a b e t = stops_at (c.now ∷ []) d.now (shown bs) (c.now ∷ d.now ∷ shown bs) c.now refl refl e
+    (subst (λ (x : Bor FontValue). Tells e (conflict profile c.now x.now)) b (subst (λ (x : Bor FontValue). Tells e (conflict profile x.now g.now)) a t))
 
 -- if there are fonts, there are callers
 pub some_noted : (fs : List FontValue) (cs : List Callers) → fonts_of cs ≡ fs → 0 < length fs → 0 < length cs

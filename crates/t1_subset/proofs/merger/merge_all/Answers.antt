@@ -1,4 +1,9 @@
-use Rattle.t1_subset.proofs.{Answered.{in_any_order, none_in_any_order}, state_tables.Walks.{font_list}}
+use Rattle.std.proofs.Common.{ap, ◌∙◌, subst, List, IfOk, IfErr}
+use Rattle.t1_font.specs.FontValue.{FontValue}
+use Rattle.t1_algebra.specs.Merges.{ComesTo}
+use Rattle.t1_subset.specs.Merger.{IsRefused}
+use Rattle.t1_subset.proofs.Answered.{in_any_order, none_in_any_order}
+use Rattle.t1_subset.proofs.state_tables.Walks.{shown}
 use Rattle.t1_subset.proofs.merger.merge_all.Goals as goal
 
 pub returns-then-is_empty-clause-any_order : goal.returns-then-is_empty-clause-any_order
@@ -6,5 +11,8 @@ returns-then-is_empty-clause-any_order c = none_in_any_order c.args.fonts.now c.
 
 pub returns-clause-any_order : goal.returns-clause-any_order
 returns-clause-any_order c =
-    in_any_order c.args.fonts.now (font_list c.args.fonts.now c.in_ok-callers.callers.items c.in_ok-callers.ensures.fonts c.in_ok-callers.ensures.noted)
-    c.merge_noted.result c.merge_noted.ensures.ok c.merge_noted.ensures.err
+    let r = c.merge_lent.result in
+    let are = ap shown c.as_slice.ensures.value ∙ c.in_ok-lent.ensures.lent in
+    in_any_order c.args.fonts.now c.in_ok-lent.ensures.fonts r
+    (subst (λ (fs : List FontValue). IfOk r (λ j. ComesTo fs j)) are c.merge_lent.ensures.ok)
+    (subst (λ (fs : List FontValue). IfErr r (λ e. IsRefused fs e)) are c.merge_lent.ensures.err)

@@ -1,17 +1,17 @@
-use Rattle.std.proofs.Common.{ap, ◌∙◌, map, sym, subst, List}
+use Rattle.std.proofs.Common.{ap, ◌∙◌, sym, subst, List}
 use Rattle.t1_font.specs.FontValue.{FontValue}
-use Rattle.t1_algebra.specs.{Merges.{ComesToStates}, Profile.{profile}, StateTables.{states_of}}
-use Rattle.t1_subset.specs.{Callers.{fonts_of}, Merger.{IsRefused}}
+use Rattle.t1_algebra.specs.Merges.{ComesTo}
+use Rattle.t1_subset.specs.{Callers.{fonts_of, AreNoted}, Merger.{IsRefused}, declared.callers.Callers.{Callers}}
+use Rattle.t1_subset.proofs.state_tables.{Walks.{all_fonts}, StateTrees.{comes_to_font, states_come}}
 use Rattle.t1_subset.proofs.merger.merge_noted.Goals as goal
 
-pub all_join-requires-clause-states : goal.all_join-requires-clause-states
-all_join-requires-clause-states c =
-    c.as_slice-2.ensures.value ∙ c.requires.states ∙ sym (ap (map (states_of profile)) (ap fonts_of c.as_slice.ensures.value ∙ c.requires.fonts))
+pub into_font-requires : goal.into_font-requires
+into_font-requires c =
+    let cs = c.as_slice.result.now in
+    comes_to_font (fonts_of cs) (all_fonts cs (subst AreNoted (sym c.as_slice.ensures.value) c.requires.noted)) c.in-Ok.joined c.in-Ok.ensures.ok
 
-pub returns-in-Err-clause-err : goal.returns-in-Err-clause-err
-returns-in-Err-clause-err c =
-    subst (λ (fs : List FontValue). IsRefused fs c.in-Err.conflict) (ap fonts_of c.as_slice.ensures.value ∙ c.requires.fonts) c.in-Err.ensures.err
-
-pub made_of-requires-clause-joined : goal.made_of-requires-clause-joined
-made_of-requires-clause-joined c =
-    subst (λ (fs : List FontValue). ComesToStates fs c.in-Ok.joined) (ap fonts_of c.as_slice.ensures.value ∙ c.requires.fonts) c.in-Ok.ensures.ok
+pub returns-clause-ok : goal.returns-clause-ok
+returns-clause-ok c =
+    let j = c.in_ok-into_font.field-0 in
+    subst (λ (cs : List Callers). ComesTo (fonts_of cs) j) c.as_slice.ensures.value
+    (states_come (fonts_of c.as_slice.result.now) c.in-Ok.joined c.in-Ok.ensures.ok j c.in_ok-into_font.ensures)

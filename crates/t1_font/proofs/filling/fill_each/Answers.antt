@@ -9,7 +9,7 @@ use Rattle.t1_font.specs.FontValue.{FontValue}
 use Rattle.t1_font.specs.Evening.{stubs_at, indices_of_all}
 use Rattle.t1_font.specs.Filling.{Fills, FillRefuses}
 use Rattle.t1_font.proofs.even_fonts.Filled.{stubs_listed, none_filled, all_filled, fills_on, refused_there}
-use Rattle.t1_font.proofs.filling.fill_all.Goals as goal
+use Rattle.t1_font.proofs.filling.fill_each.Goals as goal
 
 pub fonts-init : goal.fonts-init
 fonts-init c = none_filled (into_iter_items c.into_iter-font-iterator.result) c.in_ok-all.all.items
