@@ -13,5 +13,4 @@ pub mod Drawings
 pub mod Pictures
 pub mod Composed
 pub mod Layouts
-pub mod BothAnswers
 pub mod FaultNames

@@ -5,7 +5,6 @@ ghost use Rattle.std.specs.Option.{option_copied};
 ghost use Rattle.t1_run.specs.Limits.{EndsWithinLimits};
 ghost use Rattle.t1_run.specs.Run.{run_glyph, direct_by, direct, direct3, exec, calls_of, with_indices, AddsFirst, index_of, taken, entry, call};
 ghost use Rattle.t1_run.specs.Machine.{ending_of, value_of, Runs, IsEntered};
-ghost use Rattle.t1_run.specs.BothAnswers.{kept_value};
 ghost use Rattle.t1_run.specs.Pens.{Draws};
 
 use crate::answer::{Accent, Curve, Direct, Fault, Hints, Mark, Metrics};
@@ -16,7 +15,6 @@ use crate::pens::Pen;
 use crate::subroutines::Subroutines;
 use arrayvec::ArrayVec;
 use std::alloc::{AllocError, Global};
-use std::collections::BTreeSet;
 
 /// How deep calls may be: this project's limit.
 const LEVELS: usize = 10;
@@ -168,29 +166,6 @@ fn answer_of(halt: Halt, marks: Vec<Mark>) -> Direct
     }
 }
 
-/// What a charstring answers by itself, whether it answers and calls the same where hints are kept, and which Subrs it
-/// called, added to `called`.
-fn run_glyph<S: Subroutines>(
-    alloc: Global,
-    subrs: &S,
-    hints: Hints,
-    charstring: &[u8],
-    called: &mut Called,
-) -> Result<(Direct, bool), AllocError>
-    ensures direct { IfOk result (λ r. value_of r.0
-        ≡ direct_by hints (S.subrs subrs.now) charstring.now) }
-    ensures within { IfOk result (λ r. EndsWithinLimits (value_of r.0)) }
-    ensures called { OnOk result (called.new
-        ≡ with_indices called.old (calls_of hints (S.subrs subrs.now) charstring.now)) }
-    ensures one { IfOk result (λ r. r.1 ≡ true
-        → run_glyph (S.subrs subrs.now) Hints.Kept charstring.now
-        ≡ run_glyph (S.subrs subrs.now) hints charstring.now) }
-{
-    let mut marks = Vec::new(alloc);
-    let (halt, is_one) = run(subrs, hints, charstring, &mut marks, called)?;
-    Ok((answer_of(halt, marks), is_one))
-}
-
 /// What a charstring answers by itself, by what the pop after OtherSubr 3 gives.
 fn direct_by<S: Subroutines>(
     alloc: Global,
@@ -202,9 +177,10 @@ fn direct_by<S: Subroutines>(
         ≡ direct_by hints (S.subrs subrs.now) charstring.now) }
     ensures within { IfOk result (λ d. EndsWithinLimits (value_of d)) }
 {
+    let mut marks = Vec::new(alloc);
     let mut called = Called::new(alloc);
-    let (answer, _) = run_glyph(alloc, subrs, hints, charstring, &mut called)?;
-    Ok(answer)
+    let (halt, _) = run(subrs, hints, charstring, &mut marks, &mut called)?;
+    Ok(answer_of(halt, marks))
 }
 
 /// What a plain charstring answers by itself, without an accented glyph's parts, in a font with these Subrs, where hints
@@ -233,62 +209,4 @@ pub fn direct3<S: Subroutines>(
     ensures within { IfOk result (λ d. EndsWithinLimits (value_of d)) }
 {
     direct_by(alloc, subrs, Hints::Kept, charstring)
-}
-
-/// What both kinds of interpreters make of a charstring: one that replaces hints, and one that keeps them.
-#[derive(Drop)]
-pub struct BothAnswers {
-    /// What [`direct`] answers.
-    pub direct: Direct,
-    /// What [`direct3`] answers, if its run is a different one; `None` if it answers the same as [`direct`].
-    pub direct3: Option<Direct>,
-    /// What `executed` answers.
-    pub executed: BTreeSet<u16>,
-}
-
-/// What [`direct`], [`direct3`] and `executed` answer of a plain charstring. It is run once if both answers after
-/// OtherSubr 3 are the same, otherwise twice. It fails only for want of memory.
-pub fn both_answers<S: Subroutines>(
-    alloc: Global,
-    subrs: &S,
-    charstring: &[u8],
-) -> Result<BothAnswers, AllocError>
-    ensures direct { IfOk result (λ b. value_of b.direct
-        ≡ direct (S.subrs subrs.now) charstring.now) }
-    ensures direct3 { IfOk result (λ b. kept_value b ≡ direct3 (S.subrs subrs.now) charstring.now) }
-    ensures within { IfOk result (λ b. EndsWithinLimits (value_of b.direct)
-        × EndsWithinLimits (kept_value b)) }
-    ensures executed { IfOk result (λ b. b.executed.keys
-        ≡ exec (S.subrs subrs.now) charstring.now) }
-{
-    let mut called = Called::new(alloc);
-    let (direct, is_one) = run_glyph(alloc, subrs, Hints::Replaced, charstring, &mut called)?;
-    if is_one {
-        return Ok(BothAnswers {
-            direct,
-            direct3: None,
-            executed: called.to_set(alloc)?,
-        });
-    }
-    let (kept, _) = run_glyph(alloc, subrs, Hints::Kept, charstring, &mut called)?;
-    Ok(BothAnswers {
-        direct,
-        direct3: Some(kept),
-        executed: called.to_set(alloc)?,
-    })
-}
-
-/// What [`direct`] and `executed` answer of a plain charstring, by the runs of [`both_answers`]. It fails only for want
-/// of memory.
-pub fn direct_and_executed<S: Subroutines>(
-    alloc: Global,
-    subrs: &S,
-    charstring: &[u8],
-) -> Result<(Direct, BTreeSet<u16>), AllocError>
-    ensures answer { IfOk result (λ r. value_of r.0 ≡ direct (S.subrs subrs.now) charstring.now) }
-    ensures within { IfOk result (λ r. EndsWithinLimits (value_of r.0)) }
-    ensures indices { IfOk result (λ r. r.1.keys ≡ exec (S.subrs subrs.now) charstring.now) }
-{
-    let both = both_answers(alloc, subrs, charstring)?;
-    Ok((both.direct, both.executed))
 }

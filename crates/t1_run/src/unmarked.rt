@@ -7,7 +7,7 @@ ghost use Rattle.t1_run.specs.Drawings.{parts, parts_by, parts_of};
 
 use crate::answer::Hints;
 use crate::called::Called;
-use crate::parts::parts_of_halt;
+use crate::parts::parts_of;
 use crate::pens::Blank;
 use crate::run::{Halt, run};
 use crate::subroutines::Subroutines;
@@ -60,7 +60,7 @@ fn both_halts<S: Subroutines>(
     Ok((replaced, kept))
 }
 
-/// What a plain charstring needs of its font: the names of its parts, by [`parts_of`](crate::parts_of) where hints are
+/// What a plain charstring needs of its font: for an accented glyph the names of its base and its accent, where hints are
 /// replaced and then where they are kept, and the indices that it executes, as [`executed`] says, added to `called`. It
 /// keeps no marks. It fails only for want of memory, and has then added the first few of these indices or none, in the
 /// order in which the runs take them; what was in `called` before is still there.
@@ -80,8 +80,8 @@ pub fn parts_and_executed<S: Subroutines>(
         called.old called.new) }
 {
     let (replaced, kept) = both_halts(subrs, charstring, called)?;
-    let mut names = parts_of_halt(alloc, replaced)?;
-    let more = parts_of_halt(alloc, kept)?;
+    let mut names = parts_of(alloc, replaced)?;
+    let more = parts_of(alloc, kept)?;
     names.extend_from_slice(more.as_slice())?;
     Ok(names)
 }

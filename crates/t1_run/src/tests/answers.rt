@@ -2,10 +2,7 @@
 
 use crate::tests::budget::{WIDTH, charstring};
 use crate::tests::fonts::{GlyphFont, fault};
-use crate::{
-    Direct, DrawFault, Drawing, Fault, Layout, both_answers, direct, direct_and_executed, direct3,
-    draw, draw3, lay_out,
-};
+use crate::{Direct, DrawFault, Drawing, Fault, Layout, direct, direct3, draw, draw3, lay_out};
 use std::alloc::Global;
 use std::test::Fail;
 
@@ -63,18 +60,6 @@ fn fails(
     Ok(fault(&replaced) == Some(want) && kept == replaced)
 }
 
-// Whether it answers this fault beside the Subrs that it executes.
-fn fails_beside(
-    alloc: Global,
-    font: &GlyphFont<'_>,
-    charstring: &[u8],
-    want: Fault,
-) -> Result<bool, Fail> {
-    let both = both_answers(alloc, font, charstring)?;
-    let (answer, _) = direct_and_executed(alloc, font, charstring)?;
-    Ok(both.direct == Direct::Failed(want) && both.direct3.is_none() && answer == both.direct)
-}
-
 // Whether all calls answer this fault of a name.
 fn is_undrawn(
     alloc: Global,
@@ -95,7 +80,6 @@ fn first_other_run(alloc: Global) -> Result<Option<Fault>, Fail> {
         let glyph = charstring(alloc, &WIDTH, 0, end)?;
         let font = GlyphFont::new(alloc, &[], &[(b"M", &glyph)], None)?;
         if !fails(alloc, &font, &glyph, want)?
-            || !fails_beside(alloc, &font, &glyph, want)?
             || !is_undrawn(alloc, &font, b"M", DrawFault::Run(want))?
         {
             return Ok(Some(want));

@@ -2,7 +2,7 @@
 
 use crate::tests::executes::are;
 use crate::tests::fonts::Font;
-use crate::{Direct, Fault, Mark, Point, direct_and_executed};
+use crate::{Direct, Fault, Mark, Point, direct, executed};
 use std::alloc::Global;
 use std::test::Fail;
 
@@ -110,7 +110,8 @@ fn is(answer: &Direct, want: Result<&[Mark], Fault>) -> bool {
 fn first_other(alloc: Global, cases: &[Calling]) -> Result<Option<&'static str>, Fail> {
     let font = Font::small(alloc)?;
     for case in cases {
-        let (answer, called) = direct_and_executed(alloc, &font, case.charstring)?;
+        let answer = direct(alloc, &font, case.charstring)?;
+        let called = executed(alloc, &font, case.charstring)?;
         if !(is(&answer, case.want) && are(&called, case.executed)) {
             return Ok(Some(case.name));
         }

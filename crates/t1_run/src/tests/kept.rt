@@ -2,9 +2,7 @@
 
 use crate::tests::executes::are;
 use crate::tests::fonts::{Font, GlyphFont};
-use crate::{
-    BothAnswers, Direct, Drawing, Mark, Point, both_answers, direct, direct3, draw, draw3,
-};
+use crate::{Direct, Drawing, Mark, Point, direct, direct3, draw, draw3, executed};
 use std::alloc::Global;
 use std::test::Fail;
 
@@ -61,32 +59,17 @@ fn runs_where_hints_are_kept(rt: HostRuntime) -> Result<(), Fail> {
     Ok(())
 }
 
-// Whether both answers are those of a charstring's two runs, the second left out where both are one; and it executes these.
-fn is_both(both: &BothAnswers, is_one: bool, executed: &[u16]) -> bool {
-    both.direct3.is_none() == is_one && are(&both.executed, executed)
-}
-
-fn answers_both(
-    alloc: Global,
-    charstring: &[u8],
-    is_one: bool,
-    executed: &[u16],
-) -> Result<bool, Fail> {
-    let font = Font::small(alloc)?;
-    let both = both_answers(alloc, &font, charstring)?;
-    Ok(is_both(&both, is_one, executed))
-}
-
 #[test]
-fn runs_once_or_twice(rt: HostRuntime) -> Result<(), Fail> {
-    const ROWS: &[(&[u8], bool, &[u16], &str)] = &[
-        (&BOTH, false, &[3, 5], "an index made of the answer"),
-        (&HINTS, false, &[3, 4, 7], "hint replacement"),
-        (&LINES, true, &[5, 6], "no OtherSubr"),
+fn executes_by_both_runs(rt: HostRuntime) -> Result<(), Fail> {
+    const ROWS: &[(&[u8], &[u16], &str)] = &[
+        (&BOTH, &[3, 5], "an index made of the answer"),
+        (&HINTS, &[3, 4, 7], "hint replacement"),
+        (&LINES, &[5, 6], "no OtherSubr"),
     ];
-    for &(charstring, is_one, executed, what) in ROWS {
+    let font = Font::small(rt.alloc())?;
+    for &(charstring, indices, what) in ROWS {
         assert!(rt;
-            answers_both(rt.alloc(), charstring, is_one, executed)?,
+            are(&executed(rt.alloc(), &font, charstring)?, indices),
             "{what}"
         );
     }

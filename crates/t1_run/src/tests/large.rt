@@ -3,10 +3,7 @@
 use crate::tests::budget::{WIDTH, charstring, count_of_marks};
 use crate::tests::fonts::{Font, GlyphFont};
 use crate::tests::layouts::trace_glyph;
-use crate::{
-    Called, Direct, Drawing, both_answers, direct, direct_and_executed, direct3, draw, draw3,
-    executed, parts_and_executed, parts_of,
-};
+use crate::{Called, Direct, Drawing, direct, direct3, draw, draw3, executed, parts_and_executed};
 use std::alloc::{AllocError, Global};
 use std::collections::BTreeSet;
 use std::test::Fail;
@@ -53,22 +50,16 @@ fn executes_all(alloc: Global, begin: &[u8], count: u16) -> Result<bool, Fail> {
     let font = Font::new(alloc, &subrs)?;
     let glyph = calls(alloc, begin, count)?;
     let alone = executed(alloc, &font, &glyph)?;
-    let (answer, beside) = direct_and_executed(alloc, &font, &glyph)?;
-    let both = both_answers(alloc, &font, &glyph)?;
+    let answer = direct(alloc, &font, &glyph)?;
     let mut called = Called::new(alloc);
     let names = parts_and_executed(alloc, &font, &glyph, &mut called)?;
     let added = called.to_set(alloc)?;
-    let are_all = is_below(&alone, count)
-        && is_below(&beside, count)
-        && is_below(&both.executed, count)
-        && is_below(&added, count);
-    let is_plain = matches!(&answer, Direct::Plain { .. }) && both.direct == answer;
+    let are_all = is_below(&alone, count) && is_below(&added, count);
+    let is_plain = matches!(&answer, Direct::Plain { .. });
     Ok(are_all && is_plain && names.is_empty())
 }
 
 // meets executed Ok at 0, 1, 101, 1001, 33332 indices
-// meets direct_and_executed Ok at 0, 1, 101, 1001, 33332 indices
-// meets both_answers Ok at 0, 1, 101, 1001, 33332 indices
 // meets parts_and_executed Ok at 0, 1, 101, 1001, 33332 indices
 #[test]
 fn executes_many(rt: HostRuntime) -> Result<(), Fail> {
@@ -155,10 +146,7 @@ fn answers_alike(
 ) -> Result<bool, Fail> {
     let replaced = direct(alloc, font, glyph)?;
     let kept = direct3(alloc, font, glyph)?;
-    let both = both_answers(alloc, font, glyph)?;
-    let (answer, _) = direct_and_executed(alloc, font, glyph)?;
-    let are_same = kept == replaced && both.direct == replaced && answer == replaced;
-    Ok(count_of_marks(&replaced) == count && are_same && both.direct3.is_none())
+    Ok(count_of_marks(&replaced) == count && kept == replaced)
 }
 
 // Whether plain glyphs of so many marks are drawn, one and as the parts of an accented glyph, which has so many in all.
@@ -175,8 +163,6 @@ fn draws(alloc: Global, count: u32, all: usize) -> Result<bool, Fail> {
 
 // meets direct Plain at 0, 1, 99996 marks
 // meets direct3 Plain at 0, 1, 99996 marks
-// meets both_answers Ok at 0, 1, 99996 marks
-// meets direct_and_executed Ok at 0, 1, 99996 marks
 // meets draw Drawn at 0, 1, 99996 marks
 // meets draw3 Drawn at 0, 1, 99996 marks
 // meets lay_out Drawn at 0, 1, 99996 marks
@@ -204,13 +190,12 @@ fn answers_apart(
 ) -> Result<bool, Fail> {
     let font = Font::small(alloc)?;
     let glyph = charstring(alloc, &APART, dotsections, b"\x0e")?;
-    let both = both_answers(alloc, &font, &glyph)?;
-    let alone = direct3(alloc, &font, &glyph)?;
-    let are_counted = count_of_marks(&both.direct) == replaced && count_of_marks(&alone) == kept;
-    Ok(are_counted && both.direct3 == Some(alone))
+    let answer = direct(alloc, &font, &glyph)?;
+    let other = direct3(alloc, &font, &glyph)?;
+    Ok(count_of_marks(&answer) == replaced && count_of_marks(&other) == kept)
 }
 
-// meets both_answers Ok at 2, 99988 marks
+// meets direct Plain at 2, 99988 marks
 // meets direct3 Plain at 1, 99987 marks
 #[test]
 fn answers_many_apart(rt: HostRuntime) -> Result<(), Fail> {
@@ -223,13 +208,7 @@ fn answers_many_apart(rt: HostRuntime) -> Result<(), Fail> {
     Ok(())
 }
 
-// Whether an outcome is an accented glyph that names so many parts.
-fn names(alloc: Global, outcome: &Direct, count: usize) -> Result<bool, AllocError> {
-    let names = parts_of(alloc, outcome)?;
-    Ok(matches!(outcome, Direct::Seac { .. }) && names.len() == count)
-}
-
-// Whether a charstring that ends so after so many dotsections names so many parts, by each call that answers them.
+// Whether a charstring that ends so after so many dotsections is an accented glyph, and names so many parts.
 fn names_parts(alloc: Global, dotsections: u32, end: &[u8], count: usize) -> Result<bool, Fail> {
     let font = Font::small(alloc)?;
     let glyph = charstring(alloc, &WIDTH, dotsections, end)?;
@@ -237,12 +216,12 @@ fn names_parts(alloc: Global, dotsections: u32, end: &[u8], count: usize) -> Res
     let kept = direct3(alloc, &font, &glyph)?;
     let mut called = Called::new(alloc);
     let both = parts_and_executed(alloc, &font, &glyph, &mut called)?;
-    Ok(names(alloc, &replaced, count)? && kept == replaced && both.len() / 2 == count)
+    let is_seac = matches!(&replaced, Direct::Seac { .. }) && kept == replaced;
+    Ok(is_seac && both.len() / 2 == count)
 }
 
 // meets direct Seac at 0, 99991 marks
 // meets direct3 Seac at 0, 99991 marks
-// meets parts_of Ok at 0, 1, 2 names
 // meets parts_and_executed Ok at 0, 2, 4 names
 #[test]
 fn names_parts_late(rt: HostRuntime) -> Result<(), Fail> {
