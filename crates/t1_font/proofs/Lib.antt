@@ -33,4 +33,6 @@ pub mod LentTables
 pub mod FilledTables
 pub mod TablePasses
 pub mod even_fonts
+pub mod Untested
+pub mod FontTests
 pub mod Differing

@@ -1,4 +1,5 @@
 -- Rows that are computed on the definitions.
+pub mod FontTestRows
 pub mod TagRows
 pub mod Tiny
 pub mod TinyCuts

@@ -33,6 +33,7 @@ pub mod Canon
 pub mod Maps
 pub mod Cut
 pub mod Tags
+pub mod FontTest
 pub mod Evening
 pub mod Filling
 pub mod EveningLaws

@@ -27,6 +27,7 @@ mod fault;
 mod file;
 mod filling;
 mod font;
+mod font_test;
 mod gathered;
 mod glyphs;
 pub mod laws;

@@ -13,6 +13,7 @@ mod long;
 mod prefixes;
 mod rows;
 mod tables;
+mod untested;
 mod wide;
 
 use crate::{Form, ReadFault, Source, read, read_vec, read_wide, read_wide_vec, write};

@@ -72,7 +72,7 @@ pub fn word_at(bytes: &[u8]) -> Option<(&[u8], &[u8])>
 }
 
 /// Whether a regular byte comes.
-fn regular_comes(bytes: &[u8]) -> bool
+pub fn regular_comes(bytes: &[u8]) -> bool
     ensures { result ≡ regular_comes bytes.now }
 {
     match bytes.first() {

@@ -17,10 +17,10 @@ const TWO: &[u8] = b"/lenIV 0 def /Subrs 5 array\ndup 1 1 RD \x0e NP\ndup 4 1 RD
 const EMPTY: &[u8] = b"/lenIV 0 def /Subrs 3 array\nND\n";
 
 /// No table of Subrs.
-const NONE: &[u8] = b"/lenIV 0 def ";
+pub const NONE: &[u8] = b"/lenIV 0 def ";
 
 /// The source of a font with so many blanks and this head, and with these Subrs.
-fn made(alloc: Global, blanks: usize, head: &[u8], subrs: &[u8]) -> Result<Source, AllocError> {
+pub fn made(alloc: Global, blanks: usize, head: &[u8], subrs: &[u8]) -> Result<Source, AllocError> {
     let mut clear = behind(alloc, blanks, head)?;
     clear.extend_from_slice(b"/Encoding StandardEncoding def\ncurrentfile eexec\n")?;
     let private = joined(alloc, subrs, GLYPHS)?;
@@ -31,7 +31,7 @@ fn made(alloc: Global, blanks: usize, head: &[u8], subrs: &[u8]) -> Result<Sourc
 }
 
 /// Whether the font of a source has this head.
-fn has_head(alloc: Global, source: &Source, head: &[u8]) -> Result<bool, AllocError> {
+pub fn has_head(alloc: Global, source: &Source, head: &[u8]) -> Result<bool, AllocError> {
     let font = source.font(alloc)?;
     Ok(font.text(Part::Head) == head)
 }

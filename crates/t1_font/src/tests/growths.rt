@@ -4,8 +4,9 @@
 use super::cuts::{joined, tiny_cut};
 use super::evening::{MARKS, TABLES, evened, is_left};
 use super::tables::tiny_is_right;
+use super::untested::{TESTED, UNTESTED};
 use super::wide::with_copies;
-use super::{lent_file, rewritten};
+use super::{lent_file, rewritten, untested};
 use crate::{Form, PartsFault, ReadFault, read_vec, read_wide, read_wide_vec};
 use std::alloc::Global;
 use std::test::Fail;
@@ -89,6 +90,16 @@ fn growths_of_evening(rt: HostRuntime) -> Result<(), Fail> {
     let right = match evens(rt.alloc()) {
         Err(PartsFault::Memory) => evens(rt.alloc()).is_ok_and(|right| right),
         answer => answer.is_ok_and(|right| right),
+    };
+    assert!(rt; right);
+    Ok(())
+}
+
+#[test]
+fn growths_of_untested(rt: HostRuntime) -> Result<(), Fail> {
+    let right = match untested::is_left(rt.alloc(), TESTED, UNTESTED) {
+        Err(_) => untested::is_left(rt.alloc(), TESTED, UNTESTED)?,
+        Ok(right) => right,
     };
     assert!(rt; right);
     Ok(())
