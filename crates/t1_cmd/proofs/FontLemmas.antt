@@ -13,7 +13,7 @@ use Rattle.t1_cmd.specs.declared.faults.RunFault.TheVariants.{Refused}
 use Rattle.t1_cmd.specs.Inputs.{Input}
 use Rattle.t1_cmd.specs.Answers.{if_there, Refuses, Prints}
 use Rattle.t1_cmd.specs.Runs.{Stops, RunEnds, Succeeds}
-use Rattle.t1_cmd.specs.Fonts.{font_input, of_file}
+use Rattle.t1_cmd.specs.Fonts.{of_input}
 use Rattle.t1_cmd.specs.DrawingText.{mark_line, with_line}
 use Rattle.t1_cmd.proofs.Refusals.{by_answer, Has, says_so, input_stops}
 use Rattle.t1_cmd.proofs.RunLemmas.{Says, stops_after, stops_together, ends_succeeds}
@@ -21,25 +21,25 @@ use Rattle.t1_cmd.proofs.RunLemmas.{Says, stops_after, stops_together, ends_succ
 -- ---- files
 
 -- a file that a word refuses stops its engine
-pub word_stops : (answer : FontValue → Result (List ℕ) Reason) (i : Input) (file : List ℕ) (r : Reason) → Has i file
-    → Refuses (λ a. a ≡ of_file answer file) r → Stops font_input (Prints answer) (i ∷ []) (Refused r)
-word_stops answer i file r has =
-    by_answer (λ a. a ≡ of_file answer file) (λ s. Stops font_input (Prints answer) (i ∷ []) (Refused s)) r tt (λ s h. by s (font_input file) refl h)
+pub word_stops : (input : List ℕ → Result FontValue Reason) (answer : FontValue → Result (List ℕ) Reason) (i : Input) (file : List ℕ) (r : Reason) → Has i file
+    → Refuses (λ a. a ≡ of_input input answer file) r → Stops input (Prints answer) (i ∷ []) (Refused r)
+word_stops input answer i file r has =
+    by_answer (λ a. a ≡ of_input input answer file) (λ s. Stops input (Prints answer) (i ∷ []) (Refused s)) r tt (λ s h. by s (input file) refl h)
   where
-    by : (s : Reason) (o : Result FontValue Reason) → o ≡ font_input file → Err s ≡ if_there answer o → Stops font_input (Prints answer) (i ∷ []) (Refused s)
-    by s (Ok f) is h = stops_together font_input (Prints answer) (i ∷ []) (f ∷ []) s (says_so font_input i file (Ok f) has is, tt) h
+    by : (s : Reason) (o : Result FontValue Reason) → o ≡ input file → Err s ≡ if_there answer o → Stops input (Prints answer) (i ∷ []) (Refused s)
+    by s (Ok f) is h = stops_together input (Prints answer) (i ∷ []) (f ∷ []) s (says_so input i file (Ok f) has is, tt) h
     by s (Err t) is h =
         let same : s ≡ t = cc in
-        stops_after font_input (Prints answer) [] i [] (Refused s) tt
-        (input_stops font_input i s (says_so font_input i file (Err s) has (ap {B = Result FontValue Reason} (λ (r : Reason). Err r) same ∙ is)))
+        stops_after input (Prints answer) [] i [] (Refused s) tt
+        (input_stops input i s (says_so input i file (Err s) has (ap {B = Result FontValue Reason} (λ (r : Reason). Err r) same ∙ is)))
 
 -- the font of a file for which a word has a text
-pub word_says : (answer : FontValue → Result (List ℕ) Reason) (i : Input) (file text : List ℕ) → Has i file → of_file answer file ≡ Ok text
-    → (f : FontValue) × Says font_input i f × (Ok text ≡ answer f)
-word_says answer i file text has h = by (font_input file) refl h
+pub word_says : (input : List ℕ → Result FontValue Reason) (answer : FontValue → Result (List ℕ) Reason) (i : Input) (file text : List ℕ) → Has i file → of_input input answer file ≡ Ok text
+    → (f : FontValue) × Says input i f × (Ok text ≡ answer f)
+word_says input answer i file text has h = by (input file) refl h
   where
-    by : (o : Result FontValue Reason) → o ≡ font_input file → if_there answer o ≡ Ok text → (f : FontValue) × Says font_input i f × (Ok text ≡ answer f)
-    by (Ok f) is k = (f, says_so font_input i file (Ok f) has is, sym k)
+    by : (o : Result FontValue Reason) → o ≡ input file → if_there answer o ≡ Ok text → (f : FontValue) × Says input i f × (Ok text ≡ answer f)
+    by (Ok f) is k = (f, says_so input i file (Ok f) has is, sym k)
     by (Err r) is k = cc
 
 -- ---- engines
@@ -52,10 +52,10 @@ prints_apart answer (x ∷ []) text r h k = cc
 prints_apart answer (x ∷ y ∷ ys) text r h k = absurd h
 
 -- an engine over one font that ends so succeeds where it should
-pub ends_well : (text : FontValue → Result (List ℕ) Reason) {W : Type 0} (contents : W → Option (List ℕ)) (i : Input) (w v : Counted W)
-    (result : Result (Unit {0}) RunFault) → RunEnds font_input (Prints text) contents (i ∷ []) w v result
-    → Succeeds font_input (Prints text) (i ∷ []) w v result
-ends_well text contents i w v result h = ends_succeeds font_input (Prints text) (prints_apart text) contents (i ∷ []) w v result h
+pub ends_well : (input : List ℕ → Result FontValue Reason) (text : FontValue → Result (List ℕ) Reason) {W : Type 0} (contents : W → Option (List ℕ)) (i : Input) (w v : Counted W)
+    (result : Result (Unit {0}) RunFault) → RunEnds input (Prints text) contents (i ∷ []) w v result
+    → Succeeds input (Prints text) (i ∷ []) w v result
+ends_well input text contents i w v result h = ends_succeeds input (Prints text) (prints_apart text) contents (i ∷ []) w v result h
 
 -- a text of four pieces, one after another
 pub four_pieces : (start a b c d x x' y y' z z' w : List ℕ) → start ≡ [] → a ≡ start ++ (x ++ x') → b ≡ a ++ (y ++ y') → c ≡ b ++ (z ++ z')

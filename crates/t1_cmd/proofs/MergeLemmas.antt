@@ -13,7 +13,6 @@ use Rattle.t1_cmd.specs.declared.faults.RunFault.{RunFault}
 use Rattle.t1_cmd.specs.declared.faults.RunFault.TheVariants.{Refused, Read, Write}
 use Rattle.t1_cmd.specs.Inputs.{Input}
 use Rattle.t1_cmd.specs.Runs.{Stops}
-use Rattle.t1_cmd.specs.Fonts.{font_input}
 use Rattle.t1_cmd.specs.Mergers.{InputsStop, IsTold, MergesTo}
 
 -- ---- merges from left to right
@@ -38,17 +37,17 @@ merges_apart form fs text (Merge e) h k = absurd (apart_at fs h.0 e h.1 k.0 k.1)
 -- ---- inputs
 
 -- what stops the reading stops the engine
-pub inputs_stop : (Answers : List FontValue → Result (List ℕ) Reason → Type 0) (is : List Input) (e : RunFault) → InputsStop font_input is e
-    → Stops font_input Answers is e
-inputs_stop Answers is (Refused TooLong) h = inl h
-inputs_stop Answers is (Refused Memory) h = tt
-inputs_stop Answers is (Refused (ListReason f)) h = inl h
-inputs_stop Answers is (Refused (JoinReason f)) h = inl h
-inputs_stop Answers is (Refused (Font f)) h = inl h
-inputs_stop Answers is (Refused (NoGlyph n)) h = inl h
-inputs_stop Answers is (Refused (Merge f)) h = inl h
-inputs_stop Answers is Read h = h
-inputs_stop Answers is Write h = absurd h
+pub inputs_stop : (input : List ℕ → Result FontValue Reason) (Answers : List FontValue → Result (List ℕ) Reason → Type 0) (is : List Input) (e : RunFault) → InputsStop input is e
+    → Stops input Answers is e
+inputs_stop input Answers is (Refused TooLong) h = inl h
+inputs_stop input Answers is (Refused Memory) h = tt
+inputs_stop input Answers is (Refused (ListReason f)) h = inl h
+inputs_stop input Answers is (Refused (JoinReason f)) h = inl h
+inputs_stop input Answers is (Refused (Font f)) h = inl h
+inputs_stop input Answers is (Refused (NoGlyph n)) h = inl h
+inputs_stop input Answers is (Refused (Merge f)) h = inl h
+inputs_stop input Answers is Read h = h
+inputs_stop input Answers is Write h = absurd h
 
 -- equal successes have equal texts
 pub same_text : (x y : List ℕ) → ◌≡◌ {A = Result (List ℕ) Reason} (Ok x) (Ok y) → y ≡ x

@@ -1,6 +1,6 @@
 -- Readers that are read one after the other: what they have said so far, and how they stop.
 use Rattle.std.proofs.Common.{◌≡◌, ◌<◌, ◌≤◌, ◌+◌, ℕ, zero, suc, refl, sym, ◌∙◌, ap, subst, List, [], ◌∷◌, ◌++◌, length, get_or, set, inl, inr, Option}
-use Rattle.std.proofs.Common.{Ok, IfSome, arith}
+use Rattle.std.proofs.Common.{Result, Ok, IfSome, arith}
 use Rattle.t1_font.specs.FontValue.{FontValue}
 use Rattle.t1_cmd.specs.declared.counting.Counted.{Counted}
 use Rattle.t1_cmd.specs.declared.faults.Reason.TheVariants.{TooLong, Memory, List as ListReason, Join as JoinReason, Font, NoGlyph, Merge}
@@ -10,14 +10,14 @@ use Rattle.t1_cmd.specs.Count.{inner_of, calls_of}
 use Rattle.t1_cmd.specs.Inputs.{Input, input_of, HasFailed, IsRefused, FirstWith, Say}
 use Rattle.t1_bytes.specs.Limits.{file_limit}
 use Rattle.t1_cmd.specs.Runs.{InputStops}
-use Rattle.t1_cmd.specs.Fonts.{font_input}
+use Rattle.t1_cmd.specs.declared.faults.Reason.{Reason}
 use Rattle.t1_cmd.specs.Mergers.{inputs_of, InTurns, InputsStop}
 use Rattle.t1_cmd.proofs.RunLemmas.{says_understood}
 
-module _ {X : Type 0} (remaining : X → Option (List ℕ)) where
+module _ (input : List ℕ → Result FontValue Reason) {X : Type 0} (remaining : X → Option (List ℕ)) where
   -- where it is known, the reader says the font
   abbrev pub Says : Counted X → FontValue → Type 0
-  Says r f = IfSome (remaining (inner_of r)) (λ bytes. font_input bytes ≡ Ok f)
+  Says r f = IfSome (remaining (inner_of r)) (λ bytes. input bytes ≡ Ok f)
 
   -- a reader was called no more often than one input may take
   abbrev pub InTurn : Counted X → Counted X → Type 0
@@ -56,32 +56,32 @@ module _ {X : Type 0} (remaining : X → Option (List ℕ)) where
   -- ---- a reader that stops
 
   first_stops : (P : Input → Type 0) (os : List (Counted X)) (r x : Counted X) → 0 < length os → r ≡ get_or os 0 r → P (input_of remaining r x)
-      → FirstWith font_input P (inputs_of remaining os (set os 0 x))
+      → FirstWith input P (inputs_of remaining os (set os 0 x))
   first_stops P [] r x l e p = absurd (omega (arith, l))
   first_stops P (o ∷ os) r x l e p = inl (subst (λ r. P (input_of remaining r x)) e p)
 
   -- a reader with a fact is the first, since those before it are understood
   pub first_with : (P : Input → Type 0) (i : ℕ) (os ns : List (Counted X)) (fs : List FontValue) (r x : Counted X) → SoFar i os ns fs → i < length ns
-      → r ≡ get_or ns i r → P (input_of remaining r x) → FirstWith font_input P (inputs_of remaining os (set ns i x))
+      → r ≡ get_or ns i r → P (input_of remaining r x) → FirstWith input P (inputs_of remaining os (set ns i x))
   first_with P zero os ns fs r x h l e p =
-      subst (λ ns. FirstWith font_input P (inputs_of remaining os (set ns 0 x))) (sym h.0)
+      subst (λ ns. FirstWith input P (inputs_of remaining os (set ns 0 x))) (sym h.0)
       (first_stops P os r x (subst (λ ns. 0 < length ns) h.0 l) (e ∙ ap (λ ns. get_or ns 0 r) h.0) p)
   first_with P (suc i) [] ns fs r x h l e p = absurd h
   first_with P (suc i) (o ∷ os) [] fs r x h l e p = absurd h
   first_with P (suc i) (o ∷ os) (n ∷ ns) [] r x h l e p = absurd h
   first_with P (suc i) (o ∷ os) (n ∷ ns) (f ∷ fs) r x h l e p =
-      inr (says_understood font_input (input_of remaining o n) f h.0, first_with P i os ns fs r x h.2 (omega (arith, l)) e p)
+      inr (says_understood input (input_of remaining o n) f h.0, first_with P i os ns fs r x h.2 (omega (arith, l)) e p)
 
   -- what stops a reader stops the reading of all
   pub stops : (i : ℕ) (os ns : List (Counted X)) (fs : List FontValue) (r x : Counted X) (e : RunFault) → SoFar i os ns fs → i < length ns
-      → r ≡ get_or ns i r → InputStops font_input (input_of remaining r x) e → InputsStop font_input (inputs_of remaining os (set ns i x)) e
-  stops i os ns fs r x (Refused TooLong) h l e s = first_with (IsRefused font_input TooLong) i os ns fs r x h l e s
+      → r ≡ get_or ns i r → InputStops input (input_of remaining r x) e → InputsStop input (inputs_of remaining os (set ns i x)) e
+  stops i os ns fs r x (Refused TooLong) h l e s = first_with (IsRefused input TooLong) i os ns fs r x h l e s
   stops i os ns fs r x (Refused Memory) h l e s = tt
-  stops i os ns fs r x (Refused (ListReason f)) h l e s = first_with (IsRefused font_input (ListReason f)) i os ns fs r x h l e s
-  stops i os ns fs r x (Refused (JoinReason f)) h l e s = first_with (IsRefused font_input (JoinReason f)) i os ns fs r x h l e s
-  stops i os ns fs r x (Refused (Font f)) h l e s = first_with (IsRefused font_input (Font f)) i os ns fs r x h l e s
-  stops i os ns fs r x (Refused (NoGlyph f)) h l e s = first_with (IsRefused font_input (NoGlyph f)) i os ns fs r x h l e s
-  stops i os ns fs r x (Refused (Merge f)) h l e s = first_with (IsRefused font_input (Merge f)) i os ns fs r x h l e s
+  stops i os ns fs r x (Refused (ListReason f)) h l e s = first_with (IsRefused input (ListReason f)) i os ns fs r x h l e s
+  stops i os ns fs r x (Refused (JoinReason f)) h l e s = first_with (IsRefused input (JoinReason f)) i os ns fs r x h l e s
+  stops i os ns fs r x (Refused (Font f)) h l e s = first_with (IsRefused input (Font f)) i os ns fs r x h l e s
+  stops i os ns fs r x (Refused (NoGlyph f)) h l e s = first_with (IsRefused input (NoGlyph f)) i os ns fs r x h l e s
+  stops i os ns fs r x (Refused (Merge f)) h l e s = first_with (IsRefused input (Merge f)) i os ns fs r x h l e s
   stops i os ns fs r x Read h l e s = first_with HasFailed i os ns fs r x h l e s
   stops i os ns fs r x Write h l e s = absurd s
 
@@ -106,15 +106,15 @@ module _ {X : Type 0} (remaining : X → Option (List ℕ)) where
 
   -- ---- all readers
 
-  none_left : (os : List (Counted X)) → length os ≤ 0 → Say font_input (inputs_of remaining os os) []
+  none_left : (os : List (Counted X)) → length os ≤ 0 → Say input (inputs_of remaining os os) []
   none_left [] l = tt
   none_left (o ∷ os) l = absurd (omega (arith, l))
 
   -- behind the last reader all fonts are said
-  pub all_said : (i : ℕ) (os ns : List (Counted X)) (fs : List FontValue) → SoFar i os ns fs → length ns ≤ i → Say font_input (inputs_of remaining os ns) fs
+  pub all_said : (i : ℕ) (os ns : List (Counted X)) (fs : List FontValue) → SoFar i os ns fs → length ns ≤ i → Say input (inputs_of remaining os ns) fs
   all_said zero os ns fs h l =
-      subst (λ ns. Say font_input (inputs_of remaining os ns) fs) (sym h.0)
-      (subst (λ fs. Say font_input (inputs_of remaining os os) fs) (sym h.1) (none_left os (subst (λ ns. length ns ≤ 0) h.0 l)))
+      subst (λ ns. Say input (inputs_of remaining os ns) fs) (sym h.0)
+      (subst (λ fs. Say input (inputs_of remaining os os) fs) (sym h.1) (none_left os (subst (λ ns. length ns ≤ 0) h.0 l)))
   all_said (suc i) [] ns fs h l = absurd h
   all_said (suc i) (o ∷ os) [] fs h l = absurd h
   all_said (suc i) (o ∷ os) (n ∷ ns) [] h l = absurd h

@@ -13,7 +13,7 @@ ghost use Rattle.t1_cmd.specs.CheckText.{check_answer};
 use crate::counting::Counted;
 use crate::faults::{Reason, RunFault};
 use crate::texts::push_about;
-use crate::words::{FontWord, run_word, text_of_bytes};
+use crate::words::{FontWord, Taking, run_word, text_of_bytes};
 use std::alloc::{AllocError, Global};
 use std::io::{Read, Write};
 use t1_font::{Font, Form, write};
@@ -31,6 +31,15 @@ pub(crate) fn font_file(alloc: Global, font: &Font<'_>, form: Form) -> Result<Ve
 #[derive(Drop)]
 pub(crate) struct Convert {
     form: Form,
+}
+
+impl Convert {
+    /// The word that writes this form.
+    pub(crate) fn to(form: Form) -> Self
+        ensures { result.form ≡ form }
+    {
+        Convert { form }
+    }
 }
 
 impl FontWord for Convert {
@@ -54,7 +63,7 @@ pub fn convert_file(alloc: Global, file: &[u8], form: Form) -> Result<Vec<u8>, R
     ensures text { IfOk result (λ text. of_file (file_answer form) file.now ≡ Ok text.items) }
     ensures refused { IfErr result (Refuses (λ a. a ≡ of_file (file_answer form) file.now)) }
 {
-    text_of_bytes(alloc, &Convert { form }, file)
+    text_of_bytes(alloc, Taking::Spelled, &Convert { form }, file)
 }
 
 /// Writes a font's canonical file in one of the two forms.
@@ -70,7 +79,7 @@ pub fn run_convert<R: Read, W: Write>(
         (input_of R.remaining reader.old reader.new ∷ []) writer.old writer.new result }
     ensures turns { calls_of reader.new ≤ calls_of reader.old + (file_limit + 1) }
 {
-    run_word(alloc, &Convert { form }, reader, writer)
+    run_word(alloc, Taking::Spelled, &Convert { form }, reader, writer)
 }
 
 // How many glyphs a font has.
@@ -136,7 +145,7 @@ pub fn check_file(alloc: Global, file: &[u8]) -> Result<Vec<u8>, Reason>
     ensures text { IfOk result (λ text. of_file check_answer file.now ≡ Ok text.items) }
     ensures refused { IfErr result (Refuses (λ a. a ≡ of_file check_answer file.now)) }
 {
-    text_of_bytes(alloc, &Check, file)
+    text_of_bytes(alloc, Taking::Spelled, &Check, file)
 }
 
 /// Writes one line that says that a font can be read: how many glyphs it has, how many Subrs are present, and its weight.
@@ -151,5 +160,5 @@ pub fn run_check<R: Read, W: Write>(
         (input_of R.remaining reader.old reader.new ∷ []) writer.old writer.new result }
     ensures turns { calls_of reader.new ≤ calls_of reader.old + (file_limit + 1) }
 {
-    run_word(alloc, &Check, reader, writer)
+    run_word(alloc, Taking::Spelled, &Check, reader, writer)
 }

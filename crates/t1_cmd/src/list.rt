@@ -14,7 +14,7 @@ ghost use Rattle.t1_cmd.specs.ListText.{line_at, code_line, subr_line, glyph_lin
 use crate::counting::Counted;
 use crate::faults::{Reason, RunFault};
 use crate::texts::{push_about, push_number, push_shown};
-use crate::words::{FontWord, run_word, text_of_bytes};
+use crate::words::{FontWord, Taking, run_word, text_of_bytes};
 use std::alloc::{AllocError, Global};
 use std::io::{Read, Write};
 use t1_font::Font;
@@ -152,7 +152,7 @@ pub fn list_file(alloc: Global, file: &[u8]) -> Result<Vec<u8>, Reason>
     ensures text { IfOk result (λ text. of_file list_answer file.now ≡ Ok text.items) }
     ensures refused { IfErr result (Refuses (λ a. a ≡ of_file list_answer file.now)) }
 {
-    text_of_bytes(alloc, &List, file)
+    text_of_bytes(alloc, Taking::Spelled, &List, file)
 }
 
 /// Writes a line for the Encoding, or for each of its codes, then one for each Subr that is present, then one for each
@@ -168,5 +168,5 @@ pub fn run_list<R: Read, W: Write>(
         (input_of R.remaining reader.old reader.new ∷ []) writer.old writer.new result }
     ensures turns { calls_of reader.new ≤ calls_of reader.old + (file_limit + 1) }
 {
-    run_word(alloc, &List, reader, writer)
+    run_word(alloc, Taking::Spelled, &List, reader, writer)
 }

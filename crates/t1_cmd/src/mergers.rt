@@ -13,6 +13,7 @@ use crate::counting::Counted;
 use crate::faults::{FilesRefusal, Reason, RunFault};
 use crate::fonts::font_file;
 use crate::several::{FontsWord, run_words, text_of_files};
+use crate::words::Taking;
 use std::alloc::{AllocError, Global};
 use std::io::{Read, Write};
 use t1_font::{Font, Form, Source};
@@ -89,7 +90,7 @@ pub fn merge_files(alloc: Global, files: &[&[u8]], form: Form) -> Result<Vec<u8>
     ensures subsets { OfUnion form (lent files.now) (λ union. MatchResult result
         (λ text. text.items ≡ union) (λ e. (e.place ≡ None) × (e.reason ≡ Reason.Memory))) }
 {
-    text_of_files(alloc, &Merge { form }, files)
+    text_of_files(alloc, Taking::Spelled, &Merge { form }, files)
 }
 
 /// Writes the canonical file, in one of the two forms, of the font that fonts come to when they are merged from left
@@ -111,5 +112,5 @@ pub fn run_merge<R: Read, W: Write>(
         (inputs_of R.remaining readers.old readers.new) writer.old writer.new result }
     ensures turns { InTurns readers.old readers.new }
 {
-    run_words(alloc, &Merge { form }, readers, writer)
+    run_words(alloc, Taking::Spelled, &Merge { form }, readers, writer)
 }

@@ -5,7 +5,7 @@ ghost use Rattle.t1_font.specs.Evening.{evened_shells};
 ghost use Rattle.t1_subset.specs.NameSets.{lent};
 ghost use Rattle.t1_cmd.specs.Answers.{Refuses};
 ghost use Rattle.t1_cmd.specs.Files.{OfFiles, RefusesFiles};
-ghost use Rattle.t1_cmd.specs.Fonts.{font_input};
+ghost use Rattle.t1_cmd.specs.Fonts.{mended_input};
 ghost use Rattle.t1_cmd.specs.Runs.{RunEnds, Succeeds};
 ghost use Rattle.t1_cmd.specs.Mergers.{inputs_of, InTurns};
 ghost use Rattle.t1_cmd.specs.Rejoins.{RejoinsTo};
@@ -14,6 +14,7 @@ use crate::counting::Counted;
 use crate::faults::{FilesRefusal, Reason, RunFault};
 use crate::mergers::{fonts_of, merged_file};
 use crate::several::{FontsWord, run_words, text_of_files};
+use crate::words::Taking;
 use std::alloc::{AllocError, Global};
 use std::io::{Read, Write};
 use t1_font::{Form, PartsFault, Source, even_shells, fill_all};
@@ -70,10 +71,10 @@ impl FontsWord for Rejoin {
 /// fonts, made even, don't merge, if one of them is then too heavy, or if there is none. [`Reason::Memory`] if a growth was
 /// refused.
 pub fn rejoin_files(alloc: Global, files: &[&[u8]], form: Form) -> Result<Vec<u8>, FilesRefusal>
-    ensures text { IfOk result (λ text. OfFiles font_input (RejoinsTo form) (lent files.now) (Ok text.items)) }
-    ensures refused { IfErr result (RefusesFiles font_input (RejoinsTo form) (lent files.now)) }
+    ensures text { IfOk result (λ text. OfFiles mended_input (RejoinsTo form) (lent files.now) (Ok text.items)) }
+    ensures refused { IfErr result (RefusesFiles mended_input (RejoinsTo form) (lent files.now)) }
 {
-    text_of_files(alloc, &Rejoin { form }, files)
+    text_of_files(alloc, Taking::Mended, &Rejoin { form }, files)
 }
 
 /// Writes the canonical file, in one of the two forms, of the font that fonts come to when they are made even and then
@@ -89,11 +90,11 @@ pub fn run_rejoin<R: Read, W: Write>(
     form: Form,
     writer: &mut Counted<W>,
 ) -> Result<(), RunFault>
-    ensures ends { RunEnds font_input (RejoinsTo form) W.contents
+    ensures ends { RunEnds mended_input (RejoinsTo form) W.contents
         (inputs_of R.remaining readers.old readers.new) writer.old writer.new result }
-    ensures succeeds { Succeeds font_input (RejoinsTo form)
+    ensures succeeds { Succeeds mended_input (RejoinsTo form)
         (inputs_of R.remaining readers.old readers.new) writer.old writer.new result }
     ensures turns { InTurns readers.old readers.new }
 {
-    run_words(alloc, &Rejoin { form }, readers, writer)
+    run_words(alloc, Taking::Mended, &Rejoin { form }, readers, writer)
 }

@@ -5,14 +5,14 @@ ghost use Rattle.t1_subset.specs.NameSets.{lent};
 ghost use Rattle.t1_cmd.specs.declared.faults.Reason.{Reason};
 ghost use Rattle.t1_cmd.specs.Answers.{Refuses};
 ghost use Rattle.t1_cmd.specs.Files.{values_from, IsUnread, IsRefusalAt, OfFiles, RefusesFiles};
-ghost use Rattle.t1_cmd.specs.Fonts.{font_input};
+ghost use Rattle.t1_cmd.specs.Fonts.{input_by};
 ghost use Rattle.t1_cmd.specs.Inputs.{Say};
 ghost use Rattle.t1_cmd.specs.Mergers.{inputs_of, InTurns, InputsStop};
 ghost use Rattle.t1_cmd.specs.Runs.{RunEnds};
 
 use crate::counting::Counted;
 use crate::faults::{FilesRefusal, Reason, RunFault};
-use crate::words::{read_font, source_of};
+use crate::words::{Taking, read_font, source_of};
 use crate::writing::write_text;
 use std::alloc::{AllocError, Global};
 use std::io::{Read, Write};
@@ -38,13 +38,13 @@ fn keep(sources: &mut Vec<Source>, source: Source) -> Result<(), AllocError>
     }
 }
 
-// The source of the font that the bytes of a file spell.
-fn source_in(alloc: Global, file: &[u8]) -> Result<Source, Reason>
-    ensures source { IfOk result (λ source. font_input file.now ≡ Ok source) }
-    ensures refused { IfErr result (Refuses (λ a. a ≡ font_input file.now)) }
+// The source of the font that the bytes of a file are taken for.
+fn source_in(alloc: Global, taking: Taking, file: &[u8]) -> Result<Source, Reason>
+    ensures source { IfOk result (λ source. input_by taking file.now ≡ Ok source) }
+    ensures refused { IfErr result (Refuses (λ a. a ≡ input_by taking file.now)) }
 {
     let file = file.to_vec(alloc)?;
-    source_of(alloc, file)
+    source_of(alloc, taking, file)
 }
 
 /// The refusal of the file at a place. Want of memory is no fault of the file.
@@ -63,14 +63,15 @@ pub(crate) fn refused_at(place: usize, reason: Reason) -> FilesRefusal
     }
 }
 
-// The sources of the fonts that files spell, one after the other.
-fn sources_of(alloc: Global, files: &[&[u8]]) -> Result<Vec<Source>, FilesRefusal>
-    ensures sources { IfOk result (λ sources. values_from font_input 0 (lent files.now) ≡ Ok sources.items) }
-    ensures refused { IfErr result (λ e. IsUnread font_input (lent files.now) e.place e.reason) }
+// The sources of the fonts that files are taken for, one after the other.
+fn sources_of(alloc: Global, taking: Taking, files: &[&[u8]]) -> Result<Vec<Source>, FilesRefusal>
+    ensures sources { IfOk result
+        (λ sources. values_from (input_by taking) 0 (lent files.now) ≡ Ok sources.items) }
+    ensures refused { IfErr result (λ e. IsUnread (input_by taking) (lent files.now) e.place e.reason) }
 {
     let mut sources = Vec::new(alloc);
     'files: for place in 0..files.len() {
-        let source = match source_in(alloc, files[place]) {
+        let source = match source_in(alloc, taking, files[place]) {
             Ok(source) => source,
             Err(reason) => return Err(refused_at(place, reason)),
         };
@@ -81,17 +82,18 @@ fn sources_of(alloc: Global, files: &[&[u8]]) -> Result<Vec<Source>, FilesRefusa
     Ok(sources)
 }
 
-/// The text that a word makes of the fonts that files spell.
+/// The text that a word makes of the fonts that files are taken for.
 pub(crate) fn text_of_files<T: FontsWord>(
     alloc: Global,
+    taking: Taking,
     word: &T,
     files: &[&[u8]],
 ) -> Result<Vec<u8>, FilesRefusal>
     ensures text { IfOk result
-        (λ text. OfFiles font_input (T.Answers word.now) (lent files.now) (Ok text.items)) }
-    ensures refused { IfErr result (RefusesFiles font_input (T.Answers word.now) (lent files.now)) }
+        (λ text. OfFiles (input_by taking) (T.Answers word.now) (lent files.now) (Ok text.items)) }
+    ensures refused { IfErr result (RefusesFiles (input_by taking) (T.Answers word.now) (lent files.now)) }
 {
-    let sources = match sources_of(alloc, files) {
+    let sources = match sources_of(alloc, taking, files) {
         Ok(sources) => sources,
         Err(refusal) => return Err(refusal),
     };
@@ -107,19 +109,23 @@ pub(crate) fn text_of_files<T: FontsWord>(
     Ok(text)
 }
 
-// The sources of the fonts that the readers' bytes spell, one after the other.
-fn read_fonts<R: Read>(alloc: Global, readers: &mut [Counted<R>]) -> Result<Vec<Source>, RunFault>
+// The sources of the fonts that the readers' bytes are taken for, one after the other.
+fn read_fonts<R: Read>(
+    alloc: Global,
+    taking: Taking,
+    readers: &mut [Counted<R>],
+) -> Result<Vec<Source>, RunFault>
     ensures says { IfOk result
-        (λ sources. Say font_input
+        (λ sources. Say (input_by taking)
         (inputs_of R.remaining readers.old readers.new) sources.items) }
     ensures stops { IfErr result
-        (λ e. InputsStop font_input
+        (λ e. InputsStop (input_by taking)
         (inputs_of R.remaining readers.old readers.new) e) }
     ensures turns { InTurns readers.old readers.new }
 {
     let mut sources = Vec::new(alloc);
     'readers: for i in 0..readers.len() {
-        let source = match read_font(alloc, &mut readers[i]) {
+        let source = match read_font(alloc, taking, &mut readers[i]) {
             Ok(source) => source,
             Err(fault) => return Err(fault),
         };
@@ -128,18 +134,19 @@ fn read_fonts<R: Read>(alloc: Global, readers: &mut [Counted<R>]) -> Result<Vec<
     Ok(sources)
 }
 
-/// Writes the text that a word makes of the fonts that the readers' bytes spell.
+/// Writes the text that a word makes of the fonts that the readers' bytes are taken for.
 pub(crate) fn run_words<T: FontsWord, R: Read, W: Write>(
     alloc: Global,
+    taking: Taking,
     word: &T,
     readers: &mut [Counted<R>],
     writer: &mut Counted<W>,
 ) -> Result<(), RunFault>
-    ensures ends { RunEnds font_input (T.Answers word.now) W.contents
+    ensures ends { RunEnds (input_by taking) (T.Answers word.now) W.contents
         (inputs_of R.remaining readers.old readers.new) writer.old writer.new result }
     ensures turns { InTurns readers.old readers.new }
 {
-    let sources = match read_fonts(alloc, readers) {
+    let sources = match read_fonts(alloc, taking, readers) {
         Ok(sources) => sources,
         Err(fault) => return Err(fault),
     };

@@ -14,7 +14,7 @@ ghost use Rattle.t1_cmd.specs.DrawingText.{amount, number, numbers, line, mark_l
 use crate::counting::Counted;
 use crate::faults::{Name, Reason, RunFault};
 use crate::texts::push_number;
-use crate::words::{FontWord, run_word, text_of_bytes};
+use crate::words::{FontWord, Taking, run_word, text_of_bytes};
 use std::alloc::{AllocError, Global};
 use std::io::{Read, Write};
 use t1_font::{DrawFault, Font, Layout, Mark, Pen, PlacedPart, Point, lay_out, trace};
@@ -223,7 +223,7 @@ pub fn show_file(alloc: Global, file: &[u8], name: &[u8]) -> Result<Vec<u8>, Rea
     ensures text { IfOk result (λ text. of_file (show_answer name.now) file.now ≡ Ok text.items) }
     ensures refused { IfErr result (Refuses (λ a. a ≡ of_file (show_answer name.now) file.now)) }
 {
-    text_of_bytes(alloc, &Show { name }, file)
+    text_of_bytes(alloc, Taking::Spelled, &Show { name }, file)
 }
 
 /// Writes what the glyph of a name, without its `/`, draws: its width, its side bearing, its parts and their marks, or
@@ -242,5 +242,5 @@ pub fn run_show<R: Read, W: Write>(
         (input_of R.remaining reader.old reader.new ∷ []) writer.old writer.new result }
     ensures turns { calls_of reader.new ≤ calls_of reader.old + (file_limit + 1) }
 {
-    run_word(alloc, &Show { name }, reader, writer)
+    run_word(alloc, Taking::Spelled, &Show { name }, reader, writer)
 }

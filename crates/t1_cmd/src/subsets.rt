@@ -14,7 +14,7 @@ ghost use Rattle.t1_cmd.specs.Subsets.{first_absent, unless_absent, subset_answe
 use crate::counting::Counted;
 use crate::faults::{Name, Reason, RunFault};
 use crate::fonts::font_file;
-use crate::words::{FontWord, run_word, text_of_bytes};
+use crate::words::{FontWord, Taking, run_word, text_of_bytes};
 use std::alloc::Global;
 use std::io::{Read, Write};
 use t1_font::{Font, Form};
@@ -91,7 +91,7 @@ pub fn subset_file(
     ensures text { IfOk result (λ text. of_file (subset_answer form (lent names.now)) file.now ≡ Ok text.items) }
     ensures refused { IfErr result (Refuses (λ a. a ≡ of_file (subset_answer form (lent names.now)) file.now)) }
 {
-    text_of_bytes(alloc, &Subset { names, form }, file)
+    text_of_bytes(alloc, Taking::Spelled, &Subset { names, form }, file)
 }
 
 /// Writes the canonical file, in one of the two forms, of the subset of a font that keeps what these names need: their
@@ -113,5 +113,11 @@ pub fn run_subset<R: Read, W: Write>(
         (input_of R.remaining reader.old reader.new ∷ []) writer.old writer.new result }
     ensures turns { calls_of reader.new ≤ calls_of reader.old + (file_limit + 1) }
 {
-    run_word(alloc, &Subset { names, form }, reader, writer)
+    run_word(
+        alloc,
+        Taking::Spelled,
+        &Subset { names, form },
+        reader,
+        writer,
+    )
 }

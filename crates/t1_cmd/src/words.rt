@@ -7,7 +7,7 @@ ghost use Rattle.t1_cmd.specs.Count.{calls_of, inner_of};
 ghost use Rattle.t1_cmd.specs.Inputs.{input_of};
 ghost use Rattle.t1_cmd.specs.Runs.{InputStops, InputEnds, RunEnds, Succeeds};
 ghost use Rattle.t1_cmd.specs.Answers.{Prints, Refuses};
-ghost use Rattle.t1_cmd.specs.Fonts.{font_reason, font_input, of_file};
+ghost use Rattle.t1_cmd.specs.Fonts.{font_reason, font_input, mended_input, input_by, of_input};
 
 use crate::counting::Counted;
 use crate::faults::{Reason, RunFault};
@@ -16,7 +16,7 @@ use crate::writing::write_text;
 use std::alloc::Global;
 use std::io::{Read, Write};
 use t1_bytes::FILE_LIMIT;
-use t1_font::{Font, ReadFault, Source, read_vec};
+use t1_font::{Font, ReadFault, Source, read_vec, read_wide_vec};
 
 /// A word about one font. Its answer for a font is a text or a refusal.
 pub(crate) trait FontWord {
@@ -38,8 +38,17 @@ fn reason_of(fault: ReadFault) -> Reason
     }
 }
 
-/// The source of the font that a file spells.
-pub(crate) fn source_of(alloc: Global, file: Vec<u8>) -> Result<Source, Reason>
+/// How a file is taken for a font.
+#[derive(Clone, Copy)]
+pub(crate) enum Taking {
+    /// As the font that it spells.
+    Spelled,
+    /// As the font that it spells widely, without the test whether it was loaded before.
+    Mended,
+}
+
+// The source of the font that a file spells.
+fn spelled_source(alloc: Global, file: Vec<u8>) -> Result<Source, Reason>
     ensures source { IfOk result (λ source. font_input file.items ≡ Ok source) }
     ensures refused { IfErr result (Refuses (λ a. a ≡ font_input file.items)) }
 {
@@ -47,6 +56,31 @@ pub(crate) fn source_of(alloc: Global, file: Vec<u8>) -> Result<Source, Reason>
         return Err(Reason::TooLong);
     }
     read_vec(alloc, file).map_err(reason_of)
+}
+
+// The source of the font that a file spells widely, without the test whether it was loaded before.
+fn mended_source(alloc: Global, file: Vec<u8>) -> Result<Source, Reason>
+    ensures source { IfOk result (λ source. mended_input file.items ≡ Ok source) }
+    ensures refused { IfErr result (Refuses (λ a. a ≡ mended_input file.items)) }
+{
+    if file.len() > FILE_LIMIT {
+        return Err(Reason::TooLong);
+    }
+    match read_wide_vec(alloc, file) {
+        Ok(source) => Ok(source.untested(alloc)?),
+        Err(fault) => Err(reason_of(fault)),
+    }
+}
+
+/// The source of the font that a file is taken for.
+pub(crate) fn source_of(alloc: Global, taking: Taking, file: Vec<u8>) -> Result<Source, Reason>
+    ensures source { IfOk result (λ source. input_by taking file.items ≡ Ok source) }
+    ensures refused { IfErr result (Refuses (λ a. a ≡ input_by taking file.items)) }
+{
+    match taking {
+        Taking::Spelled => spelled_source(alloc, file),
+        Taking::Mended => mended_source(alloc, file),
+    }
 }
 
 // The text that a word makes of the font of a source.
@@ -58,16 +92,18 @@ fn text_of_source<T: FontWord>(alloc: Global, word: &T, source: &Source) -> Resu
     word.text(alloc, font)
 }
 
-/// The text that a word makes of the font that a file spells.
+/// The text that a word makes of the font that a file is taken for.
 pub(crate) fn text_of_file<T: FontWord>(
     alloc: Global,
+    taking: Taking,
     word: &T,
     file: Vec<u8>,
 ) -> Result<Vec<u8>, Reason>
-    ensures text { IfOk result (λ text. of_file (T.answer word.now) file.items ≡ Ok text.items) }
-    ensures refused { IfErr result (Refuses (λ a. a ≡ of_file (T.answer word.now) file.items)) }
+    ensures text { IfOk result (λ text. of_input (input_by taking) (T.answer word.now) file.items
+        ≡ Ok text.items) }
+    ensures refused { IfErr result (Refuses (λ a. a ≡ of_input (input_by taking) (T.answer word.now) file.items)) }
 {
-    let source = match source_of(alloc, file) {
+    let source = match source_of(alloc, taking, file) {
         Ok(source) => source,
         Err(reason) => return Err(reason),
     };
@@ -79,58 +115,66 @@ pub(crate) fn text_of_file<T: FontWord>(
 /// The same of a file that is lent.
 pub(crate) fn text_of_bytes<T: FontWord>(
     alloc: Global,
+    taking: Taking,
     word: &T,
     file: &[u8],
 ) -> Result<Vec<u8>, Reason>
-    ensures text { IfOk result (λ text. of_file (T.answer word.now) file.now ≡ Ok text.items) }
-    ensures refused { IfErr result (Refuses (λ a. a ≡ of_file (T.answer word.now) file.now)) }
+    ensures text { IfOk result (λ text. of_input (input_by taking) (T.answer word.now) file.now
+        ≡ Ok text.items) }
+    ensures refused { IfErr result (Refuses (λ a. a ≡ of_input (input_by taking) (T.answer word.now) file.now)) }
 {
     let file = file.to_vec(alloc)?;
-    text_of_file(alloc, word, file)
+    text_of_file(alloc, taking, word, file)
 }
 
 /// All the bytes of a reader.
 pub(crate) fn read_file<R: Read>(
     alloc: Global,
+    taking: Taking,
     reader: &mut Counted<R>,
 ) -> Result<Vec<u8>, RunFault>
     ensures file { IfOk result
         (λ file. IfSome (R.remaining (inner_of reader.old)) (λ bytes. file.items ≡ bytes)) }
     ensures refused { IfErr result
-        (InputStops font_input (input_of R.remaining reader.old reader.new)) }
+        (InputStops (input_by taking) (input_of R.remaining reader.old reader.new)) }
     ensures turns { calls_of reader.new ≤ calls_of reader.old + (file_limit + 1) }
 {
     read_all(alloc, reader, FILE_LIMIT)
 }
 
-/// The source of the font that a reader's bytes spell.
-pub(crate) fn read_font<R: Read>(alloc: Global, reader: &mut Counted<R>) -> Result<Source, RunFault>
-    ensures ends { InputEnds font_input (λ f. f)
+/// The source of the font that a reader's bytes are taken for.
+pub(crate) fn read_font<R: Read>(
+    alloc: Global,
+    taking: Taking,
+    reader: &mut Counted<R>,
+) -> Result<Source, RunFault>
+    ensures ends { InputEnds (input_by taking) (λ f. f)
         (input_of R.remaining reader.old reader.new) result }
     ensures turns { calls_of reader.new ≤ calls_of reader.old + (file_limit + 1) }
 {
-    let file = read_file(alloc, reader)?;
-    match source_of(alloc, file) {
+    let file = read_file(alloc, taking, reader)?;
+    match source_of(alloc, taking, file) {
         Ok(source) => Ok(source),
         Err(reason) => Err(RunFault::Refused(reason)),
     }
 }
 
-/// Writes the text that a word makes of the font that a reader's bytes spell.
+/// Writes the text that a word makes of the font that a reader's bytes are taken for.
 pub(crate) fn run_word<T: FontWord, R: Read, W: Write>(
     alloc: Global,
+    taking: Taking,
     word: &T,
     reader: &mut Counted<R>,
     writer: &mut Counted<W>,
 ) -> Result<(), RunFault>
-    ensures ends { RunEnds font_input (Prints (T.answer word.now)) W.contents
+    ensures ends { RunEnds (input_by taking) (Prints (T.answer word.now)) W.contents
         (input_of R.remaining reader.old reader.new ∷ []) writer.old writer.new result }
-    ensures succeeds { Succeeds font_input (Prints (T.answer word.now))
+    ensures succeeds { Succeeds (input_by taking) (Prints (T.answer word.now))
         (input_of R.remaining reader.old reader.new ∷ []) writer.old writer.new result }
     ensures turns { calls_of reader.new ≤ calls_of reader.old + (file_limit + 1) }
 {
-    let file = read_file(alloc, reader)?;
-    let text = match text_of_file(alloc, word, file) {
+    let file = read_file(alloc, taking, reader)?;
+    let text = match text_of_file(alloc, taking, word, file) {
         Ok(text) => text,
         Err(reason) => return Err(RunFault::Refused(reason)),
     };

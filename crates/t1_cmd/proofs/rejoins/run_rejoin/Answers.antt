@@ -1,4 +1,4 @@
-use Rattle.t1_cmd.specs.Fonts.{font_input}
+use Rattle.t1_cmd.specs.Fonts.{mended_input}
 use Rattle.t1_cmd.specs.Mergers.{inputs_of}
 use Rattle.t1_cmd.specs.Rejoins.{RejoinsTo}
 use Rattle.t1_cmd.proofs.RunLemmas.{ends_succeeds}
@@ -7,6 +7,6 @@ use Rattle.t1_cmd.proofs.rejoins.run_rejoin.Goals as goal
 
 pub returns-clause-succeeds : goal.returns-clause-succeeds
 returns-clause-succeeds g c =
-    ends_succeeds font_input (RejoinsTo c.args.form) (rejoins_apart c.args.form) g.W.Write.contents
+    ends_succeeds mended_input (RejoinsTo c.args.form) (rejoins_apart c.args.form) g.W.Write.contents
     (inputs_of g.R.Read.remaining c.args.readers.now c.run_words.new.readers) c.args.writer.now c.run_words.new.writer c.run_words.result
     c.run_words.ensures.ends

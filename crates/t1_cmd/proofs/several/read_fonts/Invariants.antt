@@ -1,5 +1,6 @@
+use Rattle.t1_cmd.specs.Fonts.{input_by}
 use Rattle.t1_cmd.proofs.ReaderLoops.{SoFar}
 use Rattle.t1_cmd.proofs.several.read_fonts.Given as goal
 
 abbrev pub invariant-readers : goal.invariant-readers
-invariant-readers g l = SoFar g.R.Read.remaining l.i l.fn.readers l.readers l.sources.items
+invariant-readers g l = SoFar (input_by l.fn.taking) g.R.Read.remaining l.i l.fn.readers l.readers l.sources.items

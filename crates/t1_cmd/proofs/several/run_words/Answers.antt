@@ -1,6 +1,6 @@
 use Rattle.std.proofs.Common.{List, ℕ, Ok, subst, sym}
 use Rattle.t1_cmd.specs.declared.faults.RunFault.TheVariants.{Refused}
-use Rattle.t1_cmd.specs.Fonts.{font_input}
+use Rattle.t1_cmd.specs.Fonts.{input_by}
 use Rattle.t1_cmd.specs.Mergers.{inputs_of}
 use Rattle.t1_cmd.proofs.RunLemmas.{stopped, write_ends}
 use Rattle.t1_cmd.proofs.MergeLemmas.{inputs_stop}
@@ -11,20 +11,20 @@ pub returns-in-Err-clause-ends : goal.returns-in-Err-clause-ends
 returns-in-Err-clause-ends g c =
     let Answers = g.T.FontsWord.Answers c.args.word.now in
     let inputs = inputs_of g.R.Read.remaining c.args.readers.now c.read_fonts.new.readers in
-    stopped font_input Answers g.W.Write.contents inputs c.args.writer.now c.in-Err.fault
-    (inputs_stop Answers inputs c.in-Err.fault c.in-Err.ensures.stops)
+    stopped (input_by c.args.taking) Answers g.W.Write.contents inputs c.args.writer.now c.in-Err.fault
+    (inputs_stop (input_by c.args.taking) Answers inputs c.in-Err.fault c.in-Err.ensures.stops)
 
 pub returns-in-Err-text-clause-ends : goal.returns-in-Err-text-clause-ends
 returns-in-Err-text-clause-ends g c =
     let Answers = g.T.FontsWord.Answers c.args.word.now in
     let inputs = inputs_of g.R.Read.remaining c.args.readers.now c.read_fonts.new.readers in
-    stopped font_input Answers g.W.Write.contents inputs c.args.writer.now (Refused c.in-Err-text.reason)
-    (answer_stops font_input Answers inputs c.in-Ok.sources.items c.in-Err-text.reason c.in-Ok.ensures.says c.in-Err-text.ensures.refused)
+    stopped (input_by c.args.taking) Answers g.W.Write.contents inputs c.args.writer.now (Refused c.in-Err-text.reason)
+    (answer_stops (input_by c.args.taking) Answers inputs c.in-Ok.sources.items c.in-Err-text.reason c.in-Ok.ensures.says c.in-Err-text.ensures.refused)
 
 pub returns-clause-ends : goal.returns-clause-ends
 returns-clause-ends g c =
     let Answers = g.T.FontsWord.Answers c.args.word.now in
-    write_ends font_input Answers g.W.Write.contents
+    write_ends (input_by c.args.taking) Answers g.W.Write.contents
     (inputs_of g.R.Read.remaining c.args.readers.now c.read_fonts.new.readers) c.in-Ok.sources.items
     c.args.writer.now c.write_text.new.writer c.as_slice.result.now c.write_text.result
     c.in-Ok.ensures.says

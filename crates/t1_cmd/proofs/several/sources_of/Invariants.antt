@@ -1,6 +1,6 @@
-use Rattle.t1_cmd.specs.Fonts.{font_input}
+use Rattle.t1_cmd.specs.Fonts.{input_by}
 use Rattle.t1_cmd.proofs.Files.{SoFar}
 use Rattle.t1_cmd.proofs.several.sources_of.Given as goal
 
 abbrev pub invariant-files : goal.invariant-files
-invariant-files l = SoFar font_input l.place l.files l.sources.items
+invariant-files l = SoFar (input_by l.taking) l.place l.files l.sources.items
