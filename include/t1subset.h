@@ -125,6 +125,11 @@ uint32_t t1subset_show(const uint8_t *font, size_t size, const uint8_t *name, si
 /* The one canonical file of a font, in a form. */
 uint32_t t1subset_convert(const uint8_t *font, size_t size, uint32_t form, t1subset_answer *answer);
 
+/* The canonical file, in a form, of a font that another program spells: with comments in the Encoding or among the Subrs,
+ * with codes that are copied, or with readonly behind a word Encoding; and without the test of FontDirectory that it may
+ * begin with. */
+uint32_t t1subset_mend(const uint8_t *font, size_t size, uint32_t form, t1subset_answer *answer);
+
 /* The canonical file of the subset that keeps these glyphs, .notdef, the components of accented glyphs, and the Subrs
  * that all of these execute. A name may stand in the list more than once. */
 uint32_t t1subset_subset(const uint8_t *font, size_t size, const t1subset_bytes *names, size_t count, uint32_t form, t1subset_answer *answer);
@@ -133,8 +138,8 @@ uint32_t t1subset_subset(const uint8_t *font, size_t size, const t1subset_bytes 
  * subset of all their names, byte for byte. */
 uint32_t t1subset_merge(const t1subset_bytes *fonts, size_t count, uint32_t form, t1subset_answer *answer);
 
-/* The same for subsets that another program cut, such as dvips or pdfTeX: they are first made even (the tag before the
- * FontName is removed, and every table of Subrs declares as many). */
+/* The same for subsets that another program cut, such as dvips or pdfTeX: they are first mended, as t1subset_mend does, and
+ * made even (the tag before the FontName is removed, and every table of Subrs declares as many). */
 uint32_t t1subset_rejoin(const t1subset_bytes *fonts, size_t count, uint32_t form, t1subset_answer *answer);
 
 /* The join of two listings, texts of lines "S INDEX HEX" and "G NAME HEX". */

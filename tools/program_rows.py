@@ -36,6 +36,10 @@ part 0 0
 # Charstrings of Subrs that glyphs call: a move across, a move up, and the `return` that stands for a Subr that is cut.
 ACROSS, UP, STUB = b"\xef\x16\x0b", b"\xef\x04\x0b", b"\x0b"
 
+# The test whether a font was loaded before.
+TESTED = (b"FontDirectory/Small known{/Small findfont dup/UniqueID known{dup/UniqueID get 7 eq exch\n/FontType get 1 eq and}"
+          b"{pop false}ifelse{save true}{false}ifelse}{false}ifelse")
+
 # The words; the exit status; what is printed on standard output and on standard error; the files that are changed.
 Row = namedtuple("Row", "words status out err left", defaults=(b"", b"", {}))
 
@@ -90,6 +94,9 @@ def files():
     given["one.cut"] = small_font(b"ABCDEF+Small", [STUB] * 4 + [ACROSS], {b"A": 4})
     given["two.cut"] = small_font(b"ZYXWVU+Small", [STUB] * 5 + [UP], {b"B": 5})
     given["other.cut"] = small_font(b"ZYXWVU+Other", [STUB] * 5 + [UP], {b"B": 5})
+    word = b"/Encoding StandardEncoding"
+    given["spelled.font"] = given["one.cut"].replace(word + b" def", word + b" % a comment\n readonly def")
+    given["tested.font"] = given["one.cut"].replace(b"/FontName", TESTED + b"/FontName")
     given["no.font"] = b"no font"
     given["no.listing"] = b"no listing"
     given["old"] = b"what stood here"
@@ -98,7 +105,7 @@ def files():
 
 def rows_of_words():
     """Words that ask for help or don't parse."""
-    commands = ["subset", "merge", "rejoin", "check", "list", "show", "pfa", "pfb", "join"]
+    commands = ["subset", "merge", "rejoin", "mend", "check", "list", "show", "pfa", "pfb", "join"]
     yield Row(["--help"], 0, SOME)
     yield Row(["--version"], 0, version_of_the_man_page() + b"\n")
     for command in commands:
@@ -160,6 +167,20 @@ def rows_of_rejoined():
     yield Row(["rejoin", "old", "one.cut", "absent"], 3, b"", b"failed: read\n")
 
 
+def rows_of_mended():
+    """Fonts that other programs spell."""
+    one = small_font(b"ABCDEF+Small", [STUB] * 4 + [ACROSS], {b"A": 4})
+    untagged = small_font(b"Small", [STUB] * 4 + [ACROSS], {b"A": 4})
+    yield Row(["check", "spelled.font"], 1, b"", b"refused: bad Encoding at 34\n")
+    yield Row(["mend", "spelled.font", "out"], 0, b"", b"", {"out": one})
+    yield Row(["mend", "tested.font", "tested.font"], 0, b"", b"", {"tested.font": one})
+    yield Row(["mend", "one.cut", "old"], 0, b"", b"", {"old": one})
+    yield Row(["mend", "--pfb", "tiny.pfa", "out"], 0, b"", b"", {"out": example("tiny.pfb")})
+    yield Row(["rejoin", "out", "tested.font", "spelled.font", "one.cut"], 0, b"", b"", {"out": untagged})
+    yield Row(["mend", "no.font", "out"], 1, b"", b"refused: no eexec\n")
+    yield Row(["mend", "absent", "out"], 3, b"", b"failed: read\n")
+
+
 def rows_of_listings():
     """All inputs are opened before the first is read."""
     refused = b"refused: subr 150 differs\n"
@@ -170,4 +191,4 @@ def rows_of_listings():
 
 
 def all_rows(given):
-    return [*rows_of_words(), *rows_of_fonts(), *rows_of_outputs(given), *rows_of_rejoined(), *rows_of_listings()]
+    return [*rows_of_words(), *rows_of_fonts(), *rows_of_outputs(given), *rows_of_rejoined(), *rows_of_mended(), *rows_of_listings()]

@@ -99,7 +99,7 @@ def rows():
     for name, file in no_fonts():
         yield name, ["check", "bad"], {"bad": file}
         if len(file) < 100000:
-            for words in (["list", "bad"], ["show", "bad", "A"], ["pfa", "bad", "out"], ["subset", "bad", "out", "Zed"]):
+            for words in (["list", "bad"], ["show", "bad", "A"], ["pfa", "bad", "out"], ["mend", "bad", "out"], ["subset", "bad", "out", "Zed"]):
                 yield name, words, {"bad": file}
             for word in ("merge", "rejoin"):
                 yield name, [word, "out", "good", "bad", "bad"], {"good": good, "bad": file}

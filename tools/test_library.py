@@ -170,7 +170,7 @@ def refused_alone(pair, words):
     """The place of the first file that the program refuses by itself, or -1."""
     pair.write({"empty": b""})
     for place, name in enumerate(inputs_of(words)):
-        alone = ["join", name, "empty"] if words[0] == "join" else ["check", name]
+        alone = ["join", name, "empty"] if words[0] == "join" else ["mend", name, "out"] if words[0] in ("mend", "rejoin") else ["check", name]
         if pair.alone(pair.programs[0], alone)[0] == 1:
             return place
     return -1
@@ -208,7 +208,7 @@ def fonts_here():
 
 def run_font(pair, font, last):
     """All words over a font, and over two subsets of it; the first of these is returned, if there is one."""
-    for words in (["check", font], ["pfa", font, "out"], ["pfb", font, "out"]):
+    for words in (["check", font], ["pfa", font, "out"], ["pfb", font, "out"], ["mend", font, "out"]):
         pair.both(words)
     status, listed, _, _ = pair.both(["list", font])
     names = [name for name in re.findall(r"^glyph (\S+) ", listed.decode(), re.M) if "\\" not in name]

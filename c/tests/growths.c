@@ -31,6 +31,7 @@ static uint32_t check(t1subset_answer *to) { return t1subset_check(font.data, fo
 static uint32_t list(t1subset_answer *to) { return t1subset_list(font.data, font.size, to); }
 static uint32_t show(t1subset_answer *to) { return t1subset_show(font.data, font.size, names[0].data, names[0].size, to); }
 static uint32_t convert(t1subset_answer *to) { return t1subset_convert(font.data, font.size, T1SUBSET_PFB, to); }
+static uint32_t mend(t1subset_answer *to) { return t1subset_mend(font.data, font.size, T1SUBSET_PFB, to); }
 static uint32_t subset(t1subset_answer *to) { return t1subset_subset(font.data, font.size, names, 2, T1SUBSET_PFA, to); }
 static uint32_t merge(t1subset_answer *to) { return t1subset_merge(parts, 2, T1SUBSET_PFA, to); }
 static uint32_t rejoin(t1subset_answer *to) { return t1subset_rejoin(parts, 2, T1SUBSET_PFB, to); }
@@ -47,7 +48,7 @@ static const struct {
     uint32_t number;
 } calls[] = {
     {"check", check, T1SUBSET_OK}, {"list", list, T1SUBSET_OK}, {"show", show, T1SUBSET_OK},
-    {"convert", convert, T1SUBSET_OK}, {"subset", subset, T1SUBSET_OK}, {"merge", merge, T1SUBSET_OK},
+    {"convert", convert, T1SUBSET_OK}, {"mend", mend, T1SUBSET_OK}, {"subset", subset, T1SUBSET_OK}, {"merge", merge, T1SUBSET_OK},
     {"rejoin", rejoin, T1SUBSET_OK}, {"join", join, T1SUBSET_OK}, {"subset of no glyph", no_glyph, T1SUBSET_NO_GLYPH},
     {"merge of no font", no_font, T1SUBSET_NO_EEXEC},
 };

@@ -35,6 +35,7 @@ static uint32_t call(const char *word, const t1subset_bytes *arguments, size_t c
     if (!strcmp(word, "show")) return t1subset_show(first.data, first.size, second.data, second.size, answer);
     if (!strcmp(word, "pfa")) return t1subset_convert(first.data, first.size, T1SUBSET_PFA, answer);
     if (!strcmp(word, "pfb")) return t1subset_convert(first.data, first.size, T1SUBSET_PFB, answer);
+    if (!strcmp(word, "mend")) return t1subset_mend(first.data, first.size, T1SUBSET_PFA, answer);
     if (!strcmp(word, "subset")) {
         return t1subset_subset(first.data, first.size, arguments + 1, count - 1, T1SUBSET_PFA, answer);
     }

@@ -63,6 +63,17 @@ def convert(font: BytesLike, form: AnyForm = "pfa") -> bytes:
     return _call(library.t1subset_convert, *_file(font), _form(form))
 
 
+def mend(font: BytesLike, form: AnyForm = "pfa") -> bytes:
+    """The canonical file, in a form, of a font that another program spells: with comments in the Encoding or among the
+    Subrs, with codes that are copied, or with readonly behind a word Encoding; and without the test of FontDirectory
+    that it may begin with.
+
+    >>> mend(font) == convert(font)
+    True
+    """
+    return _call(library.t1subset_mend, *_file(font), _form(form))
+
+
 def subset(font: BytesLike, names: Iterable[Name], form: AnyForm = "pfa") -> bytes:
     """The canonical file of the subset that keeps these glyphs, .notdef, the components of accented glyphs, and the
     Subrs that all of these execute. A name may be given more than once.
@@ -84,8 +95,8 @@ def merge(fonts: Iterable[BytesLike], form: AnyForm = "pfa") -> bytes:
 
 
 def rejoin(fonts: Iterable[BytesLike], form: AnyForm = "pfa") -> bytes:
-    """The same for subsets that another program cut, such as dvips or pdfTeX: they are first made even (the tag
-    before the FontName is removed, and every table of Subrs declares as many)."""
+    """The same for subsets that another program cut, such as dvips or pdfTeX: they are first mended, as by
+    `mend`, and made even (the tag before the FontName is removed, and every table of Subrs declares as many)."""
     return _call(library.t1subset_rejoin, *_files(_several(fonts, "fonts")), _form(form))
 
 

@@ -112,6 +112,8 @@ class Program(unittest.TestCase):
                 self.same(["list", "IN0"], [font], lambda: t1subset.list(font))
                 self.same(["pfa", "IN0", "OUT"], [font], lambda: t1subset.convert(font))
                 self.same(["pfb", "IN0", "OUT"], [font], lambda: t1subset.convert(font, "pfb"))
+                self.same(["mend", "IN0", "OUT"], [font], lambda: t1subset.mend(font))
+                self.same(["mend", "--pfb", "IN0", "OUT"], [font], lambda: t1subset.mend(font, "pfb"))
                 self.same(["subset", "IN0", "OUT", *names], [font], lambda: t1subset.subset(font, names))
                 self.same(["subset", "IN0", "OUT", "Zed"], [font], lambda: t1subset.subset(font, ["Zed"]))
                 for name in [*names, "Zed"]:

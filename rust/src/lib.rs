@@ -121,6 +121,21 @@ pub fn convert(font: &[u8], form: Form) -> Result<Vec<u8>, Refused> {
     ffi::convert(font, form)
 }
 
+/// The canonical file, in a form, of a font that another program spells: with comments in the Encoding or among the Subrs,
+/// with codes that are copied, or with `readonly` behind a word Encoding; and without the test of FontDirectory that it may
+/// begin with.
+///
+/// ```
+/// # fn main() -> Result<(), Box<dyn std::error::Error>> {
+/// let font = std::fs::read("../examples/tiny.pfa")?;
+/// assert_eq!(t1subset::mend(&font, t1subset::Form::Pfa)?, font);
+/// # Ok(())
+/// # }
+/// ```
+pub fn mend(font: &[u8], form: Form) -> Result<Vec<u8>, Refused> {
+    ffi::mend(font, form)
+}
+
 /// The canonical file of the subset that keeps these glyphs, .notdef, the components of accented glyphs, and the Subrs
 /// that all of these execute. A name may stand in the list more than once.
 ///
@@ -152,8 +167,8 @@ pub fn merge<F: AsRef<[u8]>>(fonts: &[F], form: Form) -> Result<Vec<u8>, Refused
     ffi::merge(&slices(fonts), form)
 }
 
-/// The same for subsets that another program cut, such as dvips or pdfTeX: they are first made even (the tag before the
-/// FontName is removed, and every table of Subrs declares as many).
+/// The same for subsets that another program cut, such as dvips or pdfTeX: they are first mended, as by [`mend`], and made
+/// even (the tag before the FontName is removed, and every table of Subrs declares as many).
 pub fn rejoin<F: AsRef<[u8]>>(fonts: &[F], form: Form) -> Result<Vec<u8>, Refused> {
     ffi::rejoin(&slices(fonts), form)
 }

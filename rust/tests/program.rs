@@ -133,6 +133,8 @@ fn words_about_one_font() {
         run.same(&["list", "IN0"], &[font], t1subset::list(font).map(|it| list_text(&it).into()));
         run.same(&["pfa", "IN0", "OUT"], &[font], t1subset::convert(font, Form::Pfa));
         run.same(&["pfb", "IN0", "OUT"], &[font], t1subset::convert(font, Form::Pfb));
+        run.same(&["mend", "IN0", "OUT"], &[font], t1subset::mend(font, Form::Pfa));
+        run.same(&["mend", "--pfb", "IN0", "OUT"], &[font], t1subset::mend(font, Form::Pfb));
         for name in names.iter().map(String::as_str).chain(["Zed"]) {
             run.same(&["show", "IN0", name], &[font], t1subset::show(font, name).map(|it| show_text(&it).into()));
             run.same(&["subset", "IN0", "OUT", name], &[font], t1subset::subset(font, &[name], Form::Pfa));

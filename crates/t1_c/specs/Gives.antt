@@ -5,7 +5,7 @@ use Rattle.t1_font.specs.FontValue.{FontValue}
 use Rattle.t1_cmd.specs.declared.faults.Reason.{Reason}
 use Rattle.t1_cmd.specs.declared.faults.Reason.TheVariants.{TooLong, Memory, Font}
 use Rattle.t1_cmd.specs.Texts.{reason_text}
-use Rattle.t1_cmd.specs.Fonts.{of_file}
+use Rattle.t1_cmd.specs.Fonts.{of_file, of_mended}
 use Rattle.t1_cmd.specs.Files.{OfFiles, RefusedAt}
 use Rattle.t1_c.specs.declared.answers.Answer.{Answer}
 use Rattle.t1_c.specs.Numbers.{ok, memory, bad_call, number_of, detail_of}
@@ -54,9 +54,17 @@ place_in_one TooLong = Some 0
 place_in_one (Font f) = Some 0
 place_in_one other = None
 
+-- a call over one file gives this answer of it
+abbrev pub GivesOne : Result (List ℕ) Reason → ℕ → Answer → Type 0
+GivesOne answer = Gives (λ text. answer ≡ Ok text) (λ place r. (place ≡ place_in_one r) × (answer ≡ Err r))
+
 -- a call over one file gives what its font is answered with
 abbrev pub GivesOf : (FontValue → Result (List ℕ) Reason) → List ℕ → ℕ → Answer → Type 0
-GivesOf answer file = Gives (λ text. of_file answer file ≡ Ok text) (λ place r. (place ≡ place_in_one r) × (of_file answer file ≡ Err r))
+GivesOf answer file = GivesOne (of_file answer file)
+
+-- a call over one file gives what the font is answered with that it spells widely, without the test whether it was loaded before
+abbrev pub GivesMended : (FontValue → Result (List ℕ) Reason) → List ℕ → ℕ → Answer → Type 0
+GivesMended answer file = GivesOne (of_mended answer file)
 
 -- a call over several files gives an answer to what all of them say
 abbrev pub GivesFiles : {A : Type 0} → (List ℕ → Result A Reason) → (List A → Result (List ℕ) Reason → Type 0) → List (List ℕ) → ℕ → Answer → Type 0

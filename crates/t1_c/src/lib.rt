@@ -16,22 +16,22 @@ ghost use Rattle.t1_subset.specs.NameSets.{lent};
 ghost use Rattle.t1_cmd.specs.CheckText.{check_answer};
 ghost use Rattle.t1_cmd.specs.ListText.{list_answer};
 ghost use Rattle.t1_cmd.specs.DrawingText.{show_answer};
-ghost use Rattle.t1_cmd.specs.Fonts.{font_input, file_answer};
+ghost use Rattle.t1_cmd.specs.Fonts.{font_input, mended_input, file_answer};
 ghost use Rattle.t1_cmd.specs.Subsets.{subset_answer};
 ghost use Rattle.t1_cmd.specs.Mergers.{MergesTo};
 ghost use Rattle.t1_cmd.specs.Rejoins.{RejoinsTo};
 ghost use Rattle.t1_cmd.specs.Listings.{listing_input, JoinsTo};
 ghost use Rattle.t1_cmd.specs.WrittenSubsets.{OfUnion};
 ghost use Rattle.t1_c.specs.Numbers.{form_at};
-ghost use Rattle.t1_c.specs.Gives.{GivesOf, GivesFiles, In, IfForm, GivesText};
+ghost use Rattle.t1_c.specs.Gives.{GivesOf, GivesMended, GivesFiles, In, IfForm, GivesText};
 
 pub use answers::Answer;
 use answers::{give_files, give_nothing, give_of};
 use numbers::{BAD_CALL, form_of};
 use std::alloc::Global;
 use t1_cmd::{
-    check_file, convert_file, join_listings, list_file, merge_files, rejoin_files, show_file,
-    subset_file,
+    check_file, convert_file, join_listings, list_file, mend_file, merge_files, rejoin_files,
+    show_file, subset_file,
 };
 
 /// Says what a font has: the line of `t1subset check`.
@@ -70,6 +70,18 @@ pub extern "C" fn t1subset_convert(
 {
     match form_of(form) {
         Some(form) => give_of(alloc, convert_file(alloc, font, form), answer),
+        None => give_nothing(BAD_CALL, answer),
+    }
+}
+
+/// Makes the canonical file of the font that a file spells widely, without the test whether it was loaded before, in the form of
+/// a number.
+#[unsafe(no_mangle)]
+pub extern "C" fn t1subset_mend(alloc: Global, font: &[u8], form: u32, answer: &mut Answer) -> u32
+    ensures { In (form_at form) (λ f. GivesMended (file_answer f) font.now) result answer.new }
+{
+    match form_of(form) {
+        Some(form) => give_of(alloc, mend_file(alloc, font, form), answer),
         None => give_nothing(BAD_CALL, answer),
     }
 }
@@ -120,7 +132,7 @@ pub extern "C" fn t1subset_rejoin(
     form: u32,
     answer: &mut Answer,
 ) -> u32
-    ensures { In (form_at form) (λ f. GivesFiles font_input (RejoinsTo f) (lent fonts.now))
+    ensures { In (form_at form) (λ f. GivesFiles mended_input (RejoinsTo f) (lent fonts.now))
         result answer.new }
 {
     match form_of(form) {

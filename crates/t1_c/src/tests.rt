@@ -1,8 +1,8 @@
 //! A call of each function, small and large, with what it gives, and a refusal of each kind. What the program writes for
 //! many more inputs is compared with the library's bytes in C.
 use crate::{
-    Answer, t1subset_check, t1subset_convert, t1subset_join, t1subset_list, t1subset_merge,
-    t1subset_rejoin, t1subset_show, t1subset_subset,
+    Answer, t1subset_check, t1subset_convert, t1subset_join, t1subset_list, t1subset_mend,
+    t1subset_merge, t1subset_rejoin, t1subset_show, t1subset_subset,
 };
 use std::alloc::Global;
 use std::test::Fail;
@@ -68,6 +68,9 @@ fn files(rt: HostRuntime) -> Result<(), Fail> {
     let mut a = used();
     let code = t1subset_convert(rt.alloc(), PFA, 1, &mut a);
     assert!(rt; gave(code, &a, (0, 0, -1, PFB)));
+    let mut a = used();
+    let code = t1subset_mend(rt.alloc(), PFB, 0, &mut a);
+    assert!(rt; gave(code, &a, (0, 0, -1, PFA)));
     let mut one = used();
     let code = t1subset_subset(rt.alloc(), PFB, &[b"X", b"X"], 0, &mut one);
     assert!(rt; begins(code, &one, b"%!FontType1-1.0: Tiny"));
@@ -112,6 +115,9 @@ fn refusals_of_a_font(rt: HostRuntime) -> Result<(), Fail> {
     let mut a = used();
     let code = t1subset_convert(rt.alloc(), b"currentfile eexec ", 1, &mut a);
     assert!(rt; gave(code, &a, (12, 0, 0, b"cipher too short")));
+    let mut a = used();
+    let code = t1subset_mend(rt.alloc(), b"currentfile eexec ", 1, &mut a);
+    assert!(rt; gave(code, &a, (12, 0, 0, b"cipher too short")));
     Ok(())
 }
 
@@ -149,6 +155,9 @@ fn calls_without_a_form(rt: HostRuntime) -> Result<(), Fail> {
     for form in [2, 3, 256, 4_294_967_295] {
         let mut a = used();
         let code = t1subset_convert(rt.alloc(), PFA, form, &mut a);
+        assert!(rt; gave(code, &a, (2, 0, -1, b"")));
+        let mut a = used();
+        let code = t1subset_mend(rt.alloc(), PFA, form, &mut a);
         assert!(rt; gave(code, &a, (2, 0, -1, b"")));
         let mut a = used();
         let code = t1subset_subset(rt.alloc(), b"", &[b"Q"], form, &mut a);

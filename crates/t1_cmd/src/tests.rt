@@ -6,6 +6,7 @@ mod failing_merges;
 mod growths;
 mod large;
 mod lists;
+mod mends;
 mod merges;
 mod refusals;
 mod rejoins;

@@ -70,11 +70,11 @@ OUT comes first: `t1subset rejoin a.pfa b.pfa` overwrites a.pfa.
 Merges subsets that other programs cut, such as dvips and pdfTeX. These may
 put a tag of six capitals and `+` before the name of the font, and declare no
 Subrs after the last one that is used. So `rejoin` first makes the fonts even:
-it removes the tags, declares as many Subrs in each table as in the largest,
-and adds a Subr `return` where one font lacks a Subr that another has. Each
-glyph that draws without a fault still draws as it did. Then it merges them as
-`merge` does, and refuses what still differs. OUT is opened only when the
-result is complete.
+it takes each as `mend` does, removes the tags, declares as many Subrs in each
+table as in the largest, and adds a Subr `return` where one font lacks a Subr
+that another has. Each glyph that draws without a fault still draws as it did.
+Then it merges them as `merge` does, and refuses what still differs. OUT is
+opened only when the result is complete.
 
 Example: t1subset rejoin all.pfa one.pfa two.pfa";
 
@@ -136,6 +136,27 @@ fn convert_command<'a>(
         .after_help(help)
         .arg(word(alloc, "IN", "The font"))?
         .arg(word(alloc, "OUT", "The file that is written"))
+}
+
+const MEND_HELP: &str = "\
+Writes to OUT, as PFA or with --pfb as PFB, the canonical file of a font that
+other programs spell. Beside what the other commands read it takes comments in
+the Encoding and among the Subrs, codes whose names are copied from others, and
+`readonly` behind a word that is the whole Encoding. If the font begins with a
+test whether FontDirectory has it, the test is taken out: with it, what is
+written leaves an operand on PostScript's stack. Each glyph draws as in IN. OUT
+is opened only when the result is complete.
+
+Example: t1subset mend font.pfb font.pfa";
+
+fn mend_command<'a>(alloc: Global) -> Result<Command<'a>, AllocError> {
+    let about = "Writes what other programs spell as a canonical file";
+    convert_command(alloc, "mend", about, MEND_HELP)?.arg(
+        Arg::new(alloc, "pfb")
+            .long("pfb")
+            .action(ArgAction::SetTrue)
+            .help("Writes a PFB"),
+    )
 }
 
 const CHECK_HELP: &str = "\
@@ -236,6 +257,7 @@ fn program<'a>(alloc: Global) -> Result<Command<'a>, AllocError> {
     let program = with(Ok(bare_program(alloc)), subset_command(alloc));
     let program = with(program, merge_command(alloc));
     let program = with(program, rejoin_command(alloc));
+    let program = with(program, mend_command(alloc));
     let program = with(program, check_command(alloc));
     let program = with(program, list_command(alloc));
     let program = with(program, show_command(alloc));

@@ -7,8 +7,8 @@ use std::io::{ErrorKind, Write};
 use std::rt::Files;
 use std::{fs, io};
 use t1_cmd::{
-    Counted, Reason, RunFault, run_check, run_convert, run_join, run_list, run_merge, run_rejoin,
-    run_show, run_subset, status, write_fault,
+    Counted, Reason, RunFault, run_check, run_convert, run_join, run_list, run_mend, run_merge,
+    run_rejoin, run_show, run_subset, status, write_fault,
 };
 use t1_font::Form;
 
@@ -122,6 +122,23 @@ fn convert<'p, R: Files>(
     end(out, done, note)
 }
 
+fn mend<'p, R: Files>(
+    rt: &R,
+    alloc: Global,
+    given: &'p ArgMatches<'_>,
+    note: &mut Note<'p>,
+) -> Result<(), RunFault> {
+    let form = if given.get_flag("pfb") {
+        Form::Pfb
+    } else {
+        Form::Pfa
+    };
+    let mut input = font(rt, given)?;
+    let mut out = out(rt, alloc, given);
+    let done = run_mend(alloc, &mut input, form, &mut out);
+    end(out, done, note)
+}
+
 /// The names that the words give, as bytes.
 fn names<'a>(alloc: Global, given: &ArgMatches<'a>) -> Result<Vec<&'a [u8]>, AllocError> {
     let mut names = Vec::new(alloc);
@@ -198,6 +215,7 @@ fn perform<'p, R: Files, O: Write + Drop>(
         "subset" => subset(rt, alloc, given, note),
         "merge" => merge(rt, alloc, given, note),
         "rejoin" => rejoin(rt, alloc, given, note),
+        "mend" => mend(rt, alloc, given, note),
         "check" => check(rt, alloc, given, out),
         "list" => list(rt, alloc, given, out),
         "show" => show(rt, alloc, given, out),

@@ -2,8 +2,8 @@
 use super::changed::tiny_encoded;
 use super::{FINE, Feed, Plan, Sink, line_of, word};
 use crate::{
-    Counted, Reason, RunFault, check_file, convert_file, list_file, run_check, run_convert,
-    run_list, run_show, run_subset, show_file, subset_file,
+    Counted, Reason, RunFault, check_file, convert_file, list_file, mend_file, run_check,
+    run_convert, run_list, run_mend, run_show, run_subset, show_file, subset_file,
 };
 use std::alloc::Global;
 use std::io::{ErrorKind, Read, Write};
@@ -18,6 +18,7 @@ pub enum Engine<'a> {
     List,
     Show(&'a [u8]),
     Convert(Form),
+    Mend(Form),
     Subset(&'a [&'a [u8]], Form),
 }
 
@@ -33,6 +34,7 @@ pub fn run<R: Read, W: Write>(
         Engine::List => run_list(alloc, reader, writer),
         Engine::Show(name) => run_show(alloc, reader, name, writer),
         Engine::Convert(form) => run_convert(alloc, reader, form, writer),
+        Engine::Mend(form) => run_mend(alloc, reader, form, writer),
         Engine::Subset(names, form) => run_subset(alloc, reader, names, form, writer),
     }
 }
@@ -44,6 +46,7 @@ pub fn made(alloc: Global, engine: Engine<'_>, file: &[u8]) -> Result<Vec<u8>, R
         Engine::List => list_file(alloc, file),
         Engine::Show(name) => show_file(alloc, file, name),
         Engine::Convert(form) => convert_file(alloc, file, form),
+        Engine::Mend(form) => mend_file(alloc, file, form),
         Engine::Subset(names, form) => subset_file(alloc, file, names, form),
     }
 }
@@ -258,6 +261,8 @@ pub const ENGINES: &[Engine] = &[
     Engine::Show(b"Aacute"),
     Engine::Convert(Form::Pfa),
     Engine::Convert(Form::Pfb),
+    Engine::Mend(Form::Pfa),
+    Engine::Mend(Form::Pfb),
     Engine::Subset(&[b"X"], Form::Pfa),
     Engine::Subset(&[b"X"], Form::Pfb),
 ];

@@ -198,6 +198,7 @@ const ENGINES: &[(Engine<'static>, &[u8])] = &[
     (Engine::List, super::engines::TINY_LISTED),
     (Engine::Show(b"X"), SHOWN),
     (Engine::Convert(Form::Pfb), PFB),
+    (Engine::Mend(Form::Pfb), PFB),
 ];
 
 /// Whether each of these engines writes right, and the call below it makes the same.

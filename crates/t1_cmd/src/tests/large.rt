@@ -46,7 +46,9 @@ fn is_rewritten(alloc: Global, file: &[u8]) -> bool {
         }
     }
     const LINE: &[u8] = b"ok 65535 glyphs, 0 subrs, weight ";
-    has_glyphs(alloc, pfa.as_slice(), LINE) && has_glyphs(alloc, pfb.as_slice(), LINE)
+    has_glyphs(alloc, pfa.as_slice(), LINE)
+        && has_glyphs(alloc, pfb.as_slice(), LINE)
+        && answer(alloc, Engine::Mend(Form::Pfa), file).as_slice() == pfa.as_slice()
 }
 
 /// Whether the last glyph of a font is shown and cut, in both forms.
@@ -71,7 +73,7 @@ fn lacks_the_next(alloc: Global, file: &[u8]) -> bool {
 // meets run_check Ok at 65535 glyphs
 // meets run_show NoGlyph at 65535 glyphs
 // meets run_subset NoGlyph at 65535 glyphs
-// like run_check: run_list, run_convert, run_merge, run_rejoin, check_file, list_file, convert_file, merge_files, rejoin_files
+// like run_check: run_list, run_convert, run_mend, run_merge, run_rejoin, check_file, list_file, convert_file, mend_file, merge_files, rejoin_files
 // like run_show: show_file
 // like run_subset: subset_file
 #[test]
