@@ -17,5 +17,6 @@ pub mod Headline
 pub mod FontStates
 pub mod Tables
 pub mod Sums
+pub mod Untested
 pub mod rejoining
 pub mod rows

@@ -16,3 +16,4 @@ pub mod Headline
 pub mod Evened
 pub mod Merges
 pub mod Rejoins
+pub mod Untested

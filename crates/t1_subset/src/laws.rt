@@ -7,6 +7,7 @@ ghost use Rattle.t1_algebra.specs.Profile.{profile};
 ghost use Rattle.t1_algebra.specs.Headline.{Headline};
 ghost use Rattle.t1_algebra.specs.Evened.{EvenedDraw};
 ghost use Rattle.t1_algebra.specs.Rejoins.{TruncatedSubsetsRejoin, MergingFontsAreEven};
+ghost use Rattle.t1_algebra.specs.Untested.{UntestedDraws, UntestedSubsets, UntestedJoins, UntestedGroupings};
 
 /// For every input that spells a font F and all sets A and B of its glyph names, reading the written subsets over A
 /// and B and merging them, in either order, writes the bytes of the subset over A together with B. Over any list of
@@ -156,4 +157,21 @@ pub fn truncated_subsets_rejoin()
 #[tactic(auto, using(t1_algebra::proofs::rejoining::Evened::merging_fonts_are_even))]
 pub fn merging_fonts_are_even()
     ensures { MergingFontsAreEven }
+{}
+
+/// Each glyph of a font draws, runs and executes as before when the font's head has lost the test whether the font was
+/// loaded before, over the maps of both fonts and as calls see them.
+#[tactic(auto, using(t1_algebra::proofs::Untested::untested_draws))]
+pub fn untested_draws()
+    ensures { UntestedDraws }
+{}
+
+/// Whether fonts lose that test before they are cut and merged or after it makes no difference. A subset without the test
+/// is the subset of the font without it. Fonts that join also join when both have lost their tests, to their join without
+/// it; so fonts that merge in some order and grouping also merge in it, to what they came to, without the test.
+#[tactic(auto, using(t1_algebra::proofs::Untested::untested_subsets, t1_algebra::proofs::Untested::untested_joins, t1_algebra::proofs::Untested::untested_groupings))]
+pub fn untested_commutes()
+    ensures subsets { UntestedSubsets profile }
+    ensures joins { UntestedJoins profile }
+    ensures groupings { UntestedGroupings profile }
 {}
