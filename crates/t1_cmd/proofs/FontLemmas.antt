@@ -34,7 +34,8 @@ word_stops input answer i file r has =
         (input_stops input i s (says_so input i file (Err s) has (ap {B = Result FontValue Reason} (λ (r : Reason). Err r) same ∙ is)))
 
 -- the font of a file for which a word has a text
-pub word_says : (input : List ℕ → Result FontValue Reason) (answer : FontValue → Result (List ℕ) Reason) (i : Input) (file text : List ℕ) → Has i file → of_input input answer file ≡ Ok text
+pub word_says : (input : List ℕ → Result FontValue Reason) (answer : FontValue → Result (List ℕ) Reason) (i : Input) (file text : List ℕ)
+    → Has i file → of_input input answer file ≡ Ok text
     → (f : FontValue) × Says input i f × (Ok text ≡ answer f)
 word_says input answer i file text has h = by (input file) refl h
   where
@@ -52,8 +53,8 @@ prints_apart answer (x ∷ []) text r h k = cc
 prints_apart answer (x ∷ y ∷ ys) text r h k = absurd h
 
 -- an engine over one font that ends so succeeds where it should
-pub ends_well : (input : List ℕ → Result FontValue Reason) (text : FontValue → Result (List ℕ) Reason) {W : Type 0} (contents : W → Option (List ℕ)) (i : Input) (w v : Counted W)
-    (result : Result (Unit {0}) RunFault) → RunEnds input (Prints text) contents (i ∷ []) w v result
+pub ends_well : (input : List ℕ → Result FontValue Reason) (text : FontValue → Result (List ℕ) Reason)
+    {W : Type 0} (contents : W → Option (List ℕ)) (i : Input) (w v : Counted W) (result : Result (Unit {0}) RunFault) → RunEnds input (Prints text) contents (i ∷ []) w v result
     → Succeeds input (Prints text) (i ∷ []) w v result
 ends_well input text contents i w v result h = ends_succeeds input (Prints text) (prints_apart text) contents (i ∷ []) w v result h
 

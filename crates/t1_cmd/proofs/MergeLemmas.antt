@@ -37,7 +37,8 @@ merges_apart form fs text (Merge e) h k = absurd (apart_at fs h.0 e h.1 k.0 k.1)
 -- ---- inputs
 
 -- what stops the reading stops the engine
-pub inputs_stop : (input : List ℕ → Result FontValue Reason) (Answers : List FontValue → Result (List ℕ) Reason → Type 0) (is : List Input) (e : RunFault) → InputsStop input is e
+pub inputs_stop : (input : List ℕ → Result FontValue Reason) (Answers : List FontValue → Result (List ℕ) Reason → Type 0) (is : List Input) (e : RunFault)
+    → InputsStop input is e
     → Stops input Answers is e
 inputs_stop input Answers is (Refused TooLong) h = inl h
 inputs_stop input Answers is (Refused Memory) h = tt

@@ -2,19 +2,15 @@
 use Rattle.std.proofs.Common.{◌≡◌, ℕ, Bool, true, false, cond, ◌&&◌, List, [], ◌∷◌, map, length, Option, Some, None, is_some}
 use Rattle.std.proofs.Common.{T, refl, sym, ap, subst, ◌∙◌, option_map, unwrap_or, true≢false, Result, Ok, Err, arith}
 use Rattle.std.specs.Prelude.{filter, nat_lt}
-use Rattle.std.specs.List.{AllByRecursion}
 use Rattle.std.specs.Cmp.{nat_cmp_total, Equal-is}
 use Rattle.std.specs.FinMap as fin
 use Rattle.t1_join.specs.TableMeaning.{Rises}
 use Rattle.t1_join.proofs.Searches.{searched}
 use Rattle.std.specs.List.Sorted.{IsSearchInRange, IsBinarySearchResult}
 use Rattle.std.specs.Result.{is_ok}
-use Rattle.t1_font.specs.declared.ranges.Range.{Range}
 use Rattle.t1_font.specs.Evening.{stubs_at, below}
 use Rattle.t1_font.proofs.CutEntries.{entries-retain}
-use Rattle.t1_font.specs.Lent.{AreAmong}
 use Rattle.t1_font.specs.Maps.{merged}
-use Rattle.t1_font.specs.Ranges.{numbered_at}
 use Rattle.t1_font.proofs.MapLemmas.{get-merged, joined}
 use Rattle.std.specs.Ordering.{eq_by_cmp}
 use Rattle.std.specs.Ordering.{nat_cmp, is_lt}
@@ -46,35 +42,21 @@ module _ (own : Numbered) (q : ℕ) where
         | false ↦ λ t. find_filled es
       ] refl
 
--- what holds of each key of a list holds of a key that is found
-holds_found : (buffer : List ℕ) (P : ℕ → Type 0) (q : ℕ) (c : List ℕ) (places : List (ℕ × Range)) →
-    AllByRecursion (λ e. P e.0) places → fin.find nat_cmp q (map (numbered_at buffer) places) ≡ Some c → P q
-holds_found buffer P q c [] h e = cc
-holds_found buffer P q c (p ∷ places) h e = elim (eq_by_cmp nat_cmp q p.0)
-    as (λ b. eq_by_cmp nat_cmp q p.0 ≡ b → cond b (Some (numbered_at buffer p).1) (fin.find nat_cmp q (map (numbered_at buffer) places)) ≡ Some c → P q) [
-      | true ↦ λ t is. subst P (sym (fin.nat_cmp-IsAntisymmetric q p.0 ((Equal-is (nat_cmp q p.0)).0 t))) h.0
-      | false ↦ λ t is. holds_found buffer P q c places h.1 is
-    ] refl e
-
-over : (x y : Option (List ℕ)) → ((c : List ℕ) → x ≡ Some c → is_some y ≡ true) → option_map (unwrap_or x) y ≡ joined x y
+over : (x y : Option (List ℕ)) → (is_some x ≡ true → is_some y ≡ true) → option_map (unwrap_or x) y ≡ joined x y
 over None None h = refl
 over None (Some d) h = refl
-over (Some c) None h = absurd (true≢false (sym (h c refl)))
+over (Some c) None h = absurd (true≢false (sym (h refl)))
 over (Some c) (Some d) h = refl
 
-module _ (buffer : List ℕ) (places : List (ℕ × Range)) (others : List ℕ) (own : Numbered) (is : fin.from_sorted (map (numbered_at buffer) places) ≡ own)
-    (up : Rises nat_cmp (map (numbered_at buffer) places)) (rise : Rises nat_cmp (map stub_at others)) (among : AreAmong others places) where
-  there : (q : ℕ) (c : List ℕ) → fin.get own q ≡ Some c → fin.contains_key (fin.from_sorted {R = nat_cmp} (map stub_at others)) q ≡ true
-  there q c e = holds_found buffer (λ k. fin.contains_key (fin.from_sorted {R = nat_cmp} (map stub_at others)) k ≡ true) q c places among
-      (sym (fin.get-from_sorted nat_cmp (map (numbered_at buffer) places) q up) ∙ (ap (λ (m : Numbered). fin.get m q) is ∙ e))
-
+module _ (others : List ℕ) (own : Numbered) (rise : Rises nat_cmp (map stub_at others)) (all : (q : ℕ) → fin.contains_key own q ≡ true →
+    fin.contains_key (fin.from_sorted {R = nat_cmp} (map stub_at others)) q ≡ true) where
   -- a table that is filled at the indices of a list, which has each of its own, is merged with the stubs there
   pub filled_is : fin.from_sorted {R = nat_cmp} (map (filled_at own) others) ≡ merged own (fin.from_sorted (map stub_at others))
   filled_is = fin.same_map nat_cmp_total fin.nat_cmp-IsAntisymmetric _ _ (λ q.
       fin.get-from_sorted nat_cmp (map (filled_at own) others) q (subst (λ (b : Bool). T b) (sym (same_rise own others)) rise)
       ∙ (find_filled own q others
       ∙ (ap (option_map (unwrap_or (fin.get own q))) (sym (fin.get-from_sorted nat_cmp (map stub_at others) q rise))
-      ∙ (over (fin.get own q) (fin.get (fin.from_sorted (map stub_at others)) q) (there q)
+      ∙ (over (fin.get own q) (fin.get (fin.from_sorted (map stub_at others)) q) (all q)
       ∙ sym (get-merged nat_cmp_total fin.nat_cmp-IsAntisymmetric own (fin.from_sorted (map stub_at others)) q)))))
 
 -- a search finds an index exactly if a list has it

@@ -9,12 +9,13 @@ use Rattle.std.specs.List.{All, AllByRecursion}
 use Rattle.std.specs.List.Sorted.{IsSortedByKey, IsStableByKey, IsStrictlySortedBy, ties}
 use Rattle.std.specs.declared.cmp.Ordering.{Ordering}
 use Rattle.std.specs.declared.cmp.Ordering.TheVariants.{Less, Equal, Greater}
-use Rattle.std.specs.Ordering.{is_lt, is_eq, ordering_reverse}
+use Rattle.std.specs.Ordering.{is_lt, is_eq, on, ordering_reverse}
 use Rattle.std.specs.Cmp.{IsTotalOrder, alike_right, Equal-is}
 use Rattle.std.specs.FinSet.{IsAntisymmetric}
 use Rattle.std.specs.FinMap as fin
 use Rattle.std.specs.Map.{keys_of}
 use Rattle.std.proofs.lemmas.List.Elements.{All-nil, All-cons, All-head, All-tail}
+use Rattle.std.proofs.lemmas.Cmp.{on_total}
 use Rattle.std.proofs.lemmas.List.Sorted.{All-permutation}
 use Rattle.t1_grammar.specs.Grammar.{choice}
 use Rattle.t1_join.specs.Entries.{entries_by}
@@ -86,6 +87,11 @@ module _ {K V : Type 0} {R : K → K → Ordering} (o : IsTotalOrder R) where
   pub all_last : (P : K × V → Type 0) (es last : List (K × V)) → AreLast R es last → All P es → All P last
   all_last P es last are h = subst (All P) (sym are.last_is) (all_ends P are.sorted (All-permutation P es are.sorted are.same h))
 
+  -- nor are there others among entries that are settled
+  pub settled_all : (P : K × V → Type 0) (old new : List (K × V)) → AreSettled R old new → All P old → All P new
+  settled_all P old new (inl is) h = subst (All P) (sym is) h
+  settled_all P old new (inr are) h = all_last P old new are h
+
   above_ends : (e : K × V) (es : List (K × V)) → comes_again R e.0 es ≡ false → IsSortedByKey key R (e ∷ es) → All (λ x. R e.0 x.0 ≡ Less) es
   above_ends e [] alone up = All-nil (λ (x : K × V). R e.0 x.0 ≡ Less)
   above_ends e (f ∷ fs) alone up =
@@ -112,19 +118,9 @@ module _ {K V : Type 0} {R : K → K → Ordering} (o : IsTotalOrder R) where
 
 -- ---- by what keys and values stand for
 
-module _ {K M : Type 0} (f : K → M) (R : K → K → Ordering) (S : M → M → Ordering) (o : IsTotalOrder S) (by : (x y : K) → R x y ≡ S (f x) (f y)) where
-  -- keys are in a total order if what they stand for is
-  pub order : IsTotalOrder R
-  order = record {
-    antisymm = λ x y. by x y ∙ o.antisymm (f x) (f y) ∙ ap ordering_reverse (sym (by y x));
-    trans = λ x y z p q. by x z ∙ o.trans (f x) (f y) (f z) (sym (by x y) ∙ p) (sym (by y z) ∙ q);
-    congr = λ x y z p. by x z ∙ o.congr (f x) (f y) (f z) (sym (by x y) ∙ p) ∙ sym (by y z);
-  }
-
-module _ {K V M X : Type 0} (f : K → M) (g : V → X) (R : K → K → Ordering)
-    (S : M → M → Ordering) (o : IsTotalOrder S) (by : (x y : K) → R x y ≡ S (f x) (f y)) where
+module _ {K V M X : Type 0} (f : K → M) (g : V → X) (S : M → M → Ordering) (o : IsTotalOrder S) where
   abbrev lt : K × V → K × V → Bool
-  lt x y = is_lt (R x.0 y.0)
+  lt x y = is_lt (on f S x.0 y.0)
 
   -- the value of a key is that of the last entry that ties with one of its entries
   value_by : (m : M) (e : K × V) → S m (f e.0) ≡ Equal → (es : List (K × V)) →
@@ -132,7 +128,7 @@ module _ {K V M X : Type 0} (f : K → M) (g : V → X) (R : K → K → Orderin
   value_by m e t [] = refl
   value_by m e t (d ∷ ds) =
       let tied : is_eq (S m (f d.0)) ≡ ties lt e d =
-      ap is_eq (o.congr m (f e.0) (f d.0) t ∙ sym (by e.0 d.0)) ∙ tie_is (R e.0 d.0) (R d.0 e.0) ((order f R S o by).antisymm d.0 e.0) in
+      ap is_eq (o.congr m (f e.0) (f d.0) t) ∙ tie_is (on f S e.0 d.0) (on f S d.0 e.0) (o.antisymm (f d.0) (f e.0)) in
       (λ i. choice (value_by m e t ds i) (cond (tied i) (Some (g d.1)) None))
       ∙ (elim (ties lt e d)
       as (λ b. choice (option_map (λ (x : K × V). g x.1) (last_of (filter (ties lt e) ds))) (cond b (Some (g d.1)) None)
@@ -155,7 +151,7 @@ module _ {K V M X : Type 0} (f : K → M) (g : V → X) (R : K → K → Orderin
   ]
 
   -- where entries that tie stand in their order, each key has its value
-  same_last : (es sorted : List (K × V)) → IsStableByKey (λ (e : K × V). e.0) R es sorted → (m : M) →
+  same_last : (es sorted : List (K × V)) → IsStableByKey (λ (e : K × V). e.0) (on f S) es sorted → (m : M) →
       last_value S m (entries_by f g sorted) ≡ last_value S m (entries_by f g es)
   same_last es sorted stable m = elim (found_or_none m es) [
     | inl e ↦ by_entry e.0 e.1
@@ -169,18 +165,18 @@ module _ {K V M X : Type 0} (f : K → M) (g : V → X) (R : K → K → Orderin
       by_entry e t = value_by m e t sorted ∙ (ap (λ es. option_map (λ (x : K × V). g x.1) (last_of es)) (stable e) ∙ sym (value_by m e t es))
 
   -- a key below all has no value
-  none_above : (m : M) (e : K × V) → S m (f e.0) ≡ Equal → (es : List (K × V)) → All (λ x. R e.0 x.0 ≡ Less) es → last_value S m (entries_by f g es) ≡ None
+  none_above : (m : M) (e : K × V) → S m (f e.0) ≡ Equal → (es : List (K × V)) → All (λ x. on f S e.0 x.0 ≡ Less) es → last_value S m (entries_by f g es) ≡ None
   none_above m e t [] h = refl
   none_above m e t (d ∷ ds) h =
-      let less : S m (f d.0) ≡ Less = o.congr m (f e.0) (f d.0) t ∙ (sym (by e.0 d.0) ∙ All-head (λ (x : K × V). R e.0 x.0 ≡ Less) d ds h) in
-      (λ i. choice (none_above m e t ds (All-tail (λ (x : K × V). R e.0 x.0 ≡ Less) d ds h) i) (cond (is_eq (less i)) (Some (g d.1)) None))
+      let less : S m (f d.0) ≡ Less = o.congr m (f e.0) (f d.0) t ∙ All-head (λ (x : K × V). on f S e.0 x.0 ≡ Less) d ds h in
+      (λ i. choice (none_above m e t ds (All-tail (λ (x : K × V). on f S e.0 x.0 ≡ Less) d ds h) i) (cond (is_eq (less i)) (Some (g d.1)) None))
 
   -- where the next entry has the key, this one's value is not the last
-  passed_over : (m : M) (e : K × V) (es : List (K × V)) → comes_again R e.0 es ≡ true →
+  passed_over : (m : M) (e : K × V) (es : List (K × V)) → comes_again (on f S) e.0 es ≡ true →
       choice (last_value S m (entries_by f g es)) (cond (is_eq (S m (f e.0))) (Some (g e.1)) None) ≡ last_value S m (entries_by f g es)
   passed_over m e [] again = cc
   passed_over m e (d ∷ ds) again =
-      let alike : S m (f d.0) ≡ S m (f e.0) = alike_right o (f d.0) (f e.0) m (sym (by d.0 e.0) ∙ (Equal-is (R d.0 e.0)).0 again) in
+      let alike : S m (f d.0) ≡ S m (f e.0) = alike_right o (f d.0) (f e.0) m ((Equal-is (on f S d.0 e.0)).0 again) in
       ap (λ r. choice (choice (last_value S m (entries_by f g ds)) (cond (is_eq (S m (f d.0))) (Some (g d.1)) None)) (cond (is_eq r) (Some (g e.1)) None))
       (sym alike)
       ∙ by_test (last_value S m (entries_by f g ds)) (is_eq (S m (f d.0)))
@@ -191,37 +187,37 @@ module _ {K V M X : Type 0} (f : K → M) (g : V → X) (R : K → K → Orderin
       by_test None false = refl
 
   -- the last entries of runs have the last value of each key
-  find_ends : (es : List (K × V)) → IsSortedByKey (λ (e : K × V). e.0) R es → (m : M) →
-      fin.find S m (entries_by f g (run_ends R es)) ≡ last_value S m (entries_by f g es)
+  find_ends : (es : List (K × V)) → IsSortedByKey (λ (e : K × V). e.0) (on f S) es → (m : M) →
+      fin.find S m (entries_by f g (run_ends (on f S) es)) ≡ last_value S m (entries_by f g es)
   find_ends [] up m = refl
   find_ends (e ∷ es) up m =
-      let rest = find_ends es (tail_up (order f R S o by) e es up) m in
-      elim (comes_again R e.0 es)
-      as (λ b. comes_again R e.0 es ≡ b → fin.find S m (entries_by f g (cond b (run_ends R es) (e ∷ run_ends R es)))
+      let rest = find_ends es (tail_up (on_total f o) e es up) m in
+      elim (comes_again (on f S) e.0 es)
+      as (λ b. comes_again (on f S) e.0 es ≡ b → fin.find S m (entries_by f g (cond b (run_ends (on f S) es) (e ∷ run_ends (on f S) es)))
       ≡ choice (last_value S m (entries_by f g es)) (cond (is_eq (S m (f e.0))) (Some (g e.1)) None)) [
         | true ↦ λ h. rest ∙ sym (passed_over m e es h)
         | false ↦ λ h. elim (S m (f e.0))
-            as (λ r. S m (f e.0) ≡ r → cond (is_eq r) (Some (g e.1)) (fin.find S m (entries_by f g (run_ends R es)))
+            as (λ r. S m (f e.0) ≡ r → cond (is_eq r) (Some (g e.1)) (fin.find S m (entries_by f g (run_ends (on f S) es)))
             ≡ choice (last_value S m (entries_by f g es)) (cond (is_eq r) (Some (g e.1)) None)) [
               | Less ↦ λ t. rest ∙ sym (choice-none _)
-              | Equal ↦ λ t. ap (λ v. choice v (Some (g e.1))) (sym (none_above m e t es (above_ends (order f R S o by) e es h up)))
+              | Equal ↦ λ t. ap (λ v. choice v (Some (g e.1))) (sym (none_above m e t es (above_ends (on_total f o) e es h up)))
               | Greater ↦ λ t. rest ∙ sym (choice-none _)
             ] refl
       ] refl
 
-module _ {K V M : Type 0} (f : K → M) (g : V → List ℕ) (R : K → K → Ordering) (S : M → M → Ordering) (o : IsTotalOrder S)
-    (same : IsAntisymmetric S) (by : (x y : K) → R x y ≡ S (f x) (f y)) (es last : List (K × V)) (are : AreLast R es last) where
+module _ {K V M : Type 0} (f : K → M) (g : V → List ℕ) (S : M → M → Ordering) (o : IsTotalOrder S) (same : IsAntisymmetric S)
+    (es last : List (K × V)) (are : AreLast (on f S) es last) where
   -- what the keys of the last entries stand for rises
   pub lasts_rise : Rises S (entries_by f g last)
-  lasts_rise = sorted_entries f g R S o same by last (last_rise (order f R S o by) es last are)
+  lasts_rise = sorted_entries f g (on f S) S o same (λ x y. refl) last (last_rise (on_total f o) es last are)
 
   -- the map of the last entries is that of all
   pub lasts_map : fin.from_sorted {R = S} (entries_by f g last) ≡ map_of (entries_by f g es)
   lasts_map = fin.same_map o same _ _ (λ q.
       fin.get-from_sorted S (entries_by f g last) q lasts_rise
       ∙ (ap (λ l. fin.find S q (entries_by f g l)) are.last_is
-      ∙ (find_ends f g R S o by are.sorted are.rise q
-      ∙ (same_last f g R S o by es are.sorted are.stable q ∙ sym (get-map_of o same (entries_by f g es) q)))))
+      ∙ (find_ends f g S o are.sorted are.rise q
+      ∙ (same_last f g S o es are.sorted are.stable q ∙ sym (get-map_of o same (entries_by f g es) q)))))
 
   -- and they are its entries
   pub lasts_are : entries_by f g last ≡ fin.entries {R = S} (map_of (entries_by f g es))
@@ -231,18 +227,11 @@ module _ {K V M : Type 0} (f : K → M) (g : V → List ℕ) (R : K → K → Or
   pub lasts_again : map_of {R = S} (entries_by f g last) ≡ map_of (entries_by f g es)
   lasts_again = ap (map_of {R = S}) lasts_are ∙ map_again o same (map_of (entries_by f g es))
 
--- entries that are settled have the map that they had, and no others are among them
-module _ {K V M : Type 0} (f : K → M) (R : K → K → Ordering) (S : M → M → Ordering)
-    (o : IsTotalOrder S) (by : (x y : K) → R x y ≡ S (f x) (f y)) (old new : List (K × V)) where
-  -- the map stays
-  pub settled_map : IsAntisymmetric S → (g : V → List ℕ) → AreSettled R old new → map_of {R = S} (entries_by f g new) ≡ map_of (entries_by f g old)
-  settled_map same g (inl is) = ap (λ es. map_of {R = S} (entries_by f g es)) is
-  settled_map same g (inr are) = lasts_again f g R S o same by old new are
-
-  -- what holds of all entries still does
-  pub settled_all : (P : K × V → Type 0) → AreSettled R old new → All P old → All P new
-  settled_all P (inl is) h = subst (All P) (sym is) h
-  settled_all P (inr are) h = all_last (order f R S o by) P old new are h
+-- entries that are settled have the map that they had
+pub settled_map : {K V M : Type 0} (f : K → M) (g : V → List ℕ) (S : M → M → Ordering) → IsTotalOrder S → IsAntisymmetric S →
+    (old new : List (K × V)) → AreSettled (on f S) old new → map_of {R = S} (entries_by f g new) ≡ map_of (entries_by f g old)
+settled_map f g S o same old new (inl is) = ap (λ es. map_of {R = S} (entries_by f g es)) is
+settled_map f g S o same old new (inr are) = lasts_again f g S o same old new are
 
 -- ---- the last entries of runs, moved to the front
 

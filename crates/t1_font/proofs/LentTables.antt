@@ -20,6 +20,7 @@ use Rattle.std.proofs.lemmas.List.{append-nil, drop_all, length-map}
 use Rattle.std.proofs.lemmas.Option.{slice_get_within, slice_get_cases, slice_get_past, slice_get-get_or, slice_get-map, get_or_from_slice_get, none-some, same_Some}
 use Rattle.t1_join.specs.TableMeaning.{Rises}
 use Rattle.t1_join.proofs.Searches.{searched}
+use Rattle.t1_join.proofs.Sorted.{map_of}
 use Rattle.t1_join.proofs.TreeEntries.{map_insert, sorted_entries, map_sorted}
 use Rattle.t1_font.specs.declared.lent.Glyph.{Glyph}
 use Rattle.t1_font.specs.FontValue.{name_cmp}
@@ -70,6 +71,11 @@ module _ {K X Y : Type 0} {R : K → K → Ordering} (v : Y → K × X) (ys : Li
   pub stands_not : (i : ℕ) → IsItemAt ys i None → None ≡ slice_get (entries m) i
   stands_not i nowhere = got i None (lent_nowhere ys i nowhere)
 
+  -- so it is with what is copied of what stands there
+  pub stands_copied : (i : ℕ) (r : Option (Bor Y)) → IsItemAt ys i r → option_map v (option_map (λ b. b.now) r) ≡ slice_get (entries m) i
+  stands_copied i None h = stands_not i h
+  stands_copied i (Some x) h = stands i x (v x.now) h refl
+
   -- what a search by halves finds is the place of the key, where the map has it
   module _ (o : IsTotalOrder R) (same : IsAntisymmetric R) (q : K) where
     rise : Rises R (map v ys)
@@ -89,6 +95,10 @@ module _ {K X Y : Type 0} {R : K → K → Ordering} (v : Y → K × X) (ys : Li
       | inr w ↦ absurd (omega (arith, range, w.0))
     ]
     found_place (Err i) range at = sym (ap (option_map (λ b. (q, b))) (finds ∙ searched o v q ys (Err i) rise range at))
+
+-- a table whose entries are a map's is the map
+pub same_table : {K X : Type 0} {R : K → K → Ordering} (own m : FinMap R X) (es : List (K × X)) → es ≡ entries own → from_sorted es ≡ m → own ≡ m
+same_table own m es form is = sym (map_of es own form) ∙ is
 
 -- an entry that is the key with what a map has there
 module _ {K X : Type 0} (q : K) where

@@ -1,28 +1,24 @@
 -- A font of the entries of two, and why these are not one font.
-use Rattle.std.specs.Prelude.{◌<◌, ◌⊎◌, ℕ, cond, List, Option, Some, None, unwrap_or}
+use Rattle.std.specs.Prelude.{◌<◌, ◌⊎◌, ℕ, cond, drop, List, Option, unwrap_or}
 use Rattle.std.specs.declared.cmp.Ordering.{Ordering}
 use Rattle.std.specs.Str.{bytes_eq}
-use Rattle.std.specs.FinMap.{get, len, entries}
-use Rattle.std.specs.FinMap.Entries.{by_order}
-use Rattle.t1_join.specs.Passes.{first_met}
+use Rattle.std.specs.FinMap.{FinMap, get, len, entries}
+use Rattle.t1_join.specs.Passes.{first_met, merge}
 use Rattle.t1_font.specs.declared.parts.PartsFault.{PartsFault}
 use Rattle.t1_font.specs.declared.parts.PartsFault.TheVariants.{Limit, Memory}
 use Rattle.t1_font.specs.FontValue.{FontValue, Encoding, Word, Codes, Named, name_cmp, count_limit, weight_limit, weight}
 use Rattle.t1_font.specs.Cut.{stub}
 use Rattle.t1_font.specs.Maps.{map_values, merged}
 
--- of the next entries of two lists the lower, or the first's where they tie; and by how many places each list goes on then
-abbrev pub lower : {K X : Type 0} → (K → K → Ordering) → Option (K × X) → Option (K × X) → Option ((K × X) × ℕ × ℕ)
-lower R None None = None
-lower R (Some e) None = Some (e, 1, 0)
-lower R None (Some f) = Some (f, 0, 1)
-lower R (Some e) (Some f) = by_order (R e.0 f.0) (Some (e, 1, 0)) (Some (e, 1, 1)) (Some (f, 0, 1))
-
 -- the codes of both tables; of two words the first, which is to be the second too
 abbrev pub join_encodings : Encoding → Encoding → Encoding
 join_encodings (Word w) e = Word w
 join_encodings (Codes m) (Word w) = Codes m
 join_encodings (Codes m) (Codes n) = Codes (merged m n)
+
+-- what two tables have from two places on, upwards by key; of a key that both have, the first's entry
+abbrev pub merged_from : {K X : Type 0} {R : K → K → Ordering} → FinMap R X → FinMap R X → ℕ → ℕ → List (K × X)
+merged_from {R = R} m n i j = merge R (drop i (entries m)) (drop j (entries n))
 
 -- the smallest name for which both tables have a glyph, with different charstrings
 abbrev pub differing_name : Named → Named → Option (List ℕ)

@@ -1,9 +1,7 @@
 -- What borrowed entries stand for.
-use Rattle.std.specs.Prelude.{◌≡◌, ℕ, List, map, true, unwrap_or}
+use Rattle.std.specs.Prelude.{◌≡◌, ℕ, List, map, unwrap_or}
 use Rattle.std.specs.Borrow.{Bor}
-use Rattle.std.specs.FinMap.{get, contains_key, from_sorted, from_entries}
-use Rattle.std.specs.Ordering.{nat_cmp}
-use Rattle.t1_font.specs.declared.ranges.Range.{Range}
+use Rattle.std.specs.FinMap.{get, entries, from_entries}
 use Rattle.std.specs.List.{AllByRecursion}
 use Rattle.t1_font.specs.declared.lent.NumberedForm.{NumberedForm}
 use Rattle.t1_font.specs.declared.lent.NumberedForm.TheVariants as numbers
@@ -12,7 +10,7 @@ use Rattle.t1_font.specs.declared.lent.NamedForm.{NamedForm}
 use Rattle.t1_font.specs.declared.lent.NamedForm.TheVariants as names
 use Rattle.t1_font.specs.Cut.{stub}
 use Rattle.t1_font.specs.FontValue.{Numbered, Named}
-use Rattle.t1_font.specs.Ranges.{numbered_at, named_at}
+use Rattle.t1_font.specs.Ranges.{named_at}
 
 -- an entry by number
 abbrev pub lent_number : ℕ × Bor (List ℕ) → ℕ × List ℕ
@@ -33,13 +31,9 @@ stub_at i = (i, stub)
 abbrev pub filled_at : Numbered → ℕ → ℕ × List ℕ
 filled_at own i = (i, unwrap_or (get own i) stub)
 
--- a list has the index of each place
-abbrev pub AreAmong : List ℕ → List (ℕ × Range) → Type 0
-AreAmong indices places = AllByRecursion (λ e. contains_key (from_sorted {R = nat_cmp} (map stub_at indices)) e.0 ≡ true) places
-
 -- the entries of a table by number, and of one by name, wherever they stand
 abbrev pub numbered_entries : NumberedForm → List (ℕ × List ℕ)
-numbered_entries (numbers.Stored buffer places) = map (numbered_at buffer.now) places.now
+numbered_entries (numbers.Stored own) = entries own
 numbered_entries (numbers.Filled own indices) = map (filled_at own) indices.now
 numbered_entries (numbers.Made entries) = map lent_number entries.items
 

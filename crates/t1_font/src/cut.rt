@@ -15,11 +15,9 @@ ghost use Rattle.t1_font.specs.Maps.{put_all_into, entry_of, map_values};
 
 use crate::font::{Font, FontParts, LentEncoding};
 use crate::lent::{Glyph, Named, Numbered};
+use crate::stub::STUB;
 use std::alloc::{AllocError, Global};
 use std::collections::{BTreeMap, BTreeSet};
-
-/// The charstring `return`, which takes the place of a Subr that is cut (Adobe Type 1 Font Format 1.1, chapter 8).
-pub const STUB: &[u8] = &[11];
 
 /// The values of a map in the order of their keys. The map is used up.
 fn drain<K: Ord + Drop, V: Drop>(alloc: Global, map: BTreeMap<K, V>) -> Result<Vec<V>, AllocError>

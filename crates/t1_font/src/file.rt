@@ -22,8 +22,8 @@ use crate::fault::ReadFault;
 use crate::gathered::Gathered;
 use crate::limits::{COUNT_LIMIT, WEIGHT_LIMIT};
 use crate::private::{PrivateParts, private_parts};
-use crate::repeats::{last_entries, last_names};
-use crate::shell::kept_shell;
+use crate::read_shell::kept_shell;
+use crate::repeats::{ByName, ByNumber, last_entries};
 use crate::source::{KeptEncoding, Source, SourceParts, keep_codes};
 use crate::subrs::SubrsParts;
 use std::alloc::{AllocError, Global};
@@ -133,8 +133,11 @@ fn source_parts(
     let shell = kept_shell(alloc, outside, inside)?;
     let buffer = gathered.buffer;
     let encoding = kept_encoding(alloc, outside.encoding, gathered.codes)?;
-    let glyphs = last_names(buffer.as_slice(), gathered.glyphs)?;
-    let subrs = last_entries(gathered.subrs)?;
+    let names = ByName {
+        buffer: buffer.as_slice(),
+    };
+    let glyphs = last_entries(gathered.glyphs, names)?;
+    let subrs = last_entries(gathered.subrs, ByNumber)?;
     Ok(SourceParts {
         shell,
         encoding,

@@ -10,11 +10,12 @@ ghost use Rattle.t1_font.specs.Filling.{Fills, FillRefuses, filled_by, FontRefus
 ghost use Rattle.t1_font.specs.Lent.{stub_at};
 ghost use Rattle.t1_join.specs.TableMeaning.{Rises};
 
-use crate::cut::{STUB, cut_subrs};
+use crate::cut::cut_subrs;
 use crate::font::{Font, FontParts};
 use crate::lent::Numbered;
 use crate::limits::WEIGHT_LIMIT;
 use crate::parts::{PartsFault, join_codes};
+use crate::stub::STUB;
 use std::alloc::{AllocError, Global};
 use std::collections::BTreeSet;
 

@@ -15,7 +15,7 @@ ghost use Rattle.t1_font.specs.Ranges.{bytes_at, IsInside};
 
 use crate::places::Place;
 use crate::ranges::Range;
-use crate::repeats::{ROOM, settle, settle_names};
+use crate::repeats::{ByName, ByNumber, ROOM, settle};
 use std::alloc::{AllocError, Global};
 use std::marker::Model;
 use t1_bytes::{CHARSTRING_KEY, decrypt};
@@ -157,7 +157,7 @@ impl<'a> Gathered<'a> {
               glyphs = self.old.glyphs;
             }) }
     {
-        self.code_room = settle(&mut self.codes, self.code_room)?;
+        self.code_room = settle(&mut self.codes, ByNumber, self.code_room)?;
         self.codes.push((code as u16, name))?;
         Ok(())
     }
@@ -173,7 +173,7 @@ impl<'a> Gathered<'a> {
     pub(crate) fn settle_codes(&mut self) -> Result<(), AllocError>
         ensures { OnOk result (self.new ≡ self.old) }
     {
-        self.code_room = settle(&mut self.codes, 0)?;
+        self.code_room = settle(&mut self.codes, ByNumber, 0)?;
         Ok(())
     }
 
@@ -196,7 +196,7 @@ impl<'a> Gathered<'a> {
               glyphs = self.old.glyphs;
             }) }
     {
-        self.subr_room = settle(&mut self.subrs, self.subr_room)?;
+        self.subr_room = settle(&mut self.subrs, ByNumber, self.subr_room)?;
         let cipher = part_at(self.buffer.len(), body);
         let plain = behind_lead(cipher, len_iv);
         self.subrs.push((index, plain))?;
@@ -226,7 +226,10 @@ impl<'a> Gathered<'a> {
                   (plain_of len_iv (placed self.old.rest body));
             }) }
     {
-        self.glyph_room = settle_names(&mut self.glyphs, self.buffer.as_slice(), self.glyph_room)?;
+        let names = ByName {
+            buffer: self.buffer.as_slice(),
+        };
+        self.glyph_room = settle(&mut self.glyphs, names, self.glyph_room)?;
         let name = part_at(self.buffer.len(), name);
         let cipher = part_at(self.buffer.len(), body);
         let plain = behind_lead(cipher, len_iv);

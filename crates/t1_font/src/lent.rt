@@ -5,7 +5,7 @@
 //! in a list that it shares with others. Beside `copy` and `filled_at`, only `len`, `at` and `place_of` ask which of these
 //! a table is; all other functions go by places.
 
-ghost use Rattle.std.specs.Prelude.{◌≡◌, ◌+◌, ◌<◌, max, map, true, IfOk, IfSome};
+ghost use Rattle.std.specs.Prelude.{◌≡◌, ◌+◌, ◌<◌, ℕ, max, map, true, IfOk, IfSome};
 ghost use Rattle.std.specs.List.{slice_get};
 ghost use Rattle.t1_font.specs.Maps.{merged};
 ghost use Rattle.std.specs.Option.{option_map, option_and_then};
@@ -15,12 +15,14 @@ ghost use Rattle.t1_join.specs.TableMeaning.{Rises};
 ghost use Rattle.t1_font.specs.FontValue.{name_cmp, total, subr_weight, glyph_weight};
 ghost use Rattle.t1_font.specs.FontModel.{clamp};
 ghost use Rattle.t1_font.specs.Filling.{has_none};
-ghost use Rattle.t1_font.specs.Lent.{lent_number, stub_at, filled_at, AreAmong, lent_glyph};
-ghost use Rattle.t1_font.specs.Ranges.{numbered_at, named_at};
+ghost use Rattle.t1_font.specs.Lent.{lent_number, stub_at, filled_at, lent_glyph};
+ghost use Rattle.t1_font.specs.Ranges.{named_at};
 
 use crate::ranges::Range;
 use crate::stored::StoredSubrs;
+use crate::tables::SortedTable;
 use std::alloc::{AllocError, Global};
+use std::cmp::Ordering;
 use std::marker::Model;
 
 /// The weight of a Subr of this many bytes, as far as 64 bits hold it. A Subr of no bytes weighs as much as one of one
@@ -39,6 +41,7 @@ pub(crate) fn glyph_weight(len_iv: u8, len: usize) -> u64
 }
 
 /// Whether a list has an index.
+#[tactic(auto, using(crate::proofs::FilledTables::among_is))]
 fn is_among(indices: &[u16], index: u16) -> bool
     requires { Rises nat_cmp (map stub_at indices.now) }
     ensures { result
@@ -47,27 +50,11 @@ fn is_among(indices: &[u16], index: u16) -> bool
     indices.binary_search(&index).is_ok()
 }
 
-/// Whether a list has the index of each place.
-fn are_among(places: &[(u16, Range)], indices: &[u16]) -> bool
-    requires { Rises nat_cmp (map stub_at indices.now) }
-    ensures { result ≡ true → AreAmong indices.now places.now }
-{
-    'places: for (index, _) in places {
-        if !is_among(indices, *index) {
-            return false;
-        }
-    }
-    true
-}
-
 /// Where a table by number has its entries.
 #[derive(Drop)]
 pub(crate) enum NumberedForm<'a> {
-    /// In a source: its buffer, and the place of each there.
-    Stored {
-        buffer: &'a [u8],
-        places: &'a [(u16, Range)],
-    },
+    /// In a source.
+    Stored(StoredSubrs<'a>),
     /// In a source, and stubs at the other indices of a list.
     Filled {
         own: StoredSubrs<'a>,
@@ -102,16 +89,17 @@ impl<'a> Model for Numbered<'a> {
 
 impl<'a> Numbered<'a> {
     /// The table of a source, as it stands there.
-    pub(crate) fn stored(buffer: &'a [u8], places: &'a [(u16, Range)]) -> Self
-        requires { Rises nat_cmp (map (numbered_at buffer.now) places.now) }
-        ensures { result ≡ fin.from_sorted (map (numbered_at buffer.now) places.now) }
+    #[tactic(auto, using(t1_join::proofs::Sorted::map_of))]
+    pub(crate) fn stored(own: StoredSubrs<'a>) -> Self
+        ensures { result ≡ own.entry }
     {
         Numbered {
-            form: NumberedForm::Stored { buffer, places },
+            form: NumberedForm::Stored(own),
         }
     }
 
     /// A source's Subrs, and stubs, at the indices of a list.
+    #[tactic(auto, using(crate::proofs::FilledTables::same_rise))]
     fn filled(own: StoredSubrs<'a>, indices: &'a [u16]) -> Self
         requires { Rises nat_cmp (map stub_at indices.now) }
         ensures { result ≡ fin.from_sorted (map (filled_at own.entry) indices.now) }
@@ -123,18 +111,36 @@ impl<'a> Numbered<'a> {
 
     /// The Subrs of a source, and a stub at each other index of a list, if the list has each of their indices. This takes
     /// no room.
+    #[tactic(auto, using(crate::proofs::LentTables::same_table, crate::proofs::FilledTables::filled_is))]
     pub(crate) fn filled_at(&self, indices: &'a [u16]) -> Option<Self>
         requires { Rises nat_cmp (map stub_at indices.now) }
         ensures { IfSome result (λ m. m
             ≡ merged self.now (fin.from_sorted (map stub_at indices.now))) }
     {
-        let NumberedForm::Stored { buffer, places } = &self.form else {
+        let NumberedForm::Stored(own) = &self.form else {
             return None;
         };
-        if !are_among(places, indices) {
+        if !self.are_among(indices) {
             return None;
         }
-        Some(Numbered::filled(StoredSubrs::new(buffer, places), indices))
+        Some(Numbered::filled(own.again(), indices))
+    }
+
+    /// Whether a list has the number of each entry.
+    #[tactic(auto, using(std::proofs::lemmas::Map::Iter::rest_more, std::proofs::lemmas::Map::Iter::rest_all, crate::proofs::even_fonts::Filled::all_left, crate::proofs::even_fonts::Filled::one_known, crate::proofs::even_fonts::Filled::all_known))]
+    fn are_among(&self, numbers: &[u16]) -> bool
+        requires { Rises nat_cmp (map stub_at numbers.now) }
+        ensures { result ≡ true
+            → (q : ℕ)
+            → fin.contains_key self.now q ≡ true
+            → fin.contains_key (fin.from_sorted {R = nat_cmp} (map stub_at numbers.now)) q ≡ true }
+    {
+        'entries: for (number, _) in self.entries() {
+            if !is_among(numbers, number) {
+                return false;
+            }
+        }
+        true
     }
 
     /// The table of these entries, which stand upwards by number.
@@ -148,46 +154,26 @@ impl<'a> Numbered<'a> {
     }
 
     /// The same entries. A table of a source is lent once more, and takes no room; any other is copied.
+    #[tactic(auto, using(crate::proofs::LentTables::same_table, crate::proofs::FilledTables::same_rise))]
     pub fn copy(&self, alloc: Global) -> Result<Self, AllocError>
         ensures { IfOk result (λ m. m ≡ self.now) }
     {
         match &self.form {
-            NumberedForm::Stored { buffer, places } => Ok(Numbered::stored(buffer, places)),
+            NumberedForm::Stored(own) => Ok(Numbered::stored(own.again())),
             NumberedForm::Filled { own, indices } => Ok(Numbered::filled(own.again(), indices)),
             NumberedForm::Made(entries) => Ok(Numbered::made(Vec::from_slice(alloc, entries)?)),
         }
     }
 
     /// How many entries the table has.
+    #[tactic(auto, using(crate::proofs::LentTables::count_is, crate::proofs::LentTables::same_table))]
     pub fn len(&self) -> usize
         ensures { result ≡ fin.len self.now }
     {
         match &self.form {
-            NumberedForm::Stored { places, .. } => places.len(),
+            NumberedForm::Stored(own) => own.len(),
             NumberedForm::Filled { indices, .. } => indices.len(),
             NumberedForm::Made(entries) => entries.len(),
-        }
-    }
-
-    /// The entry at a place; places are counted upwards by number, from 0. The place after an entry fits in a `usize`.
-    #[inline(always)]
-    pub(crate) fn at(&self, place: usize) -> Option<(u16, &'a [u8])>
-        ensures entry { option_map lent_number result ≡ slice_get (fin.entries self.now) place }
-        ensures short { IfSome result (λ _. place < 18446744073709551615) }
-    {
-        match &self.form {
-            NumberedForm::Stored { buffer, places } => {
-                let (number, body) = places.get(place)?;
-                Some((*number, body.of(buffer)))
-            }
-            NumberedForm::Filled { own, indices } => {
-                let index = *indices.get(place)?;
-                Some((index, own.get_or_stub(index)))
-            }
-            NumberedForm::Made(entries) => {
-                let (number, body) = entries.get(place)?;
-                Some((*number, *body))
-            }
         }
     }
 
@@ -198,9 +184,7 @@ impl<'a> Numbered<'a> {
             ≡ option_map (λ b. (number, b)) (fin.get self.now number) }
     {
         match &self.form {
-            NumberedForm::Stored { places, .. } => {
-                places.binary_search_by_key(&number, |entry| entry.0).ok()
-            }
+            NumberedForm::Stored(own) => own.place_of(number),
             NumberedForm::Filled { indices, .. } => indices.binary_search(&number).ok(),
             NumberedForm::Made(entries) => {
                 entries.binary_search_by_key(&number, |entry| entry.0).ok()
@@ -209,6 +193,7 @@ impl<'a> Numbered<'a> {
     }
 
     /// The byte string at a number.
+    #[tactic(auto, using(crate::proofs::LentTables::value_there))]
     pub fn get(&self, number: u16) -> Option<&'a [u8]>
         ensures { option_map (λ b. b.now) result ≡ fin.get self.now number }
     {
@@ -256,6 +241,40 @@ impl<'a> Numbered<'a> {
     }
 }
 
+impl<'a> SortedTable for Numbered<'a> {
+    ghost use Rattle.std.specs.Prelude.{ℕ};
+    ghost use Rattle.std.specs.Ordering.{nat_cmp};
+    ghost use Rattle.t1_font.specs.Lent.{lent_number};
+
+    ghost Key = { ℕ };
+
+    ghost order = { nat_cmp };
+
+    ghost table = { λ m. m };
+
+    type Entry = (u16, &'a [u8]);
+
+    ghost entry = { lent_number };
+
+    #[inline(always)]
+    #[tactic(auto, using(crate::proofs::LentTables::stands, crate::proofs::LentTables::stands_not, crate::proofs::LentTables::stands_copied, crate::proofs::LentTables::same_table))]
+    fn at(&self, place: usize) -> Option<(u16, &'a [u8])> {
+        match &self.form {
+            NumberedForm::Stored(own) => own.at(place),
+            NumberedForm::Filled { own, indices } => {
+                let index = *indices.get(place)?;
+                Some((index, own.get_or_stub(index)))
+            }
+            NumberedForm::Made(entries) => entries.get(place).copied(),
+        }
+    }
+
+    #[inline(always)]
+    fn compare(one: &(u16, &'a [u8]), other: &(u16, &'a [u8])) -> Ordering {
+        one.0.cmp(&other.0)
+    }
+}
+
 /// The entries of a table, upwards by number.
 #[derive(Drop)]
 pub struct NumberedEntries<'t, 'a> {
@@ -285,6 +304,7 @@ impl<'t, 'a> Iterator for NumberedEntries<'t, 'a> {
     ghost remaining = { λ s. at_most (length s) };
 
     #[inline(always)]
+    #[tactic(auto, using(crate::proofs::LentTables::from_place, crate::proofs::LentTables::past_all))]
     fn next(&mut self) -> Option<(u16, &'a [u8])> {
         let entry = self.table.at(self.place)?;
         self.place += 1;
@@ -383,29 +403,13 @@ impl<'a> Named<'a> {
     }
 
     /// How many glyphs the table has.
+    #[tactic(auto, using(crate::proofs::LentTables::count_is))]
     pub fn len(&self) -> usize
         ensures { result ≡ fin.len self.now }
     {
         match &self.form {
             NamedForm::Stored { places, .. } => places.len(),
             NamedForm::Made(glyphs) => glyphs.len(),
-        }
-    }
-
-    /// The glyph at a place; places are counted upwards by name, from 0. The place after a glyph fits in a `usize`.
-    pub(crate) fn at(&self, place: usize) -> Option<Glyph<'a>>
-        ensures entry { option_map lent_glyph result ≡ slice_get (fin.entries self.now) place }
-        ensures short { IfSome result (λ _. place < 18446744073709551615) }
-    {
-        match &self.form {
-            NamedForm::Stored { buffer, places } => {
-                let places = places.get(place)?;
-                Some(Glyph { buffer, places })
-            }
-            NamedForm::Made(glyphs) => {
-                let glyph = glyphs.get(place)?;
-                Some(*glyph)
-            }
         }
     }
 
@@ -431,6 +435,7 @@ impl<'a> Named<'a> {
     }
 
     /// The charstring of a name.
+    #[tactic(auto, using(crate::proofs::LentTables::value_there))]
     pub fn get(&self, name: &[u8]) -> Option<&'a [u8]>
         ensures { option_map (λ b. b.now) result ≡ fin.get self.now name.now }
     {
@@ -458,6 +463,38 @@ impl<'a> Named<'a> {
             weight = weight.saturating_add(glyph_weight(len_iv, body.len()));
         }
         weight
+    }
+}
+
+impl<'a> SortedTable for Named<'a> {
+    ghost use Rattle.std.specs.Prelude.{List, ℕ};
+    ghost use Rattle.t1_font.specs.FontValue.{name_cmp};
+    ghost use Rattle.t1_font.specs.Lent.{lent_glyph};
+
+    ghost Key = { List ℕ };
+
+    ghost order = { name_cmp };
+
+    ghost table = { λ m. m };
+
+    type Entry = Glyph<'a>;
+
+    ghost entry = { lent_glyph };
+
+    #[tactic(auto, using(crate::proofs::LentTables::stands, crate::proofs::LentTables::stands_not, crate::proofs::LentTables::stands_copied))]
+    fn at(&self, place: usize) -> Option<Glyph<'a>> {
+        match &self.form {
+            NamedForm::Stored { buffer, places } => {
+                let places = places.get(place)?;
+                Some(Glyph { buffer, places })
+            }
+            NamedForm::Made(glyphs) => glyphs.get(place).copied(),
+        }
+    }
+
+    #[inline(always)]
+    fn compare(one: &Glyph<'a>, other: &Glyph<'a>) -> Ordering {
+        one.name().cmp(other.name())
     }
 }
 
@@ -489,6 +526,7 @@ impl<'t, 'a> Iterator for NamedEntries<'t, 'a> {
 
     ghost remaining = { λ s. at_most (length s) };
 
+    #[tactic(auto, using(crate::proofs::LentTables::from_place, crate::proofs::LentTables::past_all))]
     fn next(&mut self) -> Option<(&'a [u8], &'a [u8])> {
         let glyph = self.table.at(self.place)?;
         self.place += 1;

@@ -39,16 +39,19 @@ mod passes;
 mod places;
 mod private;
 mod ranges;
+mod read_shell;
 mod repeats;
 mod shell;
 mod source;
 mod stored;
+mod stub;
 mod subrs;
+mod tables;
 mod tags;
 mod words;
 mod writing;
 
-pub use cut::{STUB, restrict};
+pub use cut::restrict;
 pub use evening::even_shells;
 pub use fault::ReadFault;
 pub use file::{read, read_vec, read_wide, read_wide_vec};
@@ -60,6 +63,7 @@ pub use parts::{PartsFault, join_parts};
 pub use passes::{BothGlyphs, Extent, join_glyphs, join_same_glyphs};
 pub use shell::Shell;
 pub use source::Source;
+pub use stub::STUB;
 pub use t1_bytes::Form;
 pub use t1_run::{
     Curve, DrawFault, Drawing, DrawnPart, Fault, Layout, Mark, Pen, PlacedPart, Point, draw,

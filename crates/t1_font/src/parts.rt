@@ -5,15 +5,15 @@ ghost use Rattle.std.specs.Option.{option_map};
 ghost use Rattle.std.specs.FinMap as fin;
 ghost use Rattle.t1_font.specs.FontModel.{encoding_of};
 ghost use Rattle.t1_font.specs.Maps.{map_values, merged};
-ghost use Rattle.t1_font.specs.Joins.{lower, joined_subr, join_encodings, join_parts, Refuses};
+ghost use Rattle.t1_font.specs.Joins.{joined_subr, join_encodings, join_parts, Refuses};
 ghost use Rattle.t1_font.specs.WriteLaws.{SameKind};
 
-use crate::cut::STUB;
 use crate::font::{Font, FontParts, LentEncoding};
 use crate::lent::Numbered;
 use crate::passes::join_glyphs;
+use crate::stub::STUB;
+use crate::tables::push_both;
 use std::alloc::{AllocError, Global};
-use std::cmp::Ordering;
 use std::fmt;
 
 /// Why the entries of two fonts don't make one font.
@@ -52,26 +52,8 @@ impl From<AllocError> for PartsFault {
     }
 }
 
-/// The entry of two tables that comes next, and by how many places each table then goes on.
-type Next<K, V> = ((K, V), usize, usize);
-
-/// The lower of the next entries of two tables. If both have the same key, it is the first's, and both tables go on.
-fn lower<K: Ord + Copy, V: Copy>(here: Option<(K, V)>, there: Option<(K, V)>) -> Option<Next<K, V>>
-    ensures { result ≡ lower K.cmp here there }
-{
-    match (here, there) {
-        (None, None) => None,
-        (Some(here), None) => Some((here, 1, 0)),
-        (None, Some(there)) => Some((there, 0, 1)),
-        (Some(here), Some(there)) => match here.0.cmp(&there.0) {
-            Ordering::Less => Some((here, 1, 0)),
-            Ordering::Equal => Some((here, 1, 1)),
-            Ordering::Greater => Some((there, 0, 1)),
-        },
-    }
-}
-
 /// The codes of both fonts, in one pass over both tables. If both have a code, the first's name stands.
+#[tactic(auto, using(crate::proofs::TablePasses::put_out, crate::proofs::TablePasses::merge_rises, crate::proofs::TablePasses::merge_is, std::proofs::lemmas::Cmp::nat_cmp_total, crate::proofs::canonical::FontAgain::number_same))]
 pub(crate) fn join_codes<'a>(
     alloc: Global,
     first: &Numbered<'a>,
@@ -80,13 +62,7 @@ pub(crate) fn join_codes<'a>(
     ensures { IfOk result (λ m. m ≡ merged first.now second.now) }
 {
     let mut all = Vec::with_capacity(alloc, first.len().saturating_add(second.len()))?;
-    let mut i = 0;
-    let mut j = 0;
-    'pass: while let Some((entry, of_first, of_second)) = lower(first.at(i), second.at(j)) {
-        all.push(entry)?;
-        i += of_first;
-        j += of_second;
-    }
+    push_both(&mut all, first, second, (0, 0))?;
     Ok(Numbered::made(all))
 }
 

@@ -1,16 +1,15 @@
 //! One pass over two tables of glyphs.
 
-ghost use Rattle.std.specs.Prelude.{◌≡◌, ◌+◌, ◌++◌, IfOk, OnOk, MatchOption, None, is_some, true, length, map, drop};
+ghost use Rattle.std.specs.Prelude.{◌≡◌, ◌+◌, IfOk, MatchOption, None, is_some, true, length};
 ghost use Rattle.std.specs.Option.{option_map};
 ghost use Rattle.std.specs.FinMap as fin;
-ghost use Rattle.std.specs.Map.Iter.{TakesFirst};
 ghost use Rattle.t1_font.specs.FontValue.{total, glyph_weight};
 ghost use Rattle.t1_font.specs.FontModel.{clamp};
 ghost use Rattle.t1_font.specs.Joins.{differing_name};
 ghost use Rattle.t1_font.specs.Maps.{merged};
-ghost use Rattle.t1_font.specs.Lent.{lent_glyph};
 
-use crate::lent::{Glyph, Named, glyph_weight};
+use crate::lent::{Named, glyph_weight};
+use crate::tables::{SortedTable, next_of, push_both};
 use std::alloc::{AllocError, Global};
 use std::cmp::Ordering;
 use std::marker::Model;
@@ -25,50 +24,12 @@ pub struct BothGlyphs<'t, 'a> {
 }
 
 impl<'t, 'a> Model for BothGlyphs<'t, 'a> {
-    ghost use Rattle.std.specs.Prelude.{List, ℕ, drop};
-    ghost use Rattle.std.specs.FinMap as fin;
-    ghost use Rattle.t1_join.specs.Passes.{merge};
-    ghost use Rattle.t1_font.specs.FontValue.{name_cmp};
+    ghost use Rattle.std.specs.Prelude.{List, ℕ};
+    ghost use Rattle.t1_font.specs.Joins.{merged_from};
 
     ghost Value = { List (List ℕ × List ℕ) };
 
-    ghost view = { λ s. merge name_cmp (drop s.i (fin.entries s.first.now))
-        (drop s.j (fin.entries s.second.now)) };
-}
-
-impl<'t, 'a> BothGlyphs<'t, 'a> {
-    /// The next glyph.
-    #[tactic(auto, using(crate::proofs::TablePasses::none_ahead, crate::proofs::TablePasses::first_alone, crate::proofs::TablePasses::second_alone, crate::proofs::TablePasses::first_lower, crate::proofs::TablePasses::both_tie, crate::proofs::TablePasses::second_lower))]
-    fn next_glyph(&mut self) -> Option<Glyph<'a>>
-        ensures { TakesFirst lent_glyph self.old result self.new }
-    {
-        match (self.first.at(self.i), self.second.at(self.j)) {
-            (None, None) => None,
-            (Some(one), None) => {
-                self.i += 1;
-                Some(one)
-            }
-            (None, Some(other)) => {
-                self.j += 1;
-                Some(other)
-            }
-            (Some(one), Some(other)) => match one.name().cmp(other.name()) {
-                Ordering::Less => {
-                    self.i += 1;
-                    Some(one)
-                }
-                Ordering::Equal => {
-                    self.i += 1;
-                    self.j += 1;
-                    Some(one)
-                }
-                Ordering::Greater => {
-                    self.j += 1;
-                    Some(other)
-                }
-            },
-        }
-    }
+    ghost view = { λ s. merged_from s.first.now s.second.now s.i s.j };
 }
 
 impl<'t, 'a> Iterator for BothGlyphs<'t, 'a> {
@@ -84,7 +45,9 @@ impl<'t, 'a> Iterator for BothGlyphs<'t, 'a> {
     ghost remaining = { λ s. at_most (length s) };
 
     fn next(&mut self) -> Option<(&'a [u8], &'a [u8])> {
-        let glyph = self.next_glyph()?;
+        let (glyph, i, j) = next_of(self.first, self.second, self.i, self.j)?;
+        self.i = i;
+        self.j = j;
         Some((glyph.name(), glyph.body()))
     }
 }
@@ -99,6 +62,7 @@ pub struct Extent {
 impl<'a> Named<'a> {
     /// The glyphs of this table and of another, upwards by the bytes of their names. If both have a name, this table's
     /// glyph stands. It takes no memory.
+    #[tactic(auto, using(crate::proofs::TablePasses::merged_entries, std::proofs::lemmas::Cmp::nat_list_cmp_total, crate::proofs::canonical::FontAgain::name_same))]
     pub fn entries_with<'t>(&'t self, other: &'t Named<'a>) -> BothGlyphs<'t, 'a>
         ensures { result ≡ fin.entries (merged self.now other.now) }
     {
@@ -154,6 +118,7 @@ impl<'a> Named<'a> {
 }
 
 /// The glyphs of both tables, in one pass over both. If both have a name, the first's glyph stands.
+#[tactic(auto, using(crate::proofs::TablePasses::put_out, crate::proofs::TablePasses::merge_rises, crate::proofs::TablePasses::merge_is, std::proofs::lemmas::Cmp::nat_list_cmp_total, crate::proofs::canonical::FontAgain::name_same))]
 pub fn join_glyphs<'a>(
     alloc: Global,
     first: &Named<'a>,
@@ -162,28 +127,8 @@ pub fn join_glyphs<'a>(
     ensures { IfOk result (λ m. m ≡ merged first.now second.now) }
 {
     let mut all = Vec::with_capacity(alloc, first.len().saturating_add(second.len()))?;
-    let mut both = first.entries_with(second);
-    'pass: while let Some(glyph) = both.next_glyph() {
-        all.push(glyph)?;
-    }
+    push_both(&mut all, first, second, (0, 0))?;
     Ok(Named::made(all))
-}
-
-/// Adds the glyphs of a table from a place on.
-fn push_from<'a>(
-    all: &mut Vec<Glyph<'a>>,
-    table: &Named<'a>,
-    place: usize,
-) -> Result<(), AllocError>
-    ensures { OnOk result (map lent_glyph all.new.items
-        ≡ map lent_glyph all.old.items ++ drop place (fin.entries table.now)) }
-{
-    let mut place = place;
-    'glyphs: while let Some(glyph) = table.at(place) {
-        all.push(glyph)?;
-        place += 1;
-    }
-    Ok(())
 }
 
 /// The glyphs of both tables, in one pass over both, or `None` if both have a name with different charstrings.
@@ -220,7 +165,6 @@ pub fn join_same_glyphs<'a>(
             }
         }
     }
-    push_from(&mut all, first, i)?;
-    push_from(&mut all, second, j)?;
+    push_both(&mut all, first, second, (i, j))?;
     Ok(Some(Named::made(all)))
 }

@@ -1,10 +1,12 @@
 //! Entries whose keys may be repeated: the last entry of each key stands.
 
-ghost use Rattle.std.specs.Prelude.{◌≡◌, ◌≤◌, ℕ, [], map, length, drop, IfOk, OnOk, OnErr};
-ghost use Rattle.std.specs.FinMap.{entries};
+ghost use Rattle.std.specs.Prelude.{◌≡◌, ◌≤◌, [], length, drop, IfOk, OnOk, OnErr};
+ghost use Rattle.std.specs.Cmp.{IsTotalOrder, nat_cmp_total};
+ghost use Rattle.std.specs.Cmp.Lexicographic.{on_texts};
+ghost use Rattle.std.specs.Ordering.{nat_cmp};
+ghost use Rattle.std.specs.declared.cmp.Ordering.{Ordering};
 ghost use Rattle.t1_font.specs.Entries.{comes_again, run_end, run_ends, AreLast, AreSettled};
-ghost use Rattle.t1_font.specs.Gathering.{gathered_glyphs};
-ghost use Rattle.t1_font.specs.Ranges.{AllInside, NamesInside, named_at, by_name};
+ghost use Rattle.t1_font.specs.Ranges.{bytes_at, by_name};
 
 use crate::ranges::Range;
 use std::alloc::AllocError;
@@ -14,6 +16,47 @@ use std::mem;
 /// How many entries of a table are gathered before the first look for repeated keys.
 pub(crate) const ROOM: usize = 4096;
 
+/// An order of keys, which may look elsewhere for what they stand for.
+pub(crate) trait KeyOrder<K>: Copy + Drop {
+    ghost by: { Self → K → K → Ordering };
+
+    /// The order of two keys.
+    fn compare(self, one: &K, other: &K) -> Ordering
+        ensures { result ≡ by self one.now other.now };
+
+    ghost total: { (order : Self) → IsTotalOrder (by order) };
+}
+
+/// The order of numbers.
+#[derive(Clone, Copy)]
+pub(crate) struct ByNumber;
+
+impl KeyOrder<u16> for ByNumber {
+    ghost by = { λ _. nat_cmp };
+
+    ghost total = { λ _. nat_cmp_total };
+
+    fn compare(self, one: &u16, other: &u16) -> Ordering {
+        one.cmp(other)
+    }
+}
+
+/// The order of names that stand in a buffer.
+#[derive(Clone, Copy)]
+pub(crate) struct ByName<'a> {
+    pub(crate) buffer: &'a [u8],
+}
+
+impl<'a> KeyOrder<Range> for ByName<'a> {
+    ghost by = { λ order. by_name order.buffer.now };
+
+    ghost total = { λ order. on_texts (bytes_at order.buffer.now) };
+
+    fn compare(self, one: &Range, other: &Range) -> Ordering {
+        one.of(self.buffer).cmp(other.of(self.buffer))
+    }
+}
+
 /// How many entries there may be until the next look, if this many are left: twice as many, so that a table of repeated
 /// keys takes no more room than a table with each of them once.
 fn next_room(left: usize) -> usize {
@@ -21,11 +64,12 @@ fn next_room(left: usize) -> usize {
 }
 
 /// If there are this many entries, keeps only the last of each key. Answers how many there may be until the next time.
-pub(crate) fn settle<K: Ord + Copy + Drop, V: Copy + Drop>(
+pub(crate) fn settle<K: Copy + Drop, V: Copy + Drop, O: KeyOrder<K>>(
     entries: &mut Vec<(K, V)>,
+    order: O,
     room: usize,
 ) -> Result<usize, AllocError>
-    ensures settled { OnOk result (AreSettled K.cmp entries.old.items entries.new.items) }
+    ensures settled { OnOk result (AreSettled (O.by order) entries.old.items entries.new.items) }
     ensures lost { OnErr result (entries.new.items ≡ []) }
 {
     if entries.len() < room {
@@ -33,67 +77,46 @@ pub(crate) fn settle<K: Ord + Copy + Drop, V: Copy + Drop>(
     }
     let alloc = *entries.allocator();
     let all = mem::replace(entries, Vec::new(alloc));
-    let last = last_entries(all)?;
-    let next = next_room(last.len());
-    *entries = last;
-    Ok(next)
-}
-
-/// The same for entries by name, whose names and charstrings stand in a buffer.
-pub(crate) fn settle_names(
-    entries: &mut Vec<(Range, Range)>,
-    buffer: &[u8],
-    room: usize,
-) -> Result<usize, AllocError>
-    ensures settled { OnOk result (gathered_glyphs buffer.now entries.new.items
-        ≡ gathered_glyphs buffer.now entries.old.items) }
-    ensures inside { OnOk result ((n : ℕ)
-        → NamesInside n entries.old.items
-        → AllInside n entries.old.items
-        → NamesInside n entries.new.items × AllInside n entries.new.items) }
-    ensures lost { OnErr result (entries.new.items ≡ []) }
-{
-    if entries.len() < room {
-        return Ok(room);
-    }
-    let alloc = *entries.allocator();
-    let all = mem::replace(entries, Vec::new(alloc));
-    let last = last_names(buffer, all)?;
+    let last = last_entries(all, order)?;
     let next = next_room(last.len());
     *entries = last;
     Ok(next)
 }
 
 /// Whether the first of these entries has the key.
-fn comes_again<K: Ord, V>(key: &K, entries: &[(K, V)]) -> bool
-    ensures { result ≡ comes_again K.cmp key.now entries.now }
+fn comes_again<K, V, O: KeyOrder<K>>(order: O, key: &K, entries: &[(K, V)]) -> bool
+    ensures { result ≡ comes_again (O.by order) key.now entries.now }
 {
     match entries.first() {
-        Some(entry) => matches!(entry.0.cmp(key), Ordering::Equal),
+        Some(entry) => matches!(order.compare(&entry.0, key), Ordering::Equal),
         None => false,
     }
 }
 
 /// The entry at a place, unless its key comes again.
-fn end_at<K: Ord + Copy + Drop, V: Copy + Drop>(entries: &[(K, V)], at: usize) -> Option<(K, V)>
+fn end_at<K: Copy + Drop, V: Copy + Drop, O: KeyOrder<K>>(
+    order: O,
+    entries: &[(K, V)],
+    at: usize,
+) -> Option<(K, V)>
     requires { at ≤ length entries.now }
-    ensures { result ≡ run_end K.cmp (drop at entries.now) }
+    ensures { result ≡ run_end (O.by order) (drop at entries.now) }
 {
     let (_, rest) = entries.split_at(at);
     let (entry, after) = rest.split_first()?;
-    if comes_again(&entry.0, after) {
+    if comes_again(order, &entry.0, after) {
         return None;
     }
     Some(*entry)
 }
 
 /// Keeps only the last of the entries of each key, which stand together.
-fn keep_ends<K: Ord + Copy + Drop, V: Copy + Drop>(entries: &mut Vec<(K, V)>)
-    ensures { entries.new.items ≡ run_ends K.cmp entries.old.items }
+fn keep_ends<K: Copy + Drop, V: Copy + Drop, O: KeyOrder<K>>(order: O, entries: &mut Vec<(K, V)>)
+    ensures { entries.new.items ≡ run_ends (O.by order) entries.old.items }
 {
     let mut kept = 0;
     'entries: for at in 0..entries.len() {
-        if let Some(entry) = end_at(entries.as_slice(), at) {
+        if let Some(entry) = end_at(order, entries.as_slice(), at) {
             entries[kept] = entry;
             kept += 1;
         }
@@ -102,75 +125,14 @@ fn keep_ends<K: Ord + Copy + Drop, V: Copy + Drop>(entries: &mut Vec<(K, V)>)
 }
 
 /// The entries upwards by key, with the last of each repeated key.
-pub(crate) fn last_entries<K: Ord + Copy + Drop, V: Copy + Drop>(
+pub(crate) fn last_entries<K: Copy + Drop, V: Copy + Drop, O: KeyOrder<K>>(
     entries: Vec<(K, V)>,
+    order: O,
 ) -> Result<Vec<(K, V)>, AllocError>
-    ensures { IfOk result (λ last. AreLast K.cmp entries.items last.items) }
+    ensures { IfOk result (λ last. AreLast (O.by order) entries.items last.items) }
 {
     let mut last = entries;
-    last.sort_by_key(|entry| entry.0)?;
-    keep_ends(&mut last);
-    Ok(last)
-}
-
-/// The order of the names in two parts of a buffer.
-fn name_order(buffer: &[u8], one: Range, other: Range) -> Ordering
-    ensures { result ≡ by_name buffer.now one other }
-{
-    one.of(buffer).cmp(other.of(buffer))
-}
-
-/// Whether the first of these glyphs has the name.
-fn name_comes_again(buffer: &[u8], name: Range, glyphs: &[(Range, Range)]) -> bool
-    ensures { result ≡ comes_again (by_name buffer.now) name glyphs.now }
-{
-    match glyphs.first() {
-        Some(glyph) => matches!(name_order(buffer, glyph.0, name), Ordering::Equal),
-        None => false,
-    }
-}
-
-/// The glyph at a place, unless its name comes again.
-fn named_end_at(buffer: &[u8], glyphs: &[(Range, Range)], at: usize) -> Option<(Range, Range)>
-    requires { at ≤ length glyphs.now }
-    ensures { result ≡ run_end (by_name buffer.now) (drop at glyphs.now) }
-{
-    let (_, rest) = glyphs.split_at(at);
-    let (glyph, after) = rest.split_first()?;
-    if name_comes_again(buffer, glyph.0, after) {
-        return None;
-    }
-    Some(*glyph)
-}
-
-/// Keeps only the last of the glyphs of each name, which stand together.
-fn keep_named_ends(buffer: &[u8], glyphs: &mut Vec<(Range, Range)>)
-    ensures { glyphs.new.items ≡ run_ends (by_name buffer.now) glyphs.old.items }
-{
-    let mut kept = 0;
-    'glyphs: for at in 0..glyphs.len() {
-        if let Some(glyph) = named_end_at(buffer, glyphs.as_slice(), at) {
-            glyphs[kept] = glyph;
-            kept += 1;
-        }
-    }
-    glyphs.truncate(kept);
-}
-
-/// The glyphs upwards by the bytes of their names, with the last of each repeated name.
-pub(crate) fn last_names(
-    buffer: &[u8],
-    glyphs: Vec<(Range, Range)>,
-) -> Result<Vec<(Range, Range)>, AllocError>
-    ensures entries { IfOk result (λ v. map (named_at buffer.now) v.items
-        ≡ entries (gathered_glyphs buffer.now glyphs.items)) }
-    ensures inside { IfOk result (λ v. (n : ℕ)
-        → NamesInside n glyphs.items
-        → AllInside n glyphs.items
-        → NamesInside n v.items × AllInside n v.items) }
-{
-    let mut last = glyphs;
-    last.sort_by(|one, other| name_order(buffer, one.0, other.0))?;
-    keep_named_ends(buffer, &mut last);
+    last.sort_by(|one, other| order.compare(&one.0, &other.0))?;
+    keep_ends(order, &mut last);
     Ok(last)
 }

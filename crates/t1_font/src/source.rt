@@ -15,8 +15,9 @@ use crate::font::{Font, FontParts, LentEncoding};
 use crate::glyphs::is_notdef;
 use crate::lent::{Named, Numbered, glyph_weight, subr_weight};
 use crate::ranges::Range;
-use crate::repeats::last_entries;
+use crate::repeats::{ByNumber, last_entries};
 use crate::shell::Shell;
+use crate::stored::StoredSubrs;
 use std::alloc::{AllocError, Global};
 use std::marker::Model;
 
@@ -158,7 +159,7 @@ impl SourceParts {
         Ok(FontParts {
             shell: &self.shell,
             encoding: self.encoding(alloc)?,
-            subrs: Numbered::stored(&self.buffer, &self.subrs),
+            subrs: Numbered::stored(StoredSubrs::new(&self.buffer, &self.subrs)),
             glyphs: Named::stored(&self.buffer, &self.glyphs),
         })
     }
@@ -172,7 +173,7 @@ pub(crate) fn keep_codes(
     ensures { IfOk result (λ v. map kept_name v.items
         ≡ filter has_name (entries (gathered_codes codes.entry.items))) }
 {
-    let last = last_entries(codes)?;
+    let last = last_entries(codes, ByNumber)?;
     let mut kept = Vec::with_capacity(alloc, last.len())?;
     'codes: for (code, name) in last {
         if !is_notdef(name) {

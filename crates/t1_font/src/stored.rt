@@ -1,16 +1,17 @@
 //! The Subrs of a source, by index.
 
-ghost use Rattle.std.specs.Prelude.{◌≡◌, map, unwrap_or};
+ghost use Rattle.std.specs.Prelude.{◌≡◌, ◌<◌, map, unwrap_or, IfSome};
 ghost use Rattle.std.specs.List.{slice_get};
 ghost use Rattle.std.specs.Option.{option_map, option_and_then};
 ghost use Rattle.std.specs.Ordering.{nat_cmp};
 ghost use Rattle.std.specs.FinMap as fin;
 ghost use Rattle.t1_join.specs.TableMeaning.{Rises};
 ghost use Rattle.t1_font.specs.Cut.{stub};
+ghost use Rattle.t1_font.specs.Lent.{lent_number};
 ghost use Rattle.t1_font.specs.Ranges.{numbered_at};
 
-use crate::cut::STUB;
 use crate::ranges::Range;
+use crate::stub::STUB;
 use std::marker::Model;
 
 /// Charstrings by index as they stand in a source: its buffer, and the place of each there.
@@ -57,8 +58,28 @@ impl<'a> StoredSubrs<'a> {
         }
     }
 
+    /// How many there are.
+    #[tactic(auto, using(crate::proofs::LentTables::count_is))]
+    pub(crate) fn len(&self) -> usize
+        ensures { result ≡ fin.len self.now }
+    {
+        self.places.len()
+    }
+
+    /// The entry at a place; places are counted upwards by index, from 0. The place after an entry fits in a `usize`.
+    #[inline(always)]
+    #[tactic(auto, using(crate::proofs::LentTables::stands, crate::proofs::LentTables::stands_not))]
+    pub(crate) fn at(&self, place: usize) -> Option<(u16, &'a [u8])>
+        ensures entry { option_map lent_number result ≡ slice_get (fin.entries self.now) place }
+        ensures short { IfSome result (λ _. place < 18446744073709551615) }
+    {
+        let (index, body) = self.places.get(place)?;
+        Some((*index, body.of(self.buffer)))
+    }
+
     /// The place of an index, if it has an entry.
-    fn place_of(&self, index: u16) -> Option<usize>
+    #[inline(always)]
+    pub(crate) fn place_of(&self, index: u16) -> Option<usize>
         ensures { option_and_then (slice_get (fin.entries self.now)) result
             ≡ option_map (λ b. (index, b)) (fin.get self.now index) }
     {
@@ -68,12 +89,12 @@ impl<'a> StoredSubrs<'a> {
     }
 
     /// The charstring at an index.
+    #[tactic(auto, using(crate::proofs::LentTables::value_there))]
     fn get(&self, index: u16) -> Option<&'a [u8]>
         ensures { option_map (λ b. b.now) result ≡ fin.get self.now index }
     {
-        let place = self.place_of(index)?;
-        let (_, body) = self.places.get(place)?;
-        Some(body.of(self.buffer))
+        let (_, body) = self.at(self.place_of(index)?)?;
+        Some(body)
     }
 
     /// The same, or a stub if there is none. It is kept out of line, so that the search costs tables of other forms nothing.

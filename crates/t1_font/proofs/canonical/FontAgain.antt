@@ -3,6 +3,7 @@ use Rattle.std.proofs.Common.{◌≡◌, ℕ, ◌+◌, ◌<◌, Ordering, true, 
 use Rattle.std.specs.List.{AllByRecursion}
 use Rattle.std.specs.Option.{option_map}
 use Rattle.std.specs.Str.{bytes_eq}
+use Rattle.std.specs.Ordering.{nat_cmp}
 use Rattle.std.specs.Cmp.{IsTotalOrder, nat_cmp_total}
 use Rattle.std.specs.Cmp.Lexicographic.{nat_list_cmp_total}
 use Rattle.std.specs.FinMap.{FinMap, find, get, entries, entries_sorted, len-entries, contains_key, get-entries, same_map, IsAntisymmetric, nat_cmp-IsAntisymmetric, slice_cmp-IsAntisymmetric}
@@ -20,6 +21,10 @@ use Rattle.t1_font.proofs.canonical.EntriesWritten.{IsEntry}
 use Rattle.t1_font.proofs.canonical.PrivateWritten.{AreOptional, IsWritable}
 use Rattle.t1_font.proofs.canonical.ClearWritten.{IsEncodingText}
 use Rattle.t1_font.proofs.MapLemmas.{entries_all, T_true, last-sorted}
+
+-- numbers that tie are one
+pub number_same : IsAntisymmetric nat_cmp
+number_same = nat_cmp-IsAntisymmetric
 
 -- names that are equal in order are equal
 pub name_same : IsAntisymmetric name_cmp

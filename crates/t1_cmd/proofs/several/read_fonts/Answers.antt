@@ -27,7 +27,8 @@ returns-in_err-keep-clause-turns g c =
 
 pub readers-preserved : goal.readers-preserved
 readers-preserved g c =
-    subst (λ fs. SoFar (input_by c.args.taking) g.R.Read.remaining (c.readers.i + 1) c.args.readers.now (set c.readers.readers c.readers.i c.read_font.new.reader) fs)
+    subst (λ fs. SoFar (input_by c.args.taking) g.R.Read.remaining (c.readers.i + 1) c.args.readers.now
+    (set c.readers.readers c.readers.i c.read_font.new.reader) fs)
     (sym c.in_ok-keep.ensures)
     (goes_on (input_by c.args.taking) g.R.Read.remaining c.readers.i c.args.readers.now c.readers.readers c.readers.sources.items
     (get_or c.readers.readers c.readers.i c.index-readers-i.result) c.read_font.new.reader c.in-Ok.source c.readers.invariant
@@ -40,4 +41,5 @@ returns-clause-says g c =
     (omega (arith, c.readers-test.false, c.readers.auto.readers))
 
 pub returns-clause-turns : goal.returns-clause-turns
-returns-clause-turns g c = all_turns (input_by c.args.taking) g.R.Read.remaining c.readers.i c.args.readers.now c.readers.readers c.readers.sources.items c.readers.invariant
+returns-clause-turns g c =
+    all_turns (input_by c.args.taking) g.R.Read.remaining c.readers.i c.args.readers.now c.readers.readers c.readers.sources.items c.readers.invariant

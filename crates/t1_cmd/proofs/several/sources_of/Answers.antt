@@ -21,4 +21,5 @@ files-preserved c =
     (omega (arith, c.files-test.true)) c.in-Ok.ensures.source)
 
 pub returns-clause-sources : goal.returns-clause-sources
-returns-clause-sources c = all_read (input_by c.args.taking) c.args.files.now c.files.place c.files.sources.items c.files.invariant (omega (arith, c.files-test.false))
+returns-clause-sources c = all_read (input_by c.args.taking) c.args.files.now c.files.place c.files.sources.items c.files.invariant
+    (omega (arith, c.files-test.false))

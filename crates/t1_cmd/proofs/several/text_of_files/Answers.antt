@@ -5,7 +5,8 @@ use Rattle.t1_cmd.proofs.several.text_of_files.Goals as goal
 
 pub returns-in-Err-clause-refused : goal.returns-in-Err-clause-refused
 returns-in-Err-clause-refused g c =
-    unread (input_by c.args.taking) (g.T.FontsWord.Answers c.args.word.now) (lent c.args.files.now) c.in-Err.refusal.place c.in-Err.refusal.reason c.in-Err.ensures.refused
+    unread (input_by c.args.taking) (g.T.FontsWord.Answers c.args.word.now) (lent c.args.files.now)
+    c.in-Err.refusal.place c.in-Err.refusal.reason c.in-Err.ensures.refused
 
 pub returns-in-Err-text-clause-refused : goal.returns-in-Err-text-clause-refused
 returns-in-Err-text-clause-refused g c =

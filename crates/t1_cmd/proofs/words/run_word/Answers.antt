@@ -16,7 +16,8 @@ returns-in-Err-clause-ends g c =
 
 pub returns-in-Err-clause-succeeds : goal.returns-in-Err-clause-succeeds
 returns-in-Err-clause-succeeds g c =
-    ends_well (input_by c.args.taking) (g.T.FontWord.answer c.args.word.now) g.W.Write.contents (input_of g.R.Read.remaining c.args.reader.now c.read_file.new.reader)
+    ends_well (input_by c.args.taking) (g.T.FontWord.answer c.args.word.now) g.W.Write.contents
+    (input_of g.R.Read.remaining c.args.reader.now c.read_file.new.reader)
     c.args.writer.now c.args.writer.now (Err (Refused c.in-Err.reason)) (returns-in-Err-clause-ends g c)
 
 pub returns-clause-ends : goal.returns-clause-ends
@@ -31,5 +32,6 @@ returns-clause-ends g c =
 
 pub returns-clause-succeeds : goal.returns-clause-succeeds
 returns-clause-succeeds g c =
-    ends_well (input_by c.args.taking) (g.T.FontWord.answer c.args.word.now) g.W.Write.contents (input_of g.R.Read.remaining c.args.reader.now c.read_file.new.reader)
+    ends_well (input_by c.args.taking) (g.T.FontWord.answer c.args.word.now) g.W.Write.contents
+    (input_of g.R.Read.remaining c.args.reader.now c.read_file.new.reader)
     c.args.writer.now c.write_text.new.writer c.write_text.result (returns-clause-ends g c)

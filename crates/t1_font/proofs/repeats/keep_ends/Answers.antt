@@ -9,7 +9,7 @@ there g c = omega (arith, c.entries-test.true, c.len-at-end.ensures, c.args.entr
 
 pub entries-preserved : goal.entries-preserved
 entries-preserved g c =
-    let order = g.K.Ord.cmp in
+    let order = g.O.KeyOrder.by c.args.order in
     let were = c.args.entries.now.items in
     let slice = ap (λ es. run_end order (drop c.entries.at es)) c.as_slice.ensures.value in
     elim c.match-end_at.branch [
@@ -20,5 +20,7 @@ entries-preserved g c =
     ]
 
 pub returns : goal.returns
-returns g c = c.truncate.ensures.items ∙ ends_moved g.K.Ord.cmp c.args.entries.now.items c.entries.entries.items c.entries.at c.entries.kept c.entries.invariant
+returns g c =
+    c.truncate.ensures.items
+    ∙ ends_moved (g.O.KeyOrder.by c.args.order) c.args.entries.now.items c.entries.entries.items c.entries.at c.entries.kept c.entries.invariant
     (omega (arith, c.entries-test.false, c.len-at-end.ensures, c.args.entries.now.ok.0))

@@ -1,12 +1,17 @@
 use Rattle.std.proofs.Common.{rules}
-use Rattle.std.proofs.lemmas.List.Sorted.{answers_always}
+use Rattle.std.specs.Ordering.{is_lt}
+use Rattle.std.proofs.lemmas.List.MinMax.{ranks_by}
+use Rattle.std.proofs.lemmas.Fn.{always_returns_same}
 use Rattle.t1_font.proofs.repeats.last_entries.Goals as goal
 
 pub returns : goal.returns
-returns g c = record {
-  sorted = c.sort_by_key.new.self.items;
-  same = c.in_ok-sort_by_key.ensures.permutation;
-  rise = c.in_ok-sort_by_key.ensures.sorted (λ e. e.0) (answers_always _ _ _ (λ f a r h called. search rules));
-  stable = c.in_ok-sort_by_key.ensures.stable (λ e. e.0) (answers_always _ _ _ (λ f a r h called. search rules));
-  last_is = c.keep_ends.ensures;
-}
+returns g c =
+    let by = g.O.KeyOrder.by c.args.order in
+    let rank = ranks_by (g.met.O.KeyOrder.total c.args.order) (λ e. e.0) in
+    record {
+      sorted = c.sort_by.new.self.items;
+      same = c.in_ok-sort_by.ensures.permutation;
+      rise = c.in_ok-sort_by.ensures.sorted (λ x y. is_lt (by x.0 y.0)) rank (always_returns_same _ _ _ (λ a r f' called. search rules));
+      stable = c.in_ok-sort_by.ensures.stable (λ x y. is_lt (by x.0 y.0)) rank (always_returns_same _ _ _ (λ a r f' called. search rules));
+      last_is = c.keep_ends.ensures;
+    }

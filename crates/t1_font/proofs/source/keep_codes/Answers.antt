@@ -1,4 +1,4 @@
-use Rattle.std.proofs.Common.{ℕ, List, refl, sym, ap, ◌∙◌, map, not}
+use Rattle.std.proofs.Common.{ℕ, List, sym, ap, ◌∙◌, map, not}
 use Rattle.std.specs.Prelude.{filter}
 use Rattle.std.specs.Ordering.{nat_cmp}
 use Rattle.std.specs.FinMap.{nat_cmp-IsAntisymmetric}
@@ -35,4 +35,4 @@ returns c =
     (ap (λ (es : List (ℕ × Bor (List ℕ))). filter has_name (entries_by (λ k. k) (λ n. n.now) es))
     (nil_from_length (into_iter_items c.codes.code-iterator) (sym c.codes.code-iterator.rest.ok.0 ∙ c.in-None.ensures.steps.0)))
     ∙ ap (filter has_name) (ap (entries_by (λ k. k) (λ n. n.now)) c.into_iter-code-iterator.ensures.into_iter_gives.0 ∙ lasts_are (λ k. k)
-    (λ n. n.now) nat_cmp nat_cmp nat_cmp_total nat_cmp-IsAntisymmetric (λ x y. refl) c.args.codes.items c.in_ok-last.last.items c.in_ok-last.ensures)
+    (λ n. n.now) nat_cmp nat_cmp_total nat_cmp-IsAntisymmetric c.args.codes.items c.in_ok-last.last.items c.in_ok-last.ensures)

@@ -1,4 +1,4 @@
-use Rattle.std.proofs.Common.{◌∙◌, ap, drop, refl}
+use Rattle.std.proofs.Common.{◌∙◌, ap, drop}
 use Rattle.std.proofs.lemmas.Cmp.{nat_cmp_total}
 use Rattle.std.specs.FinMap as fin
 use Rattle.std.specs.FinSet.{nat_cmp-IsAntisymmetric}
@@ -11,8 +11,8 @@ use Rattle.t1_font.proofs.gathered.Gathered.keep_code.Goals as goal
 
 pub returns : goal.returns
 returns c =
-    let settled = settled_map (λ k. k) nat_cmp nat_cmp nat_cmp_total
-    (λ x y. refl) c.self.inside.codes.items c.settle.new.entries.items nat_cmp-IsAntisymmetric (λ n. n.now) c.in_ok-self-inside.ensures.settled in
+    let settled = settled_map (λ k. k) (λ n. n.now) nat_cmp nat_cmp_total nat_cmp-IsAntisymmetric
+    c.self.inside.codes.items c.settle.new.entries.items c.in_ok-self-inside.ensures.settled in
     (λ i. record {
       rest = drop c.self.inside.at c.self.inside.buffer.items;
       codes = (ap gathered_codes c.in_ok-push.ensures.items

@@ -1,15 +1,17 @@
 use Rattle.std.proofs.Common.{ℕ, List, ◌≡◌, ◌∙◌, ◌≤◌, ap, arith, sym, subst, ◌+◌, ◌-◌, length, drop, map}
 use Rattle.std.proofs.lemmas.Cmp.{nat_list_cmp_total}
+use Rattle.std.specs.Cmp.Lexicographic.{on_texts}
 use Rattle.std.specs.FinMap as fin
 use Rattle.t1_font.specs.declared.ranges.Range.{Range}
 use Rattle.t1_font.specs.Charstrings.{plain_of}
-use Rattle.t1_font.specs.Entries.{map_of}
+use Rattle.t1_font.specs.Entries.{map_of, AreSettled}
 use Rattle.t1_font.specs.FontValue.{name_cmp}
 use Rattle.t1_font.specs.Gathering.{Entries, gathered_codes, gathered_glyphs}
 use Rattle.t1_font.specs.Places.{ending, placed}
-use Rattle.t1_font.specs.Ranges.{named_at, IsInside, AllInside, NamesInside}
+use Rattle.t1_font.specs.Ranges.{bytes_at, by_name, named_at, IsInside, AllInside, NamesInside}
 use Rattle.t1_font.proofs.Buffers.{Decrypted, Named, pushed, with_one, names_with_one, all_longer, names_wider, entries_stay}
 use Rattle.t1_font.proofs.Buffers.{names_stay, rest_stays, plain_at, plain_inside, name_at, name_inside, goes_on, same_length}
+use Rattle.t1_font.proofs.Lasts.{settled_map, settled_all}
 use Rattle.t1_font.proofs.canonical.FontAgain.{name_same}
 use Rattle.t1_font.proofs.gathered.Gathered.keep_glyph.Goals as goal
 
@@ -39,9 +41,19 @@ named_so c = record {
 }
 
 settled_so : (c : goal.After-self-3-1) →
-    gathered_glyphs c.self.inside.buffer.items c.settle_names.new.entries.items ≡ gathered_glyphs c.self.inside.buffer.items c.self.inside.glyphs.items
-settled_so c = subst (λ (b : List ℕ). gathered_glyphs b c.settle_names.new.entries.items ≡ gathered_glyphs b c.self.inside.glyphs.items)
-    c.as_slice.ensures.value c.in_ok-self-inside.ensures.settled
+    gathered_glyphs c.self.inside.buffer.items c.settle.new.entries.items ≡ gathered_glyphs c.self.inside.buffer.items c.self.inside.glyphs.items
+settled_so c =
+    let was = c.self.inside.buffer.items in
+    settled_map (bytes_at was) (bytes_at was) name_cmp nat_list_cmp_total name_same c.self.inside.glyphs.items c.settle.new.entries.items
+    (subst (λ (b : List ℕ). AreSettled (by_name b) c.self.inside.glyphs.items c.settle.new.entries.items)
+    c.as_slice.ensures.value c.in_ok-self-inside.ensures.settled)
+
+-- names and charstrings stand where they stood
+inside : (buffer : List ℕ) (at : ℕ) (old new : List (Range × Range)) → AreSettled (by_name buffer) old new →
+    NamesInside at old → AllInside at old → NamesInside at new × AllInside at new
+inside buffer at old new settled names bodies =
+    let order = on_texts (bytes_at buffer) in
+    (settled_all order (λ e. IsInside at e.0) old new settled names, settled_all order (λ e. IsInside at e.1) old new settled bodies)
 
 pub invariant_of-self-2 : goal.invariant_of-self-2
 invariant_of-self-2 c =
@@ -53,15 +65,16 @@ invariant_of-self-2 c =
     let one : IsInside now plain = subst (λ n. IsInside (n - c.args.left) plain) (sym (now_long c)) (plain_inside _ _ _ _ _ _ _ _ d) in
     let name : IsInside now c.part_at-name.result =
     subst (λ n. IsInside (n - c.args.left) c.part_at-name.result) (sym (now_long c)) (name_inside _ _ _ _ _ _ _ _ d _ _ (named_so c)) in
-    let settled = c.in_ok-self-inside.ensures.inside was c.self.invariant.names c.self.invariant.glyphs in
+    let settled = inside c.as_slice.result.now was c.self.inside.glyphs.items c.settle.new.entries.items
+    c.in_ok-self-inside.ensures.settled c.self.invariant.names c.self.invariant.glyphs in
     record {
       short = omega (arith, same_length _ _ _ _ _ _ _ _ d, c.self.invariant.short);
       at = omega (arith, now_long c);
       subrs = all_longer was now c.self.inside.subrs.items wider c.self.invariant.subrs;
-      names = names_with_one now c.settle_names.new.entries.items c.push.new.self.items _ c.in_ok-push.ensures.items
-          (names_wider was now c.settle_names.new.entries.items wider settled.0) name;
-      glyphs = with_one now c.settle_names.new.entries.items c.push.new.self.items _ c.in_ok-push.ensures.items
-          (all_longer was now c.settle_names.new.entries.items wider settled.1) one;
+      names = names_with_one now c.settle.new.entries.items c.push.new.self.items _ c.in_ok-push.ensures.items
+          (names_wider was now c.settle.new.entries.items wider settled.0) name;
+      glyphs = with_one now c.settle.new.entries.items c.push.new.self.items _ c.in_ok-push.ensures.items
+          (all_longer was now c.settle.new.entries.items wider settled.1) one;
     }
 
 pub returns : goal.returns
@@ -69,11 +82,12 @@ returns c =
     let d = decrypted_so c in
     let was = c.self.inside.buffer.items in
     let now = c.decrypt_in.new.buffer.items in
-    let settled = c.in_ok-self-inside.ensures.inside c.self.inside.at c.self.invariant.names c.self.invariant.glyphs in
+    let settled = inside c.as_slice.result.now c.self.inside.at c.self.inside.glyphs.items c.settle.new.entries.items
+    c.in_ok-self-inside.ensures.settled c.self.invariant.names c.self.invariant.glyphs in
     let together =
     ap (λ es. map_of {R = name_cmp} (map (named_at now) es)) c.in_ok-push.ensures.items
-    ∙ (pushed (named_at now) nat_list_cmp_total name_same c.settle_names.new.entries.items (c.part_at-name.result, _)
-    ∙ ((λ i. fin.insert (map_of {R = name_cmp} (names_stay _ _ _ _ _ _ _ _ d c.settle_names.new.entries.items settled.0 settled.1 i))
+    ∙ (pushed (named_at now) nat_list_cmp_total name_same c.settle.new.entries.items (c.part_at-name.result, _)
+    ∙ ((λ i. fin.insert (map_of {R = name_cmp} (names_stay _ _ _ _ _ _ _ _ d c.settle.new.entries.items settled.0 settled.1 i))
     (name_at _ _ _ _ _ _ _ _ d _ _ (named_so c) i) (plain_at _ _ _ _ _ _ _ _ d i))
     ∙ ap (λ m. fin.insert m (placed (drop c.self.inside.at was) c.args.name) (plain_of c.args.len_iv (placed (drop c.self.inside.at was) c.args.body)))
     (settled_so c))) in
@@ -92,7 +106,8 @@ returns c =
 
 pub invariant_of-self-in_err-push : goal.invariant_of-self-in_err-push
 invariant_of-self-in_err-push c =
-    let settled = c.in_ok-self-inside.ensures.inside c.self.inside.at c.self.invariant.names c.self.invariant.glyphs in
+    let settled = inside c.as_slice.result.now c.self.inside.at c.self.inside.glyphs.items c.settle.new.entries.items
+    c.in_ok-self-inside.ensures.settled c.self.invariant.names c.self.invariant.glyphs in
     record {
       short = c.self.invariant.short;
       at = c.self.invariant.at;

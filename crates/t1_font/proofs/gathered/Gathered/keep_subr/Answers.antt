@@ -1,4 +1,4 @@
-use Rattle.std.proofs.Common.{◌≡◌, ◌∙◌, ◌≤◌, ap, arith, refl, sym, subst, ◌+◌, ◌-◌, length, drop, map}
+use Rattle.std.proofs.Common.{◌≡◌, ◌∙◌, ◌≤◌, ap, arith, sym, subst, ◌+◌, ◌-◌, length, drop, map}
 use Rattle.std.proofs.lemmas.Cmp.{nat_cmp_total}
 use Rattle.std.specs.FinMap as fin
 use Rattle.std.specs.FinSet.{nat_cmp-IsAntisymmetric}
@@ -37,8 +37,8 @@ invariant_of-self-2 c =
     let wider : was ≤ now = omega (arith, goes_on _ _ _ _ _ _ _ _ d, now_long c) in
     let one : IsInside now c.behind_lead-plain.result =
     subst (λ n. IsInside (n - c.args.left) c.behind_lead-plain.result) (sym (now_long c)) (plain_inside _ _ _ _ _ _ _ _ d) in
-    let subrs = settled_all (λ k. k) nat_cmp nat_cmp nat_cmp_total (λ x y. refl) c.self.inside.subrs.items c.settle.new.entries.items
-    (λ e. IsInside was e.1) c.in_ok-self-inside.ensures.settled c.self.invariant.subrs in
+    let subrs = settled_all nat_cmp_total (λ e. IsInside was e.1) c.self.inside.subrs.items c.settle.new.entries.items
+    c.in_ok-self-inside.ensures.settled c.self.invariant.subrs in
     record {
       short = omega (arith, same_length _ _ _ _ _ _ _ _ d, c.self.invariant.short);
       at = omega (arith, now_long c);
@@ -53,10 +53,10 @@ returns c =
     let d = decrypted_so c in
     let was = c.self.inside.buffer.items in
     let now = c.decrypt_in.new.buffer.items in
-    let subrs = settled_all (λ k. k) nat_cmp nat_cmp nat_cmp_total (λ x y. refl) c.self.inside.subrs.items c.settle.new.entries.items
-    (λ e. IsInside c.self.inside.at e.1) c.in_ok-self-inside.ensures.settled c.self.invariant.subrs in
-    let settled = settled_map (λ k. k) nat_cmp nat_cmp nat_cmp_total
-    (λ x y. refl) c.self.inside.subrs.items c.settle.new.entries.items nat_cmp-IsAntisymmetric (bytes_at was) c.in_ok-self-inside.ensures.settled in
+    let subrs = settled_all nat_cmp_total (λ e. IsInside c.self.inside.at e.1) c.self.inside.subrs.items c.settle.new.entries.items
+    c.in_ok-self-inside.ensures.settled c.self.invariant.subrs in
+    let settled = settled_map (λ k. k) (bytes_at was) nat_cmp nat_cmp_total nat_cmp-IsAntisymmetric
+    c.self.inside.subrs.items c.settle.new.entries.items c.in_ok-self-inside.ensures.settled in
     let together =
     ap (λ es. map_of {R = nat_cmp} (map (numbered_at now) es)) c.in_ok-push.ensures.items
     ∙ (pushed (numbered_at now) nat_cmp_total nat_cmp-IsAntisymmetric c.settle.new.entries.items (c.args.index, _)
@@ -80,8 +80,9 @@ pub invariant_of-self-in_err-push : goal.invariant_of-self-in_err-push
 invariant_of-self-in_err-push c = record {
   short = c.self.invariant.short;
   at = c.self.invariant.at;
-  subrs = subst (AllInside c.self.inside.at) (sym c.in_err-push.ensures.items) (settled_all (λ k. k) nat_cmp nat_cmp nat_cmp_total (λ x y. refl)
-      c.self.inside.subrs.items c.settle.new.entries.items (λ e. IsInside c.self.inside.at e.1) c.in_ok-self-inside.ensures.settled c.self.invariant.subrs);
+  subrs = subst (AllInside c.self.inside.at) (sym c.in_err-push.ensures.items) (settled_all nat_cmp_total
+      (λ e. IsInside c.self.inside.at e.1) c.self.inside.subrs.items c.settle.new.entries.items
+      c.in_ok-self-inside.ensures.settled c.self.invariant.subrs);
   names = c.self.invariant.names;
   glyphs = c.self.invariant.glyphs;
 }

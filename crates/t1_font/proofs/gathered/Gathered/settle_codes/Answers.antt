@@ -1,4 +1,4 @@
-use Rattle.std.proofs.Common.{◌∙◌, drop, refl}
+use Rattle.std.proofs.Common.{◌∙◌, drop}
 use Rattle.std.proofs.lemmas.Cmp.{nat_cmp_total}
 use Rattle.std.specs.FinSet.{nat_cmp-IsAntisymmetric}
 use Rattle.std.specs.Ordering.{nat_cmp}
@@ -9,8 +9,8 @@ use Rattle.t1_font.proofs.gathered.Gathered.settle_codes.Goals as goal
 pub returns : goal.returns
 returns c =
     let settled =
-    settled_map (λ k. k) nat_cmp nat_cmp nat_cmp_total (λ x y. refl) c.self.inside.codes.items c.settle.new.entries.items
-    nat_cmp-IsAntisymmetric (λ n. n.now) c.in_ok-self-inside.ensures.settled in
+    settled_map (λ k. k) (λ n. n.now) nat_cmp nat_cmp_total nat_cmp-IsAntisymmetric
+    c.self.inside.codes.items c.settle.new.entries.items c.in_ok-self-inside.ensures.settled in
     (λ i. record {
       rest = drop c.self.inside.at c.self.inside.buffer.items;
       codes = settled i;

@@ -1,34 +1,31 @@
-use Rattle.std.proofs.Common.{rules, ap, sym, ◌∙◌, map}
-use Rattle.std.specs.FinMap.{entries}
+use Rattle.std.proofs.Common.{◌≡◌, rules, ap, subst, sym, ◌∙◌, map}
+use Rattle.std.specs.FinMap.{entries, get}
 use Rattle.std.specs.List.{slice_get}
-use Rattle.std.specs.Option.{option_and_then}
+use Rattle.std.specs.Option.{option_and_then, option_map}
 use Rattle.std.specs.Cmp.{nat_cmp_total}
 use Rattle.std.specs.FinMap.{nat_cmp-IsAntisymmetric}
 use Rattle.std.proofs.lemmas.List.Sorted.{answers_always}
+use Rattle.t1_font.specs.FontValue.{Numbered}
 use Rattle.t1_font.specs.Lent.{numbered_entries, lent_number, filled_at}
-use Rattle.t1_font.specs.Ranges.{numbered_at}
-use Rattle.t1_font.proofs.LentTables.{found_place}
+use Rattle.t1_font.proofs.LentTables.{found_place, same_table}
 use Rattle.t1_font.proofs.lent.Numbered.place_of.Goals as goal
 
 pub returns-in-Stored : goal.returns-in-Stored
-returns-in-Stored c =
-    let position = c.binary_search_by_key.ensures.position (λ e. e.0) (answers_always _ _ _ (λ f a r g called. search rules)) in
-    ap (option_and_then (slice_get (entries c.args.self.now))) c.ok.ensures.value
-    ∙ found_place (numbered_at c.in-Stored.buffer.now) c.in-Stored.places.now (numbered_entries c.self.inside.form) c.args.self.now
-    (ap numbered_entries c.in-Stored.is) c.self.invariant c.self.view_is nat_cmp_total nat_cmp-IsAntisymmetric
-    c.args.number c.binary_search_by_key.result c.binary_search_by_key.ensures.bound position
+returns-in-Stored c = subst (λ (m : Numbered). option_and_then (slice_get (entries m)) c.place_of.result
+    ≡ option_map (λ b. (c.args.number, b)) (get m c.args.number))
+    (same_table c.in-Stored.own c.args.self.now (numbered_entries c.self.inside.form) (ap numbered_entries c.in-Stored.is) c.self.view_is) c.place_of.ensures
 
 pub returns-in-Filled : goal.returns-in-Filled
 returns-in-Filled c =
-    ap (option_and_then (slice_get (entries c.args.self.now))) c.ok-in-Filled.ensures.value
+    ap (option_and_then (slice_get (entries c.args.self.now))) c.ok.ensures.value
     ∙ found_place (filled_at c.in-Filled.own) c.in-Filled.indices.now (numbered_entries c.self.inside.form) c.args.self.now
     (ap numbered_entries c.in-Filled.is) c.self.invariant c.self.view_is nat_cmp_total nat_cmp-IsAntisymmetric
     c.args.number c.binary_search.result c.binary_search.ensures.bound c.binary_search.ensures.position
 
 pub returns-in-Made : goal.returns-in-Made
 returns-in-Made c =
-    let position = c.binary_search_by_key-in-Made.ensures.position (λ e. e.0) (answers_always _ _ _ (λ f a r g called. search rules)) in
+    let position = c.binary_search_by_key.ensures.position (λ e. e.0) (answers_always _ _ _ (λ f a r g called. search rules)) in
     ap (option_and_then (slice_get (entries c.args.self.now))) c.ok-in-Made.ensures.value
     ∙ found_place lent_number c.deref.result.now (numbered_entries c.self.inside.form) c.args.self.now
     (ap numbered_entries c.in-Made.is ∙ ap (map lent_number) (sym c.deref.ensures.value)) c.self.invariant c.self.view_is nat_cmp_total
-    nat_cmp-IsAntisymmetric c.args.number c.binary_search_by_key-in-Made.result c.binary_search_by_key-in-Made.ensures.bound position
+    nat_cmp-IsAntisymmetric c.args.number c.binary_search_by_key.result c.binary_search_by_key.ensures.bound position
