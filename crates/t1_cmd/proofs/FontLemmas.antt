@@ -54,8 +54,8 @@ prints_apart answer (x ∷ y ∷ ys) text r h k = absurd h
 
 -- an engine over one font that ends so succeeds where it should
 pub ends_well : (input : List ℕ → Result FontValue Reason) (text : FontValue → Result (List ℕ) Reason)
-    {W : Type 0} (contents : W → Option (List ℕ)) (i : Input) (w v : Counted W) (result : Result (Unit {0}) RunFault) → RunEnds input (Prints text) contents (i ∷ []) w v result
-    → Succeeds input (Prints text) (i ∷ []) w v result
+    {W : Type 0} (contents : W → Option (List ℕ)) (i : Input) (w v : Counted W) (result : Result (Unit {0}) RunFault)
+    → RunEnds input (Prints text) contents (i ∷ []) w v result → Succeeds input (Prints text) (i ∷ []) w v result
 ends_well input text contents i w v result h = ends_succeeds input (Prints text) (prints_apart text) contents (i ∷ []) w v result h
 
 -- a text of four pieces, one after another
