@@ -10,3 +10,4 @@ pub mod FontLemmas
 pub mod Walks
 pub mod RejoinLemmas
 pub mod Files
+pub mod MendLemmas

@@ -13,3 +13,4 @@ pub mod Mergers
 pub mod Files
 pub mod Rejoins
 pub mod WrittenSubsets
+pub mod Mends

@@ -1,0 +1,37 @@
+-- What mended files are mended to, and rejoin to.
+use Rattle.std.specs.Prelude.{◌≡◌, ℕ, List, [], ◌∷◌, Ok, IfOk}
+use Rattle.t1_bytes.specs.declared.form.Form.{Form}
+use Rattle.t1_bytes.specs.Laws.{AreBytes}
+use Rattle.t1_font.specs.FontValue.{FontValue}
+use Rattle.t1_font.specs.FontTest.{untested_font}
+use Rattle.t1_font.specs.IsFont.{IsFont}
+use Rattle.t1_font.specs.Canon.{canon}
+use Rattle.t1_font.specs.WriteLaws.{Fits}
+use Rattle.t1_cmd.specs.Fonts.{mended_input, of_mended, file_answer}
+use Rattle.t1_cmd.specs.Files.{values_from}
+
+-- the text is the mended file of a file of bytes, written in a form in which it can be read
+abbrev pub IsMendedFile : Form → List ℕ → List ℕ → Type 0
+IsMendedFile form file text = AreBytes file × (of_mended (file_answer form) file ≡ Ok text) × IfOk (mended_input file) (Fits form)
+
+-- the texts are the mended files of files, one for one, each in some form
+abbrev pub AreMendedFiles : List (List ℕ) → List (List ℕ) → Type 0
+AreMendedFiles [] [] = Unit {0}
+AreMendedFiles [] (text ∷ texts) = ⊥
+AreMendedFiles (file ∷ files) [] = ⊥
+AreMendedFiles (file ∷ files) (text ∷ texts) = ((form : Form) × IsMendedFile form file text) × AreMendedFiles files texts
+
+-- ---- laws, each the contract of a function in `laws`
+
+-- a mended file is mended, in each form, to what the file is mended to
+abbrev pub MendsAgain : Type 0
+MendsAgain = (written form : Form) (file text : List ℕ) → IsMendedFile written file text
+    → of_mended (file_answer form) text ≡ of_mended (file_answer form) file
+
+-- the canonical file of a font whose head has no test to lose is mended to itself
+abbrev pub MendsNothing : Type 0
+MendsNothing = (f : FontValue) (form : Form) → IsFont f → Fits form f → untested_font f ≡ f → of_mended (file_answer form) (canon f form) ≡ Ok (canon f form)
+
+-- mended files are rejoined as the same fonts as the files
+abbrev pub RejoinsMended : Type 0
+RejoinsMended = (files texts : List (List ℕ)) → AreMendedFiles files texts → values_from mended_input 0 texts ≡ values_from mended_input 0 files
