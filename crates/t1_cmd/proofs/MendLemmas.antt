@@ -11,7 +11,7 @@ use Rattle.t1_font.specs.FontValue.{FontValue}
 use Rattle.t1_font.specs.FontTest.{untested_font}
 use Rattle.t1_font.specs.IsFont.{IsFont}
 use Rattle.t1_font.specs.Canon.{canon}
-use Rattle.t1_font.specs.ReadFont.{read_font_widely}
+use Rattle.t1_font.specs.ReadFont.{read_font, read_font_widely}
 use Rattle.t1_font.specs.WriteLaws.{Fits}
 use Rattle.t1_font.proofs.Spelled.{reads, reads_again}
 use Rattle.t1_font.proofs.Widely.{spells_widely}
@@ -22,9 +22,9 @@ use Rattle.t1_font.proofs.read_fonts.ReadFontLaws.{read_is_font}
 use Rattle.t1_cmd.specs.declared.faults.Reason.{Reason}
 use Rattle.t1_cmd.specs.declared.faults.Reason.TheVariants.{TooLong}
 use Rattle.t1_cmd.specs.Answers.{with_reason, if_there}
-use Rattle.t1_cmd.specs.Fonts.{font_reason, mended_input, file_answer}
+use Rattle.t1_cmd.specs.Fonts.{font_reason, font_input, mended_input, file_answer}
 use Rattle.t1_cmd.specs.Files.{value_before, values_from}
-use Rattle.t1_cmd.specs.Mends.{IsMendedFile, AreMendedFiles, MendsAgain, MendsNothing, RejoinsMended}
+use Rattle.t1_cmd.specs.Mends.{IsMendedFile, AreMendedFiles, MendsAgain, MendsNothing, MendedIsSpelled, RejoinsMended}
 
 -- ---- the font of a file
 
@@ -76,6 +76,13 @@ mended_again f form h k same =
     ∙ ap (mended_by false) (widely_again f form h k)
     ∙ ap {B = Result FontValue Reason} (λ (f : FontValue). Ok f) same
 
+-- the canonical file of a font spells the font
+spelled_again : (f : FontValue) (form : Form) → IsFont f → Fits form f → font_input (canon f form) ≡ Ok f
+spelled_again f form h k =
+    let file = canon f form in
+    ap (λ (long : Bool). if long then Err TooLong else with_reason font_reason (read_font file))
+    (le-ltb file_limit (length file) (canon_short f form h)) ∙ ap (with_reason font_reason) (round_trip f form h k)
+
 -- ---- files
 
 -- a mended file spells the font that the file is mended to
@@ -88,6 +95,16 @@ same_font form file text s = by (mended_input file) refl s.1 s.2
         let font = mended_font file f s.0 e in
         let written : canon f form ≡ text = cc in
         subst (λ (t : List ℕ). mended_input t ≡ Ok f) written (mended_again f form font.0 k font.1)
+
+-- a mended file spells the font, too
+pub mended_is_spelled : MendedIsSpelled
+mended_is_spelled form file text s = by (mended_input file) refl s.1 s.2
+  where
+    by : (r : Result FontValue Reason) → mended_input file ≡ r → if_there (file_answer form) r ≡ Ok text → IfOk r (Fits form) → font_input text ≡ r
+    by (Err reason) e h k = cc
+    by (Ok f) e h k =
+        let written : canon f form ≡ text = cc in
+        subst (λ (t : List ℕ). font_input t ≡ Ok f) written (spelled_again f form (mended_font file f s.0 e).0 k)
 
 -- a mended file is mended, in each form, to what the file is mended to
 pub mends_again : MendsAgain

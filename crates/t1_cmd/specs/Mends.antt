@@ -7,7 +7,7 @@ use Rattle.t1_font.specs.FontTest.{untested_font}
 use Rattle.t1_font.specs.IsFont.{IsFont}
 use Rattle.t1_font.specs.Canon.{canon}
 use Rattle.t1_font.specs.WriteLaws.{Fits}
-use Rattle.t1_cmd.specs.Fonts.{mended_input, of_mended, file_answer}
+use Rattle.t1_cmd.specs.Fonts.{font_input, mended_input, of_mended, file_answer}
 use Rattle.t1_cmd.specs.Files.{values_from}
 
 -- the text is the mended file of a file of bytes, written in a form in which it can be read
@@ -31,6 +31,10 @@ MendsAgain = (written form : Form) (file text : List ℕ) → IsMendedFile writt
 -- the canonical file of a font whose head has no test to lose is mended to itself
 abbrev pub MendsNothing : Type 0
 MendsNothing = (f : FontValue) (form : Form) → IsFont f → Fits form f → untested_font f ≡ f → of_mended (file_answer form) (canon f form) ≡ Ok (canon f form)
+
+-- a mended file spells the font that the file was mended to, so each other word takes it
+abbrev pub MendedIsSpelled : Type 0
+MendedIsSpelled = (form : Form) (file text : List ℕ) → IsMendedFile form file text → font_input text ≡ mended_input file
 
 -- mended files are rejoined as the same fonts as the files
 abbrev pub RejoinsMended : Type 0

@@ -1,10 +1,10 @@
 //! Laws of the engines, over the definitions alone.
 
-ghost use Rattle.t1_cmd.specs.Mends.{MendsAgain, MendsNothing, RejoinsMended};
+ghost use Rattle.t1_cmd.specs.Mends.{MendsAgain, MendsNothing, MendedIsSpelled, RejoinsMended};
 ghost use Rattle.t1_cmd.specs.Rejoins.{RejoinsWhatMerges};
 
-/// Fonts without tags that merge to a file rejoin to the same file, and to nothing else: if [`run_merge`](crate::run_merge)
-/// writes a file, [`run_rejoin`](crate::run_rejoin) writes it too, unless a growth was refused.
+/// Fonts without tags that merge to a file rejoin to the same file, and to nothing else: what [`run_merge`](crate::run_merge)
+/// writes of fonts that have no test to lose, [`run_rejoin`](crate::run_rejoin) writes too, unless a growth was refused.
 pub fn rejoins_what_merges()
     ensures { RejoinsWhatMerges }
 {}
@@ -19,6 +19,12 @@ pub fn mends_again()
 /// itself, but for a PFA whose head begins with byte 128.
 pub fn mends_nothing()
     ensures { MendsNothing }
+{}
+
+/// A file that [`mend_file`](crate::mend_file) wrote spells the font that it was mended to, so each other word takes it; but for a
+/// PFA whose head begins with byte 128.
+pub fn mended_is_spelled()
+    ensures { MendedIsSpelled }
 {}
 
 /// Files that are mended before they are rejoined, each in either form, are rejoined as the same fonts: all that
