@@ -6,7 +6,7 @@
 # their pages, by default out/join-dvips.
 #
 # dvips declares no Subrs after the last one that a document uses, so its subsets of one font don't merge as they are:
-# `rejoin` makes them even first. Needs Debian's packages texlive-base, texlive-binaries and ghostscript.
+# `rejoin` makes them even first, and takes out the test of FontDirectory, which would leave operands on the stack. Needs Debian's packages texlive-base, texlive-binaries and ghostscript.
 set -eu
 export LC_ALL=C
 
@@ -28,13 +28,6 @@ done
 between() {
     awk -v first="%%$1" -v last="%%$2" \
         'inside && index($0, last) == 1 { exit } inside { print } index($0, first) == 1 { inside = 1 }' "$3"
-}
-
-# A font as it stands in a document. If its head begins by testing whether FontDirectory has it, which leaves a boolean on
-# the stack, the words after `cleartomark` consume that boolean. They are not part of the font, so they have to be put back.
-font_text() {
-    cat "$1"
-    if grep -q '^FontDirectory/' "$1"; then echo '{restore}if'; fi
 }
 
 # page NUMBER DOCUMENT: a document's page, after the setup of its own TeX sizes and fonts.
@@ -65,7 +58,7 @@ echo "joined.ps carries a font: $("$program" check joined.pfa)"
 {
     sed '/^%%BeginFont:/,$d; s/^%%Pages: .*/%%Pages: 2/' one.ps
     grep '^%%BeginFont:' one.ps
-    font_text joined.pfa
+    cat joined.pfa
     echo '%%EndFont'
     echo '%%EndProlog'
     between EndProlog Page: one.ps
