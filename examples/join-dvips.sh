@@ -6,7 +6,8 @@
 # their pages, by default out/join-dvips.
 #
 # dvips declares no Subrs after the last one that a document uses, so its subsets of one font don't merge as they are:
-# `rejoin` makes them even first, and takes out the test of FontDirectory, which would leave operands on the stack. Needs Debian's packages texlive-base, texlive-binaries and ghostscript.
+# `rejoin` makes them even first. It also takes out the test of FontDirectory, which would leave an operand on the stack.
+# Needs Debian's packages texlive-base, texlive-binaries and ghostscript.
 set -eu
 export LC_ALL=C
 
