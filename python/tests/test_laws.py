@@ -69,6 +69,22 @@ class Laws(unittest.TestCase):
                 self.assertEqual((t1subset.convert(pfb), t1subset.convert(pfa, "pfb")), (pfa, pfb))
                 self.assertEqual(t1subset.list(pfa), t1subset.list(font))
 
+    def test_a_mended_font_is_mended(self) -> None:
+        for path, font in each_font():
+            with self.subTest(font=path):
+                pfa, pfb = t1subset.mend(font, "pfa"), t1subset.mend(font, "pfb")
+                for mended in (pfa, pfb):
+                    self.assertEqual((t1subset.mend(mended), t1subset.mend(mended, "pfb")), (pfa, pfb))
+                    self.assertEqual((t1subset.convert(mended), t1subset.convert(mended, "pfb")), (pfa, pfb))
+
+    def test_a_font_that_another_program_spells(self) -> None:
+        word = b"/Encoding StandardEncoding"
+        font = made([STUB] * 4, {b".notdef": EMPTY}, b"Small")
+        spelled = font.replace(word + b" def", word + b" % a comment\n readonly def")
+        self.assertNotEqual(spelled, font)
+        self.assertRaises(t1subset.Refused, t1subset.check, spelled)
+        self.assertEqual((t1subset.mend(spelled), t1subset.rejoin([spelled, font])), (font, font))
+
     def test_tiny_in_both_forms(self) -> None:
         for font in (PFA, PFB):
             self.assertEqual((t1subset.convert(font), t1subset.convert(font, "pfb")), (PFA, PFB))

@@ -4,7 +4,7 @@ mod common;
 
 use common::{each_font, example, made, some_names, EMPTY, STUB};
 use std::thread;
-use t1subset::{check, convert, join, list, merge, rejoin, show, subset, Form};
+use t1subset::{check, convert, join, list, mend, merge, rejoin, show, subset, Form};
 
 #[test]
 fn subsets_merge_in_any_order_to_the_subset_of_all() {
@@ -41,6 +41,17 @@ fn a_font_has_one_file_in_each_form() {
         assert_eq!((&pfa[..1], &pfb[..2]), (&b"%"[..], &b"\x80\x01"[..]), "{path}");
         assert!(convert(&pfb, Form::Pfa).unwrap() == pfa && convert(&pfa, Form::Pfb).unwrap() == pfb, "{path}");
         assert_eq!(list(&pfa), list(&font), "{path}");
+    }
+}
+
+#[test]
+fn a_mended_font_is_mended() {
+    for (path, font) in each_font() {
+        let (pfa, pfb) = (mend(&font, Form::Pfa).unwrap(), mend(&font, Form::Pfb).unwrap());
+        for mended in [&pfa, &pfb] {
+            assert!(mend(mended, Form::Pfa).unwrap() == pfa && mend(mended, Form::Pfb).unwrap() == pfb, "{path}");
+            assert!(convert(mended, Form::Pfa).unwrap() == pfa, "{path}");
+        }
     }
 }
 
