@@ -171,7 +171,7 @@ def rows_of_mended():
     """Fonts that other programs spell."""
     one = small_font(b"ABCDEF+Small", [STUB] * 4 + [ACROSS], {b"A": 4})
     untagged = small_font(b"Small", [STUB] * 4 + [ACROSS], {b"A": 4})
-    yield Row(["check", "spelled.font"], 1, b"", b"refused: bad Encoding at 34\n")
+    yield Row(["check", "spelled.font"], 1, b"", b"refused: bad Encoding at 31\n")
     yield Row(["mend", "spelled.font", "out"], 0, b"", b"", {"out": one})
     yield Row(["mend", "tested.font", "tested.font"], 0, b"", b"", {"tested.font": one})
     yield Row(["mend", "one.cut", "old"], 0, b"", b"", {"old": one})

@@ -54,7 +54,7 @@ static int files_of(const char *word, int count) {
 
 static int out_of(const char *word) {
     if (!strcmp(word, "merge") || !strcmp(word, "rejoin")) return 2;
-    return !strcmp(word, "pfa") || !strcmp(word, "pfb") || !strcmp(word, "subset") ? 3 : 0;
+    return !strcmp(word, "pfa") || !strcmp(word, "pfb") || !strcmp(word, "mend") || !strcmp(word, "subset") ? 3 : 0;
 }
 
 static void tell(uint32_t number, const t1subset_answer *answer) {
