@@ -51,10 +51,10 @@ def no_fonts():
     yield "no_eexec", b"%!\n"
     yield "short_cipher", HEAD + TABLE % b"A" + b"currentfile eexec\nab"
     yield "no_encoding", made(encoding=b"")
-    yield "bad_encoding", made(encoding=(TABLE % b"A").replace(b"dup", b"% a comment\ndup"))
+    yield "bad_encoding", made(encoding=(TABLE % b"A").replace(b"dup", b"dop"))
     yield "no_charstrings", made(letters=b"")
     yield "bad_leniv", made(private=PRIVATE + b"/lenIV -1 def\n")
-    yield "bad_subrs", made(table=subrs(SUBRS).replace(b"dup 2", b"% a comment\ndup 2"))
+    yield "bad_subrs", made(table=subrs(SUBRS).replace(b"dup 2", b"dup x"))
     yield "bad_charstrings", made(letters=glyphs(GLYPHS).replace(b"/A", b"% a comment\n/A"))
     yield "hybrid", made(middle=subrs(SUBRS) + MIDDLE)
     yield "no_closefile", made(end=b"end\n")

@@ -36,6 +36,7 @@ static uint32_t call(const char *word, const t1subset_bytes *arguments, size_t c
     if (!strcmp(word, "pfa")) return t1subset_convert(first.data, first.size, T1SUBSET_PFA, answer);
     if (!strcmp(word, "pfb")) return t1subset_convert(first.data, first.size, T1SUBSET_PFB, answer);
     if (!strcmp(word, "mend")) return t1subset_mend(first.data, first.size, T1SUBSET_PFA, answer);
+    if (!strcmp(word, "mend --pfb")) return t1subset_mend(first.data, first.size, T1SUBSET_PFB, answer);
     if (!strcmp(word, "subset")) {
         return t1subset_subset(first.data, first.size, arguments + 1, count - 1, T1SUBSET_PFA, answer);
     }
@@ -54,7 +55,7 @@ static int files_of(const char *word, int count) {
 
 static int out_of(const char *word) {
     if (!strcmp(word, "merge") || !strcmp(word, "rejoin")) return 2;
-    return !strcmp(word, "pfa") || !strcmp(word, "pfb") || !strcmp(word, "mend") || !strcmp(word, "subset") ? 3 : 0;
+    return !strcmp(word, "pfa") || !strcmp(word, "pfb") || !strncmp(word, "mend", 4) || !strcmp(word, "subset") ? 3 : 0;
 }
 
 static void tell(uint32_t number, const t1subset_answer *answer) {
@@ -77,7 +78,13 @@ static int write_to(const char *path, t1subset_bytes bytes) {
 
 int main(int count, char **words) {
     if (count < 3) return 2;
-    const int out = out_of(words[1]), files = files_of(words[1], count);
+    const char *word = words[1];
+    if (!strcmp(word, "mend") && !strcmp(words[2], "--pfb")) {
+        word = "mend --pfb";
+        words++;
+        count--;
+    }
+    const int out = out_of(word), files = files_of(word, count);
     t1subset_bytes *arguments = calloc((size_t) count, sizeof *arguments);
     if (!arguments) return 2;
     size_t taken = 0;
@@ -87,7 +94,7 @@ int main(int count, char **words) {
         taken++;
     }
     t1subset_answer answer = T1SUBSET_ANSWER;
-    const uint32_t number = call(words[1], arguments, taken, &answer);
+    const uint32_t number = call(word, arguments, taken, &answer);
     tell(number, &answer);
     int status = number ? 1 : write_to(out ? words[out] : NULL, answer.bytes);
     if (number) fprintf(stderr, "refused: %.*s\n", (int) answer.bytes.size, (const char *) answer.bytes.data);
