@@ -5,7 +5,6 @@ use Rattle.std.proofs.lemmas.Bool.{le-ltb}
 use Rattle.t1_bytes.specs.declared.form.Form.{Form}
 use Rattle.t1_bytes.specs.Limits.{file_limit}
 use Rattle.t1_bytes.specs.Laws.{AreBytes}
-use Rattle.t1_font.specs.declared.dialect.Dialect.TheVariants.{Strict, Wide}
 use Rattle.t1_font.specs.declared.fault.ReadFault.{ReadFault}
 use Rattle.t1_font.specs.FontValue.{FontValue}
 use Rattle.t1_font.specs.FontTest.{untested_font}
@@ -25,6 +24,7 @@ use Rattle.t1_cmd.specs.Answers.{with_reason, if_there}
 use Rattle.t1_cmd.specs.Fonts.{font_reason, font_input, mended_input, file_answer}
 use Rattle.t1_cmd.specs.Files.{value_before, values_from}
 use Rattle.t1_cmd.specs.Mends.{IsMendedFile, AreMendedFiles, MendsAgain, MendsNothing, MendedIsSpelled, RejoinsMended}
+use Rattle.t1_font.specs.Dialect.{strict, wide}
 
 -- ---- the font of a file
 
@@ -60,13 +60,13 @@ mended_font file f bytes = by (nat_lt file_limit (length file)) (read_font_widel
     by false (Err fault) e h = cc
     by false (Ok g) e h =
         let same : untested_font g ≡ f = cc in
-        subst (λ (f : FontValue). IsFont f × (untested_font f ≡ f)) same ((untested_is_font g (read_is_font Wide file g bytes e)).0, font_twice g)
+        subst (λ (f : FontValue). IsFont f × (untested_font f ≡ f)) same ((untested_is_font g (read_is_font wide file g bytes e)).0, font_twice g)
 
 -- the canonical file of a font is read as the font widely, too
 widely_again : (f : FontValue) (form : Form) → IsFont f → Fits form f → read_font_widely (canon f form) ≡ Ok f
 widely_again f form h k =
     let file = canon f form in
-    reads_again Wide file f (spells_widely file f (reads Strict file f (round_trip f form h k)))
+    reads_again wide file f (spells_widely file f (reads strict file f (round_trip f form h k)))
 
 -- the canonical file of a font that has no test to lose is mended to the font
 pub mended_again : (f : FontValue) (form : Form) → IsFont f → Fits form f → untested_font f ≡ f → mended_input (canon f form) ≡ Ok f

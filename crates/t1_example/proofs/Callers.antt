@@ -15,7 +15,6 @@ use Rattle.t1_font.specs.IsFont.{IsFont}
 use Rattle.t1_font.specs.ReadFont.{read_font}
 use Rattle.t1_font.specs.Spelling.{Spells}
 use Rattle.t1_font.specs.WriteLaws.{Fits}
-use Rattle.t1_font.specs.declared.dialect.Dialect.TheVariants.{Strict}
 use Rattle.t1_font.proofs.Spelled.{reads_again, one_font}
 use Rattle.t1_font.proofs.canonical.RoundTrip.{round_trip}
 use Rattle.t1_subset.specs.declared.fault.SubsetFault.{SubsetFault}
@@ -35,6 +34,7 @@ use Rattle.t1_subset.specs.declared.conflict.Conflict.{Conflict}
 use Rattle.t1_subset.specs.Merger.{MergesSubsets}
 use Rattle.std.proofs.lemmas.Bool.{or_left, or_right, not_from_true}
 use Rattle.t1_algebra.proofs.Drawings.{subset_alike, answers_alike}
+use Rattle.t1_font.specs.Dialect.{strict}
 
 -- a subset begins as its font does
 pub cut_fits : (form : Form) (f : FontValue) (a : Names) → Fits form f → Fits form (subset profile f a)
@@ -88,7 +88,7 @@ read_back file cut again a b = sym (same_read cut again (read_font file) a b)
 
 -- the font of the file is the one that can be cut
 pub the_font : (file : List ℕ) (a b : Names) (form : Form) (f g : FontValue) → CanBeCut file a b form f → Spells file g → g ≡ f
-the_font file a b form f g c s = one_font Strict file g f s c.spelled
+the_font file a b form f g c s = one_font strict file g f s c.spelled
 
 -- what two subsets come to, merged in the other order
 pub turned : (g h : FontValue) (r : Result FontValue Conflict) → MergesSubsets h g r → MergesSubsets g h r
@@ -115,12 +115,12 @@ readable file a b form f g c s =
 -- what a file that can be cut is refused for
 pub file_refused : (file : List ℕ) (a b : Names) (form : Form) (f : FontValue) (e : ReadFault) →
     CanBeCut file a b form f → Refused e (read_font file) → e ≡ reading.Memory
-file_refused file a b form f e c r = only_memory (read_font file) f e (reads_again Strict file f c.spelled) r
+file_refused file a b form f e c r = only_memory (read_font file) f e (reads_again strict file f c.spelled) r
 
 -- what a font's own file spells is the font
 pub of_file : (file : List ℕ) (cut g : FontValue) (form : Form) → IsFont cut → Fits form cut → file ≡ canon cut form → Spells file g → g ≡ cut
 of_file file cut g form h k e s =
-    same_read g cut (read_font file) (reads_again Strict file g s) (subst (λ (v : List ℕ). read_font v ≡ Ok cut) (sym e) (round_trip cut form h k))
+    same_read g cut (read_font file) (reads_again strict file g s) (subst (λ (v : List ℕ). read_font v ≡ Ok cut) (sym e) (round_trip cut form h k))
 
 pub moved : (f cut g : FontValue) (n : List ℕ) → g ≡ cut → AnswersAlike f cut n → AnswersAlike f g n
 moved f cut g n e a = subst (λ (j : FontValue). AnswersAlike f j n) (sym e) a

@@ -5,7 +5,7 @@ use Rattle.std.specs.Ordering.{nat_cmp}
 use Rattle.std.proofs.lemmas.List.{length-append}
 use Rattle.t1_grammar.specs.Tables.{with_front, counted_at}
 use Rattle.t1_grammar.specs.CountedLaws.{counted_turn, counted_stops, counted_closes, counted_unclosed}
-use Rattle.t1_font.specs.declared.dialect.Dialect.{Dialect}
+use Rattle.t1_font.specs.declared.dialect.Spacing.{Spacing}
 use Rattle.t1_font.specs.Words.{next_name}
 use Rattle.t1_font.specs.Encoding.{code_count, array_end, from_code}
 use Rattle.t1_font.specs.Entries.{map_of}
@@ -13,7 +13,7 @@ use Rattle.t1_font.specs.FontValue.{Numbered}
 use Rattle.t1_font.proofs.HeldLemmas.{one_code_more}
 
 -- the names of the codes below this one are held, before those that are left
-pub record NamesSoFar (d : Dialect) (bytes rest : List ℕ) (codes : Numbered) (code : ℕ) : Type 0 where
+pub record NamesSoFar (d : Spacing) (bytes rest : List ℕ) (codes : Numbered) (code : ℕ) : Type 0 where
   pub names : List (List ℕ)
   pub count : length names ≡ code
   pub held : codes ≡ map_of (from_code 0 names)
@@ -24,7 +24,7 @@ from_code-push c [] n = ap (λ (k : ℕ). (k, n) ∷ []) (omega arith)
 from_code-push c (m ∷ names) n =
     ap (λ (es : List (ℕ × List ℕ)). (c, m) ∷ es) (from_code-push (suc c) names n ∙ ap (λ (k : ℕ). from_code (suc c) names ++ (k, n) ∷ []) (omega arith))
 
-module _ (d : Dialect) (bytes rest : List ℕ) (codes : Numbered) (code : ℕ) (s : NamesSoFar d bytes rest codes code) where
+module _ (d : Spacing) (bytes rest : List ℕ) (codes : Numbered) (code : ℕ) (s : NamesSoFar d bytes rest codes code) where
   before_one : (m : ℕ) → code_count - code ≡ m →
       with_front s.names (counted_at (next_name d) (array_end d) m rest) ≡ counted_at (next_name d) (array_end d) code_count bytes
   before_one m e =
@@ -52,7 +52,7 @@ module _ (d : Dialect) (bytes rest : List ℕ) (codes : Numbered) (code : ℕ) (
       counted_stops (next_name d) (array_end d) (code_count - suc code) s.names rest _ e (before_one (suc (code_count - suc code)) (omega (arith, below)))
 
 -- behind the last name
-module _ (d : Dialect) (bytes rest : List ℕ) (codes : Numbered) (code : ℕ) (all : code_count ≤ code) (s : NamesSoFar d bytes rest codes code) where
+module _ (d : Spacing) (bytes rest : List ℕ) (codes : Numbered) (code : ℕ) (all : code_count ≤ code) (s : NamesSoFar d bytes rest codes code) where
   none_left : with_front s.names (counted_at (next_name d) (array_end d) zero rest) ≡ counted_at (next_name d) (array_end d) code_count bytes
   none_left = before_one d bytes rest codes code s zero (omega (arith, all))
 

@@ -3,13 +3,13 @@ use Rattle.std.proofs.Common.{◌≡◌, ℕ, zero, suc, ◌+◌, ◌-◌, ◌<�
 use Rattle.std.proofs.Common.{map, length, drop, get_or, Option, Some, None, Bor, inl, inr, refl, sym, ap, ◌∙◌, append_assoc, subst, true, false}
 use Rattle.std.specs.Prelude.{not}
 use Rattle.std.specs.Option.{option_and_then, option_map}
-use Rattle.std.proofs.lemmas.List.{drop_more, drop_all, drop_at, drop-drop, length-drop, length-append}
+use Rattle.std.proofs.lemmas.List.{drop_more, drop_all, drop_at, drop-drop, length-take-le, length-drop, length-append}
 use Rattle.std.proofs.lemmas.Bool.{cases_Bool, cases_lt}
 use Rattle.std.proofs.lemmas.Option.{none-some, same_Some}
 use Rattle.t1_grammar.specs.Grammar.{Grammar, NoneIn, first, count, unread}
 use Rattle.t1_grammar.specs.Places.{NoneBelow, first_found, first_nowhere, one_more, unread_lacks}
 use Rattle.t1_font.specs.Words.{is_regular}
-use Rattle.t1_font.specs.FontTest.{token, tokens, font_test, apart_test, found_test, around}
+use Rattle.t1_font.specs.FontTest.{token, tokens, font_test, apart_test, found_test, place_and_around}
 use Rattle.t1_font.proofs.Untested.{begins_test}
 
 -- ---- tokens
@@ -169,13 +169,16 @@ module _ (head : List ℕ) (from place : ℕ) (behind : List ℕ) (none : NoneBe
   none_before = none_between head from place (omega (arith, m.within)) none m.absent
 
   -- a test that is met where no word goes on is the first
-  pub found_there : not (is_regular (get_or (padded head) place 0)) ≡ true → Some (take place head ++ behind) ≡ option_map around (found_test head)
+  pub found_there : not (is_regular (get_or (padded head) place 0)) ≡ true →
+      Some (length (take place head), take place head ++ behind) ≡ option_map place_and_around (found_test head)
   found_there h =
       let b : ℕ = get_or (padded head) place 0 in
       let read : apart_test.read (drop place (padded head)) ≡ Some (b ∷ [], behind) = ap apart_test.read (padded_at head place (omega (arith, m.within)))
       ∙ (one_break b (drop place head) h ∙ ap (option_and_then (λ x. Some (b ∷ [], x.1))) m.here) in
-      sym (ap (option_map around) (first_found apart_test (padded head) place (b ∷ []) behind (omega (arith, m.within)) none_before read)
-      ∙ ap (λ (u : List ℕ). Some (drop 1 u)) (front_of place 10 head behind (omega (arith, m.within))))
+      let same : length (take place (padded head)) ≡ length (take place head) = length-take-le place (padded head) (omega (arith, m.within))
+      ∙ sym (length-take-le place head (omega (arith, m.within))) in
+      sym (ap (option_map place_and_around) (first_found apart_test (padded head) place (b ∷ []) behind (omega (arith, m.within)) none_before read)
+      ∙ (λ i. Some (same i, drop 1 (front_of place 10 head behind (omega (arith, m.within)) i))))
 
   -- one that is met in a word is passed
   pub passed_there : not (is_regular (get_or (padded head) place 0)) ≡ false → NoneBelow apart_test (padded head) (place + 1)
@@ -184,7 +187,7 @@ module _ (head : List ℕ) (from place : ℕ) (behind : List ℕ) (none : NoneBe
 
 -- where none is met any more, none is found
 pub nowhere_there : (head : List ℕ) (from : ℕ) → NoneBelow apart_test (padded head) from → None ≡ place_from from ((first font_test).read (drop from head)) →
-    None ≡ option_map around (found_test head)
+    None ≡ option_map place_and_around (found_test head)
 unfolding apart_test
 nowhere_there head from none e =
     let lacks = unread_lacks font_test (drop from head) (no_place ((first font_test).read (drop from head)) e) in
@@ -194,7 +197,7 @@ nowhere_there head from none e =
     let last : apart_test.read (drop (length head + 1) (padded head)) ≡ None = ap apart_test.read (drop_all (length head + 1) (padded head) (omega arith)) in
     let nowhere : NoneBelow apart_test (padded head) (length head + 1 + 1) =
     one_more apart_test (padded head) (length head + 1) (none_between head from (length head + 1) (omega arith) none absent) last in
-    sym (ap (option_map around) (first_nowhere apart_test (padded head) (λ k h. nowhere k (omega (arith, h)))))
+    sym (ap (option_map place_and_around) (first_nowhere apart_test (padded head) (λ k h. nowhere k (omega (arith, h)))))
   where
     no_place : (o : Option ((List ℕ × Unit {0}) × List ℕ)) → None ≡ place_from from o → o ≡ None
     no_place None e = refl

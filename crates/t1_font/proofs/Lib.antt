@@ -26,6 +26,7 @@ pub mod ByteLemmas
 pub mod Kept
 pub mod read_fonts
 pub mod Widely
+pub mod Mended
 pub mod rows
 pub mod CutEntries
 pub mod CutLoops

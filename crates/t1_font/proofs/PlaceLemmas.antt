@@ -2,7 +2,7 @@
 use Rattle.std.proofs.Common.{◌≡◌, refl, sym, ap, ◌∙◌, ℕ, ◌+◌, ◌-◌, ◌≤◌, arith, List, [], ◌++◌, Some, length, take, drop}
 use Rattle.std.proofs.lemmas.List.{append_assoc, length-append, drop_at, take_at}
 use Rattle.t1_grammar.specs.Grammar.{Grammar, count}
-use Rattle.t1_font.specs.declared.dialect.Dialect.{Dialect}
+use Rattle.t1_font.specs.declared.dialect.Spacing.{Spacing}
 use Rattle.t1_font.specs.declared.places.Place.{Place}
 use Rattle.t1_font.specs.Words.{name, next_name}
 use Rattle.t1_font.specs.Places.{ending, placed, StandsIn}
@@ -32,7 +32,7 @@ pub no_longer : {A : Type 0} (g : Grammar A) → (bytes : List ℕ) (x : A × Li
 no_longer g bytes x e = let h = g.takes bytes x e in omega (arith, ap length h.1, length-append h.0 x.1)
 
 -- a name stands right before what is left
-pub name_stands : (d : Dialect) (bytes : List ℕ) (x : List ℕ × List ℕ) → (next_name d).read bytes ≡ Some x → StandsIn bytes x.0 (length x.1)
+pub name_stands : (d : Spacing) (bytes : List ℕ) (x : List ℕ × List ℕ) → (next_name d).read bytes ≡ Some x → StandsIn bytes x.0 (length x.1)
 unfolding next_name name
 name_stands d bytes x e =
     let h = (next_name d).takes bytes x e in

@@ -8,6 +8,7 @@ use Rattle.t1_grammar.specs.Tables.{TableAt}
 use Rattle.t1_grammar.specs.Formats.{MayOccur, occurs_again, one_value}
 use Rattle.t1_bytes.specs.Cipher.{decrypted, private_text}
 use Rattle.t1_bytes.specs.Limits.{file_limit}
+use Rattle.t1_font.specs.declared.dialect.Spacing.{Spacing}
 use Rattle.t1_font.specs.declared.dialect.Dialect.{Dialect}
 use Rattle.t1_bytes.specs.FlatText.{IsFlat}
 use Rattle.t1_font.specs.declared.fault.ReadFault.{ReadFault}
@@ -109,7 +110,7 @@ is_tail middle after tail s =
 abbrev made : List ℕ → ℕ → Option SubrsPieces → List ℕ → PrivatePieces
 made private iv subrs middle = record { private = private; len_iv = iv; subrs = subrs; middle = middle; glyphs = []; tail = [] }
 
-glyphs_are : (d : Dialect) (text private : List ℕ) (subrs : Option SubrsPieces) (middle : List ℕ) (iv : ℕ) (rest : List ℕ) (p : PrivatePieces) →
+glyphs_are : (d : Spacing) (text private : List ℕ) (subrs : Option SubrsPieces) (middle : List ℕ) (iv : ℕ) (rest : List ℕ) (p : PrivatePieces) →
     SpellsTables d text (made private iv subrs middle) subrs rest → IsLenIV private iv →
     (glyphs_from (length text) private subrs middle iv rest).Spells p → IsPrivate d text p
 unfolding glyphs_from
@@ -129,12 +130,12 @@ glyphs_are d text private subrs middle iv rest p tables i s =
     before gs closing after tail t =
         record { start = rest; closing = closing; tables = record { tables = moved gs tail subrs tables; len_iv = i }; glyphs = t }
 
-without_subrs : (d : Dialect) (text : List ℕ) (chars : (List ℕ × Unit {0}) × List ℕ) (p : PrivatePieces) → Start text chars.0.0 None chars.1 →
+without_subrs : (d : Spacing) (text : List ℕ) (chars : (List ℕ × Unit {0}) × List ℕ) (p : PrivatePieces) → Start text chars.0.0 None chars.1 →
     (tables_from d (length text) chars None).Spells p → IsPrivate d text p
 unfolding tables_from
 without_subrs d text chars p a s = glyphs_are d text chars.0.0 None [] s.0 chars.1 p (a, refl) (iv_spelled chars.0.0 s.0 s.1) s.2
 
-with_subrs : (d : Dialect) (text : List ℕ) (chars : (List ℕ × Unit {0}) × List ℕ) (x : (List ℕ × ℕ) × List ℕ) (p : PrivatePieces) →
+with_subrs : (d : Spacing) (text : List ℕ) (chars : (List ℕ × Unit {0}) × List ℕ) (x : (List ℕ × ℕ) × List ℕ) (p : PrivatePieces) →
     Start text x.0.0 (Some x.0.1) x.1 → (tables_from d (length text) chars (Some x)).Spells p → IsPrivate d text p
 unfolding tables_from
 with_subrs d text chars x p a s =
@@ -144,10 +145,10 @@ with_subrs d text chars x p a s =
     glyphs_are d text x.0.0 (Some subrs) next.0.0 s.0 next.1 p (x.1, t.2, a, s.2.1, s.2.2.1) (iv_spelled x.0.0 s.0 s.1) s.2.2.2
 
 -- the tables where the marker of Subrs stands before that of CharStrings, or doesn't
-abbrev Chosen : Dialect → List ℕ → (List ℕ × Unit {0}) × List ℕ → (List ℕ × ℕ) × List ℕ → PrivatePieces → Bool → Type 0
+abbrev Chosen : Spacing → List ℕ → (List ℕ × Unit {0}) × List ℕ → (List ℕ × ℕ) × List ℕ → PrivatePieces → Bool → Type 0
 Chosen d text chars x p b = (tables_from d (length text) chars (cond b (Some x) None)).Spells p
 
-private_is : (d : Dialect) (text : List ℕ) (p : PrivatePieces) → (private_pieces d text).Spells p → IsPrivate d text p
+private_is : (d : Spacing) (text : List ℕ) (p : PrivatePieces) → (private_pieces d text).Spells p → IsPrivate d text p
 unfolding private_pieces
 private_is d text p s = by_marker s.2.0 s.2.1 s.2.2
   where
@@ -162,7 +163,7 @@ private_is d text p s = by_marker s.2.0 s.2.1 s.2.2
       | inr ge ↦ without_subrs d text chars p (s.1, later x.0.0 x.0.1 x.1 m (ltb-false _ _ ge)) (subst (Chosen d text chars x p) ge t)
     ]
 
-is_private : (d : Dialect) (text : List ℕ) (p : PrivatePieces) → IsPrivate d text p → (private_pieces d text).Spells p
+is_private : (d : Spacing) (text : List ℕ) (p : PrivatePieces) → IsPrivate d text p → (private_pieces d text).Spells p
 unfolding private_pieces tables_from glyphs_from
 is_private d text p s = by_subrs p.subrs refl b.tables.tables
   where
@@ -244,7 +245,7 @@ file_spells d file font s =
     let texts = texts_are file s.2.0 parts (leb-true (length file) file_limit s.1) s.2.1 s.2.2.1 in
     let t = s.2.2.2 in
     let clear = clear_is d parts.clear t.0 t.1 in
-    let private = private_is d (private_text parts.cipher) t.2.0 t.2.1 in
+    let private = private_is d.subrs (private_text parts.cipher) t.2.0 t.2.1 in
     let pieces : HasPieces d file t.0 t.2.0 =
     record { clear = parts.clear; text = private_text parts.cipher; texts = texts; clear_is = clear; private_is = private } in
     let f = font_is t.0 t.2.0 font t.2.2 in
@@ -257,9 +258,9 @@ spells_file d file font s =
     let h = s.pieces in
     let t = h.texts in
     let parts : FlatPieces = record { clear = h.clear; cipher = t.cipher } in
-    let private : (private_pieces d (private_text t.cipher)).Spells s.inside =
-    subst (λ (x : List ℕ). (private_pieces d x).Spells s.inside) (private_again t.lead h.text t.cipher t.secret t.lead_is)
-    (is_private d h.text s.inside h.private_is) in
+    let private : (private_pieces d.subrs (private_text t.cipher)).Spells s.inside =
+    subst (λ (x : List ℕ). (private_pieces d.subrs x).Spells s.inside) (private_again t.lead h.text t.cipher t.secret t.lead_is)
+    (is_private d.subrs h.text s.inside h.private_is) in
     let cut : (flat_pieces t.flat).Spells parts = ((t.at, t.cipher), t.split, (λ i. record { clear = sym t.clear_is i; cipher = t.cipher })) in
     let font_is = is_font s.outside s.inside font (record { value = s.value; has_notdef = s.has_notdef; within = s.within }) in
     let inside : (font_texts d h.clear (private_text t.cipher)).Spells font =

@@ -12,8 +12,8 @@ use Rattle.t1_grammar.specs.Grammar.{Grammar, pure, ◌>>=◌, ◌>>◌, that, m
 use Rattle.t1_grammar.specs.Tables.{Entries, IsTable}
 use Rattle.t1_grammar.specs.Scans.{GoesOn}
 use Rattle.t1_bytes.specs.White.{is_white, white, gap}
-use Rattle.t1_font.specs.declared.dialect.Dialect.TheVariants.{Strict, Wide}
-use Rattle.t1_font.specs.Dialect.{Blank, spacing, white_and_comments, white_in, gap_in}
+use Rattle.t1_font.specs.declared.dialect.Spacing.TheVariants.{White, Comments}
+use Rattle.t1_font.specs.Dialect.{Blank, spacing, white_and_comments, white_in, gap_in, strict, wide}
 use Rattle.t1_font.specs.Words.{is_regular, is_word, is_decimal, word, keyword, decimal, name, next_name, phrase_of, passes}
 use Rattle.t1_font.specs.Entry.{entry}
 use Rattle.t1_font.specs.Subrs.{Subr, subr_key, subr, subrs_end}
@@ -46,7 +46,7 @@ white_wide : (a text rest : List ℕ) → white.Spells a text rest → starts_co
 unfolding white_and_comments
 white_wide a text rest s h = (s.0, white_goes a rest s.1 s.2 h)
 
-gap_wide : (a text rest : List ℕ) → gap.Spells a text rest → starts_comment rest ≡ false → (gap_in Wide).Spells a text rest
+gap_wide : (a text rest : List ℕ) → gap.Spells a text rest → starts_comment rest ≡ false → (gap_in Comments).Spells a text rest
 unfolding gap
 gap_wide a text rest s h = (white_wide a text rest s.0 h, s.1)
 
@@ -64,14 +64,14 @@ module _ {A : Type 0} (g : Grammar A) (plain : Plain g) where
       ((a : A) × (own after : List ℕ) × (back ≡ own ++ after) × g.Spells a own (after ++ rest) × More a after)
 
   white_then : {More Wider : A → List ℕ → Type 0} (text rest : List ℕ) → Then white More text rest → ((a : A) (t : List ℕ) → More a t → Wider a t) →
-      Then (white_in Wide) Wider text rest
+      Then (white_in Comments) Wider text rest
   white_then text rest s f =
       let n = s.5 in
       let none = starts g plain n.0 s.2 n.1 n.2 rest n.3 n.4 in
       (s.0, s.1, s.2, s.3, white_wide s.0 s.1 (s.2 ++ rest) s.4 none, (n.0, n.1, n.2, n.3, n.4, f n.0 n.2 n.5))
 
   gap_then : {More Wider : A → List ℕ → Type 0} (text rest : List ℕ) → Then gap More text rest → ((a : A) (t : List ℕ) → More a t → Wider a t) →
-      Then (gap_in Wide) Wider text rest
+      Then (gap_in Comments) Wider text rest
   gap_then text rest s f =
       let n = s.5 in
       let none = starts g plain n.0 s.2 n.1 n.2 rest n.3 n.4 in
@@ -81,10 +81,10 @@ module _ {A : Type 0} (g : Grammar A) (plain : Plain g) where
   abbrev pub Last : Grammar (List ℕ) → A → List ℕ → List ℕ → Type 0
   Last space a text rest = (w front back : List ℕ) × (text ≡ front ++ back) × space.Spells w front (back ++ rest) × g.Spells a back rest
 
-  white_last : (a : A) (text rest : List ℕ) → Last white a text rest → Last (white_in Wide) a text rest
+  white_last : (a : A) (text rest : List ℕ) → Last white a text rest → Last (white_in Comments) a text rest
   white_last a text rest s = (s.0, s.1, s.2, s.3, white_wide s.0 s.1 (s.2 ++ rest) s.4 (plain a s.2 rest s.5), s.5)
 
-  gap_last : (a : A) (text rest : List ℕ) → Last gap a text rest → Last (gap_in Wide) a text rest
+  gap_last : (a : A) (text rest : List ℕ) → Last gap a text rest → Last (gap_in Comments) a text rest
   gap_last a text rest s = (s.0, s.1, s.2, s.3, gap_wide s.0 s.1 (s.2 ++ rest) s.4 (plain a s.2 rest s.5), s.5)
 
 -- ---- which texts begin none
@@ -155,7 +155,7 @@ name_plain n text rest s = starts (fixed (codes "/")) (fixed_plain (codes "/") r
 
 -- ---- the entries of tables
 
-put_wide : (e : CodeEntry) (text rest : List ℕ) → (put_entry Strict).Spells e text rest → (put_entry Wide).Spells e text rest
+put_wide : (e : CodeEntry) (text rest : List ℕ) → (put_entry White).Spells e text rest → (put_entry Comments).Spells e text rest
 unfolding put_entry
 put_wide e text rest s =
     white_then (keyword (codes "dup")) (keyword_plain (codes "dup") refl) text rest s (λ a t s.
@@ -163,31 +163,31 @@ put_wide e text rest s =
     white_then name name_plain t rest s (λ a t s.
     gap_then (keyword (codes "put")) (keyword_plain (codes "put") refl) t rest s (λ a t s. s))))
 
-next_name_wide : (n text rest : List ℕ) → (next_name Strict).Spells n text rest → (next_name Wide).Spells n text rest
+next_name_wide : (n text rest : List ℕ) → (next_name White).Spells n text rest → (next_name Comments).Spells n text rest
 unfolding next_name
 next_name_wide n text rest s = white_last name name_plain n text rest s
 
-subr_key_wide : (declared i : ℕ) (text rest : List ℕ) → (subr_key Strict declared).Spells i text rest → (subr_key Wide declared).Spells i text rest
+subr_key_wide : (declared i : ℕ) (text rest : List ℕ) → (subr_key White declared).Spells i text rest → (subr_key Comments declared).Spells i text rest
 unfolding subr_key
 subr_key_wide declared i text rest s = white_then (keyword (codes "dup")) (keyword_plain (codes "dup") refl) text rest s (λ a t s. s)
 
-subr_wide : (declared iv : ℕ) (e : Subr) (text rest : List ℕ) → (subr Strict declared iv).Spells e text rest → (subr Wide declared iv).Spells e text rest
+subr_wide : (declared iv : ℕ) (e : Subr) (text rest : List ℕ) → (subr White declared iv).Spells e text rest → (subr Comments declared iv).Spells e text rest
 unfolding entry
 subr_wide declared iv e text rest s = (s.0, s.1, s.2, s.3, subr_key_wide declared s.0 s.1 (s.2 ++ rest) s.4, s.5)
 
-subrs_end_wide : (p text rest : List ℕ) → (subrs_end Strict).Spells p text rest → (subrs_end Wide).Spells p text rest
+subrs_end_wide : (p text rest : List ℕ) → (subrs_end White).Spells p text rest → (subrs_end Comments).Spells p text rest
 unfolding subrs_end
 subrs_end_wide p text rest s = white_last (phrase_of (passes false)) (phrase_plain (passes false)) p text rest s
 
-module _ {A B : Type 0} (entry wide : Grammar A) (close ends : Grammar B) where
-  entries_wide : ((a : A) (text rest : List ℕ) → entry.Spells a text rest → wide.Spells a text rest) → (xs : List A) (text rest : List ℕ) →
-      Entries entry xs text rest → Entries wide xs text rest
+module _ {A B : Type 0} (entry wider : Grammar A) (close ends : Grammar B) where
+  entries_wide : ((a : A) (text rest : List ℕ) → entry.Spells a text rest → wider.Spells a text rest) → (xs : List A) (text rest : List ℕ) →
+      Entries entry xs text rest → Entries wider xs text rest
   entries_wide f [] text rest s = s
   entries_wide f (a ∷ xs) text rest s = (s.0, s.1, s.2, f a s.0 (s.1 ++ rest) s.3, entries_wide f xs s.1 rest s.4)
 
-  table_wide : ((a : A) (text rest : List ℕ) → entry.Spells a text rest → wide.Spells a text rest) →
+  table_wide : ((a : A) (text rest : List ℕ) → entry.Spells a text rest → wider.Spells a text rest) →
       ((b : B) (text rest : List ℕ) → close.Spells b text rest → ends.Spells b text rest) →
-      (xs : List A) (b : B) (text rest : List ℕ) → IsTable entry close xs b text rest → IsTable wide ends xs b text rest
+      (xs : List A) (b : B) (text rest : List ℕ) → IsTable entry close xs b text rest → IsTable wider ends xs b text rest
   table_wide f h xs b text rest s = (s.0, s.1, s.2, entries_wide f xs s.0 (s.1 ++ rest) s.3, h b s.1 rest s.4)
 
 -- ---- how an Encoding ends
@@ -203,12 +203,12 @@ other_keyword v w bytes x e differ =
 
 -- no `readonly` stands where `def` does
 not_readonly : (v bytes : List ℕ) (x : List ℕ × List ℕ) → (keyword v).read bytes ≡ Some x → bytes_eq (codes "readonly") v ≡ false →
-    NotAtFront (keyword (codes "readonly") >> gap_in Wide) bytes
+    NotAtFront (keyword (codes "readonly") >> gap_in Comments) bytes
 not_readonly v bytes x e differ =
     let none = other_keyword v (codes "readonly") bytes x e differ in
-    unspelled (keyword (codes "readonly") >> gap_in Wide) bytes (rw none refl)
+    unspelled (keyword (codes "readonly") >> gap_in Comments) bytes (rw none refl)
 
-end_wide : (c text rest : List ℕ) → (encoding_end Strict).Spells c text rest → (encoding_end Wide).Spells c text rest
+end_wide : (c text rest : List ℕ) → (encoding_end White).Spells c text rest → (encoding_end Comments).Spells c text rest
 unfolding encoding_end
 end_wide c text rest s = by_readonly s.5.4
   where
@@ -218,7 +218,7 @@ end_wide c text rest s = by_readonly s.5.4
     def_plain : starts_comment (s.5.2 ++ rest) ≡ false
     def_plain = keyword_plain (codes "def") refl c s.5.2 rest s.5.5
 
-    by_readonly : (readonly Strict).Spells s.5.0 s.5.1 (s.5.2 ++ rest) → (encoding_end Wide).Spells c text rest
+    by_readonly : (readonly White).Spells s.5.0 s.5.1 (s.5.2 ++ rest) → (encoding_end Comments).Spells c text rest
     by_readonly (inl p) =
         let word = starts (keyword (codes "readonly")) (keyword_plain (codes "readonly") refl) p.0 s.5.1 p.1 p.2 (s.5.2 ++ rest) p.3 p.4 in
         let none = ap (λ t. starts_comment (t ++ rest)) s.5.3 ∙ (ap starts_comment (append_assoc s.5.1 s.5.2 rest) ∙ word) in (
@@ -232,17 +232,17 @@ end_wide c text rest s = by_readonly s.5.4
     by_readonly (inr q) =
         let own : s.5.1 ++ (s.5.2 ++ rest) ≡ s.5.2 ++ rest = ap (λ t. t ++ (s.5.2 ++ rest)) q.0.0 in
         let none = ap (λ t. starts_comment (t ++ rest)) s.5.3 ∙ (ap starts_comment (append_assoc s.5.1 s.5.2 rest ∙ own) ∙ def_plain) in
-        let absent = subst (NotAtFront (keyword (codes "readonly") >> gap_in Wide)) (sym own) (not_readonly (codes "def") (s.5.2 ++ rest) _ def_read refl) in
+        let absent = subst (NotAtFront (keyword (codes "readonly") >> gap_in Comments)) (sym own) (not_readonly (codes "def") (s.5.2 ++ rest) _ def_read refl) in
         (s.0, s.1, s.2, s.3, white_wide s.0 s.1 (s.2 ++ rest) s.4 none, (s.5.0, s.5.1, s.5.2, s.5.3, inr (q.0, absent), s.5.5))
 
-array_end_wide : (c text rest : List ℕ) → (array_end Strict).Spells c text rest → (array_end Wide).Spells c text rest
+array_end_wide : (c text rest : List ℕ) → (array_end White).Spells c text rest → (array_end Comments).Spells c text rest
 unfolding array_end
 array_end_wide c text rest s = white_then (fixed (codes "]")) (fixed_plain (codes "]") refl) text rest s (λ a t s. end_wide c t rest s)
 
 -- ---- how an Encoding begins
 
 -- no bytes between a word and its `def`
-word_wide : (w text rest : List ℕ) → (encoding_word Strict).Spells w text rest → (encoding_word Wide).Spells w text rest
+word_wide : (w text rest : List ℕ) → (encoding_word strict).Spells w text rest → (encoding_word wide).Spells w text rest
 unfolding encoding_word
 word_wide w text rest s = white_then word word_plain text rest s (λ a t s.
     let r = s.5 in
@@ -254,27 +254,27 @@ word_wide w text rest s = white_then word word_plain text rest s (λ a t s.
     let none : starts_comment (s.2 ++ rest) ≡ false = ap starts_comment (own ∙ last) ∙ def_plain in
     let here : r.1 ++ (r.2 ++ rest) ≡ k.1 ++ (k.2 ++ rest) = ap (λ u. u ++ (r.2 ++ rest)) r.4.0 ∙ last in
     let absent =
-    subst (NotAtFront (keyword (codes "readonly") >> gap_in Wide)) (sym here) (not_readonly (codes "def") (k.1 ++ (k.2 ++ rest)) _ def_read refl) in
+    subst (NotAtFront (keyword (codes "readonly") >> gap_in Comments)) (sym here) (not_readonly (codes "def") (k.1 ++ (k.2 ++ rest)) _ def_read refl) in
     (s.0, s.1, s.2, s.3, gap_wide s.0 s.1 (s.2 ++ rest) s.4 none, (r.0, r.1, r.2, r.3, inr (r.4, absent), k)))
 
-start_table_wide : (a text rest : List ℕ) → (encoding_table Strict).Spells a text rest → (encoding_table Wide).Spells a text rest
+start_table_wide : (a text rest : List ℕ) → (encoding_table White).Spells a text rest → (encoding_table Comments).Spells a text rest
 unfolding encoding_table
 start_table_wide a text rest s = white_then (keyword (codes "256")) (keyword_plain (codes "256") refl) text rest s (λ k t s.
     gap_last (keyword (codes "array")) (keyword_plain (codes "array") refl) a t rest s)
 
-range_wide : (a text rest : List ℕ) → (loop_range Strict).Spells a text rest → (loop_range Wide).Spells a text rest
+range_wide : (a text rest : List ℕ) → (loop_range White).Spells a text rest → (loop_range Comments).Spells a text rest
 range_wide a text rest s = white_then (keyword (codes "0")) (keyword_plain (codes "0") refl) text rest s (λ k t s.
     gap_then (keyword (codes "1")) (keyword_plain (codes "1") refl) t rest s (λ k t s.
     gap_last (keyword (codes "255")) (keyword_plain (codes "255") refl) a t rest s))
 
-body_wide : (a text rest : List ℕ) → (loop_body Strict).Spells a text rest → (loop_body Wide).Spells a text rest
+body_wide : (a text rest : List ℕ) → (loop_body White).Spells a text rest → (loop_body Comments).Spells a text rest
 body_wide a text rest s = white_then (keyword (codes "1")) (keyword_plain (codes "1") refl) text rest s (λ k t s.
     gap_then (keyword (codes "index")) (keyword_plain (codes "index") refl) t rest s (λ k t s.
     gap_then (keyword (codes "exch")) (keyword_plain (codes "exch") refl) t rest s (λ k t s.
     white_then (fixed (codes "/")) (fixed_plain (codes "/") refl) t rest s (λ k t s.
     (s.0, s.1, s.2, s.3, s.4, gap_last (keyword (codes "put")) (keyword_plain (codes "put") refl) a s.2 rest s.5)))))
 
-loop_wide : (a text rest : List ℕ) → (encoding_loop Strict).Spells a text rest → (encoding_loop Wide).Spells a text rest
+loop_wide : (a text rest : List ℕ) → (encoding_loop White).Spells a text rest → (encoding_loop Comments).Spells a text rest
 unfolding encoding_loop
 loop_wide a text rest s = (
   s.0,
@@ -293,17 +293,17 @@ loop_wide a text rest s = (
   )),
 )
 
-array_wide : (a text rest : List ℕ) → (array_start Strict).Spells a text rest → (array_start Wide).Spells a text rest
+array_wide : (a text rest : List ℕ) → (array_start White).Spells a text rest → (array_start Comments).Spells a text rest
 unfolding array_start
 array_wide a text rest s = white_last (fixed (codes "[")) (fixed_plain (codes "[") refl) a text rest s
 
 -- ---- which Encoding it is
 
 -- what is read behind what may stand between words
-read_behind : (w front back rest text : List ℕ) → text ≡ front ++ back → (white_in Wide).Spells w front (back ++ rest) →
-    (white_in Wide).read (text ++ rest) ≡ Some (w, back ++ rest)
+read_behind : (w front back rest text : List ℕ) → text ≡ front ++ back → (white_in Comments).Spells w front (back ++ rest) →
+    (white_in Comments).read (text ++ rest) ≡ Some (w, back ++ rest)
 read_behind w front back rest text e s =
-    ap (white_in Wide).read (ap (λ t. t ++ rest) e ∙ append_assoc front back rest) ∙ (white_in Wide).again w front (back ++ rest) s
+    ap (white_in Comments).read (ap (λ t. t ++ rest) e ∙ append_assoc front back rest) ∙ (white_in Comments).again w front (back ++ rest) s
 
 -- a keyword is a word
 keyword_word : (v bytes : List ℕ) (x : List ℕ × List ℕ) → (keyword v).read bytes ≡ Some x → is_word v ≡ true → word.read bytes ≡ Some x
@@ -315,7 +315,7 @@ keyword_word v bytes x e h =
     rw (ap is_word own ∙ h) (ap (λ (y : List ℕ × List ℕ). Some y) t.1)
 
 -- a table is no word
-table_no_word : (a text rest : List ℕ) → (encoding_table Wide).Spells a text rest → (encoding_word Wide).read (text ++ rest) ≡ None
+table_no_word : (a text rest : List ℕ) → (encoding_table Comments).Spells a text rest → (encoding_word wide).read (text ++ rest) ≡ None
 unfolding encoding_table encoding_word
 table_no_word a text rest s =
     let k = s.5 in
@@ -324,21 +324,21 @@ table_no_word a text rest s =
     let number_read : (keyword (codes "256")).read (s.2 ++ rest) ≡ Some (k.0, k.2 ++ rest) =
     ap (keyword (codes "256")).read (ap (λ t. t ++ rest) k.3 ∙ append_assoc k.1 k.2 rest) ∙ (keyword (codes "256")).again k.0 k.1 (k.2 ++ rest) k.4 in
     let second = keyword_word (codes "256") (s.2 ++ rest) _ number_read refl in
-    let third : (gap_in Wide).read (k.2 ++ rest) ≡ Some (g.0, g.2 ++ rest) =
-    ap (gap_in Wide).read (ap (λ t. t ++ rest) g.3 ∙ append_assoc g.1 g.2 rest) ∙ (gap_in Wide).again g.0 g.1 (g.2 ++ rest) g.4 in
+    let third : (gap_in Comments).read (k.2 ++ rest) ≡ Some (g.0, g.2 ++ rest) =
+    ap (gap_in Comments).read (ap (λ t. t ++ rest) g.3 ∙ append_assoc g.1 g.2 rest) ∙ (gap_in Comments).again g.0 g.1 (g.2 ++ rest) g.4 in
     let array_read = (keyword (codes "array")).again a g.2 rest g.5 in
     let no_readonly = other_keyword (codes "array") (codes "readonly") (g.2 ++ rest) _ array_read refl in
     let no_def = other_keyword (codes "array") (codes "def") (g.2 ++ rest) _ array_read refl in
     rw (first, second, third, no_readonly, no_def) refl
 
 -- an array is no word, and no table
-array_no_word : (a text rest : List ℕ) → (array_start Wide).Spells a text rest → (encoding_word Wide).read (text ++ rest) ≡ None
+array_no_word : (a text rest : List ℕ) → (array_start Comments).Spells a text rest → (encoding_word wide).read (text ++ rest) ≡ None
 unfolding array_start encoding_word word
 array_no_word a text rest s =
     let own : s.2 ++ rest ≡ 91 ∷ rest = ap (λ t. t ++ rest) (s.5.0.0 ∙ sym ((bytes_eq-Decides (codes "[") a).0 s.5.1)) in
     rw (read_behind s.0 s.1 s.2 rest text s.3 s.4, own) refl
 
-array_no_table : (a text rest : List ℕ) → (array_start Wide).Spells a text rest → (encoding_table Wide).read (text ++ rest) ≡ None
+array_no_table : (a text rest : List ℕ) → (array_start Comments).Spells a text rest → (encoding_table Comments).read (text ++ rest) ≡ None
 unfolding array_start encoding_table keyword
 array_no_table a text rest s =
     let own : s.2 ++ rest ≡ 91 ∷ rest = ap (λ t. t ++ rest) (s.5.0.0 ∙ sym ((bytes_eq-Decides (codes "[") a).0 s.5.1)) in
@@ -349,15 +349,15 @@ record Comes (v bytes : List ℕ) : Type 0 where
   pub before : List ℕ
   pub behind : List ℕ
   pub left : List ℕ × List ℕ
-  pub white_read : (white_in Wide).read bytes ≡ Some (before, behind)
+  pub white_read : (white_in Comments).read bytes ≡ Some (before, behind)
   pub keyword_read : (keyword v).read behind ≡ Some left
 
 -- where another keyword comes, the loop doesn't
-no_loop : (v bytes : List ℕ) → bytes_eq (codes "0") v ≡ false → Comes v bytes → (encoding_loop Wide).read bytes ≡ None
+no_loop : (v bytes : List ℕ) → bytes_eq (codes "0") v ≡ false → Comes v bytes → (encoding_loop Comments).read bytes ≡ None
 unfolding encoding_loop
 no_loop v bytes differ c = rw (c.white_read, other_keyword v (codes "0") c.behind c.left c.keyword_read differ) refl
 
-put_comes : (e : CodeEntry) (text rest : List ℕ) → (put_entry Wide).Spells e text rest → Comes (codes "dup") (text ++ rest)
+put_comes : (e : CodeEntry) (text rest : List ℕ) → (put_entry Comments).Spells e text rest → Comes (codes "dup") (text ++ rest)
 unfolding put_entry
 put_comes e text rest s =
     let k = s.5 in
@@ -370,7 +370,7 @@ put_comes e text rest s =
       keyword_read = ap (keyword (codes "dup")).read here ∙ (keyword (codes "dup")).again k.0 k.1 (k.2 ++ rest) k.4;
     }
 
-end_no_loop : (c text rest : List ℕ) → (encoding_end Wide).Spells c text rest → (encoding_loop Wide).read (text ++ rest) ≡ None
+end_no_loop : (c text rest : List ℕ) → (encoding_end Comments).Spells c text rest → (encoding_loop Comments).read (text ++ rest) ≡ None
 unfolding encoding_end
 end_no_loop c text rest s = by_readonly s.5.4
   where
@@ -386,7 +386,7 @@ end_no_loop c text rest s = by_readonly s.5.4
     here : s.2 ++ rest ≡ s.5.1 ++ (s.5.2 ++ rest)
     here = ap (λ t. t ++ rest) s.5.3 ∙ append_assoc s.5.1 s.5.2 rest
 
-    by_readonly : (readonly Wide).Spells s.5.0 s.5.1 (s.5.2 ++ rest) → (encoding_loop Wide).read (text ++ rest) ≡ None
+    by_readonly : (readonly Comments).Spells s.5.0 s.5.1 (s.5.2 ++ rest) → (encoding_loop Comments).read (text ++ rest) ≡ None
     by_readonly (inl p) =
         let after : List ℕ = p.2 ++ (s.5.2 ++ rest) in
         let own : s.2 ++ rest ≡ p.1 ++ after = here ∙ (ap (λ t. t ++ (s.5.2 ++ rest)) p.3 ∙ append_assoc p.1 p.2 (s.5.2 ++ rest)) in
@@ -397,17 +397,17 @@ end_no_loop c text rest s = by_readonly s.5.4
         no_loop (codes "def") (text ++ rest) refl (comes (codes "def") s.5.2 rest (c, rest) own ((keyword (codes "def")).again c s.5.2 rest s.5.5))
 
 -- behind what opens a table that has none, no loop comes
-table_no_loop : (es : List CodeEntry) (c text rest : List ℕ) → IsTable (code_entry Strict) (encoding_end Strict) es c text rest →
-    (encoding_loop Wide).read (text ++ rest) ≡ None
+table_no_loop : (es : List CodeEntry) (c text rest : List ℕ) → IsTable (code_entry strict) (encoding_end White) es c text rest →
+    (encoding_loop Comments).read (text ++ rest) ≡ None
 table_no_loop [] c text rest s =
     let own : text ++ rest ≡ s.1 ++ rest = ap (λ t. t ++ rest) (s.2 ∙ ap (λ t. t ++ s.1) s.3) in
-    ap (encoding_loop Wide).read own ∙ end_no_loop c s.1 rest (end_wide c s.1 rest s.4)
+    ap (encoding_loop Comments).read own ∙ end_no_loop c s.1 rest (end_wide c s.1 rest s.4)
 table_no_loop (e ∷ es) c text rest s =
     let first = s.3 in
     let behind : List ℕ = first.1 ++ (s.1 ++ rest) in
     let own : text ++ rest ≡ first.0 ++ behind =
     ap (λ t. t ++ rest) s.2 ∙ (append_assoc s.0 s.1 rest ∙ (ap (λ t. t ++ (s.1 ++ rest)) first.2 ∙ append_assoc first.0 first.1 (s.1 ++ rest))) in
-    ap (encoding_loop Wide).read own ∙ no_loop (codes "dup") (first.0 ++ behind) refl (put_comes e first.0 behind (put_wide e first.0 behind first.3))
+    ap (encoding_loop Comments).read own ∙ no_loop (codes "dup") (first.0 ++ behind) refl (put_comes e first.0 behind (put_wide e first.0 behind first.3))
 
 -- which of the three forms it is
 abbrev form : Opening → ℕ
@@ -415,15 +415,15 @@ form (Whole w) = 0
 form OpensPuts = 1
 form OpensNames = 2
 
-no_word_here : (bytes : List ℕ) → (encoding_word Wide).read bytes ≡ None → NotAtFront (encoding_word Wide >>= λ w. pure (Whole w)) bytes
-no_word_here bytes e = unspelled (encoding_word Wide >>= λ w. pure (Whole w)) bytes (rw e refl)
+no_word_here : (bytes : List ℕ) → (encoding_word wide).read bytes ≡ None → NotAtFront (encoding_word wide >>= λ w. pure (Whole w)) bytes
+no_word_here bytes e = unspelled (encoding_word wide >>= λ w. pure (Whole w)) bytes (rw e refl)
 
-no_table_here : (bytes : List ℕ) → (encoding_table Wide).read bytes ≡ None →
-    NotAtFront (encoding_table Wide >> (may_be (encoding_loop Wide) >> pure OpensPuts)) bytes
-no_table_here bytes e = unspelled (encoding_table Wide >> (may_be (encoding_loop Wide) >> pure OpensPuts)) bytes (rw e refl)
+no_table_here : (bytes : List ℕ) → (encoding_table Comments).read bytes ≡ None →
+    NotAtFront (encoding_table Comments >> (may_be (encoding_loop Comments) >> pure OpensPuts)) bytes
+no_table_here bytes e = unspelled (encoding_table Comments >> (may_be (encoding_loop Comments) >> pure OpensPuts)) bytes (rw e refl)
 
-puts_start : (bytes entries : List ℕ) → AtFront (encoding_start Strict) bytes (OpensPuts, entries) → (encoding_loop Wide).read entries ≡ None →
-    AtFront (encoding_start Wide) bytes (OpensPuts, entries)
+puts_start : (bytes entries : List ℕ) → AtFront (encoding_start strict) bytes (OpensPuts, entries) → (encoding_loop Comments).read entries ≡ None →
+    AtFront (encoding_start wide) bytes (OpensPuts, entries)
 unfolding encoding_start
 puts_start bytes entries a none = (
   a.0,
@@ -435,21 +435,21 @@ puts_start bytes entries a none = (
           let q = p.5 in
           let table = start_table_wide p.0 p.1 (p.2 ++ entries) p.4 in
           let whole : a.0 ++ entries ≡ p.1 ++ (p.2 ++ entries) = ap (λ u. u ++ entries) p.3 ∙ append_assoc p.1 p.2 entries in
-          let absent = no_word_here (a.0 ++ entries) (ap (encoding_word Wide).read whole ∙ table_no_word p.0 p.1 (p.2 ++ entries) table) in
+          let absent = no_word_here (a.0 ++ entries) (ap (encoding_word wide).read whole ∙ table_no_word p.0 p.1 (p.2 ++ entries) table) in
           inr (inl (p.0, p.1, p.2, p.3, table, (q.0, q.1, q.2, q.3, may_loop q.0 q.1 q.2 q.5.0 q.4, q.5)), absent)
       | inr u ↦ absurd (omega (arith, ap form u.0.5.1))
     ]
   ],
 )
   where
-    may_loop : (l own after : List ℕ) → after ≡ [] → (may_be (encoding_loop Strict)).Spells l own (after ++ entries) →
-        (may_be (encoding_loop Wide)).Spells l own (after ++ entries)
+    may_loop : (l own after : List ℕ) → after ≡ [] → (may_be (encoding_loop White)).Spells l own (after ++ entries) →
+        (may_be (encoding_loop Comments)).Spells l own (after ++ entries)
     may_loop l own after e (inl p) = inl (loop_wide l own (after ++ entries) p)
     may_loop l own after e (inr p) =
         let here : own ++ (after ++ entries) ≡ entries = λ i. p.0.0 i ++ (e i ++ entries) in
-        inr (p.0, subst (NotAtFront (encoding_loop Wide)) (sym here) (unspelled (encoding_loop Wide) entries none))
+        inr (p.0, subst (NotAtFront (encoding_loop Comments)) (sym here) (unspelled (encoding_loop Comments) entries none))
 
-names_start : (bytes entries : List ℕ) → AtFront (encoding_start Strict) bytes (OpensNames, entries) → AtFront (encoding_start Wide) bytes (OpensNames, entries)
+names_start : (bytes entries : List ℕ) → AtFront (encoding_start strict) bytes (OpensNames, entries) → AtFront (encoding_start wide) bytes (OpensNames, entries)
 unfolding encoding_start
 names_start bytes entries a = (
   a.0,
@@ -462,55 +462,55 @@ names_start bytes entries a = (
           let p = u.0 in
           let array = array_wide p.0 p.1 (p.2 ++ entries) p.4 in
           let whole : a.0 ++ entries ≡ p.1 ++ (p.2 ++ entries) = ap (λ u. u ++ entries) p.3 ∙ append_assoc p.1 p.2 entries in
-          let no_table = no_table_here (a.0 ++ entries) (ap (encoding_table Wide).read whole ∙ array_no_table p.0 p.1 (p.2 ++ entries) array) in
-          let no_word = no_word_here (a.0 ++ entries) (ap (encoding_word Wide).read whole ∙ array_no_word p.0 p.1 (p.2 ++ entries) array) in
+          let no_table = no_table_here (a.0 ++ entries) (ap (encoding_table Comments).read whole ∙ array_no_table p.0 p.1 (p.2 ++ entries) array) in
+          let no_word = no_word_here (a.0 ++ entries) (ap (encoding_word wide).read whole ∙ array_no_word p.0 p.1 (p.2 ++ entries) array) in
           inr (inr ((p.0, p.1, p.2, p.3, array, p.5), no_table), no_word)
     ]
   ],
 )
 
-encoding_wide : (e : EncodingText) (bytes rest : List ℕ) → SpellsEncoding Strict e bytes rest → SpellsEncoding Wide e bytes rest
+encoding_wide : (e : EncodingText) (bytes rest : List ℕ) → SpellsEncoding strict e bytes rest → SpellsEncoding wide e bytes rest
 unfolding encoding_start
 encoding_wide (OneWord w) bytes rest s =
-    let a = word_start Strict w bytes rest s in
+    let a = word_start strict w bytes rest s in
     (a.0, a.1, inl (w, a.0, [], sym (append-nil a.0), word_wide w a.0 rest a.2, (refl, refl)))
 encoding_wide (Puts puts) bytes rest (inl s) =
     let t = s.5 in
-    let none = ap (encoding_loop Wide).read t.1 ∙ table_no_loop s.0 s.2 t.0 rest t.2 in
-    let wide = table_wide (code_entry Strict) (code_entry Wide) (encoding_end Strict)
-    (encoding_end Wide) (λ e text rest s. inl (put_wide e text rest s)) end_wide s.0 s.2 t.0 rest t.2 in
-    inl (s.0, s.1, s.2, s.3, puts_start bytes s.1 s.4 none, (t.0, t.1, wide))
+    let none = ap (encoding_loop Comments).read t.1 ∙ table_no_loop s.0 s.2 t.0 rest t.2 in
+    let whole = table_wide (code_entry strict) (code_entry wide) (encoding_end White)
+    (encoding_end Comments) (λ e text rest s. inl (put_wide e text rest s)) end_wide s.0 s.2 t.0 rest t.2 in
+    inl (s.0, s.1, s.2, s.3, puts_start bytes s.1 s.4 none, (t.0, t.1, whole))
 encoding_wide (Puts puts) bytes rest (inr s) =
     let t = s.5 in
-    let wide = table_wide (next_name Strict) (next_name Wide) (array_end Strict) (array_end Wide) next_name_wide array_end_wide s.0 s.2 t.0 rest t.2.1 in
-    inr (s.0, s.1, s.2, s.3, names_start bytes s.1 s.4, (t.0, t.1, (t.2.0, wide)))
+    let whole = table_wide (next_name White) (next_name Comments) (array_end White) (array_end Comments) next_name_wide array_end_wide s.0 s.2 t.0 rest t.2.1 in
+    inr (s.0, s.1, s.2, s.3, names_start bytes s.1 s.4, (t.0, t.1, (t.2.0, whole)))
 
 -- ---- the whole
 
-clear_wide : (clear : List ℕ) (c : ClearPieces) → IsClear Strict clear c → IsClear Wide clear c
+clear_wide : (clear : List ℕ) (c : ClearPieces) → IsClear strict clear c → IsClear wide clear c
 clear_wide clear c s = record { after = s.after; marker = s.marker; encoding = encoding_wide c.encoding s.after c.clear_tail s.encoding }
 
-tables_wide : (text : List ℕ) (p : PrivatePieces) (o : Option SubrsPieces) (glyphs : List ℕ) → SpellsTables Strict text p o glyphs →
-    SpellsTables Wide text p o glyphs
+tables_wide : (text : List ℕ) (p : PrivatePieces) (o : Option SubrsPieces) (glyphs : List ℕ) → SpellsTables White text p o glyphs →
+    SpellsTables Comments text p o glyphs
 tables_wide text p None glyphs s = s
 tables_wide text p (Some x) glyphs s =
     let t = s.3 in
-    let wide = table_wide (subr Strict x.declared p.len_iv) (subr Wide x.declared p.len_iv) (subrs_end Strict) (subrs_end Wide) (subr_wide x.declared p.len_iv)
+    let whole = table_wide (subr White x.declared p.len_iv) (subr Comments x.declared p.len_iv) (subrs_end White) (subrs_end Comments) (subr_wide x.declared p.len_iv)
     subrs_end_wide x.entries x.closing t.0 s.1 t.2 in
-    (s.0, s.1, s.2, (t.0, t.1, wide), s.4)
+    (s.0, s.1, s.2, (t.0, t.1, whole), s.4)
 
-private_wide : (text : List ℕ) (p : PrivatePieces) → IsPrivate Strict text p → IsPrivate Wide text p
+private_wide : (text : List ℕ) (p : PrivatePieces) → IsPrivate White text p → IsPrivate Comments text p
 private_wide text p s =
     let g = s.before in
-    let tables : HasTables Wide text p g.start = record { tables = tables_wide text p p.subrs g.start g.tables.tables; len_iv = g.tables.len_iv } in
-    let before : HasGlyphs Wide text p s.after = record { start = g.start; closing = g.closing; tables = tables; glyphs = g.glyphs } in
+    let tables : HasTables Comments text p g.start = record { tables = tables_wide text p p.subrs g.start g.tables.tables; len_iv = g.tables.len_iv } in
+    let before : HasGlyphs Comments text p s.after = record { start = g.start; closing = g.closing; tables = tables; glyphs = g.glyphs } in
     record { after = s.after; front = s.front; own = s.own; rest = s.rest; before = before; close = s.close; tail = s.tail; single = s.single }
 
 -- a file that spells a font spells the same font widely
 pub spells_widely : (file : List ℕ) (font : FontValue) → Spells file font → SpellsWidely file font
 spells_widely file font s =
     let h = s.pieces in
-    let pieces : HasPieces Wide file s.outside s.inside =
+    let pieces : HasPieces wide file s.outside s.inside =
     record {
       clear = h.clear;
       text = h.text;

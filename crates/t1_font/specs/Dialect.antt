@@ -1,9 +1,12 @@
--- How widely an Encoding and a table of Subrs may be spelled.
-use Rattle.std.specs.Prelude.{ℕ, ◌==◌, ◌||◌, Bool, List, Option, Some, None, if◌then◌else◌}
+-- By which rules a font may be spelled, beside those of the standard.
+use Rattle.std.specs.Prelude.{ℕ, ◌==◌, ◌||◌, Bool, true, false, List, Option, Some, None, if◌then◌else◌}
 use Rattle.t1_grammar.specs.Grammar.{Grammar, that}
 use Rattle.t1_grammar.specs.Scans.{scan}
+use Rattle.t1_font.specs.declared.dialect.Spacing.{Spacing}
+use Rattle.t1_font.specs.declared.dialect.Spacing.TheVariants.{White, Comments}
 use Rattle.t1_font.specs.declared.dialect.Dialect.{Dialect}
-use Rattle.t1_font.specs.declared.dialect.Dialect.TheVariants.{Strict, Wide}
+use Rattle.t1_font.specs.declared.dialect.Rule.{Rule}
+use Rattle.t1_font.specs.declared.dialect.Rule.TheVariants.{EncodingComments, CopiedCodes, ReadonlyWord, SubrsComments}
 use Rattle.t1_bytes.specs.White.{is_white, white, has_bytes, gap}
 
 -- LF, FF or CR
@@ -25,11 +28,28 @@ unfoldable pub white_and_comments : Grammar (List ℕ)
 white_and_comments = scan spacing Blank
 
 -- what may stand between two words; it may be nothing
-abbrev pub white_in : Dialect → Grammar (List ℕ)
-white_in Strict = white
-white_in Wide = white_and_comments
+abbrev pub white_in : Spacing → Grammar (List ℕ)
+white_in White = white
+white_in Comments = white_and_comments
 
 -- what stands between two words that nothing else keeps apart
-abbrev pub gap_in : Dialect → Grammar (List ℕ)
-gap_in Strict = gap
-gap_in Wide = that has_bytes white_and_comments
+abbrev pub gap_in : Spacing → Grammar (List ℕ)
+gap_in White = gap
+gap_in Comments = that has_bytes white_and_comments
+
+-- ---- the rules together
+
+-- none of them
+abbrev pub strict : Dialect
+strict = record { encoding = White; copies = false; readonly = false; subrs = White }
+
+-- all of them
+abbrev pub wide : Dialect
+wide = record { encoding = Comments; copies = true; readonly = true; subrs = Comments }
+
+-- without one of them
+abbrev pub without : Rule → Dialect → Dialect
+without EncodingComments d = record { encoding = White; copies = d.copies; readonly = d.readonly; subrs = d.subrs }
+without CopiedCodes d = record { encoding = d.encoding; copies = false; readonly = d.readonly; subrs = d.subrs }
+without ReadonlyWord d = record { encoding = d.encoding; copies = d.copies; readonly = false; subrs = d.subrs }
+without SubrsComments d = record { encoding = d.encoding; copies = d.copies; readonly = d.readonly; subrs = White }

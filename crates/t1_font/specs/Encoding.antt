@@ -1,35 +1,38 @@
 -- The Encoding of the clear text.
 use Rattle.std.specs.Ordering.{nat_cmp}
-use Rattle.std.specs.Prelude.{ℕ, zero, suc, ◌+◌, ◌-◌, ◌*◌, ◌&&◌, nat_le, Bool, true, List, [], ◌∷◌, ◌++◌, length, codes, unwrap_or}
+use Rattle.std.specs.Prelude.{ℕ, zero, suc, ◌+◌, ◌-◌, ◌*◌, ◌&&◌, nat_le, Bool, true, false, List, [], ◌∷◌, ◌++◌, length, codes, unwrap_or}
 use Rattle.t1_grammar.specs.Grammar.{Grammar, pure, ◌>>=◌, ◌>>◌, that, run, fixed, either, may_be}
+use Rattle.t1_font.specs.declared.dialect.Spacing.{Spacing}
 use Rattle.t1_font.specs.declared.dialect.Dialect.{Dialect}
-use Rattle.t1_font.specs.declared.dialect.Dialect.TheVariants.{Strict, Wide}
 use Rattle.t1_font.specs.FontValue.{notdef}
 use Rattle.t1_font.specs.Entries.{last_value}
 use Rattle.t1_font.specs.Dialect.{white_in, gap_in}
 use Rattle.t1_font.specs.Words.{is_regular, word, keyword, decimal, name}
 
-abbrev pub readonly : Dialect → Grammar (List ℕ)
+abbrev pub readonly : Spacing → Grammar (List ℕ)
 readonly d = may_be (do
   keyword (codes "readonly")
   gap_in d)
 
 -- what may stand between a word that is the whole Encoding and its `def`
+abbrev pub readonly_if : Bool → Spacing → Grammar (List ℕ)
+readonly_if false s = pure []
+readonly_if true s = readonly s
+
 abbrev pub before_def : Dialect → Grammar (List ℕ)
-before_def Strict = pure []
-before_def Wide = readonly Wide
+before_def d = readonly_if d.readonly d.encoding
 
 -- a word that is the whole Encoding
 unfoldable pub encoding_word : Dialect → Grammar (List ℕ)
 encoding_word d = do
-  white_in d
+  white_in d.encoding
   w ← word
-  gap_in d
+  gap_in d.encoding
   before_def d
   keyword (codes "def")
   pure w
 
-unfoldable pub encoding_table : Dialect → Grammar (List ℕ)
+unfoldable pub encoding_table : Spacing → Grammar (List ℕ)
 encoding_table d = do
   white_in d
   keyword (codes "256")
@@ -37,7 +40,7 @@ encoding_table d = do
   keyword (codes "array")
 
 -- 0 1 255
-abbrev pub loop_range : Dialect → Grammar (List ℕ)
+abbrev pub loop_range : Spacing → Grammar (List ℕ)
 loop_range d = do
   white_in d
   keyword (codes "0")
@@ -47,7 +50,7 @@ loop_range d = do
   keyword (codes "255")
 
 -- 1 index exch /.notdef put
-abbrev pub loop_body : Dialect → Grammar (List ℕ)
+abbrev pub loop_body : Spacing → Grammar (List ℕ)
 loop_body d = do
   white_in d
   keyword (codes "1")
@@ -62,7 +65,7 @@ loop_body d = do
   keyword (codes "put")
 
 -- 0 1 255 {1 index exch /.notdef put} for
-unfoldable pub encoding_loop : Dialect → Grammar (List ℕ)
+unfoldable pub encoding_loop : Spacing → Grammar (List ℕ)
 encoding_loop d = do
   loop_range d
   white_in d
@@ -108,7 +111,7 @@ pub data CodeEntry : Type 0 where
   Copy : ℕ → ℕ → ℕ → CodeEntry
 
 -- dup CODE /NAME put
-unfoldable pub put_entry : Dialect → Grammar CodeEntry
+unfoldable pub put_entry : Spacing → Grammar CodeEntry
 put_entry d = do
   white_in d
   keyword (codes "dup")
@@ -121,7 +124,7 @@ put_entry d = do
   pure (Put c n)
 
 -- dup dup
-abbrev pub copy_start : Dialect → Grammar (List ℕ)
+abbrev pub copy_start : Spacing → Grammar (List ℕ)
 copy_start d = do
   white_in d
   keyword (codes "dup")
@@ -130,7 +133,7 @@ copy_start d = do
   gap_in d
 
 -- dup dup TO exch FROM get put
-unfoldable pub one_copy : Dialect → Grammar CodeEntry
+unfoldable pub one_copy : Spacing → Grammar CodeEntry
 one_copy d = do
   copy_start d
   to ← code
@@ -154,7 +157,7 @@ within_codes (Put c n) = true
 within_codes (Copy from count to) = are_codes from count && are_codes to count
 
 -- dup dup FROM COUNT getinterval
-unfoldable pub copied_range : Dialect → Grammar (ℕ × ℕ)
+unfoldable pub copied_range : Spacing → Grammar (ℕ × ℕ)
 copied_range d = do
   copy_start d
   from ← number
@@ -165,7 +168,7 @@ copied_range d = do
   pure (from, count)
 
 -- dup dup FROM COUNT getinterval TO exch putinterval
-unfoldable pub copy_of_range : Dialect → Grammar CodeEntry
+unfoldable pub copy_of_range : Spacing → Grammar CodeEntry
 copy_of_range d = do
   range ← copied_range d
   gap_in d
@@ -177,15 +180,18 @@ copy_of_range d = do
   pure (Copy range.0 range.1 to)
 
 -- the same, within the codes
-abbrev pub range_copy : Dialect → Grammar CodeEntry
+abbrev pub range_copy : Spacing → Grammar CodeEntry
 range_copy d = that within_codes (copy_of_range d)
 
--- only a wide table has copies
-abbrev pub code_entry : Dialect → Grammar CodeEntry
-code_entry Strict = put_entry Strict
-code_entry Wide = either (put_entry Wide) (either (one_copy Wide) (range_copy Wide))
+-- an entry of a table without copies, or with them
+abbrev pub entry_with : Bool → Spacing → Grammar CodeEntry
+entry_with false s = put_entry s
+entry_with true s = either (put_entry s) (either (one_copy s) (range_copy s))
 
-unfoldable pub encoding_end : Dialect → Grammar (List ℕ)
+abbrev pub code_entry : Dialect → Grammar CodeEntry
+code_entry d = entry_with d.copies d.encoding
+
+unfoldable pub encoding_end : Spacing → Grammar (List ℕ)
 encoding_end d = do
   white_in d
   readonly d
@@ -218,12 +224,12 @@ puts_of es = puts_after [] es
 
 -- ---- a literal array
 
-unfoldable pub array_start : Dialect → Grammar (List ℕ)
+unfoldable pub array_start : Spacing → Grammar (List ℕ)
 array_start d = do
   white_in d
   fixed (codes "[")
 
-unfoldable pub array_end : Dialect → Grammar (List ℕ)
+unfoldable pub array_end : Spacing → Grammar (List ℕ)
 array_end d = do
   white_in d
   fixed (codes "]")
@@ -247,8 +253,8 @@ unfoldable pub encoding_start : Dialect → Grammar Opening
 encoding_start d = either (do
   w ← encoding_word d
   pure (Whole w)) (either (do
-    encoding_table d
-    may_be (encoding_loop d)
+    encoding_table d.encoding
+    may_be (encoding_loop d.encoding)
     pure OpensPuts) (do
-      array_start d
+      array_start d.encoding
       pure OpensNames))

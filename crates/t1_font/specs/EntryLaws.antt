@@ -1,5 +1,5 @@
 -- Each entry has bytes, and no close can be read where one stands: so a table has one reading.
-use Rattle.std.proofs.Common.{◌≡◌, ℕ, ◌<◌, false, true≢false, List, [], ◌∷◌, length, take, drop, Some, None, refl, sym, ap, ◌∙◌, arith, ◌++◌}
+use Rattle.std.proofs.Common.{◌≡◌, ℕ, ◌<◌, Bool, true, false, true≢false, List, [], ◌∷◌, length, take, drop, Some, None, refl, sym, ap, ◌∙◌, arith, ◌++◌}
 use Rattle.std.specs.Prelude.{codes}
 use Rattle.std.specs.List.{prefix_len}
 use Rattle.std.specs.Str.{bytes_eq}
@@ -9,11 +9,12 @@ use Rattle.std.proofs.lemmas.List.{length-append}
 use Rattle.t1_grammar.specs.Grammar.{Grammar, fixed, either}
 use Rattle.t1_grammar.specs.TableLaws.{Eats, Eats-spelled, Apart, eats_either, apart_either, apart_behind}
 use Rattle.t1_bytes.specs.White.{is_white, gap}
+use Rattle.t1_font.specs.declared.dialect.Spacing.{Spacing}
 use Rattle.t1_font.specs.declared.dialect.Dialect.{Dialect}
-use Rattle.t1_font.specs.declared.dialect.Dialect.TheVariants.{Strict, Wide}
+use Rattle.t1_font.specs.declared.dialect.Spacing.TheVariants.{White}
 use Rattle.t1_font.specs.Dialect.{white_in}
 use Rattle.t1_font.specs.Words.{is_regular, word, keyword, name, phrase_of, passes, next_name}
-use Rattle.t1_font.specs.Encoding.{put_entry, copy_start, one_copy, copied_range, copy_of_range, range_copy, code_entry, encoding_end}
+use Rattle.t1_font.specs.Encoding.{put_entry, copy_start, one_copy, copied_range, copy_of_range, range_copy, entry_with, code_entry, encoding_end}
 use Rattle.t1_font.specs.Entry.{Body, body, entry}
 use Rattle.t1_font.specs.Subrs.{subr_key, subr, subrs_end}
 use Rattle.t1_font.specs.Glyphs.{glyph, glyphs_end}
@@ -59,17 +60,17 @@ no_phrase bytes x e =
     rw dup refl
 
 -- where a Subr begins, its table doesn't close
-pub subr_key_apart : (d : Dialect) (declared : ℕ) → Apart (subr_key d declared) (subrs_end d)
+pub subr_key_apart : (d : Spacing) (declared : ℕ) → Apart (subr_key d declared) (subrs_end d)
 unfolding subr_key subrs_end
 subr_key_apart d declared bytes x e = apart_behind _ _ ((white_in d).read bytes) x e (λ r h.
     option_and_then_some _ ((keyword (codes "dup")).read r.1) x h (λ y k l. no_phrase r.1 y k))
 
 -- a Subr has at least one byte
-pub subr_eats : (d : Dialect) (declared iv : ℕ) → Eats (subr d declared iv)
+pub subr_eats : (d : Spacing) (declared iv : ℕ) → Eats (subr d declared iv)
 subr_eats d declared iv = entry_eats (subr_key d declared) iv
 
 -- where a Subr stands, its table doesn't close
-pub subr_apart : (d : Dialect) (declared iv : ℕ) → Apart (subr d declared iv) (subrs_end d)
+pub subr_apart : (d : Spacing) (declared iv : ℕ) → Apart (subr d declared iv) (subrs_end d)
 subr_apart d declared iv = entry_apart (subr_key d declared) iv (subrs_end d) (subr_key_apart d declared)
 
 -- ---- the glyphs
@@ -87,17 +88,17 @@ unfolding keyword
 no_end rest = refl
 
 -- where a name comes, the table of glyphs doesn't close
-pub next_name_apart : Apart (next_name Strict) glyphs_end
+pub next_name_apart : Apart (next_name White) glyphs_end
 unfolding next_name glyphs_end
 next_name_apart bytes x e = let s = name_slash (drop (prefix_len is_white bytes) bytes) x e in rw s.1 (no_end s.0)
 
 -- a glyph has at least one byte
 pub glyph_eats : (iv : ℕ) → Eats (glyph iv)
-glyph_eats iv = entry_eats (next_name Strict) iv
+glyph_eats iv = entry_eats (next_name White) iv
 
 -- where a glyph stands, its table doesn't close
 pub glyph_apart : (iv : ℕ) → Apart (glyph iv) glyphs_end
-glyph_apart iv = entry_apart (next_name Strict) iv glyphs_end next_name_apart
+glyph_apart iv = entry_apart (next_name White) iv glyphs_end next_name_apart
 
 -- ---- codes
 
@@ -112,7 +113,7 @@ no_closing bytes x e =
     (rw dup refl, rw dup refl)
 
 -- a put has bytes, and where it stands the Encoding doesn't close
-put_laws : (d : Dialect) → Eats (put_entry d) × Apart (put_entry d) (encoding_end d)
+put_laws : (d : Spacing) → Eats (put_entry d) × Apart (put_entry d) (encoding_end d)
 unfolding put_entry encoding_end
 put_laws d = (
   Eats-spelled (put_entry d) (λ a text rest s.
@@ -123,25 +124,25 @@ put_laws d = (
 )
 
 -- so is it with the start of a copy
-start_has : (d : Dialect) (a text rest : List ℕ) → (copy_start d).Spells a text rest → 0 < length text
+start_has : (d : Spacing) (a text rest : List ℕ) → (copy_start d).Spells a text rest → 0 < length text
 start_has d a text rest s =
     let dup = keyword_text (codes "dup") s.5.0 s.5.1 _ s.5.4 in
     omega (arith, ap length s.3, length-append s.1 s.2, ap length s.5.3, length-append s.5.1 s.5.2, ap length dup)
 
-start_apart : (d : Dialect) → Apart (copy_start d) (encoding_end d)
+start_apart : (d : Spacing) → Apart (copy_start d) (encoding_end d)
 unfolding encoding_end
 start_apart d bytes x e = apart_behind _ _ ((white_in d).read bytes) x e (λ r h.
     option_and_then_some _ ((keyword (codes "dup")).read r.1) x h (λ y k l. let none = no_closing r.1 y k in rw (none.0, none.1) refl))
 
 -- and with a copy
-one_copy_laws : (d : Dialect) → Eats (one_copy d) × Apart (one_copy d) (encoding_end d)
+one_copy_laws : (d : Spacing) → Eats (one_copy d) × Apart (one_copy d) (encoding_end d)
 unfolding one_copy
 one_copy_laws d = (
   Eats-spelled (one_copy d) (λ a text rest s. omega (arith, ap length s.3, length-append s.1 s.2, start_has d s.0 s.1 _ s.4)),
   λ bytes x e. option_and_then_some _ ((copy_start d).read bytes) x e (λ y h k. start_apart d bytes y h),
 )
 
-range_copy_laws : (d : Dialect) → Eats (range_copy d) × Apart (range_copy d) (encoding_end d)
+range_copy_laws : (d : Spacing) → Eats (range_copy d) × Apart (range_copy d) (encoding_end d)
 unfolding copied_range copy_of_range
 range_copy_laws d = (
   Eats-spelled (range_copy d) (λ a text rest s.
@@ -152,16 +153,20 @@ range_copy_laws d = (
       option_and_then_some _ ((copy_start d).read bytes) z l (λ w n o. start_apart d bytes w n))),
 )
 
+eats_with : (copies : Bool) (s : Spacing) → Eats (entry_with copies s)
+eats_with false s = (put_laws s).0
+eats_with true s = eats_either (put_entry s) (either (one_copy s) (range_copy s)) (put_laws s).0
+    (eats_either (one_copy s) (range_copy s) (one_copy_laws s).0 (range_copy_laws s).0)
+
+apart_with : (copies : Bool) (s : Spacing) → Apart (entry_with copies s) (encoding_end s)
+apart_with false s = (put_laws s).1
+apart_with true s = apart_either (encoding_end s) (put_entry s) (either (one_copy s) (range_copy s)) (put_laws s).1
+    (apart_either (encoding_end s) (one_copy s) (range_copy s) (one_copy_laws s).1 (range_copy_laws s).1)
+
 -- an entry has at least one byte
 pub code_entry_eats : (d : Dialect) → Eats (code_entry d)
-code_entry_eats Strict = (put_laws Strict).0
-code_entry_eats Wide =
-    eats_either (put_entry Wide) (either (one_copy Wide) (range_copy Wide)) (put_laws Wide).0
-    (eats_either (one_copy Wide) (range_copy Wide) (one_copy_laws Wide).0 (range_copy_laws Wide).0)
+code_entry_eats d = eats_with d.copies d.encoding
 
 -- where an entry stands, the Encoding doesn't close
-pub code_entry_apart : (d : Dialect) → Apart (code_entry d) (encoding_end d)
-code_entry_apart Strict = (put_laws Strict).1
-code_entry_apart Wide =
-    apart_either (encoding_end Wide) (put_entry Wide) (either (one_copy Wide) (range_copy Wide)) (put_laws Wide).1
-    (apart_either (encoding_end Wide) (one_copy Wide) (range_copy Wide) (one_copy_laws Wide).1 (range_copy_laws Wide).1)
+pub code_entry_apart : (d : Dialect) → Apart (code_entry d) (encoding_end d.encoding)
+code_entry_apart d = apart_with d.copies d.encoding

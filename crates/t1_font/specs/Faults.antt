@@ -3,7 +3,7 @@ use Rattle.std.specs.Prelude.{◌≡◌, ℕ, ◌-◌, List, length, Option, Som
 use Rattle.t1_bytes.specs.declared.fault.BytesFault.{BytesFault}
 use Rattle.t1_bytes.specs.declared.fault.BytesFault.TheVariants as bytes
 use Rattle.t1_grammar.specs.Tables.{Table}
-use Rattle.t1_font.specs.declared.dialect.Dialect.{Dialect}
+use Rattle.t1_font.specs.declared.dialect.Spacing.{Spacing}
 use Rattle.t1_font.specs.Dialect.{white_in}
 use Rattle.t1_font.specs.declared.fault.ReadFault.{ReadFault}
 use Rattle.t1_font.specs.declared.fault.ReadFault.TheVariants as faults
@@ -16,11 +16,11 @@ behind None = 0
 behind (Some x) = length x.1
 
 -- how many bytes are left after white space
-abbrev pub left_after_white : Dialect → List ℕ → ℕ
+abbrev pub left_after_white : Spacing → List ℕ → ℕ
 left_after_white d bytes = behind ((white_in d).read bytes)
 
 -- the table breaks off there
-abbrev pub TableFails : {A B : Type 0} → Dialect → TableError → Table A B → Type 0
+abbrev pub TableFails : {A B : Type 0} → Spacing → TableError → Table A B → Type 0
 TableFails d Memory read = Unit {0}
 TableFails d (Left n) read = (left : List ℕ) × (read ≡ Err left) × (n ≡ left_after_white d left)
 

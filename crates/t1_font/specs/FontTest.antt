@@ -1,5 +1,5 @@
 -- Heads without the test whether their font was loaded before, which asks PostScript's FontDirectory for it.
-use Rattle.std.specs.Prelude.{◌≡◌, ℕ, ◌≤◌, ◌&&◌, ◌||◌, not, Bool, List, [], ◌∷◌, ◌++◌, drop, codes, Option, Some, None, is_some, if◌then◌else◌}
+use Rattle.std.specs.Prelude.{◌≡◌, ℕ, ◌≤◌, ◌&&◌, ◌||◌, not, Bool, List, [], ◌∷◌, ◌++◌, length, drop, codes, Option, Some, None, is_some, if◌then◌else◌}
 use Rattle.std.specs.Str.{bytes_eq}
 use Rattle.std.proofs.Common.{refl}
 use Rattle.t1_grammar.specs.Grammar.{Grammar, pure, ◌>>=◌, ◌>>◌, that, before, count, fixed, first, Begins}
@@ -7,7 +7,7 @@ use Rattle.t1_grammar.specs.Places.{occurs}
 use Rattle.t1_bytes.specs.White.{white}
 use Rattle.t1_bytes.specs.FlatText.{starts_segment}
 use Rattle.t1_bytes.specs.Eexec.{eexec_marker}
-use Rattle.t1_font.specs.declared.dialect.Dialect.TheVariants.{Strict}
+use Rattle.t1_font.specs.declared.dialect.Spacing.TheVariants.{White}
 use Rattle.t1_font.specs.Words.{regular_comes, keyword, decimal, next_name}
 use Rattle.t1_font.specs.Markers.{break_comes, encoding_marker}
 use Rattle.t1_font.specs.FontValue.{FontValue, Shell, weight}
@@ -71,7 +71,7 @@ then_save =
 unfoldable pub known_name : Grammar (List ℕ)
 known_name = do
   fixed (codes "FontDirectory")
-  name ← next_name Strict
+  name ← next_name White
   tokens if_known
   literal name
 
@@ -108,6 +108,10 @@ found_test head = (first apart_test).read (10 ∷ head)
 abbrev pub around : (List ℕ × List ℕ) × List ℕ → List ℕ
 around x = drop 1 (x.0.0 ++ (x.0.1 ++ x.1))
 
+-- where a test that was found stands in its head, and what stands around it
+abbrev pub place_and_around : (List ℕ × List ℕ) × List ℕ → ℕ × List ℕ
+place_and_around x = (length x.0.0, around x)
+
 -- the marker that ends the clear text, without its bytes as a value
 unfoldable pub eexec_there : Grammar (Unit {0})
 eexec_there = do
@@ -130,6 +134,15 @@ tested_head head (Some x) = if is_untested (around x) then around x else head
 -- a head without its test
 abbrev pub untested : List ℕ → List ℕ
 untested head = tested_head head (found_test head)
+
+-- the place of a test that was found in a head that loses it
+abbrev pub place_taken : Option ((List ℕ × List ℕ) × List ℕ) → Option ℕ
+place_taken None = None
+place_taken (Some x) = if is_untested (around x) then Some (length x.0.0) else None
+
+-- where the test stands that a head loses
+abbrev pub taken_test : List ℕ → Option ℕ
+taken_test head = place_taken (found_test head)
 
 -- a shell without the test in its head
 abbrev pub untested_shell : Shell → Shell

@@ -2,7 +2,7 @@
 use Rattle.std.specs.Prelude.{ℕ, List, codes}
 use Rattle.t1_grammar.specs.Grammar.{Grammar, ◌>>◌}
 use Rattle.t1_bytes.specs.White.{white}
-use Rattle.t1_font.specs.declared.dialect.Dialect.TheVariants.{Strict}
+use Rattle.t1_font.specs.declared.dialect.Spacing.TheVariants.{White}
 use Rattle.t1_font.specs.Words.{keyword, next_name}
 use Rattle.t1_font.specs.Entry.{Entry, entry}
 
@@ -12,7 +12,7 @@ Glyph = Entry (List ℕ)
 
 -- an entry of a table with this lenIV
 abbrev pub glyph : ℕ → Grammar Glyph
-glyph iv = entry (next_name Strict) iv
+glyph iv = entry (next_name White) iv
 
 unfoldable pub glyphs_end : Grammar (List ℕ)
 glyphs_end = do

@@ -9,7 +9,7 @@ use Rattle.t1_font.specs.Entries.{map_of}
 use Rattle.t1_font.specs.Entry.{Entry, plain_entries}
 use Rattle.t1_font.specs.Subrs.{Subr}
 use Rattle.t1_font.specs.Glyphs.{Glyph}
-use Rattle.t1_font.specs.declared.dialect.Dialect.{Dialect}
+use Rattle.t1_font.specs.declared.dialect.Spacing.{Spacing}
 use Rattle.t1_font.specs.Faults.{TableFails}
 
 -- the words of the first entry, where there is one
@@ -30,6 +30,6 @@ abbrev pub names_notdef : List Glyph → Bool
 names_notdef es = list_any (λ e. bytes_eq notdef e.key) es
 
 -- what was returned holds a table that is read, with its close and what stands after it; or it isn't read
-abbrev pub TableHeld : {X A B : Type 0} → Dialect → (X → List A → B → List ℕ → Type 0) → Result X TableError → Table A B → Type 0
+abbrev pub TableHeld : {X A B : Type 0} → Spacing → (X → List A → B → List ℕ → Type 0) → Result X TableError → Table A B → Type 0
 TableHeld {A = A} {B = B} d Holds (Ok x) read = (es : List A) × (close : B) × (rest : List ℕ) × (read ≡ Ok (es, close, rest)) × Holds x es close rest
 TableHeld d Holds (Err e) read = TableFails d e read

@@ -9,6 +9,7 @@ use Rattle.t1_font.specs.Entries.{map_of, names_of, last_value, unless_notdef}
 use Rattle.t1_font.specs.ReadFont.{read_font, read_font_widely}
 use Rattle.t1_font.specs.Spelling.{Spells, SpellsWidely}
 use Rattle.t1_font.specs.Reasons.{Reason, WideReason}
+use Rattle.t1_font.specs.declared.dialect.Spacing.{Spacing}
 use Rattle.t1_font.specs.declared.dialect.Dialect.{Dialect}
 use Rattle.t1_font.specs.Words.{one_white, word, keyword, decimal, name, phrase_of, next_name}
 use Rattle.t1_font.specs.Markers.{encoding_marker, subrs_marker, chars_marker, len_iv_marker, len_iv, closefile}
@@ -28,18 +29,18 @@ pub record ReadsAsSpelled : Type 0 where
   pub encoding_markers : IsExact encoding_marker
   pub encodings : IsExact (first encoding_marker)
   pub encoding_words : (d : Dialect) → IsExact (encoding_word d)
-  pub encoding_tables : (d : Dialect) → IsExact (encoding_table d)
-  pub encoding_loops : (d : Dialect) → IsExact (encoding_loop d)
+  pub encoding_tables : (d : Spacing) → IsExact (encoding_table d)
+  pub encoding_loops : (d : Spacing) → IsExact (encoding_loop d)
   pub starts : (d : Dialect) → IsExact (encoding_start d)
   pub octals : IsExact octal
   pub code_numbers : IsExact code
   pub code_entries : (d : Dialect) → IsExact (code_entry d)
-  pub puts : (d : Dialect) → IsExact (put_entry d)
-  pub copies : (d : Dialect) → IsExact (one_copy d)
-  pub range_copies : (d : Dialect) → IsExact (range_copy d)
-  pub encoding_ends : (d : Dialect) → IsExact (encoding_end d)
-  pub array_starts : (d : Dialect) → IsExact (array_start d)
-  pub array_ends : (d : Dialect) → IsExact (array_end d)
+  pub puts : (d : Spacing) → IsExact (put_entry d)
+  pub copies : (d : Spacing) → IsExact (one_copy d)
+  pub range_copies : (d : Spacing) → IsExact (range_copy d)
+  pub encoding_ends : (d : Spacing) → IsExact (encoding_end d)
+  pub array_starts : (d : Spacing) → IsExact (array_start d)
+  pub array_ends : (d : Spacing) → IsExact (array_end d)
   pub len_iv_markers : IsExact len_iv_marker
   pub lenIVs : IsExact (first len_iv_marker)
   pub lead_counts : IsExact len_iv
@@ -47,12 +48,12 @@ pub record ReadsAsSpelled : Type 0 where
   pub tables : IsExact (first subrs_marker)
   pub lengths : (iv : ℕ) → IsExact (length_from iv)
   pub bodies : (iv : ℕ) → IsExact (body iv)
-  pub subr_keys : (d : Dialect) (declared : ℕ) → IsExact (subr_key d declared)
-  pub subrs : (d : Dialect) (declared iv : ℕ) → IsExact (subr d declared iv)
-  pub subrs_ends : (d : Dialect) → IsExact (subrs_end d)
+  pub subr_keys : (d : Spacing) (declared : ℕ) → IsExact (subr_key d declared)
+  pub subrs : (d : Spacing) (declared iv : ℕ) → IsExact (subr d declared iv)
+  pub subrs_ends : (d : Spacing) → IsExact (subrs_end d)
   pub chars_markers : IsExact chars_marker
   pub charstrings : IsExact (first chars_marker)
-  pub next_names : (d : Dialect) → IsExact (next_name d)
+  pub next_names : (d : Spacing) → IsExact (next_name d)
   pub glyphs : (iv : ℕ) → IsExact (glyph iv)
   pub glyphs_ends : IsExact glyphs_end
   pub close_markers : IsExact closefile

@@ -34,6 +34,7 @@ pub mod Maps
 pub mod Cut
 pub mod Tags
 pub mod FontTest
+pub mod Mends
 pub mod Evening
 pub mod Filling
 pub mod EveningLaws

@@ -2,8 +2,9 @@
 use Rattle.std.specs.Prelude.{ℕ, ◌-◌, nat_lt, List, [], ◌++◌, length, take, Option, Some, None, if◌then◌else◌}
 use Rattle.t1_bytes.specs.Split.{split}
 use Rattle.t1_font.specs.declared.fault.ReadFault.TheVariants.{NoEncoding, BadEncoding, NoCharStrings, BadLenIV, BadSubrs, BadGlyphs, Hybrid, NoClosefile}
+use Rattle.t1_font.specs.declared.dialect.Spacing.{Spacing}
 use Rattle.t1_font.specs.declared.dialect.Dialect.{Dialect}
-use Rattle.t1_font.specs.declared.dialect.Dialect.TheVariants.{Strict}
+use Rattle.t1_font.specs.declared.dialect.Spacing.TheVariants.{White}
 use Rattle.t1_font.specs.Faults.{read_fault}
 use Rattle.t1_font.specs.Subrs.{Subr, subr, subrs_end}
 use Rattle.t1_font.specs.Markers.{encoding_marker, subrs_marker, chars_marker, len_iv_marker, len_iv, closefile}
@@ -40,10 +41,10 @@ pub record ClearPieces : Type 0 where
 unfoldable pub encoding_from : Dialect → List ℕ → Opening → List ℕ → Reading (EncodingText × List ℕ)
 encoding_from d clear (Whole w) rest = give (OneWord w, rest)
 encoding_from d clear OpensPuts rest = do
-  puts ← table d BadEncoding (length clear) (code_entry d) (encoding_end d) (code_entry_eats d) (code_entry_apart d) rest
+  puts ← table d.encoding BadEncoding (length clear) (code_entry d) (encoding_end d.encoding) (code_entry_eats d) (code_entry_apart d) rest
   give (Puts (puts_of puts.0), puts.2)
 encoding_from d clear OpensNames rest = do
-  names ← counted d BadEncoding (length clear) (next_name d) (array_end d) code_count rest
+  names ← counted d.encoding BadEncoding (length clear) (next_name d.encoding) (array_end d.encoding) code_count rest
   give (Puts (from_code 0 names.0), names.2)
 
 -- the head before the first Encoding marker, the Encoding, and what stands after it
@@ -99,7 +100,7 @@ tail_after middle rest = do
 -- what stands before the CharStrings marker, and the glyphs after it, in a private text of so many bytes
 unfoldable pub glyphs_from : ℕ → List ℕ → Option SubrsPieces → List ℕ → ℕ → List ℕ → Reading PrivatePieces
 glyphs_from size private subrs middle iv rest = do
-  glyphs ← table Strict BadGlyphs size (glyph iv) glyphs_end (glyph_eats iv) (glyph_apart iv) rest
+  glyphs ← table White BadGlyphs size (glyph iv) glyphs_end (glyph_eats iv) (glyph_apart iv) rest
   tail ← tail_after middle glyphs.2
   give (record { private = private; len_iv = iv; subrs = subrs; middle = middle; glyphs = glyphs.0; tail = tail })
 
@@ -109,7 +110,7 @@ before_place n None = None
 before_place n (Some x) = if nat_lt (length x.0.0) n then Some x else None
 
 -- the tables behind the first Subrs marker, where one stands before that of CharStrings, else the glyphs alone
-unfoldable pub tables_from : Dialect → ℕ → (List ℕ × Unit {0}) × List ℕ → Option ((List ℕ × ℕ) × List ℕ) → Reading PrivatePieces
+unfoldable pub tables_from : Spacing → ℕ → (List ℕ × Unit {0}) × List ℕ → Option ((List ℕ × ℕ) × List ℕ) → Reading PrivatePieces
 tables_from d size chars None = do
   iv ← iv_of chars.0.0
   glyphs_from size chars.0.0 None [] iv chars.1
@@ -120,7 +121,7 @@ tables_from d size chars (Some marker) = do
   glyphs_from size marker.0.0 (Some (record { declared = marker.0.1; entries = subrs.0; closing = subrs.1 })) next.0.0 iv next.1
 
 -- the pieces of a private text
-unfoldable pub private_pieces : Dialect → List ℕ → Reading PrivatePieces
+unfoldable pub private_pieces : Spacing → List ℕ → Reading PrivatePieces
 private_pieces d text = do
   chars ← sought NoCharStrings chars_marker text
   marker ← if_sought subrs_marker text

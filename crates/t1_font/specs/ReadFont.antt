@@ -12,7 +12,7 @@ use Rattle.t1_font.specs.FontValue.{SubrsShell, Shell, Encoding, Word, Codes, Fo
 use Rattle.t1_bytes.specs.Limits.{file_limit}
 use Rattle.t1_font.specs.Entries.{last_entries, map_of, names_of}
 use Rattle.t1_font.specs.declared.dialect.Dialect.{Dialect}
-use Rattle.t1_font.specs.declared.dialect.Dialect.TheVariants.{Strict, Wide}
+use Rattle.t1_font.specs.Dialect.{strict, wide}
 use Rattle.t1_font.specs.Entry.{plain_entries}
 use Rattle.t1_font.specs.Subrs.{Subr}
 use Rattle.t1_font.specs.Pieces.{FlatPieces, EncodingText, OneWord, Puts, ClearPieces, SubrsPieces, PrivatePieces, flat_pieces, clear_pieces, private_pieces}
@@ -96,7 +96,7 @@ font_from c p = do
 abbrev pub font_texts : Dialect → List ℕ → List ℕ → Reading FontValue
 font_texts d clear private = do
   outside ← clear_pieces d clear
-  inside ← private_pieces d private
+  inside ← private_pieces d.subrs private
   font_from outside inside
 
 -- the font of a file that is not too long
@@ -109,8 +109,8 @@ font_file d file = do
 
 -- the font of a file, or the first fault that applies
 abbrev pub read_font : List ℕ → Result FontValue ReadFault
-read_font file = (font_file Strict file).read
+read_font file = (font_file strict file).read
 
 -- the same of a file that may be spelled widely
 abbrev pub read_font_widely : List ℕ → Result FontValue ReadFault
-read_font_widely file = (font_file Wide file).read
+read_font_widely file = (font_file wide file).read

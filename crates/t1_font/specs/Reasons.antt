@@ -1,18 +1,18 @@
 -- Why a file spells no font: the first line of its reading that fails, behind lines that are spelled.
 use Rattle.std.specs.Prelude.{List, ℕ}
 use Rattle.t1_font.specs.declared.dialect.Dialect.{Dialect}
-use Rattle.t1_font.specs.declared.dialect.Dialect.TheVariants.{Strict, Wide}
+use Rattle.t1_font.specs.Dialect.{strict, wide}
 use Rattle.t1_font.specs.declared.fault.ReadFault.{ReadFault}
 use Rattle.t1_font.specs.declared.fault.ReadFault.TheVariants.{Memory}
 use Rattle.t1_font.specs.ReadFont.{font_file}
 
 -- the reason for a fault of reading; want of memory is no reason
 abbrev pub Reason : List ℕ → ReadFault → Type 0
-Reason file e = (font_file Strict file).Reason e
+Reason file e = (font_file strict file).Reason e
 
 -- the reason for a fault of reading widely
 abbrev pub WideReason : List ℕ → ReadFault → Type 0
-WideReason file e = (font_file Wide file).Reason e
+WideReason file e = (font_file wide file).Reason e
 
 -- which refusals are right in a dialect; want of memory always is
 abbrev pub RefusesIn : Dialect → List ℕ → ReadFault → Type 0
@@ -20,7 +20,7 @@ RefusesIn d file Memory = Unit {0}
 RefusesIn d file e = (font_file d file).Reason e
 
 abbrev pub Refuses : List ℕ → ReadFault → Type 0
-Refuses = RefusesIn Strict
+Refuses = RefusesIn strict
 
 abbrev pub RefusesWidely : List ℕ → ReadFault → Type 0
-RefusesWidely = RefusesIn Wide
+RefusesWidely = RefusesIn wide

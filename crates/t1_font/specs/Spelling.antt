@@ -6,8 +6,9 @@ use Rattle.t1_grammar.specs.Grammar.{first, AtFront, Lacks}
 use Rattle.t1_grammar.specs.Tables.{TableAt, CountedAt}
 use Rattle.t1_bytes.specs.FlatText.{IsFlat}
 use Rattle.t1_bytes.specs.Split.{IsSplit}
+use Rattle.t1_font.specs.declared.dialect.Spacing.{Spacing}
 use Rattle.t1_font.specs.declared.dialect.Dialect.{Dialect}
-use Rattle.t1_font.specs.declared.dialect.Dialect.TheVariants.{Strict, Wide}
+use Rattle.t1_font.specs.Dialect.{strict, wide}
 use Rattle.t1_font.specs.Subrs.{subr, subrs_end}
 use Rattle.t1_font.specs.Markers.{encoding_marker, subrs_marker, chars_marker, len_iv_marker, len_iv, closefile}
 use Rattle.t1_font.specs.Words.{next_name}
@@ -22,12 +23,12 @@ use Rattle.t1_font.specs.ReadFont.{font_of}
 abbrev pub SpellsPuts : Dialect → List (ℕ × List ℕ) → List ℕ → List ℕ → Type 0
 SpellsPuts d puts bytes rest =
     (es : List CodeEntry) × (entries closing : List ℕ) × (puts ≡ puts_of es) × AtFront (encoding_start d) bytes (OpensPuts, entries) ×
-    TableAt (code_entry d) (encoding_end d) es closing entries rest
+    TableAt (code_entry d) (encoding_end d.encoding) es closing entries rest
 
 -- a literal array: the puts are its names at the codes of their places
 abbrev pub SpellsNames : Dialect → List (ℕ × List ℕ) → List ℕ → List ℕ → Type 0
 SpellsNames d puts bytes rest = (names : List (List ℕ)) × (entries closing : List ℕ) × (puts ≡ from_code 0 names)
-    × AtFront (encoding_start d) bytes (OpensNames, entries) × CountedAt (next_name d) (array_end d) code_count names closing entries rest
+    × AtFront (encoding_start d) bytes (OpensNames, entries) × CountedAt (next_name d.encoding) (array_end d.encoding) code_count names closing entries rest
 
 abbrev pub SpellsEncoding : Dialect → EncodingText → List ℕ → List ℕ → Type 0
 SpellsEncoding d (OneWord w) bytes rest = AtFront (encoding_start d) bytes (Whole w, rest)
@@ -57,23 +58,23 @@ Start text private (Some declared) rest = (chars after : List ℕ) × AtFront (f
     × AtFront (first subrs_marker) text ((private, declared), rest) × (length private < length chars)
 
 -- the private text up to its glyphs
-abbrev pub SpellsTables : Dialect → List ℕ → PrivatePieces → Option SubrsPieces → List ℕ → Type 0
+abbrev pub SpellsTables : Spacing → List ℕ → PrivatePieces → Option SubrsPieces → List ℕ → Type 0
 SpellsTables d text p None glyphs = Start text p.private None glyphs × (p.middle ≡ [])
 SpellsTables d text p (Some s) glyphs = (entries between : List ℕ) × Start text p.private (Some s.declared) entries
     × TableAt (subr d s.declared p.len_iv) (subrs_end d) s.entries s.closing entries between × AtFront (first chars_marker) between ((p.middle, tt), glyphs)
 
-pub record HasTables (d : Dialect) (text : List ℕ) (p : PrivatePieces) (glyphs : List ℕ) : Type 0 where
+pub record HasTables (d : Spacing) (text : List ℕ) (p : PrivatePieces) (glyphs : List ℕ) : Type 0 where
   pub tables : SpellsTables d text p p.subrs glyphs
   pub len_iv : IsLenIV p.private p.len_iv
 
 -- the private text through its glyphs
-pub record HasGlyphs (d : Dialect) (text : List ℕ) (p : PrivatePieces) (after : List ℕ) : Type 0 where
+pub record HasGlyphs (d : Spacing) (text : List ℕ) (p : PrivatePieces) (after : List ℕ) : Type 0 where
   pub start : List ℕ
   pub closing : List ℕ
   pub tables : HasTables d text p start
   pub glyphs : TableAt (glyph p.len_iv) glyphs_end p.glyphs closing start after
 
-pub record IsPrivate (d : Dialect) (text : List ℕ) (p : PrivatePieces) : Type 0 where
+pub record IsPrivate (d : Spacing) (text : List ℕ) (p : PrivatePieces) : Type 0 where
   pub after : List ℕ
   pub front : List ℕ
   pub own : List ℕ
@@ -102,7 +103,7 @@ pub record HasPieces (d : Dialect) (file : List ℕ) (outside : ClearPieces) (in
   pub text : List ℕ
   pub texts : Texts file clear text
   pub clear_is : IsClear d clear outside
-  pub private_is : IsPrivate d text inside
+  pub private_is : IsPrivate d.subrs text inside
 
 -- the font that a file spells in a dialect
 pub record SpellsIn (d : Dialect) (file : List ℕ) (font : FontValue) : Type 0 where
@@ -115,8 +116,8 @@ pub record SpellsIn (d : Dialect) (file : List ℕ) (font : FontValue) : Type 0 
 
 -- the font that a file spells
 abbrev pub Spells : List ℕ → FontValue → Type 0
-Spells = SpellsIn Strict
+Spells = SpellsIn strict
 
 -- the same, where comments, copies of codes and `readonly` may stand as other programs write them
 abbrev pub SpellsWidely : List ℕ → FontValue → Type 0
-SpellsWidely = SpellsIn Wide
+SpellsWidely = SpellsIn wide

@@ -3,7 +3,7 @@ use Rattle.std.specs.Prelude.{ℕ, ◌+◌, ◌-◌, ◌*◌, ◌==◌, ◌&&◌
 use Rattle.std.specs.Str.{bytes_eq}
 use Rattle.t1_grammar.specs.Grammar.{Grammar, pure, ◌>>=◌, ◌>>◌, that, run, count, fixed}
 use Rattle.t1_bytes.specs.White.{is_white, gap}
-use Rattle.t1_font.specs.declared.dialect.Dialect.{Dialect}
+use Rattle.t1_font.specs.declared.dialect.Spacing.{Spacing}
 use Rattle.t1_font.specs.Dialect.{white_in}
 
 -- ( ) < > [ ] { } / %
@@ -85,7 +85,7 @@ name = do
   that is_name (run is_regular)
 
 -- a name behind white space
-unfoldable pub next_name : Dialect → Grammar (List ℕ)
+unfoldable pub next_name : Spacing → Grammar (List ℕ)
 next_name d = do
   white_in d
   name

@@ -7,7 +7,7 @@ ghost use Rattle.t1_font.specs.Encoding.{are_codes, range_copy, code_entry, with
 ghost use Rattle.t1_font.specs.Gathering.{CodesAlone, copied_names, named_from, kept_by};
 ghost use Rattle.t1_font.specs.Views.{code_entry_view};
 
-use crate::dialect::Dialect;
+use crate::dialect::{Dialect, Spacing};
 use crate::gathered::Gathered;
 use crate::words::{decimal_at, keyword_at, name_at, regular_at};
 use std::alloc::{AllocError, Global};
@@ -74,63 +74,63 @@ pub enum CodeEntry<'a> {
 
 /// A code and its name.
 #[tactic(auto, unfolding(crate::specs::Encoding::put_entry))]
-fn put_at(bytes: &[u8], dialect: Dialect) -> Option<(CodeEntry<'_>, &[u8])>
+fn put_at(bytes: &[u8], spacing: Spacing) -> Option<(CodeEntry<'_>, &[u8])>
     ensures value { option_map (λ x. (code_entry_view x.0, x.1.now)) result
-        ≡ (put_entry dialect).read bytes.now }
+        ≡ (put_entry spacing).read bytes.now }
     ensures within { IfSome result (λ x. within_codes (code_entry_view x.0) ≡ true) }
 {
-    let (_, rest) = dialect.white_at(bytes);
+    let (_, rest) = spacing.white_at(bytes);
     let (_, rest) = keyword_at(rest, b"dup")?;
-    let (_, rest) = dialect.gap_at(rest)?;
+    let (_, rest) = spacing.gap_at(rest)?;
     let (code, rest) = code_at(rest)?;
-    let (_, rest) = dialect.white_at(rest);
+    let (_, rest) = spacing.white_at(rest);
     let (name, rest) = name_at(rest)?;
-    let (_, rest) = dialect.gap_at(rest)?;
+    let (_, rest) = spacing.gap_at(rest)?;
     let (_, rest) = keyword_at(rest, b"put")?;
     Some((CodeEntry::Put(code, name), rest))
 }
 
 /// `dup dup`, which begins a copy.
-fn copy_start_at(bytes: &[u8], dialect: Dialect) -> Option<(&[u8], &[u8])>
-    ensures { option_map (λ x. (x.0.now, x.1.now)) result ≡ (copy_start dialect).read bytes.now }
+fn copy_start_at(bytes: &[u8], spacing: Spacing) -> Option<(&[u8], &[u8])>
+    ensures { option_map (λ x. (x.0.now, x.1.now)) result ≡ (copy_start spacing).read bytes.now }
 {
-    let (_, rest) = dialect.white_at(bytes);
+    let (_, rest) = spacing.white_at(bytes);
     let (_, rest) = keyword_at(rest, b"dup")?;
-    let (_, rest) = dialect.gap_at(rest)?;
+    let (_, rest) = spacing.gap_at(rest)?;
     let (_, rest) = keyword_at(rest, b"dup")?;
-    dialect.gap_at(rest)
+    spacing.gap_at(rest)
 }
 
 /// The copy of one code's name.
 #[tactic(auto, unfolding(crate::specs::Encoding::one_copy))]
-fn one_copy_at(bytes: &[u8], dialect: Dialect) -> Option<(CodeEntry<'_>, &[u8])>
+fn one_copy_at(bytes: &[u8], spacing: Spacing) -> Option<(CodeEntry<'_>, &[u8])>
     ensures value { option_map (λ x. (code_entry_view x.0, x.1.now)) result
-        ≡ (one_copy dialect).read bytes.now }
+        ≡ (one_copy spacing).read bytes.now }
     ensures within { IfSome result (λ x. within_codes (code_entry_view x.0) ≡ true) }
 {
-    let (_, rest) = copy_start_at(bytes, dialect)?;
+    let (_, rest) = copy_start_at(bytes, spacing)?;
     let (to, rest) = code_at(rest)?;
-    let (_, rest) = dialect.gap_at(rest)?;
+    let (_, rest) = spacing.gap_at(rest)?;
     let (_, rest) = keyword_at(rest, b"exch")?;
-    let (_, rest) = dialect.gap_at(rest)?;
+    let (_, rest) = spacing.gap_at(rest)?;
     let (from, rest) = code_at(rest)?;
-    let (_, rest) = dialect.gap_at(rest)?;
+    let (_, rest) = spacing.gap_at(rest)?;
     let (_, rest) = keyword_at(rest, b"get")?;
-    let (_, rest) = dialect.gap_at(rest)?;
+    let (_, rest) = spacing.gap_at(rest)?;
     let (_, rest) = keyword_at(rest, b"put")?;
     Some((CodeEntry::Copy(from as u16, 1, to as u16), rest))
 }
 
 /// The range of codes whose names are copied.
 #[tactic(auto, unfolding(crate::specs::Encoding::copied_range))]
-fn copied_range_at(bytes: &[u8], dialect: Dialect) -> Option<(u32, u32, &[u8])>
-    ensures { option_map (λ x. ((x.0, x.1), x.2.now)) result ≡ (copied_range dialect).read bytes.now }
+fn copied_range_at(bytes: &[u8], spacing: Spacing) -> Option<(u32, u32, &[u8])>
+    ensures { option_map (λ x. ((x.0, x.1), x.2.now)) result ≡ (copied_range spacing).read bytes.now }
 {
-    let (_, rest) = copy_start_at(bytes, dialect)?;
+    let (_, rest) = copy_start_at(bytes, spacing)?;
     let (from, rest) = number_at(rest)?;
-    let (_, rest) = dialect.gap_at(rest)?;
+    let (_, rest) = spacing.gap_at(rest)?;
     let (count, rest) = number_at(rest)?;
-    let (_, rest) = dialect.gap_at(rest)?;
+    let (_, rest) = spacing.gap_at(rest)?;
     let (_, rest) = keyword_at(rest, b"getinterval")?;
     Some((from, count, rest))
 }
@@ -144,17 +144,17 @@ fn are_codes(from: u32, count: u32) -> bool
 
 /// The copy of the names of a range of codes.
 #[tactic(auto, unfolding(crate::specs::Encoding::copy_of_range))]
-fn range_copy_at(bytes: &[u8], dialect: Dialect) -> Option<(CodeEntry<'_>, &[u8])>
+fn range_copy_at(bytes: &[u8], spacing: Spacing) -> Option<(CodeEntry<'_>, &[u8])>
     ensures value { option_map (λ x. (code_entry_view x.0, x.1.now)) result
-        ≡ (range_copy dialect).read bytes.now }
+        ≡ (range_copy spacing).read bytes.now }
     ensures within { IfSome result (λ x. within_codes (code_entry_view x.0) ≡ true) }
 {
-    let (from, count, rest) = copied_range_at(bytes, dialect)?;
-    let (_, rest) = dialect.gap_at(rest)?;
+    let (from, count, rest) = copied_range_at(bytes, spacing)?;
+    let (_, rest) = spacing.gap_at(rest)?;
     let (to, rest) = number_at(rest)?;
-    let (_, rest) = dialect.gap_at(rest)?;
+    let (_, rest) = spacing.gap_at(rest)?;
     let (_, rest) = keyword_at(rest, b"exch")?;
-    let (_, rest) = dialect.gap_at(rest)?;
+    let (_, rest) = spacing.gap_at(rest)?;
     let (_, rest) = keyword_at(rest, b"putinterval")?;
     if !are_codes(from, count) || !are_codes(to, count) {
         return None;
@@ -168,15 +168,15 @@ pub(crate) fn code_entry_at(bytes: &[u8], dialect: Dialect) -> Option<(CodeEntry
         ≡ (code_entry dialect).read bytes.now }
     ensures within { IfSome result (λ x. within_codes (code_entry_view x.0) ≡ true) }
 {
-    if let Some(found) = put_at(bytes, dialect) {
+    if let Some(found) = put_at(bytes, dialect.encoding) {
         return Some(found);
     }
-    match dialect {
-        Dialect::Strict => None,
-        Dialect::Wide => match one_copy_at(bytes, dialect) {
-            Some(found) => Some(found),
-            None => range_copy_at(bytes, dialect),
-        },
+    if !dialect.copies {
+        return None;
+    }
+    match one_copy_at(bytes, dialect.encoding) {
+        Some(found) => Some(found),
+        None => range_copy_at(bytes, dialect.encoding),
     }
 }
 

@@ -1,19 +1,32 @@
-//! What may stand between the words of an Encoding and of a table of Subrs.
+//! By which rules a font may be spelled, beside those of the standard.
 
 ghost use Rattle.std.specs.Prelude.{◌≡◌, Some};
 ghost use Rattle.std.specs.Option.{option_map};
 ghost use Rattle.t1_grammar.specs.Scans.{taken};
-ghost use Rattle.t1_font.specs.Dialect.{Blank, Comment, ends_comment, spacing, white_in, gap_in};
+ghost use Rattle.t1_font.specs.Dialect.{Blank, Comment, ends_comment, spacing, white_in, gap_in, strict, wide, without};
 
 use t1_bytes::texts::{gap_at, is_white, white_at};
 
-/// How widely an Encoding and a table of Subrs may be spelled.
+/// What may stand between two words.
 #[derive(Clone, Copy)]
-pub enum Dialect {
-    /// White space alone stands between words.
-    Strict,
-    /// Comments may stand there, too.
-    Wide,
+pub enum Spacing {
+    /// White space alone.
+    White,
+    /// White space and comments.
+    Comments,
+}
+
+/// By which rules a font may be spelled, beside those of the standard.
+#[derive(Clone, Copy)]
+pub struct Dialect {
+    /// What may stand between the words of an Encoding.
+    pub encoding: Spacing,
+    /// Whether an Encoding's table may copy the names of codes.
+    pub copies: bool,
+    /// Whether `readonly` may stand behind a word that is the whole Encoding.
+    pub readonly: bool,
+    /// What may stand before an entry of Subrs, and before the words that close them.
+    pub subrs: Spacing,
 }
 
 /// Whether a byte ends a comment.
@@ -42,14 +55,27 @@ fn spacing_len(bytes: &[u8]) -> usize
     len
 }
 
-impl Dialect {
+/// One of these rules.
+#[derive(Clone, Copy)]
+pub enum Rule {
+    /// Comments may stand in the Encoding.
+    EncodingComments,
+    /// An Encoding's table may copy the names of codes.
+    CopiedCodes,
+    /// `readonly` may stand behind a word that is the whole Encoding.
+    ReadonlyWord,
+    /// Comments may stand among Subrs.
+    SubrsComments,
+}
+
+impl Spacing {
     /// What stands between two words, and what stands after it.
     pub fn white_at(self, bytes: &[u8]) -> (&[u8], &[u8])
         ensures { Some (result.0.now, result.1.now) ≡ (white_in self).read bytes.now }
     {
         match self {
-            Dialect::Strict => white_at(bytes),
-            Dialect::Wide => bytes.split_at(spacing_len(bytes)),
+            Spacing::White => white_at(bytes),
+            Spacing::Comments => bytes.split_at(spacing_len(bytes)),
         }
     }
 
@@ -58,8 +84,8 @@ impl Dialect {
         ensures { option_map (λ x. (x.0.now, x.1.now)) result ≡ (gap_in self).read bytes.now }
     {
         match self {
-            Dialect::Strict => gap_at(bytes),
-            Dialect::Wide => {
+            Spacing::White => gap_at(bytes),
+            Spacing::Comments => {
                 let (front, rest) = self.white_at(bytes);
                 if front.is_empty() {
                     return None;
@@ -67,5 +93,45 @@ impl Dialect {
                 Some((front, rest))
             }
         }
+    }
+}
+
+impl Dialect {
+    /// None of these rules.
+    pub fn strict() -> Dialect
+        ensures { result ≡ strict }
+    {
+        Dialect {
+            encoding: Spacing::White,
+            copies: false,
+            readonly: false,
+            subrs: Spacing::White,
+        }
+    }
+
+    /// All of them.
+    pub fn wide() -> Dialect
+        ensures { result ≡ wide }
+    {
+        Dialect {
+            encoding: Spacing::Comments,
+            copies: true,
+            readonly: true,
+            subrs: Spacing::Comments,
+        }
+    }
+
+    /// Without one of them.
+    pub fn without(self, rule: Rule) -> Dialect
+        ensures { result ≡ without rule self }
+    {
+        let mut dialect = self;
+        match rule {
+            Rule::EncodingComments => dialect.encoding = Spacing::White,
+            Rule::CopiedCodes => dialect.copies = false,
+            Rule::ReadonlyWord => dialect.readonly = false,
+            Rule::SubrsComments => dialect.subrs = Spacing::White,
+        }
+        dialect
     }
 }

@@ -19,7 +19,7 @@ ghost use Rattle.t1_font.specs.Pieces.{encoding_from, clear_pieces};
 ghost use Rattle.t1_font.specs.Answers.{Shown, encoding_view, ShowsClear};
 
 use crate::code_entry::{code_entry_at, keep_entry};
-use crate::dialect::Dialect;
+use crate::dialect::{Dialect, Spacing};
 use crate::fault::{ReadFault, TableError};
 use crate::gathered::Gathered;
 use crate::markers::{EncodingMarker, first};
@@ -31,11 +31,11 @@ use t1_bytes::texts::fixed_at;
 const CODES: u16 = 256;
 
 /// `readonly` and the white space after it, if they are there.
-fn after_readonly(bytes: &[u8], dialect: Dialect) -> &[u8]
-    ensures { Some result.now ≡ option_map (λ x. x.1) ((readonly dialect).read bytes.now) }
+fn after_readonly(bytes: &[u8], spacing: Spacing) -> &[u8]
+    ensures { Some result.now ≡ option_map (λ x. x.1) ((readonly spacing).read bytes.now) }
 {
     if let Some((_, rest)) = keyword_at(bytes, b"readonly") {
-        if let Some((_, rest)) = dialect.gap_at(rest) {
+        if let Some((_, rest)) = spacing.gap_at(rest) {
             return rest;
         }
     }
@@ -44,11 +44,11 @@ fn after_readonly(bytes: &[u8], dialect: Dialect) -> &[u8]
 
 /// What stands after the close of the table.
 #[tactic(auto, unfolding(crate::specs::Encoding::encoding_end))]
-fn encoding_end_at(bytes: &[u8], dialect: Dialect) -> Option<&[u8]>
-    ensures { option_map (λ x. x.now) result ≡ option_map (λ x. x.1) ((encoding_end dialect).read bytes.now) }
+fn encoding_end_at(bytes: &[u8], spacing: Spacing) -> Option<&[u8]>
+    ensures { option_map (λ x. x.now) result ≡ option_map (λ x. x.1) ((encoding_end spacing).read bytes.now) }
 {
-    let (_, rest) = dialect.white_at(bytes);
-    let (_, rest) = keyword_at(after_readonly(rest, dialect), b"def")?;
+    let (_, rest) = spacing.white_at(bytes);
+    let (_, rest) = keyword_at(after_readonly(rest, spacing), b"def")?;
     Some(rest)
 }
 
@@ -56,9 +56,10 @@ fn encoding_end_at(bytes: &[u8], dialect: Dialect) -> Option<&[u8]>
 fn before_def(bytes: &[u8], dialect: Dialect) -> &[u8]
     ensures { Some result.now ≡ option_map (λ x. x.1) ((before_def dialect).read bytes.now) }
 {
-    match dialect {
-        Dialect::Strict => bytes,
-        Dialect::Wide => after_readonly(bytes, dialect),
+    if dialect.readonly {
+        after_readonly(bytes, dialect.encoding)
+    } else {
+        bytes
     }
 }
 
@@ -67,73 +68,73 @@ fn before_def(bytes: &[u8], dialect: Dialect) -> &[u8]
 fn encoding_word_at(bytes: &[u8], dialect: Dialect) -> Option<(&[u8], &[u8])>
     ensures { option_map (λ x. (x.0.now, x.1.now)) result ≡ (encoding_word dialect).read bytes.now }
 {
-    let (_, rest) = dialect.white_at(bytes);
+    let (_, rest) = dialect.encoding.white_at(bytes);
     let (word, rest) = word_at(rest)?;
-    let (_, rest) = dialect.gap_at(rest)?;
+    let (_, rest) = dialect.encoding.gap_at(rest)?;
     let (_, rest) = keyword_at(before_def(rest, dialect), b"def")?;
     Some((word, rest))
 }
 
 /// How a table begins.
 #[tactic(auto, unfolding(crate::specs::Encoding::encoding_table))]
-fn encoding_table_at(bytes: &[u8], dialect: Dialect) -> Option<(&[u8], &[u8])>
-    ensures { option_map (λ x. (x.0.now, x.1.now)) result ≡ (encoding_table dialect).read bytes.now }
+fn encoding_table_at(bytes: &[u8], spacing: Spacing) -> Option<(&[u8], &[u8])>
+    ensures { option_map (λ x. (x.0.now, x.1.now)) result ≡ (encoding_table spacing).read bytes.now }
 {
-    let (_, rest) = dialect.white_at(bytes);
+    let (_, rest) = spacing.white_at(bytes);
     let (_, rest) = keyword_at(rest, b"256")?;
-    let (_, rest) = dialect.gap_at(rest)?;
+    let (_, rest) = spacing.gap_at(rest)?;
     keyword_at(rest, b"array")
 }
 
 /// `0 1 255`, which begins the loop.
-fn loop_range_at(bytes: &[u8], dialect: Dialect) -> Option<(&[u8], &[u8])>
-    ensures { option_map (λ x. (x.0.now, x.1.now)) result ≡ (loop_range dialect).read bytes.now }
+fn loop_range_at(bytes: &[u8], spacing: Spacing) -> Option<(&[u8], &[u8])>
+    ensures { option_map (λ x. (x.0.now, x.1.now)) result ≡ (loop_range spacing).read bytes.now }
 {
-    let (_, rest) = dialect.white_at(bytes);
+    let (_, rest) = spacing.white_at(bytes);
     let (_, rest) = keyword_at(rest, b"0")?;
-    let (_, rest) = dialect.gap_at(rest)?;
+    let (_, rest) = spacing.gap_at(rest)?;
     let (_, rest) = keyword_at(rest, b"1")?;
-    let (_, rest) = dialect.gap_at(rest)?;
+    let (_, rest) = spacing.gap_at(rest)?;
     keyword_at(rest, b"255")
 }
 
 /// `1 index exch /.notdef put`, which the loop does.
-fn loop_body_at(bytes: &[u8], dialect: Dialect) -> Option<(&[u8], &[u8])>
-    ensures { option_map (λ x. (x.0.now, x.1.now)) result ≡ (loop_body dialect).read bytes.now }
+fn loop_body_at(bytes: &[u8], spacing: Spacing) -> Option<(&[u8], &[u8])>
+    ensures { option_map (λ x. (x.0.now, x.1.now)) result ≡ (loop_body spacing).read bytes.now }
 {
-    let (_, rest) = dialect.white_at(bytes);
+    let (_, rest) = spacing.white_at(bytes);
     let (_, rest) = keyword_at(rest, b"1")?;
-    let (_, rest) = dialect.gap_at(rest)?;
+    let (_, rest) = spacing.gap_at(rest)?;
     let (_, rest) = keyword_at(rest, b"index")?;
-    let (_, rest) = dialect.gap_at(rest)?;
+    let (_, rest) = spacing.gap_at(rest)?;
     let (_, rest) = keyword_at(rest, b"exch")?;
-    let (_, rest) = dialect.white_at(rest);
+    let (_, rest) = spacing.white_at(rest);
     let (_, rest) = fixed_at(rest, b"/")?;
     let (_, rest) = keyword_at(rest, b".notdef")?;
-    let (_, rest) = dialect.gap_at(rest)?;
+    let (_, rest) = spacing.gap_at(rest)?;
     keyword_at(rest, b"put")
 }
 
 /// The loop that names all codes `.notdef`.
 #[tactic(auto, unfolding(crate::specs::Encoding::encoding_loop))]
-fn encoding_loop_at(bytes: &[u8], dialect: Dialect) -> Option<(&[u8], &[u8])>
-    ensures { option_map (λ x. (x.0.now, x.1.now)) result ≡ (encoding_loop dialect).read bytes.now }
+fn encoding_loop_at(bytes: &[u8], spacing: Spacing) -> Option<(&[u8], &[u8])>
+    ensures { option_map (λ x. (x.0.now, x.1.now)) result ≡ (encoding_loop spacing).read bytes.now }
 {
-    let (_, rest) = loop_range_at(bytes, dialect)?;
-    let (_, rest) = dialect.white_at(rest);
+    let (_, rest) = loop_range_at(bytes, spacing)?;
+    let (_, rest) = spacing.white_at(rest);
     let (_, rest) = fixed_at(rest, b"{")?;
-    let (_, rest) = loop_body_at(rest, dialect)?;
-    let (_, rest) = dialect.white_at(rest);
+    let (_, rest) = loop_body_at(rest, spacing)?;
+    let (_, rest) = spacing.white_at(rest);
     let (_, rest) = fixed_at(rest, b"}")?;
-    let (_, rest) = dialect.white_at(rest);
+    let (_, rest) = spacing.white_at(rest);
     keyword_at(rest, b"for")
 }
 
 /// The loop, if it is there.
-fn after_loop(bytes: &[u8], dialect: Dialect) -> &[u8]
-    ensures { Some result.now ≡ option_map (λ x. x.1) ((may_be (encoding_loop dialect)).read bytes.now) }
+fn after_loop(bytes: &[u8], spacing: Spacing) -> &[u8]
+    ensures { Some result.now ≡ option_map (λ x. x.1) ((may_be (encoding_loop spacing)).read bytes.now) }
 {
-    if let Some((_, rest)) = encoding_loop_at(bytes, dialect) {
+    if let Some((_, rest)) = encoding_loop_at(bytes, spacing) {
         return rest;
     }
     bytes
@@ -141,29 +142,29 @@ fn after_loop(bytes: &[u8], dialect: Dialect) -> &[u8]
 
 /// How an array begins.
 #[tactic(auto, unfolding(crate::specs::Encoding::array_start))]
-fn array_start_at(bytes: &[u8], dialect: Dialect) -> Option<(&[u8], &[u8])>
-    ensures { option_map (λ x. (x.0.now, x.1.now)) result ≡ (array_start dialect).read bytes.now }
+fn array_start_at(bytes: &[u8], spacing: Spacing) -> Option<(&[u8], &[u8])>
+    ensures { option_map (λ x. (x.0.now, x.1.now)) result ≡ (array_start spacing).read bytes.now }
 {
-    let (_, rest) = dialect.white_at(bytes);
+    let (_, rest) = spacing.white_at(bytes);
     fixed_at(rest, b"[")
 }
 
 /// What stands after the close of an array.
 #[tactic(auto, unfolding(crate::specs::Encoding::array_end))]
-fn array_end_at(bytes: &[u8], dialect: Dialect) -> Option<&[u8]>
-    ensures { option_map (λ x. x.now) result ≡ option_map (λ x. x.1) ((array_end dialect).read bytes.now) }
+fn array_end_at(bytes: &[u8], spacing: Spacing) -> Option<&[u8]>
+    ensures { option_map (λ x. x.now) result ≡ option_map (λ x. x.1) ((array_end spacing).read bytes.now) }
 {
-    let (_, rest) = dialect.white_at(bytes);
+    let (_, rest) = spacing.white_at(bytes);
     let (_, rest) = fixed_at(rest, b"]")?;
-    encoding_end_at(rest, dialect)
+    encoding_end_at(rest, spacing)
 }
 
 /// A name of an array.
 #[tactic(auto, unfolding(crate::specs::Words::next_name))]
-fn array_name_at(bytes: &[u8], dialect: Dialect) -> Option<(&[u8], &[u8])>
-    ensures { option_map (λ x. (x.0.now, x.1.now)) result ≡ (next_name dialect).read bytes.now }
+fn array_name_at(bytes: &[u8], spacing: Spacing) -> Option<(&[u8], &[u8])>
+    ensures { option_map (λ x. (x.0.now, x.1.now)) result ≡ (next_name spacing).read bytes.now }
 {
-    let (_, rest) = dialect.white_at(bytes);
+    let (_, rest) = spacing.white_at(bytes);
     name_at(rest)
 }
 
@@ -186,10 +187,10 @@ fn encoding_start_at(bytes: &[u8], dialect: Dialect) -> Option<(Opening<'_>, &[u
     if let Some((word, rest)) = encoding_word_at(bytes, dialect) {
         return Some((Opening::Word(word), rest));
     }
-    if let Some((_, rest)) = encoding_table_at(bytes, dialect) {
-        return Some((Opening::Puts, after_loop(rest, dialect)));
+    if let Some((_, rest)) = encoding_table_at(bytes, dialect.encoding) {
+        return Some((Opening::Puts, after_loop(rest, dialect.encoding)));
     }
-    let (_, rest) = array_start_at(bytes, dialect)?;
+    let (_, rest) = array_start_at(bytes, dialect.encoding)?;
     Some((Opening::Names, rest))
 }
 
@@ -201,17 +202,17 @@ fn puts_at<'a>(
     gathered: &mut Gathered<'a>,
 ) -> Result<&'a [u8], TableError>
     requires { gathered.old.codes ≡ fin.empty }
-    ensures shown { TableHeld dialect (λ x es close rest. (gathered.new.codes ≡ map_of (puts_of es))
-        × (x.now ≡ rest)) result (table_at (code_entry dialect) (encoding_end dialect) bytes.now) }
+    ensures shown { TableHeld dialect.encoding (λ x es close rest. (gathered.new.codes ≡ map_of (puts_of es))
+        × (x.now ≡ rest)) result (table_at (code_entry dialect) (encoding_end dialect.encoding) bytes.now) }
     ensures others { OnOk result (CodesAlone gathered.old gathered.new) }
 {
     let mut rest = bytes;
     'entries: loop {
-        if let Some(after) = encoding_end_at(rest, dialect) {
+        if let Some(after) = encoding_end_at(rest, dialect.encoding) {
             return Ok(after);
         }
         let Some((entry, after)) = code_entry_at(rest, dialect) else {
-            let (_, left) = dialect.white_at(rest);
+            let (_, left) = dialect.encoding.white_at(rest);
             return Err(TableError::Left(left.len()));
         };
         keep_entry(alloc, entry, gathered)?;
@@ -222,28 +223,28 @@ fn puts_at<'a>(
 /// The names of an array, kept at the codes of their places, and what stands after their close.
 fn names_at<'a>(
     bytes: &'a [u8],
-    dialect: Dialect,
+    spacing: Spacing,
     gathered: &mut Gathered<'a>,
 ) -> Result<&'a [u8], TableError>
     requires { gathered.old.codes ≡ fin.empty }
-    ensures shown { TableHeld dialect (λ x names close rest. (gathered.new.codes
+    ensures shown { TableHeld spacing (λ x names close rest. (gathered.new.codes
         ≡ map_of (from_code 0 names))
         × (x.now
         ≡ rest)) result
-        (counted_at (next_name dialect) (array_end dialect) code_count bytes.now) }
+        (counted_at (next_name spacing) (array_end spacing) code_count bytes.now) }
     ensures others { OnOk result (CodesAlone gathered.old gathered.new) }
 {
     let mut rest = bytes;
     'names: for code in 0..CODES {
-        let Some((name, after)) = array_name_at(rest, dialect) else {
-            let (_, left) = dialect.white_at(rest);
+        let Some((name, after)) = array_name_at(rest, spacing) else {
+            let (_, left) = spacing.white_at(rest);
             return Err(TableError::Left(left.len()));
         };
         gathered.keep_code(code as u8, name)?;
         rest = after;
     }
-    let Some(after) = array_end_at(rest, dialect) else {
-        let (_, left) = dialect.white_at(rest);
+    let Some(after) = array_end_at(rest, spacing) else {
+        let (_, left) = spacing.white_at(rest);
         return Err(TableError::Left(left.len()));
     };
     Ok(after)
@@ -309,7 +310,7 @@ fn array_from<'a>(
         × (x.1.now ≡ e.1)) result (encoding_from dialect clear.now OpensNames rest.now).read }
     ensures others { OnOk result (CodesAlone gathered.old gathered.new) }
 {
-    match names_at(rest, dialect, gathered) {
+    match names_at(rest, dialect.encoding, gathered) {
         Ok(after) => Ok((EncodingParts::Puts, after)),
         Err(error) => Err(bad_encoding(clear, error)),
     }

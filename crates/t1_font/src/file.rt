@@ -226,7 +226,7 @@ fn text_parts(
 {
     let mut gathered = Gathered::new(alloc, buffer, at);
     let outside = clear_parts(alloc, clear, dialect, &mut gathered)?;
-    let inside = private_parts(alloc, dialect, &mut gathered)?;
+    let inside = private_parts(alloc, dialect.subrs, &mut gathered)?;
     font_from(alloc, &outside, inside, gathered)
 }
 
@@ -253,7 +253,7 @@ fn are_bytes(bytes: &[u8])
 }
 
 /// Reads a font file that is spelled in a dialect.
-fn read_in(alloc: Global, dialect: Dialect, file: Vec<u8>) -> Result<Source, ReadFault>
+pub(crate) fn read_in(alloc: Global, dialect: Dialect, file: Vec<u8>) -> Result<Source, ReadFault>
     ensures right { MatchResult result (SpellsIn dialect file.items) (RefusesIn dialect file.items) }
     ensures exact { Answers (λ f. f) result (font_file dialect file.items).read }
 {
@@ -274,7 +274,7 @@ pub fn read_vec(alloc: Global, file: Vec<u8>) -> Result<Source, ReadFault>
     ensures right { MatchResult result (Spells file.items) (Refuses file.items) }
     ensures exact { Answers (λ f. f) result (read_font file.items) }
 {
-    read_in(alloc, Dialect::Strict, file)
+    read_in(alloc, Dialect::strict(), file)
 }
 
 /// Reads a font file that is handed over, as [`read_wide`] reads one that is lent.
@@ -286,7 +286,7 @@ pub fn read_wide_vec(alloc: Global, file: Vec<u8>) -> Result<Source, ReadFault>
     ensures right { MatchResult result (SpellsWidely file.items) (RefusesWidely file.items) }
     ensures exact { Answers (λ f. f) result (read_font_widely file.items) }
 {
-    read_in(alloc, Dialect::Wide, file)
+    read_in(alloc, Dialect::wide(), file)
 }
 
 /// Reads a font file: PFA or PFB, in any spelling of the Type 1 grammar that this library accepts

@@ -9,7 +9,7 @@ ghost use Rattle.t1_grammar.specs.Grammar.{first};
 ghost use Rattle.t1_bytes.specs.Eexec.{blank_comes};
 ghost use Rattle.t1_font.specs.Words.{is_regular, keyword};
 ghost use Rattle.t1_font.specs.FontTest.{is_brace, get_number, is_same, then_save, token, tokens, literal, known_name, known_number, font_test};
-ghost use Rattle.t1_font.specs.FontTest.{found_test, around, eexec_there, test_begins, eexec_begins, has_marker, is_untested, untested, untested_shell, untested_font};
+ghost use Rattle.t1_font.specs.FontTest.{found_test, place_and_around, eexec_there, test_begins, eexec_begins, has_marker, is_untested, untested, taken_test, untested_shell, untested_font};
 
 use crate::markers::{EncodingMarker, Marker, first};
 use crate::shell::Shell;
@@ -200,7 +200,8 @@ fn test_from(head: &[u8], from: usize) -> Option<(usize, &[u8])>
 
 /// What stands before and behind the first test of a head.
 fn found_test(head: &[u8]) -> Option<(&[u8], &[u8])>
-    ensures { option_map (λ x. x.0.now ++ x.1.now) result ≡ option_map around (found_test head.now) }
+    ensures { option_map (λ x. (length x.0.now, x.0.now ++ x.1.now)) result
+        ≡ option_map place_and_around (found_test head.now) }
 {
     let mut from = 0;
     'tests: while let Some((place, behind)) = test_from(head, from) {
@@ -274,16 +275,39 @@ fn whole_head(mut text: Vec<u8>) -> Result<Option<Vec<u8>>, AllocError>
     Ok(Some(text))
 }
 
+/// What stands around a test, if that is a head without one.
+fn joined_head(
+    alloc: Global,
+    before: &[u8],
+    behind: &[u8],
+) -> Result<Option<Vec<u8>>, AllocError>
+    ensures { IfOk result (λ o. option_map (λ v. v.items) o
+        ≡ (if is_untested (before.now ++ behind.now) then Some (before.now ++ behind.now) else None)) }
+{
+    let mut text = Vec::from_slice(alloc, before)?;
+    text.extend_from_slice(behind)?;
+    whole_head(text)
+}
+
 /// A head without its test, if it loses one.
 fn untested(alloc: Global, head: &[u8]) -> Result<Option<Vec<u8>>, AllocError>
     ensures { IfOk result (λ o. MatchOption o (untested head.now ≡ head.now) (λ v. v.items ≡ untested head.now)) }
 {
     match found_test(head) {
-        Some((before, behind)) => {
-            let mut text = Vec::from_slice(alloc, before)?;
-            text.extend_from_slice(behind)?;
-            whole_head(text)
-        }
+        Some((before, behind)) => joined_head(alloc, before, behind),
+        None => Ok(None),
+    }
+}
+
+/// Where the test stands in a head that loses it.
+pub(crate) fn taken_test(alloc: Global, head: &[u8]) -> Result<Option<usize>, AllocError>
+    ensures { IfOk result (λ o. o ≡ taken_test head.now) }
+{
+    let Some((before, behind)) = found_test(head) else {
+        return Ok(None);
+    };
+    match joined_head(alloc, before, behind)? {
+        Some(_) => Ok(Some(before.len())),
         None => Ok(None),
     }
 }

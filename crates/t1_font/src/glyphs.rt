@@ -13,7 +13,7 @@ ghost use Rattle.t1_font.specs.Held.{HoldsGlyphs, TableHeld};
 ghost use Rattle.t1_font.specs.Places.{StandsIn};
 ghost use Rattle.t1_font.specs.Views.{entry_view};
 ghost use Rattle.t1_font.specs.Words.{next_name};
-ghost use Rattle.t1_font.specs.declared.dialect.Dialect.TheVariants.{Strict};
+ghost use Rattle.t1_font.specs.declared.dialect.Spacing.TheVariants.{White};
 
 use crate::entry::{Body, body_at};
 use crate::fault::TableError;
@@ -92,7 +92,7 @@ pub(crate) fn glyphs_at(
     gathered: &mut Gathered<'_>,
 ) -> Result<GlyphsParts, TableError>
     requires { gathered.old.glyphs ≡ fin.empty }
-    ensures shown { TableHeld Strict (λ x es close rest. ShowsGlyphs x es
+    ensures shown { TableHeld White (λ x es close rest. ShowsGlyphs x es
         × HoldsGlyphs len_iv gathered.new.glyphs es
         × (gathered.new.rest
         ≡ rest)) result (table_at (glyph len_iv) glyphs_end gathered.old.rest) }

@@ -11,14 +11,14 @@ ghost use Rattle.t1_font.specs.Markers.{subrs_marker, closefile};
 ghost use Rattle.t1_font.specs.Glyphs.{glyph, glyphs_end};
 ghost use Rattle.t1_font.specs.Pieces.{SubrsPieces, iv_of, tail_after, glyphs_from, tables_from, private_pieces};
 ghost use Rattle.t1_font.specs.declared.fault.ReadFault.TheVariants.{BadSubrs, BadGlyphs};
-ghost use Rattle.t1_font.specs.declared.dialect.Dialect.TheVariants.{Strict};
+ghost use Rattle.t1_font.specs.declared.dialect.Spacing.TheVariants.{White};
 ghost use Rattle.t1_font.specs.Subrs.{subr, subrs_end};
 ghost use Rattle.t1_font.specs.Reading.{bad_at};
 ghost use Rattle.t1_font.specs.Answers.{Answers, Shown, ShowsTable, ShowsGlyphs, ShowsBefore, ShowsPrivate};
 ghost use Rattle.t1_font.specs.Gathering.{SubrsAlone, GlyphsAlone};
 ghost use Rattle.t1_font.specs.Held.{HoldsSubrs, HoldsGlyphs};
 
-use crate::dialect::Dialect;
+use crate::dialect::Spacing;
 use crate::fault::{ReadFault, TableError};
 use crate::gathered::Gathered;
 use crate::glyphs::{GlyphsParts, glyphs_at};
@@ -105,7 +105,7 @@ fn glyphs_parts(
     ensures shown { Shown (λ x t. ShowsGlyphs x t.0
         × HoldsGlyphs len_iv gathered.new.glyphs t.0
         × (gathered.new.rest
-        ≡ t.2)) result (in_table (bad_at Strict BadGlyphs size) (table_at (glyph len_iv) glyphs_end gathered.old.rest)) }
+        ≡ t.2)) result (in_table (bad_at White BadGlyphs size) (table_at (glyph len_iv) glyphs_end gathered.old.rest)) }
     ensures others { OnOk result (GlyphsAlone gathered.old gathered.new) }
 {
     match glyphs_at(alloc, len_iv, gathered) {
@@ -157,7 +157,7 @@ fn tables_without(
     requires subrs { gathered.old.subrs ≡ fin.empty }
     requires glyphs { gathered.old.glyphs ≡ fin.empty }
     ensures shown { Shown (λ x p. ShowsPrivate x gathered.new p) result
-        (tables_from Strict size ((private.items, tt), gathered.old.rest) None).read }
+        (tables_from White size ((private.items, tt), gathered.old.rest) None).read }
     ensures codes { OnOk result (gathered.new.codes ≡ gathered.old.codes) }
 {
     let len_iv = iv_of(private.as_slice())?;
@@ -173,7 +173,7 @@ fn tables_without(
 /// The table of Subrs, in the last part of a private text of this many bytes.
 fn subrs_parts(
     alloc: Global,
-    dialect: Dialect,
+    spacing: Spacing,
     size: usize,
     declared: u32,
     len_iv: u8,
@@ -186,11 +186,11 @@ fn subrs_parts(
         × HoldsSubrs declared len_iv gathered.new.subrs t.0
         × (gathered.new.rest
         ≡ t.2)) result
-        (in_table (bad_at dialect BadSubrs size)
-        (table_at (subr dialect declared len_iv) (subrs_end dialect) gathered.old.rest)) }
+        (in_table (bad_at spacing BadSubrs size)
+        (table_at (subr spacing declared len_iv) (subrs_end spacing) gathered.old.rest)) }
     ensures others { OnOk result (SubrsAlone gathered.old gathered.new) }
 {
-    match subrs_at(alloc, dialect, declared, len_iv, gathered) {
+    match subrs_at(alloc, spacing, declared, len_iv, gathered) {
         Ok(found) => Ok(found),
         Err(TableError::Memory) => Err(ReadFault::Memory),
         Err(TableError::Left(left)) => Err(ReadFault::BadSubrs {
@@ -203,7 +203,7 @@ fn subrs_parts(
 #[tactic(auto, unfolding(crate::specs::Pieces::tables_from))]
 fn tables_with(
     alloc: Global,
-    dialect: Dialect,
+    spacing: Spacing,
     size: usize,
     private: Vec<u8>,
     declared: u32,
@@ -212,11 +212,11 @@ fn tables_with(
     requires subrs { gathered.old.subrs ≡ fin.empty }
     requires glyphs { gathered.old.glyphs ≡ fin.empty }
     ensures shown { Shown (λ x p. ShowsPrivate x gathered.new p) result
-        (tables_from dialect size (([], tt), []) (Some ((private.items, declared), gathered.old.rest))).read }
+        (tables_from spacing size (([], tt), []) (Some ((private.items, declared), gathered.old.rest))).read }
     ensures codes { OnOk result (gathered.new.codes ≡ gathered.old.codes) }
 {
     let len_iv = iv_of(private.as_slice())?;
-    let subrs = subrs_parts(alloc, dialect, size, declared, len_iv, gathered)?;
+    let subrs = subrs_parts(alloc, spacing, size, declared, len_iv, gathered)?;
     let between = gathered.rest();
     let Some((middle, _, glyphs)) = first::<CharsMarker>(between) else {
         return Err(ReadFault::BadGlyphs {
@@ -239,13 +239,13 @@ fn tables_with(
 #[tactic(auto, unfolding(crate::specs::Pieces::private_pieces, crate::specs::Pieces::tables_from))]
 pub(crate) fn private_parts(
     alloc: Global,
-    dialect: Dialect,
+    spacing: Spacing,
     gathered: &mut Gathered<'_>,
 ) -> Result<PrivateParts, ReadFault>
     requires subrs { gathered.old.subrs ≡ fin.empty }
     requires glyphs { gathered.old.glyphs ≡ fin.empty }
     ensures shown { Shown (λ x p. ShowsPrivate x gathered.new p) result
-        (private_pieces dialect gathered.old.rest).read }
+        (private_pieces spacing gathered.old.rest).read }
     ensures codes { OnOk result (gathered.new.codes ≡ gathered.old.codes) }
 {
     let text = gathered.rest();
@@ -258,7 +258,7 @@ pub(crate) fn private_parts(
             let private = Vec::from_slice(alloc, private)?;
             let left = entries.len();
             gathered.pass_to(left);
-            return tables_with(alloc, dialect, size, private, subrs.declared, gathered);
+            return tables_with(alloc, spacing, size, private, subrs.declared, gathered);
         }
     }
     let private = Vec::from_slice(alloc, front)?;

@@ -12,7 +12,7 @@ ghost use Rattle.t1_font.specs.Charstrings.{plain_of};
 ghost use Rattle.t1_font.specs.Places.{StandsIn, ending, placed};
 ghost use Rattle.t1_font.specs.Views.{entry_view, phrase_view};
 
-use crate::dialect::Dialect;
+use crate::dialect::Spacing;
 use crate::entry::{Body, body_at};
 use crate::fault::TableError;
 use crate::gathered::Gathered;
@@ -23,11 +23,11 @@ use t1_bytes::texts::gap_at;
 
 /// An index below the declared count, and what stands before it.
 #[tactic(auto, unfolding(crate::specs::Subrs::subr_key))]
-fn subr_key_at(bytes: &[u8], dialect: Dialect, declared: u32) -> Option<(u32, &[u8])>
-    ensures value { option_map (λ x. (x.0, x.1.now)) result ≡ (subr_key dialect declared).read bytes.now }
+fn subr_key_at(bytes: &[u8], spacing: Spacing, declared: u32) -> Option<(u32, &[u8])>
+    ensures value { option_map (λ x. (x.0, x.1.now)) result ≡ (subr_key spacing declared).read bytes.now }
     ensures below { IfSome result (λ x. x.0 < declared) }
 {
-    let (_, rest) = dialect.white_at(bytes);
+    let (_, rest) = spacing.white_at(bytes);
     let (_, rest) = keyword_at(rest, b"dup")?;
     let (_, rest) = gap_at(rest)?;
     let (index, rest) = decimal_at(rest)?;
@@ -42,28 +42,28 @@ fn subr_key_at(bytes: &[u8], dialect: Dialect, declared: u32) -> Option<(u32, &[
 #[tactic(auto, unfolding(crate::specs::Entry::entry))]
 fn subr_at(
     bytes: &[u8],
-    dialect: Dialect,
+    spacing: Spacing,
     declared: u32,
     len_iv: u8,
 ) -> Option<(u32, Body<'_>, &[u8])>
     ensures value { option_map (λ x. (entry_view x.0 x.1, x.2.now)) result
-        ≡ (subr dialect declared len_iv).read bytes.now }
+        ≡ (subr spacing declared len_iv).read bytes.now }
     ensures index { IfSome result (λ x. x.0 < declared) }
     ensures length { IfSome result (λ x. len_iv ≤ length x.1.bytes.now) }
     ensures body { IfSome result (λ x. StandsIn bytes.now x.1.bytes.now x.1.behind) }
     ensures left { IfSome result (λ x. length x.2.now ≤ x.1.behind) }
 {
-    let (index, rest) = subr_key_at(bytes, dialect, declared)?;
+    let (index, rest) = subr_key_at(bytes, spacing, declared)?;
     let (body, rest) = body_at(rest, len_iv)?;
     Some((index, body, rest))
 }
 
 /// The phrase that closes the table.
 #[tactic(auto, unfolding(crate::specs::Subrs::subrs_end))]
-fn subrs_end_at(bytes: &[u8], dialect: Dialect) -> Option<(Phrase<'_>, &[u8])>
-    ensures { option_map (λ x. (phrase_view x.0, x.1.now)) result ≡ (subrs_end dialect).read bytes.now }
+fn subrs_end_at(bytes: &[u8], spacing: Spacing) -> Option<(Phrase<'_>, &[u8])>
+    ensures { option_map (λ x. (phrase_view x.0, x.1.now)) result ≡ (subrs_end spacing).read bytes.now }
 {
-    let (_, rest) = dialect.white_at(bytes);
+    let (_, rest) = spacing.white_at(bytes);
     phrase_at(rest, false)
 }
 
@@ -105,26 +105,26 @@ fn keep_subr(
 /// The entries, through the phrase that closes the table.
 pub(crate) fn subrs_at(
     alloc: Global,
-    dialect: Dialect,
+    spacing: Spacing,
     declared: u32,
     len_iv: u8,
     gathered: &mut Gathered<'_>,
 ) -> Result<SubrsParts, TableError>
     requires { gathered.old.subrs ≡ fin.empty }
-    ensures shown { TableHeld dialect
+    ensures shown { TableHeld spacing
         (λ x es close rest. ShowsTable x
         (record { declared = declared; entries = es; closing = close })
         × HoldsSubrs declared len_iv gathered.new.subrs es
-        × (gathered.new.rest ≡ rest)) result (subrs_at dialect declared len_iv gathered.old.rest) }
+        × (gathered.new.rest ≡ rest)) result (subrs_at spacing declared len_iv gathered.old.rest) }
     ensures others { OnOk result (SubrsAlone gathered.old gathered.new) }
 {
     let mut words = None;
     'entries: loop {
-        if let Some((index, body, after)) = subr_at(gathered.rest(), dialect, declared, len_iv) {
+        if let Some((index, body, after)) = subr_at(gathered.rest(), spacing, declared, len_iv) {
             words = Some(first_words(alloc, words, body.rd, body.phrase)?);
             let (body, left) = (body.place(), after.len());
             keep_subr(gathered, index, body, left, len_iv)?;
-        } else if let Some((closing, after)) = subrs_end_at(gathered.rest(), dialect) {
+        } else if let Some((closing, after)) = subrs_end_at(gathered.rest(), spacing) {
             let closing = phrase_bytes(alloc, closing)?;
             let left = after.len();
             gathered.pass_to(left);
@@ -134,7 +134,7 @@ pub(crate) fn subrs_at(
                 closing,
             });
         } else {
-            let (_, left) = dialect.white_at(gathered.rest());
+            let (_, left) = spacing.white_at(gathered.rest());
             return Err(TableError::Left(left.len()));
         }
     }

@@ -4,7 +4,7 @@ ghost use Rattle.std.specs.Prelude.{◌≡◌, ◌<◌, true, length, take_while
 ghost use Rattle.std.specs.Option.{option_map};
 ghost use Rattle.t1_grammar.specs.Grammar.{run, that};
 ghost use Rattle.t1_font.specs.Words.{is_regular, one_white, word, keyword, all_regular, regular_comes, first_digit, decimal, name, next_name, is_access, phrase_of, passes};
-ghost use Rattle.t1_font.specs.declared.dialect.Dialect.TheVariants.{Strict};
+ghost use Rattle.t1_font.specs.declared.dialect.Spacing.TheVariants.{White};
 ghost use Rattle.t1_font.specs.Views.{phrase_view, words_view};
 
 use crate::limits::{NAME_LIMIT, WORD_LIMIT};
@@ -144,7 +144,7 @@ pub fn name_at(bytes: &[u8]) -> Option<(&[u8], &[u8])>
 /// White space, and a name behind it.
 #[tactic(auto, unfolding(crate::specs::Words::next_name))]
 pub fn next_name_at(bytes: &[u8]) -> Option<(&[u8], &[u8])>
-    ensures { option_map (λ x. (x.0.now, x.1.now)) result ≡ (next_name Strict).read bytes.now }
+    ensures { option_map (λ x. (x.0.now, x.1.now)) result ≡ (next_name White).read bytes.now }
 {
     let (_, rest) = white_at(bytes);
     name_at(rest)

@@ -5,7 +5,6 @@ use Rattle.t1_font.specs.FontValue.{FontValue}
 use Rattle.t1_font.specs.IsFont.{IsFont}
 use Rattle.t1_font.specs.ReadFont.{read_font}
 use Rattle.t1_font.proofs.AnswersRight.{bytes_of_slice}
-use Rattle.t1_font.specs.declared.dialect.Dialect.TheVariants.{Strict}
 use Rattle.t1_font.proofs.read_fonts.ReadFontLaws.{spelled_font}
 use Rattle.t1_subset.specs.NameSets.{lent, asked}
 use Rattle.t1_example.specs.Joining.{IsMemory, union_subset}
@@ -13,6 +12,7 @@ use Rattle.t1_example.proofs.Callers.{readable, file_refused, drawn}
 use Rattle.t1_example.specs.Outcomes.{FilesMergeTo}
 use Rattle.t1_example.proofs.Outcomes.{file_unread, first_refused, second_refused, both_cut}
 use Rattle.t1_example.proofs.cut_and_joined.Goals as goal
+use Rattle.t1_font.specs.Dialect.{strict}
 
 pub returns-in_err-source-clause-bytes : goal.returns-in_err-source-clause-bytes
 returns-in_err-source-clause-bytes c = let p = err_from_is_err_and c.from_residual.result c.from_residual.ensures.1 in rw (p.1, p.2) (λ f k.
@@ -43,7 +43,7 @@ returns-clause-bytes c = λ f k.
     let r = readable c.args.file.now a b c.args.form f c.in_ok-source.source k c.in_ok-source.ensures.right in
     subst (λ (j : FontValue). MatchResult c.joined.result (λ (v : Vec ℕ Global). v.items ≡ canon (union_subset j a b) c.args.form) IsMemory) r.is
     (c.joined.ensures.subsets c.in_ok-source.source a b (subst (λ (j : FontValue). IsFont j) (sym r.is)
-    (spelled_font Strict c.args.file.now f (bytes_of_slice c.args.file.now c.type_inv.file) k.spelled)) r.first r.second (
+    (spelled_font strict c.args.file.now f (bytes_of_slice c.args.file.now c.type_inv.file) k.spelled)) r.first r.second (
       ap read_font c.as_slice.ensures.value ∙ c.in-Ok.ensures.again r.first r.fits,
       ap read_font c.as_slice-2.ensures.value ∙ c.in_ok-other.ensures.again r.second r.fits,
     ))
@@ -54,7 +54,7 @@ returns-clause-draws c = λ f k.
     let b = asked c.args.second.now in
     let r = readable c.args.file.now a b c.args.form f c.in_ok-source.source k c.in_ok-source.ensures.right in
     drawn c.joined.result f a b c.args.form
-    (spelled_font Strict c.args.file.now f (bytes_of_slice c.args.file.now c.type_inv.file) k.spelled) k.first k.second k.fits (returns-clause-bytes c f k)
+    (spelled_font strict c.args.file.now f (bytes_of_slice c.args.file.now c.type_inv.file) k.spelled) k.first k.second k.fits (returns-clause-bytes c f k)
 
 pub returns-in_err-source-clause-comes : goal.returns-in_err-source-clause-comes
 returns-in_err-source-clause-comes c = let p = err_from_is_err_and c.from_residual.result c.from_residual.ensures.1 in rw (p.1, p.2) (

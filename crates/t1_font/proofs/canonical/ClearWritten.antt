@@ -9,7 +9,7 @@ use Rattle.t1_grammar.specs.Tables.{with_front, table_at}
 use Rattle.t1_grammar.proofs.Grammars.{that_read}
 use Rattle.t1_grammar.specs.TableLaws.{table_at-step}
 use Rattle.t1_bytes.specs.White.{gap}
-use Rattle.t1_font.specs.declared.dialect.Dialect.TheVariants.{Strict}
+use Rattle.t1_font.specs.declared.dialect.Spacing.TheVariants.{White}
 use Rattle.t1_font.specs.Words.{is_regular, word, keyword, decimal}
 use Rattle.t1_font.specs.Markers.{encoding_marker}
 use Rattle.t1_font.specs.Encoding.{encoding_word, encoding_table, encoding_loop, Whole, OpensPuts, encoding_start, octal, code, CodeEntry, Put, put_entry, code_entry, encoding_end}
@@ -21,6 +21,7 @@ use Rattle.t1_font.proofs.Copies.{puts_plain}
 use Rattle.t1_font.proofs.canonical.Written.{gap_one, word_read, keyword_read, black, black_digits, decimal_read, no_white}
 use Rattle.t1_font.proofs.canonical.EntriesWritten.{fixed_read, name_read, is_word_of}
 use Rattle.t1_font.proofs.canonical.Moves.{first_behind, encoding_moves}
+use Rattle.t1_font.specs.Dialect.{strict}
 
 -- the marker of the Encoding is read from its text
 pub encoding_marker_read : (rest : List ℕ) → encoding_marker.read (codes "/Encoding" ++ (32 ∷ rest)) ≡ Some (tt, 32 ∷ rest)
@@ -29,7 +30,7 @@ encoding_marker_read rest = rw (fixed_read (codes "/Encoding") (32 ∷ rest)) re
 
 -- an Encoding that is a word is read from its text
 pub encoding_word_read : (w rest : List ℕ) → IsWord 32 w → Stops is_regular rest →
-    (encoding_word Strict).read (32 ∷ (w ++ (codes " def" ++ rest))) ≡ Some (w, rest)
+    (encoding_word strict).read (32 ∷ (w ++ (codes " def" ++ rest))) ≡ Some (w, rest)
 unfolding encoding_word
 encoding_word_read w rest h s =
     let t : List ℕ = codes "def" ++ rest in
@@ -40,16 +41,16 @@ encoding_word_read w rest h s =
       keyword_read (codes "def") rest (refl, (refl, (refl, tt))) s,
     ) refl
 
-no_word : (rest : List ℕ) → (encoding_word Strict).read (codes " 256 array" ++ (10 ∷ rest)) ≡ None
+no_word : (rest : List ℕ) → (encoding_word strict).read (codes " 256 array" ++ (10 ∷ rest)) ≡ None
 unfolding encoding_word word gap keyword
 no_word rest = refl
 
-table_begins : (rest : List ℕ) → (encoding_table Strict).read (codes " 256 array" ++ (10 ∷ rest)) ≡ Some (codes "array", 10 ∷ rest)
+table_begins : (rest : List ℕ) → (encoding_table White).read (codes " 256 array" ++ (10 ∷ rest)) ≡ Some (codes "array", 10 ∷ rest)
 unfolding encoding_table gap keyword
 table_begins rest = refl
 
 loop_read : (rest : List ℕ) →
-    (encoding_loop Strict).read (10 ∷ (codes "0 1 255 {1 index exch /.notdef put} for" ++ (10 ∷ rest))) ≡ Some (codes "for", 10 ∷ rest)
+    (encoding_loop White).read (10 ∷ (codes "0 1 255 {1 index exch /.notdef put} for" ++ (10 ∷ rest))) ≡ Some (codes "for", 10 ∷ rest)
 unfolding encoding_loop gap keyword
 loop_read rest = rw (
   fixed_read (codes "{") (codes "1 index exch /.notdef put} for" ++ (10 ∷ rest)),
@@ -65,7 +66,7 @@ code_read c rest h s = that_read _ (either decimal octal) (digits c ++ rest) c r
 
 -- a put is read from its text
 code_entry_read : (c : ℕ) (n rest : List ℕ) → IsCode c n → Stops is_regular rest →
-    (put_entry Strict).read (10 ∷ (codes "dup " ++ (digits c ++ (codes " /" ++ (n ++ (codes " put" ++ rest)))))) ≡ Some (Put c n, rest)
+    (put_entry White).read (10 ∷ (codes "dup " ++ (digits c ++ (codes " /" ++ (n ++ (codes " put" ++ rest)))))) ≡ Some (Put c n, rest)
 unfolding put_entry
 code_entry_read c n rest h s =
     let t4 : List ℕ = codes "put" ++ rest in
@@ -85,7 +86,7 @@ puts_line [] = (_, refl)
 puts_line (e ∷ es) = (_, refl)
 
 -- the end of a table Encoding is read from its text
-encoding_end_read : (rest : List ℕ) → Stops is_regular rest → (encoding_end Strict).read (10 ∷ (codes "readonly def" ++ rest)) ≡ Some (codes "def", rest)
+encoding_end_read : (rest : List ℕ) → Stops is_regular rest → (encoding_end White).read (10 ∷ (codes "readonly def" ++ rest)) ≡ Some (codes "def", rest)
 unfolding encoding_end
 encoding_end_read rest s =
     let t : List ℕ = codes "def" ++ rest in
@@ -100,20 +101,20 @@ put_of e = Put e.0 e.1
 
 -- the puts of an Encoding are read from their text
 pub puts_read : (es : List (ℕ × List ℕ)) (rest : List ℕ) → AllByRecursion (λ e. IsCode e.0 e.1) es → Stops is_regular rest →
-    table_at (code_entry Strict) (encoding_end Strict) (puts_text es ++ rest) ≡ Ok (map put_of es, codes "def", rest)
+    table_at (code_entry strict) (encoding_end White) (puts_text es ++ rest) ≡ Ok (map put_of es, codes "def", rest)
 puts_read [] rest all s =
-    rw (table_at-step (code_entry Strict) (encoding_end Strict) (code_entry_eats Strict) (10 ∷ (codes "readonly def" ++ rest)), encoding_end_read rest s) refl
+    rw (table_at-step (code_entry strict) (encoding_end White) (code_entry_eats strict) (10 ∷ (codes "readonly def" ++ rest)), encoding_end_read rest s) refl
 puts_read (e ∷ es) rest all s =
     let others : List ℕ = puts_text es ++ rest in
     let line = puts_line es in
     let text : List ℕ = 10 ∷ (codes "dup " ++ (digits e.0 ++ (codes " /" ++ (e.1 ++ (codes " put" ++ others))))) in
     let regrouped : puts_text (e ∷ es) ++ rest ≡ text = simp append_assoc in
     let stops : Stops is_regular others = subst (λ (u : List ℕ). Stops is_regular (u ++ rest)) (sym line.1) refl in
-    let here : (code_entry Strict).read text ≡ Some (put_of e, others) = code_entry_read e.0 e.1 others all.0 stops in
-    let one : table_at (code_entry Strict) (encoding_end Strict) text ≡ with_front (put_of e ∷ []) (table_at (code_entry Strict) (encoding_end Strict) others) =
-    rw (table_at-step (code_entry Strict) (encoding_end Strict) (code_entry_eats Strict) text, (code_entry_apart Strict) text (put_of e, others) here, here)
+    let here : (code_entry strict).read text ≡ Some (put_of e, others) = code_entry_read e.0 e.1 others all.0 stops in
+    let one : table_at (code_entry strict) (encoding_end White) text ≡ with_front (put_of e ∷ []) (table_at (code_entry strict) (encoding_end White) others) =
+    rw (table_at-step (code_entry strict) (encoding_end White) (code_entry_eats strict) text, (code_entry_apart strict) text (put_of e, others) here, here)
     refl in
-    ap (table_at (code_entry Strict) (encoding_end Strict)) regrouped ∙ (one ∙ ap (with_front (put_of e ∷ [])) (puts_read es rest all.1 s))
+    ap (table_at (code_entry strict) (encoding_end White)) regrouped ∙ (one ∙ ap (with_front (put_of e ∷ [])) (puts_read es rest all.1 s))
 
 -- ---- the whole
 
@@ -125,12 +126,12 @@ IsEncodingText (Puts es) = AllByRecursion (λ e. IsCode e.0 e.1) es
 -- the canonical clear text, without the line end behind it
 -- ---- the start of the Encoding
 
-start_word : (w rest : List ℕ) → IsWord 32 w → Stops is_regular rest → (encoding_start Strict).read (32 ∷ (w ++ (codes " def" ++ rest))) ≡ Some (Whole w, rest)
+start_word : (w rest : List ℕ) → IsWord 32 w → Stops is_regular rest → (encoding_start strict).read (32 ∷ (w ++ (codes " def" ++ rest))) ≡ Some (Whole w, rest)
 unfolding encoding_start
 start_word w rest h s = rw (encoding_word_read w rest h s) refl
 
 start_table : (rest : List ℕ) →
-    (encoding_start Strict).read (codes " 256 array" ++ (10 ∷ (codes "0 1 255 {1 index exch /.notdef put} for" ++ (10 ∷ rest)))) ≡ Some (OpensPuts, 10 ∷ rest)
+    (encoding_start strict).read (codes " 256 array" ++ (10 ∷ (codes "0 1 255 {1 index exch /.notdef put} for" ++ (10 ∷ rest)))) ≡ Some (OpensPuts, 10 ∷ rest)
 unfolding encoding_start
 start_table rest = rw (
   no_word (codes "0 1 255 {1 index exch /.notdef put} for" ++ (10 ∷ rest)),
@@ -141,7 +142,7 @@ start_table rest = rw (
 -- the canonical clear text, without the line end behind it
 pub clear_again : (head : List ℕ) (encoding : EncodingText) (tail : List ℕ) → NoMarker encoding_marker head → IsEncodingText encoding →
     Stops is_regular tail →
-    (clear_pieces Strict (head ++ (encoding_text encoding ++ tail))).read ≡ Ok (record { head = head; encoding = encoding; clear_tail = tail })
+    (clear_pieces strict (head ++ (encoding_text encoding ++ tail))).read ≡ Ok (record { head = head; encoding = encoding; clear_tail = tail })
 unfolding clear_pieces encoding_from
 clear_again head (OneWord w) tail none h s =
     let t : List ℕ = w ++ (codes " def" ++ tail) in
@@ -154,8 +155,8 @@ clear_again head (Puts es) tail none h s =
     let p : List ℕ = puts_text es ++ tail in
     let t : List ℕ = codes "256 array" ++ (10 ∷ (codes "0 1 255 {1 index exch /.notdef put} for" ++ p)) in
     let shown : p ≡ 10 ∷ (line.0 ++ tail) = ap (λ (u : List ℕ). u ++ tail) line.1 in
-    let start : (encoding_start Strict).read (32 ∷ t) ≡ Some (OpensPuts, p) =
-    subst (λ (u : List ℕ). (encoding_start Strict).read (codes " 256 array" ++ (10 ∷ (codes "0 1 255 {1 index exch /.notdef put} for" ++ u)))
+    let start : (encoding_start strict).read (32 ∷ t) ≡ Some (OpensPuts, p) =
+    subst (λ (u : List ℕ). (encoding_start strict).read (codes " 256 array" ++ (10 ∷ (codes "0 1 255 {1 index exch /.notdef put} for" ++ u)))
     ≡ Some (OpensPuts, u)) (sym shown) (start_table (line.0 ++ tail)) in
     let marker : first_at encoding_marker (head ++ (codes "/Encoding" ++ (32 ∷ t))) ≡ Some ((head, tt), 32 ∷ t) =
     first_behind encoding_marker head _ tt (32 ∷ t) (encoding_moves head [] _ none) (encoding_marker_read t) in

@@ -10,7 +10,7 @@ use Rattle.t1_grammar.specs.Tables.{with_front, table_at}
 use Rattle.t1_grammar.proofs.Grammars.{bind_read, that_read, run_read}
 use Rattle.t1_grammar.specs.TableLaws.{Apart, table_at-step}
 use Rattle.t1_bytes.specs.White.{white}
-use Rattle.t1_font.specs.declared.dialect.Dialect.TheVariants.{Strict}
+use Rattle.t1_font.specs.declared.dialect.Spacing.TheVariants.{White}
 use Rattle.t1_font.specs.Words.{is_regular, is_word, keyword, name, is_name, next_name}
 use Rattle.t1_font.specs.Entry.{Body, Entry, body, entry}
 use Rattle.t1_font.specs.Subrs.{Subr, subr_key, subr, subrs_end}
@@ -103,7 +103,7 @@ module _ {K : Type 0} (key : Grammar K) (close : Grammar (List ℕ)) (apart : Ap
 
 -- the index of a Subr is read from its text
 subr_key_read : (declared : ℕ) → declared ≤ 65535 → (i : ℕ) (rest : List ℕ) → i < declared → Stops is_regular rest →
-    (subr_key Strict declared).read (10 ∷ (index_text i ++ rest)) ≡ Some (i, rest)
+    (subr_key White declared).read (10 ∷ (index_text i ++ rest)) ≡ Some (i, rest)
 unfolding subr_key
 subr_key_read declared few i rest h s =
     let small : i < 10 ^ 9 = omega (arith, h, few) in
@@ -117,15 +117,15 @@ subr_key_read declared few i rest h s =
 -- a table of Subrs is read from its text
 pub subrs_read : (declared iv : ℕ) (es : List Subr) (closing rest : List ℕ) → declared ≤ 65535 →
     AllByRecursion (IsEntry (λ i. i < declared) iv) es → IsPhrase false closing → Stops is_regular rest →
-    table_at (subr Strict declared iv) (subrs_end Strict) (subrs_text es closing ++ rest) ≡ Ok (es, closing, rest)
+    table_at (subr White declared iv) (subrs_end White) (subrs_text es closing ++ rest) ≡ Ok (es, closing, rest)
 subrs_read declared iv es closing rest few all ends s =
-    table_read (subr_key Strict declared) (subrs_end Strict) (subr_key_apart Strict declared) index_text
+    table_read (subr_key White declared) (subrs_end White) (subr_key_apart White declared) index_text
     (λ i. i < declared) (subr_key_read declared few) iv es closing rest
     all (closing_read closing ends) s
 
 -- ---- the glyphs
 
-next_name_read : (n rest : List ℕ) → IsWord 127 n → Stops is_regular rest → (next_name Strict).read (10 ∷ (name_text n ++ rest)) ≡ Some (n, rest)
+next_name_read : (n rest : List ℕ) → IsWord 127 n → Stops is_regular rest → (next_name White).read (10 ∷ (name_text n ++ rest)) ≡ Some (n, rest)
 unfolding next_name
 next_name_read n rest h s = bind_read white (λ _. name) (10 ∷ (name_text n ++ rest)) (10 ∷ [])
     (codes "/" ++ (n ++ rest)) _ (white_one 10 (codes "/" ++ (n ++ rest)) refl refl) (name_read n rest h s)
@@ -139,4 +139,4 @@ end_read rest s = bind_read white (λ _. keyword (codes "end")) (10 ∷ (codes "
 pub glyphs_read : (iv : ℕ) (es : List Glyph) (rest : List ℕ) → AllByRecursion (IsEntry (IsWord 127) iv) es → Stops is_regular rest →
     table_at (glyph iv) glyphs_end (glyphs_text es ++ rest) ≡ Ok (es, codes "end", rest)
 glyphs_read iv es rest all s =
-    table_read (next_name Strict) glyphs_end next_name_apart name_text (IsWord 127) next_name_read iv es (codes "end") rest all end_read s
+    table_read (next_name White) glyphs_end next_name_apart name_text (IsWord 127) next_name_read iv es (codes "end") rest all end_read s

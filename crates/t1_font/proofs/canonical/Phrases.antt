@@ -6,7 +6,7 @@ use Rattle.std.proofs.lemmas.Bool.{or_parts, not-true}
 use Rattle.t1_grammar.specs.Grammar.{Stops}
 use Rattle.t1_grammar.proofs.Grammars.{bind_read}
 use Rattle.t1_bytes.specs.White.{is_white, white, gap}
-use Rattle.t1_font.specs.declared.dialect.Dialect.TheVariants.{Strict}
+use Rattle.t1_font.specs.declared.dialect.Spacing.TheVariants.{White}
 use Rattle.t1_font.specs.Words.{is_regular, word, is_word, phrase_of, phrase_after, is_access, passes, is_delimiter}
 use Rattle.t1_font.specs.Subrs.{subrs_end}
 use Rattle.t1_font.specs.IsFont.{IsPhrase}
@@ -81,7 +81,7 @@ phrase_starts b p h rest =
     subst (λ (u : List ℕ). Stops is_white (u ++ rest)) (sym (s.1 ∙ append-nil s.0)) (spelled_starts (passes b) p s.0 [] s.2 rest)
 
 -- what closes the table of subroutines is read so
-pub closing_read : (p : List ℕ) → IsPhrase false p → (after : List ℕ) → Stops is_regular after → (subrs_end Strict).read (10 ∷ (p ++ after)) ≡ Some (p, after)
+pub closing_read : (p : List ℕ) → IsPhrase false p → (after : List ℕ) → Stops is_regular after → (subrs_end White).read (10 ∷ (p ++ after)) ≡ Some (p, after)
 unfolding subrs_end
 closing_read p h after s =
     bind_read white (λ _. phrase_of (passes false)) (10 ∷ (p ++ after)) (10 ∷ []) (p ++ after) (Some (p, after))

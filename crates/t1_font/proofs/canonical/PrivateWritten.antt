@@ -10,7 +10,7 @@ use Rattle.std.proofs.lemmas.Bool.{lt-ltb, le-ltb}
 use Rattle.t1_grammar.specs.Grammar.{Grammar, Stops, first, first_at, Lacks, first_here}
 use Rattle.t1_grammar.specs.Tables.{table_at}
 use Rattle.t1_grammar.specs.Places.{prepend, occurs, absent_lacks, lacks_absent}
-use Rattle.t1_font.specs.declared.dialect.Dialect.TheVariants.{Strict}
+use Rattle.t1_font.specs.declared.dialect.Spacing.TheVariants.{White}
 use Rattle.t1_font.specs.Words.{is_regular}
 use Rattle.t1_font.specs.Entry.{Entry}
 use Rattle.t1_font.specs.Subrs.{subr, subrs_end}
@@ -182,20 +182,20 @@ nothing_subrs = absent_lacks subrs_marker [] nothing_found
 -- what is read where the two markers are known
 pieces_read : (text : List ℕ) (chars : (List ℕ × Unit {0}) × List ℕ) (marker : Option ((List ℕ × ℕ) × List ℕ)) (o : Result PrivatePieces ReadFault) →
     first_at chars_marker text ≡ Some chars → first_at subrs_marker text ≡ marker
-    → (tables_from Strict (length text) chars (before_place (length chars.0.0) marker)).read ≡ o → (private_pieces Strict text).read ≡ o
+    → (tables_from White (length text) chars (before_place (length chars.0.0) marker)).read ≡ o → (private_pieces White text).read ≡ o
 unfolding private_pieces
 pieces_read text chars marker o e k t = rw (e, k) t
 
 -- without Subrs
 no_tables_again : (p : PrivatePieces) (text junk : List ℕ) → IsWritable p →
-    (tables_from Strict (length text) ((p.private, tt), glyphs_text p.glyphs ++ (p.tail ++ (10 ∷ junk))) None).read ≡ Ok
+    (tables_from White (length text) ((p.private, tt), glyphs_text p.glyphs ++ (p.tail ++ (10 ∷ junk))) None).read ≡ Ok
     (record { private = p.private; len_iv = p.len_iv; subrs = None; middle = []; glyphs = p.glyphs; tail = p.tail })
 unfolding tables_from
 no_tables_again p text junk h =
     rw (h.iv, glyphs_from_read text p.private None [] p.len_iv p.glyphs p.tail junk h.glyphs h.tail_apart nothing_subrs h.tail_subrs h.tail_ends) refl
 
 no_subrs_again : (p : PrivatePieces) (junk : List ℕ) → IsWritable p → p.subrs ≡ None →
-    (private_pieces Strict (p.private ++ (glyphs_part p.glyphs ++ (p.tail ++ (10 ∷ junk))))).read ≡ Ok
+    (private_pieces White (p.private ++ (glyphs_part p.glyphs ++ (p.tail ++ (10 ∷ junk))))).read ≡ Ok
     (record { private = p.private; len_iv = p.len_iv; subrs = None; middle = []; glyphs = p.glyphs; tail = p.tail })
 no_subrs_again p junk h e =
     let t : List ℕ = p.tail ++ (10 ∷ junk) in
@@ -208,7 +208,7 @@ no_subrs_again p junk h e =
     ap (before_place (length p.private)) (past_none subrs_marker p.private g (subrs_moves p.private [] _ h.no_subrs))
     ∙ not_before p.private (first_at subrs_marker g) in
     pieces_read text place (first_at subrs_marker text) _ chars refl
-    (ap (λ (o : Option ((List ℕ × ℕ) × List ℕ)). (tables_from Strict (length text) place o).read) subrs ∙ no_tables_again p text junk h)
+    (ap (λ (o : Option ((List ℕ × ℕ) × List ℕ)). (tables_from White (length text) place o).read) subrs ∙ no_tables_again p text junk h)
 
 -- a marker that stands somewhere is found
 pub is_found : {A : Type 0} (g : Grammar A) (front after : List ℕ) (a : A) (rest : List ℕ) → g.read after ≡ Some (a, rest) →
@@ -248,7 +248,7 @@ before_is n x t = rw t refl
 -- the tables, where the markers are known
 tables_again : (p : PrivatePieces) (s : SubrsPieces) (text : List ℕ) (chars : (List ℕ × Unit {0}) × List ℕ) (junk : List ℕ) →
     IsWritable p → ArePieces p.len_iv s
-    → (tables_from Strict (length text) chars
+    → (tables_from White (length text) chars
     (Some (
       (p.private, s.declared),
       subrs_text s.entries s.closing
@@ -261,7 +261,7 @@ tables_again p s text chars junk h k =
     let g : List ℕ = glyphs_part p.glyphs ++ t in
     let m : List ℕ = p.middle ++ g in
     let table : List ℕ = subrs_text s.entries s.closing ++ m in
-    let read : table_at (subr Strict s.declared p.len_iv) (subrs_end Strict) table ≡ Ok (s.entries, s.closing, m) =
+    let read : table_at (subr White s.declared p.len_iv) (subrs_end White) table ≡ Ok (s.entries, s.closing, m) =
     subrs_read s.declared p.len_iv s.entries s.closing m k.declared k.entries k.closing (stops_slash p.middle _ h.middle_apart) in
     let next : first_at chars_marker m ≡ Some ((p.middle, tt), glyphs_text p.glyphs ++ t) =
     first_behind chars_marker p.middle g tt _ (chars_moves p.middle [] _ h.middle_chars) (chars_part_read p.glyphs t h.few) in
@@ -274,7 +274,7 @@ tables_again p s text chars junk h k =
 
 -- a private text with Subrs is read from its text
 with_subrs_again : (p : PrivatePieces) (s : SubrsPieces) (junk : List ℕ) → IsWritable p → ArePieces p.len_iv s
-    → (private_pieces Strict (p.private ++ (subrs_part (Some s) ++ (p.middle ++ (glyphs_part p.glyphs ++ (p.tail ++ (10 ∷ junk))))))).read ≡ Ok
+    → (private_pieces White (p.private ++ (subrs_part (Some s) ++ (p.middle ++ (glyphs_part p.glyphs ++ (p.tail ++ (10 ∷ junk))))))).read ≡ Ok
     (record { private = p.private; len_iv = p.len_iv; subrs = Some s; middle = p.middle; glyphs = p.glyphs; tail = p.tail })
 with_subrs_again p s junk h k =
     let t : List ℕ = p.tail ++ (10 ∷ junk) in
@@ -295,25 +295,25 @@ with_subrs_again p s junk h k =
     let place : (List ℕ × Unit {0}) × List ℕ = ((p.private ++ (47 ∷ y.0.0.0), y.0.0.1), y.0.1) in
     let before : ltb (length p.private) (length place.0.0) ≡ true = lt-ltb _ _ (omega (arith, length-append p.private (47 ∷ y.0.0.0))) in
     pieces_read text place (Some ((p.private, s.declared), table)) _ chars subrs
-    (ap (λ (o : Option ((List ℕ × ℕ) × List ℕ)). (tables_from Strict (length text) place o).read)
+    (ap (λ (o : Option ((List ℕ × ℕ) × List ℕ)). (tables_from White (length text) place o).read)
     (before_is (length place.0.0) ((p.private, s.declared), table) before) ∙ tables_again p s text place junk h k)
 
 regrouped : (a b c d t junk : List ℕ) → (a ++ (b ++ (c ++ (d ++ (t ++ 10 ∷ []))))) ++ junk ≡ a ++ (b ++ (c ++ (d ++ (t ++ (10 ∷ junk)))))
 regrouped a b c d t junk = simp append_assoc
 
 -- the canonical private text is read as its pieces
-pub private_again : (p : PrivatePieces) (junk : List ℕ) → IsWritable p → (private_pieces Strict (private_written p ++ junk)).read ≡ Ok p
+pub private_again : (p : PrivatePieces) (junk : List ℕ) → IsWritable p → (private_pieces White (private_written p ++ junk)).read ≡ Ok p
 private_again p junk h =
-    ap (λ t. (private_pieces Strict t).read) (regrouped p.private (subrs_part p.subrs) p.middle (glyphs_part p.glyphs) p.tail junk)
+    ap (λ t. (private_pieces White t).read) (regrouped p.private (subrs_part p.subrs) p.middle (glyphs_part p.glyphs) p.tail junk)
     ∙ by_subrs p.subrs refl h.subrs
   where
     by_subrs : (o : Option SubrsPieces) → p.subrs ≡ o → AreOptional p.len_iv p.middle o →
-        (private_pieces Strict (p.private ++ (subrs_part p.subrs ++ (p.middle ++ (glyphs_part p.glyphs ++ (p.tail ++ (10 ∷ junk))))))).read ≡ Ok p
+        (private_pieces White (p.private ++ (subrs_part p.subrs ++ (p.middle ++ (glyphs_part p.glyphs ++ (p.tail ++ (10 ∷ junk))))))).read ≡ Ok p
     by_subrs None e k =
-        ap (λ t. (private_pieces Strict t).read) (λ i. p.private ++ (subrs_part (e i) ++ (k i ++ (glyphs_part p.glyphs ++ (p.tail ++ (10 ∷ junk))))))
+        ap (λ t. (private_pieces White t).read) (λ i. p.private ++ (subrs_part (e i) ++ (k i ++ (glyphs_part p.glyphs ++ (p.tail ++ (10 ∷ junk))))))
         ∙ (no_subrs_again p junk h e
         ∙ (λ i. Ok (record { private = p.private; len_iv = p.len_iv; subrs = sym e i; middle = sym k i; glyphs = p.glyphs; tail = p.tail })))
     by_subrs (Some s) e k =
-        ap (λ t. (private_pieces Strict t).read) (λ i. p.private ++ (subrs_part (e i) ++ (p.middle ++ (glyphs_part p.glyphs ++ (p.tail ++ (10 ∷ junk))))))
+        ap (λ t. (private_pieces White t).read) (λ i. p.private ++ (subrs_part (e i) ++ (p.middle ++ (glyphs_part p.glyphs ++ (p.tail ++ (10 ∷ junk))))))
         ∙ (with_subrs_again p s junk h k
         ∙ (λ i. Ok (record { private = p.private; len_iv = p.len_iv; subrs = sym e i; middle = p.middle; glyphs = p.glyphs; tail = p.tail })))

@@ -18,7 +18,7 @@ use Rattle.t1_bytes.proofs.Ciphers.{decrypted_front, length-sealed}
 use Rattle.t1_grammar.specs.Grammar.{front_again}
 use Rattle.t1_bytes.proofs.HexLines.{lines_read, binary_read}
 use Rattle.t1_bytes.proofs.PfbLemmas.{pfb_flat}
-use Rattle.t1_font.specs.declared.dialect.Dialect.TheVariants.{Strict}
+use Rattle.t1_font.specs.declared.dialect.Spacing.TheVariants.{White}
 use Rattle.t1_font.specs.declared.fault.ReadFault.{ReadFault}
 use Rattle.t1_font.specs.FontValue.{FontValue, SubrsShell, Numbered, notdef, count_limit, declared_count, IsWithin}
 use Rattle.t1_bytes.specs.Limits.{file_limit}
@@ -113,7 +113,7 @@ module _ (f : FontValue) where
       (encoding_writable f.encoding h.encoding) h.clear.tail_apart in
       let text = text_again (canon_private f) more in
       let private =
-      ap (λ t. (private_pieces Strict t).read) text.1 ∙ private_again (inside_of f.shell (entries f.subrs) (entries f.glyphs)) text.0 (font_writable f h) in
+      ap (λ t. (private_pieces White t).read) text.1 ∙ private_again (inside_of f.shell (entries f.subrs) (entries f.glyphs)) text.0 (font_writable f h) in
       rw (le-leb (length file) file_limit short, flat, split, clear, private) (value_again f h)
 
 head_starts : (head rest : List ℕ) (e : EncodingText) → starts_segment head ≡ false → starts_segment (head ++ (encoding_text e ++ rest)) ≡ false

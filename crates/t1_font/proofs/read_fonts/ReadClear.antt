@@ -16,6 +16,7 @@ use Rattle.t1_bytes.specs.White.{is_white, white, has_bytes, gap}
 use Rattle.t1_bytes.specs.Eexec.{eexec_marker, blank_comes}
 use Rattle.t1_bytes.specs.Split.{split, IsSplit}
 use Rattle.t1_bytes.specs.Laws.{AreBytes}
+use Rattle.t1_font.specs.declared.dialect.Spacing.{Spacing}
 use Rattle.t1_font.specs.declared.dialect.Dialect.{Dialect}
 use Rattle.t1_font.specs.Words.{is_regular, keyword, next_name}
 use Rattle.t1_font.specs.Markers.{encoding_marker}
@@ -88,7 +89,7 @@ word_ends d w text rest bytes s b =
     let flat : s.1 ++ (s.5.1 ++ (g.1 ++ (r.1 ++ k.1))) ≡ front ++ k.1 = simp append_assoc in
     def_ends k.0 text front k.1 rest bytes own (parts ∙ flat) b
 
-close_ends : (d : Dialect) (closing text rest : List ℕ) (front bytes : List ℕ) →
+close_ends : (d : Spacing) (closing text rest : List ℕ) (front bytes : List ℕ) →
     (encoding_end d).Spells closing text rest → bytes ≡ (front ++ text) ++ rest → IsEnded bytes rest
 unfolding encoding_end
 close_ends d closing text rest front bytes s b =
@@ -96,7 +97,7 @@ close_ends d closing text rest front bytes s b =
     let flat : front ++ (s.1 ++ (s.5.1 ++ s.5.2)) ≡ (front ++ (s.1 ++ s.5.1)) ++ s.5.2 = simp append_assoc in
     def_ends closing (front ++ text) (front ++ (s.1 ++ s.5.1)) s.5.2 rest bytes s.5.5 (parts ∙ flat) b
 
-array_ends : (d : Dialect) (closing text rest : List ℕ) (front bytes : List ℕ) →
+array_ends : (d : Spacing) (closing text rest : List ℕ) (front bytes : List ℕ) →
     (array_end d).Spells closing text rest → bytes ≡ (front ++ text) ++ rest → IsEnded bytes rest
 unfolding array_end
 array_ends d closing text rest front bytes s b =
@@ -114,10 +115,10 @@ pub encoding_ends : (d : Dialect) (e : EncodingText) (bytes rest : List ℕ) →
 encoding_ends d (OneWord w) bytes rest s = let a = word_start d w bytes rest s in word_ends d w a.0 rest bytes a.2 a.1
 encoding_ends d (Puts puts) bytes rest (inl s) =
     let t = s.5.2 in
-    close_ends d s.2 t.1 rest (s.4.0 ++ t.0) bytes t.4 (table_parts s.4.0 t.0 t.1 rest bytes s.1 s.4.1 (s.5.1 ∙ ap (λ (u : List ℕ). u ++ rest) t.2))
+    close_ends d.encoding s.2 t.1 rest (s.4.0 ++ t.0) bytes t.4 (table_parts s.4.0 t.0 t.1 rest bytes s.1 s.4.1 (s.5.1 ∙ ap (λ (u : List ℕ). u ++ rest) t.2))
 encoding_ends d (Puts puts) bytes rest (inr s) =
     let t = s.5.2.1 in
-    array_ends d s.2 t.1 rest (s.4.0 ++ t.0) bytes t.4 (table_parts s.4.0 t.0 t.1 rest bytes s.1 s.4.1 (s.5.1 ∙ ap (λ (u : List ℕ). u ++ rest) t.2))
+    array_ends d.encoding s.2 t.1 rest (s.4.0 ++ t.0) bytes t.4 (table_parts s.4.0 t.0 t.1 rest bytes s.1 s.4.1 (s.5.1 ∙ ap (λ (u : List ℕ). u ++ rest) t.2))
 
 -- ---- and is one of a font
 
@@ -162,7 +163,7 @@ encoding_of d (Puts puts) bytes rest (inl s) h =
     puts_value puts (subst (AllByRecursion IsReadPut) (sym s.3) (puts_are [] s.0 tt all))
 encoding_of d (Puts puts) bytes rest (inr s) h =
     let t = s.5.2.1 in
-    let all : AllByRecursion (IsWord 127) s.0 = entries_have (next_name d) (IsWord 127) (next_name_of d) s.0 t.0
+    let all : AllByRecursion (IsWord 127) s.0 = entries_have (next_name d.encoding) (IsWord 127) (next_name_of d.encoding) s.0 t.0
     (t.1 ++ rest) t.3 (entries_bytes s.4.0 s.1 s.5.0 t.0 t.1 rest bytes s.4.1 s.5.1 t.2 h) in
     puts_value puts (subst (AllByRecursion IsReadPut) (sym s.3) (array_puts 0 s.0 all (omega (arith, s.5.2.0))))
 

@@ -12,12 +12,13 @@ use Rattle.t1_grammar.specs.Grammar.{Grammar, choice}
 use Rattle.t1_bytes.specs.Laws.{AreBytes}
 use Rattle.t1_bytes.specs.Cipher.{decrypted}
 use Rattle.t1_bytes.proofs.Ciphers.{length-decrypted}
+use Rattle.t1_font.specs.declared.dialect.Spacing.{Spacing}
 use Rattle.t1_font.specs.declared.dialect.Dialect.{Dialect}
-use Rattle.t1_font.specs.declared.dialect.Dialect.TheVariants.{Strict, Wide}
+use Rattle.t1_font.specs.declared.dialect.Spacing.TheVariants.{White}
 use Rattle.t1_font.specs.Words.{word, name, phrase_of, phrase_after, is_access, passes, next_name}
 use Rattle.t1_font.specs.Entry.{Body, Entry, length_from, body, entry, plain_entries}
 use Rattle.t1_font.specs.Subrs.{Subr, subr_key, subr}
-use Rattle.t1_font.specs.Encoding.{code, CodeEntry, Put, Copy, put_entry, one_copy, within_codes, are_codes, copy_of_range, range_copy, name_after, copied, put_by, puts_after, code_entry}
+use Rattle.t1_font.specs.Encoding.{code, CodeEntry, Put, Copy, put_entry, one_copy, within_codes, are_codes, copy_of_range, range_copy, name_after, copied, put_by, puts_after, entry_with, code_entry}
 use Rattle.t1_font.specs.Glyphs.{Glyph, glyph}
 use Rattle.t1_font.specs.Charstrings.{plain_of}
 use Rattle.t1_font.specs.FontValue.{notdef}
@@ -113,23 +114,23 @@ entry_of key IsKey key_is iv e text rest s h =
     let k = body_of iv b.0 b.1 _ b.4 (parts_bytes s.2 b.1 b.2 b.3 h1.1).0 in
     subst (IsRead IsKey iv) b.5.1 (key_is s.0 s.1 _ s.4 h1.0, k.0, k.1)
 
-subr_key_of : (d : Dialect) (declared i : ℕ) (text rest : List ℕ) → (subr_key d declared).Spells i text rest → AreBytes text → i < declared
+subr_key_of : (d : Spacing) (declared i : ℕ) (text rest : List ℕ) → (subr_key d declared).Spells i text rest → AreBytes text → i < declared
 unfolding subr_key
 subr_key_of d declared i text rest s h = ltb-true i declared s.5.5.5.1
 
 -- a Subr that bytes spell is one of a font
-pub subr_of : (d : Dialect) (declared iv : ℕ) (e : Subr) (text rest : List ℕ) → (subr d declared iv).Spells e text rest → AreBytes text →
+pub subr_of : (d : Spacing) (declared iv : ℕ) (e : Subr) (text rest : List ℕ) → (subr d declared iv).Spells e text rest → AreBytes text →
     IsRead (λ i. i < declared) iv e
 subr_of d declared = entry_of (subr_key d declared) (λ i. i < declared) (subr_key_of d declared)
 
 -- a name behind white space that bytes spell is a name of a font
-pub next_name_of : (d : Dialect) (n text rest : List ℕ) → (next_name d).Spells n text rest → AreBytes text → IsWord 127 n
+pub next_name_of : (d : Spacing) (n text rest : List ℕ) → (next_name d).Spells n text rest → AreBytes text → IsWord 127 n
 unfolding next_name
 next_name_of d n text rest s h = name_of n s.2 rest s.5 (parts_bytes text s.1 s.2 s.3 h).1
 
 -- a glyph that bytes spell is one of a font
 pub glyph_of : (iv : ℕ) (e : Glyph) (text rest : List ℕ) → (glyph iv).Spells e text rest → AreBytes text → IsRead (IsWord 127) iv e
-glyph_of = entry_of (next_name Strict) (IsWord 127) (next_name_of Strict)
+glyph_of = entry_of (next_name White) (IsWord 127) (next_name_of White)
 
 -- a put of a font: its code and its name
 pub record IsReadPut (e : ℕ × List ℕ) : Type 0 where
@@ -142,7 +143,7 @@ IsReadEntry (Put c n) = IsReadPut (c, n)
 IsReadEntry (Copy from count to) = (from + count ≤ 256) × (to + count ≤ 256)
 
 -- a put that bytes spell is one of a font
-put_of : (d : Dialect) (e : CodeEntry) (text rest : List ℕ) → (put_entry d).Spells e text rest → AreBytes text → IsReadEntry e
+put_of : (d : Spacing) (e : CodeEntry) (text rest : List ℕ) → (put_entry d).Spells e text rest → AreBytes text → IsReadEntry e
 unfolding put_entry code
 put_of d e text rest s h =
     let h1 = parts_bytes text s.1 s.2 s.3 h in
@@ -156,7 +157,7 @@ put_of d e text rest s h =
     subst IsReadEntry n.5.5.5.1 (record { code = leb-true c.0 255 c.4.1; name = name_of n.0 n.1 _ n.4 h6.0 })
 
 -- and so is each copy
-one_copy_of : (d : Dialect) (e : CodeEntry) (text rest : List ℕ) → (one_copy d).Spells e text rest → IsReadEntry e
+one_copy_of : (d : Spacing) (e : CodeEntry) (text rest : List ℕ) → (one_copy d).Spells e text rest → IsReadEntry e
 unfolding one_copy code
 one_copy_of d e text rest s =
     let to = s.5 in
@@ -171,7 +172,7 @@ within_of (Copy from count to) put h =
     let both = and_parts (are_codes from count) (are_codes to count) h in (leb-true (from + count) 256 both.0, leb-true (to + count) 256 both.1)
 
 -- of a range, too
-range_copy_of : (d : Dialect) (e : CodeEntry) (text rest : List ℕ) → (range_copy d).Spells e text rest → IsReadEntry e
+range_copy_of : (d : Spacing) (e : CodeEntry) (text rest : List ℕ) → (range_copy d).Spells e text rest → IsReadEntry e
 unfolding copy_of_range
 range_copy_of d e text rest s = within_of e (λ c n k. absurd (no_put c n (s.0.5.5.5.5.5.5.5.1 ∙ k))) s.1
   where
@@ -180,11 +181,12 @@ range_copy_of d e text rest s = within_of e (λ c n k. absurd (no_put c n (s.0.5
 
 -- an entry that bytes spell is one of a font
 pub code_entry_of : (d : Dialect) (e : CodeEntry) (text rest : List ℕ) → (code_entry d).Spells e text rest → AreBytes text → IsReadEntry e
-code_entry_of Strict e text rest s h = put_of Strict e text rest s h
-code_entry_of Wide e text rest s h = elim s [
-  | inl p ↦ put_of Wide e text rest p h
-  | inr p ↦ elim p.0 [ inl q ↦ one_copy_of Wide e text rest q | inr q ↦ range_copy_of Wide e text rest q.0 ]
-]
+code_entry_of d e text rest = by_copies d.copies
+  where
+    by_copies : (copies : Bool) → (entry_with copies d.encoding).Spells e text rest → AreBytes text → IsReadEntry e
+    by_copies false s h = put_of d.encoding e text rest s h
+    by_copies true (inl p) h = put_of d.encoding e text rest p h
+    by_copies true (inr p) h = elim p.0 [ inl q ↦ one_copy_of d.encoding e text rest q | inr q ↦ range_copy_of d.encoding e text rest q.0 ]
 
 -- what holds of each entry holds of the last value of a key
 pub last_has : {K : Type 0} (R : K → K → Ordering) → IsAntisymmetric R → (P : K → List ℕ → Type 0) (es : List (K × List ℕ)) →

@@ -16,8 +16,8 @@ use Rattle.t1_bytes.specs.FlatText.{starts_segment, IsFlat}
 use Rattle.t1_bytes.specs.Split.{split, IsSplit}
 use Rattle.t1_bytes.proofs.ContainerLaws.{one_flat}
 use Rattle.t1_bytes.proofs.Ciphers.{decrypted-is}
+use Rattle.t1_font.specs.declared.dialect.Spacing.{Spacing}
 use Rattle.t1_font.specs.declared.dialect.Dialect.{Dialect}
-use Rattle.t1_font.specs.declared.dialect.Dialect.TheVariants.{Strict}
 use Rattle.t1_font.specs.Words.{is_regular}
 use Rattle.t1_font.specs.Entry.{plain_entries}
 use Rattle.t1_font.specs.Subrs.{Subr}
@@ -45,6 +45,7 @@ use Rattle.t1_font.proofs.read_fonts.ReadEntries.{IsRead, glyph_of, map_fits}
 use Rattle.t1_font.proofs.read_fonts.ReadMarkers.{encoding_slash}
 use Rattle.t1_font.proofs.read_fonts.ReadClear.{clear_of}
 use Rattle.t1_font.proofs.read_fonts.ReadPrivate.{stops_front, glyphs_stops, IsReadSubrs, middle_of}
+use Rattle.t1_font.specs.Dialect.{strict}
 
 -- ---- Subrs
 
@@ -119,7 +120,7 @@ pub record IsReadPrivate (c : ClearPieces) (p : PrivatePieces) : Type 0 where
   pub glyphs : AllByRecursion (IsRead (IsWord 127) p.len_iv) p.glyphs
 
 -- the private text that bytes spell is that of a font
-pub private_of : (d : Dialect) (text : List ℕ) (c : ClearPieces) (p : PrivatePieces) → IsPrivate d text p → AreBytes text → IsReadPrivate c p
+pub private_of : (d : Spacing) (text : List ℕ) (c : ClearPieces) (p : PrivatePieces) → IsPrivate d text p → AreBytes text → IsReadPrivate c p
 private_of d text c p s h =
     let m = middle_of d text p p.subrs s.before.start s.before.tables.tables h in
     let t = s.before.glyphs in
@@ -172,7 +173,7 @@ spelled_font d file f h s =
     let t = s.pieces.texts in
     let bytes = texts_bytes file s.pieces.clear s.pieces.text t h in
     let clear = clear_of d t.flat t.at s.pieces.clear t.cipher c p t.split t.clear_is s.pieces.clear_is bytes.0 in
-    let private = private_of d s.pieces.text c p s.pieces.private_is bytes.1 in
+    let private = private_of d.subrs s.pieces.text c p s.pieces.private_is bytes.1 in
     let some : contains_key (font_of c p).glyphs notdef ≡ true = subst (λ (f : FontValue). contains_key f.glyphs notdef ≡ true) s.value s.has_notdef in
     let within : IsWithin (font_of c p) = subst IsWithin s.value s.within in
     subst IsFont (sym s.value) (record {
@@ -191,7 +192,7 @@ read_is_font d file f h e = spelled_font d file f h (reads d file f e)
 
 -- a font is a value of bytes that its own canonical file spells
 pub font_exactly : (f : FontValue) → (IsFont f → HasBytes f × (read_font (canon f Pfb) ≡ Ok f)) × (HasBytes f × (read_font (canon f Pfb) ≡ Ok f) → IsFont f)
-font_exactly f = (λ h. (has_bytes f h, round_trip f Pfb h tt), λ s. read_is_font Strict (canon f Pfb) f (canon_bytes f Pfb s.0) s.1)
+font_exactly f = (λ h. (has_bytes f h, round_trip f Pfb h tt), λ s. read_is_font strict (canon f Pfb) f (canon_bytes f Pfb s.0) s.1)
 
 -- ---- the first byte
 
@@ -217,4 +218,4 @@ spelled_starts d file flat f flat_is s =
 
 -- a font's head begins with byte 128 exactly where its flat text does
 pub head_starts : (file flat : List ℕ) (f : FontValue) → IsFlat file flat → read_font file ≡ Ok f → starts_segment f.shell.head ≡ starts_segment flat
-head_starts file flat f flat_is e = spelled_starts Strict file flat f flat_is (reads Strict file f e)
+head_starts file flat f flat_is e = spelled_starts strict file flat f flat_is (reads strict file f e)

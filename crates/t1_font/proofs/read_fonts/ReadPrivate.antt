@@ -5,7 +5,7 @@ use Rattle.std.proofs.lemmas.List.{append-nil, length-append}
 use Rattle.t1_grammar.specs.Grammar.{NoneIn, Stops, first}
 use Rattle.t1_grammar.specs.Tables.{TableAt}
 use Rattle.t1_bytes.specs.Laws.{AreBytes}
-use Rattle.t1_font.specs.declared.dialect.Dialect.{Dialect}
+use Rattle.t1_font.specs.declared.dialect.Spacing.{Spacing}
 use Rattle.t1_font.specs.Words.{is_regular, word, keyword, phrase_of, phrase_after, is_access, passes}
 use Rattle.t1_font.specs.Subrs.{Subr, subr, subrs_end}
 use Rattle.t1_font.specs.Markers.{subrs_marker, chars_marker}
@@ -37,7 +37,7 @@ phrase_stops : (test : List ℕ → Bool) (p text rest : List ℕ) → (phrase_o
 unfolding phrase_of word
 phrase_stops test p text rest s = after_stops test (is_access s.0) s.0 p [] s.2 rest s.5 s.4.0.0.2
 
-subrs_stops : (d : Dialect) (p text rest : List ℕ) → (subrs_end d).Spells p text rest → Stops is_regular rest
+subrs_stops : (d : Spacing) (p text rest : List ℕ) → (subrs_end d).Spells p text rest → Stops is_regular rest
 unfolding subrs_end
 subrs_stops d p text rest s = phrase_stops (passes false) p s.2 rest s.5
 
@@ -46,7 +46,7 @@ pub glyphs_stops : (p text rest : List ℕ) → glyphs_end.Spells p text rest �
 unfolding glyphs_end keyword
 glyphs_stops p text rest s = s.5.0.2
 
-closing_is : (d : Dialect) (p text rest : List ℕ) → (subrs_end d).Spells p text rest → AreBytes text → IsPhrase false p
+closing_is : (d : Spacing) (p text rest : List ℕ) → (subrs_end d).Spells p text rest → AreBytes text → IsPhrase false p
 unfolding subrs_end
 closing_is d p text rest s h = phrase_is false p s.2 rest s.5 (parts_bytes text s.1 s.2 s.3 h).1
 
@@ -108,7 +108,7 @@ pub record IsReadTable (declared iv : ℕ) (es : List Subr) (last between : List
   pub bytes : AreBytes between
 
 -- a table of Subrs in bytes is one of a font
-table_of : (d : Dialect) (declared iv : ℕ) (es : List Subr) (closing bytes between : List ℕ) →
+table_of : (d : Spacing) (declared iv : ℕ) (es : List Subr) (closing bytes between : List ℕ) →
     TableAt (subr d declared iv) (subrs_end d) es closing bytes between → AreBytes bytes → IsReadTable declared iv es closing between
 table_of d declared iv es closing bytes between s h =
     let a = parts_bytes bytes s.0 between s.1 h in
@@ -136,7 +136,7 @@ IsReadSubrs p None = p.middle ≡ []
 IsReadSubrs p (Some s) = AllByRecursion (IsRead (λ i. i < s.declared) p.len_iv) s.entries × IsPhrase false s.closing
 
 -- what bytes spell up to the glyphs is that of a font
-pub middle_of : (d : Dialect) (text : List ℕ) (p : PrivatePieces) (o : Option SubrsPieces) (glyphs : List ℕ) → SpellsTables d text p o glyphs → AreBytes text →
+pub middle_of : (d : Spacing) (text : List ℕ) (p : PrivatePieces) (o : Option SubrsPieces) (glyphs : List ℕ) → SpellsTables d text p o glyphs → AreBytes text →
     IsReadMiddle p o glyphs × IsReadSubrs p o
 middle_of d text p None glyphs s h =
     let a = started text p.private None glyphs s.0 in

@@ -27,10 +27,10 @@ use Rattle.t1_font.specs.Canon.{outside_of, inside_of, canon}
 use Rattle.t1_font.specs.IsFont.{IsFont}
 use Rattle.t1_font.proofs.ByteLemmas.{small_bytes}
 use Rattle.t1_font.proofs.canonical.RoundTrip.{round_trip}
-use Rattle.t1_font.specs.declared.dialect.Dialect.TheVariants.{Strict}
 use Rattle.t1_font.proofs.read_fonts.ReadFontLaws.{read_is_font}
 use Rattle.t1_font.proofs.rows.TinyNumbers.{n0, n1, n2, n3, n4, n5, n6, n7, n8, n9, n10, n11, n12, n14, n15, n16, n18, n19, n50, n65, n66, n194}
 use Rattle.t1_font.proofs.rows.Tiny.{lines, puts, shell, subrs, glyphs, tiny, clear, private_text}
+use Rattle.t1_font.specs.Dialect.{strict}
 
 -- ---- the vectors
 
@@ -178,7 +178,7 @@ two_bytes = refl
 
 -- what is asked of a font can be met
 pub tiny_is_font : IsFont tiny
-tiny_is_font = read_is_font Strict pfa tiny (small_bytes pfa refl) pfa_reads
+tiny_is_font = read_is_font strict pfa tiny (small_bytes pfa refl) pfa_reads
 
 -- the same by the law
 pfb_again : read_font (canon tiny Pfb) ≡ Ok tiny

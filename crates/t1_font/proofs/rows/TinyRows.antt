@@ -7,7 +7,7 @@ use Rattle.std.specs.FinMap.{find}
 use Rattle.t1_grammar.specs.Grammar.{first_at}
 use Rattle.t1_grammar.specs.Tables.{table_within}
 use Rattle.t1_bytes.specs.White.{gap}
-use Rattle.t1_font.specs.declared.dialect.Dialect.TheVariants.{Strict}
+use Rattle.t1_font.specs.declared.dialect.Spacing.TheVariants.{White}
 use Rattle.t1_font.specs.declared.fault.ReadFault.TheVariants.{BadEncoding, BadLenIV, BadSubrs, BadGlyphs, Hybrid, NoNotdef, Limit}
 use Rattle.t1_font.specs.Words.{one_white, word, keyword, decimal, name, phrase_of, next_name}
 use Rattle.t1_font.specs.Entry.{length_from, body, entry}
@@ -23,20 +23,21 @@ use Rattle.t1_font.specs.ReadFont.{subrs_shell, is_within, font_from}
 use Rattle.t1_font.specs.Canon.{inside_of, outside_of}
 use Rattle.t1_font.proofs.rows.Tiny.{lines, glyph_notdef, head, clear_tail, puts, shell, subrs, glyphs, glyph_Y, tiny, private_lines, clear_with}
 use Rattle.t1_font.proofs.rows.Tiny.{clear, glyph_line, first_subr, more_subrs, first_glyph, more_glyphs, private_with, private_text}
+use Rattle.t1_font.specs.Dialect.{strict}
 
 -- ---- the clear text
 
-clear_reads : (clear_pieces Strict clear).read ≡ Ok (record { head = head; encoding = Puts puts; clear_tail = clear_tail })
+clear_reads : (clear_pieces strict clear).read ≡ Ok (record { head = head; encoding = Puts puts; clear_tail = clear_tail })
 unfolding first_at table_within gap word keyword decimal name encoding_marker encoding_word
     encoding_table encoding_loop encoding_start code put_entry encoding_end encoding_from clear_pieces
 clear_reads = refl
 
-code_too_large : (clear_pieces Strict (clear_with (codes "dup 256 /X put"))).read ≡ Err (BadEncoding 195)
+code_too_large : (clear_pieces strict (clear_with (codes "dup 256 /X put"))).read ≡ Err (BadEncoding 195)
 unfolding first_at table_within gap word keyword decimal name octal encoding_marker encoding_word
     encoding_table encoding_loop encoding_start code put_entry encoding_end encoding_from clear_pieces
 code_too_large = refl
 
-octal_code : (clear_pieces Strict (clear_with (codes "dup 8#101 /X put"))).read ≡ Ok (record { head = head; encoding = Puts puts; clear_tail = clear_tail })
+octal_code : (clear_pieces strict (clear_with (codes "dup 8#101 /X put"))).read ≡ Ok (record { head = head; encoding = Puts puts; clear_tail = clear_tail })
 unfolding first_at table_within gap word keyword decimal name octal encoding_marker encoding_word
     encoding_table encoding_loop encoding_start code put_entry encoding_end encoding_from clear_pieces
 octal_code = refl
@@ -47,19 +48,19 @@ octal_code = refl
 abbrev declaring : ℕ → Shell
 declaring n = record shell { subrs = Some (record { declared = n; rd = codes "RD"; put = codes "NP"; closing = codes "ND" }) }
 
-private_reads : (private_pieces Strict private_text).read ≡ Ok (inside_of shell subrs glyphs)
+private_reads : (private_pieces White private_text).read ≡ Ok (inside_of shell subrs glyphs)
 unfolding first_at table_within gap one_white word keyword decimal name phrase_of length_from body entry subr_key subrs_end subrs_marker
     chars_marker len_iv_marker len_iv closefile next_name glyphs_end iv_at iv_of tail_after glyphs_from tables_from private_pieces
 private_reads = refl
 
-subr_too_short : (private_pieces Strict
+subr_too_short : (private_pieces White
     (private_with private_lines (codes "/Subrs 10 array") (codes "dup 0 3 RD abc NP" ∷ more_subrs) [] (codes "11")
     (first_glyph ∷ more_glyphs))).read ≡ Err (BadSubrs 269)
 unfolding first_at table_within gap one_white word keyword decimal name phrase_of length_from body entry subr_key subrs_end subrs_marker
     chars_marker len_iv_marker len_iv closefile next_name glyphs_end iv_at iv_of tail_after glyphs_from tables_from private_pieces
 subr_too_short = refl
 
-glyph_too_short : (private_pieces Strict
+glyph_too_short : (private_pieces White
     (private_with private_lines (codes "/Subrs 10 array") (first_subr ∷ more_subrs) [] (codes "11")
     (codes "/.notdef 3 RD abc ND" ∷ more_glyphs))).read ≡ Err (BadGlyphs 546)
 unfolding first_at table_within gap one_white word keyword decimal name phrase_of length_from body entry subr_key subrs_end subrs_marker
@@ -67,13 +68,13 @@ unfolding first_at table_within gap one_white word keyword decimal name phrase_o
 glyph_too_short = refl
 
 -- the entry of Subr 9
-nine_subrs : (private_pieces Strict
+nine_subrs : (private_pieces White
     (private_with private_lines (codes "/Subrs 9 array") (first_subr ∷ more_subrs) [] (codes "11") (first_glyph ∷ more_glyphs))).read ≡ Err (BadSubrs 481)
 unfolding first_at table_within gap one_white word keyword decimal name phrase_of length_from body entry subr_key subrs_end subrs_marker
     chars_marker len_iv_marker len_iv closefile next_name glyphs_end iv_at iv_of tail_after glyphs_from tables_from private_pieces
 nine_subrs = refl
 
-many_subrs : (private_pieces Strict
+many_subrs : (private_pieces White
     (private_with private_lines (codes "/Subrs 65535 array") (first_subr ∷ more_subrs) [] (codes "11") (first_glyph ∷ more_glyphs))).read ≡ Ok (inside_of
     (declaring 65535) subrs glyphs)
 unfolding first_at table_within gap one_white word keyword decimal name phrase_of length_from body entry subr_key subrs_end subrs_marker
@@ -81,14 +82,14 @@ unfolding first_at table_within gap one_white word keyword decimal name phrase_o
 many_subrs = refl
 
 -- read, and over a limit below
-too_many_subrs : (private_pieces Strict
+too_many_subrs : (private_pieces White
     (private_with private_lines (codes "/Subrs 65536 array") (first_subr ∷ more_subrs) [] (codes "11") (first_glyph ∷ more_glyphs))).read ≡ Ok (inside_of
     (declaring 65536) subrs glyphs)
 unfolding first_at table_within gap one_white word keyword decimal name phrase_of length_from body entry subr_key subrs_end subrs_marker
     chars_marker len_iv_marker len_iv closefile next_name glyphs_end iv_at iv_of tail_after glyphs_from tables_from private_pieces
 too_many_subrs = refl
 
-second_x : (private_pieces Strict
+second_x : (private_pieces White
     (private_with private_lines (codes "/Subrs 10 array") (first_subr ∷ more_subrs) [] (codes "11")
     (first_glyph ∷ (more_glyphs ++ glyph_line (codes "/X 16") glyph_Y ∷ [])))).read ≡ Ok (inside_of shell subrs (glyphs ++ (codes "X", glyph_Y) ∷ []))
 unfolding first_at table_within gap one_white word keyword decimal name phrase_of length_from body entry subr_key subrs_end subrs_marker
@@ -96,28 +97,28 @@ unfolding first_at table_within gap one_white word keyword decimal name phrase_o
 second_x = refl
 
 -- the count of glyphs is not looked at
-other_count : (private_pieces Strict
+other_count : (private_pieces White
     (private_with private_lines (codes "/Subrs 10 array") (first_subr ∷ more_subrs) [] (codes "3") (first_glyph ∷ more_glyphs))).read ≡ Ok (inside_of
     shell subrs glyphs)
 unfolding first_at table_within gap one_white word keyword decimal name phrase_of length_from body entry subr_key subrs_end subrs_marker
     chars_marker len_iv_marker len_iv closefile next_name glyphs_end iv_at iv_of tail_after glyphs_from tables_from private_pieces
 other_count = refl
 
-hybrid : (private_pieces Strict
+hybrid : (private_pieces White
     (private_with private_lines (codes "/Subrs 10 array") (first_subr ∷ more_subrs) (codes "/Subrs 0 array ND ") (codes "11")
     (first_glyph ∷ more_glyphs))).read ≡ Err Hybrid
 unfolding first_at table_within gap one_white word keyword decimal name phrase_of length_from body entry subr_key subrs_end subrs_marker
     chars_marker len_iv_marker len_iv closefile next_name glyphs_end iv_at iv_of tail_after glyphs_from tables_from private_pieces
 hybrid = refl
 
-negative_len_iv : (private_pieces Strict
+negative_len_iv : (private_pieces White
     (private_with (private_lines ++ codes "/lenIV -1 def" ∷ []) (codes "/Subrs 10 array") (first_subr ∷ more_subrs) [] (codes "11")
     (first_glyph ∷ more_glyphs))).read ≡ Err BadLenIV
 unfolding first_at table_within gap one_white word keyword decimal name phrase_of length_from body entry subr_key subrs_end subrs_marker
     chars_marker len_iv_marker len_iv closefile next_name glyphs_end iv_at iv_of tail_after glyphs_from tables_from private_pieces
 negative_len_iv = refl
 
-four_lead_bytes : (private_pieces Strict
+four_lead_bytes : (private_pieces White
     (private_with (private_lines ++ codes "/lenIV 4 def" ∷ []) (codes "/Subrs 10 array") (first_subr ∷ more_subrs) [] (codes "11")
     (first_glyph ∷ more_glyphs))).read ≡ Ok (inside_of (record shell { private = lines (private_lines ++ codes "/lenIV 4 def" ∷ []) }) subrs glyphs)
 unfolding first_at table_within gap one_white word keyword decimal name phrase_of length_from body entry subr_key subrs_end subrs_marker
@@ -125,7 +126,7 @@ unfolding first_at table_within gap one_white word keyword decimal name phrase_o
 four_lead_bytes = refl
 
 -- read, and without `.notdef` below
-no_notdef_read : (private_pieces Strict
+no_notdef_read : (private_pieces White
     (private_with private_lines (codes "/Subrs 10 array") (first_subr ∷ more_subrs) [] (codes "11") more_glyphs)).read ≡
     Ok (inside_of shell subrs (drop 1 glyphs))
 unfolding first_at table_within gap one_white word keyword decimal name phrase_of length_from body entry subr_key subrs_end subrs_marker
@@ -190,7 +191,7 @@ words_subrs = record {
   closing = codes "noaccess put";
 }
 
-words_read : (private_pieces Strict words_text).read ≡ Ok
+words_read : (private_pieces White words_text).read ≡ Ok
     (record {
       private = [];
       len_iv = 4;

@@ -15,7 +15,7 @@ pub names-preserved : goal.names-preserved
 names-preserved c =
     let old = c.names.invariant.1 in
     let kept = c.in_ok-keep_code.ensures in (
-      name_more c.args.dialect c.args.bytes.now c.names.rest.now _ c.names.code c.names.invariant.0
+      name_more c.args.spacing c.args.bytes.now c.names.rest.now _ c.names.code c.names.invariant.0
           (c.in-Some.name.now, c.in-Some.after.now) _ (omega arith) (sym c.in-Some.ensures) (ap (λ (g : Entries). g.codes) kept),
       (ap (λ (g : Entries). g.rest) kept ∙ old.0, ap (λ (g : Entries). g.subrs) kept ∙ old.1, ap (λ (g : Entries). g.glyphs) kept ∙ old.2),
     )
@@ -23,7 +23,7 @@ names-preserved c =
 pub returns-in_default-clause-shown : goal.returns-in_default-clause-shown
 returns-in_default-clause-shown c = (
   c.names.rest.now,
-  name_missing c.args.dialect c.args.bytes.now c.names.rest.now _ c.names.code c.names.invariant.0 (omega arith) (sym c.in_default.ensures),
+  name_missing c.args.spacing c.args.bytes.now c.names.rest.now _ c.names.code c.names.invariant.0 (omega arith) (sym c.in_default.ensures),
   ap behind c.white_at.ensures,
 )
 
@@ -31,8 +31,8 @@ pub returns-in_default-array_end_at-clause-shown : goal.returns-in_default-array
 returns-in_default-array_end_at-clause-shown c =
     let all : code_count ≤ c.names.code = omega arith in (
       c.names.rest.now,
-      names_unclosed c.args.dialect c.args.bytes.now c.names.rest.now _ c.names.code all c.names.invariant.0 (marker_absent
-          ((array_end c.args.dialect).read c.names.rest.now) (sym c.in_default-array_end_at.ensures)),
+      names_unclosed c.args.spacing c.args.bytes.now c.names.rest.now _ c.names.code all c.names.invariant.0 (marker_absent
+          ((array_end c.args.spacing).read c.names.rest.now) (sym c.in_default-array_end_at.ensures)),
       ap behind c.white_at-in_default-array_end_at.ensures,
     )
 
@@ -40,10 +40,10 @@ pub returns-clause-shown : goal.returns-clause-shown
 returns-clause-shown c =
     let all : code_count ≤ c.names.code = omega arith in
     let s = c.names.invariant.0 in
-    let end = marker_found ((array_end c.args.dialect).read c.names.rest.now) c.in-Some-array_end_at.after.now (sym c.in-Some-array_end_at.ensures) in (
+    let end = marker_found ((array_end c.args.spacing).read c.names.rest.now) c.in-Some-array_end_at.after.now (sym c.in-Some-array_end_at.ensures) in (
       s.names,
       end.0,
       c.in-Some-array_end_at.after.now,
-      names_closed c.args.dialect c.args.bytes.now c.names.rest.now _ c.names.code all s (end.0, c.in-Some-array_end_at.after.now) end.1,
+      names_closed c.args.spacing c.args.bytes.now c.names.rest.now _ c.names.code all s (end.0, c.in-Some-array_end_at.after.now) end.1,
       (s.held, refl),
     )

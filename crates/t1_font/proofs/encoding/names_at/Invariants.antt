@@ -3,4 +3,4 @@ use Rattle.t1_font.proofs.Arrays.{NamesSoFar}
 use Rattle.t1_font.proofs.encoding.names_at.Given as goal
 
 abbrev pub invariant-names : goal.invariant-names
-invariant-names l = NamesSoFar l.dialect l.bytes l.rest l.gathered.codes l.code × CodesAlone l.initial.gathered l.gathered
+invariant-names l = NamesSoFar l.spacing l.bytes l.rest l.gathered.codes l.code × CodesAlone l.initial.gathered l.gathered

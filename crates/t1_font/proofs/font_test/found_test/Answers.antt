@@ -1,4 +1,4 @@
-use Rattle.std.proofs.Common.{List, ℕ, ◌++◌, Some, arith, sym, ap, ◌∙◌}
+use Rattle.std.proofs.Common.{List, ℕ, ◌++◌, length, Some, arith, sym, ap, ◌∙◌}
 use Rattle.t1_font.proofs.FontTests.{met_there, found_there, passed_there, nowhere_there}
 use Rattle.t1_font.proofs.font_test.found_test.Goals as goal
 
@@ -7,7 +7,7 @@ returns-then-breaks_at c =
     let head = c.args.head.now in
     let behind = c.in-Some.behind.now in
     let m = met_there head c.tests.from c.in-Some.place behind c.tests.invariant.within c.in-Some.ensures.test in
-    ap (λ (u : List ℕ). Some (u ++ behind)) c.split_at.ensures.front
+    ap (λ (u : List ℕ). Some (length u, u ++ behind)) c.split_at.ensures.front
     ∙ found_there head c.tests.from c.in-Some.place behind c.tests.invariant.passed m (sym c.breaks_at.ensures ∙ c.if-breaks_at.true)
 
 pub tests-preserved : goal.tests-preserved

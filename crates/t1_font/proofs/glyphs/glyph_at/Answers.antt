@@ -1,14 +1,14 @@
 use Rattle.std.proofs.Common.{sym}
-use Rattle.t1_font.specs.declared.dialect.Dialect.TheVariants.{Strict}
+use Rattle.t1_font.specs.declared.dialect.Spacing.TheVariants.{White}
 use Rattle.t1_font.proofs.PlaceLemmas.{name_stands}
 use Rattle.t1_font.proofs.PlaceLemmas.{behind_read}
 use Rattle.t1_font.proofs.glyphs.glyph_at.Goals as goal
 use Rattle.t1_font.specs.Words.{next_name}
 
 pub returns-clause-name : goal.returns-clause-name
-returns-clause-name c = name_stands Strict c.args.bytes.now (c.in_ok-name.name.now, c.in_ok-name.rest.now) (sym c.in_ok-name.ensures)
+returns-clause-name c = name_stands White c.args.bytes.now (c.in_ok-name.name.now, c.in_ok-name.rest.now) (sym c.in_ok-name.ensures)
 
 pub returns-clause-body : goal.returns-clause-body
 returns-clause-body c =
-    behind_read (next_name Strict) c.args.bytes.now (_, c.in_ok-name.rest.now) (sym c.in_ok-name.ensures) c.in_ok-body.body.bytes.now c.in_ok-body.body.behind
+    behind_read (next_name White) c.args.bytes.now (_, c.in_ok-name.rest.now) (sym c.in_ok-name.ensures) c.in_ok-body.body.bytes.now c.in_ok-body.body.behind
     c.in_ok-body.ensures.place

@@ -4,7 +4,7 @@ use Rattle.t1_grammar.specs.Grammar.{first}
 use Rattle.t1_font.specs.Gathering.{Entries}
 use Rattle.t1_font.specs.Markers.{chars_marker, subrs_marker}
 use Rattle.t1_font.specs.Reading.{Reading}
-use Rattle.t1_font.specs.declared.dialect.Dialect.TheVariants.{Strict}
+use Rattle.t1_font.specs.declared.dialect.Spacing.TheVariants.{White}
 use Rattle.t1_font.specs.Pieces.{PrivatePieces, before_place, private_pieces, tables_from}
 use Rattle.t1_font.proofs.AnswersRight.{shown_same}
 use Rattle.t1_font.proofs.PlaceLemmas.{ending_read, no_longer}
@@ -31,15 +31,15 @@ returns-then-private-front-clause-shown c =
     let rest : c.pass_to.new.self.rest ≡ c.in-Some-first.entries.now =
     ap (λ (g : Entries). g.rest) c.pass_to.ensures ∙ ending_read (first subrs_marker) text place subrs in
     let chosen : Bool → Reading PrivatePieces =
-    λ b. tables_from c.args.dialect (length text) ((c.in-Some.front.now, tt), c.in-Some.glyphs.now) (cond b (Some place) None) in
-    let begins : (private_pieces c.args.dialect text).read ≡ (chosen (ltb (length c.in-Some-first.private.now) (length c.in-Some.front.now))).read =
+    λ b. tables_from c.args.spacing (length text) ((c.in-Some.front.now, tt), c.in-Some.glyphs.now) (cond b (Some place) None) in
+    let begins : (private_pieces c.args.spacing text).read ≡ (chosen (ltb (length c.in-Some-first.private.now) (length c.in-Some.front.now))).read =
     rw (chars, subrs) refl in
     let lt = lt-ltb (length c.in-Some-first.private.now) (length c.in-Some.front.now) c.if-private-front.true in
     shown_same _ c.tables_with.result _
-    (tables_from c.args.dialect (length c.rest-text.result.now) (([], tt), [])
+    (tables_from c.args.spacing (length c.rest-text.result.now) (([], tt), [])
     (Some ((c.in_ok-private.private.items, c.in-Some-first.subrs.declared), c.pass_to.new.self.rest))).read
     (begins ∙ (ap (λ b. (chosen b).read) lt
-    ∙ (λ i. (tables_from c.args.dialect (length (sym c.rest-text.ensures i)) (([], tt), [])
+    ∙ (λ i. (tables_from c.args.spacing (length (sym c.rest-text.ensures i)) (([], tt), [])
     (Some ((sym c.in_ok-private.ensures.items i, c.in-Some-first.subrs.declared), sym rest i))).read)))
     c.tables_with.ensures.shown
 
@@ -65,7 +65,7 @@ returns-clause-shown c =
     let rest : c.pass_to-2.new.self.rest ≡ c.in-Some.glyphs.now =
     ap (λ (g : Entries). g.rest) c.pass_to-2.ensures ∙ ending_read (first chars_marker) c.args.gathered.now.rest _ found in
     shown_same _ c.tables_without.result _
-    (tables_from Strict (length c.rest-text.result.now) ((c.in_ok-private-2.private.items, tt), c.pass_to-2.new.self.rest) None).read
-    (rw found (ap (λ o. (tables_from c.args.dialect (length c.args.gathered.now.rest) ((c.in-Some.front.now, tt), c.in-Some.glyphs.now) o).read) (none_before c)
-    ∙ (λ i. (tables_from Strict (length (sym c.rest-text.ensures i)) ((sym c.in_ok-private-2.ensures.items i, tt), sym rest i) None).read)))
+    (tables_from White (length c.rest-text.result.now) ((c.in_ok-private-2.private.items, tt), c.pass_to-2.new.self.rest) None).read
+    (rw found (ap (λ o. (tables_from c.args.spacing (length c.args.gathered.now.rest) ((c.in-Some.front.now, tt), c.in-Some.glyphs.now) o).read) (none_before c)
+    ∙ (λ i. (tables_from White (length (sym c.rest-text.ensures i)) ((sym c.in_ok-private-2.ensures.items i, tt), sym rest i) None).read)))
     c.tables_without.ensures.shown
