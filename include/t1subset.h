@@ -130,6 +130,11 @@ uint32_t t1subset_convert(const uint8_t *font, size_t size, uint32_t form, t1sub
  * begin with. */
 uint32_t t1subset_mend(const uint8_t *font, size_t size, uint32_t form, t1subset_answer *answer);
 
+/* Lines that say what t1subset_mend mends of a font, in this order: "comment in Encoding at N", "code copied at N",
+ * "readonly Encoding at N", "comment in Subrs at N", "test of FontDirectory taken out at N"; none if there is nothing to
+ * mend. N is an offset from 0, for Subrs in the decrypted private text, else in the clear text. */
+uint32_t t1subset_mends(const uint8_t *font, size_t size, t1subset_answer *answer);
+
 /* The canonical file of the subset that keeps these glyphs, .notdef, the components of accented glyphs, and the Subrs
  * that all of these execute. A name may stand in the list more than once. */
 uint32_t t1subset_subset(const uint8_t *font, size_t size, const t1subset_bytes *names, size_t count, uint32_t form, t1subset_answer *answer);

@@ -172,8 +172,11 @@ def rows_of_mended():
     one = small_font(b"ABCDEF+Small", [STUB] * 4 + [ACROSS], {b"A": 4})
     untagged = small_font(b"Small", [STUB] * 4 + [ACROSS], {b"A": 4})
     yield Row(["check", "spelled.font"], 1, b"", b"refused: bad Encoding at 31\n")
-    yield Row(["mend", "spelled.font", "out"], 0, b"", b"", {"out": one})
-    yield Row(["mend", "tested.font", "tested.font"], 0, b"", b"", {"tested.font": one})
+    spelled = b"comment in Encoding at 31\nreadonly Encoding at 31\n"
+    tested = b"test of FontDirectory taken out at 3\n"
+    yield Row(["mend", "spelled.font", "out"], 0, b"", spelled, {"out": one})
+    yield Row(["mend", "tested.font", "tested.font"], 0, b"", tested, {"tested.font": one})
+    yield Row(["mend", "tested.font", "no.folder/out"], 3, b"", b"failed: write\n")
     yield Row(["mend", "one.cut", "old"], 0, b"", b"", {"old": one})
     yield Row(["mend", "--pfb", "tiny.pfa", "out"], 0, b"", b"", {"out": example("tiny.pfb")})
     yield Row(["rejoin", "out", "tested.font", "spelled.font", "one.cut"], 0, b"", b"", {"out": untagged})

@@ -1,5 +1,5 @@
-/* Calls at their edges: NULL with size 0 in each place, forms that there are not, no fonts, a file that is too long, and
- * answers that are freed twice. usage: edges FONT */
+/* Calls at their edges: NULL with size 0 in each place, forms that there are not, no fonts, a file that is too long, nothing
+ * to mend, and answers that are freed twice. usage: edges FONT    the canonical PFA of a font */
 #include "t1subset.h"
 
 #include <stdio.h>
@@ -38,6 +38,8 @@ static void no_bytes(t1subset_bytes font) {
     EXPECT(t1subset_show(NULL, 0, NULL, 0, &answer), T1SUBSET_NO_EEXEC, 0, "no eexec");
     EXPECT(t1subset_show(font.data, font.size, NULL, 0, &answer), T1SUBSET_NO_GLYPH, -1, "no glyph ");
     EXPECT(t1subset_convert(NULL, 0, T1SUBSET_PFA, &answer), T1SUBSET_NO_EEXEC, 0, "no eexec");
+    EXPECT(t1subset_mend(NULL, 0, T1SUBSET_PFA, &answer), T1SUBSET_NO_EEXEC, 0, "no eexec");
+    EXPECT(t1subset_mends(NULL, 0, &answer), T1SUBSET_NO_EEXEC, 0, "no eexec");
     EXPECT(t1subset_subset(NULL, 0, NULL, 0, T1SUBSET_PFA, &answer), T1SUBSET_NO_EEXEC, 0, "no eexec");
     EXPECT(t1subset_subset(font.data, font.size, NULL, 0, T1SUBSET_PFB, &answer), T1SUBSET_OK, -1, NULL);
     EXPECT(t1subset_subset(font.data, font.size, no_name, 1, T1SUBSET_PFB, &answer), T1SUBSET_NO_GLYPH, -1, "no glyph ");
@@ -54,10 +56,22 @@ static void no_forms(t1subset_bytes font) {
     const uint32_t forms[] = {2, 0x100, 0x10000, 0xffffffff};
     for (size_t at = 0; at < sizeof forms / sizeof *forms; at++) {
         EXPECT(t1subset_convert(font.data, font.size, forms[at], &answer), T1SUBSET_BAD_CALL, -1, "");
+        EXPECT(t1subset_mend(font.data, font.size, forms[at], &answer), T1SUBSET_BAD_CALL, -1, "");
         EXPECT(t1subset_subset(font.data, font.size, NULL, 0, forms[at], &answer), T1SUBSET_BAD_CALL, -1, "");
         EXPECT(t1subset_merge(&font, 1, forms[at], &answer), T1SUBSET_BAD_CALL, -1, "");
         EXPECT(t1subset_rejoin(&font, 1, forms[at], &answer), T1SUBSET_BAD_CALL, -1, "");
     }
+}
+
+/* Nothing is mended of the font, and a comment where there is one in its Encoding. */
+static void mends(t1subset_bytes font) {
+    static char room[(1 << 20) + 3], line[64];
+    const char *text = (const char *) font.data, *at = strstr(text, "/Encoding");
+    if (!at) exit(2);
+    const int before = (int) (at - text), size = snprintf(room, sizeof room, "%.*s/Encoding%%\n%s", before, text, at + 9);
+    snprintf(line, sizeof line, "comment in Encoding at %d\n", before);
+    EXPECT(t1subset_mends(font.data, font.size, &answer), T1SUBSET_OK, -1, "");
+    EXPECT(t1subset_mends((const uint8_t *) room, (size_t) size, &answer), T1SUBSET_OK, -1, line);
 }
 
 static void too_long(t1subset_bytes font) {
@@ -68,6 +82,7 @@ static void too_long(t1subset_bytes font) {
     }
     const t1subset_bytes two[] = {font, {data, TOO_LONG}};
     EXPECT(t1subset_check(data, TOO_LONG, &answer), T1SUBSET_FILE_TOO_LONG, 0, "file too long");
+    EXPECT(t1subset_mends(data, TOO_LONG, &answer), T1SUBSET_FILE_TOO_LONG, 0, "file too long");
     EXPECT(t1subset_merge(two, 2, T1SUBSET_PFA, &answer), T1SUBSET_FILE_TOO_LONG, 1, "file too long");
     EXPECT(t1subset_join(NULL, 0, data, TOO_LONG, &answer), T1SUBSET_FILE_TOO_LONG, 1, "file too long");
     free(data);
@@ -82,6 +97,7 @@ int main(int count, char **words) {
     memset(&answer, 0xff, sizeof answer);
     no_bytes(font);
     no_forms(font);
+    mends(font);
     too_long(font);
     if (t1subset_version() != T1SUBSET_VERSION) {
         puts("the library is of another version than the header");

@@ -1,6 +1,6 @@
 /* Refuses one growth after another in each call. A call answers MEMORY and holds nothing, also nothing of what the answer
  * had before; or it answers as with memory. No block is left.
- * usage: growths FONT FIRST SECOND NAME NAME    two listings that join, and two glyphs of the font */
+ * usage: growths FONT FIRST SECOND NAME NAME    a PFA, two listings that join, and two glyphs of the font */
 #include "t1subset.h"
 
 #include <stdio.h>
@@ -25,13 +25,14 @@ static void *resize(void *user, void *block, size_t size) {
     return given;
 }
 
-static t1subset_bytes font, listings[2], names[3], parts[3];
+static t1subset_bytes font, commented, listings[2], names[3], parts[3];
 
 static uint32_t check(t1subset_answer *to) { return t1subset_check(font.data, font.size, to); }
 static uint32_t list(t1subset_answer *to) { return t1subset_list(font.data, font.size, to); }
 static uint32_t show(t1subset_answer *to) { return t1subset_show(font.data, font.size, names[0].data, names[0].size, to); }
 static uint32_t convert(t1subset_answer *to) { return t1subset_convert(font.data, font.size, T1SUBSET_PFB, to); }
 static uint32_t mend(t1subset_answer *to) { return t1subset_mend(font.data, font.size, T1SUBSET_PFB, to); }
+static uint32_t mends(t1subset_answer *to) { return t1subset_mends(commented.data, commented.size, to); }
 static uint32_t subset(t1subset_answer *to) { return t1subset_subset(font.data, font.size, names, 2, T1SUBSET_PFA, to); }
 static uint32_t merge(t1subset_answer *to) { return t1subset_merge(parts, 2, T1SUBSET_PFA, to); }
 static uint32_t rejoin(t1subset_answer *to) { return t1subset_rejoin(parts, 2, T1SUBSET_PFB, to); }
@@ -48,9 +49,9 @@ static const struct {
     uint32_t number;
 } calls[] = {
     {"check", check, T1SUBSET_OK}, {"list", list, T1SUBSET_OK}, {"show", show, T1SUBSET_OK},
-    {"convert", convert, T1SUBSET_OK}, {"mend", mend, T1SUBSET_OK}, {"subset", subset, T1SUBSET_OK}, {"merge", merge, T1SUBSET_OK},
-    {"rejoin", rejoin, T1SUBSET_OK}, {"join", join, T1SUBSET_OK}, {"subset of no glyph", no_glyph, T1SUBSET_NO_GLYPH},
-    {"merge of no font", no_font, T1SUBSET_NO_EEXEC},
+    {"convert", convert, T1SUBSET_OK}, {"mend", mend, T1SUBSET_OK}, {"mends", mends, T1SUBSET_OK}, {"subset", subset, T1SUBSET_OK},
+    {"merge", merge, T1SUBSET_OK}, {"rejoin", rejoin, T1SUBSET_OK}, {"join", join, T1SUBSET_OK},
+    {"subset of no glyph", no_glyph, T1SUBSET_NO_GLYPH}, {"merge of no font", no_font, T1SUBSET_NO_EEXEC},
 };
 
 static t1subset_bytes whole(const char *path) {
@@ -62,6 +63,15 @@ static t1subset_bytes whole(const char *path) {
     t1subset_bytes bytes = {data, fread(data, 1, 1 << 20, file)};
     fclose(file);
     return bytes;
+}
+
+/* The font with a comment in its Encoding. */
+static t1subset_bytes with_comment(void) {
+    static char room[(1 << 20) + 3];
+    const char *text = (const char *) font.data, *at = strstr(text, "/Encoding");
+    if (!at) exit(2);
+    const int size = snprintf(room, sizeof room, "%.*s/Encoding%%\n%s", (int) (at - text), text, at + 9);
+    return (t1subset_bytes) {(const uint8_t *) room, (size_t) size};
 }
 
 static int same(const t1subset_answer *one, const t1subset_answer *other) {
@@ -104,6 +114,7 @@ static const char *sweep(size_t at, long *refusals) {
 int main(int count, char **words) {
     if (count != 6) return 2;
     font = whole(words[1]);
+    commented = with_comment();
     for (int at = 0; at < 2; at++) {
         listings[at] = whole(words[2 + at]);
         names[at] = (t1subset_bytes) {(const uint8_t *) words[4 + at], strlen(words[4 + at])};

@@ -76,6 +76,14 @@ static int write_to(const char *path, t1subset_bytes bytes) {
     return 0;
 }
 
+/* What the word mend says on standard error once the result is written. */
+static void say_mends(t1subset_bytes font) {
+    t1subset_answer answer = T1SUBSET_ANSWER;
+    if (t1subset_mends(font.data, font.size, &answer)) fail("the mends of a mended font are refused\n");
+    fprintf(stderr, "%.*s", (int) answer.bytes.size, (const char *) answer.bytes.data);
+    t1subset_free(&answer);
+}
+
 int main(int count, char **words) {
     if (count < 3) return 2;
     const char *word = words[1];
@@ -98,6 +106,7 @@ int main(int count, char **words) {
     tell(number, &answer);
     int status = number ? 1 : write_to(out ? words[out] : NULL, answer.bytes);
     if (number) fprintf(stderr, "refused: %.*s\n", (int) answer.bytes.size, (const char *) answer.bytes.data);
+    else if (!status && !strncmp(word, "mend", 4)) say_mends(arguments[0]);
     t1subset_free(&answer);
     for (size_t at = 0; at < taken && at < (size_t) files; at++) free((void *) arguments[at].data);
     free(arguments);

@@ -31,6 +31,7 @@ from ._calls import (
     join,
     list,
     mend,
+    mends,
     merge,
     rejoin,
     show,
@@ -38,7 +39,7 @@ from ._calls import (
     version,
 )
 from ._refusals import Number, Part, Refused
-from ._texts import Checked, Drawn, DrawnPart, Listed, Mark, Point, Undrawn
+from ._texts import Checked, Drawn, DrawnPart, Listed, Mark, Mend, Point, Undrawn
 
 __version__ = "0.1.0"
 
@@ -51,6 +52,7 @@ __all__ = [
     "Form",
     "Listed",
     "Mark",
+    "Mend",
     "Name",
     "Number",
     "Part",
@@ -62,6 +64,7 @@ __all__ = [
     "join",
     "list",
     "mend",
+    "mends",
     "merge",
     "rejoin",
     "show",

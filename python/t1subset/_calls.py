@@ -5,12 +5,12 @@ from __future__ import annotations
 import ctypes
 import enum
 import mmap
-from typing import Any, Iterable, Literal, Tuple, Union
+from typing import Any, Iterable, List, Literal, Tuple, Union
 
 from . import _texts
 from ._library import Answer, Given, library
 from ._refusals import Number, Refused
-from ._texts import Checked, Drawn, Listed, Undrawn
+from ._texts import Checked, Drawn, Listed, Mend, Undrawn
 
 
 class Form(enum.Enum):
@@ -72,6 +72,17 @@ def mend(font: BytesLike, form: AnyForm = "pfa") -> bytes:
     True
     """
     return _call(library.t1subset_mend, *_file(font), _form(form))
+
+
+def mends(font: BytesLike) -> List[Mend]:
+    """What `mend` mends of a font, and where; of a font with nothing to mend it is empty.
+
+    >>> mends(font)
+    []
+    >>> mends(font.replace(b"dup 65 ", b"% a comment\\ndup 65 "))
+    [Mend(what='comment in Encoding', at=195)]
+    """
+    return _texts.mended(_text(library.t1subset_mends, *_file(font)))
 
 
 def subset(font: BytesLike, names: Iterable[Name], form: AnyForm = "pfa") -> bytes:

@@ -1,11 +1,11 @@
-"""What the library's texts say: `check`, `list` and `show`."""
+"""What the library's texts say: `check`, `list`, `show` and `mends`."""
 
 from __future__ import annotations
 
 import re
 from dataclasses import dataclass
 from fractions import Fraction
-from typing import Dict, List, Mapping, Tuple, Union
+from typing import Dict, List, Mapping, NamedTuple, Tuple, Union
 
 
 @dataclass(frozen=True)
@@ -79,7 +79,23 @@ class Undrawn:
     fault: str
 
 
+class Mend(NamedTuple):
+    """A thing that `mend` mends of a font. `str` gives the line that the program t1subset prints of it.
+
+    what: "comment in Encoding", "code copied", "readonly Encoding", "comment in Subrs" or "test of FontDirectory taken
+        out".
+    at: an offset from 0, for Subrs in the decrypted private text, else in the clear text.
+    """
+
+    what: str
+    at: int
+
+    def __str__(self) -> str:
+        return f"{self.what} at {self.at}"
+
+
 _CHECKED = re.compile(r"ok (\d+) glyphs, (\d+) subrs, weight (\d+)\n")
+_MEND = re.compile(r"(.+) at (\d+)")
 _ESCAPE = re.compile(rb"\\x([0-9a-f]{2})")
 
 
@@ -159,3 +175,15 @@ def drawn(text: str) -> Union[Drawn, Undrawn]:
             raise unknown(mark.word)
     made = tuple(DrawnPart(offset, tuple(marks)) for offset, marks in parts)
     return Drawn(_point(width, "width"), _point(bearing, "bearing"), made)
+
+
+def _mend(line: str) -> Mend:
+    found = _MEND.fullmatch(line)
+    if not found:
+        raise unknown(line)
+    return Mend(found[1], int(found[2]))
+
+
+def mended(text: str) -> List[Mend]:
+    """What the text of `mends` says."""
+    return [_mend(line) for line in text.splitlines()]

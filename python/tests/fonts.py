@@ -48,6 +48,11 @@ PFA, PFB = example("tiny.pfa"), example("tiny.pfb")
 # What the segments of tiny.pfb hold, of which the headers stand at 0, 319 and 1333.
 CLEAR, PRIVATE = PFB[6:319], deciphered(PFB[325:1333], EEXEC)
 TRAILER = (b"0" * 64 + b"\n") * 8 + b"cleartomark\n"
+# The test whether Tiny was loaded before, with which the heads of many fonts begin.
+TEST = (
+    b"FontDirectory/Tiny known{/Tiny findfont dup/UniqueID known{dup/UniqueID get 7 eq exch/FontType get 1 eq and}"
+    b"{pop false}ifelse{save true}{false}ifelse}{false}ifelse\n"
+)
 
 
 def file_of(clear: bytes, private: bytes) -> bytes:
@@ -59,6 +64,13 @@ def changed(old: bytes, new: bytes, count: int = 1) -> bytes:
     """Tiny with other bytes where these stand, in the clear or in the private text."""
     assert CLEAR.count(old) + PRIVATE.count(old) == count, old
     return file_of(CLEAR.replace(old, new), PRIVATE.replace(old, new))
+
+
+def spelled() -> bytes:
+    """Tiny with a comment in its Encoding, at offset 195, and another one among its Subrs, at 269."""
+    comment = b"% a comment\n"
+    clear, private = CLEAR[:195] + comment + CLEAR[195:], PRIVATE[:269] + comment + PRIVATE[269:]
+    return file_of(clear, private)
 
 
 def charstring(plain: bytes) -> bytes:

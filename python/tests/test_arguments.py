@@ -93,6 +93,7 @@ class Arguments(unittest.TestCase):
             t1subset.list,
             t1subset.convert,
             t1subset.mend,
+            t1subset.mends,
             lambda it: t1subset.show(it, "X"),
             lambda it: t1subset.subset(it, []),
             lambda it: t1subset.merge([PFA, it]),
@@ -226,6 +227,7 @@ class Memory(unittest.TestCase):
         self.assertEqual(self.sweep(lambda: t1subset.show(PFA, "L")), t1subset.Undrawn("Nesting"))
         self.assertEqual(self.sweep(lambda: t1subset.convert(PFA, "pfb")), PFB)
         self.assertEqual(self.sweep(lambda: t1subset.mend(PFA, "pfb")), PFB)
+        self.assertEqual(len(self.sweep(lambda: t1subset.mends(fonts.spelled()))), 2)
         self.assertEqual(self.sweep(lambda: t1subset.subset(two, ["A"])), two)
         self.assertEqual(self.sweep(lambda: t1subset.merge([one, two])), two)
         self.assertEqual(self.sweep(lambda: t1subset.rejoin([two, one])), two)

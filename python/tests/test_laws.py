@@ -76,6 +76,8 @@ class Laws(unittest.TestCase):
                 for mended in (pfa, pfb):
                     self.assertEqual((t1subset.mend(mended), t1subset.mend(mended, "pfb")), (pfa, pfb))
                     self.assertEqual((t1subset.convert(mended), t1subset.convert(mended, "pfb")), (pfa, pfb))
+                    self.assertEqual(t1subset.mends(mended), [])
+                self.assertEqual(t1subset.mends(font) == [], pfa == t1subset.convert(font))
 
     def test_a_font_that_another_program_spells(self) -> None:
         word = b"/Encoding StandardEncoding"
@@ -84,6 +86,7 @@ class Laws(unittest.TestCase):
         self.assertNotEqual(spelled, font)
         self.assertRaises(t1subset.Refused, t1subset.check, spelled)
         self.assertEqual((t1subset.mend(spelled), t1subset.rejoin([spelled, font])), (font, font))
+        self.assertEqual(t1subset.mends(spelled), [("comment in Encoding", 24), ("readonly Encoding", 24)])
 
     def test_tiny_in_both_forms(self) -> None:
         for font in (PFA, PFB):

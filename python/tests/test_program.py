@@ -15,8 +15,8 @@ from .test_laws import some_names
 
 
 def every_font() -> List[Tuple[str, bytes]]:
-    """Tiny, and some of the installed fonts, whether the library reads them or not."""
-    return [("tiny.pfa", fonts.PFA), ("tiny.pfb", fonts.PFB), *fonts.installed()]
+    """Tiny, also as another program spells it, and some of the installed fonts, whether the library reads them or not."""
+    return [("tiny.pfa", fonts.PFA), ("tiny.pfb", fonts.PFB), ("spelled", fonts.spelled()), *fonts.installed()]
 
 
 def accepted(font: bytes) -> bool:
@@ -80,29 +80,34 @@ class Program(unittest.TestCase):
         self.program = os.path.abspath(found)
 
     def run_words(self, words: List[str], inputs: List[bytes], output: bool) -> Tuple[str, bytes]:
-        """What is refused, and what is printed or written, of words in which IN0, IN1 and so on name the inputs."""
+        """What is said on standard error, and what is printed or written, of words in which IN0, IN1 and so on name the
+        inputs."""
         with tempfile.TemporaryDirectory() as folder:
             for place, data in enumerate(inputs):
                 with open(os.path.join(folder, f"IN{place}"), "wb") as file:
                     file.write(data)
             done = subprocess.run([self.program, *words], cwd=folder, stdout=subprocess.PIPE, stderr=subprocess.PIPE)
+            said = done.stderr.decode()
             if done.returncode == 1:
-                return done.stderr.decode(), b""
-            self.assertEqual((done.returncode, done.stderr), (0, b""), words)
+                return said, b""
+            self.assertEqual(done.returncode, 0, words)
             if not output:
-                return "", done.stdout
+                return said, done.stdout
             with open(os.path.join(folder, "OUT"), "rb") as file:
-                return "", file.read()
+                return said, file.read()
 
     def same(self, words: List[str], inputs: List[bytes], call: Callable[[], Any]) -> None:
-        """The call answers what the program prints or writes, or refuses for the same text."""
-        refused, text = self.run_words(words, inputs, "OUT" in words)
+        """The call answers what the program prints or writes, or refuses for the same text. What it mends the program
+        says, too."""
+        said, text = self.run_words(words, inputs, "OUT" in words)
         try:
             answer = call()
         except t1subset.Refused as why:
-            self.assertEqual(f"refused: {why.text}\n", refused)
+            self.assertEqual(f"refused: {why.text}\n", said)
             return
-        self.assertEqual((refused, text), ("", answer if isinstance(answer, bytes) else text_of(answer).encode()))
+        mends = t1subset.mends(inputs[0]) if words[0] == "mend" else []
+        self.assertEqual(said, "".join(f"{mend}\n" for mend in mends), words)
+        self.assertEqual(text, answer if isinstance(answer, bytes) else text_of(answer).encode())
 
     def test_words_about_one_font(self) -> None:
         for path, font in every_font():

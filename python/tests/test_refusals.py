@@ -47,6 +47,8 @@ def rows_of_files() -> List[Row]:
             (number, text, detail, 0, partial(t1subset.list, font)),
             (number, text, detail, 0, partial(t1subset.show, font, "nosuch")),
             (number, text, detail, 0, partial(t1subset.convert, font)),
+            (number, text, detail, 0, partial(t1subset.mend, font)),
+            (number, text, detail, 0, partial(t1subset.mends, font)),
             (number, text, detail, 0, partial(t1subset.subset, font, ["nosuch"])),
             (number, text, detail, 1, partial(t1subset.merge, [PFA, font, b""])),
             (number, text, detail, 2, partial(t1subset.rejoin, [PFB, PFA, font])),

@@ -1,4 +1,4 @@
-"""What `check`, `list` and `show` say, and names that are no ASCII."""
+"""What `check`, `list`, `show` and `mends` say, and names that are no ASCII."""
 
 from __future__ import annotations
 
@@ -9,10 +9,10 @@ from fractions import Fraction
 from typing import Any, Tuple
 
 import t1subset
-from t1subset import Checked, Drawn, Listed, Undrawn, _calls, _texts
+from t1subset import Checked, Drawn, Listed, Mend, Undrawn, _calls, _texts
 
 from . import fonts
-from .fonts import PFA
+from .fonts import PFA, PFB, changed
 
 EMPTY = b"\x8b\xf7\x8e\x0d\x0e"
 
@@ -66,6 +66,28 @@ class Texts(unittest.TestCase):
         self.assertEqual(t1subset.show(PFA, "N"), Undrawn("NestedSeac"))
         self.assertEqual(t1subset.show(PFA, "L"), Undrawn("Nesting"))
 
+    def test_mends(self) -> None:
+        table = fonts.CLEAR[fonts.CLEAR.index(b"256 array"):fonts.CLEAR.index(b"readonly def")]
+        copied = b"dup 66 /X put\ndup dup 65 exch 66 get put"
+        rows = [
+            (changed(b"dup 65 ", b"% a comment\ndup 65 "), Mend("comment in Encoding", 195)),
+            (changed(b"dup 65 /X put", copied), Mend("code copied", 209)),
+            (changed(table, b"StandardEncoding "), Mend("readonly Encoding", 135)),
+            (changed(b"dup 0 ", b"% a comment\ndup 0 "), Mend("comment in Subrs", 269)),
+            (changed(b"/FontName", fonts.TEST + b"/FontName"), Mend("test of FontDirectory taken out", 44)),
+        ]
+        for font, mend in rows:
+            with self.subTest(mend=mend):
+                self.assertEqual(t1subset.mends(font), [mend])
+        for font in (PFA, PFB):
+            self.assertEqual(t1subset.mends(font), [])
+
+    def test_several_mends(self) -> None:
+        mends = t1subset.mends(fonts.spelled())
+        self.assertEqual(mends, [("comment in Encoding", 195), ("comment in Subrs", 269)])
+        self.assertEqual([(mend.what, mend.at) for mend in mends], mends)
+        self.assertEqual(list(map(str, mends)), ["comment in Encoding at 195", "comment in Subrs at 269"])
+
     def test_amounts_that_are_not_whole(self) -> None:
         # `0 250 hsbw 1 3 div -1 3 div rmoveto endchar`, of which a third is cut toward zero.
         third = b"\x8b\xf7\x8e\x0d\x8c\x8e\x0c\x0c\x8a\x8e\x0c\x0c\x15\x0e"
@@ -84,7 +106,8 @@ class Texts(unittest.TestCase):
                 self.assertEqual(t1subset.show(font, given), t1subset.show(font, name))
 
     def test_answers_can_be_compared_and_pickled(self) -> None:
-        for answer in (t1subset.check(PFA), t1subset.list(PFA), t1subset.show(PFA, "X"), t1subset.show(PFA, "N")):
+        drawn, undrawn, mends = t1subset.show(PFA, "X"), t1subset.show(PFA, "N"), t1subset.mends(fonts.spelled())
+        for answer in (t1subset.check(PFA), t1subset.list(PFA), drawn, undrawn, mends):
             self.assertEqual(pickle.loads(pickle.dumps(answer)), answer)
 
     def test_texts_of_another_library(self) -> None:
@@ -96,6 +119,9 @@ class Texts(unittest.TestCase):
             (_texts.drawn, "width 1 0\nbearing 0 0\nmove 1 0\n"),
             (_texts.drawn, "bearing 0 0\nwidth 1 0\n"),
             (_texts.drawn, "width 1 0\nbearing 0 0\npart 0\n"),
+            (_texts.mended, "\n"),
+            (_texts.mended, "code copied at 1\ncode copied\n"),
+            (_texts.mended, "code copied at -1\n"),
         ]:
             with self.subTest(text=text):
                 self.assertRaises(RuntimeError, parse, text)

@@ -17,21 +17,22 @@ ghost use Rattle.t1_cmd.specs.CheckText.{check_answer};
 ghost use Rattle.t1_cmd.specs.ListText.{list_answer};
 ghost use Rattle.t1_cmd.specs.DrawingText.{show_answer};
 ghost use Rattle.t1_cmd.specs.Fonts.{font_input, mended_input, file_answer};
+ghost use Rattle.t1_cmd.specs.Mends.{mends_answer};
 ghost use Rattle.t1_cmd.specs.Subsets.{subset_answer};
 ghost use Rattle.t1_cmd.specs.Mergers.{MergesTo};
 ghost use Rattle.t1_cmd.specs.Rejoins.{RejoinsTo};
 ghost use Rattle.t1_cmd.specs.Listings.{listing_input, JoinsTo};
 ghost use Rattle.t1_cmd.specs.WrittenSubsets.{OfUnion};
 ghost use Rattle.t1_c.specs.Numbers.{form_at};
-ghost use Rattle.t1_c.specs.Gives.{GivesOf, GivesMended, GivesFiles, In, IfForm, GivesText};
+ghost use Rattle.t1_c.specs.Gives.{GivesOne, GivesOf, GivesMended, GivesFiles, In, IfForm, GivesText};
 
 pub use answers::Answer;
 use answers::{give_files, give_nothing, give_of};
 use numbers::{BAD_CALL, form_of};
 use std::alloc::Global;
 use t1_cmd::{
-    check_file, convert_file, join_listings, list_file, mend_file, merge_files, rejoin_files,
-    show_file, subset_file,
+    check_file, convert_file, join_listings, list_file, list_mends, mend_file, merge_files,
+    rejoin_files, show_file, subset_file,
 };
 
 /// Says what a font has: the line of `t1subset check`.
@@ -84,6 +85,14 @@ pub extern "C" fn t1subset_mend(alloc: Global, font: &[u8], form: u32, answer: &
         Some(form) => give_of(alloc, mend_file(alloc, font, form), answer),
         None => give_nothing(BAD_CALL, answer),
     }
+}
+
+/// Lists what is mended of a font: the lines that `t1subset mend` prints on standard error.
+#[unsafe(no_mangle)]
+pub extern "C" fn t1subset_mends(alloc: Global, font: &[u8], answer: &mut Answer) -> u32
+    ensures { GivesOne (mends_answer font.now) result answer.new }
+{
+    give_of(alloc, list_mends(alloc, font), answer)
 }
 
 /// Makes the canonical file of the subset that keeps these names.

@@ -2,7 +2,7 @@
 //! many more inputs is compared with the library's bytes in C.
 use crate::{
     Answer, t1subset_check, t1subset_convert, t1subset_join, t1subset_list, t1subset_mend,
-    t1subset_merge, t1subset_rejoin, t1subset_show, t1subset_subset,
+    t1subset_mends, t1subset_merge, t1subset_rejoin, t1subset_show, t1subset_subset,
 };
 use std::alloc::Global;
 use std::test::Fail;
@@ -48,6 +48,27 @@ fn texts(rt: HostRuntime) -> Result<(), Fail> {
     let mut a = used();
     let code = t1subset_join(rt.alloc(), b"S 5 0b\n", b"G A 0e\nS 5 0B\n", &mut a);
     assert!(rt; gave(code, &a, (0, 0, -1, b"S 5 0b\nG A 0e\n")));
+    Ok(())
+}
+
+/// Tiny with a comment before the first entry of its Encoding.
+fn commented(alloc: Global) -> Result<Vec<u8>, Fail> {
+    let whole: &[u8] = PFA;
+    let mut font = Vec::from_slice(alloc, &whole[..195])?;
+    font.extend_from_slice(b"% a comment\n")?;
+    font.extend_from_slice(&whole[195..])?;
+    Ok(font)
+}
+
+#[test]
+fn mends(rt: HostRuntime) -> Result<(), Fail> {
+    let mut a = used();
+    let code = t1subset_mends(rt.alloc(), PFB, &mut a);
+    assert!(rt; gave(code, &a, (0, 0, -1, b"")));
+    let font = commented(rt.alloc())?;
+    let mut a = used();
+    let code = t1subset_mends(rt.alloc(), font.as_slice(), &mut a);
+    assert!(rt; gave(code, &a, (0, 0, -1, b"comment in Encoding at 195\n")));
     Ok(())
 }
 
@@ -117,6 +138,9 @@ fn refusals_of_a_font(rt: HostRuntime) -> Result<(), Fail> {
     assert!(rt; gave(code, &a, (12, 0, 0, b"cipher too short")));
     let mut a = used();
     let code = t1subset_mend(rt.alloc(), b"currentfile eexec ", 1, &mut a);
+    assert!(rt; gave(code, &a, (12, 0, 0, b"cipher too short")));
+    let mut a = used();
+    let code = t1subset_mends(rt.alloc(), b"currentfile eexec ", &mut a);
     assert!(rt; gave(code, &a, (12, 0, 0, b"cipher too short")));
     Ok(())
 }

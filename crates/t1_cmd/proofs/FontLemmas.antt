@@ -10,12 +10,12 @@ use Rattle.t1_cmd.specs.declared.faults.Reason.{Reason}
 use Rattle.t1_cmd.specs.declared.faults.Reason.TheVariants.{Memory}
 use Rattle.t1_cmd.specs.declared.faults.RunFault.{RunFault}
 use Rattle.t1_cmd.specs.declared.faults.RunFault.TheVariants.{Refused}
-use Rattle.t1_cmd.specs.Inputs.{Input}
+use Rattle.t1_cmd.specs.Inputs.{Input, Has}
 use Rattle.t1_cmd.specs.Answers.{if_there, Refuses, Prints}
 use Rattle.t1_cmd.specs.Runs.{Stops, RunEnds, Succeeds}
 use Rattle.t1_cmd.specs.Fonts.{of_input}
 use Rattle.t1_cmd.specs.DrawingText.{mark_line, with_line}
-use Rattle.t1_cmd.proofs.Refusals.{by_answer, Has, says_so, input_stops}
+use Rattle.t1_cmd.proofs.Refusals.{by_answer, says_so, input_stops}
 use Rattle.t1_cmd.proofs.RunLemmas.{Says, stops_after, stops_together, ends_succeeds}
 
 -- ---- files

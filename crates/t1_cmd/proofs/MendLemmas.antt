@@ -1,7 +1,9 @@
 -- What is mended once is mended.
-use Rattle.std.proofs.Common.{◌≡◌, ◌∙◌, ap, subst, refl, ℕ, ◌+◌, Bool, true, false, nat_lt, if◌then◌else◌, List, [], ◌∷◌, length, Result, Ok, Err}
+use Rattle.std.proofs.Common.{◌≡◌, ◌∙◌, ap, sym, subst, refl, append_assoc, ℕ, ◌+◌, ◌<◌, ◌≤◌, drop, get_or, Bool, true, false, nat_lt, if◌then◌else◌, List, [], ◌∷◌, ◌++◌, length, None, Result, Ok, Err}
 use Rattle.std.specs.Prelude.{IfOk}
 use Rattle.std.proofs.lemmas.Bool.{le-ltb}
+use Rattle.std.proofs.lemmas.List.{append-nil, drop_more, drop_all}
+use Rattle.t1_font.specs.declared.mend.Mend.{Mend}
 use Rattle.t1_bytes.specs.declared.form.Form.{Form}
 use Rattle.t1_bytes.specs.Limits.{file_limit}
 use Rattle.t1_bytes.specs.Laws.{AreBytes}
@@ -20,10 +22,19 @@ use Rattle.t1_font.proofs.canonical.LengthLemmas.{canon_short}
 use Rattle.t1_font.proofs.read_fonts.ReadFontLaws.{read_is_font}
 use Rattle.t1_cmd.specs.declared.faults.Reason.{Reason}
 use Rattle.t1_cmd.specs.declared.faults.Reason.TheVariants.{TooLong}
-use Rattle.t1_cmd.specs.Answers.{with_reason, if_there}
+use Rattle.t1_cmd.specs.declared.faults.RunFault.TheVariants.{Refused}
+use Rattle.t1_cmd.specs.Inputs.{Input, Has}
+use Rattle.t1_cmd.specs.Runs.{Stops}
+use Rattle.t1_cmd.specs.Answers.{with_reason, if_there, Refuses, Prints}
 use Rattle.t1_cmd.specs.Fonts.{font_reason, font_input, mended_input, file_answer}
 use Rattle.t1_cmd.specs.Files.{value_before, values_from}
-use Rattle.t1_cmd.specs.Mends.{IsMendedFile, AreMendedFiles, MendsAgain, MendsNothing, MendedIsSpelled, RejoinsMended}
+use Rattle.t1_cmd.proofs.Refusals.{by_answer, says_so, input_stops}
+use Rattle.t1_cmd.proofs.RunLemmas.{stops_after}
+use Rattle.t1_font.specs.Mends.{mends_in, mends_by_rules, mends_by_test}
+use Rattle.t1_font.specs.FontTest.{taken_test}
+use Rattle.t1_font.proofs.Mended.{tells_the_test}
+use Rattle.std.specs.List.{flat_map}
+use Rattle.t1_cmd.specs.Mends.{mend_line, mends_answer, IsMendedFile, AreMendedFiles, MendsAgain, MendsNothing, MendedIsSpelled, TellsNothing, RejoinsMended}
 use Rattle.t1_font.specs.Dialect.{strict, wide}
 
 -- ---- the font of a file
@@ -126,3 +137,60 @@ same_fonts place (file ∷ files) (text ∷ texts) s =
 -- mended files are rejoined as the same fonts as the files
 pub rejoins_mended : RejoinsMended
 rejoins_mended = same_fonts 0
+
+-- ---- what is told
+
+-- one line more is added
+pub one_line_more : (ms : List Mend) (i : ℕ) (d : Mend) (old new : List ℕ) → i < length ms →
+    old ++ flat_map mend_line (drop i ms) ≡ flat_map mend_line ms → new ≡ old ++ mend_line (get_or ms i d) →
+    new ++ flat_map mend_line (drop (i + 1) ms) ≡ flat_map mend_line ms
+one_line_more ms i d old new lt so_far more =
+    let rest : List ℕ = flat_map mend_line (drop (i + 1) ms) in
+    ap (λ (t : List ℕ). t ++ rest) more
+    ∙ (append_assoc old (mend_line (get_or ms i d)) rest
+    ∙ (ap (λ (l : List Mend). old ++ flat_map mend_line l) (sym (drop_more ms i d lt)) ∙ so_far))
+
+-- behind the last, all are there
+pub all_lines : (ms : List Mend) (i : ℕ) (text : List ℕ) → length ms ≤ i → text ++ flat_map mend_line (drop i ms) ≡ flat_map mend_line ms →
+    text ≡ flat_map mend_line ms
+all_lines ms i text all so_far =
+    sym (append-nil text) ∙ (ap (λ (l : List Mend). text ++ flat_map mend_line l) (sym (drop_all i ms all)) ∙ so_far)
+
+-- what is told of a file, by whether it is too long and what is read of it widely
+abbrev told_by : List ℕ → Bool → Result FontValue ReadFault → Result (List ℕ) Reason
+told_by file long r = if long then Err TooLong else if_there (λ mends. Ok (flat_map mend_line mends)) (with_reason font_reason (mends_in file r))
+
+-- a file of which nothing is told for a reason is not mended for it
+told_refused : (file : List ℕ) (r : Reason) → Err r ≡ mends_answer file → Err r ≡ mended_input file
+told_refused file r h = by (nat_lt file_limit (length file)) (read_font_widely file) h
+  where
+    by : (long : Bool) (o : Result FontValue ReadFault) → Err r ≡ told_by file long o → Err r ≡ mended_by long o
+    by true o e = cc
+    by false (Ok f) e = cc
+    by false (Err fault) e = cc
+
+-- so it stops the engine
+pub told_stops : (answer : FontValue → Result (List ℕ) Reason) (i : Input) (file : List ℕ) (r : Reason) → Has i file →
+    Refuses (λ a. a ≡ mends_answer file) r → Stops mended_input (Prints answer) (i ∷ []) (Refused r)
+told_stops answer i file r has = by_answer (λ a. a ≡ mends_answer file) (λ s. Stops mended_input (Prints answer) (i ∷ []) (Refused s)) r tt (λ s h.
+    stops_after mended_input (Prints answer) [] i [] (Refused s) tt
+    (input_stops mended_input i s (says_so mended_input i file (Err s) has (told_refused file s h))))
+
+-- of a mended file nothing is told
+nothing_told : (f : FontValue) (form : Form) → IsFont f → Fits form f → untested_font f ≡ f → mends_answer (canon f form) ≡ Ok []
+nothing_told f form h k same =
+    let file = canon f form in
+    let none : taken_test f.shell.head ≡ None = (tells_the_test f.shell.head).1 (ap (λ (g : FontValue). g.shell.head) same) in
+    ap (λ (long : Bool). told_by file long (read_font_widely file)) (le-ltb file_limit (length file) (canon_short f form h))
+    ∙ (ap (told_by file false) (widely_again f form h k)
+    ∙ (λ i. Ok (flat_map mend_line (mends_by_rules file (round_trip f form h k i) ++ mends_by_test (none i)))))
+
+pub tells_nothing : TellsNothing
+tells_nothing form file text s = by (mended_input file) refl s.1 s.2
+  where
+    by : (r : Result FontValue Reason) → mended_input file ≡ r → if_there (file_answer form) r ≡ Ok text → IfOk r (Fits form) → mends_answer text ≡ Ok []
+    by (Err reason) e h k = cc
+    by (Ok f) e h k =
+        let font = mended_font file f s.0 e in
+        let written : canon f form ≡ text = cc in
+        subst (λ (t : List ℕ). mends_answer t ≡ Ok []) written (nothing_told f form font.0 k font.1)

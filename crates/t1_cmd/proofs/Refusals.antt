@@ -3,7 +3,7 @@ use Rattle.std.proofs.Common.{◌≡◌, ℕ, List, subst, sym, Option, Some, No
 use Rattle.t1_cmd.specs.declared.faults.Reason.{Reason}
 use Rattle.t1_cmd.specs.declared.faults.Reason.TheVariants.{TooLong, Memory, List as ListReason, Join as JoinReason, Font, NoGlyph, Merge}
 use Rattle.t1_cmd.specs.declared.faults.RunFault.TheVariants.{Refused}
-use Rattle.t1_cmd.specs.Inputs.{Input, Say}
+use Rattle.t1_cmd.specs.Inputs.{Input, Has, Say}
 use Rattle.t1_cmd.specs.Answers.{Refuses}
 use Rattle.t1_cmd.specs.Runs.{InputStops, Stops}
 use Rattle.t1_cmd.proofs.RunLemmas.{stops_together}
@@ -28,10 +28,6 @@ by_answer P Q (JoinReason e) m f h = f (JoinReason e) h
 by_answer P Q (Font e) m f h = f (Font e) h
 by_answer P Q (NoGlyph n) m f h = f (NoGlyph n) h
 by_answer P Q (Merge e) m f h = f (Merge e) h
-
--- an input with the bytes of a file, where they are known
-abbrev pub Has : Input → List ℕ → Type 0
-Has i file = IfSome i.known (λ bytes. file ≡ bytes)
 
 module _ {A : Type 0} (understand : List ℕ → Result A Reason) where
   -- what a file says, its input says

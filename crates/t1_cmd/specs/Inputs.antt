@@ -15,6 +15,10 @@ pub record Input : Type 0 where
 abbrev pub input_of : {R : Type 0} → (R → Option (List ℕ)) → Counted R → Counted R → Input
 input_of remaining old new = record { known = remaining (inner_of old); before = failed_of old; after = failed_of new }
 
+-- the bytes of an input, where these are known
+abbrev pub Has : Input → List ℕ → Type 0
+Has i file = IfSome i.known (λ bytes. file ≡ bytes)
+
 -- a count rose, or stands at its last value
 abbrev pub Rose : ℕ → ℕ → Type 0
 Rose old new = next_count old ≤ new

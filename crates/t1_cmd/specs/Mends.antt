@@ -1,14 +1,31 @@
--- What mended files are mended to, and rejoin to.
-use Rattle.std.specs.Prelude.{◌≡◌, ℕ, List, [], ◌∷◌, Ok, IfOk}
+-- What mended files are mended to, and rejoin to, and what is told of mending.
+use Rattle.std.specs.Prelude.{◌≡◌, ℕ, List, [], ◌∷◌, ◌++◌, Result, Ok, IfOk}
+use Rattle.std.specs.List.{flat_map}
 use Rattle.t1_bytes.specs.declared.form.Form.{Form}
 use Rattle.t1_bytes.specs.Laws.{AreBytes}
 use Rattle.t1_font.specs.FontValue.{FontValue}
+use Rattle.t1_font.specs.declared.mend.Mend.{Mend}
+use Rattle.t1_font.specs.Mends.{mends_of, mend_text}
 use Rattle.t1_font.specs.FontTest.{untested_font}
 use Rattle.t1_font.specs.IsFont.{IsFont}
 use Rattle.t1_font.specs.Canon.{canon}
 use Rattle.t1_font.specs.WriteLaws.{Fits}
-use Rattle.t1_cmd.specs.Fonts.{font_input, mended_input, of_mended, file_answer}
+use Rattle.t1_cmd.specs.declared.faults.Reason.{Reason}
+use Rattle.t1_cmd.specs.Answers.{with_reason, within_limit, if_there}
+use Rattle.t1_cmd.specs.Fonts.{font_reason, font_input, mended_input, of_mended, file_answer}
 use Rattle.t1_cmd.specs.Files.{values_from}
+
+-- ---- what is told
+
+-- the line of a mend
+abbrev pub mend_line : Mend → List ℕ
+mend_line mend = mend_text mend ++ 10 ∷ []
+
+-- the lines of the mends of a file, or why it spells no font widely
+abbrev pub mends_answer : List ℕ → Result (List ℕ) Reason
+mends_answer = within_limit (λ file. if_there (λ mends. Ok (flat_map mend_line mends)) (with_reason font_reason (mends_of file)))
+
+-- ---- mended files
 
 -- the text is the mended file of a file of bytes, written in a form in which it can be read
 abbrev pub IsMendedFile : Form → List ℕ → List ℕ → Type 0
@@ -35,6 +52,10 @@ MendsNothing = (f : FontValue) (form : Form) → IsFont f → Fits form f → un
 -- a mended file spells the font that the file was mended to, so each other word takes it
 abbrev pub MendedIsSpelled : Type 0
 MendedIsSpelled = (form : Form) (file text : List ℕ) → IsMendedFile form file text → font_input text ≡ mended_input file
+
+-- of a mended file nothing is told
+abbrev pub TellsNothing : Type 0
+TellsNothing = (form : Form) (file text : List ℕ) → IsMendedFile form file text → mends_answer text ≡ Ok []
 
 -- mended files are rejoined as the same fonts as the files
 abbrev pub RejoinsMended : Type 0

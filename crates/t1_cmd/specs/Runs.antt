@@ -34,6 +34,11 @@ WriteRefusal line before after old new (Refused r) = ⊥
 WriteRefusal line before after old new Read = ⊥
 WriteRefusal line before after old new Write = AppendsPrefix before after line × RoseByOne old new
 
+-- how an engine ended that answers a value
+abbrev pub ended : {A : Type 0} → Result A RunFault → Result (Unit {0}) RunFault
+ended (Ok x) = Ok tt
+ended (Err e) = Err e
+
 module _ {A : Type 0} (understand : List ℕ → Result A Reason) where
   -- why reading and understanding one input ends without a value
   abbrev pub InputStops : Input → RunFault → Type 0

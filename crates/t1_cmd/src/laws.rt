@@ -1,6 +1,6 @@
 //! Laws of the engines, over the definitions alone.
 
-ghost use Rattle.t1_cmd.specs.Mends.{MendsAgain, MendsNothing, MendedIsSpelled, RejoinsMended};
+ghost use Rattle.t1_cmd.specs.Mends.{MendsAgain, MendsNothing, MendedIsSpelled, TellsNothing, RejoinsMended};
 ghost use Rattle.t1_cmd.specs.Rejoins.{RejoinsWhatMerges};
 
 /// Fonts without tags that merge to a file rejoin to the same file, and to nothing else: what [`run_merge`](crate::run_merge)
@@ -25,6 +25,12 @@ pub fn mends_nothing()
 /// PFA whose head begins with byte 128.
 pub fn mended_is_spelled()
     ensures { MendedIsSpelled }
+{}
+
+/// Of a file that [`mend_file`](crate::mend_file) wrote [`list_mends`](crate::list_mends) tells nothing, but for a PFA whose head
+/// begins with byte 128.
+pub fn tells_nothing()
+    ensures { TellsNothing }
 {}
 
 /// Files that are mended before they are rejoined, each in either form, are rejoined as the same fonts: all that

@@ -39,7 +39,7 @@ pub use faults::{FilesRefusal, Name, Reason, RunFault, status};
 pub use fonts::{check_file, convert_file, run_check, run_convert};
 pub use list::{list_file, run_list};
 pub use listings::{join_listings, run_join};
-pub use mends::{mend_file, run_mend};
+pub use mends::{list_mends, mend_file, run_mend};
 pub use mergers::{merge_files, run_merge};
 pub use reading::read_all;
 pub use rejoins::{rejoin_files, run_rejoin};

@@ -4,7 +4,7 @@ ghost use Rattle.t1_bytes.specs.Limits.{file_limit};
 ghost use Rattle.t1_font.specs.FontValue.{FontValue};
 ghost use Rattle.t1_cmd.specs.declared.faults.Reason.{Reason};
 ghost use Rattle.t1_cmd.specs.Count.{calls_of, inner_of};
-ghost use Rattle.t1_cmd.specs.Inputs.{input_of};
+ghost use Rattle.t1_cmd.specs.Inputs.{Input, Has, input_of};
 ghost use Rattle.t1_cmd.specs.Runs.{InputStops, InputEnds, RunEnds, Succeeds};
 ghost use Rattle.t1_cmd.specs.Answers.{Prints, Refuses};
 ghost use Rattle.t1_cmd.specs.Fonts.{font_reason, font_input, mended_input, input_by, of_input};
@@ -28,7 +28,7 @@ pub(crate) trait FontWord {
         ensures refused { IfErr result (Refuses (λ a. a ≡ answer self.now font.entry)) };
 }
 
-fn reason_of(fault: ReadFault) -> Reason
+pub(crate) fn reason_of(fault: ReadFault) -> Reason
     ensures { result ≡ font_reason fault }
 {
     match fault {
@@ -159,6 +159,25 @@ pub(crate) fn read_font<R: Read>(
     }
 }
 
+/// Writes the text that a word makes of the font that a file, the bytes of an input, is taken for.
+pub(crate) fn write_word<T: FontWord, W: Write>(
+    alloc: Global,
+    taking: Taking,
+    word: &T,
+    file: Vec<u8>,
+    writer: &mut Counted<W>,
+) -> Result<(), RunFault>
+    ensures { (i : Input) → Has i file.items
+        → RunEnds (input_by taking) (Prints (T.answer word.now)) W.contents
+        (i ∷ []) writer.old writer.new result }
+{
+    let text = match text_of_file(alloc, taking, word, file) {
+        Ok(text) => text,
+        Err(reason) => return Err(RunFault::Refused(reason)),
+    };
+    write_text(writer, text.as_slice())
+}
+
 /// Writes the text that a word makes of the font that a reader's bytes are taken for.
 pub(crate) fn run_word<T: FontWord, R: Read, W: Write>(
     alloc: Global,
@@ -174,9 +193,5 @@ pub(crate) fn run_word<T: FontWord, R: Read, W: Write>(
     ensures turns { calls_of reader.new ≤ calls_of reader.old + (file_limit + 1) }
 {
     let file = read_file(alloc, taking, reader)?;
-    let text = match text_of_file(alloc, taking, word, file) {
-        Ok(text) => text,
-        Err(reason) => return Err(RunFault::Refused(reason)),
-    };
-    write_text(writer, text.as_slice())
+    write_word(alloc, taking, word, file, writer)
 }

@@ -1,6 +1,6 @@
 -- Which rules a file needs that spells a font widely.
-use Rattle.std.proofs.Common.{◌≡◌, ℕ, List, [], ◌∷◌, ◌++◌, Result, Ok, Err, refl, sym, ap, subst, ◌∙◌, append_assoc}
-use Rattle.std.proofs.lemmas.List.{append-nil}
+use Rattle.std.proofs.Common.{◌≡◌, ℕ, ◌<◌, arith, Bool, true, false, cond, if◌then◌else◌, List, [], ◌∷◌, ◌++◌, length, Option, Some, None, Result, Ok, Err, refl, sym, ap, subst, ◌∙◌}
+use Rattle.std.proofs.lemmas.List.{append-nil, length-append, length-drop}
 use Rattle.t1_font.specs.declared.fault.ReadFault.{ReadFault}
 use Rattle.t1_font.specs.declared.dialect.Dialect.{Dialect}
 use Rattle.t1_font.specs.declared.dialect.Rule.{Rule}
@@ -10,9 +10,12 @@ use Rattle.t1_font.specs.Dialect.{strict, wide, without}
 use Rattle.t1_font.specs.FontValue.{FontValue}
 use Rattle.t1_font.specs.ReadFont.{font_file, read_font}
 use Rattle.t1_font.specs.Spelling.{Spells, SpellsWidely}
+use Rattle.t1_font.specs.FontTest.{found_test, around, is_untested, tested_head, untested, place_taken, taken_test}
 use Rattle.t1_font.specs.Mends.{place_of, mend_by, by_reading, needed, all_rules, mends_by_rules}
 use Rattle.t1_font.proofs.Spelled.{reads, reads_again, one_font}
 use Rattle.t1_font.proofs.Widely.{spells_widely}
+use Rattle.t1_font.proofs.MapLemmas.{Some_None}
+use Rattle.t1_font.proofs.Untested.{Around, around_found, begins_test}
 
 module _ (file : List ℕ) (d : Dialect) (r : Rule) where
   -- a rule that isn't needed has no mend
@@ -72,3 +75,34 @@ needs_no_rule file f s = (λ none. by_read (read_font file) refl none, λ spells
     by_read : (o : Result FontValue ReadFault) → read_font file ≡ o → mends_by_rules file o ≡ [] → Spells file f
     by_read (Ok g) e none = the_font g e
     by_read (Err e) h none = let g = strictly_read file none in the_font g.0 g.1
+
+-- what stands around a test is shorter than the head
+around_short : (head : List ℕ) (x : (List ℕ × List ℕ) × List ℕ) → Around head x → length (around x) < length head
+around_short head x a = omega (
+  arith,
+  ap length a.whole,
+  length-append x.0.0 (a.break ∷ (a.text ++ x.1)),
+  length-append a.text x.1,
+  ap length (begins_test a.text x.1 a.test).1,
+  length-drop 1 (x.0.0 ++ (x.0.1 ++ x.1)),
+  length-append x.0.0 (x.0.1 ++ x.1),
+  length-append x.0.1 x.1,
+  ap length a.one,
+)
+
+-- a head has no test to mend exactly if it is not changed
+pub tells_the_test : (head : List ℕ) → (taken_test head ≡ None → untested head ≡ head) × (untested head ≡ head → taken_test head ≡ None)
+tells_the_test head = by_found (found_test head) refl
+  where
+    taken : ((List ℕ × List ℕ) × List ℕ) → Bool → Option ℕ
+    taken x b = if b then Some (length x.0.0) else None
+
+    by_test : (x : (List ℕ × List ℕ) × List ℕ) → found_test head ≡ Some x → (b : Bool) →
+        (taken x b ≡ None → cond b (around x) head ≡ head) × (cond b (around x) head ≡ head → taken x b ≡ None)
+    by_test x e true = (λ none. Some_None none, λ same. absurd (omega (arith, ap length same, around_short head x (around_found head x e))))
+    by_test x e false = (λ none. refl, λ same. refl)
+
+    by_found : (o : Option ((List ℕ × List ℕ) × List ℕ)) → found_test head ≡ o →
+        (place_taken o ≡ None → tested_head head o ≡ head) × (tested_head head o ≡ head → place_taken o ≡ None)
+    by_found None e = (λ none. refl, λ same. refl)
+    by_found (Some x) e = by_test x e (is_untested (around x))

@@ -9,7 +9,7 @@ use Rattle.t1_font.specs.declared.dialect.Rule.TheVariants as rules
 use Rattle.t1_font.specs.declared.mend.Mend.{Mend}
 use Rattle.t1_font.specs.declared.mend.Mend.TheVariants.{CommentInEncoding, CodeCopied, ReadonlyEncoding, CommentInSubrs, TestTakenOut}
 use Rattle.t1_font.specs.Dialect.{wide, without}
-use Rattle.t1_font.specs.FontTest.{taken_test}
+use Rattle.t1_font.specs.FontTest.{taken_test, untested}
 use Rattle.t1_font.specs.FontValue.{FontValue}
 use Rattle.t1_font.specs.ReadFont.{font_file, read_font, read_font_widely}
 use Rattle.t1_font.specs.Spelling.{Spells, SpellsWidely}
@@ -85,3 +85,7 @@ mend_text (TestTakenOut at) = codes "test of FontDirectory taken out at " ++ dec
 -- a file that spells a font widely needs no rule exactly if it spells it anyhow
 abbrev pub NeedsNoRule : Type 0
 NeedsNoRule = (file : List ℕ) (f : FontValue) → SpellsWidely file f → (mends_by_rules file (read_font file) ≡ []) ↔ Spells file f
+
+-- a head has no test to mend exactly if it is not changed
+abbrev pub TellsTheTest : Type 0
+TellsTheTest = (head : List ℕ) → (taken_test head ≡ None) ↔ (untested head ≡ head)

@@ -276,11 +276,7 @@ fn whole_head(mut text: Vec<u8>) -> Result<Option<Vec<u8>>, AllocError>
 }
 
 /// What stands around a test, if that is a head without one.
-fn joined_head(
-    alloc: Global,
-    before: &[u8],
-    behind: &[u8],
-) -> Result<Option<Vec<u8>>, AllocError>
+fn joined_head(alloc: Global, before: &[u8], behind: &[u8]) -> Result<Option<Vec<u8>>, AllocError>
     ensures { IfOk result (λ o. option_map (λ v. v.items) o
         ≡ (if is_untested (before.now ++ behind.now) then Some (before.now ++ behind.now) else None)) }
 {

@@ -10,13 +10,14 @@ mod faults;
 mod growths;
 mod limits;
 mod long;
+mod mends;
 mod prefixes;
 mod rows;
 mod tables;
 mod untested;
 mod wide;
 
-use crate::{Form, ReadFault, Source, read, read_vec, read_wide, read_wide_vec, write};
+use crate::{Form, ReadFault, Source, mends, read, read_vec, read_wide, read_wide_vec, write};
 use std::alloc::{AllocError, Global};
 use t1_bytes::{EEXEC_KEY, EEXEC_LEAD, seal};
 
@@ -99,13 +100,14 @@ fn fault_handed_over(alloc: Global, file: &[u8], wide: bool) -> Option<ReadFault
     }
 }
 
-/// Why a file spells no font, or `None` if it spells one; all four calls say the same.
+/// Why a file spells no font, or `None` if it spells one; all five calls say the same.
 fn fault_of(alloc: Global, file: &[u8]) -> Option<ReadFault> {
     let lent = read(alloc, file).err();
     let wide = read_wide(alloc, file).err();
     let handed_over = fault_handed_over(alloc, file, false);
     let wide_handed_over = fault_handed_over(alloc, file, true);
-    if lent == wide && lent == handed_over && lent == wide_handed_over {
+    let told = mends(alloc, file).err();
+    if lent == wide && lent == handed_over && lent == wide_handed_over && lent == told {
         lent
     } else {
         Some(ReadFault::Memory)

@@ -145,7 +145,8 @@ the Encoding and among the Subrs, codes whose names are copied from others, and
 `readonly` behind a word that is the whole Encoding. If the font begins with a
 test whether FontDirectory has it, the test is taken out: with it, what is
 written leaves an operand on PostScript's stack. Each glyph draws as in IN. OUT
-is opened only when the result is complete.
+is opened only when the result is complete. What was mended is told on standard
+error, a line each with its place, as `comment in Encoding at 195`.
 
 Example: t1subset mend font.pfb font.pfa";
 

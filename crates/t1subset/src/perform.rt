@@ -122,11 +122,13 @@ fn convert<'p, R: Files>(
     end(out, done, note)
 }
 
+/// Mends a font, and adds lines that tell what is mended to those that are said behind the result.
 fn mend<'p, R: Files>(
     rt: &R,
     alloc: Global,
     given: &'p ArgMatches<'_>,
     note: &mut Note<'p>,
+    told: &mut Vec<u8>,
 ) -> Result<(), RunFault> {
     let form = if given.get_flag("pfb") {
         Form::Pfb
@@ -135,8 +137,14 @@ fn mend<'p, R: Files>(
     };
     let mut input = font(rt, given)?;
     let mut out = out(rt, alloc, given);
-    let done = run_mend(alloc, &mut input, form, &mut out);
-    end(out, done, note)
+    match run_mend(alloc, &mut input, form, &mut out) {
+        Ok(lines) => {
+            end(out, Ok(()), note)?;
+            *told = lines;
+            Ok(())
+        }
+        Err(fault) => end(out, Err(fault), note),
+    }
 }
 
 /// The names that the words give, as bytes.
@@ -207,6 +215,7 @@ fn perform<'p, R: Files, O: Write + Drop>(
     matches: &'p ArgMatches<'_>,
     out: O,
     note: &mut Note<'p>,
+    told: &mut Vec<u8>,
 ) -> Result<(), RunFault> {
     let Some((word, given)) = matches.subcommand() else {
         return Ok(());
@@ -215,7 +224,7 @@ fn perform<'p, R: Files, O: Write + Drop>(
         "subset" => subset(rt, alloc, given, note),
         "merge" => merge(rt, alloc, given, note),
         "rejoin" => rejoin(rt, alloc, given, note),
-        "mend" => mend(rt, alloc, given, note),
+        "mend" => mend(rt, alloc, given, note, told),
         "check" => check(rt, alloc, given, out),
         "list" => list(rt, alloc, given, out),
         "show" => show(rt, alloc, given, out),
@@ -255,8 +264,12 @@ pub fn run<R: Files, O: Write + Drop, E: Write + Drop>(
     };
     let mut err = Counted::new(err);
     let mut note = Note::Nothing;
-    let ended = match perform(rt, alloc, &matches, out, &mut note) {
-        Ok(()) => 0,
+    let mut told = Vec::new(alloc);
+    let ended = match perform(rt, alloc, &matches, out, &mut note, &mut told) {
+        Ok(()) => {
+            let _ = err.write_all(told.as_slice());
+            0
+        }
         Err(fault) => {
             let _ = write_fault(alloc, &fault, &mut err);
             status(&fault)

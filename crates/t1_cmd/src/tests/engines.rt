@@ -2,8 +2,8 @@
 use super::changed::tiny_encoded;
 use super::{FINE, Feed, Plan, Sink, line_of, word};
 use crate::{
-    Counted, Reason, RunFault, check_file, convert_file, list_file, mend_file, run_check,
-    run_convert, run_list, run_mend, run_show, run_subset, show_file, subset_file,
+    Counted, Reason, RunFault, check_file, convert_file, list_file, list_mends, mend_file,
+    run_check, run_convert, run_list, run_mend, run_show, run_subset, show_file, subset_file,
 };
 use std::alloc::Global;
 use std::io::{ErrorKind, Read, Write};
@@ -34,7 +34,13 @@ pub fn run<R: Read, W: Write>(
         Engine::List => run_list(alloc, reader, writer),
         Engine::Show(name) => run_show(alloc, reader, name, writer),
         Engine::Convert(form) => run_convert(alloc, reader, form, writer),
-        Engine::Mend(form) => run_mend(alloc, reader, form, writer),
+        Engine::Mend(form) => match run_mend(alloc, reader, form, writer) {
+            Ok(lines) => {
+                drop(lines);
+                Ok(())
+            }
+            Err(fault) => Err(fault),
+        },
         Engine::Subset(names, form) => run_subset(alloc, reader, names, form, writer),
     }
 }
@@ -67,11 +73,25 @@ fn made_or_line(alloc: Global, engine: Engine<'_>, file: &[u8]) -> Vec<u8> {
     }
 }
 
+/// Whether what is mended of a file is told where this is what the file is mended to, or is refused where this is that line.
+fn is_told(alloc: Global, file: &[u8], mended: &[u8]) -> bool {
+    match list_mends(alloc, file) {
+        Ok(lines) => {
+            drop(lines);
+            !mended.starts_with(b"refused: ")
+        }
+        Err(reason) => line_of_reason(alloc, reason).as_slice() == mended,
+    }
+}
+
 /// What an engine writes of a file, and the call below it makes of it, or the line of the refusal of both; nothing if they
 /// differ.
 pub fn answer(alloc: Global, engine: Engine<'_>, file: &[u8]) -> Vec<u8> {
     let text = written(alloc, engine, file);
     if made_or_line(alloc, engine, file).as_slice() != text.as_slice() {
+        return Vec::new(alloc);
+    }
+    if matches!(engine, Engine::Mend(_)) && !is_told(alloc, file, text.as_slice()) {
         return Vec::new(alloc);
     }
     text

@@ -5,8 +5,8 @@ use super::engines::{Engine, made, run};
 use super::lists::{List, made_of};
 use super::{LEFT, RIGHT};
 use crate::{
-    Counted, FilesRefusal, Reason, RunFault, join_listings, read_all, run_join, run_merge,
-    run_rejoin, write_fault,
+    Counted, FilesRefusal, Reason, RunFault, join_listings, list_mends, read_all, run_join,
+    run_merge, run_rejoin, write_fault,
 };
 use std::alloc::{AllocError, Global};
 use std::test::Fail;
@@ -192,6 +192,18 @@ close
 
 const LISTED: &[u8] = b"S 5 ef060b\nG X 8b0e\nG Y 0e\n";
 
+/// Whether it is told that nothing is mended of Tiny.
+fn tells_nothing(alloc: Global) -> Result<bool, AllocError> {
+    match list_mends(alloc, PFB) {
+        Ok(lines) => Ok(lines.is_empty()),
+        Err(Reason::Memory) => Err(AllocError),
+        Err(reason) => {
+            drop(reason);
+            Ok(false)
+        }
+    }
+}
+
 /// The engines over Tiny's PFA, and what they write.
 const ENGINES: &[(Engine<'static>, &[u8])] = &[
     (Engine::Check, CHECKED),
@@ -217,7 +229,7 @@ fn write_right(alloc: Global) -> Result<bool, AllocError> {
         && makes_of_both(alloc, List::Rejoin(Form::Pfa))?;
     let fonts = engines_write(alloc)? && subsets(alloc)? && merges(alloc)? && rejoins(alloc)?;
     let texts = joins(alloc, LEFT, RIGHT, LISTED)? && joins_texts(alloc, LEFT, RIGHT, LISTED)?;
-    Ok(lists && fonts && texts && reads(alloc)? && tells(alloc)?)
+    Ok(lists && fonts && texts && reads(alloc)? && tells(alloc)? && tells_nothing(alloc)?)
 }
 
 #[test]

@@ -73,7 +73,7 @@ fn lacks_the_next(alloc: Global, file: &[u8]) -> bool {
 // meets run_check Ok at 65535 glyphs
 // meets run_show NoGlyph at 65535 glyphs
 // meets run_subset NoGlyph at 65535 glyphs
-// like run_check: run_list, run_convert, run_mend, run_merge, run_rejoin, check_file, list_file, convert_file, mend_file, merge_files, rejoin_files
+// like run_check: run_list, run_convert, run_mend, run_merge, run_rejoin, check_file, list_file, convert_file, mend_file, list_mends, merge_files, rejoin_files
 // like run_show: show_file
 // like run_subset: subset_file
 #[test]

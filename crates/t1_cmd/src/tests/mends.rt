@@ -2,6 +2,7 @@
 use super::changed::{tiny_encoded, with_all};
 use super::engines::{Engine, answer, answers};
 use super::lists::{List, listed};
+use crate::{Counted, list_mends, run_mend};
 use std::alloc::{AllocError, Global};
 use std::test::Fail;
 use t1_font::Form;
@@ -45,8 +46,56 @@ fn is_mended(alloc: Global, file: &[u8]) -> bool {
         && answers(alloc, Engine::Mend(Form::Pfb), file, PFB)
 }
 
+/// What is told of a file's mending, by the engine and by the call alike; nothing if they differ.
+fn told(alloc: Global, file: &[u8]) -> Option<Vec<u8>> {
+    let mut out = Vec::new(alloc);
+    let mut reader = Counted::new(file);
+    let Ok(ran) = run_mend(alloc, &mut reader, Form::Pfa, &mut Counted::new(&mut out)) else {
+        return None;
+    };
+    match list_mends(alloc, file) {
+        Ok(lines) if lines.as_slice() == ran.as_slice() => Some(lines),
+        _ => None,
+    }
+}
+
+/// Whether these lines are told of a file's mending.
+fn tells(alloc: Global, file: &[u8], want: &[u8]) -> bool {
+    match told(alloc, file) {
+        Some(lines) => lines.as_slice() == want,
+        None => false,
+    }
+}
+
+#[test]
+fn mending_is_told(rt: HostRuntime) -> Result<(), Fail> {
+    let commented = commented(rt.alloc())?;
+    let copied = copied(rt.alloc())?;
+    let tested = with_all(rt.alloc(), commented.as_slice(), BEGINS, TESTED)?;
+    const BOTH: &[u8] = b"comment in Encoding at 387\ntest of FontDirectory taken out at 0\n";
+    assert!(rt; tells(rt.alloc(), PFA, b""), "Tiny");
+    assert!(rt; tells(rt.alloc(), PFB, b""), "the PFB");
+    assert!(rt;
+        tells(
+            rt.alloc(),
+            commented.as_slice(),
+            b"comment in Encoding at 223\n"
+        ),
+        "a comment"
+    );
+    assert!(rt;
+        tells(rt.alloc(), copied.as_slice(), b"code copied at 209\n"),
+        "a copy"
+    );
+    assert!(rt;
+        tells(rt.alloc(), tested.as_slice(), BOTH),
+        "a comment, and the test"
+    );
+    Ok(())
+}
+
 // meets run_mend Ok at 11 glyphs
-// like run_mend: mend_file
+// like run_mend: mend_file, list_mends
 #[test]
 fn tiny_is_mended(rt: HostRuntime) -> Result<(), Fail> {
     let files = [commented(rt.alloc())?, copied(rt.alloc())?];

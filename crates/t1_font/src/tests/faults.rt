@@ -20,7 +20,7 @@ fn segment(
 }
 
 // meets read BadSegment at 2, 100000, 1000000 bytes
-// like read: read_vec, read_wide, read_wide_vec
+// like read: read_vec, read_wide, read_wide_vec, mends
 #[test]
 fn faults_of_segments(rt: HostRuntime) -> Result<(), Fail> {
     const ROWS: &[(u32, usize, &[u8], usize, &str)] = &[
@@ -76,7 +76,7 @@ fn moved(fault: ReadFault, blanks: usize) -> ReadFault {
 // meets read ShortCipher at 0, 100000 bytes
 // meets read NoEncoding at 0, 100000 bytes
 // meets read BadEncoding at 0, 100000 bytes
-// like read: read_vec, read_wide, read_wide_vec
+// like read: read_vec, read_wide, read_wide_vec, mends
 #[test]
 fn faults_of_clear_texts(rt: HostRuntime) -> Result<(), Fail> {
     const ROWS: &[(&[u8], ReadFault, &str)] = &[
@@ -133,7 +133,7 @@ fn faults_of_clear_texts(rt: HostRuntime) -> Result<(), Fail> {
 // meets read NoClosefile at 0, 100000 bytes
 // meets read NoNotdef at 0, 100000 bytes
 // meets read Limit at 0, 100000 bytes
-// like read: read_vec, read_wide, read_wide_vec
+// like read: read_vec, read_wide, read_wide_vec, mends
 #[test]
 fn faults_of_private_texts(rt: HostRuntime) -> Result<(), Fail> {
     const ROWS: &[(&[u8], ReadFault, &str)] = &[

@@ -7,7 +7,7 @@ use super::tables::tiny_is_right;
 use super::untested::{TESTED, UNTESTED};
 use super::wide::with_copies;
 use super::{lent_file, rewritten, untested};
-use crate::{Form, PartsFault, ReadFault, read_vec, read_wide, read_wide_vec};
+use crate::{Form, PartsFault, ReadFault, mends, read_vec, read_wide, read_wide_vec};
 use std::alloc::Global;
 use std::test::Fail;
 use t1_tiny::{PFA, PFB};
@@ -21,14 +21,16 @@ fn is_written_again(alloc: Global, file: &[u8]) -> Result<bool, ReadFault> {
     Ok(pfa.as_slice() == PFA.as_slice() && pfb.as_slice() == PFB.as_slice())
 }
 
-/// Whether Tiny with codes that are copied is read widely as Tiny, lent and handed over.
+/// Whether Tiny with codes that are copied is read widely as Tiny, lent and handed over, and is mended in two places.
 fn is_read_widely(alloc: Global) -> Result<bool, ReadFault> {
     let file = with_copies(alloc)?;
+    let told = mends(alloc, file.as_slice())?;
     let lent = read_wide(alloc, file.as_slice())?;
     let pfa = lent_file(alloc, &lent, Form::Pfa)?;
     let handed_over = read_wide_vec(alloc, file)?;
     let other = lent_file(alloc, &handed_over, Form::Pfa)?;
-    Ok(pfa.as_slice() == PFA.as_slice() && other.as_slice() == PFA.as_slice())
+    let right = pfa.as_slice() == PFA.as_slice() && other.as_slice() == PFA.as_slice();
+    Ok(right && told.len() == 2)
 }
 
 /// Whether two cuts of Tiny join to the cut to the names of both.

@@ -3,7 +3,7 @@
 use super::cuts::{add_lines, cut_font, headed, joined, part};
 use super::{CLEAR, GLYPHS, fault, fault_of, file, joined as one_after, lent_file, rewritten};
 use crate::{
-    Font, Form, Named, PartsFault, ReadFault, Source, join_glyphs, join_same_glyphs, read,
+    Font, Form, Named, PartsFault, ReadFault, Source, join_glyphs, join_same_glyphs, mends, read,
     read_vec, read_wide, read_wide_vec,
 };
 use std::alloc::{AllocError, Global};
@@ -58,13 +58,22 @@ fn reads_widely_as(alloc: Global, file: &[u8], want: Result<Counts, ReadFault>) 
     }
 }
 
+/// Whether nothing is mended of a file that is read, or it is refused for this fault.
+fn mends_nothing(alloc: Global, file: &[u8], want: Result<Counts, ReadFault>) -> bool {
+    match mends(alloc, file) {
+        Ok(mends) => mends.is_empty() && want.is_ok(),
+        Err(fault) => want == Err(fault),
+    }
+}
+
 /// Whether each reader answers a font of these counts, or this fault.
 fn reads_as(alloc: Global, file: Vec<u8>, want: Result<Counts, ReadFault>) -> bool {
     let lent = counts_of(alloc, read(alloc, file.as_slice()));
     let wide = counts_of(alloc, read_wide(alloc, file.as_slice()));
     let wide_handed_over = reads_widely_as(alloc, file.as_slice(), want);
+    let told = mends_nothing(alloc, file.as_slice(), want);
     let handed_over = counts_of(alloc, read_vec(alloc, file));
-    lent == want && wide == want && handed_over == want && wide_handed_over
+    lent == want && wide == want && handed_over == want && wide_handed_over && told
 }
 
 /// The counts of a font of so many Subrs and glyphs of one byte each. The kept texts have 3, 18, 13, 1 and 27 bytes.
@@ -94,7 +103,7 @@ fn are_read(
 
 // meets read Ok at 1, 4096, 4097 glyphs
 // meets read Ok at 0, 4096, 4097 subrs
-// like read: read_vec, read_wide, read_wide_vec
+// like read: read_vec, read_wide, read_wide_vec, mends
 // meets Source::font Ok at 1, 4096, 4097 glyphs
 #[test]
 fn counts_about_the_first_look(rt: HostRuntime) -> Result<(), Fail> {
@@ -117,7 +126,7 @@ fn counts_about_the_first_look(rt: HostRuntime) -> Result<(), Fail> {
 
 // meets read Ok at 65535 glyphs
 // meets read Ok at 65535 subrs
-// like read: read_vec, read_wide, read_wide_vec
+// like read: read_vec, read_wide, read_wide_vec, mends
 // meets Source::font Ok at 65535 glyphs
 #[test]
 fn counts_at_the_limit(rt: HostRuntime) -> Result<(), Fail> {
@@ -131,7 +140,7 @@ fn counts_at_the_limit(rt: HostRuntime) -> Result<(), Fail> {
 
 // meets read Limit at 65536 glyphs
 // meets read Limit at 65536 subrs
-// like read: read_vec, read_wide, read_wide_vec
+// like read: read_vec, read_wide, read_wide_vec, mends
 #[test]
 fn counts_over_the_limit(rt: HostRuntime) -> Result<(), Fail> {
     const ROWS: &[(u32, u32)] = &[(0, 65_536), (65_536, 1)];
@@ -159,7 +168,7 @@ fn repeated(
 }
 
 // meets read Ok at 1, 4096, 4097, 100000 entries
-// like read: read_vec, read_wide, read_wide_vec
+// like read: read_vec, read_wide, read_wide_vec, mends
 #[test]
 fn entries_that_come_again(rt: HostRuntime) -> Result<(), Fail> {
     const ROWS: &[usize] = &[1, 4_096, 4_097, 100_000];

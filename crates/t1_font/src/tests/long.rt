@@ -28,7 +28,7 @@ fn glyph(alloc: Global, name: usize, length: usize) -> Result<Vec<u8>, AllocErro
 
 // meets read Ok at 1, 127, 65535 bytes
 // meets read BadGlyphs at 0, 128, 65536 bytes
-// like read: read_vec, read_wide, read_wide_vec
+// like read: read_vec, read_wide, read_wide_vec, mends
 // meets write Ok at 1, 127, 65535 bytes
 #[test]
 fn long_names_and_charstrings(rt: HostRuntime) -> Result<(), Fail> {
@@ -56,7 +56,7 @@ fn long_names_and_charstrings(rt: HostRuntime) -> Result<(), Fail> {
 
 // meets read Ok at 127 bytes
 // meets read BadEncoding at 128 bytes
-// like read: read_vec, read_wide, read_wide_vec
+// like read: read_vec, read_wide, read_wide_vec, mends
 #[test]
 fn long_names_of_codes(rt: HostRuntime) -> Result<(), Fail> {
     let private = joined(rt.alloc(), b"/lenIV 0 def ", GLYPHS)?;
@@ -77,7 +77,7 @@ fn long_names_of_codes(rt: HostRuntime) -> Result<(), Fail> {
 
 // meets read Ok at 67108549 bytes
 // meets read Limit at 67108550 bytes
-// like read: read_vec, read_wide, read_wide_vec
+// like read: read_vec, read_wide, read_wide_vec, mends
 #[test]
 fn weights_at_the_limit(rt: HostRuntime) -> Result<(), Fail> {
     // The clear tail has 18 bytes and the private texts 13 and 27; `.notdef` weighs 257.
@@ -102,7 +102,7 @@ fn weights_at_the_limit(rt: HostRuntime) -> Result<(), Fail> {
 // meets read NoEexec at 268435456 bytes
 // meets read BadSegment at 268435456 bytes
 // meets read TooLong at 268435457 bytes
-// like read: read_vec, read_wide, read_wide_vec
+// like read: read_vec, read_wide, read_wide_vec, mends
 #[test]
 fn nothing_at_the_limit(rt: HostRuntime) -> Result<(), Fail> {
     let mut nothing = Vec::new(rt.alloc());

@@ -1,0 +1,56 @@
+use Rattle.std.proofs.Common.{◌≡◌, [], ◌∷◌, ◌∙◌, ap, sym, subst, Ok, Err, List, ℕ}
+use Rattle.t1_bytes.specs.declared.form.Form.{Form}
+use Rattle.t1_cmd.specs.declared.faults.RunFault.TheVariants.{Refused}
+use Rattle.t1_cmd.specs.Inputs.{input_of}
+use Rattle.t1_cmd.specs.Answers.{Prints, Refuses}
+use Rattle.t1_cmd.specs.Runs.{RunEnds}
+use Rattle.t1_cmd.specs.Fonts.{mended_input, file_answer}
+use Rattle.t1_cmd.specs.Mends.{mends_answer}
+use Rattle.t1_cmd.proofs.FontLemmas.{ends_well}
+use Rattle.t1_cmd.proofs.MendLemmas.{told_stops}
+use Rattle.t1_cmd.proofs.Refusals.{says_so}
+use Rattle.t1_cmd.proofs.RunLemmas.{stopped}
+use Rattle.t1_cmd.proofs.mends.run_mend.Goals as goal
+
+pub returns-in-Err-clause-ends : goal.returns-in-Err-clause-ends
+returns-in-Err-clause-ends g c =
+    let i = input_of g.R.Read.remaining c.args.reader.now c.read_file.new.reader in
+    stopped mended_input (Prints (file_answer c.args.form)) g.W.Write.contents (i ∷ []) c.args.writer.now (Refused c.in-Err.reason)
+    (told_stops (file_answer c.args.form) i c.in_ok-file.file.items c.in-Err.reason c.in_ok-file.ensures.file
+    (subst (λ (t : List ℕ). Refuses (λ a. a ≡ mends_answer t) c.in-Err.reason) c.as_slice.ensures.value c.in-Err.ensures.refused))
+
+pub returns-in-Err-clause-succeeds : goal.returns-in-Err-clause-succeeds
+returns-in-Err-clause-succeeds g c =
+    ends_well mended_input (file_answer c.args.form) g.W.Write.contents (input_of g.R.Read.remaining c.args.reader.now c.read_file.new.reader)
+    c.args.writer.now c.args.writer.now (Err (Refused c.in-Err.reason)) (returns-in-Err-clause-ends g c)
+
+pub returns-in-Ok-write_word-clause-ends : goal.returns-in-Ok-write_word-clause-ends
+returns-in-Ok-write_word-clause-ends g c =
+    let i = input_of g.R.Read.remaining c.args.reader.now c.read_file.new.reader in
+    let ends = c.write_word.ensures i c.in_ok-file.ensures.file in
+    subst (RunEnds mended_input (Prints (file_answer c.args.form)) g.W.Write.contents (i ∷ []) c.args.writer.now c.write_word.new.writer)
+    c.in-Ok-write_word.is (subst (λ (f : Form). RunEnds mended_input (Prints (file_answer f)) g.W.Write.contents (i ∷ [])
+    c.args.writer.now c.write_word.new.writer c.write_word.result) c.to.ensures ends)
+
+pub returns-in-Ok-write_word-clause-succeeds : goal.returns-in-Ok-write_word-clause-succeeds
+returns-in-Ok-write_word-clause-succeeds g c =
+    ends_well mended_input (file_answer c.args.form) g.W.Write.contents (input_of g.R.Read.remaining c.args.reader.now c.read_file.new.reader)
+    c.args.writer.now c.write_word.new.writer (Ok tt) (returns-in-Ok-write_word-clause-ends g c)
+
+pub returns-in-Ok-write_word-clause-told : goal.returns-in-Ok-write_word-clause-told
+returns-in-Ok-write_word-clause-told g c =
+    says_so mends_answer (input_of g.R.Read.remaining c.args.reader.now c.read_file.new.reader) c.in_ok-file.file.items (Ok c.in-Ok.lines.items)
+    c.in_ok-file.ensures.file (sym c.in-Ok.ensures.text ∙ ap mends_answer c.as_slice.ensures.value)
+
+pub returns-in-Err-write_word-clause-ends : goal.returns-in-Err-write_word-clause-ends
+returns-in-Err-write_word-clause-ends g c =
+    let i = input_of g.R.Read.remaining c.args.reader.now c.read_file.new.reader in
+    let ends = c.write_word.ensures i c.in_ok-file.ensures.file in
+    subst (RunEnds mended_input (Prints (file_answer c.args.form)) g.W.Write.contents (i ∷ []) c.args.writer.now c.write_word.new.writer)
+    c.in-Err-write_word.is (subst (λ (f : Form). RunEnds mended_input (Prints (file_answer f)) g.W.Write.contents (i ∷ [])
+    c.args.writer.now c.write_word.new.writer c.write_word.result) c.to.ensures ends)
+
+pub returns-in-Err-write_word-clause-succeeds : goal.returns-in-Err-write_word-clause-succeeds
+returns-in-Err-write_word-clause-succeeds g c =
+    ends_well mended_input (file_answer c.args.form) g.W.Write.contents (input_of g.R.Read.remaining c.args.reader.now c.read_file.new.reader)
+    c.args.writer.now c.write_word.new.writer (Err c.in-Err-write_word.fault) (returns-in-Err-write_word-clause-ends g c)
