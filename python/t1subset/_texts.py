@@ -82,8 +82,8 @@ class Undrawn:
 class Mend(NamedTuple):
     """A thing that `mend` mends of a font. `str` gives the line that the program t1subset prints of it.
 
-    what: "comment in Encoding", "code copied", "readonly Encoding", "comment in Subrs" or "test of FontDirectory taken
-        out".
+    what: "comment in Encoding", "code copied", "readonly Encoding", "comment in Subrs", or
+        "test of FontDirectory taken out".
     at: an offset from 0, for Subrs in the decrypted private text, else in the clear text.
     """
 

@@ -15,7 +15,7 @@ from .test_laws import some_names
 
 
 def every_font() -> List[Tuple[str, bytes]]:
-    """Tiny, also as another program spells it, and some of the installed fonts, whether the library reads them or not."""
+    """Tiny, also as another program spells it, and some of the installed fonts, whether they are read or not."""
     return [("tiny.pfa", fonts.PFA), ("tiny.pfb", fonts.PFB), ("spelled", fonts.spelled()), *fonts.installed()]
 
 

@@ -74,7 +74,7 @@ class Texts(unittest.TestCase):
             (changed(b"dup 65 /X put", copied), Mend("code copied", 209)),
             (changed(table, b"StandardEncoding "), Mend("readonly Encoding", 135)),
             (changed(b"dup 0 ", b"% a comment\ndup 0 "), Mend("comment in Subrs", 269)),
-            (changed(b"/FontName", fonts.TEST + b"/FontName"), Mend("test of FontDirectory taken out", 44)),
+            (changed(b"/FontName /Tiny", fonts.TEST + b"/FontName /Tiny"), Mend("test of FontDirectory taken out", 44)),
         ]
         for font, mend in rows:
             with self.subTest(mend=mend):

@@ -39,6 +39,7 @@ extern "C" {
     fn t1subset_show(font: *const u8, size: usize, name: *const u8, name_size: usize, answer: *mut Answer) -> u32;
     fn t1subset_convert(font: *const u8, size: usize, form: u32, answer: *mut Answer) -> u32;
     fn t1subset_mend(font: *const u8, size: usize, form: u32, answer: *mut Answer) -> u32;
+    fn t1subset_mends(font: *const u8, size: usize, answer: *mut Answer) -> u32;
     fn t1subset_subset(
         font: *const u8,
         size: usize,
@@ -137,6 +138,11 @@ pub(crate) fn convert(font: &[u8], form: Form) -> Result<Vec<u8>, Refused> {
 pub(crate) fn mend(font: &[u8], form: Form) -> Result<Vec<u8>, Refused> {
     // SAFETY: as in `check`.
     call(|answer| unsafe { t1subset_mend(font.as_ptr(), font.len(), number_of(form), answer) })
+}
+
+pub(crate) fn mends(font: &[u8]) -> Result<Vec<u8>, Refused> {
+    // SAFETY: as in `check`.
+    call(|answer| unsafe { t1subset_mends(font.as_ptr(), font.len(), answer) })
 }
 
 pub(crate) fn subset(font: &[u8], names: &[&[u8]], form: Form) -> Result<Vec<u8>, Refused> {

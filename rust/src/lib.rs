@@ -23,7 +23,8 @@
 //!
 //! # Panics
 //!
-//! [`check`], [`list`] and [`show`] read the library's texts, and panic at a text that libt1subset.so.0 doesn't write.
+//! [`check`], [`list`], [`show`] and [`mends`] read the library's texts, and panic at a text that libt1subset.so.0 doesn't
+//! write.
 
 #![warn(missing_docs)]
 #![deny(unsafe_code)]
@@ -32,11 +33,13 @@
 mod drawing;
 mod ffi;
 mod listed;
+mod mended;
 mod name;
 mod refusal;
 
 pub use drawing::{Amount, Drawing, DrawnPart, Mark, Picture, Point};
 pub use listed::{Checked, Encoding, Listed};
+pub use mended::Mend;
 pub use name::Name;
 pub use refusal::{Number, Part, Refused};
 
@@ -134,6 +137,24 @@ pub fn convert(font: &[u8], form: Form) -> Result<Vec<u8>, Refused> {
 /// ```
 pub fn mend(font: &[u8], form: Form) -> Result<Vec<u8>, Refused> {
     ffi::mend(font, form)
+}
+
+/// What [`mend`] mends of a font, and where; of a font with nothing to mend it is empty.
+///
+/// ```
+/// # fn main() -> Result<(), Box<dyn std::error::Error>> {
+/// let font = std::fs::read_to_string("../examples/tiny.pfa")?;
+/// assert!(t1subset::mends(font.as_bytes())?.is_empty());
+///
+/// let spelled = font.replace("dup 65 ", "% a comment\ndup 65 ");
+/// for mend in t1subset::mends(spelled.as_bytes())? {
+///     assert_eq!((mend.what.as_str(), mend.at), ("comment in Encoding", 195));
+/// }
+/// # Ok(())
+/// # }
+/// ```
+pub fn mends(font: &[u8]) -> Result<Vec<Mend>, Refused> {
+    ffi::mends(font).map(|text| read(&text, Mend::read))
 }
 
 /// The canonical file of the subset that keeps these glyphs, .notdef, the components of accented glyphs, and the Subrs

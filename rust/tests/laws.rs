@@ -4,7 +4,7 @@ mod common;
 
 use common::{each_font, example, made, some_names, EMPTY, STUB};
 use std::thread;
-use t1subset::{check, convert, join, list, mend, merge, rejoin, show, subset, Form};
+use t1subset::{check, convert, join, list, mend, mends, merge, rejoin, show, subset, Form};
 
 #[test]
 fn subsets_merge_in_any_order_to_the_subset_of_all() {
@@ -51,7 +51,9 @@ fn a_mended_font_is_mended() {
         for mended in [&pfa, &pfb] {
             assert!(mend(mended, Form::Pfa).unwrap() == pfa && mend(mended, Form::Pfb).unwrap() == pfb, "{path}");
             assert!(convert(mended, Form::Pfa).unwrap() == pfa, "{path}");
+            assert_eq!(mends(mended).unwrap(), [], "{path}");
         }
+        assert_eq!(mends(&font).unwrap().is_empty(), pfa == convert(&font, Form::Pfa).unwrap(), "{path}");
     }
 }
 

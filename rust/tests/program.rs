@@ -2,7 +2,7 @@
 
 mod common;
 
-use common::{every_font, example, left_out, some_names, top};
+use common::{every_font, example, left_out, some_names, top, Tiny};
 use std::env;
 use std::fmt::Write;
 use std::fs;
@@ -97,7 +97,8 @@ impl Run {
         Some(Run { program, folder })
     }
 
-    /// The call's result is what the program prints, or writes to OUT, or refuses. IN0, IN1 and so on name the inputs.
+    /// The call's result is what the program prints, or writes to OUT, or refuses; what it mends the program says, too.
+    /// IN0, IN1 and so on name the inputs.
     #[track_caller]
     fn same(&self, words: &[&str], inputs: &[&[u8]], answer: Result<Vec<u8>, Refused>) {
         for (place, bytes) in inputs.iter().enumerate() {
@@ -106,13 +107,15 @@ impl Run {
         let Output { status, stdout, stderr } =
             Command::new(&self.program).args(words).current_dir(&self.folder).output().unwrap();
         let out = self.folder.join("OUT");
+        let said = String::from_utf8(stderr).unwrap();
         match answer {
             Ok(bytes) => {
-                let said = if words.contains(&"OUT") { fs::read(&out).unwrap() } else { stdout };
-                assert_eq!((status.code(), said == bytes), (Some(0), true), "{words:?}");
+                let written = if words.contains(&"OUT") { fs::read(&out).unwrap() } else { stdout };
+                assert_eq!((status.code(), written == bytes), (Some(0), true), "{words:?}");
+                let mends = if words[0] == "mend" { t1subset::mends(inputs[0]).unwrap() } else { Vec::new() };
+                assert_eq!(said, mends.iter().map(|mend| format!("{mend}\n")).collect::<String>(), "{words:?}");
             }
             Err(why) => {
-                let said = String::from_utf8(stderr).unwrap();
                 assert_eq!((status.code(), said), (Some(1), format!("refused: {why}\n")), "{words:?}");
             }
         }
@@ -126,7 +129,8 @@ fn words_about_one_font() {
         Some(run) => run,
         None => return,
     };
-    for (_, font) in every_font() {
+    let spelled = ("spelled".to_string(), Tiny::spelled().file());
+    for (_, font) in every_font().into_iter().chain([spelled]) {
         let names: Vec<String> = some_names(&font).iter().map(|name| name.to_string()).collect();
         let font = font.as_slice();
         run.same(&["check", "IN0"], &[font], t1subset::check(font).map(|it| check_text(&it).into()));

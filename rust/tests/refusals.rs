@@ -5,7 +5,7 @@ mod common;
 
 use common::{example, made, Tiny, EMPTY};
 use std::fmt::Debug;
-use t1subset::{check, convert, join, list, merge, rejoin, show, subset, Form, Number, Part, Refused};
+use t1subset::{check, convert, join, list, mend, mends, merge, rejoin, show, subset, Form, Number, Part, Refused};
 
 /// One byte more than a file may have.
 const LONG: usize = 268_435_457;
@@ -32,6 +32,8 @@ fn refused_file(font: &[u8], number: Number, text: &str, detail: u64) {
     refused(list(font), number, text, detail, Some(0));
     refused(show(font, "nosuch"), number, text, detail, Some(0));
     refused(convert(font, Form::Pfa), number, text, detail, Some(0));
+    refused(mend(font, Form::Pfa), number, text, detail, Some(0));
+    refused(mends(font), number, text, detail, Some(0));
     refused(subset(font, &["nosuch"], Form::Pfa), number, text, detail, Some(0));
     refused(merge(&[&pfa[..], font, b""], Form::Pfa), number, text, detail, Some(1));
     refused(rejoin(&[&pfa[..], &pfa, font], Form::Pfa), number, text, detail, Some(2));

@@ -1,11 +1,17 @@
-//! What `check`, `list` and `show` say of Tiny, and names that are no ASCII.
+//! What `check`, `list`, `show` and `mends` say of Tiny, and names that are no ASCII.
 
 mod common;
 
 use common::{example, made, Tiny, EMPTY};
 use std::collections::BTreeMap;
-use t1subset::{check, convert, list, show, subset};
-use t1subset::{Amount, Drawing, DrawnPart, Encoding, Form, Mark, Name, Picture, Point};
+use t1subset::{check, convert, list, mends, show, subset};
+use t1subset::{Amount, Drawing, DrawnPart, Encoding, Form, Mark, Mend, Name, Picture, Point};
+
+/// The test whether Tiny was loaded before, and its name.
+const TESTED: &[u8] =
+    b"FontDirectory/Tiny known{/Tiny findfont dup/UniqueID known{dup/UniqueID get 7 eq exch/FontType get 1 eq and}
+{pop false}ifelse{save true}{false}ifelse}{false}ifelse
+/FontName /Tiny";
 
 fn at(x: i32, y: i32) -> Point {
     Point { x: x.into(), y: y.into() }
@@ -81,6 +87,31 @@ fn each_hint_and_amounts_that_are_not_whole() {
     let font = Tiny::new().with_charstring(b"/A", &plain).file();
     assert_eq!(show(&font, "A").unwrap(), picture(250, 0, &[(at(0, 0), &marks)]));
     assert_eq!((third.to_string().as_str(), third.to_f64()), ("21845/65536", 21845.0 / 65536.0));
+}
+
+fn mend(what: &str, at: u64) -> Mend {
+    Mend { what: what.into(), at }
+}
+
+/// What stands in Tiny, and what stands there instead; what is mended of it, and where.
+type Row = (&'static [u8], &'static [u8], &'static str, u64);
+
+#[test]
+fn mended() {
+    let rows: [Row; 4] = [
+        (b"dup 65 ", b"% a comment\ndup 65 ", "comment in Encoding", 195),
+        (b"dup 65 /X put", b"dup 66 /X put\ndup dup 65 exch 66 get put", "code copied", 209),
+        (b"dup 0 ", b"% a comment\ndup 0 ", "comment in Subrs", 269),
+        (b"/FontName /Tiny", TESTED, "test of FontDirectory taken out", 44),
+    ];
+    for (old, new, what, at) in rows {
+        assert_eq!(mends(&Tiny::new().with(old, new).file()).unwrap(), [mend(what, at)]);
+    }
+    let font = made("Word", &[], &[(b".notdef", EMPTY)]);
+    let readonly = String::from_utf8(font).unwrap().replace("StandardEncoding def", "StandardEncoding readonly def");
+    assert_eq!(mends(readonly.as_bytes()).unwrap(), [mend("readonly Encoding", 23)]);
+    let mends = mends(&Tiny::spelled().file()).unwrap();
+    assert_eq!(mends, [mend("comment in Encoding", 195), mend("comment in Subrs", 269)]);
 }
 
 #[test]

@@ -105,6 +105,11 @@ impl Tiny {
         (from, read + b" RD ".len() + length)
     }
 
+    /// Tiny with a comment in its Encoding, at offset 195, and another one among its Subrs, at 269.
+    pub fn spelled() -> Tiny {
+        Tiny::new().with(b"dup 65 ", b"% a comment\ndup 65 ").with(b"dup 0 ", b"% a comment\ndup 0 ")
+    }
+
     /// Another charstring behind a key.
     pub fn with_charstring(&self, key: &[u8], plain: &[u8]) -> Tiny {
         let (from, to) = self.entry(key);
