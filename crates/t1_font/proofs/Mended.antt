@@ -28,7 +28,8 @@ module _ (file : List ℕ) (d : Dialect) (r : Rule) where
   is_needed fault rs e = ap (by_reading r (needed file (without r d) rs) (needed file d rs)) e
 
   -- where no rule is needed, this one isn't, and none of the others without it
-  none_needed : (rs : List Rule) → needed file d (r ∷ rs) ≡ [] → (f : FontValue) × ((font_file (without r d) file).read ≡ Ok f) × (needed file (without r d) rs ≡ [])
+  none_needed : (rs : List Rule) → needed file d (r ∷ rs) ≡ [] →
+      (f : FontValue) × ((font_file (without r d) file).read ≡ Ok f) × (needed file (without r d) rs ≡ [])
   none_needed rs none = by_read (font_file (without r d) file).read refl none
     where
       by_read : (o : Result FontValue ReadFault) → (font_file (without r d) file).read ≡ o →

@@ -232,7 +232,8 @@ end_wide c text rest s = by_readonly s.5.4
     by_readonly (inr q) =
         let own : s.5.1 ++ (s.5.2 ++ rest) ≡ s.5.2 ++ rest = ap (λ t. t ++ (s.5.2 ++ rest)) q.0.0 in
         let none = ap (λ t. starts_comment (t ++ rest)) s.5.3 ∙ (ap starts_comment (append_assoc s.5.1 s.5.2 rest ∙ own) ∙ def_plain) in
-        let absent = subst (NotAtFront (keyword (codes "readonly") >> gap_in Comments)) (sym own) (not_readonly (codes "def") (s.5.2 ++ rest) _ def_read refl) in
+        let absent = subst (NotAtFront (keyword (codes "readonly") >> gap_in Comments)) (sym own)
+        (not_readonly (codes "def") (s.5.2 ++ rest) _ def_read refl) in
         (s.0, s.1, s.2, s.3, white_wide s.0 s.1 (s.2 ++ rest) s.4 none, (s.5.0, s.5.1, s.5.2, s.5.3, inr (q.0, absent), s.5.5))
 
 array_end_wide : (c text rest : List ℕ) → (array_end White).Spells c text rest → (array_end Comments).Spells c text rest
@@ -495,8 +496,8 @@ tables_wide : (text : List ℕ) (p : PrivatePieces) (o : Option SubrsPieces) (gl
 tables_wide text p None glyphs s = s
 tables_wide text p (Some x) glyphs s =
     let t = s.3 in
-    let whole = table_wide (subr White x.declared p.len_iv) (subr Comments x.declared p.len_iv) (subrs_end White) (subrs_end Comments) (subr_wide x.declared p.len_iv)
-    subrs_end_wide x.entries x.closing t.0 s.1 t.2 in
+    let whole = table_wide (subr White x.declared p.len_iv) (subr Comments x.declared p.len_iv)
+    (subrs_end White) (subrs_end Comments) (subr_wide x.declared p.len_iv) subrs_end_wide x.entries x.closing t.0 s.1 t.2 in
     (s.0, s.1, s.2, (t.0, t.1, whole), s.4)
 
 private_wide : (text : List ℕ) (p : PrivatePieces) → IsPrivate White text p → IsPrivate Comments text p
