@@ -7,6 +7,7 @@ use Rattle.t1_cmd.specs.declared.faults.Reason.{Reason}
 use Rattle.t1_cmd.specs.declared.faults.Reason.TheVariants.{Memory}
 use Rattle.t1_cmd.specs.Files.{OfFiles, RefusesFiles}
 use Rattle.t1_cmd.specs.WrittenSubsets.{OfUnion}
+use Rattle.t1_cmd.specs.Cuts.{OfRejoined}
 use Rattle.t1_c.specs.declared.answers.Answer.{Answer}
 use Rattle.t1_c.specs.Gives.{HasWhole, IsTold, Tells, GivesFiles, GivesText}
 
@@ -32,3 +33,9 @@ pub gives_union : (form : Form) (files : List (List ℕ)) {V : Type 0} (view : V
     → OfUnion form files (λ union. MatchResult r (λ v. view v ≡ union) (λ e. (e.place ≡ None) × (e.reason ≡ Memory)))
     → IfOk r (λ v. HasWhole (view v) code a) → IfErr r (λ e. Tells e.place e.reason code a) → OfUnion form files (GivesText code a)
 gives_union form files view r code a unions whole told = λ f h names more s. text_given view r code a _ (unions f h names more s) whole told
+
+-- of the files of truncated subsets of one font what they rejoin to is given
+pub gives_rejoined : (form : Form) (files : List (List ℕ)) {V : Type 0} (view : V → List ℕ) (r : Result V FilesRefusal) (code : ℕ) (a : Answer)
+    → OfRejoined form files (λ whole. MatchResult r (λ v. view v ≡ whole) (λ e. (e.place ≡ None) × (e.reason ≡ Memory)))
+    → IfOk r (λ v. HasWhole (view v) code a) → IfErr r (λ e. Tells e.place e.reason code a) → OfRejoined form files (GivesText code a)
+gives_rejoined form files view r code a cuts whole told = λ f h t ts s. text_given view r code a _ (cuts f h t ts s) whole told

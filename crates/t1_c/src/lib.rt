@@ -23,6 +23,7 @@ ghost use Rattle.t1_cmd.specs.Mergers.{MergesTo};
 ghost use Rattle.t1_cmd.specs.Rejoins.{RejoinsTo};
 ghost use Rattle.t1_cmd.specs.Listings.{listing_input, JoinsTo};
 ghost use Rattle.t1_cmd.specs.WrittenSubsets.{OfUnion};
+ghost use Rattle.t1_cmd.specs.Cuts.{OfRejoined};
 ghost use Rattle.t1_c.specs.Numbers.{form_at};
 ghost use Rattle.t1_c.specs.Gives.{GivesOne, GivesOf, GivesMended, GivesFiles, In, IfForm, GivesText};
 
@@ -133,7 +134,8 @@ pub extern "C" fn t1subset_merge(
     }
 }
 
-/// Makes the canonical file of the font that fonts merge to once they are made even.
+/// Makes the canonical file of the font that fonts merge to once they are made even. Of truncated subsets of one font, such as
+/// dvips and pdfTeX cut, this is the subset over all their names.
 #[unsafe(no_mangle)]
 pub extern "C" fn t1subset_rejoin(
     alloc: Global,
@@ -141,8 +143,10 @@ pub extern "C" fn t1subset_rejoin(
     form: u32,
     answer: &mut Answer,
 ) -> u32
-    ensures { In (form_at form) (λ f. GivesFiles mended_input (RejoinsTo f) (lent fonts.now))
+    ensures gives { In (form_at form) (λ f. GivesFiles mended_input (RejoinsTo f) (lent fonts.now))
         result answer.new }
+    ensures cuts { IfForm (form_at form)
+        (λ f. OfRejoined f (lent fonts.now) (GivesText result answer.new)) }
 {
     match form_of(form) {
         Some(form) => give_files(alloc, rejoin_files(alloc, fonts, form), answer),

@@ -11,3 +11,5 @@ pub mod Walks
 pub mod RejoinLemmas
 pub mod Files
 pub mod MendLemmas
+pub mod OneAnswer
+pub mod CutLemmas

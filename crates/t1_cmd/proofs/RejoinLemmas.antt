@@ -23,7 +23,7 @@ use Rattle.t1_cmd.proofs.MergeLemmas.{merges_apart}
 use Rattle.t1_algebra.proofs.rejoining.Evened.{merging_fonts_are_even}
 
 -- fonts of which each is light are not heavy
-light_or_heavy : (fs : List FontValue) → AreLight fs → AnyHeavy fs → ⊥
+pub light_or_heavy : (fs : List FontValue) → AreLight fs → AnyHeavy fs → ⊥
 light_or_heavy [] l h = h
 light_or_heavy (f ∷ fs) l (inl h) = omega (arith, l.0, h)
 light_or_heavy (f ∷ fs) l (inr h) = light_or_heavy fs l.1 h
@@ -41,7 +41,7 @@ merge_of_even form fs r l = by_answer (MergesTo form (evened fs)) (Refuses (Rejo
 
 -- ---- fonts that merge
 
-all_light : (fs : List FontValue) → AllByRecursion IsFont fs → AreLight fs
+pub all_light : (fs : List FontValue) → AllByRecursion IsFont fs → AreLight fs
 all_light [] h = tt
 all_light (f ∷ fs) h = (h.0.light, all_light fs h.1)
 

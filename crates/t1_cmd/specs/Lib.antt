@@ -14,3 +14,4 @@ pub mod Files
 pub mod Rejoins
 pub mod WrittenSubsets
 pub mod Mends
+pub mod Cuts

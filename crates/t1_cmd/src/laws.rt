@@ -2,11 +2,18 @@
 
 ghost use Rattle.t1_cmd.specs.Mends.{MendsAgain, MendsNothing, MendedIsSpelled, TellsNothing, RejoinsMended};
 ghost use Rattle.t1_cmd.specs.Rejoins.{RejoinsWhatMerges};
+ghost use Rattle.t1_cmd.specs.Cuts.{RejoinedDraw};
 
 /// Fonts without tags that merge to a file rejoin to the same file, and to nothing else: what [`run_merge`](crate::run_merge)
 /// writes of fonts that have no test to lose, [`run_rejoin`](crate::run_rejoin) writes too, unless a growth was refused.
 pub fn rejoins_what_merges()
     ensures { RejoinsWhatMerges }
+{}
+
+/// What fonts rejoin to is the canonical file of a font in which each of their glyphs that is drawn without a fault is drawn the
+/// same, where hints are replaced and where they are kept, each by itself, over the maps of both fonts and as calls see them.
+pub fn rejoined_draw()
+    ensures { RejoinedDraw }
 {}
 
 /// A file that [`mend_file`](crate::mend_file) wrote is mended to itself in the same form and, in the other form, to what the

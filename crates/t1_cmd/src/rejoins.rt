@@ -1,5 +1,5 @@
 //! The engine that rejoins fonts that other programs cut.
-ghost use Rattle.std.specs.Prelude.{◌≡◌, List, IfOk, IfErr, Ok};
+ghost use Rattle.std.specs.Prelude.{◌≡◌, List, None, IfOk, IfErr, MatchResult, Ok};
 ghost use Rattle.t1_font.specs.FontValue.{FontValue};
 ghost use Rattle.t1_font.specs.Evening.{evened_shells};
 ghost use Rattle.t1_subset.specs.NameSets.{lent};
@@ -9,6 +9,7 @@ ghost use Rattle.t1_cmd.specs.Fonts.{mended_input};
 ghost use Rattle.t1_cmd.specs.Runs.{RunEnds, Succeeds};
 ghost use Rattle.t1_cmd.specs.Mergers.{inputs_of, InTurns};
 ghost use Rattle.t1_cmd.specs.Rejoins.{RejoinsTo};
+ghost use Rattle.t1_cmd.specs.Cuts.{OfRejoined, WritesRejoined};
 
 use crate::counting::Counted;
 use crate::faults::{FilesRefusal, Reason, RunFault};
@@ -63,7 +64,8 @@ impl FontsWord for Rejoin {
 }
 
 /// The canonical file, in one of the two forms, of the font that the fonts of files come to when they are made even and then
-/// merged from left to right, as [`run_rejoin`] writes it.
+/// merged from left to right, as [`run_rejoin`] writes it. Of truncated subsets of one font, such as dvips and pdfTeX cut, this is
+/// the subset of all their names.
 ///
 /// # Errors
 ///
@@ -73,6 +75,8 @@ impl FontsWord for Rejoin {
 pub fn rejoin_files(alloc: Global, files: &[&[u8]], form: Form) -> Result<Vec<u8>, FilesRefusal>
     ensures text { IfOk result (λ text. OfFiles mended_input (RejoinsTo form) (lent files.now) (Ok text.items)) }
     ensures refused { IfErr result (RefusesFiles mended_input (RejoinsTo form) (lent files.now)) }
+    ensures cuts { OfRejoined form (lent files.now) (λ whole. MatchResult result
+        (λ text. text.items ≡ whole) (λ e. (e.place ≡ None) × (e.reason ≡ Reason.Memory))) }
 {
     text_of_files(alloc, Taking::Mended, &Rejoin { form }, files)
 }
@@ -93,6 +97,8 @@ pub fn run_rejoin<R: Read, W: Write>(
     ensures ends { RunEnds mended_input (RejoinsTo form) W.contents
         (inputs_of R.remaining readers.old readers.new) writer.old writer.new result }
     ensures succeeds { Succeeds mended_input (RejoinsTo form)
+        (inputs_of R.remaining readers.old readers.new) writer.old writer.new result }
+    ensures cuts { WritesRejoined W.contents form
         (inputs_of R.remaining readers.old readers.new) writer.old writer.new result }
     ensures turns { InTurns readers.old readers.new }
 {

@@ -1,0 +1,224 @@
+-- Truncated subsets of one font rejoin to the subset over all the names, and each glyph that is drawn stays drawn.
+use Rattle.std.proofs.Common.{◌≡◌, ℕ, ◌+◌, ◌≤◌, arith, true, refl, sym, ◌∙◌, ap, subst, List, [], ◌∷◌, map, inl, inr, Option, Some, None, Result, Ok, Err, option_and_then, IsPermutation}
+use Rattle.std.specs.Prelude.{IfOk, IfErr, MatchResult, is_some}
+use Rattle.std.specs.List.{AllByRecursion}
+use Rattle.std.specs.Result.{result_ok}
+use Rattle.std.specs.FinMap as maps
+use Rattle.std.proofs.lemmas.List.Sorted.{IsPermutation-refl}
+use Rattle.t1_bytes.specs.declared.form.Form.{Form}
+use Rattle.t1_run.specs.Run.{Subrs, direct, direct3, exec}
+use Rattle.t1_run.specs.Drawings.{draw, draw3}
+use Rattle.t1_font.specs.FontValue.{FontValue, Shell, SubrsShell, Numbered, declared_count, count_limit}
+use Rattle.t1_font.specs.FontModel.{subr_at}
+use Rattle.t1_font.specs.IsFont.{IsFont, SubrsFit}
+use Rattle.t1_font.proofs.even_fonts.Evened.{even_is_font, filled_is_font}
+use Rattle.t1_font.specs.Canon.{canon}
+use Rattle.t1_font.specs.Evening.{even, filled, largest_count, indices_of_all, evened_shells, evened}
+use Rattle.t1_font.specs.Filling.{AreLight}
+use Rattle.t1_join.specs.Groupings.{one, from_left}
+use Rattle.t1_join.proofs.OrderLemmas.{leaves_from_left, each_leaf}
+use Rattle.t1_algebra.specs.Interpreter.{Names}
+use Rattle.t1_algebra.specs.Profile.{profile}
+use Rattle.t1_algebra.specs.Keep.{subset}
+use Rattle.t1_algebra.specs.Laws.{IsOf, DrawsAlike}
+use Rattle.t1_algebra.specs.Evened.{StaysDrawn, subrs_of, AllStayDrawn, EachBeside}
+use Rattle.t1_algebra.proofs.Drawings.{answers_alike}
+use Rattle.t1_algebra.specs.Merges.{ComesTo, DrawsAll}
+use Rattle.t1_algebra.specs.Rejoins.{Truncated, IsTruncated, fonts_of, sets_of, shared_font, rejoined, Rejoins}
+use Rattle.t1_algebra.proofs.Fonts.{subset_is_font, merges_are_fonts}
+use Rattle.t1_algebra.proofs.rejoining.Evened.{evened_draw}
+use Rattle.t1_subset.proofs.Answered.{draws_all}
+use Rattle.t1_algebra.proofs.rejoining.Rejoined.{truncated_subsets_rejoin}
+use Rattle.t1_cmd.specs.declared.counting.Counted.{Counted}
+use Rattle.t1_cmd.specs.declared.faults.Reason.{Reason}
+use Rattle.t1_cmd.specs.declared.faults.Reason.TheVariants.{Memory}
+use Rattle.t1_cmd.specs.declared.faults.RunFault.{RunFault}
+use Rattle.t1_cmd.specs.declared.faults.FilesRefusal.{FilesRefusal}
+use Rattle.t1_cmd.specs.Inputs.{Input, value_and, values_of}
+use Rattle.t1_cmd.specs.Files.{Values, value_before, values_from, OfFiles, RefusesFiles}
+use Rattle.t1_cmd.specs.Runs.{RunEnds}
+use Rattle.t1_cmd.specs.Fonts.{mended_input}
+use Rattle.t1_cmd.specs.Mergers.{MergesTo}
+use Rattle.t1_cmd.specs.Rejoins.{RejoinsTo}
+use Rattle.t1_cmd.specs.Cuts.{AreCutFiles, OfRejoined, AreCuts, WritesRejoined, AllStayDrawnIn, RejoinedDraw}
+use Rattle.t1_cmd.proofs.OneAnswer.{OneAnswer, files_answered, inputs_answered}
+use Rattle.t1_cmd.proofs.RejoinLemmas.{all_light, light_or_heavy, rejoins_apart}
+
+-- ---- what truncated subsets rejoin to
+
+module _ (f : FontValue) (h : IsFont f) (form : Form) (t : Truncated) (ts : List Truncated) (all : AllByRecursion (IsTruncated f) (t ∷ ts)) where
+  abbrev cuts : List FontValue
+  cuts = fonts_of (t ∷ ts)
+
+  abbrev whole : FontValue
+  whole = rejoined f (t ∷ ts)
+
+  abbrev shared : FontValue
+  shared = shared_font f (t ∷ ts)
+
+  they_rejoin : Rejoins f (t ∷ ts)
+  they_rejoin = truncated_subsets_rejoin f h t ts all
+
+  -- the names are names of the font that they share
+  names_of_shared : (us : List Truncated) → AllByRecursion (IsTruncated f) us → AllByRecursion (IsOf shared) (sets_of us)
+  names_of_shared [] k = tt
+  names_of_shared (u ∷ us) k = (k.0.names, names_of_shared us k.1)
+
+  -- the subsets of that font are fonts
+  are_fonts : (names : List Names) → AllByRecursion (IsOf shared) names → AllByRecursion IsFont (map (subset profile shared) names)
+  are_fonts [] k = tt
+  are_fonts (a ∷ more) k = (subset_is_font profile shared they_rejoin.shared a k.0, are_fonts more k.1)
+
+  -- made even, they are within the weight limit
+  light : AreLight (evened cuts)
+  light = subst AreLight (sym they_rejoin.subsets) (all_light (map (subset profile shared) (sets_of (t ∷ ts)))
+      (are_fonts (sets_of (t ∷ ts)) (names_of_shared (t ∷ ts) all)))
+
+  -- made even, they come to the subset over all the names, and to no other font
+  comes_so : (fs : List FontValue) → evened cuts ≡ fs → (j : FontValue) → (j ≡ whole → ComesTo fs j) × (ComesTo fs j → j ≡ whole)
+  comes_so [] e j = absurd (some_there e)
+    where
+      some_there : evened cuts ≡ [] → ⊥
+      some_there e = let never : map (subset profile shared) (sets_of (t ∷ ts)) ≡ [] = sym they_rejoin.subsets ∙ e in cc
+  comes_so (e ∷ es) is j =
+      let g = from_left (one e) es in
+      let order : IsPermutation (evened cuts) (e ∷ es) = subst (IsPermutation (evened cuts)) is (IsPermutation-refl (evened cuts)) in
+      let m = they_rejoin.merges g (subst (IsPermutation (evened cuts)) (sym (leaves_from_left (one e) es)) order) in
+      (λ same. subst (ComesTo (e ∷ es)) (sym same) m.0, λ comes. m.1 j comes)
+
+  -- they have one answer, the canonical file of that subset
+  one_answer : OneAnswer mended_input (RejoinsTo form) cuts (canon whole form)
+  one_answer = record { text = the_text; reason = the_reason }
+    where
+      the_text : (text : List ℕ) → RejoinsTo form cuts (Ok text) → text ≡ canon whole form
+      the_text text (inl a) = a.1.2 ∙ ap (λ (j : FontValue). canon j form) ((comes_so (evened cuts) refl a.1.0).1 a.1.1)
+      the_text text (inr a) = absurd (light_or_heavy (evened cuts) light a.0)
+
+      the_reason : (r : Reason) → RejoinsTo form cuts (Err r) → r ≡ Memory
+      the_reason r a =
+          let there : RejoinsTo form cuts (Ok (canon whole form)) = inl (light, (whole, (comes_so (evened cuts) refl whole).0 refl, refl)) in
+          rejoins_apart form cuts (canon whole form) r there a
+
+-- ---- files
+
+module _ (f : FontValue) where
+  -- what the files of truncated subsets say
+  files_said : (place : ℕ) (ts : List Truncated) (files : List (List ℕ)) → AreCutFiles f ts files → values_from mended_input place files ≡ Ok (fonts_of ts)
+  files_said place [] [] s = refl
+  files_said place [] (file ∷ files) s = absurd s
+  files_said place (t ∷ ts) [] s = absurd s
+  files_said place (t ∷ ts) (file ∷ files) s =
+      ap (λ (r : Result FontValue Reason). value_before place r (values_from mended_input (place + 1) files)) s.0.1
+      ∙ ap (λ (rest : Values FontValue). value_before place (Ok t.font) rest) (files_said (place + 1) ts files s.1)
+
+  files_cut : (ts : List Truncated) (files : List (List ℕ)) → AreCutFiles f ts files → AllByRecursion (IsTruncated f) ts
+  files_cut [] [] s = tt
+  files_cut [] (file ∷ files) s = absurd s
+  files_cut (t ∷ ts) [] s = absurd s
+  files_cut (t ∷ ts) (file ∷ files) s = (s.0.0, files_cut ts files s.1)
+
+  -- ---- inputs
+
+  -- what the inputs say
+  inputs_said : (ts : List Truncated) (is : List Input) → AreCuts f ts is → values_of mended_input is ≡ Some (fonts_of ts)
+  inputs_said [] [] s = refl
+  inputs_said [] (i ∷ is) s = absurd s
+  inputs_said (t ∷ ts) [] s = absurd s
+  inputs_said (t ∷ ts) (i ∷ is) s =
+      let rest = values_of mended_input is in
+      ap (λ (k : Option (List ℕ)). value_and (option_and_then (λ bytes. result_ok (mended_input bytes)) k) rest) s.0.2
+      ∙ (ap (λ (r : Result FontValue Reason). value_and (result_ok r) rest) s.0.1.1 ∙ ap (value_and (Some t.font)) (inputs_said ts is s.1))
+
+  inputs_cut : (ts : List Truncated) (is : List Input) → AreCuts f ts is → AllByRecursion (IsTruncated f) ts
+  inputs_cut [] [] s = tt
+  inputs_cut [] (i ∷ is) s = absurd s
+  inputs_cut (t ∷ ts) [] s = absurd s
+  inputs_cut (t ∷ ts) (i ∷ is) s = (s.0.1.0, inputs_cut ts is s.1)
+
+-- a call that rejoins the files of truncated subsets of one font answers the subset over all the names, unless a growth was refused
+pub rejoins_cut_files : {V : Type 0} (form : Form) (files : List (List ℕ)) (view : V → List ℕ) (result : Result V FilesRefusal) →
+    IfOk result (λ v. OfFiles mended_input (RejoinsTo form) files (Ok (view v))) → IfErr result (RefusesFiles mended_input (RejoinsTo form) files) →
+    OfRejoined form files (λ whole. MatchResult result (λ v. view v ≡ whole) (λ e. (e.place ≡ None) × (e.reason ≡ Memory)))
+rejoins_cut_files form files view result d r f h t ts s =
+    files_answered mended_input (RejoinsTo form) (fonts_of (t ∷ ts)) (canon (rejoined f (t ∷ ts)) form)
+    (one_answer f h form t ts (files_cut f (t ∷ ts) files s)) files (files_said f 0 (t ∷ ts) files s) view result d r
+
+-- an engine that ends as rejoining does writes it
+pub writes_rejoined : {W : Type 0} (contents : W → Option (List ℕ)) (form : Form) (is : List Input) (w v : Counted W) (result : Result (Unit {0}) RunFault) →
+    RunEnds mended_input (RejoinsTo form) contents is w v result → WritesRejoined contents form is w v result
+writes_rejoined contents form is w v result ends f h t ts s =
+    inputs_answered mended_input (RejoinsTo form) (fonts_of (t ∷ ts)) (canon (rejoined f (t ∷ ts)) form)
+    (one_answer f h form t ts (inputs_cut f (t ∷ ts) is s)) is (inputs_said f (t ∷ ts) is s) contents w v result ends
+
+-- ---- what stays drawn
+
+-- a glyph that stays drawn in e, and draws in j as in e, stays drawn in j
+through : (subrs : FontValue → Subrs) (f e j : FontValue) (n : List ℕ) → StaysDrawn subrs f e n → maps.get j.glyphs n ≡ maps.get e.glyphs n →
+    ((c : List ℕ) → maps.get e.glyphs n ≡ Some c →
+      (direct (subrs j) c ≡ direct (subrs e) c) × (direct3 (subrs j) c ≡ direct3 (subrs e) c) × (exec (subrs j) c ≡ exec (subrs e) c)) →
+    draw (subrs j) (maps.get j.glyphs) n ≡ draw (subrs e) (maps.get e.glyphs) n →
+    draw3 (subrs j) (maps.get j.glyphs) n ≡ draw3 (subrs e) (maps.get e.glyphs) n → StaysDrawn subrs f j n
+through subrs f e j n s same runs drawn drawn3 = record {
+  charstring = same ∙ s.charstring;
+  answer = λ c is none. (runs c (s.charstring ∙ is)).0 ∙ s.answer c is none;
+  answer3 = λ c is none. (runs c (s.charstring ∙ is)).1 ∙ s.answer3 c is none;
+  executes = λ c is none none3. (runs c (s.charstring ∙ is)).2 ∙ s.executes c is none none3;
+  draws = λ is. drawn ∙ s.draws is;
+  draws3 = λ is. drawn3 ∙ s.draws3 is;
+}
+
+-- the same over the maps, and as calls see them
+through_both : (f e j : FontValue) (n : List ℕ) → IsFont e → IsFont j → StaysDrawn subrs_of f e n × StaysDrawn subr_at f e n → DrawsAlike e j n →
+    StaysDrawn subrs_of f j n × StaysDrawn subr_at f j n
+through_both f e j n font joined s d =
+    let a = answers_alike e j font joined n d in (
+      through subrs_of f e j n s.0 d.charstring (λ c is. (d.answer c is, d.answer3 c is, d.executes c is)) d.draws d.draws3,
+      through subr_at f e j n s.1 a.charstring (λ c is. (a.answer c is, a.answer3 c is, a.executes c is)) a.draws a.draws3,
+    )
+
+-- so is it with each glyph of fonts that were made even
+each_through : (fs es : List FontValue) (j : FontValue) → EachBeside AllStayDrawn fs es → AllByRecursion IsFont es → IsFont j → DrawsAll es j → AllStayDrawnIn fs j
+each_through [] [] j s fonts joined d = tt
+each_through [] (e ∷ es) j s fonts joined d = absurd s
+each_through (f ∷ fs) [] j s fonts joined d = absurd s
+each_through (f ∷ fs) (e ∷ es) j s fonts joined d = (
+  λ n there. through_both f e j n fonts.0 joined (s.0 n)
+      (d.0 n (subst (λ (o : Option (List ℕ)). is_some o ≡ true) (sym (s.0 n).0.charstring) there)),
+  each_through fs es j s.1 fonts.1 joined d.1,
+)
+
+-- ---- fonts that are made even
+
+few_declared : (s : Shell) (o : Option SubrsShell) (m : Numbered) → SubrsFit s o m → declared_count o ≤ count_limit
+few_declared s None m h = omega arith
+few_declared s (Some k) m h = h.declared
+
+largest_few : (fs : List FontValue) → AllByRecursion IsFont fs → largest_count fs ≤ count_limit
+largest_few [] h = omega arith
+largest_few (f ∷ fs) h = omega (arith, few_declared f.shell f.shell.subrs f.subrs h.0.subrs, largest_few fs h.1)
+
+each_even : (indices : List ℕ) (n : ℕ) (fs : List FontValue) → n ≤ count_limit → AllByRecursion IsFont fs →
+    AreLight (map (filled indices) (map (even n) fs)) → AllByRecursion IsFont (map (filled indices) (map (even n) fs))
+each_even indices n [] le h fit = tt
+each_even indices n (f ∷ fs) le h fit =
+    (filled_is_font indices (even n f) (even_is_font n f le h.0) fit.0, each_even indices n fs le h.1 fit.1)
+
+-- fonts made even are fonts where they are within the weight limit
+evened_are_fonts : (fs : List FontValue) → AllByRecursion IsFont fs → AreLight (evened fs) → AllByRecursion IsFont (evened fs)
+evened_are_fonts fs h fit = each_even (indices_of_all (evened_shells fs)) (largest_count fs) fs (largest_few fs h) h fit
+
+-- what fonts come to is a font
+comes_to_font : (fs : List FontValue) (j : FontValue) → AllByRecursion IsFont fs → ComesTo fs j → IsFont j
+comes_to_font [] j h c = absurd c
+comes_to_font (f ∷ fs) j h c =
+    let g = from_left (one f) fs in
+    merges_are_fonts profile g j c (each_leaf IsFont g (subst (AllByRecursion IsFont) (sym (leaves_from_left (one f) fs)) h))
+
+-- what fonts rejoin to is the file of a font in which each of their glyphs that is drawn stays drawn
+pub rejoined_draw : RejoinedDraw
+rejoined_draw form fs text h (inl a) =
+    let j = a.1.0 in
+    let fonts = evened_are_fonts fs h a.0 in
+    let joined = comes_to_font (evened fs) j fonts a.1.1 in
+    (j, joined, a.1.2, each_through fs (evened fs) j (evened_draw.all fs) fonts joined (draws_all (evened fs) (Ok j) a.1.1))
+rejoined_draw form fs text h (inr a) = let never : Ok text ≡ Err _ = a.1 in absurd cc

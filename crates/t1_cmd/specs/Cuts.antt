@@ -1,0 +1,65 @@
+-- What fonts rejoin to where their files, or the inputs of an engine, are cuts of one font, as other programs make them.
+use Rattle.std.specs.Prelude.{◌≡◌, ℕ, true, List, [], ◌∷◌, Option, Some, Result, Ok}
+use Rattle.std.specs.List.{AllByRecursion}
+use Rattle.t1_bytes.specs.declared.form.Form.{Form}
+use Rattle.t1_font.specs.FontValue.{FontValue}
+use Rattle.t1_font.specs.FontModel.{subr_at}
+use Rattle.t1_font.specs.IsFont.{IsFont}
+use Rattle.t1_font.specs.Canon.{canon}
+use Rattle.t1_algebra.specs.Keep.{has}
+use Rattle.t1_algebra.specs.Evened.{StaysDrawn, subrs_of}
+use Rattle.t1_algebra.specs.Rejoins.{Truncated, IsTruncated, rejoined}
+use Rattle.t1_cmd.specs.declared.counting.Counted.{Counted}
+use Rattle.t1_cmd.specs.declared.faults.RunFault.{RunFault}
+use Rattle.t1_cmd.specs.Inputs.{Input}
+use Rattle.t1_cmd.specs.Fonts.{mended_input}
+use Rattle.t1_cmd.specs.Rejoins.{RejoinsTo}
+use Rattle.t1_cmd.specs.WrittenSubsets.{Writes}
+
+-- ---- files
+
+-- the file is mended to this truncated subset of f, however it is spelled
+abbrev pub IsCutFile : FontValue → Truncated → List ℕ → Type 0
+IsCutFile f t file = IsTruncated f t × (mended_input file ≡ Ok t.font)
+
+-- the files are mended to these truncated subsets of f, one for one
+abbrev pub AreCutFiles : FontValue → List Truncated → List (List ℕ) → Type 0
+AreCutFiles f [] [] = Unit {0}
+AreCutFiles f [] (file ∷ files) = ⊥
+AreCutFiles f (t ∷ ts) [] = ⊥
+AreCutFiles f (t ∷ ts) (file ∷ files) = IsCutFile f t file × AreCutFiles f ts files
+
+-- Of the files of truncated subsets of one font, one or more, this holds of the canonical file of what they rejoin to: the subset over all the names,
+-- without its tag and cut to the largest of their counts.
+abbrev pub OfRejoined : Form → List (List ℕ) → (List ℕ → Type 0) → Type 0
+OfRejoined form files P = (f : FontValue) → IsFont f → (t : Truncated) (ts : List Truncated) → AreCutFiles f (t ∷ ts) files →
+    P (canon (rejoined f (t ∷ ts)) form)
+
+-- ---- inputs
+
+-- the input's bytes are mended to this truncated subset of f
+abbrev pub IsCut : FontValue → Truncated → Input → Type 0
+IsCut f t i = (file : List ℕ) × IsCutFile f t file × (i.known ≡ Some file)
+
+-- the inputs are mended to these truncated subsets of f, one for one
+abbrev pub AreCuts : FontValue → List Truncated → List Input → Type 0
+AreCuts f [] [] = Unit {0}
+AreCuts f [] (i ∷ is) = ⊥
+AreCuts f (t ∷ ts) [] = ⊥
+AreCuts f (t ∷ ts) (i ∷ is) = IsCut f t i × AreCuts f ts is
+
+-- Of truncated subsets of one font, one or more, the canonical file of what they rejoin to is written.
+abbrev pub WritesRejoined : {W : Type 0} → (W → Option (List ℕ)) → Form → List Input → Counted W → Counted W → Result (Unit {0}) RunFault → Type 0
+WritesRejoined contents form inputs w v result = (f : FontValue) → IsFont f → (t : Truncated) (ts : List Truncated) → AreCuts f (t ∷ ts) inputs →
+    Writes contents (canon (rejoined f (t ∷ ts)) form) inputs w v result
+
+-- ---- laws, each the contract of a function in `laws`
+
+-- each glyph of each of the fonts stays drawn in j, over the maps of both and as calls see them
+abbrev pub AllStayDrawnIn : List FontValue → FontValue → Type 0
+AllStayDrawnIn fonts j = AllByRecursion (λ f. (n : List ℕ) → has f n ≡ true → StaysDrawn subrs_of f j n × StaysDrawn subr_at f j n) fonts
+
+-- what fonts rejoin to is the canonical file of a font in which each of their glyphs that is drawn stays drawn
+abbrev pub RejoinedDraw : Type 0
+RejoinedDraw = (form : Form) (fonts : List FontValue) (text : List ℕ) → AllByRecursion IsFont fonts → RejoinsTo form fonts (Ok text) →
+    (j : FontValue) × IsFont j × (text ≡ canon j form) × AllStayDrawnIn fonts j
