@@ -155,7 +155,7 @@ writes_rejoined contents form is w v result ends f h t ts s =
 -- a glyph that stays drawn in e, and draws in j as in e, stays drawn in j
 through : (subrs : FontValue → Subrs) (f e j : FontValue) (n : List ℕ) → StaysDrawn subrs f e n → maps.get j.glyphs n ≡ maps.get e.glyphs n →
     ((c : List ℕ) → maps.get e.glyphs n ≡ Some c →
-      (direct (subrs j) c ≡ direct (subrs e) c) × (direct3 (subrs j) c ≡ direct3 (subrs e) c) × (exec (subrs j) c ≡ exec (subrs e) c)) →
+    (direct (subrs j) c ≡ direct (subrs e) c) × (direct3 (subrs j) c ≡ direct3 (subrs e) c) × (exec (subrs j) c ≡ exec (subrs e) c)) →
     draw (subrs j) (maps.get j.glyphs) n ≡ draw (subrs e) (maps.get e.glyphs) n →
     draw3 (subrs j) (maps.get j.glyphs) n ≡ draw3 (subrs e) (maps.get e.glyphs) n → StaysDrawn subrs f j n
 through subrs f e j n s same runs drawn drawn3 = record {
@@ -177,7 +177,8 @@ through_both f e j n font joined s d =
     )
 
 -- so is it with each glyph of fonts that were made even
-each_through : (fs es : List FontValue) (j : FontValue) → EachBeside AllStayDrawn fs es → AllByRecursion IsFont es → IsFont j → DrawsAll es j → AllStayDrawnIn fs j
+each_through : (fs es : List FontValue) (j : FontValue) → EachBeside AllStayDrawn fs es → AllByRecursion IsFont es → IsFont j → DrawsAll es j →
+    AllStayDrawnIn fs j
 each_through [] [] j s fonts joined d = tt
 each_through [] (e ∷ es) j s fonts joined d = absurd s
 each_through (f ∷ fs) [] j s fonts joined d = absurd s
