@@ -64,7 +64,7 @@ font_twice f = λ i. record {
 }
 
 -- what a file of bytes is mended to is a font that has no test to lose
-mended_font : (file : List ℕ) (f : FontValue) → AreBytes file → mended_input file ≡ Ok f → IsFont f × (untested_font f ≡ f)
+pub mended_font : (file : List ℕ) (f : FontValue) → AreBytes file → mended_input file ≡ Ok f → IsFont f × (untested_font f ≡ f)
 mended_font file f bytes = by (nat_lt file_limit (length file)) (read_font_widely file) refl
   where
     by : (long : Bool) (r : Result FontValue ReadFault) → read_font_widely file ≡ r → mended_by long r ≡ Ok f → IsFont f × (untested_font f ≡ f)

@@ -1,2 +1,3 @@
 mod Callers
 mod Outcomes
+mod Rejoined

@@ -1,11 +1,10 @@
 -- What a caller's work comes to, from what its calls answer.
-use Rattle.std.proofs.Common.{◌≡◌, ◌⊎◌, ℕ, inl, inr, List, refl, sym, ◌∙◌, ap, subst, Option, Some, None, Result, Ok, Err, IfOk, IfErr, MatchResult, Vec, Global}
+use Rattle.std.proofs.Common.{◌≡◌, ◌⊎◌, ℕ, inl, inr, List, refl, sym, subst, Option, Some, None, Result, Ok, Err, IfOk, IfErr, Vec, Global}
 use Rattle.std.specs.Option.{option_or}
 use Rattle.t1_bytes.specs.declared.form.Form.{Form}
 use Rattle.t1_font.specs.declared.fault.ReadFault.{ReadFault}
 use Rattle.t1_font.specs.declared.fault.ReadFault.TheVariants as reading
 use Rattle.t1_font.specs.Answers.{Refused}
-use Rattle.t1_font.specs.Canon.{canon}
 use Rattle.t1_font.specs.FontValue.{FontValue}
 use Rattle.t1_font.specs.ReadFont.{read_font}
 use Rattle.t1_algebra.specs.Conflicts.{conflict}

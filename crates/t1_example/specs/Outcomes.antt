@@ -16,7 +16,7 @@ use Rattle.t1_algebra.specs.States.{Join, joined_font}
 use Rattle.t1_subset.specs.declared.fault.SubsetFault.TheVariants.{NoSuchGlyph}
 use Rattle.t1_subset.specs.Refusals.{Absent, Tells}
 use Rattle.t1_example.specs.declared.refusal.Refusal.{Refusal}
-use Rattle.t1_example.specs.declared.refusal.Refusal.TheVariants.{Read, Subset, Merge, Memory}
+use Rattle.t1_example.specs.declared.refusal.Refusal.TheVariants.{Read, Subset, Merge}
 use Rattle.t1_example.specs.Joining.{IsMemory}
 
 -- there is no file, for this reason or since a growth was refused

@@ -8,11 +8,14 @@
 //! others also borrows from their sources. So a source is kept until what is made of its fonts has been written, and the
 //! steps here take files or sources and answer files.
 //!
+//! [`cuts_joined`] does the same for cuts that other programs made.
+//!
 //! ```text
 //! let both = cut_and_joined(alloc, file, &[b"A"], &[b"B"], Order::SecondIntoFirst, Form::Pfb)?;
 //! ```
 #![tactic(auto)]
 
+mod cuts;
 mod refusal;
 
 ghost use Rattle.std.specs.Prelude.{◌≡◌, ◌⊎◌, ℕ, true, None, List, Ok, OnOk, IfOk, IfErr, MatchResult};
@@ -32,6 +35,7 @@ ghost use Rattle.t1_algebra.specs.Profile.{profile};
 ghost use Rattle.t1_example.specs.Joining.{AreSubsets, CanBeCut, IsMemory, union_subset};
 ghost use Rattle.t1_example.specs.Outcomes.{ComesTo, FilesMergeTo, LacksFirst, MergeTo, file_of, lacking};
 
+pub use cuts::cuts_joined;
 pub use refusal::Refusal;
 use std::alloc::Global;
 use t1_font::{Font, Form, Source, read, write};

@@ -1,5 +1,7 @@
 //! A caller's work with ample memory, and what it refuses.
 
+mod cuts;
+
 use crate::{Order, Refusal, cut_and_joined};
 use std::alloc::{AllocError, Global};
 use std::test::Fail;
@@ -27,14 +29,19 @@ end
 end
 mark currentfile closefile";
 
-/// The font's file.
-fn file(alloc: Global) -> Result<Vec<u8>, AllocError> {
-    let mut file = Vec::from_slice(alloc, CLEAR)?;
-    let Ok(cipher) = seal(alloc, PRIVATE, EEXEC_KEY, EEXEC_LEAD) else {
+/// The file of these texts.
+fn file_of(alloc: Global, clear: &[u8], private: &[u8]) -> Result<Vec<u8>, AllocError> {
+    let mut file = Vec::from_slice(alloc, clear)?;
+    let Ok(cipher) = seal(alloc, private, EEXEC_KEY, EEXEC_LEAD) else {
         return Err(AllocError);
     };
     file.extend_from_slice(cipher.as_slice())?;
     Ok(file)
+}
+
+/// The font's file.
+fn file(alloc: Global) -> Result<Vec<u8>, AllocError> {
+    file_of(alloc, CLEAR, PRIVATE)
 }
 
 /// The names of a font's glyphs, each with a blank.

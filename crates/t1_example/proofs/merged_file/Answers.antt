@@ -1,4 +1,4 @@
-use Rattle.std.proofs.Common.{◌≡◌, ◌∙◌, ap, inr, sym, subst}
+use Rattle.std.proofs.Common.{◌≡◌, ◌∙◌, ap, inr, subst}
 use Rattle.std.proofs.lemmas.Result.{err_from_is_err_and}
 use Rattle.t1_font.specs.Canon.{canon}
 use Rattle.t1_font.specs.FontValue.{FontValue}

@@ -1,0 +1,43 @@
+//! The work of a tool that joins documents whose fonts other programs cut.
+
+ghost use Rattle.std.specs.Prelude.{◌≡◌, ◌∷◌, [], None, Ok, IfOk, MatchResult};
+ghost use Rattle.t1_font.specs.Canon.{canon};
+ghost use Rattle.t1_font.specs.FontValue.{FontValue};
+ghost use Rattle.t1_font.specs.IsFont.{IsFont};
+ghost use Rattle.t1_algebra.specs.Rejoins.{Truncated, rejoined};
+ghost use Rattle.t1_cmd.specs.Fonts.{mended_input};
+ghost use Rattle.t1_cmd.specs.Cuts.{IsCutFile, AllStayDrawnIn};
+
+use std::alloc::Global;
+use t1_cmd::{FilesRefusal, Reason, rejoin_files};
+use t1_font::Form;
+
+/// The file of the font that two cuts of a font come to, as dvips and pdfTeX make them: each is mended, both are made even and
+/// merged, and the merged font is written.
+///
+/// If each file, however it is spelled, is mended to a truncated subset of one font (with any tag, cut to its first Subrs, which
+/// include those that it keeps), the answer is the file of the subset of the names of both, without the tag and cut to the larger
+/// count, and only want of memory is refused. Whatever two fonts come to, each glyph that one of them draws without a fault is
+/// drawn the same in what is written.
+pub fn cuts_joined(
+    alloc: Global,
+    first: &[u8],
+    second: &[u8],
+    form: Form,
+) -> Result<Vec<u8>, FilesRefusal>
+    ensures bytes { (f : FontValue)
+        → IsFont f
+        → (t u : Truncated)
+        → IsCutFile f t first.now
+        → IsCutFile f u second.now
+        → MatchResult result (λ v. v.items ≡ canon (rejoined f (t ∷ u ∷ [])) form)
+        (λ e. (e.place ≡ None) × (e.reason ≡ Reason.Memory)) }
+    ensures draws { (f g : FontValue)
+        → mended_input first.now ≡ Ok f
+        → mended_input second.now ≡ Ok g
+        → IfOk result (λ v. (j : FontValue)
+        × (v.items ≡ canon j form)
+        × AllStayDrawnIn (f ∷ g ∷ []) j) }
+{
+    rejoin_files(alloc, &[first, second], form)
+}
