@@ -18,7 +18,8 @@ both_said first second f g e k = λ i. value_before 0 (e i) (value_before 1 (k i
 
 -- each glyph of both fonts that is drawn stays drawn in what they rejoin to
 pub drawn_so : {V : Type 0} (view : V → List ℕ) (form : Form) (first second : List ℕ) (result : V) → AreBytes first → AreBytes second →
-    OfFiles mended_input (RejoinsTo form) (first ∷ second ∷ []) (Ok (view result)) → (f g : FontValue) → mended_input first ≡ Ok f → mended_input second ≡ Ok g →
+    OfFiles mended_input (RejoinsTo form) (first ∷ second ∷ []) (Ok (view result)) →
+    (f g : FontValue) → mended_input first ≡ Ok f → mended_input second ≡ Ok g →
     (j : FontValue) × (view result ≡ canon j form) × AllStayDrawnIn (f ∷ g ∷ []) j
 drawn_so view form first second result b c d f g e k =
     let fonts : d.0 ≡ f ∷ g ∷ [] = same d.0 (sym d.1 ∙ both_said first second f g e k) in
