@@ -4,9 +4,10 @@ use Rattle.std.proofs.{lemmas.Bool.{leb-true, le-leb, and_from}, lemmas.List.Fol
 use Rattle.std.specs.FinMap as maps
 use Rattle.t1_font.specs.{FontModel.{names_in}, FontValue.{FontValue, Encoding, Word, Codes, weight, weight_limit, count_limit}}
 use Rattle.t1_algebra.specs.Conflicts.{ShellDiffers, CodeDiffers, GlyphDiffers, LacksComponent, SubrDiffers, OverLimit, keys_of_both, agrees, codes_of_both}
-use Rattle.t1_algebra.specs.Conflicts.{wants, code_clashes, glyph_clashes, glyph_names, wanted_by, component_clashes, subr_clashes, used_by, is_within}
+use Rattle.t1_algebra.specs.Conflicts.{wants, code_clashes, glyph_clashes, glyphs_of_both, wanted_by, component_clashes, subr_clashes, used_by, is_within}
 use Rattle.t1_algebra.specs.Conflicts.{shell_conflict, code_conflict, glyph_conflict, component_conflict, subr_conflict, states_conflict, conflict}
-use Rattle.t1_algebra.specs.{Searches.{members, smallest, found}, Shared.{shared_of}, Keep.{has}, States.{IsWithin, Agree, calls_for, code_state, subr_state, joined_font, Compatible, Join, executes}}
+use Rattle.t1_algebra.specs.{Searches.{members, smallest, found}, Shared.{shared_of}, Keep.{has}}
+use Rattle.t1_algebra.specs.States.{KeepsLimits, Agree, calls_for, code_state, subr_state, joined_font, Compatible, Join, executes}
 use Rattle.t1_algebra.proofs.{Words.{list_any, IsTotalOrder, nat_cmp_total, first_so, second_so, nat_list_cmp_total, IsAntisymmetric, nat_cmp-IsAntisymmetric, Interpreter, same_bytes}, Uses.{sought}}
 use Rattle.t1_algebra.proofs.{Sets.{name_same, any_at, cases_Option, cases}, JoinedStates.{font_back, glyph_agree}, Searching.{passes_none, found_none, smallest_none}}
 use Rattle.t1_algebra.proofs.{Shares.{swaps, bytes_decide, shared_so, no_part_differs, differing_back, sharing}, Maps.{in_both, both_back}}
@@ -40,16 +41,16 @@ module _ {O : Type 0} (m : Interpreter O) (f g : FontValue) where
   -- without a conflict of components, no glyph calls for one that its font lacks and the other has
   none_wanted : component_conflict m f g ≡ None → (p n : List ℕ) → (has f p || has g p) ≡ true → wanted_by m f g p n ≡ false
   none_wanted h p n there =
-      let any = any_at nat_list_cmp_total name_same (wanted_by m f g p) n (members (glyph_names f g)) in
+      let any = any_at nat_list_cmp_total name_same (wanted_by m f g p) n (members (glyphs_of_both f g)) in
       let named = in_both nat_list_cmp_total name_same f.glyphs g.glyphs in
       grind (
         cases,
         there,
         any,
-        maps.contains_key-keys (glyph_names f g) n,
+        maps.contains_key-keys (glyphs_of_both f g) n,
         named n,
         named p,
-        smallest_none nat_list_cmp_total name_same (component_clashes m f g) (glyph_names f g) p h,
+        smallest_none nat_list_cmp_total name_same (component_clashes m f g) (glyphs_of_both f g) p h,
       )
 
   -- without a conflict of states, the fonts are compatible
@@ -58,8 +59,8 @@ module _ {O : Type 0} (m : Interpreter O) (f g : FontValue) where
       let a = found_none ShellDiffers (shell_conflict f g) _ h in
       let b = found_none CodeDiffers (code_conflict f g) _ a.1 in
       let c = found_none GlyphDiffers (glyph_conflict f g) _ b.1 in
-      let d = found_none (λ p. LacksComponent (unwrap_or (smallest (wanted_by m f g p) (glyph_names f g)) []) p) (component_conflict m f g) _ c.1 in
-      let e = found_none (λ i. SubrDiffers i (smallest (used_by m f g i) (glyph_names f g))) (subr_conflict m f g) None d.1 in
+      let d = found_none (λ p. LacksComponent (unwrap_or (smallest (wanted_by m f g p) (glyphs_of_both f g)) []) p) (component_conflict m f g) _ c.1 in
+      let e = found_none (λ i. SubrDiffers i (smallest (used_by m f g i) (glyphs_of_both f g))) (subr_conflict m f g) None d.1 in
       let none = none_wanted d.0 in
       let left = λ (p : List ℕ) (lacks : has f p ≡ false) (is : has g p ≡ true).
       list_any_none (λ n. calls_for m f n p) (names_in f.glyphs) (λ k q l. grind (cases, lacks, is, none p (get_or (names_in f.glyphs) k q))) in
@@ -90,16 +91,16 @@ module _ {O : Type 0} (m : Interpreter O) (f g : FontValue) (c : Compatible m f 
       let codes = passes_none (code_clashes f g) (members (codes_of_both f.encoding g.encoding))
       (λ k. no_clash (code_state f.encoding k) (code_state g.encoding k) (c.codes k)) in
       let glyphs =
-      passes_none (glyph_clashes f g) (members (glyph_names f g)) (λ n. no_clash (maps.get f.glyphs n) (maps.get g.glyphs n) (glyph_agree m f g c n)) in
-      let none = λ (p : List ℕ) (there : (has f p || has g p) ≡ true). list_any_none (wanted_by m f g p) (members (glyph_names f g)) (λ k d l.
-      let n = get_or (members (glyph_names f g)) k d in
+      passes_none (glyph_clashes f g) (members (glyphs_of_both f g)) (λ n. no_clash (maps.get f.glyphs n) (maps.get g.glyphs n) (glyph_agree m f g c n)) in
+      let none = λ (p : List ℕ) (there : (has f p || has g p) ≡ true). list_any_none (wanted_by m f g p) (members (glyphs_of_both f g)) (λ k d l.
+      let n = get_or (members (glyphs_of_both f g)) k d in
       grind (cases, there, c.names p, sought m f p n, sought m g p n)) in
-      let components = passes_none (component_clashes m f g) (members (glyph_names f g)) (λ p. grind (cases, none p)) in
+      let components = passes_none (component_clashes m f g) (members (glyphs_of_both f g)) (λ p. grind (cases, none p)) in
       let subrs = passes_none (subr_clashes m f g) (members (keys_of_both f.subrs g.subrs)) (λ i. no_clash (subr_state m f i) (subr_state m g i) (c.subrs i)) in
       simp (shells, codes, glyphs, components, subrs)
 
 -- the test of the limits says that the joined font is within them
-pub within_so : {O : Type 0} (m : Interpreter O) (f g : FontValue) → is_within m f g ≡ true → IsWithin (joined_font m f g)
+pub within_so : {O : Type 0} (m : Interpreter O) (f g : FontValue) → is_within m f g ≡ true → KeepsLimits (joined_font m f g)
 within_so m f g h = record { weight = leb-true _ weight_limit (first_so _ _ h); glyphs = leb-true _ count_limit (second_so _ _ h) }
 
 -- two fonts have no conflict exactly if they join

@@ -7,9 +7,10 @@ use Rattle.t1_join.specs.{Meaning.{of_number}, Join.{State}, StateLaws.{same_mea
 use Rattle.t1_join.specs.{TableLaws.{get_joined, same_table}}
 use Rattle.t1_font.specs.{FontModel.{names_in, word_of, encoding_by, font_by}, Maps.{map_values}, FontValue.{FontValue, Numbered, Named, total, subr_weight, weight, weight_limit, count_limit}}
 use Rattle.t1_font.proofs.{CutEntries.{entries-retain}, MapLemmas.{entries_all, get-retain, get-map_values}}
-use Rattle.t1_algebra.specs.States.{named_at, code_state, IsWithin, is_sought, subr_state, name_state, Compatible, Join, joined_font}
+use Rattle.t1_algebra.specs.States.{named_at, code_state, KeepsLimits, is_sought, subr_state, name_state, Compatible, Join, joined_font}
 use Rattle.t1_algebra.specs.StateTables.{StatesValue, numbered, name_meaning, behind_mark, AreSought, used_subrs, all_components, name_states, states_of, subr_adds, name_adds}
-use Rattle.t1_algebra.specs.StateTables.{code_states, state_or_stub, states_weight, states_glyphs, StatesFit, name_part, subr_part, joined_states, PartsJoin, StatesAgree, StatesJoin, code_part}
+use Rattle.t1_algebra.specs.StateTables.{code_states, state_or_stub, states_weight, states_glyphs, StatesFit, name_part, subr_part, code_part}
+use Rattle.t1_algebra.specs.StateTables.{joined_states, PartsJoin, FontStatesAgree, FontStatesJoin}
 use Rattle.t1_algebra.specs.StateLaws.{PartsAgree, parts_laws}
 use Rattle.t1_algebra.proofs.{Words.{nat_cmp_total, nat_list_cmp_total, nat_cmp-IsAntisymmetric, eq_by_cmp, list_any, Interpreter, same_bytes}, Shares.{same_indices, sharing}, Maps.{get-valued}}
 use Rattle.t1_algebra.proofs.{Sets.{any_flat_map, name_same, cases}, JoinedStates.{subr_joined, name_joined, present_joined}, Subsets.{stub_is, same_font, same_encoding, code_joined}}
@@ -119,7 +120,7 @@ module _ {O : Type 0} (m : Interpreter O) (f : FontValue) where
   glyphs_are = names_count f.glyphs (sought m f) (are_sought m f)
 
   -- a font is within the limits exactly if its states are
-  pub fits : IsWithin f ↔ StatesFit (states_of m f)
+  pub fits : KeepsLimits f ↔ StatesFit (states_of m f)
   fits = (
     λ w. record { weight = subst (λ n. n ≤ weight_limit) (sym weight_is) w.weight; glyphs = subst (λ n. n ≤ count_limit) (sym glyphs_are) w.glyphs },
     λ w. record { weight = subst (λ n. n ≤ weight_limit) weight_is w.weight; glyphs = subst (λ n. n ≤ count_limit) glyphs_are w.glyphs },
@@ -129,14 +130,14 @@ module _ {O : Type 0} (m : Interpreter O) (f : FontValue) where
 
 module _ {O : Type 0} (m : Interpreter O) (f g : FontValue) where
   -- the states of fonts that join have the states of the join for theirs
-  pub states_join : Join m f g → StatesJoin (states_of m f) (states_of m g) (states_of m (joined_font m f g))
+  pub states_join : Join m f g → FontStatesJoin (states_of m f) (states_of m g) (states_of m (joined_font m f g))
   states_join j = (parts_join m f g j.states, inl ((fits m (joined_font m f g)).0 j.within))
 
   -- fonts within the limits join exactly if their states agree
-  pub join_exactly : IsWithin f → StatesAgree (states_of m f) (states_of m g) ↔ Join m f g
+  pub join_exactly : KeepsLimits f → FontStatesAgree (states_of m f) (states_of m g) ↔ Join m f g
   join_exactly w = (to, λ j. (states_of m (joined_font m f g), states_join j))
     where
-      to : StatesAgree (states_of m f) (states_of m g) → Join m f g
+      to : FontStatesAgree (states_of m f) (states_of m g) → Join m f g
       to h =
           let c = agree_compatible m f g (parts_laws.only_where _ _ h.0 h.1.0) in
           let same : h.0 ≡ states_of m (joined_font m f g) = parts_laws.one_answer _ _ _ _ h.1.0 (parts_join m f g c) in
@@ -153,7 +154,7 @@ module _ (x y : StatesValue) where
   is_joined z h = λ i. (h.0.1 i, (h.1.0.1 i, (h.1.1.0.1 i, h.1.1.1.1 i)))
 
   -- states within the limits agree exactly if their parts do and the joined states are within the limits
-  pub agree_by_parts : StatesFit x → StatesAgree x y ↔ (PartsAgree x y × StatesFit (joined_states x y))
+  pub agree_by_parts : StatesFit x → FontStatesAgree x y ↔ (PartsAgree x y × StatesFit (joined_states x y))
   agree_by_parts w = (
     λ h. (parts_laws.only_where x y h.0 h.1.0, subst StatesFit (is_joined h.0 h.1.0) (⊎_elim (λ a. a) (λ b. subst StatesFit b.0 w) h.1.1)),
     λ h. let z = parts_laws.some_answer x y h.0 in (z.0, (z.1, inl (subst StatesFit (sym (is_joined z.0 z.1)) h.1))),

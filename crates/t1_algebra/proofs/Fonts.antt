@@ -4,7 +4,7 @@ use Rattle.std.specs.FinSet as sets
 use Rattle.t1_join.specs.Groupings.{Grouping, one, two, map_grouping, EachLeaf, leaves}
 use Rattle.t1_font.specs.{FontValue.{FontValue, name_cmp, weight_limit, weight}, IsFont.{IsFont}}
 use Rattle.t1_font.proofs.Kept.{restrict_is_font, join_is_font}
-use Rattle.t1_algebra.specs.{Keep.{subset, keep, kept}, Laws.{IsOf}, Groupings.{union_all, Merges}, States.{IsWithin, Join, joined_font}}
+use Rattle.t1_algebra.specs.{Keep.{subset, keep, kept}, Laws.{IsOf}, Groupings.{union_all, Merges}, States.{KeepsLimits, Join, joined_font}}
 use Rattle.t1_algebra.proofs.{Words.{list_any, nat_list_cmp_total, Interpreter, Names}, Sets.{name_same, cases}, Subsets.{join_is_subset, subsets_join}, Kept.{keep_closed}}
 use Rattle.t1_algebra.proofs.{Orders.{any_order, one_result, join_back, each_weaker}, JoinedStates.{joined_are_entries}}
 
@@ -35,11 +35,11 @@ all_is_of f (one a) i n w = i n w
 all_is_of f (two s t) i n w = grind (cases, w, sets.contains-union nat_list_cmp_total (all_of s) (all_of t) n, all_is_of f s i.0 n, all_is_of f t i.1 n)
 
 -- a font is within the limits
-pub font_within : (f : FontValue) → IsFont f → IsWithin f
+pub font_within : (f : FontValue) → IsFont f → KeepsLimits f
 font_within f h = record { weight = h.light; glyphs = h.glyphs.few }
 
-pub fonts_within : (t : Grouping FontValue) → EachLeaf IsFont t → EachLeaf IsWithin t
-fonts_within t h = each_weaker IsFont IsWithin font_within t h
+pub fonts_within : (t : Grouping FontValue) → EachLeaf IsFont t → EachLeaf KeepsLimits t
+fonts_within t h = each_weaker IsFont KeepsLimits font_within t h
 
 module _ {O : Type 0} (m : Interpreter O) where
   -- a subset of a font is a font

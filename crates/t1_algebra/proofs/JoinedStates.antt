@@ -4,7 +4,7 @@ use Rattle.std.specs.FinSet as sets
 use Rattle.std.specs.FinMap as maps
 use Rattle.t1_font.specs.{Joins.{joined_subr, join_parts}, FontValue.{FontValue}}
 use Rattle.t1_font.proofs.MapLemmas.{get-map_values}
-use Rattle.t1_algebra.specs.{States.{executes, calls_for, Agree, joined, subr_state, name_state, code_state, joined_font, Compatible}, JoinedEntries.{EntriesJoin}}
+use Rattle.t1_algebra.specs.{States.{executes, calls_for, Agree, joined_option, subr_state, name_state, code_state, joined_font, Compatible}, JoinedEntries.{EntriesJoin}}
 use Rattle.t1_algebra.proofs.{Words.{nat_cmp_total, nat_cmp-IsAntisymmetric, Interpreter}, Maps.{agree_back}, Uses.{some_joined, executing_there, naming_there, called}, Sets.{cases}}
 use Rattle.t1_algebra.proofs.Subsets.{same_font, stub_is, same_encoding, code_joined, subr_in_join, glyph_in_join}
 
@@ -72,13 +72,13 @@ module _ {O : Type 0} (m : Interpreter O) (f g : FontValue) (c : Compatible m f 
   -- ---- the states of the join
 
   -- the state of a Subr in the join is the join of its states
-  pub subr_joined : (i : ℕ) → subr_state m whole i ≡ joined (subr_state m f i) (subr_state m g i)
+  pub subr_joined : (i : ℕ) → subr_state m whole i ≡ joined_option (subr_state m f i) (subr_state m g i)
   subr_joined i =
       let uses = some_joined (λ h n. executes m h n i) (λ h n. executing_there m h i (maps.get h.glyphs n)) f g whole (executes_join i) in
       grind (cases, subr_in_join m f g i, uses, c.present i)
 
   -- the state of a name in the join is the join of its states
-  pub name_joined : (n : List ℕ) → name_state m whole n ≡ joined (name_state m f n) (name_state m g n)
+  pub name_joined : (n : List ℕ) → name_state m whole n ≡ joined_option (name_state m f n) (name_state m g n)
   name_joined p =
       let seeks = some_joined (λ h n. calls_for m h n p) (λ h n. naming_there m h p (maps.get h.glyphs n)) f g whole (calls_join p) in
       grind (cases, glyph_in_join m f g p, seeks, c.names p)

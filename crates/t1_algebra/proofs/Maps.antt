@@ -3,7 +3,7 @@ use Rattle.std.proofs.Common.{◌≡◌, ℕ, ◌||◌, refl, arith, Option, Som
 use Rattle.std.specs.FinMap as maps
 use Rattle.t1_font.specs.Maps.{merged}
 use Rattle.t1_font.proofs.MapLemmas as cuts
-use Rattle.t1_algebra.specs.{Conflicts.{keys_of_both}, States.{Agree, joined}}
+use Rattle.t1_algebra.specs.{Conflicts.{keys_of_both}, States.{Agree, joined_option}}
 use Rattle.t1_algebra.proofs.{Words.{list_any, eq_by_cmp, IsTotalOrder, IsAntisymmetric}, Sets.{cases}}
 
 -- states agree in both orders
@@ -12,10 +12,10 @@ agree_back x y h = grind cases
 
 module _ {K : Type 0} {R : K → K → Ordering} (o : IsTotalOrder R) (same : IsAntisymmetric R) {X : Type 0} where
   -- a merged map has the join of the values at each key
-  pub get-merged : (m n : maps.FinMap R X) (q : K) → maps.get (merged m n) q ≡ joined (maps.get m q) (maps.get n q)
+  pub get-merged : (m n : maps.FinMap R X) (q : K) → maps.get (merged m n) q ≡ joined_option (maps.get m q) (maps.get n q)
   get-merged m n q = grind (cases, cuts.get-merged o same m n q)
 
-  get-both : (a b : maps.FinMap R X) (q : K) → maps.get (keys_of_both a b) q ≡ option_map (λ v. 0) (joined (maps.get a q) (maps.get b q))
+  get-both : (a b : maps.FinMap R X) (q : K) → maps.get (keys_of_both a b) q ≡ option_map (λ v. 0) (joined_option (maps.get a q) (maps.get b q))
   get-both a b q = grind (arith, cuts.get-map_values o same {Y = ℕ} (λ k v. 0) (merged a b) q, get-merged a b q)
 
   -- the keys of both maps are those of either

@@ -3,7 +3,7 @@ use Rattle.std.proofs.Common.{◌≡◌, List, [], ◌∷◌, refl, sym, ◌∙�
 use Rattle.t1_join.specs.Groupings.{Grouping, one, two, leaves, map_grouping, EachLeaf, from_left, Gives}
 use Rattle.t1_join.proofs.OrderLemmas.{below_trans, below_left, below_right, below_both, gives_one, same_given, moved_images, same_leaves, leaves_from_left, all_leaves, each_leaf}
 use Rattle.t1_font.specs.FontValue.{FontValue}
-use Rattle.t1_algebra.specs.{States.{IsWithin, joined_font, Compatible, Join}, StateTables.{StatesValue, StatesJoin, states_of}, StateLaws.{parts_laws, parts_by_pairs, falls, states_laws}}
+use Rattle.t1_algebra.specs.{States.{KeepsLimits, joined_font, Compatible, Join}, StateTables.{StatesValue, FontStatesJoin, states_of}, StateLaws.{parts_laws, parts_by_pairs, falls, states_laws}}
 use Rattle.t1_algebra.specs.Groupings.{JoinTo, Merges, folded, EachPair}
 use Rattle.t1_algebra.proofs.{Words.{AllByRecursion, Interpreter}, JoinedStates.{font_back, compatible_back}}
 use Rattle.t1_algebra.proofs.FontStates.{agree_compatible, compatible_agree, parts_join, states_join, join_exactly, fits, font_known}
@@ -24,63 +24,63 @@ module _ {O : Type 0} (m : Interpreter O) where
   grouped t = map_grouping (states_of m) t
 
   -- if the states of fonts join, the fonts merge, to a font of the joined states
-  pub merges_by_states : (t : Grouping FontValue) → EachLeaf IsWithin t → (v : StatesValue) → Gives StatesJoin (grouped t) v →
-      (j : FontValue) × Merges m t j × (v ≡ states_of m j) × IsWithin j
+  pub merges_by_states : (t : Grouping FontValue) → EachLeaf KeepsLimits t → (v : StatesValue) → Gives FontStatesJoin (grouped t) v →
+      (j : FontValue) × Merges m t j × (v ≡ states_of m j) × KeepsLimits j
   merges_by_states (one f) w v h = (f, refl, sym h, w)
   merges_by_states (two s t) w v h =
       let p = merges_by_states s w.0 h.0 h.2 in
       let q = merges_by_states t w.1 h.1 h.3 in
-      let k : StatesJoin (states_of m p.0) (states_of m q.0) v =
-      subst (λ (y : StatesValue). StatesJoin (states_of m p.0) y v) q.2 (subst (λ (x : StatesValue). StatesJoin x h.1 v) p.2 h.4) in
+      let k : FontStatesJoin (states_of m p.0) (states_of m q.0) v =
+      subst (λ (y : StatesValue). FontStatesJoin (states_of m p.0) y v) q.2 (subst (λ (x : StatesValue). FontStatesJoin x h.1 v) p.2 h.4) in
       let j = (join_exactly m p.0 q.0 p.3).0 (v, k) in
       (joined_font m p.0 q.0, (p.0, q.0, p.1, q.1, (j, refl)), states_laws.one_answer _ _ _ _ k (states_join m p.0 q.0 j), j.within)
 
   -- the states of two fonts join to those of their join
-  join_states : (f g j : FontValue) → JoinTo m f g j → StatesJoin (states_of m f) (states_of m g) (states_of m j)
-  join_states f g j h = subst (λ (j : FontValue). StatesJoin (states_of m f) (states_of m g) (states_of m j)) h.1 (states_join m f g h.0)
+  join_states : (f g j : FontValue) → JoinTo m f g j → FontStatesJoin (states_of m f) (states_of m g) (states_of m j)
+  join_states f g j h = subst (λ (j : FontValue). FontStatesJoin (states_of m f) (states_of m g) (states_of m j)) h.1 (states_join m f g h.0)
 
   -- if fonts merge, their states join to those of the font
-  pub states_by_merges : (t : Grouping FontValue) (j : FontValue) → Merges m t j → Gives StatesJoin (grouped t) (states_of m j)
+  pub states_by_merges : (t : Grouping FontValue) (j : FontValue) → Merges m t j → Gives FontStatesJoin (grouped t) (states_of m j)
   states_by_merges (one f) j h = ap (states_of m) h
   states_by_merges (two s t) j h = (states_of m h.0, states_of m h.1, states_by_merges s h.0 h.2, states_by_merges t h.1 h.3, join_states h.0 h.1 j h.4)
 
   -- what fonts within the limits merge to is within them
-  pub within : (t : Grouping FontValue) (j : FontValue) → Merges m t j → EachLeaf IsWithin t → IsWithin j
-  within (one f) j h w = subst IsWithin h w
-  within (two s t) j h w = subst IsWithin h.4.1 h.4.0.within
+  pub within : (t : Grouping FontValue) (j : FontValue) → Merges m t j → EachLeaf KeepsLimits t → KeepsLimits j
+  within (one f) j h w = subst KeepsLimits h w
+  within (two s t) j h w = subst KeepsLimits h.4.1 h.4.0.within
 
   -- fonts merge to one font at most
   pub one_result : (t : Grouping FontValue) (j k : FontValue) → Merges m t j → Merges m t k → j ≡ k
   one_result t j k h i = font_known m j k (gives_one states_laws (grouped t) (states_of m j) (states_of m k) (states_by_merges t j h) (states_by_merges t k i))
 
   -- fonts that merge in one order and grouping merge in every other, to the same font
-  pub any_order : (s t : Grouping FontValue) → IsPermutation (leaves s) (leaves t) → EachLeaf IsWithin s → (j : FontValue) → Merges m s j → Merges m t j
+  pub any_order : (s t : Grouping FontValue) → IsPermutation (leaves s) (leaves t) → EachLeaf KeepsLimits s → (j : FontValue) → Merges m s j → Merges m t j
   any_order s t p w j h =
       let given = same_given states_laws (grouped s) (grouped t) (states_of m j) (moved_images (states_of m) s t p) (states_by_merges s j h) in
-      let r = merges_by_states t (same_leaves IsWithin s t p w) (states_of m j) given in
+      let r = merges_by_states t (same_leaves KeepsLimits s t p w) (states_of m j) given in
       subst (Merges m t) (sym (font_known m j r.0 r.2)) r.1
 
   -- ---- two fonts
 
   -- a font within the limits joins with itself, to itself
-  pub join_self : (f : FontValue) → IsWithin f → Join m f f × (joined_font m f f ≡ f)
+  pub join_self : (f : FontValue) → KeepsLimits f → Join m f f × (joined_font m f f ≡ f)
   join_self f w =
       let itself = parts_laws.idempotent (states_of m f) in
       let c = agree_compatible m f f (parts_laws.only_where _ _ _ itself) in
       let same = font_known m (joined_font m f f) f (parts_laws.one_answer _ _ _ _ (parts_join m f f c) itself) in
-      (record { states = c; within = subst IsWithin (sym same) w }, same)
+      (record { states = c; within = subst KeepsLimits (sym same) w }, same)
 
   -- two fonts that join do so in the other order, to the same font
   pub join_back : (f g : FontValue) → Join m f g → Join m g f × (joined_font m f g ≡ joined_font m g f)
   join_back f g j =
       let e = font_back m f g j.states in
-      (record { states = compatible_back m f g j.states; within = subst IsWithin e j.within }, e)
+      (record { states = compatible_back m f g j.states; within = subst KeepsLimits e j.within }, e)
 
   -- ---- fonts whose states are among those of another
 
   -- the states of f are among those of j
   abbrev pub Below : FontValue → FontValue → Type 0
-  Below j f = StatesJoin (states_of m f) (states_of m j) (states_of m j)
+  Below j f = FontStatesJoin (states_of m f) (states_of m j) (states_of m j)
 
   -- the states of fonts are among those of the font that they merge to
   pub above : (t : Grouping FontValue) (j : FontValue) → Merges m t j → EachLeaf (Below j) t
@@ -103,7 +103,7 @@ module _ {O : Type 0} (m : Interpreter O) where
   )
 
   -- a font is within the limits if what it is folded into is
-  first_within : (f : FontValue) (gs : List FontValue) → AllByRecursion (Compatible m f) gs → EachPair m gs → IsWithin (folded m f gs) → IsWithin f
+  first_within : (f : FontValue) (gs : List FontValue) → AllByRecursion (Compatible m f) gs → EachPair m gs → KeepsLimits (folded m f gs) → KeepsLimits f
   first_within f [] a p w = w
   first_within f (g ∷ gs) a p w =
       let j = joined_font m f g in
@@ -111,7 +111,7 @@ module _ {O : Type 0} (m : Interpreter O) where
 
   -- fonts of which each two are compatible merge from left to right, if the last join is within the limits
   folds : (t : Grouping FontValue) (f : FontValue) (gs : List FontValue) → Merges m t f →
-      AllByRecursion (Compatible m f) gs → EachPair m gs → IsWithin (folded m f gs) → Merges m (from_left t gs) (folded m f gs)
+      AllByRecursion (Compatible m f) gs → EachPair m gs → KeepsLimits (folded m f gs) → Merges m (from_left t gs) (folded m f gs)
   folds t f [] h a p w = h
   folds t f (g ∷ gs) h a p w =
       let j = joined_font m f g in
@@ -119,7 +119,7 @@ module _ {O : Type 0} (m : Interpreter O) where
       folds (two t (one g)) j gs (f, g, h, refl, (record { states = a.0; within = first_within j gs next p.1 w }, refl)) next p.1 w
 
   -- a list of which each two fonts are compatible merges, if what it folds to is within the limits
-  pub accepted_from_pairs : (f : FontValue) (fs : List FontValue) → EachPair m (f ∷ fs) → IsWithin (folded m f fs) →
+  pub accepted_from_pairs : (f : FontValue) (fs : List FontValue) → EachPair m (f ∷ fs) → KeepsLimits (folded m f fs) →
       Merges m (from_left (one f) fs) (folded m f fs)
   accepted_from_pairs f fs p w = folds (one f) f fs refl p.0 p.1 w
 

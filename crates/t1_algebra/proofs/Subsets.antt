@@ -7,7 +7,7 @@ use Rattle.t1_font.specs.{Cut.{stub, restrict, restrict_encoding}, FontValue.{Fo
 use Rattle.t1_font.proofs.{Kept.{restrict_light, cut_had}, MapLemmas.{get-map_values, get-retain, total-le, length_total, Some_same, Some_None}}
 use Rattle.t1_font.specs.{Joins.{join_encodings}, WriteLaws.{SameKind}, FontModel.{word_of, names_in}}
 use Rattle.t1_algebra.specs.{Keep.{keep, kept, has, subset}, Laws.{IsOf}}
-use Rattle.t1_algebra.specs.States.{joined, executes, calls_for, is_called, is_sought, state_of_entry, subr_state, is_stub, IsWithin, code_state, joined_font, Compatible, Join}
+use Rattle.t1_algebra.specs.States.{joined_option, executes, calls_for, is_called, is_sought, state_of_entry, subr_state, is_stub, KeepsLimits, code_state, joined_font, Compatible, Join}
 use Rattle.t1_algebra.proofs.{Words.{nat_cmp_total, nat_list_cmp_total, nat_cmp-IsAntisymmetric, Interpreter, Names}, Kept.{keep_part, kept_call, keep_union, kept_union}, Sets.{name_same, cases}}
 use Rattle.t1_algebra.proofs.Maps.{get-merged}
 
@@ -33,7 +33,7 @@ same_encoding (Codes s) (Word w) h k = Some_None (sym h)
 same_encoding (Codes s) (Codes t) h k = ap Codes (maps.same_map nat_cmp_total nat_cmp-IsAntisymmetric s t k)
 
 -- the state of a code in the join is the join of its states
-pub code_joined : (d e : Encoding) → SameKind d e → (c : ℕ) → code_state (join_encodings d e) c ≡ joined (code_state d c) (code_state e c)
+pub code_joined : (d e : Encoding) → SameKind d e → (c : ℕ) → code_state (join_encodings d e) c ≡ joined_option (code_state d c) (code_state e c)
 code_joined d e h c = grind (cases, h, get-merged nat_cmp_total nat_cmp-IsAntisymmetric {X = List ℕ})
 
 -- a code of a cut Encoding has its name if that is kept
@@ -124,11 +124,11 @@ module _ (k l : Names) (e : Encoding) where
 module _ {O : Type 0} (m : Interpreter O) (f g : FontValue) where
   -- the join has the joined state at each index of the first font, or a stub for the bottom
   pub subr_in_join : (i : ℕ) →
-      maps.get (joined_font m f g).subrs i ≡ option_map (λ v. unwrap_or (joined (subr_state m f i) (subr_state m g i)) stub) (maps.get f.subrs i)
-  subr_in_join i = get-map_values nat_cmp_total nat_cmp-IsAntisymmetric (λ i v. unwrap_or (joined (subr_state m f i) (subr_state m g i)) stub) f.subrs i
+      maps.get (joined_font m f g).subrs i ≡ option_map (λ v. unwrap_or (joined_option (subr_state m f i) (subr_state m g i)) stub) (maps.get f.subrs i)
+  subr_in_join i = get-map_values nat_cmp_total nat_cmp-IsAntisymmetric (λ i v. unwrap_or (joined_option (subr_state m f i) (subr_state m g i)) stub) f.subrs i
 
   -- the join has the charstring of either font at each name
-  pub glyph_in_join : (n : List ℕ) → maps.get (joined_font m f g).glyphs n ≡ joined (maps.get f.glyphs n) (maps.get g.glyphs n)
+  pub glyph_in_join : (n : List ℕ) → maps.get (joined_font m f g).glyphs n ≡ joined_option (maps.get f.glyphs n) (maps.get g.glyphs n)
   glyph_in_join n = get-merged nat_list_cmp_total name_same f.glyphs g.glyphs n
 
 module _ {O : Type 0} (m : Interpreter O) (f : FontValue) (base : has f notdef ≡ true) (a b : Names) (ia : IsOf f a) (ib : IsOf f b) where
@@ -166,9 +166,9 @@ module _ {O : Type 0} (m : Interpreter O) (f : FontValue) (base : has f notdef �
   }
 
   -- two subsets of a font that is within the limits join
-  pub subsets_join : IsWithin f → Join m (subset m f a) (subset m f b)
+  pub subsets_join : KeepsLimits f → Join m (subset m f a) (subset m f b)
   subsets_join w = record {
     states = subsets_compatible;
-    within = subst IsWithin (sym join_is_subset)
+    within = subst KeepsLimits (sym join_is_subset)
         (record { weight = le_trans (subset_weight m f (sets.union a b)) w.weight; glyphs = le_trans (subset_glyphs m f (sets.union a b)) w.glyphs });
   }

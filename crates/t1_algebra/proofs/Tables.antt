@@ -15,7 +15,7 @@ use Rattle.t1_font.specs.{Maps.{merged}, Joins.{differing_name}, Lent.{lent_numb
 use Rattle.t1_font.specs.FontValue.{Numbered, Named, name_cmp, Encoding, Word, Codes}
 use Rattle.t1_font.proofs.MapLemmas.{get-map_values}
 use Rattle.t1_algebra.specs.{Conflicts.{agrees}, StateTables.{numbered, name_meaning, AreNameStates, behind_mark, glyph_table, names_table, AreSought, code_states}, Searches.{IsLowest}}
-use Rattle.t1_algebra.specs.{NameStates.{is_sought_in, charstrings_differ, one_lacks}, States.{Agree, code_state, joined}}
+use Rattle.t1_algebra.specs.{NameStates.{is_sought_in, charstrings_differ, one_lacks}, States.{Agree, code_state, joined_option}}
 use Rattle.t1_algebra.proofs.{Words.{list_any, eq_by_cmp, nat_cmp_total, nat_list_cmp_total, same_bytes}, Maps.{get-merged}}
 use Rattle.t1_algebra.proofs.{Sets.{cases_Option, name_same, cases}, Shares.{bytes_decide}}
 
@@ -114,7 +114,7 @@ module _ (s t : TableMeaning) (x y : ℕ → Option (List ℕ)) (shows : Shows s
   agree_shown h n = to_agree (x n) (y n) (grind (arith, shows (of_number n), also (of_number n), h (of_number n)))
 
   -- a table that shows the joined values is the joined table
-  pub shown_joined : (j : TableMeaning) (z : ℕ → Option (List ℕ)) → Shows j z → ((n : ℕ) → z n ≡ joined (x n) (y n)) → j ≡ joined_table s t
+  pub shown_joined : (j : TableMeaning) (z : ℕ → Option (List ℕ)) → Shows j z → ((n : ℕ) → z n ≡ joined_option (x n) (y n)) → j ≡ joined_table s t
   shown_joined j z third h = same_table j (joined_table s t) (λ q. grind (cases, get_joined s t q, shows q, also q, third q, cases_key q, h))
 
 -- what the charstring of a glyph means in a table

@@ -3,7 +3,7 @@ use Rattle.std.proofs.Common.{arith, refl, ◌∙◌, ap}
 use Rattle.t1_join.specs.Groupings.{one, two}
 use Rattle.t1_font.specs.{FontValue.{FontValue}, FontTest.{untested_shell, untested_font}}
 use Rattle.t1_font.proofs.Untested.{untested_fits}
-use Rattle.t1_algebra.specs.States.{Compatible, IsWithin, joined_font}
+use Rattle.t1_algebra.specs.States.{Compatible, KeepsLimits, joined_font}
 use Rattle.t1_algebra.specs.Untested.{UntestedDraws, UntestedSubsets, UntestedJoins, UntestedGroupings}
 use Rattle.t1_algebra.proofs.Words.{Interpreter}
 
@@ -15,7 +15,7 @@ untested_draws f n = (
 )
 
 -- a font without its test keeps the limits that it kept
-untested_within : (f : FontValue) → IsWithin f → IsWithin (untested_font f)
+untested_within : (f : FontValue) → KeepsLimits f → KeepsLimits (untested_font f)
 untested_within f w = record { weight = omega (arith, (untested_fits f.shell.head).short, w.weight); glyphs = w.glyphs }
 
 module _ {O : Type 0} (m : Interpreter O) where

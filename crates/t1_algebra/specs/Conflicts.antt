@@ -57,8 +57,8 @@ module _ (f g : FontValue) where
   glyph_clashes n = not (agrees (maps.get f.glyphs n) (maps.get g.glyphs n))
 
   -- the names of the glyphs of either font
-  abbrev pub glyph_names : KeySet name_cmp
-  glyph_names = keys_of_both f.glyphs g.glyphs
+  abbrev pub glyphs_of_both : KeySet name_cmp
+  glyphs_of_both = keys_of_both f.glyphs g.glyphs
 
   -- the first part of the shells that differs
   abbrev pub shell_conflict : Option ShellPart
@@ -70,7 +70,7 @@ module _ (f g : FontValue) where
 
   -- the smallest name in conflict
   abbrev pub glyph_conflict : Option (List ℕ)
-  glyph_conflict = smallest glyph_clashes glyph_names
+  glyph_conflict = smallest glyph_clashes glyphs_of_both
 
 module _ {O : Type 0} (m : Interpreter O) where
   -- the font lacks a component that its glyph of this name calls for
@@ -84,7 +84,7 @@ module _ {O : Type 0} (m : Interpreter O) where
 
     -- one font has the component, and the other lacks it and calls for it
     abbrev pub component_clashes : List ℕ → Bool
-    component_clashes p = (has f p || has g p) && list_any (wanted_by p) (members (glyph_names f g))
+    component_clashes p = (has f p || has g p) && list_any (wanted_by p) (members (glyphs_of_both f g))
 
     -- both fonts have an entry, the entries differ, and neither is a stub that no glyph executes
     abbrev pub subr_clashes : ℕ → Bool
@@ -100,7 +100,7 @@ module _ {O : Type 0} (m : Interpreter O) where
 
     -- the smallest component that one font has and the other lacks and calls for
     abbrev pub component_conflict : Option (List ℕ)
-    component_conflict = smallest component_clashes (glyph_names f g)
+    component_conflict = smallest component_clashes (glyphs_of_both f g)
 
     -- the smallest index whose entries are in conflict
     abbrev pub subr_conflict : Option ℕ
@@ -112,8 +112,8 @@ module _ {O : Type 0} (m : Interpreter O) where
         found ShellDiffers (shell_conflict f g)
         (found CodeDiffers (code_conflict f g)
         (found GlyphDiffers (glyph_conflict f g)
-        (found (λ p. LacksComponent (unwrap_or (smallest (wanted_by p) (glyph_names f g)) []) p) component_conflict
-        (found (λ i. SubrDiffers i (smallest (used_by i) (glyph_names f g))) subr_conflict None))))
+        (found (λ p. LacksComponent (unwrap_or (smallest (wanted_by p) (glyphs_of_both f g)) []) p) component_conflict
+        (found (λ i. SubrDiffers i (smallest (used_by i) (glyphs_of_both f g))) subr_conflict None))))
 
     -- the lowest conflict of two fonts
     abbrev pub conflict : Option Conflict

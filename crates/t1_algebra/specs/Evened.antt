@@ -20,12 +20,12 @@ pub record StaysDrawn (subrs : FontValue → Subrs) (f j : FontValue) (n : List 
   pub draws3 : IsDrawn (draw3 (subrs f) (maps.get f.glyphs) n) → draw3 (subrs j) (maps.get j.glyphs) n ≡ draw3 (subrs f) (maps.get f.glyphs) n
 
 -- the Subrs of a font as its map
-abbrev pub subrs_of : FontValue → Subrs
-subrs_of f = maps.get f.subrs
+abbrev pub map_subrs : FontValue → Subrs
+map_subrs f = maps.get f.subrs
 
 -- each glyph of f stays drawn in j, both over the maps of the fonts and as calls see them
 abbrev pub AllStayDrawn : FontValue → FontValue → Type 0
-AllStayDrawn f j = (n : List ℕ) → StaysDrawn subrs_of f j n × StaysDrawn subr_at f j n
+AllStayDrawn f j = (n : List ℕ) → StaysDrawn map_subrs f j n × StaysDrawn subr_at f j n
 
 -- P holds of each element of a list and the element at the same place in another list of the same length
 abbrev pub EachBeside : {X Y : Type 0} → (X → Y → Type 0) → List X → List Y → Type 0

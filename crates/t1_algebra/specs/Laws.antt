@@ -11,8 +11,8 @@ use Rattle.t1_font.specs.IsFont.{IsFont}
 use Rattle.t1_font.specs.Joins.{join_parts}
 use Rattle.t1_algebra.specs.Interpreter.{Interpreter, Names}
 use Rattle.t1_algebra.specs.Keep.{has, keep, kept, subset, Closed}
-use Rattle.t1_algebra.specs.States.{Compatible, Join, IsWithin, joined, joined_font, subr_state, name_state, code_state, is_sought}
-use Rattle.t1_algebra.specs.StateTables.{states_of, StatesAgree, StatesJoin}
+use Rattle.t1_algebra.specs.States.{Compatible, Join, KeepsLimits, joined_option, joined_font, subr_state, name_state, code_state, is_sought}
+use Rattle.t1_algebra.specs.StateTables.{states_of, FontStatesAgree, FontStatesJoin}
 use Rattle.t1_algebra.specs.Conflicts.{conflict}
 use Rattle.t1_algebra.specs.JoinedEntries.{EntriesJoin}
 use Rattle.t1_algebra.specs.Groupings.{union_all, Merges, folded, EachPair}
@@ -101,8 +101,8 @@ module _ {O : Type 0} (m : Interpreter O) where
   -- ---- fonts from anywhere
 
   -- a join is a font
-  abbrev pub JoinIsFont : Type 0
-  JoinIsFont = (f g : FontValue) → IsFont f → IsFont g → Join m f g → IsFont (joined_font m f g)
+  abbrev pub JoinedIsFont : Type 0
+  JoinedIsFont = (f g : FontValue) → IsFont f → IsFont g → Join m f g → IsFont (joined_font m f g)
 
   -- fonts join in both orders, to the same font
   abbrev pub JoinIsSymmetric : Type 0
@@ -115,10 +115,10 @@ module _ {O : Type 0} (m : Interpreter O) where
   -- the states of a join are the joined states
   abbrev pub StatesOfJoin : Type 0
   StatesOfJoin = (f g : FontValue) → Join m f g →
-      StatesJoin (states_of m f) (states_of m g) (states_of m (joined_font m f g))
-      × ((i : ℕ) → subr_state m (joined_font m f g) i ≡ joined (subr_state m f i) (subr_state m g i))
-      × ((n : List ℕ) → name_state m (joined_font m f g) n ≡ joined (name_state m f n) (name_state m g n))
-      × ((c : ℕ) → code_state (joined_font m f g).encoding c ≡ joined (code_state f.encoding c) (code_state g.encoding c))
+      FontStatesJoin (states_of m f) (states_of m g) (states_of m (joined_font m f g))
+      × ((i : ℕ) → subr_state m (joined_font m f g) i ≡ joined_option (subr_state m f i) (subr_state m g i))
+      × ((n : List ℕ) → name_state m (joined_font m f g) n ≡ joined_option (name_state m f n) (name_state m g n))
+      × ((c : ℕ) → code_state (joined_font m f g).encoding c ≡ joined_option (code_state f.encoding c) (code_state g.encoding c))
 
   -- each glyph of either font runs and draws in a join as it did
   abbrev pub JoinsDraw : Type 0
@@ -133,12 +133,12 @@ module _ {O : Type 0} (m : Interpreter O) where
   -- a list of fonts merges from left to right exactly if the states of each two of them join and the font of all is within the limits
   abbrev pub AcceptedByPairs : Type 0
   AcceptedByPairs = (f : FontValue) (fs : List FontValue) → EachLeaf IsFont (from_left (one f) fs) →
-      (EachPair m (f ∷ fs) → IsWithin (folded m f fs) → Merges m (from_left (one f) fs) (folded m f fs))
-      × ((j : FontValue) → Merges m (from_left (one f) fs) j → EachPair m (f ∷ fs) × (folded m f fs ≡ j) × IsWithin j)
+      (EachPair m (f ∷ fs) → KeepsLimits (folded m f fs) → Merges m (from_left (one f) fs) (folded m f fs))
+      × ((j : FontValue) → Merges m (from_left (one f) fs) j → EachPair m (f ∷ fs) × (folded m f fs ≡ j) × KeepsLimits j)
 
   -- fonts join exactly if their states agree
   abbrev pub JoinWhereStatesAgree : Type 0
-  JoinWhereStatesAgree = (f g : FontValue) → IsFont f → StatesAgree (states_of m f) (states_of m g) ↔ Join m f g
+  JoinWhereStatesAgree = (f g : FontValue) → IsFont f → FontStatesAgree (states_of m f) (states_of m g) ↔ Join m f g
 
   -- two fonts have no conflict exactly if they join
   abbrev pub NoConflictIsJoin : Type 0

@@ -6,7 +6,7 @@ use Rattle.t1_font.specs.FontValue.{FontValue}
 use Rattle.t1_font.specs.IsFont.{IsFont}
 use Rattle.t1_algebra.specs.Keep.{has}
 use Rattle.t1_algebra.specs.Profile.{profile}
-use Rattle.t1_algebra.specs.States.{IsWithin}
+use Rattle.t1_algebra.specs.States.{KeepsLimits}
 use Rattle.t1_algebra.specs.StateTables.{StatesValue, states_of}
 use Rattle.t1_algebra.specs.Laws.{DrawsAlike}
 use Rattle.t1_algebra.specs.Groupings.{folded, EachPair, Merges}
@@ -35,7 +35,7 @@ DrawsAll fs j = AllByRecursion (λ f. (n : List ℕ) → has f n ≡ true → Dr
 -- there are fonts, the states of each two of them join, and the font of all is within the limits
 abbrev pub AllJoin : List FontValue → Type 0
 AllJoin [] = ⊥
-AllJoin (f ∷ fs) = EachPair profile (f ∷ fs) × IsWithin (folded profile f fs)
+AllJoin (f ∷ fs) = EachPair profile (f ∷ fs) × KeepsLimits (folded profile f fs)
 
 -- this order and grouping of the fonts comes to j, and to no other font
 abbrev pub MergesTo : Grouping FontValue → FontValue → Type 0

@@ -56,8 +56,8 @@ pub record IsTruncated (f : FontValue) (t : Truncated) : Type 0 where
   pub count : t.count ≤ declared_count f.shell.subrs
 
 -- the fonts of a list of truncated subsets
-abbrev pub fonts_of : List Truncated → List FontValue
-fonts_of ts = map (λ t. t.font) ts
+abbrev pub truncated_fonts : List Truncated → List FontValue
+truncated_fonts ts = map (λ t. t.font) ts
 
 -- the sets of names of a list of truncated subsets
 abbrev pub sets_of : List Truncated → List Names
@@ -84,8 +84,8 @@ rejoined f ts = cut_to (largest ts) (without_tag (subset profile f (names_of_all
 -- counts and without its tag, and to nothing else; each kept glyph draws in it as in the font.
 pub record Rejoins (f : FontValue) (ts : List Truncated) : Type 0 where
   pub shared : IsFont (shared_font f ts)
-  pub subsets : evened (fonts_of ts) ≡ map (subset profile (shared_font f ts)) (sets_of ts)
-  pub merges : (t : Grouping FontValue) → IsPermutation (evened (fonts_of ts)) (leaves t) → MergesTo t (rejoined f ts)
+  pub subsets : evened (truncated_fonts ts) ≡ map (subset profile (shared_font f ts)) (sets_of ts)
+  pub merges : (t : Grouping FontValue) → IsPermutation (evened (truncated_fonts ts)) (leaves t) → MergesTo t (rejoined f ts)
   pub draws : (n : List ℕ) → sets.contains (keep profile f (names_of_all ts)) n ≡ true → DrawsAlike f (rejoined f ts) n
 
 -- one or more truncated subsets of one font rejoin

@@ -9,7 +9,7 @@ use Rattle.t1_join.specs.TableMeaning.{TableMeaning, TablesAgree, TablesJoin}
 use Rattle.t1_join.specs.TableLaws.{table_laws, table_by_pairs, get_joined}
 use Rattle.t1_font.specs.FontValue.{total}
 use Rattle.t1_font.proofs.MapLemmas.{total-le}
-use Rattle.t1_algebra.specs.StateTables.{StatesValue, name_part, subr_part, shared_weight, subr_adds, name_adds, name_counts, states_weight, StatesFit, PartsJoin, StatesAgree, StatesJoin}
+use Rattle.t1_algebra.specs.StateTables.{StatesValue, name_part, subr_part, shared_weight, subr_adds, name_adds, name_counts, states_weight, StatesFit, PartsJoin, FontStatesAgree, FontStatesJoin}
 use Rattle.t1_algebra.specs.Shared.{Shared}
 
 -- two values of states agree part by part
@@ -45,5 +45,5 @@ falls x y z h w =
     record { weight = le_trans (lighter x y z h) w.weight; glyphs = le_trans (grows name_counts (name_part x) (name_part y) (name_part z) h.1.1.0) w.glyphs }
 
 -- joins of states keep the laws of joins
-pub states_laws : JoinLaws StatesAgree StatesJoin
+pub states_laws : JoinLaws FontStatesAgree FontStatesJoin
 states_laws = fitting_laws parts_laws StatesFit falls

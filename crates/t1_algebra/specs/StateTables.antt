@@ -133,12 +133,12 @@ abbrev pub PartsJoin : StatesValue → StatesValue → StatesValue → Type 0
 PartsJoin = BothJoin SameJoin (BothJoin TablesJoin (BothJoin TablesJoin TablesJoin))
 
 -- the states join part by part, within the limits
-abbrev pub StatesAgree : StatesValue → StatesValue → Type 0
-StatesAgree = FittingAgree PartsJoin StatesFit
+abbrev pub FontStatesAgree : StatesValue → StatesValue → Type 0
+FontStatesAgree = FittingAgree PartsJoin StatesFit
 
 -- states join to a value part by part, and the value is within the limits, or both states are the value
-abbrev pub StatesJoin : StatesValue → StatesValue → StatesValue → Type 0
-StatesJoin = FittingJoin PartsJoin StatesFit
+abbrev pub FontStatesJoin : StatesValue → StatesValue → StatesValue → Type 0
+FontStatesJoin = FittingJoin PartsJoin StatesFit
 
 -- the states of both, each key's by itself; what is shared is the first's
 abbrev pub joined_states : StatesValue → StatesValue → StatesValue

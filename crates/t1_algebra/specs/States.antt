@@ -23,9 +23,9 @@ Agree (Some v) None = Unit {0}
 Agree (Some v) (Some w) = v ≡ w
 
 -- the state of the two that is not the bottom
-abbrev pub joined : {V : Type 0} → Option V → Option V → Option V
-joined None y = y
-joined (Some v) y = Some v
+abbrev pub joined_option : {V : Type 0} → Option V → Option V → Option V
+joined_option None y = y
+joined_option (Some v) y = Some v
 
 -- the name of a code, if the Encoding is a table
 abbrev pub code_state : Encoding → ℕ → Option (List ℕ)
@@ -37,7 +37,7 @@ abbrev pub is_stub : List ℕ → Bool
 is_stub c = bytes_eq c stub
 
 -- the limits that a join has to keep
-pub record IsWithin (f : FontValue) : Type 0 where
+pub record KeepsLimits (f : FontValue) : Type 0 where
   pub weight : weight f ≤ weight_limit
   pub glyphs : maps.len f.glyphs ≤ count_limit
 
@@ -101,7 +101,7 @@ module _ {O : Type 0} (m : Interpreter O) where
     joined_font = record {
       shell = f.shell;
       encoding = join_encodings f.encoding g.encoding;
-      subrs = map_values (λ i c. unwrap_or (joined (subr_state f i) (subr_state g i)) stub) f.subrs;
+      subrs = map_values (λ i c. unwrap_or (joined_option (subr_state f i) (subr_state g i)) stub) f.subrs;
       glyphs = merged f.glyphs g.glyphs;
     }
 
@@ -117,4 +117,4 @@ module _ {O : Type 0} (m : Interpreter O) where
     -- the fonts join: their states do, and the joined font is within the limits
     pub record Join : Type 0 where
       pub states : Compatible
-      pub within : IsWithin joined_font
+      pub within : KeepsLimits joined_font

@@ -9,13 +9,13 @@ use Rattle.t1_cmd.specs.Files.{OfFiles, RefusesFiles}
 use Rattle.t1_cmd.specs.WrittenSubsets.{OfUnion}
 use Rattle.t1_cmd.specs.Cuts.{OfRejoined}
 use Rattle.t1_c.specs.declared.answers.Answer.{Answer}
-use Rattle.t1_c.specs.Gives.{HasWhole, IsTold, Tells, GivesFiles, GivesText}
+use Rattle.t1_c.specs.Gives.{HasWhole, IsSaid, GivesReason, GivesFiles, GivesText}
 
 -- a call over several files gives what that call answered
 pub gives_files : {A : Type 0} (understand : List ℕ → Result A Reason) (Answers : List A → Result (List ℕ) Reason → Type 0) (files : List (List ℕ))
     {V : Type 0} (view : V → List ℕ) (r : Result V FilesRefusal) (code : ℕ) (a : Answer)
     → IfOk r (λ v. OfFiles understand Answers files (Ok (view v))) → IfErr r (RefusesFiles understand Answers files)
-    → IfOk r (λ v. HasWhole (view v) code a) → IfErr r (λ e. Tells e.place e.reason code a) → GivesFiles understand Answers files code a
+    → IfOk r (λ v. HasWhole (view v) code a) → IfErr r (λ e. GivesReason e.place e.reason code a) → GivesFiles understand Answers files code a
 gives_files understand Answers files view (Ok v) code a is refused whole told = inr (inl (view v, is, whole))
 gives_files understand Answers files view (Err e) code a is refused whole (inl nothing) = inl nothing
 gives_files understand Answers files view (Err e) code a is refused whole (inr told) = inr (inr (e.place, e.reason, refused, told))
@@ -23,19 +23,19 @@ gives_files understand Answers files view (Err e) code a is refused whole (inr t
 -- a text or want of memory is given as that
 text_given : {V : Type 0} (view : V → List ℕ) (r : Result V FilesRefusal) (code : ℕ) (a : Answer) (text : List ℕ)
     → MatchResult r (λ v. view v ≡ text) (λ e. (e.place ≡ None) × (e.reason ≡ Memory))
-    → IfOk r (λ v. HasWhole (view v) code a) → IfErr r (λ e. Tells e.place e.reason code a) → GivesText code a text
+    → IfOk r (λ v. HasWhole (view v) code a) → IfErr r (λ e. GivesReason e.place e.reason code a) → GivesText code a text
 text_given view (Ok v) code a text is whole told = inr (subst (λ t. HasWhole t code a) is whole)
 text_given view (Err e) code a text is whole (inl nothing) = inl nothing
-text_given view (Err e) code a text is whole (inr told) = absurd (subst (λ r. IsTold e.place r code a) is.1 told)
+text_given view (Err e) code a text is whole (inr told) = absurd (subst (λ r. IsSaid e.place r code a) is.1 told)
 
 -- of the written subsets of one font the union is given
 pub gives_union : (form : Form) (files : List (List ℕ)) {V : Type 0} (view : V → List ℕ) (r : Result V FilesRefusal) (code : ℕ) (a : Answer)
     → OfUnion form files (λ union. MatchResult r (λ v. view v ≡ union) (λ e. (e.place ≡ None) × (e.reason ≡ Memory)))
-    → IfOk r (λ v. HasWhole (view v) code a) → IfErr r (λ e. Tells e.place e.reason code a) → OfUnion form files (GivesText code a)
+    → IfOk r (λ v. HasWhole (view v) code a) → IfErr r (λ e. GivesReason e.place e.reason code a) → OfUnion form files (GivesText code a)
 gives_union form files view r code a unions whole told = λ f h names more s. text_given view r code a _ (unions f h names more s) whole told
 
 -- of the files of truncated subsets of one font what they rejoin to is given
 pub gives_rejoined : (form : Form) (files : List (List ℕ)) {V : Type 0} (view : V → List ℕ) (r : Result V FilesRefusal) (code : ℕ) (a : Answer)
     → OfRejoined form files (λ whole. MatchResult r (λ v. view v ≡ whole) (λ e. (e.place ≡ None) × (e.reason ≡ Memory)))
-    → IfOk r (λ v. HasWhole (view v) code a) → IfErr r (λ e. Tells e.place e.reason code a) → OfRejoined form files (GivesText code a)
+    → IfOk r (λ v. HasWhole (view v) code a) → IfErr r (λ e. GivesReason e.place e.reason code a) → OfRejoined form files (GivesText code a)
 gives_rejoined form files view r code a cuts whole told = λ f h t ts s. text_given view r code a _ (cuts f h t ts s) whole told

@@ -31,22 +31,22 @@ HasWhole text code a = (code ≡ ok) × (a.detail ≡ 0) × (a.input ≡ input_a
 
 -- The call returns the number of a reason, and gives what it names, the place of the input that is refused, and its text.
 -- Want of memory is not told like this.
-abbrev pub IsTold : Option ℕ → Reason → ℕ → Answer → Type 0
-IsTold place Memory code a = ⊥
-IsTold place r code a = (code ≡ number_of r) × (a.detail ≡ detail_of r) × (a.input ≡ input_at place) × (a.bytes.now ≡ reason_text r)
+abbrev pub IsSaid : Option ℕ → Reason → ℕ → Answer → Type 0
+IsSaid place Memory code a = ⊥
+IsSaid place r code a = (code ≡ number_of r) × (a.detail ≡ detail_of r) × (a.input ≡ input_at place) × (a.bytes.now ≡ reason_text r)
 
 -- a reason is told, unless a growth was refused
-abbrev pub Tells : Option ℕ → Reason → ℕ → Answer → Type 0
-Tells place r code a = HasNothing memory code a ⊎ IsTold place r code a
+abbrev pub GivesReason : Option ℕ → Reason → ℕ → Answer → Type 0
+GivesReason place r code a = HasNothing memory code a ⊎ IsSaid place r code a
 
 -- ---- what a call does
 
 -- A call gives a text that is right, or tells a reason that is right at its place; or a growth was refused, and it gives nothing.
-abbrev pub Gives : (List ℕ → Type 0) → (Option ℕ → Reason → Type 0) → ℕ → Answer → Type 0
-Gives IsText IsReason code a =
+abbrev pub CallGives : (List ℕ → Type 0) → (Option ℕ → Reason → Type 0) → ℕ → Answer → Type 0
+CallGives IsText IsReason code a =
     HasNothing memory code a
     ⊎ (((text : List ℕ) × IsText text × HasWhole text code a)
-    ⊎ ((place : Option ℕ) × (r : Reason) × IsReason place r × IsTold place r code a))
+    ⊎ ((place : Option ℕ) × (r : Reason) × IsReason place r × IsSaid place r code a))
 
 -- where a single file is refused for itself: it is too long, or spells no font
 abbrev pub place_in_one : Reason → Option ℕ
@@ -56,7 +56,7 @@ place_in_one other = None
 
 -- a call over one file gives this answer of it
 abbrev pub GivesOne : Result (List ℕ) Reason → ℕ → Answer → Type 0
-GivesOne answer = Gives (λ text. answer ≡ Ok text) (λ place r. (place ≡ place_in_one r) × (answer ≡ Err r))
+GivesOne answer = CallGives (λ text. answer ≡ Ok text) (λ place r. (place ≡ place_in_one r) × (answer ≡ Err r))
 
 -- a call over one file gives what its font is answered with
 abbrev pub GivesOf : (FontValue → Result (List ℕ) Reason) → List ℕ → ℕ → Answer → Type 0
@@ -68,7 +68,7 @@ GivesMended answer file = GivesOne (of_mended answer file)
 
 -- a call over several files gives an answer to what all of them say
 abbrev pub GivesFiles : {A : Type 0} → (List ℕ → Result A Reason) → (List A → Result (List ℕ) Reason → Type 0) → List (List ℕ) → ℕ → Answer → Type 0
-GivesFiles understand Answers files = Gives (λ text. OfFiles understand Answers files (Ok text)) (RefusedAt understand Answers files)
+GivesFiles understand Answers files = CallGives (λ text. OfFiles understand Answers files (Ok text)) (RefusedAt understand Answers files)
 
 -- a call that takes the number of a form does this; a number that no form has is a bad call
 abbrev pub In : Option Form → (Form → ℕ → Answer → Type 0) → ℕ → Answer → Type 0

@@ -1,6 +1,6 @@
 //! What a call gives to C.
 ghost use Rattle.std.specs.Prelude.{◌≡◌, IfOk, IfErr};
-ghost use Rattle.t1_c.specs.Gives.{HasNothing, HasWhole, Tells, place_in_one, input_at};
+ghost use Rattle.t1_c.specs.Gives.{HasNothing, HasWhole, GivesReason, place_in_one, input_at};
 
 use crate::numbers::{MEMORY, OK, detail_of, number_of};
 use std::alloc::Global;
@@ -52,7 +52,7 @@ fn input_at(place: Option<usize>) -> i64
 
 // Tells a reason, with the place of the input that is refused.
 fn tell(alloc: Global, place: Option<usize>, reason: &Reason, answer: &mut Answer) -> u32
-    ensures { Tells place reason.now result answer.new }
+    ensures { GivesReason place reason.now result answer.new }
 {
     if let Reason::Memory = reason {
         return give_nothing(MEMORY, answer);
@@ -79,7 +79,7 @@ fn place_in_one(reason: &Reason) -> Option<usize>
 /// Gives the text that a call over one file answered, or tells why there is none.
 pub(crate) fn give_of(alloc: Global, text: Result<Vec<u8>, Reason>, answer: &mut Answer) -> u32
     ensures whole { IfOk text (λ text. HasWhole text.items result answer.new) }
-    ensures told { IfErr text (λ r. Tells (place_in_one r) r result answer.new) }
+    ensures told { IfErr text (λ r. GivesReason (place_in_one r) r result answer.new) }
 {
     match text {
         Ok(text) => give_text(text, answer),
@@ -94,7 +94,7 @@ pub(crate) fn give_files(
     answer: &mut Answer,
 ) -> u32
     ensures whole { IfOk text (λ text. HasWhole text.items result answer.new) }
-    ensures told { IfErr text (λ e. Tells e.place e.reason result answer.new) }
+    ensures told { IfErr text (λ e. GivesReason e.place e.reason result answer.new) }
 {
     match text {
         Ok(text) => give_text(text, answer),

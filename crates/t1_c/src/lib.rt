@@ -19,7 +19,7 @@ ghost use Rattle.t1_cmd.specs.DrawingText.{show_answer};
 ghost use Rattle.t1_cmd.specs.Fonts.{font_input, mended_input, file_answer};
 ghost use Rattle.t1_cmd.specs.Mends.{mends_answer};
 ghost use Rattle.t1_cmd.specs.Subsets.{subset_answer};
-ghost use Rattle.t1_cmd.specs.Mergers.{MergesTo};
+ghost use Rattle.t1_cmd.specs.Mergers.{MergesToFile};
 ghost use Rattle.t1_cmd.specs.Rejoins.{RejoinsTo};
 ghost use Rattle.t1_cmd.specs.Listings.{listing_input, JoinsTo};
 ghost use Rattle.t1_cmd.specs.WrittenSubsets.{OfUnion};
@@ -123,7 +123,7 @@ pub extern "C" fn t1subset_merge(
     form: u32,
     answer: &mut Answer,
 ) -> u32
-    ensures gives { In (form_at form) (λ f. GivesFiles font_input (MergesTo f) (lent fonts.now))
+    ensures gives { In (form_at form) (λ f. GivesFiles font_input (MergesToFile f) (lent fonts.now))
         result answer.new }
     ensures subsets { IfForm (form_at form)
         (λ f. OfUnion f (lent fonts.now) (GivesText result answer.new)) }

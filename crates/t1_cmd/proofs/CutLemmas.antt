@@ -21,10 +21,10 @@ use Rattle.t1_algebra.specs.Interpreter.{Names}
 use Rattle.t1_algebra.specs.Profile.{profile}
 use Rattle.t1_algebra.specs.Keep.{subset}
 use Rattle.t1_algebra.specs.Laws.{IsOf, DrawsAlike}
-use Rattle.t1_algebra.specs.Evened.{StaysDrawn, subrs_of, AllStayDrawn, EachBeside}
+use Rattle.t1_algebra.specs.Evened.{StaysDrawn, map_subrs, AllStayDrawn, EachBeside}
 use Rattle.t1_algebra.proofs.Drawings.{answers_alike}
 use Rattle.t1_algebra.specs.Merges.{ComesTo, DrawsAll}
-use Rattle.t1_algebra.specs.Rejoins.{Truncated, IsTruncated, fonts_of, sets_of, shared_font, rejoined, Rejoins}
+use Rattle.t1_algebra.specs.Rejoins.{Truncated, IsTruncated, truncated_fonts, sets_of, shared_font, rejoined, Rejoins}
 use Rattle.t1_algebra.proofs.Fonts.{subset_is_font, merges_are_fonts}
 use Rattle.t1_algebra.proofs.rejoining.Evened.{evened_draw}
 use Rattle.t1_subset.proofs.Answered.{draws_all}
@@ -38,9 +38,9 @@ use Rattle.t1_cmd.specs.Inputs.{Input, value_and, values_of}
 use Rattle.t1_cmd.specs.Files.{Values, value_before, values_from, OfFiles, RefusesFiles}
 use Rattle.t1_cmd.specs.Runs.{RunEnds}
 use Rattle.t1_cmd.specs.Fonts.{mended_input}
-use Rattle.t1_cmd.specs.Mergers.{MergesTo}
+use Rattle.t1_cmd.specs.Mergers.{MergesToFile}
 use Rattle.t1_cmd.specs.Rejoins.{RejoinsTo}
-use Rattle.t1_cmd.specs.Cuts.{AreCutFiles, OfRejoined, AreCuts, WritesRejoined, AllStayDrawnIn, RejoinedDraw}
+use Rattle.t1_cmd.specs.Cuts.{AreCutFiles, OfRejoined, InputsAreCuts, WritesRejoined, AllStayDrawnIn, RejoinedDraw}
 use Rattle.t1_cmd.proofs.OneAnswer.{OneAnswer, files_answered, inputs_answered}
 use Rattle.t1_cmd.proofs.RejoinLemmas.{all_light, light_or_heavy, rejoins_apart}
 
@@ -48,7 +48,7 @@ use Rattle.t1_cmd.proofs.RejoinLemmas.{all_light, light_or_heavy, rejoins_apart}
 
 module _ (f : FontValue) (h : IsFont f) (form : Form) (t : Truncated) (ts : List Truncated) (all : AllByRecursion (IsTruncated f) (t ∷ ts)) where
   abbrev cuts : List FontValue
-  cuts = fonts_of (t ∷ ts)
+  cuts = truncated_fonts (t ∷ ts)
 
   abbrev whole : FontValue
   whole = rejoined f (t ∷ ts)
@@ -103,7 +103,8 @@ module _ (f : FontValue) (h : IsFont f) (form : Form) (t : Truncated) (ts : List
 
 module _ (f : FontValue) where
   -- what the files of truncated subsets say
-  files_said : (place : ℕ) (ts : List Truncated) (files : List (List ℕ)) → AreCutFiles f ts files → values_from mended_input place files ≡ Ok (fonts_of ts)
+  files_said : (place : ℕ) (ts : List Truncated) (files : List (List ℕ)) → AreCutFiles f ts files →
+      values_from mended_input place files ≡ Ok (truncated_fonts ts)
   files_said place [] [] s = refl
   files_said place [] (file ∷ files) s = absurd s
   files_said place (t ∷ ts) [] s = absurd s
@@ -120,7 +121,7 @@ module _ (f : FontValue) where
   -- ---- inputs
 
   -- what the inputs say
-  inputs_said : (ts : List Truncated) (is : List Input) → AreCuts f ts is → values_of mended_input is ≡ Some (fonts_of ts)
+  inputs_said : (ts : List Truncated) (is : List Input) → InputsAreCuts f ts is → values_of mended_input is ≡ Some (truncated_fonts ts)
   inputs_said [] [] s = refl
   inputs_said [] (i ∷ is) s = absurd s
   inputs_said (t ∷ ts) [] s = absurd s
@@ -129,7 +130,7 @@ module _ (f : FontValue) where
       ap (λ (k : Option (List ℕ)). value_and (option_and_then (λ bytes. result_ok (mended_input bytes)) k) rest) s.0.2
       ∙ (ap (λ (r : Result FontValue Reason). value_and (result_ok r) rest) s.0.1.1 ∙ ap (value_and (Some t.font)) (inputs_said ts is s.1))
 
-  inputs_cut : (ts : List Truncated) (is : List Input) → AreCuts f ts is → AllByRecursion (IsTruncated f) ts
+  inputs_cut : (ts : List Truncated) (is : List Input) → InputsAreCuts f ts is → AllByRecursion (IsTruncated f) ts
   inputs_cut [] [] s = tt
   inputs_cut [] (i ∷ is) s = absurd s
   inputs_cut (t ∷ ts) [] s = absurd s
@@ -140,14 +141,14 @@ pub rejoins_cut_files : {V : Type 0} (form : Form) (files : List (List ℕ)) (vi
     IfOk result (λ v. OfFiles mended_input (RejoinsTo form) files (Ok (view v))) → IfErr result (RefusesFiles mended_input (RejoinsTo form) files) →
     OfRejoined form files (λ whole. MatchResult result (λ v. view v ≡ whole) (λ e. (e.place ≡ None) × (e.reason ≡ Memory)))
 rejoins_cut_files form files view result d r f h t ts s =
-    files_answered mended_input (RejoinsTo form) (fonts_of (t ∷ ts)) (canon (rejoined f (t ∷ ts)) form)
+    files_answered mended_input (RejoinsTo form) (truncated_fonts (t ∷ ts)) (canon (rejoined f (t ∷ ts)) form)
     (one_answer f h form t ts (files_cut f (t ∷ ts) files s)) files (files_said f 0 (t ∷ ts) files s) view result d r
 
 -- an engine that ends as rejoining does writes it
 pub writes_rejoined : {W : Type 0} (contents : W → Option (List ℕ)) (form : Form) (is : List Input) (w v : Counted W) (result : Result (Unit {0}) RunFault) →
     RunEnds mended_input (RejoinsTo form) contents is w v result → WritesRejoined contents form is w v result
 writes_rejoined contents form is w v result ends f h t ts s =
-    inputs_answered mended_input (RejoinsTo form) (fonts_of (t ∷ ts)) (canon (rejoined f (t ∷ ts)) form)
+    inputs_answered mended_input (RejoinsTo form) (truncated_fonts (t ∷ ts)) (canon (rejoined f (t ∷ ts)) form)
     (one_answer f h form t ts (inputs_cut f (t ∷ ts) is s)) is (inputs_said f (t ∷ ts) is s) contents w v result ends
 
 -- ---- what stays drawn
@@ -168,11 +169,11 @@ through subrs f e j n s same runs drawn drawn3 = record {
 }
 
 -- the same over the maps, and as calls see them
-through_both : (f e j : FontValue) (n : List ℕ) → IsFont e → IsFont j → StaysDrawn subrs_of f e n × StaysDrawn subr_at f e n → DrawsAlike e j n →
-    StaysDrawn subrs_of f j n × StaysDrawn subr_at f j n
+through_both : (f e j : FontValue) (n : List ℕ) → IsFont e → IsFont j → StaysDrawn map_subrs f e n × StaysDrawn subr_at f e n → DrawsAlike e j n →
+    StaysDrawn map_subrs f j n × StaysDrawn subr_at f j n
 through_both f e j n font joined s d =
     let a = answers_alike e j font joined n d in (
-      through subrs_of f e j n s.0 d.charstring (λ c is. (d.answer c is, d.answer3 c is, d.executes c is)) d.draws d.draws3,
+      through map_subrs f e j n s.0 d.charstring (λ c is. (d.answer c is, d.answer3 c is, d.executes c is)) d.draws d.draws3,
       through subr_at f e j n s.1 a.charstring (λ c is. (a.answer c is, a.answer3 c is, a.executes c is)) a.draws a.draws3,
     )
 

@@ -7,7 +7,7 @@ use Rattle.t1_subset.specs.NameSets.{lent}
 use Rattle.t1_cmd.specs.declared.faults.FilesRefusal.{FilesRefusal}
 use Rattle.t1_cmd.specs.declared.faults.Reason.{Reason}
 use Rattle.t1_cmd.specs.declared.faults.Reason.TheVariants.{TooLong, Memory, List as ListReason, Join as JoinReason, Font, NoGlyph, Merge}
-use Rattle.t1_cmd.specs.Answers.{Refuses}
+use Rattle.t1_cmd.specs.Answers.{MayRefuse}
 use Rattle.t1_cmd.specs.Files.{Values, value_before, values_from, IsUnread, IsRefusalAt, OfFiles, RefusedAt}
 use Rattle.t1_cmd.proofs.Refusals.{refuses, by_answer}
 
@@ -118,7 +118,7 @@ module _ {A : Type 0} (understand : List ℕ → Result A Reason) where
 
   -- the refusal of the first file that is refused ends the reading
   pub refused_file : (files : List (List ℕ)) (place : ℕ) (r : Reason) (e : FilesRefusal)
-      → IsRefusalAt place r e → Refuses (FailsAt files place) r → IsUnread understand files e.place e.reason
+      → IsRefusalAt place r e → MayRefuse (FailsAt files place) r → IsUnread understand files e.place e.reason
   refused_file files place Memory e at h = unread_at files e None Memory at.0 at.1 refl
   refused_file files place TooLong e at h = unread_at files e (Some place) TooLong at.0 at.1 h
   refused_file files place (ListReason f) e at h = unread_at files e (Some place) (ListReason f) at.0 at.1 h
@@ -129,21 +129,21 @@ module _ {A : Type 0} (understand : List ℕ → Result A Reason) where
 
   -- a file that is refused ends the reading of all
   pub refuses_all : (files : List (Bor (List ℕ))) (place : ℕ) (done : List A) (d : Bor (List ℕ)) (r : Reason) (e : FilesRefusal)
-      → SoFar place files done → place < length files → Refuses (λ a. a ≡ understand (get_or files place d).now) r
+      → SoFar place files done → place < length files → MayRefuse (λ a. a ≡ understand (get_or files place d).now) r
       → IsRefusalAt place r e → IsUnread understand (lent files) e.place e.reason
   refuses_all files place done d r e h l s at =
       refused_file (lent files) place r e at
-      (by_answer (λ a. a ≡ understand (get_or files place d).now) (Refuses (FailsAt (lent files) place)) r tt
+      (by_answer (λ a. a ≡ understand (get_or files place d).now) (MayRefuse (FailsAt (lent files) place)) r tt
       (λ t k. refuses (FailsAt (lent files) place) t (first_refused files place done d t h l k)) s)
 
   -- what ends the reading refuses the files
   pub unread : (Answers : List A → Result (List ℕ) Reason → Type 0) (files : List (List ℕ)) (place : Option ℕ) (r : Reason)
       → IsUnread understand files place r → RefusedAt understand Answers files place r
   unread Answers files (Some place) r h = h
-  unread Answers files None r h = subst (Refuses (OfFiles understand Answers files)) (sym h) tt
+  unread Answers files None r h = subst (MayRefuse (OfFiles understand Answers files)) (sym h) tt
 
   -- what refuses what files say refuses the files
   pub refuses_values : (Answers : List A → Result (List ℕ) Reason → Type 0) (files : List (List ℕ)) (values : List A) (r : Reason)
-      → values_from understand 0 files ≡ Ok values → Refuses (Answers values) r → Refuses (OfFiles understand Answers files) r
+      → values_from understand 0 files ≡ Ok values → MayRefuse (Answers values) r → MayRefuse (OfFiles understand Answers files) r
   refuses_values Answers files values r is =
-      by_answer (Answers values) (Refuses (OfFiles understand Answers files)) r tt (λ s h. refuses (OfFiles understand Answers files) s (values, is, h))
+      by_answer (Answers values) (MayRefuse (OfFiles understand Answers files)) r tt (λ s h. refuses (OfFiles understand Answers files) s (values, is, h))

@@ -10,19 +10,19 @@ use Rattle.t1_cmd.specs.declared.faults.Reason.{Reason}
 use Rattle.t1_cmd.specs.declared.faults.Reason.TheVariants.{Memory}
 use Rattle.t1_cmd.specs.declared.faults.RunFault.{RunFault}
 use Rattle.t1_cmd.specs.declared.faults.RunFault.TheVariants.{Refused}
-use Rattle.t1_cmd.specs.Inputs.{Input, Has}
-use Rattle.t1_cmd.specs.Answers.{if_there, Refuses, Prints}
+use Rattle.t1_cmd.specs.Inputs.{Input, Holds}
+use Rattle.t1_cmd.specs.Answers.{if_there, MayRefuse, Prints}
 use Rattle.t1_cmd.specs.Runs.{Stops, RunEnds, Succeeds}
 use Rattle.t1_cmd.specs.Fonts.{of_input}
-use Rattle.t1_cmd.specs.DrawingText.{mark_line, with_line}
+use Rattle.t1_cmd.specs.DrawingText.{mark_line, with_mark_line}
 use Rattle.t1_cmd.proofs.Refusals.{by_answer, says_so, input_stops}
 use Rattle.t1_cmd.proofs.RunLemmas.{Says, stops_after, stops_together, ends_succeeds}
 
 -- ---- files
 
 -- a file that a word refuses stops its engine
-pub word_stops : (input : List ℕ → Result FontValue Reason) (answer : FontValue → Result (List ℕ) Reason) (i : Input) (file : List ℕ) (r : Reason) → Has i file
-    → Refuses (λ a. a ≡ of_input input answer file) r → Stops input (Prints answer) (i ∷ []) (Refused r)
+pub word_stops : (input : List ℕ → Result FontValue Reason) (answer : FontValue → Result (List ℕ) Reason) (i : Input) (file : List ℕ) (r : Reason) →
+    Holds i file → MayRefuse (λ a. a ≡ of_input input answer file) r → Stops input (Prints answer) (i ∷ []) (Refused r)
 word_stops input answer i file r has =
     by_answer (λ a. a ≡ of_input input answer file) (λ s. Stops input (Prints answer) (i ∷ []) (Refused s)) r tt (λ s h. by s (input file) refl h)
   where
@@ -35,7 +35,7 @@ word_stops input answer i file r has =
 
 -- the font of a file for which a word has a text
 pub word_says : (input : List ℕ → Result FontValue Reason) (answer : FontValue → Result (List ℕ) Reason) (i : Input) (file text : List ℕ)
-    → Has i file → of_input input answer file ≡ Ok text
+    → Holds i file → of_input input answer file ≡ Ok text
     → (f : FontValue) × Says input i f × (Ok text ≡ answer f)
 word_says input answer i file text has h = by (input file) refl h
   where
@@ -76,7 +76,7 @@ three_pieces start first second third a b c h k l m =
     all
 
 -- the lines of marks, one after another
-pub lines_of_marks : (text : List ℕ) (marks : List Mark) → drawn_on with_line text marks ≡ text ++ flat_map mark_line marks
+pub lines_of_marks : (text : List ℕ) (marks : List Mark) → drawn_on with_mark_line text marks ≡ text ++ flat_map mark_line marks
 lines_of_marks text [] = sym (append-nil text)
 lines_of_marks text (m ∷ marks) = lines_of_marks (text ++ mark_line m) marks ∙ append_assoc text (mark_line m) (flat_map mark_line marks)
 

@@ -24,9 +24,9 @@ use Rattle.t1_font.proofs.read_fonts.ReadFontLaws.{read_is_font}
 use Rattle.t1_cmd.specs.declared.faults.Reason.{Reason}
 use Rattle.t1_cmd.specs.declared.faults.Reason.TheVariants.{TooLong}
 use Rattle.t1_cmd.specs.declared.faults.RunFault.TheVariants.{Refused}
-use Rattle.t1_cmd.specs.Inputs.{Input, Has}
+use Rattle.t1_cmd.specs.Inputs.{Input, Holds}
 use Rattle.t1_cmd.specs.Runs.{Stops}
-use Rattle.t1_cmd.specs.Answers.{with_reason, if_there, Refuses, Prints}
+use Rattle.t1_cmd.specs.Answers.{with_reason, if_there, MayRefuse, Prints}
 use Rattle.t1_cmd.specs.Fonts.{font_reason, font_input, mended_input, file_answer}
 use Rattle.t1_cmd.specs.Files.{value_before, values_from}
 use Rattle.t1_cmd.proofs.Refusals.{by_answer, says_so, input_stops}
@@ -171,8 +171,8 @@ told_refused file r h = by (nat_lt file_limit (length file)) (read_font_widely f
     by false (Err fault) e = cc
 
 -- so it stops the engine
-pub told_stops : (answer : FontValue → Result (List ℕ) Reason) (i : Input) (file : List ℕ) (r : Reason) → Has i file →
-    Refuses (λ a. a ≡ mends_answer file) r → Stops mended_input (Prints answer) (i ∷ []) (Refused r)
+pub told_stops : (answer : FontValue → Result (List ℕ) Reason) (i : Input) (file : List ℕ) (r : Reason) → Holds i file →
+    MayRefuse (λ a. a ≡ mends_answer file) r → Stops mended_input (Prints answer) (i ∷ []) (Refused r)
 told_stops answer i file r has = by_answer (λ a. a ≡ mends_answer file) (λ s. Stops mended_input (Prints answer) (i ∷ []) (Refused s)) r tt (λ s h.
     stops_after mended_input (Prints answer) [] i [] (Refused s) tt
     (input_stops mended_input i s (says_so mended_input i file (Err s) has (told_refused file s h))))

@@ -4,7 +4,7 @@ use Rattle.t1_bytes.specs.declared.form.Form.{Form}
 use Rattle.t1_font.specs.FontValue.{FontValue}
 use Rattle.t1_subset.specs.declared.conflict.Conflict.{Conflict as Refusal}
 use Rattle.t1_subset.specs.declared.conflict.Conflict.TheVariants as refusal
-use Rattle.t1_subset.specs.Merger.{IsRefused}
+use Rattle.t1_subset.specs.Merger.{NotMerged}
 use Rattle.t1_algebra.specs.Merges.{ComesTo}
 use Rattle.t1_subset.proofs.Answered.{never_stops}
 use Rattle.t1_cmd.specs.declared.faults.Reason.{Reason}
@@ -13,19 +13,19 @@ use Rattle.t1_cmd.specs.declared.faults.RunFault.{RunFault}
 use Rattle.t1_cmd.specs.declared.faults.RunFault.TheVariants.{Refused, Read, Write}
 use Rattle.t1_cmd.specs.Inputs.{Input}
 use Rattle.t1_cmd.specs.Runs.{Stops}
-use Rattle.t1_cmd.specs.Mergers.{InputsStop, IsTold, MergesTo}
+use Rattle.t1_cmd.specs.Mergers.{InputsStop, IsTold, MergesToFile}
 
 -- ---- merges from left to right
 
 is_memory : {P : Type 0} (e : Refusal) → e ≡ refusal.Memory → IsTold e → P
 is_memory e h t = absurd (subst IsTold h t)
 
-apart_at : (fs : List FontValue) (j : FontValue) (e : Refusal) → ComesTo fs j → IsRefused fs e → IsTold e → ⊥
+apart_at : (fs : List FontValue) (j : FontValue) (e : Refusal) → ComesTo fs j → NotMerged fs e → IsTold e → ⊥
 apart_at [] j e h s t = h
 apart_at (f ∷ fs) j e h s t = ⊎_elim (λ m. is_memory e m t) (λ s. is_memory e (never_stops f fs j h e s) t) s
 
 -- fonts that merge are refused for want of memory alone
-pub merges_apart : (form : Form) (fs : List FontValue) (text : List ℕ) (r : Reason) → MergesTo form fs (Ok text) → MergesTo form fs (Err r) → r ≡ Memory
+pub merges_apart : (form : Form) (fs : List FontValue) (text : List ℕ) (r : Reason) → MergesToFile form fs (Ok text) → MergesToFile form fs (Err r) → r ≡ Memory
 merges_apart form fs text TooLong h k = absurd k
 merges_apart form fs text Memory h k = refl
 merges_apart form fs text (ListReason f) h k = absurd k

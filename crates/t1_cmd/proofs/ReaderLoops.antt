@@ -6,7 +6,7 @@ use Rattle.t1_cmd.specs.declared.counting.Counted.{Counted}
 use Rattle.t1_cmd.specs.declared.faults.Reason.TheVariants.{TooLong, Memory, List as ListReason, Join as JoinReason, Font, NoGlyph, Merge}
 use Rattle.t1_cmd.specs.declared.faults.RunFault.{RunFault}
 use Rattle.t1_cmd.specs.declared.faults.RunFault.TheVariants.{Refused, Read, Write}
-use Rattle.t1_cmd.specs.Count.{inner_of, calls_of}
+use Rattle.t1_cmd.specs.Count.{inner_of, calls_counted}
 use Rattle.t1_cmd.specs.Inputs.{Input, input_of, HasFailed, IsRefused, FirstWith, Say}
 use Rattle.t1_bytes.specs.Limits.{file_limit}
 use Rattle.t1_cmd.specs.Runs.{InputStops}
@@ -21,7 +21,7 @@ module _ (input : List ℕ → Result FontValue Reason) {X : Type 0} (remaining 
 
   -- a reader was called no more often than one input may take
   abbrev pub InTurn : Counted X → Counted X → Type 0
-  InTurn old new = calls_of new ≤ calls_of old + (file_limit + 1)
+  InTurn old new = calls_counted new ≤ calls_counted old + (file_limit + 1)
 
   -- the first readers have said these fonts, and the others are as they were
   abbrev pub SoFar : ℕ → List (Counted X) → List (Counted X) → List FontValue → Type 0

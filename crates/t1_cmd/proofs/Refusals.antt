@@ -3,13 +3,13 @@ use Rattle.std.proofs.Common.{◌≡◌, ℕ, List, subst, sym, Option, Some, No
 use Rattle.t1_cmd.specs.declared.faults.Reason.{Reason}
 use Rattle.t1_cmd.specs.declared.faults.Reason.TheVariants.{TooLong, Memory, List as ListReason, Join as JoinReason, Font, NoGlyph, Merge}
 use Rattle.t1_cmd.specs.declared.faults.RunFault.TheVariants.{Refused}
-use Rattle.t1_cmd.specs.Inputs.{Input, Has, Say}
-use Rattle.t1_cmd.specs.Answers.{Refuses}
+use Rattle.t1_cmd.specs.Inputs.{Input, Holds, Say}
+use Rattle.t1_cmd.specs.Answers.{MayRefuse}
 use Rattle.t1_cmd.specs.Runs.{InputStops, Stops}
 use Rattle.t1_cmd.proofs.RunLemmas.{stops_together}
 
 -- an answer is a right refusal
-pub refuses : {A : Type 0} (P : Result A Reason → Type 0) (r : Reason) → P (Err r) → Refuses P r
+pub refuses : {A : Type 0} (P : Result A Reason → Type 0) (r : Reason) → P (Err r) → MayRefuse P r
 refuses P TooLong h = h
 refuses P Memory h = tt
 refuses P (ListReason f) h = h
@@ -20,7 +20,7 @@ refuses P (Merge e) h = h
 
 -- what holds of each answer that is a refusal, and of want of memory, holds of a right refusal
 pub by_answer : {A : Type 0} (P : Result A Reason → Type 0) (Q : Reason → Type 0) (r : Reason)
-    → Q Memory → ((s : Reason) → P (Err s) → Q s) → Refuses P r → Q r
+    → Q Memory → ((s : Reason) → P (Err s) → Q s) → MayRefuse P r → Q r
 by_answer P Q TooLong m f h = f TooLong h
 by_answer P Q Memory m f h = m
 by_answer P Q (ListReason e) m f h = f (ListReason e) h
@@ -32,7 +32,7 @@ by_answer P Q (Merge e) m f h = f (Merge e) h
 module _ {A : Type 0} (understand : List ℕ → Result A Reason) where
   -- what a file says, its input says
   pub says_so : (i : Input) (file : List ℕ) (r : Result A Reason)
-      → Has i file → r ≡ understand file → IfSome i.known (λ bytes. understand bytes ≡ r)
+      → Holds i file → r ≡ understand file → IfSome i.known (λ bytes. understand bytes ≡ r)
   says_so i file r has h = by i.known has
     where
       by : (o : Option (List ℕ)) → IfSome o (λ bytes. file ≡ bytes) → IfSome o (λ bytes. understand bytes ≡ r)
@@ -51,13 +51,13 @@ module _ {A : Type 0} (understand : List ℕ → Result A Reason) where
 
   -- a file that is refused stops its input
   pub file_stops : (i : Input) (file : List ℕ) (r : Reason)
-      → Has i file → Refuses (λ a. a ≡ understand file) r → InputStops understand i (Refused r)
+      → Holds i file → MayRefuse (λ a. a ≡ understand file) r → InputStops understand i (Refused r)
   file_stops i file r has =
       by_answer (λ a. a ≡ understand file) (λ s. InputStops understand i (Refused s)) r tt
       (λ s h. input_stops i s (says_so i file (Err s) has h))
 
   -- what refuses the values that inputs say stops the engine
   pub answer_stops : (Answers : List A → Result (List ℕ) Reason → Type 0) (is : List Input) (xs : List A) (r : Reason)
-      → Say understand is xs → Refuses (Answers xs) r → Stops understand Answers is (Refused r)
+      → Say understand is xs → MayRefuse (Answers xs) r → Stops understand Answers is (Refused r)
   answer_stops Answers is xs r h =
       by_answer (Answers xs) (λ s. Stops understand Answers is (Refused s)) r tt (λ s a. stops_together understand Answers is xs s h a)

@@ -15,8 +15,8 @@ use Rattle.t1_join.proofs.OrderLemmas.{leaves_from_left}
 use Rattle.t1_algebra.proofs.Orders.{one_result}
 use Rattle.t1_cmd.specs.declared.faults.Reason.{Reason}
 use Rattle.t1_cmd.specs.declared.faults.Reason.TheVariants.{Memory}
-use Rattle.t1_cmd.specs.Answers.{Refuses}
-use Rattle.t1_cmd.specs.Mergers.{MergesTo}
+use Rattle.t1_cmd.specs.Answers.{MayRefuse}
+use Rattle.t1_cmd.specs.Mergers.{MergesToFile}
 use Rattle.t1_cmd.specs.Rejoins.{RejoinsTo, RejoinsWhatMerges}
 use Rattle.t1_cmd.proofs.Refusals.{refuses, by_answer}
 use Rattle.t1_cmd.proofs.MergeLemmas.{merges_apart}
@@ -35,9 +35,9 @@ rejoins_apart form fs text r (inl a) (inr b) = absurd (light_or_heavy (evened fs
 rejoins_apart form fs text r (inr a) k = let never : Ok text ≡ Err _ = a.1 in absurd cc
 
 -- what refuses the merge of fonts that are even refuses to rejoin
-pub merge_of_even : (form : Form) (fs : List FontValue) (r : Reason) → AreLight (evened fs) → Refuses (MergesTo form (evened fs)) r
-    → Refuses (RejoinsTo form fs) r
-merge_of_even form fs r l = by_answer (MergesTo form (evened fs)) (Refuses (RejoinsTo form fs)) r tt (λ s h. refuses (RejoinsTo form fs) s (inl (l, h)))
+pub merge_of_even : (form : Form) (fs : List FontValue) (r : Reason) → AreLight (evened fs) → MayRefuse (MergesToFile form (evened fs)) r
+    → MayRefuse (RejoinsTo form fs) r
+merge_of_even form fs r l = by_answer (MergesToFile form (evened fs)) (MayRefuse (RejoinsTo form fs)) r tt (λ s h. refuses (RejoinsTo form fs) s (inl (l, h)))
 
 -- ---- fonts that merge
 
@@ -55,15 +55,15 @@ comes_to_one : (fs : List FontValue) (j k : FontValue) → ComesTo fs j → Come
 comes_to_one [] j k h i = absurd h
 comes_to_one (f ∷ fs) j k h i = one_result profile (from_left (one f) fs) j k h i
 
-one_answer : (form : Form) (fs : List FontValue) (text : List ℕ) → MergesTo form fs (Ok text) → (answer : Result (List ℕ) Reason)
-    → MergesTo form fs answer → answer ≡ Ok text
+one_answer : (form : Form) (fs : List FontValue) (text : List ℕ) → MergesToFile form fs (Ok text) → (answer : Result (List ℕ) Reason)
+    → MergesToFile form fs answer → answer ≡ Ok text
 one_answer form fs text h (Ok other) k = ap Ok (k.2 ∙ (ap (λ (j : FontValue). canon j form) (comes_to_one fs k.0 h.0 k.1 h.1) ∙ sym h.2))
 one_answer form fs text h (Err r) k =
-    let never : MergesTo form fs (Err Memory) = subst (λ (r : Reason). MergesTo form fs (Err r)) (merges_apart form fs text r h k) k in absurd never
+    let never : MergesToFile form fs (Err Memory) = subst (λ (r : Reason). MergesToFile form fs (Err r)) (merges_apart form fs text r h k) k in absurd never
 
-rejoined_so : (form : Form) (fs : List FontValue) (text : List ℕ) → evened fs ≡ fs → AreLight fs → MergesTo form fs (Ok text)
+rejoined_so : (form : Form) (fs : List FontValue) (text : List ℕ) → evened fs ≡ fs → AreLight fs → MergesToFile form fs (Ok text)
     → (answer : Result (List ℕ) Reason) → RejoinsTo form fs answer → answer ≡ Ok text
-rejoined_so form fs text is light h answer (inl a) = one_answer form fs text h answer (subst (λ (gs : List FontValue). MergesTo form gs answer) is a.1)
+rejoined_so form fs text is light h answer (inl a) = one_answer form fs text h answer (subst (λ (gs : List FontValue). MergesToFile form gs answer) is a.1)
 rejoined_so form fs text is light h answer (inr a) = absurd (light_or_heavy fs light (subst AnyHeavy is a.0))
 
 -- fonts without tags that merge to a file rejoin to it, and to nothing else
@@ -71,4 +71,4 @@ pub rejoins_what_merges : RejoinsWhatMerges
 rejoins_what_merges form fs text fonts u h =
     let is = even_already fs h.0 u h.1 in
     let light = all_light fs fonts in
-    (inl (subst AreLight (sym is) light, subst (λ (gs : List FontValue). MergesTo form gs (Ok text)) (sym is) h), rejoined_so form fs text is light h)
+    (inl (subst AreLight (sym is) light, subst (λ (gs : List FontValue). MergesToFile form gs (Ok text)) (sym is) h), rejoined_so form fs text is light h)

@@ -17,7 +17,7 @@ use Rattle.t1_font.specs.FontModel.{subr_at, subrs_below, name_at, word_of, name
 use Rattle.t1_font.specs.IsFont.{IsFont, IsEncoding}
 use Rattle.t1_font.proofs.FontReaders.{subrs_seen}
 use Rattle.t1_font.proofs.MapLemmas.{T_true, entries_all}
-use Rattle.t1_cmd.specs.ListText.{line_at, code_line, subr_line, glyph_line, encoding_lines}
+use Rattle.t1_cmd.specs.ListText.{line_at, code_line, subr_length_line, glyph_length_line, encoding_lines}
 
 -- the entries whose keys are below n
 abbrev pub under : {X : Type 0} → ℕ → List (ℕ × X) → List (ℕ × X)
@@ -149,13 +149,14 @@ module _ {K : Type 0} (line : K → List ℕ → List ℕ) where
 
 -- the lines of all names, once none are left
 pub names_all : (m : Named) (start out : List ℕ) (left : List (List ℕ)) → left ≡ []
-    → out ++ flat_map (λ name. line_at glyph_line name (get m name)) left ≡ start ++ flat_map (λ name. line_at glyph_line name (get m name)) (names_in m)
-    → out ≡ start ++ flat_map (λ e. glyph_line e.0 e.1) (entries m)
+    → out ++ flat_map (λ name. line_at glyph_length_line name (get m name)) left
+    ≡ start ++ flat_map (λ name. line_at glyph_length_line name (get m name)) (names_in m)
+    → out ≡ start ++ flat_map (λ e. glyph_length_line e.0 e.1) (entries m)
 names_all m start out left done h =
     sym (append-nil out)
-    ∙ sym (ap (λ (ns : List (List ℕ)). out ++ flat_map (λ name. line_at glyph_line name (get m name)) ns) done)
+    ∙ sym (ap (λ (ns : List (List ℕ)). out ++ flat_map (λ name. line_at glyph_length_line name (get m name)) ns) done)
     ∙ h
-    ∙ ap (λ (t : List ℕ). start ++ t) (keys_looked_up glyph_line nat_list_cmp_total (slice_cmp-IsAntisymmetric nat_cmp-IsAntisymmetric) m)
+    ∙ ap (λ (t : List ℕ). start ++ t) (keys_looked_up glyph_length_line nat_list_cmp_total (slice_cmp-IsAntisymmetric nat_cmp-IsAntisymmetric) m)
 
 -- ---- counts
 
@@ -189,13 +190,15 @@ count_all f is n l = ap length (entries_under f.subrs n (declared f is n l)) ∙
 
 -- the lines of one index more
 pub subrs_more : (f : FontValue) → IsFont f → (n : ℕ)
-    → lines_under f.subrs subr_line (n + 1) ≡ lines_under f.subrs subr_line n ++ line_at subr_line n (subr_at f n)
-subrs_more f is n = lines_more f.subrs subr_line n ∙ ap (λ o. lines_under f.subrs subr_line n ++ line_at subr_line n o) (sym (subrs_seen f is n))
+    → lines_under f.subrs subr_length_line (n + 1) ≡ lines_under f.subrs subr_length_line n ++ line_at subr_length_line n (subr_at f n)
+subrs_more f is n =
+    lines_more f.subrs subr_length_line n
+    ∙ ap (λ o. lines_under f.subrs subr_length_line n ++ line_at subr_length_line n o) (sym (subrs_seen f is n))
 
 -- at the declared count all Subrs have their lines
 pub subrs_all : (f : FontValue) → IsFont f → (n : ℕ) → declared_count f.shell.subrs ≤ n
-    → lines_under f.subrs subr_line n ≡ flat_map (λ e. subr_line e.0 e.1) (entries f.subrs)
-subrs_all f is n l = lines_all f.subrs subr_line n (declared f is n l)
+    → lines_under f.subrs subr_length_line n ≡ flat_map (λ e. subr_length_line e.0 e.1) (entries f.subrs)
+subrs_all f is n l = lines_all f.subrs subr_length_line n (declared f is n l)
 
 -- ---- the codes of a table
 

@@ -18,7 +18,7 @@ use Rattle.t1_algebra.specs.Interpreter.{Names}
 use Rattle.t1_algebra.specs.Profile.{profile}
 use Rattle.t1_algebra.specs.Keep.{subset}
 use Rattle.t1_algebra.specs.Laws.{IsOf}
-use Rattle.t1_subset.specs.Merger.{IsRefused as FontsRefused}
+use Rattle.t1_subset.specs.Merger.{NotMerged}
 use Rattle.t1_algebra.specs.Groupings.{union_all}
 use Rattle.t1_algebra.proofs.Fonts.{subset_is_font}
 use Rattle.t1_algebra.proofs.Headline.{subset_again}
@@ -34,7 +34,7 @@ use Rattle.t1_cmd.specs.declared.faults.FilesRefusal.{FilesRefusal}
 use Rattle.t1_cmd.specs.Files.{Values, value_before, values_from, OfFiles, RefusesFiles}
 use Rattle.t1_cmd.specs.Runs.{RunEnds}
 use Rattle.t1_cmd.specs.Fonts.{font_input, font_reason}
-use Rattle.t1_cmd.specs.Mergers.{IsTold, MergesTo}
+use Rattle.t1_cmd.specs.Mergers.{IsTold, MergesToFile}
 use Rattle.t1_cmd.specs.WrittenSubsets.{AreSubsetFiles, OfUnion, IsSubset, AreSubsets, WritesUnion}
 use Rattle.t1_cmd.proofs.OneAnswer.{OneAnswer, files_answered, inputs_answered}
 
@@ -61,15 +61,15 @@ module _ (f : FontValue) (h : IsFont f) where
     union = subset profile f (union_all (a ∷ more))
 
     -- the text of an answer is the union's
-    text_is : (text : List ℕ) → MergesTo form fonts (Ok text) → text ≡ canon union form
+    text_is : (text : List ℕ) → MergesToFile form fonts (Ok text) → text ≡ canon union form
     text_is text d = d.2 ∙ ap (λ (j : FontValue). canon j form) (of_all_subsets fonts (Ok d.0) d.1 tt f h a more named refl)
 
     -- an answer is no refusal
-    not_told : (e : Refusal) → FontsRefused fonts e → IsTold e → ⊥
+    not_told : (e : Refusal) → NotMerged fonts e → IsTold e → ⊥
     not_told e d t = subst IsTold (of_all_subsets fonts (Err e) tt d f h a more named refl) t
 
     -- the fonts are refused for want of memory alone
-    refused_so : (r : Reason) → MergesTo form fonts (Err r) → r ≡ Memory
+    refused_so : (r : Reason) → MergesToFile form fonts (Err r) → r ≡ Memory
     refused_so TooLong d = absurd d
     refused_so Memory d = refl
     refused_so (ListReason x) d = absurd d
@@ -79,7 +79,7 @@ module _ (f : FontValue) (h : IsFont f) where
     refused_so (Merge e) d = absurd (not_told e d.0 d.1)
 
     -- they have one answer, the canonical file of the union
-    one_answer : OneAnswer font_input (MergesTo form) fonts (canon union form)
+    one_answer : OneAnswer font_input (MergesToFile form) fonts (canon union form)
     one_answer = record { text = text_is; reason = refused_so }
 
   -- ---- files
@@ -128,15 +128,15 @@ module _ (f : FontValue) (h : IsFont f) where
 
 -- an engine that ends as merging does writes the subset over all the names, for written subsets of one font
 pub writes_union : {W : Type 0} (contents : W → Option (List ℕ)) (form : Form) (is : List Input) (w v : Counted W) (result : Result (Unit {0}) RunFault)
-    → RunEnds font_input (MergesTo form) contents is w v result → WritesUnion contents form is w v result
+    → RunEnds font_input (MergesToFile form) contents is w v result → WritesUnion contents form is w v result
 writes_union contents form is w v result ends f h a more s =
-    inputs_answered font_input (MergesTo form) (map (subset profile f) (a ∷ more)) (canon (subset profile f (union_all (a ∷ more))) form)
+    inputs_answered font_input (MergesToFile form) (map (subset profile f) (a ∷ more)) (canon (subset profile f (union_all (a ∷ more))) form)
     (one_answer f h form a more (names_are f h (a ∷ more) is s)) is (values f h (a ∷ more) is s) contents w v result ends
 
 -- what merges the files of subsets of one font answers the subset over all the names, unless a growth was refused
 pub merges_to_union : {V : Type 0} (form : Form) (files : List (List ℕ)) (view : V → List ℕ) (result : Result V FilesRefusal)
-    → IfOk result (λ v. OfFiles font_input (MergesTo form) files (Ok (view v))) → IfErr result (RefusesFiles font_input (MergesTo form) files)
+    → IfOk result (λ v. OfFiles font_input (MergesToFile form) files (Ok (view v))) → IfErr result (RefusesFiles font_input (MergesToFile form) files)
     → OfUnion form files (λ union. MatchResult result (λ v. view v ≡ union) (λ e. (e.place ≡ None) × (e.reason ≡ Memory)))
 merges_to_union form files view result d r f h a more s =
-    files_answered font_input (MergesTo form) (map (subset profile f) (a ∷ more)) (canon (subset profile f (union_all (a ∷ more))) form)
+    files_answered font_input (MergesToFile form) (map (subset profile f) (a ∷ more)) (canon (subset profile f (union_all (a ∷ more))) form)
     (one_answer f h form a more (files_named f h (a ∷ more) files s)) files (files_said f h 0 (a ∷ more) files s) view result d r

@@ -19,9 +19,9 @@ if_there make (Ok x) = make x
 if_there make (Err r) = Err r
 
 -- a call may refuse for this reason where these are its answers: that is one of them, or it is want of memory
-abbrev pub Refuses : {A : Type 0} → (Result A Reason → Type 0) → Reason → Type 0
-Refuses Answer Memory = Unit {0}
-Refuses Answer r = Answer (Err r)
+abbrev pub MayRefuse : {A : Type 0} → (Result A Reason → Type 0) → Reason → Type 0
+MayRefuse Answer Memory = Unit {0}
+MayRefuse Answer r = Answer (Err r)
 
 -- one value is answered with what `text` makes of it
 abbrev pub Prints : {A : Type 0} → (A → Result (List ℕ) Reason) → List A → Result (List ℕ) Reason → Type 0

@@ -3,8 +3,8 @@ use Rattle.std.specs.Prelude.{ℕ, ◌+◌, ◌-◌, ◌^◌, min, Bool, true, f
 use Rattle.t1_cmd.specs.declared.counting.Counted.{Counted}
 
 -- `c.calls()`
-abbrev pub calls_of : {T : Type 0} → Counted T → ℕ
-calls_of c = c.calls
+abbrev pub calls_counted : {T : Type 0} → Counted T → ℕ
+calls_counted c = c.calls
 
 -- `c.failed()`
 abbrev pub failed_of : {T : Type 0} → Counted T → ℕ

@@ -7,7 +7,7 @@ use Rattle.t1_font.specs.FontModel.{subr_at}
 use Rattle.t1_font.specs.IsFont.{IsFont}
 use Rattle.t1_font.specs.Canon.{canon}
 use Rattle.t1_algebra.specs.Keep.{has}
-use Rattle.t1_algebra.specs.Evened.{StaysDrawn, subrs_of}
+use Rattle.t1_algebra.specs.Evened.{StaysDrawn, map_subrs}
 use Rattle.t1_algebra.specs.Rejoins.{Truncated, IsTruncated, rejoined}
 use Rattle.t1_cmd.specs.declared.counting.Counted.{Counted}
 use Rattle.t1_cmd.specs.declared.faults.RunFault.{RunFault}
@@ -38,26 +38,26 @@ OfRejoined form files P = (f : FontValue) → IsFont f → (t : Truncated) (ts :
 -- ---- inputs
 
 -- the input's bytes are mended to this truncated subset of f
-abbrev pub IsCut : FontValue → Truncated → Input → Type 0
-IsCut f t i = (file : List ℕ) × IsCutFile f t file × (i.known ≡ Some file)
+abbrev pub InputIsCut : FontValue → Truncated → Input → Type 0
+InputIsCut f t i = (file : List ℕ) × IsCutFile f t file × (i.known ≡ Some file)
 
 -- the inputs are mended to these truncated subsets of f, one for one
-abbrev pub AreCuts : FontValue → List Truncated → List Input → Type 0
-AreCuts f [] [] = Unit {0}
-AreCuts f [] (i ∷ is) = ⊥
-AreCuts f (t ∷ ts) [] = ⊥
-AreCuts f (t ∷ ts) (i ∷ is) = IsCut f t i × AreCuts f ts is
+abbrev pub InputsAreCuts : FontValue → List Truncated → List Input → Type 0
+InputsAreCuts f [] [] = Unit {0}
+InputsAreCuts f [] (i ∷ is) = ⊥
+InputsAreCuts f (t ∷ ts) [] = ⊥
+InputsAreCuts f (t ∷ ts) (i ∷ is) = InputIsCut f t i × InputsAreCuts f ts is
 
 -- Of truncated subsets of one font, one or more, the canonical file of what they rejoin to is written.
 abbrev pub WritesRejoined : {W : Type 0} → (W → Option (List ℕ)) → Form → List Input → Counted W → Counted W → Result (Unit {0}) RunFault → Type 0
-WritesRejoined contents form inputs w v result = (f : FontValue) → IsFont f → (t : Truncated) (ts : List Truncated) → AreCuts f (t ∷ ts) inputs →
+WritesRejoined contents form inputs w v result = (f : FontValue) → IsFont f → (t : Truncated) (ts : List Truncated) → InputsAreCuts f (t ∷ ts) inputs →
     Writes contents (canon (rejoined f (t ∷ ts)) form) inputs w v result
 
 -- ---- laws, each the contract of a function in `laws`
 
 -- each glyph of each of the fonts stays drawn in j, over the maps of both and as calls see them
 abbrev pub AllStayDrawnIn : List FontValue → FontValue → Type 0
-AllStayDrawnIn fonts j = AllByRecursion (λ f. (n : List ℕ) → has f n ≡ true → StaysDrawn subrs_of f j n × StaysDrawn subr_at f j n) fonts
+AllStayDrawnIn fonts j = AllByRecursion (λ f. (n : List ℕ) → has f n ≡ true → StaysDrawn map_subrs f j n × StaysDrawn subr_at f j n) fonts
 
 -- what fonts rejoin to is the canonical file of a font in which each of their glyphs that is drawn stays drawn
 abbrev pub RejoinedDraw : Type 0

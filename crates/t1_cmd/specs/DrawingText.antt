@@ -20,13 +20,13 @@ abbrev pub amount : ℕ → List ℕ
 amount n = if n % 65536 == 0 then decimal (n / 65536) else decimal n ++ codes "/65536"
 
 -- a number that is a count of 1/65536 unit
-abbrev pub number : ℤ → List ℕ
-number (pos n) = amount n
-number (negsuc n) = 45 ∷ amount (n + 1)
+abbrev pub unit_number : ℤ → List ℕ
+unit_number (pos n) = amount n
+unit_number (negsuc n) = 45 ∷ amount (n + 1)
 
 -- each number, after a blank
 abbrev pub numbers : List ℤ → List ℕ
-numbers ns = flat_map (λ n. 32 ∷ number n) ns
+numbers ns = flat_map (λ n. 32 ∷ unit_number n) ns
 
 -- a word and its numbers
 abbrev pub line : List ℕ → List ℤ → List ℕ
@@ -46,8 +46,8 @@ mark_line mark.Replace = line (codes "replace") []
 mark_line (mark.Flex height) = line (codes "flex") (height ∷ [])
 
 -- a text, with the line of one more mark at its end
-abbrev pub with_line : List ℕ → Mark → List ℕ
-with_line text m = text ++ mark_line m
+abbrev pub with_mark_line : List ℕ → Mark → List ℕ
+with_mark_line text m = text ++ mark_line m
 
 -- a part: its offset, and a line for each mark
 abbrev pub part_lines : Point × List Mark → List ℕ

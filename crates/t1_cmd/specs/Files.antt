@@ -3,7 +3,7 @@ use Rattle.std.specs.Prelude.{◌≡◌, ℕ, ◌+◌, List, [], ◌∷◌, Opti
 use Rattle.t1_cmd.specs.declared.faults.Reason.{Reason}
 use Rattle.t1_cmd.specs.declared.faults.Reason.TheVariants.{Memory}
 use Rattle.t1_cmd.specs.declared.faults.FilesRefusal.{FilesRefusal}
-use Rattle.t1_cmd.specs.Answers.{Refuses}
+use Rattle.t1_cmd.specs.Answers.{MayRefuse}
 
 -- what files say, or the place of a file that is refused, and why
 abbrev pub Values : Type 0 → Type 0
@@ -40,7 +40,7 @@ module _ {A : Type 0} (understand : List ℕ → Result A Reason) where
     -- place, all are refused together, or for want of memory
     abbrev pub RefusedAt : Option ℕ → Reason → Type 0
     RefusedAt (Some place) reason = values_from 0 files ≡ Err (place, reason)
-    RefusedAt None reason = Refuses OfFiles reason
+    RefusedAt None reason = MayRefuse OfFiles reason
 
     -- files may be refused so
     abbrev pub RefusesFiles : FilesRefusal → Type 0

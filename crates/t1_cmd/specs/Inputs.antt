@@ -16,8 +16,8 @@ abbrev pub input_of : {R : Type 0} → (R → Option (List ℕ)) → Counted R �
 input_of remaining old new = record { known = remaining (inner_of old); before = failed_of old; after = failed_of new }
 
 -- the bytes of an input, where these are known
-abbrev pub Has : Input → List ℕ → Type 0
-Has i file = IfSome i.known (λ bytes. file ≡ bytes)
+abbrev pub Holds : Input → List ℕ → Type 0
+Holds i file = IfSome i.known (λ bytes. file ≡ bytes)
 
 -- a count rose, or stands at its last value
 abbrev pub Rose : ℕ → ℕ → Type 0
@@ -64,13 +64,13 @@ module _ {A : Type 0} (understand : List ℕ → Result A Reason) where
   FirstWith P (i ∷ is) = P i ⊎ (Understood i × FirstWith P is)
 
   -- what the input says, where it is known and understood
-  abbrev pub value_of : Input → Option A
-  value_of i = option_and_then (λ bytes. result_ok (understand bytes)) i.known
+  abbrev pub value_said : Input → Option A
+  value_said i = option_and_then (λ bytes. result_ok (understand bytes)) i.known
 
   -- what all inputs say, where each is known and understood
   abbrev pub values_of : List Input → Option (List A)
   values_of [] = Some []
-  values_of (i ∷ is) = value_and (value_of i) (values_of is)
+  values_of (i ∷ is) = value_and (value_said i) (values_of is)
 
   -- where they are known, the inputs say these values
   abbrev pub Say : List Input → List A → Type 0

@@ -12,12 +12,12 @@ abbrev pub code_line : ℕ → List ℕ → List ℕ
 code_line code name = codes "code " ++ decimal code ++ codes " " ++ shown name ++ 10 ∷ []
 
 -- a Subr and its plain length
-abbrev pub subr_line : ℕ → List ℕ → List ℕ
-subr_line index body = codes "subr " ++ decimal index ++ codes " " ++ decimal (length body) ++ 10 ∷ []
+abbrev pub subr_length_line : ℕ → List ℕ → List ℕ
+subr_length_line index body = codes "subr " ++ decimal index ++ codes " " ++ decimal (length body) ++ 10 ∷ []
 
 -- a glyph and its plain length
-abbrev pub glyph_line : List ℕ → List ℕ → List ℕ
-glyph_line name body = codes "glyph " ++ shown name ++ codes " " ++ decimal (length body) ++ 10 ∷ []
+abbrev pub glyph_length_line : List ℕ → List ℕ → List ℕ
+glyph_length_line name body = codes "glyph " ++ shown name ++ codes " " ++ decimal (length body) ++ 10 ∷ []
 
 -- the line of a key that has a value; nothing for any other key
 abbrev pub line_at : {K : Type 0} → (K → List ℕ → List ℕ) → K → Option (List ℕ) → List ℕ
@@ -31,7 +31,8 @@ encoding_lines (Codes names) = flat_map (λ e. code_line e.0 e.1) (entries names
 
 -- the Encoding, the Subrs upwards by index, and the glyphs upwards by the bytes of their names
 abbrev pub list_lines : FontValue → List ℕ
-list_lines f = encoding_lines f.encoding ++ flat_map (λ e. subr_line e.0 e.1) (entries f.subrs) ++ flat_map (λ e. glyph_line e.0 e.1) (entries f.glyphs)
+list_lines f =
+    encoding_lines f.encoding ++ flat_map (λ e. subr_length_line e.0 e.1) (entries f.subrs) ++ flat_map (λ e. glyph_length_line e.0 e.1) (entries f.glyphs)
 
 abbrev pub list_answer : FontValue → Result (List ℕ) Reason
 list_answer f = Ok (list_lines f)

@@ -13,7 +13,7 @@ use Rattle.t1_cmd.specs.declared.faults.RunFault.{RunFault}
 use Rattle.t1_cmd.specs.declared.faults.RunFault.TheVariants.{Refused}
 use Rattle.t1_cmd.specs.Inputs.{Input}
 use Rattle.t1_cmd.specs.Runs.{InputStops}
-use Rattle.t1_cmd.specs.Answers.{with_reason, within_limit, Refuses}
+use Rattle.t1_cmd.specs.Answers.{with_reason, within_limit, MayRefuse}
 
 -- a fault of a listing as a reason
 abbrev pub list_reason : ListFault → Reason
@@ -47,7 +47,7 @@ JoinsRead i left text = (right : ListingMeaning) × IfSome i.known (λ bytes. li
 
 -- both are refused together
 abbrev pub RefusedWith : Input → ListingMeaning → RunFault → Type 0
-RefusedWith i left (Refused r) = (right : ListingMeaning) × IfSome i.known (λ bytes. listing_input bytes ≡ Ok right) × Refuses (JoinsTo (left ∷ right ∷ [])) r
+RefusedWith i left (Refused r) = (right : ListingMeaning) × IfSome i.known (λ bytes. listing_input bytes ≡ Ok right) × MayRefuse (JoinsTo (left ∷ right ∷ [])) r
 RefusedWith i left other = ⊥
 
 -- why it is not answered: the input stops, or both are refused together

@@ -5,15 +5,15 @@ use Rattle.t1_font.specs.FontValue.{FontValue}
 use Rattle.t1_font.specs.Canon.{canon}
 use Rattle.t1_subset.specs.declared.conflict.Conflict.{Conflict}
 use Rattle.t1_subset.specs.declared.conflict.Conflict.TheVariants as conflict
-use Rattle.t1_subset.specs.Merger.{IsRefused}
+use Rattle.t1_subset.specs.Merger.{NotMerged}
 use Rattle.t1_algebra.specs.Merges.{ComesTo}
 use Rattle.t1_cmd.specs.declared.counting.Counted.{Counted}
 use Rattle.t1_cmd.specs.declared.faults.Reason.{Reason}
 use Rattle.t1_cmd.specs.declared.faults.Reason.TheVariants.{Memory, Merge}
 use Rattle.t1_cmd.specs.declared.faults.RunFault.{RunFault}
 use Rattle.t1_cmd.specs.declared.faults.RunFault.TheVariants.{Refused, Read, Write}
-use Rattle.t1_cmd.specs.Count.{calls_of}
-use Rattle.t1_cmd.specs.Inputs.{Input, HasFailed, IsRefused as InputIsRefused, FirstWith, input_of}
+use Rattle.t1_cmd.specs.Count.{calls_counted}
+use Rattle.t1_cmd.specs.Inputs.{Input, HasFailed, IsRefused, FirstWith, input_of}
 use Rattle.t1_bytes.specs.Limits.{file_limit}
 
 -- ---- readers
@@ -28,13 +28,13 @@ inputs_of remaining (o ∷ os) (n ∷ ns) = input_of remaining o n ∷ inputs_of
 abbrev pub InTurns : {R : Type 0} → List (Counted R) → List (Counted R) → Type 0
 InTurns [] ns = Unit {0}
 InTurns (o ∷ os) [] = ⊥
-InTurns (o ∷ os) (n ∷ ns) = (calls_of n ≤ calls_of o + (file_limit + 1)) × InTurns os ns
+InTurns (o ∷ os) (n ∷ ns) = (calls_counted n ≤ calls_counted o + (file_limit + 1)) × InTurns os ns
 
 module _ {A : Type 0} (understand : List ℕ → Result A Reason) where
   -- why reading and understanding the inputs one after the other ends without all values
   abbrev pub InputsStop : List Input → RunFault → Type 0
   InputsStop inputs (Refused Memory) = Unit {0}
-  InputsStop inputs (Refused r) = FirstWith understand (InputIsRefused understand r) inputs
+  InputsStop inputs (Refused r) = FirstWith understand (IsRefused understand r) inputs
   InputsStop inputs Read = FirstWith understand HasFailed inputs
   InputsStop inputs Write = ⊥
 
@@ -46,7 +46,7 @@ IsTold conflict.Memory = ⊥
 IsTold e = Unit {0}
 
 -- the canonical file of what the fonts come to, merged from left to right, or why they come to none
-abbrev pub MergesTo : Form → List FontValue → Result (List ℕ) Reason → Type 0
-MergesTo form fonts (Ok text) = (j : FontValue) × ComesTo fonts j × (text ≡ canon j form)
-MergesTo form fonts (Err (Merge e)) = IsRefused fonts e × IsTold e
-MergesTo form fonts (Err r) = ⊥
+abbrev pub MergesToFile : Form → List FontValue → Result (List ℕ) Reason → Type 0
+MergesToFile form fonts (Ok text) = (j : FontValue) × ComesTo fonts j × (text ≡ canon j form)
+MergesToFile form fonts (Err (Merge e)) = NotMerged fonts e × IsTold e
+MergesToFile form fonts (Err r) = ⊥

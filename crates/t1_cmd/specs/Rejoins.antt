@@ -10,15 +10,15 @@ use Rattle.t1_subset.specs.declared.conflict.Conflict.TheVariants as conflict
 use Rattle.t1_algebra.specs.Rejoins.{IsUntagged}
 use Rattle.t1_cmd.specs.declared.faults.Reason.{Reason}
 use Rattle.t1_cmd.specs.declared.faults.Reason.TheVariants.{Merge}
-use Rattle.t1_cmd.specs.Mergers.{MergesTo}
+use Rattle.t1_cmd.specs.Mergers.{MergesToFile}
 
 -- the fonts, made even, are within the weight limit, and merge to this; or one of them is over it, and that is told
 abbrev pub RejoinsTo : Form → List FontValue → Result (List ℕ) Reason → Type 0
 RejoinsTo form fonts answer =
-    (AreLight (evened fonts) × MergesTo form (evened fonts) answer) ⊎ (AnyHeavy (evened fonts) × (answer ≡ Err (Merge conflict.Limit)))
+    (AreLight (evened fonts) × MergesToFile form (evened fonts) answer) ⊎ (AnyHeavy (evened fonts) × (answer ≡ Err (Merge conflict.Limit)))
 
 -- fonts without tags that merge to a file rejoin to it, and to nothing else
 abbrev pub RejoinsWhatMerges : Type 0
 RejoinsWhatMerges = (form : Form) (fonts : List FontValue) (text : List ℕ) → AllByRecursion IsFont fonts → AllByRecursion IsUntagged fonts
-    → MergesTo form fonts (Ok text)
+    → MergesToFile form fonts (Ok text)
     → RejoinsTo form fonts (Ok text) × ((answer : Result (List ℕ) Reason) → RejoinsTo form fonts answer → answer ≡ Ok text)

@@ -2,11 +2,11 @@
 ghost use Rattle.std.specs.Prelude.{◌≡◌, ◌+◌, ◌≤◌, ◌∷◌, [], Ok, IfOk, IfErr};
 ghost use Rattle.std.specs.FinMap as fin;
 ghost use Rattle.t1_font.specs.FontValue.{FontValue};
-ghost use Rattle.t1_cmd.specs.Count.{calls_of};
+ghost use Rattle.t1_cmd.specs.Count.{calls_counted};
 ghost use Rattle.t1_cmd.specs.Inputs.{input_of};
 ghost use Rattle.t1_bytes.specs.Limits.{file_limit};
 ghost use Rattle.t1_cmd.specs.Runs.{RunEnds, Succeeds};
-ghost use Rattle.t1_cmd.specs.Answers.{Prints, Refuses};
+ghost use Rattle.t1_cmd.specs.Answers.{Prints, MayRefuse};
 ghost use Rattle.t1_cmd.specs.Fonts.{font_input, of_file, file_answer};
 ghost use Rattle.t1_cmd.specs.CheckText.{check_answer};
 
@@ -61,7 +61,7 @@ impl FontWord for Convert {
 /// refused.
 pub fn convert_file(alloc: Global, file: &[u8], form: Form) -> Result<Vec<u8>, Reason>
     ensures text { IfOk result (λ text. of_file (file_answer form) file.now ≡ Ok text.items) }
-    ensures refused { IfErr result (Refuses (λ a. a ≡ of_file (file_answer form) file.now)) }
+    ensures refused { IfErr result (MayRefuse (λ a. a ≡ of_file (file_answer form) file.now)) }
 {
     text_of_bytes(alloc, Taking::Spelled, &Convert { form }, file)
 }
@@ -77,7 +77,7 @@ pub fn run_convert<R: Read, W: Write>(
         (input_of R.remaining reader.old reader.new ∷ []) writer.old writer.new result }
     ensures succeeds { Succeeds font_input (Prints (file_answer form))
         (input_of R.remaining reader.old reader.new ∷ []) writer.old writer.new result }
-    ensures turns { calls_of reader.new ≤ calls_of reader.old + (file_limit + 1) }
+    ensures turns { calls_counted reader.new ≤ calls_counted reader.old + (file_limit + 1) }
 {
     run_word(alloc, Taking::Spelled, &Convert { form }, reader, writer)
 }
@@ -143,7 +143,7 @@ impl FontWord for Check {
 /// refused.
 pub fn check_file(alloc: Global, file: &[u8]) -> Result<Vec<u8>, Reason>
     ensures text { IfOk result (λ text. of_file check_answer file.now ≡ Ok text.items) }
-    ensures refused { IfErr result (Refuses (λ a. a ≡ of_file check_answer file.now)) }
+    ensures refused { IfErr result (MayRefuse (λ a. a ≡ of_file check_answer file.now)) }
 {
     text_of_bytes(alloc, Taking::Spelled, &Check, file)
 }
@@ -158,7 +158,7 @@ pub fn run_check<R: Read, W: Write>(
         (input_of R.remaining reader.old reader.new ∷ []) writer.old writer.new result }
     ensures succeeds { Succeeds font_input (Prints check_answer)
         (input_of R.remaining reader.old reader.new ∷ []) writer.old writer.new result }
-    ensures turns { calls_of reader.new ≤ calls_of reader.old + (file_limit + 1) }
+    ensures turns { calls_counted reader.new ≤ calls_counted reader.old + (file_limit + 1) }
 {
     run_word(alloc, Taking::Spelled, &Check, reader, writer)
 }

@@ -3,13 +3,13 @@ ghost use Rattle.std.specs.Prelude.{◌≡◌, ◌+◌, ◌≤◌, ◌++◌, ◌
 ghost use Rattle.std.specs.FinMap as fin;
 ghost use Rattle.std.specs.List.{flat_map};
 ghost use Rattle.t1_font.specs.FontModel.{name_at, word_of, subr_at};
-ghost use Rattle.t1_cmd.specs.Count.{calls_of};
+ghost use Rattle.t1_cmd.specs.Count.{calls_counted};
 ghost use Rattle.t1_cmd.specs.Inputs.{input_of};
 ghost use Rattle.t1_bytes.specs.Limits.{file_limit};
 ghost use Rattle.t1_cmd.specs.Runs.{RunEnds, Succeeds};
-ghost use Rattle.t1_cmd.specs.Answers.{Prints, Refuses};
+ghost use Rattle.t1_cmd.specs.Answers.{Prints, MayRefuse};
 ghost use Rattle.t1_cmd.specs.Fonts.{font_input, of_file};
-ghost use Rattle.t1_cmd.specs.ListText.{line_at, code_line, subr_line, glyph_line, encoding_lines, list_answer};
+ghost use Rattle.t1_cmd.specs.ListText.{line_at, code_line, subr_length_line, glyph_length_line, encoding_lines, list_answer};
 
 use crate::counting::Counted;
 use crate::faults::{Reason, RunFault};
@@ -42,7 +42,7 @@ fn push_subr(
     index: u16,
 ) -> Result<(), AllocError>
     ensures { OnOk result (out.new.items
-        ≡ out.old.items ++ line_at subr_line index (subr_at font.now index)) }
+        ≡ out.old.items ++ line_at subr_length_line index (subr_at font.now index)) }
 {
     if let Some(body) = font.get(index) {
         push_about(alloc, out, b"subr ", usize::from(index))?;
@@ -60,7 +60,7 @@ fn push_glyph(
     name: &[u8],
 ) -> Result<(), AllocError>
     ensures { OnOk result (out.new.items
-        ≡ out.old.items ++ line_at glyph_line name.now (fin.get font.now.glyphs name.now)) }
+        ≡ out.old.items ++ line_at glyph_length_line name.now (fin.get font.now.glyphs name.now)) }
 {
     if let Some(plain) = font.glyph(name) {
         out.extend_from_slice(b"glyph ")?;
@@ -97,7 +97,7 @@ fn push_encoding(alloc: Global, out: &mut Vec<u8>, font: &Font<'_>) -> Result<()
 
 fn push_subrs(alloc: Global, out: &mut Vec<u8>, font: &Font<'_>) -> Result<(), AllocError>
     ensures { OnOk result (out.new.items
-        ≡ out.old.items ++ flat_map (λ e. subr_line e.0 e.1) (fin.entries font.now.subrs)) }
+        ≡ out.old.items ++ flat_map (λ e. subr_length_line e.0 e.1) (fin.entries font.now.subrs)) }
 {
     font.proof_is_font();
     'indices: for index in 0..font.count() {
@@ -108,7 +108,7 @@ fn push_subrs(alloc: Global, out: &mut Vec<u8>, font: &Font<'_>) -> Result<(), A
 
 fn push_glyphs(alloc: Global, out: &mut Vec<u8>, font: &Font<'_>) -> Result<(), AllocError>
     ensures { OnOk result (out.new.items
-        ≡ out.old.items ++ flat_map (λ e. glyph_line e.0 e.1) (fin.entries font.now.glyphs)) }
+        ≡ out.old.items ++ flat_map (λ e. glyph_length_line e.0 e.1) (fin.entries font.now.glyphs)) }
 {
     'names: for name in font.names() {
         push_glyph(alloc, out, font, name)?;
@@ -150,7 +150,7 @@ impl FontWord for List {
 /// refused.
 pub fn list_file(alloc: Global, file: &[u8]) -> Result<Vec<u8>, Reason>
     ensures text { IfOk result (λ text. of_file list_answer file.now ≡ Ok text.items) }
-    ensures refused { IfErr result (Refuses (λ a. a ≡ of_file list_answer file.now)) }
+    ensures refused { IfErr result (MayRefuse (λ a. a ≡ of_file list_answer file.now)) }
 {
     text_of_bytes(alloc, Taking::Spelled, &List, file)
 }
@@ -166,7 +166,7 @@ pub fn run_list<R: Read, W: Write>(
         (input_of R.remaining reader.old reader.new ∷ []) writer.old writer.new result }
     ensures succeeds { Succeeds font_input (Prints list_answer)
         (input_of R.remaining reader.old reader.new ∷ []) writer.old writer.new result }
-    ensures turns { calls_of reader.new ≤ calls_of reader.old + (file_limit + 1) }
+    ensures turns { calls_counted reader.new ≤ calls_counted reader.old + (file_limit + 1) }
 {
     run_word(alloc, Taking::Spelled, &List, reader, writer)
 }

@@ -1,9 +1,9 @@
 //! The join of two listings.
 ghost use Rattle.std.specs.Prelude.{◌≡◌, ◌+◌, ◌≤◌, [], ◌∷◌, Ok, IfOk, IfErr, IfSome};
-ghost use Rattle.t1_cmd.specs.Count.{calls_of, inner_of};
+ghost use Rattle.t1_cmd.specs.Count.{calls_counted, inner_of};
 ghost use Rattle.t1_cmd.specs.Inputs.{input_of};
 ghost use Rattle.t1_bytes.specs.Limits.{file_limit};
-ghost use Rattle.t1_cmd.specs.Answers.{Refuses};
+ghost use Rattle.t1_cmd.specs.Answers.{MayRefuse};
 ghost use Rattle.t1_cmd.specs.Files.{IsRefusalAt, OfFiles, RefusesFiles};
 ghost use Rattle.t1_cmd.specs.Runs.{InputStops, RunEnds, Succeeds};
 ghost use Rattle.t1_cmd.specs.Listings.{list_reason, join_reason, listing_input, JoinsTo, JoinsRead, StopsRead};
@@ -39,7 +39,7 @@ fn join_reason(fault: JoinFault) -> Reason
 // The listing that a text spells.
 fn listing_in(alloc: Global, text: &[u8]) -> Result<Listing<'_>, Reason>
     ensures listing { IfOk result (λ l. listing_input text.now ≡ Ok l) }
-    ensures refused { IfErr result (Refuses (λ a. a ≡ listing_input text.now)) }
+    ensures refused { IfErr result (MayRefuse (λ a. a ≡ listing_input text.now)) }
 {
     if text.len() > FILE_LIMIT {
         return Err(Reason::TooLong);
@@ -50,7 +50,7 @@ fn listing_in(alloc: Global, text: &[u8]) -> Result<Listing<'_>, Reason>
 // The text of the join of two listings.
 fn joined_text(alloc: Global, left: &Listing<'_>, right: &Listing<'_>) -> Result<Vec<u8>, Reason>
     ensures text { IfOk result (λ text. JoinsTo (left.now ∷ right.now ∷ []) (Ok text.items)) }
-    ensures refused { IfErr result (Refuses (JoinsTo (left.now ∷ right.now ∷ []))) }
+    ensures refused { IfErr result (MayRefuse (JoinsTo (left.now ∷ right.now ∷ []))) }
 {
     match write_joined(alloc, left, right) {
         Ok(text) => Ok(text),
@@ -62,7 +62,7 @@ fn joined_text(alloc: Global, left: &Listing<'_>, right: &Listing<'_>) -> Result
 fn listing_at(alloc: Global, place: usize, text: &[u8]) -> Result<Listing<'_>, FilesRefusal>
     ensures listing { IfOk result (λ l. listing_input text.now ≡ Ok l) }
     ensures refused { IfErr result (λ e. (reason : Reason)
-        × Refuses (λ a. a ≡ listing_input text.now) reason × IsRefusalAt place reason e) }
+        × MayRefuse (λ a. a ≡ listing_input text.now) reason × IsRefusalAt place reason e) }
 {
     match listing_in(alloc, text) {
         Ok(listing) => Ok(listing),
@@ -99,7 +99,7 @@ fn read_text<R: Read>(alloc: Global, reader: &mut Counted<R>) -> Result<Vec<u8>,
         (λ text. IfSome (R.remaining (inner_of reader.old)) (λ bytes. text.items ≡ bytes)) }
     ensures refused { IfErr result
         (InputStops listing_input (input_of R.remaining reader.old reader.new)) }
-    ensures turns { calls_of reader.new ≤ calls_of reader.old + (file_limit + 1) }
+    ensures turns { calls_counted reader.new ≤ calls_counted reader.old + (file_limit + 1) }
 {
     read_all(alloc, reader, FILE_LIMIT)
 }
@@ -114,7 +114,7 @@ fn joined_with<S: Read>(
         (λ text. JoinsRead (input_of S.remaining second.old second.new) left.now text.items) }
     ensures refused { IfErr result
         (StopsRead (input_of S.remaining second.old second.new) left.now) }
-    ensures turns { calls_of second.new ≤ calls_of second.old + (file_limit + 1) }
+    ensures turns { calls_counted second.new ≤ calls_counted second.old + (file_limit + 1) }
 {
     let text = read_text(alloc, second)?;
     let right = match listing_in(alloc, text.as_slice()) {
@@ -143,8 +143,8 @@ pub fn run_join<R: Read, S: Read, W: Write>(
     ensures succeeds { Succeeds listing_input JoinsTo
         (input_of R.remaining first.old first.new ∷ input_of S.remaining second.old second.new ∷ [])
         writer.old writer.new result }
-    ensures first_turns { calls_of first.new ≤ calls_of first.old + (file_limit + 1) }
-    ensures second_turns { calls_of second.new ≤ calls_of second.old + (file_limit + 1) }
+    ensures first_turns { calls_counted first.new ≤ calls_counted first.old + (file_limit + 1) }
+    ensures second_turns { calls_counted second.new ≤ calls_counted second.old + (file_limit + 1) }
 {
     let text = read_text(alloc, first)?;
     let left = match listing_in(alloc, text.as_slice()) {

@@ -1,11 +1,11 @@
 //! The engine that mends a font: it writes as a canonical file what other programs spell, and tells what that changes.
 ghost use Rattle.std.specs.Prelude.{◌≡◌, ◌+◌, ◌≤◌, ◌++◌, ◌∷◌, [], Ok, OnOk, IfOk, IfErr, IfSome};
 ghost use Rattle.std.specs.List.{flat_map};
-ghost use Rattle.t1_cmd.specs.Count.{calls_of, inner_of};
+ghost use Rattle.t1_cmd.specs.Count.{calls_counted, inner_of};
 ghost use Rattle.t1_cmd.specs.Inputs.{input_of};
 ghost use Rattle.t1_bytes.specs.Limits.{file_limit};
 ghost use Rattle.t1_cmd.specs.Runs.{ended, RunEnds, Succeeds};
-ghost use Rattle.t1_cmd.specs.Answers.{Prints, Refuses};
+ghost use Rattle.t1_cmd.specs.Answers.{Prints, MayRefuse};
 ghost use Rattle.t1_cmd.specs.Fonts.{mended_input, of_mended, file_answer};
 ghost use Rattle.t1_cmd.specs.Mends.{mend_line, mends_answer};
 
@@ -27,7 +27,7 @@ use t1_font::{Form, Mend, mends};
 /// was refused.
 pub fn mend_file(alloc: Global, file: &[u8], form: Form) -> Result<Vec<u8>, Reason>
     ensures text { IfOk result (λ text. of_mended (file_answer form) file.now ≡ Ok text.items) }
-    ensures refused { IfErr result (Refuses (λ a. a ≡ of_mended (file_answer form) file.now)) }
+    ensures refused { IfErr result (MayRefuse (λ a. a ≡ of_mended (file_answer form) file.now)) }
 {
     text_of_bytes(alloc, Taking::Mended, &Convert::to(form), file)
 }
@@ -61,7 +61,7 @@ fn mend_lines(alloc: Global, mends: &[Mend]) -> Result<Vec<u8>, AllocError>
 /// Those of [`mend_file`].
 pub fn list_mends(alloc: Global, file: &[u8]) -> Result<Vec<u8>, Reason>
     ensures text { IfOk result (λ text. mends_answer file.now ≡ Ok text.items) }
-    ensures refused { IfErr result (Refuses (λ a. a ≡ mends_answer file.now)) }
+    ensures refused { IfErr result (MayRefuse (λ a. a ≡ mends_answer file.now)) }
 {
     if file.len() > FILE_LIMIT {
         return Err(Reason::TooLong);
@@ -85,7 +85,7 @@ pub fn run_mend<R: Read, W: Write>(
         (input_of R.remaining reader.old reader.new ∷ []) writer.old writer.new (ended result) }
     ensures succeeds { Succeeds mended_input (Prints (file_answer form))
         (input_of R.remaining reader.old reader.new ∷ []) writer.old writer.new (ended result) }
-    ensures turns { calls_of reader.new ≤ calls_of reader.old + (file_limit + 1) }
+    ensures turns { calls_counted reader.new ≤ calls_counted reader.old + (file_limit + 1) }
     ensures told { IfOk result (λ lines. IfSome (R.remaining (inner_of reader.old))
         (λ bytes. mends_answer bytes ≡ Ok lines.items)) }
 {

@@ -3,10 +3,10 @@ ghost use Rattle.std.specs.Prelude.{◌≡◌, ◌++◌, ◌∷◌, [], None, Ok
 ghost use Rattle.t1_algebra.specs.Merges.{ComesTo};
 ghost use Rattle.t1_cmd.specs.Fonts.{font_input};
 ghost use Rattle.t1_subset.specs.NameSets.{lent};
-ghost use Rattle.t1_cmd.specs.Answers.{Refuses};
+ghost use Rattle.t1_cmd.specs.Answers.{MayRefuse};
 ghost use Rattle.t1_cmd.specs.Files.{OfFiles, RefusesFiles};
 ghost use Rattle.t1_cmd.specs.Runs.{RunEnds, Succeeds};
-ghost use Rattle.t1_cmd.specs.Mergers.{inputs_of, InTurns, MergesTo};
+ghost use Rattle.t1_cmd.specs.Mergers.{inputs_of, InTurns, MergesToFile};
 ghost use Rattle.t1_cmd.specs.WrittenSubsets.{OfUnion, WritesUnion};
 
 use crate::counting::Counted;
@@ -33,7 +33,7 @@ pub(crate) fn fonts_of(alloc: Global, sources: &[Source]) -> Result<Vec<Font<'_>
 // The font that fonts come to, merged from left to right.
 fn merge_fonts<'a>(alloc: Global, fonts: &[Font<'a>]) -> Result<Font<'a>, Reason>
     ensures comes { IfOk result (λ j. ComesTo fonts.now j) }
-    ensures refused { IfErr result (λ e. (form : Form) → Refuses (MergesTo form fonts.now) e) }
+    ensures refused { IfErr result (λ e. (form : Form) → MayRefuse (MergesToFile form fonts.now) e) }
 {
     match merge_all(alloc, fonts) {
         Ok(font) => Ok(font),
@@ -48,8 +48,8 @@ pub(crate) fn merged_file(
     fonts: Vec<Font<'_>>,
     form: Form,
 ) -> Result<Vec<u8>, Reason>
-    ensures text { IfOk result (λ text. MergesTo form fonts.entry.items (Ok text.items)) }
-    ensures refused { IfErr result (Refuses (MergesTo form fonts.entry.items)) }
+    ensures text { IfOk result (λ text. MergesToFile form fonts.entry.items (Ok text.items)) }
+    ensures refused { IfErr result (MayRefuse (MergesToFile form fonts.entry.items)) }
 {
     let font = match merge_fonts(alloc, fonts.as_slice()) {
         Ok(font) => font,
@@ -69,7 +69,7 @@ pub(crate) struct Merge {
 }
 
 impl FontsWord for Merge {
-    ghost Answers = { λ word. MergesTo word.form };
+    ghost Answers = { λ word. MergesToFile word.form };
 
     fn text(&self, alloc: Global, sources: Vec<Source>) -> Result<Vec<u8>, Reason> {
         let fonts = fonts_of(alloc, sources.as_slice())?;
@@ -85,8 +85,8 @@ impl FontsWord for Merge {
 /// [`Reason::TooLong`] or [`Reason::Font`] with the place of the first file that spells no font; else [`Reason::Merge`] if the
 /// fonts don't merge, or if there is none. [`Reason::Memory`] if a growth was refused.
 pub fn merge_files(alloc: Global, files: &[&[u8]], form: Form) -> Result<Vec<u8>, FilesRefusal>
-    ensures text { IfOk result (λ text. OfFiles font_input (MergesTo form) (lent files.now) (Ok text.items)) }
-    ensures refused { IfErr result (RefusesFiles font_input (MergesTo form) (lent files.now)) }
+    ensures text { IfOk result (λ text. OfFiles font_input (MergesToFile form) (lent files.now) (Ok text.items)) }
+    ensures refused { IfErr result (RefusesFiles font_input (MergesToFile form) (lent files.now)) }
     ensures subsets { OfUnion form (lent files.now) (λ union. MatchResult result
         (λ text. text.items ≡ union) (λ e. (e.place ≡ None) × (e.reason ≡ Reason.Memory))) }
 {
@@ -104,9 +104,9 @@ pub fn run_merge<R: Read, W: Write>(
     form: Form,
     writer: &mut Counted<W>,
 ) -> Result<(), RunFault>
-    ensures ends { RunEnds font_input (MergesTo form) W.contents
+    ensures ends { RunEnds font_input (MergesToFile form) W.contents
         (inputs_of R.remaining readers.old readers.new) writer.old writer.new result }
-    ensures succeeds { Succeeds font_input (MergesTo form)
+    ensures succeeds { Succeeds font_input (MergesToFile form)
         (inputs_of R.remaining readers.old readers.new) writer.old writer.new result }
     ensures subsets { WritesUnion W.contents form
         (inputs_of R.remaining readers.old readers.new) writer.old writer.new result }

@@ -1,6 +1,6 @@
 //! Reading a whole input.
 ghost use Rattle.std.specs.Prelude.{◌≡◌, ◌+◌, ◌≤◌, IfOk, IfErr, IfSome, length};
-ghost use Rattle.t1_cmd.specs.Count.{calls_of, failed_of, inner_of};
+ghost use Rattle.t1_cmd.specs.Count.{calls_counted, failed_of, inner_of};
 ghost use Rattle.t1_cmd.specs.Runs.{ReadRefusal};
 
 use crate::counting::Counted;
@@ -25,7 +25,7 @@ pub fn read_all<R: Read>(
     ensures refused { IfErr result
         (ReadRefusal limit (R.remaining (inner_of reader.old)) (failed_of reader.old)
         (failed_of reader.new)) }
-    ensures turns { calls_of reader.new ≤ calls_of reader.old + (limit + 1) }
+    ensures turns { calls_counted reader.new ≤ calls_counted reader.old + (limit + 1) }
     ensures kept { failed_of reader.old ≤ failed_of reader.new }
 {
     let mut bytes = Vec::new(alloc);

@@ -3,7 +3,7 @@ ghost use Rattle.std.specs.Prelude.{◌≡◌, List, None, IfOk, IfErr, MatchRes
 ghost use Rattle.t1_font.specs.FontValue.{FontValue};
 ghost use Rattle.t1_font.specs.Evening.{evened_shells};
 ghost use Rattle.t1_subset.specs.NameSets.{lent};
-ghost use Rattle.t1_cmd.specs.Answers.{Refuses};
+ghost use Rattle.t1_cmd.specs.Answers.{MayRefuse};
 ghost use Rattle.t1_cmd.specs.Files.{OfFiles, RefusesFiles};
 ghost use Rattle.t1_cmd.specs.Fonts.{mended_input};
 ghost use Rattle.t1_cmd.specs.Runs.{RunEnds, Succeeds};
@@ -28,7 +28,7 @@ fn filled_file(alloc: Global, sources: &[Source], form: Form) -> Result<Vec<u8>,
         → IfOk result (λ text. RejoinsTo form fonts (Ok text.items)) }
     ensures refused { (fonts : List FontValue)
         → sources.now ≡ evened_shells fonts
-        → IfErr result (Refuses (RejoinsTo form fonts)) }
+        → IfErr result (MayRefuse (RejoinsTo form fonts)) }
 {
     let lent = fonts_of(alloc, sources)?;
     let mut indices = Vec::new(alloc);
@@ -43,7 +43,7 @@ fn filled_file(alloc: Global, sources: &[Source], form: Form) -> Result<Vec<u8>,
 // The canonical file of the font that these come to when they are made even.
 fn rejoined_file(alloc: Global, sources: Vec<Source>, form: Form) -> Result<Vec<u8>, Reason>
     ensures text { IfOk result (λ text. RejoinsTo form sources.items (Ok text.items)) }
-    ensures refused { IfErr result (Refuses (RejoinsTo form sources.items)) }
+    ensures refused { IfErr result (MayRefuse (RejoinsTo form sources.items)) }
 {
     let evened = even_shells(alloc, sources)?;
     filled_file(alloc, evened.as_slice(), form)

@@ -3,7 +3,7 @@ ghost use Rattle.std.specs.Prelude.{◌≡◌, ◌++◌, ◌∷◌, [], ℕ, Lis
 ghost use Rattle.t1_font.specs.FontValue.{FontValue};
 ghost use Rattle.t1_subset.specs.NameSets.{lent};
 ghost use Rattle.t1_cmd.specs.declared.faults.Reason.{Reason};
-ghost use Rattle.t1_cmd.specs.Answers.{Refuses};
+ghost use Rattle.t1_cmd.specs.Answers.{MayRefuse};
 ghost use Rattle.t1_cmd.specs.Files.{values_from, IsUnread, IsRefusalAt, OfFiles, RefusesFiles};
 ghost use Rattle.t1_cmd.specs.Fonts.{input_by};
 ghost use Rattle.t1_cmd.specs.Inputs.{Say};
@@ -25,7 +25,7 @@ pub(crate) trait FontsWord {
     /// The text that the word makes of the fonts of sources.
     fn text(&self, alloc: Global, sources: Vec<Source>) -> Result<Vec<u8>, Reason>
         ensures text { IfOk result (λ text. Answers self.now sources.items (Ok text.items)) }
-        ensures refused { IfErr result (Refuses (Answers self.now sources.items)) };
+        ensures refused { IfErr result (MayRefuse (Answers self.now sources.items)) };
 }
 
 // One more source.
@@ -41,7 +41,7 @@ fn keep(sources: &mut Vec<Source>, source: Source) -> Result<(), AllocError>
 // The source of the font that the bytes of a file are taken for.
 fn source_in(alloc: Global, taking: Taking, file: &[u8]) -> Result<Source, Reason>
     ensures source { IfOk result (λ source. input_by taking file.now ≡ Ok source) }
-    ensures refused { IfErr result (Refuses (λ a. a ≡ input_by taking file.now)) }
+    ensures refused { IfErr result (MayRefuse (λ a. a ≡ input_by taking file.now)) }
 {
     let file = file.to_vec(alloc)?;
     source_of(alloc, taking, file)

@@ -3,13 +3,13 @@ ghost use Rattle.std.specs.Prelude.{◌≡◌, ℕ, ◌+◌, ◌≤◌, List, �
 ghost use Rattle.std.specs.List.{All, flat_map};
 ghost use Rattle.t1_font.specs.FontModel.{subr_at};
 ghost use Rattle.t1_run.specs.Layouts.{traced, IsPlainPart};
-ghost use Rattle.t1_cmd.specs.Count.{calls_of};
+ghost use Rattle.t1_cmd.specs.Count.{calls_counted};
 ghost use Rattle.t1_cmd.specs.Inputs.{input_of};
 ghost use Rattle.t1_bytes.specs.Limits.{file_limit};
 ghost use Rattle.t1_cmd.specs.Runs.{RunEnds, Succeeds};
-ghost use Rattle.t1_cmd.specs.Answers.{Prints, Refuses};
+ghost use Rattle.t1_cmd.specs.Answers.{Prints, MayRefuse};
 ghost use Rattle.t1_cmd.specs.Fonts.{font_input, of_file};
-ghost use Rattle.t1_cmd.specs.DrawingText.{amount, number, numbers, line, mark_line, with_line, part_lines, drawn_lines, fault_line, show_answer};
+ghost use Rattle.t1_cmd.specs.DrawingText.{amount, unit_number, numbers, line, mark_line, with_mark_line, part_lines, drawn_lines, fault_line, show_answer};
 
 use crate::counting::Counted;
 use crate::faults::{Name, Reason, RunFault};
@@ -33,7 +33,7 @@ fn push_amount(alloc: Global, out: &mut Vec<u8>, count: u64) -> Result<(), Alloc
 }
 
 fn push_count(alloc: Global, out: &mut Vec<u8>, count: i64) -> Result<(), AllocError>
-    ensures { OnOk result (out.new.items ≡ out.old.items ++ number count) }
+    ensures { OnOk result (out.new.items ≡ out.old.items ++ unit_number count) }
 {
     if count < 0 {
         out.push(b'-')?;
@@ -114,7 +114,7 @@ impl Pen for Lines {
 
     ghost page = { λ lines. lines.text.items };
 
-    ghost marked = { with_line };
+    ghost marked = { with_mark_line };
 
     fn mark(&mut self, mark: Mark) -> Result<(), AllocError> {
         push_mark(self.alloc, &mut self.text, mark)
@@ -179,7 +179,7 @@ fn fault_text(alloc: Global, fault: DrawFault) -> Result<Vec<u8>, AllocError>
 // The text of what the glyph of a name draws.
 fn shown_glyph(alloc: Global, font: &Font<'_>, name: &[u8]) -> Result<Vec<u8>, Reason>
     ensures text { IfOk result (λ text. show_answer name.now font.now ≡ Ok text.items) }
-    ensures refused { IfErr result (Refuses (λ a. a ≡ show_answer name.now font.now)) }
+    ensures refused { IfErr result (MayRefuse (λ a. a ≡ show_answer name.now font.now)) }
 {
     match lay_out(alloc, font, name)? {
         Layout::Drawn { width, sb, parts } => {
@@ -221,7 +221,7 @@ impl FontWord for Show<'_> {
 /// font lacks the name. [`Reason::Memory`] if a growth was refused.
 pub fn show_file(alloc: Global, file: &[u8], name: &[u8]) -> Result<Vec<u8>, Reason>
     ensures text { IfOk result (λ text. of_file (show_answer name.now) file.now ≡ Ok text.items) }
-    ensures refused { IfErr result (Refuses (λ a. a ≡ of_file (show_answer name.now) file.now)) }
+    ensures refused { IfErr result (MayRefuse (λ a. a ≡ of_file (show_answer name.now) file.now)) }
 {
     text_of_bytes(alloc, Taking::Spelled, &Show { name }, file)
 }
@@ -240,7 +240,7 @@ pub fn run_show<R: Read, W: Write>(
         (input_of R.remaining reader.old reader.new ∷ []) writer.old writer.new result }
     ensures succeeds { Succeeds font_input (Prints (show_answer name.now))
         (input_of R.remaining reader.old reader.new ∷ []) writer.old writer.new result }
-    ensures turns { calls_of reader.new ≤ calls_of reader.old + (file_limit + 1) }
+    ensures turns { calls_counted reader.new ≤ calls_counted reader.old + (file_limit + 1) }
 {
     run_word(alloc, Taking::Spelled, &Show { name }, reader, writer)
 }

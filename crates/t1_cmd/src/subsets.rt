@@ -3,11 +3,11 @@ ghost use Rattle.std.specs.Prelude.{◌≡◌, ◌+◌, ◌≤◌, ◌∷◌, []
 ghost use Rattle.t1_algebra.specs.Profile.{profile};
 ghost use Rattle.t1_algebra.specs.Keep.{subset};
 ghost use Rattle.t1_subset.specs.NameSets.{lent, asked};
-ghost use Rattle.t1_cmd.specs.Count.{calls_of};
+ghost use Rattle.t1_cmd.specs.Count.{calls_counted};
 ghost use Rattle.t1_cmd.specs.Inputs.{input_of};
 ghost use Rattle.t1_bytes.specs.Limits.{file_limit};
 ghost use Rattle.t1_cmd.specs.Runs.{RunEnds, Succeeds};
-ghost use Rattle.t1_cmd.specs.Answers.{Prints, Refuses};
+ghost use Rattle.t1_cmd.specs.Answers.{Prints, MayRefuse};
 ghost use Rattle.t1_cmd.specs.Fonts.{font_input, of_file};
 ghost use Rattle.t1_cmd.specs.Subsets.{first_absent, unless_absent, subset_answer};
 
@@ -25,7 +25,7 @@ fn cut<'a>(alloc: Global, font: &Font<'a>, names: &[&[u8]]) -> Result<Font<'a>, 
     ensures cut { IfOk result (λ s. s ≡ subset profile font.now (asked names.now)) }
     ensures present { OnOk result (first_absent font.now (lent names.now) ≡ None) }
     ensures refused { IfErr result (λ e. (text : List ℕ)
-        → Refuses (λ a. a ≡ unless_absent (first_absent font.now (lent names.now)) text) e) }
+        → MayRefuse (λ a. a ≡ unless_absent (first_absent font.now (lent names.now)) text) e) }
 {
     match subset(alloc, font, names) {
         Ok(cut) => Ok(cut),
@@ -47,7 +47,7 @@ fn file_of_cut(
     ensures text { IfOk result (λ text. subset_answer form (lent names.now) font.entry
         ≡ Ok text.items) }
     ensures refused { IfErr result
-        (Refuses (λ a. a ≡ subset_answer form (lent names.now) font.entry)) }
+        (MayRefuse (λ a. a ≡ subset_answer form (lent names.now) font.entry)) }
 {
     let cut = match cut(alloc, &font, names) {
         Ok(cut) => cut,
@@ -89,7 +89,7 @@ pub fn subset_file(
     form: Form,
 ) -> Result<Vec<u8>, Reason>
     ensures text { IfOk result (λ text. of_file (subset_answer form (lent names.now)) file.now ≡ Ok text.items) }
-    ensures refused { IfErr result (Refuses (λ a. a ≡ of_file (subset_answer form (lent names.now)) file.now)) }
+    ensures refused { IfErr result (MayRefuse (λ a. a ≡ of_file (subset_answer form (lent names.now)) file.now)) }
 {
     text_of_bytes(alloc, Taking::Spelled, &Subset { names, form }, file)
 }
@@ -111,7 +111,7 @@ pub fn run_subset<R: Read, W: Write>(
         (input_of R.remaining reader.old reader.new ∷ []) writer.old writer.new result }
     ensures succeeds { Succeeds font_input (Prints (subset_answer form (lent names.now)))
         (input_of R.remaining reader.old reader.new ∷ []) writer.old writer.new result }
-    ensures turns { calls_of reader.new ≤ calls_of reader.old + (file_limit + 1) }
+    ensures turns { calls_counted reader.new ≤ calls_counted reader.old + (file_limit + 1) }
 {
     run_word(
         alloc,

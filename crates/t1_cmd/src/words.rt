@@ -3,10 +3,10 @@ ghost use Rattle.std.specs.Prelude.{◌≡◌, ◌+◌, ◌≤◌, ◌∷◌, []
 ghost use Rattle.t1_bytes.specs.Limits.{file_limit};
 ghost use Rattle.t1_font.specs.FontValue.{FontValue};
 ghost use Rattle.t1_cmd.specs.declared.faults.Reason.{Reason};
-ghost use Rattle.t1_cmd.specs.Count.{calls_of, inner_of};
-ghost use Rattle.t1_cmd.specs.Inputs.{Input, Has, input_of};
+ghost use Rattle.t1_cmd.specs.Count.{calls_counted, inner_of};
+ghost use Rattle.t1_cmd.specs.Inputs.{Input, Holds, input_of};
 ghost use Rattle.t1_cmd.specs.Runs.{InputStops, InputEnds, RunEnds, Succeeds};
-ghost use Rattle.t1_cmd.specs.Answers.{Prints, Refuses};
+ghost use Rattle.t1_cmd.specs.Answers.{Prints, MayRefuse};
 ghost use Rattle.t1_cmd.specs.Fonts.{font_reason, font_input, mended_input, input_by, of_input};
 
 use crate::counting::Counted;
@@ -25,7 +25,7 @@ pub(crate) trait FontWord {
     /// The text that the word makes of a font.
     fn text(&self, alloc: Global, font: Font<'_>) -> Result<Vec<u8>, Reason>
         ensures text { IfOk result (λ text. answer self.now font.entry ≡ Ok text.items) }
-        ensures refused { IfErr result (Refuses (λ a. a ≡ answer self.now font.entry)) };
+        ensures refused { IfErr result (MayRefuse (λ a. a ≡ answer self.now font.entry)) };
 }
 
 pub(crate) fn reason_of(fault: ReadFault) -> Reason
@@ -50,7 +50,7 @@ pub(crate) enum Taking {
 // The source of the font that a file spells.
 fn spelled_source(alloc: Global, file: Vec<u8>) -> Result<Source, Reason>
     ensures source { IfOk result (λ source. font_input file.items ≡ Ok source) }
-    ensures refused { IfErr result (Refuses (λ a. a ≡ font_input file.items)) }
+    ensures refused { IfErr result (MayRefuse (λ a. a ≡ font_input file.items)) }
 {
     if file.len() > FILE_LIMIT {
         return Err(Reason::TooLong);
@@ -61,7 +61,7 @@ fn spelled_source(alloc: Global, file: Vec<u8>) -> Result<Source, Reason>
 // The source of the font that a file spells widely, without the test whether it was loaded before.
 fn mended_source(alloc: Global, file: Vec<u8>) -> Result<Source, Reason>
     ensures source { IfOk result (λ source. mended_input file.items ≡ Ok source) }
-    ensures refused { IfErr result (Refuses (λ a. a ≡ mended_input file.items)) }
+    ensures refused { IfErr result (MayRefuse (λ a. a ≡ mended_input file.items)) }
 {
     if file.len() > FILE_LIMIT {
         return Err(Reason::TooLong);
@@ -75,7 +75,7 @@ fn mended_source(alloc: Global, file: Vec<u8>) -> Result<Source, Reason>
 /// The source of the font that a file is taken for.
 pub(crate) fn source_of(alloc: Global, taking: Taking, file: Vec<u8>) -> Result<Source, Reason>
     ensures source { IfOk result (λ source. input_by taking file.items ≡ Ok source) }
-    ensures refused { IfErr result (Refuses (λ a. a ≡ input_by taking file.items)) }
+    ensures refused { IfErr result (MayRefuse (λ a. a ≡ input_by taking file.items)) }
 {
     match taking {
         Taking::Spelled => spelled_source(alloc, file),
@@ -86,7 +86,7 @@ pub(crate) fn source_of(alloc: Global, taking: Taking, file: Vec<u8>) -> Result<
 // The text that a word makes of the font of a source.
 fn text_of_source<T: FontWord>(alloc: Global, word: &T, source: &Source) -> Result<Vec<u8>, Reason>
     ensures text { IfOk result (λ text. T.answer word.now source.now ≡ Ok text.items) }
-    ensures refused { IfErr result (Refuses (λ a. a ≡ T.answer word.now source.now)) }
+    ensures refused { IfErr result (MayRefuse (λ a. a ≡ T.answer word.now source.now)) }
 {
     let font = source.font(alloc)?;
     word.text(alloc, font)
@@ -101,7 +101,7 @@ pub(crate) fn text_of_file<T: FontWord>(
 ) -> Result<Vec<u8>, Reason>
     ensures text { IfOk result (λ text. of_input (input_by taking) (T.answer word.now) file.items
         ≡ Ok text.items) }
-    ensures refused { IfErr result (Refuses (λ a. a ≡ of_input (input_by taking) (T.answer word.now) file.items)) }
+    ensures refused { IfErr result (MayRefuse (λ a. a ≡ of_input (input_by taking) (T.answer word.now) file.items)) }
 {
     let source = match source_of(alloc, taking, file) {
         Ok(source) => source,
@@ -121,7 +121,7 @@ pub(crate) fn text_of_bytes<T: FontWord>(
 ) -> Result<Vec<u8>, Reason>
     ensures text { IfOk result (λ text. of_input (input_by taking) (T.answer word.now) file.now
         ≡ Ok text.items) }
-    ensures refused { IfErr result (Refuses (λ a. a ≡ of_input (input_by taking) (T.answer word.now) file.now)) }
+    ensures refused { IfErr result (MayRefuse (λ a. a ≡ of_input (input_by taking) (T.answer word.now) file.now)) }
 {
     let file = file.to_vec(alloc)?;
     text_of_file(alloc, taking, word, file)
@@ -137,7 +137,7 @@ pub(crate) fn read_file<R: Read>(
         (λ file. IfSome (R.remaining (inner_of reader.old)) (λ bytes. file.items ≡ bytes)) }
     ensures refused { IfErr result
         (InputStops (input_by taking) (input_of R.remaining reader.old reader.new)) }
-    ensures turns { calls_of reader.new ≤ calls_of reader.old + (file_limit + 1) }
+    ensures turns { calls_counted reader.new ≤ calls_counted reader.old + (file_limit + 1) }
 {
     read_all(alloc, reader, FILE_LIMIT)
 }
@@ -150,7 +150,7 @@ pub(crate) fn read_font<R: Read>(
 ) -> Result<Source, RunFault>
     ensures ends { InputEnds (input_by taking) (λ f. f)
         (input_of R.remaining reader.old reader.new) result }
-    ensures turns { calls_of reader.new ≤ calls_of reader.old + (file_limit + 1) }
+    ensures turns { calls_counted reader.new ≤ calls_counted reader.old + (file_limit + 1) }
 {
     let file = read_file(alloc, taking, reader)?;
     match source_of(alloc, taking, file) {
@@ -167,7 +167,7 @@ pub(crate) fn write_word<T: FontWord, W: Write>(
     file: Vec<u8>,
     writer: &mut Counted<W>,
 ) -> Result<(), RunFault>
-    ensures { (i : Input) → Has i file.items
+    ensures { (i : Input) → Holds i file.items
         → RunEnds (input_by taking) (Prints (T.answer word.now)) W.contents
         (i ∷ []) writer.old writer.new result }
 {
@@ -190,7 +190,7 @@ pub(crate) fn run_word<T: FontWord, R: Read, W: Write>(
         (input_of R.remaining reader.old reader.new ∷ []) writer.old writer.new result }
     ensures succeeds { Succeeds (input_by taking) (Prints (T.answer word.now))
         (input_of R.remaining reader.old reader.new ∷ []) writer.old writer.new result }
-    ensures turns { calls_of reader.new ≤ calls_of reader.old + (file_limit + 1) }
+    ensures turns { calls_counted reader.new ≤ calls_counted reader.old + (file_limit + 1) }
 {
     let file = read_file(alloc, taking, reader)?;
     write_word(alloc, taking, word, file, writer)

@@ -17,7 +17,7 @@ use Rattle.t1_subset.specs.Refusals.{Tells}
 use Rattle.t1_example.specs.declared.refusal.Refusal.{Refusal}
 use Rattle.t1_example.specs.declared.refusal.Refusal.TheVariants.{Read, Subset, Merge, Memory}
 use Rattle.t1_example.specs.Joining.{IsMemory}
-use Rattle.t1_example.specs.Outcomes.{ComesTo, CutsMergeTo, FilesMergeTo, LacksFirst, MergeTo, file_of, lacking}
+use Rattle.t1_example.specs.Outcomes.{FileComesTo, CutsMergeTo, FilesMergeTo, LacksFirst, MergeTo, file_of, first_lacking}
 
 -- a file is refused for want of memory, or for what is read of it
 pub unread : (e : ReadFault) (r : Result FontValue ReadFault) → Refused e r → (e ≡ reading.Memory) ⊎ (r ≡ Err e)
@@ -49,9 +49,9 @@ cuts_wanting (Some n) f a b form e m = inl m
 cuts_wanting None f a b form e m = files_wanting (read_font (file_of f a form)) (read_font (file_of f b form)) form e m
 
 -- want of memory may be answered in place of what a file comes to
-pub wanting : (r : Result FontValue ReadFault) (a b : List (List ℕ)) (form : Form) (e : Refusal) → IsMemory e → ComesTo r a b form (Err e)
+pub wanting : (r : Result FontValue ReadFault) (a b : List (List ℕ)) (form : Form) (e : Refusal) → IsMemory e → FileComesTo r a b form (Err e)
 wanting (Err fault) a b form e m = inl m
-wanting (Ok f) a b form e m = cuts_wanting (option_or (lacking f a) (lacking f b)) f a b form e m
+wanting (Ok f) a b form e m = cuts_wanting (option_or (first_lacking f a) (first_lacking f b)) f a b form e m
 
 -- the first of two files spells no font
 pub first_unread : (e : ReadFault) (r s : Result FontValue ReadFault) (form : Form) → Refused e r → FilesMergeTo r s form (Err (Read e))
@@ -77,10 +77,10 @@ both_read r s form g h q k l m =
     (subst (λ (p : Result FontValue ReadFault). FilesMergeTo (Ok g) p form q) (sym l) m)
 
 -- the file spells no font
-pub file_unread : (e : ReadFault) (r : Result FontValue ReadFault) (a b : List (List ℕ)) (form : Form) → Refused e r → ComesTo r a b form (Err (Read e))
+pub file_unread : (e : ReadFault) (r : Result FontValue ReadFault) (a b : List (List ℕ)) (form : Form) → Refused e r → FileComesTo r a b form (Err (Read e))
 file_unread e r a b form h = elim (unread e r h) [
   | inl m ↦ wanting r a b form (Read e) m
-  | inr x ↦ subst (λ (q : Result FontValue ReadFault). ComesTo q a b form (Err (Read e))) (sym x) (inr refl)
+  | inr x ↦ subst (λ (q : Result FontValue ReadFault). FileComesTo q a b form (Err (Read e))) (sym x) (inr refl)
 ]
 
 -- a name is lacking
@@ -104,32 +104,32 @@ lacked_first None p f a b form Memory l = absurd l
 
 -- the cut to the first list is refused
 pub first_refused : (r : Result FontValue ReadFault) (f : FontValue) (a b : List (List ℕ)) (form : Form) (e : Refusal) → r ≡ Ok f →
-    IsMemory e ⊎ LacksFirst (lacking f a) e
-    → ComesTo r a b form (Err e)
-first_refused r f a b form e k h = subst (λ (q : Result FontValue ReadFault). ComesTo q a b form (Err e)) (sym k) (elim h [
+    IsMemory e ⊎ LacksFirst (first_lacking f a) e
+    → FileComesTo r a b form (Err e)
+first_refused r f a b form e k h = subst (λ (q : Result FontValue ReadFault). FileComesTo q a b form (Err e)) (sym k) (elim h [
   | inl m ↦ wanting (Ok f) a b form e m
-  | inr l ↦ lacked_first (lacking f a) (lacking f b) f a b form e l
+  | inr l ↦ lacked_first (first_lacking f a) (first_lacking f b) f a b form e l
 ])
 
 -- what a font comes to that has all names of the first list
 pub first_has : (r : Result FontValue ReadFault) (f : FontValue) (a b : List (List ℕ)) (form : Form) (q : Result (Vec ℕ Global) Refusal) →
-    r ≡ Ok f → lacking f a ≡ None
-    → CutsMergeTo (lacking f b) f a b form q → ComesTo r a b form q
-first_has r f a b form q k n m = subst (λ (p : Result FontValue ReadFault). ComesTo p a b form q) (sym k)
-    (subst (λ (o : Option (List ℕ)). CutsMergeTo (option_or o (lacking f b)) f a b form q) (sym n) m)
+    r ≡ Ok f → first_lacking f a ≡ None
+    → CutsMergeTo (first_lacking f b) f a b form q → FileComesTo r a b form q
+first_has r f a b form q k n m = subst (λ (p : Result FontValue ReadFault). FileComesTo p a b form q) (sym k)
+    (subst (λ (o : Option (List ℕ)). CutsMergeTo (option_or o (first_lacking f b)) f a b form q) (sym n) m)
 
 -- the cut to the second list is refused
-pub second_refused : (r : Result FontValue ReadFault) (f : FontValue) (a b : List (List ℕ)) (form : Form) (e : Refusal) → r ≡ Ok f → lacking f a ≡ None
-    → IsMemory e ⊎ LacksFirst (lacking f b) e → ComesTo r a b form (Err e)
+pub second_refused : (r : Result FontValue ReadFault) (f : FontValue) (a b : List (List ℕ)) (form : Form) (e : Refusal) → r ≡ Ok f → first_lacking f a ≡ None
+    → IsMemory e ⊎ LacksFirst (first_lacking f b) e → FileComesTo r a b form (Err e)
 second_refused r f a b form e k n h = first_has r f a b form (Err e) k n (elim h [
-  | inl m ↦ cuts_wanting (lacking f b) f a b form e m
-  | inr l ↦ lacked (lacking f b) f a b form e l
+  | inl m ↦ cuts_wanting (first_lacking f b) f a b form e m
+  | inr l ↦ lacked (first_lacking f b) f a b form e l
 ])
 
 -- both cuts are made
 pub both_cut : (r : Result FontValue ReadFault) (f : FontValue) (a b : List (List ℕ)) (form : Form) (one other : List ℕ) (q : Result (Vec ℕ Global) Refusal) →
-    r ≡ Ok f → lacking f a ≡ None → lacking f b ≡ None
-    → one ≡ file_of f a form → other ≡ file_of f b form → FilesMergeTo (read_font one) (read_font other) form q → ComesTo r a b form q
+    r ≡ Ok f → first_lacking f a ≡ None → first_lacking f b ≡ None
+    → one ≡ file_of f a form → other ≡ file_of f b form → FilesMergeTo (read_font one) (read_font other) form q → FileComesTo r a b form q
 both_cut r f a b form one other q k n o e w m = first_has r f a b form q k n
     (subst (λ (p : Option (List ℕ)). CutsMergeTo p f a b form q) (sym o)
     (subst (λ (v : List ℕ). FilesMergeTo (read_font v) (read_font (file_of f b form)) form q) e

@@ -24,8 +24,8 @@ pub record CanBeCut (file : List ℕ) (a b : Names) (form : Form) (f : FontValue
   pub fits : Fits form f
 
 -- the files are read as the subsets of the font over the first and the second set of names
-abbrev pub AreSubsets : FontValue → Names → Names → List ℕ → List ℕ → Type 0
-AreSubsets f a b first second = (read_font first ≡ Ok (subset profile f a)) × (read_font second ≡ Ok (subset profile f b))
+abbrev pub AreCuts : FontValue → Names → Names → List ℕ → List ℕ → Type 0
+AreCuts f a b first second = (read_font first ≡ Ok (subset profile f a)) × (read_font second ≡ Ok (subset profile f b))
 
 -- the subset of the names of both sets
 abbrev pub union_subset : FontValue → Names → Names → FontValue

@@ -20,8 +20,8 @@ use Rattle.t1_example.specs.declared.refusal.Refusal.TheVariants.{Read, Subset, 
 use Rattle.t1_example.specs.Joining.{IsMemory}
 
 -- there is no file, for this reason or since a growth was refused
-abbrev pub IsRefused : (Refusal → Type 0) → Result (Vec ℕ) Refusal → Type 0
-IsRefused Reason r = MatchResult r (λ _. ⊥) (λ e. IsMemory e ⊎ Reason e)
+abbrev pub NoFile : (Refusal → Type 0) → Result (Vec ℕ) Refusal → Type 0
+NoFile Reason r = MatchResult r (λ _. ⊥) (λ e. IsMemory e ⊎ Reason e)
 
 -- the font lacks this name
 abbrev pub IsLack : List ℕ → Refusal → Type 0
@@ -40,13 +40,13 @@ MergeTo g h form r =
 
 -- what the fonts of two files come to: a file that spells none is refused, the first before the second
 abbrev pub FilesMergeTo : Result FontValue ReadFault → Result FontValue ReadFault → Form → Result (Vec ℕ) Refusal → Type 0
-FilesMergeTo (Err fault) other form = IsRefused (λ e. e ≡ Read fault)
-FilesMergeTo (Ok g) (Err fault) form = IsRefused (λ e. e ≡ Read fault)
+FilesMergeTo (Err fault) other form = NoFile (λ e. e ≡ Read fault)
+FilesMergeTo (Ok g) (Err fault) form = NoFile (λ e. e ≡ Read fault)
 FilesMergeTo (Ok g) (Ok h) form = MergeTo g h form
 
 -- the first of these names that the font lacks
-abbrev pub lacking : FontValue → List (List ℕ) → Option (List ℕ)
-lacking f = first_where (λ n. not (has f n))
+abbrev pub first_lacking : FontValue → List (List ℕ) → Option (List ℕ)
+first_lacking f = first_where (λ n. not (has f n))
 
 -- the file of the subset over these names
 abbrev pub file_of : FontValue → List (List ℕ) → Form → List ℕ
@@ -54,13 +54,13 @@ file_of f ns form = canon (subset profile f (sets.from_list ns)) form
 
 -- what a font comes to: a name that it lacks is refused, those of the first list before those of the second; else it is cut to both
 abbrev pub CutsMergeTo : Option (List ℕ) → FontValue → List (List ℕ) → List (List ℕ) → Form → Result (Vec ℕ) Refusal → Type 0
-CutsMergeTo (Some n) f a b form = IsRefused (IsLack n)
+CutsMergeTo (Some n) f a b form = NoFile (IsLack n)
 CutsMergeTo None f a b form = FilesMergeTo (read_font (file_of f a form)) (read_font (file_of f b form)) form
 
 -- what a file comes to that spells this font, or no font
-abbrev pub ComesTo : Result FontValue ReadFault → List (List ℕ) → List (List ℕ) → Form → Result (Vec ℕ) Refusal → Type 0
-ComesTo (Err fault) a b form = IsRefused (λ e. e ≡ Read fault)
-ComesTo (Ok f) a b form = CutsMergeTo (option_or (lacking f a) (lacking f b)) f a b form
+abbrev pub FileComesTo : Result FontValue ReadFault → List (List ℕ) → List (List ℕ) → Form → Result (Vec ℕ) Refusal → Type 0
+FileComesTo (Err fault) a b form = NoFile (λ e. e ≡ Read fault)
+FileComesTo (Ok f) a b form = CutsMergeTo (option_or (first_lacking f a) (first_lacking f b)) f a b form
 
 -- the refusal of a cut names the first name that the font lacks
 abbrev pub LacksFirst : Option (List ℕ) → Refusal → Type 0

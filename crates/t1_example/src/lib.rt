@@ -32,8 +32,8 @@ ghost use Rattle.t1_algebra.specs.Laws.{AnswersAlike, IsOf};
 ghost use Rattle.t1_subset.specs.NameSets.{lent, asked};
 ghost use Rattle.t1_subset.specs.Merger.{IsMerger, MergesSubsets};
 ghost use Rattle.t1_algebra.specs.Profile.{profile};
-ghost use Rattle.t1_example.specs.Joining.{AreSubsets, CanBeCut, IsMemory, union_subset};
-ghost use Rattle.t1_example.specs.Outcomes.{ComesTo, FilesMergeTo, LacksFirst, MergeTo, file_of, lacking};
+ghost use Rattle.t1_example.specs.Joining.{AreCuts, CanBeCut, IsMemory, union_subset};
+ghost use Rattle.t1_example.specs.Outcomes.{FileComesTo, FilesMergeTo, LacksFirst, MergeTo, file_of, first_lacking};
 
 pub use cuts::cuts_joined;
 pub use refusal::Refusal;
@@ -57,9 +57,9 @@ fn cut(alloc: Global, source: &Source, names: &[&[u8]], form: Form) -> Result<Ve
         → MatchResult result (λ v. read_font v.items
         ≡ Ok (subset profile source.now (asked names.now))) IsMemory }
     ensures text { IfOk result (λ v. v.items ≡ file_of source.now (lent names.now) form) }
-    ensures present { OnOk result (lacking source.now (lent names.now) ≡ None) }
+    ensures present { OnOk result (first_lacking source.now (lent names.now) ≡ None) }
     ensures absent { IfErr result
-        (λ e. IsMemory e ⊎ LacksFirst (lacking source.now (lent names.now)) e) }
+        (λ e. IsMemory e ⊎ LacksFirst (first_lacking source.now (lent names.now)) e) }
 {
     let font = source.font(alloc)?;
     let subset = subset(alloc, &font, names);
@@ -128,7 +128,7 @@ fn joined(
         → IsFont f
         → IsOf f a
         → IsOf f b
-        → AreSubsets f a b first.now second.now
+        → AreCuts f a b first.now second.now
         → MatchResult result (λ v. v.items ≡ canon (union_subset f a b) form) IsMemory }
     ensures comes { FilesMergeTo (read_font first.now) (read_font second.now) form result }
 {
@@ -168,7 +168,7 @@ pub fn cut_and_joined(
         → CanBeCut file.now (asked first.now) (asked second.now) form f
         → MatchResult result (λ v. v.items
         ≡ canon (union_subset f (asked first.now) (asked second.now)) form) IsMemory }
-    ensures comes { ComesTo (read_font file.now) (lent first.now) (lent second.now) form result }
+    ensures comes { FileComesTo (read_font file.now) (lent first.now) (lent second.now) form result }
     ensures draws { (f : FontValue)
         → CanBeCut file.now (asked first.now) (asked second.now) form f
         → IfOk result (λ v. (g : FontValue) (n : List ℕ)

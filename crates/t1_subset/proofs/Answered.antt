@@ -6,13 +6,13 @@ use Rattle.t1_join.proofs.OrderLemmas.{leaves_from_left, same_leaves}
 use Rattle.t1_join.specs.Groupings.{Grouping, one, two, from_left, leaves}
 use Rattle.t1_font.specs.{FontValue.{FontValue}, IsFont.{IsFont}}
 use Rattle.t1_algebra.specs.{Interpreter.{Names}, Keep.{subset}, Profile.{profile}, Laws.{IsOf, DrawsAlike}}
-use Rattle.t1_algebra.specs.{States.{Join, joined_font, IsWithin}, Conflicts.{Conflict, conflict}, Groupings.{Merges, union_all, folded}}
+use Rattle.t1_algebra.specs.{States.{Join, joined_font, KeepsLimits}, Conflicts.{Conflict, conflict}, Groupings.{Merges, union_all, folded}}
 use Rattle.t1_algebra.specs.Merges.{DrawsBoth, ComesTo, DrawsAll, MergesToNone}
 use Rattle.t1_algebra.proofs.{Drawings.{left_alike, right_alike}, Conflicts.{no_conflict, conflict_back}, Fonts.{two_subsets, font_within, fonts_within, any_order_of_fonts}}
 use Rattle.t1_algebra.proofs.Orders.{one_result, any_order, join_self, join_back, accepted_from_pairs, pairs_from_accepted, folded_is, within}
 use Rattle.t1_algebra.proofs.ManyMerges.{left_append, inner, no_tree, each_font, cut_at, all_before, all_of_font, one_subset, all_draw}
 use Rattle.t1_subset.specs.{declared.conflict.Conflict.{Conflict as Refusal}, Refusals.{Tells}}
-use Rattle.t1_subset.specs.{Merger.{StopsAt, IsRefused, MergesSubsets, MergesAllSubsets, IsMerger, MergesItself, AcceptsAllJoin, MergesInAnyOrder}}
+use Rattle.t1_subset.specs.{Merger.{StopsAt, NotMerged, MergesSubsets, MergesAllSubsets, IsMerger, MergesItself, AcceptsAllJoin, MergesInAnyOrder}}
 use Rattle.t1_subset.specs.declared.conflict.Conflict.TheVariants as refusal
 
 -- if there is no conflict, a refusal tells want of memory
@@ -73,10 +73,10 @@ subsets_never_stop f w a more h e s =
     s.tells
 
 -- a merger of subsets of a font is the subset over all the sets, or memory is wanting
-pub of_all_subsets : (fs : List FontValue) (r : Result FontValue Refusal) → IfOk r (λ j. ComesTo fs j) → IfErr r (λ e. IsRefused fs e) → MergesAllSubsets fs r
+pub of_all_subsets : (fs : List FontValue) (r : Result FontValue Refusal) → IfOk r (λ j. ComesTo fs j) → IfErr r (λ e. NotMerged fs e) → MergesAllSubsets fs r
 of_all_subsets fs (Ok j) ok err f w a more h e = one_subset f w a more h j (subst (λ (t : List FontValue). ComesTo t j) e ok)
 of_all_subsets fs (Err c) ok err f w a more h e =
-    elim (subst (λ (t : List FontValue). IsRefused t c) e err) [ inl m ↦ m | inr s ↦ subsets_never_stop f w a more h c s ]
+    elim (subst (λ (t : List FontValue). NotMerged t c) e err) [ inl m ↦ m | inr s ↦ subsets_never_stop f w a more h c s ]
 
 -- ---- many fonts
 
@@ -105,24 +105,24 @@ or_memory e h = inr (λ a. let k = h a in cc)
 
 -- fonts that merge are refused for want of memory alone
 refusal_is : (f : FontValue) (fs : List FontValue) (e : Refusal) (j : FontValue) →
-    IsRefused (f ∷ fs) e → Merges profile (from_left (one f) fs) j → e ≡ refusal.Memory
+    NotMerged (f ∷ fs) e → Merges profile (from_left (one f) fs) j → e ≡ refusal.Memory
 refusal_is f fs e j h m = elim h [ inl k ↦ k | inr s ↦ never_stops f fs j m e s ]
 
 -- a list of fonts is accepted exactly if all of them join
 pub accepts : (fs : List FontValue) → AllByRecursion IsFont fs → (r : Result FontValue Refusal) →
-    IfOk r (λ j. ComesTo fs j) → IfErr r (λ e. IsRefused fs e) → AcceptsAllJoin fs r
+    IfOk r (λ j. ComesTo fs j) → IfErr r (λ e. NotMerged fs e) → AcceptsAllJoin fs r
 accepts [] w (Ok j) ok err = ok
 accepts [] w (Err e) ok err = inr (λ a. a)
 accepts (f ∷ fs) w (Ok j) ok err =
     let folded-is = folded_is profile f fs j ok in (
       pairs_from_accepted profile f fs j ok,
-      subst IsWithin (sym folded-is) (within profile (from_left (one f) fs) j ok (fonts_within (from_left (one f) fs) (each_font f fs w))),
+      subst KeepsLimits (sym folded-is) (within profile (from_left (one f) fs) j ok (fonts_within (from_left (one f) fs) (each_font f fs w))),
     )
 accepts (f ∷ fs) w (Err e) ok err = or_memory e (λ a. refusal_is f fs e (folded profile f fs) err (accepted_from_pairs profile f fs a.0 a.1))
 
 -- each order and grouping comes to the font that is answered, or to none
 pub in_any_order : (fs : List FontValue) → AllByRecursion IsFont fs → (r : Result FontValue Refusal) →
-    IfOk r (λ j. ComesTo fs j) → IfErr r (λ e. IsRefused fs e) → MergesInAnyOrder fs r
+    IfOk r (λ j. ComesTo fs j) → IfErr r (λ e. NotMerged fs e) → MergesInAnyOrder fs r
 in_any_order [] w (Ok j) ok err t p = absurd ok
 in_any_order [] w (Err e) ok err t p = inr (λ k m. no_tree t p)
 in_any_order (f ∷ fs) w (Ok j) ok err t p =

@@ -5,7 +5,7 @@ use Rattle.t1_font.specs.FontValue.{FontValue}
 use Rattle.t1_font.specs.IsFont.{IsFont}
 use Rattle.t1_algebra.specs.Profile.{profile}
 use Rattle.t1_algebra.specs.StateTables.{StatesValue, states_of}
-use Rattle.t1_algebra.specs.Conflicts.{wanted_by, used_by, glyph_names}
+use Rattle.t1_algebra.specs.Conflicts.{wanted_by, used_by, glyphs_of_both}
 use Rattle.t1_algebra.specs.Searches.{smallest}
 use Rattle.t1_subset.specs.declared.callers.Callers.{Callers}
 use Rattle.t1_subset.specs.Callers.{user_from, seeker_from}
@@ -13,8 +13,8 @@ use Rattle.t1_subset.specs.Callers.{user_from, seeker_from}
 -- the smallest callers in the list are the smallest of both fonts
 pub record AreCallers (cs : List Callers) (f g : FontValue) : Type 0 where
   pub users : (i : ℕ) → maps.contains_key f.subrs i ≡ true → maps.contains_key g.subrs i ≡ true →
-      user_from None cs i ≡ smallest (used_by profile f g i) (glyph_names f g)
-  pub seekers : (p : List ℕ) → seeker_from None cs p ≡ smallest (wanted_by profile f g p) (glyph_names f g)
+      user_from None cs i ≡ smallest (used_by profile f g i) (glyphs_of_both f g)
+  pub seekers : (p : List ℕ) → seeker_from None cs p ≡ smallest (wanted_by profile f g p) (glyphs_of_both f g)
 
 -- s and t are the states of two fonts
 pub record AreStatesOf (s t : StatesValue) (f g : FontValue) : Type 0 where

@@ -24,8 +24,8 @@ shell_part part.GlyphsWords = GlyphsWords
 shell_part part.Tail = Tail
 
 -- the bytes of a vector
-abbrev pub bytes_of : Vec ℕ → List ℕ
-bytes_of v = v.items
+abbrev pub vector_bytes : Vec ℕ → List ℕ
+vector_bytes v = v.items
 
 -- the table with this state at the key, or unchanged if there is none
 abbrev pub with_state : TableMeaning → Meaning → Option Meaning → TableMeaning

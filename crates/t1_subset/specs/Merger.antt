@@ -50,9 +50,9 @@ FirstShare (f ∷ []) = Unit {0}
 FirstShare (f ∷ g ∷ fs) = shell_conflict f g ≡ None
 
 -- there are no fonts, or a growth was refused, or a font does not join those before it
-abbrev pub IsRefused : List FontValue → Refusal → Type 0
-IsRefused [] e = e ≡ Empty
-IsRefused (f ∷ fs) e = (e ≡ Memory) ⊎ StopsAt f fs e
+abbrev pub NotMerged : List FontValue → Refusal → Type 0
+NotMerged [] e = e ≡ Empty
+NotMerged (f ∷ fs) e = (e ≡ Memory) ⊎ StopsAt f fs e
 
 -- Two subsets of one font come to the subset over both sets of names, or a growth was refused.
 abbrev pub MergesSubsets : FontValue → FontValue → Result FontValue Refusal → Type 0

@@ -7,8 +7,8 @@ use Rattle.std.specs.FinSet as sets
 use Rattle.t1_algebra.specs.Interpreter.{Names}
 
 -- the names of a list, as bytes
-abbrev pub names_of : List (Vec ℕ) → List (List ℕ)
-names_of vs = map (λ v. v.items) vs
+abbrev pub listed_names : List (Vec ℕ) → List (List ℕ)
+listed_names vs = map (λ v. v.items) vs
 
 -- the names of a list of borrowed names
 abbrev pub lent : List (Bor (List ℕ)) → List (List ℕ)
@@ -24,4 +24,4 @@ names_code = sets.code (coded_list coded_ℕ)
 
 -- the set of the names of a list
 abbrev pub set_by : List (Vec ℕ) → Names
-set_by vs = sets.from_list (names_of vs)
+set_by vs = sets.from_list (listed_names vs)

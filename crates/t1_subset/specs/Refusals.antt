@@ -8,7 +8,7 @@ use Rattle.t1_subset.specs.declared.fault.SubsetFault.{SubsetFault}
 use Rattle.t1_subset.specs.declared.fault.SubsetFault.TheVariants.{NoSuchGlyph, Memory}
 use Rattle.t1_subset.specs.declared.conflict.Conflict.{Conflict as Refusal}
 use Rattle.t1_subset.specs.declared.conflict.Conflict.TheVariants as refusal
-use Rattle.t1_subset.specs.Differences.{shell_part, bytes_of}
+use Rattle.t1_subset.specs.Differences.{shell_part, vector_bytes}
 
 -- the refusal names the first name that is absent; want of memory says nothing
 abbrev pub Absent : SubsetFault → Option (List ℕ) → Type 0
@@ -21,7 +21,7 @@ Tells (refusal.Shell p) c = c ≡ Some (ShellDiffers (shell_part p))
 Tells (refusal.Code n) c = c ≡ Some (CodeDiffers n)
 Tells (refusal.Glyph n) c = c ≡ Some (GlyphDiffers n.items)
 Tells (refusal.Part g p) c = c ≡ Some (LacksComponent g.items p.items)
-Tells (refusal.Subr i g) c = c ≡ Some (SubrDiffers i (option_map bytes_of g))
+Tells (refusal.Subr i g) c = c ≡ Some (SubrDiffers i (option_map vector_bytes g))
 Tells refusal.Limit c = c ≡ Some OverLimit
 Tells refusal.Memory c = Unit {0}
 Tells refusal.Empty c = ⊥

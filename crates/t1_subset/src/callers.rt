@@ -6,7 +6,7 @@ ghost use Rattle.std.specs.FinMap as maps;
 ghost use Rattle.std.specs.List.{list_any};
 ghost use Rattle.t1_font.specs.FontValue.{name_cmp};
 ghost use Rattle.t1_algebra.specs.Interpreter.{same_bytes};
-ghost use Rattle.t1_algebra.specs.States.{joined};
+ghost use Rattle.t1_algebra.specs.States.{joined_option};
 ghost use Rattle.t1_algebra.specs.Keep.{has};
 ghost use Rattle.t1_subset.specs.Differences.{smaller};
 ghost use Rattle.t1_subset.specs.Callers.{user_from, seeker_from};
@@ -29,7 +29,7 @@ fn note_seeker<'a>(
 ) -> Result<(), AllocError>
     ensures { (q : List ℕ)
         → OnOk result (maps.get seekers.new q
-        ≡ joined (maps.get seekers.old q)
+        ≡ joined_option (maps.get seekers.old q)
         (cond (not (has font.now q) && same_bytes q component.now)
         (Some glyph.now) None)) }
 {
@@ -51,7 +51,7 @@ pub(crate) fn note_seekers<'a>(
 ) -> Result<(), AllocError>
     ensures { (q : List ℕ)
         → OnOk result (maps.get seekers.new q
-        ≡ joined (maps.get seekers.old q)
+        ≡ joined_option (maps.get seekers.old q)
         (cond (not (has font.now q) && list_any (same_bytes q)
         (map (λ s. s.now) components.now)) (Some glyph.now) None)) }
 {

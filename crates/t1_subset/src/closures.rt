@@ -9,7 +9,7 @@ ghost use Rattle.t1_algebra.specs.Keep.{has, keep, kept};
 ghost use Rattle.t1_algebra.specs.Laws.{IsOf};
 ghost use Rattle.t1_algebra.specs.Searches.{first_where};
 ghost use Rattle.t1_subset.specs.Calls.{number_set};
-ghost use Rattle.t1_subset.specs.NameSets.{names_of, lent, asked, set_by};
+ghost use Rattle.t1_subset.specs.NameSets.{listed_names, lent, asked, set_by};
 ghost use Rattle.t1_subset.specs.Refusals.{Absent};
 
 use crate::closure_names::has_glyph;
@@ -35,7 +35,7 @@ fn first_absent<'a>(font: &Font<'_>, names: &'a [&'a [u8]]) -> Option<&'a [u8]>
 /// Copies of these names, upwards by their bytes and without repeats.
 fn upwards(alloc: Global, names: &[&[u8]]) -> Result<Vec<Vec<u8>>, AllocError>
     ensures names { IfOk result (λ vs. set_by vs.items ≡ asked names.now) }
-    ensures upwards { IfOk result (λ vs. IsStrictlySortedBy name_cmp (names_of vs.items)) }
+    ensures upwards { IfOk result (λ vs. IsStrictlySortedBy name_cmp (listed_names vs.items)) }
 {
     let mut copies = NameSet::new(alloc);
     'names: for name in names {
@@ -49,7 +49,7 @@ fn closure_of(alloc: Global, font: &Font<'_>, names: &[&[u8]]) -> Result<Closure
     requires { IsOf font.now (asked names.now) }
     ensures names { IfOk result (λ c. set_by c.names.items
         ≡ keep profile font.now (asked names.now)) }
-    ensures upwards { IfOk result (λ c. IsStrictlySortedBy name_cmp (names_of c.names.items)) }
+    ensures upwards { IfOk result (λ c. IsStrictlySortedBy name_cmp (listed_names c.names.items)) }
     ensures subrs { IfOk result (λ c. number_set c.subrs
         ≡ kept profile font.now (asked names.now)) }
 {
@@ -68,7 +68,7 @@ fn closure_of(alloc: Global, font: &Font<'_>, names: &[&[u8]]) -> Result<Closure
 pub fn closure(alloc: Global, font: &Font<'_>, names: &[&[u8]]) -> Result<Closure, SubsetFault>
     ensures names { IfOk result (λ c. set_by c.names.items
         ≡ keep profile font.now (asked names.now)) }
-    ensures upwards { IfOk result (λ c. IsStrictlySortedBy name_cmp (names_of c.names.items)) }
+    ensures upwards { IfOk result (λ c. IsStrictlySortedBy name_cmp (listed_names c.names.items)) }
     ensures subrs { IfOk result (λ c. number_set c.subrs
         ≡ kept profile font.now (asked names.now)) }
     ensures present { OnOk result (first_where (λ n. not (has font.now n)) (lent names.now)

@@ -7,7 +7,7 @@ ghost use Rattle.t1_algebra.specs.Profile.{profile};
 ghost use Rattle.t1_algebra.specs.Conflicts.{shell_conflict, conflict};
 ghost use Rattle.t1_algebra.specs.StateTables.{states_of};
 ghost use Rattle.t1_subset.specs.Callers.{AreNoted, fonts_of};
-ghost use Rattle.t1_subset.specs.Merger.{IsRefused, FirstShare};
+ghost use Rattle.t1_subset.specs.Merger.{NotMerged, FirstShare};
 ghost use Rattle.t1_subset.specs.Refusals.{Tells};
 
 use crate::callers::Callers;
@@ -63,7 +63,7 @@ fn share(alloc: Global, left: &Font<'_>, right: &Font<'_>) -> Result<(), Conflic
 /// Refuses fonts of which the first two don't share what they have to. No glyph is run.
 pub(crate) fn first_share(alloc: Global, fonts: &[&Font<'_>]) -> Result<(), Conflict>
     ensures ok { IfOk result (λ _. FirstShare (map (λ f. f.now) fonts.now)) }
-    ensures err { IfErr result (λ e. IsRefused (map (λ f. f.now) fonts.now) e) }
+    ensures err { IfErr result (λ e. NotMerged (map (λ f. f.now) fonts.now) e) }
 {
     match fonts {
         [first, second, ..] => share(alloc, first, second),

@@ -10,7 +10,7 @@ ghost use Rattle.t1_algebra.specs.Conflicts.{conflict};
 ghost use Rattle.t1_subset.specs.Clashes.{AreStatesOf, AreCallers};
 ghost use Rattle.t1_subset.specs.Refusals.{Tells};
 ghost use Rattle.t1_subset.specs.Callers.{AreNoted, fonts_of};
-ghost use Rattle.t1_subset.specs.Merger.{IsRefused};
+ghost use Rattle.t1_subset.specs.Merger.{NotMerged};
 ghost use Rattle.t1_algebra.specs.Merges.{ComesToStates};
 
 use crate::callers::Callers;
@@ -60,7 +60,7 @@ fn join_in_turn<'a>(
     requires noted { AreNoted callers.now }
     requires states { states.now ≡ map (states_of profile) (fonts_of callers.now) }
     ensures ok { IfOk result (λ all. ComesToStates (fonts_of callers.now) all) }
-    ensures err { IfErr result (λ e. IsRefused (fonts_of callers.now) e) }
+    ensures err { IfErr result (λ e. NotMerged (fonts_of callers.now) e) }
 {
     let first = &states[0];
     let mut all = first.join(alloc, first)?;
@@ -83,7 +83,7 @@ pub(crate) fn all_join<'a>(
     requires noted { AreNoted callers.now }
     requires states { states.now ≡ map (states_of profile) (fonts_of callers.now) }
     ensures ok { IfOk result (λ all. ComesToStates (fonts_of callers.now) all) }
-    ensures err { IfErr result (λ e. IsRefused (fonts_of callers.now) e) }
+    ensures err { IfErr result (λ e. NotMerged (fonts_of callers.now) e) }
 {
     match join_all(alloc, states)? {
         Some(joined) => Ok(joined),

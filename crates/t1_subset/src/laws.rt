@@ -1,7 +1,7 @@
 //! Laws of subsets and mergers. They speak of the definitions alone and depend on no code.
 
 ghost use Rattle.t1_algebra.specs.Laws.{KeepIsLeast, KeepIsMonotone, Distribution, SubsetIsFont, SubsetOfSubset, Bottom, SubsetsDraw, TwoSubsets};
-ghost use Rattle.t1_algebra.specs.Laws.{ManySubsets, JoinIsFont, JoinIsSymmetric, JoinIsIdempotent, StatesOfJoin, JoinsDraw, AnyOrder};
+ghost use Rattle.t1_algebra.specs.Laws.{ManySubsets, JoinedIsFont, JoinIsSymmetric, JoinIsIdempotent, StatesOfJoin, JoinsDraw, AnyOrder};
 ghost use Rattle.t1_algebra.specs.Laws.{AcceptedByPairs, JoinWhereStatesAgree, NoConflictIsJoin, ConflictIsSymmetric, JoinHasEntries, CallsDrawAlike};
 ghost use Rattle.t1_algebra.specs.Profile.{profile};
 ghost use Rattle.t1_algebra.specs.Headline.{Headline};
@@ -69,7 +69,7 @@ pub fn many_subsets()
 
 /// The join of two fonts is a font.
 pub fn join_is_font()
-    ensures { JoinIsFont profile }
+    ensures { JoinedIsFont profile }
 {}
 
 /// Fonts join in both orders, to the same font.

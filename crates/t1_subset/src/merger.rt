@@ -8,7 +8,7 @@ ghost use Rattle.t1_subset.specs.Refusals.{Tells};
 ghost use Rattle.t1_subset.specs.declared.conflict.Conflict.TheVariants.{Empty};
 ghost use Rattle.t1_subset.specs.Callers.{AreNoted, fonts_of};
 ghost use Rattle.t1_algebra.specs.StateTables.{states_of};
-ghost use Rattle.t1_subset.specs.Merger.{IsMerger, MergesItself, IsRefused, AcceptsAllJoin, MergesInAnyOrder, MergesSubsets, MergesAllSubsets};
+ghost use Rattle.t1_subset.specs.Merger.{IsMerger, MergesItself, NotMerged, AcceptsAllJoin, MergesInAnyOrder, MergesSubsets, MergesAllSubsets};
 ghost use Rattle.t1_algebra.specs.Merges.{DrawsBoth, DrawsAll, ComesTo};
 
 use crate::callers::Callers;
@@ -31,7 +31,7 @@ fn merge_noted<'a>(
     requires noted { AreNoted callers.items }
     requires states { states.items ≡ map (states_of profile) (fonts_of callers.items) }
     ensures ok { IfOk result (λ j. ComesTo (fonts_of callers.entry.items) j) }
-    ensures err { IfErr result (λ e. IsRefused (fonts_of callers.entry.items) e) }
+    ensures err { IfErr result (λ e. NotMerged (fonts_of callers.entry.items) e) }
 {
     let joined = match all_join(alloc, callers.as_slice(), states.as_slice()) {
         Ok(joined) => joined,
@@ -47,7 +47,7 @@ fn merge_noted<'a>(
 fn merge_lent<'a>(alloc: Global, fonts: &[&Font<'a>]) -> Result<Font<'a>, Conflict>
     requires { 0 < length fonts.now }
     ensures ok { IfOk result (λ j. ComesTo (map (λ f. f.now) fonts.now) j) }
-    ensures err { IfErr result (λ e. IsRefused (map (λ f. f.now) fonts.now) e) }
+    ensures err { IfErr result (λ e. NotMerged (map (λ f. f.now) fonts.now) e) }
 {
     if let Err(conflict) = first_share(alloc, fonts) {
         return Err(conflict);
@@ -106,7 +106,7 @@ pub fn merge<'a>(alloc: Global, left: &Font<'a>, right: &Font<'a>) -> Result<Fon
 #[tactic(auto, using(crate::proofs::Answered::of_all_subsets, crate::proofs::Answered::accepts, crate::proofs::Answered::draws_all, crate::proofs::state_tables::Walks::font_list))]
 pub fn merge_all<'a>(alloc: Global, fonts: &[Font<'a>]) -> Result<Font<'a>, Conflict>
     ensures ok { IfOk result (λ j. ComesTo fonts.now j) }
-    ensures err { IfErr result (λ e. IsRefused fonts.now e) }
+    ensures err { IfErr result (λ e. NotMerged fonts.now e) }
     ensures accepted { AcceptsAllJoin fonts.now result }
     ensures any_order { MergesInAnyOrder fonts.now result }
     ensures draws { IfOk result (λ j. DrawsAll fonts.now j) }

@@ -4,7 +4,7 @@ ghost use Rattle.std.specs.Prelude.{◌≡◌, IfOk, OnOk, OnErr};
 ghost use Rattle.std.specs.FinSet as sets;
 ghost use Rattle.std.specs.List.Sorted.{IsStrictlySortedBy};
 ghost use Rattle.t1_font.specs.FontValue.{name_cmp};
-ghost use Rattle.t1_subset.specs.NameSets.{names_of, set_by};
+ghost use Rattle.t1_subset.specs.NameSets.{listed_names, set_by};
 
 use std::alloc::{AllocError, Global};
 use std::collections::BTreeSet;
@@ -50,7 +50,7 @@ impl NameSet {
     pub(crate) fn into_names(self, alloc: Global) -> Result<Vec<Vec<u8>>, AllocError>
         ensures members { IfOk result (λ names. set_by names.items ≡ self) }
         ensures upwards { IfOk result
-            (λ names. IsStrictlySortedBy name_cmp (names_of names.items)) }
+            (λ names. IsStrictlySortedBy name_cmp (listed_names names.items)) }
     {
         let mut names = Vec::new(alloc);
         'names: for name in self.names {

@@ -132,16 +132,16 @@ impl<'a> States<'a> {
 }
 
 impl<'a> Join for States<'a> {
-    ghost use Rattle.t1_algebra.specs.StateTables.{StatesValue, StatesAgree, StatesJoin};
+    ghost use Rattle.t1_algebra.specs.StateTables.{StatesValue, FontStatesAgree, FontStatesJoin};
     ghost use Rattle.t1_algebra.specs.StateLaws.{states_laws};
 
     ghost Meaning = { StatesValue };
 
     ghost meaning = { λ s. s };
 
-    ghost Agrees = { StatesAgree };
+    ghost Agrees = { FontStatesAgree };
 
-    ghost Joins = { StatesJoin };
+    ghost Joins = { FontStatesJoin };
 
     ghost laws = { states_laws };
 

@@ -7,7 +7,7 @@ ghost use Rattle.std.specs.FinSet as sets;
 ghost use Rattle.t1_join.specs.Meaning.{of_number};
 ghost use Rattle.t1_algebra.specs.Profile.{set_of};
 ghost use Rattle.t1_algebra.specs.Shared.{same_number};
-ghost use Rattle.t1_algebra.specs.States.{joined};
+ghost use Rattle.t1_algebra.specs.States.{joined_option};
 ghost use Rattle.t1_subset.specs.Users.{noted_at};
 
 use crate::tables::put;
@@ -44,7 +44,7 @@ fn note_user<'a>(users: &mut Noted<'a>, index: u16, glyph: &'a [u8])
     ensures noted { (q : ℕ)
         → q < length users.old.items
         → noted_at users.new.items q
-        ≡ joined (noted_at users.old.items q)
+        ≡ joined_option (noted_at users.old.items q)
         (cond (same_number q index) (Some glyph.now) None) }
 {
     let place = index as usize;
@@ -59,7 +59,7 @@ pub(crate) fn note_users<'a>(users: &mut Noted<'a>, calls: &Called, glyph: &'a [
     ensures noted { (q : ℕ)
         → q < length users.old.items
         → noted_at users.new.items q
-        ≡ joined (noted_at users.old.items q)
+        ≡ joined_option (noted_at users.old.items q)
         (cond (sets.contains (set_of calls.now) q) (Some glyph.now) None) }
 {
     'calls: for index in calls.as_slice() {

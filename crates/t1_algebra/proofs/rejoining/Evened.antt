@@ -8,7 +8,7 @@ use Rattle.t1_join.proofs.OrderLemmas.{all_leaves}
 use Rattle.t1_font.specs.{FontValue.{FontValue, SubrsShell, Numbered, declared_count, Shell}, FontModel.{subr_at}}
 use Rattle.t1_font.specs.{Evening.{raised, even, stubs_at, with_stubs, filled, largest_count, indices_of_all, evened_shells}, EveningLaws.{IsEvenWith}}
 use Rattle.t1_font.proofs.even_fonts.EvenStays.{even_fonts_stay}
-use Rattle.t1_algebra.specs.{Evened.{StaysDrawn, subrs_of, AllStayDrawn, EachBeside, EvenedDraw}, States.{joined}, Profile.{profile}, Rejoins.{IsUntagged, MergingFontsAreEven}}
+use Rattle.t1_algebra.specs.{Evened.{StaysDrawn, map_subrs, AllStayDrawn, EachBeside, EvenedDraw}, States.{joined_option}, Profile.{profile}, Rejoins.{IsUntagged, MergingFontsAreEven}}
 use Rattle.t1_algebra.proofs.{Words.{AllByRecursion, nat_cmp_total, nat_cmp-IsAntisymmetric}, Maps.{get-merged}, Orders.{Below, above}, Shares.{sharing}, Sets.{cases}}
 
 -- if a font has the same glyphs and more Subrs, each glyph stays drawn
@@ -28,7 +28,7 @@ stays_drawn subrs f j more same n =
 stubs_added : (indices : List ℕ) (m : Numbered) (es : List (ℕ × List ℕ)) → Extends (maps.get m) (maps.get (with_stubs indices m es))
 stubs_added indices m [] i c is = is
 stubs_added indices m (e ∷ es) i c is =
-    get-merged nat_cmp_total nat_cmp-IsAntisymmetric m (stubs_at indices) i ∙ ap (λ x. joined x (maps.get (stubs_at indices) i)) is
+    get-merged nat_cmp_total nat_cmp-IsAntisymmetric m (stubs_at indices) i ∙ ap (λ x. joined_option x (maps.get (stubs_at indices) i)) is
 
 -- a raised count declares no fewer Subrs
 no_fewer : (i count : ℕ) (s : Option SubrsShell) → i < declared_count s → i < declared_count (option_map (raised count) s)
@@ -50,7 +50,7 @@ module _ (indices : List ℕ) (count : ℕ) (f : FontValue) where
 
   -- each glyph stays drawn in the font that is made even
   pub all_stay_drawn : AllStayDrawn f made
-  all_stay_drawn n = (stays_drawn subrs_of f made subrs_added refl n, stays_drawn subr_at f made seen_added refl n)
+  all_stay_drawn n = (stays_drawn map_subrs f made subrs_added refl n, stays_drawn subr_at f made seen_added refl n)
 
 -- each glyph of fonts stays drawn in the fonts that are made even
 beside : (indices : List ℕ) (count : ℕ) (fs : List FontValue) → EachBeside AllStayDrawn fs (map (filled indices) (map (even count) fs))

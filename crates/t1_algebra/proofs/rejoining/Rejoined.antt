@@ -8,7 +8,7 @@ use Rattle.t1_join.proofs.OrderLemmas.{leaves_from_left}
 use Rattle.t1_font.specs.{FontValue.{FontValue, SubrsShell, Numbered, name_cmp, total, subr_weight, declared_count}, IsFont.{IsFont, IsWord, IsPhrase, SubrsFit, SubrWords}, Evening.{evened}}
 use Rattle.t1_font.proofs.{even_fonts.Evened.{even_is_font}, MapLemmas.{get-retain, find_first, total-le, Some_None}}
 use Rattle.t1_algebra.specs.{Keep.{keep, kept, subset}, Profile.{profile}, Laws.{IsOf, DrawsAlike}, Merges.{MergesTo}}
-use Rattle.t1_algebra.specs.Rejoins.{declares, Truncated, IsTruncated, fonts_of, sets_of, names_of_all, largest, shared_font, rejoined, Rejoins, TruncatedSubsetsRejoin}
+use Rattle.t1_algebra.specs.Rejoins.{declares, Truncated, IsTruncated, truncated_fonts, sets_of, names_of_all, largest, shared_font, rejoined, Rejoins, TruncatedSubsetsRejoin}
 use Rattle.t1_algebra.proofs.{Words.{AllByRecursion, nat_cmp_total, nat_list_cmp_total, nat_cmp-IsAntisymmetric, Names}, Drawings.{subset_alike, alike}, Fonts.{subset_is_font, any_order_of_fonts}}
 use Rattle.t1_algebra.proofs.{Kept.{keep_part, keep_more, kept_more, kept_union}, ManyMerges.{alike_trans, each_font, all_merge}, Sets.{clash, cases}}
 use Rattle.t1_algebra.proofs.rejoining.Truncated.{WordsOf, words_empty, get_nothing, get_font, largest_fits, all_fit, Fits}
@@ -173,7 +173,7 @@ module _ (f : FontValue) (h : IsFont f) (t : Truncated) (ts : List Truncated) (w
   parts = names_are f (t ∷ ts) w
 
   -- truncated subsets that are made even merge in every order and grouping to the rejoined font
-  all_merged : (s : Grouping FontValue) → IsPermutation (evened (fonts_of (t ∷ ts))) (leaves s) → MergesTo s (rejoined f (t ∷ ts))
+  all_merged : (s : Grouping FontValue) → IsPermutation (evened (truncated_fonts (t ∷ ts))) (leaves s) → MergesTo s (rejoined f (t ∷ ts))
   all_merged s p =
       let g = subset profile shared t.names in
       let gs = map (subset profile shared) (sets_of ts) in

@@ -8,8 +8,8 @@ use Rattle.t1_font.specs.FontValue.{FontValue, notdef, Shell, SubrsShell, Number
 use Rattle.t1_font.proofs.MapLemmas.{get-retain, get-map_values}
 use Rattle.t1_font.specs.{IsFont.{IsFont, SubrsFit, SubrWords}, Tags.{untagged_head}, Cut.{stub, restrict_encoding}}
 use Rattle.t1_font.specs.Evening.{raised, even_shell, even, stubs_at, below, with_stubs, filled, largest_count, indices_of_all, evened}
-use Rattle.t1_algebra.specs.{Keep.{keep, kept, has, charstring, subset}, Rejoins.{cut_to, without_tag, declares, Truncated, IsTruncated, fonts_of, sets_of, largest, shared_font}, Profile.{profile}}
-use Rattle.t1_algebra.specs.{States.{joined}, Laws.{IsOf}}
+use Rattle.t1_algebra.specs.{Keep.{keep, kept, has, charstring, subset}, Profile.{profile}, States.{joined_option}, Laws.{IsOf}}
+use Rattle.t1_algebra.specs.Rejoins.{cut_to, without_tag, declares, Truncated, IsTruncated, truncated_fonts, sets_of, largest, shared_font}
 use Rattle.t1_algebra.proofs.{Words.{list_any, AllByRecursion, eq_by_cmp, nat_cmp_total, nat_cmp-IsAntisymmetric, Interpreter, Names}, Kept.{keep_has, kept_call, keeps_alike}}
 use Rattle.t1_algebra.proofs.{Sets.{clash, any_filtered, cases}, Maps.{get-merged, get-valued}}
 
@@ -95,7 +95,7 @@ module _ (f : FontValue) where
   count_is t w = grind (cases, ap (λ (g : FontValue). declared_count g.shell.subrs) w.others, w.count)
 
   -- the largest count that is declared is the largest of the counts
-  pub largest_is : (ts : List Truncated) → AllByRecursion (IsTruncated f) ts → largest_count (fonts_of ts) ≡ largest ts
+  pub largest_is : (ts : List Truncated) → AllByRecursion (IsTruncated f) ts → largest_count (truncated_fonts ts) ≡ largest ts
   largest_is [] w = refl
   largest_is (t ∷ ts) w = λ i. max (count_is t w.0 i) (largest_is ts w.1 i)
 
@@ -121,7 +121,7 @@ module _ (f : FontValue) where
 
   -- the indices of the Subrs of all fonts, made even
   abbrev all_indices : ℕ → List Truncated → List ℕ
-  all_indices most ts = indices_of_all (map (even most) (fonts_of ts))
+  all_indices most ts = indices_of_all (map (even most) (truncated_fonts ts))
 
   abbrev listed : ℕ → List ℕ → Bool
   listed q indices = list_any (eq_by_cmp nat_cmp q) indices
@@ -238,7 +238,7 @@ module _ (f : FontValue) (h : IsFont f) (most : ℕ) (fits : most ≤ declared_c
 
     -- the entry of a truncated subset, or else a stub, is the entry of the subset cut to the largest count
     value_same : (q : ℕ) →
-        joined (entry_in f t.names t.count q (maps.get f.subrs q)) (cond (is_in q) (Some stub) None) ≡ entry_in f t.names most q (maps.get f.subrs q)
+        joined_option (entry_in f t.names t.count q (maps.get f.subrs q)) (cond (is_in q) (Some stub) None) ≡ entry_in f t.names most q (maps.get f.subrs q)
     value_same q = grind (
       cases,
       in_both q,
@@ -284,15 +284,15 @@ module _ (f : FontValue) (h : IsFont f) (most : ℕ) (fits : most ≤ declared_c
     (there : (q : ℕ) → q < most → maps.contains_key f.subrs q ≡ true → list_any (eq_by_cmp nat_cmp q) indices ≡ true)
     (from : (q : ℕ) → list_any (eq_by_cmp nat_cmp q) indices ≡ true → maps.contains_key f.subrs q ≡ true) where
   made_subsets : (ts : List Truncated) → AllByRecursion (Fits f most) ts →
-      map (filled indices) (map (even most) (fonts_of ts)) ≡ map (subset profile (first_of most f)) (sets_of ts)
+      map (filled indices) (map (even most) (truncated_fonts ts)) ≡ map (subset profile (first_of most f)) (sets_of ts)
   made_subsets [] w = refl
   made_subsets (t ∷ ts) w = λ i. made_subset f h most fits t w.0.0 w.0.1 indices there from i ∷ made_subsets ts w.1 i
 
 -- truncated subsets that are made even are subsets of the shared font
 pub evened_is : (f : FontValue) → IsFont f → (ts : List Truncated) → AllByRecursion (IsTruncated f) ts →
-    evened (fonts_of ts) ≡ map (subset profile (shared_font f ts)) (sets_of ts)
+    evened (truncated_fonts ts) ≡ map (subset profile (shared_font f ts)) (sets_of ts)
 evened_is f h ts w =
     let most = largest ts in
-    ap (λ (n : ℕ). map (filled (indices_of_all (map (even n) (fonts_of ts)))) (map (even n) (fonts_of ts))) (largest_is f ts w)
+    ap (λ (n : ℕ). map (filled (indices_of_all (map (even n) (truncated_fonts ts)))) (map (even n) (truncated_fonts ts))) (largest_is f ts w)
     ∙ made_subsets f h most (largest_fits f ts w) (all_indices f most ts) (λ q lt is. reached f most ts w q lt is)
     (λ q l. from_indices f most ts w q l) ts (all_fit f most ts (omega arith) w)

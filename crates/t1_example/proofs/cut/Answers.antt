@@ -7,7 +7,7 @@ use Rattle.t1_algebra.specs.Keep.{subset}
 use Rattle.t1_algebra.specs.Laws.{IsOf}
 use Rattle.t1_subset.specs.NameSets.{lent, asked}
 use Rattle.t1_algebra.specs.Profile.{profile}
-use Rattle.t1_example.specs.Outcomes.{LacksFirst, lacking}
+use Rattle.t1_example.specs.Outcomes.{LacksFirst, first_lacking}
 use Rattle.t1_example.specs.declared.refusal.Refusal.{Refusal}
 use Rattle.t1_example.proofs.Callers.{none_lacking, cut_fits}
 use Rattle.t1_example.proofs.cut.Goals as goal
@@ -21,7 +21,7 @@ returns-in_err-subset-clause-again c =
 pub returns-in_err-subset-clause-absent : goal.returns-in_err-subset-clause-absent
 returns-in_err-subset-clause-absent c =
     let p = err_from_is_err_and c.from_residual-in_err-subset.result c.from_residual-in_err-subset.ensures.1 in rw (p.1, p.2) (inr (
-    subst (λ (j : FontValue). LacksFirst (lacking j (lent c.args.names.now)) (Refusal.Subset c.in_err-subset.field-0.0))
+    subst (λ (j : FontValue). LacksFirst (first_lacking j (lent c.args.names.now)) (Refusal.Subset c.in_err-subset.field-0.0))
     c.in_ok-font.ensures c.in_err-subset.ensures.absent))
 
 pub returns-clause-again : goal.returns-clause-again
@@ -37,4 +37,4 @@ returns-clause-text c = c.in_ok-file.ensures.canon
     (c.in_ok-subset.ensures.ok ∙ ap (λ (j : FontValue). subset profile j (asked c.args.names.now)) c.in_ok-font.ensures)
 
 pub returns-clause-present : goal.returns-clause-present
-returns-clause-present c = ap (λ (j : FontValue). lacking j (lent c.args.names.now)) (sym c.in_ok-font.ensures) ∙ c.in_ok-subset.ensures.present
+returns-clause-present c = ap (λ (j : FontValue). first_lacking j (lent c.args.names.now)) (sym c.in_ok-font.ensures) ∙ c.in_ok-subset.ensures.present

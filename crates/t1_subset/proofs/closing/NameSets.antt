@@ -8,7 +8,7 @@ use Rattle.std.specs.FinSet as sets
 use Rattle.t1_font.specs.FontValue.{name_cmp}
 use Rattle.t1_algebra.specs.Interpreter.{Names}
 use Rattle.t1_algebra.proofs.Sets.{cases, name_same}
-use Rattle.t1_subset.specs.NameSets.{names_of, set_by, lent}
+use Rattle.t1_subset.specs.NameSets.{listed_names, set_by, lent}
 
 -- ---- names in memory
 
@@ -28,25 +28,25 @@ any_insert {V} R same key q v (w ∷ vs) =
 abbrev pub by_bytes : Vec ℕ → Vec ℕ → Ordering
 by_bytes v w = name_cmp v.items w.items
 
-any_named : (p : List ℕ → Bool) (vs : List (Vec ℕ)) → list_any p (names_of vs) ≡ list_any (λ w. p w.items) vs
+any_named : (p : List ℕ → Bool) (vs : List (Vec ℕ)) → list_any p (listed_names vs) ≡ list_any (λ w. p w.items) vs
 any_named p [] = refl
 any_named p (v ∷ vs) = ap (λ b. p v.items || b) (any_named p vs)
 
 -- inserting a name in memory inserts it into the set
 pub set_insert : (vs : List (Vec ℕ)) (v : Vec ℕ) → set_by (insert_key by_bytes vs v) ≡ sets.insert (set_by vs) v.items
 set_insert vs v = sets.same_set nat_list_cmp_total name_same _ _ (λ q.
-    sets.contains-from_list nat_list_cmp_total (names_of (insert_key by_bytes vs v)) q
+    sets.contains-from_list nat_list_cmp_total (listed_names (insert_key by_bytes vs v)) q
     ∙ any_named (eq_by_cmp name_cmp q) (insert_key by_bytes vs v)
     ∙ any_insert name_cmp name_same (λ w. w.items) q v vs
-    ∙ ap (λ b. eq_by_cmp name_cmp q v.items || b) (sym (sets.contains-from_list nat_list_cmp_total (names_of vs) q ∙ any_named (eq_by_cmp name_cmp q) vs))
+    ∙ ap (λ b. eq_by_cmp name_cmp q v.items || b) (sym (sets.contains-from_list nat_list_cmp_total (listed_names vs) q ∙ any_named (eq_by_cmp name_cmp q) vs))
     ∙ sym (sets.contains-insert nat_list_cmp_total (set_by vs) v.items q))
 
-all_names : (v : Vec ℕ) (vs : List (Vec ℕ)) → AllByRecursion (λ y. by_bytes v y ≡ Less) vs → AllByRecursion (λ y. name_cmp v.items y ≡ Less) (names_of vs)
+all_names : (v : Vec ℕ) (vs : List (Vec ℕ)) → AllByRecursion (λ y. by_bytes v y ≡ Less) vs → AllByRecursion (λ y. name_cmp v.items y ≡ Less) (listed_names vs)
 all_names v [] h = tt
 all_names v (w ∷ vs) h = (h.0, all_names v vs h.1)
 
 -- names in memory that rise are bytes that rise
-pub sorted_names : (vs : List (Vec ℕ)) → IsStrictlySortedBy by_bytes vs → IsStrictlySortedBy name_cmp (names_of vs)
+pub sorted_names : (vs : List (Vec ℕ)) → IsStrictlySortedBy by_bytes vs → IsStrictlySortedBy name_cmp (listed_names vs)
 unfolding IsStrictlySortedBy
 sorted_names [] h = tt
 sorted_names (v ∷ vs) h = (all_names v vs h.0, sorted_names vs h.1)

@@ -8,7 +8,7 @@ use Rattle.t1_join.specs.{TableMeaning.{TableMeaning, TablesAgree, IsFirstConfli
 use Rattle.t1_font.specs.{FontValue.{FontValue, Encoding, Word, Codes, name_cmp}, FontModel.{name_at}, IsFont.{IsFont, IsEncoding}}
 use Rattle.t1_algebra.specs.Conflicts.{agrees, clashes_at, codes_of_both, subr_clashes, ShellDiffers, CodeDiffers, GlyphDiffers, LacksComponent, SubrDiffers}
 use Rattle.t1_algebra.specs.Conflicts.{keys_of_both, shell_conflict, code_conflict, glyph_conflict, component_conflict, subr_conflict, wanted_by, used_by}
-use Rattle.t1_algebra.specs.Conflicts.{glyph_names, code_clashes, glyph_clashes, component_clashes, Conflict, OverLimit, states_conflict, conflict, is_within}
+use Rattle.t1_algebra.specs.Conflicts.{glyphs_of_both, code_clashes, glyph_clashes, component_clashes, Conflict, OverLimit, states_conflict, conflict, is_within}
 use Rattle.t1_algebra.specs.{States.{code_state, subr_state}, Interpreter.{Interpreter}, Keep.{has}, Profile.{profile}}
 use Rattle.t1_algebra.specs.{StateTables.{StatesValue, name_part, code_states, name_states, used_subrs, numbered, states_of, behind_mark, names_table, name_meaning}}
 use Rattle.t1_algebra.specs.{Shared.{Shared, shared_of, differing_part, ShellPart}}
@@ -99,12 +99,13 @@ module _ (f g : FontValue) (v w : StatesValue) (a : v ≡ states_of profile f) (
   -- the lowest name with two charstrings that differ is the conflict of glyphs
   pub glyph_found : (x : Option (List ℕ)) →
       IsLowest name_cmp (λ n. charstrings_differ (maps.get (name_part v) n) (maps.get (name_part w) n)) x → x ≡ glyph_conflict f g
-  glyph_found x h = lowest_is nat_list_cmp_total name_same (glyph_clashes f g) (glyph_names f g) (clash_there nat_list_cmp_total name_same f.glyphs g.glyphs) x
+  glyph_found x h =
+      lowest_is nat_list_cmp_total name_same (glyph_clashes f g) (glyphs_of_both f g) (clash_there nat_list_cmp_total name_same f.glyphs g.glyphs) x
       (subst (λ p. IsLowest name_cmp p x) (λ i n. not (agrees (charstring_seen f v a n i) (charstring_seen g w b n i))) h)
 
   -- some glyph wants a component if the component has a seeker in one of the fonts
-  wanted_so : (p : List ℕ) → list_any (wanted_by profile f g p) (members (glyph_names f g)) ≡ (is_some (seeker_of f p) || is_some (seeker_of g p))
-  wanted_so p = any_first (wanted_by profile f g p) (members (glyph_names f g)) ∙ ap is_some (sym (smallest_seeker f g p)) ∙ grind arith
+  wanted_so : (p : List ℕ) → list_any (wanted_by profile f g p) (members (glyphs_of_both f g)) ≡ (is_some (seeker_of f p) || is_some (seeker_of g p))
+  wanted_so p = any_first (wanted_by profile f g p) (members (glyphs_of_both f g)) ∙ ap is_some (sym (smallest_seeker f g p)) ∙ grind arith
 
   -- one font seeks a name that the other has exactly if the component is in conflict
   lacking_so : (p : List ℕ) → one_lacks (maps.get (name_part v) p) (maps.get (name_part w) p) ≡ component_clashes profile f g p
@@ -114,9 +115,9 @@ module _ (f g : FontValue) (v w : StatesValue) (a : v ≡ states_of profile f) (
   -- the lowest name that one seeks and the other has is the conflict of components
   pub component_found : (x : Option (List ℕ)) → IsLowest name_cmp (λ n. one_lacks (maps.get (name_part v) n) (maps.get (name_part w) n)) x →
       x ≡ component_conflict profile f g
-  component_found x h = lowest_is nat_list_cmp_total name_same (component_clashes profile f g) (glyph_names f g)
+  component_found x h = lowest_is nat_list_cmp_total name_same (component_clashes profile f g) (glyphs_of_both f g)
       (λ n h. in_both nat_list_cmp_total name_same f.glyphs g.glyphs n
-      ∙ first_so (has f n || has g n) (list_any (wanted_by profile f g n) (members (glyph_names f g))) h)
+      ∙ first_so (has f n || has g n) (list_any (wanted_by profile f g n) (members (glyphs_of_both f g))) h)
       x (subst (λ p. IsLowest name_cmp p x) (λ i n. lacking_so n i) h)
 
 -- ---- the table of a font's names
@@ -153,11 +154,11 @@ module _ (f g : FontValue) where
   pub states_are : {c : Option ℕ} {n p : Option (List ℕ)} {i : Option ℕ} → shell_conflict f g ≡ None →
       c ≡ code_conflict f g → n ≡ glyph_conflict f g → p ≡ component_conflict profile f g → i ≡ subr_conflict profile f g
       → states_conflict profile f g
-      ≡ found CodeDiffers c (found GlyphDiffers n (found (λ p. LacksComponent (unwrap_or (smallest (wanted_by profile f g p) (glyph_names f g)) []) p) p
-      (found (λ i. SubrDiffers i (smallest (used_by profile f g i) (glyph_names f g))) i None)))
+      ≡ found CodeDiffers c (found GlyphDiffers n (found (λ p. LacksComponent (unwrap_or (smallest (wanted_by profile f g p) (glyphs_of_both f g)) []) p) p
+      (found (λ i. SubrDiffers i (smallest (used_by profile f g i) (glyphs_of_both f g))) i None)))
   states_are s c n p i = sym (λ j. found ShellDiffers (sym s j)
-      (found CodeDiffers (c j) (found GlyphDiffers (n j) (found (λ p. LacksComponent (unwrap_or (smallest (wanted_by profile f g p) (glyph_names f g)) []) p)
-      (p j) (found (λ i. SubrDiffers i (smallest (used_by profile f g i) (glyph_names f g))) (i j) None)))))
+      (found CodeDiffers (c j) (found GlyphDiffers (n j) (found (λ p. LacksComponent (unwrap_or (smallest (wanted_by profile f g p) (glyphs_of_both f g)) []) p)
+      (p j) (found (λ i. SubrDiffers i (smallest (used_by profile f g i) (glyphs_of_both f g))) (i j) None)))))
 
   -- a refusal that tells a part that differs tells the lowest conflict of states
   pub tells_shell : (x : Option ShellPart) → x ≡ shell_conflict f g → (e : Refusal) → Tells e (option_map ShellDiffers x) →

@@ -7,8 +7,9 @@ use Rattle.std.specs.FinSet as sets
 use Rattle.t1_join.specs.Meaning.{of_number}
 use Rattle.t1_font.specs.{Maps.{merged}, FontValue.{FontValue, Named, name_cmp}, FontModel.{names_in}}
 use Rattle.t1_font.proofs.MapLemmas.{entries-map_values}
-use Rattle.t1_algebra.specs.{Interpreter.{same_bytes}, Keep.{has, components, charstring}, Profile.{profile}, States.{joined, is_called, is_sought, joined_font, Compatible, executes, calls_for}}
-use Rattle.t1_algebra.specs.{Conflicts.{keys_of_both, wants, wanted_by, used_by, glyph_names}, Searches.{smallest, members, first_where}}
+use Rattle.t1_algebra.specs.{Interpreter.{same_bytes}, Keep.{has, components, charstring}, Profile.{profile}}
+use Rattle.t1_algebra.specs.States.{joined_option, is_called, is_sought, joined_font, Compatible, executes, calls_for}
+use Rattle.t1_algebra.specs.{Conflicts.{keys_of_both, wants, wanted_by, used_by, glyphs_of_both}, Searches.{smallest, members, first_where}}
 use Rattle.t1_algebra.proofs.{Subsets.{glyph_in_join}, JoinedStates.{present_joined, executes_join, calls_join}, Uses.{executing_there, naming_there, sought}, Sets.{name_same, clash, tied, cases}}
 use Rattle.t1_subset.specs.{declared.callers.Callers.{Callers}, Differences.{smaller}}
 use Rattle.t1_subset.specs.{Callers.{same_charstring, user_of, seeker_of, smallest_from, user_from, seeker_from, AreCallersOf}, Clashes.{AreCallers}}
@@ -31,13 +32,13 @@ module _ {K : Type 0} where
 
 -- x is the first of all names that passes, or will be it once the names that are left are noted; and some name is noted if the last one passed
 pub record IsNoting (p : List ℕ → Bool) (x goal : Option (List ℕ)) (last : Bool) (left : List (List ℕ)) : Type 0 where
-  pub first : joined x (first_where p left) ≡ goal
+  pub first : joined_option x (first_where p left) ≡ goal
   pub known : last ≡ true → is_some x ≡ true
 
 module _ (p : List ℕ → Bool) where
   -- before any name is noted, all are left
   pub noting_starts : (x : Option (List ℕ)) (b : Bool) (left all : List (List ℕ)) → x ≡ None → b ≡ false → left ≡ all → IsNoting p x (first_where p all) b left
-  noting_starts x b left all none last e = record { first = λ i. joined (none i) (first_where p (e i)); known = λ h. clash b h last }
+  noting_starts x b left all none last e = record { first = λ i. joined_option (none i) (first_where p (e i)); known = λ h. clash b h last }
 
   module _ (x goal : Option (List ℕ)) (b : Bool) (n : List ℕ) (names left : List (List ℕ)) (is : names ≡ n ∷ left) (h : IsNoting p x goal b names) where
     -- the next name need not be noted if it passes as the last one did
@@ -45,7 +46,7 @@ module _ (p : List ℕ → Bool) where
     noting_again same = record { first = grind (cases, is, h.first, h.known, same); known = h.known }
 
     -- after the next name is noted, those after it are left
-    pub noting_next : (y : Option (List ℕ)) (c : Bool) → y ≡ joined x (cond (p n) (Some n) None) → c ≡ p n → IsNoting p y goal c left
+    pub noting_next : (y : Option (List ℕ)) (c : Bool) → y ≡ joined_option x (cond (p n) (Some n) None) → c ≡ p n → IsNoting p y goal c left
     noting_next y c e last = record { first = grind (cases, is, h.first, e); known = grind (cases, e, last) }
 
   -- when no name is left, what is noted is what is found
@@ -79,12 +80,12 @@ module _ (f : FontValue) where
 
 module _ (f g : FontValue) where
   -- the smaller of the users in two fonts is the smallest glyph of both that executes the index
-  pub smallest_user : (i : ℕ) → smaller name_cmp (user_of f i) (user_of g i) ≡ smallest (used_by profile f g i) (glyph_names f g)
+  pub smallest_user : (i : ℕ) → smaller name_cmp (user_of f i) (user_of g i) ≡ smallest (used_by profile f g i) (glyphs_of_both f g)
   smallest_user i = smaller_first nat_list_cmp_total name_same (λ n. executes profile f n i) (λ n. executes profile g n i) f.glyphs g.glyphs
       (λ n h. executing_there profile f i (maps.get f.glyphs n) h) (λ n h. executing_there profile g i (maps.get g.glyphs n) h)
 
   -- the smaller of the seekers in two fonts is the smallest glyph of both that wants the component
-  pub smallest_seeker : (p : List ℕ) → smaller name_cmp (seeker_of f p) (seeker_of g p) ≡ smallest (wanted_by profile f g p) (glyph_names f g)
+  pub smallest_seeker : (p : List ℕ) → smaller name_cmp (seeker_of f p) (seeker_of g p) ≡ smallest (wanted_by profile f g p) (glyphs_of_both f g)
   smallest_seeker p = smaller_first nat_list_cmp_total name_same (λ n. wants profile f n p) (λ n. wants profile g n p) f.glyphs g.glyphs
       (λ n h. naming_there profile f p (maps.get f.glyphs n) (second_so (not (has f p)) (calls_for profile f n p) h)) (λ n h.
       naming_there profile g p (maps.get g.glyphs n) (second_so (not (has g p)) (calls_for profile g n p) h))

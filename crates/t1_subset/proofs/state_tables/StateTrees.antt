@@ -5,22 +5,22 @@ use Rattle.std.specs.List.{AllByRecursion}
 use Rattle.t1_join.specs.Groupings.{one, from_left, IsJoinOf}
 use Rattle.t1_join.proofs.OrderLemmas.{leaves_mapped, leaves_from_left, uses_its}
 use Rattle.t1_font.specs.{FontValue.{FontValue}, IsFont.{IsFont}}
-use Rattle.t1_algebra.specs.{Profile.{profile}, StateTables.{StatesValue, StatesJoin, states_of}, Merges.{ComesTo, ComesToStates, AreOfFont}}
+use Rattle.t1_algebra.specs.{Profile.{profile}, StateTables.{StatesValue, FontStatesJoin, states_of}, Merges.{ComesTo, ComesToStates, AreOfFont}}
 use Rattle.t1_algebra.proofs.{Fonts.{fonts_within, merges_are_fonts}, FontStates.{font_known}, ManyMerges.{each_font}, Orders.{grouped, merges_by_states}}
 use Rattle.t1_subset.specs.{declared.conflict.Conflict.{Conflict as Refusal}, declared.conflict.Conflict.TheVariants.{Memory}}
-use Rattle.t1_subset.specs.{Merger.{IsRefused}, declared.callers.Callers.{Callers}, Callers.{AreNoted, fonts_of}}
+use Rattle.t1_subset.specs.{Merger.{NotMerged}, declared.callers.Callers.{Callers}, Callers.{AreNoted, fonts_of}}
 use Rattle.t1_subset.proofs.state_tables.Walks.{all_fonts}
 
 -- if the code answers a join of the states of fonts, they come to a font of these states
 pub joined_come : (cs : List Callers) → 0 < length cs → AreNoted cs → (ss : List StatesValue) → ss ≡ map (states_of profile) (fonts_of cs) →
-    (o : Option StatesValue) (v : StatesValue) → o ≡ Some v → IsJoinOf StatesJoin (map (λ s. s) ss) (option_map (λ s. s) o) → ComesToStates (fonts_of cs) v
+    (o : Option StatesValue) (v : StatesValue) → o ≡ Some v → IsJoinOf FontStatesJoin (map (λ s. s) ss) (option_map (λ s. s) o) → ComesToStates (fonts_of cs) v
 joined_come [] l n ss is o v e h = absurd (omega arith)
 joined_come (c ∷ cs) l n ss is o v e h =
     let f = c.font.now in let fs = fonts_of cs in let t = from_left (one f) fs in
     let uses = uses_its (grouped profile t) (map (λ s. s) ss)
     (leaves_mapped (states_of profile) t ∙ ap (map (states_of profile)) (leaves_from_left (one f) fs) ∙ sym (map-id ss ∙ is)) in
     let r = merges_by_states profile t (fonts_within t (each_font f fs (all_fonts (c ∷ cs) n))) v
-    ((subst (λ o. IsJoinOf StatesJoin (map (λ s. s) ss) (option_map (λ s. s) o)) e h).1 (grouped profile t) uses) in
+    ((subst (λ o. IsJoinOf FontStatesJoin (map (λ s. s) ss) (option_map (λ s. s) o)) e h).1 (grouped profile t) uses) in
     (r.0, r.1, r.2)
 
 -- the font of the states that fonts come to is what they come to
@@ -33,7 +33,7 @@ comes_to_font [] w s h = absurd h.1
 comes_to_font (f ∷ fs) w s h = (h.0, merges_are_fonts profile (from_left (one f) fs) h.0 h.1 (each_font f fs w), h.2)
 
 -- a refusal for want of memory alone is a refusal of one or more fonts
-pub refused_err : (fs : List FontValue) → 0 < length fs → (r : Result FontValue Refusal) → IfErr r (λ e. e ≡ Memory) → IfErr r (λ e. IsRefused fs e)
+pub refused_err : (fs : List FontValue) → 0 < length fs → (r : Result FontValue Refusal) → IfErr r (λ e. e ≡ Memory) → IfErr r (λ e. NotMerged fs e)
 refused_err [] l r h = absurd (omega arith)
 refused_err (f ∷ fs) l (Ok j) h = tt
 refused_err (f ∷ fs) l (Err c) h = inl h

@@ -6,32 +6,33 @@ use Rattle.std.specs.List.{AllByRecursion}
 use Rattle.t1_join.specs.Groupings.{Grouping, one, from_left}
 use Rattle.t1_join.proofs.OrderLemmas.{all_of_both}
 use Rattle.t1_font.specs.{FontValue.{FontValue}, IsFont.{IsFont}}
-use Rattle.t1_algebra.specs.{Profile.{profile}, States.{Join, joined_font}, StateTables.{StatesValue, StatesAgree, StatesJoin, states_of}}
+use Rattle.t1_algebra.specs.{Profile.{profile}, States.{Join, joined_font}, StateTables.{StatesValue, FontStatesAgree, FontStatesJoin, states_of}}
 use Rattle.t1_algebra.specs.{StateLaws.{states_laws}, Conflicts.{OverLimit, states_conflict, conflict}}
 use Rattle.t1_algebra.specs.{Searches.{found}, Groupings.{Merges}, Merges.{ComesTo, ComesToStates}}
 use Rattle.t1_algebra.proofs.{Conflicts.{no_conflict}, FontStates.{join_exactly, states_join}, Fonts.{font_within, joined_is_font}, ManyMerges.{left_snoc}}
 use Rattle.t1_subset.specs.{declared.callers.Callers.{Callers}, declared.conflict.Conflict.{Conflict as Refusal}}
 use Rattle.t1_subset.specs.{Refusals.{Tells}, Callers.{AreCallersOf, AreNoted, fonts_of}, Clashes.{AreStatesOf, AreCallers}}
-use Rattle.t1_subset.specs.Merger.{IsRefused}
+use Rattle.t1_subset.specs.Merger.{NotMerged}
 use Rattle.t1_subset.proofs.{state_tables.Conflicts.{over}, state_tables.FontCallers.{CallersSoFar, first_callers, both_callers, more_callers}}
 
 -- ---- two fonts
 
 module _ (s t : StatesValue) (f g : FontValue) (h : AreStatesOf s t f g) where
   -- if the states of two fonts join, the fonts do, and to a font of the joined states
-  pub joins_to : (z : StatesValue) → StatesJoin s t z → Join profile f g × (z ≡ states_of profile (joined_font profile f g))
+  pub joins_to : (z : StatesValue) → FontStatesJoin s t z → Join profile f g × (z ≡ states_of profile (joined_font profile f g))
   joins_to z j =
-      let k : StatesJoin (states_of profile f) (states_of profile g) z =
-      subst (λ (t : StatesValue). StatesJoin (states_of profile f) t z) h.other (subst (λ (s : StatesValue). StatesJoin s t z) h.own j) in
+      let k : FontStatesJoin (states_of profile f) (states_of profile g) z =
+      subst (λ (t : StatesValue). FontStatesJoin (states_of profile f) t z) h.other (subst (λ (s : StatesValue). FontStatesJoin s t z) h.own j) in
       let join = (join_exactly profile f g (font_within f h.own_font)).0 (z, k) in
       (join, states_laws.one_answer _ _ _ _ k (states_join profile f g join))
 
   -- if states without a conflict do not agree, the limits refuse the fonts
-  pub limits_refuse : states_conflict profile f g ≡ None → ¬ StatesAgree s t → conflict profile f g ≡ Some OverLimit
+  pub limits_refuse : states_conflict profile f g ≡ None → ¬ FontStatesAgree s t → conflict profile f g ≡ Some OverLimit
   limits_refuse free apart = over profile f g free (λ within.
       let join = (no_conflict profile f g).0 (λ i. found (λ c. c) (free i) (cond (within i) None (Some OverLimit))) in
       let agree = (join_exactly profile f g (font_within f h.own_font)).1 join in
-      apart (subst (λ (s : StatesValue). StatesAgree s t) (sym h.own) (subst (λ (t : StatesValue). StatesAgree (states_of profile f) t) (sym h.other) agree)))
+      apart (subst (λ (s : StatesValue). FontStatesAgree s t) (sym h.own)
+      (subst (λ (t : StatesValue). FontStatesAgree (states_of profile f) t) (sym h.other) agree)))
 
 -- two fonts come to their join
 pub two_come : (f g j : FontValue) → ComesTo (f ∷ g ∷ []) j → Join profile f g × (j ≡ joined_font profile f g)
@@ -49,7 +50,7 @@ stops_second f g e [] font after joined is m t =
 stops_second f g e (b ∷ bs) font after joined is m t = absurd (let short = ap length is in omega (arith, short, length-append bs (font ∷ after)))
 
 -- two fonts are refused for their lowest conflict
-pub two_refused : (f g : FontValue) (e : Refusal) → IsRefused (f ∷ g ∷ []) e → Tells e (conflict profile f g)
+pub two_refused : (f g : FontValue) (e : Refusal) → NotMerged (f ∷ g ∷ []) e → Tells e (conflict profile f g)
 two_refused f g e h = elim h [
   | inl m ↦ subst (λ (e : Refusal). Tells e (conflict profile f g)) (sym m) tt
   | inr s ↦ stops_second f g e s.before s.font s.after s.joined s.list s.merges s.tells
@@ -73,9 +74,9 @@ comes_last (f ∷ fs) x j h k =
 
 -- fonts are refused for the conflict with the first that does not join
 stops_at : (before : List FontValue) (x : FontValue) (after fs : List FontValue) (j : FontValue) →
-    ComesTo before j → before ++ x ∷ after ≡ fs → (e : Refusal) → Tells e (conflict profile j x) → IsRefused fs e
+    ComesTo before j → before ++ x ∷ after ≡ fs → (e : Refusal) → Tells e (conflict profile j x) → NotMerged fs e
 stops_at [] x after fs j h is e t = absurd h
-stops_at (f ∷ before) x after fs j h is e t = subst (λ (fs : List FontValue). IsRefused fs e) is
+stops_at (f ∷ before) x after fs j h is e t = subst (λ (fs : List FontValue). NotMerged fs e) is
     (inr (record { before = before; font = x; after = after; joined = j; list = refl; merges = h; tells = t }))
 
 -- the fonts of callers that are noted are fonts
@@ -110,7 +111,7 @@ turn (c ∷ cs) h (suc i) l =
 
 -- the first font comes to itself, and its states joined with themselves are its states
 pub starts : (cs : List Callers) → AreNoted cs → 0 < length cs → (ss : List StatesValue) →
-    ss ≡ map (states_of profile) (fonts_of cs) → (t s : StatesValue) → t ≡ get_or ss 0 t → StatesJoin t t s → JoinedSoFar (take 1 cs) s
+    ss ≡ map (states_of profile) (fonts_of cs) → (t s : StatesValue) → t ≡ get_or ss 0 t → FontStatesJoin t t s → JoinedSoFar (take 1 cs) s
 starts [] h l ss is t s e j = absurd (omega (arith, l))
 starts (c ∷ cs) h l ss is t s e j = record {
   font = c.font.now;
@@ -149,7 +150,7 @@ module _ (cs : List Callers) (i : ℕ) (t : Turn cs i) (s : StatesValue) (far : 
       })
 
   -- if the next font doesn't join, the fonts are refused
-  pub stops : (r : Refusal) → Tells r (conflict profile far.font t.here.font.now) → IsRefused (fonts_of cs) r
+  pub stops : (r : Refusal) → Tells r (conflict profile far.font t.here.font.now) → NotMerged (fonts_of cs) r
   stops = stops_at (fonts_of (take i cs)) t.here.font.now (fonts_of (drop (suc i) cs))
       (fonts_of cs) far.font far.comes (sym (map-append _ (take i cs) (t.here ∷ drop (suc i) cs)) ∙ ap fonts_of t.all)
 
@@ -201,7 +202,7 @@ lent_more bs cs b fs i f n l at w e ec =
 
 -- fonts of which the first two have a conflict are refused for it
 pub refused_at_second : (bs : List (Bor FontValue)) (f g : Bor FontValue) → 2 ≤ length bs → f ≡ get_or bs 0 f → g ≡ get_or bs 1 g →
-    (e : Refusal) → Tells e (conflict profile f.now g.now) → IsRefused (shown bs) e
+    (e : Refusal) → Tells e (conflict profile f.now g.now) → NotMerged (shown bs) e
 refused_at_second [] f g l a b e t = absurd (omega (arith, l))
 refused_at_second (c ∷ []) f g l a b e t = absurd (omega (arith, l))
 refused_at_second (c ∷ d ∷ bs) f g l a b e t = stops_at (c.now ∷ []) d.now (shown bs) (c.now ∷ d.now ∷ shown bs) c.now refl refl e

@@ -2,9 +2,9 @@ use Rattle.std.proofs.Common.{◌≡◌, ◌++◌}
 use Rattle.std.specs.List.{flat_map}
 use Rattle.std.specs.FinMap.{get}
 use Rattle.t1_font.specs.FontModel.{names_in}
-use Rattle.t1_cmd.specs.ListText.{line_at, glyph_line}
+use Rattle.t1_cmd.specs.ListText.{line_at, glyph_length_line}
 use Rattle.t1_cmd.proofs.list.push_glyphs.Given as goal
 
 abbrev pub invariant-names : goal.invariant-names
-invariant-names l = l.out.items ++ flat_map (λ name. line_at glyph_line name (get l.font.glyphs name)) l.name-iterator
-    ≡ l.initial.out.items ++ flat_map (λ name. line_at glyph_line name (get l.font.glyphs name)) (names_in l.font.glyphs)
+invariant-names l = l.out.items ++ flat_map (λ name. line_at glyph_length_line name (get l.font.glyphs name)) l.name-iterator
+    ≡ l.initial.out.items ++ flat_map (λ name. line_at glyph_length_line name (get l.font.glyphs name)) (names_in l.font.glyphs)

@@ -2,7 +2,7 @@ use Rattle.std.proofs.Common.{◌≡◌, [], ◌∷◌, ◌∙◌, ap, sym, subs
 use Rattle.t1_bytes.specs.declared.form.Form.{Form}
 use Rattle.t1_cmd.specs.declared.faults.RunFault.TheVariants.{Refused}
 use Rattle.t1_cmd.specs.Inputs.{input_of}
-use Rattle.t1_cmd.specs.Answers.{Prints, Refuses}
+use Rattle.t1_cmd.specs.Answers.{Prints, MayRefuse}
 use Rattle.t1_cmd.specs.Runs.{RunEnds}
 use Rattle.t1_cmd.specs.Fonts.{mended_input, file_answer}
 use Rattle.t1_cmd.specs.Mends.{mends_answer}
@@ -17,7 +17,7 @@ returns-in-Err-clause-ends g c =
     let i = input_of g.R.Read.remaining c.args.reader.now c.read_file.new.reader in
     stopped mended_input (Prints (file_answer c.args.form)) g.W.Write.contents (i ∷ []) c.args.writer.now (Refused c.in-Err.reason)
     (told_stops (file_answer c.args.form) i c.in_ok-file.file.items c.in-Err.reason c.in_ok-file.ensures.file
-    (subst (λ (t : List ℕ). Refuses (λ a. a ≡ mends_answer t) c.in-Err.reason) c.as_slice.ensures.value c.in-Err.ensures.refused))
+    (subst (λ (t : List ℕ). MayRefuse (λ a. a ≡ mends_answer t) c.in-Err.reason) c.as_slice.ensures.value c.in-Err.ensures.refused))
 
 pub returns-in-Err-clause-succeeds : goal.returns-in-Err-clause-succeeds
 returns-in-Err-clause-succeeds g c =

@@ -2,14 +2,14 @@ use Rattle.std.proofs.Common.{List, subst}
 use Rattle.t1_font.specs.FontValue.{FontValue}
 use Rattle.t1_font.specs.Canon.{canon}
 use Rattle.t1_algebra.specs.Merges.{ComesTo}
-use Rattle.t1_cmd.specs.Answers.{Refuses}
-use Rattle.t1_cmd.specs.Mergers.{MergesTo}
+use Rattle.t1_cmd.specs.Answers.{MayRefuse}
+use Rattle.t1_cmd.specs.Mergers.{MergesToFile}
 use Rattle.t1_cmd.proofs.MergeLemmas.{same_text}
 use Rattle.t1_cmd.proofs.mergers.merged_file.Goals as goal
 
 pub returns-in-Err-clause-refused : goal.returns-in-Err-clause-refused
 returns-in-Err-clause-refused c =
-    subst (λ (fs : List FontValue). Refuses (MergesTo c.args.form fs) c.in-Err.reason) c.as_slice.ensures.value (c.in-Err.ensures.refused c.args.form)
+    subst (λ (fs : List FontValue). MayRefuse (MergesToFile c.args.form fs) c.in-Err.reason) c.as_slice.ensures.value (c.in-Err.ensures.refused c.args.form)
 
 pub returns-clause-text : goal.returns-clause-text
 returns-clause-text c = (

@@ -1,5 +1,5 @@
 use Rattle.t1_cmd.specs.Fonts.{font_input}
-use Rattle.t1_cmd.specs.Mergers.{inputs_of, MergesTo}
+use Rattle.t1_cmd.specs.Mergers.{inputs_of, MergesToFile}
 use Rattle.t1_cmd.proofs.RunLemmas.{ends_succeeds}
 use Rattle.t1_cmd.proofs.MergeLemmas.{merges_apart}
 use Rattle.t1_cmd.proofs.WrittenSubsets.{writes_union}
@@ -7,7 +7,7 @@ use Rattle.t1_cmd.proofs.mergers.run_merge.Goals as goal
 
 pub returns-clause-succeeds : goal.returns-clause-succeeds
 returns-clause-succeeds g c =
-    ends_succeeds font_input (MergesTo c.args.form) (merges_apart c.args.form) g.W.Write.contents
+    ends_succeeds font_input (MergesToFile c.args.form) (merges_apart c.args.form) g.W.Write.contents
     (inputs_of g.R.Read.remaining c.args.readers.now c.run_words.new.readers) c.args.writer.now c.run_words.new.writer c.run_words.result
     c.run_words.ensures.ends
 

@@ -1,7 +1,7 @@
 use Rattle.std.proofs.Common.{◌≡◌, subst, Ok}
 use Rattle.std.specs.Prelude.{IfOk, IfErr}
 use Rattle.t1_font.specs.FontValue.{FontValue}
-use Rattle.t1_cmd.specs.Answers.{Refuses}
+use Rattle.t1_cmd.specs.Answers.{MayRefuse}
 use Rattle.t1_cmd.proofs.words.text_of_source.Goals as goal
 
 pub returns-clause-text : goal.returns-clause-text
@@ -11,5 +11,5 @@ returns-clause-text g c =
 
 pub returns-clause-refused : goal.returns-clause-refused
 returns-clause-refused g c =
-    subst (λ (f : FontValue). IfErr c.text.result (Refuses (λ a. a ≡ g.T.FontWord.answer c.args.word.now f)))
+    subst (λ (f : FontValue). IfErr c.text.result (MayRefuse (λ a. a ≡ g.T.FontWord.answer c.args.word.now f)))
     c.in_ok-font.ensures c.text.ensures.refused

@@ -1,7 +1,7 @@
 use Rattle.std.proofs.Common.{ap, ◌∙◌, subst, List, IfOk, IfErr}
 use Rattle.t1_font.specs.FontValue.{FontValue}
 use Rattle.t1_algebra.specs.Merges.{ComesTo}
-use Rattle.t1_subset.specs.Merger.{IsRefused}
+use Rattle.t1_subset.specs.Merger.{NotMerged}
 use Rattle.t1_subset.proofs.Answered.{in_any_order, none_in_any_order}
 use Rattle.t1_subset.proofs.state_tables.Walks.{shown}
 use Rattle.t1_subset.proofs.merger.merge_all.Goals as goal
@@ -15,4 +15,4 @@ returns-clause-any_order c =
     let are = ap shown c.as_slice.ensures.value ∙ c.in_ok-lent.ensures.lent in
     in_any_order c.args.fonts.now c.in_ok-lent.ensures.fonts r
     (subst (λ (fs : List FontValue). IfOk r (λ j. ComesTo fs j)) are c.merge_lent.ensures.ok)
-    (subst (λ (fs : List FontValue). IfErr r (λ e. IsRefused fs e)) are c.merge_lent.ensures.err)
+    (subst (λ (fs : List FontValue). IfErr r (λ e. NotMerged fs e)) are c.merge_lent.ensures.err)

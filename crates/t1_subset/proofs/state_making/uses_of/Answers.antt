@@ -3,7 +3,7 @@ use Rattle.std.specs.List.{list_any}
 use Rattle.std.specs.FinMap as maps
 use Rattle.std.specs.FinSet as sets
 use Rattle.std.proofs.lemmas.Map.Iter.{rest_more, rest_all}
-use Rattle.t1_algebra.specs.{Interpreter.{same_bytes}, Keep.{has}, Profile.{profile}, States.{joined, executes, executed_at, called_at}, Conflicts.{wants}}
+use Rattle.t1_algebra.specs.{Interpreter.{same_bytes}, Keep.{has}, Profile.{profile}, States.{joined_option, executes, executed_at, called_at}, Conflicts.{wants}}
 use Rattle.t1_algebra.proofs.Sets.{cases}
 use Rattle.t1_subset.specs.Users.{noted_at}
 use Rattle.t1_subset.proofs.state_tables.FontCallers.{executes_so, calls_so, again_same, noting_starts, noting_again, noting_next, noting_ends}
@@ -36,11 +36,11 @@ names-preserved c =
     let named = ap (map (λ (s : Bor (List ℕ)). s.now)) c.as_slice.ensures.value ∙ c.in_ok-components.ensures.components in
     let users = λ (q : ℕ) (l : maps.contains_key f.subrs q ≡ true).
     c.note_users.ensures.noted q (c.names.invariant.0 q l)
-    ∙ ap (λ b. joined (noted_at c.names.users.items q) (cond b (Some n) None))
+    ∙ ap (λ b. joined_option (noted_at c.names.users.items q) (cond b (Some n) None))
     (ap (λ s. sets.contains s q) c.in_ok-components.ensures.calls ∙ executes_so f n q) in
     let seekers = λ (q : List ℕ).
     c.in_ok-note_seekers.ensures q
-    ∙ ap (λ b. joined (maps.get c.names.seekers q) (cond (not (has f q) && b) (Some n) None)) (ap (list_any (same_bytes q)) named ∙ calls_so f n q) in (
+    ∙ ap (λ b. joined_option (maps.get c.names.seekers q) (cond (not (has f q) && b) (Some n) None)) (ap (list_any (same_bytes q)) named ∙ calls_so f n q) in (
       λ q l. let there : q < length c.names.users.items = c.names.invariant.0 q l in let same = c.note_users.ensures.places in omega (arith, there, same),
       λ q l. noting_next (λ n. executes profile f n q) _ _ _ _ _ _ more (c.names.invariant.1 q l) _ _
           (users q l) (ap (executed_at profile f q) c.charstring-charstring.ensures),
