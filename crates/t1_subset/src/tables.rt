@@ -1,22 +1,23 @@
-//! The states of a font's codes and Subrs, as tables that join key by key.
+//! The states of a font's codes and Subrs, as tables that join key by key, and the table of the glyphs that execute them.
 
 ghost use Rattle.std.specs.Prelude.{◌≡◌, ℕ, true, IfOk, OnOk};
 ghost use Rattle.std.specs.Option.{option_map};
 ghost use Rattle.std.specs.FinMap as maps;
+ghost use Rattle.t1_join.specs.Meaning.{of_number};
 ghost use Rattle.t1_algebra.specs.Profile.{profile};
 ghost use Rattle.t1_algebra.specs.StateTables.{numbered, code_states, used_subrs};
 ghost use Rattle.t1_subset.specs.Differences.{with_state, entry_state};
 ghost use Rattle.t1_subset.specs.Users.{noted_at};
 ghost use Rattle.t1_subset.specs.Callers.{user_of};
 
-use crate::users::{Noted, noted_user};
+use crate::users::{Noted, Users, noted_user};
 use std::alloc::{AllocError, Global};
 use t1_font::{Font, STUB};
 use t1_join::{Kept, Key, Table};
 use t1_run::Subroutines;
 
 /// Puts a state at a key, if there is one.
-pub(crate) fn put<K: Key + Drop, V: Kept + Drop>(
+fn put<K: Key + Drop, V: Kept + Drop>(
     table: &mut Table<K, V>,
     key: K,
     state: Option<V>,
@@ -77,4 +78,22 @@ pub(crate) fn subr_table<'a>(
         )?;
     }
     Ok(table)
+}
+
+/// The users that were noted, in a table.
+pub(crate) fn used<'a>(
+    alloc: Global,
+    font: &Font<'_>,
+    users: &Noted<'a>,
+) -> Result<Users<'a>, AllocError>
+    ensures { IfOk result (λ used. (q : ℕ)
+        → maps.contains_key font.now.subrs q ≡ true
+        → maps.get used (of_number q) ≡ noted_at users.now.items q) }
+{
+    font.proof_is_font();
+    let mut used = Table::new(alloc);
+    'indices: for index in 0..font.count() {
+        put(&mut used, index, noted_user(users, index))?;
+    }
+    Ok(used)
 }

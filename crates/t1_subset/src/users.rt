@@ -10,7 +10,6 @@ ghost use Rattle.t1_algebra.specs.Shared.{same_number};
 ghost use Rattle.t1_algebra.specs.States.{joined_option};
 ghost use Rattle.t1_subset.specs.Users.{noted_at};
 
-use crate::tables::put;
 use std::alloc::{AllocError, Global};
 use t1_font::Font;
 use t1_join::Table;
@@ -75,24 +74,6 @@ pub(crate) fn noted_user<'a>(users: &Noted<'a>, index: u16) -> Option<&'a [u8]>
         Some(user) => *user,
         None => None,
     }
-}
-
-/// The users that were noted, in a table.
-pub(crate) fn used<'a>(
-    alloc: Global,
-    font: &Font<'_>,
-    users: &Noted<'a>,
-) -> Result<Users<'a>, AllocError>
-    ensures { IfOk result (λ used. (q : ℕ)
-        → maps.contains_key font.now.subrs q ≡ true
-        → maps.get used (of_number q) ≡ noted_at users.now.items q) }
-{
-    font.proof_is_font();
-    let mut used = Table::new(alloc);
-    'indices: for index in 0..font.count() {
-        put(&mut used, index, noted_user(users, index))?;
-    }
-    Ok(used)
 }
 
 /// The smallest glyph that executes the index.

@@ -1,6 +1,6 @@
 use Rattle.t1_subset.specs.Users.{noted_at}
 use Rattle.t1_subset.proofs.state_tables.ByNumber.{HasBelow}
-use Rattle.t1_subset.proofs.users.used.Given as goal
+use Rattle.t1_subset.proofs.tables.used.Given as goal
 
 abbrev pub invariant-indices : goal.invariant-indices
 invariant-indices l = HasBelow l.used (noted_at l.users.items) l.index

@@ -1,7 +1,7 @@
 use Rattle.std.proofs.Common.{arith}
 use Rattle.t1_subset.specs.Users.{noted_at}
 use Rattle.t1_subset.proofs.{state_tables.ByNumber.{has_none, has_next, has_at}, state_tables.FontUsers.{present_below}}
-use Rattle.t1_subset.proofs.users.used.Goals as goal
+use Rattle.t1_subset.proofs.tables.used.Goals as goal
 
 pub indices-init : goal.indices-init
 indices-init c = has_none _ (noted_at c.args.users.now.items) c.new-used.ensures
