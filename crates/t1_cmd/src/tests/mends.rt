@@ -46,51 +46,58 @@ fn is_mended(alloc: Global, file: &[u8]) -> bool {
         && answers(alloc, Engine::Mend(Form::Pfb), file, PFB)
 }
 
-/// What is told of a file's mending, by the engine and by the call alike; nothing if they differ.
-fn told(alloc: Global, file: &[u8]) -> Option<Vec<u8>> {
+/// What the engine tells of a file's mending.
+fn ran(alloc: Global, file: &[u8]) -> Result<Vec<u8>, AllocError> {
     let mut out = Vec::new(alloc);
     let mut reader = Counted::new(file);
-    let Ok(ran) = run_mend(alloc, &mut reader, Form::Pfa, &mut Counted::new(&mut out)) else {
-        return None;
-    };
-    match list_mends(alloc, file) {
-        Ok(lines) if lines.as_slice() == ran.as_slice() => Some(lines),
-        _ => None,
+    match run_mend(alloc, &mut reader, Form::Pfa, &mut Counted::new(&mut out)) {
+        Ok(lines) => Ok(lines),
+        Err(fault) => {
+            drop(fault);
+            Err(AllocError)
+        }
     }
 }
 
-/// Whether these lines are told of a file's mending.
-fn tells(alloc: Global, file: &[u8], want: &[u8]) -> bool {
-    match told(alloc, file) {
-        Some(lines) => lines.as_slice() == want,
-        None => false,
+/// What the call tells of it.
+fn told(alloc: Global, file: &[u8]) -> Result<Vec<u8>, AllocError> {
+    match list_mends(alloc, file) {
+        Ok(lines) => Ok(lines),
+        Err(reason) => {
+            drop(reason);
+            Err(AllocError)
+        }
     }
+}
+
+/// Whether both tell these lines.
+fn tells(alloc: Global, file: &[u8], want: &[u8]) -> Result<bool, AllocError> {
+    let ran = ran(alloc, file)?;
+    let told = told(alloc, file)?;
+    Ok(ran.as_slice() == want && told.as_slice() == want)
 }
 
 #[test]
 fn mending_is_told(rt: HostRuntime) -> Result<(), Fail> {
+    const BOTH: &[u8] = b"comment in Encoding at 387\ntest of FontDirectory taken out at 0\n";
     let commented = commented(rt.alloc())?;
     let copied = copied(rt.alloc())?;
     let tested = with_all(rt.alloc(), commented.as_slice(), BEGINS, TESTED)?;
-    const BOTH: &[u8] = b"comment in Encoding at 387\ntest of FontDirectory taken out at 0\n";
-    assert!(rt; tells(rt.alloc(), PFA, b""), "Tiny");
-    assert!(rt; tells(rt.alloc(), PFB, b""), "the PFB");
-    assert!(rt;
-        tells(
-            rt.alloc(),
+    let rows: [(&[u8], &[u8], &str); 5] = [
+        (PFA, b"", "Tiny"),
+        (PFB, b"", "the PFB"),
+        (
             commented.as_slice(),
-            b"comment in Encoding at 223\n"
+            b"comment in Encoding at 223\n",
+            "a comment",
         ),
-        "a comment"
-    );
-    assert!(rt;
-        tells(rt.alloc(), copied.as_slice(), b"code copied at 209\n"),
-        "a copy"
-    );
-    assert!(rt;
-        tells(rt.alloc(), tested.as_slice(), BOTH),
-        "a comment, and the test"
-    );
+        (copied.as_slice(), b"code copied at 209\n", "a copy"),
+        (tested.as_slice(), BOTH, "a comment, and the test"),
+    ];
+    for (file, want, what) in rows {
+        let right = tells(rt.alloc(), file, want)?;
+        assert!(rt; right, "{what}");
+    }
     Ok(())
 }
 
