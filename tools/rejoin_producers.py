@@ -1,19 +1,24 @@
 #!/usr/bin/env python3
-"""Cuts real fonts by dvips, pdfTeX and Ghostscript, and counts how many pairs of their subsets rejoin.
+"""Cuts real fonts by several programs, and counts how many pairs of their subsets rejoin, also those of different programs.
 
-usage: tools/rejoin_producers.py [FONTS]    FONTS is how many fonts are tried, by default 120
+usage: tools/rejoin_producers.py [FONTS]    FONTS is how many fonts are tried, by default all of the map
 
-Each font of TeX's map whose program is installed is set in two documents with different characters. `merge` and `rejoin`
-are tried on each pair of subsets. FreeType then draws each glyph of the rejoined font, at 1,000 units and without hints,
-which has to have the parent's outline and advance.
+Each font of TeX's map whose program is installed is set in two documents with different characters. dvips, pdfTeX and, where
+they are installed, Ghostscript's ps2write (from what dvips wrote) and pdftops (from what pdfTeX wrote) cut it, and `subset` cuts
+the font's own file, mended, to the same names. `merge` and `rejoin` are tried on the first subset of each program with the
+second of each. FreeType then draws each glyph of the rejoined font, at 1,000 units and without hints, which has to have the
+parent's outline and advance. Prints a table of pairs: how many there are, merge, rejoin, and draw as the parent; and then the
+reasons for which pairs are refused.
 
 Needs the program (bin/t1subset, or T1SUBSET), and Debian's packages texlive-binaries, texlive-base,
-texlive-fonts-recommended, cm-super-minimal, lmodern, tex-gyre, ghostscript and python3-freetype.
+texlive-fonts-recommended, cm-super-minimal, lmodern, tex-gyre and python3-freetype; ghostscript and poppler-utils for two more
+programs.
 """
 import collections
 import os
 import random
 import re
+import shutil
 import subprocess
 import sys
 import tempfile
@@ -87,7 +92,45 @@ def by_pdftex(folder):
     return list(streams(read(folder, "doc.pdf")))
 
 
-PRODUCERS = {"dvips": by_dvips, "ps2write": by_ghostscript, "pdfTeX": by_pdftex}
+def by_pdftops(folder):
+    """From what pdfTeX wrote into the same folder."""
+    text_of(["pdftops", "-level2", "doc.pdf", "pages.ps"], cwd=folder)
+    return re.findall(rb"%%BeginResource: font [^\n]*\n(.*?)%%EndResource", read(folder, "pages.ps"), re.DOTALL)
+
+
+# Each comes behind the one whose file it takes.
+PRODUCERS = {"dvips": by_dvips, "pdfTeX": by_pdftex}
+if shutil.which("gs"):
+    PRODUCERS["ps2write"] = by_ghostscript
+if shutil.which("pdftops"):
+    PRODUCERS["pdftops"] = by_pdftops
+FILE = "file"
+
+
+def said(folder, *words):
+    """What the program says: nothing, or the reason of a refusal. What `mend` tells of a font that it takes is none."""
+    done = subprocess.run([PROGRAM, *words], cwd=folder, capture_output=True, text=True)
+    return done.stderr.strip() if done.returncode else ""
+
+
+def names_in(folder, part):
+    """The names of a subset's glyphs."""
+    with open(os.path.join(folder, "part"), "wb") as f:
+        f.write(part)
+    if said(folder, "mend", "part", "mended"):
+        return None
+    listed = text_of([PROGRAM, "list", "mended"], cwd=folder)
+    return [line.split()[1] for line in listed.splitlines() if line.startswith("glyph ")]
+
+
+def by_file(folder, program, part):
+    """The subset of the font's own file, mended, that has the names of this subset."""
+    names = names_in(folder, part)
+    if names is None or said(folder, "mend", found(program), "whole"):
+        return None
+    if said(folder, "subset", "whole", "cut", "--", *names):
+        return None
+    return read(folder, "cut")
 
 
 def joined(folder, word, parts):
@@ -95,8 +138,7 @@ def joined(folder, word, parts):
     for name, part in zip(("one", "two"), parts):
         with open(os.path.join(folder, name), "wb") as f:
             f.write(part)
-    done = subprocess.run([PROGRAM, word, "out", "one", "two"], cwd=folder, capture_output=True, text=True)
-    return done.stderr.strip()
+    return said(folder, word, "out", "one", "two")
 
 
 def outline(face, index):
@@ -120,32 +162,56 @@ def halves(name):
     return [sorted(chosen.sample(codes, min(len(codes), 12))) for _ in range(2)]
 
 
-def tried(folder, name, program, tally):
-    """Cuts one font by each producer, and counts what becomes of the pairs."""
-    parts = collections.defaultdict(list)
+def cut_by_each(folder, program):
+    """The one subset that each program makes of the document that stands in the folder, where it makes one."""
+    parts = {}
+    for producer, cut in PRODUCERS.items():
+        fonts = cut(folder)
+        if len(fonts) == 1:
+            parts[producer] = fonts[0]
+    if "dvips" in parts:
+        own = by_file(folder, program, parts["dvips"])
+        if own:
+            parts[FILE] = own
+    return parts
+
+
+def tried(folder, name, program, tally, reasons):
+    """Cuts one font by each program, and counts what becomes of the pairs."""
+    halves_cut = []
     for codes in halves(name):
         document(folder, name, codes)
-        for producer, cut in PRODUCERS.items():
-            fonts = cut(folder)
-            if len(fonts) == 1:
-                parts[producer].append(fonts[0])
-    for producer, pair in parts.items():
-        if len(pair) != 2:
-            continue
-        tally[producer, "pairs"] += 1
-        tally[producer, "merge"] += joined(folder, "merge", pair) == ""
-        reason = joined(folder, "rejoin", pair)
-        tally[producer, reason or "rejoin"] += 1
-        if not reason:
-            same, glyphs = draws_as(os.path.join(folder, "out"), found(program))
-            tally[producer, "drawn as the parent"] += same
-            tally[producer, "glyphs"] += glyphs
-            if not same:
-                print(f"{producer} {name}: a glyph is drawn otherwise")
+        halves_cut.append(cut_by_each(folder, program))
+    first, second = halves_cut
+    for one in first:
+        for other in second:
+            pair, parts = (one, other), (first[one], second[other])
+            tally[pair, "pairs"] += 1
+            tally[pair, "merge"] += joined(folder, "merge", parts) == ""
+            reason = joined(folder, "rejoin", parts)
+            tally[pair, "rejoin"] += not reason
+            reasons[pair, re.sub(r"(code|subr|glyph) \S+", r"\1 ..", reason)] += bool(reason)
+            if not reason:
+                same, glyphs = draws_as(os.path.join(folder, "out"), found(program))
+                tally[pair, "draw alike"] += same
+                tally[pair, "glyphs"] += glyphs
+                if not same:
+                    print(f"{one} with {other}: {name}: a glyph is drawn otherwise")
+
+
+def printed(tally, reasons):
+    """The table of pairs, and the reasons."""
+    columns = ["pairs", "merge", "rejoin", "draw alike", "glyphs"]
+    print(f"{'first':10}{'second':10}" + "".join(f"{column:>12}" for column in columns))
+    for one, other in sorted({pair for pair, _ in tally}):
+        print(f"{one:10}{other:10}" + "".join(f"{tally[(one, other), column]:12}" for column in columns))
+    for (pair, reason), number in sorted(reasons.items()):
+        if number:
+            print(f"{number:5} of {pair[0]} with {pair[1]}: {reason}")
 
 
 def main(limit):
-    tally = collections.Counter()
+    tally, reasons = collections.Counter(), collections.Counter()
     count = 0
     for name, program in fonts_of_the_map():
         if count == limit:
@@ -155,12 +221,12 @@ def main(limit):
         count += 1
         with tempfile.TemporaryDirectory() as folder:
             try:
-                tried(folder, name, program, tally)
-            except subprocess.CalledProcessError as error:
+                tried(folder, name, program, tally, reasons)
+            except (subprocess.CalledProcessError, freetype.FT_Exception) as error:
                 print(f"{name}: {error}")
     print(f"{count} fonts")
-    for (producer, what), number in sorted(tally.items()):
-        print(f"{producer:10} {number:5} {what}")
+    printed(tally, reasons)
 
 
-main(int(sys.argv[1]) if len(sys.argv) > 1 else 120)
+if __name__ == "__main__":
+    main(int(sys.argv[1]) if len(sys.argv) > 1 else None)
