@@ -19,22 +19,21 @@ use Rattle.t1_font.specs.FontTest.{eexec_there, has_marker, is_untested, tested_
 use Rattle.t1_font.specs.FontTest.{UntestedTwice, UntestedStarts, UntestedIsFont}
 use Rattle.t1_font.proofs.ByteLemmas.{AreBytes-append}
 use Rattle.t1_font.proofs.read_fonts.ReadBytes.{bytes_left, bytes_right, drop_bytes}
-use Rattle.t1_font.proofs.even_fonts.Evened.{HeadFits}
 
 -- ---- what a head without a test is
 
 -- where both hold, each does
-both_true : (a b : Bool) → (a && b) ≡ true → (a ≡ true) × (b ≡ true)
+pub both_true : (a b : Bool) → (a && b) ≡ true → (a ≡ true) × (b ≡ true)
 both_true true b h = (refl, h)
 both_true false b h = absurd (true≢false (sym h))
 
 -- what is denied is false
-not_true : (a : Bool) → not a ≡ true → a ≡ false
+pub not_true : (a : Bool) → not a ≡ true → a ≡ false
 not_true true h = absurd (true≢false (sym h))
 not_true false h = refl
 
 -- where not one of two holds, neither does
-neither : (a b : Bool) → (a || b) ≡ false → (a ≡ false) × (b ≡ false)
+pub neither : (a b : Bool) → (a || b) ≡ false → (a ≡ false) × (b ≡ false)
 neither true b h = absurd (true≢false h)
 neither false b h = (refl, h)
 
@@ -44,12 +43,12 @@ none_there None h = refl
 none_there (Some x) h = absurd (true≢false h)
 
 -- a grammar that stands nowhere in a text stands nowhere in its front
-lacks_none : {A : Type 0} (g : Grammar A) (front after : List ℕ) → Lacks g (front ++ after) → NoneIn g front after
+pub lacks_none : {A : Type 0} (g : Grammar A) (front after : List ℕ) → Lacks g (front ++ after) → NoneIn g front after
 lacks_none g [] after lacks = tt
 lacks_none g (b ∷ front) after lacks = (lacks 0, lacks_none g front after (λ k. lacks (suc k)))
 
 -- where no marker of any bytes stands, no marker stands
-no_eexec : (bytes : List ℕ) → Lacks eexec_there bytes → Lacks eexec_marker bytes
+pub no_eexec : (bytes : List ℕ) → Lacks eexec_there bytes → Lacks eexec_marker bytes
 unfolding eexec_there
 no_eexec bytes lacks k x at = lacks k (tt, x.1)
     (at.0 ++ [], at.1 ∙ ap (λ (u : List ℕ). u ++ x.1) (sym (append-nil at.0)), (x.0, at.0, [], refl, at.2, (refl, refl)))
@@ -129,6 +128,13 @@ around_found head x e =
     }
 
 -- ---- the head of a font
+
+-- what a head keeps
+pub record HeadFits (old new : List ℕ) : Type 0 where
+  pub encoding : NoMarker encoding_marker old → NoMarker encoding_marker new
+  pub eexec : NoMarker eexec_marker old → NoMarker eexec_marker new
+  pub bytes : AreBytes old → AreBytes new
+  pub short : length new ≤ length old
 
 -- a head without its test is no longer, is bytes, and has no markers
 pub untested_fits : (head : List ℕ) → HeadFits head (untested head)

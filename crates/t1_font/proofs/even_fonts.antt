@@ -1,6 +1,7 @@
 -- Tags, and fonts that are made even.
 pub mod TagLemmas
-pub mod UntaggedTwice
+pub mod RewritingLemmas
+pub mod EvenTexts
 pub mod EvenStays
 pub mod Evened
 pub mod Filled

@@ -1,6 +1,7 @@
 -- Rows that are computed on the definitions.
 pub mod FontTestRows
 pub mod TagRows
+pub mod EvenRows
 pub mod Tiny
 pub mod TinyCuts
 pub mod TinyFiles

@@ -1,4 +1,5 @@
--- Fonts made even: subsets that other programs cut have a tag before their font's name, and declare no Subrs after the last one used.
+-- Fonts made even: subsets that other programs cut differ in white space, in lines that number the font and in tags before its name, and declare
+-- no Subrs after the last one used.
 use Rattle.std.specs.Prelude.{ℕ, max, nat_lt, List, [], ◌∷◌, map, filter}
 use Rattle.std.specs.List.{flat_map}
 use Rattle.std.specs.Option.{option_map}
@@ -6,25 +7,15 @@ use Rattle.std.specs.FinMap.{entries, keys, from_entries}
 use Rattle.t1_font.specs.FontValue.{FontValue, Shell, SubrsShell, Numbered, declared_count}
 use Rattle.t1_font.specs.Cut.{stub}
 use Rattle.t1_font.specs.Maps.{merged}
-use Rattle.t1_font.specs.Tags.{untagged_head}
+use Rattle.t1_font.specs.EvenTexts.{even_texts}
 
 -- a table that declares at least so many Subrs
 abbrev pub raised : ℕ → SubrsShell → SubrsShell
 raised n s = record { declared = max n s.declared; rd = s.rd; put = s.put; closing = s.closing }
 
--- a shell without a tag, whose table of Subrs, where there is one, declares at least so many
+-- a shell of even texts, whose table of Subrs, where there is one, declares at least so many
 abbrev pub even_shell : ℕ → Shell → Shell
-even_shell n s = record {
-  head = untagged_head s.head;
-  clear_tail = s.clear_tail;
-  private = s.private;
-  middle = s.middle;
-  tail = s.tail;
-  len_iv = s.len_iv;
-  subrs = option_map (raised n) s.subrs;
-  glyphs_rd = s.glyphs_rd;
-  glyphs_def = s.glyphs_def;
-}
+even_shell n s = record (even_texts s) { subrs = option_map (raised n) s.subrs }
 
 -- a font of that shell
 abbrev pub even : ℕ → FontValue → FontValue
@@ -70,7 +61,7 @@ largest_count (f ∷ fs) = max (declared_count f.shell.subrs) (largest_count fs)
 abbrev pub indices_of_all : List FontValue → List ℕ
 indices_of_all fs = flat_map (λ f. keys f.subrs) fs
 
--- the fonts without tags, each with the largest declared count
+-- the fonts with even texts, each with the largest declared count
 abbrev pub evened_shells : List FontValue → List FontValue
 evened_shells fs = map (even (largest_count fs)) fs
 
@@ -78,6 +69,6 @@ evened_shells fs = map (even (largest_count fs)) fs
 abbrev pub filled_all : List FontValue → List FontValue
 filled_all fs = map (filled (indices_of_all fs)) fs
 
--- the fonts made even: without tags, with one declared count, and with Subrs at one set of indices
+-- the fonts made even: with even texts, with one declared count, and with Subrs at one set of indices
 abbrev pub evened : List FontValue → List FontValue
 evened fs = filled_all (evened_shells fs)

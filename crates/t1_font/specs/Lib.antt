@@ -32,9 +32,14 @@ pub mod Writing
 pub mod Canon
 pub mod Maps
 pub mod Cut
+pub mod Rewriting
+pub mod Squeezing
+pub mod Identity
 pub mod Tags
+pub mod Rules
 pub mod FontTest
 pub mod Mends
+pub mod EvenTexts
 pub mod Evening
 pub mod Filling
 pub mod EveningLaws

@@ -1,11 +1,13 @@
--- Tags of subsets: six capitals and `+` before the name of a font (ISO 32000-1, 9.6.4), and heads without them.
-use Rattle.std.specs.Prelude.{ℕ, zero, suc, ◌-◌, ◌&&◌, nat_le, Bool, List, [], ◌∷◌, ◌++◌, length, take, codes, Option, Some, None, is_some, if◌then◌else◌}
+-- Tags of subsets: six capitals and `+` before the name of a font (ISO 32000-1, 9.6.4), and texts without them.
+use Rattle.std.specs.Prelude.{ℕ, zero, suc, ◌&&◌, not, nat_le, nat_lt, Bool, List, ◌∷◌, length, codes, Option, Some, None, if◌then◌else◌}
 use Rattle.std.specs.List.{list_all}
-use Rattle.std.specs.Option.{option_and_then}
+use Rattle.std.specs.Option.{option_and_then, option_map}
+use Rattle.std.specs.Str.{bytes_eq}
 use Rattle.std.proofs.Common.{ap}
-use Rattle.t1_grammar.specs.Grammar.{Grammar, ◌>>◌, that, count, fixed, first, Begins}
+use Rattle.t1_grammar.specs.Grammar.{Grammar, ◌>>◌, that, count, fixed, first, choice, Begins}
 use Rattle.t1_bytes.specs.White.{white}
-use Rattle.t1_font.specs.Markers.{encoding_marker}
+use Rattle.t1_font.specs.Words.{is_regular, regular_comes}
+use Rattle.t1_font.specs.Rewriting.{Piece, parted, rewritten}
 
 -- A to Z
 abbrev pub is_capital : ℕ → Bool
@@ -38,22 +40,47 @@ behind_tags (suc n) text = past_tag (behind_tags n) text (tag.read text)
 abbrev pub untagged : List ℕ → List ℕ
 untagged text = behind_tags (length text) text
 
--- whether a name, with what follows it, would begin an Encoding behind its slash
-abbrev pub begins_encoding : List ℕ → Bool
-begins_encoding name = is_some (encoding_marker.read (47 ∷ (name ++ 47 ∷ [])))
+-- ---- the name of a font
 
--- what stands before the name, and the name without tags; a head whose name would begin an Encoding is left alone
-abbrev pub with_name : List ℕ → List ℕ → List ℕ → List ℕ
-with_name head before name = if begins_encoding name then head else before ++ name
+-- the name behind the first `/FontName`, white space and a slash
+abbrev pub name_in : List ℕ → Option (List ℕ)
+name_in text = option_map (λ x. (parted is_regular x.1).0) ((first name_marker).read text)
 
--- a head whose first name of a font was found, or was not
-abbrev pub named_head : List ℕ → Option ((List ℕ × List ℕ) × List ℕ) → List ℕ
-named_head head None = head
-named_head head (Some x) = with_name head (take (length head - length x.1) head) (untagged x.1)
+-- the name of the font of a clear text, around whose Encoding stand these two: that of the first, or else of the second
+abbrev pub font_name : List ℕ × List ℕ → Option (List ℕ)
+font_name x = choice (name_in x.0) (name_in x.1)
 
--- a head without the tags of its font's name, which stands behind the first `/FontName`, white space and a slash
-abbrev pub untagged_head : List ℕ → List ℕ
-untagged_head head = named_head head ((first name_marker).read head)
+-- tags, and behind them a name
+abbrev pub is_tagged : List ℕ → Bool
+is_tagged name = nat_lt 0 (length (untagged name)) && nat_lt (length (untagged name)) (length name)
+
+-- a name with tags
+abbrev pub if_tagged : List ℕ → Option (List ℕ)
+if_tagged name = if is_tagged name then Some name else None
+
+-- the font's name, if it has tags
+abbrev pub tagged_name : List ℕ × List ℕ → Option (List ℕ)
+tagged_name x = option_and_then if_tagged (font_name x)
+
+-- ---- texts without it
+
+-- this name loses its tags, and any other word stays
+abbrev pub renamed : List ℕ → List ℕ → List ℕ
+renamed name word = if bytes_eq name word then untagged name else word
+
+-- each word that is this name loses its tags; other words, and what stands between words, stay
+abbrev pub untagged_piece : List ℕ → Piece
+untagged_piece name text =
+    if regular_comes text then (renamed name (parted is_regular text).0, (parted is_regular text).1) else parted (λ b. not (is_regular b)) text
+
+-- a text in which this name has lost its tags wherever it stands as a word
+abbrev pub text_untagged : List ℕ → List ℕ → List ℕ
+text_untagged name text = rewritten (untagged_piece name) text
+
+-- both texts around the Encoding so
+abbrev pub both_untagged : Option (List ℕ) → List ℕ × List ℕ → List ℕ × List ℕ
+both_untagged None x = x
+both_untagged (Some name) x = (text_untagged name x.0, text_untagged name x.1)
 
 -- ---- the text that the marker begins with
 

@@ -1,68 +1,58 @@
 //! Sources made even: fonts that other programs cut lose their tags, and declare one count of Subrs.
 
-ghost use Rattle.std.specs.Prelude.{◌≡◌, ◌++◌, ◌∷◌, [], IfOk, OnOk, MatchOption};
+ghost use Rattle.std.specs.Prelude.{◌≡◌, ◌++◌, ◌∷◌, [], IfOk, OnOk};
 ghost use Rattle.std.specs.Option.{option_map};
 ghost use Rattle.t1_font.specs.FontValue.{declared_count};
 ghost use Rattle.t1_font.specs.FontModel.{subrs_view};
-ghost use Rattle.t1_font.specs.Tags.{untagged_head};
 ghost use Rattle.t1_font.specs.Evening.{raised, even_shell, even, largest_count, evened_shells};
 
+use crate::even_texts::{ClearTexts, KeptText, even_clear, even_text, squeezed_text};
 use crate::shell::{KeptSubrs, Shell};
 use crate::source::{Source, SourceParts};
-use crate::tags::untagged_head;
 use std::alloc::{AllocError, Global};
 
 /// A table of Subrs that declares at least this many.
-fn raise_count(kept: Option<KeptSubrs>, declared: u16) -> Option<KeptSubrs>
-    ensures { option_map subrs_view result
-        ≡ option_map (raised declared) (option_map subrs_view kept) }
+fn raised(alloc: Global, kept: &Option<KeptSubrs>, declared: u16) -> Result<Option<KeptSubrs>, AllocError>
+    ensures { IfOk result (λ s. option_map subrs_view s
+        ≡ option_map (raised declared) (option_map subrs_view kept.now)) }
 {
     match kept {
-        Some(kept) => Some(KeptSubrs {
+        Some(kept) => Ok(Some(KeptSubrs {
             declared: if kept.declared < declared {
                 declared
             } else {
                 kept.declared
             },
-            rd: kept.rd,
-            put: kept.put,
-            closing: kept.closing,
-        }),
-        None => None,
+            rd: Vec::from_slice(alloc, kept.rd.as_slice())?,
+            put: Vec::from_slice(alloc, kept.put.as_slice())?,
+            closing: Vec::from_slice(alloc, kept.closing.as_slice())?,
+        })),
+        None => Ok(None),
     }
 }
 
-/// A shell whose head loses its tags, if it has any, and whose table declares at least this many Subrs.
-fn even_shell(shell: Shell, head: Option<Vec<u8>>, declared: u16) -> Shell
-    requires { MatchOption head (untagged_head shell.head
-        ≡ shell.head) (λ v. v.items ≡ untagged_head shell.head) }
-    ensures { result ≡ even_shell declared shell }
+/// A shell whose texts are even, and whose table declares at least this many Subrs.
+fn even_shell(alloc: Global, shell: &Shell, declared: u16) -> Result<Shell, AllocError>
+    ensures { IfOk result (λ s. s ≡ even_shell declared shell.now) }
 {
-    let Shell {
-        head: tagged,
+    let ClearTexts { head, clear_tail } =
+        even_clear(alloc, shell.head.as_slice(), shell.clear_tail.as_slice())?;
+    let private = even_text(
+        alloc,
+        KeptText::Private(shell.len_iv),
+        shell.private.as_slice(),
+    )?;
+    Ok(Shell {
+        head,
         clear_tail,
         private,
-        middle,
-        tail,
-        len_iv,
-        subrs,
-        glyphs_rd,
-        glyphs_def,
-    } = shell;
-    Shell {
-        head: match head {
-            Some(head) => head,
-            None => tagged,
-        },
-        clear_tail,
-        private,
-        middle,
-        tail,
-        len_iv,
-        subrs: raise_count(subrs, declared),
-        glyphs_rd,
-        glyphs_def,
-    }
+        middle: squeezed_text(alloc, KeptText::Middle, shell.middle.as_slice())?,
+        tail: squeezed_text(alloc, KeptText::Tail, shell.tail.as_slice())?,
+        len_iv: shell.len_iv,
+        subrs: raised(alloc, &shell.subrs, declared)?,
+        glyphs_rd: Vec::from_slice(alloc, shell.glyphs_rd.as_slice())?,
+        glyphs_def: Vec::from_slice(alloc, shell.glyphs_def.as_slice())?,
+    })
 }
 
 impl Source {
@@ -85,21 +75,20 @@ impl Source {
     pub fn even(self, alloc: Global, declared: u16) -> Result<Source, AllocError>
         ensures { IfOk result (λ f. f ≡ even declared self) }
     {
-        let head = match untagged_head(alloc, self.parts.shell.head.as_slice()) {
-            Ok(head) => head,
+        let shell = match even_shell(alloc, &self.parts.shell, declared) {
+            Ok(shell) => shell,
             Err(fault) => {
                 drop(self);
                 return Err(fault);
             }
         };
         let SourceParts {
-            shell,
+            shell: _,
             encoding,
             buffer,
             subrs,
             glyphs,
         } = self.parts;
-        let shell = even_shell(shell, head, declared);
         Ok(Source {
             parts: SourceParts {
                 shell,

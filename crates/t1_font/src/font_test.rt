@@ -223,7 +223,7 @@ fn blank_comes(bytes: &[u8]) -> bool
 
 /// The marker that ends the clear text.
 #[derive(Clone, Copy)]
-struct EexecMarker;
+pub(crate) struct EexecMarker;
 
 impl Marker for EexecMarker {
     ghost Said = { Unit {0} };
@@ -253,7 +253,7 @@ impl Marker for EexecMarker {
 }
 
 /// Whether in a text stands a marker that ends a head, or the clear text.
-fn has_marker(text: &[u8]) -> bool
+pub(crate) fn has_marker(text: &[u8]) -> bool
     ensures { result ≡ has_marker text.now }
 {
     first::<EncodingMarker>(text).is_some() || first::<EexecMarker>(text).is_some()

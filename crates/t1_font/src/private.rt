@@ -55,8 +55,8 @@ fn has_subrs(text: &[u8]) -> bool
 
 /// lenIV, from the text before the tables.
 #[tactic(auto, unfolding(crate::specs::Pieces::iv_of, crate::specs::Pieces::iv_at))]
-fn iv_of(private: &[u8]) -> Result<u8, ReadFault>
-    ensures { Answers (λ n. n) result (iv_of private.now).read }
+pub(crate) fn iv_of(private: &[u8]) -> Result<u8, ReadFault>
+    ensures { result ≡ (iv_of private.now).read }
 {
     let Some((_, _, after)) = first::<LenIvMarker>(private) else {
         return Ok(4);

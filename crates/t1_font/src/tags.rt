@@ -1,13 +1,12 @@
 //! Tags of subsets: six capitals and `+`, which programs put before the name of a font that they cut (ISO 32000-1, 9.6.4).
 
-ghost use Rattle.std.specs.Prelude.{◌≡◌, ◌++◌, ℕ, List, codes, IfOk, MatchOption};
+ghost use Rattle.std.specs.Prelude.{◌≡◌, ℕ, List, codes};
 ghost use Rattle.std.specs.List.{list_all};
 ghost use Rattle.std.specs.Option.{option_map};
-ghost use Rattle.t1_font.specs.Tags.{is_capital, tag, name_marker, name_begins, untagged, begins_encoding, untagged_head};
+ghost use Rattle.t1_font.specs.Tags.{is_capital, tag, name_marker, name_begins, untagged, name_in, font_name, is_tagged, tagged_name};
 
 use crate::markers::{Marker, first};
-use crate::words::is_regular;
-use std::alloc::{AllocError, Global};
+use crate::words::regular_at;
 use t1_bytes::texts::{count_at, fixed_at, white_at};
 
 /// What stands before the name of a font.
@@ -59,7 +58,7 @@ fn tag_at(bytes: &[u8]) -> Option<&[u8]>
 }
 
 /// Bytes without the tags that they begin with.
-fn untagged(bytes: &[u8]) -> &[u8]
+pub(crate) fn untagged(bytes: &[u8]) -> &[u8]
     ensures { result.now ≡ untagged bytes.now }
 {
     let mut rest = bytes;
@@ -69,42 +68,37 @@ fn untagged(bytes: &[u8]) -> &[u8]
     rest
 }
 
-/// Whether a name, with what follows it, would begin an Encoding.
-#[tactic(auto, using(crate::proofs::even_fonts::TagLemmas::begins_read))]
-fn begins_encoding(name: &[u8]) -> bool
-    ensures { result ≡ begins_encoding name.now }
+/// The name behind the first `/FontName`, white space and a slash of a text.
+fn name_in(text: &[u8]) -> Option<&[u8]>
+    ensures { option_map (λ r. r.now) result ≡ name_in text.now }
 {
-    match fixed_at(name, b"Encoding") {
-        Some((_, rest)) => rest.is_empty() || !is_regular(rest[0]),
-        None => false,
+    let (_, _, behind) = first::<NameMarker>(text)?;
+    let (name, _) = regular_at(behind);
+    Some(name)
+}
+
+/// The name of the font around whose Encoding these two texts stand.
+fn font_name<'a>(head: &'a [u8], clear_tail: &'a [u8]) -> Option<&'a [u8]>
+    ensures { option_map (λ r. r.now) result ≡ font_name (head.now, clear_tail.now) }
+{
+    match name_in(head) {
+        Some(name) => Some(name),
+        None => name_in(clear_tail),
     }
 }
 
-/// What stands before the name in a head and, if the head loses tags, the name without them.
-fn parts_without_tags(head: &[u8]) -> Option<(&[u8], &[u8])>
-    ensures { MatchOption result (untagged_head head.now
-        ≡ head.now) (λ x. x.0.now ++ x.1.now ≡ untagged_head head.now) }
+/// Whether a name has tags, and behind them a name.
+fn is_tagged(name: &[u8]) -> bool
+    ensures { result ≡ is_tagged name.now }
 {
-    let (_, _, behind) = first::<NameMarker>(head)?;
-    let name = untagged(behind);
-    if name.len() == behind.len() || begins_encoding(name) {
-        return None;
-    }
-    let (before, _) = head.split_at(head.len().saturating_sub(behind.len()));
-    Some((before, name))
+    let behind = untagged(name);
+    !behind.is_empty() && behind.len() < name.len()
 }
 
-/// A head without the tags of its font's name, if it has any.
-pub(crate) fn untagged_head(alloc: Global, head: &[u8]) -> Result<Option<Vec<u8>>, AllocError>
-    ensures { IfOk result (λ o. MatchOption o (untagged_head head.now
-        ≡ head.now) (λ v. v.items ≡ untagged_head head.now)) }
+/// The name of the font around whose Encoding these two texts stand, if it has tags.
+pub(crate) fn tagged_name<'a>(head: &'a [u8], clear_tail: &'a [u8]) -> Option<&'a [u8]>
+    ensures { option_map (λ r. r.now) result ≡ tagged_name (head.now, clear_tail.now) }
 {
-    match parts_without_tags(head) {
-        Some((before, name)) => {
-            let mut cut = Vec::from_slice(alloc, before)?;
-            cut.extend_from_slice(name)?;
-            Ok(Some(cut))
-        }
-        None => Ok(None),
-    }
+    let name = font_name(head, clear_tail)?;
+    if is_tagged(name) { Some(name) } else { None }
 }

@@ -13,7 +13,7 @@ use Rattle.t1_font.specs.EveningLaws.{EvenStays, FilledStays, EvenedTwice, IsEve
 use Rattle.t1_font.proofs.MapLemmas.{joined, get-merged, get-retain}
 use Rattle.t1_font.proofs.even_fonts.Evened.{stubs_below}
 use Rattle.t1_font.proofs.even_fonts.Filled.{is_one, find_stub, indices_next}
-use Rattle.t1_font.proofs.even_fonts.UntaggedTwice.{untagged_head_twice}
+use Rattle.t1_font.proofs.even_fonts.EvenTexts.{even_texts_stay}
 
 max_small : (n m : ℕ) → n ≤ m → max n m ≡ m
 max_small n m h = omega (arith, h)
@@ -23,18 +23,8 @@ table_stays n None h = refl
 table_stays n (Some t) h = λ i. Some (record { declared = max_small n t.declared h i; rd = t.rd; put = t.put; closing = t.closing })
 
 pub even_stays : EvenStays
-even_stays n f head count = λ i. record {
-  shell = record {
-    head = head i;
-    clear_tail = f.shell.clear_tail;
-    private = f.shell.private;
-    middle = f.shell.middle;
-    tail = f.shell.tail;
-    len_iv = f.shell.len_iv;
-    subrs = table_stays n f.shell.subrs count i;
-    glyphs_rd = f.shell.glyphs_rd;
-    glyphs_def = f.shell.glyphs_def;
-  };
+even_stays n f texts count = λ i. record {
+  shell = record (texts i) { subrs = table_stays n f.shell.subrs count i };
   encoding = f.encoding;
   subrs = f.subrs;
   glyphs = f.glyphs;
@@ -109,7 +99,7 @@ pub even_fonts_stay : EvenFontsStay
 even_fonts_stay f fs h =
     let counts = counts_below (declared_count f.shell.subrs) fs (all_of (λ g (e : IsEvenWith f g). e.count) fs h) in
     let shells : evened_shells fs ≡ fs = each_stays (even (largest_count fs)) fs
-    (all_of (λ g (e : IsEvenWith f g). even_stays (largest_count fs) g e.head (omega (arith, counts, e.count))) fs h) in
+    (all_of (λ g (e : IsEvenWith f g). even_stays (largest_count fs) g e.texts (omega (arith, counts, e.count))) fs h) in
     let own = indices_in f.subrs fs (all_of (λ g (e : IsEvenWith f g). e.present) fs h) in
     ap filled_all shells
     ∙ each_stays (filled (indices_of_all fs)) fs (all_of (λ g (e : IsEvenWith f g). font_stays g (indices_of_all fs) (λ q one. e.present q ∙ own q one)) fs h)
@@ -123,17 +113,7 @@ raised_twice n k (Some t) h = λ i. Some (record { declared = max_small n (max k
 -- a font that was made even and filled stays when it is made even again
 even_twice : (n k : ℕ) (indices : List ℕ) (f : FontValue) → n ≤ k → even n (filled indices (even k f)) ≡ filled indices (even k f)
 even_twice n k indices f h = λ i. record {
-  shell = record {
-    head = untagged_head_twice f.shell.head i;
-    clear_tail = f.shell.clear_tail;
-    private = f.shell.private;
-    middle = f.shell.middle;
-    tail = f.shell.tail;
-    len_iv = f.shell.len_iv;
-    subrs = raised_twice n k f.shell.subrs h i;
-    glyphs_rd = f.shell.glyphs_rd;
-    glyphs_def = f.shell.glyphs_def;
-  };
+  shell = record (even_texts_stay f.shell i) { subrs = raised_twice n k f.shell.subrs h i };
   encoding = f.encoding;
   subrs = with_stubs (below (declared_count (option_map (raised k) f.shell.subrs)) indices) f.subrs (entries f.subrs);
   glyphs = f.glyphs;

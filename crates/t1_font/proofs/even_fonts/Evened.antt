@@ -14,7 +14,7 @@ use Rattle.t1_font.specs.Markers.{encoding_marker}
 use Rattle.t1_font.specs.FontValue.{FontValue, Shell, SubrsShell, Numbered, declared_count, count_limit, weight_limit, weight}
 use Rattle.t1_font.specs.Cut.{stub}
 use Rattle.t1_font.specs.Maps.{merged}
-use Rattle.t1_font.specs.Tags.{begins_encoding, untagged_head}
+use Rattle.t1_font.specs.EvenTexts.{even_texts}
 use Rattle.t1_font.specs.Evening.{raised, even_shell, even, stubs_at, below, with_stubs, filled}
 use Rattle.t1_font.specs.IsFont.{IsFont, NoMarker, IsCharstring, SubrsFit, SubrWords, IsWord, IsPhrase}
 use Rattle.t1_font.proofs.ByteLemmas.{AreBytes-append}
@@ -22,82 +22,7 @@ use Rattle.t1_font.proofs.canonical.Borders.{fixed_strip}
 use Rattle.t1_font.proofs.canonical.Moves.{NoneIn-append, encoding_moves, eexec_moves}
 use Rattle.t1_font.proofs.MapLemmas.{is_or_not, joined, get-merged, get-retain, find_first, Some_None}
 use Rattle.t1_font.proofs.Kept.{iv_small, merged_has}
-use Rattle.t1_font.proofs.even_fonts.TagLemmas.{Untagged, loses_tags}
-
--- ---- no marker stands in a head without tags
-
-module _ {A : Type 0} (g : Grammar A) where
-  front_none : (xs ys after : List ℕ) → NoneIn g (xs ++ ys) after → NoneIn g xs (ys ++ after)
-  front_none [] ys after h = tt
-  front_none (b ∷ xs) ys after h = (subst (λ (u : List ℕ). NotAtFront g (b ∷ u)) (append_assoc xs ys after) h.0, front_none xs ys after h.1)
-
-  back_none : (xs ys after : List ℕ) → NoneIn g (xs ++ ys) after → NoneIn g ys after
-  back_none [] ys after h = h
-  back_none (b ∷ xs) ys after h = back_none xs ys after h.1
-
-  without_tags : ((front r s : List ℕ) → NoneIn g front (47 ∷ r) → NoneIn g front (47 ∷ s)) → (before tags name : List ℕ) →
-      NotAtFront g (47 ∷ (name ++ 47 ∷ [])) → NoMarker g (before ++ 47 ∷ (tags ++ name)) → NoMarker g (before ++ 47 ∷ name)
-  without_tags moves before tags name none h =
-      NoneIn-append g before (47 ∷ name) (47 ∷ [])
-      (moves before ((tags ++ name) ++ 47 ∷ []) (name ++ 47 ∷ []) (front_none before (47 ∷ (tags ++ name)) (47 ∷ []) h))
-      (none, back_none tags name (47 ∷ []) (back_none before (47 ∷ (tags ++ name)) (47 ∷ []) h).1)
-
-not_some : {A : Type 0} (o : Option A) → is_some o ≡ false → o ≡ None
-not_some None h = refl
-not_some (Some x) h = absurd cc
-
-no_encoding_there : (name : List ℕ) → begins_encoding name ≡ false → NotAtFront encoding_marker (47 ∷ (name ++ 47 ∷ []))
-no_encoding_there name h = unspelled encoding_marker (47 ∷ (name ++ 47 ∷ [])) (not_some (encoding_marker.read (47 ∷ (name ++ 47 ∷ []))) h)
-
-no_eexec_there : (text : List ℕ) → NotAtFront eexec_marker (47 ∷ text)
-unfolding eexec_marker
-no_eexec_there text = unspelled eexec_marker (47 ∷ text) (ap (option_and_then _) (fixed_strip (codes "currentfile") (47 ∷ text)))
-
-front_bytes : (xs ys : List ℕ) → AreBytes (xs ++ ys) → AreBytes xs
-front_bytes [] ys h = tt
-front_bytes (b ∷ xs) ys h = (h.0, front_bytes xs ys h.1)
-
-back_bytes : (xs ys : List ℕ) → AreBytes (xs ++ ys) → AreBytes ys
-back_bytes [] ys h = h
-back_bytes (b ∷ xs) ys h = back_bytes xs ys h.1
-
--- what a head keeps
-pub record HeadFits (old new : List ℕ) : Type 0 where
-  pub encoding : NoMarker encoding_marker old → NoMarker encoding_marker new
-  pub eexec : NoMarker eexec_marker old → NoMarker eexec_marker new
-  pub bytes : AreBytes old → AreBytes new
-  pub short : length new ≤ length old
-
--- a head without its tags is no longer, is bytes, and has no more markers
-pub head_fits : (head : List ℕ) → HeadFits head (untagged_head head)
-head_fits head = by_tags (untagged_head head) (loses_tags head)
-  where
-    by_tags : (new : List ℕ) → (new ≡ head) ⊎ Untagged head new → HeadFits head new
-    by_tags new (inl e) = record {
-      encoding = subst (NoMarker encoding_marker) (sym e);
-      eexec = subst (NoMarker eexec_marker) (sym e);
-      bytes = subst AreBytes (sym e);
-      short = omega (arith, ap length e);
-    }
-    by_tags new (inr u) = record {
-      encoding = λ h. subst (NoMarker encoding_marker) (sym u.new_is) (without_tags encoding_marker encoding_moves u.before u.tags u.name
-          (no_encoding_there u.name u.no_encoding) (subst (NoMarker encoding_marker) u.whole h));
-      eexec = λ h. subst (NoMarker eexec_marker) (sym u.new_is)
-          (without_tags eexec_marker eexec_moves u.before u.tags u.name (no_eexec_there (u.name ++ 47 ∷ [])) (subst (NoMarker eexec_marker) u.whole h));
-      bytes = λ h.
-          let all : AreBytes (u.before ++ 47 ∷ (u.tags ++ u.name)) = subst AreBytes u.whole h in
-          let back : AreBytes (47 ∷ (u.tags ++ u.name)) = back_bytes u.before (47 ∷ (u.tags ++ u.name)) all in
-          subst AreBytes (sym u.new_is)
-          (AreBytes-append u.before (47 ∷ u.name) (front_bytes u.before (47 ∷ (u.tags ++ u.name)) all) (back.0, back_bytes u.tags u.name back.1));
-      short = omega (
-        arith,
-        ap length u.whole,
-        ap length u.new_is,
-        length-append u.before (47 ∷ (u.tags ++ u.name)),
-        length-append u.tags u.name,
-        length-append u.before (47 ∷ u.name),
-      );
-    }
+use Rattle.t1_font.proofs.even_fonts.EvenTexts.{even_shorter, empty_stays, even_clear_shell, even_private_shell, even_are_texts}
 
 -- ---- a font made even
 
@@ -106,7 +31,7 @@ words_raised n [] t h = h
 words_raised n (e ∷ es) t h = h
 
 -- Subrs still fit a shell that declares more
-subrs_raised : (n : ℕ) (s : Shell) (o : Option SubrsShell) (m : Numbered) → n ≤ count_limit → SubrsFit s o m →
+subrs_raised : (n : ℕ) (s : Shell) (o : Option SubrsShell) (m : Numbered) → n ≤ count_limit → SubrsFit (even_texts s) o m →
     SubrsFit (even_shell n s) (option_map (raised n) o) m
 subrs_raised n s None m le h = h
 subrs_raised n s (Some t) m le h = record {
@@ -117,38 +42,43 @@ subrs_raised n s (Some t) m le h = record {
   closing = h.closing;
 }
 
+-- the middle of a font without Subrs stays empty
+no_middle : (s : Shell) (o : Option SubrsShell) (m : Numbered) → SubrsFit s o m → SubrsFit (even_texts s) o m
+no_middle s None m h = (h.0, empty_stays s.middle h.1)
+no_middle s (Some t) m h = h
+
 -- a font made even weighs no more
 pub even_light : (n : ℕ) (f : FontValue) → weight (even n f) ≤ weight f
-even_light n f = omega (arith, (head_fits f.shell.head).short)
+even_light n f = omega (arith, even_shorter f.shell)
 
 -- a font made even is a font
 pub even_is_font : (n : ℕ) (f : FontValue) → n ≤ count_limit → IsFont f → IsFont (even n f)
 even_is_font n f le h =
-    let fits = head_fits f.shell.head in
     let g = h.glyphs in
-    let p = h.private in
+    let clear = even_clear_shell f.shell h.clear in
+    let private = even_private_shell f.shell h.private in
     record {
       clear = record {
-        head_encoding = fits.encoding h.clear.head_encoding;
-        head_eexec = fits.eexec h.clear.head_eexec;
-        tail_apart = h.clear.tail_apart;
-        tail_ends = h.clear.tail_ends;
+        head_encoding = clear.head_encoding;
+        head_eexec = clear.head_eexec;
+        tail_apart = clear.tail_apart;
+        tail_ends = clear.tail_ends;
       };
       private = record {
-        iv = p.iv;
-        no_subrs = p.no_subrs;
-        no_chars = p.no_chars;
-        middle_apart = p.middle_apart;
-        middle_chars = p.middle_chars;
-        middle_subrs = p.middle_subrs;
-        tail_apart = p.tail_apart;
-        tail_subrs = p.tail_subrs;
-        tail_ends = p.tail_ends;
+        iv = private.iv;
+        no_subrs = private.no_subrs;
+        no_chars = private.no_chars;
+        middle_apart = private.middle_apart;
+        middle_chars = private.middle_chars;
+        middle_subrs = private.middle_subrs;
+        tail_apart = private.tail_apart;
+        tail_subrs = private.tail_subrs;
+        tail_ends = private.tail_ends;
       };
-      texts =
-          record { head = fits.bytes h.texts.head; clear_tail = h.texts.clear_tail; private = h.texts.private; middle = h.texts.middle; tail = h.texts.tail };
+      texts = let t = even_are_texts f.shell h.texts in
+          record { head = t.head; clear_tail = t.clear_tail; private = t.private; middle = t.middle; tail = t.tail };
       encoding = h.encoding;
-      subrs = subrs_raised n f.shell f.shell.subrs f.subrs le h.subrs;
+      subrs = subrs_raised n f.shell f.shell.subrs f.subrs le (no_middle f.shell f.shell.subrs f.subrs h.subrs);
       glyphs = record { rd = g.rd; def = g.def; names = g.names; bodies = g.bodies; notdef = g.notdef; few = g.few };
       light = omega (arith, even_light n f, h.light);
     }

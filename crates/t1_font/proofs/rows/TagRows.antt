@@ -1,53 +1,72 @@
--- Heads with tags before the names of their fonts, and what is left of them.
-use Rattle.std.proofs.Common.{◌≡◌, refl}
+-- Texts around an Encoding with tags before the names of their fonts, and what is left of them.
+use Rattle.std.proofs.Common.{◌≡◌, [], List, ℕ, refl}
 use Rattle.std.specs.Prelude.{codes}
 use Rattle.t1_grammar.specs.Grammar.{first_at}
-use Rattle.t1_font.specs.Markers.{encoding_marker}
-use Rattle.t1_font.specs.Tags.{tag, name_marker, behind_tags, untagged_head}
+use Rattle.t1_font.specs.Tags.{tag, name_marker, behind_tags}
+use Rattle.t1_font.specs.EvenTexts.{without_tags}
 
-a_tag : untagged_head (codes "%! /FontName /ABCDEF+Tiny def ") ≡ codes "%! /FontName /Tiny def "
-unfolding first_at tag name_marker behind_tags encoding_marker
+a_tag : without_tags (codes "%! /FontName /ABCDEF+Tiny def ", []) ≡ (codes "%! /FontName /Tiny def ", [])
+unfolding first_at tag name_marker behind_tags
 a_tag = refl
 
-two_tags : untagged_head (codes "/FontName/ABCDEF+GHIJKL+Tiny def") ≡ codes "/FontName/Tiny def"
-unfolding first_at tag name_marker behind_tags encoding_marker
+two_tags : without_tags (codes "/FontName/ABCDEF+GHIJKL+Tiny def", []) ≡ (codes "/FontName/Tiny def", [])
+unfolding first_at tag name_marker behind_tags
 two_tags = refl
 
-no_tag : untagged_head (codes "/FontName /Tiny def") ≡ codes "/FontName /Tiny def"
-unfolding first_at tag name_marker behind_tags encoding_marker
+no_tag : without_tags (codes "/FontName /Tiny def", []) ≡ (codes "/FontName /Tiny def", [])
+unfolding first_at tag name_marker behind_tags
 no_tag = refl
 
-five_letters : untagged_head (codes "/FontName /ABCDE+Tiny def") ≡ codes "/FontName /ABCDE+Tiny def"
-unfolding first_at tag name_marker behind_tags encoding_marker
+five_letters : without_tags (codes "/FontName /ABCDE+Tiny def", []) ≡ (codes "/FontName /ABCDE+Tiny def", [])
+unfolding first_at tag name_marker behind_tags
 five_letters = refl
 
-seven_letters : untagged_head (codes "/FontName /ABCDEFG+Tiny def") ≡ codes "/FontName /ABCDEFG+Tiny def"
-unfolding first_at tag name_marker behind_tags encoding_marker
+seven_letters : without_tags (codes "/FontName /ABCDEFG+Tiny def", []) ≡ (codes "/FontName /ABCDEFG+Tiny def", [])
+unfolding first_at tag name_marker behind_tags
 seven_letters = refl
 
-lower_case : untagged_head (codes "/FontName /abcdef+Tiny def") ≡ codes "/FontName /abcdef+Tiny def"
-unfolding first_at tag name_marker behind_tags encoding_marker
+lower_case : without_tags (codes "/FontName /abcdef+Tiny def", []) ≡ (codes "/FontName /abcdef+Tiny def", [])
+unfolding first_at tag name_marker behind_tags
 lower_case = refl
 
-no_slash : untagged_head (codes "/FontName ABCDEF+Tiny def") ≡ codes "/FontName ABCDEF+Tiny def"
-unfolding first_at tag name_marker behind_tags encoding_marker
+-- MetaPost writes a hyphen, which makes no tag
+hyphen : without_tags (codes "/FontName /ABCDEF-Tiny def", []) ≡ (codes "/FontName /ABCDEF-Tiny def", [])
+unfolding first_at tag name_marker behind_tags
+hyphen = refl
+
+no_slash : without_tags (codes "/FontName ABCDEF+Tiny def", []) ≡ (codes "/FontName ABCDEF+Tiny def", [])
+unfolding first_at tag name_marker behind_tags
 no_slash = refl
 
+-- a name that is nothing but a tag stays
+tag_alone : without_tags (codes "/FontName /ABCDEF+ def", []) ≡ (codes "/FontName /ABCDEF+ def", [])
+unfolding first_at tag name_marker behind_tags
+tag_alone = refl
+
 -- the first name that has its slash is the font's
-second_name : untagged_head (codes "/FontName dup /FontName /ABCDEF+Tiny def") ≡ codes "/FontName dup /FontName /Tiny def"
-unfolding first_at tag name_marker behind_tags encoding_marker
+second_name : without_tags (codes "/FontName dup /FontName /ABCDEF+Tiny def", []) ≡ (codes "/FontName dup /FontName /Tiny def", [])
+unfolding first_at tag name_marker behind_tags
 second_name = refl
 
--- a tag in another name stays
-elsewhere : untagged_head (codes "/FullName (ABCDEF+Tiny) /FontName /Tiny def /X /GHIJKL+Y") ≡ codes "/FullName (ABCDEF+Tiny) /FontName /Tiny def /X /GHIJKL+Y"
-unfolding first_at tag name_marker behind_tags encoding_marker
+-- the name loses its tag wherever it stands as a word, also in the first line
+everywhere : without_tags (codes "%!PS-AdobeFont-1.0: ABCDEF+Tiny 1 /FullName (ABCDEF+Tiny) /FontName /ABCDEF+Tiny def", codes " % ABCDEF+Tiny")
+    ≡ (codes "%!PS-AdobeFont-1.0: Tiny 1 /FullName (Tiny) /FontName /Tiny def", codes " % Tiny")
+unfolding first_at tag name_marker behind_tags
+everywhere = refl
+
+-- a longer word is another name, and so is one with another tag
+elsewhere : without_tags (codes "ABCDEF+TinyBold XABCDEF+Tiny GHIJKL+Tiny /FontName /ABCDEF+Tiny def", [])
+    ≡ (codes "ABCDEF+TinyBold XABCDEF+Tiny GHIJKL+Tiny /FontName /Tiny def", [])
+unfolding first_at tag name_marker behind_tags
 elsewhere = refl
 
--- `Encoding` would begin an Encoding, and a longer name wouldn't
-encoding : untagged_head (codes "/FontName /ABCDEF+Encoding def") ≡ codes "/FontName /ABCDEF+Encoding def"
-unfolding first_at tag name_marker behind_tags encoding_marker
-encoding = refl
+-- where the name has no tag, none is taken elsewhere
+untagged_name : without_tags (codes "/FullName (ABCDEF+Tiny) /FontName /Tiny def /X /GHIJKL+Y", [])
+    ≡ (codes "/FullName (ABCDEF+Tiny) /FontName /Tiny def /X /GHIJKL+Y", [])
+unfolding first_at tag name_marker behind_tags
+untagged_name = refl
 
-encodings : untagged_head (codes "/FontName /ABCDEF+Encodings def") ≡ codes "/FontName /Encodings def"
-unfolding first_at tag name_marker behind_tags encoding_marker
-encodings = refl
+-- where the head has no name, that of the clear tail is the font's
+behind_encoding : without_tags (codes "%! ABCDEF+Tiny ", codes " /FontName /ABCDEF+Tiny def ") ≡ (codes "%! Tiny ", codes " /FontName /Tiny def ")
+unfolding first_at tag name_marker behind_tags
+behind_encoding = refl

@@ -1,0 +1,265 @@
+//! Texts that are rewritten from left to right: white space is squeezed, lines that number a font go, and names lose their tags.
+
+ghost use Rattle.std.specs.Prelude.{◌≡◌, ◌==◌, not, Some, length, take_while, IfOk};
+ghost use Rattle.std.specs.List.{list_any};
+ghost use Rattle.std.specs.Option.{option_map};
+ghost use Rattle.t1_grammar.specs.Grammar.{run};
+ghost use Rattle.t1_bytes.specs.Eexec.{is_blank};
+ghost use Rattle.t1_font.specs.Words.{is_regular};
+ghost use Rattle.t1_font.specs.Rewriting.{rewritten, parted};
+ghost use Rattle.t1_font.specs.Squeezing.{ends_line, one_space, squeezed_piece};
+ghost use Rattle.t1_font.specs.Identity.{is_digit_or_blank, one_blank, unique_id, extended_id, access, defining, goes_on, identity_line, is_in_line, first_line, unnumbered_piece};
+ghost use Rattle.t1_font.specs.Tags.{renamed, untagged_piece};
+ghost use Rattle.t1_font.specs.Rules.{piece_of};
+
+use crate::tags::untagged;
+use crate::words::{decimal_at, is_regular, keyword_at, regular_at, regular_comes};
+use std::alloc::{AllocError, Global};
+use t1_bytes::texts::fixed_at;
+
+/// How a text is rewritten.
+#[derive(Clone, Copy)]
+pub(crate) enum Rule<'a> {
+    /// Each longest run of blanks, tabs, CR and LF becomes one byte.
+    Squeezed,
+    /// Lines that number the font go.
+    Unnumbered,
+    /// This name loses its tags wherever it stands as a word.
+    Untagged(&'a [u8]),
+}
+
+// ---- white space
+
+/// Whether a byte is a blank, a tab, CR or LF.
+fn is_blank(byte: u8) -> bool
+    ensures { result ≡ is_blank byte }
+{
+    byte <= b' ' && matches!(byte, b' ' | b'\t' | b'\r' | b'\n')
+}
+
+/// How many blanks, tabs, CR and LF come first.
+fn blank_len(text: &[u8]) -> usize
+    ensures { result ≡ length (take_while is_blank text.now) }
+{
+    text.iter().take_while(|b| is_blank(**b)).count()
+}
+
+/// How many other bytes come first.
+fn solid_len(text: &[u8]) -> usize
+    ensures { result ≡ length (take_while (λ b. not (is_blank b)) text.now) }
+{
+    text.iter().take_while(|b| !is_blank(**b)).count()
+}
+
+/// Whether a run has CR or LF.
+fn has_line_end(run: &[u8]) -> bool
+    ensures { result ≡ list_any ends_line run.now }
+{
+    run.iter().any(|b| *b == b'\r' || *b == b'\n')
+}
+
+/// What becomes of a run of blanks, tabs, CR and LF.
+fn one_space(run: &[u8]) -> &'static [u8]
+    ensures { result.now ≡ one_space run.now }
+{
+    if has_line_end(run) { b"\n" } else { b" " }
+}
+
+/// What becomes of the first run of a text, and what stands behind it.
+#[tactic(auto, unfolding(crate::specs::Squeezing::squeezed_piece))]
+fn squeezed_piece(text: &[u8]) -> (&[u8], &[u8])
+    ensures { (result.0.now, result.1.now) ≡ squeezed_piece text.now }
+{
+    if !text.is_empty() && is_blank(text[0]) {
+        let (run, rest) = text.split_at(blank_len(text));
+        (one_space(run), rest)
+    } else {
+        text.split_at(solid_len(text))
+    }
+}
+
+// ---- lines that number a font
+
+/// A blank, or none.
+#[tactic(auto, unfolding(crate::specs::Identity::one_blank))]
+fn one_blank_at(text: &[u8]) -> &[u8]
+    ensures { option_map (λ x. x.1) (one_blank.read text.now) ≡ Some result.now }
+{
+    match fixed_at(text, b" ") {
+        Some((_, rest)) => rest,
+        None => text,
+    }
+}
+
+/// What stands behind `/UniqueID` and a decimal.
+#[tactic(auto, unfolding(crate::specs::Identity::unique_id))]
+fn unique_id_at(text: &[u8]) -> Option<&[u8]>
+    ensures { option_map (λ r. r.now) result ≡ option_map (λ x. x.1) (unique_id.read text.now) }
+{
+    let (_, rest) = fixed_at(text, b"/UniqueID ")?;
+    let (_, rest) = decimal_at(rest)?;
+    Some(rest)
+}
+
+/// How many digits and blanks come first.
+fn numbers_len(text: &[u8]) -> usize
+    ensures { result ≡ length (take_while is_digit_or_blank text.now) }
+{
+    text.iter()
+        .take_while(|b| b'0' <= **b && **b <= b'9' || **b == b' ')
+        .count()
+}
+
+/// What stands behind `/XUID` and numbers in brackets.
+#[tactic(auto, unfolding(crate::specs::Identity::extended_id))]
+fn extended_id_at(text: &[u8]) -> Option<&[u8]>
+    ensures { option_map (λ r. r.now) result ≡ option_map (λ x. x.1) (extended_id.read text.now) }
+{
+    let (_, rest) = fixed_at(text, b"/XUID")?;
+    let (_, rest) = fixed_at(one_blank_at(rest), b"[")?;
+    let (_, rest) = rest.split_at(numbers_len(rest));
+    let (_, rest) = fixed_at(rest, b"]")?;
+    Some(rest)
+}
+
+/// What stands behind `readonly` or `noaccess` and a blank.
+#[tactic(auto, unfolding(crate::specs::Identity::access))]
+fn access_at(text: &[u8]) -> Option<&[u8]>
+    ensures { option_map (λ r. r.now) result ≡ option_map (λ x. x.1) (access.read text.now) }
+{
+    let (_, rest) = match keyword_at(text, b"readonly") {
+        Some(x) => x,
+        None => keyword_at(text, b"noaccess")?,
+    };
+    let (_, rest) = fixed_at(rest, b" ")?;
+    Some(rest)
+}
+
+/// What stands behind `def`, `ND` or `|-`.
+#[tactic(auto, unfolding(crate::specs::Identity::defining))]
+fn defining_at(text: &[u8]) -> Option<&[u8]>
+    ensures { option_map (λ r. r.now) result ≡ option_map (λ x. x.1) (defining.read text.now) }
+{
+    if let Some((_, rest)) = keyword_at(text, b"def") {
+        return Some(rest);
+    }
+    if let Some((_, rest)) = keyword_at(text, b"ND") {
+        return Some(rest);
+    }
+    let (_, rest) = keyword_at(text, b"|-")?;
+    Some(rest)
+}
+
+/// Whether a name comes, or the end of the dictionary.
+fn goes_on(text: &[u8]) -> bool
+    ensures { result ≡ goes_on text.now }
+{
+    fixed_at(text, b"/").is_some() || fixed_at(text, b"currentdict").is_some()
+}
+
+/// What stands behind a line that numbers its font.
+#[tactic(auto, unfolding(crate::specs::Identity::identity_line))]
+fn identity_line_at(text: &[u8]) -> Option<&[u8]>
+    ensures { option_map (λ r. r.now) result ≡ option_map (λ x. x.1) (identity_line.read text.now) }
+{
+    let rest = match unique_id_at(text) {
+        Some(rest) => rest,
+        None => extended_id_at(text)?,
+    };
+    let rest = one_blank_at(rest);
+    let rest = match access_at(rest) {
+        Some(behind) => behind,
+        None => rest,
+    };
+    let rest = defining_at(rest)?;
+    let (_, rest) = fixed_at(rest, b"\n")?;
+    if !goes_on(rest) {
+        return None;
+    }
+    Some(rest)
+}
+
+/// How many bytes come before the first LF.
+fn line_len(text: &[u8]) -> usize
+    ensures { result ≡ length (take_while is_in_line text.now) }
+{
+    text.iter().take_while(|b| **b != b'\n').count()
+}
+
+/// A line, with the LF that ends it, and what stands behind it.
+fn first_line(text: &[u8]) -> (&[u8], &[u8])
+    ensures { (result.0.now, result.1.now) ≡ first_line text.now }
+{
+    let len = line_len(text);
+    if len < text.len() {
+        text.split_at(len + 1)
+    } else {
+        text.split_at(len)
+    }
+}
+
+/// The first line, or nothing if it numbers the font, and what stands behind it.
+#[tactic(auto, unfolding(crate::specs::Identity::unnumbered_piece))]
+fn unnumbered_piece(text: &[u8]) -> (&[u8], &[u8])
+    ensures { (result.0.now, result.1.now) ≡ unnumbered_piece text.now }
+{
+    match identity_line_at(text) {
+        Some(rest) => (&[], rest),
+        None => first_line(text),
+    }
+}
+
+// ---- tags
+
+/// How many bytes come first that aren't regular.
+fn break_len(text: &[u8]) -> usize
+    ensures { result ≡ length (take_while (λ b. not (is_regular b)) text.now) }
+{
+    text.iter().take_while(|b| !is_regular(**b)).count()
+}
+
+/// A word, without its tags if it is this name.
+fn renamed<'a>(name: &'a [u8], word: &'a [u8]) -> &'a [u8]
+    ensures { result.now ≡ renamed name.now word.now }
+{
+    if name == word { untagged(name) } else { word }
+}
+
+/// The first word of a text, or what stands between words, and what stands behind it.
+fn untagged_piece<'a>(name: &'a [u8], text: &'a [u8]) -> (&'a [u8], &'a [u8])
+    ensures { (result.0.now, result.1.now) ≡ untagged_piece name.now text.now }
+{
+    if regular_comes(text) {
+        let (word, rest) = regular_at(text);
+        (renamed(name, word), rest)
+    } else {
+        text.split_at(break_len(text))
+    }
+}
+
+// ---- texts
+
+/// What becomes of the first piece of a text, and what stands behind it.
+fn piece<'a>(rule: Rule<'a>, text: &'a [u8]) -> (&'a [u8], &'a [u8])
+    ensures { (result.0.now, result.1.now) ≡ piece_of rule.entry text.now }
+{
+    match rule {
+        Rule::Squeezed => squeezed_piece(text),
+        Rule::Unnumbered => unnumbered_piece(text),
+        Rule::Untagged(name) => untagged_piece(name, text),
+    }
+}
+
+/// A text, rewritten.
+pub(crate) fn rewritten(alloc: Global, rule: Rule<'_>, text: &[u8]) -> Result<Vec<u8>, AllocError>
+    ensures { IfOk result (λ v. v.items ≡ rewritten (piece_of rule.entry) text.now) }
+{
+    let mut new = Vec::with_capacity(alloc, text.len())?;
+    let mut rest = text;
+    'pieces: while !rest.is_empty() {
+        let (put, behind) = piece(rule, rest);
+        new.extend_from_slice(put)?;
+        rest = behind;
+    }
+    Ok(new)
+}
