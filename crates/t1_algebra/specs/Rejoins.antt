@@ -1,13 +1,13 @@
--- Subsets that were cut to their first Subrs and tagged, and what they come to when they are made even and merged.
+-- Subsets that other programs cut, and what they come to when they are made even and merged.
 use Rattle.std.specs.Prelude.{◌≡◌, ℕ, ◌≤◌, ◌<◌, max, nat_lt, true, List, [], ◌∷◌, map, IsPermutation}
 use Rattle.std.specs.List.{AllByRecursion}
 use Rattle.std.specs.Option.{option_map}
 use Rattle.std.specs.FinMap as maps
 use Rattle.std.specs.FinSet as sets
-use Rattle.t1_join.specs.Groupings.{Grouping, leaves}
+use Rattle.t1_join.specs.Groupings.{Grouping, leaves, map_grouping}
 use Rattle.t1_font.specs.FontValue.{FontValue, SubrsShell, declared_count}
 use Rattle.t1_font.specs.IsFont.{IsFont}
-use Rattle.t1_font.specs.Tags.{untagged_head}
+use Rattle.t1_font.specs.EvenTexts.{even_texts}
 use Rattle.t1_font.specs.Evening.{evened}
 use Rattle.t1_algebra.specs.Interpreter.{Names}
 use Rattle.t1_algebra.specs.Keep.{keep, kept, subset}
@@ -29,13 +29,9 @@ cut_to n f = record f {
   subrs = maps.retain_keys f.subrs (λ i. nat_lt i n);
 }
 
--- a font with another head
-abbrev pub with_head : List ℕ → FontValue → FontValue
-with_head head f = record f { shell = record f.shell { head = head } }
-
--- a font without a tag
-abbrev pub without_tag : FontValue → FontValue
-without_tag f = with_head (untagged_head f.shell.head) f
+-- a font whose texts are made even: their white space squeezed, without lines that number the font, and without tags
+abbrev pub with_even_texts : FontValue → FontValue
+with_even_texts f = record f { shell = even_texts f.shell }
 
 -- ---- truncated subsets
 
@@ -45,13 +41,12 @@ pub record Truncated : Type 0 where
   pub names : Names
   pub count : ℕ
 
--- It is the subset of f over names of f, cut to its first Subrs: they include those that it keeps and f has, and f declares no fewer. Its head is that of f
--- with any tag.
+-- It is the subset of f over names of f, cut to its first Subrs, once the texts of both are made even: they may differ in white space, in lines that
+-- number the font, and in tags. The first Subrs include those that it keeps and f has, and f declares no fewer.
 pub record IsTruncated (f : FontValue) (t : Truncated) : Type 0 where
   pub font : IsFont t.font
   pub names : IsOf f t.names
-  pub head : untagged_head t.font.shell.head ≡ untagged_head f.shell.head
-  pub others : with_head f.shell.head t.font ≡ cut_to t.count (subset profile f t.names)
+  pub same : with_even_texts t.font ≡ with_even_texts (cut_to t.count (subset profile f t.names))
   pub kept : (i : ℕ) → sets.contains (kept profile f t.names) i ≡ true → maps.contains_key f.subrs i ≡ true → i < t.count
   pub count : t.count ≤ declared_count f.shell.subrs
 
@@ -72,16 +67,16 @@ abbrev pub largest : List Truncated → ℕ
 largest [] = 0
 largest (t ∷ ts) = max t.count (largest ts)
 
--- the font without its tag, cut to the largest of the counts
+-- the font with even texts, cut to the largest of the counts
 abbrev pub shared_font : FontValue → List Truncated → FontValue
-shared_font f ts = cut_to (largest ts) (without_tag f)
+shared_font f ts = cut_to (largest ts) (with_even_texts f)
 
--- the subset over all the names, without its tag and cut to the largest of the counts
+-- the subset over all the names, with even texts and cut to the largest of the counts
 abbrev pub rejoined : FontValue → List Truncated → FontValue
-rejoined f ts = cut_to (largest ts) (without_tag (subset profile f (names_of_all ts)))
+rejoined f ts = cut_to (largest ts) (with_even_texts (subset profile f (names_of_all ts)))
 
 -- Made even, truncated subsets are subsets of one font; in every order and grouping they merge to the subset over all the names, cut to the largest of the
--- counts and without its tag, and to nothing else; each kept glyph draws in it as in the font.
+-- counts and with even texts, and to nothing else; each kept glyph draws in it as in the font.
 pub record Rejoins (f : FontValue) (ts : List Truncated) : Type 0 where
   pub shared : IsFont (shared_font f ts)
   pub subsets : evened (truncated_fonts ts) ≡ map (subset profile (shared_font f ts)) (sets_of ts)
@@ -94,10 +89,8 @@ TruncatedSubsetsRejoin = (f : FontValue) → IsFont f → (t : Truncated) (ts : 
 
 -- ---- fonts that merge
 
--- a font without a tag before its name
-abbrev pub IsUntagged : FontValue → Type 0
-IsUntagged f = untagged_head f.shell.head ≡ f.shell.head
-
--- fonts without tags that merge in some order and grouping are even already
+-- Fonts that merge in some order and grouping are made even by their texts alone, and then merge in the same order and grouping to what they merged to, with
+-- even texts.
 abbrev pub MergingFontsAreEven : Type 0
-MergingFontsAreEven = (t : Grouping FontValue) (j : FontValue) → Merges profile t j → AllByRecursion IsUntagged (leaves t) → evened (leaves t) ≡ leaves t
+MergingFontsAreEven = (t : Grouping FontValue) (j : FontValue) → Merges profile t j →
+    (evened (leaves t) ≡ map with_even_texts (leaves t)) × Merges profile (map_grouping with_even_texts t) (with_even_texts j)

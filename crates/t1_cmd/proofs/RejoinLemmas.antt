@@ -1,5 +1,5 @@
 -- How the engine that rejoins fonts ends.
-use Rattle.std.proofs.Common.{◌≡◌, ℕ, arith, List, [], ◌∷◌, inl, inr, Result, Ok, Err, sym, ap, subst, ◌∙◌}
+use Rattle.std.proofs.Common.{◌≡◌, ℕ, arith, List, [], ◌∷◌, map, inl, inr, Result, Ok, Err, refl, sym, ap, subst, ◌∙◌}
 use Rattle.std.specs.List.{AllByRecursion}
 use Rattle.t1_bytes.specs.declared.form.Form.{Form}
 use Rattle.t1_font.specs.FontValue.{FontValue}
@@ -9,8 +9,10 @@ use Rattle.t1_font.specs.Filling.{AreLight, AnyHeavy}
 use Rattle.t1_font.specs.IsFont.{IsFont}
 use Rattle.t1_algebra.specs.Merges.{ComesTo}
 use Rattle.t1_algebra.specs.Profile.{profile}
-use Rattle.t1_algebra.specs.Rejoins.{IsUntagged}
-use Rattle.t1_join.specs.Groupings.{one, from_left}
+use Rattle.t1_algebra.specs.Groupings.{Merges}
+use Rattle.t1_algebra.specs.Rejoins.{with_even_texts}
+use Rattle.t1_font.proofs.even_fonts.EvenTexts.{even_shorter}
+use Rattle.t1_join.specs.Groupings.{Grouping, one, two, map_grouping, from_left}
 use Rattle.t1_join.proofs.OrderLemmas.{leaves_from_left}
 use Rattle.t1_algebra.proofs.Orders.{one_result}
 use Rattle.t1_cmd.specs.declared.faults.Reason.{Reason}
@@ -45,11 +47,28 @@ pub all_light : (fs : List FontValue) → AllByRecursion IsFont fs → AreLight 
 all_light [] h = tt
 all_light (f ∷ fs) h = (h.0.light, all_light fs h.1)
 
-even_already : (fs : List FontValue) (j : FontValue) → AllByRecursion IsUntagged fs → ComesTo fs j → evened fs ≡ fs
-even_already [] j u h = absurd h
-even_already (f ∷ fs) j u h =
-    let all = leaves_from_left (one f) fs in
-    subst (λ (gs : List FontValue). evened gs ≡ gs) all (merging_fonts_are_even (from_left (one f) fs) j h (subst (AllByRecursion IsUntagged) (sym all) u))
+-- what fonts of a list that merge from left to right are made of
+abbrev even_list : List FontValue → List FontValue
+even_list fs = map with_even_texts fs
+
+-- a list is grouped from left to right as what is made of each is
+grouped : (t : Grouping FontValue) (fs : List FontValue) → map_grouping with_even_texts (from_left t fs) ≡ from_left (map_grouping with_even_texts t) (even_list fs)
+grouped t [] = refl
+grouped t (f ∷ fs) = grouped (two t (one f)) fs
+
+-- fonts that merge are made even by their texts alone, and come to what they came to, with even texts
+even_merged : (fs : List FontValue) (j : FontValue) → ComesTo fs j → (evened fs ≡ even_list fs) × ComesTo (even_list fs) (with_even_texts j)
+even_merged [] j h = absurd h
+even_merged (f ∷ fs) j h =
+    let both = merging_fonts_are_even (from_left (one f) fs) j h in (
+      subst (λ (gs : List FontValue). evened gs ≡ even_list gs) (leaves_from_left (one f) fs) both.0,
+      subst (λ (t : Grouping FontValue). Merges profile t (with_even_texts j)) (grouped (one f) fs) both.1,
+    )
+
+-- they are within the weight limit
+even_light : (fs : List FontValue) → AllByRecursion IsFont fs → AreLight (even_list fs)
+even_light [] h = tt
+even_light (f ∷ fs) h = (omega (arith, even_shorter f.shell, h.0.light), even_light fs h.1)
 
 comes_to_one : (fs : List FontValue) (j k : FontValue) → ComesTo fs j → ComesTo fs k → j ≡ k
 comes_to_one [] j k h i = absurd h
@@ -61,14 +80,17 @@ one_answer form fs text h (Ok other) k = ap Ok (k.2 ∙ (ap (λ (j : FontValue).
 one_answer form fs text h (Err r) k =
     let never : MergesToFile form fs (Err Memory) = subst (λ (r : Reason). MergesToFile form fs (Err r)) (merges_apart form fs text r h k) k in absurd never
 
-rejoined_so : (form : Form) (fs : List FontValue) (text : List ℕ) → evened fs ≡ fs → AreLight fs → MergesToFile form fs (Ok text)
+rejoined_so : (form : Form) (fs gs : List FontValue) (text : List ℕ) → evened fs ≡ gs → AreLight gs → MergesToFile form gs (Ok text)
     → (answer : Result (List ℕ) Reason) → RejoinsTo form fs answer → answer ≡ Ok text
-rejoined_so form fs text is light h answer (inl a) = one_answer form fs text h answer (subst (λ (gs : List FontValue). MergesToFile form gs answer) is a.1)
-rejoined_so form fs text is light h answer (inr a) = absurd (light_or_heavy fs light (subst AnyHeavy is a.0))
+rejoined_so form fs gs text is light h answer (inl a) = one_answer form gs text h answer (subst (λ (gs : List FontValue). MergesToFile form gs answer) is a.1)
+rejoined_so form fs gs text is light h answer (inr a) = absurd (light_or_heavy gs light (subst AnyHeavy is a.0))
 
--- fonts without tags that merge to a file rejoin to it, and to nothing else
+-- fonts that merge rejoin to the file of what they merge to, with even texts, and to nothing else
 pub rejoins_what_merges : RejoinsWhatMerges
-rejoins_what_merges form fs text fonts u h =
-    let is = even_already fs h.0 u h.1 in
-    let light = all_light fs fonts in
-    (inl (subst AreLight (sym is) light, subst (λ (gs : List FontValue). MergesToFile form gs (Ok text)) (sym is) h), rejoined_so form fs text is light h)
+rejoins_what_merges form fs j fonts comes =
+    let m = even_merged fs j comes in
+    let light = even_light fs fonts in
+    let h : MergesToFile form (even_list fs) (Ok (canon (with_even_texts j) form)) = (with_even_texts j, m.1, refl) in (
+      inl (subst AreLight (sym m.0) light, subst (λ (gs : List FontValue). MergesToFile form gs (Ok (canon (with_even_texts j) form))) (sym m.0) h),
+      rejoined_so form fs (even_list fs) (canon (with_even_texts j) form) m.0 light h,
+    )

@@ -30,7 +30,7 @@ AreCutFiles f (t ∷ ts) [] = ⊥
 AreCutFiles f (t ∷ ts) (file ∷ files) = IsCutFile f t file × AreCutFiles f ts files
 
 -- Of the files of truncated subsets of one font, one or more, this holds of the canonical file of what they rejoin to: the subset over all the names,
--- without its tag and cut to the largest of their counts.
+-- with even texts and cut to the largest of their counts.
 abbrev pub OfRejoined : Form → List (List ℕ) → (List ℕ → Type 0) → Type 0
 OfRejoined form files P = (f : FontValue) → IsFont f → (t : Truncated) (ts : List Truncated) → AreCutFiles f (t ∷ ts) files →
     P (canon (rejoined f (t ∷ ts)) form)

@@ -4,10 +4,12 @@ use Rattle.t1_bytes.specs.declared.form.Form.{Form}
 use Rattle.std.specs.List.{AllByRecursion}
 use Rattle.t1_font.specs.FontValue.{FontValue}
 use Rattle.t1_font.specs.IsFont.{IsFont}
+use Rattle.t1_font.specs.Canon.{canon}
 use Rattle.t1_font.specs.Evening.{evened}
 use Rattle.t1_font.specs.Filling.{AreLight, AnyHeavy}
 use Rattle.t1_subset.specs.declared.conflict.Conflict.TheVariants as conflict
-use Rattle.t1_algebra.specs.Rejoins.{IsUntagged}
+use Rattle.t1_algebra.specs.Merges.{ComesTo}
+use Rattle.t1_algebra.specs.Rejoins.{with_even_texts}
 use Rattle.t1_cmd.specs.declared.faults.Reason.{Reason}
 use Rattle.t1_cmd.specs.declared.faults.Reason.TheVariants.{Merge}
 use Rattle.t1_cmd.specs.Mergers.{MergesToFile}
@@ -17,8 +19,8 @@ abbrev pub RejoinsTo : Form → List FontValue → Result (List ℕ) Reason → 
 RejoinsTo form fonts answer =
     (AreLight (evened fonts) × MergesToFile form (evened fonts) answer) ⊎ (AnyHeavy (evened fonts) × (answer ≡ Err (Merge conflict.Limit)))
 
--- fonts without tags that merge to a file rejoin to it, and to nothing else
+-- fonts that merge rejoin to the file of what they merge to, with even texts, and to nothing else
 abbrev pub RejoinsWhatMerges : Type 0
-RejoinsWhatMerges = (form : Form) (fonts : List FontValue) (text : List ℕ) → AllByRecursion IsFont fonts → AllByRecursion IsUntagged fonts
-    → MergesToFile form fonts (Ok text)
-    → RejoinsTo form fonts (Ok text) × ((answer : Result (List ℕ) Reason) → RejoinsTo form fonts answer → answer ≡ Ok text)
+RejoinsWhatMerges = (form : Form) (fonts : List FontValue) (j : FontValue) → AllByRecursion IsFont fonts → ComesTo fonts j
+    → RejoinsTo form fonts (Ok (canon (with_even_texts j) form))
+    × ((answer : Result (List ℕ) Reason) → RejoinsTo form fonts answer → answer ≡ Ok (canon (with_even_texts j) form))

@@ -144,16 +144,16 @@ pub fn evened_draw()
     ensures { EvenedDraw }
 {}
 
-/// Subsets of one font that other programs cut merge once they are made even. Each may have any tag, and only the font's
-/// first Subrs, as long as those that it keeps are among them. In every order and grouping they merge to the subset over
-/// all the names, cut to the largest of the counts and without the font's tag, and to nothing else, so to the same bytes.
-/// Each glyph that is kept draws in it as in the font.
+/// Subsets of one font that other programs cut merge once they are made even. Their texts may differ in white space, in lines
+/// that number the font and in tags, and each may have only the font's first Subrs, as long as those that it keeps are among
+/// them. In every order and grouping they merge to the subset over all the names, cut to the largest of the counts and with
+/// even texts, and to nothing else, so to the same bytes. Each glyph that is kept draws in it as in the font.
 pub fn truncated_subsets_rejoin()
     ensures { TruncatedSubsetsRejoin }
 {}
 
-/// Fonts without tags that merge in some order and grouping are even already: making them even changes none of them, so
-/// they rejoin to what they merge to.
+/// Of fonts that merge in some order and grouping only the texts are made even, and then they merge in it to what they merged
+/// to, with even texts.
 #[tactic(auto, using(t1_algebra::proofs::rejoining::Evened::merging_fonts_are_even))]
 pub fn merging_fonts_are_even()
     ensures { MergingFontsAreEven }

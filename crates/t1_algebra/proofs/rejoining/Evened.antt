@@ -1,14 +1,14 @@
--- Fonts that are made even have all the Subrs that they had, so their glyphs stay drawn; fonts without tags that merge are even.
-use Rattle.std.proofs.{Common.{◌≡◌, ◌<◌, ℕ, List, [], ◌∷◌, map, refl, ◌∙◌, ap, Option, option_map}, lemmas.Bool.{ltb-true, lt-ltb}}
+-- Fonts that are made even have all the Subrs that they had, so their glyphs stay drawn; of fonts that merge only the texts are made even.
+use Rattle.std.proofs.{Common.{◌≡◌, ◌<◌, ℕ, arith, max, sym, List, [], ◌∷◌, map, refl, ◌∙◌, ap, Option, option_map}, lemmas.Bool.{ltb-true, lt-ltb}}
 use Rattle.std.specs.FinMap as maps
 use Rattle.t1_run.specs.{Run.{Subrs}, Growth.{Extends}}
 use Rattle.t1_run.proofs.Grown.{runs_with_more, draws_with_more}
-use Rattle.t1_join.specs.Groupings.{leaves}
+use Rattle.t1_join.specs.Groupings.{Grouping, one, two, leaves, map_grouping}
 use Rattle.t1_join.proofs.OrderLemmas.{all_leaves}
 use Rattle.t1_font.specs.{FontValue.{FontValue, SubrsShell, Numbered, declared_count, Shell}, FontModel.{subr_at}}
-use Rattle.t1_font.specs.{Evening.{raised, even, stubs_at, with_stubs, filled, largest_count, indices_of_all, evened_shells}, EveningLaws.{IsEvenWith}}
-use Rattle.t1_font.proofs.even_fonts.EvenStays.{even_fonts_stay}
-use Rattle.t1_algebra.specs.{Evened.{StaysDrawn, map_subrs, AllStayDrawn, EachBeside, EvenedDraw}, States.{joined_option}, Profile.{profile}, Rejoins.{IsUntagged, MergingFontsAreEven}}
+use Rattle.t1_font.specs.{Evening.{raised, even, stubs_at, with_stubs, filled, largest_count, indices_of_all, evened_shells, filled_all, evened}, EvenTexts.{even_texts}, EveningLaws.{IsEvenWith}}
+use Rattle.t1_font.proofs.even_fonts.{EvenStays.{even_fonts_stay}, EvenTexts.{even_texts_stay, even_shorter}}
+use Rattle.t1_algebra.specs.{Evened.{StaysDrawn, map_subrs, AllStayDrawn, EachBeside, EvenedDraw}, States.{Compatible, KeepsLimits, joined_option, joined_font}, Groupings.{Merges}, Profile.{profile}, Rejoins.{with_even_texts, MergingFontsAreEven}}
 use Rattle.t1_algebra.proofs.{Words.{AllByRecursion, nat_cmp_total, nat_cmp-IsAntisymmetric}, Maps.{get-merged}, Orders.{Below, above}, Shares.{sharing}, Sets.{cases}}
 
 -- if a font has the same glyphs and more Subrs, each glyph stays drawn
@@ -60,12 +60,55 @@ beside indices count (f ∷ fs) = (all_stay_drawn indices count f, beside indice
 pub evened_draw : EvenedDraw
 evened_draw = record { one = all_stay_drawn; all = λ fs. beside (indices_of_all (evened_shells fs)) (largest_count fs) fs }
 
--- fonts without tags whose states are among those of one font are even with it
-each_even : (j : FontValue) (fs : List FontValue) → AllByRecursion (Below profile j) fs → AllByRecursion IsUntagged fs → AllByRecursion (IsEvenWith j) fs
-each_even j [] b u = tt
-each_even j (f ∷ fs) b u =
-    let shared = (sharing f j).1 b.0.0.0.0 in
-    (record { head = u.0; count = ap (λ (s : Shell). declared_count s.subrs) shared.shells; present = shared.present }, each_even j fs b.1 u.1)
+-- ---- fonts that merge
+
+-- a font with even texts keeps the limits that it kept
+even_within : (f : FontValue) → KeepsLimits f → KeepsLimits (with_even_texts f)
+even_within f w = record { weight = omega (arith, even_shorter f.shell, w.weight); glyphs = w.glyphs }
+
+-- the states are the same, and the shells stay equal
+even_agree : (f g : FontValue) → Compatible profile f g → Compatible profile (with_even_texts f) (with_even_texts g)
+even_agree f g c = record { shells = ap even_texts c.shells; present = c.present; kinds = c.kinds; subrs = c.subrs; names = c.names; codes = c.codes }
+
+-- so fonts merge with even texts in each order and grouping in which they merge
+even_groupings : (t : Grouping FontValue) (j : FontValue) → Merges profile t j → Merges profile (map_grouping with_even_texts t) (with_even_texts j)
+even_groupings (one f) j is = ap with_even_texts is
+even_groupings (two s t) j (p, q, left, right, joins) = (
+  with_even_texts p,
+  with_even_texts q,
+  even_groupings s p left,
+  even_groupings t q right,
+  (record { states = even_agree p q joins.0.states; within = even_within (joined_font profile p q) joins.0.within }, ap with_even_texts joins.1),
+)
+
+-- a font is made even as it is with even texts
+texts_first : (n : ℕ) (fs : List FontValue) → map (even n) (map with_even_texts fs) ≡ map (even n) fs
+texts_first n [] = refl
+texts_first n (f ∷ fs) = λ i. record {
+  shell = record (even_texts_stay f.shell i) { subrs = option_map (raised n) f.shell.subrs };
+  encoding = f.encoding;
+  subrs = f.subrs;
+  glyphs = f.glyphs;
+} ∷ texts_first n fs i
+
+counts_same : (fs : List FontValue) → largest_count (map with_even_texts fs) ≡ largest_count fs
+counts_same [] = refl
+counts_same (f ∷ fs) = ap (max (declared_count f.shell.subrs)) (counts_same fs)
+
+-- fonts are made even as they are with even texts
+evened_texts : (fs : List FontValue) → evened (map with_even_texts fs) ≡ evened fs
+evened_texts fs = ap filled_all (ap (λ (n : ℕ). map (even n) (map with_even_texts fs)) (counts_same fs) ∙ texts_first (largest_count fs) fs)
+
+-- fonts whose states are among those of one font are even with it, with even texts
+each_even : (j : FontValue) (fs : List FontValue) → AllByRecursion (Below profile j) fs → AllByRecursion (IsEvenWith j) (map with_even_texts fs)
+each_even j [] b = tt
+each_even j (f ∷ fs) b =
+    let shared = (sharing f j).1 b.0.0.0.0 in (
+      record { texts = even_texts_stay f.shell; count = ap (λ (s : Shell). declared_count s.subrs) shared.shells; present = shared.present },
+      each_even j fs b.1,
+    )
 
 pub merging_fonts_are_even : MergingFontsAreEven
-merging_fonts_are_even t j h u = even_fonts_stay j (leaves t) (each_even j (leaves t) (all_leaves (Below profile j) t (above profile t j h)) u)
+merging_fonts_are_even t j h =
+    (sym (evened_texts (leaves t)) ∙ even_fonts_stay j (map with_even_texts (leaves t)) (each_even j (leaves t) (all_leaves (Below profile j) t (above profile t j h))),
+    even_groupings t j h)

@@ -1,12 +1,12 @@
--- Truncated subsets that are made even merge to the subset over all their names, cut to the largest count and without its tag.
+-- Truncated subsets that are made even merge to the subset over all their names, cut to the largest count and with even texts.
 use Rattle.std.proofs.Common.{◌≡◌, ◌≤◌, ℕ, nat_lt, nat_cmp, true, cond, List, [], ◌∷◌, map, refl, sym, ◌∙◌, ap, subst, Option, Some, None, option_map, unwrap_or, arith, IsPermutation}
 use Rattle.std.proofs.lemmas.Bool.{ltb-true, lt-ltb}
 use Rattle.std.specs.FinSet as sets
 use Rattle.std.specs.FinMap as maps
 use Rattle.t1_join.specs.Groupings.{Grouping, one, leaves, from_left}
 use Rattle.t1_join.proofs.OrderLemmas.{leaves_from_left}
-use Rattle.t1_font.specs.{FontValue.{FontValue, SubrsShell, Numbered, name_cmp, total, subr_weight, declared_count}, IsFont.{IsFont, IsWord, IsPhrase, SubrsFit, SubrWords}, Evening.{evened}}
-use Rattle.t1_font.proofs.{even_fonts.Evened.{even_is_font}, MapLemmas.{get-retain, find_first, total-le, Some_None}}
+use Rattle.t1_font.specs.{FontValue.{FontValue, SubrsShell, Numbered, name_cmp, total, subr_weight, declared_count}, IsFont.{IsFont, IsWord, IsPhrase, SubrsFit, SubrWords}, Evening.{evened}, EvenTexts.{even_texts}}
+use Rattle.t1_font.proofs.{even_fonts.Evened.{even_is_font, even_fit}, MapLemmas.{get-retain, find_first, total-le, Some_None}}
 use Rattle.t1_algebra.specs.{Keep.{keep, kept, subset}, Profile.{profile}, Laws.{IsOf, DrawsAlike}, Merges.{MergesTo}}
 use Rattle.t1_algebra.specs.Rejoins.{declares, Truncated, IsTruncated, truncated_fonts, sets_of, names_of_all, largest, shared_font, rejoined, Rejoins, TruncatedSubsetsRejoin}
 use Rattle.t1_algebra.proofs.{Words.{AllByRecursion, nat_cmp_total, nat_list_cmp_total, nat_cmp-IsAntisymmetric, Names}, Drawings.{subset_alike, alike}, Fonts.{subset_is_font, any_order_of_fonts}}
@@ -45,7 +45,7 @@ module _ (f : FontValue) (h : IsFont f) (most : ℕ) (fits : most ≤ declared_c
       grind (cases, get_font f t w q, get_first q, get_nothing (first_of most f).subrs e q, le, ltb-true q t.count, lt-ltb q most))
 
   -- the words of a table fit the entries of the cut font
-  words_first : (s : SubrsShell) → (maps.entries (first_of most f).subrs ≡ [] → WordsOf [] (Some s)) → SubrsFit f.shell (Some s) f.subrs →
+  words_first : (s : SubrsShell) → (maps.entries (first_of most f).subrs ≡ [] → WordsOf [] (Some s)) → SubrsFit (even_texts f.shell) (Some s) f.subrs →
       (es : List (ℕ × List ℕ)) → maps.entries (first_of most f).subrs ≡ es → SubrWords es (declares most s)
   words_first s empty fit [] is = empty is
   words_first s empty fit (x ∷ es) is =
@@ -54,7 +54,7 @@ module _ (f : FontValue) (h : IsFont f) (most : ℕ) (fits : most ≤ declared_c
       some_words x.0 x.1 (maps.entries f.subrs) s (sym (maps.get-entries f.subrs x.0) ∙ (had x.0 x.1 there).1) fit.words
 
   -- the table of Subrs fits in the cut font
-  subrs_fit : (o : Option SubrsShell) → SubrsFit f.shell o f.subrs → most ≤ declared_count o → (maps.entries (first_of most f).subrs ≡ [] → WordsOf [] o) →
+  subrs_fit : (o : Option SubrsShell) → SubrsFit (even_texts f.shell) o f.subrs → most ≤ declared_count o → (maps.entries (first_of most f).subrs ≡ [] → WordsOf [] o) →
       SubrsFit (first_of most f).shell (option_map (declares most) o) (first_of most f).subrs
   subrs_fit None fit few empty =
       (entries_none (first_of most f).subrs (λ q. grind (cases, get_first q, get_nothing f.subrs fit.0 q)), fit.1)
@@ -75,11 +75,11 @@ module _ (f : FontValue) (h : IsFont f) (most : ℕ) (fits : most ≤ declared_c
   pub first_is_font : IsFont (first_of most f)
   first_is_font =
       let k = even_is_font 0 f (omega arith) h in
-      let p = h.private in
+      let c = k.clear in
+      let p = k.private in
       let g = h.glyphs in
       record {
-        clear =
-            record { head_encoding = k.clear.head_encoding; head_eexec = k.clear.head_eexec; tail_apart = h.clear.tail_apart; tail_ends = h.clear.tail_ends };
+        clear = record { head_encoding = c.head_encoding; head_eexec = c.head_eexec; tail_apart = c.tail_apart; tail_ends = c.tail_ends };
         private = record {
           iv = p.iv;
           no_subrs = p.no_subrs;
@@ -91,9 +91,16 @@ module _ (f : FontValue) (h : IsFont f) (most : ℕ) (fits : most ≤ declared_c
           tail_subrs = p.tail_subrs;
           tail_ends = p.tail_ends;
         };
-        texts = record { head = k.texts.head; clear_tail = h.texts.clear_tail; private = h.texts.private; middle = h.texts.middle; tail = h.texts.tail };
+        texts = record {
+          head = k.texts.head;
+          clear_tail = k.texts.clear_tail;
+          private = k.texts.private;
+          middle = k.texts.middle;
+          tail = k.texts.tail;
+        };
         encoding = h.encoding;
-        subrs = subrs_fit f.shell.subrs h.subrs fits (λ e. words_empty f h most fits t w le (no_entries_there e));
+        subrs = subrs_fit f.shell.subrs (even_fit f.shell f.shell.subrs f.subrs h.subrs) fits
+            (λ e. words_empty f h most fits t w le (no_entries_there e));
         glyphs = record { rd = g.rd; def = g.def; names = g.names; bodies = g.bodies; notdef = g.notdef; few = g.few };
         light = omega (arith, fewer, k.light);
       }

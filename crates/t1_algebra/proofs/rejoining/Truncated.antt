@@ -6,16 +6,16 @@ use Rattle.std.specs.FinSet as sets
 use Rattle.std.specs.FinMap as maps
 use Rattle.t1_font.specs.FontValue.{FontValue, notdef, Shell, SubrsShell, Numbered, declared_count}
 use Rattle.t1_font.proofs.MapLemmas.{get-retain, get-map_values}
-use Rattle.t1_font.specs.{IsFont.{IsFont, SubrsFit, SubrWords}, Tags.{untagged_head}, Cut.{stub, restrict_encoding}}
+use Rattle.t1_font.specs.{IsFont.{IsFont, SubrsFit, SubrWords}, EvenTexts.{even_texts}, Cut.{stub, restrict_encoding}}
 use Rattle.t1_font.specs.Evening.{raised, even_shell, even, stubs_at, below, with_stubs, filled, largest_count, indices_of_all, evened}
 use Rattle.t1_algebra.specs.{Keep.{keep, kept, has, charstring, subset}, Profile.{profile}, States.{joined_option}, Laws.{IsOf}}
-use Rattle.t1_algebra.specs.Rejoins.{cut_to, without_tag, declares, Truncated, IsTruncated, truncated_fonts, sets_of, largest, shared_font}
+use Rattle.t1_algebra.specs.Rejoins.{cut_to, with_even_texts, declares, Truncated, IsTruncated, truncated_fonts, sets_of, largest, shared_font}
 use Rattle.t1_algebra.proofs.{Words.{list_any, AllByRecursion, eq_by_cmp, nat_cmp_total, nat_cmp-IsAntisymmetric, Interpreter, Names}, Kept.{keep_has, kept_call, keeps_alike}}
 use Rattle.t1_algebra.proofs.{Sets.{clash, any_filtered, cases}, Maps.{get-merged, get-valued}}
 
--- the font without its tag, cut to its first Subrs
+-- the font with even texts, cut to its first Subrs
 abbrev pub first_of : ℕ → FontValue → FontValue
-first_of count f = cut_to count (without_tag f)
+first_of count f = cut_to count (with_even_texts f)
 
 -- the names keep no Subr of the font at the count or above it
 abbrev pub KeepsBelow : {O : Type 0} → Interpreter O → FontValue → ℕ → Names → Type 0
@@ -71,8 +71,8 @@ module _ (f : FontValue) (h : IsFont f) (n : ℕ) (a : Names) (inside : IsOf f a
         (keeps_same profile f h.glyphs.notdef n a inside low).1,
       )
 
-  -- the subset of the cut font is the subset, without its tag and cut as the font is
-  pub cut_subset : subset profile (first_of n f) a ≡ cut_to n (without_tag (subset profile f a))
+  -- the subset of the cut font is the subset, with even texts and cut as the font is
+  pub cut_subset : subset profile (first_of n f) a ≡ cut_to n (with_even_texts (subset profile f a))
   cut_subset =
       let subrs = maps.same_map nat_cmp_total nat_cmp-IsAntisymmetric (subset profile (first_of n f) a).subrs
       (maps.retain_keys (subset profile f a).subrs (λ i. nat_lt i n)) subrs_same in
@@ -92,7 +92,7 @@ raised_declares most n s le = grind cases
 module _ (f : FontValue) where
   -- a truncated subset declares its count
   pub count_is : (t : Truncated) → IsTruncated f t → declared_count t.font.shell.subrs ≡ t.count
-  count_is t w = grind (cases, ap (λ (g : FontValue). declared_count g.shell.subrs) w.others, w.count)
+  count_is t w = grind (cases, ap (λ (g : FontValue). declared_count g.shell.subrs) w.same, w.count)
 
   -- the largest count that is declared is the largest of the counts
   pub largest_is : (ts : List Truncated) → AllByRecursion (IsTruncated f) ts → largest_count (truncated_fonts ts) ≡ largest ts
@@ -117,7 +117,7 @@ module _ (f : FontValue) where
 
   -- what a truncated subset has at each index
   pub get_font : (t : Truncated) → IsTruncated f t → (q : ℕ) → maps.get t.font.subrs q ≡ entry_in f t.names t.count q (maps.get f.subrs q)
-  get_font t w q = ap (λ (g : FontValue). maps.get g.subrs q) w.others ∙ get_cut f t.count t.names q
+  get_font t w q = ap (λ (g : FontValue). maps.get g.subrs q) w.same ∙ get_cut f t.count t.names q
 
   -- the indices of the Subrs of all fonts, made even
   abbrev all_indices : ℕ → List Truncated → List ℕ
@@ -191,11 +191,33 @@ has_table : (s : Shell) (o : Option SubrsShell) (m : Numbered) → SubrsFit s o 
 has_table s None m h q is n le = clash (maps.contains_key m q) is (ap is_some (get_nothing m h.0 q))
 has_table s (Some t) m h q is n le = refl
 
+-- where both hold, each does
+both_so : (a b : Bool) → (a && b) ≡ true → (a ≡ true) × (b ≡ true)
+both_so true b h = (refl, h)
+both_so false b h = clash false h refl
+
+-- An entry x of a font, in a subset that keeps it or not (k) and is cut to a smaller count (low) or a larger one (lower), where a stub stands (b) wherever
+-- the font has an entry below the larger count.
+same_value : (k low lower b : Bool) (x : Option (List ℕ)) → (low ≡ true → lower ≡ true) → (b ≡ true → lower ≡ true) → (b ≡ true → is_some x ≡ true) →
+    (lower ≡ true → is_some x ≡ true → b ≡ true) → (k ≡ true → is_some x ≡ true → low ≡ true)
+    → joined_option (cond low (option_map (λ c. cond k c stub) x) None) (cond b (Some stub) None) ≡ cond lower (option_map (λ c. cond k c stub) x) None
+same_value k true true b (Some c) h i j l m = refl
+same_value k true true true None h i j l m = clash false (j refl) refl
+same_value k true true false None h i j l m = refl
+same_value k true false b x h i j l m = clash false (h refl) refl
+same_value k false false true x h i j l m = clash false (i refl) refl
+same_value k false false false x h i j l m = refl
+same_value k false true true None h i j l m = clash false (j refl) refl
+same_value k false true false None h i j l m = refl
+same_value true false true b (Some c) h i j l m = clash false (m refl refl) refl
+same_value false false true true (Some c) h i j l m = refl
+same_value false false true false (Some c) h i j l m = clash false (l refl refl) refl
+
 module _ (f : FontValue) (h : IsFont f) (most : ℕ) (fits : most ≤ declared_count f.shell.subrs)
     (t : Truncated) (w : IsTruncated f t) (le : t.count ≤ most) where
   -- if a truncated subset has no entries, the table of the font has no words
   pub words_empty : maps.entries t.font.subrs ≡ [] → WordsOf [] f.shell.subrs
-  words_empty e = words_declared t.count f.shell.subrs (subst (WordsOf []) (ap (λ (g : FontValue). g.shell.subrs) w.others)
+  words_empty e = words_declared t.count f.shell.subrs (subst (WordsOf []) (ap (λ (g : FontValue). g.shell.subrs) w.same)
       (subst (λ (es : List (ℕ × List ℕ)). WordsOf es t.font.shell.subrs) e (words_of t.font.shell t.font.shell.subrs t.font.subrs w.font.subrs)))
 
   -- if a truncated subset has no entries, the font has none
@@ -205,8 +227,8 @@ module _ (f : FontValue) (h : IsFont f) (most : ℕ) (fits : most ≤ declared_c
   -- the shell of a truncated subset, made even, is that of the cut font
   shell_same : even_shell most t.font.shell ≡ (first_of most f).shell
   shell_same =
-      (λ i. record (w.others i).shell { head = w.head i; subrs = option_map (raised most) (w.others i).shell.subrs })
-      ∙ (λ i. record f.shell { head = untagged_head f.shell.head; subrs = raised_declares most t.count f.shell.subrs le i })
+      (λ i. record (w.same i).shell { subrs = option_map (raised most) (w.same i).shell.subrs })
+      ∙ (λ i. record (even_texts f.shell) { subrs = raised_declares most t.count f.shell.subrs le i })
 
   -- how many Subrs are declared once the font is made even
   abbrev declared : ℕ
@@ -236,23 +258,19 @@ module _ (f : FontValue) (h : IsFont f) (most : ℕ) (fits : most ≤ declared_c
     under q lt is = in_both q
         ∙ and_from _ _ (lt-ltb q declared (omega (arith, lt, declared_is, has_table f.shell f.shell.subrs f.subrs h.subrs q is most fits))) (there q lt is)
 
+    -- an index that is declared and one of all is below the count, and one of the font
+    is_below : (q : ℕ) → is_in q ≡ true → (nat_lt q most ≡ true) × (maps.contains_key f.subrs q ≡ true)
+    is_below q i =
+        let both = both_so (nat_lt q declared) (list_any (eq_by_cmp nat_cmp q) indices) (sym (in_both q) ∙ i) in
+        (lt-ltb q most (omega (arith, ltb-true q declared both.0, declared_low)), from q both.1)
+
     -- the entry of a truncated subset, or else a stub, is the entry of the subset cut to the largest count
     value_same : (q : ℕ) →
         joined_option (entry_in f t.names t.count q (maps.get f.subrs q)) (cond (is_in q) (Some stub) None) ≡ entry_in f t.names most q (maps.get f.subrs q)
-    value_same q = grind (
-      cases,
-      in_both q,
-      from q,
-      ltb-true q declared,
-      declared_low,
-      under q,
-      w.kept q,
-      le,
-      lt-ltb q t.count,
-      ltb-true q t.count,
-      lt-ltb q most,
-      ltb-true q most,
-    )
+    value_same q =
+        same_value (sets.contains (kept profile f t.names) q) (nat_lt q t.count) (nat_lt q most) (is_in q) (maps.get f.subrs q)
+        (λ lt. lt-ltb q most (omega (arith, ltb-true q t.count lt, le))) (λ i. (is_below q i).0) (λ i. (is_below q i).1)
+        (λ lt is. under q (ltb-true q most lt) is) (λ k is. lt-ltb q t.count (w.kept q k is))
 
     -- the font that is made even has the entry of the subset cut to the largest count at each index
     filled_at : (es : List (ℕ × List ℕ)) → maps.entries t.font.subrs ≡ es → (q : ℕ) →
@@ -266,13 +284,13 @@ module _ (f : FontValue) (h : IsFont f) (most : ℕ) (fits : most ≤ declared_c
       value_same q,
     )
 
-    -- the truncated subset, made even, is the subset without its tag, cut to the largest count
-    pub made_is : filled indices (even most t.font) ≡ cut_to most (without_tag (subset profile f t.names))
+    -- the truncated subset, made even, is the subset with even texts, cut to the largest count
+    pub made_is : filled indices (even most t.font) ≡ cut_to most (with_even_texts (subset profile f t.names))
     made_is =
         let subrs = maps.same_map nat_cmp_total nat_cmp-IsAntisymmetric (filled indices (even most t.font)).subrs
         (maps.retain_keys (subset profile f t.names).subrs (λ i. nat_lt i most))
         (λ q. filled_at (maps.entries t.font.subrs) refl q ∙ sym (get_cut f most t.names q)) in
-        λ i. record { shell = shell_same i; encoding = (w.others i).encoding; subrs = subrs i; glyphs = (w.others i).glyphs }
+        λ i. record { shell = shell_same i; encoding = (w.same i).encoding; subrs = subrs i; glyphs = (w.same i).glyphs }
 
     -- the truncated subset, made even, is a subset of the shared font
     pub made_subset : filled indices (even most t.font) ≡ subset profile (first_of most f) t.names

@@ -42,10 +42,10 @@ subrs_raised n s (Some t) m le h = record {
   closing = h.closing;
 }
 
--- the middle of a font without Subrs stays empty
-no_middle : (s : Shell) (o : Option SubrsShell) (m : Numbered) → SubrsFit s o m → SubrsFit (even_texts s) o m
-no_middle s None m h = (h.0, empty_stays s.middle h.1)
-no_middle s (Some t) m h = h
+-- Subrs fit a shell whose texts are made even
+pub even_fit : (s : Shell) (o : Option SubrsShell) (m : Numbered) → SubrsFit s o m → SubrsFit (even_texts s) o m
+even_fit s None m h = (h.0, empty_stays s.middle h.1)
+even_fit s (Some t) m h = h
 
 -- a font made even weighs no more
 pub even_light : (n : ℕ) (f : FontValue) → weight (even n f) ≤ weight f
@@ -78,7 +78,7 @@ even_is_font n f le h =
       texts = let t = even_are_texts f.shell h.texts in
           record { head = t.head; clear_tail = t.clear_tail; private = t.private; middle = t.middle; tail = t.tail };
       encoding = h.encoding;
-      subrs = subrs_raised n f.shell f.shell.subrs f.subrs le (no_middle f.shell f.shell.subrs f.subrs h.subrs);
+      subrs = subrs_raised n f.shell f.shell.subrs f.subrs le (even_fit f.shell f.shell.subrs f.subrs h.subrs);
       glyphs = record { rd = g.rd; def = g.def; names = g.names; bodies = g.bodies; notdef = g.notdef; few = g.few };
       light = omega (arith, even_light n f, h.light);
     }
