@@ -107,7 +107,8 @@ def merge(fonts: Iterable[BytesLike], form: AnyForm = "pfa") -> bytes:
 
 def rejoin(fonts: Iterable[BytesLike], form: AnyForm = "pfa") -> bytes:
     """The same for subsets that another program cut, such as dvips or pdfTeX: they are first mended, as by
-    `mend`, and made even (the tag before the FontName is removed, and every table of Subrs declares as many)."""
+    `mend`, and made even (white space is squeezed, lines of UniqueID and XUID and the
+    tag before the FontName are removed, and every table of Subrs declares as many)."""
     return _call(library.t1subset_rejoin, *_files(_several(fonts, "fonts")), _form(form))
 
 

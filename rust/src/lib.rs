@@ -189,7 +189,8 @@ pub fn merge<F: AsRef<[u8]>>(fonts: &[F], form: Form) -> Result<Vec<u8>, Refused
 }
 
 /// The same for subsets that another program cut, such as dvips or pdfTeX: they are first mended, as by [`mend`], and made
-/// even (the tag before the FontName is removed, and every table of Subrs declares as many).
+/// even (white space is squeezed, lines of UniqueID and XUID and the tag before the FontName are removed, and every table of Subrs
+/// declares as many).
 pub fn rejoin<F: AsRef<[u8]>>(fonts: &[F], form: Form) -> Result<Vec<u8>, Refused> {
     ffi::rejoin(&slices(fonts), form)
 }

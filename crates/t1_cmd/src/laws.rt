@@ -4,8 +4,9 @@ ghost use Rattle.t1_cmd.specs.Mends.{MendsAgain, MendsNothing, MendedIsSpelled, 
 ghost use Rattle.t1_cmd.specs.Rejoins.{RejoinsWhatMerges};
 ghost use Rattle.t1_cmd.specs.Cuts.{RejoinedDraw};
 
-/// Fonts without tags that merge to a file rejoin to the same file, and to nothing else: what [`run_merge`](crate::run_merge)
-/// writes of fonts that have no test to lose, [`run_rejoin`](crate::run_rejoin) writes too, unless a growth was refused.
+/// Fonts that merge rejoin to the file of what they merge to, with even texts, and to nothing else: where the texts are even and
+/// have no test to lose, [`run_rejoin`](crate::run_rejoin) writes what [`run_merge`](crate::run_merge) writes, unless a growth was
+/// refused.
 pub fn rejoins_what_merges()
     ensures { RejoinsWhatMerges }
 {}

@@ -82,8 +82,8 @@ pub fn rejoin_files(alloc: Global, files: &[&[u8]], form: Form) -> Result<Vec<u8
 }
 
 /// Writes the canonical file, in one of the two forms, of the font that fonts come to when they are made even and then
-/// merged from left to right. Fonts of one parent that other programs cut have tags before their names, and declare no
-/// Subrs after the last one used.
+/// merged from left to right. Fonts of one parent that other programs cut differ in white space, in lines that number the font
+/// and in tags before its name, and declare no Subrs after the last one used.
 ///
 /// The inputs are read and understood one after the other, and then made even and merged. If several things are wrong, the
 /// first in that order is answered. A font that is too heavy with the stubs that it gets is reported as

@@ -15,9 +15,9 @@ use t1_font::Form;
 /// The file of the font that two cuts of a font come to, as dvips and pdfTeX make them: each is mended, both are made even and
 /// merged, and the merged font is written.
 ///
-/// If each file, however it is spelled, is mended to a truncated subset of one font (with any tag, cut to its first Subrs, which
-/// include those that it keeps), the answer is the file of the subset of the names of both, without the tag and cut to the larger
-/// count, and only want of memory is refused. Whatever two fonts come to, each glyph that one of them draws without a fault is
+/// If each file, however it is spelled, is mended to a truncated subset of one font (its texts may differ in white space, in lines
+/// that number the font and in tags, and it is cut to its first Subrs, which include those that it keeps), the answer is the file
+/// of the subset of the names of both, with even texts and cut to the larger count, and only want of memory is refused. Whatever two fonts come to, each glyph that one of them draws without a fault is
 /// drawn the same in what is written.
 pub fn cuts_joined(
     alloc: Global,

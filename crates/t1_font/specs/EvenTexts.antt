@@ -1,6 +1,6 @@
 -- The kept texts of fonts made even. A step that changes a text is taken if the result is again a text of that place, and if it stays when this
 -- step and those before it are tried again. So making texts even twice is making them even once, and no marker arises or goes.
-use Rattle.std.specs.Prelude.{ℕ, ◌==◌, ◌&&◌, not, Bool, true, false, List, [], ◌∷◌, ◌++◌, Option, Some, None, is_some, Result, Ok, Err, if◌then◌else◌}
+use Rattle.std.specs.Prelude.{ℕ, ◌==◌, ◌&&◌, not, Bool, true, false, List, [], ◌∷◌, ◌++◌, Option, Some, None, Result, Ok, Err, if◌then◌else◌}
 use Rattle.std.specs.Str.{bytes_eq}
 use Rattle.t1_grammar.specs.Grammar.{Grammar, first}
 use Rattle.t1_grammar.specs.Places.{occurs}

@@ -1,7 +1,7 @@
 -- Lines that number a font: UniqueID and XUID (Adobe Type 1 Font Format 1.1, chapters 2 and 5; PostScript Language Reference, 5.6).
 -- A printer may keep what it drew of a font under its number, so a font that cuts of another come to has no number.
 use Rattle.std.specs.Prelude.{ℕ, ◌==◌, ◌||◌, not, Bool, List, [], ◌∷◌, ◌++◌, codes, Option, Some, None, is_some}
-use Rattle.t1_grammar.specs.Grammar.{Grammar, pure, ◌>>=◌, ◌>>◌, before, fixed, run, either, may_be}
+use Rattle.t1_grammar.specs.Grammar.{Grammar, pure, ◌>>◌, before, fixed, run, either, may_be}
 use Rattle.t1_font.specs.Words.{is_digit, keyword, decimal}
 use Rattle.t1_font.specs.Rewriting.{Piece, parted, rewritten}
 

@@ -36,7 +36,7 @@ pub mod Rewriting
 pub mod Squeezing
 pub mod Identity
 pub mod Tags
-pub mod Rules
+pub mod Steps
 pub mod FontTest
 pub mod Mends
 pub mod EvenTexts

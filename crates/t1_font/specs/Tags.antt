@@ -1,5 +1,5 @@
 -- Tags of subsets: six capitals and `+` before the name of a font (ISO 32000-1, 9.6.4), and texts without them.
-use Rattle.std.specs.Prelude.{ℕ, zero, suc, ◌&&◌, not, nat_le, nat_lt, Bool, List, ◌∷◌, length, codes, Option, Some, None, if◌then◌else◌}
+use Rattle.std.specs.Prelude.{ℕ, zero, suc, ◌&&◌, not, nat_le, nat_lt, Bool, List, length, codes, Option, Some, None, if◌then◌else◌}
 use Rattle.std.specs.List.{list_all}
 use Rattle.std.specs.Option.{option_and_then, option_map}
 use Rattle.std.specs.Str.{bytes_eq}

@@ -10,7 +10,7 @@ ghost use Rattle.t1_font.specs.EvenTexts.{reads_number, own_fits, next_byte, fol
 use crate::font_test::{EexecMarker, has_marker};
 use crate::markers::{CharsMarker, Closefile, Marker, SubrsMarker, first};
 use crate::private::iv_of;
-use crate::rewriting::{Rule, rewritten};
+use crate::rewriting::{Step, rewritten};
 use crate::tags::tagged_name;
 use crate::words::regular_comes;
 use std::alloc::{AllocError, Global};
@@ -64,7 +64,8 @@ fn own_fits(kept: KeptText, text: &[u8]) -> bool
         KeptText::Private(iv) => has_iv(iv, text),
         KeptText::Middle => !regular_comes(text) && !occurs::<SubrsMarker>(text),
         KeptText::Tail => {
-            !regular_comes(text) && (!occurs::<SubrsMarker>(text) && ends_at::<Closefile>(b"", text))
+            !regular_comes(text)
+                && (!occurs::<SubrsMarker>(text) && ends_at::<Closefile>(b"", text))
         }
     }
 }
@@ -108,14 +109,18 @@ fn fits(kept: KeptText, text: &mut Vec<u8>) -> Result<bool, AllocError>
 // ---- steps
 
 /// A text with its white space squeezed, if it can then be that text of a font.
-pub(crate) fn squeezed_text(alloc: Global, kept: KeptText, text: &[u8]) -> Result<Vec<u8>, AllocError>
+pub(crate) fn squeezed_text(
+    alloc: Global,
+    kept: KeptText,
+    text: &[u8],
+) -> Result<Vec<u8>, AllocError>
     ensures { IfOk result (λ v. v.items ≡ squeezed_text kept text.now) }
 {
-    let mut new = rewritten(alloc, Rule::Squeezed, text)?;
+    let mut new = rewritten(alloc, Step::Squeezed, text)?;
     if new.as_slice() == text {
         return Ok(new);
     }
-    let again = rewritten(alloc, Rule::Squeezed, new.as_slice())?;
+    let again = rewritten(alloc, Step::Squeezed, new.as_slice())?;
     if fits(kept, &mut new)? && again.as_slice() == new.as_slice() {
         Ok(new)
     } else {
@@ -128,13 +133,15 @@ pub(crate) fn even_text(alloc: Global, kept: KeptText, text: &[u8]) -> Result<Ve
     ensures { IfOk result (λ v. v.items ≡ even_text kept text.now) }
 {
     let old = squeezed_text(alloc, kept, text)?;
-    let mut new = rewritten(alloc, Rule::Unnumbered, old.as_slice())?;
+    let mut new = rewritten(alloc, Step::Unnumbered, old.as_slice())?;
     if new.as_slice() == old.as_slice() {
         return Ok(new);
     }
     let before = squeezed_text(alloc, kept, new.as_slice())?;
-    let again = rewritten(alloc, Rule::Unnumbered, new.as_slice())?;
-    if fits(kept, &mut new)? && (before.as_slice() == new.as_slice() && again.as_slice() == new.as_slice()) {
+    let again = rewritten(alloc, Step::Unnumbered, new.as_slice())?;
+    if fits(kept, &mut new)?
+        && (before.as_slice() == new.as_slice() && again.as_slice() == new.as_slice())
+    {
         Ok(new)
     } else {
         Ok(old)
@@ -163,8 +170,8 @@ fn without_tags(alloc: Global, head: &[u8], clear_tail: &[u8]) -> Result<ClearTe
 {
     match tagged_name(head, clear_tail) {
         Some(name) => Ok(ClearTexts {
-            head: rewritten(alloc, Rule::Untagged(name), head)?,
-            clear_tail: rewritten(alloc, Rule::Untagged(name), clear_tail)?,
+            head: rewritten(alloc, Step::Untagged(name), head)?,
+            clear_tail: rewritten(alloc, Step::Untagged(name), clear_tail)?,
         }),
         None => Ok(ClearTexts {
             head: Vec::from_slice(alloc, head)?,
@@ -181,7 +188,11 @@ fn same_both(texts: &ClearTexts, head: &[u8], clear_tail: &[u8]) -> bool
 }
 
 /// The two texts around the Encoding, made even.
-pub(crate) fn even_clear(alloc: Global, head: &[u8], clear_tail: &[u8]) -> Result<ClearTexts, AllocError>
+pub(crate) fn even_clear(
+    alloc: Global,
+    head: &[u8],
+    clear_tail: &[u8],
+) -> Result<ClearTexts, AllocError>
     ensures { IfOk result (λ x. (x.head.items, x.clear_tail.items) ≡ even_clear (head.now, clear_tail.now)) }
 {
     let old = both_even(alloc, head, clear_tail)?;
@@ -191,7 +202,8 @@ pub(crate) fn even_clear(alloc: Global, head: &[u8], clear_tail: &[u8]) -> Resul
     }
     let before = both_even(alloc, new.head.as_slice(), new.clear_tail.as_slice())?;
     let again = without_tags(alloc, new.head.as_slice(), new.clear_tail.as_slice())?;
-    let fit = fits(KeptText::Head, &mut new.head)? && fits(KeptText::ClearTail, &mut new.clear_tail)?;
+    let fit = fits(KeptText::Head, &mut new.head)?
+        && fits(KeptText::ClearTail, &mut new.clear_tail)?;
     if fit
         && (same_both(&before, new.head.as_slice(), new.clear_tail.as_slice())
             && same_both(&again, new.head.as_slice(), new.clear_tail.as_slice()))

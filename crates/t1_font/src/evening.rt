@@ -1,4 +1,4 @@
-//! Sources made even: fonts that other programs cut lose their tags, and declare one count of Subrs.
+//! Sources made even: fonts that other programs cut get even texts, and declare one count of Subrs.
 
 ghost use Rattle.std.specs.Prelude.{◌≡◌, ◌++◌, ◌∷◌, [], IfOk, OnOk};
 ghost use Rattle.std.specs.Option.{option_map};
@@ -12,7 +12,11 @@ use crate::source::{Source, SourceParts};
 use std::alloc::{AllocError, Global};
 
 /// A table of Subrs that declares at least this many.
-fn raised(alloc: Global, kept: &Option<KeptSubrs>, declared: u16) -> Result<Option<KeptSubrs>, AllocError>
+fn raised(
+    alloc: Global,
+    kept: &Option<KeptSubrs>,
+    declared: u16,
+) -> Result<Option<KeptSubrs>, AllocError>
     ensures { IfOk result (λ s. option_map subrs_view s
         ≡ option_map (raised declared) (option_map subrs_view kept.now)) }
 {
@@ -35,8 +39,11 @@ fn raised(alloc: Global, kept: &Option<KeptSubrs>, declared: u16) -> Result<Opti
 fn even_shell(alloc: Global, shell: &Shell, declared: u16) -> Result<Shell, AllocError>
     ensures { IfOk result (λ s. s ≡ even_shell declared shell.now) }
 {
-    let ClearTexts { head, clear_tail } =
-        even_clear(alloc, shell.head.as_slice(), shell.clear_tail.as_slice())?;
+    let ClearTexts { head, clear_tail } = even_clear(
+        alloc,
+        shell.head.as_slice(),
+        shell.clear_tail.as_slice(),
+    )?;
     let private = even_text(
         alloc,
         KeptText::Private(shell.len_iv),
@@ -63,11 +70,16 @@ impl Source {
         self.parts.shell.declared_count()
     }
 
-    /// The font without the tags that other programs put before its name, and with at least this declared count if it has
-    /// a table of Subrs.
+    /// The font with its five kept texts made even, and with at least this declared count if it has a table of Subrs.
     ///
-    /// The name is what stands behind the first `/FontName`, white space and a slash. A font whose name without tags would
-    /// be `Encoding` keeps its tags, since that name would begin an Encoding.
+    /// Each longest run of blanks, tabs, CR and LF becomes one LF if it has CR or LF, else one blank; runs within strings, too,
+    /// which draw nothing. Then lines of the head, of the clear tail and of the private text that number the font (`/UniqueID`,
+    /// `/XUID`) go, where a name or `currentdict` follows. Then the font's name loses its tags wherever it stands as a word of
+    /// the head or of the clear tail; it is what stands behind the first `/FontName`, white space and a slash of the head, or
+    /// else of the clear tail.
+    ///
+    /// A step is taken where its results are again texts of a font, and stay when it and those before it are tried again. So a font
+    /// whose name without tags would be `Encoding` keeps its tags, since that name would begin an Encoding.
     ///
     /// # Errors
     ///
@@ -125,8 +137,8 @@ fn keep(sources: &mut Vec<Source>, source: Source) -> Result<(), AllocError>
     }
 }
 
-/// The sources without tags, each with the largest declared count among them: fonts that other programs cut declare no
-/// Subrs after the last one that is used.
+/// The sources with even texts ([`Source::even`]), each with the largest declared count among them: fonts that other programs cut
+/// differ in white space, in lines that number the font and in tags, and declare no Subrs after the last one that is used.
 ///
 /// The sources are consumed whatever the answer is; after an error none of them is left.
 ///

@@ -10,7 +10,7 @@ ghost use Rattle.t1_font.specs.Rewriting.{rewritten, parted};
 ghost use Rattle.t1_font.specs.Squeezing.{ends_line, one_space, squeezed_piece};
 ghost use Rattle.t1_font.specs.Identity.{is_digit_or_blank, one_blank, unique_id, extended_id, access, defining, goes_on, identity_line, is_in_line, first_line, unnumbered_piece};
 ghost use Rattle.t1_font.specs.Tags.{renamed, untagged_piece};
-ghost use Rattle.t1_font.specs.Rules.{piece_of};
+ghost use Rattle.t1_font.specs.Steps.{piece_of};
 
 use crate::tags::untagged;
 use crate::words::{decimal_at, is_regular, keyword_at, regular_at, regular_comes};
@@ -19,7 +19,7 @@ use t1_bytes::texts::fixed_at;
 
 /// How a text is rewritten.
 #[derive(Clone, Copy)]
-pub(crate) enum Rule<'a> {
+pub(crate) enum Step<'a> {
     /// Each longest run of blanks, tabs, CR and LF becomes one byte.
     Squeezed,
     /// Lines that number the font go.
@@ -240,24 +240,24 @@ fn untagged_piece<'a>(name: &'a [u8], text: &'a [u8]) -> (&'a [u8], &'a [u8])
 // ---- texts
 
 /// What becomes of the first piece of a text, and what stands behind it.
-fn piece<'a>(rule: Rule<'a>, text: &'a [u8]) -> (&'a [u8], &'a [u8])
-    ensures { (result.0.now, result.1.now) ≡ piece_of rule.entry text.now }
+fn piece<'a>(step: Step<'a>, text: &'a [u8]) -> (&'a [u8], &'a [u8])
+    ensures { (result.0.now, result.1.now) ≡ piece_of step.entry text.now }
 {
-    match rule {
-        Rule::Squeezed => squeezed_piece(text),
-        Rule::Unnumbered => unnumbered_piece(text),
-        Rule::Untagged(name) => untagged_piece(name, text),
+    match step {
+        Step::Squeezed => squeezed_piece(text),
+        Step::Unnumbered => unnumbered_piece(text),
+        Step::Untagged(name) => untagged_piece(name, text),
     }
 }
 
 /// A text, rewritten.
-pub(crate) fn rewritten(alloc: Global, rule: Rule<'_>, text: &[u8]) -> Result<Vec<u8>, AllocError>
-    ensures { IfOk result (λ v. v.items ≡ rewritten (piece_of rule.entry) text.now) }
+pub(crate) fn rewritten(alloc: Global, step: Step<'_>, text: &[u8]) -> Result<Vec<u8>, AllocError>
+    ensures { IfOk result (λ v. v.items ≡ rewritten (piece_of step.entry) text.now) }
 {
     let mut new = Vec::with_capacity(alloc, text.len())?;
     let mut rest = text;
     'pieces: while !rest.is_empty() {
-        let (put, behind) = piece(rule, rest);
+        let (put, behind) = piece(step, rest);
         new.extend_from_slice(put)?;
         rest = behind;
     }

@@ -5,6 +5,7 @@ mod again;
 mod arrays;
 mod cuts;
 mod edges;
+mod even_texts;
 mod evening;
 mod faults;
 mod growths;

@@ -135,7 +135,7 @@ pub fn calls_draw_alike()
     ensures { CallsDrawAlike }
 {}
 
-/// A glyph that is drawn in a font is drawn the same after the font is made even: without its tag, with more Subrs
+/// A glyph that is drawn in a font is drawn the same after the font is made even: with even texts, with more Subrs
 /// declared and with stubs for some that it lacks. What its charstring answers without a fault, it answers there, too.
 /// This holds where hints are replaced and where they are kept, each by itself, over the maps of both fonts and as calls
 /// see them.

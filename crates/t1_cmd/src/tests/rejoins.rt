@@ -54,6 +54,30 @@ fn cut_fonts_become_one(rt: HostRuntime) -> Result<(), Fail> {
     Ok(())
 }
 
+/// The subset of Y as another program writes it: with other white space, a number, and its tag in a comment, too.
+fn other(alloc: Global) -> Result<Vec<u8>, AllocError> {
+    let cut = subset(alloc, PFA, &[b"Y"]);
+    let short = cut_short(alloc, cut.as_slice(), b"/Subrs 7 array", b"dup 7 ")?;
+    tagged(
+        alloc,
+        short.as_slice(),
+        b" /UniqueID  5000793 def \r\n\r\n/FontName \t/GHIJKL+Tiny",
+    )
+}
+
+#[test]
+fn cuts_of_different_programs(rt: HostRuntime) -> Result<(), Fail> {
+    let (left, other) = (left(rt.alloc())?, other(rt.alloc())?);
+    let want = both(rt.alloc())?;
+    let one = rejoined(rt.alloc(), left.as_slice(), other.as_slice());
+    assert!(rt; one.as_slice() == want.as_slice(), "left and other");
+    let two = rejoined(rt.alloc(), other.as_slice(), left.as_slice());
+    assert!(rt; two.as_slice() == want.as_slice(), "other and left");
+    let whole = rejoined(rt.alloc(), other.as_slice(), PFA);
+    assert!(rt; whole.as_slice() == PFA.as_slice(), "other and Tiny");
+    Ok(())
+}
+
 #[test]
 fn conflicts_of_even_fonts(rt: HostRuntime) -> Result<(), Fail> {
     let left = left(rt.alloc())?;

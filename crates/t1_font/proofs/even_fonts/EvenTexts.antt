@@ -1,15 +1,14 @@
 -- Kept texts that are made even stay when they are made even again, and are again texts of a font, no longer than before.
-use Rattle.std.proofs.Common.{◌≡◌, ℕ, ◌≤◌, arith, Bool, true, false, cond, List, [], ◌∷◌, ◌++◌, length, Option, Some, None, is_some, Result, Ok, Err}
-use Rattle.std.proofs.Common.{inl, inr, refl, sym, ap, subst, ◌∙◌, true≢false}
-use Rattle.std.specs.Prelude.{◌&&◌, ◌||◌, not, ◌==◌}
+use Rattle.std.proofs.Common.{◌≡◌, ℕ, ◌≤◌, arith, Bool, true, false, cond, List, [], ◌∷◌, ◌++◌, length, Option, Some, None, Result, Ok, Err}
+use Rattle.std.proofs.Common.{refl, sym, ap, ◌∙◌, true≢false}
+use Rattle.std.specs.Prelude.{◌&&◌, not}
 use Rattle.std.specs.Option.{option_map, option_and_then}
 use Rattle.std.specs.Str.{bytes_eq}
-use Rattle.std.proofs.lemmas.Bool.{cases_Bool, eqb-true}
+use Rattle.std.proofs.lemmas.Bool.{eqb-true}
 use Rattle.std.proofs.lemmas.Option.{none-some}
 use Rattle.std.proofs.lemmas.Slice.Eq.{bytes_eq-Decides}
-use Rattle.t1_grammar.specs.Grammar.{Grammar, NoneIn, Stops, Lacks, first, first_at, choice}
+use Rattle.t1_grammar.specs.Grammar.{Grammar, Stops, Lacks, first, first_at, choice}
 use Rattle.t1_grammar.specs.Places.{occurs, absent_lacks}
-use Rattle.t1_bytes.specs.Laws.{AreBytes}
 use Rattle.t1_bytes.specs.Eexec.{eexec_marker}
 use Rattle.t1_font.specs.declared.even_texts.KeptText.{KeptText}
 use Rattle.t1_font.specs.declared.even_texts.KeptText.TheVariants.{Head, ClearTail, Private, Middle, Tail}
@@ -20,11 +19,10 @@ use Rattle.t1_font.specs.Pieces.{iv_of}
 use Rattle.t1_font.specs.FontValue.{Shell, texts_weight}
 use Rattle.t1_font.specs.FontTest.{eexec_there, has_marker}
 use Rattle.t1_font.specs.IsFont.{NoMarker, IsClearShell, IsPrivateShell, AreTexts}
-use Rattle.t1_font.specs.Rewriting.{rewritten}
 use Rattle.t1_font.specs.Squeezing.{squeezed_piece, squeezed}
 use Rattle.t1_font.specs.Identity.{unnumbered_piece, unnumbered}
 use Rattle.t1_font.specs.Tags.{tagged_name, untagged_piece, both_untagged}
-use Rattle.t1_font.specs.EvenTexts.{is_left, ends_at, reads_number, own_fits, next_byte, followed_fits, fits, taken, squeezed_text, even_text}
+use Rattle.t1_font.specs.EvenTexts.{is_left, ends_at, reads_number, own_fits, fits, taken, squeezed_text, even_text}
 use Rattle.t1_font.specs.EvenTexts.{same_both, both_even, without_tags, both_fit, even_clear, even_texts}
 use Rattle.t1_font.specs.EveningLaws.{EvenTextsStay}
 use Rattle.t1_font.proofs.Untested.{both_true, not_true, neither, lacks_none, no_eexec}
@@ -192,13 +190,16 @@ number_so iv (Err e) h = absurd (true≢false (sym h))
 pub fits_so : (kept : KeptText) (t : List ℕ) → fits kept t ≡ true → IsText kept t
 fits_so Head t h =
     let none = not_true (has_marker (t ++ 47 ∷ [])) h in
-    let markers = neither (occurs encoding_marker (t ++ 47 ∷ [])) (occurs eexec_there (t ++ 47 ∷ [])) none in
-    (lacks_none encoding_marker t (47 ∷ []) (absent_lacks encoding_marker (t ++ 47 ∷ []) markers.0),
-    lacks_none eexec_marker t (47 ∷ []) (no_eexec (t ++ 47 ∷ []) (absent_lacks eexec_there (t ++ 47 ∷ []) markers.1)))
+    let markers = neither (occurs encoding_marker (t ++ 47 ∷ [])) (occurs eexec_there (t ++ 47 ∷ [])) none in (
+      lacks_none encoding_marker t (47 ∷ []) (absent_lacks encoding_marker (t ++ 47 ∷ []) markers.0),
+      lacks_none eexec_marker t (47 ∷ []) (no_eexec (t ++ 47 ∷ []) (absent_lacks eexec_there (t ++ 47 ∷ []) markers.1)),
+    )
 fits_so ClearTail t h =
-    let both = both_true (not (regular_comes t)) (ends_at eexec_there (10 ∷ []) (t ++ 10 ∷ [])) h in
-    (stops_there t both.0, mapped ((first eexec_marker).read (t ++ 10 ∷ []))
-        ∙ (sym (eexec_first (t ++ 10 ∷ [])) ∙ left_so (10 ∷ []) ((first eexec_there).read (t ++ 10 ∷ [])) both.1))
+    let both = both_true (not (regular_comes t)) (ends_at eexec_there (10 ∷ []) (t ++ 10 ∷ [])) h in (
+      stops_there t both.0,
+      mapped ((first eexec_marker).read (t ++ 10 ∷ []))
+          ∙ (sym (eexec_first (t ++ 10 ∷ [])) ∙ left_so (10 ∷ []) ((first eexec_there).read (t ++ 10 ∷ [])) both.1),
+    )
 fits_so (Private iv) t h =
     let both = both_true (reads_number iv (iv_of t).read) (not (occurs subrs_marker (t ++ 47 ∷ [])) && not (occurs chars_marker (t ++ 47 ∷ []))) h in
     let none = both_true (not (occurs subrs_marker (t ++ 47 ∷ []))) (not (occurs chars_marker (t ++ 47 ∷ []))) both.1 in
@@ -258,9 +259,10 @@ clear_becomes x =
     let less = both_shrink (tagged_name mid) mid in
     taken_is same_both same_texts both_fit both_even without_tags (BothBecome x) x made
     (λ h.
-        let both = both_true (fits Head (without_tags mid).0) (fits ClearTail (without_tags mid).1) h in
-        (one_more Head x.0 mid.0 (without_tags mid).0 made.0 less.0 (fits_so Head (without_tags mid).0 both.0),
-        one_more ClearTail x.1 mid.1 (without_tags mid).1 made.1 less.1 (fits_so ClearTail (without_tags mid).1 both.1)))
+    let both = both_true (fits Head (without_tags mid).0) (fits ClearTail (without_tags mid).1) h in (
+      one_more Head x.0 mid.0 (without_tags mid).0 made.0 less.0 (fits_so Head (without_tags mid).0 both.0),
+      one_more ClearTail x.1 mid.1 (without_tags mid).1 made.1 less.1 (fits_so ClearTail (without_tags mid).1 both.1),
+    ))
 
 -- ---- shells
 

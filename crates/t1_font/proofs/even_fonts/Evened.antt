@@ -1,25 +1,17 @@
 -- A font made even is a font, and so is one that is filled.
-use Rattle.std.proofs.Common.{◌≡◌, ◌⊎◌, ℕ, ◌≤◌, ◌<◌, arith, Bool, true, false, cond, List, [], ◌∷◌, ◌++◌, map, length, Option, Some, None, is_some, inl, inr, refl, sym, ap, subst, ◌∙◌, append_assoc}
-use Rattle.std.specs.Prelude.{codes, nat_lt}
-use Rattle.std.specs.Option.{option_map, option_and_then}
+use Rattle.std.proofs.Common.{◌≡◌, ℕ, ◌≤◌, ◌<◌, arith, Bool, true, false, cond, List, [], ◌∷◌, map, Option, Some, None, inl, inr, refl, sym, ap, subst, ◌∙◌}
+use Rattle.std.specs.Prelude.{nat_lt}
+use Rattle.std.specs.Option.{option_map}
 use Rattle.std.specs.Ordering.{nat_cmp, eq_by_cmp}
 use Rattle.std.specs.Cmp.{nat_cmp_total, Equal-is}
 use Rattle.std.specs.FinMap.{find, get, entries, get-entries, get-from_entries, retain_keys, same_map, nat_cmp-IsAntisymmetric}
 use Rattle.std.proofs.lemmas.Bool.{ltb-true}
-use Rattle.std.proofs.lemmas.List.{length-append}
-use Rattle.t1_grammar.specs.Grammar.{Grammar, NoneIn, NotAtFront, unspelled}
-use Rattle.t1_bytes.specs.Laws.{AreBytes}
-use Rattle.t1_bytes.specs.Eexec.{eexec_marker}
-use Rattle.t1_font.specs.Markers.{encoding_marker}
 use Rattle.t1_font.specs.FontValue.{FontValue, Shell, SubrsShell, Numbered, declared_count, count_limit, weight_limit, weight}
 use Rattle.t1_font.specs.Cut.{stub}
 use Rattle.t1_font.specs.Maps.{merged}
 use Rattle.t1_font.specs.EvenTexts.{even_texts}
 use Rattle.t1_font.specs.Evening.{raised, even_shell, even, stubs_at, below, with_stubs, filled}
-use Rattle.t1_font.specs.IsFont.{IsFont, NoMarker, IsCharstring, SubrsFit, SubrWords, IsWord, IsPhrase}
-use Rattle.t1_font.proofs.ByteLemmas.{AreBytes-append}
-use Rattle.t1_font.proofs.canonical.Borders.{fixed_strip}
-use Rattle.t1_font.proofs.canonical.Moves.{NoneIn-append, encoding_moves, eexec_moves}
+use Rattle.t1_font.specs.IsFont.{IsFont, IsCharstring, SubrsFit, SubrWords, IsWord, IsPhrase}
 use Rattle.t1_font.proofs.MapLemmas.{is_or_not, joined, get-merged, get-retain, find_first, Some_None}
 use Rattle.t1_font.proofs.Kept.{iv_small, merged_has}
 use Rattle.t1_font.proofs.even_fonts.EvenTexts.{even_shorter, empty_stays, even_clear_shell, even_private_shell, even_are_texts}

@@ -1,7 +1,7 @@
 -- Texts that are rewritten piece by piece: each piece has bytes, and what is put in its place is no longer.
-use Rattle.std.proofs.Common.{◌≡◌, ℕ, zero, suc, ◌≤◌, ◌<◌, arith, Bool, true, false, cond, List, [], ◌∷◌, ◌++◌, length, take, drop, Option, Some, None}
+use Rattle.std.proofs.Common.{◌≡◌, ℕ, zero, suc, ◌≤◌, ◌<◌, arith, Bool, true, false, cond, List, [], ◌∷◌, ◌++◌, length, Option, Some, None}
 use Rattle.std.proofs.Common.{inl, inr, refl, sym, ap, subst, ◌∙◌, append_assoc, one-add, true≢false}
-use Rattle.std.specs.Prelude.{◌==◌, not, codes}
+use Rattle.std.specs.Prelude.{◌==◌, not}
 use Rattle.std.specs.List.{prefix_len, list_any}
 use Rattle.std.specs.Str.{bytes_eq}
 use Rattle.std.proofs.lemmas.Bool.{eqb-true}
@@ -9,14 +9,14 @@ use Rattle.std.proofs.lemmas.List.{length-append, append-nil, take-append-drop}
 use Rattle.std.proofs.lemmas.Slice.Eq.{bytes_eq-Decides}
 use Rattle.t1_bytes.specs.Laws.{AreBytes}
 use Rattle.t1_bytes.specs.Eexec.{is_blank}
-use Rattle.t1_font.specs.declared.rewriting.Rule.{Rule}
-use Rattle.t1_font.specs.declared.rewriting.Rule.TheVariants.{Squeezed, Unnumbered, Untagged}
+use Rattle.t1_font.specs.declared.rewriting.Step.{Step}
+use Rattle.t1_font.specs.declared.rewriting.Step.TheVariants.{Squeezed, Unnumbered, Untagged}
 use Rattle.t1_font.specs.Words.{is_regular}
 use Rattle.t1_font.specs.Rewriting.{Piece, pieces, rewritten, parted, TakesPiece, TakesPieces}
 use Rattle.t1_font.specs.Squeezing.{ends_line, one_space, squeezed_piece}
 use Rattle.t1_font.specs.Identity.{unique_id, extended_id, identity_line, is_in_line, with_end, first_line, without_line, unnumbered_piece}
 use Rattle.t1_font.specs.Tags.{untagged, renamed, untagged_piece}
-use Rattle.t1_font.specs.Rules.{piece_of}
+use Rattle.t1_font.specs.Steps.{piece_of}
 use Rattle.t1_font.proofs.ByteLemmas.{AreBytes-append}
 use Rattle.t1_font.proofs.read_fonts.ReadBytes.{bytes_left, bytes_right}
 use Rattle.t1_font.proofs.even_fonts.TagLemmas.{ends_untagged}
@@ -223,8 +223,8 @@ unnumbered_takes b bs = by_line (identity_line.read (b ∷ bs)) refl
           bytes = λ h. tt;
         }
 
--- the pieces of each rule
-pub rule_takes : (rule : Rule) → TakesPieces (piece_of rule)
-rule_takes Squeezed = squeezed_takes
-rule_takes Unnumbered = unnumbered_takes
-rule_takes (Untagged name) = untagged_takes name.now
+-- the pieces of each step
+pub step_takes : (step : Step) → TakesPieces (piece_of step)
+step_takes Squeezed = squeezed_takes
+step_takes Unnumbered = unnumbered_takes
+step_takes (Untagged name) = untagged_takes name.now

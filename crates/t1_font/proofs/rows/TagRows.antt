@@ -1,5 +1,5 @@
 -- Texts around an Encoding with tags before the names of their fonts, and what is left of them.
-use Rattle.std.proofs.Common.{◌≡◌, [], List, ℕ, refl}
+use Rattle.std.proofs.Common.{◌≡◌, [], refl}
 use Rattle.std.specs.Prelude.{codes}
 use Rattle.t1_grammar.specs.Grammar.{first_at}
 use Rattle.t1_font.specs.Tags.{tag, name_marker, behind_tags}

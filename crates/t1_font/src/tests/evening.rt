@@ -109,6 +109,17 @@ pub const MARKS: &[u8] = b"bs..s sb..b ..... ..... ";
 /// And when they are filled with the counts that they have.
 const AS_THEY_ARE: &[u8] = b"bs... sb..b ..... ..... ";
 
+/// A head behind a comment of so many bytes, or alone.
+fn behind_comment(alloc: Global, bytes: usize, head: &[u8]) -> Result<Vec<u8>, AllocError> {
+    let mut all = Vec::new(alloc);
+    if bytes > 0 {
+        all.resize(bytes, b'%')?;
+        all.push(b'\n')?;
+    }
+    all.extend_from_slice(head)?;
+    Ok(all)
+}
+
 // meets Source::even Ok at 0, 1000000 bytes
 #[test]
 fn heads_without_tags(rt: HostRuntime) -> Result<(), Fail> {
@@ -148,14 +159,34 @@ fn heads_without_tags(rt: HostRuntime) -> Result<(), Fail> {
             b"/Name /ABCDEF+T def ",
             "another name",
         ),
+        (
+            b"%!PS-AdobeFont-1.0: ABCDEF+T 1\n/FullName (ABCDEF+T) def /FontName /ABCDEF+T def ",
+            b"%!PS-AdobeFont-1.0: T 1\n/FullName (T) def /FontName /T def ",
+            "the name elsewhere",
+        ),
+        (
+            b"%ABCDEF+TT UVWXYZ+T\n/FontName /ABCDEF+T def ",
+            b"%ABCDEF+TT UVWXYZ+T\n/FontName /T def ",
+            "other names",
+        ),
+        (
+            b"/FontName /ABCDEF+ def ",
+            b"/FontName /ABCDEF+ def ",
+            "nothing but a tag",
+        ),
+        (
+            b"/FontName /ABCDEF-T def ",
+            b"/FontName /ABCDEF-T def ",
+            "a hyphen",
+        ),
         (b"", b"", "no head"),
     ];
     for &(head, want, what) in ROWS {
-        for &blanks in &[0, 1_000_000] {
-            let head = behind(rt.alloc(), blanks, head)?;
-            let want = behind(rt.alloc(), blanks, want)?;
+        for &bytes in &[0, 1_000_000] {
+            let head = behind_comment(rt.alloc(), bytes, head)?;
+            let want = behind_comment(rt.alloc(), bytes, want)?;
             let left = is_left(rt.alloc(), head.as_slice(), want.as_slice())?;
-            assert!(rt; left, "{what}, behind {blanks} blanks");
+            assert!(rt; left, "{what}, behind {bytes} bytes");
         }
     }
     Ok(())
