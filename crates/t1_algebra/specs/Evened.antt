@@ -34,7 +34,8 @@ EachBeside P (x ∷ xs) (y ∷ ys) = P x y × EachBeside P xs ys
 EachBeside P [] (y ∷ ys) = ⊥
 EachBeside P (x ∷ xs) [] = ⊥
 
--- glyphs stay drawn when a font's texts are made even, when it declares more Subrs and gets stubs for some that it lacks, and when the fonts of a list are made even
+-- glyphs stay drawn when a font's texts are made even, when it declares more Subrs and gets stubs for some that it lacks, and when the fonts of a list
+-- are made even
 pub record EvenedDraw : Type 0 where
   pub one : (indices : List ℕ) (count : ℕ) (f : FontValue) → AllStayDrawn f (filled indices (even count f))
   pub all : (fs : List FontValue) → EachBeside AllStayDrawn fs (evened fs)

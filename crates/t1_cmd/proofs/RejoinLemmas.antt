@@ -52,7 +52,8 @@ abbrev even_list : List FontValue → List FontValue
 even_list fs = map with_even_texts fs
 
 -- a list is grouped from left to right as what is made of each is
-grouped : (t : Grouping FontValue) (fs : List FontValue) → map_grouping with_even_texts (from_left t fs) ≡ from_left (map_grouping with_even_texts t) (even_list fs)
+grouped : (t : Grouping FontValue) (fs : List FontValue) →
+    map_grouping with_even_texts (from_left t fs) ≡ from_left (map_grouping with_even_texts t) (even_list fs)
 grouped t [] = refl
 grouped t (f ∷ fs) = grouped (two t (one f)) fs
 

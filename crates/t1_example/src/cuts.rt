@@ -17,8 +17,8 @@ use t1_font::Form;
 ///
 /// If each file, however it is spelled, is mended to a truncated subset of one font (its texts may differ in white space, in lines
 /// that number the font and in tags, and it is cut to its first Subrs, which include those that it keeps), the answer is the file
-/// of the subset of the names of both, with even texts and cut to the larger count, and only want of memory is refused. Whatever two fonts come to, each glyph that one of them draws without a fault is
-/// drawn the same in what is written.
+/// of the subset of the names of both, with even texts and cut to the larger count, and only want of memory is refused. Whatever
+/// two fonts come to, each glyph that one of them draws without a fault is drawn the same in what is written.
 pub fn cuts_joined(
     alloc: Global,
     first: &[u8],

@@ -8,7 +8,8 @@ use Rattle.t1_join.proofs.OrderLemmas.{all_leaves}
 use Rattle.t1_font.specs.{FontValue.{FontValue, SubrsShell, Numbered, declared_count, Shell}, FontModel.{subr_at}}
 use Rattle.t1_font.specs.{Evening.{raised, even, stubs_at, with_stubs, filled, largest_count, indices_of_all, evened_shells, filled_all, evened}, EvenTexts.{even_texts}, EveningLaws.{IsEvenWith}}
 use Rattle.t1_font.proofs.even_fonts.{EvenStays.{even_fonts_stay}, EvenTexts.{even_texts_stay, even_shorter}}
-use Rattle.t1_algebra.specs.{Evened.{StaysDrawn, map_subrs, AllStayDrawn, EachBeside, EvenedDraw}, States.{Compatible, KeepsLimits, joined_option, joined_font}, Groupings.{Merges}, Profile.{profile}, Rejoins.{with_even_texts, MergingFontsAreEven}}
+use Rattle.t1_algebra.specs.{Evened.{StaysDrawn, map_subrs, AllStayDrawn, EachBeside, EvenedDraw}, Rejoins.{with_even_texts, MergingFontsAreEven}}
+use Rattle.t1_algebra.specs.{States.{Compatible, KeepsLimits, joined_option, joined_font}, Groupings.{Merges}, Profile.{profile}}
 use Rattle.t1_algebra.proofs.{Words.{AllByRecursion, nat_cmp_total, nat_cmp-IsAntisymmetric}, Maps.{get-merged}, Orders.{Below, above}, Shares.{sharing}, Sets.{cases}}
 
 -- if a font has the same glyphs and more Subrs, each glyph stays drawn
@@ -110,5 +111,5 @@ each_even j (f ∷ fs) b =
 
 pub merging_fonts_are_even : MergingFontsAreEven
 merging_fonts_are_even t j h =
-    (sym (evened_texts (leaves t)) ∙ even_fonts_stay j (map with_even_texts (leaves t)) (each_even j (leaves t) (all_leaves (Below profile j) t (above profile t j h))),
-    even_groupings t j h)
+    let below = all_leaves (Below profile j) t (above profile t j h) in
+    (sym (evened_texts (leaves t)) ∙ even_fonts_stay j (map with_even_texts (leaves t)) (each_even j (leaves t) below), even_groupings t j h)

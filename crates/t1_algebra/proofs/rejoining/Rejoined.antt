@@ -5,7 +5,8 @@ use Rattle.std.specs.FinSet as sets
 use Rattle.std.specs.FinMap as maps
 use Rattle.t1_join.specs.Groupings.{Grouping, one, leaves, from_left}
 use Rattle.t1_join.proofs.OrderLemmas.{leaves_from_left}
-use Rattle.t1_font.specs.{FontValue.{FontValue, SubrsShell, Numbered, name_cmp, total, subr_weight, declared_count}, IsFont.{IsFont, IsWord, IsPhrase, SubrsFit, SubrWords}, Evening.{evened}, EvenTexts.{even_texts}}
+use Rattle.t1_font.specs.{FontValue.{FontValue, SubrsShell, Numbered, name_cmp, total, subr_weight, declared_count}, IsFont.{IsFont, IsWord, IsPhrase, SubrsFit, SubrWords}}
+use Rattle.t1_font.specs.{Evening.{evened}, EvenTexts.{even_texts}}
 use Rattle.t1_font.proofs.{even_fonts.Evened.{even_is_font, even_fit}, MapLemmas.{get-retain, find_first, total-le, Some_None}}
 use Rattle.t1_algebra.specs.{Keep.{keep, kept, subset}, Profile.{profile}, Laws.{IsOf, DrawsAlike}, Merges.{MergesTo}}
 use Rattle.t1_algebra.specs.Rejoins.{declares, Truncated, IsTruncated, truncated_fonts, sets_of, names_of_all, largest, shared_font, rejoined, Rejoins, TruncatedSubsetsRejoin}
@@ -54,7 +55,8 @@ module _ (f : FontValue) (h : IsFont f) (most : ℕ) (fits : most ≤ declared_c
       some_words x.0 x.1 (maps.entries f.subrs) s (sym (maps.get-entries f.subrs x.0) ∙ (had x.0 x.1 there).1) fit.words
 
   -- the table of Subrs fits in the cut font
-  subrs_fit : (o : Option SubrsShell) → SubrsFit (even_texts f.shell) o f.subrs → most ≤ declared_count o → (maps.entries (first_of most f).subrs ≡ [] → WordsOf [] o) →
+  subrs_fit : (o : Option SubrsShell) → SubrsFit (even_texts f.shell) o f.subrs → most ≤ declared_count o →
+      (maps.entries (first_of most f).subrs ≡ [] → WordsOf [] o) →
       SubrsFit (first_of most f).shell (option_map (declares most) o) (first_of most f).subrs
   subrs_fit None fit few empty =
       (entries_none (first_of most f).subrs (λ q. grind (cases, get_first q, get_nothing f.subrs fit.0 q)), fit.1)

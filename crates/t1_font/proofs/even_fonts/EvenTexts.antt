@@ -233,7 +233,8 @@ one_more kept old mid new h k is = record {
 
 pub squeezed_becomes : (kept : KeptText) (text : List ℕ) → Becomes kept text (squeezed_text kept text)
 squeezed_becomes kept text = taken_is bytes_eq same_bytes (fits kept) (λ t. t) squeezed (Becomes kept text) text (stays kept text)
-    (λ h. one_more kept text text (squeezed text) (stays kept text) (pieces_shrink squeezed_piece squeezed_takes (length text) text) (fits_so kept (squeezed text) h))
+    (λ h. one_more kept text text (squeezed text) (stays kept text) (pieces_shrink squeezed_piece squeezed_takes (length text) text)
+    (fits_so kept (squeezed text) h))
 
 pub even_becomes : (kept : KeptText) (text : List ℕ) → Becomes kept text (even_text kept text)
 even_becomes kept text =

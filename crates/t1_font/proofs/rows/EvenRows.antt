@@ -61,7 +61,8 @@ unfolding first_at gap eexec_marker encoding_marker eexec_there squeezed_piece d
 both_steps = refl
 
 -- a head whose name without tags would begin an Encoding keeps them, but its white space is squeezed
-encoding : even_clear (codes "/FontName  /ABCDEF+Encoding def", codes " currentfile eexec") ≡ (codes "/FontName /ABCDEF+Encoding def", codes " currentfile eexec")
+encoding : even_clear (codes "/FontName  /ABCDEF+Encoding def", codes " currentfile eexec")
+    ≡ (codes "/FontName /ABCDEF+Encoding def", codes " currentfile eexec")
 unfolding first_at gap eexec_marker encoding_marker eexec_there squeezed_piece decimal keyword one_blank unique_id extended_id access defining identity_line
     unnumbered_piece tag name_marker behind_tags
 encoding = refl

@@ -41,7 +41,8 @@ type Row = (&'static [u8], &'static [u8], &'static [u8], &'static str);
 const ROWS: &[Row] = &[
     (
         b"%! \t a\r\n\r\n/Encoding StandardEncoding def \r  b  c\r\ncurrentfile\r\neexec\n",
-        b"/lenIV  0\tdef\n\n/Subrs 1  array\ndup 0 1 RD \x0e NP\nND  \r\n a /CharStrings 1 dict dup begin\n/.notdef 1 RD \x1b ND\nend \t \nmark  currentfile\n\ncloseFile closefile",
+        b"/lenIV  0\tdef\n\n/Subrs 1  array\ndup 0 1 RD \x0e NP\nND  \r\n a /CharStrings 1 dict dup begin\n\
+          /.notdef 1 RD \x1b ND\nend \t \nmark  currentfile\n\ncloseFile closefile",
         b"%! a\n|\nb c\ncurrentfile\neexec|/lenIV 0 def\n|\na |\nmark currentfile\ncloseFile closefile|",
         "white space in each text",
     ),
@@ -52,15 +53,19 @@ const ROWS: &[Row] = &[
         "NUL and FF",
     ),
     (
-        b"%!\n/UniqueID 5000793 def\r\n/FontName /T def\n/Encoding StandardEncoding def\n/XUID [1 10 5000793] readonly def\ncurrentdict end\ncurrentfile eexec\n",
-        b"/UniqueID 5000793 |-\n/lenIV 0 def\n /UniqueID  7  noaccess ND \r/A 1 def /CharStrings 1 dict dup begin\n/.notdef 1 RD \x1b ND\nend\n/UniqueID 9 def\n/B closefile\n",
+        b"%!\n/UniqueID 5000793 def\r\n/FontName /T def\n/Encoding StandardEncoding def\n/XUID [1 10 5000793] readonly def\n\
+          currentdict end\ncurrentfile eexec\n",
+        b"/UniqueID 5000793 |-\n/lenIV 0 def\n /UniqueID  7  noaccess ND \r/A 1 def /CharStrings 1 dict dup begin\n\
+          /.notdef 1 RD \x1b ND\nend\n/UniqueID 9 def\n/B closefile\n",
         b"%!\n/FontName /T def\n|\ncurrentdict end\ncurrentfile eexec|/lenIV 0 def\n/A 1 def ||\n/UniqueID 9 def\n/B closefile|",
         "lines that number the font, not in the tail",
     ),
     (
-        b"%/UniqueID 1 def\n/UniqueID 2 def\ndup /A 1 def /UniqueID 3 def\n/UniqueIDs 4 def\n/UniqueID 5 put\n/UniqueID (6) def\n/XUID [a] def\n/Encoding StandardEncoding def\ncurrentfile eexec\n",
+        b"%/UniqueID 1 def\n/UniqueID 2 def\ndup /A 1 def /UniqueID 3 def\n/UniqueIDs 4 def\n/UniqueID 5 put\n/UniqueID (6) def\n\
+          /XUID [a] def\n/Encoding StandardEncoding def\ncurrentfile eexec\n",
         b"/lenIV 0 def /CharStrings 1 dict dup begin\n/.notdef 1 RD \x1b ND\nend\nmark currentfile closefile\n",
-        b"%/UniqueID 1 def\n/UniqueID 2 def\ndup /A 1 def /UniqueID 3 def\n/UniqueIDs 4 def\n/UniqueID 5 put\n/UniqueID (6) def\n/XUID [a] def\n|\ncurrentfile eexec|/lenIV 0 def ||\nmark currentfile closefile|",
+        b"%/UniqueID 1 def\n/UniqueID 2 def\ndup /A 1 def /UniqueID 3 def\n/UniqueIDs 4 def\n/UniqueID 5 put\n/UniqueID (6) def\n\
+          /XUID [a] def\n|\ncurrentfile eexec|/lenIV 0 def ||\nmark currentfile closefile|",
         "lines that stay",
     ),
     (

@@ -15,7 +15,8 @@ unfolding tables_from
 returns-clause-shown c =
     let h = c.in_ok-subrs.ensures.shown in
     let s : SubrsPieces = record { declared = c.args.declared; entries = h.0.0; closing = h.0.1 } in
-    let iv : (iv_of c.args.private.items).read ≡ Ok c.in_ok-len_iv.len_iv = ap (λ t. (iv_of t).read) (sym c.as_slice.ensures.value) ∙ sym c.in_ok-len_iv.ensures in
+    let iv : (iv_of c.args.private.items).read ≡ Ok c.in_ok-len_iv.len_iv =
+    ap (λ t. (iv_of t).read) (sym c.as_slice.ensures.value) ∙ sym c.in_ok-len_iv.ensures in
     let here : (first chars_marker).read c.subrs_parts.new.gathered.rest ≡ Some ((c.in-Some.middle.now, tt), c.in-Some.glyphs.now) =
     ap (first chars_marker).read (sym c.rest-between.ensures) ∙ sym c.in-Some.ensures in
     let found : (first chars_marker).read h.0.2 ≡ Some ((c.in-Some.middle.now, tt), c.in-Some.glyphs.now) = ap (first chars_marker).read (sym h.2.2) ∙ here in

@@ -20,4 +20,5 @@ pieces-preserved c =
     (sym c.is_empty.ensures ∙ c.pieces-test.true) c.piece.ensures c.pieces.invariant)
 
 pub returns : goal.returns
-returns c = all_walked (piece_of c.args.step) c.args.text.now c.pieces.new.items c.pieces.rest.now (sym c.is_empty.ensures ∙ c.pieces-test.false) c.pieces.invariant
+returns c =
+    all_walked (piece_of c.args.step) c.args.text.now c.pieces.new.items c.pieces.rest.now (sym c.is_empty.ensures ∙ c.pieces-test.false) c.pieces.invariant
