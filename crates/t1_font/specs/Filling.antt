@@ -1,7 +1,7 @@
 -- What is answered where fonts are filled.
 use Rattle.std.specs.Prelude.{◌≡◌, ◌⊎◌, ◌≤◌, ◌<◌, ℕ, nat_lt, Bool, true, false, List, [], ◌∷◌}
-use Rattle.std.specs.List.{AllByRecursion}
-use Rattle.std.specs.FinMap.{entries, retain_keys}
+use Rattle.std.specs.List.{AllByRecursion, list_all}
+use Rattle.std.specs.FinMap.{contains_key, entries, retain_keys}
 use Rattle.t1_font.specs.declared.parts.PartsFault.{PartsFault}
 use Rattle.t1_font.specs.declared.parts.PartsFault.TheVariants.{Limit, Memory}
 use Rattle.t1_font.specs.FontValue.{FontValue, Numbered, declared_count, weight, weight_limit}
@@ -25,6 +25,16 @@ Fills fs all = (all ≡ filled_all fs) × AreLight all
 abbrev pub FillRefuses : List FontValue → PartsFault → Type 0
 FillRefuses fs Limit = AnyHeavy (filled_all fs)
 FillRefuses fs Memory = Unit {0}
+
+-- ---- indices
+
+-- a map has each of these numbers
+abbrev pub has_each : Numbered → List ℕ → Bool
+has_each m numbers = list_all (contains_key m) numbers
+
+-- each of these indices is below a count
+abbrev pub are_below : ℕ → List ℕ → Bool
+are_below n indices = list_all (λ i. nat_lt i n) indices
 
 -- ---- one font, by a table of stubs
 

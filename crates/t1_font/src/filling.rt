@@ -1,18 +1,18 @@
 //! Fonts with one set of Subrs: a stub stands where a font lacks a Subr that another has.
 
-ghost use Rattle.std.specs.Prelude.{◌≡◌, ℕ, ◌++◌, ◌∷◌, [], ◌≤◌, map, true, nat_lt, IfOk, IfSome, OnOk, MatchResult};
+ghost use Rattle.std.specs.Prelude.{◌≡◌, ◌++◌, ◌∷◌, [], ◌≤◌, map, nat_lt, IfOk, OnOk, MatchResult};
 ghost use Rattle.std.specs.Ordering.{nat_cmp};
 ghost use Rattle.std.specs.FinMap as fin;
 ghost use Rattle.t1_font.specs.FontValue.{weight, weight_limit};
 ghost use Rattle.t1_font.specs.Maps.{merged};
-ghost use Rattle.t1_font.specs.Evening.{stubs_at, below, indices_of_all};
-ghost use Rattle.t1_font.specs.Filling.{Fills, FillRefuses, filled_by, FontRefused};
+ghost use Rattle.t1_font.specs.Evening.{stubs_at, indices_of_all};
+ghost use Rattle.t1_font.specs.Filling.{Fills, FillRefuses, has_each, are_below, filled_by, FontRefused};
 ghost use Rattle.t1_font.specs.Lent.{stub_at};
 ghost use Rattle.t1_join.specs.TableMeaning.{Rises};
 
 use crate::cut::cut_subrs;
 use crate::font::{Font, FontParts};
-use crate::lent::Numbered;
+use crate::lent::{Numbered, NumberedForm};
 use crate::limits::WEIGHT_LIMIT;
 use crate::parts::{PartsFault, join_codes};
 use crate::stub::STUB;
@@ -21,10 +21,7 @@ use std::collections::BTreeSet;
 
 /// Whether a table has an entry at each number at which the other has one.
 fn has_all(table: &Numbered<'_>, others: &Numbered<'_>) -> bool
-    ensures { result ≡ true
-        → (q : ℕ)
-        → fin.contains_key others.now q ≡ true
-        → fin.contains_key table.now q ≡ true }
+    ensures { result ≡ has_each table.now (fin.keys others.now) }
 {
     'others: for (number, _) in others.entries() {
         if table.get_near(number as usize, number).is_none() {
@@ -49,14 +46,9 @@ fn stubs_of_all<'a>(alloc: Global, fonts: &[Font<'a>]) -> Result<Numbered<'a>, A
 
 /// Whether all indices are below a count.
 fn are_below(indices: &[u16], declared: u16) -> bool
-    ensures { result ≡ true → below declared indices.now ≡ indices.now }
+    ensures { result ≡ are_below declared indices.now }
 {
-    'indices: for index in indices {
-        if *index >= declared {
-            return false;
-        }
-    }
-    true
+    indices.iter().all(|index| *index < declared)
 }
 
 /// The Subrs, and stubs at the indices that are below a count and have no Subr, in a list of their own.
@@ -80,26 +72,8 @@ fn made_with_stubs<'a>(
     join_codes(alloc, subrs, &stubs)
 }
 
-/// The same as they are lent, if the Subrs are a source's, all indices are below the count, and each index of a Subr is
-/// one of them.
-fn lent_with_stubs<'a>(
-    subrs: &Numbered<'a>,
-    indices: &'a [u16],
-    declared: u16,
-) -> Option<Numbered<'a>>
-    requires { Rises nat_cmp (map stub_at indices.now) }
-    ensures { IfSome result (λ m. m ≡ merged subrs.now
-        (fin.retain_keys (stubs_at indices.now) (λ i. nat_lt i declared))) }
-{
-    if are_below(indices, declared) {
-        subrs.filled_at(indices)
-    } else {
-        None
-    }
-}
-
-/// The Subrs, and stubs at the indices that are below a count and have no Subr. If the Subrs are a source's, this takes
-/// no room.
+/// The Subrs, and stubs at the indices that are below a count and have no Subr. If the Subrs are a source's, all indices are
+/// below the count and each index of a Subr is one of them, they are lent, and take no room.
 fn with_stubs<'a>(
     alloc: Global,
     subrs: &Numbered<'a>,
@@ -110,10 +84,12 @@ fn with_stubs<'a>(
     ensures { IfOk result (λ m. m ≡ merged subrs.now
         (fin.retain_keys (stubs_at indices.now) (λ i. nat_lt i declared))) }
 {
-    match lent_with_stubs(subrs, indices, declared) {
-        Some(filled) => Ok(filled),
-        None => made_with_stubs(alloc, subrs, indices, declared),
+    if let NumberedForm::Stored(own) = subrs.form() {
+        if are_below(indices, declared) && subrs.are_among(indices) {
+            return Ok(Numbered::filled(own.again(), indices));
+        }
     }
+    made_with_stubs(alloc, subrs, indices, declared)
 }
 
 /// The font with the stubs at the indices that it declares and lacks. A font without Subrs gets none, since it has no

@@ -2,20 +2,19 @@
 //!
 //! The byte strings of a source stand in its buffer, and the source's own table says where, so that table is lent and not
 //! copied. A table that a cut or a join makes has entries of its own, and one that is filled with stubs has their indices
-//! in a list that it shares with others. Beside `copy` and `filled_at`, only `len`, `at` and `place_of` ask which of these
-//! a table is; all other functions go by places.
+//! in a list that it shares with others. Beside `copy` and filling, only `len`, `at` and `place_of` ask which of these a
+//! table is; all other functions go by places.
 
-ghost use Rattle.std.specs.Prelude.{◌≡◌, ◌+◌, ◌<◌, ℕ, max, map, true, IfOk, IfSome};
+ghost use Rattle.std.specs.Prelude.{◌≡◌, ◌+◌, ◌<◌, ℕ, max, map, IfOk, IfSome};
 ghost use Rattle.std.specs.List.{slice_get};
-ghost use Rattle.t1_font.specs.Maps.{merged};
 ghost use Rattle.std.specs.Option.{option_map, option_and_then};
 ghost use Rattle.std.specs.Ordering.{nat_cmp};
 ghost use Rattle.std.specs.FinMap as fin;
 ghost use Rattle.t1_join.specs.TableMeaning.{Rises};
 ghost use Rattle.t1_font.specs.FontValue.{name_cmp, total, subr_weight, glyph_weight};
 ghost use Rattle.t1_font.specs.FontModel.{clamp};
-ghost use Rattle.t1_font.specs.Filling.{has_none};
-ghost use Rattle.t1_font.specs.Lent.{lent_number, stub_at, filled_at, lent_glyph};
+ghost use Rattle.t1_font.specs.Filling.{has_none, has_each};
+ghost use Rattle.t1_font.specs.Lent.{lent_number, stub_at, filled_at, numbered_entries, lent_glyph};
 ghost use Rattle.t1_font.specs.Ranges.{named_at};
 
 use crate::ranges::Range;
@@ -98,9 +97,9 @@ impl<'a> Numbered<'a> {
         }
     }
 
-    /// A source's Subrs, and stubs, at the indices of a list.
+    /// A source's Subrs, and stubs, at the indices of a list. This takes no room.
     #[tactic(auto, using(crate::proofs::FilledTables::same_rise))]
-    fn filled(own: StoredSubrs<'a>, indices: &'a [u16]) -> Self
+    pub(crate) fn filled(own: StoredSubrs<'a>, indices: &'a [u16]) -> Self
         requires { Rises nat_cmp (map stub_at indices.now) }
         ensures { result ≡ fin.from_sorted (map (filled_at own.entry) indices.now) }
     {
@@ -109,31 +108,19 @@ impl<'a> Numbered<'a> {
         }
     }
 
-    /// The Subrs of a source, and a stub at each other index of a list, if the list has each of their indices. This takes
-    /// no room.
-    #[tactic(auto, using(crate::proofs::LentTables::same_table, crate::proofs::FilledTables::filled_is))]
-    pub(crate) fn filled_at(&self, indices: &'a [u16]) -> Option<Self>
-        requires { Rises nat_cmp (map stub_at indices.now) }
-        ensures { IfSome result (λ m. m
-            ≡ merged self.now (fin.from_sorted (map stub_at indices.now))) }
+    /// Where the table has its entries.
+    #[tactic(auto, using(crate::proofs::LentTables::same_table))]
+    pub(crate) fn form(&self) -> &NumberedForm<'a>
+        ensures { fin.from_sorted (numbered_entries result.now) ≡ self.now }
     {
-        let NumberedForm::Stored(own) = &self.form else {
-            return None;
-        };
-        if !self.are_among(indices) {
-            return None;
-        }
-        Some(Numbered::filled(own.again(), indices))
+        &self.form
     }
 
     /// Whether a list has the number of each entry.
-    #[tactic(auto, using(std::proofs::lemmas::Map::Iter::rest_more, std::proofs::lemmas::Map::Iter::rest_all, crate::proofs::even_fonts::Filled::all_left, crate::proofs::even_fonts::Filled::one_known, crate::proofs::even_fonts::Filled::all_known))]
-    fn are_among(&self, numbers: &[u16]) -> bool
+    #[tactic(auto, using(std::proofs::lemmas::Map::Iter::rest_more, std::proofs::lemmas::Map::Iter::rest_all, crate::proofs::even_fonts::Filled::all_left, crate::proofs::even_fonts::Filled::one_known, crate::proofs::even_fonts::Filled::one_unknown, crate::proofs::even_fonts::Filled::all_known))]
+    pub(crate) fn are_among(&self, numbers: &[u16]) -> bool
         requires { Rises nat_cmp (map stub_at numbers.now) }
-        ensures { result ≡ true
-            → (q : ℕ)
-            → fin.contains_key self.now q ≡ true
-            → fin.contains_key (fin.from_sorted {R = nat_cmp} (map stub_at numbers.now)) q ≡ true }
+        ensures { result ≡ has_each (fin.from_sorted {R = nat_cmp} (map stub_at numbers.now)) (fin.keys self.now) }
     {
         'entries: for (number, _) in self.entries() {
             if !is_among(numbers, number) {

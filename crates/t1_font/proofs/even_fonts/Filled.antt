@@ -1,5 +1,5 @@
 -- Fonts that are filled one by one, by one table of stubs.
-use Rattle.std.proofs.Common.{◌≡◌, ℕ, ◌+◌, ◌≤◌, ◌<◌, Bool, true, false, cond, ◌||◌, List, [], ◌∷◌, ◌++◌, map, length, drop}
+use Rattle.std.proofs.Common.{◌≡◌, ℕ, ◌+◌, ◌≤◌, ◌<◌, Bool, true, false, cond, ◌&&◌, ◌||◌, List, [], ◌∷◌, ◌++◌, map, length, drop}
 use Rattle.std.proofs.Common.{get_or, Option, Some, None, is_some, inl, inr, refl, sym, ap, subst, ◌∙◌, arith, true≢false}
 use Rattle.std.specs.Prelude.{nat_lt, max, ◌==◌}
 use Rattle.std.specs.List.{list_any}
@@ -19,7 +19,7 @@ use Rattle.t1_font.specs.FontValue.{FontValue, Numbered, declared_count, weight,
 use Rattle.t1_font.specs.Cut.{stub}
 use Rattle.t1_font.specs.Maps.{map_values, merged}
 use Rattle.t1_font.specs.Evening.{stubs_at, below, with_stubs, filled, filled_all, indices_of_all, largest_count}
-use Rattle.t1_font.specs.Filling.{AreLight, AnyHeavy, Fills, FillRefuses, has_none, with_these, filled_by, FontRefused}
+use Rattle.t1_font.specs.Filling.{AreLight, AnyHeavy, Fills, FillRefuses, has_each, are_below, has_none, with_these, filled_by, FontRefused}
 use Rattle.t1_font.specs.IsFont.{IsFont}
 use Rattle.t1_font.proofs.MapLemmas.{joined, get-merged, get-map_values}
 use Rattle.t1_font.proofs.even_fonts.Evened.{stubs_below, filled_is_font}
@@ -63,6 +63,11 @@ IndicesSoFar m left all = (q : ℕ) → (contains_key m q || is_one q (indices_o
 -- before the first font no index is met
 pub none_so_far : (m : Numbered) (all : List FontValue) → m ≡ empty → IndicesSoFar m all all
 none_so_far m all e q = ap (λ (o : Option (List ℕ)). is_some o || is_one q (indices_of_all all)) (ap (λ (n : Numbered). get n q) e ∙ get-empty nat_cmp q)
+
+-- where both hold, each does
+and_both : (a b : Bool) → (a && b) ≡ true → (a ≡ true) × (b ≡ true)
+and_both true b h = (refl, h)
+and_both false b h = absurd (true≢false (sym h))
 
 or_false : (b : Bool) → (b || false) ≡ b
 or_false true = refl
@@ -110,35 +115,49 @@ module _ (m : Numbered) (all fs : List FontValue) (i : ℕ) (d f : FontValue)
 
 -- ---- indices that are known
 
--- each number of the second table is one of the first, or left
-abbrev pub KnownOrLeft : Numbered → Numbered → List (ℕ × List ℕ) → Type 0
-KnownOrLeft m n left = (q : ℕ) → contains_key n q ≡ true → (contains_key m q || is_one q (map (λ e. e.0) left)) ≡ true
-
-true_after : (a b : Bool) → b ≡ true → (a || b) ≡ true
-true_after true b h = refl
-true_after false b h = h
+-- a table has each number of these entries if it has each of all
+abbrev pub EachLeft : Numbered → Numbered → List (ℕ × List ℕ) → Type 0
+EachLeft m n left = has_each m (map (λ e. e.0) left) ≡ has_each m (keys n)
 
 -- before the first entry all are left
-pub all_left : (m n : Numbered) (left : List (ℕ × List ℕ)) → left ≡ entries n → KnownOrLeft m n left
-all_left m n left is q t =
-    true_after (contains_key m q) (is_one q (map (λ e. e.0) left)) (ap (λ es. is_one q (map (λ e. e.0) es)) is ∙ (sym (contains_key-keys n q) ∙ t))
+pub all_left : (m n : Numbered) (left : List (ℕ × List ℕ)) → left ≡ entries n → EachLeft m n left
+all_left m n left is = ap (λ (es : List (ℕ × List ℕ)). has_each m (map (λ e. e.0) es)) is
 
 -- a number that the first table has is left no more
-pub one_known : (m n : Numbered) (e : ℕ × List ℕ) (left : List (ℕ × List ℕ)) → contains_key m e.0 ≡ true → KnownOrLeft m n (e ∷ left) → KnownOrLeft m n left
-one_known m n e left t h q k = at (eq_by_cmp nat_cmp q e.0) refl (h q k)
-  where
-    at : (b : Bool) → eq_by_cmp nat_cmp q e.0 ≡ b → (contains_key m q || (b || is_one q (map (λ e. e.0) left))) ≡ true →
-        (contains_key m q || is_one q (map (λ e. e.0) left)) ≡ true
-    at false is w = w
-    at true is w = ap (λ b. b || is_one q (map (λ e. e.0) left)) (ap (contains_key m) (same_key is) ∙ t)
-      where
-        same_key : eq_by_cmp nat_cmp q e.0 ≡ true → q ≡ e.0
-        same_key s = nat_cmp-IsAntisymmetric q e.0 ((Equal-is (nat_cmp q e.0)).0 s)
+pub one_known : (m n : Numbered) (e : ℕ × List ℕ) (left : List (ℕ × List ℕ)) → contains_key m e.0 ≡ true → EachLeft m n (e ∷ left) → EachLeft m n left
+one_known m n e left t h = ap (λ b. b && has_each m (map (λ (e : ℕ × List ℕ). e.0) left)) (sym t) ∙ h
+
+-- one that it lacks is one of all
+pub one_unknown : (m n : Numbered) (e : ℕ × List ℕ) (left : List (ℕ × List ℕ)) → contains_key m e.0 ≡ false → EachLeft m n (e ∷ left) →
+    false ≡ has_each m (keys n)
+one_unknown m n e left t h = ap (λ b. b && has_each m (map (λ (e : ℕ × List ℕ). e.0) left)) (sym t) ∙ h
 
 -- when none is left, the first table has all
-pub all_known : (m n : Numbered) (left : List (ℕ × List ℕ)) → left ≡ [] → KnownOrLeft m n left → (q : ℕ) → contains_key n q ≡ true → contains_key m q ≡ true
-all_known m n left none h q t =
-    sym (or_false (contains_key m q)) ∙ (ap (λ es. contains_key m q || is_one q (map (λ (e : ℕ × List ℕ). e.0) es)) (sym none) ∙ h q t)
+pub all_known : (m n : Numbered) (left : List (ℕ × List ℕ)) → left ≡ [] → EachLeft m n left → true ≡ has_each m (keys n)
+all_known m n left none h = ap (λ (es : List (ℕ × List ℕ)). has_each m (map (λ e. e.0) es)) (sym none) ∙ h
+
+-- a table that has each of these numbers has one of them
+has_one : (m : Numbered) (numbers : List ℕ) → has_each m numbers ≡ true → (q : ℕ) → is_one q numbers ≡ true → contains_key m q ≡ true
+has_one m [] h q t = absurd (true≢false (sym t))
+has_one m (k ∷ ks) h q t = at (eq_by_cmp nat_cmp q k) refl t (has_one m ks both.1 q)
+  where
+    both : (contains_key m k ≡ true) × (has_each m ks ≡ true)
+    both = and_both (contains_key m k) (has_each m ks) h
+
+    at : (b : Bool) → eq_by_cmp nat_cmp q k ≡ b → (b || is_one q ks) ≡ true → (is_one q ks ≡ true → contains_key m q ≡ true) → contains_key m q ≡ true
+    at false is w others = others w
+    at true is w others = ap (contains_key m) (nat_cmp-IsAntisymmetric q k ((Equal-is (nat_cmp q k)).0 is)) ∙ both.0
+
+-- a table that has each number of another has each that the other has
+pub has_keys : (m n : Numbered) → has_each m (keys n) ≡ true → (q : ℕ) → contains_key n q ≡ true → contains_key m q ≡ true
+has_keys m n h q t = has_one m (keys n) h q (sym (contains_key-keys n q) ∙ t)
+
+-- where all indices are below a count, those that are below it are all
+pub all_below : (n : ℕ) (indices : List ℕ) → are_below n indices ≡ true → below n indices ≡ indices
+all_below n [] h = refl
+all_below n (i ∷ is) h =
+    let both = and_both (nat_lt i n) (are_below n is) h in
+    ap (λ b. cond b (i ∷ below n is) (below n is)) both.0 ∙ ap (λ (js : List ℕ). i ∷ js) (all_below n is both.1)
 
 -- the stubs at some indices have a stub at each of them, and nothing else
 pub find_stub : (q : ℕ) (indices : List ℕ) → find nat_cmp q (map (λ i. (i, stub)) indices) ≡ cond (is_one q indices) (Some stub) None

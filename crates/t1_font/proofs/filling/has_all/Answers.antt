@@ -1,9 +1,9 @@
-use Rattle.std.proofs.Common.{◌≡◌, true, ap, sym, subst, ◌∙◌, refl, List, ℕ, Option, Some, None, is_some, Bor}
+use Rattle.std.proofs.Common.{◌≡◌, true, false, ap, sym, subst, ◌∙◌, refl, List, ℕ, Option, Some, None, is_some, Bor}
 use Rattle.std.specs.Option.{option_map}
 use Rattle.std.specs.FinMap.{contains_key}
 use Rattle.std.proofs.lemmas.Map.Iter.{rest_more, rest_all}
 use Rattle.t1_font.specs.Lent.{lent_number}
-use Rattle.t1_font.proofs.even_fonts.Filled.{KnownOrLeft, all_left, one_known, all_known}
+use Rattle.t1_font.proofs.even_fonts.Filled.{EachLeft, all_left, one_known, one_unknown, all_known}
 use Rattle.t1_font.proofs.filling.has_all.Goals as goal
 
 pub others-init : goal.others-init
@@ -20,8 +20,16 @@ others-preserved c =
     let there : contains_key m c.in-Some.number ≡ true = sym (ap is_some c.get_near.ensures) ∙ (lent_there c.get_near.result ∙ c.if-is_none.ensures) in
     let more = rest_more lent_number _ _ _ _ c.in-Some.is c.next.ensures.steps in
     one_known m c.args.others.now (c.in-Some.number, c.in-Some.field-0-1.now) c.next.new.self there
-    (subst (KnownOrLeft m c.args.others.now) more c.others.invariant)
+    (subst (EachLeft m c.args.others.now) more c.others.invariant)
+
+pub returns-then-is_none : goal.returns-then-is_none
+returns-then-is_none c =
+    let m = c.args.table.now in
+    let none : contains_key m c.in-Some.number ≡ false = sym (ap is_some c.get_near.ensures) ∙ (lent_there c.get_near.result ∙ c.if-is_none.ensures) in
+    let more = rest_more lent_number _ _ _ _ c.in-Some.is c.next.ensures.steps in
+    one_unknown m c.args.others.now (c.in-Some.number, c.in-Some.field-0-1.now) c.next.new.self none
+    (subst (EachLeft m c.args.others.now) more c.others.invariant)
 
 pub returns : goal.returns
 returns c =
-    λ t. all_known c.args.table.now c.args.others.now c.others.number-iterator (rest_all lent_number _ _ _ c.in-None.is c.next.ensures.steps) c.others.invariant
+    all_known c.args.table.now c.args.others.now c.others.number-iterator (rest_all lent_number _ _ _ c.in-None.is c.next.ensures.steps) c.others.invariant

@@ -8,7 +8,7 @@ use Rattle.t1_font.specs.declared.font.Font.TheInside.{Inside}
 use Rattle.t1_font.specs.FontValue.{FontValue, Numbered}
 use Rattle.t1_font.specs.Lent.{lent_number}
 use Rattle.t1_font.specs.Maps.{merged}
-use Rattle.t1_font.proofs.even_fonts.Filled.{IndicesSoFar, none_so_far, one_more_font, no_more_font, stubs_of, all_stubs}
+use Rattle.t1_font.proofs.even_fonts.Filled.{IndicesSoFar, none_so_far, one_more_font, no_more_font, has_keys, stubs_of, all_stubs}
 use Rattle.t1_font.proofs.filling.stubs_of_all.Goals as goal
 use Rattle.t1_font.proofs.filling.stubs_of_all.Goals.{then-not-has_all+in_ok-all, else-not-has_all}
 
@@ -29,7 +29,8 @@ fonts-preserved c =
           (sym c.font-item.is) c.fonts.invariant w.in_ok-all.all (w.in_ok-all.ensures ∙ ap (merged c.fonts.all) subrs))
       | else-not-has_all w ↦ subst (λ (m : Numbered). IndicesSoFar m (drop (i + 1) fs) fs) (sym w.all-is)
           (no_more_font c.fonts.all fs fs i f f c.fonts-test.true (sym c.font-item.is) c.fonts.invariant
-          (subst (λ (n : Numbered). (q : ℕ) → contains_key n q ≡ true → contains_key c.fonts.all q ≡ true) subrs (c.has_all.ensures w.if-not-has_all.false)))
+          (subst (λ (n : Numbered). (q : ℕ) → contains_key n q ≡ true → contains_key c.fonts.all q ≡ true) subrs
+          (has_keys c.fonts.all _ (sym c.has_all.ensures ∙ w.if-not-has_all.false))))
     ]
 
 pub returns : goal.returns

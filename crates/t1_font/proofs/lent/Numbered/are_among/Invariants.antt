@@ -2,8 +2,8 @@ use Rattle.std.proofs.Common.{map}
 use Rattle.std.specs.FinMap.{from_sorted}
 use Rattle.std.specs.Ordering.{nat_cmp}
 use Rattle.t1_font.specs.Lent.{stub_at}
-use Rattle.t1_font.proofs.even_fonts.Filled.{KnownOrLeft}
+use Rattle.t1_font.proofs.even_fonts.Filled.{EachLeft}
 use Rattle.t1_font.proofs.lent.Numbered.are_among.Given as goal
 
 abbrev pub invariant-entries : goal.invariant-entries
-invariant-entries l = KnownOrLeft (from_sorted {R = nat_cmp} (map stub_at l.numbers)) l.self l.number-iterator
+invariant-entries l = EachLeft (from_sorted {R = nat_cmp} (map stub_at l.numbers)) l.self l.number-iterator
