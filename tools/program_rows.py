@@ -80,6 +80,14 @@ def small_font(name, subrs, callers):
     return head + cipher + (b"0" * 64 + b"\n") * 8 + b"cleartomark\n"
 
 
+def as_pfb(pfa):
+    """A canonical PFA as PFB: the segments of the clear text, of the cipher and of the trailer, and the end."""
+    clear, behind = pfa.split(b"eexec\n")
+    cipher, trailer = behind[:-(8 * 65 + 12)], behind[-(8 * 65 + 12):]
+    segments = [(1, clear + b"eexec\n"), (2, bytes.fromhex(cipher.decode())), (1, trailer)]
+    return b"".join(b"\x80" + bytes([kind]) + len(text).to_bytes(4, "little") + text for kind, text in segments) + b"\x80\x03"
+
+
 def version_of_the_man_page():
     """The program's name and version, as the first line of the man page has them between quotes."""
     with open(os.path.join(TOP, "docs/t1subset.1"), "rb") as f:
@@ -95,6 +103,8 @@ def files():
     given["two.cut"] = small_font(b"ZYXWVU+Small", [STUB] * 5 + [UP], {b"B": 5})
     given["other.cut"] = small_font(b"ZYXWVU+Other", [STUB] * 5 + [UP], {b"B": 5})
     word = b"/Encoding StandardEncoding"
+    given["spaced.cut"] = given["two.cut"].replace(b"/FontName ", b"% ZYXWVU+Small\t1\r\n /UniqueID 7  readonly\tdef\n\n/FontName\r")
+    given["wide.cut"] = given["two.cut"].replace(b"%!\n/FontName ", b"%!\r\n/UniqueID 7 def\r\n\r\n/FontName \t")
     given["spelled.font"] = given["one.cut"].replace(word + b" def", word + b" % a comment\n readonly def")
     given["tested.font"] = given["one.cut"].replace(b"/FontName", TESTED + b"/FontName")
     given["no.font"] = b"no font"
@@ -139,6 +149,8 @@ def rows_of_outputs(given):
     yield Row(["pfa", "tiny.pfb", "out"], 0, b"", b"", {"out": pfa})
     yield Row(["pfb", "tiny.pfa", "out"], 0, b"", b"", {"out": pfb})
     yield Row(["pfb", "tiny.pfa", "tiny.pfa"], 0, b"", b"", {"tiny.pfa": pfb})
+    yield Row(["merge", "--pfb", "out", "tiny.pfa", "tiny.pfb"], 0, b"", b"", {"out": pfb})
+    yield Row(["subset", "--pfb", "one.cut", "out", "A"], 0, b"", b"", {"out": as_pfb(given["one.cut"])})
     yield Row(["pfb", "tiny.pfb", "old"], 0, b"", b"", {"old": pfb})
     for word in ("merge", "rejoin"):
         yield Row([word, "tiny.pfb", "tiny.pfa", "tiny.pfb"], 0, b"", b"", {"tiny.pfb": pfa})
@@ -161,7 +173,13 @@ def rows_of_rejoined():
     yield Row(["merge", "out", "one.cut", "two.cut"], 1, b"", refused)
     yield Row(["rejoin", "out", "one.cut", "two.cut"], 0, b"", b"", {"out": both})
     yield Row(["rejoin", "out", "two.cut", "one.cut"], 0, b"", b"", {"out": both})
+    yield Row(["rejoin", "--pfb", "out", "one.cut", "two.cut"], 0, b"", b"", {"out": as_pfb(both)})
     yield Row(["rejoin", "one.cut", "one.cut"], 0, b"", b"", {"one.cut": untagged})
+    commented = small_font(b"Small", [STUB] * 5 + [UP], {b"B": 5}).replace(b"/FontName ", b"% Small 1\n/FontName\n")
+    yield Row(["rejoin", "out", "one.cut", "wide.cut"], 0, b"", b"", {"out": both})
+    yield Row(["rejoin", "out", "wide.cut", "one.cut"], 0, b"", b"", {"out": both})
+    yield Row(["rejoin", "out", "spaced.cut"], 0, b"", b"", {"out": commented})
+    yield Row(["pfa", "spaced.cut", "out"], 0, b"", b"", {"out": files()["spaced.cut"]})
     yield Row(["rejoin", "old", "one.cut", "other.cut"], 1, b"", refused)
     yield Row(["rejoin", "old", "one.cut", "no.font"], 1, b"", b"refused: no eexec\n")
     yield Row(["rejoin", "old", "one.cut", "absent"], 3, b"", b"failed: read\n")

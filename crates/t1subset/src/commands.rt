@@ -28,13 +28,21 @@ fn join_command<'a>(alloc: Global) -> Result<Command<'a>, AllocError> {
 const SUBSET_HELP: &str = "\
 Cuts the font to the glyphs of these names, `.notdef`, the components of
 accented glyphs, and the Subrs that all of these execute, and writes it to OUT
-as PFA. Each glyph draws as in IN. A Subr that no kept glyph executes is
+as PFA, or with --pfb as PFB. Each glyph draws as in IN. A Subr that no kept glyph executes is
 replaced by the single command `return`; Subrs 0 to 3 are always kept. So
 subsets of one font can be merged again. Without a NAME it keeps only
 `.notdef`. Put `--` before a NAME that begins with `-`. A NAME may be given
 more than once. OUT is opened only when the result is complete.
 
 Example: t1subset subset font.pfb some.pfa A B Aacute";
+
+/// The option that writes a PFB.
+fn pfb_option<'a>(alloc: Global) -> Arg<'a> {
+    Arg::new(alloc, "pfb")
+        .long("pfb")
+        .action(ArgAction::SetTrue)
+        .help("Writes a PFB")
+}
 
 fn names_word<'a>(alloc: Global) -> Arg<'a> {
     Arg::new(alloc, "NAME")
@@ -49,14 +57,16 @@ fn subset_command<'a>(alloc: Global) -> Result<Command<'a>, AllocError> {
         .after_help(SUBSET_HELP)
         .arg(word(alloc, "IN", "The font"))?
         .arg(word(alloc, "OUT", "The file that is written"))?
-        .arg(names_word(alloc))
+        .arg(names_word(alloc))?
+        .arg(pfb_option(alloc))
 }
 
 const MERGE_HELP: &str = "\
 OUT comes first: `t1subset merge a.pfa b.pfa` overwrites a.pfa.
 
-Merges the fonts and writes the result to OUT as PFA. Subsets of one font, in
-any order, give byte for byte the subset of all their names. Fonts that don't
+Merges the fonts and writes the result to OUT as PFA, or with --pfb as PFB.
+Subsets of one font, in any order, give byte for byte the subset of all their
+names. Fonts that don't
 merge are refused with the lowest conflict. A Subr that is `return`, and that
 no glyph of its font executes, gives way to the other font's. Subsets that
 other programs cut mostly need `rejoin`. OUT is opened only when the result is
@@ -67,14 +77,16 @@ Example: t1subset merge all.pfa one.pfa two.pfa";
 const REJOIN_HELP: &str = "\
 OUT comes first: `t1subset rejoin a.pfa b.pfa` overwrites a.pfa.
 
-Merges subsets that other programs cut, such as dvips and pdfTeX. These may
-put a tag of six capitals and `+` before the name of the font, and declare no
-Subrs after the last one that is used. So `rejoin` first makes the fonts even:
-it takes each as `mend` does, removes the tags, declares as many Subrs in each
-table as in the largest, and adds a Subr `return` where one font lacks a Subr
-that another has. Each glyph that draws without a fault still draws as it did.
-Then it merges them as `merge` does, and refuses what still differs. OUT is
-opened only when the result is complete.
+Merges subsets that other programs cut, such as dvips and pdfTeX. These write
+white space in their own ways, may put a tag of six capitals and `+` before the
+name of the font, and declare no Subrs after the last one that is used. So
+`rejoin` first makes the fonts even: it takes each as `mend` does, squeezes
+white space, removes lines of UniqueID and XUID and the tags, declares as many
+Subrs in each table as in the largest, and adds a Subr `return` where one font
+lacks a Subr that another has. Each glyph that draws without a fault still
+draws as it did. Then it merges them as `merge` does, and refuses what still
+differs. OUT is a PFA, or with --pfb a PFB, and is opened only when the result
+is complete.
 
 Example: t1subset rejoin all.pfa one.pfa two.pfa";
 
@@ -96,7 +108,8 @@ fn list_of_fonts_command<'a>(
         .about(about)
         .after_help(help)
         .arg(word(alloc, "OUT", "The file that is written"))?
-        .arg(fonts_word(alloc))
+        .arg(fonts_word(alloc))?
+        .arg(pfb_option(alloc))
 }
 
 fn merge_command<'a>(alloc: Global) -> Result<Command<'a>, AllocError> {
@@ -152,12 +165,7 @@ Example: t1subset mend font.pfb font.pfa";
 
 fn mend_command<'a>(alloc: Global) -> Result<Command<'a>, AllocError> {
     let about = "Writes what other programs spell as a canonical file";
-    convert_command(alloc, "mend", about, MEND_HELP)?.arg(
-        Arg::new(alloc, "pfb")
-            .long("pfb")
-            .action(ArgAction::SetTrue)
-            .help("Writes a PFB"),
-    )
+    convert_command(alloc, "mend", about, MEND_HELP)?.arg(pfb_option(alloc))
 }
 
 const CHECK_HELP: &str = "\

@@ -122,6 +122,15 @@ fn convert<'p, R: Files>(
     end(out, done, note)
 }
 
+/// The form that the words ask for.
+fn form(given: &ArgMatches<'_>) -> Form {
+    if given.get_flag("pfb") {
+        Form::Pfb
+    } else {
+        Form::Pfa
+    }
+}
+
 /// Mends a font, and adds lines that tell what is mended to those that are said behind the result.
 fn mend<'p, R: Files>(
     rt: &R,
@@ -130,14 +139,9 @@ fn mend<'p, R: Files>(
     note: &mut Note<'p>,
     told: &mut Vec<u8>,
 ) -> Result<(), RunFault> {
-    let form = if given.get_flag("pfb") {
-        Form::Pfb
-    } else {
-        Form::Pfa
-    };
     let mut input = font(rt, given)?;
     let mut out = out(rt, alloc, given);
-    match run_mend(alloc, &mut input, form, &mut out) {
+    match run_mend(alloc, &mut input, form(given), &mut out) {
         Ok(lines) => {
             end(out, Ok(()), note)?;
             *told = lines;
@@ -165,7 +169,7 @@ fn subset<'p, R: Files>(
     let names = names(alloc, given)?;
     let mut input = font(rt, given)?;
     let mut out = out(rt, alloc, given);
-    let done = run_subset(alloc, &mut input, names.as_slice(), Form::Pfa, &mut out);
+    let done = run_subset(alloc, &mut input, names.as_slice(), form(given), &mut out);
     end(out, done, note)
 }
 
@@ -193,7 +197,7 @@ fn merge<'p, R: Files>(
 ) -> Result<(), RunFault> {
     let mut fonts = fonts(rt, alloc, given)?;
     let mut out = out(rt, alloc, given);
-    let done = run_merge(alloc, fonts.as_mut_slice(), Form::Pfa, &mut out);
+    let done = run_merge(alloc, fonts.as_mut_slice(), form(given), &mut out);
     end(out, done, note)
 }
 
@@ -205,7 +209,7 @@ fn rejoin<'p, R: Files>(
 ) -> Result<(), RunFault> {
     let mut fonts = fonts(rt, alloc, given)?;
     let mut out = out(rt, alloc, given);
-    let done = run_rejoin(alloc, fonts.as_mut_slice(), Form::Pfa, &mut out);
+    let done = run_rejoin(alloc, fonts.as_mut_slice(), form(given), &mut out);
     end(out, done, note)
 }
 
