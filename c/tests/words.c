@@ -28,20 +28,17 @@ static t1subset_bytes whole(const char *path) {
 }
 
 /* The call of a word; arguments are the files and names behind it, without OUT. */
-static uint32_t call(const char *word, const t1subset_bytes *arguments, size_t count, t1subset_answer *answer) {
+static uint32_t call(const char *word, uint32_t form, const t1subset_bytes *arguments, size_t count, t1subset_answer *answer) {
     const t1subset_bytes first = count > 0 ? arguments[0] : named(""), second = count > 1 ? arguments[1] : named("");
     if (!strcmp(word, "check")) return t1subset_check(first.data, first.size, answer);
     if (!strcmp(word, "list")) return t1subset_list(first.data, first.size, answer);
     if (!strcmp(word, "show")) return t1subset_show(first.data, first.size, second.data, second.size, answer);
     if (!strcmp(word, "pfa")) return t1subset_convert(first.data, first.size, T1SUBSET_PFA, answer);
     if (!strcmp(word, "pfb")) return t1subset_convert(first.data, first.size, T1SUBSET_PFB, answer);
-    if (!strcmp(word, "mend")) return t1subset_mend(first.data, first.size, T1SUBSET_PFA, answer);
-    if (!strcmp(word, "mend --pfb")) return t1subset_mend(first.data, first.size, T1SUBSET_PFB, answer);
-    if (!strcmp(word, "subset")) {
-        return t1subset_subset(first.data, first.size, arguments + 1, count - 1, T1SUBSET_PFA, answer);
-    }
-    if (!strcmp(word, "merge")) return t1subset_merge(arguments, count, T1SUBSET_PFA, answer);
-    if (!strcmp(word, "rejoin")) return t1subset_rejoin(arguments, count, T1SUBSET_PFA, answer);
+    if (!strcmp(word, "mend")) return t1subset_mend(first.data, first.size, form, answer);
+    if (!strcmp(word, "subset")) return t1subset_subset(first.data, first.size, arguments + 1, count - 1, form, answer);
+    if (!strcmp(word, "merge")) return t1subset_merge(arguments, count, form, answer);
+    if (!strcmp(word, "rejoin")) return t1subset_rejoin(arguments, count, form, answer);
     if (!strcmp(word, "join")) return t1subset_join(first.data, first.size, second.data, second.size, answer);
     fail("no such word\n");
     return 0;
@@ -55,7 +52,7 @@ static int files_of(const char *word, int count) {
 
 static int out_of(const char *word) {
     if (!strcmp(word, "merge") || !strcmp(word, "rejoin")) return 2;
-    return !strcmp(word, "pfa") || !strcmp(word, "pfb") || !strncmp(word, "mend", 4) || !strcmp(word, "subset") ? 3 : 0;
+    return !strcmp(word, "pfa") || !strcmp(word, "pfb") || !strcmp(word, "mend") || !strcmp(word, "subset") ? 3 : 0;
 }
 
 static void tell(uint32_t number, const t1subset_answer *answer) {
@@ -87,8 +84,9 @@ static void say_mends(t1subset_bytes font) {
 int main(int count, char **words) {
     if (count < 3) return 2;
     const char *word = words[1];
-    if (!strcmp(word, "mend") && !strcmp(words[2], "--pfb")) {
-        word = "mend --pfb";
+    uint32_t form = T1SUBSET_PFA;
+    if (!strcmp(words[2], "--pfb")) {
+        form = T1SUBSET_PFB;
         words++;
         count--;
     }
@@ -102,11 +100,11 @@ int main(int count, char **words) {
         taken++;
     }
     t1subset_answer answer = T1SUBSET_ANSWER;
-    const uint32_t number = call(word, arguments, taken, &answer);
+    const uint32_t number = call(word, form, arguments, taken, &answer);
     tell(number, &answer);
     int status = number ? 1 : write_to(out ? words[out] : NULL, answer.bytes);
     if (number) fprintf(stderr, "refused: %.*s\n", (int) answer.bytes.size, (const char *) answer.bytes.data);
-    else if (!status && !strncmp(word, "mend", 4)) say_mends(arguments[0]);
+    else if (!status && !strcmp(word, "mend")) say_mends(arguments[0]);
     t1subset_free(&answer);
     for (size_t at = 0; at < taken && at < (size_t) files; at++) free((void *) arguments[at].data);
     free(arguments);
