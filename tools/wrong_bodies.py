@@ -102,6 +102,17 @@ def apply(edit, crate_folder):
     return None
 
 
+def leave_one_test(folder, test):
+    """Takes all other tests out of a crate, since the wanted one is seldom the first and each takes its time."""
+    for path in glob.glob(os.path.join(folder, "src", "**", "*.rt"), recursive=True):
+        with open(path, encoding="utf-8") as f:
+            whole = f.read()
+        left = re.sub(rf"^(?://[^\n]*\n)*#\[test\]\nfn (?!{test}\().*?^\}}\n", "", whole, flags=re.S | re.M)
+        if left != whole:
+            with open(path, "w", encoding="utf-8") as f:
+                f.write(left)
+
+
 def caught(crate, edit):
     """What the tests of a crate say of an edit, tried in its own copy without any proof."""
     name, test = os.path.basename(edit), catcher(edit)
@@ -111,6 +122,7 @@ def caught(crate, edit):
         bad = apply(edit, folder)
         if bad:
             return [(name, f"test {crate}/{name}: BAD EDIT: {bad}")]
+        leave_one_test(folder, test)
         words = ["rt", "try", "--test", "--seconds", SECONDS]
         done = subprocess.run(words, cwd=folder, capture_output=True, text=True, errors="replace")
     # What stands below the test's line, up to the next test: a test that is cut off has caught nothing.
