@@ -1,7 +1,9 @@
 -- Lines that number a font: UniqueID and XUID (Adobe Type 1 Font Format 1.1, chapters 2 and 5; PostScript Language Reference, 5.6).
 -- A printer may keep what it drew of a font under its number, so a font that cuts of another come to has no number.
 use Rattle.std.specs.Prelude.{ℕ, ◌==◌, ◌||◌, not, Bool, List, [], ◌∷◌, ◌++◌, codes, Option, Some, None, is_some}
-use Rattle.t1_grammar.specs.Grammar.{Grammar, pure, ◌>>◌, before, fixed, run, either, may_be}
+use Rattle.std.specs.Option.{option_and_then}
+use Rattle.std.proofs.Common.{ap}
+use Rattle.t1_grammar.specs.Grammar.{Grammar, pure, ◌>>◌, before, fixed, run, either, may_be, Begins}
 use Rattle.t1_font.specs.Words.{is_digit, keyword, decimal}
 use Rattle.t1_font.specs.Rewriting.{Piece, parted, rewritten}
 
@@ -78,3 +80,13 @@ unnumbered_piece text = without_line text (identity_line.read text)
 -- a text without the lines that number its font
 abbrev pub unnumbered : List ℕ → List ℕ
 unnumbered text = rewritten unnumbered_piece text
+
+-- ---- the text that each begins with
+
+pub unique_begins : Begins (codes "/UniqueID ") unique_id
+unfolding unique_id
+unique_begins bytes none = ap (option_and_then _) none
+
+pub extended_begins : Begins (codes "/XUID") extended_id
+unfolding extended_id
+extended_begins bytes none = ap (option_and_then _) none

@@ -2,15 +2,14 @@
 
 ghost use Rattle.std.specs.Prelude.{◌≡◌, ◌++◌, ◌∷◌, [], IfOk};
 ghost use Rattle.std.specs.Option.{option_map};
-ghost use Rattle.t1_grammar.specs.Places.{occurs};
 ghost use Rattle.t1_font.specs.Pieces.{iv_of};
 ghost use Rattle.t1_font.specs.Tags.{tagged_name};
 ghost use Rattle.t1_font.specs.EvenTexts.{reads_number, own_fits, next_byte, followed_fits, fits, ends_at, squeezed_text, even_text, both_even, without_tags, same_both, even_clear};
 
 use crate::font_test::{EexecMarker, has_marker};
-use crate::markers::{CharsMarker, Closefile, Marker, SubrsMarker, first};
+use crate::markers::{CharsMarker, Closefile, Marker, SubrsMarker, first, occurs};
 use crate::private::iv_of;
-use crate::rewriting::{Step, rewritten};
+use crate::rewriting::{Step, rewritten, squeezed, unnumbered};
 use crate::tags::tagged_name;
 use crate::words::regular_comes;
 use std::alloc::{AllocError, Global};
@@ -26,13 +25,6 @@ pub(crate) enum KeptText {
 }
 
 // ---- texts of a font
-
-/// Whether a marker stands somewhere in a text.
-fn occurs<M: Marker>(text: &[u8]) -> bool
-    ensures { result ≡ occurs M.marker text.now }
-{
-    first::<M>(text).is_some()
-}
 
 /// Whether a marker stands in a text, and these bytes behind the first one.
 fn ends_at<M: Marker>(rest: &[u8], text: &[u8]) -> bool
@@ -116,11 +108,11 @@ pub(crate) fn squeezed_text(
 ) -> Result<Vec<u8>, AllocError>
     ensures { IfOk result (λ v. v.items ≡ squeezed_text kept text.now) }
 {
-    let mut new = rewritten(alloc, Step::Squeezed, text)?;
+    let mut new = squeezed(alloc, text)?;
     if new.as_slice() == text {
         return Ok(new);
     }
-    let again = rewritten(alloc, Step::Squeezed, new.as_slice())?;
+    let again = squeezed(alloc, new.as_slice())?;
     if fits(kept, &mut new)? && again.as_slice() == new.as_slice() {
         Ok(new)
     } else {
@@ -133,12 +125,12 @@ pub(crate) fn even_text(alloc: Global, kept: KeptText, text: &[u8]) -> Result<Ve
     ensures { IfOk result (λ v. v.items ≡ even_text kept text.now) }
 {
     let old = squeezed_text(alloc, kept, text)?;
-    let mut new = rewritten(alloc, Step::Unnumbered, old.as_slice())?;
+    let mut new = unnumbered(alloc, old.as_slice())?;
     if new.as_slice() == old.as_slice() {
         return Ok(new);
     }
     let before = squeezed_text(alloc, kept, new.as_slice())?;
-    let again = rewritten(alloc, Step::Unnumbered, new.as_slice())?;
+    let again = unnumbered(alloc, new.as_slice())?;
     if fits(kept, &mut new)?
         && (before.as_slice() == new.as_slice() && again.as_slice() == new.as_slice())
     {

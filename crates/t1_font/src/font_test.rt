@@ -215,7 +215,7 @@ fn found_test(head: &[u8]) -> Option<(&[u8], &[u8])>
 }
 
 /// Whether a blank, a tab, CR or LF comes.
-fn blank_comes(bytes: &[u8]) -> bool
+pub(crate) fn blank_comes(bytes: &[u8]) -> bool
     ensures { result ≡ blank_comes bytes.now }
 {
     !bytes.is_empty() && matches!(bytes[0], b' ' | b'\t' | b'\r' | b'\n')

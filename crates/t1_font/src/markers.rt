@@ -3,6 +3,7 @@
 ghost use Rattle.std.specs.Prelude.{◌≡◌, ℕ, List, codes};
 ghost use Rattle.std.specs.Option.{option_map};
 ghost use Rattle.t1_grammar.specs.Grammar.{Grammar, first, Begins};
+ghost use Rattle.t1_grammar.specs.Places.{occurs};
 ghost use Rattle.t1_font.specs.Markers.{white_comes, break_comes, encoding_marker, subrs_marker, chars_marker, len_iv_marker, len_iv, closefile};
 ghost use Rattle.t1_font.specs.Markers.{encoding_begins, subrs_begins, chars_begins, len_iv_begins, closefile_begins};
 
@@ -44,6 +45,13 @@ pub fn first<M: Marker>(bytes: &[u8]) -> Option<(&[u8], M, &[u8])>
         from = place + 1;
     }
     None
+}
+
+/// Whether a marker stands somewhere in a text.
+pub fn occurs<M: Marker>(text: &[u8]) -> bool
+    ensures { result ≡ occurs M.marker text.now }
+{
+    first::<M>(text).is_some()
 }
 
 fn white_comes(bytes: &[u8]) -> bool

@@ -1,17 +1,20 @@
 //! Texts that are rewritten from left to right: white space is squeezed, lines that number a font go, and names lose their tags.
 
-ghost use Rattle.std.specs.Prelude.{◌≡◌, ◌==◌, not, Some, length, take_while, IfOk};
+ghost use Rattle.std.specs.Prelude.{◌≡◌, ◌==◌, not, Some, length, take_while, codes, IfOk};
 ghost use Rattle.std.specs.List.{list_any};
 ghost use Rattle.std.specs.Option.{option_map};
 ghost use Rattle.t1_grammar.specs.Grammar.{run};
 ghost use Rattle.t1_bytes.specs.Eexec.{is_blank};
 ghost use Rattle.t1_font.specs.Words.{is_regular};
 ghost use Rattle.t1_font.specs.Rewriting.{rewritten, parted};
-ghost use Rattle.t1_font.specs.Squeezing.{ends_line, one_space, squeezed_piece};
-ghost use Rattle.t1_font.specs.Identity.{is_digit_or_blank, one_blank, unique_id, extended_id, access, defining, goes_on, identity_line, is_in_line, first_line, unnumbered_piece};
+ghost use Rattle.t1_font.specs.Squeezing.{ends_line, one_space, is_solid, squeezed_piece, stays, staying, squeezed};
+ghost use Rattle.t1_font.specs.Identity.{is_digit_or_blank, one_blank, unique_id, extended_id, access, defining, goes_on, identity_line};
+ghost use Rattle.t1_font.specs.Identity.{is_in_line, first_line, unnumbered_piece, unnumbered, unique_begins, extended_begins};
 ghost use Rattle.t1_font.specs.Tags.{renamed, untagged_piece};
 ghost use Rattle.t1_font.specs.Steps.{piece_of};
 
+use crate::font_test::blank_comes;
+use crate::markers::{Marker, occurs};
 use crate::tags::untagged;
 use crate::words::{decimal_at, is_regular, keyword_at, regular_at, regular_comes};
 use std::alloc::{AllocError, Global};
@@ -20,8 +23,6 @@ use t1_bytes::texts::fixed_at;
 /// How a text is rewritten.
 #[derive(Clone, Copy)]
 pub(crate) enum Step<'a> {
-    /// Each longest run of blanks, tabs, CR and LF becomes one byte.
-    Squeezed,
     /// Lines that number the font go.
     Unnumbered,
     /// This name loses its tags wherever it stands as a word.
@@ -46,7 +47,7 @@ fn blank_len(text: &[u8]) -> usize
 
 /// How many other bytes come first.
 fn solid_len(text: &[u8]) -> usize
-    ensures { result ≡ length (take_while (λ b. not (is_blank b)) text.now) }
+    ensures { result ≡ length (take_while is_solid text.now) }
 {
     text.iter().take_while(|b| !is_blank(**b)).count()
 }
@@ -76,6 +77,45 @@ fn squeezed_piece(text: &[u8]) -> (&[u8], &[u8])
     } else {
         text.split_at(solid_len(text))
     }
+}
+
+/// Whether a byte stays before others.
+fn stays(byte: u8, behind: &[u8]) -> bool
+    ensures { result ≡ stays byte behind.now }
+{
+    !is_blank(byte) || ((byte == b' ' || byte == b'\n') && !blank_comes(behind))
+}
+
+/// How many bytes from the front on stay.
+fn staying(text: &[u8]) -> usize
+    ensures { result ≡ staying text.now }
+{
+    let mut count = 0;
+    let mut rest = text;
+    'bytes: while let Some((byte, behind)) = rest.split_first() {
+        if !stays(*byte, behind) {
+            return count;
+        }
+        count += 1;
+        rest = behind;
+    }
+    count
+}
+
+/// A text with each longest run of blanks, tabs, CR and LF made one byte. What stays is copied as far as it goes.
+pub(crate) fn squeezed(alloc: Global, text: &[u8]) -> Result<Vec<u8>, AllocError>
+    ensures { IfOk result (λ v. v.items ≡ squeezed text.now) }
+{
+    let mut new = Vec::with_capacity(alloc, text.len())?;
+    let mut rest = text;
+    'runs: while !rest.is_empty() {
+        let (kept, behind) = rest.split_at(staying(rest));
+        new.extend_from_slice(kept)?;
+        let (put, behind) = squeezed_piece(behind);
+        new.extend_from_slice(put)?;
+        rest = behind;
+    }
+    Ok(new)
 }
 
 // ---- lines that number a font
@@ -209,6 +249,68 @@ fn unnumbered_piece(text: &[u8]) -> (&[u8], &[u8])
     }
 }
 
+/// `/UniqueID` and a decimal.
+#[derive(Clone, Copy)]
+struct UniqueId;
+
+impl Marker for UniqueId {
+    ghost Said = { Unit {0} };
+
+    ghost said = { λ _. tt };
+
+    ghost text = { codes "/UniqueID " };
+
+    ghost marker = { unique_id };
+
+    fn text() -> &'static [u8] {
+        b"/UniqueID "
+    }
+
+    fn at(bytes: &[u8]) -> Option<(UniqueId, &[u8])> {
+        let rest = unique_id_at(bytes)?;
+        Some((UniqueId, rest))
+    }
+
+    ghost begins = { unique_begins };
+}
+
+/// `/XUID` and numbers in brackets.
+#[derive(Clone, Copy)]
+struct ExtendedId;
+
+impl Marker for ExtendedId {
+    ghost Said = { Unit {0} };
+
+    ghost said = { λ _. tt };
+
+    ghost text = { codes "/XUID" };
+
+    ghost marker = { extended_id };
+
+    fn text() -> &'static [u8] {
+        b"/XUID"
+    }
+
+    fn at(bytes: &[u8]) -> Option<(ExtendedId, &[u8])> {
+        let rest = extended_id_at(bytes)?;
+        Some((ExtendedId, rest))
+    }
+
+    ghost begins = { extended_begins };
+}
+
+/// A text without the lines that number its font.
+#[tactic(auto, using(crate::proofs::even_fonts::RewritingLemmas::no_numbers))]
+pub(crate) fn unnumbered(alloc: Global, text: &[u8]) -> Result<Vec<u8>, AllocError>
+    ensures { IfOk result (λ v. v.items ≡ unnumbered text.now) }
+{
+    if occurs::<UniqueId>(text) || occurs::<ExtendedId>(text) {
+        rewritten(alloc, Step::Unnumbered, text)
+    } else {
+        Vec::from_slice(alloc, text)
+    }
+}
+
 // ---- tags
 
 /// How many bytes come first that aren't regular.
@@ -244,7 +346,6 @@ fn piece<'a>(step: Step<'a>, text: &'a [u8]) -> (&'a [u8], &'a [u8])
     ensures { (result.0.now, result.1.now) ≡ piece_of step.entry text.now }
 {
     match step {
-        Step::Squeezed => squeezed_piece(text),
         Step::Unnumbered => unnumbered_piece(text),
         Step::Untagged(name) => untagged_piece(name, text),
     }

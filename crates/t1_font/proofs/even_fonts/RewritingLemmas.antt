@@ -1,24 +1,27 @@
 -- Texts that are rewritten piece by piece: each piece has bytes, and what is put in its place is no longer.
-use Rattle.std.proofs.Common.{◌≡◌, ℕ, zero, suc, ◌≤◌, ◌<◌, arith, Bool, true, false, cond, List, [], ◌∷◌, ◌++◌, length, Option, Some, None}
+use Rattle.std.proofs.Common.{◌≡◌, ◌⊎◌, ◌&&◌, ◌||◌, ℕ, zero, suc, ◌≤◌, ◌<◌, arith, Bool, true, false, cond, List, [], ◌∷◌, ◌++◌, length, take, drop, Option, Some, None}
 use Rattle.std.proofs.Common.{inl, inr, refl, sym, ap, subst, ◌∙◌, append_assoc, one-add, true≢false}
 use Rattle.std.specs.Prelude.{◌==◌, not}
 use Rattle.std.specs.List.{prefix_len, list_any}
 use Rattle.std.specs.Str.{bytes_eq}
 use Rattle.std.proofs.lemmas.Bool.{eqb-true}
-use Rattle.std.proofs.lemmas.List.{length-append, append-nil, take-append-drop}
+use Rattle.std.proofs.lemmas.List.{length-append, append-nil, length-drop, take-append-drop}
 use Rattle.std.proofs.lemmas.Slice.Eq.{bytes_eq-Decides}
 use Rattle.t1_bytes.specs.Laws.{AreBytes}
-use Rattle.t1_bytes.specs.Eexec.{is_blank}
+use Rattle.t1_grammar.specs.Grammar.{Grammar, Lacks, unread}
+use Rattle.t1_grammar.specs.Places.{occurs, absent_lacks}
+use Rattle.t1_bytes.specs.Eexec.{is_blank, blank_comes}
 use Rattle.t1_font.specs.declared.rewriting.Step.{Step}
-use Rattle.t1_font.specs.declared.rewriting.Step.TheVariants.{Squeezed, Unnumbered, Untagged}
+use Rattle.t1_font.specs.declared.rewriting.Step.TheVariants.{Unnumbered, Untagged}
 use Rattle.t1_font.specs.Words.{is_regular}
 use Rattle.t1_font.specs.Rewriting.{Piece, pieces, rewritten, parted, TakesPiece, TakesPieces}
-use Rattle.t1_font.specs.Squeezing.{ends_line, one_space, squeezed_piece}
-use Rattle.t1_font.specs.Identity.{unique_id, extended_id, identity_line, is_in_line, with_end, first_line, without_line, unnumbered_piece}
+use Rattle.t1_font.specs.Squeezing.{ends_line, one_space, is_solid, squeezed_piece, squeezed, stays, staying}
+use Rattle.t1_font.specs.Identity.{unique_id, extended_id, identity_line, is_in_line, with_end, first_line, without_line, unnumbered_piece, unnumbered}
 use Rattle.t1_font.specs.Tags.{untagged, renamed, untagged_piece}
 use Rattle.t1_font.specs.Steps.{piece_of}
 use Rattle.t1_font.proofs.ByteLemmas.{AreBytes-append}
 use Rattle.t1_font.proofs.read_fonts.ReadBytes.{bytes_left, bytes_right}
+use Rattle.t1_font.proofs.Untested.{both_true, not_true}
 use Rattle.t1_font.proofs.even_fonts.TagLemmas.{ends_untagged}
 
 -- ---- a walk over pieces
@@ -128,7 +131,7 @@ squeezed_takes b bs = by_first (is_blank b) refl
     run : List ℕ
     run = (parted is_blank text).0
 
-    by_first : (x : Bool) → is_blank b ≡ x → TakesPiece text (cond x (one_space run, (parted is_blank text).1) (parted (λ b. not (is_blank b)) text))
+    by_first : (x : Bool) → is_blank b ≡ x → TakesPiece text (cond x (one_space run, (parted is_blank text).1) (parted is_solid text))
     by_first true e =
         let one = one_byte (list_any ends_line run) in
         record {
@@ -138,7 +141,7 @@ squeezed_takes b bs = by_first (is_blank b) refl
           short = omega (arith, parted_some is_blank b bs e, one.0);
           bytes = λ h. one.1;
         }
-    by_first false e = own_part (λ b. not (is_blank b)) b bs (not_so (is_blank b) e)
+    by_first false e = own_part is_solid b bs (not_so (is_blank b) e)
 
 -- a name is not shorter than what stands behind its tags
 renamed_shrinks : (name word : List ℕ) → Shrinks word (renamed name word)
@@ -186,6 +189,14 @@ numbered_some text rest s = elim s.4 [
       omega (arith, ap length s.3, length-append s.1 s.2, ap length u.0.3, length-append u.0.1 u.0.2, ten)
 ]
 
+-- a line and what stands behind it are the text
+line_whole : (b : ℕ) (bs : List ℕ) → b ∷ bs ≡ (first_line (b ∷ bs)).0 ++ (first_line (b ∷ bs)).1
+line_whole b bs = by_end (parted is_in_line (b ∷ bs)).0 (parted is_in_line (b ∷ bs)).1 (parted_whole is_in_line (b ∷ bs))
+  where
+    by_end : (body rest : List ℕ) → b ∷ bs ≡ body ++ rest → b ∷ bs ≡ (with_end body rest).0 ++ (with_end body rest).1
+    by_end body [] whole = whole
+    by_end body (c ∷ rest) whole = whole ∙ sym (append_assoc body (c ∷ []) rest)
+
 -- a line has bytes
 line_takes : (b : ℕ) (bs : List ℕ) → TakesPiece (b ∷ bs) (first_line (b ∷ bs))
 line_takes b bs = by_end (parted is_in_line (b ∷ bs)).0 (parted is_in_line (b ∷ bs)).1 (parted_whole is_in_line (b ∷ bs))
@@ -225,6 +236,178 @@ unnumbered_takes b bs = by_line (identity_line.read (b ∷ bs)) refl
 
 -- the pieces of each step
 pub step_takes : (step : Step) → TakesPieces (piece_of step)
-step_takes Squeezed = squeezed_takes
 step_takes Unnumbered = unnumbered_takes
 step_takes (Untagged name) = untagged_takes name.now
+
+-- ---- one piece of a text
+
+-- a text is rewritten the same way whatever more pieces it might have
+enough : (piece : Piece) → TakesPieces piece → (n m : ℕ) (text : List ℕ) → length text ≤ n → length text ≤ m → pieces piece n text ≡ pieces piece m text
+enough piece takes zero zero text le le2 = refl
+enough piece takes zero (suc m) [] le le2 = refl
+enough piece takes zero (suc m) (b ∷ bs) le le2 = absurd (omega (arith, le))
+enough piece takes (suc n) zero [] le le2 = refl
+enough piece takes (suc n) zero (b ∷ bs) le le2 = absurd (omega (arith, le2))
+enough piece takes (suc n) (suc m) [] le le2 = refl
+enough piece takes (suc n) (suc m) (b ∷ bs) le le2 =
+    let t = takes b bs in
+    let x = piece (b ∷ bs) in
+    let less : length x.1 < length (b ∷ bs) = omega (arith, ap length t.whole, length-append t.own x.1, t.some) in
+    ap (λ (u : List ℕ). x.0 ++ u) (enough piece takes n m x.1 (omega (arith, le, less)) (omega (arith, le2, less)))
+
+-- what is put in place of the first piece, and the rest rewritten
+pub one_piece : (piece : Piece) → TakesPieces piece → (b : ℕ) (bs : List ℕ) →
+    rewritten piece (b ∷ bs) ≡ (piece (b ∷ bs)).0 ++ rewritten piece (piece (b ∷ bs)).1
+one_piece piece takes b bs =
+    let t = takes b bs in
+    let x = piece (b ∷ bs) in
+    let less : length x.1 < length (b ∷ bs) = omega (arith, ap length t.whole, length-append t.own x.1, t.some) in
+    ap (λ (u : List ℕ). x.0 ++ u) (enough piece takes (length bs) (length x.1) x.1 (omega (arith, less)) (omega arith))
+
+-- ---- bytes that stay
+
+-- the piece at a byte that is white space, and at one that isn't
+piece_at : (b : ℕ) (bs : List ℕ) (x : Bool) → is_blank b ≡ x →
+    squeezed_piece (b ∷ bs) ≡ cond x (one_space (parted is_blank (b ∷ bs)).0, (parted is_blank (b ∷ bs)).1) (parted is_solid (b ∷ bs))
+unfolding squeezed_piece
+piece_at b bs x e = ap (λ (y : Bool). cond y (one_space (parted is_blank (b ∷ bs)).0, (parted is_blank (b ∷ bs)).1) (parted is_solid (b ∷ bs))) e
+
+-- what stands behind a byte that isn't white space begins with the rest of its run
+solid_rest : (bs : List ℕ) → squeezed bs ≡ (parted is_solid bs).0 ++ squeezed (parted is_solid bs).1
+solid_rest [] = refl
+solid_rest (c ∷ cs) = by_first (is_blank c) refl
+  where
+    by_first : (x : Bool) → is_blank c ≡ x → squeezed (c ∷ cs) ≡ (parted is_solid (c ∷ cs)).0 ++ squeezed (parted is_solid (c ∷ cs)).1
+    by_first true e = let no : is_solid c ≡ false = ap not e in rw (no) refl
+    by_first false e = one_piece squeezed_piece squeezed_takes c cs ∙ ap (λ (y : List ℕ × List ℕ). y.0 ++ squeezed y.1) (piece_at c cs false e)
+
+-- a front that goes on with one byte more
+parted_next : (p : ℕ → Bool) (b : ℕ) (bs : List ℕ) → p b ≡ true → parted p (b ∷ bs) ≡ (b ∷ (parted p bs).0, (parted p bs).1)
+parted_next p b bs e = rw (e, one-add) refl
+
+-- a byte that isn't white space stays
+solid_stays : (b : ℕ) (bs : List ℕ) → is_blank b ≡ false → squeezed (b ∷ bs) ≡ b ∷ squeezed bs
+solid_stays b bs e =
+    one_piece squeezed_piece squeezed_takes b bs
+    ∙ (ap (λ (y : List ℕ × List ℕ). y.0 ++ squeezed y.1) (piece_at b bs false e ∙ parted_next is_solid b bs (ap not e))
+    ∙ ap (λ (u : List ℕ). b ∷ u) (sym (solid_rest bs)))
+
+-- no white space is at the front of a text where none comes
+no_blank : (bs : List ℕ) → blank_comes bs ≡ false → parted is_blank bs ≡ ([], bs)
+no_blank [] h = refl
+no_blank (c ∷ cs) h = rw h refl
+
+-- one blank, or one LF, is what becomes of it
+one_is : (b : ℕ) → (b == 32 || b == 10) ≡ true → one_space (b ∷ []) ≡ b ∷ []
+one_is b h = by_blank (b == 32) refl h
+  where
+    by_blank : (x : Bool) → (b == 32) ≡ x → (x || b == 10) ≡ true → one_space (b ∷ []) ≡ b ∷ []
+    by_blank true e k = subst (λ (c : ℕ). one_space (c ∷ []) ≡ c ∷ []) (sym (eqb-true b 32 e)) refl
+    by_blank false e k = subst (λ (c : ℕ). one_space (c ∷ []) ≡ c ∷ []) (sym (eqb-true b 10 k)) refl
+
+-- a blank or LF before other bytes stays
+blank_stays : (b : ℕ) (bs : List ℕ) → is_blank b ≡ true → (b == 32 || b == 10) ≡ true → blank_comes bs ≡ false → squeezed (b ∷ bs) ≡ b ∷ squeezed bs
+blank_stays b bs e one none =
+    let front : parted is_blank (b ∷ bs) ≡ (b ∷ [], bs) = parted_next is_blank b bs e ∙ ap (λ (y : List ℕ × List ℕ). (b ∷ y.0, y.1)) (no_blank bs none) in
+    one_piece squeezed_piece squeezed_takes b bs
+    ∙ (ap (λ (y : List ℕ × List ℕ). y.0 ++ squeezed y.1) (piece_at b bs true e)
+    ∙ (ap (λ (y : List ℕ × List ℕ). one_space y.0 ++ squeezed y.1) front ∙ ap (λ (u : List ℕ). u ++ squeezed bs) (one_is b one)))
+
+-- a byte that stays does
+one_stays : (b : ℕ) (bs : List ℕ) → stays b bs ≡ true → squeezed (b ∷ bs) ≡ b ∷ squeezed bs
+one_stays b bs h = by_blank (is_blank b) refl h
+  where
+    by_blank : (x : Bool) → is_blank b ≡ x → (not x || ((b == 32 || b == 10) && not (blank_comes bs))) ≡ true → squeezed (b ∷ bs) ≡ b ∷ squeezed bs
+    by_blank false e k = solid_stays b bs e
+    by_blank true e k =
+        let both = both_true (b == 32 || b == 10) (not (blank_comes bs)) k in
+        blank_stays b bs e both.0 (not_true (blank_comes bs) both.1)
+
+-- as many bytes as stay are copied
+pub all_stay : (t : List ℕ) → squeezed t ≡ take (staying t) t ++ squeezed (drop (staying t) t)
+all_stay [] = refl
+all_stay (b ∷ bs) = by_first (stays b bs) refl (all_stay bs)
+  where
+    by_first : (x : Bool) → stays b bs ≡ x → squeezed bs ≡ take (staying bs) bs ++ squeezed (drop (staying bs) bs) →
+        squeezed (b ∷ bs) ≡ take (cond x (suc (staying bs)) 0) (b ∷ bs) ++ squeezed (drop (cond x (suc (staying bs)) 0) (b ∷ bs))
+    by_first false e rest = refl
+    by_first true e rest = one_stays b bs e ∙ ap (λ (u : List ℕ). b ∷ u) rest
+
+-- ---- squeezing
+
+-- some of a text is squeezed, and the rest is left
+abbrev pub SqueezedSoFar : List ℕ → List ℕ → List ℕ → Type 0
+SqueezedSoFar text out rest = out ++ squeezed rest ≡ squeezed text
+
+-- what is put in place of the piece behind the bytes that stay
+piece_behind : (behind put left : List ℕ) → (put, left) ≡ squeezed_piece behind → squeezed behind ≡ put ++ squeezed left
+unfolding squeezed_piece
+piece_behind [] put left is = ap (λ (y : List ℕ × List ℕ). y.0 ++ squeezed y.1) (sym is)
+piece_behind (c ∷ cs) put left is =
+    one_piece squeezed_piece squeezed_takes c cs ∙ ap (λ (y : List ℕ × List ℕ). y.0 ++ squeezed y.1) (sym is)
+
+-- less is left behind it
+piece_less : (behind put left : List ℕ) → (put, left) ≡ squeezed_piece behind → (length left < length behind) ⊎ (length left ≡ 0)
+unfolding squeezed_piece
+piece_less [] put left is = inr (ap (λ (y : List ℕ × List ℕ). length y.1) is)
+piece_less (c ∷ cs) put left is =
+    let t = squeezed_takes c cs in
+    inl (omega (arith, ap length t.whole, length-append t.own (squeezed_piece (c ∷ cs)).1, t.some, ap (λ (y : List ℕ × List ℕ). length y.1) is))
+
+module _ (text out rest kept behind put left : List ℕ) (some : (length rest == 0) ≡ false)
+    (front : kept ≡ take (staying rest) rest) (back : behind ≡ drop (staying rest) rest) (is : (put, left) ≡ squeezed_piece behind) where
+  -- more is squeezed
+  pub squeezed_on : SqueezedSoFar text out rest → SqueezedSoFar text ((out ++ kept) ++ put) left
+  squeezed_on h =
+      append_assoc (out ++ kept) put (squeezed left)
+      ∙ (append_assoc out kept (put ++ squeezed left)
+      ∙ (ap (λ (u : List ℕ). out ++ (kept ++ u)) (sym (piece_behind behind put left is))
+      ∙ ((λ i. out ++ (front i ++ squeezed (back i)))
+      ∙ (ap (λ (u : List ℕ). out ++ u) (sym (all_stay rest)) ∙ h))))
+
+  -- less is left
+  pub squeezed_less : length left < length rest
+  squeezed_less = elim (piece_less behind put left is) [
+    | inl h ↦ omega (arith, h, ap length back, length-drop (staying rest) rest)
+    | inr h ↦ some_left rest some h
+  ]
+    where
+      some_left : (r : List ℕ) → (length r == 0) ≡ false → length left ≡ 0 → length left < length r
+      some_left [] s h = absurd cc
+      some_left (b ∷ bs) s h = omega (arith, h)
+
+-- when nothing is left, all is squeezed
+pub all_squeezed : (text out rest : List ℕ) → (length rest == 0) ≡ true → SqueezedSoFar text out rest → out ≡ squeezed text
+all_squeezed text out [] none h = sym (append-nil out) ∙ h
+all_squeezed text out (b ∷ bs) none h = absurd (omega (arith, eqb-true (length (b ∷ bs)) 0 none))
+
+-- ---- texts without numbers
+
+-- what stands nowhere in a text stands nowhere behind a front of it
+lacks_behind : {A : Type 0} (g : Grammar A) (own rest : List ℕ) → Lacks g (own ++ rest) → Lacks g rest
+lacks_behind g [] rest lacks = lacks
+lacks_behind g (b ∷ own) rest lacks = lacks_behind g own rest (λ k. lacks (suc k))
+
+module _ (text : List ℕ) (no_unique : Lacks unique_id text) (no_extended : Lacks extended_id text) where
+  -- no line numbers a font at the front
+  no_line : identity_line.read text ≡ None
+  unfolding identity_line
+  no_line = rw (unread unique_id text (no_unique 0), unread extended_id text (no_extended 0)) refl
+
+lines_stay : (n : ℕ) (text : List ℕ) → length text ≤ n → Lacks unique_id text → Lacks extended_id text → pieces unnumbered_piece n text ≡ text
+unfolding unnumbered_piece
+lines_stay zero [] le u e = refl
+lines_stay zero (b ∷ bs) le u e = absurd (omega (arith, le))
+lines_stay (suc n) [] le u e = refl
+lines_stay (suc n) (b ∷ bs) le u e =
+    let t = line_takes b bs in
+    let x = first_line (b ∷ bs) in
+    let less : length x.1 < length (b ∷ bs) = omega (arith, ap length t.whole, length-append t.own x.1, t.some) in
+    ap (λ (o : Option (Unit {0} × List ℕ)). (without_line (b ∷ bs) o).0 ++ pieces unnumbered_piece n (without_line (b ∷ bs) o).1) (no_line (b ∷ bs) u e)
+    ∙ (ap (λ (v : List ℕ). x.0 ++ v) (lines_stay n x.1 (omega (arith, le, less))
+    (lacks_behind unique_id t.own x.1 (subst (Lacks unique_id) t.whole u)) (lacks_behind extended_id t.own x.1 (subst (Lacks extended_id) t.whole e)))
+    ∙ sym (line_whole b bs))
+
+-- a text in which no number occurs has no line to lose
+pub no_numbers : (text : List ℕ) → occurs unique_id text ≡ false → occurs extended_id text ≡ false → text ≡ unnumbered text
+no_numbers text u e = sym (lines_stay (length text) text (omega arith) (absent_lacks unique_id text u) (absent_lacks extended_id text e))
