@@ -105,6 +105,8 @@ def files():
     word = b"/Encoding StandardEncoding"
     given["spaced.cut"] = given["two.cut"].replace(b"/FontName ", b"% ZYXWVU+Small\t1\r\n /UniqueID 7  readonly\tdef\n\n/FontName\r")
     given["wide.cut"] = given["two.cut"].replace(b"%!\n/FontName ", b"%!\r\n/UniqueID 7 def\r\n\r\n/FontName \t")
+    given["whole.font"] = small_font(b"Small", [STUB] * 4 + [ACROSS, UP], {b"A": 4, b"B": 5})
+    given["one.names"], given["two.names"], given["bad.names"] = b"B", b"\r\nB\r\n", b"B\nZed\nA"
     given["spelled.font"] = given["one.cut"].replace(word + b" def", word + b" % a comment\n readonly def")
     given["tested.font"] = given["one.cut"].replace(b"/FontName", TESTED + b"/FontName")
     given["no.font"] = b"no font"
@@ -165,6 +167,20 @@ def rows_of_outputs(given):
     yield Row(["pfa", "tiny.pfb", "no.folder/out"], 3, b"", b"failed: write\n")
 
 
+def rows_of_names():
+    """Names that stand in a file, a name a line, beside those of the words."""
+    whole = small_font(b"Small", [STUB] * 4 + [ACROSS, UP], {b"A": 4, b"B": 5})
+    one = small_font(b"Small", [STUB] * 5 + [UP], {b"B": 5})
+    words = ["subset", "whole.font", "out", "--names"]
+    yield Row([*words, "one.names"], 0, b"", b"", {"out": one})
+    yield Row([*words, "two.names", "A"], 0, b"", b"", {"out": whole})
+    yield Row(["subset", "--names", "two.names", "--pfb", "whole.font", "out"], 0, b"", b"", {"out": as_pfb(one)})
+    yield Row([*words, "-"], 0, b"", b"", {"out": small_font(b"Small", [STUB] * 6, {})})
+    yield Row([*words, "bad.names"], 1, b"", b"refused: no glyph Zed\n")
+    yield Row([*words, "absent"], 3, b"", b"failed: read\n")
+    yield Row(["subset", "whole.font", "out", "--names"], 2, b"", SOME)
+
+
 def rows_of_rejoined():
     """Subsets that other programs cut."""
     both = small_font(b"Small", [STUB] * 4 + [ACROSS, UP], {b"A": 4, b"B": 5})
@@ -212,4 +228,4 @@ def rows_of_listings():
 
 
 def all_rows(given):
-    return [*rows_of_words(), *rows_of_fonts(), *rows_of_outputs(given), *rows_of_rejoined(), *rows_of_mended(), *rows_of_listings()]
+    return [*rows_of_words(), *rows_of_fonts(), *rows_of_outputs(given), *rows_of_names(), *rows_of_rejoined(), *rows_of_mended(), *rows_of_listings()]

@@ -81,8 +81,9 @@ class Library:
 
 def library_rows(given):
     """The rows that a library can be held to. Status 2 is a fault of the command line, and 3 of opening files, which are the
-    program's own; so are its help and its version."""
+    program's own; so are its help and its version, and files of names."""
     rows = [row for row in program_rows.all_rows(given) if row.status < 2 and row.out is not program_rows.SOME]
+    rows = [row for row in rows if "--names" not in row.words]
     return [row for row in rows if not row.words[0].startswith("--")]
 
 

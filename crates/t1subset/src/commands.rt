@@ -32,9 +32,20 @@ as PFA, or with --pfb as PFB. Each glyph draws as in IN. A Subr that no kept gly
 replaced by the single command `return`; Subrs 0 to 3 are always kept. So
 subsets of one font can be merged again. Without a NAME it keeps only
 `.notdef`. Put `--` before a NAME that begins with `-`. A NAME may be given
-more than once. OUT is opened only when the result is complete.
+more than once. With --names the names of a file are kept too, a name a line;
+there may be as many as a font has glyphs. OUT is opened only when the result
+is complete.
 
 Example: t1subset subset font.pfb some.pfa A B Aacute";
+
+/// The option that names a file of names.
+fn names_option<'a>(alloc: Global) -> Arg<'a> {
+    Arg::new(alloc, "names")
+        .long("names")
+        .value_name("FILE")
+        .action(ArgAction::Set)
+        .help("A file of more names, a name a line; `-` is standard input")
+}
 
 /// The option that writes a PFB.
 fn pfb_option<'a>(alloc: Global) -> Arg<'a> {
@@ -58,6 +69,7 @@ fn subset_command<'a>(alloc: Global) -> Result<Command<'a>, AllocError> {
         .arg(word(alloc, "IN", "The font"))?
         .arg(word(alloc, "OUT", "The file that is written"))?
         .arg(names_word(alloc))?
+        .arg(names_option(alloc))?
         .arg(pfb_option(alloc))
 }
 

@@ -7,7 +7,7 @@ use std::io::{ErrorKind, Write};
 use std::rt::Files;
 use std::{fs, io};
 use t1_cmd::{
-    Counted, Reason, RunFault, run_check, run_convert, run_join, run_list, run_mend, run_merge,
+    Counted, FILE_LIMIT, Reason, RunFault, read_all, run_check, run_convert, run_join, run_list, run_mend, run_merge,
     run_rejoin, run_show, run_subset, status, write_fault,
 };
 use t1_font::Form;
@@ -151,11 +151,43 @@ fn mend<'p, R: Files>(
     }
 }
 
-/// The names that the words give, as bytes.
-fn names<'a>(alloc: Global, given: &ArgMatches<'a>) -> Result<Vec<&'a [u8]>, AllocError> {
+/// The text of the file of names that the words name, if they name one.
+fn text_of_names<R: Files>(
+    rt: &R,
+    alloc: Global,
+    given: &ArgMatches<'_>,
+) -> Result<Vec<u8>, RunFault> {
+    let Some(path) = given.get_str("names") else {
+        return Ok(Vec::new(alloc));
+    };
+    let path = if path == "-" { "/dev/stdin" } else { path };
+    let file = fs::open(rt, path).map_err(not_opened)?;
+    read_all(alloc, &mut Counted::new(file), FILE_LIMIT)
+}
+
+/// A line without the CR that may end it.
+fn without_return(line: &[u8]) -> &[u8] {
+    match line.split_last() {
+        Some((b'\r', front)) => front,
+        _ => line,
+    }
+}
+
+/// The names that the words give, and those of a text, a name a line; a line without bytes names nothing.
+fn names<'a>(
+    alloc: Global,
+    given: &ArgMatches<'a>,
+    text: &'a [u8],
+) -> Result<Vec<&'a [u8]>, AllocError> {
     let mut names = Vec::new(alloc);
     for name in given.get_raw("NAME").unwrap_or(&[]) {
         names.push(name.as_bytes())?;
+    }
+    for line in text.split(|b| *b == b'\n') {
+        let name = without_return(line);
+        if !name.is_empty() {
+            names.push(name)?;
+        }
     }
     Ok(names)
 }
@@ -166,7 +198,8 @@ fn subset<'p, R: Files>(
     given: &'p ArgMatches<'_>,
     note: &mut Note<'p>,
 ) -> Result<(), RunFault> {
-    let names = names(alloc, given)?;
+    let text = text_of_names(rt, alloc, given)?;
+    let names = names(alloc, given, text.as_slice())?;
     let mut input = font(rt, given)?;
     let mut out = out(rt, alloc, given);
     let done = run_subset(alloc, &mut input, names.as_slice(), form(given), &mut out);
