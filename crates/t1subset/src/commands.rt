@@ -28,11 +28,11 @@ fn join_command<'a>(alloc: Global) -> Result<Command<'a>, AllocError> {
 const SUBSET_HELP: &str = "\
 Cuts the font to the glyphs of these names, `.notdef`, the components of
 accented glyphs, and the Subrs that all of these execute, and writes it to OUT
-as PFA, or with --pfb as PFB. Each glyph draws as in IN. A Subr that no kept glyph executes is
-replaced by the single command `return`; Subrs 0 to 3 are always kept. So
-subsets of one font can be merged again. Without a NAME it keeps only
-`.notdef`. Put `--` before a NAME that begins with `-`. A NAME may be given
-more than once. With --names the names of a file are kept too, a name a line;
+as PFA, or with --pfb as PFB. Each glyph draws as in IN. A Subr that no kept
+glyph executes is replaced by the single command `return`; Subrs 0 to 3 are
+always kept. So subsets of one font can be merged again. Without a NAME it
+keeps only `.notdef`. Put `--` before a NAME that begins with `-`. A NAME may be
+given more than once. With --names the names of a file are kept too, a name a line;
 there may be as many as a font has glyphs. OUT is opened only when the result
 is complete.
 

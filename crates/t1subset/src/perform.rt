@@ -7,8 +7,8 @@ use std::io::{ErrorKind, Write};
 use std::rt::Files;
 use std::{fs, io};
 use t1_cmd::{
-    Counted, FILE_LIMIT, Reason, RunFault, read_all, run_check, run_convert, run_join, run_list, run_mend, run_merge,
-    run_rejoin, run_show, run_subset, status, write_fault,
+    Counted, FILE_LIMIT, Reason, RunFault, read_all, run_check, run_convert, run_join, run_list,
+    run_mend, run_merge, run_rejoin, run_show, run_subset, status, write_fault,
 };
 use t1_font::Form;
 
@@ -174,11 +174,11 @@ fn without_return(line: &[u8]) -> &[u8] {
 }
 
 /// The names that the words give, and those of a text, a name a line; a line without bytes names nothing.
-fn names<'a>(
+fn names<'t, 'a: 't>(
     alloc: Global,
     given: &ArgMatches<'a>,
-    text: &'a [u8],
-) -> Result<Vec<&'a [u8]>, AllocError> {
+    text: &'t [u8],
+) -> Result<Vec<&'t [u8]>, AllocError> {
     let mut names = Vec::new(alloc);
     for name in given.get_raw("NAME").unwrap_or(&[]) {
         names.push(name.as_bytes())?;
