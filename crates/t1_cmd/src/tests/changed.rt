@@ -67,7 +67,7 @@ fn tiny_with(alloc: Global, private: &[u8]) -> Result<Vec<u8>, AllocError> {
 /// A file with this many bytes of clear text before its Encoding, and this private text.
 pub fn file_of(alloc: Global, before: usize, private: &[u8]) -> Result<Vec<u8>, AllocError> {
     let mut file = Vec::new(alloc);
-    file.resize(before, b' ')?;
+    file.resize(before, b'%')?;
     file.extend_from_slice(b"/Encoding StandardEncoding def\ncurrentfile eexec\n")?;
     push_sealed(alloc, &mut file, private, EEXEC_KEY)?;
     Ok(file)
