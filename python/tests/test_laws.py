@@ -51,7 +51,7 @@ class Laws(unittest.TestCase):
                     whole = t1subset.subset(font, names, form)
                     for order in itertools.permutations(parts):
                         self.assertEqual(t1subset.merge(order, form), whole)
-                        self.assertEqual(t1subset.rejoin(order, form), t1subset.mend(whole, form))
+                        self.assertEqual(t1subset.rejoin(order, form), t1subset.rejoin([whole], form))
 
     def test_a_glyph_draws_in_a_subset_as_in_the_font(self) -> None:
         for path, font in each_font():
