@@ -17,7 +17,7 @@ fn subsets_merge_in_any_order_to_the_subset_of_all() {
             let whole = subset(&font, &names, form).unwrap();
             for order in [[&one, &two, &rest], [&two, &rest, &one], [&rest, &one, &two], [&rest, &two, &one]] {
                 assert!(merge(&order, form).unwrap() == whole, "{path}");
-                assert!(rejoin(&order, form) == mend(&whole, form), "{path}");
+                assert!(rejoin(&order, form) == rejoin(&[&whole], form), "{path}");
             }
         }
     }
