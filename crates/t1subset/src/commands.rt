@@ -31,10 +31,10 @@ accented glyphs, and the Subrs that all of these execute, and writes it to OUT
 as PFA, or with --pfb as PFB. Each glyph draws as in IN. A Subr that no kept
 glyph executes is replaced by the single command `return`; Subrs 0 to 3 are
 always kept. So subsets of one font can be merged again. Without a NAME it
-keeps only `.notdef`. Put `--` before a NAME that begins with `-`. A NAME may be
-given more than once. With --names the names of a file are kept too, a name a line;
-there may be as many as a font has glyphs. OUT is opened only when the result
-is complete.
+keeps only `.notdef`. Put `--` before a NAME that begins with `-`. A NAME may
+be given more than once. With --names the names of a file are kept too, a name
+a line; there may be as many as a font has glyphs. OUT is opened only when the
+result is complete.
 
 Example: t1subset subset font.pfb some.pfa A B Aacute";
 
@@ -78,11 +78,10 @@ OUT comes first: `t1subset merge a.pfa b.pfa` overwrites a.pfa.
 
 Merges the fonts and writes the result to OUT as PFA, or with --pfb as PFB.
 Subsets of one font, in any order, give byte for byte the subset of all their
-names. Fonts that don't
-merge are refused with the lowest conflict. A Subr that is `return`, and that
-no glyph of its font executes, gives way to the other font's. Subsets that
-other programs cut mostly need `rejoin`. OUT is opened only when the result is
-complete.
+names. Fonts that don't merge are refused with the lowest conflict. A Subr that
+is `return`, and that no glyph of its font executes, gives way to the other
+font's. Subsets that other programs cut mostly need `rejoin`. OUT is opened
+only when the result is complete.
 
 Example: t1subset merge all.pfa one.pfa two.pfa";
 
