@@ -89,6 +89,7 @@ enum t1subset_number {
     T1SUBSET_SUBR_DIFFERS = 34,         /* "subr N differs", perhaps with ", used by NAME" */
     T1SUBSET_MERGE_LIMIT = 35,          /* "over a limit": the merged font would be too large */
     T1SUBSET_NOTHING_TO_MERGE = 36,     /* "nothing to merge": the list of fonts is empty */
+    T1SUBSET_GLYPH_LACKS_SUBR = 37,     /* "glyph NAME lacks subr N": of fonts to rejoin; told before conflicts */
 
     /* A text is no listing. answer->input is its place; lines count from 1. */
     T1SUBSET_BAD_LINE = 40,             /* "bad line N" */

@@ -106,6 +106,10 @@ def rows():
     for name, one, other in pairs():
         for words in (["merge", "out", "one", "other"], ["merge", "out", "other", "one", "other"]):
             yield name, words, {"one": one, "other": other}
+    called = glyphs({**GLYPHS, b"A": CALLS})
+    fonts = {"good": made(letters=called), "lacking": made(letters=called, table=subrs(SUBRS, 4))}
+    yield "glyph_lacks_subr", ["rejoin", "out", "good", "lacking"], fonts
+    yield "glyph_lacks_subr", ["rejoin", "out", "lacking", "good", "good"], fonts
     for name, one, other in listings():
         yield name, ["join", "one", "other"], {"one": one, "other": other}
     yield "no_glyph", ["subset", "good", "out", "A", "B", "C"], {"good": good}

@@ -46,7 +46,7 @@ REFUSALS = {
     "run_show": [READS, "NoGlyph"],
     "run_subset": [READS, "NoGlyph"],
     "run_merge": [READS, "Conflict"],
-    "run_rejoin": [READS, "Conflict"],
+    "run_rejoin": [READS, "Lacks", "Conflict"],
     "check_file": [READS],
     "list_file": [READS],
     "convert_file": [READS],
@@ -55,7 +55,7 @@ REFUSALS = {
     "show_file": [READS, "NoGlyph"],
     "subset_file": [READS, "NoGlyph"],
     "merge_files": [READS, "Conflict"],
-    "rejoin_files": [READS, "Conflict"],
+    "rejoin_files": [READS, "Lacks", "Conflict"],
     "join_listings": ["TooLong", "ListFault", "JoinFault"],
 }
 # What a call can't answer, though its type has it.

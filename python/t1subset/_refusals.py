@@ -60,6 +60,8 @@ class Number(enum.IntEnum):
     """over a limit, as the merged font"""
     NOTHING_TO_MERGE = 36
     """nothing to merge"""
+    GLYPH_LACKS_SUBR = 37
+    """glyph NAME lacks subr N, of fonts to rejoin"""
 
     BAD_LINE = 40
     """bad line N"""

@@ -89,10 +89,10 @@ def with_charstrings(plains: Dict[bytes, bytes]) -> bytes:
     return file_of(CLEAR, private)
 
 
-def without_glyph(name: bytes) -> bytes:
-    """Tiny without this glyph."""
-    found = re.search(rb"/" + name + rb" (\d+) RD ", PRIVATE)
-    assert found, name
+def without(key: bytes) -> bytes:
+    """Tiny without the entry of this key: `/A` for a glyph, `dup 5` for a Subr."""
+    found = re.search(key + rb" (\d+) RD ", PRIVATE)
+    assert found, key
     return file_of(CLEAR, PRIVATE[: found.start()] + PRIVATE[found.end() + int(found[1]) + len(b" ND\n"):])
 
 

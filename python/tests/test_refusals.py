@@ -97,8 +97,9 @@ def rows_of_mergers() -> List[Row]:
     other = fonts.with_charstrings({b"/A": b"\x0e", b"/B": b"\x0e"})
     stubbed = fonts.with_charstrings({b"dup 5": b"\x0b"})
     hinted = fonts.with_charstrings({b"dup 1": b"\x8b\x0b"})
-    lacking = fonts.without_glyph(b"acute")
+    lacking = fonts.without(b"/acute")
     used, lacks = "subr 5 differs, used by X", "glyph Aacute lacks part acute"
+    short = fonts.without(b"dup 5")
     part, whole = t1subset.subset(lacking, ["Aacute"]), t1subset.subset(PFA, ["acute"])
     one, two = t1subset.subset(PFA, ["Y"]), t1subset.subset(stubbed, ["X"])
     same, differs = t1subset.subset(PFA, ["X"]), t1subset.subset(hinted, ["X"])
@@ -110,6 +111,8 @@ def rows_of_mergers() -> List[Row]:
         (Number.GLYPH_LACKS_PART, lacks, 0, None, lambda: t1subset.merge([whole, part])),
         (Number.SUBR_DIFFERS, used, 5, None, lambda: t1subset.merge([one, two])),
         (Number.SUBR_DIFFERS, used, 5, None, lambda: t1subset.rejoin([two, one])),
+        (Number.GLYPH_LACKS_SUBR, "glyph X lacks subr 5", 5, None, lambda: t1subset.rejoin([PFA, short])),
+        (Number.GLYPH_LACKS_SUBR, "glyph X lacks subr 5", 5, None, lambda: t1subset.rejoin([short, other, PFA])),
         (Number.SUBR_DIFFERS, "subr 1 differs", 1, None, lambda: t1subset.merge([same, differs])),
         (Number.MERGE_LIMIT, "over a limit", 0, None, lambda: t1subset.merge([many(0), many(40_000)])),
         (Number.NOTHING_TO_MERGE, "nothing to merge", 0, None, lambda: t1subset.merge([])),

@@ -83,6 +83,8 @@ numbers! {
     MergeLimit = 35,
     /// `nothing to merge`: the list of fonts is empty.
     NothingToMerge = 36,
+    /// `glyph NAME lacks subr N`, of fonts to rejoin.
+    GlyphLacksSubr = 37,
     /// `bad line N` of a listing, from 1.
     BadLine = 40,
     /// `repeated in line N`: an earlier line has its key.

@@ -119,6 +119,9 @@ fn entries() {
     let two = subset(&tiny.with_charstring(b"dup 5", b"\x0b").file(), &["X"], Form::Pfa).unwrap();
     refused(merge(&[&one, &two], Form::Pfa), Number::SubrDiffers, "subr 5 differs, used by X", 5, None);
     refused(rejoin(&[&two, &one], Form::Pfa), Number::SubrDiffers, "subr 5 differs, used by X", 5, None);
+    let short = tiny.without(b"dup 5").file();
+    refused(rejoin(&[&font, &short], Form::Pfa), Number::GlyphLacksSubr, "glyph X lacks subr 5", 5, None);
+    refused(rejoin(&[&short, &other, &font], Form::Pfa), Number::GlyphLacksSubr, "glyph X lacks subr 5", 5, None);
     let hinted = subset(&tiny.with_charstring(b"dup 1", b"\x8b\x0b").file(), &["Y"], Form::Pfa).unwrap();
     refused(merge(&[&one, &hinted], Form::Pfa), Number::SubrDiffers, "subr 1 differs", 1, None);
 }

@@ -1,3 +1,4 @@
 pub mod Truncated
+pub mod Lacking
 pub mod Rejoined
 pub mod Evened

@@ -1,5 +1,5 @@
 -- Why two fonts do not join: the lowest conflict.
-use Rattle.std.specs.Prelude.{ℕ, Bool, true, cond, not, ◌&&◌, ◌||◌, List, [], Option, Some, None, nat_le}
+use Rattle.std.specs.Prelude.{ℕ, Bool, true, cond, not, ◌&&◌, ◌||◌, List, [], ◌∷◌, Option, Some, None, nat_le}
 use Rattle.std.specs.declared.cmp.Ordering.{Ordering}
 use Rattle.std.specs.Ordering.{nat_cmp}
 use Rattle.std.specs.List.{list_any}
@@ -71,6 +71,24 @@ module _ (f g : FontValue) where
   -- the smallest name in conflict
   abbrev pub glyph_conflict : Option (List ℕ)
   glyph_conflict = smallest glyph_clashes glyphs_of_both
+
+-- ---- shells alone
+
+-- a font without its Subrs; its table, if it has one, declares as many
+abbrev pub without_subrs : FontValue → FontValue
+without_subrs f = record f { subrs = maps.empty }
+
+-- the first part in which the first of some fonts whose shell differs from that of f differs from it, whichever Subrs are present
+abbrev pub shells_differ : FontValue → List FontValue → Option ShellPart
+shells_differ f [] = None
+shells_differ f (g ∷ gs) = found (λ p. p) (shell_conflict (without_subrs f) (without_subrs g)) (shells_differ f gs)
+
+-- the same of the fonts of a list and their first
+abbrev pub shells_conflict : List FontValue → Option ShellPart
+shells_conflict [] = None
+shells_conflict (f ∷ fs) = shells_differ f fs
+
+-- ---- glyphs and Subrs
 
 module _ {O : Type 0} (m : Interpreter O) where
   -- the font lacks a component that its glyph of this name calls for

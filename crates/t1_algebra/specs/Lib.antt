@@ -6,6 +6,7 @@ pub mod States
 pub mod Searches
 pub mod Shared
 pub mod Conflicts
+pub mod Lacks
 pub mod Groupings
 pub mod JoinedEntries
 pub mod StateTables

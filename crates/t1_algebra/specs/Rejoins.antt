@@ -1,5 +1,5 @@
 -- Subsets that other programs cut, and what they come to when they are made even and merged.
-use Rattle.std.specs.Prelude.{◌≡◌, ℕ, ◌≤◌, ◌<◌, max, nat_lt, true, List, [], ◌∷◌, map, IsPermutation}
+use Rattle.std.specs.Prelude.{◌≡◌, ℕ, ◌≤◌, ◌<◌, max, nat_lt, true, List, [], ◌∷◌, map, None, IsPermutation}
 use Rattle.std.specs.List.{AllByRecursion}
 use Rattle.std.specs.Option.{option_map}
 use Rattle.std.specs.FinMap as maps
@@ -8,12 +8,13 @@ use Rattle.t1_join.specs.Groupings.{Grouping, leaves, map_grouping}
 use Rattle.t1_font.specs.FontValue.{FontValue, SubrsShell, declared_count}
 use Rattle.t1_font.specs.IsFont.{IsFont}
 use Rattle.t1_font.specs.EvenTexts.{even_texts}
-use Rattle.t1_font.specs.Evening.{evened}
+use Rattle.t1_font.specs.Evening.{evened_shells, evened}
 use Rattle.t1_algebra.specs.Interpreter.{Names}
 use Rattle.t1_algebra.specs.Keep.{keep, kept, subset}
 use Rattle.t1_algebra.specs.Profile.{profile}
 use Rattle.t1_algebra.specs.Laws.{IsOf, DrawsAlike}
 use Rattle.t1_algebra.specs.Groupings.{union_all, Merges}
+use Rattle.t1_algebra.specs.Lacks.{first_lack}
 use Rattle.t1_algebra.specs.Merges.{MergesTo}
 
 -- ---- fonts cut to their first Subrs
@@ -75,10 +76,11 @@ shared_font f ts = cut_to (largest ts) (with_even_texts f)
 abbrev pub rejoined : FontValue → List Truncated → FontValue
 rejoined f ts = cut_to (largest ts) (with_even_texts (subset profile f (names_of_all ts)))
 
--- Made even, truncated subsets are subsets of one font; in every order and grouping they merge to the subset over all the names, cut to the largest of the
+-- No glyph of a truncated subset executes a Subr that its font lacks and another has. Made even, they are subsets of one font; in every order and grouping they merge to the subset over all the names, cut to the largest of the
 -- counts and with even texts, and to nothing else; each kept glyph draws in it as in the font.
 pub record Rejoins (f : FontValue) (ts : List Truncated) : Type 0 where
   pub shared : IsFont (shared_font f ts)
+  pub lacks : first_lack (evened_shells (truncated_fonts ts)) ≡ None
   pub subsets : evened (truncated_fonts ts) ≡ map (subset profile (shared_font f ts)) (sets_of ts)
   pub merges : (t : Grouping FontValue) → IsPermutation (evened (truncated_fonts ts)) (leaves t) → MergesTo t (rejoined f ts)
   pub draws : (n : List ℕ) → sets.contains (keep profile f (names_of_all ts)) n ≡ true → DrawsAlike f (rejoined f ts) n
@@ -89,8 +91,9 @@ TruncatedSubsetsRejoin = (f : FontValue) → IsFont f → (t : Truncated) (ts : 
 
 -- ---- fonts that merge
 
--- Fonts that merge in some order and grouping are made even by their texts alone, and then merge in the same order and grouping to what they merged to, with
+-- Fonts that merge in some order and grouping lack nothing, are made even by their texts alone, and then merge in the same order and grouping to what they merged to, with
 -- even texts.
 abbrev pub MergingFontsAreEven : Type 0
 MergingFontsAreEven = (t : Grouping FontValue) (j : FontValue) → Merges profile t j →
-    (evened (leaves t) ≡ map with_even_texts (leaves t)) × Merges profile (map_grouping with_even_texts t) (with_even_texts j)
+    (first_lack (evened_shells (leaves t)) ≡ None) × (evened (leaves t) ≡ map with_even_texts (leaves t))
+    × Merges profile (map_grouping with_even_texts t) (with_even_texts j)

@@ -14,7 +14,7 @@ use Rattle.t1_join.specs.declared.listing.ListFault.TheVariants as list
 use Rattle.t1_join.specs.declared.listing.JoinFault.{JoinFault}
 use Rattle.t1_join.specs.declared.listing.JoinFault.TheVariants as join
 use Rattle.t1_cmd.specs.declared.faults.Reason.{Reason}
-use Rattle.t1_cmd.specs.declared.faults.Reason.TheVariants.{TooLong, Memory, List, Join, Font, NoGlyph, Merge}
+use Rattle.t1_cmd.specs.declared.faults.Reason.TheVariants.{TooLong, Memory, List, Join, Font, NoGlyph, Lacks, Merge}
 
 -- ---- forms
 
@@ -108,6 +108,9 @@ merge_limit = 35
 abbrev pub nothing_to_merge : ℕ
 nothing_to_merge = 36
 
+abbrev pub glyph_lacks_subr : ℕ
+glyph_lacks_subr = 37
+
 abbrev pub bad_line : ℕ
 bad_line = 40
 
@@ -169,6 +172,7 @@ number_of (List f) = list_number f
 number_of (Join f) = join_number f
 number_of (Font f) = font_number f
 number_of (NoGlyph name) = no_glyph
+number_of (Lacks glyph index) = glyph_lacks_subr
 number_of (Merge c) = merge_number c
 
 -- ---- parts
@@ -220,6 +224,7 @@ detail_of (Font (fault.BadSegment at)) = at
 detail_of (Font (fault.BadEncoding at)) = at
 detail_of (Font (fault.BadSubrs at)) = at
 detail_of (Font (fault.BadGlyphs at)) = at
+detail_of (Lacks glyph index) = index
 detail_of (Merge (conflict.Shell p)) = part_number p
 detail_of (Merge (conflict.Code code)) = code
 detail_of (Merge (conflict.Subr index user)) = index

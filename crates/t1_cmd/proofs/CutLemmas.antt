@@ -39,10 +39,10 @@ use Rattle.t1_cmd.specs.Files.{Values, value_before, values_from, OfFiles, Refus
 use Rattle.t1_cmd.specs.Runs.{RunEnds}
 use Rattle.t1_cmd.specs.Fonts.{mended_input}
 use Rattle.t1_cmd.specs.Mergers.{MergesToFile}
-use Rattle.t1_cmd.specs.Rejoins.{RejoinsTo}
+use Rattle.t1_cmd.specs.Rejoins.{RejoinsUnless, RejoinsTo}
 use Rattle.t1_cmd.specs.Cuts.{AreCutFiles, OfRejoined, InputsAreCuts, WritesRejoined, AllStayDrawnIn, RejoinedDraw}
 use Rattle.t1_cmd.proofs.OneAnswer.{OneAnswer, files_answered, inputs_answered}
-use Rattle.t1_cmd.proofs.RejoinLemmas.{all_light, light_or_heavy, rejoins_apart}
+use Rattle.t1_cmd.proofs.RejoinLemmas.{all_light, light_or_heavy, rejoins_unlacking, with_no_lack, has_no_lack, rejoins_apart}
 
 -- ---- what truncated subsets rejoin to
 
@@ -90,13 +90,17 @@ module _ (f : FontValue) (h : IsFont f) (form : Form) (t : Truncated) (ts : List
   one_answer : OneAnswer mended_input (RejoinsTo form) cuts (canon whole form)
   one_answer = record { text = the_text; reason = the_reason }
     where
+      the_text_of : (text : List ℕ) → RejoinsUnless None form cuts (Ok text) → text ≡ canon whole form
+      the_text_of text (inl a) = a.1.2 ∙ ap (λ (j : FontValue). canon j form) ((comes_so (evened cuts) refl a.1.0).1 a.1.1)
+      the_text_of text (inr a) = absurd (light_or_heavy (evened cuts) light a.0)
+
       the_text : (text : List ℕ) → RejoinsTo form cuts (Ok text) → text ≡ canon whole form
-      the_text text (inl a) = a.1.2 ∙ ap (λ (j : FontValue). canon j form) ((comes_so (evened cuts) refl a.1.0).1 a.1.1)
-      the_text text (inr a) = absurd (light_or_heavy (evened cuts) light a.0)
+      the_text text h = the_text_of text (has_no_lack form cuts (Ok text) they_rejoin.lacks h)
 
       the_reason : (r : Reason) → RejoinsTo form cuts (Err r) → r ≡ Memory
       the_reason r a =
-          let there : RejoinsTo form cuts (Ok (canon whole form)) = inl (light, (whole, (comes_so (evened cuts) refl whole).0 refl, refl)) in
+          let there : RejoinsTo form cuts (Ok (canon whole form)) =
+          with_no_lack form cuts (Ok (canon whole form)) they_rejoin.lacks (inl (light, (whole, (comes_so (evened cuts) refl whole).0 refl, refl))) in
           rejoins_apart form cuts (canon whole form) r there a
 
 -- ---- files
@@ -216,11 +220,16 @@ comes_to_font (f ∷ fs) j h c =
     let g = from_left (one f) fs in
     merges_are_fonts profile g j c (each_leaf IsFont g (subst (AllByRecursion IsFont) (sym (leaves_from_left (one f) fs)) h))
 
--- what fonts rejoin to is the file of a font in which each of their glyphs that is drawn stays drawn
-pub rejoined_draw : RejoinedDraw
-rejoined_draw form fs text h (inl a) =
+-- so is it where no glyph lacks a Subr
+rejoined_draw_so : (form : Form) (fs : List FontValue) (text : List ℕ) → AllByRecursion IsFont fs → RejoinsUnless None form fs (Ok text) →
+    (j : FontValue) × IsFont j × (text ≡ canon j form) × AllStayDrawnIn fs j
+rejoined_draw_so form fs text h (inl a) =
     let j = a.1.0 in
     let fonts = evened_are_fonts fs h a.0 in
     let joined = comes_to_font (evened fs) j fonts a.1.1 in
     (j, joined, a.1.2, each_through fs (evened fs) j (evened_draw.all fs) fonts joined (draws_all (evened fs) (Ok j) a.1.1))
-rejoined_draw form fs text h (inr a) = let never : Ok text ≡ Err _ = a.1 in absurd cc
+rejoined_draw_so form fs text h (inr a) = absurd a.1
+
+-- what fonts rejoin to is the file of a font in which each of their glyphs that is drawn stays drawn
+pub rejoined_draw : RejoinedDraw
+rejoined_draw form fs text h k = rejoined_draw_so form fs text h (rejoins_unlacking form fs text k).1

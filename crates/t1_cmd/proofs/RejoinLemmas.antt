@@ -1,12 +1,13 @@
 -- How the engine that rejoins fonts ends.
-use Rattle.std.proofs.Common.{◌≡◌, ℕ, arith, List, [], ◌∷◌, map, inl, inr, Result, Ok, Err, refl, sym, ap, subst, ◌∙◌}
+use Rattle.std.proofs.Common.{◌≡◌, ℕ, arith, List, [], ◌∷◌, map, inl, inr, Option, Some, None, Result, Ok, Err, refl, sym, ap, subst, ◌∙◌}
 use Rattle.std.specs.List.{AllByRecursion}
 use Rattle.t1_bytes.specs.declared.form.Form.{Form}
 use Rattle.t1_font.specs.FontValue.{FontValue}
 use Rattle.t1_font.specs.Canon.{canon}
-use Rattle.t1_font.specs.Evening.{evened}
+use Rattle.t1_font.specs.Evening.{evened_shells, evened}
 use Rattle.t1_font.specs.Filling.{AreLight, AnyHeavy}
 use Rattle.t1_font.specs.IsFont.{IsFont}
+use Rattle.t1_algebra.specs.Lacks.{Lack, first_lack}
 use Rattle.t1_algebra.specs.Merges.{ComesTo}
 use Rattle.t1_algebra.specs.Profile.{profile}
 use Rattle.t1_algebra.specs.Groupings.{Merges}
@@ -16,10 +17,10 @@ use Rattle.t1_join.specs.Groupings.{Grouping, one, two, map_grouping, from_left}
 use Rattle.t1_join.proofs.OrderLemmas.{leaves_from_left}
 use Rattle.t1_algebra.proofs.Orders.{one_result}
 use Rattle.t1_cmd.specs.declared.faults.Reason.{Reason}
-use Rattle.t1_cmd.specs.declared.faults.Reason.TheVariants.{Memory}
+use Rattle.t1_cmd.specs.declared.faults.Reason.TheVariants.{Memory, Lacks}
 use Rattle.t1_cmd.specs.Answers.{MayRefuse}
 use Rattle.t1_cmd.specs.Mergers.{MergesToFile}
-use Rattle.t1_cmd.specs.Rejoins.{RejoinsTo, RejoinsWhatMerges}
+use Rattle.t1_cmd.specs.Rejoins.{RejoinsUnless, RejoinsTo, RejoinsWhatMerges}
 use Rattle.t1_cmd.proofs.Refusals.{refuses, by_answer}
 use Rattle.t1_cmd.proofs.MergeLemmas.{merges_apart}
 use Rattle.t1_algebra.proofs.rejoining.Evened.{merging_fonts_are_even}
@@ -30,16 +31,46 @@ light_or_heavy [] l h = h
 light_or_heavy (f ∷ fs) l (inl h) = omega (arith, l.0, h)
 light_or_heavy (f ∷ fs) l (inr h) = light_or_heavy fs l.1 h
 
+-- ---- fonts of which none lacks a Subr
+
+-- fonts that rejoin lack nothing
+unlacking : (o : Option Lack) (form : Form) (fs : List FontValue) (text : List ℕ) → RejoinsUnless o form fs (Ok text) →
+    (o ≡ None) × RejoinsUnless None form fs (Ok text)
+unlacking None form fs text h = (refl, h)
+unlacking (Some lack) form fs text h = let never : Ok text ≡ Err _ = h in absurd cc
+
+pub rejoins_unlacking : (form : Form) (fs : List FontValue) (text : List ℕ) → RejoinsTo form fs (Ok text) →
+    (first_lack (evened_shells fs) ≡ None) × RejoinsUnless None form fs (Ok text)
+rejoins_unlacking form fs text h = unlacking (first_lack (evened_shells fs)) form fs text h
+
+-- where no font lacks a Subr, this is what they rejoin to
+pub with_no_lack : (form : Form) (fs : List FontValue) (answer : Result (List ℕ) Reason) → first_lack (evened_shells fs) ≡ None →
+    RejoinsUnless None form fs answer → RejoinsTo form fs answer
+with_no_lack form fs answer none h = subst (λ (o : Option Lack). RejoinsUnless o form fs answer) (sym none) h
+
+pub has_no_lack : (form : Form) (fs : List FontValue) (answer : Result (List ℕ) Reason) → first_lack (evened_shells fs) ≡ None →
+    RejoinsTo form fs answer → RejoinsUnless None form fs answer
+has_no_lack form fs answer none h = subst (λ (o : Option Lack). RejoinsUnless o form fs answer) none h
+
+-- a lack is told
+pub lack_told : (form : Form) (fs : List FontValue) (lack : Lack) → first_lack (evened_shells fs) ≡ Some lack → RejoinsTo form fs (Err (Lacks lack.1 lack.0))
+lack_told form fs lack is = subst (λ (o : Option Lack). RejoinsUnless o form fs (Err (Lacks lack.1 lack.0))) (sym is) refl
+
 -- fonts that rejoin are refused for want of memory alone
+apart_so : (form : Form) (fs : List FontValue) (text : List ℕ) (r : Reason) → RejoinsUnless None form fs (Ok text) → RejoinsUnless None form fs (Err r) → r ≡ Memory
+apart_so form fs text r (inl a) (inl b) = merges_apart form (evened fs) text r a.1 b.1
+apart_so form fs text r (inl a) (inr b) = absurd (light_or_heavy (evened fs) a.0 b.0)
+apart_so form fs text r (inr a) k = absurd a.1
+
 pub rejoins_apart : (form : Form) (fs : List FontValue) (text : List ℕ) (r : Reason) → RejoinsTo form fs (Ok text) → RejoinsTo form fs (Err r) → r ≡ Memory
-rejoins_apart form fs text r (inl a) (inl b) = merges_apart form (evened fs) text r a.1 b.1
-rejoins_apart form fs text r (inl a) (inr b) = absurd (light_or_heavy (evened fs) a.0 b.0)
-rejoins_apart form fs text r (inr a) k = let never : Ok text ≡ Err _ = a.1 in absurd cc
+rejoins_apart form fs text r h k =
+    let un = rejoins_unlacking form fs text h in apart_so form fs text r un.1 (has_no_lack form fs (Err r) un.0 k)
 
 -- what refuses the merge of fonts that are even refuses to rejoin
-pub merge_of_even : (form : Form) (fs : List FontValue) (r : Reason) → AreLight (evened fs) → MayRefuse (MergesToFile form (evened fs)) r
-    → MayRefuse (RejoinsTo form fs) r
-merge_of_even form fs r l = by_answer (MergesToFile form (evened fs)) (MayRefuse (RejoinsTo form fs)) r tt (λ s h. refuses (RejoinsTo form fs) s (inl (l, h)))
+pub merge_of_even : (form : Form) (fs : List FontValue) (r : Reason) → first_lack (evened_shells fs) ≡ None → AreLight (evened fs) →
+    MayRefuse (MergesToFile form (evened fs)) r → MayRefuse (RejoinsTo form fs) r
+merge_of_even form fs r none l = by_answer (MergesToFile form (evened fs)) (MayRefuse (RejoinsTo form fs)) r tt
+    (λ s h. refuses (RejoinsTo form fs) s (with_no_lack form fs (Err s) none (inl (l, h))))
 
 -- ---- fonts that merge
 
@@ -57,13 +88,16 @@ grouped : (t : Grouping FontValue) (fs : List FontValue) →
 grouped t [] = refl
 grouped t (f ∷ fs) = grouped (two t (one f)) fs
 
--- fonts that merge are made even by their texts alone, and come to what they came to, with even texts
-even_merged : (fs : List FontValue) (j : FontValue) → ComesTo fs j → (evened fs ≡ even_list fs) × ComesTo (even_list fs) (with_even_texts j)
+-- fonts that merge lack nothing, are made even by their texts alone, and come to what they came to, with even texts
+even_merged : (fs : List FontValue) (j : FontValue) → ComesTo fs j →
+    (first_lack (evened_shells fs) ≡ None) × (evened fs ≡ even_list fs) × ComesTo (even_list fs) (with_even_texts j)
 even_merged [] j h = absurd h
 even_merged (f ∷ fs) j h =
-    let both = merging_fonts_are_even (from_left (one f) fs) j h in (
-      subst (λ (gs : List FontValue). evened gs ≡ even_list gs) (leaves_from_left (one f) fs) both.0,
-      subst (λ (t : Grouping FontValue). Merges profile t (with_even_texts j)) (grouped (one f) fs) both.1,
+    let all = merging_fonts_are_even (from_left (one f) fs) j h in
+    let same = leaves_from_left (one f) fs in (
+      subst (λ (gs : List FontValue). first_lack (evened_shells gs) ≡ None) same all.0,
+      subst (λ (gs : List FontValue). evened gs ≡ even_list gs) same all.1,
+      subst (λ (t : Grouping FontValue). Merges profile t (with_even_texts j)) (grouped (one f) fs) all.2,
     )
 
 -- they are within the weight limit
@@ -82,7 +116,7 @@ one_answer form fs text h (Err r) k =
     let never : MergesToFile form fs (Err Memory) = subst (λ (r : Reason). MergesToFile form fs (Err r)) (merges_apart form fs text r h k) k in absurd never
 
 rejoined_so : (form : Form) (fs gs : List FontValue) (text : List ℕ) → evened fs ≡ gs → AreLight gs → MergesToFile form gs (Ok text)
-    → (answer : Result (List ℕ) Reason) → RejoinsTo form fs answer → answer ≡ Ok text
+    → (answer : Result (List ℕ) Reason) → RejoinsUnless None form fs answer → answer ≡ Ok text
 rejoined_so form fs gs text is light h answer (inl a) = one_answer form gs text h answer (subst (λ (gs : List FontValue). MergesToFile form gs answer) is a.1)
 rejoined_so form fs gs text is light h answer (inr a) = absurd (light_or_heavy gs light (subst AnyHeavy is a.0))
 
@@ -91,7 +125,10 @@ pub rejoins_what_merges : RejoinsWhatMerges
 rejoins_what_merges form fs j fonts comes =
     let m = even_merged fs j comes in
     let light = even_light fs fonts in
-    let h : MergesToFile form (even_list fs) (Ok (canon (with_even_texts j) form)) = (with_even_texts j, m.1, refl) in (
-      inl (subst AreLight (sym m.0) light, subst (λ (gs : List FontValue). MergesToFile form gs (Ok (canon (with_even_texts j) form))) (sym m.0) h),
-      rejoined_so form fs (even_list fs) (canon (with_even_texts j) form) m.0 light h,
+    let text = canon (with_even_texts j) form in
+    let h : MergesToFile form (even_list fs) (Ok text) = (with_even_texts j, m.2, refl) in
+    let both : RejoinsUnless None form fs (Ok text) =
+    inl (subst AreLight (sym m.1) light, subst (λ (gs : List FontValue). MergesToFile form gs (Ok text)) (sym m.1) h) in (
+      with_no_lack form fs (Ok text) m.0 both,
+      λ answer k. rejoined_so form fs (even_list fs) text m.1 light h answer (has_no_lack form fs answer m.0 k),
     )

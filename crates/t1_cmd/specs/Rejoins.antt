@@ -1,23 +1,41 @@
 -- What the engine that rejoins fonts writes: fonts that other programs cut are made even, and merged.
-use Rattle.std.specs.Prelude.{◌≡◌, ◌⊎◌, ℕ, List, Result, Ok, Err}
+use Rattle.std.specs.Prelude.{◌≡◌, ◌⊎◌, ℕ, List, Option, Some, None, Result, Ok, Err}
+use Rattle.std.specs.Option.{option_map, unwrap_or}
 use Rattle.t1_bytes.specs.declared.form.Form.{Form}
 use Rattle.std.specs.List.{AllByRecursion}
 use Rattle.t1_font.specs.FontValue.{FontValue}
 use Rattle.t1_font.specs.IsFont.{IsFont}
 use Rattle.t1_font.specs.Canon.{canon}
-use Rattle.t1_font.specs.Evening.{evened}
+use Rattle.t1_font.specs.Evening.{evened_shells, evened}
 use Rattle.t1_font.specs.Filling.{AreLight, AnyHeavy}
-use Rattle.t1_subset.specs.declared.conflict.Conflict.TheVariants as conflict
+use Rattle.t1_subset.specs.Refusals.{Tells}
+use Rattle.t1_algebra.specs.Conflicts.{Conflict as FontConflict, ShellDiffers, OverLimit, shells_conflict}
+use Rattle.t1_algebra.specs.Lacks.{Lack, first_lack}
 use Rattle.t1_algebra.specs.Merges.{ComesTo}
 use Rattle.t1_algebra.specs.Rejoins.{with_even_texts}
 use Rattle.t1_cmd.specs.declared.faults.Reason.{Reason}
-use Rattle.t1_cmd.specs.declared.faults.Reason.TheVariants.{Merge}
-use Rattle.t1_cmd.specs.Mergers.{MergesToFile}
+use Rattle.t1_cmd.specs.declared.faults.Reason.TheVariants.{Lacks, Merge}
+use Rattle.t1_cmd.specs.Mergers.{IsTold, MergesToFile}
 
--- the fonts, made even, are within the weight limit, and merge to this; or one of them is over it, and that is told
+-- why fonts of which one is too heavy once it has its stubs are refused: their shells differ, or else one is over the limit
+abbrev pub heavy_conflict : List FontValue → FontConflict
+heavy_conflict fonts = unwrap_or (option_map ShellDiffers (shells_conflict fonts)) OverLimit
+
+-- that is what is told
+abbrev pub TellsHeavy : List FontValue → Result (List ℕ) Reason → Type 0
+TellsHeavy fonts (Err (Merge e)) = Tells e (Some (heavy_conflict fonts)) × IsTold e
+TellsHeavy fonts answer = ⊥
+
+-- a glyph lacks a Subr that another font has, and that is told; or the fonts, made even, are within the weight limit, and merge to this; or one of them is
+-- over it, and that is told behind conflicts of their shells
+abbrev pub RejoinsUnless : Option Lack → Form → List FontValue → Result (List ℕ) Reason → Type 0
+RejoinsUnless (Some lack) form fonts answer = answer ≡ Err (Lacks lack.1 lack.0)
+RejoinsUnless None form fonts answer =
+    (AreLight (evened fonts) × MergesToFile form (evened fonts) answer) ⊎ (AnyHeavy (evened fonts) × TellsHeavy (evened_shells fonts) answer)
+
+-- what fonts rejoin to, or why they don't
 abbrev pub RejoinsTo : Form → List FontValue → Result (List ℕ) Reason → Type 0
-RejoinsTo form fonts answer =
-    (AreLight (evened fonts) × MergesToFile form (evened fonts) answer) ⊎ (AnyHeavy (evened fonts) × (answer ≡ Err (Merge conflict.Limit)))
+RejoinsTo form fonts answer = RejoinsUnless (first_lack (evened_shells fonts)) form fonts answer
 
 -- fonts that merge rejoin to the file of what they merge to, with even texts, and to nothing else
 abbrev pub RejoinsWhatMerges : Type 0

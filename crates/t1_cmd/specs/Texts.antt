@@ -1,11 +1,12 @@
 -- The lines that tell of a fault.
 use Rattle.std.specs.Prelude.{ℕ, List, [], ◌∷◌, ◌++◌, codes}
+use Rattle.std.specs.Fmt.{decimal}
 use Rattle.t1_font.specs.FaultTexts.{fault_text}
 use Rattle.t1_join.specs.Shown.{shown}
 use Rattle.t1_join.specs.FaultTexts.{list_text, join_text}
 use Rattle.t1_subset.specs.FaultTexts.{conflict_text}
 use Rattle.t1_cmd.specs.declared.faults.Reason.{Reason}
-use Rattle.t1_cmd.specs.declared.faults.Reason.TheVariants.{TooLong, Memory, List as ListReason, Join as JoinReason, Font, NoGlyph, Merge}
+use Rattle.t1_cmd.specs.declared.faults.Reason.TheVariants.{TooLong, Memory, List as ListReason, Join as JoinReason, Font, NoGlyph, Lacks, Merge}
 use Rattle.t1_cmd.specs.declared.faults.RunFault.{RunFault}
 use Rattle.t1_cmd.specs.declared.faults.RunFault.TheVariants.{Refused, Read, Write}
 
@@ -17,6 +18,7 @@ reason_text (ListReason f) = list_text f
 reason_text (JoinReason f) = join_text f
 reason_text (Font f) = fault_text f
 reason_text (NoGlyph name) = codes "no glyph " ++ shown name
+reason_text (Lacks glyph index) = codes "glyph " ++ (shown glyph ++ (codes " lacks subr " ++ decimal index))
 reason_text (Merge e) = conflict_text e
 
 -- what is printed of a run that did not finish

@@ -59,6 +59,9 @@ pub enum Reason {
     Font(ReadFault),
     /// The font has no glyph of this name.
     NoGlyph { name: Name },
+    /// Of fonts that are rejoined, the first that lacks a Subr which its glyph executes and another of the fonts has: a stub there
+    /// would draw something else. The index is the smallest, and the glyph the smallest that executes it.
+    Lacks { glyph: Name, index: u16 },
     /// Fonts don't merge.
     Merge(Conflict),
 }
@@ -77,6 +80,9 @@ impl fmt::Display for Reason {
             Reason::Join(fault) => write!(f, "{fault}"),
             Reason::Font(fault) => write!(f, "{fault}"),
             Reason::NoGlyph { name } => write!(f, "no glyph {}", Shown(name.as_bytes())),
+            Reason::Lacks { glyph, index } => {
+                write!(f, "glyph {} lacks subr {index}", Shown(glyph.as_bytes()))
+            }
             Reason::Merge(conflict) => write!(f, "{conflict}"),
         }
     }

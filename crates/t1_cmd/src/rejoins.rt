@@ -1,27 +1,65 @@
 //! The engine that rejoins fonts that other programs cut.
-ghost use Rattle.std.specs.Prelude.{◌≡◌, List, None, IfOk, IfErr, MatchResult, Ok};
+ghost use Rattle.std.specs.Prelude.{◌≡◌, List, None, Some, IfOk, IfErr, MatchResult, Ok};
 ghost use Rattle.t1_font.specs.FontValue.{FontValue};
 ghost use Rattle.t1_font.specs.Evening.{evened_shells};
 ghost use Rattle.t1_subset.specs.NameSets.{lent};
+ghost use Rattle.t1_algebra.specs.Lacks.{first_lack};
+ghost use Rattle.t1_subset.specs.Refusals.{Tells};
+ghost use Rattle.t1_cmd.specs.declared.faults.Reason.TheVariants.{Lacks};
 ghost use Rattle.t1_cmd.specs.Answers.{MayRefuse};
 ghost use Rattle.t1_cmd.specs.Files.{OfFiles, RefusesFiles};
 ghost use Rattle.t1_cmd.specs.Fonts.{mended_input};
 ghost use Rattle.t1_cmd.specs.Runs.{RunEnds, Succeeds};
-ghost use Rattle.t1_cmd.specs.Mergers.{inputs_of, InTurns};
-ghost use Rattle.t1_cmd.specs.Rejoins.{RejoinsTo};
+ghost use Rattle.t1_cmd.specs.Mergers.{IsTold, inputs_of, InTurns};
+ghost use Rattle.t1_cmd.specs.Rejoins.{heavy_conflict, RejoinsTo};
 ghost use Rattle.t1_cmd.specs.Cuts.{OfRejoined, WritesRejoined};
 
 use crate::counting::Counted;
-use crate::faults::{FilesRefusal, Reason, RunFault};
+use crate::faults::{FilesRefusal, Name, Reason, RunFault};
 use crate::mergers::{fonts_of, merged_file};
 use crate::several::{FontsWord, run_words, text_of_files};
 use crate::words::Taking;
 use std::alloc::{AllocError, Global};
 use std::io::{Read, Write};
-use t1_font::{Form, PartsFault, Source, even_shells, fill_all};
-use t1_subset::Conflict;
+use t1_font::{Font, Form, PartsFault, Source, even_shells, fill_all};
+use t1_subset::{Conflict, Lack, first_lack, shells_conflict};
 
-// The canonical file of the font that sources of one declared count come to when they are filled.
+// The lack of a Subr as a reason.
+fn lacking(alloc: Global, lack: Lack<'_>) -> Result<Reason, AllocError>
+    ensures { IfOk result (λ e. e ≡ Lacks lack.entry.glyph.now lack.entry.index) }
+{
+    Ok(Reason::Lacks {
+        glyph: Name::new(alloc, lack.glyph)?,
+        index: lack.index,
+    })
+}
+
+// Refuses fonts of which a glyph lacks a Subr that another of them has.
+fn none_lacks(alloc: Global, fonts: &[Font<'_>]) -> Result<(), Reason>
+    ensures none { IfOk result (λ _. first_lack fonts.now ≡ None) }
+    ensures refused { IfErr result (λ e. (form : Form) (whole : List FontValue)
+        → fonts.now ≡ evened_shells whole
+        → MayRefuse (RejoinsTo form whole) e) }
+{
+    match first_lack(alloc, fonts)? {
+        Some(lack) => Err(lacking(alloc, lack)?),
+        None => Ok(()),
+    }
+}
+
+// Why sources are refused of which one is too heavy once it has its stubs.
+fn heavy_refusal(alloc: Global, sources: &[Source]) -> Result<Conflict, AllocError>
+    ensures { IfOk result (λ e. Tells e (Some (heavy_conflict sources.now)) × IsTold e) }
+{
+    let fonts = fonts_of(alloc, sources)?;
+    Ok(match shells_conflict(alloc, fonts.as_slice()) {
+        Some(part) => Conflict::Shell { part },
+        None => Conflict::Limit,
+    })
+}
+
+// The canonical file of the font that sources of one declared count come to when they are filled, where no glyph lacks a Subr that
+// another of them has.
 fn filled_file(alloc: Global, sources: &[Source], form: Form) -> Result<Vec<u8>, Reason>
     ensures text { (fonts : List FontValue)
         → sources.now ≡ evened_shells fonts
@@ -31,10 +69,13 @@ fn filled_file(alloc: Global, sources: &[Source], form: Form) -> Result<Vec<u8>,
         → IfErr result (MayRefuse (RejoinsTo form fonts)) }
 {
     let lent = fonts_of(alloc, sources)?;
+    if let Err(reason) = none_lacks(alloc, lent.as_slice()) {
+        return Err(reason);
+    }
     let mut indices = Vec::new(alloc);
     let filled = match fill_all(alloc, lent, &mut indices) {
         Ok(filled) => filled,
-        Err(PartsFault::Limit) => return Err(Reason::Merge(Conflict::Limit)),
+        Err(PartsFault::Limit) => return Err(Reason::Merge(heavy_refusal(alloc, sources)?)),
         Err(PartsFault::Memory) => return Err(Reason::Memory),
     };
     merged_file(alloc, filled, form)
@@ -69,9 +110,9 @@ impl FontsWord for Rejoin {
 ///
 /// # Errors
 ///
-/// [`Reason::TooLong`] or [`Reason::Font`] with the place of the first file that spells no font; else [`Reason::Merge`] if the
-/// fonts, made even, don't merge, if one of them is then too heavy, or if there is none. [`Reason::Memory`] if a growth was
-/// refused.
+/// [`Reason::TooLong`] or [`Reason::Font`] with the place of the first file that spells no font; else [`Reason::Lacks`] if a glyph
+/// executes a Subr that its font lacks and another has; else [`Reason::Merge`] if the fonts, made even, don't merge, if one of
+/// them is then too heavy, or if there is none. [`Reason::Memory`] if a growth was refused.
 pub fn rejoin_files(alloc: Global, files: &[&[u8]], form: Form) -> Result<Vec<u8>, FilesRefusal>
     ensures text { IfOk result (λ text. OfFiles mended_input (RejoinsTo form) (lent files.now) (Ok text.items)) }
     ensures refused { IfErr result (RefusesFiles mended_input (RejoinsTo form) (lent files.now)) }
@@ -86,8 +127,9 @@ pub fn rejoin_files(alloc: Global, files: &[&[u8]], form: Form) -> Result<Vec<u8
 /// and in tags before its name, and declare no Subrs after the last one used.
 ///
 /// The inputs are read and understood one after the other, and then made even and merged. If several things are wrong, the
-/// first in that order is answered. A font that is too heavy with the stubs that it gets is reported as
-/// [`Conflict::Limit`].
+/// first in that order is answered. Before fonts are merged, a glyph that executes a Subr which its font lacks and another
+/// has is refused as [`Reason::Lacks`]. A font that is too heavy with the stubs that it gets is reported as
+/// [`Conflict::Limit`], if no shell differs from the first.
 pub fn run_rejoin<R: Read, W: Write>(
     alloc: Global,
     readers: &mut [Counted<R>],

@@ -1,3 +1,4 @@
 mod closing
 pub mod state_tables
 pub mod Answered
+pub mod Lacking

@@ -1,24 +1,20 @@
 -- Which glyph executes each Subr of a font, and which names each component that the font lacks.
-use Rattle.std.specs.Prelude.{◌≡◌, ℕ, Bool, true, false, List, [], ◌∷◌, Option, Some, None, map}
+use Rattle.std.specs.Prelude.{◌≡◌, ◌<◌, ℕ, Bool, true, false, List, [], ◌∷◌, Option, Some, None, map}
 use Rattle.std.specs.List.{AllByRecursion}
 use Rattle.std.specs.FinMap as maps
 use Rattle.t1_join.specs.Meaning.{of_number}
-use Rattle.t1_font.specs.FontValue.{FontValue, name_cmp}
+use Rattle.t1_font.specs.FontValue.{FontValue, name_cmp, declared_count}
 use Rattle.t1_font.specs.FontModel.{names_in}
 use Rattle.t1_font.specs.IsFont.{IsFont}
 use Rattle.t1_algebra.specs.Interpreter.{same_bytes}
 use Rattle.t1_algebra.specs.Profile.{profile}
 use Rattle.t1_algebra.specs.Conflicts.{wants}
-use Rattle.t1_algebra.specs.States.{executes}
+use Rattle.t1_algebra.specs.Lacks.{user_of}
 use Rattle.t1_algebra.specs.Searches.{first_where}
 use Rattle.t1_subset.specs.declared.callers.Callers.{Callers}
 use Rattle.t1_subset.specs.Differences.{smaller}
 use Rattle.t1_subset.specs.declared.state_making.Uses.{Uses}
 use Rattle.t1_subset.specs.Users.{noted_at}
-
--- the smallest glyph of the font that executes the index
-abbrev pub user_of : FontValue → ℕ → Option (List ℕ)
-user_of f i = first_where (λ n. executes profile f n i) (names_in f.glyphs)
 
 -- the smallest glyph of the font that names this component, if the font lacks it
 abbrev pub seeker_of : FontValue → List ℕ → Option (List ℕ)
@@ -32,9 +28,9 @@ same_charstring (Some c) (Some d) = same_bytes c d
 
 -- ---- in code
 
--- what was noted are the callers in the font of each Subr that it has and of each component
+-- what was noted are the callers in the font of each Subr that it declares and of each component
 pub record AreUsesOf (u : Uses) (f : FontValue) : Type 0 where
-  pub users : (i : ℕ) → maps.contains_key f.subrs i ≡ true → noted_at u.users.items i ≡ user_of f i
+  pub users : (i : ℕ) → i < declared_count f.shell.subrs → noted_at u.users.items i ≡ user_of f i
   pub seekers : (p : List ℕ) → maps.get u.seekers p ≡ seeker_of f p
 
 -- these are the callers in the font of each Subr that it has and of each component

@@ -6,5 +6,6 @@ pub mod Users
 pub mod Callers
 pub mod Clashes
 pub mod Refusals
+pub mod Lacks
 pub mod Merger
 pub mod FaultTexts

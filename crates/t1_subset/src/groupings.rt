@@ -4,14 +4,16 @@ ghost use Rattle.std.specs.Prelude.{◌≡◌, ◌∷◌, [], IfOk, IfErr, None,
 ghost use Rattle.std.specs.List.{AllByRecursion};
 ghost use Rattle.t1_font.specs.IsFont.{IsFont};
 ghost use Rattle.t1_algebra.specs.Profile.{profile};
-ghost use Rattle.t1_algebra.specs.Conflicts.{shell_conflict, conflict};
+ghost use Rattle.std.specs.Option.{option_map};
+ghost use Rattle.t1_algebra.specs.Conflicts.{shell_conflict, conflict, shells_differ, shells_conflict};
+ghost use Rattle.t1_subset.specs.Differences.{shell_part};
 ghost use Rattle.t1_algebra.specs.StateTables.{states_of};
 ghost use Rattle.t1_subset.specs.Callers.{AreNoted, fonts_of};
 ghost use Rattle.t1_subset.specs.Merger.{NotMerged, FirstShare};
 ghost use Rattle.t1_subset.specs.Refusals.{Tells};
 
 use crate::callers::Callers;
-use crate::conflict::Conflict;
+use crate::conflict::{Conflict, ShellPart};
 use crate::searches::one_shell;
 use crate::shared::Shared;
 use crate::state_making::note_font;
@@ -68,6 +70,30 @@ pub(crate) fn first_share(alloc: Global, fonts: &[&Font<'_>]) -> Result<(), Conf
     match fonts {
         [first, second, ..] => share(alloc, first, second),
         _ => Ok(()),
+    }
+}
+
+/// The first part in which the first of some fonts whose shell differs from that of a font differs from it.
+fn shells_differ(alloc: Global, own: &Font<'_>, fonts: &[Font<'_>]) -> Option<ShellPart>
+    ensures { option_map shell_part result ≡ shells_differ own.now fonts.now }
+{
+    let own = Shared::without_subrs(alloc, own);
+    'fonts: for font in fonts {
+        if let Some(part) = own.differing_part(&Shared::without_subrs(alloc, font)) {
+            return Some(part);
+        }
+    }
+    None
+}
+
+/// The first part in which the first of the fonts whose shell differs from that of the first font differs from it, whichever
+/// Subrs are present. No glyph is run.
+pub fn shells_conflict(alloc: Global, fonts: &[Font<'_>]) -> Option<ShellPart>
+    ensures { option_map shell_part result ≡ shells_conflict fonts.now }
+{
+    match fonts {
+        [first, rest @ ..] => shells_differ(alloc, first, rest),
+        [] => None,
     }
 }
 

@@ -7,6 +7,7 @@ ghost use Rattle.t1_font.specs.FontModel.{part_of, clamp};
 ghost use Rattle.t1_algebra.specs.Interpreter.{same_bytes};
 ghost use Rattle.t1_algebra.specs.Searches.{first_where};
 ghost use Rattle.t1_algebra.specs.StateTables.{shared_weight};
+ghost use Rattle.t1_algebra.specs.Conflicts.{without_subrs};
 ghost use Rattle.t1_algebra.specs.Shared.{shared_of, same_part, same_word, differing_part};
 ghost use Rattle.t1_subset.specs.Differences.{shell_part};
 
@@ -57,7 +58,7 @@ pub(crate) fn same_bytes(left: &[u8], right: &[u8]) -> bool
 }
 
 /// Whether two tables of Subrs have the same indices.
-fn same_indices(left: &Numbered<'_>, right: &Numbered<'_>) -> bool
+pub(crate) fn same_indices(left: &Numbered<'_>, right: &Numbered<'_>) -> bool
     ensures { result ≡ same_bytes (maps.keys left.now) (maps.keys right.now) }
 {
     if left.len() != right.len() {
@@ -148,6 +149,17 @@ impl<'a> Shared<'a> {
             word: font.encoding_word(),
             subrs: font.subrs().copy(alloc)?,
         })
+    }
+
+    /// What the font shares without its Subrs: its shell and the word of its Encoding.
+    pub(crate) fn without_subrs(alloc: Global, font: &Font<'a>) -> Shared<'a>
+        ensures { result ≡ shared_of (without_subrs font.now) }
+    {
+        Shared {
+            shell: font.shell(),
+            word: font.encoding_word(),
+            subrs: Numbered::made(Vec::new(alloc)),
+        }
     }
 
     /// A copy of the value.

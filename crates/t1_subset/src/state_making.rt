@@ -40,7 +40,7 @@ pub(crate) struct Uses<'a> {
 
 /// What the glyphs of a font execute and seek. Each glyph is run once, or not at all if the one before it has the same
 /// charstring.
-fn uses_of<'a>(alloc: Global, font: &Font<'a>) -> Result<Uses<'a>, AllocError>
+pub(crate) fn uses_of<'a>(alloc: Global, font: &Font<'a>) -> Result<Uses<'a>, AllocError>
     ensures { IfOk result (λ uses. AreUsesOf uses font.now) }
 {
     let mut users = nobody(alloc, font)?;
@@ -91,6 +91,7 @@ pub(crate) fn note_font<'t, 'a>(
     ensures callers { IfOk result (λ n. AreCallersOf n.0 font.now) }
     ensures states { IfOk result (λ n. n.1 ≡ states_of profile font.now) }
 {
+    font.proof_is_font();
     let uses = uses_of(alloc, font)?;
     let states = states_from(alloc, font, shared, &uses)?;
     let users = used(alloc, font, &uses.users)?;

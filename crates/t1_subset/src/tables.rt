@@ -8,7 +8,7 @@ ghost use Rattle.t1_algebra.specs.Profile.{profile};
 ghost use Rattle.t1_algebra.specs.StateTables.{numbered, code_states, used_subrs};
 ghost use Rattle.t1_subset.specs.Differences.{with_state, entry_state};
 ghost use Rattle.t1_subset.specs.Users.{noted_at};
-ghost use Rattle.t1_subset.specs.Callers.{user_of};
+ghost use Rattle.t1_algebra.specs.Lacks.{user_of};
 
 use crate::users::{Noted, Users, noted_user};
 use std::alloc::{AllocError, Global};

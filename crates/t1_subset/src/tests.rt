@@ -4,6 +4,7 @@ mod closures;
 mod fonts;
 mod growths;
 mod kept;
+mod lacks;
 mod large;
 mod lists;
 mod mergers;

@@ -5,6 +5,7 @@ ghost use Rattle.std.specs.Option.{option_map};
 ghost use Rattle.std.specs.FinMap as maps;
 ghost use Rattle.std.specs.FinSet as sets;
 ghost use Rattle.t1_join.specs.Meaning.{of_number};
+ghost use Rattle.t1_font.specs.FontValue.{declared_count};
 ghost use Rattle.t1_algebra.specs.Profile.{set_of};
 ghost use Rattle.t1_algebra.specs.Shared.{same_number};
 ghost use Rattle.t1_algebra.specs.States.{joined_option};
@@ -24,14 +25,12 @@ pub(crate) type Noted<'a> = Vec<Option<&'a [u8]>>;
 pub(crate) type Users<'a> = Table<u16, &'a [u8]>;
 
 /// Nobody for each Subr that the font declares.
-#[tactic(auto, using(crate::proofs::state_tables::FontUsers::present_below))]
 pub(crate) fn nobody<'a>(alloc: Global, font: &Font<'_>) -> Result<Noted<'a>, AllocError>
     ensures places { IfOk result (λ users. (q : ℕ)
-        → maps.contains_key font.now.subrs q ≡ true
+        → q < declared_count font.now.shell.subrs
         → q < length users.items) }
     ensures none { IfOk result (λ users. (q : ℕ) → noted_at users.items q ≡ None) }
 {
-    font.proof_is_font();
     let mut users = Vec::new(alloc);
     users.resize(font.count() as usize, None)?;
     Ok(users)

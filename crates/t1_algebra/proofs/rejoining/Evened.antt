@@ -10,6 +10,7 @@ use Rattle.t1_font.specs.{Evening.{raised, even, stubs_at, with_stubs, filled, l
 use Rattle.t1_font.proofs.even_fonts.{EvenStays.{even_fonts_stay}, EvenTexts.{even_texts_stay, even_shorter}}
 use Rattle.t1_algebra.specs.{Evened.{StaysDrawn, map_subrs, AllStayDrawn, EachBeside, EvenedDraw}, Rejoins.{with_even_texts, MergingFontsAreEven}}
 use Rattle.t1_algebra.specs.{States.{Compatible, KeepsLimits, joined_option, joined_font}, Groupings.{Merges}, Profile.{profile}}
+use Rattle.t1_algebra.proofs.rejoining.Lacking.{even_lack_none}
 use Rattle.t1_algebra.proofs.{Words.{AllByRecursion, nat_cmp_total, nat_cmp-IsAntisymmetric}, Maps.{get-merged}, Orders.{Below, above}, Shares.{sharing}, Sets.{cases}}
 
 -- if a font has the same glyphs and more Subrs, each glyph stays drawn
@@ -112,4 +113,8 @@ each_even j (f ∷ fs) b =
 pub merging_fonts_are_even : MergingFontsAreEven
 merging_fonts_are_even t j h =
     let below = all_leaves (Below profile j) t (above profile t j h) in
-    (sym (evened_texts (leaves t)) ∙ even_fonts_stay j (map with_even_texts (leaves t)) (each_even j (leaves t) below), even_groupings t j h)
+    let even = each_even j (leaves t) below in (
+      even_lack_none j (leaves t) even,
+      sym (evened_texts (leaves t)) ∙ even_fonts_stay j (map with_even_texts (leaves t)) even,
+      even_groupings t j h,
+    )

@@ -13,6 +13,7 @@ use Rattle.t1_algebra.specs.Rejoins.{declares, Truncated, IsTruncated, truncated
 use Rattle.t1_algebra.proofs.{Words.{AllByRecursion, nat_cmp_total, nat_list_cmp_total, nat_cmp-IsAntisymmetric, Names}, Drawings.{subset_alike, alike}, Fonts.{subset_is_font, any_order_of_fonts}}
 use Rattle.t1_algebra.proofs.{Kept.{keep_part, keep_more, kept_more, kept_union}, ManyMerges.{alike_trans, each_font, all_merge}, Sets.{clash, cases}}
 use Rattle.t1_algebra.proofs.rejoining.Truncated.{WordsOf, words_empty, get_nothing, get_font, largest_fits, all_fit, Fits}
+use Rattle.t1_algebra.proofs.rejoining.Lacking.{nothing_lacks}
 use Rattle.t1_algebra.proofs.rejoining.Truncated.{cut_subset, evened_is, KeepsBelow, keeps_same, subrs_below, runs_below, first_of}
 
 -- ---- tables without entries
@@ -198,7 +199,7 @@ module _ (f : FontValue) (h : IsFont f) (t : Truncated) (ts : List Truncated) (w
       (ap (λ (s : Names). sets.contains s n) (keeps_same profile f h.glyphs.notdef most names low.1 low.0).0 ∙ k)))
 
   pub rejoins : Rejoins f (t ∷ ts)
-  rejoins = record { shared = shared_is; subsets = evened_is f h (t ∷ ts) w; merges = all_merged; draws = all_drawn }
+  rejoins = record { shared = shared_is; lacks = nothing_lacks f (t ∷ ts) w; subsets = evened_is f h (t ∷ ts) w; merges = all_merged; draws = all_drawn }
 
 pub truncated_subsets_rejoin : TruncatedSubsetsRejoin
 truncated_subsets_rejoin = rejoins

@@ -269,8 +269,22 @@ fn lists_over_the_limit(rt: HostRuntime) -> Result<(), Fail> {
     Ok(())
 }
 
-/// A private text with so many Subrs without bytes, and `.notdef`.
-fn with_subrs(alloc: Global, count: u32) -> Result<Vec<u8>, AllocError> {
+/// Adds a glyph of this many bytes, of which the first is endchar, if there are any.
+fn push_glyph(alloc: Global, private: &mut Vec<u8>, size: usize) -> Result<(), AllocError> {
+    if size == 0 {
+        return Ok(());
+    }
+    let length = size.to_string(alloc)?;
+    private.extend_from_slice(b"/g ")?;
+    private.extend_from_slice(length.as_bytes())?;
+    private.extend_from_slice(b" RD \x1e")?;
+    let end = private.len().saturating_add(size.saturating_sub(1));
+    private.resize(end, 0)?;
+    private.extend_from_slice(b" ND ")
+}
+
+/// A private text with so many Subrs without bytes, `.notdef`, and a glyph of this many bytes.
+fn with_subrs(alloc: Global, count: u32, size: usize) -> Result<Vec<u8>, AllocError> {
     let mut private = Vec::from_slice(alloc, b"/lenIV 0 def /Subrs 1000 array\n")?;
     for index in 0..count {
         let index = index.to_string(alloc)?;
@@ -278,42 +292,38 @@ fn with_subrs(alloc: Global, count: u32) -> Result<Vec<u8>, AllocError> {
         private.extend_from_slice(index.as_bytes())?;
         private.extend_from_slice(b" 0 RD  NP\n")?;
     }
-    private.extend_from_slice(b"ND /CharStrings 1 dict dup begin /.notdef 0 RD  ND end closefile")?;
+    private.extend_from_slice(b"ND /CharStrings 2 dict dup begin /.notdef 0 RD  ND ")?;
+    push_glyph(alloc, &mut private, size)?;
+    private.extend_from_slice(b"end closefile")?;
     Ok(private)
 }
 
-/// A font with a head of this many bytes and so many Subrs.
-fn with_head(alloc: Global, before: usize, count: u32) -> Result<Vec<u8>, AllocError> {
-    let private = with_subrs(alloc, count)?;
+/// A font with a head of this many bytes, so many Subrs and a glyph of this many bytes.
+fn with_head(alloc: Global, before: usize, count: u32, size: usize) -> Result<Vec<u8>, AllocError> {
+    let private = with_subrs(alloc, count, size)?;
     file_of(alloc, before, private.as_slice())
 }
 
-// A font of 67,000,000 bytes is near the greatest weight, 67,108,864; each stub weighs 129.
-// meets run_rejoin Limit at 1000 subrs
+/// The refusal of two fonts by an engine that writes this form, if both orders say the same.
+fn refused_both(alloc: Global, form: Form, one: &[u8], other: &[u8]) -> Vec<u8> {
+    let got = listed(alloc, List::Rejoin(form), &[one, other]);
+    let again = listed(alloc, List::Rejoin(form), &[other, one]);
+    if got.as_slice() == again.as_slice() { got } else { Vec::new(alloc) }
+}
+
+// A font of 67,000,000 bytes is near the greatest weight, 67,108,864; each stub weighs 129, and a glyph of 65,000 bytes 65,256.
+// meets run_rejoin Limit at 600 subrs
 // like run_rejoin: rejoin_files
 #[test]
 fn stubs_that_weigh_too_much(rt: HostRuntime) -> Result<(), Fail> {
-    let heavy = with_head(rt.alloc(), 67_000_000, 1)?;
-    let full = with_head(rt.alloc(), 10, 1000)?;
+    let heavy = with_head(rt.alloc(), 67_000_000, 1, 65_000)?;
+    let full = with_head(rt.alloc(), 67_000_000, 600, 0)?;
     for form in [Form::Pfa, Form::Pfb] {
-        let got = listed(
-            rt.alloc(),
-            List::Rejoin(form),
-            &[full.as_slice(), heavy.as_slice()],
-        );
-        assert!(rt;
-            got.as_slice() == b"refused: over a limit\n".as_slice(),
-            "heavy last"
-        );
-        let got = listed(
-            rt.alloc(),
-            List::Rejoin(form),
-            &[heavy.as_slice(), full.as_slice()],
-        );
-        assert!(rt;
-            got.as_slice() == b"refused: over a limit\n".as_slice(),
-            "heavy first"
-        );
+        let got = refused_both(rt.alloc(), form, heavy.as_slice(), full.as_slice());
+        assert!(rt; got.as_slice() == b"refused: over a limit\n".as_slice());
     }
+    let other = with_head(rt.alloc(), 10, 600, 0)?;
+    let got = refused_both(rt.alloc(), Form::Pfa, heavy.as_slice(), other.as_slice());
+    assert!(rt; got.as_slice() == b"refused: shells differ in head\n".as_slice());
     Ok(())
 }

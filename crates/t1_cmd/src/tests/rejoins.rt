@@ -88,6 +88,34 @@ fn conflicts_of_even_fonts(rt: HostRuntime) -> Result<(), Fail> {
     Ok(())
 }
 
+/// The subset of a glyph with another tag and Subrs 0 to 4, though its glyph executes Subr 5.
+fn lacking(alloc: Global, glyph: &[u8]) -> Result<Vec<u8>, AllocError> {
+    let cut = subset(alloc, PFA, &[glyph]);
+    let short = cut_short(alloc, cut.as_slice(), b"/Subrs 5 array", b"dup 5 ")?;
+    tagged(alloc, short.as_slice(), b"/FontName /GHIJKL+Tiny")
+}
+
+// meets run_rejoin Lacks at 1, 2 glyphs
+// like run_rejoin: rejoin_files
+#[test]
+fn a_subr_that_a_cut_lacks(rt: HostRuntime) -> Result<(), Fail> {
+    const X: &[u8] = b"refused: glyph X lacks subr 5\n";
+    const Y: &[u8] = b"refused: glyph Y lacks subr 5\n";
+    let (x, y) = (lacking(rt.alloc(), b"X")?, lacking(rt.alloc(), b"Y")?);
+    let line = rejoined(rt.alloc(), x.as_slice(), PFA);
+    assert!(rt; line.as_slice() == X, "before Tiny");
+    let line = rejoined(rt.alloc(), PFA, x.as_slice());
+    assert!(rt; line.as_slice() == X, "behind Tiny");
+    let changed = tiny_changed(rt.alloc(), b"5839", b"5840")?;
+    let line = rejoined(rt.alloc(), changed.as_slice(), y.as_slice());
+    assert!(rt; line.as_slice() == Y, "before a conflict of shells");
+    let alone = rejoined(rt.alloc(), x.as_slice(), x.as_slice());
+    let want = cut_short(rt.alloc(), subset(rt.alloc(), PFA, &[b"X"]).as_slice(), b"/Subrs 5 array", b"dup 5 ")?;
+    let want = answer(rt.alloc(), Engine::Convert(Form::Pfa), want.as_slice());
+    assert!(rt; alone.as_slice() == want.as_slice(), "no font has it");
+    Ok(())
+}
+
 /// How Tiny rejoined with itself ends, as a word, and how many calls of the writer were made.
 fn ended_by(alloc: Global, read: Plan, write: Plan) -> (&'static str, u64) {
     let mut readers = [Feed::new(PFA, FINE), Feed::new(PFA, read)];

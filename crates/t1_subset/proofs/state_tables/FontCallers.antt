@@ -9,10 +9,10 @@ use Rattle.t1_font.specs.{Maps.{merged}, FontValue.{FontValue, Named, name_cmp},
 use Rattle.t1_font.proofs.MapLemmas.{entries-map_values}
 use Rattle.t1_algebra.specs.{Interpreter.{same_bytes}, Keep.{has, components, charstring}, Profile.{profile}}
 use Rattle.t1_algebra.specs.States.{joined_option, is_called, is_sought, joined_font, Compatible, executes, calls_for}
-use Rattle.t1_algebra.specs.{Conflicts.{keys_of_both, wants, wanted_by, used_by, glyphs_of_both}, Searches.{smallest, members, first_where}}
+use Rattle.t1_algebra.specs.{Lacks.{user_of}, Conflicts.{keys_of_both, wants, wanted_by, used_by, glyphs_of_both}, Searches.{smallest, members, first_where}}
 use Rattle.t1_algebra.proofs.{Subsets.{glyph_in_join}, JoinedStates.{present_joined, executes_join, calls_join}, Uses.{executing_there, naming_there, sought}, Sets.{name_same, clash, tied, cases}}
 use Rattle.t1_subset.specs.{declared.callers.Callers.{Callers}, Differences.{smaller}}
-use Rattle.t1_subset.specs.{Callers.{same_charstring, user_of, seeker_of, smallest_from, user_from, seeker_from, AreCallersOf}, Clashes.{AreCallers}}
+use Rattle.t1_subset.specs.{Callers.{same_charstring, seeker_of, smallest_from, user_from, seeker_from, AreCallersOf}, Clashes.{AreCallers}}
 use Rattle.t1_subset.proofs.{closing.Runs.{calls_by, no_calls, no_components}, state_tables.LowestKeys.{smaller_first}}
 
 -- ---- the first of some names

@@ -1,10 +1,11 @@
-use Rattle.std.proofs.Common.{◌≡◌, ◌<◌, ℕ, true, List, Bor, length, map, not, ◌&&◌, cond, Some, None, ap, sym, ◌∙◌, arith, refl}
+use Rattle.std.proofs.Common.{◌<◌, ℕ, List, Bor, length, map, not, ◌&&◌, cond, Some, None, ap, sym, ◌∙◌, arith, refl}
 use Rattle.std.specs.List.{list_any}
 use Rattle.std.specs.FinMap as maps
 use Rattle.std.specs.FinSet as sets
 use Rattle.std.proofs.lemmas.Map.Iter.{rest_more, rest_all}
 use Rattle.t1_algebra.specs.{Interpreter.{same_bytes}, Keep.{has}, Profile.{profile}, States.{joined_option, executes, executed_at, called_at}, Conflicts.{wants}}
 use Rattle.t1_algebra.proofs.Sets.{cases}
+use Rattle.t1_font.specs.FontValue.{declared_count}
 use Rattle.t1_subset.specs.Users.{noted_at}
 use Rattle.t1_subset.proofs.state_tables.FontCallers.{executes_so, calls_so, again_same, noting_starts, noting_again, noting_next, noting_ends}
 use Rattle.t1_subset.proofs.state_making.uses_of.Goals as goal
@@ -34,7 +35,7 @@ names-preserved c =
     let n = c.in-Some.name.now in
     let more = rest_more (λ (s : Bor (List ℕ)). s.now) _ _ _ _ c.in-Some.is c.next.ensures.steps in
     let named = ap (map (λ (s : Bor (List ℕ)). s.now)) c.as_slice.ensures.value ∙ c.in_ok-components.ensures.components in
-    let users = λ (q : ℕ) (l : maps.contains_key f.subrs q ≡ true).
+    let users = λ (q : ℕ) (l : q < declared_count f.shell.subrs).
     c.note_users.ensures.noted q (c.names.invariant.0 q l)
     ∙ ap (λ b. joined_option (noted_at c.names.users.items q) (cond b (Some n) None))
     (ap (λ s. sets.contains s q) c.in_ok-components.ensures.calls ∙ executes_so f n q) in

@@ -1,0 +1,122 @@
+//! Glyphs that execute a Subr that their font lacks and that another font of a list has.
+
+ghost use Rattle.std.specs.Prelude.{◌≡◌, ◌<◌, ℕ, IfOk};
+ghost use Rattle.std.specs.Option.{option_map};
+ghost use Rattle.t1_font.specs.FontValue.{declared_count};
+ghost use Rattle.t1_algebra.specs.Lacks.{user_of, is_had, lack_at, lack_in, first_lack};
+ghost use Rattle.t1_subset.specs.Lacks.{lack_view, have_same_subrs};
+ghost use Rattle.t1_subset.specs.Users.{noted_at};
+
+use crate::shared::same_indices;
+use crate::state_making::uses_of;
+use crate::users::{Noted, noted_user};
+use std::alloc::{AllocError, Global};
+use t1_font::Font;
+use t1_run::Subroutines;
+
+/// A Subr that a glyph executes, that its font declares and lacks, and that another font has.
+#[derive(Clone, Copy, PartialEq, Eq, Debug)]
+pub struct Lack<'a> {
+    /// The index of the Subr.
+    pub index: u16,
+    /// The name of the glyph.
+    pub glyph: &'a [u8],
+}
+
+/// Whether one of the fonts has a Subr at the index.
+fn is_had(fonts: &[Font<'_>], index: u16) -> bool
+    ensures { result ≡ is_had fonts.now index }
+{
+    'fonts: for font in fonts {
+        if font.subr(index).is_some() {
+            return true;
+        }
+    }
+    false
+}
+
+/// Whether all fonts have Subrs at the indices at which the first has them.
+fn have_same_subrs(first: &Font<'_>, fonts: &[Font<'_>]) -> bool
+    ensures { result ≡ have_same_subrs first.now fonts.now }
+{
+    'fonts: for font in fonts {
+        if !same_indices(first.subrs(), font.subrs()) {
+            return false;
+        }
+    }
+    true
+}
+
+/// The index with the smallest glyph of a font that executes it, if the font has no Subr there and one of the fonts has.
+fn lack_at<'a>(
+    fonts: &[Font<'a>],
+    font: &Font<'a>,
+    user: Option<&'a [u8]>,
+    index: u16,
+) -> Option<Lack<'a>>
+    requires { option_map (λ n. n.now) user ≡ user_of font.now index }
+    ensures { option_map lack_view result ≡ lack_at fonts.now font.now index }
+{
+    let glyph = user?;
+    if font.subr(index).is_some() || !is_had(fonts, index) {
+        return None;
+    }
+    Some(Lack { index, glyph })
+}
+
+/// The smallest index that a font declares and lacks, that one of its glyphs executes and that one of the fonts has, with the
+/// smallest such glyph.
+fn lack_by<'a>(fonts: &[Font<'a>], font: &Font<'a>, users: &Noted<'a>) -> Option<Lack<'a>>
+    requires { (i : ℕ)
+        → i < declared_count font.now.shell.subrs
+        → noted_at users.now.items i ≡ user_of font.now i }
+    ensures { option_map lack_view result ≡ lack_in fonts.now font.now }
+{
+    'indices: for index in 0..font.count() {
+        let lack = lack_at(fonts, font, noted_user(users, index), index);
+        if lack.is_some() {
+            return lack;
+        }
+    }
+    None
+}
+
+/// The smallest index that a font declares and lacks, that one of its glyphs executes and that one of the fonts has, with the
+/// smallest such glyph. Each glyph of the font is run once.
+fn lack_in<'a>(
+    alloc: Global,
+    fonts: &[Font<'a>],
+    font: &Font<'a>,
+) -> Result<Option<Lack<'a>>, AllocError>
+    ensures { IfOk result (λ lack. option_map lack_view lack ≡ lack_in fonts.now font.now) }
+{
+    let uses = uses_of(alloc, font)?;
+    Ok(lack_by(fonts, font, &uses.users))
+}
+
+/// The first of the fonts that has a glyph that executes a Subr that the font declares and lacks and that another of the fonts has:
+/// the smallest such index, and the smallest such glyph. If a stub stood there, the glyph would draw something else.
+///
+/// If all fonts have Subrs at the same indices, none lacks any, and no glyph is run.
+///
+/// # Errors
+///
+/// A growth was refused.
+pub fn first_lack<'a>(
+    alloc: Global,
+    fonts: &[Font<'a>],
+) -> Result<Option<Lack<'a>>, AllocError>
+    ensures { IfOk result (λ lack. option_map lack_view lack ≡ first_lack fonts.now) }
+{
+    if let [first, ..] = fonts {
+        if have_same_subrs(first, fonts) {
+            return Ok(None);
+        }
+    }
+    'fonts: for font in fonts {
+        if let Some(lack) = lack_in(alloc, fonts, font)? {
+            return Ok(Some(lack));
+        }
+    }
+    Ok(None)
+}
