@@ -2,6 +2,7 @@
 pub mod FontTestRows
 pub mod TagRows
 pub mod EvenRows
+pub mod BoxRows
 pub mod Tiny
 pub mod TinyCuts
 pub mod TinyFiles

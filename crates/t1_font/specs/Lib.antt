@@ -36,10 +36,12 @@ pub mod Rewriting
 pub mod Squeezing
 pub mod Identity
 pub mod Tags
+pub mod Numbers
 pub mod Steps
 pub mod FontTest
 pub mod Mends
 pub mod EvenTexts
+pub mod FontBoxes
 pub mod Evening
 pub mod Filling
 pub mod EveningLaws

@@ -1,0 +1,251 @@
+-- One FontBBox for a list of fonts (Adobe Type 1 Font Format 1.1, chapter 2): the least box that holds the box of each. Programs that convert one font
+-- write another box into each subset of it.
+use Rattle.std.specs.Prelude.{ℕ, ◌&&◌, ◌||◌, nat_le, Bool, false, List, [], ◌∷◌, ◌++◌, map, filter, codes, Option, Some, None, is_some, if◌then◌else◌}
+use Rattle.std.specs.List.{list_any, list_all}
+use Rattle.std.specs.Option.{option_map, option_and_then}
+use Rattle.std.specs.Str.{bytes_eq}
+use Rattle.std.proofs.Common.{refl}
+use Rattle.t1_grammar.specs.Grammar.{Grammar, pure, ◌>>=◌, ◌>>◌, that, before, count, fixed, first, Begins}
+use Rattle.t1_bytes.specs.White.{is_white, white, gap}
+use Rattle.t1_font.specs.Rewriting.{parted}
+use Rattle.t1_font.specs.Numbers.{number, is_zero, least_first, greatest_first, soonest}
+use Rattle.t1_font.specs.FontValue.{FontValue, Shell, weight, weight_limit}
+use Rattle.t1_font.specs.EvenTexts.{same_both, both_fit, even_clear}
+
+-- ---- boxes
+
+-- the numbers of a box, as they are spelled: its left, lower, right and upper side
+pub record Box : Type 0 where
+  pub llx : List ℕ
+  pub lly : List ℕ
+  pub urx : List ℕ
+  pub ury : List ℕ
+
+-- a box of four zeros says that nothing is known
+abbrev pub says_nothing : Box → Bool
+says_nothing b = is_zero b.llx && is_zero b.lly && is_zero b.urx && is_zero b.ury
+
+-- the least box that holds some boxes, each number as one of them spells it
+abbrev pub held : List Box → Box
+held bs = record {
+  llx = soonest least_first (map (λ b. b.llx) bs);
+  lly = soonest least_first (map (λ b. b.lly) bs);
+  urx = soonest greatest_first (map (λ b. b.urx) bs);
+  ury = soonest greatest_first (map (λ b. b.ury) bs);
+}
+
+-- those of some boxes that say nothing, where there are any; else all of them
+abbrev pub counted : List Box → List Box
+counted bs = if list_any says_nothing bs then filter says_nothing bs else bs
+
+-- the one box for some boxes; where one of them says nothing, it says nothing
+abbrev pub joined_box : List Box → Box
+joined_box bs = held (counted bs)
+
+-- ---- a box in a text
+
+-- an opening brace or bracket
+abbrev pub is_opening : List ℕ → Bool
+is_opening w = bytes_eq (codes "{") w || bytes_eq (codes "[") w
+
+-- what closes it
+abbrev pub closing : List ℕ → List ℕ
+closing w = if bytes_eq (codes "{") w then codes "}" else codes "]"
+
+-- white space, which may be none, and what closes this comes
+abbrev pub closes : List ℕ → List ℕ → Bool
+closes w text = is_some ((fixed (closing w)).read (parted is_white text).1)
+
+-- `/FontBBox`, white space, a brace or bracket and white space; its value is its bytes, and that brace or bracket
+unfoldable pub opening : Grammar (List ℕ × List ℕ)
+opening = do
+  name ← fixed (codes "/FontBBox")
+  space ← white
+  bracket ← that is_opening (count 1)
+  inside ← white
+  pure (name ++ space ++ bracket ++ inside, bracket)
+
+-- a number and white space
+unfoldable pub spaced : Grammar (List ℕ × List ℕ)
+spaced = do
+  w ← number
+  space ← gap
+  pure (w, space)
+
+-- four numbers and what stands between them
+pub record Numbers : Type 0 where
+  pub box : Box
+  pub first : List ℕ
+  pub second : List ℕ
+  pub third : List ℕ
+
+unfoldable pub numbers : Grammar Numbers
+numbers = do
+  llx ← spaced
+  lly ← spaced
+  urx ← spaced
+  ury ← number
+  pure (record { box = record { llx = llx.0; lly = lly.0; urx = urx.0; ury = ury }; first = llx.1; second = lly.1; third = urx.1 })
+
+-- the bytes up to four numbers, and these, before what closes them
+unfoldable pub font_box : Grammar (List ℕ × Numbers)
+font_box = do
+  start ← opening
+  four ← numbers
+  before (closes start.1)
+  pure (start.0, four)
+
+-- where the box of a text stands: the numbers, and the text around them
+pub record Place : Type 0 where
+  pub front : List ℕ
+  pub start : List ℕ
+  pub numbers : Numbers
+  pub behind : List ℕ
+
+-- the first place of a text that has a box
+abbrev pub place_in : List ℕ → Option Place
+place_in text = option_map (λ x. record { front = x.0.0; start = x.0.1.0; numbers = x.0.1.1; behind = x.1 }) ((first font_box).read text)
+
+-- four numbers with these spellings
+abbrev pub with_numbers : Box → Numbers → Numbers
+with_numbers u n = record { box = u; first = n.first; second = n.second; third = n.third }
+
+-- a place with this box in it
+abbrev pub at_place : Box → Place → Place
+at_place u p = record { front = p.front; start = p.start; numbers = with_numbers u p.numbers; behind = p.behind }
+
+-- the text of a place
+abbrev pub text_of : Place → List ℕ
+text_of p =
+    let n = p.numbers in
+    p.front ++ p.start ++ n.box.llx ++ n.first ++ n.box.lly ++ n.second ++ n.box.urx ++ n.third ++ n.box.ury ++ p.behind
+
+-- ---- the two texts around the Encoding
+
+-- where their box stands: in the first, or else in the second
+pub data Side : Type 0 where
+  InHead : Place → Side
+  InTail : Place → Side
+
+abbrev pub side_of : Option Place → Option Place → Option Side
+side_of (Some p) q = Some (InHead p)
+side_of None (Some q) = Some (InTail q)
+side_of None None = None
+
+abbrev pub side_in : List ℕ × List ℕ → Option Side
+side_in x = side_of (place_in x.0) (place_in x.1)
+
+-- the box that stands there
+abbrev pub box_at : Side → Box
+box_at (InHead p) = p.numbers.box
+box_at (InTail p) = p.numbers.box
+
+-- the two texts with this box there
+abbrev pub texts_at : Box → List ℕ × List ℕ → Side → List ℕ × List ℕ
+texts_at u x (InHead p) = (text_of (at_place u p), x.1)
+texts_at u x (InTail p) = (x.0, text_of (at_place u p))
+
+-- the two texts with this box in place of theirs, if they have one
+abbrev pub texts_with : Box → List ℕ × List ℕ → Option Side → List ℕ × List ℕ
+texts_with u x None = x
+texts_with u x (Some s) = texts_at u x s
+
+-- ---- what is wanted of them
+
+abbrev pub same_box : Box → Box → Bool
+same_box b c = bytes_eq b.llx c.llx && bytes_eq b.lly c.lly && bytes_eq b.urx c.urx && bytes_eq b.ury c.ury
+
+abbrev pub same_numbers : Numbers → Numbers → Bool
+same_numbers m n = same_box m.box n.box && bytes_eq m.first n.first && bytes_eq m.second n.second && bytes_eq m.third n.third
+
+abbrev pub same_place : Place → Place → Bool
+same_place p q = bytes_eq p.front q.front && bytes_eq p.start q.start && same_numbers p.numbers q.numbers && bytes_eq p.behind q.behind
+
+-- this place is read
+abbrev pub is_read : Place → Option Place → Bool
+is_read p None = false
+is_read p (Some q) = same_place p q
+
+-- two texts with this box there have it there when they are read again
+abbrev pub stays_at : Box → List ℕ × List ℕ → Side → Bool
+stays_at u y (InHead p) = is_read (at_place u p) (place_in y.0)
+stays_at u y (InTail p) = is_read (at_place u p) (place_in y.1)
+
+abbrev pub stays_in : Box → List ℕ × List ℕ → Option Side → Bool
+stays_in u y None = false
+stays_in u y (Some s) = stays_at u y s
+
+-- ---- shells
+
+-- the two texts of a shell
+abbrev pub clear_of : Shell → List ℕ × List ℕ
+clear_of s = (s.head, s.clear_tail)
+
+-- a shell with these two texts
+abbrev pub with_clear : Shell → List ℕ × List ℕ → Shell
+with_clear s x = record {
+  head = x.0;
+  clear_tail = x.1;
+  private = s.private;
+  middle = s.middle;
+  tail = s.tail;
+  len_iv = s.len_iv;
+  subrs = s.subrs;
+  glyphs_rd = s.glyphs_rd;
+  glyphs_def = s.glyphs_def;
+}
+
+-- the box of a shell
+abbrev pub box_of : Shell → Option Box
+box_of s = option_map box_at (side_in (clear_of s))
+
+-- the two texts of a shell with this box
+abbrev pub clear_with : Box → Shell → List ℕ × List ℕ
+clear_with u s = texts_with u (clear_of s) (side_in (clear_of s))
+
+-- a shell with this box in place of its own, if it has one
+abbrev pub with_box : Box → Shell → Shell
+with_box u s = with_clear s (clear_with u s)
+
+-- read again, it has this box where its own stood
+abbrev pub box_stays : Box → Shell → Bool
+box_stays u s = stays_in u (clear_with u s) (side_in (clear_of s))
+
+-- ---- fonts
+
+-- a font of that shell
+abbrev pub font_with : Box → FontValue → FontValue
+font_with u f = record { shell = with_box u f.shell; encoding = f.encoding; subrs = f.subrs; glyphs = f.glyphs }
+
+-- A font can have this box: the two texts with it are texts of a font, they are even, and read again they have it where the font's own stood; and the
+-- font is within the weight limit.
+abbrev pub can_have : Box → FontValue → Bool
+can_have u f =
+    both_fit (clear_with u f.shell)
+    && (same_both (even_clear (clear_with u f.shell)) (clear_with u f.shell) && (box_stays u f.shell && nat_le (weight (font_with u f)) weight_limit))
+
+-- ---- lists of fonts
+
+-- the boxes of fonts, if each has one
+abbrev pub boxes_of : List FontValue → Option (List Box)
+boxes_of [] = Some []
+boxes_of (f ∷ fs) = option_and_then (λ b. option_map (λ bs. b ∷ bs) (boxes_of fs)) (box_of f.shell)
+
+-- fonts with this box, if each can have it; else they stay
+abbrev pub all_with : Box → List FontValue → List FontValue
+all_with u fs = if list_all (can_have u) fs then map (font_with u) fs else fs
+
+-- fonts with the one box for these boxes; where there are none, they stay
+abbrev pub boxed_by : List FontValue → Option (List Box) → List FontValue
+boxed_by fs None = fs
+boxed_by fs (Some bs) = all_with (joined_box bs) fs
+
+-- fonts with one box, the least that holds the box of each, if each has one and can have that one; else they stay
+abbrev pub boxed : List FontValue → List FontValue
+boxed fs = boxed_by fs (boxes_of fs)
+
+-- ---- the text that a box begins with
+
+pub box_begins : Begins (codes "/FontBBox") font_box
+unfolding opening font_box
+box_begins bytes none = rw none refl
