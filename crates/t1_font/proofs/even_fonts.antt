@@ -5,3 +5,4 @@ pub mod EvenTexts
 pub mod EvenStays
 pub mod Evened
 pub mod Filled
+pub mod BoxTexts

@@ -213,9 +213,13 @@ box_stays u s = stays_in u (clear_with u s) (side_in (clear_of s))
 
 -- ---- fonts
 
--- a font of that shell
+-- a font with these two texts
+abbrev pub with_texts : FontValue → List ℕ × List ℕ → FontValue
+with_texts f x = record { shell = with_clear f.shell x; encoding = f.encoding; subrs = f.subrs; glyphs = f.glyphs }
+
+-- a font with this box in place of its own, if it has one
 abbrev pub font_with : Box → FontValue → FontValue
-font_with u f = record { shell = with_box u f.shell; encoding = f.encoding; subrs = f.subrs; glyphs = f.glyphs }
+font_with u f = with_texts f (clear_with u f.shell)
 
 -- A font can have this box: the two texts with it are texts of a font, they are even, and read again they have it where the font's own stood; and the
 -- font is within the weight limit.

@@ -37,11 +37,13 @@ pub mod Squeezing
 pub mod Identity
 pub mod Tags
 pub mod Numbers
+pub mod NumberViews
 pub mod Steps
 pub mod FontTest
 pub mod Mends
 pub mod EvenTexts
 pub mod FontBoxes
+pub mod BoxViews
 pub mod Evening
 pub mod Filling
 pub mod EveningLaws

@@ -106,6 +106,10 @@ abbrev pub soonest : (List ℕ → List ℕ → Ordering) → List (List ℕ) �
 soonest cmp [] = []
 soonest cmp (w ∷ ws) = fold (sooner cmp) w ws
 
+-- 1 to 9
+abbrev pub is_other_digit : ℕ → Bool
+is_other_digit b = nat_le 49 b && nat_le b 57
+
 -- each digit of a number is 0
 abbrev pub is_zero : List ℕ → Bool
-is_zero w = not (list_any (λ b. nat_le 49 b && nat_le b 57) w)
+is_zero w = not (list_any is_other_digit w)

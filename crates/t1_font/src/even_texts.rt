@@ -4,7 +4,7 @@ ghost use Rattle.std.specs.Prelude.{◌≡◌, ◌++◌, ◌∷◌, [], IfOk};
 ghost use Rattle.std.specs.Option.{option_map};
 ghost use Rattle.t1_font.specs.Pieces.{iv_of};
 ghost use Rattle.t1_font.specs.Tags.{tagged_name};
-ghost use Rattle.t1_font.specs.EvenTexts.{reads_number, own_fits, next_byte, followed_fits, fits, ends_at, squeezed_text, even_text, both_even, without_tags, same_both, even_clear};
+ghost use Rattle.t1_font.specs.EvenTexts.{reads_number, own_fits, next_byte, followed_fits, fits, ends_at, squeezed_text, even_text, both_even, without_tags, same_both, both_fit, even_clear};
 
 use crate::font_test::{EexecMarker, has_marker};
 use crate::markers::{CharsMarker, Closefile, Marker, SubrsMarker, first, occurs};
@@ -172,8 +172,19 @@ fn without_tags(alloc: Global, head: &[u8], clear_tail: &[u8]) -> Result<ClearTe
     }
 }
 
+/// Whether two texts can be the two texts around the Encoding of a font.
+pub(crate) fn both_fit(texts: &mut ClearTexts) -> Result<bool, AllocError>
+    ensures { IfOk result (λ b. (b ≡ both_fit (texts.old.head.items, texts.old.clear_tail.items))
+        × ((texts.new.head.items, texts.new.clear_tail.items)
+        ≡ (texts.old.head.items, texts.old.clear_tail.items))) }
+{
+    let head = fits(KeptText::Head, &mut texts.head)?;
+    let clear_tail = fits(KeptText::ClearTail, &mut texts.clear_tail)?;
+    Ok(head && clear_tail)
+}
+
 /// Whether two texts are these two.
-fn same_both(texts: &ClearTexts, head: &[u8], clear_tail: &[u8]) -> bool
+pub(crate) fn same_both(texts: &ClearTexts, head: &[u8], clear_tail: &[u8]) -> bool
     ensures { result ≡ same_both (texts.now.head.items, texts.now.clear_tail.items) (head.now, clear_tail.now) }
 {
     texts.head.as_slice() == head && texts.clear_tail.as_slice() == clear_tail

@@ -104,7 +104,7 @@ fn lent_codes(alloc: Global, codes: &[(u16, Vec<u8>)]) -> Result<Numbered<'_>, A
 }
 
 /// `before` plus the weight of Subrs in these ranges, in a font with this lenIV, as far as 64 bits hold it.
-fn subrs_weight(before: u64, len_iv: u8, subrs: &[(u16, Range)]) -> u64
+pub(crate) fn subrs_weight(before: u64, len_iv: u8, subrs: &[(u16, Range)]) -> u64
     ensures { result ≡ clamp (before + total (subr_at_weight len_iv) subrs.now) }
 {
     let mut weight = before;
@@ -115,7 +115,7 @@ fn subrs_weight(before: u64, len_iv: u8, subrs: &[(u16, Range)]) -> u64
 }
 
 /// `before` plus the weight of glyphs in these ranges, in a font with this lenIV, as far as 64 bits hold it.
-fn glyphs_weight(before: u64, len_iv: u8, glyphs: &[(Range, Range)]) -> u64
+pub(crate) fn glyphs_weight(before: u64, len_iv: u8, glyphs: &[(Range, Range)]) -> u64
     ensures { result ≡ clamp (before + total (glyph_at_weight len_iv) glyphs.now) }
 {
     let mut weight = before;

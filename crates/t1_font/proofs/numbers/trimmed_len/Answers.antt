@@ -1,0 +1,10 @@
+use Rattle.std.proofs.Common.{arith, rules}
+use Rattle.std.proofs.lemmas.List.{take_all}
+use Rattle.std.proofs.lemmas.List.Sums.{suffix_len-take_yes, suffix_len-take_no}
+use Rattle.t1_font.proofs.numbers.trimmed_len.Goals as goal
+
+pub noughts-init : goal.noughts-init
+noughts-init c = search (rules, take_all)
+
+pub noughts-preserved : goal.noughts-preserved
+noughts-preserved c = grind (arith, suffix_len-take_yes)

@@ -1,0 +1,20 @@
+-- Boxes and their places as the code has them, without where they lie in memory.
+use Rattle.t1_font.specs.declared.font_boxes.FontBox.{FontBox}
+use Rattle.t1_font.specs.declared.font_boxes.Numbers.{Numbers as CodeNumbers}
+use Rattle.t1_font.specs.declared.font_boxes.Place.{Place as CodePlace}
+use Rattle.t1_font.specs.declared.font_boxes.Side.{Side as CodeSide}
+use Rattle.t1_font.specs.declared.font_boxes.Side.TheVariants as sides
+use Rattle.t1_font.specs.FontBoxes.{Box, Numbers, Place, Side, InHead, InTail}
+
+abbrev pub box_view : FontBox → Box
+box_view b = record { llx = b.llx.now; lly = b.lly.now; urx = b.urx.now; ury = b.ury.now }
+
+abbrev pub numbers_view : CodeNumbers → Numbers
+numbers_view n = record { box = box_view n.sides; first = n.first.now; second = n.second.now; third = n.third.now }
+
+abbrev pub place_view : CodePlace → Place
+place_view p = record { front = p.front.now; start = p.start.now; numbers = numbers_view p.numbers; behind = p.behind.now }
+
+abbrev pub side_view : CodeSide → Side
+side_view (sides.InHead p) = InHead (place_view p)
+side_view (sides.InTail p) = InTail (place_view p)
