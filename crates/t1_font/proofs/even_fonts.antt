@@ -6,3 +6,5 @@ pub mod EvenStays
 pub mod Evened
 pub mod Filled
 pub mod BoxTexts
+pub mod BoxLists
+pub mod BoxFonts

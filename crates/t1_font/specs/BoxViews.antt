@@ -1,5 +1,6 @@
 -- Boxes and their places as the code has them, without where they lie in memory.
 use Rattle.t1_font.specs.declared.font_boxes.FontBox.{FontBox}
+use Rattle.t1_font.specs.declared.font_boxes.KeptBox.{KeptBox}
 use Rattle.t1_font.specs.declared.font_boxes.Numbers.{Numbers as CodeNumbers}
 use Rattle.t1_font.specs.declared.font_boxes.Place.{Place as CodePlace}
 use Rattle.t1_font.specs.declared.font_boxes.Side.{Side as CodeSide}
@@ -8,6 +9,9 @@ use Rattle.t1_font.specs.FontBoxes.{Box, Numbers, Place, Side, InHead, InTail}
 
 abbrev pub box_view : FontBox → Box
 box_view b = record { llx = b.llx.now; lly = b.lly.now; urx = b.urx.now; ury = b.ury.now }
+
+abbrev pub kept_view : KeptBox → Box
+kept_view b = record { llx = b.llx.items; lly = b.lly.items; urx = b.urx.items; ury = b.ury.items }
 
 abbrev pub numbers_view : CodeNumbers → Numbers
 numbers_view n = record { box = box_view n.sides; first = n.first.now; second = n.second.now; third = n.third.now }

@@ -221,12 +221,22 @@ with_texts f x = record { shell = with_clear f.shell x; encoding = f.encoding; s
 abbrev pub font_with : Box → FontValue → FontValue
 font_with u f = with_texts f (clear_with u f.shell)
 
--- A font can have this box: the two texts with it are texts of a font, they are even, and read again they have it where the font's own stood; and the
--- font is within the weight limit.
+-- A font can have these two texts, in which this box stands there: they are texts of a font, they are even, and read again they have the box there;
+-- and the font is within the weight limit.
+abbrev pub can_take : Box → FontValue → List ℕ × List ℕ → Side → Bool
+can_take u f x s = both_fit x && (same_both (even_clear x) x && (stays_at u x s && nat_le (weight (with_texts f x)) weight_limit))
+
+-- a font that has a box can have this one in its place
+abbrev pub can_have_at : Box → FontValue → Option Side → Bool
+can_have_at u f None = false
+can_have_at u f (Some s) = can_take u f (texts_at u (clear_of f.shell) s) s
+
 abbrev pub can_have : Box → FontValue → Bool
-can_have u f =
-    both_fit (clear_with u f.shell)
-    && (same_both (even_clear (clear_with u f.shell)) (clear_with u f.shell) && (box_stays u f.shell && nat_le (weight (font_with u f)) weight_limit))
+can_have u f = can_have_at u f (side_in (clear_of f.shell))
+
+-- a font with this box if it can have it
+abbrev pub if_can : Box → FontValue → FontValue
+if_can u f = if can_have u f then font_with u f else f
 
 -- ---- lists of fonts
 

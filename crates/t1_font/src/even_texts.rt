@@ -175,8 +175,8 @@ fn without_tags(alloc: Global, head: &[u8], clear_tail: &[u8]) -> Result<ClearTe
 /// Whether two texts can be the two texts around the Encoding of a font.
 pub(crate) fn both_fit(texts: &mut ClearTexts) -> Result<bool, AllocError>
     ensures { IfOk result (λ b. (b ≡ both_fit (texts.old.head.items, texts.old.clear_tail.items))
-        × ((texts.new.head.items, texts.new.clear_tail.items)
-        ≡ (texts.old.head.items, texts.old.clear_tail.items))) }
+        × (texts.new.head.items ≡ texts.old.head.items)
+        × (texts.new.clear_tail.items ≡ texts.old.clear_tail.items)) }
 {
     let head = fits(KeptText::Head, &mut texts.head)?;
     let clear_tail = fits(KeptText::ClearTail, &mut texts.clear_tail)?;

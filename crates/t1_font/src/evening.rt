@@ -128,7 +128,7 @@ fn largest_count(sources: &[Source]) -> u16
 }
 
 /// One more source.
-fn keep(sources: &mut Vec<Source>, source: Source) -> Result<(), AllocError>
+pub(crate) fn keep(sources: &mut Vec<Source>, source: Source) -> Result<(), AllocError>
     ensures { OnOk result (sources.new.items ≡ sources.old.items ++ source ∷ []) }
 {
     match sources.push(source) {

@@ -246,7 +246,7 @@ fn file_parts(alloc: Global, dialect: Dialect, file: Vec<u8>) -> Result<SourcePa
 }
 
 /// Tells proofs that bytes are numbers below 256. It does nothing when it runs.
-fn are_bytes(bytes: &[u8])
+pub(crate) fn are_bytes(bytes: &[u8])
     ensures { AreBytes bytes.now }
 {
     let _bytes = bytes;

@@ -1,18 +1,20 @@
 //! One FontBBox for a list of fonts: the least box that holds the box of each (Adobe Type 1 Font Format 1.1, chapter 2).
 
-ghost use Rattle.std.specs.Prelude.{◌≡◌, ℕ, List, ◌++◌, ◌∷◌, [], map, filter, Some, None, IfOk, OnOk, if◌then◌else◌};
+ghost use Rattle.std.specs.Prelude.{◌≡◌, nat_le, ℕ, List, ◌++◌, ◌∷◌, [], map, filter, Some, None, IfOk, OnOk, if◌then◌else◌};
 ghost use Rattle.std.specs.List.{list_any, list_all};
 ghost use Rattle.std.specs.Option.{option_map};
 ghost use Rattle.t1_font.specs.FontBoxes.{says_nothing, held, counted, joined_box, is_opening, closing, closes, opening, spaced, numbers, font_box, place_in};
 ghost use Rattle.t1_font.specs.FontBoxes.{at_place, text_of, side_of, side_in, box_at, texts_at, same_box, same_numbers, same_place, is_read, stays_at};
 ghost use Rattle.t1_font.specs.EvenTexts.{same_both, even_clear};
 ghost use Rattle.t1_font.specs.IsFont.{IsFont};
-ghost use Rattle.t1_font.specs.FontBoxes.{clear_of, with_clear, box_of, clear_with, with_texts, font_with, can_have, boxes_of, boxed};
+ghost use Rattle.t1_font.specs.FontBoxes.{clear_of, with_clear, box_of, clear_with, with_texts, font_with, can_take, can_have, if_can, boxes_of, boxed};
 ghost use Rattle.t1_font.specs.FontModel.{clamp};
-ghost use Rattle.t1_font.specs.FontValue.{weight, texts_weight};
-ghost use Rattle.t1_font.specs.BoxViews.{box_view, numbers_view, place_view, side_view};
+ghost use Rattle.t1_font.specs.FontValue.{weight, texts_weight, weight_limit};
+ghost use Rattle.t1_font.specs.BoxViews.{box_view, kept_view, numbers_view, place_view, side_view};
 
 use crate::even_texts::{ClearTexts, both_fit, even_clear, same_both};
+use crate::evening::keep;
+use crate::file::are_bytes;
 use crate::limits::WEIGHT_LIMIT;
 use crate::numbers::{greater, is_zero, lesser, number_at};
 use crate::shell::Shell;
@@ -60,11 +62,7 @@ fn is_opening(word: &[u8]) -> bool
 fn closing(word: &[u8]) -> &'static [u8]
     ensures { result.now ≡ closing word.now }
 {
-    if word == b"{".as_slice() {
-        b"}"
-    } else {
-        b"]"
-    }
+    if word == b"{".as_slice() { b"}" } else { b"]" }
 }
 
 /// Whether white space, which may be none, and what closes this come.
@@ -328,7 +326,74 @@ fn weight_with(parts: &SourceParts, texts: &ClearTexts) -> u64
     glyphs_weight(with_subrs, len_iv, parts.glyphs.as_slice())
 }
 
+/// Whether the font is within the weight limit with these two texts.
+fn is_light(parts: &SourceParts, texts: &ClearTexts) -> bool
+    ensures { result
+        ≡ nat_le (weight (with_texts parts.now (texts.now.head.items, texts.now.clear_tail.items))) weight_limit }
+{
+    weight_with(parts, texts) <= WEIGHT_LIMIT
+}
+
+/// Whether the font can have these two texts, in which this box stands there.
+fn can_take<'a>(
+    alloc: Global,
+    parts: &SourceParts,
+    sides: FontBox<'a>,
+    side: Side<'a>,
+    texts: &mut ClearTexts,
+) -> Result<bool, AllocError>
+    ensures { IfOk result (λ b. (b ≡ can_take (box_view sides.entry) parts.now (texts.old.head.items, texts.old.clear_tail.items) (side_view side.entry))
+        × (texts.new.head.items ≡ texts.old.head.items)
+        × (texts.new.clear_tail.items ≡ texts.old.clear_tail.items)) }
+{
+    let fit = both_fit(texts)?;
+    let even = are_even(alloc, texts)?;
+    let stays = stays_at(sides, texts, side);
+    let light = is_light(parts, texts);
+    Ok(fit && (even && (stays && light)))
+}
+
+/// The two texts around the Encoding with this box, if the font can have it.
+fn clear_with(
+    alloc: Global,
+    parts: &SourceParts,
+    sides: FontBox<'_>,
+) -> Result<Option<ClearTexts>, AllocError>
+    ensures { IfOk result (λ o. option_map {U = List ℕ × List ℕ} (λ x. (x.head.items, x.clear_tail.items)) o
+        ≡ (if can_have (box_view sides.entry) parts.now
+        then Some (clear_with (box_view sides.entry) parts.now.shell) else None)) }
+{
+    let head = parts.shell.head.as_slice();
+    let clear_tail = parts.shell.clear_tail.as_slice();
+    let Some(side) = side_in(head, clear_tail) else {
+        return Ok(None);
+    };
+    let mut texts = texts_at(alloc, sides, head, clear_tail, side)?;
+    if can_take(alloc, parts, sides, side, &mut texts)? {
+        Ok(Some(texts))
+    } else {
+        Ok(None)
+    }
+}
+
 impl Source {
+    /// The box of the font.
+    fn font_box(&self) -> Option<FontBox<'_>>
+        ensures { option_map box_view result ≡ box_of self.now.shell }
+    {
+        let shell = &self.parts.shell;
+        let side = side_in(shell.head.as_slice(), shell.clear_tail.as_slice())?;
+        Some(box_at(side))
+    }
+
+    /// Whether the font can have this box.
+    fn can_have(&self, alloc: Global, sides: FontBox<'_>) -> Result<bool, AllocError>
+        ensures { IfOk result (λ b. b ≡ can_have (box_view sides.entry) self.now) }
+    {
+        let texts = clear_with(alloc, &self.parts, sides)?;
+        Ok(texts.is_some())
+    }
+
     /// The font with these two texts around the Encoding.
     fn with_texts(self, texts: ClearTexts) -> Source
         requires { IsFont (with_texts self (texts.head.items, texts.clear_tail.items)) }
@@ -356,44 +421,11 @@ impl Source {
         }
     }
 
-    /// The box of the font.
-    fn font_box(&self) -> Option<FontBox<'_>>
-        ensures { option_map box_view result ≡ box_of self.now.shell }
-    {
-        let shell = &self.parts.shell;
-        let side = side_in(shell.head.as_slice(), shell.clear_tail.as_slice())?;
-        Some(box_at(side))
-    }
-
-    /// The two texts around the Encoding with this box, if the font can have it.
-    fn clear_with(&self, alloc: Global, sides: FontBox<'_>) -> Result<Option<ClearTexts>, AllocError>
-        ensures { IfOk result (λ o. option_map (λ x. (x.head.items, x.clear_tail.items)) o
-            ≡ (if can_have (box_view sides.entry) self.now
-                then Some (clear_with (box_view sides.entry) self.now.shell) else None)) }
-    {
-        let shell = &self.parts.shell;
-        let head = shell.head.as_slice();
-        let clear_tail = shell.clear_tail.as_slice();
-        let Some(side) = side_in(head, clear_tail) else {
-            return Ok(None);
-        };
-        let mut texts = texts_at(alloc, sides, head, clear_tail, side)?;
-        if both_fit(&mut texts)?
-            && (are_even(alloc, &texts)?
-                && (stays_at(sides, &texts, side) && weight_with(&self.parts, &texts) <= WEIGHT_LIMIT))
-        {
-            Ok(Some(texts))
-        } else {
-            Ok(None)
-        }
-    }
-
     /// The font with this box, if it can have it.
     fn with_box(self, alloc: Global, sides: FontBox<'_>) -> Result<Source, AllocError>
-        ensures { IfOk result (λ f. f
-            ≡ (if can_have (box_view sides.entry) self then font_with (box_view sides.entry) self else self)) }
+        ensures { IfOk result (λ f. f ≡ if_can (box_view sides.entry) self) }
     {
-        let texts = match self.clear_with(alloc, sides) {
+        let texts = match clear_with(alloc, &self.parts, sides) {
             Ok(texts) => texts,
             Err(fault) => {
                 drop(self);
@@ -401,8 +433,218 @@ impl Source {
             }
         };
         match texts {
-            Some(texts) => Ok(self.with_texts(texts)),
+            Some(texts) => {
+                are_bytes(texts.head.as_slice());
+                are_bytes(texts.clear_tail.as_slice());
+                Ok(self.with_texts(texts))
+            }
             None => Ok(self),
         }
+    }
+}
+
+// ---- lists of fonts
+
+/// The boxes of some sources, if each has one.
+fn boxes_of(alloc: Global, sources: &[Source]) -> Result<Option<Vec<FontBox<'_>>>, AllocError>
+    ensures { IfOk result (λ o. option_map (λ v. map box_view v.items) o ≡ boxes_of sources.now) }
+{
+    let mut boxes = Vec::with_capacity(alloc, sources.len())?;
+    'sources: for source in sources {
+        match source.font_box() {
+            Some(sides) => boxes.push(sides)?,
+            None => return Ok(None),
+        }
+    }
+    Ok(Some(boxes))
+}
+
+/// Whether a box says that nothing is known.
+fn says_nothing(sides: FontBox<'_>) -> bool
+    ensures { result ≡ says_nothing (box_view sides.entry) }
+{
+    is_zero(sides.llx) && is_zero(sides.lly) && is_zero(sides.urx) && is_zero(sides.ury)
+}
+
+/// Whether one of some boxes says that nothing is known.
+fn any_says_nothing(boxes: &[FontBox<'_>]) -> bool
+    ensures { result ≡ list_any says_nothing (map box_view boxes.now) }
+{
+    'boxes: for sides in boxes {
+        if says_nothing(*sides) {
+            return true;
+        }
+    }
+    false
+}
+
+/// Those of some boxes that say that nothing is known.
+fn saying_nothing<'a>(alloc: Global, boxes: &[FontBox<'a>]) -> Result<Vec<FontBox<'a>>, AllocError>
+    ensures { IfOk result (λ v. map box_view v.items ≡ filter says_nothing (map box_view boxes.now)) }
+{
+    let mut found = Vec::new(alloc);
+    'boxes: for sides in boxes {
+        if says_nothing(*sides) {
+            found.push(*sides)?;
+        }
+    }
+    Ok(found)
+}
+
+/// The least box that holds two.
+fn both_held<'a>(b: FontBox<'a>, c: FontBox<'a>) -> FontBox<'a>
+    ensures { box_view result ≡ held (box_view b.entry ∷ box_view c.entry ∷ []) }
+{
+    FontBox {
+        llx: lesser(b.llx, c.llx),
+        lly: lesser(b.lly, c.lly),
+        urx: greater(b.urx, c.urx),
+        ury: greater(b.ury, c.ury),
+    }
+}
+
+/// The least box that holds one and some others.
+fn held_with<'a>(first: FontBox<'a>, others: &[FontBox<'a>]) -> FontBox<'a>
+    ensures { box_view result ≡ held (box_view first.entry ∷ map box_view others.now) }
+{
+    let mut joined = first;
+    'boxes: for sides in others {
+        joined = both_held(joined, *sides);
+    }
+    joined
+}
+
+/// The least box that holds some.
+fn held<'a>(boxes: &[FontBox<'a>]) -> FontBox<'a>
+    ensures { box_view result ≡ held (map box_view boxes.now) }
+{
+    match boxes.split_first() {
+        Some((first, others)) => held_with(*first, others),
+        None => FontBox {
+            llx: b"",
+            lly: b"",
+            urx: b"",
+            ury: b"",
+        },
+    }
+}
+
+/// A box that owns the spellings of its numbers.
+#[derive(Drop)]
+struct KeptBox {
+    llx: Vec<u8>,
+    lly: Vec<u8>,
+    urx: Vec<u8>,
+    ury: Vec<u8>,
+}
+
+impl KeptBox {
+    /// A copy of a box.
+    fn copied(alloc: Global, sides: FontBox<'_>) -> Result<KeptBox, AllocError>
+        ensures { IfOk result (λ b. kept_view b ≡ box_view sides.entry) }
+    {
+        Ok(KeptBox {
+            llx: Vec::from_slice(alloc, sides.llx)?,
+            lly: Vec::from_slice(alloc, sides.lly)?,
+            urx: Vec::from_slice(alloc, sides.urx)?,
+            ury: Vec::from_slice(alloc, sides.ury)?,
+        })
+    }
+
+    /// The box, borrowed.
+    fn lent(&self) -> FontBox<'_>
+        ensures { box_view result ≡ kept_view self.now }
+    {
+        FontBox {
+            llx: self.llx.as_slice(),
+            lly: self.lly.as_slice(),
+            urx: self.urx.as_slice(),
+            ury: self.ury.as_slice(),
+        }
+    }
+}
+
+/// The one box for some.
+fn joined_box(alloc: Global, boxes: &[FontBox<'_>]) -> Result<KeptBox, AllocError>
+    ensures { IfOk result (λ b. kept_view b ≡ joined_box (map box_view boxes.now)) }
+{
+    if any_says_nothing(boxes) {
+        let nothing = saying_nothing(alloc, boxes)?;
+        KeptBox::copied(alloc, held(nothing.as_slice()))
+    } else {
+        KeptBox::copied(alloc, held(boxes))
+    }
+}
+
+/// The one box for some sources, if each has a box.
+fn one_box(alloc: Global, sources: &[Source]) -> Result<Option<KeptBox>, AllocError>
+    ensures { IfOk result (λ o. option_map kept_view o ≡ option_map joined_box (boxes_of sources.now)) }
+{
+    match boxes_of(alloc, sources)? {
+        Some(boxes) => Ok(Some(joined_box(alloc, boxes.as_slice())?)),
+        None => Ok(None),
+    }
+}
+
+/// Whether each source can have this box.
+fn all_can_have(alloc: Global, sources: &[Source], sides: FontBox<'_>) -> Result<bool, AllocError>
+    ensures { IfOk result (λ b. b ≡ list_all (can_have (box_view sides.entry)) sources.now) }
+{
+    'sources: for source in sources {
+        if !source.can_have(alloc, sides)? {
+            return Ok(false);
+        }
+    }
+    Ok(true)
+}
+
+/// The sources with this box, where each of them can have it.
+fn all_with_box(
+    alloc: Global,
+    sources: Vec<Source>,
+    sides: FontBox<'_>,
+) -> Result<Vec<Source>, AllocError>
+    ensures { IfOk result (λ all. all.items ≡ map (if_can (box_view sides.entry)) sources.items) }
+{
+    let mut all = Vec::with_capacity(alloc, sources.len())?;
+    'sources: for source in sources {
+        // Spelled out: with `?` each source that is left would be dropped field by field, and each step proved.
+        let source = match source.with_box(alloc, sides) {
+            Ok(source) => source,
+            Err(fault) => return Err(fault),
+        };
+        keep(&mut all, source)?;
+    }
+    Ok(all)
+}
+
+/// The sources with one FontBBox: the least box that holds the box of each. Programs that convert one font write another box
+/// into each subset of it.
+///
+/// A box is `/FontBBox`, white space, an opening brace or bracket, four decimal numbers with white space between them, and what
+/// closes it, in the head or else in the clear tail. The two lower numbers become the least of the list, the two upper ones the
+/// greatest; each is written as one of the fonts spells it. A box of four zeros says that nothing is known, and makes all of
+/// them so. Only the four words are replaced.
+///
+/// All sources stay as they are if one has no such box, or cannot have the new one: where its texts would no longer be even texts
+/// of a font, where the box would not be read again at its place, and where the font would be over the weight limit.
+///
+/// The sources are consumed whatever the answer is; after an error none of them is left.
+///
+/// # Errors
+///
+/// A growth was refused.
+pub fn even_boxes(alloc: Global, sources: Vec<Source>) -> Result<Vec<Source>, AllocError>
+    ensures { IfOk result (λ all. all.items ≡ boxed sources.items) }
+{
+    let joined = match one_box(alloc, sources.as_slice()) {
+        Ok(Some(joined)) => joined,
+        Ok(None) => return Ok(sources),
+        Err(fault) => return Err(fault),
+    };
+    match all_can_have(alloc, sources.as_slice(), joined.lent()) {
+        Ok(true) => all_with_box(alloc, sources, joined.lent()),
+        Ok(false) => Ok(sources),
+        Err(fault) => Err(fault),
     }
 }

@@ -62,6 +62,7 @@ pub use fault::ReadFault;
 pub use file::{read, read_vec, read_wide, read_wide_vec};
 pub use filling::fill_all;
 pub use font::{Font, Indices, Names, Part};
+pub use font_boxes::even_boxes;
 pub use lent::{Named, NamedEntries, Numbered, NumberedEntries};
 pub use limits::{COUNT_LIMIT, WEIGHT_LIMIT};
 pub use mend::{Mend, mends};

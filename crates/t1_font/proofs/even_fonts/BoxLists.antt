@@ -1,0 +1,70 @@
+-- Lists of fonts with one box.
+use Rattle.std.proofs.Common.{◌≡◌, ℕ, ◌+◌, ◌<◌, Bool, true, false, cond, List, [], ◌∷◌, map, length, get_or, drop, Option, Some, None, is_some, Result, Ok, Err, refl, sym, ap, ◌∙◌, true≢false}
+use Rattle.std.specs.Prelude.{◌&&◌}
+use Rattle.std.specs.Global.{Vec}
+use Rattle.std.specs.Result.{IfOk}
+use Rattle.std.specs.List.{list_all}
+use Rattle.std.specs.Option.{option_map}
+use Rattle.std.proofs.lemmas.Bool.{cond-true, and_parts}
+use Rattle.std.proofs.lemmas.List.{at_drop_more}
+use Rattle.std.proofs.lemmas.Option.{none-some, same_Some}
+use Rattle.t1_font.specs.FontValue.{FontValue}
+use Rattle.t1_font.specs.FontBoxes.{Box, joined_box, font_with, can_have, if_can, boxes_of, all_with, boxed_by, boxed}
+
+-- ---- what an answer tells of a test
+
+module _ {A B : Type 0} (f : A → B) where
+  -- something was answered where a test passed
+  pub some_so : (b : Bool) (o : Option A) (y : B) → option_map f o ≡ cond b (Some y) None → is_some o ≡ b
+  some_so true None y e = absurd (none-some y e)
+  some_so true (Some x) y e = refl
+  some_so false None y e = refl
+  some_so false (Some x) y e = absurd (none-some (f x) (sym e))
+
+  -- and what
+  pub some_is : (b : Bool) (o : Option A) (x : A) (y : B) → option_map f o ≡ cond b (Some y) None → o ≡ Some x → (b ≡ true) × (f x ≡ y)
+  some_is true o x y e is = (refl, same_Some (f x) y (sym (ap (option_map f) is) ∙ e))
+  some_is false o x y e is = absurd (none-some (f x) (sym (sym (ap (option_map f) is) ∙ e)))
+
+  pub none_is : (b : Bool) (o : Option A) (y : B) → option_map f o ≡ cond b (Some y) None → o ≡ None → b ≡ false
+  none_is true o y e is = absurd (none-some y (sym (ap (option_map f) is) ∙ e))
+  none_is false o y e is = refl
+
+-- ---- one test for a list
+
+module _ {A : Type 0} (p : A → Bool) where
+  -- what is left after one more
+  all_step : (xs : List A) (i : ℕ) (d : A) → i < length xs → list_all p (drop i xs) ≡ (p (get_or xs i d) && list_all p (drop (i + 1) xs))
+  all_step xs i d h = at_drop_more (list_all p) xs i d h
+
+  pub all_fails : (xs : List A) (i : ℕ) (x : A) → i < length xs → x ≡ get_or xs i x → p x ≡ false → list_all p (drop i xs) ≡ list_all p xs →
+      false ≡ list_all p xs
+  all_fails xs i x h is t so_far = sym (ap (λ (b : Bool). b && list_all p (drop (i + 1) xs)) (ap p (sym is) ∙ t)) ∙ (sym (all_step xs i x h) ∙ so_far)
+
+  pub all_more : (xs : List A) (i : ℕ) (x : A) → i < length xs → x ≡ get_or xs i x → p x ≡ true → list_all p (drop i xs) ≡ list_all p xs →
+      list_all p (drop (i + 1) xs) ≡ list_all p xs
+  all_more xs i x h is t so_far = sym (ap (λ (b : Bool). b && list_all p (drop (i + 1) xs)) (ap p (sym is) ∙ t)) ∙ (sym (all_step xs i x h) ∙ so_far)
+
+-- fonts that can all have a box have it
+pub each_can : (u : Box) (fs : List FontValue) → list_all (can_have u) fs ≡ true → map (if_can u) fs ≡ map (font_with u) fs
+each_can u [] h = refl
+each_can u (f ∷ fs) h =
+    let both = and_parts (can_have u f) (list_all (can_have u) fs) h in
+    λ i. cond-true (can_have u f) (font_with u f) f both.0 i ∷ each_can u fs both.1 i
+
+-- the one box of fonts that have boxes, where each can have it
+pub boxed_so : (fs : List FontValue) (u : Box) → Some u ≡ option_map joined_box (boxes_of fs) → list_all (can_have u) fs ≡ true →
+    map (if_can u) fs ≡ boxed fs
+boxed_so fs u one can = by_boxes (boxes_of fs) refl one
+  where
+    by_boxes : (o : Option (List Box)) → boxes_of fs ≡ o → Some u ≡ option_map joined_box o → map (if_can u) fs ≡ boxed_by fs o
+    by_boxes None e k = absurd (none-some u (sym k))
+    by_boxes (Some bs) e k =
+        let is : u ≡ joined_box bs = same_Some u (joined_box bs) k in
+        each_can u fs can
+        ∙ (sym (cond-true (list_all (can_have u) fs) (map (font_with u) fs) fs can) ∙ ap (λ (v : Box). all_with v fs) is)
+
+-- sources that are these fonts are those fonts
+pub same_fonts : {E : Type 0} (r : Result (Vec FontValue) E) (fs gs : List FontValue) → fs ≡ gs → IfOk r (λ all. all.items ≡ fs) → IfOk r (λ all. all.items ≡ gs)
+same_fonts (Ok all) fs gs e h = h ∙ e
+same_fonts (Err fault) fs gs e h = h
