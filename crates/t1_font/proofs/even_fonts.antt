@@ -8,3 +8,4 @@ pub mod Filled
 pub mod BoxTexts
 pub mod BoxLists
 pub mod BoxFonts
+pub mod BoxPlaces

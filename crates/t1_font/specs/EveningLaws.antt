@@ -1,10 +1,13 @@
 -- The laws of fonts made even, each the contract of a function in `laws`.
-use Rattle.std.specs.Prelude.{◌≡◌, ℕ, ◌≤◌, List}
+use Rattle.std.specs.Prelude.{◌≡◌, ℕ, ◌≤◌, true, List, [], map}
 use Rattle.std.specs.List.{AllByRecursion}
+use Rattle.std.specs.List.Sorted.{IsPermutation}
 use Rattle.std.specs.FinMap.{keys, contains_key}
 use Rattle.t1_font.specs.FontValue.{FontValue, Shell, declared_count}
 use Rattle.t1_font.specs.EvenTexts.{even_texts}
 use Rattle.t1_font.specs.Evening.{even, filled, evened}
+use Rattle.t1_font.specs.IsFont.{IsFont}
+use Rattle.t1_font.specs.FontBoxes.{Box, joined_box, with_box, box_stays, with_texts, boxed}
 
 -- a font of even texts that declares so many Subrs stays
 abbrev pub EvenStays : Type 0
@@ -31,3 +34,38 @@ pub record IsEvenWith (f g : FontValue) : Type 0 where
 -- fonts that are even with one of them stay when they are made even
 abbrev pub EvenFontsStay : Type 0
 EvenFontsStay = (f : FontValue) (fs : List FontValue) → AllByRecursion (IsEvenWith f) fs → evened fs ≡ fs
+
+-- ---- one FontBBox
+
+-- where a shell has a box when it is read again, another box takes its place as it takes the place of the shell's own
+abbrev pub OneBoxForAnother : Type 0
+OneBoxForAnother = (b u : Box) (s : Shell) → box_stays b s ≡ true → with_box u (with_box b s) ≡ with_box u s
+
+-- fonts with one box keep it
+abbrev pub BoxedTwice : Type 0
+BoxedTwice = (fs : List FontValue) → boxed (boxed fs) ≡ boxed fs
+
+-- a font without the two texts around its Encoding
+abbrev pub without_clear : FontValue → FontValue
+without_clear f = with_texts f ([], [])
+
+-- but for these, fonts with one box are what they were
+abbrev pub BoxedKeeps : Type 0
+BoxedKeeps = (fs : List FontValue) → map without_clear (boxed fs) ≡ map without_clear fs
+
+-- fonts with one box are fonts
+abbrev pub BoxedAreFonts : Type 0
+BoxedAreFonts = (fs : List FontValue) → AllByRecursion IsFont fs → AllByRecursion IsFont (boxed fs)
+
+-- and their texts are even where they were
+abbrev pub BoxedAreEven : Type 0
+BoxedAreEven =
+    (fs : List FontValue) → AllByRecursion (λ f. even_texts f.shell ≡ f.shell) fs → AllByRecursion (λ f. even_texts f.shell ≡ f.shell) (boxed fs)
+
+-- fonts of one shell stay
+abbrev pub OneShellStays : Type 0
+OneShellStays = (s : Shell) (fs : List FontValue) → AllByRecursion (λ f. f.shell ≡ s) fs → boxed fs ≡ fs
+
+-- the one box for some boxes is the same in any order
+abbrev pub BoxInAnyOrder : Type 0
+BoxInAnyOrder = (bs cs : List Box) → IsPermutation bs cs → joined_box bs ≡ joined_box cs

@@ -1,0 +1,126 @@
+-- A box that was put into a text is put in again at the same place.
+use Rattle.std.proofs.Common.{◌≡◌, ℕ, Bool, true, false, List, [], ◌++◌, Option, Some, None, refl, sym, ap, ◌∙◌, append_assoc}
+use Rattle.std.specs.Prelude.{◌&&◌}
+use Rattle.std.specs.Option.{option_map}
+use Rattle.std.specs.Str.{bytes_eq}
+use Rattle.std.proofs.lemmas.Bool.{and_parts, true≢false}
+use Rattle.std.proofs.lemmas.List.{append-nil}
+use Rattle.std.proofs.lemmas.Option.{same_Some}
+use Rattle.std.proofs.lemmas.Slice.Eq.{bytes_eq-Decides}
+use Rattle.t1_grammar.specs.Grammar.{first}
+use Rattle.t1_bytes.specs.White.{gap}
+use Rattle.t1_font.specs.FontValue.{FontValue, Shell}
+use Rattle.t1_font.specs.Numbers.{number}
+use Rattle.t1_font.specs.FontBoxes.{Box, Numbers, Place, opening, spaced, numbers, font_box, place_in, at_place, text_of, Side, InHead, InTail, side_of, side_in, box_at}
+use Rattle.t1_font.specs.FontBoxes.{texts_at, texts_with, same_box, same_numbers, same_place, is_read, stays_at, stays_in, clear_of, with_clear, box_of, with_box, box_stays}
+use Rattle.t1_font.specs.EveningLaws.{OneBoxForAnother}
+
+-- ---- what the tests of places tell
+
+same_bytes : (x y : List ℕ) → bytes_eq x y ≡ true → x ≡ y
+same_bytes x y h = (bytes_eq-Decides x y).0 h
+
+box_same : (b c : Box) → same_box b c ≡ true → b ≡ c
+box_same b c h =
+    let p = and_parts (bytes_eq b.llx c.llx && bytes_eq b.lly c.lly && bytes_eq b.urx c.urx) (bytes_eq b.ury c.ury) h in
+    let q = and_parts (bytes_eq b.llx c.llx && bytes_eq b.lly c.lly) (bytes_eq b.urx c.urx) p.0 in
+    let r = and_parts (bytes_eq b.llx c.llx) (bytes_eq b.lly c.lly) q.0 in
+    λ i. record {
+      llx = same_bytes b.llx c.llx r.0 i;
+      lly = same_bytes b.lly c.lly r.1 i;
+      urx = same_bytes b.urx c.urx q.1 i;
+      ury = same_bytes b.ury c.ury p.1 i;
+    }
+
+numbers_same : (m n : Numbers) → same_numbers m n ≡ true → m ≡ n
+numbers_same m n h =
+    let p = and_parts (same_box m.box n.box && bytes_eq m.first n.first && bytes_eq m.second n.second) (bytes_eq m.third n.third) h in
+    let q = and_parts (same_box m.box n.box && bytes_eq m.first n.first) (bytes_eq m.second n.second) p.0 in
+    let r = and_parts (same_box m.box n.box) (bytes_eq m.first n.first) q.0 in
+    λ i. record {
+      box = box_same m.box n.box r.0 i;
+      first = same_bytes m.first n.first r.1 i;
+      second = same_bytes m.second n.second q.1 i;
+      third = same_bytes m.third n.third p.1 i;
+    }
+
+place_same : (p q : Place) → same_place p q ≡ true → p ≡ q
+place_same p q h =
+    let a = and_parts (bytes_eq p.front q.front && bytes_eq p.start q.start && same_numbers p.numbers q.numbers) (bytes_eq p.behind q.behind) h in
+    let b = and_parts (bytes_eq p.front q.front && bytes_eq p.start q.start) (same_numbers p.numbers q.numbers) a.0 in
+    let c = and_parts (bytes_eq p.front q.front) (bytes_eq p.start q.start) b.0 in
+    λ i. record {
+      front = same_bytes p.front q.front c.0 i;
+      start = same_bytes p.start q.start c.1 i;
+      numbers = numbers_same p.numbers q.numbers b.1 i;
+      behind = same_bytes p.behind q.behind a.1 i;
+    }
+
+read_so : (p : Place) (o : Option Place) → is_read p o ≡ true → o ≡ Some p
+read_so p None h = absurd (true≢false (sym h))
+read_so p (Some q) h = ap Some (sym (place_same p q h))
+
+-- ---- the same place again
+
+-- where a box stands that was put there
+abbrev pub at_side : Box → Side → Side
+at_side u (InHead p) = InHead (at_place u p)
+at_side u (InTail p) = InTail (at_place u p)
+
+no_head : (o q : Option Place) (p : Place) → side_of o q ≡ Some (InTail p) → o ≡ None
+no_head None q p e = refl
+no_head (Some r) q p e = absurd cc
+
+-- a box that stays is read where it was put
+pub read_there : (u : Box) (x : List ℕ × List ℕ) (s : Side) → side_in x ≡ Some s → stays_at u (texts_at u x s) s ≡ true →
+    side_in (texts_at u x s) ≡ Some (at_side u s)
+read_there u x (InHead p) e h = ap (λ (o : Option Place). side_of o (place_in x.1)) (read_so (at_place u p) (place_in (text_of (at_place u p))) h)
+read_there u x (InTail p) e h =
+    (λ i. side_of (no_head (place_in x.0) (place_in x.1) p e i) (place_in (text_of (at_place u p))))
+    ∙ ap (side_of None) (read_so (at_place u p) (place_in (text_of (at_place u p))) h)
+
+-- another box takes its place
+pub there_again : (b u : Box) (x : List ℕ × List ℕ) (s : Side) → texts_at u (texts_at b x s) (at_side b s) ≡ texts_at u x s
+there_again b u x (InHead p) = refl
+there_again b u x (InTail p) = refl
+
+pub box_there : (u : Box) (s : Side) → box_at (at_side u s) ≡ u
+box_there u (InHead p) = refl
+box_there u (InTail p) = refl
+
+pub texts_again : (b u : Box) (x : List ℕ × List ℕ) (o : Option Side) → side_in x ≡ o → stays_in b (texts_with b x o) o ≡ true →
+    texts_with u (texts_with b x o) (side_in (texts_with b x o)) ≡ texts_with u x o
+texts_again b u x None e h = absurd (true≢false (sym h))
+texts_again b u x (Some s) e h = ap (texts_with u (texts_at b x s)) (read_there b x s e h) ∙ there_again b u x s
+
+pub one_for_another : OneBoxForAnother
+one_for_another b u s h = ap (with_clear s) (texts_again b u (clear_of s) (side_in (clear_of s)) refl h)
+
+-- ---- a text is what was read of it
+
+spaced_is : (v : List ℕ × List ℕ) (text rest : List ℕ) → spaced.Spells v text rest → text ≡ v.0 ++ v.1
+unfolding number gap spaced
+spaced_is v text rest s =
+    let a = s.5 in
+    s.3
+    ∙ ((λ i. s.4.0.0 i ++ (a.3 ∙ ((λ j. a.4.0.0 j ++ a.5.0 j) ∙ append-nil a.0)) i)
+    ∙ ap (λ (w : List ℕ × List ℕ). w.0 ++ w.1) a.5.1)
+
+-- the bytes of four numbers
+abbrev bytes_of : Numbers → List ℕ
+bytes_of n = n.box.llx ++ n.first ++ n.box.lly ++ n.second ++ n.box.urx ++ n.third ++ n.box.ury
+
+seven_parts : (a b c d e f g : List ℕ) → (a ++ b) ++ ((c ++ d) ++ ((e ++ f) ++ (g ++ []))) ≡ a ++ b ++ c ++ d ++ e ++ f ++ g
+seven_parts a b c d e f g = simp (append_assoc, append-nil)
+
+numbers_are : (n : Numbers) (text rest : List ℕ) → numbers.Spells n text rest → text ≡ bytes_of n
+unfolding number numbers
+numbers_are n text rest s =
+    let a = s in
+    let b = a.5 in
+    let c = b.5 in
+    let d = c.5 in
+    a.3
+    ∙ ((λ i. spaced_is a.0 a.1 _ a.4 i ++ (b.3
+    ∙ (λ j. spaced_is b.0 b.1 _ b.4 j ++ (c.3 ∙ (λ k. spaced_is c.0 c.1 _ c.4 k ++ (d.3 ∙ (λ l. d.4.0.0 l ++ d.5.0 l)) k)) j)) i)
+    ∙ (seven_parts a.0.0 a.0.1 b.0.0 b.0.1 c.0.0 c.0.1 d.0 ∙ ap bytes_of d.5.1))
