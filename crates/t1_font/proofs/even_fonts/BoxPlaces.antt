@@ -5,7 +5,7 @@ use Rattle.std.specs.Option.{option_map}
 use Rattle.std.specs.Str.{bytes_eq}
 use Rattle.std.proofs.lemmas.Bool.{and_parts, true≢false}
 use Rattle.std.proofs.lemmas.List.{append-nil}
-use Rattle.std.proofs.lemmas.Option.{same_Some}
+use Rattle.std.proofs.lemmas.Option.{none-some, same_Some}
 use Rattle.std.proofs.lemmas.Slice.Eq.{bytes_eq-Decides}
 use Rattle.t1_grammar.specs.Grammar.{first}
 use Rattle.t1_bytes.specs.White.{gap}
@@ -14,6 +14,7 @@ use Rattle.t1_font.specs.Numbers.{number}
 use Rattle.t1_font.specs.FontBoxes.{Box, Numbers, Place, opening, spaced, numbers, font_box, place_in, at_place, text_of, Side, InHead, InTail, side_of, side_in, box_at}
 use Rattle.t1_font.specs.FontBoxes.{texts_at, texts_with, same_box, same_numbers, same_place, is_read, stays_at, stays_in, clear_of, with_clear, box_of, with_box, box_stays}
 use Rattle.t1_font.specs.EveningLaws.{OneBoxForAnother}
+use Rattle.t1_font.proofs.even_fonts.BoxTexts.{opening_spelled}
 
 -- ---- what the tests of places tell
 
@@ -124,3 +125,58 @@ numbers_are n text rest s =
     ∙ ((λ i. spaced_is a.0 a.1 _ a.4 i ++ (b.3
     ∙ (λ j. spaced_is b.0 b.1 _ b.4 j ++ (c.3 ∙ (λ k. spaced_is c.0 c.1 _ c.4 k ++ (d.3 ∙ (λ l. d.4.0.0 l ++ d.5.0 l)) k)) j)) i)
     ∙ (seven_parts a.0.0 a.0.1 b.0.0 b.0.1 c.0.0 c.0.1 d.0 ∙ ap bytes_of d.5.1))
+
+font_box_is : (v : List ℕ × Numbers) (text rest : List ℕ) → font_box.Spells v text rest → text ≡ v.0 ++ bytes_of v.1
+unfolding font_box
+font_box_is v text rest a =
+    let b = a.5 in
+    let c = b.5 in
+    a.3
+    ∙ ((λ i. opening_spelled a.0 a.1 _ a.4 i ++ (b.3 ∙ ((λ j. numbers_are b.0 b.1 _ b.4 j ++ (c.3 ∙ (λ k. c.4.0 k ++ c.5.0 k)) j) ∙ append-nil (bytes_of b.0))) i)
+    ∙ ap (λ (w : List ℕ × Numbers). w.0 ++ bytes_of w.1) c.5.1)
+
+all_parts : (f s : List ℕ) (n : Numbers) (r : List ℕ) →
+    (f ++ (s ++ bytes_of n)) ++ r ≡ f ++ s ++ n.box.llx ++ n.first ++ n.box.lly ++ n.second ++ n.box.urx ++ n.third ++ n.box.ury ++ r
+all_parts f s n r = simp append_assoc
+
+-- a text with a box is the text of its place
+pub place_is : (text : List ℕ) (p : Place) → place_in text ≡ Some p → text ≡ text_of p
+place_is text p e = by_read ((first font_box).read text) refl e
+  where
+    as_place : (List ℕ × (List ℕ × Numbers)) × List ℕ → Place
+    as_place x = record { front = x.0.0; start = x.0.1.0; numbers = x.0.1.1; behind = x.1 }
+
+    by_read : (o : Option ((List ℕ × (List ℕ × Numbers)) × List ℕ)) → (first font_box).read text ≡ o →
+        option_map (λ x. record { front = x.0.0; start = x.0.1.0; numbers = x.0.1.1; behind = x.1 }) o ≡ Some p → text ≡ text_of p
+    by_read None r k = absurd (none-some p k)
+    by_read (Some x) r k =
+        let s = (first font_box).takes text x r in
+        let whole : text ≡ (x.0.0 ++ (x.0.1.0 ++ bytes_of x.0.1.1)) ++ x.1 =
+        s.1 ∙ ap (λ (u : List ℕ). u ++ x.1) (s.2.1 ∙ ap (λ (u : List ℕ). x.0.0 ++ u) (font_box_is x.0.1 s.2.0 x.1 s.2.2)) in
+        whole ∙ (all_parts x.0.0 x.0.1.0 x.0.1.1 x.1 ∙ ap text_of (same_Some _ p k))
+
+-- ---- a box in its own place
+
+own_at : (x : List ℕ × List ℕ) (s : Side) → side_in x ≡ Some s → texts_at (box_at s) x s ≡ x
+own_at x s e = by_places (place_in x.0) (place_in x.1) refl refl s e
+  where
+    by_places : (o q : Option Place) → place_in x.0 ≡ o → place_in x.1 ≡ q → (s : Side) → side_of o q ≡ Some s → texts_at (box_at s) x s ≡ x
+    by_places (Some p) q e f (InHead r) k =
+        let same : p ≡ r = cc in
+        λ i. ((ap text_of (sym same) ∙ sym (place_is x.0 p e)) i, x.1)
+    by_places (Some p) q e f (InTail r) k = absurd cc
+    by_places None (Some p) e f (InTail r) k =
+        let same : p ≡ r = cc in
+        λ i. (x.0, (ap text_of (sym same) ∙ sym (place_is x.1 p f)) i)
+    by_places None (Some p) e f (InHead r) k = absurd cc
+    by_places None None e f s k = absurd (none-some s k)
+
+-- a shell with its own box is that shell
+pub own_box : (s : Shell) (b : Box) → box_of s ≡ Some b → with_box b s ≡ s
+own_box s b e = by_side (side_in (clear_of s)) refl e
+  where
+    by_side : (o : Option Side) → side_in (clear_of s) ≡ o → option_map box_at o ≡ Some b → with_clear s (texts_with b (clear_of s) o) ≡ s
+    by_side None r k = absurd (none-some b k)
+    by_side (Some d) r k =
+        ap (λ (c : Box). with_clear s (texts_at c (clear_of s) d)) (sym (same_Some (box_at d) b k))
+        ∙ ap (with_clear s) (own_at (clear_of s) d r)

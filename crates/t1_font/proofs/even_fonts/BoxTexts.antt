@@ -14,18 +14,19 @@ four_parts text name t1 b1 space t2 b2 bracket t3 b3 inside t4 b4 e1 n1 e2 n2 e3
     ∙ simp append_assoc)
 
 -- the bytes that open a box are its value
-opening_is : (bytes : List ℕ) (x : (List ℕ × List ℕ) × List ℕ) → opening.read bytes ≡ Some x → bytes ≡ x.0.0 ++ x.1
+pub opening_spelled : (v : List ℕ × List ℕ) (text rest : List ℕ) → opening.Spells v text rest → text ≡ v.0
 unfolding opening
-opening_is bytes x e =
-    let s = opening.takes bytes x e in
-    let a = s.2 in
+opening_spelled v text rest a =
     let b = a.5 in
     let c = b.5 in
     let d = c.5 in
-    s.1
-    ∙ ap (λ (u : List ℕ). u ++ x.1)
-    (four_parts s.0 a.0 a.1 a.2 b.0 b.1 b.2 c.0 c.1 c.2 d.0 d.1 d.2 a.3 a.4.0.0 b.3 b.4.0 c.3 c.4.0.0 d.3 d.4.0 d.5.0
-    ∙ ap (λ (v : List ℕ × List ℕ). v.0) d.5.1)
+    four_parts text a.0 a.1 a.2 b.0 b.1 b.2 c.0 c.1 c.2 d.0 d.1 d.2 a.3 a.4.0.0 b.3 b.4.0 c.3 c.4.0.0 d.3 d.4.0 d.5.0
+    ∙ ap (λ (w : List ℕ × List ℕ). w.0) d.5.1
+
+opening_is : (bytes : List ℕ) (x : (List ℕ × List ℕ) × List ℕ) → opening.read bytes ≡ Some x → bytes ≡ x.0.0 ++ x.1
+opening_is bytes x e =
+    let s = opening.takes bytes x e in
+    s.1 ∙ ap (λ (u : List ℕ). u ++ x.1) (opening_spelled x.0 s.0 x.1 s.2)
 
 -- what a map of an answer tells of it
 of_map : {A B : Type 0} (f : A → B) (y : B) (o : Option A) → Some y ≡ option_map f o → (x : A) × (o ≡ Some x) × (y ≡ f x)
