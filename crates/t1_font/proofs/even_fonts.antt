@@ -9,3 +9,4 @@ pub mod BoxTexts
 pub mod BoxLists
 pub mod BoxFonts
 pub mod BoxPlaces
+pub mod Boxes
