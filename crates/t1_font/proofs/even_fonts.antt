@@ -10,3 +10,4 @@ pub mod BoxLists
 pub mod BoxFonts
 pub mod BoxPlaces
 pub mod Boxes
+pub mod BoxOrder
