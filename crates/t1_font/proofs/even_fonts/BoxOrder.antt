@@ -1,9 +1,9 @@
 -- The one box for some boxes is the same in any order.
-use Rattle.std.proofs.Common.{◌≡◌, ◌⊎◌, ℕ, Bool, true, false, cond, List, [], ◌∷◌, ◌++◌, map, length, inl, inr, refl, sym, ap, subst, ◌∙◌}
+use Rattle.std.proofs.Common.{◌≡◌, ◌⊎◌, ℕ, Bool, true, false, cond, List, [], ◌∷◌, map, length, inl, inr, refl, sym, ap, subst, ◌∙◌}
 use Rattle.std.specs.Prelude.{◌||◌, filter}
 use Rattle.std.specs.declared.cmp.Ordering.{Ordering}
 use Rattle.std.specs.declared.cmp.Ordering.TheVariants.{Less, Equal, Greater}
-use Rattle.std.specs.Ordering.{nat_cmp, is_gt, ordering_then, ordering_reverse}
+use Rattle.std.specs.Ordering.{is_gt, ordering_then, ordering_reverse}
 use Rattle.std.specs.Cmp.{IsTotalOrder}
 use Rattle.std.specs.List.{AllByRecursion, All, Contains, fold, list_any}
 use Rattle.std.specs.List.Sorted.{IsPermutation}
@@ -14,7 +14,7 @@ use Rattle.std.proofs.lemmas.List.{nil_from_length}
 use Rattle.std.proofs.lemmas.List.Elements.{All-from_recursion, All-contains, Contains-push, Contains-append_left, Contains-append_right}
 use Rattle.std.proofs.lemmas.List.Sorted.{All-permutation, Contains-permutation, list_any-IsPermutation, length_permutation}
 use Rattle.t1_font.specs.Numbers.{Size, size_cmp, below_zero, above_zero, value_cmp, spelling_cmp, least_first, greatest_first, sooner, soonest}
-use Rattle.t1_font.specs.FontBoxes.{Box, says_nothing, held, counted, joined_box}
+use Rattle.t1_font.specs.FontBoxes.{Box, says_nothing, held}
 use Rattle.t1_font.specs.EveningLaws.{BoxInAnyOrder}
 
 -- ---- the orders of numbers are total

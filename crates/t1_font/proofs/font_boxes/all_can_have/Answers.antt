@@ -1,4 +1,4 @@
-use Rattle.std.proofs.Common.{sym, ap, ◌∙◌}
+use Rattle.std.proofs.Common.{sym, ◌∙◌}
 use Rattle.t1_font.specs.FontBoxes.{can_have}
 use Rattle.t1_font.specs.BoxViews.{box_view}
 use Rattle.t1_font.proofs.even_fonts.BoxLists.{all_fails, all_more}

@@ -1,4 +1,4 @@
-use Rattle.std.proofs.Common.{rules, ◌≡◌, None, ◌-◌, List, ℕ, length, take, sym, ap, ◌∙◌}
+use Rattle.std.proofs.Common.{rules, ◌≡◌, None, ℕ, take, sym, ap, ◌∙◌}
 use Rattle.t1_font.specs.FontBoxes.{font_box}
 use Rattle.t1_font.specs.BoxViews.{numbers_view}
 use Rattle.t1_font.proofs.even_fonts.BoxTexts.{box_read, not_opened, not_four, not_closed}

@@ -1,4 +1,4 @@
-use Rattle.std.proofs.Common.{◌≡◌, ◌++◌, map, take}
+use Rattle.std.proofs.Common.{◌≡◌, map, take}
 use Rattle.std.specs.Prelude.{filter}
 use Rattle.t1_font.specs.FontBoxes.{says_nothing}
 use Rattle.t1_font.specs.BoxViews.{box_view}

@@ -1,6 +1,6 @@
 use Rattle.std.proofs.Common.{arith, rules}
 use Rattle.std.proofs.lemmas.List.{take_all}
-use Rattle.std.proofs.lemmas.List.Sums.{suffix_len-take_yes, suffix_len-take_no}
+use Rattle.std.proofs.lemmas.List.Sums.{suffix_len-take_yes}
 use Rattle.t1_font.proofs.numbers.trimmed_len.Goals as goal
 
 pub noughts-init : goal.noughts-init

@@ -1,4 +1,4 @@
-use Rattle.std.proofs.Common.{◌≡◌, ℕ, List, sym, ap, ◌∙◌}
+use Rattle.std.proofs.Common.{ℕ, List, ap, ◌∙◌}
 use Rattle.t1_font.specs.declared.even_texts.ClearTexts.{ClearTexts}
 use Rattle.t1_font.specs.FontBoxes.{clear_with, can_have}
 use Rattle.t1_font.specs.BoxViews.{box_view}
