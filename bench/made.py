@@ -1,36 +1,22 @@
-"""Fonts that the benchmarks make: their texts, their ciphers, and what a word costs on them."""
-import os
+"""The fonts that the benchmarks make, and what a word costs on them."""
 import re
 import subprocess
 
+from common import LEAD, as_binary, glyphs_table, subrs_table
+
 HEAD = b"%!\n/Encoding StandardEncoding def\ncurrentfile eexec\n"
-TAIL = b"end\nend\nreadonly put\nmark currentfile closefile\n"
-# `0 250 hsbw`, and `0 250 hsbw endchar`.
-WIDTH, EMPTY = b"\x8b\xf7\x8e\x0d", b"\x8b\xf7\x8e\x0d\x0e"
-
-
-def ciphered(text, key):
-    out = bytearray()
-    for byte in text:
-        byte ^= key >> 8
-        key = ((byte + key) * 52845 + 22719) & 0xFFFF
-        out.append(byte)
-    return bytes(out)
+TAIL = b"end\nreadonly put\nmark currentfile closefile\n"
 
 
 def binary(private):
     """The font of a private text, with a raw binary cipher."""
-    return HEAD + ciphered(bytes(4) + private, 55665)
+    return as_binary(HEAD, private)
 
 
-def entry(start, plain, lead, end):
-    """An entry of a table: its charstring behind this many lead bytes, encrypted."""
-    return start + b" %d RD " % (lead + len(plain)) + ciphered(bytes(lead) + plain, 4330) + end
-
-
-def program():
-    here = os.path.dirname(os.path.dirname(os.path.abspath(__file__)))
-    return os.environ.get("T1SUBSET", os.path.join(here, "bin", "t1subset"))
+def private_text(subrs, glyphs, words=b"", lead=LEAD):
+    """A private text with these words: Subrs by index, the last of which gives the declared count, and glyphs by name."""
+    tables = subrs_table(subrs, subrs[-1][0] + 1, lead=lead) + b"2 index " + glyphs_table(glyphs, lead=lead)
+    return b"dup /Private 9 dict dup begin\n" + words + tables + TAIL
 
 
 def cost(words):

@@ -4,17 +4,9 @@
 The charstrings are short programs of our own: hint lines, moves and boxes with varied numbers.
 usage: tools/make_examples.py FOLDER
 """
-import os
 import sys
 
-
-def number(n):
-    """A number of a charstring in its shortest form, up to 1,131 in size."""
-    if -107 <= n <= 107:
-        return bytes([n + 139])
-    if n > 0:
-        return bytes([247 + (n - 108) // 256, (n - 108) % 256])
-    return bytes([251 + (-n - 108) // 256, (-n - 108) % 256])
+from common import number, put
 
 
 def subr(i):
@@ -51,8 +43,7 @@ def main(folder):
     other = (dict(right[0]), dict(right[1]))
     other[0][150] = bytes([11])
     for file, listing in [("left", left), ("right", right), ("both", both), ("other", other)]:
-        with open(os.path.join(folder, file + ".listing"), "w", newline="\n") as f:
-            f.write(text(*listing))
+        put(text(*listing).encode(), folder, file + ".listing")
 
 
 if __name__ == "__main__":

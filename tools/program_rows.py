@@ -2,10 +2,9 @@
 
 `tools/test_program.py` runs the program on them, `tools/test_library.py` the same words over the library.
 """
-import os
 from collections import namedtuple
 
-TOP = os.path.abspath(os.path.join(os.path.dirname(os.path.abspath(__file__)), ".."))
+from common import CALL, EMPTY, ENDCHAR, RETURN, TOP, TRAILER, WIDTH, as_pfa, as_pfb, bytes_of, example, glyphs_table, number, subrs_table
 
 # Stands for a text that clap writes.
 SOME = object()
@@ -19,7 +18,7 @@ d9d66f6370c127631d46139186078a356fc2d10224c8e12685c13b098df815d8
 a9b03732dad86e0dc7e5c6a5cb54fe668163ca856cc9fdb8078c6b5aa2c52d45
 0f0772c85ec5f94dd679ad3d8c763702087a163f0a78cce094e822d4fb6fe01c
 cfc73f031a55957a3b1cf6aa42b1133b141833
-""" + (b"0" * 64 + b"\n") * 8 + b"cleartomark\n"
+""" + TRAILER
 
 LISTED = b"""\
 encoding StandardEncoding
@@ -34,7 +33,7 @@ part 0 0
 """
 
 # Charstrings of Subrs that glyphs call: a move across, a move up, and the `return` that stands for a Subr that is cut.
-ACROSS, UP, STUB = b"\xef\x16\x0b", b"\xef\x04\x0b", b"\x0b"
+ACROSS, UP, STUB = b"\xef\x16\x0b", b"\xef\x04\x0b", RETURN
 
 # The test whether a font was loaded before.
 TESTED = (b"FontDirectory/Small known{/Small findfont dup/UniqueID known{dup/UniqueID get 7 eq exch\n/FontType get 1 eq and}"
@@ -44,54 +43,18 @@ TESTED = (b"FontDirectory/Small known{/Small findfont dup/UniqueID known{dup/Uni
 Row = namedtuple("Row", "words status out err left", defaults=(b"", b"", {}))
 
 
-def example(name):
-    with open(os.path.join(TOP, "examples", name), "rb") as f:
-        return f.read()
-
-
-def ciphered(text, key):
-    """A text behind four lead bytes of zero, encrypted."""
-    out = bytearray()
-    for byte in bytes(4) + text:
-        byte ^= key >> 8
-        key = ((byte + key) * 52845 + 22719) & 0xFFFF
-        out.append(byte)
-    return bytes(out)
-
-
-def charstring(plain):
-    cipher = ciphered(plain, 4330)
-    return b"%d RD %s" % (len(cipher), cipher)
-
-
 def small_font(name, subrs, callers):
     """The canonical PFA of a font of this name: its Subrs, and glyphs that each call one of them."""
-    glyphs = {b".notdef": b"\x8b\xf7\x8e\x0d\x0e"}
-    for glyph, index in callers.items():
-        glyphs[glyph] = b"\x8b\xf7\x8e\x0d" + bytes([139 + index]) + b"\x0a\x0e"
-    lines = [b"/Private 3 dict dup begin", b"/Subrs %d array" % len(subrs)]
-    lines += [b"dup %d %s NP" % (i, charstring(plain)) for i, plain in enumerate(subrs)]
-    lines += [b"ND", b"2 index /CharStrings %d dict dup begin" % len(glyphs)]
-    lines += [b"/%s %s ND" % (glyph, charstring(plain)) for glyph, plain in sorted(glyphs.items())]
-    lines += [b"end", b"end", b"mark currentfile closefile", b""]
-    digits = ciphered(b"\n".join(lines), 55665).hex()
-    cipher = "".join(digits[at:at + 64] + "\n" for at in range(0, len(digits), 64)).encode()
-    head = b"%%!\n/FontName /%s def\n/Encoding StandardEncoding def\ncurrentfile eexec\n" % name
-    return head + cipher + (b"0" * 64 + b"\n") * 8 + b"cleartomark\n"
-
-
-def as_pfb(pfa):
-    """A canonical PFA as PFB: the segments of the clear text, of the cipher and of the trailer, and the end."""
-    clear, behind = pfa.split(b"eexec\n")
-    cipher, trailer = behind[:-(8 * 65 + 12)], behind[-(8 * 65 + 12):]
-    segments = [(1, clear + b"eexec\n"), (2, bytes.fromhex(cipher.decode())), (1, trailer)]
-    return b"".join(b"\x80" + bytes([kind]) + len(text).to_bytes(4, "little") + text for kind, text in segments) + b"\x80\x03"
+    glyphs = {b".notdef": EMPTY}
+    glyphs.update((glyph, WIDTH + number(index) + CALL + ENDCHAR) for glyph, index in callers.items())
+    tables = subrs_table(enumerate(subrs), len(subrs)) + b"2 index " + glyphs_table(sorted(glyphs.items()))
+    private = b"/Private 3 dict dup begin\n" + tables + b"end\nmark currentfile closefile\n"
+    return as_pfa(b"%%!\n/FontName /%s def\n/Encoding StandardEncoding def\ncurrentfile eexec\n" % name, private)
 
 
 def version_of_the_man_page():
     """The program's name and version, as the first line of the man page has them between quotes."""
-    with open(os.path.join(TOP, "docs/t1subset.1"), "rb") as f:
-        return f.readline().split(b'"')[1]
+    return bytes_of(TOP, "docs/t1subset.1").split(b'"')[1]
 
 
 def files():

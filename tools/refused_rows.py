@@ -1,7 +1,7 @@
 """Files that are refused, or that don't merge or join: words and files for each number of include/t1subset.h that files can
 bring about. What is answered is not said here: `tools/test_library.py` asks the program.
 """
-from program_rows import ciphered, charstring
+from common import EMPTY, ENDCHAR, RETURN, WIDTH, as_binary, glyphs_table, subrs_table
 
 HEAD = b"%!\n/FontName /Made def\n"
 TABLE = b"/Encoding 256 array\n0 1 255 {1 index exch /.notdef put} for\ndup 65 /%s put\nreadonly def\n"
@@ -9,40 +9,34 @@ TAIL = b"/FontType 1 def\n"
 PRIVATE = b"/Private 3 dict dup begin\n"
 MIDDLE = b"2 index "
 END = b"end\nmark currentfile closefile\n"
-WIDTH, RETURN = b"\x8b\xf7\x8e\x0d", b"\x0b"
 # A glyph that calls Subr 4, one that moves, and one that is composed of A and acute (StandardEncoding 65 and 194).
-CALLS, MOVES = WIDTH + b"\x8f\x0a\x0e", WIDTH + b"\xef\x16\x0e"
+CALLS, MOVES = WIDTH + b"\x8f\x0a" + ENDCHAR, WIDTH + b"\xef\x16" + ENDCHAR
 ACCENTED = WIDTH + b"\x8b\x8b\x8b\xcc\xf7\x56\x0c\x06"
-UP, ACROSS = b"\xef\x04\x0b", b"\xef\x16\x0b"
+UP, ACROSS = b"\xef\x04" + RETURN, b"\xef\x16" + RETURN
 
 
 def subrs(entries, declared=5, words=b"NP"):
-    lines = b"".join(b"dup %d %s %s\n" % (at, charstring(plain), words) for at, plain in sorted(entries.items()))
-    return b"/Subrs %d array\n" % declared + lines + b"ND\n"
+    return subrs_table(sorted(entries.items()), declared, b" %s\n" % words)
 
 
 def glyphs(entries, words=b"ND"):
-    lines = b"".join(b"/%s %s %s\n" % (name, charstring(plain), words) for name, plain in sorted(entries.items()))
-    return b"/CharStrings %d dict dup begin\n" % len(entries) + lines + b"end\n"
+    return glyphs_table(sorted(entries.items()), b" %s\n" % words)
 
 
 SUBRS = {at: RETURN for at in range(4)}
-GLYPHS = {b".notdef": WIDTH + b"\x0e", b"A": MOVES}
+GLYPHS = {b".notdef": EMPTY, b"A": MOVES}
 
 
 def made(head=HEAD, encoding=TABLE % b"A", tail=TAIL, private=PRIVATE, table=None, middle=MIDDLE, letters=None, end=END):
     """A font with a raw binary cipher, some of whose parts are others."""
     table = subrs({**SUBRS, 4: UP}) if table is None else table
     letters = glyphs(GLYPHS) if letters is None else letters
-    text = private + table + middle + letters + end
-    return head + encoding + tail + b"currentfile eexec\n" + ciphered(text, 55665)
+    return as_binary(head + encoding + tail + b"currentfile eexec\n", private + table + middle + letters + end)
 
 
 def many(first, count):
     """The table of so many glyphs, each with the charstring of one byte."""
-    entry = charstring(b"\x0e")
-    lines = b"".join(b"/g%05d %s ND\n" % (at, entry) for at in range(first, first + count))
-    return b"/CharStrings %d dict dup begin\n" % (count + 1) + b"/.notdef %s ND\n" % entry + lines + b"end\n"
+    return glyphs({b".notdef": ENDCHAR, **{b"g%05d" % at: ENDCHAR for at in range(first, first + count)}})
 
 
 def no_fonts():

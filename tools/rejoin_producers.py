@@ -23,15 +23,17 @@ import subprocess
 import sys
 import tempfile
 
-import freetype
+from common import Failed, bytes_of, glyphs_in, printed, program as named_program, put
 
-TOP = os.path.dirname(os.path.dirname(os.path.abspath(__file__)))
-PROGRAM = os.environ.get("T1SUBSET", os.path.join(TOP, "bin", "t1subset"))
+try:
+    import freetype
+except ImportError:
+    sys.exit("missing: run `apt-get install python3-freetype`")
+if not all(map(shutil.which, ["kpsewhich", "tftopl", "tex", "dvips", "pdftex"])):
+    sys.exit("missing: run `apt-get install texlive-binaries texlive-base`")
+
+PROGRAM = named_program()
 OUTLINE = freetype.FT_LOAD_NO_SCALE | freetype.FT_LOAD_NO_HINTING | freetype.FT_LOAD_IGNORE_TRANSFORM
-
-
-def text_of(words, **given):
-    return subprocess.run(words, check=True, capture_output=True, text=True, errors="replace", **given).stdout
 
 
 def found(name):
@@ -52,7 +54,7 @@ def fonts_of_the_map():
 
 def characters(name):
     """The codes that a font's metrics have."""
-    for kind, digits in re.findall(r"\(CHARACTER ([CO]) (\S+)", text_of(["tftopl", found(name + ".tfm")])):
+    for kind, digits in re.findall(r"\(CHARACTER ([CO]) (\S+)", printed(["tftopl", found(name + ".tfm")])):
         yield ord(digits) if kind == "C" else int(digits, 8)
 
 
@@ -70,32 +72,27 @@ def streams(file):
         yield file[marker.end():marker.end() + length]
 
 
-def read(folder, name):
-    with open(os.path.join(folder, name), "rb") as f:
-        return f.read()
-
-
 def by_dvips(folder):
-    text_of(["tex", "-interaction=batchmode", "doc"], cwd=folder)
-    text_of(["dvips", "-q", "-o", "doc.ps", "doc"], cwd=folder)
-    return re.findall(rb"%%BeginFont:[^\n]*\n(.*?)%%EndFont", read(folder, "doc.ps"), re.DOTALL)
+    printed(["tex", "-interaction=batchmode", "doc"], cwd=folder)
+    printed(["dvips", "-q", "-o", "doc.ps", "doc"], cwd=folder)
+    return re.findall(rb"%%BeginFont:[^\n]*\n(.*?)%%EndFont", bytes_of(folder, "doc.ps"), re.DOTALL)
 
 
 def by_ghostscript(folder):
     """From what dvips wrote into the same folder."""
-    text_of(["gs", "-q", "-dSAFER", "-sDEVICE=ps2write", "-dCompressFonts=false", "-o", "again.ps", "doc.ps"], cwd=folder)
-    return list(streams(read(folder, "again.ps")))
+    printed(["gs", "-q", "-dSAFER", "-sDEVICE=ps2write", "-dCompressFonts=false", "-o", "again.ps", "doc.ps"], cwd=folder)
+    return list(streams(bytes_of(folder, "again.ps")))
 
 
 def by_pdftex(folder):
-    text_of(["pdftex", "-interaction=batchmode", "doc"], cwd=folder)
-    return list(streams(read(folder, "doc.pdf")))
+    printed(["pdftex", "-interaction=batchmode", "doc"], cwd=folder)
+    return list(streams(bytes_of(folder, "doc.pdf")))
 
 
 def by_pdftops(folder):
     """From what pdfTeX wrote into the same folder."""
-    text_of(["pdftops", "-level2", "doc.pdf", "pages.ps"], cwd=folder)
-    return re.findall(rb"%%BeginResource: font [^\n]*\n(.*?)%%EndResource", read(folder, "pages.ps"), re.DOTALL)
+    printed(["pdftops", "-level2", "doc.pdf", "pages.ps"], cwd=folder)
+    return re.findall(rb"%%BeginResource: font [^\n]*\n(.*?)%%EndResource", bytes_of(folder, "pages.ps"), re.DOTALL)
 
 
 # Each comes behind the one whose file it takes.
@@ -115,12 +112,10 @@ def said(folder, *words):
 
 def names_in(folder, part):
     """The names of a subset's glyphs."""
-    with open(os.path.join(folder, "part"), "wb") as f:
-        f.write(part)
+    put(part, folder, "part")
     if said(folder, "mend", "part", "mended"):
         return None
-    listed = text_of([PROGRAM, "list", "mended"], cwd=folder)
-    return [line.split()[1] for line in listed.splitlines() if line.startswith("glyph ")]
+    return glyphs_in(printed([PROGRAM, "list", "mended"], cwd=folder))
 
 
 def by_file(folder, program, part):
@@ -130,14 +125,13 @@ def by_file(folder, program, part):
         return None
     if said(folder, "subset", "whole", "cut", "--", *names):
         return None
-    return read(folder, "cut")
+    return bytes_of(folder, "cut")
 
 
 def joined(folder, word, parts):
     """What a word says of two fonts: nothing, or the reason of a refusal."""
     for name, part in zip(("one", "two"), parts):
-        with open(os.path.join(folder, name), "wb") as f:
-            f.write(part)
+        put(part, folder, name)
     return said(folder, word, "out", "one", "two")
 
 
@@ -199,8 +193,8 @@ def tried(folder, name, program, tally, reasons):
                     print(f"{one} with {other}: {name}: a glyph is drawn otherwise")
 
 
-def printed(tally, reasons):
-    """The table of pairs, and the reasons."""
+def report(tally, reasons):
+    """Prints the table of pairs, and the reasons."""
     columns = ["pairs", "merge", "rejoin", "draw alike", "glyphs"]
     print(f"{'first':10}{'second':10}" + "".join(f"{column:>12}" for column in columns))
     for one, other in sorted({pair for pair, _ in tally}):
@@ -222,10 +216,10 @@ def main(limit):
         with tempfile.TemporaryDirectory() as folder:
             try:
                 tried(folder, name, program, tally, reasons)
-            except (subprocess.CalledProcessError, freetype.FT_Exception) as error:
+            except (Failed, freetype.FT_Exception) as error:
                 print(f"{name}: {error}")
     print(f"{count} fonts")
-    printed(tally, reasons)
+    report(tally, reasons)
 
 
 if __name__ == "__main__":

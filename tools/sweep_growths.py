@@ -12,16 +12,15 @@ import collections
 import glob
 import os
 import re
-import shutil
 import subprocess
 import sys
 import tempfile
 from concurrent.futures import ThreadPoolExecutor
 
-TOP = os.path.abspath(os.path.join(os.path.dirname(os.path.abspath(__file__)), ".."))
-PROGRAM = os.path.join(TOP, "crates/t1subset/out/t1subset")
+from common import BUILDS, EEXEC, TINY, TINY_PFB, TOP, bytes_of, ciphered, compiler, example, put, segments, text_of
+
+PROGRAM = BUILDS[0]
 CRATES = ["t1_bytes", "t1_char", "t1_run", "t1_join", "t1_font", "t1_subset", "t1_example", "t1_cmd"]
-TINY = os.path.join(TOP, "examples/tiny.")
 NO_MEMORY = b"refused: out of memory\n"
 # What is said where there is no memory for the words, with status 2; and all that the program said.
 NO_ROOM = b"error: out of memory\n"
@@ -74,8 +73,7 @@ class Shim:
         self.folder = folder
         self.path = os.path.join(folder, "refuse_growth.so")
         source = os.path.join(TOP, "tools/refuse_growth.c")
-        compiler = next(filter(shutil.which, ["cc", "gcc", "clang"]), "cc")
-        subprocess.run([compiler, "-shared", "-fPIC", "-O1", "-o", self.path, source, "-ldl"], check=True)
+        subprocess.run([compiler() or sys.exit("needs a C compiler"), "-shared", "-fPIC", "-O1", "-o", self.path, source, "-ldl"], check=True)
 
     def run(self, words, number):
         """The finished process, and whether it met the refused growth: the one with this number, or `all`."""
@@ -135,8 +133,7 @@ def taken(path):
     """The bytes of a file, which is removed; none if it isn't there."""
     if not os.path.exists(path):
         return b""
-    with open(path, "rb") as f:
-        written = f.read()
+    written = bytes_of(path)
     os.remove(path)
     return written
 
@@ -158,31 +155,20 @@ def sweep_words(shim, case):
         sys.exit(f"{' '.join(words)} met no growth")
     return number - 1
 
-def ciphered(text, opens):
-    """A text encrypted or decrypted by the cipher of eexec."""
-    key, out = 55665, bytearray()
-    for byte in text:
-        other = byte ^ key >> 8
-        key = ((byte if opens else other) + key) * 52845 + 22719 & 0xFFFF
-        out.append(other)
-    return bytes(out)
-
 
 def tiny_without_subr_5():
     """The font Tiny with a `return` as its Subr 5, with a raw binary cipher."""
-    with open(TINY + "pfb", "rb") as f:
-        pfb = f.read()
-    clear, private = pfb[6:319], ciphered(pfb[325:1333], True)
+    clear, cipher, _ = segments(example("tiny.pfb"))
+    private = ciphered(cipher, EEXEC, True)
     entry, stub = b"dup 5 7 RD ", b"dup 5 5 RD \x10\xbf\x31\x70\xf9"
     at = private.index(entry)
-    return clear + ciphered(private[:at] + stub + private[at + len(entry) + 7:], False)
+    return clear + ciphered(private[:at] + stub + private[at + len(entry) + 7:], EEXEC)
 
 
 def subset(font, out, names, length=None):
     """The path of a subset and its bytes, whose number is checked."""
     subprocess.run([PROGRAM, "subset", font, out] + names, check=True)
-    with open(out, "rb") as f:
-        written = f.read()
+    written = bytes_of(out)
     if length not in (None, len(written)):
         sys.exit(f"the subset of {names} has {len(written)} bytes, not {length}")
     return out, written
@@ -190,18 +176,15 @@ def subset(font, out, names, length=None):
 
 def font_cases(folder):
     """Every word about fonts, over Tiny and subsets of it."""
-    tiny, out = TINY + "pfa", os.path.join(folder, "out")
-    other = os.path.join(folder, "other")
-    with open(other, "wb") as f:
-        f.write(tiny_without_subr_5())
+    tiny, out = TINY, os.path.join(folder, "out")
+    other = put(tiny_without_subr_5(), folder, "other")
     _, none = subset(tiny, os.path.join(folder, "none"), [], 2141)
     x, _ = subset(tiny, os.path.join(folder, "x"), ["X"], 2224)
     y, _ = subset(tiny, os.path.join(folder, "y"), ["Y"])
     _, both = subset(tiny, os.path.join(folder, "both"), ["X", "Y"], 2301)
     other_x, _ = subset(other, os.path.join(folder, "other_x"), ["X"])
-    for form, from_form in [("pfa", "pfb"), ("pfb", "pfa")]:
-        with open(TINY + form, "rb") as f:
-            yield Case([form, TINY + from_form, out], f.read(), out)
+    for form, other_form in [("pfa", TINY_PFB), ("pfb", TINY)]:
+        yield Case([form, other_form, out], example("tiny." + form), out)
     yield Case(["check", tiny], b"ok 11 glyphs, 10 subrs, weight 4936\n")
     yield Case(["list", x], LISTED)
     yield Case(["show", tiny, "X"], PLAIN)
@@ -220,14 +203,9 @@ def font_cases(folder):
 
 def listing_cases():
     data = os.path.join(TOP, "crates/t1subset/data")
-    with open(os.path.join(TOP, "crates/t1subset/stdout"), "rb") as f:
-        yield Case(["join", os.path.join(data, "left"), os.path.join(data, "right")], f.read())
+    joined = bytes_of(TOP, "crates/t1subset/stdout")
+    yield Case(["join", os.path.join(data, "left"), os.path.join(data, "right")], joined)
     yield Case(["join", "--help"], None)
-
-
-def text_of(path):
-    with open(path, encoding="utf-8") as f:
-        return f.read()
 
 
 def bodies_of_tests(crate):

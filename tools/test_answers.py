@@ -21,7 +21,8 @@ import os
 import re
 import sys
 
-TOP = os.path.abspath(os.path.join(os.path.dirname(os.path.abspath(__file__)), ".."))
+from common import TOP, text_of
+
 CRATES = ["t1_bytes", "t1_char", "t1_run", "t1_join", "t1_font", "t1_subset", "t1_cmd"]
 MEETS = re.compile(r"^// meets (\w+(?:::\w+)?) (\w+)(?: at ([\d, ]+) ([a-z]+))?$")
 LIKE = re.compile(r"^// like (\w+(?:::\w+)?): ([\w:, ]+)$")
@@ -104,11 +105,6 @@ FIXED = {
 }
 # The file limit is met by `t1_cmd`, whose readers need no file of that size.
 FIXED["t1_bytes"] += ["FILE_LIMIT"]
-
-
-def text_of(path):
-    with open(path, encoding="utf-8") as f:
-        return f.read()
 
 
 def sources(crate, tests=False):

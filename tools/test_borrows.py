@@ -7,12 +7,12 @@ usage: tools/test_borrows.py
 """
 import os
 import re
-import shutil
 import subprocess
 import sys
 import tempfile
 
-TOP = os.path.abspath(os.path.join(os.path.dirname(os.path.abspath(__file__)), ".."))
+from common import below, copy_crates, put, text_of
+
 CRATE = "t1_font"
 FILE = "src/source.rt"
 WRONG = "    drop(source);\n"
@@ -31,35 +31,12 @@ pub fn weight_without_source(alloc: Global, source: Source) -> u32 {
 )
 
 
-def wanted():
-    """The lines of crates.txt for the crate and those that it depends on, lowest first as in that file."""
-    with open(os.path.join(TOP, "crates.txt"), encoding="utf-8") as f:
-        lines = [line for line in f if ":" in line.split("#")[0]]
-    names, kept = {CRATE}, []
-    for line in reversed(lines):
-        name, needs = line.split("#")[0].split(":")
-        if name.strip() in names:
-            names.update(needs.split())
-            kept.insert(0, line)
-    return kept
-
-
 def copy_to(room):
-    """Copies these crates, with the function at the end of the file; returns the number of the wrong line."""
-    lines = wanted()
-    with open(os.path.join(room, "crates.txt"), "w", encoding="utf-8") as f:
-        f.writelines(lines)
-    shutil.copy(os.path.join(TOP, "HANDLES"), room)
-    for crate in (line.split(":")[0].strip() for line in lines):
-        for part in ("src", "specs", "proofs", "out/rlib"):
-            inside = os.path.join(TOP, "crates", crate, part)
-            if os.path.isdir(inside):
-                shutil.copytree(inside, os.path.join(room, "crates", crate, part), symlinks=True)
+    """Copies the crate and those below it, with the function at the end of the file; returns the number of the wrong line."""
+    copy_crates(room, [*below([CRATE]), CRATE])
     path = os.path.join(room, "crates", CRATE, FILE)
-    with open(path, encoding="utf-8") as f:
-        text = f.read() + BODY
-    with open(path, "w", encoding="utf-8") as f:
-        f.write(text)
+    text = text_of(path) + BODY
+    put(text.encode(), path)
     return text[: text.index(WRONG)].count("\n") + 1
 
 

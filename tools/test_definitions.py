@@ -9,7 +9,8 @@ import os
 import re
 import sys
 
-TOP = os.path.abspath(os.path.join(os.path.dirname(os.path.abspath(__file__)), ".."))
+from common import TOP, text_of
+
 # `ghost use Rattle.CRATE.specs.MODULE.{NAMES};`: what code declares (`specs.declared`) is no definition.
 IMPORT = re.compile(r"ghost use Rattle\.(t1_\w+)\.specs\.(?!declared)([\w.]+)\.\{([^}]*)\};")
 # A public function, from its name to its body, which is empty where the function is a law.
@@ -19,8 +20,7 @@ CLAUSES = re.compile(r"\b(?:ensures|requires)\b.*", re.S)
 
 def listed():
     """The names between backticks on the page."""
-    with open(os.path.join(TOP, "docs/DEFINITIONS.md"), encoding="utf-8") as f:
-        return set(re.findall(r"`([^`]+)`", f.read()))
+    return set(re.findall(r"`([^`]+)`", text_of(TOP, "docs/DEFINITIONS.md")))
 
 
 def cited():
@@ -29,8 +29,7 @@ def cited():
     for path in glob.glob(os.path.join(TOP, "crates/*/src/**/*.rt"), recursive=True):
         if "/tests" in path:
             continue
-        with open(path, encoding="utf-8") as f:
-            text = f.read()
+        text = text_of(path)
         names = {}
         for crate, _, group in IMPORT.findall(text):
             for name in group.split(","):

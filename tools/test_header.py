@@ -13,7 +13,8 @@ import shutil
 import subprocess
 import sys
 
-TOP = os.path.abspath(os.path.join(os.path.dirname(os.path.abspath(__file__)), ".."))
+from common import TOP, text_of
+
 PAGE = os.path.join(TOP, "docs/t1subset.3")
 HEADER = os.path.join(TOP, "include/t1subset.h")
 CRATE = os.path.join(TOP, "crates/t1_c")
@@ -46,11 +47,6 @@ COMPILERS = [
     (["c++", "g++", "clang++"], ["-x", "c++", "-std=c++11"]),
 ]
 WARNINGS = ["-Wall", "-Wextra", "-Wpedantic", "-Wconversion", "-Wshadow", "-Werror"]
-
-
-def text_of(path):
-    with open(path, encoding="utf-8") as f:
-        return f.read()
 
 
 def typed(word):

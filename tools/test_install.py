@@ -13,12 +13,11 @@ import sys
 import tempfile
 
 import test_header
+from common import TINY, TOP, bytes_of, compiler, printed, ran, say, text_of
 
-TOP = os.path.abspath(os.path.join(os.path.dirname(os.path.abspath(__file__)), ".."))
-TINY = os.path.join(TOP, "examples/tiny.pfa")
 SHARED = "/usr/lib/x86_64-linux-gnu"
 CHECKED = "ok 11 glyphs, 10 subrs, weight 4936\n"
-VERSION = test_header.Header(test_header.text_of(test_header.HEADER)).version
+VERSION = test_header.Header(text_of(test_header.HEADER)).version
 SONAME = "libt1subset.so." + VERSION.split(".")[0]
 NAMES = ["libt1subset.a", "libt1subset.so", SONAME, "libt1subset.so." + VERSION, "pkgconfig/t1subset.pc"]
 
@@ -29,16 +28,8 @@ SAID = set()
 def left_out(text):
     """Says once what this machine lacks."""
     if text not in SAID:
-        print(text, file=sys.stderr)
+        say(text)
     SAID.add(text)
-
-
-def ran(words, **how):
-    """What a run prints; it has to end well."""
-    done = subprocess.run(words, capture_output=True, timeout=300, **how)
-    if done.returncode:
-        sys.exit(f"{' '.join(words)}: status {done.returncode}\n{done.stdout.decode()}{done.stderr.decode()}")
-    return done.stdout
 
 
 def files_in(folder):
@@ -48,9 +39,7 @@ def files_in(folder):
 
 def example(page):
     """The program in the section EXAMPLES of a man page."""
-    with open(os.path.join(TOP, "docs", page), encoding="utf-8") as f:
-        text = f.read()
-    found = re.search(r"^\.SH EXAMPLES\n.*?^\.nf\n(.*?)^\.fi$", text, re.M | re.S)
+    found = re.search(r"^\.SH EXAMPLES\n.*?^\.nf\n(.*?)^\.fi$", text_of(TOP, "docs", page), re.M | re.S)
     return found[1].replace("\\e", "\\").replace("\\-", "-")
 
 
@@ -85,7 +74,7 @@ class Place:
         env.update(PKG_CONFIG_ALLOW_SYSTEM_CFLAGS="1")
         if self.stage:
             env["PKG_CONFIG_SYSROOT_DIR"] = self.stage
-        return ran(["pkg-config", *asked, "t1subset"], env=env).decode().split()
+        return printed(["pkg-config", *asked, "t1subset"], env=env).split()
 
 
 def cut(program, folder, **env):
@@ -100,15 +89,14 @@ def cut(program, folder, **env):
 
 def try_place(place, program, work):
     """The man page's example is compiled, linked by pkg-config with both libraries, and run."""
-    cc = next(filter(shutil.which, ["cc", "gcc", "clang"]))
+    cc = compiler()
     source = os.path.join(TOP, "examples/cut.c")
     out = os.path.join(work, "cut")
-    if ran([os.path.join(place.bin, "t1subset"), "check", TINY]).decode() != CHECKED:
+    if printed([os.path.join(place.bin, "t1subset"), "check", TINY]) != CHECKED:
         sys.exit("the installed program prints another line")
     ran([program, "subset", TINY, out + ".pfa", "X"])
     ran([program, "pfb", out + ".pfa", out + ".pfb"])
-    with open(out + ".pfb", "rb") as f:
-        wanted = f.read()
+    wanted = bytes_of(out + ".pfb")
     warnings = ["-std=c99", "-Wall", "-Wextra", "-Wpedantic", "-Werror"]
     if shutil.which("pkg-config"):
         if place.flags("--modversion") != [VERSION]:
@@ -153,11 +141,7 @@ def installed(program, library, work):
 
 
 def checksums(folder):
-    sums = {}
-    for path in sorted(glob.glob(folder + "/*")):
-        with open(path, "rb") as f:
-            sums[os.path.basename(path)] = hashlib.sha256(f.read()).hexdigest()
-    return sums
+    return {os.path.basename(path): hashlib.sha256(bytes_of(path)).hexdigest() for path in sorted(glob.glob(folder + "/*"))}
 
 
 class Unpacked:
@@ -202,7 +186,7 @@ def distributed(program, library, work):
 def debian_package(path, work):
     root = os.path.join(work, "root")
     ran(["dpkg-deb", "-x", path, root])
-    if ran([root + "/usr/bin/t1subset", "check", TINY]).decode() != CHECKED:
+    if printed([root + "/usr/bin/t1subset", "check", TINY]) != CHECKED:
         sys.exit("the program of the Debian package prints another line")
     if shutil.which("lintian"):
         ran(["lintian", "--allow-root", "--fail-on", "error", path])
@@ -212,9 +196,8 @@ def debian_package(path, work):
 
 def pages():
     """The man pages have no fault that mandoc or man sees, and the example is that of examples/."""
-    with open(os.path.join(TOP, "examples/cut.c"), encoding="utf-8") as f:
-        if f.read() != example("t1subset.3"):
-            sys.exit("the program in docs/t1subset.3 is not examples/cut.c")
+    if text_of(TOP, "examples/cut.c") != example("t1subset.3"):
+        sys.exit("the program in docs/t1subset.3 is not examples/cut.c")
     for page in ("t1subset.1", "t1subset.3"):
         path = os.path.join(TOP, "docs", page)
         if shutil.which("mandoc"):

@@ -23,10 +23,9 @@ import program_rows
 import refused_rows
 import test_header
 import test_install
-from test_program import BUILDS, wrong
+from common import BUILDS, TINY, TOP, bytes_of, compiler, printed, put, ran, say, text_of
+from test_program import wrong
 
-TOP = program_rows.TOP
-TINY = os.path.join(TOP, "examples/tiny.pfa")
 LISTINGS = [os.path.join(TOP, "examples", name) for name in ("left.listing", "right.listing")]
 FOLDERS = ["/usr/share/fonts/type1", "/usr/share/fonts/X11/Type1", "/usr/share/texmf/fonts/type1", "/usr/share/texlive/texmf-dist/fonts/type1"]
 FONTS = 30
@@ -35,22 +34,6 @@ IN_C = ["-std=c11", "-Wstrict-prototypes"]
 SANITIZERS = ["-fsanitize=address,undefined", "-fno-sanitize-recover=all"]
 # Numbers that no word of the program answers: growths.c and edges.c meet them.
 ELSEWHERE = {"ok", "memory", "bad_call", "file_too_long", "nothing_to_merge"}
-
-
-def say(text):
-    print(text, file=sys.stderr)
-
-
-def ran(words, **how):
-    """A run that has to end well."""
-    done = subprocess.run(words, capture_output=True, timeout=300, **how)
-    if done.returncode:
-        sys.exit(f"{' '.join(words)}: status {done.returncode}\n{done.stdout.decode()}{done.stderr.decode()}")
-    return done.stdout.decode()
-
-
-def compiler(names):
-    return next(filter(shutil.which, names), None)
 
 
 class Library:
@@ -74,7 +57,7 @@ class Library:
     def exports(self, header):
         """Both libraries define the calls of the header for others, and nothing else."""
         for words in (["nm", "-D", "--defined-only", self.folder + "/libt1subset.so.0"], ["nm", "-g", "--defined-only", *self.static]):
-            found = set(re.findall(r"^[0-9a-f]+ [TDBRVWi] (\w+)", ran(words), re.M))
+            found = set(re.findall(r"^[0-9a-f]+ [TDBRVWi] (\w+)", printed(words), re.M))
             if found != set(header.calls):
                 sys.exit(f"{' '.join(words)}: {sorted(found ^ set(header.calls))} stand on one side alone")
 
@@ -107,15 +90,13 @@ class Pair:
 
     def write(self, files):
         for name, text in files.items():
-            with open(os.path.join(self.folder, name), "wb") as f:
-                f.write(text)
+            put(text, self.folder, name)
 
     def taken(self, name):
         path = os.path.join(self.folder, name)
         if not os.path.exists(path):
             return None
-        with open(path, "rb") as f:
-            text = f.read()
+        text = bytes_of(path)
         os.remove(path)
         return text
 
@@ -134,8 +115,7 @@ class Pair:
 
     def last_told(self):
         """The number, the detail and the input of the library's last answer."""
-        with open(self.told, encoding="ascii") as f:
-            return tuple(map(int, f.read().split()))
+        return tuple(map(int, text_of(self.told).split()))
 
 
 def inputs_of(words):
@@ -241,12 +221,12 @@ def run_fonts(pair, fonts):
 def small_tests(library):
     """The tests in C and C++ that judge themselves, under the sanitizers and valgrind where they are."""
     growths = [library.compiled("growths.c", library.static), TINY, *LISTINGS, "X", "Y"]
-    print(ran(growths).replace("\n", "; ")[:-2], file=sys.stderr)
+    print(printed(growths).replace("\n", "; ")[:-2], file=sys.stderr)
     ran([library.compiled("edges.c", library.static), TINY])
     ran([library.compiled("threads.c", library.shared), TINY, "X", "Y", "100"])
     ran([library.compiled("heap.c", [])])
     if compiler([os.environ.get("CXX", "c++"), "g++", "clang++"]):
-        line = ran([library.compiled("owner.cc", library.shared), TINY])
+        line = printed([library.compiled("owner.cc", library.shared), TINY])
         if line != "ok 11 glyphs, 10 subrs, weight 4936\n":
             sys.exit(f"owner.cc prints {line!r}")
     else:
@@ -261,9 +241,7 @@ def small_tests(library):
 
 def sanitized(library):
     """AddressSanitizer and UBSan see the C code, and the heap and the copies of the proved code."""
-    probe = os.path.join(library.work, "probe.c")
-    with open(probe, "w", encoding="ascii") as f:
-        f.write("int main(void) { return 0; }\n")
+    probe = put(b"int main(void) { return 0; }\n", library.work, "probe.c")
     if subprocess.run([library.cc, *SANITIZERS, probe, "-o", probe + ".out"], capture_output=True).returncode:
         say(f"{library.cc} has no sanitizers: these runs were left out")
         return
@@ -327,7 +305,7 @@ def other_languages(library, program):
 
 
 def test(folder, program, fonts, work):
-    text = test_header.text_of(test_header.HEADER)
+    text = text_of(test_header.HEADER)
     library = Library(folder, work)
     library.exports(test_header.Header(text))
     words = library.compiled("words.c", library.shared)
@@ -355,7 +333,7 @@ def main():
     with tempfile.TemporaryDirectory() as work:
         folder = os.path.abspath(asked.lib or os.path.join(work, "lib"))
         if not asked.lib:
-            print(ran([os.path.join(TOP, "tools/build_library.sh"), folder]), end="")
+            print(printed([os.path.join(TOP, "tools/build_library.sh"), folder]), end="")
         test(folder, os.path.abspath(asked.program), asked.fonts or fonts_here(), work)
 
 

@@ -13,7 +13,8 @@ import os
 import re
 import sys
 
-TOP = os.path.abspath(os.path.join(os.path.dirname(os.path.abspath(__file__)), ".."))
+from common import TOP, text_of
+
 COLUMNS = 160
 IMPORT_COLUMNS = 200
 FILE_LINES = 600
@@ -74,8 +75,7 @@ def long_functions(lines):
 
 def faults(path):
     """Where a file is larger than CONTRIBUTING.md allows."""
-    with open(path, encoding="utf-8") as f:
-        lines = f.read().splitlines()
+    lines = text_of(path).splitlines()
     yield from long_lines(lines)
     if path.endswith(".rt"):
         yield from long_functions(lines)

@@ -11,9 +11,8 @@ import subprocess
 import sys
 import tempfile
 
-from program_rows import SOME, STUB, TOP, all_rows, example, files, small_font
-
-BUILDS = [os.path.join(TOP, "crates/t1subset/out/t1subset" + by) for by in ("", ".by-rattle")]
+from common import BUILDS, TINY, TINY_PFB, bytes_of, example, put
+from program_rows import SOME, STUB, all_rows, files, small_font
 
 
 def same(written, want):
@@ -24,14 +23,10 @@ def wrong(program, row, given):
     """What is wrong with a run of the program, or None."""
     with tempfile.TemporaryDirectory() as folder:
         for name, text in given.items():
-            with open(os.path.join(folder, name), "wb") as f:
-                f.write(text)
+            put(text, folder, name)
         words = [os.fsencode(word) for word in [program, *row.words]]
         done = subprocess.run(words, cwd=folder, stdin=subprocess.DEVNULL, capture_output=True, timeout=60)
-        stand = {}
-        for name in os.listdir(folder):
-            with open(os.path.join(folder, name), "rb") as f:
-                stand[name] = f.read()
+        stand = {name: bytes_of(folder, name) for name in os.listdir(folder)}
     if done.returncode != row.status:
         return f"status {done.returncode}"
     if not same(done.stdout, row.out):
@@ -44,7 +39,7 @@ def wrong(program, row, given):
 def full(program):
     """A printed result that standard output doesn't take is a failed write."""
     with open("/dev/full", "wb") as out:
-        words = [program, "check", os.path.join(TOP, "examples/tiny.pfa")]
+        words = [program, "check", TINY]
         done = subprocess.run(words, stdout=out, stderr=subprocess.PIPE, timeout=60)
     if (done.returncode, done.stderr) != (3, b"failed: write\n"):
         sys.exit(f"{program}: status {done.returncode}, {done.stderr!r}, where standard output is full")
@@ -58,28 +53,24 @@ def small_files_alone():
 
 def kept_output(program, folder):
     """A write that fails leaves OUT as it was, and nothing beside it."""
-    with open("old", "wb") as f:
-        f.write(b"what stood here")
-    words = [program, "pfa", os.path.join(TOP, "examples/tiny.pfb"), "old"]
+    put(b"what stood here", "old")
+    words = [program, "pfa", TINY_PFB, "old"]
     done = subprocess.run(words, capture_output=True, preexec_fn=small_files_alone, timeout=60)
-    with open("old", "rb") as f:
-        stands = f.read()
-    return (done.returncode, done.stderr, stands, os.listdir(folder)) == (3, b"failed: write\n", b"what stood here", ["old"])
+    return (done.returncode, done.stderr, bytes_of("old"), os.listdir(folder)) == (3, b"failed: write\n", b"what stood here", ["old"])
 
 
 def same_output(program, folder):
     """OUT keeps its permissions; a link still leads where it led, and a file with two names stays one file."""
-    with open("old", "wb") as f:
-        f.write(b"what stood here")
+    put(b"what stood here", "old")
     os.chmod("old", 0o640)
     os.link("old", "other")
     os.symlink("linked", "link")
     for out in ("old", "link", "new"):
-        subprocess.run([program, "pfa", os.path.join(TOP, "examples/tiny.pfb"), out], check=True, timeout=60)
+        subprocess.run([program, "pfa", TINY_PFB, out], check=True, timeout=60)
     whole = example("tiny.pfa")
-    written = [open(name, "rb").read() == whole for name in ("old", "other", "linked", "new")]
+    written = [bytes_of(name) == whole for name in ("old", "other", "linked", "new")]
     os.remove("other")
-    subprocess.run([program, "pfb", os.path.join(TOP, "examples/tiny.pfb"), "old"], check=True, timeout=60)
+    subprocess.run([program, "pfb", TINY_PFB, "old"], check=True, timeout=60)
     mode = stat.S_IMODE(os.stat("old").st_mode)
     names = sorted(os.listdir(folder))
     return all(written) and mode == 0o640 and os.path.islink("link") and names == ["link", "linked", "new", "old"]
@@ -88,18 +79,14 @@ def same_output(program, folder):
 def left_parts(program, folder):
     """Where parts were left under all names beside OUT, or the name would be too long, OUT is written in place and that is said."""
     said = "note: %s is written in place: no file could be made beside it\n"
-    with open("old", "wb") as f:
-        f.write(b"what stood here")
+    put(b"what stood here", "old")
     for number in range(100):
-        with open(f"old.{number}.part", "wb"):
-            pass
+        put(b"", f"old.{number}.part")
     whole = example("tiny.pfa")
     for out in ("old", "l" * 250):
-        words = [program, "pfa", os.path.join(TOP, "examples/tiny.pfb"), out]
+        words = [program, "pfa", TINY_PFB, out]
         done = subprocess.run(words, capture_output=True, timeout=60)
-        with open(out, "rb") as f:
-            written = f.read()
-        if (done.returncode, done.stderr.decode(), written) != (0, said % out, whole):
+        if (done.returncode, done.stderr.decode(), bytes_of(out)) != (0, said % out, whole):
             return False
     return sorted(os.listdir(folder)) == sorted(["old", "l" * 250] + [f"old.{number}.part" for number in range(100)])
 
@@ -123,13 +110,11 @@ def kept_result(program, folder):
     if subprocess.run(["unshare", "-m", "true"], capture_output=True).returncode:
         print("no mounts here: a result that can't take OUT's name was left out", file=sys.stderr)
         return True
-    with open("big.font", "wb") as f:
-        f.write(small_font(b"Big", [STUB] * 5, {b"g%d" % at: 4 for at in range(200)}))
+    put(small_font(b"Big", [STUB] * 5, {b"g%d" % at: 4 for at in range(200)}), "big.font")
     subprocess.run([program, "pfa", "big.font", "whole"], check=True, timeout=60)
     words = ["unshare", "-m", "sh", "-c", MOUNTED, "sh", program]
     done = subprocess.run(["sh", "-c", 'exec 3>kept; exec "$@"', "sh", *words], capture_output=True, timeout=60)
-    with open("whole", "rb") as whole, open("kept", "rb") as kept:
-        is_kept = whole.read() == kept.read()
+    is_kept = bytes_of("whole") == bytes_of("kept")
     said = b"failed: write\nnote: the whole result is in out.0.part\n"
     return is_kept and (done.stdout, done.stderr) == (b"status 3\n", said)
 

@@ -5,15 +5,15 @@ import os
 import re
 import sys
 
-TOP = os.path.join(os.path.dirname(os.path.abspath(__file__)), "..")
+from common import TOP, text_of
+
 TEST = re.compile(r"`(\w+)/([\w/]+\.rt)::(\w+)`")
 BODY = re.compile(r"`(\w+)/(\w+)`")
 
 
 def has_test(crate, path, name):
     try:
-        with open(os.path.join(TOP, "crates", crate, "src", path), encoding="utf-8") as f:
-            return re.search(rf"#\[test\]\nfn {name}\(", f.read()) is not None
+        return re.search(rf"#\[test\]\nfn {name}\(", text_of(TOP, "crates", crate, "src", path)) is not None
     except OSError:
         return False
 
@@ -25,12 +25,11 @@ def has_body(crate, name):
 
 def rows():
     """The rows of the tables, each with its line number."""
-    with open(os.path.join(TOP, "docs/VECTORS.md"), encoding="utf-8") as f:
-        for number, line in enumerate(f, 1):
-            # An escaped bar stands inside a cell.
-            cells = re.split(r"(?<!\\)\|", line.strip())
-            if line.startswith("| ") and cells[1].strip() != "Row":
-                yield number, [cell.strip() for cell in cells[1:-1]]
+    for number, line in enumerate(text_of(TOP, "docs/VECTORS.md").splitlines(), 1):
+        # An escaped bar stands inside a cell.
+        cells = re.split(r"(?<!\\)\|", line.strip())
+        if line.startswith("| ") and cells[1].strip() != "Row":
+            yield number, [cell.strip() for cell in cells[1:-1]]
 
 
 def faults():

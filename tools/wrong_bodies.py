@@ -20,7 +20,8 @@ import subprocess
 import sys
 import tempfile
 
-TOP = os.path.abspath(os.path.join(os.path.dirname(os.path.abspath(__file__)), ".."))
+from common import TOP, below, copy_crates, needs, put, text_of
+
 EDITS = os.path.join(TOP, "tools/wrong-bodies")
 # The first edit of a copy costs its crate's proof, and each further edit a load of that proof.
 CHUNK = 30
@@ -30,44 +31,16 @@ SECONDS = "900"
 GOOD = ("refused, as it must be", "caught, as it must be, by")
 
 
-def needs():
-    """What each crate depends on, by its name, lowest first as in crates.txt."""
-    with open(os.path.join(TOP, "crates.txt"), encoding="utf-8") as f:
-        lines = [line.split("#")[0].split(":") for line in f if ":" in line]
-    return {name.split()[0]: deps.split() for name, deps in lines}
-
-
 def crates():
     return list(needs())
-
-
-def below(names):
-    """The crates of this repository that these depend on, lowest first."""
-    wanted = set()
-    for crate in reversed(crates()):
-        if crate in names or crate in wanted:
-            wanted.update(needs()[crate])
-    return [crate for crate in crates() if crate in wanted]
 
 
 def edits_of(crate):
     return sorted(glob.glob(os.path.join(EDITS, crate, "**/*.edit"), recursive=True))
 
 
-def copy_to(room):
-    """A copy of the repository with what was built of its libraries, and without its own edits."""
-    for name in ("crates.txt", "HANDLES"):
-        shutil.copy(os.path.join(TOP, name), room)
-    for crate in crates():
-        for part in ("src", "specs", "proofs", "out/rlib"):
-            inside = os.path.join(TOP, "crates", crate, part)
-            if os.path.isdir(inside):
-                shutil.copytree(inside, os.path.join(room, "crates", crate, part), symlinks=True)
-
-
 def lines_of(edit):
-    with open(edit, encoding="utf-8") as f:
-        return f.read().splitlines()
+    return text_of(edit).splitlines()
 
 
 def catcher(edit):
@@ -91,12 +64,10 @@ def apply(edit, crate_folder):
         elif word == "old":
             old = text
         elif word == "new":
-            with open(path, encoding="utf-8") as f:
-                whole = f.read()
+            whole = text_of(path)
             if whole.count(old) != 1:
                 return f"`old` stands {whole.count(old)} times"
-            with open(path, "w", encoding="utf-8") as f:
-                f.write(whole.replace(old, text))
+            put(whole.replace(old, text).encode(), path)
         elif line:
             return f"a line that is not read: {line}"
     return None
@@ -105,19 +76,17 @@ def apply(edit, crate_folder):
 def leave_one_test(folder, test):
     """Takes all other tests out of a crate, since the wanted one is seldom the first and each takes its time."""
     for path in glob.glob(os.path.join(folder, "src", "**", "*.rt"), recursive=True):
-        with open(path, encoding="utf-8") as f:
-            whole = f.read()
+        whole = text_of(path)
         left = re.sub(rf"^(?://[^\n]*\n)*#\[test\]\nfn (?!{test}\().*?^\}}\n", "", whole, flags=re.S | re.M)
         if left != whole:
-            with open(path, "w", encoding="utf-8") as f:
-                f.write(left)
+            put(left.encode(), path)
 
 
 def caught(crate, edit):
     """What the tests of a crate say of an edit, tried in its own copy without any proof."""
     name, test = os.path.basename(edit), catcher(edit)
     with tempfile.TemporaryDirectory(prefix="wrong-bodies-") as room:
-        copy_to(room)
+        copy_crates(room, crates())
         folder = os.path.join(room, "crates", crate)
         bad = apply(edit, folder)
         if bad:
@@ -136,7 +105,7 @@ def caught(crate, edit):
 def refused(crate, edits):
     """What rt says of some edits of a crate, tried in their own copy."""
     with tempfile.TemporaryDirectory(prefix="wrong-bodies-") as room:
-        copy_to(room)
+        copy_crates(room, crates())
         folder = os.path.join(room, "crates", crate, "must-fail")
         os.makedirs(folder)
         for edit in edits:
