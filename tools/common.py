@@ -46,9 +46,9 @@ def say(text):
     print(text, file=sys.stderr)
 
 
-def program():
-    """The program that the variable T1SUBSET names, or bin/t1subset. A script ends if it isn't there."""
-    path = os.environ.get("T1SUBSET") or os.path.join(TOP, "bin/t1subset")
+def program(path=None):
+    """The program of this path, or that the variable T1SUBSET names, or bin/t1subset. A script ends if it isn't there."""
+    path = path or os.environ.get("T1SUBSET") or os.path.join(TOP, "bin/t1subset")
     if not (os.path.isfile(path) and os.access(path, os.X_OK)):
         sys.exit(f"{path} is missing, or no program: run `make`, or name the program by T1SUBSET")
     return path
@@ -172,6 +172,13 @@ def as_pfa(clear, private):
     digits = sealed(private, EEXEC).hex()
     lines = "".join(digits[at:at + 64] + "\n" for at in range(0, len(digits), 64))
     return clear + lines.encode() + TRAILER
+
+
+def made_font(clear, subrs, glyphs):
+    """The canonical PFA of a clear text, of Subrs, a list, and of glyphs by name."""
+    tables = subrs_table(enumerate(subrs), len(subrs)) + b"2 index " + glyphs_table(sorted(glyphs.items()))
+    private = b"/Private 3 dict dup begin\n" + tables + b"end\nmark currentfile closefile\n"
+    return as_pfa(clear + b"currentfile eexec\n", private)
 
 
 def as_pfb(pfa):

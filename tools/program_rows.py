@@ -4,7 +4,7 @@
 """
 from collections import namedtuple
 
-from common import CALL, EMPTY, ENDCHAR, RETURN, TOP, TRAILER, WIDTH, as_pfa, as_pfb, bytes_of, example, glyphs_table, number, subrs_table
+from common import CALL, EMPTY, ENDCHAR, RETURN, TOP, TRAILER, WIDTH, as_pfb, bytes_of, example, made_font, number
 
 # Stands for a text that clap writes.
 SOME = object()
@@ -47,9 +47,7 @@ def small_font(name, subrs, callers):
     """The canonical PFA of a font of this name: its Subrs, and glyphs that each call one of them."""
     glyphs = {b".notdef": EMPTY}
     glyphs.update((glyph, WIDTH + number(index) + CALL + ENDCHAR) for glyph, index in callers.items())
-    tables = subrs_table(enumerate(subrs), len(subrs)) + b"2 index " + glyphs_table(sorted(glyphs.items()))
-    private = b"/Private 3 dict dup begin\n" + tables + b"end\nmark currentfile closefile\n"
-    return as_pfa(b"%%!\n/FontName /%s def\n/Encoding StandardEncoding def\ncurrentfile eexec\n" % name, private)
+    return made_font(b"%%!\n/FontName /%s def\n/Encoding StandardEncoding def\n" % name, subrs, glyphs)
 
 
 def version_of_the_man_page():

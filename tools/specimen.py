@@ -1,94 +1,284 @@
 #!/usr/bin/env python3
-"""Draws glyphs of a font as SVG, from what `t1subset show` prints, so that two fonts can be compared by eye.
+"""Draws glyphs of a font as SVG, or of two fonts side by side, from what `t1subset show` prints of them.
 
-usage: tools/specimen.py [--program PROGRAM] [--columns N] FONT [NAME...] > specimen.svg
-Without a NAME it draws all glyphs of the font. A glyph that can't be drawn is a crossed box with its fault.
+usage: tools/specimen.py [OPTION...] FONT [OTHER] [-- NAME...] > specimen.svg
+Without a NAME it draws all glyphs. A page has at most 400 of them: standard output gets the first page, or with `--page N`
+another, and `--pages STEM` writes all of them to STEM-1.svg, STEM-2.svg and so on. Units are those of the FontMatrix, a
+thousandth of an em. A glyph that can't be drawn is a crossed box with its fault, and one that has no room on the page is
+drawn smaller. Of two fonts the glyphs that differ are marked, and their number is told; `--differing` draws these alone.
+
+libt1subset answers, if python/ can load it, or else the program: bin/t1subset, or the one that `--program` or the variable
+T1SUBSET names, which is then asked first.
 """
 import argparse
+import math
 import os
-import re
-import subprocess
+import signal
 import sys
+from collections import namedtuple
 from xml.sax.saxutils import escape
 
-TOP = os.path.abspath(os.path.join(os.path.dirname(os.path.abspath(__file__)), ".."))
-# A cell in charstring units: room for an em, for what hangs below the line, and for the glyph's name.
-WIDTH, HEIGHT, BASELINE, MARGIN, LETTERS = 1200, 1500, 1000, 100, 90
+import drawn
+from common import Failed, put, say
+from shapes import Box, differences, read_font, shapes_of, short
+
+# A column's width, what is left free before a glyph and on both sides of it, the height of letters, the width of one, and
+# the gap between marked cells, in 1/1000 em.
+WIDTH, MARGIN, SIDES, LETTERS, LETTER, GAP = 1200, 100, 150, 90, 56, 20
+# The least that stands above and below the base line, and the height from which on a glyph is drawn smaller.
+ABOVE, BELOW, TALL = 900, 300, 6000
+PAGE = 400
+NOTHING = Box(0, 0, 500, 700)
+STYLE = (
+    ".rule{fill:none;stroke:#999;stroke-width:6}.differs{fill:#fdd}.told{fill:#b00}"
+    f"text{{font-family:monospace;font-size:{LETTERS}px}}"
+)
+
+# A name as it is printed, its shape in each font, None where a font lacks it, and in what the shapes differ.
+Cell = namedtuple("Cell", "name shapes differences")
 
 
-def shown(program, words):
-    """The lines that the program prints, split into words; it has to succeed."""
-    done = subprocess.run([program, *words], capture_output=True, check=False)
-    if done.returncode:
-        sys.exit(done.stderr.decode("ascii", "backslashreplace").strip())
-    return [line.split(" ") for line in done.stdout.decode("ascii").splitlines()]
+def printable(name):
+    """A name as `list` prints it."""
+    return "".join(chr(byte) if 33 <= byte <= 126 and byte != 92 else f"\\x{byte:02x}" for byte in name)
 
 
-def spelled(name):
-    """The word that asks for a name, from the name as the program prints it."""
-    return re.sub(r"\\x([0-9a-f]{2})", lambda code: chr(int(code.group(1), 16)), name)
+def cells_of(words, fonts, names):
+    """The cells of these names."""
+    of_fonts = [shapes_of(words, font, names) for font in fonts]
+    for name in names:
+        shapes = [shapes.get(name) for shapes in of_fonts]
+        yield Cell(printable(name), shapes, differences(*shapes) if len(fonts) == 2 else [])
 
 
-def number(text):
-    """A number as `show` prints it: whole units, or a count of 1/65536 unit."""
-    count, _, unit = text.partition("/")
-    return int(count) / int(unit or 1)
+def wrapped(text, room):
+    """The lines of a text, in which none is wider than the room."""
+    letters = max(1, int(room / LETTER))
+    return [text[at:at + letters] for at in range(0, len(text), letters)]
 
 
-def path_of(lines):
-    """The path of a glyph's parts, in their places, with y upwards; and its width."""
-    path, dx, dy, width = [], 0, 0, 0
-    letters = {"move": "M", "line": "L", "curve": "C"}
-    for mark, *values in lines:
-        if mark == "width":
-            width = number(values[0])
-        elif mark == "part":
-            dx, dy = map(number, values)
-        elif mark in letters:
-            moved = [number(value) + (dy if at % 2 else dx) for at, value in enumerate(values)]
-            path.append(letters[mark] + " ".join(f"{value:g}" for value in moved))
-        elif mark == "close":
-            path.append("Z")
-    return " ".join(path), width
+def text_svg(lines, x, y, kind=""):
+    """Lines one below the other."""
+    for at, line in enumerate(lines):
+        yield f'<text x="{x}" y="{short(y + at * MARGIN)}"{kind}>{escape(line)}</text>'
 
 
-def cell(lines, name, column, row):
-    """One glyph with its name, its baseline and its width."""
-    here = f'<g transform="translate({column * WIDTH + MARGIN} {row * HEIGHT})">'
-    text = f'<text x="0" y="{HEIGHT - MARGIN}" font-size="{LETTERS}">{escape(name)}</text>'
-    if lines and lines[0][0] == "fault":
-        box = f'<path d="M0 {BASELINE}H500V300H0ZL500 300M0 300L500 {BASELINE}" class="rule"/>'
-        fault = f'<text x="0" y="{BASELINE + LETTERS}" font-size="{LETTERS}">{escape(lines[0][1])}</text>'
-        return here + box + fault + text + "</g>"
-    path, width = path_of(lines)
-    rules = f'<path d="M0 {BASELINE}H{width:g}M0 {BASELINE}v-{LETTERS}M{width:g} {BASELINE}v-{LETTERS}" class="rule"/>'
-    glyph = f'<path d="{path}" transform="translate(0 {BASELINE}) scale(1 -1)"/>'
-    return here + rules + glyph + text + "</g>"
+class Place:
+    """A cell on a page: its columns, how large each of its shapes is drawn, and the lines below each."""
+
+    def __init__(self, cell, columns):
+        self.cell = cell
+        self.boxes = [shape.box if shape else NOTHING for shape in cell.shapes]
+        wide = max(box.right - box.left for box in self.boxes)
+        self.span = max(1, min(columns // len(self.boxes), math.ceil((wide + SIDES) / WIDTH)))
+        self.columns = self.span * len(self.boxes)
+        room = self.span * WIDTH - SIDES
+        self.scales = [min(1, room / max(1, box.right - box.left), TALL / max(1, box.top - box.bottom)) for box in self.boxes]
+        self.above = max(box.top * scale for box, scale in zip(self.boxes, self.scales))
+        self.below = max(-box.bottom * scale for box, scale in zip(self.boxes, self.scales))
+        self.name = wrapped(cell.name, room)
+        self.told = [[line for text in texts for line in wrapped(text, room)] for texts in self.texts()]
+        self.lines = len(self.name) + max(map(len, self.told))
+
+    def texts(self):
+        """What is told of each shape, below the name."""
+        told = ", ".join(self.cell.differences)
+        for shape, scale in zip(self.cell.shapes, self.scales):
+            fault = [shape.fault] if shape and shape.fault else []
+            smaller = [f"drawn at {100 * scale:.3g} %"] if scale < 1 else []
+            yield ([told] if told else []) + fault + smaller
+            told = ""
+
+    def svg(self, x, base, row):
+        """The cell, from its left side and its row's base line."""
+        yield f'<g class="glyph"><title>{escape(self.cell.name)}</title>'
+        if self.cell.differences:
+            wide, top = self.columns * WIDTH - GAP, base - row.above - MARGIN / 2
+            yield f'<rect x="{x + GAP // 2}" y="{short(top)}" width="{wide}" height="{short(row.height - GAP)}" class="differs"/>'
+        y = base + row.below + MARGIN
+        yield from text_svg(self.name, x + MARGIN, y)
+        for at, (shape, box, scale) in enumerate(zip(self.cell.shapes, self.boxes, self.scales)):
+            left = x + at * self.span * WIDTH + MARGIN
+            yield from text_svg(self.told[at], left, y + MARGIN * len(self.name), ' class="told"')
+            if shape:
+                yield f'<g transform="translate({short(left - box.left * scale)} {short(base)}){"" if scale == 1 else f" scale({scale:.6g})"}">'
+                yield from shape_svg(shape)
+                yield "</g>"
+        yield "</g>"
 
 
-def specimen(cells, columns):
-    """The picture of all cells."""
-    rows = -(-len(cells) // columns)
-    wide, high = columns * WIDTH, rows * HEIGHT
+def shape_svg(shape):
+    """A shape at the origin: its base line, as long as it is wide, and what it paints; or a crossed box."""
+    if shape.fault:
+        yield '<path d="M0 0H500V-700H0ZL500 -700M0 -700L500 0" class="rule"/>'
+        return
+    x, y = short(shape.width[0]), short(-shape.width[1])
+    yield f'<path d="M0 0L{x} {y}M0 0v-{LETTERS}M{x} {y}v-{LETTERS}" class="rule"/>'
+    a, b, c, d, e, f = shape.matrix
+    matrix = " ".join(f"{value + 0:.9g}" for value in (a, -b, c, -d, e, -f))
+    for offset, path in shape.parts:
+        if path:
+            moved = "" if offset == "0 0" else f" translate({offset})"
+            yield f'<path d="{"".join(path)}" transform="matrix({matrix}){moved}"/>'
+
+
+class Row:
+    """Places that stand side by side, and how much room they take."""
+
+    def __init__(self):
+        self.places, self.columns, self.above, self.below, self.lines = [], 0, ABOVE, BELOW, 1
+
+    def add(self, place):
+        self.places.append(place)
+        self.columns += place.columns
+        self.above, self.below = max(self.above, place.above), max(self.below, place.below)
+        self.lines = max(self.lines, place.lines)
+
+    @property
+    def height(self):
+        return self.above + self.below + (self.lines + 2) * MARGIN
+
+    def svg(self, top):
+        column = 0
+        for place in self.places:
+            yield from place.svg(column * WIDTH, top + MARGIN + self.above, self)
+            column += place.columns
+
+
+def rows_of(cells, columns):
+    """The rows of a page that is so many columns wide."""
+    row = Row()
+    for cell in cells:
+        place = Place(cell, columns)
+        if row.columns + place.columns > columns:
+            yield row
+            row = Row()
+        row.add(place)
+    yield row
+
+
+def page_svg(cells, columns, head):
+    """A page: lines that tell what it is, and its cells."""
+    rows = list(rows_of(cells, columns))
+    wide = WIDTH * max(1, *(row.columns for row in rows))
+    lines = [line for text in head for line in wrapped(text, wide - 2 * MARGIN)]
+    top = MARGIN * (len(lines) + 1) if lines else 0
+    high = math.ceil(top + sum(row.height for row in rows))
     yield f'<svg xmlns="http://www.w3.org/2000/svg" viewBox="0 0 {wide} {high}" width="{wide // 10}" height="{high // 10}">'
-    yield f'<style>.rule{{fill:none;stroke:#999;stroke-width:6}}text{{font-family:monospace}}</style>'
+    yield f"<style>{STYLE}</style>"
     yield f'<rect width="{wide}" height="{high}" fill="#fff"/>'
-    for at, (name, lines) in enumerate(cells):
-        yield cell(lines, name, at % columns, at // columns)
+    yield from text_svg(lines, MARGIN, 1.5 * MARGIN)
+    for row in rows:
+        yield from row.svg(top)
+        top += row.height
     yield "</svg>"
 
 
+class Specimen:
+    """The pages of one font or of two."""
+
+    def __init__(self, words, paths, names):
+        self.words = words
+        self.fonts = [read_font(words, path) for path in paths]
+        own = [name for font in self.fonts for name in font.names]
+        missing = [name for name in names if name not in set(own)]
+        if missing:
+            raise Failed(f"{', '.join(paths)}: no glyph {printable(missing[0])}")
+        self.names = names or (own if len(paths) == 1 else sorted(set(own)))
+        self.head = []
+
+    def compare(self, differing):
+        """Finds the names that differ, and keeps no others if they alone are asked for."""
+        self.cells = list(cells_of(self.words, self.fonts, self.names))
+        found = [cell for cell in self.cells if cell.differences]
+        told = f"{len(found)} of {len(self.cells)} glyphs differ"
+        self.head = [f"left: {ascii_of(self.fonts[0].path)}", f"right: {ascii_of(self.fonts[1].path)}", told]
+        say(told)
+        if differing:
+            self.cells = found
+
+    def pages(self):
+        """The names or the cells of each page."""
+        each = PAGE // len(self.fonts)
+        items = self.names if len(self.fonts) == 1 else self.cells
+        return [items[at:at + each] for at in range(0, max(1, len(items)), each)]
+
+    def svg(self, items, number, count, columns):
+        """The page of these items."""
+        cells = cells_of(self.words, self.fonts, items) if len(self.fonts) == 1 else items
+        head = self.head + ([f"page {number} of {count}"] if count > 1 else [])
+        return "\n".join(page_svg(cells, columns, head)) + "\n"
+
+
+def ascii_of(text):
+    return text.encode("ascii", "backslashreplace").decode()
+
+
+def positive(text):
+    value = int(text)
+    if value < 1:
+        raise ValueError(text)
+    return value
+
+
+def asked():
+    """What the command line asks for."""
+    words = argparse.ArgumentParser(
+        usage="%(prog)s [OPTION...] FONT [OTHER] [-- NAME...] > specimen.svg", description=__doc__.splitlines()[0]
+    )
+    words.add_argument("--program", help="asks this program")
+    words.add_argument("--columns", type=positive, default=8, metavar="N", help="how wide a page is, by default 8")
+    words.add_argument("--page", type=positive, metavar="N", help="the page that is printed, by default the first")
+    words.add_argument("--pages", metavar="STEM", help="writes all pages to STEM-1.svg, STEM-2.svg and so on")
+    words.add_argument("--differing", action="store_true", help="draws the glyphs alone that differ")
+    words.add_argument("fonts", nargs="+", metavar="FONT")
+    given = sys.argv[1:]
+    behind = given.index("--") if "--" in given else len(given)
+    answer = words.parse_args(given[:behind])
+    if len(answer.fonts) > 2:
+        words.error("more than two fonts; names stand behind --")
+    if answer.differing and len(answer.fonts) == 1:
+        words.error("--differing wants two fonts")
+    if answer.pages and answer.page:
+        words.error("--page prints one page, and --pages writes all")
+    answer.names = [os.fsencode(name) for name in given[behind + 1:]]
+    return answer
+
+
+def written(path, text):
+    try:
+        put(text.encode("ascii"), path)
+    except OSError as fault:
+        raise Failed(f"{path}: {fault.strerror}")
+
+
+def draw(given):
+    """Prints the page that is asked for, or writes all pages."""
+    specimen = Specimen(drawn.asked_of(given.program), given.fonts, given.names)
+    if len(given.fonts) == 2:
+        specimen.compare(given.differing)
+    pages = specimen.pages()
+    if given.pages:
+        for number, items in enumerate(pages, 1):
+            written(f"{given.pages}-{number}.svg", specimen.svg(items, number, len(pages), given.columns))
+        return
+    number = given.page or 1
+    if number > len(pages):
+        raise Failed(f"no page {number}: the last is {len(pages)}")
+    sys.stdout.write(specimen.svg(pages[number - 1], number, len(pages), given.columns))
+    sys.stdout.flush()
+    if len(pages) > 1 and not given.page:
+        say(f"page 1 of {len(pages)}: --page N prints another, --pages STEM writes all")
+
+
 def main():
-    words = argparse.ArgumentParser(description=__doc__.splitlines()[0])
-    words.add_argument("--program", default=os.path.join(TOP, "bin/t1subset"))
-    words.add_argument("--columns", type=int, default=8)
-    words.add_argument("font", metavar="FONT")
-    words.add_argument("names", nargs="*", metavar="NAME")
-    given = words.parse_args()
-    listed = [line[1] for line in shown(given.program, ["list", given.font]) if line[0] == "glyph"]
-    names = given.names or [spelled(name) for name in listed]
-    cells = [(name, shown(given.program, ["show", given.font, "--", name])) for name in names]
-    print("\n".join(specimen(cells, min(given.columns, max(1, len(cells))))))
+    signal.signal(signal.SIGPIPE, signal.SIG_DFL)
+    signal.signal(signal.SIGINT, signal.SIG_DFL)
+    given = asked()
+    try:
+        draw(given)
+    except OSError as fault:
+        raise Failed(f"standard output: {fault.strerror}")
 
 
 if __name__ == "__main__":
