@@ -16,7 +16,7 @@ from concurrent.futures import ThreadPoolExecutor
 from common import TOP, Failed, bytes_of, glyphs_in, program, put
 
 # How many glyphs are cut at a time, and how many cuts are made at once.
-CUT, LANES = 64, min(4, os.cpu_count() or 1)
+CUT, LANES = 100, min(4, os.cpu_count() or 1)
 # Shows glyphs one after the other, each behind a line that `show` doesn't print.
 SHOW = 'program=$1; shift; for name do echo =; "$program" show font -- "$name" 2>&1 || :; done'
 

@@ -7,10 +7,17 @@ import drawn
 from common import Failed, bytes_of, say, segments
 
 LETTER_OF = {"move": "M", "line": "L", "curve": "C"}
+# Lines of marks that paint nothing; closing what is closed; where a line or a curve has no move before it; numbers that are
+# not whole; and letters as blanks.
+UNPAINTED = re.compile(r"^(?!move|line|curve|close).*\n", re.M)
+CLOSED = re.compile(r"(?<![^Z])Z")
+MOVELESS = re.compile(r"(?<![^Z])(?=[LC])")
+FRACTION = re.compile(r"-?\d+/\d+")
+BLANKS = str.maketrans("MLCZ", "    ")
 
 # A font's path, its bytes, its matrix in 1/1000 em, and its glyphs' names.
 Font = namedtuple("Font", "path data matrix names")
-# What a glyph draws in a font's own units, its parts' offsets and paths; its box and its width in 1/1000 em; or its fault.
+# What `show` prints of a glyph, its font's matrix, its parts; its box and its width in 1/1000 em; or its fault.
 Shape = namedtuple("Shape", "text matrix parts box width fault", defaults=(None,))
 Box = namedtuple("Box", "left bottom right top")
 
@@ -64,30 +71,36 @@ def moved(matrix, x, y):
     return a * x + c * y + e, b * x + d * y + f
 
 
-def parts_of(lines):
-    """The offset and the path of each part, in the font's units with y upwards, and the points of all."""
-    parts, points, dx, dy, here = [], [], 0, 0, "0 0"
-    for line in lines:
-        mark, *values = line.split(" ")
-        if mark in LETTER_OF:
-            if "/" in line:
-                values = [short(number(value)) for value in values]
-            path = parts[-1][1]
-            if mark != "move" and path[-1:] in ([], ["Z"]):
-                # A line without a move begins where the last one ended, or at the side bearing point.
-                path.append("M" + here)
-            path.append(LETTER_OF[mark] + " ".join(values))
-            here = " ".join(values[-2:])
-            numbers = list(map(float, values))
-            points += [(x + dx, y + dy) for x, y in zip(numbers[::2], numbers[1::2])]
-        elif mark == "close":
-            parts[-1][1].append("Z")
-        elif mark == "part":
-            dx, dy = map(number, values)
-            parts.append((f"{short(dx)} {short(dy)}", []))
-        elif mark == "bearing":
-            here = " ".join(short(number(value)) for value in values)
-    return parts, points
+class Part:
+    """A part of a glyph in the font's units, with y upwards: its offset and its path, made of the lines of its marks."""
+
+    def __init__(self, offset, marks, bearing):
+        self.offset = tuple(map(number, offset))
+        path = UNPAINTED.sub("", marks).replace("close", "Z")
+        for mark, letter in LETTER_OF.items():
+            path = path.replace(mark + " ", letter)
+        path = FRACTION.sub(lambda found: short(number(found[0])), CLOSED.sub("", path.replace("\n", "")))
+
+        def last_place(found):
+            """A line without a move begins where the last one ended, or at the side bearing point."""
+            return "M" + " ".join((bearing + path[:found.start()].translate(BLANKS)).split()[-2:])
+
+        self.path = MOVELESS.sub(last_place, path)
+
+    def corners(self):
+        """The corners of the box around all coordinates."""
+        numbers = list(map(float, self.path.translate(BLANKS).split()))
+        if not numbers:
+            return []
+        (dx, dy), xs, ys = self.offset, numbers[::2], numbers[1::2]
+        return [(x + dx, y + dy) for x in (min(xs), max(xs)) for y in (min(ys), max(ys))]
+
+
+def parts_of(text):
+    """The parts of a glyph, from what `show` prints of it."""
+    head, *parts = re.split(r"^part (\S+) (\S+)\n", text, flags=re.M)
+    bearing = " ".join(short(number(value)) for value in head.splitlines()[1].split(" ")[1:])
+    return [Part(parts[at:at + 2], parts[at + 2], bearing + " ") for at in range(0, len(parts), 3)]
 
 
 def shape_of(text, matrix):
@@ -97,14 +110,10 @@ def shape_of(text, matrix):
         fault = lines[0].replace("fault ", "", 1) if lines else "nothing is shown"
         return Shape(text, matrix, [], Box(0, 0, 500, 700), (0, 0), fault)
     across, up = map(number, lines[0].split(" ")[1:])
-    a, b, c, d, e, f = matrix
+    a, b, c, d, _, _ = matrix
     width = (a * across + c * up, b * across + d * up)
-    parts, points = parts_of(lines)
-    if points:
-        left, right = min(x for x, _ in points), max(x for x, _ in points)
-        bottom, top = min(y for _, y in points), max(y for _, y in points)
-        points = [moved(matrix, x, y) for x in (left, right) for y in (bottom, top)]
-    xs, ys = zip((0, 0), width, *points)
+    parts = parts_of(text)
+    xs, ys = zip((0, 0), width, *(moved(matrix, x, y) for part in parts for x, y in part.corners()))
     return Shape(text, matrix, parts, Box(min(xs), min(ys), max(xs), max(ys)), width)
 
 

@@ -116,10 +116,10 @@ def shape_svg(shape):
     yield f'<path d="M0 0L{x} {y}M0 0v-{LETTERS}M{x} {y}v-{LETTERS}" class="rule"/>'
     a, b, c, d, e, f = shape.matrix
     matrix = " ".join(f"{value + 0:.9g}" for value in (a, -b, c, -d, e, -f))
-    for offset, path in shape.parts:
-        if path:
-            moved = "" if offset == "0 0" else f" translate({offset})"
-            yield f'<path d="{"".join(path)}" transform="matrix({matrix}){moved}"/>'
+    for part in shape.parts:
+        if part.path:
+            moved = f" translate({' '.join(map(short, part.offset))})" if any(part.offset) else ""
+            yield f'<path d="{part.path}" transform="matrix({matrix}){moved}"/>'
 
 
 class Row:
@@ -174,44 +174,27 @@ def page_svg(cells, columns, head):
     yield "</svg>"
 
 
-class Specimen:
-    """The pages of one font or of two."""
-
-    def __init__(self, words, paths, names):
-        self.words = words
-        self.fonts = [read_font(words, path) for path in paths]
-        own = [name for font in self.fonts for name in font.names]
-        missing = [name for name in names if name not in set(own)]
-        if missing:
-            raise Failed(f"{', '.join(paths)}: no glyph {printable(missing[0])}")
-        self.names = names or (own if len(paths) == 1 else sorted(set(own)))
-        self.head = []
-
-    def compare(self, differing):
-        """Finds the names that differ, and keeps no others if they alone are asked for."""
-        self.cells = list(cells_of(self.words, self.fonts, self.names))
-        found = [cell for cell in self.cells if cell.differences]
-        told = f"{len(found)} of {len(self.cells)} glyphs differ"
-        self.head = [f"left: {ascii_of(self.fonts[0].path)}", f"right: {ascii_of(self.fonts[1].path)}", told]
-        say(told)
-        if differing:
-            self.cells = found
-
-    def pages(self):
-        """The names or the cells of each page."""
-        each = PAGE // len(self.fonts)
-        items = self.names if len(self.fonts) == 1 else self.cells
-        return [items[at:at + each] for at in range(0, max(1, len(items)), each)]
-
-    def svg(self, items, number, count, columns):
-        """The page of these items."""
-        cells = cells_of(self.words, self.fonts, items) if len(self.fonts) == 1 else items
-        head = self.head + ([f"page {number} of {count}"] if count > 1 else [])
-        return "\n".join(page_svg(cells, columns, head)) + "\n"
+def names_of(fonts, asked):
+    """The names that are drawn: those that are asked for, or all of the fonts."""
+    own = [name for font in fonts for name in font.names]
+    missing = [name for name in asked if name not in set(own)]
+    if missing:
+        raise Failed(f"{', '.join(font.path for font in fonts)}: no glyph {printable(missing[0])}")
+    return asked or (own if len(fonts) == 1 else sorted(set(own)))
 
 
-def ascii_of(text):
-    return text.encode("ascii", "backslashreplace").decode()
+def compared(words, fonts, names, differing):
+    """The cells of two fonts, or those alone that differ; and the lines above them."""
+    cells = list(cells_of(words, fonts, names))
+    found = [cell for cell in cells if cell.differences]
+    told = f"{len(found)} of {len(cells)} glyphs differ"
+    say(told)
+    left, right = (font.path.encode("ascii", "backslashreplace").decode() for font in fonts)
+    return found if differing else cells, [f"left: {left}", f"right: {right}", told]
+
+
+def split(items, each):
+    return [items[at:at + each] for at in range(0, max(1, len(items)), each)]
 
 
 def positive(text):
@@ -245,40 +228,45 @@ def asked():
     return answer
 
 
-def written(path, text):
+def written(text, path):
+    """Writes a page to a file, or to standard output where there is no path."""
     try:
-        put(text.encode("ascii"), path)
+        if path:
+            put(text.encode("ascii"), path)
+        else:
+            sys.stdout.write(text)
+            sys.stdout.flush()
     except OSError as fault:
-        raise Failed(f"{path}: {fault.strerror}")
+        raise Failed(f"{path or 'standard output'}: {fault.strerror}")
 
 
 def draw(given):
     """Prints the page that is asked for, or writes all pages."""
-    specimen = Specimen(drawn.asked_of(given.program), given.fonts, given.names)
-    if len(given.fonts) == 2:
-        specimen.compare(given.differing)
-    pages = specimen.pages()
-    if given.pages:
-        for number, items in enumerate(pages, 1):
-            written(f"{given.pages}-{number}.svg", specimen.svg(items, number, len(pages), given.columns))
-        return
-    number = given.page or 1
-    if number > len(pages):
-        raise Failed(f"no page {number}: the last is {len(pages)}")
-    sys.stdout.write(specimen.svg(pages[number - 1], number, len(pages), given.columns))
-    sys.stdout.flush()
-    if len(pages) > 1 and not given.page:
-        say(f"page 1 of {len(pages)}: --page N prints another, --pages STEM writes all")
+    words = drawn.asked_of(given.program)
+    fonts = [read_font(words, path) for path in given.fonts]
+    names, head = names_of(fonts, given.names), []
+    if len(fonts) == 2:
+        cells, head = compared(words, fonts, names, given.differing)
+    pages = split(names if len(fonts) == 1 else cells, PAGE // len(fonts))
+    first, last = (1, len(pages)) if given.pages else (given.page or 1, given.page or 1)
+    if last > len(pages):
+        raise Failed(f"no page {last}: the last is {len(pages)}")
+    pages, count = pages[first - 1:last], len(pages)
+    if len(fonts) == 1:
+        # No other glyph is drawn than those of these pages.
+        pages = split(list(cells_of(words, fonts, sum(pages, []))), PAGE)
+    for at, page in enumerate(pages, first):
+        lines = page_svg(page, given.columns, head + ([f"page {at} of {count}"] if count > 1 else []))
+        written("\n".join(lines) + "\n", given.pages and f"{given.pages}-{at}.svg")
+    if count > 1 and not (given.page or given.pages):
+        say(f"page 1 of {count}: --page N prints another, --pages STEM writes all")
 
 
 def main():
+    # A reader that has seen enough, or an interrupt, ends the run without a traceback.
     signal.signal(signal.SIGPIPE, signal.SIG_DFL)
     signal.signal(signal.SIGINT, signal.SIG_DFL)
-    given = asked()
-    try:
-        draw(given)
-    except OSError as fault:
-        raise Failed(f"standard output: {fault.strerror}")
+    draw(asked())
 
 
 if __name__ == "__main__":
