@@ -57,6 +57,9 @@ def wrapped(text, room):
     return [text[at:at + letters] for at in range(0, len(text), letters)]
 
 
+TOLD = ' class="told"'
+
+
 def text_svg(lines, x, y, kind=""):
     """Lines one below the other."""
     for at, line in enumerate(lines):
@@ -76,18 +79,17 @@ class Place:
         self.scales = [min(1, room / max(1, box.right - box.left), TALL / max(1, box.top - box.bottom)) for box in self.boxes]
         self.above = max(box.top * scale for box, scale in zip(self.boxes, self.scales))
         self.below = max(-box.bottom * scale for box, scale in zip(self.boxes, self.scales))
-        self.name = wrapped(cell.name, room)
+        # The name and the differences stand below the whole cell, and what is told of a shape below that, on its side.
+        self.name = wrapped(cell.name, self.columns * WIDTH - SIDES)
+        self.differences = wrapped(", ".join(cell.differences), self.columns * WIDTH - SIDES)
         self.told = [[line for text in texts for line in wrapped(text, room)] for texts in self.texts()]
-        self.lines = len(self.name) + max(map(len, self.told))
+        self.lines = len(self.name) + len(self.differences) + max(map(len, self.told))
 
     def texts(self):
-        """What is told of each shape, below the name."""
-        told = ", ".join(self.cell.differences)
+        """What is told of each shape."""
         for shape, scale in zip(self.cell.shapes, self.scales):
             fault = [shape.fault] if shape and shape.fault else []
-            smaller = [f"drawn at {100 * scale:.3g} %"] if scale < 1 else []
-            yield ([told] if told else []) + fault + smaller
-            told = ""
+            yield fault + ([f"drawn at {100 * scale:.3g} %"] if scale < 1 else [])
 
     def svg(self, x, base, row):
         """The cell, from its left side and its row's base line."""
@@ -97,11 +99,16 @@ class Place:
             yield f'<rect x="{x + GAP // 2}" y="{short(top)}" width="{wide}" height="{short(row.height - GAP)}" class="differs"/>'
         y = base + row.below + MARGIN
         yield from text_svg(self.name, x + MARGIN, y)
+        y += MARGIN * len(self.name)
+        yield from text_svg(self.differences, x + MARGIN, y, TOLD)
+        y += MARGIN * len(self.differences)
         for at, (shape, box, scale) in enumerate(zip(self.cell.shapes, self.boxes, self.scales)):
             left = x + at * self.span * WIDTH + MARGIN
-            yield from text_svg(self.told[at], left, y + MARGIN * len(self.name), ' class="told"')
+            yield from text_svg(self.told[at], left, y, TOLD)
             if shape:
-                yield f'<g transform="translate({short(left - box.left * scale)} {short(base)}){"" if scale == 1 else f" scale({scale:.6g})"}">'
+                # What hangs over the margin to the left moves the glyph to the right.
+                origin = left + max(0, GAP - MARGIN - box.left * scale)
+                yield f'<g transform="translate({short(origin)} {short(base)}){"" if scale == 1 else f" scale({scale:.6g})"}">'
                 yield from shape_svg(shape)
                 yield "</g>"
         yield "</g>"
