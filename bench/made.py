@@ -1,6 +1,8 @@
 """The fonts that the benchmarks make, and what a word costs on them."""
+import os
 import re
 import subprocess
+import sys
 
 from common import LEAD, as_binary, glyphs_table, subrs_table
 
@@ -27,6 +29,17 @@ def cost(words):
     lines = done.stderr.splitlines()
     user, system, peak = lines[-1].split()
     return float(user) + float(system), int(peak), lines[0] if done.returncode else ""
+
+
+def milliseconds(words):
+    """The processor time of one run, which has to end well."""
+    # The object stays until `wait4` has reaped the child: it would reap it itself when it goes.
+    child = subprocess.Popen(words, stdout=subprocess.DEVNULL)
+    _, status, used = os.wait4(child.pid, 0)
+    child.returncode = status
+    if status != 0:
+        sys.exit(" ".join(words[:3]) + " .. failed")
+    return (used.ru_utime + used.ru_stime) * 1000
 
 
 def millions(command):

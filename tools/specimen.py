@@ -157,7 +157,7 @@ def rows_of(cells, columns):
     row = Row()
     for cell in cells:
         place = Place(cell, columns)
-        if row.columns + place.columns > columns:
+        if row.places and row.columns + place.columns > columns:
             yield row
             row = Row()
         row.add(place)

@@ -18,6 +18,7 @@ import tempfile
 from concurrent.futures import ThreadPoolExecutor
 
 from common import BUILDS, EEXEC, TINY, TINY_PFB, TOP, bytes_of, ciphered, compiler, example, put, segments, text_of
+from test_answers import calls
 
 PROGRAM = BUILDS[0]
 CRATES = ["t1_bytes", "t1_char", "t1_run", "t1_join", "t1_font", "t1_subset", "t1_example", "t1_cmd"]
@@ -230,21 +231,6 @@ def called_in(crate):
     return called
 
 
-def calls_that_grow(crate):
-    """The names of the public functions and methods of a crate that may need memory."""
-    source = os.path.join(TOP, "crates", crate, "src")
-    root = text_of(source + "/lib.rt")
-    handed_on = set(re.findall(r"\w+", " ".join(re.findall(r"^pub use (?!t1_)[^;]*;", root, re.M))))
-    rooms = set(re.findall(r"^pub mod (\w+);", root, re.M)) | {"lib"}
-    pattern = re.compile(r"^( *)pub fn (\w+)(?:<[^(]*>)?\(([^)]*)\)(?: -> ([^{\n]*))?", re.M)
-    for path in sorted(glob.glob(source + "/*.rt")):
-        room = os.path.basename(path)[:-3]
-        for indent, name, parameters, answer in pattern.findall(text_of(path)):
-            grows = "Global" in parameters or re.search("AllocError|BytesFault", answer)
-            if grows and (indent or name in handed_on or room in rooms):
-                yield name
-
-
 def built_tests(crate):
     """The words that run each test of growths of a crate, and whether it refuses all."""
     path = os.path.join(TOP, "crates", crate, "out", crate + "_tests")
@@ -257,7 +243,7 @@ def built_tests(crate):
 
 def sweep_crate(shim, crate):
     """How many runs a crate's tests took."""
-    lacking = sorted(set(calls_that_grow(crate)) - called_in(crate))
+    lacking = sorted({call.split("::")[-1] for call, _ in calls(crate)} - called_in(crate))
     if lacking:
         sys.exit(f"{crate}: no test of growths calls {', '.join(lacking)}")
     runs = 0
