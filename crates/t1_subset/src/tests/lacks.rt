@@ -127,7 +127,7 @@ fn a_font_without_a_table(rt: HostRuntime) -> Result<(), Fail> {
     Ok(())
 }
 
-/// The file of these Subrs, and of 65,534 glyphs that call Subr 5.
+/// The file of these Subrs and of `.notdef` and glyphs that call Subr 5, 65535 in all.
 fn many(alloc: Global, subrs: &[Entry]) -> Result<Vec<u8>, AllocError> {
     let mut text = glyphs_text(alloc, &SHELL, &[(b".notdef", b"\x0e")])?;
     for number in 0..65_534u32 {
