@@ -1,8 +1,8 @@
 """What fonts draw: the texts that `t1subset list` and `show` print, for many glyphs at once.
 
 They are asked of libt1subset, in this process, where python/ can load it; otherwise of the program, by some processes at once.
-Each answer costs the reading of its font. So of a large font some glyphs at a time are cut, and shown from their cut, in
-which each is drawn as in the font (`t1_subset::laws::subsets_draw`).
+Each answer costs the reading of its font. So a large font is cut, its cuts are cut again, and each glyph is shown from a
+small one, in which it is drawn as in the font (`t1_subset::laws::subsets_draw`).
 """
 import contextlib
 import itertools
@@ -15,8 +15,8 @@ from concurrent.futures import ThreadPoolExecutor
 
 from common import TOP, Failed, bytes_of, glyphs_in, program, put
 
-# How many glyphs are cut at a time, and how many cuts are made at once.
-CUT, LANES = 100, min(4, os.cpu_count() or 1)
+# With how many names a font isn't cut any more, into how many parts it is cut, and how many cuts are made at once.
+CUT, PARTS, LANES = 32, 16, min(4, os.cpu_count() or 1)
 # Shows glyphs one after the other, each behind a line that `show` doesn't print.
 SHOW = 'program=$1; shift; for name do echo =; "$program" show font -- "$name" 2>&1 || :; done'
 
@@ -109,14 +109,23 @@ def names_in(words, font):
     return [name_of(name) for name in glyphs_in(words.listed(font))]
 
 
+def parts_of(names):
+    """The names in at most PARTS lists, none of them needlessly small."""
+    each = max(CUT, -(-len(names) // PARTS))
+    return [names[at:at + each] for at in range(0, len(names), each)]
+
+
+def shown_of(words, font, names):
+    """What `show` prints of each of these glyphs, from a cut for each part of them, and from cuts of these cuts."""
+    if len(names) <= CUT:
+        return list(words.shown(font, names))
+    return [text for part in parts_of(names) for text in shown_of(words, words.cut(font, part), part)]
+
+
 def drawings(words, font, names, count):
     """What `show` prints of each of these glyphs of a font that has so many."""
     if count <= CUT:
         return list(words.shown(font, names))
-
-    def of_some(some):
-        return list(words.shown(words.cut(font, some), some))
-
     with ThreadPoolExecutor(LANES) as pool:
-        cuts = pool.map(of_some, (names[at:at + CUT] for at in range(0, len(names), CUT)))
+        cuts = pool.map(lambda part: shown_of(words, words.cut(font, part), part), parts_of(names))
         return list(itertools.chain.from_iterable(cuts))

@@ -7,12 +7,12 @@ import drawn
 from common import Failed, bytes_of, say, segments
 
 LETTER_OF = {"move": "M", "line": "L", "curve": "C"}
-# Lines of marks that paint nothing; closing what is closed; where a line or a curve has no move before it; numbers that are
-# not whole; and letters as blanks.
-UNPAINTED = re.compile(r"^(?!move|line|curve|close).*\n", re.M)
+# The marks that paint. A number that is not whole; where something is closed that is no path, or a line or a curve has no
+# move before it; and letters as blanks.
+PAINTS = (*LETTER_OF, "close")
+FRACTION = re.compile(r"-?\d+/\d+")
 CLOSED = re.compile(r"(?<![^Z])Z")
 MOVELESS = re.compile(r"(?<![^Z])(?=[LC])")
-FRACTION = re.compile(r"-?\d+/\d+")
 BLANKS = str.maketrans("MLCZ", "    ")
 
 # A font's path, its bytes, its matrix in 1/1000 em, and its glyphs' names.
@@ -71,21 +71,29 @@ def moved(matrix, x, y):
     return a * x + c * y + e, b * x + d * y + f
 
 
+def whole(path, bearing):
+    """A path whose lines and curves all have a move before them, and which closes nothing else."""
+    path = CLOSED.sub("", path)
+
+    def last_place(found):
+        """A line without a move begins where the last one ended, or at the side bearing point."""
+        return "M" + " ".join((bearing + " " + path[:found.start()].translate(BLANKS)).split()[-2:])
+
+    return MOVELESS.sub(last_place, path)
+
+
 class Part:
     """A part of a glyph in the font's units, with y upwards: its offset and its path, made of the lines of its marks."""
 
     def __init__(self, offset, marks, bearing):
         self.offset = tuple(map(number, offset))
-        path = UNPAINTED.sub("", marks).replace("close", "Z")
+        path = "".join(line for line in marks.splitlines() if line.startswith(PAINTS)).replace("close", "Z")
         for mark, letter in LETTER_OF.items():
             path = path.replace(mark + " ", letter)
-        path = FRACTION.sub(lambda found: short(number(found[0])), CLOSED.sub("", path.replace("\n", "")))
-
-        def last_place(found):
-            """A line without a move begins where the last one ended, or at the side bearing point."""
-            return "M" + " ".join((bearing + path[:found.start()].translate(BLANKS)).split()[-2:])
-
-        self.path = MOVELESS.sub(last_place, path)
+        if "/" in path:
+            path = FRACTION.sub(lambda found: short(number(found[0])), path)
+        is_whole = path.startswith("M") and not any(pair in path for pair in ("ZL", "ZC", "ZZ"))
+        self.path = path if is_whole else whole(path, bearing)
 
     def corners(self):
         """The corners of the box around all coordinates."""
@@ -100,7 +108,7 @@ def parts_of(text):
     """The parts of a glyph, from what `show` prints of it."""
     head, *parts = re.split(r"^part (\S+) (\S+)\n", text, flags=re.M)
     bearing = " ".join(short(number(value)) for value in head.splitlines()[1].split(" ")[1:])
-    return [Part(parts[at:at + 2], parts[at + 2], bearing + " ") for at in range(0, len(parts), 3)]
+    return [Part(parts[at:at + 2], parts[at + 2], bearing) for at in range(0, len(parts), 3)]
 
 
 def shape_of(text, matrix):
@@ -123,7 +131,7 @@ def outline(shape):
     for mark, *values in (line.split(" ") for line in shape.text.splitlines()):
         if mark == "part":
             dx, dy = map(number, values)
-        elif mark in LETTER_OF or mark == "close":
+        elif mark in PAINTS:
             yield mark, [number(value) + (dy if at % 2 else dx) for at, value in enumerate(values)]
 
 
@@ -150,7 +158,7 @@ def placed(matrix, numbers):
 
 def beside_outline(shape):
     """The line of a glyph's side bearing, and those of its hints."""
-    lines = [line for line in shape.text.splitlines() if line.split(" ")[0] not in (*LETTER_OF, "close", "part", "width")]
+    lines = [line for line in shape.text.splitlines() if not line.startswith((*PAINTS, "part", "width"))]
     return lines[0], lines[1:]
 
 

@@ -23,6 +23,7 @@ from common import as_pfb, bytes_of, compiler, example, made_font, number, print
 
 SVG = "{http://www.w3.org/2000/svg}"
 THOUSANDTH, OF_2048, SLANTED = b"0.001 0 0 0.001 0 0", b"0.00048828125 0 0 0.00048828125 0 0", b"0.001 0 0.0002 0.001 0 0"
+DIV, SEAC = b"\x0c\x0c", b"\x0c\x06"
 # The height of letters, and the most that one takes in a common monospaced font.
 LETTERS, LETTER = 90, 55
 # What a page shows of a name: its letters' boxes, and of each font the width and the box of what is painted.
@@ -162,6 +163,24 @@ def one_font(room):
     check(room.drawn("slanted.pfa")[0]["A"].painted == [(100, 0, 340, 700)], "the slant of a FontMatrix is not kept")
 
 
+def odd_glyphs(room):
+    """Numbers that are not whole, a line without a move, and a glyph of two parts, of which one is moved."""
+    half = number(1) + number(2) + DIV
+    fraction = number(0) + number(1001) + number(2) + DIV + HSBW + half + half + MOVE + number(100) + number(100) + LINE + CLOSE + ENDCHAR
+    unmoved = number(50) + number(500) + HSBW + number(100) + number(0) + LINE + number(0) + number(100) + LINE + CLOSE + ENDCHAR
+    room.put("odd.pfa", font({b"fraction": fraction, b"unmoved": unmoved}))
+    cells, _ = room.drawn("odd.pfa")
+    check(cells["fraction"][1:3] == ([(0.5, 0.5, 100.5, 100.5)], [500.5]), f"{cells['fraction']}")
+    check(cells["unmoved"].painted == [(50, 0, 150, 100)], f"{cells['unmoved']}")
+    accented = number(0) + number(500) + HSBW + b"".join(map(number, (0, 3000, 10, 65, 194))) + SEAC
+    letters = {b"A": box(500, 0, 0, 400, 700), b"Aacute": accented, b"acute": box(300, 0, 500, 200, 700)}
+    room.put("accent.pfa", font({**letters, b"B": box(500, 0, 0, 400, 700)}))
+    check(room.drawn("accent.pfa")[0]["Aacute"].painted == [(0, 0, 3200, 710)], "an accent that stands 3000 to the right")
+    # Tiny's Aacute: a line from 0 to -100, and 70 across and 200 up one from 50 to 150.
+    room.put("tiny.pfb", example("tiny.pfb"))
+    check(room.drawn("tiny.pfb", "--", "Aacute")[0]["Aacute"][1:3] == ([(-100, 0, 220, 200)], [500]), "Aacute of Tiny")
+
+
 def wide_glyphs(room):
     """Wide, deep and high glyphs and long names have room of their own, and what has none is drawn smaller."""
     glyphs = {b"wide": box(2600, -300, 0, 2500, 100), b"deep": box(500, 0, -2500, 400, 100), b"high": box(500, 0, 0, 400, 3000)}
@@ -199,15 +218,15 @@ def two_fonts(room):
 
 def pages(room):
     """A page has at most 400 glyphs."""
-    room.put("many.pfa", font({b"g%03d" % at: box(at + 1, 0, 0, 400, 700) for at in range(400)}))
+    room.put("many.pfa", font({b"g%03d" % at: box(at + 1, 0, 0, 400, 700) for at in range(600)}))
     (first, said), (second, _) = room.drawn("many.pfa"), room.drawn("many.pfa", "--page", "2")
     check(said == "page 1 of 2: --page N prints another, --pages STEM writes all\n", said)
-    check([len(first), len(second)] == [400, 1] and list(second) == ["g399"], "pages of other glyphs")
-    wanted = {f"g{at:03}": [at + 1] for at in range(400)}
-    check({name: cell.widths for name, cell in {**first, **second}.items() if name != ".notdef"} == wanted, "other widths")
-    check(room.run("many.pfa", "--pages", "out") == (0, b"", ""), "--pages says something")
-    written = [list(picture(bytes_of(room.folder, f"out-{at}.svg"))) for at in (1, 2)]
-    check(written == [list(first), list(second)], "--pages writes other glyphs")
+    check(list(first) == [".notdef"] + [f"g{at:03}" for at in range(399)] and len(second) == 201, "pages of other glyphs")
+    wanted = {".notdef": [250], **{f"g{at:03}": [at + 1] for at in range(600)}}
+    check({name: cell.widths for name, cell in {**first, **second}.items()} == wanted, "other widths")
+    for env in filter(None, (room.env, room.over_library)):
+        check(room.run("many.pfa", "--pages", "out", env=env) == (0, b"", ""), "--pages says something")
+        check([picture(bytes_of(room.folder, f"out-{at}.svg")) for at in (1, 2)] == [first, second], "--pages writes other pages")
     room.refused(["many.pfa", "--page", "3"], "no page 3: the last is 2")
 
 
@@ -231,7 +250,7 @@ def messages(room):
 
 
 def specimens(program, library):
-    for test in (one_font, wide_glyphs, two_fonts, pages, messages):
+    for test in (one_font, odd_glyphs, wide_glyphs, two_fonts, pages, messages):
         with tempfile.TemporaryDirectory() as folder:
             test(Room(folder, program, library))
 
