@@ -7,8 +7,8 @@ another, and `--pages STEM` writes all of them to STEM-1.svg, STEM-2.svg and so 
 thousandth of an em. A glyph that can't be drawn is a crossed box with its fault, and one that has no room on the page is
 drawn smaller. Of two fonts the glyphs that differ are marked, and their number is told; `--differing` draws these alone.
 
-libt1subset answers, if python/ can load it, or else the program: bin/t1subset, or the one that `--program` or the variable
-T1SUBSET names, which is then asked first.
+The program that `--program` or the variable T1SUBSET names is asked; where neither names one, libt1subset, if python/ can
+load it, or else bin/t1subset.
 """
 import argparse
 import math
@@ -33,6 +33,7 @@ STYLE = (
     ".rule{fill:none;stroke:#999;stroke-width:6}.differs{fill:#fdd}.told{fill:#b00}"
     f"text{{font-family:monospace;font-size:{LETTERS}px}}"
 )
+TOLD = ' class="told"'
 
 # A name as it is printed, its shape in each font, None where a font lacks it, and in what the shapes differ.
 Cell = namedtuple("Cell", "name shapes differences")
@@ -55,9 +56,6 @@ def wrapped(text, room):
     """The lines of a text, in which none is wider than the room."""
     letters = max(1, int(room / LETTER))
     return [text[at:at + letters] for at in range(0, len(text), letters)]
-
-
-TOLD = ' class="told"'
 
 
 def text_svg(lines, x, y, kind=""):
@@ -270,10 +268,12 @@ def draw(given):
 
 
 def main():
-    # A reader that has seen enough, or an interrupt, ends the run without a traceback.
+    # A reader that has seen enough ends the run without a traceback.
     signal.signal(signal.SIGPIPE, signal.SIG_DFL)
-    signal.signal(signal.SIGINT, signal.SIG_DFL)
-    draw(asked())
+    try:
+        draw(asked())
+    except KeyboardInterrupt:
+        sys.exit(130)
 
 
 if __name__ == "__main__":
