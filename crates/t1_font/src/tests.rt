@@ -3,6 +3,7 @@
 
 mod again;
 mod arrays;
+mod boxes;
 mod cuts;
 mod edges;
 mod even_texts;
