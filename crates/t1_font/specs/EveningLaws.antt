@@ -1,13 +1,15 @@
 -- The laws of fonts made even, each the contract of a function in `laws`.
-use Rattle.std.specs.Prelude.{◌≡◌, ℕ, ◌≤◌, true, List, [], map}
-use Rattle.std.specs.List.{AllByRecursion}
+use Rattle.std.specs.Prelude.{◌≡◌, ℕ, ◌≤◌, true, false, List, [], ◌∷◌, map}
+use Rattle.std.specs.Ordering.{is_gt}
+use Rattle.std.specs.List.{AllByRecursion, list_any}
 use Rattle.std.specs.List.Sorted.{IsPermutation}
 use Rattle.std.specs.FinMap.{keys, contains_key}
 use Rattle.t1_font.specs.FontValue.{FontValue, Shell, declared_count}
 use Rattle.t1_font.specs.EvenTexts.{even_texts}
 use Rattle.t1_font.specs.Evening.{even, filled, evened}
 use Rattle.t1_font.specs.IsFont.{IsFont}
-use Rattle.t1_font.specs.FontBoxes.{Box, joined_box, with_box, box_stays, with_texts, boxed}
+use Rattle.t1_font.specs.Numbers.{value_cmp}
+use Rattle.t1_font.specs.FontBoxes.{Box, says_nothing, joined_box, with_box, box_stays, with_texts, boxed}
 
 -- a font of even texts that declares so many Subrs stays
 abbrev pub EvenStays : Type 0
@@ -69,3 +71,19 @@ OneShellStays = (s : Shell) (fs : List FontValue) → AllByRecursion (λ f. f.sh
 -- the one box for some boxes is the same in any order
 abbrev pub BoxInAnyOrder : Type 0
 BoxInAnyOrder = (bs cs : List Box) → IsPermutation bs cs → joined_box bs ≡ joined_box cs
+
+-- a box holds another: its lower numbers are no greater, and its upper ones no less
+pub record Holds (b c : Box) : Type 0 where
+  pub llx : is_gt (value_cmp b.llx c.llx) ≡ false
+  pub lly : is_gt (value_cmp b.lly c.lly) ≡ false
+  pub urx : is_gt (value_cmp c.urx b.urx) ≡ false
+  pub ury : is_gt (value_cmp c.ury b.ury) ≡ false
+
+-- the one box for some boxes, none of which says nothing, holds each of them
+abbrev pub HoldsEach : Type 0
+HoldsEach = (bs : List Box) → list_any says_nothing bs ≡ false → AllByRecursion (Holds (joined_box bs)) bs
+
+-- and a box that holds each of them holds it
+abbrev pub HeldByAll : Type 0
+HeldByAll =
+    (u b : Box) (bs : List Box) → list_any says_nothing (b ∷ bs) ≡ false → AllByRecursion (Holds u) (b ∷ bs) → Holds u (joined_box (b ∷ bs))

@@ -14,8 +14,8 @@ use Rattle.std.proofs.lemmas.List.{nil_from_length}
 use Rattle.std.proofs.lemmas.List.Elements.{All-from_recursion, All-contains, Contains-push, Contains-append_left, Contains-append_right}
 use Rattle.std.proofs.lemmas.List.Sorted.{All-permutation, Contains-permutation, list_any-IsPermutation, length_permutation}
 use Rattle.t1_font.specs.Numbers.{Size, size_cmp, below_zero, above_zero, value_cmp, spelling_cmp, least_first, greatest_first, sooner, soonest}
-use Rattle.t1_font.specs.FontBoxes.{Box, says_nothing, held}
-use Rattle.t1_font.specs.EveningLaws.{BoxInAnyOrder}
+use Rattle.t1_font.specs.FontBoxes.{Box, says_nothing, held, joined_box}
+use Rattle.t1_font.specs.EveningLaws.{BoxInAnyOrder, Holds, HoldsEach, HeldByAll}
 
 -- ---- the orders of numbers are total
 
@@ -223,3 +223,63 @@ in_any_order bs cs p = elim (cases_Bool (list_any says_nothing bs)) [
       ∙ (held_all bs cs p
       ∙ sym (ap held (cond-false (list_any says_nothing cs) (filter says_nothing cs) cs (sym (list_any-IsPermutation says_nothing bs cs p) ∙ t))))
 ]
+
+-- ---- the one box is the least that holds each
+
+value_first : (a b : Ordering) → is_gt (ordering_then a b) ≡ false → is_gt a ≡ false
+value_first Less b h = refl
+value_first Equal b h = refl
+value_first Greater b h = h
+
+-- what holds of the words of boxes, one by one
+boxes_held : (u : Box) (bs : List Box) → AllByRecursion (λ w. is_gt (least_first u.llx w) ≡ false) (map (λ b. b.llx) bs) →
+    AllByRecursion (λ w. is_gt (least_first u.lly w) ≡ false) (map (λ b. b.lly) bs) →
+    AllByRecursion (λ w. is_gt (greatest_first u.urx w) ≡ false) (map (λ b. b.urx) bs) →
+    AllByRecursion (λ w. is_gt (greatest_first u.ury w) ≡ false) (map (λ b. b.ury) bs) → AllByRecursion (Holds u) bs
+boxes_held u [] h k l m = tt
+boxes_held u (b ∷ bs) h k l m = (
+  record {
+    llx = value_first (value_cmp u.llx b.llx) (spelling_cmp u.llx b.llx) h.0;
+    lly = value_first (value_cmp u.lly b.lly) (spelling_cmp u.lly b.lly) k.0;
+    urx = value_first (value_cmp b.urx u.urx) (spelling_cmp u.urx b.urx) l.0;
+    ury = value_first (value_cmp b.ury u.ury) (spelling_cmp u.ury b.ury) m.0;
+  },
+  boxes_held u bs h.1 k.1 l.1 m.1,
+)
+
+-- some boxes, none of which says nothing, all count
+all_count : (bs : List Box) → list_any says_nothing bs ≡ false → joined_box bs ≡ held bs
+all_count bs h = ap held (cond-false (list_any says_nothing bs) (filter says_nothing bs) bs h)
+
+pub holds_each : HoldsEach
+holds_each [] h = tt
+holds_each (b ∷ bs) h =
+    let x = first_of_all least_first least_total least_one b.llx (map (λ c. c.llx) bs) in
+    let y = first_of_all least_first least_total least_one b.lly (map (λ c. c.lly) bs) in
+    let z = first_of_all greatest_first greatest_total greatest_one b.urx (map (λ c. c.urx) bs) in
+    let w = first_of_all greatest_first greatest_total greatest_one b.ury (map (λ c. c.ury) bs) in
+    subst (λ (u : Box). AllByRecursion (Holds u) (b ∷ bs)) (sym (all_count (b ∷ bs) h)) (boxes_held (held (b ∷ bs)) (b ∷ bs) x y z w)
+
+-- what holds of each word holds of the first
+first_has : (cmp : List ℕ → List ℕ → Ordering) (P : List ℕ → Type 0) (w : List ℕ) (ws : List (List ℕ)) →
+    P w → AllByRecursion P ws → P (fold (sooner cmp) w ws)
+first_has cmp P w [] h k = h
+first_has cmp P w (v ∷ vs) h k = first_has cmp P (sooner cmp w v) vs (cond_both (is_gt (cmp w v)) v w P (λ _. k.0) (λ _. h)) k.1
+
+words_have : (P : List ℕ → Type 0) (word : Box → List ℕ) (u : Box) → ((b : Box) → Holds u b → P (word b)) → (bs : List Box) →
+    AllByRecursion (Holds u) bs → AllByRecursion P (map word bs)
+words_have P word u f [] h = tt
+words_have P word u f (b ∷ bs) h = (f b h.0, words_have P word u f bs h.1)
+
+pub held_by_all : HeldByAll
+held_by_all u b bs n h =
+    subst (Holds u) (sym (all_count (b ∷ bs) n)) (record {
+      llx = let P : List ℕ → Type 0 = λ w. is_gt (value_cmp u.llx w) ≡ false in
+          first_has least_first P b.llx (map (λ c. c.llx) bs) h.0.llx (words_have P (λ c. c.llx) u (λ c k. k.llx) bs h.1);
+      lly = let P : List ℕ → Type 0 = λ w. is_gt (value_cmp u.lly w) ≡ false in
+          first_has least_first P b.lly (map (λ c. c.lly) bs) h.0.lly (words_have P (λ c. c.lly) u (λ c k. k.lly) bs h.1);
+      urx = let P : List ℕ → Type 0 = λ w. is_gt (value_cmp w u.urx) ≡ false in
+          first_has greatest_first P b.urx (map (λ c. c.urx) bs) h.0.urx (words_have P (λ c. c.urx) u (λ c k. k.urx) bs h.1);
+      ury = let P : List ℕ → Type 0 = λ w. is_gt (value_cmp w u.ury) ≡ false in
+          first_has greatest_first P b.ury (map (λ c. c.ury) bs) h.0.ury (words_have P (λ c. c.ury) u (λ c k. k.ury) bs h.1);
+    })
