@@ -12,8 +12,9 @@ use Rattle.t1_font.specs.FontValue.{FontValue, Shell, SubrsShell, Numbered, decl
 use Rattle.t1_font.specs.FontModel.{subr_at}
 use Rattle.t1_font.specs.IsFont.{IsFont, SubrsFit}
 use Rattle.t1_font.proofs.even_fonts.Evened.{even_is_font, filled_is_font}
+use Rattle.t1_font.proofs.even_fonts.Boxes.{boxed_are_fonts}
 use Rattle.t1_font.specs.Canon.{canon}
-use Rattle.t1_font.specs.Evening.{even, filled, largest_count, indices_of_all, evened_shells, evened}
+use Rattle.t1_font.specs.Evening.{even, filled, largest_count, indices_of_all, each_even, evened_shells, evened}
 use Rattle.t1_font.specs.Filling.{AreLight}
 use Rattle.t1_join.specs.Groupings.{one, from_left}
 use Rattle.t1_join.proofs.OrderLemmas.{leaves_from_left, each_leaf}
@@ -203,15 +204,20 @@ largest_few : (fs : List FontValue) → AllByRecursion IsFont fs → largest_cou
 largest_few [] h = omega arith
 largest_few (f ∷ fs) h = omega (arith, few_declared f.shell f.shell.subrs f.subrs h.0.subrs, largest_few fs h.1)
 
-each_even : (indices : List ℕ) (n : ℕ) (fs : List FontValue) → n ≤ count_limit → AllByRecursion IsFont fs →
-    AreLight (map (filled indices) (map (even n) fs)) → AllByRecursion IsFont (map (filled indices) (map (even n) fs))
-each_even indices n [] le h fit = tt
-each_even indices n (f ∷ fs) le h fit =
-    (filled_is_font indices (even n f) (even_is_font n f le h.0) fit.0, each_even indices n fs le h.1 fit.1)
+each_font : (n : ℕ) (fs : List FontValue) → n ≤ count_limit → AllByRecursion IsFont fs → AllByRecursion IsFont (map (even n) fs)
+each_font n [] le h = tt
+each_font n (f ∷ fs) le h = (even_is_font n f le h.0, each_font n fs le h.1)
+
+each_filled : (indices : List ℕ) (fs : List FontValue) → AllByRecursion IsFont fs → AreLight (map (filled indices) fs) →
+    AllByRecursion IsFont (map (filled indices) fs)
+each_filled indices [] h fit = tt
+each_filled indices (f ∷ fs) h fit = (filled_is_font indices f h.0 fit.0, each_filled indices fs h.1 fit.1)
 
 -- fonts made even are fonts where they are within the weight limit
 evened_are_fonts : (fs : List FontValue) → AllByRecursion IsFont fs → AreLight (evened fs) → AllByRecursion IsFont (evened fs)
-evened_are_fonts fs h fit = each_even (indices_of_all (evened_shells fs)) (largest_count fs) fs (largest_few fs h) h fit
+evened_are_fonts fs h fit =
+    each_filled (indices_of_all (evened_shells fs)) (evened_shells fs)
+    (boxed_are_fonts (each_even fs) (each_font (largest_count fs) fs (largest_few fs h) h)) fit
 
 -- what fonts come to is a font
 comes_to_font : (fs : List FontValue) (j : FontValue) → AllByRecursion IsFont fs → ComesTo fs j → IsFont j

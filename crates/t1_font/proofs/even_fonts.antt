@@ -10,4 +10,5 @@ pub mod BoxLists
 pub mod BoxFonts
 pub mod BoxPlaces
 pub mod Boxes
+pub mod Boxing
 pub mod BoxOrder

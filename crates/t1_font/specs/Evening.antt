@@ -1,5 +1,5 @@
--- Fonts made even: subsets that other programs cut differ in white space, in lines that number the font and in tags before its name, and declare
--- no Subrs after the last one used.
+-- Fonts made even: subsets that other programs cut differ in white space, in lines that number the font, in tags before its name and in FontBBox, and
+-- declare no Subrs after the last one used.
 use Rattle.std.specs.Prelude.{ℕ, max, nat_lt, List, [], ◌∷◌, map, filter}
 use Rattle.std.specs.List.{flat_map}
 use Rattle.std.specs.Option.{option_map}
@@ -8,6 +8,7 @@ use Rattle.t1_font.specs.FontValue.{FontValue, Shell, SubrsShell, Numbered, decl
 use Rattle.t1_font.specs.Cut.{stub}
 use Rattle.t1_font.specs.Maps.{merged}
 use Rattle.t1_font.specs.EvenTexts.{even_texts}
+use Rattle.t1_font.specs.FontBoxes.{boxed}
 
 -- a table that declares at least so many Subrs
 abbrev pub raised : ℕ → SubrsShell → SubrsShell
@@ -62,13 +63,17 @@ abbrev pub indices_of_all : List FontValue → List ℕ
 indices_of_all fs = flat_map (λ f. keys f.subrs) fs
 
 -- the fonts with even texts, each with the largest declared count
+abbrev pub each_even : List FontValue → List FontValue
+each_even fs = map (even (largest_count fs)) fs
+
+-- these with one FontBBox
 abbrev pub evened_shells : List FontValue → List FontValue
-evened_shells fs = map (even (largest_count fs)) fs
+evened_shells fs = boxed (each_even fs)
 
 -- the fonts, each with a stub where it lacks a Subr that another has
 abbrev pub filled_all : List FontValue → List FontValue
 filled_all fs = map (filled (indices_of_all fs)) fs
 
--- the fonts made even: with even texts, with one declared count, and with Subrs at one set of indices
+-- the fonts made even: with even texts, with one declared count and one FontBBox, and with Subrs at one set of indices
 abbrev pub evened : List FontValue → List FontValue
 evened fs = filled_all (evened_shells fs)

@@ -9,7 +9,7 @@ use Rattle.t1_font.specs.EvenTexts.{even_texts}
 use Rattle.t1_font.specs.Evening.{even, filled, evened}
 use Rattle.t1_font.specs.IsFont.{IsFont}
 use Rattle.t1_font.specs.Numbers.{value_cmp}
-use Rattle.t1_font.specs.FontBoxes.{Box, says_nothing, joined_box, with_box, box_stays, with_texts, boxed}
+use Rattle.t1_font.specs.FontBoxes.{Box, box_of, says_nothing, joined_box, with_box, box_stays, with_texts, boxed}
 
 -- a font of even texts that declares so many Subrs stays
 abbrev pub EvenStays : Type 0
@@ -27,9 +27,10 @@ EvenTextsStay = (s : Shell) → even_texts (even_texts s) ≡ even_texts s
 abbrev pub EvenedTwice : Type 0
 EvenedTwice = (fs : List FontValue) → evened (evened fs) ≡ evened fs
 
--- a font of even texts, of the declared count of f and with Subrs at the indices where f has them
+-- a font of even texts, of the box and the declared count of f and with Subrs at the indices where f has them
 pub record IsEvenWith (f g : FontValue) : Type 0 where
   pub texts : even_texts g.shell ≡ g.shell
+  pub box : box_of g.shell ≡ box_of f.shell
   pub count : declared_count g.shell.subrs ≡ declared_count f.shell.subrs
   pub present : (i : ℕ) → contains_key g.subrs i ≡ contains_key f.subrs i
 

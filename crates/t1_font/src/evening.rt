@@ -4,9 +4,10 @@ ghost use Rattle.std.specs.Prelude.{◌≡◌, ◌++◌, ◌∷◌, [], IfOk, On
 ghost use Rattle.std.specs.Option.{option_map};
 ghost use Rattle.t1_font.specs.FontValue.{declared_count};
 ghost use Rattle.t1_font.specs.FontModel.{subrs_view};
-ghost use Rattle.t1_font.specs.Evening.{raised, even_shell, even, largest_count, evened_shells};
+ghost use Rattle.t1_font.specs.Evening.{raised, even_shell, even, largest_count, each_even, evened_shells};
 
 use crate::even_texts::{ClearTexts, KeptText, even_clear, even_text, squeezed_text};
+use crate::font_boxes::even_boxes;
 use crate::shell::{KeptSubrs, Shell};
 use crate::source::{Source, SourceParts};
 use std::alloc::{AllocError, Global};
@@ -137,16 +138,9 @@ pub(crate) fn keep(sources: &mut Vec<Source>, source: Source) -> Result<(), Allo
     }
 }
 
-/// The sources with even texts ([`Source::even`]), each with the largest declared count among them: fonts that other programs cut
-/// differ in white space, in lines that number the font and in tags, and declare no Subrs after the last one that is used.
-///
-/// The sources are consumed whatever the answer is; after an error none of them is left.
-///
-/// # Errors
-///
-/// A growth was refused.
-pub fn even_shells(alloc: Global, sources: Vec<Source>) -> Result<Vec<Source>, AllocError>
-    ensures { IfOk result (λ all. all.items ≡ evened_shells sources.items) }
+/// The sources with even texts ([`Source::even`]), each with the largest declared count among them.
+fn each_even(alloc: Global, sources: Vec<Source>) -> Result<Vec<Source>, AllocError>
+    ensures { IfOk result (λ all. all.items ≡ each_even sources.items) }
 {
     let declared = largest_count(sources.as_slice());
     let mut all = Vec::with_capacity(alloc, sources.len())?;
@@ -159,4 +153,22 @@ pub fn even_shells(alloc: Global, sources: Vec<Source>) -> Result<Vec<Source>, A
         keep(&mut all, source)?;
     }
     Ok(all)
+}
+
+/// The sources with even texts ([`Source::even`]), each with the largest declared count among them, and then with one FontBBox
+/// ([`even_boxes`]): fonts that other programs cut differ in white space, in lines that number the font and in tags, declare no
+/// Subrs after the last one that is used, and have boxes of their own where a program converted them.
+///
+/// The sources are consumed whatever the answer is; after an error none of them is left.
+///
+/// # Errors
+///
+/// A growth was refused.
+pub fn even_shells(alloc: Global, sources: Vec<Source>) -> Result<Vec<Source>, AllocError>
+    ensures { IfOk result (λ all. all.items ≡ evened_shells sources.items) }
+{
+    match each_even(alloc, sources) {
+        Ok(sources) => even_boxes(alloc, sources),
+        Err(fault) => Err(fault),
+    }
 }

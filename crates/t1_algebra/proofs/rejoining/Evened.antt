@@ -6,8 +6,9 @@ use Rattle.t1_run.proofs.Grown.{runs_with_more, draws_with_more}
 use Rattle.t1_join.specs.Groupings.{Grouping, one, two, leaves, map_grouping}
 use Rattle.t1_join.proofs.OrderLemmas.{all_leaves}
 use Rattle.t1_font.specs.{FontValue.{FontValue, SubrsShell, Numbered, declared_count, Shell}, FontModel.{subr_at}}
-use Rattle.t1_font.specs.{Evening.{raised, even, stubs_at, with_stubs, filled, largest_count, indices_of_all, evened_shells, filled_all, evened}, EvenTexts.{even_texts}, EveningLaws.{IsEvenWith}}
-use Rattle.t1_font.proofs.even_fonts.{EvenStays.{even_fonts_stay}, EvenTexts.{even_texts_stay, even_shorter}}
+use Rattle.t1_font.specs.{Evening.{raised, even, stubs_at, with_stubs, filled, largest_count, indices_of_all, each_even, evened_shells, filled_all, evened}, EvenTexts.{even_texts}, EveningLaws.{IsEvenWith}}
+use Rattle.t1_font.specs.FontBoxes.{Box, joined_box, box_of, font_with, boxed}
+use Rattle.t1_font.proofs.even_fonts.{EvenStays.{even_fonts_stay}, Boxes.{by_cases}, EvenTexts.{even_texts_stay, even_shorter}}
 use Rattle.t1_algebra.specs.{Evened.{StaysDrawn, map_subrs, AllStayDrawn, EachBeside, EvenedDraw}, Rejoins.{with_even_texts, MergingFontsAreEven}}
 use Rattle.t1_algebra.specs.{States.{Compatible, KeepsLimits, joined_option, joined_font}, Groupings.{Merges}, Profile.{profile}}
 use Rattle.t1_algebra.proofs.rejoining.Lacking.{even_lack_none}
@@ -36,31 +37,56 @@ stubs_added indices m (e ∷ es) i c is =
 no_fewer : (i count : ℕ) (s : Option SubrsShell) → i < declared_count s → i < declared_count (option_map (raised count) s)
 no_fewer i count s h = grind cases
 
-module _ (indices : List ℕ) (count : ℕ) (f : FontValue) where
-  -- the font that is made even
+-- a font that has the Subrs and glyphs of another, and declares no fewer Subrs
+record Keeps (f e : FontValue) : Type 0 where
+  subrs : e.subrs ≡ f.subrs
+  glyphs : e.glyphs ≡ f.glyphs
+  count : (i : ℕ) → i < declared_count f.shell.subrs → i < declared_count e.shell.subrs
+
+module _ (indices : List ℕ) (f e : FontValue) (k : Keeps f e) where
+  -- that font, filled
   abbrev made : FontValue
-  made = filled indices (even count f)
+  made = filled indices e
 
-  -- the font that is made even has all the Subrs that the font had
+  -- it has all the Subrs that the font had
   subrs_added : Extends (maps.get f.subrs) (maps.get made.subrs)
-  subrs_added = stubs_added _ f.subrs (maps.entries f.subrs)
+  subrs_added i c is = stubs_added _ e.subrs (maps.entries e.subrs) i c (ap (λ (m : Numbered). maps.get m i) k.subrs ∙ is)
 
-  -- the font that is made even shows all the Subrs that the font showed
+  -- it shows all the Subrs that the font showed
   seen_added : Extends (subr_at f) (subr_at made)
   seen_added i c is =
-      grind (cases, is, subrs_added i c, no_fewer i count f.shell.subrs, ltb-true i (declared_count f.shell.subrs), lt-ltb i (declared_count made.shell.subrs))
+      grind (cases, is, subrs_added i c, k.count i, ltb-true i (declared_count f.shell.subrs), lt-ltb i (declared_count made.shell.subrs))
 
-  -- each glyph stays drawn in the font that is made even
-  pub all_stay_drawn : AllStayDrawn f made
-  all_stay_drawn n = (stays_drawn map_subrs f made subrs_added refl n, stays_drawn subr_at f made seen_added refl n)
+  -- each glyph stays drawn in it
+  all_stay_drawn : AllStayDrawn f made
+  all_stay_drawn n = (stays_drawn map_subrs f made subrs_added k.glyphs n, stays_drawn subr_at f made seen_added k.glyphs n)
+
+-- a font that is made even, and that with another box
+even_keeps : (count : ℕ) (f : FontValue) → Keeps f (even count f)
+even_keeps count f = record { subrs = refl; glyphs = refl; count = λ i. no_fewer i count f.shell.subrs }
+
+box_keeps : (u : Box) (count : ℕ) (f : FontValue) → Keeps f (font_with u (even count f))
+box_keeps u count f = record { subrs = refl; glyphs = refl; count = λ i. no_fewer i count f.shell.subrs }
 
 -- each glyph of fonts stays drawn in the fonts that are made even
 beside : (indices : List ℕ) (count : ℕ) (fs : List FontValue) → EachBeside AllStayDrawn fs (map (filled indices) (map (even count) fs))
 beside indices count [] = tt
-beside indices count (f ∷ fs) = (all_stay_drawn indices count f, beside indices count fs)
+beside indices count (f ∷ fs) = (all_stay_drawn indices f (even count f) (even_keeps count f), beside indices count fs)
+
+-- and in these with another box
+beside_box : (u : Box) (indices : List ℕ) (count : ℕ) (fs : List FontValue) →
+    EachBeside AllStayDrawn fs (map (filled indices) (map (font_with u) (map (even count) fs)))
+beside_box u indices count [] = tt
+beside_box u indices count (f ∷ fs) = (all_stay_drawn indices f (font_with u (even count f)) (box_keeps u count f), beside_box u indices count fs)
 
 pub evened_draw : EvenedDraw
-evened_draw = record { one = all_stay_drawn; all = λ fs. beside (indices_of_all (evened_shells fs)) (largest_count fs) fs }
+evened_draw = record {
+  one = λ indices count f. all_stay_drawn indices f (even count f) (even_keeps count f);
+  all = λ fs.
+      let indices = indices_of_all (evened_shells fs) in
+      by_cases (λ gs. EachBeside AllStayDrawn fs (map (filled indices) gs)) (each_even fs) (λ _. beside indices (largest_count fs) fs)
+      (λ bs e t. beside_box (joined_box bs) indices (largest_count fs) fs);
+}
 
 -- ---- fonts that merge
 
@@ -99,22 +125,29 @@ counts_same (f ∷ fs) = ap (max (declared_count f.shell.subrs)) (counts_same fs
 
 -- fonts are made even as they are with even texts
 evened_texts : (fs : List FontValue) → evened (map with_even_texts fs) ≡ evened fs
-evened_texts fs = ap filled_all (ap (λ (n : ℕ). map (even n) (map with_even_texts fs)) (counts_same fs) ∙ texts_first (largest_count fs) fs)
+evened_texts fs =
+    ap (λ (gs : List FontValue). filled_all (boxed gs)) (ap (λ (n : ℕ). map (even n) (map with_even_texts fs)) (counts_same fs) ∙ texts_first (largest_count fs) fs)
 
--- fonts whose states are among those of one font are even with it, with even texts
-each_even : (j : FontValue) (fs : List FontValue) → AllByRecursion (Below profile j) fs → AllByRecursion (IsEvenWith j) (map with_even_texts fs)
-each_even j [] b = tt
-each_even j (f ∷ fs) b =
+-- fonts whose states are among those of one font are even with it, both with even texts
+even_with : (j : FontValue) (fs : List FontValue) → AllByRecursion (Below profile j) fs →
+    AllByRecursion (IsEvenWith (with_even_texts j)) (map with_even_texts fs)
+even_with j [] b = tt
+even_with j (f ∷ fs) b =
     let shared = (sharing f j).1 b.0.0.0.0 in (
-      record { texts = even_texts_stay f.shell; count = ap (λ (s : Shell). declared_count s.subrs) shared.shells; present = shared.present },
-      each_even j fs b.1,
+      record {
+        texts = even_texts_stay f.shell;
+        box = ap (λ (s : Shell). box_of (even_texts s)) shared.shells;
+        count = ap (λ (s : Shell). declared_count s.subrs) shared.shells;
+        present = shared.present;
+      },
+      even_with j fs b.1,
     )
 
 pub merging_fonts_are_even : MergingFontsAreEven
 merging_fonts_are_even t j h =
     let below = all_leaves (Below profile j) t (above profile t j h) in
-    let even = each_even j (leaves t) below in (
-      even_lack_none j (leaves t) even,
-      sym (evened_texts (leaves t)) ∙ even_fonts_stay j (map with_even_texts (leaves t)) even,
+    let even = even_with j (leaves t) below in (
+      even_lack_none (with_even_texts j) (leaves t) even,
+      sym (evened_texts (leaves t)) ∙ even_fonts_stay (with_even_texts j) (map with_even_texts (leaves t)) even,
       even_groupings t j h,
     )

@@ -4,14 +4,17 @@ use Rattle.std.proofs.Common.{unwrap_or}
 use Rattle.std.proofs.lemmas.Bool.{lt-ltb}
 use Rattle.std.specs.FinMap as maps
 use Rattle.std.specs.FinSet as sets
-use Rattle.t1_font.specs.{FontValue.{FontValue, declared_count}, FontModel.{names_in}, Evening.{even, largest_count, evened_shells}, EveningLaws.{IsEvenWith}}
+use Rattle.t1_font.specs.{FontValue.{FontValue, declared_count}, FontModel.{names_in}, Evening.{even, largest_count, each_even, evened_shells}, EveningLaws.{IsEvenWith}}
 use Rattle.t1_font.proofs.MapLemmas.{get-retain}
 use Rattle.t1_algebra.specs.{Keep.{keep, kept}, Profile.{profile}, States.{executes, executed_at}, Searches.{first_where, found}}
 use Rattle.t1_algebra.specs.Lacks.{Lack, user_of, first_below, is_had, lack_at, lack_among, first_lack}
-use Rattle.t1_algebra.specs.Rejoins.{Truncated, IsTruncated, with_even_texts, truncated_fonts}
+use Rattle.t1_algebra.specs.Rejoins.{Truncated, IsTruncated, with_even_texts, truncated_fonts, largest}
 use Rattle.t1_algebra.proofs.Words.{AllByRecursion, nat_list_cmp_total}
 use Rattle.t1_algebra.proofs.{Kept.{kept_call}, Sets.{clash, cases, name_same}}
-use Rattle.t1_algebra.proofs.rejoining.Truncated.{get_font}
+use Rattle.t1_algebra.proofs.rejoining.Truncated.{get_font, shells_are}
+use Rattle.t1_font.specs.IsFont.{IsFont}
+use Rattle.t1_font.specs.FontBoxes.{box_of}
+use Rattle.t1_font.proofs.even_fonts.Boxes.{one_box_stays}
 
 -- ---- where nothing is found
 
@@ -91,11 +94,10 @@ module _ (f : FontValue) where
   each_no_lack most all had (t ∷ ts) w = (no_lack t w.0 most all had, each_no_lack most all had ts w.1)
 
   -- truncated subsets lack no Subr that one of their glyphs executes and another has
-  pub nothing_lacks : (ts : List Truncated) → AllByRecursion (IsTruncated f) ts → first_lack (evened_shells (truncated_fonts ts)) ≡ None
-  nothing_lacks ts w =
-      let most = largest_count (truncated_fonts ts) in
-      let all = map (even most) (truncated_fonts ts) in
-      none_among all all (each_no_lack most all (λ i l. had_there most ts w i l) ts w)
+  pub nothing_lacks : IsFont f → (ts : List Truncated) → AllByRecursion (IsTruncated f) ts → first_lack (evened_shells (truncated_fonts ts)) ≡ None
+  nothing_lacks h ts w =
+      let all = map (even (largest ts)) (truncated_fonts ts) in
+      ap first_lack (shells_are f h ts w) ∙ none_among all all (each_no_lack (largest ts) all (λ i l. had_there (largest ts) ts w i l) ts w)
 
 -- ---- fonts with the same indices
 
@@ -126,6 +128,14 @@ these_indices : (j : FontValue) (n : ℕ) (fs : List FontValue) → AllByRecursi
 these_indices j n [] h = tt
 these_indices j n (f ∷ fs) h = (h.0.present, these_indices j n fs h.1)
 
+same_boxes : (j : FontValue) (n : ℕ) (fs : List FontValue) → AllByRecursion (IsEvenWith j) (map with_even_texts fs) →
+    AllByRecursion (λ g. box_of g.shell ≡ box_of j.shell) (map (even n) fs)
+same_boxes j n [] h = tt
+same_boxes j n (f ∷ fs) h = (h.0.box, same_boxes j n fs h.1)
+
 -- fonts that are even with one of them lack nothing
 pub even_lack_none : (j : FontValue) (fs : List FontValue) → AllByRecursion (IsEvenWith j) (map with_even_texts fs) → first_lack (evened_shells fs) ≡ None
-even_lack_none j fs h = same_indices_lack_none (maps.contains_key j.subrs) (evened_shells fs) (these_indices j (largest_count fs) fs h)
+even_lack_none j fs h =
+    let n = largest_count fs in
+    ap first_lack (one_box_stays (box_of j.shell) (each_even fs) (same_boxes j n fs h))
+    ∙ same_indices_lack_none (maps.contains_key j.subrs) (each_even fs) (these_indices j n fs h)

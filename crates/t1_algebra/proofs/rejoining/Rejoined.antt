@@ -199,7 +199,7 @@ module _ (f : FontValue) (h : IsFont f) (t : Truncated) (ts : List Truncated) (w
       (ap (λ (s : Names). sets.contains s n) (keeps_same profile f h.glyphs.notdef most names low.1 low.0).0 ∙ k)))
 
   pub rejoins : Rejoins f (t ∷ ts)
-  rejoins = record { shared = shared_is; lacks = nothing_lacks f (t ∷ ts) w; subsets = evened_is f h (t ∷ ts) w; merges = all_merged; draws = all_drawn }
+  rejoins = record { shared = shared_is; lacks = nothing_lacks f h (t ∷ ts) w; subsets = evened_is f h (t ∷ ts) w; merges = all_merged; draws = all_drawn }
 
 pub truncated_subsets_rejoin : TruncatedSubsetsRejoin
 truncated_subsets_rejoin = rejoins

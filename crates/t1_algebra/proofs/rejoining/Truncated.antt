@@ -7,7 +7,9 @@ use Rattle.std.specs.FinMap as maps
 use Rattle.t1_font.specs.FontValue.{FontValue, notdef, Shell, SubrsShell, Numbered, declared_count}
 use Rattle.t1_font.proofs.MapLemmas.{get-retain, get-map_values}
 use Rattle.t1_font.specs.{IsFont.{IsFont, SubrsFit, SubrWords}, EvenTexts.{even_texts}, Cut.{stub, restrict_encoding}}
-use Rattle.t1_font.specs.Evening.{raised, even_shell, even, stubs_at, below, with_stubs, filled, largest_count, indices_of_all, evened}
+use Rattle.t1_font.specs.Evening.{raised, even_shell, even, stubs_at, below, with_stubs, filled, largest_count, indices_of_all, evened_shells, filled_all, evened}
+use Rattle.t1_font.specs.FontBoxes.{boxed}
+use Rattle.t1_font.proofs.even_fonts.Boxes.{one_shell_stays}
 use Rattle.t1_algebra.specs.{Keep.{keep, kept, has, charstring, subset}, Profile.{profile}, States.{joined_option}, Laws.{IsOf}}
 use Rattle.t1_algebra.specs.Rejoins.{cut_to, with_even_texts, declares, Truncated, IsTruncated, truncated_fonts, sets_of, largest, shared_font}
 use Rattle.t1_algebra.proofs.{Words.{list_any, AllByRecursion, eq_by_cmp, nat_cmp_total, nat_cmp-IsAntisymmetric, Interpreter, Names}, Kept.{keep_has, kept_call, keeps_alike}}
@@ -306,11 +308,25 @@ module _ (f : FontValue) (h : IsFont f) (most : ℕ) (fits : most ≤ declared_c
   made_subsets [] w = refl
   made_subsets (t ∷ ts) w = λ i. made_subset f h most fits t w.0.0 w.0.1 indices there from i ∷ made_subsets ts w.1 i
 
+-- truncated subsets have the shell of the shared font once they are made even, so they have one box
+module _ (f : FontValue) (h : IsFont f) (most : ℕ) (fits : most ≤ declared_count f.shell.subrs) where
+  one_shell : (ts : List Truncated) → AllByRecursion (Fits f most) ts →
+      AllByRecursion (λ g. g.shell ≡ (first_of most f).shell) (map (even most) (truncated_fonts ts))
+  one_shell [] w = tt
+  one_shell (t ∷ ts) w = (shell_same f h most fits t w.0.0 w.0.1, one_shell ts w.1)
+
+pub shells_are : (f : FontValue) → IsFont f → (ts : List Truncated) → AllByRecursion (IsTruncated f) ts →
+    evened_shells (truncated_fonts ts) ≡ map (even (largest ts)) (truncated_fonts ts)
+shells_are f h ts w =
+    ap (λ (n : ℕ). boxed (map (even n) (truncated_fonts ts))) (largest_is f ts w)
+    ∙ one_shell_stays (first_of (largest ts) f).shell (map (even (largest ts)) (truncated_fonts ts))
+    (one_shell f h (largest ts) (largest_fits f ts w) ts (all_fit f (largest ts) ts (omega arith) w))
+
 -- truncated subsets that are made even are subsets of the shared font
 pub evened_is : (f : FontValue) → IsFont f → (ts : List Truncated) → AllByRecursion (IsTruncated f) ts →
     evened (truncated_fonts ts) ≡ map (subset profile (shared_font f ts)) (sets_of ts)
 evened_is f h ts w =
     let most = largest ts in
-    ap (λ (n : ℕ). map (filled (indices_of_all (map (even n) (truncated_fonts ts)))) (map (even n) (truncated_fonts ts))) (largest_is f ts w)
+    ap filled_all (shells_are f h ts w)
     ∙ made_subsets f h most (largest_fits f ts w) (all_indices f most ts) (λ q lt is. reached f most ts w q lt is)
     (λ q l. from_indices f most ts w q l) ts (all_fit f most ts (omega arith) w)

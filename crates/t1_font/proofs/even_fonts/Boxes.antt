@@ -68,7 +68,7 @@ module _ (u : Box) where
   boxes_copies (f ∷ fs) h = λ i. option_and_then (λ b. option_map (λ bs. b ∷ bs) (boxes_copies fs h.1 i)) (h.0 i)
 
   -- fonts that each have this box, and are not changed by it, stay
-  same_box_stays : (fs : List FontValue) → AllByRecursion (λ f. box_of f.shell ≡ Some u) fs → map (font_with u) fs ≡ fs → boxed fs ≡ fs
+  pub same_box_stays : (fs : List FontValue) → AllByRecursion (λ f. box_of f.shell ≡ Some u) fs → map (font_with u) fs ≡ fs → boxed fs ≡ fs
   same_box_stays [] h k = refl
   same_box_stays (f ∷ fs) h k =
       ap (boxed_by (f ∷ fs)) (boxes_copies (f ∷ fs) h)
@@ -91,18 +91,18 @@ module _ (u : Box) where
             ap (with_texts f) (ap (texts_with u (texts_at u x s)) r ∙ there_again u u x s),
           )
 
-  have_it : (fs : List FontValue) → list_all (can_have u) fs ≡ true → AllByRecursion (λ f. box_of f.shell ≡ Some u) (map (font_with u) fs)
+  pub have_it : (fs : List FontValue) → list_all (can_have u) fs ≡ true → AllByRecursion (λ f. box_of f.shell ≡ Some u) (map (font_with u) fs)
   have_it [] h = tt
   have_it (f ∷ fs) h = let both = and_parts (can_have u f) (list_all (can_have u) fs) h in ((has_it f both.0).0, have_it fs both.1)
 
-  keep_it : (fs : List FontValue) → list_all (can_have u) fs ≡ true → map (font_with u) (map (font_with u) fs) ≡ map (font_with u) fs
+  pub keep_it : (fs : List FontValue) → list_all (can_have u) fs ≡ true → map (font_with u) (map (font_with u) fs) ≡ map (font_with u) fs
   keep_it [] h = refl
   keep_it (f ∷ fs) h = let both = and_parts (can_have u f) (list_all (can_have u) fs) h in λ i. (has_it f both.0).1 i ∷ keep_it fs both.1 i
 
 -- ---- what is true of the list that is made
 
 -- a fact of a list that stays, and of one that gets one box, is true of the list that is made
-by_cases : (P : List FontValue → Type 0) (fs : List FontValue) → (boxed fs ≡ fs → P fs) →
+pub by_cases : (P : List FontValue → Type 0) (fs : List FontValue) → (boxed fs ≡ fs → P fs) →
     ((bs : List Box) → boxes_of fs ≡ Some bs → list_all (can_have (joined_box bs)) fs ≡ true → P (map (font_with (joined_box bs)) fs)) → P (boxed fs)
 by_cases P fs stays made = by_boxes (boxes_of fs) refl
   where
@@ -128,7 +128,7 @@ same_rest u (f ∷ fs) = ap (λ (gs : List FontValue). without_clear f ∷ gs) (
 pub boxed_keeps : BoxedKeeps
 boxed_keeps fs = by_cases (λ gs. map without_clear gs ≡ map without_clear fs) fs (λ h. refl) (λ bs e t. same_rest (joined_box bs) fs)
 
--- ---- fonts of one shell
+-- ---- fonts of one box
 
 own_font : (f : FontValue) (b : Box) → box_of f.shell ≡ Some b → font_with b f ≡ f
 own_font f b e = λ i. record { shell = own_box f.shell b e i; encoding = f.encoding; subrs = f.subrs; glyphs = f.glyphs }
@@ -137,18 +137,18 @@ own_fonts : (b : Box) (fs : List FontValue) → AllByRecursion (λ f. box_of f.s
 own_fonts b [] h = refl
 own_fonts b (f ∷ fs) h = λ i. own_font f b h.0 i ∷ own_fonts b fs h.1 i
 
-pub one_shell_stays : OneShellStays
-one_shell_stays s [] h = refl
-one_shell_stays s (f ∷ fs) h = by_box (box_of s) refl
-  where
-    all_have : (b : Box) → box_of s ≡ Some b → (gs : List FontValue) → AllByRecursion (λ g. g.shell ≡ s) gs → AllByRecursion (λ g. box_of g.shell ≡ Some b) gs
-    all_have b e [] k = tt
-    all_have b e (g ∷ gs) k = (ap box_of k.0 ∙ e, all_have b e gs k.1)
+-- fonts that have the same box, or have none, stay
+pub one_box_stays : (o : Option Box) (fs : List FontValue) → AllByRecursion (λ f. box_of f.shell ≡ o) fs → boxed fs ≡ fs
+one_box_stays o [] h = refl
+one_box_stays None (f ∷ fs) h = ap (λ (o : Option Box). boxed_by (f ∷ fs) (option_and_then (λ b. option_map (λ bs. b ∷ bs) (boxes_of fs)) o)) h.0
+one_box_stays (Some b) (f ∷ fs) h = same_box_stays b (f ∷ fs) h (own_fonts b (f ∷ fs) h)
 
-    by_box : (o : Option Box) → box_of s ≡ o → boxed (f ∷ fs) ≡ f ∷ fs
-    by_box None e =
-        ap (λ (o : Option Box). boxed_by (f ∷ fs) (option_and_then (λ b. option_map (λ bs. b ∷ bs) (boxes_of fs)) o)) (ap box_of h.0 ∙ e)
-    by_box (Some b) e = let have = all_have b e (f ∷ fs) h in same_box_stays b (f ∷ fs) have (own_fonts b (f ∷ fs) have)
+same_boxes : (s : Shell) (fs : List FontValue) → AllByRecursion (λ f. f.shell ≡ s) fs → AllByRecursion (λ f. box_of f.shell ≡ box_of s) fs
+same_boxes s [] h = tt
+same_boxes s (f ∷ fs) h = (ap box_of h.0, same_boxes s fs h.1)
+
+pub one_shell_stays : OneShellStays
+one_shell_stays s fs h = one_box_stays (box_of s) fs (same_boxes s fs h)
 
 -- ---- even texts
 
@@ -170,7 +170,7 @@ even_with s x e h = λ i. record {
   glyphs_def = s.glyphs_def;
 }
 
-even_still : (u : Box) (f : FontValue) → can_have u f ≡ true → even_texts f.shell ≡ f.shell → even_texts (with_box u f.shell) ≡ with_box u f.shell
+pub even_still : (u : Box) (f : FontValue) → can_have u f ≡ true → even_texts f.shell ≡ f.shell → even_texts (with_box u f.shell) ≡ with_box u f.shell
 even_still u f h e = by_side (side_in (clear_of f.shell)) h
   where
     by_side : (o : Option Side) → can_have_at u f o ≡ true →

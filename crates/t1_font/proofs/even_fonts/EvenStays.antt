@@ -1,19 +1,24 @@
 -- A font that is even stays as it is, and so do fonts that are even with each other.
 use Rattle.std.proofs.Common.{◌≡◌, ℕ, ◌≤◌, arith, Bool, true, false, cond, ◌||◌, List, [], ◌∷◌, map, Option, Some, None, is_some, refl, sym, ap, ◌∙◌, true≢false}
 use Rattle.std.specs.Prelude.{max, nat_lt}
-use Rattle.std.specs.List.{AllByRecursion}
+use Rattle.std.specs.List.{AllByRecursion, list_all}
+use Rattle.std.proofs.lemmas.Bool.{and_parts}
+use Rattle.t1_font.specs.EvenTexts.{even_texts}
+use Rattle.t1_font.specs.FontBoxes.{Box, box_of, joined_box, can_have, font_with, boxed}
 use Rattle.std.specs.Option.{option_map}
 use Rattle.std.specs.Cmp.{nat_cmp_total}
 use Rattle.std.specs.FinMap.{get, entries, keys, contains_key, contains_key-keys, get-from_entries, same_map, nat_cmp-IsAntisymmetric}
 use Rattle.t1_font.specs.FontValue.{FontValue, SubrsShell, Numbered, declared_count}
 use Rattle.t1_font.specs.Cut.{stub}
 use Rattle.t1_font.specs.Maps.{merged}
-use Rattle.t1_font.specs.Evening.{raised, even, stubs_at, below, with_stubs, filled, largest_count, indices_of_all, evened_shells, filled_all, evened}
+use Rattle.t1_font.specs.Evening.{raised, even, stubs_at, below, with_stubs, filled, largest_count, indices_of_all, each_even, evened_shells, filled_all, evened}
 use Rattle.t1_font.specs.EveningLaws.{EvenStays, FilledStays, EvenedTwice, IsEvenWith, EvenFontsStay}
 use Rattle.t1_font.proofs.MapLemmas.{joined, get-merged, get-retain}
 use Rattle.t1_font.proofs.even_fonts.Evened.{stubs_below}
 use Rattle.t1_font.proofs.even_fonts.Filled.{is_one, find_stub, indices_next}
 use Rattle.t1_font.proofs.even_fonts.EvenTexts.{even_texts_stay}
+use Rattle.t1_font.proofs.even_fonts.Boxes.{by_cases, even_still, one_box_stays}
+use Rattle.t1_font.proofs.even_fonts.Boxing.{filled_boxed}
 
 max_small : (n m : ℕ) → n ≤ m → max n m ≡ m
 max_small n m h = omega (arith, h)
@@ -98,8 +103,9 @@ each_stays g (f ∷ fs) h = λ i. h.0 i ∷ each_stays g fs h.1 i
 pub even_fonts_stay : EvenFontsStay
 even_fonts_stay f fs h =
     let counts = counts_below (declared_count f.shell.subrs) fs (all_of (λ g (e : IsEvenWith f g). e.count) fs h) in
-    let shells : evened_shells fs ≡ fs = each_stays (even (largest_count fs)) fs
+    let each : each_even fs ≡ fs = each_stays (even (largest_count fs)) fs
     (all_of (λ g (e : IsEvenWith f g). even_stays (largest_count fs) g e.texts (omega (arith, counts, e.count))) fs h) in
+    let shells : evened_shells fs ≡ fs = ap boxed each ∙ one_box_stays (box_of f.shell) fs (all_of (λ g (e : IsEvenWith f g). e.box) fs h) in
     let own = indices_in f.subrs fs (all_of (λ g (e : IsEvenWith f g). e.present) fs h) in
     ap filled_all shells
     ∙ each_stays (filled (indices_of_all fs)) fs (all_of (λ g (e : IsEvenWith f g). font_stays g (indices_of_all fs) (λ q one. e.present q ∙ own q one)) fs h)
@@ -110,30 +116,57 @@ raised_twice : (n k : ℕ) (o : Option SubrsShell) → n ≤ k → option_map (r
 raised_twice n k None h = refl
 raised_twice n k (Some t) h = λ i. Some (record { declared = max_small n (max k t.declared) (omega (arith, h)) i; rd = t.rd; put = t.put; closing = t.closing })
 
--- a font that was made even and filled stays when it is made even again
-even_twice : (n k : ℕ) (indices : List ℕ) (f : FontValue) → n ≤ k → even n (filled indices (even k f)) ≡ filled indices (even k f)
-even_twice n k indices f h = λ i. record {
-  shell = record (even_texts_stay f.shell i) { subrs = raised_twice n k f.shell.subrs h i };
-  encoding = f.encoding;
-  subrs = with_stubs (below (declared_count (option_map (raised k) f.shell.subrs)) indices) f.subrs (entries f.subrs);
-  glyphs = f.glyphs;
-}
+raised_count : (n : ℕ) (o : Option SubrsShell) → declared_count o ≤ n → declared_count (option_map (raised n) o) ≤ n
+raised_count n None h = omega arith
+raised_count n (Some t) h = omega (arith, h)
 
-raised_count : (k : ℕ) (o : Option SubrsShell) → declared_count o ≤ k → declared_count (option_map (raised k) o) ≤ k
-raised_count k None h = omega arith
-raised_count k (Some t) h = omega (arith, h)
+-- a font of even texts, which declares n Subrs if it has a table
+record IsEven (n : ℕ) (f : FontValue) : Type 0 where
+  texts : even_texts f.shell ≡ f.shell
+  table : (k : ℕ) → k ≤ n → option_map (raised k) f.shell.subrs ≡ f.shell.subrs
+  count : declared_count f.shell.subrs ≤ n
 
-counts_again : (k : ℕ) (indices : List ℕ) (fs : List FontValue) → largest_count fs ≤ k → largest_count (map (filled indices) (map (even k) fs)) ≤ k
-counts_again k indices [] h = omega arith
-counts_again k indices (f ∷ fs) h =
-    let own = raised_count k f.shell.subrs (omega (arith, h)) in
-    let rest = counts_again k indices fs (omega (arith, h)) in
-    omega (arith, own, rest)
+module _ (n : ℕ) where
+  -- fonts made even are
+  made_even : (fs : List FontValue) → largest_count fs ≤ n → AllByRecursion (IsEven n) (map (even n) fs)
+  made_even [] h = tt
+  made_even (f ∷ fs) h = (
+    record {
+      texts = λ i. record (even_texts_stay f.shell i) { subrs = option_map (raised n) f.shell.subrs };
+      table = λ k le. raised_twice k n f.shell.subrs le;
+      count = raised_count n f.shell.subrs (omega (arith, h));
+    },
+    made_even fs (omega (arith, h)),
+  )
 
-shells_twice : (n k : ℕ) (indices : List ℕ) (fs : List FontValue) → n ≤ k →
-    map (even n) (map (filled indices) (map (even k) fs)) ≡ map (filled indices) (map (even k) fs)
-shells_twice n k indices [] h = refl
-shells_twice n k indices (f ∷ fs) h = λ i. even_twice n k indices f h i ∷ shells_twice n k indices fs h i
+  -- and so with one box
+  box_even : (u : Box) (fs : List FontValue) → list_all (can_have u) fs ≡ true → AllByRecursion (IsEven n) fs → AllByRecursion (IsEven n) (map (font_with u) fs)
+  box_even u [] t h = tt
+  box_even u (f ∷ fs) t h =
+      let both = and_parts (can_have u f) (list_all (can_have u) fs) t in
+      (record { texts = even_still u f both.0 h.0.texts; table = h.0.table; count = h.0.count }, box_even u fs both.1 h.1)
+
+  boxed_even : (fs : List FontValue) → AllByRecursion (IsEven n) fs → AllByRecursion (IsEven n) (boxed fs)
+  boxed_even fs h = by_cases (AllByRecursion (IsEven n)) fs (λ _. h) (λ bs e t. box_even (joined_box bs) fs t h)
+
+  -- and filled
+  filled_even : (indices : List ℕ) (fs : List FontValue) → AllByRecursion (IsEven n) fs → AllByRecursion (IsEven n) (map (filled indices) fs)
+  filled_even indices [] h = tt
+  filled_even indices (f ∷ fs) h = (record { texts = h.0.texts; table = h.0.table; count = h.0.count }, filled_even indices fs h.1)
+
+  counts_small : (fs : List FontValue) → AllByRecursion (IsEven n) fs → largest_count fs ≤ n
+  counts_small [] h = omega arith
+  counts_small (f ∷ fs) h = let rest = counts_small fs h.1 in omega (arith, h.0.count, rest)
+
+  -- they stay when they are made even again
+  stay_even : (k : ℕ) (fs : List FontValue) → k ≤ n → AllByRecursion (IsEven n) fs → map (even k) fs ≡ fs
+  stay_even k [] le h = refl
+  stay_even k (f ∷ fs) le h = λ i. record {
+    shell = record (h.0.texts i) { subrs = h.0.table k le i };
+    encoding = f.encoding;
+    subrs = f.subrs;
+    glyphs = f.glyphs;
+  } ∷ stay_even k fs le h.1 i
 
 -- the indices of both are among the indices of all
 abbrev pub Among : List ℕ → List ℕ → Type 0
@@ -204,5 +237,7 @@ pub evened_twice : EvenedTwice
 evened_twice fs =
     let n = largest_count fs in
     let indices = indices_of_all (evened_shells fs) in
-    let shells : evened_shells (evened fs) ≡ evened fs = shells_twice (largest_count (evened fs)) n indices fs (counts_again n indices fs (omega arith)) in
+    let all = filled_even n indices (evened_shells fs) (boxed_even n (each_even fs) (made_even n fs (omega arith))) in
+    let each : each_even (evened fs) ≡ evened fs = stay_even n (largest_count (evened fs)) (evened fs) (counts_small n (evened fs) all) all in
+    let shells : evened_shells (evened fs) ≡ evened fs = ap boxed each ∙ filled_boxed indices (each_even fs) in
     ap filled_all shells ∙ fill_twice indices (indices_of_all (evened fs)) (indices_again indices (evened_shells fs) (λ q h. h)) (evened_shells fs)

@@ -4,7 +4,7 @@ use Rattle.std.specs.Vec.Iter.{into_iter_items}
 use Rattle.t1_font.specs.FontValue.{FontValue}
 use Rattle.t1_font.specs.Evening.{even, largest_count}
 use Rattle.t1_font.proofs.Drains.{moved, all_moved}
-use Rattle.t1_font.proofs.evening.even_shells.Goals as goal
+use Rattle.t1_font.proofs.evening.each_even.Goals as goal
 
 pub sources-init : goal.sources-init
 sources-init c = ap (λ (items : List FontValue). items ++ map (even c.largest_count-declared.result) (into_iter_items c.into_iter-source-iterator.result))

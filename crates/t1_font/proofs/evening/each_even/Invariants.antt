@@ -1,7 +1,7 @@
 use Rattle.std.proofs.Common.{◌≡◌, ◌++◌, map}
 use Rattle.std.specs.Vec.Iter.{into_iter_items}
 use Rattle.t1_font.specs.Evening.{even}
-use Rattle.t1_font.proofs.evening.even_shells.Given as goal
+use Rattle.t1_font.proofs.evening.each_even.Given as goal
 
 abbrev pub invariant-sources : goal.invariant-sources
 invariant-sources l =
