@@ -76,8 +76,9 @@ shared_font f ts = cut_to (largest ts) (with_even_texts f)
 abbrev pub rejoined : FontValue → List Truncated → FontValue
 rejoined f ts = cut_to (largest ts) (with_even_texts (subset profile f (names_of_all ts)))
 
--- No glyph of a truncated subset executes a Subr that its font lacks and another has. Made even, they are subsets of one font; in every order and grouping they merge to the subset over all the names, cut to the largest of the
--- counts and with even texts, and to nothing else; each kept glyph draws in it as in the font.
+-- No glyph of a truncated subset executes a Subr that its font lacks and another has. Made even, they are subsets of one font; in every order and grouping
+-- they merge to the subset over all the names, cut to the largest of the counts and with even texts, and to nothing else; each kept glyph draws in it as in
+-- the font.
 pub record Rejoins (f : FontValue) (ts : List Truncated) : Type 0 where
   pub shared : IsFont (shared_font f ts)
   pub lacks : first_lack (evened_shells (truncated_fonts ts)) ≡ None
@@ -91,8 +92,8 @@ TruncatedSubsetsRejoin = (f : FontValue) → IsFont f → (t : Truncated) (ts : 
 
 -- ---- fonts that merge
 
--- Fonts that merge in some order and grouping lack nothing, are made even by their texts alone, and then merge in the same order and grouping to what they merged to, with
--- even texts.
+-- Fonts that merge in some order and grouping lack nothing, are made even by their texts alone, and then merge in the same order and grouping to what they
+-- merged to, with even texts.
 abbrev pub MergingFontsAreEven : Type 0
 MergingFontsAreEven = (t : Grouping FontValue) (j : FontValue) → Merges profile t j →
     (first_lack (evened_shells (leaves t)) ≡ None) × (evened (leaves t) ≡ map with_even_texts (leaves t))

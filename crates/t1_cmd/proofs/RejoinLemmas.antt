@@ -57,7 +57,8 @@ pub lack_told : (form : Form) (fs : List FontValue) (lack : Lack) → first_lack
 lack_told form fs lack is = subst (λ (o : Option Lack). RejoinsUnless o form fs (Err (Lacks lack.1 lack.0))) (sym is) refl
 
 -- fonts that rejoin are refused for want of memory alone
-apart_so : (form : Form) (fs : List FontValue) (text : List ℕ) (r : Reason) → RejoinsUnless None form fs (Ok text) → RejoinsUnless None form fs (Err r) → r ≡ Memory
+apart_so : (form : Form) (fs : List FontValue) (text : List ℕ) (r : Reason) → RejoinsUnless None form fs (Ok text) →
+    RejoinsUnless None form fs (Err r) → r ≡ Memory
 apart_so form fs text r (inl a) (inl b) = merges_apart form (evened fs) text r a.1 b.1
 apart_so form fs text r (inl a) (inr b) = absurd (light_or_heavy (evened fs) a.0 b.0)
 apart_so form fs text r (inr a) k = absurd a.1

@@ -124,7 +124,7 @@ pub fn rejoin_files(alloc: Global, files: &[&[u8]], form: Form) -> Result<Vec<u8
 
 /// Writes the canonical file, in one of the two forms, of the font that fonts come to when they are made even and then
 /// merged from left to right. Fonts of one parent that other programs cut differ in white space, in lines that number the font
-/// and in tags before its name, and declare no Subrs after the last one used.
+/// and in tags before its name, declare no Subrs after the last one used, and have boxes of their own where they were converted.
 ///
 /// The inputs are read and understood one after the other, and then made even and merged. If several things are wrong, the
 /// first in that order is answered. Before fonts are merged, a glyph that executes a Subr which its font lacks and another

@@ -1,6 +1,6 @@
 -- Boxes and their places as the code has them, without where they lie in memory.
-use Rattle.t1_font.specs.declared.font_boxes.FontBox.{FontBox}
-use Rattle.t1_font.specs.declared.font_boxes.KeptBox.{KeptBox}
+use Rattle.t1_font.specs.declared.joined_boxes.FontBox.{FontBox}
+use Rattle.t1_font.specs.declared.joined_boxes.KeptBox.{KeptBox}
 use Rattle.t1_font.specs.declared.font_boxes.Numbers.{Numbers as CodeNumbers}
 use Rattle.t1_font.specs.declared.font_boxes.Place.{Place as CodePlace}
 use Rattle.t1_font.specs.declared.font_boxes.Side.{Side as CodeSide}

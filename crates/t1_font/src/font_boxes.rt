@@ -15,21 +15,13 @@ ghost use Rattle.t1_font.specs.BoxViews.{box_view, kept_view, numbers_view, plac
 use crate::even_texts::{ClearTexts, both_fit, even_clear, same_both};
 use crate::evening::keep;
 use crate::file::are_bytes;
+use crate::joined_boxes::{FontBox, KeptBox, joined_box};
 use crate::limits::WEIGHT_LIMIT;
-use crate::numbers::{greater, is_zero, lesser, number_at};
+use crate::numbers::number_at;
 use crate::shell::Shell;
 use crate::source::{Source, SourceParts, glyphs_weight, subrs_weight};
 use std::alloc::{AllocError, Global};
 use t1_bytes::texts::{count_at, find_from, fixed_at, gap_at, white_at};
-
-/// The numbers of a box, as they are spelled.
-#[derive(Clone, Copy)]
-struct FontBox<'a> {
-    llx: &'a [u8],
-    lly: &'a [u8],
-    urx: &'a [u8],
-    ury: &'a [u8],
-}
 
 /// Four numbers, and what stands between them.
 #[derive(Clone, Copy)]
@@ -293,7 +285,9 @@ fn stays_at<'a>(sides: FontBox<'a>, texts: &ClearTexts, side: Side<'a>) -> bool
 
 /// Whether two texts stay when they are made even.
 fn are_even(alloc: Global, texts: &ClearTexts) -> Result<bool, AllocError>
-    ensures { IfOk result (λ b. b ≡ same_both (even_clear (texts.now.head.items, texts.now.clear_tail.items)) (texts.now.head.items, texts.now.clear_tail.items)) }
+    ensures { IfOk result (λ b. b
+        ≡ same_both (even_clear (texts.now.head.items, texts.now.clear_tail.items))
+        (texts.now.head.items, texts.now.clear_tail.items)) }
 {
     let head = texts.head.as_slice();
     let clear_tail = texts.clear_tail.as_slice();
@@ -457,123 +451,6 @@ fn boxes_of(alloc: Global, sources: &[Source]) -> Result<Option<Vec<FontBox<'_>>
         }
     }
     Ok(Some(boxes))
-}
-
-/// Whether a box says that nothing is known.
-fn says_nothing(sides: FontBox<'_>) -> bool
-    ensures { result ≡ says_nothing (box_view sides.entry) }
-{
-    is_zero(sides.llx) && is_zero(sides.lly) && is_zero(sides.urx) && is_zero(sides.ury)
-}
-
-/// Whether one of some boxes says that nothing is known.
-fn any_says_nothing(boxes: &[FontBox<'_>]) -> bool
-    ensures { result ≡ list_any says_nothing (map box_view boxes.now) }
-{
-    'boxes: for sides in boxes {
-        if says_nothing(*sides) {
-            return true;
-        }
-    }
-    false
-}
-
-/// Those of some boxes that say that nothing is known.
-fn saying_nothing<'a>(alloc: Global, boxes: &[FontBox<'a>]) -> Result<Vec<FontBox<'a>>, AllocError>
-    ensures { IfOk result (λ v. map box_view v.items ≡ filter says_nothing (map box_view boxes.now)) }
-{
-    let mut found = Vec::new(alloc);
-    'boxes: for sides in boxes {
-        if says_nothing(*sides) {
-            found.push(*sides)?;
-        }
-    }
-    Ok(found)
-}
-
-/// The least box that holds two.
-fn both_held<'a>(b: FontBox<'a>, c: FontBox<'a>) -> FontBox<'a>
-    ensures { box_view result ≡ held (box_view b.entry ∷ box_view c.entry ∷ []) }
-{
-    FontBox {
-        llx: lesser(b.llx, c.llx),
-        lly: lesser(b.lly, c.lly),
-        urx: greater(b.urx, c.urx),
-        ury: greater(b.ury, c.ury),
-    }
-}
-
-/// The least box that holds one and some others.
-fn held_with<'a>(first: FontBox<'a>, others: &[FontBox<'a>]) -> FontBox<'a>
-    ensures { box_view result ≡ held (box_view first.entry ∷ map box_view others.now) }
-{
-    let mut joined = first;
-    'boxes: for sides in others {
-        joined = both_held(joined, *sides);
-    }
-    joined
-}
-
-/// The least box that holds some.
-fn held<'a>(boxes: &[FontBox<'a>]) -> FontBox<'a>
-    ensures { box_view result ≡ held (map box_view boxes.now) }
-{
-    match boxes.split_first() {
-        Some((first, others)) => held_with(*first, others),
-        None => FontBox {
-            llx: b"",
-            lly: b"",
-            urx: b"",
-            ury: b"",
-        },
-    }
-}
-
-/// A box that owns the spellings of its numbers.
-#[derive(Drop)]
-struct KeptBox {
-    llx: Vec<u8>,
-    lly: Vec<u8>,
-    urx: Vec<u8>,
-    ury: Vec<u8>,
-}
-
-impl KeptBox {
-    /// A copy of a box.
-    fn copied(alloc: Global, sides: FontBox<'_>) -> Result<KeptBox, AllocError>
-        ensures { IfOk result (λ b. kept_view b ≡ box_view sides.entry) }
-    {
-        Ok(KeptBox {
-            llx: Vec::from_slice(alloc, sides.llx)?,
-            lly: Vec::from_slice(alloc, sides.lly)?,
-            urx: Vec::from_slice(alloc, sides.urx)?,
-            ury: Vec::from_slice(alloc, sides.ury)?,
-        })
-    }
-
-    /// The box, borrowed.
-    fn lent(&self) -> FontBox<'_>
-        ensures { box_view result ≡ kept_view self.now }
-    {
-        FontBox {
-            llx: self.llx.as_slice(),
-            lly: self.lly.as_slice(),
-            urx: self.urx.as_slice(),
-            ury: self.ury.as_slice(),
-        }
-    }
-}
-
-/// The one box for some.
-fn joined_box(alloc: Global, boxes: &[FontBox<'_>]) -> Result<KeptBox, AllocError>
-    ensures { IfOk result (λ b. kept_view b ≡ joined_box (map box_view boxes.now)) }
-{
-    if any_says_nothing(boxes) {
-        let nothing = saying_nothing(alloc, boxes)?;
-        KeptBox::copied(alloc, held(nothing.as_slice()))
-    } else {
-        KeptBox::copied(alloc, held(boxes))
-    }
 }
 
 /// The one box for some sources, if each has a box.

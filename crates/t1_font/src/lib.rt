@@ -32,6 +32,7 @@ mod font_boxes;
 mod font_test;
 mod gathered;
 mod glyphs;
+mod joined_boxes;
 pub mod laws;
 mod lent;
 mod limits;

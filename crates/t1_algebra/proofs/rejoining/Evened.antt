@@ -6,7 +6,8 @@ use Rattle.t1_run.proofs.Grown.{runs_with_more, draws_with_more}
 use Rattle.t1_join.specs.Groupings.{Grouping, one, two, leaves, map_grouping}
 use Rattle.t1_join.proofs.OrderLemmas.{all_leaves}
 use Rattle.t1_font.specs.{FontValue.{FontValue, SubrsShell, Numbered, declared_count, Shell}, FontModel.{subr_at}}
-use Rattle.t1_font.specs.{Evening.{raised, even, stubs_at, with_stubs, filled, largest_count, indices_of_all, each_even, evened_shells, filled_all, evened}, EvenTexts.{even_texts}, EveningLaws.{IsEvenWith}}
+use Rattle.t1_font.specs.{EvenTexts.{even_texts}, EveningLaws.{IsEvenWith}}
+use Rattle.t1_font.specs.Evening.{raised, even, stubs_at, with_stubs, filled, largest_count, indices_of_all, each_even, evened_shells, filled_all, evened}
 use Rattle.t1_font.specs.FontBoxes.{Box, joined_box, box_of, font_with, boxed}
 use Rattle.t1_font.proofs.even_fonts.{EvenStays.{even_fonts_stay}, Boxes.{by_cases}, EvenTexts.{even_texts_stay, even_shorter}}
 use Rattle.t1_algebra.specs.{Evened.{StaysDrawn, map_subrs, AllStayDrawn, EachBeside, EvenedDraw}, Rejoins.{with_even_texts, MergingFontsAreEven}}
@@ -126,7 +127,8 @@ counts_same (f ∷ fs) = ap (max (declared_count f.shell.subrs)) (counts_same fs
 -- fonts are made even as they are with even texts
 evened_texts : (fs : List FontValue) → evened (map with_even_texts fs) ≡ evened fs
 evened_texts fs =
-    ap (λ (gs : List FontValue). filled_all (boxed gs)) (ap (λ (n : ℕ). map (even n) (map with_even_texts fs)) (counts_same fs) ∙ texts_first (largest_count fs) fs)
+    ap (λ (gs : List FontValue). filled_all (boxed gs))
+    (ap (λ (n : ℕ). map (even n) (map with_even_texts fs)) (counts_same fs) ∙ texts_first (largest_count fs) fs)
 
 -- fonts whose states are among those of one font are even with it, both with even texts
 even_with : (j : FontValue) (fs : List FontValue) → AllByRecursion (Below profile j) fs →

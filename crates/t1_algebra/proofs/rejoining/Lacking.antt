@@ -67,10 +67,12 @@ module _ (f : FontValue) where
       executes_same = (profile.local f.subrs t.font.subrs c executed_there).1
 
       -- and lacks none that the font has
-      none_lacking : (i : ℕ) → maps.contains_key f.subrs i ≡ true → maps.contains_key t.font.subrs i ≡ false → sets.contains (profile.exec t.font.subrs c) i ≡ false
+      none_lacking : (i : ℕ) → maps.contains_key f.subrs i ≡ true → maps.contains_key t.font.subrs i ≡ false →
+          sets.contains (profile.exec t.font.subrs c) i ≡ false
       none_lacking i has lacks = grind (cases, has, lacks, ap (λ s. sets.contains s i) executes_same, executed_there i)
 
-    nobody_executes : (i : ℕ) → maps.contains_key f.subrs i ≡ true → maps.contains_key t.font.subrs i ≡ false → (n : List ℕ) → executes profile t.font n i ≡ false
+    nobody_executes : (i : ℕ) → maps.contains_key f.subrs i ≡ true → maps.contains_key t.font.subrs i ≡ false → (n : List ℕ) →
+        executes profile t.font n i ≡ false
     nobody_executes i has lacks n = by (maps.get t.font.glyphs n) refl
       where
         by : (o : Option (List ℕ)) → maps.get t.font.glyphs n ≡ o → executed_at profile t.font i o ≡ false

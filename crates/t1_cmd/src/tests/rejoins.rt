@@ -1,5 +1,5 @@
 //! Fonts that were cut as other programs cut them, and rejoined.
-use super::changed::{cut_short, tagged, tiny_changed};
+use super::changed::{cut_short, tagged, tiny_changed, with_all};
 use super::engines::{Engine, answer};
 use super::subsets::subset;
 use super::{FINE, Feed, Plan, Sink, line_of, word};
@@ -75,6 +75,20 @@ fn cuts_of_different_programs(rt: HostRuntime) -> Result<(), Fail> {
     assert!(rt; two.as_slice() == want.as_slice(), "other and left");
     let whole = rejoined(rt.alloc(), other.as_slice(), PFA);
     assert!(rt; whole.as_slice() == PFA.as_slice(), "other and Tiny");
+    Ok(())
+}
+
+#[test]
+fn cuts_with_boxes_of_their_own(rt: HostRuntime) -> Result<(), Fail> {
+    const TINY: &[u8] = b"{0 0 500 700}";
+    let (left, right, both) = (left(rt.alloc())?, right(rt.alloc())?, both(rt.alloc())?);
+    let left = with_all(rt.alloc(), left.as_slice(), TINY, b"{0 -10 400.0 700}")?;
+    let right = with_all(rt.alloc(), right.as_slice(), TINY, b"{+0 0 500 650}")?;
+    let want = with_all(rt.alloc(), both.as_slice(), TINY, b"{0 -10 500 700}")?;
+    let one = rejoined(rt.alloc(), left.as_slice(), right.as_slice());
+    assert!(rt; one.as_slice() == want.as_slice(), "left and right");
+    let other = rejoined(rt.alloc(), right.as_slice(), left.as_slice());
+    assert!(rt; other.as_slice() == want.as_slice(), "right and left");
     Ok(())
 }
 

@@ -65,6 +65,7 @@ boxed_so fs u one can = by_boxes (boxes_of fs) refl one
         ∙ (sym (cond-true (list_all (can_have u) fs) (map (font_with u) fs) fs can) ∙ ap (λ (v : Box). all_with v fs) is)
 
 -- sources that are these fonts are those fonts
-pub same_fonts : {E : Type 0} (r : Result (Vec FontValue) E) (fs gs : List FontValue) → fs ≡ gs → IfOk r (λ all. all.items ≡ fs) → IfOk r (λ all. all.items ≡ gs)
+pub same_fonts : {E : Type 0} (r : Result (Vec FontValue) E) (fs gs : List FontValue) → fs ≡ gs → IfOk r (λ all. all.items ≡ fs) →
+    IfOk r (λ all. all.items ≡ gs)
 same_fonts (Ok all) fs gs e h = h ∙ e
 same_fonts (Err fault) fs gs e h = h

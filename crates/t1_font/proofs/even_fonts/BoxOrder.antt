@@ -145,7 +145,8 @@ module _ (cmp : List ℕ → List ℕ → Ordering) (total : IsTotalOrder cmp) (
     found_in [] m h = absurd h
     found_in (b ∷ bs) m h = by_test (q b) refl h (found_in bs m)
       where
-        by_test : (t : Bool) → q b ≡ t → In m (map word (cond t (b ∷ filter q bs) (filter q bs))) → (In m (map word (filter q bs)) → Found bs m) → Found (b ∷ bs) m
+        by_test : (t : Bool) → q b ≡ t → In m (map word (cond t (b ∷ filter q bs) (filter q bs))) →
+            (In m (map word (filter q bs)) → Found bs m) → Found (b ∷ bs) m
         by_test true e (inl k) later = (b, Contains-append_left (b ∷ []) bs b (Contains-push [] b), e, sym k)
         by_test true e (inr k) later = found_later b bs m (later k)
         by_test false e k later = found_later b bs m (later k)

@@ -1,6 +1,5 @@
 -- Fonts with one box stay as they are when they are filled and get one box again.
-use Rattle.std.proofs.Common.{◌≡◌, ℕ, ◌≤◌, ◌+◌, arith, Bool, true, false, List, [], ◌∷◌, map, Option, Some, None, refl, sym, ap, ◌∙◌, true≢false}
-use Rattle.std.specs.Prelude.{◌&&◌, nat_le}
+use Rattle.std.proofs.Common.{◌≡◌, ℕ, ◌≤◌, arith, true, List, [], ◌∷◌, map, Option, Some, None, refl, sym, ap, ◌∙◌}
 use Rattle.std.specs.List.{AllByRecursion, list_all}
 use Rattle.std.specs.Option.{option_map, option_and_then}
 use Rattle.std.specs.Cmp.{nat_cmp_total}
@@ -8,9 +7,8 @@ use Rattle.std.specs.FinMap.{get, entries, nat_cmp-IsAntisymmetric}
 use Rattle.std.proofs.lemmas.Bool.{cond-true, and_parts, and_from, leb-true, le-leb}
 use Rattle.t1_font.specs.FontValue.{FontValue, Numbered, declared_count, total, subr_weight, weight, weight_limit}
 use Rattle.t1_font.specs.Maps.{merged}
-use Rattle.t1_font.specs.EvenTexts.{same_both, both_fit, even_clear}
 use Rattle.t1_font.specs.Evening.{stubs_at, below, with_stubs, filled}
-use Rattle.t1_font.specs.FontBoxes.{Box, Side, joined_box, side_in, texts_at, clear_of, with_texts, stays_at, can_take, can_have_at, can_have, box_of, boxes_of, font_with, boxed_by, boxed}
+use Rattle.t1_font.specs.FontBoxes.{Box, Side, joined_box, side_in, texts_at, clear_of, with_texts, can_take, can_have_at, can_have, box_of, boxes_of, font_with, boxed_by, boxed}
 use Rattle.t1_font.proofs.MapLemmas.{joined, get-merged, total-le}
 use Rattle.t1_font.proofs.even_fonts.BoxFonts.{taken_so}
 use Rattle.t1_font.proofs.even_fonts.Boxes.{by_cases, same_box_stays, have_it, keep_it}
@@ -23,7 +21,8 @@ heavier_subrs : (len_iv : ℕ) (indices : List ℕ) (m : Numbered) (es : List (�
 heavier_subrs len_iv indices m [] = omega arith
 heavier_subrs len_iv indices m (e ∷ es) =
     total-le nat_cmp_total nat_cmp-IsAntisymmetric (subr_weight len_iv) (subr_weight len_iv) m (merged m (stubs_at indices))
-    (λ q v is. (v, get-merged nat_cmp_total nat_cmp-IsAntisymmetric m (stubs_at indices) q ∙ ap (λ (o : Option (List ℕ)). joined o (get (stubs_at indices) q)) is, omega arith))
+    (λ q v is. (v, get-merged nat_cmp_total nat_cmp-IsAntisymmetric m (stubs_at indices) q
+    ∙ ap (λ (o : Option (List ℕ)). joined o (get (stubs_at indices) q)) is, omega arith))
 
 module _ (indices : List ℕ) where
   -- a font with stubs weighs no less

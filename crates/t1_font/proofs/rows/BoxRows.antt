@@ -142,24 +142,28 @@ zeros : joined_box (all_of (codes "-5") ∷ a_box (codes "0.0") (codes "-0") (co
 zeros = refl
 
 -- each zero as one of those boxes spells it
-two_zeros : joined_box (a_box (codes "0.0") (codes "-0") (codes "0") (codes "0") ∷ all_of (codes "7") ∷ a_box (codes "0.0") (codes "0.0") (codes "-0") (codes "+0") ∷ [])
+two_zeros : joined_box (a_box (codes "0.0") (codes "-0") (codes "0") (codes "0") ∷ all_of (codes "7") ∷
+    a_box (codes "0.0") (codes "0.0") (codes "-0") (codes "+0") ∷ [])
     ≡ a_box (codes "0.0") (codes "-0") (codes "0") (codes "0")
 two_zeros = refl
 
 -- two boxes whose least box has zeros only
-zeros_by_chance : joined_box (a_box (codes "0") (codes "5") (codes "-1") (codes "0") ∷ a_box (codes "3") (codes "0") (codes "0") (codes "-2") ∷ all_of (codes "1") ∷ [])
+zeros_by_chance : joined_box (a_box (codes "0") (codes "5") (codes "-1") (codes "0") ∷
+    a_box (codes "3") (codes "0") (codes "0") (codes "-2") ∷ all_of (codes "1") ∷ [])
     ≡ a_box (codes "0") (codes "0") (codes "1") (codes "1")
 zeros_by_chance = refl
 
 -- ---- shells with another box
 
 -- brackets, and what stands between the numbers, stay
-kept : clear_with (a_box (codes "-1") (codes "-2") (codes "30") (codes "40")) (shell (codes "%! /FontBBox[ 0  0\n1 1 ]readonly def ") (codes " /FontBBox {5 5 5 5} "))
+kept : clear_with (a_box (codes "-1") (codes "-2") (codes "30") (codes "40"))
+    (shell (codes "%! /FontBBox[ 0  0\n1 1 ]readonly def ") (codes " /FontBBox {5 5 5 5} "))
     ≡ (codes "%! /FontBBox[ -1  -2\n30 40 ]readonly def ", codes " /FontBBox {5 5 5 5} ")
 unfolding first_at gap number opening spaced numbers font_box
 kept = refl
 
-in_tail : clear_with (all_of (codes "9")) (shell (codes "%! ") (codes " /FontBBox{0 0 1 1}readonly def ")) ≡ (codes "%! ", codes " /FontBBox{9 9 9 9}readonly def ")
+in_tail : clear_with (all_of (codes "9")) (shell (codes "%! ") (codes " /FontBBox{0 0 1 1}readonly def ")) ≡
+    (codes "%! ", codes " /FontBBox{9 9 9 9}readonly def ")
 unfolding first_at gap number opening spaced numbers font_box
 in_tail = refl
 

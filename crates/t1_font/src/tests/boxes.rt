@@ -117,12 +117,35 @@ const ROWS: &[Row] = &[
     (&[], b"", "no fonts"),
 ];
 
-// meets even_boxes Ok at 0 to 3 fonts
+// meets even_boxes Ok at 0, 1, 2, 3 fonts
 #[test]
 fn fonts_with_one_box(rt: HostRuntime) -> Result<(), Fail> {
     for (fonts, want, row) in ROWS {
         let got = boxed(rt.alloc(), fonts)?;
-        assert_eq!(&rt; got.as_slice(), *want, "{row}");
+        assert_eq!(rt; got.as_slice(), *want, "{row}");
+    }
+    Ok(())
+}
+
+/// So many fonts of one box, and one of another.
+fn many(alloc: Global, count: usize) -> Result<Vec<Source>, AllocError> {
+    let mut sources = Vec::new(alloc);
+    for _ in 0..count {
+        sources.push(made(alloc, b"%!\n/FontBBox{0 0 1 1}def\n", b"")?)?;
+    }
+    sources.push(made(alloc, b"%!\n/FontBBox{-1 0 1 2}def\n", b"")?)?;
+    Ok(sources)
+}
+
+// meets even_boxes Ok at 1001 fonts
+#[test]
+fn many_fonts_with_one_box(rt: HostRuntime) -> Result<(), Fail> {
+    const FONTS: usize = 1001;
+    let sources = even_boxes(rt.alloc(), many(rt.alloc(), FONTS - 1)?)?;
+    assert_eq!(rt; sources.len(), FONTS);
+    for source in sources.as_slice() {
+        let font = source.font(rt.alloc())?;
+        assert!(rt; font.text(Part::Head) == b"%!\n/FontBBox{-1 0 1 2}def\n".as_slice());
     }
     Ok(())
 }

@@ -2,7 +2,7 @@ use Rattle.std.proofs.Common.{◌≡◌, map, drop}
 use Rattle.std.specs.List.{list_any}
 use Rattle.t1_font.specs.FontBoxes.{says_nothing}
 use Rattle.t1_font.specs.BoxViews.{box_view}
-use Rattle.t1_font.proofs.font_boxes.any_says_nothing.Given as goal
+use Rattle.t1_font.proofs.joined_boxes.any_says_nothing.Given as goal
 
 abbrev pub invariant-boxes : goal.invariant-boxes
 invariant-boxes l = list_any says_nothing (map box_view (drop l.sides-index l.boxes)) ≡ list_any says_nothing (map box_view l.boxes)
