@@ -102,10 +102,7 @@ fn lack_in<'a>(
 /// # Errors
 ///
 /// A growth was refused.
-pub fn first_lack<'a>(
-    alloc: Global,
-    fonts: &[Font<'a>],
-) -> Result<Option<Lack<'a>>, AllocError>
+pub fn first_lack<'a>(alloc: Global, fonts: &[Font<'a>]) -> Result<Option<Lack<'a>>, AllocError>
     ensures { IfOk result (λ lack. option_map lack_view lack ≡ first_lack fonts.now) }
 {
     if let [first, ..] = fonts {

@@ -308,7 +308,11 @@ fn with_head(alloc: Global, before: usize, count: u32, size: usize) -> Result<Ve
 fn refused_both(alloc: Global, form: Form, one: &[u8], other: &[u8]) -> Vec<u8> {
     let got = listed(alloc, List::Rejoin(form), &[one, other]);
     let again = listed(alloc, List::Rejoin(form), &[other, one]);
-    if got.as_slice() == again.as_slice() { got } else { Vec::new(alloc) }
+    if got.as_slice() == again.as_slice() {
+        got
+    } else {
+        Vec::new(alloc)
+    }
 }
 
 // A font of 67,000,000 bytes is near the greatest weight, 67,108,864; each stub weighs 129, and a glyph of 65,000 bytes 65,256.

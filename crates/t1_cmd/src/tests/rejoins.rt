@@ -124,7 +124,12 @@ fn a_subr_that_a_cut_lacks(rt: HostRuntime) -> Result<(), Fail> {
     let line = rejoined(rt.alloc(), changed.as_slice(), y.as_slice());
     assert!(rt; line.as_slice() == Y, "before a conflict of shells");
     let alone = rejoined(rt.alloc(), x.as_slice(), x.as_slice());
-    let want = cut_short(rt.alloc(), subset(rt.alloc(), PFA, &[b"X"]).as_slice(), b"/Subrs 5 array", b"dup 5 ")?;
+    let want = cut_short(
+        rt.alloc(),
+        subset(rt.alloc(), PFA, &[b"X"]).as_slice(),
+        b"/Subrs 5 array",
+        b"dup 5 ",
+    )?;
     let want = answer(rt.alloc(), Engine::Convert(Form::Pfa), want.as_slice());
     assert!(rt; alone.as_slice() == want.as_slice(), "no font has it");
     Ok(())

@@ -133,7 +133,7 @@ font_box_is v text rest a =
     let c = b.5 in
     a.3
     ∙ ((λ i. opening_spelled a.0 a.1 _ a.4 i
-        ++ (b.3 ∙ ((λ j. numbers_are b.0 b.1 _ b.4 j ++ (c.3 ∙ (λ k. c.4.0 k ++ c.5.0 k)) j) ∙ append-nil (bytes_of b.0))) i)
+    ++ (b.3 ∙ ((λ j. numbers_are b.0 b.1 _ b.4 j ++ (c.3 ∙ (λ k. c.4.0 k ++ c.5.0 k)) j) ∙ append-nil (bytes_of b.0))) i)
     ∙ ap (λ (w : List ℕ × Numbers). w.0 ++ bytes_of w.1) c.5.1)
 
 all_parts : (f s : List ℕ) (n : Numbers) (r : List ℕ) →

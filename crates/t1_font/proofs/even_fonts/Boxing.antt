@@ -21,8 +21,12 @@ heavier_subrs : (len_iv : ℕ) (indices : List ℕ) (m : Numbered) (es : List (�
 heavier_subrs len_iv indices m [] = omega arith
 heavier_subrs len_iv indices m (e ∷ es) =
     total-le nat_cmp_total nat_cmp-IsAntisymmetric (subr_weight len_iv) (subr_weight len_iv) m (merged m (stubs_at indices))
-    (λ q v is. (v, get-merged nat_cmp_total nat_cmp-IsAntisymmetric m (stubs_at indices) q
-    ∙ ap (λ (o : Option (List ℕ)). joined o (get (stubs_at indices) q)) is, omega arith))
+    (λ q v is. (
+      v,
+      get-merged nat_cmp_total nat_cmp-IsAntisymmetric m (stubs_at indices) q
+          ∙ ap (λ (o : Option (List ℕ)). joined o (get (stubs_at indices) q)) is,
+      omega arith,
+    ))
 
 module _ (indices : List ℕ) where
   -- a font with stubs weighs no less

@@ -1,12 +1,36 @@
 //! Lists of fonts of which a glyph executes a Subr that its font lacks, and shells of lists.
 
-use super::fonts::{Entry, GLYPHS, SHELL, SUBRS, Shell, file, font, glyphs_text, put_entry};
+use super::fonts::{Entry, GLYPHS, SHELL, SUBRS, Shell, file, font, glyphs_text, lent, put_entry};
 use crate::{ShellPart, first_lack, shells_conflict};
 use std::alloc::{AllocError, Global};
 use std::test::Fail;
 use t1_font::{Font, Source, read};
 
-/// The Subrs of this shell but for those of these indices.
+/// A shell, and the indices of the Subrs above that a font lacks.
+type Made = (Shell, &'static [&'static [u8]]);
+
+const WHOLE: Made = (SHELL, &[]);
+
+const FIVE: Made = (SHELL, &[b"5"]);
+
+/// The shell without a table of Subrs.
+const BARE: Shell = Shell {
+    subrs: b"",
+    ..SHELL
+};
+
+/// Another tail, and another head.
+const TAIL: Shell = Shell {
+    tail: b"\nend mark currentfile closefile",
+    ..SHELL
+};
+
+const HEAD: Shell = Shell {
+    head: b"%!PS\n",
+    ..SHELL
+};
+
+/// The Subrs above but for those of these indices.
 fn without(alloc: Global, indices: &[&[u8]]) -> Result<Vec<Entry>, AllocError> {
     let mut left = Vec::new(alloc);
     for (index, plain) in SUBRS {
@@ -17,29 +41,14 @@ fn without(alloc: Global, indices: &[&[u8]]) -> Result<Vec<Entry>, AllocError> {
     Ok(left)
 }
 
-/// The file of the glyphs of this shell, with its Subrs but for those of these indices.
-fn lacking(alloc: Global, indices: &[&[u8]]) -> Result<Vec<u8>, AllocError> {
+/// The file of a shell and the glyphs above, with the Subrs above but for those of these indices.
+fn lacking(alloc: Global, made: &Made) -> Result<Vec<u8>, AllocError> {
+    let (shell, indices) = made;
     let left = without(alloc, indices)?;
-    font(alloc, &SHELL, left.as_slice(), GLYPHS)
+    font(alloc, shell, left.as_slice(), GLYPHS)
 }
 
-/// What the first font of a list lacks: the index and the glyph, as a text.
-fn lack_text(alloc: Global, fonts: &[Font<'_>]) -> Result<Vec<u8>, AllocError> {
-    let mut text = Vec::new(alloc);
-    if let Some(lack) = first_lack(alloc, fonts)? {
-        text.extend_from_slice(lack.index.to_string(alloc)?.as_bytes())?;
-        text.push(b' ')?;
-        text.extend_from_slice(lack.glyph)?;
-    }
-    Ok(text)
-}
-
-/// Its part that differs.
-fn part_of(alloc: Global, fonts: &[Font<'_>]) -> Option<ShellPart> {
-    shells_conflict(alloc, fonts)
-}
-
-/// The sources of some files.
+/// The source of each file.
 fn sources(alloc: Global, files: &[&[u8]]) -> Result<Vec<Source>, AllocError> {
     let mut sources = Vec::new(alloc);
     for file in files {
@@ -63,6 +72,17 @@ fn fonts(alloc: Global, sources: &[Source]) -> Result<Vec<Font<'_>>, AllocError>
     Ok(fonts)
 }
 
+/// What the first font of a list lacks: the index and the glyph, as a text.
+fn lack_text(alloc: Global, fonts: &[Font<'_>]) -> Result<Vec<u8>, AllocError> {
+    let mut text = Vec::new(alloc);
+    if let Some(lack) = first_lack(alloc, fonts)? {
+        text.extend_from_slice(lack.index.to_string(alloc)?.as_bytes())?;
+        text.push(b' ')?;
+        text.extend_from_slice(lack.glyph)?;
+    }
+    Ok(text)
+}
+
 /// What the first font of the files lacks, as a text.
 fn lack_in(alloc: Global, files: &[&[u8]]) -> Result<Vec<u8>, AllocError> {
     let sources = sources(alloc, files)?;
@@ -74,56 +94,95 @@ fn lack_in(alloc: Global, files: &[&[u8]]) -> Result<Vec<u8>, AllocError> {
 fn differing_in(alloc: Global, files: &[&[u8]]) -> Result<Option<ShellPart>, AllocError> {
     let sources = sources(alloc, files)?;
     let fonts = fonts(alloc, sources.as_slice())?;
-    Ok(part_of(alloc, fonts.as_slice()))
+    Ok(shells_conflict(alloc, fonts.as_slice()))
 }
 
-// P executes Subr 5 where hints are kept, A executes Subr 6, and H Subrs 4 and 7.
+/// The files of these fonts.
+fn files(alloc: Global, all: &[Made]) -> Result<Vec<Vec<u8>>, AllocError> {
+    let mut files = Vec::new(alloc);
+    for made in all {
+        match files.push(lacking(alloc, made)?) {
+            Ok(_) => {}
+            Err(_) => return Err(AllocError),
+        }
+    }
+    Ok(files)
+}
+
+/// Fonts, and what the first of them lacks. P executes Subr 5 where hints are kept, A executes Subr 6, and H Subrs 4 and 7.
+const LACKS: &[(&str, &[Made], &[u8])] = &[
+    ("no font", &[], b""),
+    ("one font", &[FIVE], b""),
+    ("the same font", &[WHOLE, WHOLE], b""),
+    ("no font has it", &[FIVE, (SHELL, &[b"5", b"8", b"9"])], b""),
+    ("the last", &[WHOLE, FIVE], b"5 P"),
+    ("the first", &[FIVE, WHOLE], b"5 P"),
+    (
+        "the smallest index",
+        &[WHOLE, (SHELL, &[b"5", b"6"])],
+        b"5 P",
+    ),
+    ("it alone is had", &[FIVE, (SHELL, &[b"5", b"6"])], b"6 A"),
+    (
+        "the first font",
+        &[WHOLE, (SHELL, &[b"6", b"7"]), FIVE],
+        b"6 A",
+    ),
+    ("before it", &[FIVE, (SHELL, &[b"6", b"7"]), WHOLE], b"5 P"),
+    ("nobody executes it", &[WHOLE, (SHELL, &[b"8", b"9"])], b""),
+    ("no table", &[WHOLE, (BARE, &[])], b""),
+    ("a table", &[WHOLE, (SHELL, ALL)], b"3 P"),
+];
+
+/// The indices of all Subrs above.
+const ALL: &[&[u8]] = &[b"0", b"1", b"2", b"3", b"4", b"5", b"6", b"7", b"8", b"9"];
+
 // meets first_lack Some at 2, 3 fonts
 // meets first_lack None at 0, 1, 2 fonts
 #[test]
 fn the_first_lack(rt: HostRuntime) -> Result<(), Fail> {
-    let whole = lacking(rt.alloc(), &[])?;
-    let five = lacking(rt.alloc(), &[b"5"])?;
-    let both = lacking(rt.alloc(), &[b"5", b"6"])?;
-    let six = lacking(rt.alloc(), &[b"6", b"7"])?;
-    let nine = lacking(rt.alloc(), &[b"5", b"8", b"9"])?;
-    let rows: [(&str, &[&[u8]], &[u8]); 11] = [
-        ("no font", &[], b""),
-        ("one font", &[five.as_slice()], b""),
-        ("the same font", &[whole.as_slice(), whole.as_slice()], b""),
-        ("no font has it", &[five.as_slice(), nine.as_slice()], b""),
-        ("the last", &[whole.as_slice(), five.as_slice()], b"5 P"),
-        ("the first", &[five.as_slice(), whole.as_slice()], b"5 P"),
-        ("the smallest index", &[whole.as_slice(), both.as_slice()], b"5 P"),
-        ("it alone is had", &[five.as_slice(), both.as_slice()], b"6 A"),
-        ("the first font", &[whole.as_slice(), six.as_slice(), five.as_slice()], b"6 A"),
-        ("before it", &[five.as_slice(), six.as_slice(), whole.as_slice()], b"5 P"),
-        ("nobody executes it", &[whole.as_slice(), lacking(rt.alloc(), &[b"8", b"9"])?.as_slice()], b""),
-    ];
-    for (name, files, want) in rows {
-        let got = lack_in(rt.alloc(), files)?;
-        assert!(rt; got.as_slice() == want, "{name}");
+    for (name, all, want) in LACKS {
+        let files = files(rt.alloc(), all)?;
+        let lent = lent(rt.alloc(), files.as_slice())?;
+        let got = lack_in(rt.alloc(), lent.as_slice())?;
+        assert!(rt; got.as_slice() == *want, "{name}");
     }
     Ok(())
 }
 
-/// The shell without a table of Subrs.
-const BARE: Shell = Shell {
-    subrs: b"",
-    put: b"",
-    closing: b"",
-    ..SHELL
-};
+/// Fonts, and the first part in which a shell differs from the first.
+const SHELLS: &[(&str, &[Made], Option<ShellPart>)] = &[
+    ("no font", &[], None),
+    ("one font", &[WHOLE], None),
+    ("whichever Subrs are present", &[WHOLE, FIVE], None),
+    (
+        "the last",
+        &[WHOLE, FIVE, (TAIL, &[])],
+        Some(ShellPart::Tail),
+    ),
+    ("the first", &[(TAIL, &[]), WHOLE], Some(ShellPart::Tail)),
+    (
+        "the first that differs",
+        &[WHOLE, (TAIL, &[]), (HEAD, &[])],
+        Some(ShellPart::Tail),
+    ),
+    (
+        "the table",
+        &[WHOLE, (BARE, &[])],
+        Some(ShellPart::SubrsTable),
+    ),
+];
 
+// meets shells_conflict Some at 2, 3 fonts
+// meets shells_conflict None at 0, 1, 2 fonts
 #[test]
-fn a_font_without_a_table(rt: HostRuntime) -> Result<(), Fail> {
-    let whole = lacking(rt.alloc(), &[])?;
-    let bare = font(rt.alloc(), &BARE, &[], GLYPHS)?;
-    let got = lack_in(rt.alloc(), &[whole.as_slice(), bare.as_slice()])?;
-    assert!(rt; got.is_empty());
-    let none = font(rt.alloc(), &SHELL, &[], GLYPHS)?;
-    let got = lack_in(rt.alloc(), &[whole.as_slice(), none.as_slice()])?;
-    assert!(rt; got.as_slice() == b"3 P");
+fn shells_of_lists(rt: HostRuntime) -> Result<(), Fail> {
+    for (name, all, want) in SHELLS {
+        let files = files(rt.alloc(), all)?;
+        let lent = lent(rt.alloc(), files.as_slice())?;
+        let got = differing_in(rt.alloc(), lent.as_slice())?;
+        assert!(rt; got == *want, "{name}");
+    }
     Ok(())
 }
 
@@ -133,7 +192,8 @@ fn many(alloc: Global, subrs: &[Entry]) -> Result<Vec<u8>, AllocError> {
     for number in 0..65_534u32 {
         let mut name = Vec::from_slice(alloc, b"/")?;
         name.extend_from_slice(number.to_string(alloc)?.as_bytes())?;
-        put_entry(alloc, &mut text, name.as_slice(), b"\x8b\x8b\x0d\x90\x0a\x0e", SHELL.def)?;
+        let plain = b"\x8b\x8b\x0d\x90\x0a\x0e";
+        put_entry(alloc, &mut text, name.as_slice(), plain, SHELL.def)?;
     }
     file(alloc, &SHELL, subrs, text.as_slice())
 }
@@ -143,7 +203,7 @@ fn many(alloc: Global, subrs: &[Entry]) -> Result<Vec<u8>, AllocError> {
 // meets shells_conflict None at 65535 glyphs
 #[test]
 fn a_lack_of_many_glyphs(rt: HostRuntime) -> Result<(), Fail> {
-    let whole = lacking(rt.alloc(), &[])?;
+    let whole = lacking(rt.alloc(), &WHOLE)?;
     let left = without(rt.alloc(), &[b"5"])?;
     let five = many(rt.alloc(), left.as_slice())?;
     let got = lack_in(rt.alloc(), &[five.as_slice(), whole.as_slice()])?;
@@ -153,30 +213,5 @@ fn a_lack_of_many_glyphs(rt: HostRuntime) -> Result<(), Fail> {
     let files = [eight.as_slice(), whole.as_slice()];
     assert!(rt; lack_in(rt.alloc(), &files)?.is_empty());
     assert!(rt; differing_in(rt.alloc(), &files)?.is_none());
-    Ok(())
-}
-
-// meets shells_conflict Some at 2, 3 fonts
-// meets shells_conflict None at 0, 1, 2 fonts
-#[test]
-fn shells_of_lists(rt: HostRuntime) -> Result<(), Fail> {
-    let whole = lacking(rt.alloc(), &[])?;
-    let five = lacking(rt.alloc(), &[b"5"])?;
-    let tail = font(rt.alloc(), &Shell { tail: b"\nend mark currentfile closefile", ..SHELL }, SUBRS, GLYPHS)?;
-    let head = font(rt.alloc(), &Shell { head: b"%!PS\n", ..SHELL }, SUBRS, GLYPHS)?;
-    let bare = font(rt.alloc(), &BARE, &[], GLYPHS)?;
-    let rows: [(&str, &[&[u8]], Option<ShellPart>); 7] = [
-        ("no font", &[], None),
-        ("one font", &[whole.as_slice()], None),
-        ("whichever Subrs are present", &[whole.as_slice(), five.as_slice()], None),
-        ("the last", &[whole.as_slice(), five.as_slice(), tail.as_slice()], Some(ShellPart::Tail)),
-        ("the first", &[tail.as_slice(), whole.as_slice()], Some(ShellPart::Tail)),
-        ("the first that differs", &[whole.as_slice(), tail.as_slice(), head.as_slice()], Some(ShellPart::Tail)),
-        ("the table", &[whole.as_slice(), bare.as_slice()], Some(ShellPart::SubrsTable)),
-    ];
-    for (name, files, want) in rows {
-        let got = differing_in(rt.alloc(), files)?;
-        assert!(rt; got == want, "{name}");
-    }
     Ok(())
 }
