@@ -92,12 +92,13 @@ Merges subsets that other programs cut, such as dvips and pdfTeX. These write
 white space in their own ways, may put a tag of six capitals and `+` before the
 name of the font, and declare no Subrs after the last one that is used. So
 `rejoin` first makes the fonts even: it takes each as `mend` does, squeezes
-white space, removes lines of UniqueID and XUID and the tags, declares as many
-Subrs in each table as in the largest, and adds a Subr `return` where one font
-lacks a Subr that another has. Each glyph that draws without a fault still
-draws as it did. Then it merges them as `merge` does, and refuses what still
-differs. OUT is a PFA, or with --pfb a PFB, and is opened only when the result
-is complete.
+white space, removes lines of UniqueID and XUID and the tags, gives all one
+FontBBox, declares as many Subrs in each table as in the largest, and adds a
+Subr `return` where one font lacks a Subr that another has; if a glyph of that
+font executes it, the font is refused. Each glyph that draws without a fault
+still draws as it did. Then it merges them as `merge` does, and refuses what
+still differs. OUT is a PFA, or with --pfb a PFB, and is opened only when the
+result is complete.
 
 Example: t1subset rejoin all.pfa one.pfa two.pfa";
 
